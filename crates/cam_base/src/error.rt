@@ -1,0 +1,57 @@
+ghost use Rattle.cam_base.specs.declared.error.Refused.TheVariants.{NoMemory as RefusedNoMemory};
+ghost use Rattle.std.specs.Prelude.{◌≡◌};
+
+use std::alloc::{AllocError, AllocFailed};
+use thiserror::Error;
+
+/// Want of memory.
+#[derive(Clone, Copy, Debug, PartialEq, Eq, Error)]
+#[error("no memory")]
+pub struct NoMemory;
+
+impl From<AllocError> for NoMemory {
+    ghost from_gives = { λ _ _. Unit {0} };
+
+    fn from(_: AllocError) -> NoMemory {
+        NoMemory
+    }
+}
+
+impl<T: Drop> From<AllocFailed<T>> for NoMemory {
+    ghost from_gives = { λ _ _. Unit {0} };
+
+    fn from(_: AllocFailed<T>) -> NoMemory {
+        NoMemory
+    }
+}
+
+/// Why a call that reads an input gave up: a fault of the input, or want of memory.
+#[derive(Debug, Drop, PartialEq, Eq)]
+pub enum Refused<F> {
+    Fault(F),
+    NoMemory,
+}
+
+impl<F> From<NoMemory> for Refused<F> {
+    ghost from_gives = { λ _ r. r ≡ RefusedNoMemory };
+
+    fn from(_: NoMemory) -> Refused<F> {
+        Refused::NoMemory
+    }
+}
+
+impl<F> From<AllocError> for Refused<F> {
+    ghost from_gives = { λ _ r. r ≡ RefusedNoMemory };
+
+    fn from(_: AllocError) -> Refused<F> {
+        Refused::NoMemory
+    }
+}
+
+impl<F, T: Drop> From<AllocFailed<T>> for Refused<F> {
+    ghost from_gives = { λ _ r. r ≡ RefusedNoMemory };
+
+    fn from(_: AllocFailed<T>) -> Refused<F> {
+        Refused::NoMemory
+    }
+}

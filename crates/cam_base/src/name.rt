@@ -1,0 +1,160 @@
+ghost use Rattle.cam_base.specs.Names.{is_letter, is_word_byte, is_name};
+ghost use Rattle.cam_base.specs.declared.error.Refused.TheVariants.{Fault};
+ghost use Rattle.std.proofs.Common.{rules};
+ghost use Rattle.std.specs.Cmp.{partial_order_from_own_ties};
+ghost use Rattle.std.specs.Cmp.Lexicographic.{slice_cmp};
+ghost use Rattle.std.specs.Cmp.Rules.{comparing, hashing};
+ghost use Rattle.std.specs.Hash as fed;
+ghost use Rattle.std.specs.List.{list_all};
+ghost use Rattle.std.specs.Ordering.{nat_cmp, as_partial_cmp};
+ghost use Rattle.std.specs.Prelude.{◌≡◌, false, IfOk, IsErrOf, ◌↔◌, IsTrue};
+ghost use Rattle.std.specs.Str.{bytes_eq};
+
+use crate::{NoMemory, Refused, Text};
+use std::alloc::Global;
+use std::cmp::Ordering;
+use std::default::MadeWith;
+use std::hash::{Hash, Hasher};
+use std::marker::Model;
+use thiserror::Error;
+
+/// The bytes are no identifier of 1 to 127 bytes.
+#[derive(Clone, Copy, Debug, PartialEq, Eq, Error)]
+#[error("not a name")]
+pub struct BadName;
+
+/// An identifier of 1 to 127 bytes, keywords included. Contracts see it as the list of its bytes.
+#[derive(Debug, Drop)]
+pub struct Name {
+    text: Text,
+}
+
+impl Model for Name {
+    ghost use Rattle.cam_base.specs.Names.{is_name, shown};
+    ghost use Rattle.std.specs.Prelude.{List, ℕ, IsTrue};
+
+    ghost Value = { List ℕ };
+
+    ghost view = { λ n. shown n.text };
+
+    ghost invariant = { λ n. IsTrue (is_name (shown n.text)) };
+}
+
+fn is_letter(byte: u8) -> bool
+    ensures { result ≡ is_letter byte }
+{
+    byte.is_ascii_lowercase() || byte.is_ascii_uppercase() || byte == b'_'
+}
+
+/// Whether a byte may stand in a word behind its first byte.
+pub fn is_word_byte(byte: u8) -> bool
+    ensures { result ≡ is_word_byte byte }
+{
+    is_letter(byte) || byte.is_ascii_digit()
+}
+
+fn all_word_bytes(bytes: &[u8]) -> bool
+    ensures { result ≡ list_all is_word_byte bytes.now }
+{
+    bytes.iter().all(|b| is_word_byte(*b))
+}
+
+/// Whether the bytes are an identifier of 1 to 127 bytes.
+pub fn is_name(bytes: &[u8]) -> bool
+    ensures { result ≡ is_name bytes.now }
+{
+    match bytes {
+        [] => false,
+        [first, rest @ ..] => rest.len() <= 126 && is_letter(*first) && all_word_bytes(rest),
+    }
+}
+
+/// The blank name that fills the unused places of a path: it takes no memory, and shows as `_`.
+impl MadeWith<Global> for Name {
+    fn made_with(alloc: Global) -> Name {
+        Name {
+            text: Text::empty(alloc),
+        }
+    }
+}
+
+impl Name {
+    /// A copy of the bytes, or `BadName` exactly where they aren't an identifier of 1 to 127 bytes.
+    pub fn new(alloc: Global, bytes: &[u8]) -> Result<Name, Refused<BadName>>
+        ensures ok { IfOk result (λ name. name ≡ bytes.now) }
+        ensures bad { IsErrOf result (Refused.Fault (record {})) ↔ (is_name bytes.now ≡ false) }
+    {
+        if !is_name(bytes) {
+            return Err(Refused::Fault(BadName));
+        }
+        Ok(Name {
+            text: Text::new(alloc, bytes)?,
+        })
+    }
+
+    /// The bytes, which are an identifier.
+    pub fn as_bytes(&self) -> &[u8]
+        ensures bytes { result.now ≡ self.now }
+        ensures name { IsTrue (is_name self.now) }
+    {
+        let bytes = self.text.as_bytes();
+        if bytes.is_empty() { b"_" } else { bytes }
+    }
+
+    /// An equal name.
+    pub fn copy(&self, alloc: Global) -> Result<Name, NoMemory>
+        ensures { IfOk result (λ name. name ≡ self.now) }
+    {
+        Ok(Name {
+            text: self.text.copy(alloc)?,
+        })
+    }
+}
+
+impl PartialEq for Name {
+    ghost eq = { bytes_eq };
+
+    ghost laws = { Prim.search (comparing, rules) };
+
+    fn eq(&self, other: &Name) -> bool {
+        self.as_bytes() == other.as_bytes()
+    }
+}
+
+impl Eq for Name {
+    ghost laws = { Prim.search (comparing, rules) };
+}
+
+impl Ord for Name {
+    ghost cmp = { slice_cmp nat_cmp };
+
+    ghost total = { Prim.search (comparing, rules) };
+
+    ghost matches_partial_cmp = { Prim.search (comparing, rules) };
+
+    ghost matches_eq = { Prim.search (comparing, rules) };
+
+    fn cmp(&self, other: &Name) -> Ordering {
+        self.as_bytes().cmp(other.as_bytes())
+    }
+}
+
+impl PartialOrd for Name {
+    ghost partial_cmp = { as_partial_cmp (slice_cmp nat_cmp) };
+
+    ghost laws = { partial_order_from_own_ties (Prim.search (comparing, rules)) (Prim.search (comparing, rules)) };
+
+    fn partial_cmp(&self, other: &Name) -> Option<Ordering> {
+        Some(self.cmp(other))
+    }
+}
+
+impl Hash for Name {
+    ghost hash_input = { fed.slice fed.u8 };
+
+    ghost respects_eq = { Prim.search (hashing, rules) };
+
+    fn hash<H: Hasher>(&self, state: &mut H) {
+        self.as_bytes().hash(state)
+    }
+}
