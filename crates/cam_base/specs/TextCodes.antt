@@ -1,0 +1,46 @@
+-- The faults of texts that aren't sources: the letter and number, and the title of each code.
+use Rattle.std.specs.Prelude.{ℕ, List, codes}
+use Rattle.cam_base.specs.declared.text_fault.TextCode.{TextCode}
+use Rattle.cam_base.specs.declared.text_fault.TextCode.TheVariants as code
+
+abbrev pub word_of : TextCode → List ℕ
+word_of code.CapdlByte = codes "C1"
+word_of code.CapdlSyntax = codes "C2"
+word_of code.CapdlUnknown = codes "C3"
+word_of code.CapdlTwice = codes "C4"
+word_of code.CapdlKindField = codes "C5"
+word_of code.CapdlSlotRange = codes "C6"
+word_of code.CapdlLimit = codes "C7"
+word_of code.CapdlLeftOut = codes "C8"
+word_of code.PolicySyntax = codes "Q1"
+word_of code.LabelTwice = codes "Q2"
+word_of code.UnknownLabel = codes "Q3"
+word_of code.ObjectTwice = codes "Q4"
+word_of code.PolicyLimit = codes "Q5"
+word_of code.Unlabelled = codes "Q6"
+word_of code.StepSyntax = codes "S1"
+word_of code.StepUnknown = codes "S2"
+word_of code.StepLimit = codes "S3"
+word_of code.NoFile = codes "F1"
+word_of code.TooLong = codes "F2"
+
+abbrev pub title_of : TextCode → List ℕ
+title_of code.CapdlByte = codes "Byte"
+title_of code.CapdlSyntax = codes "Syntax"
+title_of code.CapdlUnknown = codes "Unknown"
+title_of code.CapdlTwice = codes "Twice"
+title_of code.CapdlKindField = codes "KindField"
+title_of code.CapdlSlotRange = codes "SlotRange"
+title_of code.CapdlLimit = codes "Limit"
+title_of code.CapdlLeftOut = codes "LeftOut"
+title_of code.PolicySyntax = codes "Syntax"
+title_of code.LabelTwice = codes "LabelTwice"
+title_of code.UnknownLabel = codes "UnknownLabel"
+title_of code.ObjectTwice = codes "ObjectTwice"
+title_of code.PolicyLimit = codes "Limit"
+title_of code.Unlabelled = codes "Unlabelled"
+title_of code.StepSyntax = codes "Syntax"
+title_of code.StepUnknown = codes "Unknown"
+title_of code.StepLimit = codes "Limit"
+title_of code.NoFile = codes "NoFile"
+title_of code.TooLong = codes "TooLong"
