@@ -92,6 +92,16 @@ impl Name {
         })
     }
 
+    /// A copy of the bytes, which are known to be an identifier of 1 to 127 bytes.
+    pub fn of_identifier(alloc: Global, bytes: &[u8]) -> Result<Name, NoMemory>
+        requires { IsTrue (is_name bytes.now) }
+        ensures { IfOk result (λ name. name ≡ bytes.now) }
+    {
+        Ok(Name {
+            text: Text::new(alloc, bytes)?,
+        })
+    }
+
     /// The bytes, which are an identifier.
     pub fn as_bytes(&self) -> &[u8]
         ensures bytes { result.now ≡ self.now }

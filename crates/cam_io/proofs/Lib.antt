@@ -1,0 +1,11 @@
+pub mod Appends
+pub mod Channels
+pub mod Counts
+pub mod Fronts
+pub mod Lines
+pub mod Lookups
+pub mod Puts
+pub mod Scripted
+pub mod Sequence
+pub mod Taken
+pub mod Writing

@@ -1,0 +1,6 @@
+use Rattle.std.proofs.Common.{◌≡◌, take, None}
+use Rattle.cam_io.specs.NamedFiles.{lookup}
+use Rattle.cam_io.proofs.named_file.place_of.Given as goal
+
+abbrev pub invariant-loop-i : goal.invariant-loop-i
+invariant-loop-i l = lookup (take l.i l.files) l.name ≡ None

@@ -1,0 +1,28 @@
+use Rattle.std.proofs.Common.{◌≡◌, ◌<◌, ℕ, List, [], sym, length, get_or, arith, Bor}
+use Rattle.std.proofs.lemmas.Option.{get_or_from_slice_get, slice_get-get_or}
+use Rattle.cam_io.proofs.Lines.{lines_begin, lines_end, lines_fail, lines_step}
+use Rattle.cam_io.proofs.Sequence.{together_map, writes_exit}
+use Rattle.cam_io.proofs.write.write_parts.Goals as goal
+
+-- a piece that is read with a default is itself the default
+read_is : (xs : List (Bor (List ℕ))) (i : ℕ) (d : Bor (List ℕ)) → i < length xs → get_or xs i d ≡ get_or xs i (get_or xs i d)
+read_is xs i d h = sym (get_or_from_slice_get xs i (get_or xs i d) (get_or xs i d) (slice_get-get_or xs i d h))
+
+pub loop-part-init : goal.loop-part-init
+loop-part-init g c = lines_begin (λ p. p.now) c.args.parts.now c.requires
+
+pub returns-in_err-write_all : goal.returns-in_err-write_all
+returns-in_err-write_all g c =
+    let xs = c.args.parts.now in
+    let i = c.loop-part.part-index in
+    writes_exit c.from_residual.ensures.0
+    (rw (together_map (λ p. p.now) xs) (lines_fail (λ p. p.now) xs i (get_or xs i record { ref_ptr = (0, 0); now = [] }) (omega arith) (read_is xs i _ (omega arith)) c.loop-part.invariant c.in_err-write_all.ensures.writes))
+
+pub loop-part-preserved : goal.loop-part-preserved
+loop-part-preserved g c =
+    let xs = c.args.parts.now in
+    let i = c.loop-part.part-index in
+    lines_step (λ p. p.now) xs i (get_or xs i record { ref_ptr = (0, 0); now = [] }) (omega arith) (read_is xs i _ (omega arith)) c.loop-part.invariant c.in_ok-write_all.ensures.writes
+
+pub returns : goal.returns
+returns g c = rw (together_map (λ p. p.now) c.args.parts.now) (lines_end (λ p. p.now) c.args.parts.now c.loop-part.part-index (omega arith) c.loop-part.invariant)

@@ -1,0 +1,11 @@
+pub mod Causes
+pub mod Channels
+pub mod Contents
+pub mod Host
+pub mod MemFiles
+pub mod MemOutputs
+pub mod NamedFiles
+pub mod Reading
+pub mod Scripts
+pub mod Sinks
+pub mod Whole

@@ -1,0 +1,113 @@
+ghost use Rattle.cam_io.specs.Causes.{Rose, one_more};
+ghost use Rattle.cam_io.specs.Host.{host_sink};
+ghost use Rattle.cam_io.specs.Sinks.{with_begun};
+ghost use Rattle.std.specs.Prelude.{◌≡◌, ◌<◌, ◌≤◌, ℕ, false, length, IfOk, OnOk, OnErr};
+
+use crate::{Failed, Outputs};
+use std::fs;
+use std::fs::File;
+use std::io::Write;
+
+/// The channels of the host: standard output, standard error, and a file for each other channel once it is begun. They
+/// tell no names and no bytes, and their count of faults rises at each error.
+#[derive(Drop)]
+pub struct HostOutputs {
+    rt: HostRuntime,
+    files: [Option<File>; 6],
+    faults: u64,
+}
+
+impl HostOutputs {
+    /// No channel is begun, and the count is 0.
+    pub fn new(rt: HostRuntime) -> HostOutputs
+        ensures fresh { (k : ℕ) → (host_sink result.files).begun k ≡ false }
+        ensures faults { result.faults ≡ 0 }
+    {
+        HostOutputs {
+            rt,
+            files: [None, None, None, None, None, None],
+            faults: 0,
+        }
+    }
+
+    fn fault(&mut self) -> Failed
+        ensures faults { self.new.faults ≡ one_more self.old.faults }
+        ensures rose { Rose self.old.faults self.new.faults }
+        ensures later { self.old.faults ≤ self.new.faults }
+        ensures files { self.new.files ≡ self.old.files }
+    {
+        self.faults = self.faults.saturating_add(1);
+        Failed
+    }
+}
+
+/// One write to a channel. A channel that takes nothing is a fault.
+fn write_once(
+    rt: &HostRuntime,
+    files: &[Option<File>],
+    channel: u8,
+    piece: &[u8],
+) -> Result<usize, Failed>
+    ensures some { IfOk result (λ n. 0 < n) }
+    ensures at_most { IfOk result (λ n. n ≤ length piece.now) }
+{
+    let written = if channel == 0 {
+        rt.stdout().write(piece)
+    } else if channel == 1 {
+        rt.stderr().write(piece)
+    } else {
+        match files.get(channel as usize) {
+            Some(Some(file)) => {
+                let mut file = file;
+                file.write(piece)
+            }
+            _ => Ok(0),
+        }
+    };
+    match written {
+        Ok(0) | Err(_) => Err(Failed),
+        Ok(count) => Ok(count),
+    }
+}
+
+/// Makes a file in the channel's place.
+fn begin_file(
+    rt: &HostRuntime,
+    files: &mut [Option<File>],
+    at: usize,
+    name: &str,
+) -> Result<(), Failed>
+    requires { at < length files.old }
+    ensures ok { OnOk result (host_sink files.new ≡ with_begun (host_sink files.old) at name.now) }
+    ensures err { OnErr result (files.new ≡ files.old) }
+{
+    match fs::create(rt, name) {
+        Ok(file) => {
+            files[at] = Some(file);
+            Ok(())
+        }
+        Err(_) => Err(Failed),
+    }
+}
+
+impl Outputs for HostOutputs {
+    ghost use Rattle.cam_io.specs.Host.{host_sink};
+
+    ghost sink = { λ s. host_sink s.files };
+
+    ghost faults = { λ s. s.faults };
+
+    fn begin(&mut self, channel: u8, name: &str) -> Result<(), Failed> {
+        match begin_file(&self.rt, &mut self.files, channel as usize, name) {
+            Ok(()) => Ok(()),
+            Err(Failed) => Err(self.fault()),
+        }
+    }
+
+    fn write(&mut self, channel: u8, piece: &[u8]) -> Result<usize, Failed> {
+        match write_once(&self.rt, &self.files, channel, piece) {
+            Ok(count) => Ok(count),
+            Err(Failed) => Err(self.fault()),
+        }
+    }
+}

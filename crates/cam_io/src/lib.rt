@@ -1,0 +1,36 @@
+//! Files and outputs: what a command reads from and writes to, with what each call did as a value.
+//!
+//! `Files` tells what its files hold and how often reads of a name have failed; `Outputs` tells which channels are
+//! begun, under which names, and what each holds. `read_whole`, `write_all` and `write_parts` are the loops over them.
+//! There are files and outputs in memory, whose faults are stated beforehand, and those of the host, which tell nothing
+//! of what they read or write and are the trusted edge.
+//!
+//! Nothing here knows what a file means, and nothing that writes takes memory. The definitions that the contracts cite
+//! stand in `specs/`; the lemmas for writers in a row and for scripts stand in `proofs/Sequence.antt` and
+//! `proofs/Scripted.antt`.
+#![tactic(auto)]
+
+mod files;
+mod fixed_files;
+mod host_files;
+mod host_outputs;
+mod mem_channel;
+mod mem_files;
+mod mem_outputs;
+mod named_file;
+mod outputs;
+mod whole;
+mod write;
+
+pub use files::{Failed, Files, Got};
+pub use fixed_files::FixedFiles;
+pub use host_files::HostFiles;
+pub use host_outputs::HostOutputs;
+pub use mem_files::MemFiles;
+pub use mem_outputs::MemOutputs;
+pub use outputs::Outputs;
+pub use whole::{WholeError, read_whole};
+pub use write::{write_all, write_parts};
+
+#[cfg(test)]
+mod tests;

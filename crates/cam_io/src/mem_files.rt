@@ -1,0 +1,97 @@
+ghost use Rattle.cam_io.specs.Causes.{Rose, next_call};
+ghost use Rattle.cam_io.specs.MemFiles.{held, counts, CountsFault};
+ghost use Rattle.cam_io.specs.Reading.{TookAtMost, IsGot, KeepsFiles};
+ghost use Rattle.std.specs.FinMap as map;
+ghost use Rattle.std.specs.Prelude.{List as Items, ◌≡◌, ◌<◌, ◌∷◌, [], ◌++◌, ◌↔◌, ℕ, Contains, IsErr, IfOk, OnOk, OnErr, length};
+
+use crate::named_file::{NamedFile, count_fault, put_file, read_file};
+use crate::{Failed, Files, Got};
+use cam_base::{List, NoMemory};
+use std::alloc::Global;
+
+/// Files in memory. A read fails exactly where the number of its call was stated; calls are counted from 1, and one
+/// past number 2^64 - 1 keeps that number.
+#[derive(Drop)]
+pub struct MemFiles {
+    files: Vec<NamedFile>,
+    others: u64,
+    calls: u64,
+    failing: List<u64>,
+    alloc: Global,
+}
+
+impl MemFiles {
+    /// No files, no call that fails, and every count 0. Takes no memory.
+    #[tactic(auto, using(crate::proofs::Lookups::contents_empty))]
+    pub fn new(alloc: Global) -> MemFiles
+        ensures contents { held result ≡ map.empty }
+        ensures counts { (r : Items ℕ) → counts result r ≡ 0 }
+        ensures calls { result.calls ≡ 0 }
+        ensures failing { result.failing ≡ [] }
+    {
+        MemFiles {
+            files: Vec::new(alloc),
+            others: 0,
+            calls: 0,
+            failing: List::new(alloc),
+            alloc,
+        }
+    }
+
+    /// Gives a name these bytes in place of those that it has. Refused, it leaves the files as they were.
+    pub fn add(&mut self, name: &str, bytes: &[u8]) -> Result<(), NoMemory>
+        ensures ok { OnOk result (held self.new ≡ map.insert (held self.old) name.now bytes.now) }
+        ensures err { OnErr result (held self.new ≡ held self.old) }
+        ensures counts { (r : Items ℕ) → counts self.new r ≡ counts self.old r }
+        ensures calls { self.new.calls ≡ self.old.calls }
+        ensures failing { self.new.failing ≡ self.old.failing }
+    {
+        put_file(
+            self.alloc,
+            &mut self.files,
+            self.others,
+            name.as_bytes(),
+            bytes,
+        )
+    }
+
+    /// States that the call of this number fails. Refused, it leaves the files as they were.
+    pub fn fail_at(&mut self, call: u64) -> Result<(), NoMemory>
+        ensures ok { OnOk result (self.new.failing ≡ self.old.failing ++ call ∷ []) }
+        ensures err { OnErr result (self.new.failing ≡ self.old.failing) }
+        ensures contents { held self.new ≡ held self.old }
+        ensures counts { (r : Items ℕ) → counts self.new r ≡ counts self.old r }
+        ensures calls { self.new.calls ≡ self.old.calls }
+    {
+        self.failing.push(call)
+    }
+}
+
+impl Files for MemFiles {
+    ghost use Rattle.std.specs.Prelude.{Some};
+    ghost use Rattle.cam_io.specs.MemFiles.{held, counts};
+
+    ghost contents = { λ s. Some (held s) };
+
+    ghost faults = { counts };
+
+    fn read(&mut self, name: &str, at: u64, buf: &mut [u8]) -> Result<Got, Failed>
+        requires { 0 < length buf.old }
+        ensures kept { KeepsFiles (λ s. Some (held s)) counts self.old self.new }
+        ensures failed { OnErr result (Rose (counts self.old name.now) (counts self.new name.now)) }
+        ensures some { IfOk result (TookAtMost (length buf.new)) }
+        ensures got { IfOk result (IsGot (map.get (held self.old) name.now) at buf.new) }
+        ensures exactly { IsErr result ↔ Contains self.old.failing (next_call self.old.calls) }
+        ensures calls { self.new.calls ≡ next_call self.old.calls }
+        ensures failing { self.new.failing ≡ self.old.failing }
+        ensures quiet { OnOk result ((r : Items ℕ) → counts self.new r ≡ counts self.old r) }
+        ensures counted { OnErr result (CountsFault (held self.old) name.now (counts self.old) (counts self.new)) }
+    {
+        self.calls = self.calls.saturating_add(1);
+        if self.failing.as_slice().contains(&self.calls) {
+            count_fault(&mut self.files, &mut self.others, name.as_bytes());
+            return Err(Failed);
+        }
+        Ok(read_file(&self.files, name.as_bytes(), at, buf))
+    }
+}

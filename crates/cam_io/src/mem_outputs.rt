@@ -1,0 +1,183 @@
+ghost use Rattle.cam_io.specs.Causes.{Rose, one_more, next_call};
+ghost use Rattle.cam_io.specs.Channels.{blank, name_room};
+ghost use Rattle.cam_io.specs.MemOutputs.{sink_of, bytes_of, begun_of, room_of};
+ghost use Rattle.cam_io.specs.Sinks.{IsOpen, appended, with_begun};
+ghost use Rattle.std.specs.Option.{option_map};
+ghost use Rattle.std.specs.Prelude.{◌≡◌, ◌<◌, ◌≤◌, ◌⊎◌, ◌↔◌, ◌∷◌, [], ◌++◌, ◌==◌, ◌-◌, ℕ, false, leb, cond, min, take, length, Contains, IsErr, IsTrue, OnOk, OnErr, IfOk};
+
+use crate::mem_channel::MemChannel;
+use crate::{Failed, Outputs};
+use cam_base::{List, NoMemory};
+use std::alloc::Global;
+
+/// The six channels in memory. Calls of `begin` and `write` are counted together from 1, and one past number 2^64 - 1
+/// keeps that number. A call fails exactly where its number was stated, `begin` also at a name of more than 4,096 bytes,
+/// and `write` where no room is left.
+#[derive(Drop)]
+pub struct MemOutputs {
+    channels: [MemChannel; 6],
+    calls: u64,
+    faults: u64,
+    failing: List<u64>,
+}
+
+/// Takes as many bytes as the channel has room for.
+fn take_at(channels: &mut [MemChannel], at: usize, piece: &[u8]) -> usize
+    requires { at < length channels.old }
+    ensures count { result ≡ min (length piece.now) (room_of channels.old at) }
+    ensures taken { sink_of channels.new ≡ appended (sink_of channels.old) at (take result piece.now) }
+    ensures room { (k : ℕ) → room_of channels.new k ≡ cond (k == at) (room_of channels.old k - result) (room_of channels.old k) }
+{
+    let channel = &mut channels[at];
+    channel.take(piece)
+}
+
+/// Begins a channel, where there is room for the name.
+fn begin_at(channels: &mut [MemChannel], at: usize, name: &str) -> bool
+    requires { at < length channels.old }
+    ensures room { result ≡ leb (length name.now) name_room }
+    ensures begun { IsTrue result → sink_of channels.new ≡ with_begun (sink_of channels.old) at name.now }
+    ensures refused { result ≡ false → channels.new ≡ channels.old }
+    ensures rooms { (k : ℕ) → room_of channels.new k ≡ room_of channels.old k }
+{
+    let channel = &mut channels[at];
+    channel.begin(name)
+}
+
+impl MemOutputs {
+    /// Six channels that aren't begun and hold nothing, each with room for `room` bytes and a name of 4,096 bytes.
+    pub fn new(alloc: Global, room: usize) -> Result<MemOutputs, NoMemory>
+        ensures channels { IfOk result (λ o. o.channels ≡ blank room ∷ blank room ∷ blank room ∷ blank room ∷ blank room ∷ blank room ∷ []) }
+        ensures fresh { IfOk result (λ o. (k : ℕ) → (sink_of o.channels).begun k ≡ false) }
+        ensures calls { IfOk result (λ o. o.calls ≡ 0) }
+        ensures faults { IfOk result (λ o. o.faults ≡ 0) }
+        ensures failing { IfOk result (λ o. o.failing ≡ []) }
+    {
+        Ok(MemOutputs {
+            channels: [
+                MemChannel::new(alloc, room)?,
+                MemChannel::new(alloc, room)?,
+                MemChannel::new(alloc, room)?,
+                MemChannel::new(alloc, room)?,
+                MemChannel::new(alloc, room)?,
+                MemChannel::new(alloc, room)?,
+            ],
+            calls: 0,
+            faults: 0,
+            failing: List::new(alloc),
+        })
+    }
+
+    /// States that the call of this number fails. Refused, it leaves the outputs as they were.
+    pub fn fail_at(&mut self, call: u64) -> Result<(), NoMemory>
+        ensures ok { OnOk result (self.new.failing ≡ self.old.failing ++ call ∷ []) }
+        ensures err { OnErr result (self.new.failing ≡ self.old.failing) }
+        ensures channels { self.new.channels ≡ self.old.channels }
+        ensures calls { self.new.calls ≡ self.old.calls }
+        ensures faults { self.new.faults ≡ self.old.faults }
+    {
+        self.failing.push(call)
+    }
+
+    /// What a channel holds; nothing past channel 5.
+    pub fn bytes(&self, channel: u8) -> &[u8]
+        ensures { result.now ≡ bytes_of self.now.channels channel }
+    {
+        match self.channels.get(channel as usize) {
+            Some(channel) => channel.bytes(),
+            None => &[],
+        }
+    }
+
+    /// The name that a channel is begun under; none past channel 5.
+    pub fn begun(&self, channel: u8) -> Option<&str>
+        ensures { option_map (λ s. s.now) result ≡ begun_of self.now.channels channel }
+    {
+        match self.channels.get(channel as usize) {
+            Some(channel) => channel.begun(),
+            None => None,
+        }
+    }
+
+    /// Counts a call, and answers whether its number was stated.
+    fn fails(&mut self) -> bool
+        ensures stated { IsTrue result ↔ Contains self.old.failing (next_call self.old.calls) }
+        ensures calls { self.new.calls ≡ next_call self.old.calls }
+        ensures channels { self.new.channels ≡ self.old.channels }
+        ensures faults { self.new.faults ≡ self.old.faults }
+        ensures failing { self.new.failing ≡ self.old.failing }
+    {
+        self.calls = self.calls.saturating_add(1);
+        self.failing.as_slice().contains(&self.calls)
+    }
+
+    /// Counts a fault.
+    fn fault(&mut self) -> Failed
+        ensures faults { self.new.faults ≡ one_more self.old.faults }
+        ensures rose { Rose self.old.faults self.new.faults }
+        ensures later { self.old.faults ≤ self.new.faults }
+        ensures channels { self.new.channels ≡ self.old.channels }
+        ensures calls { self.new.calls ≡ self.old.calls }
+        ensures failing { self.new.failing ≡ self.old.failing }
+    {
+        self.faults = self.faults.saturating_add(1);
+        Failed
+    }
+}
+
+impl Outputs for MemOutputs {
+    ghost use Rattle.cam_io.specs.MemOutputs.{sink_of};
+
+    ghost sink = { λ s. sink_of s.channels };
+
+    ghost faults = { λ s. s.faults };
+
+    fn begin(&mut self, channel: u8, name: &str) -> Result<(), Failed>
+        requires low { 2 ≤ channel }
+        requires high { channel ≤ 5 }
+        requires fresh { (sink_of self.old.channels).begun channel ≡ false }
+        ensures ok { OnOk result (sink_of self.new.channels ≡ with_begun (sink_of self.old.channels) channel name.now) }
+        ensures err { OnErr result (sink_of self.new.channels ≡ sink_of self.old.channels) }
+        ensures later { self.old.faults ≤ self.new.faults }
+        ensures failed { OnErr result (Rose self.old.faults self.new.faults) }
+        ensures exactly { IsErr result ↔ (Contains self.old.failing (next_call self.old.calls) ⊎ (name_room < length name.now)) }
+        ensures rooms { (k : ℕ) → room_of self.new.channels k ≡ room_of self.old.channels k }
+        ensures calls { self.new.calls ≡ next_call self.old.calls }
+        ensures failing { self.new.failing ≡ self.old.failing }
+        ensures quiet { OnOk result (self.new.faults ≡ self.old.faults) }
+        ensures counted { OnErr result (self.new.faults ≡ one_more self.old.faults) }
+    {
+        if self.fails() || !begin_at(&mut self.channels, channel as usize, name) {
+            return Err(self.fault());
+        }
+        Ok(())
+    }
+
+    fn write(&mut self, channel: u8, piece: &[u8]) -> Result<usize, Failed>
+        requires open { IsOpen (sink_of self.old.channels) channel }
+        requires some { 0 < length piece.now }
+        ensures some { IfOk result (λ n. 0 < n) }
+        ensures at_most { IfOk result (λ n. n ≤ length piece.now) }
+        ensures ok { IfOk result (λ n. sink_of self.new.channels ≡ appended (sink_of self.old.channels) channel (take n piece.now)) }
+        ensures err { OnErr result (sink_of self.new.channels ≡ sink_of self.old.channels) }
+        ensures later { self.old.faults ≤ self.new.faults }
+        ensures failed { OnErr result (Rose self.old.faults self.new.faults) }
+        ensures exactly { IsErr result ↔ (Contains self.old.failing (next_call self.old.calls) ⊎ (room_of self.old.channels channel ≡ 0)) }
+        ensures taken { IfOk result (λ n. n ≡ min (length piece.now) (room_of self.old.channels channel)) }
+        ensures rooms { IfOk result (λ n. (k : ℕ) → room_of self.new.channels k ≡ cond (k == channel) (room_of self.old.channels k - n) (room_of self.old.channels k)) }
+        ensures still { OnErr result ((k : ℕ) → room_of self.new.channels k ≡ room_of self.old.channels k) }
+        ensures calls { self.new.calls ≡ next_call self.old.calls }
+        ensures failing { self.new.failing ≡ self.old.failing }
+        ensures quiet { OnOk result (self.new.faults ≡ self.old.faults) }
+        ensures counted { OnErr result (self.new.faults ≡ one_more self.old.faults) }
+    {
+        if self.fails() {
+            return Err(self.fault());
+        }
+        let count = take_at(&mut self.channels, channel as usize, piece);
+        if count == 0 {
+            return Err(self.fault());
+        }
+        Ok(count)
+    }
+}

@@ -1,0 +1,107 @@
+ghost use Rattle.cam_io.specs.Causes.{Rose};
+ghost use Rattle.cam_io.specs.Reading.{TookAtMost, IsGot, KeepsFiles};
+ghost use Rattle.cam_io.specs.Whole.{IsWhole};
+ghost use Rattle.std.specs.FinMap as map;
+ghost use Rattle.std.specs.Prelude.{◌≡◌, ◌+◌, ◌<◌, ◌≤◌, min, length, IfOk, IfSome, IsErrOf, OnErr};
+
+use crate::{Failed, Files, Got};
+use cam_base::{List, NoMemory};
+use std::alloc::Global;
+use thiserror::Error;
+
+const CHUNK: usize = 4096;
+
+/// Why a file wasn't read whole.
+#[derive(Clone, Copy, Debug, PartialEq, Eq, Error)]
+pub enum WholeError {
+    /// There is no file of this name.
+    #[error("no such file")]
+    Absent,
+    /// The file has more bytes than the limit.
+    #[error("too long")]
+    TooLong,
+    /// A read failed, and the count of this name rose.
+    #[error("read fault")]
+    ReadFault,
+    /// Want of memory.
+    #[error("no memory")]
+    NoMemory,
+}
+
+impl From<NoMemory> for WholeError {
+    ghost use Rattle.std.specs.Prelude.{◌≡◌};
+    ghost use Rattle.cam_io.specs.declared.whole.WholeError.TheVariants.{NoMemory as WholeNoMemory};
+
+    ghost from_gives = { λ _ e. e ≡ WholeNoMemory };
+
+    fn from(_: NoMemory) -> WholeError {
+        WholeError::NoMemory
+    }
+}
+
+impl From<Failed> for WholeError {
+    ghost use Rattle.std.specs.Prelude.{◌≡◌};
+    ghost use Rattle.cam_io.specs.declared.whole.WholeError.TheVariants.{ReadFault};
+
+    ghost from_gives = { λ _ e. e ≡ ReadFault };
+
+    fn from(_: Failed) -> WholeError {
+        WholeError::ReadFault
+    }
+}
+
+/// How many bytes to ask for, where so many may still come: one more, to see whether the file is too long.
+fn lent_room(left: u64) -> usize
+    ensures { result ≡ min 4096 (left + 1) }
+{
+    left.saturating_add(1).min(CHUNK as u64) as usize
+}
+
+/// One read into the first `room` bytes of the chunk.
+fn read_front<F: Files>(
+    files: &mut F,
+    name: &str,
+    at: u64,
+    chunk: &mut [u8],
+    room: usize,
+) -> Result<Got, Failed>
+    requires some { 0 < room }
+    requires within { room ≤ length chunk.old }
+    ensures kept { KeepsFiles F.contents F.faults files.old files.new }
+    ensures failed { OnErr result (Rose (F.faults files.old name.now) (F.faults files.new name.now)) }
+    ensures some { IfOk result (TookAtMost room) }
+    ensures got { IfSome (F.contents files.old) (λ m. IfOk result (IsGot (map.get m name.now) at chunk.new)) }
+{
+    files.read(name, at, &mut chunk[..room])
+}
+
+/// The bytes of a file of at most `limit` bytes. Reads at most one byte past the limit, and answers `Absent` or
+/// `TooLong` exactly where there is no such name or more than `limit` bytes.
+pub fn read_whole<F: Files>(
+    alloc: Global,
+    files: &mut F,
+    name: &str,
+    limit: u64,
+) -> Result<List<u8>, WholeError>
+    ensures kept { KeepsFiles F.contents F.faults files.old files.new }
+    ensures read_fault { IsErrOf result WholeError.ReadFault → Rose (F.faults files.old name.now) (F.faults files.new name.now) }
+    ensures limit { IfOk result (λ bytes. length bytes ≤ limit) }
+    ensures whole { IfSome (F.contents files.old) (λ m. IsWhole (map.get m name.now) limit result) }
+{
+    let mut whole = List::new(alloc);
+    let mut chunk = [0; CHUNK];
+    loop {
+        let at = whole.len() as u64;
+        let room = lent_room(limit - at);
+        match read_front(files, name, at, &mut chunk, room)? {
+            Got::Absent => return Err(WholeError::Absent),
+            Got::End => return Ok(whole),
+            Got::Bytes(taken) => {
+                if taken as u64 > limit - at {
+                    return Err(WholeError::TooLong);
+                }
+                whole.extend(&chunk[..taken])?;
+            }
+        }
+    }
+}

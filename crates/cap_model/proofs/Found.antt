@@ -1,0 +1,64 @@
+-- An object is found under its own name.
+use Rattle.std.specs.Prelude.{◌≡◌, ◌<◌, ◌||◌, ℕ, zero, suc, Bool, true, false, not, List, [], ◌∷◌, map, length, Some, slice_get, nat_lt, refl}
+use Rattle.std.specs.List.{list_any, position_or_len}
+use Rattle.std.specs.Str.{bytes_eq}
+use Rattle.std.proofs.Common.{arith, ap, sym, subst}
+use Rattle.std.proofs.lemmas.Bool.{and_parts}
+use Rattle.std.proofs.lemmas.Bool.Decides.{Decides-ltb}
+use Rattle.std.proofs.lemmas.Slice.Eq.{bytes_eq-Decides}
+use Rattle.cap_model.specs.declared.spec.Entry.{Entry}
+use Rattle.cap_model.specs.declared.spec.Spec.{Spec}
+use Rattle.cap_model.specs.Kept.{names_differ, IsKept}
+use Rattle.cap_model.specs.Lookup.{place_of}
+
+left_false : (a b : Bool) → a || b ≡ false → a ≡ false
+left_false true b h = absurd cc
+left_false false b h = refl
+
+right_false : (a b : Bool) → a || b ≡ false → b ≡ false
+right_false true b h = absurd cc
+right_false false b h = h
+
+not_true : (b : Bool) → not b ≡ true → b ≡ false
+not_true true h = absurd cc
+not_true false h = refl
+
+flip_at : (a b : List ℕ) (r : Bool) → bytes_eq b a ≡ r → bytes_eq a b ≡ false → r ≡ false
+flip_at a b false e h = refl
+flip_at a b true e h =
+    let same : b ≡ a = (bytes_eq-Decides b a).0 e in
+    let equal : bytes_eq a b ≡ true = (bytes_eq-Decides a b).1 (sym same) in
+    absurd cc
+
+-- an earlier name is no later one
+earlier : (name : List ℕ) (es : List Entry) (i : ℕ) (e : Entry) → list_any (λ m. bytes_eq m name) (map (λ (x : Entry). x.name) es) ≡ false → slice_get es i ≡ Some e
+    → bytes_eq name e.name ≡ false
+earlier name [] i e none there = absurd cc
+earlier name (x ∷ xs) zero e none there =
+    let same : x ≡ e = cc in
+    let other : bytes_eq x.name name ≡ false = left_false (bytes_eq x.name name) (list_any (λ m. bytes_eq m name) (map (λ (y : Entry). y.name) xs)) none in
+    subst (λ (y : Entry). bytes_eq name y.name ≡ false) same (flip_at x.name name (bytes_eq name x.name) refl other)
+earlier name (x ∷ xs) (suc i) e none there = earlier name xs i e (right_false (bytes_eq x.name name) (list_any (λ m. bytes_eq m name) (map (λ (y : Entry). y.name) xs)) none) there
+
+first_at : (es : List Entry) (i : ℕ) (e : Entry) → names_differ es ≡ true → slice_get es i ≡ Some e → position_or_len (λ (x : Entry). bytes_eq x.name e.name) es ≡ i
+first_at [] i e apart there = absurd cc
+first_at (x ∷ xs) zero e apart there =
+    let same : x ≡ e = cc in
+    let equal : bytes_eq x.name e.name ≡ true = (bytes_eq-Decides x.name e.name).1 (ap (λ (y : Entry). y.name) same) in
+    rw equal refl
+first_at (x ∷ xs) (suc i) e apart there =
+    let parts = and_parts (not (list_any (λ m. bytes_eq m x.name) (map (λ (y : Entry). y.name) xs))) (names_differ xs) apart in
+    let other : bytes_eq x.name e.name ≡ false = earlier x.name xs i e (not_true (list_any (λ m. bytes_eq m x.name) (map (λ (y : Entry). y.name) xs)) parts.0) there in
+    let rest : position_or_len (λ (y : Entry). bytes_eq y.name e.name) xs ≡ i = first_at xs i e parts.1 there in
+    rw other (omega (arith, rest))
+
+below : (es : List Entry) (i : ℕ) (e : Entry) → slice_get es i ≡ Some e → i < length es
+below [] i e there = absurd cc
+below (x ∷ xs) zero e there = omega arith
+below (x ∷ xs) (suc i) e there = let less : i < length xs = below xs i e there in omega arith
+
+pub found : (spec : Spec) (place : ℕ) (entry : Entry) → IsKept spec → slice_get spec.entries place ≡ Some entry → place_of spec.entries entry.name ≡ Some place
+found spec place entry kept there =
+    let first : position_or_len (λ (x : Entry). bytes_eq x.name entry.name) spec.entries ≡ place = first_at spec.entries place entry kept.names there in
+    let less : nat_lt place (length spec.entries) ≡ true = (Decides-ltb place (length spec.entries)).1 (below spec.entries place entry there) in
+    rw (first, less) refl

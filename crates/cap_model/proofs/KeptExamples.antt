@@ -1,0 +1,39 @@
+-- The examples of kept and faulty specs, computed.
+use Rattle.std.specs.Prelude.{◌≡◌, ◌&&◌, ◌^◌, ℕ, Bool, true, not, Some, slice_get, length, nat_lt, refl}
+use Rattle.std.specs.List.{list_all}
+use Rattle.std.proofs.lemmas.Bool.{and_parts, ltb-true}
+use Rattle.std.proofs.lemmas.Bool.Decides.{Decides-ltb}
+use Rattle.cap_model.specs.declared.spec.Entry.{Entry}
+use Rattle.cap_model.specs.declared.spec.Spec.{Spec}
+use Rattle.cap_model.specs.Kept.{keeps, names_differ, keeps_lines, IsKept}
+use Rattle.cap_model.proofs.Kept.{all_at}
+use Rattle.cap_model.specs.KeptExamples.{kept_ones, faulty_ones}
+
+abbrev all_kept : Spec → Bool
+all_kept spec = list_all (λ (entry : Entry). keeps spec entry.object) spec.entries
+
+-- the conditions as one test
+abbrev tests : Spec → Bool
+tests spec = (nat_lt (length spec.entries) (2 ^ 32) && names_differ spec.entries) && (all_kept spec && keeps_lines spec spec.irqs)
+
+from_tests : (spec : Spec) → tests spec ≡ true → IsKept spec
+from_tests spec h =
+    let both = and_parts (nat_lt (length spec.entries) (2 ^ 32) && names_differ spec.entries) (all_kept spec && keeps_lines spec spec.irqs) h in
+    let front = and_parts (nat_lt (length spec.entries) (2 ^ 32)) (names_differ spec.entries) both.0 in
+    let back = and_parts (all_kept spec) (keeps_lines spec spec.irqs) both.1 in
+    record { few = ltb-true (length spec.entries) (2 ^ 32) front.0; names = front.1; objects = back.0; lines = back.1 }
+
+to_tests : (spec : Spec) → IsKept spec → tests spec ≡ true
+to_tests spec kept =
+    let few : nat_lt (length spec.entries) (2 ^ 32) ≡ true = (Decides-ltb (length spec.entries) (2 ^ 32)).1 kept.few in
+    rw (few, kept.names, kept.objects, kept.lines) refl
+
+pub kept_ones_kept : (i : ℕ) (spec : Spec) → slice_get kept_ones i ≡ Some spec → IsKept spec
+kept_ones_kept i spec there = from_tests spec (all_at tests kept_ones i spec refl there)
+
+pub faulty_ones_not_kept : (i : ℕ) (spec : Spec) → slice_get faulty_ones i ≡ Some spec → IsKept spec → ⊥
+faulty_ones_not_kept i spec there kept =
+    let fails : not (tests spec) ≡ true = all_at (λ (s : Spec). not (tests s)) faulty_ones i spec refl there in
+    let passes : tests spec ≡ true = to_tests spec kept in
+    let no : not true ≡ true = rw passes at fails in
+    absurd cc

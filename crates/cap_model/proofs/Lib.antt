@@ -1,0 +1,5 @@
+pub mod Conferring
+pub mod Examples
+pub mod Found
+pub mod Kept
+pub mod KeptExamples

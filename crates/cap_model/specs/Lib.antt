@@ -1,0 +1,10 @@
+pub mod Canonical
+pub mod Confers
+pub mod Example
+pub mod Kept
+pub mod KeptExamples
+pub mod Kinds
+pub mod Lessened
+pub mod Levels
+pub mod Lookup
+pub mod RightsWord

@@ -1,0 +1,12 @@
+pub mod Codes
+pub mod Laws
+pub mod Repeats
+pub mod Whole
+pub mod Depth
+pub mod Theorems
+pub mod Loops
+pub mod Parsed
+pub mod Flat
+pub mod Fronts
+pub mod Unique
+pub mod Completed

@@ -1,0 +1,18 @@
+-- How deep the line that may stand within itself nests.
+use Rattle.std.specs.Prelude.{◌≡◌, ℕ, zero, suc, List, []}
+use Rattle.grammar.specs.Form.{Form}
+use Rattle.grammar.specs.Spelling.{Meaning, Spells, Begins}
+
+module _ {T V : Type 0} (code : T → ℕ) (line : Form T V V) where
+  -- The line within itself, nested at most n deep. At depth 0 nothing is spelled, so a value without nesting has depth 1.
+  abbrev pub deep : ℕ → Meaning T V
+  deep zero = record { spells = λ v ts. ⊥; begins = λ ts. ts ≡ [] }
+  deep (suc n) = record { spells = Spells code (deep n) line; begins = Begins code (deep n) line }
+
+  -- Writing the value out by the form gives exactly these tokens, however deep it nests.
+  abbrev pub Spelled : {A : Type 0} → Form T V A → A → List T → Type 0
+  Spelled f x ts = (n : ℕ) × Spells code (deep n) f x ts
+
+  -- These tokens begin the form, however deep it nests.
+  abbrev pub Begun : {A : Type 0} → Form T V A → List T → Type 0
+  Begun f ts = (n : ℕ) × Begins code (deep n) f ts

@@ -1,0 +1,12 @@
+pub mod Form
+pub mod Spelling
+pub mod Depth
+pub mod Faults
+pub mod Parsed
+pub mod Deciding
+pub mod Reading
+pub mod Gives
+pub mod Flat
+pub mod Spellable
+pub mod Items
+pub mod Refusal
