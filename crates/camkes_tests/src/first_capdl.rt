@@ -1,0 +1,86 @@
+//! The first source and its capDL, and what is answered where something stands in the way.
+
+use crate::commands::{CAPDL, SOURCE, words};
+use cam_io::{MemFiles, MemOutputs};
+use camkes_tool::run;
+use std::test::Fail;
+
+#[test]
+fn first_capdl(rt: HostRuntime) -> Result<(), Fail> {
+    let alloc = rt.alloc();
+    let compile = words(alloc, &["compile", "r.camkes", "r"])?;
+    let mut files = MemFiles::new(alloc);
+    files.add("r.camkes", SOURCE.as_bytes())?;
+    let mut out = MemOutputs::new(alloc, 4096)?;
+    assert_eq!(rt; run(alloc, &compile, &mut files, &mut out), 0);
+    assert_eq!(rt; out.begun(2), Some("r.cdl"));
+    assert_eq!(rt; out.bytes(2), CAPDL.as_bytes());
+    assert!(rt; out.bytes(0).is_empty() && out.bytes(1).is_empty());
+    assert_eq!(rt; out.begun(3), None);
+    Ok(())
+}
+
+/// A source that differs from the first one, and the line that is answered; the source is absent where it is empty.
+const REFUSED: [(&str, &str, &str); 8] = [
+    (
+        "component Server s",
+        "component Sever s",
+        "r.camkes:0-0: E10 Unknown\n",
+    ),
+    ("; } }\n", "; }\n", "r.camkes:0-0: E4 Syntax\n"),
+    (
+        "uses Echo e;",
+        "uses Echo e; dataport Buf d;",
+        "r.camkes:0-0: E32 Unbuilt\n",
+    ),
+    (
+        "seL4RPCCall",
+        "seL4Notification",
+        "r.camkes:0-0: E32 Unbuilt\n",
+    ),
+    ("seL4RPCCall", "seL4Call", "r.camkes:0-0: E10 Unknown\n"),
+    ("from c.e", "from c.f", "r.camkes:0-0: E10 Unknown\n"),
+    ("from c.e", "from s.e", "r.camkes:0-0: E32 Unbuilt\n"),
+    ("Server s", "Server c", "r.camkes:0-0: E10 Unknown\n"),
+];
+
+#[test]
+fn refusals(rt: HostRuntime) -> Result<(), Fail> {
+    let alloc = rt.alloc();
+    let compile = words(alloc, &["compile", "r.camkes", "r"])?;
+    for (old, new, line) in REFUSED {
+        let mut files = MemFiles::new(alloc);
+        let source = SOURCE.replacen(alloc, old, new, 1)?;
+        files.add("r.camkes", source.as_bytes())?;
+        let mut out = MemOutputs::new(alloc, 4096)?;
+        assert_eq!(rt; run(alloc, &compile, &mut files, &mut out), 1);
+        assert_eq!(rt; out.bytes(1), line.as_bytes());
+        assert_eq!(rt; out.begun(2), None);
+    }
+    Ok(())
+}
+
+#[test]
+fn command_words(rt: HostRuntime) -> Result<(), Fail> {
+    let alloc = rt.alloc();
+    let rows: [&[&str]; 7] = [
+        &[],
+        &["help"],
+        &["compile", "a"],
+        &["compile", "a", "b", "c"],
+        &["compile", "--x", "b"],
+        &["compile", "a", "-b"],
+        &["Compile", "a", "b"],
+    ];
+    for row in rows {
+        let words = words(alloc, row)?;
+        let mut files = MemFiles::new(alloc);
+        let mut out = MemOutputs::new(alloc, 4096)?;
+        assert_eq!(rt; run(alloc, &words, &mut files, &mut out), 2);
+        assert_eq!(rt;
+            out.bytes(1),
+            b"usage: camkes compile ROOT BASE\n".as_slice()
+        );
+    }
+    Ok(())
+}

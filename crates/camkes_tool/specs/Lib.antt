@@ -1,0 +1,6 @@
+pub mod Answers
+pub mod Channels
+pub mod Deciding
+pub mod Fits
+pub mod Lines
+pub mod Words

@@ -1,0 +1,20 @@
+//! The top call: what the program does with its words, over any files and outputs.
+//!
+//! `run` decides first and then performs. Deciding reads the files, takes memory, and answers with a value (`Answer`);
+//! performing does what that answer's script says and takes no memory. Nothing else in the repository writes an output.
+//! `specs/Answers.antt` says when each answer comes and what it does, `specs/Fits.antt` and `specs/Words.antt` what the
+//! words and the files have to be for it.
+#![tactic(auto)]
+
+mod answer;
+mod decide;
+mod laws;
+mod perform;
+mod top;
+mod words;
+
+pub use answer::Answer;
+pub use laws::{
+    failures_have_a_cause, refusals_touch_standard_error_alone, success_writes_a_whole_text,
+};
+pub use top::run;

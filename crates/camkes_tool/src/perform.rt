@@ -1,0 +1,91 @@
+ghost use Rattle.cam_base.specs.Texts.{together};
+ghost use Rattle.cam_io.specs.Scripts.{Acts};
+ghost use Rattle.cam_io.specs.Sinks.{Writes};
+ghost use Rattle.camkes_tool.specs.Answers.{script};
+ghost use Rattle.camkes_tool.specs.Lines.{fault_line, read_fault_line, space_before};
+ghost use Rattle.std.specs.Prelude.{◌≡◌, ◌∷◌, [], false, codes};
+
+use crate::Answer;
+use cam_base::Fault;
+use cam_io::{Failed, Outputs, write_all, write_parts};
+use capdl_write::write_spec;
+use itoa::Buffer;
+
+/// Does what the answer says. Takes no memory.
+pub fn perform<O: Outputs>(answer: &Answer<'_>, out: &mut O) -> Result<(), Failed>
+    requires { (O.sink out.old).begun 2 ≡ false }
+    ensures { Acts (script answer.now) result (O.sink out.old) (O.sink out.new) (O.faults out.old) (O.faults out.new) }
+{
+    match answer {
+        Answer::Compiled { name, spec } => {
+            out.begin(2, name.as_str())?;
+            write_spec(spec, out, 2)
+        }
+        Answer::Faulted { file, fault } => write_fault(out, file, fault),
+        Answer::Usage => write_all(out, 1, b"usage: camkes compile ROOT BASE\n"),
+        Answer::ReadFault { file } => write_read_fault(out, file),
+        Answer::NoMemory => write_all(out, 1, b"no memory\n"),
+    }
+}
+
+fn space_before(name: &[u8]) -> &[u8]
+    ensures { result.now ≡ space_before name.now }
+{
+    if name.is_empty() { b"" } else { b" " }
+}
+
+fn write_fault<O: Outputs>(out: &mut O, file: &str, fault: &Fault) -> Result<(), Failed>
+    ensures { Writes result 1 (fault_line file.now fault.now) (O.sink out.old) (O.sink out.new) (O.faults out.old) (O.faults out.new) }
+{
+    let mut first = Buffer::new();
+    let mut end = Buffer::new();
+    let mut number = Buffer::new();
+    write_fault_parts(
+        out,
+        file,
+        first.format(fault.place.first).as_bytes(),
+        end.format(fault.place.end).as_bytes(),
+        number.format(fault.code.number()).as_bytes(),
+        fault.code.title(),
+        fault.name.as_bytes(),
+    )
+}
+
+fn write_fault_parts<O: Outputs>(
+    out: &mut O,
+    file: &str,
+    first: &[u8],
+    end: &[u8],
+    number: &[u8],
+    title: &str,
+    name: &[u8],
+) -> Result<(), Failed>
+    ensures { Writes result 1 (together (
+        file.now ∷ codes ":" ∷ first.now ∷ codes "-" ∷ end.now ∷ codes ": E" ∷ number.now ∷ codes " " ∷ title.now
+        ∷ space_before name.now ∷ name.now ∷ codes "\n" ∷ [])) (O.sink out.old) (O.sink out.new) (O.faults out.old) (O.faults out.new) }
+{
+    write_parts(
+        out,
+        1,
+        &[
+            file.as_bytes(),
+            b":",
+            first,
+            b"-",
+            end,
+            b": E",
+            number,
+            b" ",
+            title.as_bytes(),
+            space_before(name),
+            name,
+            b"\n",
+        ],
+    )
+}
+
+fn write_read_fault<O: Outputs>(out: &mut O, file: &str) -> Result<(), Failed>
+    ensures { Writes result 1 (read_fault_line file.now) (O.sink out.old) (O.sink out.new) (O.faults out.old) (O.faults out.new) }
+{
+    write_parts(out, 1, &[b"read fault ", file.as_bytes(), b"\n"])
+}

@@ -1,0 +1,11 @@
+use Rattle.std.proofs.Common.{take}
+use Rattle.std.specs.List.{flat_map}
+use Rattle.cam_io.proofs.Lines.{Wrote}
+use Rattle.cap_model.specs.Canonical.{entry_line}
+use Rattle.capdl_write.proofs.object.write_objects.Given as goal
+
+abbrev pub invariant-loop-entry : goal.invariant-loop-entry
+invariant-loop-entry g l =
+    let sink = g.O.Outputs.sink in
+    let faults = g.O.Outputs.faults in
+    Wrote l.channel (flat_map entry_line (take l.entry-index l.entries)) (sink l.fn.out) (sink l.out) (faults l.fn.out) (faults l.out)

@@ -1,0 +1,243 @@
+ghost use Rattle.cam_base.specs.Texts.{◌⊹◌, together};
+ghost use Rattle.cam_io.specs.Sinks.{IsOpen, Writes};
+ghost use Rattle.cap_model.specs.Canonical.{params, cap_end, slot_line, slots_text, named_line, buffer_line, has_slot, tcb_text, irq_text, entry_text};
+ghost use Rattle.cap_model.specs.RightsWord.{has_rights, rights_word};
+ghost use Rattle.std.specs.List.{flat_map};
+ghost use Rattle.std.specs.Prelude.{◌≡◌, ◌==◌, [], ◌∷◌, codes, not, true};
+
+use crate::digits::hexadecimal;
+use cam_io::{Failed, Outputs, write_all, write_parts};
+use cap_model::{Cap, Entry, Object, Rights, Spec, Tcb};
+use itoa::Buffer;
+
+/// Writes the slots of those of the objects that have a slot, in order.
+pub fn write_holders<O: Outputs>(
+    spec: &Spec,
+    entries: &[Entry],
+    out: &mut O,
+    channel: u8,
+) -> Result<(), Failed>
+    requires { IsOpen (O.sink out.old) channel }
+    ensures { Writes result channel (flat_map (entry_text spec.now) entries.now) (O.sink out.old) (O.sink out.new) (O.faults out.old) (O.faults out.new) }
+{
+    for entry in entries {
+        write_holder(spec, entry, out, channel)?;
+    }
+    Ok(())
+}
+
+fn write_holder<O: Outputs>(
+    spec: &Spec,
+    entry: &Entry,
+    out: &mut O,
+    channel: u8,
+) -> Result<(), Failed>
+    requires { IsOpen (O.sink out.old) channel }
+    ensures { Writes result channel (entry_text spec.now entry.now) (O.sink out.old) (O.sink out.new) (O.faults out.old) (O.faults out.new) }
+{
+    let name = entry.name.as_bytes();
+    match &entry.object {
+        Object::CNode { slots, .. } | Object::Pages { slots, .. } => {
+            write_slots(spec, name, slots.as_slice(), out, channel)
+        }
+        Object::Thread(tcb) => write_tcb_slots(spec, name, tcb, out, channel),
+        Object::Irq { notification } => write_irq_slot(spec, name, *notification, out, channel),
+        Object::Endpoint => Ok(()),
+        Object::Notification => Ok(()),
+        Object::Frame { .. } => Ok(()),
+    }
+}
+
+fn write_slots<O: Outputs>(
+    spec: &Spec,
+    name: &[u8],
+    slots: &[(u64, Cap)],
+    out: &mut O,
+    channel: u8,
+) -> Result<(), Failed>
+    requires { IsOpen (O.sink out.old) channel }
+    ensures { Writes result channel (slots_text spec.now name.now slots.now) (O.sink out.old) (O.sink out.new) (O.faults out.old) (O.faults out.new) }
+{
+    if slots.is_empty() {
+        return Ok(());
+    }
+    write_some_slots(spec, name, slots, out, channel)
+}
+
+fn write_some_slots<O: Outputs>(
+    spec: &Spec,
+    name: &[u8],
+    slots: &[(u64, Cap)],
+    out: &mut O,
+    channel: u8,
+) -> Result<(), Failed>
+    requires { IsOpen (O.sink out.old) channel }
+    ensures { Writes result channel (together (name.now ∷ codes " {\n" ∷ []) ⊹ flat_map (slot_line spec.now) slots.now ⊹ codes "}\n") (O.sink out.old) (O.sink out.new) (O.faults out.old) (O.faults out.new) }
+{
+    write_parts(out, channel, &[name, b" {\n"])?;
+    write_slot_lines(spec, slots, out, channel)?;
+    write_all(out, channel, b"}\n")
+}
+
+fn write_slot_lines<O: Outputs>(
+    spec: &Spec,
+    slots: &[(u64, Cap)],
+    out: &mut O,
+    channel: u8,
+) -> Result<(), Failed>
+    requires { IsOpen (O.sink out.old) channel }
+    ensures { Writes result channel (flat_map (slot_line spec.now) slots.now) (O.sink out.old) (O.sink out.new) (O.faults out.old) (O.faults out.new) }
+{
+    for slot in slots {
+        write_slot(spec, slot, out, channel)?;
+    }
+    Ok(())
+}
+
+fn write_slot<O: Outputs>(
+    spec: &Spec,
+    slot: &(u64, Cap),
+    out: &mut O,
+    channel: u8,
+) -> Result<(), Failed>
+    requires { IsOpen (O.sink out.old) channel }
+    ensures { Writes result channel (slot_line spec.now slot.now) (O.sink out.old) (O.sink out.new) (O.faults out.old) (O.faults out.new) }
+{
+    let mut digits = [0; 18];
+    write_parts(out, channel, &[hexadecimal(slot.0, &mut digits), b": "])?;
+    write_cap(spec, &slot.1, out, channel)
+}
+
+fn write_cap<O: Outputs>(spec: &Spec, cap: &Cap, out: &mut O, channel: u8) -> Result<(), Failed>
+    requires { IsOpen (O.sink out.old) channel }
+    ensures { Writes result channel (cap_end spec.now cap.now) (O.sink out.old) (O.sink out.new) (O.faults out.old) (O.faults out.new) }
+{
+    write_all(out, channel, spec.name(cap.object))?;
+    write_params(cap, out, channel)?;
+    write_all(out, channel, b"\n")
+}
+
+fn write_params<O: Outputs>(cap: &Cap, out: &mut O, channel: u8) -> Result<(), Failed>
+    requires { IsOpen (O.sink out.old) channel }
+    ensures { Writes result channel (params (has_rights cap.now.rights) (not (cap.now.badge == 0)) cap.now.rights cap.now.badge) (O.sink out.old) (O.sink out.new) (O.faults out.old) (O.faults out.new) }
+{
+    let word = rights_word(&cap.rights);
+    let mut digits = Buffer::new();
+    let badge = digits.format(cap.badge).as_bytes();
+    match (cap.rights.any(), cap.badge != 0) {
+        (false, false) => Ok(()),
+        (true, false) => write_parts(out, channel, &[b" (", word, b")"]),
+        (false, true) => write_parts(out, channel, &[b" (badge: ", badge, b")"]),
+        (true, true) => write_parts(out, channel, &[b" (", word, b", badge: ", badge, b")"]),
+    }
+}
+
+fn rights_word(rights: &Rights) -> &[u8]
+    ensures { result.now ≡ rights_word rights.now }
+{
+    rights.word()
+}
+
+fn write_tcb_slots<O: Outputs>(
+    spec: &Spec,
+    name: &[u8],
+    tcb: &Tcb,
+    out: &mut O,
+    channel: u8,
+) -> Result<(), Failed>
+    requires { IsOpen (O.sink out.old) channel }
+    ensures { Writes result channel (tcb_text spec.now name.now tcb.now (has_slot tcb.now)) (O.sink out.old) (O.sink out.new) (O.faults out.old) (O.faults out.new) }
+{
+    if has_slot(tcb) {
+        write_some_tcb_slots(spec, name, tcb, out, channel)
+    } else {
+        Ok(())
+    }
+}
+
+fn has_slot(tcb: &Tcb) -> bool
+    ensures { result ≡ has_slot tcb.now }
+{
+    tcb.cspace.is_some() || tcb.vspace.is_some() || tcb.buffer.is_some()
+}
+
+fn write_some_tcb_slots<O: Outputs>(
+    spec: &Spec,
+    name: &[u8],
+    tcb: &Tcb,
+    out: &mut O,
+    channel: u8,
+) -> Result<(), Failed>
+    requires { IsOpen (O.sink out.old) channel }
+    ensures { Writes result channel (tcb_text spec.now name.now tcb.now true) (O.sink out.old) (O.sink out.new) (O.faults out.old) (O.faults out.new) }
+{
+    write_parts(out, channel, &[name, b" {\n"])?;
+    write_named(spec, b"cspace: ", tcb.cspace, out, channel)?;
+    write_named(spec, b"vspace: ", tcb.vspace, out, channel)?;
+    write_buffer(spec, tcb.buffer, out, channel)?;
+    write_all(out, channel, b"}\n")
+}
+
+fn write_named<O: Outputs>(
+    spec: &Spec,
+    word: &[u8],
+    object: Option<u32>,
+    out: &mut O,
+    channel: u8,
+) -> Result<(), Failed>
+    requires { IsOpen (O.sink out.old) channel }
+    ensures { Writes result channel (named_line spec.now word.now object) (O.sink out.old) (O.sink out.new) (O.faults out.old) (O.faults out.new) }
+{
+    match object {
+        None => Ok(()),
+        Some(object) => write_parts(out, channel, &[word, spec.name(object), b"\n"]),
+    }
+}
+
+fn write_buffer<O: Outputs>(
+    spec: &Spec,
+    buffer: Option<Cap>,
+    out: &mut O,
+    channel: u8,
+) -> Result<(), Failed>
+    requires { IsOpen (O.sink out.old) channel }
+    ensures { Writes result channel (buffer_line spec.now buffer) (O.sink out.old) (O.sink out.new) (O.faults out.old) (O.faults out.new) }
+{
+    match buffer {
+        None => Ok(()),
+        Some(cap) => write_some_buffer(spec, &cap, out, channel),
+    }
+}
+
+fn write_some_buffer<O: Outputs>(
+    spec: &Spec,
+    cap: &Cap,
+    out: &mut O,
+    channel: u8,
+) -> Result<(), Failed>
+    requires { IsOpen (O.sink out.old) channel }
+    ensures { Writes result channel (codes "ipc_buffer_slot: " ⊹ cap_end spec.now cap.now) (O.sink out.old) (O.sink out.new) (O.faults out.old) (O.faults out.new) }
+{
+    write_all(out, channel, b"ipc_buffer_slot: ")?;
+    write_cap(spec, cap, out, channel)
+}
+
+fn write_irq_slot<O: Outputs>(
+    spec: &Spec,
+    name: &[u8],
+    notification: Option<u32>,
+    out: &mut O,
+    channel: u8,
+) -> Result<(), Failed>
+    requires { IsOpen (O.sink out.old) channel }
+    ensures { Writes result channel (irq_text spec.now name.now notification) (O.sink out.old) (O.sink out.new) (O.faults out.old) (O.faults out.new) }
+{
+    match notification {
+        None => Ok(()),
+        Some(notification) => write_parts(
+            out,
+            channel,
+            &[name, b" {\n0x0: ", spec.name(notification), b"\n}\n"],
+        ),
+    }
+}

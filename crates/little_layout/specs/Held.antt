@@ -1,0 +1,56 @@
+-- What the CNodes of a system hold, against what its connections assign.
+use Rattle.std.specs.Prelude.{◌≡◌, ◌⊎◌, ℕ, true, List, codes, ◌++◌, decimal, slice_get, Some}
+use Rattle.std.specs.List.{Contains}
+use Rattle.auth_kinds.specs.declared.authority.Authority.{Authority}
+use Rattle.auth_kinds.specs.declared.authority.Authority.TheVariants.{Receive, SyncSend, Call, Reset}
+use Rattle.cap_model.specs.declared.cap.Cap.{Cap}
+use Rattle.cap_model.specs.declared.object.Object.TheVariants.{CNode}
+use Rattle.cap_model.specs.declared.spec.Entry.{Entry}
+use Rattle.cap_model.specs.declared.spec.Spec.{Spec}
+use Rattle.cap_model.specs.Confers.{confers}
+use Rattle.little_adl.specs.declared.tree.File.{File}
+use Rattle.little_adl.specs.declared.tree.Instance.{Instance}
+use Rattle.little_adl.specs.declared.tree.Connection.{Connection}
+
+abbrev pub Name : Type 0
+Name = List ℕ
+
+-- a caller may send, call and reset; a server may receive and reset
+abbrev pub CallerMay : Authority → Type 0
+CallerMay a = (a ≡ SyncSend) ⊎ ((a ≡ Call) ⊎ (a ≡ Reset))
+
+abbrev pub ServerMay : Authority → Type 0
+ServerMay a = (a ≡ Receive) ⊎ (a ≡ Reset)
+
+-- a connection of this name gives the authority to the instance of this name
+pub record IsAssigned (file : File) (instance : Name) (a : Authority) (connection : Name) : Type 0 where
+  pub by : Connection
+  pub stands : Contains file.assembly.connections by
+  pub named : by.name ≡ connection
+  pub end : ((by.from.instance ≡ instance) × CallerMay a) ⊎ ((by.to.instance ≡ instance) × ServerMay a)
+
+-- the CNode that has the instance's number holds a capability that confers the authority on the endpoint that has the
+-- connection's number
+pub record IsHeld (file : File) (spec : Spec) (instance : Name) (a : Authority) (connection : Name) : Type 0 where
+  pub node : ℕ
+  pub at : ℕ
+  pub of : Instance
+  pub k : Connection
+  pub instance_there : slice_get file.assembly.instances node ≡ Some of
+  pub instance_named : of.name ≡ instance
+  pub connection_there : slice_get file.assembly.connections at ≡ Some k
+  pub connection_named : k.name ≡ connection
+  pub bits : ℕ
+  pub slots : List (ℕ × Cap)
+  pub holder : Contains spec.entries (record { name = codes "cnode_" ++ decimal node; object = CNode bits slots })
+  pub slot : ℕ
+  pub cap : Cap
+  pub held : Contains slots (slot, cap)
+  pub target : Entry
+  pub target_there : slice_get spec.entries cap.object ≡ Some target
+  pub target_named : target.name ≡ codes "ep_" ++ decimal at
+  pub conferred : confers spec cap a ≡ true
+
+-- what is held is just what is assigned
+abbrev pub HoldsWhatIsAssigned : File → Spec → Type 0
+HoldsWhatIsAssigned file spec = (instance : Name) (a : Authority) (connection : Name) → (IsHeld file spec instance a connection → IsAssigned file instance a connection) × (IsAssigned file instance a connection → IsHeld file spec instance a connection)
