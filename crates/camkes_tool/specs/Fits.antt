@@ -12,7 +12,7 @@ use Rattle.little_adl.specs.declared.tree.File.{File}
 use Rattle.little_adl.specs.Parsed.{IsSpelled}
 use Rattle.little_adl.specs.Sound.{verdict}
 use Rattle.little_adl.specs.Splitting.{tokens_of}
-use Rattle.little_layout.specs.Held.{HoldsWhatIsAssigned}
+use Rattle.little_layout.specs.Held.{HoldsWhatIsAssigned, HoldsOnlyEndpoints}
 use Rattle.little_layout.specs.Layout.{spec_of}
 
 -- the greatest length of a source file, in bytes
@@ -20,13 +20,14 @@ abbrev pub file_limit : ℕ
 file_limit = 1048576
 
 -- The spec is that of the one tree that these tokens spell, in whose way nothing stands. Its CNodes hold just what the
--- connections assign, and it keeps what every spec keeps.
+-- connections assign, on endpoints alone, and it keeps what every spec keeps.
 pub record IsLaidOut (tokens : List Token) (spec : Spec) : Type 0 where
   pub file : File
   pub spelled : IsSpelled file tokens
   pub sound : verdict file ≡ None
   pub laid_out : spec ≡ spec_of file
   pub held : HoldsWhatIsAssigned file spec
+  pub only : HoldsOnlyEndpoints spec
   pub kept : IsKept spec
 
 abbrev pub AreLaidOut : Option (List Token) → Spec → Type 0

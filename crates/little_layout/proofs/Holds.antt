@@ -26,7 +26,7 @@ use Rattle.little_adl.specs.declared.tree.End.{End}
 use Rattle.little_adl.specs.declared.tree.File.{File}
 use Rattle.little_adl.specs.declared.tree.Instance.{Instance}
 use Rattle.little_adl.specs.declared.tree.Interface.{Interface}
-use Rattle.little_layout.specs.Held.{Name, CallerMay, ServerMay, IsAssigned, IsHeld, HoldsWhatIsAssigned}
+use Rattle.little_layout.specs.Held.{Name, CallerMay, ServerMay, IsAssigned, IsHeld, HoldsWhatIsAssigned, HoldsOnlyEndpoints}
 use Rattle.little_layout.specs.Layout.{joins, joined_by, joined_at, joined, rights_of, cap_of, cnode_of, bits_for, is_to, thread_of, threads_of, numbered_instances, threads, first_endpoint, named, cnodes, endpoints, all_named, spec_of}
 use Rattle.little_layout.specs.declared.ends.Joined.{Joined}
 use Rattle.little_layout.specs.declared.ends.Role.{Role}
@@ -302,32 +302,34 @@ same_slots b c s t e = cc e
 some_same : {A : Type 0} (x y : A) → Some x ≡ Some y → x ≡ y
 some_same x y e = cc e
 
+-- an entry with a CNode is one of those of the instances
+cnode_among : (file : File) (e : Entry) (bits : ℕ) (slots : List (ℕ × Cap)) → e.object ≡ CNode bits slots → Contains (spec_of file).entries e → Among (nodes file) e
+cnode_among file e bits slots is holder = elim (among_cases (nodes file) (tcbs file ++ eps file) e (among_contained (spec_of file).entries e holder)) [
+  | inl a ↦ a
+  | inr b ↦ elim (among_cases (tcbs file) (eps file) e b) [
+    | inl t ↦
+        let f = from_named (codes "tcb_") (threads file) e t in
+        let g = from_threads file e.object (among_at (threads file) f.0 e.object f.1) in
+        absurd (thread_is_no_cnode g.0 bits slots (g.2 ∙ is))
+    | inr p ↦
+        let f = from_named (codes "ep_") (endpoints file) e p in
+        let g = from_map (λ (k : Connection). Endpoint) file.assembly.connections e.object (among_at (endpoints file) f.0 e.object f.1) in
+        let wrong : Endpoint ≡ CNode bits slots = g.2 ∙ is in
+        absurd (cc wrong)
+  ]
+]
+
 slots_are : (file : File) (node : ℕ) (i : Instance) (bits : ℕ) (slots : List (ℕ × Cap)) → verdict file ≡ None → slice_get file.assembly.instances node ≡ Some i → Contains (spec_of file).entries (Holder node bits slots)
     → enumerate_from 1 (map (cap_of (first_endpoint file)) (joined file i)) ≡ slots
 slots_are file node i bits slots h there holder =
-    let out = enumerate_from 1 (map (cap_of (first_endpoint file)) (joined file i)) ≡ slots in
-    elim (among_cases (nodes file) (tcbs file ++ eps file) (Holder node bits slots) (among_contained (spec_of file).entries (Holder node bits slots) holder)) [
-      | inl a ↦
-          let f = from_named (codes "cnode_") (cnodes file) (Holder node bits slots) a in
-          let low : node < length file.assembly.instances = slice_get_within file.assembly.instances node i there in
-          let low_too : f.0 < length (cnodes file) = slice_get_within (cnodes file) f.0 (CNode bits slots) f.1 in
-          let few = few_instances file h in
-          let number : f.0 ≡ node = same_number f.0 node (omega (arith, length-map file.assembly.instances (node_of file))) (omega arith) f.2 in
-          let made : slice_get (cnodes file) node ≡ Some (node_of file i) = mapped_at (node_of file) file.assembly.instances node i there in
-          let same : node_of file i ≡ CNode bits slots = some_same (node_of file i) (CNode bits slots) (sym made ∙ ap (slice_get (cnodes file)) (sym number) ∙ f.1) in
-          same_slots (bits_for (length (joined file i))) bits (enumerate_from 1 (map (cap_of (first_endpoint file)) (joined file i))) slots same
-      | inr b ↦ elim (among_cases (tcbs file) (eps file) (Holder node bits slots) b) [
-        | inl t ↦
-            let f = from_named (codes "tcb_") (threads file) (Holder node bits slots) t in
-            let g = from_threads file (CNode bits slots) (among_at (threads file) f.0 (CNode bits slots) f.1) in
-            absurd (thread_is_no_cnode g.0 bits slots g.2)
-        | inr p ↦
-            let f = from_named (codes "ep_") (endpoints file) (Holder node bits slots) p in
-            let g = from_map (λ (k : Connection). Endpoint) file.assembly.connections (CNode bits slots) (among_at (endpoints file) f.0 (CNode bits slots) f.1) in
-            let wrong : Endpoint ≡ CNode bits slots = g.2 in
-            absurd (cc wrong)
-      ]
-    ]
+    let f = from_named (codes "cnode_") (cnodes file) (Holder node bits slots) (cnode_among file (Holder node bits slots) bits slots refl holder) in
+    let low : node < length file.assembly.instances = slice_get_within file.assembly.instances node i there in
+    let low_too : f.0 < length (cnodes file) = slice_get_within (cnodes file) f.0 (CNode bits slots) f.1 in
+    let few = few_instances file h in
+    let number : f.0 ≡ node = same_number f.0 node (omega (arith, length-map file.assembly.instances (node_of file))) (omega arith) f.2 in
+    let made : slice_get (cnodes file) node ≡ Some (node_of file i) = mapped_at (node_of file) file.assembly.instances node i there in
+    let same : node_of file i ≡ CNode bits slots = some_same (node_of file i) (CNode bits slots) (sym made ∙ ap (slice_get (cnodes file)) (sym number) ∙ f.1) in
+    same_slots (bits_for (length (joined file i))) bits (enumerate_from 1 (map (cap_of (first_endpoint file)) (joined file i))) slots same
 
 from_end : (r : Role) (k : Connection) (instance : Name) (a : Authority) → (end_of r k).instance ≡ instance → May r a → ((k.from.instance ≡ instance) × CallerMay a) ⊎ ((k.to.instance ≡ instance) × ServerMay a)
 from_end From k instance a e m = inl (e, m)
@@ -365,3 +367,22 @@ held_assigned file instance a connection h s =
 
 pub holds : (file : File) → verdict file ≡ None → HoldsWhatIsAssigned file (spec_of file)
 holds file h instance a connection = (held_assigned file instance a connection h, assigned_held file instance a connection h)
+
+-- ---- a CNode holds nothing else
+
+slot_end : (file : File) (i : Instance) (slot : ℕ × Cap) → Among (enumerate_from 1 (map (cap_of (first_endpoint file)) (joined file i))) slot → kind_at (spec_of file) slot.1.object ≡ Some kinds.Endpoint
+slot_end file i slot m =
+    let caps = map (cap_of (first_endpoint file)) (joined file i) in
+    let n = from_numbered 1 caps slot m in
+    let e = from_map (cap_of (first_endpoint file)) (joined file i) slot.1 (among_at caps n.0 slot.1 n.1) in
+    let j = joint file i e.0 e.1 in
+    ap (λ (c : Cap). kind_at (spec_of file) c.object) (sym e.2) ∙ kind_at-endpoint file e.0.connection j.k j.there
+
+pub only_endpoints : (file : File) → verdict file ≡ None → HoldsOnlyEndpoints (spec_of file)
+only_endpoints file h name bits slots slot cap holder held =
+    let e : Entry = record { name = name; object = CNode bits slots } in
+    let f = from_named (codes "cnode_") (cnodes file) e (cnode_among file e bits slots refl holder) in
+    let g = from_map (node_of file) file.assembly.instances e.object (among_at (cnodes file) f.0 e.object f.1) in
+    let caps = enumerate_from 1 (map (cap_of (first_endpoint file)) (joined file g.0)) in
+    let same : caps ≡ slots = same_slots (bits_for (length (joined file g.0))) bits caps slots g.2 in
+    slot_end file g.0 (slot, cap) (subst (λ (x : List (ℕ × Cap)). Among x (slot, cap)) (sym same) (among_contained slots (slot, cap) held))

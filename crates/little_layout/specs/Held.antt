@@ -4,10 +4,12 @@ use Rattle.std.specs.List.{Contains}
 use Rattle.auth_kinds.specs.declared.authority.Authority.{Authority}
 use Rattle.auth_kinds.specs.declared.authority.Authority.TheVariants.{Receive, SyncSend, Call, Reset}
 use Rattle.cap_model.specs.declared.cap.Cap.{Cap}
+use Rattle.cap_model.specs.declared.kind.Kind.TheVariants as kinds
 use Rattle.cap_model.specs.declared.object.Object.TheVariants.{CNode}
 use Rattle.cap_model.specs.declared.spec.Entry.{Entry}
 use Rattle.cap_model.specs.declared.spec.Spec.{Spec}
 use Rattle.cap_model.specs.Confers.{confers}
+use Rattle.cap_model.specs.Kinds.{kind_at}
 use Rattle.little_adl.specs.declared.tree.File.{File}
 use Rattle.little_adl.specs.declared.tree.Instance.{Instance}
 use Rattle.little_adl.specs.declared.tree.Connection.{Connection}
@@ -54,3 +56,8 @@ pub record IsHeld (file : File) (spec : Spec) (instance : Name) (a : Authority) 
 -- what is held is just what is assigned
 abbrev pub HoldsWhatIsAssigned : File → Spec → Type 0
 HoldsWhatIsAssigned file spec = (instance : Name) (a : Authority) (connection : Name) → (IsHeld file spec instance a connection → IsAssigned file instance a connection) × (IsAssigned file instance a connection → IsHeld file spec instance a connection)
+
+-- each capability in a CNode is to an endpoint
+abbrev pub HoldsOnlyEndpoints : Spec → Type 0
+HoldsOnlyEndpoints spec =
+    (name : Name) (bits : ℕ) (slots : List (ℕ × Cap)) (slot : ℕ) (cap : Cap) → Contains spec.entries (record { name = name; object = CNode bits slots }) → Contains slots (slot, cap) → kind_at spec cap.object ≡ Some kinds.Endpoint
