@@ -120,9 +120,9 @@ has_mismatch file = list_any (λ k. not (bytes_eq (procedure_at file k.from) (pr
 abbrev pub same_end : End → End → Bool
 same_end d e = bytes_eq d.instance e.instance && bytes_eq d.interface e.interface
 
--- an end of the one joins an interface that is used, and an end of the other joins the same
+-- an end of the one joins what this end of the other joins, and that interface is used
 abbrev pub joins_again : File → Connection → End → Bool
-joins_again file k e = is_kind Uses (port file e) && (same_end k.from e || same_end k.to e)
+joins_again file k e = (same_end k.from e || same_end k.to e) && is_kind Uses (port file e)
 
 abbrev pub clash : File → Connection → Connection → Bool
 clash file k l = joins_again file k l.from || joins_again file k l.to

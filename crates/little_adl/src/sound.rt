@@ -1,7 +1,7 @@
 ghost use Rattle.little_adl.specs.Sound.{is_among, differ, component_of, instance_of, interface_of, port, is_call, is_other_connector, has_other_connector, unknown_component, unknown_procedure, unknown_in_connection, has_unknown, interfaces_differ, is_instance_name, has_duplicate, same_kind, is_kind, has_wrong_kind, procedure_at, has_mismatch, same_end, joins_again, clash, any_clash, has_end_twice, is_end, is_joined, interfaces_of, is_unconnected, has_unconnected_at, has_unconnected, ends_at, is_too_large, has_unbuilt_fault, verdict};
 ghost use Rattle.std.specs.List.{list_any, count_by};
 ghost use Rattle.std.specs.Option.{option_map};
-ghost use Rattle.std.specs.Prelude.{◌≡◌, ◌≤◌, ℕ, List as Seq, nat_lt, not, length, is_some};
+ghost use Rattle.std.specs.Prelude.{◌≡◌, ◌≤◌, ℕ, List as Seq, nat_lt, ◌||◌, not, length, is_some};
 ghost use Rattle.std.specs.Str.{bytes_eq};
 
 use crate::{Component, Connection, End, File, Instance, Interface, InterfaceKind};
@@ -147,15 +147,22 @@ fn is_unknown_connection(file: &File, connection: &Connection) -> bool
         || !is_known(file, &connection.to)
 }
 
+#[tactic(auto, using(crate::proofs::Faults::or_last))]
 fn has_unbuilt_fault(file: &File) -> bool
     ensures { result ≡ has_unbuilt_fault file.now }
+{
+    // The size comes first, since it bounds the time of what follows.
+    is_too_large(file) || has_fault(file)
+}
+
+fn has_fault(file: &File) -> bool
+    ensures { result ≡ (has_duplicate file.now || (has_wrong_kind file.now || (has_mismatch file.now || (has_end_twice file.now || has_unconnected file.now)))) }
 {
     has_duplicate(file)
         || has_wrong_kind(file)
         || has_mismatch(file)
         || has_end_twice(file)
         || has_unconnected(file)
-        || is_too_large(file)
 }
 
 /// What has a name of its own.
@@ -314,8 +321,8 @@ fn same_end(one: &End, other: &End) -> bool
 fn joins_again(file: &File, connection: &Connection, end: &End) -> bool
     ensures { result ≡ joins_again file.now connection.now end.now }
 {
-    is_at(file, InterfaceKind::Uses, end)
-        && (same_end(&connection.from, end) || same_end(&connection.to, end))
+    (same_end(&connection.from, end) || same_end(&connection.to, end))
+        && is_at(file, InterfaceKind::Uses, end)
 }
 
 fn clash_with_any(file: &File, connection: &Connection, others: &[Connection]) -> bool
