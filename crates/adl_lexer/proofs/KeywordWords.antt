@@ -1,0 +1,68 @@
+-- A word is one keyword at most: the words of two keywords differ.
+use Rattle.std.proofs.Common.{◌≡◌, ℕ, true, List, [], ◌∷◌, Option, None, Some, refl, sym, ap, subst, ◌∙◌, inl, inr}
+use Rattle.std.specs.Prelude.{◌↔◌}
+use Rattle.std.specs.Str.{bytes_eq}
+use Rattle.std.proofs.lemmas.Slice.Eq.{bytes_eq-Decides}
+use Rattle.cam_base.specs.declared.token.Keyword.{Keyword}
+use Rattle.cam_base.specs.declared.token.Keyword.TheVariants as keys
+use Rattle.grammar.proofs.Codes.{bool_cases, if_true, if_false}
+use Rattle.adl_lexer.specs.Keywords.{spelling, all_keywords, named_by, keyword_of}
+
+-- the keyword that is found has this word
+found : (ks : List Keyword) (word : List ℕ) (k : Keyword) → named_by ks word ≡ Some k → bytes_eq (spelling k) word ≡ true
+found [] word k e = absurd cc
+found (j ∷ ks) word k e = elim (bool_cases (bytes_eq (spelling j) word)) [
+  | inl h ↦ let same : Some j ≡ Some k = sym (if_true (bytes_eq (spelling j) word) (Some j) (named_by ks word) h) ∙ e in subst (λ (i : Keyword). bytes_eq (spelling i) word ≡ true) (let p : j ≡ k = cc in p) h
+  | inr h ↦ found ks word k (sym (if_false (bytes_eq (spelling j) word) (Some j) (named_by ks word) h) ∙ e)
+]
+
+pub own_word : (k : Keyword) → keyword_of (spelling k) ≡ Some k
+unfolding keyword_of
+own_word keys.KAssembly = refl
+own_word keys.KAttribute = refl
+own_word keys.KBinarySemaphore = refl
+own_word keys.KComponent = refl
+own_word keys.KComposition = refl
+own_word keys.KConfiguration = refl
+own_word keys.KConnection = refl
+own_word keys.KConsumes = refl
+own_word keys.KControl = refl
+own_word keys.KDataport = refl
+own_word keys.KEmits = refl
+own_word keys.KExport = refl
+own_word keys.KFrom = refl
+own_word keys.KGroup = refl
+own_word keys.KHardware = refl
+own_word keys.KHas = refl
+own_word keys.KImport = refl
+own_word keys.KIn = refl
+own_word keys.KInclude = refl
+own_word keys.KInout = refl
+own_word keys.KMaybe = refl
+own_word keys.KMutex = refl
+own_word keys.KOut = refl
+own_word keys.KProcedure = refl
+own_word keys.KProvides = refl
+own_word keys.KRefin = refl
+own_word keys.KSemaphore = refl
+own_word keys.KTo = refl
+own_word keys.KUses = refl
+
+pub keyword_is : (word : List ℕ) (k : Keyword) → (keyword_of word ≡ Some k) ↔ (word ≡ spelling k)
+unfolding keyword_of
+keyword_is word k = (λ e. sym ((bytes_eq-Decides (spelling k) word).0 (found all_keywords word k e)), λ e. ap keyword_of e ∙ own_word k)
+
+-- a word that no keyword has is none, and the other way round
+pub no_keyword : (word : List ℕ) → (keyword_of word ≡ None) ↔ ((k : Keyword) → word ≡ spelling k → ⊥)
+no_keyword word = (λ e k w. some_keyword (keyword_is word k) e w, λ h. go (keyword_of word) refl h)
+  where
+    some_keyword : {k : Keyword} → ((keyword_of word ≡ Some k) ↔ (word ≡ spelling k)) → keyword_of word ≡ None → word ≡ spelling k → ⊥
+    some_keyword {k = k} is e w = let f : Some k ≡ None = sym (is.1 w) ∙ e in absurd cc
+
+    go : (o : Option Keyword) → keyword_of word ≡ o → ((k : Keyword) → word ≡ spelling k → ⊥) → o ≡ None
+    go None e h = refl
+    go (Some k) e h = absurd (h k ((keyword_is word k).0 e))
+
+pub found_in_all : (word : List ℕ) → named_by all_keywords word ≡ keyword_of word
+unfolding keyword_of
+found_in_all word = refl

@@ -1,0 +1,14 @@
+pub mod Classes
+pub mod Exactness
+pub mod Runs
+pub mod Readings
+pub mod Pieces
+pub mod Gaps
+pub mod Steps
+pub mod Unique
+pub mod KeywordWords
+pub mod ClassBytes
+pub mod TokenTexts
+pub mod Suffixes
+pub mod Progress
+pub mod NoToken

@@ -1,0 +1,201 @@
+-- The bytes of tokens.
+use Rattle.std.proofs.Common.{◌≡◌, ℕ, ◌≤◌, true, false, cond, List, [], ◌∷◌, ◌++◌, length, Option, Some, None, Ok, refl, sym, ap, subst, ◌∙◌, append_assoc, arith, inl, inr}
+use Rattle.std.specs.Prelude.{nat_lt}
+use Rattle.std.specs.List.{list_all}
+use Rattle.std.proofs.lemmas.Bool.{le-leb, ltb-false}
+use Rattle.std.proofs.lemmas.List.{append_cancel_right}
+use Rattle.cam_base.specs.declared.code.Code.TheVariants as code
+use Rattle.cam_base.specs.declared.token.Keyword.{Keyword}
+use Rattle.cam_base.specs.declared.token.Kind.{Kind}
+use Rattle.cam_base.specs.declared.token.Kind.TheVariants as kinds
+use Rattle.cam_base.specs.declared.token.Mark.{Mark}
+use Rattle.cam_base.specs.declared.token.Mark.TheVariants as marks
+use Rattle.grammar.specs.Deciding.{can_be_empty}
+use Rattle.grammar.proofs.Laws.{spelled_starts}
+use Rattle.adl_lexer.proofs.Exactness.{number_exact, number_full}
+use Rattle.cam_base.specs.Names.{is_word_byte, is_name}
+use Rattle.cam_base.specs.Numbers.{number_value}
+use Rattle.grammar.specs.Form.{among}
+use Rattle.grammar.specs.Reading.{starts}
+use Rattle.grammar.specs.Spelling.{Each, Spells}
+use Rattle.grammar.proofs.Codes.{bool_cases, true_is_not_false, if_true}
+use Rattle.adl_lexer.specs.Classes.{class_of, run, after_run, letters, digits, word_bytes, quote, less, minus, greater}
+use Rattle.adl_lexer.specs.Keywords.{keyword_of}
+use Rattle.adl_lexer.specs.LexFaults.{fault_at, word_fault, number_fault, number_fault_by, is_left_out_word}
+use Rattle.adl_lexer.specs.Lexes.{IsTokenAt}
+use Rattle.adl_lexer.specs.TokenKinds.{reads, flat, token_form, kind_or_word, word_kind, word_line, number_line, text_line, less_line, arrow_line, mark_line, mark}
+use Rattle.adl_lexer.specs.TokenTexts.{IsTextOf, mark_text}
+use Rattle.adl_lexer.proofs.Classes.{letter_cases, digit_cases, one_of}
+use Rattle.adl_lexer.proofs.ClassBytes.{byte_of, letter_of, word_byte_of}
+use Rattle.adl_lexer.proofs.KeywordWords.{keyword_is}
+use Rattle.adl_lexer.proofs.Readings.{word_read, number_read}
+use Rattle.adl_lexer.proofs.Runs.{run_after}
+use Rattle.adl_lexer.proofs.Steps.{token_at, one_token_of}
+
+-- ---- words
+
+pub word_start : (bs : List ℕ) → starts class_of letters bs ≡ true → (reads token_form bs ≡ reads word_line bs) × (fault_at bs ≡ word_fault (run word_bytes bs))
+unfolding fault_at
+word_start [] h = absurd cc
+word_start (b ∷ bs) h = elim (letter_cases (class_of b) h) [
+  | inl c ↦ (rw c refl, rw c refl)
+  | inr d ↦ elim d [ inl c ↦ (rw c refl, rw c refl) | inr c ↦ (rw c refl, rw c refl) ]
+]
+
+pub number_start : (bs : List ℕ) → starts class_of digits bs ≡ true → (reads token_form bs ≡ reads number_line bs) × (fault_at bs ≡ number_fault (run word_bytes bs) (after_run word_bytes bs))
+unfolding fault_at
+number_start [] h = absurd cc
+number_start (b ∷ bs) h = elim (digit_cases (class_of b) h) [ inl c ↦ (rw c refl, rw c refl) | inr c ↦ (rw c refl, rw c refl) ]
+
+-- two cuts with one rest are one
+one_cut : (bs a b rest after : List ℕ) → bs ≡ a ++ rest → b ++ after ≡ bs → rest ≡ after → a ≡ b
+one_cut bs a b rest after p q e = append_cancel_right a b after (ap (λ (w : List ℕ). a ++ w) (sym e) ∙ sym p ∙ sym q)
+
+pub some_is_not : {A C : Type 0} (x : A) → Some x ≡ None → C
+some_is_not x e = absurd cc
+
+short_word : (word : List ℕ) → word_fault word ≡ None → nat_lt 127 (length word) ≡ false
+short_word word e = elim (bool_cases (nat_lt 127 (length word))) [
+  | inl h ↦ some_is_not (code.Limit, word) (sym (if_true (nat_lt 127 (length word)) (Some (code.Limit, word)) (cond (is_left_out_word word) (Some (code.LeftOut, word)) None) h) ∙ e)
+  | inr h ↦ h
+]
+
+-- bytes one by one are the list of them
+each_is : (P : ℕ → Type 0) (xs a : List ℕ) → Each (λ x ts. P x × (ts ≡ x ∷ [])) xs a → a ≡ xs
+each_is P [] a e = e
+each_is P (x ∷ xs) a e = e.2 ∙ ap (λ (w : List ℕ). w ++ e.1) e.3.1 ∙ ap (λ (w : List ℕ). x ∷ w) (each_is P xs e.1 e.4)
+
+each_word_byte : (xs a : List ℕ) → Each (λ x ts. (among word_bytes (class_of x) ≡ true) × (ts ≡ x ∷ [])) xs a → list_all is_word_byte xs ≡ true
+each_word_byte [] a e = refl
+each_word_byte (x ∷ xs) a e = rw (word_byte_of x e.3.0, each_word_byte xs e.1 e.4) refl
+
+name_of_word : (x : ℕ) (xs : List ℕ) → among letters (class_of x) ≡ true → list_all is_word_byte xs ≡ true → word_fault (x ∷ xs) ≡ None → is_name (x ∷ xs) ≡ true
+name_of_word x xs h g f =
+    let le : length (x ∷ xs) ≤ 127 = ltb-false 127 (length (x ∷ xs)) (short_word (x ∷ xs) f) in
+    rw (le-leb (length xs) 126 (omega (arith, le)), letter_of x h, g) refl
+
+word_kind_text : (o : Option Keyword) (text : List ℕ) → keyword_of text ≡ o → is_name text ≡ true → IsTextOf (kind_or_word o) text
+word_kind_text None text e n = (n, e)
+word_kind_text (Some k) text e n = (keyword_is text k).0 e
+
+quote_is : (b : ℕ) → class_of b ≡ quote → b ≡ 34
+quote_is = byte_of 11 34 refl refl refl refl refl refl refl refl refl
+
+less_is : (b : ℕ) → class_of b ≡ less → b ≡ 60
+less_is = byte_of 8 60 refl refl refl refl refl refl refl refl refl
+
+minus_is : (b : ℕ) → class_of b ≡ minus → b ≡ 45
+minus_is = byte_of 9 45 refl refl refl refl refl refl refl refl refl
+
+greater_is : (b : ℕ) → class_of b ≡ greater → b ≡ 62
+greater_is = byte_of 10 62 refl refl refl refl refl refl refl refl refl
+
+module _ (bs : List ℕ) (k : Kind) (rest : List ℕ) (t : IsTokenAt bs k rest) where
+  -- a token is what is read, with its run of bytes
+  as_run : (l : Kind) → reads token_form bs ≡ Ok (l, after_run word_bytes bs) → (k ≡ l) × (t.text ≡ run word_bytes bs)
+  as_run l e =
+      let same = one_token_of bs k l rest (after_run word_bytes bs) t (token_at bs l (after_run word_bytes bs) e t.clean) in
+      (same.0, one_cut bs t.text (run word_bytes bs) rest (after_run word_bytes bs) t.parts (run_after word_bytes bs) same.1)
+
+  word_text : Spells class_of flat word_line k t.text → IsTextOf k t.text
+  unfolding word_line
+  word_text s =
+      let x = s.0 in
+      let p = s.2 in
+      let text : t.text ≡ x.0 ∷ x.1 = p.2 ∙ ap (λ (w : List ℕ). w ++ p.1) p.3.1 ∙ ap (λ (w : List ℕ). x.0 ∷ w) (each_is (λ y. among word_bytes (class_of y) ≡ true) x.1 p.1 p.4) in
+      let begins : starts class_of letters bs ≡ true = subst (λ (w : List ℕ). starts class_of letters w ≡ true) (sym (t.parts ∙ ap (λ (w : List ℕ). w ++ rest) text)) p.3.0 in
+      let w = word_start bs begins in
+      let all = as_run (word_kind (run word_bytes bs)) (w.0 ∙ word_read bs begins) in
+      let fault : word_fault (x.0 ∷ x.1) ≡ None = ap word_fault (sym text ∙ all.1) ∙ sym w.1 ∙ t.clean in
+      let named : is_name t.text ≡ true = ap is_name text ∙ name_of_word x.0 x.1 p.3.0 (each_word_byte x.1 p.1 p.4) fault in
+      subst (λ (l : Kind). IsTextOf l t.text) (sym (s.1 ∙ ap word_kind (sym text))) (word_kind_text (keyword_of t.text) t.text refl named)
+
+  number_begins : Spells class_of flat number_line k t.text → starts class_of digits bs ≡ true
+  unfolding number_line
+  number_begins s = go t.text s t.parts
+    where
+      go : (text : List ℕ) → Spells class_of flat number_line k text → bs ≡ text ++ rest → starts class_of digits bs ≡ true
+      go [] s p = true_is_not_false (can_be_empty number_line) (number_exact.null k s) number_full
+      go (b ∷ text) s p = ap (starts class_of digits) p ∙ spelled_starts number_exact k b text s
+
+  number_text : starts class_of digits bs ≡ true → IsTextOf k t.text
+  number_text begins = go (number_value (run word_bytes bs)) refl
+    where
+      go : (o : Option ℕ) → number_value (run word_bytes bs) ≡ o → IsTextOf k t.text
+      go None e =
+          let w = number_start bs begins in
+          some_is_not (code.Number, run word_bytes bs) (sym (ap (λ o. number_fault_by o (run word_bytes bs) (after_run word_bytes bs)) e) ∙ sym w.1 ∙ t.clean)
+      go (Some n) e =
+          let w = number_start bs begins in
+          let all = as_run (kinds.Number n) (w.0 ∙ number_read bs n begins e) in
+          subst (λ (l : Kind). IsTextOf l t.text) (sym all.0) (ap number_value all.1 ∙ e)
+
+  text_text : Spells class_of flat text_line k t.text → IsTextOf k t.text
+  unfolding text_line
+  text_text s =
+      let x = s.0 in
+      let p = s.2 in
+      let q = p.4 in
+      let opened : x.0 ≡ 34 = quote_is x.0 (one_of (class_of x.0) quote p.3.0) in
+      let closed : x.1.1 ≡ 34 = quote_is x.1.1 (one_of (class_of x.1.1) quote q.4.0) in
+      let text : t.text ≡ x.0 ∷ q.0 ++ x.1.1 ∷ [] = p.2 ∙ ap (λ (w : List ℕ). w ++ p.1) p.3.1 ∙ ap (λ (w : List ℕ). x.0 ∷ w) (q.2 ∙ ap (λ (w : List ℕ). q.0 ++ w) q.4.1) in
+      subst (λ (l : Kind). IsTextOf l t.text) (sym s.1)
+      (q.0, text ∙ ap (λ (z : ℕ). z ∷ q.0 ++ x.1.1 ∷ []) opened ∙ ap (λ (z : ℕ). 34 ∷ q.0 ++ z ∷ []) closed)
+
+  arrow_text : Spells class_of flat arrow_line k t.text → IsTextOf k t.text
+  unfolding arrow_line
+  arrow_text s =
+      let x = s.0 in
+      let p = s.2 in
+      let text : t.text ≡ x.0 ∷ x.1 ∷ [] = p.2 ∙ ap (λ (w : List ℕ). w ++ p.1) p.3.1 ∙ ap (λ (w : List ℕ). x.0 ∷ w) p.4.1 in
+      subst (λ (l : Kind). IsTextOf l t.text) (sym s.1)
+      (text ∙ ap (λ (z : ℕ). z ∷ x.1 ∷ []) (minus_is x.0 (one_of (class_of x.0) minus p.3.0)) ∙ ap (λ (z : ℕ). 45 ∷ z ∷ []) (greater_is x.1 (one_of (class_of x.1) greater p.4.0)))
+
+  less_text : Spells class_of flat less_line k t.text → IsTextOf k t.text
+  unfolding less_line
+  less_text s =
+      let x = s.0 in
+      let p = s.2 in
+      let opened : x.0 ≡ 60 = less_is x.0 (one_of (class_of x.0) less p.3.0) in
+      let text : t.text ≡ 60 ∷ p.1 = p.2 ∙ ap (λ (w : List ℕ). w ++ p.1) p.3.1 ∙ ap (λ (z : ℕ). z ∷ p.1) opened in
+      elim p.4 [
+        | inl b ↦
+            subst (λ (l : Kind). IsTextOf l t.text) (sym (s.1 ∙ b.1)) (text ∙ ap (λ (w : List ℕ). 60 ∷ w) b.2.1 ∙ ap (λ (z : ℕ). 60 ∷ z ∷ []) (minus_is b.0 (one_of (class_of b.0) minus b.2.0)))
+        | inr a ↦
+            let q = a.2 in
+            let r = q.4 in
+            let last : a.0.1.1 ≡ 62 = greater_is a.0.1.1 (one_of (class_of a.0.1.1) greater r.4.0) in
+            let inner : List ℕ = q.0 ++ r.0 in
+            let rest_is : p.1 ≡ inner ++ 62 ∷ [] = q.2 ∙ ap (λ (w : List ℕ). q.0 ++ w) (r.2 ∙ ap (λ (w : List ℕ). r.0 ++ w) (r.4.1 ∙ ap (λ (z : ℕ). z ∷ []) last)) ∙ sym (append_assoc q.0 r.0 (62 ∷ [])) in
+            subst (λ (l : Kind). IsTextOf l t.text) (sym (s.1 ∙ a.1)) (inner, text ∙ ap (λ (w : List ℕ). 60 ∷ w) rest_is)
+      ]
+
+  one_mark : (m : Mark) (c v : ℕ) → ((b : ℕ) → class_of b ≡ c → b ≡ v) → mark_text m ≡ v ∷ [] → Spells class_of flat (mark c m) k t.text → IsTextOf k t.text
+  one_mark m c v is e s =
+      subst (λ (l : Kind). IsTextOf l t.text) (sym s.1) (s.2.1 ∙ ap (λ (z : ℕ). z ∷ []) (is s.0 (one_of (class_of s.0) c s.2.0)) ∙ sym e)
+
+  mark_line_text : Spells class_of flat mark_line k t.text → IsTextOf k t.text
+  unfolding mark_line
+  mark_line_text (inl s) = one_mark marks.Dot 13 46 (byte_of 13 46 refl refl refl refl refl refl refl refl refl) refl s
+  mark_line_text (inr (inl s)) = one_mark marks.BraceL 14 123 (byte_of 14 123 refl refl refl refl refl refl refl refl refl) refl s
+  mark_line_text (inr (inr (inl s))) = one_mark marks.BraceR 15 125 (byte_of 15 125 refl refl refl refl refl refl refl refl refl) refl s
+  mark_line_text (inr (inr (inr (inl s)))) = one_mark marks.ParenL 16 40 (byte_of 16 40 refl refl refl refl refl refl refl refl refl) refl s
+  mark_line_text (inr (inr (inr (inr (inl s))))) = one_mark marks.ParenR 17 41 (byte_of 17 41 refl refl refl refl refl refl refl refl refl) refl s
+  mark_line_text (inr (inr (inr (inr (inr (inl s)))))) = one_mark marks.SquareL 18 91 (byte_of 18 91 refl refl refl refl refl refl refl refl refl) refl s
+  mark_line_text (inr (inr (inr (inr (inr (inr (inl s))))))) = one_mark marks.SquareR 19 93 (byte_of 19 93 refl refl refl refl refl refl refl refl refl) refl s
+  mark_line_text (inr (inr (inr (inr (inr (inr (inr (inl s)))))))) = one_mark marks.Semi 20 59 (byte_of 20 59 refl refl refl refl refl refl refl refl refl) refl s
+  mark_line_text (inr (inr (inr (inr (inr (inr (inr (inr (inl s))))))))) = one_mark marks.Comma 21 44 (byte_of 21 44 refl refl refl refl refl refl refl refl refl) refl s
+  mark_line_text (inr (inr (inr (inr (inr (inr (inr (inr (inr (inl s)))))))))) = one_mark marks.Equals 22 61 (byte_of 22 61 refl refl refl refl refl refl refl refl refl) refl s
+  mark_line_text (inr (inr (inr (inr (inr (inr (inr (inr (inr (inr s)))))))))) = one_mark marks.Colon 23 58 (byte_of 23 58 refl refl refl refl refl refl refl refl refl) refl s
+
+  -- a token's bytes are those of its kind
+  pub text_of_kind : IsTextOf k t.text
+  text_of_kind = go t.kind
+    where
+      go : Spells class_of flat token_form k t.text → IsTextOf k t.text
+      go (inl s) = word_text s
+      go (inr (inl s)) = number_text (number_begins s)
+      go (inr (inr (inl s))) = text_text s
+      go (inr (inr (inr (inl s)))) = less_text s
+      go (inr (inr (inr (inr (inl s))))) = arrow_text s
+      go (inr (inr (inr (inr (inr s))))) = mark_line_text s

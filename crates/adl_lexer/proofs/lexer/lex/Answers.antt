@@ -1,0 +1,69 @@
+use Rattle.std.proofs.Common.{ℕ, List, [], ◌∷◌, ◌++◌, length, sym, ap, subst, ◌∙◌, refl, append_assoc, arith}
+use Rattle.std.proofs.lemmas.List.{append-nil}
+use Rattle.cam_base.specs.declared.token.Token.{Token}
+use Rattle.adl_lexer.specs.Gaps.{none}
+use Rattle.adl_lexer.specs.Lexes.{LexesFrom, here, place_of}
+use Rattle.adl_lexer.specs.Pieces.{IsPiece}
+use Rattle.adl_lexer.specs.declared.piece.Piece.{Piece}
+use Rattle.adl_lexer.proofs.Gaps.{gap_eats}
+use Rattle.adl_lexer.proofs.Steps.{token_at, token_eats, lexes_gap, reached_gap, lexes_token, reached_token}
+use Rattle.adl_lexer.proofs.lexer.lex.Goals as goal
+
+pub scan-smaller-in-Gap : goal.scan-smaller-in-Gap
+scan-smaller-in-Gap c = gap_eats c.scan.rest.now c.in-Gap.after.now (subst (λ (p : Piece). IsPiece c.scan.rest.now p) c.in-Gap.is c.in-Some.ensures)
+
+pub scan-preserved-in-Gap : goal.scan-preserved-in-Gap
+scan-preserved-in-Gap c =
+    let rest = c.scan.rest.now in
+    let after = c.in-Gap.after.now in
+    let step = subst (λ (p : Piece). IsPiece rest p) c.in-Gap.is c.in-Some.ensures in
+    record {
+      told = λ ts l. c.scan.invariant.told ts (lexes_gap rest after step c.args.file (length c.args.bytes.now) ts l);
+      reached = λ x r. c.scan.invariant.reached x (reached_gap rest after step x r);
+      short = omega (arith, gap_eats rest after step);
+      table = c.scan.invariant.table;
+    }
+
+pub overflow_sub-end : goal.overflow_sub-end
+overflow_sub-end c =
+    let rest = c.scan.rest.now in
+    let step = subst (λ (p : Piece). IsPiece rest p) c.in-Token.is c.in-Some.ensures in
+    omega (arith, token_eats rest c.in-Token.kind c.in-Token.after.now (token_at rest c.in-Token.kind c.in-Token.after.now step.0 step.1), c.scan.invariant.short)
+
+pub scan-smaller : goal.scan-smaller
+scan-smaller c =
+    let rest = c.scan.rest.now in
+    let step = subst (λ (p : Piece). IsPiece rest p) c.in-Token.is c.in-Some.ensures in
+    token_eats rest c.in-Token.kind c.in-Token.after.now (token_at rest c.in-Token.kind c.in-Token.after.now step.0 step.1)
+
+pub scan-preserved : goal.scan-preserved
+scan-preserved c =
+    let bytes = c.args.bytes.now in
+    let rest = c.scan.rest.now in
+    let after = c.in-Token.after.now in
+    let k = c.in-Token.kind in
+    let step = subst (λ (p : Piece). IsPiece rest p) c.in-Token.is c.in-Some.ensures in
+    let token = token_at rest k after step.0 step.1 in
+    let t : Token = record { kind = k; place = place_of c.args.file (length bytes) rest after } in
+    record {
+      told = λ ts l. subst (λ (v : List Token). LexesFrom c.args.file (length bytes) bytes v) (sym (append_assoc c.scan.tokens (t ∷ []) ts) ∙ ap (λ (v : List Token). v ++ ts) (sym c.in_ok-push-in-Token.ensures.ok))
+          (c.scan.invariant.told (t ∷ ts) (lexes_token rest k after token c.args.file (length bytes) t ts refl refl l));
+      reached = λ x r. c.scan.invariant.reached x (reached_token rest k after token x r);
+      short = omega (arith, token_eats rest k after token, c.scan.invariant.short);
+      table = c.scan.invariant.table;
+    }
+
+pub returns-in-Bad : goal.returns-in-Bad
+returns-in-Bad c = record {
+  rest = c.scan.rest.now;
+  text = c.in-Bad.text.now;
+  reached = c.scan.invariant.reached c.scan.rest.now (here none);
+  stands = subst (λ (p : Piece). IsPiece c.scan.rest.now p) c.in-Bad.is c.in-Some.ensures;
+  place = refl;
+  name = c.in_ok-name-in-Bad.ensures;
+}
+
+pub returns : goal.returns
+returns c =
+    let all : LexesFrom c.args.file (length c.args.bytes.now) c.args.bytes.now (c.scan.tokens ++ []) = c.scan.invariant.told [] (subst (λ (w : List ℕ). LexesFrom c.args.file (length c.args.bytes.now) w []) (sym c.in_default.ensures) none) in
+    subst (λ (v : List Token). LexesFrom c.args.file (length c.args.bytes.now) c.args.bytes.now v) (append-nil c.scan.tokens) all

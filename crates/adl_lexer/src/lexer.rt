@@ -1,0 +1,49 @@
+//! The lexer.
+
+ghost use Rattle.adl_lexer.specs.LexFaults.{name_in};
+ghost use Rattle.adl_lexer.specs.Lexes.{IsLexed};
+ghost use Rattle.std.specs.Prelude.{◌≡◌, ◌≤◌, length, IfOk};
+
+use crate::keyword::keywords;
+use crate::piece::{Piece, next_piece};
+use cam_base::{Code, Fault, List, NoMemory, Place, Refused, Text, Token, Tokens};
+use std::alloc::Global;
+
+/// The tokens of a file's bytes, or the first fault that stands in them, in one pass. `specs/Lexes.antt` says which.
+pub fn lex(alloc: Global, file: u32, bytes: &[u8]) -> Result<Tokens, Refused<Fault>>
+    ensures { IsLexed file bytes.now result }
+{
+    let keywords = keywords();
+    let mut tokens = List::new(alloc);
+    let mut rest = bytes;
+    'scan: while let Some(piece) = next_piece(&keywords, rest) {
+        let first = (bytes.len() - rest.len()) as u64;
+        match piece {
+            Piece::Gap(after) => rest = after,
+            Piece::Token(kind, after) => {
+                let end = (bytes.len() - after.len()) as u64;
+                let place = Place { file, first, end };
+                tokens.push(Token { kind, place })?;
+                rest = after;
+            }
+            Piece::Bad(code, text) => {
+                let end = first + text.len() as u64;
+                let place = Place { file, first, end };
+                let name = name_in(alloc, code, text)?;
+                return Err(Refused::Fault(Fault { code, place, name }));
+            }
+        }
+    }
+    Ok(Tokens { list: tokens })
+}
+
+/// The name in a fault on these bytes.
+fn name_in(alloc: Global, code: Code, text: &[u8]) -> Result<Text, NoMemory>
+    ensures { IfOk result (λ name. name ≡ name_in code text.now) }
+{
+    match code {
+        Code::Number => Text::new(alloc, text),
+        Code::Limit => Text::new(alloc, b"name"),
+        _ => Ok(Text::empty(alloc)),
+    }
+}
