@@ -1,3 +1,4 @@
+pub mod BootPlaces
 pub mod Conferring
 pub mod Examples
 pub mod Found

@@ -1,6 +1,8 @@
+pub mod Auth
 pub mod Canonical
 pub mod Confers
 pub mod Example
+pub mod FitsSpec
 pub mod Kept
 pub mod KeptExamples
 pub mod Kinds
@@ -8,3 +10,4 @@ pub mod Lessened
 pub mod Levels
 pub mod Lookup
 pub mod RightsWord
+pub mod State

@@ -65,7 +65,8 @@ fn notification_conferred(rights: Rights) -> AuthoritySet
         .with_if(Authority::AsyncSend, rights.write)
 }
 
-fn frame_conferred(rights: Rights) -> AuthoritySet
+/// The authorities that rights on a frame confer. Takes no memory.
+pub fn frame_conferred(rights: Rights) -> AuthoritySet
     ensures { IsSetOf (kind_confers Kind.Frame rights) result.bits }
 {
     AuthoritySet::empty()

@@ -1,0 +1,2 @@
+pub mod BootSources
+pub mod Gathering

@@ -1,0 +1,8 @@
+use Rattle.auth_kinds.specs.Adds.{Adds}
+use Rattle.auth_graph.proofs.Gathering.{OfFirst}
+use Rattle.cap_model.specs.declared.state.Mapped.{Mapped}
+use Rattle.cap_machine.specs.StateSources.{OfAdded}
+use Rattle.cap_machine.proofs.edges.with_mapped.Given as goal
+
+abbrev pub invariant-loop-added : goal.invariant-loop-added
+invariant-loop-added l = Adds (OfFirst (λ place (added : Mapped). OfAdded l.labels.by_object added) l.mapped l.added-index) l.initial.edges.items l.edges.items

@@ -1,0 +1,9 @@
+use Rattle.auth_kinds.specs.Adds.{Adds}
+use Rattle.auth_graph.proofs.Gathering.{OfFirst}
+use Rattle.auth_kinds.specs.ObjectLabels.{label_of}
+use Rattle.cap_model.specs.declared.state.ThreadState.{ThreadState}
+use Rattle.cap_machine.specs.StateSources.{OfThread}
+use Rattle.cap_machine.proofs.edges.with_threads.Given as goal
+
+abbrev pub invariant-loop-place : goal.invariant-loop-place
+invariant-loop-place l = Adds (OfFirst (λ t (thread : ThreadState). OfThread l.labels.by_object (label_of l.labels.by_object t) thread) l.threads l.place) l.initial.edges.items l.edges.items

@@ -1,0 +1,10 @@
+pub mod Checks
+pub mod Decide
+pub mod Effects
+pub mod Perform
+pub mod Progress
+pub mod Refused
+pub mod Runs
+pub mod Sample
+pub mod StateSources
+pub mod StepTable

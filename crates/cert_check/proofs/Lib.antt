@@ -1,0 +1,13 @@
+pub mod Asked
+pub mod Keeps
+pub mod Labels
+pub mod LeastEdges
+pub mod Missed
+pub mod Partners
+pub mod FirstFound
+pub mod Halving
+pub mod Safe
+pub mod Search
+pub mod Unheld
+pub mod Verdicts
+pub mod Violations

@@ -1,0 +1,42 @@
+-- A search through a table, place by place, for the least thing with a property. Each such thing x names an edge `w x` of the table.
+use Rattle.std.specs.Prelude.{◌≡◌, ◌<◌, ◌≤◌, ℕ, ◌+◌, true, List, slice_get, Some, length}
+use Rattle.std.proofs.Common.{inl, inr, arith}
+use Rattle.std.proofs.lemmas.Bool.{cases_lt}
+use Rattle.std.proofs.lemmas.Option.{slice_get_within}
+use Rattle.auth_kinds.specs.declared.edge.Edge.{Edge}
+use Rattle.auth_kinds.specs.Tables.{has, IsSorted}
+use Rattle.auth_kinds.specs.Edges.{AtMost}
+use Rattle.auth_kinds.proofs.TableMembers.{at_has, later_at_most}
+
+-- nothing with the property names an edge before this place
+pub record NoneUpTo {X : Type 0} (P : X → Type 0) (w : X → Edge) (table : List Edge) (i : ℕ) : Type 0 where
+  pub none : (k : ℕ) (x : X) → k < i → slice_get table k ≡ Some (w x) → P x → ⊥
+
+module _ {X : Type 0} (P : X → Type 0) (w : X → Edge) (table : List Edge) where
+  pub none_start : NoneUpTo P w table 0
+  none_start = record { none = λ k x l p m. omega arith }
+
+  pub none_more : (i : ℕ) (e : Edge) → NoneUpTo P w table i → slice_get table i ≡ Some e → ((x : X) → w x ≡ e → P x → ⊥) → NoneUpTo P w table (i + 1)
+  none_more i e before here none = record {
+    none = λ k x l p m.
+        elim (cases_lt k i) [
+          | inl less ↦ before.none k x less p m
+          | inr ge ↦ let same : k ≡ i = omega arith in let this : w x ≡ e = cc in none x this m
+        ];
+  }
+
+  pub none_end : ((x : X) → P x → has table (w x) ≡ true) → (i : ℕ) → length table ≤ i → NoneUpTo P w table i → (x : X) → P x → ⊥
+  none_end named i le before x m =
+      let there : (k : ℕ) × (slice_get table k ≡ Some (w x)) = at_has table (w x) (named x m) in
+      let within : there.0 < length table = slice_get_within table there.0 (w x) there.1 in
+      before.none there.0 x (omega arith) there.1 m
+
+  -- what is found at the first place is least: each other names an edge that is no less
+  pub found_first : ((x : X) → P x → has table (w x) ≡ true) → (i : ℕ) (e : Edge) → IsSorted table → NoneUpTo P w table i → slice_get table i ≡ Some e
+      → (x : X) → P x → AtMost e (w x)
+  found_first named i e sorted before here x m =
+      let there : (k : ℕ) × (slice_get table k ≡ Some (w x)) = at_has table (w x) (named x m) in
+      elim (cases_lt there.0 i) [
+        | inl less ↦ absurd (before.none there.0 x less there.1 m)
+        | inr ge ↦ later_at_most table i there.0 e (w x) sorted ge here there.1
+      ]

@@ -1,0 +1,101 @@
+//! The control and the bind rule, edge by edge.
+
+ghost use Rattle.auth_kinds.specs.Tables.{has};
+ghost use Rattle.cert_check.specs.Least.{FindsLeast};
+ghost use Rattle.cert_check.specs.Parts.{BreaksPair, FindsLeastAt};
+ghost use Rattle.cert_check.specs.Violations.{BreaksBind, BreaksControl};
+ghost use Rattle.std.specs.Prelude.{◌≡◌, ◌<◌, true};
+
+use crate::missing::missing_copy;
+use crate::places::{first_not_before, is_of, least_of};
+use crate::violation::{Violation, uncopied};
+use auth_kinds::{Authority, Edge, EdgeTable};
+
+/// The least violation of the control rule.
+pub fn find_control(cert: &EdgeTable) -> Option<Violation>
+    ensures { FindsLeast (BreaksControl cert.now) result }
+{
+    for i in 0..cert.len() {
+        if let Some(edge) = cert.get(i) {
+            if let Some(found) = control_at(cert, &edge) {
+                return Some(found);
+            }
+        }
+    }
+    None
+}
+
+/// The least violation of the bind rule.
+pub fn find_bind(cert: &EdgeTable) -> Option<Violation>
+    ensures { FindsLeast (BreaksBind cert.now) result }
+{
+    for i in 0..cert.len() {
+        if let Some(edge) = cert.get(i) {
+            if let Some(found) = bind_at(cert, &edge) {
+                return Some(found);
+            }
+        }
+    }
+    None
+}
+
+fn control_at(cert: &EdgeTable, edge: &Edge) -> Option<Violation>
+    requires { has cert.now edge.now ≡ true }
+    ensures { FindsLeastAt (BreaksControl cert.now) edge.now result }
+{
+    if !is_of(edge, Authority::Control) || edge.from == edge.to {
+        None
+    } else if edge.from < edge.to {
+        pair_at(cert, edge, edge.from, edge.to)
+    } else {
+        pair_at(cert, edge, edge.to, edge.from)
+    }
+}
+
+/// The least violation between two labels that are to have the same edges by this one.
+fn pair_at(cert: &EdgeTable, edge: &Edge, low: u32, high: u32) -> Option<Violation>
+    requires { low < high }
+    ensures { FindsLeast (BreaksPair cert.now edge.now low high) result }
+{
+    if let Some(lack) = missing_copy(cert, high, low) {
+        return Some(uncopied(edge, lack, high));
+    }
+    match missing_copy(cert, low, high) {
+        Some(lack) => Some(uncopied(edge, lack, low)),
+        None => None,
+    }
+}
+
+/// The bind rule at an edge. The AsyncSend edges of a label stand together.
+fn bind_at(cert: &EdgeTable, edge: &Edge) -> Option<Violation>
+    requires { has cert.now edge.now ≡ true }
+    ensures { FindsLeastAt (BreaksBind cert.now) edge.now result }
+{
+    if !is_of(edge, Authority::Handle) {
+        return None;
+    }
+    let low = first_not_before(cert, &least_of(edge.from, Authority::AsyncSend));
+    let high = first_not_before(cert, &least_of(edge.from, Authority::Reset));
+    for j in low..high {
+        if let Some(other) = cert.get(j) {
+            if is_of(&other, Authority::AsyncSend)
+                && other.from == edge.from
+                && other.to != edge.to
+            {
+                let lack = Edge {
+                    from: edge.to,
+                    authority: Authority::AsyncSend,
+                    to: other.to,
+                };
+                if !cert.contains(&lack) {
+                    return Some(Violation {
+                        first: *edge,
+                        lack,
+                        second: other,
+                    });
+                }
+            }
+        }
+    }
+    None
+}
