@@ -2,7 +2,9 @@
 
 use crate::commands::{CAPDL, SOURCE, words};
 use cam_io::{MemFiles, MemOutputs};
-use camkes_tool::run;
+use camkes_tool::{
+    failures_have_a_cause, refusals_touch_standard_error_alone, run, success_writes_a_whole_text,
+};
 use std::test::Fail;
 
 #[test]
@@ -17,6 +19,9 @@ fn first_capdl(rt: HostRuntime) -> Result<(), Fail> {
     assert_eq!(rt; out.bytes(2), CAPDL.as_bytes());
     assert!(rt; out.bytes(0).is_empty() && out.bytes(1).is_empty());
     assert_eq!(rt; out.begun(3), None);
+    refusals_touch_standard_error_alone();
+    success_writes_a_whole_text();
+    failures_have_a_cause();
     Ok(())
 }
 
