@@ -238,8 +238,6 @@ fn least_violation_of_each_rule(rt: HostRuntime) -> Result<(), Fail> {
         edge(6, Authority::Read, 8),
     ];
     let answer = verdict(alloc, &spec, &LABELS, &both, &both)?;
-    let first = edge(5, Authority::Control, 5);
-    assert!(rt; answer != Some(no(2, first, first, control)));
     assert!(rt;
         answer
             == Some(no(
@@ -249,6 +247,16 @@ fn least_violation_of_each_rule(rt: HostRuntime) -> Result<(), Fail> {
                 edge(5, Authority::Read, 8)
             ))
     );
+    let greater = [
+        edge(5, Authority::Control, 6),
+        edge(6, Authority::Control, 6),
+        edge(5, Authority::Read, 8),
+        edge(6, Authority::Reply, 8),
+        edge(5, Authority::Handle, 6),
+    ];
+    let answer = verdict(alloc, &spec, &LABELS, &greater, &greater)?;
+    let lack = edge(6, Authority::Read, 8);
+    assert!(rt; answer == Some(no(2, greater[0], greater[2], lack)));
     let handles = edge(6, Authority::Handle, 5);
     let bound = [
         handles,
