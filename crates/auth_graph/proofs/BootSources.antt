@@ -32,7 +32,7 @@ pub at_contains : {A : Type 0} (xs : List A) (x : A) (k : ℕ) → slice_get xs 
 at_contains xs x k h = (k, slice_get_within xs k x h, get_or_from_slice_get xs k x x h)
 
 -- a slot of the boot state is one of the spec
-slot_of : (slots : List (ℕ × Cap)) (k i : ℕ) (content : Content) → slice_get (map boot_slot slots) k ≡ Some (i, content)
+pub slot_of : (slots : List (ℕ × Cap)) (k i : ℕ) (content : Content) → slice_get (map boot_slot slots) k ≡ Some (i, content)
     → (slot : ℕ × Cap) × (slice_get slots k ≡ Some slot) × (Capability slot.1 ≡ content)
 slot_of slots k i content h = go (slice_get slots k) refl where
   go : (o : Option (ℕ × Cap)) → slice_get slots k ≡ o → (slot : ℕ × Cap) × (slice_get slots k ≡ Some slot) × (Capability slot.1 ≡ content)

@@ -1,8 +1,8 @@
 //! The step machine: the boot state of a spec, and steps of its threads, one at a time.
 //!
-//! Nothing here looks at more than one run, or reads a text but that of steps. The table of steps stands in
-//! `specs/StepTable.antt`, the order of answers of an illegal step in `specs/Checks.antt`, runs and what they reach in
-//! `specs/Runs.antt`; states, and when one fits a spec, stand in `cap_model`.
+//! Nothing here looks at more than one run, or reads a text. The table of steps stands in `specs/StepTable.antt`, the
+//! order of answers of an illegal step in `specs/Checks.antt`, runs and what they reach in `specs/Runs.antt`; states, and
+//! when one fits a spec, stand in `cap_model`.
 #![tactic(auto)]
 
 mod boot_state;

@@ -2,7 +2,6 @@
 use Rattle.std.specs.Prelude.{◌≡◌, ◌≢◌, ◌⊎◌, ℕ, List, map, slice_get, Option, Some, None, refl}
 use Rattle.std.specs.List.{Contains}
 use Rattle.std.proofs.Common.{inl, inr, arith, subst}
-use Rattle.std.proofs.lemmas.Option.{slice_get-get_or, get_or_from_slice_get, slice_get_within}
 use Rattle.auth_kinds.specs.declared.edge.Edge.{Edge}
 use Rattle.auth_kinds.specs.declared.authority.Authority.{Authority}
 use Rattle.cap_model.specs.declared.object.Object.{Object}
@@ -21,10 +20,9 @@ use Rattle.cap_model.specs.State.{boot_slot}
 use Rattle.cap_model.specs.declared.state.Content.{Content}
 use Rattle.cap_model.specs.declared.state.Content.TheVariants.{Capability}
 use Rattle.cap_model.proofs.BootPlaces.{at_entry, entry_at}
-use Rattle.cert_check.proofs.Safe.{nothing_pending, none_saved}
-use Rattle.std.specs.Option.{option_map}
-use Rattle.std.proofs.Common.{ap, sym, ◌∙◌}
+use Rattle.auth_graph.proofs.BootSources.{contains_at, at_contains, slot_of}
 use Rattle.std.proofs.lemmas.Option.{slice_get-map}
+use Rattle.cert_check.proofs.Safe.{nothing_pending, none_saved}
 
 -- an edge that is asked for because of some object
 pub record AskedSome (spec : Spec) (labels : List ℕ) (e : Edge) : Type 0 where
@@ -32,29 +30,6 @@ pub record AskedSome (spec : Spec) (labels : List ℕ) (e : Edge) : Type 0 where
   pub entry : Entry
   pub there : slice_get spec.entries place ≡ Some entry
   pub asked : Asked spec labels (label_of labels place) entry.object e
-
-contains_at : {A : Type 0} (xs : List A) (x : A) → Contains xs x → (k : ℕ) × (slice_get xs k ≡ Some x)
-contains_at xs x c = (c.0, let s = slice_get-get_or xs c.0 x c.1 in cc c.2)
-
-at_contains : {A : Type 0} (xs : List A) (x : A) (k : ℕ) → slice_get xs k ≡ Some x → Contains xs x
-at_contains xs x k h = (k, slice_get_within xs k x h, get_or_from_slice_get xs k x x h)
-
--- a slot of the boot state is one of the spec
-slot_of : (slots : List (ℕ × Cap)) (k i : ℕ) (content : Content) → slice_get (map boot_slot slots) k ≡ Some (i, content)
-    → (slot : ℕ × Cap) × (slice_get slots k ≡ Some slot) × (Capability slot.1 ≡ content)
-slot_of slots k i content h = go (slice_get slots k) refl where
-  go : (o : Option (ℕ × Cap)) → slice_get slots k ≡ o → (slot : ℕ × Cap) × (slice_get slots k ≡ Some slot) × (Capability slot.1 ≡ content)
-  go None there = absurd (
-      let e : slice_get (map boot_slot slots) k ≡ option_map boot_slot (slice_get slots k) = slice_get-map boot_slot slots k in
-      let f : option_map boot_slot (slice_get slots k) ≡ None = rw there refl in
-      let g : ◌≡◌ {A = Option (ℕ × Content)} (Some (i, content)) None = sym h ∙ (e ∙ f) in
-      cc)
-  go (Some slot) there =
-      let e : slice_get (map boot_slot slots) k ≡ option_map boot_slot (slice_get slots k) = slice_get-map boot_slot slots k in
-      let f : option_map boot_slot (slice_get slots k) ≡ Some (boot_slot slot) = rw there refl in
-      let g : ◌≡◌ {A = Option (ℕ × Content)} (Some (boot_slot slot)) (Some (i, content)) = sym (e ∙ f) ∙ h in
-      let same : boot_slot slot ≡ (i, content) = cc in
-      (slot, there, ap (λ (p : ℕ × Content). p.1) same)
 
 module _ (spec : Spec) (labels : List ℕ) where
   -- from the boot state to the objects
