@@ -1,0 +1,9 @@
+pub mod Agreement
+pub mod Decides
+pub mod Eats
+pub mod Interfaces
+pub mod MethodParams
+pub mod OneKind
+pub mod Spellings
+pub mod Trees
+pub mod TypedNames

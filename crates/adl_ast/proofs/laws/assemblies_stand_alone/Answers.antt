@@ -1,0 +1,9 @@
+use Rattle.grammar.proofs.Theorems.{one_form}
+use Rattle.adl_ast.specs.Codes.{token_code}
+use Rattle.adl_ast.specs.Forms.{nested_line, assembly_line}
+use Rattle.adl_ast.specs.Spelling.{opens}
+use Rattle.adl_ast.proofs.Decides.{nested_is, assembly_decides, assembly_closed}
+use Rattle.adl_ast.proofs.laws.assemblies_stand_alone.Goals as goal
+
+pub returns : goal.returns
+returns c = one_form token_code nested_line opens nested_is assembly_line assembly_decides assembly_closed

@@ -1,0 +1,9 @@
+use Rattle.grammar.proofs.Theorems.{one_form}
+use Rattle.adl_ast.specs.Codes.{token_code}
+use Rattle.adl_ast.specs.Forms.{nested_line, composition_line}
+use Rattle.adl_ast.specs.Spelling.{opens}
+use Rattle.adl_ast.proofs.Decides.{nested_is, composition_decides, composition_closed}
+use Rattle.adl_ast.proofs.laws.compositions_stand_alone.Goals as goal
+
+pub returns : goal.returns
+returns c = one_form token_code nested_line opens nested_is composition_line composition_decides composition_closed

@@ -1,0 +1,9 @@
+use Rattle.grammar.proofs.Theorems.{one_form}
+use Rattle.adl_ast.specs.Codes.{token_code}
+use Rattle.adl_ast.specs.Forms.{nested_line, configuration_line}
+use Rattle.adl_ast.specs.Spelling.{opens}
+use Rattle.adl_ast.proofs.Decides.{nested_is, configuration_decides, configuration_closed}
+use Rattle.adl_ast.proofs.laws.configurations_stand_alone.Goals as goal
+
+pub returns : goal.returns
+returns c = one_form token_code nested_line opens nested_is configuration_line configuration_decides configuration_closed

@@ -1,0 +1,9 @@
+use Rattle.adl_ast.specs.Codes.{token_code}
+use Rattle.adl_ast.specs.Forms.{nested_line, file_line}
+use Rattle.adl_ast.specs.Spelling.{opens}
+use Rattle.adl_ast.proofs.Decides.{nested_is, file_decides}
+use Rattle.adl_ast.proofs.Trees.{one_tree}
+use Rattle.adl_ast.proofs.laws.files_are_one.Goals as goal
+
+pub returns : goal.returns
+returns c = one_tree token_code nested_line opens nested_is file_line file_decides

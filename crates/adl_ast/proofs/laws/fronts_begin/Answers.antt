@@ -1,0 +1,19 @@
+use Rattle.grammar.proofs.Fronts.{begun_front}
+use Rattle.adl_ast.specs.Codes.{token_code}
+use Rattle.adl_ast.specs.Forms.{nested_line, file_line, value_line, composition_line, configuration_line, assembly_line}
+use Rattle.adl_ast.proofs.laws.fronts_begin.Goals as goal
+
+pub returns-clause-file : goal.returns-clause-file
+returns-clause-file c = begun_front token_code nested_line file_line
+
+pub returns-clause-value : goal.returns-clause-value
+returns-clause-value c = begun_front token_code nested_line value_line
+
+pub returns-clause-composition : goal.returns-clause-composition
+returns-clause-composition c = begun_front token_code nested_line composition_line
+
+pub returns-clause-configuration : goal.returns-clause-configuration
+returns-clause-configuration c = begun_front token_code nested_line configuration_line
+
+pub returns-clause-assembly : goal.returns-clause-assembly
+returns-clause-assembly c = begun_front token_code nested_line assembly_line

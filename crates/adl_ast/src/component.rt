@@ -1,0 +1,71 @@
+use crate::{Composition, Configuration, Id, Import, Value};
+use cam_base::{List, Name, Place};
+
+/// A component: what its instances offer and need.
+#[derive(Debug, Drop)]
+pub struct Component {
+    pub id: Id,
+    pub members: List<Member>,
+}
+
+/// A member of a component. The place of `control` and `hardware` is that of the keyword.
+#[derive(Debug, Drop)]
+pub enum Member {
+    Control(Place),
+    Hardware(Place),
+    Include(Import),
+    Interface(Interface),
+    Attribute(Attribute),
+    Lock(Lock),
+    Composition(Composition),
+    Configuration(Configuration),
+}
+
+/// A kind of interface.
+#[derive(Clone, Copy, Debug, PartialEq, Eq)]
+pub enum InterfaceKind {
+    Uses,
+    Provides,
+    Emits,
+    Consumes,
+    Dataport,
+}
+
+/// An interface of a component.
+#[derive(Debug, Drop)]
+pub struct Interface {
+    /// It may stay unconnected.
+    pub maybe: bool,
+    pub kind: InterfaceKind,
+    /// The procedure, the type of the event, or the type of the data.
+    pub word: Id,
+    /// The bytes of a data port of type `Buf` whose size stands in parentheses.
+    pub size: Option<u64>,
+    pub id: Id,
+}
+
+/// An attribute of a component, with its default.
+#[derive(Debug, Drop)]
+pub struct Attribute {
+    /// The words of its type, one to three.
+    pub words: List<Name>,
+    pub id: Id,
+    /// `[]` stands behind the name.
+    pub array: bool,
+    pub value: Option<Value>,
+}
+
+/// A kind of lock.
+#[derive(Clone, Copy, Debug, PartialEq, Eq)]
+pub enum LockKind {
+    Mutex,
+    Semaphore,
+    BinarySemaphore,
+}
+
+/// A lock of a component.
+#[derive(Debug, Drop)]
+pub struct Lock {
+    pub kind: LockKind,
+    pub id: Id,
+}

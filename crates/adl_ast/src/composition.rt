@@ -1,0 +1,76 @@
+use crate::{Configuration, Id};
+use cam_base::{List, Place};
+
+/// The instances of an assembly or a component, and how they are joined. Its place is that of the keyword.
+#[derive(Debug, Drop)]
+pub struct Composition {
+    pub place: Place,
+    pub lines: List<Line>,
+}
+
+/// A line of a composition.
+#[derive(Debug, Drop)]
+pub enum Line {
+    Instance(Instance),
+    Group(Group),
+    Connection(Connection),
+    Export(Export),
+}
+
+/// An instance of a component.
+#[derive(Debug, Drop)]
+pub struct Instance {
+    pub component: Id,
+    pub id: Id,
+}
+
+/// Instances that share one address space.
+#[derive(Debug, Drop)]
+pub struct Group {
+    pub id: Id,
+    pub instances: List<Instance>,
+}
+
+/// The side of a connection on which an end stands.
+#[derive(Clone, Copy, Debug, PartialEq, Eq)]
+pub enum Role {
+    From,
+    To,
+}
+
+/// An end of a connection. Its place runs from the first word of its dotted name to the end of the last.
+#[derive(Debug, Drop)]
+pub struct End {
+    pub role: Role,
+    /// The words of the dotted name, two or three.
+    pub words: List<Id>,
+    pub place: Place,
+}
+
+/// A connection.
+#[derive(Debug, Drop)]
+pub struct Connection {
+    pub connector: Id,
+    pub id: Id,
+    /// At least one.
+    pub ends: List<End>,
+}
+
+/// An interface that a composition offers under a name of its component. Its place runs from the first word of its
+/// dotted name to the end of the last.
+#[derive(Debug, Drop)]
+pub struct Export {
+    /// The words of the dotted name, two or three.
+    pub words: List<Id>,
+    pub target: Id,
+    pub place: Place,
+}
+
+/// An assembly. Its place is that of the keyword.
+#[derive(Debug, Drop)]
+pub struct Assembly {
+    pub place: Place,
+    pub id: Option<Id>,
+    pub composition: Composition,
+    pub configuration: Option<Configuration>,
+}

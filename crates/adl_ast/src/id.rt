@@ -1,0 +1,8 @@
+use cam_base::{Name, Place};
+
+/// A word of a source that is a name, with the place of the word.
+#[derive(Debug, Drop)]
+pub struct Id {
+    pub name: Name,
+    pub place: Place,
+}

@@ -1,0 +1,9 @@
+use cam_base::{Kind, Place, Text};
+
+/// A token with its bytes: what the grammar sees of it. Definitions alone speak of it; readers keep the bytes apart.
+#[derive(Debug, Drop)]
+pub struct Seen {
+    pub kind: Kind,
+    pub text: Text,
+    pub place: Place,
+}

@@ -1,0 +1,16 @@
+use crate::File;
+use cam_base::{List, Text};
+
+/// A file of a source: its folded name, its bytes and its tree.
+#[derive(Debug, Drop)]
+pub struct SourceFile {
+    pub name: Text,
+    pub bytes: List<u8>,
+    pub tree: File,
+}
+
+/// The files of a source, the root first.
+#[derive(Debug, Drop)]
+pub struct Source {
+    pub files: List<SourceFile>,
+}

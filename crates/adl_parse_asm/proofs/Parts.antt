@@ -1,0 +1,52 @@
+-- What the reader of a part gives is what parsing it from a position on answers.
+use Rattle.std.proofs.Common.{◌≡◌, ℕ, ◌≤◌, ◌-◌, true, List, [], ◌++◌, drop, length, Ok, Err, sym, subst}
+use Rattle.std.proofs.lemmas.List.{length-map}
+use Rattle.cam_base.specs.declared.error.Refused.{Refused}
+use Rattle.cam_base.specs.declared.error.Refused.TheVariants as refusals
+use Rattle.cam_base.specs.declared.place.Fault.{Fault}
+use Rattle.cam_base.specs.declared.token.Token.{Token}
+use Rattle.grammar.specs.declared.error.ReadError.{ReadError}
+use Rattle.grammar.specs.declared.error.ReadError.TheVariants as errors
+use Rattle.grammar.specs.Deciding.{decides, further}
+use Rattle.grammar.specs.Gives.{Fails}
+use Rattle.grammar.proofs.Parsed.{ends_within, part_at, part_stops}
+use Rattle.adl_ast.specs.declared.seen.Seen.{Seen}
+use Rattle.adl_ast.specs.Codes.{token_code}
+use Rattle.adl_ast.specs.Forms.{Rule, nested_line}
+use Rattle.adl_ast.specs.Seeing.{see, seen_at}
+use Rattle.adl_ast.specs.Spelling.{opens, reads, limit, IsSpelledBy}
+use Rattle.adl_ast.proofs.Decides.{nested_is}
+use Rattle.adl_parse_asm.specs.Faults.{IsRefusalOf}
+use Rattle.adl_parse_asm.specs.Parts.{IsPartAt}
+
+seen_length : (bytes : List ℕ) (ts : List Token) → length (see bytes ts) ≡ length ts
+seen_length bytes ts = length-map ts (seen_at bytes)
+
+module _ {A : Type 0} (f : Rule A) (d : decides opens f ≡ true) (bytes : List ℕ) (tokens : List Token) (at : ℕ) (slice : List Token) (is : slice ≡ tokens) where
+  all_within : (x : A) (rest : List Token) → reads f (drop at (see bytes tokens)) ≡ Ok (x, see bytes rest) → length rest ≤ length tokens
+  all_within x rest e =
+      subst (λ (n : ℕ). n ≤ length tokens) (seen_length bytes rest) (subst (λ (n : ℕ). length (see bytes rest) ≤ n) (seen_length bytes tokens)
+      (ends_within token_code nested_line opens nested_is f d limit (see bytes tokens) at x (see bytes rest) e))
+
+  pub part_within : (x : A) (rest : List Token) → reads f (drop at (see bytes slice)) ≡ Ok (x, see bytes rest) → length rest ≤ length slice
+  part_within x rest e = subst (λ (z : List Token). (reads f (drop at (see bytes z)) ≡ Ok (x, see bytes rest)) → length rest ≤ length z) (sym is) (all_within x rest) e
+
+  all_ok : (x : A) (rest : List Token) → reads f (drop at (see bytes tokens)) ≡ Ok (x, see bytes rest) → IsPartAt f bytes tokens at (Ok (x, length tokens - length rest))
+  all_ok x rest e =
+      subst (λ (n : ℕ). (a : List Seen) × (drop at (see bytes tokens) ≡ a ++ drop (length tokens - n) (see bytes tokens)) × IsSpelledBy f x a) (seen_length bytes rest)
+      (subst (λ (n : ℕ). (a : List Seen) × (drop at (see bytes tokens) ≡ a ++ drop (n - length (see bytes rest)) (see bytes tokens)) × IsSpelledBy f x a) (seen_length bytes tokens)
+      (part_at token_code nested_line opens nested_is f d limit (see bytes tokens) at x (see bytes rest) e))
+
+  -- what is read is a part that ends where the rest begins
+  pub part_ok : (x : A) (rest : List Token) → reads f (drop at (see bytes slice)) ≡ Ok (x, see bytes rest) → IsPartAt f bytes tokens at (Ok (x, length slice - length rest))
+  part_ok x rest e = subst (λ (z : List Token). (reads f (drop at (see bytes z)) ≡ Ok (x, see bytes rest)) → IsPartAt f bytes tokens at (Ok (x, length z - length rest))) (sym is) (all_ok x rest) e
+
+  all_refused : further opens f ≡ [] → (e : ReadError) (r : Refused Fault) → Fails e (reads f (drop at (see bytes tokens))) → IsRefusalOf bytes tokens e r → IsPartAt f bytes tokens at (Err r)
+  all_refused closed e refusals.NoMemory h q = tt
+  all_refused closed errors.NoMemory (refusals.Fault g) h q = absurd q
+  all_refused closed (errors.Stop stop) (refusals.Fault g) h q =
+      (stop.why, stop.left, q, part_stops token_code nested_line opens nested_is f d limit (drop at (see bytes tokens)) closed stop.why stop.left h)
+
+  -- where reading gave up, the refusal says so
+  pub part_refused : further opens f ≡ [] → (e : ReadError) (r : Refused Fault) → Fails e (reads f (drop at (see bytes slice))) → IsRefusalOf bytes slice e r → IsPartAt f bytes tokens at (Err r)
+  part_refused closed e r h q = subst (λ (z : List Token). Fails e (reads f (drop at (see bytes z))) → IsRefusalOf bytes z e r → IsPartAt f bytes tokens at (Err r)) (sym is) (all_refused closed e r) h q

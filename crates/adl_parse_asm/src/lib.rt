@@ -1,0 +1,31 @@
+//! Parsers of values, compositions, configurations and assemblies: from the tokens of a file to trees.
+//!
+//! The grammar stands in `adl_ast`. Nothing here reads bytes but to know a word, and nothing looks a name up. What a
+//! public parser answers stands in `specs/Parts.antt`, and the fault of a wrong token in `specs/Faults.antt`. The parser
+//! of whole files builds on the readers of single lines, which answer exactly what the reader of the grammar gives.
+#![tactic(auto)]
+
+mod assembly;
+mod composition;
+mod configuration;
+mod dotted;
+mod part;
+mod repeated;
+mod token;
+mod value;
+
+pub use assembly::read_assembly;
+pub use composition::read_composition;
+pub use configuration::read_configuration;
+pub use part::{
+    fault_of, parse_assembly, parse_composition, parse_configuration, parse_value, refusal_of,
+};
+pub use repeated::{Repeated, read_all, read_list};
+pub use token::{
+    WordKind, id_of, inner_text, maybe_word, next_has, next_is, next_is_word, number_of, span,
+    take, take_of, text_at, word,
+};
+pub use value::read_value;
+
+#[cfg(test)]
+mod tests;

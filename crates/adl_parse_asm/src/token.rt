@@ -1,0 +1,299 @@
+//! Single tokens.
+
+ghost use Rattle.adl_ast.specs.Codes.{kind_code, token_code, word_code, word_codes, key_code, mark_code};
+ghost use Rattle.adl_ast.specs.Forms.{word};
+ghost use Rattle.adl_ast.specs.Seeing.{see, seen_at, text_at, id_of, named, number_of, inner, span};
+ghost use Rattle.adl_ast.specs.Spelling.{reads};
+ghost use Rattle.adl_parse_asm.specs.Words.{codes_of};
+ghost use Rattle.grammar.specs.Form.{among, maybe};
+ghost use Rattle.grammar.specs.Gives.{Gives};
+ghost use Rattle.grammar.specs.Reading.{starts, one};
+ghost use Rattle.std.specs.Prelude.{◌≡◌, ◌∷◌, [], IfOk};
+
+use adl_ast::Id;
+use cam_base::{Keyword, Kind, Mark, Name, NoMemory, Place, Text, Token, is_name};
+use grammar::{ReadError, Stop, Why};
+use std::alloc::Global;
+
+/// The bytes at a place, as far as there are any.
+pub fn text_at(bytes: &[u8], place: Place) -> &[u8]
+    ensures { result.now ≡ text_at bytes.now place }
+{
+    let first = (place.first as usize).min(bytes.len());
+    let rest = &bytes[first..];
+    let len = (place.end.saturating_sub(place.first) as usize).min(rest.len());
+    &rest[..len]
+}
+
+fn key_code(key: Keyword) -> u8
+    ensures { result ≡ key_code key }
+{
+    match key {
+        Keyword::KAssembly => 19,
+        Keyword::KAttribute => 20,
+        Keyword::KBinarySemaphore => 21,
+        Keyword::KComponent => 22,
+        Keyword::KComposition => 23,
+        Keyword::KConfiguration => 24,
+        Keyword::KConnection => 25,
+        Keyword::KConsumes => 26,
+        Keyword::KControl => 27,
+        Keyword::KDataport => 28,
+        Keyword::KEmits => 29,
+        Keyword::KExport => 30,
+        Keyword::KFrom => 31,
+        Keyword::KGroup => 32,
+        Keyword::KHardware => 33,
+        Keyword::KHas => 34,
+        Keyword::KImport => 35,
+        Keyword::KIn => 36,
+        Keyword::KInclude => 37,
+        Keyword::KInout => 38,
+        Keyword::KMaybe => 39,
+        Keyword::KMutex => 40,
+        Keyword::KOut => 41,
+        Keyword::KProcedure => 42,
+        Keyword::KProvides => 43,
+        Keyword::KRefin => 44,
+        Keyword::KSemaphore => 45,
+        Keyword::KTo => 46,
+        Keyword::KUses => 47,
+    }
+}
+
+fn mark_code(mark: Mark) -> u8
+    ensures { result ≡ mark_code mark }
+{
+    match mark {
+        Mark::BraceL => 6,
+        Mark::BraceR => 7,
+        Mark::ParenL => 8,
+        Mark::ParenR => 9,
+        Mark::SquareL => 10,
+        Mark::SquareR => 11,
+        Mark::Semi => 12,
+        Mark::Comma => 13,
+        Mark::Dot => 14,
+        Mark::Equals => 15,
+        Mark::Colon => 16,
+        Mark::Arrow => 17,
+        Mark::Back => 18,
+    }
+}
+
+fn word_code(text: &[u8]) -> u8
+    ensures { result ≡ word_code text.now }
+{
+    if text == b"void".as_slice() {
+        1
+    } else if text == b"Buf".as_slice() {
+        2
+    } else {
+        0
+    }
+}
+
+fn kind_code(kind: Kind, text: &[u8]) -> u8
+    ensures { result ≡ kind_code kind text.now }
+{
+    match kind {
+        Kind::Word => word_code(text),
+        Kind::Key(key) => key_code(key),
+        Kind::Number(_) => 3,
+        Kind::Text => 4,
+        Kind::Angle => 5,
+        Kind::Mark(mark) => mark_code(mark),
+    }
+}
+
+fn token_code(bytes: &[u8], token: Token) -> u8
+    ensures { result ≡ token_code (seen_at bytes.now token) }
+{
+    kind_code(token.kind, text_at(bytes, token.place))
+}
+
+/// Whether the next token is of this kind; for words, a plain word.
+pub fn next_is(bytes: &[u8], tokens: &[Token], kind: Kind) -> bool
+    ensures { result ≡ starts token_code (kind_code kind [] ∷ []) (see bytes.now tokens.now) }
+{
+    match tokens {
+        [] => false,
+        [token, ..] => token_code(bytes, *token) == kind_code(kind, b""),
+    }
+}
+
+/// The next token, which is of this kind; for words, a plain word.
+pub fn take<'a>(
+    bytes: &[u8],
+    tokens: &'a [Token],
+    kind: Kind,
+) -> Result<(Token, &'a [Token]), ReadError>
+    ensures { Gives (λ x. (seen_at bytes.now x.0, see bytes.now x.1.now)) result (one token_code (kind_code kind [] ∷ []) (see bytes.now tokens.now)) }
+{
+    match tokens {
+        [token, rest @ ..] if token_code(bytes, *token) == kind_code(kind, b"") => Ok((
+            *token, rest,
+        )),
+        _ => Err(ReadError::Stop(Stop {
+            why: Why::Unexpected,
+            left: tokens.len(),
+        })),
+    }
+}
+
+/// Whether the next token is a word.
+pub fn next_is_word(bytes: &[u8], tokens: &[Token]) -> bool
+    ensures { result ≡ starts token_code word_codes (see bytes.now tokens.now) }
+{
+    match tokens {
+        [] => false,
+        [token, ..] => token_code(bytes, *token) <= 2,
+    }
+}
+
+/// The next token, which is a word.
+fn take_word<'a>(bytes: &[u8], tokens: &'a [Token]) -> Result<(Token, &'a [Token]), ReadError>
+    ensures { Gives (λ x. (seen_at bytes.now x.0, see bytes.now x.1.now)) result (one token_code word_codes (see bytes.now tokens.now)) }
+{
+    match tokens {
+        [token, rest @ ..] if next_is_word(bytes, tokens) => Ok((*token, rest)),
+        _ => Err(ReadError::Stop(Stop {
+            why: Why::Unexpected,
+            left: tokens.len(),
+        })),
+    }
+}
+
+/// Words by whether they are one of the two with a meaning of their own.
+#[derive(Clone, Copy, Debug, PartialEq, Eq)]
+pub enum WordKind {
+    /// The word `void`.
+    Void,
+    NotVoid,
+    /// The word `Buf`.
+    Buf,
+    NotBuf,
+}
+
+fn has_code(words: WordKind, code: u8) -> bool
+    ensures { result ≡ among (codes_of words) code }
+{
+    match words {
+        WordKind::Void => code == 1,
+        WordKind::NotVoid => code == 0 || code == 2,
+        WordKind::Buf => code == 2,
+        WordKind::NotBuf => code == 0 || code == 1,
+    }
+}
+
+/// Whether the next token is a word of this kind.
+pub fn next_has(bytes: &[u8], tokens: &[Token], words: WordKind) -> bool
+    ensures { result ≡ starts token_code (codes_of words) (see bytes.now tokens.now) }
+{
+    match tokens {
+        [] => false,
+        [token, ..] => has_code(words, token_code(bytes, *token)),
+    }
+}
+
+/// The next token, which is a word of this kind.
+pub fn take_of<'a>(
+    bytes: &[u8],
+    tokens: &'a [Token],
+    words: WordKind,
+) -> Result<(Token, &'a [Token]), ReadError>
+    ensures { Gives (λ x. (seen_at bytes.now x.0, see bytes.now x.1.now)) result (one token_code (codes_of words) (see bytes.now tokens.now)) }
+{
+    match tokens {
+        [token, rest @ ..] if has_code(words, token_code(bytes, *token)) => Ok((*token, rest)),
+        _ => Err(ReadError::Stop(Stop {
+            why: Why::Unexpected,
+            left: tokens.len(),
+        })),
+    }
+}
+
+fn name_of(alloc: Global, text: &[u8]) -> Result<Name, NoMemory>
+    ensures { IfOk result (λ name. name ≡ named text.now) }
+{
+    if is_name(text) {
+        Name::of_identifier(alloc, text)
+    } else {
+        Name::of_identifier(alloc, b"_")
+    }
+}
+
+/// The name and place of a word.
+pub fn id_of(alloc: Global, bytes: &[u8], token: Token) -> Result<Id, NoMemory>
+    ensures { IfOk result (λ id. id ≡ id_of (seen_at bytes.now token)) }
+{
+    Ok(Id {
+        name: name_of(alloc, text_at(bytes, token.place))?,
+        place: token.place,
+    })
+}
+
+fn inner(text: &[u8]) -> &[u8]
+    ensures { result.now ≡ inner text.now }
+{
+    match text {
+        [] => text,
+        [_, rest @ ..] => &rest[..rest.len().saturating_sub(1)],
+    }
+}
+
+/// What stands between the quotes of a text, or the angle brackets of a path.
+pub fn inner_text(alloc: Global, bytes: &[u8], token: Token) -> Result<Text, NoMemory>
+    ensures { IfOk result (λ text. text ≡ inner (text_at bytes.now token.place)) }
+{
+    Text::new(alloc, inner(text_at(bytes, token.place)))
+}
+
+/// The value of a number, 0 for other kinds.
+pub fn number_of(kind: Kind) -> u64
+    ensures { result ≡ number_of kind }
+{
+    match kind {
+        Kind::Number(n) => n,
+        _ => 0,
+    }
+}
+
+/// From the beginning of the one place to the end of the other.
+pub fn span(first: Place, last: Place) -> Place
+    ensures { result ≡ span first last }
+{
+    Place {
+        file: first.file,
+        first: first.first,
+        end: last.end,
+    }
+}
+
+/// A word.
+pub fn word<'a>(
+    alloc: Global,
+    bytes: &[u8],
+    tokens: &'a [Token],
+) -> Result<(Id, &'a [Token]), ReadError>
+    ensures { Gives (λ x. (x.0, see bytes.now x.1.now)) result (reads word (see bytes.now tokens.now)) }
+{
+    let (token, rest) = take_word(bytes, tokens)?;
+    let id = id_of(alloc, bytes, token)?;
+    Ok((id, rest))
+}
+
+/// A word, or nothing.
+pub fn maybe_word<'a>(
+    alloc: Global,
+    bytes: &[u8],
+    tokens: &'a [Token],
+) -> Result<(Option<Id>, &'a [Token]), ReadError>
+    ensures { Gives (λ x. (x.0, see bytes.now x.1.now)) result (reads (maybe word) (see bytes.now tokens.now)) }
+{
+    if !next_is_word(bytes, tokens) {
+        return Ok((None, tokens));
+    }
+    let (id, rest) = word(alloc, bytes, tokens)?;
+    Ok((Some(id), rest))
+}

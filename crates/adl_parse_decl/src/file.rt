@@ -1,0 +1,113 @@
+//! Files and their items.
+
+ghost use Rattle.adl_ast.proofs.Eats.{ended_eats};
+ghost use Rattle.adl_ast.specs.Forms.{item_line, item_codes, ended_line, ended_form, file_line};
+ghost use Rattle.adl_ast.specs.Seeing.{see};
+ghost use Rattle.adl_ast.specs.Spelling.{reads, IsFileSpelled};
+ghost use Rattle.adl_ast.specs.declared.file.File.{File as Tree};
+ghost use Rattle.adl_parse_decl.specs.Files.{IsFileIn};
+ghost use Rattle.grammar.specs.Gives.{Gives};
+ghost use Rattle.grammar.specs.Reading.{whole};
+ghost use Rattle.std.specs.Prelude.{◌≡◌};
+
+use crate::component::read_component;
+use crate::import::read_import;
+use crate::procedure::read_procedure;
+use adl_ast::{Ended, File, Item};
+use adl_parse_asm::{Repeated, next_is, read_all, read_assembly, refusal_of, take};
+use cam_base::{Fault, Keyword, Kind, Mark, Refused, Token, Tokens};
+use grammar::{ReadError, Stop, Why};
+use std::alloc::Global;
+
+#[tactic(auto, unfolding(adl_ast::specs::Forms::item_line))]
+fn item<'a>(
+    alloc: Global,
+    bytes: &[u8],
+    tokens: &'a [Token],
+) -> Result<(Item, &'a [Token]), ReadError>
+    ensures { Gives (λ x. (x.0, see bytes.now x.1.now)) result (reads item_line (see bytes.now tokens.now)) }
+{
+    if next_is(bytes, tokens, Kind::Key(Keyword::KImport)) {
+        let (import, rest) = read_import(alloc, bytes, tokens, Keyword::KImport)?;
+        Ok((Item::Import(import), rest))
+    } else if next_is(bytes, tokens, Kind::Key(Keyword::KProcedure)) {
+        let (procedure, rest) = read_procedure(alloc, bytes, tokens)?;
+        Ok((Item::Procedure(procedure), rest))
+    } else if next_is(bytes, tokens, Kind::Key(Keyword::KComponent)) {
+        let (component, rest) = read_component(alloc, bytes, tokens)?;
+        Ok((Item::Component(component), rest))
+    } else {
+        let (assembly, rest) = read_assembly(alloc, bytes, tokens)?;
+        Ok((Item::Assembly(assembly), rest))
+    }
+}
+
+#[tactic(auto, unfolding(adl_ast::specs::Forms::ended_line))]
+fn ended<'a>(
+    alloc: Global,
+    bytes: &[u8],
+    tokens: &'a [Token],
+) -> Result<(Ended, &'a [Token]), ReadError>
+    ensures { Gives (λ x. (x.0, see bytes.now x.1.now)) result (reads ended_line (see bytes.now tokens.now)) }
+{
+    let (item, rest) = item(alloc, bytes, tokens)?;
+    if !next_is(bytes, rest, Kind::Mark(Mark::Semi)) {
+        let semicolon = false;
+        return Ok((Ended { item, semicolon }, rest));
+    }
+    let (_end, rest) = take(bytes, rest, Kind::Mark(Mark::Semi))?;
+    let semicolon = true;
+    Ok((Ended { item, semicolon }, rest))
+}
+
+struct Items;
+
+impl Repeated for Items {
+    type Item = Ended;
+
+    ghost codes = { item_codes };
+
+    ghost gives = { reads ended_form };
+
+    ghost eats = { ended_eats };
+
+    fn starts(bytes: &[u8], tokens: &[Token]) -> bool {
+        next_is(bytes, tokens, Kind::Key(Keyword::KImport))
+            || next_is(bytes, tokens, Kind::Key(Keyword::KProcedure))
+            || next_is(bytes, tokens, Kind::Key(Keyword::KComponent))
+            || next_is(bytes, tokens, Kind::Key(Keyword::KAssembly))
+    }
+
+    fn read<'a>(
+        alloc: Global,
+        bytes: &[u8],
+        tokens: &'a [Token],
+    ) -> Result<(Ended, &'a [Token]), ReadError> {
+        ended(alloc, bytes, tokens)
+    }
+}
+
+#[tactic(auto, unfolding(adl_ast::specs::Forms::file_line))]
+fn read_file(alloc: Global, bytes: &[u8], tokens: &[Token]) -> Result<File, ReadError>
+    ensures { Gives (λ x. x) result (whole (reads file_line) (see bytes.now tokens.now)) }
+{
+    let (items, rest) = read_all::<Items>(alloc, bytes, tokens)?;
+    match rest {
+        [] => Ok(File { items }),
+        [_, ..] => Err(ReadError::Stop(Stop {
+            why: Why::Unexpected,
+            left: rest.len(),
+        })),
+    }
+}
+
+/// The file that the tokens spell.
+pub fn parse_file(alloc: Global, bytes: &[u8], tokens: &Tokens) -> Result<File, Refused<Fault>>
+    ensures { IsFileIn bytes.now tokens.now.list result }
+{
+    let tokens = tokens.list.as_slice();
+    match read_file(alloc, bytes, tokens) {
+        Ok(file) => Ok(file),
+        Err(error) => Err(refusal_of(alloc, bytes, tokens, error)),
+    }
+}
