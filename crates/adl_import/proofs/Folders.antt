@@ -1,0 +1,31 @@
+-- The folder of a name, byte by byte from the end.
+use Rattle.std.proofs.Common.{◌≡◌, ◌∙◌, refl, ap, Bool, true, false, ◌||◌, cond, ℕ, List, [], ◌∷◌, ◌++◌, length}
+use Rattle.std.specs.List.{list_any}
+use Rattle.adl_import.specs.Folding.{is_slash}
+use Rattle.adl_import.specs.Imports.{folder_of}
+
+or_true : (b : Bool) → (b || true) ≡ true
+or_true true = refl
+or_true false = refl
+
+no_slash_last : (xs : List ℕ) (x : ℕ) → is_slash x ≡ false → list_any is_slash (xs ++ x ∷ []) ≡ list_any is_slash xs
+no_slash_last [] x e = ap (λ (b : Bool). b || false) e
+no_slash_last (y ∷ ys) x e = ap (λ (b : Bool). is_slash y || b) (no_slash_last ys x e)
+
+slash_last : (xs : List ℕ) (x : ℕ) → is_slash x ≡ true → list_any is_slash (xs ++ x ∷ []) ≡ true
+slash_last [] x e = ap (λ (b : Bool). b || false) e
+slash_last (y ∷ ys) x e = ap (λ (b : Bool). is_slash y || b) (slash_last ys x e) ∙ or_true (is_slash y)
+
+-- a last byte that is no slash falls away
+pub folder_of-past : (xs : List ℕ) (x : ℕ) → is_slash x ≡ false → folder_of (xs ++ x ∷ []) ≡ folder_of xs
+folder_of-past [] x e = ap (λ (b : Bool). cond (b || false) (x ∷ []) []) e
+folder_of-past (y ∷ ys) x e =
+    ap (λ (b : Bool). cond b (y ∷ folder_of (ys ++ x ∷ [])) []) (no_slash_last (y ∷ ys) x e)
+    ∙ ap (λ (l : List ℕ). cond (list_any is_slash (y ∷ ys)) (y ∷ l) []) (folder_of-past ys x e)
+
+-- a name that ends in a slash is its own folder
+pub folder_of-at : (xs : List ℕ) (x : ℕ) → is_slash x ≡ true → folder_of (xs ++ x ∷ []) ≡ xs ++ x ∷ []
+folder_of-at [] x e = ap (λ (b : Bool). cond (b || false) (x ∷ []) []) e
+folder_of-at (y ∷ ys) x e =
+    ap (λ (b : Bool). cond b (y ∷ folder_of (ys ++ x ∷ [])) []) (slash_last (y ∷ ys) x e)
+    ∙ ap (λ (l : List ℕ). y ∷ l) (folder_of-at ys x e)

@@ -1,0 +1,6 @@
+use Rattle.std.proofs.Common.{◌≡◌, ◌∷◌, ◌++◌, take}
+use Rattle.std.specs.List.{flat_map}
+use Rattle.adl_import.proofs.folding.push_behind_slashes.Given as goal
+
+abbrev pub invariant-loop-part : goal.invariant-loop-part
+invariant-loop-part l = l.text.items ≡ l.fn.text.items ++ flat_map (λ part. 47 ∷ part.now) (take l.part-index l.parts)

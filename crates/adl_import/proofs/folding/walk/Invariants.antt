@@ -1,0 +1,9 @@
+use Rattle.std.proofs.Common.{◌≡◌, [], drop}
+use Rattle.adl_import.specs.Folding.{is_slash, with_parts}
+use Rattle.adl_import.specs.Parts.{parts_of, inner_first}
+use Rattle.std.specs.List.{slice_split}
+use Rattle.adl_import.proofs.folding.walk.Given as goal
+
+abbrev pub invariant-loop-part : goal.invariant-loop-part
+invariant-loop-part l =
+    with_parts l.absolute (inner_first l.kept.items) (parts_of (drop l.part-index l.part-items)) ≡ with_parts l.absolute [] (slice_split is_slash l.path)

@@ -1,0 +1,28 @@
+use Rattle.std.proofs.Common.{◌≡◌, ◌∙◌, sym, ap, Some, length}
+use Rattle.std.specs.List.{slice_get}
+use Rattle.adl_import.proofs.Turning.{each_at, err_is, turn_unread, turn_stopped, turn_done}
+use Rattle.adl_import.proofs.turn.take_turn.Goals as goal
+
+pub read_file-requires-clause-utf8 : goal.read_file-requires-clause-utf8
+read_file-requires-clause-utf8 g c =
+    each_at c.args.known.now.entries (length c.args.done.now) (c.in-Some.name.now, c.in-Some.place.now) (sym c.in-Some.ensures.entry) c.requires.utf8
+
+pub returns-in_err-file-clause-turn : goal.returns-in_err-file-clause-turn
+returns-in_err-file-clause-turn g c =
+    let is = err_is c.from_residual.result c.in_err-file.field-0.0 c.from_residual.ensures.0 c.from_residual.ensures.1 in
+    rw is
+    (turn_unread (g.F.Files.contents c.args.files.now) c.args.root.now c.args.done.now c.args.known.now.entries c.in-Some.name.now c.in-Some.place.now c.in_err-file.field-0.0
+    (sym c.in-Some.ensures.entry) c.in_err-file.ensures.read)
+
+pub returns-in_err-take_imports_of-clause-turn : goal.returns-in_err-take_imports_of-clause-turn
+returns-in_err-take_imports_of-clause-turn g c =
+    let is = err_is c.from_residual-in_err-take_imports_of.result c.in_err-take_imports_of.field-0.0
+    c.from_residual-in_err-take_imports_of.ensures.0 c.from_residual-in_err-take_imports_of.ensures.1 in
+    rw is
+    (turn_stopped (g.F.Files.contents c.args.files.now) c.args.root.now c.args.done.now c.args.known.now.entries c.take_imports_of.new.known.entries c.in_ok-file.file
+    c.in-Some.name.now c.in-Some.place.now c.in_err-take_imports_of.field-0.0 (sym c.in-Some.ensures.entry) c.in_ok-file.ensures.read c.in_err-take_imports_of.ensures)
+
+pub returns-clause-turn : goal.returns-clause-turn
+returns-clause-turn g c =
+    turn_done (g.F.Files.contents c.args.files.now) c.args.root.now c.args.done.now c.args.known.now.entries c.take_imports_of.new.known.entries c.in_ok-file.file
+    c.in-Some.name.now c.in-Some.place.now (sym c.in-Some.ensures.entry) c.in_ok-file.ensures.read c.in_ok-take_imports_of.ensures

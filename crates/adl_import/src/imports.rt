@@ -1,0 +1,143 @@
+//! Taking the imports of a file.
+
+ghost use Rattle.adl_import.specs.Folding.{is_slash, IsFolded};
+ghost use Rattle.adl_import.specs.Imports.{is_built_in, is_built_in_name, folder_of, import_of, imports_in, name_given};
+ghost use Rattle.adl_import.specs.Taking.{IsTaken};
+ghost use Rattle.adl_import.specs.Turns.{fault_at, meet, take_import, take_imports};
+ghost use Rattle.std.specs.Prelude.{◌≡◌, IfOk};
+
+use crate::{BadPath, fold};
+use adl_ast::{Ended, Import, Item};
+use cam_base::{Code, Fault, NoMemory, Place, Refused, Text};
+use indexmap::IndexMap;
+use std::alloc::Global;
+
+/// The greatest number of files.
+const FILES_LIMIT: usize = 64;
+
+pub(crate) fn fault_at(
+    alloc: Global,
+    code: Code,
+    place: Place,
+    name: &[u8],
+) -> Result<Fault, NoMemory>
+    ensures { IfOk result (λ fault. fault ≡ fault_at code place name.now) }
+{
+    let name = Text::new(alloc, name)?;
+    Ok(Fault { code, place, name })
+}
+
+/// The bytes of a name up to its last slash.
+fn folder_of(name: &[u8]) -> &[u8]
+    ensures { result.now ≡ folder_of name.now }
+{
+    let mut folder = name;
+    while let Some((last, front)) = folder.split_last() {
+        if *last == b'/' {
+            break;
+        }
+        folder = front;
+    }
+    folder
+}
+
+fn is_built_in_name(name: &[u8]) -> bool
+    ensures { result ≡ is_built_in_name name.now }
+{
+    name == b"std_connector.camkes".as_slice()
+        || name == b"global-connector.camkes".as_slice()
+        || name == b"global-connectors.camkes".as_slice()
+}
+
+fn is_built_in(import: &Import) -> bool
+    ensures { result ≡ is_built_in import.now }
+{
+    import.angle && is_built_in_name(import.path.as_bytes())
+}
+
+/// The name that an import gives in a file of a source.
+fn name_given(
+    alloc: Global,
+    root: &[u8],
+    own: &[u8],
+    import: &Import,
+) -> Result<Text, Refused<BadPath>>
+    ensures { IsFolded (name_given root.now own.now import.now) result }
+{
+    let top = if import.angle { root } else { own };
+    fold(alloc, folder_of(top), import.path.as_bytes())
+}
+
+/// Meets a name, unless it is known.
+fn meet(
+    alloc: Global,
+    name: Text,
+    place: Place,
+    known: &mut IndexMap<Text, Place>,
+) -> Result<(), Refused<Fault>>
+    ensures { IsTaken (meet known.old.entries place name) known.new.entries result }
+{
+    if known.contains_key(&name) {
+        return Ok(());
+    }
+    if known.len() >= FILES_LIMIT {
+        return Err(Refused::Fault(fault_at(alloc, Code::Limit, place, b"files")?));
+    }
+    known.insert(name, place)?;
+    Ok(())
+}
+
+fn take_import(
+    alloc: Global,
+    root: &[u8],
+    own: &[u8],
+    import: &Import,
+    known: &mut IndexMap<Text, Place>,
+) -> Result<(), Refused<Fault>>
+    ensures { IsTaken (take_import root.now own.now known.old.entries import.now) known.new.entries result }
+{
+    if is_built_in(import) {
+        return Ok(());
+    }
+    match name_given(alloc, root, own, import) {
+        Ok(name) => meet(alloc, name, import.place, known),
+        Err(Refused::Fault(BadPath)) => Err(Refused::Fault(fault_at(
+            alloc,
+            Code::BadPath,
+            import.place,
+            b"",
+        )?)),
+        Err(Refused::NoMemory) => Err(Refused::NoMemory),
+    }
+}
+
+fn take_item(
+    alloc: Global,
+    root: &[u8],
+    own: &[u8],
+    item: &Item,
+    known: &mut IndexMap<Text, Place>,
+) -> Result<(), Refused<Fault>>
+    ensures { IsTaken (take_imports root.now own.now known.old.entries (import_of item.now)) known.new.entries result }
+{
+    match item {
+        Item::Import(import) => take_import(alloc, root, own, import, known),
+        Item::Procedure(_) | Item::Component(_) | Item::Assembly(_) => Ok(()),
+    }
+}
+
+/// Meets the names that the imports of a file give, in source order.
+pub(crate) fn take_imports(
+    alloc: Global,
+    root: &[u8],
+    own: &[u8],
+    items: &[Ended],
+    known: &mut IndexMap<Text, Place>,
+) -> Result<(), Refused<Fault>>
+    ensures { IsTaken (take_imports root.now own.now known.old.entries (imports_in items.now)) known.new.entries result }
+{
+    for ended in items {
+        take_item(alloc, root, own, &ended.item, known)?;
+    }
+    Ok(())
+}

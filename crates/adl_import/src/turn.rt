@@ -1,0 +1,155 @@
+//! The turn of a file.
+
+ghost use Rattle.adl_import.specs.Imports.{imports_of};
+ghost use Rattle.adl_import.specs.Sources.{files_limit};
+ghost use Rattle.adl_import.specs.Taking.{AreUtf8, IsTreeOf, IsParsed, IsRead, IsTakenIn, IsTurn};
+ghost use Rattle.adl_import.specs.Turns.{met_in, fault_at, take_imports};
+ghost use Rattle.cam_io.specs.Causes.{Rose};
+ghost use Rattle.cam_io.specs.Reading.{KeepsFiles};
+ghost use Rattle.std.specs.Prelude.{◌≡◌, ◌<◌, ◌≤◌, ℕ, List as Items, Err, length, IfOk};
+ghost use Rattle.std.specs.Str.{IsUtf8};
+
+use crate::LoadError;
+use crate::imports::{fault_at, take_imports};
+use adl_ast::{File, SourceFile};
+use adl_lexer::lex;
+use adl_parse_decl::parse_file;
+use cam_base::{Code, Fault, List, NoMemory, Place, Refused, Text};
+use cam_io::{Files, WholeError, read_whole};
+use indexmap::IndexMap;
+use std::alloc::Global;
+use std::str::from_utf8;
+
+/// The greatest length of a file, in bytes.
+const FILE_LIMIT: u64 = 1_048_576;
+
+/// A name as text.
+fn as_text(name: &[u8]) -> &str
+    requires { IsUtf8 name.now }
+    ensures { result.now ≡ name.now }
+{
+    match from_utf8(name) {
+        Ok(text) => text,
+        Err(_) => unreachable!(),
+    }
+}
+
+/// The tree of a file of this number and these bytes.
+fn tree_of(alloc: Global, number: u32, bytes: &[u8]) -> Result<File, Refused<Fault>>
+    ensures { IsTreeOf number bytes.now result }
+{
+    let tokens = lex(alloc, number, bytes)?;
+    parse_file(alloc, bytes, &tokens)
+}
+
+/// The file of this number, name and bytes.
+fn parsed(alloc: Global, number: u32, name: &Text, bytes: List<u8>) -> Result<SourceFile, LoadError>
+    ensures { IsParsed number name.now bytes result }
+{
+    match tree_of(alloc, number, bytes.as_slice()) {
+        Ok(tree) => {
+            let name = name.copy(alloc)?;
+            Ok(SourceFile { name, bytes, tree })
+        }
+        Err(Refused::Fault(fault)) => Err(LoadError::Fault(fault, name.copy(alloc)?)),
+        Err(Refused::NoMemory) => Err(LoadError::NoMemory),
+    }
+}
+
+/// The name of the file in which a file is met.
+fn met_in<'a>(files: &'a [SourceFile], name: &'a Text, place: Place) -> &'a Text
+    ensures { result.now ≡ met_in files.entry.now name.entry.now place }
+{
+    match files.get(place.file as usize) {
+        Some(file) => &file.name,
+        None => name,
+    }
+}
+
+/// A fault at the place where a file is met.
+fn fault_where_met(
+    alloc: Global,
+    code: Code,
+    place: Place,
+    name: &[u8],
+    in_file: &Text,
+) -> Result<LoadError, NoMemory>
+    ensures { IfOk result (λ e. e ≡ LoadError.Fault (fault_at code place name.now) in_file.now) }
+{
+    let fault = fault_at(alloc, code, place, name)?;
+    Ok(LoadError::Fault(fault, in_file.copy(alloc)?))
+}
+
+/// Reads, lexes and parses the next file after these.
+fn read_file<F: Files>(
+    alloc: Global,
+    files: &mut F,
+    done: &[SourceFile],
+    name: &Text,
+    place: Place,
+) -> Result<SourceFile, LoadError>
+    requires few { length done.now < files_limit }
+    requires utf8 { IsUtf8 name.now }
+    ensures kept { KeepsFiles F.contents F.faults files.old files.new }
+    ensures rose { (read : Items ℕ) → result ≡ Err (LoadError.ReadFault read) → Rose (F.faults files.old read) (F.faults files.new read) }
+    ensures read { IsRead (F.contents files.old) done.now name.now place result }
+{
+    match read_whole(alloc, files, as_text(name.as_bytes()), FILE_LIMIT) {
+        Ok(bytes) => parsed(alloc, done.len() as u32, name, bytes),
+        Err(WholeError::Absent) => Err(fault_where_met(
+            alloc,
+            Code::NoFile,
+            place,
+            name.as_bytes(),
+            met_in(done, name, place),
+        )?),
+        Err(WholeError::TooLong) => Err(fault_where_met(
+            alloc,
+            Code::Limit,
+            place,
+            b"file size",
+            met_in(done, name, place),
+        )?),
+        Err(WholeError::ReadFault) => Err(LoadError::ReadFault(name.copy(alloc)?)),
+        Err(WholeError::NoMemory) => Err(LoadError::NoMemory),
+    }
+}
+
+/// Meets the names that the imports of a file give.
+fn take_imports_of(
+    alloc: Global,
+    root: &[u8],
+    file: &SourceFile,
+    known: &mut IndexMap<Text, Place>,
+) -> Result<(), LoadError>
+    ensures { IsTakenIn (take_imports root.now file.now.name known.old.entries (imports_of file.now.tree)) file.now.name known.new.entries result }
+{
+    let own = file.name.as_bytes();
+    match take_imports(alloc, root, own, file.tree.items.as_slice(), known) {
+        Ok(()) => Ok(()),
+        Err(Refused::Fault(fault)) => Err(LoadError::Fault(fault, file.name.copy(alloc)?)),
+        Err(Refused::NoMemory) => Err(LoadError::NoMemory),
+    }
+}
+
+/// The turn of the next file after these; none where no file is left.
+pub(crate) fn take_turn<F: Files>(
+    alloc: Global,
+    files: &mut F,
+    root: &[u8],
+    done: &[SourceFile],
+    known: &mut IndexMap<Text, Place>,
+) -> Result<Option<SourceFile>, LoadError>
+    requires few { length known.old.entries ≤ files_limit }
+    requires utf8 { AreUtf8 known.old.entries }
+    ensures kept { KeepsFiles F.contents F.faults files.old files.new }
+    ensures rose { (read : Items ℕ) → result ≡ Err (LoadError.ReadFault read) → Rose (F.faults files.old read) (F.faults files.new read) }
+    ensures turn { IsTurn (F.contents files.old) root.now done.now known.old.entries known.new.entries result }
+{
+    let Some((name, place)) = known.get_index(done.len()) else {
+        return Ok(None);
+    };
+    let file = read_file(alloc, files, done, name, *place)?;
+    take_imports_of(alloc, root, &file, known)?;
+    Ok(Some(file))
+}

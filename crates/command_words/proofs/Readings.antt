@@ -1,0 +1,184 @@
+-- What the program's reader makes of its words is what `read_words` says.
+use Rattle.std.proofs.Common.{◌≡◌, ◌∙◌, ◌||◌, Bool, cond, codes, true, false, refl, sym, ap, ap₂, subst, List, [], ◌∷◌, map, Option, Some, None, String, string_bytes, true≢false, option_map, ⊎_elim}
+use Rattle.std.specs.Prelude.{option_and_then, Box, Result, Ok, Err, IfOk, MatchResult}
+use Rattle.std.specs.Box.{box_value}
+use Rattle.std.specs.List.{find, list_all}
+use Rattle.std.specs.Str.{bytes_eq, IsUtf8}
+use Rattle.std.proofs.lemmas.Str.{IsUtf8-string_bytes}
+use Rattle.std.proofs.lemmas.Slice.Eq.{bytes_eq-Decides}
+use Rattle.clap.specs.Walk.{Row, Text, nothing_held, rows_after}
+use Rattle.clap.specs.Simple.{App, Shape, built, entered, is_simple, label_of, subcommand_of, subcommand_rows}
+use Rattle.clap.specs.Kinds.{HasKind, Kinds}
+use Rattle.clap.specs.Values.{kind_of}
+use Rattle.clap.specs.declared.error.Error.{Error}
+use Rattle.clap.specs.declared.error.kind.ErrorKind.TheVariants.{OutOfMemory}
+use Rattle.clap.specs.Faults.{fault_of, is_simple_and_free, level_fault}
+use Rattle.clap.specs.declared.parser.matches.SubCommand.{SubCommand}
+use Rattle.clap.specs.declared.parser.matches.ArgMatches.TheViews.{out-SubCommand}
+use Rattle.clap.proofs.OnLiterals.{clap_on_literals}
+use Rattle.command_words.specs.declared.command.Command.{Command}
+use Rattle.command_words.specs.declared.command.Command.TheVariants.{Compile}
+use Rattle.command_words.specs.declared.command.WordsError.{WordsError}
+use Rattle.command_words.specs.Clap.{made_of, reader}
+use Rattle.command_words.specs.Words.{AreUtf8, command_of, compile_of, is_dashed, read_words, taken}
+use Rattle.command_words.proofs.Slots.{AreTexts, has_slots, level_fails, level_same, passes, some_same, some≢none}
+use Rattle.command_words.proofs.Names.{command_met, named, no_command}
+
+-- ---- each command
+
+abbrev Made : Type 0
+Made = List Text → Option Command
+
+-- what a command's matches make, where the words after it are us
+abbrev FitsAt : Shape → List Text → Option Command → Type 0
+FitsAt s us made =
+    (passes (level_fault s [] nothing_held (codes "--" ∷ us) false []) ≡ true → made_of s.name (rows_after s.rules [] (codes "--" ∷ us)) ≡ made)
+    × (passes (level_fault s [] nothing_held (codes "--" ∷ us) false []) ≡ false → made ≡ None)
+
+abbrev FitsMade : Option Shape → Made → Type 0
+FitsMade None make = (us : List Text) → make us ≡ None
+FitsMade (Some s) make = (has_slots s ≡ true) × ((us : List Text) → FitsAt s us (make us))
+
+fails : {A : Type 0} → false ≡ true → A
+fails e = absurd (true≢false (sym e))
+
+works : {A : Type 0} → true ≡ false → A
+works e = absurd (true≢false e)
+
+abbrev subs : List Shape
+subs = (built reader).subs
+
+abbrev sub : Text → Shape
+sub name = Rattle.std.specs.Option.unwrap_or (named name subs) (Rattle.clap.specs.Simple.new_shape [])
+
+compile_fits : (us : List Text) → FitsAt (sub (codes "compile")) us (compile_of us)
+unfolding clap_on_literals
+compile_fits [] = (λ e. fails e, λ e. refl)
+compile_fits (a ∷ []) = (λ e. fails e, λ e. refl)
+compile_fits (a ∷ b ∷ []) = (λ e. refl, λ e. works e)
+compile_fits (a ∷ b ∷ c ∷ us) = (λ e. fails e, λ e. refl)
+
+next : (b : Bool) (s : Shape) (o : Option Shape) (m n : Made) → has_slots s ≡ true → ((us : List Text) → FitsAt s us (m us)) → FitsMade o n
+    → FitsMade (cond (b || false) (Some s) o) (λ us. cond b (m us) (n us))
+next true s o m n slots fits rest = (slots, fits)
+next false s o m n slots fits rest = rest
+
+each_fits : (name : Text) → FitsMade (named name subs) (command_of name)
+each_fits name =
+    next (bytes_eq (codes "compile") name) _ _ compile_of _ refl compile_fits
+    (λ us. refl)
+
+none_then : (make : Made) (o : Option (List Text)) → ((us : List Text) → make us ≡ None) → option_and_then make o ≡ None
+none_then make None h = refl
+none_then make (Some us) h = h us
+
+-- ---- the words
+
+abbrev made_from : Option (Text × List Row) → Option Command
+made_from None = None
+made_from (Some p) = made_of p.0 p.1
+
+abbrev Right : Bool → Option (Text × List Row) → Option Command → Type 0
+Right passed met read = (passed ≡ true → made_from met ≡ read) × (passed ≡ false → read ≡ None)
+
+all_right : (words : List Text) → AreTexts words → Right (passes (fault_of reader words)) (subcommand_of reader words) (read_words words)
+unfolding clap_on_literals
+all_right [] u = (λ e. fails e, λ e. refl)
+all_right (name ∷ rest) u = go (named name subs) refl (each_fits name) (taken rest) refl
+  where
+    go : (o : Option Shape) → named name subs ≡ o → FitsMade o (command_of name) → (after : Option (List Text)) → taken rest ≡ after
+        → Right (passes (fault_of reader (name ∷ rest))) (subcommand_of reader (name ∷ rest)) (option_and_then (command_of name) after)
+    go None e fits after is =
+        let bad = no_command subs name u.0 e rest in
+        (λ p. fails (sym bad ∙ p), λ p. none_then (command_of name) after fits)
+    go (Some s) e fits None is =
+        let met = command_met subs name s refl e rest in
+        let bad = level_fails s fits.0 rest u.1 is in
+        (λ p. fails (sym bad ∙ (sym (ap (λ k. passes k) met.0) ∙ p)), λ p. refl)
+    go (Some s) e fits (Some us) is =
+        let met = command_met subs name s refl e rest in
+        let same = level_same s fits.0 rest us is in
+        let fits_here = fits.1 us in
+        let fault = ap (λ k. passes k) (met.0 ∙ same.0) in
+        let made = ap made_from (met.1 ∙ ap (λ (rows : List Row). Some (s.name, rows)) same.1) in
+        (λ p. made ∙ fits_here.0 (sym fault ∙ p), λ p. fits_here.1 (sym fault ∙ p))
+
+-- ---- the words that a command takes
+
+taken_texts : (words us : List Text) → AreTexts words → taken words ≡ Some us → AreTexts us
+taken_texts [] us u e = subst AreTexts (some_same [] us e) tt
+taken_texts (w ∷ ws) us u e = go (bytes_eq w (codes "--")) (is_dashed w) (taken ws) (λ vs. taken_texts ws vs u.1) e
+  where
+    go : (a b : Bool) (o : Option (List Text)) → ((vs : List Text) → o ≡ Some vs → AreTexts vs)
+        → cond a (Some ws) (cond b None (option_map (λ more. w ∷ more) o)) ≡ Some us → AreTexts us
+    go true b o rest e = subst AreTexts (some_same ws us e) u.1
+    go false true o rest e = absurd (some≢none us (sym e))
+    go false false None rest e = absurd (some≢none us (sym e))
+    go false false (Some vs) rest e = subst AreTexts (some_same (w ∷ vs) us e) (u.0, rest vs refl)
+
+compile_texts : (us : List Text) (c : Command) → AreTexts us → compile_of us ≡ Some c → AreUtf8 c
+compile_texts [] c u e = absurd (some≢none c (sym e))
+compile_texts (a ∷ []) c u e = absurd (some≢none c (sym e))
+compile_texts (a ∷ b ∷ []) c u e = subst AreUtf8 (some_same (Compile a b) c e) (u.0, u.1.0)
+compile_texts (a ∷ b ∷ d ∷ us) c u e = absurd (some≢none c (sym e))
+
+either_texts : (b : Bool) (x y : Option Command) (c : Command) → (x ≡ Some c → AreUtf8 c) → (y ≡ Some c → AreUtf8 c) → cond b x y ≡ Some c → AreUtf8 c
+either_texts true x y c here rest e = here e
+either_texts false x y c here rest e = rest e
+
+command_texts : (name : Text) (us : List Text) (c : Command) → AreTexts us → command_of name us ≡ Some c → AreUtf8 c
+command_texts name us c u =
+    either_texts (bytes_eq (codes "compile") name) _ _ c (compile_texts us c u)
+    (λ e. absurd (some≢none c (sym e)))
+
+read_texts : (words : List Text) (c : Command) → AreTexts words → read_words words ≡ Some c → AreUtf8 c
+read_texts [] c u e = absurd (some≢none c (sym e))
+read_texts (name ∷ rest) c u e = go (taken rest) (λ us. taken_texts rest us u.1) e
+  where
+    go : (o : Option (List Text)) → ((us : List Text) → o ≡ Some us → AreTexts us) → option_and_then (command_of name) o ≡ Some c → AreUtf8 c
+    go None texts e = absurd (some≢none c (sym e))
+    go (Some us) texts e = command_texts name us c (texts us refl) e
+
+pub made_texts : (words : List Text) → AreTexts words → (r : Result Command WordsError) (Q : WordsError → Type 0)
+    → MatchResult r (λ c. read_words words ≡ Some c) Q → IfOk r AreUtf8
+made_texts words u (Ok c) Q m = read_texts words c u m
+made_texts words u (Err e) Q m = tt
+
+-- ---- what `read_words` cites
+
+pub reader_is_simple : is_simple_and_free reader ≡ true
+reader_is_simple = refl
+
+pub reader_has_matches : is_simple reader ≡ true
+reader_has_matches = refl
+
+pub are_texts : {Z : Type 0} (xs : List (String Z)) → AreTexts (map (λ s. string_bytes s) xs)
+are_texts [] = tt
+are_texts (x ∷ xs) = (IsUtf8-string_bytes x, are_texts xs)
+
+pub differs : (word name : Text) → (name ≡ word → ⊥) → bytes_eq word name ≡ false
+differs word name not_same = go (bytes_eq word name) refl
+  where
+    go : (b : Bool) → bytes_eq word name ≡ b → bytes_eq word name ≡ false
+    go true e = absurd (not_same (sym ((bytes_eq-Decides word name).0 e)))
+    go false e = e
+
+-- the subcommand's name and rows, as the getters give them
+pub met_is : {Z : Type 0} (o : Option (Box SubCommand Z)) (name : Text) (rows : List Row) → Some name ≡ option_map (λ b. (out-SubCommand (box_value b)).name.now) o
+    → Some rows ≡ option_map (λ p. p.1) (subcommand_rows o) → subcommand_rows o ≡ Some (name, rows)
+met_is None name rows n r = absurd (some≢none name n)
+met_is (Some b) name rows n r = ap₂ (λ x y. Some (x, y)) (sym (some_same _ _ n)) (sym (some_same _ _ r))
+
+module _ (words : List Text) (u : AreTexts words) where
+  pub read_ok : fault_of reader words ≡ [] → (name : Text) (rows : List Row) → subcommand_of reader words ≡ Some (name, rows) → made_of name rows ≡ read_words words
+  read_ok none name rows met = sym (ap made_from met) ∙ (all_right words u).0 (ap (λ k. passes k) none)
+
+  pub read_none : fault_of reader words ≡ [] → subcommand_of reader words ≡ None → read_words words ≡ None
+  read_none none met = sym (sym (ap made_from met) ∙ (all_right words u).0 (ap (λ k. passes k) none))
+
+  pub read_fails : (e : Error) → HasKind (fault_of reader words) e → (kind_of e ≡ OutOfMemory → ⊥) → read_words words ≡ None
+  read_fails e has not_memory = go (fault_of reader words) refl has
+    where
+      go : (ks : Kinds) → fault_of reader words ≡ ks → HasKind ks e → read_words words ≡ None
+      go [] is has = ⊎_elim (λ m. absurd (not_memory m)) (λ none. absurd none) has
+      go (k ∷ ks) is has = (all_right words u).1 (ap (λ k. passes k) is)

@@ -1,0 +1,3 @@
+pub mod Clap
+pub mod Lines
+pub mod Words

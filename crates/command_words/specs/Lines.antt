@@ -1,0 +1,5 @@
+-- What is printed where the words are no command.
+use Rattle.std.specs.Prelude.{ℕ, List, codes}
+
+abbrev pub usage_line : List ℕ
+usage_line = codes "usage: camkes compile ROOT BASE\n"

@@ -1,0 +1,54 @@
+ghost use Rattle.std.specs.Prelude.{◌≡◌};
+ghost use Rattle.std.specs.Str.{IsUtf8};
+
+use cam_base::{NoMemory, Text};
+use std::alloc::AllocError;
+use thiserror::Error;
+
+/// What the words ask for.
+#[derive(Debug, Drop)]
+pub enum Command {
+    /// Compiles the source of this root, and writes under this base.
+    Compile { root: Text, base: Text },
+}
+
+/// A word of a command, which is UTF-8, as the name that files go by. Takes no memory.
+pub fn as_name(word: &Text) -> &str
+    requires { IsUtf8 word.now }
+    ensures { result.now ≡ word.now }
+{
+    str::from_utf8(word.as_bytes()).unwrap()
+}
+
+/// Why no command was read.
+#[derive(Clone, Copy, Debug, PartialEq, Eq, Error)]
+pub enum WordsError {
+    /// The words are no command.
+    #[error("no command")]
+    Usage,
+    /// Want of memory.
+    #[error("no memory")]
+    NoMemory,
+}
+
+impl From<NoMemory> for WordsError {
+    ghost use Rattle.std.specs.Prelude.{◌≡◌};
+    ghost use Rattle.command_words.specs.declared.command.WordsError.TheVariants.{NoMemory as WordsNoMemory};
+
+    ghost from_gives = { λ _ e. e ≡ WordsNoMemory };
+
+    fn from(_: NoMemory) -> WordsError {
+        WordsError::NoMemory
+    }
+}
+
+impl From<AllocError> for WordsError {
+    ghost use Rattle.std.specs.Prelude.{◌≡◌};
+    ghost use Rattle.command_words.specs.declared.command.WordsError.TheVariants.{NoMemory as WordsNoMemory};
+
+    ghost from_gives = { λ _ e. e ≡ WordsNoMemory };
+
+    fn from(_: AllocError) -> WordsError {
+        WordsError::NoMemory
+    }
+}

@@ -1,0 +1,55 @@
+ghost use Rattle.clap.specs.Words.{first_of, found_of, rows_of};
+ghost use Rattle.command_words.specs.Clap.{made_of};
+ghost use Rattle.command_words.specs.Words.{AreUtf8, read_words};
+ghost use Rattle.std.specs.Prelude.{◌≡◌, IfOk, MatchResult, None, Some, map, string_bytes};
+
+use crate::reader::program;
+use crate::{Command, WordsError};
+use cam_base::Text;
+use clap::ArgMatches;
+use clap::error::ErrorKind;
+use std::alloc::Global;
+
+/// The word that was given for an argument.
+fn text_of(alloc: Global, matches: &ArgMatches, id: &str) -> Result<Text, WordsError>
+    ensures { MatchResult result (λ t. first_of id.now (rows_of (found_of matches.now)) ≡ Some t)
+        (λ e. e ≡ WordsError.Usage → first_of id.now (rows_of (found_of matches.now)) ≡ None) }
+{
+    match matches.get_str(id) {
+        Some(text) => Ok(Text::new(alloc, text.as_bytes())?),
+        None => Err(WordsError::Usage),
+    }
+}
+
+fn command_from(alloc: Global, name: &str, matches: &ArgMatches) -> Result<Command, WordsError>
+    ensures { MatchResult result (λ c. made_of name.now (rows_of (found_of matches.now)) ≡ Some c)
+        (λ e. e ≡ WordsError.Usage → made_of name.now (rows_of (found_of matches.now)) ≡ None) }
+{
+    match name {
+        "compile" => Ok(Command::Compile {
+            root: text_of(alloc, matches, "ROOT")?,
+            base: text_of(alloc, matches, "BASE")?,
+        }),
+        _ => Err(WordsError::Usage),
+    }
+}
+
+/// The command that the words behind the program's name ask for, or `Usage` where they ask for none:
+/// `specs/Words.antt`. Only want of memory may come in place of either.
+pub fn read_words(alloc: Global, words: &[String]) -> Result<Command, WordsError>
+    ensures read { MatchResult result (λ command. read_words (map string_bytes words.now) ≡ Some command)
+        (λ e. e ≡ WordsError.Usage → read_words (map string_bytes words.now) ≡ None) }
+    ensures utf8 { IfOk result AreUtf8 }
+{
+    let reader = program(alloc)?;
+    match reader.try_get_matches_from(words) {
+        Ok(matches) => match matches.subcommand() {
+            Some((name, inner)) => command_from(alloc, name, inner),
+            None => Err(WordsError::Usage),
+        },
+        Err(error) => match error.kind() {
+            ErrorKind::OutOfMemory => Err(WordsError::NoMemory),
+            _ => Err(WordsError::Usage),
+        },
+    }
+}

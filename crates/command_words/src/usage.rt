@@ -1,0 +1,9 @@
+ghost use Rattle.command_words.specs.Lines.{usage_line};
+ghost use Rattle.std.specs.Prelude.{◌≡◌};
+
+/// What is printed where the words are no command: one line, with its line feed.
+pub fn usage_line() -> &'static [u8]
+    ensures { result.now ≡ usage_line }
+{
+    b"usage: camkes compile ROOT BASE\n"
+}
