@@ -1,0 +1,34 @@
+-- Where no fault stands each line spells one step.
+use Rattle.std.proofs.Common.{◌≡◌, ap, refl, ℕ, suc, ◌+◌, nat_lt, Bool, true, false, List, [], ◌∷◌, length, Option, Some, None}
+use Rattle.std.specs.List.{filter_map}
+use Rattle.std.specs.Option.{option_or}
+use Rattle.cap_machine.specs.declared.step.Step.{Step}
+use Rattle.cap_model.specs.declared.spec.Spec.{Spec}
+use Rattle.step_text.specs.LineFaults.{at_line}
+use Rattle.step_text.specs.Fields.{fields}
+use Rattle.step_text.specs.Lines.{Line, lines}
+use Rattle.step_text.specs.Spelling.{spelled}
+use Rattle.step_text.specs.StepTexts.{bytes_limit, fault_of, step_of, misspelled, first_fault_of, first_fault, steps_of}
+use Rattle.step_text.specs.Threads.{thread_named}
+
+neither : {X : Type 0} (a b : Option X) → option_or a b ≡ None → (a ≡ None) × (b ≡ None)
+neither None b none = (refl, none)
+neither (Some x) b none = absurd cc
+
+each_line : (place : List ℕ → Option ℕ) (before : ℕ) (lines : List Line) → first_fault_of place before lines ≡ None → length (filter_map (step_of place) lines) ≡ length lines
+each_line place before [] none = refl
+each_line place before (line ∷ more) none =
+    let both = neither (fault_of place before line) (first_fault_of place (before + 1) more) none in
+    go (spelled place (fields line.text)) refl both.0 (each_line place (before + 1) more both.1)
+  where
+    go : (step : Option Step) → spelled place (fields line.text) ≡ step → fault_of place before line ≡ None → length (filter_map (step_of place) more) ≡ length more
+        → length (filter_map (step_of place) (line ∷ more)) ≡ length (line ∷ more)
+    go None e here others = let stands : fault_of place before line ≡ Some (at_line line (misspelled place (fields line.text))) = rw e refl in absurd cc
+    go (Some step) e here others = rw e (ap suc others)
+
+pub each_line_spells : (spec : Spec) (bytes : List ℕ) → first_fault spec bytes ≡ None → length (steps_of spec bytes) ≡ length (lines bytes)
+each_line_spells spec bytes none = go (nat_lt bytes_limit (length bytes)) refl
+  where
+    go : (long : Bool) → nat_lt bytes_limit (length bytes) ≡ long → length (steps_of spec bytes) ≡ length (lines bytes)
+    go true e = let is = rw e at none in absurd cc
+    go false e = each_line (thread_named spec) 0 (lines bytes) (rw e at none)

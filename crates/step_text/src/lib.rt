@@ -1,0 +1,21 @@
+//! Texts of steps: bytes to one list of steps, or to the first fault.
+//!
+//! Nothing here takes a step, looks at a state, or reads a file. What a text says stands in `specs/StepTexts.antt`, how a
+//! step is spelled in `specs/Spelling.antt`, lines and fields of texts in `specs/Lines.antt` and `specs/Fields.antt`.
+#![tactic(auto)]
+
+mod field;
+mod laws;
+mod line;
+mod line_fault;
+mod part;
+mod reader;
+mod rights;
+mod spelled;
+#[cfg(test)]
+mod tests;
+mod threads;
+mod verb;
+
+pub use laws::{lines_spell_steps, unknown_names_are_no_threads};
+pub use reader::{MAX_BYTES, MAX_STEPS, read_steps};
