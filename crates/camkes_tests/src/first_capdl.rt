@@ -32,7 +32,7 @@ const REFUSED: [(&str, &str, &str); 8] = [
         "component Sever s",
         "r.camkes:0-0: E10 Unknown\n",
     ),
-    ("; } }\n", "; }\n", "r.camkes:0-0: E4 Syntax\n"),
+    ("; } }\n", "; } \n", "r.camkes:212-212: E4 Syntax\n"),
     (
         "uses Echo e;",
         "uses Echo e; dataport Buf d;",
@@ -61,31 +61,6 @@ fn refusals(rt: HostRuntime) -> Result<(), Fail> {
         assert_eq!(rt; run(alloc, &compile, &mut files, &mut out), 1);
         assert_eq!(rt; out.bytes(1), line.as_bytes());
         assert_eq!(rt; out.begun(2), None);
-    }
-    Ok(())
-}
-
-#[test]
-fn command_words(rt: HostRuntime) -> Result<(), Fail> {
-    let alloc = rt.alloc();
-    let rows: [&[&str]; 7] = [
-        &[],
-        &["help"],
-        &["compile", "a"],
-        &["compile", "a", "b", "c"],
-        &["compile", "--x", "b"],
-        &["compile", "a", "-b"],
-        &["Compile", "a", "b"],
-    ];
-    for row in rows {
-        let words = words(alloc, row)?;
-        let mut files = MemFiles::new(alloc);
-        let mut out = MemOutputs::new(alloc, 4096)?;
-        assert_eq!(rt; run(alloc, &words, &mut files, &mut out), 2);
-        assert_eq!(rt;
-            out.bytes(1),
-            b"usage: camkes compile ROOT BASE\n".as_slice()
-        );
     }
     Ok(())
 }

@@ -2,8 +2,18 @@
 #![tactic(auto)]
 
 #[cfg(test)]
+mod boot_edges;
+#[cfg(test)]
 mod commands;
 #[cfg(test)]
 mod first_capdl;
 #[cfg(test)]
+mod imports;
+#[cfg(test)]
+mod machine_runs;
+#[cfg(test)]
 mod outputs_and_inputs_fail;
+#[cfg(test)]
+mod program_words;
+#[cfg(test)]
+mod whole_language;

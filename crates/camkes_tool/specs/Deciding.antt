@@ -1,18 +1,18 @@
--- The answers about a root whose bytes are known.
+-- The answers about a source.
 use Rattle.std.specs.Prelude.{◌≡◌, ℕ, List, ◌++◌, codes, string_bytes}
-use Rattle.cam_base.specs.declared.code.Code.{Code}
+use Rattle.cam_base.specs.declared.place.Fault.{Fault}
+use Rattle.adl_ast.specs.declared.source.Source.{Source}
 use Rattle.cap_model.specs.declared.spec.Spec.{Spec}
-use Rattle.little_adl.specs.Splitting.{tokens_of}
-use Rattle.camkes_tool.specs.Fits.{IsBuilt, AreRefused, at_start}
+use Rattle.camkes_tool.specs.Fits.{IsLaidOut, IsInTheWay, name_of_file}
 use Rattle.camkes_tool.specs.declared.answer.Answer.{Answer}
 use Rattle.camkes_tool.specs.declared.answer.Answer.TheVariants.{Compiled, Faulted, Usage, ReadFault, NoMemory}
 
-abbrev pub IsAnswer : List ℕ → List ℕ → List ℕ → Answer → Type 0
-IsAnswer root base bytes (Compiled name spec) = (string_bytes name ≡ base ++ codes ".cdl") × IsBuilt bytes spec
-IsAnswer root base bytes (Faulted file fault) = (code : Code) × (file.now ≡ root) × AreRefused (tokens_of bytes) code × (fault ≡ at_start code)
-IsAnswer root base bytes Usage = ⊥
-IsAnswer root base bytes (ReadFault file) = ⊥
-IsAnswer root base bytes NoMemory = Unit {0}
+abbrev pub IsAnswer : List ℕ → Source → Answer → Type 0
+IsAnswer base source (Compiled name spec) = (string_bytes name ≡ base ++ codes ".cdl") × IsLaidOut source spec
+IsAnswer base source (Faulted file fault) = IsInTheWay source fault × (file ≡ name_of_file source fault.place.file)
+IsAnswer base source Usage = ⊥
+IsAnswer base source (ReadFault file) = ⊥
+IsAnswer base source NoMemory = Unit {0}
 
 abbrev pub IsCompiled : List ℕ → Spec → Answer → Type 0
 IsCompiled base spec (Compiled name s) = (string_bytes name ≡ base ++ codes ".cdl") × (s ≡ spec)
@@ -20,3 +20,10 @@ IsCompiled base spec (Faulted file fault) = ⊥
 IsCompiled base spec Usage = ⊥
 IsCompiled base spec (ReadFault file) = ⊥
 IsCompiled base spec NoMemory = Unit {0}
+
+abbrev pub IsFaulted : Source → Fault → Answer → Type 0
+IsFaulted source fault (Compiled name spec) = ⊥
+IsFaulted source fault (Faulted file f) = (f ≡ fault) × (file ≡ name_of_file source fault.place.file)
+IsFaulted source fault Usage = ⊥
+IsFaulted source fault (ReadFault file) = ⊥
+IsFaulted source fault NoMemory = Unit {0}

@@ -3,4 +3,3 @@ pub mod Channels
 pub mod Deciding
 pub mod Fits
 pub mod Lines
-pub mod Words

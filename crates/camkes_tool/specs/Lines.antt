@@ -19,8 +19,5 @@ fault_line file fault = together (
 abbrev pub read_fault_line : List ℕ → List ℕ
 read_fault_line file = together (codes "read fault " ∷ file ∷ codes "\n" ∷ [])
 
-abbrev pub usage_line : List ℕ
-usage_line = codes "usage: camkes compile ROOT BASE\n"
-
 abbrev pub no_memory_line : List ℕ
 no_memory_line = codes "no memory\n"

@@ -9,10 +9,11 @@ use crate::Answer;
 use cam_base::Fault;
 use cam_io::{Failed, Outputs, write_all, write_parts};
 use capdl_write::write_spec;
+use command_words::usage_line;
 use itoa::Buffer;
 
 /// Does what the answer says. Takes no memory.
-pub fn perform<O: Outputs>(answer: &Answer<'_>, out: &mut O) -> Result<(), Failed>
+pub fn perform<O: Outputs>(answer: &Answer, out: &mut O) -> Result<(), Failed>
     requires { (O.sink out.old).begun 2 ≡ false }
     ensures { Acts (script answer.now) result (O.sink out.old) (O.sink out.new) (O.faults out.old) (O.faults out.new) }
 {
@@ -21,9 +22,9 @@ pub fn perform<O: Outputs>(answer: &Answer<'_>, out: &mut O) -> Result<(), Faile
             out.begin(2, name.as_str())?;
             write_spec(spec, out, 2)
         }
-        Answer::Faulted { file, fault } => write_fault(out, file, fault),
-        Answer::Usage => write_all(out, 1, b"usage: camkes compile ROOT BASE\n"),
-        Answer::ReadFault { file } => write_read_fault(out, file),
+        Answer::Faulted { file, fault } => write_fault(out, file.as_bytes(), fault),
+        Answer::Usage => write_all(out, 1, usage_line()),
+        Answer::ReadFault { file } => write_read_fault(out, file.as_bytes()),
         Answer::NoMemory => write_all(out, 1, b"no memory\n"),
     }
 }
@@ -34,7 +35,7 @@ fn space_before(name: &[u8]) -> &[u8]
     if name.is_empty() { b"" } else { b" " }
 }
 
-fn write_fault<O: Outputs>(out: &mut O, file: &str, fault: &Fault) -> Result<(), Failed>
+fn write_fault<O: Outputs>(out: &mut O, file: &[u8], fault: &Fault) -> Result<(), Failed>
     ensures { Writes result 1 (fault_line file.now fault.now) (O.sink out.old) (O.sink out.new) (O.faults out.old) (O.faults out.new) }
 {
     let mut first = Buffer::new();
@@ -53,7 +54,7 @@ fn write_fault<O: Outputs>(out: &mut O, file: &str, fault: &Fault) -> Result<(),
 
 fn write_fault_parts<O: Outputs>(
     out: &mut O,
-    file: &str,
+    file: &[u8],
     first: &[u8],
     end: &[u8],
     number: &[u8],
@@ -68,7 +69,7 @@ fn write_fault_parts<O: Outputs>(
         out,
         1,
         &[
-            file.as_bytes(),
+            file,
             b":",
             first,
             b"-",
@@ -84,8 +85,8 @@ fn write_fault_parts<O: Outputs>(
     )
 }
 
-fn write_read_fault<O: Outputs>(out: &mut O, file: &str) -> Result<(), Failed>
+fn write_read_fault<O: Outputs>(out: &mut O, file: &[u8]) -> Result<(), Failed>
     ensures { Writes result 1 (read_fault_line file.now) (O.sink out.old) (O.sink out.new) (O.faults out.old) (O.faults out.new) }
 {
-    write_parts(out, 1, &[b"read fault ", file.as_bytes(), b"\n"])
+    write_parts(out, 1, &[b"read fault ", file, b"\n"])
 }

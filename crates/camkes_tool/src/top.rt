@@ -9,7 +9,7 @@ use crate::perform::perform;
 use cam_io::{Failed, Files, Outputs};
 use std::alloc::Global;
 
-fn status_of(answer: &Answer<'_>) -> u8
+fn status_of(answer: &Answer) -> u8
     ensures { result ≡ status_of answer.now }
 {
     match answer {

@@ -4,9 +4,9 @@ use Rattle.std.specs.List.{filter, flat_map, enumerate_from}
 use Rattle.cap_model.specs.declared.object.Object.{Object}
 use Rattle.cap_model.specs.declared.object.Object.TheVariants.{Endpoint}
 use Rattle.cap_model.specs.declared.spec.Entry.{Entry}
-use Rattle.little_adl.specs.declared.tree.Connection.{Connection}
-use Rattle.little_adl.specs.declared.tree.File.{File}
-use Rattle.little_adl.specs.declared.tree.Instance.{Instance}
+use Rattle.little_system.specs.declared.system.Connection.{Connection}
+use Rattle.little_system.specs.declared.system.System.{System}
+use Rattle.little_system.specs.declared.system.Instance.{Instance}
 use Rattle.little_layout.specs.Bounds.{put}
 use Rattle.little_layout.specs.Layout.{joined, is_server, is_to, thread_of, threads_of}
 use Rattle.little_layout.specs.declared.ends.Joined.{Joined}
@@ -43,23 +43,23 @@ servers-end i start es [] total h t = t
 servers-end i start es (x ∷ xs) total h t = absurd (omega arith)
 
 -- the threads of an instance, then those of the instances behind it
-pub threads-step : (file : File) (n start : ℕ) (es mid new : List Entry) (i : Instance) (is : List Instance) (ends : List Joined) (total : List Entry) → ends ≡ joined file i → start ≤ length es
+pub threads-step : (system : System) (n start : ℕ) (es mid new : List Entry) (i : Instance) (is : List Instance) (ends : List Joined) (total : List Entry) → ends ≡ joined system i → start ≤ length es
     → mid ≡ put (codes "tcb_") start es (thread_of (n, i) ∷ []) → new ≡ put (codes "tcb_") start mid (servers_of (n, i) ends)
-    → put (codes "tcb_") start es (flat_map (threads_of file) (enumerate_from n (i ∷ is))) ≡ total
-    → (start ≤ length new) × (put (codes "tcb_") start new (flat_map (threads_of file) (enumerate_from (n + 1) is)) ≡ total)
-threads-step file n start es mid new i is ends total j h m e t =
-    let more = flat_map (threads_of file) (enumerate_from (n + 1) is) in
-    let one = put-step (codes "tcb_") start es mid (thread_of (n, i)) (servers_of (n, i) (joined file i) ++ more) total h m t in
-    let servers : new ≡ put (codes "tcb_") start mid (servers_of (n, i) (joined file i)) = e ∙ ap (λ x. put (codes "tcb_") start mid (servers_of (n, i) x)) j in
-    (put-grows (codes "tcb_") start mid new (servers_of (n, i) (joined file i)) one.0 servers, put-many (codes "tcb_") start mid new (servers_of (n, i) (joined file i)) more one.0 servers ∙ one.1)
+    → put (codes "tcb_") start es (flat_map (threads_of system) (enumerate_from n (i ∷ is))) ≡ total
+    → (start ≤ length new) × (put (codes "tcb_") start new (flat_map (threads_of system) (enumerate_from (n + 1) is)) ≡ total)
+threads-step system n start es mid new i is ends total j h m e t =
+    let more = flat_map (threads_of system) (enumerate_from (n + 1) is) in
+    let one = put-step (codes "tcb_") start es mid (thread_of (n, i)) (servers_of (n, i) (joined system i) ++ more) total h m t in
+    let servers : new ≡ put (codes "tcb_") start mid (servers_of (n, i) (joined system i)) = e ∙ ap (λ x. put (codes "tcb_") start mid (servers_of (n, i) x)) j in
+    (put-grows (codes "tcb_") start mid new (servers_of (n, i) (joined system i)) one.0 servers, put-many (codes "tcb_") start mid new (servers_of (n, i) (joined system i)) more one.0 servers ∙ one.1)
 
-pub threads-end : (file : File) (n start : ℕ) (es : List Entry) (is : List Instance) (total : List Entry) → length is < 1 → put (codes "tcb_") start es (flat_map (threads_of file) (enumerate_from n is)) ≡ total → put (codes "tcb_") start es [] ≡ total
-threads-end file n start es [] total h t = t
-threads-end file n start es (i ∷ is) total h t = absurd (omega arith)
+pub threads-end : (system : System) (n start : ℕ) (es : List Entry) (is : List Instance) (total : List Entry) → length is < 1 → put (codes "tcb_") start es (flat_map (threads_of system) (enumerate_from n is)) ≡ total → put (codes "tcb_") start es [] ≡ total
+threads-end system n start es [] total h t = t
+threads-end system n start es (i ∷ is) total h t = absurd (omega arith)
 
 -- the ends in front are those of the instance in front
-pub same_fronts : (file : File) (is : List Instance) (all : List (List Joined)) (i : Instance) (ends : List Joined) (behind : List Instance) (others : List (List Joined)) → all ≡ map (joined file) is → is ≡ i ∷ behind → all ≡ ends ∷ others
-    → (ends ≡ joined file i) × (others ≡ map (joined file) behind)
-same_fronts file is all i ends behind others e s t =
-    let whole : ends ∷ others ≡ joined file i ∷ map (joined file) behind = sym t ∙ e ∙ ap (map (joined file)) s in
+pub same_fronts : (system : System) (is : List Instance) (all : List (List Joined)) (i : Instance) (ends : List Joined) (behind : List Instance) (others : List (List Joined)) → all ≡ map (joined system) is → is ≡ i ∷ behind → all ≡ ends ∷ others
+    → (ends ≡ joined system i) × (others ≡ map (joined system) behind)
+same_fronts system is all i ends behind others e s t =
+    let whole : ends ∷ others ≡ joined system i ∷ map (joined system) behind = sym t ∙ e ∙ ap (map (joined system)) s in
     (cc whole, cc whole)

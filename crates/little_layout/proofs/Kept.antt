@@ -18,10 +18,10 @@ use Rattle.cap_model.specs.declared.spec.Entry.{Entry}
 use Rattle.cap_model.specs.Kept.{differ, rise, within, fits_kind, fits, keeps_slots, keeps, names_differ, IsKept}
 use Rattle.cap_model.specs.Kinds.{kind_rights, kind_of_object, kind_at, is_kind, is_at}
 use Rattle.cap_model.specs.Lookup.{entry_object}
-use Rattle.little_adl.specs.Sound.{verdict}
-use Rattle.little_adl.specs.declared.tree.Connection.{Connection}
-use Rattle.little_adl.specs.declared.tree.File.{File}
-use Rattle.little_adl.specs.declared.tree.Instance.{Instance}
+use Rattle.little_system.specs.Sound.{verdict}
+use Rattle.little_system.specs.declared.system.Connection.{Connection}
+use Rattle.little_system.specs.declared.system.System.{System}
+use Rattle.little_system.specs.declared.system.Instance.{Instance}
 use Rattle.little_layout.specs.Held.{Name}
 use Rattle.little_layout.specs.Layout.{joined, rights_of, cap_of, bits_from, bits_for, thread_of, numbered_instances, threads, first_endpoint, cnodes, endpoints, all_named, named, spec_of}
 use Rattle.little_layout.specs.declared.ends.Joined.{Joined}
@@ -73,8 +73,8 @@ words_apart u v os ps x apart m =
     let is : u ++ decimal b.0 ≡ x = b.2 ∙ a.2 in
     none_named v 0 ps x (λ i low high e. apart i b.0 (e ∙ sym is))
 
-names_of : (file : File) → map name_of (spec_of file).entries ≡ names (codes "cnode_") 0 (cnodes file) ++ (names (codes "tcb_") 0 (threads file) ++ names (codes "ep_") 0 (endpoints file))
-names_of file = map-append name_of (nodes file) (tcbs file ++ eps file) ∙ ap (λ r. map name_of (nodes file) ++ r) (map-append name_of (tcbs file) (eps file))
+names_of : (system : System) → map name_of (spec_of system).entries ≡ names (codes "cnode_") 0 (cnodes system) ++ (names (codes "tcb_") 0 (threads system) ++ names (codes "ep_") 0 (endpoints system))
+names_of system = map-append name_of (nodes system) (tcbs system ++ eps system) ∙ ap (λ r. map name_of (nodes system) ++ r) (map-append name_of (tcbs system) (eps system))
 
 same_tcb : (m n : ℕ) → m < 2 ^ 64 → n < 2 ^ 64 → codes "tcb_" ++ decimal m ≡ codes "tcb_" ++ decimal n → m ≡ n
 same_tcb m n a b e = decimal_injective m n a b (cc e)
@@ -88,20 +88,20 @@ ep_no_cnode i j e = let first : ◌≡◌ {A = ℕ} 101 99 = ap (λ (l : List �
 ep_no_tcb : (i j : ℕ) → codes "ep_" ++ decimal i ≡ codes "tcb_" ++ decimal j → ⊥
 ep_no_tcb i j e = let first : ◌≡◌ {A = ℕ} 101 116 = ap (λ (l : List ℕ). get_or l 0 0) e in absurd (omega arith)
 
-kept_names : (file : File) → verdict file ≡ None → names_differ (spec_of file).entries ≡ true
-kept_names file h =
-    let a = names (codes "cnode_") 0 (cnodes file) in
-    let b = names (codes "tcb_") 0 (threads file) in
-    let c = names (codes "ep_") 0 (endpoints file) in
-    let small = first_endpoint-le file h in
-    let many = few_connections file h in
-    let x : differ bytes_eq a ≡ true = names_apart (codes "cnode_") 0 (cnodes file) same_number (omega (arith, length-map file.assembly.instances (node_of file))) in
-    let y : differ bytes_eq b ≡ true = names_apart (codes "tcb_") 0 (threads file) same_tcb (omega arith) in
-    let z : differ bytes_eq c ≡ true = names_apart (codes "ep_") 0 (endpoints file) same_endpoint (omega (arith, length-map file.assembly.connections (λ (k : Connection). Endpoint))) in
-    let yz : differ bytes_eq (b ++ c) ≡ true = apart_append b c y z (λ n m. words_apart (codes "tcb_") (codes "ep_") (threads file) (endpoints file) n ep_no_tcb m) in
+kept_names : (system : System) → verdict system ≡ None → names_differ (spec_of system).entries ≡ true
+kept_names system h =
+    let a = names (codes "cnode_") 0 (cnodes system) in
+    let b = names (codes "tcb_") 0 (threads system) in
+    let c = names (codes "ep_") 0 (endpoints system) in
+    let small = first_endpoint-le system h in
+    let many = few_connections system h in
+    let x : differ bytes_eq a ≡ true = names_apart (codes "cnode_") 0 (cnodes system) same_number (omega (arith, length-map system.instances (node_of system))) in
+    let y : differ bytes_eq b ≡ true = names_apart (codes "tcb_") 0 (threads system) same_tcb (omega arith) in
+    let z : differ bytes_eq c ≡ true = names_apart (codes "ep_") 0 (endpoints system) same_endpoint (omega (arith, length-map system.connections (λ (k : Connection). Endpoint))) in
+    let yz : differ bytes_eq (b ++ c) ≡ true = apart_append b c y z (λ n m. words_apart (codes "tcb_") (codes "ep_") (threads system) (endpoints system) n ep_no_tcb m) in
     let none : (n : Name) → Among a n → hit n (b ++ c) ≡ false = λ n m. list_any-append (λ w. bytes_eq w n) b c
-    ∙ or_from (hit n b) (hit n c) (words_apart (codes "cnode_") (codes "tcb_") (cnodes file) (threads file) n tcb_no_cnode m) (words_apart (codes "cnode_") (codes "ep_") (cnodes file) (endpoints file) n ep_no_cnode m) in
-    ap (differ bytes_eq) (names_of file) ∙ apart_append a (b ++ c) x yz none
+    ∙ or_from (hit n b) (hit n c) (words_apart (codes "cnode_") (codes "tcb_") (cnodes system) (threads system) n tcb_no_cnode m) (words_apart (codes "cnode_") (codes "ep_") (cnodes system) (endpoints system) n ep_no_cnode m) in
+    ap (differ bytes_eq) (names_of system) ∙ apart_append a (b ++ c) x yz none
 
 -- ---- the number of bits
 
@@ -139,81 +139,81 @@ rise_numbered n (x ∷ y ∷ xs) = and_from (nat_lt n (n + 1)) (rise (enumerate_
 end_fits : (first : ℕ) (e : Joined) → fits_kind (Some kinds.Endpoint) (cap_of first e) ≡ true
 end_fits first e = elim e.role as (λ (r : Role). (within (rights_of r) (kind_rights kinds.Endpoint) && true) ≡ true) [ From ↦ refl | To ↦ refl ]
 
-cap_fits : (file : File) (i : Instance) (e : Joined) → Among (joined file i) e → fits (spec_of file) (cap_of (first_endpoint file) e) ≡ true
-cap_fits file i e m =
-    let j = joint file i e m in
-    ap (λ (o : Option Kind). fits_kind o (cap_of (first_endpoint file) e)) (kind_at-endpoint file e.connection j.k j.there) ∙ end_fits (first_endpoint file) e
+cap_fits : (system : System) (i : Instance) (e : Joined) → Among (joined system i) e → fits (spec_of system) (cap_of (first_endpoint system) e) ≡ true
+cap_fits system i e m =
+    let j = joint system i e m in
+    ap (λ (o : Option Kind). fits_kind o (cap_of (first_endpoint system) e)) (kind_at-endpoint system e.connection j.k j.there) ∙ end_fits (first_endpoint system) e
 
-slot_fits : (file : File) (i : Instance) (slot : ℕ × Cap) → length (joined file i) ≤ 4095 → Among (enumerate_from 1 (map (cap_of (first_endpoint file)) (joined file i))) slot
-    → (nat_lt slot.0 (2 ^ bits_for (length (joined file i))) && fits (spec_of file) slot.1) ≡ true
-slot_fits file i slot short m =
-    let es = joined file i in
-    let first = first_endpoint file in
+slot_fits : (system : System) (i : Instance) (slot : ℕ × Cap) → length (joined system i) ≤ 4095 → Among (enumerate_from 1 (map (cap_of (first_endpoint system)) (joined system i))) slot
+    → (nat_lt slot.0 (2 ^ bits_for (length (joined system i))) && fits (spec_of system) slot.1) ≡ true
+slot_fits system i slot short m =
+    let es = joined system i in
+    let first = first_endpoint system in
     let n = from_numbered 1 (map (cap_of first) es) slot m in
     let e = from_map (cap_of first) es slot.1 (among_at (map (cap_of first) es) n.0 slot.1 n.1) in
     let low : n.0 < length (map (cap_of first) es) = slice_get_within (map (cap_of first) es) n.0 slot.1 n.1 in
     let room : length es < 2 ^ bits_for (length es) = bits_enough (length es) (omega arith) in
     let below : slot.0 < 2 ^ bits_for (length es) = omega (arith, n.2, length-map es (cap_of first)) in
-    and_from (nat_lt slot.0 (2 ^ bits_for (length es))) (fits (spec_of file) slot.1) (lt-ltb slot.0 (2 ^ bits_for (length es)) below)
-    (subst (λ (c : Cap). fits (spec_of file) c ≡ true) e.2 (cap_fits file i e.0 e.1))
+    and_from (nat_lt slot.0 (2 ^ bits_for (length es))) (fits (spec_of system) slot.1) (lt-ltb slot.0 (2 ^ bits_for (length es)) below)
+    (subst (λ (c : Cap). fits (spec_of system) c ≡ true) e.2 (cap_fits system i e.0 e.1))
 
-node_kept : (file : File) (i : Instance) → length (joined file i) ≤ 4095 → keeps (spec_of file) (node_of file i) ≡ true
-node_kept file i short =
-    let es = joined file i in
+node_kept : (system : System) (i : Instance) → length (joined system i) ≤ 4095 → keeps (spec_of system) (node_of system i) ≡ true
+node_kept system i short =
+    let es = joined system i in
     let bits = bits_for (length es) in
-    let slots = enumerate_from 1 (map (cap_of (first_endpoint file)) es) in
+    let slots = enumerate_from 1 (map (cap_of (first_endpoint system)) es) in
     let range = bits_within (length es) in
-    let test : ℕ × Cap → Bool = λ (slot : ℕ × Cap). nat_lt slot.0 (2 ^ bits) && fits (spec_of file) slot.1 in
-    and_from (nat_lt 0 bits && leb bits 16) (keeps_slots (fits (spec_of file)) (2 ^ bits) slots)
+    let test : ℕ × Cap → Bool = λ (slot : ℕ × Cap). nat_lt slot.0 (2 ^ bits) && fits (spec_of system) slot.1 in
+    and_from (nat_lt 0 bits && leb bits 16) (keeps_slots (fits (spec_of system)) (2 ^ bits) slots)
     (and_from (nat_lt 0 bits) (leb bits 16) (lt-ltb 0 bits (omega arith)) (le-leb bits 16 range.1))
-    (and_from (rise slots) (list_all test slots) (rise_numbered 1 (map (cap_of (first_endpoint file)) es)) (all_among test slots (λ slot m. slot_fits file i slot short m)))
+    (and_from (rise slots) (list_all test slots) (rise_numbered 1 (map (cap_of (first_endpoint system)) es)) (all_among test slots (λ slot m. slot_fits system i slot short m)))
 
-thread_kept : (file : File) (i : ℕ × Instance) → Among (numbered_instances file) i → keeps (spec_of file) (thread_of i) ≡ true
-thread_kept file i m =
-    let n = from_numbered 0 file.assembly.instances i m in
+thread_kept : (system : System) (i : ℕ × Instance) → Among (numbered_instances system) i → keeps (spec_of system) (thread_of i) ≡ true
+thread_kept system i m =
+    let n = from_numbered 0 system.instances i m in
     let place : i.0 ≡ n.0 = omega (arith, n.2) in
-    let kind : kind_at (spec_of file) i.0 ≡ Some kinds.CNode = ap (kind_at (spec_of file)) place ∙ ap (λ (o : Option Entry). option_map kind_of_object (entry_object o)) (node_at file n.0 i.1 n.1) in
-    let root : is_at (spec_of file) kinds.CNode i.0 ≡ true = ap (λ (o : Option Kind). is_kind o kinds.CNode) kind in
-    and_from (is_at (spec_of file) kinds.CNode i.0) true root refl
+    let kind : kind_at (spec_of system) i.0 ≡ Some kinds.CNode = ap (kind_at (spec_of system)) place ∙ ap (λ (o : Option Entry). option_map kind_of_object (entry_object o)) (node_at system n.0 i.1 n.1) in
+    let root : is_at (spec_of system) kinds.CNode i.0 ≡ true = ap (λ (o : Option Kind). is_kind o kinds.CNode) kind in
+    and_from (is_at (spec_of system) kinds.CNode i.0) true root refl
 
-entry_kept : (file : File) (e : Entry) → verdict file ≡ None → Among (spec_of file).entries e → keeps (spec_of file) e.object ≡ true
-entry_kept file e h m = elim (among_cases (nodes file) (tcbs file ++ eps file) e m) [
+entry_kept : (system : System) (e : Entry) → verdict system ≡ None → Among (spec_of system).entries e → keeps (spec_of system) e.object ≡ true
+entry_kept system e h m = elim (among_cases (nodes system) (tcbs system ++ eps system) e m) [
   | inl a ↦
-      let f = from_named (codes "cnode_") (cnodes file) e a in
-      let g = from_map (node_of file) file.assembly.instances e.object (among_at (cnodes file) f.0 e.object f.1) in
-      subst (λ (o : Object). keeps (spec_of file) o ≡ true) g.2 (node_kept file g.0 (length-each file g.0 h g.1))
-  | inr b ↦ elim (among_cases (tcbs file) (eps file) e b) [
+      let f = from_named (codes "cnode_") (cnodes system) e a in
+      let g = from_map (node_of system) system.instances e.object (among_at (cnodes system) f.0 e.object f.1) in
+      subst (λ (o : Object). keeps (spec_of system) o ≡ true) g.2 (node_kept system g.0 (length-each system g.0 h g.1))
+  | inr b ↦ elim (among_cases (tcbs system) (eps system) e b) [
     | inl t ↦
-        let f = from_named (codes "tcb_") (threads file) e t in
-        let g = from_threads file e.object (among_at (threads file) f.0 e.object f.1) in
-        subst (λ (o : Object). keeps (spec_of file) o ≡ true) g.2 (thread_kept file g.0 g.1)
+        let f = from_named (codes "tcb_") (threads system) e t in
+        let g = from_threads system e.object (among_at (threads system) f.0 e.object f.1) in
+        subst (λ (o : Object). keeps (spec_of system) o ≡ true) g.2 (thread_kept system g.0 g.1)
     | inr p ↦
-        let f = from_named (codes "ep_") (endpoints file) e p in
-        let g = from_map (λ (k : Connection). Endpoint) file.assembly.connections e.object (among_at (endpoints file) f.0 e.object f.1) in
+        let f = from_named (codes "ep_") (endpoints system) e p in
+        let g = from_map (λ (k : Connection). Endpoint) system.connections e.object (among_at (endpoints system) f.0 e.object f.1) in
         let same : Endpoint ≡ e.object = g.2 in
-        subst (λ (o : Object). keeps (spec_of file) o ≡ true) same refl
+        subst (λ (o : Object). keeps (spec_of system) o ≡ true) same refl
   ]
 ]
 
-kept_few : (file : File) → verdict file ≡ None → length (spec_of file).entries < 2 ^ 32
-kept_few file h =
+kept_few : (system : System) → verdict system ≡ None → length (spec_of system).entries < 2 ^ 32
+kept_few system h =
     omega (
       arith,
-      first_endpoint-le file h,
-      few_connections file h,
-      length-append (nodes file) (tcbs file ++ eps file),
-      length-append (tcbs file) (eps file),
-      length-named (codes "cnode_") (cnodes file),
-      length-named (codes "tcb_") (threads file),
-      length-named (codes "ep_") (endpoints file),
-      length-map file.assembly.instances (node_of file),
-      length-map file.assembly.connections (λ (k : Connection). Endpoint),
+      first_endpoint-le system h,
+      few_connections system h,
+      length-append (nodes system) (tcbs system ++ eps system),
+      length-append (tcbs system) (eps system),
+      length-named (codes "cnode_") (cnodes system),
+      length-named (codes "tcb_") (threads system),
+      length-named (codes "ep_") (endpoints system),
+      length-map system.instances (node_of system),
+      length-map system.connections (λ (k : Connection). Endpoint),
     )
 
-pub kept : (file : File) → verdict file ≡ None → IsKept (spec_of file)
-kept file h = record {
-  few = kept_few file h;
-  names = kept_names file h;
-  objects = all_among (λ (e : Entry). keeps (spec_of file) e.object) (spec_of file).entries (λ e m. entry_kept file e h m);
+pub kept : (system : System) → verdict system ≡ None → IsKept (spec_of system)
+kept system h = record {
+  few = kept_few system h;
+  names = kept_names system h;
+  objects = all_among (λ (e : Entry). keeps (spec_of system) e.object) (spec_of system).entries (λ e m. entry_kept system e h m);
   lines = refl;
 }

@@ -10,13 +10,13 @@ use Rattle.std.proofs.lemmas.List.Sums.{sum_by-cons, length-filter, count_by-le-
 use Rattle.std.proofs.lemmas.Slice.Eq.{bytes_eq-Decides}
 use Rattle.cam_base.specs.declared.code.Code.{Code}
 use Rattle.cam_base.specs.declared.code.Code.TheVariants.{Unknown, Unbuilt}
-use Rattle.little_adl.specs.Sound.{differ, has_other_connector, has_unknown, interfaces_differ, is_instance_name, has_duplicate, has_wrong_kind, has_mismatch, has_end_twice, has_unconnected, unknown_component, unknown_procedure, unknown_in_connection, is_end, interfaces_in, interfaces_of, ends_at, is_too_large, has_unbuilt_fault, verdict}
-use Rattle.little_adl.specs.declared.tree.Component.{Component}
-use Rattle.little_adl.specs.declared.tree.Connection.{Connection}
-use Rattle.little_adl.specs.declared.tree.End.{End}
-use Rattle.little_adl.specs.declared.tree.File.{File}
-use Rattle.little_adl.specs.declared.tree.Instance.{Instance}
-use Rattle.little_adl.specs.declared.tree.Interface.{Interface}
+use Rattle.little_system.specs.Sound.{differ, has_other_connector, has_unknown, interfaces_differ, is_instance_name, has_duplicate, has_wrong_kind, has_mismatch, has_end_twice, has_unconnected, unknown_component, unknown_procedure, unknown_in_connection, is_end, interfaces_in, interfaces_of, ends_at, is_too_large, has_unbuilt_fault, verdict}
+use Rattle.little_system.specs.declared.system.Component.{Component}
+use Rattle.little_system.specs.declared.system.Connection.{Connection}
+use Rattle.little_system.specs.declared.system.End.{End}
+use Rattle.little_system.specs.declared.system.System.{System}
+use Rattle.little_system.specs.declared.system.Instance.{Instance}
+use Rattle.little_system.specs.declared.system.Interface.{Interface}
 use Rattle.little_layout.specs.Bounds.{all_short, thread_count}
 use Rattle.little_layout.specs.Layout.{joins, joined_by, joined_at, joined, is_to, thread_of, threads_of, threads, first_endpoint, cnode_of, cnodes}
 use Rattle.little_layout.proofs.Members.{Among}
@@ -43,10 +43,10 @@ ends_of_six a b c d e f h =
     let s = or_parts d (e || f) r.1 in
     (p.0, (or_parts e f s.1).1)
 
-no_fault : (file : File) → verdict file ≡ None → (has_duplicate file ≡ false) × (is_too_large file ≡ false)
-no_fault file h =
-    ends_of_six (has_duplicate file) (has_wrong_kind file) (has_mismatch file) (has_end_twice file) (has_unconnected file) (is_too_large file)
-    (nothing_wrong (has_other_connector file) (has_unknown file) (has_unbuilt_fault file) h)
+no_fault : (system : System) → verdict system ≡ None → (has_duplicate system ≡ false) × (is_too_large system ≡ false)
+no_fault system h =
+    ends_of_six (has_duplicate system) (has_wrong_kind system) (has_mismatch system) (has_end_twice system) (has_unconnected system) (is_too_large system)
+    (nothing_wrong (has_other_connector system) (has_unknown system) (has_unbuilt_fault system) h)
 
 nothing_unknown_of : (a b c : Bool) → answer a b c ≡ None → b ≡ false
 nothing_unknown_of true b c h = absurd cc
@@ -54,16 +54,16 @@ nothing_unknown_of false true c h = absurd cc
 nothing_unknown_of false false c h = refl
 
 -- each connection is of a known connector, and each of its ends at a known interface
-pub nothing_unknown : (file : File) → verdict file ≡ None → list_any (unknown_in_connection file) file.assembly.connections ≡ false
-nothing_unknown file h =
-    let none = nothing_unknown_of (has_other_connector file) (has_unknown file) (has_unbuilt_fault file) h in
-    let instances = list_any (unknown_component file) file.assembly.instances in
-    let components = list_any (unknown_procedure file) file.components in
-    let connections = list_any (unknown_in_connection file) file.assembly.connections in
+pub nothing_unknown : (system : System) → verdict system ≡ None → list_any (unknown_in_connection system) system.connections ≡ false
+nothing_unknown system h =
+    let none = nothing_unknown_of (has_other_connector system) (has_unknown system) (has_unbuilt_fault system) h in
+    let instances = list_any (unknown_component system) system.instances in
+    let components = list_any (unknown_procedure system) system.components in
+    let connections = list_any (unknown_in_connection system) system.connections in
     (or_parts components connections (or_parts instances (components || connections) none).1).1
 
-abbrev pub any_full : File → Bool
-any_full file = list_any (λ (i : Instance). nat_lt 4095 (ends_at file i)) file.assembly.instances
+abbrev pub any_full : System → Bool
+any_full system = list_any (λ (i : Instance). nat_lt 4095 (ends_at system i)) system.instances
 
 large_parts : (a b c d : Bool) → a || (b || (c || d)) ≡ false → (a ≡ false) × (b ≡ false) × (d ≡ false)
 large_parts a b c d h =
@@ -71,17 +71,17 @@ large_parts a b c d h =
     let q = or_parts b (c || d) p.1 in
     (p.0, q.0, (or_parts c d q.1).1)
 
-bounds : (file : File) → verdict file ≡ None
-    → (nat_lt 1024 (length file.assembly.instances) ≡ false) × (nat_lt 4096 (length file.assembly.connections) ≡ false) × (any_full file ≡ false)
-bounds file h =
-    large_parts (nat_lt 1024 (length file.assembly.instances)) (nat_lt 4096 (length file.assembly.connections)) (nat_lt 32768 (length file.assembly.connections)) (any_full file)
-    (no_fault file h).1
+bounds : (system : System) → verdict system ≡ None
+    → (nat_lt 1024 (length system.instances) ≡ false) × (nat_lt 4096 (length system.connections) ≡ false) × (any_full system ≡ false)
+bounds system h =
+    large_parts (nat_lt 1024 (length system.instances)) (nat_lt 4096 (length system.connections)) (nat_lt 32768 (length system.connections)) (any_full system)
+    (no_fault system h).1
 
-pub few_instances : (file : File) → verdict file ≡ None → length file.assembly.instances ≤ 1024
-few_instances file h = ltb-false 1024 (length file.assembly.instances) (bounds file h).0
+pub few_instances : (system : System) → verdict system ≡ None → length system.instances ≤ 1024
+few_instances system h = ltb-false 1024 (length system.instances) (bounds system h).0
 
-pub few_connections : (file : File) → verdict file ≡ None → length file.assembly.connections ≤ 4096
-few_connections file h = ltb-false 4096 (length file.assembly.connections) (bounds file h).1
+pub few_connections : (system : System) → verdict system ≡ None → length system.connections ≤ 4096
+few_connections system h = ltb-false 4096 (length system.connections) (bounds system h).1
 
 -- ---- the interfaces of an instance have different names
 
@@ -106,12 +106,12 @@ third_of a b c d h =
     let q = or_parts b (c || d) p.1 in
     (or_parts c d q.1).0
 
-pub interfaces_apart : (file : File) (i : Instance) → verdict file ≡ None → differ (λ (p : Interface). p.name) (interfaces_of file i) ≡ true
-interfaces_apart file i h =
-    found_apart (λ (c : Component). bytes_eq c.name i.component) file.components
-    (third_of (not (differ (λ n. n) file.procedures)) (not (differ (λ (c : Component). c.name) file.components)) (list_any same_twice file.components)
-    (not (differ (λ (x : Instance). x.name) file.assembly.instances) || (not (differ (λ (k : Connection). k.name) file.assembly.connections) || list_any (is_instance_name file) file.assembly.connections))
-    (no_fault file h).0)
+pub interfaces_apart : (system : System) (i : Instance) → verdict system ≡ None → differ (λ (p : Interface). p.name) (interfaces_of system i) ≡ true
+interfaces_apart system i h =
+    found_apart (λ (c : Component). bytes_eq c.name i.component) system.components
+    (third_of (not (differ (λ n. n) system.procedures)) (not (differ (λ (c : Component). c.name) system.components)) (list_any same_twice system.components)
+    (not (differ (λ (x : Instance). x.name) system.instances) || (not (differ (λ (k : Connection). k.name) system.connections) || list_any (is_instance_name system) system.connections))
+    (no_fault system h).0)
 
 -- ---- how many ends an instance has
 
@@ -210,11 +210,11 @@ unfolding tally
 over-le side i ps [] d = omega (arith, over-nil side i ps)
 over-le side i ps (k ∷ ks) d = omega (arith, over-cons side i ps k ks, hits-le i (side k) ps d, over-le side i ps ks d)
 
-pub length-joined-le : (file : File) (i : Instance) → verdict file ≡ None → length (joined file i) ≤ ends_at file i
-length-joined-le file i h =
-    let ps = interfaces_of file i in
-    let ks = file.assembly.connections in
-    let d : apart ps ≡ true = interfaces_apart file i h in
+pub length-joined-le : (system : System) (i : Instance) → verdict system ≡ None → length (joined system i) ≤ ends_at system i
+length-joined-le system i h =
+    let ps = interfaces_of system i in
+    let ks = system.connections in
+    let d : apart ps ≡ true = interfaces_apart system i h in
     omega (
       arith,
       length-joined i ps ks,
@@ -224,27 +224,27 @@ length-joined-le file i h =
       tally-count (λ (k : Connection). bytes_eq k.to.instance i.name) ks,
     )
 
-short_all : (file : File) (is : List Instance) → verdict file ≡ None → list_any (λ (i : Instance). nat_lt 4095 (ends_at file i)) is ≡ false → all_short (map (joined file) is) ≡ true
-short_all file [] h f = refl
-short_all file (i ∷ is) h f =
-    let parts = or_parts (nat_lt 4095 (ends_at file i)) (list_any (λ (x : Instance). nat_lt 4095 (ends_at file x)) is) f in
-    let few : ends_at file i ≤ 4095 = ltb-false 4095 (ends_at file i) parts.0 in
-    let less : length (joined file i) ≤ 4095 = omega (arith, length-joined-le file i h) in
-    and_from (leb (length (joined file i)) 4095) (all_short (map (joined file) is)) (le-leb (length (joined file i)) 4095 less) (short_all file is h parts.1)
+short_all : (system : System) (is : List Instance) → verdict system ≡ None → list_any (λ (i : Instance). nat_lt 4095 (ends_at system i)) is ≡ false → all_short (map (joined system) is) ≡ true
+short_all system [] h f = refl
+short_all system (i ∷ is) h f =
+    let parts = or_parts (nat_lt 4095 (ends_at system i)) (list_any (λ (x : Instance). nat_lt 4095 (ends_at system x)) is) f in
+    let few : ends_at system i ≤ 4095 = ltb-false 4095 (ends_at system i) parts.0 in
+    let less : length (joined system i) ≤ 4095 = omega (arith, length-joined-le system i h) in
+    and_from (leb (length (joined system i)) 4095) (all_short (map (joined system) is)) (le-leb (length (joined system i)) 4095 less) (short_all system is h parts.1)
 
-pub all_short-joined : (file : File) → verdict file ≡ None → all_short (map (joined file) file.assembly.instances) ≡ true
-all_short-joined file h = short_all file file.assembly.instances h (bounds file h).2
+pub all_short-joined : (system : System) → verdict system ≡ None → all_short (map (joined system) system.instances) ≡ true
+all_short-joined system h = short_all system system.instances h (bounds system h).2
 
-few_at : (file : File) (is : List Instance) (i : Instance) → list_any (λ (x : Instance). nat_lt 4095 (ends_at file x)) is ≡ false → Among is i → ends_at file i ≤ 4095
-few_at file [] i f m = absurd m
-few_at file (x ∷ xs) i f (inl e) =
-    let parts = or_parts (nat_lt 4095 (ends_at file x)) (list_any (λ (y : Instance). nat_lt 4095 (ends_at file y)) xs) f in
-    subst (λ (y : Instance). ends_at file y ≤ 4095) e (ltb-false 4095 (ends_at file x) parts.0)
-few_at file (x ∷ xs) i f (inr m) =
-    few_at file xs i (or_parts (nat_lt 4095 (ends_at file x)) (list_any (λ (y : Instance). nat_lt 4095 (ends_at file y)) xs) f).1 m
+few_at : (system : System) (is : List Instance) (i : Instance) → list_any (λ (x : Instance). nat_lt 4095 (ends_at system x)) is ≡ false → Among is i → ends_at system i ≤ 4095
+few_at system [] i f m = absurd m
+few_at system (x ∷ xs) i f (inl e) =
+    let parts = or_parts (nat_lt 4095 (ends_at system x)) (list_any (λ (y : Instance). nat_lt 4095 (ends_at system y)) xs) f in
+    subst (λ (y : Instance). ends_at system y ≤ 4095) e (ltb-false 4095 (ends_at system x) parts.0)
+few_at system (x ∷ xs) i f (inr m) =
+    few_at system xs i (or_parts (nat_lt 4095 (ends_at system x)) (list_any (λ (y : Instance). nat_lt 4095 (ends_at system y)) xs) f).1 m
 
-pub length-each : (file : File) (i : Instance) → verdict file ≡ None → Among file.assembly.instances i → length (joined file i) ≤ 4095
-length-each file i h m = omega (arith, length-joined-le file i h, few_at file file.assembly.instances i (bounds file h).2 m)
+pub length-each : (system : System) (i : Instance) → verdict system ≡ None → Among system.instances i → length (joined system i) ≤ 4095
+length-each system i h m = omega (arith, length-joined-le system i h, few_at system system.instances i (bounds system h).2 m)
 
 -- ---- the numbers of connections
 
@@ -269,29 +269,29 @@ below_at first limit i p n (k ∷ ks) h =
     (below_append first limit a b (below_joins first limit (is_end i p k.from) n From here) (below_joins first limit (is_end i p k.to) n To here))
     (below_at first limit i p (n + 1) ks (omega arith))
 
-below_over : (first limit : ℕ) (file : File) (i : Instance) (ps : List Interface) → first + length file.assembly.connections ≤ limit → all_below first limit (flat_map (joined_at file i) ps) ≡ true
-below_over first limit file i [] h = refl
-below_over first limit file i (p ∷ ps) h =
-    below_append first limit (joined_at file i p) (flat_map (joined_at file i) ps) (below_at first limit i p 0 file.assembly.connections (omega arith)) (below_over first limit file i ps h)
+below_over : (first limit : ℕ) (system : System) (i : Instance) (ps : List Interface) → first + length system.connections ≤ limit → all_below first limit (flat_map (joined_at system i) ps) ≡ true
+below_over first limit system i [] h = refl
+below_over first limit system i (p ∷ ps) h =
+    below_append first limit (joined_at system i p) (flat_map (joined_at system i) ps) (below_at first limit i p 0 system.connections (omega arith)) (below_over first limit system i ps h)
 
-pub below_joined : (first limit : ℕ) (file : File) (i : Instance) → first + length file.assembly.connections ≤ limit → all_below first limit (joined file i) ≡ true
-below_joined first limit file i h = below_over first limit file i (interfaces_of file i) h
+pub below_joined : (first limit : ℕ) (system : System) (i : Instance) → first + length system.connections ≤ limit → all_below first limit (joined system i) ≡ true
+below_joined first limit system i h = below_over first limit system i (interfaces_of system i) h
 
-pub all_fit : (first limit : ℕ) (file : File) (is : List Instance) → first + length file.assembly.connections ≤ limit → list_all (all_below first limit) (map (joined file) is) ≡ true
-all_fit first limit file [] h = refl
-all_fit first limit file (i ∷ is) h =
-    and_from (all_below first limit (joined file i)) (list_all (all_below first limit) (map (joined file) is)) (below_joined first limit file i h) (all_fit first limit file is h)
+pub all_fit : (first limit : ℕ) (system : System) (is : List Instance) → first + length system.connections ≤ limit → list_all (all_below first limit) (map (joined system) is) ≡ true
+all_fit first limit system [] h = refl
+all_fit first limit system (i ∷ is) h =
+    and_from (all_below first limit (joined system i)) (list_all (all_below first limit) (map (joined system) is)) (below_joined first limit system i h) (all_fit first limit system is h)
 
 -- ---- the place of the first endpoint
 
-length-threads : (file : File) (n : ℕ) (is : List Instance) → length (flat_map (threads_of file) (enumerate_from n is)) ≡ thread_count (map (joined file) is)
-length-threads file n [] = refl
-length-threads file n (i ∷ is) =
-    let more = filter is_to (joined file i) in
-    omega (arith, length-append (threads_of file (n, i)) (flat_map (threads_of file) (enumerate_from (n + 1) is)), length-map more (λ (e : Joined). thread_of (n, i)), length-filter is_to (joined file i), length-threads file (n + 1) is)
+length-threads : (system : System) (n : ℕ) (is : List Instance) → length (flat_map (threads_of system) (enumerate_from n is)) ≡ thread_count (map (joined system) is)
+length-threads system n [] = refl
+length-threads system n (i ∷ is) =
+    let more = filter is_to (joined system i) in
+    omega (arith, length-append (threads_of system (n, i)) (flat_map (threads_of system) (enumerate_from (n + 1) is)), length-map more (λ (e : Joined). thread_of (n, i)), length-filter is_to (joined system i), length-threads system (n + 1) is)
 
-pub length-all_threads : (file : File) → length (threads file) ≡ thread_count (map (joined file) file.assembly.instances)
-length-all_threads file = length-threads file 0 file.assembly.instances
+pub length-all_threads : (system : System) → length (threads system) ≡ thread_count (map (joined system) system.instances)
+length-all_threads system = length-threads system 0 system.instances
 
 count_le : (es : List Joined) → count_by is_to es ≤ length es
 count_le es = count_by-le-length is_to es
@@ -304,14 +304,14 @@ thread_count-le (es ∷ all) h =
     omega (arith, count_le es, thread_count-le all parts.1)
 
 -- the first endpoint stands below 2 ^ 23
-pub first_endpoint-le : (file : File) → verdict file ≡ None → first_endpoint file ≤ 4195328
-first_endpoint-le file h =
-    omega (arith, few_instances file h, length-all_threads file, thread_count-le (map (joined file) file.assembly.instances) (all_short-joined file h), length-map file.assembly.instances (joined file))
+pub first_endpoint-le : (system : System) → verdict system ≡ None → first_endpoint system ≤ 4195328
+first_endpoint-le system h =
+    omega (arith, few_instances system h, length-all_threads system, thread_count-le (map (joined system) system.instances) (all_short-joined system h), length-map system.instances (joined system))
 
 -- the CNodes, made from the ends of all instances
-pub cnodes-joined : (file : File) (all : List (List Joined)) (n : ℕ) → all ≡ map (joined file) file.assembly.instances → n ≡ thread_count all → map (cnode_of (length all + n)) all ≡ cnodes file
-cnodes-joined file all n e t =
-    let is = file.assembly.instances in
+pub cnodes-joined : (system : System) (all : List (List Joined)) (n : ℕ) → all ≡ map (joined system) system.instances → n ≡ thread_count all → map (cnode_of (length all + n)) all ≡ cnodes system
+cnodes-joined system all n e t =
+    let is = system.instances in
     let first = length all + n in
-    let same : first ≡ first_endpoint file = omega (arith, ap length e, length-map is (joined file), length-all_threads file, ap thread_count e) in
-    ap (map (cnode_of first)) e ∙ map-map (cnode_of first) (joined file) is ∙ ap (λ m. map (λ (i : Instance). cnode_of m (joined file i)) is) same
+    let same : first ≡ first_endpoint system = omega (arith, ap length e, length-map is (joined system), length-all_threads system, ap thread_count e) in
+    ap (map (cnode_of first)) e ∙ map-map (cnode_of first) (joined system) is ∙ ap (λ m. map (λ (i : Instance). cnode_of m (joined system i)) is) same

@@ -10,9 +10,9 @@ use Rattle.cap_model.specs.declared.spec.Entry.{Entry}
 use Rattle.cap_model.specs.declared.spec.Spec.{Spec}
 use Rattle.cap_model.specs.Confers.{confers}
 use Rattle.cap_model.specs.Kinds.{kind_at}
-use Rattle.little_adl.specs.declared.tree.File.{File}
-use Rattle.little_adl.specs.declared.tree.Instance.{Instance}
-use Rattle.little_adl.specs.declared.tree.Connection.{Connection}
+use Rattle.little_system.specs.declared.system.System.{System}
+use Rattle.little_system.specs.declared.system.Instance.{Instance}
+use Rattle.little_system.specs.declared.system.Connection.{Connection}
 
 abbrev pub Name : Type 0
 Name = List ℕ
@@ -25,22 +25,22 @@ abbrev pub ServerMay : Authority → Type 0
 ServerMay a = (a ≡ Receive) ⊎ (a ≡ Reset)
 
 -- a connection of this name gives the authority to the instance of this name
-pub record IsAssigned (file : File) (instance : Name) (a : Authority) (connection : Name) : Type 0 where
+pub record IsAssigned (system : System) (instance : Name) (a : Authority) (connection : Name) : Type 0 where
   pub by : Connection
-  pub stands : Contains file.assembly.connections by
+  pub stands : Contains system.connections by
   pub named : by.name ≡ connection
   pub end : ((by.from.instance ≡ instance) × CallerMay a) ⊎ ((by.to.instance ≡ instance) × ServerMay a)
 
 -- the CNode that has the instance's number holds a capability that confers the authority on the endpoint that has the
 -- connection's number
-pub record IsHeld (file : File) (spec : Spec) (instance : Name) (a : Authority) (connection : Name) : Type 0 where
+pub record IsHeld (system : System) (spec : Spec) (instance : Name) (a : Authority) (connection : Name) : Type 0 where
   pub node : ℕ
   pub at : ℕ
   pub of : Instance
   pub k : Connection
-  pub instance_there : slice_get file.assembly.instances node ≡ Some of
+  pub instance_there : slice_get system.instances node ≡ Some of
   pub instance_named : of.name ≡ instance
-  pub connection_there : slice_get file.assembly.connections at ≡ Some k
+  pub connection_there : slice_get system.connections at ≡ Some k
   pub connection_named : k.name ≡ connection
   pub bits : ℕ
   pub slots : List (ℕ × Cap)
@@ -54,8 +54,8 @@ pub record IsHeld (file : File) (spec : Spec) (instance : Name) (a : Authority) 
   pub conferred : confers spec cap a ≡ true
 
 -- what is held is just what is assigned
-abbrev pub HoldsWhatIsAssigned : File → Spec → Type 0
-HoldsWhatIsAssigned file spec = (instance : Name) (a : Authority) (connection : Name) → (IsHeld file spec instance a connection → IsAssigned file instance a connection) × (IsAssigned file instance a connection → IsHeld file spec instance a connection)
+abbrev pub HoldsWhatIsAssigned : System → Spec → Type 0
+HoldsWhatIsAssigned system spec = (instance : Name) (a : Authority) (connection : Name) → (IsHeld system spec instance a connection → IsAssigned system instance a connection) × (IsAssigned system instance a connection → IsHeld system spec instance a connection)
 
 -- each capability in a CNode is to an endpoint
 abbrev pub HoldsOnlyEndpoints : Spec → Type 0

@@ -9,11 +9,11 @@ use Rattle.cap_model.specs.declared.object.Object.TheVariants.{Endpoint, CNode, 
 use Rattle.cap_model.specs.declared.rights.Rights.{Rights}
 use Rattle.cap_model.specs.declared.spec.Entry.{Entry}
 use Rattle.cap_model.specs.declared.spec.Spec.{Spec}
-use Rattle.little_adl.specs.declared.tree.File.{File}
-use Rattle.little_adl.specs.declared.tree.Instance.{Instance}
-use Rattle.little_adl.specs.declared.tree.Interface.{Interface}
-use Rattle.little_adl.specs.declared.tree.Connection.{Connection}
-use Rattle.little_adl.specs.Sound.{interfaces_of, is_end}
+use Rattle.little_system.specs.declared.system.System.{System}
+use Rattle.little_system.specs.declared.system.Instance.{Instance}
+use Rattle.little_system.specs.declared.system.Interface.{Interface}
+use Rattle.little_system.specs.declared.system.Connection.{Connection}
+use Rattle.little_system.specs.Sound.{interfaces_of, is_end}
 use Rattle.little_layout.specs.declared.ends.Role.{Role}
 use Rattle.little_layout.specs.declared.ends.Role.TheVariants.{From, To}
 use Rattle.little_layout.specs.declared.ends.Joined.{Joined}
@@ -27,11 +27,11 @@ joins is connection role = if is then record { connection = connection; role = r
 abbrev pub joined_by : Instance → Interface → ℕ × Connection → List Joined
 joined_by i p k = joins (is_end i p k.1.from) k.0 From ++ joins (is_end i p k.1.to) k.0 To
 
-abbrev pub joined_at : File → Instance → Interface → List Joined
-joined_at file i p = flat_map (joined_by i p) (enumerate_from 0 file.assembly.connections)
+abbrev pub joined_at : System → Instance → Interface → List Joined
+joined_at system i p = flat_map (joined_by i p) (enumerate_from 0 system.connections)
 
-abbrev pub joined : File → Instance → List Joined
-joined file i = flat_map (joined_at file i) (interfaces_of file i)
+abbrev pub joined : System → Instance → List Joined
+joined system i = flat_map (joined_at system i) (interfaces_of system i)
 
 -- ---- the connector table: a caller's and a server's rights on the endpoint, and the badge of the only caller
 
@@ -74,18 +74,18 @@ abbrev pub thread_of : ℕ × Instance → Object
 thread_of i = Thread (record { addr = 0; ip = 0; sp = 0; prio = 254; elf = Some i.1.component; cspace = Some i.0; vspace = None; buffer = None })
 
 -- a thread of control, and one more for each end that calls come in by
-abbrev pub threads_of : File → ℕ × Instance → List Object
-threads_of file i = thread_of i ∷ map (λ e. thread_of i) (filter is_to (joined file i.1))
+abbrev pub threads_of : System → ℕ × Instance → List Object
+threads_of system i = thread_of i ∷ map (λ e. thread_of i) (filter is_to (joined system i.1))
 
-abbrev pub numbered_instances : File → List (ℕ × Instance)
-numbered_instances file = enumerate_from 0 file.assembly.instances
+abbrev pub numbered_instances : System → List (ℕ × Instance)
+numbered_instances system = enumerate_from 0 system.instances
 
-abbrev pub threads : File → List Object
-threads file = flat_map (threads_of file) (numbered_instances file)
+abbrev pub threads : System → List Object
+threads system = flat_map (threads_of system) (numbered_instances system)
 
 -- the place of the first endpoint
-abbrev pub first_endpoint : File → ℕ
-first_endpoint file = length file.assembly.instances + length (threads file)
+abbrev pub first_endpoint : System → ℕ
+first_endpoint system = length system.instances + length (threads system)
 
 -- ---- the spec
 
@@ -93,18 +93,18 @@ first_endpoint file = length file.assembly.instances + length (threads file)
 abbrev pub named : List ℕ → ℕ × Object → Entry
 named word o = record { name = word ++ decimal o.0; object = o.1 }
 
-abbrev pub cnodes : File → List Object
-cnodes file = map (λ i. cnode_of (first_endpoint file) (joined file i)) file.assembly.instances
+abbrev pub cnodes : System → List Object
+cnodes system = map (λ i. cnode_of (first_endpoint system) (joined system i)) system.instances
 
-abbrev pub endpoints : File → List Object
-endpoints file = map (λ k. Endpoint) file.assembly.connections
+abbrev pub endpoints : System → List Object
+endpoints system = map (λ k. Endpoint) system.connections
 
 abbrev pub all_named : List ℕ → List Object → List Entry
 all_named word os = map (named word) (enumerate_from 0 os)
 
-abbrev pub spec_of : File → Spec
-spec_of file = record {
+abbrev pub spec_of : System → Spec
+spec_of system = record {
   arch = Arm11;
-  entries = all_named (codes "cnode_") (cnodes file) ++ (all_named (codes "tcb_") (threads file) ++ all_named (codes "ep_") (endpoints file));
+  entries = all_named (codes "cnode_") (cnodes system) ++ (all_named (codes "tcb_") (threads system) ++ all_named (codes "ep_") (endpoints system));
   irqs = [];
 }

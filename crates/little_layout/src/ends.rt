@@ -1,9 +1,9 @@
-ghost use Rattle.little_adl.specs.Sound.{is_end};
+ghost use Rattle.little_system.specs.Sound.{is_end};
 ghost use Rattle.little_layout.specs.Layout.{joins, joined_by, joined_at, joined};
 ghost use Rattle.std.specs.Prelude.{◌≡◌, ◌≤◌, ◌++◌, IfOk, OnOk, length, map};
 
 use cam_base::{List, NoMemory};
-use little_adl::{Connection, End, File, Instance, Interface, interfaces_of};
+use little_system::{Connection, End, Instance, Interface, System, interfaces_of};
 use std::alloc::Global;
 
 /// Which end of a connection it is.
@@ -63,15 +63,15 @@ fn push_joined_by(
 /// Puts the ends that join this interface behind the others, by connection.
 fn push_joined_at(
     ends: &mut List<Joined>,
-    file: &File,
+    system: &System,
     instance: &Instance,
     interface: &Interface,
 ) -> Result<(), NoMemory>
-    requires { length file.now.assembly.connections ≤ 4096 }
-    ensures { OnOk result (ends.new ≡ ends.old ++ joined_at file.now instance.now interface.now) }
+    requires { length system.now.connections ≤ 4096 }
+    ensures { OnOk result (ends.new ≡ ends.old ++ joined_at system.now instance.now interface.now) }
 {
     let mut number = 0;
-    let mut rest = file.assembly.connections.as_slice();
+    let mut rest = system.connections.as_slice();
     while let [connection, behind @ ..] = rest {
         push_joined_by(ends, instance, interface, number, connection)?;
         number += 1;
@@ -81,28 +81,28 @@ fn push_joined_at(
 }
 
 /// The ends that join an instance, by interface, then by connection.
-fn ends_of(alloc: Global, file: &File, instance: &Instance) -> Result<List<Joined>, NoMemory>
-    requires { length file.now.assembly.connections ≤ 4096 }
-    ensures { IfOk result (λ ends. ends ≡ joined file.now instance.now) }
+fn ends_of(alloc: Global, system: &System, instance: &Instance) -> Result<List<Joined>, NoMemory>
+    requires { length system.now.connections ≤ 4096 }
+    ensures { IfOk result (λ ends. ends ≡ joined system.now instance.now) }
 {
     let mut ends = List::new(alloc);
-    let mut rest = interfaces_of(file, instance);
+    let mut rest = interfaces_of(system, instance);
     while let [interface, behind @ ..] = rest {
-        push_joined_at(&mut ends, file, instance, interface)?;
+        push_joined_at(&mut ends, system, instance, interface)?;
         rest = behind;
     }
     Ok(ends)
 }
 
 /// The ends that join each instance.
-pub fn all_joined(alloc: Global, file: &File) -> Result<List<List<Joined>>, NoMemory>
-    requires { length file.now.assembly.connections ≤ 4096 }
-    ensures { IfOk result (λ all. all ≡ map (joined file.now) file.now.assembly.instances) }
+pub fn all_joined(alloc: Global, system: &System) -> Result<List<List<Joined>>, NoMemory>
+    requires { length system.now.connections ≤ 4096 }
+    ensures { IfOk result (λ all. all ≡ map (joined system.now) system.now.instances) }
 {
     let mut all = List::new(alloc);
-    let mut rest = file.assembly.instances.as_slice();
+    let mut rest = system.instances.as_slice();
     while let [instance, behind @ ..] = rest {
-        all.push(ends_of(alloc, file, instance)?)?;
+        all.push(ends_of(alloc, system, instance)?)?;
         rest = behind;
     }
     Ok(all)

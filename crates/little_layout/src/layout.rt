@@ -1,5 +1,5 @@
 ghost use Rattle.cam_base.specs.Names.{is_name};
-ghost use Rattle.little_adl.specs.Sound.{verdict};
+ghost use Rattle.little_system.specs.Sound.{verdict};
 ghost use Rattle.little_layout.specs.Bounds.{fit, put, all_short, thread_count};
 ghost use Rattle.little_layout.specs.Layout.{joined, is_to, cnode_of, thread_of, threads_of, threads, endpoints, all_named, named, spec_of};
 ghost use Rattle.std.specs.List.{count_by, enumerate_from, filter, list_all};
@@ -10,7 +10,7 @@ use crate::ends::all_joined;
 use crate::objects::{cnode_of, is_server, push_named, thread_of};
 use cam_base::{List, NoMemory};
 use cap_model::{Arch, Entry, Object, Spec};
-use little_adl::{Connection, File, Instance};
+use little_system::{Connection, Instance, System};
 use std::alloc::Global;
 
 /// How many threads an instance with these ends has.
@@ -102,16 +102,16 @@ fn push_servers(
 fn push_threads(
     alloc: Global,
     entries: &mut List<Entry>,
-    file: &File,
+    system: &System,
     all: &[List<Joined>],
 ) -> Result<(), NoMemory>
-    requires few { length file.now.assembly.instances ≤ 1024 }
-    requires ends { all.now ≡ map (joined file.now) file.now.assembly.instances }
-    ensures { OnOk result (entries.new ≡ entries.old ++ all_named (codes "tcb_") (threads file.now)) }
+    requires few { length system.now.instances ≤ 1024 }
+    requires ends { all.now ≡ map (joined system.now) system.now.instances }
+    ensures { OnOk result (entries.new ≡ entries.old ++ all_named (codes "tcb_") (threads system.now)) }
 {
     let start = entries.len();
     let mut number = 0;
-    let mut instances = file.assembly.instances.as_slice();
+    let mut instances = system.instances.as_slice();
     let mut rest = all;
     while let [instance, others @ ..] = instances {
         let [ends, behind @ ..] = rest else {
@@ -145,17 +145,17 @@ fn push_endpoints(
 }
 
 /// The spec of a sound tree.
-pub fn build(alloc: Global, file: &File) -> Result<Spec, NoMemory>
-    requires { verdict file.now ≡ None }
-    ensures { IfOk result (λ spec. spec ≡ spec_of file.now) }
+pub fn build(alloc: Global, system: &System) -> Result<Spec, NoMemory>
+    requires { verdict system.now ≡ None }
+    ensures { IfOk result (λ spec. spec ≡ spec_of system.now) }
 {
-    let all = all_joined(alloc, file)?;
+    let all = all_joined(alloc, system)?;
     let all = all.as_slice();
     let first = (all.len() + thread_count(all)) as u32;
     let mut entries = List::new(alloc);
     push_cnodes(alloc, &mut entries, first, all)?;
-    push_threads(alloc, &mut entries, file, all)?;
-    push_endpoints(alloc, &mut entries, file.assembly.connections.as_slice())?;
+    push_threads(alloc, &mut entries, system, all)?;
+    push_endpoints(alloc, &mut entries, system.connections.as_slice())?;
     Ok(Spec {
         arch: Arch::Arm11,
         entries,

@@ -8,7 +8,7 @@ use crate::{Joined, Role};
 use cam_base::{List, Name, NoMemory, Text};
 use cap_model::{Cap, Entry, Object, Rights, Tcb};
 use itoa::Buffer;
-use little_adl::Instance;
+use little_system::Instance;
 use std::alloc::Global;
 
 fn rights_of(role: Role) -> Rights

@@ -1,27 +1,62 @@
 use crate::{build, holds_what_is_assigned};
+use cam_base::{List, Name};
 use cap_model::{Cap, Object, Rights, Spec};
-use little_adl::{File, parse, split, verdict_of};
+use little_system::{
+    Component, Connection, End, Instance, Interface, InterfaceKind, System, verdict_of,
+};
 use std::alloc::Global;
 use std::test::Fail;
 
-const ECHO: &str = "
-procedure Echo { }
-component Client { control; uses Echo e; }
-component Server { provides Echo e; }
-assembly {
-    composition {
-        component Client client;
-        component Server server;
-        connection seL4RPCCall k(from client.e, to server.e);
-    }
+fn component(alloc: Global, name: &[u8], kind: InterfaceKind) -> Result<Component, Fail> {
+    let mut interfaces = List::new(alloc);
+    interfaces.push(Interface {
+        kind,
+        procedure: Name::new(alloc, b"Echo")?,
+        name: Name::new(alloc, b"e")?,
+    })?;
+    Ok(Component {
+        name: Name::new(alloc, name)?,
+        interfaces,
+    })
 }
-";
 
-fn tree(alloc: Global) -> Result<Option<File>, Fail> {
-    let Some(tokens) = split(alloc, ECHO.as_bytes())? else {
-        return Ok(None);
-    };
-    Ok(parse(alloc, tokens.as_slice())?)
+fn instance(alloc: Global, component: &[u8], name: &[u8]) -> Result<Instance, Fail> {
+    Ok(Instance {
+        component: Name::new(alloc, component)?,
+        name: Name::new(alloc, name)?,
+    })
+}
+
+fn end(alloc: Global, instance: &[u8]) -> Result<End, Fail> {
+    Ok(End {
+        instance: Name::new(alloc, instance)?,
+        interface: Name::new(alloc, b"e")?,
+    })
+}
+
+/// A client that calls a server.
+fn echo(alloc: Global) -> Result<System, Fail> {
+    let mut procedures = List::new(alloc);
+    procedures.push(Name::new(alloc, b"Echo")?)?;
+    let mut components = List::new(alloc);
+    components.push(component(alloc, b"Client", InterfaceKind::Uses)?)?;
+    components.push(component(alloc, b"Server", InterfaceKind::Provides)?)?;
+    let mut instances = List::new(alloc);
+    instances.push(instance(alloc, b"Client", b"client")?)?;
+    instances.push(instance(alloc, b"Server", b"server")?)?;
+    let mut connections = List::new(alloc);
+    connections.push(Connection {
+        connector: Name::new(alloc, b"seL4RPCCall")?,
+        name: Name::new(alloc, b"k")?,
+        from: end(alloc, b"client")?,
+        to: end(alloc, b"server")?,
+    })?;
+    Ok(System {
+        procedures,
+        components,
+        instances,
+        connections,
+    })
 }
 
 /// The bits and the slots of a CNode.
@@ -59,11 +94,11 @@ fn cap(letters: &str, badge: u64) -> Cap {
 #[test]
 fn a_client_calls_a_server(rt: HostRuntime) -> Result<(), Fail> {
     holds_what_is_assigned();
-    let file = tree(rt.alloc())?.expect(&rt, "the text is a file");
-    let None = verdict_of(&file) else {
-        panic!(rt; "the tree is sound");
+    let system = echo(rt.alloc())?;
+    let None = verdict_of(&system) else {
+        panic!(rt; "the system is sound");
     };
-    let spec = build(rt.alloc(), &file)?;
+    let spec = build(rt.alloc(), &system)?;
     let names = ["cnode_0", "cnode_1", "tcb_0", "tcb_1", "tcb_2", "ep_0"];
     assert_eq!(rt; spec.entries.len(), 6);
     assert_eq!(rt; spec.irqs.len(), 0);

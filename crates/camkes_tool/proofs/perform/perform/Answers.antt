@@ -10,7 +10,7 @@ returns-in_ok-begin-in-Compiled g c =
     rw c.in-Compiled.is (acts_begin_then begun c.in_ok-begin-in-Compiled.ensures.later (acts_one c.write_spec.ensures))
 
 pub returns-in-Usage : goal.returns-in-Usage
-returns-in-Usage g c = rw c.in-Usage.is (acts_one c.write_all.ensures.writes)
+returns-in-Usage g c = rw c.in-Usage.is (acts_one (rw c.usage_line.ensures at c.write_all.ensures.writes))
 
 pub returns-in-NoMemory : goal.returns-in-NoMemory
 returns-in-NoMemory g c = rw c.in-NoMemory.is (acts_one c.write_all-in-NoMemory.ensures.writes)

@@ -1,7 +1,7 @@
 use Rattle.std.proofs.Common.{◌++◌, codes, arith}
 use Rattle.std.proofs.lemmas.List.{length-map}
 use Rattle.cap_model.specs.declared.object.Object.TheVariants.{Endpoint}
-use Rattle.little_adl.specs.declared.tree.Connection.{Connection}
+use Rattle.little_system.specs.declared.system.Connection.{Connection}
 use Rattle.little_layout.specs.Layout.{all_named}
 use Rattle.little_layout.proofs.Entries.{put-end}
 use Rattle.little_layout.proofs.Endpoints.{endpoints_of, endpoints-step}

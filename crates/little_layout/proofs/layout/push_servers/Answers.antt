@@ -1,5 +1,5 @@
 use Rattle.std.proofs.Common.{ℕ, codes, ◌∙◌, sym, arith}
-use Rattle.little_adl.specs.declared.tree.Instance.{Instance}
+use Rattle.little_system.specs.declared.system.Instance.{Instance}
 use Rattle.little_layout.specs.Bounds.{put}
 use Rattle.little_layout.proofs.Endpoints.{servers_of, servers-step, servers-end}
 use Rattle.little_layout.proofs.Entries.{put-none}
