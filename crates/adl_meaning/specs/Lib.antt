@@ -1,0 +1,16 @@
+pub mod CompositeBody
+pub mod Connectors
+pub mod Duplicate
+pub mod Export
+pub mod Faults
+pub mod Graph
+pub mod Holding
+pub mod Items
+pub mod Known
+pub mod Lists
+pub mod Members
+pub mod NameFaults
+pub mod NoAssembly
+pub mod Recursive
+pub mod SecondAssembly
+pub mod Unknown

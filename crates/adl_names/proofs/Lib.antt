@@ -1,0 +1,9 @@
+pub mod ComponentNumbers
+pub mod Exporting
+pub mod HeldNames
+pub mod NameLookups
+pub mod PortSets
+pub mod Repeating
+pub mod TableSteps
+pub mod TablesTold
+pub mod Whole

@@ -1,0 +1,35 @@
+-- What sets of ports have.
+use Rattle.std.proofs.Common.{◌≡◌, ◌∙◌, ℕ, Bool, cond, true, false, ◌||◌, ◌&&◌, refl, sym, ap, List, [], ◌∷◌, map, Bor, nat_eq}
+use Rattle.std.specs.List.{list_any}
+use Rattle.std.specs.Str.{bytes_eq}
+use Rattle.std.proofs.lemmas.Bool.{eqb-true, eq-eqb}
+use Rattle.adl_meaning.specs.Export.{Port}
+use Rattle.adl_meaning.specs.Items.{Name}
+use Rattle.adl_names.specs.Ports.{is_port_among}
+use Rattle.adl_names.proofs.NameLookups.{bytes_eq-sym}
+
+nat_eq-sym : (a b : ℕ) → nat_eq a b ≡ nat_eq b a
+nat_eq-sym a b = by_tests (nat_eq a b) (nat_eq b a) refl refl
+  where
+    by_tests : (p q : Bool) → nat_eq a b ≡ p → nat_eq b a ≡ q → p ≡ q
+    by_tests true true e d = refl
+    by_tests true false e d = sym (eq-eqb b a (sym (eqb-true a b e))) ∙ d
+    by_tests false true e d = sym e ∙ eq-eqb a b (sym (eqb-true b a d))
+    by_tests false false e d = refl
+
+-- the key of a port is one of the keys
+abbrev pub has_key : List (ℕ × Bor Name) → ℕ → Name → Bool
+has_key ks f n = list_any (λ (k : ℕ × Bor Name). nat_eq f k.0 && bytes_eq n k.1.now) ks
+
+pub among-keys : (ks : List (ℕ × Bor Name)) (p : Port) → is_port_among (map (λ (k : ℕ × Bor Name). (k.0, k.1.now)) ks) p ≡ has_key ks p.0.id.place.first p.1
+among-keys [] p = refl
+among-keys (k ∷ ks) p = ap (λ b. (nat_eq p.0.id.place.first k.0 && bytes_eq p.1 k.1.now) || b) (among-keys ks p)
+
+pub or_from_keys : (f g : ℕ) (m n : Name) (rest : Bool) → cond (nat_eq f g && bytes_eq m n) true rest ≡ (rest || (nat_eq g f && bytes_eq n m))
+or_from_keys f g m n rest = by_test (nat_eq f g && bytes_eq m n) rest ∙ ap (λ z. rest || (z && bytes_eq m n)) (nat_eq-sym f g) ∙ ap (λ z. rest || (nat_eq g f && z)) (bytes_eq-sym m n)
+  where
+    by_test : (p r : Bool) → cond p true r ≡ (r || p)
+    by_test true true = refl
+    by_test true false = refl
+    by_test false true = refl
+    by_test false false = refl

@@ -1,0 +1,25 @@
+-- Noting words whose name an earlier one has.
+use Rattle.std.proofs.Common.{◌≡◌, ◌<◌, ◌+◌, ◌||◌, ℕ, List, length, get_or, drop, [], ◌∷◌, ◌++◌, map, Option, sym, ◌∙◌, ap, Bor}
+use Rattle.std.specs.Str.{bytes_eq}
+use Rattle.cam_base.specs.declared.code.Code.TheVariants as code
+use Rattle.cam_base.specs.declared.place.Fault.{Fault}
+use Rattle.adl_ast.specs.declared.id.Id.{Id}
+use Rattle.adl_meaning.specs.Faults.{noted, where_true, at_word}
+use Rattle.adl_meaning.specs.Duplicate.{repeats_after}
+use Rattle.adl_meaning.specs.Items.{Name}
+use Rattle.adl_meaning.proofs.Least.{noted-append}
+use Rattle.adl_meaning.proofs.Noting.{drop_first}
+use Rattle.adl_names.specs.ByName.{is_among}
+use Rattle.adl_names.specs.Pointed.{pointed}
+
+-- the step of a loop that meets one word after another
+pub met_each : (new old : Option Fault) (more met : List Name) (ws : List (Bor Id)) (i : ℕ) (w : Bor Id) → i < length ws → w ≡ get_or ws i w
+    → new ≡ noted old (where_true (is_among met w.now.name) (at_word code.Duplicate w.now)) → ((n : Name) → is_among more n ≡ (is_among met n || bytes_eq n w.now.name))
+    → noted new (repeats_after (is_among more) (pointed (drop (i + 1) ws))) ≡ noted old (repeats_after (is_among met) (pointed (drop i ws)))
+met_each new old more met ws i w l e n h =
+    let known : is_among more ≡ (λ (m : Name). is_among met m || bytes_eq m w.now.name) = λ k m. h m k in
+    let rest = pointed (drop (i + 1) ws) in
+    ap (λ o. noted o (repeats_after (is_among more) rest)) n
+    ∙ ap (λ f. noted (noted old (where_true (is_among met w.now.name) (at_word code.Duplicate w.now))) (repeats_after f rest)) known
+    ∙ sym (noted-append old (where_true (is_among met w.now.name) (at_word code.Duplicate w.now)) (repeats_after (λ m. is_among met m || bytes_eq m w.now.name) rest))
+    ∙ ap (λ z. noted old (repeats_after (is_among met) (pointed z))) (sym (drop_first ws i w l e))

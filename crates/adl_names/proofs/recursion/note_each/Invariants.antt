@@ -1,0 +1,11 @@
+use Rattle.std.proofs.Common.{◌≡◌, drop, map}
+use Rattle.std.specs.List.{flat_map, enumerate_from}
+use Rattle.adl_meaning.specs.Faults.{noted}
+use Rattle.adl_meaning.specs.Recursive.{recursive_in}
+use Rattle.adl_names.specs.ByName.{found}
+use Rattle.adl_names.specs.Located.{trees}
+use Rattle.adl_names.proofs.recursion.note_each.Given as goal
+
+abbrev pub invariant-loop-i : goal.invariant-loop-i
+invariant-loop-i l =
+    noted l.first (flat_map (λ x. recursive_in (found l.numbers) l.graph x.0 x.1) (enumerate_from l.i (trees (drop l.i l.components)))) ≡ noted l.fn.first (flat_map (λ x. recursive_in (found l.numbers) l.graph x.0 x.1) (enumerate_from 0 (trees l.components)))

@@ -1,0 +1,23 @@
+use Rattle.std.proofs.Common.{◌≡◌, ◌<◌, ◌∙◌, ℕ, List, length, sym, ap, arith, Option, Some}
+use Rattle.std.proofs.lemmas.List.{length-map}
+use Rattle.adl_ast.specs.declared.component.Component.{Component}
+use Rattle.adl_meaning.specs.Faults.{noted}
+use Rattle.adl_meaning.specs.Items.{Name}
+use Rattle.adl_meaning.specs.Recursive.{number_named, recursive_among}
+use Rattle.adl_names.specs.ByName.{found}
+use Rattle.adl_names.specs.Located.{trees}
+use Rattle.adl_names.specs.declared.located.Located.{Located}
+use Rattle.adl_names.proofs.ComponentNumbers.{numbers_below}
+use Rattle.adl_names.proofs.recursion.note_recursive.Goals as goal
+
+pub note_among-requires-clause-numbers : goal.note_among-requires-clause-numbers
+note_among-requires-clause-numbers c = λ m a e.
+    let cs = c.args.components.now in
+    let s : length (trees cs) ≡ length cs = length-map cs (λ (x : Located Component). x.item.now) in
+    let l : a < length (trees cs) = numbers_below (trees cs) m a (sym (c.in_ok-numbers.ensures m) ∙ e) in
+    omega arith
+
+pub returns : goal.returns
+returns c =
+    let same : found c.in_ok-numbers.numbers ≡ number_named (trees c.args.components.now) = λ i n. c.in_ok-numbers.ensures n i in
+    c.in_ok-note_among.ensures ∙ ap (λ (f : Name → Option ℕ). noted c.args.first.now (recursive_among f (trees c.args.components.now))) same

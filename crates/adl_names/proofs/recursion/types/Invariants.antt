@@ -1,0 +1,9 @@
+use Rattle.std.proofs.Common.{◌≡◌, drop, ◌++◌, map}
+use Rattle.std.specs.List.{flat_map, filter_map, enumerate_from}
+use Rattle.adl_names.specs.Pointed.{pointed}
+use Rattle.adl_names.specs.ByName.{found}
+use Rattle.adl_names.proofs.recursion.types.Given as goal
+
+abbrev pub invariant-loop-instance : goal.invariant-loop-instance
+invariant-loop-instance l =
+    l.types ++ filter_map (λ i. found l.numbers i.component.name) (pointed (drop l.instance-index l.instances)) ≡ filter_map (λ i. found l.numbers i.component.name) (pointed l.instances)

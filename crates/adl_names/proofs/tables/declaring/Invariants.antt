@@ -1,0 +1,10 @@
+use Rattle.std.proofs.Common.{◌≡◌, drop, map}
+use Rattle.std.specs.Option.{option_or}
+use Rattle.std.specs.List.{flat_map}
+use Rattle.adl_meaning.specs.Members.{declared_by}
+use Rattle.adl_meaning.specs.Items.{Name}
+use Rattle.adl_names.specs.Tables.{declaring_told, first_declared}
+use Rattle.adl_names.proofs.tables.declaring.Given as goal
+
+abbrev pub invariant-loop-member : goal.invariant-loop-member
+invariant-loop-member l = (n : Name) → option_or (declaring_told l.table n) (first_declared (flat_map declared_by (drop l.member-index l.component.members)) n) ≡ first_declared (flat_map declared_by l.component.members) n

@@ -1,0 +1,10 @@
+use Rattle.std.proofs.Common.{◌≡◌, drop, ◌||◌}
+use Rattle.std.specs.List.{filter_map}
+use Rattle.adl_meaning.specs.Holding.{as_export}
+use Rattle.adl_meaning.specs.Known.{is_target}
+use Rattle.adl_meaning.specs.Items.{Name}
+use Rattle.adl_names.specs.ByName.{is_among}
+use Rattle.adl_names.proofs.tables.targets.Given as goal
+
+abbrev pub invariant-loop-line : goal.invariant-loop-line
+invariant-loop-line l = (n : Name) → (is_among l.targets n || is_target (filter_map as_export (drop l.line-index l.line-items)) n) ≡ is_target (filter_map as_export l.composition.lines) n

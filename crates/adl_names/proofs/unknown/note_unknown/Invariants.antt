@@ -1,0 +1,11 @@
+use Rattle.std.proofs.Common.{◌≡◌, drop}
+use Rattle.std.specs.List.{flat_map}
+use Rattle.adl_meaning.specs.Faults.{noted}
+use Rattle.adl_names.specs.Tables.{types_told}
+use Rattle.adl_meaning.specs.Unknown.{unknown_in_item}
+use Rattle.adl_names.specs.ByName.{is_among}
+use Rattle.adl_names.proofs.unknown.note_unknown.Given as goal
+
+abbrev pub invariant-loop-x : goal.invariant-loop-x
+invariant-loop-x l =
+    noted l.first (flat_map (λ x. unknown_in_item (types_told l.types) (is_among l.procedures) x.item.now) (drop l.x-index l.items)) ≡ noted l.fn.first (flat_map (λ x. unknown_in_item (types_told l.types) (is_among l.procedures) x.item.now) l.items)

@@ -1,0 +1,8 @@
+pub mod ByName
+pub mod Located
+pub mod Numbers
+pub mod Pointed
+pub mod Ports
+pub mod Scopes
+pub mod Sorted
+pub mod Tables

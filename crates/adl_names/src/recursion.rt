@@ -1,0 +1,245 @@
+//! Instances whose type is the component that they stand in, or holds it.
+
+ghost use Rattle.adl_meaning.specs.Faults.{noted, where_true, at_word};
+ghost use Rattle.adl_meaning.specs.Graph.{InRange, IsAcyclic, is_held};
+ghost use Rattle.adl_meaning.specs.Recursive.{instances_of, number_named, types_of, graph_of, recursive_type, recursive_instance, recursive_in, recursive_among};
+ghost use Rattle.cam_base.specs.declared.code.Code.TheVariants as code;
+ghost use Rattle.adl_names.specs.ByName.{found};
+ghost use Rattle.adl_names.specs.Numbers.{AreBelow};
+ghost use Rattle.adl_names.specs.Located.{trees};
+ghost use Rattle.adl_names.specs.Pointed.{pointed};
+ghost use Rattle.std.specs.List.{flat_map, filter_map, enumerate_from};
+ghost use Rattle.std.specs.Option.{ForSome};
+ghost use Rattle.std.specs.Prelude.{◌≡◌, ◌<◌, ◌^◌, ℕ, List as Seq, true, map, length, IfOk, IfSome, OnOk};
+
+use crate::by_name::NameTable;
+use crate::located::Located;
+use crate::parts::instances;
+use adl_ast::{Component, Id, Instance};
+use adl_meaning::First;
+use cam_base::{Code, List, Name, NoMemory};
+use component_graph::{holds, inner_first};
+use std::alloc::Global;
+
+/// The number of the first component of each name.
+fn numbers<'a>(
+    alloc: Global,
+    components: &[Located<'a, Component>],
+) -> Result<NameTable<'a, u32>, NoMemory>
+    requires { length components.now < 2 ^ 32 }
+    ensures { IfOk result (λ t. (n : Seq ℕ) → found t n ≡ number_named (trees components.now) n) }
+{
+    let mut table = NameTable::new(alloc);
+    for (i, x) in components.iter().enumerate() {
+        table.add(&x.item.id.name, i as u32)?;
+    }
+    Ok(table)
+}
+
+/// The numbers of the components that instances name.
+fn types(
+    alloc: Global,
+    numbers: &NameTable<'_, u32>,
+    instances: &[&Instance],
+) -> Result<List<u32>, NoMemory>
+    ensures { IfOk result (λ ts. ts ≡ filter_map (λ i. found numbers.now i.component.name) (pointed instances.now)) }
+{
+    let mut types = List::new(alloc);
+    for instance in instances {
+        if let Some(number) = numbers.get(&instance.component.name) {
+            types.push(*number)?;
+        }
+    }
+    Ok(types)
+}
+
+fn types_of(
+    alloc: Global,
+    numbers: &NameTable<'_, u32>,
+    component: &Component,
+) -> Result<List<u32>, NoMemory>
+    ensures { IfOk result (λ ts. ts ≡ types_of (found numbers.now) component.now) }
+{
+    let instances = instances(alloc, component)?;
+    types(alloc, numbers, instances.as_slice())
+}
+
+/// The components by number, with the types of their instances.
+fn graph_of(
+    alloc: Global,
+    numbers: &NameTable<'_, u32>,
+    components: &[Located<'_, Component>],
+) -> Result<List<List<u32>>, NoMemory>
+    ensures { IfOk result (λ g. g ≡ graph_of (found numbers.now) (trees components.now)) }
+{
+    let mut graph = List::new(alloc);
+    for x in components {
+        graph.push(types_of(alloc, numbers, x.item)?)?;
+    }
+    Ok(graph)
+}
+
+/// Whether a component is the other or holds it, by the test.
+fn is_held(alloc: Global, graph: &[List<u32>], from: u32, to: u32) -> Result<bool, NoMemory>
+    requires range { InRange graph.now }
+    requires few { length graph.now < 2 ^ 32 }
+    requires from { from < length graph.now }
+    requires to { to < length graph.now }
+    ensures { IfOk result (λ b. b ≡ is_held graph.now from to) }
+{
+    let held = holds(alloc, graph, from, to)?;
+    Ok(held)
+}
+
+fn note_where(alloc: Global, held: bool, word: &Id, first: &mut First) -> Result<(), NoMemory>
+    ensures { OnOk result (first.new ≡ noted first.old (where_true held (at_word code.Recursive word.now))) }
+{
+    if held {
+        first.note(alloc, Code::Recursive, word.place, word.name.as_bytes())?;
+    }
+    Ok(())
+}
+
+/// Notes an instance in a component, by the number of its type.
+fn note_type(
+    alloc: Global,
+    graph: &[List<u32>],
+    component: u32,
+    instance: &Instance,
+    number: Option<u32>,
+    first: &mut First,
+) -> Result<(), NoMemory>
+    requires range { InRange graph.now }
+    requires few { length graph.now < 2 ^ 32 }
+    requires component { component < length graph.now }
+    requires number { ForSome number (λ t. t < length graph.now) }
+    ensures { OnOk result (first.new ≡ noted first.old (recursive_type graph.now component instance.now number)) }
+{
+    let Some(number) = number else {
+        return Ok(());
+    };
+    let held = is_held(alloc, graph, number, component)?;
+    note_where(alloc, held, &instance.component, first)?;
+    Ok(())
+}
+
+fn note_instance(
+    alloc: Global,
+    numbers: &NameTable<'_, u32>,
+    graph: &[List<u32>],
+    component: u32,
+    instance: &Instance,
+    first: &mut First,
+) -> Result<(), NoMemory>
+    requires range { InRange graph.now }
+    requires few { length graph.now < 2 ^ 32 }
+    requires component { component < length graph.now }
+    requires numbers { AreBelow (found numbers.now) (length graph.now) }
+    ensures { OnOk result (first.new ≡ noted first.old (recursive_instance (found numbers.now) graph.now component instance.now)) }
+{
+    let number = numbers.get(&instance.component.name).copied();
+    note_type(alloc, graph, component, instance, number, first)
+}
+
+fn note_instances(
+    alloc: Global,
+    numbers: &NameTable<'_, u32>,
+    graph: &[List<u32>],
+    component: u32,
+    instances: &[&Instance],
+    first: &mut First,
+) -> Result<(), NoMemory>
+    requires range { InRange graph.now }
+    requires few { length graph.now < 2 ^ 32 }
+    requires component { component < length graph.now }
+    requires numbers { AreBelow (found numbers.now) (length graph.now) }
+    ensures { OnOk result (first.new ≡ noted first.old (flat_map (recursive_instance (found numbers.now) graph.now component) (pointed instances.now))) }
+{
+    for instance in instances {
+        note_instance(alloc, numbers, graph, component, instance, first)?;
+    }
+    Ok(())
+}
+
+fn note_component(
+    alloc: Global,
+    numbers: &NameTable<'_, u32>,
+    graph: &[List<u32>],
+    number: u32,
+    component: &Component,
+    first: &mut First,
+) -> Result<(), NoMemory>
+    requires range { InRange graph.now }
+    requires few { length graph.now < 2 ^ 32 }
+    requires number { number < length graph.now }
+    requires numbers { AreBelow (found numbers.now) (length graph.now) }
+    ensures { OnOk result (first.new ≡ noted first.old (recursive_in (found numbers.now) graph.now number component.now)) }
+{
+    let instances = instances(alloc, component)?;
+    note_instances(alloc, numbers, graph, number, instances.as_slice(), first)?;
+    Ok(())
+}
+
+fn note_each(
+    alloc: Global,
+    numbers: &NameTable<'_, u32>,
+    graph: &[List<u32>],
+    components: &[Located<'_, Component>],
+    first: &mut First,
+) -> Result<(), NoMemory>
+    requires range { InRange graph.now }
+    requires few { length graph.now < 2 ^ 32 }
+    requires all { length components.now ≡ length graph.now }
+    requires numbers { AreBelow (found numbers.now) (length graph.now) }
+    ensures { OnOk result (first.new ≡ noted first.old (flat_map (λ x. recursive_in (found numbers.now) graph.now x.0 x.1) (enumerate_from 0 (trees components.now)))) }
+{
+    for (i, x) in components.iter().enumerate() {
+        note_component(alloc, numbers, graph, i as u32, x.item, first)?;
+    }
+    Ok(())
+}
+
+/// Whether it is seen in one go that no component holds itself.
+fn is_acyclic(alloc: Global, graph: &[List<u32>]) -> Result<bool, NoMemory>
+    requires range { InRange graph.now }
+    requires few { length graph.now < 2 ^ 32 }
+    ensures { IfOk result (λ b. b ≡ true → IsAcyclic graph.now) }
+{
+    match inner_first(alloc, graph)? {
+        Some(_) => Ok(true),
+        None => Ok(false),
+    }
+}
+
+fn note_among(
+    alloc: Global,
+    numbers: &NameTable<'_, u32>,
+    components: &[Located<'_, Component>],
+    first: &mut First,
+) -> Result<(), NoMemory>
+    requires few { length components.now < 2 ^ 32 }
+    requires numbers { AreBelow (found numbers.now) (length components.now) }
+    ensures { OnOk result (first.new ≡ noted first.old (recursive_among (found numbers.now) (trees components.now))) }
+{
+    let graph = graph_of(alloc, numbers, components)?;
+    if is_acyclic(alloc, graph.as_slice())? {
+        return Ok(());
+    }
+    note_each(alloc, numbers, graph.as_slice(), components, first)?;
+    Ok(())
+}
+
+/// Notes each instance whose type is the component that it stands in, or holds it. Where no component holds itself,
+/// that is seen in one go.
+pub fn note_recursive(
+    alloc: Global,
+    components: &[Located<'_, Component>],
+    first: &mut First,
+) -> Result<(), NoMemory>
+    requires { length components.now < 2 ^ 32 }
+    ensures { OnOk result (first.new ≡ noted first.old (recursive_among (number_named (trees components.now)) (trees components.now))) }
+{
+    let numbers = numbers(alloc, components)?;
+    note_among(alloc, &numbers, components, first)?;
+    Ok(())
+}

@@ -1,0 +1,4 @@
+pub mod AllJoined
+pub mod Exports
+pub mod Inwards
+pub mod OutlineTables

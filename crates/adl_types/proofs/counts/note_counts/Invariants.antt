@@ -1,0 +1,10 @@
+use Rattle.std.proofs.Common.{◌≡◌, drop, map, option_map}
+use Rattle.std.specs.List.{flat_map}
+use Rattle.adl_meaning.specs.Faults.{noted}
+use Rattle.adl_types.specs.EndCount.{wrong_count}
+use Rattle.adl_types.specs.Told.{all_told}
+use Rattle.adl_types.proofs.counts.note_counts.Given as goal
+
+abbrev pub invariant-loop-connection : goal.invariant-loop-connection
+invariant-loop-connection l =
+    noted l.first (flat_map wrong_count (all_told (drop l.connection-index l.joined))) ≡ noted l.fn.first (flat_map wrong_count (all_told l.joined))

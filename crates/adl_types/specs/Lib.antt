@@ -1,0 +1,7 @@
+pub mod EndCount
+pub mod Joined
+pub mod Kind
+pub mod LeafPort
+pub mod Told
+pub mod TypeFaults
+pub mod TypeMismatch

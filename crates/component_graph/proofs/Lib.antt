@@ -1,0 +1,4 @@
+pub mod GraphLemmas
+pub mod Marks
+pub mod Rounds
+pub mod Through

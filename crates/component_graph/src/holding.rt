@@ -1,0 +1,42 @@
+//! Whether a component holds another.
+
+ghost use Rattle.adl_meaning.specs.Graph.{has, InRange, Holds};
+ghost use Rattle.component_graph.specs.Placing.{HasMore};
+ghost use Rattle.std.specs.Prelude.{◌≡◌, ◌<◌, ◌^◌, ℕ, true, false, length, IfOk, OnOk};
+
+use crate::NumberSet;
+use cam_base::{List, NoMemory};
+use std::alloc::Global;
+
+/// Adds those that aren't there.
+fn add_new(inner: &[u32], found: &mut NumberSet) -> Result<(), NoMemory>
+    requires { (c : ℕ) → has inner.now c ≡ true → c < found.old.size }
+    ensures { OnOk result (HasMore inner.now found.old found.new) }
+{
+    for c in inner {
+        if !found.contains(*c) {
+            found.insert(*c)?;
+        }
+    }
+    Ok(())
+}
+
+/// Whether the component is the other, or holds it, directly or through others.
+pub fn holds(alloc: Global, graph: &[List<u32>], from: u32, to: u32) -> Result<bool, NoMemory>
+    requires range { InRange graph.now }
+    requires few { length graph.now < 2 ^ 32 }
+    requires from { from < length graph.now }
+    requires to { to < length graph.now }
+    ensures yes { IfOk result (λ b. b ≡ true → Holds graph.now from to) }
+    ensures no { IfOk result (λ b. b ≡ false → Holds graph.now from to → ⊥) }
+{
+    let mut found = NumberSet::new(alloc, graph.len() as u32)?;
+    found.insert(from)?;
+    let mut next = 0;
+    while next < found.list().len() {
+        let a = found.list()[next];
+        add_new(graph[a as usize].as_slice(), &mut found)?;
+        next += 1;
+    }
+    Ok(found.contains(to))
+}

@@ -1,0 +1,2 @@
+pub mod RowAuthorities
+pub mod Sets

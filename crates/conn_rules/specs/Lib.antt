@@ -1,0 +1,3 @@
+pub mod Confer
+pub mod Ends
+pub mod Row
