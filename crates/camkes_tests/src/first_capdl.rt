@@ -30,7 +30,7 @@ const REFUSED: [(&str, &str, &str); 8] = [
     (
         "component Server s",
         "component Sever s",
-        "r.camkes:0-0: E10 Unknown\n",
+        "r.camkes:155-160: E10 Unknown Sever\n",
     ),
     ("; } }\n", "; } \n", "r.camkes:212-212: E4 Syntax\n"),
     (
@@ -41,12 +41,16 @@ const REFUSED: [(&str, &str, &str); 8] = [
     (
         "seL4RPCCall",
         "seL4Notification",
-        "r.camkes:0-0: E32 Unbuilt\n",
+        "r.camkes:200-203: E14 Kind e\n",
     ),
-    ("seL4RPCCall", "seL4Call", "r.camkes:0-0: E10 Unknown\n"),
-    ("from c.e", "from c.f", "r.camkes:0-0: E10 Unknown\n"),
-    ("from c.e", "from s.e", "r.camkes:0-0: E32 Unbuilt\n"),
-    ("Server s", "Server c", "r.camkes:0-0: E10 Unknown\n"),
+    (
+        "seL4RPCCall",
+        "seL4Call",
+        "r.camkes:176-184: E10 Unknown seL4Call\n",
+    ),
+    ("from c.e", "from c.f", "r.camkes:197-198: E10 Unknown f\n"),
+    ("from c.e", "from s.e", "r.camkes:195-198: E14 Kind e\n"),
+    ("Server s", "Server c", "r.camkes:162-163: E9 Duplicate c\n"),
 ];
 
 #[test]

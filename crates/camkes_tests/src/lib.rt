@@ -12,6 +12,8 @@ mod imports;
 #[cfg(test)]
 mod machine_runs;
 #[cfg(test)]
+mod names;
+#[cfg(test)]
 mod outputs_and_inputs_fail;
 #[cfg(test)]
 mod program_words;

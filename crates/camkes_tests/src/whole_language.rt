@@ -35,7 +35,7 @@ fn numbers_and_nesting(rt: HostRuntime) -> Result<(), Fail> {
         ),
         (
             "component A { attribute int n = 18446744073709551615; }",
-            "x.camkes:0-0: E32 Unbuilt\n",
+            "x.camkes:0-0: E8 NoAssembly\n",
         ),
         (
             "component A { attribute int n = [[[[[[[[[[[[[[[[[[[[[[[[[[[[[[[[{}]]]]]]]]]]]]]]]]]]]]]]]]]]]]]]]]; }",
@@ -43,7 +43,7 @@ fn numbers_and_nesting(rt: HostRuntime) -> Result<(), Fail> {
         ),
         (
             "component A { attribute int n = [[[[[[[[[[[[[[[[[[[[[[[[[[[[[[[[5]]]]]]]]]]]]]]]]]]]]]]]]]]]]]]]]; }",
-            "x.camkes:0-0: E32 Unbuilt\n",
+            "x.camkes:0-0: E8 NoAssembly\n",
         ),
     ] {
         assert!(rt; is_refused(rt.alloc(), source, line)?, "{source}");
@@ -59,6 +59,10 @@ fn syntax_and_missing_names(rt: HostRuntime) -> Result<(), Fail> {
         ("component A { } @", "x.camkes:16-17: E1 Byte\n"),
         ("struct S { }", "x.camkes:0-6: E31 LeftOut\n"),
         ("import \"y\";", "x.camkes:7-10: E5 NoFile y\n"),
+        (
+            "assembly { composition { component A a; } }",
+            "x.camkes:35-36: E10 Unknown A\n",
+        ),
         ("", "x.camkes:0-0: E5 NoFile x.camkes\n"),
     ] {
         assert!(rt; is_refused(rt.alloc(), source, line)?, "{source}");

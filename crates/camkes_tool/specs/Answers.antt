@@ -14,7 +14,7 @@ use Rattle.command_words.specs.Lines.{usage_line}
 use Rattle.command_words.specs.Words.{read_words}
 use Rattle.command_words.specs.declared.command.Command.{Command}
 use Rattle.command_words.specs.declared.command.Command.TheVariants.{Compile}
-use Rattle.camkes_tool.specs.Fits.{IsLaidOut, IsInTheWay, name_of_file}
+use Rattle.camkes_tool.specs.Fits.{IsCompiledTo, IsInTheWay, name_of_file}
 use Rattle.camkes_tool.specs.Lines.{fault_line, read_fault_line, no_memory_line}
 use Rattle.camkes_tool.specs.declared.answer.Answer.{Answer}
 use Rattle.camkes_tool.specs.declared.answer.Answer.TheVariants.{Compiled, Faulted, Usage, ReadFault, NoMemory}
@@ -29,7 +29,7 @@ IsRefused root contents file fault =
 -- exclude each other, so each comes exactly where it says, and yields to a read fault and to want of memory alone.
 abbrev pub FitsRoot : List ℕ → List ℕ → Option Contents → (List ℕ → ℕ) → (List ℕ → ℕ) → Answer → Type 0
 FitsRoot root base contents before now (Compiled name spec) =
-    (source : Source) × (string_bytes name ≡ base ++ codes ".cdl") × IsLoaded contents root (Ok source) × IsLaidOut source spec
+    (source : Source) × (string_bytes name ≡ base ++ codes ".cdl") × IsLoaded contents root (Ok source) × IsCompiledTo source spec
 FitsRoot root base contents before now (Faulted file fault) = IsRefused root contents file fault
 FitsRoot root base contents before now Usage = ⊥
 FitsRoot root base contents before now (ReadFault file) = IsLoaded contents root (Err (error.ReadFault file)) × Rose (before file) (now file)

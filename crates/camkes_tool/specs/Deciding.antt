@@ -3,12 +3,12 @@ use Rattle.std.specs.Prelude.{◌≡◌, ℕ, List, ◌++◌, codes, string_byte
 use Rattle.cam_base.specs.declared.place.Fault.{Fault}
 use Rattle.adl_ast.specs.declared.source.Source.{Source}
 use Rattle.cap_model.specs.declared.spec.Spec.{Spec}
-use Rattle.camkes_tool.specs.Fits.{IsLaidOut, IsInTheWay, name_of_file}
+use Rattle.camkes_tool.specs.Fits.{IsCompiledTo, IsInTheWay, name_of_file}
 use Rattle.camkes_tool.specs.declared.answer.Answer.{Answer}
 use Rattle.camkes_tool.specs.declared.answer.Answer.TheVariants.{Compiled, Faulted, Usage, ReadFault, NoMemory}
 
 abbrev pub IsAnswer : List ℕ → Source → Answer → Type 0
-IsAnswer base source (Compiled name spec) = (string_bytes name ≡ base ++ codes ".cdl") × IsLaidOut source spec
+IsAnswer base source (Compiled name spec) = (string_bytes name ≡ base ++ codes ".cdl") × IsCompiledTo source spec
 IsAnswer base source (Faulted file fault) = IsInTheWay source fault × (file ≡ name_of_file source fault.place.file)
 IsAnswer base source Usage = ⊥
 IsAnswer base source (ReadFault file) = ⊥

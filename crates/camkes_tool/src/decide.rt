@@ -1,3 +1,4 @@
+ghost use Rattle.adl_meaning.specs.Items.{AreFew};
 ghost use Rattle.cam_io.specs.Reading.{KeepsFiles};
 ghost use Rattle.camkes_tool.specs.Answers.{Fits, FitsRoot};
 ghost use Rattle.camkes_tool.specs.Deciding.{IsAnswer, IsCompiled, IsFaulted};
@@ -43,6 +44,7 @@ fn compile<F: Files>(alloc: Global, root: &str, base: &str, files: &mut F) -> An
 
 /// What is said of a source.
 fn answer(alloc: Global, base: &str, source: &Source) -> Answer
+    requires { AreFew source.now }
     ensures { IsAnswer base.now source.now result }
 {
     match judge(alloc, source) {

@@ -8,7 +8,7 @@ use Rattle.little_layout.proofs.Holds.{holds, only_endpoints}
 use Rattle.little_layout.proofs.Kept.{kept}
 use Rattle.little_layout.specs.Held.{HoldsWhatIsAssigned, HoldsOnlyEndpoints}
 use Rattle.little_layout.specs.Layout.{spec_of}
-use Rattle.camkes_tool.proofs.judge.judge.Goals as goal
+use Rattle.camkes_tool.proofs.judge.lay_out.Goals as goal
 
 pub returns : goal.returns
 returns c =
