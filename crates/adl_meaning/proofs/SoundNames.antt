@@ -1,5 +1,5 @@
 -- Where no fault of names stands.
-use Rattle.std.proofs.Common.{◌≡◌, List, [], ◌∷◌, ◌++◌, None, Option, refl}
+use Rattle.std.proofs.Common.{◌≡◌, List, [], ◌∷◌, ◌++◌, None, refl}
 use Rattle.cam_base.specs.declared.place.Fault.{Fault}
 use Rattle.adl_ast.specs.declared.composition.Assembly.{Assembly}
 use Rattle.adl_ast.specs.declared.source.Source.{Source}

@@ -7,7 +7,7 @@
 --
 -- Its name is the last word of the dotted name. Where a name or a type is unknown there is no inner interface to look at.
 use Rattle.std.specs.Prelude.{ℕ, ◌-◌, length, ◌==◌, Bool, true, false, ◌||◌, ◌&&◌, not, if◌then◌else◌, List, [], ◌∷◌, ◌++◌, Option, Some, None, is_some, option_map, unwrap_or}
-use Rattle.std.specs.List.{flat_map, filter_map, list_any, slice_get}
+use Rattle.std.specs.List.{flat_map, slice_get}
 use Rattle.std.specs.Option.{option_and_then, option_map_or, is_none}
 use Rattle.std.specs.Str.{bytes_eq}
 use Rattle.cam_base.specs.declared.code.Code.TheVariants as code
@@ -27,7 +27,7 @@ use Rattle.adl_ast.specs.declared.id.Id.{Id}
 use Rattle.adl_ast.specs.declared.source.Source.{Source}
 use Rattle.adl_meaning.specs.Faults.{where_true}
 use Rattle.adl_meaning.specs.Holding.{Held, an_instance, a_group, a_connection, held_as, connections_in, exports_in}
-use Rattle.adl_meaning.specs.Known.{Known, known_of, known_in, is_target}
+use Rattle.adl_meaning.specs.Known.{Known, known_of, known_in}
 use Rattle.adl_meaning.specs.Items.{Name, items_of}
 use Rattle.adl_meaning.specs.Members.{compositions}
 

@@ -1,7 +1,7 @@
 -- The items of a source, and what the names of procedures and components stand for: the first item of the name, where
 -- files count in their order and items in theirs. One name may be that of a procedure and of a component.
-use Rattle.std.specs.Prelude.{ℕ, List, map, Option, Some, None, option_map, ◌≤◌, length}
-use Rattle.std.specs.List.{flat_map, filter_map, find, enumerate_from, All}
+use Rattle.std.specs.Prelude.{◌≡◌, ◌==◌, ◌≤◌, ℕ, Bool, true, if◌then◌else◌, nat_lt, List, [], ◌∷◌, map, length, Option, Some, None, option_map}
+use Rattle.std.specs.List.{flat_map, filter_map, find, enumerate_from, All, AllByRecursion}
 use Rattle.std.specs.Str.{bytes_eq}
 use Rattle.adl_ast.specs.declared.component.Component.{Component}
 use Rattle.adl_ast.specs.declared.composition.Assembly.{Assembly}
@@ -65,6 +65,17 @@ component_named s n = find (λ c. bytes_eq n c.1.id.name) (components s)
 -- the component that the name stands for
 abbrev pub component_of : Source → Name → Option Component
 component_of s n = option_map (λ c. c.1) (component_named s n)
+
+-- ---- order
+
+-- the item a stands before the item b: in an earlier file, or earlier in its file
+abbrev pub stands_before : ItemAt → ItemAt → Bool
+stands_before a b = if a.file == b.file then nat_lt a.item b.item else nat_lt a.file b.file
+
+-- the places are those of items in source order, none twice
+abbrev pub Rises : List ItemAt → Type 0
+Rises [] = Unit {0}
+Rises (a ∷ more) = AllByRecursion (λ b. stands_before a b ≡ true) more × Rises more
 
 -- ---- how many there may be
 

@@ -1,7 +1,7 @@
 //! What the definitions promise together, as functions that do nothing.
 
 ghost use Rattle.adl_meaning.specs.Connectors.{text_of, connector_of};
-ghost use Rattle.adl_meaning.specs.Faults.{precedes, earlier, least, noted};
+ghost use Rattle.adl_meaning.specs.Faults.{precedes, least, noted};
 ghost use Rattle.adl_meaning.specs.Lists.{IsIn};
 ghost use Rattle.adl_ast.specs.declared.source.Source.{Source as Tree};
 ghost use Rattle.adl_meaning.specs.NameFaults.{first_name_fault, AreNamesSound};

@@ -1,4 +1,7 @@
-use crate::{Connector, First, is_prefix};
+use crate::{
+    Connector, First, connectors_are_their_words, first_is_first, is_prefix, noted_is_least,
+    sound_names_have_no_fault,
+};
 use cam_base::{Code, Name, Path, Place};
 use std::alloc::Global;
 use std::test::Fail;
@@ -59,4 +62,12 @@ fn the_first_fault_is_kept(rt: HostRuntime) -> Result<(), Fail> {
     assert_eq!(rt; (fault.code, fault.place), (Code::Unknown, at(0, 7)));
     assert_eq!(rt; fault.name.as_bytes(), b"a".as_slice());
     Ok(())
+}
+
+#[test]
+fn laws_do_nothing() {
+    first_is_first();
+    noted_is_least();
+    sound_names_have_no_fault();
+    connectors_are_their_words();
 }

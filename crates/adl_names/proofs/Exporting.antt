@@ -1,5 +1,5 @@
 -- Noting exports one after another.
-use Rattle.std.proofs.Common.{◌≡◌, ◌<◌, ◌+◌, ◌||◌, ℕ, Bool, List, length, get_or, drop, ◌∷◌, ◌++◌, Option, sym, ◌∙◌, ap, Bor}
+use Rattle.std.proofs.Common.{◌≡◌, ◌<◌, ◌+◌, ◌||◌, ℕ, Bool, List, length, get_or, drop, Option, sym, ◌∙◌, ap, Bor}
 use Rattle.std.specs.Str.{bytes_eq}
 use Rattle.cam_base.specs.declared.place.Fault.{Fault}
 use Rattle.adl_ast.specs.declared.composition.Export.{Export}

@@ -1,9 +1,10 @@
-pub mod ComponentNumbers
 pub mod Exporting
+pub mod Filling
 pub mod HeldNames
 pub mod NameLookups
 pub mod PortSets
 pub mod Repeating
+pub mod Rising
 pub mod TableSteps
 pub mod TablesTold
 pub mod Whole

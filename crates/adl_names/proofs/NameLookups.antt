@@ -38,15 +38,19 @@ pub found-entries : {V : Type 0} (es : List (Bor (List ℕ) × V)) (n : Name) �
 found-entries [] n = refl
 found-entries (e ∷ es) n = ap (λ z. cond (bytes_eq n e.0.now) (Some e.1) z) (found-entries es n)
 
-or_none : {V : Type 0} (o : Option V) → o ≡ option_or o None
+pub none_of : {V : Type 0} (o : Option V) → is_some o ≡ false → o ≡ None
+none_of None e = refl
+none_of (Some x) e = cc
+
+pub or_none : {V : Type 0} (o : Option V) → o ≡ option_or o None
 or_none None = refl
 or_none (Some x) = refl
 
-or_some : {V : Type 0} (o : Option V) (x : V) → is_some o ≡ false → Some x ≡ option_or o (Some x)
+pub or_some : {V : Type 0} (o : Option V) (x : V) → is_some o ≡ false → Some x ≡ option_or o (Some x)
 or_some None x e = refl
 or_some (Some y) x e = absurd (true≢false e)
 
-or_kept : {V : Type 0} (o p : Option V) → is_some o ≡ true → o ≡ option_or o p
+pub or_kept : {V : Type 0} (o p : Option V) → is_some o ≡ true → o ≡ option_or o p
 or_kept None p e = cc
 or_kept (Some y) p e = refl
 

@@ -1,5 +1,5 @@
 -- Noting words whose name an earlier one has.
-use Rattle.std.proofs.Common.{◌≡◌, ◌<◌, ◌+◌, ◌||◌, ℕ, List, length, get_or, drop, [], ◌∷◌, ◌++◌, map, Option, sym, ◌∙◌, ap, Bor}
+use Rattle.std.proofs.Common.{◌≡◌, ◌<◌, ◌+◌, ◌||◌, ℕ, List, length, get_or, drop, Option, sym, ◌∙◌, ap, Bor}
 use Rattle.std.specs.Str.{bytes_eq}
 use Rattle.cam_base.specs.declared.code.Code.TheVariants as code
 use Rattle.cam_base.specs.declared.place.Fault.{Fault}

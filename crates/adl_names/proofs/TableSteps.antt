@@ -20,7 +20,7 @@ option_or-assoc : {V : Type 0} (a b c : Option V) → option_or (option_or a b) 
 option_or-assoc None b c = refl
 option_or-assoc (Some x) b c = refl
 
-map-option_or : {V W : Type 0} (f : V → W) (a b : Option V) → option_map f (option_or a b) ≡ option_or (option_map f a) (option_map f b)
+pub map-option_or : {V W : Type 0} (f : V → W) (a b : Option V) → option_map f (option_or a b) ≡ option_or (option_map f a) (option_map f b)
 map-option_or f None b = refl
 map-option_or f (Some x) b = refl
 

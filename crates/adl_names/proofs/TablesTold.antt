@@ -1,9 +1,9 @@
 -- What is known of a component, from its tables.
-use Rattle.std.proofs.Common.{◌≡◌, ◌∙◌, Bool, sym, ap, List, Option, Some, None, option_map}
+use Rattle.std.proofs.Common.{◌≡◌, ◌∙◌, sym, ap, List, Some, option_map}
 use Rattle.std.specs.Option.{option_and_then}
 use Rattle.adl_ast.specs.declared.component.Component.{Component}
 use Rattle.adl_ast.specs.declared.composition.Composition.{Composition}
-use Rattle.adl_meaning.specs.Holding.{Held, held_as, exports_in}
+use Rattle.adl_meaning.specs.Holding.{held_as, exports_in}
 use Rattle.adl_meaning.specs.Items.{Name}
 use Rattle.adl_meaning.specs.Known.{known_of, is_exported, is_target}
 use Rattle.adl_meaning.specs.Members.{as_interface, as_attribute, declared_as, interface_of, attribute_of, composition_of}

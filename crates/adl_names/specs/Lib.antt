@@ -1,6 +1,6 @@
 pub mod ByName
 pub mod Located
-pub mod Numbers
+pub mod Places
 pub mod Pointed
 pub mod Ports
 pub mod Scopes

@@ -1,5 +1,5 @@
 -- What tables of trees tell, as definitions speak of it.
-use Rattle.std.specs.Prelude.{ℕ, Bool, List, Option, Some, None, option_map}
+use Rattle.std.specs.Prelude.{List, Option, option_map}
 use Rattle.std.specs.Borrow.{Bor}
 use Rattle.std.specs.List.{find}
 use Rattle.std.specs.Option.{option_and_then}

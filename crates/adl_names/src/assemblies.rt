@@ -3,7 +3,7 @@
 ghost use Rattle.adl_meaning.specs.Faults.{noted, at_keyword, where_true};
 ghost use Rattle.adl_names.specs.Located.{located};
 ghost use Rattle.cam_base.specs.declared.code.Code.TheVariants as code;
-ghost use Rattle.std.specs.Prelude.{◌≡◌, ◌∷◌, [], ◌==◌, map, drop, length, OnOk};
+ghost use Rattle.std.specs.Prelude.{◌≡◌, ◌==◌, map, drop, length, OnOk};
 
 use crate::located::Located;
 use adl_ast::Assembly;

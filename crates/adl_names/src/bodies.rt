@@ -2,7 +2,7 @@
 
 ghost use Rattle.adl_meaning.specs.CompositeBody.{is_composition, is_hardware, is_composite, is_device, body_fault, misplaced_member, misplaced_in_component, misplaced_in_item};
 ghost use Rattle.adl_meaning.specs.Faults.{noted, where_true};
-ghost use Rattle.std.specs.List.{flat_map, list_any};
+ghost use Rattle.std.specs.List.{flat_map};
 ghost use Rattle.std.specs.Prelude.{◌≡◌, OnOk};
 
 use crate::located::Located;

@@ -79,11 +79,18 @@ impl<'a, V: Drop> NameTable<'a, V> {
         }
     }
 
+    /// What the bytes stand for, which needn't be a name.
+    pub fn get_bytes(&self, bytes: &[u8]) -> Option<&V>
+        ensures { option_copied result ≡ found self.now bytes.now }
+    {
+        self.entries.get(bytes)
+    }
+
     /// What the name stands for.
     pub fn get(&self, name: &Name) -> Option<&V>
         ensures { option_copied result ≡ found self.now name.now }
     {
-        self.entries.get(name.as_bytes())
+        self.get_bytes(name.as_bytes())
     }
 
     /// Puts a value under its name, where the name has none yet.

@@ -1,8 +1,7 @@
 //! Exports that fit no interface, and ports of composites that no export gives.
 
-ghost use Rattle.adl_meaning.specs.Export.{Port as PortOf, instance_held, member_held, port_of, interface_at, same_kind, same_interface, differs, ends_in, is_unled, inner_of, is_port, last_name, export_fault, is_misfit_at, is_misfit, misfits_after, unled_end, unled_ends, misfits_in_composition, misfits_in_item};
+ghost use Rattle.adl_meaning.specs.Export.{Port as PortOf, instance_held, member_held, port_of, interface_at, same_interface, differs, ends_in, is_unled, inner_of, is_port, last_name, export_fault, is_misfit_at, is_misfit, misfits_after, unled_end, unled_ends, misfits_in_composition, misfits_in_item};
 ghost use Rattle.adl_meaning.specs.Faults.{noted, where_true};
-ghost use Rattle.adl_meaning.specs.Holding.{held_as, connections_in, exports_in};
 ghost use Rattle.adl_meaning.specs.Known.{known_of};
 ghost use Rattle.adl_meaning.specs.Members.{compositions};
 ghost use Rattle.std.specs.Str.{bytes_eq};
@@ -11,20 +10,18 @@ ghost use Rattle.adl_names.specs.Pointed.{pointed};
 ghost use Rattle.adl_names.specs.Scopes.{owner_told};
 ghost use Rattle.adl_names.specs.Ports.{port_told, is_port_among};
 ghost use Rattle.adl_names.specs.Tables.{held_told, holding_told, known_told, types_told};
-ghost use Rattle.std.specs.List.{flat_map, filter_map, list_any};
+ghost use Rattle.std.specs.List.{flat_map};
 ghost use Rattle.std.specs.Option.{option_copied, option_and_then, option_map_or};
-ghost use Rattle.std.specs.Prelude.{◌≡◌, ◌||◌, ℕ, List as Seq, false, ◌++◌, ◌∷◌, [], None, Some, option_map, is_some, OnOk};
+ghost use Rattle.std.specs.Prelude.{◌≡◌, ◌||◌, ℕ, List as Seq, false, Some, option_map, OnOk};
 
 use crate::by_name::{NameSet, NameTable};
 use crate::located::Located;
 use crate::parts::{compositions, connections, exports};
 use crate::port::{Port, PortSet};
 use crate::scope::Types;
-use crate::tables::{ComponentTable, Held, holding, table_of};
-use crate::unknown::interface;
+use crate::tables::{ComponentTable, Held, holding, interface, table_of};
 use adl_ast::{
-    Assembly, Component, Composition, Connection, End, Export, Id, Instance, Interface,
-    InterfaceKind, Item, Line, Member,
+    Assembly, Component, Composition, Connection, End, Export, Id, Instance, Interface, Item,
 };
 use adl_meaning::First;
 use cam_base::{Code, Name, NoMemory, Place};
@@ -83,20 +80,14 @@ fn interface_at<'a>(types: &Types<'a>, port: Port<'a>) -> Option<&'a Interface>
 {
     match types.get(&port.instance.component.name) {
         None => None,
-        Some(table) => interface(table, port.interface),
+        Some(table) => interface(&table.declared, port.interface),
     }
-}
-
-fn same_kind(a: InterfaceKind, b: InterfaceKind) -> bool
-    ensures { result ≡ same_kind a b }
-{
-    a == b
 }
 
 fn same_interface(a: &Interface, b: &Interface) -> bool
     ensures { result ≡ same_interface a.now b.now }
 {
-    same_kind(a.kind, b.kind)
+    a.kind == b.kind
         && (a.word.name == b.word.name && a.size.unwrap_or(4096) == b.size.unwrap_or(4096))
 }
 
@@ -113,7 +104,8 @@ fn differs(inner: Option<&Interface>, target: Option<&Interface>) -> bool
 fn ends_in(table: &ComponentTable<'_>, name: &Name) -> bool
     ensures { result ≡ ends_in (known_told table.now) name.now }
 {
-    interface(table, name).is_some() && (table.holding.is_some() && !table.targets.contains(name))
+    interface(&table.declared, name).is_some()
+        && (table.holding.is_some() && !table.targets.contains(name))
 }
 
 /// Whether the port is one of a composite's that no export gives.
@@ -153,7 +145,7 @@ fn target<'a>(owner: Option<&ComponentTable<'a>>, name: &Name) -> Option<&'a Int
 {
     match owner {
         None => None,
-        Some(table) => interface(table, name),
+        Some(table) => interface(&table.declared, name),
     }
 }
 

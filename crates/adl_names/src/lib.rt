@@ -27,4 +27,5 @@ pub use located::{Located, all_items, components};
 pub use names::{Names, resolve};
 pub use parts::{compositions, connections};
 pub use port::Port;
-pub use tables::{Declared, Held, composition_of, declaring, holding};
+pub use recursion::component_numbers;
+pub use tables::{Declared, Held, attribute, composition_of, declaring, holding, interface};

@@ -2,8 +2,8 @@
 
 ghost use Rattle.adl_meaning.specs.Items.{items_in, items_of, as_procedure, as_component, as_assembly, AreFew};
 ghost use Rattle.adl_names.specs.Located.{located};
-ghost use Rattle.std.specs.List.{flat_map, filter_map, enumerate_from};
-ghost use Rattle.std.specs.Prelude.{◌≡◌, ◌<◌, ◌^◌, ◌++◌, ◌∷◌, [], map, length, OnOk, IfOk};
+ghost use Rattle.std.specs.List.{filter_map};
+ghost use Rattle.std.specs.Prelude.{◌≡◌, ◌<◌, ◌^◌, ◌++◌, map, length, OnOk, IfOk};
 
 use adl_ast::{Assembly, Component, Item, Procedure, Source, SourceFile};
 use adl_meaning::ItemAt;

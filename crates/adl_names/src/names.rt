@@ -1,25 +1,26 @@
 //! What the names of a source stand for, or the first fault of names.
 
 ghost use Rattle.adl_meaning.specs.Faults.{noted, Refuses};
-ghost use Rattle.adl_meaning.specs.Items.{items_of, procedures, components, assemblies, procedure_named, component_named, AreFew};
+ghost use Rattle.adl_meaning.specs.Items.{procedures, components, assemblies, procedure_named, component_named, AreFew, Rises};
 ghost use Rattle.adl_meaning.specs.Known.{known_in};
 ghost use Rattle.adl_meaning.specs.NameFaults.{first_name_fault, AreNamesSound};
 ghost use Rattle.adl_meaning.specs.SecondAssembly.{second_assemblies};
 ghost use Rattle.adl_meaning.specs.NoAssembly.{no_assembly};
 ghost use Rattle.adl_meaning.specs.Duplicate.{duplicates};
-ghost use Rattle.adl_meaning.specs.Unknown.{unknown_names, is_procedure};
+ghost use Rattle.adl_meaning.specs.Unknown.{unknown_names};
 ghost use Rattle.adl_meaning.specs.Recursive.{recursive_types};
 ghost use Rattle.adl_meaning.specs.CompositeBody.{composite_bodies};
 ghost use Rattle.adl_meaning.specs.Export.{misfit_exports};
 ghost use Rattle.adl_names.specs.ByName.{is_among};
 ghost use Rattle.adl_names.specs.Located.{located};
+ghost use Rattle.adl_names.specs.Places.{table_places};
 ghost use Rattle.adl_names.specs.Pointed.{pointed};
 ghost use Rattle.adl_names.specs.Sorted.{AreItems};
 ghost use Rattle.adl_names.specs.Tables.{types_told};
 ghost use Rattle.indexmap.specs.IndexMap.{get};
 ghost use Rattle.std.specs.List.{find};
 ghost use Rattle.std.specs.Option.{option_or};
-ghost use Rattle.std.specs.Prelude.{◌≡◌, ◌<◌, ◌^◌, ◌∷◌, ◌++◌, ℕ, List as Seq, [], None, Some, if◌then◌else◌, map, option_map, is_some, length, OnOk, IfOk};
+ghost use Rattle.std.specs.Prelude.{◌≡◌, ◌⊎◌, ◌∷◌, ◌++◌, ℕ, List as Seq, [], None, Some, if◌then◌else◌, map, option_map, is_some, OnOk, IfOk};
 ghost use Rattle.std.specs.Str.{bytes_eq};
 
 use crate::assemblies::{note_none, note_second};
@@ -245,7 +246,8 @@ fn add_place(
     at: ItemAt,
     table: &mut IndexMap<Name, ItemAt>,
 ) -> Result<(), NoMemory>
-    ensures { OnOk result ((n : Seq ℕ) → get bytes_eq table.new n ≡ option_or (get bytes_eq table.old n) (if bytes_eq n name.now then Some at else None)) }
+    ensures first { OnOk result ((n : Seq ℕ) → get bytes_eq table.new n ≡ option_or (get bytes_eq table.old n) (if bytes_eq n name.now then Some at else None)) }
+    ensures places { OnOk result ((table_places table.new ≡ table_places table.old) ⊎ (table_places table.new ≡ table_places table.old ++ at ∷ [])) }
 {
     if !table.contains_key(name) {
         table.insert(name.copy(alloc)?, at)?;
@@ -258,11 +260,13 @@ fn procedure_places(
     alloc: Global,
     procedures: &[Located<'_, Procedure>],
 ) -> Result<IndexMap<Name, ItemAt>, NoMemory>
-    ensures { IfOk result (λ t. (n : Seq ℕ) → get bytes_eq t n ≡ option_map (λ p. p.0) (find (λ p. bytes_eq n p.1.id.name) (map located procedures.now))) }
+    requires { Rises (map (λ x. x.at) procedures.now) }
+    ensures first { IfOk result (λ t. (n : Seq ℕ) → get bytes_eq t n ≡ option_map (λ p. p.0) (find (λ p. bytes_eq n p.1.id.name) (map located procedures.now))) }
+    ensures order { IfOk result (λ t. Rises (table_places t)) }
 {
     let mut table = IndexMap::new(alloc);
-    for x in procedures {
-        add_place(alloc, &x.item.id.name, x.at, &mut table)?;
+    for procedure in procedures {
+        add_place(alloc, &procedure.item.id.name, procedure.at, &mut table)?;
     }
     Ok(table)
 }
@@ -272,11 +276,13 @@ fn component_places(
     alloc: Global,
     components: &[Located<'_, Component>],
 ) -> Result<IndexMap<Name, ItemAt>, NoMemory>
-    ensures { IfOk result (λ t. (n : Seq ℕ) → get bytes_eq t n ≡ option_map (λ c. c.0) (find (λ c. bytes_eq n c.1.id.name) (map located components.now))) }
+    requires { Rises (map (λ x. x.at) components.now) }
+    ensures first { IfOk result (λ t. (n : Seq ℕ) → get bytes_eq t n ≡ option_map (λ c. c.0) (find (λ c. bytes_eq n c.1.id.name) (map located components.now))) }
+    ensures order { IfOk result (λ t. Rises (table_places t)) }
 {
     let mut table = IndexMap::new(alloc);
-    for x in components {
-        add_place(alloc, &x.item.id.name, x.at, &mut table)?;
+    for component in components {
+        add_place(alloc, &component.item.id.name, component.at, &mut table)?;
     }
     Ok(table)
 }
@@ -287,6 +293,8 @@ fn sound_names(alloc: Global, source: &Source, sorted: &Sorted<'_>) -> Result<Na
     requires sound { AreNamesSound source.now }
     ensures procedures { IfOk result (λ names. (n : Seq ℕ) → get bytes_eq names.procedures n ≡ option_map (λ p. p.0) (procedure_named source.now n)) }
     ensures components { IfOk result (λ names. (n : Seq ℕ) → get bytes_eq names.components n ≡ option_map (λ c. c.0) (component_named source.now n)) }
+    ensures procedures_rise { IfOk result (λ names. Rises (table_places names.procedures)) }
+    ensures components_rise { IfOk result (λ names. Rises (table_places names.components)) }
     ensures assembly { IfOk result (λ names. map (λ a. a.0) (assemblies source.now) ≡ names.assembly ∷ []) }
 {
     let _source = source;
@@ -312,6 +320,8 @@ pub fn resolve(alloc: Global, source: &Source) -> Result<Names, Refused<Fault>>
     ensures fault { Refuses result (first_name_fault source.now) }
     ensures procedures { IfOk result (λ names. (n : Seq ℕ) → get bytes_eq names.procedures n ≡ option_map (λ p. p.0) (procedure_named source.now n)) }
     ensures components { IfOk result (λ names. (n : Seq ℕ) → get bytes_eq names.components n ≡ option_map (λ c. c.0) (component_named source.now n)) }
+    ensures procedures_rise { IfOk result (λ names. Rises (table_places names.procedures)) }
+    ensures components_rise { IfOk result (λ names. Rises (table_places names.components)) }
     ensures assembly { IfOk result (λ names. map (λ a. a.0) (assemblies source.now) ≡ names.assembly ∷ []) }
 {
     let sorted = sort(alloc, source)?;

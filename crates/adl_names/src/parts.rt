@@ -2,11 +2,9 @@
 
 ghost use Rattle.adl_meaning.specs.Duplicate.{methods};
 ghost use Rattle.adl_meaning.specs.Holding.{as_held, held_by, held_in, exports_in, connections_in, instances_by, instances_in};
-ghost use Rattle.adl_meaning.specs.Items.{procedures, components};
 ghost use Rattle.adl_meaning.specs.Members.{declared_by, declared_in, compositions, configurations};
 ghost use Rattle.adl_meaning.specs.Recursive.{instances_of};
 ghost use Rattle.adl_names.specs.Pointed.{pointed};
-ghost use Rattle.std.specs.List.{flat_map, filter_map};
 ghost use Rattle.std.specs.Prelude.{◌≡◌, ◌∷◌, ◌++◌, map, IfOk, OnOk};
 
 use adl_ast::{

@@ -2,27 +2,27 @@
 
 ghost use Rattle.adl_meaning.specs.Faults.{noted, where_true, at_word};
 ghost use Rattle.adl_meaning.specs.Graph.{InRange, IsAcyclic, is_held};
-ghost use Rattle.adl_meaning.specs.Recursive.{instances_of, number_named, types_of, graph_of, recursive_type, recursive_instance, recursive_in, recursive_among};
+ghost use Rattle.adl_meaning.specs.Recursive.{number_named, types_of, graph_of, recursive_type, recursive_instance, recursive_in, recursive_among};
 ghost use Rattle.cam_base.specs.declared.code.Code.TheVariants as code;
 ghost use Rattle.adl_names.specs.ByName.{found};
-ghost use Rattle.adl_names.specs.Numbers.{AreBelow};
+ghost use Rattle.component_graph.specs.Numbers.{AreBelow};
 ghost use Rattle.adl_names.specs.Located.{trees};
 ghost use Rattle.adl_names.specs.Pointed.{pointed};
 ghost use Rattle.std.specs.List.{flat_map, filter_map, enumerate_from};
 ghost use Rattle.std.specs.Option.{ForSome};
-ghost use Rattle.std.specs.Prelude.{◌≡◌, ◌<◌, ◌^◌, ℕ, List as Seq, true, map, length, IfOk, IfSome, OnOk};
+ghost use Rattle.std.specs.Prelude.{◌≡◌, ◌<◌, ◌^◌, ℕ, List as Seq, true, length, IfOk, OnOk};
 
 use crate::by_name::NameTable;
 use crate::located::Located;
 use crate::parts::instances;
 use adl_ast::{Component, Id, Instance};
 use adl_meaning::First;
-use cam_base::{Code, List, Name, NoMemory};
+use cam_base::{Code, List, NoMemory};
 use component_graph::{holds, inner_first};
 use std::alloc::Global;
 
 /// The number of the first component of each name.
-fn numbers<'a>(
+pub fn component_numbers<'a>(
     alloc: Global,
     components: &[Located<'a, Component>],
 ) -> Result<NameTable<'a, u32>, NoMemory>
@@ -239,7 +239,7 @@ pub fn note_recursive(
     requires { length components.now < 2 ^ 32 }
     ensures { OnOk result (first.new ≡ noted first.old (recursive_among (number_named (trees components.now)) (trees components.now))) }
 {
-    let numbers = numbers(alloc, components)?;
+    let numbers = component_numbers(alloc, components)?;
     note_among(alloc, &numbers, components, first)?;
     Ok(())
 }

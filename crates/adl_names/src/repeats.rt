@@ -1,12 +1,12 @@
 //! Later ones of equal names, and second compositions and configurations.
 
-ghost use Rattle.adl_meaning.specs.Duplicate.{repeats_after, repeats, again, repeated_params, duplicates_in_procedure, duplicates_in_composition, duplicates_in_component, duplicates_in_item};
+ghost use Rattle.adl_meaning.specs.Duplicate.{repeats, again, repeated_params, duplicates_in_procedure, duplicates_in_composition, duplicates_in_component, duplicates_in_item};
 ghost use Rattle.adl_meaning.specs.Faults.{noted, where_true, at_word, at_keyword};
 ghost use Rattle.adl_names.specs.ByName.{is_among};
 ghost use Rattle.adl_names.specs.Pointed.{pointed};
 ghost use Rattle.cam_base.specs.declared.code.Code.TheVariants as code;
 ghost use Rattle.std.specs.List.{flat_map};
-ghost use Rattle.std.specs.Prelude.{◌≡◌, ◌∷◌, ◌++◌, ◌||◌, [], ℕ, List as Seq, map, drop, OnOk};
+ghost use Rattle.std.specs.Prelude.{◌≡◌, ◌∷◌, ◌||◌, [], ℕ, List as Seq, map, OnOk};
 ghost use Rattle.std.specs.Str.{bytes_eq};
 
 use crate::by_name::NameSet;

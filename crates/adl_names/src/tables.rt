@@ -1,14 +1,14 @@
 //! Tables of what the names of compositions and components stand for.
 
-ghost use Rattle.adl_meaning.specs.Holding.{as_held, a_group, held_by, held_in, held_as, member_of, exports_in, as_export};
-ghost use Rattle.adl_meaning.specs.Known.{is_exported, is_target, known_of};
-ghost use Rattle.adl_meaning.specs.Members.{declared_by, declared_in, declared_as, composition_of};
-ghost use Rattle.adl_names.specs.ByName.{is_among, found};
-ghost use Rattle.adl_names.specs.Tables.{members_told, held_told, holding_told, declared_told, declaring_told, known_told, types_told, first_held, first_declared};
+ghost use Rattle.adl_meaning.specs.Holding.{as_held, a_group, held_by, held_as, member_of, exports_in};
+ghost use Rattle.adl_meaning.specs.Known.{is_target, known_of};
+ghost use Rattle.adl_meaning.specs.Members.{declared_by, declared_as, composition_of};
+ghost use Rattle.adl_names.specs.ByName.{is_among};
+ghost use Rattle.adl_names.specs.Tables.{members_told, holding_told, declaring_told, interface_told, attribute_told, known_told, types_told, first_held, first_declared};
 ghost use Rattle.adl_names.specs.Located.{located};
-ghost use Rattle.std.specs.List.{filter_map, find};
+ghost use Rattle.std.specs.List.{find};
 ghost use Rattle.std.specs.Option.{option_or, option_copied};
-ghost use Rattle.std.specs.Prelude.{◌≡◌, ◌∷◌, ◌||◌, [], ℕ, List as Seq, Some, None, map, option_map, OnOk, IfOk, if◌then◌else◌};
+ghost use Rattle.std.specs.Prelude.{◌≡◌, ◌∷◌, ℕ, List as Seq, Some, None, map, option_map, OnOk, IfOk, if◌then◌else◌};
 ghost use Rattle.std.specs.Str.{bytes_eq};
 
 use crate::by_name::{NameSet, NameTable};
@@ -16,7 +16,7 @@ use crate::located::Located;
 use adl_ast::{
     Attribute, Component, Composition, Export, Group, Instance, Interface, Line, Lock, Member,
 };
-use cam_base::NoMemory;
+use cam_base::{Name, NoMemory};
 use std::alloc::Global;
 
 /// What a composition holds under a name.
@@ -145,6 +145,30 @@ pub fn declaring<'a>(
         add_member(member, &mut table)?;
     }
     Ok(table)
+}
+
+/// The interface that a name stands for among what a component declares.
+pub fn interface<'a>(declared: &NameTable<'a, Declared<'a>>, name: &Name) -> Option<&'a Interface>
+    ensures { option_copied result ≡ interface_told declared.now name.now }
+{
+    match declared.get(name) {
+        Some(Declared::Interface(interface)) => Some(interface),
+        Some(Declared::Attribute(_)) => None,
+        Some(Declared::Lock(_)) => None,
+        None => None,
+    }
+}
+
+/// The attribute that a name stands for among what a component declares.
+pub fn attribute<'a>(declared: &NameTable<'a, Declared<'a>>, name: &Name) -> Option<&'a Attribute>
+    ensures { option_copied result ≡ attribute_told declared.now name.now }
+{
+    match declared.get(name) {
+        Some(Declared::Interface(_)) => None,
+        Some(Declared::Attribute(attribute)) => Some(attribute),
+        Some(Declared::Lock(_)) => None,
+        None => None,
+    }
 }
 
 /// The targets of the exports of a composition.

@@ -3,8 +3,9 @@ ghost use Rattle.std.specs.Prelude.{◌≤◌, length, IfOk};
 use crate::{Names, resolve};
 use adl_ast::{Source, SourceFile};
 use adl_lexer::lex;
+use adl_meaning::ItemAt;
 use adl_parse_decl::parse_file;
-use cam_base::{Code, Fault, List, Refused, Text};
+use cam_base::{Code, Fault, List, Name, Refused, Text};
 use std::alloc::Global;
 use std::process::Abort;
 use std::test::Fail;
@@ -333,5 +334,44 @@ fn each_fault_is_the_first(rt: HostRuntime) -> Result<(), Fail> {
     for (code, name, text) in rows {
         check(&rt, rt.alloc(), code, name, text)?;
     }
+    Ok(())
+}
+
+#[test]
+fn names_stand_for_the_first_items(rt: HostRuntime) -> Result<(), Fail> {
+    let alloc = rt.alloc();
+    let root =
+        "import <x.camkes>; procedure P { int f(int a); int g(int a); } component P { provides P p; } \
+         component B { attribute int q; provides P t; dataport Buf d; \
+         composition { group g { component P p; } component D d; export g.p.p -> t; export d.d -> d; } \
+         configuration { p.x = 1; g.p.y <- q; } }";
+    let other = "component D { hardware; maybe dataport Buf(4096) d; } \
+         assembly { composition { component B b; component D d; connection seL4SharedData k(from d.d, to b.d); } \
+         configuration { b.g.p._priority = 7; k.size = 1; d.o = 2; } }";
+    let names = resolve_texts(alloc, root.as_bytes(), other.as_bytes())??;
+    assert_eq!(rt; names.assembly, ItemAt { file: 1, item: 1 });
+    assert_eq!(rt; names.procedures.len(), 1);
+    assert_eq!(rt; names.components.len(), 3);
+    let at = names.procedures.get(&Name::new(alloc, b"P")?);
+    assert_eq!(rt; at.copied(), Some(ItemAt { file: 0, item: 1 }));
+    let at = names.components.get(&Name::new(alloc, b"B")?);
+    assert_eq!(rt; at.copied(), Some(ItemAt { file: 0, item: 3 }));
+    let at = names.components.get(&Name::new(alloc, b"D")?);
+    assert_eq!(rt; at.copied(), Some(ItemAt { file: 1, item: 0 }));
+    Ok(())
+}
+
+#[test]
+fn later_files_count_later(rt: HostRuntime) -> Result<(), Fail> {
+    let alloc = rt.alloc();
+    let root = "component A { uses P p; } assembly { composition { component A a; } }";
+    let other = "procedure P { } component A { } assembly { composition { component Nope n; } }";
+    let Err(Refused::Fault(fault)) = resolve_texts(alloc, root.as_bytes(), other.as_bytes())? else {
+        return Err(Fail::new("no fault"));
+    };
+    assert_eq!(rt;
+        (fault.code, fault.place.file, fault.place.first),
+        (Code::Duplicate, 1, 26)
+    );
     Ok(())
 }

@@ -1,52 +1,26 @@
 //! Words that nothing has.
 
-ghost use Rattle.adl_meaning.specs.Connectors.{connector_of};
 ghost use Rattle.adl_meaning.specs.Faults.{noted};
-ghost use Rattle.adl_meaning.specs.Holding.{held_as};
 ghost use Rattle.adl_meaning.specs.Known.{known_of};
-ghost use Rattle.adl_meaning.specs.Unknown.{within, unless_known, unknown_type, names_procedure, unknown_procedure, unknown_connector, unknown_interface, unknown_in_two, unknown_in_group, unknown_in_three, unknown_in_dotted, scope_of_held, scope_behind, unknown_last, unknown_inner, unknown_group, unknown_word, unknown_in_setting, unknown_attribute, unknown_target, unknown_in_line, unknown_in_composition, unknown_in_one_setting, unknown_in_configuration, unknown_in_member, unknown_if_configured, unknown_in_assembly, unknown_in_item};
+ghost use Rattle.adl_meaning.specs.Unknown.{within, unless_known, unknown_type, names_procedure, unknown_procedure, unknown_connector, unknown_interface, unknown_in_two, unknown_in_group, unknown_in_three, unknown_in_dotted, unknown_last, unknown_inner, unknown_group, unknown_word, unknown_in_setting, unknown_attribute, unknown_target, unknown_in_line, unknown_in_composition, unknown_in_one_setting, unknown_in_configuration, unknown_in_member, unknown_if_configured, unknown_in_assembly, unknown_in_item};
 ghost use Rattle.adl_names.specs.ByName.{is_among};
 ghost use Rattle.adl_names.specs.Scopes.{scope_told, owner_told};
-ghost use Rattle.adl_names.specs.Tables.{members_told, held_told, holding_told, interface_told, attribute_told, known_told, types_told};
+ghost use Rattle.adl_names.specs.Tables.{held_told, holding_told, known_told, types_told};
 ghost use Rattle.std.specs.List.{flat_map};
-ghost use Rattle.std.specs.Option.{option_copied, option_and_then};
-ghost use Rattle.std.specs.Prelude.{◌≡◌, ◌++◌, None, Some, option_map, is_some, OnOk};
+ghost use Rattle.std.specs.Option.{option_and_then};
+ghost use Rattle.std.specs.Prelude.{◌≡◌, ◌++◌, option_map, is_some, OnOk};
 
 use crate::by_name::{NameSet, NameTable};
 use crate::located::Located;
 use crate::scope::{Scope, Types, of_holding, scope_behind};
-use crate::tables::{ComponentTable, Declared, Held, holding, table_of};
+use crate::tables::{ComponentTable, Held, attribute, holding, interface, table_of};
 use adl_ast::{
-    Assembly, Attribute, Component, Composition, Configuration, Connection, End, Export, Id,
-    Instance, Interface, InterfaceKind, Item, Line, Member, Setter, Setting,
+    Assembly, Component, Composition, Configuration, Connection, End, Export, Id, Instance,
+    Interface, InterfaceKind, Item, Line, Member, Setter, Setting,
 };
 use adl_meaning::{Connector, First};
 use cam_base::{Code, Name, NoMemory};
 use std::alloc::Global;
-
-/// The interface that a name stands for in a component.
-pub fn interface<'t, 'a>(table: &'t ComponentTable<'a>, name: &Name) -> Option<&'a Interface>
-    ensures { option_copied result ≡ interface_told table.now.declared name.now }
-{
-    match table.declared.get(name) {
-        Some(Declared::Interface(interface)) => Some(interface),
-        Some(Declared::Attribute(_)) => None,
-        Some(Declared::Lock(_)) => None,
-        None => None,
-    }
-}
-
-/// The attribute that a name stands for in a component.
-fn attribute<'t, 'a>(table: &'t ComponentTable<'a>, name: &Name) -> Option<&'a Attribute>
-    ensures { option_copied result ≡ attribute_told table.now.declared name.now }
-{
-    match table.declared.get(name) {
-        Some(Declared::Attribute(attribute)) => Some(attribute),
-        Some(Declared::Interface(_)) => None,
-        Some(Declared::Lock(_)) => None,
-        None => None,
-    }
-}
 
 fn note_unless(alloc: Global, known: bool, word: &Id, first: &mut First) -> Result<(), NoMemory>
     ensures { OnOk result (first.new ≡ noted first.old (unless_known known word.now)) }
@@ -112,7 +86,12 @@ fn note_interface(
 {
     match table {
         None => Ok(()),
-        Some(table) => note_unless(alloc, interface(table, &word.name).is_some(), word, first),
+        Some(table) => note_unless(
+            alloc,
+            interface(&table.declared, &word.name).is_some(),
+            word,
+            first,
+        ),
     }
 }
 
@@ -316,7 +295,7 @@ fn has_attribute(owner: Option<&ComponentTable<'_>>, name: &Name) -> bool
 {
     match owner {
         None => false,
-        Some(table) => attribute(table, name).is_some(),
+        Some(table) => attribute(&table.declared, name).is_some(),
     }
 }
 
@@ -325,7 +304,7 @@ fn has_interface(owner: Option<&ComponentTable<'_>>, name: &Name) -> bool
 {
     match owner {
         None => false,
-        Some(table) => interface(table, name).is_some(),
+        Some(table) => interface(&table.declared, name).is_some(),
     }
 }
 

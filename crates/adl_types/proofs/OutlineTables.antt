@@ -1,16 +1,13 @@
 -- Tables of outlines by name.
-use Rattle.std.proofs.Common.{◌≡◌, ◌≤◌, ◌∙◌, ℕ, refl, sym, ap, List, length, drop, map, Option, None, Some}
+use Rattle.std.proofs.Common.{◌≡◌, ◌≤◌, ◌∙◌, ℕ, sym, ap, List, length, drop, map, Option}
 use Rattle.std.specs.Option.{option_or}
 use Rattle.std.proofs.lemmas.List.{drop_all}
 use Rattle.adl_ast.specs.declared.component.Component.{Component}
 use Rattle.adl_meaning.specs.Items.{Name}
 use Rattle.adl_names.specs.Located.{located}
 use Rattle.adl_names.specs.declared.located.Located.{Located}
+use Rattle.adl_names.proofs.NameLookups.{or_none}
 use Rattle.adl_types.specs.LeafPort.{Outline, outline_named}
-
-or_none : {V : Type 0} (o : Option V) → o ≡ option_or o None
-or_none None = refl
-or_none (Some x) = refl
 
 -- the end of the loop that fills a table
 pub named_end : (o w : Option Outline) (xs : List (Located Component)) (i : ℕ) (n : Name) → length xs ≤ i → option_or o (outline_named (map located (drop i xs)) n) ≡ w → o ≡ w

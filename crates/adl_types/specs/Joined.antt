@@ -1,7 +1,7 @@
 -- The connections of a source as typing looks at them: each with its connector, and each end with the leaf interface that
 -- it joins. Every composition of every component counts, also a second one, and that of every assembly. A connection whose
 -- connector is none of the six is left out; an end whose words don't name an interface joins none.
-use Rattle.std.specs.Prelude.{ℕ, List, [], ◌∷◌, map, Option, Some, None}
+use Rattle.std.specs.Prelude.{List, [], ◌∷◌, map, Option, Some, None}
 use Rattle.std.specs.List.{flat_map}
 use Rattle.cam_base.specs.declared.code.Code.{Code}
 use Rattle.cam_base.specs.declared.place.Fault.{Fault}

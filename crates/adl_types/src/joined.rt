@@ -5,12 +5,13 @@ ghost use Rattle.adl_meaning.specs.Members.{compositions};
 ghost use Rattle.adl_names.specs.Pointed.{pointed};
 ghost use Rattle.adl_names.specs.Tables.{holding_told};
 ghost use Rattle.adl_types.specs.Joined.{joined_end, joined_by, joined_as, joined_in_composition, joined_in_item};
+ghost use Rattle.adl_types.specs.Remembered.{Recalls};
 ghost use Rattle.adl_types.specs.Told.{outlines_told, joined_end_told, all_told};
 ghost use Rattle.std.specs.List.{flat_map};
 ghost use Rattle.std.specs.Prelude.{◌≡◌, ◌++◌, map, OnOk, IfOk};
 
-use crate::leaf::{Leaf, leaf_of};
-use crate::outline::OutlineTables;
+use crate::leaf::Leaf;
+use crate::remembering::{Remembered, leaf_of};
 use adl_ast::{Component, Composition, Connection, End, Item};
 use adl_meaning::Connector;
 use adl_names::{Held, Located, NameTable, compositions, connections, holding, port_of};
@@ -33,11 +34,12 @@ pub struct Joined<'a> {
 }
 
 fn joined_end<'a>(
-    all: &OutlineTables<'a>,
+    all: &Remembered<'a>,
     held: &NameTable<'a, Held<'a>>,
     end: &'a End,
 ) -> JoinedEnd<'a>
-    ensures { joined_end_told result ≡ joined_end (outlines_told all.now) (holding_told held.now) end.entry.now }
+    requires { Recalls (outlines_told all.now.outlines) all.now.leaves }
+    ensures { joined_end_told result ≡ joined_end (outlines_told all.now.outlines) (holding_told held.now) end.entry.now }
 {
     JoinedEnd {
         joining: end,
@@ -47,11 +49,12 @@ fn joined_end<'a>(
 
 fn joined_ends<'a>(
     alloc: Global,
-    all: &OutlineTables<'a>,
+    all: &Remembered<'a>,
     held: &NameTable<'a, Held<'a>>,
     ends: &'a [End],
 ) -> Result<Vec<JoinedEnd<'a>>, NoMemory>
-    ensures { IfOk result (λ v. map joined_end_told v.items ≡ map (joined_end (outlines_told all.now) (holding_told held.now)) ends.entry.now) }
+    requires { Recalls (outlines_told all.now.outlines) all.now.leaves }
+    ensures { IfOk result (λ v. map joined_end_told v.items ≡ map (joined_end (outlines_told all.now.outlines) (holding_told held.now)) ends.entry.now) }
 {
     let mut joined = Vec::new(alloc);
     for end in ends {
@@ -62,12 +65,13 @@ fn joined_ends<'a>(
 
 fn push_connection<'a>(
     alloc: Global,
-    all: &OutlineTables<'a>,
+    all: &Remembered<'a>,
     held: &NameTable<'a, Held<'a>>,
     connection: &'a Connection,
     found: &mut Vec<Joined<'a>>,
 ) -> Result<(), NoMemory>
-    ensures { OnOk result (all_told found.new.items ≡ all_told found.old.items ++ joined_as (outlines_told all.now) (holding_told held.now) connection.entry.now) }
+    requires { Recalls (outlines_told all.now.outlines) all.now.leaves }
+    ensures { OnOk result (all_told found.new.items ≡ all_told found.old.items ++ joined_as (outlines_told all.now.outlines) (holding_told held.now) connection.entry.now) }
 {
     match Connector::find(connection.connector.name.as_bytes()) {
         None => Ok(()),
@@ -85,12 +89,13 @@ fn push_connection<'a>(
 
 fn push_connections<'a>(
     alloc: Global,
-    all: &OutlineTables<'a>,
+    all: &Remembered<'a>,
     held: &NameTable<'a, Held<'a>>,
     connections: &[&'a Connection],
     found: &mut Vec<Joined<'a>>,
 ) -> Result<(), NoMemory>
-    ensures { OnOk result (all_told found.new.items ≡ all_told found.old.items ++ flat_map (joined_as (outlines_told all.now) (holding_told held.now)) (pointed connections.now)) }
+    requires { Recalls (outlines_told all.now.outlines) all.now.leaves }
+    ensures { OnOk result (all_told found.new.items ≡ all_told found.old.items ++ flat_map (joined_as (outlines_told all.now.outlines) (holding_told held.now)) (pointed connections.now)) }
 {
     for connection in connections {
         push_connection(alloc, all, held, connection, found)?;
@@ -100,11 +105,12 @@ fn push_connections<'a>(
 
 fn push_composition<'a>(
     alloc: Global,
-    all: &OutlineTables<'a>,
+    all: &Remembered<'a>,
     composition: &'a Composition,
     found: &mut Vec<Joined<'a>>,
 ) -> Result<(), NoMemory>
-    ensures { OnOk result (all_told found.new.items ≡ all_told found.old.items ++ joined_in_composition (outlines_told all.now) composition.entry.now) }
+    requires { Recalls (outlines_told all.now.outlines) all.now.leaves }
+    ensures { OnOk result (all_told found.new.items ≡ all_told found.old.items ++ joined_in_composition (outlines_told all.now.outlines) composition.entry.now) }
 {
     let held = holding(alloc, composition)?;
     let connections = connections(alloc, composition)?;
@@ -114,11 +120,12 @@ fn push_composition<'a>(
 
 fn push_compositions<'a>(
     alloc: Global,
-    all: &OutlineTables<'a>,
+    all: &Remembered<'a>,
     compositions: &[&'a Composition],
     found: &mut Vec<Joined<'a>>,
 ) -> Result<(), NoMemory>
-    ensures { OnOk result (all_told found.new.items ≡ all_told found.old.items ++ flat_map (joined_in_composition (outlines_told all.now)) (pointed compositions.now)) }
+    requires { Recalls (outlines_told all.now.outlines) all.now.leaves }
+    ensures { OnOk result (all_told found.new.items ≡ all_told found.old.items ++ flat_map (joined_in_composition (outlines_told all.now.outlines)) (pointed compositions.now)) }
 {
     for composition in compositions {
         push_composition(alloc, all, composition, found)?;
@@ -128,11 +135,12 @@ fn push_compositions<'a>(
 
 fn push_component<'a>(
     alloc: Global,
-    all: &OutlineTables<'a>,
+    all: &Remembered<'a>,
     component: &'a Component,
     found: &mut Vec<Joined<'a>>,
 ) -> Result<(), NoMemory>
-    ensures { OnOk result (all_told found.new.items ≡ all_told found.old.items ++ flat_map (joined_in_composition (outlines_told all.now)) (compositions component.entry.now)) }
+    requires { Recalls (outlines_told all.now.outlines) all.now.leaves }
+    ensures { OnOk result (all_told found.new.items ≡ all_told found.old.items ++ flat_map (joined_in_composition (outlines_told all.now.outlines)) (compositions component.entry.now)) }
 {
     let compositions = compositions(alloc, component)?;
     push_compositions(alloc, all, compositions.as_slice(), found)?;
@@ -141,11 +149,12 @@ fn push_component<'a>(
 
 fn push_item<'a>(
     alloc: Global,
-    all: &OutlineTables<'a>,
+    all: &Remembered<'a>,
     item: &'a Item,
     found: &mut Vec<Joined<'a>>,
 ) -> Result<(), NoMemory>
-    ensures { OnOk result (all_told found.new.items ≡ all_told found.old.items ++ joined_in_item (outlines_told all.now) item.entry.now) }
+    requires { Recalls (outlines_told all.now.outlines) all.now.leaves }
+    ensures { OnOk result (all_told found.new.items ≡ all_told found.old.items ++ joined_in_item (outlines_told all.now.outlines) item.entry.now) }
 {
     match item {
         Item::Import(_) => Ok(()),
@@ -158,10 +167,11 @@ fn push_item<'a>(
 /// The connections of all items.
 pub fn all_joined<'a>(
     alloc: Global,
-    all: &OutlineTables<'a>,
+    all: &Remembered<'a>,
     items: &[Located<'a, Item>],
 ) -> Result<Vec<Joined<'a>>, NoMemory>
-    ensures { IfOk result (λ v. all_told v.items ≡ flat_map (λ x. joined_in_item (outlines_told all.now) x.item.now) items.now) }
+    requires { Recalls (outlines_told all.now.outlines) all.now.leaves }
+    ensures { IfOk result (λ v. all_told v.items ≡ flat_map (λ x. joined_in_item (outlines_told all.now.outlines) x.item.now) items.now) }
 {
     let mut found = Vec::new(alloc);
     for x in items {

@@ -1,6 +1,5 @@
 //! Ends whose interface isn't of the kind that the connector wants.
 
-ghost use Rattle.adl_meaning.specs.Export.{same_kind};
 ghost use Rattle.adl_meaning.specs.Faults.{noted, where_false};
 ghost use Rattle.adl_types.specs.Joined.{at_end};
 ghost use Rattle.adl_types.specs.Kind.{is_kind_of, wrong_kind, wrong_kinds_in};
@@ -11,7 +10,7 @@ ghost use Rattle.std.specs.Prelude.{◌≡◌, true, map, option_map, OnOk};
 
 use crate::joined::{Joined, JoinedEnd};
 use crate::leaf::Leaf;
-use adl_ast::{End, InterfaceKind};
+use adl_ast::End;
 use adl_meaning::{Connector, First};
 use adl_names::last_name;
 use cam_base::{Code, NoMemory};
@@ -34,16 +33,10 @@ pub fn note_end(
     Ok(())
 }
 
-fn same_kind(a: InterfaceKind, b: InterfaceKind) -> bool
-    ensures { result ≡ same_kind a b }
-{
-    a == b
-}
-
 fn is_kind_of(rule: EndRule, leaf: Leaf<'_>) -> bool
     ensures { result ≡ is_kind_of rule (leaf_told leaf.entry) }
 {
-    same_kind(leaf.interface.kind, rule.interface) && leaf.hardware == rule.hardware
+    leaf.interface.kind == rule.interface && leaf.hardware == rule.hardware
 }
 
 fn is_right(rule: EndRule, leaf: Option<Leaf<'_>>) -> bool

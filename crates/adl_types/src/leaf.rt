@@ -1,13 +1,13 @@
 //! The way inwards, from a port to the leaf interface behind it.
 
 ghost use Rattle.adl_names.specs.Ports.{port_told};
-ghost use Rattle.adl_types.specs.LeafPort.{inside, leaf_port, leaf_at, leaf_of};
+ghost use Rattle.adl_types.specs.LeafPort.{inside, leaf_port, leaf_at};
 ghost use Rattle.adl_types.specs.Told.{inner_told, outline_told, named_told, outlines_told, leaf_told};
 ghost use Rattle.std.specs.Prelude.{◌≡◌, option_map};
 
-use crate::outline::{OutlineTable, OutlineTables, interface};
+use crate::outline::{OutlineTable, OutlineTables};
 use adl_ast::Interface;
-use adl_names::{NameTable, Port};
+use adl_names::{NameTable, Port, interface};
 use cam_base::Name;
 
 /// An interface, and whether its component is a device.
@@ -17,7 +17,7 @@ pub struct Leaf<'a> {
     pub hardware: bool,
 }
 
-fn inner<'a>(outline: &OutlineTable<'a>, name: &Name) -> Option<Port<'a>>
+pub fn inner<'a>(outline: &OutlineTable<'a>, name: &Name) -> Option<Port<'a>>
     ensures { option_map port_told result ≡ inner_told outline.now.inner name.now }
 {
     match outline.inner.get(name) {
@@ -27,7 +27,7 @@ fn inner<'a>(outline: &OutlineTable<'a>, name: &Name) -> Option<Port<'a>>
 }
 
 /// The port inside a port.
-fn inside<'a>(named: &NameTable<'a, OutlineTable<'a>>, port: Port<'a>) -> Option<Port<'a>>
+pub fn inside<'a>(named: &NameTable<'a, OutlineTable<'a>>, port: Port<'a>) -> Option<Port<'a>>
     ensures { option_map port_told result ≡ inside (named_told named.now) (port_told port.entry) }
 {
     match named.get(&port.instance.component.name) {
@@ -37,7 +37,7 @@ fn inside<'a>(named: &NameTable<'a, OutlineTable<'a>>, port: Port<'a>) -> Option
 }
 
 /// The port that all steps inwards lead to.
-fn leaf_port<'a>(all: &OutlineTables<'a>, port: Port<'a>) -> Port<'a>
+pub fn leaf_port<'a>(all: &OutlineTables<'a>, port: Port<'a>) -> Port<'a>
     ensures { port_told result ≡ leaf_port (outlines_told all.now) (port_told port.entry) }
 {
     let mut at = port;
@@ -62,21 +62,11 @@ fn leaf_in<'a>(outline: &OutlineTable<'a>, name: &Name) -> Option<Leaf<'a>>
     }
 }
 
-fn leaf_at<'a>(named: &NameTable<'a, OutlineTable<'a>>, port: Port<'a>) -> Option<Leaf<'a>>
+pub fn leaf_at<'a>(named: &NameTable<'a, OutlineTable<'a>>, port: Port<'a>) -> Option<Leaf<'a>>
     ensures { option_map leaf_told result ≡ leaf_at (named_told named.now) (port_told port.entry) }
 {
     match named.get(&port.instance.component.name) {
         None => None,
         Some(outline) => leaf_in(outline, port.interface),
-    }
-}
-
-/// The leaf interface of a port that may be absent.
-pub fn leaf_of<'a>(all: &OutlineTables<'a>, port: Option<Port<'a>>) -> Option<Leaf<'a>>
-    ensures { option_map leaf_told result ≡ leaf_of (outlines_told all.now) (option_map port_told port.entry) }
-{
-    match port {
-        None => None,
-        Some(port) => leaf_at(&all.named, leaf_port(all, port)),
     }
 }

@@ -9,10 +9,14 @@ mod check;
 mod counts;
 mod joined;
 mod kinds;
+mod laws;
 mod leaf;
+mod leaf_table;
 mod mismatches;
 mod outline;
+mod remembering;
 #[cfg(test)]
 mod tests;
 
 pub use check::check_types;
+pub use laws::walks_inwards_end;

@@ -4,7 +4,7 @@ ghost use Rattle.adl_meaning.specs.Export.{port_of};
 ghost use Rattle.adl_meaning.specs.Holding.{as_export};
 ghost use Rattle.adl_meaning.specs.Members.{composition_of};
 ghost use Rattle.adl_names.specs.Located.{located};
-ghost use Rattle.adl_names.specs.Tables.{holding_told, interface_told};
+ghost use Rattle.adl_names.specs.Tables.{holding_told};
 ghost use Rattle.adl_types.specs.LeafPort.{exported, exported_if, outline_of, outline_named, outlines_of};
 ghost use Rattle.adl_types.specs.Told.{exports_told, inner_told, outline_told, named_told, outlines_told};
 ghost use Rattle.std.specs.List.{filter_map, find};
@@ -12,12 +12,12 @@ ghost use Rattle.std.specs.Option.{option_or, option_copied};
 ghost use Rattle.std.specs.Prelude.{◌≡◌, ℕ, List as Seq, Some, None, map, option_map, OnOk, IfOk, if◌then◌else◌};
 ghost use Rattle.std.specs.Str.{bytes_eq};
 
-use adl_ast::{Component, Composition, Interface, Line};
+use adl_ast::{Component, Composition, Line};
 use adl_names::{
     Declared, Held, Located, NameTable, Port, composition_of, declaring, holding, is_device,
     port_of,
 };
-use cam_base::{Name, NoMemory};
+use cam_base::NoMemory;
 use std::alloc::Global;
 
 /// What typing looks at in a component.
@@ -35,18 +35,6 @@ pub struct OutlineTable<'a> {
 pub struct OutlineTables<'a> {
     pub named: NameTable<'a, OutlineTable<'a>>,
     pub count: usize,
-}
-
-/// The interface that a name stands for among what a component declares.
-pub fn interface<'a>(declared: &NameTable<'a, Declared<'a>>, name: &Name) -> Option<&'a Interface>
-    ensures { option_copied result ≡ interface_told declared.now name.now }
-{
-    match declared.get(name) {
-        Some(Declared::Interface(interface)) => Some(interface),
-        Some(Declared::Attribute(_)) => None,
-        Some(Declared::Lock(_)) => None,
-        None => None,
-    }
 }
 
 fn add_exports<'a>(

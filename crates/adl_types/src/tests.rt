@@ -4,11 +4,9 @@ ghost use Rattle.std.specs.Prelude.{◌≤◌, length, IfOk};
 use crate::check_types;
 use adl_ast::{File, Source, SourceFile};
 use adl_lexer::lex;
-use adl_meaning::ItemAt;
-use adl_names::Names;
+use adl_names::resolve;
 use adl_parse_decl::parse_file;
 use cam_base::{Code, Fault, List, Refused, Text};
-use indexmap::IndexMap;
 use std::alloc::Global;
 use std::process::Abort;
 use std::test::Fail;
@@ -42,7 +40,7 @@ const LATER: &str = "connection seL4RPCCall later(from a.p);";
 /// Lines of a composition; the code of the first fault, the text at its place, and its name.
 type Row = (&'static str, Option<(Code, &'static str, &'static str)>);
 
-const ROWS: [Row; 52] = [
+const ROWS: [Row; 47] = [
     // ---- what fits
     ("", None),
     (
@@ -72,10 +70,6 @@ const ROWS: [Row; 52] = [
         "connection seL4HardwareInterrupt k(from dev.i, to x.h);",
         None,
     ),
-    // ---- what names nothing
-    ("connection seL4RPCCall k(from a.none, to b.s);", None),
-    ("connection seL4RPCCall k(from none.p, to b.s);", None),
-    ("connection seL4Other k(from b.s, to b2.s);", None),
     // ---- kinds
     (
         "connection seL4RPCCall k(from b.s, to b2.s);",
@@ -185,11 +179,11 @@ const ROWS: [Row; 52] = [
         None,
     ),
     (
-        "} } component Big { dataport Buf(0) big; } component Rest { composition {",
+        "} } component Big { dataport Buf(0) big; } component Rest { composition { component Client a;",
         Some((Code::TypeMismatch, "big", "big")),
     ),
     (
-        "} } component Big { dataport Buf(268435457) big; } component Rest { composition {",
+        "} } component Big { dataport Buf(268435457) big; } component Rest { composition { component Client a;",
         Some((Code::TypeMismatch, "big", "big")),
     ),
     // ---- counts
@@ -221,22 +215,14 @@ const ROWS: [Row; 52] = [
         "connection seL4HardwareInterrupt k1(from dev.i, from dev2.i, to b.c);",
         Some((Code::EndCount, "k1", "k1")),
     ),
-    (
-        "connection seL4RPCCall k1(from a.none, from none.p);",
-        Some((Code::EndCount, "k1", "k1")),
-    ),
     // ---- at the name before the ends
     (
         "connection seL4RPCCall k1(to a.p, to a.q);",
         Some((Code::EndCount, "k1", "k1")),
     ),
-    // ---- a component that no instance has, and a second composition
+    // ---- a component that no instance has
     (
         "} } component Unused { composition { component Client a; connection seL4RPCCall k1(from a.p);",
-        Some((Code::EndCount, "k1", "k1")),
-    ),
-    (
-        "} } component Twice { composition { } composition { component Client a; connection seL4RPCCall k1(from a.p);",
         Some((Code::EndCount, "k1", "k1")),
     ),
 ];
@@ -265,15 +251,7 @@ fn text_of(alloc: Global, row: &Row) -> Result<String, Fail> {
     Ok(text)
 }
 
-fn no_names(alloc: Global) -> Names {
-    Names {
-        procedures: IndexMap::new(alloc),
-        components: IndexMap::new(alloc),
-        assembly: ItemAt { file: 0, item: 0 },
-    }
-}
-
-/// The first fault of types in a text.
+/// The first fault of types in a text whose names are sound.
 fn checked(rt: &impl Abort, alloc: Global, text: &[u8]) -> Result<Option<Fault>, Fail> {
     let tokens = lex(alloc, 0, text).ok().ok_or("these are tokens")?;
     let tree = parse_file(alloc, text, &tokens)
@@ -281,7 +259,10 @@ fn checked(rt: &impl Abort, alloc: Global, text: &[u8]) -> Result<Option<Fault>,
         .ok_or("this is a file")?;
     assert!(rt; tree.items.as_slice().len() <= 1_048_576);
     let source = source_of(alloc, tree)?;
-    match check_types(alloc, &source, &no_names(alloc)) {
+    let Ok(names) = resolve(alloc, &source) else {
+        return Err(Fail::from("a name is at fault"));
+    };
+    match check_types(alloc, &source, &names) {
         Ok(()) => Ok(None),
         Err(Refused::Fault(fault)) => Ok(Some(fault)),
         Err(Refused::NoMemory) => Err(Fail::from("no memory")),

@@ -101,7 +101,7 @@ module _ (spec : Spec) (labels : List ℕ) where
   table_place t None i x e here c of_cap = absurd (let w = c.1 in omega arith)
   table_place t (Some entry) i x e here c of_cap = record { place = t; item = entry; there = here; by = table_object (label_of labels t) entry.object i x e c of_cap }
 
-  auth_source : (l : ℕ) (a : Authority) (m : ℕ) → Auth spec labels (boot spec) l a m → OfSpec spec labels (edge l a m)
+  pub auth_source : (l : ℕ) (a : Authority) (m : ℕ) → Auth spec labels (boot spec) l a m → OfSpec spec labels (edge l a m)
   auth_source l a m (inl (c, i, x, there, conf, from, to)) =
       elim (at_entry boot_node spec.entries c no_node) [
         | inl found ↦ record {
@@ -188,7 +188,7 @@ module _ (spec : Spec) (labels : List ℕ) where
   object_auth o entry Notification l a m here is h = absurd h
   object_auth o entry (Frame paddr fill) l a m here is h = absurd h
 
-  source_auth : (l : ℕ) (a : Authority) (m : ℕ) → OfSpec spec labels (edge l a m) → Auth spec labels (boot spec) l a m
+  pub source_auth : (l : ℕ) (a : Authority) (m : ℕ) → OfSpec spec labels (edge l a m) → Auth spec labels (boot spec) l a m
   source_auth l a m h = object_auth h.place h.item h.item.object l a m h.there refl h.by
 
   -- a table of the edges that were gathered from the spec

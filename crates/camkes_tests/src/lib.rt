@@ -2,20 +2,22 @@
 #![tactic(auto)]
 
 #[cfg(test)]
-mod boot_edges;
-#[cfg(test)]
 mod commands;
 #[cfg(test)]
 mod first_capdl;
 #[cfg(test)]
+mod hierarchies;
+#[cfg(test)]
 mod imports;
 #[cfg(test)]
-mod machine_runs;
+mod layouts;
 #[cfg(test)]
 mod names;
 #[cfg(test)]
 mod outputs_and_inputs_fail;
 #[cfg(test)]
 mod program_words;
+#[cfg(test)]
+mod settings;
 #[cfg(test)]
 mod whole_language;

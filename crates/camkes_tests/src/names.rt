@@ -7,12 +7,18 @@ use std::alloc::Global;
 use std::test::Fail;
 
 /// The status and whether this line is answered for a root and the file that it may import.
-fn answers(alloc: Global, root: &str, other: &str, status: u8, line: &str) -> Result<bool, Fail> {
+pub fn answers(
+    alloc: Global,
+    root: &str,
+    other: &str,
+    status: u8,
+    line: &str,
+) -> Result<bool, Fail> {
     let compile = words(alloc, &["compile", "a.camkes", "a"])?;
     let mut files = MemFiles::new(alloc);
     files.add("a.camkes", root.as_bytes())?;
     files.add("b.camkes", other.as_bytes())?;
-    let mut out = MemOutputs::new(alloc, 256)?;
+    let mut out = MemOutputs::new(alloc, 262_144)?;
     let answer = run(alloc, &compile, &mut files, &mut out);
     Ok(answer == status && out.bytes(1) == line.as_bytes())
 }

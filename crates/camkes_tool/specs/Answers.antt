@@ -8,29 +8,26 @@ use Rattle.cam_io.specs.Scripts.{Act, Begin, Write, after, CutShort}
 use Rattle.adl_ast.specs.declared.source.Source.{Source}
 use Rattle.adl_import.specs.Loaded.{IsLoaded}
 use Rattle.adl_import.specs.declared.error.LoadError.TheVariants as error
+use Rattle.arch_compile.specs.Compiled.{IsFaulted}
+use Rattle.arch_compile.specs.First.{first_fault}
+use Rattle.arch_compile.specs.Laid.{IsSpecOf}
 use Rattle.cap_model.specs.Canonical.{canonical}
 use Rattle.cap_model.specs.declared.spec.Spec.{Spec}
 use Rattle.command_words.specs.Lines.{usage_line}
 use Rattle.command_words.specs.Words.{read_words}
 use Rattle.command_words.specs.declared.command.Command.{Command}
 use Rattle.command_words.specs.declared.command.Command.TheVariants.{Compile}
-use Rattle.camkes_tool.specs.Fits.{IsCompiledTo, IsInTheWay, name_of_file}
 use Rattle.camkes_tool.specs.Lines.{fault_line, read_fault_line, no_memory_line}
 use Rattle.camkes_tool.specs.declared.answer.Answer.{Answer}
 use Rattle.camkes_tool.specs.declared.answer.Answer.TheVariants.{Compiled, Faulted, Usage, ReadFault, NoMemory}
-
--- a fault of loading the root's source; or the source is loaded, and the fault stands in its way
-abbrev pub IsRefused : List ℕ → Option Contents → List ℕ → Fault → Type 0
-IsRefused root contents file fault =
-    IsLoaded contents root (Err (error.Fault fault file))
-    ⊎ ((source : Source) × IsLoaded contents root (Ok source) × IsInTheWay source fault × (file ≡ name_of_file source fault.place.file))
 
 -- The answer is right for this root and base, these files, and these counts of read faults before and now. The cases
 -- exclude each other, so each comes exactly where it says, and yields to a read fault and to want of memory alone.
 abbrev pub FitsRoot : List ℕ → List ℕ → Option Contents → (List ℕ → ℕ) → (List ℕ → ℕ) → Answer → Type 0
 FitsRoot root base contents before now (Compiled name spec) =
-    (source : Source) × (string_bytes name ≡ base ++ codes ".cdl") × IsLoaded contents root (Ok source) × IsCompiledTo source spec
-FitsRoot root base contents before now (Faulted file fault) = IsRefused root contents file fault
+    (string_bytes name ≡ base ++ codes ".cdl")
+    × ((source : Source) × IsLoaded contents root (Ok source) × (first_fault source ≡ None) × IsSpecOf source spec)
+FitsRoot root base contents before now (Faulted file fault) = IsFaulted first_fault root contents fault file
 FitsRoot root base contents before now Usage = ⊥
 FitsRoot root base contents before now (ReadFault file) = IsLoaded contents root (Err (error.ReadFault file)) × Rose (before file) (now file)
 FitsRoot root base contents before now NoMemory = Unit {0}

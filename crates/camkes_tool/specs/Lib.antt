@@ -1,5 +1,4 @@
 pub mod Answers
 pub mod Channels
 pub mod Deciding
-pub mod Fits
 pub mod Lines

@@ -2,13 +2,12 @@
 //!
 //! `run` decides first and then performs. Deciding reads the files, takes memory, and answers with a value (`Answer`);
 //! performing does what that answer's script says and takes no memory. Nothing else in the repository writes an output.
-//! `specs/Answers.antt` says when each answer comes and what it does, `specs/Fits.antt` what the source has to be for it;
-//! the words stand in `command_words`, and the source of the files in `adl_import`.
+//! `specs/Answers.antt` says when each answer comes and what it does; the words stand in `command_words`, and what is
+//! compiled in `arch_compile`.
 #![tactic(auto)]
 
 mod answer;
 mod decide;
-mod judge;
 mod laws;
 mod perform;
 mod top;

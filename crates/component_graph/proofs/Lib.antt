@@ -1,4 +1,9 @@
-pub mod GraphLemmas
+-- Lemmas on walks, orders and sets of components, on components by number, and on what stands in lists.
+pub mod ComponentNumbers
+pub mod FewComponents
+pub mod Lists
 pub mod Marks
-pub mod Rounds
+pub mod Reach
 pub mod Through
+pub mod Waiting
+pub mod Walks

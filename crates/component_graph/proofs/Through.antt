@@ -1,8 +1,8 @@
--- The test of holding agrees with walks
-use Rattle.std.proofs.Common.{◌≡◌, ◌<◌, ◌≤◌, ◌+◌, ℕ, zero, suc, Bool, true, false, ◌||◌, ◌&&◌, List, length, [], ◌∷◌, refl, sym, ◌∙◌, ap, subst, arith, inl, inr, ◌⊎◌, ◌↔◌}
-use Rattle.std.proofs.lemmas.Bool.{or_cases, or_left, or_right, and_parts, and_from, false_from_ne_true, eqb-true, eq-eqb, cases_eq}
+-- The test of holding agrees with walks.
+use Rattle.std.proofs.Common.{◌≡◌, ◌<◌, ℕ, zero, suc, Bool, true, false, ◌&&◌, List, length, refl, sym, subst, arith, inl, inr}
+use Rattle.std.proofs.lemmas.Bool.{or_cases, or_left, or_right, and_parts, and_from, eqb-true, eq-eqb, cases_eq, false_from_ne_true}
 use lib.Dec.{eqb}
-use Rattle.adl_meaning.specs.Graph.{has, inner_of, InRange, Walk, Holds, through, is_held}
+use Rattle.adl_meaning.specs.Graph.{has, inner_of, InRange, Walk, Holds, IsAcyclic, through, is_held}
 
 walk_join : (g : List (List ℕ)) (n m a b c : ℕ) → Walk g a b n → Walk g b c m → Holds g a c
 walk_join g zero m a b c v w = (m, let P : ℕ → Type 0 = λ x. Walk g x c m in subst P (sym v) w)
@@ -49,7 +49,11 @@ through_complete g r (suc n) a b l w =
     let c : w.0 < length g = r a w.0 l w.1 in
     prepend g (length g) a w.0 b c w.1 (through_complete g r n w.0 b c w.2)
 
+-- where no component holds itself, none is held by the type of one of its instances
+pub unheld : (g : List (List ℕ)) → IsAcyclic g → (a c : ℕ) → a < length g → has (inner_of g a) c ≡ true → is_held g c a ≡ false
+unheld g acyclic a c l e = false_from_ne_true _ (λ t. let w : Holds g c a = through_sound g (length g) c a t in acyclic a c w.0 l e w.1)
+
 -- an answer that says whether a holds b is that of the test
-pub held_test : (g : List (List ℕ)) → InRange g → (a b : ℕ) → a < length g → (r : Bool) → (r ≡ true → Holds g a b) → (r ≡ false → Holds g a b → ⊥) → r ≡ is_held g a b
-held_test g range a b l true is isnt = let w : Holds g a b = is refl in sym (through_complete g range w.0 a b l w.1)
-held_test g range a b l false is isnt = sym (false_from_ne_true _ (λ t. isnt refl (through_sound g (length g) a b t)))
+pub held_test : (g : List (List ℕ)) → InRange g → (a b : ℕ) → a < length g → (t : Bool) → (t ≡ true → Holds g a b) → (t ≡ false → Holds g a b → ⊥) → t ≡ is_held g a b
+held_test g r a b l true up down = let w : Holds g a b = up refl in sym (through_complete g r w.0 a b l w.1)
+held_test g r a b l false up down = sym (false_from_ne_true _ (λ t. down refl (through_sound g (length g) a b t)))

@@ -1,27 +1,25 @@
-//! Whether a component holds another.
+//! Whether one component holds another.
 
 ghost use Rattle.adl_meaning.specs.Graph.{has, InRange, Holds};
 ghost use Rattle.component_graph.specs.Placing.{HasMore};
 ghost use Rattle.std.specs.Prelude.{◌≡◌, ◌<◌, ◌^◌, ℕ, true, false, length, IfOk, OnOk};
 
-use crate::NumberSet;
+use crate::number_set::NumberSet;
 use cam_base::{List, NoMemory};
 use std::alloc::Global;
 
-/// Adds those that aren't there.
-fn add_new(inner: &[u32], found: &mut NumberSet) -> Result<(), NoMemory>
-    requires { (c : ℕ) → has inner.now c ≡ true → c < found.old.size }
-    ensures { OnOk result (HasMore inner.now found.old found.new) }
+fn add_each(numbers: &[u32], found: &mut NumberSet) -> Result<(), NoMemory>
+    requires { (c : ℕ) → has numbers.now c ≡ true → c < found.old.size }
+    ensures { OnOk result (HasMore numbers.now found.old found.new) }
 {
-    for c in inner {
-        if !found.contains(*c) {
-            found.insert(*c)?;
-        }
+    for number in numbers {
+        found.insert(*number)?;
     }
     Ok(())
 }
 
-/// Whether the component is the other, or holds it, directly or through others.
+/// Whether a component is another, or holds it, directly or through others. Takes time and memory along the size of the
+/// graph.
 pub fn holds(alloc: Global, graph: &[List<u32>], from: u32, to: u32) -> Result<bool, NoMemory>
     requires range { InRange graph.now }
     requires few { length graph.now < 2 ^ 32 }
@@ -34,8 +32,8 @@ pub fn holds(alloc: Global, graph: &[List<u32>], from: u32, to: u32) -> Result<b
     found.insert(from)?;
     let mut next = 0;
     while next < found.list().len() {
-        let a = found.list()[next];
-        add_new(graph[a as usize].as_slice(), &mut found)?;
+        let component = found.list()[next];
+        add_each(graph[component as usize].as_slice(), &mut found)?;
         next += 1;
     }
     Ok(found.contains(to))

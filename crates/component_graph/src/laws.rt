@@ -1,7 +1,7 @@
 //! What the definitions promise together, as functions that do nothing.
 
-ghost use Rattle.adl_meaning.specs.Graph.{InRange, IsAcyclic, Walk, Holds, is_held};
-ghost use Rattle.std.specs.Prelude.{◌≡◌, ◌<◌, ◌↔◌, ℕ, true, length, List as Seq};
+ghost use Rattle.adl_meaning.specs.Graph.{has, inner_of, InRange, Walk, Holds, IsAcyclic, is_held};
+ghost use Rattle.std.specs.Prelude.{◌≡◌, ◌<◌, ◌↔◌, ℕ, true, false, List as Seq, length};
 
 /// Where no component holds itself, each walk is shorter than the list of components.
 pub fn walks_are_short()
@@ -11,4 +11,9 @@ pub fn walks_are_short()
 /// The test of holding is that of walks.
 pub fn held_is_held()
     ensures { (g : Seq (Seq ℕ)) → InRange g → (a b : ℕ) → a < length g → (is_held g a b ≡ true) ↔ Holds g a b }
+{}
+
+/// Where no component holds itself, none is held by the type of one of its instances.
+pub fn acyclic_is_unheld()
+    ensures { (g : Seq (Seq ℕ)) → IsAcyclic g → (a c : ℕ) → a < length g → has (inner_of g a) c ≡ true → is_held g c a ≡ false }
 {}

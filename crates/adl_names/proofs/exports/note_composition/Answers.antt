@@ -1,4 +1,4 @@
-use Rattle.std.proofs.Common.{◌≡◌, ◌∙◌, ap, Option, List, Bool, false}
+use Rattle.std.proofs.Common.{◌≡◌, ◌∙◌, ap, Option, List, false}
 use Rattle.std.specs.List.{flat_map}
 use Rattle.adl_ast.specs.declared.composition.Connection.{Connection}
 use Rattle.adl_ast.specs.declared.composition.Export.{Export}

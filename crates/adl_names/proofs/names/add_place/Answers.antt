@@ -1,13 +1,26 @@
-use Rattle.std.proofs.Common.{◌∙◌, sym, ap, cond, Some}
+use Rattle.std.proofs.Common.{◌≡◌, ◌∙◌, ◌∷◌, [], sym, ap, cond, Some, None, map, inl, inr, refl}
 use Rattle.std.specs.Str.{bytes_eq}
-use Rattle.indexmap.specs.IndexMap.{get}
-use Rattle.adl_names.proofs.NameLookups.{found_put, found_kept}
+use Rattle.std.proofs.lemmas.List.{map-append}
+use Rattle.indexmap.specs.IndexMap.{get, insert_entry}
+use Rattle.indexmap.proofs.CallerLemmas.{insert_entry-new}
+use Rattle.adl_meaning.specs.Items.{Name}
+use Rattle.adl_meaning.specs.declared.item_at.ItemAt.{ItemAt}
+use Rattle.adl_names.proofs.NameLookups.{none_of, found_put, found_kept}
 use Rattle.adl_names.proofs.names.add_place.Goals as goal
 
-pub returns-in_ok-insert : goal.returns-in_ok-insert
-returns-in_ok-insert c =
+pub returns-in_ok-insert-clause-first : goal.returns-in_ok-insert-clause-first
+returns-in_ok-insert-clause-first c =
     found_put (get bytes_eq c.args.table.now) (get bytes_eq c.insert.new.self) c.args.name.now c.args.at (sym c.contains_key.ensures ∙ c.if-not-contains_key.true)
     (λ q. c.in_ok-insert.ensures.updates.0 q ∙ ap (λ n. cond (bytes_eq n q) (Some c.args.at) (get bytes_eq c.args.table.now q)) c.in_ok-copy.ensures)
 
-pub returns-else-not-contains_key : goal.returns-else-not-contains_key
-returns-else-not-contains_key c = found_kept (get bytes_eq c.args.table.now) c.args.name.now c.args.at (sym c.contains_key.ensures ∙ c.if-not-contains_key.false)
+pub returns-in_ok-insert-clause-places : goal.returns-in_ok-insert-clause-places
+returns-in_ok-insert-clause-places c =
+    let absent : get bytes_eq c.args.table.now c.args.name.now ≡ None = none_of (get bytes_eq c.args.table.now c.args.name.now) (sym c.contains_key.ensures ∙ c.if-not-contains_key.true) in
+    inr (ap (map (λ (e : Name × ItemAt). e.1)) (c.in_ok-insert.ensures.entries ∙ ap (λ k. insert_entry bytes_eq c.args.table.now.entries k c.args.at) c.in_ok-copy.ensures ∙ insert_entry-new bytes_eq c.args.table.now c.args.name.now c.args.at absent)
+    ∙ map-append (λ (e : Name × ItemAt). e.1) c.args.table.now.entries ((c.args.name.now, c.args.at) ∷ []))
+
+pub returns-else-not-contains_key-clause-first : goal.returns-else-not-contains_key-clause-first
+returns-else-not-contains_key-clause-first c = found_kept (get bytes_eq c.args.table.now) c.args.name.now c.args.at (sym c.contains_key.ensures ∙ c.if-not-contains_key.false)
+
+pub returns-else-not-contains_key-clause-places : goal.returns-else-not-contains_key-clause-places
+returns-else-not-contains_key-clause-places c = inl refl

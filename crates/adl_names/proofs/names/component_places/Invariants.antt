@@ -1,12 +1,15 @@
-use Rattle.std.proofs.Common.{◌≡◌, drop, map, option_map}
+use Rattle.std.proofs.Common.{◌≡◌, ◌++◌, drop, map, option_map}
 use Rattle.std.specs.List.{find}
 use Rattle.std.specs.Option.{option_or}
 use Rattle.std.specs.Str.{bytes_eq}
 use Rattle.indexmap.specs.IndexMap.{get}
-use Rattle.adl_meaning.specs.Items.{Name}
+use Rattle.adl_meaning.specs.Items.{Name, Rises}
 use Rattle.adl_names.specs.Located.{located}
+use Rattle.adl_names.specs.Places.{table_places}
 use Rattle.adl_names.proofs.names.component_places.Given as goal
 
-abbrev pub invariant-loop-x : goal.invariant-loop-x
-invariant-loop-x l =
-    (n : Name) → option_or (get bytes_eq l.table n) (option_map (λ p. p.0) (find (λ p. bytes_eq n p.1.id.name) (map located (drop l.x-index l.components)))) ≡ option_map (λ p. p.0) (find (λ p. bytes_eq n p.1.id.name) (map located l.components))
+abbrev pub invariant-loop-component : goal.invariant-loop-component
+invariant-loop-component l = record {
+  first : (n : Name) → option_or (get bytes_eq l.table n) (option_map (λ p. p.0) (find (λ p. bytes_eq n p.1.id.name) (map located (drop l.component-index l.components)))) ≡ option_map (λ p. p.0) (find (λ p. bytes_eq n p.1.id.name) (map located l.components));
+  order : Rises (table_places l.table ++ map (λ x. x.at) (drop l.component-index l.components));
+}

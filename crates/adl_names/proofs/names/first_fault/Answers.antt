@@ -1,6 +1,4 @@
-use Rattle.std.proofs.Common.{◌≡◌, ◌∙◌, ◌++◌, None, Option, List}
-use Rattle.cam_base.specs.declared.place.Fault.{Fault}
-use Rattle.adl_meaning.specs.Faults.{noted, least}
+use Rattle.std.proofs.Common.{◌++◌}
 use Rattle.adl_meaning.specs.SecondAssembly.{second_assemblies}
 use Rattle.adl_meaning.specs.NoAssembly.{no_assembly}
 use Rattle.adl_meaning.specs.Duplicate.{duplicates}

@@ -1,5 +1,4 @@
 use Rattle.std.proofs.Common.{◌≡◌, ◌∙◌, ap, map}
-use Rattle.adl_ast.specs.declared.file.Item.{Item}
 use Rattle.adl_meaning.specs.CompositeBody.{misplaced_in_item}
 use Rattle.adl_meaning.specs.Faults.{noted}
 use Rattle.adl_meaning.specs.Items.{items_of}

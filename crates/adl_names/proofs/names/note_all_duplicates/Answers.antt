@@ -1,8 +1,7 @@
-use Rattle.std.proofs.Common.{◌≡◌, ◌∙◌, ◌++◌, ap, map, List, Bor}
+use Rattle.std.proofs.Common.{◌≡◌, ◌∙◌, ◌++◌, ap, map}
 use Rattle.std.specs.List.{flat_map}
 use Rattle.adl_ast.specs.declared.component.Component.{Component}
 use Rattle.adl_ast.specs.declared.file.Item.{Item}
-use Rattle.adl_ast.specs.declared.id.Id.{Id}
 use Rattle.adl_ast.specs.declared.procedure.Procedure.{Procedure}
 use Rattle.adl_meaning.specs.Duplicate.{repeats, duplicates_in_item}
 use Rattle.adl_meaning.specs.Faults.{noted}

@@ -1,12 +1,13 @@
-use Rattle.std.proofs.Common.{◌≡◌, ◌<◌, ◌∙◌, ap, map, length, sym, arith, List}
+use Rattle.std.proofs.Common.{◌≡◌, ◌∙◌, ap, map, length, arith, List}
 use Rattle.std.proofs.lemmas.List.{length-map}
 use Rattle.adl_ast.specs.declared.component.Component.{Component}
 use Rattle.adl_meaning.specs.Faults.{noted}
 use Rattle.adl_meaning.specs.Items.{components}
 use Rattle.adl_meaning.specs.Recursive.{number_named, recursive_among}
 use Rattle.adl_meaning.specs.declared.item_at.ItemAt.{ItemAt}
-use Rattle.adl_names.specs.Located.{located, trees}
-use Rattle.adl_names.proofs.Whole.{trees-located, few_components}
+use Rattle.component_graph.proofs.FewComponents.{few_components}
+use Rattle.adl_names.specs.Located.{located}
+use Rattle.adl_names.proofs.Whole.{trees-located}
 use Rattle.adl_names.proofs.names.note_all_recursive.Goals as goal
 
 pub note_recursive-requires : goal.note_recursive-requires

@@ -1,4 +1,4 @@
-use Rattle.std.proofs.Common.{◌≡◌, drop, map, ◌++◌, ◌||◌, is_some}
+use Rattle.std.proofs.Common.{◌≡◌, drop, map, ◌++◌}
 use Rattle.adl_names.specs.Pointed.{pointed}
 use Rattle.adl_names.specs.Located.{located}
 use Rattle.adl_names.proofs.names.procedure_ids.Given as goal

@@ -1,4 +1,4 @@
-use Rattle.std.proofs.Common.{◌≡◌, drop, map, ◌++◌, ◌||◌, is_some}
+use Rattle.std.proofs.Common.{◌≡◌, drop, map, ◌||◌, is_some}
 use Rattle.std.specs.List.{find}
 use Rattle.std.specs.Str.{bytes_eq}
 use Rattle.adl_meaning.specs.Items.{Name}

@@ -1,6 +1,4 @@
-use Rattle.std.proofs.Common.{◌≡◌, ◌∙◌, sym, None, Option}
-use Rattle.cam_base.specs.declared.place.Fault.{Fault}
-use Rattle.adl_meaning.specs.NameFaults.{first_name_fault}
+use Rattle.std.proofs.Common.{◌∙◌, sym}
 use Rattle.adl_meaning.proofs.SoundNames.{names_sound}
 use Rattle.adl_names.proofs.names.resolve.Goals as goal
 

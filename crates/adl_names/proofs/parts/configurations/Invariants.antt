@@ -1,4 +1,4 @@
-use Rattle.std.proofs.Common.{◌≡◌, drop, map, ◌++◌}
+use Rattle.std.proofs.Common.{◌≡◌, drop, ◌++◌}
 use Rattle.adl_names.specs.Pointed.{pointed}
 use Rattle.std.specs.List.{filter_map}
 use Rattle.adl_meaning.specs.Members.{as_configuration}

@@ -1,5 +1,5 @@
-use Rattle.std.proofs.Common.{◌≡◌, drop, ◌++◌, map}
-use Rattle.std.specs.List.{flat_map, filter_map, enumerate_from}
+use Rattle.std.proofs.Common.{◌≡◌, drop, ◌++◌}
+use Rattle.std.specs.List.{flat_map}
 use Rattle.adl_names.specs.Pointed.{pointed}
 use Rattle.adl_meaning.specs.Holding.{instances_by}
 use Rattle.adl_names.proofs.parts.push_composition.Given as goal

@@ -1,5 +1,4 @@
-use Rattle.std.proofs.Common.{◌≡◌, drop, ◌++◌, map}
-use Rattle.std.specs.List.{flat_map, filter_map, enumerate_from}
+use Rattle.std.proofs.Common.{◌≡◌, drop, ◌++◌}
 use Rattle.adl_names.specs.Pointed.{pointed}
 use Rattle.adl_names.proofs.parts.push_each.Given as goal
 

@@ -1,5 +1,4 @@
 use Rattle.std.proofs.Common.{◌≡◌, drop, ◌++◌, map}
-use Rattle.std.specs.List.{flat_map, filter_map, enumerate_from}
 use Rattle.adl_meaning.specs.Recursive.{types_of}
 use Rattle.adl_names.specs.ByName.{found}
 use Rattle.adl_names.specs.Located.{trees}

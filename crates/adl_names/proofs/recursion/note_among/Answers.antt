@@ -1,4 +1,4 @@
-use Rattle.std.proofs.Common.{◌≡◌, ◌<◌, ◌∙◌, ℕ, List, length, subst, sym, ap, arith}
+use Rattle.std.proofs.Common.{◌≡◌, ◌∙◌, ℕ, List, length, subst, sym, ap}
 use Rattle.std.proofs.lemmas.List.{length-map}
 use Rattle.adl_ast.specs.declared.component.Component.{Component}
 use Rattle.adl_meaning.specs.Faults.{noted}
@@ -6,9 +6,9 @@ use Rattle.adl_meaning.specs.Graph.{InRange, IsAcyclic}
 use Rattle.adl_meaning.specs.Recursive.{graph_of}
 use Rattle.adl_names.specs.ByName.{found}
 use Rattle.adl_names.specs.Located.{trees}
-use Rattle.adl_names.specs.Numbers.{AreBelow}
+use Rattle.component_graph.specs.Numbers.{AreBelow}
 use Rattle.adl_names.specs.declared.located.Located.{Located}
-use Rattle.adl_names.proofs.ComponentNumbers.{graph_in_range, none_recursive}
+use Rattle.component_graph.proofs.ComponentNumbers.{graph_in_range, none_recursive}
 use Rattle.adl_names.proofs.recursion.note_among.Goals as goal
 
 pub is_acyclic-requires-clause-range : goal.is_acyclic-requires-clause-range

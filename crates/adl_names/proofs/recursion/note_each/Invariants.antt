@@ -1,4 +1,4 @@
-use Rattle.std.proofs.Common.{◌≡◌, drop, map}
+use Rattle.std.proofs.Common.{◌≡◌, drop}
 use Rattle.std.specs.List.{flat_map, enumerate_from}
 use Rattle.adl_meaning.specs.Faults.{noted}
 use Rattle.adl_meaning.specs.Recursive.{recursive_in}

@@ -1,4 +1,4 @@
-use Rattle.std.proofs.Common.{◌≡◌, ◌<◌, ◌∙◌, ℕ, List, length, sym, ap, arith, Option, Some}
+use Rattle.std.proofs.Common.{◌≡◌, ◌<◌, ◌∙◌, ℕ, length, sym, ap, arith, Option}
 use Rattle.std.proofs.lemmas.List.{length-map}
 use Rattle.adl_ast.specs.declared.component.Component.{Component}
 use Rattle.adl_meaning.specs.Faults.{noted}
@@ -7,7 +7,7 @@ use Rattle.adl_meaning.specs.Recursive.{number_named, recursive_among}
 use Rattle.adl_names.specs.ByName.{found}
 use Rattle.adl_names.specs.Located.{trees}
 use Rattle.adl_names.specs.declared.located.Located.{Located}
-use Rattle.adl_names.proofs.ComponentNumbers.{numbers_below}
+use Rattle.component_graph.proofs.ComponentNumbers.{numbers_below}
 use Rattle.adl_names.proofs.recursion.note_recursive.Goals as goal
 
 pub note_among-requires-clause-numbers : goal.note_among-requires-clause-numbers

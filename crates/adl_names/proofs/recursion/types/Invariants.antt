@@ -1,5 +1,5 @@
-use Rattle.std.proofs.Common.{◌≡◌, drop, ◌++◌, map}
-use Rattle.std.specs.List.{flat_map, filter_map, enumerate_from}
+use Rattle.std.proofs.Common.{◌≡◌, drop, ◌++◌}
+use Rattle.std.specs.List.{filter_map}
 use Rattle.adl_names.specs.Pointed.{pointed}
 use Rattle.adl_names.specs.ByName.{found}
 use Rattle.adl_names.proofs.recursion.types.Given as goal

@@ -1,6 +1,5 @@
-use Rattle.std.proofs.Common.{◌≡◌, drop, map, ◌++◌}
+use Rattle.std.proofs.Common.{◌≡◌, drop}
 use Rattle.adl_meaning.specs.Faults.{noted}
-use Rattle.adl_names.specs.Pointed.{pointed}
 use Rattle.std.specs.List.{flat_map}
 use Rattle.adl_meaning.specs.Duplicate.{duplicates_in_item}
 use Rattle.adl_names.proofs.repeats.note_duplicates.Given as goal

@@ -1,4 +1,4 @@
-use Rattle.std.proofs.Common.{◌≡◌, drop, map, ◌++◌}
+use Rattle.std.proofs.Common.{◌≡◌, drop}
 use Rattle.adl_meaning.specs.Faults.{noted}
 use Rattle.adl_names.specs.Pointed.{pointed}
 use Rattle.adl_meaning.specs.Duplicate.{repeats_after, repeats}

@@ -1,7 +1,6 @@
-use Rattle.std.proofs.Common.{◌≡◌, ◌∙◌, ap, sym, map, None}
-use Rattle.std.specs.List.{filter_map}
+use Rattle.std.proofs.Common.{◌≡◌, ◌∙◌, ap, map}
 use Rattle.adl_meaning.specs.Faults.{noted}
-use Rattle.adl_meaning.specs.Items.{as_component, items_of, components}
+use Rattle.adl_meaning.specs.Items.{items_of}
 use Rattle.adl_meaning.proofs.Least.{noted-none}
 use Rattle.adl_names.specs.Located.{located}
 use Rattle.adl_types.specs.Told.{outlines_told, all_told}
@@ -12,11 +11,9 @@ use Rattle.adl_types.proofs.check.first_fault.Goals as goal
 pub note_all-requires-clause-joined : goal.note_all-requires-clause-joined
 note_all-requires-clause-joined c =
     let s = c.args.source.now in
-    let listed : map located c.as_slice.result.now ≡ items_of s = ap (map located) c.as_slice.ensures.value ∙ c.in_ok-items.ensures in
-    let found : map located c.as_slice-2.result.now ≡ components s = ap (map located) c.as_slice-2.ensures.value ∙ c.in_ok-components.ensures ∙ ap (filter_map as_component) listed in
     let again : map located c.as_slice-3.result.now ≡ items_of s = ap (map located) c.as_slice-3.ensures.value ∙ c.in_ok-items.ensures in
     ap all_told c.as_slice-4.ensures.value ∙ c.in_ok-joined.ensures
-    ∙ joined_found (outlines_told c.in_ok-outlines.outlines) c.as_slice-3.result.now (map located c.as_slice-2.result.now) s c.in_ok-outlines.ensures found again
+    ∙ joined_found (outlines_told c.in_ok-all.all.outlines) c.as_slice-3.result.now s c.in_ok-all.ensures.outlines again
 
 pub returns : goal.returns
 returns c = c.fault.ensures ∙ c.in_ok-note_all.ensures ∙ ap (λ o. noted o (type_faults c.args.source.now)) c.none-first.ensures ∙ noted-none (type_faults c.args.source.now)

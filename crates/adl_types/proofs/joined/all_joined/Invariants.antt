@@ -6,4 +6,4 @@ use Rattle.adl_types.proofs.joined.all_joined.Given as goal
 
 abbrev pub invariant-loop-x : goal.invariant-loop-x
 invariant-loop-x l =
-    all_told l.found.items ++ flat_map (λ x. joined_in_item (outlines_told l.all) x.item.now) (drop l.x-index l.items) ≡ flat_map (λ x. joined_in_item (outlines_told l.all) x.item.now) l.items
+    all_told l.found.items ++ flat_map (λ x. joined_in_item (outlines_told l.all.outlines) x.item.now) (drop l.x-index l.items) ≡ flat_map (λ x. joined_in_item (outlines_told l.all.outlines) x.item.now) l.items

@@ -6,4 +6,4 @@ use Rattle.adl_types.proofs.joined.joined_ends.Given as goal
 
 abbrev pub invariant-loop-end : goal.invariant-loop-end
 invariant-loop-end l =
-    map joined_end_told l.joined.items ++ map (joined_end (outlines_told l.all) (holding_told l.held)) (drop l.end-index l.ends) ≡ map (joined_end (outlines_told l.all) (holding_told l.held)) l.ends
+    map joined_end_told l.joined.items ++ map (joined_end (outlines_told l.all.outlines) (holding_told l.held)) (drop l.end-index l.ends) ≡ map (joined_end (outlines_told l.all.outlines) (holding_told l.held)) l.ends

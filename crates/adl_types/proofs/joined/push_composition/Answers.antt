@@ -14,5 +14,5 @@ returns c =
     let same : holding_told c.in_ok-held.held ≡ held_as k = λ i n. c.in_ok-held.ensures n i in
     let all : pointed c.as_slice.result.now ≡ connections_in k = ap pointed c.as_slice.ensures.value ∙ c.in_ok-connections.ensures in
     c.in_ok-push_connections.ensures
-    ∙ ap (λ xs. all_told c.args.found.now.items ++ flat_map (joined_as (outlines_told c.args.all.now) (holding_told c.in_ok-held.held)) xs) all
-    ∙ ap (λ (h : Name → Option Held). all_told c.args.found.now.items ++ flat_map (joined_as (outlines_told c.args.all.now) h) (connections_in k)) same
+    ∙ ap (λ xs. all_told c.args.found.now.items ++ flat_map (joined_as (outlines_told c.args.all.now.outlines) (holding_told c.in_ok-held.held)) xs) all
+    ∙ ap (λ (h : Name → Option Held). all_told c.args.found.now.items ++ flat_map (joined_as (outlines_told c.args.all.now.outlines) h) (connections_in k)) same

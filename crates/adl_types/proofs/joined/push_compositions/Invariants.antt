@@ -7,4 +7,4 @@ use Rattle.adl_types.proofs.joined.push_compositions.Given as goal
 
 abbrev pub invariant-loop-composition : goal.invariant-loop-composition
 invariant-loop-composition l =
-    all_told l.found.items ++ flat_map (joined_in_composition (outlines_told l.all)) (pointed (drop l.composition-index l.compositions)) ≡ all_told l.fn.found.items ++ flat_map (joined_in_composition (outlines_told l.all)) (pointed l.compositions)
+    all_told l.found.items ++ flat_map (joined_in_composition (outlines_told l.all.outlines)) (pointed (drop l.composition-index l.compositions)) ≡ all_told l.fn.found.items ++ flat_map (joined_in_composition (outlines_told l.all.outlines)) (pointed l.compositions)

@@ -1,4 +1,4 @@
-use Rattle.std.proofs.Common.{◌≡◌, drop, map, option_map}
+use Rattle.std.proofs.Common.{◌≡◌, drop}
 use Rattle.std.specs.List.{flat_map}
 use Rattle.adl_meaning.specs.Faults.{noted}
 use Rattle.adl_types.specs.TypeMismatch.{mismatches_in}

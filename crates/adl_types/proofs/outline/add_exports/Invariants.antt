@@ -1,5 +1,5 @@
-use Rattle.std.proofs.Common.{◌≡◌, drop, option_map}
-use Rattle.std.specs.List.{filter_map, find}
+use Rattle.std.proofs.Common.{◌≡◌, drop}
+use Rattle.std.specs.List.{filter_map}
 use Rattle.std.specs.Option.{option_or}
 use Rattle.adl_meaning.specs.Export.{port_of}
 use Rattle.adl_meaning.specs.Holding.{as_export}

@@ -1,5 +1,5 @@
 use Rattle.std.proofs.Common.{◌-◌, length}
-use Rattle.component_graph.proofs.Rounds.{IsReach}
+use Rattle.component_graph.proofs.Reach.{IsReach}
 use Rattle.component_graph.proofs.holding.holds.Given as goal
 
 abbrev pub invariant-loop-next : goal.invariant-loop-next

@@ -1,5 +1,5 @@
-use Rattle.component_graph.proofs.Through.{through_sound, through_complete}
 use Rattle.std.proofs.Common.{length}
+use Rattle.component_graph.proofs.Through.{through_sound, through_complete}
 use Rattle.component_graph.proofs.laws.held_is_held.Goals as goal
 
 pub returns : goal.returns

@@ -1,4 +1,4 @@
-use Rattle.component_graph.proofs.GraphLemmas.{walks_short}
+use Rattle.component_graph.proofs.Walks.{walks_short}
 use Rattle.component_graph.proofs.laws.walks_are_short.Goals as goal
 
 pub returns : goal.returns

@@ -1,13 +1,19 @@
-use Rattle.std.proofs.Common.{rules, ◌≡◌, length, ap, sym, ◌∙◌}
+use Rattle.std.proofs.Common.{List, ℕ, refl, sym, subst}
 use Rattle.adl_meaning.specs.Graph.{IsInnerFirst}
-use Rattle.component_graph.proofs.GraphLemmas.{acyclic_from_order, ring_from_stuck}
+use Rattle.component_graph.proofs.Waiting.{order_at_end, ring_at_end}
+use Rattle.component_graph.proofs.Walks.{acyclic_from_order}
 use Rattle.component_graph.proofs.order.inner_first.Goals as goal
 
-pub returns-then-branch-clause-acyclic : goal.returns-then-branch-clause-acyclic
-returns-then-branch-clause-acyclic c = let o : IsInnerFirst c.args.graph.now c.place_round.new.placed.list = search rules in acyclic_from_order _ _ o
+pub returns-then-is_full-clause-order : goal.returns-then-is_full-clause-order
+returns-then-is_full-clause-order c =
+    let P : List ℕ → Type 0 = λ xs. IsInnerFirst c.args.graph.now xs in
+    subst P (sym c.into_list.ensures.list) (order_at_end _ _ c.in_ok-placing.ensures.placing c.into_list.ensures.below (c.if-is_full.ensures.full refl))
 
-pub returns-then-list-before-clause-none : goal.returns-then-list-before-clause-none
-returns-then-list-before-clause-none c = λ acyclic.
-    let same : length c.place_round.new.placed.list ≡ length c.loop-placed.placed.list = ap length (sym c.list.ensures.list) ∙ c.if-list-before.true ∙ ap length c.list-before.ensures.list in
-    let one = c.in_ok-place_round.ensures.left c.if-branch.false same in
-    ring_from_stuck _ _ c.requires.range (c.in_ok-place_round.ensures.stuck same) one.0 one.1 one.2 acyclic
+pub returns-then-is_full-clause-acyclic : goal.returns-then-is_full-clause-acyclic
+returns-then-is_full-clause-acyclic c =
+    acyclic_from_order _ _ (order_at_end _ _ c.in_ok-placing.ensures.placing c.into_list.ensures.below (c.if-is_full.ensures.full refl))
+
+pub returns-else-is_full-clause-none : goal.returns-else-is_full-clause-none
+returns-else-is_full-clause-none c = λ acyclic.
+    let one = c.if-is_full.ensures.lacking refl in
+    ring_at_end _ _ c.requires.range c.in_ok-placing.ensures.end one.0 (rw (← c.in_ok-placing.ensures.placing.size) one.1) one.2 acyclic

@@ -1,0 +1,42 @@
+-- Domains of leaves, one leaf further.
+use Rattle.std.proofs.Common.{◌≡◌, ◌<◌, ◌+◌, ℕ, suc, zero, Bool, true, false, cond, List, length, get_or, drop, [], ◌∷◌, ◌++◌, map, Option, Some, None, refl, sym, ◌∙◌, ap, arith, append_assoc}
+use Rattle.std.specs.List.{filter, enumerate_from}
+use Rattle.adl_meaning.proofs.Noting.{drop_first}
+use Rattle.adl_meaning.specs.Paths.{Path}
+use Rattle.adl_flatten.specs.Homes.{present, is_number}
+
+present-first : (x : Option Path) (xs : List (Option Path)) → present (x ∷ xs) ≡ present (x ∷ []) ++ present xs
+present-first None xs = refl
+present-first (Some p) xs = refl
+
+pub present_more : (xs : List (Option Path)) (i : ℕ) (x : Option Path) → i < length xs → x ≡ get_or xs i x → present (x ∷ []) ++ present (drop (i + 1) xs) ≡ present (drop i xs)
+present_more xs i x l e = sym (present-first x (drop (i + 1) xs)) ∙ ap present (sym (drop_first xs i x l e))
+
+-- the places, counted from a, of those that are the number
+abbrev pub numbered_from : ℕ → ℕ → List (Option ℕ) → List ℕ
+numbered_from d a xs = map (λ x. x.0) (filter (λ x. is_number d x.1) (enumerate_from a xs))
+
+numbered-first : (d a : ℕ) (x : Option ℕ) (xs : List (Option ℕ)) → numbered_from d a (x ∷ xs) ≡ cond (is_number d x) (a ∷ []) [] ++ numbered_from d (a + 1) xs
+numbered-first d a x xs = by_test (is_number d x)
+  where
+    by_test : (b : Bool) → map (λ (y : ℕ × Option ℕ). y.0) (cond b ((a, x) ∷ filter (λ y. is_number d y.1) (enumerate_from (a + 1) xs)) (filter (λ y. is_number d y.1) (enumerate_from (a + 1) xs))) ≡ cond b (a ∷ []) [] ++ numbered_from d (a + 1) xs
+    by_test true = refl
+    by_test false = refl
+
+get_or-any : {X : Type 0} (xs : List X) (i : ℕ) (d e : X) → i < length xs → get_or xs i d ≡ get_or xs i e
+get_or-any [] i d e l = absurd (omega arith)
+get_or-any (x ∷ xs) zero d e l = refl
+get_or-any (x ∷ xs) (suc i) d e l = get_or-any xs i d e (omega arith)
+
+pub numbered_more : (d : ℕ) (xs : List (Option ℕ)) (a : ℕ) (x : Option ℕ) (new old : List ℕ) → a < length xs → x ≡ get_or xs a None → new ≡ old ++ cond (is_number d x) (a ∷ []) []
+    → new ++ numbered_from d (a + 1) (drop (a + 1) xs) ≡ old ++ numbered_from d a (drop a xs)
+numbered_more d xs a x new old l e n =
+    ap (λ z. z ++ numbered_from d (a + 1) (drop (a + 1) xs)) n
+    ∙ append_assoc old (cond (is_number d x) (a ∷ []) []) (numbered_from d (a + 1) (drop (a + 1) xs))
+    ∙ ap (λ z. old ++ z) (sym (numbered-first d a x (drop (a + 1) xs)) ∙ ap (numbered_from d a) (sym (drop_first xs a x l (e ∙ get_or-any xs a None x l))))
+
+pub empty_more : (xs : List (List ℕ)) (d : ℕ) → ((d : ℕ) → get_or xs d [] ≡ []) → get_or (xs ++ [] ∷ []) d [] ≡ []
+empty_more [] zero h = refl
+empty_more [] (suc d) h = refl
+empty_more (x ∷ xs) zero h = h 0
+empty_more (x ∷ xs) (suc d) h = empty_more xs d (λ d. h (suc d))

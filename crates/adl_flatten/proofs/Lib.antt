@@ -1,0 +1,14 @@
+pub mod EndLookups
+pub mod FaultLists
+pub mod Filling
+pub mod FlatLists
+pub mod Joining
+pub mod LeafDomains
+pub mod Limited
+pub mod PassedLimits
+pub mod PathLookups
+pub mod Ports
+pub mod Reaching
+pub mod Reading
+pub mod Totalling
+pub mod Walks

@@ -1,0 +1,42 @@
+use Rattle.std.proofs.Common.{◌≡◌, ◌-◌, ◌++◌, ◌∙◌, List, ap, sym, subst, arith}
+use Rattle.std.proofs.lemmas.List.{append-nil}
+use Rattle.std.specs.Result.{OnOk}
+use Rattle.adl_hierarchy.proofs.Steps.{kind_in}
+use Rattle.component_graph.proofs.Lists.{in_map}
+use Rattle.adl_meaning.specs.Hierarchy.{Body, Part}
+use Rattle.adl_meaning.specs.Lists.{IsIn}
+use Rattle.adl_meaning.specs.Joins.{Strung, connections_within, strung_by}
+use Rattle.adl_flatten.specs.Stringings.{all_strung_told, along}
+use Rattle.adl_flatten.specs.Told.{part_told}
+use Rattle.adl_flatten.proofs.Totalling.{in_at}
+use Rattle.adl_flatten.proofs.Walks.{walk_more, walk_end, connections_joined, connections_below, no_connections}
+use Rattle.adl_flatten.proofs.connections.+walk.Goals as goal
+
+pub push_body-push_part-requires : goal.push_body-push_part-requires
+push_body-push_part-requires t c =
+    let P : List Part → Type 0 = λ xs. IsIn (part_told c.part-item.result) xs in
+    let here = in_map part_told _ c.parts-part-items.result.now (in_at c.parts-part-items.result.now c.loop-part.part-index c.part-item.result c.loop-part-test.true c.part-item.is) in
+    (omega (arith, c.decreases), (c.requires.finite, (c.requires.totals, kind_in c.args.table.now c.requires.finite c.args.number (part_told c.part-item.result) c.requires.number (subst P (c.parts-part-items.ensures ∙ ap (λ (b : Body). b.parts) c.body-body.ensures) here))))
+
+pub push_body-loop-part-preserved : goal.push_body-loop-part-preserved
+push_body-loop-part-preserved t c =
+    walk_more _ _ (along c.args.path.now) (strung_by (connections_within c.args.table.now (c.args.depth - 1))) part_told c.parts-part-items.result.now c.loop-part.part-index c.part-item.result c.loop-part-test.true c.part-item.is c.in_ok-push_part.ensures
+    ∙ c.loop-part.invariant
+
+pub push_body-returns : goal.push_body-returns
+push_body-returns t c =
+    let h = c.args.table.now in
+    walk_end _ _ (along c.args.path.now) (strung_by (connections_within h (c.args.depth - 1))) part_told c.parts-part-items.result.now c.loop-part.part-index c.loop-part-test.false c.loop-part.invariant
+    ∙ connections_joined h c.args.depth c.args.number _ (all_strung_told c.args.found.now.items) c.args.path.now c.if-depth-eq0.false (c.parts-part-items.ensures ∙ ap (λ (b : Body). b.parts) c.body-body.ensures)
+
+pub push_part-returns-then-totals-part-eq0 : goal.push_part-returns-then-totals-part-eq0
+push_part-returns-then-totals-part-eq0 t c =
+    sym (append-nil (all_strung_told c.args.found.now.items))
+    ∙ ap (λ z. all_strung_told c.args.found.now.items ++ z)
+    (sym (no_connections c.args.table.now c.args.totals.now c.args.depth (part_told c.args.part) _ c.args.above.now c.requires.finite c.requires.totals c.requires.kind c.if-totals-part-eq0.true))
+
+pub push_part-returns : goal.push_part-returns
+push_part-returns t c =
+    let h = c.args.table.now in
+    let P : List Strung → Type 0 = λ z. OnOk c.push_body.result (all_strung_told c.push_body.new.found.items ≡ all_strung_told c.args.found.now.items ++ z) in
+    subst P (connections_below (connections_within h c.args.depth) (part_told c.args.part) c.args.above.now c.in_ok-path.path c.in_ok-path.ensures) c.push_body.ensures

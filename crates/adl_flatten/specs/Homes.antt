@@ -1,0 +1,28 @@
+-- The domain path of each leaf, and the leaves of each domain by number.
+use Rattle.std.specs.Prelude.{ℕ, ◌==◌, Bool, false, if◌then◌else◌, List, map, Option, None, Some, option_map}
+use Rattle.std.specs.List.{filter, filter_map, enumerate_from}
+use Rattle.std.specs.Option.{option_map_or}
+use Rattle.adl_meaning.specs.Domains.{domain_of, is_hardware}
+use Rattle.adl_meaning.specs.Hierarchy.{Hierarchy}
+use Rattle.adl_meaning.specs.Lists.{place_by}
+use Rattle.adl_meaning.specs.Paths.{Path, Placed, same_path}
+
+-- the domain path of a leaf; a device has none
+abbrev pub home : Hierarchy → Placed → Option Path
+home h x = if is_hardware h x.part then None else Some (domain_of h x.path)
+
+-- the paths that are there
+abbrev pub present : List (Option Path) → List Path
+present homes = filter_map (λ o. o) homes
+
+-- the place of a domain path among others
+abbrev pub home_number : List Path → Option Path → Option ℕ
+home_number paths o = option_map (λ p. place_by (same_path p) paths) o
+
+-- whether it is this number
+abbrev pub is_number : ℕ → Option ℕ → Bool
+is_number d o = option_map_or (λ n. n == d) o false
+
+-- the places of those that are this number
+abbrev pub numbered : ℕ → List (Option ℕ) → List ℕ
+numbered d numbers = map (λ x. x.0) (filter (λ x. is_number d x.1) (enumerate_from 0 numbers))

@@ -1,0 +1,12 @@
+pub mod BodyTold
+pub mod EndCounts
+pub mod FaultsTold
+pub mod Homes
+pub mod JoinsTold
+pub mod Needed
+pub mod PathNumbers
+pub mod Placings
+pub mod Reachings
+pub mod Stringings
+pub mod Told
+pub mod TotalsOf

@@ -1,0 +1,145 @@
+//! How many ends join each interface.
+
+ghost use Rattle.adl_flatten.specs.EndCounts.{same_key, is_counted, count_at, AreCounts};
+ghost use Rattle.adl_flatten.specs.JoinsTold.{joined_end_told, all_joined_told};
+ghost use Rattle.adl_meaning.specs.JoinedEnds.{is_at};
+ghost use Rattle.adl_meaning.specs.UsedTwice.{clashes};
+ghost use Rattle.std.specs.List.{list_any, count_by};
+ghost use Rattle.std.specs.Prelude.{◌≡◌, ◌<◌, ◌+◌, ◌^◌, if◌then◌else◌, IfOk, OnOk};
+
+use crate::joins::JoinedEnd;
+use cam_base::NoMemory;
+use indexmap::IndexMap;
+use std::alloc::Global;
+use std::marker::Model;
+
+/// An interface of a leaf, and the connection whose ends are counted there, or `None` for those of all connections.
+#[derive(Clone, Copy, PartialEq, Eq, Hash)]
+struct EndKey {
+    connection: Option<u32>,
+    leaf: u32,
+    member: u32,
+}
+
+/// The number of ends at each key.
+#[derive(Drop)]
+struct EndCounts {
+    counts: IndexMap<EndKey, usize>,
+}
+
+impl EndCounts {
+    /// No ends. Takes no memory.
+    fn new(alloc: Global) -> EndCounts
+        ensures { (k : EndKey) → count_at result k ≡ 0 }
+    {
+        EndCounts {
+            counts: IndexMap::new(alloc),
+        }
+    }
+
+    /// The number of ends at the key.
+    fn at(&self, key: EndKey) -> usize
+        ensures { result ≡ count_at self.now key }
+    {
+        self.counts.get(&key).copied().unwrap_or(0)
+    }
+
+    fn add_at(&mut self, key: EndKey) -> Result<(), NoMemory>
+        requires { count_at self.old key + 1 < 2 ^ 64 }
+        ensures { OnOk result ((k : EndKey) → count_at self.new k ≡ count_at self.old k + (if same_key key k then 1 else 0)) }
+    {
+        let count = self.at(key);
+        self.counts.insert(key, count + 1)?;
+        Ok(())
+    }
+
+    /// Counts an end among those of its connection, and among all.
+    fn add(&mut self, end: &JoinedEnd<'_>) -> Result<(), NoMemory>
+        requires few { (k : EndKey) → count_at self.old k + 1 < 2 ^ 64 }
+        ensures { OnOk result ((k : EndKey) → count_at self.new k ≡ count_at self.old k + (if is_counted k (joined_end_told end.now) then 1 else 0)) }
+    {
+        let all = EndKey {
+            connection: None,
+            leaf: end.end.leaf,
+            member: end.end.member,
+        };
+        let own = EndKey {
+            connection: Some(end.connection),
+            ..all
+        };
+        self.add_at(all)?;
+        self.add_at(own)
+    }
+}
+
+fn counts_of(alloc: Global, ends: &[JoinedEnd<'_>]) -> Result<EndCounts, NoMemory>
+    ensures { IfOk result (λ t. AreCounts t (all_joined_told ends.now)) }
+{
+    let mut counts = EndCounts::new(alloc);
+    for end in ends {
+        counts.add(end)?;
+    }
+    Ok(counts)
+}
+
+/// Ends, and how many of them join each interface. Contracts see it as the ends.
+#[derive(Drop)]
+pub struct CountedEnds<'t, 'a> {
+    ends: &'t [JoinedEnd<'a>],
+    counts: EndCounts,
+}
+
+impl<'t, 'a> Model for CountedEnds<'t, 'a> {
+    ghost use Rattle.adl_meaning.specs.JoinedEnds.{JoinedEnd};
+    ghost use Rattle.std.specs.Prelude.{List};
+
+    ghost Value = { List JoinedEnd };
+
+    ghost use Rattle.adl_flatten.specs.EndCounts.{AreCounts};
+    ghost use Rattle.adl_flatten.specs.JoinsTold.{all_joined_told};
+
+    ghost view = { λ t. all_joined_told t.ends.now };
+
+    ghost invariant = { λ t. AreCounts t.counts (all_joined_told t.ends.now) };
+}
+
+impl<'t, 'a> CountedEnds<'t, 'a> {
+    /// Counts the ends.
+    pub fn new(alloc: Global, ends: &'t [JoinedEnd<'a>]) -> Result<CountedEnds<'t, 'a>, NoMemory>
+        ensures { IfOk result (λ t. t ≡ all_joined_told ends.entry.now) }
+    {
+        let counts = counts_of(alloc, ends)?;
+        Ok(CountedEnds { ends, counts })
+    }
+
+    /// The ends, in order.
+    pub fn as_slice(&self) -> &[JoinedEnd<'a>]
+        ensures { all_joined_told result.now ≡ self.now }
+    {
+        self.ends
+    }
+
+    /// The number of ends that keep this one from joining its interface; an end among them finds itself.
+    pub fn clash_count(&self, end: &JoinedEnd<'_>) -> usize
+        ensures { result ≡ count_by (clashes (joined_end_told end.now)) self.now }
+    {
+        let connection = if end.once { None } else { Some(end.connection) };
+        self.counts.at(EndKey {
+            connection,
+            leaf: end.end.leaf,
+            member: end.end.member,
+        })
+    }
+
+    /// Whether an end joins the interface.
+    pub fn is_joined(&self, leaf: u32, member: u32) -> bool
+        ensures { result ≡ list_any (is_at leaf member) self.now }
+    {
+        let key = EndKey {
+            connection: None,
+            leaf,
+            member,
+        };
+        self.counts.at(key) > 0
+    }
+}

@@ -1,0 +1,92 @@
+-- The bodies of a source's hierarchy, and their instances.
+use Rattle.std.proofs.Common.{◌≡◌, ◌≤◌, ℕ, List, length, [], ◌∷◌, map, Option, Some, None, refl, sym, subst, ap, ◌∙◌, ◌⊎◌, inl, inr, true, is_some, arith}
+use Rattle.std.specs.List.{filter_map, slice_get}
+use Rattle.std.proofs.lemmas.Option.{get_or_from_slice_get, slice_get_within}
+use Rattle.std.proofs.lemmas.List.{length-map}
+use Rattle.adl_ast.specs.declared.component.Component.{Component}
+use Rattle.adl_ast.specs.declared.composition.Assembly.{Assembly}
+use Rattle.adl_ast.specs.declared.composition.Composition.{Composition}
+use Rattle.adl_ast.specs.declared.composition.Instance.{Instance}
+use Rattle.adl_ast.specs.declared.composition.Line.{Line}
+use Rattle.adl_ast.specs.declared.composition.Line.TheVariants as lines
+use Rattle.adl_ast.specs.declared.source.Source.{Source}
+use Rattle.adl_meaning.specs.declared.item_at.ItemAt.{ItemAt}
+use Rattle.adl_meaning.specs.Graph.{inner_of}
+use Rattle.adl_meaning.specs.Hierarchy.{Hierarchy, Part, Body, part_of, parts_by, parts_in, body_of, top_of, kind_named, hierarchy_of, top_number, body, is_composite, graph}
+use Rattle.adl_meaning.specs.Holding.{instances_by, instances_in}
+use Rattle.adl_meaning.specs.Items.{Name, components, assemblies}
+use Rattle.adl_meaning.specs.Lists.{IsIn}
+use Rattle.adl_meaning.specs.NameFaults.{AreNamesSound}
+use Rattle.adl_meaning.proofs.SoundNames.{one_assembly}
+use Rattle.component_graph.proofs.Lists.{in_flat_map, from_flat_map, from_filter_map, get_map, get_or_map, get_or_last, map_some}
+
+-- ---- instances
+
+part_from : (numbers : Name → Option ℕ) (g : Option Name) (is : List Instance) (x : Part) → IsIn x (filter_map (part_of numbers g) is) → IsIn x.instance is × (numbers x.instance.component.name ≡ Some x.kind)
+part_from numbers g is x m =
+    let i = from_filter_map (part_of numbers g) x is m in
+    let p = map_some (λ k. let part : Part = record { instance = i.0; group = g; kind = k } in part) (numbers i.0.component.name) x i.2 in
+    let P : Part → Type 0 = λ y. IsIn y.instance is × (numbers y.instance.component.name ≡ Some y.kind) in
+    subst P p.2 (i.1, p.1)
+
+part_by : (numbers : Name → Option ℕ) (l : Line) (x : Part) → IsIn x (parts_by numbers l) → IsIn x.instance (instances_by l) × (numbers x.instance.component.name ≡ Some x.kind)
+part_by numbers (lines.Instance i) x m = part_from numbers None (i ∷ []) x m
+part_by numbers (lines.Group g) x m = part_from numbers (Some g.id.name) g.instances x m
+part_by numbers (lines.Connection k) x m = absurd m
+part_by numbers (lines.Export e) x m = absurd m
+
+-- an instance of a body is one of its composition, with the number of its type
+pub record IsPart (numbers : Name → Option ℕ) (o : Option Composition) (x : Part) : Type 0 where
+  pub composition : Composition
+  pub composed : o ≡ Some composition
+  pub stands : IsIn x.instance (instances_in composition)
+  pub typed : numbers x.instance.component.name ≡ Some x.kind
+
+pub part_in : (numbers : Name → Option ℕ) (o : Option Composition) (x : Part) → IsIn x (parts_in numbers o) → IsPart numbers o x
+part_in numbers None x m = absurd m
+part_in numbers (Some k) x m =
+    let l = from_flat_map (parts_by numbers) x k.lines m in
+    let p = part_by numbers l.0 x l.2 in
+    record { composition = k; composed = refl; stands = in_flat_map instances_by l.0 x.instance k.lines l.1 p.0; typed = p.1 }
+
+-- ---- bodies
+
+-- a body is that of a component, or of the assembly
+pub body_at : (s : Source) (k : ℕ)
+    → ((c : ItemAt × Component) × (slice_get (components s) k ≡ Some c) × (body (hierarchy_of s) k ≡ body_of (kind_named s) c))
+    ⊎ ((length (components s) ≤ k) × (body (hierarchy_of s) k ≡ top_of (kind_named s) (slice_get (assemblies s) 0)))
+body_at s k = get_or_map (body_of (kind_named s)) (components s) k (top_of (kind_named s) (slice_get (assemblies s) 0))
+
+pub body_number : (s : Source) (k : ℕ) (c : ItemAt × Component) → slice_get (components s) k ≡ Some c → body (hierarchy_of s) k ≡ body_of (kind_named s) c
+body_number s k c e =
+    get_or_from_slice_get (map (body_of (kind_named s)) (components s)) k (body_of (kind_named s) c) (hierarchy_of s).top (get_map (body_of (kind_named s)) (components s) k c e)
+
+parts_of_top : (numbers : Name → Option ℕ) (a : Option (ItemAt × Assembly)) → (top_of numbers a).parts ≡ parts_in numbers (top_of numbers a).composition
+parts_of_top numbers None = refl
+parts_of_top numbers (Some a) = refl
+
+-- the instances of a body are those of its composition
+pub parts_of : (s : Source) (k : ℕ) → (body (hierarchy_of s) k).parts ≡ parts_in (kind_named s) (body (hierarchy_of s) k).composition
+parts_of s k = elim (body_at s k) [
+  | inl c ↦ let P : Body → Type 0 = λ b. b.parts ≡ parts_in (kind_named s) b.composition in subst P (sym c.2) refl
+  | inr t ↦ let P : Body → Type 0 = λ b. b.parts ≡ parts_in (kind_named s) b.composition in subst P (sym t.1) (parts_of_top (kind_named s) (slice_get (assemblies s) 0))
+]
+
+pub part_of_body : (s : Source) (k : ℕ) (x : Part) → IsIn x (body (hierarchy_of s) k).parts → IsPart (kind_named s) (body (hierarchy_of s) k).composition x
+part_of_body s k x i = let P : List Part → Type 0 = λ xs. IsIn x xs in part_in (kind_named s) (body (hierarchy_of s) k).composition x (subst P (parts_of s k) i)
+
+-- the graph lists the types of a body's instances
+pub inner_of_body : (h : Hierarchy) (k : ℕ) → k ≤ length h.bodies → inner_of (graph h) k ≡ map (λ x. x.kind) (body h k).parts
+inner_of_body h k l = get_or_last (λ (b : Body). map (λ (x : Part). x.kind) b.parts) h.bodies h.top k [] l
+
+-- the top has a composition, where there is an assembly
+pub top_composed : (s : Source) → AreNamesSound s → is_composite (hierarchy_of s) (top_number (hierarchy_of s)) ≡ true
+top_composed s sound =
+    let a = one_assembly s sound in
+    let P : Body → Type 0 = λ b. is_some b.composition ≡ true in
+    elim (body_at s (top_number (hierarchy_of s))) [
+      | inl c ↦
+          let low = slice_get_within (components s) (top_number (hierarchy_of s)) c.0 c.1 in
+          absurd (omega (arith, low, length-map (components s) (body_of (kind_named s))))
+      | inr t ↦ subst P (sym (t.1 ∙ ap (λ xs. top_of (kind_named s) (slice_get xs 0)) a.1)) refl
+    ]

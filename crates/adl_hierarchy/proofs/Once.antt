@@ -1,0 +1,44 @@
+-- No leaf is met twice.
+use Rattle.std.proofs.Common.{◌≡◌, ℕ, zero, suc, Bool, true, false, cond, List, length, [], ◌∷◌, map, refl, sym, ap, subst, inl, inr}
+use Rattle.adl_ast.specs.declared.source.Source.{Source}
+use Rattle.adl_meaning.specs.Hierarchy.{Hierarchy, Part, hierarchy_of, body, is_composite, top_number}
+use Rattle.adl_meaning.specs.Items.{Name}
+use Rattle.adl_meaning.specs.Lists.{IsIn}
+use Rattle.adl_meaning.specs.NameFaults.{AreNamesSound}
+use Rattle.adl_meaning.specs.Paths.{Path, Placed, name_of, outside, placed_by, leaves_within, leaves}
+use Rattle.adl_hierarchy.specs.Once.{IsOnce}
+use Rattle.component_graph.proofs.Lists.{from_map}
+use Rattle.adl_hierarchy.proofs.PartNames.{names_once}
+use Rattle.adl_hierarchy.proofs.Repeats.{once_map, head_of, tail_of, once_by_head}
+
+paths : List Placed → List Path
+paths xs = map (λ x. x.path) xs
+
+paths_outside : (n : Name) (xs : List Placed) → paths (map (outside n) xs) ≡ map (λ p. n ∷ p) (paths xs)
+unfolding paths
+paths_outside n [] = refl
+paths_outside n (x ∷ xs) = ap (λ ps. (n ∷ x.path) ∷ ps) (paths_outside n xs)
+
+-- the paths of an instance's leaves begin with its name
+begins : (x : Part) (ys : List Placed) (b : Bool) (z : Placed) → IsIn z (cond b (map (outside (name_of x)) ys) (record { path = name_of x ∷ []; part = x } ∷ [])) → head_of z.path ≡ name_of x
+begins x ys true z i = let k = from_map (outside (name_of x)) z ys i in ap (λ (u : Placed). head_of u.path) (sym k.2)
+begins x ys false z (inl e) = ap (λ (u : Placed). head_of u.path) (sym e)
+begins x ys false z (inr i) = absurd i
+
+once_outside : (x : Part) (ys : List Placed) (b : Bool) → IsOnce (paths ys) → IsOnce (paths (cond b (map (outside (name_of x)) ys) (record { path = name_of x ∷ []; part = x } ∷ [])))
+unfolding paths
+once_outside x ys true a =
+    let P : List Path → Type 0 = λ ps. IsOnce ps in
+    subst P (sym (paths_outside (name_of x) ys)) (once_map (λ p. name_of x ∷ p) tail_of (paths ys) (λ p. refl) a)
+once_outside x ys false a = (λ i. i, tt)
+
+leaves_once : (h : Hierarchy) → ((k : ℕ) → IsOnce (map name_of (body h k).parts)) → (n k : ℕ) → IsOnce (paths (leaves_within h n k))
+unfolding paths
+leaves_once h a zero k = tt
+leaves_once h a (suc n) k =
+    once_by_head name_of (placed_by h (leaves_within h n)) (λ (z : Placed). z.path) (λ x. once_outside x (leaves_within h n x.kind) (is_composite h x.kind) (leaves_once h a n x.kind))
+    (λ x z i. begins x (leaves_within h n x.kind) (is_composite h x.kind) z i) (body h k).parts (a k)
+
+pub leaf_paths_once : (s : Source) → AreNamesSound s → IsOnce (map (λ x. x.path) (leaves (hierarchy_of s)))
+unfolding paths
+leaf_paths_once s sound = leaves_once (hierarchy_of s) (names_once s sound) (length (hierarchy_of s).bodies) (top_number (hierarchy_of s))

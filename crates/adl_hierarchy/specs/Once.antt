@@ -1,0 +1,7 @@
+-- Nothing stands twice in a list.
+use Rattle.std.specs.Prelude.{List, [], ◌∷◌}
+use Rattle.adl_meaning.specs.Lists.{IsIn}
+
+abbrev pub IsOnce : {X : Type 0} → List X → Type 0
+IsOnce [] = Unit {0}
+IsOnce (x ∷ xs) = (IsIn x xs → ⊥) × IsOnce xs

@@ -1,0 +1,12 @@
+pub mod Bodies
+pub mod Counting
+pub mod EndNumbers
+pub mod FoundRecords
+pub mod InnerNames
+pub mod PageSearch
+pub mod Positions
+pub mod SettledWhole
+pub mod SettingKeys
+pub mod SettingSteps
+pub mod ValueSearch
+pub mod ValueSteps

@@ -1,0 +1,11 @@
+use Rattle.std.proofs.Common.{◌≡◌, drop, map}
+use Rattle.std.specs.List.{flat_map}
+use Rattle.adl_meaning.specs.Faults.{noted}
+use Rattle.adl_settings.specs.BadgeTwice.{badge_twice_at}
+use Rattle.adl_settings.specs.Repeated.{is_among}
+use Rattle.adl_settings.specs.Told.{badged_told}
+use Rattle.adl_settings.proofs.badges.note_badges.Given as goal
+
+abbrev pub invariant-loop-end : goal.invariant-loop-end
+invariant-loop-end l =
+    noted l.first (flat_map (badge_twice_at (is_among l.twice)) (map badged_told (drop l.end-index l.ends))) ≡ noted l.fn.first (flat_map (badge_twice_at (is_among l.twice)) (map badged_told l.ends))

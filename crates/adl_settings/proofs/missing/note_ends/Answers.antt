@@ -1,0 +1,10 @@
+use Rattle.std.proofs.Common.{◌∙◌}
+use Rattle.adl_meaning.proofs.Noting.{noted_mapped}
+use Rattle.adl_settings.specs.Missing.{missing_at}
+use Rattle.adl_settings.specs.Told.{found_told}
+use Rattle.adl_settings.proofs.missing.note_ends.Goals as goal
+
+pub loop-end-preserved : goal.loop-end-preserved
+loop-end-preserved c =
+    noted_mapped missing_at found_told _ _ c.args.ends.now c.loop-end.end-index c.end-item.result c.loop-end-test.true c.end-item.is
+    c.in_ok-note_end.ensures ∙ c.loop-end.invariant

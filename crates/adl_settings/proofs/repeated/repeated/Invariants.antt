@@ -1,0 +1,7 @@
+use Rattle.std.proofs.Common.{take}
+use Rattle.adl_settings.specs.Repeated.{is_among}
+use Rattle.adl_settings.proofs.Counting.{AreCounted}
+use Rattle.adl_settings.proofs.repeated.repeated.Given as goal
+
+abbrev pub invariant-loop-number : goal.invariant-loop-number
+invariant-loop-number l = AreCounted (is_among l.met) (is_among l.twice) (take l.number-index l.numbers)

@@ -1,0 +1,22 @@
+-- Missing stands at the name of an interface, in the declaration of a device's component, where an end joins it and it has
+-- none of the values that it needs: a dataport an address, an `emits` the number of its interrupt. Its name is the
+-- interface's. A value that isn't allowed isn't missing.
+use Rattle.std.specs.Prelude.{Bool, ◌&&◌, ◌||◌, List}
+use Rattle.std.specs.List.{flat_map}
+use Rattle.std.specs.Option.{is_none}
+use Rattle.cam_base.specs.declared.code.Code.TheVariants as code
+use Rattle.cam_base.specs.declared.place.Fault.{Fault}
+use Rattle.adl_meaning.specs.Faults.{at_word, where_true}
+use Rattle.adl_settings.specs.Joints.{Found, is_device_memory, is_device_event}
+
+abbrev pub lacks_value : Found → Bool
+lacks_value f = (is_device_memory f.joint && is_none f.paddr) || (is_device_event f.joint && is_none f.irq)
+
+abbrev pub missing_at : Found → List Fault
+missing_at f = where_true (lacks_value f) (at_word code.Missing f.joint.interface.id)
+
+abbrev pub missing_in : List Found → List Fault
+missing_in ends = flat_map missing_at ends
+
+abbrev pub missing_values : List (List Found) → List Fault
+missing_values connections = flat_map missing_in connections

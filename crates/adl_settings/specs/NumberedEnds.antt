@@ -1,0 +1,32 @@
+-- The settings of an end by the numbers of its connection and of the end in it, and what they are found at.
+use Rattle.std.specs.Prelude.{◌≡◌, ℕ, Bool, Option, Some, is_some}
+use Rattle.std.specs.List.{slice_get}
+use Rattle.std.specs.Option.{option_and_then}
+use Rattle.adl_ast.specs.declared.component.Interface.{Interface}
+use Rattle.adl_ast.specs.declared.source.Source.{Source}
+use Rattle.adl_meaning.specs.declared.flat.Flat.{Flat}
+use Rattle.adl_meaning.specs.declared.flat.FlatConnection.{FlatConnection}
+use Rattle.adl_meaning.specs.declared.flat.FlatEnd.{FlatEnd}
+use Rattle.adl_meaning.specs.declared.settled.EndSetting.{EndSetting}
+use Rattle.adl_meaning.specs.declared.settled.Settled.{Settled}
+use Rattle.adl_meaning.specs.Hierarchy.{Hierarchy}
+use Rattle.adl_settings.specs.Joints.{Found, interface_at, found_at}
+
+-- the interface that an end joins, where there is one
+abbrev pub interface_of : Source → Flat → FlatEnd → Option Interface
+interface_of s flat e = option_and_then (λ leaf. interface_at s leaf e.member) (slice_get flat.leaves e.leaf)
+
+abbrev pub joins_interface : Source → Flat → FlatEnd → Bool
+joins_interface s flat e = is_some (interface_of s flat e)
+
+-- the settings of end n of connection k
+abbrev pub setting_at : Settled → ℕ → ℕ → Option EndSetting
+setting_at x k n = option_and_then (λ c. slice_get c.ends n) (slice_get x.connections k)
+
+-- the values are those of this end of the connection, at the leaf and the interface that it joins
+pub record IsFoundAt (h : Hierarchy) (s : Source) (flat : Flat) (k : FlatConnection) (e : FlatEnd) (f : Found) : Type 0 where
+  pub connection : f.joint.connection ≡ k
+  pub end : f.joint.end ≡ e
+  pub leaf : slice_get flat.leaves e.leaf ≡ Some f.joint.leaf
+  pub interface : interface_at s f.joint.leaf e.member ≡ Some f.joint.interface
+  pub values : f ≡ found_at h f.joint

@@ -1,0 +1,31 @@
+-- The faults of settings that stand in a source, and the first of them.
+use Rattle.std.specs.Prelude.{List, ◌++◌, Option}
+use Rattle.cam_base.specs.declared.place.Fault.{Fault}
+use Rattle.adl_ast.specs.declared.source.Source.{Source}
+use Rattle.adl_meaning.specs.declared.flat.Flat.{Flat}
+use Rattle.adl_meaning.specs.Faults.{least}
+use Rattle.adl_meaning.specs.Flat.{flat_of}
+use Rattle.adl_meaning.specs.Hierarchy.{Hierarchy, hierarchy_of}
+use Rattle.adl_settings.specs.BadValue.{bad_values}
+use Rattle.adl_settings.specs.BadgeTwice.{badges_twice}
+use Rattle.adl_settings.specs.DeviceOverlap.{overlaps}
+use Rattle.adl_settings.specs.IrqTwice.{irqs_twice}
+use Rattle.adl_settings.specs.Joints.{Found, founds_in}
+use Rattle.adl_settings.specs.Missing.{missing_values}
+use Rattle.adl_settings.specs.SettingTwice.{settings_twice}
+use Rattle.adl_settings.specs.Settled.{LeafFound, leaves_found}
+
+-- the faults of values, by leaves and by the ends of each connection
+abbrev pub value_faults : List LeafFound → List (List Found) → List Fault
+value_faults leaves connections =
+    bad_values leaves connections ++ missing_values connections ++ overlaps connections ++ irqs_twice connections
+    ++ badges_twice connections
+
+abbrev pub setting_faults_in : Hierarchy → Source → Flat → List Fault
+setting_faults_in h s flat = settings_twice h ++ value_faults (leaves_found h flat) (founds_in h s flat)
+
+abbrev pub setting_faults : Source → List Fault
+setting_faults s = setting_faults_in (hierarchy_of s) s (flat_of s)
+
+abbrev pub first_setting_fault : Source → Option Fault
+first_setting_fault s = least (setting_faults s)

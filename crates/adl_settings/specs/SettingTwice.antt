@@ -1,0 +1,40 @@
+-- SettingTwice stands at a setting of the same path and last word as an earlier one of its configuration, the names of groups
+-- aside, in each configuration of a component or the assembly, used or not. Its place is the dotted name, and its name the
+-- last word.
+use Rattle.std.specs.Prelude.{ℕ, Bool, false, ◌&&◌, ◌||◌, List, [], ◌∷◌, ◌++◌}
+use Rattle.std.specs.List.{flat_map, enumerate_from}
+use Rattle.std.specs.Str.{bytes_eq}
+use Rattle.cam_base.specs.declared.code.Code.TheVariants as code
+use Rattle.cam_base.specs.declared.place.Fault.{Fault}
+use Rattle.adl_ast.specs.declared.configuration.Setting.{Setting}
+use Rattle.adl_meaning.specs.Export.{last_name}
+use Rattle.adl_meaning.specs.Faults.{where_true}
+use Rattle.adl_meaning.specs.Hierarchy.{Hierarchy, Body}
+use Rattle.adl_meaning.specs.Items.{Name}
+use Rattle.adl_meaning.specs.Paths.{Path, same_path}
+use Rattle.adl_meaning.specs.Values.{path_of, settings_of}
+
+-- whether a setting is one of this path and name
+abbrev pub Met : Type 0
+Met = Path → Name → Bool
+
+abbrev pub setting_twice : Setting → Fault
+setting_twice x = record { code = code.SettingTwice; place = x.place; name = last_name x.words }
+
+-- the settings whose path and name an earlier one has, in body k, where met says which stand before the first
+abbrev pub repeated_after : Hierarchy → ℕ → Met → List Setting → List Fault
+repeated_after h k met [] = []
+repeated_after h k met (x ∷ xs) =
+    where_true (met (path_of h k x.words) (last_name x.words)) (setting_twice x)
+    ++ repeated_after h k (λ p n. met p n || (same_path p (path_of h k x.words) && bytes_eq n (last_name x.words))) xs
+
+-- those of one configuration
+abbrev pub repeated_in : Hierarchy → ℕ × Body → List Fault
+repeated_in h b = repeated_after h b.0 (λ p n. false) (settings_of b.1)
+
+-- the bodies of the components and of the assembly, by number
+abbrev pub numbered_bodies : Hierarchy → List (ℕ × Body)
+numbered_bodies h = enumerate_from 0 (h.bodies ++ h.top ∷ [])
+
+abbrev pub settings_twice : Hierarchy → List Fault
+settings_twice h = flat_map (repeated_in h) (numbered_bodies h)

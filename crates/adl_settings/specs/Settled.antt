@@ -1,0 +1,55 @@
+-- The settings of all leaves and of the ends of all connections, in the order of the flat system. A leaf of software has a
+-- priority, 254 by default, and the bytes of a stack, 16,384 by default; a device has 0 for both. Where no fault of settings
+-- stands, each of these is what its setting means.
+use Rattle.std.specs.Prelude.{not, if◌then◌else◌, List, map, codes, Option, unwrap_or}
+use Rattle.adl_ast.specs.declared.source.Source.{Source}
+use Rattle.adl_meaning.specs.declared.flat.Flat.{Flat}
+use Rattle.adl_meaning.specs.declared.flat.Leaf.{Leaf}
+use Rattle.adl_meaning.specs.declared.settled.EndSettings.{EndSettings}
+use Rattle.adl_meaning.specs.declared.settled.LeafSetting.{LeafSetting}
+use Rattle.adl_meaning.specs.declared.settled.Settled.{Settled}
+use Rattle.adl_meaning.specs.Flat.{flat_of}
+use Rattle.adl_meaning.specs.Hierarchy.{Hierarchy, hierarchy_of}
+use Rattle.adl_meaning.specs.Values.{Given, value_at}
+use Rattle.adl_settings.specs.Allowed.{priority_in, stack_in}
+use Rattle.adl_settings.specs.EndMeaning.{end_setting}
+use Rattle.adl_settings.specs.Joints.{Found, founds_in}
+use Rattle.adl_settings.specs.Meant.{meant, where_set}
+
+-- ---- leaves
+
+-- the values of a leaf's settings
+pub record LeafFound : Type 0 where
+  pub leaf : Leaf
+  pub priority : Option Given
+  pub stack : Option Given
+
+abbrev pub leaf_found : Hierarchy → Leaf → LeafFound
+leaf_found h l = record {
+  leaf = l;
+  priority = where_set (not l.hardware) (value_at h l.path (codes "_priority"));
+  stack = where_set (not l.hardware) (value_at h l.path (codes "_stack_size"));
+}
+
+abbrev pub leaf_setting : LeafFound → LeafSetting
+leaf_setting f = record {
+  priority = if f.leaf.hardware then 0 else unwrap_or (meant priority_in 254 f.priority) 0;
+  stack = if f.leaf.hardware then 0 else unwrap_or (meant stack_in 16384 f.stack) 0;
+}
+
+abbrev pub leaves_found : Hierarchy → Flat → List LeafFound
+leaves_found h flat = map (leaf_found h) flat.leaves
+
+-- ---- all
+
+abbrev pub end_settings : List Found → EndSettings
+end_settings fs = record { ends = map end_setting fs }
+
+abbrev pub settled_in : Hierarchy → Source → Flat → Settled
+settled_in h s flat = record {
+  leaves = map leaf_setting (leaves_found h flat);
+  connections = map end_settings (founds_in h s flat);
+}
+
+abbrev pub settled_of : Source → Settled
+settled_of s = settled_in (hierarchy_of s) s (flat_of s)

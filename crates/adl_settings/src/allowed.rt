@@ -1,0 +1,211 @@
+//! The values that settings may have, and what they mean.
+
+ghost use Rattle.adl_settings.specs.Allowed.{number_in, text_in, within, number_within, whole_pages, priority_in, stack_in, access_named, access_in, greatest_badge, is_badge_text, badge_named, badge_in, sized, size_in, placed, paddr_in, irq_in};
+ghost use Rattle.cam_base.specs.Numbers.{is_digit};
+ghost use Rattle.std.specs.Char.{digit_value};
+ghost use Rattle.std.specs.List.{list_all};
+ghost use Rattle.std.specs.Option.{option_and_then, option_copied};
+ghost use Rattle.std.specs.Prelude.{◌≡◌, ◌<◌, ◌≤◌, ◌^◌, ◌+◌, ◌*◌, true, IfSome, length, option_map};
+ghost use Rattle.std.specs.Str.Parse.{digits_value};
+
+use crate::Access;
+use adl_ast::{Value, ValueKind};
+
+/// The bytes of a page.
+pub const PAGE: u64 = 4096;
+
+/// The highest badge.
+const GREATEST_BADGE: u64 = 268_435_455;
+
+/// The most bytes that shared memory or the registers of a device may have.
+const GREATEST_SIZE: u64 = 268_435_456;
+
+/// The end of physical memory.
+const PHYSICAL_END: u64 = 1 << 48;
+
+fn number_in(value: &Value) -> Option<u64>
+    ensures { result ≡ number_in value.now.kind }
+{
+    match &value.kind {
+        ValueKind::Number(number) => Some(*number),
+        ValueKind::Text(_) => None,
+        ValueKind::Items(_) => None,
+        ValueKind::Dictionary(_) => None,
+    }
+}
+
+fn text_in(value: &Value) -> Option<&[u8]>
+    ensures { option_copied result ≡ text_in value.now.kind }
+{
+    match &value.kind {
+        ValueKind::Number(_) => None,
+        ValueKind::Text(text) => Some(text.as_bytes()),
+        ValueKind::Items(_) => None,
+        ValueKind::Dictionary(_) => None,
+    }
+}
+
+fn within(least: u64, greatest: u64, number: u64) -> Option<u64>
+    ensures value { result ≡ within least greatest number }
+    ensures bound { IfSome result (λ n. n ≤ greatest) }
+{
+    if least <= number && number <= greatest {
+        Some(number)
+    } else {
+        None
+    }
+}
+
+fn number_within(least: u64, greatest: u64, value: &Value) -> Option<u64>
+    ensures value { result ≡ number_within least greatest value.now }
+    ensures bound { IfSome result (λ n. n ≤ greatest) }
+{
+    within(least, greatest, number_in(value)?)
+}
+
+/// So many bytes, rounded up to whole pages.
+fn whole_pages(bytes: u64) -> u64
+    requires { bytes ≤ 2 ^ 32 }
+    ensures { result ≡ whole_pages bytes }
+{
+    (bytes + (PAGE - 1)) / PAGE * PAGE
+}
+
+/// The priority that a value means.
+pub fn priority_in(value: &Value) -> Option<u8>
+    ensures { result ≡ priority_in value.now }
+{
+    Some(number_within(0, 255, value)? as u8)
+}
+
+/// The bytes of a stack that a value means.
+pub fn stack_in(value: &Value) -> Option<u64>
+    ensures { result ≡ stack_in value.now }
+{
+    Some(whole_pages(number_within(1, 16_777_216, value)?))
+}
+
+fn access_named(text: &[u8]) -> Option<Access>
+    ensures { result ≡ access_named text.now }
+{
+    if text == b"R".as_slice() {
+        Some(Access {
+            read: true,
+            write: false,
+        })
+    } else if text == b"W".as_slice() {
+        Some(Access {
+            read: false,
+            write: true,
+        })
+    } else if text == b"RW".as_slice() {
+        Some(Access {
+            read: true,
+            write: true,
+        })
+    } else {
+        None
+    }
+}
+
+/// The access that a value means.
+pub fn access_in(value: &Value) -> Option<Access>
+    ensures { result ≡ access_in value.now }
+{
+    access_named(text_in(value)?)
+}
+
+fn all_digits(text: &[u8]) -> bool
+    ensures { result ≡ list_all is_digit text.now }
+{
+    text.iter().all(|b| b.is_ascii_digit())
+}
+
+fn is_badge_text(text: &[u8]) -> bool
+    ensures { result ≡ is_badge_text text.now }
+{
+    1 <= text.len() && text.len() <= 9 && all_digits(text)
+}
+
+/// The number that another digit makes of a number.
+fn with_digit(value: u64, digit: u8) -> u64
+    requires small { value < 10 ^ 9 }
+    requires digit { is_digit digit ≡ true }
+    ensures value { result ≡ value * 10 + digit_value digit }
+    ensures bound { result < value * 10 + 10 }
+{
+    value * 10 + (digit - b'0') as u64
+}
+
+/// The number that so few digits write.
+fn digits_value(digits: &[u8]) -> u64
+    requires few { length digits.now ≤ 9 }
+    requires digits { list_all is_digit digits.now ≡ true }
+    ensures { result ≡ digits_value 10 digits.now }
+{
+    let mut value: u64 = 0;
+    for digit in digits {
+        value = with_digit(value, *digit);
+    }
+    value
+}
+
+fn badge_named(text: &[u8]) -> Option<u64>
+    ensures { result ≡ badge_named text.now }
+{
+    if is_badge_text(text) {
+        within(0, GREATEST_BADGE, digits_value(text))
+    } else {
+        None
+    }
+}
+
+/// The badge that a value means.
+pub fn badge_in(value: &Value) -> Option<u64>
+    ensures { result ≡ badge_in value.now }
+{
+    match &value.kind {
+        ValueKind::Number(number) => within(0, GREATEST_BADGE, *number),
+        ValueKind::Text(text) => badge_named(text.as_bytes()),
+        ValueKind::Items(_) => None,
+        ValueKind::Dictionary(_) => None,
+    }
+}
+
+/// The whole pages of a number of bytes that memory may have.
+pub fn sized(bytes: u64) -> Option<u64>
+    ensures { result ≡ sized bytes }
+{
+    Some(whole_pages(within(1, GREATEST_SIZE, bytes)?))
+}
+
+/// The bytes of memory that a value means.
+pub fn size_in(value: &Value) -> Option<u64>
+    ensures { result ≡ size_in value.now }
+{
+    sized(number_in(value)?)
+}
+
+fn placed(bytes: u64, address: u64) -> Option<u64>
+    ensures { result ≡ placed bytes address }
+{
+    if address % PAGE == 0 && address <= PHYSICAL_END && bytes <= PHYSICAL_END - address {
+        Some(address)
+    } else {
+        None
+    }
+}
+
+/// The address of a device's registers of so many bytes that a value means.
+pub fn paddr_in(bytes: u64, value: &Value) -> Option<u64>
+    ensures { result ≡ paddr_in bytes value.now }
+{
+    placed(bytes, number_in(value)?)
+}
+
+/// The number of an interrupt that a value means.
+pub fn irq_in(value: &Value) -> Option<u64>
+    ensures { result ≡ irq_in value.now }
+{
+    number_within(0, 1023, value)
+}

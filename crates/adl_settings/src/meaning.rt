@@ -1,0 +1,192 @@
+//! What the settings of leaves and ends mean.
+
+ghost use Rattle.adl_meaning.specs.Export.{default_size};
+ghost use Rattle.adl_settings.specs.Allowed.{priority_in, stack_in, read_and_write, access_in, badge_in, size_in, paddr_in, irq_in};
+ghost use Rattle.adl_settings.specs.EndMeaning.{access_of, badge_of, default_bytes, bytes_of, paddr_of, irq_of, access_at, badge_at, bytes_at, end_setting};
+ghost use Rattle.adl_settings.specs.Meant.{meaning, meant};
+ghost use Rattle.adl_settings.specs.Settled.{leaf_setting};
+ghost use Rattle.adl_settings.specs.Told.{maybe_told, joint_told, found_told, leaf_told};
+ghost use Rattle.std.specs.Prelude.{◌≡◌, unwrap_or};
+
+use crate::allowed::{
+    PAGE, access_in, badge_in, irq_in, paddr_in, priority_in, size_in, sized, stack_in,
+};
+use crate::joint::is_shared;
+use crate::{Access, Found, Given, LeafFound};
+use adl_ast::Interface;
+use adl_meaning::{EndSetting, LeafSetting};
+
+/// The bytes of a data port whose size doesn't stand there.
+const DEFAULT_SIZE: u64 = 4096;
+
+/// The priority of a leaf without such a setting.
+const DEFAULT_PRIORITY: u8 = 254;
+
+/// The bytes of a stack without such a setting.
+const DEFAULT_STACK: u64 = 16_384;
+
+const READ_AND_WRITE: Access = Access {
+    read: true,
+    write: true,
+};
+
+const NO_ACCESS: Access = Access {
+    read: false,
+    write: false,
+};
+
+/// The priority that is meant.
+pub fn priority(given: Option<Given<'_>>) -> Option<u8>
+    ensures { result ≡ meant priority_in 254 (maybe_told given.entry) }
+{
+    match given {
+        None => Some(DEFAULT_PRIORITY),
+        Some(given) => priority_in(given.value),
+    }
+}
+
+/// The bytes of a stack that are meant.
+pub fn stack(given: Option<Given<'_>>) -> Option<u64>
+    ensures { result ≡ meant stack_in 16384 (maybe_told given.entry) }
+{
+    match given {
+        None => Some(DEFAULT_STACK),
+        Some(given) => stack_in(given.value),
+    }
+}
+
+/// The bytes of the port's type, in whole pages.
+fn default_bytes(interface: &Interface) -> u64
+    ensures { result ≡ default_bytes interface.now }
+{
+    sized(interface.size.unwrap_or(DEFAULT_SIZE)).unwrap_or(PAGE)
+}
+
+fn paddr(bytes: u64, given: Option<Given<'_>>) -> Option<u64>
+    ensures { result ≡ meaning (paddr_in bytes) (maybe_told given.entry) }
+{
+    match given {
+        None => None,
+        Some(given) => paddr_in(bytes, given.value),
+    }
+}
+
+impl<'a> LeafFound<'a> {
+    /// The settings of the leaf.
+    pub fn setting(&self) -> LeafSetting
+        ensures { result ≡ leaf_setting (leaf_told self.now) }
+    {
+        if self.leaf.hardware {
+            LeafSetting {
+                priority: 0,
+                stack: 0,
+            }
+        } else {
+            LeafSetting {
+                priority: priority(self.priority).unwrap_or(0),
+                stack: stack(self.stack).unwrap_or(0),
+            }
+        }
+    }
+}
+
+impl<'a> Found<'a> {
+    /// The access that is meant.
+    pub fn access(&self) -> Option<Access>
+        ensures { result ≡ access_of (found_told self.now) }
+    {
+        match self.access {
+            None => Some(READ_AND_WRITE),
+            Some(given) => access_in(given.value),
+        }
+    }
+
+    /// The badge that is meant.
+    pub fn badge(&self) -> Option<u64>
+        ensures { result ≡ badge_of (found_told self.now) }
+    {
+        match self.badge {
+            None => Some(self.joint.position),
+            Some(given) => badge_in(given.value),
+        }
+    }
+
+    /// The bytes of memory that are meant.
+    pub fn bytes(&self) -> Option<u64>
+        ensures { result ≡ bytes_of (found_told self.now) }
+    {
+        match self.size {
+            None => Some(default_bytes(self.joint.interface)),
+            Some(given) => size_in(given.value),
+        }
+    }
+
+    /// The bytes beside which an address is looked at: 0 where the size isn't allowed.
+    pub fn counted_bytes(&self) -> u64
+        ensures { result ≡ unwrap_or (bytes_of (found_told self.now)) 0 }
+    {
+        self.bytes().unwrap_or(0)
+    }
+
+    /// The physical address that is meant.
+    pub fn paddr(&self) -> Option<u64>
+        ensures { result ≡ paddr_of (found_told self.now) }
+    {
+        paddr(self.counted_bytes(), self.paddr)
+    }
+
+    /// The number of the interrupt that is meant.
+    pub fn irq(&self) -> Option<u64>
+        ensures { result ≡ irq_of (found_told self.now) }
+    {
+        match self.irq {
+            None => None,
+            Some(given) => irq_in(given.value),
+        }
+    }
+
+    fn access_at(&self) -> Access
+        ensures { result ≡ access_at (found_told self.now) }
+    {
+        if self.joint.has_access() {
+            self.access().unwrap_or(NO_ACCESS)
+        } else {
+            NO_ACCESS
+        }
+    }
+
+    fn badge_at(&self) -> u64
+        ensures { result ≡ badge_at (found_told self.now) }
+    {
+        if self.joint.has_badge() {
+            self.badge().unwrap_or(0)
+        } else {
+            0
+        }
+    }
+
+    fn bytes_at(&self) -> u64
+        ensures { result ≡ bytes_at (found_told self.now) }
+    {
+        if is_shared(self.joint.connection.connector) || self.joint.is_device_memory() {
+            self.bytes().unwrap_or(0)
+        } else {
+            0
+        }
+    }
+
+    /// The settings of the end.
+    pub fn setting(&self) -> EndSetting
+        ensures { result ≡ end_setting (found_told self.now) }
+    {
+        let access = self.access_at();
+        EndSetting {
+            read: access.read,
+            write: access.write,
+            badge: self.badge_at(),
+            bytes: self.bytes_at(),
+            paddr: self.paddr().unwrap_or(0),
+            irq: self.irq().unwrap_or(0),
+        }
+    }
+}

@@ -1,0 +1,10 @@
+use Rattle.arch_compile.proofs.LoadedFew.{loaded_few}
+use Rattle.arch_compile.proofs.Refusing.{meant_front}
+use Rattle.arch_compile.proofs.phases.front.Goals as goal
+
+pub with_meaning-requires : goal.with_meaning-requires
+with_meaning-requires g c = loaded_few (g.F.Files.contents c.args.files.now) c.args.root.now c.in-Ok.source c.in-Ok.ensures.loaded
+
+pub returns-in-Ok-clause-front : goal.returns-in-Ok-clause-front
+returns-in-Ok-clause-front g c =
+    meant_front c.args.root.now (g.F.Files.contents c.args.files.now) (g.F.Files.faults c.args.files.now) (g.F.Files.faults c.load.new.files) c.in-Ok.source c.with_meaning.result c.in-Ok.ensures.loaded c.with_meaning.ensures

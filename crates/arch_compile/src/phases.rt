@@ -1,0 +1,105 @@
+//! The phases up to the settings.
+
+ghost use Rattle.adl_hierarchy.specs.Spelled.{AreSpelled};
+ghost use Rattle.adl_meaning.specs.Faults.{Refuses};
+ghost use Rattle.adl_meaning.specs.Flat.{flat_of};
+ghost use Rattle.adl_meaning.specs.Items.{AreFew};
+ghost use Rattle.adl_settings.specs.Settled.{settled_of};
+ghost use Rattle.arch_compile.specs.Compiled.{IsFront, IsRefused};
+ghost use Rattle.arch_compile.specs.First.{first_front_fault, name_of_file};
+ghost use Rattle.arch_compile.specs.Steps.{IsMeant};
+ghost use Rattle.cam_io.specs.Reading.{KeepsFiles};
+ghost use Rattle.std.specs.Prelude.{◌≡◌, IfOk};
+
+use crate::BuildError;
+use crate::error::not_loaded;
+use adl_ast::Source;
+use adl_flatten::flatten;
+use adl_import::load;
+use adl_meaning::{Flat, Settled};
+use adl_names::resolve;
+use adl_settings::settle;
+use adl_types::check_types;
+use cam_base::{Fault, NoMemory, Refused, Text};
+use cam_io::Files;
+use std::alloc::Global;
+
+/// A source, its flat system, and the settings of that.
+#[derive(Drop)]
+pub struct FrontEnd {
+    pub source: Source,
+    pub flat: Flat,
+    pub settled: Settled,
+}
+
+/// What a source means: its flat system, and the settings of that.
+#[derive(Drop)]
+struct Meaning {
+    flat: Flat,
+    settled: Settled,
+}
+
+/// The source of the root, with all that the phases up to the settings make of it.
+///
+/// # Errors
+///
+/// The first fault of these phases, with the name of its file; a failed read; want of memory.
+pub fn front<F: Files>(alloc: Global, files: &mut F, root: &str) -> Result<FrontEnd, BuildError>
+    ensures kept { KeepsFiles F.contents F.faults files.old files.new }
+    ensures front { IsFront root.now (F.contents files.old) (F.faults files.old) (F.faults files.new) result }
+{
+    match load(alloc, files, root) {
+        Ok(source) => with_meaning(alloc, source),
+        Err(error) => Err(not_loaded(error)),
+    }
+}
+
+fn with_meaning(alloc: Global, source: Source) -> Result<FrontEnd, BuildError>
+    requires { AreFew source }
+    ensures { IsMeant source result }
+{
+    match meaning_of(alloc, &source) {
+        Ok(Meaning { flat, settled }) => Ok(FrontEnd {
+            source,
+            flat,
+            settled,
+        }),
+        Err(refused) => Err(in_file(alloc, &source, refused)),
+    }
+}
+
+fn meaning_of(alloc: Global, source: &Source) -> Result<Meaning, Refused<Fault>>
+    requires { AreFew source.now }
+    ensures fault { Refuses result (first_front_fault source.now) }
+    ensures flat { IfOk result (λ m. m.flat ≡ flat_of source.now) }
+    ensures settled { IfOk result (λ m. m.settled ≡ settled_of source.now) }
+{
+    let names = resolve(alloc, source)?;
+    check_types(alloc, source, &names)?;
+    let flat = flatten(alloc, source, &names)?;
+    let settled = settle(alloc, source, &names, &flat)?;
+    Ok(Meaning { flat, settled })
+}
+
+/// The refusal, with the name of the file in which the fault stands.
+pub fn in_file(alloc: Global, source: &Source, refused: Refused<Fault>) -> BuildError
+    ensures { IsRefused source.now refused result }
+{
+    match refused {
+        Refused::NoMemory => BuildError::NoMemory,
+        Refused::Fault(fault) => match name_of_file(alloc, source, fault.place.file) {
+            Ok(file) => BuildError::Fault(fault, file),
+            Err(NoMemory) => BuildError::NoMemory,
+        },
+    }
+}
+
+/// The name of the file of this number.
+fn name_of_file(alloc: Global, source: &Source, number: u32) -> Result<Text, NoMemory>
+    ensures { IfOk result (λ name. name ≡ name_of_file source.now number) }
+{
+    match source.files.as_slice().get(number as usize) {
+        Some(file) => file.name.copy(alloc),
+        None => Ok(Text::empty(alloc)),
+    }
+}

@@ -1,0 +1,5 @@
+pub mod Counting
+pub mod Laying
+pub mod Limits
+pub mod Picking
+pub mod Spreading

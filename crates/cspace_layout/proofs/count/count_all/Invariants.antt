@@ -1,0 +1,10 @@
+use Rattle.std.proofs.Common.{◌≡◌, ◌≤◌, ◌+◌, ◌-◌, ◌^◌, drop}
+use Rattle.std.specs.Prelude.{sum}
+use Rattle.cspace_layout.specs.Counted.{capped}
+use Rattle.cspace_layout.proofs.count.count_all.Given as goal
+
+abbrev pub invariant-loop-count : goal.invariant-loop-count
+invariant-loop-count l = record {
+  fits : l.all ≤ 2 ^ 64 - 1;
+  rest : capped (l.all + sum (drop l.count-index l.counts)) ≡ capped (sum l.counts);
+}

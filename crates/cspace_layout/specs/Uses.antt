@@ -1,0 +1,58 @@
+-- What the slots of a domain are for, in order, from slot 1 on: for each leaf of the domain, first its ends, by the
+-- interface that they join and then by connection, and then its locks. An end of an RPC or a notification has one slot.
+-- The `to` end of an interrupt has two: one for the notification, and then one for the interrupt. No other end has any.
+use Rattle.std.specs.Prelude.{ℕ, Bool, ◌==◌, ◌&&◌, if◌then◌else◌, List, [], ◌∷◌, ◌++◌, map}
+use Rattle.adl_ast.specs.declared.component.Member.{Member}
+use Rattle.adl_ast.specs.declared.composition.Role.{Role}
+use Rattle.adl_ast.specs.declared.composition.Role.TheVariants.{From, To}
+use Rattle.adl_ast.specs.declared.source.Source.{Source}
+use Rattle.adl_meaning.specs.declared.connector.Connector.{Connector}
+use Rattle.adl_meaning.specs.declared.connector.Connector.TheVariants.{Rpc, Notification, SharedMemory, Mmio, Interrupt, Direct}
+use Rattle.adl_meaning.specs.declared.flat.Flat.{Flat}
+use Rattle.adl_meaning.specs.declared.flat.FlatConnection.{FlatConnection}
+use Rattle.adl_meaning.specs.declared.flat.FlatEnd.{FlatEnd}
+use Rattle.numbering.specs.Gather.{gather}
+use Rattle.cspace_layout.specs.declared.plan.SlotUse.{SlotUse}
+use Rattle.cspace_layout.specs.declared.plan.SlotUse.TheVariants.{OfEnd, Handler, OwnLock}
+use Rattle.cspace_layout.specs.declared.plan.SlotPlan.{SlotPlan}
+use Rattle.cspace_layout.specs.declared.plan.Slots.{Slots}
+use Rattle.cspace_layout.specs.Members.{leaf_members, is_lock}
+
+-- what end n of connection k has slots for
+abbrev pub end_uses : Connector → Role → ℕ → ℕ → List SlotUse
+end_uses Rpc role k n = OfEnd k n ∷ []
+end_uses Notification role k n = OfEnd k n ∷ []
+end_uses Interrupt To k n = OfEnd k n ∷ Handler k n ∷ []
+end_uses Interrupt From k n = []
+end_uses SharedMemory role k n = []
+end_uses Mmio role k n = []
+end_uses Direct role k n = []
+
+-- whether the end joins this member of this leaf
+abbrev pub joins : ℕ → ℕ → FlatEnd → Bool
+joins leaf member e = e.leaf == leaf && e.member == member
+
+abbrev pub joined_uses : ℕ → ℕ → ℕ → Connector → ℕ → FlatEnd → List SlotUse
+joined_uses leaf member k connector n e = if joins leaf member e then end_uses connector e.role k n else []
+
+-- of an interface: by connection, and then by end
+abbrev pub member_uses : List FlatConnection → ℕ → ℕ → List SlotUse
+member_uses connections leaf member = gather (λ k c. gather (λ n e. joined_uses leaf member k c.connector n e) c.ends) connections
+
+abbrev pub lock_uses : ℕ → ℕ → Member → List SlotUse
+lock_uses leaf member m = if is_lock m then OwnLock leaf member ∷ [] else []
+
+-- of a leaf: by interface, and then its locks
+abbrev pub leaf_uses : List FlatConnection → ℕ → List Member → List SlotUse
+leaf_uses connections leaf members = gather (λ m x. member_uses connections leaf m) members ++ gather (λ m x. lock_uses leaf m x) members
+
+-- of leaves, one behind another
+abbrev pub domain_uses : Source → Flat → List ℕ → List SlotUse
+domain_uses source flat leaves = gather (λ i leaf. leaf_uses flat.connections leaf (leaf_members source flat leaf)) leaves
+
+abbrev pub plan_of : List SlotUse → SlotPlan
+plan_of uses = record { uses = uses }
+
+-- the slots of all domains
+abbrev pub slots_of : Source → Flat → Slots
+slots_of source flat = record { domains = map (λ d. plan_of (domain_uses source flat d.leaves)) flat.domains }

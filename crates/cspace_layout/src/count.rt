@@ -1,0 +1,204 @@
+//! How many slots are needed, counted before any is laid.
+
+ghost use Rattle.cspace_layout.specs.Counted.{capped, leaf_count, sum_at, leaf_counts, first_limit, name_of, limit_fault, keyword_of, keyword_in, keyword};
+ghost use Rattle.cspace_layout.specs.Laid.{AreJoined};
+ghost use Rattle.cspace_layout.specs.SlotFaults.{counts, first_slot_fault};
+ghost use Rattle.cspace_layout.specs.Uses.{slots_of};
+ghost use Rattle.cspace_layout.specs.Within.{IsWithin};
+ghost use Rattle.numbering.specs.Gather.{IsIn};
+ghost use Rattle.std.specs.List.{list_any};
+ghost use Rattle.std.specs.Prelude.{◌≡◌, ◌<◌, nat_lt, length, map, option_map, sum, IfOk, ℕ};
+
+use crate::members::{is_lock, members_at};
+use crate::spread::Joined;
+use adl_ast::{Ended, Item, Member, Source};
+use adl_meaning::Flat;
+use cam_base::{Code, Fault, List, NoMemory, Place, Text};
+use std::alloc::Global;
+
+/// A limit on slots.
+#[derive(Clone, Copy, Debug)]
+pub enum Limit {
+    /// Of one domain.
+    Slots,
+    /// Of all domains together.
+    AllSlots,
+}
+
+impl Limit {
+    fn name(self) -> &'static [u8]
+        ensures { result.now ≡ name_of self }
+    {
+        match self {
+            Limit::Slots => b"slots",
+            Limit::AllSlots => b"all slots",
+        }
+    }
+}
+
+fn count_leaf(all: &[Joined], members: &[Member]) -> u64
+    ensures { result ≡ capped (leaf_count all.now members.now) }
+{
+    let ends = all
+        .iter()
+        .filter(|joined| (joined.member as usize) < members.len())
+        .count();
+    let locks = members.iter().filter(|member| is_lock(member)).count();
+    (ends as u64).saturating_add(locks as u64)
+}
+
+/// The number of uses of each leaf.
+fn count_leaves(
+    alloc: Global,
+    source: &Source,
+    flat: &Flat,
+    lists: &[List<Joined>],
+) -> Result<Vec<u64>, NoMemory>
+    requires { AreJoined flat.now lists.now }
+    ensures { IfOk result (λ counts. counts.items ≡ leaf_counts source.now flat.now) }
+{
+    let mut counts = Vec::new(alloc);
+    for (number, leaf) in flat.leaves.as_slice().iter().enumerate() {
+        let members = members_at(source, leaf.component);
+        counts.push(count_leaf(lists[number].as_slice(), members))?;
+    }
+    Ok(counts)
+}
+
+fn count_domain(counts: &[u64], listed: &[u32]) -> u64
+    requires { (leaf : ℕ) → IsIn leaf listed.now → leaf < length counts.now }
+    ensures { result ≡ capped (sum_at counts.now listed.now) }
+{
+    let mut count: u64 = 0;
+    for leaf in listed {
+        count = count.saturating_add(counts[*leaf as usize]);
+    }
+    count
+}
+
+/// The number of uses of each domain, by those of the leaves.
+fn count_domains(
+    alloc: Global,
+    source: &Source,
+    flat: &Flat,
+    leaves: &[u64],
+) -> Result<Vec<u64>, NoMemory>
+    requires within { IsWithin source.now flat.now }
+    requires leaves { leaves.now ≡ leaf_counts source.now flat.now }
+    ensures { IfOk result (λ found. found.items ≡ map capped (counts (slots_of source.now flat.now))) }
+{
+    let _source = source;
+    let mut counts = Vec::new(alloc);
+    for domain in flat.domains.as_slice() {
+        counts.push(count_domain(leaves, domain.leaves.as_slice()))?;
+    }
+    Ok(counts)
+}
+
+fn count_all(counts: &[u64]) -> u64
+    ensures { result ≡ capped (sum counts.now) }
+{
+    let mut all: u64 = 0;
+    for count in counts {
+        all = all.saturating_add(*count);
+    }
+    all
+}
+
+fn any_full(counts: &[u64]) -> bool
+    ensures { result ≡ list_any (λ n. nat_lt 4095 n) counts.now }
+{
+    counts.iter().any(|count| *count > 4095)
+}
+
+/// The first limit that the domains pass.
+fn first_limit(counts: &[u64]) -> Option<Limit>
+    ensures { result ≡ first_limit counts.now }
+{
+    if any_full(counts) {
+        return Some(Limit::Slots);
+    }
+    if count_all(counts) > 65536 {
+        return Some(Limit::AllSlots);
+    }
+    None
+}
+
+fn keyword_of(item: &Item) -> Option<Place>
+    ensures { result ≡ keyword_of item.now }
+{
+    match item {
+        Item::Assembly(assembly) => Some(assembly.place),
+        _ => None,
+    }
+}
+
+fn keyword_in(items: &[Ended]) -> Option<Place>
+    ensures { result ≡ keyword_in items.now }
+{
+    for ended in items {
+        if let Some(place) = keyword_of(&ended.item) {
+            return Some(place);
+        }
+    }
+    None
+}
+
+/// The place of the keyword of the first assembly.
+fn keyword(source: &Source) -> Option<Place>
+    ensures { result ≡ keyword source.now }
+{
+    for file in source.files.as_slice() {
+        if let Some(place) = keyword_in(file.tree.items.as_slice()) {
+            return Some(place);
+        }
+    }
+    None
+}
+
+/// The first limit on slots that is passed.
+fn limit_passed(
+    alloc: Global,
+    source: &Source,
+    flat: &Flat,
+    lists: &[List<Joined>],
+) -> Result<Option<Limit>, NoMemory>
+    requires lists { AreJoined flat.now lists.now }
+    requires within { IsWithin source.now flat.now }
+    ensures { IfOk result (λ limit. limit ≡ first_limit (map capped (counts (slots_of source.now flat.now)))) }
+{
+    let leaves = count_leaves(alloc, source, flat, lists)?;
+    let domains = count_domains(alloc, source, flat, &leaves)?;
+    Ok(first_limit(&domains))
+}
+
+fn fault_of(alloc: Global, source: &Source, limit: Limit) -> Result<Option<Fault>, NoMemory>
+    ensures { IfOk result (λ fault. fault ≡ option_map (λ place. limit_fault place limit) (keyword source.now)) }
+{
+    let Some(place) = keyword(source) else {
+        return Ok(None);
+    };
+    Ok(Some(Fault {
+        code: Code::Limit,
+        place,
+        name: Text::new(alloc, limit.name())?,
+    }))
+}
+
+/// The first limit on slots that is passed, as a fault.
+#[tactic(auto, using(crate::proofs::Limits::none_told))]
+pub fn slot_limit(
+    alloc: Global,
+    source: &Source,
+    flat: &Flat,
+    lists: &[List<Joined>],
+) -> Result<Option<Fault>, NoMemory>
+    requires lists { AreJoined flat.now lists.now }
+    requires within { IsWithin source.now flat.now }
+    ensures { IfOk result (λ fault. fault ≡ first_slot_fault source.now flat.now) }
+{
+    match limit_passed(alloc, source, flat, lists)? {
+        Some(limit) => fault_of(alloc, source, limit),
+        None => Ok(None),
+    }
+}

@@ -1,0 +1,13 @@
+pub mod AreFlat
+pub mod AreTyped
+pub mod AreWithin
+pub mod Devices
+pub mod EndMembers
+pub mod FewEnds
+pub mod FlatEnds
+pub mod FlatLeaves
+pub mod LeafPorts
+pub mod MembersAt
+pub mod Named
+pub mod ShortTrees
+pub mod TypedEnds

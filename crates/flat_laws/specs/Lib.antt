@@ -1,0 +1,3 @@
+pub mod FewMembers
+pub mod ShortFiles
+pub mod Typed

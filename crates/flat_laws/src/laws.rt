@@ -1,0 +1,39 @@
+//! What flat systems keep, as functions that do nothing. The laws of flat systems are of sources in
+//! which no fault stands.
+
+ghost use Rattle.adl_ast.specs.declared.source.Source.{Source};
+ghost use Rattle.adl_hierarchy.specs.Leads.{AreDotted};
+ghost use Rattle.adl_meaning.specs.Flat.{flat_of};
+ghost use Rattle.adl_meaning.specs.Hierarchy.{hierarchy_of};
+ghost use Rattle.adl_meaning.specs.JoinFaults.{first_flat_fault};
+ghost use Rattle.adl_meaning.specs.NameFaults.{AreNamesSound};
+ghost use Rattle.adl_types.specs.TypeFaults.{first_type_fault};
+ghost use Rattle.cspace_layout.specs.Within.{IsWithin};
+ghost use Rattle.flat_laws.specs.FewMembers.{HaveFewMembers};
+ghost use Rattle.flat_laws.specs.ShortFiles.{AreFilesShort};
+ghost use Rattle.flat_laws.specs.Typed.{AreTyped};
+ghost use Rattle.spec_layout.specs.Direct.{IsFlat};
+ghost use Rattle.std.specs.Prelude.{◌≡◌, None};
+
+/// Where no limit of the hierarchy is passed, and no component has too many members, all numbers of
+/// the flat system are small, and ends and domains name its leaves.
+pub fn flat_systems_are_within()
+    ensures { (s : Source) → AreNamesSound s → first_flat_fault s ≡ None → HaveFewMembers s → IsWithin s (flat_of s) }
+{}
+
+/// Where dotted names have two words or three, and no fault of types stands, ends join members of
+/// leaves, those with slots are of leaves of domains, and an interrupt has one device.
+pub fn flat_systems_are_flat()
+    ensures { (s : Source) → AreNamesSound s → AreDotted (hierarchy_of s) → first_type_fault s ≡ None → IsFlat s (flat_of s) }
+{}
+
+/// Where dotted names have two words or three, and no fault of types stands, each end joins an
+/// interface of a leaf, and both are as the connector table has them.
+pub fn ends_are_typed()
+    ensures { (s : Source) → AreNamesSound s → AreDotted (hierarchy_of s) → first_type_fault s ≡ None → AreTyped s (flat_of s) }
+{}
+
+/// A component has no more members than tokens spell its file.
+pub fn short_files_have_few_members()
+    ensures { (s : Source) → AreFilesShort s → HaveFewMembers s }
+{}

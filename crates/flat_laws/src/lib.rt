@@ -1,0 +1,14 @@
+//! What the flat system of a source without faults keeps.
+//!
+//! There is no code here. The flat system is read from the hierarchy of a source in `adl_meaning`,
+//! types are looked at in the source itself in `adl_types`, and the layouts of `cspace_layout` and
+//! `spec_layout` ask of a flat system what the laws here promise.
+#![tactic(auto)]
+
+mod laws;
+#[cfg(test)]
+mod tests;
+
+pub use laws::{
+    ends_are_typed, flat_systems_are_flat, flat_systems_are_within, short_files_have_few_members,
+};

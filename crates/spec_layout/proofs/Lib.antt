@@ -1,0 +1,12 @@
+pub mod Apart
+pub mod Counting
+pub mod Exactly
+pub mod Found
+pub mod Keeping
+pub mod Lining
+pub mod Naming
+pub mod Putting
+pub mod Rows
+pub mod Sizes
+pub mod Sorting
+pub mod Used

@@ -1,0 +1,13 @@
+-- What tables keep, besides being ready, whose spec is kept: few slots in a domain, priorities of a byte, and no interrupt
+-- number of two connections. Settings and slots within their limits keep it.
+use Rattle.std.specs.Prelude.{◌≡◌, ◌≤◌, ◌<◌, ◌^◌, ℕ, length, slice_get, Some}
+use Rattle.adl_meaning.specs.declared.connector.Connector.TheVariants.{Interrupt}
+use Rattle.adl_meaning.specs.declared.flat.FlatConnection.{FlatConnection}
+use Rattle.cspace_layout.specs.declared.plan.SlotPlan.{SlotPlan}
+use Rattle.spec_layout.specs.Tables.{Tables, irq_number, priority}
+
+pub record IsFit (t : Tables) : Type 0 where
+  pub slots : (d : ℕ) (plan : SlotPlan) → slice_get t.slots.domains d ≡ Some plan → length plan.uses < 2 ^ 16
+  pub priorities : (leaf : ℕ) → priority t leaf ≤ 255
+  pub one_line : (j k : ℕ) (a b : FlatConnection) → slice_get t.flat.connections j ≡ Some a → slice_get t.flat.connections k ≡ Some b → a.connector ≡ Interrupt → b.connector ≡ Interrupt
+      → irq_number t.settled j a ≡ irq_number t.settled k b → j ≡ k

@@ -1,0 +1,11 @@
+pub mod Bits
+pub mod Direct
+pub mod Fit
+pub mod Layout
+pub mod Made
+pub mod Names
+pub mod Places
+pub mod Put
+pub mod Ready
+pub mod Tables
+pub mod Told
