@@ -5,8 +5,8 @@ use Rattle.std.specs.Option.{option_or}
 use Rattle.cap_machine.specs.declared.step.Step.{Step}
 use Rattle.cap_model.specs.declared.spec.Spec.{Spec}
 use Rattle.step_text.specs.LineFaults.{at_line}
-use Rattle.step_text.specs.Fields.{fields}
-use Rattle.step_text.specs.Lines.{Line, lines}
+use Rattle.text_lines.specs.Fields.{fields}
+use Rattle.text_lines.specs.Lines.{Line, lines}
 use Rattle.step_text.specs.Spelling.{spelled}
 use Rattle.step_text.specs.StepTexts.{bytes_limit, fault_of, step_of, misspelled, first_fault_of, first_fault, steps_of}
 use Rattle.step_text.specs.Threads.{thread_named}

@@ -1,13 +1,8 @@
-pub mod Fields
 pub mod Found
 pub mod LineFaults
-pub mod Lines
-pub mod LinesLeft
 pub mod LinesRead
-pub mod Parts
 pub mod RightsFields
 pub mod Spelling
 pub mod StepTexts
-pub mod Texts
 pub mod Threads
 pub mod Verbs

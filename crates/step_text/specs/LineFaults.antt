@@ -4,7 +4,7 @@ use Rattle.cam_base.specs.declared.error.Refused.{Refused}
 use Rattle.cam_base.specs.declared.error.Refused.TheVariants as refused
 use Rattle.cam_base.specs.declared.text_fault.TextCode.{TextCode}
 use Rattle.cam_base.specs.declared.text_fault.TextFault.{TextFault}
-use Rattle.step_text.specs.Lines.{Line, end_of}
+use Rattle.text_lines.specs.Lines.{Line, end_of}
 
 -- a code, and the name that a fault speaks of
 abbrev pub Wrong : Type 0

@@ -11,29 +11,12 @@ use Rattle.step_text.specs.RightsFields.{rights_value}
 use Rattle.step_text.specs.declared.verb.Verb.{Verb}
 use Rattle.step_text.specs.declared.verb.Verb.TheVariants.{Take, Put, Grant, Call, Reply, SetCspace, SetVspace, Map, Bind, Drop, Save, ReplyTo}
 use Rattle.step_text.specs.Verbs.{verb_of}
+use Rattle.text_lines.specs.AllThere.{of_two, of_three, of_four, of_six}
 
 -- letters, digits and underscores, and no digit first
 abbrev pub is_word : List ℕ → Bool
 is_word [] = false
 is_word (b ∷ bs) = is_word_byte b && (not (is_digit b) && list_all is_word_byte bs)
-
--- what a function makes of parts, where all are there
-abbrev pub of_two : {A B C : Type 0} → (A → B → C) → Option A → Option B → Option C
-of_two make None b = None
-of_two make (Some a) b = option_map (make a) b
-
-abbrev pub of_three : {A B C D : Type 0} → (A → B → C → D) → Option A → Option B → Option C → Option D
-of_three make None b c = None
-of_three make (Some a) b c = of_two (make a) b c
-
-abbrev pub of_four : {A B C D E : Type 0} → (A → B → C → D → E) → Option A → Option B → Option C → Option D → Option E
-of_four make None b c d = None
-of_four make (Some a) b c d = of_three (make a) b c d
-
-abbrev pub of_six : {A B C D E F G : Type 0} → (A → B → C → D → E → F → G) → Option A → Option B → Option C → Option D → Option E → Option F → Option G
-of_six make None b c d e f = None
-of_six make (Some a) None c d e f = None
-of_six make (Some a) (Some b) c d e f = of_four (make a b) c d e f
 
 -- the number and the rights of a copy
 abbrev pub copy_value : List ℕ → List ℕ → Option (ℕ × Rights)

@@ -1,14 +1,11 @@
 //! Texts of steps: bytes to one list of steps, or to the first fault.
 //!
 //! Nothing here takes a step, looks at a state, or reads a file. What a text says stands in `specs/StepTexts.antt`, how a
-//! step is spelled in `specs/Spelling.antt`, lines and fields of texts in `specs/Lines.antt` and `specs/Fields.antt`.
+//! step is spelled in `specs/Spelling.antt`; lines and fields of texts are those of `text_lines`.
 #![tactic(auto)]
 
-mod field;
 mod laws;
-mod line;
 mod line_fault;
-mod part;
 mod reader;
 mod rights;
 mod spelled;

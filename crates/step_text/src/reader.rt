@@ -2,13 +2,11 @@
 
 ghost use Rattle.std.specs.Prelude.{◌≡◌, ◌<◌, ◌^◌, length};
 ghost use Rattle.step_text.specs.Found.{found_in};
-ghost use Rattle.step_text.specs.LinesLeft.{line_of};
+ghost use Rattle.text_lines.specs.LinesLeft.{line_of};
 ghost use Rattle.step_text.specs.LinesRead.{AreJudged, IsLineRead};
 ghost use Rattle.step_text.specs.StepTexts.{IsRead};
-ghost use Rattle.step_text.specs.Texts.{texts};
+ghost use Rattle.text_lines.specs.Texts.{texts};
 
-use crate::field::fields;
-use crate::line::{Line, Lines};
 use crate::line_fault::refusal;
 use crate::spelled::{misspelled, spelled};
 use crate::threads::Threads;
@@ -16,6 +14,7 @@ use cam_base::{List, Refused, Text, TextCode, TextFault};
 use cap_machine::Step;
 use cap_model::Spec;
 use std::alloc::Global;
+use text_lines::{Line, Lines, fields};
 
 /// The most steps of a text.
 pub const MAX_STEPS: usize = 100_000;

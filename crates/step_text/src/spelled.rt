@@ -6,7 +6,7 @@ ghost use Rattle.std.specs.Prelude.{◌≡◌, [], ◌∷◌};
 ghost use Rattle.step_text.specs.Found.{found_in, place_among};
 ghost use Rattle.step_text.specs.Spelling.{is_word, copy_value, spelled_behind, spelled, names, names_behind};
 ghost use Rattle.step_text.specs.StepTexts.{misspelled, first_unknown};
-ghost use Rattle.step_text.specs.Texts.{texts};
+ghost use Rattle.text_lines.specs.Texts.{texts};
 
 use crate::rights::read_rights;
 use crate::threads::Threads;

@@ -1,8 +1,8 @@
 use Rattle.std.proofs.Common.{◌≡◌, ◌++◌, length}
 use Rattle.std.specs.List.{filter_map}
 use Rattle.step_text.specs.Found.{found_in}
-use Rattle.step_text.specs.Lines.{lines}
-use Rattle.step_text.specs.LinesLeft.{lines_left}
+use Rattle.text_lines.specs.Lines.{lines}
+use Rattle.text_lines.specs.LinesLeft.{lines_left}
 use Rattle.step_text.specs.StepTexts.{first_fault_of, step_of}
 use Rattle.step_text.proofs.reader.read_steps.Given as goal
 

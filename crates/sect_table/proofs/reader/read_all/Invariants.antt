@@ -1,0 +1,10 @@
+use Rattle.std.proofs.Common.{◌≡◌, ◌++◌, length}
+use Rattle.sect_table.specs.Tables.{first_bad, sections_of}
+use Rattle.text_lines.specs.LinesLeft.{lines_left}
+use Rattle.sect_table.proofs.reader.read_all.Given as goal
+
+abbrev pub invariant-loop-line : goal.invariant-loop-line
+invariant-loop-line l = record {
+  bad : first_bad (length l.sections) (lines_left l.line-iterator) ≡ first_bad 0 (lines_left l.fn.lines);
+  sections : l.sections ++ sections_of (lines_left l.line-iterator) ≡ sections_of (lines_left l.fn.lines);
+}

@@ -1,0 +1,4 @@
+pub mod Headers
+pub mod Sections
+pub mod Tables
+pub mod TablesRead

@@ -1,0 +1,3 @@
+pub mod Cutting
+pub mod FieldsMore
+pub mod Telling

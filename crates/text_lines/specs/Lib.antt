@@ -1,0 +1,6 @@
+pub mod AllThere
+pub mod Fields
+pub mod Lines
+pub mod LinesLeft
+pub mod Parts
+pub mod Texts

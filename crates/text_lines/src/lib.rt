@@ -1,0 +1,14 @@
+//! Lines and fields of texts.
+//!
+//! Nothing here knows what a line says. Which lines a text has stands in `specs/Lines.antt`, which fields a line has in
+//! `specs/Fields.antt`.
+#![tactic(auto)]
+
+mod field;
+mod line;
+mod part;
+#[cfg(test)]
+mod tests;
+
+pub use field::{fields, spaced_fields};
+pub use line::{Line, Lines};
