@@ -1,0 +1,9 @@
+pub mod Lists
+pub mod Running
+pub mod Leveled
+pub mod Fitting
+pub mod Children
+pub mod Rising
+pub mod Rooting
+pub mod Counting
+pub mod Counted
