@@ -44,7 +44,7 @@ use Rattle.arch_compile.specs.Laid.{tables_of}
 use Rattle.arch_compile.proofs.SlotBounds.{AreFewSlots, few_uses}
 use Rattle.component_graph.proofs.Lists.{from_map, get_map, in_filter_map, in_get, in_map, none_in, none_left, none_right}
 use Rattle.conn_rules.specs.Ends.{end_rule}
-use Rattle.cspace_layout.specs.Members.{items_of_file, members_at, members_in, members_of}
+use Rattle.leaf_ends.specs.Members.{items_of_file, members_at, members_in, members_of}
 use Rattle.flat_laws.specs.Typed.{AreTyped}
 use Rattle.flat_laws.proofs.TypedEnds.{so}
 use Rattle.spec_layout.specs.Direct.{IsFlat}

@@ -13,7 +13,7 @@ use Rattle.arch_compile.proofs.SlotBounds.{AreFewSlots}
 use Rattle.cspace_layout.specs.declared.plan.SlotPlan.{SlotPlan}
 use Rattle.cspace_layout.specs.declared.plan.SlotUse.{SlotUse}
 use Rattle.cspace_layout.specs.Uses.{domain_uses, plan_of}
-use Rattle.cspace_layout.specs.Within.{IsWithin}
+use Rattle.leaf_ends.specs.Within.{IsWithin}
 use Rattle.numbering.specs.Gather.{IsIn}
 use Rattle.numbering.proofs.Gathered.{in_place}
 use Rattle.spec_layout.specs.Ready.{IsReady, NamesOneOf}

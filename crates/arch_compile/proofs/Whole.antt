@@ -38,7 +38,7 @@ use Rattle.cspace_layout.specs.declared.plan.SlotPlan.{SlotPlan}
 use Rattle.cspace_layout.specs.declared.plan.Slots.{Slots}
 use Rattle.cspace_layout.specs.SlotFaults.{first_slot_fault}
 use Rattle.cspace_layout.specs.Uses.{slots_of}
-use Rattle.cspace_layout.specs.Within.{IsWithin}
+use Rattle.leaf_ends.specs.Within.{IsWithin}
 use Rattle.flat_laws.proofs.AreFlat.{flat_is_flat}
 use Rattle.flat_laws.proofs.AreTyped.{ends_typed}
 use Rattle.flat_laws.proofs.AreWithin.{flat_is_within}

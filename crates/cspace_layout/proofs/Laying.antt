@@ -1,6 +1,6 @@
 -- The turns of the loops that count and lay out uses.
-use Rattle.std.proofs.Common.{◌≡◌, ◌<◌, ◌≤◌, ◌+◌, ℕ, List, [], ◌∷◌, ◌++◌, length, take, get_or, map, replicate, refl, sym, ◌∙◌, ap, subst, Some, arith}
-use Rattle.std.specs.List.{slice_get, flat_map}
+use Rattle.std.proofs.Common.{◌≡◌, ◌<◌, ◌≤◌, ◌+◌, ℕ, List, [], ◌∷◌, ◌++◌, length, take, get_or, map, refl, sym, ◌∙◌, ap, subst, Some, arith}
+use Rattle.std.specs.List.{slice_get}
 use Rattle.std.proofs.lemmas.List.{take_all}
 use Rattle.std.proofs.lemmas.Simd.{map-map}
 use Rattle.std.proofs.lemmas.Option.{get_or_from_slice_get, slice_get_read}
@@ -10,66 +10,60 @@ use Rattle.adl_meaning.specs.declared.flat.Domain.{Domain}
 use Rattle.adl_meaning.specs.declared.flat.Flat.{Flat}
 use Rattle.adl_meaning.specs.declared.flat.Leaf.{Leaf}
 use Rattle.numbering.specs.Gather.{gather, IsIn}
-use Rattle.numbering.proofs.Gathered.{gather_turn, gather_map}
+use Rattle.numbering.proofs.Gathered.{gather_turn, gather_map, gather_ones, get_ones}
+use Rattle.leaf_ends.specs.declared.end_at.EndAt.{EndAt}
+use Rattle.leaf_ends.specs.LeafEnds.{leaf_ends, ends_of}
+use Rattle.leaf_ends.specs.Members.{members_at, members_of_leaf, leaf_members}
+use Rattle.leaf_ends.specs.Within.{IsWithin}
 use Rattle.cspace_layout.specs.declared.plan.SlotPlan.{SlotPlan}
 use Rattle.cspace_layout.specs.declared.plan.SlotUse.{SlotUse}
-use Rattle.cspace_layout.specs.declared.spread.Joined.{Joined}
 use Rattle.cspace_layout.specs.Counted.{capped, leaf_count, leaf_counts, sum_at}
-use Rattle.cspace_layout.specs.Laid.{AreJoined, ArePicked, laid_leaf}
-use Rattle.cspace_layout.specs.Members.{members_at, members_of_leaf, leaf_members}
-use Rattle.cspace_layout.specs.Spread.{Spread, leaf_joined, picks}
+use Rattle.cspace_layout.specs.Laid.{laid_leaf}
 use Rattle.cspace_layout.specs.SlotFaults.{counts}
 use Rattle.cspace_layout.specs.Uses.{leaf_uses, domain_uses, plan_of, slots_of}
-use Rattle.cspace_layout.specs.Within.{IsWithin}
-use Rattle.cspace_layout.proofs.Counting.{domain_counted}
-use Rattle.cspace_layout.proofs.Picking.{leaf_laid}
-use Rattle.cspace_layout.proofs.Spreading.{empty_long, grown, lists_gather}
+use Rattle.cspace_layout.proofs.Counting.{domain_counted, length-leaf_uses, present}
+use Rattle.cspace_layout.proofs.Using.{leaf_laid}
 
 pub at_place : {X : Type 0} (xs read : List X) (i : ℕ) (x : X) → read ≡ xs → i < length read → x ≡ get_or read i x → slice_get xs i ≡ Some x
 at_place xs read i x same l is = subst (λ z. slice_get z i ≡ Some x) same (slice_get_read read (length read) i x refl l is)
 
--- lists into which all ends went
-pub lists_joined : (flat : Flat) (a b : List (List Joined)) → a ≡ replicate (length flat.leaves) [] → Spread (λ leaf. leaf_joined leaf flat.connections) a b → AreJoined flat b
-lists_joined flat a b e s = record {
-  as_many = s.as_many ∙ empty_long (length flat.leaves) a e;
-  each = grown (λ leaf. leaf_joined leaf flat.connections) (length flat.leaves) a b e s;
-}
+pub length-ends_of : (source : Source) (flat : Flat) → length (ends_of source flat) ≡ length flat.leaves
+length-ends_of source flat = gather_ones (λ n (x : Leaf). leaf_ends flat.connections n (members_at source x.component)) flat.leaves
 
-pub lists_picked : (all : List Joined) (count : ℕ) (a b : List (List SlotUse)) → a ≡ replicate count [] → Spread (λ m. picks m all) a b → ArePicked all count b
-lists_picked all count a b e s = record { as_many = s.as_many ∙ empty_long count a e; each = grown (λ m. picks m all) count a b e s }
+-- the ends of the leaf with this number
+ends_here : (source : Source) (flat : Flat) (lists : List (List EndAt)) (i : ℕ) (r : List EndAt) → lists ≡ ends_of source flat → i < length flat.leaves → r ≡ get_or lists i r
+    → r ≡ leaf_ends flat.connections i (leaf_members source flat i)
+ends_here source flat lists i r same l is =
+    let here : (x : Leaf) × (slice_get flat.leaves i ≡ Some x) = present flat.leaves i l in
+    let F : ℕ → Leaf → List EndAt = λ n x. leaf_ends flat.connections n (members_at source x.component) in
+    is ∙ get_or_from_slice_get lists i (F i here.0) r (ap (λ z. slice_get z i) same ∙ get_ones F flat.leaves i here.0 here.1)
+    ∙ ap (λ x. leaf_ends flat.connections i (members_of_leaf source x)) (sym here.1)
 
-pub interfaces_laid : (all : List Joined) (members : List Member) (lists : List (List SlotUse)) → ArePicked all (length members) lists → flat_map (λ list. list) lists ≡ gather (λ m member. picks m all) members
-interfaces_laid all members lists p = lists_gather (λ m. picks m all) members lists p.as_many p.each
-
--- what the list of a leaf has
-pub joined_here : (flat : Flat) (lists : List (List Joined)) (i : ℕ) (r : List Joined) → AreJoined flat lists → i < length flat.leaves → r ≡ get_or lists i r → r ≡ leaf_joined i flat.connections
-joined_here flat lists i r joined l is =
-    let within : i < length lists = let m = joined.as_many in omega arith in
-    sym (get_or_from_slice_get lists i r [] (slice_get_read lists (length lists) i r refl within is)) ∙ joined.each i l
-
-pub leaf_turn : (source : Source) (flat : Flat) (lists : List (List Joined)) (leaves : List Leaf) (i : ℕ) (leaf : Leaf) (r js : List Joined) (members : List Member) (n : ℕ) (old new : List ℕ) → AreJoined flat lists
-    → leaves ≡ flat.leaves → i < length leaves → leaf ≡ get_or leaves i leaf → r ≡ get_or lists i r → js ≡ r → members ≡ members_at source leaf.component → n ≡ capped (leaf_count js members)
-    → old ≡ gather (λ n leaf. capped (leaf_count (leaf_joined n flat.connections) (members_at source leaf.component)) ∷ []) (take i flat.leaves) → new ≡ old ++ n ∷ []
-    → new ≡ gather (λ n leaf. capped (leaf_count (leaf_joined n flat.connections) (members_at source leaf.component)) ∷ []) (take (i + 1) flat.leaves)
-leaf_turn source flat lists leaves i leaf r js members n old new joined same l is here j m e o p =
+pub leaf_turn : (source : Source) (flat : Flat) (lists : List (List EndAt)) (leaves : List Leaf) (i : ℕ) (leaf : Leaf) (r js : List EndAt) (members : List Member) (n : ℕ) (old new : List ℕ) → lists ≡ ends_of source flat
+    → leaves ≡ flat.leaves → i < length leaves → leaf ≡ get_or leaves i leaf → r ≡ get_or lists i r → js ≡ r → members ≡ members_at source leaf.component → n ≡ capped (leaf_count flat.connections js members)
+    → old ≡ gather (λ n leaf. capped (length (leaf_uses flat.connections n (members_at source leaf.component))) ∷ []) (take i flat.leaves) → new ≡ old ++ n ∷ []
+    → new ≡ gather (λ n leaf. capped (length (leaf_uses flat.connections n (members_at source leaf.component))) ∷ []) (take (i + 1) flat.leaves)
+leaf_turn source flat lists leaves i leaf r js members n old new ends same l is here j m e o p =
     let below : i < length flat.leaves = subst (λ (z : List Leaf). i < length z) same l in
-    let q : js ≡ leaf_joined i flat.connections = j ∙ joined_here flat lists i r joined below here in
-    gather_turn (λ n (leaf : Leaf). capped (leaf_count (leaf_joined n flat.connections) (members_at source leaf.component)) ∷ []) flat.leaves leaves i leaf [] old new same l is o
-    (p ∙ ap (λ z. old ++ z ∷ []) (e ∙ ap (λ z. capped (leaf_count z members)) q ∙ ap (λ z. capped (leaf_count (leaf_joined i flat.connections) z)) m))
+    let there : leaf_members source flat i ≡ members = ap (members_of_leaf source) (at_place flat.leaves leaves i leaf same l is) ∙ sym m in
+    let q : js ≡ leaf_ends flat.connections i members = j ∙ ends_here source flat lists i r ends below here ∙ ap (λ z. leaf_ends flat.connections i z) there in
+    gather_turn (λ n (leaf : Leaf). capped (length (leaf_uses flat.connections n (members_at source leaf.component))) ∷ []) flat.leaves leaves i leaf [] old new same l is o
+    (p ∙ ap (λ z. old ++ z ∷ []) (e ∙ ap (λ z. capped (leaf_count flat.connections z members)) q ∙ ap capped (length-leaf_uses flat.connections i members)
+    ∙ ap (λ z. capped (length (leaf_uses flat.connections i z))) m))
 
 -- the members of a leaf that is found by its number
 pub members_here : (source : Source) (flat : Flat) (leaves : List Leaf) (i : ℕ) (leaf : Leaf) (members : List Member) → leaves ≡ flat.leaves → i < length leaves → leaf ≡ get_or leaves i leaf
     → members ≡ members_at source (get_or leaves i leaf).component → members ≡ leaf_members source flat i
 members_here source flat leaves i leaf members same l is m = m ∙ ap (λ (z : Leaf). members_at source z.component) (sym is) ∙ sym (ap (members_of_leaf source) (at_place flat.leaves leaves i leaf same l is))
 
-pub uses_turn : (source : Source) (flat : Flat) (lists : List (List Joined)) (listed : List ℕ) (i leaf : ℕ) (r js : List Joined) (members : List Member) (old new : List SlotUse) → AreJoined flat lists
+pub uses_turn : (source : Source) (flat : Flat) (lists : List (List EndAt)) (listed : List ℕ) (i leaf : ℕ) (r js : List EndAt) (members : List Member) (old new : List SlotUse) → lists ≡ ends_of source flat
     → i < length listed → leaf ≡ get_or listed i leaf → leaf < length flat.leaves → r ≡ get_or lists leaf r → js ≡ r → members ≡ leaf_members source flat leaf
-    → old ≡ gather (λ i leaf. leaf_uses flat.connections leaf (leaf_members source flat leaf)) (take i listed) → new ≡ old ++ laid_leaf leaf js members
+    → old ≡ gather (λ i leaf. leaf_uses flat.connections leaf (leaf_members source flat leaf)) (take i listed) → new ≡ old ++ laid_leaf flat.connections leaf js members
     → new ≡ gather (λ i leaf. leaf_uses flat.connections leaf (leaf_members source flat leaf)) (take (i + 1) listed)
-uses_turn source flat lists listed i leaf r js members old new joined l is below here j m o p =
-    let laid = leaf_laid flat.connections leaf members js (j ∙ joined_here flat lists leaf r joined below here) in
-    gather_turn (λ i leaf. leaf_uses flat.connections leaf (leaf_members source flat leaf)) listed listed i leaf [] old new refl l is o
-    (p ∙ ap (λ z. old ++ z) (laid ∙ ap (λ z. leaf_uses flat.connections leaf z) m))
+uses_turn source flat lists listed i leaf r js members old new ends l is below here j m o p =
+    let laid = ap (λ z. laid_leaf flat.connections leaf z members) (j ∙ ends_here source flat lists leaf r ends below here)
+    ∙ ap (λ z. laid_leaf flat.connections leaf (leaf_ends flat.connections leaf (leaf_members source flat leaf)) z) m ∙ leaf_laid flat.connections leaf (leaf_members source flat leaf) in
+    gather_turn (λ i leaf. leaf_uses flat.connections leaf (leaf_members source flat leaf)) listed listed i leaf [] old new refl l is o (p ∙ ap (λ z. old ++ z) laid)
 
 pub plans_turn : (source : Source) (flat : Flat) (ds : List Domain) (i : ℕ) (domain : Domain) (uses : List SlotUse) (listed : List ℕ) (old new : List SlotPlan) → ds ≡ flat.domains → i < length ds → domain ≡ get_or ds i domain
     → listed ≡ domain.leaves → uses ≡ domain_uses source flat listed → old ≡ gather (λ d domain. plan_of (domain_uses source flat domain.leaves) ∷ []) (take i flat.domains) → new ≡ old ++ plan_of uses ∷ []

@@ -20,12 +20,12 @@ use Rattle.adl_meaning.specs.declared.flat.Flat.{Flat}
 use Rattle.adl_meaning.specs.declared.item_at.ItemAt.{ItemAt}
 use Rattle.adl_meaning.specs.Faults.{least}
 use Rattle.adl_meaning.specs.Items.{as_assembly, assemblies, items_in}
+use Rattle.leaf_ends.specs.Within.{IsWithin}
 use Rattle.cspace_layout.specs.declared.count.Limit.{Limit}
 use Rattle.cspace_layout.specs.declared.count.Limit.TheVariants.{Slots, AllSlots}
 use Rattle.cspace_layout.specs.Counted.{capped, first_limit, limit_fault, keyword, keyword_among, keyword_in, keyword_of}
 use Rattle.cspace_layout.specs.SlotFaults.{counts, greatest, limits_passed, first_slot_fault}
 use Rattle.cspace_layout.specs.Uses.{slots_of}
-use Rattle.cspace_layout.specs.Within.{IsWithin}
 use Rattle.cspace_layout.proofs.Counting.{any_over, sum_capped}
 
 -- ---- the keyword

@@ -1,6 +1,6 @@
 -- Numbers of uses as they are counted: up to the greatest number that a word can be.
 use Rattle.std.specs.Prelude.{ℕ, ◌+◌, ◌-◌, ◌^◌, if◌then◌else◌, nat_lt, min, sum, List, [], ◌∷◌, length, slice_index, codes, Option, Some, None}
-use Rattle.std.specs.List.{count_by, list_any}
+use Rattle.std.specs.List.{count_by, flat_map, list_any}
 use Rattle.std.specs.Option.{option_or}
 use Rattle.adl_ast.specs.declared.component.Member.{Member}
 use Rattle.adl_ast.specs.declared.file.Ended.{Ended}
@@ -9,25 +9,27 @@ use Rattle.adl_ast.specs.declared.file.Item.TheVariants as items
 use Rattle.adl_ast.specs.declared.source.Source.{Source}
 use Rattle.adl_ast.specs.declared.source.SourceFile.{SourceFile}
 use Rattle.adl_meaning.specs.declared.flat.Flat.{Flat}
+use Rattle.adl_meaning.specs.declared.flat.FlatConnection.{FlatConnection}
 use Rattle.cam_base.specs.declared.code.Code.TheVariants as code
 use Rattle.cam_base.specs.declared.place.Fault.{Fault}
 use Rattle.cam_base.specs.declared.place.Place.{Place}
 use Rattle.numbering.specs.Gather.{gather}
+use Rattle.leaf_ends.specs.declared.end_at.EndAt.{EndAt}
+use Rattle.leaf_ends.specs.Members.{members_at, is_lock}
 use Rattle.cspace_layout.specs.declared.count.Limit.{Limit}
 use Rattle.cspace_layout.specs.declared.count.Limit.TheVariants.{Slots, AllSlots}
-use Rattle.cspace_layout.specs.declared.spread.Joined.{Joined}
-use Rattle.cspace_layout.specs.Members.{members_at, is_lock}
-use Rattle.cspace_layout.specs.Spread.{leaf_joined}
+use Rattle.cspace_layout.specs.Laid.{uses_at}
+use Rattle.cspace_layout.specs.Uses.{leaf_uses}
 
 abbrev pub capped : ℕ → ℕ
 capped n = min n (2 ^ 64 - 1)
 
--- of a leaf with these members, by its list
-abbrev pub leaf_count : List Joined → List Member → ℕ
-leaf_count all members = count_by (λ j. nat_lt j.member (length members)) all + count_by is_lock members
+-- of a leaf with these ends and members
+abbrev pub leaf_count : List FlatConnection → List EndAt → List Member → ℕ
+leaf_count connections ends members = length (flat_map (uses_at connections) ends) + count_by is_lock members
 
 abbrev pub leaf_counts : Source → Flat → List ℕ
-leaf_counts source flat = gather (λ n leaf. capped (leaf_count (leaf_joined n flat.connections) (members_at source leaf.component)) ∷ []) flat.leaves
+leaf_counts source flat = gather (λ n leaf. capped (length (leaf_uses flat.connections n (members_at source leaf.component))) ∷ []) flat.leaves
 
 -- the sum of the counts at these places
 abbrev pub sum_at : List ℕ → List ℕ → ℕ

@@ -1,7 +1,7 @@
 -- What the slots of a domain are for, in order, from slot 1 on: for each leaf of the domain, first its ends, by the
 -- interface that they join and then by connection, and then its locks. An end of an RPC or a notification has one slot.
 -- The `to` end of an interrupt has two: one for the notification, and then one for the interrupt. No other end has any.
-use Rattle.std.specs.Prelude.{ℕ, Bool, ◌==◌, ◌&&◌, if◌then◌else◌, List, [], ◌∷◌, ◌++◌, map}
+use Rattle.std.specs.Prelude.{ℕ, if◌then◌else◌, List, [], ◌∷◌, ◌++◌, map}
 use Rattle.adl_ast.specs.declared.component.Member.{Member}
 use Rattle.adl_ast.specs.declared.composition.Role.{Role}
 use Rattle.adl_ast.specs.declared.composition.Role.TheVariants.{From, To}
@@ -12,11 +12,12 @@ use Rattle.adl_meaning.specs.declared.flat.Flat.{Flat}
 use Rattle.adl_meaning.specs.declared.flat.FlatConnection.{FlatConnection}
 use Rattle.adl_meaning.specs.declared.flat.FlatEnd.{FlatEnd}
 use Rattle.numbering.specs.Gather.{gather}
+use Rattle.leaf_ends.specs.LeafEnds.{joins}
+use Rattle.leaf_ends.specs.Members.{leaf_members, is_lock}
 use Rattle.cspace_layout.specs.declared.plan.SlotUse.{SlotUse}
 use Rattle.cspace_layout.specs.declared.plan.SlotUse.TheVariants.{OfEnd, Handler, OwnLock}
 use Rattle.cspace_layout.specs.declared.plan.SlotPlan.{SlotPlan}
 use Rattle.cspace_layout.specs.declared.plan.Slots.{Slots}
-use Rattle.cspace_layout.specs.Members.{leaf_members, is_lock}
 
 -- what end n of connection k has slots for
 abbrev pub end_uses : Connector → Role → ℕ → ℕ → List SlotUse
@@ -27,10 +28,6 @@ end_uses Interrupt From k n = []
 end_uses SharedMemory role k n = []
 end_uses Mmio role k n = []
 end_uses Direct role k n = []
-
--- whether the end joins this member of this leaf
-abbrev pub joins : ℕ → ℕ → FlatEnd → Bool
-joins leaf member e = e.leaf == leaf && e.member == member
 
 abbrev pub joined_uses : ℕ → ℕ → ℕ → Connector → ℕ → FlatEnd → List SlotUse
 joined_uses leaf member k connector n e = if joins leaf member e then end_uses connector e.role k n else []

@@ -1,19 +1,20 @@
 //! How many slots are needed, counted before any is laid.
 
 ghost use Rattle.cspace_layout.specs.Counted.{capped, leaf_count, sum_at, leaf_counts, first_limit, name_of, limit_fault, keyword_of, keyword_in, keyword};
-ghost use Rattle.cspace_layout.specs.Laid.{AreJoined};
+ghost use Rattle.cspace_layout.specs.Laid.{uses_at};
 ghost use Rattle.cspace_layout.specs.SlotFaults.{counts, first_slot_fault};
 ghost use Rattle.cspace_layout.specs.Uses.{slots_of};
-ghost use Rattle.cspace_layout.specs.Within.{IsWithin};
+ghost use Rattle.leaf_ends.specs.LeafEnds.{ends_of};
+ghost use Rattle.leaf_ends.specs.Within.{IsWithin};
 ghost use Rattle.numbering.specs.Gather.{IsIn};
-ghost use Rattle.std.specs.List.{list_any};
+ghost use Rattle.std.specs.List.{flat_map, list_any};
 ghost use Rattle.std.specs.Prelude.{◌≡◌, ◌<◌, nat_lt, length, map, option_map, sum, IfOk, ℕ};
 
-use crate::members::{is_lock, members_at};
-use crate::spread::Joined;
-use adl_ast::{Ended, Item, Member, Source};
-use adl_meaning::Flat;
+use crate::kind::kind_at;
+use adl_ast::{Ended, Item, Member, Role, Source};
+use adl_meaning::{Connector, Flat};
 use cam_base::{Code, Fault, List, NoMemory, Place, Text};
+use leaf_ends::{EndAt, is_lock, members_at};
 use std::alloc::Global;
 
 /// A limit on slots.
@@ -36,15 +37,31 @@ impl Limit {
     }
 }
 
-fn count_leaf(all: &[Joined], members: &[Member]) -> u64
-    ensures { result ≡ capped (leaf_count all.now members.now) }
+fn count_end(flat: &Flat, at: EndAt) -> u64
+    ensures { result ≡ length (uses_at flat.now.connections at) }
 {
-    let ends = all
-        .iter()
-        .filter(|joined| (joined.member as usize) < members.len())
-        .count();
+    match kind_at(flat, at) {
+        Some((Connector::Rpc | Connector::Notification, _)) => 1,
+        Some((Connector::Interrupt, Role::To)) => 2,
+        _ => 0,
+    }
+}
+
+fn count_ends(flat: &Flat, ends: &[EndAt]) -> u64
+    ensures { result ≡ capped (length (flat_map (uses_at flat.now.connections) ends.now)) }
+{
+    let mut count: u64 = 0;
+    for at in ends {
+        count = count.saturating_add(count_end(flat, *at));
+    }
+    count
+}
+
+fn count_leaf(flat: &Flat, ends: &[EndAt], members: &[Member]) -> u64
+    ensures { result ≡ capped (leaf_count flat.now.connections ends.now members.now) }
+{
     let locks = members.iter().filter(|member| is_lock(member)).count();
-    (ends as u64).saturating_add(locks as u64)
+    count_ends(flat, ends).saturating_add(locks as u64)
 }
 
 /// The number of uses of each leaf.
@@ -52,15 +69,16 @@ fn count_leaves(
     alloc: Global,
     source: &Source,
     flat: &Flat,
-    lists: &[List<Joined>],
+    ends: &[List<EndAt>],
 ) -> Result<Vec<u64>, NoMemory>
-    requires { AreJoined flat.now lists.now }
+    requires { ends.now ≡ ends_of source.now flat.now }
     ensures { IfOk result (λ counts. counts.items ≡ leaf_counts source.now flat.now) }
 {
     let mut counts = Vec::new(alloc);
     for (number, leaf) in flat.leaves.as_slice().iter().enumerate() {
         let members = members_at(source, leaf.component);
-        counts.push(count_leaf(lists[number].as_slice(), members))?;
+        let here = ends[number].as_slice();
+        counts.push(count_leaf(flat, here, members))?;
     }
     Ok(counts)
 }
@@ -161,13 +179,13 @@ fn limit_passed(
     alloc: Global,
     source: &Source,
     flat: &Flat,
-    lists: &[List<Joined>],
+    ends: &[List<EndAt>],
 ) -> Result<Option<Limit>, NoMemory>
-    requires lists { AreJoined flat.now lists.now }
+    requires ends { ends.now ≡ ends_of source.now flat.now }
     requires within { IsWithin source.now flat.now }
     ensures { IfOk result (λ limit. limit ≡ first_limit (map capped (counts (slots_of source.now flat.now)))) }
 {
-    let leaves = count_leaves(alloc, source, flat, lists)?;
+    let leaves = count_leaves(alloc, source, flat, ends)?;
     let domains = count_domains(alloc, source, flat, &leaves)?;
     Ok(first_limit(&domains))
 }
@@ -191,13 +209,13 @@ pub fn slot_limit(
     alloc: Global,
     source: &Source,
     flat: &Flat,
-    lists: &[List<Joined>],
+    ends: &[List<EndAt>],
 ) -> Result<Option<Fault>, NoMemory>
-    requires lists { AreJoined flat.now lists.now }
+    requires ends { ends.now ≡ ends_of source.now flat.now }
     requires within { IsWithin source.now flat.now }
     ensures { IfOk result (λ fault. fault ≡ first_slot_fault source.now flat.now) }
 {
-    match limit_passed(alloc, source, flat, lists)? {
+    match limit_passed(alloc, source, flat, ends)? {
         Some(limit) => fault_of(alloc, source, limit),
         None => Ok(None),
     }

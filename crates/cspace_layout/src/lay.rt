@@ -1,55 +1,47 @@
 //! The uses of slots, laid out by domain, leaf and member.
 
 ghost use Rattle.adl_meaning.specs.Faults.{Refuses};
-ghost use Rattle.cspace_layout.specs.Laid.{AreJoined, ArePicked, laid_leaf};
-ghost use Rattle.cspace_layout.specs.Members.{leaf_members};
+ghost use Rattle.cspace_layout.specs.Laid.{uses_at, laid_leaf};
 ghost use Rattle.cspace_layout.specs.SlotFaults.{first_slot_fault};
-ghost use Rattle.cspace_layout.specs.Spread.{picks};
 ghost use Rattle.cspace_layout.specs.Uses.{lock_uses, domain_uses, plan_of, slots_of};
-ghost use Rattle.cspace_layout.specs.Within.{IsWithin};
+ghost use Rattle.leaf_ends.specs.LeafEnds.{ends_of};
+ghost use Rattle.leaf_ends.specs.Members.{leaf_members};
+ghost use Rattle.leaf_ends.specs.Within.{IsWithin};
 ghost use Rattle.numbering.specs.Gather.{gather, IsIn};
 ghost use Rattle.std.specs.List.{flat_map};
 ghost use Rattle.std.specs.Prelude.{◌≡◌, ◌<◌, ◌^◌, ◌++◌, length, map, IfOk, OnOk, ℕ};
 
 use crate::count::slot_limit;
-use crate::members::{is_lock, members_at};
-use crate::spread::{Joined, empty_lists, spread, spread_uses};
+use crate::kind::kind_at;
 use crate::{SlotPlan, SlotUse, Slots};
-use adl_ast::{Member, Source};
-use adl_meaning::{Flat, Settled};
+use adl_ast::{Member, Role, Source};
+use adl_meaning::{Connector, Flat, Settled};
 use cam_base::{Fault, List, NoMemory, Refused};
+use leaf_ends::{EndAt, is_lock, leaf_ends, members_at};
 use std::alloc::Global;
 
-fn add_lists(lists: &[List<SlotUse>], uses: &mut List<SlotUse>) -> Result<(), NoMemory>
-    ensures { OnOk result (uses.new ≡ uses.old ++ flat_map (λ list. list) lists.now) }
+fn add_end(flat: &Flat, at: EndAt, uses: &mut List<SlotUse>) -> Result<(), NoMemory>
+    ensures { OnOk result (uses.new ≡ uses.old ++ uses_at flat.now.connections at) }
 {
-    for list in lists {
-        uses.extend(list.as_slice())?;
+    let first = SlotUse::OfEnd(at.connection, at.end);
+    let second = SlotUse::Handler(at.connection, at.end);
+    match kind_at(flat, at) {
+        Some((Connector::Rpc | Connector::Notification, _)) => uses.push(first),
+        Some((Connector::Interrupt, Role::To)) => {
+            uses.push(first)?;
+            uses.push(second)
+        }
+        _ => Ok(()),
+    }
+}
+
+fn add_ends(flat: &Flat, ends: &[EndAt], uses: &mut List<SlotUse>) -> Result<(), NoMemory>
+    ensures { OnOk result (uses.new ≡ uses.old ++ flat_map (uses_at flat.now.connections) ends.now) }
+{
+    for at in ends {
+        add_end(flat, *at, uses)?;
     }
     Ok(())
-}
-
-/// The uses of a leaf, in a list for each of so many members.
-#[tactic(auto, using(crate::proofs::Laying::lists_picked))]
-fn by_member(alloc: Global, all: &[Joined], count: usize) -> Result<Vec<List<SlotUse>>, NoMemory>
-    ensures { IfOk result (λ lists. ArePicked all.now count lists.items) }
-{
-    let mut lists = empty_lists(alloc, count)?;
-    spread_uses(&mut lists, all)?;
-    Ok(lists)
-}
-
-#[tactic(auto, using(crate::proofs::Laying::interfaces_laid))]
-fn add_interfaces(
-    alloc: Global,
-    all: &[Joined],
-    members: &[Member],
-    uses: &mut List<SlotUse>,
-) -> Result<(), NoMemory>
-    ensures { OnOk result (uses.new ≡ uses.old ++ gather (λ m member. picks m all.now) members.now) }
-{
-    let lists = by_member(alloc, all, members.len())?;
-    add_lists(&lists, uses)
 }
 
 fn add_lock(
@@ -77,16 +69,16 @@ fn add_locks(leaf: u32, members: &[Member], uses: &mut List<SlotUse>) -> Result<
 }
 
 fn add_leaf(
-    alloc: Global,
+    flat: &Flat,
     leaf: u32,
-    all: &[Joined],
+    ends: &[EndAt],
     members: &[Member],
     uses: &mut List<SlotUse>,
 ) -> Result<(), NoMemory>
     requires { length members.now < 2 ^ 32 }
-    ensures { OnOk result (uses.new ≡ uses.old ++ laid_leaf leaf all.now members.now) }
+    ensures { OnOk result (uses.new ≡ uses.old ++ laid_leaf flat.now.connections leaf ends.now members.now) }
 {
-    add_interfaces(alloc, all, members, uses)?;
+    add_ends(flat, ends, uses)?;
     add_locks(leaf, members, uses)
 }
 
@@ -94,10 +86,10 @@ fn lay_domain(
     alloc: Global,
     source: &Source,
     flat: &Flat,
-    lists: &[List<Joined>],
+    ends: &[List<EndAt>],
     listed: &[u32],
 ) -> Result<List<SlotUse>, NoMemory>
-    requires lists { AreJoined flat.now lists.now }
+    requires ends { ends.now ≡ ends_of source.now flat.now }
     requires within { (leaf : ℕ) → IsIn leaf listed.now → leaf < length flat.now.leaves }
     requires few { (leaf : ℕ) → length (leaf_members source.now flat.now leaf) < 2 ^ 32 }
     ensures { IfOk result (λ uses. uses ≡ domain_uses source.now flat.now listed.now) }
@@ -105,9 +97,9 @@ fn lay_domain(
     let leaves = flat.leaves.as_slice();
     let mut uses = List::new(alloc);
     for leaf in listed {
-        let all = lists[*leaf as usize].as_slice();
+        let here = ends[*leaf as usize].as_slice();
         let members = members_at(source, leaves[*leaf as usize].component);
-        add_leaf(alloc, *leaf, all, members, &mut uses)?;
+        add_leaf(flat, *leaf, here, members, &mut uses)?;
     }
     Ok(uses)
 }
@@ -116,15 +108,15 @@ fn lay_domains(
     alloc: Global,
     source: &Source,
     flat: &Flat,
-    lists: &[List<Joined>],
+    ends: &[List<EndAt>],
 ) -> Result<Slots, NoMemory>
-    requires lists { AreJoined flat.now lists.now }
+    requires ends { ends.now ≡ ends_of source.now flat.now }
     requires within { IsWithin source.now flat.now }
     ensures { IfOk result (λ slots. slots ≡ slots_of source.now flat.now) }
 {
     let mut domains = List::new(alloc);
     for domain in flat.domains.as_slice() {
-        let uses = lay_domain(alloc, source, flat, lists, domain.leaves.as_slice())?;
+        let uses = lay_domain(alloc, source, flat, ends, domain.leaves.as_slice())?;
         domains.push(SlotPlan { uses })?;
     }
     Ok(Slots { domains })
@@ -145,10 +137,9 @@ pub fn lay_caps(
     ensures limits { Refuses result (first_slot_fault source.now flat.now) }
     ensures slots { IfOk result (λ slots. slots ≡ slots_of source.now flat.now) }
 {
-    let mut lists = empty_lists(alloc, flat.leaves.len())?;
-    spread(&mut lists, flat.connections.as_slice())?;
-    match slot_limit(alloc, source, flat, &lists)? {
+    let ends = leaf_ends(alloc, source, flat)?;
+    match slot_limit(alloc, source, flat, ends.as_slice())? {
         Some(fault) => Err(Refused::Fault(fault)),
-        None => Ok(lay_domains(alloc, source, flat, &lists)?),
+        None => Ok(lay_domains(alloc, source, flat, ends.as_slice())?),
     }
 }

@@ -21,7 +21,7 @@ use Rattle.adl_meaning.specs.NameFaults.{AreNamesSound}
 use Rattle.adl_types.specs.Kind.{is_kind_of}
 use Rattle.adl_types.specs.TypeFaults.{first_type_fault}
 use Rattle.conn_rules.specs.Ends.{end_rule}
-use Rattle.cspace_layout.specs.Members.{members_at}
+use Rattle.leaf_ends.specs.Members.{members_at}
 use Rattle.flat_laws.specs.Typed.{AreTyped}
 use Rattle.flat_laws.proofs.EndMembers.{interface_placed}
 use Rattle.flat_laws.proofs.FlatEnds.{strung_of, end_of}

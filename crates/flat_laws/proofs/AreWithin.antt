@@ -11,7 +11,7 @@ use Rattle.adl_meaning.specs.Joins.{connections}
 use Rattle.adl_meaning.specs.NameFaults.{AreNamesSound}
 use Rattle.adl_meaning.specs.Paths.{leaves}
 use Rattle.adl_meaning.proofs.SoundNames.{one_assembly}
-use Rattle.cspace_layout.specs.Within.{IsWithin}
+use Rattle.leaf_ends.specs.Within.{IsWithin}
 use Rattle.flat_laws.specs.FewMembers.{HaveFewMembers}
 use Rattle.flat_laws.proofs.FlatEnds.{strung_of, end_of}
 use Rattle.flat_laws.proofs.FlatLeaves.{few_members, leaf_owned}

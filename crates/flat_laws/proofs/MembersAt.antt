@@ -10,7 +10,7 @@ use Rattle.component_graph.proofs.Lists.{from_map, from_flat_map, from_filter_ma
 use Rattle.adl_meaning.specs.Items.{items_in, items_of, as_component, components}
 use Rattle.adl_meaning.specs.Lists.{IsIn}
 use Rattle.adl_meaning.specs.declared.item_at.ItemAt.{ItemAt}
-use Rattle.cspace_layout.specs.Members.{members_of, members_in, items_of_file, members_at}
+use Rattle.leaf_ends.specs.Members.{members_of, members_in, items_of_file, members_at}
 
 -- an item stands at its place
 item_at : (s : Source) (x : ItemAt × Item) → IsIn x (items_of s) → (e : Ended) × (slice_get (items_of_file (slice_get s.files x.0.file)) x.0.item ≡ Some e) × (e.item ≡ x.1)

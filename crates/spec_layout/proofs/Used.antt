@@ -13,8 +13,9 @@ use Rattle.adl_meaning.specs.declared.flat.Leaf.{Leaf}
 use Rattle.cspace_layout.specs.declared.plan.SlotPlan.{SlotPlan}
 use Rattle.cspace_layout.specs.declared.plan.SlotUse.{SlotUse}
 use Rattle.cspace_layout.specs.declared.plan.SlotUse.TheVariants.{OwnLock}
-use Rattle.cspace_layout.specs.Members.{is_lock, leaf_members, members_at, members_of_leaf}
-use Rattle.cspace_layout.specs.Uses.{end_uses, joins, joined_uses, member_uses, lock_uses, leaf_uses, domain_uses, plan_of, slots_of}
+use Rattle.leaf_ends.specs.LeafEnds.{joins}
+use Rattle.leaf_ends.specs.Members.{is_lock, leaf_members, members_at, members_of_leaf}
+use Rattle.cspace_layout.specs.Uses.{end_uses, joined_uses, member_uses, lock_uses, leaf_uses, domain_uses, plan_of, slots_of}
 use Rattle.numbering.specs.Gather.{IsIn, gather}
 use Rattle.numbering.proofs.Gathered.{from_gather, in_gather, in_append, in_left, place_of, in_place}
 

@@ -20,7 +20,7 @@ use Rattle.auth_kinds.specs.declared.edge.Edge.{Edge}
 use Rattle.conn_rules.specs.declared.rule.ObjectKind.{ObjectKind}
 use Rattle.conn_rules.specs.declared.rule.ObjectKind.TheVariants.{NoObject, OfEndpoint, OfNotification, OfFrames, OfDevice, OfIrq}
 use Rattle.conn_rules.specs.Row.{rows_of}
-use Rattle.cspace_layout.specs.Members.{members_at}
+use Rattle.leaf_ends.specs.Members.{members_at}
 use Rattle.numbering.specs.Gather.{IsIn}
 use Rattle.spec_layout.specs.Tables.{Tables, connection_label, device_label, domain_label, from_leaf}
 

@@ -19,7 +19,7 @@ use Rattle.adl_meaning.specs.declared.settled.Settled.{Settled}
 use Rattle.cspace_layout.specs.declared.plan.SlotPlan.{SlotPlan}
 use Rattle.cspace_layout.specs.declared.plan.SlotUse.{SlotUse}
 use Rattle.cspace_layout.specs.declared.plan.Slots.{Slots}
-use Rattle.cspace_layout.specs.Members.{items_of_file}
+use Rattle.leaf_ends.specs.Members.{items_of_file}
 use Rattle.spec_layout.specs.declared.numbers.LabelNumbers.{LabelNumbers}
 
 pub record Tables : Type 0 where

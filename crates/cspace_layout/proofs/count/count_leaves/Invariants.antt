@@ -1,9 +1,9 @@
-use Rattle.std.proofs.Common.{◌≡◌, ◌∷◌, [], take}
+use Rattle.std.proofs.Common.{◌≡◌, ◌∷◌, [], length, take}
 use Rattle.numbering.specs.Gather.{gather}
-use Rattle.cspace_layout.specs.Counted.{capped, leaf_count}
-use Rattle.cspace_layout.specs.Members.{members_at}
-use Rattle.cspace_layout.specs.Spread.{leaf_joined}
+use Rattle.leaf_ends.specs.Members.{members_at}
+use Rattle.cspace_layout.specs.Counted.{capped}
+use Rattle.cspace_layout.specs.Uses.{leaf_uses}
 use Rattle.cspace_layout.proofs.count.count_leaves.Given as goal
 
 abbrev pub invariant-loop-number : goal.invariant-loop-number
-invariant-loop-number l = l.counts.items ≡ gather (λ n leaf. capped (leaf_count (leaf_joined n l.flat.connections) (members_at l.source leaf.component)) ∷ []) (take l.number l.flat.leaves)
+invariant-loop-number l = l.counts.items ≡ gather (λ n leaf. capped (length (leaf_uses l.flat.connections n (members_at l.source leaf.component))) ∷ []) (take l.number l.flat.leaves)

@@ -1,0 +1,11 @@
+use Rattle.std.proofs.Common.{◌≡◌, ◌≤◌, ◌+◌, ◌-◌, ◌^◌, drop, length}
+use Rattle.std.specs.List.{flat_map}
+use Rattle.cspace_layout.specs.Counted.{capped}
+use Rattle.cspace_layout.specs.Laid.{uses_at}
+use Rattle.cspace_layout.proofs.count.count_ends.Given as goal
+
+abbrev pub invariant-loop-at : goal.invariant-loop-at
+invariant-loop-at l = record {
+  fits : l.count ≤ 2 ^ 64 - 1;
+  rest : capped (l.count + length (flat_map (uses_at l.flat.connections) (drop l.at-index l.ends))) ≡ capped (length (flat_map (uses_at l.flat.connections) l.ends));
+}

@@ -1,0 +1,28 @@
+use Rattle.std.proofs.Common.{◌≡◌, ◌∙◌, ◌<◌, get_or, false, ap, sym, subst}
+use Rattle.std.specs.Prelude.{OnOk}
+use Rattle.std.specs.List.{flat_map}
+use Rattle.adl_meaning.specs.Faults.{noted}
+use Rattle.numbering.specs.Gather.{IsIn}
+use Rattle.program_sections.specs.Images.{sections_of}
+use Rattle.program_sections.specs.SpaceFaults.{clashes, leaf_faults}
+use Rattle.program_sections.specs.Told.{sections_told}
+use Rattle.program_sections.proofs.Leaves.{same_tests}
+use Rattle.program_sections.proofs.SectionsTold.{comes_from, get_below}
+use Rattle.program_sections.proofs.faults.note_domain.Goals as goal
+
+pub clashing-requires : goal.clashing-requires
+clashing-requires c = λ x i.
+    let images = c.args.images.now in
+    let from = comes_from images c.args.leaves.now x (subst (IsIn x) (ap sections_told c.as_slice.ensures.value ∙ c.in_ok-sections.ensures) i) in
+    subst (λ n. x.image < n) (sym c.len.ensures) (get_below images.images x.image from.image from.at)
+
+pub returns : goal.returns
+returns c =
+    let images = c.args.images.now in
+    let leaves = c.args.leaves.now in
+    let all = sections_of images leaves in
+    let told : sections_told c.as_slice.result.now ≡ all = ap sections_told c.as_slice.ensures.value ∙ c.in_ok-sections.ensures in
+    subst (λ p. OnOk c.note_leaves.result (c.note_leaves.new.first ≡ noted c.args.first.now (flat_map (leaf_faults c.args.flat.now images p) leaves)))
+    (same_tests (λ m. get_or c.as_slice-2.result.now m false) (clashes all)
+    (λ m. ap (λ z. get_or z m false) c.as_slice-2.ensures.value ∙ c.in_ok-clashing.ensures.marks m ∙ ap (λ z. clashes z m) told))
+    c.note_leaves.ensures

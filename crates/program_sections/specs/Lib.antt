@@ -1,0 +1,6 @@
+pub mod ByAddress
+pub mod Images
+pub mod Numbered
+pub mod SectionPages
+pub mod SpaceFaults
+pub mod Told

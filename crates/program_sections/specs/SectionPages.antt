@@ -1,0 +1,29 @@
+-- The pages of sections. A section begins a page and ends in the last page that it has a byte of.
+use Rattle.std.specs.Prelude.{ℕ, ◌+◌, ◌-◌, ◌*◌, ◌/◌, nat_lt, leb, min, Bool, ◌&&◌, List, Option, option_map}
+use Rattle.cap_model.specs.declared.object.Fill.{Fill}
+use Rattle.sect_table.specs.declared.image.Section.{Section}
+
+-- the numbers of its first page and of the page behind its last
+abbrev pub first_page : Section → ℕ
+first_page s = s.vaddr / 4096
+
+abbrev pub page_count : Section → ℕ
+page_count s = (s.size + 4095) / 4096
+
+abbrev pub end_page : Section → ℕ
+end_page s = first_page s + page_count s
+
+-- two sections have a page in common
+abbrev pub share_page : Section → Section → Bool
+share_page a b = nat_lt (first_page a) (end_page b) && nat_lt (first_page b) (end_page a)
+
+-- all its pages lie behind the first one and in front of an address
+abbrev pub is_inside : ℕ → Section → Bool
+is_inside end s = leb 4096 s.vaddr && leb (s.vaddr + s.size) end
+
+-- what page j of a section is filled with: its bytes of the program's file
+abbrev pub fill_from : List ℕ → Section → ℕ → ℕ → Fill
+fill_from file s j at = record { offset = 0; length = min (s.size - 4096 * j) 4096; file = file; at = at + 4096 * j }
+
+abbrev pub fill_of : List ℕ → Section → ℕ → Option Fill
+fill_of file s j = option_map (fill_from file s j) s.at
