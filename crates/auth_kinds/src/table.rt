@@ -8,7 +8,7 @@ use std::alloc::Global;
 use std::marker::Model;
 
 /// Edges in order, each once. Contracts see it as the list of its edges.
-#[derive(Debug, Drop)]
+#[derive(Drop)]
 pub struct EdgeTable {
     edges: Vec<Edge>,
 }
