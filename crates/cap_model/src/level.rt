@@ -11,7 +11,7 @@ pub enum Arch {
 }
 
 /// The levels of page tables, from the outermost inwards: `pgd`, `pud`, `pd` and `pt`. Arm11 has the last two.
-#[derive(Clone, Copy)]
+#[derive(Clone, Copy, Debug)]
 pub enum Level {
     Global,
     Upper,

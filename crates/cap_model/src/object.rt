@@ -5,7 +5,7 @@ use crate::{Cap, Kind, Level};
 use cam_base::{List, Text};
 
 /// What a frame is filled with: so many bytes of a file, from `at` on, put at an offset of the frame.
-#[derive(Drop)]
+#[derive(Debug, Drop)]
 pub struct Fill {
     pub offset: u64,
     pub length: u64,
