@@ -2,7 +2,7 @@ ghost use Rattle.auth_kinds.specs.Authorities.{number_of, text_of};
 ghost use Rattle.std.specs.Prelude.{◌≡◌, ◌≤◌, Some, IfSome, IfNone};
 
 /// What one label may do to another. Comparisons are those of the numbers.
-#[derive(Clone, Copy, Debug, PartialEq, Eq, PartialOrd, Ord, Hash)]
+#[derive(Clone, Copy, PartialEq, Eq, PartialOrd, Ord)]
 pub enum Authority {
     Receive,
     SyncSend,

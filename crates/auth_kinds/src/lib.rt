@@ -12,8 +12,6 @@ mod object_labels;
 mod policy;
 mod set;
 mod table;
-#[cfg(test)]
-mod tests;
 
 pub use authority::Authority;
 pub use edge::Edge;

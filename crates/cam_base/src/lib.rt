@@ -11,8 +11,6 @@ mod name;
 mod number;
 mod path;
 mod place;
-#[cfg(test)]
-mod tests;
 mod text;
 mod text_fault;
 mod token;

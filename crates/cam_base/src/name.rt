@@ -19,7 +19,7 @@ use std::marker::Model;
 use thiserror::Error;
 
 /// The bytes are no identifier of 1 to 127 bytes.
-#[derive(Clone, Copy, Debug, PartialEq, Eq, Error)]
+#[derive(Clone, Copy, Debug, Error)]
 #[error("not a name")]
 pub struct BadName;
 
@@ -71,6 +71,11 @@ pub fn is_name(bytes: &[u8]) -> bool
 
 /// The blank name that fills the unused places of a path: it takes no memory, and shows as `_`.
 impl MadeWith<Global> for Name {
+    ghost use Rattle.cam_base.specs.Names.{shown};
+    ghost use Rattle.std.specs.Prelude.{◌≡◌, []};
+
+    ghost is_made_with = { λ name. name ≡ shown [] };
+
     fn made_with(alloc: Global) -> Name {
         Name {
             text: Text::empty(alloc),

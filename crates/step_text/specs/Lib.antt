@@ -6,3 +6,4 @@ pub mod Spelling
 pub mod StepTexts
 pub mod Threads
 pub mod Verbs
+pub use Rattle.text_lines.specs.Lines

@@ -9,8 +9,6 @@ mod line_fault;
 mod reader;
 mod rights;
 mod spelled;
-#[cfg(test)]
-mod tests;
 mod threads;
 mod verb;
 

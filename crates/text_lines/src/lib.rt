@@ -7,8 +7,6 @@
 mod field;
 mod line;
 mod part;
-#[cfg(test)]
-mod tests;
 
 pub use field::{fields, spaced_fields};
 pub use line::{Line, Lines};
