@@ -1,5 +1,6 @@
 -- The twelve authorities: each one's number, and the word that texts name it by.
-use Rattle.std.specs.Prelude.{ℕ, List, codes}
+use Rattle.std.specs.Prelude.{ℕ, List, [], ◌∷◌, Option, find, codes}
+use Rattle.std.specs.Str.{bytes_eq}
 use Rattle.auth_kinds.specs.declared.authority.Authority.{Authority}
 use Rattle.auth_kinds.specs.declared.authority.Authority.TheVariants.{Receive, SyncSend, AsyncSend, Reset, Grant, Read, Write, Control, Call, Reply, GrantBack, Handle}
 
@@ -31,3 +32,11 @@ text_of Call = codes "Call"
 text_of Reply = codes "Reply"
 text_of GrantBack = codes "GrantBack"
 text_of Handle = codes "Handle"
+
+-- all of them
+abbrev pub authorities : List Authority
+authorities = Receive ∷ SyncSend ∷ AsyncSend ∷ Reset ∷ Grant ∷ Read ∷ Write ∷ Control ∷ Call ∷ Reply ∷ GrantBack ∷ Handle ∷ []
+
+-- the authority of a word
+abbrev pub authority_of : List ℕ → Option Authority
+authority_of word = find (λ a. bytes_eq (text_of a) word) authorities

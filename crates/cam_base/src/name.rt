@@ -1,4 +1,4 @@
-ghost use Rattle.cam_base.specs.Names.{is_letter, is_word_byte, is_name};
+ghost use Rattle.cam_base.specs.Names.{is_letter, is_word_byte, is_name, is_word};
 ghost use Rattle.cam_base.specs.declared.error.Refused.TheVariants.{Fault};
 ghost use Rattle.std.proofs.Common.{rules};
 ghost use Rattle.std.specs.Cmp.{partial_order_from_own_ties};
@@ -57,6 +57,16 @@ fn all_word_bytes(bytes: &[u8]) -> bool
     ensures { result ≡ list_all is_word_byte bytes.now }
 {
     bytes.iter().all(|b| is_word_byte(*b))
+}
+
+/// Whether the bytes are an identifier of any length.
+pub fn is_word(bytes: &[u8]) -> bool
+    ensures { result ≡ is_word bytes.now }
+{
+    match bytes {
+        [] => false,
+        [first, rest @ ..] => is_letter(*first) && all_word_bytes(rest),
+    }
 }
 
 /// Whether the bytes are an identifier of 1 to 127 bytes.

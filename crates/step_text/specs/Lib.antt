@@ -1,5 +1,4 @@
 pub mod Found
-pub mod LineFaults
 pub mod LinesRead
 pub mod RightsFields
 pub mod Spelling

@@ -5,7 +5,6 @@
 #![tactic(auto)]
 
 mod laws;
-mod line_fault;
 mod reader;
 mod rights;
 mod spelled;

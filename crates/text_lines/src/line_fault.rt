@@ -1,11 +1,11 @@
 //! Faults at lines of a text.
 
-ghost use Rattle.step_text.specs.LineFaults.{IsRefusal};
+ghost use Rattle.text_lines.specs.LineFaults.{IsRefusal};
 ghost use Rattle.text_lines.specs.LinesLeft.{line_of};
 
+use crate::Line;
 use cam_base::{NoMemory, Refused, Text, TextCode, TextFault};
 use std::alloc::Global;
-use text_lines::Line;
 
 /// The fault at a line, unless memory runs out.
 pub fn refusal(alloc: Global, line: Line, code: TextCode, name: &[u8]) -> Refused<TextFault>
