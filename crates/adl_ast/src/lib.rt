@@ -13,10 +13,7 @@ mod id;
 mod laws;
 mod procedure;
 mod seen;
-mod source;
-#[cfg(test)]
-mod tests;
-mod value;
+mod source;mod value;
 mod written;
 
 pub use component::{Attribute, Component, Interface, InterfaceKind, Lock, LockKind, Member};

@@ -1,5 +1,6 @@
 pub mod Classes
 pub mod Keywords
+pub mod Candidates
 pub mod TokenKinds
 pub mod Gaps
 pub mod LexFaults

@@ -12,10 +12,7 @@ mod laws;
 mod lexer;
 mod number;
 mod piece;
-mod run;
-#[cfg(test)]
-mod tests;
-mod text;
+mod run;mod text;
 mod word;
 
 pub use keyword::{KeywordTable, keywords};

@@ -4,6 +4,7 @@ ghost use Rattle.adl_lexer.specs.Classes.{after_run, class_of, run, word_bytes, 
 ghost use Rattle.grammar.specs.Form.{among};
 ghost use Rattle.std.specs.Prelude.{◌≡◌};
 
+use cam_base::is_word_byte;
 use crate::class::{DIGIT, DOT, LINE_FEED, MINUS, SLASH, class};
 
 /// A run of letters, digits and underscores, and the rest behind it.
@@ -30,12 +31,21 @@ fn word_end(bytes: &[u8]) -> &[u8]
 {
     let mut rest = bytes;
     'run: while let [byte, tail @ ..] = rest {
-        if class(*byte) > DIGIT {
+        if !is_of_word(*byte) {
             break;
         }
         rest = tail;
     }
     rest
+}
+
+/// Whether a byte is a letter, a digit or an underscore.
+#[tactic(auto, using(crate::proofs::ClassBytes::word_byte_is))]
+#[inline]
+fn is_of_word(byte: u8) -> bool
+    ensures { result ≡ among word_bytes (class_of byte) }
+{
+    is_word_byte(byte)
 }
 
 /// What is behind a run of bytes of an angle name.

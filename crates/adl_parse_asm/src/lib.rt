@@ -10,7 +10,6 @@ mod composition;
 mod configuration;
 mod dotted;
 mod part;
-mod repeated;
 mod token;
 mod value;
 
@@ -20,12 +19,8 @@ pub use configuration::read_configuration;
 pub use part::{
     fault_of, parse_assembly, parse_composition, parse_configuration, parse_value, refusal_of,
 };
-pub use repeated::{Repeated, read_all, read_list};
 pub use token::{
-    WordKind, id_of, inner_text, maybe_word, next_has, next_is, next_is_word, number_of, span,
+    Adl, WordKind, id_of, inner_text, maybe_word, next_has, next_is, next_is_word, number_of, span,
     take, take_of, text_at, word,
 };
 pub use value::read_value;
-
-#[cfg(test)]
-mod tests;

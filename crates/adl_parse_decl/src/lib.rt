@@ -11,6 +11,3 @@ mod procedure;
 mod typed;
 
 pub use file::parse_file;
-
-#[cfg(test)]
-mod tests;
