@@ -5,5 +5,7 @@ pub mod TokenKinds
 pub mod Gaps
 pub mod LexFaults
 pub mod Lexes
+pub mod Places
 pub mod Pieces
 pub mod TokenTexts
+pub use Rattle.grammar.specs.Spelling

@@ -9,6 +9,7 @@ mod assembly;
 mod composition;
 mod configuration;
 mod dotted;
+mod laws;
 mod part;
 mod token;
 mod value;
@@ -16,6 +17,7 @@ mod value;
 pub use assembly::read_assembly;
 pub use composition::read_composition;
 pub use configuration::read_configuration;
+pub use laws::part_faults_are_one;
 pub use part::{
     fault_of, parse_assembly, parse_composition, parse_configuration, parse_value, refusal_of,
 };

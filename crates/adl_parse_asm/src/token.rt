@@ -4,7 +4,7 @@ ghost use Rattle.adl_ast.specs.Codes.{kind_code, token_code, word_code, word_cod
 ghost use Rattle.adl_ast.specs.Forms.{word};
 ghost use Rattle.adl_ast.specs.Seeing.{see, seen_at, text_at, id_of, named, number_of, inner, span};
 ghost use Rattle.adl_ast.specs.Spelling.{reads};
-ghost use Rattle.adl_parse_asm.specs.Words.{codes_of};
+ghost use Rattle.adl_parse_asm.specs.Words.{codes_of, if_buf, if_void};
 ghost use Rattle.grammar.specs.Form.{among, maybe};
 ghost use Rattle.grammar.specs.Gives.{Gives};
 ghost use Rattle.grammar.specs.Reading.{starts, one};
@@ -85,16 +85,29 @@ fn mark_code(mark: Mark) -> u8
     }
 }
 
+#[tactic(auto, using(crate::proofs::Words::of_four, crate::proofs::Words::of_three, crate::proofs::Words::of_another))]
 fn word_code(text: &[u8]) -> u8
     ensures { result ≡ word_code text.now }
 {
-    if text == b"void".as_slice() {
-        1
-    } else if text == b"Buf".as_slice() {
-        2
+    if text.len() == 4 {
+        void_code(text)
+    } else if text.len() == 3 {
+        buf_code(text)
     } else {
         0
     }
+}
+
+fn void_code(text: &[u8]) -> u8
+    ensures { result ≡ if_void text.now }
+{
+    if text == b"void".as_slice() { 1 } else { 0 }
+}
+
+fn buf_code(text: &[u8]) -> u8
+    ensures { result ≡ if_buf text.now }
+{
+    if text == b"Buf".as_slice() { 2 } else { 0 }
 }
 
 #[inline(always)]
@@ -199,7 +212,7 @@ fn take_word<'a>(bytes: &[u8], tokens: &'a [Token]) -> Result<(Token, &'a [Token
 }
 
 /// Words by whether they are one of the two with a meaning of their own.
-#[derive(Clone, Copy, Debug, PartialEq, Eq)]
+#[derive(Clone, Copy)]
 pub enum WordKind {
     /// The word `void`.
     Void,
