@@ -107,9 +107,9 @@ letter_class b d n =
     let third : ℕ = cond (is_letter b) own (sign_class b) in
     let first : class_of b ≡ cond (is_hex_digit b) 1 third = if_false (is_digit b) (cond (b == 48) 3 4) (cond (is_hex_digit b) 1 third) d in
     elim (bool_cases (is_hex_digit b)) [
-    | inl h ↦ ap (among word_bytes) (first ∙ if_true (is_hex_digit b) 1 third h)
-    | inr h ↦ ap (among word_bytes) (first ∙ if_false (is_hex_digit b) 1 third h ∙ if_true (is_letter b) own (sign_class b) n) ∙ if_has (among word_bytes) (b == 120 || b == 88) 2 0 refl refl
-  ]
+      | inl h ↦ ap (among word_bytes) (first ∙ if_true (is_hex_digit b) 1 third h)
+      | inr h ↦ ap (among word_bytes) (first ∙ if_false (is_hex_digit b) 1 third h ∙ if_true (is_letter b) own (sign_class b) n) ∙ if_has (among word_bytes) (b == 120 || b == 88) 2 0 refl refl
+    ]
 
 digit_class : (b : ℕ) → is_digit b ≡ true → among word_bytes (class_of b) ≡ true
 unfolding class_of

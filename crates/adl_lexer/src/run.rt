@@ -4,8 +4,8 @@ ghost use Rattle.adl_lexer.specs.Classes.{after_run, class_of, run, word_bytes, 
 ghost use Rattle.grammar.specs.Form.{among};
 ghost use Rattle.std.specs.Prelude.{◌≡◌};
 
-use cam_base::is_word_byte;
 use crate::class::{DIGIT, DOT, LINE_FEED, MINUS, SLASH, class};
+use cam_base::is_word_byte;
 
 /// A run of letters, digits and underscores, and the rest behind it.
 #[tactic(auto, using(crate::proofs::Runs::run_taken, crate::proofs::Runs::after_run_le))]
