@@ -13,14 +13,12 @@ mod lexer;
 mod number;
 mod piece;
 mod run;
-#[cfg(test)]
-mod tests;
 mod text;
 mod word;
 
 pub use keyword::{KeywordTable, keywords};
 pub use laws::{
     bytes_at_fault_begin_no_token, first_fault_is_one, keywords_are_their_words, one_thing_begins,
-    tokens_are_one, tokens_have_no_fault, tokens_have_their_texts,
+    places_rise, tokens_are_one, tokens_have_no_fault, tokens_have_their_texts,
 };
 pub use lexer::lex;
