@@ -321,6 +321,7 @@ module _ (s : Source) (typed : AreTyped s (flat_of s)) (flat : IsFlat s (flat_of
   pub fit : AreFewSlots s (flat_of s) → IsFit (tables_of s)
   fit few = record {
     slots = λ d plan at. let l = few_uses s (flat_of s) few d plan at in omega (arith, l);
+    devices = λ k c at int. let d = flat.device k c at int in (d.1.leaf, (flat.one_device k d.0 c d.1 at d.2 int d.3).0);
     priorities = λ leaf. priorities_le (leaves_found (hierarchy_of s) (flat_of s)) leaf;
     one_line = one_line;
   }

@@ -1,5 +1,5 @@
 -- How many objects a system has, where there are few slots.
-use Rattle.std.proofs.Common.{◌≡◌, ◌≤◌, ◌<◌, ◌+◌, ◌*◌, ◌^◌, ◌∙◌, ℕ, suc, List, [], ◌∷◌, length, map, refl, sym, ap, Some, arith}
+use Rattle.std.proofs.Common.{◌≡◌, ◌≤◌, ◌<◌, ◌+◌, ◌*◌, ◌^◌, ◌∙◌, ℕ, suc, List, [], ◌∷◌, length, map, refl, sym, ap, Option, Some, None, arith}
 use Rattle.std.proofs.Math.Nat.{mul-le-mul_right}
 use Rattle.std.proofs.lemmas.List.Elements.{All-cons, All-nil}
 use Rattle.std.proofs.lemmas.List.Sums.{count_by-le-length, sum-map, sum_by-cons, sum_by-le}
@@ -16,9 +16,9 @@ use Rattle.cspace_layout.specs.SlotFaults.{counts}
 use Rattle.cspace_layout.specs.Uses.{domain_uses, plan_of, slots_of}
 use Rattle.numbering.specs.Gather.{gather}
 use Rattle.numbering.proofs.Gathered.{length_append}
-use Rattle.spec_layout.specs.Layout.{domain_threads, irq, irq_of, irqs, joint, joint_of, joints, leaf_threads, locks, parts, plan_locks, serves, threads}
+use Rattle.spec_layout.specs.Layout.{domain_threads, endpoint, endpoint_of, endpoints, irq, irq_of, irq_to, irqs, leaf_threads, locks, notification, notification_of, notification_place, notifications, parts, plan_locks, serves, threads}
 use Rattle.spec_layout.specs.Places.{holds_lock}
-use Rattle.spec_layout.specs.Tables.{Tables, connection_label, domain_label, domain_slots}
+use Rattle.spec_layout.specs.Tables.{Tables, connection_label, device_leaf, domain_label, domain_slots}
 use Rattle.spec_layout.proofs.Counting.{length-locks, length-parts, length-servers}
 use Rattle.spec_layout.proofs.Used.{slots_at}
 
@@ -74,27 +74,48 @@ module _ (t : Tables) (laid : t.slots ≡ slots_of t.source t.flat) (few : AreFe
       let each = gathered_le (λ d domain. domain_threads t d domain.leaves) (λ domain. 1024 * (1 + used domain)) t.flat.domains few_of_domain in
       omega (arith, each, sum_scaled used t.flat.domains, all_used, domains_are)
 
-  few_joints : length (joints t) ≤ length t.flat.connections
-  few_joints = let each = gathered_le (joint t) (λ c. 1) t.flat.connections (λ k c e. one_joint k (connection_label t k) c.connector) in omega (arith, each, sum_by-le (λ c. 1) 1 t.flat.connections (all_same 1 t.flat.connections))
+  few_endpoints : length (endpoints t) ≤ length t.flat.connections
+  few_endpoints =
+      let each = gathered_le (endpoint t) (λ c. 1) t.flat.connections (λ k c e. one_endpoint k (connection_label t k) c.connector) in
+      omega (arith, each, sum_by-le (λ c. 1) 1 t.flat.connections (all_same 1 t.flat.connections))
     where
-      one_joint : (k l : ℕ) (c : Connector) → length (joint_of k l c) ≤ 1
-      one_joint k l Rpc = omega arith
-      one_joint k l Notification = omega arith
-      one_joint k l Interrupt = omega arith
-      one_joint k l SharedMemory = omega arith
-      one_joint k l Mmio = omega arith
-      one_joint k l Direct = omega arith
+      one_endpoint : (k l : ℕ) (c : Connector) → length (endpoint_of k l c) ≤ 1
+      one_endpoint k l Rpc = omega arith
+      one_endpoint k l Notification = omega arith
+      one_endpoint k l Interrupt = omega arith
+      one_endpoint k l SharedMemory = omega arith
+      one_endpoint k l Mmio = omega arith
+      one_endpoint k l Direct = omega arith
+
+  few_notifications : length (notifications t) ≤ length t.flat.connections
+  few_notifications =
+      let each = gathered_le (notification t) (λ c. 1) t.flat.connections (λ k c e. one_notification k (connection_label t k) c.connector) in
+      omega (arith, each, sum_by-le (λ c. 1) 1 t.flat.connections (all_same 1 t.flat.connections))
+    where
+      one_notification : (k l : ℕ) (c : Connector) → length (notification_of k l c) ≤ 1
+      one_notification k l Rpc = omega arith
+      one_notification k l Notification = omega arith
+      one_notification k l Interrupt = omega arith
+      one_notification k l SharedMemory = omega arith
+      one_notification k l Mmio = omega arith
+      one_notification k l Direct = omega arith
 
   few_irqs : length (irqs t) ≤ length t.flat.connections
-  few_irqs = let each = gathered_le (irq t) (λ c. 1) t.flat.connections (λ k c e. one_irq k c c.connector) in omega (arith, each, sum_by-le (λ c. 1) 1 t.flat.connections (all_same 1 t.flat.connections))
+  few_irqs =
+      let each = gathered_le (irq t) (λ c. 1) t.flat.connections (λ k c e. one_irq (notification_place t k) c c.connector) in
+      omega (arith, each, sum_by-le (λ c. 1) 1 t.flat.connections (all_same 1 t.flat.connections))
     where
-      one_irq : (k : ℕ) (c : FlatConnection) (x : Connector) → length (irq_of t k c x) ≤ 1
-      one_irq k c Rpc = omega arith
-      one_irq k c Notification = omega arith
-      one_irq k c Interrupt = omega arith
-      one_irq k c SharedMemory = omega arith
-      one_irq k c Mmio = omega arith
-      one_irq k c Direct = omega arith
+      one_device : (place : ℕ) (o : Option ℕ) → length (irq_to t place o) ≤ 1
+      one_device place None = omega arith
+      one_device place (Some leaf) = omega arith
+
+      one_irq : (place : ℕ) (c : FlatConnection) (x : Connector) → length (irq_of t place c x) ≤ 1
+      one_irq place c Rpc = omega arith
+      one_irq place c Notification = omega arith
+      one_irq place c Interrupt = one_device place (device_leaf Interrupt c.ends)
+      one_irq place c SharedMemory = omega arith
+      one_irq place c Mmio = omega arith
+      one_irq place c Direct = omega arith
 
   few_locks : length (locks t) ≤ 65536
   few_locks =
@@ -113,4 +134,4 @@ module _ (t : Tables) (laid : t.slots ≡ slots_of t.source t.flat) (few : AreFe
       as_many (d ∷ ds) = ap (λ n. suc n) (as_many ds)
 
   pub few_objects : length (parts t) < 2 ^ 32
-  few_objects = omega (arith, length-parts t, few_threads, few_joints, few_irqs, few_locks, few_domains, domains_are, connections_are)
+  few_objects = omega (arith, length-parts t, few_threads, few_endpoints, few_notifications, few_irqs, few_locks, few_domains, domains_are, connections_are)
