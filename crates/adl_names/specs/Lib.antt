@@ -1,4 +1,5 @@
 pub mod ByName
+pub mod Listed
 pub mod Located
 pub mod Places
 pub mod Pointed
