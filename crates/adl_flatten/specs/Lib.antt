@@ -10,3 +10,12 @@ pub mod Reachings
 pub mod Stringings
 pub mod Told
 pub mod TotalsOf
+pub use Rattle.adl_meaning.specs.CompositeBody
+pub use Rattle.adl_meaning.specs.Faults
+pub use Rattle.adl_meaning.specs.Flat
+pub use Rattle.adl_meaning.specs.Hierarchy
+pub use Rattle.adl_meaning.specs.Items
+pub use Rattle.adl_meaning.specs.JoinFaults
+pub use Rattle.adl_meaning.specs.Lists
+pub use Rattle.adl_meaning.specs.Members
+pub use Rattle.adl_meaning.specs.NameFaults

@@ -21,8 +21,6 @@ mod path_table;
 mod reach;
 mod sums;
 mod table;
-#[cfg(test)]
-mod tests;
 
 pub use body::BodyTable;
 pub use flat::flatten;

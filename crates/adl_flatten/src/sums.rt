@@ -18,7 +18,7 @@ use component_graph::inner_first;
 use std::alloc::Global;
 
 /// Sums over the paths in a body. None goes past the greatest number of 64 bits.
-#[derive(Clone, Copy, Debug, PartialEq, Eq)]
+#[derive(Clone, Copy)]
 pub struct Totals {
     pub leaves: u64,
     /// The names of the longest leaf path.

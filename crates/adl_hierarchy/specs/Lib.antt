@@ -4,3 +4,12 @@ pub mod Once
 pub mod OutermostGroup
 pub mod PartAt
 pub mod Spelled
+pub use Rattle.adl_meaning.specs.Domains
+pub use Rattle.adl_meaning.specs.Flat
+pub use Rattle.adl_meaning.specs.Hierarchy
+pub use Rattle.adl_meaning.specs.Holding
+pub use Rattle.adl_meaning.specs.Items
+pub use Rattle.adl_meaning.specs.Joins
+pub use Rattle.adl_meaning.specs.Lists
+pub use Rattle.adl_meaning.specs.NameFaults
+pub use Rattle.adl_meaning.specs.Paths

@@ -6,8 +6,6 @@
 #![tactic(auto)]
 
 mod laws;
-#[cfg(test)]
-mod tests;
 
 pub use laws::{
     climbing_is_looking_down, connections_are_the_connections, domains_are_the_domains,

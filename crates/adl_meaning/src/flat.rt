@@ -24,7 +24,7 @@ pub struct Domain {
 }
 
 /// An end of a connection, at the leaf's interface that it joins.
-#[derive(Clone, Copy, Debug, PartialEq, Eq)]
+#[derive(Clone, Copy)]
 pub struct FlatEnd {
     pub role: Role,
     pub leaf: u32,

@@ -12,8 +12,6 @@ mod item_at;
 mod laws;
 mod path;
 mod settled;
-#[cfg(test)]
-mod tests;
 
 pub use connector::Connector;
 pub use first::First;

@@ -1,7 +1,7 @@
 use cam_base::List;
 
 /// The settings of a leaf; 0 for a device.
-#[derive(Clone, Copy, Debug, PartialEq, Eq)]
+#[derive(Clone, Copy)]
 pub struct LeafSetting {
     pub priority: u8,
     /// The bytes of a stack, whole pages.
@@ -9,7 +9,7 @@ pub struct LeafSetting {
 }
 
 /// The settings of an end. A field that has no meaning for its end is 0 or false.
-#[derive(Clone, Copy, Debug, PartialEq, Eq)]
+#[derive(Clone, Copy)]
 pub struct EndSetting {
     pub read: bool,
     pub write: bool,

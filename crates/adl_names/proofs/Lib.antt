@@ -3,6 +3,7 @@ pub mod Filling
 pub mod HeldNames
 pub mod NameLookups
 pub mod PortSets
+pub mod Recurring
 pub mod Repeating
 pub mod Rising
 pub mod TableSteps

@@ -1,4 +1,5 @@
 pub mod ByName
+pub mod Listed
 pub mod Located
 pub mod Places
 pub mod Pointed
@@ -6,3 +7,11 @@ pub mod Ports
 pub mod Scopes
 pub mod Sorted
 pub mod Tables
+pub use Rattle.adl_meaning.specs.CompositeBody
+pub use Rattle.adl_meaning.specs.Export
+pub use Rattle.adl_meaning.specs.Faults
+pub use Rattle.adl_meaning.specs.Holding
+pub use Rattle.adl_meaning.specs.Items
+pub use Rattle.adl_meaning.specs.Members
+pub use Rattle.adl_meaning.specs.NameFaults
+pub use Rattle.adl_meaning.specs.Recursive

@@ -16,8 +16,6 @@ mod recursion;
 mod repeats;
 mod scope;
 mod tables;
-#[cfg(test)]
-mod tests;
 mod unknown;
 
 pub use bodies::is_device;

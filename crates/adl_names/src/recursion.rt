@@ -1,11 +1,12 @@
 //! Instances whose type is the component that they stand in, or holds it.
 
 ghost use Rattle.adl_meaning.specs.Faults.{noted, where_true, at_word};
-ghost use Rattle.adl_meaning.specs.Graph.{InRange, IsAcyclic, is_held};
+ghost use Rattle.adl_meaning.specs.Graph.{has, inner_of};
 ghost use Rattle.adl_meaning.specs.Recursive.{number_named, types_of, graph_of, recursive_type, recursive_instance, recursive_in, recursive_among};
 ghost use Rattle.cam_base.specs.declared.code.Code.TheVariants as code;
 ghost use Rattle.adl_names.specs.ByName.{found};
 ghost use Rattle.component_graph.specs.Numbers.{AreBelow};
+ghost use Rattle.adl_names.specs.Listed.{AreListed, IsListed};
 ghost use Rattle.adl_names.specs.Located.{trees};
 ghost use Rattle.adl_names.specs.Pointed.{pointed};
 ghost use Rattle.std.specs.List.{flat_map, filter_map, enumerate_from};
@@ -18,7 +19,7 @@ use crate::parts::instances;
 use adl_ast::{Component, Id, Instance};
 use adl_meaning::First;
 use cam_base::{Code, List, NoMemory};
-use component_graph::{holds, inner_first};
+use component_graph::Cycles;
 use std::alloc::Global;
 
 /// The number of the first component of each name.
@@ -79,18 +80,6 @@ fn graph_of(
     Ok(graph)
 }
 
-/// Whether a component is the other or holds it, by the test.
-fn is_held(alloc: Global, graph: &[List<u32>], from: u32, to: u32) -> Result<bool, NoMemory>
-    requires range { InRange graph.now }
-    requires few { length graph.now < 2 ^ 32 }
-    requires from { from < length graph.now }
-    requires to { to < length graph.now }
-    ensures { IfOk result (λ b. b ≡ is_held graph.now from to) }
-{
-    let held = holds(alloc, graph, from, to)?;
-    Ok(held)
-}
-
 fn note_where(alloc: Global, held: bool, word: &Id, first: &mut First) -> Result<(), NoMemory>
     ensures { OnOk result (first.new ≡ noted first.old (where_true held (at_word code.Recursive word.now))) }
 {
@@ -103,22 +92,20 @@ fn note_where(alloc: Global, held: bool, word: &Id, first: &mut First) -> Result
 /// Notes an instance in a component, by the number of its type.
 fn note_type(
     alloc: Global,
-    graph: &[List<u32>],
+    cycles: &Cycles,
     component: u32,
     instance: &Instance,
     number: Option<u32>,
     first: &mut First,
 ) -> Result<(), NoMemory>
-    requires range { InRange graph.now }
-    requires few { length graph.now < 2 ^ 32 }
-    requires component { component < length graph.now }
-    requires number { ForSome number (λ t. t < length graph.now) }
-    ensures { OnOk result (first.new ≡ noted first.old (recursive_type graph.now component instance.now number)) }
+    requires component { component < length cycles.now }
+    requires number { ForSome number (λ t. has (inner_of cycles.now component) t ≡ true) }
+    ensures { OnOk result (first.new ≡ noted first.old (recursive_type cycles.now component instance.now number)) }
 {
     let Some(number) = number else {
         return Ok(());
     };
-    let held = is_held(alloc, graph, number, component)?;
+    let held = cycles.holds_back(alloc, component, number)?;
     note_where(alloc, held, &instance.component, first)?;
     Ok(())
 }
@@ -126,37 +113,34 @@ fn note_type(
 fn note_instance(
     alloc: Global,
     numbers: &NameTable<'_, u32>,
-    graph: &[List<u32>],
+    cycles: &Cycles,
     component: u32,
     instance: &Instance,
     first: &mut First,
 ) -> Result<(), NoMemory>
-    requires range { InRange graph.now }
-    requires few { length graph.now < 2 ^ 32 }
-    requires component { component < length graph.now }
-    requires numbers { AreBelow (found numbers.now) (length graph.now) }
-    ensures { OnOk result (first.new ≡ noted first.old (recursive_instance (found numbers.now) graph.now component instance.now)) }
+    requires component { component < length cycles.now }
+    requires listed { IsListed (found numbers.now) (inner_of cycles.now component) instance.now }
+    ensures { OnOk result (first.new ≡ noted first.old (recursive_instance (found numbers.now) cycles.now component instance.now)) }
 {
     let number = numbers.get(&instance.component.name).copied();
-    note_type(alloc, graph, component, instance, number, first)
+    note_type(alloc, cycles, component, instance, number, first)
 }
 
 fn note_instances(
     alloc: Global,
     numbers: &NameTable<'_, u32>,
-    graph: &[List<u32>],
+    cycles: &Cycles,
     component: u32,
     instances: &[&Instance],
     first: &mut First,
 ) -> Result<(), NoMemory>
-    requires range { InRange graph.now }
-    requires few { length graph.now < 2 ^ 32 }
-    requires component { component < length graph.now }
-    requires numbers { AreBelow (found numbers.now) (length graph.now) }
-    ensures { OnOk result (first.new ≡ noted first.old (flat_map (recursive_instance (found numbers.now) graph.now component) (pointed instances.now))) }
+    requires component { component < length cycles.now }
+    requires listed { AreListed (found numbers.now) (inner_of cycles.now component) (pointed instances.now) }
+    ensures { OnOk result (first.new
+        ≡ noted first.old (flat_map (recursive_instance (found numbers.now) cycles.now component) (pointed instances.now))) }
 {
     for instance in instances {
-        note_instance(alloc, numbers, graph, component, instance, first)?;
+        note_instance(alloc, numbers, cycles, component, instance, first)?;
     }
     Ok(())
 }
@@ -164,51 +148,36 @@ fn note_instances(
 fn note_component(
     alloc: Global,
     numbers: &NameTable<'_, u32>,
-    graph: &[List<u32>],
+    cycles: &Cycles,
     number: u32,
     component: &Component,
     first: &mut First,
 ) -> Result<(), NoMemory>
-    requires range { InRange graph.now }
-    requires few { length graph.now < 2 ^ 32 }
-    requires number { number < length graph.now }
-    requires numbers { AreBelow (found numbers.now) (length graph.now) }
-    ensures { OnOk result (first.new ≡ noted first.old (recursive_in (found numbers.now) graph.now number component.now)) }
+    requires number { number < length cycles.now }
+    requires types { inner_of cycles.now number ≡ types_of (found numbers.now) component.now }
+    ensures { OnOk result (first.new ≡ noted first.old (recursive_in (found numbers.now) cycles.now number component.now)) }
 {
     let instances = instances(alloc, component)?;
-    note_instances(alloc, numbers, graph, number, instances.as_slice(), first)?;
+    note_instances(alloc, numbers, cycles, number, instances.as_slice(), first)?;
     Ok(())
 }
 
 fn note_each(
     alloc: Global,
     numbers: &NameTable<'_, u32>,
-    graph: &[List<u32>],
+    cycles: &Cycles,
     components: &[Located<'_, Component>],
     first: &mut First,
 ) -> Result<(), NoMemory>
-    requires range { InRange graph.now }
-    requires few { length graph.now < 2 ^ 32 }
-    requires all { length components.now ≡ length graph.now }
-    requires numbers { AreBelow (found numbers.now) (length graph.now) }
-    ensures { OnOk result (first.new ≡ noted first.old (flat_map (λ x. recursive_in (found numbers.now) graph.now x.0 x.1) (enumerate_from 0 (trees components.now)))) }
+    requires few { length components.now < 2 ^ 32 }
+    requires graph { cycles.now ≡ graph_of (found numbers.now) (trees components.now) }
+    ensures { OnOk result (first.new ≡ noted first.old
+        (flat_map (λ x. recursive_in (found numbers.now) cycles.now x.0 x.1) (enumerate_from 0 (trees components.now)))) }
 {
     for (i, x) in components.iter().enumerate() {
-        note_component(alloc, numbers, graph, i as u32, x.item, first)?;
+        note_component(alloc, numbers, cycles, i as u32, x.item, first)?;
     }
     Ok(())
-}
-
-/// Whether it is seen in one go that no component holds itself.
-fn is_acyclic(alloc: Global, graph: &[List<u32>]) -> Result<bool, NoMemory>
-    requires range { InRange graph.now }
-    requires few { length graph.now < 2 ^ 32 }
-    ensures { IfOk result (λ b. b ≡ true → IsAcyclic graph.now) }
-{
-    match inner_first(alloc, graph)? {
-        Some(_) => Ok(true),
-        None => Ok(false),
-    }
 }
 
 fn note_among(
@@ -222,22 +191,21 @@ fn note_among(
     ensures { OnOk result (first.new ≡ noted first.old (recursive_among (found numbers.now) (trees components.now))) }
 {
     let graph = graph_of(alloc, numbers, components)?;
-    if is_acyclic(alloc, graph.as_slice())? {
-        return Ok(());
-    }
-    note_each(alloc, numbers, graph.as_slice(), components, first)?;
+    let cycles = Cycles::of(alloc, graph)?;
+    note_each(alloc, numbers, &cycles, components, first)?;
     Ok(())
 }
 
-/// Notes each instance whose type is the component that it stands in, or holds it. Where no component holds itself,
-/// that is seen in one go.
+/// Notes each instance whose type is the component that it stands in, or holds it. The components that hold each other
+/// are found once, so that this takes time along the size of the source.
 pub fn note_recursive(
     alloc: Global,
     components: &[Located<'_, Component>],
     first: &mut First,
 ) -> Result<(), NoMemory>
     requires { length components.now < 2 ^ 32 }
-    ensures { OnOk result (first.new ≡ noted first.old (recursive_among (number_named (trees components.now)) (trees components.now))) }
+    ensures { OnOk result (first.new
+        ≡ noted first.old (recursive_among (number_named (trees components.now)) (trees components.now))) }
 {
     let numbers = component_numbers(alloc, components)?;
     note_among(alloc, &numbers, components, first)?;

@@ -17,3 +17,10 @@ pub mod SettingTables
 pub mod SettingTwice
 pub mod Settled
 pub mod Told
+pub use Rattle.adl_meaning.specs.Faults
+pub use Rattle.adl_meaning.specs.Flat
+pub use Rattle.adl_meaning.specs.Hierarchy
+pub use Rattle.adl_meaning.specs.Items
+pub use Rattle.adl_meaning.specs.Joins
+pub use Rattle.adl_meaning.specs.Paths
+pub use Rattle.adl_meaning.specs.Values

@@ -24,8 +24,6 @@ mod region;
 mod repeated;
 mod setting_table;
 mod settling;
-#[cfg(test)]
-mod tests;
 mod values;
 
 pub use access::Access;

@@ -6,3 +6,7 @@ pub mod Remembered
 pub mod Told
 pub mod TypeFaults
 pub mod TypeMismatch
+pub use Rattle.adl_meaning.specs.Export
+pub use Rattle.adl_meaning.specs.Faults
+pub use Rattle.adl_meaning.specs.Items
+pub use Rattle.adl_meaning.specs.NameFaults

@@ -15,8 +15,6 @@ mod leaf_table;
 mod mismatches;
 mod outline;
 mod remembering;
-#[cfg(test)]
-mod tests;
 
 pub use check::check_types;
 pub use laws::walks_inwards_end;

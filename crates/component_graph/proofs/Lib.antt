@@ -1,5 +1,7 @@
 -- Lemmas on walks, orders and sets of components, on components by number, and on what stands in lists.
 pub mod ComponentNumbers
+pub mod CycleSearch
+pub mod Cycling
 pub mod FewComponents
 pub mod Lists
 pub mod Marks

@@ -4,7 +4,7 @@ use Rattle.std.proofs.lemmas.Bool.{or_cases, or_left, or_right, and_parts, and_f
 use lib.Dec.{eqb}
 use Rattle.adl_meaning.specs.Graph.{has, inner_of, InRange, Walk, Holds, IsAcyclic, through, is_held}
 
-walk_join : (g : List (List ℕ)) (n m a b c : ℕ) → Walk g a b n → Walk g b c m → Holds g a c
+pub walk_join : (g : List (List ℕ)) (n m a b c : ℕ) → Walk g a b n → Walk g b c m → Holds g a c
 walk_join g zero m a b c v w = (m, let P : ℕ → Type 0 = λ x. Walk g x c m in subst P (sym v) w)
 walk_join g (suc n) m a b c v w = let k : Holds g v.0 c = walk_join g n m v.0 b c v.2 w in (suc k.0, (v.0, v.1, k.1))
 

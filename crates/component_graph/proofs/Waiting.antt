@@ -21,7 +21,7 @@ inner_of-empty (w ∷ ws) zero = refl
 inner_of-empty (w ∷ ws) (suc c) = inner_of-empty ws c
 
 -- what a list among lists has, where one of them is replaced
-in_set : (ws : List (List ℕ)) (d : ℕ) (v : List ℕ) (c x : ℕ) → d < length ws → has (inner_of (set ws d v) c) x ≡ true → ((c ≡ d) × (has v x ≡ true)) ⊎ (has (inner_of ws c) x ≡ true)
+pub in_set : (ws : List (List ℕ)) (d : ℕ) (v : List ℕ) (c x : ℕ) → d < length ws → has (inner_of (set ws d v) c) x ≡ true → ((c ≡ d) × (has v x ≡ true)) ⊎ (has (inner_of ws c) x ≡ true)
 in_set ws d v c x h e =
     let P : List ℕ → Type 0 = λ xs. has xs x ≡ true in
     elim (cases_eq c d) [
@@ -30,7 +30,7 @@ in_set ws d v c x h e =
     ]
 
 -- one list among lists has one number more
-abbrev with_waiting : List (List ℕ) → ℕ → ℕ → List (List ℕ)
+abbrev pub with_waiting : List (List ℕ) → ℕ → ℕ → List (List ℕ)
 with_waiting ws d a = set ws d (inner_of ws d ++ a ∷ [])
 
 waits_still : (ws : List (List ℕ)) (d a c x : ℕ) → d < length ws → has (inner_of ws c) x ≡ true → has (inner_of (with_waiting ws d a) c) x ≡ true

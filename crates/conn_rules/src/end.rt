@@ -2,7 +2,7 @@ use adl_ast::{InterfaceKind, Role};
 use adl_meaning::Connector;
 
 /// What an end of a connection joins, and how many such ends a connection has.
-#[derive(Clone, Copy, Debug, PartialEq, Eq)]
+#[derive(Clone, Copy)]
 pub struct EndRule {
     pub interface: InterfaceKind,
     /// The interface is a device's.

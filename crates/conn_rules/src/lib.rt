@@ -9,8 +9,6 @@ mod end;
 mod laws;
 mod rule;
 mod table;
-#[cfg(test)]
-mod tests;
 
 pub use end::EndRule;
 pub use laws::{rights_confer_just_the_authorities, sets_are_their_lists};

@@ -4,7 +4,7 @@ use auth_kinds::AuthoritySet;
 use cap_model::Rights;
 
 /// What the capabilities of a row lead to.
-#[derive(Clone, Copy, Debug, PartialEq, Eq)]
+#[derive(Clone, Copy)]
 pub enum ObjectKind {
     /// The end gets no capability.
     NoObject,
@@ -21,7 +21,7 @@ pub enum ObjectKind {
 }
 
 /// A row of the connector table: one object of one end. The rights on frames are lessened by the end's access setting.
-#[derive(Clone, Copy, Debug, PartialEq, Eq)]
+#[derive(Clone, Copy)]
 pub struct RuleRow {
     pub connector: Connector,
     pub role: Role,

@@ -9,7 +9,7 @@ use cap_model::Rights;
 use std::marker::Model;
 
 /// Rows of the connector table. Contracts see it as the list of its rows.
-#[derive(Debug, Drop)]
+#[derive(Drop)]
 pub struct RuleTable<const N: usize> {
     rows: [RuleRow; N],
 }

@@ -6,8 +6,6 @@
 mod page_index;
 mod reach;
 mod region;
-#[cfg(test)]
-mod tests;
 
 pub use page_index::PageIndex;
 pub use region::Region;

@@ -8,4 +8,5 @@ use Rattle.adl_names.proofs.recursion.note_each.Given as goal
 
 abbrev pub invariant-loop-i : goal.invariant-loop-i
 invariant-loop-i l =
-    noted l.first (flat_map (λ x. recursive_in (found l.numbers) l.graph x.0 x.1) (enumerate_from l.i (trees (drop l.i l.components)))) ≡ noted l.fn.first (flat_map (λ x. recursive_in (found l.numbers) l.graph x.0 x.1) (enumerate_from 0 (trees l.components)))
+    noted l.first (flat_map (λ x. recursive_in (found l.numbers) l.cycles x.0 x.1) (enumerate_from l.i (trees (drop l.i l.components))))
+    ≡ noted l.fn.first (flat_map (λ x. recursive_in (found l.numbers) l.cycles x.0 x.1) (enumerate_from 0 (trees l.components)))

@@ -8,4 +8,4 @@ use Rattle.adl_names.proofs.recursion.note_instances.Given as goal
 
 abbrev pub invariant-loop-instance : goal.invariant-loop-instance
 invariant-loop-instance l =
-    noted l.first (flat_map (recursive_instance (found l.numbers) l.graph l.component) (pointed (drop l.instance-index l.instances))) ≡ noted l.fn.first (flat_map (recursive_instance (found l.numbers) l.graph l.component) (pointed l.instances))
+    noted l.first (flat_map (recursive_instance (found l.numbers) l.cycles l.component) (pointed (drop l.instance-index l.instances))) ≡ noted l.fn.first (flat_map (recursive_instance (found l.numbers) l.cycles l.component) (pointed l.instances))
