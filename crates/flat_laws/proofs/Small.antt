@@ -16,7 +16,7 @@ use Rattle.adl_meaning.specs.NameFaults.{AreNamesSound}
 use Rattle.adl_meaning.specs.Paths.{Path, Placed, leaves, same_path}
 use Rattle.adl_meaning.specs.SizeFaults.{first_size_fault}
 use Rattle.adl_hierarchy.proofs.Limits.{in_limits}
-use Rattle.arch_compile.specs.Small.{IsSmall}
+use Rattle.flat_laws.specs.Small.{IsSmall}
 
 firsts_le : {X : Type 0} (same : X → X → Bool) (met : X → Bool) (xs : List X) → length (firsts_after same met xs) ≤ length xs
 firsts_le same met [] = omega arith

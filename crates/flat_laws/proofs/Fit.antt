@@ -1,24 +1,16 @@
 -- The tables of a source in which no fault of settings stands are fit.
 use Rattle.std.proofs.Common.{◌≡◌, ◌≤◌, ◌<◌, ◌+◌, ◌∙◌, ℕ, zero, suc, Bool, true, false, ◌&&◌, cond, List, [], ◌∷◌, ◌++◌, map, refl, sym, ap, subst, Option, Some, None, inl, inr, arith, true≢false}
 use Rattle.std.specs.Prelude.{nat_le, ◌==◌, unwrap_or, is_some, is_none, option_map}
-use Rattle.std.specs.List.{cons_option, count_by, filter_map, flat_map, slice_get}
+use Rattle.std.specs.List.{count_by, flat_map, slice_get}
 use Rattle.std.specs.Option.{option_and_then, option_map_or}
 use Rattle.std.proofs.lemmas.Bool.{and_from, and_parts, cond_both, leb-true, le-leb, or_right, eq-eqb, eqb-true, cases_order}
 use Rattle.std.proofs.lemmas.List.Sums.{sum_by-append, sum_by-cons}
-use Rattle.adl_ast.specs.declared.component.Component.{Component}
-use Rattle.adl_ast.specs.declared.component.Interface.{Interface}
-use Rattle.adl_ast.specs.declared.component.Member.TheVariants as members
 use Rattle.adl_ast.specs.declared.composition.Role.{Role}
 use Rattle.adl_ast.specs.declared.composition.Role.TheVariants.{From, To}
-use Rattle.adl_ast.specs.declared.file.Ended.{Ended}
-use Rattle.adl_ast.specs.declared.file.Item.{Item}
-use Rattle.adl_ast.specs.declared.file.Item.TheVariants as items
 use Rattle.adl_ast.specs.declared.source.Source.{Source}
-use Rattle.adl_ast.specs.declared.source.SourceFile.{SourceFile}
 use Rattle.adl_meaning.specs.declared.connector.Connector.TheVariants.{Interrupt}
 use Rattle.adl_meaning.specs.declared.flat.FlatConnection.{FlatConnection}
 use Rattle.adl_meaning.specs.declared.flat.FlatEnd.{FlatEnd}
-use Rattle.adl_meaning.specs.declared.flat.Leaf.{Leaf}
 use Rattle.adl_meaning.specs.Flat.{flat_of}
 use Rattle.adl_meaning.specs.Hierarchy.{hierarchy_of}
 use Rattle.adl_meaning.specs.Lists.{IsIn}
@@ -32,7 +24,7 @@ use Rattle.adl_settings.specs.BadgeTwice.{badges_twice}
 use Rattle.adl_settings.specs.DeviceOverlap.{overlaps}
 use Rattle.adl_settings.specs.EndMeaning.{end_setting, irq_of}
 use Rattle.adl_settings.specs.IrqTwice.{Irq, irq_at, irq_from, irq_twice_at, irqs, irqs_in, irqs_twice}
-use Rattle.adl_settings.specs.Joints.{Found, Joint, as_component, as_interface, behind, interface_at, found_at, found_of, found_on, founds_in, is_device_event, is_device_memory, joint_at, positioned, positioned_after}
+use Rattle.adl_settings.specs.Joints.{Found, found_on, founds_in, is_device_event, is_device_memory}
 use Rattle.adl_settings.specs.Meant.{bad_unless, bad_value, meaning, meant}
 use Rattle.adl_settings.specs.Missing.{lacks_value, missing_at, missing_in, missing_values}
 use Rattle.adl_settings.specs.Repeated.{is_repeated}
@@ -40,29 +32,17 @@ use Rattle.adl_settings.specs.SettingFaults.{first_setting_fault, setting_faults
 use Rattle.adl_settings.specs.SettingTwice.{settings_twice}
 use Rattle.adl_settings.specs.Settled.{LeafFound, end_settings, leaf_setting, leaves_found, settled_of}
 use Rattle.adl_types.specs.Kind.{is_kind_of}
-use Rattle.arch_compile.specs.Laid.{tables_of}
-use Rattle.arch_compile.proofs.SlotBounds.{AreFewSlots, few_uses}
+use Rattle.flat_laws.proofs.SlotBounds.{AreFewSlots, few_uses}
 use Rattle.component_graph.proofs.Lists.{from_map, get_map, in_filter_map, in_get, in_map, none_in, none_left, none_right}
 use Rattle.conn_rules.specs.Ends.{end_rule}
-use Rattle.leaf_ends.specs.Members.{items_of_file, members_at, members_in, members_of}
+use Rattle.flat_laws.specs.SourceTables.{tables_with}
 use Rattle.flat_laws.specs.Typed.{AreTyped}
+use Rattle.flat_laws.proofs.SettledEnds.{found_there}
 use Rattle.flat_laws.proofs.TypedEnds.{so}
+use Rattle.spec_layout.specs.declared.numbers.LabelNumbers.{LabelNumbers}
 use Rattle.spec_layout.specs.Direct.{IsFlat}
 use Rattle.spec_layout.specs.Fit.{IsFit}
 use Rattle.spec_layout.specs.Tables.{from_place, irq_number, is_from}
-
--- ---- lists
-
--- where each gives something, places stay
-all_kept_at : {X Y : Type 0} (f : X → Option Y) (xs : List X) → ((x : X) → IsIn x xs → (y : Y) × (f x ≡ Some y)) → (n : ℕ) (x : X) (y : Y) → slice_get xs n ≡ Some x → f x ≡ Some y → slice_get (filter_map f xs) n ≡ Some y
-all_kept_at f [] all n x y e g = cc
-all_kept_at {X} {Y} f (z ∷ xs) all n x y e g =
-    let first = all z (inl refl) in
-    ap (λ o. slice_get (cons_option o (filter_map f xs)) n) first.1 ∙ at_place n e (λ n e. all_kept_at f xs (λ w i. all w (inr i)) n x y e g)
-  where
-    at_place : (n : ℕ) → slice_get (z ∷ xs) n ≡ Some x → ((n : ℕ) → slice_get xs n ≡ Some x → slice_get (filter_map f xs) n ≡ Some y) → slice_get ((all z (inl refl)).0 ∷ filter_map f xs) n ≡ Some y
-    at_place zero e more = let same : z ≡ x = cc in sym (all z (inl refl)).1 ∙ ap f same ∙ g
-    at_place (suc n) e more = more n e
 
 -- ---- priorities
 
@@ -109,42 +89,6 @@ settings_sound s none =
     }
 
 -- ---- interrupts
-
-interface_there : (s : Source) (leaf : Leaf) (m : ℕ) (i : Interface) → slice_get (members_at s leaf.component) m ≡ Some (members.Interface i) → interface_at s leaf m ≡ Some i
-interface_there s leaf m i e = by_file (slice_get s.files leaf.component.file) e
-  where
-    by_item : (x : Item) → slice_get (members_of x) m ≡ Some (members.Interface i) → option_and_then (λ (c : Component). option_and_then as_interface (slice_get c.members m)) (as_component x) ≡ Some i
-    by_item (items.Import p) e = cc
-    by_item (items.Procedure p) e = cc
-    by_item (items.Component c) e = ap (λ o. option_and_then as_interface o) e
-    by_item (items.Assembly a) e = cc
-
-    by_ended : (o : Option Ended) → slice_get (members_in o) m ≡ Some (members.Interface i)
-        → option_and_then (λ (c : Component). option_and_then as_interface (slice_get c.members m)) (option_and_then (λ (x : Ended). as_component x.item) o) ≡ Some i
-    by_ended None e = cc
-    by_ended (Some x) e = by_item x.item e
-
-    by_file : (o : Option SourceFile) → slice_get (members_in (slice_get (items_of_file o) leaf.component.item)) m ≡ Some (members.Interface i)
-        → option_and_then (λ (c : Component). option_and_then as_interface (slice_get c.members m))
-        (option_and_then (λ (f : SourceFile). option_and_then (λ (x : Ended). as_component x.item) (slice_get f.tree.items leaf.component.item)) o)
-        ≡ Some i
-    by_file None e = cc
-    by_file (Some f) e = by_ended (slice_get f.tree.items leaf.component.item) e
-
-positioned_at : (p : ℕ) (es : List FlatEnd) (n : ℕ) (e : FlatEnd) → slice_get es n ≡ Some e → (q : ℕ) × (slice_get (positioned_after p es) n ≡ Some (q, e))
-positioned_at p [] n e at = cc
-positioned_at p (f ∷ es) zero e at = let same : f ≡ e = cc in (p + 1, ap (λ z. Some (p + 1, z)) same)
-positioned_at p (f ∷ es) (suc n) e at = positioned_at (behind p f.role) es n e at
-
-from_positioned : (p : ℕ) (es : List FlatEnd) (x : ℕ × FlatEnd) → IsIn x (positioned_after p es) → IsIn x.1 es
-from_positioned p [] x i = absurd i
-from_positioned p (f ∷ es) x (inl same) = inl (ap (λ (z : ℕ × FlatEnd). z.1) same)
-from_positioned p (f ∷ es) x (inr i) = inr (from_positioned (behind p f.role) es x i)
-
-place_in : {X : Type 0} (xs : List X) (x : X) → IsIn x xs → (n : ℕ) × (slice_get xs n ≡ Some x)
-place_in [] x i = absurd i
-place_in (y ∷ xs) x (inl same) = (0, ap (λ z. Some z) same)
-place_in (y ∷ xs) x (inr i) = let p = place_in xs x i in (suc p.0, p.1)
 
 -- the first `from` end, where there is one
 first_from : (es : List FlatEnd) (n : ℕ) (e : FlatEnd) → slice_get es n ≡ Some e → e.role ≡ From → (m : FlatEnd) × (slice_get es (from_place es) ≡ Some m) × (m.role ≡ From)
@@ -225,27 +169,9 @@ settled_irq f event good there = by_given f.irq refl
         let n = is_there (irq_of f) some in
         (n.0, record { given = g; stands = e; number = n.1 })
 
-module _ (s : Source) (typed : AreTyped s (flat_of s)) (flat : IsFlat s (flat_of s)) (sound : AreSettingsSound s) where
+module _ (s : Source) (numbers : LabelNumbers) (typed : AreTyped s (flat_of s)) (flat : IsFlat s (flat_of s)) (sound : AreSettingsSound s) where
   abbrev founds : List (List Found)
   founds = founds_in (hierarchy_of s) s (flat_of s)
-
-  -- an end with its settings
-  record IsFoundEnd (c : FlatConnection) (x : ℕ × FlatEnd) : Type 0 where
-    found : Found
-    is : found_of (hierarchy_of s) s (flat_of s) c x ≡ Some found
-    kind : is_kind_of (end_rule c.connector x.1.role) (record { interface = found.joint.interface; hardware = found.joint.leaf.hardware }) ≡ true
-
-  end_found : (k : ℕ) (c : FlatConnection) (x : ℕ × FlatEnd) → slice_get (flat_of s).connections k ≡ Some c → IsIn x.1 c.ends → IsFoundEnd c x
-  end_found k c x at i =
-      let p = place_in c.ends x.1 i in
-      let t = typed k p.0 c x.1 at p.1 in
-      let j : Joint = record { connection = c; position = x.0; end = x.1; leaf = t.leaf; interface = t.interface } in
-      record {
-        found = found_at (hierarchy_of s) j;
-        is = ap (λ o. option_map (found_at (hierarchy_of s)) (option_and_then (joint_at s c x) o)) t.here
-            ∙ ap (λ o. option_map (found_at (hierarchy_of s)) (option_map (λ i. record { connection = c; position = x.0; end = x.1; leaf = t.leaf; interface = i }) o)) (interface_there s t.leaf x.1.member t.interface t.joined);
-        kind = t.kind;
-      }
 
   -- the settled interrupt of a connection
   record IsLineOf (k : ℕ) (c : FlatConnection) : Type 0 where
@@ -260,20 +186,20 @@ module _ (s : Source) (typed : AreTyped s (flat_of s)) (flat : IsFlat s (flat_of
       let h = hierarchy_of s in
       let d = flat.device k c at int in
       let m = first_from c.ends d.0 d.1 d.2 d.3 in
-      let p = positioned_at 0 c.ends (from_place c.ends) m.0 m.1 in
-      let x : ℕ × FlatEnd = (p.0, m.0) in
-      let f = end_found k c x at (in_get c.ends (from_place c.ends) m.0 m.1) in
+      let there = found_there s typed k (from_place c.ends) c m.0 at m.1 in
+      let f = there.2 in
       let es = found_on h s (flat_of s) c in
       let listed : slice_get founds k ≡ Some es = get_map (found_on h s (flat_of s)) (flat_of s).connections k c at in
-      let found : slice_get es (from_place c.ends) ≡ Some f.found =
-      all_kept_at (found_of h s (flat_of s) c) (positioned c.ends) (λ y i. let g = end_found k c y at (from_positioned 0 c.ends y i) in (g.found, g.is)) (from_place c.ends) x f.found p.1 f.is in
+      let found : slice_get es (from_place c.ends) ≡ Some f.found = there.3 in
       let one : IsIn f.found es = in_get es (from_place c.ends) f.found found in
       let good = none_in bad_at_end es f.found (none_in bad_in_connection founds es sound.allowed (in_get founds k es listed)) one in
-      let there = none_in missing_at es f.found (none_in missing_in founds es sound.present (in_get founds k es listed)) one in
+      let present = none_in missing_at es f.found (none_in missing_in founds es sound.present (in_get founds k es listed)) one in
+      let kind : is_kind_of (end_rule c.connector m.0.role) (record { interface = f.found.joint.interface; hardware = f.found.joint.leaf.hardware }) ≡ true =
+      subst (λ (z : Found). is_kind_of (end_rule c.connector m.0.role) (record { interface = z.joint.interface; hardware = z.joint.leaf.hardware }) ≡ true) (sym f.at) f.joined.kind in
       let event : is_device_event f.found.joint ≡ true =
       subst (λ r. is_kind_of (end_rule Interrupt r) (record { interface = f.found.joint.interface; hardware = f.found.joint.leaf.hardware }) ≡ true) m.2
-      (subst (λ x. is_kind_of (end_rule x m.0.role) (record { interface = f.found.joint.interface; hardware = f.found.joint.leaf.hardware }) ≡ true) int f.kind) in
-      let n = settled_irq f.found event good there in
+      (subst (λ x. is_kind_of (end_rule x m.0.role) (record { interface = f.found.joint.interface; hardware = f.found.joint.leaf.hardware }) ≡ true) int kind) in
+      let n = settled_irq f.found event good present in
       let irq : irq_at f.found ≡ Some (irq_from n.0 n.1.given) =
       ap (λ o. option_and_then (λ number. option_map (irq_from number) f.found.irq) o) n.1.number ∙ ap (λ o. option_map (irq_from n.0) o) n.1.stands in
       record {
@@ -318,7 +244,7 @@ module _ (s : Source) (typed : AreTyped s (flat_of s)) (flat : IsFlat s (flat_of
     | inr (inr more) ↦ absurd (apart k j b a q p y x (sym same) more)
   ]
 
-  pub fit : AreFewSlots s (flat_of s) → IsFit (tables_of s)
+  pub fit : AreFewSlots s (flat_of s) → IsFit (tables_with numbers s)
   fit few = record {
     slots = λ d plan at. let l = few_uses s (flat_of s) few d plan at in omega (arith, l);
     devices = λ k c at int. let d = flat.device k c at int in (d.1.leaf, (flat.one_device k d.0 c d.1 at d.2 int d.3).0);

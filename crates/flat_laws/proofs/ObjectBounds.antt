@@ -10,7 +10,7 @@ use Rattle.adl_meaning.specs.declared.connector.Connector.{Connector}
 use Rattle.adl_meaning.specs.declared.connector.Connector.TheVariants.{Rpc, Notification, SharedMemory, Mmio, Interrupt, Direct}
 use Rattle.adl_meaning.specs.declared.flat.Domain.{Domain}
 use Rattle.adl_meaning.specs.declared.flat.FlatConnection.{FlatConnection}
-use Rattle.arch_compile.proofs.SlotBounds.{AreFewSlots, counts_are}
+use Rattle.flat_laws.proofs.SlotBounds.{AreFewSlots, counts_are}
 use Rattle.cspace_layout.specs.declared.plan.SlotPlan.{SlotPlan}
 use Rattle.cspace_layout.specs.SlotFaults.{counts}
 use Rattle.cspace_layout.specs.Uses.{domain_uses, plan_of, slots_of}
