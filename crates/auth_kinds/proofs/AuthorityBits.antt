@@ -1,5 +1,5 @@
 -- The bits of a set of authorities when one is added, and what two equal sets have in common.
-use Rattle.std.proofs.Common.{◌≡◌, ◌<◌, ◌^◌, ◌*◌, ◌%◌, ◌==◌, ◌||◌, ℕ, Bool, true, false, refl, inl, inr, arith, subst, zero, suc, bit_or, w16}
+use Rattle.std.proofs.Common.{◌≡◌, ◌<◌, ◌^◌, ◌*◌, ◌%◌, ◌==◌, ◌||◌, ℕ, Bool, refl, inl, inr, arith, subst, zero, suc, bit_or, w16}
 use Rattle.std.specs.Int.{bit_at}
 use Rattle.std.proofs.Math.Bool.{or-false, or-true}
 use Rattle.std.proofs.lemmas.Bool.Decides.{eqb_tells}

@@ -1,5 +1,5 @@
 -- Edges: when two are one, and the laws of their order.
-use Rattle.std.proofs.Common.{◌≡◌, ◌⊎◌, ℕ, ◌==◌, ◌&&◌, Bool, true, false, List, [], ◌∷◌, refl, ap, sym, inl, inr, arith, get_or}
+use Rattle.std.proofs.Common.{◌≡◌, ◌⊎◌, ℕ, ◌==◌, ◌&&◌, true, List, [], ◌∷◌, refl, ap, sym, inl, inr, arith, get_or}
 use Rattle.std.proofs.lemmas.Bool.{and_parts, cases_lt, eqb-true}
 use Rattle.auth_kinds.specs.Authorities.{number_of}
 use Rattle.auth_kinds.specs.Edges.{same_edge, AtMost, Before}

@@ -1,5 +1,5 @@
 -- The boot state of a kept spec: it can be made, and fits the spec.
-use Rattle.std.proofs.Common.{◌≡◌, ◌<◌, ◌≤◌, ◌^◌, ◌&&◌, ℕ, Bool, true, nat_lt, leb, List, [], ◌∷◌, map, length, slice_get, Option, Some, None, refl, sym, ap, subst, inl, inr, get_or, arith, ◌∙◌}
+use Rattle.std.proofs.Common.{◌≡◌, ◌≤◌, ◌^◌, ◌&&◌, ℕ, Bool, true, nat_lt, leb, List, [], ◌∷◌, map, slice_get, Option, Some, None, refl, sym, ap, subst, inl, inr, get_or, arith}
 use Rattle.std.proofs.lemmas.Bool.{and_parts}
 use Rattle.std.proofs.lemmas.List.{length-map}
 use Rattle.std.proofs.lemmas.List.Sums.{AllPass-from_list_all}
@@ -17,7 +17,7 @@ use Rattle.cap_model.specs.declared.state.Content.{Content}
 use Rattle.cap_model.specs.declared.state.Content.TheVariants.{Capability}
 use Rattle.cap_model.specs.declared.state.ThreadState.{ThreadState}
 use Rattle.cap_model.specs.FitsSpec.{ContentFits, NodeFits, ThreadFits, IrqFits, FitsSpec}
-use Rattle.cap_model.specs.Kept.{rise, if_any, fits, fits_kind, fits_as, keeps_slots, keeps_cnode, keeps, IsKept}
+use Rattle.cap_model.specs.Kept.{rise, if_any, fits, fits_as, keeps_slots, keeps_cnode, keeps, IsKept}
 use Rattle.cap_model.specs.Kinds.{kind_of_object, kind_at, is_at, is_space_root, same_kind}
 use Rattle.cap_model.specs.State.{Node, no_node, no_thread, boot, boot_slot, boot_node, boot_thread, boot_irq}
 use Rattle.cap_model.proofs.BootPlaces.{at_entry}

@@ -1,6 +1,6 @@
 -- What the boot state has at a place: what it has for the object there, or nothing. What stands in a CNode is found at its
 -- number, and nothing is pending or saved.
-use Rattle.std.proofs.Common.{◌≡◌, ◌⊎◌, ◌∙◌, ◌==◌, ◌&&◌, ◌^◌, ℕ, suc, zero, true, false, nat_lt, leb, List, [], ◌∷◌, map, length, get_or, slice_get, Option, Some, None, refl, sym, ap, subst, inl, inr, arith}
+use Rattle.std.proofs.Common.{◌≡◌, ◌⊎◌, ◌∙◌, ◌==◌, ◌&&◌, ◌^◌, ℕ, suc, zero, true, false, nat_lt, leb, List, [], ◌∷◌, map, get_or, slice_get, Option, Some, None, refl, sym, ap, subst, inl, inr, arith}
 use Rattle.std.specs.List.{Contains}
 use Rattle.std.specs.Map.{lookup}
 use Rattle.std.specs.Option.{option_map}
