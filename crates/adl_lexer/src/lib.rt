@@ -2,7 +2,9 @@
 //!
 //! Nothing here reads a file, knows the grammar or looks at a path. What a list of tokens and the first fault are stands
 //! in `specs/Lexes.antt`, the kinds of tokens in `specs/TokenKinds.antt` and in plain words in `specs/TokenTexts.antt`,
-//! blanks and comments in `specs/Gaps.antt`, the faults in `specs/LexFaults.antt`, the keywords in `specs/Keywords.antt`.
+//! how their places rise in `specs/Places.antt`, blanks and comments in `specs/Gaps.antt`, the faults in
+//! `specs/LexFaults.antt`, the keywords in `specs/Keywords.antt`. `specs/Candidates.antt` and `specs/Pieces.antt` speak of
+//! private functions alone.
 #![tactic(auto)]
 
 mod class;

@@ -1,4 +1,4 @@
--- The codes of words by whether they are one of the two with a meaning of their own.
+-- The codes of words by whether they are one of the two with a meaning of their own: of calls of readers alone.
 use Rattle.std.specs.Prelude.{ℕ, if◌then◌else◌, List, [], ◌∷◌, codes}
 use Rattle.std.specs.Str.{bytes_eq}
 use Rattle.adl_ast.specs.Codes.{plain_code, void_code, buf_code, not_void_codes, not_buf_codes}

@@ -15,7 +15,10 @@ ghost use Rattle.std.specs.Prelude.{◌≡◌, ◌∷◌, ◌++◌, ◌||◌, []
 use crate::import::read_import;
 use crate::typed::{brackets, typed_name};
 use adl_ast::{Attribute, Component, Id, Interface, InterfaceKind, Lock, LockKind, Member, Value};
-use adl_parse_asm::{Adl, WordKind, id_of, next_has, next_is, number_of, read_composition, read_configuration, read_value, take, take_of, word};
+use adl_parse_asm::{
+    Adl, WordKind, id_of, next_has, next_is, number_of, read_composition, read_configuration,
+    read_value, take, take_of, word,
+};
 use cam_base::{Keyword, Kind, Mark, Place, Token};
 use grammar::{ReadError, Repeated, read_all};
 use std::alloc::Global;
