@@ -27,7 +27,7 @@ use Rattle.adl_meaning.specs.Members.{compositions}
 use Rattle.adl_meaning.proofs.Least.{least-empty}
 use Rattle.adl_types.specs.EndCount.{may_have, wrong_count, wrong_counts}
 use Rattle.adl_types.specs.Joined as types
-use Rattle.adl_types.specs.Joined.{Joined, JoinedEnd, joined_end, joined_as, joined_in_composition, joined_in_item, all_joined}
+use Rattle.adl_types.specs.Joined.{Joined, joined_end, joined_as, joined_in_composition, joined_in_item, all_joined}
 use Rattle.adl_types.specs.Kind.{is_kind_of, wrong_kind, wrong_kinds_in, wrong_kinds}
 use Rattle.adl_types.specs.LeafPort.{outlines_of, Leaf, leaf_of}
 use Rattle.adl_types.specs.TypeFaults.{type_faults, first_type_fault}
