@@ -1,3 +1,3 @@
-pub mod FewMembers
+pub use Rattle.adl_meaning.specs.FewMembers
 pub mod ShortFiles
 pub mod Typed

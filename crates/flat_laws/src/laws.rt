@@ -9,7 +9,7 @@ ghost use Rattle.adl_meaning.specs.JoinFaults.{first_flat_fault};
 ghost use Rattle.adl_meaning.specs.NameFaults.{AreNamesSound};
 ghost use Rattle.adl_types.specs.TypeFaults.{first_type_fault};
 ghost use Rattle.leaf_ends.specs.Within.{IsWithin};
-ghost use Rattle.flat_laws.specs.FewMembers.{HaveFewMembers};
+ghost use Rattle.adl_meaning.specs.FewMembers.{HaveFewMembers};
 ghost use Rattle.flat_laws.specs.ShortFiles.{AreFilesShort};
 ghost use Rattle.flat_laws.specs.Typed.{AreTyped};
 ghost use Rattle.spec_layout.specs.Direct.{IsFlat};
