@@ -136,7 +136,7 @@ typed_of a (b, None) = (a.name ∷ [], b)
 typed_of a (b, Some (c, None)) = (a.name ∷ b.name ∷ [], c)
 typed_of a (b, Some (c, Some d)) = (a.name ∷ b.name ∷ c.name ∷ [], d)
 
--- type WORD
+-- type WORD, which is typed_written of specs/Written.antt: one word, and one to three more of which the last is the name
 unfoldable pub typed_line : Rule (List (List ℕ) × Id)
 typed_line = As (λ x. typed_of x.0 x.1) (Then word more_words)
 
@@ -195,6 +195,7 @@ abbrev pub void_params_of : Id → Option (More × (Bool × List Param)) → Par
 void_params_of v None = (true, [])
 void_params_of v (Some (more, (array, ps))) = (false, param_of None (typed_of v more) array ∷ ps)
 
+-- what begins with the word void: that word alone, or a first parameter whose type begins with it, and those behind it
 unfoldable pub void_params_line : Rule Params
 void_params_line = As (λ x. void_params_of (id_of x.0) x.1) (Then (token void_code) (maybe (Then more_words (Then brackets more_params))))
 
@@ -206,13 +207,15 @@ directed_line = As (λ x. param_of (Some x.0) x.1.0 x.1.1) (Then direction_form 
 unfoldable pub undirected_line : Rule Param
 undirected_line = As (λ x. param_of None (typed_of (id_of x.0) x.1.0) x.1.1) (Then (One not_void_codes) (Then more_words brackets))
 
+-- a first parameter that doesn't begin with the word void
 abbrev pub first_param : Rule Param
 first_param = Or (Starts direction_codes directed_line) (Starts not_void_codes undirected_line)
 
+-- a first parameter and those behind it
 unfoldable pub other_params_line : Rule Params
 other_params_line = As (λ x. (false, x.0 ∷ x.1)) (Then first_param more_params)
 
--- ['void' | param,+]
+-- ['void' | param,+], which is params_written of specs/Written.antt: decided by whether the next token is the word void
 unfoldable pub params_line : Rule Params
 params_line = Or (Starts (void_code ∷ []) void_params_line) (Or (Starts (direction_codes ++ not_void_codes) other_params_line) (Give (false, [])))
 
@@ -381,7 +384,7 @@ interface_codes = key_code keys.KMaybe ∷ (interface_kind_codes ++ (key_code ke
 abbrev pub maybe_word : Rule Bool
 maybe_word = Or (As (λ t. true) (key keys.KMaybe)) (Give false)
 
--- ['maybe'] one of the two ';'
+-- ['maybe'] one of the two ';', which is interface_written of specs/Written.antt
 unfoldable pub interface_line : Rule Interface
 interface_line = As (λ x. interface_of x.0 x.1.0) (Then maybe_word (Then (Or (Starts interface_kind_codes plain_port_line) (Starts (key_code keys.KDataport ∷ []) dataport_line)) (mark marks.Semi)))
 

@@ -2,7 +2,7 @@
 -- at any depth.
 use Rattle.std.specs.Prelude.{ℕ, List, [], ◌∷◌}
 use Rattle.cam_base.specs.declared.token.Mark.TheVariants as marks
-use Rattle.grammar.specs.Spelling.{Spells}
+use Rattle.grammar.specs.Spelling.{Spells, Begins}
 use Rattle.grammar.specs.Depth.{deep, Spelled, Begun}
 use Rattle.grammar.specs.Reading.{Reader, read, read_deep}
 use Rattle.adl_ast.specs.declared.seen.Seen.{Seen}
@@ -29,6 +29,10 @@ IsSpelledAtAnyDepth f x ts = Spelled token_code nested_line f x ts
 -- These tokens begin the rule, however deep the brackets nest.
 abbrev pub IsBegun : {A : Type 0} → Rule A → List Seen → Type 0
 IsBegun f ts = Begun token_code nested_line f ts
+
+-- These tokens begin the rule, and brackets nest at most so deep.
+abbrev pub IsBegunWithin : {A : Type 0} → ℕ → Rule A → List Seen → Type 0
+IsBegunWithin n f ts = Begins token_code (deep token_code nested_line n) f ts
 
 abbrev pub IsFileSpelled : File → List Seen → Type 0
 IsFileSpelled file ts = IsSpelledBy file_line file ts

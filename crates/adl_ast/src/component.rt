@@ -2,14 +2,14 @@ use crate::{Composition, Configuration, Id, Import, Value};
 use cam_base::{List, Name, Place};
 
 /// A component: what its instances offer and need.
-#[derive(Debug, Drop)]
+#[derive(Drop)]
 pub struct Component {
     pub id: Id,
     pub members: List<Member>,
 }
 
 /// A member of a component. The place of `control` and `hardware` is that of the keyword.
-#[derive(Debug, Drop)]
+#[derive(Drop)]
 pub enum Member {
     Control(Place),
     Hardware(Place),
@@ -32,7 +32,7 @@ pub enum InterfaceKind {
 }
 
 /// An interface of a component.
-#[derive(Debug, Drop)]
+#[derive(Drop)]
 pub struct Interface {
     /// It may stay unconnected.
     pub maybe: bool,
@@ -45,7 +45,7 @@ pub struct Interface {
 }
 
 /// An attribute of a component, with its default.
-#[derive(Debug, Drop)]
+#[derive(Drop)]
 pub struct Attribute {
     /// The words of its type, one to three.
     pub words: List<Name>,
@@ -64,7 +64,7 @@ pub enum LockKind {
 }
 
 /// A lock of a component.
-#[derive(Debug, Drop)]
+#[derive(Drop)]
 pub struct Lock {
     pub kind: LockKind,
     pub id: Id,

@@ -2,14 +2,14 @@ use crate::{Configuration, Id};
 use cam_base::{List, Place};
 
 /// The instances of an assembly or a component, and how they are joined. Its place is that of the keyword.
-#[derive(Debug, Drop)]
+#[derive(Drop)]
 pub struct Composition {
     pub place: Place,
     pub lines: List<Line>,
 }
 
 /// A line of a composition.
-#[derive(Debug, Drop)]
+#[derive(Drop)]
 pub enum Line {
     Instance(Instance),
     Group(Group),
@@ -18,14 +18,14 @@ pub enum Line {
 }
 
 /// An instance of a component.
-#[derive(Debug, Drop)]
+#[derive(Drop)]
 pub struct Instance {
     pub component: Id,
     pub id: Id,
 }
 
 /// Instances that share one address space.
-#[derive(Debug, Drop)]
+#[derive(Drop)]
 pub struct Group {
     pub id: Id,
     pub instances: List<Instance>,
@@ -39,7 +39,7 @@ pub enum Role {
 }
 
 /// An end of a connection. Its place runs from the first word of its dotted name to the end of the last.
-#[derive(Debug, Drop)]
+#[derive(Drop)]
 pub struct End {
     pub role: Role,
     /// The words of the dotted name, two or three.
@@ -48,7 +48,7 @@ pub struct End {
 }
 
 /// A connection.
-#[derive(Debug, Drop)]
+#[derive(Drop)]
 pub struct Connection {
     pub connector: Id,
     pub id: Id,
@@ -58,7 +58,7 @@ pub struct Connection {
 
 /// An interface that a composition offers under a name of its component. Its place runs from the first word of its
 /// dotted name to the end of the last.
-#[derive(Debug, Drop)]
+#[derive(Drop)]
 pub struct Export {
     /// The words of the dotted name, two or three.
     pub words: List<Id>,
@@ -67,7 +67,7 @@ pub struct Export {
 }
 
 /// An assembly. Its place is that of the keyword.
-#[derive(Debug, Drop)]
+#[derive(Drop)]
 pub struct Assembly {
     pub place: Place,
     pub id: Option<Id>,

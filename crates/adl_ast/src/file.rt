@@ -6,20 +6,20 @@ use crate::{Assembly, Component, Procedure};
 use cam_base::{List, Place, Text};
 
 /// A file: its items in order.
-#[derive(Debug, Drop)]
+#[derive(Drop)]
 pub struct File {
     pub items: List<Ended>,
 }
 
 /// An item, and whether a semicolon stands behind it.
-#[derive(Debug, Drop)]
+#[derive(Drop)]
 pub struct Ended {
     pub item: Item,
     pub semicolon: bool,
 }
 
 /// An item of a file.
-#[derive(Debug, Drop)]
+#[derive(Drop)]
 pub enum Item {
     Import(Import),
     Procedure(Procedure),
@@ -28,7 +28,7 @@ pub enum Item {
 }
 
 /// An import or an include. The path stands without its quotes or angle brackets; the place is that of the whole token.
-#[derive(Debug, Drop)]
+#[derive(Drop)]
 pub struct Import {
     pub path: Text,
     /// The path stood between angle brackets.
@@ -36,7 +36,7 @@ pub struct Import {
     pub place: Place,
 }
 
-#[derive(Clone, Copy, Debug, PartialEq, Eq)]
+#[derive(Clone, Copy)]
 enum ItemKind {
     Imports,
     Procedures,

@@ -2,14 +2,14 @@
 
 ghost use Rattle.adl_ast.specs.Codes.{token_code, without_value};
 ghost use Rattle.adl_ast.specs.Forms.{value_line, composition_line, configuration_line, assembly_line, file_line};
-ghost use Rattle.adl_ast.specs.Spelling.{IsSpelledAtAnyDepth, IsBegun};
+ghost use Rattle.adl_ast.specs.Spelling.{IsSpelledAtAnyDepth, IsBegun, IsBegunWithin};
 ghost use Rattle.adl_ast.specs.declared.composition.Assembly.{Assembly as ATree};
 ghost use Rattle.adl_ast.specs.declared.composition.Composition.{Composition as CTree};
 ghost use Rattle.adl_ast.specs.declared.configuration.Configuration.{Configuration as STree};
 ghost use Rattle.adl_ast.specs.declared.file.File.{File as FTree};
 ghost use Rattle.adl_ast.specs.declared.seen.Seen.{Seen as Tok};
 ghost use Rattle.adl_ast.specs.declared.value.Value.{Value as VTree};
-ghost use Rattle.std.specs.Prelude.{◌≡◌, ◌++◌, ◌↔◌, List as Seq};
+ghost use Rattle.std.specs.Prelude.{◌≡◌, ◌++◌, ◌↔◌, ℕ, List as Seq};
 
 /// Two tokens with one code are of one kind, the values of numbers aside.
 pub fn codes_tell_kinds()
@@ -48,6 +48,16 @@ pub fn fronts_begin()
     ensures composition { (a b : Seq Tok) → IsBegun composition_line (a ++ b) → IsBegun composition_line a }
     ensures configuration { (a b : Seq Tok) → IsBegun configuration_line (a ++ b) → IsBegun configuration_line a }
     ensures assembly { (a b : Seq Tok) → IsBegun assembly_line (a ++ b) → IsBegun assembly_line a }
+{}
+
+/// What begins a form with brackets at most so deep is begun so in each of its fronts: so the first bracket that nests too
+/// deep is one.
+pub fn fronts_begin_within()
+    ensures file { (n : ℕ) (a b : Seq Tok) → IsBegunWithin n file_line (a ++ b) → IsBegunWithin n file_line a }
+    ensures value { (n : ℕ) (a b : Seq Tok) → IsBegunWithin n value_line (a ++ b) → IsBegunWithin n value_line a }
+    ensures composition { (n : ℕ) (a b : Seq Tok) → IsBegunWithin n composition_line (a ++ b) → IsBegunWithin n composition_line a }
+    ensures configuration { (n : ℕ) (a b : Seq Tok) → IsBegunWithin n configuration_line (a ++ b) → IsBegunWithin n configuration_line a }
+    ensures assembly { (n : ℕ) (a b : Seq Tok) → IsBegunWithin n assembly_line (a ++ b) → IsBegunWithin n assembly_line a }
 {}
 
 /// A form is begun exactly by the fronts of its spellings.

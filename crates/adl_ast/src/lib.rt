@@ -14,8 +14,6 @@ mod laws;
 mod procedure;
 mod seen;
 mod source;
-#[cfg(test)]
-mod tests;
 mod value;
 mod written;
 
@@ -28,7 +26,8 @@ pub use file::{Ended, File, Import, Item};
 pub use id::Id;
 pub use laws::{
     assemblies_stand_alone, beginnings_are_fronts, codes_tell_kinds, compositions_stand_alone,
-    configurations_stand_alone, files_are_one, fronts_begin, values_stand_alone,
+    configurations_stand_alone, files_are_one, fronts_begin, fronts_begin_within,
+    values_stand_alone,
 };
 pub use procedure::{Direction, Method, Param, ProcMember, Procedure};
 pub use seen::Seen;

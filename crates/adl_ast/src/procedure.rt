@@ -2,21 +2,21 @@ use crate::{Id, Import};
 use cam_base::{List, Name};
 
 /// A procedure: the methods that one side calls and the other provides.
-#[derive(Debug, Drop)]
+#[derive(Drop)]
 pub struct Procedure {
     pub id: Id,
     pub members: List<ProcMember>,
 }
 
 /// A member of a procedure.
-#[derive(Debug, Drop)]
+#[derive(Drop)]
 pub enum ProcMember {
     Include(Import),
     Method(Method),
 }
 
 /// A method of a procedure.
-#[derive(Debug, Drop)]
+#[derive(Drop)]
 pub struct Method {
     /// The words of the type that it answers, one to three.
     pub result: List<Name>,
@@ -36,7 +36,7 @@ pub enum Direction {
 }
 
 /// A parameter of a method. Where no direction stands it is `in`.
-#[derive(Debug, Drop)]
+#[derive(Drop)]
 pub struct Param {
     pub direction: Option<Direction>,
     /// The words of its type, one to three.

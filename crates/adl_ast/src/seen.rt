@@ -1,7 +1,7 @@
 use cam_base::{Kind, Place, Text};
 
 /// A token with its bytes: what the grammar sees of it. Definitions alone speak of it; readers keep the bytes apart.
-#[derive(Debug, Drop)]
+#[derive(Drop)]
 pub struct Seen {
     pub kind: Kind,
     pub text: Text,

@@ -2,7 +2,7 @@ use crate::File;
 use cam_base::{List, Text};
 
 /// A file of a source: its folded name, its bytes and its tree.
-#[derive(Debug, Drop)]
+#[derive(Drop)]
 pub struct SourceFile {
     pub name: Text,
     pub bytes: List<u8>,
@@ -10,7 +10,7 @@ pub struct SourceFile {
 }
 
 /// The files of a source, the root first.
-#[derive(Debug, Drop)]
+#[derive(Drop)]
 pub struct Source {
     pub files: List<SourceFile>,
 }

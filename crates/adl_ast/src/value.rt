@@ -2,7 +2,7 @@ use cam_base::{List, Place, Text};
 
 /// A value of a setting or an attribute. Its place runs from its first token to the end of its last.
 #[cycle(value)]
-#[derive(Debug, Drop)]
+#[derive(Drop)]
 pub struct Value {
     pub kind: ValueKind,
     pub place: Place,
@@ -10,7 +10,7 @@ pub struct Value {
 
 /// What a value is. A text stands without its quotes.
 #[cycle(value)]
-#[derive(Debug, Drop)]
+#[derive(Drop)]
 pub enum ValueKind {
     Number(u64),
     Text(Text),

@@ -5,3 +5,6 @@ pub mod Sources
 pub mod Turns
 pub mod Loaded
 pub mod Taking
+pub use Rattle.cam_io.specs.Causes
+pub use Rattle.cam_io.specs.Contents
+pub use Rattle.cam_io.specs.Reading

@@ -13,7 +13,7 @@ use std::str::from_utf8;
 use thiserror::Error;
 
 /// The path names no file.
-#[derive(Clone, Copy, Debug, PartialEq, Eq, Error)]
+#[derive(Clone, Copy, Debug, Error)]
 #[error("no path of a file")]
 pub struct BadPath;
 

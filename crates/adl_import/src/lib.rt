@@ -17,6 +17,3 @@ pub use error::LoadError;
 pub use folding::{BadPath, fold, fold_root};
 pub use laws::{answers_are_one, loaded_sources_are_whole, sources_are_one};
 pub use loading::load;
-
-#[cfg(test)]
-mod tests;

@@ -98,3 +98,39 @@ letter_of b h = elim (bool_cases (is_digit b)) [
   | inl d ↦ true_is_not_false (among letters (class_of b)) h (digit_no_letter b d)
   | inr d ↦ elim (bool_cases (is_letter b)) [ inl n ↦ n | inr n ↦ true_is_not_false (among word_bytes (class_of b)) (among-left letters digits (class_of b) h) (no_word_class b d n) ]
 ]
+
+-- a letter has a class of a word's
+letter_class : (b : ℕ) → is_digit b ≡ false → is_letter b ≡ true → among word_bytes (class_of b) ≡ true
+unfolding class_of
+letter_class b d n =
+    let own : ℕ = cond (b == 120 || b == 88) 2 0 in
+    let third : ℕ = cond (is_letter b) own (sign_class b) in
+    let first : class_of b ≡ cond (is_hex_digit b) 1 third = if_false (is_digit b) (cond (b == 48) 3 4) (cond (is_hex_digit b) 1 third) d in
+    elim (bool_cases (is_hex_digit b)) [
+      | inl h ↦ ap (among word_bytes) (first ∙ if_true (is_hex_digit b) 1 third h)
+      | inr h ↦ ap (among word_bytes) (first ∙ if_false (is_hex_digit b) 1 third h ∙ if_true (is_letter b) own (sign_class b) n) ∙ if_has (among word_bytes) (b == 120 || b == 88) 2 0 refl refl
+    ]
+
+digit_class : (b : ℕ) → is_digit b ≡ true → among word_bytes (class_of b) ≡ true
+unfolding class_of
+digit_class b d =
+    ap (among word_bytes) (if_true (is_digit b) (cond (b == 48) 3 4) (cond (is_hex_digit b) 1 (cond (is_letter b) (cond (b == 120 || b == 88) 2 0) (sign_class b))) d)
+    ∙ if_has (among word_bytes) (b == 48) 3 4 refl refl
+
+or_left : (a b : Bool) → a ≡ true → (a || b) ≡ true
+or_left true b h = refl
+or_left false b h = absurd cc
+
+or_none : (a b : Bool) → a ≡ false → b ≡ false → (a || b) ≡ false
+or_none true b g h = absurd cc
+or_none false b g h = h
+
+-- the bytes of words are the letters, the digits and the underscore
+pub word_byte_is : (b : ℕ) → among word_bytes (class_of b) ≡ is_word_byte b
+word_byte_is b = elim (bool_cases (is_digit b)) [
+  | inl d ↦ digit_class b d ∙ sym (or_right (is_letter b) (is_digit b) d)
+  | inr d ↦ elim (bool_cases (is_letter b)) [
+    | inl n ↦ letter_class b d n ∙ sym (or_left (is_letter b) (is_digit b) n)
+    | inr n ↦ no_word_class b d n ∙ sym (or_none (is_letter b) (is_digit b) n d)
+  ]
+]

@@ -1,11 +1,12 @@
 -- A word is one keyword at most: the words of two keywords differ.
-use Rattle.std.proofs.Common.{◌≡◌, ℕ, true, List, [], ◌∷◌, Option, None, Some, refl, sym, ap, subst, ◌∙◌, inl, inr}
+use Rattle.std.proofs.Common.{◌≡◌, ℕ, true, false, List, [], ◌∷◌, Option, None, Some, refl, sym, ap, subst, ◌∙◌, inl, inr}
 use Rattle.std.specs.Prelude.{◌↔◌}
 use Rattle.std.specs.Str.{bytes_eq}
 use Rattle.std.proofs.lemmas.Slice.Eq.{bytes_eq-Decides}
 use Rattle.cam_base.specs.declared.token.Keyword.{Keyword}
 use Rattle.cam_base.specs.declared.token.Keyword.TheVariants as keys
-use Rattle.grammar.proofs.Codes.{bool_cases, if_true, if_false}
+use Rattle.grammar.proofs.Codes.{bool_cases, if_true, if_false, true_is_not_false}
+use Rattle.adl_lexer.specs.Candidates.{candidate}
 use Rattle.adl_lexer.specs.Keywords.{spelling, all_keywords, named_by, keyword_of}
 
 -- the keyword that is found has this word
@@ -66,3 +67,63 @@ no_keyword word = (λ e k w. some_keyword (keyword_is word k) e w, λ h. go (key
 pub found_in_all : (word : List ℕ) → named_by all_keywords word ≡ keyword_of word
 unfolding keyword_of
 found_in_all word = refl
+
+-- ---- the look-up by one candidate
+
+own_candidate : (k : Keyword) → candidate (spelling k) ≡ Some k
+own_candidate keys.KAssembly = refl
+own_candidate keys.KAttribute = refl
+own_candidate keys.KBinarySemaphore = refl
+own_candidate keys.KComponent = refl
+own_candidate keys.KComposition = refl
+own_candidate keys.KConfiguration = refl
+own_candidate keys.KConnection = refl
+own_candidate keys.KConsumes = refl
+own_candidate keys.KControl = refl
+own_candidate keys.KDataport = refl
+own_candidate keys.KEmits = refl
+own_candidate keys.KExport = refl
+own_candidate keys.KFrom = refl
+own_candidate keys.KGroup = refl
+own_candidate keys.KHardware = refl
+own_candidate keys.KHas = refl
+own_candidate keys.KImport = refl
+own_candidate keys.KIn = refl
+own_candidate keys.KInclude = refl
+own_candidate keys.KInout = refl
+own_candidate keys.KMaybe = refl
+own_candidate keys.KMutex = refl
+own_candidate keys.KOut = refl
+own_candidate keys.KProcedure = refl
+own_candidate keys.KProvides = refl
+own_candidate keys.KRefin = refl
+own_candidate keys.KSemaphore = refl
+own_candidate keys.KTo = refl
+own_candidate keys.KUses = refl
+
+-- the word of a keyword is that keyword
+pub is_found : (word : List ℕ) (k : Keyword) → bytes_eq (spelling k) word ≡ true → keyword_of word ≡ Some k
+is_found word k h = (keyword_is word k).1 (sym ((bytes_eq-Decides (spelling k) word).0 h))
+
+-- a keyword is its own candidate
+its_candidate : (word : List ℕ) (k : Keyword) → keyword_of word ≡ Some k → candidate word ≡ Some k
+its_candidate word k e = ap candidate ((keyword_is word k).0 e) ∙ own_candidate k
+
+-- a word without a candidate is no keyword
+pub is_no_candidate : (word : List ℕ) → candidate word ≡ None → keyword_of word ≡ None
+is_no_candidate word c = go (keyword_of word) refl
+  where
+    go : (o : Option Keyword) → keyword_of word ≡ o → o ≡ None
+    go None e = refl
+    go (Some k) e = let f : Some k ≡ None = sym (its_candidate word k e) ∙ c in absurd cc
+
+-- a word that isn't that of its candidate is no keyword
+pub is_other_word : (word : List ℕ) (k : Keyword) → candidate word ≡ Some k → bytes_eq (spelling k) word ≡ false → keyword_of word ≡ None
+is_other_word word k c h = go (keyword_of word) refl
+  where
+    go : (o : Option Keyword) → keyword_of word ≡ o → o ≡ None
+    go None e = refl
+    go (Some j) e =
+        let f : Some j ≡ Some k = sym (its_candidate word j e) ∙ c in
+        let same : j ≡ k = cc in
+        true_is_not_false (bytes_eq (spelling k) word) ((bytes_eq-Decides (spelling k) word).1 (ap spelling (sym same) ∙ sym ((keyword_is word j).0 e))) h

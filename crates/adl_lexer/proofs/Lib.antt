@@ -12,3 +12,4 @@ pub mod TokenTexts
 pub mod Suffixes
 pub mod Progress
 pub mod NoToken
+pub mod Places

@@ -1,8 +1,8 @@
 -- The bytes of tokens.
 use Rattle.std.proofs.Common.{◌≡◌, ℕ, ◌≤◌, true, false, cond, List, [], ◌∷◌, ◌++◌, length, Option, Some, None, Ok, refl, sym, ap, subst, ◌∙◌, append_assoc, arith, inl, inr}
-use Rattle.std.specs.Prelude.{nat_lt}
+use Rattle.std.specs.Prelude.{◌==◌, nat_lt}
 use Rattle.std.specs.List.{list_all}
-use Rattle.std.proofs.lemmas.Bool.{le-leb, ltb-false}
+use Rattle.std.proofs.lemmas.Bool.{eqb-true, le-leb, ltb-false}
 use Rattle.std.proofs.lemmas.List.{append_cancel_right}
 use Rattle.cam_base.specs.declared.code.Code.TheVariants as code
 use Rattle.cam_base.specs.declared.token.Keyword.{Keyword}
@@ -19,11 +19,11 @@ use Rattle.grammar.specs.Form.{among}
 use Rattle.grammar.specs.Reading.{starts}
 use Rattle.grammar.specs.Spelling.{Each, Spells}
 use Rattle.grammar.proofs.Codes.{bool_cases, true_is_not_false, if_true}
-use Rattle.adl_lexer.specs.Classes.{class_of, run, after_run, letters, digits, word_bytes, quote, less, minus, greater}
+use Rattle.adl_lexer.specs.Classes.{class_of, run, after_run, letters, digits, word_bytes, angle_first, angle_bytes, plain_bytes, line_bytes, line_feed, backslash, quote, less, minus, greater}
 use Rattle.adl_lexer.specs.Keywords.{keyword_of}
-use Rattle.adl_lexer.specs.LexFaults.{fault_at, word_fault, number_fault, number_fault_by, is_left_out_word}
+use Rattle.adl_lexer.specs.LexFaults.{after_angle, after_byte, after_text, fault_at, word_fault, number_fault, number_fault_by, is_left_out_word}
 use Rattle.adl_lexer.specs.Lexes.{IsTokenAt}
-use Rattle.adl_lexer.specs.TokenKinds.{reads, flat, token_form, kind_or_word, word_kind, word_line, number_line, text_line, less_line, arrow_line, mark_line, mark}
+use Rattle.adl_lexer.specs.TokenKinds.{reads, flat, token_form, kind_or_word, word_kind, word_line, number_line, text_item, text_line, less_line, arrow_line, mark_line, mark}
 use Rattle.adl_lexer.specs.TokenTexts.{IsTextOf, mark_text}
 use Rattle.adl_lexer.proofs.Classes.{letter_cases, digit_cases, one_of}
 use Rattle.adl_lexer.proofs.ClassBytes.{byte_of, letter_of, word_byte_of}
@@ -90,6 +90,56 @@ minus_is = byte_of 9 45 refl refl refl refl refl refl refl refl refl
 greater_is : (b : ℕ) → class_of b ≡ greater → b ≡ 62
 greater_is = byte_of 10 62 refl refl refl refl refl refl refl refl refl
 
+-- ---- the ends of texts and angle names
+
+no_plain : (k c : ℕ) → among plain_bytes k ≡ false → among plain_bytes c ≡ true → (c == k) ≡ false
+no_plain k c n h = elim (bool_cases (c == k)) [
+  | inl e ↦ true_is_not_false (among plain_bytes c) h (ap (among plain_bytes) (eqb-true c k e) ∙ n)
+  | inr e ↦ e
+]
+
+no_line : (c : ℕ) → among line_bytes c ≡ true → (c == line_feed) ≡ false
+no_line c h = elim (bool_cases (c == line_feed)) [
+  | inl e ↦ true_is_not_false (among line_bytes c) h (ap (among line_bytes) (eqb-true c line_feed e))
+  | inr e ↦ e
+]
+
+escaped_step : (b c : ℕ) (bs : List ℕ) → class_of b ≡ backslash → (class_of c == line_feed) ≡ false → after_text bs ≡ Some [] → after_text (b ∷ c ∷ bs) ≡ Some []
+escaped_step b c bs h l m = rw (h, l) m
+
+plain_step : (b c : ℕ) (bs : List ℕ) → (class_of b == quote) ≡ false → (class_of b == line_feed) ≡ false → (class_of b == backslash) ≡ false → after_text (c ∷ bs) ≡ Some [] → after_text (b ∷ c ∷ bs) ≡ Some []
+plain_step b c bs f g h m = rw (f, g, h) m
+
+plain_front : (y q : ℕ) (rest : List ℕ) → among plain_bytes (class_of y) ≡ true → after_text (rest ++ q ∷ []) ≡ Some [] → after_text (y ∷ (rest ++ q ∷ [])) ≡ Some []
+plain_front y q [] h m = plain_step y q [] (no_plain quote (class_of y) refl h) (no_plain line_feed (class_of y) refl h) (no_plain backslash (class_of y) refl h) m
+plain_front y q (c ∷ cs) h m = plain_step y c (cs ++ q ∷ []) (no_plain quote (class_of y) refl h) (no_plain line_feed (class_of y) refl h) (no_plain backslash (class_of y) refl h) m
+
+-- a text ends with the quote behind its items
+text_closed : (xs : List (Unit {0})) (a : List ℕ) (q : ℕ) → class_of q ≡ quote → Each (Spells class_of flat text_item) xs a → after_text (a ++ q ∷ []) ≡ Some []
+unfolding text_item
+text_closed [] a q h e = rw (e, h) refl
+text_closed (x ∷ xs) a q h e =
+    let more = text_closed xs e.1 q h e.4 in
+    subst (λ (w : List ℕ). after_text (w ++ q ∷ []) ≡ Some []) (sym e.2)
+    (elim e.3 [
+      | inl s ↦
+          let y = s.0 in
+          let p = s.2 in
+          let item : e.0 ≡ y.0 ∷ y.1 ∷ [] = p.2 ∙ ap (λ (w : List ℕ). w ++ p.1) p.3.1 ∙ ap (λ (w : List ℕ). y.0 ∷ w) p.4.1 in
+          subst (λ (w : List ℕ). after_text ((w ++ e.1) ++ q ∷ []) ≡ Some []) (sym item) (escaped_step y.0 y.1 (e.1 ++ q ∷ []) (one_of (class_of y.0) backslash p.3.0) (no_line (class_of y.1) p.4.0) more)
+      | inr s ↦ subst (λ (w : List ℕ). after_text ((w ++ e.1) ++ q ∷ []) ≡ Some []) (sym s.2.1) (plain_front s.0 q e.1 s.2.0 more)
+    ])
+
+-- an angle name ends with the bracket behind its bytes
+angle_closed : (xs a : List ℕ) (g : ℕ) → class_of g ≡ greater → Each (λ x ts. (among angle_bytes (class_of x) ≡ true) × (ts ≡ x ∷ [])) xs a → after_byte greater (after_run angle_bytes (a ++ g ∷ [])) ≡ Some []
+angle_closed [] a g h e = rw (e, h, h) refl
+angle_closed (x ∷ xs) a g h e =
+    subst (λ (w : List ℕ). after_byte greater (after_run angle_bytes (w ++ g ∷ [])) ≡ Some []) (sym (e.2 ∙ ap (λ (w : List ℕ). w ++ e.1) e.3.1))
+    (rw e.3.0 (angle_closed xs e.1 g h e.4))
+
+angle_whole : (f : ℕ) (bs : List ℕ) → among angle_first (class_of f) ≡ true → after_byte greater (after_run angle_bytes bs) ≡ Some [] → after_angle (f ∷ bs) ≡ Some []
+angle_whole f bs h m = rw h m
+
 module _ (bs : List ℕ) (k : Kind) (rest : List ℕ) (t : IsTokenAt bs k rest) where
   -- a token is what is read, with its run of bytes
   as_run : (l : Kind) → reads token_form bs ≡ Ok (l, after_run word_bytes bs) → (k ≡ l) × (t.text ≡ run word_bytes bs)
@@ -137,10 +187,9 @@ module _ (bs : List ℕ) (k : Kind) (rest : List ℕ) (t : IsTokenAt bs k rest) 
       let p = s.2 in
       let q = p.4 in
       let opened : x.0 ≡ 34 = quote_is x.0 (one_of (class_of x.0) quote p.3.0) in
-      let closed : x.1.1 ≡ 34 = quote_is x.1.1 (one_of (class_of x.1.1) quote q.4.0) in
       let text : t.text ≡ x.0 ∷ q.0 ++ x.1.1 ∷ [] = p.2 ∙ ap (λ (w : List ℕ). w ++ p.1) p.3.1 ∙ ap (λ (w : List ℕ). x.0 ∷ w) (q.2 ∙ ap (λ (w : List ℕ). q.0 ++ w) q.4.1) in
       subst (λ (l : Kind). IsTextOf l t.text) (sym s.1)
-      (q.0, text ∙ ap (λ (z : ℕ). z ∷ q.0 ++ x.1.1 ∷ []) opened ∙ ap (λ (z : ℕ). 34 ∷ q.0 ++ z ∷ []) closed)
+      (q.0 ++ x.1.1 ∷ [], text ∙ ap (λ (z : ℕ). z ∷ q.0 ++ x.1.1 ∷ []) opened, text_closed x.1.0 q.0 x.1.1 (one_of (class_of x.1.1) quote q.4.0) q.3)
 
   arrow_text : Spells class_of flat arrow_line k t.text → IsTextOf k t.text
   unfolding arrow_line
@@ -164,10 +213,10 @@ module _ (bs : List ℕ) (k : Kind) (rest : List ℕ) (t : IsTokenAt bs k rest) 
         | inr a ↦
             let q = a.2 in
             let r = q.4 in
-            let last : a.0.1.1 ≡ 62 = greater_is a.0.1.1 (one_of (class_of a.0.1.1) greater r.4.0) in
-            let inner : List ℕ = q.0 ++ r.0 in
-            let rest_is : p.1 ≡ inner ++ 62 ∷ [] = q.2 ∙ ap (λ (w : List ℕ). q.0 ++ w) (r.2 ∙ ap (λ (w : List ℕ). r.0 ++ w) (r.4.1 ∙ ap (λ (z : ℕ). z ∷ []) last)) ∙ sym (append_assoc q.0 r.0 (62 ∷ [])) in
-            subst (λ (l : Kind). IsTextOf l t.text) (sym (s.1 ∙ a.1)) (inner, text ∙ ap (λ (w : List ℕ). 60 ∷ w) rest_is)
+            let body : List ℕ = r.0 ++ a.0.1.1 ∷ [] in
+            let rest_is : p.1 ≡ a.0.0 ∷ body = q.2 ∙ ap (λ (w : List ℕ). w ++ q.1) q.3.1 ∙ ap (λ (w : List ℕ). a.0.0 ∷ w) (r.2 ∙ ap (λ (w : List ℕ). r.0 ++ w) r.4.1) in
+            subst (λ (l : Kind). IsTextOf l t.text) (sym (s.1 ∙ a.1))
+            (a.0.0 ∷ body, text ∙ ap (λ (w : List ℕ). 60 ∷ w) rest_is, angle_whole a.0.0 body q.3.0 (angle_closed a.0.1.0 r.0 a.0.1.1 (one_of (class_of a.0.1.1) greater r.4.0) r.3))
       ]
 
   one_mark : (m : Mark) (c v : ℕ) → ((b : ℕ) → class_of b ≡ c → b ≡ v) → mark_text m ≡ v ∷ [] → Spells class_of flat (mark c m) k t.text → IsTextOf k t.text

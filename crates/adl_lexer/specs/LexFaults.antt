@@ -1,4 +1,9 @@
--- The faults of tokens: which one stands at the front of bytes, and on which of them.
+-- The faults of tokens: which one stands at the front of bytes, and on which of them. By codes:
+--   Byte      less_fault, sign_fault
+--   Unclosed  text_fault, slash_fault
+--   Number    number_fault
+--   Limit     word_fault
+--   LeftOut   word_fault, number_fault, minus_fault, slash_fault, sign_fault
 use Rattle.std.specs.Prelude.{ℕ, Bool, false, ◌==◌, ◌&&◌, nat_lt, if◌then◌else◌, List, [], ◌∷◌, length, Option, Some, None, codes}
 use Rattle.std.specs.List.{list_all, list_any}
 use Rattle.std.specs.Str.{bytes_eq}
@@ -47,7 +52,7 @@ after_text (b ∷ c ∷ bs) =
     else if class_of b == backslash then (if class_of c == line_feed then None else after_text bs)
     else after_text (c ∷ bs)
 
--- what is at fault unless there is a rest
+-- no fault where there is a rest behind the token; else this code on these bytes
 abbrev pub unless : Option (List ℕ) → Code → List ℕ → Found
 unless None c text = Some (c, text)
 unless (Some rest) c text = None
@@ -68,6 +73,7 @@ abbrev pub after_angle : List ℕ → Option (List ℕ)
 after_angle [] = None
 after_angle (b ∷ bs) = if among angle_first (class_of b) then after_byte greater (after_run angle_bytes bs) else None
 
+-- the first rest that is there
 abbrev pub or_else : Option (List ℕ) → Option (List ℕ) → Option (List ℕ)
 or_else None rest = rest
 or_else (Some rest) _ = Some rest

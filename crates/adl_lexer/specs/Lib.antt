@@ -1,8 +1,11 @@
 pub mod Classes
 pub mod Keywords
+pub mod Candidates
 pub mod TokenKinds
 pub mod Gaps
 pub mod LexFaults
 pub mod Lexes
+pub mod Places
 pub mod Pieces
 pub mod TokenTexts
+pub use Rattle.grammar.specs.Spelling

@@ -8,6 +8,7 @@ use Rattle.cam_base.specs.declared.token.Mark.TheVariants as marks
 use Rattle.cam_base.specs.Names.{is_name}
 use Rattle.cam_base.specs.Numbers.{number_value}
 use Rattle.adl_lexer.specs.Keywords.{spelling, keyword_of}
+use Rattle.adl_lexer.specs.LexFaults.{after_text, after_angle}
 
 -- the bytes at a place
 abbrev pub text_at : List ℕ → Place → List ℕ
@@ -28,12 +29,13 @@ mark_text marks.Colon = codes ":"
 mark_text marks.Arrow = codes "->"
 mark_text marks.Back = codes "<-"
 
--- a word is an identifier of 1 to 127 bytes that is no keyword, a keyword its word, a number its digits, a text stands
--- between quotes, an angle name between angle brackets, a mark is its one or two bytes
+-- A word is an identifier of 1 to 127 bytes that is no keyword, a keyword its word, a number its digits, and a mark is its
+-- one or two bytes. A text begins with a quote, and the quote that ends it is its last byte: so no line feed stands in
+-- it, and a quote within only behind a backslash. An angle name begins with <, and the > that ends it is its last byte.
 abbrev pub IsTextOf : Kind → List ℕ → Type 0
 IsTextOf kinds.Word text = (is_name text ≡ true) × (keyword_of text ≡ None)
 IsTextOf (kinds.Key k) text = text ≡ spelling k
 IsTextOf (kinds.Number n) text = number_value text ≡ Some n
-IsTextOf kinds.Text text = (inner : List ℕ) × (text ≡ 34 ∷ inner ++ 34 ∷ [])
-IsTextOf kinds.Angle text = (inner : List ℕ) × (text ≡ 60 ∷ inner ++ 62 ∷ [])
+IsTextOf kinds.Text text = (body : List ℕ) × (text ≡ codes "\"" ++ body) × (after_text body ≡ Some [])
+IsTextOf kinds.Angle text = (body : List ℕ) × (text ≡ codes "<" ++ body) × (after_angle body ≡ Some [])
 IsTextOf (kinds.Mark m) text = text ≡ mark_text m

@@ -58,6 +58,7 @@ pub(crate) const OTHER: u8 = 25;
 
 /// The class of a byte, by its number in `specs/Classes.antt`.
 #[tactic(auto, unfolding(crate::specs::Classes::class_of))]
+#[inline(always)]
 pub(crate) fn class(byte: u8) -> u8
     ensures { result ≡ class_of byte }
 {
@@ -76,6 +77,7 @@ pub(crate) fn class(byte: u8) -> u8
     }
 }
 
+#[inline]
 fn sign_class(byte: u8) -> u8
     ensures { result ≡ sign_class byte }
 {
@@ -92,6 +94,7 @@ fn sign_class(byte: u8) -> u8
     }
 }
 
+#[inline]
 fn mark_class(byte: u8) -> u8
     ensures { result ≡ mark_class byte }
 {
@@ -111,6 +114,7 @@ fn mark_class(byte: u8) -> u8
     }
 }
 
+#[inline]
 fn left_out_class(byte: u8) -> u8
     ensures { result ≡ left_out_class byte }
 {

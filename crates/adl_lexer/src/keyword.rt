@@ -1,5 +1,6 @@
 //! The words that can't be names.
 
+ghost use Rattle.adl_lexer.specs.Candidates.{by_front, by_late_front, by_middle_front, candidate, on_c, on_i};
 ghost use Rattle.adl_lexer.specs.Keywords.{all_keywords, keyword_of, named_by, spelling};
 ghost use Rattle.std.specs.Prelude.{◌≡◌, ℕ, List as Seq};
 
@@ -66,6 +67,98 @@ impl<const N: usize> KeywordTable<N> {
             }
         }
         None
+    }
+}
+
+/// The keyword that a word is, as the table of all keywords gives it, by one comparison in place of 29.
+#[tactic(auto, using(crate::proofs::KeywordWords::is_found, crate::proofs::KeywordWords::is_no_candidate, crate::proofs::KeywordWords::is_other_word))]
+pub(crate) fn keyword_of(word: &[u8]) -> Option<Keyword>
+    ensures { result ≡ keyword_of word.now }
+{
+    let keyword = candidate(word)?;
+    if spelling(keyword) == word {
+        Some(keyword)
+    } else {
+        None
+    }
+}
+
+/// The one keyword that a word can be.
+fn candidate(word: &[u8]) -> Option<Keyword>
+    ensures { result ≡ candidate word.now }
+{
+    match word {
+        [] | [_] => None,
+        [first, second, ..] => by_front(*first, *second, word.len()),
+    }
+}
+
+fn by_front(first: u8, second: u8, len: usize) -> Option<Keyword>
+    ensures { result ≡ by_front first second len }
+{
+    match first {
+        b'a' if len == 8 => Some(Keyword::KAssembly),
+        b'a' => Some(Keyword::KAttribute),
+        b'b' => Some(Keyword::KBinarySemaphore),
+        b'c' => Some(on_c(len)),
+        b'd' => Some(Keyword::KDataport),
+        b'e' if len == 5 => Some(Keyword::KEmits),
+        b'e' => Some(Keyword::KExport),
+        _ => by_middle_front(first, second, len),
+    }
+}
+
+fn by_middle_front(first: u8, second: u8, len: usize) -> Option<Keyword>
+    ensures { result ≡ by_middle_front first second len }
+{
+    match first {
+        b'f' => Some(Keyword::KFrom),
+        b'g' => Some(Keyword::KGroup),
+        b'h' if len == 3 => Some(Keyword::KHas),
+        b'h' => Some(Keyword::KHardware),
+        b'i' => Some(on_i(len)),
+        b'm' if second == b'a' => Some(Keyword::KMaybe),
+        b'm' => Some(Keyword::KMutex),
+        _ => by_late_front(first, len),
+    }
+}
+
+fn by_late_front(first: u8, len: usize) -> Option<Keyword>
+    ensures { result ≡ by_late_front first len }
+{
+    match first {
+        b'o' => Some(Keyword::KOut),
+        b'p' if len == 9 => Some(Keyword::KProcedure),
+        b'p' => Some(Keyword::KProvides),
+        b'r' => Some(Keyword::KRefin),
+        b's' => Some(Keyword::KSemaphore),
+        b't' => Some(Keyword::KTo),
+        b'u' => Some(Keyword::KUses),
+        _ => None,
+    }
+}
+
+fn on_c(len: usize) -> Keyword
+    ensures { result ≡ on_c len }
+{
+    match len {
+        7 => Keyword::KControl,
+        8 => Keyword::KConsumes,
+        9 => Keyword::KComponent,
+        10 => Keyword::KConnection,
+        11 => Keyword::KComposition,
+        _ => Keyword::KConfiguration,
+    }
+}
+
+fn on_i(len: usize) -> Keyword
+    ensures { result ≡ on_i len }
+{
+    match len {
+        2 => Keyword::KIn,
+        5 => Keyword::KInout,
+        6 => Keyword::KImport,
+        _ => Keyword::KInclude,
     }
 }
 

@@ -5,6 +5,7 @@ ghost use Rattle.adl_lexer.specs.Gaps.{one_gap};
 ghost use Rattle.adl_lexer.specs.Keywords.{keyword_of, spelling};
 ghost use Rattle.adl_lexer.specs.LexFaults.{fault_at};
 ghost use Rattle.adl_lexer.specs.Lexes.{IsFirstFault, IsTokenAt, Lexes};
+ghost use Rattle.adl_lexer.specs.Places.{PlacesRise};
 ghost use Rattle.adl_lexer.specs.TokenKinds.{flat, token_form};
 ghost use Rattle.adl_lexer.specs.TokenTexts.{IsTextOf, text_at};
 ghost use Rattle.cam_base.specs.declared.code.Code.{Code as ErrorCode};
@@ -15,7 +16,7 @@ ghost use Rattle.cam_base.specs.declared.token.Kind.{Kind as TokenKind};
 ghost use Rattle.cam_base.specs.declared.token.Token.{Token as Tok};
 ghost use Rattle.grammar.specs.Spelling.{Spells};
 ghost use Rattle.std.specs.List.{All};
-ghost use Rattle.std.specs.Prelude.{◌≡◌, ◌↔◌, ℕ, ◌∷◌, ◌++◌, List as Seq, None, Some};
+ghost use Rattle.std.specs.Prelude.{◌≡◌, ◌↔◌, ℕ, ◌∷◌, ◌++◌, List as Seq, None, Some, length};
 
 /// Bytes have one list of tokens at most.
 pub fn tokens_are_one()
@@ -38,7 +39,13 @@ pub fn keywords_are_their_words()
     ensures some { (word : Seq ℕ) (k : Key) → (keyword_of word ≡ Some k) ↔ (word ≡ spelling k) }
 {}
 
-/// The bytes at a token's place are those of its kind, in the plain words of `specs/TokenTexts.antt`: a word is a name.
+/// The places of tokens name the file and rise: each has a byte at least and ends before the next begins, the last within
+/// the bytes.
+pub fn places_rise()
+    ensures { (file : ℕ) (bytes : Seq ℕ) (ts : Seq Tok) → Lexes file bytes ts → PlacesRise file (length bytes) 0 ts }
+{}
+
+/// The bytes at a token's place are exactly those of its kind, in the plain words of `specs/TokenTexts.antt`.
 pub fn tokens_have_their_texts()
     ensures { (file : ℕ) (bytes : Seq ℕ) (ts : Seq Tok) → Lexes file bytes ts → All (λ t. IsTextOf t.kind (text_at bytes t.place)) ts }
 {}

@@ -4,7 +4,6 @@ ghost use Rattle.adl_lexer.specs.LexFaults.{name_in};
 ghost use Rattle.adl_lexer.specs.Lexes.{IsLexed};
 ghost use Rattle.std.specs.Prelude.{◌≡◌, ◌≤◌, length, IfOk};
 
-use crate::keyword::keywords;
 use crate::piece::{Piece, next_piece};
 use cam_base::{Code, Fault, List, NoMemory, Place, Refused, Text, Token, Tokens};
 use std::alloc::Global;
@@ -13,10 +12,9 @@ use std::alloc::Global;
 pub fn lex(alloc: Global, file: u32, bytes: &[u8]) -> Result<Tokens, Refused<Fault>>
     ensures { IsLexed file bytes.now result }
 {
-    let keywords = keywords();
     let mut tokens = List::new(alloc);
     let mut rest = bytes;
-    'scan: while let Some(piece) = next_piece(&keywords, rest) {
+    'scan: while let Some(piece) = next_piece(rest) {
         let first = (bytes.len() - rest.len()) as u64;
         match piece {
             Piece::Gap(after) => rest = after,

@@ -2,7 +2,6 @@
 
 ghost use Rattle.adl_lexer.specs.Classes.{blanks, class_of, digits, letters, minus, slash};
 ghost use Rattle.adl_lexer.specs.Gaps.{after_comment};
-ghost use Rattle.adl_lexer.specs.Keywords.{all_keywords};
 ghost use Rattle.adl_lexer.specs.LexFaults.{minus_fault, sign_fault, slash_fault};
 ghost use Rattle.adl_lexer.specs.Pieces.{Fits, IsMark, IsNext, IsPiece};
 ghost use Rattle.adl_lexer.specs.TokenKinds.{reads, arrow_line, mark_line, token_form};
@@ -17,7 +16,6 @@ use crate::class::{
     SQUARE_R, ZERO_DIGIT, class,
 };
 use crate::gap::comment;
-use crate::keyword::KeywordTable;
 use crate::number::number;
 use crate::text::{byte_end, less, text};
 use crate::word::word;
@@ -34,25 +32,23 @@ pub(crate) enum Piece<'a> {
 }
 
 /// What stands at the front; nothing where there are no bytes.
-pub(crate) fn next_piece<'a>(keywords: &KeywordTable<29>, bytes: &'a [u8]) -> Option<Piece<'a>>
-    requires { keywords.now.rows ≡ all_keywords }
+pub(crate) fn next_piece(bytes: &[u8]) -> Option<Piece<'_>>
     ensures { IsNext bytes.now result }
 {
     match bytes {
         [] => None,
-        [byte, rest @ ..] => Some(piece_at(keywords, *byte, bytes, rest)),
+        [byte, rest @ ..] => Some(piece_at(*byte, bytes, rest)),
     }
 }
 
 #[tactic(auto, using(crate::proofs::Pieces::slash_piece))]
-fn piece_at<'a>(keywords: &KeywordTable<29>, byte: u8, bytes: &'a [u8], rest: &'a [u8]) -> Piece<'a>
-    requires table { keywords.now.rows ≡ all_keywords }
-    requires cut { bytes.now ≡ byte ∷ rest.now }
+fn piece_at<'a>(byte: u8, bytes: &'a [u8], rest: &'a [u8]) -> Piece<'a>
+    requires { bytes.now ≡ byte ∷ rest.now }
     ensures { IsPiece bytes.now result }
 {
     let class = class(byte);
     if is_letter(class) {
-        word(keywords, bytes)
+        word(bytes)
     } else if is_digit(class) {
         number(bytes)
     } else if is_blank(class) {

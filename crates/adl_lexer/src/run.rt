@@ -5,6 +5,7 @@ ghost use Rattle.grammar.specs.Form.{among};
 ghost use Rattle.std.specs.Prelude.{◌≡◌};
 
 use crate::class::{DIGIT, DOT, LINE_FEED, MINUS, SLASH, class};
+use cam_base::is_word_byte;
 
 /// A run of letters, digits and underscores, and the rest behind it.
 #[tactic(auto, using(crate::proofs::Runs::run_taken, crate::proofs::Runs::after_run_le))]
@@ -30,12 +31,21 @@ fn word_end(bytes: &[u8]) -> &[u8]
 {
     let mut rest = bytes;
     'run: while let [byte, tail @ ..] = rest {
-        if class(*byte) > DIGIT {
+        if !is_of_word(*byte) {
             break;
         }
         rest = tail;
     }
     rest
+}
+
+/// Whether a byte is a letter, a digit or an underscore.
+#[tactic(auto, using(crate::proofs::ClassBytes::word_byte_is))]
+#[inline]
+fn is_of_word(byte: u8) -> bool
+    ensures { result ≡ among word_bytes (class_of byte) }
+{
+    is_word_byte(byte)
 }
 
 /// What is behind a run of bytes of an angle name.

@@ -1,23 +1,21 @@
 //! Words.
 
 ghost use Rattle.adl_lexer.specs.Classes.{letters, class_of, run, word_bytes};
-ghost use Rattle.adl_lexer.specs.Keywords.{all_keywords};
 ghost use Rattle.adl_lexer.specs.LexFaults.{is_left_out_word, word_fault};
 ghost use Rattle.adl_lexer.specs.Pieces.{Fits};
 ghost use Rattle.adl_lexer.specs.TokenKinds.{reads, word_line, word_kind};
 ghost use Rattle.grammar.specs.Reading.{starts};
 ghost use Rattle.std.specs.Prelude.{◌≡◌, ◌∷◌, true, None};
 
-use crate::keyword::KeywordTable;
+use crate::keyword::keyword_of;
 use crate::piece::Piece;
 use crate::run::word_run;
 use cam_base::{Code, Kind};
 
 /// The word at the front.
 #[tactic(auto, using(crate::proofs::Readings::word_read))]
-pub(crate) fn word<'a>(keywords: &KeywordTable<29>, bytes: &'a [u8]) -> Piece<'a>
-    requires table { keywords.now.rows ≡ all_keywords }
-    requires begins { starts class_of letters bytes.now ≡ true }
+pub(crate) fn word(bytes: &[u8]) -> Piece<'_>
+    requires { starts class_of letters bytes.now ≡ true }
     ensures { Fits (reads word_line bytes.now) (word_fault (run word_bytes bytes.now)) None result }
 {
     let (text, after) = word_run(bytes);
@@ -27,15 +25,13 @@ pub(crate) fn word<'a>(keywords: &KeywordTable<29>, bytes: &'a [u8]) -> Piece<'a
     if is_left_out_word(text) {
         return Piece::Bad(Code::LeftOut, text);
     }
-    Piece::Token(kind(keywords, text), after)
+    Piece::Token(kind(text), after)
 }
 
-#[tactic(auto, unfolding(crate::specs::Keywords::keyword_of))]
-fn kind(keywords: &KeywordTable<29>, text: &[u8]) -> Kind
-    requires { keywords.now.rows ≡ all_keywords }
+fn kind(text: &[u8]) -> Kind
     ensures { result ≡ word_kind text.now }
 {
-    match keywords.find(text) {
+    match keyword_of(text) {
         Some(keyword) => Kind::Key(keyword),
         None => Kind::Word,
     }

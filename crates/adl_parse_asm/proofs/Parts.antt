@@ -1,5 +1,5 @@
 -- What the reader of a part gives is what parsing it from a position on answers.
-use Rattle.std.proofs.Common.{◌≡◌, ℕ, ◌≤◌, ◌-◌, true, List, [], ◌++◌, drop, length, Ok, Err, sym, subst}
+use Rattle.std.proofs.Common.{◌≡◌, ℕ, ◌≤◌, ◌-◌, true, List, [], ◌++◌, drop, length, Ok, Err, sym, ap, subst, ◌∙◌}
 use Rattle.std.proofs.lemmas.List.{length-map}
 use Rattle.cam_base.specs.declared.error.Refused.{Refused}
 use Rattle.cam_base.specs.declared.error.Refused.TheVariants as refusals
@@ -7,17 +7,19 @@ use Rattle.cam_base.specs.declared.place.Fault.{Fault}
 use Rattle.cam_base.specs.declared.token.Token.{Token}
 use Rattle.grammar.specs.declared.error.ReadError.{ReadError}
 use Rattle.grammar.specs.declared.error.ReadError.TheVariants as errors
+use Rattle.grammar.specs.declared.error.Why.{Why}
 use Rattle.grammar.specs.Deciding.{decides, further}
 use Rattle.grammar.specs.Gives.{Fails}
 use Rattle.grammar.proofs.Parsed.{ends_within, part_at, part_stops}
+use Rattle.grammar.proofs.Unique.{part_stops_once}
 use Rattle.adl_ast.specs.declared.seen.Seen.{Seen}
 use Rattle.adl_ast.specs.Codes.{token_code}
 use Rattle.adl_ast.specs.Forms.{Rule, nested_line}
 use Rattle.adl_ast.specs.Seeing.{see, seen_at}
 use Rattle.adl_ast.specs.Spelling.{opens, reads, limit, IsSpelledBy}
 use Rattle.adl_ast.proofs.Decides.{nested_is}
-use Rattle.adl_parse_asm.specs.Faults.{IsRefusalOf}
-use Rattle.adl_parse_asm.specs.Parts.{IsPartAt}
+use Rattle.adl_parse_asm.specs.Faults.{IsRefusalOf, fault_of}
+use Rattle.adl_parse_asm.specs.Parts.{IsPartAt, FaultIsOne}
 
 seen_length : (bytes : List ℕ) (ts : List Token) → length (see bytes ts) ≡ length ts
 seen_length bytes ts = length-map ts (seen_at bytes)
@@ -50,3 +52,9 @@ module _ {A : Type 0} (f : Rule A) (d : decides opens f ≡ true) (bytes : List 
   -- where reading gave up, the refusal says so
   pub part_refused : further opens f ≡ [] → (e : ReadError) (r : Refused Fault) → Fails e (reads f (drop at (see bytes slice))) → IsRefusalOf bytes slice e r → IsPartAt f bytes tokens at (Err r)
   part_refused closed e r h q = subst (λ (z : List Token). Fails e (reads f (drop at (see bytes z))) → IsRefusalOf bytes z e r → IsPartAt f bytes tokens at (Err r)) (sym is) (all_refused closed e r) h q
+
+-- two faults of one part are one
+pub one_fault : {A : Type 0} (f : Rule A) → FaultIsOne f
+one_fault f bytes tokens at x y p q =
+    let same = part_stops_once token_code nested_line f limit (drop at (see bytes tokens)) p.0 q.0 p.1 q.1 p.3 q.3 in
+    p.2 ∙ ap (λ (w : Why). fault_of bytes tokens w p.1) same.0 ∙ ap (λ (n : ℕ). fault_of bytes tokens q.0 n) same.1 ∙ sym q.2

@@ -22,7 +22,7 @@ abbrev pub place_at : ℕ → ℕ → List Token → Place
 place_at file total [] = record { file = file; first = total; end = total }
 place_at file total (t ∷ ts) = t.place
 
--- The place where so many of the tokens are left: that of the first of them, or the end of the file.
+-- The place where so many of the tokens are left, counted from the end: that of the first of them, or the end of the file.
 abbrev pub place_of : List ℕ → List Token → ℕ → Place
 place_of bytes tokens left = place_at (file_of tokens) (length bytes) (drop (length tokens - left) tokens)
 

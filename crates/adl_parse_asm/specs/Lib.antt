@@ -1,3 +1,10 @@
 pub mod Faults
 pub mod Parts
 pub mod Words
+pub use Rattle.adl_ast.specs.Codes
+pub use Rattle.adl_ast.specs.Forms
+pub use Rattle.adl_ast.specs.Seeing
+pub use Rattle.adl_ast.specs.Spelling
+pub use Rattle.grammar.specs.Form
+pub use Rattle.grammar.specs.Gives
+pub use Rattle.grammar.specs.Reading

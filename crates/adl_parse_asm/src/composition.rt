@@ -11,11 +11,10 @@ ghost use Rattle.grammar.specs.Reading.{starts};
 ghost use Rattle.std.specs.Prelude.{◌≡◌, ◌∷◌, []};
 
 use crate::dotted::dotted;
-use crate::repeated::{Repeated, read_all, read_list};
-use crate::token::{next_is, take, word};
+use crate::token::{Adl, next_is, take, word};
 use adl_ast::{Composition, Connection, End, Export, Group, Instance, Line, Role};
 use cam_base::{Keyword, Kind, Mark, Token};
-use grammar::ReadError;
+use grammar::{ReadError, Repeated, read_all, read_list};
 use std::alloc::Global;
 
 #[tactic(auto, unfolding(adl_ast::specs::Forms::instance_line))]
@@ -35,14 +34,14 @@ fn instance<'a>(
 
 struct Instances;
 
-impl Repeated for Instances {
+impl Repeated<Adl> for Instances {
     type Item = Instance;
 
     ghost codes = { key_code keys.KComponent ∷ [] };
 
-    ghost gives = { reads instance_form };
+    ghost gives = { λ _. reads instance_form };
 
-    ghost eats = { instance_eats };
+    ghost eats = { λ _. instance_eats };
 
     fn starts(bytes: &[u8], tokens: &[Token]) -> bool {
         next_is(bytes, tokens, Kind::Key(Keyword::KComponent))
@@ -68,7 +67,7 @@ fn group<'a>(
     let (_keyword, rest) = take(bytes, tokens, Kind::Key(Keyword::KGroup))?;
     let (id, rest) = word(alloc, bytes, rest)?;
     let (_open, rest) = take(bytes, rest, Kind::Mark(Mark::BraceL))?;
-    let (instances, rest) = read_all::<Instances>(alloc, bytes, rest)?;
+    let (instances, rest) = read_all::<Adl, Instances>(alloc, bytes, rest)?;
     let (_close, rest) = take(bytes, rest, Kind::Mark(Mark::BraceR))?;
     Ok((Group { id, instances }, rest))
 }
@@ -99,14 +98,14 @@ fn end<'a>(
 
 struct Ends;
 
-impl Repeated for Ends {
+impl Repeated<Adl> for Ends {
     type Item = End;
 
     ghost codes = { key_code keys.KFrom ∷ key_code keys.KTo ∷ [] };
 
-    ghost gives = { reads end_form };
+    ghost gives = { λ _. reads end_form };
 
-    ghost eats = { end_eats };
+    ghost eats = { λ _. end_eats };
 
     fn starts(bytes: &[u8], tokens: &[Token]) -> bool {
         next_is(bytes, tokens, Kind::Key(Keyword::KFrom))
@@ -134,7 +133,7 @@ fn connection<'a>(
     let (connector, rest) = word(alloc, bytes, rest)?;
     let (id, rest) = word(alloc, bytes, rest)?;
     let (_open, rest) = take(bytes, rest, Kind::Mark(Mark::ParenL))?;
-    let (ends, rest) = read_list::<Ends>(alloc, bytes, rest)?;
+    let (ends, rest) = read_list::<Adl, Ends>(alloc, bytes, rest)?;
     let (_close, rest) = take(bytes, rest, Kind::Mark(Mark::ParenR))?;
     let (_end, rest) = take(bytes, rest, Kind::Mark(Mark::Semi))?;
     Ok((
@@ -195,14 +194,14 @@ fn line<'a>(
 
 struct Lines;
 
-impl Repeated for Lines {
+impl Repeated<Adl> for Lines {
     type Item = Line;
 
     ghost codes = { key_code keys.KComponent ∷ key_code keys.KGroup ∷ key_code keys.KConnection ∷ key_code keys.KExport ∷ [] };
 
-    ghost gives = { reads composition_member_form };
+    ghost gives = { λ _. reads composition_member_form };
 
-    ghost eats = { composition_member_eats };
+    ghost eats = { λ _. composition_member_eats };
 
     fn starts(bytes: &[u8], tokens: &[Token]) -> bool {
         next_is(bytes, tokens, Kind::Key(Keyword::KComponent))
@@ -231,7 +230,7 @@ pub fn read_composition<'a>(
 {
     let (keyword, rest) = take(bytes, tokens, Kind::Key(Keyword::KComposition))?;
     let (_open, rest) = take(bytes, rest, Kind::Mark(Mark::BraceL))?;
-    let (lines, rest) = read_all::<Lines>(alloc, bytes, rest)?;
+    let (lines, rest) = read_all::<Adl, Lines>(alloc, bytes, rest)?;
     let (_close, rest) = take(bytes, rest, Kind::Mark(Mark::BraceR))?;
     Ok((
         Composition {

@@ -10,12 +10,11 @@ ghost use Rattle.grammar.specs.Gives.{Gives};
 ghost use Rattle.std.specs.Prelude.{◌≡◌};
 
 use crate::dotted::path;
-use crate::repeated::{Repeated, read_all};
-use crate::token::{next_is, next_is_word, take, word};
+use crate::token::{Adl, next_is, next_is_word, take, word};
 use crate::value::read_value;
 use adl_ast::{Configuration, Setter, Setting};
 use cam_base::{Keyword, Kind, Mark, Token};
-use grammar::ReadError;
+use grammar::{ReadError, Repeated, read_all};
 use std::alloc::Global;
 
 #[tactic(auto, unfolding(adl_ast::specs::Forms::setter_line))]
@@ -60,14 +59,14 @@ fn setting<'a>(
 
 struct Settings;
 
-impl Repeated for Settings {
+impl Repeated<Adl> for Settings {
     type Item = Setting;
 
     ghost codes = { word_codes };
 
-    ghost gives = { reads setting_form };
+    ghost gives = { λ _. reads setting_form };
 
-    ghost eats = { setting_eats };
+    ghost eats = { λ _. setting_eats };
 
     fn starts(bytes: &[u8], tokens: &[Token]) -> bool {
         next_is_word(bytes, tokens)
@@ -93,7 +92,7 @@ pub fn read_configuration<'a>(
 {
     let (keyword, rest) = take(bytes, tokens, Kind::Key(Keyword::KConfiguration))?;
     let (_open, rest) = take(bytes, rest, Kind::Mark(Mark::BraceL))?;
-    let (settings, rest) = read_all::<Settings>(alloc, bytes, rest)?;
+    let (settings, rest) = read_all::<Adl, Settings>(alloc, bytes, rest)?;
     let (_close, rest) = take(bytes, rest, Kind::Mark(Mark::BraceR))?;
     Ok((
         Configuration {

@@ -10,11 +10,10 @@ ghost use Rattle.grammar.specs.Form.{maybe};
 ghost use Rattle.grammar.specs.Gives.{Gives};
 ghost use Rattle.std.specs.Prelude.{◌≡◌, ◌∷◌, ◌++◌, [], IfOk};
 
-use crate::repeated::{Repeated, read_all};
-use crate::token::{next_is, span, take, word};
+use crate::token::{Adl, next_is, span, take, word};
 use adl_ast::Id;
 use cam_base::{Kind, List, Mark, NoMemory, Place, Token};
-use grammar::ReadError;
+use grammar::{ReadError, Repeated, read_all};
 use std::alloc::Global;
 
 fn dot_word<'a>(
@@ -44,14 +43,14 @@ fn maybe_dot_word<'a>(
 
 struct DotWords;
 
-impl Repeated for DotWords {
+impl Repeated<Adl> for DotWords {
     type Item = Id;
 
     ghost codes = { mark_code marks.Dot ∷ [] };
 
-    ghost gives = { reads dot_word };
+    ghost gives = { λ _. reads dot_word };
 
-    ghost eats = { dot_word_eats };
+    ghost eats = { λ _. dot_word_eats };
 
     fn starts(bytes: &[u8], tokens: &[Token]) -> bool {
         next_is(bytes, tokens, Kind::Mark(Mark::Dot))
@@ -69,10 +68,10 @@ impl Repeated for DotWords {
 fn pair(alloc: Global, first: Id, second: Id) -> Result<List<Id>, NoMemory>
     ensures { IfOk result (λ ids. ids ≡ first ∷ second ∷ []) }
 {
-    let mut ids = List::new(alloc);
+    let mut ids = Vec::with_capacity(alloc, 2)?;
     ids.push(first)?;
     ids.push(second)?;
-    Ok(ids)
+    Ok(List::from_vec(ids))
 }
 
 fn dotted_of(
@@ -145,7 +144,7 @@ pub fn path<'a>(
 {
     let (first, rest) = word(alloc, bytes, tokens)?;
     let (second, rest) = dot_word(alloc, bytes, rest)?;
-    let (more, rest) = read_all::<DotWords>(alloc, bytes, rest)?;
+    let (more, rest) = read_all::<Adl, DotWords>(alloc, bytes, rest)?;
     let place = span(first.place, last_place(second.place, more.as_slice()));
     let ids = joined(alloc, first, second, more)?;
     Ok(((ids, place), rest))

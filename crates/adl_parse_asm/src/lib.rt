@@ -9,23 +9,20 @@ mod assembly;
 mod composition;
 mod configuration;
 mod dotted;
+mod laws;
 mod part;
-mod repeated;
 mod token;
 mod value;
 
 pub use assembly::read_assembly;
 pub use composition::read_composition;
 pub use configuration::read_configuration;
+pub use laws::part_faults_are_one;
 pub use part::{
     fault_of, parse_assembly, parse_composition, parse_configuration, parse_value, refusal_of,
 };
-pub use repeated::{Repeated, read_all, read_list};
 pub use token::{
-    WordKind, id_of, inner_text, maybe_word, next_has, next_is, next_is_word, number_of, span,
+    Adl, WordKind, id_of, inner_text, maybe_word, next_has, next_is, next_is_word, number_of, span,
     take, take_of, text_at, word,
 };
 pub use value::read_value;
-
-#[cfg(test)]
-mod tests;

@@ -4,18 +4,20 @@ ghost use Rattle.adl_ast.specs.Codes.{kind_code, token_code, word_code, word_cod
 ghost use Rattle.adl_ast.specs.Forms.{word};
 ghost use Rattle.adl_ast.specs.Seeing.{see, seen_at, text_at, id_of, named, number_of, inner, span};
 ghost use Rattle.adl_ast.specs.Spelling.{reads};
-ghost use Rattle.adl_parse_asm.specs.Words.{codes_of};
+ghost use Rattle.adl_parse_asm.specs.Words.{codes_of, if_buf, if_void};
 ghost use Rattle.grammar.specs.Form.{among, maybe};
 ghost use Rattle.grammar.specs.Gives.{Gives};
 ghost use Rattle.grammar.specs.Reading.{starts, one};
+ghost use Rattle.cam_base.specs.declared.token.Mark.TheVariants as marks;
 ghost use Rattle.std.specs.Prelude.{◌≡◌, ◌∷◌, [], IfOk};
 
-use adl_ast::Id;
+use adl_ast::{Id, Seen};
 use cam_base::{Keyword, Kind, Mark, Name, NoMemory, Place, Text, Token, is_name};
-use grammar::{ReadError, Stop, Why};
+use grammar::{Language, ReadError, Stop, Why};
 use std::alloc::Global;
 
 /// The bytes at a place, as far as there are any.
+#[inline(always)]
 pub fn text_at(bytes: &[u8], place: Place) -> &[u8]
     ensures { result.now ≡ text_at bytes.now place }
 {
@@ -25,6 +27,7 @@ pub fn text_at(bytes: &[u8], place: Place) -> &[u8]
     &rest[..len]
 }
 
+#[inline(always)]
 fn key_code(key: Keyword) -> u8
     ensures { result ≡ key_code key }
 {
@@ -61,6 +64,7 @@ fn key_code(key: Keyword) -> u8
     }
 }
 
+#[inline(always)]
 fn mark_code(mark: Mark) -> u8
     ensures { result ≡ mark_code mark }
 {
@@ -81,18 +85,32 @@ fn mark_code(mark: Mark) -> u8
     }
 }
 
+#[tactic(auto, using(crate::proofs::Words::of_four, crate::proofs::Words::of_three, crate::proofs::Words::of_another))]
 fn word_code(text: &[u8]) -> u8
     ensures { result ≡ word_code text.now }
 {
-    if text == b"void".as_slice() {
-        1
-    } else if text == b"Buf".as_slice() {
-        2
+    if text.len() == 4 {
+        void_code(text)
+    } else if text.len() == 3 {
+        buf_code(text)
     } else {
         0
     }
 }
 
+fn void_code(text: &[u8]) -> u8
+    ensures { result ≡ if_void text.now }
+{
+    if text == b"void".as_slice() { 1 } else { 0 }
+}
+
+fn buf_code(text: &[u8]) -> u8
+    ensures { result ≡ if_buf text.now }
+{
+    if text == b"Buf".as_slice() { 2 } else { 0 }
+}
+
+#[inline(always)]
 fn kind_code(kind: Kind, text: &[u8]) -> u8
     ensures { result ≡ kind_code kind text.now }
 {
@@ -106,6 +124,7 @@ fn kind_code(kind: Kind, text: &[u8]) -> u8
     }
 }
 
+#[inline(always)]
 fn token_code(bytes: &[u8], token: Token) -> u8
     ensures { result ≡ token_code (seen_at bytes.now token) }
 {
@@ -113,6 +132,7 @@ fn token_code(bytes: &[u8], token: Token) -> u8
 }
 
 /// Whether the next token is of this kind; for words, a plain word.
+#[inline(always)]
 pub fn next_is(bytes: &[u8], tokens: &[Token], kind: Kind) -> bool
     ensures { result ≡ starts token_code (kind_code kind [] ∷ []) (see bytes.now tokens.now) }
 {
@@ -123,6 +143,7 @@ pub fn next_is(bytes: &[u8], tokens: &[Token], kind: Kind) -> bool
 }
 
 /// The next token, which is of this kind; for words, a plain word.
+#[inline(always)]
 pub fn take<'a>(
     bytes: &[u8],
     tokens: &'a [Token],
@@ -141,7 +162,32 @@ pub fn take<'a>(
     }
 }
 
+/// The architecture language: its grammar sees each token with its bytes.
+pub struct Adl;
+
+impl Language for Adl {
+    type Token = Token;
+
+    type Seen = Seen;
+
+    ghost see = { see };
+
+    ghost code = { token_code };
+
+    ghost comma = { mark_code marks.Comma };
+
+    fn next_is_comma(bytes: &[u8], tokens: &[Token]) -> bool {
+        next_is(bytes, tokens, Kind::Mark(Mark::Comma))
+    }
+
+    fn after_comma<'a>(bytes: &[u8], tokens: &'a [Token]) -> Result<&'a [Token], ReadError> {
+        let (_comma, rest) = take(bytes, tokens, Kind::Mark(Mark::Comma))?;
+        Ok(rest)
+    }
+}
+
 /// Whether the next token is a word.
+#[inline(always)]
 pub fn next_is_word(bytes: &[u8], tokens: &[Token]) -> bool
     ensures { result ≡ starts token_code word_codes (see bytes.now tokens.now) }
 {
@@ -152,6 +198,7 @@ pub fn next_is_word(bytes: &[u8], tokens: &[Token]) -> bool
 }
 
 /// The next token, which is a word.
+#[inline]
 fn take_word<'a>(bytes: &[u8], tokens: &'a [Token]) -> Result<(Token, &'a [Token]), ReadError>
     ensures { Gives (λ x. (seen_at bytes.now x.0, see bytes.now x.1.now)) result (one token_code word_codes (see bytes.now tokens.now)) }
 {
@@ -165,7 +212,7 @@ fn take_word<'a>(bytes: &[u8], tokens: &'a [Token]) -> Result<(Token, &'a [Token
 }
 
 /// Words by whether they are one of the two with a meaning of their own.
-#[derive(Clone, Copy, Debug, PartialEq, Eq)]
+#[derive(Clone, Copy)]
 pub enum WordKind {
     /// The word `void`.
     Void,
@@ -175,6 +222,7 @@ pub enum WordKind {
     NotBuf,
 }
 
+#[inline]
 fn has_code(words: WordKind, code: u8) -> bool
     ensures { result ≡ among (codes_of words) code }
 {
@@ -187,6 +235,7 @@ fn has_code(words: WordKind, code: u8) -> bool
 }
 
 /// Whether the next token is a word of this kind.
+#[inline]
 pub fn next_has(bytes: &[u8], tokens: &[Token], words: WordKind) -> bool
     ensures { result ≡ starts token_code (codes_of words) (see bytes.now tokens.now) }
 {
@@ -197,6 +246,7 @@ pub fn next_has(bytes: &[u8], tokens: &[Token], words: WordKind) -> bool
 }
 
 /// The next token, which is a word of this kind.
+#[inline]
 pub fn take_of<'a>(
     bytes: &[u8],
     tokens: &'a [Token],
@@ -250,6 +300,7 @@ pub fn inner_text(alloc: Global, bytes: &[u8], token: Token) -> Result<Text, NoM
 }
 
 /// The value of a number, 0 for other kinds.
+#[inline]
 pub fn number_of(kind: Kind) -> u64
     ensures { result ≡ number_of kind }
 {
@@ -260,6 +311,7 @@ pub fn number_of(kind: Kind) -> u64
 }
 
 /// From the beginning of the one place to the end of the other.
+#[inline]
 pub fn span(first: Place, last: Place) -> Place
     ensures { result ≡ span first last }
 {
@@ -271,6 +323,7 @@ pub fn span(first: Place, last: Place) -> Place
 }
 
 /// A word.
+#[inline]
 pub fn word<'a>(
     alloc: Global,
     bytes: &[u8],

@@ -13,7 +13,7 @@ ghost use Rattle.std.specs.Prelude.{◌≡◌, ◌∷◌, [], true};
 use crate::token::{inner_text, next_is, number_of, span, take};
 use adl_ast::{Value, ValueKind};
 use cam_base::{Kind, List, Mark, Text, Token};
-use grammar::{ReadError, Stop, Why};
+use grammar::{ReadError, Stop, Why, fitted};
 use std::alloc::Global;
 
 /// How deep brackets may nest.
@@ -171,7 +171,7 @@ fn values<'a>(
         items.push(item)?;
         rest = after;
     }
-    Ok((items, rest))
+    Ok((fitted(items), rest))
 }
 
 #[cycle(values)]
@@ -228,7 +228,7 @@ fn entries<'a>(
         items.push(item)?;
         rest = after;
     }
-    Ok((items, rest))
+    Ok((fitted(items), rest))
 }
 
 #[cycle(values)]

@@ -1,2 +1,3 @@
 pub mod Starts
 pub mod Whole
+pub mod Answering

@@ -1,6 +1,7 @@
 -- What parsing a whole file answers.
-use Rattle.std.specs.Prelude.{ℕ, List, Result}
+use Rattle.std.specs.Prelude.{ℕ, List, Result, Err}
 use Rattle.cam_base.specs.declared.error.Refused.{Refused}
+use Rattle.cam_base.specs.declared.error.Refused.TheVariants as refusals
 use Rattle.cam_base.specs.declared.place.Fault.{Fault}
 use Rattle.cam_base.specs.declared.token.Token.{Token}
 use Rattle.grammar.specs.Refusal.{IsFileRead}
@@ -14,3 +15,8 @@ use Rattle.adl_parse_asm.specs.Faults.{fault_of}
 -- The file is spelled by the tokens; or the fault stands where they stop being those of a file; or memory ran out.
 abbrev pub IsFileIn : List ℕ → List Token → Result File (Refused Fault) → Type 0
 IsFileIn bytes tokens result = IsFileRead token_code nested_line file_line limit (see bytes tokens) (fault_of bytes tokens) (λ x. x) result
+
+-- the answer isn't want of memory
+abbrev pub IsSettled : Result File (Refused Fault) → Type 0
+IsSettled (Err refusals.NoMemory) = ⊥
+IsSettled _ = Unit {0}

@@ -16,11 +16,11 @@ use crate::import::read_import;
 use crate::typed::{brackets, typed_name};
 use adl_ast::{Attribute, Component, Id, Interface, InterfaceKind, Lock, LockKind, Member, Value};
 use adl_parse_asm::{
-    Repeated, WordKind, id_of, next_has, next_is, number_of, read_all, read_composition,
-    read_configuration, read_value, take, take_of, word,
+    Adl, WordKind, id_of, next_has, next_is, number_of, read_composition, read_configuration,
+    read_value, take, take_of, word,
 };
 use cam_base::{Keyword, Kind, Mark, Place, Token};
-use grammar::ReadError;
+use grammar::{ReadError, Repeated, read_all};
 use std::alloc::Global;
 
 /// The kind, the word, the size and the name of an interface.
@@ -342,14 +342,14 @@ fn starts_member(bytes: &[u8], tokens: &[Token]) -> bool
 
 struct Members;
 
-impl Repeated for Members {
+impl Repeated<Adl> for Members {
     type Item = Member;
 
     ghost codes = { member_codes };
 
-    ghost gives = { reads member_form };
+    ghost gives = { λ _. reads member_form };
 
-    ghost eats = { member_eats };
+    ghost eats = { λ _. member_eats };
 
     fn starts(bytes: &[u8], tokens: &[Token]) -> bool {
         starts_member(bytes, tokens)
@@ -376,7 +376,7 @@ pub fn read_component<'a>(
     let (_keyword, rest) = take(bytes, tokens, Kind::Key(Keyword::KComponent))?;
     let (id, rest) = word(alloc, bytes, rest)?;
     let (_open, rest) = take(bytes, rest, Kind::Mark(Mark::BraceL))?;
-    let (members, rest) = read_all::<Members>(alloc, bytes, rest)?;
+    let (members, rest) = read_all::<Adl, Members>(alloc, bytes, rest)?;
     let (_close, rest) = take(bytes, rest, Kind::Mark(Mark::BraceR))?;
     Ok((Component { id, members }, rest))
 }

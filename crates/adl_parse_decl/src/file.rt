@@ -14,9 +14,9 @@ use crate::component::read_component;
 use crate::import::read_import;
 use crate::procedure::read_procedure;
 use adl_ast::{Ended, File, Item};
-use adl_parse_asm::{Repeated, next_is, read_all, read_assembly, refusal_of, take};
+use adl_parse_asm::{Adl, next_is, read_assembly, refusal_of, take};
 use cam_base::{Fault, Keyword, Kind, Mark, Refused, Token, Tokens};
-use grammar::{ReadError, Stop, Why};
+use grammar::{ReadError, Repeated, Stop, Why, read_all};
 use std::alloc::Global;
 
 #[tactic(auto, unfolding(adl_ast::specs::Forms::item_line))]
@@ -62,14 +62,14 @@ fn ended<'a>(
 
 struct Items;
 
-impl Repeated for Items {
+impl Repeated<Adl> for Items {
     type Item = Ended;
 
     ghost codes = { item_codes };
 
-    ghost gives = { reads ended_form };
+    ghost gives = { λ _. reads ended_form };
 
-    ghost eats = { ended_eats };
+    ghost eats = { λ _. ended_eats };
 
     fn starts(bytes: &[u8], tokens: &[Token]) -> bool {
         next_is(bytes, tokens, Kind::Key(Keyword::KImport))
@@ -91,7 +91,7 @@ impl Repeated for Items {
 fn read_file(alloc: Global, bytes: &[u8], tokens: &[Token]) -> Result<File, ReadError>
     ensures { Gives (λ x. x) result (whole (reads file_line) (see bytes.now tokens.now)) }
 {
-    let (items, rest) = read_all::<Items>(alloc, bytes, tokens)?;
+    let (items, rest) = read_all::<Adl, Items>(alloc, bytes, tokens)?;
     match rest {
         [] => Ok(File { items }),
         [_, ..] => Err(ReadError::Stop(Stop {

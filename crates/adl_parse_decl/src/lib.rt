@@ -7,10 +7,9 @@
 mod component;
 mod file;
 mod import;
+mod laws;
 mod procedure;
 mod typed;
 
 pub use file::parse_file;
-
-#[cfg(test)]
-mod tests;
+pub use laws::file_answers_are_one;

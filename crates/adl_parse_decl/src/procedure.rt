@@ -15,11 +15,9 @@ ghost use Rattle.std.specs.Prelude.{◌≡◌, ◌∷◌, ◌++◌, [], IfOk};
 use crate::import::read_import;
 use crate::typed::{More, brackets, more_words, typed_name, typed_of};
 use adl_ast::{Direction, Id, Method, Param, ProcMember, Procedure};
-use adl_parse_asm::{
-    Repeated, WordKind, id_of, next_has, next_is, next_is_word, read_all, take, take_of, word,
-};
+use adl_parse_asm::{Adl, WordKind, id_of, next_has, next_is, next_is_word, take, take_of, word};
 use cam_base::{Keyword, Kind, List, Mark, Name, NoMemory, Token};
-use grammar::ReadError;
+use grammar::{ReadError, Repeated, read_all};
 use std::alloc::Global;
 
 fn starts_direction(bytes: &[u8], tokens: &[Token]) -> bool
@@ -91,14 +89,14 @@ fn param<'a>(
 
 struct MoreParams;
 
-impl Repeated for MoreParams {
+impl Repeated<Adl> for MoreParams {
     type Item = Param;
 
     ghost codes = { mark_code marks.Comma ∷ [] };
 
-    ghost gives = { reads (behind (mark_code marks.Comma) param_form) };
+    ghost gives = { λ _. reads (behind (mark_code marks.Comma) param_form) };
 
-    ghost eats = { next_param_eats };
+    ghost eats = { λ _. next_param_eats };
 
     fn starts(bytes: &[u8], tokens: &[Token]) -> bool {
         next_is(bytes, tokens, Kind::Mark(Mark::Comma))
@@ -121,7 +119,7 @@ type Params = (bool, List<Param>);
 fn joined(alloc: Global, first: Param, more: List<Param>) -> Result<List<Param>, NoMemory>
     ensures { IfOk result (λ params. params ≡ first ∷ more) }
 {
-    let mut params = List::new(alloc);
+    let mut params = List::from_vec(Vec::with_capacity(alloc, more.len() + 1)?);
     params.push(first)?;
     for param in more.into_vec() {
         params.push(param)?;
@@ -143,7 +141,7 @@ fn void_params<'a>(
     }
     let (more, rest) = more_words(alloc, bytes, rest)?;
     let (array, rest) = brackets(bytes, rest)?;
-    let (others, rest) = read_all::<MoreParams>(alloc, bytes, rest)?;
+    let (others, rest) = read_all::<Adl, MoreParams>(alloc, bytes, rest)?;
     let first = id_of(alloc, bytes, void)?;
     let typed = typed_of(alloc, first, more)?;
     let params = joined(alloc, param_of(None, typed, array), others)?;
@@ -203,7 +201,7 @@ fn other_params<'a>(
     ensures { Gives (λ x. (x.0, see bytes.now x.1.now)) result (reads other_params_line (see bytes.now tokens.now)) }
 {
     let (first, rest) = first_param(alloc, bytes, tokens)?;
-    let (more, rest) = read_all::<MoreParams>(alloc, bytes, rest)?;
+    let (more, rest) = read_all::<Adl, MoreParams>(alloc, bytes, rest)?;
     let params = joined(alloc, first, more)?;
     Ok(((false, params), rest))
 }
@@ -274,14 +272,14 @@ fn proc_member<'a>(
 
 struct ProcMembers;
 
-impl Repeated for ProcMembers {
+impl Repeated<Adl> for ProcMembers {
     type Item = ProcMember;
 
     ghost codes = { key_code keys.KInclude ∷ word_codes };
 
-    ghost gives = { reads proc_member_form };
+    ghost gives = { λ _. reads proc_member_form };
 
-    ghost eats = { proc_member_eats };
+    ghost eats = { λ _. proc_member_eats };
 
     fn starts(bytes: &[u8], tokens: &[Token]) -> bool {
         next_is(bytes, tokens, Kind::Key(Keyword::KInclude)) || next_is_word(bytes, tokens)
@@ -308,7 +306,7 @@ pub fn read_procedure<'a>(
     let (_keyword, rest) = take(bytes, tokens, Kind::Key(Keyword::KProcedure))?;
     let (id, rest) = word(alloc, bytes, rest)?;
     let (_open, rest) = take(bytes, rest, Kind::Mark(Mark::BraceL))?;
-    let (members, rest) = read_all::<ProcMembers>(alloc, bytes, rest)?;
+    let (members, rest) = read_all::<Adl, ProcMembers>(alloc, bytes, rest)?;
     let (_close, rest) = take(bytes, rest, Kind::Mark(Mark::BraceR))?;
     Ok((Procedure { id, members }, rest))
 }

@@ -48,7 +48,7 @@ pub fn more_words<'a>(
 pub fn typed_of(alloc: Global, first: Id, more: More) -> Result<(List<Name>, Id), NoMemory>
     ensures { IfOk result (λ x. x ≡ typed_of first more) }
 {
-    let mut names = List::new(alloc);
+    let mut names = List::from_vec(Vec::with_capacity(alloc, 1)?);
     names.push(first.name)?;
     let (second, last) = more;
     let Some((third, fourth)) = last else {

@@ -1,11 +1,7 @@
-mod Fit
 pub mod LabelNumbers
 mod LoadedFew
 mod LoadedShort
-mod ObjectBounds
-mod Ready
+pub mod OneAnswer
 mod Refusing
-mod SlotBounds
-mod Small
 mod Sound
 mod Whole

@@ -1,10 +1,9 @@
 -- What is known of a source in which no fault stands up to the settings.
-use Rattle.std.proofs.Common.{◌≡◌, Option, Some, None, refl}
+use Rattle.std.proofs.Common.{◌≡◌, Option, Some, None}
 use Rattle.std.specs.Option.{option_or}
 use Rattle.adl_ast.specs.declared.source.Source.{Source}
-use Rattle.adl_meaning.specs.JoinFaults.{first_flat_fault, first_join_fault}
+use Rattle.adl_meaning.specs.JoinFaults.{first_flat_fault}
 use Rattle.adl_meaning.specs.NameFaults.{AreNamesSound, first_name_fault}
-use Rattle.adl_meaning.specs.SizeFaults.{first_size_fault}
 use Rattle.adl_meaning.proofs.SoundNames.{names_sound}
 use Rattle.adl_settings.specs.SettingFaults.{first_setting_fault}
 use Rattle.adl_types.specs.TypeFaults.{first_type_fault}
@@ -19,7 +18,6 @@ pub record IsFaultless (s : Source) : Type 0 where
   pub names : AreNamesSound s
   pub types : first_type_fault s ≡ None
   pub flat : first_flat_fault s ≡ None
-  pub sizes : first_size_fault s ≡ None
   pub settings : first_setting_fault s ≡ None
 
 pub faultless : (s : Source) → first_front_fault s ≡ None → IsFaultless s
@@ -30,11 +28,9 @@ faultless s none =
     let d = first_setting_fault s in
     let two = no_second a (option_or b (option_or c d)) none in
     let three = no_second b (option_or c d) two in
-    let flat = no_first c d three in
     record {
       names = names_sound s (no_first a (option_or b (option_or c d)) none);
       types = no_first b (option_or c d) two;
-      flat = flat;
-      sizes = no_first (first_size_fault s) (first_join_fault s) flat;
+      flat = no_first c d three;
       settings = no_second c d three;
     }

@@ -15,20 +15,15 @@ use Rattle.adl_meaning.specs.declared.settled.Settled.{Settled}
 use Rattle.adl_meaning.specs.Faults.{Refuses}
 use Rattle.adl_meaning.specs.Flat.{flat_of}
 use Rattle.adl_meaning.specs.Hierarchy.{hierarchy_of}
-use Rattle.adl_meaning.proofs.SoundNames.{one_assembly}
 use Rattle.adl_settings.specs.Settled.{settled_of}
 use Rattle.arch_compile.specs.Dataports.{first_unbuilt}
 use Rattle.arch_compile.specs.First.{first_layout_fault}
 use Rattle.arch_compile.specs.Laid.{IsSpecOf, tables_of}
 use Rattle.arch_compile.specs.Numbers.{label_numbers}
-use Rattle.arch_compile.specs.Small.{IsSmall}
+use Rattle.flat_laws.specs.Small.{IsSmall}
 use Rattle.arch_compile.specs.Steps.{IsSound}
 use Rattle.arch_compile.specs.declared.phases.FrontEnd.{FrontEnd}
-use Rattle.arch_compile.proofs.Fit.{fit, settings_sound}
 use Rattle.arch_compile.proofs.LoadedShort.{short_spelled}
-use Rattle.arch_compile.proofs.Ready.{ready}
-use Rattle.arch_compile.proofs.SlotBounds.{AreFewSlots, few_slots}
-use Rattle.arch_compile.proofs.Small.{small}
 use Rattle.arch_compile.proofs.Sound.{IsFaultless, faultless}
 use Rattle.cap_model.specs.Auth.{Auth}
 use Rattle.cap_model.specs.Kept.{IsKept}
@@ -40,9 +35,9 @@ use Rattle.cspace_layout.specs.SlotFaults.{first_slot_fault}
 use Rattle.cspace_layout.specs.Uses.{slots_of}
 use Rattle.leaf_ends.specs.Within.{IsWithin}
 use Rattle.flat_laws.proofs.AreFlat.{flat_is_flat}
-use Rattle.flat_laws.proofs.AreTyped.{ends_typed}
 use Rattle.flat_laws.proofs.AreWithin.{flat_is_within}
 use Rattle.flat_laws.proofs.ShortTrees.{short_few}
+use Rattle.flat_laws.proofs.SourceTables.{flat_small, tables_fit, tables_ready}
 use Rattle.flat_laws.specs.ShortFiles.{AreFilesShort}
 use Rattle.numbering.proofs.Gathered.{gather_ones}
 use Rattle.spec_layout.specs.declared.numbers.LabelNumbers.{LabelNumbers}
@@ -80,19 +75,16 @@ module _ (s : Source) (short : AreFilesShort s) (sound : IsFaultless s) where
   within = flat_is_within s sound.names sound.flat (short_few s short)
 
   pub is_small : IsSmall (flat_of s)
-  is_small = small s sound.names sound.sizes
-
-  few : first_slot_fault s (flat_of s) ≡ None → AreFewSlots s (flat_of s)
-  few none = let a = one_assembly s sound.names in few_slots s (flat_of s) a.0 a.1 none
+  is_small = flat_small s sound.names sound.flat
 
   pub is_ready : first_slot_fault s (flat_of s) ≡ None → IsReady (tables_of s)
-  is_ready none = ready s within is_small (few none)
+  is_ready none = tables_ready s (label_numbers (flat_of s)) sound.names sound.flat (short_few s short) none
 
   kept : first_slot_fault s (flat_of s) ≡ None → IsKept (spec_of (tables_of s))
   kept none =
       let t = tables_of s in
       let is = is_ready none in
-      let fits = fit s (ends_typed s sound.names dotted sound.types) (flat_is_flat s sound.names dotted sound.types) (settings_sound s sound.settings) (few none) in
+      let fits = tables_fit s (label_numbers (flat_of s)) sound.names dotted sound.types sound.settings none in
       record {
         few = let n = is.objects in omega (arith, n, length-map (parts t) entry_of);
         names = names_apart t is (gather_ones (λ d (plan : SlotPlan). cnode t d plan.uses) t.slots.domains);

@@ -1,6 +1,6 @@
--- What compiling answers. The cases exclude each other, so each comes exactly where it says, and yields to a failed read and
--- to want of memory alone.
-use Rattle.std.specs.Prelude.{◌≡◌, ◌⊎◌, ℕ, List, Option, Some, None, Result, Ok, Err}
+-- What compiling answers. In given contents there is one answer, aside from failed reads and want of memory (`answers_are_one`
+-- in src/laws.rt), so each comes exactly where it says.
+use Rattle.std.specs.Prelude.{◌≡◌, ◌⊎◌, ℕ, Bool, true, false, List, Option, Some, None, Result, Ok, Err}
 use Rattle.cam_base.specs.declared.error.Refused.{Refused}
 use Rattle.cam_base.specs.declared.error.Refused.TheVariants as refused
 use Rattle.cam_base.specs.declared.place.Fault.{Fault}
@@ -42,12 +42,21 @@ IsRefused source refused.NoMemory e = e ≡ error.NoMemory
 abbrev pub IsFaulted : (Source → Option Fault) → List ℕ → Option Contents → Fault → List ℕ → Type 0
 IsFaulted first root contents fault file =
     IsLoaded contents root (Err (load.Fault fault file))
-    ⊎ ((source : Source) × IsLoaded contents root (Ok source) × (first source ≡ Some fault) × (file ≡ name_of_file source fault.place.file))
+    ⊎ ((source : Source) × IsLoaded contents root (Ok source) × (first source ≡ Some fault)
+    × (file ≡ name_of_file source fault.place.file))
 
 abbrev pub Refuses : (Source → Option Fault) → List ℕ → Option Contents → (List ℕ → ℕ) → (List ℕ → ℕ) → BuildError → Type 0
 Refuses first root contents before now (error.Fault fault file) = IsFaulted first root contents fault file
-Refuses first root contents before now (error.ReadFault file) = IsLoaded contents root (Err (load.ReadFault file)) × Rose (before file) (now file)
+Refuses first root contents before now (error.ReadFault file) =
+    IsLoaded contents root (Err (load.ReadFault file)) × Rose (before file) (now file)
 Refuses first root contents before now error.NoMemory = Unit {0}
+
+-- whether an answer may come in place of another: a failed read, or want of memory
+abbrev pub yields : {T : Type 0} → Result T BuildError → Bool
+yields (Ok x) = false
+yields (Err (error.Fault fault file)) = false
+yields (Err (error.ReadFault file)) = true
+yields (Err error.NoMemory) = true
 
 -- ---- what is compiled
 

@@ -13,7 +13,8 @@ use Rattle.cspace_layout.specs.SlotFaults.{first_slot_fault}
 
 -- of names; where there is none, of types; where there is none, of the hierarchy; where there is none, of settings
 abbrev pub first_front_fault : Source → Option Fault
-first_front_fault s = option_or (first_name_fault s) (option_or (first_type_fault s) (option_or (first_flat_fault s) (first_setting_fault s)))
+first_front_fault s =
+    option_or (first_name_fault s) (option_or (first_type_fault s) (option_or (first_flat_fault s) (first_setting_fault s)))
 
 -- of slots; where there is none, of what isn't built yet
 abbrev pub first_layout_fault : Source → Option Fault

@@ -5,13 +5,12 @@ use Rattle.auth_kinds.specs.Edges.{edge}
 use Rattle.auth_kinds.specs.declared.authority.Authority.{Authority}
 use Rattle.adl_ast.specs.declared.source.Source.{Source}
 use Rattle.adl_meaning.specs.Flat.{flat_of}
-use Rattle.adl_settings.specs.Settled.{settled_of}
 use Rattle.arch_compile.specs.Numbers.{label_numbers}
 use Rattle.cap_model.specs.Auth.{Auth}
 use Rattle.cap_model.specs.Kept.{IsKept}
 use Rattle.cap_model.specs.State.{boot}
 use Rattle.cap_model.specs.declared.spec.Spec.{Spec}
-use Rattle.cspace_layout.specs.Uses.{slots_of}
+use Rattle.flat_laws.specs.SourceTables.{tables_with}
 use Rattle.spec_layout.specs.Direct.{IsDirect}
 use Rattle.spec_layout.specs.Layout.{parts}
 use Rattle.spec_layout.specs.Made.{labels_in, spec_of}
@@ -19,15 +18,10 @@ use Rattle.spec_layout.specs.Tables.{Tables}
 
 -- what the spec is made from
 abbrev pub tables_of : Source → Tables
-tables_of s = record {
-  source = s;
-  flat = flat_of s;
-  settled = settled_of s;
-  slots = slots_of s (flat_of s);
-  numbers = label_numbers (flat_of s);
-}
+tables_of s = tables_with (label_numbers (flat_of s)) s
 
 pub record IsSpecOf (source : Source) (spec : Spec) : Type 0 where
   pub made : spec ≡ spec_of (tables_of source)
-  pub assigned : (l : ℕ) (a : Authority) (m : ℕ) → l ≢ m → Auth spec (labels_in (parts (tables_of source))) (boot spec) l a m ↔ IsDirect (tables_of source) (edge l a m)
+  pub assigned : (l : ℕ) (a : Authority) (m : ℕ) → l ≢ m
+      → Auth spec (labels_in (parts (tables_of source))) (boot spec) l a m ↔ IsDirect (tables_of source) (edge l a m)
   pub kept : IsKept spec

@@ -3,5 +3,9 @@ pub mod Dataports
 pub mod First
 pub mod Laid
 pub mod Numbers
-pub mod Small
 pub mod Steps
+pub use Rattle.adl_import.specs.Loaded
+pub use Rattle.adl_meaning.specs.Items
+pub use Rattle.cam_io.specs.Contents
+pub use Rattle.cam_io.specs.Reading
+pub use Rattle.flat_laws.specs.ShortFiles

@@ -6,7 +6,7 @@ ghost use Rattle.arch_compile.specs.Compiled.{IsCompiled, IsMeaning};
 ghost use Rattle.arch_compile.specs.Dataports.{first_unbuilt};
 ghost use Rattle.arch_compile.specs.First.{first_layout_fault};
 ghost use Rattle.arch_compile.specs.Laid.{IsSpecOf, tables_of};
-ghost use Rattle.arch_compile.specs.Small.{IsSmall};
+ghost use Rattle.flat_laws.specs.Small.{IsSmall};
 ghost use Rattle.arch_compile.specs.Steps.{IsBuilt, IsSound};
 ghost use Rattle.cam_io.specs.Reading.{KeepsFiles};
 ghost use Rattle.cspace_layout.specs.SlotFaults.{first_slot_fault};

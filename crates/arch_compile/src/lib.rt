@@ -8,9 +8,11 @@
 mod building;
 mod dataports;
 mod error;
+mod laws;
 mod numbers;
 mod phases;
 
 pub use building::{Build, compile};
 pub use error::BuildError;
+pub use laws::{answers_are_one, loaded_sources_are_few};
 pub use phases::{FrontEnd, front};

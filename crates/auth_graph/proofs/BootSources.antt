@@ -1,8 +1,7 @@
 -- The edges of the boot state are those that the objects are the sources of.
-use Rattle.std.proofs.Common.{◌≡◌, ◌↔◌, ℕ, true, List, [], map, slice_get, Option, Some, None, refl, sym, inl, inr, arith, subst, ap, ◌∙◌}
+use Rattle.std.proofs.Common.{◌≡◌, ◌↔◌, ℕ, true, List, [], map, slice_get, Option, Some, None, refl, sym, inl, inr, arith, subst, ◌∙◌}
 use Rattle.std.specs.List.{Contains}
-use Rattle.std.specs.Option.{option_map}
-use Rattle.std.proofs.lemmas.Option.{slice_get-map, slice_get-get_or, get_or_from_slice_get, slice_get_within}
+use Rattle.std.proofs.lemmas.Option.{slice_get-map}
 use Rattle.auth_kinds.specs.Adds.{Adds}
 use Rattle.auth_kinds.specs.Edges.{edge}
 use Rattle.auth_kinds.specs.ObjectLabels.{label_of}
@@ -16,37 +15,12 @@ use Rattle.cap_model.specs.declared.object.Object.{Object}
 use Rattle.cap_model.specs.declared.object.Object.TheVariants.{Endpoint, Notification, CNode, Thread, Frame, Pages, Irq}
 use Rattle.cap_model.specs.declared.spec.Entry.{Entry}
 use Rattle.cap_model.specs.declared.spec.Spec.{Spec}
-use Rattle.cap_model.specs.declared.state.Content.{Content}
-use Rattle.cap_model.specs.declared.state.Content.TheVariants.{Capability, SavedReply}
-use Rattle.cap_model.specs.declared.state.Pending.{Pending}
+use Rattle.cap_model.specs.declared.state.Content.TheVariants.{Capability}
 use Rattle.cap_model.specs.declared.state.ThreadState.{ThreadState}
 use Rattle.cap_model.specs.Lookup.{entry_object}
 use Rattle.cap_model.specs.State.{Node, node_at, thread_at, irq_at, boot, boot_slot, boot_node, boot_thread, boot_irq, no_node, no_thread}
-use Rattle.cap_model.proofs.BootPlaces.{at_entry, entry_at}
+use Rattle.cap_model.proofs.BootPlaces.{at_contains, at_entry, contains_at, entry_at, none_saved, nothing_pending, slot_of}
 use Rattle.auth_graph.specs.Sources.{OfOption, OfLink, OfCap, OfObject, OfSpec}
-
-pub contains_at : {A : Type 0} (xs : List A) (x : A) → Contains xs x → (k : ℕ) × (slice_get xs k ≡ Some x)
-contains_at xs x c = (c.0, let s = slice_get-get_or xs c.0 x c.1 in cc c.2)
-
-pub at_contains : {A : Type 0} (xs : List A) (x : A) (k : ℕ) → slice_get xs k ≡ Some x → Contains xs x
-at_contains xs x k h = (k, slice_get_within xs k x h, get_or_from_slice_get xs k x x h)
-
--- a slot of the boot state is one of the spec
-pub slot_of : (slots : List (ℕ × Cap)) (k i : ℕ) (content : Content) → slice_get (map boot_slot slots) k ≡ Some (i, content)
-    → (slot : ℕ × Cap) × (slice_get slots k ≡ Some slot) × (Capability slot.1 ≡ content)
-slot_of slots k i content h = go (slice_get slots k) refl where
-  go : (o : Option (ℕ × Cap)) → slice_get slots k ≡ o → (slot : ℕ × Cap) × (slice_get slots k ≡ Some slot) × (Capability slot.1 ≡ content)
-  go None there = absurd (
-      let e : slice_get (map boot_slot slots) k ≡ option_map boot_slot (slice_get slots k) = slice_get-map boot_slot slots k in
-      let f : option_map boot_slot (slice_get slots k) ≡ None = rw there refl in
-      let g : ◌≡◌ {A = Option (ℕ × Content)} (Some (i, content)) None = sym h ∙ (e ∙ f) in
-      cc)
-  go (Some slot) there =
-      let e : slice_get (map boot_slot slots) k ≡ option_map boot_slot (slice_get slots k) = slice_get-map boot_slot slots k in
-      let f : option_map boot_slot (slice_get slots k) ≡ Some (boot_slot slot) = rw there refl in
-      let g : ◌≡◌ {A = Option (ℕ × Content)} (Some (boot_slot slot)) (Some (i, content)) = sym (e ∙ f) ∙ h in
-      let same : boot_slot slot ≡ (i, content) = cc in
-      (slot, there, ap (λ (p : ℕ × Content). p.1) same)
 
 module _ (spec : Spec) (labels : List ℕ) where
   -- from the boot state to the objects
@@ -59,14 +33,6 @@ module _ (spec : Spec) (labels : List ℕ) where
       let same : x ≡ s.0.1 = cc in
       record { place = k.0; item = s.0; there = s.1; by = subst (λ (y : Cap). OfCap spec labels from y e) same of_cap }
   held_object from _ i x e there of_cap = absurd (let w = there.1 in omega arith)
-
-  none_saved : (object : Object) (i : ℕ) (reply : Pending) → Contains (boot_node object).slots (i, SavedReply reply) → ⊥
-  none_saved (CNode bits slots) i reply there =
-      let k = contains_at (map boot_slot slots) (i, SavedReply reply) there in
-      let s = slot_of slots k.0 i (SavedReply reply) k.1 in
-      let here : Capability s.0.1 ≡ SavedReply reply = s.2 in
-      cc
-  none_saved _ i reply there = let w = there.1 in absurd (omega arith)
 
   buffer_object : (from : ℕ) (object : Object) (x : Cap) (e : Edge) → buffer_of (Some object) ≡ Some x → OfCap spec labels from x e → OfObject spec labels from object e
   buffer_object from (Thread tcb) x e there of_cap = inr (inr (record { some = x; there = there; by = of_cap }))
@@ -83,10 +49,6 @@ module _ (spec : Spec) (labels : List ℕ) where
   space_object : (from : ℕ) (object : Object) (e : Edge) → OfOption (OfLink labels from Control) (boot_thread object).space e → OfObject spec labels from object e
   space_object from (Thread tcb) e link = inr (inl link)
   space_object from _ e link = absurd (let w = link.there in cc)
-
-  none_pending : (object : Object) (reply : Pending) → (boot_thread object).pending ≡ Some reply → ⊥
-  none_pending (Thread tcb) reply h = cc
-  none_pending _ reply h = cc
 
   irq_object : (from : ℕ) (object : Object) (e : Edge) → OfOption (OfLink labels from AsyncSend) (boot_irq object) e → OfObject spec labels from object e
   irq_object from (Irq bound) e link = link
@@ -138,16 +100,8 @@ module _ (spec : Spec) (labels : List ℕ) where
         }
         | inr none ↦ absurd (let n = subst (λ (n : ThreadState). n.space ≡ Some d) none there in cc)
       ]
-  auth_source l a m (inr (of_reply (t, reply, there, is, from, to))) =
-      absurd (elim (at_entry boot_thread spec.entries t no_thread) [
-        | inl found ↦ none_pending found.0.object reply (subst (λ (n : ThreadState). n.pending ≡ Some reply) found.2 there)
-        | inr none ↦ (let n = subst (λ (n : ThreadState). n.pending ≡ Some reply) none there in cc)
-      ])
-  auth_source l a m (inr (of_saved (c, i, reply, there, is, from, to))) =
-      absurd (elim (at_entry boot_node spec.entries c no_node) [
-        | inl found ↦ none_saved found.0.object i reply (subst (λ (n : Node). Contains n.slots (i, SavedReply reply)) found.2 there)
-        | inr none ↦ (let c : Contains no_node.slots (i, SavedReply reply) = subst (λ (n : Node). Contains n.slots (i, SavedReply reply)) none there in let w = c.1 in absurd (omega arith))
-      ])
+  auth_source l a m (inr (of_reply (t, reply, there, is, from, to))) = absurd (let none = nothing_pending spec t in cc)
+  auth_source l a m (inr (of_saved (c, i, reply, there, is, from, to))) = absurd (none_saved spec c i reply there)
   auth_source l a m (inr (of_mapped (x, there, conf, from, to))) = absurd (let w = there.1 in omega arith)
   auth_source l a m (inr (of_irq (d, n, there, is, from, to))) =
       elim (at_entry boot_irq spec.entries d None) [

@@ -6,8 +6,6 @@
 
 mod boot_edges;
 mod collect;
-#[cfg(test)]
-mod tests;
 
 pub use boot_edges::direct;
 pub use collect::{with_cap, with_each_slot, with_link, with_optional_cap, with_optional_link};

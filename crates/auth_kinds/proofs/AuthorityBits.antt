@@ -1,6 +1,7 @@
 -- The bits of a set of authorities when one is added, and what two equal sets have in common.
-use Rattle.std.proofs.Common.{◌≡◌, ◌<◌, ◌^◌, ◌*◌, ◌%◌, ◌==◌, ◌||◌, ℕ, Bool, true, false, refl, inl, inr, arith, subst, zero, suc, bit_or, w16}
+use Rattle.std.proofs.Common.{◌≡◌, ◌<◌, ◌^◌, ◌*◌, ◌%◌, ◌==◌, ◌||◌, ℕ, Bool, refl, inl, inr, arith, subst, zero, suc, bit_or, w16}
 use Rattle.std.specs.Int.{bit_at}
+use Rattle.std.proofs.Math.Bool.{or-false, or-true}
 use Rattle.std.proofs.lemmas.Bool.Decides.{eqb_tells}
 use Rattle.std.proofs.lemmas.Nat.{or_lt, pow_below, one_shl}
 use Rattle.std.proofs.lemmas.Nat.Bits.{bit_at_set_same, bit_at_set_other, bit_at-lt, same_from_bits_below}
@@ -22,14 +23,6 @@ number_of-lt Call = omega arith
 number_of-lt Reply = omega arith
 number_of-lt GrantBack = omega arith
 number_of-lt Handle = omega arith
-
-or-true : (b : Bool) → (b || true) ≡ true
-or-true true = refl
-or-true false = refl
-
-or-false : (b : Bool) → (b || false) ≡ b
-or-false true = refl
-or-false false = refl
 
 pub bit_at-added : (bits n k : ℕ) → n < 16 → (bit_at (bit_or bits (1 * 2 ^ n % 65536)) k == 1) ≡ (bit_at bits k == 1 || k == n)
 bit_at-added bits n k l = elim (eqb_tells k n) [

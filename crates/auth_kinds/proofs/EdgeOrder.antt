@@ -1,6 +1,6 @@
 -- Edges: when two are one, and the laws of their order.
-use Rattle.std.proofs.Common.{◌≡◌, ◌⊎◌, ℕ, ◌==◌, ◌&&◌, Bool, true, false, List, [], ◌∷◌, refl, ap, sym, inl, inr, arith, get_or}
-use Rattle.std.proofs.lemmas.Bool.{cases_lt}
+use Rattle.std.proofs.Common.{◌≡◌, ◌⊎◌, ℕ, ◌==◌, ◌&&◌, true, List, [], ◌∷◌, refl, ap, sym, inl, inr, arith, get_or}
+use Rattle.std.proofs.lemmas.Bool.{and_parts, cases_lt, eqb-true}
 use Rattle.auth_kinds.specs.Authorities.{number_of}
 use Rattle.auth_kinds.specs.Edges.{same_edge, AtMost, Before}
 use Rattle.auth_kinds.specs.declared.authority.Authority.{Authority}
@@ -34,21 +34,14 @@ pub edges_same : (d e : Edge) → d.from ≡ e.from → d.authority ≡ e.author
 edges_same d e f a t =
     let g : ◌≡◌ {A = Edge} (record { from = d.from; authority = d.authority; to = d.to }) (record { from = e.from; authority = e.authority; to = e.to }) = rw (f, a, t) refl in g
 
-both : (a b : Bool) → a && b ≡ true → (a ≡ true) × (b ≡ true)
-both true b e = (refl, e)
-both false b e = absurd cc
-
-equal : (a b : ℕ) → a == b ≡ true → a ≡ b
-equal a b h = grind arith
-
 self : (a : ℕ) → a == a ≡ true
 self a = grind arith
 
 pub same_edge_true : (d e : Edge) → same_edge d e ≡ true → d ≡ e
 same_edge_true d e h =
-    let p : (d.from == e.from ≡ true) × (number_of d.authority == number_of e.authority && d.to == e.to ≡ true) = both _ _ h in
-    let q : (number_of d.authority == number_of e.authority ≡ true) × (d.to == e.to ≡ true) = both _ _ p.1 in
-    edges_same d e (equal _ _ p.0) (same_number _ _ (equal _ _ q.0)) (equal _ _ q.1)
+    let p : (d.from == e.from ≡ true) × (number_of d.authority == number_of e.authority && d.to == e.to ≡ true) = and_parts _ _ h in
+    let q : (number_of d.authority == number_of e.authority ≡ true) × (d.to == e.to ≡ true) = and_parts _ _ p.1 in
+    edges_same d e (eqb-true _ _ p.0) (same_number _ _ (eqb-true _ _ q.0)) (eqb-true _ _ q.1)
 
 pub same_edge_self : (e : Edge) → same_edge e e ≡ true
 same_edge_self e = rw (self e.from, self (number_of e.authority), self e.to) refl

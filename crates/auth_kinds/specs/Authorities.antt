@@ -1,5 +1,6 @@
 -- The twelve authorities: each one's number, and the word that texts name it by.
-use Rattle.std.specs.Prelude.{ℕ, List, [], ◌∷◌}
+use Rattle.std.specs.Prelude.{ℕ, List, [], ◌∷◌, Option, find, codes}
+use Rattle.std.specs.Str.{bytes_eq}
 use Rattle.auth_kinds.specs.declared.authority.Authority.{Authority}
 use Rattle.auth_kinds.specs.declared.authority.Authority.TheVariants.{Receive, SyncSend, AsyncSend, Reset, Grant, Read, Write, Control, Call, Reply, GrantBack, Handle}
 
@@ -19,15 +20,23 @@ number_of Handle = 11
 
 -- the bytes of the variant's name
 abbrev pub text_of : Authority → List ℕ
-text_of Receive = 82 ∷ 101 ∷ 99 ∷ 101 ∷ 105 ∷ 118 ∷ 101 ∷ []
-text_of SyncSend = 83 ∷ 121 ∷ 110 ∷ 99 ∷ 83 ∷ 101 ∷ 110 ∷ 100 ∷ []
-text_of AsyncSend = 65 ∷ 115 ∷ 121 ∷ 110 ∷ 99 ∷ 83 ∷ 101 ∷ 110 ∷ 100 ∷ []
-text_of Reset = 82 ∷ 101 ∷ 115 ∷ 101 ∷ 116 ∷ []
-text_of Grant = 71 ∷ 114 ∷ 97 ∷ 110 ∷ 116 ∷ []
-text_of Read = 82 ∷ 101 ∷ 97 ∷ 100 ∷ []
-text_of Write = 87 ∷ 114 ∷ 105 ∷ 116 ∷ 101 ∷ []
-text_of Control = 67 ∷ 111 ∷ 110 ∷ 116 ∷ 114 ∷ 111 ∷ 108 ∷ []
-text_of Call = 67 ∷ 97 ∷ 108 ∷ 108 ∷ []
-text_of Reply = 82 ∷ 101 ∷ 112 ∷ 108 ∷ 121 ∷ []
-text_of GrantBack = 71 ∷ 114 ∷ 97 ∷ 110 ∷ 116 ∷ 66 ∷ 97 ∷ 99 ∷ 107 ∷ []
-text_of Handle = 72 ∷ 97 ∷ 110 ∷ 100 ∷ 108 ∷ 101 ∷ []
+text_of Receive = codes "Receive"
+text_of SyncSend = codes "SyncSend"
+text_of AsyncSend = codes "AsyncSend"
+text_of Reset = codes "Reset"
+text_of Grant = codes "Grant"
+text_of Read = codes "Read"
+text_of Write = codes "Write"
+text_of Control = codes "Control"
+text_of Call = codes "Call"
+text_of Reply = codes "Reply"
+text_of GrantBack = codes "GrantBack"
+text_of Handle = codes "Handle"
+
+-- all of them
+abbrev pub authorities : List Authority
+authorities = Receive ∷ SyncSend ∷ AsyncSend ∷ Reset ∷ Grant ∷ Read ∷ Write ∷ Control ∷ Call ∷ Reply ∷ GrantBack ∷ Handle ∷ []
+
+-- the authority of a word
+abbrev pub authority_of : List ℕ → Option Authority
+authority_of word = find (λ a. bytes_eq (text_of a) word) authorities

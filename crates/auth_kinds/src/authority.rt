@@ -1,8 +1,8 @@
-ghost use Rattle.auth_kinds.specs.Authorities.{number_of, text_of};
+ghost use Rattle.auth_kinds.specs.Authorities.{authority_of, number_of, text_of};
 ghost use Rattle.std.specs.Prelude.{◌≡◌, ◌≤◌, Some, IfSome, IfNone};
 
 /// What one label may do to another. Comparisons are those of the numbers.
-#[derive(Clone, Copy, Debug, PartialEq, Eq, PartialOrd, Ord, Hash)]
+#[derive(Clone, Copy, PartialEq, Eq, PartialOrd, Ord)]
 pub enum Authority {
     Receive,
     SyncSend,
@@ -17,6 +17,22 @@ pub enum Authority {
     GrantBack,
     Handle,
 }
+
+/// All of them, by number.
+const AUTHORITIES: [Authority; 12] = [
+    Authority::Receive,
+    Authority::SyncSend,
+    Authority::AsyncSend,
+    Authority::Reset,
+    Authority::Grant,
+    Authority::Read,
+    Authority::Write,
+    Authority::Control,
+    Authority::Call,
+    Authority::Reply,
+    Authority::GrantBack,
+    Authority::Handle,
+];
 
 impl Authority {
     /// The authority's number, below 12.
@@ -83,23 +99,11 @@ impl Authority {
 
     /// The authority of a word, `None` exactly where no authority has that text.
     pub fn find(word: &[u8]) -> Option<Authority>
-        ensures found { IfSome result (λ a. text_of a ≡ word.now) }
-        ensures all { (a : Authority) → text_of a ≡ word.now → result ≡ Some a }
+        ensures { result ≡ authority_of word.now }
     {
-        match word {
-            b"Receive" => Some(Authority::Receive),
-            b"SyncSend" => Some(Authority::SyncSend),
-            b"AsyncSend" => Some(Authority::AsyncSend),
-            b"Reset" => Some(Authority::Reset),
-            b"Grant" => Some(Authority::Grant),
-            b"Read" => Some(Authority::Read),
-            b"Write" => Some(Authority::Write),
-            b"Control" => Some(Authority::Control),
-            b"Call" => Some(Authority::Call),
-            b"Reply" => Some(Authority::Reply),
-            b"GrantBack" => Some(Authority::GrantBack),
-            b"Handle" => Some(Authority::Handle),
-            _ => None,
-        }
+        AUTHORITIES
+            .iter()
+            .copied()
+            .find(|authority| authority.text().as_bytes() == word)
     }
 }

@@ -1,12 +1,18 @@
 //! Laws over the definitions. These functions do nothing: what they ensure is the law.
 
+ghost use Rattle.auth_kinds.specs.Authorities.{authority_of, text_of};
 ghost use Rattle.auth_kinds.specs.AuthoritySets.{IsSetOf};
 ghost use Rattle.auth_kinds.specs.Edges.{edge, AtMost, Before};
 ghost use Rattle.auth_kinds.specs.Tables.{has, Has, IsSorted};
 ghost use Rattle.auth_kinds.specs.declared.authority.Authority.{Authority};
 ghost use Rattle.auth_kinds.specs.declared.edge.Edge.{Edge};
-ghost use Rattle.std.specs.Prelude.{◌≡◌, ◌⊎◌, ◌↔◌, ℕ, Bool, List as Items};
+ghost use Rattle.std.specs.Prelude.{◌≡◌, ◌⊎◌, ◌↔◌, ℕ, Bool, Some, List as Items};
 ghost use Rattle.std.specs.List.{Contains};
+
+/// Each authority is that of its word.
+pub fn authorities_are_their_words()
+    ensures { (a : Authority) → authority_of (text_of a) ≡ Some a }
+{}
 
 /// Two sets of the authorities that pass one test are one set.
 pub fn sets_are_their_members()

@@ -12,14 +12,13 @@ mod object_labels;
 mod policy;
 mod set;
 mod table;
-#[cfg(test)]
-mod tests;
 
 pub use authority::Authority;
 pub use edge::Edge;
 pub use growth::{with_edge, with_set};
 pub use laws::{
-    edges_are_ordered, has_is_membership, sets_are_their_members, tables_are_their_edges,
+    authorities_are_their_words, edges_are_ordered, has_is_membership, sets_are_their_members,
+    tables_are_their_edges,
 };
 pub use object_labels::Labels;
 pub use policy::{Policy, is_label_name};

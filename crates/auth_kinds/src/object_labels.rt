@@ -4,7 +4,7 @@ ghost use Rattle.std.specs.Prelude.{◌≡◌};
 use cam_base::List;
 
 /// The label of each object, by its place in the spec.
-#[derive(Debug, Drop)]
+#[derive(Drop)]
 pub struct Labels {
     pub by_object: List<u32>,
 }

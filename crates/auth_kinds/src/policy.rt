@@ -8,7 +8,7 @@ use cam_base::{List, Name, Text, is_word_byte};
 
 /// Labels by number and name, the labels of objects, and the edges that are allowed. `IsPolicy` of `specs/` says what
 /// whoever makes a policy keeps: no number and no name stands twice, and every number that is used has a label.
-#[derive(Debug, Drop)]
+#[derive(Drop)]
 pub struct Policy {
     pub labels: List<(u32, Text)>,
     pub objects: List<(Name, u32)>,

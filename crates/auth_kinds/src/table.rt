@@ -8,7 +8,7 @@ use std::alloc::Global;
 use std::marker::Model;
 
 /// Edges in order, each once. Contracts see it as the list of its edges.
-#[derive(Debug, Drop)]
+#[derive(Drop)]
 pub struct EdgeTable {
     edges: Vec<Edge>,
 }
@@ -37,7 +37,8 @@ impl EdgeTable {
 
     /// The table of the edges of a slice, in any order; an edge that stands twice counts once.
     pub fn from_list(alloc: Global, edges: &[Edge]) -> Result<EdgeTable, NoMemory>
-        ensures { IfOk result (λ table. (e : Edge) → has table e ≡ has edges.now e) }
+        ensures sorted { IfOk result IsSorted }
+        ensures same { IfOk result (λ table. (e : Edge) → has table e ≡ has edges.now e) }
     {
         let mut sorted = edges.to_vec(alloc)?;
         sorted.sort_unstable();

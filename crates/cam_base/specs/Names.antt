@@ -12,6 +12,11 @@ abbrev pub is_name : List ℕ → Bool
 is_name [] = false
 is_name (b ∷ bs) = leb (length bs) 126 && (is_letter b && list_all is_word_byte bs)
 
+-- a word of any length: a letter or an underscore, then letters, digits and underscores
+abbrev pub is_word : List ℕ → Bool
+is_word [] = false
+is_word (b ∷ bs) = is_letter b && list_all is_word_byte bs
+
 -- the bytes that a name shows: a name that keeps no bytes stands for _
 abbrev pub shown : List ℕ → List ℕ
 shown [] = 95 ∷ []

@@ -2,7 +2,7 @@ ghost use Rattle.cam_base.specs.Codes.{number_of, title_of};
 ghost use Rattle.std.specs.Prelude.{◌≡◌};
 
 /// What can be wrong with a source, one variant a title; the order is that of the numbers.
-#[derive(Clone, Copy, Debug, PartialEq, Eq, PartialOrd, Ord)]
+#[derive(Clone, Copy, Debug)]
 pub enum Code {
     /// A byte that begins no token.
     Byte,

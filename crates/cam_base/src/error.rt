@@ -5,7 +5,7 @@ use std::alloc::{AllocError, AllocFailed};
 use thiserror::Error;
 
 /// Want of memory.
-#[derive(Clone, Copy, Debug, PartialEq, Eq, Error)]
+#[derive(Clone, Copy, Debug, Error)]
 #[error("no memory")]
 pub struct NoMemory;
 
@@ -26,9 +26,11 @@ impl<T: Drop> From<AllocFailed<T>> for NoMemory {
 }
 
 /// Why a call that reads an input gave up: a fault of the input, or want of memory.
-#[derive(Debug, Drop, PartialEq, Eq)]
+#[derive(Debug, Drop, Error)]
 pub enum Refused<F> {
+    #[error("a fault of the input")]
     Fault(F),
+    #[error("no memory")]
     NoMemory,
 }
 

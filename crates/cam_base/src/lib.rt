@@ -11,8 +11,6 @@ mod name;
 mod number;
 mod path;
 mod place;
-#[cfg(test)]
-mod tests;
 mod text;
 mod text_fault;
 mod token;
@@ -20,7 +18,7 @@ mod token;
 pub use code::Code;
 pub use error::{NoMemory, Refused};
 pub use list::List;
-pub use name::{BadName, Name, is_name, is_word_byte};
+pub use name::{BadName, Name, is_name, is_word, is_word_byte};
 pub use number::{decimal, hex, read_number};
 pub use path::Path;
 pub use place::{Fault, Place};

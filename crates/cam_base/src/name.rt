@@ -1,4 +1,4 @@
-ghost use Rattle.cam_base.specs.Names.{is_letter, is_word_byte, is_name};
+ghost use Rattle.cam_base.specs.Names.{is_letter, is_word_byte, is_name, is_word};
 ghost use Rattle.cam_base.specs.declared.error.Refused.TheVariants.{Fault};
 ghost use Rattle.std.proofs.Common.{rules};
 ghost use Rattle.std.specs.Cmp.{partial_order_from_own_ties};
@@ -19,7 +19,7 @@ use std::marker::Model;
 use thiserror::Error;
 
 /// The bytes are no identifier of 1 to 127 bytes.
-#[derive(Clone, Copy, Debug, PartialEq, Eq, Error)]
+#[derive(Clone, Copy, Debug, Error)]
 #[error("not a name")]
 pub struct BadName;
 
@@ -59,6 +59,16 @@ fn all_word_bytes(bytes: &[u8]) -> bool
     bytes.iter().all(|b| is_word_byte(*b))
 }
 
+/// Whether the bytes are an identifier of any length.
+pub fn is_word(bytes: &[u8]) -> bool
+    ensures { result ≡ is_word bytes.now }
+{
+    match bytes {
+        [] => false,
+        [first, rest @ ..] => is_letter(*first) && all_word_bytes(rest),
+    }
+}
+
 /// Whether the bytes are an identifier of 1 to 127 bytes.
 pub fn is_name(bytes: &[u8]) -> bool
     ensures { result ≡ is_name bytes.now }
@@ -71,6 +81,11 @@ pub fn is_name(bytes: &[u8]) -> bool
 
 /// The blank name that fills the unused places of a path: it takes no memory, and shows as `_`.
 impl MadeWith<Global> for Name {
+    ghost use Rattle.cam_base.specs.Names.{shown};
+    ghost use Rattle.std.specs.Prelude.{◌≡◌, []};
+
+    ghost is_made_with = { λ name. name ≡ shown [] };
+
     fn made_with(alloc: Global) -> Name {
         Name {
             text: Text::empty(alloc),

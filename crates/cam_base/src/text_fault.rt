@@ -4,7 +4,7 @@ ghost use Rattle.std.specs.Prelude.{◌≡◌};
 use crate::Text;
 
 /// What can be wrong with a text that isn't a source: capDL, a policy, a certificate, steps.
-#[derive(Clone, Copy, Debug, PartialEq, Eq, PartialOrd, Ord)]
+#[derive(Clone, Copy, Debug)]
 pub enum TextCode {
     /// A byte, number or text of capDL that is no token.
     CapdlByte,
@@ -103,7 +103,7 @@ impl TextCode {
 }
 
 /// A fault of a text, from its first byte to the byte past its last, with the name that it speaks of or an empty one.
-#[derive(Debug, Drop, PartialEq, Eq)]
+#[derive(Debug, Drop)]
 pub struct TextFault {
     pub code: TextCode,
     pub first: u64,

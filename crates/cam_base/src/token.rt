@@ -1,7 +1,7 @@
 use crate::{List, Place};
 
 /// A mark of the language.
-#[derive(Clone, Copy, Debug, PartialEq, Eq)]
+#[derive(Clone, Copy, Debug)]
 pub enum Mark {
     /// `{`
     BraceL,
@@ -32,7 +32,7 @@ pub enum Mark {
 }
 
 /// A word that can't be a name, one variant a word.
-#[derive(Clone, Copy, Debug, PartialEq, Eq)]
+#[derive(Clone, Copy, Debug)]
 pub enum Keyword {
     /// `assembly`
     KAssembly,
@@ -95,7 +95,7 @@ pub enum Keyword {
 }
 
 /// The kind of a token.
-#[derive(Clone, Copy, Debug, PartialEq, Eq)]
+#[derive(Clone, Copy, Debug)]
 pub enum Kind {
     /// An identifier that is no keyword.
     Word,
@@ -110,14 +110,14 @@ pub enum Kind {
 }
 
 /// A token: its kind, and the place of its bytes.
-#[derive(Clone, Copy, Debug, PartialEq, Eq)]
+#[derive(Clone, Copy)]
 pub struct Token {
     pub kind: Kind,
     pub place: Place,
 }
 
 /// The tokens of a file, in order.
-#[derive(Debug, Drop)]
+#[derive(Drop)]
 pub struct Tokens {
     pub list: List<Token>,
 }

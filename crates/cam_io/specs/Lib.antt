@@ -9,3 +9,4 @@ pub mod Reading
 pub mod Scripts
 pub mod Sinks
 pub mod Whole
+pub use Rattle.cam_base.specs.Texts

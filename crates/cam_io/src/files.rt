@@ -7,12 +7,12 @@ ghost use Rattle.std.specs.Prelude.{◌<◌, ℕ, List as Items, Option, length,
 use thiserror::Error;
 
 /// A read, a begin or a write failed, and its count of faults rose.
-#[derive(Clone, Copy, Debug, PartialEq, Eq, Error)]
+#[derive(Clone, Copy, Debug, Error)]
 #[error("failed")]
 pub struct Failed;
 
 /// What a read found.
-#[derive(Clone, Copy, Debug, PartialEq, Eq)]
+#[derive(Clone, Copy)]
 pub enum Got {
     /// There is no file of this name.
     Absent,

@@ -1,6 +1,6 @@
 ghost use Rattle.cam_io.specs.Causes.{Rose, one_more};
-ghost use Rattle.cam_io.specs.Reading.{TookAtMost};
-ghost use Rattle.std.specs.Prelude.{◌≡◌, ◌<◌, ◌≤◌, length, IfOk};
+ghost use Rattle.cam_io.specs.Reading.{TookAtMost, KeepsFiles};
+ghost use Rattle.std.specs.Prelude.{◌≡◌, ◌<◌, ◌≤◌, length, IfOk, OnOk, OnErr};
 
 use crate::{Failed, Files, Got};
 use std::fs::File;
@@ -117,7 +117,14 @@ impl Files for HostFiles {
 
     ghost faults = { λ s _. s.faults };
 
-    fn read(&mut self, name: &str, at: u64, buf: &mut [u8]) -> Result<Got, Failed> {
+    fn read(&mut self, name: &str, at: u64, buf: &mut [u8]) -> Result<Got, Failed>
+        requires { 0 < length buf.old }
+        ensures kept { KeepsFiles (λ _. None) (λ s _. s.faults) self.old self.new }
+        ensures failed { OnErr result (Rose self.old.faults self.new.faults) }
+        ensures some { IfOk result (TookAtMost (length buf.new)) }
+        ensures quiet { OnOk result (self.new.faults ≡ self.old.faults) }
+        ensures counted { OnErr result (self.new.faults ≡ one_more self.old.faults) }
+    {
         let open = self.open.take();
         match read_named(&self.rt, open, name, at, buf) {
             Ok((got, open)) => {

@@ -1,7 +1,7 @@
 ghost use Rattle.cam_io.specs.Causes.{Rose, one_more};
 ghost use Rattle.cam_io.specs.Host.{host_sink};
-ghost use Rattle.cam_io.specs.Sinks.{with_begun};
-ghost use Rattle.std.specs.Prelude.{◌≡◌, ◌<◌, ◌≤◌, ℕ, false, length, IfOk, OnOk, OnErr};
+ghost use Rattle.cam_io.specs.Sinks.{IsOpen, appended, with_begun};
+ghost use Rattle.std.specs.Prelude.{◌≡◌, ◌<◌, ◌≤◌, ℕ, false, length, take, IfOk, OnOk, OnErr};
 
 use crate::{Failed, Outputs};
 use std::fs;
@@ -97,14 +97,35 @@ impl Outputs for HostOutputs {
 
     ghost faults = { λ s. s.faults };
 
-    fn begin(&mut self, channel: u8, name: &str) -> Result<(), Failed> {
+    fn begin(&mut self, channel: u8, name: &str) -> Result<(), Failed>
+        requires low { 2 ≤ channel }
+        requires high { channel ≤ 5 }
+        requires fresh { (host_sink self.old.files).begun channel ≡ false }
+        ensures ok { OnOk result (host_sink self.new.files ≡ with_begun (host_sink self.old.files) channel name.now) }
+        ensures err { OnErr result (host_sink self.new.files ≡ host_sink self.old.files) }
+        ensures later { self.old.faults ≤ self.new.faults }
+        ensures failed { OnErr result (Rose self.old.faults self.new.faults) }
+        ensures quiet { OnOk result (self.new.faults ≡ self.old.faults) }
+        ensures counted { OnErr result (self.new.faults ≡ one_more self.old.faults) }
+    {
         match begin_file(&self.rt, &mut self.files, channel as usize, name) {
             Ok(()) => Ok(()),
             Err(Failed) => Err(self.fault()),
         }
     }
 
-    fn write(&mut self, channel: u8, piece: &[u8]) -> Result<usize, Failed> {
+    fn write(&mut self, channel: u8, piece: &[u8]) -> Result<usize, Failed>
+        requires open { IsOpen (host_sink self.old.files) channel }
+        requires some { 0 < length piece.now }
+        ensures some { IfOk result (λ n. 0 < n) }
+        ensures at_most { IfOk result (λ n. n ≤ length piece.now) }
+        ensures ok { IfOk result (λ n. host_sink self.new.files ≡ appended (host_sink self.old.files) channel (take n piece.now)) }
+        ensures err { OnErr result (host_sink self.new.files ≡ host_sink self.old.files) }
+        ensures later { self.old.faults ≤ self.new.faults }
+        ensures failed { OnErr result (Rose self.old.faults self.new.faults) }
+        ensures quiet { OnOk result (self.new.faults ≡ self.old.faults) }
+        ensures counted { OnErr result (self.new.faults ≡ one_more self.old.faults) }
+    {
         match write_once(&self.rt, &self.files, channel, piece) {
             Ok(count) => Ok(count),
             Err(Failed) => Err(self.fault()),

@@ -31,6 +31,3 @@ pub use mem_outputs::MemOutputs;
 pub use outputs::Outputs;
 pub use whole::{WholeError, read_whole};
 pub use write::{write_all, write_parts};
-
-#[cfg(test)]
-mod tests;

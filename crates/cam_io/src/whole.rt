@@ -12,7 +12,7 @@ use thiserror::Error;
 const CHUNK: usize = 4096;
 
 /// Why a file wasn't read whole.
-#[derive(Clone, Copy, Debug, PartialEq, Eq, Error)]
+#[derive(Clone, Copy, Debug, Error)]
 pub enum WholeError {
     /// There is no file of this name.
     #[error("no such file")]

@@ -1,23 +1,19 @@
-//! Tests that cross crates: whole commands over files and outputs in memory.
+//! What only a call in code can show, once each: that calls succeed with ample memory, and that laws are there to be called.
+//!
+//! Whole commands are rows of `camkes_rows`; nothing that a row can say stands here.
 #![tactic(auto)]
 
 #[cfg(test)]
-mod commands;
+mod connectors;
 #[cfg(test)]
-mod first_capdl;
+mod edges;
 #[cfg(test)]
-mod hierarchies;
+mod laws;
 #[cfg(test)]
-mod imports;
-#[cfg(test)]
-mod layouts;
+mod memory;
 #[cfg(test)]
 mod names;
 #[cfg(test)]
-mod outputs_and_inputs_fail;
+mod numbers;
 #[cfg(test)]
-mod program_words;
-#[cfg(test)]
-mod settings;
-#[cfg(test)]
-mod whole_language;
+mod paths;

@@ -1,56 +1,61 @@
-//! Faults of names and of types, and sources without a system.
+//! Names, paths and texts.
 
-use crate::commands::words;
-use cam_io::{MemFiles, MemOutputs};
-use camkes_tool::run;
+use cam_base::{BadName, Name, Path, Refused, Text, is_name};
 use std::alloc::Global;
 use std::test::Fail;
 
-/// The status and whether this line is answered for a root and the file that it may import.
-pub fn answers(
-    alloc: Global,
-    root: &str,
-    other: &str,
-    status: u8,
-    line: &str,
-) -> Result<bool, Fail> {
-    let compile = words(alloc, &["compile", "a.camkes", "a"])?;
-    let mut files = MemFiles::new(alloc);
-    files.add("a.camkes", root.as_bytes())?;
-    files.add("b.camkes", other.as_bytes())?;
-    let mut out = MemOutputs::new(alloc, 262_144)?;
-    let answer = run(alloc, &compile, &mut files, &mut out);
-    Ok(answer == status && out.bytes(1) == line.as_bytes())
+fn push(alloc: Global, path: &mut Path, name: &str) -> Result<(), Fail> {
+    path.push(Name::new(alloc, name.as_bytes())?)?;
+    Ok(())
 }
 
-#[test]
-fn empty_sources(rt: HostRuntime) -> Result<(), Fail> {
-    let none = "a.camkes:0-0: E8 NoAssembly\n";
-    for (root, status, line) in [
-        ("", 1, none),
-        ("// nothing", 1, none),
-        ("assembly { composition { } }", 0, ""),
-    ] {
-        assert!(rt; answers(rt.alloc(), root, "", status, line)?, "{root}");
+/// The path `on.m.i.s`.
+fn sample(alloc: Global) -> Result<Path, Fail> {
+    let mut path = Path::empty(alloc);
+    for name in ["on", "m", "i", "s"] {
+        push(alloc, &mut path, name)?;
     }
+    Ok(path)
+}
+
+#[test]
+fn path_text(rt: HostRuntime) -> Result<(), Fail> {
+    let path = sample(rt.alloc())?;
+    let text = path.text(rt.alloc())?;
+    assert!(rt; text.as_bytes() == b"on.m.i.s".as_slice());
     Ok(())
 }
 
 #[test]
-fn mutual_recursion(rt: HostRuntime) -> Result<(), Fail> {
-    let root =
-        "import \"b.camkes\"; component A { composition { component B b; } } assembly { composition { component A a; } }";
-    let other = "import \"a.camkes\"; component B { composition { component A a; } }";
-    let line = "a.camkes:57-58: E11 Recursive B\n";
-    assert!(rt; answers(rt.alloc(), root, other, 1, line)?);
+fn path_copy(rt: HostRuntime) -> Result<(), Fail> {
+    let path = sample(rt.alloc())?;
+    let copy = path.copy(rt.alloc())?;
+    assert!(rt; copy.names() == path.names());
     Ok(())
 }
 
 #[test]
-fn mismatched_procedures(rt: HostRuntime) -> Result<(), Fail> {
-    let root =
-        "procedure P { } procedure Q { } component A { uses P p; } component B { provides Q p; } assembly { composition { component A a; component B b; connection seL4RPCCall k(from a.p, to b.p); } }";
-    let line = "a.camkes:181-184: E15 TypeMismatch p\n";
-    assert!(rt; answers(rt.alloc(), root, "", 1, line)?);
+fn text_copy(rt: HostRuntime) -> Result<(), Fail> {
+    let text = Text::new(rt.alloc(), b"on.m")?;
+    let copy = text.copy(rt.alloc())?;
+    assert!(rt; copy == text);
     Ok(())
+}
+
+#[test]
+fn name_copy(rt: HostRuntime) -> Result<(), Fail> {
+    let name = Name::new(rt.alloc(), b"on")?;
+    let copy = name.copy(rt.alloc())?;
+    assert!(rt; copy.as_bytes() == b"on".as_slice());
+    Ok(())
+}
+
+fn is_bad(alloc: Global, bytes: &[u8]) -> bool {
+    matches!(Name::new(alloc, bytes), Err(Refused::Fault(BadName)))
+}
+
+#[test]
+fn bad_names(rt: HostRuntime) {
+    assert!(rt; is_bad(rt.alloc(), b"9a") && is_bad(rt.alloc(), b""));
+    assert!(rt; is_name(&[b'x'; 127]) && !is_name(&[b'x'; 128]));
 }

@@ -1,5 +1,5 @@
 -- When each answer comes, and what it does to the outputs.
-use Rattle.std.specs.Prelude.{◌≡◌, ◌≤◌, ◌⊎◌, ℕ, List, [], ◌∷◌, ◌++◌, Option, None, Some, Ok, Err, codes, string_bytes}
+use Rattle.std.specs.Prelude.{◌≡◌, ◌≤◌, ◌⊎◌, ℕ, Bool, true, false, List, [], ◌∷◌, ◌++◌, Option, None, Some, Ok, Err, codes, string_bytes}
 use Rattle.cam_base.specs.declared.place.Fault.{Fault}
 use Rattle.cam_io.specs.Causes.{Rose}
 use Rattle.cam_io.specs.Contents.{Contents}
@@ -21,15 +21,17 @@ use Rattle.camkes_tool.specs.Lines.{fault_line, read_fault_line, no_memory_line}
 use Rattle.camkes_tool.specs.declared.answer.Answer.{Answer}
 use Rattle.camkes_tool.specs.declared.answer.Answer.TheVariants.{Compiled, Faulted, Usage, ReadFault, NoMemory}
 
--- The answer is right for this root and base, these files, and these counts of read faults before and now. The cases
--- exclude each other, so each comes exactly where it says, and yields to a read fault and to want of memory alone.
+-- The answer is right for this root and base, these files, and these counts of read faults before and now. In given contents
+-- there is one such answer, aside from read faults and want of memory (`answers_are_one` in src/laws.rt), so each comes
+-- exactly where it says.
 abbrev pub FitsRoot : List ℕ → List ℕ → Option Contents → (List ℕ → ℕ) → (List ℕ → ℕ) → Answer → Type 0
 FitsRoot root base contents before now (Compiled name spec) =
     (string_bytes name ≡ base ++ codes ".cdl")
     × ((source : Source) × IsLoaded contents root (Ok source) × (first_fault source ≡ None) × IsSpecOf source spec)
 FitsRoot root base contents before now (Faulted file fault) = IsFaulted first_fault root contents fault file
 FitsRoot root base contents before now Usage = ⊥
-FitsRoot root base contents before now (ReadFault file) = IsLoaded contents root (Err (error.ReadFault file)) × Rose (before file) (now file)
+FitsRoot root base contents before now (ReadFault file) =
+    IsLoaded contents root (Err (error.ReadFault file)) × Rose (before file) (now file)
 FitsRoot root base contents before now NoMemory = Unit {0}
 
 -- words that are no command are answered by the usage line, but for want of memory
@@ -61,6 +63,19 @@ abbrev pub compiled_as : Answer → Option (List ℕ × Spec)
 compiled_as (Compiled name spec) = Some (string_bytes name, spec)
 compiled_as _ = None
 
+-- the fault of an answer that names one, and its file
+abbrev pub faulted_as : Answer → Option (List ℕ × Fault)
+faulted_as (Faulted file fault) = Some (file, fault)
+faulted_as _ = None
+
+-- whether an answer may come in place of another: a read fault, or want of memory
+abbrev pub yields : Answer → Bool
+yields (Compiled name spec) = false
+yields (Faulted file fault) = false
+yields Usage = false
+yields (ReadFault file) = true
+yields NoMemory = true
+
 -- what is done
 abbrev pub script : Answer → List Act
 script (Compiled name spec) = Begin 2 (string_bytes name) ∷ Write 2 (canonical spec) ∷ []
@@ -69,8 +84,16 @@ script Usage = Write 1 usage_line ∷ []
 script (ReadFault file) = Write 1 (read_fault_line file) ∷ []
 script NoMemory = Write 1 no_memory_line ∷ []
 
+-- Two answers are one: they have one status and one script, and write one spec under one name or name one fault.
+pub record AreOne (a b : Answer) : Type 0 where
+  pub status : status_of a ≡ status_of b
+  pub script : script a ≡ script b
+  pub compiled : compiled_as a ≡ compiled_as b
+  pub faulted : faulted_as a ≡ faulted_as b
+
 -- The status is the answer's and all of its script is done; or it is 5, the outputs' count rose, and the script was cut
 -- short.
 pub record Tells (answer : Answer) (status : ℕ) (old new : Sink) (before now : ℕ) : Type 0 where
   pub later : before ≤ now
-  pub told : ((status ≡ status_of answer) × (new ≡ after old (script answer))) ⊎ ((status ≡ 5) × Rose before now × CutShort old (script answer) new)
+  pub told : ((status ≡ status_of answer) × (new ≡ after old (script answer)))
+      ⊎ ((status ≡ 5) × Rose before now × CutShort old (script answer) new)

@@ -2,3 +2,10 @@ pub mod Answers
 pub mod Channels
 pub mod Deciding
 pub mod Lines
+pub mod Statuses
+pub use Rattle.cam_io.specs.Causes
+pub use Rattle.cam_io.specs.Contents
+pub use Rattle.cam_io.specs.Reading
+pub use Rattle.cam_io.specs.Sinks
+pub use Rattle.cap_model.specs.Canonical
+pub use Rattle.command_words.specs.Words

@@ -14,6 +14,7 @@ mod top;
 
 pub use answer::Answer;
 pub use laws::{
-    failures_have_a_cause, refusals_touch_standard_error_alone, success_writes_a_whole_text,
+    answers_are_one, failures_have_a_cause, refusals_touch_standard_error_alone,
+    statuses_are_exact, success_writes_a_whole_text,
 };
 pub use top::run;

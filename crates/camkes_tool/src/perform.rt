@@ -36,7 +36,8 @@ fn space_before(name: &[u8]) -> &[u8]
 }
 
 fn write_fault<O: Outputs>(out: &mut O, file: &[u8], fault: &Fault) -> Result<(), Failed>
-    ensures { Writes result 1 (fault_line file.now fault.now) (O.sink out.old) (O.sink out.new) (O.faults out.old) (O.faults out.new) }
+    ensures { Writes result 1 (fault_line file.now fault.now)
+        (O.sink out.old) (O.sink out.new) (O.faults out.old) (O.faults out.new) }
 {
     let mut first = Buffer::new();
     let mut end = Buffer::new();
@@ -63,7 +64,8 @@ fn write_fault_parts<O: Outputs>(
 ) -> Result<(), Failed>
     ensures { Writes result 1 (together (
         file.now ∷ codes ":" ∷ first.now ∷ codes "-" ∷ end.now ∷ codes ": E" ∷ number.now ∷ codes " " ∷ title.now
-        ∷ space_before name.now ∷ name.now ∷ codes "\n" ∷ [])) (O.sink out.old) (O.sink out.new) (O.faults out.old) (O.faults out.new) }
+        ∷ space_before name.now ∷ name.now ∷ codes "\n" ∷ []))
+        (O.sink out.old) (O.sink out.new) (O.faults out.old) (O.faults out.new) }
 {
     write_parts(
         out,

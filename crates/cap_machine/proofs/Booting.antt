@@ -1,5 +1,5 @@
 -- The boot state of a kept spec: it can be made, and fits the spec.
-use Rattle.std.proofs.Common.{◌≡◌, ◌<◌, ◌≤◌, ◌^◌, ◌&&◌, ℕ, Bool, true, nat_lt, leb, List, [], ◌∷◌, map, length, slice_get, Option, Some, None, refl, sym, ap, subst, inl, inr, get_or, arith, ◌∙◌}
+use Rattle.std.proofs.Common.{◌≡◌, ◌≤◌, ◌^◌, ◌&&◌, ℕ, Bool, true, nat_lt, leb, List, [], ◌∷◌, map, slice_get, Option, Some, None, refl, sym, ap, subst, inl, inr, get_or, arith}
 use Rattle.std.proofs.lemmas.Bool.{and_parts}
 use Rattle.std.proofs.lemmas.List.{length-map}
 use Rattle.std.proofs.lemmas.List.Sums.{AllPass-from_list_all}
@@ -17,10 +17,11 @@ use Rattle.cap_model.specs.declared.state.Content.{Content}
 use Rattle.cap_model.specs.declared.state.Content.TheVariants.{Capability}
 use Rattle.cap_model.specs.declared.state.ThreadState.{ThreadState}
 use Rattle.cap_model.specs.FitsSpec.{ContentFits, NodeFits, ThreadFits, IrqFits, FitsSpec}
-use Rattle.cap_model.specs.Kept.{rise, if_any, fits, fits_kind, fits_as, keeps_slots, keeps_cnode, keeps, IsKept}
+use Rattle.cap_model.specs.Kept.{rise, if_any, fits, fits_as, keeps_slots, keeps_cnode, keeps, IsKept}
 use Rattle.cap_model.specs.Kinds.{kind_of_object, kind_at, is_at, is_space_root, same_kind}
 use Rattle.cap_model.specs.State.{Node, no_node, no_thread, boot, boot_slot, boot_node, boot_thread, boot_irq}
 use Rattle.cap_model.proofs.BootPlaces.{at_entry}
+use Rattle.cap_model.proofs.Kept.{all_at, fits_below}
 use Rattle.cap_machine.specs.Progress.{Bootable, NextsFit}
 use Rattle.cap_machine.proofs.Fitting.{first_or_behind}
 
@@ -82,25 +83,13 @@ boot_nexts_fit entries all = record {
 
 -- the boot state fits
 
-object_there : (spec : Spec) (o : ℕ) (kind : Option Kind) → kind_at spec o ≡ kind → (x : Cap) → fits_kind kind x ≡ true → o < length spec.entries
-object_there spec o kind h x fine = go (slice_get spec.entries o) refl where
-  go : (e : Option Entry) → slice_get spec.entries o ≡ e → o < length spec.entries
-  go (Some entry) there = slice_get_within spec.entries o entry there
-  go None there =
-      let none : kind_at spec o ≡ None = rw there refl in
-      let same : kind ≡ None = sym h ∙ none in
-      absurd (let bad : fits_kind None x ≡ true = subst (λ (k : Option Kind). fits_kind k x ≡ true) same fine in cc)
-
-in_spec : (spec : Spec) (x : Cap) → fits spec x ≡ true → x.object < length spec.entries
-in_spec spec x fine = object_there spec x.object (kind_at spec x.object) refl x fine
-
 slots_in_spec : (spec : Spec) (threads : List ThreadState) (slots : List (ℕ × Cap)) → list_all (λ (slot : ℕ × Cap). fits spec slot.1) slots ≡ true → (i : ℕ) (content : Content)
     → Contains (map boot_slot slots) (i, content) → ContentFits spec threads content
 slots_in_spec spec threads [] fit i content there = absurd (let w = there.1 in omega arith)
 slots_in_spec spec threads (x ∷ xs) fit i content there =
     let both = and_parts (fits spec x.1) (list_all (λ (slot : ℕ × Cap). fits spec slot.1) xs) fit in
     elim (first_or_behind (boot_slot x) (map boot_slot xs) (i, content) there) [
-      | inl same ↦ let is : Capability x.1 ≡ content = ap (λ (p : ℕ × Content). p.1) same in subst (λ (z : Content). ContentFits spec threads z) is (in_spec spec x.1 both.0)
+      | inl same ↦ let is : Capability x.1 ≡ content = ap (λ (p : ℕ × Content). p.1) same in subst (λ (z : Content). ContentFits spec threads z) is (fits_below spec x.1 both.0)
       | inr more ↦ slots_in_spec spec threads xs both.1 i content more
     ]
 
@@ -142,11 +131,6 @@ irq_fits spec d (Irq notification) kept is =
     record { kind = inr (kind_is spec d kinds.Irq refl is); notification = λ n h. from_option (is_at spec kinds.Notification) notification n kept h }
 irq_fits spec d _ kept is = record { kind = inl refl; notification = λ n h. absurd cc }
 
-entry_kept : (spec : Spec) → IsKept spec → (o : ℕ) (entry : Entry) → slice_get spec.entries o ≡ Some entry → keeps spec entry.object ≡ true
-entry_kept spec kept o entry h =
-    subst (λ (e : Entry). keeps spec e.object ≡ true) (get_or_from_slice_get spec.entries o entry entry h)
-    (AllPass-from_list_all (λ (e : Entry). keeps spec e.object) spec.entries kept.objects o entry (slice_get_within spec.entries o entry h))
-
 pub boot_fits : (spec : Spec) → IsKept spec → FitsSpec spec (boot spec)
 boot_fits spec kept = record {
   as_many_nodes = length-map spec.entries (λ (e : Entry). boot_node e.object);
@@ -154,18 +138,18 @@ boot_fits spec kept = record {
   as_many_irqs = length-map spec.entries (λ (e : Entry). boot_irq e.object);
   nodes = λ c. elim (at_entry boot_node spec.entries c no_node) [
     | inl found ↦ subst (λ (n : Node). NodeFits spec (boot spec).threads c n) (sym found.2)
-        (node_fits spec (boot spec).threads c found.0.object (entry_kept spec kept c found.0 found.1) (there_is spec c found.0 found.1))
+        (node_fits spec (boot spec).threads c found.0.object (all_at (λ (e : Entry). keeps spec e.object) spec.entries c found.0 kept.objects found.1) (there_is spec c found.0 found.1))
     | inr none ↦ record { kind = inl none; slots = λ i content there. absurd (let c : Contains no_node.slots (i, content) = subst (λ (n : Node). Contains n.slots (i, content)) none there in let w = c.1 in omega arith) }
   ];
   threads = λ t. elim (at_entry boot_thread spec.entries t no_thread) [
     | inl found ↦ subst (λ (x : ThreadState). ThreadFits spec (boot spec).threads t x) (sym found.2)
-        (thread_fits spec (boot spec).threads t found.0.object (entry_kept spec kept t found.0 found.1) (there_is spec t found.0 found.1))
+        (thread_fits spec (boot spec).threads t found.0.object (all_at (λ (e : Entry). keeps spec e.object) spec.entries t found.0 kept.objects found.1) (there_is spec t found.0 found.1))
     | inr none ↦ subst (λ (x : ThreadState). ThreadFits spec (boot spec).threads t x) (sym none)
         (record { kind = inl refl; root = λ c h. absurd cc; space = λ d h. absurd cc; pending = λ reply h. absurd cc; holder = λ h. absurd cc })
   ];
   irqs = λ d. elim (at_entry boot_irq spec.entries d None) [
     | inl found ↦ subst (λ (x : Option ℕ). IrqFits spec d x) (sym found.2)
-        (irq_fits spec d found.0.object (entry_kept spec kept d found.0 found.1) (there_is spec d found.0 found.1))
+        (irq_fits spec d found.0.object (all_at (λ (e : Entry). keeps spec e.object) spec.entries d found.0 kept.objects found.1) (there_is spec d found.0 found.1))
     | inr none ↦ subst (λ (x : Option ℕ). IrqFits spec d x) (sym none) (record { kind = inl refl; notification = λ n h. absurd cc })
   ];
   mapped = λ added there. absurd (let w = there.1 in omega arith);

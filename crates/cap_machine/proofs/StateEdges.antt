@@ -2,7 +2,7 @@
 use Rattle.std.proofs.Common.{◌≡◌, ◌⊎◌, ◌↔◌, ℕ, List, [], slice_get, get_or, Option, Some, None, refl, sym, inl, inr, arith, subst, suc, zero, ◌∷◌, ◌∙◌}
 use Rattle.std.specs.List.{Contains}
 use Rattle.std.proofs.lemmas.Option.{get_or_from_slice_get}
-use Rattle.auth_graph.proofs.BootSources.{contains_at, at_contains}
+use Rattle.cap_model.proofs.BootPlaces.{contains_at, at_contains}
 use Rattle.auth_graph.specs.Sources.{OfCap}
 use Rattle.auth_kinds.specs.Adds.{Adds}
 use Rattle.auth_kinds.specs.Edges.{edge}

@@ -1,5 +1,6 @@
 -- The function `decide` goes on exactly where the table of steps has a next state, and the change leads there.
 use Rattle.std.proofs.Common.{◌≡◌, ◌≢◌, ℕ, ◌==◌, Bool, true, false, ◌&&◌, ◌||◌, not, Option, Some, None, Result, Ok, Err, refl, sym, ap, subst, arith, ◌∙◌}
+use Rattle.std.proofs.lemmas.Bool.{eqb-true, not-true}
 use Rattle.cap_model.specs.declared.cap.Cap.{Cap}
 use Rattle.cap_model.specs.declared.kind.Kind.TheVariants as kinds
 use Rattle.cap_model.specs.declared.spec.Spec.{Spec}
@@ -45,22 +46,15 @@ found_reply_ok None none other x e = absurd cc
 found_reply_ok (Some (Capability y)) none other x e = absurd cc
 found_reply_ok (Some (SavedReply y)) none other x e = let s : y ≡ x = cc in ap (λ z. Some (SavedReply z)) s
 
-not_true : (b : Bool) → not b ≡ true → b ≡ false
-not_true true e = cc
-not_true false e = refl
-
 ok : {A : Type 0} {x y : A} → ◌≡◌ {A = Result A Why} (Ok x) (Ok y) → x ≡ y
 ok e = cc
 
 differ : (t u : ℕ) → not (t == u) ≡ true → t ≢ u
 differ t u h e = grind arith
 
-equal : (a b : ℕ) → a == b ≡ true → a ≡ b
-equal a b h = grind arith
-
 acting_ok : (s : State) (t c : ℕ) → acting s t ≡ Ok c → Acts s t c
 acting_ok s t c e =
-    asking_ok _ Waiting _ c e (λ runs h. record { runs = not_true _ runs; root = or_why_ok (thread_at s t).root NoRoot c h })
+    asking_ok _ Waiting _ c e (λ runs h. record { runs = not-true _ runs; root = or_why_ok (thread_at s t).root NoRoot c h })
 
 any_ok : (s : State) (c i : ℕ) (cap : Cap) → any_cap s c i ≡ Ok cap → content_in s c i ≡ Some (Capability cap)
 any_ok s c i x e = found_cap_ok (content_in s c i) (NoCap i) (WrongKind i) x e
@@ -81,10 +75,10 @@ peer_ok spec s t u j e d from h k =
     subst (λ (z : Cap). Peer spec s t u j e d z) (ok k)
     (record {
       other = differ t u other;
-      acts = record { runs = not_true _ runs; root = or_why_ok (thread_at s u).root PeerNoRoot d h };
+      acts = record { runs = not-true _ runs; root = or_why_ok (thread_at s u).root PeerNoRoot d h };
       own = record { there = found_cap_ok (content_in s d j) (PeerNoCap j) (PeerWrongKind j) x there; is = is };
       reads = reads;
-      same = equal x.object e same;
+      same = eqb-true x.object e same;
     })))))))
 
 done : (s : State) (z y : Change) → ◌≡◌ {A = Result Change Why} (Ok z) (Ok y) → changed s y ≡ changed s z

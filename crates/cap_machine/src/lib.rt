@@ -15,8 +15,6 @@ mod node;
 mod perform;
 mod state;
 mod step;
-#[cfg(test)]
-mod tests;
 
 pub use boot_state::boot;
 pub use edges::authorities;

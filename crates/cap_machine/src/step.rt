@@ -1,7 +1,7 @@
 use cap_model::Rights;
 
 /// Why a step is illegal. A number is the one in a CNode that the answer is about.
-#[derive(Clone, Copy, Debug, PartialEq, Eq)]
+#[derive(Clone, Copy)]
 pub enum Why {
     Waiting,
     NoRoot,
@@ -21,7 +21,7 @@ pub enum Why {
 
 /// One action of the thread `t`. `t` and `u` are places of objects in the spec, `i`, `j` and `k` numbers in CNodes, and
 /// `r` the rights that a copy is lessened to. The table of steps stands in `specs/StepTable.antt`.
-#[derive(Clone, Copy, Debug, PartialEq, Eq)]
+#[derive(Clone, Copy)]
 pub enum Step {
     Take {
         t: u32,

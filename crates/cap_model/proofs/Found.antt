@@ -1,27 +1,15 @@
 -- An object is found under its own name.
-use Rattle.std.specs.Prelude.{◌≡◌, ◌<◌, ◌||◌, ℕ, zero, suc, Bool, true, false, not, List, [], ◌∷◌, map, length, Some, slice_get, nat_lt, refl}
+use Rattle.std.specs.Prelude.{◌≡◌, ◌<◌, ℕ, zero, suc, Bool, true, false, not, List, [], ◌∷◌, map, length, Some, slice_get, nat_lt, refl}
 use Rattle.std.specs.List.{list_any, position_or_len}
 use Rattle.std.specs.Str.{bytes_eq}
 use Rattle.std.proofs.Common.{arith, ap, sym, subst}
-use Rattle.std.proofs.lemmas.Bool.{and_parts}
+use Rattle.std.proofs.lemmas.Bool.{and_parts, not-true, or_parts}
 use Rattle.std.proofs.lemmas.Bool.Decides.{Decides-ltb}
 use Rattle.std.proofs.lemmas.Slice.Eq.{bytes_eq-Decides}
 use Rattle.cap_model.specs.declared.spec.Entry.{Entry}
 use Rattle.cap_model.specs.declared.spec.Spec.{Spec}
 use Rattle.cap_model.specs.Kept.{names_differ, IsKept}
 use Rattle.cap_model.specs.Lookup.{place_of}
-
-left_false : (a b : Bool) → a || b ≡ false → a ≡ false
-left_false true b h = absurd cc
-left_false false b h = refl
-
-right_false : (a b : Bool) → a || b ≡ false → b ≡ false
-right_false true b h = absurd cc
-right_false false b h = h
-
-not_true : (b : Bool) → not b ≡ true → b ≡ false
-not_true true h = absurd cc
-not_true false h = refl
 
 flip_at : (a b : List ℕ) (r : Bool) → bytes_eq b a ≡ r → bytes_eq a b ≡ false → r ≡ false
 flip_at a b false e h = refl
@@ -36,9 +24,9 @@ earlier : (name : List ℕ) (es : List Entry) (i : ℕ) (e : Entry) → list_any
 earlier name [] i e none there = absurd cc
 earlier name (x ∷ xs) zero e none there =
     let same : x ≡ e = cc in
-    let other : bytes_eq x.name name ≡ false = left_false (bytes_eq x.name name) (list_any (λ m. bytes_eq m name) (map (λ (y : Entry). y.name) xs)) none in
+    let other : bytes_eq x.name name ≡ false = (or_parts (bytes_eq x.name name) (list_any (λ m. bytes_eq m name) (map (λ (y : Entry). y.name) xs)) none).0 in
     subst (λ (y : Entry). bytes_eq name y.name ≡ false) same (flip_at x.name name (bytes_eq name x.name) refl other)
-earlier name (x ∷ xs) (suc i) e none there = earlier name xs i e (right_false (bytes_eq x.name name) (list_any (λ m. bytes_eq m name) (map (λ (y : Entry). y.name) xs)) none) there
+earlier name (x ∷ xs) (suc i) e none there = earlier name xs i e ((or_parts (bytes_eq x.name name) (list_any (λ m. bytes_eq m name) (map (λ (y : Entry). y.name) xs)) none).1) there
 
 first_at : (es : List Entry) (i : ℕ) (e : Entry) → names_differ es ≡ true → slice_get es i ≡ Some e → position_or_len (λ (x : Entry). bytes_eq x.name e.name) es ≡ i
 first_at [] i e apart there = absurd cc
@@ -48,7 +36,7 @@ first_at (x ∷ xs) zero e apart there =
     rw equal refl
 first_at (x ∷ xs) (suc i) e apart there =
     let parts = and_parts (not (list_any (λ m. bytes_eq m x.name) (map (λ (y : Entry). y.name) xs))) (names_differ xs) apart in
-    let other : bytes_eq x.name e.name ≡ false = earlier x.name xs i e (not_true (list_any (λ m. bytes_eq m x.name) (map (λ (y : Entry). y.name) xs)) parts.0) there in
+    let other : bytes_eq x.name e.name ≡ false = earlier x.name xs i e (not-true (list_any (λ m. bytes_eq m x.name) (map (λ (y : Entry). y.name) xs)) parts.0) there in
     let rest : position_or_len (λ (y : Entry). bytes_eq y.name e.name) xs ≡ i = first_at xs i e parts.1 there in
     rw other (omega (arith, rest))
 

@@ -119,10 +119,10 @@ slot_kept fit size slots i slot kept there =
     let both = and_parts (nat_lt slot.0 size) (fit slot.1) (all_at test slots i slot all there) in
     (ltb-true slot.0 size both.0, both.1)
 
--- numbers that rise: each is below those behind it
-rise_head : {A : Type 0} (x : ℕ × A) (xs : List (ℕ × A)) → rise (x ∷ xs) ≡ true → rise xs ≡ true
-rise_head x [] h = refl
-rise_head x (y ∷ ys) h = (and_parts (nat_lt x.0 y.0) (rise (y ∷ ys)) h).1
+-- numbers that rise: those behind the first rise too, and each is below those behind it
+pub rise_tail : {A : Type 0} (x : ℕ × A) (xs : List (ℕ × A)) → rise (x ∷ xs) ≡ true → rise xs ≡ true
+rise_tail x [] h = refl
+rise_tail x (y ∷ ys) h = (and_parts (nat_lt x.0 y.0) (rise (y ∷ ys)) h).1
 
 rise_over : {A : Type 0} (x : ℕ × A) (xs : List (ℕ × A)) (j : ℕ) (z : ℕ × A) → rise (x ∷ xs) ≡ true → slice_get xs j ≡ Some z → x.0 < z.0
 rise_over x [] j z h there = absurd cc
@@ -132,7 +132,7 @@ rise_over {A = A} x (y ∷ ys) zero z h there =
     subst (λ (w : ℕ × A). x.0 < w.0) same below
 rise_over x (y ∷ ys) (suc j) z h there =
     let below : x.0 < y.0 = ltb-true x.0 y.0 (and_parts (nat_lt x.0 y.0) (rise (y ∷ ys)) h).0 in
-    let more : y.0 < z.0 = rise_over y ys j z (rise_head x (y ∷ ys) h) there in
+    let more : y.0 < z.0 = rise_over y ys j z (rise_tail x (y ∷ ys) h) there in
     omega arith
 
 pub rises : {A : Type 0} (xs : List (ℕ × A)) (i j : ℕ) (x y : ℕ × A) → rise xs ≡ true → i < j → slice_get xs i ≡ Some x → slice_get xs j ≡ Some y → x.0 < y.0
@@ -141,4 +141,4 @@ rises (z ∷ zs) i zero x y h less here there = absurd (omega arith)
 rises {A = A} (z ∷ zs) zero (suc j) x y h less here there =
     let same : z ≡ x = cc in
     subst (λ (w : ℕ × A). w.0 < y.0) same (rise_over z zs j y h there)
-rises (z ∷ zs) (suc i) (suc j) x y h less here there = rises zs i j x y (rise_head z zs h) (omega arith) here there
+rises (z ∷ zs) (suc i) (suc j) x y h less here there = rises zs i j x y (rise_tail z zs h) (omega arith) here there

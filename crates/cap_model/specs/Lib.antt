@@ -11,3 +11,5 @@ pub mod Levels
 pub mod Lookup
 pub mod RightsWord
 pub mod State
+pub use Rattle.auth_kinds.specs.Authorities
+pub use Rattle.auth_kinds.specs.AuthoritySets

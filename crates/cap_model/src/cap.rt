@@ -4,7 +4,7 @@ ghost use Rattle.std.specs.Prelude.{◌≡◌, ◌==◌, not};
 use crate::Rights;
 
 /// A capability to an object of the spec, which is named by its place. The badge is 0 where there is none.
-#[derive(Clone, Copy, Debug, PartialEq, Eq)]
+#[derive(Clone, Copy, Debug)]
 pub struct Cap {
     pub object: u32,
     pub rights: Rights,

@@ -4,14 +4,14 @@ ghost use Rattle.std.specs.Prelude.{◌≡◌};
 use crate::Kind;
 
 /// The architecture of a spec.
-#[derive(Clone, Copy, Debug, PartialEq, Eq)]
+#[derive(Clone, Copy)]
 pub enum Arch {
     Arm11,
     Aarch64,
 }
 
 /// The levels of page tables, from the outermost inwards: `pgd`, `pud`, `pd` and `pt`. Arm11 has the last two.
-#[derive(Clone, Copy, Debug, PartialEq, Eq)]
+#[derive(Clone, Copy, Debug)]
 pub enum Level {
     Global,
     Upper,

@@ -15,8 +15,6 @@ mod object;
 mod rights;
 mod spec;
 mod state;
-#[cfg(test)]
-mod tests;
 
 pub use cap::Cap;
 pub use confer::{conferred, frame_conferred, is_root};

@@ -15,7 +15,7 @@ pub struct Fill {
 
 /// A thread: the address of its IPC buffer, its entry, its stack's end, its priority, the name of its image, its root
 /// CNode, its space root, and the capability to the frame of its IPC buffer.
-#[derive(Debug, Drop)]
+#[derive(Drop)]
 pub struct Tcb {
     pub addr: u64,
     pub ip: u64,
@@ -28,7 +28,7 @@ pub struct Tcb {
 }
 
 /// An object of a spec. Slots are sorted by number.
-#[derive(Debug, Drop)]
+#[derive(Drop)]
 pub enum Object {
     Endpoint,
     Notification,

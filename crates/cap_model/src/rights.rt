@@ -24,7 +24,7 @@ impl Rights {
         }
     }
 
-    /// The rights that are among both.
+    /// The meet: the rights that stand in both.
     pub fn both(self, other: Rights) -> Rights
         ensures { result ≡ both_rights self other }
     {

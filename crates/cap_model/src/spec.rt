@@ -7,7 +7,7 @@ use crate::{Arch, Kind, Object};
 use cam_base::{List, Name};
 
 /// An object under its name.
-#[derive(Debug, Drop)]
+#[derive(Drop)]
 pub struct Entry {
     pub name: Name,
     pub object: Object,
@@ -15,7 +15,7 @@ pub struct Entry {
 
 /// A system: its objects, which are named by their place, and its interrupt lines, each with its interrupt object,
 /// sorted by number.
-#[derive(Debug, Drop)]
+#[derive(Drop)]
 pub struct Spec {
     pub arch: Arch,
     pub entries: List<Entry>,

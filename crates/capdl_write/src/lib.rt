@@ -7,8 +7,6 @@
 mod digits;
 mod holder;
 mod object;
-#[cfg(test)]
-mod tests;
 mod write;
 
 pub use write::write_spec;

@@ -19,10 +19,8 @@ use Rattle.cap_model.specs.Lookup.{entry_object}
 use Rattle.cap_model.specs.State.{boot_slot}
 use Rattle.cap_model.specs.declared.state.Content.{Content}
 use Rattle.cap_model.specs.declared.state.Content.TheVariants.{Capability}
-use Rattle.cap_model.proofs.BootPlaces.{at_entry, entry_at}
-use Rattle.auth_graph.proofs.BootSources.{contains_at, at_contains, slot_of}
+use Rattle.cap_model.proofs.BootPlaces.{at_contains, at_entry, contains_at, entry_at, none_saved, nothing_pending, slot_of}
 use Rattle.std.proofs.lemmas.Option.{slice_get-map}
-use Rattle.cert_check.proofs.Safe.{nothing_pending, none_saved}
 
 -- an edge that is asked for because of some object
 pub record AskedSome (spec : Spec) (labels : List ℕ) (e : Edge) : Type 0 where

@@ -21,7 +21,7 @@ use Rattle.cap_model.specs.declared.state.Content.TheVariants.{Capability, Saved
 use Rattle.cap_model.specs.declared.state.Mapped.{Mapped}
 use Rattle.cap_model.specs.declared.state.Pending.{Pending}
 use Rattle.cap_model.specs.declared.state.ThreadState.{ThreadState}
-use Rattle.cap_model.proofs.BootPlaces.{at_entry}
+use Rattle.cap_model.proofs.BootPlaces.{none_saved, nothing_pending}
 use Rattle.cert_check.specs.Valid.{Valid}
 
 -- between different labels the edge is in the certificate
@@ -72,33 +72,6 @@ has_at cert el ea em h = rw (el, ea, em) h
 
 flows_at : (cert : List Edge) {l l' m m' : ℕ} {a a' : Authority} → l ≡ l' → a ≡ a' → m ≡ m' → Flows cert l' a' m' → Flows cert l a m
 flows_at cert el ea em h = rw (el, ea, em) h
-
--- at boot nothing is pending or saved
-
-none_pending : (object : Object) → (boot_thread object).pending ≡ None
-none_pending (Thread tcb) = refl
-none_pending _ = refl
-
-pub nothing_pending : (spec : Spec) (t : ℕ) → (thread_at (boot spec) t).pending ≡ None
-nothing_pending spec t = elim (at_entry boot_thread spec.entries t no_thread) [
-  | inl found ↦ subst (λ (x : ThreadState). x.pending ≡ None) (sym found.2) (none_pending found.0.object)
-  | inr none ↦ subst (λ (x : ThreadState). x.pending ≡ None) (sym none) refl
-]
-
-none_in : (slots : List (ℕ × Cap)) (k i : ℕ) (reply : Pending) → k < length (map boot_slot slots) → get_or (map boot_slot slots) k (i, SavedReply reply) ≡ (i, SavedReply reply) → ⊥
-none_in [] k i reply less e = absurd (omega arith)
-none_in (x ∷ slots) zero i reply less e = let same : Capability x.1 ≡ SavedReply reply = ap (λ (p : ℕ × Content). p.1) e in cc
-none_in (x ∷ slots) (suc k) i reply less e = none_in slots k i reply (omega arith) e
-
-none_here : (object : Object) (i : ℕ) (reply : Pending) → Contains (boot_node object).slots (i, SavedReply reply) → ⊥
-none_here (CNode bits slots) i reply there = none_in slots there.0 i reply there.1 there.2
-none_here _ i reply there = let w = there.1 in absurd (omega arith)
-
-pub none_saved : (spec : Spec) (c i : ℕ) (reply : Pending) → Contains (node_at (boot spec) c).slots (i, SavedReply reply) → ⊥
-none_saved spec c i reply there = elim (at_entry boot_node spec.entries c no_node) [
-  | inl found ↦ none_here found.0.object i reply (subst (λ (n : Node). Contains n.slots (i, SavedReply reply)) found.2 there)
-  | inr none ↦ (let x : Contains no_node.slots (i, SavedReply reply) = subst (λ (n : Node). Contains n.slots (i, SavedReply reply)) none there in let w = x.1 in absurd (omega arith))
-]
 
 module _ (spec : Spec) (labels : List ℕ) (policy cert : List Edge) (v : Valid spec labels policy cert) where
   module _ (s : State) (safe : Safe spec labels cert s) where

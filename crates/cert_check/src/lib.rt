@@ -13,8 +13,6 @@ mod meetings;
 mod missing;
 mod places;
 mod rule;
-#[cfg(test)]
-mod tests;
 mod verdict;
 mod violation;
 

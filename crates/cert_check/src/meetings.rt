@@ -15,7 +15,7 @@ use crate::violation::{Violation, lesser, uncopied};
 use auth_kinds::{Authority, Edge, EdgeTable};
 
 /// The three rules over two labels that meet at a third.
-#[derive(Clone, Copy, Debug)]
+#[derive(Clone, Copy)]
 pub enum Meeting {
     Grant,
     Call,

@@ -2,7 +2,7 @@ ghost use Rattle.cert_check.specs.Rules.{rule_number};
 ghost use Rattle.std.specs.Prelude.{◌≡◌};
 
 /// The rules that a certificate keeps.
-#[derive(Clone, Copy, Debug)]
+#[derive(Clone, Copy)]
 pub enum Rule {
     BootEdges,
     Control,

@@ -14,7 +14,7 @@ use cap_model::Spec;
 
 /// The answer of the checker: the rules hold, or the number of the least rule that fails, the two edges of the
 /// certificate that its least violation rests on (none for the first and the last rule), and the edge that is lacking.
-#[derive(Clone, Copy, Debug, PartialEq, Eq)]
+#[derive(Clone, Copy)]
 pub enum Verdict {
     Yes,
     No {

@@ -5,7 +5,7 @@ ghost use Rattle.std.specs.Prelude.{◌≡◌, true, false};
 use auth_kinds::Edge;
 
 /// How a rule fails that rests on two edges of the certificate: these two, and the edge that is lacking.
-#[derive(Clone, Copy, Debug)]
+#[derive(Clone, Copy)]
 pub struct Violation {
     pub first: Edge,
     pub lack: Edge,

@@ -1,7 +1,8 @@
 -- What `clap` makes of the first word, which names a command.
-use Rattle.std.proofs.Common.{◌≡◌, ◌∙◌, ◌&&◌, ◌||◌, Bool, codes, true, false, refl, sym, ap, ap₂, List, [], ◌∷◌, map, Option, Some, None, is_some, option_map}
+use Rattle.std.proofs.Common.{◌≡◌, ◌∙◌, ◌||◌, Bool, codes, true, false, refl, sym, ap, ap₂, List, [], ◌∷◌, map, Option, Some, None, is_some, option_map}
 use Rattle.std.specs.List.{find, fold, list_all}
 use Rattle.std.specs.Str.{bytes_eq, IsUtf8}
+use Rattle.std.proofs.Math.Bool.{and-false, or-false}
 use Rattle.std.proofs.lemmas.Slice.Eq.{bytes_eq-Decides}
 use Rattle.clap.specs.Walk.{Names, Row, Text, Walk, answers_to, finished, idle, is_empty, nothing_held, rows_after, settled, stop_after, subcommand_met, walk, walk_from, walked}
 use Rattle.clap.specs.Simple.{App, Shape, entered, label_of, rows_at}
@@ -30,14 +31,6 @@ or_else-nil : (a : Kinds) → or_else a [] ≡ a
 or_else-nil [] = refl
 or_else-nil (k ∷ ks) = refl
 
-and_false : (b : Bool) → (b && false) ≡ false
-and_false true = refl
-and_false false = refl
-
-or_false : (b : Bool) → (b || false) ≡ b
-or_false true = refl
-or_false false = refl
-
 module _ (subs : List Shape) (name : Text) where
   abbrev names : Names
   names = map label_of subs
@@ -50,7 +43,7 @@ module _ (subs : List Shape) (name : Text) where
       let none : s.aliases ≡ [] = is_nil s.aliases (find_passes (λ s. answers_to name (label_of s)) has_no_alias subs s plain e) in
       let hit : answers_to name (s.name, s.aliases) ≡ true = found_passes (λ s. answers_to name (label_of s)) subs s e in
       let same : answers_to name (s.name, s.aliases) ≡ (bytes_eq s.name name || false) = ap (λ (xs : List Text). answers_to name (s.name, xs)) none in
-      (bytes_eq-Decides s.name name).0 (sym (or_false (bytes_eq s.name name)) ∙ (sym same ∙ hit))
+      (bytes_eq-Decides s.name name).0 (sym (or-false (bytes_eq s.name name)) ∙ (sym same ∙ hit))
 
   walk_met : (s : Shape) → named name subs ≡ Some s → (rest : List Text)
       → ◌≡◌ {A = Walk} (walk [] names nothing_held (name ∷ rest)) (record (walk_from nothing_held) { stopped = Some (s.name, rest) })
@@ -62,7 +55,7 @@ module _ (subs : List Shape) (name : Text) where
   faults_met : (s : Shape) → named name subs ≡ Some s → (rest : List Text) → walk_fault top names (walk_from nothing_held) (name ∷ rest) ≡ []
   unfolding walk_fault walked
   faults_met s e rest =
-      rw (met (Some s) e, and_false (bytes_eq s.name (codes "help"))) (stopped_fault top names (walk_from nothing_held) (s.name, []) rest)
+      rw (met (Some s) e, and-false (bytes_eq s.name (codes "help"))) (stopped_fault top names (walk_from nothing_held) (s.name, []) rest)
 
   pub command_met : (s : Shape) → list_all has_no_alias subs ≡ true → named name subs ≡ Some s → (rest : List Text)
       → (built_fault (program subs) nothing_held (name ∷ rest) ≡ level_fault s [] nothing_held rest false [])

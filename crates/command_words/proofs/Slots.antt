@@ -6,7 +6,9 @@ use Rattle.std.specs.Option.{option_map_or}
 use Rattle.std.specs.Str.{bytes_eq, chars, IsUtf8}
 use Rattle.std.proofs.lemmas.Slice.Eq.{bytes_eq-Decides}
 use Rattle.std.proofs.lemmas.Str.{IsUtf8-drop, IsCharBoundary-after_ascii, encodes-chars}
+use Rattle.std.proofs.lemmas.Bool.{and_parts, not-true, or_parts}
 use Rattle.std.proofs.lemmas.Bool.Decides.{Decides-eqb}
+use Rattle.std.proofs.Math.Bool.{and-false, or-false}
 use lib.Utf8.{encodes}
 use Rattle.clap.specs.Lexer.{name_and_value, long_of, short_of, usize_max}
 use Rattle.clap.specs.Walk.{Held, Row, Rule, Text, Walk, arg_by_index, arg_by_long, arg_by_short, finished, idle, is_multiple, nothing_held, rows_after, settled_rows, takes_several, to_positional, walk, walk_from, walked}
@@ -16,10 +18,6 @@ use Rattle.clap.specs.Faults.{check_fault, defaults_fault, flags_fault, level_fa
 use Rattle.clap.specs.Walk.{is_pending, settled}
 use Rattle.clap.specs.declared.error.kind.ErrorKind.TheVariants.{UnknownArgument}
 use Rattle.command_words.specs.Words.{is_dashed, taken}
-
-pub both : (a b : Bool) → (a && b) ≡ true → (a ≡ true) × (b ≡ true)
-both true b e = (refl, e)
-both false b e = absurd (true≢false (sym e))
 
 pub some≢none : {X : Type 0} (x : X) → Some x ≡ None → ⊥
 some≢none x e = true≢false (ap (λ o. is_some o) e)
@@ -37,10 +35,10 @@ has_slots s = list_all takes_one s.rules
 
 pub find_passes : {X : Type 0} (p q : X → Bool) (xs : List X) (x : X) → list_all q xs ≡ true → find p xs ≡ Some x → q x ≡ true
 find_passes p q [] x all e = absurd (some≢none x (sym e))
-find_passes p q (y ∷ ys) x all e = go (p y) (find_passes p q ys x ((both (q y) (list_all q ys) all).1)) e
+find_passes p q (y ∷ ys) x all e = go (p y) (find_passes p q ys x ((and_parts (q y) (list_all q ys) all).1)) e
   where
     go : (b : Bool) → (find p ys ≡ Some x → q x ≡ true) → cond b (Some y) (find p ys) ≡ Some x → q x ≡ true
-    go true rest e = subst (λ z. q z ≡ true) (some_same y x e) ((both (q y) (list_all q ys) all).0)
+    go true rest e = subst (λ z. q z ≡ true) (some_same y x e) ((and_parts (q y) (list_all q ys) all).0)
     go false rest e = rest e
 
 pub found_passes : {X : Type 0} (p : X → Bool) (xs : List X) (x : X) → find p xs ≡ Some x → p x ≡ true
@@ -54,8 +52,8 @@ found_passes p (y ∷ ys) x e = go (p y) refl (found_passes p ys x) e
 find_none : (p : Rule → Bool) (c : List Rule) → ((a : Rule) → is_some a.index ≡ true → p a ≡ false) → list_all takes_one c ≡ true → find p c ≡ None
 find_none p [] h e = refl
 find_none p (a ∷ c) h e =
-    let parts = both (takes_one a) (list_all takes_one c) e in
-    let first = both (is_some a.index) _ parts.0 in
+    let parts = and_parts (takes_one a) (list_all takes_one c) e in
+    let first = and_parts (is_some a.index) _ parts.0 in
     rw (h a first.0) (find_none p c h parts.1)
 
 no_long : (c : List Rule) (name : Text) → list_all takes_one c ≡ true → arg_by_long c name ≡ None
@@ -140,22 +138,6 @@ held rows pending = record { rows = rows; pending = pending; skip = 0 }
 abbrev at : List Row → Option (Text × List Text) → ℕ → Bool → Walk
 at rows pending position trailing = record { held = held rows pending; waiting = idle; position = position; is_trailing = trailing; stopped = None }
 
-and_false : (b : Bool) → (b && false) ≡ false
-and_false true = refl
-and_false false = refl
-
-or_false : (b : Bool) → (b || false) ≡ b
-or_false true = refl
-or_false false = refl
-
-or_none : (a b : Bool) → (a || b) ≡ false → a ≡ false
-or_none false b e = refl
-or_none true b e = e
-
-is_false : (b : Bool) → not b ≡ true → b ≡ false
-is_false true e = absurd (true≢false (sym e))
-is_false false e = refl
-
 module _ (s : Shape) (slots : has_slots s ≡ true) where
   abbrev c : List Rule
   c = s.rules
@@ -187,12 +169,12 @@ module _ (s : Shape) (slots : has_slots s ≡ true) where
   positional_after : (a : Rule) (w : Text) (rows : List Row) (pending : Option (Text × List Text)) (p : ℕ) (t : Bool) → takes_one a ≡ true
       → to_positional c (Some a) w (at rows pending p t) (held rows pending) ≡ after a w rows pending p t
   positional_after a w rows pending p t one =
-      let parts = both (not (is_multiple a)) (not a.trailing_var_arg) ((both (is_some a.index) _ one).1) in
-      let single : is_multiple a ≡ false = is_false (is_multiple a) parts.0 in
-      let alone : takes_several a ≡ false = or_none (takes_several a) _ single in
-      let ends : a.trailing_var_arg ≡ false = is_false a.trailing_var_arg parts.1 in
-      let same : (is_pending a pending && takes_several a) ≡ false = ap (λ b. is_pending a pending && b) alone ∙ and_false (is_pending a pending) in
-      let trails : (t || a.trailing_var_arg) ≡ t = ap (λ b. t || b) ends ∙ or_false t in
+      let parts = and_parts (not (is_multiple a)) (not a.trailing_var_arg) ((and_parts (is_some a.index) _ one).1) in
+      let single : is_multiple a ≡ false = not-true (is_multiple a) parts.0 in
+      let alone : takes_several a ≡ false = (or_parts (takes_several a) _ single).0 in
+      let ends : a.trailing_var_arg ≡ false = not-true a.trailing_var_arg parts.1 in
+      let same : (is_pending a pending && takes_several a) ≡ false = ap (λ b. is_pending a pending && b) alone ∙ and-false (is_pending a pending) in
+      let trails : (t || a.trailing_var_arg) ≡ t = ap (λ b. t || b) ends ∙ or-false t in
       rw (single, same, trails) refl
 
   -- the step at a word goes the same way past a `--` and before it
@@ -308,4 +290,4 @@ module _ (s : Shape) (slots : has_slots s ≡ true) where
       go : (b : Bool) → is_dashed w ≡ b → passes (turn_fault s [] (walk_from nothing_held) w) ≡ false
       go true e = ap (λ k. passes k) (flag_fails w [] None 1 u d e)
       go false e = ap (λ k. passes k) (turn_plain w [] None 1 d e) ∙ ap (λ o. passes (option_map_or (λ a. positional_fault c s.args_override_self a (held [] None)) o (stray_fault s))) none
-          ∙ is_false _ stray
+          ∙ not-true _ stray

@@ -6,7 +6,7 @@ use std::alloc::AllocError;
 use thiserror::Error;
 
 /// What the words ask for.
-#[derive(Debug, Drop)]
+#[derive(Drop)]
 pub enum Command {
     /// Compiles the source of this root, and writes under this base.
     Compile { root: Text, base: Text },
@@ -21,7 +21,7 @@ pub fn as_name(word: &Text) -> &str
 }
 
 /// Why no command was read.
-#[derive(Clone, Copy, Debug, PartialEq, Eq, Error)]
+#[derive(Clone, Copy, Debug, Error)]
 pub enum WordsError {
     /// The words are no command.
     #[error("no command")]

@@ -8,8 +8,6 @@
 mod command;
 mod reader;
 mod reading;
-#[cfg(test)]
-mod tests;
 mod usage;
 
 pub use command::{Command, WordsError, as_name};

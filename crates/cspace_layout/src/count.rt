@@ -1,6 +1,6 @@
 //! How many slots are needed, counted before any is laid.
 
-ghost use Rattle.cspace_layout.specs.Counted.{capped, leaf_count, sum_at, leaf_counts, first_limit, name_of, limit_fault, keyword_of, keyword_in, keyword};
+ghost use Rattle.cspace_layout.specs.Counted.{capped, leaf_count, sum_at, leaf_counts, first_limit, name_of};
 ghost use Rattle.cspace_layout.specs.Laid.{uses_at};
 ghost use Rattle.cspace_layout.specs.SlotFaults.{counts, first_slot_fault};
 ghost use Rattle.cspace_layout.specs.Uses.{slots_of};
@@ -8,17 +8,17 @@ ghost use Rattle.leaf_ends.specs.LeafEnds.{ends_of};
 ghost use Rattle.leaf_ends.specs.Within.{IsWithin};
 ghost use Rattle.numbering.specs.Gather.{IsIn};
 ghost use Rattle.std.specs.List.{flat_map, list_any};
-ghost use Rattle.std.specs.Prelude.{◌≡◌, ◌<◌, nat_lt, length, map, option_map, sum, IfOk, ℕ};
+ghost use Rattle.std.specs.Prelude.{◌≡◌, ◌<◌, nat_lt, length, map, sum, IfOk, ℕ};
 
 use crate::kind::kind_at;
-use adl_ast::{Ended, Item, Member, Role, Source};
+use adl_ast::{Member, Role, Source};
 use adl_meaning::{Connector, Flat};
-use cam_base::{Code, Fault, List, NoMemory, Place, Text};
-use leaf_ends::{EndAt, is_lock, members_at};
+use cam_base::{Fault, List, NoMemory};
+use leaf_ends::{EndAt, is_lock, limit_fault, members_at};
 use std::alloc::Global;
 
 /// A limit on slots.
-#[derive(Clone, Copy, Debug)]
+#[derive(Clone, Copy)]
 pub enum Limit {
     /// Of one domain.
     Slots,
@@ -142,38 +142,6 @@ fn first_limit(counts: &[u64]) -> Option<Limit>
     None
 }
 
-fn keyword_of(item: &Item) -> Option<Place>
-    ensures { result ≡ keyword_of item.now }
-{
-    match item {
-        Item::Assembly(assembly) => Some(assembly.place),
-        _ => None,
-    }
-}
-
-fn keyword_in(items: &[Ended]) -> Option<Place>
-    ensures { result ≡ keyword_in items.now }
-{
-    for ended in items {
-        if let Some(place) = keyword_of(&ended.item) {
-            return Some(place);
-        }
-    }
-    None
-}
-
-/// The place of the keyword of the first assembly.
-fn keyword(source: &Source) -> Option<Place>
-    ensures { result ≡ keyword source.now }
-{
-    for file in source.files.as_slice() {
-        if let Some(place) = keyword_in(file.tree.items.as_slice()) {
-            return Some(place);
-        }
-    }
-    None
-}
-
 /// The first limit on slots that is passed.
 fn limit_passed(
     alloc: Global,
@@ -190,19 +158,6 @@ fn limit_passed(
     Ok(first_limit(&domains))
 }
 
-fn fault_of(alloc: Global, source: &Source, limit: Limit) -> Result<Option<Fault>, NoMemory>
-    ensures { IfOk result (λ fault. fault ≡ option_map (λ place. limit_fault place limit) (keyword source.now)) }
-{
-    let Some(place) = keyword(source) else {
-        return Ok(None);
-    };
-    Ok(Some(Fault {
-        code: Code::Limit,
-        place,
-        name: Text::new(alloc, limit.name())?,
-    }))
-}
-
 /// The first limit on slots that is passed, as a fault.
 #[tactic(auto, using(crate::proofs::Limits::none_told))]
 pub fn slot_limit(
@@ -216,7 +171,7 @@ pub fn slot_limit(
     ensures { IfOk result (λ fault. fault ≡ first_slot_fault source.now flat.now) }
 {
     match limit_passed(alloc, source, flat, ends)? {
-        Some(limit) => fault_of(alloc, source, limit),
+        Some(limit) => limit_fault(alloc, source, limit.name()),
         None => Ok(None),
     }
 }

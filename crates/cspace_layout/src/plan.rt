@@ -1,7 +1,7 @@
 use cam_base::List;
 
 /// What a slot is for.
-#[derive(Clone, Copy, Debug, PartialEq, Eq)]
+#[derive(Clone, Copy)]
 pub enum SlotUse {
     /// The endpoint or notification of an end: the numbers of the connection and of its end.
     OfEnd(u32, u32),
@@ -12,13 +12,13 @@ pub enum SlotUse {
 }
 
 /// What the slots of a domain's CNode are for, from slot 1 on.
-#[derive(Debug, Drop)]
+#[derive(Drop)]
 pub struct SlotPlan {
     pub uses: List<SlotUse>,
 }
 
 /// The slots of each domain, by number.
-#[derive(Debug, Drop)]
+#[derive(Drop)]
 pub struct Slots {
     pub domains: List<SlotPlan>,
 }

@@ -28,7 +28,7 @@ use Rattle.adl_types.specs.TypeFaults.{first_type_fault}
 use Rattle.conn_rules.specs.Ends.{allows, end_rule}
 use Rattle.conn_rules.specs.Row.{same_role}
 use Rattle.spec_layout.specs.Direct.{has_slot, IsFlat}
-use Rattle.spec_layout.specs.Tables.{from_leaf}
+use Rattle.spec_layout.specs.Tables.{device_leaf}
 use Rattle.flat_laws.proofs.Devices.{first_counted, is_from_end, only_from, froms_kept}
 use Rattle.flat_laws.proofs.AreTyped.{composition_of_strung, ends_typed}
 use Rattle.flat_laws.proofs.FlatEnds.{strung_of, IsEnd, end_of}
@@ -87,14 +87,14 @@ has_device s sound dotted none x c i f t =
     )
 
 device_alone : (s : Source) → AreNamesSound s → first_type_fault s ≡ None → (x : Strung) (c : FlatConnection) (n : ℕ) (e : FlatEnd) → IsIn x (connections (hierarchy_of s)) → flat_connection (hierarchy_of s) x ≡ c → slice_get c.ends n ≡ Some e
-    → c.connector ≡ Interrupt → e.role ≡ From → e.leaf ≡ from_leaf c.ends
+    → c.connector ≡ Interrupt → e.role ≡ From → device_leaf Interrupt c.ends ≡ Some e.leaf
 device_alone s sound none x c n e i f g t r =
     let h = hierarchy_of s in
     let one = one_from s sound none x i (ap (λ (z : FlatConnection). z.connector) f ∙ t) in
     let flat : End → Option FlatEnd = λ e. option_map (flat_end h x.path e) (joined_by h x.inside e) in
     let few = froms_kept flat (λ e g k. let m = map_some (flat_end h x.path e) (joined_by h x.inside e) g k in ap (λ (z : FlatEnd). z.role) (sym m.2)) x.wire.1.ends in
     let there : IsIn e (flat_ends h x) = in_get (flat_ends h x) n e (ap (λ (z : FlatConnection). slice_get z.ends n) f ∙ g) in
-    sym (ap (λ (z : FlatConnection). from_leaf z.ends) (sym f) ∙ only_from (flat_ends h x) e (omega (arith, one, few)) there r)
+    ap (λ (z : FlatConnection). device_leaf Interrupt z.ends) (sym f) ∙ only_from (flat_ends h x) e (omega (arith, one, few)) there r
 
 -- ---- all
 

@@ -5,10 +5,12 @@ use Rattle.std.proofs.lemmas.List.Sums.{sum_by-cons}
 use Rattle.adl_ast.specs.declared.composition.End.{End}
 use Rattle.adl_ast.specs.declared.composition.Role.{Role}
 use Rattle.adl_ast.specs.declared.composition.Role.TheVariants.{From, To}
+use Rattle.adl_meaning.specs.declared.connector.Connector.TheVariants.{Interrupt}
 use Rattle.adl_meaning.specs.declared.flat.FlatEnd.{FlatEnd}
 use Rattle.adl_meaning.specs.Lists.{IsIn}
+use Rattle.conn_rules.specs.Ends.{end_rule}
 use Rattle.conn_rules.specs.Row.{same_role}
-use Rattle.spec_layout.specs.Tables.{is_from, from_leaf}
+use Rattle.spec_layout.specs.Tables.{device_leaf, is_from}
 
 counted-cons : {X : Type 0} (p : X → Bool) (x : X) (xs : List X) → count_by p (x ∷ xs) ≡ cond (p x) 1 0 + count_by p xs
 counted-cons p x xs = sum_by-cons (λ y. cond (p y) 1 0) x xs
@@ -34,14 +36,20 @@ pub is_from_end : (r : Role) → same_role r From ≡ true → r ≡ From
 is_from_end From e = refl
 is_from_end To e = cc
 
--- where at most one end is `from`, it is the first
-pub only_from : (es : List FlatEnd) (e : FlatEnd) → count_by (λ e. is_from e.role) es ≤ 1 → IsIn e es → e.role ≡ From → from_leaf es ≡ e.leaf
+-- the `from` end of an interrupt is the device's
+is_device : (r : Role) → (end_rule Interrupt r).hardware ≡ is_from r
+is_device From = refl
+is_device To = refl
+
+-- where at most one end is `from`, it is the device's
+pub only_from : (es : List FlatEnd) (e : FlatEnd) → count_by (λ e. is_from e.role) es ≤ 1 → IsIn e es → e.role ≡ From → device_leaf Interrupt es ≡ Some e.leaf
 only_from [] e l i r = absurd i
-only_from (y ∷ es) e l i r = by_test (is_from y.role) refl (omega (arith, l, counted-cons (λ (e : FlatEnd). is_from e.role) y es)) i (λ m j. only_from es e m j r)
+only_from (y ∷ es) e l i r =
+    ap (λ b. cond b (Some y.leaf) (device_leaf Interrupt es)) (is_device y.role) ∙ by_test (is_from y.role) refl (omega (arith, l, counted-cons (λ (e : FlatEnd). is_from e.role) y es)) i (λ m j. only_from es e m j r)
   where
-    by_test : (b : Bool) → is_from y.role ≡ b → cond (is_from y.role) 1 0 + count_by (λ (e : FlatEnd). is_from e.role) es ≤ 1 → IsIn e (y ∷ es) → (count_by (λ (e : FlatEnd). is_from e.role) es ≤ 1 → IsIn e es → from_leaf es ≡ e.leaf)
-        → cond b y.leaf (from_leaf es) ≡ e.leaf
-    by_test true t l (inl s) ih = ap (λ (z : FlatEnd). z.leaf) s
+    by_test : (b : Bool) → is_from y.role ≡ b → cond (is_from y.role) 1 0 + count_by (λ (e : FlatEnd). is_from e.role) es ≤ 1 → IsIn e (y ∷ es) → (count_by (λ (e : FlatEnd). is_from e.role) es ≤ 1 → IsIn e es → device_leaf Interrupt es ≡ Some e.leaf)
+        → cond b (Some y.leaf) (device_leaf Interrupt es) ≡ Some e.leaf
+    by_test true t l (inl s) ih = ap (λ (z : FlatEnd). Some z.leaf) s
     by_test true t l (inr j) ih =
         let c : cond {A = ℕ} (is_from y.role) 1 0 ≡ 1 = ap (λ b. cond {A = ℕ} b 1 0) t in
         let more = one_counted (λ (e : FlatEnd). is_from e.role) es e j (ap is_from r) in

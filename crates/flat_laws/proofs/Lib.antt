@@ -4,10 +4,17 @@ pub mod AreWithin
 pub mod Devices
 pub mod EndMembers
 pub mod FewEnds
+pub mod Fit
 pub mod FlatEnds
 pub mod FlatLeaves
 pub mod LeafPorts
 pub mod MembersAt
 pub mod Named
+pub mod ObjectBounds
+pub mod Ready
+pub mod SettledEnds
 pub mod ShortTrees
+pub mod SlotBounds
+pub mod Small
+pub mod SourceTables
 pub mod TypedEnds

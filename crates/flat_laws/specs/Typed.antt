@@ -20,4 +20,6 @@ pub record IsTypedEnd (s : Source) (flat : Flat) (c : FlatConnection) (e : FlatE
   pub kind : is_kind_of (end_rule c.connector e.role) (record { interface = interface; hardware = leaf.hardware }) ≡ true
 
 abbrev pub AreTyped : Source → Flat → Type 0
-AreTyped s flat = (k n : ℕ) (c : FlatConnection) (e : FlatEnd) → slice_get flat.connections k ≡ Some c → slice_get c.ends n ≡ Some e → IsTypedEnd s flat c e
+AreTyped s flat =
+    (k n : ℕ) (c : FlatConnection) (e : FlatEnd) → slice_get flat.connections k ≡ Some c → slice_get c.ends n ≡ Some e
+    → IsTypedEnd s flat c e

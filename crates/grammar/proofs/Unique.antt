@@ -4,11 +4,11 @@ use Rattle.std.proofs.lemmas.List.{append-nil, append_cancel_left}
 use Rattle.grammar.specs.declared.error.Why.{Why}
 use Rattle.grammar.specs.declared.error.Why.TheVariants.{Unexpected, TooDeep}
 use Rattle.grammar.specs.Form.{Form}
-use Rattle.grammar.specs.Spelling.{Begins}
+use Rattle.grammar.specs.Spelling.{Begins, Spells}
 use Rattle.grammar.specs.Depth.{deep, Begun}
 use Rattle.grammar.specs.Faults.{IsSyntaxError, IsTooDeep}
 use Rattle.grammar.specs.Parsed.{FileStops, PartStops}
-use Rattle.grammar.proofs.Fronts.{cut, head_is, deep_front}
+use Rattle.grammar.proofs.Fronts.{cut, head_is, deep_front, deep_begun}
 
 module _ {T V A : Type 0} (code : T → ℕ) (line : Form T V V) (f : Form T V A) (limit : ℕ) (ts : List T) where
   -- the tokens before the place begin the form within the limit, and with the next token no more
@@ -66,3 +66,15 @@ module _ {T V A : Type 0} (code : T → ℕ) (line : Form T V V) (f : Form T V A
   part_stops_once Unexpected TooDeep m n p q = error_is_not_deep m n p.0 q
   part_stops_once TooDeep Unexpected m n p q = error_is_not_deep n m q.0 p
   part_stops_once TooDeep TooDeep m n p q = (refl, left_is_one m n (deep_edge m p) (deep_edge n q))
+
+  -- ---- where a value is spelled, the tokens do not stop
+
+  -- a front of what is spelled within the limit begins the form within it
+  pub spelled_front : (x : A) (a b : List T) → Spells code (deep code line limit) f x (a ++ b) → Begins code (deep code line limit) f a
+  spelled_front x a b s = deep_front code line limit f a b (deep_begun code line limit f x (a ++ b) s)
+
+  pub file_goes_on : (x : A) (why : Why) (left : ℕ) → Spells code (deep code line limit) f x ts → FileStops code line f limit ts why left → ⊥
+  file_goes_on x Unexpected left s p = p.1 x (limit, s)
+  file_goes_on x TooDeep left s p =
+      let parts : ts ≡ (p.before ++ p.token ∷ []) ++ p.after = p.parts ∙ sym (append_assoc p.before (p.token ∷ []) p.after) in
+      p.past (spelled_front x (p.before ++ p.token ∷ []) p.after (subst (Spells code (deep code line limit) f x) parts s))

@@ -4,7 +4,9 @@ use Rattle.grammar.specs.Form.{Form}
 use Rattle.grammar.specs.Spelling.{Meaning, Spells, Begins}
 
 module _ {T V : Type 0} (code : T → ℕ) (line : Form T V V) where
-  -- The line within itself, nested at most n deep. At depth 0 nothing is spelled, so a value without nesting has depth 1.
+  -- What may stand where the line stands within itself, nested at most n deep. At depth 0 nothing may, so a line without
+  -- another in it has depth 1, and a form in which no line stands has depth 0: in the architecture language a number or
+  -- a text has depth 0, and brackets without brackets in them have depth 1.
   abbrev pub deep : ℕ → Meaning T V
   deep zero = record { spells = λ v ts. ⊥; begins = λ ts. ts ≡ [] }
   deep (suc n) = record { spells = Spells code (deep n) line; begins = Begins code (deep n) line }

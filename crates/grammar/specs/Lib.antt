@@ -8,5 +8,4 @@ pub mod Reading
 pub mod Gives
 pub mod Flat
 pub mod Spellable
-pub mod Items
 pub mod Refusal

@@ -3,9 +3,10 @@ ghost use Rattle.std.specs.Prelude.{◌≡◌};
 
 use cam_base::NoMemory;
 use std::alloc::{AllocError, AllocFailed};
+use thiserror::Error;
 
 /// Why reading stopped.
-#[derive(Clone, Copy, Debug, PartialEq, Eq)]
+#[derive(Clone, Copy, Debug)]
 pub enum Why {
     /// The form goes on with no such token; or it can't end where the tokens end.
     Unexpected,
@@ -14,7 +15,7 @@ pub enum Why {
 }
 
 /// Where reading stopped, and why. `specs/Faults.antt` says where that is.
-#[derive(Clone, Copy, Debug, PartialEq, Eq)]
+#[derive(Clone, Copy, Debug)]
 pub struct Stop {
     pub why: Why,
     /// The number of tokens that are left there, the one at fault among them; 0 is the end.
@@ -22,9 +23,13 @@ pub struct Stop {
 }
 
 /// Why a parser gave up: its tokens, or want of memory.
-#[derive(Debug, Drop, PartialEq, Eq)]
+#[derive(Debug, Drop, Error)]
 pub enum ReadError {
+    /// Want of memory.
+    #[error("no memory")]
     NoMemory,
+    /// The tokens stop being those of the form.
+    #[error("not of the form")]
     Stop(Stop),
 }
 

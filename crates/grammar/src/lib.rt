@@ -8,7 +8,4 @@ mod error;
 mod repeated;
 
 pub use error::{ReadError, Stop, Why};
-pub use repeated::{GrammarToken, Repeated, read_all, read_list};
-
-#[cfg(test)]
-mod tests;
+pub use repeated::{Language, Repeated, fitted, read_all, read_list};

@@ -1,3 +1,4 @@
+pub mod Keyword
 pub mod Ordering
 pub mod Picking
 pub mod Spreading

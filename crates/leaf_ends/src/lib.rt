@@ -1,7 +1,7 @@
 //! The ends at each leaf of a flat system, in order: by the interface that they join, and then by connection and end.
 //!
-//! The layouts of slots and of address spaces stand on this order. It is defined in `specs/LeafEnds.antt`, and what a flat
-//! system must keep in `specs/Within.antt`.
+//! The layouts of slots and of address spaces stand on this order. It is defined in `specs/LeafEnds.antt`, what a flat
+//! system must keep in `specs/Within.antt`, and the faults of limits of the layouts in `specs/Limit.antt`.
 #![tactic(auto)]
 
 mod end_at;
@@ -10,8 +10,6 @@ mod lookups;
 mod members;
 mod order;
 mod spread;
-#[cfg(test)]
-mod tests;
 
 pub use end_at::EndAt;
 pub use limit::limit_fault;

@@ -1,7 +1,9 @@
 -- On gather
 use Rattle.std.proofs.Common.{◌≡◌, ◌<◌, ◌+◌, ℕ, zero, suc, List, length, map, get_or, take, [], ◌∷◌, ◌++◌, refl, sym, ◌∙◌, ap, subst, inl, inr, ◌⊎◌, Some, append_assoc, append-nil, add-one, arith}
 use Rattle.std.proofs.lemmas.Option.{slice_get_read, slice_get-get_or, get_or_from_slice_get}
-use Rattle.std.specs.List.{slice_get}
+use Rattle.std.proofs.lemmas.Grind.{flat_map-append}
+use Rattle.std.specs.List.{flat_map, slice_get}
+pub use Rattle.std.proofs.lemmas.List.{length-append as length_append}
 use Rattle.numbering.specs.Gather.{gather, before, IsIn}
 
 pub in_left : {X : Type 0} (x : X) (xs ys : List X) → IsIn x xs → IsIn x (xs ++ ys)
@@ -54,10 +56,6 @@ get_front [] ys n x e = cc
 get_front (y ∷ xs) ys zero x e = e
 get_front (y ∷ xs) ys (suc n) x e = get_front xs ys n x e
 
-pub length_append : {X : Type 0} (xs ys : List X) → length (xs ++ ys) ≡ length xs + length ys
-length_append [] ys = omega arith
-length_append (x ∷ xs) ys = let ih = length_append xs ys in omega arith
-
 -- THE law of numbering: thing j of the element at place k stands behind what comes from the elements before it
 pub gathered : {X Y : Type 0} (f : ℕ → X → List Y) (xs : List X) (k : ℕ) (x : X) (j : ℕ) (y : Y) (m : ℕ) → slice_get xs k ≡ Some x → slice_get (f k x) j ≡ Some y → m ≡ before f xs k + j → slice_get (gather f xs) m ≡ Some y
 gathered f [] k x j y m e i s = cc
@@ -70,6 +68,40 @@ gathered {X} {Y} f (z ∷ xs) (suc k) x j y m e i s =
     let g : ℕ → X → List Y = λ k z. f (suc k) z in
     let long = length_append (f 0 z) (gather g (take k xs)) in
     get_behind (f 0 z) (gather g xs) (before g xs k + j) m (omega arith) ∙ gathered g xs k x j y (before g xs k + j) e i refl
+
+-- a look-up in two lists is one in the first, or in the second
+pub split_get : {X : Type 0} (xs ys : List X) (m : ℕ) (y : X) → slice_get (xs ++ ys) m ≡ Some y
+    → (slice_get xs m ≡ Some y) ⊎ ((n : ℕ) × (m ≡ length xs + n) × (slice_get ys n ≡ Some y))
+split_get [] ys m y h = inr (m, omega arith, h)
+split_get (x ∷ xs) ys zero y h = inl h
+split_get (x ∷ xs) ys (suc m) y h = elim (split_get xs ys m y h) [
+  | inl there ↦ inl there
+  | inr there ↦ let e = there.1 in inr (there.0, omega (arith, e), there.2)
+]
+
+-- what stands at a place was given by an element, and how far behind what comes from those before it
+pub record Gathered {X Y : Type 0} (f : ℕ → X → List Y) (xs : List X) (m : ℕ) (y : Y) : Type 0 where
+  pub place : ℕ
+  pub item : X
+  pub here : slice_get xs place ≡ Some item
+  pub number : ℕ
+  pub stands : slice_get (f place item) number ≡ Some y
+  pub sum : m ≡ before f xs place + number
+
+-- the converse of the law: each place has its element
+pub from_place : {X Y : Type 0} (f : ℕ → X → List Y) (xs : List X) (m : ℕ) (y : Y) → slice_get (gather f xs) m ≡ Some y → Gathered f xs m y
+from_place f [] m y h = absurd cc
+from_place {X} {Y} f (x ∷ xs) m y h =
+    let g : ℕ → X → List Y = λ k z. f (suc k) z in
+    elim (split_get (f 0 x) (gather g xs) m y h) [
+      | inl there ↦ record { place = 0; item = x; here = refl; number = m; stands = there; sum = omega arith }
+      | inr there ↦
+          let r : Gathered g xs there.0 y = from_place g xs there.0 y there.2 in
+          let long = length_append (f 0 x) (gather g (take r.place xs)) in
+          let e = there.1 in
+          let s = r.sum in
+          record { place = suc r.place; item = r.item; here = r.here; number = r.number; stands = r.stands; sum = omega (arith, long, e, s) }
+    ]
 
 -- the step of a loop that has gathered what comes from the first i elements
 pub gather_more : {X Y : Type 0} (f : ℕ → X → List Y) (xs : List X) (i : ℕ) (x : X) → slice_get xs i ≡ Some x → gather f (take (suc i) xs) ≡ gather f (take i xs) ++ f i x
@@ -86,6 +118,11 @@ pub get_ones : {X Y : Type 0} (f : ℕ → X → Y) (xs : List X) (k : ℕ) (x :
 get_ones f [] k x e = cc
 get_ones f (z ∷ xs) zero x e = let same : x ≡ z = cc in ap (λ w. Some (f 0 w)) (sym same)
 get_ones f (z ∷ xs) (suc k) x e = get_ones (λ k z. f (suc k) z) xs k x e
+
+pub from_ones : {X Y : Type 0} (f : ℕ → X → Y) (xs : List X) (k : ℕ) (y : Y) → slice_get (gather (λ k x. f k x ∷ []) xs) k ≡ Some y → (x : X) × (slice_get xs k ≡ Some x) × (f k x ≡ y)
+from_ones f [] k y e = cc
+from_ones f (z ∷ xs) zero y e = (z, refl, cc)
+from_ones f (z ∷ xs) (suc k) y e = from_ones (λ k z. f (suc k) z) xs k y e
 
 -- an element that is read with a default of its own
 pub read_twice : {X : Type 0} (ys : List X) (i : ℕ) (d : X) → i < length ys → get_or ys i d ≡ get_or ys i (get_or ys i d)
@@ -110,3 +147,9 @@ listed_at xs i l = in_place (get_or xs i 0) xs i (slice_get-get_or xs i 0 l)
 pub gather_map : {X Y : Type 0} (f : X → Y) (xs : List X) → gather (λ k x. f x ∷ []) xs ≡ map f xs
 gather_map f [] = refl
 gather_map f (x ∷ xs) = ap (λ z. f x ∷ z) (gather_map f xs)
+
+-- several things from each thing that is gathered
+pub flat_map-gather : {X Y Z : Type 0} (g : Y → List Z) (f : ℕ → X → List Y) (xs : List X) → flat_map g (gather f xs) ≡ gather (λ k x. flat_map g (f k x)) xs
+flat_map-gather g f [] = refl
+flat_map-gather g f (x ∷ xs) =
+    flat_map-append g (f 0 x) (gather (λ k y. f (suc k) y) xs) ∙ ap (λ z. flat_map g (f 0 x) ++ z) (flat_map-gather g (λ k y. f (suc k) y) xs)

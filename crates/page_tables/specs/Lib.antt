@@ -3,3 +3,7 @@ pub mod Fits
 pub mod Levels
 pub mod Runs
 pub mod Shapes
+pub mod Walks
+pub use Rattle.cap_model.specs.Auth
+pub use Rattle.cap_model.specs.Kept
+pub use Rattle.numbering.specs.Gather

@@ -1,8 +1,8 @@
 //! The page tables of an address space, over the levels of an architecture.
 //!
 //! Nothing here lays addresses, makes a frame, or knows what is mapped. The levels stand in `specs/Shapes.antt`, which
-//! tables of a level there are in `specs/Runs.antt`, the tables of all levels in `specs/Levels.antt`, and how many there
-//! are for a list of addresses in `specs/Counts.antt`.
+//! tables of a level there are in `specs/Runs.antt`, the tables of all levels in `specs/Levels.antt`, how many there are
+//! for a list of addresses in `specs/Counts.antt`, and how an address is found from the root in `specs/Walks.antt`.
 #![tactic(auto)]
 
 mod counts;
@@ -12,13 +12,11 @@ mod mapping;
 mod runs;
 mod shape;
 mod tables;
-#[cfg(test)]
-mod tests;
 
 pub use counts::table_count;
 pub use laws::{
-    counts_are_of_addresses, root_is_one, runs_are_tables, shapes_are_levels, slots_rise,
-    tables_are_kept, tables_hold_what_is_mapped,
+    counts_are_of_addresses, pages_are_found, root_is_one, runs_are_tables, shapes_are_levels,
+    slots_rise, tables_are_kept, tables_hold_what_is_mapped,
 };
 pub use mapping::Mapping;
 pub use shape::{Shape, shapes};

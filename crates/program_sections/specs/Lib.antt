@@ -4,3 +4,4 @@ pub mod Numbered
 pub mod SectionPages
 pub mod SpaceFaults
 pub mod Told
+pub use Rattle.numbering.specs.Gather

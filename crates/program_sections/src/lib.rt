@@ -12,8 +12,6 @@ mod images;
 mod laws;
 mod pages;
 mod sections;
-#[cfg(test)]
-mod tests;
 
 pub use faults::first_space_fault;
 pub use images::{Images, sections_end};

@@ -17,7 +17,7 @@ use sect_table::Section;
 use std::alloc::Global;
 
 /// A page of a section.
-#[derive(Debug, Drop)]
+#[derive(Drop)]
 pub struct SectionPage {
     pub vaddr: u64,
     pub write: bool,

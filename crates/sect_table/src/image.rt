@@ -2,7 +2,7 @@ use cam_base::{List, Name};
 use cap_model::Arch;
 
 /// A section of a program: whole pages of its address space.
-#[derive(Debug, Drop, PartialEq, Eq)]
+#[derive(Drop)]
 pub struct Section {
     pub name: Name,
     /// The address of its first byte, a multiple of 4,096.
@@ -16,7 +16,7 @@ pub struct Section {
 }
 
 /// What the first line of a table says.
-#[derive(Clone, Copy, Debug, PartialEq, Eq)]
+#[derive(Clone, Copy)]
 pub struct Header {
     pub arch: Arch,
     /// The address of the first instruction.
@@ -24,7 +24,7 @@ pub struct Header {
 }
 
 /// The image of a component's program.
-#[derive(Debug, Drop)]
+#[derive(Drop)]
 pub struct Image {
     /// The component's name.
     pub name: Name,

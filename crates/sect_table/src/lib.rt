@@ -8,8 +8,6 @@ mod header;
 mod image;
 mod reader;
 mod section;
-#[cfg(test)]
-mod tests;
 
 pub use image::{Header, Image, Section};
 pub use reader::{MAX_SECTIONS, read_sections};

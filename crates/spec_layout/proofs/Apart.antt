@@ -1,5 +1,5 @@
 -- No two objects have one name: the keys of their names, by series and number, rise.
-use Rattle.std.proofs.Common.{◌≡◌, ◌<◌, ◌≤◌, ◌+◌, ◌*◌, ◌^◌, ℕ, zero, suc, Bool, true, false, not, cond, List, [], ◌∷◌, ◌++◌, length, map, decimal, refl, sym, ◌∙◌, ap, subst, arith}
+use Rattle.std.proofs.Common.{◌≡◌, ◌<◌, ◌≤◌, ◌+◌, ◌*◌, ◌^◌, ℕ, suc, true, false, not, cond, List, [], ◌∷◌, ◌++◌, length, map, decimal, refl, sym, ◌∙◌, ap, subst, arith}
 use Rattle.std.specs.Prelude.{◌==◌}
 use Rattle.std.specs.List.{list_any}
 use Rattle.std.specs.Str.{bytes_eq}
@@ -15,8 +15,8 @@ use Rattle.numbering.specs.Gather.{gather}
 use Rattle.numbering.proofs.Gathered.{gather_same}
 use Rattle.spec_layout.specs.declared.series.Series.{Series}
 use Rattle.spec_layout.specs.declared.series.Series.TheVariants.{CNode, Tcb, Ep, Ntfn, Lock, Irq}
-use Rattle.spec_layout.specs.Layout.{Item, Part, part, numbered, cnodes, threads, joint, joint_of, joints, locks, irqs, parts}
-use Rattle.spec_layout.specs.Made.{entry_of, entries_in}
+use Rattle.spec_layout.specs.Layout.{Item, Part, numbered, cnodes, threads, endpoint_of, endpoints, notification_of, notifications, locks, irqs, parts}
+use Rattle.spec_layout.specs.Made.{entries_in}
 use Rattle.spec_layout.specs.Names.{name_of, prefix}
 use Rattle.spec_layout.specs.Put.{numbered_from}
 use Rattle.spec_layout.specs.Ready.{IsReady}
@@ -56,9 +56,9 @@ abbrev rank : Series → ℕ
 rank CNode = 0
 rank Tcb = 1
 rank Ep = 2
-rank Ntfn = 2
-rank Lock = 3
-rank Irq = 4
+rank Ntfn = 3
+rank Lock = 4
+rank Irq = 5
 
 abbrev key : Part → ℕ
 key p = rank p.series * 2 ^ 32 + p.number
@@ -127,36 +127,52 @@ between_numbered s xs h =
     between_less (rank s * 2 ^ 32) (rank s * 2 ^ 32 + 0) ((rank s + 1) * 2 ^ 32) (numbered s xs) (omega arith)
     (between_more (rank s * 2 ^ 32 + 0) (rank s * 2 ^ 32 + (0 + length xs)) ((rank s + 1) * 2 ^ 32) (numbered s xs) whole (omega arith))
 
-between_joint : (k l : ℕ) (c : Connector) → k < 2 ^ 32 → Between (2 * 2 ^ 32 + k) (2 * 2 ^ 32 + (k + 1)) (joint_of k l c)
-unfolding Between
-between_joint k l Rpc h = (omega arith, omega arith, omega arith)
-between_joint k l Notification h = (omega arith, omega arith, omega arith)
-between_joint k l Interrupt h = (omega arith, omega arith, omega arith)
-between_joint k l SharedMemory h = omega arith
-between_joint k l Mmio h = omega arith
-between_joint k l Direct h = omega arith
+-- ---- sections of connections, whose parts have the connection's number
 
-between_joints : (label : ℕ → ℕ) (k : ℕ) (cs : List FlatConnection) → k + length cs < 2 ^ 32 → Between (2 * 2 ^ 32 + k) (2 * 2 ^ 32 + (k + length cs)) (gather (λ n c. joint_of (k + n) (label n) c.connector) cs)
+-- what the connection at place k gives lies between its key and the next
+abbrev LiesAt : ℕ → (ℕ → Connector → List Part) → Type 0
+LiesAt r f = (k : ℕ) (c : Connector) → k < 2 ^ 32 → Between (r * 2 ^ 32 + k) (r * 2 ^ 32 + (k + 1)) (f k c)
+
+lies_endpoint : (label : ℕ → ℕ) → LiesAt 2 (λ k c. endpoint_of k (label k) c)
 unfolding Between
-between_joints label k [] h = omega arith
-between_joints label k (c ∷ cs) h =
+lies_endpoint label k Rpc h = (omega arith, omega arith, omega arith)
+lies_endpoint label k Notification h = omega arith
+lies_endpoint label k Interrupt h = omega arith
+lies_endpoint label k SharedMemory h = omega arith
+lies_endpoint label k Mmio h = omega arith
+lies_endpoint label k Direct h = omega arith
+
+lies_notification : (label : ℕ → ℕ) → LiesAt 3 (λ k c. notification_of k (label k) c)
+unfolding Between
+lies_notification label k Notification h = (omega arith, omega arith, omega arith)
+lies_notification label k Interrupt h = (omega arith, omega arith, omega arith)
+lies_notification label k Rpc h = omega arith
+lies_notification label k SharedMemory h = omega arith
+lies_notification label k Mmio h = omega arith
+lies_notification label k Direct h = omega arith
+
+between_connections : (r k : ℕ) (f : ℕ → Connector → List Part) (cs : List FlatConnection) → LiesAt r f → k + length cs < 2 ^ 32
+    → Between (r * 2 ^ 32 + k) (r * 2 ^ 32 + (k + length cs)) (gather (λ n c. f (k + n) c.connector) cs)
+unfolding Between
+between_connections r k f [] lies h = omega arith
+between_connections r k f (c ∷ cs) lies h =
     let zero_is : k + 0 ≡ k = omega arith in
-    let first : Between (2 * 2 ^ 32 + k) (2 * 2 ^ 32 + (k + 1)) (joint_of (k + 0) (label 0) c.connector) =
-    subst (λ z. Between (2 * 2 ^ 32 + k) (2 * 2 ^ 32 + (k + 1)) (joint_of z (label 0) c.connector)) (sym zero_is) (between_joint k (label 0) c.connector (omega arith)) in
-    let rest = between_joints (λ n. label (suc n)) (k + 1) cs (omega arith) in
-    let shifted = gather_same (λ n (x : FlatConnection). joint_of ((k + 1) + n) (label (suc n)) x.connector) (λ n x. joint_of (k + suc n) (label (suc n)) x.connector) cs
-    (λ n x e. let same : (k + 1) + n ≡ k + suc n = omega arith in ap (λ z. joint_of z (label (suc n)) x.connector) same) in
-    let b : 2 * 2 ^ 32 + ((k + 1) + length cs) ≡ 2 * 2 ^ 32 + (k + length (c ∷ cs)) = omega arith in
-    between_append (2 * 2 ^ 32 + k) (2 * 2 ^ 32 + (k + 1)) (2 * 2 ^ 32 + (k + length (c ∷ cs))) (joint_of (k + 0) (label 0) c.connector) _ first
-    (subst (λ z. Between (2 * 2 ^ 32 + (k + 1)) (2 * 2 ^ 32 + (k + length (c ∷ cs))) z) shifted (subst (λ z. Between (2 * 2 ^ 32 + (k + 1)) z (gather (λ n (x : FlatConnection). joint_of ((k + 1) + n) (label (suc n)) x.connector) cs)) b rest))
+    let first : Between (r * 2 ^ 32 + k) (r * 2 ^ 32 + (k + 1)) (f (k + 0) c.connector) =
+    subst (λ z. Between (r * 2 ^ 32 + k) (r * 2 ^ 32 + (k + 1)) (f z c.connector)) (sym zero_is) (lies k c.connector (omega arith)) in
+    let rest = between_connections r (k + 1) f cs lies (omega arith) in
+    let shifted = gather_same (λ n (x : FlatConnection). f ((k + 1) + n) x.connector) (λ n x. f (k + suc n) x.connector) cs
+    (λ n x e. let same : (k + 1) + n ≡ k + suc n = omega arith in ap (λ z. f z x.connector) same) in
+    let b : r * 2 ^ 32 + ((k + 1) + length cs) ≡ r * 2 ^ 32 + (k + length (c ∷ cs)) = omega arith in
+    between_append (r * 2 ^ 32 + k) (r * 2 ^ 32 + (k + 1)) (r * 2 ^ 32 + (k + length (c ∷ cs))) (f (k + 0) c.connector) _ first
+    (subst (λ z. Between (r * 2 ^ 32 + (k + 1)) (r * 2 ^ 32 + (k + length (c ∷ cs))) z) shifted (subst (λ z. Between (r * 2 ^ 32 + (k + 1)) z (gather (λ n (x : FlatConnection). f ((k + 1) + n) x.connector) cs)) b rest))
 
-between_all_joints : (t : Tables) → length t.flat.connections < 2 ^ 32 → Between (2 * 2 ^ 32) (3 * 2 ^ 32) (joints t)
-between_all_joints t h =
-    let cs = t.flat.connections in
-    let from = between_joints (connection_label t) 0 cs (omega arith) in
-    let same = gather_same (λ n (c : FlatConnection). joint_of (0 + n) (connection_label t n) c.connector) (joint t) cs (λ n c e. let z : 0 + n ≡ n = omega arith in ap (λ k. joint_of k (connection_label t n) c.connector) z) in
-    let whole = subst (λ z. Between (2 * 2 ^ 32 + 0) (2 * 2 ^ 32 + (0 + length cs)) z) same from in
-    between_less (2 * 2 ^ 32) (2 * 2 ^ 32 + 0) (3 * 2 ^ 32) (joints t) (omega arith) (between_more (2 * 2 ^ 32 + 0) (2 * 2 ^ 32 + (0 + length cs)) (3 * 2 ^ 32) (joints t) whole (omega arith))
+between_section : (r : ℕ) (f : ℕ → Connector → List Part) (cs : List FlatConnection) → LiesAt r f → length cs < 2 ^ 32 → Between (r * 2 ^ 32) ((r + 1) * 2 ^ 32) (gather (λ k c. f k c.connector) cs)
+between_section r f cs lies h =
+    let from = between_connections r 0 f cs lies (omega arith) in
+    let same = gather_same (λ n (c : FlatConnection). f (0 + n) c.connector) (λ k c. f k c.connector) cs (λ n c e. let z : 0 + n ≡ n = omega arith in ap (λ k. f k c.connector) z) in
+    let whole = subst (λ z. Between (r * 2 ^ 32 + 0) (r * 2 ^ 32 + (0 + length cs)) z) same from in
+    between_less (r * 2 ^ 32) (r * 2 ^ 32 + 0) ((r + 1) * 2 ^ 32) (gather (λ k (c : FlatConnection). f k c.connector) cs) (omega arith)
+    (between_more (r * 2 ^ 32 + 0) (r * 2 ^ 32 + (0 + length cs)) ((r + 1) * 2 ^ 32) (gather (λ k (c : FlatConnection). f k c.connector) cs) whole (omega arith))
 
 names_of : (ps : List Part) → map (λ entry. entry.name) (entries_in ps) ≡ map part_name ps
 names_of [] = refl
@@ -167,11 +183,13 @@ names_apart t ready nodes =
     let few = bounds t ready in
     let s1 = between_numbered CNode (cnodes t) (omega (arith, few, nodes)) in
     let s2 = between_numbered Tcb (threads t) (omega (arith, few)) in
-    let s3 = between_all_joints t ready.connections in
-    let s4 = between_numbered Lock (locks t) (omega (arith, few)) in
-    let s5 = between_numbered Irq (irqs t) (omega (arith, few)) in
-    let k45 = between_append (3 * 2 ^ 32) (4 * 2 ^ 32) (5 * 2 ^ 32) (numbered Lock (locks t)) (numbered Irq (irqs t)) s4 s5 in
-    let k35 = between_append (2 * 2 ^ 32) (3 * 2 ^ 32) (5 * 2 ^ 32) (joints t) _ s3 k45 in
-    let k25 = between_append (1 * 2 ^ 32) (2 * 2 ^ 32) (5 * 2 ^ 32) (numbered Tcb (threads t)) _ s2 k35 in
-    let all = between_append (0 * 2 ^ 32) (1 * 2 ^ 32) (5 * 2 ^ 32) (numbered CNode (cnodes t)) _ s1 k25 in
-    ap (differ bytes_eq) (names_of (parts t)) ∙ all_differ (0 * 2 ^ 32) (5 * 2 ^ 32) (parts t) all
+    let s3 = between_section 2 (λ k c. endpoint_of k (connection_label t k) c) t.flat.connections (lies_endpoint (connection_label t)) ready.connections in
+    let s4 = between_section 3 (λ k c. notification_of k (connection_label t k) c) t.flat.connections (lies_notification (connection_label t)) ready.connections in
+    let s5 = between_numbered Lock (locks t) (omega (arith, few)) in
+    let s6 = between_numbered Irq (irqs t) (omega (arith, few)) in
+    let k56 = between_append (4 * 2 ^ 32) (5 * 2 ^ 32) (6 * 2 ^ 32) (numbered Lock (locks t)) (numbered Irq (irqs t)) s5 s6 in
+    let k46 = between_append (3 * 2 ^ 32) (4 * 2 ^ 32) (6 * 2 ^ 32) (notifications t) _ s4 k56 in
+    let k36 = between_append (2 * 2 ^ 32) (3 * 2 ^ 32) (6 * 2 ^ 32) (endpoints t) _ s3 k46 in
+    let k26 = between_append (1 * 2 ^ 32) (2 * 2 ^ 32) (6 * 2 ^ 32) (numbered Tcb (threads t)) _ s2 k36 in
+    let all = between_append (0 * 2 ^ 32) (1 * 2 ^ 32) (6 * 2 ^ 32) (numbered CNode (cnodes t)) _ s1 k26 in
+    ap (differ bytes_eq) (names_of (parts t)) ∙ all_differ (0 * 2 ^ 32) (6 * 2 ^ 32) (parts t) all

@@ -1,6 +1,6 @@
 -- Objects and places as they are counted.
-use Rattle.std.proofs.Common.{◌≡◌, ◌<◌, ◌≤◌, ◌+◌, ◌^◌, ℕ, zero, suc, Bool, true, false, cond, List, [], ◌∷◌, ◌++◌, length, take, get_or, refl, sym, ◌∙◌, ap, subst, Some, add-one, arith}
-use Rattle.std.specs.Prelude.{slice_index}
+use Rattle.std.proofs.Common.{◌≡◌, ◌<◌, ◌≤◌, ◌+◌, ◌^◌, ℕ, zero, suc, Bool, true, false, cond, List, [], ◌∷◌, ◌++◌, length, take, get_or, refl, sym, ◌∙◌, ap, subst, Option, Some, None, add-one, arith}
+use Rattle.std.specs.Prelude.{slice_index, is_some}
 use Rattle.std.specs.List.{count_by, slice_get}
 use Rattle.std.proofs.lemmas.List.Sums.{sum_by-cons}
 use Rattle.std.proofs.lemmas.Option.{slice_get_read, get_or_from_slice_get}
@@ -18,11 +18,11 @@ use Rattle.spec_layout.specs.declared.places.Standing.{Standing}
 use Rattle.spec_layout.specs.declared.places.Standing.TheVariants as standings
 use Rattle.spec_layout.specs.declared.series.Series.{Series}
 use Rattle.spec_layout.specs.declared.series.Series.TheVariants as series
-use Rattle.spec_layout.specs.Layout.{Item, Part, part, joint, joint_of, joints, irq, irq_of, irqs, lock, plan_locks, locks, thread, threads, servers, serves, leaf_threads, domain_threads, numbered, cnode, cnodes, parts, first_joint, first_lock, first_irq, joint_place, irq_place, lock_place, item, cap_of, caps_of}
+use Rattle.spec_layout.specs.Layout.{Item, part, endpoint, endpoint_of, endpoints, notification, notification_of, notifications, irq, irq_of, irq_to, irqs, lock, plan_locks, locks, thread, threads, servers, serves, numbered, cnode, cnodes, parts, first_endpoint, first_notification, first_lock, first_irq, endpoint_place, notification_place, irq_place, lock_place, item, cap_of, caps_of}
 use Rattle.spec_layout.specs.Bits.{bits_for}
-use Rattle.spec_layout.specs.Places.{capped, holds_lock, mark, one, stands, places_from}
+use Rattle.spec_layout.specs.Places.{has_endpoint, has_irq, has_notification, holds_lock, mark, one, stands, places_from}
 use Rattle.spec_layout.specs.Ready.{IsReady}
-use Rattle.spec_layout.specs.Tables.{Tables, domain_label}
+use Rattle.spec_layout.specs.Tables.{Tables, connection_label, device_leaf, domain_label}
 
 -- ---- the lengths of what is gathered
 
@@ -62,8 +62,8 @@ counted {X} test F (x ∷ xs) h =
 
 -- ---- of each kind
 
-pub length-marks : (standing : Standing) (cs : List FlatConnection) → length (gather (mark standing) cs) ≡ count_by (λ c. stands standing c.connector) cs
-length-marks standing cs = counted (λ (c : FlatConnection). stands standing c.connector) (mark standing) cs (λ k c. one_long (stands standing c.connector) true)
+pub length-marks : (standing : Standing) (cs : List FlatConnection) → length (gather (mark standing) cs) ≡ count_by (stands standing) cs
+length-marks standing cs = counted (stands standing) (mark standing) cs (λ k c. one_long (stands standing c) true)
 
 pub length-servers : (t : Tables) (d leaf : ℕ) (uses : List SlotUse) → length (servers t d leaf uses) ≡ count_by (serves t.flat leaf) uses
 length-servers t d leaf uses = counted (serves t.flat leaf) (λ n u. cond (serves t.flat leaf u) (thread t d leaf ∷ []) []) uses (λ n u. one_long (serves t.flat leaf u) (thread t d leaf))
@@ -76,45 +76,62 @@ length-lock l (OwnLock leaf m) = refl
 pub length-locks : (l : ℕ) (uses : List SlotUse) → length (gather (λ n u. lock l u) uses) ≡ count_by holds_lock uses
 length-locks l uses = counted holds_lock (λ n u. lock l u) uses (λ n u. length-lock l u)
 
-pub length-joint : (k l : ℕ) (c : Connector) → length (joint_of k l c) ≡ one (stands standings.Joint c)
-length-joint k l Rpc = refl
-length-joint k l Notification = refl
-length-joint k l Interrupt = refl
-length-joint k l SharedMemory = refl
-length-joint k l Mmio = refl
-length-joint k l Direct = refl
+length-endpoint : (k l : ℕ) (c : Connector) → length (endpoint_of k l c) ≡ one (has_endpoint c)
+length-endpoint k l Rpc = refl
+length-endpoint k l Notification = refl
+length-endpoint k l Interrupt = refl
+length-endpoint k l SharedMemory = refl
+length-endpoint k l Mmio = refl
+length-endpoint k l Direct = refl
 
-pub length-irq : (t : Tables) (k : ℕ) (c : FlatConnection) (x : Connector) → length (irq_of t k c x) ≡ one (stands standings.Interrupt x)
-length-irq t k c Rpc = refl
-length-irq t k c Notification = refl
-length-irq t k c Interrupt = refl
-length-irq t k c SharedMemory = refl
-length-irq t k c Mmio = refl
-length-irq t k c Direct = refl
+length-notification : (k l : ℕ) (c : Connector) → length (notification_of k l c) ≡ one (has_notification c)
+length-notification k l Rpc = refl
+length-notification k l Notification = refl
+length-notification k l Interrupt = refl
+length-notification k l SharedMemory = refl
+length-notification k l Mmio = refl
+length-notification k l Direct = refl
 
-length-mark : (standing : Standing) (k : ℕ) (c : FlatConnection) → length (mark standing k c) ≡ one (stands standing c.connector)
-length-mark standing k c = one_long (stands standing c.connector) true
+length-irq : (t : Tables) (place : ℕ) (c : FlatConnection) (x : Connector) → length (irq_of t place c x) ≡ one (has_irq x c.ends)
+length-irq t place c Rpc = refl
+length-irq t place c Notification = refl
+length-irq t place c Interrupt = by_device (device_leaf Interrupt c.ends)
+  where
+    by_device : (o : Option ℕ) → length (irq_to t place o) ≡ one (is_some o)
+    by_device None = refl
+    by_device (Some leaf) = refl
+length-irq t place c SharedMemory = refl
+length-irq t place c Mmio = refl
+length-irq t place c Direct = refl
 
-pub joints_marked : (t : Tables) (cs : List FlatConnection) → length (gather (mark standings.Joint) cs) ≡ length (gather (joint t) cs)
-joints_marked t cs = as_long (mark standings.Joint) (joint t) cs (λ k c. length-mark standings.Joint k c ∙ sym (length-joint k _ c.connector))
+length-mark : (standing : Standing) (k : ℕ) (c : FlatConnection) → length (mark standing k c) ≡ one (stands standing c)
+length-mark standing k c = one_long (stands standing c) true
 
-pub irqs_marked : (t : Tables) (cs : List FlatConnection) → length (gather (mark standings.Interrupt) cs) ≡ length (gather (irq t) cs)
-irqs_marked t cs = as_long (mark standings.Interrupt) (irq t) cs (λ k c. length-mark standings.Interrupt k c ∙ sym (length-irq t k c c.connector))
+endpoints_marked : (t : Tables) (cs : List FlatConnection) → length (gather (mark standings.Endpoint) cs) ≡ length (gather (endpoint t) cs)
+endpoints_marked t cs = as_long (mark standings.Endpoint) (endpoint t) cs (λ k c. length-mark standings.Endpoint k c ∙ sym (length-endpoint k (connection_label t k) c.connector))
+
+notifications_marked : (t : Tables) (cs : List FlatConnection) → length (gather (mark standings.Notification) cs) ≡ length (gather (notification t) cs)
+notifications_marked t cs = as_long (mark standings.Notification) (notification t) cs (λ k c. length-mark standings.Notification k c ∙ sym (length-notification k (connection_label t k) c.connector))
+
+irqs_marked : (t : Tables) (cs : List FlatConnection) → length (gather (mark standings.Interrupt) cs) ≡ length (gather (irq t) cs)
+irqs_marked t cs = as_long (mark standings.Interrupt) (irq t) cs (λ k c. length-mark standings.Interrupt k c ∙ sym (length-irq t (notification_place t k) c c.connector))
 
 -- ---- the whole
 
-pub length-parts : (t : Tables) → length (parts t) ≡ length t.slots.domains + length (threads t) + length (joints t) + length (locks t) + length (irqs t)
+pub length-parts : (t : Tables) → length (parts t) ≡ length t.slots.domains + length (threads t) + length (endpoints t) + length (notifications t) + length (locks t) + length (irqs t)
 length-parts t =
-    let r4 = numbered series.Irq (irqs t) in
-    let r3 = numbered series.Lock (locks t) ++ r4 in
-    let r2 = joints t ++ r3 in
+    let r5 = numbered series.Irq (irqs t) in
+    let r4 = numbered series.Lock (locks t) ++ r5 in
+    let r3 = notifications t ++ r4 in
+    let r2 = endpoints t ++ r3 in
     let r1 = numbered series.Tcb (threads t) ++ r2 in
     omega (
       arith,
       length_append (numbered series.CNode (cnodes t)) r1,
       length_append (numbered series.Tcb (threads t)) r2,
-      length_append (joints t) r3,
-      length_append (numbered series.Lock (locks t)) r4,
+      length_append (endpoints t) r3,
+      length_append (notifications t) r4,
+      length_append (numbered series.Lock (locks t)) r5,
       length-numbered series.CNode (cnodes t),
       length-numbered series.Tcb (threads t),
       length-numbered series.Lock (locks t),
@@ -125,20 +142,25 @@ length-parts t =
     length-numbered : (s : Series) (xs : List Item) → length (numbered s xs) ≡ length xs
     length-numbered s xs = gather_ones (λ n x. part s n x) xs
 
-pub bounds : (t : Tables) → IsReady t → length t.slots.domains + length (threads t) + length (joints t) + length (locks t) + length (irqs t) < 2 ^ 32
+pub bounds : (t : Tables) → IsReady t → length t.slots.domains + length (threads t) + length (endpoints t) + length (notifications t) + length (locks t) + length (irqs t) < 2 ^ 32
 bounds t ready = let few = ready.objects in omega (arith, few, length-parts t)
 
 -- ---- tables of places
 
-pub joints_placed : (t : Tables) (first : ℕ) (places : List ℕ) → first ≡ first_joint t → places ≡ places_from standings.Joint first t.flat.connections → places ≡ gather (λ k c. joint_place t k ∷ []) t.flat.connections
-joints_placed t first places f e =
-    e ∙ gather_same (λ k (c : FlatConnection). (first + before (mark standings.Joint) t.flat.connections k) ∷ []) (λ k c. joint_place t k ∷ []) t.flat.connections
-    (λ k c at. let same : first + before (mark standings.Joint) t.flat.connections k ≡ joint_place t k = omega (arith, f, joints_marked t (take k t.flat.connections)) in ap (λ n. n ∷ []) same)
+-- the places of a section, of which each connection has as many objects as it has marks
+placed : (standing : Standing) (F : ℕ → ℕ) (first : ℕ) (cs : List FlatConnection) (places : List ℕ) → ((k : ℕ) → first + before (mark standing) cs k ≡ F k) → places ≡ places_from standing first cs → places ≡ gather (λ k c. F k ∷ []) cs
+placed standing F first cs places h e = e ∙ gather_same (λ k (c : FlatConnection). (first + before (mark standing) cs k) ∷ []) (λ k c. F k ∷ []) cs (λ k c at. ap (λ n. n ∷ []) (h k))
+
+pub endpoints_placed : (t : Tables) (first : ℕ) (places : List ℕ) → first ≡ first_endpoint t → places ≡ places_from standings.Endpoint first t.flat.connections
+    → places ≡ gather (λ k c. endpoint_place t k ∷ []) t.flat.connections
+endpoints_placed t first places f e = placed standings.Endpoint (endpoint_place t) first t.flat.connections places (λ k. omega (arith, f, endpoints_marked t (take k t.flat.connections))) e
+
+pub notifications_placed : (t : Tables) (first : ℕ) (places : List ℕ) → first ≡ first_notification t → places ≡ places_from standings.Notification first t.flat.connections
+    → places ≡ gather (λ k c. notification_place t k ∷ []) t.flat.connections
+notifications_placed t first places f e = placed standings.Notification (notification_place t) first t.flat.connections places (λ k. omega (arith, f, notifications_marked t (take k t.flat.connections))) e
 
 pub irqs_placed : (t : Tables) (first : ℕ) (places : List ℕ) → first ≡ first_irq t → places ≡ places_from standings.Interrupt first t.flat.connections → places ≡ gather (λ k c. irq_place t k ∷ []) t.flat.connections
-irqs_placed t first places f e =
-    e ∙ gather_same (λ k (c : FlatConnection). (first + before (mark standings.Interrupt) t.flat.connections k) ∷ []) (λ k c. irq_place t k ∷ []) t.flat.connections
-    (λ k c at. let same : first + before (mark standings.Interrupt) t.flat.connections k ≡ irq_place t k = omega (arith, f, irqs_marked t (take k t.flat.connections)) in ap (λ n. n ∷ []) same)
+irqs_placed t first places f e = placed standings.Interrupt (irq_place t) first t.flat.connections places (λ k. omega (arith, f, irqs_marked t (take k t.flat.connections))) e
 
 -- the place of a connection in a table of places
 pub place_found : (F : ℕ → ℕ) (cs : List FlatConnection) (places : List ℕ) (k : ℕ) → places ≡ gather (λ k c. F k ∷ []) cs → k < length cs → slice_index places k ≡ F k
@@ -159,7 +181,7 @@ pub places_turn : (standing : Standing) (first : ℕ) (cs : List FlatConnection)
 places_turn standing first cs i next c old new l is n o e =
     gather_turn (λ k (c : FlatConnection). (first + before (mark standing) cs k) ∷ []) cs cs i c [] old new refl l is o (e ∙ ap (λ z. old ++ z ∷ []) n)
 
-pub mark_turn : (standing : Standing) (first : ℕ) (cs : List FlatConnection) (i next more : ℕ) (c : FlatConnection) → i < length cs → c ≡ get_or cs i c → more ≡ one (stands standing c.connector)
+pub mark_turn : (standing : Standing) (first : ℕ) (cs : List FlatConnection) (i next more : ℕ) (c : FlatConnection) → i < length cs → c ≡ get_or cs i c → more ≡ one (stands standing c)
     → next ≡ first + length (gather (mark standing) (take i cs)) → next + more ≡ first + length (gather (mark standing) (take (i + 1) cs))
 mark_turn standing first cs i next more c l is m n = omega (arith, m, n, grown_length (mark standing) cs cs i c refl l is, length-mark standing i c)
 
@@ -189,14 +211,20 @@ locks_turn t read d plan uses place ready same l is u at =
 
 -- ---- connections that are read through a slice
 
-pub joints_long : (t : Tables) (cs : List FlatConnection) → cs ≡ t.flat.connections → length (gather (mark standings.Joint) cs) ≡ length (joints t)
-joints_long t cs e = ap (λ z. length (gather (mark standings.Joint) z)) e ∙ joints_marked t t.flat.connections
+pub endpoints_long : (t : Tables) (cs : List FlatConnection) → cs ≡ t.flat.connections → length (gather (mark standings.Endpoint) cs) ≡ length (endpoints t)
+endpoints_long t cs e = ap (λ z. length (gather (mark standings.Endpoint) z)) e ∙ endpoints_marked t t.flat.connections
+
+pub notifications_long : (t : Tables) (cs : List FlatConnection) → cs ≡ t.flat.connections → length (gather (mark standings.Notification) cs) ≡ length (notifications t)
+notifications_long t cs e = ap (λ z. length (gather (mark standings.Notification) z)) e ∙ notifications_marked t t.flat.connections
 
 pub irqs_long : (t : Tables) (cs : List FlatConnection) → cs ≡ t.flat.connections → length (gather (mark standings.Interrupt) cs) ≡ length (irqs t)
 irqs_long t cs e = ap (λ z. length (gather (mark standings.Interrupt) z)) e ∙ irqs_marked t t.flat.connections
 
-pub joints_counted : (t : Tables) (cs : List FlatConnection) (n : ℕ) → cs ≡ t.flat.connections → n ≡ count_by (λ c. stands standings.Joint c.connector) cs → n ≡ length (joints t)
-joints_counted t cs n e c = c ∙ sym (length-marks standings.Joint cs) ∙ joints_long t cs e
+pub endpoints_counted : (t : Tables) (cs : List FlatConnection) (n : ℕ) → cs ≡ t.flat.connections → n ≡ count_by (stands standings.Endpoint) cs → n ≡ length (endpoints t)
+endpoints_counted t cs n e c = c ∙ sym (length-marks standings.Endpoint cs) ∙ endpoints_long t cs e
+
+pub notifications_counted : (t : Tables) (cs : List FlatConnection) (n : ℕ) → cs ≡ t.flat.connections → n ≡ count_by (stands standings.Notification) cs → n ≡ length (notifications t)
+notifications_counted t cs n e c = c ∙ sym (length-marks standings.Notification cs) ∙ notifications_long t cs e
 
 pub cnode_same : (t : Tables) (d label bits : ℕ) (slots : List (ℕ × Cap)) (uses mine : List SlotUse) → label ≡ domain_label t d → bits ≡ bits_for (length uses) → slots ≡ caps_of t d uses → uses ≡ mine
     → item label (CNode bits slots) ≡ cnode t d mine

@@ -1,10 +1,10 @@
 -- The boot edges between different labels are those that ends are assigned directly.
-use Rattle.std.proofs.Common.{◌≡◌, ◌≢◌, ℕ, ◌+◌, Bool, true, false, cond, List, [], ◌∷◌, ◌++◌, refl, sym, ◌∙◌, ap, subst, Option, Some, inl, inr, ◌⊎◌, ◌↔◌}
-use Rattle.std.specs.List.{slice_get, slice_index}
+use Rattle.std.proofs.Common.{◌≡◌, ◌≢◌, ℕ, ◌+◌, true, List, refl, sym, ◌∙◌, ap, subst, Option, Some, inl, inr, ◌↔◌}
+use Rattle.std.specs.List.{slice_get}
 use Rattle.adl_ast.specs.declared.composition.Role.{Role}
 use Rattle.adl_ast.specs.declared.composition.Role.TheVariants.{From, To}
 use Rattle.adl_meaning.specs.declared.connector.Connector.{Connector}
-use Rattle.adl_meaning.specs.declared.connector.Connector.TheVariants.{Rpc, Notification, SharedMemory, Mmio, Interrupt, Direct}
+use Rattle.adl_meaning.specs.declared.connector.Connector.TheVariants.{Interrupt}
 use Rattle.adl_meaning.specs.declared.flat.Domain.{Domain}
 use Rattle.adl_meaning.specs.declared.flat.FlatConnection.{FlatConnection}
 use Rattle.adl_meaning.specs.declared.flat.FlatEnd.{FlatEnd}
@@ -13,7 +13,7 @@ use Rattle.auth_graph.proofs.BootSources.{auth_source, source_auth}
 use Rattle.auth_kinds.specs.Edges.{edge}
 use Rattle.auth_kinds.specs.ObjectLabels.{label_of}
 use Rattle.auth_kinds.specs.declared.authority.Authority.{Authority}
-use Rattle.auth_kinds.specs.declared.authority.Authority.TheVariants.{AsyncSend, Handle}
+use Rattle.auth_kinds.specs.declared.authority.Authority.TheVariants.{Handle}
 use Rattle.auth_kinds.specs.declared.edge.Edge.{Edge}
 use Rattle.cap_model.specs.Auth.{Auth}
 use Rattle.cap_model.specs.Confers.{confers, option_confers, kind_confers}
@@ -21,24 +21,22 @@ use Rattle.cap_model.specs.Kinds.{kind_of_object}
 use Rattle.cap_model.specs.State.{boot}
 use Rattle.cap_model.specs.declared.cap.Cap.{Cap}
 use Rattle.cap_model.specs.declared.object.Object.TheVariants.{Notification as Notice, Irq}
-use Rattle.cap_model.specs.declared.spec.Spec.{Spec}
 use Rattle.conn_rules.specs.Row.{NONE}
 use Rattle.cspace_layout.specs.declared.plan.SlotPlan.{SlotPlan}
 use Rattle.cspace_layout.specs.declared.plan.SlotUse.{SlotUse}
 use Rattle.cspace_layout.specs.declared.plan.SlotUse.TheVariants.{OfEnd, Handler, OwnLock}
 use Rattle.cspace_layout.specs.Uses.{domain_uses, end_uses, plan_of, slots_of}
-use Rattle.numbering.specs.Gather.{IsIn, before}
-use Rattle.numbering.proofs.Gathered.{from_gather, in_append, place_of, in_place, get_ones}
-use Rattle.spec_layout.specs.declared.series.Series.{Series}
+use Rattle.numbering.specs.Gather.{IsIn}
+use Rattle.numbering.proofs.Gathered.{place_of, in_place, get_ones}
 use Rattle.spec_layout.specs.declared.series.Series.TheVariants as series
 use Rattle.spec_layout.specs.Direct.{assigns, handles, has_slot, IsFlat, leaf_label, option_label, owner, IsDirect}
-use Rattle.spec_layout.specs.Layout.{Item, Part, item, part, numbered, cnode, cnodes, thread, threads, serves, servers, leaf_threads, domain_threads, joint, joint_of, joints, lock, plan_locks, locks, irq, irq_of, irqs, parts, joint_place, lock_place, irq_place, cap_of, rights_at, end_rights, sorted_lines, lines}
+use Rattle.spec_layout.specs.Layout.{Part, item, part, numbered, cnode, cnodes, thread, parts, object_place, notification_place, lock_place, irq_place, cap_of, rights_at, sorted_lines, lines}
 use Rattle.spec_layout.specs.Made.{entry_of, labels_in, spec_of}
-use Rattle.spec_layout.specs.Tables.{Tables, connection_label, device_label, domain_label, domain_slots, end_in}
-use Rattle.spec_layout.proofs.Found.{label_found, kind_found, entry_found, found_entry, cnode_at, joint_at, lock_at, irq_at}
-use Rattle.spec_layout.proofs.Rows.{joint_object, joint_series, joint_first, row_law, sends, only_handled, from_end_uses, end_in_uses}
+use Rattle.spec_layout.specs.Tables.{Tables, connection_label, device_label, device_leaf, domain_label, leaf_number}
+use Rattle.spec_layout.proofs.Found.{label_found, kind_found, entry_found, found_entry, cnode_at, lock_at}
+use Rattle.spec_layout.proofs.Rows.{connection_object, row_law, sends, only_handled, from_end_uses, end_in_uses}
+use Rattle.spec_layout.proofs.Standing.{IsInterrupt, IsPlain, IsThread, from_numbered, irq_here, notification_here, object_here, part_of, rights_here}
 use Rattle.spec_layout.proofs.Used.{UseOf, from_domain, in_domain, slots_at, from_slots, from_ones}
-use Rattle.std.specs.Option.{option_and_then, option_map_or}
 use Rattle.std.specs.Prelude.{option_map}
 
 module _ (t : Tables) (flat : IsFlat t.source t.flat) (laid : t.slots ≡ slots_of t.source t.flat) where
@@ -57,39 +55,60 @@ module _ (t : Tables) (flat : IsFlat t.source t.flat) (laid : t.slots ≡ slots_
       let o = flat.owned d l domain e i in
       ap (λ x. option_label t l x) o.1 ∙ ap (λ x. owner t l x) o.2
 
-  -- the object of a connection
-  joint_here : (k : ℕ) (c : FlatConnection) (r : Role) → slice_get t.flat.connections k ≡ Some c → has_slot c.connector r ≡ true
-      → slice_get (parts t) (joint_place t k) ≡ Some (part (joint_series c.connector) k (item (connection_label t k) (joint_object c.connector)))
-  joint_here k c r e s = joint_at t k c _ e (joint_first k (connection_label t k) c.connector r s)
+  object_label : (k : ℕ) (c : FlatConnection) (r : Role) → slice_get t.flat.connections k ≡ Some c → has_slot c.connector r ≡ true → label_of labels (object_place t k) ≡ connection_label t k
+  object_label k c r e s = label_found (parts t) (object_place t k) _ (object_here t k c r e s)
 
-  joint_label : (k : ℕ) (c : FlatConnection) (r : Role) → slice_get t.flat.connections k ≡ Some c → has_slot c.connector r ≡ true → label_of labels (joint_place t k) ≡ connection_label t k
-  joint_label k c r e s = label_found (parts t) (joint_place t k) _ (joint_here k c r e s)
+  notification_label : (k : ℕ) (c : FlatConnection) → slice_get t.flat.connections k ≡ Some c → c.connector ≡ Interrupt → label_of labels (notification_place t k) ≡ connection_label t k
+  notification_label k c e i = label_found (parts t) (notification_place t k) _ (notification_here t k c e i)
 
-  -- the interrupt of a connection
-  abbrev irq_part : ℕ → FlatConnection → Part
-  irq_part k c = part series.Irq (before (irq t) t.flat.connections k) (item (device_label t c) (Irq (Some (joint_place t k))))
+  -- the device of an interrupt, whose label is that of its leaf
+  record HasDevice (c : FlatConnection) : Type 0 where
+    number : ℕ
+    end : FlatEnd
+    stands : slice_get c.ends number ≡ Some end
+    from : end.role ≡ From
+    leaf : device_leaf Interrupt c.ends ≡ Some end.leaf
+    label : leaf_label t end.leaf ≡ leaf_number t end.leaf
 
-  irq_here : (k : ℕ) (c : FlatConnection) → slice_get t.flat.connections k ≡ Some c → c.connector ≡ Interrupt → slice_get (parts t) (irq_place t k) ≡ Some (irq_part k c)
-  irq_here k c e i =
-      let P : Connector → Type 0 = λ x. slice_get (irq_of t k c x) 0 ≡ Some (item (device_label t c) (Irq (Some (joint_place t k)))) in
-      irq_at t k c (item (device_label t c) (Irq (Some (joint_place t k)))) e (subst P (sym i) refl)
+  own_label : (k n : ℕ) (c : FlatConnection) (e : FlatEnd) → slice_get t.flat.connections k ≡ Some c → slice_get c.ends n ≡ Some e → c.connector ≡ Interrupt → e.role ≡ From → leaf_label t e.leaf ≡ leaf_number t e.leaf
+  own_label k n c e h s i r =
+      let o = flat.one_device k n c e h s i r in
+      let j = flat.joined k n c e h s in
+      ap (λ x. option_label t e.leaf x) j.1 ∙ ap (λ x. owner t e.leaf x) (o.1 j.0 j.1)
 
-  rights_here : (k n : ℕ) (c : FlatConnection) (e : FlatEnd) → slice_get t.flat.connections k ≡ Some c → slice_get c.ends n ≡ Some e → rights_at t k n ≡ end_rights c.connector e.role
-  rights_here k n c e h s =
-      ap (λ x. option_map_or (λ (y : Connector × FlatEnd). end_rights y.0 y.1.role) (option_and_then (end_in n) x) NONE) h
-      ∙ ap (λ x. option_map_or (λ (y : Connector × FlatEnd). end_rights y.0 y.1.role) (option_map (λ (z : FlatEnd). (c.connector, z)) x) NONE) s
+  has_device : (k : ℕ) (c : FlatConnection) → slice_get t.flat.connections k ≡ Some c → c.connector ≡ Interrupt → HasDevice c
+  has_device k c h i =
+      let d = flat.device k c h i in
+      record { number = d.0; end = d.1; stands = d.2; from = d.3; leaf = (flat.one_device k d.0 c d.1 h d.2 i d.3).0; label = own_label k d.0 c d.1 h d.2 i d.3 }
+
+  -- the label by the connection is that of the leaf
+  device_labelled : (c : FlatConnection) (leaf : ℕ) → c.connector ≡ Interrupt → device_leaf Interrupt c.ends ≡ Some leaf → device_label t c ≡ Some (leaf_number t leaf)
+  device_labelled c leaf i d = ap (λ x. option_map (leaf_number t) (device_leaf x c.ends)) i ∙ ap (λ o. option_map (leaf_number t) o) d
+
+  some_one : {m n : ℕ} → Some m ≡ Some n → m ≡ n
+  some_one e = cc
 
   -- what the capability of an end confers
   end_confers : (k n at : ℕ) (c : FlatConnection) (e : FlatEnd) (a : Authority) → slice_get t.flat.connections k ≡ Some c → slice_get c.ends n ≡ Some e → has_slot c.connector e.role ≡ true
       → confers (spec_of t) (cap_of t at (OfEnd k n)) a ≡ assigns c.connector e.role a
   end_confers k n at c e a h s soft =
-      ap (λ x. option_confers x (rights_at t k n) a) (kind_found (parts t) (sorted_lines (lines t)) (joint_place t k) _ (joint_here k c e.role h soft))
-      ∙ ap (λ x. kind_confers (kind_of_object (joint_object c.connector)) x a) (rights_here k n c e h s)
+      ap (λ x. option_confers x (rights_at t k n) a) (kind_found (parts t) (sorted_lines (lines t)) (object_place t k) _ (object_here t k c e.role h soft))
+      ∙ ap (λ x. kind_confers (kind_of_object (connection_object c.connector)) x a) (rights_here t k n c e h s)
       ∙ row_law c.connector e.role a soft
 
   handler_confers : (k n at : ℕ) (c : FlatConnection) (a : Authority) → slice_get t.flat.connections k ≡ Some c → c.connector ≡ Interrupt
-      → confers (spec_of t) (cap_of t at (Handler k n)) a ≡ kind_confers (kind_of_object (Irq (Some (joint_place t k)))) NONE a
-  handler_confers k n at c a h i = ap (λ x. option_confers x NONE a) (kind_found (parts t) (sorted_lines (lines t)) (irq_place t k) _ (irq_here k c h i))
+      → confers (spec_of t) (cap_of t at (Handler k n)) a ≡ kind_confers (kind_of_object (Irq (Some (notification_place t k)))) NONE a
+  handler_confers k n at c a h i =
+      let d = has_device k c h i in
+      ap (λ x. option_confers x NONE a) (kind_found (parts t) (sorted_lines (lines t)) (irq_place t k) _ (irq_here t k d.end.leaf c h i d.leaf))
+
+  -- the label of a connection's interrupt is that of the device
+  irq_labelled : (k label : ℕ) (c : FlatConnection) → slice_get t.flat.connections k ≡ Some c → c.connector ≡ Interrupt → (label ≡ label_of labels (irq_place t k)) ↔ (device_label t c ≡ Some label)
+  irq_labelled k label c h i =
+      let d = has_device k c h i in
+      let there = label_found (parts t) (irq_place t k) _ (irq_here t k d.end.leaf c h i d.leaf) in
+      let is = device_labelled c d.end.leaf i d.leaf in
+      (λ e. is ∙ ap (λ z. Some z) (sym (e ∙ there)), λ e. some_one (sym e ∙ is) ∙ sym there)
 
   only_handle : (o : Option ℕ) (a : Authority) → kind_confers (kind_of_object (Irq o)) NONE a ≡ true → a ≡ Handle
   only_handle o Handle e = refl
@@ -127,12 +146,12 @@ module _ (t : Tables) (flat : IsFlat t.source t.flat) (laid : t.slots ≡ slots_
                     from = owned;
                     gives = inl (record {
                       assigned = sym (end_confers o.place o.number lp o.connection o.end e.authority o.here o.stands w.0) ∙ k.conferred;
-                      to = k.to_is ∙ joint_label o.place o.connection o.end.role o.here w.0;
+                      to = k.to_is ∙ object_label o.place o.connection o.end.role o.here w.0;
                     });
                   }
               | inr handler ↦
                   let k : OfCap (spec_of t) labels (domain_label t d) (cap_of t lp (Handler o.place o.number)) e = subst Q (sym handler.is) h in
-                  let a = only_handle (Some (joint_place t o.place)) e.authority (sym (handler_confers o.place o.number lp o.connection e.authority o.here handler.interrupt) ∙ k.conferred) in
+                  let a = only_handle (Some (notification_place t o.place)) e.authority (sym (handler_confers o.place o.number lp o.connection e.authority o.here handler.interrupt) ∙ k.conferred) in
                   record {
                     place = o.place;
                     connection = o.connection;
@@ -143,7 +162,7 @@ module _ (t : Tables) (flat : IsFlat t.source t.flat) (laid : t.slots ≡ slots_
                     from = owned;
                     gives = inr (record {
                       handled = handled_by o.connection.connector o.end.role e.authority handler.interrupt handler.receives a;
-                      to = k.to_is ∙ label_found (parts t) (irq_place t o.place) _ (irq_here o.place o.connection o.here handler.interrupt);
+                      to = (irq_labelled o.place e.to o.connection o.here handler.interrupt).0 k.to_is;
                     });
                   }
             ]
@@ -152,12 +171,6 @@ module _ (t : Tables) (flat : IsFlat t.source t.flat) (laid : t.slots ≡ slots_
             let there = lock_at t d plan place (OwnLock f.0 l.0) (item (domain_label t d) Notice) at (is ∙ ap (λ z. Some z) l.1) refl in
             absurd (differ (k.from_is ∙ sym (k.to_is ∙ label_found (parts t) lp _ there)))
       ]
-
-  -- what is numbered is one of the items
-  from_numbered : (s : Series) (xs : List Item) (p : Part) → IsIn p (numbered s xs) → (n : ℕ) × (x : Item) × (slice_get xs n ≡ Some x) × (part s n x ≡ p)
-  from_numbered s xs p i =
-      let g = from_gather (λ n x. part s n x ∷ []) p xs i in
-      elim g.3 [ inl same ↦ (g.0, g.1, g.2, same) | inr none ↦ absurd none ]
 
   cnode_direct : (p : Part) (e : Edge) → IsIn p (numbered series.CNode (cnodes t)) → Asks p e → e.from ≢ e.to → IsDirect t e
   cnode_direct p e i asks differ =
@@ -172,132 +185,52 @@ module _ (t : Tables) (flat : IsFlat t.source t.flat) (laid : t.slots ≡ slots_
       let k : OfCap (spec_of t) labels (domain_label t d) (cap_of t (lock_place t d plan.uses h.place) u.0) e = subst (λ (z : ℕ × Cap). OfCap (spec_of t) labels (domain_label t d) z.1 e) (sym u.2) h.by in
       use_direct d h.place s.0 plan u.0 e s.1 o.1 u.1 (subst (λ (z : SlotPlan). IsIn u.0 z.uses) (sym s.2) (in_place u.0 plan.uses h.place u.1)) k differ
 
-  from_servers : (x : Item) (d leaf : ℕ) (uses : List SlotUse) → IsIn x (servers t d leaf uses) → thread t d leaf ≡ x
-  from_servers x d leaf uses i =
-      let g = from_gather (λ n u. cond (serves t.flat leaf u) (thread t d leaf ∷ []) []) x uses i in
-      by_test (serves t.flat leaf g.1) g.3
-    where
-      by_test : (b : Bool) → IsIn x (cond b (thread t d leaf ∷ []) []) → thread t d leaf ≡ x
-      by_test true (inl e) = e
-      by_test true (inr i) = absurd i
-      by_test false i = absurd i
-
-  from_threads : (x : Item) → IsIn x (threads t) → (d leaf : ℕ) × (domain : Domain) × (slice_get t.flat.domains d ≡ Some domain) × (thread t d leaf ≡ x)
-  from_threads x i =
-      let F : ℕ → Domain → List Item = λ d domain. domain_threads t d domain.leaves in
-      let g = from_gather F x t.flat.domains i in
-      let G : ℕ → ℕ → List Item = λ i leaf. leaf_threads t g.0 leaf in
-      let l = from_gather G x g.1.leaves g.3 in
-      elim l.3 [
-        | inl same ↦ (g.0, l.1, g.1, g.2, same)
-        | inr j ↦ (g.0, l.1, g.1, g.2, from_servers x g.0 l.1 (domain_slots t g.0) j)
-      ]
-
-  thread_within : (p : Part) (e : Edge) → IsIn p (numbered series.Tcb (threads t)) → Asks p e → e.from ≢ e.to → ⊥
-  thread_within p e i asks differ =
-      let n = from_numbered series.Tcb (threads t) p i in
-      let g = from_threads n.1 (in_place n.1 (threads t) n.0 n.2) in
-      let d = g.0 in
-      let same : part series.Tcb n.0 (thread t d g.1) ≡ p = ap (part series.Tcb n.0) g.4 ∙ n.3 in
-      let h : Asks (part series.Tcb n.0 (thread t d g.1)) e = subst (λ q. Asks q e) (sym same) asks in
+  thread_within : (p : Part) (e : Edge) → IsThread t p → Asks p e → e.from ≢ e.to → ⊥
+  thread_within p e g asks differ =
+      let h : Asks (part series.Tcb g.number (thread t g.domain g.leaf)) e = subst (λ q. Asks q e) (sym g.is) asks in
       elim h [
         | inl link ↦
-            let object : d ≡ link.some = let w = link.there in cc in
-            let there = label_found (parts t) d _ (cnode_at t d _ (plan_here d g.2 g.3)) in
+            let object : g.domain ≡ link.some = let w = link.there in cc in
+            let there = label_found (parts t) g.domain _ (cnode_at t g.domain _ (plan_here g.domain g.found g.here)) in
             differ (link.by.from_is ∙ sym (link.by.to_is ∙ ap (λ z. label_of labels z) (sym object) ∙ there))
         | inr (inl link) ↦ absurd (let w = link.there in cc)
         | inr (inr cap) ↦ absurd (let w = cap.there in cc)
       ]
 
-  joint_within : (p : Part) (e : Edge) (k l : ℕ) (c : Connector) → IsIn p (joint_of k l c) → Asks p e → ⊥
-  joint_within p e k l Rpc (inl same) asks = subst (λ q. Asks q e) (sym same) asks
-  joint_within p e k l Notification (inl same) asks = subst (λ q. Asks q e) (sym same) asks
-  joint_within p e k l Interrupt (inl same) asks = subst (λ q. Asks q e) (sym same) asks
-  joint_within p e k l Rpc (inr i) asks = i
-  joint_within p e k l Notification (inr i) asks = i
-  joint_within p e k l Interrupt (inr i) asks = i
-  joint_within p e k l SharedMemory i asks = i
-  joint_within p e k l Mmio i asks = i
-  joint_within p e k l Direct i asks = i
+  plain_within : (p : Part) (e : Edge) → IsPlain t p → Asks p e → ⊥
+  plain_within p e (s, k, l, inl same) asks = subst (λ q. Asks q e) (sym same) asks
+  plain_within p e (s, k, l, inr same) asks = subst (λ q. Asks q e) (sym same) asks
 
-  is_notice : (x : Item) (l : ℕ) (u : SlotUse) → IsIn x (lock l u) → item l Notice ≡ x
-  is_notice x l (OwnLock leaf m) (inl same) = same
-  is_notice x l (OwnLock leaf m) (inr i) = absurd i
-  is_notice x l (OfEnd k n) i = absurd i
-  is_notice x l (Handler k n) i = absurd i
-
-  lock_within : (p : Part) (e : Edge) → IsIn p (numbered series.Lock (locks t)) → Asks p e → ⊥
-  lock_within p e i asks =
-      let n = from_numbered series.Lock (locks t) p i in
-      let F : ℕ → SlotPlan → List Item = λ d plan. plan_locks t d plan.uses in
-      let g = from_gather F n.1 t.slots.domains (in_place n.1 (locks t) n.0 n.2) in
-      let l = from_gather (λ n u. lock (domain_label t g.0) u) n.1 g.1.uses g.3 in
-      let same : part series.Lock n.0 (item (domain_label t g.0) Notice) ≡ p = ap (part series.Lock n.0) (is_notice n.1 (domain_label t g.0) l.1 l.3) ∙ n.3 in
-      subst (λ q. Asks q e) (sym same) asks
-
-  -- the label of the device of an interrupt
-  device_leaf : (k n : ℕ) (c : FlatConnection) (e : FlatEnd) → slice_get t.flat.connections k ≡ Some c → slice_get c.ends n ≡ Some e → c.connector ≡ Interrupt → e.role ≡ From → leaf_label t e.leaf ≡ device_label t c
-  device_leaf k n c e h s i r =
-      let o = flat.one_device k n c e h s i r in
-      let j = flat.joined k n c e h s in
-      ap (λ x. option_label t e.leaf x) j.1 ∙ ap (λ x. owner t e.leaf x) (o.1 j.0 j.1) ∙ ap (λ z. slice_index t.numbers.devices z) o.0
-
-  -- an interrupt connection whose interrupt it is
-  from_irq : (x : Item) (k : ℕ) (c : FlatConnection) (y : Connector) → IsIn x (irq_of t k c y) → (y ≡ Interrupt) × (item (device_label t c) (Irq (Some (joint_place t k))) ≡ x)
-  from_irq x k c Interrupt (inl same) = (refl, same)
-  from_irq x k c Interrupt (inr i) = absurd i
-  from_irq x k c Rpc i = absurd i
-  from_irq x k c Notification i = absurd i
-  from_irq x k c SharedMemory i = absurd i
-  from_irq x k c Mmio i = absurd i
-  from_irq x k c Direct i = absurd i
-
-  irq_direct : (p : Part) (e : Edge) → IsIn p (numbered series.Irq (irqs t)) → Asks p e → IsDirect t e
-  irq_direct p e i asks =
-      let n = from_numbered series.Irq (irqs t) p i in
-      let g = from_gather (irq t) n.1 t.flat.connections (in_place n.1 (irqs t) n.0 n.2) in
-      let k = g.0 in
-      let c = g.1 in
-      let q = from_irq n.1 k c c.connector g.3 in
-      let is : c.connector ≡ Interrupt = q.0 in
-      let same : part series.Irq n.0 (item (device_label t c) (Irq (Some (joint_place t k)))) ≡ p = ap (part series.Irq n.0) q.1 ∙ n.3 in
-      let link : Asks (part series.Irq n.0 (item (device_label t c) (Irq (Some (joint_place t k))))) e = subst (λ q. Asks q e) (sym same) asks in
-      let d = flat.device k c g.2 is in
-      let soft : has_slot c.connector To ≡ true = subst (λ x. has_slot x To ≡ true) (sym is) refl in
-      let object : joint_place t k ≡ link.some = let w = link.there in cc in
+  irq_direct : (p : Part) (e : Edge) → IsInterrupt t p → Asks p e → IsDirect t e
+  irq_direct p e g asks =
+      let k = g.place in
+      let c = g.connection in
+      let is = g.interrupt in
+      let link : Asks (part series.Irq g.number (item (leaf_number t g.leaf) (Irq (Some (notification_place t k))))) e = subst (λ q. Asks q e) (sym g.is) asks in
+      let d = has_device k c g.here is in
+      let leaf : g.leaf ≡ d.end.leaf = some_one (sym g.device ∙ d.leaf) in
+      let object : notification_place t k ≡ link.some = let w = link.there in cc in
       record {
         place = k;
         connection = c;
-        here = g.2;
-        number = d.0;
-        end = d.1;
-        stands = d.2;
-        from = link.by.from_is ∙ sym (device_leaf k d.0 c d.1 g.2 d.2 is d.3);
+        here = g.here;
+        number = d.number;
+        end = d.end;
+        stands = d.stands;
+        from = link.by.from_is ∙ ap (leaf_number t) leaf ∙ sym d.label;
         gives = inl (record {
-          assigned = ap (λ x. assigns x d.1.role e.authority) is ∙ ap (λ x. assigns Interrupt x e.authority) d.3 ∙ ap (λ x. assigns Interrupt From x) link.by.authority_is;
-          to = link.by.to_is ∙ ap (λ z. label_of labels z) (sym object) ∙ joint_label k c To g.2 soft;
+          assigned = ap (λ x. assigns x d.end.role e.authority) is ∙ ap (λ x. assigns Interrupt x e.authority) d.from ∙ ap (λ x. assigns Interrupt From x) link.by.authority_is;
+          to = link.by.to_is ∙ ap (λ z. label_of labels z) (sym object) ∙ notification_label k c g.here is;
         });
       }
 
   part_direct : (p : Part) (e : Edge) → IsIn p (parts t) → Asks p e → e.from ≢ e.to → IsDirect t e
-  part_direct p e i asks differ =
-      let s1 = numbered series.CNode (cnodes t) in
-      let s2 = numbered series.Tcb (threads t) in
-      let s4 = numbered series.Lock (locks t) in
-      let s5 = numbered series.Irq (irqs t) in
-      elim (in_append p s1 (s2 ++ (joints t ++ (s4 ++ s5))) i) [
-        | inl here ↦ cnode_direct p e here asks differ
-        | inr i ↦ elim (in_append p s2 (joints t ++ (s4 ++ s5)) i) [
-          | inl here ↦ absurd (thread_within p e here asks differ)
-          | inr i ↦ elim (in_append p (joints t) (s4 ++ s5) i) [
-            | inl here ↦ let g = from_gather (joint t) p t.flat.connections here in absurd (joint_within p e g.0 (connection_label t g.0) g.1.connector g.3 asks)
-            | inr i ↦ elim (in_append p s4 s5 i) [
-              | inl here ↦ absurd (lock_within p e here asks)
-              | inr here ↦ irq_direct p e here asks
-            ]
-          ]
-        ]
-      ]
+  part_direct p e i asks differ = elim (part_of t p i) [
+    | inl here ↦ cnode_direct p e here asks differ
+    | inr (inl here) ↦ absurd (thread_within p e here asks differ)
+    | inr (inr (inl here)) ↦ absurd (plain_within p e here asks)
+    | inr (inr (inr here)) ↦ irq_direct p e here asks
+  ]
 
   pub source_direct : (e : Edge) → OfSpec (spec_of t) labels e → e.from ≢ e.to → IsDirect t e
   source_direct e a differ =
@@ -353,17 +286,17 @@ module _ (t : Tables) (flat : IsFlat t.source t.flat) (laid : t.slots ≡ slots_
           let w = end_used r.place r.number r.connection r.end u r.here r.stands soft (end_in_uses r.connection.connector r.end.role r.place r.number soft) in
           used_source r.end.leaf u e w r.from
           (λ at. end_confers r.place r.number at r.connection r.end e.authority r.here r.stands soft ∙ on.assigned)
-          (λ at. on.to ∙ sym (joint_label r.place r.connection r.end.role r.here soft))
+          (λ at. on.to ∙ sym (object_label r.place r.connection r.end.role r.here soft))
       | inr device ↦
-          let soft : has_slot r.connection.connector To ≡ true = subst (λ x. has_slot x To ≡ true) (sym device.0) refl in
-          part_source (irq_place t r.place) (irq_part r.place r.connection) e (irq_here r.place r.connection r.here device.0)
+          let one : device_leaf Interrupt r.connection.ends ≡ Some r.end.leaf = (flat.one_device r.place r.number r.connection r.end r.here r.stands device.0 device.1).0 in
+          part_source (irq_place t r.place) _ e (irq_here t r.place r.end.leaf r.connection r.here device.0 one)
           (record {
-            some = joint_place t r.place;
+            some = notification_place t r.place;
             there = refl;
             by = record {
-              from_is = r.from ∙ device_leaf r.place r.number r.connection r.end r.here r.stands device.0 device.1;
+              from_is = r.from ∙ own_label r.place r.number r.connection r.end r.here r.stands device.0 device.1;
               authority_is = device.2;
-              to_is = on.to ∙ sym (joint_label r.place r.connection To r.here soft);
+              to_is = on.to ∙ sym (notification_label r.place r.connection r.here device.0);
             };
           })
     ]
@@ -378,8 +311,8 @@ module _ (t : Tables) (flat : IsFlat t.source t.flat) (laid : t.slots ≡ slots_
         let i : IsIn u (end_uses r.connection.connector r.end.role r.place r.number) = subst R (sym h.0) (subst S (sym h.1) (inr (inl refl))) in
         let w = end_used r.place r.number r.connection r.end u r.here r.stands soft i in
         used_source r.end.leaf u e w r.from
-        (λ at. handler_confers r.place r.number at r.connection e.authority r.here h.0 ∙ ap (λ a. kind_confers (kind_of_object (Irq (Some (joint_place t r.place)))) NONE a) h.2)
-        (λ at. on.to ∙ sym (label_found (parts t) (irq_place t r.place) _ (irq_here r.place r.connection r.here h.0)))
+        (λ at. handler_confers r.place r.number at r.connection e.authority r.here h.0 ∙ ap (λ a. kind_confers (kind_of_object (Irq (Some (notification_place t r.place)))) NONE a) h.2)
+        (λ at. (irq_labelled r.place e.to r.connection r.here h.0).1 on.to)
   ]
 
 pub exactly : (t : Tables) → IsFlat t.source t.flat → t.slots ≡ slots_of t.source t.flat → (l : ℕ) (a : Authority) (m : ℕ) → l ≢ m

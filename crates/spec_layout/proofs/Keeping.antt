@@ -1,9 +1,9 @@
 -- The objects of a system are of the kinds that their places ask, and slots and interrupt lines rise.
-use Rattle.std.proofs.Common.{◌≡◌, ◌≢◌, ◌<◌, ◌≤◌, ◌+◌, ◌-◌, ◌^◌, ℕ, zero, suc, Bool, true, false, ◌&&◌, ◌||◌, not, cond, List, [], ◌∷◌, ◌++◌, length, map, refl, sym, ◌∙◌, ap, subst, Option, Some, None, inl, inr, ◌⊎◌, arith, true≢false}
+use Rattle.std.proofs.Common.{◌≡◌, ◌<◌, ◌≤◌, ◌+◌, ◌^◌, ℕ, zero, suc, Bool, true, ◌&&◌, ◌||◌, List, [], ◌∷◌, length, refl, sym, ◌∙◌, ap, subst, Some, inl, inr, arith, true≢false}
 use Rattle.std.specs.Prelude.{nat_lt, leb, ◌==◌}
 use Rattle.std.specs.List.{list_all, slice_get}
 use Rattle.std.proofs.lemmas.Option.{slice_get_within}
-use Rattle.std.proofs.lemmas.Bool.{and_from, lt-ltb, le-leb, ltb-true, cond_both}
+use Rattle.std.proofs.lemmas.Bool.{and_from, lt-ltb, le-leb, cond_both}
 use Rattle.adl_ast.specs.declared.composition.Role.{Role}
 use Rattle.adl_ast.specs.declared.composition.Role.TheVariants.{From, To}
 use Rattle.adl_meaning.specs.declared.connector.Connector.{Connector}
@@ -14,59 +14,36 @@ use Rattle.adl_meaning.specs.declared.flat.FlatEnd.{FlatEnd}
 use Rattle.cap_model.specs.Kept.{fits, fits_kind, keeps, keeps_slots, rise, within}
 use Rattle.cap_model.specs.Kinds.{has_badge, is_at, is_kind, kind_at, kind_of_object, kind_rights}
 use Rattle.cap_model.specs.declared.cap.Cap.{Cap}
-use Rattle.cap_model.specs.declared.kind.Kind.{Kind}
 use Rattle.cap_model.specs.declared.kind.Kind.TheVariants as kinds
-use Rattle.cap_model.specs.declared.object.Object.{Object}
 use Rattle.cap_model.specs.declared.object.Object.TheVariants.{Notification as Notice, Irq}
-use Rattle.cap_model.specs.declared.rights.Rights.{Rights}
-use Rattle.cap_model.specs.declared.spec.Entry.{Entry}
-use Rattle.cap_model.specs.declared.spec.Spec.{Spec}
-use Rattle.conn_rules.specs.Row.{NONE, RW}
 use Rattle.cspace_layout.specs.declared.plan.SlotPlan.{SlotPlan}
 use Rattle.cspace_layout.specs.declared.plan.SlotUse.{SlotUse}
 use Rattle.cspace_layout.specs.declared.plan.SlotUse.TheVariants.{OfEnd, Handler, OwnLock}
-use Rattle.cspace_layout.specs.Uses.{domain_uses, plan_of, slots_of}
-use Rattle.numbering.specs.Gather.{IsIn, gather, before}
-use Rattle.numbering.proofs.Gathered.{from_gather, in_append, in_place}
-use Rattle.spec_layout.specs.declared.series.Series.{Series}
+use Rattle.cspace_layout.specs.Uses.{domain_uses, slots_of}
+use Rattle.numbering.specs.Gather.{IsIn, gather}
+use Rattle.numbering.proofs.Gathered.{from_gather, in_place}
 use Rattle.spec_layout.specs.declared.series.Series.TheVariants as series
 use Rattle.spec_layout.specs.Bits.{bits_from, bits_for}
 use Rattle.spec_layout.specs.Direct.{has_slot}
 use Rattle.spec_layout.specs.Fit.{IsFit}
-use Rattle.spec_layout.specs.Layout.{Item, Part, item, part, numbered, cnode, cnodes, caps_of, thread, threads, servers, serves, leaf_threads, domain_threads, joint, joint_of, joints, lock, plan_locks, locks, irq, irq_of, irqs, parts, joint_place, lock_place, irq_place, cap, cap_of, rights_at, badge_at, end_rights, sorted_lines, lines}
-use Rattle.spec_layout.specs.Made.{entry_of, entries_in, spec_of}
-use Rattle.spec_layout.specs.Tables.{Tables, connection_label, device_label, domain_label, domain_slots, priority, end_in}
-use Rattle.spec_layout.proofs.Found.{kind_found, cnode_at, joint_at, lock_at, irq_at}
-use Rattle.spec_layout.proofs.Rows.{joint_object, joint_series, joint_first, from_end_uses}
+use Rattle.spec_layout.specs.Layout.{Part, item, part, numbered, cnode, cnodes, caps_of, thread, parts, object_place, notification_place, lock_place, irq_place, cap_of, rights_at, badge_at, end_rights, sorted_lines, lines}
+use Rattle.spec_layout.specs.Made.{entries_in, spec_of}
+use Rattle.spec_layout.specs.Tables.{Tables, domain_label, priority}
+use Rattle.spec_layout.proofs.Found.{kind_found, cnode_at, lock_at}
+use Rattle.spec_layout.proofs.LeastBits.{least}
+use Rattle.spec_layout.proofs.Rows.{connection_object, from_end_uses}
+use Rattle.spec_layout.proofs.Standing.{IsPlain, from_numbered, irq_here, notification_here, object_here, part_of, rights_here}
 use Rattle.spec_layout.proofs.Used.{from_domain, from_ones, from_slots, slots_at}
-use Rattle.std.specs.Option.{option_and_then, option_map_or}
-use Rattle.std.specs.Prelude.{option_map}
 
 -- ---- bits
-
-low_bits : (n b m : ℕ) → b ≤ bits_from n b m
-low_bits n b zero = omega arith
-low_bits n b (suc m) = cond_both (nat_lt n (2 ^ b)) b (bits_from n (b + 1) m) (λ r. b ≤ r) (λ e. omega arith) (λ e. let l : b + 1 ≤ bits_from n (b + 1) m = low_bits n (b + 1) m in omega arith)
 
 high_bits : (n b m : ℕ) → bits_from n b m ≤ b + m
 high_bits n b zero = omega arith
 high_bits n b (suc m) = cond_both (nat_lt n (2 ^ b)) b (bits_from n (b + 1) m) (λ r. r ≤ b + suc m) (λ e. omega arith) (λ e. let l : bits_from n (b + 1) m ≤ (b + 1) + m = high_bits n (b + 1) m in omega arith)
 
-enough_bits : (n b m k : ℕ) → b + m ≡ k → n < 2 ^ k → n < 2 ^ bits_from n b m
-enough_bits n b zero k e h = let same : k ≡ b = omega arith in subst (λ x. n < 2 ^ x) same h
-enough_bits n b (suc m) k e h = cond_both (nat_lt n (2 ^ b)) b (bits_from n (b + 1) m) (λ r. n < 2 ^ r) (λ t. ltb-true n (2 ^ b) t) (λ t. enough_bits n (b + 1) m k (omega arith) h)
-
-bits_some : (n : ℕ) → 1 ≤ bits_for n
-unfolding bits_for
-bits_some n = low_bits n 1 15
-
 bits_few : (n : ℕ) → bits_for n ≤ 16
 unfolding bits_for
 bits_few n = high_bits n 1 15
-
-bits_enough : (n : ℕ) → n < 2 ^ 16 → n < 2 ^ bits_for n
-unfolding bits_for
-bits_enough n h = enough_bits n 1 15 16 refl h
 
 -- ---- slots
 
@@ -81,7 +58,7 @@ all_pass test [] h = refl
 all_pass test (x ∷ xs) h = and_from (test x) (list_all test xs) (h x (inl refl)) (all_pass test xs (λ y i. h y (inr i)))
 
 -- the rights of an end suit its object
-suits : (c : Connector) (r : Role) → has_slot c r ≡ true → within (end_rights c r) (kind_rights (kind_of_object (joint_object c))) ≡ true
+suits : (c : Connector) (r : Role) → has_slot c r ≡ true → within (end_rights c r) (kind_rights (kind_of_object (connection_object c))) ≡ true
 suits Rpc From s = refl
 suits Rpc To s = refl
 suits Notification From s = refl
@@ -92,7 +69,7 @@ suits SharedMemory r s = absurd (true≢false (sym s))
 suits Mmio r s = absurd (true≢false (sym s))
 suits Direct r s = absurd (true≢false (sym s))
 
-badged : (c : Connector) (b : ℕ) → has_badge (kind_of_object (joint_object c)) || b == 0 ≡ true
+badged : (c : Connector) (b : ℕ) → has_badge (kind_of_object (connection_object c)) || b == 0 ≡ true
 badged Rpc b = refl
 badged Notification b = refl
 badged SharedMemory b = refl
@@ -106,18 +83,15 @@ module _ (t : Tables) (fit : IsFit t) (laid : t.slots ≡ slots_of t.source t.fl
 
   end_fits : (k n at : ℕ) (c : FlatConnection) (e : FlatEnd) → slice_get t.flat.connections k ≡ Some c → slice_get c.ends n ≡ Some e → has_slot c.connector e.role ≡ true → fits (spec_of t) (cap_of t at (OfEnd k n)) ≡ true
   end_fits k n at c e h s soft =
-      let kind = kind_here (joint_place t k) _ (joint_at t k c _ h (joint_first k (connection_label t k) c.connector e.role soft)) in
-      let rights : rights_at t k n ≡ end_rights c.connector e.role =
-      ap (λ x. option_map_or (λ (y : Connector × FlatEnd). end_rights y.0 y.1.role) (option_and_then (end_in n) x) NONE) h
-      ∙ ap (λ x. option_map_or (λ (y : Connector × FlatEnd). end_rights y.0 y.1.role) (option_map (λ (z : FlatEnd). (c.connector, z)) x) NONE) s in
+      let kind = kind_here (object_place t k) _ (object_here t k c e.role h soft) in
       ap (λ x. fits_kind x (cap_of t at (OfEnd k n))) kind
-      ∙ and_from (within (rights_at t k n) (kind_rights (kind_of_object (joint_object c.connector)))) (has_badge (kind_of_object (joint_object c.connector)) || badge_at t k n == 0)
-      (ap (λ r. within r (kind_rights (kind_of_object (joint_object c.connector)))) rights ∙ suits c.connector e.role soft) (badged c.connector (badge_at t k n))
+      ∙ and_from (within (rights_at t k n) (kind_rights (kind_of_object (connection_object c.connector)))) (has_badge (kind_of_object (connection_object c.connector)) || badge_at t k n == 0)
+      (ap (λ r. within r (kind_rights (kind_of_object (connection_object c.connector)))) (rights_here t k n c e h s) ∙ suits c.connector e.role soft) (badged c.connector (badge_at t k n))
 
   handler_fits : (k n at : ℕ) (c : FlatConnection) → slice_get t.flat.connections k ≡ Some c → c.connector ≡ Interrupt → fits (spec_of t) (cap_of t at (Handler k n)) ≡ true
   handler_fits k n at c h i =
-      let P : Connector → Type 0 = λ x. slice_get (irq_of t k c x) 0 ≡ Some (item (device_label t c) (Irq (Some (joint_place t k)))) in
-      ap (λ x. fits_kind x (cap_of t at (Handler k n))) (kind_here (irq_place t k) _ (irq_at t k c _ h (subst P (sym i) refl)))
+      let d = fit.devices k c h i in
+      ap (λ x. fits_kind x (cap_of t at (Handler k n))) (kind_here (irq_place t k) _ (irq_here t k d.0 c h i d.1))
 
   use_fits : (d place : ℕ) (domain : Domain) (plan : SlotPlan) (u : SlotUse) → slice_get t.slots.domains d ≡ Some plan → slice_get plan.uses place ≡ Some u → IsIn u (domain_uses t.source t.flat domain.leaves)
       → fits (spec_of t) (cap_of t (lock_place t d plan.uses place) u) ≡ true
@@ -145,7 +119,7 @@ module _ (t : Tables) (fit : IsFit t) (laid : t.slots ≡ slots_of t.source t.fl
       elim g.3 [
         | inl same ↦
             let below = slice_get_within plan.uses g.0 g.1 g.2 in
-            let enough = bits_enough (length plan.uses) (fit.slots d plan at) in
+            let enough = (least (length plan.uses) (fit.slots d plan at)).above in
             let few : g.0 + 1 < 2 ^ bits_for (length plan.uses) = omega (arith, below, enough) in
             let mine = subst (λ (z : SlotPlan). IsIn g.1 z.uses) (sym s.2) (in_place g.1 plan.uses g.0 g.2) in
             let Q : ℕ × Cap → Type 0 = λ z. (nat_lt z.0 (2 ^ bits_for (length plan.uses)) && fits (spec_of t) z.1) ≡ true in
@@ -157,17 +131,12 @@ module _ (t : Tables) (fit : IsFit t) (laid : t.slots ≡ slots_of t.source t.fl
   abbrev Kept : Part → Type 0
   Kept p = keeps (spec_of t) p.item.object ≡ true
 
-  from_numbered : (s : Series) (xs : List Item) (p : Part) → IsIn p (numbered s xs) → (n : ℕ) × (x : Item) × (slice_get xs n ≡ Some x) × (part s n x ≡ p)
-  from_numbered s xs p i =
-      let g = from_gather (λ n x. part s n x ∷ []) p xs i in
-      elim g.3 [ inl same ↦ (g.0, g.1, g.2, same) | inr none ↦ absurd none ]
-
   cnode_kept : (d : ℕ) (plan : SlotPlan) → slice_get t.slots.domains d ≡ Some plan → keeps (spec_of t) (cnode t d plan.uses).object ≡ true
   cnode_kept d plan at =
       let b = bits_for (length plan.uses) in
       let slots = caps_of t d plan.uses in
       and_from (nat_lt 0 b && leb b 16) (keeps_slots (fits (spec_of t)) (2 ^ b) slots)
-      (and_from (nat_lt 0 b) (leb b 16) (let some = bits_some (length plan.uses) in lt-ltb 0 b (omega (arith, some))) (le-leb b 16 (bits_few (length plan.uses))))
+      (and_from (nat_lt 0 b) (leb b 16) (let some = (least (length plan.uses) (fit.slots d plan at)).some in lt-ltb 0 b (omega (arith, some))) (le-leb b 16 (bits_few (length plan.uses))))
       (and_from (rise slots) (list_all (λ (slot : ℕ × Cap). nat_lt slot.0 (2 ^ b) && fits (spec_of t) slot.1) slots)
       (slots_rise (λ n. n + 1) (λ n u. cap_of t (lock_place t d plan.uses n) u) plan.uses (λ n. omega arith))
       (all_pass (λ (slot : ℕ × Cap). nat_lt slot.0 (2 ^ b) && fits (spec_of t) slot.1) slots (λ slot i. slot_fits d plan slot at i)))
@@ -185,88 +154,20 @@ module _ (t : Tables) (fit : IsFit t) (laid : t.slots ≡ slots_of t.source t.fl
       and_from (leb (priority t leaf) 255 && is_at (spec_of t) kinds.CNode d) true
       (and_from (leb (priority t leaf) 255) (is_at (spec_of t) kinds.CNode d) (le-leb (priority t leaf) 255 (fit.priorities leaf)) root) refl
 
-  servers_kept : (x : Item) (d leaf : ℕ) (uses : List SlotUse) → IsIn x (servers t d leaf uses) → thread t d leaf ≡ x
-  servers_kept x d leaf uses i =
-      let g = from_gather (λ n u. cond (serves t.flat leaf u) (thread t d leaf ∷ []) []) x uses i in
-      by_test (serves t.flat leaf g.1) g.3
-    where
-      by_test : (b : Bool) → IsIn x (cond b (thread t d leaf ∷ []) []) → thread t d leaf ≡ x
-      by_test true (inl e) = e
-      by_test true (inr i) = absurd i
-      by_test false i = absurd i
+  irq_kept : (k : ℕ) (c : FlatConnection) → slice_get t.flat.connections k ≡ Some c → c.connector ≡ Interrupt → keeps (spec_of t) (Irq (Some (notification_place t k))) ≡ true
+  irq_kept k c h is = ap (λ x. is_kind x kinds.Notification) (kind_here (notification_place t k) _ (notification_here t k c h is))
 
-  threads_kept : (p : Part) → IsIn p (numbered series.Tcb (threads t)) → Kept p
-  threads_kept p i =
-      let n = from_numbered series.Tcb (threads t) p i in
-      let F : ℕ → Domain → List Item = λ d domain. domain_threads t d domain.leaves in
-      let g = from_gather F n.1 t.flat.domains (in_place n.1 (threads t) n.0 n.2) in
-      let l = from_gather (λ i leaf. leaf_threads t g.0 leaf) n.1 g.1.leaves g.3 in
-      let same : thread t g.0 l.1 ≡ n.1 = elim l.3 [ inl e ↦ e | inr j ↦ servers_kept n.1 g.0 l.1 (domain_slots t g.0) j ] in
-      subst Kept (ap (part series.Tcb n.0) same ∙ n.3) (thread_kept g.0 l.1 g.1 g.2)
-
-  joint_kept : (p : Part) (k l : ℕ) (c : Connector) → IsIn p (joint_of k l c) → Kept p
-  joint_kept p k l Rpc (inl same) = subst Kept same refl
-  joint_kept p k l Notification (inl same) = subst Kept same refl
-  joint_kept p k l Interrupt (inl same) = subst Kept same refl
-  joint_kept p k l Rpc (inr i) = absurd i
-  joint_kept p k l Notification (inr i) = absurd i
-  joint_kept p k l Interrupt (inr i) = absurd i
-  joint_kept p k l SharedMemory i = absurd i
-  joint_kept p k l Mmio i = absurd i
-  joint_kept p k l Direct i = absurd i
-
-  is_notice : (x : Item) (l : ℕ) (u : SlotUse) → IsIn x (lock l u) → item l Notice ≡ x
-  is_notice x l (OwnLock leaf m) (inl same) = same
-  is_notice x l (OwnLock leaf m) (inr i) = absurd i
-  is_notice x l (OfEnd k n) i = absurd i
-  is_notice x l (Handler k n) i = absurd i
-
-  locks_kept : (p : Part) → IsIn p (numbered series.Lock (locks t)) → Kept p
-  locks_kept p i =
-      let n = from_numbered series.Lock (locks t) p i in
-      let F : ℕ → SlotPlan → List Item = λ d plan. plan_locks t d plan.uses in
-      let g = from_gather F n.1 t.slots.domains (in_place n.1 (locks t) n.0 n.2) in
-      let l = from_gather (λ n u. lock (domain_label t g.0) u) n.1 g.1.uses g.3 in
-      subst Kept (ap (part series.Lock n.0) (is_notice n.1 (domain_label t g.0) l.1 l.3) ∙ n.3) refl
-
-  irq_kept : (k : ℕ) (c : FlatConnection) → slice_get t.flat.connections k ≡ Some c → c.connector ≡ Interrupt → keeps (spec_of t) (Irq (Some (joint_place t k))) ≡ true
-  irq_kept k c h is =
-      let soft : has_slot c.connector To ≡ true = subst (λ x. has_slot x To ≡ true) (sym is) refl in
-      let kind = kind_here (joint_place t k) _ (joint_at t k c _ h (joint_first k (connection_label t k) c.connector To soft)) in
-      ap (λ x. is_kind x kinds.Notification) kind ∙ ap (λ x. is_kind (Some (kind_of_object (joint_object x))) kinds.Notification) is
-
-  from_irq : (x : Item) (k : ℕ) (c : FlatConnection) (y : Connector) → IsIn x (irq_of t k c y) → (y ≡ Interrupt) × (item (device_label t c) (Irq (Some (joint_place t k))) ≡ x)
-  from_irq x k c Interrupt (inl same) = (refl, same)
-  from_irq x k c Interrupt (inr i) = absurd i
-  from_irq x k c Rpc i = absurd i
-  from_irq x k c Notification i = absurd i
-  from_irq x k c SharedMemory i = absurd i
-  from_irq x k c Mmio i = absurd i
-  from_irq x k c Direct i = absurd i
-
-  irqs_kept : (p : Part) → IsIn p (numbered series.Irq (irqs t)) → Kept p
-  irqs_kept p i =
-      let n = from_numbered series.Irq (irqs t) p i in
-      let g = from_gather (irq t) n.1 t.flat.connections (in_place n.1 (irqs t) n.0 n.2) in
-      let q = from_irq n.1 g.0 g.1 g.1.connector g.3 in
-      subst Kept (ap (part series.Irq n.0) q.1 ∙ n.3) (irq_kept g.0 g.1 g.2 q.0)
+  plain_kept : (p : Part) → IsPlain t p → Kept p
+  plain_kept p (s, k, l, inl same) = subst Kept same refl
+  plain_kept p (s, k, l, inr same) = subst Kept same refl
 
   part_kept : (p : Part) → IsIn p (parts t) → Kept p
-  part_kept p i =
-      let s1 = numbered series.CNode (cnodes t) in
-      let s2 = numbered series.Tcb (threads t) in
-      let s4 = numbered series.Lock (locks t) in
-      let s5 = numbered series.Irq (irqs t) in
-      elim (in_append p s1 (s2 ++ (joints t ++ (s4 ++ s5))) i) [
-        | inl here ↦ nodes_kept p here
-        | inr i ↦ elim (in_append p s2 (joints t ++ (s4 ++ s5)) i) [
-          | inl here ↦ threads_kept p here
-          | inr i ↦ elim (in_append p (joints t) (s4 ++ s5) i) [
-            | inl here ↦ let g = from_gather (joint t) p t.flat.connections here in joint_kept p g.0 (connection_label t g.0) g.1.connector g.3
-            | inr i ↦ elim (in_append p s4 s5 i) [ inl here ↦ locks_kept p here | inr here ↦ irqs_kept p here ]
-          ]
-        ]
-      ]
+  part_kept p i = elim (part_of t p i) [
+    | inl here ↦ nodes_kept p here
+    | inr (inl g) ↦ subst Kept g.is (thread_kept g.domain g.leaf g.found g.here)
+    | inr (inr (inl here)) ↦ plain_kept p here
+    | inr (inr (inr g)) ↦ subst Kept g.is (irq_kept g.place g.connection g.here g.interrupt)
+  ]
 
   all_kept : (ps : List Part) → ((p : Part) → IsIn p ps → Kept p) → list_all (λ entry. keeps (spec_of t) entry.object) (entries_in ps) ≡ true
   all_kept [] h = refl

@@ -3,10 +3,12 @@ pub mod Counting
 pub mod Exactly
 pub mod Found
 pub mod Keeping
+pub mod LeastBits
 pub mod Lining
 pub mod Naming
 pub mod Putting
 pub mod Rows
 pub mod Sizes
 pub mod Sorting
+pub mod Standing
 pub mod Used

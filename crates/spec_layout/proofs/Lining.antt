@@ -1,22 +1,22 @@
 -- Interrupt lines rise by number, and each leads to an interrupt of its own.
-use Rattle.std.proofs.Common.{◌≡◌, ◌≢◌, ◌<◌, ◌≤◌, ◌+◌, ℕ, zero, suc, Bool, true, false, ◌&&◌, cond, List, [], ◌∷◌, ◌++◌, length, map, take, refl, sym, ◌∙◌, ap, subst, Some, inl, inr, ◌⊎◌, arith, true≢false, nat_eq}
+use Rattle.std.proofs.Common.{◌≡◌, ◌<◌, ◌≤◌, ℕ, zero, suc, Bool, true, false, ◌&&◌, cond, List, [], ◌∷◌, ◌++◌, length, map, take, refl, sym, ◌∙◌, ap, subst, Some, inl, inr, arith}
 use Rattle.std.specs.Prelude.{nat_lt, ◌==◌}
 use Rattle.std.specs.List.{filter, list_all, list_any, slice_get}
-use Rattle.std.proofs.lemmas.Bool.{and_from, and_parts, lt-ltb, ltb-true, eqb-true, eq-eqb, false_from_ne_true, cases_order}
+use Rattle.std.proofs.lemmas.Bool.{and_from, and_parts, lt-ltb, ltb-true, eqb-true, false_from_ne_true, cases_order}
 use Rattle.adl_meaning.specs.declared.connector.Connector.{Connector}
 use Rattle.adl_meaning.specs.declared.connector.Connector.TheVariants.{Rpc, Notification, SharedMemory, Mmio, Interrupt, Direct}
 use Rattle.adl_meaning.specs.declared.flat.FlatConnection.{FlatConnection}
 use Rattle.cap_model.specs.Kept.{differ, keeps_lines, rise}
 use Rattle.cap_model.specs.Kinds.{is_at, is_kind}
 use Rattle.cap_model.specs.declared.kind.Kind.TheVariants as kinds
-use Rattle.cap_model.specs.declared.object.Object.TheVariants.{Irq}
 use Rattle.numbering.specs.Gather.{IsIn, gather, before}
-use Rattle.numbering.proofs.Gathered.{from_gather, in_append, in_gather, length_append}
+use Rattle.numbering.proofs.Gathered.{from_gather, in_append, length_append}
 use Rattle.spec_layout.specs.Fit.{IsFit}
-use Rattle.spec_layout.specs.Layout.{Item, by_number, irq, irq_of, irq_place, item, joint_place, line_of, lines, parts, sorted_lines}
+use Rattle.spec_layout.specs.Layout.{Item, by_number, irq, irq_place, line_of, lines, notification_place, parts, sorted_lines}
 use Rattle.spec_layout.specs.Made.{spec_of}
-use Rattle.spec_layout.specs.Tables.{Tables, device_label, irq_number}
-use Rattle.spec_layout.proofs.Found.{irq_at, kind_found}
+use Rattle.spec_layout.specs.Tables.{Tables, irq_number}
+use Rattle.spec_layout.proofs.Found.{kind_found}
+use Rattle.spec_layout.proofs.Standing.{has_leaf, irq_here}
 
 abbrev Line : Type 0
 Line = ℕ × ℕ
@@ -179,15 +179,18 @@ module _ (t : Tables) (fit : IsFit t) where
       let w = from_line l g.0 g.1 g.1.connector g.3 in
       record { place = g.0; connection = g.1; here = g.2; interrupt = w.0; is = w.1 }
 
-  gives : (k : ℕ) (c : FlatConnection) → c.connector ≡ Interrupt → 1 ≤ length (irq t k c)
-  gives k c i = subst (λ x. 1 ≤ length (irq_of t k c x)) (sym i) (omega arith)
+  gives : (k : ℕ) (c : FlatConnection) → slice_get t.flat.connections k ≡ Some c → c.connector ≡ Interrupt → 1 ≤ length (irq t k c)
+  gives k c e i =
+      let d = fit.devices k c e i in
+      let one : length (irq t k c) ≡ 1 = ap (λ (z : List Item). length z) (has_leaf t (notification_place t k) d.0 c i d.1) in
+      omega (arith, one)
 
   one_place : (j k : ℕ) (a b : FlatConnection) → slice_get t.flat.connections j ≡ Some a → slice_get t.flat.connections k ≡ Some b → a.connector ≡ Interrupt → b.connector ≡ Interrupt
       → irq_place t j ≡ irq_place t k → j ≡ k
   one_place j k a b p q x y same = elim (cases_order j k) [
     | inl e ↦ e
-    | inr (inl less) ↦ let l = before_rises (irq t) t.flat.connections j k a p (gives j a x) less in absurd (omega (arith, l, same))
-    | inr (inr more) ↦ let l = before_rises (irq t) t.flat.connections k j b q (gives k b y) more in absurd (omega (arith, l, same))
+    | inr (inl less) ↦ let l = before_rises (irq t) t.flat.connections j k a p (gives j a p x) less in absurd (omega (arith, l, same))
+    | inr (inr more) ↦ let l = before_rises (irq t) t.flat.connections k j b q (gives k b q y) more in absurd (omega (arith, l, same))
   ]
 
   one_target : (x y : Line) → IsIn x (sorted_lines (lines t)) → IsIn y (sorted_lines (lines t)) → x.1 ≡ y.1 → x.0 ≡ y.0
@@ -205,8 +208,8 @@ module _ (t : Tables) (fit : IsFit t) where
   to_interrupt : (l : Line) → IsIn l (sorted_lines (lines t)) → is_at (spec_of t) kinds.Irq l.1 ≡ true
   to_interrupt l i =
       let a = lined l i in
-      let here : Item = item (device_label t a.connection) (Irq (Some (joint_place t a.place))) in
-      let made = irq_at t a.place a.connection here a.here (subst (λ x. slice_get (irq_of t a.place a.connection x) 0 ≡ Some here) (sym a.interrupt) refl) in
+      let d = fit.devices a.place a.connection a.here a.interrupt in
+      let made = irq_here t a.place d.0 a.connection a.here a.interrupt d.1 in
       subst (λ (z : Line). is_at (spec_of t) kinds.Irq z.1 ≡ true) a.is (ap (λ x. is_kind x kinds.Irq) (kind_found (parts t) (sorted_lines (lines t)) (irq_place t a.place) _ made))
 
   all_lead : (ls : List Line) → ((l : Line) → IsIn l ls → is_at (spec_of t) kinds.Irq l.1 ≡ true) → list_all (λ l. is_at (spec_of t) kinds.Irq l.1) ls ≡ true

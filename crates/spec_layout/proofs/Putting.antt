@@ -1,5 +1,5 @@
 -- Objects put behind others, one after another.
-use Rattle.std.proofs.Common.{◌≡◌, ◌<◌, ◌≤◌, ◌+◌, ◌-◌, ℕ, suc, List, [], ◌∷◌, ◌++◌, length, map, take, get_or, refl, sym, ◌∙◌, ap, subst, Some, append_assoc, append-nil, add-one, arith}
+use Rattle.std.proofs.Common.{◌≡◌, ◌<◌, ◌≤◌, ◌+◌, ◌-◌, ℕ, suc, List, [], ◌∷◌, ◌++◌, length, take, get_or, refl, sym, ◌∙◌, ap, subst, Some, append_assoc, append-nil, add-one, arith}
 use Rattle.std.specs.List.{slice_get}
 use Rattle.std.proofs.lemmas.List.{map-append, length-append, length-map}
 use Rattle.std.proofs.lemmas.Option.{slice_get_read}
@@ -107,10 +107,13 @@ put-turn {X} F xs read i x old mid new same l is e f =
 pub section_put : (section : Section) (s : Series) (b new : Objects) (xs : List Item) → section ≡ record { series = s; start = length b.entries } → new ≡ put_from section b xs → new ≡ put b (numbered s xs)
 section_put section s b new xs is e = put_section section b new xs (ap (λ (z : Section). z.start) is) e ∙ ap (λ (z : Section). put b (numbered z.series xs)) is
 
-pub all_put : (b0 b1 b2 b3 b4 b5 : Objects) (p1 p2 p3 p4 p5 : List Part) → b1 ≡ put b0 p1 → b2 ≡ put b1 p2 → b3 ≡ put b2 p3 → b4 ≡ put b3 p4 → b5 ≡ put b4 p5 → b5 ≡ put b0 (p1 ++ (p2 ++ (p3 ++ (p4 ++ p5))))
-all_put b0 b1 b2 b3 b4 b5 p1 p2 p3 p4 p5 e1 e2 e3 e4 e5 =
-    e5 ∙ ap (λ z. put z p5) e4 ∙ put-put b3 p4 p5 ∙ ap (λ z. put z (p4 ++ p5)) e3 ∙ put-put b2 p3 (p4 ++ p5) ∙ ap (λ z. put z (p3 ++ (p4 ++ p5))) e2 ∙ put-put b1 p2 (p3 ++ (p4 ++ p5))
-    ∙ ap (λ z. put z (p2 ++ (p3 ++ (p4 ++ p5)))) e1 ∙ put-put b0 p1 (p2 ++ (p3 ++ (p4 ++ p5)))
+pub all_put : (b0 b1 b2 b3 b4 b5 b6 : Objects) (p1 p2 p3 p4 p5 p6 : List Part) → b1 ≡ put b0 p1 → b2 ≡ put b1 p2 → b3 ≡ put b2 p3 → b4 ≡ put b3 p4 → b5 ≡ put b4 p5 → b6 ≡ put b5 p6
+    → b6 ≡ put b0 (p1 ++ (p2 ++ (p3 ++ (p4 ++ (p5 ++ p6)))))
+all_put b0 b1 b2 b3 b4 b5 b6 p1 p2 p3 p4 p5 p6 e1 e2 e3 e4 e5 e6 =
+    more b0 b1 b6 p1 (p2 ++ (p3 ++ (p4 ++ (p5 ++ p6)))) e1 (more b1 b2 b6 p2 (p3 ++ (p4 ++ (p5 ++ p6))) e2 (more b2 b3 b6 p3 (p4 ++ (p5 ++ p6)) e3 (more b3 b4 b6 p4 (p5 ++ p6) e4 (more b4 b5 b6 p5 p6 e5 e6))))
+  where
+    more : (a b c : Objects) (ps qs : List Part) → b ≡ put a ps → c ≡ put b qs → c ≡ put a (ps ++ qs)
+    more a b c ps qs e f = f ∙ ap (λ z. put z qs) e ∙ put-put a ps qs
 
 pub put_entries : (b : Objects) (ps : List Part) → b ≡ put none ps → b.entries ≡ entries_in ps
 unfolding put

@@ -1,6 +1,5 @@
 -- The rights of an end that has a slot confer just the authorities that the table gives it on its connection.
-use Rattle.std.proofs.Common.{◌≡◌, ℕ, true, refl, sym, Some, inl, inr, ◌⊎◌, true≢false}
-use Rattle.std.specs.List.{slice_get}
+use Rattle.std.proofs.Common.{◌≡◌, ℕ, true, refl, sym, inl, inr, ◌⊎◌, true≢false}
 use Rattle.adl_ast.specs.declared.composition.Role.{Role}
 use Rattle.adl_ast.specs.declared.composition.Role.TheVariants.{From, To}
 use Rattle.adl_meaning.specs.declared.connector.Connector.{Connector}
@@ -18,33 +17,26 @@ use Rattle.numbering.specs.Gather.{IsIn}
 use Rattle.spec_layout.specs.declared.series.Series.{Series}
 use Rattle.spec_layout.specs.declared.series.Series.TheVariants as series
 use Rattle.spec_layout.specs.Direct.{assigns, handles, has_slot}
-use Rattle.spec_layout.specs.Layout.{end_rights, item, joint_of, part}
+use Rattle.spec_layout.specs.Layout.{end_rights}
 
-abbrev pub joint_object : Connector → Object
-joint_object Rpc = AnEnd
-joint_object Notification = Notice
-joint_object SharedMemory = Notice
-joint_object Mmio = Notice
-joint_object Interrupt = Notice
-joint_object Direct = Notice
+-- the object of a connection: an endpoint for an RPC, and a notification for a notification or an interrupt
+abbrev pub connection_object : Connector → Object
+connection_object Rpc = AnEnd
+connection_object Notification = Notice
+connection_object SharedMemory = Notice
+connection_object Mmio = Notice
+connection_object Interrupt = Notice
+connection_object Direct = Notice
 
-abbrev pub joint_series : Connector → Series
-joint_series Rpc = series.Ep
-joint_series Notification = series.Ntfn
-joint_series SharedMemory = series.Ntfn
-joint_series Mmio = series.Ntfn
-joint_series Interrupt = series.Ntfn
-joint_series Direct = series.Ntfn
+abbrev pub connection_series : Connector → Series
+connection_series Rpc = series.Ep
+connection_series Notification = series.Ntfn
+connection_series SharedMemory = series.Ntfn
+connection_series Mmio = series.Ntfn
+connection_series Interrupt = series.Ntfn
+connection_series Direct = series.Ntfn
 
-pub joint_first : (k l : ℕ) (c : Connector) (r : Role) → has_slot c r ≡ true → slice_get (joint_of k l c) 0 ≡ Some (part (joint_series c) k (item l (joint_object c)))
-joint_first k l Rpc r s = refl
-joint_first k l Notification r s = refl
-joint_first k l Interrupt r s = refl
-joint_first k l SharedMemory r s = absurd (true≢false (sym s))
-joint_first k l Mmio r s = absurd (true≢false (sym s))
-joint_first k l Direct r s = absurd (true≢false (sym s))
-
-pub row_law : (c : Connector) (r : Role) (a : Authority) → has_slot c r ≡ true → kind_confers (kind_of_object (joint_object c)) (end_rights c r) a ≡ assigns c r a
+pub row_law : (c : Connector) (r : Role) (a : Authority) → has_slot c r ≡ true → kind_confers (kind_of_object (connection_object c)) (end_rights c r) a ≡ assigns c r a
 row_law Rpc From Receive s = refl
 row_law Rpc From SyncSend s = refl
 row_law Rpc From AsyncSend s = refl

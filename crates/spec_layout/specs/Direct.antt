@@ -1,7 +1,7 @@
 -- The authorities that connections assign directly: for each end, those that the connector table gives it on its
 -- connection, and on the device where it handles an interrupt. They are those of the end's domain, or of the device at
 -- which it stands. Ends at memory are assigned nothing here.
-use Rattle.std.specs.Prelude.{◌≡◌, ℕ, Bool, true, false, ◌&&◌, Option, Some, None, slice_get, slice_index, ◌⊎◌}
+use Rattle.std.specs.Prelude.{◌≡◌, ℕ, Bool, true, false, ◌&&◌, Option, Some, None, slice_get, ◌⊎◌}
 use Rattle.std.specs.List.{list_any}
 use Rattle.adl_ast.specs.declared.component.Member.{Member}
 use Rattle.adl_ast.specs.declared.composition.Role.{Role}
@@ -22,16 +22,16 @@ use Rattle.conn_rules.specs.declared.rule.ObjectKind.TheVariants.{NoObject, OfEn
 use Rattle.conn_rules.specs.Row.{rows_of}
 use Rattle.leaf_ends.specs.Members.{members_at}
 use Rattle.numbering.specs.Gather.{IsIn}
-use Rattle.spec_layout.specs.Tables.{Tables, connection_label, device_label, domain_label, from_leaf}
+use Rattle.spec_layout.specs.Tables.{Tables, connection_label, device_label, device_leaf, domain_label, leaf_number}
 
--- an endpoint or a notification
-abbrev pub is_joint : ObjectKind → Bool
-is_joint OfEndpoint = true
-is_joint OfNotification = true
-is_joint NoObject = false
-is_joint OfFrames = false
-is_joint OfDevice = false
-is_joint OfIrq = false
+-- an endpoint or a notification, which are the connection's
+abbrev pub is_of_connection : ObjectKind → Bool
+is_of_connection OfEndpoint = true
+is_of_connection OfNotification = true
+is_of_connection NoObject = false
+is_of_connection OfFrames = false
+is_of_connection OfDevice = false
+is_of_connection OfIrq = false
 
 abbrev pub is_irq : ObjectKind → Bool
 is_irq OfIrq = true
@@ -43,7 +43,7 @@ is_irq OfDevice = false
 
 -- whether the table gives the end the authority on its connection's endpoint or notification
 abbrev pub assigns : Connector → Role → Authority → Bool
-assigns connector role a = list_any (λ row. is_joint row.object && set_has row.authorities.bits a) (rows_of connector role)
+assigns connector role a = list_any (λ row. is_of_connection row.object && set_has row.authorities.bits a) (rows_of connector role)
 
 -- whether it gives the end the authority on the device's interrupt
 abbrev pub handles : Connector → Role → Authority → Bool
@@ -70,11 +70,11 @@ pub record IsFlat (source : Source) (flat : Flat) : Type 0 where
       → (leaf : Leaf) → slice_get flat.leaves e.leaf ≡ Some leaf → (d : ℕ) × (leaf.domain ≡ Some d)
   pub device : (k : ℕ) (c : FlatConnection) → slice_get flat.connections k ≡ Some c → c.connector ≡ Interrupt → (n : ℕ) × (e : FlatEnd) × (slice_get c.ends n ≡ Some e) × (e.role ≡ From)
   pub one_device : (k n : ℕ) (c : FlatConnection) (e : FlatEnd) → slice_get flat.connections k ≡ Some c → slice_get c.ends n ≡ Some e → c.connector ≡ Interrupt → e.role ≡ From
-      → (e.leaf ≡ from_leaf c.ends) × ((leaf : Leaf) → slice_get flat.leaves e.leaf ≡ Some leaf → leaf.domain ≡ None)
+      → (device_leaf Interrupt c.ends ≡ Some e.leaf) × ((leaf : Leaf) → slice_get flat.leaves e.leaf ≡ Some leaf → leaf.domain ≡ None)
 
 -- the label of a leaf's domain, and of a device its own
 abbrev pub owner : Tables → ℕ → Option ℕ → ℕ
-owner t leaf None = slice_index t.numbers.devices leaf
+owner t leaf None = leaf_number t leaf
 owner t leaf (Some d) = domain_label t d
 
 abbrev pub option_label : Tables → ℕ → Option Leaf → ℕ
@@ -90,7 +90,7 @@ pub record OnConnection (t : Tables) (k : ℕ) (c : FlatConnection) (role : Role
 
 pub record OnDevice (t : Tables) (c : FlatConnection) (role : Role) (e : Edge) : Type 0 where
   pub handled : handles c.connector role e.authority ≡ true
-  pub to : e.to ≡ device_label t c
+  pub to : device_label t c ≡ Some e.to
 
 -- an end that is assigned the authority of the edge
 pub record IsDirect (t : Tables) (e : Edge) : Type 0 where

@@ -9,3 +9,8 @@ pub mod Put
 pub mod Ready
 pub mod Tables
 pub mod Told
+pub use Rattle.auth_kinds.specs.Edges
+pub use Rattle.cap_model.specs.Auth
+pub use Rattle.cap_model.specs.Kept
+pub use Rattle.cap_model.specs.State
+pub use Rattle.cspace_layout.specs.Uses

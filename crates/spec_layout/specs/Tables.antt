@@ -1,10 +1,9 @@
 -- What the objects of a system are made from: the source and its flat, settled system, the slots of its domains, and the
 -- numbers of its labels. What is looked up by a number that nothing has is 0, empty or none.
 use Rattle.std.specs.Prelude.{ℕ, suc, Bool, true, false, if◌then◌else◌, List, [], ◌∷◌, Option, Some, None, slice_get, slice_index, option_map}
-use Rattle.std.specs.Option.{option_and_then, option_map_or}
+use Rattle.std.specs.Option.{option_map_or}
 use Rattle.adl_ast.specs.declared.composition.Role.{Role}
 use Rattle.adl_ast.specs.declared.composition.Role.TheVariants.{From, To}
-use Rattle.adl_ast.specs.declared.file.Ended.{Ended}
 use Rattle.adl_ast.specs.declared.file.Item.{Item}
 use Rattle.adl_ast.specs.declared.file.Item.TheVariants as items
 use Rattle.adl_ast.specs.declared.source.Source.{Source}
@@ -12,13 +11,12 @@ use Rattle.adl_meaning.specs.declared.connector.Connector.{Connector}
 use Rattle.adl_meaning.specs.declared.flat.Flat.{Flat}
 use Rattle.adl_meaning.specs.declared.flat.FlatConnection.{FlatConnection}
 use Rattle.adl_meaning.specs.declared.flat.FlatEnd.{FlatEnd}
-use Rattle.adl_meaning.specs.declared.flat.Leaf.{Leaf}
 use Rattle.adl_meaning.specs.declared.item_at.ItemAt.{ItemAt}
-use Rattle.adl_meaning.specs.declared.settled.EndSetting.{EndSetting}
 use Rattle.adl_meaning.specs.declared.settled.Settled.{Settled}
-use Rattle.cspace_layout.specs.declared.plan.SlotPlan.{SlotPlan}
+use Rattle.conn_rules.specs.Ends.{end_rule}
 use Rattle.cspace_layout.specs.declared.plan.SlotUse.{SlotUse}
 use Rattle.cspace_layout.specs.declared.plan.Slots.{Slots}
+use Rattle.leaf_ends.specs.Lookups.{setting_of}
 use Rattle.leaf_ends.specs.Members.{items_of_file}
 use Rattle.spec_layout.specs.declared.numbers.LabelNumbers.{LabelNumbers}
 
@@ -41,19 +39,23 @@ abbrev pub is_from : Role → Bool
 is_from From = true
 is_from To = false
 
--- the leaf at the first `from` end
-abbrev pub from_leaf : List FlatEnd → ℕ
-from_leaf [] = 0
-from_leaf (e ∷ es) = if is_from e.role then e.leaf else from_leaf es
-
 -- the place of the first `from` end, and behind the last where there is none
 abbrev pub from_place : List FlatEnd → ℕ
 from_place [] = 0
 from_place (e ∷ es) = if is_from e.role then 0 else suc (from_place es)
 
--- the label of the device at the `from` end
-abbrev pub device_label : Tables → FlatConnection → ℕ
-device_label t c = slice_index t.numbers.devices (from_leaf c.ends)
+-- the label of the leaf, a device
+abbrev pub leaf_number : Tables → ℕ → ℕ
+leaf_number t leaf = slice_index t.numbers.devices leaf
+
+-- the leaf at the first end at which the connector table has a device
+abbrev pub device_leaf : Connector → List FlatEnd → Option ℕ
+device_leaf connector [] = None
+device_leaf connector (e ∷ es) = if (end_rule connector e.role).hardware then Some e.leaf else device_leaf connector es
+
+-- the label of the device that the connection joins, if it joins one
+abbrev pub device_label : Tables → FlatConnection → Option ℕ
+device_label t c = option_map (leaf_number t) (device_leaf c.connector c.ends)
 
 -- ---- leaves
 
@@ -76,19 +78,9 @@ priority t leaf = option_map_or (λ s. s.priority) (slice_get t.settled.leaves l
 
 -- ---- ends
 
-abbrev pub end_in : ℕ → FlatConnection → Option (Connector × FlatEnd)
-end_in n c = option_map (λ e. (c.connector, e)) (slice_get c.ends n)
-
--- end n of connection k, with its connector
-abbrev pub end_at : Flat → ℕ → ℕ → Option (Connector × FlatEnd)
-end_at flat k n = option_and_then (end_in n) (slice_get flat.connections k)
-
-abbrev pub setting_at : Settled → ℕ → ℕ → Option EndSetting
-setting_at settled k n = option_and_then (λ s. slice_get s.ends n) (slice_get settled.connections k)
-
 -- the settled number of the interrupt, which is that of the first `from` end
 abbrev pub irq_number : Settled → ℕ → FlatConnection → ℕ
-irq_number settled k c = option_map_or (λ s. s.irq) (setting_at settled k (from_place c.ends)) 0
+irq_number settled k c = option_map_or (λ s. s.irq) (setting_of settled k (from_place c.ends)) 0
 
 -- ---- slots
 

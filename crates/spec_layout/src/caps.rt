@@ -1,7 +1,7 @@
 //! The capabilities of CNodes.
 
 ghost use Rattle.conn_rules.specs.Row.{RW};
-ghost use Rattle.spec_layout.specs.Layout.{cap_of, caps_of, lock_place};
+ghost use Rattle.spec_layout.specs.Layout.{cap_of, caps_of, lock_place, object_place};
 ghost use Rattle.spec_layout.specs.Places.{ArePlaces, holds_lock};
 ghost use Rattle.spec_layout.specs.Ready.{NamesOneOf};
 ghost use Rattle.spec_layout.specs.Told.{told};
@@ -12,6 +12,7 @@ ghost use Rattle.cspace_layout.specs.declared.plan.SlotUse.{SlotUse as Use};
 use crate::ends::{badge_at, rights_at};
 use crate::places::{Places, lock_number};
 use crate::tables::{Tables, number_at};
+use adl_meaning::Connector;
 use cam_base::{List, NoMemory};
 use cap_model::{Cap, Rights};
 use cspace_layout::SlotUse;
@@ -28,6 +29,18 @@ fn lock_rights() -> Rights
     }
 }
 
+/// The place of a connection's endpoint or notification.
+fn object_place(tables: &Tables<'_>, places: &Places, connection: u32) -> u32
+    requires places { ArePlaces (told tables.now) places.now }
+    requires named { connection < length tables.now.flat.now.connections }
+    ensures { result ≡ object_place (told tables.now) connection }
+{
+    match tables.flat.connections.as_slice()[connection as usize].connector {
+        Connector::Rpc => number_at(&places.endpoints, connection),
+        _ => number_at(&places.notifications, connection),
+    }
+}
+
 /// The capability of a use, where its lock would stand at this place.
 fn cap_of(tables: &Tables<'_>, places: &Places, lock: u32, used: SlotUse) -> Cap
     requires places { ArePlaces (told tables.now) places.now }
@@ -36,7 +49,7 @@ fn cap_of(tables: &Tables<'_>, places: &Places, lock: u32, used: SlotUse) -> Cap
 {
     match used {
         SlotUse::OfEnd(connection, number) => Cap {
-            object: number_at(&places.joints, connection),
+            object: object_place(tables, places, connection),
             rights: rights_at(tables, connection, number),
             badge: badge_at(tables, connection, number),
         },

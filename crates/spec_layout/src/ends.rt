@@ -1,30 +1,15 @@
 ghost use Rattle.spec_layout.specs.Layout.{end_rights, rights_at, badge_at, role_badge, settled_badge, serves, serves_at};
-ghost use Rattle.spec_layout.specs.Tables.{end_at, setting_at, from_place, irq_number};
+ghost use Rattle.spec_layout.specs.Tables.{from_place, irq_number};
 ghost use Rattle.spec_layout.specs.Told.{told};
 ghost use Rattle.std.specs.Prelude.{◌≡◌, ◌<◌, ◌^◌, length};
 
 use crate::tables::{Tables, is_from};
 use adl_ast::Role;
-use adl_meaning::{Connector, EndSetting, Flat, FlatConnection, FlatEnd, Settled};
+use adl_meaning::{Connector, Flat, FlatConnection, FlatEnd, Settled};
 use cap_model::Rights;
 use conn_rules::row;
 use cspace_layout::SlotUse;
-
-fn end_at(flat: &Flat, connection: u32, number: u32) -> Option<(Connector, FlatEnd)>
-    ensures { result ≡ end_at flat.now connection number }
-{
-    let connection = flat.connections.as_slice().get(connection as usize)?;
-    let end = connection.ends.as_slice().get(number as usize)?;
-    Some((connection.connector, *end))
-}
-
-fn setting_at(settled: &Settled, connection: u32, number: u32) -> Option<EndSetting>
-    ensures { result ≡ setting_at settled.now connection number }
-{
-    let connection = settled.connections.as_slice().get(connection as usize)?;
-    let setting = connection.ends.as_slice().get(number as usize)?;
-    Some(*setting)
-}
+use leaf_ends::{end_of, setting_of};
 
 /// The rights that the connector table gives an end of this role.
 fn end_rights(connector: Connector, role: Role) -> Rights
@@ -37,7 +22,7 @@ fn end_rights(connector: Connector, role: Role) -> Rights
 pub fn rights_at(tables: &Tables<'_>, connection: u32, number: u32) -> Rights
     ensures { result ≡ rights_at (told tables.now) connection number }
 {
-    match end_at(tables.flat, connection, number) {
+    match end_of(tables.flat, connection, number) {
         Some((connector, end)) => end_rights(connector, end.role),
         None => Rights::none(),
     }
@@ -46,7 +31,7 @@ pub fn rights_at(tables: &Tables<'_>, connection: u32, number: u32) -> Rights
 fn settled_badge(settled: &Settled, connection: u32, number: u32) -> u64
     ensures { result ≡ settled_badge settled.now connection number }
 {
-    match setting_at(settled, connection, number) {
+    match setting_of(settled, connection, number) {
         Some(setting) => setting.badge,
         None => 0,
     }
@@ -56,7 +41,7 @@ fn settled_badge(settled: &Settled, connection: u32, number: u32) -> u64
 pub fn badge_at(tables: &Tables<'_>, connection: u32, number: u32) -> u64
     ensures { result ≡ badge_at (told tables.now) connection number }
 {
-    match end_at(tables.flat, connection, number) {
+    match end_of(tables.flat, connection, number) {
         Some((_, end)) if is_from(end.role) => settled_badge(tables.settled, connection, number),
         _ => 0,
     }
@@ -78,7 +63,7 @@ pub fn serves(flat: &Flat, leaf: u32, used: SlotUse) -> bool
     let SlotUse::OfEnd(connection, number) = used else {
         return false;
     };
-    match end_at(flat, connection, number) {
+    match end_of(flat, connection, number) {
         Some((connector, end)) => serves_at(leaf, connector, end),
         None => false,
     }
@@ -103,7 +88,7 @@ pub fn irq_number(settled: &Settled, number: u32, connection: &FlatConnection) -
     ensures { result ≡ irq_number settled.now number connection.now }
 {
     let place = from_place(connection.ends.as_slice());
-    match setting_at(settled, number, place) {
+    match setting_of(settled, number, place) {
         Some(setting) => setting.irq,
         None => 0,
     }

@@ -19,7 +19,7 @@ mod series;
 mod tables;
 mod threads;
 
-pub use laws::{boot_edges_are_direct, specs_are_kept};
+pub use laws::{bits_are_least, boot_edges_are_direct, specs_are_kept};
 pub use made::{Made, build};
 pub use numbers::LabelNumbers;
 pub use series::Series;

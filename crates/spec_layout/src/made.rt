@@ -12,7 +12,7 @@ use crate::Series;
 use crate::lines::sorted_lines;
 use crate::objects::{Objects, Section};
 use crate::places::{Places, place_all};
-use crate::sections::{push_cnodes, push_irqs, push_joints, push_locks};
+use crate::sections::{push_cnodes, push_endpoints, push_irqs, push_locks, push_notifications};
 use crate::tables::Tables;
 use crate::threads::push_threads;
 use auth_kinds::Labels;
@@ -55,7 +55,8 @@ fn all_objects(alloc: Global, tables: &Tables<'_>, places: &Places) -> Result<Ob
     push_cnodes(alloc, tables, places, &mut made, cnodes)?;
     let threads = section(&made, Series::Tcb);
     push_threads(alloc, tables, &mut made, threads)?;
-    push_joints(alloc, tables, &mut made)?;
+    push_endpoints(alloc, tables, &mut made)?;
+    push_notifications(alloc, tables, &mut made)?;
     let locks = section(&made, Series::Lock);
     push_locks(alloc, tables, &mut made, locks)?;
     let irqs = section(&made, Series::Irq);

@@ -2,23 +2,24 @@
 
 ghost use Rattle.numbering.specs.Gather.{before, gather};
 ghost use Rattle.spec_layout.specs.Layout.{threads, domain_threads, servers, locks, plan_locks, serves};
-ghost use Rattle.spec_layout.specs.Places.{ArePlaces, capped, holds_lock, mark, one, stands, places_from};
+ghost use Rattle.spec_layout.specs.Places.{ArePlaces, capped, has_endpoint, has_irq, has_notification, holds_lock, mark, one, stands, places_from};
 ghost use Rattle.spec_layout.specs.Ready.{IsReady};
 ghost use Rattle.spec_layout.specs.Told.{told};
 ghost use Rattle.std.specs.List.{count_by};
 ghost use Rattle.std.specs.Prelude.{◌≡◌, ◌+◌, ◌<◌, ◌^◌, ◌∷◌, [], length, IfOk};
 
 use crate::ends::serves;
-use crate::tables::{Tables, domain_slots};
+use crate::tables::{Tables, device_leaf, domain_slots};
 use adl_meaning::{Connector, Flat, FlatConnection};
 use cam_base::NoMemory;
 use cspace_layout::SlotUse;
 use std::alloc::Global;
 
-/// The places of the endpoint or notification and of the interrupt of each connection, and of the first lock.
+/// The places of the endpoint, the notification and the interrupt of each connection, and of the first lock.
 #[derive(Drop)]
 pub struct Places {
-    pub joints: Vec<u32>,
+    pub endpoints: Vec<u32>,
+    pub notifications: Vec<u32>,
     pub irqs: Vec<u32>,
     pub first_lock: u32,
 }
@@ -26,26 +27,50 @@ pub struct Places {
 /// What connections have an object for.
 #[derive(Clone, Copy)]
 pub enum Standing {
-    Joint,
+    Endpoint,
+    Notification,
     Interrupt,
 }
 
-/// Whether a connection has such an object.
-fn stands(standing: Standing, connector: Connector) -> bool
-    ensures { result ≡ stands standing connector }
+fn has_endpoint(connector: Connector) -> bool
+    ensures { result ≡ has_endpoint connector }
 {
-    match (standing, connector) {
-        (_, Connector::Interrupt) => true,
-        (Standing::Joint, Connector::Rpc | Connector::Notification) => true,
+    matches!(connector, Connector::Rpc)
+}
+
+fn has_notification(connector: Connector) -> bool
+    ensures { result ≡ has_notification connector }
+{
+    matches!(connector, Connector::Notification | Connector::Interrupt)
+}
+
+fn has_irq(connection: &FlatConnection) -> bool
+    ensures { result ≡ has_irq connection.now.connector connection.now.ends }
+{
+    match connection.connector {
+        Connector::Interrupt => {
+            device_leaf(Connector::Interrupt, connection.ends.as_slice()).is_some()
+        }
         _ => false,
     }
 }
 
-/// How many such objects a connection has.
-fn number_of(standing: Standing, connector: Connector) -> u32
-    ensures { result ≡ one (stands standing connector) }
+/// Whether a connection has such an object.
+fn stands(standing: Standing, connection: &FlatConnection) -> bool
+    ensures { result ≡ stands standing connection.now }
 {
-    if stands(standing, connector) { 1 } else { 0 }
+    match standing {
+        Standing::Endpoint => has_endpoint(connection.connector),
+        Standing::Notification => has_notification(connection.connector),
+        Standing::Interrupt => has_irq(connection),
+    }
+}
+
+/// How many such objects a connection has.
+fn number_of(standing: Standing, connection: &FlatConnection) -> u32
+    ensures { result ≡ one (stands standing connection.now) }
+{
+    if stands(standing, connection) { 1 } else { 0 }
 }
 
 /// The place of each connection's object, where the first stands at this place.
@@ -62,17 +87,17 @@ fn places_from(
     let mut next = first;
     for connection in connections {
         places.push(next)?;
-        next += number_of(standing, connection.connector);
+        next += number_of(standing, connection);
     }
     Ok(places)
 }
 
 fn count_standing(standing: Standing, connections: &[FlatConnection]) -> usize
-    ensures { result ≡ count_by (λ c. stands standing c.connector) connections.now }
+    ensures { result ≡ count_by (stands standing) connections.now }
 {
     connections
         .iter()
-        .filter(|connection| stands(standing, connection.connector))
+        .filter(|connection| stands(standing, connection))
         .count()
 }
 
@@ -146,12 +171,22 @@ pub fn place_all(alloc: Global, tables: &Tables<'_>) -> Result<Places, NoMemory>
     let connections = tables.flat.connections.as_slice();
     let domains = tables.slots.domains.len() as u32;
     let threads = count_threads(tables) as u32;
-    let joints = count_standing(Standing::Joint, connections) as u32;
+    let endpoints = count_standing(Standing::Endpoint, connections) as u32;
+    let notifications = count_standing(Standing::Notification, connections) as u32;
     let locks = count_all_locks(tables) as u32;
-    let first_lock = domains + threads + joints;
+    let first_endpoint = domains + threads;
+    let first_notification = first_endpoint + endpoints;
+    let first_lock = first_notification + notifications;
+    let first_irq = first_lock + locks;
     Ok(Places {
-        joints: places_from(alloc, Standing::Joint, domains + threads, connections)?,
-        irqs: places_from(alloc, Standing::Interrupt, first_lock + locks, connections)?,
+        endpoints: places_from(alloc, Standing::Endpoint, first_endpoint, connections)?,
+        notifications: places_from(
+            alloc,
+            Standing::Notification,
+            first_notification,
+            connections,
+        )?,
+        irqs: places_from(alloc, Standing::Interrupt, first_irq, connections)?,
         first_lock,
     })
 }

@@ -1,20 +1,19 @@
 //! The sections of objects besides threads.
 
 ghost use Rattle.numbering.specs.Gather.{gather};
-ghost use Rattle.spec_layout.specs.Layout.{cnodes, joint_of, joints, lock, plan_locks, locks, irq, irqs};
+ghost use Rattle.spec_layout.specs.Layout.{cnodes, endpoint_of, endpoints, notification_of, notifications, lock, plan_locks, locks, irq_of, irq_to, irqs};
 ghost use Rattle.spec_layout.specs.Places.{ArePlaces};
 ghost use Rattle.spec_layout.specs.Put.{put, put_from};
 ghost use Rattle.spec_layout.specs.Ready.{IsReady};
 ghost use Rattle.spec_layout.specs.Told.{told};
 ghost use Rattle.std.specs.Prelude.{◌≡◌, ◌≤◌, ◌<◌, ◌^◌, ◌∷◌, [], length, slice_get, Some, OnOk};
-ghost use Rattle.spec_layout.specs.Layout.{joint_place};
 
 use crate::Series;
 use crate::bits::bits_for;
 use crate::caps::caps_of;
 use crate::objects::{Objects, Section, push, push_next};
 use crate::places::{Places, count_locks};
-use crate::tables::{Tables, connection_label, device_label, domain_label, number_at};
+use crate::tables::{Tables, connection_label, device_leaf, domain_label, leaf_number, number_at};
 use adl_meaning::{Connector, FlatConnection};
 use cam_base::NoMemory;
 use cap_model::Object;
@@ -50,18 +49,51 @@ pub fn push_cnodes(
 }
 
 #[tactic(auto, using(crate::proofs::Putting::putting))]
-fn push_joint(
+fn push_endpoint(
     alloc: Global,
     objects: &mut Objects,
     connection: u32,
     label: u32,
     connector: Connector,
 ) -> Result<(), NoMemory>
-    ensures { OnOk result (objects.new ≡ put objects.old (joint_of connection label connector)) }
+    ensures { OnOk result (objects.new ≡ put objects.old (endpoint_of connection label connector)) }
 {
     let number = connection as u64;
     match connector {
         Connector::Rpc => push(alloc, objects, Series::Ep, number, label, Object::Endpoint),
+        _ => Ok(()),
+    }
+}
+
+/// Puts the endpoints of all connections behind the others.
+pub fn push_endpoints(
+    alloc: Global,
+    tables: &Tables<'_>,
+    objects: &mut Objects,
+) -> Result<(), NoMemory>
+    requires { length tables.now.flat.now.connections < 2 ^ 32 }
+    ensures { OnOk result (objects.new ≡ put objects.old (endpoints (told tables.now))) }
+{
+    for (number, connection) in tables.flat.connections.as_slice().iter().enumerate() {
+        let number = number as u32;
+        let label = connection_label(tables, number);
+        push_endpoint(alloc, objects, number, label, connection.connector)?;
+    }
+    Ok(())
+}
+
+#[tactic(auto, using(crate::proofs::Putting::putting))]
+fn push_notification(
+    alloc: Global,
+    objects: &mut Objects,
+    connection: u32,
+    label: u32,
+    connector: Connector,
+) -> Result<(), NoMemory>
+    ensures { OnOk result (objects.new ≡ put objects.old (notification_of connection label connector)) }
+{
+    let number = connection as u64;
+    match connector {
         Connector::Notification | Connector::Interrupt => push(
             alloc,
             objects,
@@ -74,19 +106,19 @@ fn push_joint(
     }
 }
 
-/// Puts the endpoints and notifications of all connections behind the others.
-pub fn push_joints(
+/// Puts the notifications of all connections behind the others.
+pub fn push_notifications(
     alloc: Global,
     tables: &Tables<'_>,
     objects: &mut Objects,
 ) -> Result<(), NoMemory>
     requires { length tables.now.flat.now.connections < 2 ^ 32 }
-    ensures { OnOk result (objects.new ≡ put objects.old (joints (told tables.now))) }
+    ensures { OnOk result (objects.new ≡ put objects.old (notifications (told tables.now))) }
 {
     for (number, connection) in tables.flat.connections.as_slice().iter().enumerate() {
         let number = number as u32;
         let label = connection_label(tables, number);
-        push_joint(alloc, objects, number, label, connection.connector)?;
+        push_notification(alloc, objects, number, label, connection.connector)?;
     }
     Ok(())
 }
@@ -144,25 +176,44 @@ pub fn push_locks(
     Ok(())
 }
 
+/// Puts the interrupt of a device, where there is one, behind the others.
+#[tactic(auto, using(crate::proofs::Putting::putting))]
+fn push_device(
+    alloc: Global,
+    tables: &Tables<'_>,
+    objects: &mut Objects,
+    section: Section,
+    notification: u32,
+    device: Option<u32>,
+) -> Result<(), NoMemory>
+    requires { section.start ≤ length objects.old.entries }
+    ensures { OnOk result (objects.new ≡ put_from section objects.old (irq_to (told tables.now) notification device)) }
+{
+    let Some(leaf) = device else {
+        return Ok(());
+    };
+    let irq = Object::Irq {
+        notification: Some(notification),
+    };
+    push_next(alloc, objects, section, leaf_number(tables, leaf), irq)
+}
+
 #[tactic(auto, using(crate::proofs::Putting::putting))]
 fn push_irq(
     alloc: Global,
     tables: &Tables<'_>,
     objects: &mut Objects,
     section: Section,
-    joint: u32,
-    number: u32,
+    notification: u32,
     connection: &FlatConnection,
 ) -> Result<(), NoMemory>
-    requires start { section.start ≤ length objects.old.entries }
-    requires joint { joint ≡ joint_place (told tables.now) number }
-    ensures { OnOk result (objects.new ≡ put_from section objects.old (irq (told tables.now) number connection.now)) }
+    requires { section.start ≤ length objects.old.entries }
+    ensures { OnOk result (objects.new ≡ put_from section objects.old (irq_of (told tables.now) notification connection.now connection.now.connector)) }
 {
     match connection.connector {
         Connector::Interrupt => {
-            let notification = Some(joint);
-            let label = device_label(tables, connection);
-            push_next(alloc, objects, section, label, Object::Irq { notification })
+            let device = device_leaf(Connector::Interrupt, connection.ends.as_slice());
+            push_device(alloc, tables, objects, section, notification, device)
         }
         _ => Ok(()),
     }
@@ -184,8 +235,8 @@ pub fn push_irqs(
 {
     for (number, connection) in tables.flat.connections.as_slice().iter().enumerate() {
         let number = number as u32;
-        let joint = number_at(&places.joints, number);
-        push_irq(alloc, tables, objects, section, joint, number, connection)?;
+        let notification = number_at(&places.notifications, number);
+        push_irq(alloc, tables, objects, section, notification, connection)?;
     }
     Ok(())
 }

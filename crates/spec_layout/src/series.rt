@@ -7,7 +7,7 @@ use itoa::Buffer;
 use std::alloc::Global;
 
 /// A series of objects that are named alike, each by its number.
-#[derive(Clone, Copy, Debug, PartialEq, Eq)]
+#[derive(Clone, Copy)]
 pub enum Series {
     CNode,
     Tcb,

@@ -1,10 +1,11 @@
-ghost use Rattle.spec_layout.specs.Tables.{name_of_item, component_name, leaf_name, priority, domain_slots, domain_label, connection_label, device_label, from_leaf, is_from};
+ghost use Rattle.spec_layout.specs.Tables.{name_of_item, component_name, leaf_name, priority, domain_slots, domain_label, connection_label, leaf_number, device_leaf, is_from};
 ghost use Rattle.spec_layout.specs.Told.{told};
 ghost use Rattle.std.specs.Prelude.{◌≡◌, slice_index};
 
 use crate::LabelNumbers;
 use adl_ast::{Item, Role, Source};
-use adl_meaning::{Flat, FlatConnection, FlatEnd, ItemAt, Settled};
+use adl_meaning::{Connector, Flat, FlatEnd, ItemAt, Settled};
+use conn_rules::EndRule;
 use cspace_layout::{SlotUse, Slots};
 
 /// What the objects of a system are made from: the source, its flat, settled system, the slots of its domains, and the
@@ -42,25 +43,23 @@ pub fn connection_label(tables: &Tables<'_>, connection: u32) -> u32
     number_at(tables.numbers.connections.as_slice(), connection)
 }
 
-fn from_leaf(ends: &[FlatEnd]) -> u32
-    ensures { result ≡ from_leaf ends.now }
+/// The label of a leaf that is a device.
+pub fn leaf_number(tables: &Tables<'_>, leaf: u32) -> u32
+    ensures { result ≡ leaf_number (told tables.now) leaf }
 {
-    for end in ends {
-        if is_from(end.role) {
-            return end.leaf;
-        }
-    }
-    0
+    number_at(tables.numbers.devices.as_slice(), leaf)
 }
 
-/// The label of the device at the `from` end.
-pub fn device_label(tables: &Tables<'_>, connection: &FlatConnection) -> u32
-    ensures { result ≡ device_label (told tables.now) connection.now }
+/// The leaf at the first end at which the connector table has a device; none where it has none.
+pub fn device_leaf(connector: Connector, ends: &[FlatEnd]) -> Option<u32>
+    ensures { result ≡ device_leaf connector ends.now }
 {
-    number_at(
-        tables.numbers.devices.as_slice(),
-        from_leaf(connection.ends.as_slice()),
-    )
+    for end in ends {
+        if EndRule::of(connector, end.role).hardware {
+            return Some(end.leaf);
+        }
+    }
+    None
 }
 
 /// Whether it is the `from` side.

@@ -4,7 +4,7 @@ use Rattle.std.specs.List.{filter_map}
 use Rattle.std.specs.Option.{option_or}
 use Rattle.cap_machine.specs.declared.step.Step.{Step}
 use Rattle.cap_model.specs.declared.spec.Spec.{Spec}
-use Rattle.step_text.specs.LineFaults.{at_line}
+use Rattle.text_lines.specs.LineFaults.{at_line}
 use Rattle.text_lines.specs.Fields.{fields}
 use Rattle.text_lines.specs.Lines.{Line, lines}
 use Rattle.step_text.specs.Spelling.{spelled}

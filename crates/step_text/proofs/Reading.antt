@@ -12,7 +12,7 @@ use Rattle.cap_model.specs.declared.spec.Spec.{Spec}
 use Rattle.text_lines.specs.Lines.{Line, lines}
 use Rattle.step_text.specs.Threads.{thread_named}
 use Rattle.text_lines.specs.Fields.{fields}
-use Rattle.step_text.specs.LineFaults.{Wrong, at_line, IsRefusal}
+use Rattle.text_lines.specs.LineFaults.{Wrong, at_line, IsRefusal}
 use Rattle.step_text.specs.LinesRead.{IsLineRead}
 use Rattle.step_text.specs.Spelling.{spelled}
 use Rattle.step_text.specs.StepTexts.{bytes_limit, wrong, fault_of, step_of, first_fault_of, IsRead}

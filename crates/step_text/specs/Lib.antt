@@ -1,8 +1,8 @@
 pub mod Found
-pub mod LineFaults
 pub mod LinesRead
 pub mod RightsFields
 pub mod Spelling
 pub mod StepTexts
 pub mod Threads
 pub mod Verbs
+pub use Rattle.text_lines.specs.Lines

@@ -1,9 +1,8 @@
 -- How a step is spelled: a word, and behind it threads by name, numbers, and the rights that a copy is lessened to.
-use Rattle.std.specs.Prelude.{ℕ, Bool, false, not, ◌&&◌, if◌then◌else◌, List, [], ◌∷◌, Option, Some, None}
-use Rattle.std.specs.List.{list_all}
+use Rattle.std.specs.Prelude.{ℕ, if◌then◌else◌, List, [], ◌∷◌, Option, Some, None}
 use Rattle.std.specs.Option.{option_map}
-use Rattle.cam_base.specs.Names.{is_word_byte}
-use Rattle.cam_base.specs.Numbers.{number_value, is_digit}
+use Rattle.cam_base.specs.Names.{is_word}
+use Rattle.cam_base.specs.Numbers.{number_value}
 use Rattle.cap_machine.specs.declared.step.Step.{Step}
 use Rattle.cap_machine.specs.declared.step.Step.TheVariants as steps
 use Rattle.cap_model.specs.declared.rights.Rights.{Rights}
@@ -12,11 +11,6 @@ use Rattle.step_text.specs.declared.verb.Verb.{Verb}
 use Rattle.step_text.specs.declared.verb.Verb.TheVariants.{Take, Put, Grant, Call, Reply, SetCspace, SetVspace, Map, Bind, Drop, Save, ReplyTo}
 use Rattle.step_text.specs.Verbs.{verb_of}
 use Rattle.text_lines.specs.AllThere.{of_two, of_three, of_four, of_six}
-
--- letters, digits and underscores, and no digit first
-abbrev pub is_word : List ℕ → Bool
-is_word [] = false
-is_word (b ∷ bs) = is_word_byte b && (not (is_digit b) && list_all is_word_byte bs)
 
 -- the number and the rights of a copy
 abbrev pub copy_value : List ℕ → List ℕ → Option (ℕ × Rights)

@@ -5,12 +5,9 @@
 #![tactic(auto)]
 
 mod laws;
-mod line_fault;
 mod reader;
 mod rights;
 mod spelled;
-#[cfg(test)]
-mod tests;
 mod threads;
 mod verb;
 

@@ -7,14 +7,13 @@ ghost use Rattle.step_text.specs.LinesRead.{AreJudged, IsLineRead};
 ghost use Rattle.step_text.specs.StepTexts.{IsRead};
 ghost use Rattle.text_lines.specs.Texts.{texts};
 
-use crate::line_fault::refusal;
 use crate::spelled::{misspelled, spelled};
 use crate::threads::Threads;
 use cam_base::{List, Refused, Text, TextCode, TextFault};
 use cap_machine::Step;
 use cap_model::Spec;
 use std::alloc::Global;
-use text_lines::{Line, Lines, fields};
+use text_lines::{Line, Lines, fields, refusal};
 
 /// The most steps of a text.
 pub const MAX_STEPS: usize = 100_000;

@@ -1,37 +1,17 @@
 //! The steps that fields spell.
 
-ghost use Rattle.cam_base.specs.Names.{is_word_byte};
-ghost use Rattle.std.specs.List.{list_all};
 ghost use Rattle.std.specs.Prelude.{◌≡◌, [], ◌∷◌};
 ghost use Rattle.step_text.specs.Found.{found_in, place_among};
-ghost use Rattle.step_text.specs.Spelling.{is_word, copy_value, spelled_behind, spelled, names, names_behind};
+ghost use Rattle.step_text.specs.Spelling.{copy_value, spelled_behind, spelled, names, names_behind};
 ghost use Rattle.step_text.specs.StepTexts.{misspelled, first_unknown};
 ghost use Rattle.text_lines.specs.Texts.{texts};
 
 use crate::rights::read_rights;
 use crate::threads::Threads;
 use crate::verb::{Verb, read_verb};
-use cam_base::{TextCode, is_word_byte, read_number};
+use cam_base::{TextCode, is_word, read_number};
 use cap_machine::Step;
 use cap_model::Rights;
-
-fn all_word_bytes(bytes: &[u8]) -> bool
-    ensures { result ≡ list_all is_word_byte bytes.now }
-{
-    bytes.iter().all(|b| is_word_byte(*b))
-}
-
-/// Whether the bytes are a word.
-fn is_word(name: &[u8]) -> bool
-    ensures { result ≡ is_word name.now }
-{
-    match name {
-        [] => false,
-        [first, rest @ ..] => {
-            is_word_byte(*first) && !first.is_ascii_digit() && all_word_bytes(rest)
-        }
-    }
-}
 
 /// The place of the thread of that name; of any word, where no threads are given.
 fn place(threads: Option<&Threads>, name: &[u8]) -> Option<u32>

@@ -3,6 +3,13 @@
 use Rattle.std.specs.Prelude.{ℕ, ◌+◌, ◌==◌, ◌&&◌, Bool, true, false, not, List, [], ◌∷◌, length, filter}
 use Rattle.text_lines.specs.Parts.{parts}
 
+-- the bytes of a line feed, and of a dash
+abbrev pub line_feed : ℕ
+line_feed = 10
+
+abbrev pub dash : ℕ
+dash = 45
+
 -- a line without its line feed, and the place of its first byte
 pub record Line : Type 0 where
   pub first : ℕ
@@ -20,7 +27,7 @@ placed at (text ∷ texts) = record { first = at; text = text } ∷ placed (at +
 abbrev pub is_silent : List ℕ → Bool
 is_silent [] = true
 is_silent (a ∷ []) = false
-is_silent (a ∷ b ∷ bs) = a == 45 && b == 45
+is_silent (a ∷ b ∷ bs) = a == dash && b == dash
 
 -- those of the lines that say something
 abbrev pub telling : List Line → List Line
@@ -28,4 +35,4 @@ telling = filter (λ line. not (is_silent line.text))
 
 -- the lines of a text that say something
 abbrev pub lines : List ℕ → List Line
-lines bytes = telling (placed 0 (parts 10 bytes))
+lines bytes = telling (placed 0 (parts line_feed bytes))

@@ -9,4 +9,4 @@ abbrev pub line_of : Line → spec.Line
 line_of line = record { first = line.first; text = line.text.now }
 
 abbrev pub lines_left : Lines → List spec.Line
-lines_left lines = spec.telling (spec.placed lines.at (parts_from 10 lines.at lines.bytes.now))
+lines_left lines = spec.telling (spec.placed lines.at (parts_from spec.line_feed lines.at lines.bytes.now))

@@ -33,10 +33,12 @@ fn is_silent(text: &[u8]) -> bool
 }
 
 impl<'a> Lines<'a> {
+    ghost use Rattle.text_lines.specs.Lines.{lines};
+    ghost use Rattle.text_lines.specs.LinesLeft.{lines_left};
+
     /// All lines of the text that say something.
     pub fn of(bytes: &'a [u8]) -> Lines<'a>
-        ensures bytes { result.bytes.now ≡ bytes.entry.now }
-        ensures at { result.at ≡ 0 }
+        ensures { lines_left result ≡ lines bytes.entry.now }
     {
         Lines { bytes, at: 0 }
     }

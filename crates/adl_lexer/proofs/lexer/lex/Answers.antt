@@ -21,7 +21,6 @@ scan-preserved-in-Gap c =
       told = λ ts l. c.scan.invariant.told ts (lexes_gap rest after step c.args.file (length c.args.bytes.now) ts l);
       reached = λ x r. c.scan.invariant.reached x (reached_gap rest after step x r);
       short = omega (arith, gap_eats rest after step);
-      table = c.scan.invariant.table;
     }
 
 pub overflow_sub-end : goal.overflow_sub-end
@@ -50,7 +49,6 @@ scan-preserved c =
           (c.scan.invariant.told (t ∷ ts) (lexes_token rest k after token c.args.file (length bytes) t ts refl refl l));
       reached = λ x r. c.scan.invariant.reached x (reached_token rest k after token x r);
       short = omega (arith, token_eats rest k after token, c.scan.invariant.short);
-      table = c.scan.invariant.table;
     }
 
 pub returns-in-Bad : goal.returns-in-Bad

@@ -1,6 +1,5 @@
 use Rattle.std.proofs.Common.{◌≡◌, ℕ, List, ◌++◌, ◌≤◌, length}
 use Rattle.cam_base.specs.declared.token.Token.{Token}
-use Rattle.adl_lexer.specs.Keywords.{all_keywords}
 use Rattle.adl_lexer.specs.Lexes.{LexesFrom, Reached}
 use Rattle.adl_lexer.proofs.lexer.lex.Given as goal
 
@@ -10,7 +9,6 @@ invariant-scan l = record {
   told : (ts : List Token) → LexesFrom l.file (length l.bytes) l.rest ts → LexesFrom l.file (length l.bytes) l.bytes (l.tokens ++ ts);
   reached : (x : List ℕ) → Reached l.rest x → Reached l.bytes x;
   short : length l.rest ≤ length l.bytes;
-  table : l.keywords.rows ≡ all_keywords;
 }
 
 abbrev pub decreases-scan : goal.decreases-scan

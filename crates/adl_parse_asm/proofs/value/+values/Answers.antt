@@ -36,7 +36,7 @@ values-returns t c =
     let cs = mark_code marks.Comma ∷ [] in
     let r = nests c.args.room (behind (mark_code marks.Comma) value_form) in
     let total = nests c.args.room values_line (see b c.args.tokens.now) in
-    is_done token_code cs r (next_value_eats c.args.room) c.more.items (see b c.more.rest.now) total (sym c.next_is.ensures ∙ c.more-test.false) c.more.invariant
+    rw c.fitted.ensures (is_done token_code cs r (next_value_eats c.args.room) c.more.items (see b c.more.rest.now) total (sym c.next_is.ensures ∙ c.more-test.false) c.more.invariant)
 
 pub entries-returns-in_err-item : goal.entries-returns-in_err-item
 entries-returns-in_err-item t c =
@@ -64,4 +64,4 @@ entries-returns t c =
     let cs = mark_code marks.Comma ∷ [] in
     let r = nests c.args.room (behind (mark_code marks.Comma) entry_form) in
     let total = nests c.args.room entries_line (see b c.args.tokens.now) in
-    is_done token_code cs r (next_entry_eats c.args.room) c.more.items (see b c.more.rest.now) total (sym c.next_is-in-more.ensures ∙ c.more-test.false) c.more.invariant
+    rw c.fitted.ensures (is_done token_code cs r (next_entry_eats c.args.room) c.more.items (see b c.more.rest.now) total (sym c.next_is-in-more.ensures ∙ c.more-test.false) c.more.invariant)

@@ -6,7 +6,7 @@ use Rattle.grammar.proofs.repeated.read_list.Goals as goal
 
 pub returns-in_err-item : goal.returns-in_err-item
 returns-in_err-item g c =
-    let t = g.T.GrammarToken in
+    let t = g.L.Language in
     let cs = t.comma ∷ [] in
     let b = c.args.bytes.now in
     let r = g.R.Repeated.gives b in
@@ -16,7 +16,7 @@ returns-in_err-item g c =
 
 pub more-preserved : goal.more-preserved
 more-preserved g c =
-    let t = g.T.GrammarToken in
+    let t = g.L.Language in
     let cs = t.comma ∷ [] in
     let b = c.args.bytes.now in
     let r = g.R.Repeated.gives b in
@@ -25,8 +25,8 @@ more-preserved g c =
 
 pub returns : goal.returns
 returns g c =
-    let t = g.T.GrammarToken in
+    let t = g.L.Language in
     let cs = t.comma ∷ [] in
     let b = c.args.bytes.now in
     let r = g.R.Repeated.gives b in
-    is_done t.code cs (behind_one t.code cs r) (behind_eats t.code cs r (g.met.R.Repeated.eats b)) c.more.items (t.see b c.more.rest.now) (list_of t.code t.comma r (t.see b c.args.tokens.now)) (sym c.next_is_comma.ensures ∙ c.more-test.false) c.more.invariant
+    rw c.fitted.ensures (is_done t.code cs (behind_one t.code cs r) (behind_eats t.code cs r (g.met.R.Repeated.eats b)) c.more.items (t.see b c.more.rest.now) (list_of t.code t.comma r (t.see b c.args.tokens.now)) (sym c.next_is_comma.ensures ∙ c.more-test.false) c.more.invariant)

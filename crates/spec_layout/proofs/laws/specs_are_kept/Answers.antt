@@ -1,4 +1,4 @@
-use Rattle.std.proofs.Common.{◌∙◌, arith}
+use Rattle.std.proofs.Common.{arith}
 use Rattle.std.proofs.lemmas.List.{length-map}
 use Rattle.cspace_layout.specs.declared.plan.SlotPlan.{SlotPlan}
 use Rattle.numbering.proofs.Gathered.{gather_ones}

@@ -1,4 +1,4 @@
-use Rattle.std.proofs.Common.{◌≡◌, ◌<◌, ◌∙◌, List, [], length, ap, subst}
+use Rattle.std.proofs.Common.{◌<◌, ◌∙◌, List, [], length, ap, subst}
 use Rattle.std.specs.Prelude.{slice_index}
 use Rattle.adl_meaning.specs.declared.flat.FlatConnection.{FlatConnection}
 use Rattle.numbering.proofs.Gathered.{gather_turn}

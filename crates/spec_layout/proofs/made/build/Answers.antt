@@ -1,4 +1,4 @@
-use Rattle.std.proofs.Common.{◌≡◌, ◌∙◌, ap}
+use Rattle.std.proofs.Common.{◌∙◌, ap}
 use Rattle.cap_model.specs.declared.level.Arch.TheVariants.{Arm11}
 use Rattle.spec_layout.specs.Layout.{parts}
 use Rattle.spec_layout.specs.Made.{entries_in}

@@ -1,4 +1,4 @@
-use Rattle.std.proofs.Common.{◌+◌, refl, arith}
+use Rattle.std.proofs.Common.{◌+◌, arith}
 use Rattle.spec_layout.specs.Places.{mark}
 use Rattle.spec_layout.proofs.Counting.{mark_turn, places_turn, taken_le}
 use Rattle.spec_layout.proofs.places.places_from.Goals as goal

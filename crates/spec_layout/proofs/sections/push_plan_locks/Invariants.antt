@@ -1,8 +1,7 @@
-use Rattle.std.proofs.Common.{◌≡◌, ◌≤◌, ◌∷◌, [], length, take}
+use Rattle.std.proofs.Common.{◌≡◌, ◌≤◌, length, take}
 use Rattle.numbering.specs.Gather.{gather}
 use Rattle.spec_layout.specs.Layout.{lock}
 use Rattle.spec_layout.specs.Put.{put_from}
-use Rattle.spec_layout.specs.Told.{told}
 use Rattle.spec_layout.proofs.sections.push_plan_locks.Given as goal
 
 abbrev pub invariant-loop-used : goal.invariant-loop-used

@@ -1,4 +1,4 @@
-use Rattle.std.proofs.Common.{◌≡◌, ◌≤◌, ◌∷◌, [], length, take}
+use Rattle.std.proofs.Common.{◌≡◌, ◌≤◌, length, take}
 use Rattle.numbering.specs.Gather.{gather}
 use Rattle.spec_layout.specs.Layout.{domain_threads}
 use Rattle.spec_layout.specs.Put.{put_from}

@@ -1,4 +1,4 @@
-use Rattle.std.proofs.Common.{◌≡◌, ◌==◌, ◌++◌, not, length, map, filter, drop}
+use Rattle.std.proofs.Common.{◌≡◌, ◌==◌, ◌++◌, not, length, filter, drop}
 use Rattle.text_lines.specs.Fields.{spaced_fields}
 use Rattle.text_lines.specs.Texts.{texts}
 use Rattle.text_lines.proofs.field.spaced_fields.Given as goal

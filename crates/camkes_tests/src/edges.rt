@@ -1,0 +1,85 @@
+//! Authorities, and tables of edges.
+
+use auth_kinds::{Authority, AuthoritySet, Edge, EdgeTable, with_edge, with_set};
+use std::alloc::Global;
+use std::test::Fail;
+
+fn edge(from: u32, authority: Authority, to: u32) -> Edge {
+    Edge {
+        from,
+        authority,
+        to,
+    }
+}
+
+/// Five edges, one of which is put in twice, not in their order.
+fn unsorted(alloc: Global) -> Result<Vec<Edge>, Fail> {
+    let control = edge(1, Authority::Control, 2);
+    let edges = with_edge(Vec::new(alloc), control)?;
+    let sends = AuthoritySet::empty()
+        .with(Authority::SyncSend)
+        .with(Authority::Reset);
+    let edges = with_set(edges, 3, sends, 0)?;
+    let edges = with_edge(edges, edge(1, Authority::Reset, 7))?;
+    let edges = with_edge(edges, edge(1, Authority::Reset, 4))?;
+    Ok(with_edge(edges, control)?)
+}
+
+fn table(alloc: Global) -> Result<EdgeTable, Fail> {
+    let edges = unsorted(alloc)?;
+    Ok(EdgeTable::from_list(alloc, edges.as_slice())?)
+}
+
+#[test]
+fn edges_are_sorted(rt: HostRuntime) -> Result<(), Fail> {
+    let table = table(rt.alloc())?;
+    let sorted = [
+        edge(1, Authority::Reset, 4),
+        edge(1, Authority::Reset, 7),
+        edge(1, Authority::Control, 2),
+        edge(3, Authority::SyncSend, 0),
+        edge(3, Authority::Reset, 0),
+    ];
+    for at in 0..5 {
+        assert!(rt; table.get(at) == Some(sorted[at]) && table.contains(&sorted[at]));
+    }
+    assert!(rt; table.len() == 5 && !table.is_empty());
+    Ok(())
+}
+
+#[test]
+fn edges_out_of_a_label(rt: HostRuntime) -> Result<(), Fail> {
+    let table = table(rt.alloc())?;
+    assert!(rt;
+        table.out_of(1) == (0, 3) && table.out_of(2) == (3, 3) && table.out_of(3) == (3, 5)
+    );
+    assert!(rt; !table.contains(&edge(1, Authority::Reset, 5)));
+    Ok(())
+}
+
+#[test]
+fn authorities_by_number_and_text(rt: HostRuntime) {
+    let texts = [
+        "Receive",
+        "SyncSend",
+        "AsyncSend",
+        "Reset",
+        "Grant",
+        "Read",
+        "Write",
+        "Control",
+    ];
+    for (number, text) in (0..8).zip(texts) {
+        let found = Authority::find(text.as_bytes());
+        assert!(rt;
+            found == Authority::of_number(number) && found.is_some_and(|a| a.text() == text)
+        );
+    }
+    for (number, text) in (8..12).zip(["Call", "Reply", "GrantBack", "Handle"]) {
+        let found = Authority::find(text.as_bytes());
+        assert!(rt;
+            found == Authority::of_number(number) && found.is_some_and(|a| a.text() == text)
+        );
+    }
+    assert!(rt; Authority::of_number(12).is_none());
+}

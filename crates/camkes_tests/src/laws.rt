@@ -1,0 +1,134 @@
+//! Each law is a function that can be called.
+
+use adl_ast::{
+    assemblies_stand_alone, beginnings_are_fronts, codes_tell_kinds, compositions_stand_alone,
+    configurations_stand_alone, files_are_one, fronts_begin, interfaces_agree, params_agree,
+    typed_names_agree, values_stand_alone,
+};
+use adl_hierarchy::{
+    climbing_is_looking_down, connections_are_the_connections, domains_are_the_domains,
+    ends_are_what_joins, leaf_numbers_are_places, leaves_are_the_leaves,
+    sound_hierarchies_are_finite, spelled_names_are_dotted,
+};
+use adl_import::{answers_are_one, loaded_sources_are_whole, sources_are_one};
+use adl_lexer::{
+    bytes_at_fault_begin_no_token, first_fault_is_one, keywords_are_their_words, one_thing_begins,
+    tokens_are_one, tokens_have_no_fault, tokens_have_their_texts,
+};
+use adl_meaning::{
+    connectors_are_their_words, first_is_first, noted_is_least, sound_names_have_no_fault,
+};
+use adl_settings::{
+    badges_count_from_one, outer_settings_come_first, references_are_values,
+    settings_are_those_of_joins,
+};
+use auth_kinds::{
+    edges_are_ordered, has_is_membership, sets_are_their_members, tables_are_their_edges,
+};
+use camkes_tool::{
+    failures_have_a_cause, refusals_touch_standard_error_alone, success_writes_a_whole_text,
+};
+use component_graph::{acyclic_is_unheld, held_is_held, walks_are_short};
+use conn_rules::{rights_confer_just_the_authorities, sets_are_their_lists};
+use flat_laws::{
+    ends_are_typed, flat_systems_are_flat, flat_systems_are_within, short_files_have_few_members,
+};
+use page_tables::{
+    counts_are_of_addresses, root_is_one, runs_are_tables, shapes_are_levels, slots_rise,
+    tables_are_kept, tables_hold_what_is_mapped,
+};
+use spec_layout::{boot_edges_are_direct, specs_are_kept};
+
+#[test]
+fn laws_of_the_grammar(_rt: HostRuntime) {
+    codes_tell_kinds();
+    files_are_one();
+    values_stand_alone();
+    compositions_stand_alone();
+    configurations_stand_alone();
+    assemblies_stand_alone();
+    fronts_begin();
+    beginnings_are_fronts();
+    typed_names_agree();
+    params_agree();
+    interfaces_agree();
+}
+
+#[test]
+fn laws_of_tokens(_rt: HostRuntime) {
+    tokens_are_one();
+    first_fault_is_one();
+    tokens_have_no_fault();
+    tokens_have_their_texts();
+    one_thing_begins();
+    bytes_at_fault_begin_no_token();
+    keywords_are_their_words();
+}
+
+#[test]
+fn laws_of_sources(_rt: HostRuntime) {
+    sources_are_one();
+    answers_are_one();
+    loaded_sources_are_whole();
+    first_is_first();
+    noted_is_least();
+    sound_names_have_no_fault();
+    connectors_are_their_words();
+    walks_are_short();
+    held_is_held();
+    acyclic_is_unheld();
+}
+
+#[test]
+fn laws_of_hierarchies(_rt: HostRuntime) {
+    sound_hierarchies_are_finite();
+    spelled_names_are_dotted();
+    leaves_are_the_leaves();
+    connections_are_the_connections();
+    ends_are_what_joins();
+    climbing_is_looking_down();
+    domains_are_the_domains();
+    leaf_numbers_are_places();
+    flat_systems_are_within();
+    flat_systems_are_flat();
+    ends_are_typed();
+    short_files_have_few_members();
+}
+
+#[test]
+fn laws_of_settings(_rt: HostRuntime) {
+    badges_count_from_one();
+    outer_settings_come_first();
+    references_are_values();
+    settings_are_those_of_joins();
+}
+
+#[test]
+fn laws_of_authorities(_rt: HostRuntime) {
+    edges_are_ordered();
+    has_is_membership();
+    sets_are_their_members();
+    tables_are_their_edges();
+    rights_confer_just_the_authorities();
+    sets_are_their_lists();
+}
+
+#[test]
+fn laws_of_layouts(_rt: HostRuntime) {
+    boot_edges_are_direct();
+    specs_are_kept();
+    shapes_are_levels();
+    runs_are_tables();
+    tables_hold_what_is_mapped();
+    slots_rise();
+    root_is_one();
+    counts_are_of_addresses();
+    tables_are_kept();
+}
+
+#[test]
+fn laws_of_answers(_rt: HostRuntime) {
+    refusals_touch_standard_error_alone();
+    success_writes_a_whole_text();
+    failures_have_a_cause();
+}

@@ -1,0 +1,107 @@
+-- For the same words and contents there is one answer, aside from failed reads and want of memory.
+use Rattle.std.proofs.Common.{◌≡◌, ◌∙◌, ◌≤◌, ◌∷◌, [], ℕ, List, Option, Some, None, false, refl, sym, ap, inl, inr, arith, string_bytes}
+use Rattle.cam_base.specs.declared.place.Fault.{Fault}
+use Rattle.cam_io.specs.Contents.{Contents}
+use Rattle.cam_io.specs.Scripts.{Begin, Write, after}
+use Rattle.cam_io.specs.Sinks.{Sink}
+use Rattle.arch_compile.specs.First.{first_fault}
+use Rattle.arch_compile.proofs.OneAnswer.{none_faulted, one_fault, one_spec}
+use Rattle.cap_model.specs.Canonical.{canonical}
+use Rattle.cap_model.specs.declared.spec.Spec.{Spec}
+use Rattle.command_words.specs.Words.{read_words}
+use Rattle.command_words.specs.declared.command.Command.{Command}
+use Rattle.command_words.specs.declared.command.Command.TheVariants.{Compile}
+use Rattle.camkes_tool.specs.Answers.{AreOne, Fits, FitsAsked, FitsRoot, Tells, script, status_of, yields}
+use Rattle.camkes_tool.specs.Lines.{fault_line}
+use Rattle.camkes_tool.specs.declared.answer.Answer.{Answer}
+use Rattle.camkes_tool.specs.declared.answer.Answer.TheVariants.{Compiled, Faulted, Usage, ReadFault, NoMemory}
+use Rattle.std.specs.Prelude.{String}
+use Rattle.std.specs.declared.alloc.Global.{Global}
+
+same_answer : (a : Answer) → AreOne a a
+same_answer a = record { status = refl; script = refl; compiled = refl; faulted = refl }
+
+module _ (m : Contents) (root base : List ℕ) (old new later last : List ℕ → ℕ) where
+  compiled_same : (a b : String Global) (s t : Spec) → FitsRoot root base (Some m) old new (Compiled a s) → FitsRoot root base (Some m) later last (Compiled b t) → AreOne (Compiled a s) (Compiled b t)
+  compiled_same a b s t x y =
+      let spec : s ≡ t = one_spec m root x.1.0 y.1.0 s t x.1.1 y.1.1 x.1.3 y.1.3 in
+      let name : string_bytes a ≡ string_bytes b = x.0 ∙ sym y.0 in
+      record {
+        status = refl;
+        script = ap (λ n. Begin 2 n ∷ Write 2 (canonical s) ∷ []) name ∙ ap (λ z. Begin 2 (string_bytes b) ∷ Write 2 (canonical z) ∷ []) spec;
+        compiled = ap (λ n. Some (n, s)) name ∙ ap (λ z. Some (string_bytes b, z)) spec;
+        faulted = refl;
+      }
+
+  faulted_same : (a b : List ℕ) (f g : Fault) → FitsRoot root base (Some m) old new (Faulted a f) → FitsRoot root base (Some m) later last (Faulted b g) → AreOne (Faulted a f) (Faulted b g)
+  faulted_same a b f g x y =
+      let same = one_fault first_fault m root f g a b x y in
+      record {
+        status = refl;
+        script = ap (λ z. Write 1 (fault_line a z) ∷ []) same.0 ∙ ap (λ z. Write 1 (fault_line z g) ∷ []) same.1;
+        compiled = refl;
+        faulted = ap (λ z. Some (a, z)) same.0 ∙ ap (λ z. Some (z, g)) same.1;
+      }
+
+  one_of_root : (a b : Answer) → yields a ≡ false → yields b ≡ false → FitsRoot root base (Some m) old new a → FitsRoot root base (Some m) later last b → AreOne a b
+  one_of_root (Compiled a s) (Compiled b t) p q x y = compiled_same a b s t x y
+  one_of_root (Compiled a s) (Faulted b g) p q x y = absurd (none_faulted first_fault m root x.1.0 g b x.1.1 x.1.2 y)
+  one_of_root (Faulted a f) (Compiled b t) p q x y = absurd (none_faulted first_fault m root y.1.0 f a y.1.1 y.1.2 x)
+  one_of_root (Faulted a f) (Faulted b g) p q x y = faulted_same a b f g x y
+  one_of_root Usage b p q x y = absurd x
+  one_of_root (Compiled a s) Usage p q x y = absurd y
+  one_of_root (Faulted a f) Usage p q x y = absurd y
+  one_of_root (ReadFault a) b p q x y = absurd cc
+  one_of_root NoMemory b p q x y = absurd cc
+  one_of_root (Compiled a s) (ReadFault b) p q x y = absurd cc
+  one_of_root (Compiled a s) NoMemory p q x y = absurd cc
+  one_of_root (Faulted a f) (ReadFault b) p q x y = absurd cc
+  one_of_root (Faulted a f) NoMemory p q x y = absurd cc
+
+one_usage : (m : Contents) (old new later last : List ℕ → ℕ) (a b : Answer) → yields a ≡ false → yields b ≡ false → FitsAsked None (Some m) old new a → FitsAsked None (Some m) later last b → AreOne a b
+one_usage m old new later last Usage Usage p q x y = same_answer Usage
+one_usage m old new later last Usage (Compiled b t) p q x y = absurd y
+one_usage m old new later last Usage (Faulted b g) p q x y = absurd y
+one_usage m old new later last Usage (ReadFault b) p q x y = absurd y
+one_usage m old new later last Usage NoMemory p q x y = absurd cc
+one_usage m old new later last (Compiled a s) b p q x y = absurd x
+one_usage m old new later last (Faulted a f) b p q x y = absurd x
+one_usage m old new later last (ReadFault a) b p q x y = absurd x
+one_usage m old new later last NoMemory b p q x y = absurd cc
+
+one_asked : (m : Contents) (asked : Option Command) (old new later last : List ℕ → ℕ) (a b : Answer) → yields a ≡ false → yields b ≡ false → FitsAsked asked (Some m) old new a → FitsAsked asked (Some m) later last b → AreOne a b
+one_asked m None old new later last a b p q x y = one_usage m old new later last a b p q x y
+one_asked m (Some (Compile root base)) old new later last a b p q x y = one_of_root m root base old new later last a b p q x y
+
+pub one_answer : (m : Contents) (words : List (List ℕ)) (old new later last : List ℕ → ℕ) (a b : Answer) → yields a ≡ false → yields b ≡ false → Fits words (Some m) old new a → Fits words (Some m) later last b → AreOne a b
+one_answer m words old new later last a b p q x y = one_asked m (read_words words) old new later last a b p q x y
+
+-- ---- calls
+
+-- what is told with a status up to 3 is told whole, and doesn't yield
+pub record IsWhole (a : Answer) (n : ℕ) (old new : Sink) : Type 0 where
+  pub stays : yields a ≡ false
+  pub status : n ≡ status_of a
+  pub done : new ≡ after old (script a)
+
+stays : (a : Answer) → status_of a ≤ 3 → yields a ≡ false
+stays (Compiled a s) l = refl
+stays (Faulted a f) l = refl
+stays Usage l = refl
+stays (ReadFault a) l = absurd (omega arith)
+stays NoMemory l = absurd (omega arith)
+
+whole : (a : Answer) (status : ℕ) (old new : Sink) (before now : ℕ) → Tells a status old new before now → status ≤ 3 → IsWhole a status old new
+whole a status old new before now tells l = elim tells.told [
+  | inl t ↦ let same = t.0 in record { stays = stays a (omega arith); status = same; done = t.1 }
+  | inr t ↦ let five = t.0 in absurd (omega arith)
+]
+
+pub one_call : (m : Contents) (words : List (List ℕ)) (old new later last : List ℕ → ℕ) (a b : Answer) (first second : ℕ) (sink left right : Sink) (before now before' now' : ℕ)
+    → Fits words (Some m) old new a → Tells a first sink left before now → first ≤ 3 → Fits words (Some m) later last b → Tells b second sink right before' now' → second ≤ 3
+    → (first ≡ second) × (left ≡ right)
+one_call m words old new later last a b first second sink left right before now before' now' x t l y u k =
+    let one = whole a first sink left before now t l in
+    let two = whole b second sink right before' now' u k in
+    let same = one_answer m words old new later last a b one.stays two.stays x y in
+    (one.status ∙ same.status ∙ sym two.status, one.done ∙ ap (after sink) same.script ∙ sym two.done)

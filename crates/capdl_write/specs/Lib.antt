@@ -1,0 +1,2 @@
+pub use Rattle.cam_io.specs.Sinks
+pub use Rattle.cap_model.specs.Canonical

@@ -1,0 +1,59 @@
+-- The flat system of a source within its limits is small.
+use Rattle.std.proofs.Common.{◌≡◌, ◌≤◌, ℕ, zero, suc, Bool, false, ◌||◌, not, List, [], ◌∷◌, length, map, subst, Some, None, arith}
+use Rattle.std.proofs.lemmas.Bool.{cond_both}
+use Rattle.std.proofs.lemmas.List.{length-map}
+use Rattle.std.proofs.lemmas.List.FromFn.{length-enumerate_from}
+use Rattle.std.proofs.lemmas.List.Sums.{count_by-le-length, length-filter}
+use Rattle.std.specs.List.{enumerate_from, filter, slice_get}
+use Rattle.adl_ast.specs.declared.source.Source.{Source}
+use Rattle.adl_meaning.specs.declared.flat.Domain.{Domain}
+use Rattle.adl_meaning.specs.Domains.{domain_of, domains, is_hardware}
+use Rattle.adl_meaning.specs.Flat.{flat_connection, flat_domain, flat_of, is_inside, leaf_of}
+use Rattle.adl_meaning.specs.Hierarchy.{Hierarchy, hierarchy_of}
+use Rattle.adl_meaning.specs.Joins.{connections}
+use Rattle.adl_meaning.specs.Lists.{firsts_after}
+use Rattle.adl_meaning.specs.NameFaults.{AreNamesSound}
+use Rattle.adl_meaning.specs.Paths.{Path, Placed, leaves, same_path}
+use Rattle.adl_meaning.specs.SizeFaults.{first_size_fault}
+use Rattle.adl_hierarchy.proofs.Limits.{in_limits}
+use Rattle.flat_laws.specs.Small.{IsSmall}
+
+firsts_le : {X : Type 0} (same : X → X → Bool) (met : X → Bool) (xs : List X) → length (firsts_after same met xs) ≤ length xs
+firsts_le same met [] = omega arith
+firsts_le same met (x ∷ xs) =
+    cond_both (met x) (firsts_after same met xs) (x ∷ firsts_after same (λ y. met y || same y x) xs) (λ z. length z ≤ length (x ∷ xs))
+    (λ e. let l = firsts_le same met xs in omega (arith, l)) (λ e. let l = firsts_le same (λ y. met y || same y x) xs in omega (arith, l))
+
+filter_le : {X : Type 0} (test : X → Bool) (xs : List X) → length (filter test xs) ≤ length xs
+filter_le test xs = omega (arith, length-filter test xs, count_by-le-length test xs)
+
+module _ (h : Hierarchy) where
+  few_domains : length (domains h) ≤ length (leaves h)
+  few_domains =
+      let soft = filter (λ (x : Placed). not (is_hardware h x.part)) (leaves h) in
+      let paths : List Path = map (λ (x : Placed). domain_of h x.path) soft in
+      omega (arith, firsts_le same_path (λ y. false) paths, length-map soft (λ (x : Placed). domain_of h x.path), filter_le (λ (x : Placed). not (is_hardware h x.part)) (leaves h))
+
+  few_inside : (d : Path) → length (flat_domain h d).leaves ≤ length (leaves h)
+  few_inside d =
+      let all : List (ℕ × Placed) = enumerate_from 0 (leaves h) in
+      let inside = filter (λ (x : ℕ × Placed). is_inside h d x.1) all in
+      omega (arith, length-map inside (λ (x : ℕ × Placed). x.0), filter_le (λ (x : ℕ × Placed). is_inside h d x.1) all, length-enumerate_from 0 (leaves h))
+
+  from_domains : (ds : List Path) (n : ℕ) (domain : Domain) → slice_get (map (flat_domain h) ds) n ≡ Some domain → (d : Path) × (flat_domain h d ≡ domain)
+  from_domains [] n domain e = cc
+  from_domains (d ∷ ds) zero domain e = (d, cc)
+  from_domains (d ∷ ds) (suc n) domain e = from_domains ds n domain e
+
+pub small : (s : Source) → AreNamesSound s → first_size_fault s ≡ None → IsSmall (flat_of s)
+small s sound none =
+    let h = hierarchy_of s in
+    let w = in_limits s sound none in
+    let ls = w.leaves_are in
+    let cs = w.connections_are in
+    record {
+      leaves = omega (arith, ls, length-map (leaves h) (leaf_of h));
+      domains = omega (arith, ls, few_domains h, length-map (domains h) (flat_domain h));
+      inside = λ d domain e. let p = from_domains h (domains h) d domain e in let l = few_inside h p.0 in subst (λ (z : Domain). length z.leaves ≤ 1024) p.1 (omega (arith, ls, l));
+      connections = omega (arith, cs, length-map (connections h) (flat_connection h));
+    }

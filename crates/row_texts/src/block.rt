@@ -1,0 +1,51 @@
+use std::alloc::{AllocError, Global};
+
+/// A head line, and the lines up to the next.
+#[derive(Drop)]
+pub(crate) struct Block<'a> {
+    /// `==`, or the word behind `-- `.
+    pub(crate) word: &'a str,
+    /// What stands behind that word.
+    pub(crate) rest: &'a str,
+    pub(crate) body: Vec<&'a str>,
+    /// The number of the head line, counted from 1.
+    pub(crate) line: u64,
+}
+
+/// The word and the rest of a head line.
+fn head_of(line: &str) -> Option<(&str, &str)> {
+    if let Some(name) = line.strip_prefix("== ") {
+        return Some(("==", name));
+    }
+    let head = line.strip_prefix("-- ")?;
+    match head.split_once(' ') {
+        Some(parts) => Some(parts),
+        None => Some((head, "")),
+    }
+}
+
+fn add_line<'a>(blocks: &mut Vec<Block<'a>>, line: &'a str) -> Result<(), AllocError> {
+    match blocks.last_mut() {
+        Some(block) => Ok(block.body.push(line)?),
+        None => Ok(()),
+    }
+}
+
+/// The blocks of a text. Lines in front of the first head line are passed over.
+pub(crate) fn blocks<'a>(alloc: Global, text: &'a str) -> Result<Vec<Block<'a>>, AllocError> {
+    let mut blocks = Vec::new(alloc);
+    let mut number: u64 = 0;
+    for line in text.lines() {
+        number = number.saturating_add(1);
+        match head_of(line) {
+            Some((word, rest)) => blocks.push(Block {
+                word,
+                rest,
+                body: Vec::new(alloc),
+                line: number,
+            })?,
+            None => add_line(&mut blocks, line)?,
+        }
+    }
+    Ok(blocks)
+}

@@ -1,0 +1,215 @@
+use crate::block::{Block, blocks};
+use crate::pen::{Marked, Pen, number_of};
+use crate::{Case, NamedText, RowError, Run, Why};
+use std::alloc::Global;
+
+/// The cases that are read so far, the texts that others use, and what the last case marks.
+#[derive(Drop)]
+struct Reader {
+    alloc: Global,
+    shared: Vec<NamedText>,
+    cases: Vec<Case>,
+    marked: Marked,
+}
+
+fn string_of(bytes: Vec<u8>) -> Result<String, Why> {
+    match String::from_utf8(bytes) {
+        Ok(text) => Ok(text),
+        Err(_) => Err(Why::NotUtf8),
+    }
+}
+
+impl Reader {
+    fn new(alloc: Global) -> Reader {
+        Reader {
+            alloc,
+            shared: Vec::new(alloc),
+            cases: Vec::new(alloc),
+            marked: Marked { first: 0, end: 0 },
+        }
+    }
+
+    /// A name or a word.
+    fn word(&self, text: &str, number: u64) -> Result<String, Why> {
+        if text == "\"\"" {
+            return Ok(String::new(self.alloc));
+        }
+        let mut pen = Pen::new(self.alloc, &[], self.marked, number);
+        pen.write(text)?;
+        let (bytes, _marked) = pen.finish();
+        string_of(bytes)
+    }
+
+    fn words(&self, text: &str) -> Result<Vec<String>, Why> {
+        let mut words = Vec::new(self.alloc);
+        if !text.is_empty() {
+            for word in text.split(' ') {
+                words.push(self.word(word, 0)?)?;
+            }
+        }
+        Ok(words)
+    }
+
+    /// One word a line.
+    fn word_lines(&self, lines: &[&str]) -> Result<Vec<String>, Why> {
+        let mut words = Vec::new(self.alloc);
+        for line in lines {
+            if !line.is_empty() {
+                words.push(self.word(line, 0)?)?;
+            }
+        }
+        Ok(words)
+    }
+
+    /// The bytes of a text.
+    fn text(&mut self, lines: &[&str], number: u64) -> Result<Vec<u8>, Why> {
+        let mut pen = Pen::new(self.alloc, self.shared.as_slice(), self.marked, number);
+        pen.write_lines(lines)?;
+        let (bytes, marked) = pen.finish();
+        self.marked = marked;
+        Ok(bytes)
+    }
+
+    fn named_text(&mut self, name: &str, lines: &[&str], number: u64) -> Result<NamedText, Why> {
+        Ok(NamedText {
+            name: self.word(name, number)?,
+            bytes: self.text(lines, number)?,
+        })
+    }
+
+    fn case(&mut self) -> Result<&mut Case, Why> {
+        match self.cases.last_mut() {
+            Some(case) => Ok(case),
+            None => Err(Why::OutOfPlace),
+        }
+    }
+
+    fn run(&mut self) -> Result<&mut Run, Why> {
+        match self.case()?.runs.last_mut() {
+            Some(run) => Ok(run),
+            None => Err(Why::OutOfPlace),
+        }
+    }
+
+    fn begin_case(&mut self, name: &str) -> Result<(), Why> {
+        let case = Case {
+            name: self.word(name, 0)?,
+            files: Vec::new(self.alloc),
+            runs: Vec::new(self.alloc),
+        };
+        Ok(self.cases.push(case)?)
+    }
+
+    fn begin_run(&mut self, words: &str) -> Result<(), Why> {
+        let run = Run::new(self.alloc, self.words(words)?);
+        Ok(self.case()?.runs.push(run)?)
+    }
+
+    fn add_shared(&mut self, name: &str, lines: &[&str]) -> Result<(), Why> {
+        let text = self.named_text(name, lines, 0)?;
+        Ok(self.shared.push(text)?)
+    }
+
+    fn add_file(&mut self, name: &str, lines: &[&str], number: u64) -> Result<(), Why> {
+        let file = self.named_text(name, lines, number)?;
+        Ok(self.case()?.files.push(file)?)
+    }
+
+    /// So many files, numbered from 0.
+    fn add_files(&mut self, rest: &str, lines: &[&str]) -> Result<(), Why> {
+        let Some((count, name)) = rest.split_once(' ') else {
+            return Err(Why::Number);
+        };
+        for number in 0..number_of(count)? {
+            self.add_file(name, lines, number)?;
+        }
+        Ok(())
+    }
+
+    fn add_output(&mut self, name: &str, lines: &[&str]) -> Result<(), Why> {
+        let output = self.named_text(name, lines, 0)?;
+        Ok(self.run()?.outputs.push(output)?)
+    }
+
+    fn set_print(&mut self, lines: &[&str]) -> Result<(), Why> {
+        let text = self.text(lines, 0)?;
+        self.run()?.print = text;
+        Ok(())
+    }
+
+    fn set_error(&mut self, lines: &[&str]) -> Result<(), Why> {
+        let text = self.text(lines, 0)?;
+        self.run()?.error = text;
+        Ok(())
+    }
+
+    fn set_reads(&mut self, lines: &[&str]) -> Result<(), Why> {
+        let names = self.word_lines(lines)?;
+        self.run()?.reads = Some(names);
+        Ok(())
+    }
+
+    fn set_status(&mut self, rest: &str) -> Result<(), Why> {
+        let Ok(status) = u8::try_from(number_of(rest)?) else {
+            return Err(Why::Number);
+        };
+        self.run()?.status = status;
+        Ok(())
+    }
+
+    /// A line that says what a run must do.
+    fn demand(&mut self, word: &str, rest: &str, lines: &[&str]) -> Result<(), Why> {
+        match word {
+            "status" => self.set_status(rest),
+            "error" => self.set_error(lines),
+            "print" => self.set_print(lines),
+            "output" => self.add_output(rest, lines),
+            "reads" => self.set_reads(lines),
+            _ => self.flag(word, rest),
+        }
+    }
+
+    fn flag(&mut self, word: &str, rest: &str) -> Result<(), Why> {
+        let run = self.run()?;
+        match word {
+            "any" => run.any = true,
+            "writes" => run.writes = true,
+            "fail-read" => run.failing_read = number_of(rest)?,
+            "fail-write" => run.failing_write = number_of(rest)?,
+            _ => return Err(Why::Head),
+        }
+        Ok(())
+    }
+
+    fn block(&mut self, block: &Block<'_>) -> Result<(), Why> {
+        let lines = block.body.as_slice();
+        match block.word {
+            "==" => self.begin_case(block.rest),
+            "text" => self.add_shared(block.rest, lines),
+            "file" => self.add_file(block.rest, lines, 0),
+            "files" => self.add_files(block.rest, lines),
+            "run" => self.begin_run(block.rest),
+            word => self.demand(word, block.rest, lines),
+        }
+    }
+}
+
+/// The cases of a text, in their order: `docs/testing.md`.
+pub fn read_cases(alloc: Global, text: &str) -> Result<Vec<Case>, RowError> {
+    let Ok(blocks) = blocks(alloc, text) else {
+        return Err(RowError {
+            line: 0,
+            why: Why::NoMemory,
+        });
+    };
+    let mut reader = Reader::new(alloc);
+    for block in blocks.as_slice() {
+        if let Err(why) = reader.block(block) {
+            return Err(RowError {
+                line: block.line,
+                why,
+            });
+        }
+    }
+    Ok(reader.cases)
+}
