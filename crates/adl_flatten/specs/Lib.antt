@@ -12,6 +12,7 @@ pub mod Told
 pub mod TotalsOf
 pub use Rattle.adl_meaning.specs.CompositeBody
 pub use Rattle.adl_meaning.specs.Faults
+pub use Rattle.adl_meaning.specs.FewMembers
 pub use Rattle.adl_meaning.specs.Flat
 pub use Rattle.adl_meaning.specs.Hierarchy
 pub use Rattle.adl_meaning.specs.Items

@@ -10,7 +10,7 @@ ghost use Rattle.adl_meaning.specs.Members.{interface_of, attribute_of};
 ghost use Rattle.adl_names.specs.ByName.{found};
 ghost use Rattle.adl_names.specs.Located.{located};
 ghost use Rattle.std.specs.Option.{option_copied, option_and_then, option_map_or};
-ghost use Rattle.std.specs.Prelude.{◌≡◌, [], None, Some, false, is_some, option_map, IfOk};
+ghost use Rattle.std.specs.Prelude.{◌≡◌, ◌<◌, ◌^◌, [], None, Some, false, is_some, length, option_map, IfOk};
 
 use crate::indexes::{exports_of, interface_places, named_parts, needed_in};
 use crate::part::{NeededMember, PartTable, WireTable};
@@ -161,6 +161,7 @@ pub fn body_of<'a>(
     kinds: &NameTable<'_, u32>,
     it: &Located<'a, Component>,
 ) -> Result<BodyTable<'a>, NoMemory>
+    requires { length it.now.item.now.members < 2 ^ 32 }
     ensures { IfOk result (λ b. b ≡ body_of (found kinds.now) (it.now.at, it.now.item.now)) }
 {
     let composition = composition_of(it.item);

@@ -3,6 +3,7 @@
 ghost use Rattle.adl_flatten.specs.TotalsOf.{totals_in, AreTotals, IsWithinLimits};
 ghost use Rattle.adl_hierarchy.specs.Finite.{IsFinite};
 ghost use Rattle.adl_meaning.specs.Faults.{noted, least, Refuses};
+ghost use Rattle.adl_meaning.specs.FewMembers.{HaveFewMembers};
 ghost use Rattle.adl_meaning.specs.Flat.{flat_of, flattened};
 ghost use Rattle.adl_meaning.specs.Hierarchy.{Hierarchy, hierarchy_of, top_number};
 ghost use Rattle.adl_meaning.specs.Items.{AreFew};
@@ -105,6 +106,7 @@ struct SizedTable<'a> {
 
 fn sized<'a>(alloc: Global, source: &'a Source) -> Result<SizedTable<'a>, NoMemory>
     requires few { AreFew source.now }
+    requires members { HaveFewMembers source.now }
     requires sound { AreNamesSound source.now }
     ensures table { IfOk result (λ s. s.table ≡ hierarchy_of source.now) }
     ensures totals { IfOk result (λ s. AreTotals (hierarchy_of source.now) s.totals.items) }
@@ -149,6 +151,7 @@ fn finish(alloc: Global, source: &Source, sized: SizedTable<'_>) -> Result<Flat,
 /// `adl_meaning`. Want of memory.
 pub fn flatten(alloc: Global, source: &Source, _names: &Names) -> Result<Flat, Refused<Fault>>
     requires few { AreFew source.now }
+    requires members { HaveFewMembers source.now }
     requires sound { AreNamesSound source.now }
     ensures fault { Refuses result (first_flat_fault source.now) }
     ensures flat { IfOk result (λ f. f ≡ flat_of source.now) }

@@ -10,7 +10,7 @@ ghost use Rattle.adl_meaning.specs.Unconnected.{may_stay};
 ghost use Rattle.adl_names.specs.ByName.{found};
 ghost use Rattle.std.specs.List.{filter_map, enumerate_from};
 ghost use Rattle.std.specs.Option.{option_or, option_copied, option_map_or};
-ghost use Rattle.std.specs.Prelude.{◌≡◌, ◌∷◌, ◌++◌, ℕ, List as Seq, [], None, Some, length, option_map, unwrap_or, if◌then◌else◌, IfOk, OnOk};
+ghost use Rattle.std.specs.Prelude.{◌≡◌, ◌<◌, ◌^◌, ◌∷◌, ◌++◌, ℕ, List as Seq, [], None, Some, length, option_map, unwrap_or, if◌then◌else◌, IfOk, OnOk};
 
 use crate::part::{NeededMember, PartTable};
 use adl_ast::{Component, Composition, Export, Interface, InterfaceKind, Line, Member};
@@ -67,31 +67,25 @@ pub struct InterfacePlaces<'a> {
     pub count: u32,
 }
 
-/// A place as a number. A list with a place that is none has no room in a memory.
-fn number(place: usize) -> Result<u32, NoMemory>
-    ensures { IfOk result (λ n. n ≡ place) }
-{
-    match u32::try_from(place) {
-        Ok(number) => Ok(number),
-        Err(_) => Err(NoMemory),
-    }
-}
-
 fn add_member<'a>(
     place: usize,
     member: &'a Member,
     members: &mut NameTable<'a, u32>,
 ) -> Result<(), NoMemory>
-    ensures { OnOk result ((n : Seq ℕ) → found members.new n ≡ option_or (found members.old n) (if is_interface n member.entry.now then Some place else None)) }
+    requires { place < 2 ^ 32 }
+    ensures { OnOk result ((n : Seq ℕ) → found members.new n
+        ≡ option_or (found members.old n) (if is_interface n member.entry.now then Some place else None)) }
 {
     if let Member::Interface(interface) = member {
-        members.add(&interface.id.name, number(place)?)?;
+        members.add(&interface.id.name, place as u32)?;
     }
     Ok(())
 }
 
 fn add_members<'a>(all: &'a [Member], members: &mut NameTable<'a, u32>) -> Result<(), NoMemory>
-    ensures { OnOk result ((n : Seq ℕ) → unwrap_or (found members.new n) (length all.entry.now) ≡ unwrap_or (found members.old n) (place_by (is_interface n) all.entry.now)) }
+    requires { length all.now < 2 ^ 32 }
+    ensures { OnOk result ((n : Seq ℕ) → unwrap_or (found members.new n) (length all.entry.now)
+        ≡ unwrap_or (found members.old n) (place_by (is_interface n) all.entry.now)) }
 {
     for (place, member) in all.iter().enumerate() {
         add_member(place, member, members)?;
@@ -104,10 +98,11 @@ pub fn interface_places<'a>(
     alloc: Global,
     component: &'a Component,
 ) -> Result<InterfacePlaces<'a>, NoMemory>
+    requires { length component.now.members < 2 ^ 32 }
     ensures { IfOk result (λ t. (n : Seq ℕ) → unwrap_or (found t.members n) t.count ≡ place_by (is_interface n) component.entry.now.members) }
 {
     let mut members = NameTable::new(alloc);
-    let count = number(component.members.len())?;
+    let count = component.members.len() as u32;
     add_members(component.members.as_slice(), &mut members)?;
     Ok(InterfacePlaces { members, count })
 }
@@ -123,12 +118,13 @@ fn push_needed<'a>(
     member: &'a Member,
     needed: &mut Vec<NeededMember<'a>>,
 ) -> Result<(), NoMemory>
+    requires { place < 2 ^ 32 }
     ensures { OnOk result (needed_told needed.new.items ≡ needed_told needed.old.items ++ filter_map needed_of ((place, member.entry.now) ∷ [])) }
 {
     if let Member::Interface(interface) = member {
         if !may_stay(interface) {
             needed.push(NeededMember {
-                member: number(place)?,
+                member: place as u32,
                 id: &interface.id,
             })?;
         }
@@ -141,6 +137,7 @@ pub fn needed_in<'a>(
     alloc: Global,
     component: &'a Component,
 ) -> Result<Vec<NeededMember<'a>>, NoMemory>
+    requires { length component.now.members < 2 ^ 32 }
     ensures { IfOk result (λ v. needed_told v.items ≡ filter_map needed_of (enumerate_from 0 component.entry.now.members)) }
 {
     let mut needed = Vec::new(alloc);

@@ -1,12 +1,13 @@
 //! The hierarchy of a source, as a table.
 
+ghost use Rattle.adl_meaning.specs.FewMembers.{HaveFewMembers};
 ghost use Rattle.adl_meaning.specs.Hierarchy.{body_of, hierarchy_of, body, top_number};
 ghost use Rattle.adl_meaning.specs.Items.{AreFew, as_assembly};
 ghost use Rattle.adl_meaning.specs.Recursive.{number_named};
 ghost use Rattle.adl_names.specs.ByName.{found};
 ghost use Rattle.adl_names.specs.Located.{located, trees};
-ghost use Rattle.std.specs.List.{filter_map, slice_get};
-ghost use Rattle.std.specs.Prelude.{◌≡◌, ◌<◌, ◌+◌, ◌^◌, ℕ, List as Seq, map, length, option_map, IfOk};
+ghost use Rattle.std.specs.List.{All, filter_map, slice_get};
+ghost use Rattle.std.specs.Prelude.{◌≡◌, ◌<◌, ◌≤◌, ◌+◌, ◌^◌, ℕ, List as Seq, map, length, option_map, IfOk};
 
 use crate::body::{BodyTable, body_of, top_of};
 use adl_ast::{Assembly, Component, Item, Source};
@@ -71,6 +72,7 @@ fn bodies<'a>(
     kinds: &NameTable<'_, u32>,
     components: &[Located<'a, Component>],
 ) -> Result<Vec<BodyTable<'a>>, NoMemory>
+    requires { All (λ x. length x.item.now.members ≤ 1048576) components.now }
     ensures { IfOk result (λ v. v.items ≡ map (body_of (found kinds.now)) (map located components.now)) }
 {
     let mut bodies = Vec::new(alloc);
@@ -98,7 +100,8 @@ pub fn first_assembly<'a>(items: &[Located<'a, Item>]) -> Option<Located<'a, Ass
 ///
 /// Want of memory.
 pub fn hierarchy<'a>(alloc: Global, source: &'a Source) -> Result<HierarchyTable<'a>, NoMemory>
-    requires { AreFew source.now }
+    requires few { AreFew source.now }
+    requires members { HaveFewMembers source.now }
     ensures { IfOk result (λ t. t ≡ hierarchy_of source.now) }
 {
     let items = all_items(alloc, source)?;

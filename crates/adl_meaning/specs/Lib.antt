@@ -4,6 +4,7 @@ pub mod Domains
 pub mod Duplicate
 pub mod Export
 pub mod Faults
+pub mod FewMembers
 pub mod Flat
 pub mod Graph
 pub mod Hierarchy

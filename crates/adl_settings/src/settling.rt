@@ -1,6 +1,7 @@
 //! The settings of a flat system, or the first fault of settings.
 
 ghost use Rattle.adl_meaning.specs.Faults.{noted, Refuses};
+ghost use Rattle.adl_meaning.specs.FewMembers.{HaveFewMembers};
 ghost use Rattle.adl_meaning.specs.Flat.{flat_of};
 ghost use Rattle.adl_meaning.specs.Hierarchy.{hierarchy_of};
 ghost use Rattle.adl_meaning.specs.Items.{AreFew};
@@ -107,7 +108,8 @@ fn find_all<'a>(
     flat: &'a Flat,
     first: &mut First,
 ) -> Result<Values<'a>, NoMemory>
-    requires { AreFew source.now }
+    requires few { AreFew source.now }
+    requires members { HaveFewMembers source.now }
     ensures leaves { IfOk result (λ v. leaves_told v.leaves.items ≡ leaves_found (hierarchy_of source.now) flat.now) }
     ensures connections { IfOk result (λ v. connections_told v.connections.items ≡ founds_in (hierarchy_of source.now) source.now flat.now) }
     ensures twice { OnOk result (first.new ≡ noted first.old (settings_twice (hierarchy_of source.now))) }
@@ -141,6 +143,7 @@ pub fn settle(
     flat: &Flat,
 ) -> Result<Settled, Refused<Fault>>
     requires few { AreFew source.now }
+    requires members { HaveFewMembers source.now }
     requires flat { flat.now ≡ flat_of source.now }
     ensures fault { Refuses result (first_setting_fault source.now) }
     ensures settled { IfOk result (λ x. x ≡ settled_of source.now) }

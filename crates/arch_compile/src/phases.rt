@@ -2,6 +2,7 @@
 
 ghost use Rattle.adl_hierarchy.specs.Spelled.{AreSpelled};
 ghost use Rattle.adl_meaning.specs.Faults.{Refuses};
+ghost use Rattle.adl_meaning.specs.FewMembers.{HaveFewMembers};
 ghost use Rattle.adl_meaning.specs.Flat.{flat_of};
 ghost use Rattle.adl_meaning.specs.Items.{AreFew};
 ghost use Rattle.adl_settings.specs.Settled.{settled_of};
@@ -55,7 +56,8 @@ pub fn front<F: Files>(alloc: Global, files: &mut F, root: &str) -> Result<Front
 }
 
 fn with_meaning(alloc: Global, source: Source) -> Result<FrontEnd, BuildError>
-    requires { AreFew source }
+    requires few { AreFew source }
+    requires members { HaveFewMembers source }
     ensures { IsMeant source result }
 {
     match meaning_of(alloc, &source) {
@@ -69,7 +71,8 @@ fn with_meaning(alloc: Global, source: Source) -> Result<FrontEnd, BuildError>
 }
 
 fn meaning_of(alloc: Global, source: &Source) -> Result<Meaning, Refused<Fault>>
-    requires { AreFew source.now }
+    requires few { AreFew source.now }
+    requires members { HaveFewMembers source.now }
     ensures fault { Refuses result (first_front_fault source.now) }
     ensures flat { IfOk result (λ m. m.flat ≡ flat_of source.now) }
     ensures settled { IfOk result (λ m. m.settled ≡ settled_of source.now) }

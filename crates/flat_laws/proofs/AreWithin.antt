@@ -12,7 +12,7 @@ use Rattle.adl_meaning.specs.NameFaults.{AreNamesSound}
 use Rattle.adl_meaning.specs.Paths.{leaves}
 use Rattle.adl_meaning.proofs.SoundNames.{one_assembly}
 use Rattle.leaf_ends.specs.Within.{IsWithin}
-use Rattle.flat_laws.specs.FewMembers.{HaveFewMembers}
+use Rattle.adl_meaning.specs.FewMembers.{HaveFewMembers}
 use Rattle.flat_laws.proofs.FlatEnds.{strung_of, end_of}
 use Rattle.flat_laws.proofs.FlatLeaves.{few_members, leaf_owned}
 use Rattle.flat_laws.proofs.FewEnds.{flat_in_limits, few_ends}

@@ -23,7 +23,7 @@ use Rattle.adl_meaning.specs.Lists.{IsIn}
 use Rattle.adl_meaning.specs.NameFaults.{AreNamesSound}
 use Rattle.adl_meaning.specs.Paths.{Path, Placed, leaves}
 use Rattle.leaf_ends.specs.Members.{members_at, leaf_members, members_of_leaf}
-use Rattle.flat_laws.specs.FewMembers.{HaveFewMembers}
+use Rattle.adl_meaning.specs.FewMembers.{HaveFewMembers}
 use Rattle.flat_laws.proofs.MembersAt.{members_there}
 use Rattle.flat_laws.proofs.Named.{named}
 

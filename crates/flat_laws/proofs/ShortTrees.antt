@@ -22,7 +22,7 @@ use Rattle.adl_hierarchy.proofs.Sources.{component_item}
 use Rattle.adl_meaning.specs.declared.item_at.ItemAt.{ItemAt}
 use Rattle.adl_meaning.specs.Items.{items_in, items_of, components}
 use Rattle.adl_meaning.specs.Lists.{IsIn}
-use Rattle.flat_laws.specs.FewMembers.{HaveFewMembers}
+use Rattle.adl_meaning.specs.FewMembers.{HaveFewMembers}
 use Rattle.flat_laws.specs.ShortFiles.{AreFilesShort}
 
 -- ---- forms

@@ -12,7 +12,7 @@ use Rattle.adl_settings.specs.SettingFaults.{first_setting_fault}
 use Rattle.adl_types.specs.TypeFaults.{first_type_fault}
 use Rattle.cspace_layout.specs.SlotFaults.{first_slot_fault}
 use Rattle.flat_laws.specs.EndSettings.{AreEndsSettled}
-use Rattle.flat_laws.specs.FewMembers.{HaveFewMembers}
+use Rattle.adl_meaning.specs.FewMembers.{HaveFewMembers}
 use Rattle.flat_laws.specs.Small.{IsSmall}
 use Rattle.flat_laws.specs.SourceTables.{tables_with}
 use Rattle.flat_laws.proofs.AreFlat.{flat_is_flat}

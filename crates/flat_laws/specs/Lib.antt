@@ -1,10 +1,10 @@
 pub mod EndSettings
-pub mod FewMembers
 pub mod ShortFiles
 pub mod Small
 pub mod SourceTables
 pub mod Typed
 pub use Rattle.adl_hierarchy.specs.Leads
+pub use Rattle.adl_meaning.specs.FewMembers
 pub use Rattle.adl_meaning.specs.Flat
 pub use Rattle.adl_meaning.specs.Hierarchy
 pub use Rattle.adl_meaning.specs.JoinFaults

@@ -3,6 +3,7 @@
 
 ghost use Rattle.adl_ast.specs.declared.source.Source.{Source};
 ghost use Rattle.adl_hierarchy.specs.Leads.{AreDotted};
+ghost use Rattle.adl_meaning.specs.FewMembers.{HaveFewMembers};
 ghost use Rattle.adl_meaning.specs.Flat.{flat_of};
 ghost use Rattle.adl_meaning.specs.Hierarchy.{hierarchy_of};
 ghost use Rattle.adl_meaning.specs.JoinFaults.{first_flat_fault};
@@ -11,7 +12,6 @@ ghost use Rattle.adl_settings.specs.SettingFaults.{first_setting_fault};
 ghost use Rattle.adl_types.specs.TypeFaults.{first_type_fault};
 ghost use Rattle.cspace_layout.specs.SlotFaults.{first_slot_fault};
 ghost use Rattle.flat_laws.specs.EndSettings.{AreEndsSettled};
-ghost use Rattle.flat_laws.specs.FewMembers.{HaveFewMembers};
 ghost use Rattle.flat_laws.specs.ShortFiles.{AreFilesShort};
 ghost use Rattle.flat_laws.specs.Small.{IsSmall};
 ghost use Rattle.flat_laws.specs.SourceTables.{tables_with};
