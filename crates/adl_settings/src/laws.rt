@@ -38,5 +38,7 @@ pub fn badges_count_from_one()
 /// Where each end of a connection joins an interface, end n of connection i of the flat system has the n-th settings of the
 /// i-th connection.
 pub fn settings_are_those_of_joins()
-    ensures { (s : Text) (i n : ℕ) (k : Wire) (e : Joining) → slice_get (flat_of s).connections i ≡ Some k → list_all (joins_interface s (flat_of s)) k.ends ≡ true → slice_get k.ends n ≡ Some e → (f : Found) × IsFoundAt (hierarchy_of s) s (flat_of s) k e f × (setting_at (settled_of s) i n ≡ Some (end_setting f)) }
+    ensures { (s : Text) (i n : ℕ) (k : Wire) (e : Joining) → slice_get (flat_of s).connections i ≡ Some k
+        → list_all (joins_interface s (flat_of s)) k.ends ≡ true → slice_get k.ends n ≡ Some e
+        → (f : Found) × IsFoundAt (hierarchy_of s) s (flat_of s) k e f × (setting_at (settled_of s) i n ≡ Some (end_setting f)) }
 {}
