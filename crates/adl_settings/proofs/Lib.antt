@@ -3,7 +3,7 @@ pub mod Counting
 pub mod EndNumbers
 pub mod FoundRecords
 pub mod InnerNames
-pub mod PagesShared
+pub mod PageSearch
 pub mod Positions
 pub mod SettledWhole
 pub mod SettingKeys

@@ -8,7 +8,7 @@ use Rattle.adl_settings.specs.DeviceOverlap as overlaps
 use Rattle.adl_settings.specs.IrqTwice as irqs
 use Rattle.adl_settings.specs.declared.badges.Badged.{Badged}
 use Rattle.adl_settings.specs.declared.irqs.Irq.{Irq}
-use Rattle.adl_settings.specs.declared.region.DeviceRegion.{DeviceRegion}
+use Rattle.adl_settings.specs.declared.region.Region.{Region}
 use Rattle.adl_settings.specs.declared.found.Given.{Given}
 use Rattle.adl_settings.specs.declared.found.Joint.{Joint}
 use Rattle.adl_settings.specs.declared.found.Found.{Found}
@@ -61,8 +61,8 @@ irq_told i = record { number = i.number; place = i.place }
 abbrev pub irqs_told : List Irq → List irqs.Irq
 irqs_told is = map irq_told is
 
-abbrev pub region_told : DeviceRegion → overlaps.Region
-region_told r = record { leaf = r.pages.key.0; member = r.pages.key.1; first = r.pages.first; bytes = r.pages.count; place = r.place }
+abbrev pub region_told : Region → overlaps.Region
+region_told r = record { leaf = r.leaf; member = r.member; first = r.first; bytes = r.bytes; place = r.place }
 
-abbrev pub regions_told : List DeviceRegion → List overlaps.Region
+abbrev pub regions_told : List Region → List overlaps.Region
 regions_told rs = map region_told rs

@@ -1,10 +1,12 @@
 //! What the definitions promise together, as functions that do nothing.
 
 ghost use Rattle.adl_ast.specs.declared.configuration.Setter.TheVariants as setters;
+ghost use Rattle.adl_ast.specs.declared.composition.End.{End as Written};
 ghost use Rattle.adl_ast.specs.declared.id.Id.{Id as Word};
 ghost use Rattle.adl_ast.specs.declared.source.Source.{Source as Text};
-ghost use Rattle.adl_meaning.specs.Flat.{flat_of};
+ghost use Rattle.adl_meaning.specs.Flat.{flat_of, flat_end, flat_connection};
 ghost use Rattle.adl_meaning.specs.Hierarchy.{Hierarchy as Tree, hierarchy_of};
+ghost use Rattle.adl_meaning.specs.Joins.{Reached, Strung, joined_by};
 ghost use Rattle.adl_meaning.specs.Items.{Name as Bytes};
 ghost use Rattle.adl_meaning.specs.Paths.{Path as Names};
 ghost use Rattle.adl_meaning.specs.Values.{Given as Value, default_at, setter_at, set_within, value_at};
@@ -16,7 +18,7 @@ ghost use Rattle.adl_settings.specs.NumberedEnds.{joins_interface, setting_at, I
 ghost use Rattle.adl_settings.specs.Settled.{settled_of};
 ghost use Rattle.std.specs.List.{filter, list_all, slice_get};
 ghost use Rattle.std.specs.Option.{option_or};
-ghost use Rattle.std.specs.Prelude.{◌≡◌, ◌<◌, ◌+◌, ◌-◌, ℕ, true, suc, take, length, List as Seq, Some, None};
+ghost use Rattle.std.specs.Prelude.{◌≡◌, ◌<◌, ◌+◌, ◌-◌, ℕ, true, suc, is_some, take, length, List as Seq, Some, None};
 
 /// What a body sets stays, whatever bodies further inwards set, and a default counts where no body sets a value.
 pub fn outer_settings_come_first()
@@ -36,7 +38,8 @@ pub fn badges_count_from_one()
 {}
 
 /// Where each end of a connection joins an interface, end n of connection i of the flat system has the n-th settings of the
-/// i-th connection.
+/// i-th connection, and is that of the n-th end in the text.
 pub fn settings_are_those_of_joins()
-    ensures { (s : Text) (i n : ℕ) (k : Wire) (e : Joining) → slice_get (flat_of s).connections i ≡ Some k → list_all (joins_interface s (flat_of s)) k.ends ≡ true → slice_get k.ends n ≡ Some e → (f : Found) × IsFoundAt (hierarchy_of s) s (flat_of s) k e f × (setting_at (settled_of s) i n ≡ Some (end_setting f)) }
+    ensures flat { (s : Text) (i n : ℕ) (k : Wire) (e : Joining) → slice_get (flat_of s).connections i ≡ Some k → list_all (joins_interface s (flat_of s)) k.ends ≡ true → slice_get k.ends n ≡ Some e → (f : Found) × IsFoundAt (hierarchy_of s) s (flat_of s) k e f × (setting_at (settled_of s) i n ≡ Some (end_setting f)) }
+    ensures text { (h : Tree) (x : Strung) (n : ℕ) (t : Written) → list_all (λ u. is_some (joined_by h x.inside u)) x.wire.1.ends ≡ true → slice_get x.wire.1.ends n ≡ Some t → (r : Reached) × (joined_by h x.inside t ≡ Some r) × (slice_get (flat_connection h x).ends n ≡ Some (flat_end h x.path t r)) }
 {}

@@ -18,6 +18,8 @@ mod meaning;
 mod missing;
 mod outline;
 mod overlaps;
+mod page_index;
+mod reach;
 mod region;
 mod repeated;
 mod setting_table;

@@ -1,38 +1,36 @@
 //! Dataports of devices that share physical pages.
 
 ghost use Rattle.adl_meaning.specs.Faults.{noted};
-ghost use Rattle.adl_settings.specs.DeviceOverlap.{regions_in, regions, overlaps_among, overlaps};
-ghost use Rattle.adl_settings.specs.SharedPages.{shared_at};
-ghost use Rattle.adl_settings.specs.Told.{ends_told, connection_told, connections_told, regions_told};
-ghost use Rattle.std.specs.List.Sorted.{IsPermutation};
+ghost use Rattle.adl_settings.specs.DeviceOverlap.{regions_in, regions, overlap_at, overlaps_among, overlaps};
+ghost use Rattle.adl_settings.specs.Told.{ends_told, connection_told, connections_told, region_told, regions_told};
 ghost use Rattle.std.specs.List.{flat_map};
-ghost use Rattle.std.specs.Prelude.{◌≡◌, ◌++◌, map, OnOk, IfOk};
+ghost use Rattle.std.specs.Prelude.{◌≡◌, ◌++◌, OnOk, IfOk};
 
-use crate::region::DeviceRegion;
+use crate::page_index::PageIndex;
+use crate::region::Region;
 use crate::{Found, FoundEnds};
 use adl_meaning::First;
 use cam_base::{Code, NoMemory};
-use page_index::{PageIndex, Region};
 use std::alloc::Global;
 
-fn push_ends(ends: &[Found<'_>], found: &mut Vec<DeviceRegion>) -> Result<(), NoMemory>
+fn push_ends(ends: &[Found<'_>], found: &mut Vec<Region>) -> Result<(), NoMemory>
     ensures { OnOk result (regions_told found.new.items ≡ regions_told found.old.items ++ regions_in (ends_told ends.now)) }
 {
     for end in ends {
-        if let Some(region) = DeviceRegion::of(end) {
+        if let Some(region) = Region::of(end) {
             found.push(region)?;
         }
     }
     Ok(())
 }
 
-fn push_connection(connection: &FoundEnds<'_>, found: &mut Vec<DeviceRegion>) -> Result<(), NoMemory>
+fn push_connection(connection: &FoundEnds<'_>, found: &mut Vec<Region>) -> Result<(), NoMemory>
     ensures { OnOk result (regions_told found.new.items ≡ regions_told found.old.items ++ regions_in (connection_told connection.now)) }
 {
     push_ends(connection.ends.as_slice(), found)
 }
 
-fn all_regions(alloc: Global, connections: &[FoundEnds<'_>]) -> Result<Vec<DeviceRegion>, NoMemory>
+fn all_regions(alloc: Global, connections: &[FoundEnds<'_>]) -> Result<Vec<Region>, NoMemory>
     ensures { IfOk result (λ v. regions_told v.items ≡ regions (connections_told connections.now)) }
 {
     let mut found = Vec::new(alloc);
@@ -45,12 +43,12 @@ fn all_regions(alloc: Global, connections: &[FoundEnds<'_>]) -> Result<Vec<Devic
 fn note_region(
     alloc: Global,
     index: &PageIndex,
-    region: &DeviceRegion,
+    region: &Region,
     first: &mut First,
 ) -> Result<(), NoMemory>
-    ensures { OnOk result (first.new ≡ noted first.old (shared_at index.now region.now)) }
+    ensures { OnOk result (first.new ≡ noted first.old (overlap_at index.now (region_told region.now))) }
 {
-    if index.shares_any(&region.pages) {
+    if index.shares_any(region) {
         first.note(alloc, Code::DeviceOverlap, region.place, b"")?;
     }
     Ok(())
@@ -59,10 +57,10 @@ fn note_region(
 fn note_each(
     alloc: Global,
     index: &PageIndex,
-    regions: &[DeviceRegion],
+    regions: &[Region],
     first: &mut First,
 ) -> Result<(), NoMemory>
-    ensures { OnOk result (first.new ≡ noted first.old (flat_map (shared_at index.now) regions.now)) }
+    ensures { OnOk result (first.new ≡ noted first.old (flat_map (overlap_at index.now) (regions_told regions.now))) }
 {
     for region in regions {
         note_region(alloc, index, region, first)?;
@@ -70,17 +68,10 @@ fn note_each(
     Ok(())
 }
 
-fn index_of(alloc: Global, all: &[DeviceRegion]) -> Result<PageIndex, NoMemory>
-    ensures { IfOk result (λ index. IsPermutation (map (λ r. r.pages) all.now) index) }
-{
-    let pages: Vec<Region> = all.iter().map(|region| region.pages).collect(alloc)?;
-    PageIndex::new(alloc, pages.as_slice())
-}
-
-fn note_among(alloc: Global, all: &[DeviceRegion], first: &mut First) -> Result<(), NoMemory>
+fn note_among(alloc: Global, all: &[Region], first: &mut First) -> Result<(), NoMemory>
     ensures { OnOk result (first.new ≡ noted first.old (overlaps_among (regions_told all.now))) }
 {
-    let index = index_of(alloc, all)?;
+    let index = PageIndex::new(alloc, all)?;
     note_each(alloc, &index, all, first)?;
     Ok(())
 }

@@ -1,8 +1,10 @@
 use Rattle.std.proofs.Common.{◌∙◌, ap}
 use Rattle.adl_meaning.specs.Faults.{noted}
-use Rattle.adl_settings.proofs.PagesShared.{shared_are_overlaps}
+use Rattle.adl_settings.specs.Told.{regions_told}
+use Rattle.adl_settings.proofs.PageSearch.{flat_map-IsPermutation}
 use Rattle.adl_settings.proofs.overlaps.note_among.Goals as goal
 
 pub returns : goal.returns
 returns c =
-    c.in_ok-note_each.ensures ∙ ap (noted c.args.first.now) (shared_are_overlaps c.args.all.now c.in_ok-index.index c.in_ok-index.ensures c.args.all.now)
+    let all = regions_told c.args.all.now in
+    c.in_ok-note_each.ensures ∙ ap (noted c.args.first.now) (flat_map-IsPermutation all c.in_ok-index.index all c.in_ok-index.ensures)
