@@ -1,0 +1,14 @@
+pub mod Laying
+pub mod Shown
+pub mod Lines
+pub mod Numbers
+pub mod Fitting
+pub mod ReadBack
+pub mod ReadHolders
+pub mod Named
+pub mod FineText
+pub mod ReadText
+pub mod Known
+pub mod Sound
+pub mod Says
+pub mod Whole

@@ -1,0 +1,442 @@
+//! What doesn't suit a kind of object.
+
+ghost use Rattle.cam_base.specs.declared.text_fault.TextCode.TheVariants as code;
+ghost use Rattle.capdl_text.specs.Faults.{at_id, at_place, fault, noted, where_false};
+ghost use Rattle.capdl_text.specs.KindField.{cap_off, fill_off, frame_value_off, has_key, holder_off, holder_takes, holds, irq_off, is_fill, is_space_root, key_off, kind_fields, kind_off, kind_takes, no_params, off_in, param_off, params_off, slot_off, slots_off, takes, thread_value_off};
+ghost use Rattle.cap_model.specs.Kept.{within};
+ghost use Rattle.name_tables.specs.ByName.{found};
+ghost use Rattle.std.specs.List.{flat_map};
+ghost use Rattle.std.specs.Option.{option_copied};
+ghost use Rattle.std.specs.Prelude.{◌≡◌, OnOk};
+
+use crate::first::First;
+use crate::known::{are_bits, find};
+use cam_base::{NoMemory, TextCode};
+use cap_model::{Arch, Kind, Rights};
+use capdl_lexer::Span;
+use capdl_text::{
+    FillLine, FrameField, FrameValue, Holder, Id, IrqLine, KindLine, Known, ObjectLine, Param,
+    SlotKey, SlotLine, SpecTree, ThreadField, ThreadValue,
+};
+use name_tables::NameTable;
+use std::alloc::Global;
+
+fn note_place(alloc: Global, suits: bool, place: Span, first: &mut First) -> Result<(), NoMemory>
+    ensures { OnOk result (first.new ≡ noted first.old (where_false suits (at_place code.CapdlKindField place))) }
+{
+    if suits {
+        return Ok(());
+    }
+    first.note(alloc, TextCode::CapdlKindField, place, b"")
+}
+
+fn note_name(
+    alloc: Global,
+    suits: bool,
+    place: Span,
+    name: &[u8],
+    first: &mut First,
+) -> Result<(), NoMemory>
+    ensures { OnOk result (first.new ≡ noted first.old (where_false suits (fault code.CapdlKindField place name.now))) }
+{
+    if suits {
+        return Ok(());
+    }
+    first.note(alloc, TextCode::CapdlKindField, place, name)
+}
+
+fn note_id(alloc: Global, suits: bool, id: &Id, first: &mut First) -> Result<(), NoMemory>
+    ensures { OnOk result (first.new ≡ noted first.old (where_false suits (at_id code.CapdlKindField id.now))) }
+{
+    note_name(alloc, suits, id.place, id.name.as_bytes(), first)
+}
+
+fn note_thread_value(alloc: Global, value: &ThreadValue, first: &mut First) -> Result<(), NoMemory>
+    ensures { OnOk result (first.new ≡ noted first.old (thread_value_off value.now)) }
+{
+    match value {
+        ThreadValue::Prio(n) => note_place(alloc, n.value <= 255, n.place, first),
+        _ => Ok(()),
+    }
+}
+
+fn note_thread_fields(
+    alloc: Global,
+    fields: &[ThreadField],
+    first: &mut First,
+) -> Result<(), NoMemory>
+    ensures { OnOk result (first.new ≡ noted first.old (flat_map (λ f. thread_value_off f.value) fields.now)) }
+{
+    for field in fields {
+        note_thread_value(alloc, &field.value, first)?;
+    }
+    Ok(())
+}
+
+fn is_fill(offset: u64, length: u64) -> bool
+    ensures { result ≡ is_fill offset length }
+{
+    0 < length && length <= 4096 && offset <= 4096 - length
+}
+
+fn note_fill(alloc: Global, fill: Option<&FillLine>, first: &mut First) -> Result<(), NoMemory>
+    ensures { OnOk result (first.new ≡ noted first.old (fill_off (option_copied fill.entry))) }
+{
+    match fill {
+        None => Ok(()),
+        Some(fill) => note_place(
+            alloc,
+            is_fill(fill.offset.value, fill.length.value),
+            fill.length.place,
+            first,
+        ),
+    }
+}
+
+fn note_frame_value(alloc: Global, value: &FrameValue, first: &mut First) -> Result<(), NoMemory>
+    ensures { OnOk result (first.new ≡ noted first.old (frame_value_off value.now)) }
+{
+    match value {
+        FrameValue::Paddr(n) => note_place(alloc, n.value % 4096 == 0, n.place, first),
+        FrameValue::Fill(fill) => note_fill(alloc, fill.as_ref(), first),
+    }
+}
+
+fn note_frame_fields(
+    alloc: Global,
+    fields: &[FrameField],
+    first: &mut First,
+) -> Result<(), NoMemory>
+    ensures { OnOk result (first.new ≡ noted first.old (flat_map (λ f. frame_value_off f.value) fields.now)) }
+{
+    for field in fields {
+        note_frame_value(alloc, &field.value, first)?;
+    }
+    Ok(())
+}
+
+fn note_kind(alloc: Global, arch: Arch, kind: &KindLine, first: &mut First) -> Result<(), NoMemory>
+    ensures { OnOk result (first.new ≡ noted first.old (kind_off arch kind.now)) }
+{
+    match kind {
+        KindLine::Endpoint => Ok(()),
+        KindLine::Notification => Ok(()),
+        KindLine::CNode(bits) => note_place(alloc, are_bits(bits.value), bits.place, first),
+        KindLine::Thread(fields) => note_thread_fields(alloc, fields.as_slice(), first),
+        KindLine::Frame(fields) => note_frame_fields(alloc, fields.as_slice(), first),
+        KindLine::Pages(level, place) => {
+            note_place(alloc, arch.size(*level).is_some(), *place, first)
+        }
+        KindLine::Irq => Ok(()),
+    }
+}
+
+fn note_objects(
+    alloc: Global,
+    arch: Arch,
+    objects: &[ObjectLine],
+    first: &mut First,
+) -> Result<(), NoMemory>
+    ensures { OnOk result (first.new ≡ noted first.old (flat_map (λ o. kind_off arch o.kind) objects.now)) }
+{
+    for object in objects {
+        note_kind(alloc, arch, &object.kind, first)?;
+    }
+    Ok(())
+}
+
+fn holds(kind: Kind) -> bool
+    ensures { result ≡ holds kind }
+{
+    match kind {
+        Kind::Endpoint => false,
+        Kind::Notification => false,
+        Kind::Frame => false,
+        Kind::CNode => true,
+        Kind::Thread => true,
+        Kind::Pages(_) => true,
+        Kind::Irq => true,
+    }
+}
+
+fn note_holder_kind(
+    alloc: Global,
+    id: &Id,
+    holder: Option<Known>,
+    first: &mut First,
+) -> Result<(), NoMemory>
+    ensures { OnOk result (first.new ≡ noted first.old (holder_off id.now holder)) }
+{
+    match holder {
+        None => Ok(()),
+        Some(known) => note_id(alloc, holds(known.kind), id, first),
+    }
+}
+
+fn has_key(kind: Kind, key: SlotKey) -> bool
+    ensures { result ≡ has_key kind key }
+{
+    match key {
+        SlotKey::Number(_) => !kind.is(Kind::Thread),
+        SlotKey::Cspace => kind.is(Kind::Thread),
+        SlotKey::Vspace => kind.is(Kind::Thread),
+        SlotKey::Buffer => kind.is(Kind::Thread),
+    }
+}
+
+fn note_key(
+    alloc: Global,
+    id: &Id,
+    holder: Option<Known>,
+    slot: &SlotLine,
+    first: &mut First,
+) -> Result<(), NoMemory>
+    ensures { OnOk result (first.new ≡ noted first.old (key_off id.now holder slot.now)) }
+{
+    match holder {
+        None => Ok(()),
+        Some(known) => note_name(
+            alloc,
+            has_key(known.kind, slot.key),
+            slot.place,
+            id.name.as_bytes(),
+            first,
+        ),
+    }
+}
+
+fn is_space_root(arch: Arch, kind: Kind) -> bool
+    ensures { result ≡ is_space_root arch kind }
+{
+    match kind {
+        Kind::Pages(level) => arch.is_root(level),
+        _ => false,
+    }
+}
+
+fn no_params(params: &[Param]) -> bool
+    ensures { result ≡ no_params params.now }
+{
+    match params {
+        [] => true,
+        [_, ..] => false,
+    }
+}
+
+fn kind_takes(holder: Kind, kind: Kind, params: &[Param]) -> bool
+    ensures { result ≡ kind_takes holder kind params.now }
+{
+    match holder {
+        Kind::Pages(level) => kind.is(level.child()),
+        Kind::Irq => kind.is(Kind::Notification) && no_params(params),
+        Kind::Endpoint => true,
+        Kind::Notification => true,
+        Kind::CNode => true,
+        Kind::Thread => true,
+        Kind::Frame => true,
+    }
+}
+
+fn holder_takes(holder: Option<Known>, kind: Kind, params: &[Param]) -> bool
+    ensures { result ≡ holder_takes holder kind params.now }
+{
+    match holder {
+        None => true,
+        Some(known) => kind_takes(known.kind, kind, params),
+    }
+}
+
+fn takes(arch: Arch, holder: Option<Known>, key: SlotKey, kind: Kind, params: &[Param]) -> bool
+    ensures { result ≡ takes arch holder key kind params.now }
+{
+    match key {
+        SlotKey::Number(_) => holder_takes(holder, kind, params),
+        SlotKey::Cspace => kind.is(Kind::CNode),
+        SlotKey::Vspace => is_space_root(arch, kind),
+        SlotKey::Buffer => kind.is(Kind::Frame),
+    }
+}
+
+fn note_cap(
+    alloc: Global,
+    arch: Arch,
+    holder: Option<Known>,
+    slot: &SlotLine,
+    object: Option<Known>,
+    first: &mut First,
+) -> Result<(), NoMemory>
+    ensures { OnOk result (first.new ≡ noted first.old (cap_off arch holder slot.now object)) }
+{
+    match object {
+        None => Ok(()),
+        Some(known) => note_id(
+            alloc,
+            takes(arch, holder, slot.key, known.kind, slot.params.as_slice()),
+            &slot.object,
+            first,
+        ),
+    }
+}
+
+fn within(rights: Rights, most: Rights) -> bool
+    ensures { result ≡ within rights most }
+{
+    (!rights.read || most.read)
+        && (!rights.write || most.write)
+        && ((!rights.grant || most.grant) && (!rights.reply || most.reply))
+}
+
+fn note_param(alloc: Global, kind: Kind, param: Param, first: &mut First) -> Result<(), NoMemory>
+    ensures { OnOk result (first.new ≡ noted first.old (param_off kind param)) }
+{
+    match param {
+        Param::Rights(rights, place) => {
+            note_place(alloc, within(rights, kind.rights()), place, first)
+        }
+        Param::Badge(_, number) => note_place(alloc, kind.has_badge(), number.place, first),
+    }
+}
+
+fn note_params(
+    alloc: Global,
+    kind: Kind,
+    params: &[Param],
+    first: &mut First,
+) -> Result<(), NoMemory>
+    ensures { OnOk result (first.new ≡ noted first.old (flat_map (param_off kind) params.now)) }
+{
+    for param in params {
+        note_param(alloc, kind, *param, first)?;
+    }
+    Ok(())
+}
+
+fn note_slot_params(
+    alloc: Global,
+    slot: &SlotLine,
+    object: Option<Known>,
+    first: &mut First,
+) -> Result<(), NoMemory>
+    ensures { OnOk result (first.new ≡ noted first.old (params_off slot.now object)) }
+{
+    match object {
+        None => Ok(()),
+        Some(known) => note_params(alloc, known.kind, slot.params.as_slice(), first),
+    }
+}
+
+#[tactic(auto, using(capdl_text::proofs::Noting::noting))]
+fn note_slot(
+    alloc: Global,
+    arch: Arch,
+    known: &NameTable<Known>,
+    id: &Id,
+    holder: Option<Known>,
+    slot: &SlotLine,
+    first: &mut First,
+) -> Result<(), NoMemory>
+    ensures { OnOk result (first.new ≡ noted first.old (slot_off arch (found known.now) id.now holder slot.now)) }
+{
+    let object = find(known, &slot.object.name);
+    note_key(alloc, id, holder, slot, first)?;
+    note_cap(alloc, arch, holder, slot, object, first)?;
+    note_slot_params(alloc, slot, object, first)
+}
+
+fn note_slots(
+    alloc: Global,
+    arch: Arch,
+    known: &NameTable<Known>,
+    id: &Id,
+    holder: Option<Known>,
+    slots: &[SlotLine],
+    first: &mut First,
+) -> Result<(), NoMemory>
+    ensures { OnOk result (first.new ≡ noted first.old (flat_map (slot_off arch (found known.now) id.now holder) slots.now)) }
+{
+    for slot in slots {
+        note_slot(alloc, arch, known, id, holder, slot, first)?;
+    }
+    Ok(())
+}
+
+#[tactic(auto, using(capdl_text::proofs::Noting::noting))]
+fn note_holder(
+    alloc: Global,
+    arch: Arch,
+    known: &NameTable<Known>,
+    line: &Holder,
+    first: &mut First,
+) -> Result<(), NoMemory>
+    ensures { OnOk result (first.new ≡ noted first.old (off_in arch (found known.now) line.now)) }
+{
+    let holder = find(known, &line.id.name);
+    note_holder_kind(alloc, &line.id, holder, first)?;
+    note_slots(
+        alloc,
+        arch,
+        known,
+        &line.id,
+        holder,
+        line.slots.as_slice(),
+        first,
+    )
+}
+
+fn note_holders(
+    alloc: Global,
+    arch: Arch,
+    known: &NameTable<Known>,
+    holders: &[Holder],
+    first: &mut First,
+) -> Result<(), NoMemory>
+    ensures { OnOk result (first.new ≡ noted first.old (flat_map (off_in arch (found known.now)) holders.now)) }
+{
+    for holder in holders {
+        note_holder(alloc, arch, known, holder, first)?;
+    }
+    Ok(())
+}
+
+fn note_irq(
+    alloc: Global,
+    id: &Id,
+    object: Option<Known>,
+    first: &mut First,
+) -> Result<(), NoMemory>
+    ensures { OnOk result (first.new ≡ noted first.old (irq_off id.now object)) }
+{
+    match object {
+        None => Ok(()),
+        Some(known) => note_id(alloc, known.kind.is(Kind::Irq), id, first),
+    }
+}
+
+fn note_irqs(
+    alloc: Global,
+    known: &NameTable<Known>,
+    lines: &[IrqLine],
+    first: &mut First,
+) -> Result<(), NoMemory>
+    ensures { OnOk result (first.new ≡ noted first.old (flat_map (λ l. irq_off l.object (found known.now l.object.name)) lines.now)) }
+{
+    for line in lines {
+        note_irq(alloc, &line.object, find(known, &line.object.name), first)?;
+    }
+    Ok(())
+}
+
+/// Notes what doesn't suit a kind of object.
+#[tactic(auto, using(capdl_text::proofs::Noting::noting))]
+pub(crate) fn note_kind_fields(
+    alloc: Global,
+    known: &NameTable<Known>,
+    tree: &SpecTree,
+    first: &mut First,
+) -> Result<(), NoMemory>
+    ensures { OnOk result (first.new ≡ noted first.old (kind_fields (found known.now) tree.now)) }
+{
+    note_objects(alloc, tree.arch, tree.objects.as_slice(), first)?;
+    note_holders(alloc, tree.arch, known, tree.holders.as_slice(), first)?;
+    note_irqs(alloc, known, tree.irqs.as_slice(), first)
+}

@@ -1,0 +1,26 @@
+//! The reader of capDL texts: bytes to the one spec, or to the first fault.
+//!
+//! Nothing here writes a text, takes a step or looks at a policy. What is read, and when which fault stands, are
+//! definitions of `capdl_text`: `specs/Texts.antt` there. The rounds in which faults are looked at are functions of their
+//! own: tokens by `capdl_lexer`, the grammar in `parse.rt`, the faults of the tree in `check.rt`, and the spec in
+//! `build.rt`.
+#![tactic(auto)]
+
+mod build;
+mod check;
+mod field;
+mod first;
+mod kind;
+mod known;
+mod limit;
+mod object;
+mod parse;
+mod range;
+mod reader;
+mod slot;
+mod token;
+mod twice;
+mod unknown;
+
+pub use capdl_lexer::{Field, FieldTable, fields};
+pub use reader::read_spec;

@@ -1,0 +1,5 @@
+pub mod Heads
+pub mod Naming
+pub mod Reading
+pub mod Tables
+pub mod Values

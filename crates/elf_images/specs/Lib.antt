@@ -1,0 +1,10 @@
+pub mod Classes
+pub mod Codes
+pub mod Elf
+pub mod Faults
+pub mod Fields
+pub mod Headers
+pub mod HeadersLeft
+pub mod Sections
+pub mod SectionsRead
+pub mod Texts
