@@ -9,6 +9,26 @@ use std::alloc::Global;
 use std::test::Fail;
 use step_text::read_steps;
 
+/// The word of an answer, and the number that it is about, 0 where it has none.
+fn told(why: Why) -> (&'static str, u64) {
+    match why {
+        Why::Waiting => ("Waiting", 0),
+        Why::NoRoot => ("NoRoot", 0),
+        Why::NoPending => ("NoPending", 0),
+        Why::NoGrant => ("NoGrant", 0),
+        Why::NoCap(n) => ("NoCap", n),
+        Why::WrongKind(n) => ("WrongKind", n),
+        Why::NoRight(n) => ("NoRight", n),
+        Why::SamePeer => ("SamePeer", 0),
+        Why::PeerWaiting => ("PeerWaiting", 0),
+        Why::PeerNoRoot => ("PeerNoRoot", 0),
+        Why::PeerNoCap(n) => ("PeerNoCap", n),
+        Why::PeerWrongKind(n) => ("PeerWrongKind", n),
+        Why::PeerNoRight(n) => ("PeerNoRight", n),
+        Why::OtherEndpoint => ("OtherEndpoint", 0),
+    }
+}
+
 /// Whether the steps of the text are legal one after the other, but for the last, which has this answer.
 fn ends_with(alloc: Global, spec: &Spec, text: &[u8], why: Why) -> Result<bool, Fail>
     requires { IsKept spec.now }
@@ -25,8 +45,13 @@ fn ends_with(alloc: Global, spec: &Spec, text: &[u8], why: Why) -> Result<bool, 
             return Ok(false);
         }
     }
-    let refused = Err(StepError::Illegal(why));
-    Ok(state.applied() < u32::MAX && state.apply(spec, last) == refused)
+    if state.applied() == u32::MAX {
+        return Ok(false);
+    }
+    match state.apply(spec, last) {
+        Err(StepError::Illegal(found)) => Ok(told(found) == told(why)),
+        _ => Ok(false),
+    }
 }
 
 /// Texts of steps, and the answer of the last step. Whatever else is wrong with it comes later in the order of answers.

@@ -34,6 +34,18 @@ fn verdict(
     Ok(check(spec, &Labels { by_object }, &policy, &cert))
 }
 
+/// Whether the verdict is that this rule fails, for want of this edge beside these.
+fn is_no(verdict: Verdict, rule: u8, have: [Option<Edge>; 2], lack: Edge) -> bool {
+    match verdict {
+        Verdict::Yes => false,
+        Verdict::No {
+            rule: failing,
+            have: [first, second],
+            lack: lacking,
+        } => failing == rule && first == have[0] && second == have[1] && lacking == lack,
+    }
+}
+
 const DRV: u32 = 0;
 
 const LINE: u32 = 1;
@@ -68,25 +80,15 @@ fn bind_interrupt_to_mutex(rt: HostRuntime) -> Result<(), Fail> {
         locks,
         bound,
     ];
-    let unbound = Verdict::No {
-        rule: 6,
-        have: [Some(handles), Some(locks)],
-        lack: bound,
-    };
-    let outside = Verdict::No {
-        rule: 7,
-        have: [None, None],
-        lack: bound,
-    };
-    let unheld = Verdict::No {
-        rule: 1,
-        have: [None, None],
-        lack: locks,
-    };
-    assert!(rt; verdict(alloc, &spec, &LABELS, &policy, &cert)? == Verdict::Yes);
-    assert!(rt; verdict(alloc, &spec, &LABELS, &policy[..4], &cert)? == outside);
-    assert!(rt; verdict(alloc, &spec, &LABELS, &policy, &cert[..7])? == unbound);
-    assert!(rt; verdict(alloc, &spec, &LABELS, &policy[..4], &cert[..7])? == unbound);
-    assert!(rt; verdict(alloc, &spec, &LABELS, &policy, &cert[..6])? == unheld);
+    let whole = verdict(alloc, &spec, &LABELS, &policy, &cert)?;
+    assert!(rt; matches!(whole, Verdict::Yes));
+    let outside = verdict(alloc, &spec, &LABELS, &policy[..4], &cert)?;
+    assert!(rt; is_no(outside, 7, [None, None], bound));
+    let unbound = verdict(alloc, &spec, &LABELS, &policy, &cert[..7])?;
+    assert!(rt; is_no(unbound, 6, [Some(handles), Some(locks)], bound));
+    let both = verdict(alloc, &spec, &LABELS, &policy[..4], &cert[..7])?;
+    assert!(rt; is_no(both, 6, [Some(handles), Some(locks)], bound));
+    let unheld = verdict(alloc, &spec, &LABELS, &policy, &cert[..6])?;
+    assert!(rt; is_no(unheld, 1, [None, None], locks));
     Ok(())
 }
