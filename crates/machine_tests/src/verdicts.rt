@@ -34,15 +34,21 @@ fn verdict(
     Ok(check(spec, &Labels { by_object }, &policy, &cert))
 }
 
-/// Whether the verdict is that this rule fails, for want of this edge beside these.
-fn is_no(verdict: Verdict, rule: u8, have: [Option<Edge>; 2], lack: Edge) -> bool {
+/// Whether the verdict is that this rule fails, for want of this edge beside these two.
+fn is_no(
+    verdict: Verdict,
+    rule: u8,
+    first: Option<Edge>,
+    second: Option<Edge>,
+    lack: Edge,
+) -> bool {
     match verdict {
         Verdict::Yes => false,
         Verdict::No {
             rule: failing,
-            have: [first, second],
+            have,
             lack: lacking,
-        } => failing == rule && first == have[0] && second == have[1] && lacking == lack,
+        } => failing == rule && have[0] == first && have[1] == second && lacking == lack,
     }
 }
 
@@ -83,12 +89,12 @@ fn bind_interrupt_to_mutex(rt: HostRuntime) -> Result<(), Fail> {
     let whole = verdict(alloc, &spec, &LABELS, &policy, &cert)?;
     assert!(rt; matches!(whole, Verdict::Yes));
     let outside = verdict(alloc, &spec, &LABELS, &policy[..4], &cert)?;
-    assert!(rt; is_no(outside, 7, [None, None], bound));
+    assert!(rt; is_no(outside, 7, None, None, bound));
     let unbound = verdict(alloc, &spec, &LABELS, &policy, &cert[..7])?;
-    assert!(rt; is_no(unbound, 6, [Some(handles), Some(locks)], bound));
+    assert!(rt; is_no(unbound, 6, Some(handles), Some(locks), bound));
     let both = verdict(alloc, &spec, &LABELS, &policy[..4], &cert[..7])?;
-    assert!(rt; is_no(both, 6, [Some(handles), Some(locks)], bound));
+    assert!(rt; is_no(both, 6, Some(handles), Some(locks), bound));
     let unheld = verdict(alloc, &spec, &LABELS, &policy, &cert[..6])?;
-    assert!(rt; is_no(unheld, 1, [None, None], locks));
+    assert!(rt; is_no(unheld, 1, None, None, locks));
     Ok(())
 }
