@@ -1,0 +1,14 @@
+pub mod BootParts
+pub mod AuditedEdges
+pub mod Bringing
+pub mod Covering
+pub mod Beginning
+pub mod Looking
+pub mod Meeting
+pub mod Paths
+pub mod Quiet
+pub mod Reached
+pub mod Refusing
+pub mod RunsWithin
+pub mod Sequences
+pub mod SpreadLeast

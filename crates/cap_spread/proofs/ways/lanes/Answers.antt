@@ -1,0 +1,12 @@
+use Rattle.std.proofs.Common.{List, []}
+use Rattle.cap_spread.specs.declared.found.Way.{Way}
+use Rattle.cap_spread.proofs.Beginning.{repeated_more}
+use Rattle.cap_spread.proofs.ways.lanes.Goals as goal
+
+pub loop-preserved : goal.loop-preserved
+loop-preserved c =
+    let made = c.in_ok-push.ensures.items in
+    let before = c.loop.invariant in
+    let none = c.new.ensures.items in
+    let more = repeated_more {A = List Way} [] c.loop.counter in
+    cc

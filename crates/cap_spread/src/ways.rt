@@ -1,0 +1,248 @@
+//! Ways from one CNode to another, along which all goes that is found.
+
+ghost use Rattle.cap_spread.specs.Search.{held_by, IsFound, IsWay};
+ghost use Rattle.cap_spread.specs.Start.{repeated, IsCounted};
+ghost use Rattle.cap_spread.specs.Ways.{ways_from, with_way, InClass, AreWays, GoesAlong, AllGo, Connects, JoinsBack, LeadsTo, Merges};
+ghost use Rattle.cap_spread.specs.declared.found.Held.{Held};
+ghost use Rattle.cap_spread.specs.declared.found.Way.{Way};
+ghost use Rattle.std.specs.List.{Contains};
+ghost use Rattle.std.specs.Prelude.{◌≡◌, ◌<◌, ◌^◌, ◌++◌, ◌∷◌, [], length, IsTrue, IfOk, OnOk, slice_set, slice_index_or};
+
+use crate::found::{Findings, Held, Way};
+use cam_base::NoMemory;
+use cap_model::Spec;
+use std::alloc::Global;
+use std::marker::Model;
+
+/// The ways out of one CNode.
+#[derive(Drop)]
+pub struct Lane {
+    ways: Vec<Way>,
+}
+
+impl Model for Lane {
+    ghost use Rattle.cap_spread.specs.declared.found.Way.{Way};
+    ghost use Rattle.std.specs.Prelude.{List};
+
+    ghost Value = { List Way };
+
+    ghost view = { λ l. l.ways.items };
+}
+
+impl Lane {
+    fn push(&mut self, way: Way) -> Result<(), NoMemory>
+        ensures { OnOk result (self.new ≡ self.old ++ way ∷ []) }
+    {
+        self.ways.push(way)?;
+        Ok(())
+    }
+
+    fn ways(&self) -> &[Way]
+        ensures { result.now ≡ self.now }
+    {
+        self.ways.as_slice()
+    }
+}
+
+fn put_way(lanes: &mut [Lane], c: u32, way: Way) -> Result<(), NoMemory>
+    ensures { OnOk result (lanes.new ≡ slice_set lanes.old c (slice_index_or lanes.old c [] ++ way ∷ [])) }
+{
+    let c = c as usize;
+    if c < lanes.len() {
+        let lane = &mut lanes[c];
+        lane.push(way)?;
+    }
+    Ok(())
+}
+
+/// Makes the class of `d` the class of `c`.
+fn merge(classes: &mut [u32], c: u32, d: u32)
+    requires one { c < length classes.old }
+    requires other { d < length classes.old }
+    ensures { Merges classes.old c d classes.new }
+{
+    let to = classes[c as usize];
+    let from = classes[d as usize];
+    for x in 0..classes.len() {
+        if classes[x] == from {
+            classes[x] = to;
+        }
+    }
+}
+
+/// Ways out of each object, and classes of objects that ways join in both directions.
+#[derive(Drop)]
+pub struct Net {
+    out: Vec<Lane>,
+    classes: Vec<u32>,
+}
+
+impl Model for Net {
+    ghost use Rattle.cap_spread.specs.Ways.{Lanes};
+
+    ghost Value = { Lanes };
+
+    ghost view = { λ n. record { out = n.out.items; classes = n.classes.items } };
+}
+
+fn counted(alloc: Global, n: usize) -> Result<Vec<u32>, NoMemory>
+    requires { n < 2 ^ 32 }
+    ensures { IfOk result (λ numbers. IsCounted numbers.items n) }
+{
+    let mut numbers = Vec::new(alloc);
+    for k in 0..n {
+        numbers.push(k as u32)?;
+    }
+    Ok(numbers)
+}
+
+fn lanes(alloc: Global, n: usize) -> Result<Vec<Lane>, NoMemory>
+    ensures { IfOk result (λ lanes. lanes.items ≡ repeated [] n) }
+{
+    let mut lanes = Vec::new(alloc);
+    for _ in 0..n {
+        lanes.push(Lane {
+            ways: Vec::new(alloc),
+        })?;
+    }
+    Ok(lanes)
+}
+
+impl Net {
+    /// No ways, and each of n objects in a class of its own.
+    pub fn new(alloc: Global, n: usize) -> Result<Net, NoMemory>
+        requires { n < 2 ^ 32 }
+        ensures out { IfOk result (λ net. net.out ≡ repeated [] n) }
+        ensures classes { IfOk result (λ net. IsCounted net.classes n) }
+    {
+        let out = lanes(alloc, n)?;
+        let classes = counted(alloc, n)?;
+        Ok(Net { out, classes })
+    }
+
+    /// Whether both are known to be joined in both directions.
+    pub fn are_joined(&self, c: u32, d: u32) -> bool
+        ensures { IsTrue result → InClass self.now c d }
+    {
+        let c = c as usize;
+        let d = d as usize;
+        c < self.classes.len() && d < self.classes.len() && self.classes[c] == self.classes[d]
+    }
+
+    /// The ways out of an object.
+    pub fn ways(&self, c: u32) -> &[Way]
+        ensures { result.now ≡ ways_from self.now c }
+    {
+        match self.out.get(c as usize) {
+            Some(lane) => lane.ways(),
+            None => &[],
+        }
+    }
+
+    /// Whether a way leads from the one to the other.
+    fn has_way(&self, c: u32, d: u32) -> bool
+        ensures { IsTrue result → LeadsTo self.now c d }
+    {
+        for way in self.ways(c) {
+            if way.to == d {
+                return true;
+            }
+        }
+        false
+    }
+
+    /// Says that both are joined in both directions, where a way leads back.
+    fn join_back(&mut self, c: u32, d: u32)
+        requires one { c < length self.old.classes }
+        requires other { d < length self.old.classes }
+        ensures { JoinsBack self.old c d self.new }
+    {
+        if self.has_way(d, c) {
+            self.join(c, d);
+            return;
+        }
+    }
+
+    fn add(&mut self, c: u32, way: Way) -> Result<(), NoMemory>
+        ensures { OnOk result (self.new ≡ with_way self.old c way) }
+    {
+        put_way(&mut self.out, c, way)?;
+        Ok(())
+    }
+
+    /// Says that both are joined in both directions.
+    pub fn join(&mut self, c: u32, d: u32)
+        requires one { c < length self.old.classes }
+        requires other { d < length self.old.classes }
+        ensures out { self.new.out ≡ self.old.out }
+        ensures classes { Merges self.old.classes c d self.new.classes }
+    {
+        merge(&mut self.classes, c, d);
+    }
+}
+
+/// Brings one value along all these ways.
+pub fn go_along(
+    findings: &mut Findings,
+    spec: &Spec,
+    from: u32,
+    ways: &[Way],
+    held: Held,
+) -> Result<(), NoMemory>
+    requires found { IsFound spec.now findings.old }
+    requires ways { (way : Way) → Contains ways.now way → IsWay spec.now findings.old from way }
+    requires held { Contains (held_by findings.old from) held }
+    ensures { OnOk result (GoesAlong spec.now findings.old ways.now held findings.new) }
+{
+    for way in ways {
+        findings.bring(spec, from, *way, held)?;
+    }
+    Ok(())
+}
+
+/// Brings all these values along one way.
+fn all_go(
+    findings: &mut Findings,
+    spec: &Spec,
+    from: u32,
+    way: Way,
+    helds: &[Held],
+) -> Result<(), NoMemory>
+    requires found { IsFound spec.now findings.old }
+    requires way { IsWay spec.now findings.old from way }
+    requires helds { (held : Held) → Contains helds.now held → Contains (held_by findings.old from) held }
+    ensures { OnOk result (AllGo spec.now findings.old way helds.now findings.new) }
+{
+    for held in helds {
+        findings.bring(spec, from, way, *held)?;
+    }
+    Ok(())
+}
+
+/// Sees to it that ways lead from one CNode to the end of this way, and that all has gone along them.
+pub fn connect(
+    alloc: Global,
+    findings: &mut Findings,
+    net: &mut Net,
+    spec: &Spec,
+    from: u32,
+    way: Way,
+) -> Result<(), NoMemory>
+    requires found { IsFound spec.now findings.old }
+    requires ways { AreWays spec.now findings.old net.old }
+    requires way { IsWay spec.now findings.old from way }
+    requires from { from < length spec.now.entries }
+    ensures { OnOk result (Connects spec.now findings.old net.old from way.to findings.new net.new) }
+{
+    if net.are_joined(from, way.to) {
+        return Ok(());
+    }
+    if net.has_way(from, way.to) {
+        return Ok(());
+    }
+    let helds = findings.held_copy(alloc, from)?;
+    all_go(findings, spec, from, way, helds.as_slice())?;
+    net.add(from, way)?;
+    net.join_back(from, way.to);
+    Ok(())
+}
