@@ -1,0 +1,4 @@
+pub mod Apart
+pub mod Rising
+pub mod Sections
+pub mod Standing

@@ -1,0 +1,14 @@
+pub mod Frames
+pub mod Given
+pub mod Laid
+pub mod MappedPages
+pub mod Memory
+pub mod PageLimits
+pub mod Regions
+pub mod SpaceLaws
+pub mod Threads
+pub use Rattle.adl_meaning.specs.Faults
+pub use Rattle.leaf_ends.specs.Within
+pub use Rattle.numbering.specs.Gather
+pub use Rattle.program_sections.specs.Numbered
+pub use Rattle.program_sections.specs.SpaceFaults
