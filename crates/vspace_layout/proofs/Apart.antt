@@ -6,7 +6,7 @@ use Rattle.cap_model.specs.declared.level.Arch.{Arch}
 use Rattle.cap_model.specs.declared.level.Arch.TheVariants.{Arm11, Aarch64}
 use Rattle.program_sections.specs.Images.{sections_end}
 use Rattle.vspace_layout.specs.declared.region.Region.{Region}
-use Rattle.vspace_layout.specs.Given.{Given, arch, base}
+use Rattle.vspace_layout.specs.Given.{Given, arch}
 use Rattle.vspace_layout.specs.Regions.{pages_in, regions}
 use Rattle.vspace_layout.specs.SpaceLaws.{RegionsAreApart}
 

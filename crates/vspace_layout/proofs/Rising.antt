@@ -1,5 +1,5 @@
 -- The pages of a space rise
-use Rattle.std.proofs.Common.{◌≡◌, ◌<◌, ◌≤◌, ◌+◌, ◌*◌, ℕ, zero, suc, List, [], ◌∷◌, ◌++◌, map, length, Some, refl, sym, ◌∙◌, ap, subst, inl, inr, append_assoc, arith}
+use Rattle.std.proofs.Common.{◌≡◌, ◌<◌, ◌≤◌, ◌+◌, ◌*◌, ℕ, zero, suc, List, [], ◌∷◌, ◌++◌, map, Some, refl, sym, ◌∙◌, ap, subst, inl, inr, arith}
 use Rattle.std.specs.Prelude.{◌%◌}
 use Rattle.std.specs.List.{All, AllPairs, flat_map, range_with_len, slice_get}
 use Rattle.std.proofs.lemmas.List.{map-append}
@@ -15,7 +15,7 @@ use Rattle.vspace_layout.specs.declared.region.Content.TheVariants.{Stack, Buffe
 use Rattle.vspace_layout.specs.declared.region.Region.{Region}
 use Rattle.vspace_layout.specs.Given.{Given, base, leaves_of}
 use Rattle.vspace_layout.specs.MappedPages.{mapped_pages, page_of, pages_from, region_page, region_part, section_page, section_part}
-use Rattle.vspace_layout.specs.Regions.{region_start, regions, start}
+use Rattle.vspace_layout.specs.Regions.{regions, start}
 use Rattle.vspace_layout.specs.SpaceLaws.{PagesRise, SectionsStand}
 use Rattle.vspace_layout.proofs.Apart.{apart}
 

@@ -1,5 +1,5 @@
 -- Sections stand apart where no fault of sections stands
-use Rattle.std.proofs.Common.{◌≡◌, ◌<◌, ◌≤◌, ◌+◌, ◌*◌, ℕ, Bool, true, false, List, [], ◌∷◌, get_or, Option, Some, None, refl, sym, ap, subst, inl, inr, arith, ⊎_elim}
+use Rattle.std.proofs.Common.{◌≡◌, ◌≤◌, ◌+◌, ◌*◌, ℕ, true, false, List, [], ◌∷◌, get_or, Option, Some, None, refl, sym, ap, subst, inl, inr, arith, ⊎_elim}
 use Rattle.std.specs.Prelude.{◌%◌}
 use Rattle.std.specs.List.{All, AllPairs, flat_map, range_with_len, slice_get}
 use Rattle.std.specs.Option.{option_map_or}

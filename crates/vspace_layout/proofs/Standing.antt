@@ -1,5 +1,5 @@
 -- Frames stand under their numbers
-use Rattle.std.proofs.Common.{◌≡◌, ◌<◌, ◌+◌, ℕ, zero, suc, Bool, true, false, ◌&&◌, cond, List, [], ◌∷◌, ◌++◌, get_or, length, map, Option, Some, None, refl, sym, ◌∙◌, ap, arith}
+use Rattle.std.proofs.Common.{◌≡◌, ◌<◌, ◌+◌, ℕ, zero, suc, Bool, true, false, ◌&&◌, cond, List, [], get_or, length, map, Option, Some, None, refl, sym, ◌∙◌, ap, arith}
 use Rattle.std.specs.List.{position, range_with_len, slice_get}
 use Rattle.std.specs.Option.{option_map_or}
 use Rattle.std.specs.Prelude.{◌==◌}
@@ -63,7 +63,7 @@ no_registers Direct ends e = refl
 
 -- the number of a page of a connection that is there
 number_at : (t : Given) (k j : ℕ) (c : FlatConnection) → slice_get t.flat.connections k ≡ Some c → memory_number t k j ≡ length (own_part t) + memory_before t.flat t.settled k c + j
-number_at t k j c e = ap (λ o. option_map_or (λ c. length (own_part t) + memory_before t.flat t.settled k c + j) o 0) e
+number_at t k j c e = ap (λ o. option_map_or (λ c. length (own_part t) + memory_before t.flat t.settled k c) o 0 + j) e
 
 shared_stands : (t : Given) (k j : ℕ) (c : FlatConnection) → slice_get t.flat.connections k ≡ Some c → is_shared c.connector ≡ true → j < memory_pages t.settled k c → slice_get (frames t) (memory_number t k j) ≡ Some (frame (OfConnection k) None None)
 shared_stands t k j c e s l =

@@ -2,9 +2,9 @@
 -- then the registers of each dataport of a device that is joined, in the order of the first connection to it, with their
 -- addresses. An own frame is its domain's, shared memory the connection's, registers the device's. The number of a frame is
 -- a sum over those before it.
-use Rattle.std.specs.Prelude.{ℕ, ◌+◌, ◌*◌, ◌==◌, Bool, true, false, if◌then◌else◌, List, [], ◌∷◌, ◌++◌, map, length, Option, Some, None, slice_get}
+use Rattle.std.specs.Prelude.{ℕ, ◌+◌, ◌*◌, ◌==◌, Bool, false, if◌then◌else◌, List, [], ◌∷◌, ◌++◌, map, length, Option, Some, None, slice_get}
 use Rattle.std.specs.List.{range_with_len}
-use Rattle.std.specs.Option.{option_and_then, option_map_or}
+use Rattle.std.specs.Option.{option_map_or}
 use Rattle.adl_meaning.specs.declared.flat.Domain.{Domain}
 use Rattle.adl_meaning.specs.declared.flat.Flat.{Flat}
 use Rattle.adl_meaning.specs.declared.flat.FlatConnection.{FlatConnection}
@@ -93,9 +93,13 @@ registers_before flat settled e =
 abbrev pub memory_before : Flat → Settled → ℕ → FlatConnection → ℕ
 memory_before flat settled k c = option_map_or (registers_before flat settled) (registers c) (before (shared_frames settled) flat.connections k)
 
--- of page j of the memory of connection k
+-- of the first page of the memory of connection k
+abbrev pub memory_first : Given → ℕ → ℕ
+memory_first t k = option_map_or (λ c. length (own_part t) + memory_before t.flat t.settled k c) (slice_get t.flat.connections k) 0
+
+-- of page j of it
 abbrev pub memory_number : Given → ℕ → ℕ → ℕ
-memory_number t k j = option_map_or (λ c. length (own_part t) + memory_before t.flat t.settled k c + j) (slice_get t.flat.connections k) 0
+memory_number t k j = memory_first t k + j
 
 -- of what page n of a domain shows
 abbrev pub number_shown : Given → ℕ → ℕ → Shown → ℕ

@@ -1,8 +1,12 @@
+pub mod CanLay
+pub mod Counted
+pub mod FrameNumbers
 pub mod Frames
 pub mod Given
 pub mod Laid
 pub mod MappedPages
 pub mod Memory
+pub mod Outlines
 pub mod PageLimits
 pub mod Regions
 pub mod SpaceLaws

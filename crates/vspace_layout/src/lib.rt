@@ -8,13 +8,15 @@
 
 mod laws;
 mod mapped;
+mod outline;
 mod owner;
 mod region;
 mod spaces;
 mod thread;
 
 pub use laws::{
-    frames_stand_at_their_numbers, pages_rise, regions_are_apart, sections_stand_apart,
+    frames_stand_at_their_numbers, limits_are_told_in_order, pages_are_counted, pages_rise,
+    regions_and_frames_are_few, regions_are_apart, sections_stand_apart, spaces_are_laid_by_domain,
 };
 pub use owner::Owner;
 pub use program_sections::first_space_fault;
