@@ -1,0 +1,10 @@
+pub mod Apart
+pub mod Counting
+pub mod Few
+pub mod Fitting
+pub mod Joining
+pub mod Laying
+pub mod Limits
+pub mod Rising
+pub mod Sections
+pub mod Standing

@@ -1,0 +1,35 @@
+-- What spaces are laid out from: the source, its flat system, the settings of that, and the images of its programs.
+use Rattle.std.specs.Prelude.{ℕ, List, [], slice_get}
+use Rattle.std.specs.Option.{option_map_or}
+use Rattle.adl_ast.specs.declared.source.Source.{Source}
+use Rattle.adl_meaning.specs.declared.flat.Flat.{Flat}
+use Rattle.adl_meaning.specs.declared.settled.Settled.{Settled}
+use Rattle.cap_model.specs.declared.level.Arch.{Arch}
+use Rattle.leaf_ends.specs.declared.end_at.EndAt.{EndAt}
+use Rattle.leaf_ends.specs.LeafEnds as order
+use Rattle.program_sections.specs.Images.{arch_of, sections_end}
+use Rattle.program_sections.specs.declared.images.Images.{Images}
+
+pub record Given : Type 0 where
+  pub source : Source
+  pub flat : Flat
+  pub settled : Settled
+  pub images : Images
+
+abbrev pub given : Source → Flat → Settled → Images → Given
+given source flat settled images = record { source = source; flat = flat; settled = settled; images = images }
+
+-- the ends of each leaf, in order
+abbrev pub ends : Given → List (List EndAt)
+ends t = order.ends_of t.source t.flat
+
+-- the leaves of a domain
+abbrev pub leaves_of : Flat → ℕ → List ℕ
+leaves_of flat d = option_map_or (λ x. x.leaves) (slice_get flat.domains d) []
+
+abbrev pub arch : Given → Arch
+arch t = arch_of t.images.images
+
+-- where regions begin: sections stand below, regions above
+abbrev pub base : Given → ℕ
+base t = sections_end (arch t)

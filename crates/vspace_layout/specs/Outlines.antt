@@ -1,0 +1,115 @@
+-- The parts of which spaces are made, by the flat system, its settings and the ends of each leaf.
+use Rattle.std.specs.Prelude.{◌≡◌, ◌<◌, ℕ, ◌+◌, ◌*◌, ◌≤◌, ◌^◌, List, [], ◌∷◌, ◌++◌, length, map, sum, Some, slice_get, slice_index_or}
+use Rattle.adl_meaning.specs.declared.flat.Domain.{Domain}
+use Rattle.adl_meaning.specs.declared.flat.Flat.{Flat}
+use Rattle.adl_meaning.specs.declared.settled.Settled.{Settled}
+use Rattle.leaf_ends.specs.declared.end_at.EndAt.{EndAt}
+use Rattle.numbering.specs.Gather.{before, gather}
+use Rattle.program_sections.specs.ByAddress.{section_page_count}
+use Rattle.program_sections.specs.Images.{arch_of, sections_end}
+use Rattle.program_sections.specs.declared.images.Images.{Images}
+use Rattle.vspace_layout.specs.declared.mapped.MappedPage.{MappedPage}
+use Rattle.vspace_layout.specs.declared.outline.Outline.{Outline}
+use Rattle.vspace_layout.specs.declared.region.Region.{Region}
+use Rattle.vspace_layout.specs.declared.spaces.Page.{Page}
+use Rattle.vspace_layout.specs.declared.spaces.Space.{Space}
+use Rattle.vspace_layout.specs.declared.spaces.Spaces.{Spaces}
+use Rattle.vspace_layout.specs.declared.spaces.ThreadPlace.{ThreadPlace}
+use Rattle.vspace_layout.specs.declared.spaces.Window.{Window}
+use Rattle.vspace_layout.specs.declared.thread.ThreadOf.{ThreadOf}
+use Rattle.vspace_layout.specs.FrameNumbers.{all_own, memory_firsts, own_added, pages_numbered}
+use Rattle.vspace_layout.specs.Frames.{memory_part}
+use Rattle.vspace_layout.specs.MappedPages.{pages_from, region_part, section_part}
+use Rattle.vspace_layout.specs.Regions.{domain_windows, pages_in, region_start, regions_in, stack_pages, window_pages}
+use Rattle.vspace_layout.specs.Threads.{domain_threads}
+
+abbrev pub outline : Flat → Settled → List (List EndAt) → List ℕ → Outline
+outline flat settled ends leaves = record {
+  threads = domain_threads flat ends leaves;
+  windows = domain_windows flat ends leaves;
+  regions = regions_in flat settled (domain_threads flat ends leaves) (domain_windows flat ends leaves);
+}
+
+abbrev pub regions_at : Flat → Settled → List (List EndAt) → List ℕ → List Region
+regions_at flat settled ends leaves = (outline flat settled ends leaves).regions
+
+-- where each region begins
+abbrev pub starts_in : ℕ → List Region → List ℕ
+starts_in base rs = gather (λ n r. region_start base rs n ∷ []) rs
+
+-- the pages of a domain with these leaves and regions
+abbrev pub mapped_of : Settled → Images → List ℕ → List Region → List MappedPage
+mapped_of settled images leaves rs = section_part images leaves ++ region_part settled (sections_end (arch_of images.images)) rs
+
+abbrev pub domain_mapped : Flat → Settled → List (List EndAt) → Images → List ℕ → List MappedPage
+domain_mapped flat settled ends images leaves = mapped_of settled images leaves (regions_at flat settled ends leaves)
+
+-- the pages of each domain
+abbrev pub all_mapped : Flat → Settled → List (List EndAt) → Images → List (List MappedPage)
+all_mapped flat settled ends images = map (λ d. domain_mapped flat settled ends images d.leaves) flat.domains
+
+-- ---- how many there are
+
+abbrev pub page_count_of : Images → List ℕ → List Region → ℕ
+page_count_of images leaves rs = section_page_count images leaves + pages_in rs
+
+abbrev pub domain_counted : Flat → Settled → List (List EndAt) → Images → List ℕ → ℕ
+domain_counted flat settled ends images leaves = page_count_of images leaves (regions_at flat settled ends leaves)
+
+abbrev pub all_counted : Flat → Settled → List (List EndAt) → Images → ℕ
+all_counted flat settled ends images = sum (map (λ d. domain_counted flat settled ends images d.leaves) flat.domains)
+
+-- regions and their pages are few enough for addresses of 64 bits
+abbrev pub AreFew : List Region → Type 0
+AreFew rs = length rs + pages_in rs ≤ 2 ^ 18
+
+-- ---- addresses, by where regions begin
+
+abbrev pub start_at : List ℕ → ℕ → ℕ
+start_at starts n = slice_index_or starts n 0
+
+-- the pages of region n
+abbrev pub starting : Settled → List ℕ → ℕ → Region → List MappedPage
+starting settled starts n r = pages_from settled (start_at starts n) r
+
+abbrev pub RegionsFit : List ℕ → List Region → Type 0
+RegionsFit starts rs = (n : ℕ) (r : Region) → slice_get rs n ≡ Some r → start_at starts n + 4096 * r.pages < 2 ^ 64
+
+abbrev pub thread_at : Settled → List ℕ → ℕ → ThreadOf → ThreadPlace
+thread_at settled starts i x =
+    record { leaf = x.leaf; end = x.end; sp = start_at starts (2 * i) + 4096 * stack_pages settled x.leaf; buffer = start_at starts (2 * i + 1) }
+
+abbrev pub thread_places : Settled → List ℕ → List ThreadOf → List ThreadPlace
+thread_places settled starts ts = gather (λ i x. thread_at settled starts i x ∷ []) ts
+
+abbrev pub StacksFit : Settled → List ℕ → List ThreadOf → Type 0
+StacksFit settled starts ts = (i : ℕ) (x : ThreadOf) → slice_get ts i ≡ Some x → start_at starts (2 * i) + 4096 * stack_pages settled x.leaf < 2 ^ 64
+
+abbrev pub window_place : Flat → Settled → List ℕ → ℕ → EndAt → Window
+window_place flat settled starts n e = record { end = e; vaddr = start_at starts n; pages = window_pages flat settled e }
+
+-- windows whose regions are those from number `first` on
+abbrev pub window_places : Flat → Settled → List ℕ → ℕ → List EndAt → List Window
+window_places flat settled starts first ws = gather (λ j e. window_place flat settled starts (first + j) e ∷ []) ws
+
+-- ---- spaces, by their pages
+
+abbrev pub space_in : Flat → Settled → ℕ → Outline → List Page → Space
+space_in flat settled base o pages = record {
+  pages = pages;
+  threads = thread_places settled (starts_in base o.regions) o.threads;
+  windows = window_places flat settled (starts_in base o.regions) (2 * length o.threads) o.windows;
+}
+
+abbrev pub pages_at : Flat → Settled → List (List MappedPage) → ℕ → List Page
+pages_at flat settled mapped d = pages_numbered d (memory_firsts (all_own mapped) flat settled) (before own_added mapped d) (slice_index_or mapped d [])
+
+abbrev pub space_at : Flat → Settled → List (List EndAt) → ℕ → List (List MappedPage) → ℕ → Domain → Space
+space_at flat settled ends base mapped d x = space_in flat settled base (outline flat settled ends x.leaves) (pages_at flat settled mapped d)
+
+-- the spaces of all domains, and all frames, where the pages of each domain are given
+abbrev pub spaces_in : Flat → Settled → List (List EndAt) → ℕ → List (List MappedPage) → Spaces
+spaces_in flat settled ends base mapped = record {
+  spaces = gather (λ d x. space_at flat settled ends base mapped d x ∷ []) flat.domains;
+  frames = gather own_added mapped ++ memory_part flat settled;
+}
