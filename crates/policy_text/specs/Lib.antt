@@ -1,1 +1,15 @@
+pub mod Entries
+pub mod EntriesRead
+pub mod KnownNumbers
+pub mod Labelled
+pub mod LinesSeen
+pub mod Numbers
+pub mod ObjectTables
+pub mod PartsBuilt
+pub mod PolicyFaults
 pub mod PolicyLines
+pub mod PolicyTexts
+pub mod TextsRead
+pub mod WordSets
+pub mod Writable
+pub use Rattle.text_lines.specs.Lines

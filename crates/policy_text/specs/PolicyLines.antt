@@ -19,6 +19,12 @@ object_line o = together (codes "object " ∷ o.0 ∷ codes " " ∷ decimal o.1 
 abbrev pub edge_line : Edge → List ℕ
 edge_line e = together (codes "edge " ∷ decimal e.from ∷ codes " " ∷ text_of e.authority ∷ codes " " ∷ decimal e.to ∷ codes "\n" ∷ [])
 
+abbrev pub policy_header : List ℕ
+policy_header = codes "policy 1"
+
+abbrev pub cert_header : List ℕ
+cert_header = codes "certificate 1"
+
 -- the labels, the objects and the edges of a policy, each in their order
 unfoldable pub policy_text : Policy → List ℕ
 policy_text p = codes "policy 1\n" ⊹ flat_map label_line p.labels ⊹ flat_map object_line p.objects ⊹ flat_map edge_line p.edges

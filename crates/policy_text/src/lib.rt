@@ -1,9 +1,23 @@
-//! Texts of policies and of certificates: each as the one text in the writer's shape.
+//! Texts of policies and of certificates, and the labels that a policy gives to objects.
 //!
-//! Nothing here asks what a policy allows or what confers an authority, or takes memory. What is written stands in
-//! `specs/PolicyLines.antt`.
+//! Nothing here asks what a policy allows or what confers an authority. What a text says, and which fault stands in it first,
+//! is in `specs/PolicyTexts.antt` and the files that it names; the one text that is written in `specs/PolicyLines.antt`; the
+//! labels of objects in `specs/Labelled.antt`.
 #![tactic(auto)]
 
+mod entry;
+mod head;
+mod kind;
+mod known;
+mod labelled;
+pub mod laws;
+mod number;
+mod parts;
+mod read;
+mod seen;
+mod words;
 mod write;
 
+pub use labelled::label_objects;
+pub use read::{read_cert, read_policy};
 pub use write::{write_cert, write_policy};

@@ -13,7 +13,8 @@ use itoa::Buffer;
 /// Writes the text of a policy to an open channel: `specs/PolicyLines.antt`.
 pub fn write_policy<O: Outputs>(policy: &Policy, out: &mut O, channel: u8) -> Result<(), Failed>
     requires { IsOpen (O.sink out.old) channel }
-    ensures { Writes result channel (policy_text policy.now) (O.sink out.old) (O.sink out.new) (O.faults out.old) (O.faults out.new) }
+    ensures { Writes result channel (policy_text policy.now)
+        (O.sink out.old) (O.sink out.new) (O.faults out.old) (O.faults out.new) }
 {
     write_all(out, channel, b"policy 1\n")?;
     write_labels(policy.labels.as_slice(), out, channel)?;
@@ -32,7 +33,8 @@ pub fn write_cert<O: Outputs>(cert: &EdgeTable, out: &mut O, channel: u8) -> Res
 
 fn write_labels<O: Outputs>(labels: &[(u32, Text)], out: &mut O, channel: u8) -> Result<(), Failed>
     requires { IsOpen (O.sink out.old) channel }
-    ensures { Writes result channel (flat_map label_line labels.now) (O.sink out.old) (O.sink out.new) (O.faults out.old) (O.faults out.new) }
+    ensures { Writes result channel (flat_map label_line labels.now)
+        (O.sink out.old) (O.sink out.new) (O.faults out.old) (O.faults out.new) }
 {
     for label in labels {
         write_label(label, out, channel)?;
@@ -42,7 +44,8 @@ fn write_labels<O: Outputs>(labels: &[(u32, Text)], out: &mut O, channel: u8) ->
 
 fn write_label<O: Outputs>(label: &(u32, Text), out: &mut O, channel: u8) -> Result<(), Failed>
     requires { IsOpen (O.sink out.old) channel }
-    ensures { Writes result channel (label_line label.now) (O.sink out.old) (O.sink out.new) (O.faults out.old) (O.faults out.new) }
+    ensures { Writes result channel (label_line label.now)
+        (O.sink out.old) (O.sink out.new) (O.faults out.old) (O.faults out.new) }
 {
     let mut number = Buffer::new();
     let number = number.format(label.0).as_bytes();
@@ -59,7 +62,8 @@ fn write_objects<O: Outputs>(
     channel: u8,
 ) -> Result<(), Failed>
     requires { IsOpen (O.sink out.old) channel }
-    ensures { Writes result channel (flat_map object_line objects.now) (O.sink out.old) (O.sink out.new) (O.faults out.old) (O.faults out.new) }
+    ensures { Writes result channel (flat_map object_line objects.now)
+        (O.sink out.old) (O.sink out.new) (O.faults out.old) (O.faults out.new) }
 {
     for object in objects {
         write_object(object, out, channel)?;
@@ -69,7 +73,8 @@ fn write_objects<O: Outputs>(
 
 fn write_object<O: Outputs>(object: &(Name, u32), out: &mut O, channel: u8) -> Result<(), Failed>
     requires { IsOpen (O.sink out.old) channel }
-    ensures { Writes result channel (object_line object.now) (O.sink out.old) (O.sink out.new) (O.faults out.old) (O.faults out.new) }
+    ensures { Writes result channel (object_line object.now)
+        (O.sink out.old) (O.sink out.new) (O.faults out.old) (O.faults out.new) }
 {
     let mut number = Buffer::new();
     let number = number.format(object.1).as_bytes();
@@ -82,7 +87,8 @@ fn write_object<O: Outputs>(object: &(Name, u32), out: &mut O, channel: u8) -> R
 
 fn write_edges<O: Outputs>(edges: &EdgeTable, out: &mut O, channel: u8) -> Result<(), Failed>
     requires { IsOpen (O.sink out.old) channel }
-    ensures { Writes result channel (flat_map edge_line edges.now) (O.sink out.old) (O.sink out.new) (O.faults out.old) (O.faults out.new) }
+    ensures { Writes result channel (flat_map edge_line edges.now)
+        (O.sink out.old) (O.sink out.new) (O.faults out.old) (O.faults out.new) }
 {
     for at in 0..edges.len() {
         if let Some(edge) = edges.get(at) {

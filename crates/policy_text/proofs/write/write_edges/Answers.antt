@@ -1,7 +1,5 @@
-use Rattle.std.proofs.Common.{◌≡◌, ◌∙◌, sym, arith, get_or, Some}
+use Rattle.std.proofs.Common.{◌∙◌, sym, arith}
 use Rattle.std.proofs.lemmas.Option.{get_or_from_slice_get, slice_get-get_or}
-use Rattle.std.specs.List.{slice_get}
-use Rattle.auth_kinds.specs.declared.edge.Edge.{Edge}
 use Rattle.auth_kinds.specs.declared.authority.Authority.TheVariants.{Receive}
 use Rattle.cam_io.proofs.Lines.{lines_begin, lines_end, lines_fail, lines_step}
 use Rattle.cam_io.proofs.Sequence.{writes_exit}

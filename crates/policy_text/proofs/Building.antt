@@ -1,0 +1,79 @@
+-- What lines say together, after one line more.
+use Rattle.std.proofs.Common.{◌≡◌, ◌∙◌, ap, sym, refl, ℕ, true, false, List, [], ◌∷◌, ◌++◌, append_assoc, Option, Some, None, Result, Ok, Err}
+use Rattle.std.specs.BTreeMap.{insert_entry}
+use Rattle.std.specs.List.{filter_map}
+use Rattle.std.specs.Ordering.{nat_cmp}
+use Rattle.std.proofs.lemmas.List.Elements.{filter_map-append}
+use Rattle.std.proofs.lemmas.List.Sums.{fold-append}
+use Rattle.std.specs.Result.{OnOk}
+use Rattle.auth_kinds.specs.declared.authority.Authority.{Authority}
+use Rattle.auth_kinds.specs.declared.edge.Edge.{Edge}
+use Rattle.cam_base.specs.declared.error.NoMemory.{NoMemory}
+use Rattle.cam_base.specs.Names.{is_name}
+use Rattle.policy_text.specs.declared.kind.Kind.{Kind}
+use Rattle.policy_text.specs.declared.parts.Parts.{Parts}
+use Rattle.policy_text.specs.Entries.{Entry, label, object, edge}
+use Rattle.policy_text.specs.Numbers.{narrow}
+use Rattle.policy_text.specs.PartsBuilt.{IsBuilt, Builds, built_label, built_object, built_edge}
+use Rattle.policy_text.specs.PolicyFaults.{Told}
+use Rattle.policy_text.specs.PolicyTexts.{by_number, said, told}
+use Rattle.policy_text.proofs.Before.{append_nil, told-cons, told_none, told_one}
+use Rattle.text_lines.specs.Lines.{Line}
+
+one_more : {Y : Type 0} (h : Told → Option Y) (before : List Told) (t : Told) (y : Y) → h t ≡ Some y → filter_map h (before ++ t ∷ []) ≡ filter_map h before ++ y ∷ []
+one_more h before t y is = filter_map-append h before (t ∷ []) ∙ rw is refl
+
+none_more : {Y : Type 0} (h : Told → Option Y) (before : List Told) (t : Told) → h t ≡ None → filter_map h (before ++ t ∷ []) ≡ filter_map h before
+none_more h before t is = filter_map-append h before (t ∷ []) ∙ rw is (append_nil (filter_map h before))
+
+pub by_number_more : (pairs : List (ℕ × List ℕ)) (n : ℕ) (name : List ℕ) → by_number (pairs ++ (n, name) ∷ []) ≡ insert_entry nat_cmp (by_number pairs) n name
+by_number_more pairs n name = fold-append _ [] pairs ((n, name) ∷ [])
+
+pub built_label_more : (old new : Parts) (before : List Told) (line : Line) (n name : List ℕ) → IsBuilt old before → new.labels.entries ≡ insert_entry nat_cmp old.labels.entries (narrow n) name
+    → new.objects ≡ old.objects → new.edges.items ≡ old.edges.items → IsBuilt new (before ++ (line, label n name) ∷ [])
+built_label_more old new before line n name built inserted objects edges = record {
+  labels = inserted ∙ ap (λ m. insert_entry nat_cmp m (narrow n) name) built.labels ∙ sym (by_number_more (filter_map built_label before) (narrow n) name)
+      ∙ ap by_number (sym (one_more built_label before (line, label n name) (narrow n, name) refl));
+  objects = objects ∙ built.objects ∙ sym (none_more built_object before (line, label n name) refl);
+  edges = edges ∙ built.edges ∙ sym (none_more built_edge before (line, label n name) refl);
+}
+
+pub built_object_more : (old new : Parts) (before : List Told) (line : Line) (word n : List ℕ) → IsBuilt old before → is_name word ≡ true → new.labels.entries ≡ old.labels.entries
+    → new.objects ≡ old.objects ++ (word, narrow n) ∷ [] → new.edges.items ≡ old.edges.items → IsBuilt new (before ++ (line, object word n) ∷ [])
+built_object_more old new before line word n built name labels objects edges = record {
+  labels = labels ∙ built.labels ∙ ap by_number (sym (none_more built_label before (line, object word n) refl));
+  objects = objects ∙ ap (λ os. os ++ (word, narrow n) ∷ []) built.objects ∙ sym (one_more built_object before (line, object word n) (word, narrow n) (rw name refl));
+  edges = edges ∙ built.edges ∙ sym (none_more built_edge before (line, object word n) refl);
+}
+
+pub built_object_none : (old : Parts) (before : List Told) (line : Line) (word n : List ℕ) → IsBuilt old before → is_name word ≡ false → IsBuilt old (before ++ (line, object word n) ∷ [])
+built_object_none old before line word n built name = record {
+  labels = built.labels ∙ ap by_number (sym (none_more built_label before (line, object word n) refl));
+  objects = built.objects ∙ sym (none_more built_object before (line, object word n) (rw name refl));
+  edges = built.edges ∙ sym (none_more built_edge before (line, object word n) refl);
+}
+
+pub built_edge_more : (old new : Parts) (before : List Told) (line : Line) (l : List ℕ) (a : Authority) (m : List ℕ) → IsBuilt old before → new.labels.entries ≡ old.labels.entries
+    → new.objects ≡ old.objects → new.edges.items ≡ old.edges.items ++ record { from = narrow l; authority = a; to = narrow m } ∷ [] → IsBuilt new (before ++ (line, edge l a m) ∷ [])
+built_edge_more old new before line l a m built labels objects edges = record {
+  labels = labels ∙ built.labels ∙ ap by_number (sym (none_more built_label before (line, edge l a m) refl));
+  objects = objects ∙ built.objects ∙ sym (none_more built_object before (line, edge l a m) refl);
+  edges = edges ∙ ap (λ (es : List Edge). es ++ record { from = narrow l; authority = a; to = narrow m } ∷ []) built.edges ∙ sym (one_more built_edge before (line, edge l a m) _ refl);
+}
+
+-- the lines behind a line
+pub build_none : (kind : Kind) (before : List Told) (line : Line) (left more : List Line) (all : List Told) → left ≡ line ∷ more → before ++ told kind left ≡ all → said kind line ≡ None
+    → before ++ told kind more ≡ all
+build_none kind before line left more all is so_far none =
+    ap (λ ts. before ++ (ts ++ told kind more)) (sym (told_none kind line none)) ∙ ap (λ ts. before ++ ts) (sym (ap (told kind) is ∙ told-cons kind line more)) ∙ so_far
+
+pub build_one : (kind : Kind) (before : List Told) (line : Line) (e : Entry) (left more : List Line) (all : List Told) → left ≡ line ∷ more → before ++ told kind left ≡ all → said kind line ≡ Some e
+    → (before ++ (line, e) ∷ []) ++ told kind more ≡ all
+build_one kind before line e left more all is so_far says =
+    append_assoc before ((line, e) ∷ []) (told kind more) ∙ ap (λ ts. before ++ (ts ++ told kind more)) (sym (told_one kind line e says))
+    ∙ ap (λ ts. before ++ ts) (sym (ap (told kind) is ∙ told-cons kind line more)) ∙ so_far
+
+pub builds_object : (old : Parts) (objects : List (List ℕ × ℕ)) (word n : List ℕ) (r : Result (Unit {0}) NoMemory) → is_name word ≡ true → OnOk r (objects ≡ old.objects ++ (word, narrow n) ∷ [])
+    → OnOk r (Builds (object word n) old (record { labels = old.labels; objects = objects; edges = old.edges }))
+builds_object old objects word n (Ok x) name pushed = λ before line built. built_object_more old _ before line word n built name refl pushed refl
+builds_object old objects word n (Err e) name pushed = tt

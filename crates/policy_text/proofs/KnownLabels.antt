@@ -1,0 +1,50 @@
+-- The numbers of labels, after one label more.
+use Rattle.std.proofs.Common.{◌≡◌, ◌∙◌, ap, sym, refl, ℕ, ◌+◌, ◌<◌, ◌^◌, ◌==◌, nat_lt, Bool, true, false, cond, ◌||◌, List, [], ◌∷◌, length, take, get_or, is_some, arith}
+use Rattle.std.specs.BTreeMap.{is_at}
+use Rattle.std.specs.BTreeSet.{BTreeSet, contains, Updates}
+use Rattle.std.specs.List.{list_any}
+use Rattle.std.specs.Ordering.{nat_cmp, is_eq}
+use Rattle.std.proofs.lemmas.Bool.{eqb-true}
+use Rattle.std.proofs.lemmas.Bool.Decides.{nat_tests}
+use Rattle.std.proofs.lemmas.List.Folds.{list_any_more}
+use Rattle.std.proofs.Math.Bool.{or_comm}
+use Rattle.auth_kinds.specs.Policies.{label_name}
+use Rattle.policy_text.specs.KnownNumbers.{IsSmall}
+
+same_number : (k q : ℕ) → is_eq (nat_cmp k q) ≡ (k == q)
+same_number k q = go (nat_lt k q) (k == q) refl refl
+  where
+    go : (a b : Bool) → nat_lt k q ≡ a → (k == q) ≡ b → is_eq (nat_cmp k q) ≡ (k == q)
+    go true true l s = absurd (grind (arith, nat_tests))
+    go true false l s = rw (l, s) refl
+    go false true l s = rw (l, s) refl
+    go false false l s = rw (l, s) refl
+
+is_named : (labels : List (ℕ × List ℕ)) (n : ℕ) → is_some (label_name labels n) ≡ list_any (λ l. l.0 == n) labels
+is_named [] n = refl
+is_named (l ∷ ls) n = go (l.0 == n) refl (is_named ls n)
+  where
+    go : (b : Bool) → (l.0 == n) ≡ b → is_some (label_name ls n) ≡ list_any (λ l. l.0 == n) ls → is_some (label_name (l ∷ ls) n) ≡ list_any (λ l. l.0 == n) (l ∷ ls)
+    go true e rest = rw e refl
+    go false e rest = rw e rest
+
+pub named_more : (labels : List (ℕ × List ℕ)) (i : ℕ) (l : ℕ × List ℕ) (n : ℕ) → i < length labels → l ≡ get_or labels i l → is_some (label_name (take (i + 1) labels) n) ≡ (l.0 == n || is_some (label_name (take i labels) n))
+named_more labels i l n lt is =
+    is_named (take (i + 1) labels) n ∙ list_any_more (λ m. m.0 == n) labels i l lt
+    ∙ or_comm (list_any (λ m. m.0 == n) (take i labels)) ((get_or labels i l).0 == n)
+    ∙ ap (λ (m : ℕ × List ℕ). m.0 == n || list_any (λ m. m.0 == n) (take i labels)) (sym is)
+    ∙ ap (λ (b : Bool). l.0 == n || b) (sym (is_named (take i labels) n))
+
+cond_or : (a b : Bool) → cond a true b ≡ (a || b)
+cond_or true b = refl
+cond_or false b = refl
+
+pub has_more : (old new : BTreeSet ℕ) (k n : ℕ) → Updates nat_cmp old new k true → contains nat_cmp new n ≡ (k == n || contains nat_cmp old n)
+has_more old new k n updates = updates.0 n ∙ cond_or (is_at (nat_cmp k) n) (contains nat_cmp old n) ∙ ap (λ (b : Bool). b || contains nat_cmp old n) (same_number k n)
+
+pub small_more : (old new : BTreeSet ℕ) (k : ℕ) → k < 2 ^ 32 → IsSmall old → Updates nat_cmp old new k true → IsSmall new
+small_more old new k few small updates n h = go (k == n) refl
+  where
+    go : (b : Bool) → (k == n) ≡ b → n < 2 ^ 32
+    go true e = let same : k ≡ n = eqb-true k n e in omega arith
+    go false e = small n (ap (λ (b : Bool). b || contains nat_cmp old n) (sym e) ∙ sym (has_more old new k n updates) ∙ h)

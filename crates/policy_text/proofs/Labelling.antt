@@ -1,0 +1,77 @@
+-- A table of the labels of objects that is filled line by line, and the labels of a spec's objects.
+use Rattle.std.proofs.Common.{◌≡◌, ◌∙◌, ap, sym, refl, ℕ, ◌+◌, ◌<◌, Bool, true, false, cond, List, ◌∷◌, Option, Some, None, length, drop, get_or, is_some, true≢false, Result, Ok, Err, subst}
+use mathlib.Core.Path.{fun_ext}
+use Rattle.std.specs.Map.{update}
+use Rattle.std.specs.Option.{option_or}
+use Rattle.std.specs.Str.{bytes_eq}
+use Rattle.std.proofs.lemmas.List.{at_drop_more}
+use Rattle.std.proofs.lemmas.Slice.Eq.{bytes_eq-Decides}
+use Rattle.std.specs.Result.{IsErrAnd}
+use Rattle.auth_kinds.specs.declared.object_labels.Labels.{Labels}
+use Rattle.auth_kinds.specs.declared.policy.Policy.{Policy}
+use Rattle.cam_base.specs.declared.error.Refused.{Refused}
+use Rattle.cam_base.specs.declared.text_fault.TextFault.{TextFault}
+use Rattle.cap_model.specs.declared.spec.Entry.{Entry}
+use Rattle.cap_model.specs.declared.spec.Spec.{Spec}
+use Rattle.policy_text.specs.Labelled.{object_label, unlabelled, first_unlabelled, IsLabelling}
+use Rattle.policy_text.specs.PolicyTexts.{IsFault}
+
+or_none : (o : Option ℕ) → o ≡ option_or o None
+or_none None = refl
+or_none (Some x) = refl
+
+-- what a table finds after the insertion of a key that was not there
+pub inserted_label : (f g : List ℕ → Option ℕ) (key : List ℕ) (x : ℕ) → is_some (f key) ≡ false
+    → ((name : List ℕ) → g name ≡ update bytes_eq f key (Some x) name) → (name : List ℕ) → g name ≡ option_or (f name) (cond (bytes_eq key name) (Some x) None)
+inserted_label f g key x absent updates name = go (bytes_eq key name) refl
+  where
+    none_or : (o : Option ℕ) → is_some o ≡ false → Some x ≡ option_or o (Some x)
+    none_or None e = refl
+    none_or (Some y) e = absurd (true≢false e)
+
+    go : (a : Bool) → bytes_eq key name ≡ a → g name ≡ option_or (f name) (cond (bytes_eq key name) (Some x) None)
+    go true e = updates name ∙ rw e (none_or (f name) (ap (λ k. is_some (f k)) (sym ((bytes_eq-Decides key name).0 e)) ∙ absent))
+    go false e = updates name ∙ rw e (or_none (f name))
+
+first_label : (o : List ℕ × ℕ) (more : List (List ℕ × ℕ)) (name : List ℕ) → object_label (o ∷ more) name ≡ cond (bytes_eq o.0 name) (Some o.1) (object_label more name)
+first_label o more name = go (bytes_eq o.0 name) refl
+  where
+    go : (b : Bool) → bytes_eq o.0 name ≡ b → object_label (o ∷ more) name ≡ cond (bytes_eq o.0 name) (Some o.1) (object_label more name)
+    go true e = rw e refl
+    go false e = rw e refl
+
+or_either : (o : Option ℕ) (b : Bool) (x : ℕ) (more : Option ℕ) → option_or (option_or o (cond b (Some x) None)) more ≡ option_or o (cond b (Some x) more)
+or_either None true x more = refl
+or_either None false x more = refl
+or_either (Some y) b x more = refl
+
+-- one object line more
+pub label_more : (name : List ℕ) (objects : List (List ℕ × ℕ)) (i : ℕ) (o : List ℕ × ℕ) (f g all : Option ℕ) → i < length objects → o ≡ get_or objects i o
+    → option_or f (object_label (drop i objects) name) ≡ all → g ≡ option_or f (cond (bytes_eq o.0 name) (Some o.1) None)
+    → option_or g (object_label (drop (i + 1) objects) name) ≡ all
+label_more name objects i o f g all lt is before after =
+    ap (λ k. option_or k (object_label (drop (i + 1) objects) name)) after
+    ∙ or_either f (bytes_eq o.0 name) o.1 (object_label (drop (i + 1) objects) name)
+    ∙ ap (option_or f) (sym (first_label o (drop (i + 1) objects) name))
+    ∙ ap (λ (p : List ℕ × ℕ). option_or f (object_label (p ∷ drop (i + 1) objects) name)) is
+    ∙ ap (option_or f) (sym (at_drop_more (λ os. object_label os name) objects i o lt))
+    ∙ before
+
+-- an object without a label is the first one, where those in front of it have labels
+first_without : (label : List ℕ → Option ℕ) (entry : Entry) (more : List Entry) → label entry.name ≡ None → first_unlabelled label (entry ∷ more) ≡ Some (unlabelled entry)
+first_without label entry more none = rw none refl
+
+pub unlabelled_at : (label : List ℕ → Option ℕ) (entries : List Entry) (i : ℕ) (entry : Entry) → i < length entries → entry ≡ get_or entries i entry → label entry.name ≡ None
+    → first_unlabelled label (drop i entries) ≡ first_unlabelled label entries → first_unlabelled label entries ≡ Some (unlabelled entry)
+unlabelled_at label entries i entry lt is none so_far =
+    sym so_far ∙ at_drop_more (λ (es : List Entry). first_unlabelled label es) entries i entry lt
+    ∙ ap (λ (e : Entry). first_unlabelled label (e ∷ drop (i + 1) entries)) (sym is) ∙ first_without label entry (drop (i + 1) entries) none
+
+-- the refusal of the first object without a label
+pub labelling_fails : (spec : Spec) (policy : Policy) (label : List ℕ → Option ℕ) (entry : Entry) (answer : Result Labels (Refused TextFault)) (r : Refused TextFault)
+    → ((name : List ℕ) → label name ≡ object_label policy.objects name) → first_unlabelled label spec.entries ≡ Some (unlabelled entry) → IsErrAnd answer (λ other. other ≡ r)
+    → IsFault (Some (unlabelled entry)) r → IsLabelling spec policy answer
+labelling_fails spec policy label entry (Ok x) r same first is h = absurd is
+labelling_fails spec policy label entry (Err other) r same first is h =
+    let fault : first_unlabelled (object_label policy.objects) spec.entries ≡ Some (unlabelled entry) = ap (λ (f : List ℕ → Option ℕ). first_unlabelled f spec.entries) (sym (fun_ext same)) ∙ first in
+    subst (λ (o : Option TextFault). IsFault o other) (sym fault) (subst (λ (e : Refused TextFault). IsFault (Some (unlabelled entry)) e) (sym is) h)

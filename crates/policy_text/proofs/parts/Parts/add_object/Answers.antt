@@ -1,0 +1,10 @@
+use Rattle.std.proofs.Common.{sym}
+use Rattle.policy_text.proofs.Building.{built_object_none, builds_object}
+use Rattle.policy_text.proofs.parts.Parts.add_object.Goals as goal
+
+pub returns-then-not-is_name : goal.returns-then-not-is_name
+returns-then-not-is_name c = λ before line built. built_object_none c.args.self.now before line c.args.word.now c.args.number.now built (sym c.if-not-is_name.ensures)
+
+pub returns : goal.returns
+returns c =
+    builds_object c.args.self.now c.push.new.self c.args.word.now c.args.number.now c.push.result (sym c.if-not-is_name.ensures) (rw (c.in_ok-name.ensures, c.narrow.ensures) at c.push.ensures.ok)

@@ -1,0 +1,42 @@
+-- What is kept of the lines in front of a line.
+use Rattle.std.specs.Prelude.{◌≡◌, ℕ, Bool, List, [], ◌∷◌, ◌++◌, count_by, Option, None, Result, Ok, Err}
+use Rattle.std.specs.Borrow.{Bor}
+use Rattle.std.specs.List.{list_any}
+use Rattle.std.specs.Option.{option_map}
+use Rattle.cam_base.specs.declared.error.Refused.{Refused}
+use Rattle.cam_base.specs.declared.text_fault.TextCode.{TextCode}
+use Rattle.cam_base.specs.declared.text_fault.TextFault.{TextFault}
+use Rattle.policy_text.specs.Entries.{Number, Entry}
+use Rattle.policy_text.specs.PolicyFaults.{Told, gives, names_label, labels_object, says_edge, is_label, is_object, new_edges, wrong_entry, first_wrong}
+use Rattle.policy_text.specs.PolicyTexts.{told, IsFault}
+use Rattle.policy_text.specs.WordSets.{has, words_len}
+use Rattle.policy_text.specs.declared.kind.Kind.{Kind}
+use Rattle.policy_text.specs.declared.seen.Seen.{Seen}
+use Rattle.text_lines.specs.LineFaults.{Wrong}
+use Rattle.text_lines.specs.Lines.{Line}
+
+-- what these lines have said
+pub record IsSeen (seen : Seen) (before : List Told) : Type 0 where
+  pub numbers : (n : List ℕ) → has seen.numbers n ≡ list_any (λ t. gives n t.1) before
+  pub names : (name : List ℕ) → has seen.names name ≡ list_any (λ t. names_label name t.1) before
+  pub objects : (word : List ℕ) → has seen.objects word ≡ list_any (λ t. labels_object word t.1) before
+  pub edges : (text : List ℕ) → has seen.edges text ≡ list_any (says_edge text) before
+  pub labels_len : words_len seen.numbers ≡ count_by (λ t. is_label t.1) before
+  pub objects_len : words_len seen.objects ≡ count_by (λ t. is_object t.1) before
+  pub edges_len : words_len seen.edges ≡ new_edges [] before
+
+-- what was kept of some lines is kept of one line more, which says an entry with which nothing is wrong
+abbrev pub Takes : Entry → List ℕ → Seen → Seen → Type 0
+Takes entry text old new =
+    (before : List Told) (knows : Number → Bool) (line : Line) → line.text ≡ text → IsSeen old before
+    → wrong_entry knows before line entry ≡ None → IsSeen new (before ++ (line, entry) ∷ [])
+
+-- a code, and the name that a fault speaks of
+abbrev pub what : Option (TextCode × Bor (List ℕ)) → Option Wrong
+what = option_map (λ w. (w.0, w.1.now))
+
+-- a line was taken in behind these, or refused by its fault
+abbrev pub IsLineJudged : Kind → (Number → Bool) → List Told → Line → Seen → Result (Unit {0}) (Refused TextFault) → Type 0
+IsLineJudged kind knows before line seen (Ok _) =
+    (first_wrong knows before (told kind (line ∷ [])) ≡ None) × IsSeen seen (before ++ told kind (line ∷ []))
+IsLineJudged kind knows before line seen (Err refusal) = IsFault (first_wrong knows before (told kind (line ∷ []))) refusal

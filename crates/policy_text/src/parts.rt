@@ -1,0 +1,111 @@
+//! What the lines of a text say together.
+
+ghost use Rattle.policy_text.specs.Entries.{label, object, edge};
+ghost use Rattle.policy_text.specs.EntriesRead.{meant};
+ghost use Rattle.policy_text.specs.PartsBuilt.{IsBuilt, Builds, IsPolicyOf};
+ghost use Rattle.policy_text.specs.PolicyTexts.{body, told};
+ghost use Rattle.std.specs.Prelude.{[], IfOk, OnOk};
+
+use crate::entry::{Entry, read_entry};
+use crate::head::body;
+use crate::kind::Kind;
+use crate::number::narrow;
+use auth_kinds::{Authority, Edge, EdgeTable, Policy};
+use cam_base::{List, Name, NoMemory, Text, is_name};
+use std::alloc::Global;
+use std::collections::BTreeMap;
+
+/// What lines say: labels by number, objects and edges in the order of their lines. Numbers that pass 32 bits, and words that are
+/// no names, stand in no text without faults.
+#[derive(Drop)]
+pub struct Parts {
+    pub labels: BTreeMap<u32, Text>,
+    pub objects: List<(Name, u32)>,
+    pub edges: Vec<Edge>,
+}
+
+impl Parts {
+    fn none(alloc: Global) -> Parts
+        ensures { IsBuilt result [] }
+    {
+        Parts {
+            labels: BTreeMap::new(alloc),
+            objects: List::new(alloc),
+            edges: Vec::new(alloc),
+        }
+    }
+
+    /// What the lines behind the header say.
+    pub fn of(alloc: Global, kind: Kind, bytes: &[u8]) -> Result<Parts, NoMemory>
+        ensures { IfOk result (λ parts. IsBuilt parts (told kind (body bytes.now))) }
+    {
+        let mut parts = Parts::none(alloc);
+        for line in body(bytes) {
+            if let Some(entry) = read_entry(kind, line.text) {
+                parts.add(alloc, entry)?;
+            }
+        }
+        Ok(parts)
+    }
+
+    fn add(&mut self, alloc: Global, entry: Entry) -> Result<(), NoMemory>
+        ensures { OnOk result (Builds (meant entry.entry) self.old self.new) }
+    {
+        match entry {
+            Entry::Label { number, name } => self.add_label(alloc, number, name),
+            Entry::Object { word, number } => self.add_object(alloc, word, number),
+            Entry::Edge {
+                from,
+                authority,
+                to,
+            } => self.add_edge(from, authority, to),
+        }
+    }
+
+    fn add_label(&mut self, alloc: Global, number: &[u8], name: &[u8]) -> Result<(), NoMemory>
+        ensures { OnOk result (Builds (label number.now name.now) self.old self.new) }
+    {
+        let text = Text::new(alloc, name)?;
+        self.labels.insert(narrow(number), text)?;
+        Ok(())
+    }
+
+    fn add_object(&mut self, alloc: Global, word: &[u8], number: &[u8]) -> Result<(), NoMemory>
+        ensures { OnOk result (Builds (object word.now number.now) self.old self.new) }
+    {
+        if !is_name(word) {
+            return Ok(());
+        }
+        let name = Name::of_identifier(alloc, word)?;
+        self.objects.push((name, narrow(number)))
+    }
+
+    fn add_edge(&mut self, from: &[u8], authority: Authority, to: &[u8]) -> Result<(), NoMemory>
+        ensures { OnOk result (Builds (edge from.now authority to.now) self.old self.new) }
+    {
+        self.edges.push(Edge {
+            from: narrow(from),
+            authority,
+            to: narrow(to),
+        })?;
+        Ok(())
+    }
+
+    /// The policy of the parts.
+    pub fn into_policy(self, alloc: Global) -> Result<Policy, NoMemory>
+        ensures { IfOk result (IsPolicyOf self) }
+    {
+        let Parts {
+            labels,
+            objects,
+            edges,
+        } = self;
+        let edges = EdgeTable::from_list(alloc, edges.as_slice())?;
+        let labels = labels.into_iter().collect(alloc)?;
+        Ok(Policy {
+            labels: List::from_vec(labels),
+            objects,
+            edges,
+        })
+    }
+}

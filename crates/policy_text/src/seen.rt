@@ -1,0 +1,155 @@
+//! What the lines in front of a line have said.
+
+ghost use Rattle.auth_kinds.specs.declared.authority.Authority.{Authority};
+ghost use Rattle.policy_text.specs.Entries.{Number, label, object, edge};
+ghost use Rattle.policy_text.specs.EntriesRead.{meant};
+ghost use Rattle.policy_text.specs.KnownNumbers.{knows};
+ghost use Rattle.policy_text.specs.LinesSeen.{IsSeen, Takes, what, IsLineJudged};
+ghost use Rattle.policy_text.specs.PolicyFaults.{Told, wrong_entry};
+ghost use Rattle.std.specs.Prelude.{◌≡◌, [], List, Bool, OnOk};
+ghost use Rattle.text_lines.specs.Lines.{Line as SpecLine};
+ghost use Rattle.text_lines.specs.LinesLeft.{line_of};
+
+use crate::entry::{Entry, read_entry};
+use crate::kind::Kind;
+use crate::known::Known;
+use crate::number::is_past;
+use crate::words::Words;
+use cam_base::{NoMemory, Refused, TextCode, TextFault};
+use std::alloc::Global;
+use text_lines::{Line, refusal};
+
+/// The most labels of a text.
+pub const MAX_LABELS: usize = 8192;
+
+/// The most objects of a text.
+pub const MAX_OBJECTS: usize = 262_144;
+
+/// The most different edges of a text.
+pub const MAX_EDGES: usize = 262_144;
+
+/// The most bytes of an object's word.
+const MAX_WORD: usize = 127;
+
+/// What the lines in front of a line have said: labels by number and by name, objects, and edges by their lines.
+#[derive(Drop)]
+pub struct Seen<'a> {
+    pub numbers: Words<'a>,
+    pub names: Words<'a>,
+    pub objects: Words<'a>,
+    pub edges: Words<'a>,
+}
+
+impl<'a> Seen<'a> {
+    /// Nothing is said. Takes no memory.
+    pub fn nothing(alloc: Global) -> Seen<'a>
+        ensures { IsSeen result [] }
+    {
+        Seen {
+            numbers: Words::new(alloc),
+            names: Words::new(alloc),
+            objects: Words::new(alloc),
+            edges: Words::new(alloc),
+        }
+    }
+
+    /// Takes a line in, or refuses it by its fault.
+    pub fn read_line(
+        &mut self,
+        alloc: Global,
+        kind: Kind,
+        known: &Known,
+        line: Line<'a>,
+    ) -> Result<(), Refused<TextFault>>
+        ensures { (before : List Told) → IsSeen self.old before
+            → IsLineJudged kind (knows known.now) before (line_of line.entry) self.new result }
+    {
+        let Some(entry) = read_entry(kind, line.text) else {
+            return Ok(());
+        };
+        if let Some((code, name)) = self.wrong(known, line.text, entry) {
+            return Err(refusal(alloc, line, code, name));
+        }
+        Ok(self.add(line.text, entry)?)
+    }
+
+    /// What is wrong with the entry of a line: the least code, and the name that its fault speaks of.
+    fn wrong(&self, known: &Known, text: &'a [u8], entry: Entry<'a>) -> Option<(TextCode, &'a [u8])>
+        ensures { (before : List Told) (line : SpecLine) → line.text ≡ text.entry.now → IsSeen self.now before
+            → what result ≡ wrong_entry (knows known.now) before line (meant entry.entry) }
+    {
+        match entry {
+            Entry::Label { number, name } => self.wrong_label(number, name),
+            Entry::Object { word, number } => self.wrong_object(known, word, number),
+            Entry::Edge { from, to, .. } => self.wrong_edge(known, text, from, to),
+        }
+    }
+
+    fn wrong_label(&self, number: &'a [u8], name: &[u8]) -> Option<(TextCode, &'a [u8])>
+        ensures { (before : List Told) (knows : Number → Bool) (line : SpecLine) → IsSeen self.now before
+            → what result ≡ wrong_entry knows before line (label number.entry.now name.now) }
+    {
+        if self.numbers.has(number) || self.names.has(name) {
+            Some((TextCode::LabelTwice, number))
+        } else if is_past(number) || self.numbers.len() >= MAX_LABELS {
+            Some((TextCode::PolicyLimit, b""))
+        } else {
+            None
+        }
+    }
+
+    fn wrong_object(
+        &self,
+        known: &Known,
+        word: &'a [u8],
+        number: &'a [u8],
+    ) -> Option<(TextCode, &'a [u8])>
+        ensures { (before : List Told) (line : SpecLine) → IsSeen self.now before
+            → what result ≡ wrong_entry (knows known.now) before line (object word.entry.now number.entry.now) }
+    {
+        if !known.has(number) {
+            Some((TextCode::UnknownLabel, number))
+        } else if self.objects.has(word) {
+            Some((TextCode::ObjectTwice, word))
+        } else if word.len() > MAX_WORD || self.objects.len() >= MAX_OBJECTS {
+            Some((TextCode::PolicyLimit, b""))
+        } else {
+            None
+        }
+    }
+
+    fn wrong_edge(
+        &self,
+        known: &Known,
+        text: &[u8],
+        from: &'a [u8],
+        to: &'a [u8],
+    ) -> Option<(TextCode, &'a [u8])>
+        ensures { (before : List Told) (line : SpecLine) (a : Authority) → line.text ≡ text.now → IsSeen self.now before
+            → what result ≡ wrong_entry (knows known.now) before line (edge from.entry.now a to.entry.now) }
+    {
+        if !known.has(from) {
+            Some((TextCode::UnknownLabel, from))
+        } else if !known.has(to) {
+            Some((TextCode::UnknownLabel, to))
+        } else if !self.edges.has(text) && self.edges.len() >= MAX_EDGES {
+            Some((TextCode::PolicyLimit, b""))
+        } else {
+            None
+        }
+    }
+
+    /// Takes in the entry of a line with which nothing is wrong.
+    fn add(&mut self, text: &'a [u8], entry: Entry<'a>) -> Result<(), NoMemory>
+        ensures { OnOk result (Takes (meant entry.entry) text.entry.now self.old self.new) }
+    {
+        match entry {
+            Entry::Label { number, name } => {
+                self.numbers.add(number)?;
+                self.names.add(name)
+            }
+            Entry::Object { word, .. } => self.objects.add(word),
+            Entry::Edge { .. } => self.edges.add(text),
+        }
+    }
+}
