@@ -58,7 +58,7 @@ at_most f (x ∷ xs) h =
     let b = h 0 x refl in
     omega (arith, ih, a, b)
 
-one_each : {X Y : Type 0} (f : ℕ → X → List Y) (xs : List X) → ((k : ℕ) (x : X) → length (f k x) ≤ 1) → length (gather f xs) ≤ length xs
+pub one_each : {X Y : Type 0} (f : ℕ → X → List Y) (xs : List X) → ((k : ℕ) (x : X) → length (f k x) ≤ 1) → length (gather f xs) ≤ length xs
 one_each f [] h = omega arith
 one_each f (x ∷ xs) h =
     let ih = one_each (λ n z. f (suc n) z) xs (λ k z. h (suc k) z) in
@@ -83,14 +83,14 @@ few_at t can l d x e =
 
 -- ---- frames
 
-own_one : (d : ℕ) (s : Shown) → length (own_frame d s) ≤ 1
+pub own_one : (d : ℕ) (s : Shown) → length (own_frame d s) ≤ 1
 own_one d (Own fill) = omega arith
 own_one d (Memory k j) = omega arith
 
-own_few : (t : Given) → length (own_part t) ≤ sum (page_counts t)
+pub own_few : (t : Given) → length (own_part t) ≤ sum (page_counts t)
 own_few t = within_sum (own_frames t) (λ n (x : Domain). length (mapped_pages t n)) t.flat.domains (λ k x. one_each (λ n (p : MappedPage). own_frame k p.shown) (mapped_pages t k) (λ n p. own_one k p.shown))
 
-shared_few : (t : Given) → CanLay t → length (shared_part t.flat t.settled) ≤ 65536 * length t.flat.connections
+pub shared_few : (t : Given) → CanLay t → length (shared_part t.flat t.settled) ≤ 65536 * length t.flat.connections
 shared_few t can = at_most (shared_frames t.settled) t.flat.connections (λ k c e. by_test k c (is_shared c.connector) (can.memory k c e))
   where
     by_test : (k : ℕ) (c : FlatConnection) (b : Bool) → memory_pages t.settled k c ≤ 65536
@@ -98,7 +98,7 @@ shared_few t can = at_most (shared_frames t.settled) t.flat.connections (λ k c 
     by_test k c true l = let n = length-map-range_with_len (λ j. frame (OfConnection k) None None) 0 (memory_pages t.settled k c) in omega (arith, n, l)
     by_test k c false l = omega arith
 
-registers_few : (t : Given) → CanLay t → length (register_part t.flat t.settled) ≤ 65536 * length t.flat.connections
+pub registers_few : (t : Given) → CanLay t → length (register_part t.flat t.settled) ≤ 65536 * length t.flat.connections
 registers_few t can = at_most (register_frames t.flat t.settled) t.flat.connections (λ k c e. by_end k c (registers c) (can.memory k c e))
   where
     by_test : (k : ℕ) (c : FlatConnection) (f : FlatEnd) (b : Bool) → memory_pages t.settled k c ≤ 65536

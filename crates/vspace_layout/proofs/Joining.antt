@@ -21,13 +21,13 @@ use Rattle.vspace_layout.specs.Outlines.{all_counted, all_mapped, domain_counted
 use Rattle.vspace_layout.specs.PageLimits.{page_counts, table_counts, tables_needed}
 use Rattle.vspace_layout.proofs.Counting.{counted}
 
-abbrev here : Given → List ℕ → List MappedPage
+abbrev pub here : Given → List ℕ → List MappedPage
 here t leaves = domain_mapped t.flat t.settled (ends t) t.images leaves
 
 abbrev counted_here : Given → List ℕ → ℕ
 counted_here t leaves = domain_counted t.flat t.settled (ends t) t.images leaves
 
-mapped_here : (t : Given) (d : ℕ) (x : Domain) → slice_get t.flat.domains d ≡ Some x → mapped_pages t d ≡ here t x.leaves
+pub mapped_here : (t : Given) (d : ℕ) (x : Domain) → slice_get t.flat.domains d ≡ Some x → mapped_pages t d ≡ here t x.leaves
 mapped_here t d x e = ap (λ (o : Option Domain). here t (option_map_or (λ y. y.leaves) o [])) e
 
 count_here : (t : Given) (d : ℕ) (x : Domain) → slice_get t.flat.domains d ≡ Some x → length (mapped_pages t d) ≡ counted_here t x.leaves
@@ -53,11 +53,11 @@ tables_counted t =
 
 -- ---- frames
 
-gather_mapped : {X Y Z : Type 0} (g : ℕ → Y → List Z) (f : X → Y) (xs : List X) → gather g (map f xs) ≡ gather (λ n x. g n (f x)) xs
+pub gather_mapped : {X Y Z : Type 0} (g : ℕ → Y → List Z) (f : X → Y) (xs : List X) → gather g (map f xs) ≡ gather (λ n x. g n (f x)) xs
 gather_mapped g f [] = refl
 gather_mapped g f (x ∷ xs) = ap (λ z. g 0 (f x) ++ z) (gather_mapped (λ n y. g (suc n) y) f xs)
 
-take_mapped : {X Y : Type 0} (f : X → Y) (n : ℕ) (xs : List X) → take n (map f xs) ≡ map f (take n xs)
+pub take_mapped : {X Y : Type 0} (f : X → Y) (n : ℕ) (xs : List X) → take n (map f xs) ≡ map f (take n xs)
 take_mapped f zero [] = refl
 take_mapped f zero (x ∷ xs) = refl
 take_mapped f (suc n) [] = refl

@@ -34,13 +34,13 @@ use Rattle.vspace_layout.proofs.Joining.{own_before, own_gathered, own_number_of
 -- ---- lists
 
 -- one number from each element, read with a default
-ones_or : {X : Type 0} (f : ℕ → X → ℕ) (xs : List X) (k : ℕ) → get_or (gather (λ n x. f n x ∷ []) xs) k 0 ≡ option_map_or (λ x. f k x) (slice_get xs k) 0
+pub ones_or : {X : Type 0} (f : ℕ → X → ℕ) (xs : List X) (k : ℕ) → get_or (gather (λ n x. f n x ∷ []) xs) k 0 ≡ option_map_or (λ x. f k x) (slice_get xs k) 0
 ones_or f [] zero = refl
 ones_or f [] (suc k) = refl
 ones_or f (x ∷ xs) zero = refl
 ones_or f (x ∷ xs) (suc k) = ones_or (λ n z. f (suc n) z) xs k
 
-below : {X : Type 0} (xs : List X) (n : ℕ) (x : X) → slice_get xs n ≡ Some x → n < length xs
+pub below : {X : Type 0} (xs : List X) (n : ℕ) (x : X) → slice_get xs n ≡ Some x → n < length xs
 below [] n x e = cc
 below (y ∷ xs) zero x e = omega arith
 below (y ∷ xs) (suc n) x e = let ih = below xs n x e in omega (arith, ih)
@@ -54,7 +54,7 @@ number_same : (t : Given) (d n : ℕ) (s : Shown) → number_of (memory_firsts (
 number_same t d n (Own fill) = refl
 number_same t d n (Memory k j) = ap (λ m. m + j) (first_same t k)
 
-abbrev with_frame : MappedPage → ℕ → Page
+abbrev pub with_frame : MappedPage → ℕ → Page
 with_frame p frame = record { vaddr = p.at; frame = frame; write = p.write; read = p.read }
 
 pages_same : (t : Given) (d : ℕ)
@@ -82,7 +82,7 @@ pages_here t d x e =
 
 -- ---- threads and windows
 
-length_threads : (settled : Settled) (ts : List ThreadOf) → length (flat_map (thread_regions settled) ts) ≡ 2 * length ts
+pub length_threads : (settled : Settled) (ts : List ThreadOf) → length (flat_map (thread_regions settled) ts) ≡ 2 * length ts
 length_threads settled [] = refl
 length_threads settled (t ∷ ts) = let ih = length_threads settled ts in omega (arith, ih)
 
@@ -93,15 +93,15 @@ length_regions flat settled ts ws =
     let d = length-map ws (window_region flat settled) in
     omega (arith, a, b, d)
 
-start_same : (base : ℕ) (rs : List Region) (n : ℕ) → n < length rs → start_at (starts_in base rs) n ≡ region_start base rs n
+pub start_same : (base : ℕ) (rs : List Region) (n : ℕ) → n < length rs → start_at (starts_in base rs) n ≡ region_start base rs n
 start_same base rs n l =
     let x = at_place rs n l in
     ones_or (λ m (r : Region). region_start base rs m) rs n ∙ ap (λ (o : Option Region). option_map_or (λ r. region_start base rs n) o 0) x.1
 
-abbrev placed : ThreadOf → ℕ → ℕ → ThreadPlace
+abbrev pub placed : ThreadOf → ℕ → ℕ → ThreadPlace
 placed x sp buffer = record { leaf = x.leaf; end = x.end; sp = sp; buffer = buffer }
 
-abbrev seen_at : EndAt → ℕ → ℕ → Window
+abbrev pub seen_at : EndAt → ℕ → ℕ → Window
 seen_at e vaddr pages = record { end = e; vaddr = vaddr; pages = pages }
 
 threads_same : (t : Given) (d : ℕ) → thread_places t.settled (starts_in (base t) (regions t d)) (threads_of t d) ≡ gather (λ i x. thread_place t d i x ∷ []) (threads_of t d)

@@ -8,3 +8,9 @@ pub mod Limits
 pub mod Rising
 pub mod Sections
 pub mod Standing
+pub mod FirstPorts
+pub mod MemoryNumbers
+pub mod Numbering
+pub mod Starting
+pub mod Fit
+pub mod Joined

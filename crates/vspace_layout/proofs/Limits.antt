@@ -15,7 +15,7 @@ use Rattle.adl_meaning.specs.declared.item_at.ItemAt.{ItemAt}
 use Rattle.adl_meaning.specs.Faults.{least}
 use Rattle.adl_meaning.specs.Items.{assemblies}
 use Rattle.leaf_ends.specs.Limit.{fault_at, keyword, limit_fault, place_in}
-use Rattle.vspace_layout.specs.Counted.{capped}
+use Rattle.vspace_layout.specs.Counted.{capped, limit_over}
 use Rattle.vspace_layout.specs.PageLimits.{limits_passed}
 
 abbrev pub faults_of : Source → ℕ → ℕ → Option Fault
@@ -46,7 +46,7 @@ has_place : (xs : List (ItemAt × Assembly)) → length xs ≡ 1 → (p : Place)
 has_place [] l = absurd (omega arith)
 has_place (x ∷ xs) l = (x.1.place, refl)
 
-told : (source : Source) (n m : ℕ) → length (assemblies source) ≡ 1 → (p : Place) × (keyword source ≡ Some p) × (faults_of source n m ≡ option_map (fault_at p) (name_by (nat_lt 65536 n) (nat_lt 65536 m)))
+pub told : (source : Source) (n m : ℕ) → length (assemblies source) ≡ 1 → (p : Place) × (keyword source ≡ Some p) × (faults_of source n m ≡ option_map (fault_at p) (name_by (nat_lt 65536 n) (nat_lt 65536 m)))
 told source n m one =
     let p = has_place (assemblies source) one in (p.0, p.1, one_assembly n m (assemblies source) p.0 one p.1)
 
@@ -83,3 +83,41 @@ over_capped n l = omega arith
 
 pub within_capped : (n : ℕ) → capped n ≤ 65536 → n ≤ 65536
 within_capped n l = omega arith
+
+-- ---- as it is looked for
+
+-- a limit that is looked for and isn't passed
+not_over : (source : Source) (n : ℕ) (name : List ℕ) → length (assemblies source) ≡ 1 → limit_over source (capped n) name ≡ None → n ≤ 65536
+not_over source n name one none = by_test (ltb 65536 (capped n)) refl none
+  where
+    t : (p : Place) × (keyword source ≡ Some p) × (faults_of source 0 0 ≡ option_map (fault_at p) (name_by false false))
+    t = told source 0 0 one
+
+    there : limit_fault source name ≡ Some (fault_at t.0 name)
+    there = ap (λ o. option_map (λ place. fault_at place name) o) t.1
+
+    never : (f : Fault) (o : Option Fault) → o ≡ Some f → o ≡ None → ⊥
+    never f o e d = cc
+
+    by_test : (b : Bool) → ltb 65536 (capped n) ≡ b → cond b (limit_fault source name) None ≡ None → n ≤ 65536
+    by_test true e h = absurd (never (fault_at t.0 name) (limit_fault source name) there h)
+    by_test false e h = within_capped n (omega (arith, ltb-false 65536 (capped n) e))
+
+is_over : (source : Source) (n : ℕ) (name : List ℕ) (f : Fault) → limit_over source (capped n) name ≡ Some f → (65536 < n) × (limit_fault source name ≡ Some f)
+is_over source n name f some = by_test (ltb 65536 (capped n)) refl some
+  where
+    by_test : (b : Bool) → ltb 65536 (capped n) ≡ b → cond b (limit_fault source name) None ≡ Some f → (65536 < n) × (limit_fault source name ≡ Some f)
+    by_test true e h = (over_capped n (ltb-true 65536 (capped n) e), h)
+    by_test false e h = cc
+
+pub pages_within : (source : Source) (n : ℕ) → length (assemblies source) ≡ 1 → limit_over source (capped n) (codes "pages") ≡ None → n ≤ 65536
+pages_within source n one none = not_over source n (codes "pages") one none
+
+pub pages_over : (source : Source) (n m : ℕ) (f : Fault) → length (assemblies source) ≡ 1 → limit_over source (capped n) (codes "pages") ≡ Some f → faults_of source n m ≡ Some f
+pages_over source n m f one some = let o = is_over source n (codes "pages") f some in sym (pages_passed source n m one o.0) ∙ o.1
+
+pub tables_over : (source : Source) (n m : ℕ) (f : Fault) → length (assemblies source) ≡ 1 → n ≤ 65536 → limit_over source (capped m) (codes "tables") ≡ Some f → faults_of source n m ≡ Some f
+tables_over source n m f one k some = let o = is_over source m (codes "tables") f some in sym (tables_passed source n m one k o.0) ∙ o.1
+
+pub none_over : (source : Source) (n m : ℕ) → length (assemblies source) ≡ 1 → n ≤ 65536 → limit_over source (capped m) (codes "tables") ≡ None → faults_of source n m ≡ None
+none_over source n m one k none = none_passed source n m one k (not_over source m (codes "tables") one none)

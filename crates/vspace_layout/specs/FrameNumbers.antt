@@ -1,9 +1,11 @@
 -- The numbers of frames, as they are given: own frames one behind another, and the frames of memory behind all of them.
-use Rattle.std.specs.Prelude.{◌≡◌, ◌<◌, ◌+◌, ◌^◌, ℕ, Bool, true, false, List, [], ◌∷◌, length, map, take, sum, slice_index_or, Option, Some, None, slice_get}
+use Rattle.std.specs.Prelude.{◌≡◌, ◌<◌, ◌+◌, ◌^◌, ◌==◌, if◌then◌else◌, ℕ, Bool, true, false}
+use Rattle.std.specs.Prelude.{List, [], ◌∷◌, length, map, sum, slice_index_or, Option, Some, slice_get}
 use Rattle.std.specs.List.{count_by}
 use Rattle.std.specs.Option.{option_map_or}
 use Rattle.adl_meaning.specs.declared.flat.Flat.{Flat}
 use Rattle.adl_meaning.specs.declared.flat.FlatConnection.{FlatConnection}
+use Rattle.adl_meaning.specs.declared.flat.FlatEnd.{FlatEnd}
 use Rattle.adl_meaning.specs.declared.settled.Settled.{Settled}
 use Rattle.numbering.specs.Gather.{before, gather}
 use Rattle.vspace_layout.specs.declared.mapped.MappedPage.{MappedPage}
@@ -11,8 +13,8 @@ use Rattle.vspace_layout.specs.declared.mapped.Shown.{Shown}
 use Rattle.vspace_layout.specs.declared.mapped.Shown.TheVariants.{Own, Memory}
 use Rattle.vspace_layout.specs.declared.spaces.FrameInfo.{FrameInfo}
 use Rattle.vspace_layout.specs.declared.spaces.Page.{Page}
-use Rattle.vspace_layout.specs.Frames.{memory_before, own_frame, register_frames, shared_frames}
-use Rattle.vspace_layout.specs.Memory.{first_to, memory_pages, registers}
+use Rattle.vspace_layout.specs.Frames.{device_frames, memory_before, own_frame}
+use Rattle.vspace_layout.specs.Memory.{memory_paddr, memory_pages, registers}
 
 -- of what a page shows, where `at` is the number of the next own frame, and firsts has the number of the first frame of each
 -- connection's memory
@@ -25,10 +27,10 @@ abbrev pub IsNumbered : List ℕ → Shown → Type 0
 IsNumbered firsts (Own fill) = Unit {0}
 IsNumbered firsts (Memory k j) = (k < length firsts) × (slice_index_or firsts k 0 + j < 2 ^ 32)
 
--- a page of a connection's memory is one that it has
-abbrev pub IsOfMemory : Flat → Settled → Shown → Type 0
-IsOfMemory flat settled (Own fill) = Unit {0}
-IsOfMemory flat settled (Memory k j) = (c : FlatConnection) × (slice_get flat.connections k ≡ Some c) × (j < memory_pages settled k c)
+abbrev pub AreAllNumbered : List ℕ → List (List MappedPage) → Type 0
+AreAllNumbered firsts mapped =
+    (d n : ℕ) (pages : List MappedPage) (page : MappedPage)
+    → slice_get mapped d ≡ Some pages → slice_get pages n ≡ Some page → IsNumbered firsts page.shown
 
 -- the own frames of these pages
 abbrev pub own_added : ℕ → List MappedPage → List FrameInfo
@@ -41,6 +43,10 @@ numbered_page d firsts at pages n p =
 -- the pages of a domain, where so many frames stand before its own
 abbrev pub pages_numbered : ℕ → List ℕ → ℕ → List MappedPage → List Page
 pages_numbered d firsts at pages = gather (λ n p. numbered_page d firsts at pages n p ∷ []) pages
+
+-- the same of all domains, where so many frames stand before all own ones
+abbrev pub all_numbered : List ℕ → ℕ → List (List MappedPage) → List (List Page)
+all_numbered firsts at mapped = gather (λ d pages. pages_numbered d firsts (at + before own_added mapped d) pages ∷ []) mapped
 
 -- ---- counts
 
@@ -63,20 +69,30 @@ memory_first own flat settled k c = own + memory_before flat settled k c
 abbrev pub memory_firsts : ℕ → Flat → Settled → List ℕ
 memory_firsts own flat settled = gather (λ k c. memory_first own flat settled k c ∷ []) flat.connections
 
-abbrev pub shared_counts : Flat → Settled → List ℕ
-shared_counts flat settled = gather (λ k c. length (shared_frames settled k c) ∷ []) flat.connections
+-- for each element how many things stand before those that it gives, where so many stand before all
+abbrev pub places_of : {X Y : Type 0} → ℕ → (ℕ → X → List Y) → List X → List ℕ
+places_of start f xs = gather (λ k x. (start + before f xs k) ∷ []) xs
 
-abbrev pub register_counts : Flat → Settled → List ℕ
-register_counts flat settled = gather (λ k c. length (register_frames flat settled k c) ∷ []) flat.connections
+abbrev pub is_that : Option ℕ → ℕ → Bool
+is_that first k = option_map_or (λ n. n == k) first false
 
--- for each number the sum of a start and of those before it
-abbrev pub sums_before : ℕ → List ℕ → List ℕ
-sums_before start ns = gather (λ n x. (start + sum (take n ns)) ∷ []) ns
+abbrev pub frames_where : Settled → Bool → ℕ → FlatConnection → FlatEnd → List FrameInfo
+frames_where settled is_first k c e =
+    if is_first then device_frames e.leaf (memory_paddr settled k c) (memory_pages settled k c) else []
 
-abbrev pub first_in : List ℕ → Option ℕ → ℕ
-first_in sums None = 0
-first_in sums (Some n) = slice_index_or sums n 0
+-- the frames of a connection's registers, by the first connection to them
+abbrev pub frames_by : Settled → Option ℕ → ℕ → FlatConnection → List FrameInfo
+frames_by settled first k c = option_map_or (frames_where settled (is_that first k) k c) (registers c) []
 
--- the first frame of the memory of connection k, by those of shared memory and of registers
-abbrev pub first_of : Flat → List ℕ → List ℕ → ℕ → FlatConnection → ℕ
-first_of flat shared registered k c = option_map_or (λ e. first_in registered (first_to flat e)) (registers c) (slice_index_or shared k 0)
+-- how many frames of memory stand before those of connection k, by those before what each adds to shared memory and to
+-- registers, and by the first connection to its registers
+abbrev pub first_of : List ℕ → List ℕ → Option ℕ → ℕ → ℕ
+first_of shared registered first k = option_map_or (λ n. slice_index_or registered n 0) first (slice_index_or shared k 0)
+
+abbrev pub firsts_from : ℕ → List ℕ → List ℕ → List (Option ℕ) → List ℕ
+firsts_from own shared registered numbers = gather (λ k first. (own + first_of shared registered first k) ∷ []) numbers
+
+pub record AreFirsts (own : ℕ) (shared registered : List ℕ) (numbers : List (Option ℕ)) : Type 0 where
+  pub each : length shared ≡ length numbers
+  pub listed : (k n : ℕ) → slice_get numbers k ≡ Some (Some n) → n < length registered
+  pub few : (k : ℕ) (first : Option ℕ) → slice_get numbers k ≡ Some first → own + first_of shared registered first k < 2 ^ 64

@@ -8,6 +8,7 @@ pub mod MappedPages
 pub mod Memory
 pub mod Outlines
 pub mod PageLimits
+pub mod Ports
 pub mod Regions
 pub mod SpaceLaws
 pub mod Threads

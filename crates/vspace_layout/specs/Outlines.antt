@@ -4,9 +4,10 @@ use Rattle.adl_meaning.specs.declared.flat.Domain.{Domain}
 use Rattle.adl_meaning.specs.declared.flat.Flat.{Flat}
 use Rattle.adl_meaning.specs.declared.settled.Settled.{Settled}
 use Rattle.leaf_ends.specs.declared.end_at.EndAt.{EndAt}
-use Rattle.numbering.specs.Gather.{before, gather}
+use Rattle.numbering.specs.Gather.{IsIn, before, gather}
 use Rattle.program_sections.specs.ByAddress.{section_page_count}
 use Rattle.program_sections.specs.Images.{arch_of, sections_end}
+use Rattle.program_sections.specs.Numbered.{AreApart}
 use Rattle.program_sections.specs.declared.images.Images.{Images}
 use Rattle.vspace_layout.specs.declared.mapped.MappedPage.{MappedPage}
 use Rattle.vspace_layout.specs.declared.outline.Outline.{Outline}
@@ -17,7 +18,7 @@ use Rattle.vspace_layout.specs.declared.spaces.Spaces.{Spaces}
 use Rattle.vspace_layout.specs.declared.spaces.ThreadPlace.{ThreadPlace}
 use Rattle.vspace_layout.specs.declared.spaces.Window.{Window}
 use Rattle.vspace_layout.specs.declared.thread.ThreadOf.{ThreadOf}
-use Rattle.vspace_layout.specs.FrameNumbers.{all_own, memory_firsts, own_added, pages_numbered}
+use Rattle.vspace_layout.specs.FrameNumbers.{AreAllNumbered, all_own, memory_firsts, own_added, pages_numbered}
 use Rattle.vspace_layout.specs.Frames.{memory_part}
 use Rattle.vspace_layout.specs.MappedPages.{pages_from, region_part, section_part}
 use Rattle.vspace_layout.specs.Regions.{domain_windows, pages_in, region_start, regions_in, stack_pages, window_pages}
@@ -63,6 +64,13 @@ all_counted flat settled ends images = sum (map (λ d. domain_counted flat settl
 abbrev pub AreFew : List Region → Type 0
 AreFew rs = length rs + pages_in rs ≤ 2 ^ 18
 
+abbrev pub AreAllFew : Flat → Settled → List (List EndAt) → Type 0
+AreAllFew flat settled ends = (domain : Domain) → IsIn domain flat.domains → AreFew (regions_at flat settled ends domain.leaves)
+
+-- the sections of each domain are sound and apart
+abbrev pub AreAllApart : Flat → Images → Type 0
+AreAllApart flat images = (domain : Domain) → IsIn domain flat.domains → AreApart images domain.leaves
+
 -- ---- addresses, by where regions begin
 
 abbrev pub start_at : List ℕ → ℕ → ℕ
@@ -107,9 +115,22 @@ pages_at flat settled mapped d = pages_numbered d (memory_firsts (all_own mapped
 abbrev pub space_at : Flat → Settled → List (List EndAt) → ℕ → List (List MappedPage) → ℕ → Domain → Space
 space_at flat settled ends base mapped d x = space_in flat settled base (outline flat settled ends x.leaves) (pages_at flat settled mapped d)
 
+-- the spaces of all domains, where the pages of each with their frames are given
+abbrev pub spaces_with : Flat → Settled → List (List EndAt) → ℕ → List (List Page) → List Space
+spaces_with flat settled ends base all =
+    gather (λ d x. space_in flat settled base (outline flat settled ends x.leaves) (slice_index_or all d []) ∷ []) flat.domains
+
 -- the spaces of all domains, and all frames, where the pages of each domain are given
 abbrev pub spaces_in : Flat → Settled → List (List EndAt) → ℕ → List (List MappedPage) → Spaces
 spaces_in flat settled ends base mapped = record {
   spaces = gather (λ d x. space_at flat settled ends base mapped d x ∷ []) flat.domains;
   frames = gather own_added mapped ++ memory_part flat settled;
 }
+
+-- pages are few, each of a connection's memory has a number, and so has what stands behind all own frames
+pub record AreFit (flat : Flat) (settled : Settled) (mapped : List (List MappedPage)) : Type 0 where
+  pub domains : length mapped ≡ length flat.domains
+  pub count : length flat.domains < 2 ^ 32
+  pub pages : sum (map length mapped) ≤ 65536
+  pub numbers : AreAllNumbered (memory_firsts (all_own mapped) flat settled) mapped
+  pub memory : all_own mapped + length (memory_part flat settled) < 2 ^ 64

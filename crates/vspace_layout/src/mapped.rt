@@ -1,4 +1,19 @@
+//! The pages of domains, before their frames have numbers.
+
+ghost use Rattle.program_sections.specs.Numbered.{AreApart};
+ghost use Rattle.numbering.specs.Gather.{gather};
+ghost use Rattle.std.specs.Prelude.{◌≡◌, ◌<◌, ◌+◌, ◌*◌, ◌^◌, ◌++◌, length, OnOk};
+ghost use Rattle.vspace_layout.specs.MappedPages.{may_read, may_write, window_page, zero_page};
+ghost use Rattle.vspace_layout.specs.MappedPages.{pages_from, region_page, section_page, section_part};
+ghost use Rattle.vspace_layout.specs.Outlines.{RegionsFit, starting};
+
+use crate::region::{Content, Region};
+use adl_meaning::{EndSetting, Settled};
+use cam_base::{List, NoMemory};
 use cap_model::Fill;
+use leaf_ends::setting_of;
+use program_sections::{Images, SectionPage, section_pages};
+use std::alloc::Global;
 
 /// What a page shows: a frame of the domain's own, or a page of a connection's memory.
 #[derive(Drop)]
@@ -14,4 +29,118 @@ pub struct MappedPage {
     pub read: bool,
     pub write: bool,
     pub shown: Shown,
+}
+
+fn section_page(page: SectionPage) -> MappedPage
+    ensures { result ≡ section_page page }
+{
+    MappedPage {
+        at: page.vaddr,
+        read: true,
+        write: page.write,
+        shown: Shown::Own(page.fill),
+    }
+}
+
+/// Maps the pages of the sections of the programs that these leaves run.
+pub fn push_sections(
+    alloc: Global,
+    images: &Images,
+    leaves: &[u32],
+    pages: &mut List<MappedPage>,
+) -> Result<(), NoMemory>
+    requires { AreApart images.now leaves.now }
+    ensures { OnOk result (pages.new ≡ pages.old ++ section_part images.now leaves.now) }
+{
+    for page in section_pages(alloc, images, leaves)?.into_vec() {
+        pages.push(section_page(page))?;
+    }
+    Ok(())
+}
+
+fn may_read(setting: Option<EndSetting>) -> bool
+    ensures { result ≡ may_read setting }
+{
+    match setting {
+        Some(setting) => setting.read,
+        None => false,
+    }
+}
+
+fn may_write(setting: Option<EndSetting>) -> bool
+    ensures { result ≡ may_write setting }
+{
+    match setting {
+        Some(setting) => setting.write,
+        None => false,
+    }
+}
+
+/// Page `page` of a connection's memory, seen from an end with this setting.
+fn window_page(setting: Option<EndSetting>, connection: u32, at: u64, page: u64) -> MappedPage
+    ensures { result ≡ window_page setting connection at page }
+{
+    MappedPage {
+        at,
+        read: may_read(setting),
+        write: may_write(setting),
+        shown: Shown::Memory { connection, page },
+    }
+}
+
+/// A page of the domain's own that is zeros.
+fn zero_page(at: u64) -> MappedPage
+    ensures { result ≡ zero_page at }
+{
+    MappedPage {
+        at,
+        read: true,
+        write: true,
+        shown: Shown::Own(None),
+    }
+}
+
+/// Page `page` of a region, at its address.
+fn region_page(settled: &Settled, content: Content, at: u64, page: u64) -> MappedPage
+    ensures { result ≡ region_page settled.now content at page }
+{
+    match content {
+        Content::Stack | Content::Buffer => zero_page(at),
+        Content::Window(end) => {
+            let setting = setting_of(settled, end.connection, end.end);
+            window_page(setting, end.connection, at, page)
+        }
+    }
+}
+
+fn push_region(
+    settled: &Settled,
+    start: u64,
+    region: Region,
+    pages: &mut List<MappedPage>,
+) -> Result<(), NoMemory>
+    requires { start + 4096 * region.pages < 2 ^ 64 }
+    ensures { OnOk result (pages.new ≡ pages.old ++ pages_from settled.now start region) }
+{
+    for page in 0..region.pages {
+        pages.push(region_page(settled, region.content, start + 4096 * page, page))?;
+    }
+    Ok(())
+}
+
+/// Maps the pages of regions that begin at these addresses.
+pub fn push_regions(
+    settled: &Settled,
+    starts: &[u64],
+    regions: &[Region],
+    pages: &mut List<MappedPage>,
+) -> Result<(), NoMemory>
+    requires each { length starts.now ≡ length regions.now }
+    requires fit { RegionsFit starts.now regions.now }
+    ensures { OnOk result (pages.new ≡ pages.old ++ gather (starting settled.now starts.now) regions.now) }
+{
+    for (number, region) in regions.iter().enumerate() {
+        push_region(settled, starts[number], *region, pages)?;
+    }
+    Ok(())
 }

@@ -1,0 +1,84 @@
+-- The pages of spaces with the numbers of their frames, domain by domain
+use Rattle.std.proofs.Common.{◌≡◌, ◌≤◌, ◌+◌, ◌∙◌, ℕ, zero, suc, List, [], ◌∷◌, ◌++◌, Option, Some, length, map, take, append_assoc, refl, sym, ap, arith}
+use Rattle.std.specs.Prelude.{sum}
+use Rattle.std.specs.List.{slice_get}
+use Rattle.std.specs.Iterator.{Yields}
+use Rattle.std.specs.Vec.Iter.{into_iter_items, into_iter_len, into_iter_steps}
+use Rattle.std.proofs.lemmas.Iterator.Adapters.{YieldsList-from_vec}
+use Rattle.std.proofs.lemmas.Iterator.Consumers.{YieldsList-so_far, YieldsList-turn}
+use Rattle.std.proofs.lemmas.List.Sums.{sum_by-cons}
+use Rattle.std.proofs.lemmas.Option.{slice_get_read}
+use Rattle.numbering.specs.Gather.{before, gather}
+use Rattle.numbering.proofs.Gathered.{length_append}
+use Rattle.vspace_layout.specs.declared.mapped.MappedPage.{MappedPage}
+use Rattle.vspace_layout.specs.declared.spaces.FrameInfo.{FrameInfo}
+use Rattle.vspace_layout.specs.FrameNumbers.{own_added}
+use Rattle.vspace_layout.specs.Frames.{own_frame}
+use Rattle.vspace_layout.proofs.Few.{one_each, own_one}
+use Rattle.vspace_layout.proofs.MemoryNumbers.{gather_push}
+
+pub map_same : {X : Type 0} (xs : List X) → map (λ x. x) xs ≡ xs
+map_same [] = refl
+map_same (x ∷ xs) = ap (λ z. x ∷ z) (map_same xs)
+
+-- ---- pages of a domain
+
+pub own_upto : (d : ℕ) (ps : List MappedPage) → length (own_added d ps) ≤ length ps
+own_upto d ps = one_each (λ n (p : MappedPage). own_frame d p.shown) ps (λ n p. own_one d p.shown)
+
+-- how many frames there are before page n of a domain, when those of the pages before it were added
+pub frames_so_far : (d : ℕ) (mapped sofar : List MappedPage) (old frames : List FrameInfo) → sofar ≡ take (length sofar) mapped → frames ≡ old ++ own_added d sofar
+    → length frames ≡ length old + before (λ m (q : MappedPage). own_frame d q.shown) mapped (length sofar)
+frames_so_far d mapped sofar old frames front e =
+    ap (λ (z : List FrameInfo). length z) e
+    ∙ length_append old (own_added d sofar)
+    ∙ ap (λ (z : List MappedPage). length old + length (own_added d z)) front
+
+pub frames_more : (d : ℕ) (sofar : List MappedPage) (p : MappedPage) (old mid new : List FrameInfo) → mid ≡ old ++ own_added d sofar → new ≡ mid ++ own_frame d p.shown → new ≡ old ++ own_added d (sofar ++ p ∷ [])
+frames_more d sofar p old mid new e g =
+    g ∙ ap (λ z. z ++ own_frame d p.shown) e ∙ append_assoc old (own_added d sofar) (own_frame d p.shown)
+    ∙ ap (λ z. old ++ z) (sym (gather_push (λ n (q : MappedPage). own_frame d q.shown) sofar p))
+
+-- ---- pages of all domains
+
+sum_from : (f : ℕ → List MappedPage → List FrameInfo) (ms : List (List MappedPage)) (k : ℕ) (ps : List MappedPage) → ((n : ℕ) (qs : List MappedPage) → length (f n qs) ≤ length qs) → slice_get ms k ≡ Some ps
+    → length (gather f (take k ms)) + length ps ≤ sum (map (λ (qs : List MappedPage). length qs) ms)
+sum_from f [] k ps h e = cc
+sum_from f (m ∷ ms) zero ps h e =
+    let same : length m ≡ length ps = ap (λ (z : List MappedPage). length z) (the_same m ps e) in
+    let s = sum_by-cons (λ (n : ℕ). n) (length m) (map (λ (qs : List MappedPage). length qs) ms) in
+    omega (arith, same, s)
+  where
+    the_same : (m ps : List MappedPage) → Some m ≡ Some ps → m ≡ ps
+    the_same m ps e = cc
+sum_from f (m ∷ ms) (suc k) ps h e =
+    let ih = sum_from (λ n qs. f (suc n) qs) ms k ps (λ n qs. h (suc n) qs) e in
+    let a = length_append (f 0 m) (gather (λ n (qs : List MappedPage). f (suc n) qs) (take k ms)) in
+    let s = sum_by-cons (λ (n : ℕ). n) (length m) (map (λ (qs : List MappedPage). length qs) ms) in
+    let b = h 0 m in
+    omega (arith, ih, a, s, b)
+
+-- the own frames of the domains before one, and the pages of that
+pub few_so_far : (ms : List (List MappedPage)) (k : ℕ) (ps : List MappedPage) → slice_get ms k ≡ Some ps → before own_added ms k + length ps ≤ sum (map (λ (qs : List MappedPage). length qs) ms)
+few_so_far ms k ps e = sum_from own_added ms k ps (λ n qs. own_upto n qs) e
+
+-- ---- loops that take a list
+
+-- what was taken is a front of the list, and what is taken next stands behind it
+pub record Turned {A : Type 0} (all xs : List A) (x : A) : Type 0 where
+  pub front : xs ≡ take (length xs) all
+  pub here : slice_get all (length xs) ≡ Some x
+
+pub turned : {A Z : Type 0} (s t u : _) (all : List A) → into_iter_items s ≡ all → into_iter_len s ≡ length all → (xs : List A) → Yields (into_iter_steps {X = A} {Z = Z}) s xs t → (r : Option A) (x : A) → r ≡ Some x → into_iter_steps {X = A} {Z = Z} t r u
+    → Turned all xs x
+turned {A} {Z} s t u all e n xs y r x is step =
+    let road = YieldsList-from_vec {A = A} {Z = Z} {s = s} all e n in
+    let turn = YieldsList-turn road xs t y r u x is step in
+    record { front = sym (map_same xs) ∙ YieldsList-so_far road xs t y; here = slice_get_read all (length all) (length xs) x refl turn.0 turn.1 }
+
+-- how many frames there are before the own ones of a domain, when those of the domains before it were added
+pub own_so_far : (ms sofar : List (List MappedPage)) (old frames : List FrameInfo) → sofar ≡ take (length sofar) ms → frames ≡ old ++ gather own_added sofar → length frames ≡ length old + before own_added ms (length sofar)
+own_so_far ms sofar old frames front e =
+    ap (λ (z : List FrameInfo). length z) e
+    ∙ length_append old (gather own_added sofar)
+    ∙ ap (λ (z : List (List MappedPage)). length old + length (gather own_added z)) front

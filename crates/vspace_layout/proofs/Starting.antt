@@ -1,0 +1,83 @@
+-- Where regions begin, and that they have addresses of 64 bits
+use Rattle.std.proofs.Common.{◌≡◌, ◌<◌, ◌≤◌, ◌+◌, ◌*◌, ◌^◌, ◌∙◌, ℕ, zero, suc, List, [], ◌∷◌, ◌++◌, Some, length, map, take, get_or, refl, ap, add-one, arith}
+use Rattle.std.specs.List.{flat_map, slice_get}
+use Rattle.std.proofs.lemmas.Option.{slice_get-get_or}
+use Rattle.adl_meaning.specs.declared.flat.Flat.{Flat}
+use Rattle.adl_meaning.specs.declared.settled.Settled.{Settled}
+use Rattle.cap_model.specs.declared.level.Arch.{Arch}
+use Rattle.cap_model.specs.declared.level.Arch.TheVariants.{Aarch64, Arm11}
+use Rattle.leaf_ends.specs.declared.end_at.EndAt.{EndAt}
+use Rattle.numbering.specs.Gather.{gather}
+use Rattle.numbering.proofs.Gathered.{gather_ones, gather_same, gather_turn, read_twice}
+use Rattle.program_sections.specs.Images.{sections_end}
+use Rattle.vspace_layout.specs.declared.region.Content.TheVariants.{Stack}
+use Rattle.vspace_layout.specs.declared.region.Region.{Region}
+use Rattle.vspace_layout.specs.declared.thread.ThreadOf.{ThreadOf}
+use Rattle.vspace_layout.specs.MappedPages.{pages_from, pages_of_region, region_part}
+use Rattle.vspace_layout.specs.Outlines.{AreFew, RegionsFit, StacksFit, starting, starts_in}
+use Rattle.vspace_layout.specs.Regions.{pages_in, region, region_start, regions_in, stack_pages, thread_regions, window_region}
+use Rattle.vspace_layout.proofs.Fitting.{pages_next, pages_upto}
+use Rattle.vspace_layout.proofs.Laying.{below, length_regions, start_same}
+
+-- ---- the turn of the loop over regions
+
+pub room : (base end : ℕ) (rs : List Region) (i : ℕ) (d : Region) → base + 4096 * (length rs + pages_in rs) < 2 ^ 64 → end ≡ base + 4096 * (i + pages_in (take i rs)) → i < length rs
+    → end + 4096 + 4096 * (get_or rs i d).pages < 2 ^ 64
+room base end rs i d fit at l =
+    let a = pages_next rs i (get_or rs i d) (slice_get-get_or rs i d l) in
+    let b = pages_upto rs (suc i) in
+    omega (arith, fit, at, l, a, b)
+
+pub end_more : (base end : ℕ) (rs : List Region) (i : ℕ) (d : Region) → end ≡ base + 4096 * (i + pages_in (take i rs)) → i < length rs
+    → end + 4096 + 4096 * (get_or rs i d).pages ≡ base + 4096 * (i + 1 + pages_in (take (i + 1) rs))
+end_more base end rs i d at l =
+    let a = pages_next rs i (get_or rs i d) (slice_get-get_or rs i d l) in
+    let b = ap (λ k. pages_in (take k rs)) (add-one i) in
+    omega (arith, at, l, a, b)
+
+pub starts_more : (base end : ℕ) (rs : List Region) (i : ℕ) (d : Region) (starts new : List ℕ) → end ≡ base + 4096 * (i + pages_in (take i rs)) → i < length rs
+    → starts ≡ gather (λ n (r : Region). region_start base rs n ∷ []) (take i rs) → new ≡ starts ++ (end + 4096) ∷ []
+    → new ≡ gather (λ n (r : Region). region_start base rs n ∷ []) (take (i + 1) rs)
+starts_more base end rs i d starts new at l before push =
+    let here : end + 4096 ≡ region_start base rs i = omega (arith, at) in
+    gather_turn (λ n (r : Region). region_start base rs n ∷ []) rs rs i (get_or rs i d) [] starts new refl l (read_twice rs i d l) before (push ∙ ap (λ n. starts ++ n ∷ []) here)
+
+-- ---- what fits
+
+pub starts_length : (base : ℕ) (rs : List Region) → length (starts_in base rs) ≡ length rs
+starts_length base rs = gather_ones (λ n (r : Region). region_start base rs n) rs
+
+pub regions_fit : (base : ℕ) (rs : List Region) → base ≤ 2 ^ 40 → AreFew rs → RegionsFit (starts_in base rs) rs
+regions_fit base rs low few = λ n r e.
+    let l = below rs n r e in
+    let s = start_same base rs n l in
+    let a = pages_next rs n r e in
+    let b = pages_upto rs (suc n) in
+    omega (arith, s, a, b, l, low, few)
+
+pub starting_same : (settled : Settled) (base : ℕ) (rs : List Region) → gather (starting settled (starts_in base rs)) rs ≡ region_part settled base rs
+starting_same settled base rs = gather_same (starting settled (starts_in base rs)) (pages_of_region settled base rs) rs (λ n r e. ap (λ s. pages_from settled s r) (start_same base rs n (below rs n r e)))
+
+stack_at : (settled : Settled) (ts : List ThreadOf) (more : List Region) (i m : ℕ) (x : ThreadOf) → slice_get ts i ≡ Some x → m ≡ 2 * i
+    → slice_get (flat_map (thread_regions settled) ts ++ more) m ≡ Some (region Stack (stack_pages settled x.leaf))
+stack_at settled [] more i m x e same = cc
+stack_at settled (t ∷ ts) more zero zero x e same = ap (λ (z : ThreadOf). Some (region Stack (stack_pages settled z.leaf))) (the_same t x e)
+  where
+    the_same : (t x : ThreadOf) → Some t ≡ Some x → t ≡ x
+    the_same t x e = cc
+stack_at settled (t ∷ ts) more zero (suc m) x e same = absurd (omega arith)
+stack_at settled (t ∷ ts) more (suc i) zero x e same = absurd (omega arith)
+stack_at settled (t ∷ ts) more (suc i) (suc zero) x e same = absurd (omega arith)
+stack_at settled (t ∷ ts) more (suc i) (suc (suc m)) x e same = stack_at settled ts more i m x e (omega arith)
+
+pub stacks_fit : (flat : Flat) (settled : Settled) (base : ℕ) (ts : List ThreadOf) (ws : List EndAt) → base ≤ 2 ^ 40 → AreFew (regions_in flat settled ts ws)
+    → StacksFit settled (starts_in base (regions_in flat settled ts ws)) ts
+stacks_fit flat settled base ts ws low few = λ i x e.
+    regions_fit base (regions_in flat settled ts ws) low few (2 * i) (region Stack (stack_pages settled x.leaf)) (stack_at settled ts (map (window_region flat settled) ws) i (2 * i) x e refl)
+
+pub many_starts : (flat : Flat) (settled : Settled) (base : ℕ) (ts : List ThreadOf) (ws : List EndAt) → length (starts_in base (regions_in flat settled ts ws)) ≡ 2 * length ts + length ws
+many_starts flat settled base ts ws = starts_length base (regions_in flat settled ts ws) ∙ length_regions flat settled ts ws
+
+pub low_base : (a : Arch) → sections_end a ≤ 2 ^ 40
+low_base Arm11 = omega arith
+low_base Aarch64 = omega arith

@@ -1,0 +1,28 @@
+use Rattle.std.proofs.Common.{◌∙◌, ◌++◌, ap, sym, subst, length, List, ℕ}
+use Rattle.numbering.specs.Gather.{gather}
+use Rattle.program_sections.specs.Images.{arch_of, sections_end}
+use Rattle.vspace_layout.specs.MappedPages.{region_part, section_part}
+use Rattle.vspace_layout.specs.Outlines.{RegionsFit, starting, starts_in}
+use Rattle.vspace_layout.proofs.Starting.{low_base, regions_fit, starting_same, starts_length}
+use Rattle.vspace_layout.proofs.lay.mapped_of.Goals as goal
+
+pub push_regions-requires-clause-each : goal.push_regions-requires-clause-each
+push_regions-requires-clause-each c = ap (λ (z : List ℕ). length z) (c.as_slice.ensures ∙ c.in_ok-starts.ensures) ∙ starts_length c.sections_end-base.result c.args.regions.now
+
+pub push_regions-requires-clause-fit : goal.push_regions-requires-clause-fit
+push_regions-requires-clause-fit c =
+    let rs = c.args.regions.now in
+    let base = c.sections_end-base.ensures ∙ ap sections_end c.arch.ensures in
+    subst (λ z. RegionsFit z rs) (sym (c.as_slice.ensures ∙ c.in_ok-starts.ensures ∙ ap (λ b. starts_in b rs) base)) (regions_fit (sections_end (arch_of c.args.images.now.images)) rs (low_base (arch_of c.args.images.now.images)) c.requires.few)
+
+pub returns : goal.returns
+returns c =
+    let rs = c.args.regions.now in
+    let settled = c.args.settled.now in
+    let end = sections_end (arch_of c.args.images.now.images) in
+    let base = c.sections_end-base.ensures ∙ ap sections_end c.arch.ensures in
+    let front = c.in_ok-push_sections.ensures ∙ ap (λ z. z ++ section_part c.args.images.now c.args.leaves.now) c.new-pages.ensures in
+    c.in_ok-push_regions.ensures
+    ∙ ap (λ z. c.push_sections.new.pages ++ gather (starting settled z) rs) (c.as_slice.ensures ∙ c.in_ok-starts.ensures ∙ ap (λ b. starts_in b rs) base)
+    ∙ ap (λ z. c.push_sections.new.pages ++ z) (starting_same settled end rs)
+    ∙ ap (λ z. z ++ region_part settled end rs) front

@@ -1,0 +1,6 @@
+use Rattle.std.proofs.Common.{◌≡◌, ◌++◌, map}
+use Rattle.vspace_layout.specs.MappedPages.{section_page}
+use Rattle.vspace_layout.proofs.mapped.push_sections.Given as goal
+
+abbrev pub invariant-loop-page : goal.invariant-loop-page
+invariant-loop-page l = l.pages ≡ l.fn.pages ++ map section_page l.yielded

@@ -1,0 +1,277 @@
+//! Spaces, laid out.
+
+ghost use Rattle.adl_meaning.specs.Faults.{Refuses};
+ghost use Rattle.leaf_ends.specs.LeafEnds.{ends_of};
+ghost use Rattle.leaf_ends.specs.Within.{IsWithin};
+ghost use Rattle.program_sections.specs.Numbered.{AreApart, AreCounted, AreNumbered, AreSound};
+ghost use Rattle.program_sections.specs.SpaceFaults.{first_space_fault};
+ghost use Rattle.std.specs.Option.{option_or};
+ghost use Rattle.std.specs.Prelude.{◌≡◌, ◌≤◌, ◌^◌, ◌++◌, length, sum, None, IfOk};
+ghost use Rattle.vspace_layout.specs.Counted.{limit_over};
+ghost use Rattle.vspace_layout.specs.CanLay.{AddressesFit, CanLay};
+ghost use Rattle.vspace_layout.specs.Given.{given};
+ghost use Rattle.vspace_layout.specs.Laid.{spaces_of};
+ghost use Rattle.vspace_layout.specs.Outlines.{AreAllApart, AreAllFew, AreFew, AreFit};
+ghost use Rattle.vspace_layout.specs.Outlines.{all_mapped, mapped_of, space_in, spaces_in, spaces_with};
+ghost use Rattle.vspace_layout.specs.PageLimits.{first_page_limit, page_counts};
+ghost use Rattle.vspace_layout.specs.Regions.{regions_in};
+
+use crate::counts::{all_own, all_pages, all_tables};
+use crate::frames::number_all;
+use crate::mapped::{MappedPage, push_regions, push_sections};
+use crate::memory_frames::memory_frames;
+use crate::outline::{Outline, outline_of};
+use crate::region::Region;
+use crate::spaces::{FrameInfo, Page, Space, Spaces};
+use crate::starts::{starts_of, thread_places, window_places};
+use adl_ast::Source;
+use adl_meaning::{Flat, Settled};
+use cam_base::{Fault, List, NoMemory, Refused};
+use leaf_ends::{EndAt, leaf_ends, limit_fault};
+use program_sections::{Images, first_space_fault, sections_end};
+use std::alloc::Global;
+
+/// The most pages of all domains, and the most page tables.
+const LIMIT: u64 = 65_536;
+
+/// The pages of a domain with these leaves, by address.
+fn mapped_of(
+    alloc: Global,
+    settled: &Settled,
+    images: &Images,
+    leaves: &[u32],
+    regions: &[Region],
+) -> Result<List<MappedPage>, NoMemory>
+    requires apart { AreApart images.now leaves.now }
+    requires few { AreFew regions.now }
+    ensures { IfOk result (λ pages. pages ≡ mapped_of settled.now images.now leaves.now regions.now) }
+{
+    let base = sections_end(images.arch());
+    let mut pages = List::new(alloc);
+    push_sections(alloc, images, leaves, &mut pages)?;
+    let starts = starts_of(alloc, base, regions)?;
+    push_regions(settled, starts.as_slice(), regions, &mut pages)?;
+    Ok(pages)
+}
+
+/// The pages of each domain, where the ends of each leaf are given.
+fn all_mapped(
+    alloc: Global,
+    flat: &Flat,
+    settled: &Settled,
+    ends: &[List<EndAt>],
+    images: &Images,
+) -> Result<Vec<List<MappedPage>>, NoMemory>
+    requires apart { AreAllApart flat.now images.now }
+    requires few { AreAllFew flat.now settled.now ends.now }
+    ensures { IfOk result (λ all. all.items ≡ all_mapped flat.now settled.now ends.now images.now) }
+{
+    let mut all = Vec::new(alloc);
+    for domain in flat.domains.as_slice() {
+        let leaves = domain.leaves.as_slice();
+        let outline = outline_of(alloc, flat, settled, ends, leaves)?;
+        let regions = outline.regions.as_slice();
+        all.push(mapped_of(alloc, settled, images, leaves, regions)?)?;
+    }
+    Ok(all)
+}
+
+/// The space of a domain with these pages.
+fn space_of(
+    alloc: Global,
+    flat: &Flat,
+    settled: &Settled,
+    base: u64,
+    outline: &Outline,
+    pages: List<Page>,
+) -> Result<Space, NoMemory>
+    requires base { base ≤ 2 ^ 40 }
+    requires few { AreFew outline.now.regions }
+    requires regions { outline.now.regions ≡ regions_in flat.now settled.now outline.now.threads outline.now.windows }
+    ensures { IfOk result (λ space. space ≡ space_in flat.now settled.now base outline.now pages) }
+{
+    let starts = starts_of(alloc, base, outline.regions.as_slice())?;
+    let starts = starts.as_slice();
+    let threads = outline.threads.as_slice();
+    let windows = outline.windows.as_slice();
+    Ok(Space {
+        pages,
+        threads: thread_places(alloc, settled, starts, threads)?,
+        windows: window_places(alloc, flat, settled, starts, 2 * threads.len(), windows)?,
+    })
+}
+
+/// The spaces of all domains with these pages.
+fn spaces_with(
+    alloc: Global,
+    flat: &Flat,
+    settled: &Settled,
+    ends: &[List<EndAt>],
+    base: u64,
+    all: Vec<List<Page>>,
+) -> Result<List<Space>, NoMemory>
+    requires base { base ≤ 2 ^ 40 }
+    requires domains { length all.items ≡ length flat.now.domains }
+    requires few { AreAllFew flat.now settled.now ends.now }
+    ensures { IfOk result (λ spaces. spaces ≡ spaces_with flat.now settled.now ends.now base all.items) }
+{
+    let mut spaces = List::new(alloc);
+    let mut domain: usize = 0;
+    for pages in all {
+        let leaves = flat.domains.as_slice()[domain].leaves.as_slice();
+        let outline = outline_of(alloc, flat, settled, ends, leaves)?;
+        spaces.push(space_of(alloc, flat, settled, base, &outline, pages)?)?;
+        domain += 1;
+    }
+    Ok(spaces)
+}
+
+fn joined(own: List<FrameInfo>, memory: List<FrameInfo>) -> Result<List<FrameInfo>, NoMemory>
+    ensures { IfOk result (λ frames. frames ≡ own ++ memory) }
+{
+    let mut frames = own.into_vec();
+    frames.append(&mut memory.into_vec())?;
+    Ok(List::from_vec(frames))
+}
+
+/// The spaces of all domains with these pages, and all frames.
+fn lay(
+    alloc: Global,
+    flat: &Flat,
+    settled: &Settled,
+    ends: &[List<EndAt>],
+    base: u64,
+    mapped: Vec<List<MappedPage>>,
+) -> Result<Spaces, NoMemory>
+    requires base { base ≤ 2 ^ 40 }
+    requires mapped { AreFit flat.now settled.now mapped.items }
+    requires few { AreAllFew flat.now settled.now ends.now }
+    requires connections { length flat.now.connections ≤ 4096 }
+    requires addresses { AddressesFit flat.now settled.now }
+    ensures { IfOk result (λ spaces. spaces ≡ spaces_in flat.now settled.now ends.now base mapped.items) }
+{
+    let memory = memory_frames(alloc, all_own(&mapped), flat, settled)?;
+    let mut own = List::new(alloc);
+    let pages = number_all(alloc, mapped, &memory.firsts, &mut own)?;
+    let spaces = spaces_with(alloc, flat, settled, ends, base, pages)?;
+    let frames = joined(own, memory.frames)?;
+    Ok(Spaces { spaces, frames })
+}
+
+/// The fault of the limit of that name, where the count passes it.
+fn limit_over(
+    alloc: Global,
+    source: &Source,
+    count: u64,
+    name: &[u8],
+) -> Result<Option<Fault>, NoMemory>
+    ensures { IfOk result (λ fault. fault ≡ limit_over source.now count name.now) }
+{
+    if count > LIMIT {
+        limit_fault(alloc, source, name)
+    } else {
+        Ok(None)
+    }
+}
+
+/// The spaces of all domains, where no fault of sections stands, the ends of each leaf are given, and pages are few.
+fn lay_few(
+    alloc: Global,
+    source: &Source,
+    flat: &Flat,
+    settled: &Settled,
+    ends: &[List<EndAt>],
+    images: &Images,
+) -> Result<Spaces, Refused<Fault>>
+    requires within { IsWithin source.now flat.now }
+    requires ends { ends.now ≡ ends_of source.now flat.now }
+    requires apart { AreAllApart flat.now images.now }
+    requires settled { CanLay (given source.now flat.now settled.now images.now) }
+    requires few { sum (page_counts (given source.now flat.now settled.now images.now)) ≤ 65536 }
+    ensures faults { Refuses result (first_page_limit (given source.now flat.now settled.now images.now)) }
+    ensures spaces { IfOk result (λ spaces. spaces ≡ spaces_of (given source.now flat.now settled.now images.now)) }
+{
+    let mapped = all_mapped(alloc, flat, settled, ends, images)?;
+    let tables = all_tables(alloc, images.arch(), &mapped)?;
+    if let Some(fault) = limit_over(alloc, source, tables, b"tables")? {
+        return Err(Refused::Fault(fault));
+    }
+    let base = sections_end(images.arch());
+    Ok(lay(alloc, flat, settled, ends, base, mapped)?)
+}
+
+/// The spaces of all domains, where no fault of sections stands and the ends of each leaf are given.
+fn lay_ends(
+    alloc: Global,
+    source: &Source,
+    flat: &Flat,
+    settled: &Settled,
+    ends: &[List<EndAt>],
+    images: &Images,
+) -> Result<Spaces, Refused<Fault>>
+    requires within { IsWithin source.now flat.now }
+    requires ends { ends.now ≡ ends_of source.now flat.now }
+    requires counted { AreCounted images.now }
+    requires apart { AreAllApart flat.now images.now }
+    requires settled { CanLay (given source.now flat.now settled.now images.now) }
+    ensures faults { Refuses result (first_page_limit (given source.now flat.now settled.now images.now)) }
+    ensures spaces { IfOk result (λ spaces. spaces ≡ spaces_of (given source.now flat.now settled.now images.now)) }
+{
+    let pages = all_pages(alloc, flat, settled, ends, images)?;
+    if let Some(fault) = limit_over(alloc, source, pages, b"pages")? {
+        return Err(Refused::Fault(fault));
+    }
+    lay_few(alloc, source, flat, settled, ends, images)
+}
+
+/// The spaces of all domains and all frames, where no fault of sections stands: `specs/Laid.antt`. Whoever tells other faults
+/// between those of sections and the limits on pages looks for the former first, and calls this.
+///
+/// # Errors
+///
+/// The first limit on pages that is passed (`specs/PageLimits.antt`). Want of memory.
+pub fn lay_apart(
+    alloc: Global,
+    source: &Source,
+    flat: &Flat,
+    settled: &Settled,
+    images: &Images,
+) -> Result<Spaces, Refused<Fault>>
+    requires within { IsWithin source.now flat.now }
+    requires numbered { AreNumbered flat.now images.now }
+    requires sound { AreSound images.now }
+    requires settled { CanLay (given source.now flat.now settled.now images.now) }
+    requires apart { first_space_fault flat.now images.now ≡ None }
+    ensures faults { Refuses result (first_page_limit (given source.now flat.now settled.now images.now)) }
+    ensures spaces { IfOk result (λ spaces. spaces ≡ spaces_of (given source.now flat.now settled.now images.now)) }
+{
+    let ends = leaf_ends(alloc, source, flat)?;
+    lay_ends(alloc, source, flat, settled, ends.as_slice(), images)
+}
+
+/// The spaces of all domains and all frames: `specs/Laid.antt`.
+///
+/// # Errors
+///
+/// The first fault of sections (`first_space_fault`), else the first limit on pages that is passed
+/// (`specs/PageLimits.antt`). Want of memory.
+pub fn lay_spaces(
+    alloc: Global,
+    source: &Source,
+    flat: &Flat,
+    settled: &Settled,
+    images: &Images,
+) -> Result<Spaces, Refused<Fault>>
+    requires within { IsWithin source.now flat.now }
+    requires numbered { AreNumbered flat.now images.now }
+    requires sound { AreSound images.now }
+    requires settled { CanLay (given source.now flat.now settled.now images.now) }
+    ensures faults { Refuses result (option_or (first_space_fault flat.now images.now)
+        (first_page_limit (given source.now flat.now settled.now images.now))) }
+    ensures spaces { IfOk result (λ spaces. spaces ≡ spaces_of (given source.now flat.now settled.now images.now)) }
+{
+    match first_space_fault(alloc, flat, images)? {
+        Some(fault) => Err(Refused::Fault(fault)),
+        None => lay_apart(alloc, source, flat, settled, images),
+    }
+}

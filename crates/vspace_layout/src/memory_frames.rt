@@ -1,0 +1,203 @@
+//! The frames of the memory of connections, and where they stand.
+
+ghost use Rattle.numbering.specs.Gather.{gather};
+ghost use Rattle.std.specs.Prelude.{◌≡◌, ◌<◌, ◌≤◌, ◌+◌, ◌*◌, ◌^◌, ◌++◌, length};
+ghost use Rattle.std.specs.Prelude.{IfOk, IfSome, OnOk};
+ghost use Rattle.vspace_layout.specs.CanLay.{AddressesFit};
+ghost use Rattle.vspace_layout.specs.FrameNumbers.{AreFirsts, first_of, firsts_from, memory_firsts};
+ghost use Rattle.vspace_layout.specs.FrameNumbers.{frames_by, is_that, places_of};
+ghost use Rattle.vspace_layout.specs.Frames.{connection_frames, device_frames, register_frames, shared_frames};
+ghost use Rattle.vspace_layout.specs.Frames.{memory_part, register_part};
+ghost use Rattle.vspace_layout.specs.Memory.{memory_paddr, memory_pages};
+ghost use Rattle.vspace_layout.specs.Ports.{first_numbers};
+
+use crate::memory::{is_shared, memory_paddr, memory_pages, registers};
+use crate::owner::Owner;
+use crate::ports::first_numbers;
+use crate::spaces::FrameInfo;
+use adl_meaning::{Flat, FlatConnection, Settled};
+use cam_base::{List, NoMemory};
+use std::alloc::Global;
+
+/// The frames of the memory of all connections, and the number of the first frame of each connection's memory.
+#[derive(Drop)]
+pub struct MemoryFrames {
+    pub frames: List<FrameInfo>,
+    pub firsts: Vec<u64>,
+}
+
+// ---- shared memory
+
+fn push_pages(number: u32, pages: u64, frames: &mut List<FrameInfo>) -> Result<(), NoMemory>
+    ensures { OnOk result (frames.new ≡ frames.old ++ connection_frames number pages) }
+{
+    for _page in 0..pages {
+        frames.push(FrameInfo {
+            owner: Owner::OfConnection(number),
+            paddr: None,
+            fill: None,
+        })?;
+    }
+    Ok(())
+}
+
+fn push_shared(
+    settled: &Settled,
+    number: u32,
+    connection: &FlatConnection,
+    frames: &mut List<FrameInfo>,
+) -> Result<(), NoMemory>
+    ensures { OnOk result (frames.new ≡ frames.old ++ shared_frames settled.now number connection.now) }
+{
+    if is_shared(connection.connector) {
+        push_pages(number, memory_pages(settled, number, connection), frames)?;
+    }
+    Ok(())
+}
+
+/// Adds the frames of shared memory, and tells how many stand before those of each connection.
+fn push_all_shared(
+    alloc: Global,
+    settled: &Settled,
+    connections: &[FlatConnection],
+    frames: &mut List<FrameInfo>,
+) -> Result<Vec<u64>, NoMemory>
+    requires { length connections.now ≤ 4096 }
+    ensures frames { OnOk result (frames.new ≡ frames.old ++ gather (shared_frames settled.now) connections.now) }
+    ensures places { IfOk result (λ v. v.items ≡ places_of (length frames.old) (shared_frames settled.now) connections.now) }
+{
+    let mut places = Vec::new(alloc);
+    for (number, connection) in connections.iter().enumerate() {
+        places.push(frames.len() as u64)?;
+        push_shared(settled, number as u32, connection, frames)?;
+    }
+    Ok(places)
+}
+
+// ---- registers
+
+fn push_device_pages(
+    leaf: u32,
+    paddr: u64,
+    pages: u64,
+    frames: &mut List<FrameInfo>,
+) -> Result<(), NoMemory>
+    requires { paddr + 4096 * pages ≤ 2 ^ 48 }
+    ensures { OnOk result (frames.new ≡ frames.old ++ device_frames leaf paddr pages) }
+{
+    for page in 0..pages {
+        frames.push(FrameInfo {
+            owner: Owner::OfLeaf(leaf),
+            paddr: Some(paddr + 4096 * page),
+            fill: None,
+        })?;
+    }
+    Ok(())
+}
+
+fn is_that(first: Option<u32>, number: u32) -> bool
+    ensures { result ≡ is_that first number }
+{
+    match first {
+        Some(first) => first == number,
+        None => false,
+    }
+}
+
+/// Adds the frames of a connection's registers, if `first`, the first connection to them, is this one.
+fn push_registers(
+    settled: &Settled,
+    first: Option<u32>,
+    number: u32,
+    connection: &FlatConnection,
+    frames: &mut List<FrameInfo>,
+) -> Result<(), NoMemory>
+    requires { memory_paddr settled.now number connection.now + 4096 * memory_pages settled.now number connection.now ≤ 2 ^ 48 }
+    ensures { OnOk result (frames.new ≡ frames.old ++ frames_by settled.now first number connection.now) }
+{
+    let Some(end) = registers(connection) else {
+        return Ok(());
+    };
+    if is_that(first, number) {
+        let paddr = memory_paddr(settled, number, connection);
+        let pages = memory_pages(settled, number, connection);
+        push_device_pages(end.leaf, paddr, pages, frames)?;
+    }
+    Ok(())
+}
+
+/// Adds the registers of devices, and tells how many frames stand before those that each connection adds.
+fn push_all_registers(
+    alloc: Global,
+    flat: &Flat,
+    settled: &Settled,
+    firsts: &[Option<u32>],
+    frames: &mut List<FrameInfo>,
+) -> Result<Vec<u64>, NoMemory>
+    requires few { length flat.now.connections ≤ 4096 }
+    requires fit { AddressesFit flat.now settled.now }
+    requires firsts { firsts.now ≡ first_numbers flat.now.connections }
+    ensures frames { OnOk result (frames.new ≡ frames.old ++ register_part flat.now settled.now) }
+    ensures places { IfOk result (λ v. v.items
+        ≡ places_of (length frames.old) (register_frames flat.now settled.now) flat.now.connections) }
+{
+    let mut places = Vec::new(alloc);
+    for (number, connection) in flat.connections.as_slice().iter().enumerate() {
+        places.push(frames.len() as u64)?;
+        push_registers(settled, firsts[number], number as u32, connection, frames)?;
+    }
+    Ok(places)
+}
+
+// ---- numbers
+
+/// How many frames of memory stand before those of a connection.
+fn first_of(shared: &[u64], registered: &[u64], first: Option<u32>, number: usize) -> u64
+    requires shared { number < length shared.now }
+    requires registered { IfSome first (λ n. n < length registered.now) }
+    ensures { result ≡ first_of shared.now registered.now first number }
+{
+    match first {
+        Some(first) => registered[first as usize],
+        None => shared[number],
+    }
+}
+
+/// The numbers of the first frames, where so many frames stand before all memory.
+fn firsts_from(
+    alloc: Global,
+    own: u64,
+    shared: &[u64],
+    registered: &[u64],
+    numbers: &[Option<u32>],
+) -> Result<Vec<u64>, NoMemory>
+    requires { AreFirsts own shared.now registered.now numbers.now }
+    ensures { IfOk result (λ firsts. firsts.items ≡ firsts_from own shared.now registered.now numbers.now) }
+{
+    let mut firsts = Vec::new(alloc);
+    for (number, first) in numbers.iter().enumerate() {
+        firsts.push(own + first_of(shared, registered, *first, number))?;
+    }
+    Ok(firsts)
+}
+
+/// The frames of the memory of all connections, where so many frames stand before them.
+pub fn memory_frames(
+    alloc: Global,
+    own: u64,
+    flat: &Flat,
+    settled: &Settled,
+) -> Result<MemoryFrames, NoMemory>
+    requires own { own + length (memory_part flat.now settled.now) < 2 ^ 64 }
+    requires few { length flat.now.connections ≤ 4096 }
+    requires fit { AddressesFit flat.now settled.now }
+    ensures frames { IfOk result (λ memory. memory.frames ≡ memory_part flat.now settled.now) }
+    ensures firsts { IfOk result (λ memory. memory.firsts.items ≡ memory_firsts own flat.now settled.now) }
+{
+    let numbers = first_numbers(alloc, flat.connections.as_slice())?;
+    let mut frames = List::new(alloc);
+    let shared = push_all_shared(alloc, settled, flat.connections.as_slice(), &mut frames)?;
+    let registered = push_all_registers(alloc, flat, settled, &numbers, &mut frames)?;
+    let firsts = firsts_from(alloc, own, &shared, &registered, &numbers)?;
+    Ok(MemoryFrames { frames, firsts })
+}

@@ -1,0 +1,74 @@
+//! Where regions begin, and with them the stacks and buffers of threads, and windows.
+
+ghost use Rattle.std.specs.Prelude.{◌≡◌, ◌<◌, ◌≤◌, ◌+◌, ◌*◌, ◌^◌, length, IfOk};
+ghost use Rattle.vspace_layout.specs.Outlines.{StacksFit, starts_in, thread_places, window_places};
+ghost use Rattle.vspace_layout.specs.Regions.{pages_in};
+
+use crate::region::{Region, stack_pages, window_pages};
+use crate::spaces::{ThreadPlace, Window};
+use crate::thread::ThreadOf;
+use adl_meaning::{Flat, Settled};
+use cam_base::{List, NoMemory};
+use leaf_ends::EndAt;
+use std::alloc::Global;
+
+/// Where each region begins, if the first page behind the base stays free.
+pub fn starts_of(alloc: Global, base: u64, regions: &[Region]) -> Result<List<u64>, NoMemory>
+    requires { base + 4096 * (length regions.now + pages_in regions.now) < 2 ^ 64 }
+    ensures { IfOk result (λ starts. starts ≡ starts_in base regions.now) }
+{
+    let mut starts = List::new(alloc);
+    let mut end = base;
+    for region in regions {
+        let start = end + 4096;
+        starts.push(start)?;
+        end = start + 4096 * region.pages;
+    }
+    Ok(starts)
+}
+
+/// The places of threads, where thread `i` has the regions `2 i` and `2 i + 1`.
+pub fn thread_places(
+    alloc: Global,
+    settled: &Settled,
+    starts: &[u64],
+    threads: &[ThreadOf],
+) -> Result<List<ThreadPlace>, NoMemory>
+    requires each { 2 * length threads.now ≤ length starts.now }
+    requires fit { StacksFit settled.now starts.now threads.now }
+    ensures { IfOk result (λ places. places ≡ thread_places settled.now starts.now threads.now) }
+{
+    let mut places = List::new(alloc);
+    for (number, thread) in threads.iter().enumerate() {
+        places.push(ThreadPlace {
+            leaf: thread.leaf,
+            end: thread.end,
+            sp: starts[2 * number] + 4096 * stack_pages(settled, thread.leaf),
+            buffer: starts[2 * number + 1],
+        })?;
+    }
+    Ok(places)
+}
+
+/// The places of windows, whose regions are those from number `first` on.
+pub fn window_places(
+    alloc: Global,
+    flat: &Flat,
+    settled: &Settled,
+    starts: &[u64],
+    first: usize,
+    windows: &[EndAt],
+) -> Result<List<Window>, NoMemory>
+    requires { first + length windows.now ≤ length starts.now }
+    ensures { IfOk result (λ places. places ≡ window_places flat.now settled.now starts.now first windows.now) }
+{
+    let mut places = List::new(alloc);
+    for (number, end) in windows.iter().enumerate() {
+        places.push(Window {
+            end: *end,
+            vaddr: starts[first + number],
+            pages: window_pages(flat, settled, *end),
+        })?;
+    }
+    Ok(places)
+}
