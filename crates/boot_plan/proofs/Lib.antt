@@ -1,0 +1,15 @@
+pub mod Bases
+pub mod Filling
+pub mod Multiples
+pub mod Necessity
+pub mod Offsets
+pub mod Overlapping
+pub mod Packing
+pub mod Pages
+pub mod Placing
+pub mod Powers
+pub mod Reading
+pub mod Refusing
+pub mod Solo
+pub mod Usual
+pub mod Zipping

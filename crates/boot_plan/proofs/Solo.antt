@@ -1,0 +1,138 @@
+-- Regions of which no two share an address: each address lies in one of them at most.
+use Rattle.std.proofs.Common.{◌≡◌, ◌∙◌, refl, sym, subst, inl, inr, ⊎_elim, ℕ, ◌+◌, ◌<◌, ◌≤◌, ◌&&◌, Bool, true, false, cond, leb, nat_lt, List, [], ◌∷◌, ◌++◌, append_assoc, append-nil, Option, Some, None, arith}
+use Rattle.std.specs.List.{position, position_from, sum_by}
+use Rattle.std.specs.List.Sorted.{IsPermutation}
+use Rattle.std.specs.Option.{option_map, option_or}
+use Rattle.std.proofs.lemmas.Bool.{cases_lt, and_parts}
+use Rattle.std.proofs.lemmas.Bool.Decides.{nat_tests}
+use Rattle.std.proofs.lemmas.Iterator.Adapters.{position_from-zero}
+use Rattle.std.proofs.lemmas.List.Sorted.{sum_by-IsPermutation}
+use Rattle.std.proofs.lemmas.List.Sums.{sum_by-append, sum_by-cons}
+use Rattle.boot_plan.specs.Overlaps.{first_overlap, overlap_at, overlap_behind}
+use Rattle.boot_plan.specs.Placed.{Apart, Bytes, LieIn, LieInOne, bytes_end}
+use Rattle.boot_plan.specs.Regions.{region_end, shares}
+use Rattle.boot_plan.specs.declared.untyped.Untyped.{Untyped}
+use Rattle.boot_plan.proofs.Multiples.{power_pos}
+
+pub holds : ℕ → Untyped → Bool
+holds x r = leb r.paddr x && nat_lt x (region_end r)
+
+-- 1 where the region has the address
+pub one : ℕ → Untyped → ℕ
+one x r = cond (holds x r) 1 0
+
+pub record Solo (rs : List Untyped) : Type 0 where
+  pub at_most : (x : ℕ) → sum_by (one x) rs ≤ 1
+
+holds_both : (x : ℕ) (r q : Untyped) → holds x r ≡ true → holds x q ≡ true → shares r q ≡ true
+unfolding holds
+holds_both x r q a b =
+    let p = and_parts (leb r.paddr x) (nat_lt x (region_end r)) a in
+    let k = and_parts (leb q.paddr x) (nat_lt x (region_end q)) b in
+    let low : nat_lt r.paddr (region_end q) ≡ true = below r.paddr x (region_end q) p.0 k.1 in
+    let high : nat_lt q.paddr (region_end r) ≡ true = below q.paddr x (region_end r) k.0 p.1 in
+    rw (low, high) refl
+  where
+    below : (n x m : ℕ) → leb n x ≡ true → nat_lt x m ≡ true → nat_lt n m ≡ true
+    below n x m h l = grind (arith, nat_tests)
+
+-- where a region shares no address with the earlier ones, an address of it lies in none of them
+none_hold : (x : ℕ) (r : Untyped) (i : ℕ) (rs : List Untyped) → holds x r ≡ true → position_from (shares r) i rs ≡ None → sum_by (one x) rs ≡ 0
+unfolding one
+none_hold x r i [] a e = refl
+none_hold x r i (q ∷ qs) a e = go (shares r q) refl (holds x q) refl (λ left. none_hold x r (i + 1) qs a left)
+  where
+    go : (s : Bool) → shares r q ≡ s → (h : Bool) → holds x q ≡ h → (position_from (shares r) (i + 1) qs ≡ None → sum_by (one x) qs ≡ 0) → sum_by (one x) (q ∷ qs) ≡ 0
+    go true s h k ih = let found : position_from (shares r) i (q ∷ qs) ≡ Some i = rw s refl in absurd cc
+    go false s true k ih = let t = holds_both x r q a k in absurd cc
+    go false s false k ih =
+        let left : position_from (shares r) (i + 1) qs ≡ None = rw s at e in
+        let none : one x q ≡ 0 = rw k refl in
+        let all = ih left in
+        omega (arith, all, none, sum_by-cons (one x) q qs)
+
+or_none : {A : Type 0} (a b : Option A) → option_or a b ≡ None → (a ≡ None) × (b ≡ None)
+or_none None b e = (refl, e)
+or_none (Some x) b e = absurd cc
+
+map_none : {A B : Type 0} (f : A → B) (a : Option A) → option_map f a ≡ None → a ≡ None
+map_none f None e = refl
+map_none f (Some x) e = absurd cc
+
+solo_more : (before : List Untyped) (r : Untyped) → overlap_at before r ≡ None → Solo before → Solo (before ++ r ∷ [])
+unfolding one
+solo_more before r e s = record { at_most = λ x. go x (holds x r) refl }
+  where
+    none : position_from (shares r) 0 before ≡ None
+    none = sym (position_from-zero (shares r) before) ∙ map_none _ (position (shares r) before) e
+
+    go : (x : ℕ) (h : Bool) → holds x r ≡ h → sum_by (one x) (before ++ r ∷ []) ≤ 1
+    go x true h =
+        let z = none_hold x r 0 before h none in
+        let k : one x r ≡ 1 = rw h refl in
+        omega (arith, sum_by-append (one x) before (r ∷ []), sum_by-cons (one x) r [], z, k)
+    go x false h =
+        let k : one x r ≡ 0 = rw h refl in
+        omega (arith, sum_by-append (one x) before (r ∷ []), sum_by-cons (one x) r [], s.at_most x, k)
+
+solo_behind : (before rs : List Untyped) → overlap_behind before rs ≡ None → Solo before → Solo (before ++ rs)
+solo_behind before [] e s = subst Solo (sym (append-nil before)) s
+solo_behind before (r ∷ rs) e s =
+    let p = or_none (overlap_at before r) (overlap_behind (before ++ r ∷ []) rs) e in
+    subst Solo (append_assoc before (r ∷ []) rs) (solo_behind (before ++ r ∷ []) rs p.1 (solo_more before r p.0 s))
+
+pub solo_from : (rs : List Untyped) → first_overlap rs ≡ None → Solo rs
+solo_from rs e = solo_behind [] rs e (record { at_most = λ x. omega arith })
+
+pub solo_permuted : (rs ss : List Untyped) → IsPermutation rs ss → Solo rs → Solo ss
+solo_permuted rs ss p s = record { at_most = λ x. omega (arith, sum_by-IsPermutation (one x) rs ss p, s.at_most x) }
+
+pub solo_rest : (r : Untyped) (rs : List Untyped) → Solo (r ∷ rs) → Solo rs
+solo_rest r rs s = record { at_most = λ x. omega (arith, s.at_most x, sum_by-cons (one x) r rs) }
+
+holds_in : (device : Bool) (b : Bytes) (r : Untyped) (x : ℕ) → LieIn device b r → b.first ≤ x → x < bytes_end b → one x r ≡ 1
+unfolding one holds
+holds_in device b r x lie low high =
+    let l : leb r.paddr x ≡ true = up r.paddr x (omega (arith, lie.low)) in
+    let h : nat_lt x (region_end r) ≡ true = under x (region_end r) (omega (arith, lie.high)) in
+    rw (l, h) refl
+  where
+    up : (n m : ℕ) → n ≤ m → leb n m ≡ true
+    up n m h = grind (arith, nat_tests)
+
+    under : (n m : ℕ) → n < m → nat_lt n m ≡ true
+    under n m h = grind (arith, nat_tests)
+
+counted_in : (device : Bool) (b : Bytes) (rs : List Untyped) (x : ℕ) → LieInOne device b rs → b.first ≤ x → x < bytes_end b → 1 ≤ sum_by (one x) rs
+counted_in device b [] x lie low high = absurd lie
+counted_in device b (r ∷ rs) x (inl lie) low high = omega (arith, holds_in device b r x lie low high, sum_by-cons (one x) r rs)
+counted_in device b (r ∷ rs) x (inr lie) low high = omega (arith, counted_in device b rs x lie low high, sum_by-cons (one x) r rs)
+
+-- bytes in two different regions are apart
+pub solo_apart : (d e : Bool) (b c : Bytes) (r : Untyped) (rs : List Untyped) → Solo (r ∷ rs) → LieIn d b r → LieInOne e c rs → Apart b c
+solo_apart d e b c r rs s lie lies = ⊎_elim (λ overlap. ⊎_elim (λ under. absurd (clash overlap under)) (λ le. inr le) (cases_lt b.first (bytes_end c))) (λ le. inl le) (cases_lt c.first (bytes_end b))
+  where
+    at : (x : ℕ) → b.first ≤ x → c.first ≤ x → x < bytes_end b → x < bytes_end c → ⊥
+    at x bl cl bh ch =
+        let here = holds_in d b r x lie bl bh in
+        let there = counted_in e c rs x lies cl ch in
+        let most = s.at_most x in
+        omega (arith, here, there, most, sum_by-cons (one x) r rs)
+
+    clash : c.first < bytes_end b → b.first < bytes_end c → ⊥
+    clash o u = ⊎_elim
+        (λ lt. at c.first (omega arith) (omega arith) o (let p = power_pos c.bits in omega (arith, p)))
+        (λ ge. at b.first (omega arith) ge (let p = power_pos b.bits in omega (arith, p)) u)
+        (cases_lt b.first c.first)
+
+pub apart_sym : (b c : Bytes) → Apart b c → Apart c b
+apart_sym b c (inl h) = inr h
+apart_sym b c (inr h) = inl h
+
+-- so are bytes in a device's region and in one that is no device's
+pub kinds_apart : (b c : Bytes) (rs : List Untyped) → Solo rs → LieInOne true b rs → LieInOne false c rs → Apart b c
+kinds_apart b c [] s x y = absurd x
+kinds_apart b c (r ∷ rs) s (inl x) (inl y) = let p = x.kind in let q = y.kind in absurd cc
+kinds_apart b c (r ∷ rs) s (inl x) (inr y) = solo_apart true false b c r rs s x y
+kinds_apart b c (r ∷ rs) s (inr x) (inl y) = apart_sym c b (solo_apart false true c b r rs s y x)
+kinds_apart b c (r ∷ rs) s (inr x) (inr y) = kinds_apart b c rs (solo_rest r rs s) x y

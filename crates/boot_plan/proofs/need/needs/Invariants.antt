@@ -1,0 +1,7 @@
+use Rattle.std.proofs.Common.{◌≡◌, map, take}
+use Rattle.boot_plan.specs.Needs.{need}
+use Rattle.cap_model.specs.declared.spec.Entry.{Entry}
+use Rattle.boot_plan.proofs.need.needs.Given as goal
+
+abbrev pub invariant-loop-entry : goal.invariant-loop-entry
+invariant-loop-entry l = l.needs.items ≡ map (λ (e : Entry). need l.spec.arch e.object) (take l.entry-index l.spec.entries)

@@ -1,0 +1,10 @@
+use Rattle.std.proofs.Common.{◌≡◌, ◌≤◌, ◌*◌, length, take}
+use Rattle.std.specs.List.{sum_by, zip}
+use Rattle.boot_plan.specs.Texts.{bytes_placed}
+use Rattle.boot_plan.proofs.write.bytes_placed.Given as goal
+
+abbrev pub invariant-loop-entry : goal.invariant-loop-entry
+invariant-loop-entry l = record {
+  so_far : l.total ≡ sum_by (bytes_placed l.spec.arch) (take (length l.yielded) (zip l.spec.entries l.places));
+  few : l.total ≤ 1048576 * length l.yielded;
+}

@@ -1,0 +1,6 @@
+use Rattle.std.proofs.Common.{refl, []}
+use Rattle.cam_io.proofs.Sequence.{wrote_none}
+use Rattle.boot_plan.proofs.write.write_place.Goals as goal
+
+pub returns-in_default : goal.returns-in_default
+returns-in_default g c = rw c.in_default.is (wrote_none [] refl)

@@ -1,0 +1,11 @@
+pub mod Devices
+pub mod DevicesTold
+pub mod Needs
+pub mod Overlaps
+pub mod Packing
+pub mod Placed
+pub mod Plans
+pub mod Regions
+pub mod Rooms
+pub mod Texts
+pub mod UntypedTexts
