@@ -1,0 +1,252 @@
+-- What was found makes all edges of an audit.
+use Rattle.std.proofs.Common.{◌≡◌, ◌∙◌, ◌⊎◌, ◌<◌, ◌&&◌, ◌||◌, ℕ, true, List, [], Option, Some, None, length, slice_get, get_or, refl, sym, ap, subst, inl, inr}
+use Rattle.std.specs.List.{Contains}
+use Rattle.std.proofs.lemmas.Bool.{and_parts}
+use Rattle.std.proofs.lemmas.Option.{slice_get_within}
+use Rattle.auth_graph.specs.Sources.{OfCap}
+use Rattle.auth_kinds.specs.Edges.{edge}
+use Rattle.auth_kinds.specs.ObjectLabels.{label_of}
+use Rattle.auth_kinds.specs.Tables.{has}
+use Rattle.auth_kinds.specs.declared.authority.Authority.TheVariants.{AsyncSend, Reply}
+use Rattle.auth_kinds.specs.declared.edge.Edge.{Edge}
+use Rattle.cap_machine.specs.declared.step.Step.{Step}
+use Rattle.cap_model.specs.Kinds.{is_at}
+use Rattle.cap_model.specs.Kept.{IsKept}
+use Rattle.cap_model.specs.declared.cap.Cap.{Cap}
+use Rattle.cap_model.specs.declared.kind.Kind.TheVariants as kinds
+use Rattle.cap_model.specs.declared.spec.Spec.{Spec}
+use Rattle.cap_model.proofs.BootPlaces.{contains_at}
+use Rattle.cap_spread.specs.Audited.{Audited, at_boot, of_spread, of_map, of_bind, of_call, of_save}
+use Rattle.cap_spread.specs.Covering.{AreRoots, IsFoundAt}
+use Rattle.cap_spread.specs.Search.{Found, HoldsAt, IsFound, bare, held_by}
+use Rattle.cap_spread.specs.Spread.{HasRoot, HoldsNoThread, IsClosed, Spread}
+use Rattle.cap_spread.proofs.SpreadLeast.{spread_least}
+use Rattle.cap_audit.specs.Gains.{Gains, IsAll, IsMade, Made, OfPair, OfSome}
+use Rattle.cap_audit.specs.Gates.{AreGates, AreRosters, Between, Meets, OfCall, OfListening, row_at}
+use Rattle.cap_audit.specs.Picks.{IsHeld, OfDeeds, OfRoot, OfRoots, is_wanted}
+use Rattle.cap_audit.specs.Reports.{IsReport}
+use Rattle.cap_audit.specs.Showing.{IsBegun, OfAllCalls, OfAllDeeds, OfBoot, by_bind, by_map}
+use Rattle.cap_audit.specs.declared.gates.Place.{Place}
+use Rattle.cap_audit.specs.declared.making.Deed.{Deed}
+use Rattle.cap_audit.specs.declared.making.Deed.TheVariants as deeds
+use Rattle.cap_audit.specs.declared.picks.Wanted.TheVariants as wants
+use Rattle.auth_kinds.proofs.EdgeOrder.{edges_same}
+use Rattle.cap_audit.proofs.Gaining.{gains_by, gains_then}
+use Rattle.cap_audit.proofs.Gating.{root_inside, thread_inside}
+use Rattle.cap_audit.proofs.Growing.{report_exact}
+
+-- the search found all of the Spread
+pub all_found : (spec : Spec) (f : Found) → IsFound spec f → IsClosed spec (IsFoundAt f) → IsAll spec (bare f)
+all_found spec f found closed = record {
+  queued = found.queued;
+  every = λ c cap has.
+      let at : IsFoundAt f c cap = spread_least spec (IsFoundAt f) closed c cap has in
+      let k = found.known c at.value at.known in
+      (k.0, k.1, k.2, k.3, subst (λ (v : ℕ). slice_get f.values v ≡ Some cap) (sym k.4) at.is);
+}
+
+-- before the first edge
+pub made_first : (spec : Spec) (labels : List ℕ) (f : Found) → IsFound spec f → IsMade spec labels (bare f) [] f.steps f.nexts
+made_first spec labels f found = record {
+  state = found.state;
+  run = found.run;
+  quiet = found.quiet;
+  numbers = found.nexts;
+  there = λ c i cap at. found.there c i cap (record { value = at.value; held = at.held; is = at.is });
+  shown = λ l a m h. absurd (let e : has [] (edge l a m) ≡ true = h in cc);
+}
+
+pub begun : (spec : Spec) (labels : List ℕ) (f : Found) (m : Made) → IsFound spec f → IsClosed spec (IsFoundAt f) → IsKept spec → length labels ≡ length spec.entries
+    → m ≡ record { spec = spec; labels = labels; found = bare f; edges = []; steps = f.steps; nexts = f.nexts } → IsBegun m
+begun spec labels f m found closed kept labelled is = subst IsBegun (sym is) (record {
+  so_far = record {
+    made = made_first spec labels f found;
+    differ = λ l a k h. absurd (let e : has [] (edge l a k) ≡ true = h in cc);
+    as_many = found.row_nexts;
+  };
+  all = all_found spec f found closed;
+  kept = kept;
+  labelled = labelled;
+})
+
+module _ (spec : Spec) (f : Found) (all : IsAll spec f) where
+  pub is_held : (c : ℕ) (cap : Cap) → Spread spec c cap → IsHeld f c cap
+  is_held c cap has =
+      let k = all.every c cap has in
+      let there : Contains (held_by f k.1.node) k.1.held = all.queued k.0 k.1 k.2 in
+      let at = contains_at (held_by f k.1.node) k.1.held there in
+      record { place = at.0; held = k.1.held; there = subst (λ (n : ℕ). slice_get (held_by f n) at.0 ≡ Some k.1.held) k.3 at.1; is = k.4 }
+
+  module _ (labels : List ℕ) where
+    -- what the Spread confers
+    pub of_queue : (c : ℕ) (cap : Cap) (e : Edge) → Spread spec c cap → OfCap spec labels (label_of labels c) cap e → OfSome (OfPair spec labels f) f.queue e
+    of_queue c cap e has of =
+        let k = all.every c cap has in
+        record {
+          at = k.0;
+          less = slice_get_within f.queue k.0 k.1 k.2;
+          by = record { item = k.1; there = k.2; by = record { cap = cap; is = k.4; of_cap = subst (λ (n : ℕ). OfCap spec labels (label_of labels n) cap e) (sym k.3) of } };
+        }
+
+    -- the deeds of some thread, by the roots
+    pub of_roots : (roots : List (Option ℕ)) (deed : Deed) (t c : ℕ) (e : Edge) → AreRoots spec roots → c < length spec.entries → HasRoot spec t c → OfDeeds spec labels f deed c e
+        → OfRoots spec labels f deed roots e
+    of_roots roots deed t c e are inside root by = record { at = c; less = inside; by = go (get_or roots c None) refl } where
+      go : (o : Option ℕ) → get_or roots c None ≡ o → OfRoot spec labels f deed (get_or roots c None) c e
+      go None none = absurd (are.all_ones c t root none)
+      go (Some u) some = subst (λ (o : Option ℕ). OfRoot spec labels f deed o c e) (sym some) by
+
+    -- the calls, by the endpoints
+    module _ (rosters : List (List ℕ)) (gates : List (List Place)) (r : AreRosters spec rosters (length spec.entries)) (g : AreGates spec f gates (length f.queue)) where
+      pub of_listeners : (e : Edge) → OfAllCalls spec labels e → OfSome (OfListening spec labels f rosters gates) f.queue e
+      of_listeners e x =
+          let a = all.every x.c x.to x.has in
+          let b = all.every x.d x.from x.peer_has in
+          let wanted : is_wanted spec wants.Caller x.to ≡ true = (let is = x.meet.is in let may = x.may in rw is may) in
+          let listens : is_wanted spec wants.Listener x.from ≡ true = (let is : is_at spec kinds.Endpoint x.from.object ≡ true = subst (λ (n : ℕ). is_at spec kinds.Endpoint n ≡ true) (sym x.meet.same) x.meet.is in rw is x.meet.reads) in
+          let gate = g.every a.0 a.1 x.to (slice_get_within f.queue a.0 a.1 a.2) a.2 a.4 wanted in
+          let gate_there : slice_get (row_at gates x.from.object) gate.0 ≡ Some gate.1 = subst (λ (n : ℕ). slice_get (row_at gates n) gate.0 ≡ Some gate.1) (sym x.meet.same) gate.2 in
+          let gate_node : gate.1.node ≡ x.c = gate.3 ∙ a.3 in
+          let tk = r.every x.c x.t (thread_inside spec x.t x.c x.roots.root) x.roots.root in
+          let uk = r.every x.d x.u (thread_inside spec x.u x.d x.roots.peer_root) x.roots.peer_root in
+          let inner : OfSome (OfCall labels x.u x.d) (row_at rosters x.c) e = record { at = tk.0; less = slice_get_within (row_at rosters x.c) tk.0 x.t tk.1; by = record { item = x.t; there = tk.1; by = (x.roots.other, x.is) } } in
+          let between : Between labels rosters x.c x.d e = record { at = uk.0; less = slice_get_within (row_at rosters x.d) uk.0 x.u uk.1; by = record { item = x.u; there = uk.1; by = inner } } in
+          let here : Between labels rosters gate.1.node b.1.node e =
+          subst (λ (n : ℕ). Between labels rosters n b.1.node e) (sym gate_node) (subst (λ (n : ℕ). Between labels rosters x.c n e) (sym b.3) between) in
+          record {
+            at = b.0;
+            less = slice_get_within f.queue b.0 b.1 b.2;
+            by = record {
+              item = b.1;
+              there = b.2;
+              by = record {
+                cap = x.from;
+                is = b.4;
+                wanted = listens;
+                by = record {
+                  at = gate.0;
+                  less = slice_get_within (row_at gates x.from.object) gate.0 gate.1 gate_there;
+                  by = record { item = gate.1; there = gate_there; by = here };
+                };
+              };
+            };
+          }
+
+  -- each edge of an audit is of one of the parts
+  pub audited_parts : (labels : List ℕ) (e : Edge) → Audited spec labels e.from e.authority e.to
+      → OfBoot spec labels e ⊎ (OfSome (OfPair spec labels f) f.queue e ⊎ (OfAllDeeds spec labels f e ⊎ OfAllCalls spec labels e))
+  audited_parts labels e (at_boot structural) = inl (inr structural)
+  audited_parts labels e (of_spread (c, cap, has, confers, from, to)) = inr (inl (of_queue labels c cap e has (record { from_is = from; conferred = confers; to_is = to })))
+  audited_parts labels e (of_map (frame, space, maps, confers, from, to)) =
+      inr (inr (inl (by_map maps.thread maps.root maps.rooted (record {
+        from = space;
+        to = frame;
+        has_from = is_held maps.root space maps.has;
+        has_to = is_held maps.root frame maps.has_frame;
+        is_from = maps.is;
+        is_to = maps.is_frame;
+        by = record { from_is = from; conferred = confers; to_is = to };
+      }))))
+  audited_parts labels e (of_bind (d, n, binds, is, from, to)) =
+      inr (inr (inl (by_bind binds.thread binds.root binds.rooted (record {
+        from = binds.irq;
+        to = binds.bound;
+        has_from = is_held binds.root binds.irq binds.has_irq;
+        has_to = is_held binds.root binds.bound binds.has;
+        is_from = binds.is_irq;
+        is_to = (let a = binds.is in rw a binds.writes);
+        by = edges_same e (edge (label_of labels binds.irq.object) AsyncSend (label_of labels binds.bound.object)) (from ∙ ap (λ (k : ℕ). label_of labels k) (sym binds.of_irq)) is
+            (to ∙ ap (λ (k : ℕ). label_of labels k) (sym binds.of_bound));
+      }))))
+  audited_parts labels e (of_call (t, u, to, from, calls, is, l, m)) = inr (inr (inr (record {
+    t = t;
+    u = u;
+    c = calls.root;
+    d = calls.peer_root;
+    to = to;
+    from = from;
+    roots = calls.roots;
+    has = calls.has;
+    peer_has = calls.peer_has;
+    meet = calls.meet;
+    may = calls.may;
+    is = inl (edges_same e (edge (label_of labels u) Reply (label_of labels t)) l is m);
+  })))
+  audited_parts labels e (of_save (t, u, c, to, from, calls, root, is, l, m)) = inr (inr (inr (record {
+    t = t;
+    u = u;
+    c = calls.root;
+    d = calls.peer_root;
+    to = to;
+    from = from;
+    roots = calls.roots;
+    has = calls.has;
+    peer_has = calls.peer_has;
+    meet = calls.meet;
+    may = calls.may;
+    is = inr (edges_same e (edge (label_of labels calls.peer_root) Reply (label_of labels t)) (l ∙ ap (λ (k : ℕ). label_of labels k) same_root) is m);
+  }))) where
+    same_root : c ≡ calls.peer_root
+    same_root = let p : Some c ≡ Some calls.peer_root = sym root ∙ calls.roots.peer_root in cc
+
+-- the place of a gate and the place of a listener meet
+pub gate_meets : (spec : Spec) (f : Found) (gates : List (List Place)) (n : ℕ) → AreGates spec f gates n → (peer : Place) (from : Cap) → HoldsAt f peer.node peer.number from
+    → is_wanted spec wants.Listener from ≡ true → (k : ℕ) (at : Place) → slice_get (row_at gates from.object) k ≡ Some at → Meets spec f at peer
+gate_meets spec f gates n g peer from stands listens k at there =
+    let may = g.may from.object k at there in
+    let reads = and_parts (is_at spec kinds.Endpoint from.object) from.rights.read listens in
+    let calls = and_parts (is_at spec kinds.Endpoint may.cap.object) (may.cap.rights.write && (may.cap.rights.grant || may.cap.rights.reply)) may.wanted in
+    record { to = may.cap; from = from; own = may.held; listens = stands; meet = record { is = calls.0; same = sym may.to; reads = reads.1 }; may = calls.1 }
+
+-- the deeds of all threads, by the list of roots
+pub deeds_parts : (spec : Spec) (labels : List ℕ) (f : Found) (roots : List (Option ℕ)) → IsAll spec f → IsKept spec → AreRoots spec roots → (e : Edge) → OfAllDeeds spec labels f e
+    → OfRoots spec labels f deeds.Map roots e ⊎ OfRoots spec labels f deeds.Bind roots e
+deeds_parts spec labels f roots all kept are e (by_map t c root of) = inl (of_roots spec f all labels roots deeds.Map t c e are (root_inside spec t c kept root) root of)
+deeds_parts spec labels f roots all kept are e (by_bind t c root of) = inr (of_roots spec f all labels roots deeds.Bind t c e are (root_inside spec t c kept root) root of)
+
+pub begun_on : (P : Edge → Type 0) (m new : Made) → IsBegun m → Gains P m new → IsBegun new
+begun_on P m new b g = record {
+  so_far = g.so_far;
+  all = subst (λ (x : Made). IsAll x.spec x.found) (sym g.same) b.all;
+  kept = subst (λ (x : Made). IsKept x.spec) (sym g.same) b.kept;
+  labelled = subst (λ (x : Made). length x.labels ≡ length x.spec.entries) (sym g.same) b.labelled;
+}
+
+-- the four parts, one after the other
+pub all_shown : (m a b c d : Made) → IsBegun m → Gains (OfBoot m.spec m.labels) m a → Gains (OfSome (OfPair a.spec a.labels a.found) a.found.queue) a b → Gains (OfAllDeeds b.spec b.labels b.found) b c
+    → Gains (OfAllCalls c.spec c.labels) c d → Gains (λ e. Audited m.spec m.labels e.from e.authority e.to) m d
+all_shown m a b c d begun g h k l =
+    let P = OfBoot m.spec m.labels in
+    let Q = OfSome (OfPair m.spec m.labels m.found) m.found.queue in
+    let R = OfAllDeeds m.spec m.labels m.found in
+    let S = OfAllCalls m.spec m.labels in
+    let h_m : Gains Q a b = subst (λ (x : Made). Gains (OfSome (OfPair x.spec x.labels x.found) x.found.queue) a b) g.same h in
+    let gh : Gains (λ e. P e ⊎ Q e) m b = gains_then P Q m a b g h_m in
+    let k_m : Gains R b c = subst (λ (x : Made). Gains (OfAllDeeds x.spec x.labels x.found) b c) gh.same k in
+    let ghk : Gains (λ e. (P e ⊎ Q e) ⊎ R e) m c = gains_then (λ e. P e ⊎ Q e) R m b c gh k_m in
+    let l_m : Gains S c d = subst (λ (x : Made). Gains (OfAllCalls x.spec x.labels) c d) ghk.same l in
+    let all = gains_then (λ e. (P e ⊎ Q e) ⊎ R e) S m c d ghk l_m in
+    gains_by (λ e. ((P e ⊎ Q e) ⊎ R e) ⊎ S e) (λ e. Audited m.spec m.labels e.from e.authority e.to)
+    (λ e x. elim (audited_parts m.spec m.found begun.all m.labels e x) [
+      | inl p ↦ inl (inl (inl p))
+      | inr y ↦ elim y [ inl q ↦ inl (inl (inr q)) | inr z ↦ elim z [ inl r ↦ inl (inr r) | inr t ↦ inr t ] ]
+    ])
+    m d all
+
+-- the report
+pub reported : (old new : Made) (edges : List Edge) (steps : List Step) → HoldsNoThread old.spec
+    → Gains (λ e. Audited old.spec old.labels e.from e.authority e.to) old new → ((e : Edge) → has edges e ≡ has new.edges e) → steps ≡ new.steps → IsReport old.spec old.labels edges steps
+reported old new edges steps none g same steps_are =
+    let made_new : IsMade new.spec new.labels new.found new.edges new.steps new.nexts = g.so_far.made in
+    let made_old : IsMade old.spec old.labels old.found new.edges new.steps new.nexts = subst (λ (x : Made). IsMade x.spec x.labels x.found new.edges new.steps new.nexts) g.same made_new in
+    let made : IsMade old.spec old.labels old.found edges new.steps new.nexts = record {
+      state = made_old.state;
+      run = made_old.run;
+      quiet = made_old.quiet;
+      numbers = made_old.numbers;
+      there = made_old.there;
+      shown = λ l a m h. made_old.shown l a m (sym (same (edge l a m)) ∙ h);
+    } in
+    subst (λ (xs : List Step). IsReport old.spec old.labels edges xs) (sym steps_are) (report_exact old.spec old.labels old.found edges new.steps new.nexts none made
+    (λ l a m h. g.so_far.differ l a m (sym (same (edge l a m)) ∙ h))
+    (λ l a m x differ. same (edge l a m) ∙ g.added (edge l a m) x differ))

@@ -1,0 +1,176 @@
+-- Threads by their roots, and callers by their endpoints.
+use Rattle.std.proofs.Common.{◌≡◌, ◌≢◌, ◌∙◌, ◌⊎◌, ◌<◌, ◌&&◌, ◌||◌, ℕ, ◌+◌, List, [], ◌∷◌, ◌++◌, Option, Some, None, length, slice_get, refl, sym, ap, subst, inl, inr, arith}
+use Rattle.std.specs.List.{Contains}
+use Rattle.std.proofs.lemmas.Bool.{and_parts, cases_eq, cases_lt}
+use Rattle.std.proofs.lemmas.List.{get_or-set_same, get_or-set_other, length-set}
+use Rattle.cap_model.proofs.Kept.{is_at_below, object_below}
+use Rattle.cap_model.specs.Kept.{IsKept}
+use Rattle.cap_model.specs.Kinds.{is_at}
+use Rattle.cap_model.specs.Lookup.{object_at}
+use Rattle.cap_model.specs.declared.cap.Cap.{Cap}
+use Rattle.cap_model.specs.declared.kind.Kind.TheVariants as kinds
+use Rattle.cap_model.specs.declared.object.Object.{Object}
+use Rattle.cap_model.specs.declared.spec.Spec.{Spec}
+use Rattle.cap_spread.specs.Search.{Found, HoldsAt, held_by}
+use Rattle.cap_spread.specs.Spread.{HasRoot, root_of}
+use Rattle.cap_spread.specs.Start.{repeated}
+use Rattle.cap_spread.specs.declared.found.Pair.{Pair}
+use Rattle.cap_model.specs.State.{boot}
+use Rattle.cap_spread.proofs.Beginning.{repeated_at, repeated_length}
+use Rattle.cap_spread.proofs.Bringing.{at_pushed, pushed_cases, pushed_last}
+use Rattle.cap_spread.proofs.Quiet.{boot_quiet, quiet_cnode}
+use Rattle.cap_audit.specs.Gates.{AreGates, AreRosters, MayCallAt, enrolled, gated, row_at, with_more}
+use Rattle.cap_audit.specs.Picks.{pick_of}
+use Rattle.cap_audit.specs.declared.gates.Place.{Place}
+use Rattle.cap_audit.specs.declared.picks.Pick.{Pick}
+use Rattle.cap_audit.specs.declared.picks.Wanted.TheVariants as wants
+use Rattle.cap_audit.proofs.Picking.{pick_holds, picked, picked_from}
+
+module _ {A : Type 0} (rows : List (List A)) (o : ℕ) (x : A) (inside : o < length rows) where
+  row_new : row_at (with_more rows o x) o ≡ row_at rows o ++ x ∷ []
+  row_new = get_or-set_same rows o (row_at rows o ++ x ∷ []) [] inside
+
+  row_other : (c : ℕ) → c ≢ o → row_at (with_more rows o x) c ≡ row_at rows c
+  row_other c other = get_or-set_other rows o c (row_at rows o ++ x ∷ []) [] other
+
+  -- what stood in a row stands there
+  more_kept : (c k : ℕ) (y : A) → slice_get (row_at rows c) k ≡ Some y → slice_get (row_at (with_more rows o x) c) k ≡ Some y
+  more_kept c k y h = elim (cases_eq c o) [
+    | inl same ↦ rw same (rw row_new (at_pushed (row_at rows o) x y k (subst (λ (n : ℕ). slice_get (row_at rows n) k ≡ Some y) same h)))
+    | inr other ↦ rw (row_other c other) h
+  ]
+
+  more_last : slice_get (row_at (with_more rows o x) o) (length (row_at rows o)) ≡ Some x
+  more_last = rw row_new (pushed_last (row_at rows o) x)
+
+  -- what stands there now stood there, or is the new one
+  more_cases : (c k : ℕ) (y : A) → slice_get (row_at (with_more rows o x) c) k ≡ Some y → (slice_get (row_at rows c) k ≡ Some y) ⊎ ((c ≡ o) × (x ≡ y))
+  more_cases c k y h = elim (cases_eq c o) [
+    | inl same ↦ (
+        let here : slice_get (row_at (with_more rows o x) o) k ≡ Some y = subst (λ (n : ℕ). slice_get (row_at (with_more rows o x) n) k ≡ Some y) same h in
+        elim (pushed_cases (row_at rows o) x y k (subst (λ (xs : List A). slice_get xs k ≡ Some y) row_new here)) [
+          | inl old ↦ inl (subst (λ (n : ℕ). slice_get (row_at rows n) k ≡ Some y) (sym same) old)
+          | inr now ↦ inr (same, now.1)
+        ])
+    | inr other ↦ inl (subst (λ (xs : List A). slice_get xs k ≡ Some y) (row_other c other) h)
+  ]
+
+none_in_blank : {A : Type 0} (rows : List (List A)) (n c k : ℕ) (y : A) → rows ≡ repeated [] n → slice_get (row_at rows c) k ≡ Some y → ⊥
+none_in_blank {A} rows n c k y is h =
+    let none : row_at rows c ≡ [] = rw is (repeated_at {A = List A} [] n c) in
+    let e : slice_get {X = A} [] k ≡ Some y = subst (λ (xs : List A). slice_get xs k ≡ Some y) none h in
+    cc
+
+-- rosters
+
+pub rosters_none : (spec : Spec) (rosters : List (List ℕ)) → rosters ≡ repeated [] (length spec.entries) → AreRosters spec rosters 0
+rosters_none spec rosters is = record {
+  as_many = ap (λ (xs : List (List ℕ)). length xs) is ∙ repeated_length [] (length spec.entries);
+  rooted = λ c k t h. absurd (none_in_blank rosters (length spec.entries) c k t is h);
+  every = λ c t less root. absurd (omega arith);
+}
+
+some_is : {A : Type 0} (x y : A) → Some x ≡ Some y → x ≡ y
+some_is x y h = cc
+
+pub rosters_more : (spec : Spec) (rosters new : List (List ℕ)) (n : ℕ) (root : Option ℕ) → ((c : ℕ) → root ≡ Some c → c < length spec.entries) → AreRosters spec rosters n → root_of (object_at spec n) ≡ root
+    → new ≡ enrolled rosters root n → AreRosters spec new (n + 1)
+rosters_more spec rosters new n None inside before is same = subst (λ (rows : List (List ℕ)). AreRosters spec rows (n + 1)) (sym same) (record {
+  as_many = before.as_many;
+  rooted = before.rooted;
+  every = λ c t less root. elim (cases_lt t n) [
+    | inl below ↦ before.every c t below root
+    | inr ge ↦ absurd (
+        let at : t ≡ n = omega arith in
+        let here : root_of (object_at spec n) ≡ Some c = subst (λ (k : ℕ). root_of (object_at spec k) ≡ Some c) at root in
+        let e : ◌≡◌ {A = Option ℕ} None (Some c) = sym is ∙ here in
+        cc)
+  ];
+})
+rosters_more spec rosters new n (Some d) inside before is same = subst (λ (rows : List (List ℕ)). AreRosters spec rows (n + 1)) (sym same) (
+    let within : d < length rosters = (let less = inside d refl in let many = before.as_many in omega arith) in
+    record {
+      as_many = length-set rosters d (row_at rosters d ++ n ∷ []) ∙ before.as_many;
+      rooted = λ c k t h. elim (more_cases rosters d n within c k t h) [
+        | inl old ↦ before.rooted c k t old
+        | inr now ↦ (let here : root_of (object_at spec t) ≡ Some d = subst (λ (k : ℕ). root_of (object_at spec k) ≡ Some d) now.1 is in here ∙ ap (λ (k : ℕ). Some k) (sym now.0))
+      ];
+      every = λ c t less root. elim (cases_lt t n) [
+        | inl below ↦ (let r = before.every c t below root in (r.0, more_kept rosters d n within c r.0 t r.1))
+        | inr ge ↦ (
+            let at : t ≡ n = omega arith in
+            let here : root_of (object_at spec n) ≡ Some c = subst (λ (k : ℕ). root_of (object_at spec k) ≡ Some c) at root in
+            let d_is : d ≡ c = some_is d c (sym is ∙ here) in
+            let last : slice_get (row_at (with_more rosters d n) d) (length (row_at rosters d)) ≡ Some n = more_last rosters d n within in (
+              length (row_at rosters d),
+              subst (λ (k : ℕ). slice_get (row_at (with_more rosters d n) k) (length (row_at rosters d)) ≡ Some t) d_is
+                  (subst (λ (k : ℕ). slice_get (row_at (with_more rosters d n) d) (length (row_at rosters d)) ≡ Some k) (sym at) last),
+            ))
+      ];
+    })
+
+-- gates
+
+pub gates_none : (spec : Spec) (f : Found) (gates : List (List Place)) → gates ≡ repeated [] (length spec.entries) → AreGates spec f gates 0
+gates_none spec f gates is = record {
+  as_many = ap (λ (xs : List (List Place)). length xs) is ∙ repeated_length [] (length spec.entries);
+  may = λ o k at h. absurd (none_in_blank gates (length spec.entries) o k at is h);
+  every = λ k pair cap less there of wanted. absurd (omega arith);
+}
+
+pub gates_more : (spec : Spec) (f : Found) (gates new : List (List Place)) (n : ℕ) (pair : Pair) (pick : Option Pick) → slice_get f.queue n ≡ Some pair → Contains (held_by f pair.node) pair.held
+    → AreGates spec f gates n → pick ≡ pick_of spec f wants.Caller pair.held → new ≡ gated gates pair.node pick → AreGates spec f new (n + 1)
+gates_more spec f gates new n pair None at held before is same = subst (λ (rows : List (List Place)). AreGates spec f rows (n + 1)) (sym same) (record {
+  as_many = before.as_many;
+  may = before.may;
+  every = λ k other cap less there of wanted. elim (cases_lt k n) [
+    | inl below ↦ before.every k other cap below there of wanted
+    | inr ge ↦ absurd (
+        let here : k ≡ n = omega arith in
+        let there_n : slice_get f.queue n ≡ Some other = subst (λ (j : ℕ). slice_get f.queue j ≡ Some other) here there in
+        let one : pair ≡ other = some_is pair other (sym at ∙ there_n) in
+        let none : ◌≡◌ {A = Option Pick} None (pick_of spec f wants.Caller other.held) = subst (λ (p : Pair). ◌≡◌ {A = Option Pick} None (pick_of spec f wants.Caller p.held)) one is in
+        let some = picked spec f wants.Caller other.held cap of wanted in
+        let e = none ∙ some in
+        cc)
+  ];
+})
+gates_more spec f gates new n pair (Some pick) at held before is same = subst (λ (rows : List (List Place)). AreGates spec f rows (n + 1)) (sym same) (
+    let from = picked_from spec f wants.Caller pair.held pick (sym is) in
+    let stands : HoldsAt f pair.node pick.number pick.cap = pick_holds spec f wants.Caller pair.node pair.held pick held (sym is) in
+    let parts = and_parts (is_at spec kinds.Endpoint pick.cap.object) (pick.cap.rights.write && (pick.cap.rights.grant || pick.cap.rights.reply)) from.2 in
+    let below : pick.cap.object < length spec.entries = is_at_below spec kinds.Endpoint pick.cap.object parts.0 in
+    let within : pick.cap.object < length gates = (let many = before.as_many in omega arith) in
+    let place : Place = record { node = pair.node; number = pick.number } in
+    record {
+      as_many = length-set gates pick.cap.object (row_at gates pick.cap.object ++ place ∷ []) ∙ before.as_many;
+      may = λ o k x h. elim (more_cases gates pick.cap.object place within o k x h) [
+        | inl old ↦ before.may o k x old
+        | inr now ↦ (
+            let mine : MayCallAt spec f pick.cap.object place = record { cap = pick.cap; held = stands; wanted = from.2; to = refl } in
+            subst (λ (y : Place). MayCallAt spec f o y) now.1 (subst (λ (j : ℕ). MayCallAt spec f j place) (sym now.0) mine))
+      ];
+      every = λ k other cap less there of wanted. elim (cases_lt k n) [
+        | inl small ↦ (let r = before.every k other cap small there of wanted in (r.0, r.1, more_kept gates pick.cap.object place within cap.object r.0 r.1 r.2, r.3))
+        | inr ge ↦ (
+            let here : k ≡ n = omega arith in
+            let there_n : slice_get f.queue n ≡ Some other = subst (λ (j : ℕ). slice_get f.queue j ≡ Some other) here there in
+            let one : pair ≡ other = some_is pair other (sym at ∙ there_n) in
+            let of_pair : slice_get f.values pair.held.value ≡ Some cap = subst (λ (p : Pair). slice_get f.values p.held.value ≡ Some cap) (sym one) of in
+            let cap_is : pick.cap ≡ cap = some_is pick.cap cap (sym from.0 ∙ of_pair) in (
+              length (row_at gates pick.cap.object),
+              place,
+              subst (λ (x : Cap). slice_get (row_at (with_more gates pick.cap.object place) x.object) (length (row_at gates pick.cap.object)) ≡ Some place) cap_is (more_last gates pick.cap.object place within),
+              ap (λ (p : Pair). p.node) one,
+            ))
+      ];
+    })
+
+pub root_inside : (spec : Spec) (t c : ℕ) → IsKept spec → HasRoot spec t c → c < length spec.entries
+root_inside spec t c kept root = is_at_below spec kinds.CNode c (quiet_cnode spec (boot spec) (boot_quiet spec kept) t c root)
+
+pub thread_inside : (spec : Spec) (t c : ℕ) → HasRoot spec t c → t < length spec.entries
+thread_inside spec t c root = go (object_at spec t) refl where
+  go : (o : Option Object) → object_at spec t ≡ o → t < length spec.entries
+  go (Some object) there = object_below spec t object there
+  go None there = absurd (let none : root_of (object_at spec t) ≡ None = rw there refl in let x : ◌≡◌ {A = Option ℕ} None (Some c) = sym none ∙ root in cc)

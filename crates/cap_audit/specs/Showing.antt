@@ -1,0 +1,46 @@
+-- Words for the contracts of private functions alone: what the parts of an audit show.
+use Rattle.std.specs.Prelude.{◌≡◌, ◌⊎◌, ℕ, List, length}
+use Rattle.auth_kinds.specs.Edges.{edge}
+use Rattle.auth_kinds.specs.ObjectLabels.{label_of}
+use Rattle.auth_kinds.specs.declared.authority.Authority.TheVariants.{Reply}
+use Rattle.auth_kinds.specs.declared.edge.Edge.{Edge}
+use Rattle.cap_model.specs.Auth.{Auth}
+use Rattle.cap_model.specs.Kept.{IsKept}
+use Rattle.cap_model.specs.State.{boot}
+use Rattle.cap_model.specs.declared.cap.Cap.{Cap}
+use Rattle.cap_model.specs.declared.spec.Spec.{Spec}
+use Rattle.cap_spread.specs.Search.{Found}
+use Rattle.cap_spread.specs.Spread.{HasRoot, HaveRoots, Meet, MayCall, Spread}
+use Rattle.cap_audit.specs.Gains.{IsAll, IsSoFar, Made}
+use Rattle.cap_audit.specs.Picks.{OfDeeds}
+use Rattle.cap_audit.specs.declared.making.Deed.TheVariants as deeds
+
+-- a report over all that was found
+pub record IsBegun (m : Made) : Type 0 where
+  pub so_far : IsSoFar m
+  pub all : IsAll m.spec m.found
+  pub kept : IsKept m.spec
+  pub labelled : length m.labels ≡ length m.spec.entries
+
+abbrev pub OfBoot : Spec → List ℕ → Edge → Type 0
+OfBoot spec labels e = Auth spec labels (boot spec) e.from e.authority e.to
+
+-- what maps and binds of some thread make
+pub data OfAllDeeds (spec : Spec) (labels : List ℕ) (f : Found) (e : Edge) : Type 0 where
+  by_map : (t c : ℕ) → HasRoot spec t c → OfDeeds spec labels f deeds.Map c e → OfAllDeeds spec labels f e
+  by_bind : (t c : ℕ) → HasRoot spec t c → OfDeeds spec labels f deeds.Bind c e → OfAllDeeds spec labels f e
+
+-- what a call of t to u by the Spread makes, whose roots are c and d
+pub record OfAllCalls (spec : Spec) (labels : List ℕ) (e : Edge) : Type 0 where
+  pub t : ℕ
+  pub u : ℕ
+  pub c : ℕ
+  pub d : ℕ
+  pub to : Cap
+  pub from : Cap
+  pub roots : HaveRoots spec t u c d
+  pub has : Spread spec c to
+  pub peer_has : Spread spec d from
+  pub meet : Meet spec to from
+  pub may : MayCall to
+  pub is : (e ≡ edge (label_of labels u) Reply (label_of labels t)) ⊎ (e ≡ edge (label_of labels d) Reply (label_of labels t))

@@ -1,0 +1,11 @@
+//! The audit of a spec: every edge that its runs reach, with steps that show each.
+#![tactic(auto)]
+
+mod count;
+mod gates;
+mod loops;
+mod making;
+mod picks;
+mod report;
+
+pub use report::{AuditRefusal, AuditReport, audit};

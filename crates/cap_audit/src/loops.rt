@@ -1,0 +1,289 @@
+//! All that was found is gone through, and each edge of it shown.
+
+ghost use Rattle.cap_audit.specs.Gains.{Gains, IsAll, IsSoFar, OfPair, OfSome};
+ghost use Rattle.cap_audit.specs.Gates.{AreGates, AreRosters, Between, Meets, OfCall, OfListening, row_at};
+ghost use Rattle.cap_audit.specs.declared.gates.Place.{Place};
+ghost use Rattle.cap_audit.specs.Picks.{OfDeed, OfDeeds, OfRoot, OfRoots, OwnsAll, OwnsFrom};
+ghost use Rattle.cap_model.specs.Kept.{IsKept};
+ghost use Rattle.cap_spread.specs.Covering.{AreRoots};
+ghost use Rattle.cap_spread.specs.Search.{held_by};
+ghost use Rattle.cap_spread.specs.Spread.{HasRoot};
+ghost use Rattle.std.specs.List.{Contains};
+ghost use Rattle.std.specs.Prelude.{◌≡◌, ℕ, None, Some, OnOk, length, slice_get, slice_index_or};
+
+use crate::gates::{Gate, Party, Place, Roster};
+use crate::making::{Deed, Making};
+use crate::picks::{Pick, Wanted};
+use cam_base::NoMemory;
+use cap_spread::Pair;
+
+/// Shows what the capability of a pair confers.
+fn hold_pair(making: &mut Making<'_>, pair: Pair) -> Result<(), NoMemory>
+    requires so_far { IsSoFar making.old }
+    requires held { Contains (held_by making.old.found pair.node) pair.held }
+    ensures { OnOk result (Gains (OfPair making.old.spec making.old.labels making.old.found pair) making.old making.new) }
+{
+    match making.value(pair.held.value) {
+        Some(cap) => {
+            let pick = Pick {
+                number: pair.held.number,
+                cap,
+            };
+            making.hold(pair.node, &pick)?;
+            Ok(())
+        }
+        None => Ok(()),
+    }
+}
+
+/// Shows what all that was found confers.
+pub fn hold_all(making: &mut Making<'_>) -> Result<(), NoMemory>
+    requires so_far { IsSoFar making.old }
+    requires all { IsAll making.old.spec making.old.found }
+    ensures { OnOk result (Gains (OfSome (OfPair making.old.spec making.old.labels making.old.found) making.old.found.queue) making.old making.new) }
+{
+    for place in 0..making.count() {
+        hold_pair(making, making.pair(place))?;
+    }
+    Ok(())
+}
+
+/// Makes a thread take the step, from this capability to each of those.
+fn act_to_each(
+    making: &mut Making<'_>,
+    deed: Deed,
+    t: u32,
+    from: &Pick,
+    tos: &[Pick],
+) -> Result<(), NoMemory>
+    requires so_far { IsSoFar making.old }
+    requires own { OwnsFrom making.old.spec making.old.found t deed from.now tos.now }
+    ensures { OnOk result (Gains (OfSome (λ to. OfDeed making.old.spec making.old.labels deed from.now.cap to.cap) tos.now) making.old making.new) }
+{
+    for to in tos {
+        making.act(deed, t, from, to)?;
+    }
+    Ok(())
+}
+
+/// The same from each of these capabilities.
+fn act_from_each(
+    making: &mut Making<'_>,
+    deed: Deed,
+    t: u32,
+    froms: &[Pick],
+    tos: &[Pick],
+) -> Result<(), NoMemory>
+    requires so_far { IsSoFar making.old }
+    requires own { OwnsAll making.old.spec making.old.found t deed froms.now tos.now }
+    ensures { OnOk result (Gains (OfSome (λ from. OfSome (λ to. OfDeed making.old.spec making.old.labels deed from.cap to.cap) tos.now) froms.now) making.old making.new) }
+{
+    for from in froms {
+        act_to_each(making, deed, t, from, tos)?;
+    }
+    Ok(())
+}
+
+/// Makes a thread with this root take all such steps.
+fn act_at(making: &mut Making<'_>, deed: Deed, t: u32, node: u32) -> Result<(), NoMemory>
+    requires so_far { IsSoFar making.old }
+    requires root { HasRoot making.old.spec t node }
+    ensures { OnOk result (Gains (OfDeeds making.old.spec making.old.labels making.old.found deed node) making.old making.new) }
+{
+    let froms = making.picks(node, deed.wanted_from())?;
+    let tos = making.picks(node, deed.wanted_to())?;
+    act_from_each(making, deed, t, froms.as_slice(), tos.as_slice())?;
+    Ok(())
+}
+
+fn act_at_root(
+    making: &mut Making<'_>,
+    deed: Deed,
+    root: Option<u32>,
+    node: u32,
+) -> Result<(), NoMemory>
+    requires so_far { IsSoFar making.old }
+    requires root { (t : ℕ) → root ≡ Some t → HasRoot making.old.spec t node }
+    ensures { OnOk result (Gains (OfRoot making.old.spec making.old.labels making.old.found deed root node) making.old making.new) }
+{
+    match root {
+        Some(t) => {
+            act_at(making, deed, t, node)?;
+            Ok(())
+        }
+        None => Ok(()),
+    }
+}
+
+/// A thread with this root, if there is one.
+fn thread_of(roots: &[Option<u32>], c: u32) -> Option<u32>
+    ensures { result ≡ slice_index_or roots.now c None }
+{
+    match roots.get(c as usize) {
+        Some(thread) => *thread,
+        None => None,
+    }
+}
+
+/// Makes threads take all such steps, one thread of each root.
+pub fn act_at_all(
+    making: &mut Making<'_>,
+    deed: Deed,
+    roots: &[Option<u32>],
+) -> Result<(), NoMemory>
+    requires so_far { IsSoFar making.old }
+    requires kept { IsKept making.old.spec }
+    requires roots { AreRoots making.old.spec roots.now }
+    ensures { OnOk result (Gains (OfRoots making.old.spec making.old.labels making.old.found deed roots.now) making.old making.new) }
+{
+    for c in 0..making.objects() {
+        act_at_root(making, deed, thread_of(roots, c as u32), c as u32)?;
+    }
+    Ok(())
+}
+
+/// The threads with a root.
+fn threads_of(rosters: &[Roster], node: u32) -> &[u32]
+    ensures { result.now ≡ row_at rosters.now node }
+{
+    match rosters.get(node as usize) {
+        Some(roster) => roster.threads(),
+        None => &[],
+    }
+}
+
+/// From where an endpoint may be called.
+fn places_at(gates: &[Gate], endpoint: u32) -> &[Place]
+    ensures { result.now ≡ row_at gates.now endpoint }
+{
+    match gates.get(endpoint as usize) {
+        Some(gate) => gate.places(),
+        None => &[],
+    }
+}
+
+fn call(making: &mut Making<'_>, t: u32, at: Place, u: u32, peer: Place) -> Result<(), NoMemory>
+    requires so_far { IsSoFar making.old }
+    requires meets { Meets making.old.spec making.old.found at peer }
+    requires root { HasRoot making.old.spec t at.node }
+    requires peer_root { HasRoot making.old.spec u peer.node }
+    ensures { OnOk result (Gains (OfCall making.old.labels u peer.node t) making.old making.new) }
+{
+    if t == u {
+        return Ok(());
+    }
+    let caller = Party {
+        thread: t,
+        node: at.node,
+        number: at.number,
+    };
+    let listener = Party {
+        thread: u,
+        node: peer.node,
+        number: peer.number,
+    };
+    making.call(caller, listener)?;
+    Ok(())
+}
+
+/// Each of these threads calls the one.
+fn call_from_each(
+    making: &mut Making<'_>,
+    threads: &[u32],
+    at: Place,
+    u: u32,
+    peer: Place,
+) -> Result<(), NoMemory>
+    requires so_far { IsSoFar making.old }
+    requires meets { Meets making.old.spec making.old.found at peer }
+    requires roots { (k t : ℕ) → slice_get threads.now k ≡ Some t → HasRoot making.old.spec t at.node }
+    requires peer_root { HasRoot making.old.spec u peer.node }
+    ensures { OnOk result (Gains (OfSome (OfCall making.old.labels u peer.node) threads.now) making.old making.new) }
+{
+    for t in threads {
+        call(making, *t, at, u, peer)?;
+    }
+    Ok(())
+}
+
+/// All threads with the one root call those with the other.
+fn call_between(
+    making: &mut Making<'_>,
+    rosters: &[Roster],
+    at: Place,
+    peer: Place,
+) -> Result<(), NoMemory>
+    requires so_far { IsSoFar making.old }
+    requires rosters { AreRosters making.old.spec rosters.now (length making.old.spec.entries) }
+    requires meets { Meets making.old.spec making.old.found at peer }
+    ensures { OnOk result (Gains (Between making.old.labels rosters.now at.node peer.node) making.old making.new) }
+{
+    let callers = threads_of(rosters, at.node);
+    let peers = threads_of(rosters, peer.node);
+    for u in peers {
+        call_from_each(making, callers, at, *u, peer)?;
+    }
+    Ok(())
+}
+
+/// All threads that may call at an endpoint call those with this root.
+fn call_from_gate(
+    making: &mut Making<'_>,
+    rosters: &[Roster],
+    gate: &[Place],
+    peer: Place,
+) -> Result<(), NoMemory>
+    requires so_far { IsSoFar making.old }
+    requires rosters { AreRosters making.old.spec rosters.now (length making.old.spec.entries) }
+    requires meet { (k : ℕ) (at : Place) → slice_get gate.now k ≡ Some at → Meets making.old.spec making.old.found at peer }
+    ensures { OnOk result (Gains (OfSome (λ at. Between making.old.labels rosters.now at.node peer.node) gate.now) making.old making.new) }
+{
+    for at in gate {
+        call_between(making, rosters, *at, peer)?;
+    }
+    Ok(())
+}
+
+/// Those who may call call those with the root of the pair, where its capability listens.
+fn listen(
+    making: &mut Making<'_>,
+    rosters: &[Roster],
+    gates: &[Gate],
+    pair: Pair,
+) -> Result<(), NoMemory>
+    requires so_far { IsSoFar making.old }
+    requires rosters { AreRosters making.old.spec rosters.now (length making.old.spec.entries) }
+    requires gates { AreGates making.old.spec making.old.found gates.now (length making.old.found.queue) }
+    requires held { Contains (held_by making.old.found pair.node) pair.held }
+    ensures { OnOk result (Gains (OfListening making.old.spec making.old.labels making.old.found rosters.now gates.now pair) making.old making.new) }
+{
+    match making.pick(Wanted::Listener, pair.held) {
+        Some(pick) => {
+            let peer = Place {
+                node: pair.node,
+                number: pick.number,
+            };
+            call_from_gate(making, rosters, places_at(gates, pick.cap.object), peer)?;
+            Ok(())
+        }
+        None => Ok(()),
+    }
+}
+
+/// Shows all calls.
+pub fn listen_all(
+    making: &mut Making<'_>,
+    rosters: &[Roster],
+    gates: &[Gate],
+) -> Result<(), NoMemory>
+    requires so_far { IsSoFar making.old }
+    requires all { IsAll making.old.spec making.old.found }
+    requires rosters { AreRosters making.old.spec rosters.now (length making.old.spec.entries) }
+    requires gates { AreGates making.old.spec making.old.found gates.now (length making.old.found.queue) }
+    ensures { OnOk result (Gains (OfSome (OfListening making.old.spec making.old.labels making.old.found rosters.now gates.now) making.old.found.queue) making.old making.new) }
+{
+    for place in 0..making.count() {
+        listen(making, rosters, gates, making.pair(place))?;
+    }
+    Ok(())
+}

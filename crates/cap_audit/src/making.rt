@@ -1,0 +1,422 @@
+//! A report in the making: edges, and steps that show them.
+
+ghost use Rattle.auth_graph.specs.Sources.{OfCap};
+ghost use Rattle.auth_kinds.specs.Adds.{Is};
+ghost use Rattle.auth_kinds.specs.Edges.{edge};
+ghost use Rattle.auth_kinds.specs.ObjectLabels.{label_of};
+ghost use Rattle.auth_kinds.specs.Tables.{Has, has};
+ghost use Rattle.auth_kinds.specs.declared.authority.Authority.TheVariants.{AsyncSend};
+ghost use Rattle.auth_kinds.specs.declared.authority.Authority.{Authority};
+ghost use Rattle.auth_kinds.specs.declared.edge.Edge.{Edge};
+ghost use Rattle.cap_audit.specs.Gains.{Gains, IsAll, IsSoFar, Notes};
+ghost use Rattle.cap_audit.specs.Gates.{AreGates, AreParties, AreRosters, OfParties, call_steps};
+ghost use Rattle.cap_audit.specs.Picks.{OfDeed, OwnsBoth, deed_step, pick_of, wanted_from, wanted_to};
+ghost use Rattle.cap_model.specs.Auth.{Auth};
+ghost use Rattle.cap_model.specs.Kept.{IsKept};
+ghost use Rattle.cap_model.specs.State.{boot};
+ghost use Rattle.cap_spread.specs.Covering.{AreRoots};
+ghost use Rattle.cap_spread.specs.Search.{HoldsAt, held_by};
+ghost use Rattle.std.specs.List.{filter_map};
+ghost use Rattle.std.specs.Prelude.{Some, ◌≡◌, ◌≢◌, ◌<◌, ◌+◌, ℕ, length, slice_get, ◌++◌, ◌∷◌, ◌↔◌, [], true, IfOk, IsTrue, OnOk, slice_set, slice_index};
+
+use crate::gates::{Gate, Party, Roster, gates, rosters};
+use crate::picks::{Pick, Wanted, picked, picks};
+use auth_graph::{direct, with_cap, with_link};
+use auth_kinds::{Authority, Edge, EdgeTable, Labels};
+use cam_base::NoMemory;
+use cap_machine::Step;
+use cap_model::{Cap, Spec};
+use cap_spread::{Findings, Held, Pair, roots, whole};
+use edge_sets::EdgeSet;
+use std::alloc::Global;
+use std::marker::Model;
+
+/// Steps that take two capabilities of one CNode: a space root and a frame, or an interrupt and a notification.
+#[derive(Clone, Copy)]
+pub enum Deed {
+    Map,
+    Bind,
+}
+
+impl Deed {
+    /// What the edges are from.
+    pub fn wanted_from(self) -> Wanted
+        ensures { result ≡ wanted_from self }
+    {
+        match self {
+            Deed::Map => Wanted::Space,
+            Deed::Bind => Wanted::Irq,
+        }
+    }
+
+    /// What the edges are to.
+    pub fn wanted_to(self) -> Wanted
+        ensures { result ≡ wanted_to self }
+    {
+        match self {
+            Deed::Map => Wanted::Frame,
+            Deed::Bind => Wanted::Bound,
+        }
+    }
+
+    /// The step of the thread.
+    fn step(self, t: u32, from: &Pick, to: &Pick) -> Step
+        ensures { result ≡ deed_step self t from.now to.now }
+    {
+        match self {
+            Deed::Map => Step::Map {
+                t,
+                i: to.number,
+                j: from.number,
+                r: whole(),
+            },
+            Deed::Bind => Step::Bind {
+                t,
+                i: from.number,
+                j: to.number,
+            },
+        }
+    }
+}
+
+fn put_next(nexts: &mut [u64], c: u32, next: u64)
+    ensures { nexts.new ≡ slice_set nexts.old c next }
+{
+    let c = c as usize;
+    if c < nexts.len() {
+        nexts[c] = next;
+    }
+}
+
+/// What was found, and a report in the making.
+#[derive(Drop)]
+pub struct Making<'a> {
+    alloc: Global,
+    spec: &'a Spec,
+    labels: &'a Labels,
+    findings: &'a Findings,
+    edges: EdgeSet,
+    steps: Vec<Step>,
+    nexts: Vec<u64>,
+}
+
+impl<'a> Model for Making<'a> {
+    ghost use Rattle.cap_audit.specs.Gains.{Made};
+
+    ghost Value = { Made };
+
+    ghost view = { λ m. record { spec = m.spec.now; labels = m.labels.now.by_object; found = m.findings.now; edges = m.edges; steps = m.steps.items; nexts = m.nexts.items } };
+}
+
+impl<'a> Making<'a> {
+    /// No edges yet.
+    pub fn new(
+        alloc: Global,
+        spec: &'a Spec,
+        labels: &'a Labels,
+        findings: &'a Findings,
+        steps: Vec<Step>,
+        nexts: Vec<u64>,
+    ) -> Making<'a>
+        ensures { result ≡ record { spec = spec.entry.now; labels = labels.entry.now.by_object; found = findings.entry.now; edges = []; steps = steps.items; nexts = nexts.items } }
+    {
+        Making {
+            alloc,
+            spec,
+            labels,
+            findings,
+            edges: EdgeSet::new(alloc),
+            steps,
+            nexts,
+        }
+    }
+
+    /// How many objects there are.
+    pub fn objects(&self) -> usize
+        ensures { result ≡ length self.now.spec.entries }
+    {
+        self.spec.entries.len()
+    }
+
+    /// How many pairs were found.
+    pub fn count(&self) -> usize
+        ensures { result ≡ length self.now.found.queue }
+    {
+        self.findings.count()
+    }
+
+    /// The pair at a place.
+    pub fn pair(&self, place: usize) -> Pair
+        requires { place < length self.now.found.queue }
+        ensures { slice_get self.now.found.queue place ≡ Some result }
+    {
+        self.findings.pair(place)
+    }
+
+    /// A value's capability.
+    pub fn value(&self, value: usize) -> Option<Cap>
+        ensures { result ≡ slice_get self.now.found.values value }
+    {
+        self.findings.value(value)
+    }
+
+    /// The value as a pick, where it is one of those.
+    pub fn pick(&self, wanted: Wanted, held: Held) -> Option<Pick>
+        ensures { result ≡ pick_of self.now.spec self.now.found wanted held }
+    {
+        picked(self.spec, self.findings, wanted, held)
+    }
+
+    /// Those of a CNode's capabilities.
+    pub fn picks(&self, node: u32, wanted: Wanted) -> Result<Vec<Pick>, NoMemory>
+        ensures { IfOk result (λ picks. picks.items ≡ filter_map (pick_of self.now.spec self.now.found wanted) (held_by self.now.found node)) }
+    {
+        picks(self.alloc, self.spec, self.findings, node, wanted)
+    }
+
+    /// The table of the edges of the boot state.
+    pub fn boot_edges(&self) -> Result<EdgeTable, NoMemory>
+        requires { length self.now.labels ≡ length self.now.spec.entries }
+        ensures { IfOk result (λ table. (l : ℕ) (a : Authority) (m : ℕ) → (Has table l a m) ↔ Auth self.now.spec self.now.labels (boot self.now.spec) l a m) }
+    {
+        direct(self.alloc, self.spec, self.labels)
+    }
+
+    /// A thread of each root.
+    pub fn roots(&self) -> Result<Vec<Option<u32>>, NoMemory>
+        requires { IsKept self.now.spec }
+        ensures { IfOk result (λ roots. AreRoots self.now.spec roots.items) }
+    {
+        roots(self.alloc, self.spec)
+    }
+
+    /// The threads by their roots.
+    pub fn rosters(&self) -> Result<Vec<Roster>, NoMemory>
+        requires { IsKept self.now.spec }
+        ensures { IfOk result (λ rosters. AreRosters self.now.spec rosters.items (length self.now.spec.entries)) }
+    {
+        rosters(self.alloc, self.spec)
+    }
+
+    /// The places from which an endpoint may be called, by endpoints.
+    pub fn gates(&self) -> Result<Vec<Gate>, NoMemory>
+        requires { IsAll self.now.spec self.now.found }
+        ensures { IfOk result (λ gates. AreGates self.now.spec self.now.found gates.items (length self.now.found.queue)) }
+    {
+        gates(self.alloc, self.spec, self.findings)
+    }
+
+    /// The edges as a table, and the steps.
+    pub fn ended(self) -> Result<(EdgeTable, Vec<Step>), NoMemory>
+        ensures edges { IfOk result (λ ended. (e : Edge) → has ended.0 e ≡ has self.entry.edges e) }
+        ensures steps { IfOk result (λ ended. ended.1.items ≡ self.entry.steps) }
+    {
+        let Making {
+            alloc,
+            spec: _,
+            labels: _,
+            findings: _,
+            edges,
+            steps,
+            nexts: _nexts,
+        } = self;
+        let table = edges.table(alloc)?;
+        Ok((table, steps))
+    }
+
+    /// Whether nothing is to be shown for this edge.
+    fn is_settled(&self, edge: &Edge) -> bool
+        ensures { IsTrue result → edge.now.from ≢ edge.now.to → has self.now.edges edge.now ≡ true }
+    {
+        edge.from == edge.to || self.edges.contains(edge)
+    }
+
+    /// Whether nothing is to be shown for these edges.
+    fn are_settled(&self, edges: &[Edge]) -> bool
+        ensures { IsTrue result → (e : Edge) → has edges.now e ≡ true → e.from ≢ e.to → has self.now.edges e ≡ true }
+    {
+        for edge in edges {
+            if !self.is_settled(edge) {
+                return false;
+            }
+        }
+        true
+    }
+
+    /// Puts an edge in, where it lies between different labels.
+    fn note(&mut self, edge: Edge) -> Result<(), NoMemory>
+        ensures { OnOk result (Notes (Is edge) self.old self.new) }
+    {
+        if edge.from == edge.to {
+            return Ok(());
+        }
+        self.edges.insert(edge)?;
+        Ok(())
+    }
+
+    fn note_some(&mut self, edge: Option<Edge>) -> Result<(), NoMemory>
+        ensures { OnOk result (Notes (λ e. edge ≡ Some e) self.old self.new) }
+    {
+        match edge {
+            Some(edge) => {
+                self.note(edge)?;
+                Ok(())
+            }
+            None => Ok(()),
+        }
+    }
+
+    /// Puts edges in, where they lie between different labels.
+    pub fn note_all(&mut self, edges: &[Edge]) -> Result<(), NoMemory>
+        ensures { OnOk result (Notes (λ e. has edges.now e ≡ true) self.old self.new) }
+    {
+        for edge in edges {
+            self.note(*edge)?;
+        }
+        Ok(())
+    }
+
+    /// Puts the edges of a table in, where they lie between different labels.
+    pub fn note_table(&mut self, table: &EdgeTable) -> Result<(), NoMemory>
+        ensures { OnOk result (Notes (λ e. has table.now e ≡ true) self.old self.new) }
+    {
+        for place in 0..table.len() {
+            self.note_some(table.get(place))?;
+        }
+        Ok(())
+    }
+
+    fn push(&mut self, step: Step) -> Result<(), NoMemory>
+        ensures { OnOk result (self.new ≡ record self.old { steps = self.old.steps ++ step ∷ [] }) }
+    {
+        self.steps.push(step)?;
+        Ok(())
+    }
+
+    fn label(&self, object: u32) -> u32
+        ensures { result ≡ label_of self.now.labels object }
+    {
+        self.labels.of(object)
+    }
+
+    /// What a capability confers, from a label.
+    fn cap_edges(&self, from: u32, cap: &Cap) -> Result<Vec<Edge>, NoMemory>
+        ensures { IfOk result (λ edges. (e : Edge) → (has edges.items e ≡ true) ↔ OfCap self.now.spec self.now.labels from cap.now e) }
+    {
+        let edges = with_cap(Vec::new(self.alloc), self.spec, self.labels, from, cap)?;
+        Ok(edges)
+    }
+
+    /// Leave to send, from a label to that of an object.
+    fn send_edges(&self, from: u32, object: u32) -> Result<Vec<Edge>, NoMemory>
+        ensures { IfOk result (λ edges. (e : Edge) → (has edges.items e ≡ true) ↔ (e ≡ edge from AsyncSend (label_of self.now.labels object))) }
+    {
+        let edges = with_link(
+            Vec::new(self.alloc),
+            self.labels,
+            from,
+            Authority::AsyncSend,
+            object,
+        )?;
+        Ok(edges)
+    }
+
+    /// Shows what a held capability confers.
+    pub fn hold(&mut self, node: u32, pick: &Pick) -> Result<(), NoMemory>
+        requires so_far { IsSoFar self.old }
+        requires held { HoldsAt self.old.found node pick.now.number pick.now.cap }
+        ensures { OnOk result (Gains (OfCap self.old.spec self.old.labels (label_of self.old.labels node) pick.now.cap) self.old self.new) }
+    {
+        let from = self.label(node);
+        let edges = self.cap_edges(from, &pick.cap)?;
+        self.note_all(edges.as_slice())?;
+        Ok(())
+    }
+
+    /// The edges that the step makes.
+    fn edges_of(&self, deed: Deed, from: &Pick, to: &Pick) -> Result<Vec<Edge>, NoMemory>
+        ensures { IfOk result (λ edges. (e : Edge) → (has edges.items e ≡ true) ↔ OfDeed self.now.spec self.now.labels deed from.now.cap to.now.cap e) }
+    {
+        let label = self.label(from.cap.object);
+        match deed {
+            Deed::Map => self.cap_edges(label, &to.cap),
+            Deed::Bind => self.send_edges(label, to.cap.object),
+        }
+    }
+
+    /// Makes the thread take the step, where that shows an edge more.
+    pub fn act(&mut self, deed: Deed, t: u32, from: &Pick, to: &Pick) -> Result<(), NoMemory>
+        requires so_far { IsSoFar self.old }
+        requires owns { OwnsBoth self.old.spec self.old.found t deed from.now to.now }
+        ensures { OnOk result (Gains (OfDeed self.old.spec self.old.labels deed from.now.cap to.now.cap) self.old self.new) }
+    {
+        let edges = self.edges_of(deed, from, to)?;
+        if self.are_settled(edges.as_slice()) {
+            return Ok(());
+        }
+        self.push(deed.step(t, from, to))?;
+        self.note_all(edges.as_slice())?;
+        Ok(())
+    }
+
+    /// The edges of the call and of its save.
+    fn replies(&self, caller: Party, listener: Party) -> [Edge; 2]
+        ensures { (e : Edge) → (has result e ≡ true) ↔ OfParties self.now.labels caller listener e }
+    {
+        let to = self.label(caller.thread);
+        let by_call = Edge {
+            from: self.label(listener.thread),
+            authority: Authority::Reply,
+            to,
+        };
+        let by_save = Edge {
+            from: self.label(listener.node),
+            authority: Authority::Reply,
+            to,
+        };
+        [by_call, by_save]
+    }
+
+    /// A call whose reply is saved, and given from there.
+    fn push_call(&mut self, caller: Party, listener: Party) -> Result<(), NoMemory>
+        ensures { OnOk result (self.new ≡ record self.old { steps = self.old.steps ++ call_steps self.old.nexts caller listener; nexts = slice_set self.old.nexts listener.node (slice_index self.old.nexts listener.node + 1) }) }
+    {
+        let number = match self.nexts.get(listener.node as usize) {
+            Some(next) => *next,
+            None => 0,
+        };
+        let next = match number.checked_add(1) {
+            Some(next) => next,
+            None => return Err(NoMemory),
+        };
+        self.steps.push(Step::Call {
+            t: caller.thread,
+            i: caller.number,
+            u: listener.thread,
+            j: listener.number,
+        })?;
+        self.steps.push(Step::Save { t: listener.thread })?;
+        self.steps.push(Step::ReplyTo {
+            t: listener.thread,
+            i: number,
+            copy: None,
+        })?;
+        put_next(&mut self.nexts, listener.node, next);
+        Ok(())
+    }
+
+    /// Makes the one call the other, where that shows an edge more.
+    pub fn call(&mut self, caller: Party, listener: Party) -> Result<(), NoMemory>
+        requires so_far { IsSoFar self.old }
+        requires parties { AreParties self.old.spec self.old.found caller listener }
+        ensures { OnOk result (Gains (OfParties self.old.labels caller listener) self.old self.new) }
+    {
+        let edges = self.replies(caller, listener);
+        if self.are_settled(&edges) {
+            return Ok(());
+        }
+        self.push_call(caller, listener)?;
+        self.note_all(&edges)?;
+        Ok(())
+    }
+}

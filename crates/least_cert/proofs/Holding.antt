@@ -1,0 +1,134 @@
+-- The held edges of the boot state are what the capabilities of CNodes confer.
+use Rattle.std.proofs.Common.{◌≡◌, ◌≢◌, ◌∙◌, ◌↔◌, ℕ, true, List, [], map, slice_get, Some, refl, sym, subst, inl, inr, arith}
+use Rattle.std.specs.List.{Contains}
+use Rattle.std.proofs.lemmas.Option.{slice_get-map}
+use Rattle.auth_graph.specs.Sources.{OfCap}
+use Rattle.auth_kinds.specs.Adds.{Adds}
+use Rattle.auth_kinds.specs.Edges.{edge}
+use Rattle.auth_kinds.specs.ObjectLabels.{label_of}
+use Rattle.auth_kinds.specs.Tables.{Has, has}
+use Rattle.auth_kinds.specs.declared.authority.Authority.{Authority}
+use Rattle.auth_kinds.specs.declared.authority.Authority.TheVariants.{Grant}
+use Rattle.auth_kinds.specs.declared.edge.Edge.{Edge}
+use Rattle.auth_kinds.proofs.TableMembers.{at_has, has_at}
+use Rattle.cap_model.specs.Auth.{Auth, Held}
+use Rattle.cap_model.specs.State.{Node, boot, boot_node, boot_slot, no_node, node_at}
+use Rattle.cap_model.specs.declared.cap.Cap.{Cap}
+use Rattle.cap_model.specs.declared.object.Object.{Object}
+use Rattle.cap_model.specs.declared.object.Object.TheVariants.{Endpoint, Notification, CNode, Thread, Frame, Pages, Irq}
+use Rattle.cap_model.specs.declared.spec.Entry.{Entry}
+use Rattle.cap_model.specs.declared.spec.Spec.{Spec}
+use Rattle.cap_model.specs.declared.state.Content.TheVariants.{Capability}
+use Rattle.cap_model.proofs.BootPlaces.{at_contains, at_entry, contains_at, entry_at, slot_of}
+use Rattle.least_cert.specs.BootEdges.{AreHeld, AreLinks, OfHolder, OfHolders, OfLinks}
+use Rattle.least_cert.specs.Closing.{AddsAll, Begins, Closure, IsEmpty, IsSound, Leads, OfLeast, no_gift}
+use Rattle.least_cert.specs.LeastCertificate.{InLeast, KeepsRules}
+use Rattle.least_cert.proofs.Growth.{grows_has}
+use Rattle.least_cert.proofs.LeastKeeps.{least_keeps}
+
+module _ (spec : Spec) (labels : List ℕ) where
+  held_object : (from : ℕ) (object : Object) (i : ℕ) (x : Cap) (e : Edge) → Contains (boot_node object).slots (i, Capability x) → OfCap spec labels from x e → OfHolder spec labels from object e
+  held_object from (CNode bits slots) i x e there of_cap =
+      let k = contains_at (map boot_slot slots) (i, Capability x) there in
+      let s = slot_of slots k.0 i (Capability x) k.1 in
+      let here : Capability s.0.1 ≡ Capability x = s.2 in
+      let same : x ≡ s.0.1 = cc in
+      record { place = k.0; item = s.0; there = s.1; by = subst (λ (y : Cap). OfCap spec labels from y e) same of_cap }
+  held_object from _ i x e there of_cap = absurd (let w = there.1 in omega arith)
+
+  held_source : (l : ℕ) (a : Authority) (m : ℕ) → Held spec labels (boot spec) l a m → OfHolders spec labels (edge l a m)
+  held_source l a m (c, i, x, there, conf, from, to) =
+      elim (at_entry boot_node spec.entries c no_node) [
+        | inl found ↦ record {
+          place = c;
+          item = found.0;
+          there = found.1;
+          by = held_object (label_of labels c) found.0.object i x (edge l a m) (subst (λ (n : Node). Contains n.slots (i, Capability x)) found.2 there) (record { from_is = from; conferred = conf; to_is = to });
+        }
+        | inr none ↦ absurd (let c : Contains no_node.slots (i, Capability x) = subst (λ (n : Node). Contains n.slots (i, Capability x)) none there in let w = c.1 in omega arith)
+      ]
+
+  boot_contains : (slots : List (ℕ × Cap)) (k : ℕ) (slot : ℕ × Cap) → slice_get slots k ≡ Some slot → Contains (map boot_slot slots) (slot.0, Capability slot.1)
+  boot_contains slots k slot h = at_contains (map boot_slot slots) (boot_slot slot) k (let e = slice_get-map boot_slot slots k in rw (e, h) refl)
+
+  object_held : (o : ℕ) (entry : Entry) (object : Object) (e : Edge) → slice_get spec.entries o ≡ Some entry → entry.object ≡ object
+      → OfHolder spec labels (label_of labels o) object e → Held spec labels (boot spec) e.from e.authority e.to
+  object_held o entry (CNode bits slots) e here is of =
+      let node : node_at (boot spec) o ≡ boot_node entry.object = entry_at boot_node spec.entries o no_node entry here in
+      (o, of.item.0, of.item.1, rw (node, is) (boot_contains slots of.place of.item of.there), of.by.conferred, of.by.from_is, of.by.to_is)
+  object_held o entry (Pages level slots) e here is h = absurd h
+  object_held o entry (Thread tcb) e here is h = absurd h
+  object_held o entry (Irq bound) e here is h = absurd h
+  object_held o entry Endpoint e here is h = absurd h
+  object_held o entry Notification e here is h = absurd h
+  object_held o entry (Frame paddr fill) e here is h = absurd h
+
+  source_held : (e : Edge) → OfHolders spec labels e → Held spec labels (boot spec) e.from e.authority e.to
+  source_held e h = object_held h.place h.item h.item.object e h.there refl h.by
+
+  pub are_held : (edges : List Edge) → Adds (OfHolders spec labels) [] edges → AreHeld spec labels edges
+  are_held edges grown = record {
+    only = λ e h. elim (grown.only e h) [ inl none ↦ absurd cc | inr of ↦ source_held e of ];
+    every = λ l a m h. grown.added (edge l a m) (held_source l a m h);
+  }
+
+  pub are_links : (table links : List Edge) → ((l : ℕ) (a : Authority) (m : ℕ) → (Has table l a m) ↔ Auth spec labels (boot spec) l a m) → Adds (OfLinks table) [] links → AreLinks spec labels links
+  are_links table links are grown = record {
+    only = λ e h. elim (grown.only e h) [
+      | inl none ↦ absurd cc
+      | inr of ↦ (let same : of.item ≡ e = cc in (are e.from e.authority e.to).0 (subst (λ (x : Edge). has table x ≡ true) same (has_at table of.place of.item of.there)), of.by.1)
+    ];
+    every = λ l a m h differ.
+        let at = at_has table (edge l a m) ((are l a m).1 h) in
+        grown.added (edge l a m) (record { place = at.0; item = edge l a m; there = at.1; by = (refl, differ) });
+  }
+
+  -- ---- what the boot state asks for is of the least certificate
+
+  rules : KeepsRules spec labels (InLeast spec labels)
+  rules = least_keeps spec labels
+
+  auth_least : (l : ℕ) (a : Authority) (m : ℕ) → Auth spec labels (boot spec) l a m → l ≢ m → InLeast spec labels l a m
+  auth_least l a m (inl held) differ = rules.boot_held l a m held
+  auth_least l a m (inr other) differ = rules.boot_structural l a m other differ
+
+  module _ (c : Closure) (empty : IsEmpty spec labels c) where
+    pub empty_sound : IsSound c
+    empty_sound = record {
+      known_is = λ e. rw (empty.known_is, empty.queue_is) refl;
+      turned_is = λ e. rw (empty.turned_is, empty.queue_is) refl;
+      as_many = rw (empty.known_is, empty.queue_is) refl;
+      few = rw empty.known_is (omega arith);
+      least = λ e h. absurd (let g : has [] e ≡ true = subst (λ (xs : List Edge). has xs e ≡ true) empty.queue_is h in cc);
+      flows = λ s r h. absurd (let g : has [] (edge s Grant r) ≡ true = subst (λ (xs : List Edge). has xs (edge s Grant r) ≡ true) empty.gives_is h in cc);
+      less = λ e h. absurd (let g : has [] e ≡ true = subst (λ (xs : List Edge). has xs e ≡ true) empty.queue_is h in cc);
+      gives_less = λ e h. absurd (let g : has [] e ≡ true = subst (λ (xs : List Edge). has xs e ≡ true) empty.gives_is h in cc);
+      to_leader = λ l. subst (λ (k : ℕ). Leads c.gives l k) (sym (empty.leaders_is l)) (no_gift refl);
+      from_leader = λ l. subst (λ (k : ℕ). Leads c.gives k l) (sym (empty.leaders_is l)) (no_gift refl);
+    }
+
+    pub held_least : (edges : List Edge) → AreHeld spec labels edges → (e : Edge) → has edges e ≡ true → OfLeast c e
+    held_least edges are e h = rw (empty.spec_is, empty.labels_is) (rules.boot_held e.from e.authority e.to (are.only e h))
+
+    module _ (held links : List Edge) (mid new : Closure) (are_h : AreHeld spec labels held) (are_l : AreLinks spec labels links) (add_h : AddsAll held c mid) where
+      pub links_least : (e : Edge) → has links e ≡ true → OfLeast mid e
+      links_least e h =
+          let x = are_l.only e h in
+          rw (add_h.grows.spec_is, add_h.grows.labels_is, empty.spec_is, empty.labels_is) (auth_least e.from e.authority e.to x.0 x.1)
+
+      begun_spec : (add_l : AddsAll links mid new) → new.spec ≡ spec
+      begun_spec add_l = add_l.grows.spec_is ∙ (add_h.grows.spec_is ∙ empty.spec_is)
+
+      begun_labels : (add_l : AddsAll links mid new) → new.labels ≡ labels
+      begun_labels add_l = add_l.grows.labels_is ∙ (add_h.grows.labels_is ∙ empty.labels_is)
+
+      pub begins_so : AddsAll links mid new → Begins spec labels new
+      begins_so add_l = record {
+        spec_is = begun_spec add_l;
+        labels_is = begun_labels add_l;
+        sound = add_l.grows.sound;
+        has_boot = record {
+          held = rw (begun_spec add_l, begun_labels add_l) (λ l a m h. grows_has mid new add_l.grows (edge l a m) (add_h.there (edge l a m) (are_h.every l a m h)));
+          structural = rw (begun_spec add_l, begun_labels add_l) (λ l a m h differ. add_l.there (edge l a m) (are_l.every l a m (inr h) differ));
+        };
+      }

@@ -1,0 +1,98 @@
+-- What lists of edges have: after a push, and after a filter.
+use Rattle.std.proofs.Common.{◌≡◌, ◌∙◌, ◌⊎◌, ◌||◌, ◌++◌, ℕ, Bool, true, false, List, [], ◌∷◌, Option, Some, None, slice_get, refl, sym, ap, subst, inl, inr, zero, suc}
+use Rattle.std.specs.List.{filter_map}
+use Rattle.auth_kinds.specs.Edges.{same_edge}
+use Rattle.auth_kinds.specs.Tables.{has}
+use Rattle.auth_kinds.specs.declared.edge.Edge.{Edge}
+use Rattle.auth_kinds.proofs.EdgeOrder.{same_edge_self, same_edge_true}
+use Rattle.auth_kinds.proofs.TableMembers.{at_has, has_at}
+
+or_assoc : (a b c : Bool) → (a || (b || c)) ≡ ((a || b) || c)
+or_assoc true b c = refl
+or_assoc false b c = refl
+
+or_left : (a b : Bool) → a ≡ true → a || b ≡ true
+or_left true b h = refl
+or_left false b h = absurd cc
+
+or_right : (a b : Bool) → b ≡ true → a || b ≡ true
+or_right true b h = refl
+or_right false b h = h
+
+or_cases : (a b : Bool) → a || b ≡ true → (a ≡ true) ⊎ (b ≡ true)
+or_cases true b h = inl refl
+or_cases false b h = inr h
+
+or_none : (a : Bool) → a || false ≡ a
+or_none true = refl
+or_none false = refl
+
+pub has_append : (xs ys : List Edge) (e : Edge) → has (xs ++ ys) e ≡ (has xs e || has ys e)
+has_append [] ys e = refl
+has_append (d ∷ xs) ys e = ap (λ (b : Bool). same_edge d e || b) (has_append xs ys e) ∙ or_assoc (same_edge d e) (has xs e) (has ys e)
+
+pub has_front : (xs ys : List Edge) (e : Edge) → has xs e ≡ true → has (xs ++ ys) e ≡ true
+has_front xs ys e h = has_append xs ys e ∙ or_left (has xs e) (has ys e) h
+
+pub has_push : (xs : List Edge) (d e : Edge) → has (xs ++ d ∷ []) e ≡ (has xs e || same_edge d e)
+has_push xs d e = has_append xs (d ∷ []) e ∙ ap (λ (b : Bool). has xs e || b) (or_none (same_edge d e))
+
+pub has_last : (xs : List Edge) (d e : Edge) → has (xs ++ d ∷ []) e ≡ true → (has xs e ≡ true) ⊎ (d ≡ e)
+has_last xs d e h = elim (or_cases (has xs e) (same_edge d e) (sym (has_push xs d e) ∙ h)) [ inl x ↦ inl x | inr x ↦ inr (same_edge_true d e x) ]
+
+pub has_end : (xs : List Edge) (d : Edge) → has (xs ++ d ∷ []) d ≡ true
+has_end xs d = has_push xs d d ∙ or_right (has xs d) (same_edge d d) (same_edge_self d)
+
+-- an edge that was put into a set
+pub put_has : (old : Bool) (d e : Edge) → old ≡ true → old || same_edge d e ≡ true
+put_has old d e h = or_left old (same_edge d e) h
+
+pub put_self : (old : Bool) (d : Edge) → old || same_edge d d ≡ true
+put_self old d = or_right old (same_edge d d) (same_edge_self d)
+
+pub put_cases : (old : Bool) (d e : Edge) → old || same_edge d e ≡ true → (old ≡ true) ⊎ (d ≡ e)
+put_cases old d e h = elim (or_cases old (same_edge d e) h) [ inl x ↦ inl x | inr x ↦ inr (same_edge_true d e x) ]
+
+-- ---- filters
+
+-- what a filter gives comes from some item
+from_filtered : {A B : Type 0} (f : A → Option B) (xs : List A) (k : ℕ) (y : B) → slice_get (filter_map f xs) k ≡ Some y → (i : ℕ) × (x : A) × (slice_get xs i ≡ Some x) × (f x ≡ Some y)
+from_filtered f [] k y h = absurd cc
+from_filtered {A} {B} f (x ∷ xs) k y h = go (f x) refl h (λ j g. from_filtered f xs j y g) where
+  go : (o : Option B) → f x ≡ o → slice_get (filter_map f (x ∷ xs)) k ≡ Some y
+      → ((j : ℕ) → slice_get (filter_map f xs) j ≡ Some y → (i : ℕ) × (z : A) × (slice_get xs i ≡ Some z) × (f z ≡ Some y))
+      → (i : ℕ) × (z : A) × (slice_get (x ∷ xs) i ≡ Some z) × (f z ≡ Some y)
+  go None is there rest =
+      let same : filter_map f (x ∷ xs) ≡ filter_map f xs = rw is refl in
+      let r = rest k (subst (λ (ys : List B). slice_get ys k ≡ Some y) same there) in
+      (suc r.0, r.1, r.2, r.3)
+  go (Some z) is there rest =
+      let same : filter_map f (x ∷ xs) ≡ z ∷ filter_map f xs = rw is refl in
+      at_place k (subst (λ (ys : List B). slice_get ys k ≡ Some y) same there) where
+        at_place : (j : ℕ) → slice_get (z ∷ filter_map f xs) j ≡ Some y → (i : ℕ) × (w : A) × (slice_get (x ∷ xs) i ≡ Some w) × (f w ≡ Some y)
+        at_place zero g = (zero, x, refl, is ∙ g)
+        at_place (suc j) g = let r = rest j g in (suc r.0, r.1, r.2, r.3)
+
+-- and what it gives of an item is there
+to_filtered : {A B : Type 0} (f : A → Option B) (xs : List A) (i : ℕ) (x : A) (y : B) → slice_get xs i ≡ Some x → f x ≡ Some y → (k : ℕ) × (slice_get (filter_map f xs) k ≡ Some y)
+to_filtered f [] i x y h is = absurd cc
+to_filtered {A} {B} f (z ∷ xs) zero x y h is =
+    let same : z ≡ x = cc in
+    let here : f z ≡ Some y = ap f same ∙ is in
+    (zero, rw here refl)
+to_filtered {A} {B} f (z ∷ xs) (suc i) x y h is = go (f z) refl (to_filtered f xs i x y h is) where
+  go : (o : Option B) → f z ≡ o → (k : ℕ) × (slice_get (filter_map f xs) k ≡ Some y) → (k : ℕ) × (slice_get (filter_map f (z ∷ xs)) k ≡ Some y)
+  go None here r = (r.0, rw here r.1)
+  go (Some w) here r = (suc r.0, rw here r.1)
+
+pub from_mapped : (f : Edge → Option Edge) (xs : List Edge) (e : Edge) → has (filter_map f xs) e ≡ true → (x : Edge) × (has xs x ≡ true) × (f x ≡ Some e)
+from_mapped f xs e h =
+    let at = at_has (filter_map f xs) e h in
+    let from = from_filtered f xs at.0 e at.1 in
+    (from.1, has_at xs from.0 from.1 from.2, from.3)
+
+pub to_mapped : (f : Edge → Option Edge) (xs : List Edge) (x e : Edge) → has xs x ≡ true → f x ≡ Some e → has (filter_map f xs) e ≡ true
+to_mapped f xs x e h is =
+    let at = at_has xs x h in
+    let to = to_filtered f xs at.0 x e at.1 is in
+    has_at (filter_map f xs) to.0 e to.1

@@ -1,0 +1,50 @@
+-- Which edges pass on, and what is made of the ends of two edges.
+use Rattle.std.proofs.Common.{◌≡◌, ◌≢◌, ◌==◌, ℕ, Bool, true, false, Some, None, if◌then◌else◌, refl, arith}
+use Rattle.std.proofs.lemmas.Bool.{eqb-true}
+use Rattle.auth_kinds.specs.Authorities.{number_of}
+use Rattle.auth_kinds.specs.Edges.{edge}
+use Rattle.auth_kinds.specs.declared.authority.Authority.{Authority}
+use Rattle.auth_kinds.specs.declared.authority.Authority.TheVariants.{Reply}
+use Rattle.auth_kinds.specs.declared.edge.Edge.{Edge}
+use Rattle.auth_kinds.proofs.EdgeOrder.{same_number}
+use Rattle.least_cert.specs.Closing.{from_other, passed_to, to_other}
+
+self : (n : ℕ) → n == n ≡ true
+self n = grind arith
+
+differ : (m n : ℕ) → m ≢ n → m == n ≡ false
+differ m n h = by (m == n) refl where
+  by : (b : Bool) → m == n ≡ b → m == n ≡ false
+  by true is = absurd (h (eqb-true m n is))
+  by false is = is
+
+module _ {A : Type 0} where
+  chosen_none : (b : Bool) (x y : A) → (if b then None else Some x) ≡ Some y → (b ≡ false) × (x ≡ y)
+  chosen_none true x y h = absurd cc
+  chosen_none false x y h = (refl, cc)
+
+pub passed_is : (r : ℕ) (x e : Edge) → passed_to r x ≡ Some e → (x.authority ≢ Reply) × (edge r x.authority x.to ≡ e)
+passed_is r x e h =
+    let is = chosen_none (number_of x.authority == 9) (edge r x.authority x.to) e h in
+    (λ reply. absurd (let yes_it : number_of x.authority == 9 ≡ true = rw reply refl in let no_it = is.0 in cc), is.1)
+
+pub passes_on : (r : ℕ) (x : Edge) → x.authority ≢ Reply → passed_to r x ≡ Some (edge r x.authority x.to)
+passes_on r x other =
+    let no_it : number_of x.authority == 9 ≡ false = differ (number_of x.authority) 9 (λ e. other (same_number x.authority Reply e)) in
+    rw no_it refl
+
+pub from_other_is : (a : Authority) (l : ℕ) (p e : Edge) → from_other a l p ≡ Some e → (p.to ≢ l) × (edge p.to a l ≡ e)
+from_other_is a l p e h =
+    let is = chosen_none (p.to == l) (edge p.to a l) e h in
+    (λ same. absurd (let yes_it : p.to == l ≡ true = rw same (self l) in let no_it = is.0 in cc), is.1)
+
+pub from_other_made : (a : Authority) (l : ℕ) (p : Edge) → p.to ≢ l → from_other a l p ≡ Some (edge p.to a l)
+from_other_made a l p other = let no_it : p.to == l ≡ false = differ p.to l other in rw no_it refl
+
+pub to_other_is : (a : Authority) (l : ℕ) (p e : Edge) → to_other a l p ≡ Some e → (p.to ≢ l) × (edge l a p.to ≡ e)
+to_other_is a l p e h =
+    let is = chosen_none (p.to == l) (edge l a p.to) e h in
+    (λ same. absurd (let yes_it : p.to == l ≡ true = rw same (self l) in let no_it = is.0 in cc), is.1)
+
+pub to_other_made : (a : Authority) (l : ℕ) (p : Edge) → p.to ≢ l → to_other a l p ≡ Some (edge l a p.to)
+to_other_made a l p other = let no_it : p.to == l ≡ false = differ p.to l other in rw no_it refl

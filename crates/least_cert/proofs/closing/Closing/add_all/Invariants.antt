@@ -1,0 +1,5 @@
+use Rattle.least_cert.specs.Closing.{AddsSome}
+use Rattle.least_cert.proofs.closing.Closing.add_all.Given as goal
+
+abbrev pub invariant-loop-edge : goal.invariant-loop-edge
+invariant-loop-edge l = AddsSome l.edges l.edge-index l.initial.self l.self

@@ -1,0 +1,27 @@
+use Rattle.std.proofs.Common.{arith, get_or, subst}
+use Rattle.std.proofs.lemmas.Option.{slice_get-get_or}
+use Rattle.auth_kinds.proofs.TableMembers.{has_at}
+use Rattle.auth_kinds.specs.declared.edge.Edge.{Edge}
+use Rattle.least_cert.specs.Closing.{Gives}
+use Rattle.least_cert.proofs.Growth.{gift_itself, gift_moves, gives_all, gives_more, gives_none, no_edge}
+use Rattle.least_cert.proofs.closing.Closing.give_all.Goals as goal
+
+pub loop-gift-init : goal.loop-gift-init
+loop-gift-init c = gives_none c.args.gifts.now c.args.self.now c.requires.sound
+
+pub give-requires-clause-flows : goal.give-requires-clause-flows
+give-requires-clause-flows c =
+    let g = get_or c.args.gifts.now c.loop-gift.gift-index no_edge in
+    (gift_moves c.args.self.now c.loop-gift.self c.loop-gift.invariant.grows.spec_is c.loop-gift.invariant.grows.labels_is g
+    (c.requires.gifts g (has_at c.args.gifts.now c.loop-gift.gift-index g (slice_get-get_or c.args.gifts.now c.loop-gift.gift-index no_edge c.loop-gift-test.true)))).flows
+
+pub loop-gift-preserved : goal.loop-gift-preserved
+loop-gift-preserved c =
+    let g : Edge = get_or c.args.gifts.now c.loop-gift.gift-index no_edge in
+    let at = slice_get-get_or c.args.gifts.now c.loop-gift.gift-index no_edge c.loop-gift-test.true in
+    let is = c.requires.gifts g (has_at c.args.gifts.now c.loop-gift.gift-index g at) in
+    gives_more c.args.gifts.now c.loop-gift.gift-index g c.args.self.now c.loop-gift.self c.give.new.self at c.loop-gift.invariant
+    (subst (λ (x : Edge). Gives x c.loop-gift.self c.give.new.self) (gift_itself g is.grant) c.in_ok-give.ensures.given)
+
+pub returns-clause-given : goal.returns-clause-given
+returns-clause-given c = gives_all c.args.gifts.now c.loop-gift.gift-index c.args.self.now c.loop-gift.self (let t = c.loop-gift-test.false in omega arith) c.loop-gift.invariant

@@ -1,0 +1,7 @@
+use Rattle.std.proofs.Common.{subst}
+use Rattle.auth_kinds.specs.Tables.{IsSorted}
+use Rattle.least_cert.specs.Closing.{Closure}
+use Rattle.least_cert.proofs.closing.Closing.is_over.Goals as goal
+
+pub returns-clause-sorted : goal.returns-clause-sorted
+returns-clause-sorted c = subst (λ (m : Closure). IsSorted m.known) c.self.view_is c.len.ensures.sorted

@@ -1,0 +1,45 @@
+-- Words for the contracts of private functions alone: the edges that the boot state asks for.
+use Rattle.std.specs.Prelude.{◌≡◌, ◌≢◌, ℕ, true, List, Option, Some}
+use Rattle.auth_graph.specs.Sources.{OfEach, OfSlots}
+use Rattle.auth_kinds.specs.ObjectLabels.{label_of}
+use Rattle.auth_kinds.specs.Tables.{Has, has}
+use Rattle.auth_kinds.specs.declared.authority.Authority.{Authority}
+use Rattle.auth_kinds.specs.declared.edge.Edge.{Edge}
+use Rattle.cap_model.specs.Auth.{Auth, Held}
+use Rattle.cap_model.specs.State.{boot}
+use Rattle.cap_model.specs.declared.object.Object.{Object}
+use Rattle.cap_model.specs.declared.object.Object.TheVariants as objects
+use Rattle.cap_model.specs.declared.spec.Entry.{Entry}
+use Rattle.cap_model.specs.declared.spec.Spec.{Spec}
+
+-- what the capabilities of an object confer, where it is a CNode
+abbrev pub OfHolder : Spec → List ℕ → ℕ → Object → Edge → Type 0
+OfHolder spec labels from (objects.CNode bits slots) e = OfSlots spec labels from slots e
+OfHolder spec labels from (objects.Pages level slots) e = ⊥
+OfHolder spec labels from (objects.Thread tcb) e = ⊥
+OfHolder spec labels from (objects.Irq notification) e = ⊥
+OfHolder spec labels from objects.Endpoint e = ⊥
+OfHolder spec labels from objects.Notification e = ⊥
+OfHolder spec labels from (objects.Frame paddr fill) e = ⊥
+
+-- what those of all CNodes confer
+abbrev pub OfHolders : Spec → List ℕ → Edge → Type 0
+OfHolders spec labels e = OfEach (λ place (entry : Entry). OfHolder spec labels (label_of labels place) entry.object) spec.entries e
+
+-- the edge, where it lies between different labels
+abbrev pub IsLink : Option Edge → Edge → Type 0
+IsLink edge e = (edge ≡ Some e) × (e.from ≢ e.to)
+
+-- the edges of a list that lie between different labels
+abbrev pub OfLinks : List Edge → Edge → Type 0
+OfLinks edges e = OfEach (λ place (edge : Edge). IsLink (Some edge)) edges e
+
+-- the held edges of the boot state
+pub record AreHeld (spec : Spec) (labels : List ℕ) (edges : List Edge) : Type 0 where
+  pub only : (e : Edge) → has edges e ≡ true → Held spec labels (boot spec) e.from e.authority e.to
+  pub every : (l : ℕ) (a : Authority) (m : ℕ) → Held spec labels (boot spec) l a m → Has edges l a m
+
+-- its edges between different labels
+pub record AreLinks (spec : Spec) (labels : List ℕ) (edges : List Edge) : Type 0 where
+  pub only : (e : Edge) → has edges e ≡ true → Auth spec labels (boot spec) e.from e.authority e.to × (e.from ≢ e.to)
+  pub every : (l : ℕ) (a : Authority) (m : ℕ) → Auth spec labels (boot spec) l a m → l ≢ m → Has edges l a m

@@ -1,0 +1,3 @@
+pub mod BootEdges
+pub mod Closing
+pub mod LeastCertificate

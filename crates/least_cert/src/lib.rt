@@ -1,0 +1,12 @@
+//! The least certificate: the edges that lie in every set of edges for which the rules of certificates hold.
+#![tactic(auto)]
+
+mod asking;
+mod boot;
+mod close;
+mod closing;
+mod laws;
+
+pub use close::close_cert;
+pub use closing::CloseError;
+pub use laws::the_least_certificate_decides;

@@ -1,0 +1,6 @@
+//! What is written of steps is read back: laws. These functions do nothing: what they ensure is the law.
+#![tactic(auto)]
+
+mod laws;
+
+pub use laws::written_steps_are_read_back;
