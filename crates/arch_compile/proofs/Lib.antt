@@ -1,7 +1,7 @@
 pub mod LabelNumbers
 mod LoadedFew
-mod LoadedShort
+pub mod LoadedShort
 pub mod OneAnswer
-mod Refusing
+pub mod Refusing
 mod Sound
-mod Whole
+pub mod Whole

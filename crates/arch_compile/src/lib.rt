@@ -15,4 +15,4 @@ mod phases;
 pub use building::{Build, compile};
 pub use error::BuildError;
 pub use laws::{answers_are_one, loaded_sources_are_few};
-pub use phases::{FrontEnd, front};
+pub use phases::{FrontEnd, front, in_file};

@@ -1,0 +1,122 @@
+-- Edges that bound interrupts give, added one handler after another.
+use Rattle.std.proofs.Common.{◌≡◌, ◌⊎◌, ◌<◌, ◌≤◌, ◌+◌, ℕ, List, ◌++◌, length, Option, Some, None, refl, sym, ◌∙◌, ap, subst, inl, inr, arith}
+use Rattle.std.specs.List.{slice_get}
+use Rattle.std.proofs.lemmas.Bool.{cases_lt}
+use Rattle.std.proofs.lemmas.Option.{slice_get_within}
+use Rattle.auth_kinds.specs.Adds.{Adds}
+use Rattle.auth_kinds.specs.Edges.{edge}
+use Rattle.auth_kinds.specs.Tables.{IsFirstFrom}
+use Rattle.auth_kinds.specs.declared.authority.Authority.TheVariants.{AsyncSend}
+use Rattle.auth_kinds.specs.declared.edge.Edge.{Edge}
+use Rattle.auth_kinds.proofs.EdgeGrowth.{adds_none, adds_same, adds_then}
+use Rattle.arch_policy.specs.Bound.{IsBound, IsBoundAt, IsBoundBy, bound_to}
+use Rattle.arch_policy.proofs.Lists.{has_in, in_has}
+use Rattle.numbering.specs.Gather.{IsIn}
+use Rattle.numbering.proofs.Gathered.{in_append, in_left, in_place, in_right, place_of}
+
+-- a list behind another adds what stands in it
+pub adds_list : (xs b c : List Edge) → c ≡ b ++ xs → Adds (λ e. IsIn e xs) b c
+adds_list xs b c is =
+    let P : List Edge → Type 0 = λ z. Adds (λ e. IsIn e xs) b z in
+    subst P (sym is) (record {
+      kept = λ e h. in_has e (b ++ xs) (in_left e b xs (has_in e b h));
+      added = λ e i. in_has e (b ++ xs) (in_right e b xs i);
+      only = λ e h. elim (in_append e b xs (has_in e (b ++ xs) h)) [ inl i ↦ inl (in_has e b i) | inr i ↦ inr i ];
+    })
+
+-- by those by which labels signal from one place up to another
+pub record Until (handle : Edge) (signals : List Edge) (first : ℕ) (at : ℕ) (e : Edge) : Type 0 where
+  pub place : ℕ
+  pub low : first ≤ place
+  pub below : place < at
+  pub signal : Edge
+  pub there : slice_get signals place ≡ Some signal
+  pub is : edge handle.to AsyncSend signal.to ≡ e
+
+module _ (handle : Edge) (signals : List Edge) where
+  pub until_none : (first : ℕ) (a : List Edge) → Adds (Until handle signals first first) a a
+  until_none first a = adds_none (Until handle signals first first) (λ e u. let l = u.low in let b = u.below in absurd (omega arith)) a
+
+  of_bound : (o : Option Edge) (e : Edge) → IsIn e (bound_to handle o) → (s : Edge) × (o ≡ Some s) × (edge handle.to AsyncSend s.to ≡ e)
+  of_bound None e i = absurd i
+  of_bound (Some s) e (inl is) = (s, refl, is)
+  of_bound (Some s) e (inr i) = absurd i
+
+  in_bound : (o : Option Edge) (s : Edge) (e : Edge) → o ≡ Some s → edge handle.to AsyncSend s.to ≡ e → IsIn e (bound_to handle o)
+  in_bound None s e h is = absurd cc
+  in_bound (Some r) s e h is = let same : r ≡ s = cc in inl (ap (λ (z : Edge). edge handle.to AsyncSend z.to) same ∙ is)
+
+  pub until_more : (first at : ℕ) (a b c : List Edge) (o : Option Edge) → first ≤ at → Adds (Until handle signals first at) a b → o ≡ slice_get signals at → c ≡ b ++ bound_to handle o → Adds (Until handle signals first (at + 1)) a c
+  until_more first at a b c o le before here now =
+      adds_same (λ e. Until handle signals first at e ⊎ IsIn e (bound_to handle o)) (Until handle signals first (at + 1))
+      (λ e h. elim h [
+        | inl u ↦ record { place = u.place; low = u.low; below = (let w = u.below in omega (arith, w)); signal = u.signal; there = u.there; is = u.is }
+        | inr i ↦ let s = of_bound o e i in record { place = at; low = le; below = omega arith; signal = s.0; there = sym here ∙ s.1; is = s.2 }
+      ])
+      (λ e u. elim (cases_lt u.place at) [
+        | inl below ↦ inl (record { place = u.place; low = u.low; below = below; signal = u.signal; there = u.there; is = u.is })
+        | inr ge ↦
+            let same : u.place ≡ at = (let w = u.below in omega (arith, w, ge)) in
+            inr (in_bound o u.signal e (here ∙ ap (slice_get signals) (sym same) ∙ u.there) u.is)
+      ])
+      a c
+      (adds_then (Until handle signals first at) (λ e. IsIn e (bound_to handle o)) a b c before (adds_list (bound_to handle o) b c now))
+
+  pub until_all : (first past : ℕ) (a b : List Edge) → IsFirstFrom signals handle.from first → IsFirstFrom signals (handle.from + 1) past → Adds (Until handle signals first past) a b → Adds (IsBoundBy handle signals) a b
+  until_all first past a b f p grown =
+      adds_same (Until handle signals first past) (IsBoundBy handle signals)
+      (λ e u.
+      let above = f.above u.place u.signal u.low u.there in
+      let below = p.below u.place u.signal u.below u.there in
+      record { signal = u.signal; listed = in_place u.signal signals u.place u.there; same = omega (arith, above, below); is = u.is })
+      (λ e by.
+      let k = place_of by.signal signals by.listed in
+      record {
+        place = k.0;
+        low = elim (cases_lt k.0 first) [ inl l ↦ absurd (let w = f.below k.0 by.signal l k.1 in let s = by.same in omega (arith, w, s)) | inr ge ↦ ge ];
+        below = elim (cases_lt k.0 past) [ inl l ↦ l | inr ge ↦ absurd (let w = p.above k.0 by.signal ge k.1 in let s = by.same in omega (arith, w, s)) ];
+        signal = by.signal;
+        there = k.1;
+        is = by.is;
+      })
+      a b grown
+
+-- by the handlers at lesser places
+pub record Among (handles : List Edge) (signals : List Edge) (n : ℕ) (e : Edge) : Type 0 where
+  pub place : ℕ
+  pub below : place < n
+  pub by : IsBoundAt (slice_get handles place) signals e
+
+module _ (handles : List Edge) (signals : List Edge) where
+  pub among_none : (a : List Edge) → Adds (Among handles signals 0) a a
+  among_none a = adds_none (Among handles signals 0) (λ e x. let b = x.below in absurd (omega arith)) a
+
+  pub among_more : (n : ℕ) (a b c : List Edge) (o : Option Edge) → o ≡ slice_get handles n → Adds (Among handles signals n) a b → Adds (IsBoundAt o signals) b c → Adds (Among handles signals (n + 1)) a c
+  among_more n a b c o here before now =
+      adds_same (λ e. Among handles signals n e ⊎ IsBoundAt o signals e) (Among handles signals (n + 1))
+      (λ e h. elim h [
+        | inl x ↦ record { place = x.place; below = (let w = x.below in omega (arith, w)); by = x.by }
+        | inr y ↦ record { place = n; below = omega arith; by = subst (λ z. IsBoundAt z signals e) here y }
+      ])
+      (λ e x. elim (cases_lt x.place n) [
+        | inl below ↦ inl (record { place = x.place; below = below; by = x.by })
+        | inr ge ↦
+            let same : x.place ≡ n = (let w = x.below in omega (arith, w, ge)) in
+            inr (subst (λ z. IsBoundAt z signals e) (sym here) (subst (λ k. IsBoundAt (slice_get handles k) signals e) same x.by))
+      ])
+      a c
+      (adds_then (Among handles signals n) (IsBoundAt o signals) a b c before now)
+
+  from_at : (n : ℕ) (e : Edge) (o : Option Edge) → slice_get handles n ≡ o → IsBoundAt o signals e → IsBound handles signals e
+  from_at n e None h x = absurd x
+  from_at n e (Some d) h x = record { handle = d; listed = in_place d handles n h; by = x }
+
+  pub among_all : (n : ℕ) (a b : List Edge) → length handles ≤ n → Adds (Among handles signals n) a b → Adds (IsBound handles signals) a b
+  among_all n a b le grown =
+      adds_same (Among handles signals n) (IsBound handles signals)
+      (λ e x. from_at x.place e (slice_get handles x.place) refl x.by)
+      (λ e x.
+      let k = place_of x.handle handles x.listed in
+      let l = slice_get_within handles k.0 x.handle k.1 in
+      record { place = k.0; below = omega (arith, l, le); by = subst (λ z. IsBoundAt z signals e) (sym k.1) x.by })
+      a b grown

@@ -1,0 +1,111 @@
+-- A table that has the listed edges has as many as there are different ones.
+use Rattle.std.proofs.Common.{◌≡◌, ◌||◌, suc, Bool, true, false, List, [], ◌∷◌, ◌++◌, length, refl, sym, ◌∙◌, ap, subst, inl, inr, arith}
+use Rattle.std.specs.Cmp.{IsEquivalence}
+use Rattle.std.specs.Cmp.Derive.{one_truth}
+use Rattle.std.specs.List.{AllByRecursion, IsDistinct, filter, list_any}
+use Rattle.std.specs.Set.{is_member}
+use Rattle.std.proofs.lemmas.Map.Made.{length-from_keys}
+use Rattle.auth_kinds.specs.Adds.{Adds}
+use Rattle.auth_kinds.specs.Edges.{Before, same_edge}
+use Rattle.auth_kinds.specs.Tables.{IsSorted, has}
+use Rattle.auth_kinds.specs.declared.edge.Edge.{Edge}
+use Rattle.auth_kinds.proofs.EdgeOrder.{not_before_self, same_edge_self, same_edge_true}
+use Rattle.arch_policy.specs.Bound.{IsBound}
+use Rattle.arch_policy.specs.Policies.{IsPolicyOf, edge_count}
+use Rattle.arch_policy.specs.Tables.{Tables}
+use Rattle.arch_policy.specs.Triples.{bound_edges, triples}
+use Rattle.arch_policy.proofs.Listed.{from_bound, in_bound, triples_are_policy}
+use Rattle.arch_policy.proofs.Lists.{from_filter, has_in, in_filter, in_has}
+use Rattle.numbering.specs.Gather.{IsIn}
+use Rattle.numbering.proofs.Gathered.{in_append, in_left, in_right, place_of}
+
+same_back : (d e : Edge) → same_edge d e ≡ true → same_edge e d ≡ true
+same_back d e h = ap (λ z. same_edge z d) (sym (same_edge_true d e h)) ∙ same_edge_self d
+
+same_swap : (d e : Edge) → same_edge d e ≡ same_edge e d
+same_swap d e = one_truth (same_edge d e) (same_edge e d) (same_back d e) (same_back e d)
+
+same_laws : IsEquivalence same_edge
+same_laws = record { refl = same_edge_self; symm = same_swap; congr = λ x y z h. ap (λ v. same_edge v z) (same_edge_true x y h) }
+
+member_has : (es : List Edge) (e : Edge) → is_member same_edge es e ≡ has es e
+member_has [] e = refl
+member_has (d ∷ es) e = ap (λ b. b || list_any (same_edge e) es) (same_swap e d) ∙ ap (λ b. same_edge d e || b) (member_has es e)
+
+all_in : {X : Type 0} (P : X → Type 0) (xs : List X) → ((x : X) → IsIn x xs → P x) → AllByRecursion P xs
+all_in P [] h = tt
+all_in P (x ∷ xs) h = (h x (inl refl), all_in P xs (λ y i. h y (inr i)))
+
+sorted_tail : (d : Edge) (es : List Edge) → IsSorted (d ∷ es) → IsSorted es
+sorted_tail d es s = record { by_place = λ i j x y l p q. s.by_place (suc i) (suc j) x y (omega (arith, l)) p q }
+
+before_in : (d e : Edge) (es : List Edge) → IsSorted (d ∷ es) → IsIn e es → Before d e
+before_in d e es s i = let k = place_of e es i in s.by_place 0 (suc k.0) d e (omega arith) refl k.1
+
+differs : (d e : Edge) → Before d e → same_edge d e ≡ false
+differs d e b = go (same_edge d e) refl where
+  go : (v : Bool) → same_edge d e ≡ v → v ≡ false
+  go true h = absurd (not_before_self d (subst (λ (z : Edge). Before d z) (sym (same_edge_true d e h)) b))
+  go false h = refl
+
+distinct : (es : List Edge) → IsSorted es → IsDistinct same_edge es
+unfolding IsDistinct
+distinct [] s = tt
+distinct (d ∷ es) s = (all_in (λ e. same_edge d e ≡ false) es (λ e i. differs d e (before_in d e es s i)), distinct es (sorted_tail d es s))
+
+pub table_counts : (t : Tables) (table : List Edge) → IsSorted table → ((e : Edge) → has table e ≡ has (triples t) e) → length table ≡ edge_count t
+table_counts t table s same = length-from_keys same_laws table (triples t) (distinct table s) (λ q. member_has table q ∙ same q ∙ sym (member_has (triples t) q))
+
+pub table_is_policy : (t : Tables) (table : List Edge) → ((e : Edge) → has table e ≡ has (triples t) e) → IsPolicyOf t table
+table_is_policy t table same e = (λ h. (triples_are_policy t e).0 (sym (same e) ∙ h), λ r. same e ∙ (triples_are_policy t e).1 r)
+
+-- ---- what is put together
+
+swapped : (xs ys : List Edge) → ((e : Edge) → has xs e ≡ has ys e) → (e : Edge) → IsIn e xs → IsIn e ys
+swapped xs ys same e i = has_in e ys (sym (same e) ∙ in_has e xs i)
+
+same_bound : (xs ys us vs : List Edge) → ((e : Edge) → has xs e ≡ has ys e) → ((e : Edge) → has us e ≡ has vs e) → (e : Edge) → IsBound xs us e → IsBound ys vs e
+same_bound xs ys us vs h s e x =
+    let by = x.by in
+    record { handle = x.handle; listed = swapped xs ys h x.handle x.listed; by = record { signal = by.signal; listed = swapped us vs s by.signal by.listed; same = by.same; is = by.is } }
+
+-- by tables hs and ss that have the edges of two lists
+module _ (direct reply handles signals hs ss before edges : List Edge) (h : (e : Edge) → has hs e ≡ has handles e) (s : (e : Edge) → has ss e ≡ has signals e)
+    (is : before ≡ direct ++ reply) (grown : Adds (IsBound hs ss) before edges) where
+  abbrev all : List Edge
+  all = direct ++ (reply ++ bound_edges handles signals)
+
+  old_in : (e : Edge) → IsIn e (direct ++ reply) → IsIn e all
+  old_in e i = elim (in_append e direct reply i) [
+    | inl j ↦ in_left e direct (reply ++ bound_edges handles signals) j
+    | inr j ↦ in_right e direct (reply ++ bound_edges handles signals) (in_left e reply (bound_edges handles signals) j)
+  ]
+
+  bound_in : (e : Edge) → IsBound hs ss e → IsIn e all
+  bound_in e x = in_right e direct (reply ++ bound_edges handles signals) (in_right e reply (bound_edges handles signals) (in_bound handles signals e (same_bound hs handles ss signals h s e x)))
+
+  collected_in : (e : Edge) → has edges e ≡ true → has all e ≡ true
+  collected_in e k = elim (grown.only e k) [
+    | inl old ↦ in_has e all (old_in e (has_in e (direct ++ reply) (ap (λ z. has z e) (sym is) ∙ old)))
+    | inr x ↦ in_has e all (bound_in e x)
+  ]
+
+  old_has : (e : Edge) → IsIn e (direct ++ reply) → has edges e ≡ true
+  old_has e i = grown.kept e (ap (λ z. has z e) is ∙ in_has e (direct ++ reply) i)
+
+  all_has : (e : Edge) → has all e ≡ true → has edges e ≡ true
+  all_has e k = elim (in_append e direct (reply ++ bound_edges handles signals) (has_in e all k)) [
+    | inl j ↦ old_has e (in_left e direct reply j)
+    | inr i ↦ elim (in_append e reply (bound_edges handles signals) i) [
+      | inl j ↦ old_has e (in_right e direct reply j)
+      | inr j ↦ grown.added e (same_bound handles hs signals ss (λ d. sym (h d)) (λ d. sym (s d)) e (from_bound handles signals e j))
+    ]
+  ]
+
+  pub collected : (e : Edge) → has edges e ≡ has all e
+  collected e = one_truth (has edges e) (has all e) (collected_in e) (all_has e)
+
+pub has_filter : (xs ys : List Edge) (p : Edge → Bool) → ((e : Edge) → has xs e ≡ has ys e) → (e : Edge) → has (filter p xs) e ≡ has (filter p ys) e
+has_filter xs ys p same e = one_truth (has (filter p xs) e) (has (filter p ys) e)
+    (λ h. let w = from_filter p e xs (has_in e (filter p xs) h) in in_has e (filter p ys) (in_filter p e ys (swapped xs ys same e w.0) w.1))
+    (λ h. let w = from_filter p e ys (has_in e (filter p ys) h) in in_has e (filter p xs) (in_filter p e xs (swapped ys xs (λ d. sym (same d)) e w.0) w.1))

@@ -1,0 +1,47 @@
+-- The numbers of labels
+use Rattle.std.proofs.Common.{◌≡◌, ◌<◌, ◌≤◌, ◌+◌, ◌^◌, ℕ, suc, Bool, true, false, List, [], ◌∷◌, ◌++◌, length, ◌∙◌, ap, arith}
+use Rattle.adl_meaning.specs.declared.flat.Domain.{Domain}
+use Rattle.adl_meaning.specs.declared.flat.Flat.{Flat}
+use Rattle.adl_meaning.specs.declared.flat.FlatConnection.{FlatConnection}
+use Rattle.adl_meaning.specs.declared.flat.Leaf.{Leaf}
+use Rattle.arch_policy.specs.declared.numbers.LabelNumbers.{LabelNumbers}
+use Rattle.arch_policy.specs.Labels.{connection_numbers, device_numbers, domain_numbers, label_numbers, label_texts}
+use Rattle.arch_policy.specs.Owners.{connection_texts, device_texts, domain_texts, has_label, is_device, texts}
+use Rattle.arch_policy.specs.Where.{where_true}
+use Rattle.arch_policy.proofs.Ordering.{order_short}
+use Rattle.cam_base.specs.Paths.{joined}
+use Rattle.numbering.specs.Gather.{gather}
+use Rattle.numbering.proofs.Gathered.{length_append}
+
+pub numbers_are : (flat : Flat) (ts : List (List ℕ)) (ds : List Domain) (cs : List FlatConnection) (ls : List Leaf) (n : LabelNumbers)
+    → ts ≡ label_texts flat → ds ≡ flat.domains → cs ≡ flat.connections → ls ≡ flat.leaves
+    → n.domains ≡ domain_numbers ts ds → n.connections ≡ connection_numbers ts cs → n.devices ≡ device_numbers ts ls → n ≡ label_numbers flat
+numbers_are flat ts ds cs ls n t d c l a b e =
+    let A : n.domains ≡ domain_numbers (label_texts flat) flat.domains = a ∙ ap (λ z. domain_numbers z ds) t ∙ ap (λ z. domain_numbers (label_texts flat) z) d in
+    let B : n.connections ≡ connection_numbers (label_texts flat) flat.connections = b ∙ ap (λ z. connection_numbers z cs) t ∙ ap (λ z. connection_numbers (label_texts flat) z) c in
+    let E : n.devices ≡ device_numbers (label_texts flat) flat.leaves = e ∙ ap (λ z. device_numbers z ls) t ∙ ap (λ z. device_numbers (label_texts flat) z) l in
+    ap (λ z. let m : LabelNumbers = record { domains = z; connections = n.connections; devices = n.devices } in m) A
+    ∙ ap (λ z. let m : LabelNumbers = record { domains = domain_numbers (label_texts flat) flat.domains; connections = z; devices = n.devices } in m) B
+    ∙ ap (λ z. let m : LabelNumbers = record { domains = domain_numbers (label_texts flat) flat.domains; connections = connection_numbers (label_texts flat) flat.connections; devices = z } in m) E
+
+where_short : {X : Type 0} (b : Bool) (x : X) → length (where_true b x) ≤ 1
+where_short true x = omega arith
+where_short false x = omega arith
+
+gather_short : {X Y : Type 0} (f : ℕ → X → List Y) (xs : List X) → ((k : ℕ) (x : X) → length (f k x) ≤ 1) → length (gather f xs) ≤ length xs
+gather_short f [] h = omega arith
+gather_short f (x ∷ xs) h =
+    let a = h 0 x in
+    let b = gather_short (λ k y. f (suc k) y) xs (λ k y. h (suc k) y) in
+    let c = length_append (f 0 x) (gather (λ k y. f (suc k) y) xs) in
+    omega (arith, a, b, c)
+
+pub few_texts : (flat : Flat) → length flat.domains + length flat.connections + length flat.leaves < 2 ^ 32 → length (label_texts flat) < 2 ^ 32
+few_texts flat h =
+    let a = order_short (texts flat) in
+    let b = length_append (domain_texts flat.domains) (device_texts flat.leaves ++ connection_texts flat.connections) in
+    let c = length_append (device_texts flat.leaves) (connection_texts flat.connections) in
+    let d = gather_short (λ d (x : Domain). joined x.path ∷ []) flat.domains (λ k x. omega arith) in
+    let e = gather_short (λ l (x : Leaf). where_true (is_device x.domain) (joined x.path)) flat.leaves (λ k x. where_short (is_device x.domain) (joined x.path)) in
+    let f = gather_short (λ k (x : FlatConnection). where_true (has_label x.connector) (joined x.path)) flat.connections (λ k x. where_short (has_label x.connector) (joined x.path)) in
+    omega (arith, a, b, c, d, e, f, h)

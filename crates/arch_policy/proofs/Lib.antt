@@ -1,0 +1,7 @@
+pub mod Bounding
+pub mod Counted
+pub mod Labelled
+pub mod Listed
+pub mod Lists
+pub mod Ordering
+pub mod Same

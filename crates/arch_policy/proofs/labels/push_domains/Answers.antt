@@ -1,0 +1,10 @@
+use Rattle.std.proofs.Common.{◌∷◌, [], refl}
+use Rattle.adl_meaning.specs.declared.flat.Domain.{Domain}
+use Rattle.cam_base.specs.Paths.{joined}
+use Rattle.numbering.proofs.Gathered.{gather_turn}
+use Rattle.arch_policy.proofs.labels.push_domains.Goals as goal
+
+pub loop-domain-preserved : goal.loop-domain-preserved
+loop-domain-preserved c =
+    gather_turn (λ d (x : Domain). joined x.path ∷ []) c.args.domains.now _ c.loop-domain.domain-index _ c.args.texts.now _ _ refl
+    c.loop-domain-test.true c.domain-item.is c.loop-domain.invariant c.in_ok-push_text.ensures

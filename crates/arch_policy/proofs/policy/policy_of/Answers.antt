@@ -1,0 +1,9 @@
+use Rattle.std.proofs.Common.{◌≡◌, ◌∙◌, ◌<◌, ◌^◌, length, sym, subst}
+use Rattle.arch_policy.specs.Labels.{label_texts}
+use Rattle.arch_policy.proofs.Labelled.{few_texts}
+use Rattle.arch_policy.proofs.policy.policy_of.Goals as goal
+
+pub label_lines-requires : goal.label_lines-requires
+label_lines-requires c =
+    let are : c.as_slice.result.now ≡ label_texts c.args.flat.now = c.as_slice.ensures ∙ c.in_ok-texts.ensures.texts in
+    subst (λ z. length z < 2 ^ 32) (sym are) (few_texts c.args.flat.now c.requires.few)

@@ -1,0 +1,13 @@
+pub mod Bound
+pub mod Ends
+pub mod Gives
+pub mod Labels
+pub mod Owners
+pub mod Policies
+pub mod Reasons
+pub mod Tables
+pub mod Triples
+pub mod Where
+pub use Rattle.adl_meaning.specs.Faults
+pub use Rattle.auth_kinds.specs.Tables as EdgeTables
+pub use Rattle.leaf_ends.specs.Within

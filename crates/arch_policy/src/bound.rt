@@ -1,0 +1,58 @@
+//! What bound interrupts give devices.
+
+ghost use Rattle.arch_policy.specs.Bound.{IsBound, IsBoundAt, IsBoundBy, bound_to};
+ghost use Rattle.auth_kinds.specs.Adds.{Adds};
+ghost use Rattle.std.specs.Prelude.{◌≡◌, ◌++◌, OnOk};
+
+use auth_kinds::{Authority, Edge, EdgeTable};
+use cam_base::{List, NoMemory};
+
+fn push_bound_to(handle: Edge, signal: Option<Edge>, edges: &mut List<Edge>) -> Result<(), NoMemory>
+    ensures { OnOk result (edges.new ≡ edges.old ++ bound_to handle signal) }
+{
+    match signal {
+        Some(signal) => edges.push(Edge {
+            from: handle.to,
+            authority: Authority::AsyncSend,
+            to: signal.to,
+        }),
+        None => Ok(()),
+    }
+}
+
+fn push_bound_by(handle: Edge, signals: &EdgeTable, edges: &mut List<Edge>) -> Result<(), NoMemory>
+    ensures { OnOk result (Adds (IsBoundBy handle signals.now) edges.old edges.new) }
+{
+    let (first, past) = signals.out_of(handle.from);
+    for at in first..past {
+        push_bound_to(handle, signals.get(at), edges)?;
+    }
+    Ok(())
+}
+
+fn push_bound_at(
+    handle: Option<Edge>,
+    signals: &EdgeTable,
+    edges: &mut List<Edge>,
+) -> Result<(), NoMemory>
+    ensures { OnOk result (Adds (IsBoundAt handle signals.now) edges.old edges.new) }
+{
+    match handle {
+        Some(handle) => push_bound_by(handle, signals, edges),
+        None => Ok(()),
+    }
+}
+
+/// Puts what a device may signal, by the edges of handlers and those by which they signal, behind the others.
+pub fn push_bound(
+    handles: &EdgeTable,
+    signals: &EdgeTable,
+    edges: &mut List<Edge>,
+) -> Result<(), NoMemory>
+    ensures { OnOk result (Adds (IsBound handles.now signals.now) edges.old edges.new) }
+{
+    for at in 0..handles.len() {
+        push_bound_at(handles.get(at), signals, edges)?;
+    }
+    Ok(())
+}

@@ -1,0 +1,449 @@
+//! The edges that ends are given, and those of each two ends of one connection.
+
+ghost use Rattle.arch_policy.specs.Gives.{leaves, opposite};
+ghost use Rattle.adl_ast.specs.declared.composition.Role.TheVariants.{From};
+ghost use Rattle.adl_meaning.specs.declared.connector.Connector.TheVariants.{Notification};
+ghost use Rattle.adl_meaning.specs.declared.flat.FlatConnection.{FlatConnection as Line};
+ghost use Rattle.arch_policy.specs.Tables.{leaf_label, told};
+ghost use Rattle.arch_policy.specs.Triples.{crossed, crossed_at, crossed_edges, direct_edges, end_edges, given_edges, labels_in_role, lock_edge, lock_edges, row_edges, row_gives, signal_edges, signals_at, targets};
+ghost use Rattle.arch_policy.specs.Where.{where_true};
+ghost use Rattle.auth_kinds.specs.Edges.{edge};
+ghost use Rattle.auth_kinds.specs.Tables.{has};
+ghost use Rattle.auth_kinds.specs.declared.edge.Edge.{Edge as Triple};
+ghost use Rattle.conn_rules.specs.Row.{same_connector, same_role};
+ghost use Rattle.leaf_ends.specs.Members.{is_lock, members_at};
+ghost use Rattle.numbering.specs.Gather.{gather};
+ghost use Rattle.std.specs.List.{list_any};
+ghost use Rattle.std.specs.Prelude.{◌≡◌, ◌<◌, ◌^◌, ◌++◌, ◌∷◌, ◌&&◌, [], length, slice_get, IfOk, OnOk, Some, ℕ};
+
+use crate::Tables;
+use crate::tables::{connection_label, domain_label, leaf_label};
+use adl_ast::{Member, Role};
+use adl_meaning::{Connector, EndSetting, FlatConnection, FlatEnd, Leaf};
+use auth_kinds::{Authority, Edge, EdgeTable};
+use cam_base::{List, NoMemory};
+use conn_rules::{ObjectKind, RuleRow, row};
+use leaf_ends::{is_lock, members_at, setting_of};
+use std::alloc::Global;
+
+/// All authorities, by number.
+const AUTHORITIES: [Authority; 12] = [
+    Authority::Receive,
+    Authority::SyncSend,
+    Authority::AsyncSend,
+    Authority::Reset,
+    Authority::Grant,
+    Authority::Read,
+    Authority::Write,
+    Authority::Control,
+    Authority::Call,
+    Authority::Reply,
+    Authority::GrantBack,
+    Authority::Handle,
+];
+
+/// An end, with all that its edges are made from.
+#[derive(Clone, Copy)]
+pub struct EndHere<'a> {
+    pub tables: Tables<'a>,
+    pub place: u32,
+    pub connection: &'a FlatConnection,
+    pub number: u32,
+    pub end: FlatEnd,
+}
+
+fn leaves(setting: Option<EndSetting>, authority: Authority) -> bool
+    ensures { result ≡ leaves setting authority }
+{
+    match authority {
+        Authority::Read => setting.is_some_and(|setting| setting.read),
+        Authority::Write => setting.is_some_and(|setting| setting.write),
+        _ => true,
+    }
+}
+
+fn opposite(role: Role) -> Role
+    ensures { result ≡ opposite role }
+{
+    match role {
+        Role::From => Role::To,
+        Role::To => Role::From,
+    }
+}
+
+// ---- direct
+
+fn push_label(
+    tables: &Tables<'_>,
+    role: Role,
+    end: FlatEnd,
+    labels: &mut List<u32>,
+) -> Result<(), NoMemory>
+    ensures { OnOk result (labels.new ≡ labels.old ++ where_true (same_role end.role role) (leaf_label (told tables.now) end.leaf)) }
+{
+    if end.role == role {
+        labels.push(leaf_label(tables, end.leaf))?;
+    }
+    Ok(())
+}
+
+/// The labels at the ends in this role.
+pub fn labels_in_role(
+    alloc: Global,
+    tables: &Tables<'_>,
+    role: Role,
+    ends: &[FlatEnd],
+) -> Result<List<u32>, NoMemory>
+    ensures { IfOk result (λ labels. labels ≡ labels_in_role (told tables.now) role ends.now) }
+{
+    let mut labels = List::new(alloc);
+    for end in ends {
+        push_label(tables, role, *end, &mut labels)?;
+    }
+    Ok(labels)
+}
+
+/// The labels of the end's objects of this kind.
+fn targets(alloc: Global, here: EndHere<'_>, object: ObjectKind) -> Result<List<u32>, NoMemory>
+    ensures { IfOk result (λ labels. labels ≡ targets (told here.entry.tables) here.entry.place here.entry.connection.now here.entry.end.role object) }
+{
+    match object {
+        ObjectKind::OfEndpoint | ObjectKind::OfNotification | ObjectKind::OfFrames => {
+            let label = connection_label(&here.tables, here.place);
+            List::from_slice(alloc, &[label])
+        }
+        ObjectKind::OfDevice | ObjectKind::OfIrq => {
+            let ends = here.connection.ends.as_slice();
+            labels_in_role(alloc, &here.tables, opposite(here.end.role), ends)
+        }
+        ObjectKind::NoObject => Ok(List::new(alloc)),
+    }
+}
+
+fn row_gives(here: EndHere<'_>, row: RuleRow, authority: Authority) -> bool
+    ensures { result ≡ row_gives (told here.entry.tables) here.entry.place here.entry.number row authority }
+{
+    row.authorities.has(authority)
+        && leaves(
+            setting_of(here.tables.settled, here.place, here.number),
+            authority,
+        )
+}
+
+/// Puts the edge behind the others where the row gives its authority.
+fn push_edge(
+    here: EndHere<'_>,
+    row: RuleRow,
+    edge: Edge,
+    edges: &mut List<Edge>,
+) -> Result<(), NoMemory>
+    ensures { OnOk result (edges.new ≡ edges.old ++ where_true (row_gives (told here.entry.tables) here.entry.place here.entry.number row edge.authority) edge) }
+{
+    if row_gives(here, row, edge.authority) {
+        edges.push(edge)?;
+    }
+    Ok(())
+}
+
+/// Puts the edges from the end's label to another with the authorities of the row behind the others.
+fn push_given(
+    here: EndHere<'_>,
+    row: RuleRow,
+    from: u32,
+    to: u32,
+    edges: &mut List<Edge>,
+) -> Result<(), NoMemory>
+    ensures { OnOk result (edges.new ≡ edges.old ++ given_edges (told here.entry.tables) here.entry.place here.entry.number row from to) }
+{
+    let authorities = AUTHORITIES;
+    for authority in authorities.as_slice() {
+        let edge = Edge {
+            from,
+            authority: *authority,
+            to,
+        };
+        push_edge(here, row, edge, edges)?;
+    }
+    Ok(())
+}
+
+fn push_given_to_each(
+    here: EndHere<'_>,
+    row: RuleRow,
+    from: u32,
+    targets: &[u32],
+    edges: &mut List<Edge>,
+) -> Result<(), NoMemory>
+    ensures { OnOk result (edges.new ≡ edges.old ++ gather (λ i m. given_edges (told here.entry.tables) here.entry.place here.entry.number row from m) targets.now) }
+{
+    for to in targets {
+        push_given(here, row, from, *to, edges)?;
+    }
+    Ok(())
+}
+
+fn push_row(
+    alloc: Global,
+    here: EndHere<'_>,
+    row: RuleRow,
+    edges: &mut List<Edge>,
+) -> Result<(), NoMemory>
+    ensures { OnOk result (edges.new ≡ edges.old ++ row_edges (told here.entry.tables) here.entry.place here.entry.connection.now here.entry.number here.entry.end row) }
+{
+    let from = leaf_label(&here.tables, here.end.leaf);
+    let targets = targets(alloc, here, row.object)?;
+    push_given_to_each(here, row, from, targets.as_slice(), edges)
+}
+
+fn push_end(alloc: Global, here: EndHere<'_>, edges: &mut List<Edge>) -> Result<(), NoMemory>
+    ensures { OnOk result (edges.new ≡ edges.old ++ end_edges (told here.entry.tables) here.entry.place here.entry.connection.now here.entry.number here.entry.end) }
+{
+    let (first, second) = row(here.connection.connector, here.end.role);
+    push_row(alloc, here, first, edges)?;
+    match second {
+        Some(second) => push_row(alloc, here, second, edges),
+        None => Ok(()),
+    }
+}
+
+/// Whether the connector table gives the end the authority of the edge, over the label that the edge leads to.
+///
+/// # Errors
+///
+/// Want of memory.
+pub fn end_gives(alloc: Global, here: EndHere<'_>, edge: Edge) -> Result<bool, NoMemory>
+    ensures { IfOk result (λ given. given ≡ has (end_edges (told here.entry.tables) here.entry.place here.entry.connection.now here.entry.number here.entry.end) edge) }
+{
+    let mut edges = List::new(alloc);
+    push_end(alloc, here, &mut edges)?;
+    let table = EdgeTable::from_list(alloc, edges.as_slice())?;
+    Ok(table.contains(&edge))
+}
+
+fn push_ends<'a>(
+    alloc: Global,
+    tables: &Tables<'a>,
+    place: u32,
+    connection: &'a FlatConnection,
+    edges: &mut List<Edge>,
+) -> Result<(), NoMemory>
+    requires { length connection.now.ends < 2 ^ 32 }
+    ensures { OnOk result (edges.new ≡ edges.old ++ gather (λ n e. end_edges (told tables.now) place connection.now n e) connection.now.ends) }
+{
+    for (number, end) in connection.ends.as_slice().iter().enumerate() {
+        let here = EndHere {
+            tables: *tables,
+            place,
+            connection,
+            number: number as u32,
+            end: *end,
+        };
+        push_end(alloc, here, edges)?;
+    }
+    Ok(())
+}
+
+/// The edges that the connector table gives ends.
+pub fn direct_edges(alloc: Global, tables: &Tables<'_>) -> Result<List<Edge>, NoMemory>
+    requires few { length tables.now.flat.now.connections < 2 ^ 32 }
+    requires short { (k : ℕ) (c : Line) → slice_get tables.now.flat.now.connections k ≡ Some c → length c.ends < 2 ^ 32 }
+    ensures { IfOk result (λ edges. edges ≡ direct_edges (told tables.now)) }
+{
+    let mut edges = List::new(alloc);
+    for (place, connection) in tables.flat.connections.as_slice().iter().enumerate() {
+        push_ends(alloc, tables, place as u32, connection, &mut edges)?;
+    }
+    Ok(edges)
+}
+
+// ---- of two ends of one connection
+
+fn push_to_each(
+    from: u32,
+    authority: Authority,
+    targets: &[u32],
+    edges: &mut List<Edge>,
+) -> Result<(), NoMemory>
+    ensures { OnOk result (edges.new ≡ edges.old ++ gather (λ j m. edge from authority m ∷ []) targets.now) }
+{
+    for to in targets {
+        edges.push(Edge {
+            from,
+            authority,
+            to: *to,
+        })?;
+    }
+    Ok(())
+}
+
+/// Puts an edge with the authority from each label to each other behind the others.
+fn push_crossed(
+    labels: &[u32],
+    authority: Authority,
+    targets: &[u32],
+    edges: &mut List<Edge>,
+) -> Result<(), NoMemory>
+    ensures { OnOk result (edges.new ≡ edges.old ++ crossed labels.now authority targets.now) }
+{
+    for from in labels {
+        push_to_each(*from, authority, targets, edges)?;
+    }
+    Ok(())
+}
+
+fn push_crossed_at(
+    alloc: Global,
+    tables: &Tables<'_>,
+    connector: Connector,
+    authority: Authority,
+    connection: &FlatConnection,
+    edges: &mut List<Edge>,
+) -> Result<(), NoMemory>
+    ensures { OnOk result (edges.new ≡ edges.old ++ crossed_at (told tables.now) connector authority connection.now) }
+{
+    if connection.connector != connector {
+        return Ok(());
+    }
+    let ends = connection.ends.as_slice();
+    let labels = labels_in_role(alloc, tables, Role::To, ends)?;
+    let targets = labels_in_role(alloc, tables, Role::From, ends)?;
+    push_crossed(labels.as_slice(), authority, targets.as_slice(), edges)
+}
+
+/// Puts the edges with the authority from the `to` ends to the `from` ends of each connection of this connector behind
+/// the others.
+pub fn push_crossed_edges(
+    alloc: Global,
+    tables: &Tables<'_>,
+    connector: Connector,
+    authority: Authority,
+    edges: &mut List<Edge>,
+) -> Result<(), NoMemory>
+    ensures { OnOk result (edges.new ≡ edges.old ++ crossed_edges (told tables.now) connector authority) }
+{
+    for connection in tables.flat.connections.as_slice() {
+        push_crossed_at(alloc, tables, connector, authority, connection, edges)?;
+    }
+    Ok(())
+}
+
+// ---- of interrupts
+
+fn signals(connection: &FlatConnection, end: FlatEnd) -> bool
+    ensures { result ≡ (same_connector connection.now.connector Notification && same_role end.role From) }
+{
+    connection.connector == Connector::Notification && end.role == Role::From
+}
+
+fn push_signal(
+    tables: &Tables<'_>,
+    place: u32,
+    connection: &FlatConnection,
+    end: FlatEnd,
+    edges: &mut List<Edge>,
+) -> Result<(), NoMemory>
+    ensures { OnOk result (edges.new ≡ edges.old ++ signals_at (told tables.now) place connection.now end) }
+{
+    if signals(connection, end) {
+        edges.push(Edge {
+            from: leaf_label(tables, end.leaf),
+            authority: Authority::AsyncSend,
+            to: connection_label(tables, place),
+        })?;
+    }
+    Ok(())
+}
+
+fn push_signals_of(
+    tables: &Tables<'_>,
+    place: u32,
+    connection: &FlatConnection,
+    edges: &mut List<Edge>,
+) -> Result<(), NoMemory>
+    ensures { OnOk result (edges.new ≡ edges.old ++ gather (λ n e. signals_at (told tables.now) place connection.now e) connection.now.ends) }
+{
+    for end in connection.ends.as_slice() {
+        push_signal(tables, place, connection, *end, edges)?;
+    }
+    Ok(())
+}
+
+/// Puts who signals on which notification behind the others.
+fn push_signals(tables: &Tables<'_>, edges: &mut List<Edge>) -> Result<(), NoMemory>
+    requires { length tables.now.flat.now.connections < 2 ^ 32 }
+    ensures { OnOk result (edges.new ≡ edges.old ++ signal_edges (told tables.now)) }
+{
+    for (place, connection) in tables.flat.connections.as_slice().iter().enumerate() {
+        push_signals_of(tables, place as u32, connection, edges)?;
+    }
+    Ok(())
+}
+
+fn has_lock(members: &[Member]) -> bool
+    ensures { result ≡ list_any is_lock members.now }
+{
+    members.iter().any(|member| is_lock(member))
+}
+
+fn push_own(
+    tables: &Tables<'_>,
+    domain: Option<u32>,
+    locks: bool,
+    edges: &mut List<Edge>,
+) -> Result<(), NoMemory>
+    ensures { OnOk result (edges.new ≡ edges.old ++ lock_edge (told tables.now) domain locks) }
+{
+    match domain {
+        Some(domain) if locks => {
+            let label = domain_label(tables, domain);
+            edges.push(Edge {
+                from: label,
+                authority: Authority::AsyncSend,
+                to: label,
+            })
+        }
+        _ => Ok(()),
+    }
+}
+
+fn push_lock(tables: &Tables<'_>, leaf: &Leaf, edges: &mut List<Edge>) -> Result<(), NoMemory>
+    ensures { OnOk result (edges.new ≡ edges.old ++ lock_edge (told tables.now) leaf.now.domain (list_any is_lock (members_at tables.now.source.now leaf.now.component))) }
+{
+    let members = members_at(tables.source, leaf.component);
+    push_own(tables, leaf.domain, has_lock(members), edges)
+}
+
+/// Puts which domains have a lock behind the others.
+fn push_locks(tables: &Tables<'_>, edges: &mut List<Edge>) -> Result<(), NoMemory>
+    ensures { OnOk result (edges.new ≡ edges.old ++ lock_edges (told tables.now)) }
+{
+    for leaf in tables.flat.leaves.as_slice() {
+        push_lock(tables, leaf, edges)?;
+    }
+    Ok(())
+}
+
+/// The table of who signals on which notification.
+///
+/// # Errors
+///
+/// Want of memory.
+pub fn signal_table(alloc: Global, tables: &Tables<'_>) -> Result<EdgeTable, NoMemory>
+    requires { length tables.now.flat.now.connections < 2 ^ 32 }
+    ensures { IfOk result (λ table. (e : Triple) → has table e ≡ has (signal_edges (told tables.now)) e) }
+{
+    let mut edges = List::new(alloc);
+    push_signals(tables, &mut edges)?;
+    EdgeTable::from_list(alloc, edges.as_slice())
+}
+
+/// By which edges labels signal, on notifications and by locks.
+pub fn signals_of(alloc: Global, tables: &Tables<'_>) -> Result<List<Edge>, NoMemory>
+    requires { length tables.now.flat.now.connections < 2 ^ 32 }
+    ensures { IfOk result (λ edges. edges ≡ signal_edges (told tables.now) ++ lock_edges (told tables.now)) }
+{
+    let mut edges = List::new(alloc);
+    push_signals(tables, &mut edges)?;
+    push_locks(tables, &mut edges)?;
+    Ok(edges)
+}

@@ -1,0 +1,23 @@
+//! The policy of a system: which label is assigned which authority over which other, and why.
+//!
+//! Who has a label stands in `specs/Owners.antt`, the numbers of labels in `specs/Labels.antt`, why an authority is
+//! assigned in `specs/Reasons.antt`, the assigned edges as a list in `specs/Triples.antt`, and what a policy has, with the
+//! limit on its edges, in `specs/Policies.antt`.
+#![tactic(auto)]
+
+mod bound;
+mod edges;
+mod labels;
+mod laws;
+mod numbers;
+mod owner;
+mod policy;
+mod tables;
+
+pub use edges::{EndHere, end_gives, signal_table};
+pub use labels::{Labelling, labels_of};
+pub use laws::triples_are_the_policy;
+pub use numbers::LabelNumbers;
+pub use owner::Owner;
+pub use policy::policy_of;
+pub use tables::{Tables, connection_label, domain_label, leaf_label};

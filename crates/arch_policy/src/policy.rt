@@ -1,0 +1,166 @@
+ghost use Rattle.adl_meaning.specs.Faults.{Refuses};
+ghost use Rattle.adl_meaning.specs.declared.flat.FlatConnection.{FlatConnection as Line};
+ghost use Rattle.arch_policy.specs.Labels.{label_lines, label_numbers};
+ghost use Rattle.arch_policy.specs.Policies.{IsPolicyOf, edge_count, first_edge_fault};
+ghost use Rattle.arch_policy.specs.Tables.{tables_of, told};
+ghost use Rattle.arch_policy.specs.Triples.{handle_edges, leads_out, lock_edges, reasoned_edges, signal_edges, triples};
+ghost use Rattle.auth_kinds.specs.Tables.{IsSorted, has};
+ghost use Rattle.auth_kinds.specs.declared.edge.Edge.{Edge as Triple};
+ghost use Rattle.leaf_ends.specs.Limit.{limit_fault};
+ghost use Rattle.leaf_ends.specs.Within.{IsWithin};
+ghost use Rattle.std.specs.List.{filter};
+ghost use Rattle.std.specs.Prelude.{◌≡◌, ◌+◌, ◌<◌, ◌^◌, ◌++◌, [], if◌then◌else◌, nat_lt, codes, length, slice_get, IfOk, None, Some, ℕ};
+
+use crate::bound::push_bound;
+use crate::edges::{direct_edges, push_crossed_edges, signals_of};
+use crate::labels::{Labelling, label_lines, labels_of};
+use crate::{LabelNumbers, Tables};
+use adl_ast::Source;
+use adl_meaning::{Connector, Flat, Settled};
+use auth_kinds::{Authority, Edge, EdgeTable, Policy};
+use cam_base::{Fault, List, NoMemory, Refused};
+use leaf_ends::limit_fault;
+use std::alloc::Global;
+
+/// Who handles the interrupt of which device.
+fn handlers(alloc: Global, tables: &Tables<'_>) -> Result<EdgeTable, NoMemory>
+    ensures { IfOk result (λ table. (e : Triple) → has table e ≡ has (handle_edges (told tables.now)) e) }
+{
+    let mut edges = List::new(alloc);
+    push_crossed_edges(
+        alloc,
+        tables,
+        Connector::Interrupt,
+        Authority::Handle,
+        &mut edges,
+    )?;
+    EdgeTable::from_list(alloc, edges.as_slice())
+}
+
+/// By which edges labels signal.
+fn signallers(alloc: Global, tables: &Tables<'_>) -> Result<EdgeTable, NoMemory>
+    requires { length tables.now.flat.now.connections < 2 ^ 32 }
+    ensures { IfOk result (λ table. (e : Triple) → has table e ≡ has (signal_edges (told tables.now) ++ lock_edges (told tables.now)) e) }
+{
+    let edges = signals_of(alloc, tables)?;
+    EdgeTable::from_list(alloc, edges.as_slice())
+}
+
+/// The edges that have a reason, those within a label too, with the bound ones of these tables.
+fn reasoned_with(
+    alloc: Global,
+    tables: &Tables<'_>,
+    handlers: &EdgeTable,
+    signallers: &EdgeTable,
+) -> Result<List<Edge>, NoMemory>
+    requires few { length tables.now.flat.now.connections < 2 ^ 32 }
+    requires short { (k : ℕ) (c : Line) → slice_get tables.now.flat.now.connections k ≡ Some c → length c.ends < 2 ^ 32 }
+    requires handlers { (e : Triple) → has handlers.now e ≡ has (handle_edges (told tables.now)) e }
+    requires signallers { (e : Triple) → has signallers.now e ≡ has (signal_edges (told tables.now) ++ lock_edges (told tables.now)) e }
+    ensures { IfOk result (λ edges. (e : Triple) → has edges e ≡ has (reasoned_edges (told tables.now)) e) }
+{
+    let mut edges = direct_edges(alloc, tables)?;
+    push_crossed_edges(alloc, tables, Connector::Rpc, Authority::Reply, &mut edges)?;
+    push_bound(handlers, signallers, &mut edges)?;
+    Ok(edges)
+}
+
+fn reasoned_edges(alloc: Global, tables: &Tables<'_>) -> Result<List<Edge>, NoMemory>
+    requires few { length tables.now.flat.now.connections < 2 ^ 32 }
+    requires short { (k : ℕ) (c : Line) → slice_get tables.now.flat.now.connections k ≡ Some c → length c.ends < 2 ^ 32 }
+    ensures { IfOk result (λ edges. (e : Triple) → has edges e ≡ has (reasoned_edges (told tables.now)) e) }
+{
+    let handlers = handlers(alloc, tables)?;
+    let signallers = signallers(alloc, tables)?;
+    reasoned_with(alloc, tables, &handlers, &signallers)
+}
+
+fn leading_out(alloc: Global, edges: &[Edge]) -> Result<Vec<Edge>, NoMemory>
+    ensures { IfOk result (λ kept. kept.items ≡ filter leads_out edges.now) }
+{
+    let kept = edges
+        .iter()
+        .copied()
+        .filter(|edge| edge.from != edge.to)
+        .collect(alloc)?;
+    Ok(kept)
+}
+
+/// The table of the assigned edges.
+fn assigned_edges(alloc: Global, tables: &Tables<'_>) -> Result<EdgeTable, NoMemory>
+    requires few { length tables.now.flat.now.connections < 2 ^ 32 }
+    requires short { (k : ℕ) (c : Line) → slice_get tables.now.flat.now.connections k ≡ Some c → length c.ends < 2 ^ 32 }
+    ensures sorted { IfOk result IsSorted }
+    ensures same { IfOk result (λ table. (e : Triple) → has table e ≡ has (triples (told tables.now)) e) }
+{
+    let edges = reasoned_edges(alloc, tables)?;
+    let kept = leading_out(alloc, edges.as_slice())?;
+    let table = EdgeTable::from_list(alloc, kept.as_slice())?;
+    Ok(table)
+}
+
+fn edges_with(
+    alloc: Global,
+    source: &Source,
+    flat: &Flat,
+    settled: &Settled,
+    numbers: &LabelNumbers,
+) -> Result<EdgeTable, NoMemory>
+    requires within { IsWithin source.now flat.now }
+    requires numbers { numbers.now ≡ label_numbers flat.now }
+    ensures sorted { IfOk result IsSorted }
+    ensures edges { IfOk result (IsPolicyOf (tables_of source.now flat.now settled.now)) }
+    ensures count { IfOk result (λ table. length table ≡ edge_count (tables_of source.now flat.now settled.now)) }
+{
+    let tables = Tables {
+        source,
+        flat,
+        settled,
+        numbers,
+    };
+    let table = assigned_edges(alloc, &tables)?;
+    Ok(table)
+}
+
+/// The limit on edges, where so many pass it.
+fn edge_fault(alloc: Global, source: &Source, count: usize) -> Result<Option<Fault>, NoMemory>
+    ensures { IfOk result (λ fault. fault ≡ (if nat_lt 200000 count then limit_fault source.now (codes "edges") else None)) }
+{
+    if count > 200_000 {
+        limit_fault(alloc, source, b"edges")
+    } else {
+        Ok(None)
+    }
+}
+
+/// The policy of a system: its labels, numbered from 0 in the byte order of their texts, and the assigned edges. It
+/// labels no object yet.
+///
+/// # Errors
+///
+/// The limit on edges, where it is passed: `specs/Policies.antt`. Want of memory.
+pub fn policy_of(
+    alloc: Global,
+    source: &Source,
+    flat: &Flat,
+    settled: &Settled,
+) -> Result<Policy, Refused<Fault>>
+    requires within { IsWithin source.now flat.now }
+    requires few { length flat.now.domains + length flat.now.connections + length flat.now.leaves < 2 ^ 32 }
+    ensures limit { Refuses result (first_edge_fault (tables_of source.now flat.now settled.now)) }
+    ensures labels { IfOk result (λ policy. policy.labels ≡ label_lines flat.now) }
+    ensures objects { IfOk result (λ policy. policy.objects ≡ []) }
+    ensures edges { IfOk result (λ policy. IsPolicyOf (tables_of source.now flat.now settled.now) policy.edges) }
+    ensures sorted { IfOk result (λ policy. IsSorted policy.edges) }
+{
+    let Labelling { texts, numbers } = labels_of(alloc, flat)?;
+    let edges = edges_with(alloc, source, flat, settled, &numbers)?;
+    if let Some(fault) = edge_fault(alloc, source, edges.len())? {
+        return Err(Refused::Fault(fault));
+    }
+    Ok(Policy {
+        labels: label_lines(alloc, texts.as_slice())?,
+        objects: List::new(alloc),
+        edges,
+    })
+}

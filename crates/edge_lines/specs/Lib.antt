@@ -1,0 +1,2 @@
+pub mod Lines
+pub use Rattle.auth_kinds.specs.Policies

@@ -1,0 +1,18 @@
+use Rattle.std.proofs.Common.{subst}
+use Rattle.arch_policy.specs.Tables.{told}
+use Rattle.explain.specs.declared.search.Sought.TheVariants.{Given}
+use Rattle.explain.specs.Sought.{IsFirstEnd}
+use Rattle.explain.proofs.Stages.{direct_first, direct_none}
+use Rattle.explain.proofs.first.direct_reason.Goals as goal
+
+pub returns-in_default : goal.returns-in_default
+returns-in_default c =
+    let t = told c.args.search.now.tables in
+    let e = c.args.search.now.edge in
+    direct_none t e (subst (λ o. IsFirstEnd t e Given o) c.in_default.is c.in_ok-end.ensures)
+
+pub returns : goal.returns
+returns c =
+    let t = told c.args.search.now.tables in
+    let e = c.args.search.now.edge in
+    direct_first t e c.in-Some.end c.numbers.result c.numbers.ensures (subst (λ o. IsFirstEnd t e Given o) c.in-Some.is c.in_ok-end.ensures)

@@ -1,0 +1,18 @@
+use Rattle.std.proofs.Common.{subst}
+use Rattle.arch_policy.specs.Tables.{told}
+use Rattle.explain.specs.declared.search.Sought.TheVariants.{LockHandler}
+use Rattle.explain.specs.Sought.{IsFirstEnd}
+use Rattle.explain.proofs.Stages.{lock_first, lock_none}
+use Rattle.explain.proofs.first.lock_reason.Goals as goal
+
+pub returns-in_default : goal.returns-in_default
+returns-in_default c =
+    let t = told c.args.search.now.tables in
+    let e = c.args.search.now.edge in
+    lock_none t e (subst (λ o. IsFirstEnd t e LockHandler o) c.in_default.is c.in_ok-handler.ensures)
+
+pub returns : goal.returns
+returns c =
+    let t = told c.args.search.now.tables in
+    let e = c.args.search.now.edge in
+    lock_first t e c.in-Some.handler c.numbers.result c.in-Some-first_lock.lock c.numbers.ensures (subst (λ o. IsFirstEnd t e LockHandler o) c.in-Some.is c.in_ok-handler.ensures) c.in-Some-first_lock.ensures

@@ -1,0 +1,3 @@
+pub mod Explained
+pub mod Sought
+pub use Rattle.leaf_ends.specs.Within

@@ -1,0 +1,77 @@
+//! The assigned edges of a source.
+
+ghost use Rattle.arch_compile.specs.Steps.{IsSound};
+ghost use Rattle.auth_kinds.specs.Policies.{NumbersDiffer};
+ghost use Rattle.cam_io.specs.Reading.{KeepsFiles};
+ghost use Rattle.cam_io.specs.Sinks.{IsOpen, Writes};
+ghost use Rattle.source_commands.specs.Listed.{IsListed, Lists, listing_text};
+ghost use Rattle.std.specs.Prelude.{◌≡◌};
+
+use arch_compile::{BuildError, FrontEnd, front, in_file};
+use arch_policy::policy_of;
+use auth_kinds::{EdgeTable, Policy};
+use cam_io::{Failed, Files, Outputs};
+use edge_lines::{Names, write_edges};
+use std::alloc::Global;
+
+/// The labels of a system and its assigned edges.
+#[derive(Drop)]
+pub struct Listing {
+    pub names: Names,
+    pub edges: EdgeTable,
+}
+
+impl Listing {
+    /// The labels and the edges of a policy.
+    fn of(alloc: Global, policy: Policy) -> Listing
+        requires { NumbersDiffer policy.labels }
+        ensures names { result.names ≡ policy.labels }
+        ensures edges { result.edges ≡ policy.edges }
+    {
+        let Policy {
+            labels,
+            objects,
+            edges,
+        } = policy;
+        let names = Names::of(Policy {
+            labels,
+            objects,
+            edges: EdgeTable::empty(alloc),
+        });
+        Listing { names, edges }
+    }
+}
+
+/// The labels and the assigned edges of the root's source.
+///
+/// # Errors
+///
+/// The first fault of the phases up to the settings, and where there is none the limit on edges, with the name of its file; a
+/// failed read; want of memory.
+pub fn list<F: Files>(alloc: Global, files: &mut F, root: &str) -> Result<Listing, BuildError>
+    ensures kept { KeepsFiles F.contents F.faults files.old files.new }
+    ensures listed { IsListed root.now (F.contents files.old) (F.faults files.old) (F.faults files.new) result }
+{
+    match front(alloc, files, root) {
+        Ok(front) => listing_of(alloc, &front),
+        Err(error) => Err(error),
+    }
+}
+
+fn listing_of(alloc: Global, front: &FrontEnd) -> Result<Listing, BuildError>
+    requires { IsSound front.now }
+    ensures { Lists front.now.source result }
+{
+    match policy_of(alloc, &front.source, &front.flat, &front.settled) {
+        Ok(policy) => Ok(Listing::of(alloc, policy)),
+        Err(refused) => Err(in_file(alloc, &front.source, refused)),
+    }
+}
+
+/// Writes a line for each edge to an open channel, in their order. Takes no memory.
+pub fn write_listing<O: Outputs>(listing: &Listing, out: &mut O, channel: u8) -> Result<(), Failed>
+    requires { IsOpen (O.sink out.old) channel }
+    ensures { Writes result channel (listing_text listing.now) (O.sink out.old) (O.sink out.new) (O.faults out.old) (O.faults out.new) }
+{
+    write_edges(&listing.edges, &listing.names, out, channel)
+}
