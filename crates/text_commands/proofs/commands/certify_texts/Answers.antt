@@ -1,0 +1,45 @@
+use Rattle.std.proofs.Common.{inl, inr, refl, Ok, Err}
+use Rattle.capdl_text.specs.Texts as capdl
+use Rattle.policy_text.specs.PolicyTexts.{IsPolicyRead}
+use Rattle.text_commands.specs.Codes.{tell_text}
+use Rattle.text_commands.proofs.Turning.{is_err, turn_after, turn_until}
+use Rattle.text_commands.proofs.commands.certify_texts.Goals as goal
+
+pub returns-in_err-spec-clause-certified : goal.returns-in_err-spec-clause-certified
+returns-in_err-spec-clause-certified g c =
+    rw (is_err c.from_residual.result c.in_err-spec.field-0.0 c.from_residual.ensures.0 c.from_residual.ensures.1)
+    (inr (c.in_err-spec.field-0.0, c.in_err-spec.ensures.system, refl))
+
+pub returns-in_err-allowed-clause-certified : goal.returns-in_err-allowed-clause-certified
+returns-in_err-allowed-clause-certified g c =
+    rw (is_err c.from_residual-in_err-allowed.result c.in_err-allowed.field-0.0 c.from_residual-in_err-allowed.ensures.0 c.from_residual-in_err-allowed.ensures.1)
+    (inl (
+      c.in_ok-spec.spec,
+      (turn_until g.F.Files.contents g.F.Files.faults tell_text capdl.IsRead c.args.cdl.now c.args.files.now c.read_system.new.files c.read_labels.new.files c.in_ok-spec.spec c.in_ok-spec.ensures.system),
+      inr (c.in_err-allowed.field-0.0, (turn_after g.F.Files.contents g.F.Files.faults tell_text IsPolicyRead c.args.policy.now c.args.files.now c.read_system.new.files c.read_labels.new.files (Err c.in_err-allowed.field-0.0) c.in_ok-spec.ensures.kept c.in_err-allowed.ensures.policy), refl),
+    ))
+
+pub returns-in_err-labels-clause-certified : goal.returns-in_err-labels-clause-certified
+returns-in_err-labels-clause-certified g c =
+    rw (is_err c.from_residual-in_err-labels.result c.in_err-labels.field-0.0 c.from_residual-in_err-labels.ensures.0 c.from_residual-in_err-labels.ensures.1)
+    (inl (
+      c.in_ok-spec.spec,
+      (turn_until g.F.Files.contents g.F.Files.faults tell_text capdl.IsRead c.args.cdl.now c.args.files.now c.read_system.new.files c.read_labels.new.files c.in_ok-spec.spec c.in_ok-spec.ensures.system),
+      inl (
+        c.in_ok-allowed.allowed,
+        (turn_after g.F.Files.contents g.F.Files.faults tell_text IsPolicyRead c.args.policy.now c.args.files.now c.read_system.new.files c.read_labels.new.files (Ok c.in_ok-allowed.allowed) c.in_ok-spec.ensures.kept c.in_ok-allowed.ensures.policy),
+        inr (c.in_err-labels.field-0.0, c.in_err-labels.ensures.labels, refl),
+      ),
+    ))
+
+pub returns-clause-certified : goal.returns-clause-certified
+returns-clause-certified g c =
+    inl (
+      c.in_ok-spec.spec,
+      (turn_until g.F.Files.contents g.F.Files.faults tell_text capdl.IsRead c.args.cdl.now c.args.files.now c.read_system.new.files c.read_labels.new.files c.in_ok-spec.spec c.in_ok-spec.ensures.system),
+      inl (
+        c.in_ok-allowed.allowed,
+        (turn_after g.F.Files.contents g.F.Files.faults tell_text IsPolicyRead c.args.policy.now c.args.files.now c.read_system.new.files c.read_labels.new.files (Ok c.in_ok-allowed.allowed) c.in_ok-spec.ensures.kept c.in_ok-allowed.ensures.policy),
+        inl (c.in_ok-labels.labels, c.in_ok-labels.ensures.labels, c.certify_system.ensures),
+      ),
+    )

@@ -1,0 +1,33 @@
+use Rattle.std.proofs.Common.{inl, inr, refl, Ok, Err}
+use Rattle.boot_plan.specs.UntypedTexts as untypeds
+use Rattle.capdl_text.specs.Texts as capdl
+use Rattle.text_commands.specs.Codes.{tell_text, tell_untyped}
+use Rattle.text_commands.proofs.Turning.{is_err, turn_after, turn_until}
+use Rattle.text_commands.proofs.commands.plan_texts.Goals as goal
+
+pub returns-in_err-spec-clause-planned : goal.returns-in_err-spec-clause-planned
+returns-in_err-spec-clause-planned g c =
+    rw (is_err c.from_residual.result c.in_err-spec.field-0.0 c.from_residual.ensures.0 c.from_residual.ensures.1)
+    (inr (c.in_err-spec.field-0.0, c.in_err-spec.ensures.system, refl))
+
+pub returns-in_err-regions-clause-planned : goal.returns-in_err-regions-clause-planned
+returns-in_err-regions-clause-planned g c =
+    rw (is_err c.from_residual-in_err-regions.result c.in_err-regions.field-0.0 c.from_residual-in_err-regions.ensures.0 c.from_residual-in_err-regions.ensures.1)
+    (inl (
+      c.in_ok-spec.spec,
+      (turn_until g.F.Files.contents g.F.Files.faults tell_text capdl.IsRead c.args.cdl.now c.args.files.now c.read_system.new.files c.read_regions.new.files c.in_ok-spec.spec c.in_ok-spec.ensures.system),
+      inr (c.in_err-regions.field-0.0, (turn_after g.F.Files.contents g.F.Files.faults tell_untyped untypeds.IsRead c.args.untypeds.now c.args.files.now c.read_system.new.files c.read_regions.new.files (Err c.in_err-regions.field-0.0) c.in_ok-spec.ensures.kept c.in_err-regions.ensures.regions), refl),
+    ))
+
+pub returns-clause-planned : goal.returns-clause-planned
+returns-clause-planned g c =
+    let decided = rw c.as_slice.ensures at c.plan_system.ensures in
+    inl (
+      c.in_ok-spec.spec,
+      (turn_until g.F.Files.contents g.F.Files.faults tell_text capdl.IsRead c.args.cdl.now c.args.files.now c.read_system.new.files c.read_regions.new.files c.in_ok-spec.spec c.in_ok-spec.ensures.system),
+      inl (
+        c.in_ok-regions.regions,
+        (turn_after g.F.Files.contents g.F.Files.faults tell_untyped untypeds.IsRead c.args.untypeds.now c.args.files.now c.read_system.new.files c.read_regions.new.files (Ok c.in_ok-regions.regions) c.in_ok-spec.ensures.kept c.in_ok-regions.ensures.regions),
+        decided,
+      ),
+    )

@@ -1,0 +1,47 @@
+use Rattle.std.proofs.Common.{◌∙◌, Some, ap, sym, subst, refl, arith, take, take_all}
+use Rattle.std.proofs.lemmas.List.{take_more}
+use Rattle.std.proofs.lemmas.Option.{slice_get-get_or}
+use Rattle.cap_machine.specs.Runs.{Run}
+use Rattle.cap_model.specs.State.{boot}
+use Rattle.text_commands.proofs.Running.{refused_is, run_more}
+use Rattle.text_commands.proofs.replay.replay.Goals as goal
+
+pub loop-place-init : goal.loop-place-init
+loop-place-init c = record { run = c.in_ok-state.ensures.state; applied = c.in_ok-state.ensures.applied; fits = c.in_ok-state.ensures.fits }
+
+pub apply-requires : goal.apply-requires
+apply-requires c = let same = c.loop-place.invariant.applied in omega arith
+
+pub returns-in-Err-Illegal : goal.returns-in-Err-Illegal
+returns-in-Err-Illegal c = (
+  c.loop-place.place,
+  refl,
+  record {
+    state = c.loop-place.state.state;
+    run = c.loop-place.invariant.run;
+    step = _;
+    here = slice_get-get_or c.args.steps.now c.loop-place.place _ c.loop-place-test.true;
+    refused = refused_is c.args.spec.now c.loop-place.state.state _ c.in-Err-Illegal.field-0 _ c.in-Err-Illegal.field-0-is c.in-Err-Illegal.ensures.refused ∙ sym (ap Some c.in-Err-Illegal.why-is);
+  },
+)
+
+pub loop-place-preserved : goal.loop-place-preserved
+loop-place-preserved c = record {
+  run = subst (λ zs. Run c.args.spec.now (boot c.args.spec.now) zs c.apply.new.self.state) (sym (take_more c.args.steps.now c.loop-place.place _ c.loop-place-test.true))
+      (run_more c.args.spec.now (take c.loop-place.place c.args.steps.now) (boot c.args.spec.now) c.loop-place.state.state c.apply.new.self.state _ c.loop-place.invariant.run c.in-Ok.ensures.ok);
+  applied = let same = c.loop-place.invariant.applied in let more = c.in-Ok.ensures.counted in omega arith;
+  fits = c.in-Ok.ensures.fits c.loop-place.invariant.fits;
+}
+
+pub edges_of-requires-clause-fits : goal.edges_of-requires-clause-fits
+edges_of-requires-clause-fits c = c.loop-place.invariant.fits
+
+pub returns : goal.returns
+returns c = (
+  refl,
+  record {
+    state = c.loop-place.state.state;
+    run = subst (λ zs. Run c.args.spec.now (boot c.args.spec.now) zs c.loop-place.state.state) (take_all c.loop-place.place c.args.steps.now (omega arith)) c.loop-place.invariant.run;
+    has = c.in_ok-edges_of.ensures;
+  },
+)

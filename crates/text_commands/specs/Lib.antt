@@ -1,0 +1,9 @@
+pub mod Codes
+pub mod Commands
+pub mod Decisions
+pub mod Inputs
+pub mod Lines
+pub mod Outcomes
+pub mod Replays
+pub use Rattle.cam_io.specs.Contents
+pub use Rattle.cam_io.specs.Reading

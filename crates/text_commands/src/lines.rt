@@ -1,0 +1,241 @@
+//! The lines that commands print. After a failure the channel has a front of the text. Nothing here takes memory.
+
+ghost use Rattle.cam_io.specs.Sinks.{IsOpen, Writes};
+ghost use Rattle.std.specs.Prelude.{◌≡◌};
+ghost use Rattle.std.specs.List.{flat_map};
+ghost use Rattle.text_commands.specs.Lines.{code_text, count_line, fault_line, have_line, illegal_text, number_text, place_text, reach_line, refusal_text, report_text, rule_line, run_text, space_before, why_of};
+
+use crate::InputFault;
+use auth_kinds::{Edge, EdgeTable};
+use cam_io::{Failed, Outputs, write_all, write_parts};
+use cap_audit::AuditReport;
+use cap_machine::Why;
+use cap_model::Spec;
+use edge_lines::{Names, write_edge, write_edges};
+use itoa::Buffer;
+use step_write::write_steps;
+
+fn space_before(name: &[u8]) -> &[u8]
+    ensures { result.now ≡ space_before name.now }
+{
+    if name.is_empty() { b"" } else { b" " }
+}
+
+/// Writes the line of a fault.
+pub fn write_fault<O: Outputs>(
+    file: &[u8],
+    fault: &InputFault,
+    out: &mut O,
+    channel: u8,
+) -> Result<(), Failed>
+    requires { IsOpen (O.sink out.old) channel }
+    ensures { Writes result channel (fault_line file.now fault.now) (O.sink out.old) (O.sink out.new) (O.faults out.old) (O.faults out.new) }
+{
+    write_place(file, fault.first, fault.end, out, channel)?;
+    let (word, title) = (fault.code.word().as_bytes(), fault.code.title().as_bytes());
+    write_code(word, title, fault.name.as_bytes(), out, channel)
+}
+
+fn write_place<O: Outputs>(
+    file: &[u8],
+    first: u64,
+    end: u64,
+    out: &mut O,
+    channel: u8,
+) -> Result<(), Failed>
+    requires { IsOpen (O.sink out.old) channel }
+    ensures { Writes result channel (place_text file.now first end) (O.sink out.old) (O.sink out.new) (O.faults out.old) (O.faults out.new) }
+{
+    let (mut front, mut back) = (Buffer::new(), Buffer::new());
+    let first = front.format(first).as_bytes();
+    let end = back.format(end).as_bytes();
+    write_parts(out, channel, &[file, b":", first, b"-", end, b": "])
+}
+
+fn write_code<O: Outputs>(
+    word: &[u8],
+    title: &[u8],
+    name: &[u8],
+    out: &mut O,
+    channel: u8,
+) -> Result<(), Failed>
+    requires { IsOpen (O.sink out.old) channel }
+    ensures { Writes result channel (code_text word.now title.now name.now) (O.sink out.old) (O.sink out.new) (O.faults out.old) (O.faults out.new) }
+{
+    let space = space_before(name);
+    write_parts(out, channel, &[word, b" ", title, space, name, b"\n"])
+}
+
+fn write_have<O: Outputs>(
+    edge: &Option<Edge>,
+    names: &Names,
+    out: &mut O,
+    channel: u8,
+) -> Result<(), Failed>
+    requires { IsOpen (O.sink out.old) channel }
+    ensures { Writes result channel (have_line names.now edge.now) (O.sink out.old) (O.sink out.new) (O.faults out.old) (O.faults out.new) }
+{
+    match edge {
+        Some(edge) => write_edge(b"have ", edge, names, out, channel),
+        None => write_all(out, channel, b""),
+    }
+}
+
+fn write_haves<O: Outputs>(
+    have: &[Option<Edge>],
+    names: &Names,
+    out: &mut O,
+    channel: u8,
+) -> Result<(), Failed>
+    requires { IsOpen (O.sink out.old) channel }
+    ensures { Writes result channel (flat_map (have_line names.now) have.now) (O.sink out.old) (O.sink out.new) (O.faults out.old) (O.faults out.new) }
+{
+    for edge in have {
+        write_have(edge, names, out, channel)?;
+    }
+    Ok(())
+}
+
+fn write_rule<O: Outputs>(rule: u8, out: &mut O, channel: u8) -> Result<(), Failed>
+    requires { IsOpen (O.sink out.old) channel }
+    ensures { Writes result channel (rule_line rule) (O.sink out.old) (O.sink out.new) (O.faults out.old) (O.faults out.new) }
+{
+    let mut digits = Buffer::new();
+    let rule = digits.format(rule).as_bytes();
+    write_parts(out, channel, &[b"no V", rule, b"\n"])
+}
+
+/// Writes that a rule fails, and the edges that show it.
+pub fn write_refusal<O: Outputs>(
+    rule: u8,
+    have: &[Option<Edge>],
+    lack: &Edge,
+    names: &Names,
+    out: &mut O,
+    channel: u8,
+) -> Result<(), Failed>
+    requires { IsOpen (O.sink out.old) channel }
+    ensures { Writes result channel (refusal_text names.now rule have.now lack.now) (O.sink out.old) (O.sink out.new) (O.faults out.old) (O.faults out.new) }
+{
+    write_rule(rule, out, channel)?;
+    write_haves(have, names, out, channel)?;
+    write_edge(b"lack ", lack, names, out, channel)
+}
+
+fn write_count<O: Outputs>(count: usize, out: &mut O, channel: u8) -> Result<(), Failed>
+    requires { IsOpen (O.sink out.old) channel }
+    ensures { Writes result channel (count_line count) (O.sink out.old) (O.sink out.new) (O.faults out.old) (O.faults out.new) }
+{
+    let mut digits = Buffer::new();
+    let count = digits.format(count).as_bytes();
+    write_parts(out, channel, &[b"ok ", count, b" steps\n"])
+}
+
+/// Writes how many steps were made, and the edges of the last state.
+pub fn write_run<O: Outputs>(
+    count: usize,
+    edges: &EdgeTable,
+    names: &Names,
+    out: &mut O,
+    channel: u8,
+) -> Result<(), Failed>
+    requires { IsOpen (O.sink out.old) channel }
+    ensures { Writes result channel (run_text names.now count edges.now) (O.sink out.old) (O.sink out.new) (O.faults out.old) (O.faults out.new) }
+{
+    write_count(count, out, channel)?;
+    write_edges(edges, names, out, channel)
+}
+
+/// The word of an answer of the table, with a space behind it where a number follows, and the number.
+fn why_parts(why: Why) -> (&'static str, Option<u64>)
+    ensures word { result.0.now ≡ (why_of why).0 }
+    ensures number { result.1 ≡ (why_of why).1 }
+{
+    match why {
+        Why::Waiting => ("Waiting", None),
+        Why::NoRoot => ("NoRoot", None),
+        Why::NoPending => ("NoPending", None),
+        Why::NoGrant => ("NoGrant", None),
+        Why::NoCap(n) => ("NoCap ", Some(n)),
+        Why::WrongKind(n) => ("WrongKind ", Some(n)),
+        Why::NoRight(n) => ("NoRight ", Some(n)),
+        Why::SamePeer => ("SamePeer", None),
+        Why::PeerWaiting => ("PeerWaiting", None),
+        Why::PeerNoRoot => ("PeerNoRoot", None),
+        Why::PeerNoCap(n) => ("PeerNoCap ", Some(n)),
+        Why::PeerWrongKind(n) => ("PeerWrongKind ", Some(n)),
+        Why::PeerNoRight(n) => ("PeerNoRight ", Some(n)),
+        Why::OtherEndpoint => ("OtherEndpoint", None),
+    }
+}
+
+/// The decimal text of a number, where there is one.
+fn number_text(number: Option<u64>, buffer: &mut Buffer) -> &[u8]
+    ensures { result.now ≡ number_text number }
+{
+    match number {
+        Some(number) => buffer.format(number).as_bytes(),
+        None => b"",
+    }
+}
+
+/// Writes that a step is illegal, and why.
+pub fn write_illegal<O: Outputs>(
+    number: u64,
+    why: Why,
+    out: &mut O,
+    channel: u8,
+) -> Result<(), Failed>
+    requires { IsOpen (O.sink out.old) channel }
+    ensures { Writes result channel (illegal_text number why) (O.sink out.old) (O.sink out.new) (O.faults out.old) (O.faults out.new) }
+{
+    let (mut digits, mut buffer) = (Buffer::new(), Buffer::new());
+    let (word, named) = why_parts(why);
+    write_parts(
+        out,
+        channel,
+        &[
+            b"illegal ",
+            digits.format(number).as_bytes(),
+            b" ",
+            word.as_bytes(),
+            number_text(named, &mut buffer),
+            b"\n",
+        ],
+    )
+}
+
+fn write_reach<O: Outputs>(
+    edges: usize,
+    steps: usize,
+    out: &mut O,
+    channel: u8,
+) -> Result<(), Failed>
+    requires { IsOpen (O.sink out.old) channel }
+    ensures { Writes result channel (reach_line edges steps) (O.sink out.old) (O.sink out.new) (O.faults out.old) (O.faults out.new) }
+{
+    let (mut front, mut back) = (Buffer::new(), Buffer::new());
+    let edges = front.format(edges).as_bytes();
+    let steps = back.format(steps).as_bytes();
+    write_parts(
+        out,
+        channel,
+        &[b"reach ", edges, b" edges ", steps, b" steps\n"],
+    )
+}
+
+/// Writes how many edges runs reach and how many steps show them, the edges, and the steps.
+pub fn write_report<O: Outputs>(
+    report: &AuditReport,
+    spec: &Spec,
+    names: &Names,
+    out: &mut O,
+    channel: u8,
+) -> Result<(), Failed>
+    requires { IsOpen (O.sink out.old) channel }
+    ensures { Writes result channel (report_text names.now spec.now report.now) (O.sink out.old) (O.sink out.new) (O.faults out.old) (O.faults out.new) }
+{
+    write_reach(report.edges.len(), report.steps.len(), out, channel)?;
+    write_edges(&report.edges, names, out, channel)?;
+    write_steps(spec, &report.steps, out, channel)
+}

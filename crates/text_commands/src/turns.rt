@@ -1,0 +1,138 @@
+//! The turns of inputs: each is read whole, and then read as a text of its kind.
+
+ghost use Rattle.auth_kinds.specs.Policies.{NumbersDiffer};
+ghost use Rattle.boot_plan.specs.Regions.{are_regions};
+ghost use Rattle.cam_io.specs.Reading.{KeepsFiles};
+ghost use Rattle.cap_model.specs.Kept.{IsKept};
+ghost use Rattle.policy_text.specs.Labelled.{IsLabelling};
+ghost use Rattle.std.specs.Prelude.{◌≡◌, ◌<◌, ◌≤◌, ◌^◌, IfOk, length, true};
+ghost use Rattle.text_commands.specs.Codes.{tell_text};
+ghost use Rattle.text_commands.specs.Commands.{AreRegions, AreSteps, IsCert, IsImage, IsPolicy, IsSystem};
+ghost use Rattle.text_commands.specs.Inputs.{IsTold};
+
+use crate::InputError;
+use crate::input::{read_input, refuse_elf, refuse_text, refuse_untyped};
+use auth_kinds::{EdgeTable, Labels, Policy};
+use boot_plan::{Untyped, read_untypeds};
+use cam_base::{List, Name};
+use cam_io::Files;
+use cap_machine::Step;
+use cap_model::Spec;
+use capdl_read::read_spec;
+use elf_images::read_elf;
+use policy_text::{label_objects, read_cert, read_policy};
+use sect_table::Image;
+use std::alloc::Global;
+use step_text::read_steps;
+
+/// The system of a capDL file.
+pub fn read_system<F: Files>(alloc: Global, files: &mut F, file: &str) -> Result<Spec, InputError>
+    ensures kept { KeepsFiles F.contents F.faults files.old files.new }
+    ensures system { IsSystem (F.contents files.old) (F.faults files.old) (F.faults files.new) file.now result }
+    ensures kept_spec { IfOk result IsKept }
+{
+    let bytes = read_input(alloc, files, file)?;
+    match read_spec(alloc, bytes.as_slice()) {
+        Ok(spec) => Ok(spec),
+        Err(refusal) => Err(refuse_text(alloc, file, refusal)),
+    }
+}
+
+/// The policy of a file.
+pub fn read_labels<F: Files>(alloc: Global, files: &mut F, file: &str) -> Result<Policy, InputError>
+    ensures kept { KeepsFiles F.contents F.faults files.old files.new }
+    ensures policy { IsPolicy (F.contents files.old) (F.faults files.old) (F.faults files.new) file.now result }
+    ensures apart { IfOk result (λ policy. NumbersDiffer policy.labels) }
+{
+    let bytes = read_input(alloc, files, file)?;
+    match read_policy(alloc, bytes.as_slice()) {
+        Ok(policy) => Ok(policy),
+        Err(refusal) => Err(refuse_text(alloc, file, refusal)),
+    }
+}
+
+/// The certificate of a file, over the labels of a policy.
+pub fn read_edges<F: Files>(
+    alloc: Global,
+    files: &mut F,
+    file: &str,
+    policy: &Policy,
+) -> Result<EdgeTable, InputError>
+    ensures kept { KeepsFiles F.contents F.faults files.old files.new }
+    ensures edges { IsCert (F.contents files.old) (F.faults files.old) (F.faults files.new) policy.now file.now result }
+{
+    let bytes = read_input(alloc, files, file)?;
+    match read_cert(alloc, bytes.as_slice(), policy) {
+        Ok(edges) => Ok(edges),
+        Err(refusal) => Err(refuse_text(alloc, file, refusal)),
+    }
+}
+
+/// The steps of a file, of the threads of a system.
+pub fn read_run<F: Files>(
+    alloc: Global,
+    files: &mut F,
+    file: &str,
+    spec: &Spec,
+) -> Result<List<Step>, InputError>
+    requires { length spec.now.entries < 2 ^ 32 }
+    ensures kept { KeepsFiles F.contents F.faults files.old files.new }
+    ensures steps { AreSteps (F.contents files.old) (F.faults files.old) (F.faults files.new) spec.now file.now result }
+    ensures few { IfOk result (λ steps. length steps ≤ 100000) }
+{
+    let bytes = read_input(alloc, files, file)?;
+    match read_steps(alloc, spec, bytes.as_slice()) {
+        Ok(steps) => Ok(steps),
+        Err(refusal) => Err(refuse_text(alloc, file, refusal)),
+    }
+}
+
+/// The image of an ELF file.
+pub fn read_image<F: Files>(alloc: Global, files: &mut F, file: &str) -> Result<Image, InputError>
+    ensures kept { KeepsFiles F.contents F.faults files.old files.new }
+    ensures image { IsImage (F.contents files.old) (F.faults files.old) (F.faults files.new) file.now result }
+{
+    let bytes = read_input(alloc, files, file)?;
+    let name = match Name::new(alloc, b"image") {
+        Ok(name) => name,
+        Err(_) => return Err(InputError::NoMemory),
+    };
+    match read_elf(alloc, &name, bytes.as_slice()) {
+        Ok(image) => Ok(image),
+        Err(refusal) => Err(refuse_elf(alloc, file, refusal)),
+    }
+}
+
+/// The regions of untyped memory of a file.
+pub fn read_regions<F: Files>(
+    alloc: Global,
+    files: &mut F,
+    file: &str,
+) -> Result<List<Untyped>, InputError>
+    ensures kept { KeepsFiles F.contents F.faults files.old files.new }
+    ensures regions { AreRegions (F.contents files.old) (F.faults files.old) (F.faults files.new) file.now result }
+    ensures few { IfOk result (λ regions. length regions ≤ 4096) }
+    ensures sound { IfOk result (λ regions. are_regions regions ≡ true) }
+{
+    let bytes = read_input(alloc, files, file)?;
+    match read_untypeds(alloc, bytes.as_slice()) {
+        Ok(regions) => Ok(regions),
+        Err(refusal) => Err(refuse_untyped(alloc, file, refusal)),
+    }
+}
+
+/// The labels of a system's objects, as the policy of a file gives them.
+pub fn label_system(
+    alloc: Global,
+    file: &str,
+    spec: &Spec,
+    policy: &Policy,
+) -> Result<Labels, InputError>
+    ensures labels { IsTold tell_text file.now (IsLabelling spec.now policy.now) result }
+    ensures each { IfOk result (λ labels. length labels.by_object ≡ length spec.now.entries) }
+{
+    match label_objects(alloc, spec, policy) {
+        Ok(labels) => Ok(labels),
+        Err(refusal) => Err(refuse_text(alloc, file, refusal)),
+    }
+}
