@@ -26,7 +26,7 @@ use auth_kinds::{
     edges_are_ordered, has_is_membership, sets_are_their_members, tables_are_their_edges,
 };
 use camkes_tool::{
-    failures_have_a_cause, refusals_touch_standard_error_alone, success_writes_a_whole_text,
+    failures_have_a_cause, refusals_touch_one_channel_alone, success_writes_a_whole_text,
 };
 use component_graph::{acyclic_is_unheld, held_is_held, walks_are_short};
 use conn_rules::{rights_confer_just_the_authorities, sets_are_their_lists};
@@ -128,7 +128,7 @@ fn laws_of_layouts(_rt: HostRuntime) {
 
 #[test]
 fn laws_of_answers(_rt: HostRuntime) {
-    refusals_touch_standard_error_alone();
+    refusals_touch_one_channel_alone();
     success_writes_a_whole_text();
     failures_have_a_cause();
 }

@@ -1,3 +1,5 @@
 pub mod Leaving
 pub mod OneAnswer
 pub mod Statuses
+pub mod ReadFaults
+pub mod Telling

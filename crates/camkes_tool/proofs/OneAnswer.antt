@@ -10,11 +10,11 @@ use Rattle.cap_model.specs.Canonical.{canonical}
 use Rattle.cap_model.specs.declared.spec.Spec.{Spec}
 use Rattle.command_words.specs.Words.{read_words}
 use Rattle.command_words.specs.declared.command.Command.{Command}
-use Rattle.command_words.specs.declared.command.Command.TheVariants.{Compile}
-use Rattle.camkes_tool.specs.Answers.{AreOne, Fits, FitsAsked, FitsRoot, Tells, script, status_of, yields}
+use Rattle.command_words.specs.declared.command.Command.TheVariants.{Compile, Check, List as ListOf, Explain, Replay, Audit, Certify, Sections, Plan}
+use Rattle.camkes_tool.specs.Answers.{AreOne, Fits, FitsAsked, FitsRoot, IsCompiling, Tells, script, status_of, yields}
 use Rattle.camkes_tool.specs.Lines.{fault_line}
 use Rattle.camkes_tool.specs.declared.answer.Answer.{Answer}
-use Rattle.camkes_tool.specs.declared.answer.Answer.TheVariants.{Compiled, Faulted, Usage, ReadFault, NoMemory}
+use Rattle.camkes_tool.specs.declared.answer.Answer.TheVariants.{Compiled, Listed, Explained, Told, Faulted, Refused, Usage, ReadFault, NoMemory}
 use Rattle.std.specs.Prelude.{String}
 use Rattle.std.specs.declared.alloc.Global.{Global}
 
@@ -48,7 +48,19 @@ module _ (m : Contents) (root base : List ℕ) (old new later last : List ℕ �
   one_of_root (Compiled a s) (Faulted b g) p q x y = absurd (none_faulted first_fault m root x.1.0 g b x.1.1 x.1.2 y)
   one_of_root (Faulted a f) (Compiled b t) p q x y = absurd (none_faulted first_fault m root y.1.0 f a y.1.1 y.1.2 x)
   one_of_root (Faulted a f) (Faulted b g) p q x y = faulted_same a b f g x y
+  one_of_root (Listed o) b p q x y = absurd x
+  one_of_root (Explained o) b p q x y = absurd x
+  one_of_root (Told o) b p q x y = absurd x
+  one_of_root (Refused a f) b p q x y = absurd x
   one_of_root Usage b p q x y = absurd x
+  one_of_root (Compiled a s) (Listed o) p q x y = absurd y
+  one_of_root (Compiled a s) (Explained o) p q x y = absurd y
+  one_of_root (Compiled a s) (Told o) p q x y = absurd y
+  one_of_root (Compiled a s) (Refused b g) p q x y = absurd y
+  one_of_root (Faulted a f) (Listed o) p q x y = absurd y
+  one_of_root (Faulted a f) (Explained o) p q x y = absurd y
+  one_of_root (Faulted a f) (Told o) p q x y = absurd y
+  one_of_root (Faulted a f) (Refused b g) p q x y = absurd y
   one_of_root (Compiled a s) Usage p q x y = absurd y
   one_of_root (Faulted a f) Usage p q x y = absurd y
   one_of_root (ReadFault a) b p q x y = absurd cc
@@ -61,6 +73,14 @@ module _ (m : Contents) (root base : List ℕ) (old new later last : List ℕ �
 one_usage : (m : Contents) (old new later last : List ℕ → ℕ) (a b : Answer) → yields a ≡ false → yields b ≡ false → FitsAsked None (Some m) old new a → FitsAsked None (Some m) later last b → AreOne a b
 one_usage m old new later last Usage Usage p q x y = same_answer Usage
 one_usage m old new later last Usage (Compiled b t) p q x y = absurd y
+one_usage m old new later last Usage (Listed o) p q x y = absurd y
+one_usage m old new later last Usage (Explained o) p q x y = absurd y
+one_usage m old new later last Usage (Told o) p q x y = absurd y
+one_usage m old new later last Usage (Refused b g) p q x y = absurd y
+one_usage m old new later last (Listed o) b p q x y = absurd x
+one_usage m old new later last (Explained o) b p q x y = absurd x
+one_usage m old new later last (Told o) b p q x y = absurd x
+one_usage m old new later last (Refused a f) b p q x y = absurd x
 one_usage m old new later last Usage (Faulted b g) p q x y = absurd y
 one_usage m old new later last Usage (ReadFault b) p q x y = absurd y
 one_usage m old new later last Usage NoMemory p q x y = absurd cc
@@ -69,12 +89,20 @@ one_usage m old new later last (Faulted a f) b p q x y = absurd x
 one_usage m old new later last (ReadFault a) b p q x y = absurd x
 one_usage m old new later last NoMemory b p q x y = absurd cc
 
-one_asked : (m : Contents) (asked : Option Command) (old new later last : List ℕ → ℕ) (a b : Answer) → yields a ≡ false → yields b ≡ false → FitsAsked asked (Some m) old new a → FitsAsked asked (Some m) later last b → AreOne a b
-one_asked m None old new later last a b p q x y = one_usage m old new later last a b p q x y
-one_asked m (Some (Compile root base)) old new later last a b p q x y = one_of_root m root base old new later last a b p q x y
+one_asked : (m : Contents) (asked : Option Command) (old new later last : List ℕ → ℕ) (a b : Answer) → IsCompiling asked → yields a ≡ false → yields b ≡ false → FitsAsked asked (Some m) old new a → FitsAsked asked (Some m) later last b → AreOne a b
+one_asked m None old new later last a b o p q x y = one_usage m old new later last a b p q x y
+one_asked m (Some (Compile root base)) old new later last a b o p q x y = one_of_root m root base old new later last a b p q x y
+one_asked m (Some (Check cdl policy cert)) old new later last a b o p q x y = absurd o
+one_asked m (Some (ListOf root)) old new later last a b o p q x y = absurd o
+one_asked m (Some (Explain root from authority to)) old new later last a b o p q x y = absurd o
+one_asked m (Some (Replay cdl policy steps)) old new later last a b o p q x y = absurd o
+one_asked m (Some (Sections elf)) old new later last a b o p q x y = absurd o
+one_asked m (Some (Audit cdl policy)) old new later last a b o p q x y = absurd o
+one_asked m (Some (Certify cdl policy)) old new later last a b o p q x y = absurd o
+one_asked m (Some (Plan cdl untypeds)) old new later last a b o p q x y = absurd o
 
-pub one_answer : (m : Contents) (words : List (List ℕ)) (old new later last : List ℕ → ℕ) (a b : Answer) → yields a ≡ false → yields b ≡ false → Fits words (Some m) old new a → Fits words (Some m) later last b → AreOne a b
-one_answer m words old new later last a b p q x y = one_asked m (read_words words) old new later last a b p q x y
+pub one_answer : (m : Contents) (words : List (List ℕ)) (old new later last : List ℕ → ℕ) (a b : Answer) → IsCompiling (read_words words) → yields a ≡ false → yields b ≡ false → Fits words (Some m) old new a → Fits words (Some m) later last b → AreOne a b
+one_answer m words old new later last a b o p q x y = one_asked m (read_words words) old new later last a b o p q x y
 
 -- ---- calls
 
@@ -86,6 +114,10 @@ pub record IsWhole (a : Answer) (n : ℕ) (old new : Sink) : Type 0 where
 
 stays : (a : Answer) → status_of a ≤ 3 → yields a ≡ false
 stays (Compiled a s) l = refl
+stays (Listed o) l = refl
+stays (Explained o) l = refl
+stays (Told o) l = refl
+stays (Refused a f) l = refl
 stays (Faulted a f) l = refl
 stays Usage l = refl
 stays (ReadFault a) l = absurd (omega arith)
@@ -98,10 +130,10 @@ whole a status old new before now tells l = elim tells.told [
 ]
 
 pub one_call : (m : Contents) (words : List (List ℕ)) (old new later last : List ℕ → ℕ) (a b : Answer) (first second : ℕ) (sink left right : Sink) (before now before' now' : ℕ)
-    → Fits words (Some m) old new a → Tells a first sink left before now → first ≤ 3 → Fits words (Some m) later last b → Tells b second sink right before' now' → second ≤ 3
+    → IsCompiling (read_words words) → Fits words (Some m) old new a → Tells a first sink left before now → first ≤ 3 → Fits words (Some m) later last b → Tells b second sink right before' now' → second ≤ 3
     → (first ≡ second) × (left ≡ right)
-one_call m words old new later last a b first second sink left right before now before' now' x t l y u k =
+one_call m words old new later last a b first second sink left right before now before' now' o x t l y u k =
     let one = whole a first sink left before now t l in
     let two = whole b second sink right before' now' u k in
-    let same = one_answer m words old new later last a b one.stays two.stays x y in
+    let same = one_answer m words old new later last a b o one.stays two.stays x y in
     (one.status ∙ same.status ∙ sym two.status, one.done ∙ ap (after sink) same.script ∙ sym two.done)

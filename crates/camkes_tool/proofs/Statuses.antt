@@ -1,5 +1,5 @@
 -- Statuses are exact where contents are told and nothing failed.
-use Rattle.std.proofs.Common.{◌≡◌, ℕ, List, Option, Some, None, refl, inl, inr, arith}
+use Rattle.std.proofs.Common.{◌≡◌, ℕ, Bool, true, false, cond, List, Option, Some, None, Result, Ok, Err, refl, inl, inr, arith}
 use Rattle.cam_io.specs.Causes.{Rose}
 use Rattle.cam_io.specs.Contents.{Contents}
 use Rattle.cam_io.specs.Sinks.{Sink}
@@ -7,32 +7,104 @@ use Rattle.arch_compile.specs.First.{first_fault}
 use Rattle.arch_compile.proofs.OneAnswer.{none_faulted}
 use Rattle.command_words.specs.Words.{read_words}
 use Rattle.command_words.specs.declared.command.Command.{Command}
-use Rattle.command_words.specs.declared.command.Command.TheVariants.{Compile}
-use Rattle.camkes_tool.specs.Answers.{Fits, FitsAsked, FitsRoot, Tells, status_of}
-use Rattle.camkes_tool.specs.Statuses.{HasFault, IsSound, IsStatus, IsStatusOf, NoneRose}
+use Rattle.command_words.specs.declared.command.Command.TheVariants.{Compile, Check, List as ListOf, Explain, Replay, Audit, Certify, Sections, Plan}
+use Rattle.arch_compile.specs.declared.error.BuildError.{BuildError}
+use Rattle.arch_compile.specs.declared.error.BuildError.TheVariants as build
+use Rattle.reason_lines.specs.Answers.{is_assigned}
+use Rattle.reason_lines.specs.declared.answer.Answer.{Answer as Reply}
+use Rattle.source_commands.specs.Explained.{IsExplained}
+use Rattle.source_commands.specs.Listed.{IsListed}
+use Rattle.source_commands.specs.declared.listing.Listing.{Listing}
+use Rattle.text_commands.specs.Commands.{IsAudited, IsCertified, IsChecked, IsPlanned, IsRun, IsTabled}
+use Rattle.text_commands.specs.Outcomes.{is_well}
+use Rattle.text_commands.specs.declared.fault.InputError.{InputError}
+use Rattle.text_commands.specs.declared.fault.InputError.TheVariants as input
+use Rattle.text_commands.specs.declared.outcome.Outcome.{Outcome}
+use Rattle.camkes_tool.proofs.ReadFaults.{audit_rose, certify_rose, check_rose, plan_rose, run_rose, table_rose}
+use Rattle.camkes_tool.specs.Answers.{Fits, FitsAsked, FitsExplained, FitsListed, FitsRoot, FitsTexts, Tells, status_of}
+use Rattle.camkes_tool.specs.Statuses.{HasFault, IsSound, IsStatus, IsStatusOf, IsStatusOfSource, IsStatusOfTexts, NoneRose}
 use Rattle.camkes_tool.specs.declared.answer.Answer.{Answer}
-use Rattle.camkes_tool.specs.declared.answer.Answer.TheVariants.{Compiled, Faulted, Usage, ReadFault, NoMemory}
+use Rattle.camkes_tool.specs.declared.answer.Answer.TheVariants.{Compiled, Listed, Explained, Told, Faulted, Refused, Usage, ReadFault, NoMemory}
 
 of_root : (m : Contents) (root base : List ℕ) (old new : List ℕ → ℕ) (a : Answer) (status : ℕ) → FitsRoot root base (Some m) old new a → NoneRose old new → status ≡ status_of a → IsStatusOf m root status
 of_root m root base old new (Compiled name spec) status x none e = inl (e, (x.1.0, x.1.1, x.1.2))
 of_root m root base old new (Faulted file fault) status x none e = inr (inl (e, (fault, file, x)))
+of_root m root base old new (Listed o) status x none e = absurd x
+of_root m root base old new (Explained o) status x none e = absurd x
+of_root m root base old new (Told outcome) status x none e = absurd x
+of_root m root base old new (Refused file fault) status x none e = absurd x
 of_root m root base old new Usage status x none e = absurd x
 of_root m root base old new (ReadFault file) status x none e = absurd (none file x.1)
 of_root m root base old new NoMemory status x none e = inr (inr e)
 
-of_usage : (m : Contents) (old new : List ℕ → ℕ) (a : Answer) (status : ℕ) → FitsAsked None (Some m) old new a → status ≡ status_of a → IsStatus m None status
+of_usage : (m : Contents) (old new : List ℕ → ℕ) (a : Answer) (status : ℕ) → FitsAsked None (Some m) old new a → status ≡ status_of a → IsStatus m old new None status
 of_usage m old new (Compiled name spec) status x e = absurd x
+of_usage m old new (Listed o) status x e = absurd x
+of_usage m old new (Explained o) status x e = absurd x
+of_usage m old new (Told outcome) status x e = absurd x
 of_usage m old new (Faulted file fault) status x e = absurd x
+of_usage m old new (Refused file fault) status x e = absurd x
 of_usage m old new Usage status x e = inl e
 of_usage m old new (ReadFault file) status x e = absurd x
 of_usage m old new NoMemory status x e = inr e
 
-of_asked : (m : Contents) (asked : Option Command) (old new : List ℕ → ℕ) (a : Answer) (status : ℕ) → FitsAsked asked (Some m) old new a → NoneRose old new → status ≡ status_of a → IsStatus m asked status
+of_texts : (asked : Result Outcome InputError → Type 0) (a : Answer) (status : ℕ) → ((file : List ℕ) → asked (Err (input.ReadFault file)) → ⊥) → FitsTexts asked a → status ≡ status_of a → IsStatusOfTexts asked status
+of_texts asked (Told outcome) status none x e = inl (outcome, x, e)
+of_texts asked (Refused file fault) status none x e = inr (inl (fault, file, x, e))
+of_texts asked (ReadFault file) status none x e = absurd (none file x)
+of_texts asked NoMemory status none x e = inr (inr e)
+of_texts asked (Compiled name spec) status none x e = absurd x
+of_texts asked (Listed o) status none x e = absurd x
+of_texts asked (Explained o) status none x e = absurd x
+of_texts asked (Faulted file fault) status none x e = absurd x
+of_texts asked Usage status none x e = absurd x
+
+of_listed : (asked : Result Listing BuildError → Type 0) (a : Answer) (status : ℕ) → ((file : List ℕ) → asked (Err (build.ReadFault file)) → ⊥) → FitsListed asked a → status ≡ status_of a
+    → IsStatusOfSource asked (λ listing. true) status
+of_listed asked (Listed o) status none x e = inl (o, x, e)
+of_listed asked (Faulted file fault) status none x e = inr (inl (fault, file, x, e))
+of_listed asked (ReadFault file) status none x e = absurd (none file x)
+of_listed asked NoMemory status none x e = inr (inr e)
+of_listed asked (Compiled name spec) status none x e = absurd x
+of_listed asked (Explained o) status none x e = absurd x
+of_listed asked (Told outcome) status none x e = absurd x
+of_listed asked (Refused file fault) status none x e = absurd x
+of_listed asked Usage status none x e = absurd x
+
+of_explained : (asked : Result Reply BuildError → Type 0) (a : Answer) (status : ℕ) → ((file : List ℕ) → asked (Err (build.ReadFault file)) → ⊥) → FitsExplained asked a → status ≡ status_of a
+    → IsStatusOfSource asked is_assigned status
+of_explained asked (Explained o) status none x e = inl (o, x, e)
+of_explained asked (Faulted file fault) status none x e = inr (inl (fault, file, x, e))
+of_explained asked (ReadFault file) status none x e = absurd (none file x)
+of_explained asked NoMemory status none x e = inr (inr e)
+of_explained asked (Compiled name spec) status none x e = absurd x
+of_explained asked (Listed o) status none x e = absurd x
+of_explained asked (Told outcome) status none x e = absurd x
+of_explained asked (Refused file fault) status none x e = absurd x
+of_explained asked Usage status none x e = absurd x
+
+of_asked : (m : Contents) (asked : Option Command) (old new : List ℕ → ℕ) (a : Answer) (status : ℕ) → FitsAsked asked (Some m) old new a → NoneRose old new → status ≡ status_of a → IsStatus m old new asked status
 of_asked m None old new a status x none e = of_usage m old new a status x e
 of_asked m (Some (Compile root base)) old new a status x none e = of_root m root base old new a status x none e
+of_asked m (Some (Check cdl policy cert)) old new a status x none e =
+    of_texts (IsChecked (Some m) old new cdl policy cert) a status (λ file h. none file (check_rose (Some m) old new cdl policy cert file h)) x e
+of_asked m (Some (ListOf root)) old new a status x none e =
+    of_listed (IsListed root (Some m) old new) a status (λ file h. none file h.1) x e
+of_asked m (Some (Explain root from authority to)) old new a status x none e =
+    of_explained (IsExplained from authority to root (Some m) old new) a status (λ file h. none file h.1) x e
+of_asked m (Some (Replay cdl policy steps)) old new a status x none e =
+    of_texts (IsRun (Some m) old new cdl policy steps) a status (λ file h. none file (run_rose (Some m) old new cdl policy steps file h)) x e
+of_asked m (Some (Audit cdl policy)) old new a status x none e =
+    of_texts (IsAudited (Some m) old new cdl policy) a status (λ file h. none file (audit_rose (Some m) old new cdl policy file h)) x e
+of_asked m (Some (Certify cdl policy)) old new a status x none e =
+    of_texts (IsCertified (Some m) old new cdl policy) a status (λ file h. none file (certify_rose (Some m) old new cdl policy file h)) x e
+of_asked m (Some (Plan cdl untypeds)) old new a status x none e =
+    of_texts (IsPlanned (Some m) old new cdl untypeds) a status (λ file h. none file (plan_rose (Some m) old new cdl untypeds file h)) x e
+of_asked m (Some (Sections elf)) old new a status x none e =
+    of_texts (IsTabled (Some m) old new elf) a status (λ file h. none file (table_rose (Some m) old new elf file h)) x e
 
 pub exact_status : (m : Contents) (words : List (List ℕ)) (old new : List ℕ → ℕ) (answer : Answer) (status : ℕ) (sink left : Sink) (before now : ℕ)
-    → Fits words (Some m) old new answer → Tells answer status sink left before now → NoneRose old new → ¬ Rose before now → IsStatus m (read_words words) status
+    → Fits words (Some m) old new answer → Tells answer status sink left before now → NoneRose old new → ¬ Rose before now → IsStatus m old new (read_words words) status
 exact_status m words old new answer status sink left before now fits tells none kept = elim tells.told [
   | inl t ↦ of_asked m (read_words words) old new answer status fits none t.0
   | inr t ↦ absurd (kept t.1)
@@ -43,11 +115,60 @@ sound_or_faulty m root sound fault = none_faulted first_fault m root sound.0 fau
 
 -- ---- the usage line
 
+not_two : (b : Bool) → ◌≡◌ {A = ℕ} 2 (cond b 0 3) → ⊥
+not_two true e = cc
+not_two false e = cc
+
+texts_not_two : (asked : Result Outcome InputError → Type 0) (a : Answer) → FitsTexts asked a → 2 ≡ status_of a → ⊥
+texts_not_two asked (Told outcome) x e = not_two (is_well outcome) e
+texts_not_two asked (Refused file fault) x e = cc
+texts_not_two asked (ReadFault file) x e = cc
+texts_not_two asked NoMemory x e = cc
+texts_not_two asked (Compiled name spec) x e = absurd x
+texts_not_two asked (Listed o) x e = absurd x
+texts_not_two asked (Explained o) x e = absurd x
+texts_not_two asked (Faulted file fault) x e = absurd x
+texts_not_two asked Usage x e = absurd x
+
+listed_not_two : (asked : Result Listing BuildError → Type 0) (a : Answer) → FitsListed asked a → 2 ≡ status_of a → ⊥
+listed_not_two asked (Listed o) x e = cc
+listed_not_two asked (Faulted file fault) x e = cc
+listed_not_two asked (ReadFault file) x e = cc
+listed_not_two asked NoMemory x e = cc
+listed_not_two asked (Compiled name spec) x e = absurd x
+listed_not_two asked (Explained o) x e = absurd x
+listed_not_two asked (Told outcome) x e = absurd x
+listed_not_two asked (Refused file fault) x e = absurd x
+listed_not_two asked Usage x e = absurd x
+
+explained_not_two : (asked : Result Reply BuildError → Type 0) (a : Answer) → FitsExplained asked a → 2 ≡ status_of a → ⊥
+explained_not_two asked (Explained o) x e = not_two (is_assigned o) e
+explained_not_two asked (Faulted file fault) x e = cc
+explained_not_two asked (ReadFault file) x e = cc
+explained_not_two asked NoMemory x e = cc
+explained_not_two asked (Compiled name spec) x e = absurd x
+explained_not_two asked (Listed o) x e = absurd x
+explained_not_two asked (Told outcome) x e = absurd x
+explained_not_two asked (Refused file fault) x e = absurd x
+explained_not_two asked Usage x e = absurd x
+
 unread : (m : Contents) (asked : Option Command) (old new : List ℕ → ℕ) (a : Answer) → FitsAsked asked (Some m) old new a → 2 ≡ status_of a → asked ≡ None
 unread m None old new a x e = refl
 unread m (Some (Compile root base)) old new (Compiled name spec) x e = absurd cc
 unread m (Some (Compile root base)) old new (Faulted file fault) x e = absurd cc
+unread m (Some (Compile root base)) old new (Listed o) x e = absurd x
+unread m (Some (Compile root base)) old new (Explained o) x e = absurd x
+unread m (Some (Compile root base)) old new (Told outcome) x e = absurd x
+unread m (Some (Compile root base)) old new (Refused file fault) x e = absurd x
 unread m (Some (Compile root base)) old new Usage x e = absurd x
+unread m (Some (Check cdl policy cert)) old new a x e = absurd (texts_not_two (IsChecked (Some m) old new cdl policy cert) a x e)
+unread m (Some (ListOf root)) old new a x e = absurd (listed_not_two (IsListed root (Some m) old new) a x e)
+unread m (Some (Explain root from authority to)) old new a x e = absurd (explained_not_two (IsExplained from authority to root (Some m) old new) a x e)
+unread m (Some (Replay cdl policy steps)) old new a x e = absurd (texts_not_two (IsRun (Some m) old new cdl policy steps) a x e)
+unread m (Some (Audit cdl policy)) old new a x e = absurd (texts_not_two (IsAudited (Some m) old new cdl policy) a x e)
+unread m (Some (Certify cdl policy)) old new a x e = absurd (texts_not_two (IsCertified (Some m) old new cdl policy) a x e)
+unread m (Some (Plan cdl untypeds)) old new a x e = absurd (texts_not_two (IsPlanned (Some m) old new cdl untypeds) a x e)
+unread m (Some (Sections elf)) old new a x e = absurd (texts_not_two (IsTabled (Some m) old new elf) a x e)
 unread m (Some (Compile root base)) old new (ReadFault file) x e = absurd cc
 unread m (Some (Compile root base)) old new NoMemory x e = absurd cc
 

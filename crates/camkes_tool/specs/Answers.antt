@@ -1,5 +1,5 @@
 -- When each answer comes, and what it does to the outputs.
-use Rattle.std.specs.Prelude.{◌≡◌, ◌≤◌, ◌⊎◌, ℕ, Bool, true, false, List, [], ◌∷◌, ◌++◌, Option, None, Some, Ok, Err, codes, string_bytes}
+use Rattle.std.specs.Prelude.{◌≡◌, ◌≤◌, ◌⊎◌, ℕ, Bool, true, false, if◌then◌else◌, List, [], ◌∷◌, ◌++◌, Option, None, Some, Result, Ok, Err, codes, string_bytes}
 use Rattle.cam_base.specs.declared.place.Fault.{Fault}
 use Rattle.cam_io.specs.Causes.{Rose}
 use Rattle.cam_io.specs.Contents.{Contents}
@@ -16,10 +16,24 @@ use Rattle.cap_model.specs.declared.spec.Spec.{Spec}
 use Rattle.command_words.specs.Lines.{usage_line}
 use Rattle.command_words.specs.Words.{read_words}
 use Rattle.command_words.specs.declared.command.Command.{Command}
-use Rattle.command_words.specs.declared.command.Command.TheVariants.{Compile}
+use Rattle.command_words.specs.declared.command.Command.TheVariants.{Compile, Check, List as ListOf, Explain, Replay, Audit, Certify, Sections, Plan}
+use Rattle.arch_compile.specs.declared.error.BuildError.{BuildError}
+use Rattle.arch_compile.specs.declared.error.BuildError.TheVariants as build
+use Rattle.reason_lines.specs.Answers.{answer_text, is_assigned}
+use Rattle.source_commands.specs.Explained.{IsExplained}
+use Rattle.reason_lines.specs.declared.answer.Answer.{Answer as Reply}
+use Rattle.source_commands.specs.Listed.{IsListed, listing_text}
+use Rattle.source_commands.specs.declared.listing.Listing.{Listing}
+use Rattle.text_commands.specs.Commands.{IsAudited, IsCertified, IsChecked, IsPlanned, IsRun, IsTabled}
+use Rattle.text_commands.specs.Lines as texts
+use Rattle.text_commands.specs.Outcomes.{is_well, text_of}
+use Rattle.text_commands.specs.declared.fault.InputError.{InputError}
+use Rattle.text_commands.specs.declared.fault.InputError.TheVariants as input
+use Rattle.text_commands.specs.declared.fault.InputFault.{InputFault}
+use Rattle.text_commands.specs.declared.outcome.Outcome.{Outcome}
 use Rattle.camkes_tool.specs.Lines.{fault_line, read_fault_line, no_memory_line}
 use Rattle.camkes_tool.specs.declared.answer.Answer.{Answer}
-use Rattle.camkes_tool.specs.declared.answer.Answer.TheVariants.{Compiled, Faulted, Usage, ReadFault, NoMemory}
+use Rattle.camkes_tool.specs.declared.answer.Answer.TheVariants.{Compiled, Listed, Explained, Told, Faulted, Refused, Usage, ReadFault, NoMemory}
 
 -- The answer is right for this root and base, these files, and these counts of read faults before and now. In given contents
 -- there is one such answer, aside from read faults and want of memory (`answers_are_one` in src/laws.rt), so each comes
@@ -29,6 +43,10 @@ FitsRoot root base contents before now (Compiled name spec) =
     (string_bytes name ≡ base ++ codes ".cdl")
     × ((source : Source) × IsLoaded contents root (Ok source) × (first_fault source ≡ None) × IsSpecOf source spec)
 FitsRoot root base contents before now (Faulted file fault) = IsFaulted first_fault root contents fault file
+FitsRoot root base contents before now (Listed listing) = ⊥
+FitsRoot root base contents before now (Explained answer) = ⊥
+FitsRoot root base contents before now (Told outcome) = ⊥
+FitsRoot root base contents before now (Refused file fault) = ⊥
 FitsRoot root base contents before now Usage = ⊥
 FitsRoot root base contents before now (ReadFault file) =
     IsLoaded contents root (Err (error.ReadFault file)) × Rose (before file) (now file)
@@ -39,12 +57,71 @@ abbrev pub IsUsage : Answer → Type 0
 IsUsage Usage = Unit {0}
 IsUsage NoMemory = Unit {0}
 IsUsage (Compiled name spec) = ⊥
+IsUsage (Listed listing) = ⊥
+IsUsage (Explained answer) = ⊥
+IsUsage (Told outcome) = ⊥
 IsUsage (Faulted file fault) = ⊥
+IsUsage (Refused file fault) = ⊥
 IsUsage (ReadFault file) = ⊥
+
+-- the answer of a command over texts
+abbrev pub FitsTexts : (Result Outcome InputError → Type 0) → Answer → Type 0
+FitsTexts asked (Told outcome) = asked (Ok outcome)
+FitsTexts asked (Refused file fault) = asked (Err (input.Fault fault file))
+FitsTexts asked (ReadFault file) = asked (Err (input.ReadFault file))
+FitsTexts asked NoMemory = Unit {0}
+FitsTexts asked (Compiled name spec) = ⊥
+FitsTexts asked (Listed listing) = ⊥
+FitsTexts asked (Explained answer) = ⊥
+FitsTexts asked (Faulted file fault) = ⊥
+FitsTexts asked Usage = ⊥
+
+-- what may come in place of what a command over a source found
+abbrev pub FitsRefused : (BuildError → Type 0) → Answer → Type 0
+FitsRefused refused (Faulted file fault) = refused (build.Fault fault file)
+FitsRefused refused (ReadFault file) = refused (build.ReadFault file)
+FitsRefused refused NoMemory = Unit {0}
+FitsRefused refused (Compiled name spec) = ⊥
+FitsRefused refused (Listed listing) = ⊥
+FitsRefused refused (Explained answer) = ⊥
+FitsRefused refused (Told outcome) = ⊥
+FitsRefused refused (Refused file fault) = ⊥
+FitsRefused refused Usage = ⊥
+
+-- the answer of a listing, and of an explanation
+abbrev pub FitsListed : (Result Listing BuildError → Type 0) → Answer → Type 0
+FitsListed asked (Listed listing) = asked (Ok listing)
+FitsListed asked answer = FitsRefused (λ e. asked (Err e)) answer
+
+abbrev pub FitsExplained : (Result Reply BuildError → Type 0) → Answer → Type 0
+FitsExplained asked (Explained answer) = asked (Ok answer)
+FitsExplained asked answer = FitsRefused (λ e. asked (Err e)) answer
 
 abbrev pub FitsAsked : Option Command → Option Contents → (List ℕ → ℕ) → (List ℕ → ℕ) → Answer → Type 0
 FitsAsked None contents before now answer = IsUsage answer
 FitsAsked (Some (Compile root base)) contents before now answer = FitsRoot root base contents before now answer
+FitsAsked (Some (Check cdl policy cert)) contents before now answer = FitsTexts (IsChecked contents before now cdl policy cert) answer
+FitsAsked (Some (ListOf root)) contents before now answer = FitsListed (IsListed root contents before now) answer
+FitsAsked (Some (Explain root from authority to)) contents before now answer =
+    FitsExplained (IsExplained from authority to root contents before now) answer
+FitsAsked (Some (Replay cdl policy steps)) contents before now answer = FitsTexts (IsRun contents before now cdl policy steps) answer
+FitsAsked (Some (Audit cdl policy)) contents before now answer = FitsTexts (IsAudited contents before now cdl policy) answer
+FitsAsked (Some (Certify cdl policy)) contents before now answer = FitsTexts (IsCertified contents before now cdl policy) answer
+FitsAsked (Some (Sections elf)) contents before now answer = FitsTexts (IsTabled contents before now elf) answer
+FitsAsked (Some (Plan cdl untypeds)) contents before now answer = FitsTexts (IsPlanned contents before now cdl untypeds) answer
+
+-- no command, or compiling
+abbrev pub IsCompiling : Option Command → Type 0
+IsCompiling None = Unit {0}
+IsCompiling (Some (Compile root base)) = Unit {0}
+IsCompiling (Some (Check cdl policy cert)) = ⊥
+IsCompiling (Some (ListOf root)) = ⊥
+IsCompiling (Some (Explain root from authority to)) = ⊥
+IsCompiling (Some (Replay cdl policy steps)) = ⊥
+IsCompiling (Some (Audit cdl policy)) = ⊥
+IsCompiling (Some (Certify cdl policy)) = ⊥
+IsCompiling (Some (Sections elf)) = ⊥
+IsCompiling (Some (Plan cdl untypeds)) = ⊥
 
 -- the answer is right for these words
 abbrev pub Fits : List (List ℕ) → Option Contents → (List ℕ → ℕ) → (List ℕ → ℕ) → Answer → Type 0
@@ -53,7 +130,11 @@ Fits words = FitsAsked (read_words words)
 -- the status, which is 5 where an output failed
 abbrev pub status_of : Answer → ℕ
 status_of (Compiled name spec) = 0
+status_of (Listed listing) = 0
+status_of (Explained answer) = if is_assigned answer then 0 else 3
+status_of (Told outcome) = if is_well outcome then 0 else 3
 status_of (Faulted file fault) = 1
+status_of (Refused file fault) = 1
 status_of Usage = 2
 status_of (ReadFault file) = 4
 status_of NoMemory = 6
@@ -63,6 +144,13 @@ abbrev pub compiled_as : Answer → Option (List ℕ × Spec)
 compiled_as (Compiled name spec) = Some (string_bytes name, spec)
 compiled_as _ = None
 
+-- what an answer says on standard output
+abbrev pub said_as : Answer → Option (List ℕ)
+said_as (Listed listing) = Some (listing_text listing)
+said_as (Explained answer) = Some (answer_text answer)
+said_as (Told outcome) = Some (text_of outcome)
+said_as _ = None
+
 -- the fault of an answer that names one, and its file
 abbrev pub faulted_as : Answer → Option (List ℕ × Fault)
 faulted_as (Faulted file fault) = Some (file, fault)
@@ -71,7 +159,11 @@ faulted_as _ = None
 -- whether an answer may come in place of another: a read fault, or want of memory
 abbrev pub yields : Answer → Bool
 yields (Compiled name spec) = false
+yields (Listed listing) = false
+yields (Explained answer) = false
+yields (Told outcome) = false
 yields (Faulted file fault) = false
+yields (Refused file fault) = false
 yields Usage = false
 yields (ReadFault file) = true
 yields NoMemory = true
@@ -79,7 +171,11 @@ yields NoMemory = true
 -- what is done
 abbrev pub script : Answer → List Act
 script (Compiled name spec) = Begin 2 (string_bytes name) ∷ Write 2 (canonical spec) ∷ []
+script (Listed listing) = Write 0 (listing_text listing) ∷ []
+script (Explained answer) = Write 0 (answer_text answer) ∷ []
+script (Told outcome) = Write 0 (text_of outcome) ∷ []
 script (Faulted file fault) = Write 1 (fault_line file fault) ∷ []
+script (Refused file fault) = Write 1 (texts.fault_line file fault) ∷ []
 script Usage = Write 1 usage_line ∷ []
 script (ReadFault file) = Write 1 (read_fault_line file) ∷ []
 script NoMemory = Write 1 no_memory_line ∷ []

@@ -1,7 +1,8 @@
 -- Which status comes where contents are told, and neither a read nor an output failed in the call. Where the words are no
--- command it is 2. Else it is 0 where no fault stands in the source of the root, and 1 where one does. In place of each may
--- come 6, want of memory.
-use Rattle.std.specs.Prelude.{◌≡◌, ◌⊎◌, ℕ, List, Option, Some, None, Ok}
+-- command it is 2. For `compile` it is 0 where no fault stands in the source of the root, and 1 where one does; so for `list`,
+-- and for `explain`, which gives 3 in place of 0 where the triple isn't assigned. For a command over texts it is 1 where a fault of an input is told, and else 0 or 3 by what the command finds. In place of each may come
+-- 6, want of memory.
+use Rattle.std.specs.Prelude.{◌≡◌, ◌⊎◌, ℕ, Bool, true, List, Option, Some, None, Result, Ok, Err, if◌then◌else◌}
 use Rattle.cam_base.specs.declared.place.Fault.{Fault}
 use Rattle.cam_io.specs.Causes.{Rose}
 use Rattle.cam_io.specs.Contents.{Contents}
@@ -10,7 +11,18 @@ use Rattle.adl_import.specs.Loaded.{IsLoaded}
 use Rattle.arch_compile.specs.Compiled.{IsFaulted}
 use Rattle.arch_compile.specs.First.{first_fault}
 use Rattle.command_words.specs.declared.command.Command.{Command}
-use Rattle.command_words.specs.declared.command.Command.TheVariants.{Compile}
+use Rattle.command_words.specs.declared.command.Command.TheVariants.{Compile, Check, List as ListOf, Explain, Replay, Audit, Certify, Sections, Plan}
+use Rattle.arch_compile.specs.declared.error.BuildError.{BuildError}
+use Rattle.arch_compile.specs.declared.error.BuildError.TheVariants as build
+use Rattle.reason_lines.specs.Answers.{is_assigned}
+use Rattle.source_commands.specs.Explained.{IsExplained}
+use Rattle.source_commands.specs.Listed.{IsListed}
+use Rattle.text_commands.specs.Commands.{IsAudited, IsCertified, IsChecked, IsPlanned, IsRun, IsTabled}
+use Rattle.text_commands.specs.Outcomes.{is_well}
+use Rattle.text_commands.specs.declared.fault.InputError.{InputError}
+use Rattle.text_commands.specs.declared.fault.InputError.TheVariants as input
+use Rattle.text_commands.specs.declared.fault.InputFault.{InputFault}
+use Rattle.text_commands.specs.declared.outcome.Outcome.{Outcome}
 
 -- no read failed, of any file
 abbrev pub NoneRose : (List ℕ → ℕ) → (List ℕ → ℕ) → Type 0
@@ -28,6 +40,26 @@ HasFault m root = (fault : Fault) × (file : List ℕ) × IsFaulted first_fault 
 abbrev pub IsStatusOf : Contents → List ℕ → ℕ → Type 0
 IsStatusOf m root status = ((status ≡ 0) × IsSound m root) ⊎ (((status ≡ 1) × HasFault m root) ⊎ (status ≡ 6))
 
-abbrev pub IsStatus : Contents → Option Command → ℕ → Type 0
-IsStatus m None status = (status ≡ 2) ⊎ (status ≡ 6)
-IsStatus m (Some (Compile root base)) status = IsStatusOf m root status
+abbrev pub IsStatusOfTexts : (Result Outcome InputError → Type 0) → ℕ → Type 0
+IsStatusOfTexts asked status =
+    ((outcome : Outcome) × asked (Ok outcome) × (status ≡ (if is_well outcome then 0 else 3)))
+    ⊎ (((fault : InputFault) × (file : List ℕ) × asked (Err (input.Fault fault file)) × (status ≡ 1)) ⊎ (status ≡ 6))
+
+abbrev pub IsStatusOfSource : {A : Type 0} → (Result A BuildError → Type 0) → (A → Bool) → ℕ → Type 0
+IsStatusOfSource {A} asked well status =
+    ((found : A) × asked (Ok found) × (status ≡ (if well found then 0 else 3)))
+    ⊎ (((fault : Fault) × (file : List ℕ) × asked (Err (build.Fault fault file)) × (status ≡ 1)) ⊎ (status ≡ 6))
+
+-- the status of a call with these counts of read faults before and after
+abbrev pub IsStatus : Contents → (List ℕ → ℕ) → (List ℕ → ℕ) → Option Command → ℕ → Type 0
+IsStatus m before now None status = (status ≡ 2) ⊎ (status ≡ 6)
+IsStatus m before now (Some (Compile root base)) status = IsStatusOf m root status
+IsStatus m before now (Some (Check cdl policy cert)) status = IsStatusOfTexts (IsChecked (Some m) before now cdl policy cert) status
+IsStatus m before now (Some (ListOf root)) status = IsStatusOfSource (IsListed root (Some m) before now) (λ listing. true) status
+IsStatus m before now (Some (Explain root from authority to)) status =
+    IsStatusOfSource (IsExplained from authority to root (Some m) before now) is_assigned status
+IsStatus m before now (Some (Replay cdl policy steps)) status = IsStatusOfTexts (IsRun (Some m) before now cdl policy steps) status
+IsStatus m before now (Some (Audit cdl policy)) status = IsStatusOfTexts (IsAudited (Some m) before now cdl policy) status
+IsStatus m before now (Some (Certify cdl policy)) status = IsStatusOfTexts (IsCertified (Some m) before now cdl policy) status
+IsStatus m before now (Some (Sections elf)) status = IsStatusOfTexts (IsTabled (Some m) before now elf) status
+IsStatus m before now (Some (Plan cdl untypeds)) status = IsStatusOfTexts (IsPlanned (Some m) before now cdl untypeds) status

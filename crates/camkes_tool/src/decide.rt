@@ -1,14 +1,17 @@
 ghost use Rattle.cam_io.specs.Reading.{KeepsFiles};
-ghost use Rattle.camkes_tool.specs.Answers.{Fits, FitsRoot};
+ghost use Rattle.camkes_tool.specs.Answers.{Fits, FitsAsked, FitsRoot};
 ghost use Rattle.camkes_tool.specs.Deciding.{IsWrittenAs};
-ghost use Rattle.std.specs.Prelude.{◌≡◌, ◌++◌, codes, map, string_bytes, IfOk};
+ghost use Rattle.command_words.specs.Words.{AreUtf8};
+ghost use Rattle.std.specs.Prelude.{◌≡◌, ◌++◌, Some, codes, map, string_bytes, IfOk};
 
 use crate::Answer;
+use crate::asking::{audited, certified, checked, explained, listed, planned, replayed, tabled};
 use arch_compile::{BuildError, compile};
 use cam_base::NoMemory;
 use cam_io::Files;
 use cap_model::Spec;
 use command_words::{Command, WordsError, as_name, read_words};
+use reason_lines::Question;
 use std::alloc::Global;
 
 /// Reads the words and the files, and says nothing yet.
@@ -17,11 +20,54 @@ pub fn decide<F: Files>(alloc: Global, words: &[String], files: &mut F) -> Answe
     ensures fits { Fits (map string_bytes words.now) (F.contents files.old) (F.faults files.old) (F.faults files.new) result }
 {
     match read_words(alloc, words) {
-        Ok(Command::Compile { root, base }) => {
-            answer(alloc, as_name(&root), as_name(&base), files)
-        }
+        Ok(command) => follow(alloc, &command, files),
         Err(WordsError::Usage) => Answer::Usage,
         Err(WordsError::NoMemory) => Answer::NoMemory,
+    }
+}
+
+/// Does what a command asks for, but for writing.
+fn follow<F: Files>(alloc: Global, command: &Command, files: &mut F) -> Answer
+    requires { AreUtf8 command.now }
+    ensures kept { KeepsFiles F.contents F.faults files.old files.new }
+    ensures fits { FitsAsked (Some command.now) (F.contents files.old) (F.faults files.old) (F.faults files.new) result }
+{
+    match command {
+        Command::Compile { root, base } => answer(alloc, as_name(root), as_name(base), files),
+        Command::Check { cdl, policy, cert } => checked(
+            alloc,
+            as_name(cdl),
+            as_name(policy),
+            as_name(cert),
+            files,
+        ),
+        Command::List { root } => listed(alloc, as_name(root), files),
+        Command::Explain {
+            root,
+            from,
+            authority,
+            to,
+        } => {
+            let question = Question {
+                from: from.as_bytes(),
+                authority: authority.as_bytes(),
+                to: to.as_bytes(),
+            };
+            explained(alloc, as_name(root), &question, files)
+        }
+        Command::Replay { cdl, policy, steps } => replayed(
+            alloc,
+            as_name(cdl),
+            as_name(policy),
+            as_name(steps),
+            files,
+        ),
+        Command::Audit { cdl, policy } => audited(alloc, as_name(cdl), as_name(policy), files),
+        Command::Certify { cdl, policy } => {
+            certified(alloc, as_name(cdl), as_name(policy), files)
+        }
+        Command::Sections { elf } => tabled(alloc, as_name(elf), files),
+        Command::Plan { cdl, untypeds } => planned(alloc, as_name(cdl), as_name(untypeds), files),
     }
 }
 

@@ -5,57 +5,67 @@ ghost use Rattle.cam_io.specs.Contents.{Contents};
 ghost use Rattle.cam_io.specs.Sinks.{IsCut, Sink, appended, with_begun};
 ghost use Rattle.cap_model.specs.Canonical.{canonical};
 ghost use Rattle.cap_model.specs.declared.spec.Spec.{Spec};
-ghost use Rattle.camkes_tool.specs.Answers.{AreOne, Fits, Tells, compiled_as, yields};
+ghost use Rattle.camkes_tool.specs.Answers.{AreOne, Fits, IsCompiling, Tells, compiled_as, said_as, yields};
 ghost use Rattle.camkes_tool.specs.Channels.{IsAsBefore};
 ghost use Rattle.camkes_tool.specs.Statuses.{HasFault, IsSound, IsStatus, NoneRose};
 ghost use Rattle.camkes_tool.specs.declared.answer.Answer.{Answer};
 ghost use Rattle.command_words.specs.Words.{read_words};
 ghost use Rattle.std.specs.Prelude.{◌≡◌, ◌≢◌, ◌≤◌, ◌⊎◌, ℕ, false, List, None, Some};
 
-/// For the same words and contents there is one answer, aside from failed reads and want of memory: two calls that end with a
-/// status up to 3 end with the same status, and leave outputs that were the same the same.
+/// For the same words and contents there is one answer of `compile`, and of words that are no command, aside from failed reads
+/// and want of memory: two calls that end with a status up to 3 end with the same status, and leave outputs that were the same
+/// the same.
 pub fn answers_are_one()
     ensures answers { (m : Contents) (words : List (List ℕ)) (old new later last : List ℕ → ℕ) (a b : Answer)
-        → yields a ≡ false → yields b ≡ false → Fits words (Some m) old new a → Fits words (Some m) later last b → AreOne a b }
+        → IsCompiling (read_words words) → yields a ≡ false → yields b ≡ false → Fits words (Some m) old new a → Fits words (Some m) later last b → AreOne a b }
     ensures calls { (m : Contents) (words : List (List ℕ)) (old new later last : List ℕ → ℕ) (a b : Answer)
         (first second : ℕ) (sink left right : Sink) (before now before' now' : ℕ)
-        → Fits words (Some m) old new a → Tells a first sink left before now → first ≤ 3
+        → IsCompiling (read_words words) → Fits words (Some m) old new a → Tells a first sink left before now → first ≤ 3
         → Fits words (Some m) later last b → Tells b second sink right before' now' → second ≤ 3
         → (first ≡ second) × (left ≡ right) }
 {}
 
 /// Where contents are told and neither a read nor an output failed, the status is 2 for words that are no command, 0 for a
-/// source in which no fault stands, and 1 for one in which a fault stands; or it is 6. No source is of both kinds, and the
-/// status is 2 for no other words.
+/// source in which no fault stands (3 where it doesn't assign what `explain` asks), and 1 for one in which a fault stands; of
+/// commands over texts it is 1 where a fault of an
+/// input is told, and else 0 or 3 by what is found; or it is 6. No source is of both kinds, and the status is 2 for no other
+/// words.
 pub fn statuses_are_exact()
     ensures exact { (m : Contents) (words : List (List ℕ)) (old new : List ℕ → ℕ) (answer : Answer)
         (status : ℕ) (sink left : Sink) (before now : ℕ)
         → Fits words (Some m) old new answer → Tells answer status sink left before now
-        → NoneRose old new → ¬ Rose before now → IsStatus m (read_words words) status }
+        → NoneRose old new → ¬ Rose before now → IsStatus m old new (read_words words) status }
     ensures apart { (m : Contents) (root : List ℕ) → IsSound m root → ¬ HasFault m root }
     ensures usage { (m : Contents) (words : List (List ℕ)) (old new : List ℕ → ℕ) (answer : Answer)
         (sink left : Sink) (before now : ℕ)
         → Fits words (Some m) old new answer → Tells answer 2 sink left before now → read_words words ≡ None }
 {}
 
-/// With a status other than 0 and 5 nothing but standard error is touched.
-pub fn refusals_touch_standard_error_alone()
-    ensures { (answer : Answer) (status : ℕ) (old new : Sink) (before now : ℕ) → Tells answer status old new before now
-        → status ≢ 0 → status ≢ 5 → (channel : ℕ) → channel ≢ 1 → IsAsBefore channel old new }
+/// With status 3 nothing but standard output is touched, and with a status other than 0, 3 and 5 nothing but standard error.
+pub fn refusals_touch_one_channel_alone()
+    ensures error { (answer : Answer) (status : ℕ) (old new : Sink) (before now : ℕ) → Tells answer status old new before now
+        → status ≢ 0 → status ≢ 3 → status ≢ 5 → (channel : ℕ) → channel ≢ 1 → IsAsBefore channel old new }
+    ensures output { (answer : Answer) (old new : Sink) (before now : ℕ) → Tells answer 3 old new before now
+        → (channel : ℕ) → channel ≢ 0 → IsAsBefore channel old new }
 {}
 
-/// With status 0 channel 2 is begun under a name, the whole text of a spec stands on it, and nothing else is touched.
+/// With status 0 channel 2 is begun under a name, the whole text of a spec stands on it, and nothing else is touched; or the
+/// whole text of what a command found stands on standard output, and nothing else is touched.
 pub fn success_writes_a_whole_text()
     ensures { (answer : Answer) (old new : Sink) (before now : ℕ) → Tells answer 0 old new before now
-        → (name : List ℕ) × (spec : Spec) × (compiled_as answer ≡ Some (name, spec))
-        × (new ≡ appended (with_begun old 2 name) 2 (canonical spec)) }
+        → ((name : List ℕ) × (spec : Spec) × (compiled_as answer ≡ Some (name, spec))
+        × (new ≡ appended (with_begun old 2 name) 2 (canonical spec)))
+        ⊎ ((text : List ℕ) × (said_as answer ≡ Some text) × (new ≡ appended old 0 text)) }
 {}
 
-/// With status 5 the outputs' count rose, and nothing but standard error and channel 2 is touched. Where a spec was to be
-/// written, either all is as it was, or channel 2 is begun under its name, and a front of its text stands on it.
+/// With status 5 the outputs' count rose, and nothing but standard output, standard error and channel 2 is touched. Where a
+/// spec was to be written, either all is as it was, or channel 2 is begun under its name, and a front of its text stands on it.
+/// Where there was something to say on standard output, a front of it stands there.
 pub fn failures_have_a_cause()
     ensures cause { (answer : Answer) (old new : Sink) (before now : ℕ) → Tells answer 5 old new before now
-        → Rose before now × ((channel : ℕ) → channel ≢ 1 → channel ≢ 2 → IsAsBefore channel old new) }
+        → Rose before now × ((channel : ℕ) → channel ≢ 0 → channel ≢ 1 → channel ≢ 2 → IsAsBefore channel old new) }
+    ensures said { (answer : Answer) (old new : Sink) (before now : ℕ) (text : List ℕ)
+        → Tells answer 5 old new before now → said_as answer ≡ Some text → IsCut old 0 text new }
     ensures front { (answer : Answer) (old new : Sink) (before now : ℕ) (name : List ℕ) (spec : Spec)
         → Tells answer 5 old new before now → compiled_as answer ≡ Some (name, spec)
         → (new ≡ old) ⊎ IsCut (with_begun old 2 name) 2 (canonical spec) new }

@@ -7,6 +7,7 @@
 #![tactic(auto)]
 
 mod answer;
+mod asking;
 mod decide;
 mod laws;
 mod perform;
@@ -14,7 +15,7 @@ mod top;
 
 pub use answer::Answer;
 pub use laws::{
-    answers_are_one, failures_have_a_cause, refusals_touch_standard_error_alone,
-    statuses_are_exact, success_writes_a_whole_text,
+    answers_are_one, failures_have_a_cause, refusals_touch_one_channel_alone, statuses_are_exact,
+    success_writes_a_whole_text,
 };
 pub use top::run;

@@ -11,6 +11,8 @@ use cam_io::{Failed, Outputs, write_all, write_parts};
 use capdl_write::write_spec;
 use command_words::usage_line;
 use itoa::Buffer;
+use source_commands::write_listing;
+use text_commands::write_fault as write_refusal;
 
 /// Does what the answer says. Takes no memory.
 pub fn perform<O: Outputs>(answer: &Answer, out: &mut O) -> Result<(), Failed>
@@ -22,7 +24,11 @@ pub fn perform<O: Outputs>(answer: &Answer, out: &mut O) -> Result<(), Failed>
             out.begin(2, name.as_str())?;
             write_spec(spec, out, 2)
         }
+        Answer::Listed { listing } => write_listing(listing, out, 0),
+        Answer::Explained { answer } => answer.write(out, 0),
+        Answer::Told { outcome } => outcome.write(out, 0),
         Answer::Faulted { file, fault } => write_fault(out, file.as_bytes(), fault),
+        Answer::Refused { file, fault } => write_refusal(file.as_bytes(), fault, out, 1),
         Answer::Usage => write_all(out, 1, usage_line()),
         Answer::ReadFault { file } => write_read_fault(out, file.as_bytes()),
         Answer::NoMemory => write_all(out, 1, b"no memory\n"),

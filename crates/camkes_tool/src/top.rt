@@ -1,7 +1,7 @@
 ghost use Rattle.cam_io.specs.Reading.{KeepsFiles};
 ghost use Rattle.camkes_tool.specs.Answers.{Fits, Tells, status_of};
 ghost use Rattle.camkes_tool.specs.declared.answer.Answer.{Answer};
-ghost use Rattle.std.specs.Prelude.{◌≡◌, ◌≤◌, false, ℕ, map, string_bytes};
+ghost use Rattle.std.specs.Prelude.{◌≡◌, ◌≤◌, false, if◌then◌else◌, ℕ, map, string_bytes};
 
 use crate::Answer;
 use crate::decide::decide;
@@ -9,12 +9,22 @@ use crate::perform::perform;
 use cam_io::{Failed, Files, Outputs};
 use std::alloc::Global;
 
+/// The status of what is found, by whether it is what was hoped for.
+fn well_or_not(well: bool) -> u8
+    ensures { result ≡ (if well then 0 else 3) }
+{
+    if well { 0 } else { 3 }
+}
+
 fn status_of(answer: &Answer) -> u8
     ensures { result ≡ status_of answer.now }
 {
     match answer {
         Answer::Compiled { .. } => 0,
-        Answer::Faulted { .. } => 1,
+        Answer::Listed { .. } => 0,
+        Answer::Explained { answer } => well_or_not(answer.is_assigned()),
+        Answer::Told { outcome } => well_or_not(outcome.is_well()),
+        Answer::Faulted { .. } | Answer::Refused { .. } => 1,
         Answer::Usage => 2,
         Answer::ReadFault { .. } => 4,
         Answer::NoMemory => 6,

@@ -17,10 +17,10 @@ use Rattle.clap.specs.declared.parser.matches.SubCommand.{SubCommand}
 use Rattle.clap.specs.declared.parser.matches.ArgMatches.TheViews.{out-SubCommand}
 use Rattle.clap.proofs.OnLiterals.{clap_on_literals}
 use Rattle.command_words.specs.declared.command.Command.{Command}
-use Rattle.command_words.specs.declared.command.Command.TheVariants.{Compile}
+use Rattle.command_words.specs.declared.command.Command.TheVariants.{Compile, Check, List as Listing, Explain, Replay, Audit, Certify, Sections, Plan}
 use Rattle.command_words.specs.declared.command.WordsError.{WordsError}
 use Rattle.command_words.specs.Clap.{made_of, reader}
-use Rattle.command_words.specs.Words.{AreUtf8, command_of, compile_of, is_dashed, read_words, taken}
+use Rattle.command_words.specs.Words.{AreUtf8, command_of, is_dashed, of_four, of_one, of_three, of_two, read_words, taken}
 use Rattle.command_words.proofs.Slots.{AreTexts, has_slots, level_fails, level_same, passes, some_same, some≢none}
 use Rattle.command_words.proofs.Names.{command_met, named, no_command}
 
@@ -51,12 +51,70 @@ subs = (built reader).subs
 abbrev sub : Text → Shape
 sub name = Rattle.std.specs.Option.unwrap_or (named name subs) (Rattle.clap.specs.Simple.new_shape [])
 
-compile_fits : (us : List Text) → FitsAt (sub (codes "compile")) us (compile_of us)
+compile_fits : (us : List Text) → FitsAt (sub (codes "compile")) us (of_two Compile us)
 unfolding clap_on_literals
-compile_fits [] = (λ e. fails e, λ e. refl)
-compile_fits (a ∷ []) = (λ e. fails e, λ e. refl)
-compile_fits (a ∷ b ∷ []) = (λ e. refl, λ e. works e)
-compile_fits (a ∷ b ∷ c ∷ us) = (λ e. fails e, λ e. refl)
+compile_fits [] = (λ p. fails p, λ p. refl)
+compile_fits (a ∷ []) = (λ p. fails p, λ p. refl)
+compile_fits (a ∷ b ∷ []) = (λ p. refl, λ p. works p)
+compile_fits (a ∷ b ∷ c ∷ us) = (λ p. fails p, λ p. refl)
+
+check_fits : (us : List Text) → FitsAt (sub (codes "check")) us (of_three Check us)
+unfolding clap_on_literals
+check_fits [] = (λ p. fails p, λ p. refl)
+check_fits (a ∷ []) = (λ p. fails p, λ p. refl)
+check_fits (a ∷ b ∷ []) = (λ p. fails p, λ p. refl)
+check_fits (a ∷ b ∷ c ∷ []) = (λ p. refl, λ p. works p)
+check_fits (a ∷ b ∷ c ∷ d ∷ us) = (λ p. fails p, λ p. refl)
+
+list_fits : (us : List Text) → FitsAt (sub (codes "list")) us (of_one Listing us)
+unfolding clap_on_literals
+list_fits [] = (λ p. fails p, λ p. refl)
+list_fits (a ∷ []) = (λ p. refl, λ p. works p)
+list_fits (a ∷ b ∷ us) = (λ p. fails p, λ p. refl)
+
+explain_fits : (us : List Text) → FitsAt (sub (codes "explain")) us (of_four Explain us)
+unfolding clap_on_literals
+explain_fits [] = (λ p. fails p, λ p. refl)
+explain_fits (a ∷ []) = (λ p. fails p, λ p. refl)
+explain_fits (a ∷ b ∷ []) = (λ p. fails p, λ p. refl)
+explain_fits (a ∷ b ∷ c ∷ []) = (λ p. fails p, λ p. refl)
+explain_fits (a ∷ b ∷ c ∷ d ∷ []) = (λ p. refl, λ p. works p)
+explain_fits (a ∷ b ∷ c ∷ d ∷ e ∷ us) = (λ p. fails p, λ p. refl)
+
+replay_fits : (us : List Text) → FitsAt (sub (codes "replay")) us (of_three Replay us)
+unfolding clap_on_literals
+replay_fits [] = (λ p. fails p, λ p. refl)
+replay_fits (a ∷ []) = (λ p. fails p, λ p. refl)
+replay_fits (a ∷ b ∷ []) = (λ p. fails p, λ p. refl)
+replay_fits (a ∷ b ∷ c ∷ []) = (λ p. refl, λ p. works p)
+replay_fits (a ∷ b ∷ c ∷ d ∷ us) = (λ p. fails p, λ p. refl)
+
+audit_fits : (us : List Text) → FitsAt (sub (codes "audit")) us (of_two Audit us)
+unfolding clap_on_literals
+audit_fits [] = (λ p. fails p, λ p. refl)
+audit_fits (a ∷ []) = (λ p. fails p, λ p. refl)
+audit_fits (a ∷ b ∷ []) = (λ p. refl, λ p. works p)
+audit_fits (a ∷ b ∷ c ∷ us) = (λ p. fails p, λ p. refl)
+
+certify_fits : (us : List Text) → FitsAt (sub (codes "certify")) us (of_two Certify us)
+unfolding clap_on_literals
+certify_fits [] = (λ p. fails p, λ p. refl)
+certify_fits (a ∷ []) = (λ p. fails p, λ p. refl)
+certify_fits (a ∷ b ∷ []) = (λ p. refl, λ p. works p)
+certify_fits (a ∷ b ∷ c ∷ us) = (λ p. fails p, λ p. refl)
+
+sections_fits : (us : List Text) → FitsAt (sub (codes "sections")) us (of_one Sections us)
+unfolding clap_on_literals
+sections_fits [] = (λ p. fails p, λ p. refl)
+sections_fits (a ∷ []) = (λ p. refl, λ p. works p)
+sections_fits (a ∷ b ∷ us) = (λ p. fails p, λ p. refl)
+
+plan_fits : (us : List Text) → FitsAt (sub (codes "plan")) us (of_two Plan us)
+unfolding clap_on_literals
+plan_fits [] = (λ p. fails p, λ p. refl)
+plan_fits (a ∷ []) = (λ p. fails p, λ p. refl)
+plan_fits (a ∷ b ∷ []) = (λ p. refl, λ p. works p)
+plan_fits (a ∷ b ∷ c ∷ us) = (λ p. fails p, λ p. refl)
 
 next : (b : Bool) (s : Shape) (o : Option Shape) (m n : Made) → has_slots s ≡ true → ((us : List Text) → FitsAt s us (m us)) → FitsMade o n
     → FitsMade (cond (b || false) (Some s) o) (λ us. cond b (m us) (n us))
@@ -65,8 +123,16 @@ next false s o m n slots fits rest = rest
 
 each_fits : (name : Text) → FitsMade (named name subs) (command_of name)
 each_fits name =
-    next (bytes_eq (codes "compile") name) _ _ compile_of _ refl compile_fits
-    (λ us. refl)
+    next (bytes_eq (codes "compile") name) _ _ (of_two Compile) _ refl compile_fits
+    (next (bytes_eq (codes "check") name) _ _ (of_three Check) _ refl check_fits
+    (next (bytes_eq (codes "list") name) _ _ (of_one Listing) _ refl list_fits
+    (next (bytes_eq (codes "explain") name) _ _ (of_four Explain) _ refl explain_fits
+    (next (bytes_eq (codes "replay") name) _ _ (of_three Replay) _ refl replay_fits
+    (next (bytes_eq (codes "audit") name) _ _ (of_two Audit) _ refl audit_fits
+    (next (bytes_eq (codes "certify") name) _ _ (of_two Certify) _ refl certify_fits
+    (next (bytes_eq (codes "sections") name) _ _ (of_one Sections) _ refl sections_fits
+    (next (bytes_eq (codes "plan") name) _ _ (of_two Plan) _ refl plan_fits
+    (λ us. refl)))))))))
 
 none_then : (make : Made) (o : Option (List Text)) → ((us : List Text) → make us ≡ None) → option_and_then make o ≡ None
 none_then make None h = refl
@@ -116,11 +182,31 @@ taken_texts (w ∷ ws) us u e = go (bytes_eq w (codes "--")) (is_dashed w) (take
     go false false None rest e = absurd (some≢none us (sym e))
     go false false (Some vs) rest e = subst AreTexts (some_same (w ∷ vs) us e) (u.0, rest vs refl)
 
-compile_texts : (us : List Text) (c : Command) → AreTexts us → compile_of us ≡ Some c → AreUtf8 c
-compile_texts [] c u e = absurd (some≢none c (sym e))
-compile_texts (a ∷ []) c u e = absurd (some≢none c (sym e))
-compile_texts (a ∷ b ∷ []) c u e = subst AreUtf8 (some_same (Compile a b) c e) (u.0, u.1.0)
-compile_texts (a ∷ b ∷ d ∷ us) c u e = absurd (some≢none c (sym e))
+one_texts : (make : Text → Command) → ((a : Text) → IsUtf8 a → AreUtf8 (make a)) → (us : List Text) (c : Command) → AreTexts us → of_one make us ≡ Some c → AreUtf8 c
+one_texts make fit [] c u e = absurd (some≢none c (sym e))
+one_texts make fit (a ∷ []) c u e = subst AreUtf8 (some_same (make a) c e) (fit a u.0)
+one_texts make fit (a ∷ b ∷ us) c u e = absurd (some≢none c (sym e))
+
+two_texts : (make : Text → Text → Command) → ((a b : Text) → IsUtf8 a × IsUtf8 b → AreUtf8 (make a b)) → (us : List Text) (c : Command) → AreTexts us → of_two make us ≡ Some c → AreUtf8 c
+two_texts make fit [] c u e = absurd (some≢none c (sym e))
+two_texts make fit (a ∷ []) c u e = absurd (some≢none c (sym e))
+two_texts make fit (a ∷ b ∷ []) c u e = subst AreUtf8 (some_same (make a b) c e) (fit a b (u.0, u.1.0))
+two_texts make fit (a ∷ b ∷ d ∷ us) c u e = absurd (some≢none c (sym e))
+
+three_texts : (make : Text → Text → Text → Command) → ((a b d : Text) → IsUtf8 a × (IsUtf8 b × IsUtf8 d) → AreUtf8 (make a b d)) → (us : List Text) (c : Command) → AreTexts us → of_three make us ≡ Some c → AreUtf8 c
+three_texts make fit [] c u e = absurd (some≢none c (sym e))
+three_texts make fit (a ∷ []) c u e = absurd (some≢none c (sym e))
+three_texts make fit (a ∷ b ∷ []) c u e = absurd (some≢none c (sym e))
+three_texts make fit (a ∷ b ∷ d ∷ []) c u e = subst AreUtf8 (some_same (make a b d) c e) (fit a b d (u.0, (u.1.0, u.1.1.0)))
+three_texts make fit (a ∷ b ∷ d ∷ f ∷ us) c u e = absurd (some≢none c (sym e))
+
+four_texts : (make : Text → Text → Text → Text → Command) → ((a b d f : Text) → IsUtf8 a × (IsUtf8 b × (IsUtf8 d × IsUtf8 f)) → AreUtf8 (make a b d f)) → (us : List Text) (c : Command) → AreTexts us → of_four make us ≡ Some c → AreUtf8 c
+four_texts make fit [] c u e = absurd (some≢none c (sym e))
+four_texts make fit (a ∷ []) c u e = absurd (some≢none c (sym e))
+four_texts make fit (a ∷ b ∷ []) c u e = absurd (some≢none c (sym e))
+four_texts make fit (a ∷ b ∷ d ∷ []) c u e = absurd (some≢none c (sym e))
+four_texts make fit (a ∷ b ∷ d ∷ f ∷ []) c u e = subst AreUtf8 (some_same (make a b d f) c e) (fit a b d f (u.0, (u.1.0, (u.1.1.0, u.1.1.1.0))))
+four_texts make fit (a ∷ b ∷ d ∷ f ∷ g ∷ us) c u e = absurd (some≢none c (sym e))
 
 either_texts : (b : Bool) (x y : Option Command) (c : Command) → (x ≡ Some c → AreUtf8 c) → (y ≡ Some c → AreUtf8 c) → cond b x y ≡ Some c → AreUtf8 c
 either_texts true x y c here rest e = here e
@@ -128,8 +214,16 @@ either_texts false x y c here rest e = rest e
 
 command_texts : (name : Text) (us : List Text) (c : Command) → AreTexts us → command_of name us ≡ Some c → AreUtf8 c
 command_texts name us c u =
-    either_texts (bytes_eq (codes "compile") name) _ _ c (compile_texts us c u)
-    (λ e. absurd (some≢none c (sym e)))
+    either_texts (bytes_eq (codes "compile") name) _ _ c (two_texts Compile (λ a b t. t) us c u)
+    (either_texts (bytes_eq (codes "check") name) _ _ c (three_texts Check (λ a b d t. t) us c u)
+    (either_texts (bytes_eq (codes "list") name) _ _ c (one_texts Listing (λ a t. t) us c u)
+    (either_texts (bytes_eq (codes "explain") name) _ _ c (four_texts Explain (λ a b d f t. t) us c u)
+    (either_texts (bytes_eq (codes "replay") name) _ _ c (three_texts Replay (λ a b d t. t) us c u)
+    (either_texts (bytes_eq (codes "audit") name) _ _ c (two_texts Audit (λ a b t. t) us c u)
+    (either_texts (bytes_eq (codes "certify") name) _ _ c (two_texts Certify (λ a b t. t) us c u)
+    (either_texts (bytes_eq (codes "sections") name) _ _ c (one_texts Sections (λ a t. t) us c u)
+    (either_texts (bytes_eq (codes "plan") name) _ _ c (two_texts Plan (λ a b t. t) us c u)
+    (λ e. absurd (some≢none c (sym e)))))))))))
 
 read_texts : (words : List Text) (c : Command) → AreTexts words → read_words words ≡ Some c → AreUtf8 c
 read_texts [] c u e = absurd (some≢none c (sym e))

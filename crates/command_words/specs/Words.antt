@@ -6,7 +6,7 @@
 use Rattle.std.specs.Prelude.{ℕ, Bool, false, ◌==◌, List, [], ◌∷◌, Option, Some, None, if◌then◌else◌, codes, option_map, option_and_then}
 use Rattle.std.specs.Str.{bytes_eq, IsUtf8}
 use Rattle.command_words.specs.declared.command.Command.{Command}
-use Rattle.command_words.specs.declared.command.Command.TheVariants.{Compile}
+use Rattle.command_words.specs.declared.command.Command.TheVariants.{Compile, Check, List as Listing, Explain, Replay, Audit, Certify, Sections, Plan}
 
 abbrev pub Word : Type 0
 Word = List ℕ
@@ -24,15 +24,36 @@ taken (word ∷ rest) =
     if bytes_eq word (codes "--") then Some rest
     else (if is_dashed word then None else option_map (λ more. word ∷ more) (taken rest))
 
-abbrev pub compile_of : List Word → Option Command
-compile_of (root ∷ base ∷ []) = Some (Compile root base)
-compile_of _ = None
+-- commands of one word, of two, of three and of four
+abbrev pub of_one : (Word → Command) → List Word → Option Command
+of_one make (a ∷ []) = Some (make a)
+of_one make _ = None
+
+abbrev pub of_two : (Word → Word → Command) → List Word → Option Command
+of_two make (a ∷ b ∷ []) = Some (make a b)
+of_two make _ = None
+
+abbrev pub of_three : (Word → Word → Word → Command) → List Word → Option Command
+of_three make (a ∷ b ∷ c ∷ []) = Some (make a b c)
+of_three make _ = None
+
+abbrev pub of_four : (Word → Word → Word → Word → Command) → List Word → Option Command
+of_four make (a ∷ b ∷ c ∷ d ∷ []) = Some (make a b c d)
+of_four make _ = None
 
 -- the table of commands
 abbrev pub command_of : Word → List Word → Option Command
 command_of name words =
-    if bytes_eq (codes "compile") name then compile_of words
-    else None
+    if bytes_eq (codes "compile") name then of_two Compile words
+    else (if bytes_eq (codes "check") name then of_three Check words
+    else (if bytes_eq (codes "list") name then of_one Listing words
+    else (if bytes_eq (codes "explain") name then of_four Explain words
+    else (if bytes_eq (codes "replay") name then of_three Replay words
+    else (if bytes_eq (codes "audit") name then of_two Audit words
+    else (if bytes_eq (codes "certify") name then of_two Certify words
+    else (if bytes_eq (codes "sections") name then of_one Sections words
+    else (if bytes_eq (codes "plan") name then of_two Plan words
+    else None))))))))
 
 -- the command that the words ask for
 abbrev pub read_words : List Word → Option Command
@@ -42,3 +63,11 @@ read_words (name ∷ rest) = option_and_then (command_of name) (taken rest)
 -- the words that the command takes are UTF-8
 abbrev pub AreUtf8 : Command → Type 0
 AreUtf8 (Compile root base) = IsUtf8 root × IsUtf8 base
+AreUtf8 (Check cdl policy cert) = IsUtf8 cdl × (IsUtf8 policy × IsUtf8 cert)
+AreUtf8 (Listing root) = IsUtf8 root
+AreUtf8 (Explain root from authority to) = IsUtf8 root × (IsUtf8 from × (IsUtf8 authority × IsUtf8 to))
+AreUtf8 (Replay cdl policy steps) = IsUtf8 cdl × (IsUtf8 policy × IsUtf8 steps)
+AreUtf8 (Audit cdl policy) = IsUtf8 cdl × IsUtf8 policy
+AreUtf8 (Certify cdl policy) = IsUtf8 cdl × IsUtf8 policy
+AreUtf8 (Sections elf) = IsUtf8 elf
+AreUtf8 (Plan cdl untypeds) = IsUtf8 cdl × IsUtf8 untypeds

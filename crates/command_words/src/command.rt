@@ -9,7 +9,52 @@ use thiserror::Error;
 #[derive(Drop)]
 pub enum Command {
     /// Compiles the source of this root, and writes under this base.
-    Compile { root: Text, base: Text },
+    Compile {
+        root: Text,
+        base: Text,
+    },
+    /// Checks the capDL against a policy and a certificate.
+    Check {
+        cdl: Text,
+        policy: Text,
+        cert: Text,
+    },
+    /// Prints what the connectors of the source of this root assign.
+    List {
+        root: Text,
+    },
+    /// Prints why a label of the source of this root has an authority over another.
+    Explain {
+        root: Text,
+        from: Text,
+        authority: Text,
+        to: Text,
+    },
+    /// Applies steps to the capDL's system, in their order.
+    Replay {
+        cdl: Text,
+        policy: Text,
+        steps: Text,
+    },
+    /// Prints what any run of the capDL's system reaches, and steps that show it.
+    Audit {
+        cdl: Text,
+        policy: Text,
+    },
+    /// Prints the least certificate of the capDL's system.
+    Certify {
+        cdl: Text,
+        policy: Text,
+    },
+    /// Prints the section table of an ELF file.
+    Sections {
+        elf: Text,
+    },
+    /// Prints where the capDL's objects go in regions of memory.
+    Plan {
+        cdl: Text,
+        untypeds: Text,
+    },
 }
 
 /// A word of a command, which is UTF-8, as the name that files go by. Takes no memory.

@@ -51,5 +51,29 @@ fn with<'a>(
 pub fn program<'a>(alloc: Global) -> Result<ClapCommand<'a>, AllocError>
     ensures { IfOk result (λ c. app_of c ≡ reader) }
 {
-    with(alloc, bare(alloc), "compile", ["ROOT", "BASE"].as_slice())
+    let program = bare(alloc);
+    let program = with(alloc, program, "compile", ["ROOT", "BASE"].as_slice())?;
+    let program = with(
+        alloc,
+        program,
+        "check",
+        ["CDL", "POLICY", "CERT"].as_slice(),
+    )?;
+    let program = with(alloc, program, "list", ["ROOT"].as_slice())?;
+    let program = with(
+        alloc,
+        program,
+        "explain",
+        ["ROOT", "FROM", "AUTHORITY", "TO"].as_slice(),
+    )?;
+    let program = with(
+        alloc,
+        program,
+        "replay",
+        ["CDL", "POLICY", "STEPS"].as_slice(),
+    )?;
+    let program = with(alloc, program, "audit", ["CDL", "POLICY"].as_slice())?;
+    let program = with(alloc, program, "certify", ["CDL", "POLICY"].as_slice())?;
+    let program = with(alloc, program, "sections", ["ELF"].as_slice())?;
+    with(alloc, program, "plan", ["CDL", "UNTYPEDS"].as_slice())
 }

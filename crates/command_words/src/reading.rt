@@ -30,6 +30,40 @@ fn command_from(alloc: Global, name: &str, matches: &ArgMatches) -> Result<Comma
             root: text_of(alloc, matches, "ROOT")?,
             base: text_of(alloc, matches, "BASE")?,
         }),
+        "check" => Ok(Command::Check {
+            cdl: text_of(alloc, matches, "CDL")?,
+            policy: text_of(alloc, matches, "POLICY")?,
+            cert: text_of(alloc, matches, "CERT")?,
+        }),
+        "list" => Ok(Command::List {
+            root: text_of(alloc, matches, "ROOT")?,
+        }),
+        "explain" => Ok(Command::Explain {
+            root: text_of(alloc, matches, "ROOT")?,
+            from: text_of(alloc, matches, "FROM")?,
+            authority: text_of(alloc, matches, "AUTHORITY")?,
+            to: text_of(alloc, matches, "TO")?,
+        }),
+        "replay" => Ok(Command::Replay {
+            cdl: text_of(alloc, matches, "CDL")?,
+            policy: text_of(alloc, matches, "POLICY")?,
+            steps: text_of(alloc, matches, "STEPS")?,
+        }),
+        "audit" => Ok(Command::Audit {
+            cdl: text_of(alloc, matches, "CDL")?,
+            policy: text_of(alloc, matches, "POLICY")?,
+        }),
+        "certify" => Ok(Command::Certify {
+            cdl: text_of(alloc, matches, "CDL")?,
+            policy: text_of(alloc, matches, "POLICY")?,
+        }),
+        "sections" => Ok(Command::Sections {
+            elf: text_of(alloc, matches, "ELF")?,
+        }),
+        "plan" => Ok(Command::Plan {
+            cdl: text_of(alloc, matches, "CDL")?,
+            untypeds: text_of(alloc, matches, "UNTYPEDS")?,
+        }),
         _ => Err(WordsError::Usage),
     }
 }

@@ -1,0 +1,8 @@
+use Rattle.text_commands.specs.Commands.{IsPlanned}
+use Rattle.camkes_tool.proofs.Telling.{fits_told}
+use Rattle.camkes_tool.proofs.asking.planned.Goals as goal
+
+pub returns-clause-fits : goal.returns-clause-fits
+returns-clause-fits g c =
+    rw c.told.ensures
+    (fits_told (IsPlanned (g.F.Files.contents c.args.files.now) (g.F.Files.faults c.args.files.now) (g.F.Files.faults c.plan_texts.new.files) c.args.cdl.now c.args.untypeds.now) c.plan_texts.result c.plan_texts.ensures.planned)

@@ -1,0 +1,132 @@
+//! The commands that only print: what is asked for is found, and what was found is the answer.
+
+ghost use Rattle.cam_io.specs.Reading.{KeepsFiles};
+ghost use Rattle.camkes_tool.specs.Answers.{FitsExplained, FitsListed, FitsTexts};
+ghost use Rattle.camkes_tool.specs.Deciding.{refused, told};
+ghost use Rattle.source_commands.specs.Explained.{IsExplained};
+ghost use Rattle.source_commands.specs.Listed.{IsListed};
+ghost use Rattle.std.specs.Prelude.{◌≡◌};
+ghost use Rattle.text_commands.specs.Commands.{IsAudited, IsCertified, IsChecked, IsPlanned, IsRun, IsTabled};
+
+use crate::Answer;
+use arch_compile::BuildError;
+use cam_io::Files;
+use reason_lines::Question;
+use source_commands::{explain, list};
+use std::alloc::Global;
+use text_commands::{
+    InputError, Outcome, audit_texts, certify_texts, check_texts, plan_texts, replay_texts,
+    table_of_elf,
+};
+
+/// What the source of the root assigns.
+pub fn listed<F: Files>(alloc: Global, root: &str, files: &mut F) -> Answer
+    ensures kept { KeepsFiles F.contents F.faults files.old files.new }
+    ensures fits { FitsListed (IsListed root.now (F.contents files.old) (F.faults files.old) (F.faults files.new)) result }
+{
+    match list(alloc, files, root) {
+        Ok(listing) => Answer::Listed { listing },
+        Err(error) => refused(error),
+    }
+}
+
+/// Why the source of the root assigns what is asked for.
+pub fn explained<F: Files>(
+    alloc: Global,
+    root: &str,
+    question: &Question<'_>,
+    files: &mut F,
+) -> Answer
+    ensures kept { KeepsFiles F.contents F.faults files.old files.new }
+    ensures fits { FitsExplained
+        (IsExplained question.now.from.now question.now.authority.now question.now.to.now root.now
+        (F.contents files.old) (F.faults files.old) (F.faults files.new)) result }
+{
+    match explain(alloc, files, root, question) {
+        Ok(answer) => Answer::Explained { answer },
+        Err(error) => refused(error),
+    }
+}
+
+/// The answer where a source is refused.
+fn refused(error: BuildError) -> Answer
+    ensures { result ≡ refused error }
+{
+    match error {
+        BuildError::Fault(fault, file) => Answer::Faulted { file, fault },
+        BuildError::ReadFault(file) => Answer::ReadFault { file },
+        BuildError::NoMemory => Answer::NoMemory,
+    }
+}
+
+/// Whether a certificate keeps the rules.
+pub fn checked<F: Files>(
+    alloc: Global,
+    cdl: &str,
+    policy: &str,
+    cert: &str,
+    files: &mut F,
+) -> Answer
+    ensures kept { KeepsFiles F.contents F.faults files.old files.new }
+    ensures fits { FitsTexts (IsChecked (F.contents files.old) (F.faults files.old) (F.faults files.new) cdl.now policy.now cert.now) result }
+{
+    told(check_texts(alloc, files, cdl, policy, cert))
+}
+
+/// What steps lead to.
+pub fn replayed<F: Files>(
+    alloc: Global,
+    cdl: &str,
+    policy: &str,
+    steps: &str,
+    files: &mut F,
+) -> Answer
+    ensures kept { KeepsFiles F.contents F.faults files.old files.new }
+    ensures fits { FitsTexts (IsRun (F.contents files.old) (F.faults files.old) (F.faults files.new) cdl.now policy.now steps.now) result }
+{
+    told(replay_texts(alloc, files, cdl, policy, steps))
+}
+
+/// What runs reach.
+pub fn audited<F: Files>(alloc: Global, cdl: &str, policy: &str, files: &mut F) -> Answer
+    ensures kept { KeepsFiles F.contents F.faults files.old files.new }
+    ensures fits { FitsTexts (IsAudited (F.contents files.old) (F.faults files.old) (F.faults files.new) cdl.now policy.now) result }
+{
+    told(audit_texts(alloc, files, cdl, policy))
+}
+
+/// The least certificate.
+pub fn certified<F: Files>(alloc: Global, cdl: &str, policy: &str, files: &mut F) -> Answer
+    ensures kept { KeepsFiles F.contents F.faults files.old files.new }
+    ensures fits { FitsTexts (IsCertified (F.contents files.old) (F.faults files.old) (F.faults files.new) cdl.now policy.now) result }
+{
+    told(certify_texts(alloc, files, cdl, policy))
+}
+
+/// The section table of an ELF file.
+pub fn tabled<F: Files>(alloc: Global, elf: &str, files: &mut F) -> Answer
+    ensures kept { KeepsFiles F.contents F.faults files.old files.new }
+    ensures fits { FitsTexts (IsTabled (F.contents files.old) (F.faults files.old) (F.faults files.new) elf.now) result }
+{
+    told(table_of_elf(alloc, files, elf))
+}
+
+/// Where objects go in memory.
+pub fn planned<F: Files>(alloc: Global, cdl: &str, untypeds: &str, files: &mut F) -> Answer
+    ensures kept { KeepsFiles F.contents F.faults files.old files.new }
+    ensures fits { FitsTexts (IsPlanned (F.contents files.old) (F.faults files.old) (F.faults files.new) cdl.now untypeds.now) result }
+{
+    told(plan_texts(alloc, files, cdl, untypeds))
+}
+
+/// The answer of a command over texts.
+fn told(found: Result<Outcome, InputError>) -> Answer
+    ensures { result ≡ told found }
+{
+    match found {
+        Ok(outcome) => Answer::Told { outcome },
+        Err(InputError::Fault { fault, file }) => Answer::Refused { file, fault },
+        Err(InputError::ReadFault { file }) => Answer::ReadFault { file },
+        Err(InputError::NoMemory) => Answer::NoMemory,
+    }
+}
