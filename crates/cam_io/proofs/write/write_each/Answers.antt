@@ -2,7 +2,7 @@ use Rattle.std.proofs.Common.{◌≡◌, ◌<◌, ℕ, List, [], sym, length, ge
 use Rattle.std.proofs.lemmas.Option.{get_or_from_slice_get, slice_get-get_or}
 use Rattle.cam_io.proofs.Lines.{lines_begin, lines_end, lines_fail, lines_step}
 use Rattle.cam_io.proofs.Sequence.{together_map, writes_exit}
-use Rattle.cam_io.proofs.write.write_parts.Goals as goal
+use Rattle.cam_io.proofs.write.write_each.Goals as goal
 
 -- a piece that is read with a default is itself the default
 read_is : (xs : List (Bor (List ℕ))) (i : ℕ) (d : Bor (List ℕ)) → i < length xs → get_or xs i d ≡ get_or xs i (get_or xs i d)

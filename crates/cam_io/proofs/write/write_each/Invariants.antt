@@ -1,7 +1,7 @@
 use Rattle.std.proofs.Common.{take}
 use Rattle.std.specs.List.{flat_map}
 use Rattle.cam_io.proofs.Lines.{Wrote}
-use Rattle.cam_io.proofs.write.write_parts.Given as goal
+use Rattle.cam_io.proofs.write.write_each.Given as goal
 
 abbrev pub invariant-loop-part : goal.invariant-loop-part
 invariant-loop-part g l =
