@@ -1,0 +1,216 @@
+-- What is answered for readings, in terms of what was found.
+use Rattle.std.proofs.Common.{◌≡◌, ◌∙◌, refl, sym, ap, subst, arith, ℕ, zero, suc, ◌+◌, ◌-◌, ◌<◌, ◌≤◌, get_or, Bool, cond, true, false, List, [], ◌∷◌, ◌++◌, length, map, Option, None, Some, Result, Ok, Err}
+use Rattle.std.proofs.lemmas.List.{length-map}
+use Rattle.std.proofs.lemmas.Option.{slice_get-get_or, slice_get_past}
+use Rattle.std.specs.List.{flat_map, slice_get, zip}
+use Rattle.std.specs.Option.{option_map, option_map_or}
+use Rattle.std.specs.Borrow.{Bor}
+use Rattle.std.specs.Prelude.{IfOk, string_bytes, unwrap_or}
+use Rattle.adl_ast.specs.declared.source.Source.{Source}
+use Rattle.adl_ast.specs.declared.source.SourceFile.{SourceFile}
+use Rattle.adl_meaning.proofs.Least.{noted-append, noted-none}
+use Rattle.adl_meaning.specs.Faults.{earlier, least, noted, precedes}
+use Rattle.adl_meaning.specs.declared.flat.Flat.{Flat}
+use Rattle.adl_meaning.specs.declared.flat.Leaf.{Leaf}
+use Rattle.cam_base.specs.declared.place.Fault.{Fault}
+use Rattle.cam_base.specs.declared.place.Place.{Place}
+use Rattle.cam_io.specs.Contents.{Contents}
+use Rattle.numbering.specs.Gather.{IsIn}
+use Rattle.program_sections.specs.declared.images.Images.{Images}
+use Rattle.sect_table.specs.Tables.{first_fault, image_of}
+use Rattle.sect_table.specs.declared.image.Image.{Image}
+use Rattle.source_images.proofs.Lines.{first_line_fault, least-append, least-line_faults}
+use Rattle.source_images.proofs.Merging.{IsMerged, merged_tables}
+use Rattle.source_images.specs.Archs.{first_arch}
+use Rattle.source_images.specs.Found.{AreFound, Found, absent, too_long, table, folder_of, table_name, table_names}
+use Rattle.source_images.specs.ImagesRead.{AreImagesRead}
+use Rattle.source_images.specs.TableFaults.{first_table_fault, line_faults, listed, missing, missing_at, name_of_file}
+use Rattle.source_images.specs.TableImages.{images_in}
+use Rattle.source_images.specs.Told.{AreTablesRead, IsAnswer, file_name, first_missing, first_of, first_read, tables_told, merged, missing_by, missing_reading, names_told, reading_in, reading_of, readings_of, table_at}
+use Rattle.source_images.specs.Types.{Name, type_number, types}
+use Rattle.source_images.specs.declared.error.ImagesError.{ImagesError}
+use Rattle.source_images.specs.declared.error.ImagesError.TheVariants as error
+use Rattle.source_images.specs.declared.tables.Table.{Table}
+use Rattle.source_images.specs.declared.reading.Reading.{Reading}
+use Rattle.text_lines.specs.Lines.{Line, lines}
+
+names_are : (folder : List ℕ) (ns : List Name) → map (λ (t : Name × List ℕ). t.0) (map (table_at folder) ns) ≡ ns
+names_are folder [] = refl
+names_are folder (n ∷ ns) = ap (λ z. n ∷ z) (names_are folder ns)
+
+files_are : (folder : List ℕ) (ns : List Name) → map (λ (t : Name × List ℕ). t.1) (map (table_at folder) ns) ≡ map (table_name folder) ns
+files_are folder [] = refl
+files_are folder (n ∷ ns) = ap (λ z. table_name folder n ∷ z) (files_are folder ns)
+
+-- ---- what is missing
+
+nothing_missing : (place : Place) (n : ℕ) (ls : List Line) (f : Option Fault) (i : Option Image) → missing_reading place (reading_in n ls f i) ≡ []
+nothing_missing place n ls (Some f) i = refl
+nothing_missing place n ls None None = refl
+nothing_missing place n ls None (Some i) = refl
+
+missing_one : (place : Place) (n : ℕ) (t : Name × List ℕ) (x : Found) → missing_reading place (reading_of n t x) ≡ missing place (t.1, x)
+missing_one place n t absent = refl
+missing_one place n t too_long = refl
+missing_one place n t (table bytes) = nothing_missing place n (lines bytes) (first_fault n bytes) (image_of t.0 bytes)
+
+missing_at_number : (place : Place) (n : ℕ) (ts : List (Name × List ℕ)) (all : List Found) (k : ℕ)
+    → option_map_or (missing_reading place) (slice_get (readings_of n ts all) k) [] ≡ option_map_or (missing place) (slice_get (zip (map (λ t. t.1) ts) all) k) []
+missing_at_number place n [] all k = refl
+missing_at_number place n (t ∷ ts) [] k = refl
+missing_at_number place n (t ∷ ts) (x ∷ all) zero = missing_one place n t x
+missing_at_number place n (t ∷ ts) (x ∷ all) (suc k) = missing_at_number place (n + 1) ts all k
+
+missing_same : (place : Place) (n : ℕ) (ts : List (Name × List ℕ)) (all : List Found) (number : Option ℕ) → missing_by (readings_of n ts all) place number ≡ missing_at (zip (map (λ t. t.1) ts) all) place number
+missing_same place n ts all None = refl
+missing_same place n ts all (Some k) = missing_at_number place n ts all k
+
+each_same : {X Y : Type 0} (f g : X → List Y) (xs : List X) → ((x : X) → f x ≡ g x) → flat_map f xs ≡ flat_map g xs
+each_same f g [] e = refl
+each_same f g (x ∷ xs) e = ap (λ z. z ++ flat_map f xs) (e x) ∙ ap (λ z. g x ++ z) (each_same f g xs e)
+
+-- ---- the first fault
+
+least_listed : (o : Option Fault) → least (listed o) ≡ o
+least_listed None = refl
+least_listed (Some f) = refl
+
+read_first : (ms : List Fault) (line : Option Fault) → noted (noted None ms) (listed line) ≡ earlier (least ms) line
+read_first ms line = sym (noted-append None ms (listed line)) ∙ noted-none (ms ++ listed line) ∙ least-append ms (listed line) ∙ ap (earlier (least ms)) (least_listed line)
+
+no_right : (a b : Option Fault) → earlier a b ≡ None → b ≡ None
+no_right None b e = e
+no_right (Some f) None e = refl
+no_right (Some f) (Some g) e = by_test (precedes g f) e
+  where
+    by_test : (p : Bool) → cond p (Some g) (Some f) ≡ None → Some g ≡ None
+    by_test true e = e
+    by_test false e = absurd (cc)
+
+module _ (root : List ℕ) (source : Source) (flat : Flat) (all : List Found) where
+  abbrev all_tables : List (Name × List ℕ)
+  all_tables = map (table_at (folder_of root)) (types source flat)
+
+  abbrev all_readings : List Reading
+  all_readings = readings_of (length source.files) all_tables all
+
+  abbrev missed : List Fault
+  missed = flat_map (λ (leaf : Leaf). missing_by all_readings leaf.place (type_number source flat leaf)) flat.leaves
+
+  abbrev missed_told : List Fault
+  missed_told = flat_map (λ (leaf : Leaf). missing_at (zip (table_names root source flat) all) leaf.place (type_number source flat leaf)) flat.leaves
+
+  missed_same : missed ≡ flat_map (λ (leaf : Leaf). missing_at (zip (table_names root source flat) all) leaf.place (type_number source flat leaf)) flat.leaves
+  missed_same =
+      each_same _ _ flat.leaves (λ leaf. missing_same leaf.place (length source.files) all_tables all (type_number source flat leaf)
+      ∙ ap (λ z. missing_at (zip z all) leaf.place (type_number source flat leaf)) (files_are (folder_of root) (types source flat)))
+
+  merged_here : length all_tables ≡ length all → IsMerged (merged all_readings) (first_line_fault (first_arch all) (length source.files) all) (images_in (map (λ (t : Name × List ℕ). t.0) all_tables) all)
+  merged_here e = merged_tables (length source.files) all_tables all e
+
+  first_same : length all_tables ≡ length all → first_read source flat all_readings ≡ first_table_fault root source flat all
+  first_same e =
+      read_first missed (merged all_readings).fault
+      ∙ ap (earlier (least missed)) ((merged_here e).faulty ∙ sym (least-line_faults (first_arch all) (length source.files) all))
+      ∙ ap (λ z. earlier (least z) (least (line_faults (first_arch all) (length source.files) all))) missed_same
+      ∙ sym (least-append missed_told (line_faults (first_arch all) (length source.files) all))
+
+  images_same : length all_tables ≡ length all → first_read source flat all_readings ≡ None → (merged all_readings).images ≡ images_in (types source flat) all
+  images_same e none =
+      let line : (merged all_readings).fault ≡ None = no_right (least missed) (merged all_readings).fault (sym (read_first missed (merged all_readings).fault) ∙ none) in
+      (merged_here e).sound (sym (merged_here e).faulty ∙ line) ∙ ap (λ z. images_in z all) (names_are (folder_of root) (types source flat))
+
+  names_same : (n : ℕ) → unwrap_or (slice_get (map (λ f. f.name) source.files ++ map (λ t. t.1) all_tables) n) [] ≡ name_of_file root source flat n
+  names_same n = ap (λ z. unwrap_or (slice_get (map (λ f. f.name) source.files ++ z) n) []) (files_are (folder_of root) (types source flat))
+
+  answer_told : (contents : Option Contents) (result : Result Images ImagesError) → AreFound contents (map (λ t. t.1) all_tables) all → IsAnswer source flat all_tables all_readings result → AreImagesRead contents root source flat result
+  answer_told contents result told answer = by_result result answer
+    where
+      told_names : AreFound contents (table_names root source flat) all
+      told_names = subst (λ z. AreFound contents z all) (files_are (folder_of root) (types source flat)) told
+
+      count : length all_tables ≡ length all
+      count = sym (told.count ∙ length-map all_tables (λ t. t.1))
+
+      by_result : (r : Result Images ImagesError) → IsAnswer source flat all_tables all_readings r → AreImagesRead contents root source flat r
+      by_result (Ok images) a = record {
+        found = all;
+        told = told_names;
+        clean = sym (first_same count) ∙ a.0;
+        images = a.1 ∙ ap (λ z. record { images = z; of_leaf = map (type_number source flat) flat.leaves }) (images_same count a.0);
+      }
+      by_result (Err (error.Fault fault file)) a = record { found = all; told = told_names; first = sym (first_same count) ∙ a.0; named = a.1 ∙ names_same fault.place.file }
+      by_result (Err (error.ReadFault file)) a = absurd a
+      by_result (Err error.NoMemory) a = tt
+
+-- the answer, where all tables are read
+pub answered : (contents : Option Contents) (root : List ℕ) (source : Source) (flat : Flat) (tables : List (Name × List ℕ)) (readings : List Reading) (result : Result Images ImagesError)
+    → tables ≡ map (table_at (folder_of root)) (types source flat)
+    → (all : List Found) × AreFound contents (map (λ t. t.1) tables) all × (readings ≡ readings_of (length source.files) tables all)
+    → IsAnswer source flat tables readings result → AreImagesRead contents root source flat result
+answered contents root source flat tables readings result is (all, told, read) answer =
+    answer_told root source flat all contents result (subst (λ z. AreFound contents (map (λ t. t.1) z) all) is told)
+    (subst (λ z. IsAnswer source flat z (readings_of (length source.files) z all) result) is (subst (λ z. IsAnswer source flat tables z result) read answer))
+
+-- the answer, where a table isn't read
+pub failed : (contents : Option Contents) (root : List ℕ) (source : Source) (flat : Flat) (tables : List (Name × List ℕ)) (file : List ℕ) → tables ≡ map (table_at (folder_of root)) (types source flat)
+    → IsIn file (map (λ t. t.1) tables) → AreImagesRead contents root source flat (Err (error.ReadFault file))
+failed contents root source flat tables file is among = subst (IsIn file) (ap (map (λ t. t.1)) is ∙ files_are (folder_of root) (types source flat)) among
+
+-- the answer, where reading failed
+pub err_answered : (contents : Option Contents) (root : List ℕ) (source : Source) (flat : Flat) (tables : List (Name × List ℕ)) (e : ImagesError) (result : Result Images ImagesError)
+    → tables ≡ map (table_at (folder_of root)) (types source flat) → AreTablesRead contents (length source.files) tables (Err e) → result ≡ Err e → AreImagesRead contents root source flat result
+err_answered contents root source flat tables e result is read same = subst (AreImagesRead contents root source flat) (sym same) (by_error e read)
+  where
+    by_error : (z : ImagesError) → AreTablesRead contents (length source.files) tables (Err z) → AreImagesRead contents root source flat (Err z)
+    by_error (error.Fault fault f) r = absurd r
+    by_error (error.ReadFault f) r = failed contents root source flat tables f is r
+    by_error error.NoMemory r = tt
+
+pub first_answer : (source : Source) (flat : Flat) (readings slice : List Reading) (missing line first : Option Fault) (fault : Fault) → slice ≡ readings → missing ≡ first_missing source flat slice → line ≡ (merged readings).fault
+    → first ≡ first_of missing line → first ≡ Some fault → first_read source flat readings ≡ Some fault
+first_answer source flat readings slice missing line first fault same a b c d =
+    ap (λ s. first_of (first_missing source flat s) (merged readings).fault) (sym same) ∙ ap (λ z. first_of z (merged readings).fault) (sym a) ∙ ap (first_of missing) (sym b) ∙ sym c ∙ d
+
+-- ---- names of files
+
+get_behind : {X : Type 0} (xs ys : List X) (n : ℕ) → length xs ≤ n → slice_get (xs ++ ys) n ≡ slice_get ys (n - length xs)
+get_behind [] ys n h = ap (slice_get ys) (omega arith)
+get_behind (x ∷ xs) ys zero h = absurd (omega arith)
+get_behind (x ∷ xs) ys (suc n) h = get_behind xs ys n (omega arith) ∙ ap (slice_get ys) (omega arith)
+
+told_at : (tables : List Table) (k : ℕ) → slice_get (map (λ (t : Name × List ℕ). t.1) (tables_told tables)) k ≡ option_map (λ (t : Table). string_bytes t.file) (slice_get tables k)
+told_at [] k = refl
+told_at (t ∷ tables) zero = refl
+told_at (t ∷ tables) (suc k) = told_at tables k
+
+-- behind the files of the source
+pub name_behind : (source : Source) (tables : List Table) (n : ℕ) → length source.files ≤ n
+    → file_name source (tables_told tables) n ≡ unwrap_or (option_map (λ (t : Table). string_bytes t.file) (slice_get tables (n - length source.files))) []
+name_behind source tables n h =
+    let count : length (map (λ (f : SourceFile). f.name) source.files) ≡ length source.files = length-map source.files (λ f. f.name) in
+    ap (λ o. unwrap_or o []) (get_behind (map (λ (f : SourceFile). f.name) source.files) (map (λ t. t.1) (tables_told tables)) n (omega (arith, count))
+    ∙ ap (λ k. slice_get (map (λ (t : Name × List ℕ). t.1) (tables_told tables)) (n - k)) count ∙ told_at tables (n - length source.files))
+
+-- of a table
+pub name_at_table : (source : Source) (tables : List Table) (n k : ℕ) (t : Table) → length source.files ≤ n → k ≡ n - length source.files → k < length tables → t ≡ get_or tables k t
+    → string_bytes t.file ≡ file_name source (tables_told tables) n
+name_at_table source tables n k t h is lt at =
+    sym (name_behind source tables n h ∙ ap (λ j. unwrap_or (option_map (λ (u : Table). string_bytes u.file) (slice_get tables j)) []) (sym is)
+    ∙ ap (λ o. unwrap_or (option_map (λ (u : Table). string_bytes u.file) o) []) (slice_get-get_or tables k t lt ∙ ap (λ z. Some z) (sym at)))
+
+-- past all tables
+pub name_past : (source : Source) (tables : List Table) (n k : ℕ) → length source.files ≤ n → k ≡ n - length source.files → length tables ≤ k → [] ≡ file_name source (tables_told tables) n
+name_past source tables n k h is past =
+    sym (name_behind source tables n h ∙ ap (λ j. unwrap_or (option_map (λ (u : Table). string_bytes u.file) (slice_get tables j)) []) (sym is)
+    ∙ ap (λ o. unwrap_or (option_map (λ (u : Table). string_bytes u.file) o) []) (slice_get_past tables k past))
+
+pub ok_as : {E : Type 0} (r : Result (List ℕ) E) (x y : List ℕ) → x ≡ y → IfOk r (λ z. z ≡ x) → IfOk r (λ z. z ≡ y)
+ok_as (Ok z) x y e h = h ∙ e
+ok_as (Err z) x y e h = tt
+
+-- the tables of all types
+pub tables_are : (root : List ℕ) (source : Source) (flat : Flat) (slice tables : List Table) (names borrowed : List (Bor Name)) (folder : List ℕ) → slice ≡ tables → tables_told tables ≡ map (table_at folder) (names_told borrowed)
+    → folder ≡ folder_of root → borrowed ≡ names → names_told names ≡ types source flat → tables_told slice ≡ map (table_at (folder_of root)) (types source flat)
+tables_are root source flat slice tables names borrowed folder a b c d e =
+    ap tables_told a ∙ b ∙ ap (λ f. map (table_at f) (names_told borrowed)) c ∙ ap (λ z. map (table_at (folder_of root)) (names_told z)) d ∙ ap (map (table_at (folder_of root))) e

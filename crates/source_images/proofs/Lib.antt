@@ -1,0 +1,9 @@
+pub mod Typing
+pub mod Lines
+pub mod Merging
+pub mod TableReads
+pub mod NameTexts
+pub mod Answering
+pub mod OneAnswer
+pub mod Soundness
+pub mod ImageNumbers

@@ -1,0 +1,7 @@
+use Rattle.std.proofs.Common.{sym, subst}
+use Rattle.program_sections.specs.Numbered.{AreNumbered}
+use Rattle.source_images.proofs.ImageNumbers.{images_numbered}
+use Rattle.source_images.proofs.laws.images_are_numbered.Goals as goal
+
+pub returns : goal.returns
+returns c contents root source flat images are within = subst (AreNumbered flat) (sym are.images) (images_numbered root source flat are.found are.told.count are.clean within)

@@ -1,0 +1,23 @@
+use Rattle.std.proofs.Common.{refl, sym, subst, arith}
+use Rattle.source_images.specs.Told.{tables_told}
+use Rattle.source_images.proofs.TableReads.{AreRead, err_is, keeps_twice, none_read, tables_failed, tables_more}
+use Rattle.source_images.proofs.reading.read_tables.Goals as goal
+
+pub loop-number-init : goal.loop-number-init
+loop-number-init g c = record {
+  kept = record { same = refl; later = λ name. omega arith };
+  read = subst (AreRead (g.F.Files.contents c.args.files.now) c.args.file (tables_told c.args.tables.now) 0) (sym c.new-readings.ensures) (none_read (g.F.Files.contents c.args.files.now) c.args.file (tables_told c.args.tables.now));
+}
+
+pub returns-in_err-read_table-clause-read : goal.returns-in_err-read_table-clause-read
+returns-in_err-read_table-clause-read g c =
+    tables_failed (g.F.Files.contents c.args.files.now) (g.F.Files.contents c.loop-number.files) c.args.file c.args.tables.now c.loop-number.number c.index-tables-number.result c.in_err-read_table.field-0.0 c.from_residual.result
+    c.loop-number-test.true c.index-tables-number.is c.in_err-read_table.ensures.read
+    (err_is c.from_residual.result c.in_err-read_table.field-0.0 c.from_residual.ensures.0 c.from_residual.ensures.1)
+
+pub loop-number-preserved : goal.loop-number-preserved
+loop-number-preserved g c = record {
+  kept = keeps_twice c.args.files.now c.loop-number.files c.read_table.new.files c.loop-number.invariant.kept c.in_ok-read_table.ensures.kept;
+  read = tables_more (g.F.Files.contents c.args.files.now) (g.F.Files.contents c.loop-number.files) c.args.file c.args.tables.now c.loop-number.number c.loop-number.readings c.push.new.self c.index-tables-number.result
+      c.in_ok-read_table.field-0 c.loop-number.invariant.kept.same c.loop-number.invariant.read c.loop-number-test.true c.index-tables-number.is c.in_ok-read_table.ensures.read c.in_ok-push.ensures.ok;
+}

@@ -1,0 +1,48 @@
+-- The section tables of a source: one for each type of its software, beside the root. What is found under their names is
+-- told where the contents of files are told.
+use Rattle.std.specs.Prelude.{◌≡◌, ◌++◌, ◌==◌, ℕ, Bool, nat_lt, if◌then◌else◌, List, [], ◌∷◌, map, length, codes, Option, Some, None, IfSome}
+use Rattle.std.specs.FinMap.{get}
+use Rattle.std.specs.List.{list_any}
+use Rattle.adl_ast.specs.declared.source.Source.{Source}
+use Rattle.adl_meaning.specs.declared.flat.Flat.{Flat}
+use Rattle.cam_io.specs.Contents.{Contents}
+use Rattle.source_images.specs.Types.{Name, types}
+
+-- the greatest length of a table, in bytes
+abbrev pub table_limit : ℕ
+table_limit = 1048576
+
+abbrev pub is_slash : ℕ → Bool
+is_slash b = b == 47
+
+-- the folder of a file: the bytes of its name up to the last slash
+abbrev pub folder_of : List ℕ → List ℕ
+folder_of [] = []
+folder_of (b ∷ bs) = if list_any is_slash (b ∷ bs) then b ∷ folder_of bs else []
+
+-- of a type, in a folder
+abbrev pub table_name : List ℕ → Name → List ℕ
+table_name folder name = folder ++ name ++ codes ".sections"
+
+-- those of a source whose root is the file of this name
+abbrev pub table_names : List ℕ → Source → Flat → List (List ℕ)
+table_names root source flat = map (table_name (folder_of root)) (types source flat)
+
+-- what is found under a table's name
+pub data Found : Type 0 where
+  absent : Found
+  too_long : Found
+  table : List ℕ → Found
+
+abbrev pub found_bytes : Option (List ℕ) → Found
+found_bytes None = absent
+found_bytes (Some bytes) = if nat_lt table_limit (length bytes) then too_long else table bytes
+
+-- what the contents have under each name
+abbrev pub found_in : Contents → List (List ℕ) → List Found
+found_in m names = map (λ name. found_bytes (get m name)) names
+
+-- something is found under each name: what the contents have, where they are told
+pub record AreFound (contents : Option Contents) (names : List (List ℕ)) (all : List Found) : Type 0 where
+  pub count : length all ≡ length names
+  pub told : IfSome contents (λ m. all ≡ found_in m names)

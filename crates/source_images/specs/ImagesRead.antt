@@ -1,0 +1,44 @@
+-- What reading the images of a source answers. In given contents there is one answer, aside from failed reads and want of
+-- memory (`answers_are_one` in src/laws.rt), so each comes exactly where it says.
+use Rattle.std.specs.Prelude.{◌≡◌, ℕ, Bool, true, false, List, Option, None, Some, Result, Ok, Err}
+use Rattle.adl_ast.specs.declared.source.Source.{Source}
+use Rattle.adl_meaning.specs.declared.flat.Flat.{Flat}
+use Rattle.cam_base.specs.declared.place.Fault.{Fault}
+use Rattle.cam_io.specs.Contents.{Contents}
+use Rattle.numbering.specs.Gather.{IsIn}
+use Rattle.program_sections.specs.declared.images.Images.{Images}
+use Rattle.source_images.specs.Found.{AreFound, Found, table_names}
+use Rattle.source_images.specs.TableFaults.{first_table_fault, name_of_file}
+use Rattle.source_images.specs.TableImages.{images_of}
+use Rattle.source_images.specs.declared.error.ImagesError.{ImagesError}
+use Rattle.source_images.specs.declared.error.ImagesError.TheVariants as error
+
+-- something is found under the name of each table, and in all of it no fault stands: these are the images
+pub record AreImagesOf (contents : Option Contents) (root : List ℕ) (source : Source) (flat : Flat) (answer : Images)
+    : Type 0 where
+  pub found : List Found
+  pub told : AreFound contents (table_names root source flat) found
+  pub clean : first_table_fault root source flat found ≡ None
+  pub images : answer ≡ images_of source flat found
+
+-- something is found under the name of each table, and in all of it this fault is the first; with the name of its file
+pub record IsFaultOf (contents : Option Contents) (root : List ℕ) (source : Source) (flat : Flat) (fault : Fault) (file : List ℕ)
+    : Type 0 where
+  pub found : List Found
+  pub told : AreFound contents (table_names root source flat) found
+  pub first : first_table_fault root source flat found ≡ Some fault
+  pub named : file ≡ name_of_file root source flat fault.place.file
+
+-- the answer for a source whose root is the file of this name
+abbrev pub AreImagesRead : Option Contents → List ℕ → Source → Flat → Result Images ImagesError → Type 0
+AreImagesRead contents root source flat (Ok images) = AreImagesOf contents root source flat images
+AreImagesRead contents root source flat (Err (error.Fault fault file)) = IsFaultOf contents root source flat fault file
+AreImagesRead contents root source flat (Err (error.ReadFault file)) = IsIn file (table_names root source flat)
+AreImagesRead contents root source flat (Err error.NoMemory) = Unit {0}
+
+-- the answers that may come in place of another
+abbrev pub yields : Result Images ImagesError → Bool
+yields (Ok images) = false
+yields (Err (error.Fault fault file)) = false
+yields (Err (error.ReadFault file)) = true
+yields (Err error.NoMemory) = true

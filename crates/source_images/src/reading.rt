@@ -1,0 +1,109 @@
+//! What is read of one table.
+
+ghost use Rattle.cam_io.specs.Causes.{Rose};
+ghost use Rattle.cam_io.specs.Reading.{KeepsFiles};
+ghost use Rattle.source_images.specs.Found.{table as given};
+ghost use Rattle.source_images.specs.Told.{AreTablesRead, IsTableRead, first_place, reading_of, table_told, tables_told};
+ghost use Rattle.std.specs.Prelude.{◌≡◌, ◌+◌, ◌<◌, ◌^◌, ℕ, length, List as Items, Err, IfOk};
+ghost use Rattle.text_lines.specs.Lines.{lines};
+
+use crate::ImagesError;
+use crate::tables::Table;
+use cam_base::{Fault, List, NoMemory, Place, Refused, Text};
+use cam_io::{Files, WholeError, read_whole};
+use sect_table::{Image, read_sections};
+use std::alloc::Global;
+use text_lines::Lines;
+
+/// The greatest length of a table, in bytes.
+const TABLE_LIMIT: u64 = 1_048_576;
+
+/// What is read of a table.
+#[derive(Drop)]
+pub enum Reading {
+    /// There is none under this name.
+    Absent(Text),
+    TooLong,
+    /// Its first fault.
+    Faulty(Fault),
+    /// Its image, and the place of its first line.
+    Sound(Image, Place),
+}
+
+/// The place of the first line of a table.
+fn first_place(file: u32, bytes: &[u8]) -> Place
+    ensures { result ≡ first_place file (lines bytes.now) }
+{
+    match Lines::of(bytes).next() {
+        Some(line) => Place {
+            file,
+            first: line.first,
+            end: line.first + line.text.len() as u64,
+        },
+        None => Place {
+            file,
+            first: 0,
+            end: 0,
+        },
+    }
+}
+
+/// What is read of these bytes, as the table of a type.
+fn reading_of(
+    alloc: Global,
+    file: u32,
+    table: &Table<'_>,
+    bytes: &[u8],
+) -> Result<Reading, NoMemory>
+    ensures { IfOk result (λ r. r ≡ reading_of file (table_told table.now) (given bytes.now)) }
+{
+    match read_sections(alloc, file, table.name, bytes) {
+        Ok(image) => Ok(Reading::Sound(image, first_place(file, bytes))),
+        Err(Refused::Fault(fault)) => Ok(Reading::Faulty(fault)),
+        Err(Refused::NoMemory) => Err(NoMemory),
+    }
+}
+
+/// Reads a table, whose file has this number.
+pub fn read_table<F: Files>(
+    alloc: Global,
+    files: &mut F,
+    file: u32,
+    table: &Table<'_>,
+) -> Result<Reading, ImagesError>
+    ensures kept { KeepsFiles F.contents F.faults files.old files.new }
+    ensures rose { (read : Items ℕ) → result ≡ Err (ImagesError.ReadFault read)
+        → Rose (F.faults files.old read) (F.faults files.new read) }
+    ensures read { IsTableRead (F.contents files.old) file (table_told table.now) result }
+{
+    match read_whole(alloc, files, table.file.as_str(), TABLE_LIMIT) {
+        Ok(bytes) => Ok(reading_of(alloc, file, table, bytes.as_slice())?),
+        Err(WholeError::Absent) => Ok(Reading::Absent(Text::new(alloc, table.file.as_bytes())?)),
+        Err(WholeError::TooLong) => Ok(Reading::TooLong),
+        Err(WholeError::ReadFault) => Err(ImagesError::ReadFault(Text::new(
+            alloc,
+            table.file.as_bytes(),
+        )?)),
+        Err(WholeError::NoMemory) => Err(ImagesError::NoMemory),
+    }
+}
+
+/// Reads tables in their order, each once, whose files have the numbers from this one on.
+pub fn read_tables<F: Files>(
+    alloc: Global,
+    files: &mut F,
+    file: u32,
+    tables: &[Table<'_>],
+) -> Result<List<Reading>, ImagesError>
+    requires { file + length tables.now < 2 ^ 32 }
+    ensures kept { KeepsFiles F.contents F.faults files.old files.new }
+    ensures rose { (read : Items ℕ) → result ≡ Err (ImagesError.ReadFault read)
+        → Rose (F.faults files.old read) (F.faults files.new read) }
+    ensures read { AreTablesRead (F.contents files.old) file (tables_told tables.now) result }
+{
+    let mut readings = List::new(alloc);
+    for (number, table) in tables.iter().enumerate() {
+        readings.push(read_table(alloc, files, file + number as u32, table)?)?;
+    }
+    Ok(readings)
+}
