@@ -1,0 +1,9 @@
+pub mod Bounds
+pub mod LeastBits
+pub mod LevelCounting
+pub mod Mapping
+pub mod Naming
+pub mod Objects
+pub mod Sizes
+pub mod Standing
+pub mod Turning

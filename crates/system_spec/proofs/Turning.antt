@@ -1,0 +1,13 @@
+-- Turns of loops over places
+use Rattle.std.proofs.Common.{◌≡◌, ◌<◌, ◌+◌, ℕ, List, ◌++◌, length, take, sym, ◌∙◌, ap, Some, append_assoc, add-one}
+use Rattle.std.specs.List.{slice_get}
+use Rattle.numbering.specs.Gather.{gather}
+use Rattle.numbering.proofs.Gathered.{gather_more}
+use Rattle.numbering.proofs.Lists.{at_place}
+
+-- where what comes from an element depends on its place alone
+pub place_turn : {X Y : Type 0} (f : ℕ → X → List Y) (xs : List X) (i : ℕ) (old mid new : List Y) → i < length xs → mid ≡ old ++ gather f (take i xs) → ((x : X) → new ≡ mid ++ f i x) → new ≡ old ++ gather f (take (i + 1) xs)
+place_turn {X} {Y} f xs i old mid new l e g =
+    let at : (x : X) × (slice_get xs i ≡ Some x) = at_place xs i l in
+    g at.0 ∙ ap (λ z. z ++ f i at.0) e ∙ append_assoc old (gather f (take i xs)) (f i at.0)
+    ∙ ap (λ z. old ++ z) (sym (ap (λ k. gather f (take k xs)) (add-one i) ∙ gather_more f xs i at.0 at.1))

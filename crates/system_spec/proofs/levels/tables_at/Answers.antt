@@ -1,0 +1,6 @@
+use Rattle.std.proofs.Common.{sym, subst}
+use Rattle.system_spec.specs.Few.{AreShown}
+use Rattle.system_spec.proofs.levels.tables_at.Goals as goal
+
+pub mappings-requires : goal.mappings-requires
+mappings-requires c = subst (AreShown c.args.frames) (sym c.pages_at.ensures) c.requires.shown

@@ -1,0 +1,12 @@
+use Rattle.std.proofs.Common.{◌∷◌, [], arith}
+use Rattle.adl_meaning.specs.declared.flat.Domain.{Domain}
+use Rattle.arch_policy.specs.declared.owner.Owner.TheVariants.{OfDomain}
+use Rattle.system_spec.specs.declared.part.What.TheVariants.{CNodeOf}
+use Rattle.system_spec.specs.Parts.{owned}
+use Rattle.system_spec.proofs.Turning.{place_turn}
+use Rattle.system_spec.proofs.listing.cnodes.Goals as goal
+
+pub loop-number-preserved : goal.loop-number-preserved
+loop-number-preserved c =
+    place_turn (λ d (x : Domain). owned (OfDomain d) (CNodeOf d) ∷ []) c.args.domains.now c.loop-number.number [] _ _
+    (omega arith) c.loop-number.invariant (λ x. c.in_ok-push.ensures.ok)

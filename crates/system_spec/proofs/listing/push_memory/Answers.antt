@@ -1,0 +1,20 @@
+use Rattle.std.proofs.Common.{length, ap, ◌∙◌, arith}
+use Rattle.system_spec.specs.Told.{told}
+use Rattle.system_spec.proofs.Bounds.{bounds}
+use Rattle.numbering.proofs.Gathered.{gather_ones}
+use Rattle.vspace_layout.specs.declared.spaces.FrameInfo.{FrameInfo}
+use Rattle.system_spec.specs.declared.part.What.TheVariants.{FrameOf}
+use Rattle.system_spec.specs.Parts.{frame_parts, owned}
+use Rattle.system_spec.specs.Tables.{frame_owner}
+use Rattle.system_spec.proofs.listing.push_memory.Goals as goal
+
+pub push_tables-requires : goal.push_tables-requires
+push_tables-requires c = omega (arith, ap length (c.as_slice.ensures ∙ c.in_ok-all.ensures), (bounds (told c.args.tables.now) c.requires).tables)
+
+pub push_numbered-requires : goal.push_numbered-requires
+push_numbered-requires c = omega (arith, ap length (c.as_slice-3.ensures ∙ c.in_ok-frames.ensures ∙ ap frame_parts c.as_slice-2.ensures), (bounds (told c.args.tables.now) c.requires).frames)
+
+pub frame_parts-requires : goal.frame_parts-requires
+frame_parts-requires c =
+    let frames = c.args.tables.now.spaces.now.frames in
+    omega (arith, ap length c.as_slice-2.ensures, (bounds (told c.args.tables.now) c.requires).frames, gather_ones (λ f (x : FrameInfo). owned (frame_owner x.owner) (FrameOf f)) frames)

@@ -1,0 +1,14 @@
+use Rattle.std.proofs.Common.{[], ◌++◌, length, ap, ◌∙◌, arith}
+use Rattle.system_spec.specs.Parts.{domain_tcbs, threads_of}
+use Rattle.system_spec.specs.Told.{told}
+use Rattle.system_spec.proofs.Turning.{place_turn}
+use Rattle.system_spec.proofs.listing.tcbs.Goals as goal
+
+pub push_threads-requires : goal.push_threads-requires
+push_threads-requires c = omega (arith, ap length c.threads_at.ensures, c.requires.threads c.loop-number.number)
+
+pub loop-number-preserved : goal.loop-number-preserved
+loop-number-preserved c =
+    let t = told c.args.tables.now in
+    place_turn (domain_tcbs t) t.flat.domains c.loop-number.number [] _ _
+    (omega arith) c.loop-number.invariant (λ x. c.in_ok-push_threads.ensures ∙ ap (λ z. c.loop-number.items ++ threads_of c.loop-number.number z) c.threads_at.ensures)

@@ -1,0 +1,15 @@
+pub mod Bits
+pub mod Few
+pub mod Grouped
+pub mod LevelNumbers
+pub mod Made
+pub mod MapLines
+pub mod MapText
+pub mod Names
+pub mod Objects
+pub mod Parts
+pub mod SpecLaws
+pub mod Tables
+pub mod Told
+pub use Rattle.numbering.specs.Gather
+pub use Rattle.cam_io.specs.Sinks

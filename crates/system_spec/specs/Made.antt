@@ -1,0 +1,27 @@
+-- The spec of a system and the labels of its objects, both from one list of parts, so that an object and its label can't fall
+-- apart.
+use Rattle.std.specs.Prelude.{ℕ, List, map}
+use Rattle.arch_policy.specs.Tables.{number_of}
+use Rattle.auth_kinds.specs.declared.object_labels.Labels.{Labels}
+use Rattle.cap_model.specs.declared.spec.Entry.{Entry}
+use Rattle.cap_model.specs.declared.spec.Spec.{Spec}
+use Rattle.system_spec.specs.declared.part.Part.{Part}
+use Rattle.system_spec.specs.Names.{name_of}
+use Rattle.system_spec.specs.Objects.{lines, object}
+use Rattle.system_spec.specs.Parts.{parts}
+use Rattle.system_spec.specs.Tables.{Tables, arch}
+
+abbrev pub part_name : Part → List ℕ
+part_name p = name_of p.series p.number
+
+abbrev pub entry : Tables → Part → Entry
+entry t p = record { name = part_name p; object = object t p.what }
+
+abbrev pub spec_of : Tables → Spec
+spec_of t = record { arch = arch t; entries = map (entry t) (parts t); irqs = lines t }
+
+abbrev pub part_label : Tables → Part → ℕ
+part_label t p = number_of t.numbers p.owner
+
+abbrev pub labels_of : Tables → Labels
+labels_of t = record { by_object = map (part_label t) (parts t) }
