@@ -6,3 +6,8 @@ pub mod TableImages
 pub mod ImagesRead
 pub mod Told
 pub use Rattle.numbering.specs.Gather
+pub use Rattle.cam_io.specs.Causes
+pub use Rattle.cam_io.specs.Contents
+pub use Rattle.cam_io.specs.Reading
+pub use Rattle.leaf_ends.specs.Within
+pub use Rattle.program_sections.specs.Numbered

@@ -1,15 +1,12 @@
 //! The images of a source.
 
-ghost use Rattle.adl_meaning.specs.Faults.{least};
 ghost use Rattle.cam_io.specs.Causes.{Rose};
 ghost use Rattle.cam_io.specs.Reading.{KeepsFiles};
 ghost use Rattle.source_images.specs.ImagesRead.{AreImagesRead};
-ghost use Rattle.source_images.specs.Found.{folder_of};
-ghost use Rattle.source_images.specs.TableFaults.{name_of_file};
-ghost use Rattle.source_images.specs.Told.{IsAnswer, first_of, file_name, table_at, tables_told};
+ghost use Rattle.source_images.specs.Told.{IsAnswer, first_of, file_name, tables_told};
 ghost use Rattle.source_images.specs.Types.{types};
 ghost use Rattle.name_tables.specs.ByName.{found};
-ghost use Rattle.std.specs.Prelude.{◌≡◌, ◌+◌, ◌<◌, ◌^◌, ℕ, length, map, position, List as Items, Option as Maybe, Err, IfOk};
+ghost use Rattle.std.specs.Prelude.{◌≡◌, ◌+◌, ◌<◌, ◌^◌, ℕ, length, position, List as Items, Err, IfOk};
 ghost use Rattle.std.specs.Str.{bytes_eq};
 
 use crate::ImagesError;
