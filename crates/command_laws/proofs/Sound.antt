@@ -1,0 +1,64 @@
+-- A yes of `check` is sound.
+use Rattle.std.proofs.Common.{◌≡◌, ℕ, Bool, true, false, cond, List, Option, Some, Ok, inl, inr, refl, subst}
+use Rattle.auth_kinds.specs.declared.edge.Edge.{Edge}
+use Rattle.auth_kinds.specs.declared.policy.Policy.{Policy}
+use Rattle.cam_io.specs.Contents.{Contents}
+use Rattle.cap_model.specs.declared.spec.Spec.{Spec}
+use Rattle.capdl_text.specs.Texts.{Text}
+use Rattle.cert_check.proofs.Keeps.{runs_stay}
+use Rattle.cert_check.specs.Valid.{Stays}
+use Rattle.cert_check.specs.Verdicts.{Judged}
+use Rattle.cert_check.specs.declared.verdict.Verdict.{Verdict}
+use Rattle.cert_check.specs.declared.verdict.Verdict.TheVariants.{Yes, No}
+use Rattle.policy_text.specs.PolicyTexts.{IsPolicyText}
+use Rattle.text_commands.specs.Commands.{IsChecked, IsPolicy, IsSystem}
+use Rattle.text_commands.specs.Inputs.{Holds}
+use Rattle.text_commands.specs.Outcomes.{is_well, is_yes}
+use Rattle.text_commands.specs.declared.outcome.Outcome.{Outcome}
+use Rattle.camkes_tool.specs.Answers.{FitsTexts, status_of}
+use Rattle.camkes_tool.specs.declared.answer.Answer.{Answer}
+use Rattle.camkes_tool.specs.declared.answer.Answer.TheVariants as answers
+use Rattle.command_laws.specs.Safe.{IsSafe}
+
+yes_stays : (spec : Spec) (labels : List ℕ) (policy cert : List Edge) (verdict : Verdict) → is_yes verdict ≡ true → Judged spec labels policy cert verdict → Stays spec labels policy
+yes_stays spec labels policy cert Yes well judged = λ l a m reaches differ. runs_stay spec labels policy cert judged l a m reaches differ
+yes_stays spec labels policy cert (No rule have lack) well judged = absurd cc
+
+module _ (contents : Option Contents) (old new : List ℕ → ℕ) (cdl policy cert : List ℕ) where
+  system_read : (spec : Spec) → IsSystem contents old new cdl (Ok spec) → (bytes : List ℕ) × Holds contents cdl bytes × Text bytes spec
+  system_read spec (inl (bytes, input, told)) = (bytes, input.1, told)
+  system_read spec (inr (e, input, is)) = absurd cc
+
+  policy_read : (allowed : Policy) → IsPolicy contents old new policy (Ok allowed) → (bytes : List ℕ) × Holds contents policy bytes × IsPolicyText bytes allowed
+  policy_read allowed (inl (bytes, input, told)) = (bytes, input.1, told)
+  policy_read allowed (inr (e, input, is)) = absurd cc
+
+  checked_safe : (outcome : Outcome) → is_well outcome ≡ true → IsChecked contents old new cdl policy cert (Ok outcome) → IsSafe contents cdl policy
+  checked_safe outcome well (inl (spec, system, inl (allowed, text, inl (edges, read, inl (labels, labelled, said))))) = record {
+    spec = spec;
+    allowed = allowed;
+    labels = labels;
+    capdl = system_read spec system;
+    text = policy_read allowed text;
+    labelled = labelled;
+    stays = yes_stays spec labels.by_object allowed.edges edges said.0 (subst (λ o. is_well o ≡ true) said.1 well) said.2;
+  }
+  checked_safe outcome well (inl (spec, system, inl (allowed, text, inl (edges, read, inr (e, labelled, is))))) = absurd cc
+  checked_safe outcome well (inl (spec, system, inl (allowed, text, inr (e, read, is)))) = absurd cc
+  checked_safe outcome well (inl (spec, system, inr (e, text, is))) = absurd cc
+  checked_safe outcome well (inr (e, system, is)) = absurd cc
+
+  well_of : (b : Bool) → ◌≡◌ {A = ℕ} 0 (cond b 0 3) → b ≡ true
+  well_of true e = refl
+  well_of false e = absurd cc
+
+  pub answered_safe : (answer : Answer) → FitsTexts (IsChecked contents old new cdl policy cert) answer → 0 ≡ status_of answer → IsSafe contents cdl policy
+  answered_safe (answers.Told outcome) fits e = checked_safe outcome (well_of (is_well outcome) e) fits
+  answered_safe (answers.Refused file fault) fits e = absurd cc
+  answered_safe (answers.ReadFault file) fits e = absurd cc
+  answered_safe answers.NoMemory fits e = absurd cc
+  answered_safe (answers.Compiled name spec) fits e = absurd fits
+  answered_safe (answers.Listed listing) fits e = absurd fits
+  answered_safe (answers.Explained answer) fits e = absurd fits
+  answered_safe (answers.Faulted file fault) fits e = absurd fits
+  answered_safe answers.Usage fits e = absurd fits
