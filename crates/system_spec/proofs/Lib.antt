@@ -1,9 +1,17 @@
 pub mod Bounds
+pub mod Copying
+pub mod Domains
+pub mod Finding
 pub mod LeastBits
 pub mod LevelCounting
+pub mod MapPlaces
 pub mod Mapping
 pub mod Naming
 pub mod Objects
+pub mod Placing
 pub mod Sizes
+pub mod Sorting
 pub mod Standing
+pub mod There
+pub mod Threads
 pub mod Turning

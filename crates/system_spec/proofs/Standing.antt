@@ -37,7 +37,7 @@ in_section (r ∷ ss) (suc n) s j y a e =
     get_behind r (flat_map (λ z. z) ss) (length (flat_map (λ z. z) (take n ss)) + j) (length (r ++ flat_map (λ z. z) (take n ss)) + j) (omega (arith, long)) ∙ ih
 
 -- and every part is one of a section
-from_sections : {X : Type 0} (ss : List (List X)) (m : ℕ) (y : X) → slice_get (flat_map (λ z. z) ss) m ≡ Some y → (n : ℕ) × (s : List X) × (j : ℕ) × (slice_get ss n ≡ Some s) × (slice_get s j ≡ Some y)
+pub from_sections : {X : Type 0} (ss : List (List X)) (m : ℕ) (y : X) → slice_get (flat_map (λ z. z) ss) m ≡ Some y → (n : ℕ) × (s : List X) × (j : ℕ) × (slice_get ss n ≡ Some s) × (slice_get s j ≡ Some y)
 from_sections [] m y e = cc
 from_sections {X} (r ∷ ss) m y e = elim (split_get r (flat_map (λ z. z) ss) m y e) [
   | inl h ↦ (0, r, m, refl, h)
@@ -67,7 +67,7 @@ tcbs_stand t j x e =
     let at : j ≡ before (domain_tcbs t) t.flat.domains g.place + g.number = g.sum in
     ap (λ (z : Owned). place t z.what) (sym o.2) ∙ omega (arith, at)
 
-single : {X : Type 0} (x y : X) (i : ℕ) → slice_get (x ∷ []) i ≡ Some y → (i ≡ 0) × (x ≡ y)
+pub single : {X : Type 0} (x y : X) (i : ℕ) → slice_get (x ∷ []) i ≡ Some y → (i ≡ 0) × (x ≡ y)
 single x y zero e = (refl, cc)
 single x y (suc i) e = cc
 
@@ -139,7 +139,7 @@ frames_stand t j x e =
 
 -- ---- all
 
-same : {X : Type 0} (x y : X) → Some x ≡ Some y → y ≡ x
+pub same : {X : Type 0} (x y : X) → Some x ≡ Some y → y ≡ x
 same x y e = cc
 
 -- part j of section n stands at its place

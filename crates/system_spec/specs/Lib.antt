@@ -1,6 +1,8 @@
 pub mod Bits
+pub mod Buildable
 pub mod Few
 pub mod Grouped
+pub mod Landmarks
 pub mod LevelNumbers
 pub mod Made
 pub mod MapLines
@@ -8,8 +10,12 @@ pub mod MapText
 pub mod Names
 pub mod Objects
 pub mod Parts
+pub mod Places
+pub mod Ready
 pub mod SpecLaws
 pub mod Tables
+pub mod TablesFrom
 pub mod Told
+pub mod Windowed
 pub use Rattle.numbering.specs.Gather
 pub use Rattle.cam_io.specs.Sinks

@@ -27,6 +27,10 @@ thread_line t d i x = ThreadLine (place t (ThreadOf d i)) x.leaf x.end
 abbrev pub domain_threads : Tables → ℕ → List MapLine
 domain_threads t d = gather (λ i x. thread_line t d i x ∷ []) (threads_at t d)
 
+-- of threads of which the first stands at this place
+abbrev pub thread_lines_from : ℕ → List ThreadPlace → List MapLine
+thread_lines_from first threads = gather (λ i x. ThreadLine (first + i) x.leaf x.end ∷ []) threads
+
 abbrev pub thread_lines : Tables → List MapLine
 thread_lines t = gather (λ d x. domain_threads t d) t.flat.domains
 

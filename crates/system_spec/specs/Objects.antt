@@ -76,11 +76,15 @@ settled_badge settled k n = option_map_or (λ s. s.badge) (setting_of settled k 
 abbrev pub badge_at : Tables → ℕ → ℕ → ℕ
 badge_at t k n = option_map_or (λ e. role_badge e.1.role (settled_badge t.settled k n)) (end_of t.flat k n) 0
 
+-- of a use, whose lock stands at this place
+abbrev pub use_cap_at : Tables → ℕ → SlotUse → Cap
+use_cap_at t at (OfEnd k m) = cap (place t (joint t k)) (rights_at t k m) (badge_at t k m)
+use_cap_at t at (Handler k m) = cap (place t (IrqOf k)) NONE 0
+use_cap_at t at (OwnLock leaf m) = cap at RW 0
+
 -- of use n of domain d
 abbrev pub use_cap : Tables → ℕ → ℕ → SlotUse → Cap
-use_cap t d n (OfEnd k m) = cap (place t (joint t k)) (rights_at t k m) (badge_at t k m)
-use_cap t d n (Handler k m) = cap (place t (IrqOf k)) NONE 0
-use_cap t d n (OwnLock leaf m) = cap (place t (LockOf d n)) RW 0
+use_cap t d n u = use_cap_at t (place t (LockOf d n)) u
 
 abbrev pub slots_at : Tables → ℕ → List (ℕ × Cap)
 slots_at t d = gather (λ n u. (n + 1, use_cap t d n u) ∷ []) (uses_at t d)
@@ -141,5 +145,8 @@ abbrev pub by_number : List (ℕ × ℕ) → List (ℕ × ℕ)
 by_number [] = []
 by_number (x ∷ xs) = put_line x (by_number xs)
 
+abbrev pub line : Tables → ℕ → FlatConnection → List (ℕ × ℕ)
+line t k c = line_by t k c c.connector
+
 abbrev pub lines : Tables → List (ℕ × ℕ)
-lines t = by_number (gather (λ k c. line_by t k c c.connector) t.flat.connections)
+lines t = by_number (gather (line t) t.flat.connections)

@@ -156,11 +156,12 @@ fn one_more(counts: LevelCounts, level: Level) -> LevelCounts
     more
 }
 
-/// Puts the page tables behind the others, each level numbered for itself.
-pub fn push_tables(tables: &[PageTable], parts: &mut List<Part>) -> Result<(), NoMemory>
+/// The parts of the page tables, each level numbered for itself.
+pub fn table_parts(alloc: Global, tables: &[PageTable]) -> Result<List<Part>, NoMemory>
     requires { length tables.now < 2 ^ 32 }
-    ensures { OnOk result (parts.new ≡ parts.old ++ table_parts tables.now) }
+    ensures { IfOk result (λ parts. parts ≡ table_parts tables.now) }
 {
+    let mut parts = List::new(alloc);
     let mut counts = no_tables();
     for table in tables {
         parts.push(Part {
@@ -171,5 +172,5 @@ pub fn push_tables(tables: &[PageTable], parts: &mut List<Part>) -> Result<(), N
         })?;
         counts = one_more(counts, table.level);
     }
-    Ok(())
+    Ok(parts)
 }

@@ -1,15 +1,15 @@
 //! The parts of a system, section by section.
 
 ghost use Rattle.numbering.specs.Gather.{gather};
-ghost use Rattle.std.specs.Prelude.{◌≡◌, ◌≤◌, ◌<◌, ◌^◌, ◌++◌, ◌∷◌, [], length, IfOk, OnOk};
+ghost use Rattle.std.specs.Prelude.{◌≡◌, ◌≤◌, ◌<◌, ◌^◌, ◌++◌, ◌∷◌, [], length, take, IfOk, OnOk};
 ghost use Rattle.system_spec.specs.Few.{AreFew};
 ghost use Rattle.system_spec.specs.Grouped.{holders, joints, memory};
 ghost use Rattle.system_spec.specs.Parts.{cnodes, tcbs, threads_of, lock, locks, endpoint, endpoint_by, endpoints};
 ghost use Rattle.system_spec.specs.Parts.{notification, notification_by, notifications, irq, irq_by, irqs};
-ghost use Rattle.system_spec.specs.Parts.{frame_parts, numbered, parts};
+ghost use Rattle.system_spec.specs.Parts.{frame_parts, numbered, sections as all_sections, together};
 ghost use Rattle.system_spec.specs.Told.{told};
 
-use crate::levels::{all_tables, push_tables};
+use crate::levels::{all_tables, table_parts};
 use crate::tables::{Tables, device_of, frame_owner, threads_at, uses_at};
 use crate::{Owned, Part, Series, What};
 use adl_meaning::{Connector, Domain, FlatConnection};
@@ -19,11 +19,12 @@ use cspace_layout::SlotUse;
 use std::alloc::Global;
 use vspace_layout::{FrameInfo, ThreadPlace};
 
-/// Puts these behind the others, numbered from 0.
-fn push_numbered(series: Series, items: &[Owned], parts: &mut List<Part>) -> Result<(), NoMemory>
+/// These, numbered from 0.
+fn numbered(alloc: Global, series: Series, items: &[Owned]) -> Result<List<Part>, NoMemory>
     requires { length items.now < 2 ^ 32 }
-    ensures { OnOk result (parts.new ≡ parts.old ++ numbered series items.now) }
+    ensures { IfOk result (λ parts. parts ≡ numbered series items.now) }
 {
+    let mut parts = List::new(alloc);
     for (number, item) in items.iter().enumerate() {
         parts.push(Part {
             series,
@@ -32,7 +33,7 @@ fn push_numbered(series: Series, items: &[Owned], parts: &mut List<Part>) -> Res
             what: item.what,
         })?;
     }
-    Ok(())
+    Ok(parts)
 }
 
 /// A CNode for each domain.
@@ -138,15 +139,16 @@ fn push_endpoint(
     }
 }
 
-/// Puts the endpoints of all connections behind the others.
-fn push_endpoints(connections: &[FlatConnection], parts: &mut List<Part>) -> Result<(), NoMemory>
+/// The endpoints of all connections.
+fn endpoints(alloc: Global, connections: &[FlatConnection]) -> Result<List<Part>, NoMemory>
     requires { length connections.now < 2 ^ 32 }
-    ensures { OnOk result (parts.new ≡ parts.old ++ gather endpoint connections.now) }
+    ensures { IfOk result (λ parts. parts ≡ gather endpoint connections.now) }
 {
+    let mut parts = List::new(alloc);
     for (number, connection) in connections.iter().enumerate() {
-        push_endpoint(number as u32, connection.connector, parts)?;
+        push_endpoint(number as u32, connection.connector, &mut parts)?;
     }
-    Ok(())
+    Ok(parts)
 }
 
 fn push_notification(
@@ -167,18 +169,16 @@ fn push_notification(
     }
 }
 
-/// Puts the notifications of all connections behind the others.
-fn push_notifications(
-    connections: &[FlatConnection],
-    parts: &mut List<Part>,
-) -> Result<(), NoMemory>
+/// The notifications of all connections.
+fn notifications(alloc: Global, connections: &[FlatConnection]) -> Result<List<Part>, NoMemory>
     requires { length connections.now < 2 ^ 32 }
-    ensures { OnOk result (parts.new ≡ parts.old ++ gather notification connections.now) }
+    ensures { IfOk result (λ parts. parts ≡ gather notification connections.now) }
 {
+    let mut parts = List::new(alloc);
     for (number, connection) in connections.iter().enumerate() {
-        push_notification(number as u32, connection.connector, parts)?;
+        push_notification(number as u32, connection.connector, &mut parts)?;
     }
-    Ok(())
+    Ok(parts)
 }
 
 fn push_irq(
@@ -224,53 +224,87 @@ fn frame_parts(alloc: Global, frames: &[FrameInfo]) -> Result<List<Owned>, NoMem
     Ok(items)
 }
 
-/// Puts CNodes and threads behind the others.
-fn push_holders(alloc: Global, tables: &Tables<'_>, parts: &mut List<Part>) -> Result<(), NoMemory>
+/// Puts the sections of CNodes and threads behind the others.
+fn push_holders(
+    alloc: Global,
+    tables: &Tables<'_>,
+    sections: &mut List<List<Part>>,
+) -> Result<(), NoMemory>
     requires { AreFew (told tables.now) }
-    ensures { OnOk result (parts.new ≡ parts.old ++ holders (told tables.now)) }
+    ensures { OnOk result (sections.new ≡ sections.old ++ holders (told tables.now)) }
 {
     let cnodes = cnodes(alloc, tables.flat.domains.as_slice())?;
-    push_numbered(Series::CNode, cnodes.as_slice(), parts)?;
+    sections.push(numbered(alloc, Series::CNode, cnodes.as_slice())?)?;
     let tcbs = tcbs(alloc, tables)?;
-    push_numbered(Series::Tcb, tcbs.as_slice(), parts)
+    sections.push(numbered(alloc, Series::Tcb, tcbs.as_slice())?)
 }
 
-/// Puts endpoints, notifications, locks and interrupts behind the others.
-fn push_joints(alloc: Global, tables: &Tables<'_>, parts: &mut List<Part>) -> Result<(), NoMemory>
+/// Puts the sections of endpoints, notifications, locks and interrupts behind the others.
+fn push_joints(
+    alloc: Global,
+    tables: &Tables<'_>,
+    sections: &mut List<List<Part>>,
+) -> Result<(), NoMemory>
     requires { AreFew (told tables.now) }
-    ensures { OnOk result (parts.new ≡ parts.old ++ joints (told tables.now)) }
+    ensures { OnOk result (sections.new ≡ sections.old ++ joints (told tables.now)) }
 {
-    push_endpoints(tables.flat.connections.as_slice(), parts)?;
-    push_notifications(tables.flat.connections.as_slice(), parts)?;
+    let connections = tables.flat.connections.as_slice();
+    sections.push(endpoints(alloc, connections)?)?;
+    sections.push(notifications(alloc, connections)?)?;
     let locks = locks(alloc, tables)?;
-    push_numbered(Series::Lock, locks.as_slice(), parts)?;
-    let irqs = irqs(alloc, tables.flat.connections.as_slice())?;
-    push_numbered(Series::Irq, irqs.as_slice(), parts)
+    sections.push(numbered(alloc, Series::Lock, locks.as_slice())?)?;
+    let irqs = irqs(alloc, connections)?;
+    sections.push(numbered(alloc, Series::Irq, irqs.as_slice())?)
 }
 
-/// Puts page tables and frames behind the others.
-fn push_memory(alloc: Global, tables: &Tables<'_>, parts: &mut List<Part>) -> Result<(), NoMemory>
+/// Puts the sections of page tables and frames behind the others.
+fn push_memory(
+    alloc: Global,
+    tables: &Tables<'_>,
+    sections: &mut List<List<Part>>,
+) -> Result<(), NoMemory>
     requires { AreFew (told tables.now) }
-    ensures { OnOk result (parts.new ≡ parts.old ++ memory (told tables.now)) }
+    ensures { OnOk result (sections.new ≡ sections.old ++ memory (told tables.now)) }
 {
     let all = all_tables(alloc, tables)?;
-    push_tables(all.as_slice(), parts)?;
+    sections.push(table_parts(alloc, all.as_slice())?)?;
     let frames = frame_parts(alloc, tables.spaces.frames.as_slice())?;
-    push_numbered(Series::Frame, frames.as_slice(), parts)
+    sections.push(numbered(alloc, Series::Frame, frames.as_slice())?)
 }
 
-/// The parts of a system, in the order of its objects: `specs/Parts.antt`. Takes time linear in what the tables list.
-///
-/// # Errors
-///
-/// Want of memory.
-pub fn parts(alloc: Global, tables: &Tables<'_>) -> Result<List<Part>, NoMemory>
+/// The sections of the parts of a system, in order: `specs/Parts.antt`. Takes time linear in what the tables list.
+pub fn sections(alloc: Global, tables: &Tables<'_>) -> Result<List<List<Part>>, NoMemory>
     requires { AreFew (told tables.now) }
-    ensures { IfOk result (λ list. list ≡ parts (told tables.now)) }
+    ensures { IfOk result (λ list. list ≡ all_sections (told tables.now)) }
 {
-    let mut list = List::new(alloc);
-    push_holders(alloc, tables, &mut list)?;
-    push_joints(alloc, tables, &mut list)?;
-    push_memory(alloc, tables, &mut list)?;
-    Ok(list)
+    let mut sections = List::new(alloc);
+    push_holders(alloc, tables, &mut sections)?;
+    push_joints(alloc, tables, &mut sections)?;
+    push_memory(alloc, tables, &mut sections)?;
+    Ok(sections)
+}
+
+/// The parts of sections, one section behind another.
+pub fn together(alloc: Global, sections: &[List<Part>]) -> Result<List<Part>, NoMemory>
+    ensures { IfOk result (λ list. list ≡ together sections.now) }
+{
+    let mut parts = List::new(alloc);
+    for section in sections {
+        parts.extend(section.as_slice())?;
+    }
+    Ok(parts)
+}
+
+/// Where the section of this number begins. Takes no memory.
+pub fn first_of(sections: &[List<Part>], number: usize) -> u32
+    requires few { length (together sections.now) < 2 ^ 32 }
+    requires within { number ≤ length sections.now }
+    ensures { result ≡ length (together (take number sections.now)) }
+{
+    let mut first = 0;
+    let before = &sections[..number];
+    for section in before {
+        first += section.len() as u32;
+    }
+    first
 }

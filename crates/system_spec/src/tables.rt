@@ -1,7 +1,7 @@
 ghost use Rattle.std.specs.Prelude.{◌≡◌};
 ghost use Rattle.system_spec.specs.Tables.{component_name, device_end, device_of, device_place, entry_in};
 ghost use Rattle.system_spec.specs.Tables.{frame_owner, leaf_entry};
-ghost use Rattle.system_spec.specs.Tables.{leaf_name, name_of_item, pages_at, priority, threads_at, uses_at};
+ghost use Rattle.system_spec.specs.Tables.{leaf_name, name_of_item, pages_at, priority, threads_at, uses_at, windows_at};
 ghost use Rattle.system_spec.specs.Told.{told};
 
 use adl_ast::{Item, Source};
@@ -10,7 +10,7 @@ use arch_policy::{LabelNumbers, Owner};
 use conn_rules::EndRule;
 use cspace_layout::{SlotUse, Slots};
 use program_sections::Images;
-use vspace_layout::{Owner as FrameOwner, Page, Spaces, ThreadPlace};
+use vspace_layout::{Owner as FrameOwner, Page, Spaces, ThreadPlace, Window};
 
 /// What the objects of a system are made from: the source, its flat, settled system, the images of its programs, the slots
 /// of its domains, its spaces, and the numbers of its labels.
@@ -55,8 +55,18 @@ pub fn threads_at<'a>(tables: &'a Tables<'_>, domain: u32) -> &'a [ThreadPlace]
     }
 }
 
-/// The place of the first end at which the connector table has a device.
-fn device_place(connector: Connector, ends: &[FlatEnd]) -> Option<usize>
+/// The windows of a domain. Takes no memory.
+pub fn windows_at<'a>(tables: &'a Tables<'_>, domain: u32) -> &'a [Window]
+    ensures { result.now ≡ windows_at (told tables.now) domain }
+{
+    match tables.spaces.spaces.as_slice().get(domain as usize) {
+        Some(space) => space.windows.as_slice(),
+        None => &[],
+    }
+}
+
+/// The place of the first end at which the connector table has a device. Takes no memory.
+pub fn device_place(connector: Connector, ends: &[FlatEnd]) -> Option<usize>
     ensures { result ≡ device_place connector ends.now }
 {
     ends.iter()

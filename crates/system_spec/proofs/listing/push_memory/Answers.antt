@@ -8,11 +8,11 @@ use Rattle.system_spec.specs.Parts.{frame_parts, owned}
 use Rattle.system_spec.specs.Tables.{frame_owner}
 use Rattle.system_spec.proofs.listing.push_memory.Goals as goal
 
-pub push_tables-requires : goal.push_tables-requires
-push_tables-requires c = omega (arith, ap length (c.as_slice.ensures ∙ c.in_ok-all.ensures), (bounds (told c.args.tables.now) c.requires).tables)
+pub table_parts-requires : goal.table_parts-requires
+table_parts-requires c = omega (arith, ap length (c.as_slice.ensures ∙ c.in_ok-all.ensures), (bounds (told c.args.tables.now) c.requires).tables)
 
-pub push_numbered-requires : goal.push_numbered-requires
-push_numbered-requires c = omega (arith, ap length (c.as_slice-3.ensures ∙ c.in_ok-frames.ensures ∙ ap frame_parts c.as_slice-2.ensures), (bounds (told c.args.tables.now) c.requires).frames)
+pub numbered-requires : goal.numbered-requires
+numbered-requires c = omega (arith, ap length (c.as_slice-3.ensures ∙ c.in_ok-frames.ensures ∙ ap frame_parts c.as_slice-2.ensures), (bounds (told c.args.tables.now) c.requires).frames)
 
 pub frame_parts-requires : goal.frame_parts-requires
 frame_parts-requires c =

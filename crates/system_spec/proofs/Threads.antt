@@ -1,0 +1,32 @@
+-- A thread of the parts that it is made of
+use Rattle.std.proofs.Common.{◌≡◌, ◌+◌, ℕ, List, Option, Some, None, refl, ◌∙◌, ap, arith}
+use Rattle.std.specs.Option.{option_map}
+use Rattle.cap_model.specs.declared.cap.Cap.{Cap}
+use Rattle.cap_model.specs.declared.object.Tcb.{Tcb}
+use Rattle.conn_rules.specs.Row.{RW}
+use Rattle.vspace_layout.specs.declared.spaces.ThreadPlace.{ThreadPlace}
+use Rattle.system_spec.specs.declared.part.What.TheVariants.{CNodeOf, FrameOf, TableOf}
+use Rattle.system_spec.specs.Objects.{buffer_cap, cap, tcb}
+use Rattle.system_spec.specs.Parts.{place}
+use Rattle.system_spec.specs.Tables.{Tables, leaf_entry, leaf_name, priority}
+
+pub cnode_place : (t : Tables) (d : ℕ) → d ≡ place t (CNodeOf d)
+cnode_place t d = omega arith
+
+pub frames_same : (t : Tables) (first : ℕ) → first ≡ place t (FrameOf 0) → (o : Option ℕ) → option_map (λ f. cap (first + f) RW 0) o ≡ option_map (λ f. cap (place t (FrameOf f)) RW 0) o
+frames_same t first e None = refl
+frames_same t first e (Some f) = let at : first + f ≡ place t (FrameOf f) = omega (arith, e) in ap (λ z. Some (cap z RW 0)) at
+
+abbrev pub tcb_of : ThreadPlace → ℕ → ℕ → List ℕ → ℕ → ℕ → Option Cap → Tcb
+tcb_of x ip prio elf cspace vspace buffer = record { addr = x.buffer; ip = ip; sp = x.sp; prio = prio; elf = Some elf; cspace = Some cspace; vspace = Some vspace; buffer = buffer }
+
+pub tcb_is : (t : Tables) (d : ℕ) (x : ThreadPlace) (ip prio root : ℕ) (elf : List ℕ) (buffer : Option Cap) → ip ≡ leaf_entry t x.leaf → prio ≡ priority t x.leaf → elf ≡ leaf_name t x.leaf → root ≡ place t (TableOf d 0)
+    → buffer ≡ buffer_cap t d x.buffer → tcb_of x ip prio elf d root buffer ≡ tcb t d x
+tcb_is t d x ip prio root elf buffer a b c r f =
+    let P = place t (CNodeOf d) in
+    ap (λ z. tcb_of x z prio elf d root buffer) a
+    ∙ ap (λ z. tcb_of x (leaf_entry t x.leaf) z elf d root buffer) b
+    ∙ ap (λ z. tcb_of x (leaf_entry t x.leaf) (priority t x.leaf) z d root buffer) c
+    ∙ ap (λ z. tcb_of x (leaf_entry t x.leaf) (priority t x.leaf) (leaf_name t x.leaf) z root buffer) (cnode_place t d)
+    ∙ ap (λ z. tcb_of x (leaf_entry t x.leaf) (priority t x.leaf) (leaf_name t x.leaf) P z buffer) r
+    ∙ ap (λ z. tcb_of x (leaf_entry t x.leaf) (priority t x.leaf) (leaf_name t x.leaf) P (place t (TableOf d 0)) z) f

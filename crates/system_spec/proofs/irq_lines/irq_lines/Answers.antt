@@ -1,0 +1,12 @@
+use Rattle.std.proofs.Common.{◌∙◌, ap, rules}
+use Rattle.std.proofs.lemmas.List.Sorted.{answers_always, IsNonDecreasingBy-from_sort}
+use Rattle.system_spec.specs.Objects.{by_number}
+use Rattle.system_spec.proofs.Sorting.{by_number_from_sort}
+use Rattle.system_spec.proofs.irq_lines.irq_lines.Goals as goal
+
+pub returns : goal.returns
+returns c =
+    let keys = answers_always _ _ _ (λ f a r next called. search rules) in
+    c.from_vec.ensures
+    ∙ by_number_from_sort _ _ (IsNonDecreasingBy-from_sort (λ x. x.0) _ (c.in_ok-sort_by_key.ensures.sorted (λ x. x.0) keys)) (c.sort_by_key.ensures.stable (λ x. x.0) keys)
+    ∙ ap by_number (c.into_vec-lines.ensures ∙ c.in_ok-list.ensures)

@@ -1,0 +1,13 @@
+use Rattle.std.proofs.Common.{◌≡◌, ◌+◌, ◌∷◌, [], length, take}
+use Rattle.adl_meaning.specs.declared.flat.Domain.{Domain}
+use Rattle.numbering.specs.Gather.{gather}
+use Rattle.system_spec.specs.Landmarks.{space_tables}
+use Rattle.system_spec.specs.Parts.{domain_tables, first_of}
+use Rattle.system_spec.specs.Told.{told}
+use Rattle.system_spec.proofs.landmarks.all_spaces.Given as goal
+
+abbrev pub invariant-loop-number : goal.invariant-loop-number
+invariant-loop-number l = record {
+  so_far : l.spaces ≡ gather (λ d (x : Domain). space_tables (told l.tables) d ∷ []) (take l.number l.tables.flat.now.domains);
+  next : l.next ≡ first_of (told l.tables) 6 + length (gather (domain_tables (told l.tables)) (take l.number l.tables.flat.now.domains));
+}

@@ -1,0 +1,7 @@
+use Rattle.std.proofs.Common.{◌≡◌, length, take}
+use Rattle.numbering.specs.Gather.{gather}
+use Rattle.system_spec.specs.Parts.{lock}
+use Rattle.system_spec.proofs.landmarks.lock_count.Given as goal
+
+abbrev pub invariant-loop-used : goal.invariant-loop-used
+invariant-loop-used l = l.count ≡ length (gather (lock 0) (take l.used-index l.uses))

@@ -1,0 +1,26 @@
+use Rattle.std.proofs.Common.{◌∷◌, [], ◌++◌, ◌∙◌, get_or, take, refl, sym, ap}
+use Rattle.arch_policy.specs.declared.owner.Owner.TheVariants.{OfDomain}
+use Rattle.cap_model.specs.declared.level.Level.TheVariants.{Global}
+use Rattle.numbering.proofs.Gathered.{gather_turn, read_twice}
+use Rattle.system_spec.specs.declared.part.PageTable.{PageTable}
+use Rattle.system_spec.specs.declared.part.What.TheVariants.{TableOf}
+use Rattle.system_spec.specs.LevelNumbers.{counted, one_more}
+use Rattle.system_spec.specs.Names.{level_series}
+use Rattle.system_spec.specs.Parts.{part, table_part}
+use Rattle.system_spec.proofs.LevelCounting.{counted_in, counts_more}
+use Rattle.system_spec.proofs.levels.table_parts.Goals as goal
+
+pub loop-table-preserved : goal.loop-table-preserved
+loop-table-preserved c =
+    let all = c.args.tables.now in
+    let i = c.loop-table.table-index in
+    let none : PageTable = record { domain = 0; place = 0; level = Global } in
+    let x = get_or all i none in
+    let below = c.loop-table-test.true in
+    let number = c.counted.ensures ∙ ap (λ z. counted z x.level) c.loop-table.invariant.counts ∙ counted_in (take i all) x.level in
+    record {
+      so_far = gather_turn (λ m (y : PageTable). table_part all m y ∷ []) all _ i x [] _ _ refl below (read_twice _ _ _ below) c.loop-table.invariant.so_far
+          (c.in_ok-push.ensures.ok ∙ ap (λ z. c.loop-table.parts ++ part z c.counted.result (OfDomain x.domain) (TableOf x.domain x.place) ∷ []) c.of_level.ensures
+          ∙ ap (λ z. c.loop-table.parts ++ part (level_series x.level) z (OfDomain x.domain) (TableOf x.domain x.place) ∷ []) number);
+      counts = c.one_more-counts.ensures ∙ ap (λ z. one_more z x.level) c.loop-table.invariant.counts ∙ sym (counts_more all i x x.level below (read_twice _ _ _ below) refl);
+    }

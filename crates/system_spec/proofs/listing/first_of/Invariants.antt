@@ -1,0 +1,7 @@
+use Rattle.std.proofs.Common.{◌≡◌, List, length, take}
+use Rattle.numbering.specs.Gather.{gather}
+use Rattle.system_spec.specs.declared.part.Part.{Part}
+use Rattle.system_spec.proofs.listing.first_of.Given as goal
+
+abbrev pub invariant-loop-section : goal.invariant-loop-section
+invariant-loop-section l = l.first ≡ length (gather (λ k (x : List Part). x) (take l.section-index l.before))

@@ -1,0 +1,9 @@
+use Rattle.std.proofs.Common.{[], refl}
+use Rattle.numbering.proofs.Gathered.{gather_turn}
+use Rattle.system_spec.specs.Parts.{notification}
+use Rattle.system_spec.proofs.listing.notifications.Goals as goal
+
+pub loop-number-preserved : goal.loop-number-preserved
+loop-number-preserved c =
+    gather_turn notification c.args.connections.now _ c.loop-number.number _ [] _ _ refl
+    c.loop-number-test.true c.index-connections-number.is c.loop-number.invariant c.in_ok-push_notification.ensures

@@ -1,7 +1,0 @@
-use Rattle.std.proofs.Common.{◌≡◌, ◌++◌, take}
-use Rattle.numbering.specs.Gather.{gather}
-use Rattle.system_spec.specs.Parts.{notification}
-use Rattle.system_spec.proofs.listing.push_notifications.Given as goal
-
-abbrev pub invariant-loop-number : goal.invariant-loop-number
-invariant-loop-number l = l.parts ≡ l.fn.parts ++ gather notification (take l.number l.connections)

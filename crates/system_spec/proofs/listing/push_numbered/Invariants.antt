@@ -1,8 +1,0 @@
-use Rattle.std.proofs.Common.{◌≡◌, ◌∷◌, [], ◌++◌, take}
-use Rattle.numbering.specs.Gather.{gather}
-use Rattle.system_spec.specs.declared.part.Owned.{Owned}
-use Rattle.system_spec.specs.Parts.{part}
-use Rattle.system_spec.proofs.listing.push_numbered.Given as goal
-
-abbrev pub invariant-loop-number : goal.invariant-loop-number
-invariant-loop-number l = l.parts ≡ l.fn.parts ++ gather (λ n (x : Owned). part l.series n x.owner x.what ∷ []) (take l.number l.items)

@@ -1,0 +1,34 @@
+use Rattle.std.proofs.Common.{◌+◌, ◌∙◌, List, ap, map, arith, sym, subst}
+use Rattle.std.specs.Option.{option_map}
+use Rattle.conn_rules.specs.Row.{RW}
+use Rattle.numbering.specs.Gather.{IsIn}
+use Rattle.page_tables.specs.Runs.{Rises}
+use Rattle.vspace_layout.specs.declared.spaces.Page.{Page}
+use Rattle.system_spec.specs.Landmarks.{root_in}
+use Rattle.system_spec.specs.Objects.{cap, frame_at}
+use Rattle.system_spec.specs.Tables.{pages_at}
+use Rattle.system_spec.specs.Told.{told}
+use Rattle.system_spec.proofs.Bounds.{ends}
+use Rattle.system_spec.proofs.Domains.{root_read}
+use Rattle.system_spec.proofs.Threads.{frames_same, tcb_is}
+use Rattle.system_spec.proofs.tcbs.tcb.Goals as goal
+
+pub buffer_cap-requires-clause-rise : goal.buffer_cap-requires-clause-rise
+buffer_cap-requires-clause-rise c = subst (λ (z : List Page). Rises (map (λ p. p.vaddr) z)) (sym c.pages_at.ensures) (c.requires.buildable.rise c.args.domain)
+
+pub buffer_cap-requires-clause-shown : goal.buffer_cap-requires-clause-shown
+buffer_cap-requires-clause-shown c = λ p i.
+    let t = told c.args.tables.now in
+    let one = c.requires.buildable.shown c.args.domain p (subst (λ (z : List Page). IsIn p z) c.pages_at.ensures i) in
+    let all = (ends t c.requires.buildable.few).frames in
+    omega (arith, c.requires.marks.frames, one, all)
+
+pub returns : goal.returns
+returns c =
+    let t = told c.args.tables.now in
+    let d = c.args.domain in
+    let x = c.args.thread.now in
+    let m = c.args.marks.now in
+    let root = c.root_in.ensures ∙ ap (λ z. root_in z d) c.as_slice.ensures ∙ root_read t m.spaces d c.requires.marks.spaces c.requires.there in
+    let buffer = c.buffer_cap.ensures ∙ ap (λ z. option_map (λ f. cap (m.first_frame + f) RW 0) (frame_at z x.buffer)) c.pages_at.ensures ∙ frames_same t m.first_frame c.requires.marks.frames (frame_at (pages_at t d) x.buffer) in
+    tcb_is t d x c.leaf_entry.result c.priority.result c.root_in.result _ _ c.leaf_entry.ensures c.priority.ensures (c.in_ok-new.ensures ∙ c.leaf_name.ensures) root buffer

@@ -1,0 +1,53 @@
+-- Where the objects of domains stand, and which parts there are.
+use Rattle.std.specs.Prelude.{◌≡◌, ◌<◌, ℕ, List, [], ◌∷◌, length, slice_get}
+use Rattle.std.specs.Option.{option_map_or}
+use Rattle.cap_model.specs.declared.object.Object.{Object}
+use Rattle.cap_model.specs.declared.object.Object.TheVariants.{Endpoint, Pages}
+use Rattle.numbering.specs.Gather.{gather}
+use Rattle.system_spec.specs.declared.landmarks.Landmarks.{Landmarks}
+use Rattle.system_spec.specs.declared.landmarks.SpaceTables.{SpaceTables}
+use Rattle.system_spec.specs.declared.part.What.{What}
+use Rattle.system_spec.specs.declared.part.What.TheVariants.{CNodeOf, ThreadOf, EndpointOf, NotificationOf, LockOf, IrqOf, TableOf, FrameOf}
+use Rattle.system_spec.specs.Parts.{place, tables_at}
+use Rattle.system_spec.specs.Places.{ArePlaces}
+use Rattle.system_spec.specs.Tables.{Tables}
+
+-- the place of the first lock of each domain
+abbrev pub first_locks : Tables → List ℕ
+first_locks t = gather (λ d x. place t (LockOf d 0) ∷ []) t.flat.domains
+
+-- the page tables of a domain, and the place of the first of them
+abbrev pub space_tables : Tables → ℕ → SpaceTables
+space_tables t d = record { first = place t (TableOf d 0); objects = tables_at t (place t (TableOf d 0)) (place t (FrameOf 0)) d }
+
+abbrev pub all_spaces : Tables → List SpaceTables
+all_spaces t = gather (λ d x. space_tables t d ∷ []) t.flat.domains
+
+pub record AreLandmarks (t : Tables) (m : Landmarks) : Type 0 where
+  pub connections : ArePlaces t m.connections
+  pub locks : m.locks ≡ first_locks t
+  pub spaces : m.spaces ≡ all_spaces t
+  pub frames : m.first_frame ≡ place t (FrameOf 0)
+
+-- of a list of them by domain
+abbrev pub root_in : List SpaceTables → ℕ → ℕ
+root_in spaces d = option_map_or (λ s. s.first) (slice_get spaces d) 0
+
+abbrev pub objects_in : List SpaceTables → ℕ → List Object
+objects_in spaces d = option_map_or (λ s. s.objects) (slice_get spaces d) []
+
+-- the part's domain or connection is one that there is
+abbrev pub IsThere : Tables → What → Type 0
+IsThere t (CNodeOf d) = d < length t.flat.domains
+IsThere t (ThreadOf d i) = d < length t.flat.domains
+IsThere t (EndpointOf k) = Unit {0}
+IsThere t (NotificationOf k) = Unit {0}
+IsThere t (LockOf d n) = Unit {0}
+IsThere t (IrqOf k) = k < length t.flat.connections
+IsThere t (TableOf d j) = d < length t.flat.domains
+IsThere t (FrameOf f) = Unit {0}
+
+-- a page table, or the object that stands for none
+abbrev pub copied : Object → Object
+copied (Pages level slots) = Pages level slots
+copied _ = Endpoint

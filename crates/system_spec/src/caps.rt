@@ -1,0 +1,114 @@
+//! The capabilities of CNodes.
+
+ghost use Rattle.conn_rules.specs.Row.{RW};
+ghost use Rattle.numbering.specs.Gather.{gather};
+ghost use Rattle.std.specs.Prelude.{◌≡◌, ◌+◌, ◌<◌, ◌^◌, length, slice_index, IfOk};
+ghost use Rattle.system_spec.specs.Objects.{joint, slots_at, use_cap_at};
+ghost use Rattle.system_spec.specs.Parts.{lock, place};
+ghost use Rattle.system_spec.specs.Places.{ArePlaces, holds_lock, one};
+ghost use Rattle.system_spec.specs.Ready.{AreNamed, NamesOneOf};
+ghost use Rattle.system_spec.specs.Tables.{uses_at};
+ghost use Rattle.system_spec.specs.declared.part.What.TheVariants.{LockOf};
+ghost use Rattle.system_spec.specs.Told.{told};
+
+use crate::ends::{badge_at, rights_at};
+use crate::places::Places;
+use crate::tables::Tables;
+use adl_meaning::Connector;
+use cam_base::{List, NoMemory};
+use cap_model::{Cap, Rights};
+use cspace_layout::SlotUse;
+use std::alloc::Global;
+
+/// The rights on a lock.
+pub fn lock_rights() -> Rights
+    ensures { result ≡ RW }
+{
+    Rights {
+        read: true,
+        write: true,
+        ..Rights::none()
+    }
+}
+
+/// The number at a place, 0 where there is none.
+pub fn number_at(numbers: &[u32], place: u32) -> u32
+    ensures { result ≡ slice_index numbers.now place }
+{
+    match numbers.get(place as usize) {
+        Some(number) => *number,
+        None => 0,
+    }
+}
+
+/// The place of what the capability of an end of a connection leads to.
+fn joint_place(tables: &Tables<'_>, places: &Places, connection: u32) -> u32
+    requires places { ArePlaces (told tables.now) places.now }
+    requires named { connection < length tables.now.flat.now.connections }
+    ensures { result ≡ place (told tables.now) (joint (told tables.now) connection) }
+{
+    match tables.flat.connections.as_slice()[connection as usize].connector {
+        Connector::Rpc => number_at(places.endpoints.as_slice(), connection),
+        _ => number_at(places.notifications.as_slice(), connection),
+    }
+}
+
+/// The capability of a use, where its lock would stand at this place.
+pub fn use_cap(tables: &Tables<'_>, places: &Places, lock: u32, used: SlotUse) -> Cap
+    requires places { ArePlaces (told tables.now) places.now }
+    requires named { NamesOneOf (length tables.now.flat.now.connections) used }
+    ensures { result ≡ use_cap_at (told tables.now) lock used }
+{
+    match used {
+        SlotUse::OfEnd(connection, number) => Cap {
+            object: joint_place(tables, places, connection),
+            rights: rights_at(tables, connection, number),
+            badge: badge_at(tables, connection, number),
+        },
+        SlotUse::Handler(connection, _) => Cap {
+            object: number_at(places.irqs.as_slice(), connection),
+            rights: Rights::none(),
+            badge: 0,
+        },
+        SlotUse::OwnLock(_, _) => Cap {
+            object: lock,
+            rights: lock_rights(),
+            badge: 0,
+        },
+    }
+}
+
+/// How many locks a use is.
+pub fn lock_number(used: SlotUse) -> u32
+    ensures { result ≡ one (holds_lock used) }
+{
+    match used {
+        SlotUse::OwnLock(_, _) => 1,
+        _ => 0,
+    }
+}
+
+/// The capabilities of a domain with these uses, by slot, whose first lock stands at this place.
+pub fn caps_of(
+    alloc: Global,
+    tables: &Tables<'_>,
+    places: &Places,
+    domain: u32,
+    first_lock: u32,
+    uses: &[SlotUse],
+) -> Result<List<(u64, Cap)>, NoMemory>
+    requires places { ArePlaces (told tables.now) places.now }
+    requires uses { uses.now ≡ uses_at (told tables.now) domain }
+    requires named { AreNamed (length tables.now.flat.now.connections) uses.now }
+    requires first { first_lock ≡ place (told tables.now) (LockOf domain 0) }
+    requires few { first_lock + length (gather (lock domain) uses.now) < 2 ^ 32 }
+    ensures { IfOk result (λ caps. caps ≡ slots_at (told tables.now) domain) }
+{
+    let mut caps = List::new(alloc);
+    let mut lock = first_lock;
+    for (n, used) in uses.iter().enumerate() {
+        caps.push((n as u64 + 1, use_cap(tables, places, lock, *used)))?;
+        lock += lock_number(*used);
+    }
+    Ok(caps)
+}

@@ -1,0 +1,123 @@
+//! Where the objects stand that others name.
+
+ghost use Rattle.numbering.specs.Gather.{gather};
+ghost use Rattle.std.specs.Prelude.{◌≡◌, ◌<◌, ◌≤◌, ◌^◌, length, take, IfOk};
+ghost use Rattle.system_spec.specs.Buildable.{IsBuildable};
+ghost use Rattle.system_spec.specs.Landmarks.{AreLandmarks, all_spaces, first_locks};
+ghost use Rattle.system_spec.specs.Parts.{first_of, lock, sections as all_sections, together};
+ghost use Rattle.system_spec.specs.Told.{told};
+
+use crate::Part;
+use crate::caps::lock_number;
+use crate::levels::tables_at;
+use crate::listing::first_of;
+use crate::places::{Firsts, Places, places_of};
+use crate::tables::{Tables, uses_at};
+use cam_base::{List, NoMemory};
+use cap_model::Object;
+use cspace_layout::SlotUse;
+use std::alloc::Global;
+
+/// The page tables of a domain, and the place of the first of them.
+#[derive(Drop)]
+pub struct SpaceTables {
+    pub first: u32,
+    pub objects: List<Object>,
+}
+
+/// The places of the objects of connections, of the first lock of each domain, of the page tables of each domain with what
+/// they hold, and of the first frame.
+#[derive(Drop)]
+pub struct Landmarks {
+    pub connections: Places,
+    pub locks: List<u32>,
+    pub spaces: List<SpaceTables>,
+    pub first_frame: u32,
+}
+
+/// How many of these uses are locks.
+fn lock_count(uses: &[SlotUse]) -> u32
+    requires { length uses.now < 2 ^ 32 }
+    ensures { result ≡ length (gather (lock 0) uses.now) }
+{
+    let mut count = 0;
+    for used in uses {
+        count += lock_number(*used);
+    }
+    count
+}
+
+/// The place of the first lock of each domain, where the first of all stands at this place.
+fn first_locks(alloc: Global, tables: &Tables<'_>, first: u32) -> Result<List<u32>, NoMemory>
+    requires buildable { IsBuildable (told tables.now) }
+    requires first { first ≡ first_of (told tables.now) 4 }
+    ensures { IfOk result (λ places. places ≡ first_locks (told tables.now)) }
+{
+    let mut places = List::new(alloc);
+    let mut next = first;
+    for number in 0..tables.flat.domains.len() as u32 {
+        places.push(next)?;
+        next += lock_count(uses_at(tables, number));
+    }
+    Ok(places)
+}
+
+/// The page tables of each domain, where the first of all and frame 0 stand at these places.
+fn all_spaces(
+    alloc: Global,
+    tables: &Tables<'_>,
+    first: u32,
+    frames: u32,
+) -> Result<List<SpaceTables>, NoMemory>
+    requires buildable { IsBuildable (told tables.now) }
+    requires first { first ≡ first_of (told tables.now) 6 }
+    requires frames { frames ≡ first_of (told tables.now) 7 }
+    ensures { IfOk result (λ spaces. spaces ≡ all_spaces (told tables.now)) }
+{
+    let mut spaces = List::new(alloc);
+    let mut next = first;
+    for number in 0..tables.flat.domains.len() as u32 {
+        let objects = tables_at(alloc, tables, next, frames, number)?;
+        let count = objects.len() as u32;
+        spaces.push(SpaceTables {
+            first: next,
+            objects,
+        })?;
+        next += count;
+    }
+    Ok(spaces)
+}
+
+/// Where the sections of the objects of connections begin.
+pub fn firsts(sections: &[List<Part>]) -> Firsts
+    requires few { length (together sections.now) < 2 ^ 32 }
+    requires all { 8 ≤ length sections.now }
+    ensures endpoint { result.endpoint ≡ length (together (take 2 sections.now)) }
+    ensures notification { result.notification ≡ length (together (take 3 sections.now)) }
+    ensures irq { result.irq ≡ length (together (take 5 sections.now)) }
+{
+    Firsts {
+        endpoint: first_of(sections, 2),
+        notification: first_of(sections, 3),
+        irq: first_of(sections, 5),
+    }
+}
+
+/// Where the objects of a system with these sections stand.
+pub fn landmarks_of(
+    alloc: Global,
+    tables: &Tables<'_>,
+    sections: &[List<Part>],
+) -> Result<Landmarks, NoMemory>
+    requires buildable { IsBuildable (told tables.now) }
+    requires sections { sections.now ≡ all_sections (told tables.now) }
+    ensures { IfOk result (λ marks. AreLandmarks (told tables.now) marks) }
+{
+    let first_frame = first_of(sections, 7);
+    Ok(Landmarks {
+        connections: places_of(alloc, tables, firsts(sections))?,
+        locks: first_locks(alloc, tables, first_of(sections, 4))?,
+        spaces: all_spaces(alloc, tables, first_of(sections, 6), first_frame)?,
+        first_frame,
+    })
+}

@@ -1,0 +1,140 @@
+//! The object of each part.
+
+ghost use Rattle.cap_model.specs.declared.object.Object.TheVariants.{Endpoint, Irq};
+ghost use Rattle.std.specs.Prelude.{◌≡◌, ◌<◌, Some, length, slice_index, slice_index_or, IfOk};
+ghost use Rattle.system_spec.specs.Buildable.{IsBuildable};
+ghost use Rattle.system_spec.specs.Landmarks.{AreLandmarks, IsThere, copied, objects_in};
+ghost use Rattle.system_spec.specs.Objects.{frame_object, object};
+ghost use Rattle.system_spec.specs.Told.{told};
+ghost use Rattle.system_spec.specs.declared.part.What.TheVariants.{CNodeOf, FrameOf};
+
+use crate::What;
+use crate::bits::bits_for;
+use crate::caps::{caps_of, number_at};
+use crate::landmarks::{Landmarks, SpaceTables};
+use crate::tables::{Tables, uses_at};
+use crate::tcbs::thread_object;
+use cam_base::{List, NoMemory};
+use cap_model::{Fill, Object};
+use std::alloc::Global;
+use vspace_layout::FrameInfo;
+
+fn cnode(
+    alloc: Global,
+    tables: &Tables<'_>,
+    marks: &Landmarks,
+    domain: u32,
+) -> Result<Object, NoMemory>
+    requires buildable { IsBuildable (told tables.now) }
+    requires marks { AreLandmarks (told tables.now) marks.now }
+    requires there { domain < length tables.now.flat.now.domains }
+    ensures { IfOk result (λ made. made ≡ object (told tables.now) (CNodeOf domain)) }
+{
+    let uses = uses_at(tables, domain);
+    let first_lock = number_at(marks.locks.as_slice(), domain);
+    let slots = caps_of(alloc, tables, &marks.connections, domain, first_lock, uses)?;
+    Ok(Object::CNode {
+        bits: bits_for(uses.len()),
+        slots,
+    })
+}
+
+fn irq(marks: &Landmarks, connection: u32) -> Object
+    ensures { result ≡ Irq (Some (slice_index marks.now.connections.notifications connection)) }
+{
+    Object::Irq {
+        notification: Some(number_at(marks.connections.notifications.as_slice(), connection)),
+    }
+}
+
+/// A copy of a page table.
+fn copied(alloc: Global, table: &Object) -> Result<Object, NoMemory>
+    ensures { IfOk result (λ made. made ≡ copied table.now) }
+{
+    match table {
+        Object::Pages { level, slots } => Ok(Object::Pages {
+            level: *level,
+            slots: List::from_slice(alloc, slots.as_slice())?,
+        }),
+        _ => Ok(Object::Endpoint),
+    }
+}
+
+/// The page tables of a domain.
+fn objects_in(spaces: &[SpaceTables], domain: u32) -> &[Object]
+    ensures { result.now ≡ objects_in spaces.now domain }
+{
+    match spaces.get(domain as usize) {
+        Some(space) => space.objects.as_slice(),
+        None => &[],
+    }
+}
+
+fn page_table(
+    alloc: Global,
+    spaces: &[SpaceTables],
+    domain: u32,
+    place: u32,
+) -> Result<Object, NoMemory>
+    ensures { IfOk result (λ made. made ≡ copied (slice_index_or (objects_in spaces.now domain) place Endpoint)) }
+{
+    match objects_in(spaces, domain).get(place as usize) {
+        Some(table) => copied(alloc, table),
+        None => Ok(Object::Endpoint),
+    }
+}
+
+fn copied_fill(alloc: Global, fill: &Option<Fill>) -> Result<Option<Fill>, NoMemory>
+    ensures { IfOk result (λ made. made ≡ fill.now) }
+{
+    match fill {
+        Some(fill) => Ok(Some(Fill {
+            offset: fill.offset,
+            length: fill.length,
+            file: fill.file.copy(alloc)?,
+            at: fill.at,
+        })),
+        None => Ok(None),
+    }
+}
+
+fn frame_of(alloc: Global, frame: &FrameInfo) -> Result<Object, NoMemory>
+    ensures { IfOk result (λ made. made ≡ frame_object frame.now) }
+{
+    Ok(Object::Frame {
+        paddr: frame.paddr,
+        fill: copied_fill(alloc, &frame.fill)?,
+    })
+}
+
+fn frame_at(alloc: Global, tables: &Tables<'_>, number: u32) -> Result<Object, NoMemory>
+    ensures { IfOk result (λ made. made ≡ object (told tables.now) (FrameOf number)) }
+{
+    match tables.spaces.frames.as_slice().get(number as usize) {
+        Some(found) => frame_of(alloc, found),
+        None => Ok(Object::Endpoint),
+    }
+}
+
+/// The object of a part: `specs/Objects.antt`.
+pub fn object(
+    alloc: Global,
+    tables: &Tables<'_>,
+    marks: &Landmarks,
+    what: What,
+) -> Result<Object, NoMemory>
+    requires buildable { IsBuildable (told tables.now) }
+    requires marks { AreLandmarks (told tables.now) marks.now }
+    requires there { IsThere (told tables.now) what }
+    ensures { IfOk result (λ made. made ≡ object (told tables.now) what) }
+{
+    match what {
+        What::CNodeOf(domain) => cnode(alloc, tables, marks, domain),
+        What::ThreadOf(domain, number) => thread_object(alloc, tables, marks, domain, number),
+        What::EndpointOf(_) => Ok(Object::Endpoint),
+        What::NotificationOf(_) | What::LockOf(_, _) => Ok(Object::Notification),
+        What::IrqOf(connection) => Ok(irq(marks, connection)),
+        What::TableOf(domain, place) => page_table(alloc, marks.spaces.as_slice(), domain, place),
+        What::FrameOf(number) => frame_at(alloc, tables, number),
+    }
+}

@@ -1,0 +1,113 @@
+//! Where the objects of connections stand.
+
+ghost use Rattle.numbering.specs.Gather.{before, gather};
+ghost use Rattle.std.specs.Prelude.{◌≡◌, ◌+◌, ◌<◌, ◌^◌, ◌∷◌, [], length, IfOk};
+ghost use Rattle.system_spec.specs.Few.{AreFew};
+ghost use Rattle.system_spec.specs.Parts.{first_of};
+ghost use Rattle.system_spec.specs.Places.{ArePlaces, has_endpoint, has_irq, has_notification, mark, one, places_from, stands};
+ghost use Rattle.system_spec.specs.Told.{told};
+
+use crate::tables::Tables;
+use adl_meaning::{Connector, FlatConnection};
+use cam_base::{List, NoMemory};
+use std::alloc::Global;
+
+/// The places of the endpoint, the notification and the interrupt of each connection, where it has one.
+#[derive(Drop)]
+pub struct Places {
+    pub endpoints: List<u32>,
+    pub notifications: List<u32>,
+    pub irqs: List<u32>,
+}
+
+/// Where the sections of the objects of connections begin.
+#[derive(Clone, Copy)]
+pub struct Firsts {
+    pub endpoint: u32,
+    pub notification: u32,
+    pub irq: u32,
+}
+
+/// What connections have an object for.
+#[derive(Clone, Copy)]
+pub enum Standing {
+    Endpoint,
+    Notification,
+    Interrupt,
+}
+
+fn has_endpoint(connector: Connector) -> bool
+    ensures { result ≡ has_endpoint connector }
+{
+    matches!(connector, Connector::Rpc)
+}
+
+fn has_notification(connector: Connector) -> bool
+    ensures { result ≡ has_notification connector }
+{
+    matches!(connector, Connector::Notification | Connector::Interrupt)
+}
+
+fn has_irq(connector: Connector) -> bool
+    ensures { result ≡ has_irq connector }
+{
+    matches!(connector, Connector::Interrupt)
+}
+
+/// Whether connections of this connector have such an object.
+fn stands(standing: Standing, connector: Connector) -> bool
+    ensures { result ≡ stands standing connector }
+{
+    match standing {
+        Standing::Endpoint => has_endpoint(connector),
+        Standing::Notification => has_notification(connector),
+        Standing::Interrupt => has_irq(connector),
+    }
+}
+
+/// How many such objects connections of this connector have.
+fn number_of(standing: Standing, connector: Connector) -> u32
+    ensures { result ≡ one (stands standing connector) }
+{
+    if stands(standing, connector) { 1 } else { 0 }
+}
+
+/// The place of each connection's object, where the first stands at this place.
+fn places_from(
+    alloc: Global,
+    standing: Standing,
+    first: u32,
+    connections: &[FlatConnection],
+) -> Result<List<u32>, NoMemory>
+    requires { first + length (gather (mark standing) connections.now) < 2 ^ 32 }
+    ensures { IfOk result (λ places. places ≡ places_from standing first connections.now) }
+{
+    let mut places = List::new(alloc);
+    let mut next = first;
+    for connection in connections {
+        places.push(next)?;
+        next += number_of(standing, connection.connector);
+    }
+    Ok(places)
+}
+
+/// Where the objects of connections stand.
+pub fn places_of(alloc: Global, tables: &Tables<'_>, firsts: Firsts) -> Result<Places, NoMemory>
+    requires few { AreFew (told tables.now) }
+    requires endpoint { firsts.endpoint ≡ first_of (told tables.now) 2 }
+    requires notification { firsts.notification ≡ first_of (told tables.now) 3 }
+    requires irq { firsts.irq ≡ first_of (told tables.now) 5 }
+    ensures { IfOk result (λ places. ArePlaces (told tables.now) places) }
+{
+    let connections = tables.flat.connections.as_slice();
+    Ok(Places {
+        endpoints: places_from(alloc, Standing::Endpoint, firsts.endpoint, connections)?,
+        notifications: places_from(
+            alloc,
+            Standing::Notification,
+            firsts.notification,
+            connections,
+        )?,
+        irqs: places_from(alloc, Standing::Interrupt, firsts.irq, connections)?,
+    })
+}
