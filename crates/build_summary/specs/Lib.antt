@@ -1,0 +1,2 @@
+pub mod Summary
+pub use Rattle.cam_io.specs.Sinks
