@@ -1,0 +1,41 @@
+-- A name tells its series and its number.
+use Rattle.std.proofs.Common.{◌≡◌, ◌<◌, ◌^◌, ℕ, List, [], ◌∷◌, ◌++◌, cond, decimal, refl, sym, ◌∙◌, ap}
+use Rattle.std.specs.Prelude.{◌==◌}
+use Rattle.std.proofs.lemmas.Fmt.{decimal_injective}
+use Rattle.std.proofs.lemmas.List.{append_cancel_left}
+use Rattle.system_spec.specs.declared.series.Series.{Series}
+use Rattle.system_spec.specs.declared.series.Series.TheVariants.{CNode, Tcb, Ep, Ntfn, Lock, Irq, Pgd, Pud, Pd, Pt, Frame}
+use Rattle.system_spec.specs.Names.{name_of, prefix}
+
+abbrev by_second : ℕ → Series
+by_second b = cond (b == 103) Pgd (cond (b == 117) Pud (cond (b == 100) Pd Pt))
+
+abbrev by_letters : ℕ → ℕ → Series
+by_letters a b = cond (a == 99) CNode (cond (a == 116) Tcb (cond (a == 101) Ep (cond (a == 110) Ntfn (cond (a == 108) Lock (cond (a == 105) Irq (cond (a == 102) Frame (by_second b)))))))
+
+abbrev series_of : List ℕ → Series
+series_of [] = Irq
+series_of (a ∷ []) = Irq
+series_of (a ∷ b ∷ rest) = by_letters a b
+
+series_found : (s : Series) (rest : List ℕ) → series_of (prefix s ++ rest) ≡ s
+series_found CNode rest = refl
+series_found Tcb rest = refl
+series_found Ep rest = refl
+series_found Ntfn rest = refl
+series_found Lock rest = refl
+series_found Irq rest = refl
+series_found Pgd rest = refl
+series_found Pud rest = refl
+series_found Pd rest = refl
+series_found Pt rest = refl
+series_found Frame rest = refl
+
+pub same_series : (s r : Series) (m n : ℕ) → name_of s m ≡ name_of r n → s ≡ r
+same_series s r m n e = sym (series_found s (decimal m)) ∙ ap series_of e ∙ series_found r (decimal n)
+
+pub same_number : (s r : Series) (m n : ℕ) → m < 2 ^ 64 → n < 2 ^ 64 → name_of s m ≡ name_of r n → m ≡ n
+same_number s r m n l k e =
+    let q = same_series s r m n e in
+    let f : prefix r ++ decimal m ≡ prefix r ++ decimal n = sym (ap (λ z. name_of z m) q) ∙ e in
+    decimal_injective m n l k (append_cancel_left (prefix r) (decimal m) (decimal n) f)
