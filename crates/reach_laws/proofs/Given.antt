@@ -1,0 +1,161 @@
+-- Which ends the connector table gives an authority, and over what.
+use Rattle.std.proofs.Common.{◌≡◌, ◌⊎◌, ◌∙◌, ◌&&◌, ◌||◌, not, Bool, true, false, List, [], ◌∷◌, refl, sym, ap, inl, inr, true≢false}
+use Rattle.std.specs.List.{list_all}
+use Rattle.std.proofs.lemmas.Bool.{and_parts}
+use Rattle.adl_ast.specs.declared.composition.Role.{Role}
+use Rattle.adl_ast.specs.declared.composition.Role.TheVariants.{From, To}
+use Rattle.adl_meaning.specs.declared.connector.Connector.{Connector}
+use Rattle.adl_meaning.specs.declared.connector.Connector.TheVariants.{Rpc, Notification, SharedMemory, Mmio, Interrupt, Direct}
+use Rattle.auth_kinds.specs.Authorities.{authorities}
+use Rattle.auth_kinds.specs.declared.authority.Authority.{Authority}
+use Rattle.auth_kinds.specs.declared.authority.Authority.TheVariants.{Receive, SyncSend, AsyncSend, Reset, Grant, Read, Write, Control, Call, Reply, GrantBack, Handle}
+use Rattle.conn_rules.specs.declared.rule.ObjectKind.{ObjectKind}
+use Rattle.conn_rules.specs.declared.rule.ObjectKind.TheVariants.{NoObject, OfEndpoint, OfNotification, OfFrames, OfDevice, OfIrq}
+use Rattle.conn_rules.specs.Row.{same_connector, same_role}
+use Rattle.numbering.specs.Gather.{IsIn}
+use Rattle.arch_policy.specs.Gives.{gives, same_object}
+use Rattle.arch_policy.specs.Owners.{has_label}
+use Rattle.arch_policy.proofs.Same.{is_connector, is_object, is_role}
+
+-- ---- tests over the whole table
+
+in_all : {X : Type 0} (p : X → Bool) (x : X) (xs : List X) → IsIn x xs → list_all p xs ≡ true → p x ≡ true
+in_all p x [] i h = absurd i
+in_all p x (y ∷ ys) (inl same) h = ap p (sym same) ∙ (and_parts (p y) (list_all p ys) h).0
+in_all p x (y ∷ ys) (inr i) h = in_all p x ys i (and_parts (p y) (list_all p ys) h).1
+
+abbrev pub connectors : List Connector
+connectors = Rpc ∷ Notification ∷ SharedMemory ∷ Mmio ∷ Interrupt ∷ Direct ∷ []
+
+abbrev pub roles : List Role
+roles = From ∷ To ∷ []
+
+abbrev pub objects : List ObjectKind
+objects = NoObject ∷ OfEndpoint ∷ OfNotification ∷ OfFrames ∷ OfDevice ∷ OfIrq ∷ []
+
+a_connector : (c : Connector) → IsIn c connectors
+a_connector Rpc = inl refl
+a_connector Notification = inr (inl refl)
+a_connector SharedMemory = inr (inr (inl refl))
+a_connector Mmio = inr (inr (inr (inl refl)))
+a_connector Interrupt = inr (inr (inr (inr (inl refl))))
+a_connector Direct = inr (inr (inr (inr (inr (inl refl)))))
+
+a_role : (r : Role) → IsIn r roles
+a_role From = inl refl
+a_role To = inr (inl refl)
+
+an_object : (o : ObjectKind) → IsIn o objects
+an_object NoObject = inl refl
+an_object OfEndpoint = inr (inl refl)
+an_object OfNotification = inr (inr (inl refl))
+an_object OfFrames = inr (inr (inr (inl refl)))
+an_object OfDevice = inr (inr (inr (inr (inl refl))))
+an_object OfIrq = inr (inr (inr (inr (inr (inl refl)))))
+
+abbrev pub at_ends : (Connector → Role → Bool) → Bool
+at_ends p = list_all (λ c. list_all (p c) roles) connectors
+
+-- what holds at each end holds at this one
+pub at_end : (p : Connector → Role → Bool) → at_ends p ≡ true → (c : Connector) (r : Role) → p c r ≡ true
+at_end p h c r = in_all (p c) r roles (a_role r) (in_all (λ c. list_all (p c) roles) c connectors (a_connector c) h)
+
+-- and over each object
+pub over_object : (p : Connector → Role → ObjectKind → Bool) → at_ends (λ c r. list_all (p c r) objects) ≡ true → (c : Connector) (r : Role) (o : ObjectKind) → p c r o ≡ true
+over_object p h c r o = in_all (p c r) o objects (an_object o) (at_end (λ c r. list_all (p c r) objects) h c r)
+
+pub an_authority : (a : Authority) → IsIn a authorities
+an_authority Receive = inl refl
+an_authority SyncSend = inr (inl refl)
+an_authority AsyncSend = inr (inr (inl refl))
+an_authority Reset = inr (inr (inr (inl refl)))
+an_authority Grant = inr (inr (inr (inr (inl refl))))
+an_authority Read = inr (inr (inr (inr (inr (inl refl)))))
+an_authority Write = inr (inr (inr (inr (inr (inr (inl refl))))))
+an_authority Control = inr (inr (inr (inr (inr (inr (inr (inl refl)))))))
+an_authority Call = inr (inr (inr (inr (inr (inr (inr (inr (inl refl))))))))
+an_authority Reply = inr (inr (inr (inr (inr (inr (inr (inr (inr (inl refl)))))))))
+an_authority GrantBack = inr (inr (inr (inr (inr (inr (inr (inr (inr (inr (inl refl))))))))))
+an_authority Handle = inr (inr (inr (inr (inr (inr (inr (inr (inr (inr (inr (inl refl)))))))))))
+
+-- and by each authority
+pub at_authority : (p : Connector → Role → Authority → Bool) → at_ends (λ c r. list_all (p c r) authorities) ≡ true → (c : Connector) (r : Role) (a : Authority) → p c r a ≡ true
+at_authority p h c r a = in_all (p c r) a authorities (an_authority a) (at_end (λ c r. list_all (p c r) authorities) h c r)
+
+pub over_all : (p : Connector → Role → ObjectKind → Authority → Bool) → at_ends (λ c r. list_all (λ o. list_all (p c r o) authorities) objects) ≡ true
+    → (c : Connector) (r : Role) (o : ObjectKind) (a : Authority) → p c r o a ≡ true
+over_all p h c r o a = in_all (p c r o) a authorities (an_authority a) (over_object (λ c r o. list_all (p c r o) authorities) h c r o)
+
+abbrev pub implies : Bool → Bool → Bool
+implies a b = not a || b
+
+pub implied : (a b : Bool) → implies a b ≡ true → a ≡ true → b ≡ true
+implied true b h e = h
+implied false b h e = absurd (true≢false (sym e))
+
+-- ---- who is given what
+
+pub no_control : (c : Connector) (r : Role) (o : ObjectKind) → gives c r o Control ≡ true → ⊥
+no_control c r o h = true≢false (sym (implied (gives c r o Control) false (over_object (λ c r o. implies (gives c r o Control) false) refl c r o) h))
+
+pub no_grant : (c : Connector) (r : Role) (o : ObjectKind) → gives c r o Grant ≡ true → ⊥
+no_grant c r o h = true≢false (sym (implied (gives c r o Grant) false (over_object (λ c r o. implies (gives c r o Grant) false) refl c r o) h))
+
+pub no_grant_back : (c : Connector) (r : Role) (o : ObjectKind) → gives c r o GrantBack ≡ true → ⊥
+no_grant_back c r o h = true≢false (sym (implied (gives c r o GrantBack) false (over_object (λ c r o. implies (gives c r o GrantBack) false) refl c r o) h))
+
+-- an end and an object as they are asked for
+abbrev pub fits : Connector → Role → ObjectKind → Connector → Role → ObjectKind → Bool
+fits c r o d q p = same_connector c d && (same_role r q && same_object o p)
+
+pub fitted : (c : Connector) (r : Role) (o : ObjectKind) (d : Connector) (q : Role) (p : ObjectKind) → fits c r o d q p ≡ true → (c ≡ d) × (r ≡ q) × (o ≡ p)
+fitted c r o d q p h =
+    let a = and_parts (same_connector c d) (same_role r q && same_object o p) h in
+    let b = and_parts (same_role r q) (same_object o p) a.1 in
+    (is_connector c d a.0, is_role r q b.0, is_object o p b.1)
+
+pub who_calls : (c : Connector) (r : Role) (o : ObjectKind) → gives c r o Call ≡ true → (c ≡ Rpc) × (r ≡ From) × (o ≡ OfEndpoint)
+who_calls c r o h =
+    fitted c r o Rpc From OfEndpoint
+    (implied (gives c r o Call) _ (over_object (λ c r o. implies (gives c r o Call) (fits c r o Rpc From OfEndpoint)) refl c r o) h)
+
+pub who_handles : (c : Connector) (r : Role) (o : ObjectKind) → gives c r o Handle ≡ true → (c ≡ Interrupt) × (r ≡ To) × (o ≡ OfIrq)
+who_handles c r o h =
+    fitted c r o Interrupt To OfIrq
+    (implied (gives c r o Handle) _ (over_object (λ c r o. implies (gives c r o Handle) (fits c r o Interrupt To OfIrq)) refl c r o) h)
+
+-- an endpoint or a notification of a connection that has a label
+pub record IsReceiver (c : Connector) (r : Role) (o : ObjectKind) : Type 0 where
+  pub labelled : has_label c ≡ true
+  pub role : r ≡ To
+  pub object : (o ≡ OfEndpoint) ⊎ (o ≡ OfNotification)
+
+either_object : (o : ObjectKind) → same_object o OfEndpoint || same_object o OfNotification ≡ true → (o ≡ OfEndpoint) ⊎ (o ≡ OfNotification)
+either_object OfEndpoint h = inl refl
+either_object OfNotification h = inr refl
+either_object NoObject h = absurd (true≢false (sym h))
+either_object OfFrames h = absurd (true≢false (sym h))
+either_object OfDevice h = absurd (true≢false (sym h))
+either_object OfIrq h = absurd (true≢false (sym h))
+
+pub who_receives : (c : Connector) (r : Role) (o : ObjectKind) → gives c r o Receive ≡ true → IsReceiver c r o
+who_receives c r o h =
+    let w = implied (gives c r o Receive) _ (over_object (λ c r o. implies (gives c r o Receive) (has_label c && (same_role r To && (same_object o OfEndpoint || same_object o OfNotification)))) refl c r o) h in
+    let a = and_parts (has_label c) _ w in
+    let b = and_parts (same_role r To) _ a.1 in
+    record { labelled = a.0; role = is_role r To b.0; object = either_object o b.1 }
+
+either_connector : (c : Connector) → same_connector c Notification || same_connector c Interrupt ≡ true → (c ≡ Notification) ⊎ (c ≡ Interrupt)
+either_connector Notification h = inl refl
+either_connector Interrupt h = inr refl
+either_connector Rpc h = absurd (true≢false (sym h))
+either_connector SharedMemory h = absurd (true≢false (sym h))
+either_connector Mmio h = absurd (true≢false (sym h))
+either_connector Direct h = absurd (true≢false (sym h))
+
+pub who_signals : (c : Connector) (r : Role) (o : ObjectKind) → gives c r o AsyncSend ≡ true → ((c ≡ Notification) ⊎ (c ≡ Interrupt)) × (r ≡ From) × (o ≡ OfNotification)
+who_signals c r o h =
+    let w = implied (gives c r o AsyncSend) _ (over_object (λ c r o. implies (gives c r o AsyncSend) ((same_connector c Notification || same_connector c Interrupt) && (same_role r From && same_object o OfNotification))) refl c r o) h in
+    let a = and_parts (same_connector c Notification || same_connector c Interrupt) _ w in
+    let b = and_parts (same_role r From) (same_object o OfNotification) a.1 in
+    (either_connector c a.0, is_role r From b.0, is_object o OfNotification b.1)

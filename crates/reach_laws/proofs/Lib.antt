@@ -1,0 +1,9 @@
+pub mod AtBoot
+pub mod EndLabels
+pub mod Given
+pub mod LeastCertificates
+pub mod OwnEdges
+pub mod PieceEdges
+pub mod Reached
+pub mod ValidCertificates
+pub mod WindowEdges

@@ -1,0 +1,4 @@
+pub mod Flat
+pub mod LaidOut
+pub mod Pieces
+pub mod Windows
