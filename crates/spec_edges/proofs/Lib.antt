@@ -1,0 +1,12 @@
+pub mod Connections
+pub mod Devices
+pub mod EndsHere
+pub mod Joints
+pub mod Lists
+pub mod Mapped
+pub mod Rows
+pub mod TablesHere
+pub mod ThreadsHere
+pub mod Used
+pub mod Whose
+pub mod WindowsHere

@@ -1,0 +1,11 @@
+-- What the policy of a system is made from, out of what its objects are made from.
+use Rattle.arch_policy.specs.Tables.{Tables as Policy}
+use Rattle.system_spec.specs.Tables.{Tables}
+use Rattle.vspace_layout.specs.Given.{Given, given}
+
+abbrev pub policy_tables : Tables → Policy
+policy_tables t = record { source = t.source; flat = t.flat; settled = t.settled; numbers = t.numbers }
+
+-- and what its spaces are laid out from
+abbrev pub given_tables : Tables → Given
+given_tables t = given t.source t.flat t.settled t.images
