@@ -1,0 +1,210 @@
+-- Each frame is mapped
+use Rattle.std.proofs.Common.{◌≡◌, ◌<◌, ◌+◌, ◌*◌, ◌⊎◌, ℕ, Bool, true, false, cond, List, [], length, map, Option, Some, None, refl, sym, ◌∙◌, ap, subst, inl, inr, arith}
+use Rattle.std.specs.List.{range_with_len, slice_get}
+use Rattle.std.specs.Option.{option_map_or}
+use Rattle.std.specs.Prelude.{◌==◌}
+use Rattle.std.proofs.lemmas.Bool.{eqb-true}
+use Rattle.adl_meaning.specs.declared.connector.Connector.{Connector}
+use Rattle.adl_meaning.specs.declared.connector.Connector.TheVariants.{Rpc, Notification, SharedMemory, Mmio, Interrupt, Direct}
+use Rattle.adl_meaning.specs.declared.flat.Domain.{Domain}
+use Rattle.adl_meaning.specs.declared.flat.FlatConnection.{FlatConnection}
+use Rattle.adl_meaning.specs.declared.flat.FlatEnd.{FlatEnd}
+use Rattle.cap_model.specs.declared.cap.Cap.{Cap}
+use Rattle.cap_model.specs.declared.object.Object.TheVariants as objects
+use Rattle.numbering.specs.Gather.{before}
+use Rattle.numbering.proofs.Gathered.{from_place, in_right, place_of, split_get}
+use Rattle.numbering.proofs.Lists.{in_map}
+use Rattle.system_spec.specs.declared.part.What.TheVariants.{FrameOf}
+use Rattle.system_spec.specs.Made.{spec_of}
+use Rattle.system_spec.specs.Parts.{place}
+use Rattle.system_spec.specs.Tables.{Tables}
+use Rattle.system_spec.proofs.Standing.{place_is}
+use Rattle.vspace_layout.specs.declared.mapped.MappedPage.{MappedPage}
+use Rattle.vspace_layout.specs.declared.mapped.Shown.{Shown}
+use Rattle.vspace_layout.specs.declared.mapped.Shown.TheVariants.{Memory, Own}
+use Rattle.vspace_layout.specs.declared.owner.Owner.TheVariants.{OfConnection}
+use Rattle.vspace_layout.specs.declared.region.Content.TheVariants.{Window}
+use Rattle.vspace_layout.specs.declared.spaces.FrameInfo.{FrameInfo}
+use Rattle.vspace_layout.specs.declared.spaces.Spaces.{Spaces}
+use Rattle.vspace_layout.specs.Frames.{connection_frames, frame, frames, frames_at, is_first, memory_number, memory_part, number_shown, own_frame, own_frames, own_number, own_part, register_frame, register_frames, register_part, shared_frames, shared_part}
+use Rattle.vspace_layout.specs.MappedPages.{mapped_pages, region_page}
+use Rattle.vspace_layout.specs.Memory.{first_to, is_shared, memory_pages, registers, registers_in}
+use Rattle.vspace_layout.specs.Regions.{regions, window_region, windows_of}
+use Rattle.spec_laws.specs.CanMap.{CanMap}
+use Rattle.spec_laws.specs.Framed.{AreAllMapped}
+use Rattle.spec_laws.specs.Spaced.{IsAt, IsRegionPage, begins, root_of, system}
+use Rattle.spec_laws.proofs.Blocks.{as_long}
+use Rattle.spec_laws.proofs.Finding.{page_cap}
+use Rattle.spec_laws.proofs.Locks.{part_there}
+use Rattle.spec_laws.proofs.Members.{below}
+use Rattle.spec_laws.proofs.Owning.{own_of}
+use Rattle.spec_laws.proofs.Paging.{region_in}
+use Rattle.spec_laws.proofs.Rooted.{frames_from}
+use Rattle.spec_laws.proofs.Showing.{MemoryPlace, in_domain, memory_at}
+use Rattle.spec_laws.proofs.SlotLists.{some}
+use Rattle.spec_laws.proofs.Spaces.{is_at}
+use Rattle.spec_laws.proofs.Whats.{frame_what}
+
+shared_is : (c : Connector) → is_shared c ≡ true → c ≡ SharedMemory
+shared_is SharedMemory h = refl
+shared_is Rpc h = cc
+shared_is Notification h = cc
+shared_is Mmio h = cc
+shared_is Interrupt h = cc
+shared_is Direct h = cc
+
+mmio_is : (c : Connector) (ends : List FlatEnd) (e : FlatEnd) → registers_in c ends ≡ Some e → c ≡ Mmio
+mmio_is Mmio ends e h = refl
+mmio_is SharedMemory ends e h = cc
+mmio_is Rpc ends e h = cc
+mmio_is Notification ends e h = cc
+mmio_is Interrupt ends e h = cc
+mmio_is Direct ends e h = cc
+
+-- what is given if a test passes
+given_if : {X : Type 0} (b : Bool) (xs : List X) (j : ℕ) (x : X) → slice_get (cond b xs []) j ≡ Some x → (b ≡ true) × (slice_get xs j ≡ Some x)
+given_if true xs j x e = (refl, e)
+given_if false xs j x e = cc
+
+-- shared frames are of shared memory
+shared_of : (t : Tables) (k j : ℕ) (c : FlatConnection) → j < length (shared_frames t.settled k c) → c.connector ≡ SharedMemory
+shared_of t k j c l = by_test (is_shared c.connector) refl l
+  where
+    by_test : (b : Bool) → is_shared c.connector ≡ b → j < length (cond b (connection_frames k (memory_pages t.settled k c)) []) → c.connector ≡ SharedMemory
+    by_test true e l = shared_is c.connector e
+    by_test false e l = absurd (omega (arith, l))
+
+first_is : (o : Option ℕ) (k : ℕ) → option_map_or (λ n. n == k) o false ≡ true → o ≡ Some k
+first_is None k h = cc
+first_is (Some n) k h = ap (λ z. Some z) (eqb-true n k h)
+
+module _ (t : Tables) (can : CanMap t) where
+  -- a frame that is mapped
+  record IsMapped (f : ℕ) : Type 0 where
+    domain : ℕ
+    v : ℕ
+    leaves : Domain
+    cap : Cap
+    here : slice_get t.flat.domains domain ≡ Some leaves
+    at : IsAt (spec_of t) (root_of t domain) v cap
+    is : cap.object ≡ frames_from t + f
+
+  of_page : (f d n : ℕ) (x : Domain) (p : MappedPage) → slice_get t.flat.domains d ≡ Some x → slice_get (mapped_pages (system t) d) n ≡ Some p → number_shown (system t) d n p.shown ≡ f → IsMapped f
+  of_page f d n x p h e same = record { domain = d; v = p.at; leaves = x; cap = page_cap t can d x h n p; here = h; at = is_at t can d x h p.at n p e refl; is = ap (λ z. frames_from t + z) same }
+
+  -- ---- own frames
+
+  of_own : (f : ℕ) (info : FrameInfo) → slice_get (own_part (system t)) f ≡ Some info → IsMapped f
+  of_own f info e =
+      let s = system t in
+      let a = from_place (own_frames s) t.flat.domains f info e in
+      let b = from_place (own_of a.place) (mapped_pages s a.place) a.number info a.stands in
+      by_shown a.place a.item a.here b.place b.item b.here b.item.shown refl a.number b.number b.stands a.sum b.sum
+    where
+      by_shown : (d : ℕ) (x : Domain) → slice_get t.flat.domains d ≡ Some x → (n : ℕ) (p : MappedPage) → slice_get (mapped_pages (system t) d) n ≡ Some p → (w : Shown) → p.shown ≡ w → (i j : ℕ) → slice_get (own_frame d p.shown) j ≡ Some info
+          → f ≡ before (own_frames (system t)) t.flat.domains d + i → i ≡ before (own_of d) (mapped_pages (system t) d) n + j → IsMapped f
+      by_shown d x h n p g (Own fill) w i j k u v =
+          let l = below (own_frame d p.shown) j info k in
+          let long : length (own_frame d p.shown) ≡ 1 = ap (λ z. length (own_frame d z)) w in
+          let number : own_number (system t) d n ≡ f = omega (arith, l, long, u, v) in
+          of_page f d n x p h g (ap (λ z. number_shown (system t) d n z) w ∙ number)
+      by_shown d x h n p g (Memory a b) w i j k u v =
+          let P : List FrameInfo → Type 0 = λ z. slice_get z j ≡ Some info in
+          let none : own_frame d p.shown ≡ [] = ap (λ z. own_frame d z) w in
+          let no = subst P none k in
+          cc
+
+  -- ---- memory
+
+  of_memory : (k j : ℕ) (c : FlatConnection) → slice_get t.flat.connections k ≡ Some c → (c.connector ≡ Mmio) ⊎ (c.connector ≡ SharedMemory) → j < memory_pages t.settled k c → IsMapped (memory_number (system t) k j)
+  of_memory k j c h kind l =
+      let s = system t in
+      let w = can.memory.seen k c h kind in
+      let r = window_region t.flat t.settled w.1 in
+      let n = place_of r (regions s w.0) (in_right r _ (map (window_region t.flat t.settled) (windows_of s w.0)) (in_map (window_region t.flat t.settled) w.1 (windows_of s w.0) w.2)) in
+      let x = in_domain t w.0 n.0 r n.1 in
+      let P : ℕ → Type 0 = λ z. slice_get t.flat.connections z ≡ Some c in
+      let here = subst P (sym w.3) h in
+      let pages : r.pages ≡ memory_pages t.settled k c = ap (λ o. option_map_or (memory_pages t.settled w.1.connection) o 0) here ∙ ap (λ z. memory_pages t.settled z c) w.3 in
+      let at = begins t w.0 n.0 + 4096 * j in
+      let p : IsRegionPage t w.0 n.0 at j r = record { here = n.1; within = omega (arith, pages, l); at = refl } in
+      let q = region_page t.settled (Window w.1) at j in
+      let m = place_of q (mapped_pages s w.0) (region_in t can.settled w.0 n.0 at j r (Window w.1) p refl) in
+      of_page (memory_number s k j) w.0 m.0 x.0 q x.1 m.1 (ap (λ z. memory_number s z j) w.3)
+
+  number_is : (f g : ℕ) → IsMapped f → f ≡ g → IsMapped g
+  number_is f g m e = subst IsMapped e m
+
+  of_shared : (f m : ℕ) (info : FrameInfo) → f ≡ length (own_part (system t)) + m → slice_get (shared_part t.flat t.settled) m ≡ Some info → IsMapped f
+  of_shared f m info u e =
+      let a = from_place (shared_frames t.settled) t.flat.connections m info e in
+      let k = a.place in
+      let c = a.item in
+      let list = connection_frames k (memory_pages t.settled k c) in
+      let g = given_if (is_shared c.connector) list a.number info a.stands in
+      let kind = shared_is c.connector g.0 in
+      let l = below list a.number info g.1 in
+      let long = as_long (λ j. frame (OfConnection k) None None) 0 (memory_pages t.settled k c) in
+      let within : a.number < memory_pages t.settled k c = omega (arith, l, long) in
+      by_place k a.number c a.here kind within (memory_at t can k a.number c a.here (inl kind) within) a.sum
+    where
+      by_place : (k j : ℕ) (c : FlatConnection) → slice_get t.flat.connections k ≡ Some c → c.connector ≡ SharedMemory → j < memory_pages t.settled k c → MemoryPlace t k j c → m ≡ before (shared_frames t.settled) t.flat.connections k + j → IsMapped f
+      by_place k j c h kind l (MemoryPlace.at_shared n b) s = number_is (memory_number (system t) k j) f (of_memory k j c h (inr kind) l) (omega (arith, n, s, u))
+      by_place k j c h kind l (MemoryPlace.at_device p r q n b) s =
+          let none : registers c ≡ None = ap (λ z. registers_in z c.ends) kind in
+          let no = sym none ∙ r in
+          cc
+
+  of_registers : (f m : ℕ) (info : FrameInfo) → f ≡ length (own_part (system t)) + (length (shared_part t.flat t.settled) + m) → slice_get (register_part t.flat t.settled) m ≡ Some info → IsMapped f
+  of_registers f m info u e =
+      let a = from_place (register_frames t.flat t.settled) t.flat.connections m info e in
+      by_registers a.place a.number a.item a.here (registers a.item) refl a.stands a.sum
+    where
+      by_place : (k j : ℕ) (c : FlatConnection) (p : FlatEnd) → slice_get t.flat.connections k ≡ Some c → c.connector ≡ Mmio → registers c ≡ Some p → first_to t.flat p ≡ Some k → j < memory_pages t.settled k c → MemoryPlace t k j c
+          → m ≡ before (register_frames t.flat t.settled) t.flat.connections k + j → IsMapped f
+      by_place k j c p h kind r first l (MemoryPlace.at_shared n b) s = let no : SharedMemory ≡ Mmio = sym (shared_of t k j c b) ∙ kind in cc
+      by_place k j c p h kind r first l (MemoryPlace.at_device x q y n b) s =
+          let port : x ≡ p = some (registers c) x p q r in
+          let number : y.number ≡ k = some (first_to t.flat p) y.number k (ap (λ z. first_to t.flat z) (sym port) ∙ y.first) first in
+          let front : before (register_frames t.flat t.settled) t.flat.connections y.number ≡ before (register_frames t.flat t.settled) t.flat.connections k = ap (λ z. before (register_frames t.flat t.settled) t.flat.connections z) number in
+          number_is (memory_number (system t) k j) f (of_memory k j c h (inl kind) l) (omega (arith, n, s, u, front))
+
+      by_registers : (k j : ℕ) (c : FlatConnection) → slice_get t.flat.connections k ≡ Some c → (o : Option FlatEnd) → registers c ≡ o → slice_get (register_frames t.flat t.settled k c) j ≡ Some info
+          → m ≡ before (register_frames t.flat t.settled) t.flat.connections k + j → IsMapped f
+      by_registers k j c h None r g s =
+          let P : List FrameInfo → Type 0 = λ z. slice_get z j ≡ Some info in
+          let none : register_frames t.flat t.settled k c ≡ [] = ap (λ o. option_map_or (frames_at t.flat t.settled k c) o []) r in
+          let no = subst P none g in
+          cc
+      by_registers k j c h (Some p) r g s =
+          let P : List FrameInfo → Type 0 = λ z. slice_get z j ≡ Some info in
+          let list = map (register_frame t.settled k c p) (range_with_len 0 (memory_pages t.settled k c)) in
+          let have : register_frames t.flat t.settled k c ≡ cond (is_first t.flat k p) list [] = ap (λ o. option_map_or (frames_at t.flat t.settled k c) o []) r in
+          let q = given_if (is_first t.flat k p) list j info (subst P have g) in
+          let l = below list j info q.1 in
+          let long = as_long (register_frame t.settled k c p) 0 (memory_pages t.settled k c) in
+          let within : j < memory_pages t.settled k c = omega (arith, l, long) in
+          let kind = mmio_is c.connector c.ends p r in
+          by_place k j c p h kind r (first_is (first_to t.flat p) k q.0) within (memory_at t can k j c h (inr kind) within) s
+
+  -- ---- all
+
+  of_number : (f : ℕ) (info : FrameInfo) → slice_get (frames (system t)) f ≡ Some info → IsMapped f
+  of_number f info e = elim (split_get (own_part (system t)) (memory_part t.flat t.settled) f info e) [
+    | inl h ↦ of_own f info h
+    | inr h ↦ elim (split_get (shared_part t.flat t.settled) (register_part t.flat t.settled) h.0 info h.2) [
+      | inl g ↦ of_shared f h.0 info h.1 g
+      | inr g ↦
+          let a = h.1 in
+          let b = g.1 in of_registers f g.0 info (omega (arith, a, b)) g.2
+    ]
+  ]
+
+  pub all_frames : AreAllMapped t (spec_of t) (root_of t)
+  all_frames at paddr fill o =
+      let p = part_there t at (objects.Frame paddr fill) o in
+      let w = frame_what t p.0.what paddr fill p.2 in
+      let m = of_number w.number w.info (ap (λ (z : Spaces). slice_get z.frames w.number) (sym can.spaces) ∙ w.there) in
+      let stand : place t (FrameOf w.number) ≡ at = ap (λ z. place t z) (sym w.what) ∙ place_is t at p.0 p.1 in
+      let there : frames_from t + w.number ≡ place t (FrameOf w.number) = omega arith in
+      (m.domain, m.v, m.leaves, m.cap, m.here, m.at, m.is ∙ there ∙ stand)

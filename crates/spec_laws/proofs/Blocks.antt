@@ -1,0 +1,50 @@
+-- In a gathered list what each element gives stands apart from what the others give
+use Rattle.std.proofs.Common.{◌≡◌, ◌<◌, ◌≤◌, ◌+◌, ℕ, zero, suc, List, [], ◌∷◌, map, take, length, Some, refl, ap, inl, inr, arith}
+use Rattle.std.specs.List.{range_with_len, slice_get}
+use Rattle.std.proofs.lemmas.Bool.{cases_lt}
+use Rattle.numbering.specs.Gather.{before, gather}
+use Rattle.numbering.proofs.Gathered.{length_append}
+
+behind : {X Y : Type 0} (f : ℕ → X → List Y) (xs : List X) (a b : ℕ) (x : X) → slice_get xs a ≡ Some x → a < b → before f xs a + length (f a x) ≤ before f xs b
+behind f [] a b x e l = cc
+behind f (y ∷ xs) a zero x e l = absurd (omega (arith, l))
+behind {X} f (y ∷ xs) zero (suc b) x e l =
+    let same : x ≡ y = cc in
+    let here : length (f 0 x) ≡ length (f 0 y) = ap (λ z. length (f 0 z)) same in
+    let long = length_append (f 0 y) (gather (λ n z. f (suc n) z) (take b xs)) in
+    omega (arith, here, long)
+behind {X} f (y ∷ xs) (suc a) (suc b) x e l =
+    let g : ℕ → X → List _ = λ n z. f (suc n) z in
+    let ih = behind g xs a b x e (omega (arith, l)) in
+    let low = length_append (f 0 y) (gather g (take a xs)) in
+    let high = length_append (f 0 y) (gather g (take b xs)) in
+    omega (arith, ih, low, high)
+
+pub inside : {X Y : Type 0} (f : ℕ → X → List Y) (xs : List X) (a : ℕ) (x : X) → slice_get xs a ≡ Some x → before f xs a + length (f a x) ≤ length (gather f xs)
+inside f [] a x e = cc
+inside f (y ∷ xs) zero x e =
+    let same : x ≡ y = cc in
+    let here : length (f 0 x) ≡ length (f 0 y) = ap (λ z. length (f 0 z)) same in
+    let long = length_append (f 0 y) (gather (λ n z. f (suc n) z) xs) in
+    omega (arith, here, long)
+inside {X} f (y ∷ xs) (suc a) x e =
+    let g : ℕ → X → List _ = λ n z. f (suc n) z in
+    let ih = inside g xs a x e in
+    let low = length_append (f 0 y) (gather g (take a xs)) in
+    let high = length_append (f 0 y) (gather g xs) in
+    omega (arith, ih, low, high)
+
+pub apart : {X Y : Type 0} (f : ℕ → X → List Y) (xs : List X) (a b i j : ℕ) (x y : X) → slice_get xs a ≡ Some x → slice_get xs b ≡ Some y → i < length (f a x) → j < length (f b y) → before f xs a + i ≡ before f xs b + j → (a ≡ b) × (i ≡ j)
+apart f xs a b i j x y d e k l same = elim (cases_lt a b) [
+  | inl h ↦ let m = behind f xs a b x d h in absurd (omega (arith, m, k, same))
+  | inr h ↦ elim (cases_lt b a) [
+    | inl g ↦ let m = behind f xs b a y e g in absurd (omega (arith, m, l, same))
+    | inr g ↦
+        let at : a ≡ b = omega (arith, g, h) in
+        let to : before f xs a ≡ before f xs b = ap (λ z. before f xs z) at in (at, omega (arith, to, same))
+  ]
+]
+
+pub as_long : {X : Type 0} (f : ℕ → X) (a n : ℕ) → length (map f (range_with_len a n)) ≡ n
+as_long f a zero = refl
+as_long f a (suc n) = let l = as_long f (a + 1) n in omega (arith, l)

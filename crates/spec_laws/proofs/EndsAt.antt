@@ -1,0 +1,118 @@
+-- The ends at a leaf
+use Rattle.std.proofs.Common.{◌≡◌, ◌<◌, ◌&&◌, ℕ, Bool, true, false, cond, List, [], ◌∷◌, length, Some, refl, sym, ◌∙◌, ap, subst, inl, inr}
+use Rattle.std.specs.List.{slice_get}
+use Rattle.std.specs.Prelude.{◌==◌}
+use Rattle.std.proofs.lemmas.Bool.{and_parts, eq-eqb, eqb-true}
+use Rattle.adl_ast.specs.declared.component.Member.{Member}
+use Rattle.adl_meaning.specs.declared.flat.FlatConnection.{FlatConnection}
+use Rattle.adl_meaning.specs.declared.flat.FlatEnd.{FlatEnd}
+use Rattle.adl_meaning.specs.declared.flat.Leaf.{Leaf}
+use Rattle.leaf_ends.specs.declared.end_at.EndAt.{EndAt}
+use Rattle.leaf_ends.specs.LeafEnds.{end_here, joins, leaf_ends, member_ends}
+use Rattle.leaf_ends.specs.Members.{leaf_members, members_at, members_of_leaf}
+use Rattle.numbering.specs.Gather.{IsIn, gather}
+use Rattle.numbering.proofs.Gathered.{from_gather, get_ones, in_gather}
+use Rattle.numbering.proofs.Lists.{at_place}
+use Rattle.system_spec.specs.Tables.{Tables}
+use Rattle.vspace_layout.specs.Given.{ends}
+use Rattle.vspace_layout.specs.Threads.{ends_at, ends_in}
+use Rattle.spec_laws.specs.Spaced.{system}
+use Rattle.spec_laws.proofs.Once.{Once, once_gather, once_none, once_one}
+use Rattle.spec_laws.proofs.SlotLists.{some}
+
+-- an end that joins the leaf, by its numbers
+pub record JoinsLeaf (cs : List FlatConnection) (leaf member : ℕ) (e : EndAt) : Type 0 where
+  pub connection : FlatConnection
+  pub here : slice_get cs e.connection ≡ Some connection
+  pub end : FlatEnd
+  pub stands : slice_get connection.ends e.end ≡ Some end
+  pub leaf_is : end.leaf ≡ leaf
+  pub member_is : end.member ≡ member
+
+abbrev at : ℕ → ℕ → EndAt
+at k n = record { connection = k; end = n }
+
+-- what an end gives, if it joins the member
+here_is : (leaf m k n : ℕ) (x : FlatEnd) (e : EndAt) → IsIn e (end_here leaf m k n x) → (joins leaf m x ≡ true) × (at k n ≡ e)
+here_is leaf m k n x e i = by_test (joins leaf m x) refl i
+  where
+    by_test : (b : Bool) → joins leaf m x ≡ b → IsIn e (cond b (at k n ∷ []) []) → (joins leaf m x ≡ true) × (at k n ≡ e)
+    by_test true h (inl s) = (h, s)
+    by_test true h (inr s) = absurd s
+    by_test false h s = absurd s
+
+once_here : (leaf m k n : ℕ) (x : FlatEnd) → Once (end_here leaf m k n x)
+once_here leaf m k n x = by_test (joins leaf m x)
+  where
+    by_test : (b : Bool) → Once (cond b (at k n ∷ []) [])
+    by_test true = once_one (at k n)
+    by_test false = once_none
+
+module _ (cs : List FlatConnection) (leaf : ℕ) where
+  abbrev of_connection : ℕ → ℕ → FlatConnection → List EndAt
+  of_connection m k c = gather (λ n x. end_here leaf m k n x) c.ends
+
+  pub member_end : (m : ℕ) (e : EndAt) → IsIn e (member_ends cs leaf m) → JoinsLeaf cs leaf m e
+  member_end m e i =
+      let a = from_gather (of_connection m) e cs i in
+      let f : ℕ → FlatEnd → List EndAt = λ n x. end_here leaf m a.0 n x in
+      let b = from_gather f e a.1.ends a.3 in
+      let s = here_is leaf m a.0 b.0 b.1 e b.3 in
+      let q = and_parts (b.1.leaf == leaf) (b.1.member == m) s.0 in
+      let P : ℕ → Type 0 = λ z. slice_get cs z ≡ Some a.1 in
+      let Q : ℕ → Type 0 = λ z. slice_get a.1.ends z ≡ Some b.1 in
+      record {
+        connection = a.1;
+        here = subst P (ap (λ (z : EndAt). z.connection) s.1) a.2;
+        end = b.1;
+        stands = subst Q (ap (λ (z : EndAt). z.end) s.1) b.2;
+        leaf_is = eqb-true b.1.leaf leaf q.0;
+        member_is = eqb-true b.1.member m q.1;
+      }
+
+  pub in_member_ends : (m k n : ℕ) (c : FlatConnection) (x : FlatEnd) → slice_get cs k ≡ Some c → slice_get c.ends n ≡ Some x → x.leaf ≡ leaf → x.member ≡ m → IsIn (at k n) (member_ends cs leaf m)
+  in_member_ends m k n c x h g p q =
+      let joined : joins leaf m x ≡ true = ap (λ b. b && (x.member == m)) (eq-eqb x.leaf leaf p) ∙ eq-eqb x.member m q in
+      let P : Bool → Type 0 = λ b. IsIn (at k n) (cond b (at k n ∷ []) []) in
+      let f : ℕ → FlatEnd → List EndAt = λ n x. end_here leaf m k n x in
+      in_gather (of_connection m) (at k n) cs k c h (in_gather f (at k n) c.ends n x g (subst P (sym joined) (inl refl)))
+
+  once_member : (m : ℕ) → Once (member_ends cs leaf m)
+  once_member m =
+      let inner : (k : ℕ) (c : FlatConnection) → slice_get cs k ≡ Some c → Once (of_connection m k c) = λ k c h. (
+      let f : ℕ → FlatEnd → List EndAt = λ n x. end_here leaf m k n x in
+      once_gather f c.ends (λ n x g. once_here leaf m k n x) (λ n l x z e i j. ap (λ (w : EndAt). w.end) ((here_is leaf m k n x e i).1 ∙ sym (here_is leaf m k l z e j).1))) in
+      once_gather (of_connection m) cs inner (λ k l c d e i j. (
+      let a = from_gather (λ n x. end_here leaf m k n x) e c.ends i in
+      let b = from_gather (λ n x. end_here leaf m l n x) e d.ends j in
+      ap (λ (w : EndAt). w.connection) ((here_is leaf m k a.0 a.1 e a.3).1 ∙ sym (here_is leaf m l b.0 b.1 e b.3).1)))
+
+  pub once_leaf : (members : List Member) → Once (leaf_ends cs leaf members)
+  once_leaf members =
+      let f : ℕ → Member → List EndAt = λ m x. member_ends cs leaf m in
+      once_gather f members (λ m x h. once_member m) (λ k l x z e i j. (
+      let a = member_end k e i in
+      let b = member_end l e j in
+      let conn : a.connection ≡ b.connection = some (slice_get cs e.connection) a.connection b.connection a.here b.here in
+      let P : FlatConnection → Type 0 = λ z. slice_get z.ends e.end ≡ Some a.end in
+      let end : a.end ≡ b.end = some (slice_get b.connection.ends e.end) a.end b.end (subst P conn a.stands) b.stands in
+      sym a.member_is ∙ ap (λ (w : FlatEnd). w.member) end ∙ b.member_is))
+
+-- ---- of a leaf of the system
+
+pub ends_are : (t : Tables) (leaf : ℕ) (x : Leaf) → slice_get t.flat.leaves leaf ≡ Some x → ends_at (ends (system t)) leaf ≡ leaf_ends t.flat.connections leaf (leaf_members t.source t.flat leaf)
+ends_are t leaf x h =
+    let f : ℕ → Leaf → List EndAt = λ n z. leaf_ends t.flat.connections n (members_at t.source z.component) in
+    ap (λ o. ends_in o) (get_ones f t.flat.leaves leaf x h) ∙ ap (λ o. leaf_ends t.flat.connections leaf (members_of_leaf t.source o)) (sym h)
+
+pub end_of_leaf : (t : Tables) (leaf : ℕ) (e : EndAt) (members : List Member) → IsIn e (leaf_ends t.flat.connections leaf members) → (m : ℕ) × JoinsLeaf t.flat.connections leaf m e
+end_of_leaf t leaf e members i =
+    let f : ℕ → Member → List EndAt = λ m x. member_ends t.flat.connections leaf m in
+    let a = from_gather f e members i in (a.0, member_end t.flat.connections leaf a.0 e a.3)
+
+pub in_leaf_ends : (t : Tables) (leaf k n : ℕ) (c : FlatConnection) (x : FlatEnd) (members : List Member) → slice_get t.flat.connections k ≡ Some c → slice_get c.ends n ≡ Some x → x.leaf ≡ leaf → x.member < length members
+    → IsIn (at k n) (leaf_ends t.flat.connections leaf members)
+in_leaf_ends t leaf k n c x members h g p l =
+    let f : ℕ → Member → List EndAt = λ m x. member_ends t.flat.connections leaf m in
+    let m = at_place members x.member l in
+    in_gather f (at k n) members x.member m.0 m.1 (in_member_ends t.flat.connections leaf x.member k n c x h g p refl)

@@ -1,0 +1,202 @@
+-- What is found at an address of a space is what is mapped there
+use Rattle.std.proofs.Common.{◌≡◌, ◌<◌, ◌≤◌, ◌+◌, ◌*◌, ◌/◌, ◌%◌, ◌↔◌, ℕ, zero, suc, List, [], ◌∷◌, ◌++◌, map, take, drop, length, None, Some, refl, sym, ◌∙◌, ap, subst, inl, inr, arith}
+use Rattle.std.specs.List.{flat_map, range_with_len, slice_get}
+use Rattle.std.specs.Option.{option_map_or}
+use Rattle.adl_meaning.specs.declared.flat.Domain.{Domain}
+use Rattle.cap_model.specs.declared.cap.Cap.{Cap}
+use Rattle.cap_model.specs.declared.level.Arch.{Arch}
+use Rattle.cap_model.specs.declared.level.Arch.TheVariants.{Arm11, Aarch64}
+use Rattle.cap_model.specs.declared.object.Object.{Object}
+use Rattle.numbering.specs.Gather.{IsIn, gather}
+use Rattle.numbering.proofs.Gathered.{from_gather, get_ones, in_append, in_gather, in_place, place_of}
+use Rattle.numbering.proofs.Lists.{from_map, in_map}
+use Rattle.page_tables.specs.declared.mapping.Mapping.{Mapping}
+use Rattle.page_tables.specs.Shapes.{shapes}
+use Rattle.page_tables.specs.Walks.{Walk, root_span}
+use Rattle.page_tables.proofs.Walking.{found_before}
+use Rattle.program_sections.specs.ByAddress.{section_pages}
+use Rattle.program_sections.specs.Images.{sections_end}
+use Rattle.program_sections.specs.declared.pages.SectionPage.{SectionPage}
+use Rattle.system_spec.specs.Made.{spec_of}
+use Rattle.system_spec.specs.Parts.{page_mapping}
+use Rattle.system_spec.specs.Tables.{Tables, arch, pages_at}
+use Rattle.vspace_layout.specs.declared.mapped.MappedPage.{MappedPage}
+use Rattle.vspace_layout.specs.declared.region.Content.{Content}
+use Rattle.vspace_layout.specs.declared.region.Content.TheVariants.{Stack, Buffer, Window}
+use Rattle.vspace_layout.specs.declared.region.Region.{Region}
+use Rattle.vspace_layout.specs.declared.spaces.Page.{Page}
+use Rattle.vspace_layout.specs.declared.spaces.Space.{Space}
+use Rattle.vspace_layout.specs.declared.spaces.Spaces.{Spaces}
+use Rattle.vspace_layout.specs.declared.thread.ThreadOf.{ThreadOf}
+use Rattle.vspace_layout.specs.Frames.{number_shown}
+use Rattle.vspace_layout.specs.Given.{base, ends, leaves_of}
+use Rattle.vspace_layout.specs.Laid.{page, space}
+use Rattle.vspace_layout.specs.MappedPages.{mapped_pages, page_of, pages_of_region, region_page, region_part, section_page, section_part}
+use Rattle.vspace_layout.specs.Regions.{pages_in, region, regions, regions_in, threads_of, windows_of}
+use Rattle.vspace_layout.specs.SpaceLaws.{PagesRise, SectionsStand}
+use Rattle.vspace_layout.specs.Threads.{domain_threads, ends_at, leaf_threads, server, thread}
+use Rattle.vspace_layout.proofs.Few.{few_at}
+use Rattle.vspace_layout.proofs.Rising.{each_all, each_in, rising}
+use Rattle.vspace_layout.proofs.Sections.{sections_stand}
+use Rattle.spec_laws.specs.CanMap.{CanMap}
+use Rattle.spec_laws.specs.Spaced.{IsAt, IsRegionPage, begins, memory_rights, objects_from, root_of, system}
+use Rattle.spec_laws.proofs.Members.{below, from_range}
+use Rattle.spec_laws.proofs.Paging.{region_in}
+use Rattle.spec_laws.proofs.Rooted.{frames_from, from_root, tables_of_domain}
+
+-- ---- regions end below what a root spans
+
+pages_before : (rs : List Region) (n : ℕ) (r : Region) → slice_get rs n ≡ Some r → pages_in (take n rs) + r.pages ≤ pages_in rs
+pages_before [] n r e = cc
+pages_before (x ∷ rs) zero r e =
+    let same : x ≡ r = cc in
+    let l : x.pages ≡ r.pages = ap (λ (z : Region). z.pages) same in omega (arith, l)
+pages_before (x ∷ rs) (suc n) r e = let l = pages_before rs n r e in omega (arith, l)
+
+room : (a : Arch) (v : ℕ) → v < sections_end a + 1073741824 → v < root_span (shapes a)
+room Arm11 v l = omega (arith, l)
+room Aarch64 v l = omega (arith, l)
+
+at_is : (s : _) (c : Content) (at j : ℕ) → (region_page s c at j).at ≡ at
+at_is s Stack at j = refl
+at_is s Buffer at j = refl
+at_is s (Window e) at j = refl
+
+some_thread : (t : Tables) (ls : List ℕ) → 0 < length ls → (y : ThreadOf) × (ys : List ThreadOf) × (domain_threads t.flat (ends (system t)) ls ≡ y ∷ ys)
+some_thread t [] l = absurd (omega (arith, l))
+some_thread t (n ∷ ls) l =
+    let all = ends (system t) in (thread n None, flat_map (server t.flat n) (ends_at all n) ++ flat_map (leaf_threads t.flat all) ls, refl)
+
+module _ (t : Tables) (can : CanMap t) (d : ℕ) (x : Domain) (h : slice_get t.flat.domains d ≡ Some x) where
+  abbrev pub maps : List Mapping
+  maps = map (page_mapping (frames_from t)) (pages_at t d)
+
+  -- page n of the domain, and its mapping
+  abbrev laid_page : ℕ → MappedPage → Page
+  laid_page n p = page (system t) d n p
+
+  abbrev mapping : ℕ → MappedPage → Mapping
+  mapping n p = page_mapping (frames_from t) (laid_page n p)
+
+  pub pages_are : pages_at t d ≡ gather (λ n p. laid_page n p ∷ []) (mapped_pages (system t) d)
+  pages_are =
+      let f : ℕ → Domain → Space = λ n z. space (system t) n z in
+      ap (λ (z : Spaces). option_map_or (λ (w : Space). w.pages) (slice_get z.spaces d) []) can.spaces
+      ∙ ap (λ o. option_map_or (λ (w : Space). w.pages) o []) (get_ones f t.flat.domains d x h)
+
+  in_maps : (n : ℕ) (p : MappedPage) → slice_get (mapped_pages (system t) d) n ≡ Some p → IsIn (mapping n p) maps
+  in_maps n p e =
+      let f : ℕ → MappedPage → List Page = λ n p. laid_page n p ∷ [] in
+      let P : List Page → Type 0 = λ z. IsIn (laid_page n p) z in
+      in_map (page_mapping (frames_from t)) (laid_page n p) (pages_at t d) (subst P (sym pages_are) (in_gather f (laid_page n p) (mapped_pages (system t) d) n p e (inl refl)))
+
+  record IsMapping (m : Mapping) : Type 0 where
+    number : ℕ
+    shown : MappedPage
+    here : slice_get (mapped_pages (system t) d) number ≡ Some shown
+    is : mapping number shown ≡ m
+
+  from_maps : (m : Mapping) → IsIn m maps → IsMapping m
+  from_maps m i =
+      let f : ℕ → MappedPage → List Page = λ n p. laid_page n p ∷ [] in
+      let a = from_map (page_mapping (frames_from t)) m (pages_at t d) i in
+      let P : List Page → Type 0 = λ z. IsIn a.0 z in
+      let b = from_gather f a.0 (mapped_pages (system t) d) (subst P pages_are a.1) in
+      elim b.3 [
+        | inl e ↦ record { number = b.0; shown = b.1; here = b.2; is = ap (page_mapping (frames_from t)) e ∙ a.2 }
+        | inr n ↦ absurd n
+      ]
+
+  -- ---- all pages stand below what the root spans
+
+  pub stand : SectionsStand (system t) d
+  stand = sections_stand (system t) can.numbered can.sound can.clean d
+
+  pub rise : PagesRise (system t) d
+  rise = rising (system t) d stand
+
+  region_below : (n j : ℕ) (r : Region) → slice_get (regions (system t) d) n ≡ Some r → j < r.pages → begins t d n + 4096 * j < root_span (shapes (arch t))
+  region_below n j r e l =
+      let rs = regions (system t) d in
+      let few = few_at (system t) can.lay can.few d x h in
+      let a = pages_before rs n r e in
+      let b = below rs n r e in
+      room (arch t) (begins t d n + 4096 * j) (omega (arith, few, a, b, l))
+
+  page_below : (p : MappedPage) → IsIn p (mapped_pages (system t) d) → p.at < root_span (shapes (arch t))
+  page_below p i =
+      let s = system t in
+      elim (in_append p (section_part t.images (leaves_of t.flat d)) (region_part t.settled (base s) (regions s d)) i) [
+        | inl j ↦
+            let q = from_map section_page p (section_pages t.images (leaves_of t.flat d)) j in
+            let l : q.0.vaddr + 4096 ≤ base s = each_in (λ (z : SectionPage). z.vaddr + 4096 ≤ base s) (section_pages t.images (leaves_of t.flat d)) q.0 (each_all (λ (z : SectionPage). z.vaddr + 4096 ≤ base s) (section_pages t.images (leaves_of t.flat d)) stand.below) q.1 in
+            let e : q.0.vaddr ≡ p.at = ap (λ (z : MappedPage). z.at) q.2 in
+            room (arch t) p.at (omega (arith, l, e))
+        | inr j ↦
+            let a = from_gather (pages_of_region t.settled (base s) (regions s d)) p (regions s d) j in
+            let b = from_map (page_of t.settled (begins t d a.0) a.1) p (range_with_len 0 a.1.pages) a.3 in
+            let l = region_below a.0 b.0 a.1 a.2 (from_range a.1.pages b.0 b.1) in
+            let e : begins t d a.0 + 4096 * b.0 ≡ p.at = sym (at_is t.settled a.1.content (begins t d a.0 + 4096 * b.0) b.0) ∙ ap (λ (z : MappedPage). z.at) b.2 in
+            let P : ℕ → Type 0 = λ z. z < root_span (shapes (arch t)) in subst P e l
+      ]
+
+  pub maps_below : (m : Mapping) → IsIn m maps → m.at < root_span (shapes (arch t))
+  maps_below m i =
+      let a = from_maps m i in
+      let P : ℕ → Type 0 = λ z. z < root_span (shapes (arch t)) in
+      subst P (ap (λ (z : Mapping). z.at) a.is) (page_below a.shown (in_place a.shown (mapped_pages (system t) d) a.number a.here))
+
+  -- ---- some page is mapped: the buffer of the first thread
+
+  buffer_there : slice_get (regions (system t) d) 1 ≡ Some (region Buffer 1)
+  buffer_there =
+      let leaves : leaves_of t.flat d ≡ x.leaves = ap (λ o. option_map_or (λ (z : Domain). z.leaves) o []) h in
+      let y = some_thread t x.leaves (can.grouped.some d x h) in
+      let threads : threads_of (system t) d ≡ y.0 ∷ y.1 = ap (λ z. domain_threads t.flat (ends (system t)) z) leaves ∙ y.2 in
+      ap (λ z. slice_get (regions_in t.flat t.settled z (windows_of (system t) d)) 1) threads
+
+  pub some_map : (m : Mapping) × IsIn m maps
+  some_map =
+      let p : IsRegionPage t d 1 (begins t d 1 + 4096 * 0) 0 (region Buffer 1) = record { here = buffer_there; within = omega arith; at = refl } in
+      let q = region_page t.settled Buffer (begins t d 1 + 4096 * 0) 0 in
+      let i = place_of q (mapped_pages (system t) d) (region_in t can.settled d 1 (begins t d 1 + 4096 * 0) 0 (region Buffer 1) Buffer p refl) in
+      (mapping i.0 q, in_maps i.0 q i.1)
+
+  -- ---- what is found
+
+  abbrev pub page_cap : ℕ → MappedPage → Cap
+  page_cap n p = record { object = frames_from t + number_shown (system t) d n p.shown; rights = memory_rights p.read p.write; badge = 0 }
+
+  pub record Found (v : ℕ) (cap : Cap) : Type 0 where
+    pub number : ℕ
+    pub shown : MappedPage
+    pub here : slice_get (mapped_pages (system t) d) number ≡ Some shown
+    pub same : shown.at / 4096 ≡ v / 4096
+    pub is : cap ≡ page_cap number shown
+
+  walk : (v : ℕ) (cap : Cap) → v < root_span (shapes (arch t)) → IsAt (spec_of t) (root_of t d) v cap ↔ ((m : Mapping) × IsIn m maps × ((m.at / 4096) ≡ (v / 4096)) × (cap ≡ m.cap))
+  walk v cap l =
+      let y = some_map in
+      let P : List Object → Type 0 = λ T. Walk (root_of t d) T (shapes (arch t)) v cap ↔ ((m : Mapping) × IsIn m maps × ((m.at / 4096) ≡ (v / 4096)) × (cap ≡ m.cap)) in
+      subst P (sym (from_root t d x h)) (found_before (arch t) (root_of t d) maps (drop (length (tables_of_domain t d)) (objects_from (spec_of t) (root_of t d))) y.0 v cap y.1 maps_below l)
+
+  pub found : (v : ℕ) (cap : Cap) → v < root_span (shapes (arch t)) → IsAt (spec_of t) (root_of t d) v cap → Found v cap
+  found v cap l i =
+      let m = (walk v cap l).0 i in
+      let a = from_maps m.0 m.1 in
+      record { number = a.number; shown = a.shown; here = a.here; same = ap (λ (z : Mapping). z.at / 4096) a.is ∙ m.2; is = m.3 ∙ ap (λ (z : Mapping). z.cap) (sym a.is) }
+
+  pub finds : (v : ℕ) (cap : Cap) → v < root_span (shapes (arch t)) → Found v cap → IsAt (spec_of t) (root_of t d) v cap
+  finds v cap l f = (walk v cap l).1 (mapping f.number f.shown, in_maps f.number f.shown f.here, f.same, f.is)
+
+  -- an address that is on a mapped page is below what the root spans
+  pub within : (v n : ℕ) (p : MappedPage) → slice_get (mapped_pages (system t) d) n ≡ Some p → p.at / 4096 ≡ v / 4096 → v < root_span (shapes (arch t))
+  within v n p e same =
+      let i = in_place p (mapped_pages (system t) d) n e in
+      let a = rise.aligned p i in
+      let l = page_below p i in
+      last (arch t) p.at v a same l
+    where
+      last : (a : Arch) (at v : ℕ) → at % 4096 ≡ 0 → at / 4096 ≡ v / 4096 → at < root_span (shapes a) → v < root_span (shapes a)
+      last Arm11 at v a s l = omega (arith, a, s, l)
+      last Aarch64 at v a s l = omega (arith, a, s, l)

@@ -1,0 +1,241 @@
+-- The frame of each page that is mapped
+use Rattle.std.proofs.Common.{◌≡◌, ◌<◌, ◌+◌, ◌*◌, ◌/◌, ◌⊎◌, ℕ, zero, suc, Bool, true, false, ◌&&◌, List, [], ◌∷◌, get_or, length, Option, Some, None, refl, sym, ◌∙◌, ap, subst, inl, inr, arith}
+use Rattle.std.specs.List.{position, position_or_len, range_with_len, slice_get}
+use Rattle.std.specs.Option.{option_and_then, option_map_or}
+use Rattle.std.specs.Prelude.{◌==◌}
+use Rattle.std.proofs.lemmas.Bool.{and_parts, cases_lt, eqb-true, eq-eqb}
+use Rattle.std.proofs.lemmas.Grind.{common_steps}
+use Rattle.std.proofs.lemmas.List.Quantifiers.{position-Some}
+use Rattle.std.proofs.lemmas.List.Sums.{fails_before_first}
+use Rattle.std.proofs.lemmas.Option.{get_or_from_slice_get}
+use Rattle.adl_ast.specs.declared.composition.Role.{Role}
+use Rattle.adl_meaning.specs.declared.connector.Connector.{Connector}
+use Rattle.adl_meaning.specs.declared.connector.Connector.TheVariants.{Rpc, Notification, SharedMemory, Mmio, Interrupt, Direct}
+use Rattle.adl_meaning.specs.declared.flat.Domain.{Domain}
+use Rattle.adl_meaning.specs.declared.flat.FlatConnection.{FlatConnection}
+use Rattle.adl_meaning.specs.declared.flat.FlatEnd.{FlatEnd}
+use Rattle.adl_meaning.specs.declared.settled.EndSetting.{EndSetting}
+use Rattle.cap_model.specs.declared.object.Object.TheVariants.{Endpoint}
+use Rattle.cap_model.specs.Lookup.{object_at}
+use Rattle.leaf_ends.specs.declared.end_at.EndAt.{EndAt}
+use Rattle.leaf_ends.specs.Lookups.{setting_of}
+use Rattle.numbering.specs.Gather.{IsIn}
+use Rattle.numbering.proofs.Gathered.{from_gather, get_ones, in_append, in_gather, in_place}
+use Rattle.numbering.proofs.Lists.{from_map}
+use Rattle.program_sections.specs.ByAddress.{section_pages}
+use Rattle.system_spec.specs.declared.part.Owned.{Owned}
+use Rattle.system_spec.specs.declared.part.Part.{Part}
+use Rattle.system_spec.specs.declared.part.What.TheVariants.{FrameOf}
+use Rattle.system_spec.specs.declared.series.Series.TheVariants as series
+use Rattle.system_spec.specs.Made.{spec_of}
+use Rattle.system_spec.specs.Objects.{frame_object}
+use Rattle.system_spec.specs.Parts.{frame_parts, numbered, owned, part, place, sections}
+use Rattle.system_spec.specs.Tables.{Tables, frame_owner}
+use Rattle.system_spec.proofs.Objects.{in_together, objects_stand}
+use Rattle.vspace_layout.specs.declared.mapped.MappedPage.{MappedPage}
+use Rattle.vspace_layout.specs.declared.mapped.Shown.{Shown}
+use Rattle.vspace_layout.specs.declared.mapped.Shown.TheVariants.{Memory, Own}
+use Rattle.vspace_layout.specs.declared.owner.Owner.TheVariants.{OfConnection, OfDomain, OfLeaf}
+use Rattle.vspace_layout.specs.declared.region.Content.{Content}
+use Rattle.vspace_layout.specs.declared.region.Content.TheVariants.{Stack, Buffer, Window}
+use Rattle.vspace_layout.specs.declared.region.Region.{Region}
+use Rattle.vspace_layout.specs.declared.spaces.FrameInfo.{FrameInfo}
+use Rattle.vspace_layout.specs.declared.spaces.Spaces.{Spaces}
+use Rattle.vspace_layout.specs.Frames.{frame, frames, memory_number, number_shown}
+use Rattle.vspace_layout.specs.Given.{base, leaves_of}
+use Rattle.vspace_layout.specs.MappedPages.{mapped_pages, page_of, pages_of_region, region_page, region_part, section_page, section_part}
+use Rattle.vspace_layout.specs.Memory.{first_to, is_shared, is_to, leads_to, memory_pages, memory_paddr, memory_place, registers, registers_in, same_port, to_place}
+use Rattle.vspace_layout.specs.Regions.{is_window, regions}
+use Rattle.vspace_layout.proofs.Standing.{frames_stand}
+use Rattle.spec_laws.specs.CanMap.{CanMap}
+use Rattle.spec_laws.specs.Framed.{OneDevice}
+use Rattle.spec_laws.specs.Spaced.{IsRegionPage, begins, system}
+use Rattle.spec_laws.proofs.Members.{below, from_range}
+use Rattle.spec_laws.proofs.Paging.{window_is, window_of}
+
+-- ---- frames as objects
+
+pub frame_there : (t : Tables) (f : ℕ) (info : FrameInfo) → slice_get t.spaces.frames f ≡ Some info → object_at (spec_of t) (place t (FrameOf f)) ≡ Some (frame_object info)
+frame_there t f info e =
+    let y = owned (frame_owner info.owner) (FrameOf f) in
+    let g : ℕ → FrameInfo → Owned = λ n z. owned (frame_owner z.owner) (FrameOf n) in
+    let p = part series.Frame f (frame_owner info.owner) (FrameOf f) in
+    let k : ℕ → Owned → List Part = λ n z. part series.Frame n z.owner z.what ∷ [] in
+    let there = in_together (sections t) 7 (numbered series.Frame (frame_parts t.spaces.frames)) p refl (in_gather k p (frame_parts t.spaces.frames) f y (get_ones g t.spaces.frames f info e) (inl refl)) in
+    (objects_stand t).object p there ∙ ap (λ o. Some (option_map_or frame_object o Endpoint)) e
+
+-- ---- the first connection to registers
+
+first_hit : {X : Type 0} (p : X → Bool) (xs : List X) (k : ℕ) (x : X) → slice_get xs k ≡ Some x → p x ≡ true → (n : ℕ) × (position p xs ≡ Some n)
+first_hit p xs k x e h = elim (cases_lt (position_or_len p xs) (length xs)) [
+  | inl l ↦ (position_or_len p xs, grind (arith, common_steps))
+  | inr g ↦
+      let l = below xs k x e in
+      let no = fails_before_first p xs k x (omega (arith, l, g)) in
+      let same = get_or_from_slice_get xs k x x e in
+      let yes : p (get_or xs k x) ≡ true = ap p same ∙ h in
+      cc
+]
+
+-- the first connection to the registers of an end, which leads to the same dataport
+pub record FirstTo (t : Tables) (e : FlatEnd) : Type 0 where
+  pub number : ℕ
+  pub first : first_to t.flat e ≡ Some number
+  pub connection : FlatConnection
+  pub here : slice_get t.flat.connections number ≡ Some connection
+  pub end : FlatEnd
+  pub leads : registers connection ≡ Some end
+  pub leaf : end.leaf ≡ e.leaf
+  pub member : end.member ≡ e.member
+
+of_port : (o : Option FlatEnd) (e : FlatEnd) → option_map_or (same_port e) o false ≡ true → (f : FlatEnd) × (o ≡ Some f) × (f.leaf ≡ e.leaf) × (f.member ≡ e.member)
+of_port None e h = cc
+of_port (Some f) e h = let q = and_parts (f.leaf == e.leaf) (f.member == e.member) h in (f, refl, eqb-true f.leaf e.leaf q.0, eqb-true f.member e.member q.1)
+
+at_get : {X : Type 0} (xs : List X) (n : ℕ) (d : X) → n < length xs → slice_get xs n ≡ Some (get_or xs n d)
+at_get [] n d l = absurd (omega (arith, l))
+at_get (x ∷ xs) zero d l = refl
+at_get (x ∷ xs) (suc n) d l = at_get xs n d (omega (arith, l))
+
+own_port : (e : FlatEnd) → same_port e e ≡ true
+own_port e = ap (λ b. b && (e.member == e.member)) (eq-eqb e.leaf e.leaf refl) ∙ eq-eqb e.member e.member refl
+
+pub first_is : (t : Tables) (k : ℕ) (c : FlatConnection) (e : FlatEnd) → slice_get t.flat.connections k ≡ Some c → registers c ≡ Some e → FirstTo t e
+first_is t k c e h r =
+    let cs = t.flat.connections in
+    let hit = first_hit (leads_to e) cs k c h (ap (λ o. option_map_or (same_port e) o false) r ∙ own_port e) in
+    let s = position-Some (leads_to e) cs hit.0 c hit.1 in
+    let d = get_or cs hit.0 c in
+    let p = of_port (registers d) e s.1 in
+    record { number = hit.0; first = hit.1; connection = d; here = at_get cs hit.0 c s.0; end = p.0; leads = p.1; leaf = p.2; member = p.3 }
+
+-- ---- memory of connections
+
+pub has_memory : (c : Connector) (r : Role) → is_window c r ≡ true → (c ≡ SharedMemory) ⊎ (c ≡ Mmio)
+has_memory SharedMemory r h = inl refl
+has_memory Mmio r h = inr refl
+has_memory Rpc r h = cc
+has_memory Notification r h = cc
+has_memory Interrupt r h = cc
+has_memory Direct r h = cc
+
+place_get : {X : Type 0} (p : X → Bool) (xs : List X) (n : ℕ) → position p xs ≡ Some n → (x : X) × (slice_get xs n ≡ Some x)
+place_get p [] n e = cc
+place_get p (x ∷ xs) n e = let s = position-Some p (x ∷ xs) n x e in (get_or (x ∷ xs) n x, at_get (x ∷ xs) n x s.0)
+
+abbrev pages_by : Option EndSetting → ℕ
+pages_by o = option_map_or (λ (s : EndSetting). s.bytes / 4096) o 0
+
+-- where registers have a page, there is their end
+pub registers_there : (t : Tables) (k j : ℕ) (c : FlatConnection) → c.connector ≡ Mmio → j < memory_pages t.settled k c → (e : FlatEnd) × (registers c ≡ Some e)
+registers_there t k j c m l = by_place (to_place c.ends) refl
+  where
+    by_place : (o : Option ℕ) → to_place c.ends ≡ o → (e : FlatEnd) × (registers c ≡ Some e)
+    by_place None g =
+        let none : memory_pages t.settled k c ≡ 0 =
+        ap (λ z. pages_by (option_and_then (setting_of t.settled k) (memory_place z c.ends))) m ∙ ap (λ o. pages_by (option_and_then (setting_of t.settled k) o)) g in
+        absurd (omega (arith, l, none))
+    by_place (Some n) g =
+        let x = place_get (λ (z : FlatEnd). is_to z.role) c.ends n g in
+        (x.0, ap (λ z. registers_in z c.ends) m ∙ ap (λ o. option_and_then (λ i. slice_get c.ends i) o) g ∙ x.1)
+
+-- the frame of page j of the memory of connection k
+pub data IsMemoryFrame (t : Tables) (k j : ℕ) (c : FlatConnection) (info : FrameInfo) : Type 0 where
+  of_shared : c.connector ≡ SharedMemory → info ≡ frame (OfConnection k) None None → IsMemoryFrame t k j c info
+  of_device : (e : FlatEnd) → c.connector ≡ Mmio → registers c ≡ Some e → info ≡ frame (OfLeaf e.leaf) (Some (memory_paddr t.settled k c + 4096 * j)) None → IsMemoryFrame t k j c info
+
+pub memory_frame : (t : Tables) → CanMap t → (k j : ℕ) (c : FlatConnection) → slice_get t.flat.connections k ≡ Some c → (c.connector ≡ SharedMemory) ⊎ (c.connector ≡ Mmio) → j < memory_pages t.settled k c
+    → (info : FrameInfo) × (slice_get (frames (system t)) (memory_number (system t) k j) ≡ Some info) × IsMemoryFrame t k j c info
+memory_frame t can k j c h (inl m) l = (frame (OfConnection k) None None, (frames_stand (system t)).shared k j c h (ap is_shared m) l, IsMemoryFrame.of_shared m refl)
+memory_frame t can k j c h (inr m) l =
+    let r = registers_there t k j c m l in
+    let f = first_is t k c r.0 h r.1 in
+    let one : OneDevice c f.connection = record { port = r.0; first = r.1; other = f.end; second = f.leads; leaf = sym f.leaf; member = sym f.member } in
+    let pages = can.memory.pages k f.number c f.connection h f.here one in
+    let paddr = can.memory.paddr k f.number c f.connection h f.here one in
+    let got = (frames_stand (system t)).registers k j f.number c f.connection r.0 f.end h r.1 f.first f.here f.leads (omega (arith, l, pages)) in (
+      frame (OfLeaf f.end.leaf) (Some (memory_paddr t.settled f.number f.connection + 4096 * j)) None,
+      got,
+      IsMemoryFrame.of_device r.0 m r.1 (ap (λ z. frame (OfLeaf z) (Some (memory_paddr t.settled f.number f.connection + 4096 * j)) None) f.leaf ∙ ap (λ z. frame (OfLeaf r.0.leaf) (Some (z + 4096 * j)) None) (sym paddr)),
+    )
+
+-- ---- pages that show memory
+
+-- the memory of a window
+pub record MemoryOf (t : Tables) (e : EndAt) (r : Region) : Type 0 where
+  pub connection : FlatConnection
+  pub here : slice_get t.flat.connections e.connection ≡ Some connection
+  pub kind : (connection.connector ≡ SharedMemory) ⊎ (connection.connector ≡ Mmio)
+  pub pages : r.pages ≡ memory_pages t.settled e.connection connection
+
+pub memory_of : (t : Tables) (d : ℕ) (r : Region) (e : EndAt) → IsIn r (regions (system t) d) → r.content ≡ Window e → MemoryOf t e r
+memory_of t d r e i c =
+    let w = window_of t d r e i c in
+    let v = window_is t d e w.0 in
+    record {
+      connection = v.connection;
+      here = v.here;
+      kind = has_memory v.connection.connector v.end.role v.sees;
+      pages = ap (λ (z : Region). z.pages) (sym w.1) ∙ ap (λ o. option_map_or (memory_pages t.settled e.connection) o 0) v.here;
+    }
+
+-- the page of a window that shows page j of the memory of connection k
+pub record ShowsAt (t : Tables) (d at k j : ℕ) : Type 0 where
+  pub number : ℕ
+  pub region : Region
+  pub e : EndAt
+  pub content : region.content ≡ Window e
+  pub of_connection : e.connection ≡ k
+  pub page : IsRegionPage t d number at j region
+
+pub shows_at : (t : Tables) (d k j : ℕ) (p : MappedPage) → p.shown ≡ Memory k j → IsIn p (mapped_pages (system t) d) → ShowsAt t d p.at k j
+shows_at t d k j p e i =
+    let s = system t in
+    elim (in_append p (section_part t.images (leaves_of t.flat d)) (region_part t.settled (base s) (regions s d)) i) [
+      | inl q ↦
+          let q = from_map section_page p (section_pages t.images (leaves_of t.flat d)) q in
+          let f : Own q.0.fill ≡ Memory k j = ap (λ (z : MappedPage). z.shown) q.2 ∙ e in
+          cc
+      | inr q ↦
+          let a = from_gather (pages_of_region t.settled (base s) (regions s d)) p (regions s d) q in
+          let b = from_map (page_of t.settled (begins t d a.0) a.1) p (range_with_len 0 a.1.pages) a.3 in
+          by_content a.0 a.1 b.0 a.1.content refl a.2 (from_range a.1.pages b.0 b.1) b.2
+    ]
+  where
+    by_content : (n : ℕ) (r : Region) (i : ℕ) (c : Content) → r.content ≡ c → slice_get (regions (system t) d) n ≡ Some r → i < r.pages → region_page t.settled c (begins t d n + 4096 * i) i ≡ p → ShowsAt t d p.at k j
+    by_content n r i Stack c h l q = let f : Own None ≡ Memory k j = ap (λ (z : MappedPage). z.shown) q ∙ e in cc
+    by_content n r i Buffer c h l q = let f : Own None ≡ Memory k j = ap (λ (z : MappedPage). z.shown) q ∙ e in cc
+    by_content n r i (Window w) c h l q =
+        let f : Memory w.connection i ≡ Memory k j = ap (λ (z : MappedPage). z.shown) q ∙ e in
+        let number : w.connection ≡ k = cc in
+        let page : i ≡ j = cc in
+        let P : ℕ → Type 0 = λ z. z < r.pages in
+        record {
+          number = n;
+          region = r;
+          e = w;
+          content = c;
+          of_connection = number;
+          page = record { here = h; within = subst P page l; at = ap (λ (z : MappedPage). z.at) (sym q) ∙ ap (λ z. begins t d n + 4096 * z) page };
+        }
+
+-- ---- the frame of a page
+
+frame_by : (t : Tables) → CanMap t → (d : ℕ) (x : Domain) → slice_get t.flat.domains d ≡ Some x → (n : ℕ) (p : MappedPage) → slice_get (mapped_pages (system t) d) n ≡ Some p → (w : Shown) → p.shown ≡ w
+    → (info : FrameInfo) × (slice_get (frames (system t)) (number_shown (system t) d n p.shown) ≡ Some info)
+frame_by t can d x h n p e (Own fill) f = (frame (OfDomain d) None fill, (frames_stand (system t)).own d n p fill e f (below t.flat.domains d x h))
+frame_by t can d x h n p e (Memory k j) f =
+    let s = shows_at t d k j p f (in_place p (mapped_pages (system t) d) n e) in
+    let m = memory_of t d s.region s.e (in_place s.region (regions (system t) d) s.number s.page.here) s.content in
+    let P : ℕ → Type 0 = λ z. slice_get t.flat.connections z ≡ Some m.connection in
+    let pages : s.region.pages ≡ memory_pages t.settled k m.connection = m.pages ∙ ap (λ z. memory_pages t.settled z m.connection) s.of_connection in
+    let l = s.page.within in
+    let g = memory_frame t can k j m.connection (subst P s.of_connection m.here) m.kind (omega (arith, pages, l)) in
+    (g.0, ap (λ z. slice_get (frames (system t)) (number_shown (system t) d n z)) f ∙ g.1)
+
+pub frame_of_page : (t : Tables) → CanMap t → (d : ℕ) (x : Domain) → slice_get t.flat.domains d ≡ Some x → (n : ℕ) (p : MappedPage) → slice_get (mapped_pages (system t) d) n ≡ Some p
+    → (info : FrameInfo) × (object_at (spec_of t) (place t (FrameOf (number_shown (system t) d n p.shown))) ≡ Some (frame_object info))
+frame_of_page t can d x h n p e =
+    let i = frame_by t can d x h n p e p.shown refl in
+    let f = number_shown (system t) d n p.shown in
+    (i.0, frame_there t f i.0 (ap (λ (z : Spaces). slice_get z.frames f) can.spaces ∙ i.1))

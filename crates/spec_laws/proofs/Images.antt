@@ -1,0 +1,48 @@
+-- The images of a system, put together
+use Rattle.std.proofs.Common.{◌≡◌, suc, List, [], ◌∷◌, length, map, refl, ap}
+use Rattle.cap_model.specs.declared.spec.Entry.{Entry}
+use Rattle.system_spec.specs.declared.part.Part.{Part}
+use Rattle.system_spec.specs.Made.{entry, labels_of, part_label, part_name, spec_of}
+use Rattle.system_spec.specs.MapLines.{map_lines}
+use Rattle.system_spec.specs.Parts.{parts}
+use Rattle.system_spec.specs.Tables.{Tables}
+use Rattle.spec_laws.specs.CanMap.{CanMap}
+use Rattle.spec_laws.specs.Imaged.{AreImages}
+use Rattle.spec_laws.specs.Slotted.{CanSlot}
+use Rattle.spec_laws.specs.Spaced.{root_of}
+use Rattle.spec_laws.proofs.AllFrames.{all_frames}
+use Rattle.spec_laws.proofs.DomainLines.{domains_are}
+use Rattle.spec_laws.proofs.Irqs.{irqs_are}
+use Rattle.spec_laws.proofs.Joints.{endpoints_are, notifications_are}
+use Rattle.spec_laws.proofs.Labels.{domain_labels, frame_labels}
+use Rattle.spec_laws.proofs.Owning.{own_frames_are}
+use Rattle.spec_laws.proofs.Regioning.{regions_are}
+use Rattle.spec_laws.proofs.Roots.{roots_are}
+use Rattle.spec_laws.proofs.Showing.{memory_frames}
+use Rattle.spec_laws.proofs.Spaces.{pages_are}
+use Rattle.spec_laws.proofs.Threading.{threads_hold}
+
+as_many : {X Y Z : Type 0} (f : X → Y) (g : X → Z) (xs : List X) → length (map f xs) ≡ length (map g xs)
+as_many f g [] = refl
+as_many f g (x ∷ xs) = ap suc (as_many f g xs)
+
+named : (t : Tables) (ps : List Part) → map (λ (e : Entry). e.name) (map (entry t) ps) ≡ map part_name ps
+named t [] = refl
+named t (p ∷ ps) = ap (λ z. part_name p ∷ z) (named t ps)
+
+pub images_are : (t : Tables) → CanMap t → CanSlot t → AreImages t (spec_of t) (root_of t) (labels_of t) (map_lines t)
+images_are t can slotted = record {
+  named = named t (parts t);
+  domains = domains_are t;
+  roots = roots_are t can;
+  pages = λ d x h. pages_are t can d x h;
+  threads = threads_hold t can;
+  regions = regions_are t can;
+  frames = record { memory = memory_frames t can; own = own_frames_are t can; all = all_frames t can };
+  labels_are = record {
+    as_many = as_many (part_label t) (entry t) (parts t);
+    of_domains = domain_labels t can slotted;
+    of_joints = record { endpoints = endpoints_are t can; notifications = notifications_are t can; irqs = irqs_are t can };
+    of_frames = frame_labels t can;
+  };
+}

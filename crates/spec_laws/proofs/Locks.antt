@@ -1,0 +1,218 @@
+-- No two uses have one lock
+use Rattle.std.proofs.Common.{◌≡◌, ◌+◌, ℕ, zero, suc, List, [], ◌∷◌, map, Option, Some, None, refl, sym, ◌∙◌, ap, subst, inl, inr, arith}
+use Rattle.std.specs.List.{slice_get}
+use Rattle.std.specs.Option.{option_map_or}
+use Rattle.std.specs.Prelude.{slice_index_or}
+use Rattle.adl_meaning.specs.declared.connector.Connector.{Connector}
+use Rattle.adl_meaning.specs.declared.connector.Connector.TheVariants.{Rpc, Notification as Notifies, SharedMemory, Mmio, Interrupt, Direct}
+use Rattle.adl_meaning.specs.declared.flat.Domain.{Domain}
+use Rattle.adl_meaning.specs.declared.flat.FlatConnection.{FlatConnection}
+use Rattle.arch_policy.specs.declared.owner.Owner.TheVariants.{OfDomain}
+use Rattle.cap_model.specs.declared.cap.Cap.{Cap}
+use Rattle.cap_model.specs.declared.object.Object.{Object}
+use Rattle.cap_model.specs.declared.object.Object.TheVariants as objects
+use Rattle.cap_model.specs.declared.spec.Entry.{Entry}
+use Rattle.cap_model.specs.declared.spec.Spec.{Spec}
+use Rattle.cap_model.specs.Lookup.{entry_object, name_at, object_at}
+use Rattle.cspace_layout.specs.declared.plan.SlotPlan.{SlotPlan}
+use Rattle.cspace_layout.specs.declared.plan.SlotUse.{SlotUse}
+use Rattle.cspace_layout.specs.declared.plan.SlotUse.TheVariants.{OfEnd, Handler, OwnLock}
+use Rattle.cspace_layout.specs.declared.plan.Slots.{Slots}
+use Rattle.cspace_layout.specs.Uses.{domain_uses, plan_of}
+use Rattle.numbering.specs.Gather.{IsIn, gather}
+use Rattle.numbering.proofs.Gathered.{from_gather, in_gather, in_place, place_of}
+use Rattle.page_tables.specs.declared.layer.Layer.{Layer}
+use Rattle.page_tables.specs.Levels.{layers, numbered as in_levels, sizes, table_of}
+use Rattle.page_tables.specs.Shapes.{shapes}
+use Rattle.vspace_layout.proofs.Rising.{Each, each_append}
+use Rattle.system_spec.specs.declared.part.Owned.{Owned}
+use Rattle.system_spec.specs.declared.part.Part.{Part}
+use Rattle.system_spec.specs.declared.part.What.{What}
+use Rattle.system_spec.specs.declared.part.What.TheVariants.{CNodeOf, ThreadOf, EndpointOf, NotificationOf, LockOf, IrqOf, TableOf, FrameOf}
+use Rattle.system_spec.specs.declared.series.Series.TheVariants as series
+use Rattle.system_spec.specs.Made.{entry, spec_of}
+use Rattle.system_spec.specs.Names.{name_of}
+use Rattle.system_spec.specs.Objects.{frame_object, object, slots_at, tcb, use_cap}
+use Rattle.system_spec.specs.Parts.{domain_locks, lock, locks, numbered, owned, page_mapping, part, parts, place, sections, tables_at}
+use Rattle.system_spec.specs.Tables.{Tables, arch, device_of, pages_at, threads_at, uses_at}
+use Rattle.system_spec.proofs.Objects.{in_together, objects_stand}
+use Rattle.system_spec.proofs.Standing.{place_is, stands}
+use Rattle.spec_laws.specs.Slotted.{CanSlot, IsJoint, IsNamed, OwnLocks}
+use Rattle.spec_laws.proofs.SlotLists.{one, some}
+use Rattle.spec_laws.proofs.Slotting.{cap_is, has_irq, of_handler, of_use as from_use, uses_are}
+
+-- ---- what is a CNode
+
+abbrev NoCNode : Object → Type 0
+NoCNode (objects.CNode bits slots) = ⊥
+NoCNode _ = Unit {0}
+
+pub each_map : {X Y : Type 0} (P : Y → Type 0) (f : X → Y) (xs : List X) → ((x : X) → P (f x)) → Each P (map f xs)
+each_map P f [] h = tt
+each_map P f (x ∷ xs) h = (h x, each_map P f xs h)
+
+no_table : (first link : ℕ) (ys : List Layer) → Each NoCNode (in_levels first link ys)
+no_table first link [] = tt
+no_table first link (y ∷ ys) = each_append NoCNode (in_levels first (first + sizes ys) ys) (map (table_of y.shape link) y.tables) (no_table first (first + sizes ys) ys) (each_map NoCNode (table_of y.shape link) y.tables (λ r. tt))
+
+at_index : {X : Type 0} (P : X → Type 0) (xs : List X) (n : ℕ) (d : X) → Each P xs → P d → P (slice_index_or xs n d)
+at_index P [] n d h k = k
+at_index P (x ∷ xs) zero d h k = h.0
+at_index P (x ∷ xs) (suc n) d h k = at_index P xs n d h.1 k
+
+by_option : {X : Type 0} (P : Object → Type 0) (f : X → Object) (o : Option X) → ((x : X) → P (f x)) → P objects.Endpoint → P (option_map_or f o objects.Endpoint)
+by_option P f None h k = k
+by_option P f (Some x) h k = h x
+
+pub what_is : (t : Tables) (w : What) (bits : ℕ) (slots : List (ℕ × Cap)) → object t w ≡ objects.CNode bits slots → (e : ℕ) × (w ≡ CNodeOf e)
+what_is t (CNodeOf e) bits slots h = (e, refl)
+what_is t (ThreadOf d i) bits slots h = absurd (subst NoCNode h (by_option NoCNode (λ x. objects.Thread (tcb t d x)) (slice_get (threads_at t d) i) (λ x. tt) tt))
+what_is t (EndpointOf k) bits slots h = absurd (subst NoCNode h tt)
+what_is t (NotificationOf k) bits slots h = absurd (subst NoCNode h tt)
+what_is t (LockOf d n) bits slots h = absurd (subst NoCNode h tt)
+what_is t (IrqOf k) bits slots h = absurd (subst NoCNode h tt)
+what_is t (TableOf d j) bits slots h = absurd (subst NoCNode h (at_index NoCNode (tables_at t (place t (TableOf d 0)) (place t (FrameOf 0)) d) j objects.Endpoint (no_table (place t (TableOf d 0)) 0 (layers (shapes (arch t)) (map (page_mapping (place t (FrameOf 0))) (pages_at t d)))) tt))
+what_is t (FrameOf f) bits slots h = absurd (subst NoCNode h (by_option NoCNode frame_object (slice_get t.spaces.frames f) (λ x. tt) tt))
+
+pub get_of_map : {X Y : Type 0} (f : X → Y) (xs : List X) (i : ℕ) (y : Y) → slice_get (map f xs) i ≡ Some y → (x : X) × (slice_get xs i ≡ Some x) × (f x ≡ y)
+get_of_map f [] i y e = cc
+get_of_map f (x ∷ xs) zero y e = (x, refl, cc)
+get_of_map f (x ∷ xs) (suc i) y e = get_of_map f xs i y e
+
+pub part_there : (t : Tables) (m : ℕ) (o : Object) → object_at (spec_of t) m ≡ Some o → (p : Part) × (slice_get (parts t) m ≡ Some p) × (object t p.what ≡ o)
+part_there t m o h = by_entry (slice_get (map (entry t) (parts t)) m) refl h
+  where
+    by_entry : (e : Option Entry) → slice_get (map (entry t) (parts t)) m ≡ e → entry_object e ≡ Some o → (p : Part) × (slice_get (parts t) m ≡ Some p) × (object t p.what ≡ o)
+    by_entry None f k = cc
+    by_entry (Some e) f k =
+        let p = get_of_map (entry t) (parts t) m e f in
+        let same : e.object ≡ o = cc in
+        (p.0, p.1, ap (λ (z : Entry). z.object) p.2 ∙ same)
+
+none_map : {X Y : Type 0} (f : X → Y) (xs : List X) (i : ℕ) → slice_get xs i ≡ None → slice_get (map f xs) i ≡ None
+none_map f [] i e = refl
+none_map f (x ∷ xs) zero e = cc
+none_map f (x ∷ xs) (suc i) e = none_map f xs i e
+
+lock_same : (d n e m : ℕ) → LockOf d n ≡ LockOf e m → (d ≡ e) × (n ≡ m)
+lock_same d n e m h = (cc, cc)
+
+-- ---- names of series
+
+abbrev first : List ℕ → ℕ
+first [] = 0
+first (b ∷ bs) = b
+
+no_ep : (k r : ℕ) → name_of series.Ep k ≡ name_of series.Lock r → ⊥
+no_ep k r e = let h : 101 ≡ 108 = ap first e in absurd (omega (arith, h))
+
+no_ntfn : (k r : ℕ) → name_of series.Ntfn k ≡ name_of series.Lock r → ⊥
+no_ntfn k r e = let h : 110 ≡ 108 = ap first e in absurd (omega (arith, h))
+
+no_irq : (k r : ℕ) → name_of series.Irq k ≡ name_of series.Lock r → ⊥
+no_irq k r e = let h : 105 ≡ 108 = ap first e in absurd (omega (arith, h))
+
+no_joint : (spec : Spec) (at k r : ℕ) (c : Connector) → IsJoint spec at c k → IsNamed spec at series.Lock r → ⊥
+no_joint spec at k r Rpc j n = no_ep k r (sym j ∙ n)
+no_joint spec at k r Notifies j n = no_ntfn k r (sym j ∙ n)
+no_joint spec at k r Interrupt j n = no_ntfn k r (sym j ∙ n)
+no_joint spec at k r SharedMemory j n = j
+no_joint spec at k r Mmio j n = j
+no_joint spec at k r Direct j n = j
+
+module _ (t : Tables) (can : CanSlot t) where
+  abbrev spec : Spec
+  spec = spec_of t
+
+  -- a slot that leads to a lock
+  pub record IsLockSlot (d m : ℕ) (a : Cap) : Type 0 where
+    pub number : ℕ
+    pub slot : m ≡ number + 1
+    pub named : ℕ
+    pub there : IsIn (part series.Lock named (OfDomain d) (LockOf d number)) (parts t)
+    pub leads : a.object ≡ place t (LockOf d number)
+
+  abbrev slots_of_cnode : Object → List (ℕ × Cap)
+  slots_of_cnode (objects.CNode bits slots) = slots
+  slots_of_cnode _ = []
+
+  lock_there : (d n leaf l : ℕ) (x : Domain) → slice_get t.flat.domains d ≡ Some x → slice_get (uses_at t d) n ≡ Some (OwnLock leaf l) → (j : ℕ) × IsIn (part series.Lock j (OfDomain d) (LockOf d n)) (parts t)
+  lock_there d n leaf l x h e =
+      let y = owned (OfDomain d) (LockOf d n) in
+      let i = in_gather (lock d) y (uses_at t d) n (OwnLock leaf l) e (inl refl) in
+      let j = place_of y (locks t) (in_gather (domain_locks t) y t.flat.domains d x h i) in
+      let f : ℕ → Owned → List Part = λ n z. part series.Lock n z.owner z.what ∷ [] in
+      let p = part series.Lock j.0 (OfDomain d) (LockOf d n) in
+      (j.0, in_together (sections t) 4 (numbered series.Lock (locks t)) p refl (in_gather f p (locks t) j.0 y j.1 (inl refl)))
+
+  -- a handler is of an interrupt, and leads to it
+  record IsHandled (d n k l : ℕ) : Type 0 where
+    connection : FlatConnection
+    here : slice_get t.flat.connections k ≡ Some connection
+    is_interrupt : connection.connector ≡ Interrupt
+    leads : (use_cap t d n (Handler k l)).object ≡ place t (IrqOf k)
+
+  handled : (d n k l : ℕ) (x : Domain) → slice_get t.flat.domains d ≡ Some x → slice_get (uses_at t d) n ≡ Some (Handler k l) → IsHandled d n k l
+  handled d n k l x h e =
+      let P : List SlotUse → Type 0 = λ us. IsIn (Handler k l) us in
+      elim (from_use t x.leaves (Handler k l) (subst P (uses_are t can d x h) (in_place (Handler k l) (uses_at t d) n e))) [
+        | inl o ↦
+            let u = of_handler o.connection.connector o.end.role o.place o.number k l o.used in
+            let Q : ℕ → Type 0 = λ z. slice_get t.flat.connections z ≡ Some o.connection in
+            record { connection = o.connection; here = subst Q u.0 o.here; is_interrupt = u.2; leads = refl }
+        | inr o ↦ let z = o.2 in cc
+      ]
+
+  of_use : (d n r : ℕ) (x : Domain) (u : SlotUse) → slice_get t.flat.domains d ≡ Some x → slice_get (uses_at t d) n ≡ Some u → IsNamed spec (use_cap t d n u).object series.Lock r → IsLockSlot d (n + 1) (use_cap t d n u)
+  of_use d n r x (OfEnd k l) h e name = let c = cap_is t can d n x (OfEnd k l) h e in absurd (no_joint spec (use_cap t d n (OfEnd k l)).object k r c.connection.connector c.joint name)
+  of_use d n r x (Handler k l) h e name =
+      let c = handled d n k l x h e in
+      let j = has_irq t can k c.connection c.here c.is_interrupt in
+      absurd (no_irq j.0 r (sym ((objects_stand t).name (part series.Irq j.0 (device_of c.connection.connector c.connection.ends) (IrqOf k)) j.1) ∙ ap (λ z. name_at spec z) (sym c.leads) ∙ name))
+  of_use d n r x (OwnLock leaf l) h e name = let j = lock_there d n leaf l x h e in record { number = n; slot = refl; named = j.0; there = j.1; leads = refl }
+
+  no_uses : (d : ℕ) → slice_get t.flat.domains d ≡ None → uses_at t d ≡ []
+  no_uses d h =
+      ap (λ (s : Slots). option_map_or (λ (plan : SlotPlan). plan.uses) (slice_get s.domains d) []) can.slots
+      ∙ ap (λ o. option_map_or (λ (plan : SlotPlan). plan.uses) o []) (none_map (λ (z : Domain). plan_of (domain_uses t.source t.flat z.leaves)) t.flat.domains d h)
+
+  in_domain : (d m r : ℕ) (a : Cap) (q : Option Domain) → slice_get t.flat.domains d ≡ q → IsIn (m, a) (slots_at t d) → IsNamed spec a.object series.Lock r → IsLockSlot d m a
+  in_domain d m r a None h j name =
+      let slot : ℕ × Cap = (m, a) in
+      let f : ℕ → SlotUse → List (ℕ × Cap) = λ n u. (n + 1, use_cap t d n u) ∷ [] in
+      absurd (subst (λ (us : List SlotUse). IsIn slot (gather f us)) (no_uses d h) j)
+  in_domain d m r a (Some x) h j name =
+      let f : ℕ → SlotUse → List (ℕ × Cap) = λ n u. (n + 1, use_cap t d n u) ∷ [] in
+      let b = from_gather f (m, a) (uses_at t d) j in
+      let mine : ℕ × Cap = (b.0 + 1, use_cap t d b.0 b.1) in
+      let eq : mine ≡ (m, a) = one mine (m, a) b.3 in
+      let cap : use_cap t d b.0 b.1 ≡ a = ap (λ (z : ℕ × Cap). z.1) eq in
+      let slot : b.0 + 1 ≡ m = ap (λ (z : ℕ × Cap). z.0) eq in
+      let k = of_use d b.0 r x b.1 h b.2 (ap (λ (z : Cap). name_at spec z.object) cap ∙ name) in
+      record { number = k.number; slot = sym slot ∙ k.slot; named = k.named; there = k.there; leads = ap (λ (z : Cap). z.object) (sym cap) ∙ k.leads }
+
+  pub slot_is : (d m r bits : ℕ) (slots : List (ℕ × Cap)) (a : Cap) → object_at spec d ≡ Some (objects.CNode bits slots) → IsIn (m, a) slots → IsNamed spec a.object series.Lock r → IsLockSlot d m a
+  slot_is d m r bits slots a o i name =
+      let p = part_there t d (objects.CNode bits slots) o in
+      let w = what_is t p.0.what bits slots p.2 in
+      let at : place t (CNodeOf w.0) ≡ d = ap (λ z. place t z) (sym w.1) ∙ place_is t d p.0 p.1 in
+      let same : w.0 ≡ d = omega (arith, at) in
+      let filled : slots_at t d ≡ slots = ap (λ z. slots_at t z) (sym same) ∙ ap slots_of_cnode (ap (λ z. object t z) (sym w.1) ∙ p.2) in
+      let P : List (ℕ × Cap) → Type 0 = λ z. IsIn (m, a) z in
+      in_domain d m r a (slice_get t.flat.domains d) refl (subst P (sym filled) i) name
+
+  own : OwnLocks spec
+  own d m n e a b bits more slots others r s o q i j u v eq =
+      let x = slot_is d m r bits slots a o i u in
+      let y = slot_is e n s more others b q j v in
+      let p = part series.Lock x.named (OfDomain d) (LockOf d x.number) in
+      let w = part series.Lock y.named (OfDomain e) (LockOf e y.number) in
+      let at : place t (LockOf d x.number) ≡ place t (LockOf e y.number) = sym x.leads ∙ eq ∙ y.leads in
+      let P : ℕ → Type 0 = λ z. slice_get (parts t) z ≡ Some p in
+      let parts_same : p ≡ w = some (slice_get (parts t) (place t (LockOf e y.number))) p w (subst P at (stands t p x.there)) (stands t w y.there) in
+      let what : LockOf d x.number ≡ LockOf e y.number = ap (λ (z : Part). z.what) parts_same in
+      let number : x.number ≡ y.number = (lock_same d x.number e y.number what).1 in
+      ((lock_same d x.number e y.number what).0, x.slot ∙ ap (λ z. z + 1) number ∙ sym y.slot)
+
+pub own_locks : (t : Tables) → CanSlot t → OwnLocks (spec_of t)
+own_locks t can = own t can

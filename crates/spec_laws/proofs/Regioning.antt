@@ -1,0 +1,255 @@
+-- The regions of spaces, and the lines of windows
+use Rattle.std.proofs.Common.{◌≡◌, ◌+◌, ◌*◌, ◌/◌, ◌%◌, ℕ, zero, suc, Bool, true, false, cond, List, [], ◌∷◌, ◌++◌, length, map, Option, Some, None, refl, sym, ◌∙◌, ap, subst, inl, inr, arith}
+use Rattle.std.specs.List.{find, flat_map, slice_get}
+use Rattle.std.specs.Option.{option_map_or}
+use Rattle.std.specs.Prelude.{◌==◌, option_map}
+use Rattle.std.proofs.lemmas.Bool.{eq-eqb, eqb-true}
+use Rattle.adl_meaning.specs.declared.flat.Domain.{Domain}
+use Rattle.adl_meaning.specs.declared.flat.FlatConnection.{FlatConnection}
+use Rattle.adl_meaning.specs.declared.settled.LeafSetting.{LeafSetting}
+use Rattle.adl_meaning.specs.declared.settled.Settled.{Settled}
+use Rattle.cap_model.specs.declared.cap.Cap.{Cap}
+use Rattle.cap_model.specs.declared.object.Object.TheVariants as objects
+use Rattle.cap_model.specs.declared.object.Tcb.{Tcb}
+use Rattle.cap_model.specs.Lookup.{object_at}
+use Rattle.conn_rules.specs.Row.{RW}
+use Rattle.cspace_layout.specs.declared.plan.SlotUse.{SlotUse}
+use Rattle.cspace_layout.specs.declared.plan.SlotUse.TheVariants.{OfEnd, Handler, OwnLock}
+use Rattle.leaf_ends.specs.declared.end_at.EndAt.{EndAt}
+use Rattle.numbering.specs.Gather.{IsIn, gather}
+use Rattle.numbering.proofs.Gathered.{from_gather, from_ones, get_ones, in_append, in_gather, in_place, in_right, place_of}
+use Rattle.numbering.proofs.Lists.{get_map}
+use Rattle.system_spec.specs.declared.map_line.MapLine.{MapLine}
+use Rattle.system_spec.specs.declared.map_line.MapLine.TheVariants.{DomainLine, ThreadLine, WindowLine}
+use Rattle.system_spec.specs.declared.part.What.TheVariants.{FrameOf, ThreadOf as OfThread}
+use Rattle.system_spec.specs.Made.{spec_of}
+use Rattle.system_spec.specs.MapLines.{domain_lines, domain_slots, domain_threads, domain_windows, map_lines, slot_line, slot_lines, thread_line, thread_lines, window_line, window_lines}
+use Rattle.system_spec.specs.Objects.{cap, frame_at, tcb, use_cap}
+use Rattle.system_spec.specs.Parts.{place}
+use Rattle.system_spec.specs.Tables.{Tables, pages_at, threads_at, uses_at, windows_at}
+use Rattle.vspace_layout.specs.declared.mapped.MappedPage.{MappedPage}
+use Rattle.vspace_layout.specs.declared.region.Content.TheVariants.{Buffer}
+use Rattle.vspace_layout.specs.declared.region.Region.{Region}
+use Rattle.vspace_layout.specs.declared.spaces.Page.{Page}
+use Rattle.vspace_layout.specs.declared.spaces.Space.{Space}
+use Rattle.vspace_layout.specs.declared.spaces.Spaces.{Spaces}
+use Rattle.vspace_layout.specs.declared.spaces.ThreadPlace.{ThreadPlace}
+use Rattle.vspace_layout.specs.declared.spaces.Window.{Window}
+use Rattle.vspace_layout.specs.declared.thread.ThreadOf.{ThreadOf}
+use Rattle.vspace_layout.specs.Frames.{number_shown}
+use Rattle.vspace_layout.specs.Given.{ends, leaves_of}
+use Rattle.vspace_layout.specs.Laid.{page, space, thread_place, window_at}
+use Rattle.vspace_layout.specs.MappedPages.{mapped_pages, region_page}
+use Rattle.vspace_layout.specs.Memory.{memory_pages}
+use Rattle.vspace_layout.specs.Regions.{domain_windows as windows_in, region, thread_regions, threads_of, window_region, windows_of}
+use Rattle.vspace_layout.specs.Threads.{domain_threads as threads_in}
+use Rattle.spec_laws.specs.CanMap.{CanMap}
+use Rattle.spec_laws.specs.Regioned.{AreRegions, HasRegions, IsWindowLine, SaysWindow}
+use Rattle.spec_laws.specs.Spaced.{IsAt, IsRegionPage, begins, root_of, system}
+use Rattle.spec_laws.proofs.Finding.{pages_are, rise}
+use Rattle.spec_laws.proofs.Paging.{region_in, window_is}
+use Rattle.spec_laws.proofs.Rooted.{frames_from}
+use Rattle.spec_laws.proofs.SlotLists.{one, some}
+use Rattle.spec_laws.proofs.Spaces.{is_at, rises_tell}
+use Rattle.spec_laws.proofs.Threading.{one_line}
+use Rattle.spec_laws.proofs.Threads.{has_thread, line_to, thread_object}
+
+-- ---- what is found by a test that one alone passes
+
+find_is : {X : Type 0} (p : X → Bool) (xs : List X) (n : ℕ) (x : X) → slice_get xs n ≡ Some x → p x ≡ true → ((m : ℕ) (y : X) → slice_get xs m ≡ Some y → p y ≡ true → y ≡ x) → find p xs ≡ Some x
+find_is p [] n x e h u = cc
+find_is {X} p (z ∷ zs) n x e h u = by_test (p z) refl (λ k f. find_is p zs k x f h (λ m y g k. u (suc m) y g k))
+  where
+    rest : (n : ℕ) → slice_get (z ∷ zs) n ≡ Some x → p z ≡ false → ((k : ℕ) → slice_get zs k ≡ Some x → find p zs ≡ Some x) → find p zs ≡ Some x
+    rest zero e f more =
+        let same : z ≡ x = cc in
+        let g : p z ≡ true = ap p same ∙ h in
+        cc
+    rest (suc n) e f more = more n e
+
+    by_test : (b : Bool) → p z ≡ b → ((k : ℕ) → slice_get zs k ≡ Some x → find p zs ≡ Some x) → cond b (Some z) (find p zs) ≡ Some x
+    by_test true f more = ap (λ w. Some w) (u 0 z refl f)
+    by_test false f more = rest n e f more
+
+-- thread i has the regions 2 i and 2 i + 1
+buffer_at : (settled : Settled) (ts : List ThreadOf) (more : List Region) (i : ℕ) (x : ThreadOf) → slice_get ts i ≡ Some x → slice_get (flat_map (thread_regions settled) ts ++ more) (2 * i + 1) ≡ Some (region Buffer 1)
+buffer_at settled [] more i x e = cc
+buffer_at settled (y ∷ ts) more zero x e =
+    let n : 2 * zero + 1 ≡ 1 = omega arith in ap (λ z. slice_get (flat_map (thread_regions settled) (y ∷ ts) ++ more) z) n
+buffer_at settled (y ∷ ts) more (suc i) x e =
+    let n : 2 * suc i + 1 ≡ suc (suc (2 * i + 1)) = omega arith in
+    ap (λ z. slice_get (flat_map (thread_regions settled) (y ∷ ts) ++ more) z) n ∙ buffer_at settled ts more i x e
+
+whole_stack : (n : ℕ) → n % 4096 ≡ 0 → 4096 * (n / 4096) ≡ n
+whole_stack n h = omega (arith, h)
+
+same_thread : (a b : Tcb) (o : Option _) → o ≡ Some (objects.Thread a) → o ≡ Some (objects.Thread b) → a ≡ b
+same_thread a b o e f = cc
+
+module _ (t : Tables) (can : CanMap t) where
+  no_leaves : (d : ℕ) → slice_get t.flat.domains d ≡ None → leaves_of t.flat d ≡ []
+  no_leaves d h = ap (λ o. option_map_or (λ (z : Domain). z.leaves) o []) h
+
+  thread_domain : (d i : ℕ) (y : ThreadOf) → slice_get (threads_of (system t) d) i ≡ Some y → (x : Domain) × (slice_get t.flat.domains d ≡ Some x)
+  thread_domain d i y e = by_domain (slice_get t.flat.domains d) refl
+    where
+      by_domain : (o : Option Domain) → slice_get t.flat.domains d ≡ o → (x : Domain) × (slice_get t.flat.domains d ≡ Some x)
+      by_domain (Some x) h = (x, h)
+      by_domain None h =
+          let none : threads_of (system t) d ≡ [] = ap (λ ls. threads_in t.flat (ends (system t)) ls) (no_leaves d h) in
+          let P : List ThreadOf → Type 0 = λ z. slice_get z i ≡ Some y in
+          let f = subst P none e in cc
+
+  window_domain : (d i : ℕ) (y : EndAt) → slice_get (windows_of (system t) d) i ≡ Some y → (x : Domain) × (slice_get t.flat.domains d ≡ Some x)
+  window_domain d i y e = by_domain (slice_get t.flat.domains d) refl
+    where
+      by_domain : (o : Option Domain) → slice_get t.flat.domains d ≡ o → (x : Domain) × (slice_get t.flat.domains d ≡ Some x)
+      by_domain (Some x) h = (x, h)
+      by_domain None h =
+          let none : windows_of (system t) d ≡ [] = ap (λ ls. windows_in t.flat (ends (system t)) ls) (no_leaves d h) in
+          let P : List EndAt → Type 0 = λ z. slice_get z i ≡ Some y in
+          let f = subst P none e in cc
+
+  -- ---- the buffer of a thread
+
+  module _ (d i : ℕ) (x : Domain) (y : ThreadOf) (h : slice_get t.flat.domains d ≡ Some x) (e : slice_get (threads_of (system t) d) i ≡ Some y) where
+    abbrev start : ℕ
+    start = begins t d (2 * i + 1)
+
+    abbrev q : MappedPage
+    q = region_page t.settled Buffer (start + 4096 * 0) 0
+
+    there : (n : ℕ) × (slice_get (mapped_pages (system t) d) n ≡ Some q)
+    there =
+        let b = buffer_at t.settled (threads_of (system t) d) (map (window_region t.flat t.settled) (windows_of (system t) d)) i y e in
+        let p : IsRegionPage t d (2 * i + 1) (start + 4096 * 0) 0 (region Buffer 1) = record { here = b; within = omega arith; at = refl } in
+        place_of q (mapped_pages (system t) d) (region_in t can.settled d (2 * i + 1) (start + 4096 * 0) 0 (region Buffer 1) Buffer p refl)
+
+    begin : start + 4096 * 0 ≡ start
+    begin = omega arith
+
+    abbrev laid : ℕ → MappedPage → Page
+    laid n p = page (system t) d n p
+
+    page_there : slice_get (pages_at t d) there.0 ≡ Some (laid there.0 q)
+    page_there = ap (λ z. slice_get z there.0) (pages_are t can d x h) ∙ get_ones laid (mapped_pages (system t) d) there.0 q there.1
+
+    one_page : (m : ℕ) (p : Page) → slice_get (pages_at t d) m ≡ Some p → (p.vaddr == start) ≡ true → p ≡ laid there.0 q
+    one_page m p g k =
+        let u = from_ones laid (mapped_pages (system t) d) m p (ap (λ z. slice_get z m) (sym (pages_are t can d x h)) ∙ g) in
+        let pages = mapped_pages (system t) d in
+        let at : u.0.at ≡ start + 4096 * 0 = ap (λ (z : Page). z.vaddr) u.2 ∙ eqb-true p.vaddr start k ∙ sym begin in
+        let a = get_map (λ (z : MappedPage). z.at) pages m u.0 u.1 in
+        let b = get_map (λ (z : MappedPage). z.at) pages there.0 q there.1 in
+        let number : m ≡ there.0 = rises_tell (map (λ (z : MappedPage). z.at) pages) m there.0 u.0.at (rise t can d x h).rise a (b ∙ ap (λ z. Some z) (sym at)) in
+        let shown : u.0 ≡ q = some (slice_get pages there.0) u.0 q (ap (λ z. slice_get pages z) (sym number) ∙ u.1) there.1 in
+        sym u.2 ∙ ap (λ z. laid z u.0) number ∙ ap (λ z. laid there.0 z) shown
+
+    frame_is : frame_at (pages_at t d) start ≡ Some (number_shown (system t) d there.0 q.shown)
+    frame_is = ap (λ o. option_map (λ (z : Page). z.frame) o) (find_is (λ (z : Page). z.vaddr == start) (pages_at t d) there.0 (laid there.0 q) page_there (eq-eqb (start + 4096 * 0) start begin) one_page)
+
+    pub regions_hold : HasRegions t (spec_of t) (root_of t d) d i y (tcb t d (thread_place (system t) d i y))
+    regions_hold =
+        let w = has_thread t can d x h y (in_place y (threads_of (system t) d) i e) in
+        let g = can.grouped.listed d y.leaf x h w.1 in
+        let s = can.settled.leaf y.leaf g.0 g.1 in
+        let f = number_shown (system t) d there.0 q.shown in
+        let c = cap (place t (FrameOf f)) RW 0 in
+        let same : frames_from t + f ≡ place t (FrameOf f) = omega arith in
+        let P : Cap → Type 0 = λ z. IsAt (spec_of t) (root_of t d) start z in
+        record {
+          setting = s.0;
+          settled = s.1;
+          stack_ends = ap (λ o. begins t d (2 * i) + 4096 * option_map_or (λ (z : LeafSetting). z.stack / 4096) o 0) s.1 ∙ ap (λ z. begins t d (2 * i) + z) (whole_stack s.0.stack (can.settled.stack y.leaf s.0 s.1));
+          buffer_at = refl;
+          cap = c;
+          buffer = ap (λ o. option_map (λ z. cap (place t (FrameOf z)) RW 0) o) frame_is;
+          rights = refl;
+          mapped = subst P (ap (λ z. cap z RW 0) same) (is_at t can d x h start there.0 q there.1 (ap (λ z. z / 4096) begin));
+        }
+
+  of_threads : (d i at : ℕ) (y : ThreadOf) (c : Tcb) → slice_get (threads_of (system t) d) i ≡ Some y → IsIn (ThreadLine at y.leaf y.end) (map_lines t) → object_at (spec_of t) at ≡ Some (objects.Thread c) → HasRegions t (spec_of t) (root_of t d) d i y c
+  of_threads d i at y c e line o =
+      let x = thread_domain d i y e in
+      let here = one_line t can at (place t (OfThread d i)) y.leaf y.end line (line_to t can d i x.0 y x.1 e) in
+      let made = tcb t d (thread_place (system t) d i y) in
+      let same : made ≡ c = same_thread made c (object_at (spec_of t) at) (ap (λ z. object_at (spec_of t) z) here ∙ thread_object t can d i x.0 y x.1 e) o in
+      subst (HasRegions t (spec_of t) (root_of t d) d i y) same (regions_hold d i x.0 y x.1 e)
+
+  -- ---- windows
+
+  windows_are : (d : ℕ) (x : Domain) → slice_get t.flat.domains d ≡ Some x → windows_at t d ≡ gather (λ j e. window_at (system t) d j e ∷ []) (windows_of (system t) d)
+  windows_are d x h =
+      let f : ℕ → Domain → Space = λ n z. space (system t) n z in
+      ap (λ (z : Spaces). option_map_or (λ (w : Space). w.windows) (slice_get z.spaces d) []) can.spaces
+      ∙ ap (λ o. option_map_or (λ (w : Space). w.windows) o []) (get_ones f t.flat.domains d x h)
+
+  -- what the line of a window says, by its end's connection
+  said : (d j : ℕ) (e : EndAt) (c : FlatConnection) → slice_get t.flat.connections e.connection ≡ Some c
+      → window_line (window_at (system t) d j e) ≡ WindowLine e.connection e.end (begins t d (2 * length (threads_of (system t) d) + j)) (4096 * memory_pages t.settled e.connection c)
+  said d j e c h = ap (λ o. WindowLine e.connection e.end (begins t d (2 * length (threads_of (system t) d) + j)) (4096 * option_map_or (memory_pages t.settled e.connection) o 0)) h
+
+  window_from : (line : MapLine) → IsIn line (window_lines t) → IsWindowLine t line
+  window_from line i =
+      let f : ℕ → Domain → List MapLine = λ d x. domain_windows t d in
+      let a = from_gather f line t.flat.domains i in
+      let g : ℕ → Window → List MapLine = λ n w. window_line w ∷ [] in
+      let b = from_gather g line (windows_at t a.0) a.3 in
+      let k : ℕ → EndAt → Window = λ n z. window_at (system t) a.0 n z in
+      let e = from_ones k (windows_of (system t) a.0) b.0 b.1 (ap (λ z. slice_get z b.0) (sym (windows_are a.0 a.1 a.2)) ∙ b.2) in
+      let v = window_is t a.0 e.0 (in_place e.0 (windows_of (system t) a.0) b.0 e.1) in
+      record {
+        domain = a.0;
+        number = b.0;
+        e = e.0;
+        here = e.1;
+        connection = v.connection;
+        of_connection = v.here;
+        is = sym (one (window_line b.1) line b.3) ∙ ap (λ z. window_line z) (sym e.2) ∙ said a.0 b.0 e.0 v.connection v.here;
+      }
+
+  no_slot : (o n : ℕ) (u : SlotUse) → SaysWindow (slot_line o n u) → ⊥
+  no_slot o n (OfEnd k m) s = s
+  no_slot o n (Handler k m) s = s
+  no_slot o n (OwnLock leaf m) s = s
+
+  only : (line : MapLine) → IsIn line (map_lines t) → SaysWindow line → IsWindowLine t line
+  only line i s = elim (in_append line (domain_lines t) (thread_lines t ++ (slot_lines t ++ window_lines t)) i) [
+    | inl j ↦
+        let f : ℕ → Domain → List MapLine = λ d x. DomainLine d ∷ [] in
+        let a = from_gather f line t.flat.domains j in
+        absurd (subst SaysWindow (sym (one (DomainLine a.0) line a.3)) s)
+    | inr r ↦ elim (in_append line (thread_lines t) (slot_lines t ++ window_lines t) r) [
+      | inl j ↦
+          let f : ℕ → Domain → List MapLine = λ d x. domain_threads t d in
+          let a = from_gather f line t.flat.domains j in
+          let h : ℕ → ThreadPlace → List MapLine = λ n z. thread_line t a.0 n z ∷ [] in
+          let b = from_gather h line (threads_at t a.0) a.3 in
+          absurd (subst SaysWindow (sym (one (thread_line t a.0 b.0 b.1) line b.3)) s)
+      | inr q ↦ elim (in_append line (slot_lines t) (window_lines t) q) [
+        | inl j ↦
+            let f : ℕ → Domain → List MapLine = λ d x. domain_slots t d in
+            let a = from_gather f line t.flat.domains j in
+            let h : ℕ → SlotUse → List MapLine = λ n u. slot_line (use_cap t a.0 n u).object n u ∷ [] in
+            let b = from_gather h line (uses_at t a.0) a.3 in
+            absurd (no_slot (use_cap t a.0 b.0 b.1).object b.0 b.1 (subst SaysWindow (sym (one (slot_line (use_cap t a.0 b.0 b.1).object b.0 b.1) line b.3)) s))
+        | inr j ↦ window_from line j
+      ]
+    ]
+  ]
+
+  every : (line : MapLine) → IsWindowLine t line → IsIn line (map_lines t)
+  every line w =
+      let d = w.domain in
+      let x = window_domain d w.number w.e w.here in
+      let made = window_at (system t) d w.number w.e in
+      let k : ℕ → EndAt → Window = λ n z. window_at (system t) d n z in
+      let at = ap (λ z. slice_get z w.number) (windows_are d x.0 x.1) ∙ get_ones k (windows_of (system t) d) w.number w.e w.here in
+      let f : ℕ → Domain → List MapLine = λ d x. domain_windows t d in
+      let g : ℕ → Window → List MapLine = λ n w. window_line w ∷ [] in
+      let said_is = said d w.number w.e w.connection w.of_connection ∙ sym w.is in
+      let inner = in_gather g line (windows_at t d) w.number made at (inl said_is) in
+      in_right line (domain_lines t) (thread_lines t ++ (slot_lines t ++ window_lines t)) (in_right line (thread_lines t) (slot_lines t ++ window_lines t) (in_right line (slot_lines t) (window_lines t) (in_gather f line t.flat.domains d x.0 x.1 inner)))
+
+  pub regions_are : AreRegions t (spec_of t) (root_of t) (map_lines t)
+  regions_are = record { threads = λ d i at y c e line o. of_threads d i at y c e line o; windows_only = only; windows_every = every }

@@ -1,0 +1,74 @@
+-- The objects from a domain's root on begin with the page tables of its space
+use Rattle.std.proofs.Common.{◌≡◌, ◌+◌, ℕ, List, [], ◌∷◌, ◌++◌, map, drop, length, Some, refl, sym, ◌∙◌, ap, inl, arith}
+use Rattle.std.specs.List.{slice_get}
+use Rattle.adl_meaning.specs.declared.flat.Domain.{Domain}
+use Rattle.cap_model.specs.declared.object.Object.{Object}
+use Rattle.cap_model.specs.declared.object.Object.TheVariants.{Endpoint}
+use Rattle.cap_model.specs.declared.spec.Entry.{Entry}
+use Rattle.numbering.specs.Gather.{IsIn, before}
+use Rattle.numbering.proofs.Gathered.{gathered, get_ones, in_gather}
+use Rattle.numbering.proofs.Lists.{at_place, get_map}
+use Rattle.page_tables.specs.declared.mapping.Mapping.{Mapping}
+use Rattle.page_tables.specs.Counts.{table_count}
+use Rattle.page_tables.specs.Levels.{layers}
+use Rattle.page_tables.specs.Shapes.{shapes}
+use Rattle.page_tables.proofs.Counted.{counts_of_addresses}
+use Rattle.page_tables.proofs.Leveled.{as_many}
+use Rattle.system_spec.specs.declared.part.PageTable.{PageTable}
+use Rattle.system_spec.specs.declared.part.Part.{Part}
+use Rattle.system_spec.specs.declared.part.What.TheVariants.{FrameOf, TableOf}
+use Rattle.system_spec.specs.Made.{entry, spec_of}
+use Rattle.system_spec.specs.Parts.{all_tables, domain_tables, level_of, page_mapping, page_table, parts, place, sections, table_part, table_parts, tables_at}
+use Rattle.system_spec.specs.Tables.{Tables, arch, pages_at}
+use Rattle.system_spec.proofs.Objects.{in_together}
+use Rattle.system_spec.proofs.Standing.{stands}
+use Rattle.vspace_layout.specs.declared.spaces.Page.{Page}
+use Rattle.spec_laws.specs.Spaced.{objects_from, root_of}
+use Rattle.spec_laws.proofs.Members.{begins_with, below, get_drop, index_is}
+
+-- frame 0
+abbrev pub frames_from : Tables → ℕ
+frames_from t = place t (FrameOf 0)
+
+abbrev pub tables_of_domain : Tables → ℕ → List Object
+tables_of_domain t d = tables_at t (root_of t d) (frames_from t) d
+
+at_of : (f : ℕ) (ps : List Page) → map (λ (m : Mapping). m.at) (map (page_mapping f) ps) ≡ map (λ (p : Page). p.vaddr) ps
+at_of f [] = refl
+at_of f (p ∷ ps) = ap (λ z. p.vaddr ∷ z) (at_of f ps)
+
+-- how many there are is a matter of addresses
+count_of : (t : Tables) (first frames d : ℕ) → length (tables_at t first frames d) ≡ table_count (shapes (arch t)) (map (λ (p : Page). p.vaddr) (pages_at t d))
+count_of t first frames d =
+    let xs = map (page_mapping frames) (pages_at t d) in
+    as_many first 0 (layers (shapes (arch t)) xs) ∙ counts_of_addresses (arch t) xs ∙ ap (λ z. table_count (shapes (arch t)) z) (at_of frames (pages_at t d))
+
+module _ (t : Tables) (d : ℕ) (x : Domain) (h : slice_get t.flat.domains d ≡ Some x) where
+  -- page table j of the domain, among all
+  pub table_in : (j : ℕ) (o : Object) → slice_get (tables_at t 0 0 d) j ≡ Some o
+      → IsIn (table_part (all_tables t) (before (domain_tables t) t.flat.domains d + j) (page_table d j (level_of o))) (parts t)
+  table_in j o e =
+      let y = page_table d j (level_of o) in
+      let g : ℕ → Object → PageTable = λ n z. page_table d n (level_of z) in
+      let m = before (domain_tables t) t.flat.domains d + j in
+      let at = gathered (domain_tables t) t.flat.domains d x j y m h (get_ones g (tables_at t 0 0 d) j o e) refl in
+      let p = table_part (all_tables t) m y in
+      let f : ℕ → PageTable → List Part = λ n z. table_part (all_tables t) n z ∷ [] in
+      in_together (sections t) 6 (table_parts (all_tables t)) p refl (in_gather f p (all_tables t) m y at (inl refl))
+
+  object_there : (j : ℕ) (o : Object) → slice_get (tables_of_domain t d) j ≡ Some o → slice_get (map (λ (z : Entry). z.object) (spec_of t).entries) (root_of t d + j) ≡ Some o
+  object_there j o e =
+      let long : length (tables_of_domain t d) ≡ length (tables_at t 0 0 d) = count_of t (root_of t d) (frames_from t) d ∙ sym (count_of t 0 0 d) in
+      let l = below (tables_of_domain t d) j o e in
+      let q = at_place (tables_at t 0 0 d) j (omega (arith, long, l)) in
+      let p = table_part (all_tables t) (before (domain_tables t) t.flat.domains d + j) (page_table d j (level_of q.0)) in
+      let there = stands t p (table_in j q.0 q.1) in
+      let at : place t (TableOf d j) ≡ root_of t d + j = omega arith in
+      let f : Entry → Object = λ z. z.object in
+      let got = get_map f (map (entry t) (parts t)) (place t (TableOf d j)) (entry t p) (get_map (entry t) (parts t) (place t (TableOf d j)) p there) in
+      ap (λ z. slice_get (map f (spec_of t).entries) z) (sym at) ∙ got ∙ ap (λ z. Some z) (index_is (tables_of_domain t d) j Endpoint o e)
+
+  pub from_root : objects_from (spec_of t) (root_of t d) ≡ tables_of_domain t d ++ drop (length (tables_of_domain t d)) (objects_from (spec_of t) (root_of t d))
+  from_root =
+      begins_with (objects_from (spec_of t) (root_of t d)) (tables_of_domain t d)
+      (λ j o e. get_drop (map (λ (z : Entry). z.object) (spec_of t).entries) (root_of t d) j ∙ object_there j o e)

@@ -1,0 +1,159 @@
+-- The slots of a system are those of its source
+use Rattle.std.proofs.Common.{◌≡◌, ◌+◌, ℕ, List, [], ◌∷◌, ◌++◌, length, Option, Some, refl, sym, ◌∙◌, ap, subst, inl, inr, arith}
+use Rattle.std.specs.List.{slice_get}
+use Rattle.adl_meaning.specs.declared.connector.Connector.{Connector}
+use Rattle.adl_meaning.specs.declared.connector.Connector.TheVariants.{Rpc, Notification as Notifies, SharedMemory, Mmio, Interrupt, Direct}
+use Rattle.adl_meaning.specs.declared.flat.Domain.{Domain}
+use Rattle.adl_meaning.specs.declared.flat.FlatConnection.{FlatConnection}
+use Rattle.cap_model.specs.declared.cap.Cap.{Cap}
+use Rattle.cap_model.specs.declared.object.Object.{Object}
+use Rattle.cap_model.specs.declared.object.Object.TheVariants as objects
+use Rattle.cap_model.specs.declared.spec.Spec.{Spec}
+use Rattle.cspace_layout.specs.declared.plan.SlotUse.{SlotUse}
+use Rattle.cspace_layout.specs.declared.plan.SlotUse.TheVariants.{OfEnd, Handler, OwnLock}
+use Rattle.numbering.specs.Gather.{IsIn, gather}
+use Rattle.numbering.proofs.Gathered.{from_gather, in_append, in_gather, in_left, in_right}
+use Rattle.vspace_layout.specs.declared.spaces.ThreadPlace.{ThreadPlace}
+use Rattle.vspace_layout.specs.declared.spaces.Window.{Window}
+use Rattle.system_spec.specs.declared.map_line.MapLine.{MapLine}
+use Rattle.system_spec.specs.declared.map_line.MapLine.TheVariants.{DomainLine}
+use Rattle.system_spec.specs.declared.part.What.TheVariants.{IrqOf}
+use Rattle.system_spec.specs.Bits.{bits_for}
+use Rattle.system_spec.specs.Made.{spec_of}
+use Rattle.system_spec.specs.MapLines.{domain_lines, domain_slots, domain_threads, domain_windows, map_lines, slot_line, slot_lines, thread_line, thread_lines, window_line, window_lines}
+use Rattle.system_spec.specs.Objects.{line_by, lines, slots_at, use_cap}
+use Rattle.system_spec.specs.Parts.{place}
+use Rattle.system_spec.specs.Tables.{Tables, irq_number, threads_at, uses_at, windows_at}
+use Rattle.spec_laws.specs.Slotted.{CanSlot, HasSlots, IsIrqOf, IsLineOf, IsSlotLine, IsUsed}
+use Rattle.spec_laws.proofs.SlotLists.{from_order, one, some}
+use Rattle.spec_laws.proofs.Slotting.{cnode_object, irq_is, slotted, uses_are}
+
+module _ (t : Tables) (can : CanSlot t) where
+  abbrev spec : Spec
+  spec = spec_of t
+
+  -- ---- interrupt lines
+
+  lines_are : (n at : ℕ) → IsIn (n, at) (lines t) → (k : ℕ) × (c : FlatConnection) × (slice_get t.flat.connections k ≡ Some c) × (c.connector ≡ Interrupt) × IsIrqOf t spec k at
+  lines_are n at i =
+      let F : ℕ → FlatConnection → List (ℕ × ℕ) = λ k c. line_by t k c c.connector in
+      let a = from_gather F (n, at) t.flat.connections (from_order (n, at) (gather F t.flat.connections) i) in
+      by_kind a.0 a.1 a.2 a.1.connector refl a.3
+    where
+      by_kind : (k : ℕ) (c : FlatConnection) → slice_get t.flat.connections k ≡ Some c → (m : Connector) → c.connector ≡ m → IsIn (n, at) (line_by t k c m) → (l : ℕ) × (d : FlatConnection) × (slice_get t.flat.connections l ≡ Some d) × (d.connector ≡ Interrupt) × IsIrqOf t spec l at
+      by_kind k c h Interrupt e j =
+          let line : ℕ × ℕ = (irq_number t.settled k c, place t (IrqOf k)) in
+          let same : line ≡ (n, at) = one line (n, at) j in
+          (k, c, h, e, subst (IsIrqOf t spec k) (ap (λ (z : ℕ × ℕ). z.1) same) (irq_is t can k c h e))
+      by_kind k c h Rpc e j = absurd j
+      by_kind k c h Notifies e j = absurd j
+      by_kind k c h SharedMemory e j = absurd j
+      by_kind k c h Mmio e j = absurd j
+      by_kind k c h Direct e j = absurd j
+
+  -- ---- the map
+
+  said : (d n : ℕ) (u : SlotUse) → IsLineOf u (n + 1) (use_cap t d n u) (slot_line (use_cap t d n u).object n u)
+  said d n (OfEnd k m) = refl
+  said d n (Handler k m) = refl
+  said d n (OwnLock leaf m) = refl
+
+  line_is : (d n : ℕ) (u : SlotUse) (line : MapLine) → IsLineOf u (n + 1) (use_cap t d n u) line → slot_line (use_cap t d n u).object n u ≡ line
+  line_is d n (OfEnd k m) line e = sym e
+  line_is d n (Handler k m) line e = sym e
+  line_is d n (OwnLock leaf m) line e = sym e
+
+  used : (d : ℕ) (x : Domain) (n : ℕ) (u : SlotUse) → slice_get t.flat.domains d ≡ Some x → slice_get (uses_at t d) n ≡ Some u → IsUsed t spec (slot_line (use_cap t d n u).object n u)
+  used d x n u h e =
+      let f : ℕ → SlotUse → List (ℕ × Cap) = λ n u. (n + 1, use_cap t d n u) ∷ [] in
+      record {
+        domain = d;
+        leaves = x;
+        here = h;
+        before = n;
+        used = u;
+        at = ap (λ z. slice_get z n) (sym (uses_are t can d x h)) ∙ e;
+        bits = bits_for (length (uses_at t d));
+        slots = slots_at t d;
+        is = cnode_object t can d x h;
+        cap = use_cap t d n u;
+        holds = in_gather f (n + 1, use_cap t d n u) (uses_at t d) n u e (inl refl);
+        said = said d n u;
+      }
+
+  no_domain : (line : MapLine) → IsIn line (domain_lines t) → IsSlotLine line → ⊥
+  no_domain line i s =
+      let f : ℕ → Domain → List MapLine = λ d x. DomainLine d ∷ [] in
+      let a = from_gather f line t.flat.domains i in
+      subst IsSlotLine (sym (one (DomainLine a.0) line a.3)) s
+
+  no_thread : (line : MapLine) → IsIn line (thread_lines t) → IsSlotLine line → ⊥
+  no_thread line i s =
+      let f : ℕ → Domain → List MapLine = λ d x. domain_threads t d in
+      let a = from_gather f line t.flat.domains i in
+      let h : ℕ → ThreadPlace → List MapLine = λ i thread. thread_line t a.0 i thread ∷ [] in
+      let b = from_gather h line (threads_at t a.0) a.3 in
+      subst IsSlotLine (sym (one (thread_line t a.0 b.0 b.1) line b.3)) s
+
+  no_window : (line : MapLine) → IsIn line (window_lines t) → IsSlotLine line → ⊥
+  no_window line i s =
+      let f : ℕ → Domain → List MapLine = λ d x. domain_windows t d in
+      let a = from_gather f line t.flat.domains i in
+      let h : ℕ → Window → List MapLine = λ j w. window_line w ∷ [] in
+      let b = from_gather h line (windows_at t a.0) a.3 in
+      subst IsSlotLine (sym (one (window_line b.1) line b.3)) s
+
+  map_only : (line : MapLine) → IsIn line (map_lines t) → IsSlotLine line → IsUsed t spec line
+  map_only line i s = elim (in_append line (domain_lines t) (thread_lines t ++ (slot_lines t ++ window_lines t)) i) [
+    | inl d ↦ absurd (no_domain line d s)
+    | inr r ↦ elim (in_append line (thread_lines t) (slot_lines t ++ window_lines t) r) [
+      | inl h ↦ absurd (no_thread line h s)
+      | inr q ↦ elim (in_append line (slot_lines t) (window_lines t) q) [
+        | inl l ↦
+            let f : ℕ → Domain → List MapLine = λ d x. domain_slots t d in
+            let a = from_gather f line t.flat.domains l in
+            let h : ℕ → SlotUse → List MapLine = λ n u. slot_line (use_cap t a.0 n u).object n u ∷ [] in
+            let b = from_gather h line (uses_at t a.0) a.3 in
+            subst (IsUsed t spec) (one (slot_line (use_cap t a.0 b.0 b.1).object b.0 b.1) line b.3) (used a.0 a.1 b.0 b.1 a.2 b.2)
+        | inr w ↦ absurd (no_window line w s)
+      ]
+    ]
+  ]
+
+  abbrev slots_of_cnode : Option Object → List (ℕ × Cap)
+  slots_of_cnode (Some (objects.CNode bits slots)) = slots
+  slots_of_cnode _ = []
+
+  map_every : (line : MapLine) → IsUsed t spec line → IsIn line (map_lines t)
+  map_every line w =
+      let d = w.domain in
+      let same : w.slots ≡ slots_at t d = ap slots_of_cnode (sym w.is ∙ cnode_object t can d w.leaves w.here) in
+      let f : ℕ → SlotUse → List (ℕ × Cap) = λ n u. (n + 1, use_cap t d n u) ∷ [] in
+      let P : List (ℕ × Cap) → Type 0 = λ z. IsIn (w.before + 1, w.cap) z in
+      let a = from_gather f (w.before + 1, w.cap) (uses_at t d) (subst P same w.holds) in
+      let slot : ℕ × Cap = (a.0 + 1, use_cap t d a.0 a.1) in
+      let eq : slot ≡ (w.before + 1, w.cap) = one slot (w.before + 1, w.cap) a.3 in
+      let number : a.0 + 1 ≡ w.before + 1 = ap (λ (z : ℕ × Cap). z.0) eq in
+      let at : a.0 ≡ w.before = omega (arith, number) in
+      let mine : slice_get (uses_at t d) w.before ≡ Some w.used = ap (λ z. slice_get z w.before) (uses_are t can d w.leaves w.here) ∙ w.at in
+      let Q : ℕ → Type 0 = λ n. slice_get (uses_at t d) n ≡ Some a.1 in
+      let use_same : a.1 ≡ w.used = some (slice_get (uses_at t d) w.before) a.1 w.used (subst Q at a.2) mine in
+      let cap : use_cap t d w.before w.used ≡ w.cap = ap (λ n. use_cap t d n w.used) (sym at) ∙ ap (λ u. use_cap t d a.0 u) (sym use_same) ∙ ap (λ (z : ℕ × Cap). z.1) eq in
+      let R : Cap → Type 0 = λ z. IsLineOf w.used (w.before + 1) z line in
+      let is = line_is d w.before w.used line (subst R (sym cap) w.said) in
+      let h : ℕ → SlotUse → List MapLine = λ n u. slot_line (use_cap t d n u).object n u ∷ [] in
+      let F : ℕ → Domain → List MapLine = λ d x. domain_slots t d in
+      let inner = in_gather h line (uses_at t d) w.before w.used mine (inl is) in
+      in_right line (domain_lines t) (thread_lines t ++ (slot_lines t ++ window_lines t)) (in_right line (thread_lines t) (slot_lines t ++ window_lines t) (in_left line (slot_lines t) (window_lines t) (in_gather F line t.flat.domains d w.leaves w.here inner)))
+
+  has_slots : HasSlots t spec (map_lines t)
+  has_slots = record {
+    cnodes = slotted t can;
+    irqs = λ k c h e. (place t (IrqOf k), irq_is t can k c h e);
+    lines = lines_are;
+    map_only = map_only;
+    map_every = map_every;
+  }
+
+pub are_slots : (t : Tables) → CanSlot t → HasSlots t (spec_of t) (map_lines t)
+are_slots t can = has_slots t can

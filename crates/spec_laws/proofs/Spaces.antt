@@ -1,0 +1,106 @@
+-- What stands at the addresses of a space is what is mapped there
+use Rattle.std.proofs.Common.{◌≡◌, ◌<◌, ◌+◌, ◌*◌, ◌/◌, ℕ, zero, suc, Bool, List, [], ◌∷◌, map, Some, refl, sym, ◌∙◌, ap, subst, arith}
+use Rattle.std.specs.List.{slice_get}
+use Rattle.adl_meaning.specs.declared.flat.Domain.{Domain}
+use Rattle.cap_model.specs.declared.cap.Cap.{Cap}
+use Rattle.numbering.proofs.Gathered.{in_place, place_of}
+use Rattle.page_tables.specs.Runs.{Rises}
+use Rattle.cap_model.specs.Lookup.{object_at}
+use Rattle.numbering.proofs.Lists.{get_map}
+use Rattle.system_spec.specs.declared.part.What.TheVariants.{FrameOf}
+use Rattle.system_spec.specs.Made.{spec_of}
+use Rattle.system_spec.specs.Parts.{place}
+use Rattle.system_spec.specs.Tables.{Tables}
+use Rattle.vspace_layout.specs.declared.mapped.MappedPage.{MappedPage}
+use Rattle.vspace_layout.specs.Frames.{number_shown}
+use Rattle.vspace_layout.specs.MappedPages.{mapped_pages}
+use Rattle.spec_laws.specs.CanMap.{CanMap}
+use Rattle.spec_laws.specs.Spaced.{ArePagesOf, IsAt, MapsPage, memory_rights, root_of, system}
+use Rattle.spec_laws.proofs.Finding.{Found, finds, found, page_cap, rise, within}
+use Rattle.spec_laws.proofs.Framing.{frame_of_page}
+use Rattle.spec_laws.proofs.Members.{whole}
+use Rattle.spec_laws.proofs.Paging.{is_mapped, mapped_is}
+use Rattle.spec_laws.proofs.Rooted.{frames_from}
+use Rattle.spec_laws.proofs.SlotLists.{some}
+
+-- ---- strictly rising numbers tell their places
+
+above_all : (a : ℕ) (xs : List ℕ) (n x : ℕ) → Rises (a ∷ xs) → slice_get xs n ≡ Some x → a < x
+above_all a [] n x r e = cc
+above_all a (y ∷ xs) zero x r e =
+    let same : y ≡ x = cc in
+    let l = r.0 in omega (arith, same, l)
+above_all a (y ∷ xs) (suc n) x r e =
+    let l = above_all y xs n x r.1 e in
+    let k = r.0 in omega (arith, k, l)
+
+pub rises_tell : (xs : List ℕ) (n m x : ℕ) → Rises xs → slice_get xs n ≡ Some x → slice_get xs m ≡ Some x → n ≡ m
+rises_tell [] n m x r e f = cc
+rises_tell (a ∷ xs) zero zero x r e f = refl
+rises_tell (a ∷ xs) zero (suc m) x r e f =
+    let l = above_all a xs m x r f in
+    let same : a ≡ x = cc in absurd (omega (arith, l, same))
+rises_tell (a ∷ xs) (suc n) zero x r e f =
+    let l = above_all a xs n x r e in
+    let same : a ≡ x = cc in absurd (omega (arith, l, same))
+rises_tell (a ∷ xs) (suc n) (suc m) x r e f = ap suc (rises_tell xs n m x r.1 e f)
+
+module _ (t : Tables) (can : CanMap t) (d : ℕ) (x : Domain) (h : slice_get t.flat.domains d ≡ Some x) where
+  -- the page that is found is the one that begins the address's page
+  pub begins_page : (v : ℕ) (cap : Cap) (f : Found t can d x h v cap) → f.shown.at ≡ 4096 * (v / 4096)
+  begins_page v cap f =
+      let a = (rise t can d x h).aligned f.shown (in_place f.shown (mapped_pages (system t) d) f.number f.here) in
+      let s = f.same in
+      omega (arith, a, s)
+
+  one_is : (v : ℕ) (cap more : Cap) → Found t can d x h v cap → Found t can d x h v more → cap ≡ more
+  one_is v cap more f g =
+      let s = system t in
+      let pages = mapped_pages s d in
+      let at : ℕ → ℕ = λ n. n in
+      let same : f.shown.at ≡ g.shown.at = begins_page v cap f ∙ sym (begins_page v more g) in
+      let a = get_map (λ (p : MappedPage). p.at) pages f.number f.shown f.here in
+      let b = get_map (λ (p : MappedPage). p.at) pages g.number g.shown g.here in
+      let number : f.number ≡ g.number = rises_tell (map (λ (p : MappedPage). p.at) pages) f.number g.number f.shown.at (rise t can d x h).rise a (b ∙ ap (λ z. Some z) (sym same)) in
+      let there : slice_get pages g.number ≡ Some f.shown = ap (λ n. slice_get pages n) (sym number) ∙ f.here in
+      let shown : f.shown ≡ g.shown = some (slice_get pages g.number) f.shown g.shown there g.here in
+      f.is ∙ ap (λ n. page_cap t can d x h n f.shown) number ∙ ap (λ p. page_cap t can d x h g.number p) shown ∙ sym g.is
+
+  -- the capability at an address of a page is that of the page
+  pub cap_is : (v n : ℕ) (p : MappedPage) (cap : Cap) → slice_get (mapped_pages (system t) d) n ≡ Some p → p.at / 4096 ≡ v / 4096 → IsAt (spec_of t) (root_of t d) v cap → cap ≡ page_cap t can d x h n p
+  cap_is v n p cap e same i =
+      let l = within t can d x h v n p e same in
+      one_is v cap (page_cap t can d x h n p) (found t can d x h v cap l i) (record { number = n; shown = p; here = e; same = same; is = refl })
+
+  pub is_at : (v n : ℕ) (p : MappedPage) → slice_get (mapped_pages (system t) d) n ≡ Some p → p.at / 4096 ≡ v / 4096 → IsAt (spec_of t) (root_of t d) v (page_cap t can d x h n p)
+  is_at v n p e same = finds t can d x h v (page_cap t can d x h n p) (within t can d x h v n p e same) (record { number = n; shown = p; here = e; same = same; is = refl })
+
+  pub pages_are : ArePagesOf t (spec_of t) d (root_of t d)
+  pages_are = record {
+    only = λ v cap l i. (
+        let f = found t can d x h v cap l i in
+        let P : ℕ → Type 0 = λ z. MapsPage t d z f.shown.read f.shown.write in (
+          f.shown.read,
+          f.shown.write,
+          subst P (begins_page v cap f) (mapped_is t can.settled d f.shown (in_place f.shown (mapped_pages (system t) d) f.number f.here)),
+          ap (λ (z : Cap). z.rights) f.is,
+          ap (λ (z : Cap). z.badge) f.is,
+        ));
+    every = λ v read write m. (
+        let p = is_mapped t can.settled d (4096 * (v / 4096)) read write m in
+        let n = place_of p.page (mapped_pages (system t) d) p.there in
+        let e = p.at in
+        let same : p.page.at / 4096 ≡ v / 4096 = ap (λ z. z / 4096) e ∙ whole v in
+        let l = within t can d x h v n.0 p.page n.1 same in
+        let cap = page_cap t can d x h n.0 p.page in
+        (l, (cap, finds t can d x h v cap l (record { number = n.0; shown = p.page; here = n.1; same = same; is = refl }), rights p.may_read p.may_write)));
+    one = λ v cap more l i j. one_is v cap more (found t can d x h v cap l i) (found t can d x h v more l j);
+    frames = λ v cap l i. (
+        let f = found t can d x h v cap l i in
+        let o = frame_of_page t can d x h f.number f.shown f.here in
+        let at : place t (FrameOf (number_shown (system t) d f.number f.shown.shown)) ≡ frames_from t + number_shown (system t) d f.number f.shown.shown = omega arith in
+        (o.0.paddr, o.0.fill, ap (λ (z : Cap). object_at (spec_of t) z.object) f.is ∙ ap (λ z. object_at (spec_of t) z) (sym at) ∙ o.1));
+  }
+    where
+      rights : {a b c e : Bool} → a ≡ b → c ≡ e → memory_rights a c ≡ memory_rights b e
+      rights {a} {b} {c} {e} p q = ap (λ z. memory_rights z c) p ∙ ap (λ z. memory_rights b z) q

@@ -1,0 +1,162 @@
+-- Thread lines and threads are one to one
+use Rattle.std.proofs.Common.{◌≡◌, ℕ, List, [], Option, Some, None, refl, sym, ◌∙◌, ap, subst, arith}
+use Rattle.std.specs.List.{slice_get}
+use Rattle.std.specs.Option.{option_map_or}
+use Rattle.adl_meaning.specs.declared.flat.Domain.{Domain}
+use Rattle.adl_meaning.specs.declared.flat.Leaf.{Leaf}
+use Rattle.adl_meaning.specs.declared.settled.LeafSetting.{LeafSetting}
+use Rattle.arch_policy.specs.declared.owner.Owner.TheVariants.{OfDomain}
+use Rattle.cap_model.specs.declared.object.Object.TheVariants as objects
+use Rattle.cap_model.specs.declared.object.Tcb.{Tcb}
+use Rattle.cap_model.specs.Lookup.{object_at}
+use Rattle.leaf_ends.specs.declared.end_at.EndAt.{EndAt}
+use Rattle.numbering.specs.Gather.{IsIn}
+use Rattle.numbering.proofs.Gathered.{from_ones, in_place, place_of}
+use Rattle.numbering.proofs.Lists.{at_place}
+use Rattle.sect_table.specs.declared.image.Image.{Image}
+use Rattle.system_spec.specs.declared.map_line.MapLine.TheVariants.{ThreadLine}
+use Rattle.system_spec.specs.declared.part.Part.{Part}
+use Rattle.system_spec.specs.declared.part.What.TheVariants.{CNodeOf, ThreadOf as OfThread}
+use Rattle.system_spec.specs.declared.series.Series.TheVariants as series
+use Rattle.system_spec.specs.Made.{spec_of}
+use Rattle.system_spec.specs.MapLines.{map_lines}
+use Rattle.system_spec.specs.Objects.{tcb}
+use Rattle.system_spec.specs.Parts.{part, parts, place}
+use Rattle.system_spec.specs.Tables.{Tables, component_name, entry_in, threads_at}
+use Rattle.system_spec.proofs.Standing.{place_is, stands}
+use Rattle.vspace_layout.specs.declared.spaces.Space.{Space}
+use Rattle.vspace_layout.specs.declared.spaces.Spaces.{Spaces}
+use Rattle.vspace_layout.specs.declared.spaces.ThreadPlace.{ThreadPlace}
+use Rattle.vspace_layout.specs.declared.thread.ThreadOf.{ThreadOf}
+use Rattle.vspace_layout.specs.Laid.{space, thread_place}
+use Rattle.vspace_layout.specs.Regions.{threads_of}
+use Rattle.vspace_layout.specs.Threads.{thread}
+use Rattle.spec_laws.specs.CanMap.{CanMap}
+use Rattle.spec_laws.specs.Spaced.{root_of, system}
+use Rattle.spec_laws.specs.Threaded.{AreThreads, HasThread, IsThreadOf}
+use Rattle.spec_laws.proofs.Locks.{part_there}
+use Rattle.spec_laws.proofs.SlotLists.{some}
+use Rattle.spec_laws.proofs.Threads.{Line, at_home, has_thread, line_from, line_to, once_threads, thread_object, thread_part, threads_are}
+use Rattle.spec_laws.proofs.Whats.{thread_what}
+
+same_some : {X : Type 0} (a b : X) (o : Option X) → o ≡ Some a → o ≡ Some b → a ≡ b
+same_some a b o e f = cc
+
+threads_same : (d i e j : ℕ) → OfThread d i ≡ OfThread e j → (d ≡ e) × (i ≡ j)
+threads_same d i e j h = (cc, cc)
+
+module _ (t : Tables) (can : CanMap t) where
+  -- ---- what a thread runs
+
+  thread_is : (d i : ℕ) (x : Domain) (y : ThreadOf) → slice_get t.flat.domains d ≡ Some x → slice_get (threads_of (system t) d) i ≡ Some y → IsThreadOf t (spec_of t) (root_of t) y.leaf (place t (OfThread d i))
+  thread_is d i x y h e =
+      let w = has_thread t can d x h y (in_place y (threads_of (system t) d) i e) in
+      let g = can.grouped.listed d y.leaf x h w.1 in
+      let m = can.settled.image y.leaf d g.0 g.1 g.2 in
+      let image = at_place t.images.images m.0 (can.numbered.runs y.leaf m.0 m.1) in
+      let s = can.settled.leaf y.leaf g.0 g.1 in
+      let at : place t (CNodeOf d) ≡ d = omega arith in
+      record {
+        tcb = tcb t d (thread_place (system t) d i y);
+        is = thread_object t can d i x y h e;
+        found = g.0;
+        here = g.1;
+        domain = d;
+        inside = g.2;
+        image = image.0;
+        runs = record { number = m.0; numbered = m.1; listed = image.1 };
+        entry = ap (λ o. entry_in t.images o) m.1 ∙ ap (λ o. option_map_or (λ (z : Image). z.entry) o 0) image.1;
+        elf = ap (λ o. Some (option_map_or (λ (z : Leaf). component_name t.source z.component) o [])) g.1;
+        setting = s.0;
+        settled = s.1;
+        priority = ap (λ o. option_map_or (λ (z : LeafSetting). z.priority) o 0) s.1;
+        cnode = ap (λ z. Some z) at;
+        space = refl;
+      }
+
+  pub the_line : (at leaf : ℕ) (end : Option EndAt) → IsIn (ThreadLine at leaf end) (map_lines t) → Line t can at leaf end
+  the_line at leaf end i = line_from t can (ThreadLine at leaf end) i tt
+
+  only : (at leaf : ℕ) (end : Option EndAt) → IsIn (ThreadLine at leaf end) (map_lines t) → HasThread t leaf end × IsThreadOf t (spec_of t) (root_of t) leaf at
+  only at leaf end i =
+      let l = the_line at leaf end i in
+      let w = has_thread t can l.domain l.leaves l.here l.y (in_place l.y (threads_of (system t) l.domain) l.number l.stands) in
+      let P : ℕ → Type 0 = λ z. HasThread t z l.y.end in
+      let Q : Option EndAt → Type 0 = λ z. HasThread t leaf z in
+      let R : ℕ → Type 0 = λ z. IsThreadOf t (spec_of t) (root_of t) z (place t (OfThread l.domain l.number)) in
+      let S : ℕ → Type 0 = λ z. IsThreadOf t (spec_of t) (root_of t) leaf z in
+      (subst Q l.end_is (subst P l.leaf_is w.0), subst S l.at_is (subst R l.leaf_is (thread_is l.domain l.number l.leaves l.y l.here l.stands)))
+
+  every : (leaf : ℕ) (end : Option EndAt) → HasThread t leaf end → (at : ℕ) × IsIn (ThreadLine at leaf end) (map_lines t)
+  every leaf end h =
+      let b = at_home t can leaf end h in
+      let n = place_of (thread leaf end) (threads_of (system t) b.domain) b.there in
+      (place t (OfThread b.domain n.0), line_to t can b.domain n.0 b.leaves (thread leaf end) b.here n.1)
+
+  -- ---- one line for each
+
+  pub domain_is : (at leaf : ℕ) (end : Option EndAt) (l : Line t can at leaf end) → (found : Leaf) × (slice_get t.flat.leaves leaf ≡ Some found) × (found.domain ≡ Some l.domain)
+  domain_is at leaf end l =
+      let w = has_thread t can l.domain l.leaves l.here l.y (in_place l.y (threads_of (system t) l.domain) l.number l.stands) in
+      let P : ℕ → Type 0 = λ z. (found : Leaf) × (slice_get t.flat.leaves z ≡ Some found) × (found.domain ≡ Some l.domain) in
+      subst P l.leaf_is (can.grouped.listed l.domain l.y.leaf l.leaves l.here w.1)
+
+  pub same_thread : (at again leaf : ℕ) (end : Option EndAt) (l : Line t can at leaf end) (m : Line t can again leaf end) → (l.domain ≡ m.domain) × (l.number ≡ m.number)
+  same_thread at again leaf end l m =
+      let a = domain_is at leaf end l in
+      let b = domain_is again leaf end m in
+      let found : a.0 ≡ b.0 = same_some a.0 b.0 (slice_get t.flat.leaves leaf) a.1 b.1 in
+      let domain : l.domain ≡ m.domain = same_some l.domain m.domain a.0.domain a.2 (ap (λ (z : Leaf). z.domain) found ∙ b.2) in
+      let y : l.y ≡ m.y = ap (λ z. thread z l.y.end) (l.leaf_is ∙ sym m.leaf_is) ∙ ap (λ z. thread m.y.leaf z) (l.end_is ∙ sym m.end_is) in
+      let P : ℕ → Type 0 = λ z. slice_get (threads_of (system t) z) m.number ≡ Some m.y in
+      (domain, once_threads t can l.domain l.leaves l.here l.number m.number m.y (l.stands ∙ ap (λ z. Some z) y) (subst P (sym domain) m.stands))
+
+  pub one_line : (at again leaf : ℕ) (end : Option EndAt) → IsIn (ThreadLine at leaf end) (map_lines t) → IsIn (ThreadLine again leaf end) (map_lines t) → at ≡ again
+  one_line at again leaf end i j =
+      let l = the_line at leaf end i in
+      let m = the_line again leaf end j in
+      let s = same_thread at again leaf end l m in
+      sym l.at_is ∙ ap (λ z. place t (OfThread z l.number)) s.0 ∙ ap (λ z. place t (OfThread m.domain z)) s.1 ∙ m.at_is
+
+  apart : (at leaf other : ℕ) (end more : Option EndAt) → IsIn (ThreadLine at leaf end) (map_lines t) → IsIn (ThreadLine at other more) (map_lines t) → (leaf ≡ other) × (end ≡ more)
+  apart at leaf other end more i j =
+      let l = the_line at leaf end i in
+      let m = the_line at other more j in
+      let a = thread_part t can l.domain l.number l.leaves l.y l.here l.stands in
+      let b = thread_part t can m.domain m.number m.leaves m.y m.here m.stands in
+      let p = part series.Tcb a.0 (OfDomain l.domain) (OfThread l.domain l.number) in
+      let q = part series.Tcb b.0 (OfDomain m.domain) (OfThread m.domain m.number) in
+      let place_same : place t (OfThread l.domain l.number) ≡ place t (OfThread m.domain m.number) = l.at_is ∙ sym m.at_is in
+      let P : ℕ → Type 0 = λ z. slice_get (parts t) z ≡ Some p in
+      let same : p ≡ q = some (slice_get (parts t) (place t (OfThread m.domain m.number))) p q (subst P place_same (stands t p a.1)) (stands t q b.1) in
+      let w = threads_same l.domain l.number m.domain m.number (ap (λ (z : Part). z.what) same) in
+      let Q : ℕ → Type 0 = λ z. slice_get (threads_of (system t) z) l.number ≡ Some l.y in
+      let R : ℕ → Type 0 = λ z. slice_get (threads_of (system t) m.domain) z ≡ Some l.y in
+      let y : l.y ≡ m.y = some (slice_get (threads_of (system t) m.domain) m.number) l.y m.y (subst R w.1 (subst Q w.0 l.stands)) m.stands in
+      (sym l.leaf_is ∙ ap (λ (z : ThreadOf). z.leaf) y ∙ m.leaf_is, sym l.end_is ∙ ap (λ (z : ThreadOf). z.end) y ∙ m.end_is)
+
+  -- ---- and each thread has one
+
+  pub in_domain : (d i : ℕ) (x : ThreadPlace) → slice_get (threads_at t d) i ≡ Some x → (z : Domain) × (slice_get t.flat.domains d ≡ Some z)
+  in_domain d i x e = by_space (slice_get t.spaces.spaces d) refl e
+    where
+      by_space : (o : Option Space) → slice_get t.spaces.spaces d ≡ o → slice_get (option_map_or (λ (s : Space). s.threads) o []) i ≡ Some x → (z : Domain) × (slice_get t.flat.domains d ≡ Some z)
+      by_space None g f = cc
+      by_space (Some s) g f =
+          let k : ℕ → Domain → Space = λ n z. space (system t) n z in
+          let u = from_ones k t.flat.domains d s (ap (λ (z : Spaces). slice_get z.spaces d) (sym can.spaces) ∙ g) in (u.0, u.1)
+
+  all : (at : ℕ) (c : Tcb) → object_at (spec_of t) at ≡ Some (objects.Thread c) → (leaf : ℕ) × (end : Option EndAt) × IsIn (ThreadLine at leaf end) (map_lines t)
+  all at c o =
+      let p = part_there t at (objects.Thread c) o in
+      let w = thread_what t p.0.what c p.2 in
+      let x = in_domain w.domain w.number w.thread w.there in
+      let P : List ThreadPlace → Type 0 = λ z. slice_get z w.number ≡ Some w.thread in
+      let k : ℕ → ThreadOf → ThreadPlace = λ n z. thread_place (system t) w.domain n z in
+      let y = from_ones k (threads_of (system t) w.domain) w.number w.thread (subst P (threads_are t can w.domain x.0 x.1) w.there) in
+      let stand : place t (OfThread w.domain w.number) ≡ at = ap (λ z. place t z) (sym w.what) ∙ place_is t at p.0 p.1 in
+      let Q : ℕ → Type 0 = λ z. IsIn (ThreadLine z y.0.leaf y.0.end) (map_lines t) in
+      (y.0.leaf, y.0.end, subst Q stand (line_to t can w.domain w.number x.0 y.0 x.1 y.1))
+
+  pub threads_hold : AreThreads t (spec_of t) (root_of t) (map_lines t)
+  threads_hold = record { only = only; every = every; one = one_line; all = all; apart = apart }

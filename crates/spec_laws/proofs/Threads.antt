@@ -1,0 +1,278 @@
+-- Threads and their lines
+use Rattle.std.proofs.Common.{◌≡◌, ℕ, Bool, true, false, cond, List, [], ◌∷◌, ◌++◌, Option, Some, None, refl, sym, ◌∙◌, ap, subst, inl, inr}
+use Rattle.std.specs.List.{flat_map, slice_get}
+use Rattle.std.specs.Option.{option_and_then, option_map_or}
+use Rattle.std.specs.Prelude.{option_map}
+use Rattle.adl_ast.specs.declared.composition.Role.{Role}
+use Rattle.adl_ast.specs.declared.composition.Role.TheVariants.{From, To}
+use Rattle.adl_meaning.specs.declared.connector.Connector.{Connector}
+use Rattle.adl_meaning.specs.declared.connector.Connector.TheVariants.{Rpc, Notification, SharedMemory, Mmio, Interrupt, Direct}
+use Rattle.adl_meaning.specs.declared.flat.Domain.{Domain}
+use Rattle.adl_meaning.specs.declared.flat.FlatConnection.{FlatConnection}
+use Rattle.adl_meaning.specs.declared.flat.FlatEnd.{FlatEnd}
+use Rattle.adl_meaning.specs.declared.flat.Leaf.{Leaf}
+use Rattle.arch_policy.specs.declared.owner.Owner.TheVariants.{OfDomain}
+use Rattle.cap_model.specs.declared.object.Object.TheVariants as objects
+use Rattle.cap_model.specs.Lookup.{object_at}
+use Rattle.conn_rules.specs.Ends.{end_rule}
+use Rattle.cspace_layout.specs.declared.plan.SlotUse.{SlotUse}
+use Rattle.cspace_layout.specs.declared.plan.SlotUse.TheVariants.{OfEnd, Handler, OwnLock}
+use Rattle.leaf_ends.specs.declared.end_at.EndAt.{EndAt}
+use Rattle.leaf_ends.specs.Lookups.{end_in, end_of}
+use Rattle.leaf_ends.specs.Members.{leaf_members}
+use Rattle.numbering.specs.Gather.{IsIn, gather}
+use Rattle.numbering.proofs.Gathered.{from_gather, from_ones, get_ones, in_append, in_gather, in_left, in_right, place_of}
+use Rattle.system_spec.specs.declared.map_line.MapLine.{MapLine}
+use Rattle.system_spec.specs.declared.map_line.MapLine.TheVariants.{DomainLine, ThreadLine}
+use Rattle.system_spec.specs.declared.part.Owned.{Owned}
+use Rattle.system_spec.specs.declared.part.Part.{Part}
+use Rattle.system_spec.specs.declared.part.What.TheVariants.{ThreadOf as OfThread}
+use Rattle.system_spec.specs.declared.series.Series.TheVariants as series
+use Rattle.system_spec.specs.Made.{spec_of}
+use Rattle.system_spec.specs.MapLines.{domain_lines, domain_slots, domain_threads, domain_windows, map_lines, slot_line, slot_lines, thread_line, thread_lines, window_line, window_lines}
+use Rattle.system_spec.specs.Objects.{tcb, use_cap}
+use Rattle.system_spec.specs.Parts.{domain_tcbs, numbered, owned, part, parts, place, sections, tcbs}
+use Rattle.system_spec.specs.Tables.{Tables, threads_at, uses_at, windows_at}
+use Rattle.system_spec.proofs.Objects.{in_together, objects_stand}
+use Rattle.vspace_layout.specs.declared.spaces.Space.{Space}
+use Rattle.vspace_layout.specs.declared.spaces.Spaces.{Spaces}
+use Rattle.vspace_layout.specs.declared.spaces.ThreadPlace.{ThreadPlace}
+use Rattle.vspace_layout.specs.declared.spaces.Window.{Window}
+use Rattle.vspace_layout.specs.declared.thread.ThreadOf.{ThreadOf}
+use Rattle.vspace_layout.specs.Given.{ends, leaves_of}
+use Rattle.vspace_layout.specs.Laid.{space, thread_place}
+use Rattle.vspace_layout.specs.Regions.{threads_of}
+use Rattle.vspace_layout.specs.Threads.{ends_at, is_called, leaf_threads, server, serves, thread}
+use Rattle.spec_laws.specs.CanMap.{CanMap}
+use Rattle.spec_laws.specs.Spaced.{system}
+use Rattle.spec_laws.specs.Threaded.{HasThread, Serves}
+use Rattle.spec_laws.proofs.EndsAt.{end_of_leaf, ends_are, in_leaf_ends, once_leaf}
+use Rattle.spec_laws.proofs.Once.{Once, once_cons, once_flat, once_none, once_one}
+use Rattle.spec_laws.proofs.Members.{from_flat, in_flat}
+use Rattle.spec_laws.proofs.Paging.{shown_if}
+use Rattle.spec_laws.proofs.SlotLists.{one}
+
+called : (c : Connector) (r : Role) → is_called c r ≡ true → (c ≡ Rpc) × (r ≡ To)
+called Rpc To h = (refl, refl)
+called Rpc From h = cc
+called Notification r h = cc
+called SharedMemory r h = cc
+called Mmio r h = cc
+called Interrupt r h = cc
+called Direct r h = cc
+
+end_is : (t : Tables) (k n : ℕ) (c : FlatConnection) (e : FlatEnd) → slice_get t.flat.connections k ≡ Some c → slice_get c.ends n ≡ Some e → end_of t.flat k n ≡ Some (c.connector, e)
+end_is t k n c e h s =
+    let pair : FlatEnd → Connector × FlatEnd = λ z. (c.connector, z) in
+    ap (λ o. option_and_then (end_in n) o) h ∙ ap (λ o. option_map pair o) s
+
+serves_by : (t : Tables) (e : EndAt) (c : FlatConnection) (x : FlatEnd) → slice_get t.flat.connections e.connection ≡ Some c → slice_get c.ends e.end ≡ Some x → serves t.flat e ≡ is_called c.connector x.role
+serves_by t e c x h s = ap (λ o. option_map_or (λ (z : Connector × FlatEnd). is_called z.0 z.1.role) o false) (end_is t e.connection e.end c x h s)
+
+module _ (t : Tables) (can : CanMap t) where
+  abbrev all : List (List EndAt)
+  all = ends (system t)
+
+  leaves_are : (d : ℕ) (x : Domain) → slice_get t.flat.domains d ≡ Some x → leaves_of t.flat d ≡ x.leaves
+  leaves_are d x h = ap (λ o. option_map_or (λ (z : Domain). z.leaves) o []) h
+
+  -- ---- the threads of a domain
+
+  server_is : (leaf : ℕ) (e : EndAt) (y : ThreadOf) → IsIn y (server t.flat leaf e) → (serves t.flat e ≡ true) × (thread leaf (Some e) ≡ y)
+  server_is leaf e y i = shown_if (serves t.flat e) (thread leaf (Some e)) y i
+
+  leaf_of : (leaf : ℕ) (y : ThreadOf) → IsIn y (leaf_threads t.flat all leaf) → leaf ≡ y.leaf
+  leaf_of leaf y (inl e) = ap (λ (z : ThreadOf). z.leaf) e
+  leaf_of leaf y (inr i) =
+      let b = from_flat (server t.flat leaf) y (ends_at all leaf) i in
+      ap (λ (z : ThreadOf). z.leaf) (server_is leaf b.0 y b.2).1
+
+  pub has_thread : (d : ℕ) (x : Domain) → slice_get t.flat.domains d ≡ Some x → (y : ThreadOf) → IsIn y (threads_of (system t) d) → HasThread t y.leaf y.end × IsIn y.leaf x.leaves
+  has_thread d x h y i =
+      let a = from_flat (leaf_threads t.flat all) y (leaves_of t.flat d) i in
+      let P : List ℕ → Type 0 = λ z. IsIn a.0 z in
+      let l = subst P (leaves_are d x h) a.1 in
+      let g = can.grouped.listed d a.0 x h l in
+      let Q : ThreadOf → Type 0 = λ z. HasThread t z.leaf z.end × IsIn z.leaf x.leaves in
+      elim a.2 [
+        | inl e ↦ subst Q e ((g.0, d, g.1, g.2), l)
+        | inr j ↦
+            let b = from_flat (server t.flat a.0) y (ends_at all a.0) j in
+            let s = server_is a.0 b.0 y b.2 in
+            let R : List EndAt → Type 0 = λ z. IsIn b.0 z in
+            let m = end_of_leaf t a.0 b.0 (leaf_members t.source t.flat a.0) (subst R (ends_are t a.0 g.0 g.1) b.1) in
+            let u = called m.1.connection.connector m.1.end.role (sym (serves_by t b.0 m.1.connection m.1.end m.1.here m.1.stands) ∙ s.0) in
+            let v : Serves t a.0 b.0 = record { connection = m.1.connection; here = m.1.here; is_rpc = u.0; end = m.1.end; stands = m.1.stands; is_to = u.1; joins = m.1.leaf_is } in
+            subst Q s.1 (v, l)
+      ]
+
+  pub record Home (leaf : ℕ) (end : Option EndAt) : Type 0 where
+    pub domain : ℕ
+    pub leaves : Domain
+    pub here : slice_get t.flat.domains domain ≡ Some leaves
+    pub there : IsIn (thread leaf end) (threads_of (system t) domain)
+
+  in_home : (leaf : ℕ) (end : Option EndAt) (found : Leaf) (d : ℕ) → slice_get t.flat.leaves leaf ≡ Some found → found.domain ≡ Some d → IsIn (thread leaf end) (leaf_threads t.flat all leaf) → Home leaf end
+  in_home leaf end found d h e i =
+      let g = can.grouped.inside leaf d found h e in
+      let P : List ℕ → Type 0 = λ z. IsIn leaf z in
+      record { domain = d; leaves = g.0; here = g.1; there = in_flat (leaf_threads t.flat all) (thread leaf end) (leaves_of t.flat d) leaf (subst P (sym (leaves_are d g.0 g.1)) g.2) i }
+
+  serving : (e : EndAt) (leaf : ℕ) (v : Serves t leaf e) → Home v.end.leaf (Some e)
+  serving e leaf v =
+      let c = v.connection in
+      let x = v.end in
+      let soft : (end_rule c.connector x.role).hardware ≡ false = ap (λ z. (end_rule z x.role).hardware) v.is_rpc ∙ ap (λ z. (end_rule Rpc z).hardware) v.is_to in
+      let w = can.joined.software e.connection e.end c x v.here v.stands soft in
+      let members = leaf_members t.source t.flat x.leaf in
+      let i = in_leaf_ends t x.leaf e.connection e.end c x members v.here v.stands refl (can.joined.member e.connection e.end c x v.here v.stands) in
+      let R : List EndAt → Type 0 = λ z. IsIn e z in
+      let j = subst R (sym (ends_are t x.leaf w.0 w.2)) i in
+      let yes : serves t.flat e ≡ true = serves_by t e c x v.here v.stands ∙ ap (λ z. is_called z x.role) v.is_rpc ∙ ap (λ z. is_called Rpc z) v.is_to in
+      let P : Bool → Type 0 = λ b. IsIn (thread x.leaf (Some e)) (cond b (thread x.leaf (Some e) ∷ []) []) in
+      in_home x.leaf (Some e) w.0 w.1 w.2 w.3 (inr (in_flat (server t.flat x.leaf) (thread x.leaf (Some e)) (ends_at all x.leaf) e j (subst P (sym yes) (inl refl))))
+
+  pub at_home : (leaf : ℕ) (end : Option EndAt) → HasThread t leaf end → Home leaf end
+  at_home leaf None h = in_home leaf None h.0 h.1 h.2 h.3 (inl refl)
+  at_home leaf (Some e) v = let P : ℕ → Type 0 = λ z. Home z (Some e) in subst P v.joins (serving e leaf v)
+
+  pub once_threads : (d : ℕ) (x : Domain) → slice_get t.flat.domains d ≡ Some x → Once (threads_of (system t) d)
+  once_threads d x h =
+      let P : List ℕ → Type 0 = λ z. Once z in
+      let leaves = subst P (sym (leaves_are d x h)) (λ i j leaf a b. can.grouped.once d i j leaf x h a b) in
+      once_flat (leaf_threads t.flat all) (leaves_of t.flat d) leaves
+      (λ leaf i. (
+      let Q : List ℕ → Type 0 = λ z. IsIn leaf z in
+      let g = can.grouped.listed d leaf x h (subst Q (leaves_are d x h) i) in
+      of_leaf leaf g.0 g.1))
+      (λ l m y i j. leaf_of l y i ∙ sym (leaf_of m y j))
+    where
+      none : (leaf : ℕ) (y : ThreadOf) → thread leaf None ≡ y → (e : EndAt) → thread leaf (Some e) ≡ y → ⊥
+      none leaf y a e b = let nothing : Option EndAt = None in let f : nothing ≡ Some e = ap (λ (z : ThreadOf). z.end) (a ∙ sym b) in cc
+
+      once_server : (leaf : ℕ) (e : EndAt) → Once (server t.flat leaf e)
+      once_server leaf e = by_test (serves t.flat e)
+        where
+          by_test : (b : Bool) → Once (cond b (thread leaf (Some e) ∷ []) [])
+          by_test true = once_one (thread leaf (Some e))
+          by_test false = once_none
+
+      of_leaf : (leaf : ℕ) (found : Leaf) → slice_get t.flat.leaves leaf ≡ Some found → Once (leaf_threads t.flat all leaf)
+      of_leaf leaf found g =
+          let P : List EndAt → Type 0 = λ z. Once z in
+          let ends_once = subst P (sym (ends_are t leaf found g)) (once_leaf t.flat.connections leaf (leaf_members t.source t.flat leaf)) in
+          let served = once_flat (server t.flat leaf) (ends_at all leaf) ends_once (λ e i. once_server leaf e) (λ e f y i j. (
+          let q : Some e ≡ Some f = ap (λ (z : ThreadOf). z.end) ((server_is leaf e y i).1 ∙ sym (server_is leaf f y j).1) in cc)) in
+          once_cons (thread leaf None) (flat_map (server t.flat leaf) (ends_at all leaf)) served
+          (λ i. let b = from_flat (server t.flat leaf) (thread leaf None) (ends_at all leaf) i in none leaf (thread leaf None) refl b.0 (server_is leaf b.0 (thread leaf None) b.2).1)
+
+  -- ---- lines
+
+  pub threads_are : (d : ℕ) (x : Domain) → slice_get t.flat.domains d ≡ Some x → threads_at t d ≡ gather (λ i y. thread_place (system t) d i y ∷ []) (threads_of (system t) d)
+  threads_are d x h =
+      let f : ℕ → Domain → Space = λ n z. space (system t) n z in
+      ap (λ (z : Spaces). option_map_or (λ (w : Space). w.threads) (slice_get z.spaces d) []) can.spaces
+      ∙ ap (λ o. option_map_or (λ (w : Space). w.threads) o []) (get_ones f t.flat.domains d x h)
+
+  pub thread_at : (d i : ℕ) (x : Domain) (y : ThreadOf) → slice_get t.flat.domains d ≡ Some x → slice_get (threads_of (system t) d) i ≡ Some y → slice_get (threads_at t d) i ≡ Some (thread_place (system t) d i y)
+  thread_at d i x y h e =
+      let f : ℕ → ThreadOf → ThreadPlace = λ n z. thread_place (system t) d n z in
+      ap (λ z. slice_get z i) (threads_are d x h) ∙ get_ones f (threads_of (system t) d) i y e
+
+  pub record Line (at leaf : ℕ) (end : Option EndAt) : Type 0 where
+    pub domain : ℕ
+    pub leaves : Domain
+    pub here : slice_get t.flat.domains domain ≡ Some leaves
+    pub number : ℕ
+    pub y : ThreadOf
+    pub stands : slice_get (threads_of (system t) domain) number ≡ Some y
+    pub at_is : place t (OfThread domain number) ≡ at
+    pub leaf_is : y.leaf ≡ leaf
+    pub end_is : y.end ≡ end
+
+  abbrev SaysThread : MapLine → Type 0
+  SaysThread (ThreadLine at leaf end) = Line at leaf end
+  SaysThread _ = Unit {0}
+
+  thread_from : (line : MapLine) → IsIn line (thread_lines t) → SaysThread line
+  thread_from line i =
+      let f : ℕ → Domain → List MapLine = λ d x. domain_threads t d in
+      let a = from_gather f line t.flat.domains i in
+      let g : ℕ → ThreadPlace → List MapLine = λ n z. thread_line t a.0 n z ∷ [] in
+      let b = from_gather g line (threads_at t a.0) a.3 in
+      let P : List ThreadPlace → Type 0 = λ z. slice_get z b.0 ≡ Some b.1 in
+      let k : ℕ → ThreadOf → ThreadPlace = λ n z. thread_place (system t) a.0 n z in
+      let y = from_ones k (threads_of (system t) a.0) b.0 b.1 (subst P (threads_are a.0 a.1 a.2) b.2) in
+      let it : Line (place t (OfThread a.0 b.0)) b.1.leaf b.1.end = record {
+        domain = a.0;
+        leaves = a.1;
+        here = a.2;
+        number = b.0;
+        y = y.0;
+        stands = y.1;
+        at_is = refl;
+        leaf_is = ap (λ (z : ThreadPlace). z.leaf) y.2;
+        end_is = ap (λ (z : ThreadPlace). z.end) y.2;
+      } in
+      subst SaysThread (one (thread_line t a.0 b.0 b.1) line b.3) it
+
+  abbrev IsThreadLine : MapLine → Type 0
+  IsThreadLine (ThreadLine at leaf end) = Unit {0}
+  IsThreadLine _ = ⊥
+
+  no_slot : (o n : ℕ) (u : SlotUse) → IsThreadLine (slot_line o n u) → ⊥
+  no_slot o n (OfEnd k m) s = s
+  no_slot o n (Handler k m) s = s
+  no_slot o n (OwnLock leaf m) s = s
+
+  pub line_from : (line : MapLine) → IsIn line (map_lines t) → IsThreadLine line → SaysThread line
+  line_from line i s = elim (in_append line (domain_lines t) (thread_lines t ++ (slot_lines t ++ window_lines t)) i) [
+    | inl j ↦
+        let f : ℕ → Domain → List MapLine = λ d x. DomainLine d ∷ [] in
+        let a = from_gather f line t.flat.domains j in
+        absurd (subst IsThreadLine (sym (one (DomainLine a.0) line a.3)) s)
+    | inr r ↦ elim (in_append line (thread_lines t) (slot_lines t ++ window_lines t) r) [
+      | inl j ↦ thread_from line j
+      | inr q ↦ elim (in_append line (slot_lines t) (window_lines t) q) [
+        | inl j ↦
+            let f : ℕ → Domain → List MapLine = λ d x. domain_slots t d in
+            let a = from_gather f line t.flat.domains j in
+            let h : ℕ → SlotUse → List MapLine = λ n u. slot_line (use_cap t a.0 n u).object n u ∷ [] in
+            let b = from_gather h line (uses_at t a.0) a.3 in
+            absurd (no_slot (use_cap t a.0 b.0 b.1).object b.0 b.1 (subst IsThreadLine (sym (one (slot_line (use_cap t a.0 b.0 b.1).object b.0 b.1) line b.3)) s))
+        | inr j ↦
+            let f : ℕ → Domain → List MapLine = λ d x. domain_windows t d in
+            let a = from_gather f line t.flat.domains j in
+            let h : ℕ → Window → List MapLine = λ n w. window_line w ∷ [] in
+            let b = from_gather h line (windows_at t a.0) a.3 in
+            absurd (subst IsThreadLine (sym (one (window_line b.1) line b.3)) s)
+      ]
+    ]
+  ]
+
+  pub line_to : (d i : ℕ) (x : Domain) (y : ThreadOf) → slice_get t.flat.domains d ≡ Some x → slice_get (threads_of (system t) d) i ≡ Some y → IsIn (ThreadLine (place t (OfThread d i)) y.leaf y.end) (map_lines t)
+  line_to d i x y h e =
+      let line = ThreadLine (place t (OfThread d i)) y.leaf y.end in
+      let f : ℕ → Domain → List MapLine = λ d x. domain_threads t d in
+      let g : ℕ → ThreadPlace → List MapLine = λ n z. thread_line t d n z ∷ [] in
+      let inner = in_gather g line (threads_at t d) i (thread_place (system t) d i y) (thread_at d i x y h e) (inl refl) in
+      in_right line (domain_lines t) (thread_lines t ++ (slot_lines t ++ window_lines t)) (in_left line (thread_lines t) (slot_lines t ++ window_lines t) (in_gather f line t.flat.domains d x h inner))
+
+  -- ---- objects
+
+  pub thread_part : (d i : ℕ) (x : Domain) (y : ThreadOf) → slice_get t.flat.domains d ≡ Some x → slice_get (threads_of (system t) d) i ≡ Some y → (j : ℕ) × IsIn (part series.Tcb j (OfDomain d) (OfThread d i)) (parts t)
+  thread_part d i x y h e =
+      let z = owned (OfDomain d) (OfThread d i) in
+      let f : ℕ → ThreadPlace → List Owned = λ n w. owned (OfDomain d) (OfThread d n) ∷ [] in
+      let inner = in_gather f z (threads_at t d) i (thread_place (system t) d i y) (thread_at d i x y h e) (inl refl) in
+      let j = place_of z (tcbs t) (in_gather (domain_tcbs t) z t.flat.domains d x h inner) in
+      let g : ℕ → Owned → List Part = λ n w. part series.Tcb n w.owner w.what ∷ [] in
+      let p = part series.Tcb j.0 (OfDomain d) (OfThread d i) in
+      (j.0, in_together (sections t) 1 (numbered series.Tcb (tcbs t)) p refl (in_gather g p (tcbs t) j.0 z j.1 (inl refl)))
+
+  pub thread_object : (d i : ℕ) (x : Domain) (y : ThreadOf) → slice_get t.flat.domains d ≡ Some x → slice_get (threads_of (system t) d) i ≡ Some y
+      → object_at (spec_of t) (place t (OfThread d i)) ≡ Some (objects.Thread (tcb t d (thread_place (system t) d i y)))
+  thread_object d i x y h e =
+      let j = thread_part d i x y h e in
+      (objects_stand t).object (part series.Tcb j.0 (OfDomain d) (OfThread d i)) j.1
+      ∙ ap (λ o. Some (option_map_or (λ z. objects.Thread (tcb t d z)) o objects.Endpoint)) (thread_at d i x y h e)

@@ -1,0 +1,169 @@
+-- The slots of a compiled system, told of its spec and its map. The capabilities of a domain stand in the order of its uses,
+-- and the one that has n before it stands in slot n + 1 of the domain's CNode; nothing else stands there. Each leads to the
+-- object of its end, with the rights of the connector table and the settled badge; a lock's has reading and writing. The CNode
+-- has the least size above the number of its capabilities. An interrupt holds its connection's notification, and has the
+-- settled number. The map says these places and no others.
+use Rattle.std.specs.Prelude.{◌≡◌, ◌<◌, ◌^◌, ℕ, ◌+◌, List, length, Some, slice_get}
+use Rattle.adl_ast.specs.declared.composition.Role.{Role}
+use Rattle.adl_ast.specs.declared.composition.Role.TheVariants.{From, To}
+use Rattle.adl_meaning.specs.declared.connector.Connector.{Connector}
+use Rattle.adl_meaning.specs.declared.connector.Connector.TheVariants.{Rpc, Notification as Notifies, SharedMemory, Mmio, Interrupt, Direct}
+use Rattle.adl_meaning.specs.declared.flat.Domain.{Domain}
+use Rattle.adl_meaning.specs.declared.flat.FlatConnection.{FlatConnection}
+use Rattle.adl_meaning.specs.declared.flat.FlatEnd.{FlatEnd}
+use Rattle.adl_meaning.specs.declared.settled.EndSetting.{EndSetting}
+use Rattle.cap_model.specs.declared.cap.Cap.{Cap}
+use Rattle.cap_model.specs.declared.object.Object.TheVariants.{Notification, CNode, Irq}
+use Rattle.cap_model.specs.declared.spec.Spec.{Spec}
+use Rattle.cap_model.specs.Lookup.{name_at, object_at}
+use Rattle.conn_rules.specs.declared.rule.RuleRow.{RuleRow}
+use Rattle.conn_rules.specs.Row.{NONE, RW, rows_of}
+use Rattle.cspace_layout.specs.declared.plan.SlotUse.{SlotUse}
+use Rattle.cspace_layout.specs.declared.plan.SlotUse.TheVariants.{OfEnd, Handler, OwnLock}
+use Rattle.cspace_layout.specs.Uses.{domain_uses, slots_of}
+use Rattle.leaf_ends.specs.Lookups.{setting_of}
+use Rattle.numbering.specs.Gather.{IsIn}
+use Rattle.system_spec.specs.declared.map_line.MapLine.{MapLine}
+use Rattle.system_spec.specs.declared.map_line.MapLine.TheVariants.{SlotLine, OwnLine}
+use Rattle.system_spec.specs.declared.series.Series.{Series}
+use Rattle.system_spec.specs.declared.series.Series.TheVariants as series
+use Rattle.system_spec.specs.Bits.{IsLeastBits}
+use Rattle.system_spec.specs.Names.{name_of}
+use Rattle.system_spec.specs.Tables.{Tables, device_place}
+
+-- the object at the place has the name of its series and this number
+abbrev pub IsNamed : Spec → ℕ → Series → ℕ → Type 0
+IsNamed spec place s n = name_at spec place ≡ name_of s n
+
+-- connection k's endpoint or notification
+abbrev pub IsJoint : Spec → ℕ → Connector → ℕ → Type 0
+IsJoint spec place Rpc k = IsNamed spec place series.Ep k
+IsJoint spec place Notifies k = IsNamed spec place series.Ntfn k
+IsJoint spec place Interrupt k = IsNamed spec place series.Ntfn k
+IsJoint spec place SharedMemory k = ⊥
+IsJoint spec place Mmio k = ⊥
+IsJoint spec place Direct k = ⊥
+
+-- the interrupt of connection k: it holds the connection's notification, and has the settled number
+pub record IsIrqOf (t : Tables) (spec : Spec) (k place : ℕ) : Type 0 where
+  pub connection : FlatConnection
+  pub here : slice_get t.flat.connections k ≡ Some connection
+  pub notification : ℕ
+  pub is : object_at spec place ≡ Some (Irq (Some notification))
+  pub holds : IsNamed spec notification series.Ntfn k
+  pub number : ℕ
+  pub device : device_place connection.connector connection.ends ≡ Some number
+  pub setting : EndSetting
+  pub settled : setting_of t.settled k number ≡ Some setting
+  pub line : IsIn (setting.irq, place) spec.irqs
+
+-- ---- capabilities
+
+abbrev pub IsBadge : Tables → ℕ → ℕ → Role → ℕ → Type 0
+IsBadge t k n From badge = (s : EndSetting) × (setting_of t.settled k n ≡ Some s) × (badge ≡ s.badge)
+IsBadge t k n To badge = badge ≡ 0
+
+-- the capability of end n of connection k, by the first row of the end
+pub record IsEndCap (t : Tables) (spec : Spec) (k n : ℕ) (cap : Cap) : Type 0 where
+  pub connection : FlatConnection
+  pub here : slice_get t.flat.connections k ≡ Some connection
+  pub end : FlatEnd
+  pub stands : slice_get connection.ends n ≡ Some end
+  pub row : RuleRow
+  pub first : slice_get (rows_of connection.connector end.role) 0 ≡ Some row
+  pub joint : IsJoint spec cap.object connection.connector k
+  pub rights : cap.rights ≡ row.rights
+  pub badge : IsBadge t k n end.role cap.badge
+
+pub record IsHandlerCap (t : Tables) (spec : Spec) (k : ℕ) (cap : Cap) : Type 0 where
+  pub irq : IsIrqOf t spec k cap.object
+  pub rights : cap.rights ≡ NONE
+  pub badge : cap.badge ≡ 0
+
+-- a lock is a notification that no other use of the system has
+pub record IsLockCap (t : Tables) (spec : Spec) (cap : Cap) : Type 0 where
+  pub number : ℕ
+  pub named : IsNamed spec cap.object series.Lock number
+  pub is : object_at spec cap.object ≡ Some Notification
+  pub rights : cap.rights ≡ RW
+  pub badge : cap.badge ≡ 0
+
+abbrev pub IsCapOf : Tables → Spec → SlotUse → Cap → Type 0
+IsCapOf t spec (OfEnd k n) cap = IsEndCap t spec k n cap
+IsCapOf t spec (Handler k n) cap = IsHandlerCap t spec k cap
+IsCapOf t spec (OwnLock leaf m) cap = IsLockCap t spec cap
+
+-- ---- CNodes
+
+pub record IsSlotOf (t : Tables) (spec : Spec) (uses : List SlotUse) (slot : ℕ × Cap) : Type 0 where
+  pub before : ℕ
+  pub used : SlotUse
+  pub at : slice_get uses before ≡ Some used
+  pub is : slot.0 ≡ before + 1
+  pub cap : IsCapOf t spec used slot.1
+
+-- the CNode of domain d, which stands at place d
+pub record IsCNodeOf (t : Tables) (spec : Spec) (d : ℕ) (uses : List SlotUse) : Type 0 where
+  pub bits : ℕ
+  pub slots : List (ℕ × Cap)
+  pub is : object_at spec d ≡ Some (CNode bits slots)
+  pub named : IsNamed spec d series.CNode d
+  pub least : IsLeastBits (length uses) bits
+  pub as_many : length slots ≡ length uses
+  pub only : (slot : ℕ × Cap) → IsIn slot slots → IsSlotOf t spec uses slot
+  pub every : (n : ℕ) (u : SlotUse) → slice_get uses n ≡ Some u → (cap : Cap) × IsIn (n + 1, cap) slots
+
+-- ---- the map
+
+-- the line of the use in slot `slot`, over the object that the capability there names
+abbrev pub IsLineOf : SlotUse → ℕ → Cap → MapLine → Type 0
+IsLineOf (OfEnd k m) slot cap line = line ≡ SlotLine k m slot cap.object
+IsLineOf (Handler k m) slot cap line = line ≡ SlotLine k m slot cap.object
+IsLineOf (OwnLock leaf m) slot cap line = line ≡ OwnLine leaf m slot cap.object
+
+-- a use of a domain, with the capability in its slot
+pub record IsUsed (t : Tables) (spec : Spec) (line : MapLine) : Type 0 where
+  pub domain : ℕ
+  pub leaves : Domain
+  pub here : slice_get t.flat.domains domain ≡ Some leaves
+  pub before : ℕ
+  pub used : SlotUse
+  pub at : slice_get (domain_uses t.source t.flat leaves.leaves) before ≡ Some used
+  pub bits : ℕ
+  pub slots : List (ℕ × Cap)
+  pub is : object_at spec domain ≡ Some (CNode bits slots)
+  pub cap : Cap
+  pub holds : IsIn (before + 1, cap) slots
+  pub said : IsLineOf used (before + 1) cap line
+
+abbrev pub IsSlotLine : MapLine → Type 0
+IsSlotLine (SlotLine k m slot object) = Unit {0}
+IsSlotLine (OwnLine leaf m slot object) = Unit {0}
+IsSlotLine _ = ⊥
+
+-- ---- all
+
+pub record HasSlots (t : Tables) (spec : Spec) (map : List MapLine) : Type 0 where
+  pub cnodes : (d : ℕ) (x : Domain) → slice_get t.flat.domains d ≡ Some x → IsCNodeOf t spec d (domain_uses t.source t.flat x.leaves)
+  pub irqs : (k : ℕ) (c : FlatConnection) → slice_get t.flat.connections k ≡ Some c → c.connector ≡ Interrupt → (place : ℕ) × IsIrqOf t spec k place
+  pub lines : (n place : ℕ) → IsIn (n, place) spec.irqs → (k : ℕ) × (c : FlatConnection) × (slice_get t.flat.connections k ≡ Some c) × (c.connector ≡ Interrupt) × IsIrqOf t spec k place
+  pub map_only : (line : MapLine) → IsIn line map → IsSlotLine line → IsUsed t spec line
+  pub map_every : (line : MapLine) → IsUsed t spec line → IsIn line map
+
+-- no two uses have one lock
+abbrev pub OwnLocks : Spec → Type 0
+OwnLocks spec =
+    (d m n : ℕ) (e : ℕ) (a b : Cap) (bits more : ℕ) (slots others : List (ℕ × Cap)) (r s : ℕ) → object_at spec d ≡ Some (CNode bits slots) → object_at spec e ≡ Some (CNode more others) → IsIn (m, a) slots
+    → IsIn (n, b) others → IsNamed spec a.object series.Lock r → IsNamed spec b.object series.Lock s → a.object ≡ b.object → (d ≡ e) × (m ≡ n)
+
+pub record AreSlots (t : Tables) (spec : Spec) (map : List MapLine) : Type 0 where
+  pub has : HasSlots t spec map
+  pub own_locks : OwnLocks spec
+
+-- what this asks of a system: its slots are laid out as its uses are, each domain has few uses, each end has a setting, and
+-- each interrupt has a device
+pub record CanSlot (t : Tables) : Type 0 where
+  pub slots : t.slots ≡ slots_of t.source t.flat
+  pub few : (d : ℕ) (x : Domain) → slice_get t.flat.domains d ≡ Some x → length (domain_uses t.source t.flat x.leaves) < 2 ^ 16
+  pub settled : (k n : ℕ) (c : FlatConnection) (e : FlatEnd) → slice_get t.flat.connections k ≡ Some c → slice_get c.ends n ≡ Some e → (s : EndSetting) × (setting_of t.settled k n ≡ Some s)
+  pub devices : (k : ℕ) (c : FlatConnection) → slice_get t.flat.connections k ≡ Some c → c.connector ≡ Interrupt → (n : ℕ) × (e : FlatEnd) × (device_place c.connector c.ends ≡ Some n) × (slice_get c.ends n ≡ Some e)

@@ -1,0 +1,61 @@
+-- The threads of a system, told of its spec and its map. Each leaf of software has a line for its control thread, and one for
+-- each of its ends that serves calls; lines and threads are one to one. A thread runs its leaf's program, has its leaf's
+-- priority, and its domain's CNode and space.
+use Rattle.std.specs.Prelude.{◌≡◌, ℕ, List, Option, Some, None, slice_get}
+use Rattle.adl_ast.specs.declared.composition.Role.TheVariants.{To}
+use Rattle.adl_meaning.specs.declared.connector.Connector.TheVariants.{Rpc}
+use Rattle.adl_meaning.specs.declared.flat.FlatConnection.{FlatConnection}
+use Rattle.adl_meaning.specs.declared.flat.FlatEnd.{FlatEnd}
+use Rattle.adl_meaning.specs.declared.flat.Leaf.{Leaf}
+use Rattle.adl_meaning.specs.declared.settled.LeafSetting.{LeafSetting}
+use Rattle.cap_model.specs.declared.object.Object.TheVariants.{Thread}
+use Rattle.cap_model.specs.declared.object.Tcb.{Tcb}
+use Rattle.cap_model.specs.declared.spec.Spec.{Spec}
+use Rattle.cap_model.specs.Lookup.{object_at}
+use Rattle.leaf_ends.specs.declared.end_at.EndAt.{EndAt}
+use Rattle.numbering.specs.Gather.{IsIn}
+use Rattle.sect_table.specs.declared.image.Image.{Image}
+use Rattle.system_spec.specs.declared.map_line.MapLine.{MapLine}
+use Rattle.system_spec.specs.declared.map_line.MapLine.TheVariants.{ThreadLine}
+use Rattle.system_spec.specs.Tables.{Tables, component_name}
+use Rattle.spec_laws.specs.Spaced.{Runs}
+
+-- the thread at the place is one of this leaf, which is of domain d
+pub record IsThreadOf (t : Tables) (spec : Spec) (root : ℕ → ℕ) (leaf place : ℕ) : Type 0 where
+  pub tcb : Tcb
+  pub is : object_at spec place ≡ Some (Thread tcb)
+  pub found : Leaf
+  pub here : slice_get t.flat.leaves leaf ≡ Some found
+  pub domain : ℕ
+  pub inside : found.domain ≡ Some domain
+  pub image : Image
+  pub runs : Runs t leaf image
+  pub entry : tcb.ip ≡ image.entry
+  pub elf : tcb.elf ≡ Some (component_name t.source found.component)
+  pub setting : LeafSetting
+  pub settled : slice_get t.settled.leaves leaf ≡ Some setting
+  pub priority : tcb.prio ≡ setting.priority
+  pub cnode : tcb.cspace ≡ Some domain
+  pub space : tcb.vspace ≡ Some (root domain)
+
+-- calls come in to the leaf by this end
+pub record Serves (t : Tables) (leaf : ℕ) (e : EndAt) : Type 0 where
+  pub connection : FlatConnection
+  pub here : slice_get t.flat.connections e.connection ≡ Some connection
+  pub is_rpc : connection.connector ≡ Rpc
+  pub end : FlatEnd
+  pub stands : slice_get connection.ends e.end ≡ Some end
+  pub is_to : end.role ≡ To
+  pub joins : end.leaf ≡ leaf
+
+-- what a thread may be of: a leaf of software, or an end that serves
+abbrev pub HasThread : Tables → ℕ → Option EndAt → Type 0
+HasThread t leaf None = (found : Leaf) × (d : ℕ) × (slice_get t.flat.leaves leaf ≡ Some found) × (found.domain ≡ Some d)
+HasThread t leaf (Some e) = Serves t leaf e
+
+pub record AreThreads (t : Tables) (spec : Spec) (root : ℕ → ℕ) (lines : List MapLine) : Type 0 where
+  pub only : (tcb leaf : ℕ) (end : Option EndAt) → IsIn (ThreadLine tcb leaf end) lines → HasThread t leaf end × IsThreadOf t spec root leaf tcb
+  pub every : (leaf : ℕ) (end : Option EndAt) → HasThread t leaf end → (tcb : ℕ) × IsIn (ThreadLine tcb leaf end) lines
+  pub one : (tcb again leaf : ℕ) (end : Option EndAt) → IsIn (ThreadLine tcb leaf end) lines → IsIn (ThreadLine again leaf end) lines → tcb ≡ again
+  pub all : (place : ℕ) (tcb : Tcb) → object_at spec place ≡ Some (Thread tcb) → (leaf : ℕ) × (end : Option EndAt) × IsIn (ThreadLine place leaf end) lines
+  pub apart : (tcb leaf other : ℕ) (end more : Option EndAt) → IsIn (ThreadLine tcb leaf end) lines → IsIn (ThreadLine tcb other more) lines → (leaf ≡ other) × (end ≡ more)
