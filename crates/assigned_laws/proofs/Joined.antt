@@ -1,0 +1,139 @@
+-- Ends of the flat system are ends of connections by the hierarchy, and the other way round.
+use Rattle.std.proofs.Common.{◌≡◌, ◌∙◌, ◌<◌, ◌++◌, ℕ, List, length, Some, refl, sym, ap, subst}
+use Rattle.std.specs.List.{slice_get}
+use Rattle.std.proofs.lemmas.Option.{slice_get_within}
+use Rattle.adl_ast.specs.declared.composition.End.{End}
+use Rattle.adl_ast.specs.declared.source.Source.{Source}
+use Rattle.adl_hierarchy.proofs.Connections.{connections_stand}
+use Rattle.adl_hierarchy.proofs.DomainNames.{leaf_number_is}
+use Rattle.adl_hierarchy.proofs.Joining.{all_joined, end_numbers_kept, ends_kept, joined, joins_joined}
+use Rattle.adl_hierarchy.specs.Leads.{AreDotted}
+use Rattle.component_graph.proofs.Lists.{get, get_map, in_get}
+use Rattle.adl_meaning.specs.declared.flat.FlatConnection.{FlatConnection}
+use Rattle.adl_meaning.specs.declared.flat.FlatEnd.{FlatEnd}
+use Rattle.adl_meaning.specs.Flat.{flat_connection, flat_end, flat_ends, flat_of, leaf_number}
+use Rattle.adl_meaning.specs.Hierarchy.{Wire, hierarchy_of}
+use Rattle.adl_meaning.specs.Joins.{Reached, Strung, connections}
+use Rattle.adl_meaning.specs.Lists.{IsIn}
+use Rattle.adl_meaning.specs.NameFaults.{AreNamesSound}
+use Rattle.adl_meaning.specs.Paths.{Path, Placed, leaves}
+use Rattle.arch_policy.specs.Ends.{EndAt}
+use Rattle.assigned_laws.specs.Assigned.{EndOf, owner}
+use Rattle.assigned_laws.specs.Named.{IsNamed, tables_with}
+use Rattle.assigned_laws.proofs.Naming.{leaf_named}
+use Rattle.flat_laws.proofs.FlatLeaves.{from_get}
+use Rattle.arch_policy.specs.Tables.{Tables, leaf_label}
+use Rattle.arch_policy.specs.declared.numbers.LabelNumbers.{LabelNumbers}
+use Rattle.numbering.proofs.Gathered.{place_of}
+
+-- the place of something in a list
+in_at : {X : Type 0} (x : X) (xs : List X) → IsIn x xs → (n : ℕ) × (slice_get xs n ≡ Some x)
+in_at x xs i = place_of x xs i
+
+module _ (s : Source) (sound : AreNamesSound s) (dotted : AreDotted (hierarchy_of s)) (numbers : LabelNumbers) where
+  abbrev t : Tables
+  t = tables_with s numbers
+
+  -- an end of the flat system is this one of the connection y of the hierarchy
+  pub record Matches (y : Strung) (x : EndAt (flat_of s)) (e : EndOf (hierarchy_of s) y.path y.wire) : Type 0 where
+    pub here : slice_get (connections (hierarchy_of s)) x.place ≡ Some y
+    pub connection : flat_connection (hierarchy_of s) y ≡ x.connection
+    pub number : e.number ≡ x.number
+    pub role : e.role ≡ x.end.role
+    pub reach : Reached
+    pub path : e.leaf ≡ y.path ++ reach.path
+    pub interface : e.interface ≡ reach.interface
+    pub end : End
+    pub flat : flat_end (hierarchy_of s) y.path end reach ≡ x.end
+    pub placed : IsIn (record { path = y.path ++ reach.path; part = reach.part }) (leaves (hierarchy_of s))
+    pub named : IsNamed t (leaf_label t x.end.leaf) (owner (hierarchy_of s) e.leaf)
+
+  pub strung_at : (k : ℕ) (c : FlatConnection) → slice_get (flat_of s).connections k ≡ Some c → (y : Strung) × (slice_get (connections (hierarchy_of s)) k ≡ Some y) × (flat_connection (hierarchy_of s) y ≡ c)
+  strung_at k c e = let h = hierarchy_of s in from_get (flat_connection h) (connections h) k c e
+
+  -- the label of a leaf at the path that is reached
+  reached_named : (q : Path) (r : Reached) → IsIn (record { path = q ++ r.path; part = r.part }) (leaves (hierarchy_of s)) → IsNamed t (leaf_label t (leaf_number (hierarchy_of s) (q ++ r.path))) (owner (hierarchy_of s) (q ++ r.path))
+  reached_named q r i =
+      let h = hierarchy_of s in
+      let x : Placed = record { path = q ++ r.path; part = r.part } in
+      let n = in_at x (leaves h) i in
+      let is = leaf_number_is s sound n.0 x n.1 in
+      subst (λ z. IsNamed t (leaf_label t z) (owner h x.path)) (sym is) (leaf_named s numbers sound x n.0 n.1)
+
+  -- from the flat system
+  pub met : (x : EndAt (flat_of s)) (y : Strung) → slice_get (connections (hierarchy_of s)) x.place ≡ Some y → (e : EndOf (hierarchy_of s) y.path y.wire) × Matches y x e
+  met x y here =
+      let h = hierarchy_of s in
+      let i : IsIn y (connections h) = in_get (connections h) x.place y here in
+      let there : slice_get (flat_of s).connections x.place ≡ Some (flat_connection h y) = get_map (flat_connection h) (connections h) x.place y here in
+      let both : Some (flat_connection h y) ≡ Some x.connection = sym there ∙ x.here in
+      let same : flat_connection h y ≡ x.connection = cc in
+      let stands : slice_get (flat_ends h y) x.number ≡ Some x.end = ap (λ (c : FlatConnection). slice_get c.ends x.number) same ∙ x.stands in
+      let short : x.number < length y.wire.1.ends = subst (λ n. x.number < n) (ends_kept s sound dotted y i) (slice_get_within (flat_ends h y) x.number x.end stands) in
+      let end = get y.wire.1.ends x.number short in
+      let r = all_joined s sound dotted y end.0 i (in_get y.wire.1.ends x.number end.0 end.1) in
+      let flat = end_numbers_kept s sound dotted y x.number end.0 r.0 i end.1 r.1 in
+      let ends : Some (flat_end h y.path end.0 r.0) ≡ Some x.end = sym flat ∙ stands in
+      let is : flat_end h y.path end.0 r.0 ≡ x.end = cc in
+      let j = joined s sound y x.number end.0 r.0 i end.1 r.1 in
+      let e : EndOf h y.path y.wire = record { number = x.number; role = end.0.role; leaf = y.path ++ r.0.path; interface = r.0.interface; joins = j.0 } in
+      let named = reached_named y.path r.0 j.1 in (
+        e,
+        record {
+          here = here;
+          connection = same;
+          number = refl;
+          role = ap (λ (z : FlatEnd). z.role) is;
+          reach = r.0;
+          path = refl;
+          interface = refl;
+          end = end.0;
+          flat = is;
+          placed = j.1;
+          named = subst (λ (z : FlatEnd). IsNamed t (leaf_label t z.leaf) (owner h (y.path ++ r.0.path))) is named;
+        },
+      )
+
+  -- a connection of the hierarchy that has an end stands in the flat system
+  pub strung_here : (q : Path) (w : Wire) (e : EndOf (hierarchy_of s) q w) → (k : ℕ) × (inside : ℕ) × (slice_get (connections (hierarchy_of s)) k ≡ Some (record { path = q; inside = inside; wire = w }))
+  strung_here q w e =
+      let h = hierarchy_of s in
+      let j = e.joins in
+      let y : Strung = record { path = q; inside = j.inside; wire = w } in
+      let n = in_at y (connections h) ((connections_stand s sound y).1 (j.there, j.stands)) in
+      (n.0, j.inside, n.1)
+
+  -- from the hierarchy
+  pub put : (y : Strung) (k : ℕ) → slice_get (connections (hierarchy_of s)) k ≡ Some y → (e : EndOf (hierarchy_of s) y.path y.wire) → (x : EndAt (flat_of s)) × (x.place ≡ k) × Matches y x e
+  put y k here e =
+      let h = hierarchy_of s in
+      let i : IsIn y (connections h) = in_get (connections h) k y here in
+      let j = joins_joined s sound y e.number e.role e.leaf e.interface i e.joins in
+      let end = j.0 in
+      let r = j.3 in
+      let flat = end_numbers_kept s sound dotted y e.number end r i j.1 j.4 in
+      let x : EndAt (flat_of s) = record {
+        place = k;
+        connection = flat_connection h y;
+        here = get_map (flat_connection h) (connections h) k y here;
+        number = e.number;
+        end = flat_end h y.path end r;
+        stands = flat;
+      } in
+      let leaf = (joined s sound y e.number end r i j.1 j.4).1 in (
+        x,
+        refl,
+        record {
+          here = here;
+          connection = refl;
+          number = refl;
+          role = sym j.2;
+          reach = r;
+          path = sym j.5;
+          interface = sym j.6;
+          end = end;
+          flat = refl;
+          placed = leaf;
+          named = subst (λ z. IsNamed t (leaf_label t (leaf_number h (y.path ++ r.path))) (owner h z)) j.5 (reached_named y.path r leaf);
+        },
+      )

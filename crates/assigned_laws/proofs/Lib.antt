@@ -1,0 +1,12 @@
+pub mod Accesses
+pub mod AssignedReasons
+pub mod Given
+pub mod Joined
+pub mod LabelPaths
+pub mod LabelTexts
+pub mod Locks
+pub mod Naming
+pub mod Ranked
+pub mod SpelledLines
+pub mod TextReasons
+pub mod Undotted

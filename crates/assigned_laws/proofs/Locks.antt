@@ -1,0 +1,120 @@
+-- Locks of the flat system are locks of leaves by the hierarchy, and the other way round.
+use Rattle.std.proofs.Common.{◌≡◌, ◌∙◌, ℕ, Bool, true, false, cond, Some, None, refl, sym, ap, subst}
+use Rattle.std.specs.List.{slice_get}
+use Rattle.std.specs.Option.{option_map_or}
+use Rattle.adl_ast.specs.declared.component.Component.{Component}
+use Rattle.adl_ast.specs.declared.component.Member.TheVariants as members
+use Rattle.adl_ast.specs.declared.source.Source.{Source}
+use Rattle.adl_hierarchy.proofs.Bodies.{body_number}
+use Rattle.adl_hierarchy.proofs.DomainNames.{domain_found, domains_are}
+use Rattle.adl_hierarchy.proofs.Leaves.{leaves_stand, paths_are_leaves}
+use Rattle.adl_hierarchy.proofs.PartsAt.{at_part}
+use Rattle.component_graph.proofs.Lists.{from_map, get_map, in_get}
+use Rattle.adl_meaning.specs.CompositeBody.{is_device}
+use Rattle.adl_meaning.specs.Domains.{domain_of, domains, is_hardware}
+use Rattle.adl_meaning.specs.Flat.{domain_number, flat_domain, flat_of, item_of, leaf_of}
+use Rattle.adl_meaning.specs.Hierarchy.{Body, body, hierarchy_of, top_number}
+use Rattle.adl_meaning.specs.Lists.{IsIn}
+use Rattle.adl_meaning.specs.NameFaults.{AreNamesSound}
+use Rattle.adl_meaning.specs.Paths.{Placed, at, leaves}
+use Rattle.adl_meaning.specs.declared.flat.Leaf.{Leaf}
+use Rattle.adl_meaning.specs.declared.item_at.ItemAt.{ItemAt}
+use Rattle.arch_policy.specs.Ends.{LockAt}
+use Rattle.arch_policy.specs.declared.owner.Owner.TheVariants.{OfDomain}
+use Rattle.assigned_laws.specs.Assigned.{LockOf}
+use Rattle.assigned_laws.specs.Named.{IsNamed, tables_with}
+use Rattle.leaf_ends.specs.Members.{members_at}
+use Rattle.flat_laws.proofs.FlatLeaves.{from_get, leaf_component, members_of_part}
+use Rattle.numbering.proofs.Gathered.{place_of}
+use Rattle.arch_policy.specs.Tables.{Tables, domain_label}
+use Rattle.arch_policy.specs.declared.numbers.LabelNumbers.{LabelNumbers}
+
+module _ (s : Source) (sound : AreNamesSound s) (numbers : LabelNumbers) where
+  abbrev t : Tables
+  t = tables_with s numbers
+
+  -- the domain of a leaf that is no device
+  domain_named : (x : Placed) → IsIn x (leaves (hierarchy_of s)) → is_hardware (hierarchy_of s) x.part ≡ false → IsNamed t (domain_label t (domain_number (hierarchy_of s) (domain_of (hierarchy_of s) x.path))) (domain_of (hierarchy_of s) x.path)
+  domain_named x i soft =
+      let h = hierarchy_of s in
+      let d = domain_of h x.path in
+      let there = domain_found h d ((domains_are h d).1 (x, i, soft, refl)) in
+      record { labelled = OfDomain (domain_number h d); there = (flat_domain h d, get_map (flat_domain h) (domains h) (domain_number h d) d there, refl); is = refl }
+
+  -- the component of a leaf
+  record Typed (x : Placed) : Type 0 where
+    component : ItemAt × Component
+    is : (body (hierarchy_of s) x.part.kind).component ≡ Some component.1
+    members_are : members_at s (item_of (hierarchy_of s) x.part) ≡ component.1.members
+    device : is_hardware (hierarchy_of s) x.part ≡ is_device component.1
+
+  typed : (x : Placed) → IsIn x (leaves (hierarchy_of s)) → Typed x
+  typed x i =
+      let h = hierarchy_of s in
+      let c = leaf_component s sound x i in
+      let b = body_number s x.part.kind c.0 c.1 in
+      let is : (body h x.part.kind).component ≡ Some c.0.1 = ap (λ (z : Body). z.component) b in
+      record { component = c.0; is = is; members_are = members_of_part s x.part c.0 c.1; device = ap (λ z. option_map_or is_device z false) is }
+
+  soft_of : (x : Placed) (d : ℕ) → (leaf_of (hierarchy_of s) x).domain ≡ Some d → (is_hardware (hierarchy_of s) x.part ≡ false) × (domain_number (hierarchy_of s) (domain_of (hierarchy_of s) x.path) ≡ d)
+  soft_of x d e = by_test (is_hardware (hierarchy_of s) x.part) e
+    where
+      by_test : (b : Bool) → cond b None (Some (domain_number (hierarchy_of s) (domain_of (hierarchy_of s) x.path))) ≡ Some d → (b ≡ false) × (domain_number (hierarchy_of s) (domain_of (hierarchy_of s) x.path) ≡ d)
+      by_test true e = cc
+      by_test false e = (refl, cc)
+
+  pub lock_of : (k : LockAt s (flat_of s)) → (o : LockOf (hierarchy_of s)) × IsNamed t (domain_label t k.domain) (domain_of (hierarchy_of s) o.leaf)
+  lock_of k =
+      let h = hierarchy_of s in
+      let g = from_get (leaf_of h) (leaves h) k.leaf k.found k.here in
+      let x = g.0 in
+      let i = in_get (leaves h) k.leaf x g.1 in
+      let stands = (leaves_stand s sound x).0 i in
+      let c = typed x i in
+      let soft = soft_of x k.domain (ap (λ (z : Leaf). z.domain) g.2 ∙ k.inside) in
+      let declared : slice_get c.component.1.members k.member ≡ Some (members.Lock k.lock) =
+      ap (λ ms. slice_get ms k.member) (sym c.members_are) ∙ ap (λ (z : Leaf). slice_get (members_at s z.component) k.member) g.2 ∙ k.declared in (
+        record {
+          leaf = x.path;
+          kind = x.part.kind;
+          there = at_part h (top_number h) x.path x.part stands.0;
+          simple = stands.1;
+          component = c.component.1;
+          is = c.is;
+          software = sym c.device ∙ soft.0;
+          lock = k.lock;
+          declared = in_get c.component.1.members k.member (members.Lock k.lock) declared;
+        },
+        subst (λ z. IsNamed t (domain_label t z) (domain_of h x.path)) soft.1 (domain_named x i soft.0),
+      )
+
+  pub lock_at : (o : LockOf (hierarchy_of s)) → (k : LockAt s (flat_of s)) × IsNamed t (domain_label t k.domain) (domain_of (hierarchy_of s) o.leaf)
+  lock_at o =
+      let h = hierarchy_of s in
+      let m = (paths_are_leaves s sound o.leaf).1 (o.kind, o.there, o.simple) in
+      let g = from_map (λ (x : Placed). x.path) o.leaf (leaves h) m in
+      let x = g.0 in
+      let i = g.1 in
+      let stands = (leaves_stand s sound x).0 i in
+      let c = typed x i in
+      let there : at h (top_number h) o.leaf ≡ Some x.part.kind = ap (at h (top_number h)) (sym g.2) ∙ at_part h (top_number h) x.path x.part stands.0 in
+      let kinds : Some o.kind ≡ Some x.part.kind = sym o.there ∙ there in
+      let kind : o.kind ≡ x.part.kind = cc in
+      let both : Some o.component ≡ Some c.component.1 = sym o.is ∙ ap (λ z. (body h z).component) kind ∙ c.is in
+      let same : o.component ≡ c.component.1 = cc in
+      let soft : is_hardware h x.part ≡ false = c.device ∙ ap is_device (sym same) ∙ o.software in
+      let n = place_of x (leaves h) i in
+      let d = domain_number h (domain_of h x.path) in
+      let p = place_of (members.Lock o.lock) c.component.1.members (subst (λ (z : Component). IsIn (members.Lock o.lock) z.members) same o.declared) in (
+        record {
+          leaf = n.0;
+          found = leaf_of h x;
+          here = get_map (leaf_of h) (leaves h) n.0 x n.1;
+          domain = d;
+          inside = ap (λ b. cond b None (Some d)) soft;
+          member = p.0;
+          lock = o.lock;
+          declared = ap (λ ms. slice_get ms p.0) c.members_are ∙ p.1;
+        },
+        subst (λ z. IsNamed t (domain_label t d) (domain_of h z)) g.2 (domain_named x i soft),
+      )

@@ -1,0 +1,115 @@
+-- Labels by number and by path.
+use Rattle.std.proofs.Common.{◌≡◌, ◌∙◌, ℕ, Bool, true, false, cond, Option, Some, None, refl, sym, ap, subst}
+use Rattle.std.specs.List.{slice_get}
+use Rattle.adl_ast.specs.declared.source.Source.{Source}
+use Rattle.adl_hierarchy.proofs.DomainNames.{domain_found, domains_are}
+use Rattle.adl_hierarchy.proofs.Leaves.{leaves_stand}
+use Rattle.adl_hierarchy.proofs.PartsAt.{at_part}
+use Rattle.component_graph.proofs.Lists.{get_map, in_get}
+use Rattle.adl_meaning.specs.CompositeBody.{is_device}
+use Rattle.adl_meaning.specs.Domains.{domain_of, domains, is_hardware}
+use Rattle.adl_meaning.specs.Flat.{domain_number, flat_connection, flat_domain, flat_of, leaf_of}
+use Rattle.adl_meaning.specs.Hierarchy.{body, hierarchy_of, top_number}
+use Rattle.adl_meaning.specs.Joins.{Strung, connections}
+use Rattle.adl_meaning.specs.NameFaults.{AreNamesSound}
+use Rattle.adl_meaning.specs.Paths.{Path, Placed, leaves}
+use Rattle.adl_meaning.specs.declared.flat.Flat.{Flat}
+use Rattle.adl_meaning.specs.declared.flat.Leaf.{Leaf}
+use Rattle.arch_policy.specs.declared.owner.Owner.{Owner}
+use Rattle.arch_policy.specs.Owners.{has_label, owner_in}
+use Rattle.arch_policy.specs.declared.owner.Owner.TheVariants.{OfConnection, OfDomain, OfLeaf}
+use Rattle.arch_policy.specs.Tables.{AreApart, IsThere, Tables, connection_label, leaf_label, number_of}
+use Rattle.assigned_laws.specs.Assigned.{connection_path, device_at, owner}
+use Rattle.assigned_laws.specs.Named.{ArePathsApart, HasPath, IsNamed, tables_with}
+use Rattle.arch_policy.specs.declared.numbers.LabelNumbers.{LabelNumbers}
+use Rattle.std.specs.Option.{option_map_or}
+
+-- the label of whose a leaf is that is told so
+abbrev option_label : Tables → ℕ → Option Leaf → ℕ
+option_label t n o = number_of t.numbers (option_map_or (λ x. owner_in n x.domain) o (OfLeaf n))
+
+-- ---- numbers and paths tell each other
+
+has_there : (flat : Flat) (x : Owner) (p : Path) → HasPath flat x p → IsThere flat x
+has_there flat (OfDomain d) p h = (h.0, h.1)
+has_there flat (OfConnection k) p h = (h.0, h.1, h.2)
+has_there flat (OfLeaf l) p h = (h.0, h.1, h.2)
+
+one_path : (flat : Flat) (x : Owner) (p q : Path) → HasPath flat x p → HasPath flat x q → p ≡ q
+one_path flat (OfDomain d) p q h k =
+    let both : Some h.0 ≡ Some k.0 = sym h.1 ∙ k.1 in
+    let same : h.0 ≡ k.0 = cc in
+    sym h.2 ∙ ap (λ z. z.path) same ∙ k.2
+one_path flat (OfConnection c) p q h k =
+    let both : Some h.0 ≡ Some k.0 = sym h.1 ∙ k.1 in
+    let same : h.0 ≡ k.0 = cc in
+    sym h.3 ∙ ap (λ z. z.path) same ∙ k.3
+one_path flat (OfLeaf l) p q h k =
+    let both : Some h.0 ≡ Some k.0 = sym h.1 ∙ k.1 in
+    let same : h.0 ≡ k.0 = cc in
+    sym h.3 ∙ ap (λ z. z.path) same ∙ k.3
+
+pub path_is : (t : Tables) → AreApart t → (l m : ℕ) (p q : Path) → l ≡ m → IsNamed t l p → IsNamed t m q → p ≡ q
+path_is t apart l m p q e h k =
+    let same = apart h.labelled k.labelled (has_there t.flat h.labelled p h.there) (has_there t.flat k.labelled q k.there) (sym h.is ∙ e ∙ k.is) in
+    one_path t.flat k.labelled p q (subst (λ z. HasPath t.flat z p) same h.there) k.there
+
+pub number_is : (t : Tables) → ArePathsApart t.flat → (l m : ℕ) (p q : Path) → p ≡ q → IsNamed t l p → IsNamed t m q → l ≡ m
+number_is t apart l m p q e h k =
+    let same = apart h.labelled k.labelled q (subst (λ z. HasPath t.flat h.labelled z) e h.there) k.there in
+    h.is ∙ ap (number_of t.numbers) same ∙ sym k.is
+
+-- ---- leaves and connections
+
+module _ (s : Source) (numbers : LabelNumbers) where
+  pub leaf_here : (x : Placed) (n : ℕ) → slice_get (leaves (hierarchy_of s)) n ≡ Some x → slice_get (flat_of s).leaves n ≡ Some (leaf_of (hierarchy_of s) x)
+  leaf_here x n e = get_map (leaf_of (hierarchy_of s)) (leaves (hierarchy_of s)) n x e
+
+  pub device_is : AreNamesSound s → (x : Placed) (n : ℕ) → slice_get (leaves (hierarchy_of s)) n ≡ Some x → device_at (hierarchy_of s) x.path ≡ is_hardware (hierarchy_of s) x.part
+  device_is sound x n e =
+      let h = hierarchy_of s in
+      let stands = (leaves_stand s sound x).0 (in_get (leaves h) n x e) in
+      ap (λ z. option_map_or (λ k. option_map_or is_device (body h k).component false) z false) (at_part h (top_number h) x.path x.part stands.0)
+
+  pub leaf_named : AreNamesSound s → (x : Placed) (n : ℕ) → slice_get (leaves (hierarchy_of s)) n ≡ Some x → let t = tables_with s numbers in IsNamed t (leaf_label t n) (owner (hierarchy_of s) x.path)
+  leaf_named sound x n e =
+      let h = hierarchy_of s in
+      let t = tables_with s numbers in
+      let here = leaf_here x n e in
+      let label : leaf_label t n ≡ option_label t n (Some (leaf_of h x)) = ap (option_label t n) here in
+      let device = device_is sound x n e in
+      by_test (is_hardware h x.part) refl here label device
+    where
+      by_test : (b : Bool) → is_hardware (hierarchy_of s) x.part ≡ b → slice_get (flat_of s).leaves n ≡ Some (leaf_of (hierarchy_of s) x) → leaf_label (tables_with s numbers) n ≡ option_label (tables_with s numbers) n (Some (leaf_of (hierarchy_of s) x))
+          → device_at (hierarchy_of s) x.path ≡ is_hardware (hierarchy_of s) x.part → IsNamed (tables_with s numbers) (leaf_label (tables_with s numbers) n) (owner (hierarchy_of s) x.path)
+      by_test true hard here label device =
+          let h = hierarchy_of s in
+          let t = tables_with s numbers in
+          let none : (leaf_of h x).domain ≡ None = ap (λ b. cond b None (Some (domain_number h (domain_of h x.path)))) hard in
+          let own : owner h x.path ≡ x.path = ap (λ b. cond b x.path (domain_of h x.path)) (device ∙ hard) in
+          record {
+            labelled = OfLeaf n;
+            there = (leaf_of h x, here, none, sym own);
+            is = label ∙ ap (λ b. option_label t n (Some (record (leaf_of h x) { domain = b }))) none;
+          }
+      by_test false soft here label device =
+          let h = hierarchy_of s in
+          let t = tables_with s numbers in
+          let d = domain_of h x.path in
+          let some : (leaf_of h x).domain ≡ Some (domain_number h d) = ap (λ b. cond b None (Some (domain_number h (domain_of h x.path)))) soft in
+          let own : owner h x.path ≡ d = ap (λ b. cond b x.path (domain_of h x.path)) (device ∙ soft) in
+          let at = domain_found h d ((domains_are h d).1 (x, in_get (leaves h) n x e, soft, refl)) in
+          record {
+            labelled = OfDomain (domain_number h d);
+            there = (flat_domain h d, get_map (flat_domain h) (domains h) (domain_number h d) d at, sym own);
+            is = label ∙ ap (λ b. option_label t n (Some (record (leaf_of h x) { domain = b }))) some;
+          }
+
+  pub connection_named : (y : Strung) (k : ℕ) → slice_get (connections (hierarchy_of s)) k ≡ Some y → has_label y.wire.0 ≡ true → let t = tables_with s numbers in IsNamed t (connection_label t k) (connection_path y.path y.wire)
+  connection_named y k e labelled =
+      let h = hierarchy_of s in
+      record {
+        labelled = OfConnection k;
+        there = (flat_connection h y, get_map (flat_connection h) (connections h) k y e, labelled, refl);
+        is = refl;
+      }

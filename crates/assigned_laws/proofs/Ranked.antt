@@ -1,0 +1,212 @@
+-- Numbers of labels are the places of their texts, and tell the texts.
+use Rattle.std.proofs.Common.{◌≡◌, ◌↔◌, ◌∙◌, ◌+◌, ◌++◌, ℕ, zero, suc, Bool, true, false, cond, List, [], ◌∷◌, Some, None, Less, refl, sym, ap, subst, inl, inr, arith}
+use Rattle.std.specs.Cmp.Lexicographic.{slice_cmp}
+use Rattle.std.specs.List.{count_by, slice_get}
+use Rattle.std.specs.Ordering.{is_lt, nat_cmp, ordering_reverse}
+use Rattle.std.proofs.lemmas.Cmp.{nat_list_cmp_total, tied_itself}
+use Rattle.std.proofs.lemmas.List.Sums.{sum_by-cons}
+use Rattle.std.proofs.lemmas.Option.{get_or_from_slice_get}
+use Rattle.adl_meaning.specs.Paths.{Path}
+use Rattle.adl_meaning.specs.declared.flat.Domain.{Domain}
+use Rattle.adl_meaning.specs.declared.flat.Flat.{Flat}
+use Rattle.adl_meaning.specs.declared.flat.FlatConnection.{FlatConnection}
+use Rattle.adl_meaning.specs.declared.flat.Leaf.{Leaf}
+use Rattle.arch_policy.proofs.Ordering.{Above, Rises, order_rises, to_order, from_order}
+use Rattle.arch_policy.specs.Labels.{comes_before, connection_numbers, device_numbers, domain_numbers, label_lines, label_numbers, label_texts, rank}
+use Rattle.arch_policy.specs.Owners.{connection_texts, device_texts, domain_texts, has_label, is_device, texts}
+use Rattle.arch_policy.specs.Tables.{AreApart, IsThere, Tables, number_of}
+use Rattle.arch_policy.specs.Where.{where_true}
+use Rattle.arch_policy.specs.declared.owner.Owner.{Owner}
+use Rattle.arch_policy.specs.declared.owner.Owner.TheVariants.{OfConnection, OfDomain, OfLeaf}
+use Rattle.assigned_laws.specs.Named.{HasPath}
+use Rattle.assigned_laws.specs.Texts.{AreTextsApart, IsCalled}
+use Rattle.cam_base.specs.Paths.{joined}
+use Rattle.numbering.proofs.Gathered.{from_gather, get_ones, in_append, in_gather, in_left, in_place, in_right, place_of}
+use Rattle.numbering.specs.Gather.{IsIn}
+
+-- ---- ranks in texts that rise
+
+abbrev one : Bool → ℕ
+one b = cond b 1 0
+
+count_step : (p : List ℕ → Bool) (x : List ℕ) (xs : List (List ℕ)) → count_by p (x ∷ xs) ≡ one (p x) + count_by p xs
+count_step p x xs = sum_by-cons (λ z. one (p z)) x xs
+
+not_itself : (t : List ℕ) → comes_before t t ≡ false
+not_itself t = ap is_lt (tied_itself nat_list_cmp_total t)
+
+not_behind : (s t : List ℕ) → slice_cmp nat_cmp t s ≡ Less → comes_before s t ≡ false
+not_behind s t h = ap is_lt (nat_list_cmp_total.antisymm s t ∙ ap ordering_reverse h)
+
+-- nothing comes before a text that all rise above
+none_before : (t : List ℕ) (ts : List (List ℕ)) → Above t ts → rank ts t ≡ 0
+none_before t [] a = refl
+none_before t (s ∷ ss) a =
+    let step = count_step (λ z. comes_before z t) s ss in
+    let first : one (comes_before s t) ≡ 0 = ap one (not_behind s t a.0) in
+    let rest = none_before t ss a.1 in
+    omega (arith, step, first, rest)
+
+above_at : (t x : List ℕ) (ts : List (List ℕ)) (n : ℕ) → Above t ts → slice_get ts n ≡ Some x → slice_cmp nat_cmp t x ≡ Less
+above_at t x [] n a e = absurd cc
+above_at t x (s ∷ ss) zero a e = let same : s ≡ x = cc in ap (slice_cmp nat_cmp t) (sym same) ∙ a.0
+above_at t x (s ∷ ss) (suc n) a e = above_at t x ss n a.1 e
+
+-- in texts that rise, as many come before a text as stand in front of it
+rank_place : (ts : List (List ℕ)) (n : ℕ) (x : List ℕ) → Rises ts → slice_get ts n ≡ Some x → rank ts x ≡ n
+rank_place [] n x r e = absurd cc
+rank_place (t ∷ ts) zero x r e =
+    let same : t ≡ x = cc in
+    let step = count_step (λ z. comes_before z t) t ts in
+    let first : one (comes_before t t) ≡ 0 = ap one (not_itself t) in
+    let rest = none_before t ts r.0 in
+    ap (rank (t ∷ ts)) (sym same) ∙ omega (arith, step, first, rest)
+rank_place (t ∷ ts) (suc n) x r e =
+    let step = count_step (λ z. comes_before z x) t ts in
+    let first : one (comes_before t x) ≡ 1 = ap (λ o. one (is_lt o)) (above_at t x ts n r.0 e) in
+    let rest = rank_place ts n x r.1 e in
+    omega (arith, step, first, rest)
+
+-- ---- texts of labels
+
+-- who has a label has a path
+path_there : (flat : Flat) (x : Owner) → IsThere flat x → (p : Path) × HasPath flat x p
+path_there flat (OfDomain d) h = (h.0.path, (h.0, h.1, refl))
+path_there flat (OfConnection k) h = (h.0.path, (h.0, h.1, h.2, refl))
+path_there flat (OfLeaf l) h = (h.0.path, (h.0, h.1, h.2, refl))
+
+device_none : (leaf : Leaf) → leaf.domain ≡ None → is_device leaf.domain ≡ true
+device_none leaf e = ap is_device e
+
+in_where : {X : Type 0} (b : Bool) (x : X) → b ≡ true → IsIn x (where_true b x)
+in_where true x h = inl refl
+in_where false x h = absurd cc
+
+from_where : {X : Type 0} (b : Bool) (x y : X) → IsIn y (where_true b x) → (b ≡ true) × (x ≡ y)
+from_where true x y (inl e) = (refl, e)
+from_where true x y (inr i) = absurd i
+from_where false x y i = absurd i
+
+-- a label's text is listed
+listed : (flat : Flat) (x : Owner) (p : Path) → HasPath flat x p → IsIn (joined p) (texts flat)
+listed flat (OfDomain d) p h =
+    in_left (joined p) (domain_texts flat.domains) (device_texts flat.leaves ++ connection_texts flat.connections)
+    (in_gather (λ d (x : Domain). joined x.path ∷ []) (joined p) flat.domains d h.0 h.1 (inl (ap joined h.2)))
+listed flat (OfLeaf l) p h =
+    in_right (joined p) (domain_texts flat.domains) (device_texts flat.leaves ++ connection_texts flat.connections)
+    (in_left (joined p) (device_texts flat.leaves) (connection_texts flat.connections)
+    (in_gather (λ l (x : Leaf). where_true (is_device x.domain) (joined x.path)) (joined p) flat.leaves l h.0 h.1
+    (subst (λ z. IsIn (joined z) (where_true (is_device h.0.domain) (joined h.0.path))) h.3 (in_where (is_device h.0.domain) (joined h.0.path) (device_none h.0 h.2)))))
+listed flat (OfConnection k) p h =
+    in_right (joined p) (domain_texts flat.domains) (device_texts flat.leaves ++ connection_texts flat.connections)
+    (in_right (joined p) (device_texts flat.leaves) (connection_texts flat.connections)
+    (in_gather (λ k (x : FlatConnection). where_true (has_label x.connector) (joined x.path)) (joined p) flat.connections k h.0 h.1
+    (subst (λ z. IsIn (joined z) (where_true (has_label h.0.connector) (joined h.0.path))) h.3 (in_where (has_label h.0.connector) (joined h.0.path) h.2))))
+
+-- a device's leaf has no domain
+none_device : (leaf : Leaf) → is_device leaf.domain ≡ true → leaf.domain ≡ None
+none_device leaf h = by_case leaf.domain h
+  where
+    by_case : (o : _) → is_device o ≡ true → o ≡ None
+    by_case None h = refl
+    by_case (Some d) h = absurd cc
+
+-- and each text that is listed is a label's
+record Labels (flat : Flat) (text : List ℕ) : Type 0 where
+  owner : Owner
+  path : Path
+  has : HasPath flat owner path
+  text_is : joined path ≡ text
+
+from_listed : (flat : Flat) (text : List ℕ) → IsIn text (texts flat) → Labels flat text
+from_listed flat text i = elim (in_append text (domain_texts flat.domains) (device_texts flat.leaves ++ connection_texts flat.connections) i) [
+  | inl d ↦
+      let g = from_gather (λ d (x : Domain). joined x.path ∷ []) text flat.domains d in
+      of_domain g.0 g.1 g.2 g.3
+  | inr r ↦ elim (in_append text (device_texts flat.leaves) (connection_texts flat.connections) r) [
+    | inl l ↦
+        let g = from_gather (λ l (x : Leaf). where_true (is_device x.domain) (joined x.path)) text flat.leaves l in
+        let w = from_where (is_device g.1.domain) (joined g.1.path) text g.3 in
+        record { owner = OfLeaf g.0; path = g.1.path; has = (g.1, g.2, none_device g.1 w.0, refl); text_is = w.1 }
+    | inr c ↦
+        let g = from_gather (λ k (x : FlatConnection). where_true (has_label x.connector) (joined x.path)) text flat.connections c in
+        let w = from_where (has_label g.1.connector) (joined g.1.path) text g.3 in
+        record { owner = OfConnection g.0; path = g.1.path; has = (g.1, g.2, w.0, refl); text_is = w.1 }
+  ]
+]
+  where
+    of_domain : (d : ℕ) (x : Domain) → slice_get flat.domains d ≡ Some x → IsIn text (joined x.path ∷ []) → Labels flat text
+    of_domain d x e (inl same) = record { owner = OfDomain d; path = x.path; has = (x, e, refl); text_is = same }
+    of_domain d x e (inr none) = absurd none
+
+-- ---- numbers of labels
+
+-- the number of a label is how many texts come before its own
+number_rank : (flat : Flat) (x : Owner) (p : Path) → HasPath flat x p → number_of (label_numbers flat) x ≡ rank (label_texts flat) (joined p)
+number_rank flat (OfDomain d) p h =
+    get_or_from_slice_get (domain_numbers (label_texts flat) flat.domains) d _ 0 (get_ones (λ d (x : Domain). rank (label_texts flat) (joined x.path)) flat.domains d h.0 h.1)
+    ∙ ap (λ z. rank (label_texts flat) (joined z)) h.2
+number_rank flat (OfConnection k) p h =
+    get_or_from_slice_get (connection_numbers (label_texts flat) flat.connections) k _ 0 (get_ones (λ k (x : FlatConnection). rank (label_texts flat) (joined x.path)) flat.connections k h.0 h.1)
+    ∙ ap (λ z. rank (label_texts flat) (joined z)) h.3
+number_rank flat (OfLeaf l) p h =
+    get_or_from_slice_get (device_numbers (label_texts flat) flat.leaves) l _ 0 (get_ones (λ l (x : Leaf). rank (label_texts flat) (joined x.path)) flat.leaves l h.0 h.1)
+    ∙ ap (λ z. rank (label_texts flat) (joined z)) h.3
+
+-- and the place of its text
+number_place : (flat : Flat) (x : Owner) (p : Path) → HasPath flat x p → slice_get (label_texts flat) (number_of (label_numbers flat) x) ≡ Some (joined p)
+number_place flat x p h =
+    let n = place_of (joined p) (label_texts flat) (to_order (joined p) (texts flat) (listed flat x p h)) in
+    let is = number_rank flat x p h ∙ rank_place (label_texts flat) n.0 (joined p) (order_rises (texts flat)) n.1 in
+    ap (slice_get (label_texts flat)) is ∙ n.1
+
+-- where texts are apart, numbers are
+pub numbers_apart : (t : Tables) → t.numbers ≡ label_numbers t.flat → AreTextsApart t.flat → AreApart t
+numbers_apart t is apart x y a b e =
+    let p = path_there t.flat x a in
+    let q = path_there t.flat y b in
+    let same : number_of (label_numbers t.flat) x ≡ number_of (label_numbers t.flat) y = ap (λ z. number_of z x) (sym is) ∙ e ∙ ap (λ z. number_of z y) is in
+    let both : Some (joined p.0) ≡ Some (joined q.0) = sym (number_place t.flat x p.0 p.1) ∙ ap (slice_get (label_texts t.flat)) same ∙ number_place t.flat y q.0 q.1 in
+    let one_text : joined p.0 ≡ joined q.0 = cc in
+    apart x y p.0 q.0 p.1 q.1 one_text
+
+-- ---- lines of labels
+
+line_place : (flat : Flat) (l : ℕ) (text : List ℕ) → IsIn {X = ℕ × List ℕ} (l, text) (label_lines flat) → slice_get (label_texts flat) l ≡ Some text
+line_place flat l text i =
+    let g = from_gather (λ n t. (n, t) ∷ []) (l, text) (label_texts flat) i in
+    by_case g.0 g.1 g.2 g.3
+  where
+    by_case : (n : ℕ) (t : List ℕ) → slice_get (label_texts flat) n ≡ Some t → IsIn {X = ℕ × List ℕ} (l, text) ((n, t) ∷ []) → slice_get (label_texts flat) l ≡ Some text
+    by_case n t e (inl same) = ap (λ (z : ℕ × List ℕ). slice_get (label_texts flat) z.0) (sym same) ∙ e ∙ ap (λ (z : ℕ × List ℕ). Some z.1) same
+    by_case n t e (inr none) = absurd none
+
+-- a line of the labels has the number that is called by its text
+pub line_called : (t : Tables) → t.numbers ≡ label_numbers t.flat → (l : ℕ) (text : List ℕ) → IsIn {X = ℕ × List ℕ} (l, text) (label_lines t.flat) → IsCalled t l text
+line_called t is l text i =
+    let e = line_place t.flat l text i in
+    let w = from_listed t.flat text (from_order text (texts t.flat) (in_place text (label_texts t.flat) l e)) in
+    let number : number_of t.numbers w.owner ≡ l =
+    ap (λ z. number_of z w.owner) is
+    ∙ number_rank t.flat w.owner w.path w.has
+    ∙ ap (rank (label_texts t.flat)) w.text_is
+    ∙ rank_place (label_texts t.flat) l text (order_rises (texts t.flat)) e in
+    (w.path, record { labelled = w.owner; there = w.has; is = sym number }, w.text_is)
+
+pub called_line : (t : Tables) → t.numbers ≡ label_numbers t.flat → (l : ℕ) (text : List ℕ) → IsCalled t l text → IsIn {X = ℕ × List ℕ} (l, text) (label_lines t.flat)
+called_line t is l text c =
+    let w = c.1 in
+    let number : l ≡ number_of (label_numbers t.flat) w.labelled = w.is ∙ ap (λ z. number_of z w.labelled) is in
+    let e : slice_get (label_texts t.flat) l ≡ Some text = ap (slice_get (label_texts t.flat)) number ∙ number_place t.flat w.labelled c.0 w.there ∙ ap (λ z. Some z) c.2 in
+    in_gather (λ n t. (n, t) ∷ []) (l, text) (label_texts t.flat) l text e (inl refl)
+
+-- two lines have one number just where they have one text
+pub lines_apart : (flat : Flat) (l m : ℕ) (from to : List ℕ) → IsIn {X = ℕ × List ℕ} (l, from) (label_lines flat) → IsIn {X = ℕ × List ℕ} (m, to) (label_lines flat) → (l ≡ m) ↔ (from ≡ to)
+lines_apart flat l m from to i j =
+    let ts = label_texts flat in
+    let rises = order_rises (texts flat) in
+    let e = line_place flat l from i in
+    let f = line_place flat m to j in (
+      λ same. let both : Some from ≡ Some to = sym e ∙ ap (slice_get ts) same ∙ f in let text : from ≡ to = cc in text,
+      λ same. sym (rank_place ts l from rises e) ∙ ap (rank ts) same ∙ rank_place ts m to rises f,
+    )

@@ -1,0 +1,136 @@
+-- Where tokens spell the files of a source, they spell the lines of its compositions.
+use Rattle.std.proofs.Common.{◌≡◌, ℕ, List, [], ◌∷◌, Some, None, sym, ap, subst, inl, inr}
+use Rattle.std.specs.List.{enumerate_from}
+use Rattle.adl_ast.specs.Codes.{token_code}
+use Rattle.adl_ast.specs.Forms.{Rule, nested_line, composition_member_form, composition_member_line, composition_line, assembly_line, member_line, member_form, component_line, item_line, ended_line, ended_form, file_line}
+use Rattle.adl_ast.specs.Spelling.{limit, IsSpelledBy}
+use Rattle.adl_ast.specs.declared.component.Component.{Component}
+use Rattle.adl_ast.specs.declared.component.Member.{Member}
+use Rattle.adl_ast.specs.declared.composition.Assembly.{Assembly}
+use Rattle.adl_ast.specs.declared.composition.Composition.{Composition}
+use Rattle.adl_ast.specs.declared.composition.Line.{Line}
+use Rattle.adl_ast.specs.declared.file.Ended.{Ended}
+use Rattle.adl_ast.specs.declared.file.File.{File}
+use Rattle.adl_ast.specs.declared.file.Item.{Item}
+use Rattle.adl_ast.specs.declared.file.Item.TheVariants as items
+use Rattle.adl_ast.specs.declared.seen.Seen.{Seen}
+use Rattle.adl_ast.specs.declared.source.Source.{Source}
+use Rattle.adl_hierarchy.proofs.Sources.{assembly_item, component_item, composed}
+use Rattle.adl_hierarchy.specs.Spelled.{AreSpelled}
+use Rattle.adl_meaning.specs.Hierarchy.{body, hierarchy_of}
+use Rattle.adl_meaning.specs.Items.{items_in, items_of}
+use Rattle.adl_meaning.specs.Lists.{IsIn}
+use Rattle.adl_meaning.specs.Members.{as_composition, compositions}
+use Rattle.adl_meaning.specs.declared.item_at.ItemAt.{ItemAt}
+use Rattle.component_graph.proofs.Lists.{from_enumerate, from_filter_map, from_flat_map, from_map, in_get}
+use Rattle.grammar.specs.Depth.{deep}
+use Rattle.grammar.specs.Spelling.{Each, Spells}
+
+-- some tokens spell it by the rule
+abbrev pub IsOne : {A : Type 0} → Rule A → A → Type 0
+IsOne f x = (ts : List Seen) × IsSpelledBy f x ts
+
+-- what is repeated is spelled one by one
+pub one_of : {A : Type 0} (f : Rule A) (xs : List A) (ts : List Seen) (x : A) → Each (Spells token_code (deep token_code nested_line limit) f) xs ts → IsIn x xs → IsOne f x
+one_of f [] ts x e i = absurd i
+one_of {A} f (y ∷ xs) ts x e (inl s) = let P : A → Type 0 = λ z. IsOne f z in subst P s (e.0, e.3)
+one_of f (y ∷ xs) ts x e (inr i) = one_of f xs e.1 x e.4 i
+
+composition_member : (k : Composition) → IsOne composition_line k → (l : Line) → IsIn l k.lines → IsOne composition_member_line l
+unfolding composition_line
+composition_member k w l i =
+    let p = w.1 in
+    let P : Composition → Type 0 = λ z. IsIn l z.lines in
+    one_of composition_member_form p.0.1.1.0 p.2.4.4.0 l p.2.4.4.3 (subst P p.1 i)
+
+-- ---- the compositions of items
+
+member_composition : (m : Member) (k : Composition) → IsOne member_line m → as_composition m ≡ Some k → IsOne composition_line k
+unfolding member_line
+member_composition m k w e = elim w.1 [
+  | inl a ↦ let u : as_composition m ≡ None = ap as_composition a.1 in cc
+  | inr (inl a) ↦ let u : as_composition m ≡ None = ap as_composition a.1 in cc
+  | inr (inr (inl a)) ↦ let u : as_composition m ≡ None = ap as_composition a.1 in cc
+  | inr (inr (inr (inl a))) ↦ let u : as_composition m ≡ None = ap as_composition a.1 in cc
+  | inr (inr (inr (inr (inl a)))) ↦ let u : as_composition m ≡ None = ap as_composition a.1 in cc
+  | inr (inr (inr (inr (inr (inl a))))) ↦ let u : as_composition m ≡ None = ap as_composition a.1 in cc
+  | inr (inr (inr (inr (inr (inr (inl a)))))) ↦
+      let u : as_composition m ≡ Some a.0 = ap as_composition a.1 in
+      let s : a.0 ≡ k = cc in
+      let P : Composition → Type 0 = λ z. IsOne composition_line z in
+      subst P s (w.0, a.2)
+  | inr (inr (inr (inr (inr (inr (inr a)))))) ↦ let u : as_composition m ≡ None = ap as_composition a.1 in cc
+]
+
+component_member : (c : Component) → IsOne component_line c → (m : Member) → IsIn m c.members → IsOne member_line m
+unfolding component_line
+component_member c w m i =
+    let p = w.1 in
+    let P : Component → Type 0 = λ z. IsIn m z.members in
+    one_of member_form p.0.1.1.1.0 p.2.4.4.4.0 m p.2.4.4.4.3 (subst P p.1 i)
+
+component_composition : (c : Component) (k : Composition) → IsOne component_line c → IsIn k (compositions c) → IsOne composition_line k
+component_composition c k w i = let m = from_filter_map as_composition k c.members i in member_composition m.0 k (component_member c w m.0 m.1) m.2
+
+assembly_composition : (a : Assembly) → IsOne assembly_line a → IsOne composition_line a.composition
+unfolding assembly_line
+assembly_composition a w =
+    let p = w.1 in
+    let P : Assembly → Type 0 = λ z. IsOne composition_line z.composition in
+    subst P (sym p.1) (p.2.4.4.4.0, p.2.4.4.4.3)
+
+item_component : (c : Component) → IsOne item_line (items.Component c) → IsOne component_line c
+unfolding item_line
+item_component c w = elim w.1 [
+  | inl a ↦ let u = a.1 in cc
+  | inr (inl a) ↦ let u = a.1 in cc
+  | inr (inr (inl a)) ↦ let u = a.1 in let s : a.0 ≡ c = cc in let P : Component → Type 0 = λ z. IsOne component_line z in subst P s (w.0, a.2)
+  | inr (inr (inr a)) ↦ let u = a.1 in cc
+]
+
+item_assembly : (a : Assembly) → IsOne item_line (items.Assembly a) → IsOne assembly_line a
+unfolding item_line
+item_assembly d w = elim w.1 [
+  | inl a ↦ let u = a.1 in cc
+  | inr (inl a) ↦ let u = a.1 in cc
+  | inr (inr (inl a)) ↦ let u = a.1 in cc
+  | inr (inr (inr a)) ↦ let u = a.1 in let s : a.0 ≡ d = cc in let P : Assembly → Type 0 = λ z. IsOne assembly_line z in subst P s (w.0, a.2)
+]
+
+ended_item : (e : Ended) → IsOne ended_line e → IsOne item_line e.item
+unfolding ended_line
+ended_item e w = let p = w.1 in let P : Ended → Type 0 = λ z. IsOne item_line z.item in subst P (sym p.1) (p.2.0, p.2.3)
+
+file_item : (f : File) → IsOne file_line f → (e : Ended) → IsIn e f.items → IsOne item_line e.item
+unfolding file_line
+file_item f w e i =
+    let p = w.1 in
+    let P : File → Type 0 = λ z. IsIn e z.items in
+    ended_item e (one_of ended_form p.0 w.0 e p.2 (subst P p.1 i))
+
+-- ---- of a source
+
+item_spelled : (s : Source) → AreSpelled s → (x : ItemAt × Item) → IsIn x (items_of s) → IsOne item_line x.1
+item_spelled s spelled x i =
+    let f = from_flat_map items_in x (enumerate_from 0 s.files) i in
+    let n = from_enumerate 0 s.files f.0 f.1 in
+    let e = from_map (λ (e : ℕ × Ended). let at : ItemAt = record { file = f.0.0; item = e.0 } in (at, e.1.item)) x (enumerate_from 0 f.0.1.tree.items) f.2 in
+    let m = from_enumerate 0 f.0.1.tree.items e.0 e.1 in
+    let P : ItemAt × Item → Type 0 = λ z. IsOne item_line z.1 in
+    subst P e.2 (file_item f.0.1.tree (spelled f.0.1 (in_get s.files n.0 f.0.1 n.2)) e.0.1 (in_get f.0.1.tree.items m.0 e.0.1 m.2))
+
+composition_spelled : (s : Source) → AreSpelled s → (k : ℕ) (c : Composition) → (body (hierarchy_of s) k).composition ≡ Some c → IsOne composition_line c
+composition_spelled s spelled k c e = elim (composed s k c e) [
+  | inl d ↦
+      let x = component_item s d.0 d.1 in
+      let P : Item → Type 0 = λ z. IsOne item_line z in
+      component_composition d.0.1 c (item_component d.0.1 (subst P x.2 (item_spelled s spelled x.0 x.1))) (in_get (compositions d.0.1) 0 c d.2)
+  | inr d ↦
+      let x = assembly_item s d.0 d.1 in
+      let P : Item → Type 0 = λ z. IsOne item_line z in
+      let Q : Composition → Type 0 = λ z. IsOne composition_line z in
+      subst Q d.2 (assembly_composition d.0.1 (item_assembly d.0.1 (subst P x.2 (item_spelled s spelled x.0 x.1))))
+]
+
+pub line_spelled : (s : Source) → AreSpelled s → (k : ℕ) (c : Composition) → (body (hierarchy_of s) k).composition ≡ Some c → (l : Line) → IsIn l c.lines → IsOne composition_member_line l
+line_spelled s spelled k c e = composition_member c (composition_spelled s spelled k c e)

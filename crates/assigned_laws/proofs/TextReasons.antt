@@ -1,0 +1,46 @@
+-- What a source assigns, by the texts of labels.
+use Rattle.std.proofs.Common.{◌≡◌, ◌≢◌, ◌↔◌, ℕ, List, None, refl}
+use Rattle.adl_ast.specs.declared.source.Source.{Source}
+use Rattle.adl_hierarchy.proofs.Spelled.{spelled_dotted}
+use Rattle.adl_hierarchy.specs.Spelled.{AreSpelled}
+use Rattle.adl_meaning.specs.Flat.{flat_of}
+use Rattle.adl_meaning.specs.NameFaults.{AreNamesSound}
+use Rattle.adl_settings.specs.Settled.{settled_of}
+use Rattle.adl_types.specs.TypeFaults.{first_type_fault}
+use Rattle.arch_policy.specs.Labels.{label_lines, label_numbers}
+use Rattle.arch_policy.specs.Reasons.{IsReasoned}
+use Rattle.arch_policy.specs.Tables.{AreApart, Tables, tables_of}
+use Rattle.assigned_laws.proofs.AssignedReasons.{assigned_reasoned}
+use Rattle.assigned_laws.proofs.LabelPaths.{paths_apart}
+use Rattle.assigned_laws.proofs.LabelTexts.{texts_apart}
+use Rattle.assigned_laws.proofs.Ranked.{called_line, line_called, lines_apart, numbers_apart}
+use Rattle.assigned_laws.proofs.Undotted.{undotted}
+use Rattle.assigned_laws.specs.Texts.{IsAssignedText}
+use Rattle.auth_kinds.specs.Edges.{edge}
+use Rattle.auth_kinds.specs.declared.authority.Authority.{Authority}
+use Rattle.numbering.specs.Gather.{IsIn}
+
+module _ (s : Source) (sound : AreNamesSound s) (spelled : AreSpelled s) where
+  abbrev t : Tables
+  t = tables_of s (flat_of s) (settled_of s)
+
+  pub labels_apart : AreApart t
+  labels_apart = numbers_apart t refl (texts_apart s sound (undotted s spelled sound))
+
+  pub assigned_texts : first_type_fault s ≡ None → (from : List ℕ) (a : Authority) (to : List ℕ)
+      → IsAssignedText s from a to ↔ ((l m : ℕ) × IsIn (l, from) (label_lines (flat_of s)) × IsIn (m, to) (label_lines (flat_of s)) × IsReasoned t (edge l a m))
+  assigned_texts types from a to =
+      let join = assigned_reasoned s sound (spelled_dotted s spelled) types (label_numbers (flat_of s)) labels_apart (paths_apart s sound) in (
+        λ h.
+            let r = (join h.0 a h.1).0 h.4 in
+            (r.0, r.1, called_line t refl r.0 from (h.0, r.2, h.2), called_line t refl r.1 to (h.1, r.3, h.3), r.4),
+        λ r.
+            let p = line_called t refl r.0 from r.2 in
+            let q = line_called t refl r.1 to r.3 in
+            (p.0, q.0, p.2, q.2, (join p.0 a q.0).1 (r.0, r.1, p.1, q.1, r.4)),
+      )
+
+  pub assigned_differ : first_type_fault s ≡ None → (from : List ℕ) (a : Authority) (to : List ℕ) → IsAssignedText s from a to → from ≢ to
+  assigned_differ types from a to h e =
+      let r = (assigned_texts types from a to).0 h in
+      r.4.differ ((lines_apart (flat_of s) r.0 r.1 from to r.2 r.3).1 e)

@@ -1,0 +1,32 @@
+-- Labels by their texts, which are the names of their paths, joined by dots. Where no name has a dot, texts tell labels.
+use Rattle.std.specs.Prelude.{◌≡◌, ◌≢◌, ℕ, List}
+use Rattle.adl_ast.specs.declared.source.Source.{Source}
+use Rattle.adl_meaning.specs.Items.{Name}
+use Rattle.adl_meaning.specs.Lists.{IsIn}
+use Rattle.adl_meaning.specs.Paths.{Path}
+use Rattle.adl_meaning.specs.declared.flat.Flat.{Flat}
+use Rattle.arch_policy.specs.declared.owner.Owner.{Owner}
+use Rattle.assigned_laws.specs.Assigned.{IsAssigned}
+use Rattle.assigned_laws.specs.Named.{HasPath, IsNamed}
+use Rattle.auth_kinds.specs.declared.authority.Authority.{Authority}
+use Rattle.cam_base.specs.Paths.{joined}
+use Rattle.arch_policy.specs.Tables.{Tables}
+
+-- the number of the label with this text
+abbrev pub IsCalled : Tables → ℕ → List ℕ → Type 0
+IsCalled t label text = (p : Path) × IsNamed t label p × (joined p ≡ text)
+
+-- the label with one text is assigned an authority over that with another
+abbrev pub IsAssignedText : Source → List ℕ → Authority → List ℕ → Type 0
+IsAssignedText s from a to = (p q : Path) × (joined p ≡ from) × (joined q ≡ to) × IsAssigned s p a q
+
+abbrev pub IsUndotted : Name → Type 0
+IsUndotted n = (b : ℕ) → IsIn b n → b ≢ 46
+
+-- no name of a label's path has a dot
+abbrev pub AreUndotted : Flat → Type 0
+AreUndotted flat = (x : Owner) (p : Path) → HasPath flat x p → (n : Name) → IsIn n p → IsUndotted n
+
+-- no two labels have one text
+abbrev pub AreTextsApart : Flat → Type 0
+AreTextsApart flat = (x y : Owner) (p q : Path) → HasPath flat x p → HasPath flat y q → joined p ≡ joined q → x ≡ y

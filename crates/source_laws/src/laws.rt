@@ -1,0 +1,24 @@
+//! The laws, as functions that do nothing.
+
+ghost use Rattle.adl_ast.specs.declared.source.Source.{Source};
+ghost use Rattle.adl_hierarchy.specs.Leads.{AreDotted};
+ghost use Rattle.adl_hierarchy.specs.Spelled.{AreSpelled};
+ghost use Rattle.adl_import.specs.Loaded.{IsLoaded};
+ghost use Rattle.adl_meaning.specs.Flat.{flat_of};
+ghost use Rattle.adl_meaning.specs.Hierarchy.{hierarchy_of};
+ghost use Rattle.adl_meaning.specs.NameFaults.{AreNamesSound};
+ghost use Rattle.adl_types.specs.TypeFaults.{first_type_fault};
+ghost use Rattle.cam_io.specs.Contents.{Contents};
+ghost use Rattle.reach_laws.specs.Flat.{IsFlat};
+ghost use Rattle.std.specs.Prelude.{◌≡◌, ℕ, List, None, Ok, Option};
+
+/// Tokens spell the tree of each file of a source that is loaded.
+pub fn loaded_sources_are_spelled()
+    ensures { (contents : Option Contents) (root : List ℕ) (s : Source) → IsLoaded contents root (Ok s) → AreSpelled s }
+{}
+
+/// Where dotted names have two words or three, and no fault of types stands, ends join members of leaves, which are devices
+/// just where the connector table has it, and an interrupt, or a connection to a device's registers, has one end at a device.
+pub fn flat_systems_have_their_devices()
+    ensures { (s : Source) → AreNamesSound s → AreDotted (hierarchy_of s) → first_type_fault s ≡ None → IsFlat s (flat_of s) }
+{}
