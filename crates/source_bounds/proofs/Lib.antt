@@ -1,0 +1,10 @@
+pub mod Bounds
+pub mod Lists
+pub mod MemorySizes
+pub mod NamedUses
+pub mod PageCounts
+pub mod PartBounds
+pub mod SettledEnds
+pub mod Sizes
+pub mod SpaceBounds
+pub mod Windows

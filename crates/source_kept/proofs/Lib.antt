@@ -1,0 +1,10 @@
+pub mod ComponentNames
+pub mod Fits
+pub mod FrameFits
+pub mod Lines
+pub mod PageFits
+pub mod Plain
+pub mod ReadImages
+pub mod SeenMemory
+pub mod SettledNumbers
+pub mod Stacks

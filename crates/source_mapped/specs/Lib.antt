@@ -1,0 +1,16 @@
+pub mod HaveImages
+pub use Rattle.adl_meaning.specs.Flat
+pub use Rattle.adl_meaning.specs.JoinFaults
+pub use Rattle.adl_meaning.specs.NameFaults
+pub use Rattle.adl_settings.specs.SettingFaults
+pub use Rattle.adl_settings.specs.Settled
+pub use Rattle.adl_types.specs.TypeFaults
+pub use Rattle.cspace_layout.specs.SlotFaults
+pub use Rattle.flat_laws.specs.ShortFiles
+pub use Rattle.program_sections.specs.Numbered
+pub use Rattle.program_sections.specs.SpaceFaults
+pub use Rattle.spec_laws.specs.CanMap
+pub use Rattle.spec_laws.specs.Slotted
+pub use Rattle.system_spec.specs.TablesFrom
+pub use Rattle.vspace_layout.specs.Given
+pub use Rattle.vspace_layout.specs.PageLimits
