@@ -3,27 +3,20 @@
 use Rattle.std.specs.Prelude.{◌≡◌, ℕ, List, Option, None, Result, Ok, Err}
 use Rattle.adl_ast.specs.declared.source.Source.{Source}
 use Rattle.adl_import.specs.Loaded.{IsLoaded}
-use Rattle.arch_compile.specs.Compiled.{Refuses}
-use Rattle.arch_compile.specs.Steps.{Tells}
-use Rattle.arch_compile.specs.declared.error.BuildError.{BuildError}
-use Rattle.arch_compile.specs.declared.error.BuildError.TheVariants as error
-use Rattle.arch_policy.specs.Policies.{first_edge_fault}
 use Rattle.cam_base.specs.declared.error.NoMemory.{NoMemory}
 use Rattle.cam_io.specs.Contents.{Contents}
+use Rattle.front_end.specs.First.{first_list_fault, source_tables}
+use Rattle.front_end.specs.Refusals.{Refuses}
+use Rattle.front_end.specs.declared.error.BuildError.{BuildError}
+use Rattle.front_end.specs.declared.error.BuildError.TheVariants as error
 use Rattle.reason_lines.specs.Answers.{IsAnswer}
 use Rattle.reason_lines.specs.declared.answer.Answer.{Answer}
-use Rattle.source_commands.specs.Listed.{first_list_fault, source_tables}
 
 abbrev pub told : Result Answer NoMemory → Result Answer BuildError
 told (Ok answer) = Ok answer
 told (Err e) = Err error.NoMemory
 
 module _ (from authority to : List ℕ) where
-  -- of a source that is loaded and has no fault up to the settings
-  abbrev pub Answers : Source → Result Answer BuildError → Type 0
-  Answers source (Ok answer) = (first_edge_fault (source_tables source) ≡ None) × IsAnswer (source_tables source) from authority to answer
-  Answers source (Err e) = Tells source (first_edge_fault (source_tables source)) e
-
   -- the root's source is loaded, none of the faults stands, and the answer is its own
   pub record IsAnswered (root : List ℕ) (contents : Option Contents) (answer : Answer) : Type 0 where
     pub source : Source

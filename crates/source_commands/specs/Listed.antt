@@ -1,42 +1,23 @@
--- What listing answers: the labels of the root's system and the edges that are assigned. The limit on edges comes straight
--- after the faults of the settings.
+-- What listing answers: the labels of the root's system and the edges that are assigned.
 use Rattle.std.specs.Prelude.{◌≡◌, ℕ, List, Option, None, Result, Ok, Err}
-use Rattle.std.specs.Option.{option_or}
 use Rattle.adl_ast.specs.declared.source.Source.{Source}
 use Rattle.adl_import.specs.Loaded.{IsLoaded}
 use Rattle.adl_meaning.specs.Flat.{flat_of}
-use Rattle.adl_settings.specs.Settled.{settled_of}
-use Rattle.arch_compile.specs.Compiled.{Refuses}
-use Rattle.arch_compile.specs.First.{first_front_fault}
-use Rattle.arch_compile.specs.Steps.{Tells}
-use Rattle.arch_compile.specs.declared.error.BuildError.{BuildError}
 use Rattle.arch_policy.specs.Labels.{label_lines}
-use Rattle.arch_policy.specs.Policies.{IsPolicyOf, first_edge_fault}
-use Rattle.arch_policy.specs.Tables.{Tables, tables_of}
+use Rattle.arch_policy.specs.Policies.{IsPolicyOf}
 use Rattle.auth_kinds.specs.Tables.{IsSorted}
-use Rattle.cam_base.specs.declared.place.Fault.{Fault}
 use Rattle.cam_io.specs.Contents.{Contents}
 use Rattle.edge_lines.specs.Lines.{apart_lines}
+use Rattle.front_end.specs.First.{first_list_fault, source_tables}
+use Rattle.front_end.specs.Refusals.{Refuses}
+use Rattle.front_end.specs.declared.error.BuildError.{BuildError}
 use Rattle.source_commands.specs.declared.listing.Listing.{Listing}
-
--- what the policy of a source is made from
-abbrev pub source_tables : Source → Tables
-source_tables s = tables_of s (flat_of s) (settled_of s)
-
--- of the phases up to the settings; where there is none, of the limit on edges
-abbrev pub first_list_fault : Source → Option Fault
-first_list_fault s = option_or (first_front_fault s) (first_edge_fault (source_tables s))
 
 -- it has the source's labels, and just the edges that are assigned, in order and each once
 pub record IsListingOf (source : Source) (listing : Listing) : Type 0 where
   pub names : listing.names ≡ label_lines (flat_of source)
   pub edges : IsPolicyOf (source_tables source) listing.edges
   pub sorted : IsSorted listing.edges
-
--- of a source that is loaded and has no fault up to the settings
-abbrev pub Lists : Source → Result Listing BuildError → Type 0
-Lists source (Ok listing) = (first_edge_fault (source_tables source) ≡ None) × IsListingOf source listing
-Lists source (Err e) = Tells source (first_edge_fault (source_tables source)) e
 
 -- the root's source is loaded, none of the faults stands, and the listing is its own
 pub record IsListing (root : List ℕ) (contents : Option Contents) (listing : Listing) : Type 0 where

@@ -1,14 +1,12 @@
 //! Whether an authority is assigned in a source, and why.
 
-ghost use Rattle.arch_compile.specs.Steps.{IsSound};
 ghost use Rattle.cam_io.specs.Reading.{KeepsFiles};
-ghost use Rattle.source_commands.specs.Explained.{Answers, IsExplained, told};
+ghost use Rattle.source_commands.specs.Explained.{IsExplained, told};
 ghost use Rattle.std.specs.Prelude.{◌≡◌};
 
-use arch_compile::{BuildError, FrontEnd, front, in_file};
-use arch_policy::policy_of;
 use cam_base::NoMemory;
 use cam_io::Files;
+use front_end::{BuildError, front};
 use reason_lines::{Answer, Question, answer_of};
 use std::alloc::Global;
 
@@ -28,22 +26,10 @@ pub fn explain<F: Files>(
     ensures explained { IsExplained question.now.from.now question.now.authority.now question.now.to.now root.now (F.contents files.old) (F.faults files.old) (F.faults files.new) result }
 {
     match front(alloc, files, root) {
-        Ok(front) => explained_in(alloc, &front, question),
+        Ok(front) => {
+            told(answer_of(alloc, &front.source, &front.flat, &front.settled, question))
+        }
         Err(error) => Err(error),
-    }
-}
-
-fn explained_in(
-    alloc: Global,
-    front: &FrontEnd,
-    question: &Question<'_>,
-) -> Result<Answer, BuildError>
-    requires { IsSound front.now }
-    ensures { Answers question.now.from.now question.now.authority.now question.now.to.now front.now.source result }
-{
-    match policy_of(alloc, &front.source, &front.flat, &front.settled) {
-        Ok(_policy) => told(answer_of(alloc, &front.source, &front.flat, &front.settled, question)),
-        Err(refused) => Err(in_file(alloc, &front.source, refused)),
     }
 }
 

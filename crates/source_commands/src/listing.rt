@@ -1,17 +1,15 @@
 //! The assigned edges of a source.
 
-ghost use Rattle.arch_compile.specs.Steps.{IsSound};
 ghost use Rattle.auth_kinds.specs.Policies.{NumbersDiffer};
 ghost use Rattle.cam_io.specs.Reading.{KeepsFiles};
 ghost use Rattle.cam_io.specs.Sinks.{IsOpen, Writes};
-ghost use Rattle.source_commands.specs.Listed.{IsListed, Lists, listing_text};
+ghost use Rattle.source_commands.specs.Listed.{IsListed, listing_text};
 ghost use Rattle.std.specs.Prelude.{◌≡◌};
 
-use arch_compile::{BuildError, FrontEnd, front, in_file};
-use arch_policy::policy_of;
 use auth_kinds::{EdgeTable, Policy};
 use cam_io::{Failed, Files, Outputs};
 use edge_lines::{Names, write_edges};
+use front_end::{BuildError, front};
 use std::alloc::Global;
 
 /// The labels of a system and its assigned edges.
@@ -53,18 +51,8 @@ pub fn list<F: Files>(alloc: Global, files: &mut F, root: &str) -> Result<Listin
     ensures listed { IsListed root.now (F.contents files.old) (F.faults files.old) (F.faults files.new) result }
 {
     match front(alloc, files, root) {
-        Ok(front) => listing_of(alloc, &front),
+        Ok(front) => Ok(Listing::of(alloc, front.policy)),
         Err(error) => Err(error),
-    }
-}
-
-fn listing_of(alloc: Global, front: &FrontEnd) -> Result<Listing, BuildError>
-    requires { IsSound front.now }
-    ensures { Lists front.now.source result }
-{
-    match policy_of(alloc, &front.source, &front.flat, &front.settled) {
-        Ok(policy) => Ok(Listing::of(alloc, policy)),
-        Err(refused) => Err(in_file(alloc, &front.source, refused)),
     }
 }
 

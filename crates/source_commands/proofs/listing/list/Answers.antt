@@ -1,16 +1,9 @@
-use Rattle.arch_compile.proofs.LoadedShort.{loaded_short}
-use Rattle.source_commands.proofs.Listed.{front_listed}
+use Rattle.source_commands.proofs.Listed.{front_listed, lines_differ}
 use Rattle.source_commands.proofs.listing.list.Goals as goal
 
-pub listing_of-requires : goal.listing_of-requires
-listing_of-requires g c =
-    let front = c.in-Ok.ensures.front in
-    record {
-      short = loaded_short (g.F.Files.contents c.args.files.now) c.args.root.now c.in-Ok.front.source front.loaded;
-      none = front.none;
-      meant = front.meant;
-    }
+pub of-requires : goal.of-requires
+of-requires g c = let f = c.in-Ok.front in lines_differ f.source f.policy c.in-Ok.ensures.front.assigned
 
 pub returns-in-Ok-clause-listed : goal.returns-in-Ok-clause-listed
 returns-in-Ok-clause-listed g c =
-    front_listed c.args.root.now (g.F.Files.contents c.args.files.now) (g.F.Files.faults c.args.files.now) (g.F.Files.faults c.front.new.files) c.in-Ok.front c.listing_of.result c.in-Ok.ensures.front c.listing_of.ensures
+    front_listed c.args.root.now (g.F.Files.contents c.args.files.now) c.in-Ok.front c.of.result c.in-Ok.ensures.front c.of.ensures.names c.of.ensures.edges

@@ -1,0 +1,7 @@
+mod LoadedFew
+pub mod LoadedShort
+pub mod LoadedWhole
+pub mod OneAnswer
+pub mod Refusing
+pub mod Sound
+pub mod Within

@@ -1,0 +1,131 @@
+-- In given contents there is one answer, aside from failed reads and want of memory.
+use Rattle.std.proofs.Common.{◌≡◌, ◌∙◌, ℕ, Bool, true, false, List, Option, Some, None, Result, Ok, Err, refl, sym, ap, subst, inl, inr, true≢false}
+use Rattle.std.specs.Prelude.{◌↔◌}
+use Rattle.cam_base.specs.declared.place.Fault.{Fault}
+use Rattle.cam_io.specs.Contents.{Contents}
+use Rattle.adl_ast.specs.declared.source.Source.{Source}
+use Rattle.adl_import.specs.Loaded.{IsLoaded}
+use Rattle.adl_import.specs.declared.error.LoadError.{LoadError}
+use Rattle.adl_import.specs.declared.error.LoadError.TheVariants as load
+use Rattle.adl_import.proofs.Unique.{loaded_one}
+use Rattle.adl_meaning.specs.Flat.{flat_of}
+use Rattle.adl_settings.specs.Settled.{settled_of}
+use Rattle.auth_kinds.specs.Tables.{has}
+use Rattle.auth_kinds.specs.declared.policy.Policy.{Policy}
+use Rattle.auth_kinds.proofs.TableMembers.{one_table}
+use Rattle.front_end.specs.First.{first_front_fault, first_list_fault, name_of_file}
+use Rattle.front_end.specs.Fronts.{IsAssigned, IsFront, IsFrontOf, IsMeaning, IsMeaningOf, IsMeant}
+use Rattle.front_end.specs.Refusals.{IsFaulted, yields}
+use Rattle.front_end.specs.declared.error.BuildError.{BuildError}
+use Rattle.front_end.specs.declared.error.BuildError.TheVariants as error
+use Rattle.front_end.specs.declared.phases.FrontEnd.{FrontEnd}
+use Rattle.front_end.specs.declared.phases.Meaning.{Meaning}
+
+-- ---- sources and faults
+
+pub one_loaded : (m : Contents) (root : List ℕ) (s t : Source) → IsLoaded (Some m) root (Ok s) → IsLoaded (Some m) root (Ok t) → s ≡ t
+one_loaded m root s t a b =
+    let same : ◌≡◌ {A = Result Source LoadError} (Ok s) (Ok t) = loaded_one m root (Ok s) (Ok t) refl refl a b in
+    cc
+
+module _ (first : Source → Option Fault) (m : Contents) (root : List ℕ) where
+  -- no fault stands in a source that is loaded and has none
+  pub none_faulted : (s : Source) (fault : Fault) (file : List ℕ) → IsLoaded (Some m) root (Ok s) → first s ≡ None → IsFaulted first root (Some m) fault file → ⊥
+  none_faulted s fault file loaded none (inl x) =
+      let same : ◌≡◌ {A = Result Source LoadError} (Ok s) (Err (load.Fault fault file)) = loaded_one m root (Ok s) (Err (load.Fault fault file)) refl refl loaded x in
+      cc
+  none_faulted s fault file loaded none (inr x) =
+      let same : ◌≡◌ {A = Option Fault} None (Some fault) = sym none ∙ ap first (one_loaded m root s x.0 loaded x.1) ∙ x.2 in
+      cc
+
+  pub one_fault : (f g : Fault) (a b : List ℕ) → IsFaulted first root (Some m) f a → IsFaulted first root (Some m) g b → (f ≡ g) × (a ≡ b)
+  one_fault f g a b (inl x) (inl y) =
+      let same : ◌≡◌ {A = Result Source LoadError} (Err (load.Fault f a)) (Err (load.Fault g b)) = loaded_one m root (Err (load.Fault f a)) (Err (load.Fault g b)) refl refl x y in
+      (cc, cc)
+  one_fault f g a b (inl x) (inr y) =
+      let same : ◌≡◌ {A = Result Source LoadError} (Err (load.Fault f a)) (Ok y.0) = loaded_one m root (Err (load.Fault f a)) (Ok y.0) refl refl x y.1 in
+      absurd cc
+  one_fault f g a b (inr x) (inl y) =
+      let same : ◌≡◌ {A = Result Source LoadError} (Ok x.0) (Err (load.Fault g b)) = loaded_one m root (Ok x.0) (Err (load.Fault g b)) refl refl x.1 y in
+      absurd cc
+  one_fault f g a b (inr x) (inr y) =
+      let source = one_loaded m root x.0 y.0 x.1 y.1 in
+      let fault : ◌≡◌ {A = Option Fault} (Some f) (Some g) = sym x.2 ∙ ap first source ∙ y.2 in
+      let same : f ≡ g = cc in
+      (same, x.3 ∙ ap (λ (z : Source). name_of_file z f.place.file) source ∙ ap (λ (z : Fault). name_of_file y.0 z.place.file) same ∙ sym y.3)
+
+-- ---- answers
+
+meaning_from : Source → Meaning
+meaning_from s = record { source = s; flat = flat_of s; settled = settled_of s }
+
+is_meaning_from : (m : Meaning) → IsMeant m.source m.flat m.settled → m ≡ meaning_from m.source
+unfolding meaning_from
+is_meaning_from m meant =
+    ap (λ z. let g : Meaning = record { source = m.source; flat = z; settled = m.settled } in g) meant.is_flat
+    ∙ ap (λ z. let g : Meaning = record { source = m.source; flat = flat_of m.source; settled = z } in g) meant.is_settled
+
+meanings_same : (m : Contents) (root : List ℕ) (f g : Meaning) → IsMeaningOf root (Some m) f → IsMeaningOf root (Some m) g → f ≡ g
+meanings_same m root f g x y = is_meaning_from f x.meant ∙ ap meaning_from (one_loaded m root f.source g.source x.loaded y.loaded) ∙ sym (is_meaning_from g y.meant)
+
+-- tests that answer one question are equal
+pub both : (a b : Bool) {P : Type 0} → (a ≡ true) ↔ P → (b ≡ true) ↔ P → a ≡ b
+both true true x y = refl
+both false false x y = refl
+both true false x y = absurd (true≢false (sym (y.1 (x.0 refl))))
+both false true x y = absurd (true≢false (sym (x.1 (y.0 refl))))
+
+-- what is assigned is one
+pub policies_same : (s : Source) (p q : Policy) → IsAssigned s p → IsAssigned s q → p ≡ q
+policies_same s p q a b =
+    let edges : p.edges ≡ q.edges = one_table p.edges q.edges a.sorted b.sorted (λ e. both (has p.edges e) (has q.edges e) (a.edges e) (b.edges e)) in
+    ap (λ z. let r : Policy = record { labels = z; objects = p.objects; edges = p.edges } in r) (a.labels ∙ sym b.labels)
+    ∙ ap (λ z. let r : Policy = record { labels = q.labels; objects = z; edges = p.edges } in r) (a.objects ∙ sym b.objects)
+    ∙ ap (λ z. let r : Policy = record { labels = q.labels; objects = q.objects; edges = z } in r) edges
+
+front_from : Source → Policy → FrontEnd
+front_from s p = record { source = s; flat = flat_of s; settled = settled_of s; policy = p }
+
+is_front_from : (f : FrontEnd) → IsMeant f.source f.flat f.settled → f ≡ front_from f.source f.policy
+unfolding front_from
+is_front_from f meant =
+    ap (λ z. let g : FrontEnd = record { source = f.source; flat = z; settled = f.settled; policy = f.policy } in g) meant.is_flat
+    ∙ ap (λ z. let g : FrontEnd = record { source = f.source; flat = flat_of f.source; settled = z; policy = f.policy } in g) meant.is_settled
+
+-- fronts of one source are one
+pub fronts_same : (f g : FrontEnd) → f.source ≡ g.source → IsMeant f.source f.flat f.settled → IsMeant g.source g.flat g.settled → IsAssigned f.source f.policy → IsAssigned g.source g.policy → f ≡ g
+fronts_same f g same x y p q =
+    let policy : f.policy ≡ g.policy = policies_same g.source f.policy g.policy (subst (λ z. IsAssigned z f.policy) same p) q in
+    is_front_from f x ∙ ap (λ z. front_from z f.policy) same ∙ ap (front_from g.source) policy ∙ sym (is_front_from g y)
+
+pub faults_same : {T : Type 0} (f g : Fault) (a b : List ℕ) → (f ≡ g) × (a ≡ b) → ◌≡◌ {A = Result T BuildError} (Err (error.Fault f a)) (Err (error.Fault g b))
+faults_same f g a b e = ap (λ z. Err (error.Fault z a)) e.0 ∙ ap (λ z. Err (error.Fault g z)) e.1
+
+pub one_meaning : (m : Contents) (root : List ℕ) (old new later last : List ℕ → ℕ) (a b : Result Meaning BuildError) → yields a ≡ false → yields b ≡ false
+    → IsMeaning root (Some m) old new a → IsMeaning root (Some m) later last b → a ≡ b
+one_meaning m root old new later last (Ok f) (Ok g) p q x y = ap Ok (meanings_same m root f g x y)
+one_meaning m root old new later last (Ok f) (Err (error.Fault g b)) p q x y = absurd (none_faulted first_front_fault m root f.source g b x.loaded x.none y)
+one_meaning m root old new later last (Err (error.Fault f a)) (Ok g) p q x y = absurd (none_faulted first_front_fault m root g.source f a y.loaded y.none x)
+one_meaning m root old new later last (Err (error.Fault f a)) (Err (error.Fault g b)) p q x y = faults_same f g a b (one_fault first_front_fault m root f g a b x y)
+one_meaning m root old new later last (Err (error.ReadFault a)) b p q x y = cc
+one_meaning m root old new later last (Err error.NoMemory) b p q x y = cc
+one_meaning m root old new later last (Ok f) (Err (error.ReadFault b)) p q x y = cc
+one_meaning m root old new later last (Ok f) (Err error.NoMemory) p q x y = cc
+one_meaning m root old new later last (Err (error.Fault f a)) (Err (error.ReadFault b)) p q x y = cc
+one_meaning m root old new later last (Err (error.Fault f a)) (Err error.NoMemory) p q x y = cc
+
+pub front_one : (m : Contents) (root : List ℕ) (f g : FrontEnd) → IsFrontOf root (Some m) f → IsFrontOf root (Some m) g → f ≡ g
+front_one m root f g x y = fronts_same f g (one_loaded m root f.source g.source x.loaded y.loaded) x.meant y.meant x.assigned y.assigned
+
+pub one_front : (m : Contents) (root : List ℕ) (old new later last : List ℕ → ℕ) (a b : Result FrontEnd BuildError) → yields a ≡ false → yields b ≡ false
+    → IsFront root (Some m) old new a → IsFront root (Some m) later last b → a ≡ b
+one_front m root old new later last (Ok f) (Ok g) p q x y = ap Ok (front_one m root f g x y)
+one_front m root old new later last (Ok f) (Err (error.Fault g b)) p q x y = absurd (none_faulted first_list_fault m root f.source g b x.loaded x.none y)
+one_front m root old new later last (Err (error.Fault f a)) (Ok g) p q x y = absurd (none_faulted first_list_fault m root g.source f a y.loaded y.none x)
+one_front m root old new later last (Err (error.Fault f a)) (Err (error.Fault g b)) p q x y = faults_same f g a b (one_fault first_list_fault m root f g a b x y)
+one_front m root old new later last (Err (error.ReadFault a)) b p q x y = cc
+one_front m root old new later last (Err error.NoMemory) b p q x y = cc
+one_front m root old new later last (Ok f) (Err (error.ReadFault b)) p q x y = cc
+one_front m root old new later last (Ok f) (Err error.NoMemory) p q x y = cc
+one_front m root old new later last (Err (error.Fault f a)) (Err (error.ReadFault b)) p q x y = cc
+one_front m root old new later last (Err (error.Fault f a)) (Err error.NoMemory) p q x y = cc

@@ -1,0 +1,29 @@
+-- What a source means, where no fault stands, is within limits.
+use Rattle.std.proofs.Common.{◌<◌, ◌+◌, ◌^◌, length, sym, subst, arith}
+use Rattle.adl_ast.specs.declared.source.Source.{Source}
+use Rattle.adl_meaning.specs.declared.flat.Flat.{Flat}
+use Rattle.adl_meaning.specs.declared.settled.Settled.{Settled}
+use Rattle.adl_meaning.specs.JoinFaults.{first_join_fault}
+use Rattle.adl_meaning.specs.SizeFaults.{first_size_fault}
+use Rattle.flat_laws.proofs.AreWithin.{flat_is_within}
+use Rattle.flat_laws.proofs.FewEnds.{no_first}
+use Rattle.flat_laws.proofs.ShortTrees.{short_few}
+use Rattle.flat_laws.proofs.Small.{small}
+use Rattle.flat_laws.specs.Small.{IsSmall}
+use Rattle.front_end.proofs.Sound.{faultless}
+use Rattle.front_end.specs.Steps.{IsSound}
+use Rattle.leaf_ends.specs.Within.{IsWithin}
+
+module _ (s : Source) (flat : Flat) (settled : Settled) (sound : IsSound s flat settled) where
+  pub sound_within : IsWithin s flat
+  sound_within =
+      let is = faultless s sound.none in
+      subst (IsWithin s) (sym sound.meant.is_flat) (flat_is_within s is.names is.flat (short_few s sound.whole.short))
+
+  pub sound_small : IsSmall flat
+  sound_small =
+      let is = faultless s sound.none in
+      subst IsSmall (sym sound.meant.is_flat) (small s is.names (no_first (first_size_fault s) (first_join_fault s) is.flat))
+
+  pub few_labels : length flat.domains + length flat.connections + length flat.leaves < 2 ^ 32
+  few_labels = let small = sound_small in let a = small.domains in let b = small.connections in let c = small.leaves in omega (arith, a, b, c)

@@ -1,0 +1,10 @@
+pub mod First
+pub mod Fronts
+pub mod Refusals
+pub mod Steps
+pub use Rattle.adl_import.specs.Loaded
+pub use Rattle.adl_meaning.specs.Items
+pub use Rattle.arch_policy.specs.Policies
+pub use Rattle.cam_io.specs.Contents
+pub use Rattle.cam_io.specs.Reading
+pub use Rattle.flat_laws.specs.ShortFiles

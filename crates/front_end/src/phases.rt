@@ -1,0 +1,161 @@
+//! The phases up to the settings, and the policy.
+
+ghost use Rattle.adl_meaning.specs.Faults.{Refuses};
+ghost use Rattle.adl_meaning.specs.FewMembers.{HaveFewMembers};
+ghost use Rattle.adl_meaning.specs.Flat.{flat_of};
+ghost use Rattle.adl_meaning.specs.Items.{AreFew};
+ghost use Rattle.adl_settings.specs.Settled.{settled_of};
+ghost use Rattle.cam_io.specs.Reading.{KeepsFiles};
+ghost use Rattle.front_end.specs.First.{first_front_fault, name_of_file};
+ghost use Rattle.front_end.specs.Fronts.{IsFront, IsMeaning};
+ghost use Rattle.front_end.specs.Refusals.{IsRefused};
+ghost use Rattle.front_end.specs.Steps.{Assigns, IsSound, Means};
+ghost use Rattle.std.specs.Prelude.{◌≡◌, IfOk};
+
+use crate::BuildError;
+use crate::error::not_loaded;
+use adl_ast::Source;
+use adl_flatten::flatten;
+use adl_import::load;
+use adl_meaning::{Flat, Settled};
+use adl_names::resolve;
+use adl_settings::settle;
+use adl_types::check_types;
+use arch_policy::policy_of;
+use auth_kinds::Policy;
+use cam_base::{Fault, NoMemory, Refused, Text};
+use cam_io::Files;
+use std::alloc::Global;
+
+/// A source and what it means: its flat system, and the settings of that.
+#[derive(Drop)]
+pub struct Meaning {
+    pub source: Source,
+    pub flat: Flat,
+    pub settled: Settled,
+}
+
+/// A source, what it means, and its policy.
+#[derive(Drop)]
+pub struct FrontEnd {
+    pub source: Source,
+    pub flat: Flat,
+    pub settled: Settled,
+    /// It labels no object.
+    pub policy: Policy,
+}
+
+/// What a source means.
+#[derive(Drop)]
+struct Parts {
+    flat: Flat,
+    settled: Settled,
+}
+
+/// The source of the root, and what it means.
+///
+/// # Errors
+///
+/// The first fault of the phases up to the settings, with the name of its file; a failed read; want of memory.
+pub fn meaning_of<F: Files>(alloc: Global, files: &mut F, root: &str) -> Result<Meaning, BuildError>
+    ensures kept { KeepsFiles F.contents F.faults files.old files.new }
+    ensures meaning { IsMeaning root.now (F.contents files.old) (F.faults files.old) (F.faults files.new) result }
+{
+    match load(alloc, files, root) {
+        Ok(source) => with_parts(alloc, source),
+        Err(error) => Err(not_loaded(error)),
+    }
+}
+
+/// The source of the root, what it means, and its policy.
+///
+/// # Errors
+///
+/// The first fault of the phases up to the settings, and where there is none the limit on edges, with the name of its file; a
+/// failed read; want of memory.
+pub fn front<F: Files>(alloc: Global, files: &mut F, root: &str) -> Result<FrontEnd, BuildError>
+    ensures kept { KeepsFiles F.contents F.faults files.old files.new }
+    ensures front { IsFront root.now (F.contents files.old) (F.faults files.old) (F.faults files.new) result }
+{
+    match meaning_of(alloc, files, root) {
+        Ok(meaning) => with_policy(alloc, meaning),
+        Err(error) => Err(error),
+    }
+}
+
+/// What is meant, with its policy.
+///
+/// # Errors
+///
+/// The limit on edges, where it is passed, with the name of its file; want of memory.
+pub fn with_policy(alloc: Global, meaning: Meaning) -> Result<FrontEnd, BuildError>
+    requires { IsSound meaning.source meaning.flat meaning.settled }
+    ensures { Assigns meaning result }
+{
+    let Meaning {
+        source,
+        flat,
+        settled,
+    } = meaning;
+    match policy_of(alloc, &source, &flat, &settled) {
+        Ok(policy) => Ok(FrontEnd {
+            source,
+            flat,
+            settled,
+            policy,
+        }),
+        Err(refused) => Err(in_file(alloc, &source, refused)),
+    }
+}
+
+fn with_parts(alloc: Global, source: Source) -> Result<Meaning, BuildError>
+    requires few { AreFew source }
+    requires members { HaveFewMembers source }
+    ensures { Means source result }
+{
+    match parts_of(alloc, &source) {
+        Ok(Parts { flat, settled }) => Ok(Meaning {
+            source,
+            flat,
+            settled,
+        }),
+        Err(refused) => Err(in_file(alloc, &source, refused)),
+    }
+}
+
+fn parts_of(alloc: Global, source: &Source) -> Result<Parts, Refused<Fault>>
+    requires few { AreFew source.now }
+    requires members { HaveFewMembers source.now }
+    ensures fault { Refuses result (first_front_fault source.now) }
+    ensures flat { IfOk result (λ m. m.flat ≡ flat_of source.now) }
+    ensures settled { IfOk result (λ m. m.settled ≡ settled_of source.now) }
+{
+    let names = resolve(alloc, source)?;
+    check_types(alloc, source, &names)?;
+    let flat = flatten(alloc, source, &names)?;
+    let settled = settle(alloc, source, &names, &flat)?;
+    Ok(Parts { flat, settled })
+}
+
+/// The refusal, with the name of the file in which the fault stands.
+pub fn in_file(alloc: Global, source: &Source, refused: Refused<Fault>) -> BuildError
+    ensures { IsRefused source.now refused result }
+{
+    match refused {
+        Refused::NoMemory => BuildError::NoMemory,
+        Refused::Fault(fault) => match name_of_file(alloc, source, fault.place.file) {
+            Ok(file) => BuildError::Fault(fault, file),
+            Err(NoMemory) => BuildError::NoMemory,
+        },
+    }
+}
+
+/// The name of the file of this number.
+fn name_of_file(alloc: Global, source: &Source, number: u32) -> Result<Text, NoMemory>
+    ensures { IfOk result (λ name. name ≡ name_of_file source.now number) }
+{
+    match source.files.as_slice().get(number as usize) {
+        Some(file) => file.name.copy(alloc),
+        None => Ok(Text::empty(alloc)),
+    }
+}
