@@ -1,7 +1,4 @@
-pub mod LabelNumbers
-mod LoadedFew
-pub mod LoadedShort
+mod Compiling
+mod FromTables
+mod Layouts
 pub mod OneAnswer
-pub mod Refusing
-mod Sound
-pub mod Whole

@@ -1,102 +1,109 @@
--- In given contents there is one answer, aside from failed reads and want of memory.
-use Rattle.std.proofs.Common.{◌≡◌, ◌∙◌, ℕ, List, Option, Some, None, Result, Ok, Err, false, refl, sym, ap, inl, inr}
-use Rattle.cam_base.specs.declared.place.Fault.{Fault}
-use Rattle.cam_io.specs.Contents.{Contents}
+-- In given contents there is one answer of `compile`, aside from failed reads and want of memory.
+use Rattle.std.proofs.Common.{◌≡◌, ◌∙◌, ℕ, List, Option, Some, None, Result, Ok, Err, true, false, sym, ap, subst, inl, inr}
+use Rattle.std.specs.Prelude.{◌↔◌}
 use Rattle.adl_ast.specs.declared.source.Source.{Source}
 use Rattle.adl_import.specs.Loaded.{IsLoaded}
-use Rattle.adl_import.specs.declared.error.LoadError.{LoadError}
-use Rattle.adl_import.specs.declared.error.LoadError.TheVariants as load
-use Rattle.adl_import.proofs.Unique.{loaded_one}
-use Rattle.adl_meaning.specs.Flat.{flat_of}
-use Rattle.adl_settings.specs.Settled.{settled_of}
-use Rattle.arch_compile.specs.Compiled.{IsBuildOf, IsCompiled, IsFaulted, IsFront, IsMeaning, yields}
-use Rattle.arch_compile.specs.First.{first_fault, first_front_fault, name_of_file}
-use Rattle.arch_compile.specs.Laid.{IsSpecOf, tables_of}
+use Rattle.arch_compile.specs.Built.{IsBuildOf, IsMade}
+use Rattle.arch_compile.specs.Compiled.{IsCompiled, IsFirstFault}
+use Rattle.arch_compile.specs.LayoutFaults.{file_of, first_fault, first_layout_fault, images_from, tables_beside}
 use Rattle.arch_compile.specs.declared.building.Build.{Build}
-use Rattle.arch_compile.specs.declared.error.BuildError.{BuildError}
-use Rattle.arch_compile.specs.declared.error.BuildError.TheVariants as error
-use Rattle.arch_compile.specs.declared.phases.FrontEnd.{FrontEnd}
+use Rattle.auth_kinds.proofs.TableMembers.{one_table}
+use Rattle.auth_kinds.specs.Tables.{IsSorted, has}
+use Rattle.auth_kinds.specs.declared.edge.Edge.{Edge}
+use Rattle.auth_kinds.specs.declared.policy.Policy.{Policy}
+use Rattle.cam_base.specs.declared.place.Fault.{Fault}
+use Rattle.cam_io.specs.Contents.{Contents}
 use Rattle.cap_model.specs.declared.spec.Spec.{Spec}
-use Rattle.spec_layout.specs.Made.{spec_of}
+use Rattle.flat_laws.proofs.FewEnds.{no_first}
+use Rattle.front_end.proofs.OneAnswer.{both, faults_same, front_one, none_faulted, one_fault, one_loaded}
+use Rattle.front_end.proofs.Sound.{no_second}
+use Rattle.front_end.specs.First.{first_front_fault}
+use Rattle.front_end.specs.Refusals.{yields}
+use Rattle.front_end.specs.declared.error.BuildError.{BuildError}
+use Rattle.front_end.specs.declared.error.BuildError.TheVariants as error
+use Rattle.program_sections.specs.declared.images.Images.{Images}
+use Rattle.source_images.specs.Found.{AreFound, Found, found_in}
+use Rattle.system_spec.specs.declared.map_line.MapLine.{MapLine}
 
--- ---- sources and faults
+-- ---- what is made is one
 
-pub one_loaded : (m : Contents) (root : List ℕ) (s t : Source) → IsLoaded (Some m) root (Ok s) → IsLoaded (Some m) root (Ok t) → s ≡ t
-one_loaded m root s t a b =
-    let same : ◌≡◌ {A = Result Source LoadError} (Ok s) (Ok t) = loaded_one m root (Ok s) (Ok t) refl refl a b in
-    cc
+edges_one : (xs ys : List Edge) (P : Edge → Type 0) → IsSorted xs → IsSorted ys → ((e : Edge) → (has xs e ≡ true) ↔ P e) → ((e : Edge) → (has ys e ≡ true) ↔ P e) → xs ≡ ys
+edges_one xs ys P p q a b = one_table xs ys p q (λ e. both (has xs e) (has ys e) (a e) (b e))
 
-pub one_spec : (m : Contents) (root : List ℕ) (s t : Source) (a b : Spec) → IsLoaded (Some m) root (Ok s) → IsLoaded (Some m) root (Ok t) → IsSpecOf s a → IsSpecOf t b → a ≡ b
-one_spec m root s t a b x y p q = p.made ∙ ap (λ (z : Source). spec_of (tables_of z)) (one_loaded m root s t x y) ∙ sym q.made
+policies_one : (s : Source) (images : Images) (spec spec' : Spec) (p q : Policy) (cert cert' : List Edge) (map map' : List MapLine) → IsMade s images spec p cert map → IsMade s images spec' q cert' map' → p ≡ q
+policies_one s images spec spec' p q cert cert' map map' a b =
+    let edges : p.edges ≡ q.edges = edges_one p.edges q.edges _ a.sorted b.sorted a.edges b.edges in
+    ap (λ z. let r : Policy = record { labels = z; objects = p.objects; edges = p.edges } in r) (a.labels ∙ sym b.labels)
+    ∙ ap (λ z. let r : Policy = record { labels = q.labels; objects = z; edges = p.edges } in r) (a.objects ∙ sym b.objects)
+    ∙ ap (λ z. let r : Policy = record { labels = q.labels; objects = q.objects; edges = z } in r) edges
 
-module _ (first : Source → Option Fault) (m : Contents) (root : List ℕ) where
-  -- no fault stands in a source that is loaded and has none
-  pub none_faulted : (s : Source) (fault : Fault) (file : List ℕ) → IsLoaded (Some m) root (Ok s) → first s ≡ None → IsFaulted first root (Some m) fault file → ⊥
-  none_faulted s fault file loaded none (inl x) =
-      let same : ◌≡◌ {A = Result Source LoadError} (Ok s) (Err (load.Fault fault file)) = loaded_one m root (Ok s) (Err (load.Fault fault file)) refl refl loaded x in
+builds_one : (s : Source) (images : Images) (b c : Build) → b.front ≡ c.front → IsMade s images b.spec b.policy b.cert b.map → IsMade s images c.spec c.policy c.cert c.map → b ≡ c
+builds_one s images b c front x y =
+    let spec : b.spec ≡ c.spec = x.spec_is ∙ sym y.spec_is in
+    let policy = policies_one s images b.spec c.spec b.policy c.policy b.cert c.cert b.map c.map x y in
+    let cert : b.cert ≡ c.cert = edges_one b.cert c.cert _ x.cert_sorted y.cert_sorted x.certified y.certified in
+    let map : b.map ≡ c.map = x.map_is ∙ sym y.map_is in
+    ap (λ z. let d : Build = record { front = z; spec = b.spec; policy = b.policy; cert = b.cert; map = b.map } in d) front
+    ∙ ap (λ z. let d : Build = record { front = c.front; spec = z; policy = b.policy; cert = b.cert; map = b.map } in d) spec
+    ∙ ap (λ z. let d : Build = record { front = c.front; spec = c.spec; policy = z; cert = b.cert; map = b.map } in d) policy
+    ∙ ap (λ z. let d : Build = record { front = c.front; spec = c.spec; policy = c.policy; cert = z; map = b.map } in d) cert
+    ∙ ap (λ z. let d : Build = record { front = c.front; spec = c.spec; policy = c.policy; cert = c.cert; map = z } in d) map
+
+module _ (m : Contents) (root : List ℕ) where
+  -- what is found is one
+  found_one : (s t : Source) (x y : List Found) → s ≡ t → AreFound (Some m) (tables_beside s) x → AreFound (Some m) (tables_beside t) y → x ≡ y
+  found_one s t x y same a b = a.told ∙ ap (λ (z : Source). found_in m (tables_beside z)) same ∙ sym b.told
+
+  pub builds_same : (b c : Build) → IsBuildOf root (Some m) b → IsBuildOf root (Some m) c → b ≡ c
+  builds_same b c x y =
+      let front = front_one m root b.front c.front x.front y.front in
+      let source : b.front.source ≡ c.front.source = ap (λ z. z.source) front in
+      let found = found_one b.front.source c.front.source x.found y.found source x.told y.told in
+      builds_one c.front.source (images_from c.front.source y.found) b c front
+      (subst (λ z. IsMade c.front.source (images_from c.front.source z) b.spec b.policy b.cert b.map) found
+      (subst (λ z. IsMade z (images_from z x.found) b.spec b.policy b.cert b.map) source x.made))
+      y.made
+
+  -- ---- faults
+
+  -- no fault is first where none stands
+  pub none_first : (s : Source) (x : List Found) (fault : Fault) (file : List ℕ) → IsLoaded (Some m) root (Ok s) → AreFound (Some m) (tables_beside s) x → first_fault s x ≡ None → IsFirstFault root (Some m) fault file → ⊥
+  none_first s x fault file loaded told none (inl f) =
+      none_faulted first_front_fault m root s fault file loaded (no_first (first_front_fault s) (first_layout_fault s x) none) f
+  none_first s x fault file loaded told none (inr f) =
+      let source = one_loaded m root s f.0 loaded f.1.loaded in
+      let found = found_one s f.0 x f.2.found source told f.2.told in
+      let clean = no_second (first_front_fault s) (first_layout_fault s x) none in
+      let same : ◌≡◌ {A = Option Fault} None (Some fault) =
+      sym clean ∙ ap (λ (z : Source). first_layout_fault z x) source ∙ ap (first_layout_fault f.0) found ∙ f.2.first in
       cc
-  none_faulted s fault file loaded none (inr x) =
-      let same : ◌≡◌ {A = Option Fault} None (Some fault) = sym none ∙ ap first (one_loaded m root s x.0 loaded x.1) ∙ x.2 in
-      cc
 
-  pub one_fault : (f g : Fault) (a b : List ℕ) → IsFaulted first root (Some m) f a → IsFaulted first root (Some m) g b → (f ≡ g) × (a ≡ b)
-  one_fault f g a b (inl x) (inl y) =
-      let same : ◌≡◌ {A = Result Source LoadError} (Err (load.Fault f a)) (Err (load.Fault g b)) = loaded_one m root (Err (load.Fault f a)) (Err (load.Fault g b)) refl refl x y in
-      (cc, cc)
-  one_fault f g a b (inl x) (inr y) =
-      let same : ◌≡◌ {A = Result Source LoadError} (Err (load.Fault f a)) (Ok y.0) = loaded_one m root (Err (load.Fault f a)) (Ok y.0) refl refl x y.1 in
-      absurd cc
-  one_fault f g a b (inr x) (inl y) =
-      let same : ◌≡◌ {A = Result Source LoadError} (Ok x.0) (Err (load.Fault g b)) = loaded_one m root (Ok x.0) (Err (load.Fault g b)) refl refl x.1 y in
-      absurd cc
-  one_fault f g a b (inr x) (inr y) =
-      let source = one_loaded m root x.0 y.0 x.1 y.1 in
-      let fault : ◌≡◌ {A = Option Fault} (Some f) (Some g) = sym x.2 ∙ ap first source ∙ y.2 in
-      let same : f ≡ g = cc in
-      (same, x.3 ∙ ap (λ (z : Source). name_of_file z f.place.file) source ∙ ap (λ (z : Fault). name_of_file y.0 z.place.file) same ∙ sym y.3)
+  pub build_first : (b : Build) (fault : Fault) (file : List ℕ) → IsBuildOf root (Some m) b → IsFirstFault root (Some m) fault file → ⊥
+  build_first b fault file x f = none_first b.front.source x.found fault file x.front.loaded x.told x.clean f
+
+  pub one_first : (f g : Fault) (a b : List ℕ) → IsFirstFault root (Some m) f a → IsFirstFault root (Some m) g b → (f ≡ g) × (a ≡ b)
+  one_first f g a b (inl x) (inl y) = one_fault first_front_fault m root f g a b x y
+  one_first f g a b (inl x) (inr y) = absurd (none_faulted first_front_fault m root y.0 f a y.1.loaded y.1.none x)
+  one_first f g a b (inr x) (inl y) = absurd (none_faulted first_front_fault m root x.0 g b x.1.loaded x.1.none y)
+  one_first f g a b (inr x) (inr y) =
+      let source = one_loaded m root x.0 y.0 x.1.loaded y.1.loaded in
+      let found = found_one x.0 y.0 x.2.found y.2.found source x.2.told y.2.told in
+      let fault : ◌≡◌ {A = Option Fault} (Some f) (Some g) =
+      sym x.2.first ∙ ap (λ (z : Source). first_layout_fault z x.2.found) source ∙ ap (first_layout_fault y.0) found ∙ y.2.first in
+      let same : f ≡ g = cc in (
+        same,
+        x.2.named ∙ ap (λ (z : Source). file_of z x.2.found f.place.file) source ∙ ap (λ z. file_of y.0 z f.place.file) found
+            ∙ ap (λ (z : Fault). file_of y.0 y.2.found z.place.file) same ∙ sym y.2.named,
+      )
 
 -- ---- answers
-
-front_of : Source → FrontEnd
-front_of s = record { source = s; flat = flat_of s; settled = settled_of s }
-
-is_front_of : (f : FrontEnd) → IsMeaning f → f ≡ front_of f.source
-unfolding front_of
-is_front_of f meant =
-    ap (λ z. let g : FrontEnd = record { source = f.source; flat = z; settled = f.settled } in g) meant.flat
-    ∙ ap (λ z. let g : FrontEnd = record { source = f.source; flat = flat_of f.source; settled = z } in g) meant.settled
-
-fronts_same : (m : Contents) (root : List ℕ) (f g : FrontEnd) → IsLoaded (Some m) root (Ok f.source) → IsLoaded (Some m) root (Ok g.source) → IsMeaning f → IsMeaning g → f ≡ g
-fronts_same m root f g a b x y = is_front_of f x ∙ ap front_of (one_loaded m root f.source g.source a b) ∙ sym (is_front_of g y)
-
-builds_same : (m : Contents) (root : List ℕ) (b c : Build) → IsBuildOf root (Some m) b → IsBuildOf root (Some m) c → b ≡ c
-builds_same m root b c x y =
-    let front = fronts_same m root b.front c.front x.loaded y.loaded x.meant y.meant in
-    let spec : b.spec ≡ c.spec = one_spec m root b.front.source c.front.source b.spec c.spec x.loaded y.loaded x.spec y.spec in
-    ap (λ z. let d : Build = record { front = z; spec = b.spec } in d) front ∙ ap (λ z. let d : Build = record { front = c.front; spec = z } in d) spec
-
-faults_same : {T : Type 0} (f g : Fault) (a b : List ℕ) → (f ≡ g) × (a ≡ b) → ◌≡◌ {A = Result T BuildError} (Err (error.Fault f a)) (Err (error.Fault g b))
-faults_same f g a b e = ap (λ z. Err (error.Fault z a)) e.0 ∙ ap (λ z. Err (error.Fault g z)) e.1
-
-pub one_front : (m : Contents) (root : List ℕ) (old new later last : List ℕ → ℕ) (a b : Result FrontEnd BuildError) → yields a ≡ false → yields b ≡ false
-    → IsFront root (Some m) old new a → IsFront root (Some m) later last b → a ≡ b
-one_front m root old new later last (Ok f) (Ok g) p q x y = ap Ok (fronts_same m root f g x.loaded y.loaded x.meant y.meant)
-one_front m root old new later last (Ok f) (Err (error.Fault g b)) p q x y = absurd (none_faulted first_front_fault m root f.source g b x.loaded x.none y)
-one_front m root old new later last (Err (error.Fault f a)) (Ok g) p q x y = absurd (none_faulted first_front_fault m root g.source f a y.loaded y.none x)
-one_front m root old new later last (Err (error.Fault f a)) (Err (error.Fault g b)) p q x y = faults_same f g a b (one_fault first_front_fault m root f g a b x y)
-one_front m root old new later last (Err (error.ReadFault a)) b p q x y = cc
-one_front m root old new later last (Err error.NoMemory) b p q x y = cc
-one_front m root old new later last (Ok f) (Err (error.ReadFault b)) p q x y = cc
-one_front m root old new later last (Ok f) (Err error.NoMemory) p q x y = cc
-one_front m root old new later last (Err (error.Fault f a)) (Err (error.ReadFault b)) p q x y = cc
-one_front m root old new later last (Err (error.Fault f a)) (Err error.NoMemory) p q x y = cc
 
 pub one_build : (m : Contents) (root : List ℕ) (old new later last : List ℕ → ℕ) (a b : Result Build BuildError) → yields a ≡ false → yields b ≡ false
     → IsCompiled root (Some m) old new a → IsCompiled root (Some m) later last b → a ≡ b
 one_build m root old new later last (Ok f) (Ok g) p q x y = ap Ok (builds_same m root f g x y)
-one_build m root old new later last (Ok f) (Err (error.Fault g b)) p q x y = absurd (none_faulted first_fault m root f.front.source g b x.loaded x.none y)
-one_build m root old new later last (Err (error.Fault f a)) (Ok g) p q x y = absurd (none_faulted first_fault m root g.front.source f a y.loaded y.none x)
-one_build m root old new later last (Err (error.Fault f a)) (Err (error.Fault g b)) p q x y = faults_same f g a b (one_fault first_fault m root f g a b x y)
+one_build m root old new later last (Ok f) (Err (error.Fault g b)) p q x y = absurd (build_first m root f g b x y)
+one_build m root old new later last (Err (error.Fault f a)) (Ok g) p q x y = absurd (build_first m root g f a y x)
+one_build m root old new later last (Err (error.Fault f a)) (Err (error.Fault g b)) p q x y = faults_same f g a b (one_first m root f g a b x y)
 one_build m root old new later last (Err (error.ReadFault a)) b p q x y = cc
 one_build m root old new later last (Err error.NoMemory) b p q x y = cc
 one_build m root old new later last (Ok f) (Err (error.ReadFault b)) p q x y = cc

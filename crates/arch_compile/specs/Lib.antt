@@ -1,11 +1,9 @@
+pub mod Built
 pub mod Compiled
-pub mod Dataports
-pub mod First
-pub mod Laid
-pub mod Numbers
+pub mod LayoutFaults
 pub mod Steps
-pub use Rattle.adl_import.specs.Loaded
-pub use Rattle.adl_meaning.specs.Items
 pub use Rattle.cam_io.specs.Contents
 pub use Rattle.cam_io.specs.Reading
-pub use Rattle.flat_laws.specs.ShortFiles
+pub use Rattle.front_end.specs.First
+pub use Rattle.front_end.specs.Fronts
+pub use Rattle.front_end.specs.Refusals

@@ -1,32 +1,124 @@
 -- What the parts of a compilation answer, of a source that is loaded.
-use Rattle.std.specs.Prelude.{◌≡◌, Option, Some, None, Result, Ok, Err}
-use Rattle.cam_base.specs.declared.place.Fault.{Fault}
+use Rattle.std.specs.Prelude.{◌≡◌, ℕ, List, Option, None, Result, Ok, Err}
+use Rattle.std.specs.Option.{option_or}
 use Rattle.adl_ast.specs.declared.source.Source.{Source}
-use Rattle.arch_compile.specs.Compiled.{IsMeaning, IsNamed}
-use Rattle.arch_compile.specs.First.{first_front_fault, first_layout_fault}
-use Rattle.arch_compile.specs.Laid.{IsSpecOf}
+use Rattle.adl_meaning.specs.declared.flat.Flat.{Flat}
+use Rattle.adl_meaning.specs.declared.settled.Settled.{Settled}
+use Rattle.arch_compile.specs.Built.{IsMade, labelled}
+use Rattle.arch_compile.specs.Compiled.{IsLayoutFault}
+use Rattle.arch_compile.specs.LayoutFaults.{first_imaged_fault, first_layout_fault, images_from, tables_beside}
 use Rattle.arch_compile.specs.declared.building.Build.{Build}
-use Rattle.arch_compile.specs.declared.error.BuildError.{BuildError}
-use Rattle.arch_compile.specs.declared.error.BuildError.TheVariants as error
-use Rattle.arch_compile.specs.declared.phases.FrontEnd.{FrontEnd}
-use Rattle.flat_laws.specs.ShortFiles.{AreFilesShort}
+use Rattle.arch_compile.specs.declared.laying.Layout.{Layout}
+use Rattle.arch_compile.specs.declared.making.Made.{Made}
+use Rattle.arch_policy.specs.Policies.{IsCertificateOf, first_edge_fault}
+use Rattle.arch_policy.specs.Tables.{Tables as PolicyTables}
+use Rattle.auth_kinds.specs.Tables.{IsSorted, has}
+use Rattle.auth_kinds.specs.declared.edge.Edge.{Edge}
+use Rattle.auth_kinds.specs.declared.object_labels.Labels.{Labels}
+use Rattle.auth_kinds.specs.declared.policy.Policy.{Policy}
+use Rattle.cam_base.specs.declared.place.Fault.{Fault}
+use Rattle.cam_io.specs.Causes.{Rose}
+use Rattle.cam_io.specs.Contents.{Contents}
+use Rattle.cap_model.specs.declared.spec.Spec.{Spec}
+use Rattle.cspace_layout.specs.SlotFaults.{first_slot_fault}
+use Rattle.cspace_layout.specs.Uses.{slots_of}
+use Rattle.front_end.specs.First.{source_tables}
+use Rattle.front_end.specs.Steps.{Assigns, Tells}
+use Rattle.front_end.specs.declared.error.BuildError.{BuildError}
+use Rattle.front_end.specs.declared.error.BuildError.TheVariants as error
+use Rattle.front_end.specs.declared.phases.FrontEnd.{FrontEnd}
+use Rattle.front_end.specs.declared.phases.Meaning.{Meaning}
+use Rattle.numbering.specs.Gather.{IsIn}
+use Rattle.program_sections.specs.Numbered.{AreNumbered, AreSound}
+use Rattle.program_sections.specs.SpaceFaults.{first_space_fault}
+use Rattle.program_sections.specs.declared.images.Images.{Images}
+use Rattle.source_images.specs.Found.{AreFound, Found}
+use Rattle.source_images.specs.declared.error.ImagesError.{ImagesError}
+use Rattle.source_images.specs.declared.error.ImagesError.TheVariants as imaging
+use Rattle.system_spec.specs.Buildable.{IsBuildable}
+use Rattle.system_spec.specs.Made.{labels_of, spec_of}
+use Rattle.system_spec.specs.MapLines.{map_lines}
+use Rattle.system_spec.specs.Tables.{Tables}
+use Rattle.system_spec.specs.TablesFrom.{tables_from}
+use Rattle.system_spec.specs.Windowed.{IsWindowed}
+use Rattle.vspace_layout.specs.Given.{Given, given}
+use Rattle.vspace_layout.specs.Laid.{spaces_of}
+use Rattle.vspace_layout.specs.PageLimits.{first_page_limit}
 
--- a first fault is told, with the name of its file
-abbrev pub Tells : Source → Option Fault → BuildError → Type 0
-Tells source first (error.Fault fault file) = (first ≡ Some fault) × IsNamed source fault (error.Fault fault file)
-Tells source first (error.ReadFault file) = ⊥
-Tells source first error.NoMemory = Unit {0}
+-- ---- images
 
-abbrev pub IsMeant : Source → Result FrontEnd BuildError → Type 0
-IsMeant source (Ok f) = (f.source ≡ source) × (first_front_fault source ≡ None) × IsMeaning f
-IsMeant source (Err e) = Tells source (first_front_fault source) e
+-- why images weren't read, as a refusal to compile
+abbrev pub not_imaged : ImagesError → BuildError
+not_imaged (imaging.Fault fault file) = error.Fault fault file
+not_imaged (imaging.ReadFault file) = error.ReadFault file
+not_imaged imaging.NoMemory = error.NoMemory
 
--- what is known of a source whose meaning is known
-pub record IsSound (f : FrontEnd) : Type 0 where
-  pub short : AreFilesShort f.source
-  pub none : first_front_fault f.source ≡ None
-  pub meant : IsMeaning f
+pub record IsImaged (flat : Flat) (images : Images) : Type 0 where
+  pub numbered : AreNumbered flat images
+  pub sound : AreSound images
 
-abbrev pub IsBuilt : FrontEnd → Result Build BuildError → Type 0
-IsBuilt f (Ok b) = (b.front ≡ f) × (first_layout_fault f.source ≡ None) × IsSpecOf f.source b.spec
-IsBuilt f (Err e) = Tells f.source (first_layout_fault f.source) e
+-- ---- layouts
+
+-- of sections; where there is none, of slots; where there is none, of pages
+abbrev pub first_laid_fault : Given → Option Fault
+first_laid_fault g =
+    option_or (first_space_fault g.flat g.images) (option_or (first_slot_fault g.source g.flat) (first_page_limit g))
+
+pub record IsLaid (source : Source) (flat : Flat) (settled : Settled) (images : Images) (layout : Layout) : Type 0 where
+  pub slots : layout.slots ≡ slots_of source flat
+  pub spaces : layout.spaces ≡ spaces_of (given source flat settled images)
+  pub buildable : IsBuildable (tables_from source flat settled images)
+  pub windowed : IsWindowed (tables_from source flat settled images)
+
+-- ---- what is made
+
+-- the policy with the labels of objects
+pub record IsLabelled (old : Policy) (spec : Spec) (labels : Labels) (new : Policy) : Type 0 where
+  pub lines : new.labels ≡ old.labels
+  pub objects : new.objects ≡ labelled spec.entries labels.by_object
+  pub same : (e : Edge) → has new.edges e ≡ has old.edges e
+  pub sorted : IsSorted new.edges
+
+-- what the policy and the certificate are made from
+abbrev pub policy_tables : Tables → PolicyTables
+policy_tables t = record { source = t.source; flat = t.flat; settled = t.settled; numbers = t.numbers }
+
+pub record IsMadeOf (t : Tables) (policy : Policy) (m : Made) : Type 0 where
+  pub spec : m.spec ≡ spec_of t
+  pub policy_is : IsLabelled policy (spec_of t) (labels_of t) m.policy
+  pub cert : IsCertificateOf (policy_tables t) m.cert
+  pub sorted : IsSorted m.cert
+  pub map : m.map ≡ map_lines t
+
+-- ---- builds, from the last step to the first
+
+-- of a front, with these images
+abbrev pub Finishes : FrontEnd → Images → Result Build BuildError → Type 0
+Finishes f images (Ok b) = (b.front ≡ f) × IsMade f.source images b.spec b.policy b.cert b.map
+Finishes f images (Err e) = e ≡ error.NoMemory
+
+-- of a meaning, with these images, whose layout is known
+abbrev pub Completes : Meaning → Images → Result Build BuildError → Type 0
+Completes m images (Ok b) = Assigns m (Ok b.front) × IsMade m.source images b.spec b.policy b.cert b.map
+Completes m images (Err e) = Tells m.source (first_edge_fault (source_tables m.source)) e
+
+-- of a meaning, with these images
+abbrev pub Lays : Meaning → Images → Result Build BuildError → Type 0
+Lays m images (Ok b) =
+    Assigns m (Ok b.front) × (first_imaged_fault m.source images ≡ None)
+    × IsMade m.source images b.spec b.policy b.cert b.map
+Lays m images (Err e) = Tells m.source (first_imaged_fault m.source images) e
+
+-- of a meaning
+pub record IsBuiltOf (m : Meaning) (contents : Option Contents) (b : Build) : Type 0 where
+  pub front : Assigns m (Ok b.front)
+  pub found : List Found
+  pub told : AreFound contents (tables_beside m.source) found
+  pub clean : first_layout_fault m.source found ≡ None
+  pub made : IsMade m.source (images_from m.source found) b.spec b.policy b.cert b.map
+
+abbrev pub Builds : Meaning → Option Contents → (List ℕ → ℕ) → (List ℕ → ℕ) → Result Build BuildError → Type 0
+Builds m contents before now (Ok b) = IsBuiltOf m contents b
+Builds m contents before now (Err (error.Fault fault file)) = IsLayoutFault contents m.source fault file
+Builds m contents before now (Err (error.ReadFault file)) = IsIn file (tables_beside m.source) × Rose (before file) (now file)
+Builds m contents before now (Err error.NoMemory) = Unit {0}

@@ -1,18 +1,16 @@
-//! Compiling: the source of a root, all that its phases make of it, and its spec; or the first fault of the first phase
-//! that has one.
+//! Compiling: the source of a root, what it means and what it assigns, its spec with its labels, its certificate and its map;
+//! or the first fault of the first phase that has one.
 //!
-//! Nothing here writes an output. Which fault is the first stands in `specs/First.antt`, what each call answers in
-//! `specs/Compiled.antt`, and what a spec has to do with its source in `specs/Laid.antt`.
+//! Nothing here writes an output. Which fault is the first stands in `specs/LayoutFaults.antt`, what is made of a source in
+//! `specs/Built.antt`, and what `compile` answers in `specs/Compiled.antt`.
 #![tactic(auto)]
 
 mod building;
-mod dataports;
-mod error;
+mod imaging;
+mod labelled;
 mod laws;
-mod numbers;
-mod phases;
+mod laying;
+mod making;
 
 pub use building::{Build, compile};
-pub use error::BuildError;
-pub use laws::{answers_are_one, loaded_sources_are_few};
-pub use phases::{FrontEnd, front, in_file};
+pub use laws::answers_are_one;

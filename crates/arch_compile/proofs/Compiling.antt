@@ -1,0 +1,202 @@
+-- What the parts of a compilation answer is what the whole answers.
+use Rattle.std.proofs.Common.{◌≡◌, ◌∙◌, ◌≤◌, ℕ, List, Option, Some, None, Result, Ok, Err, refl, sym, ap, subst, inl, inr, is_some, arith}
+use Rattle.std.specs.List.{slice_get}
+use Rattle.std.specs.Option.{option_or}
+use Rattle.std.specs.Prelude.{if◌then◌else◌}
+use Rattle.adl_ast.specs.declared.source.Source.{Source}
+use Rattle.adl_meaning.specs.Faults.{Refuses as RefusesAs}
+use Rattle.adl_meaning.specs.Flat.{flat_of}
+use Rattle.adl_meaning.specs.declared.flat.Flat.{Flat}
+use Rattle.adl_meaning.specs.declared.settled.Settled.{Settled}
+use Rattle.arch_compile.specs.Built.{IsBuildOf, IsMade}
+use Rattle.arch_compile.specs.Compiled.{IsCompiled, IsRefusal}
+use Rattle.arch_compile.specs.LayoutFaults.{file_of, first_fault, first_imaged_fault, first_layout_fault, images_from, root_of, spaced, tables_beside}
+use Rattle.arch_compile.specs.Steps.{Builds, Completes, Finishes, IsBuiltOf, IsImaged, IsLaid, Lays, first_laid_fault, not_imaged}
+use Rattle.arch_compile.specs.declared.building.Build.{Build}
+use Rattle.arch_compile.specs.declared.laying.Layout.{Layout}
+use Rattle.arch_policy.specs.Policies.{first_edge_fault}
+use Rattle.cam_base.specs.declared.error.Refused.{Refused}
+use Rattle.cam_base.specs.declared.place.Fault.{Fault}
+use Rattle.cam_io.specs.Causes.{NoneFell, Rose}
+use Rattle.cam_io.specs.Contents.{Contents}
+use Rattle.cspace_layout.specs.SlotFaults.{first_slot_fault}
+use Rattle.front_end.proofs.Refusing.{assigned_front, refused_tells, second_is}
+use Rattle.front_end.specs.First.{first_front_fault, name_of_file, source_tables}
+use Rattle.front_end.specs.Fronts.{IsAssigned, IsMeaningOf, IsMeant}
+use Rattle.front_end.specs.Refusals.{IsRefused, Refuses}
+use Rattle.front_end.specs.Steps.{Assigns, IsSound, Tells}
+use Rattle.front_end.specs.declared.error.BuildError.{BuildError}
+use Rattle.front_end.specs.declared.error.BuildError.TheVariants as error
+use Rattle.front_end.specs.declared.phases.FrontEnd.{FrontEnd}
+use Rattle.front_end.specs.declared.phases.Meaning.{Meaning}
+use Rattle.leaf_ends.specs.Within.{IsWithin}
+use Rattle.program_sections.specs.Numbered.{AreNumbered}
+use Rattle.program_sections.specs.SpaceFaults.{first_space_fault}
+use Rattle.program_sections.specs.declared.images.Images.{Images}
+use Rattle.source_images.proofs.ImageNumbers.{images_numbered}
+use Rattle.source_images.proofs.Soundness.{images_sound}
+use Rattle.source_images.specs.Found.{AreFound, Found}
+use Rattle.source_images.specs.ImagesRead.{AreImagesOf, AreImagesRead}
+use Rattle.source_images.specs.TableFaults.{first_table_fault, name_of_file as name_with_tables}
+use Rattle.source_images.specs.Types.{types}
+use Rattle.source_images.specs.declared.error.ImagesError.{ImagesError}
+use Rattle.source_images.specs.declared.error.ImagesError.TheVariants as imaging
+use Rattle.vspace_layout.specs.Given.{given}
+use Rattle.vspace_layout.specs.PageLimits.{first_page_limit}
+
+-- ---- of a front
+
+-- what is so of a meaning is so of its front
+carried : (P : Source → Flat → Settled → Type 0) (m : Meaning) (f : FrontEnd) → Assigns m (Ok f) → P m.source m.flat m.settled → P f.source f.flat f.settled
+carried P m f a p =
+    subst (λ z. P z f.flat f.settled) (sym a.0) (subst (λ z. P m.source z f.settled) (sym a.1) (subst (λ z. P m.source m.flat z) (sym a.2) p))
+
+pub front_sound : (m : Meaning) (f : FrontEnd) → Assigns m (Ok f) → IsSound m.source m.flat m.settled → IsSound f.source f.flat f.settled
+front_sound m f a sound = carried IsSound m f a sound
+
+pub front_assigned : (m : Meaning) (f : FrontEnd) → Assigns m (Ok f) → IsAssigned f.source f.policy
+front_assigned m f a = subst (λ z. IsAssigned z f.policy) (sym a.0) a.4
+
+pub front_laid : (m : Meaning) (f : FrontEnd) (images : Images) (l : Layout) → Assigns m (Ok f) → IsLaid m.source m.flat m.settled images l → IsLaid f.source f.flat f.settled images l
+front_laid m f images l a laid = carried (λ s flat settled. IsLaid s flat settled images l) m f a laid
+
+pub finished : (m : Meaning) (f : FrontEnd) (images : Images) (r : Result Build BuildError) → Assigns m (Ok f) → Finishes f images r → Completes m images r
+finished m f images (Ok b) a h = (
+  subst (λ z. Assigns m (Ok z)) (sym h.0) a,
+  subst (λ z. IsMade z images b.spec b.policy b.cert b.map) a.0 h.1,
+)
+finished m f images (Err e) a h = subst (λ z. Tells m.source (first_edge_fault (source_tables m.source)) z) (sym h) tt
+
+-- ---- of a meaning whose layout is known
+
+imaged_is : {X : Type 0} (a b c d : Option X) → option_or a (option_or b c) ≡ None → option_or a (option_or b (option_or c d)) ≡ d
+imaged_is None None None d e = refl
+imaged_is None None (Some x) d e = absurd cc
+imaged_is None (Some x) c d e = absurd cc
+imaged_is (Some x) b c d e = absurd cc
+
+imaged_stays : {X : Type 0} (a b c d : Option X) (x : X) → option_or a (option_or b c) ≡ Some x → option_or a (option_or b (option_or c d)) ≡ Some x
+imaged_stays None None None d x e = absurd cc
+imaged_stays None None (Some y) d x e = e
+imaged_stays None (Some y) c d x e = e
+imaged_stays (Some y) b c d x e = e
+
+laid_same : (m : Meaning) (images : Images) → IsMeant m.source m.flat m.settled → first_laid_fault (given m.source m.flat m.settled images) ≡ first_laid_fault (spaced m.source images)
+laid_same m images meant = ap (λ z. first_laid_fault (given m.source z m.settled images)) meant.is_flat ∙ ap (λ z. first_laid_fault (given m.source (flat_of m.source) z images)) meant.is_settled
+
+module _ (m : Meaning) (images : Images) (meant : IsMeant m.source m.flat m.settled) where
+  edges_left : first_laid_fault (given m.source m.flat m.settled images) ≡ None → first_imaged_fault m.source images ≡ first_edge_fault (source_tables m.source)
+  edges_left none =
+      imaged_is (first_space_fault (flat_of m.source) images) (first_slot_fault m.source (flat_of m.source)) (first_page_limit (spaced m.source images)) (first_edge_fault (source_tables m.source))
+      (sym (laid_same m images meant) ∙ none)
+
+  pub completed : (r : Result Build BuildError) → first_laid_fault (given m.source m.flat m.settled images) ≡ None → Completes m images r → Lays m images r
+  completed (Ok b) none h = (h.0, edges_left none ∙ h.0.3, h.1)
+  completed (Err e) none h = subst (λ z. Tells m.source z e) (sym (edges_left none)) h
+
+  laid_tells : (e : BuildError) → Tells m.source (first_laid_fault (spaced m.source images)) e → Tells m.source (first_imaged_fault m.source images) e
+  laid_tells (error.Fault fault file) t = (
+    imaged_stays (first_space_fault (flat_of m.source) images) (first_slot_fault m.source (flat_of m.source)) (first_page_limit (spaced m.source images)) (first_edge_fault (source_tables m.source)) fault t.0,
+    t.1,
+  )
+  laid_tells (error.ReadFault file) t = absurd t
+  laid_tells error.NoMemory t = tt
+
+  pub laid_refused : (r : Refused Fault) (e : BuildError) → RefusesAs {T = Layout} (Err r) (first_laid_fault (given m.source m.flat m.settled images)) → IsRefused m.source r e → Lays m images (Err e)
+  laid_refused r e h n =
+      laid_tells e (refused_tells Layout m.source (first_laid_fault (spaced m.source images)) r e (subst (λ o. RefusesAs {T = Layout} (Err r) o) (laid_same m images meant) h) n)
+
+-- ---- of a meaning
+
+-- what was read of its tables, by the root's own name and the flat system that is meant
+read_of : (contents : Option Contents) (m : Meaning) (root : List ℕ) (r : Result Images ImagesError) → IsMeant m.source m.flat m.settled → root ≡ root_of m.source
+    → AreImagesRead contents root m.source m.flat r → AreImagesRead contents (root_of m.source) m.source (flat_of m.source) r
+read_of contents m root r meant e h =
+    subst (λ z. AreImagesRead contents (root_of m.source) m.source z r) meant.is_flat (subst (λ z. AreImagesRead contents z m.source m.flat r) e h)
+
+pub images_imaged : (contents : Option Contents) (root : List ℕ) (m : Meaning) (images : Images) → AreImagesOf contents root m.source m.flat images → IsWithin m.source m.flat → IsImaged m.flat images
+images_imaged contents root m images are within = record {
+  numbered = subst (AreNumbered m.flat) (sym are.images) (images_numbered root m.source m.flat are.found are.told.count are.clean within);
+  sound = λ n image at s in_it. images_sound (types m.source m.flat) are.found n image (sym (ap (λ z. slice_get z.images n) are.images) ∙ at) s in_it;
+}
+
+clean_is : (s : Source) (found : List Found) (images : Images) (o : Option Fault) → first_table_fault (root_of s) s (flat_of s) found ≡ None → images ≡ images_from s found → first_imaged_fault s images ≡ o → first_layout_fault s found ≡ o
+clean_is s found images o none same e =
+    second_is (first_table_fault (root_of s) s (flat_of s) found) (first_imaged_fault s (images_from s found)) o none (ap (first_imaged_fault s) (sym same) ∙ e)
+
+in_source : (s : Source) (found : List Found) (n : ℕ) → first_table_fault (root_of s) s (flat_of s) found ≡ None → file_of s found n ≡ name_of_file s n
+in_source s found n none = ap (λ (o : Option Fault). if is_some o then name_with_tables (root_of s) s (flat_of s) n else name_of_file s n) none
+
+in_tables : (s : Source) (found : List Found) (n : ℕ) (f : Fault) → first_table_fault (root_of s) s (flat_of s) found ≡ Some f → file_of s found n ≡ name_with_tables (root_of s) s (flat_of s) n
+in_tables s found n f some = ap (λ (o : Option Fault). if is_some o then name_with_tables (root_of s) s (flat_of s) n else name_of_file s n) some
+
+module _ (contents : Option Contents) (before now : List ℕ → ℕ) (m : Meaning) (images : Images) (is : AreImagesOf contents (root_of m.source) m.source (flat_of m.source) images) where
+  laid_builds : (r : Result Build BuildError) → Lays m images r → Builds m contents before now r
+  laid_builds (Ok b) h = record {
+    front = h.0;
+    found = is.found;
+    told = is.told;
+    clean = clean_is m.source is.found images None is.clean is.images h.1;
+    made = subst (λ z. IsMade m.source z b.spec b.policy b.cert b.map) is.images h.2;
+  }
+  laid_builds (Err (error.Fault fault file)) t = record {
+    found = is.found;
+    told = is.told;
+    first = clean_is m.source is.found images (Some fault) is.clean is.images t.0;
+    named = t.1.1 ∙ sym (in_source m.source is.found fault.place.file is.clean);
+  }
+  laid_builds (Err (error.ReadFault file)) t = absurd t
+  laid_builds (Err error.NoMemory) t = tt
+
+pub built_of_images : (contents : Option Contents) (before now : List ℕ → ℕ) (m : Meaning) (root : List ℕ) (images : Images) (r : Result Build BuildError) → IsMeant m.source m.flat m.settled → root ≡ root_of m.source
+    → AreImagesOf contents root m.source m.flat images → Lays m images r → Builds m contents before now r
+built_of_images contents before now m root images r meant e h lays = laid_builds contents before now m images (read_of contents m root (Ok images) meant e h) r lays
+
+unread_builds : (contents : Option Contents) (before now : List ℕ → ℕ) (m : Meaning) (e : ImagesError) → AreImagesRead contents (root_of m.source) m.source (flat_of m.source) (Err e)
+    → ((file : List ℕ) → ◌≡◌ {A = Result Images ImagesError} (Err e) (Err (imaging.ReadFault file)) → Rose (before file) (now file)) → Builds m contents before now (Err (not_imaged e))
+unread_builds contents before now m (imaging.Fault fault file) h rose = record {
+  found = h.found;
+  told = h.told;
+  first = ap (λ o. option_or o (first_imaged_fault m.source (images_from m.source h.found))) h.first;
+  named = h.named ∙ sym (in_tables m.source h.found fault.place.file fault h.first);
+}
+unread_builds contents before now m (imaging.ReadFault file) h rose = (h, rose file refl)
+unread_builds contents before now m imaging.NoMemory h rose = tt
+
+pub built_unread : (contents : Option Contents) (before now : List ℕ → ℕ) (m : Meaning) (root : List ℕ) (e : ImagesError) (r : BuildError) → IsMeant m.source m.flat m.settled → root ≡ root_of m.source
+    → AreImagesRead contents root m.source m.flat (Err e) → ((file : List ℕ) → ◌≡◌ {A = Result Images ImagesError} (Err e) (Err (imaging.ReadFault file)) → Rose (before file) (now file))
+    → r ≡ not_imaged e → Builds m contents before now (Err r)
+built_unread contents before now m root e r meant same h rose is =
+    subst (λ z. Builds m contents before now (Err z)) (sym is) (unread_builds contents before now m e (read_of contents m root (Err e) meant same h) rose)
+
+-- ---- of a root
+
+rose_since : (old mid now : ℕ) → old ≤ mid → Rose mid now → Rose old now
+rose_since old mid now l (inl r) = inl (omega (arith, l, r))
+rose_since old mid now l (inr r) = inr r
+
+first_is : (s : Source) (found : List Found) (o : Option Fault) → first_front_fault s ≡ None → first_layout_fault s found ≡ o → first_fault s found ≡ o
+first_is s found o none e = second_is (first_front_fault s) (first_layout_fault s found) o none e
+
+module _ (root : List ℕ) (contents : Option Contents) (old mid now : List ℕ → ℕ) (m : Meaning) (is : IsMeaningOf root contents m) where
+  build_of : (b : Build) → IsBuiltOf m contents b → IsBuildOf root contents b
+  build_of b h =
+      let same = h.front.0 in
+      record {
+        front = assigned_front root contents old now m (Ok b.front) is h.front;
+        found = h.found;
+        told = subst (λ z. AreFound contents (tables_beside z) h.found) (sym same) h.told;
+        clean = ap (λ z. first_fault z h.found) same ∙ first_is m.source h.found None is.none h.clean;
+        made = subst (λ z. IsMade z (images_from z h.found) b.spec b.policy b.cert b.map) (sym same) h.made;
+      }
+
+  pub built_compiled : (r : Result Build BuildError) → NoneFell old mid → Builds m contents mid now r → IsCompiled root contents old now r
+  built_compiled (Ok b) later h = build_of b h
+  built_compiled (Err (error.Fault fault file)) later h = inr (m.source, record { loaded = is.loaded; none = is.none }, h)
+  built_compiled (Err (error.ReadFault file)) later h = (inr (m.source, record { loaded = is.loaded; none = is.none }, h.0), rose_since (old file) (mid file) (now file) (later file) h.1)
+  built_compiled (Err error.NoMemory) later h = tt
+
+pub refused_compiled : (root : List ℕ) (contents : Option Contents) (before now : List ℕ → ℕ) (e : BuildError) → Refuses first_front_fault root contents before now e → IsRefusal root contents before now e
+refused_compiled root contents before now (error.Fault fault file) h = inl h
+refused_compiled root contents before now (error.ReadFault file) h = (inl h.0, h.1)
+refused_compiled root contents before now error.NoMemory h = tt

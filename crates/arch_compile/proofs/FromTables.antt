@@ -1,0 +1,87 @@
+-- What is made of tables is what is made of a source.
+use Rattle.std.proofs.Common.{◌≡◌, ◌∙◌, ◌<◌, ◌^◌, List, length, sym, ap, subst, arith}
+use Rattle.std.proofs.lemmas.List.{length-map}
+use Rattle.adl_ast.specs.declared.source.Source.{Source}
+use Rattle.adl_meaning.specs.Flat.{flat_of}
+use Rattle.adl_meaning.specs.declared.flat.Flat.{Flat}
+use Rattle.adl_meaning.specs.declared.settled.Settled.{Settled}
+use Rattle.arch_compile.specs.Built.{IsMade, system_tables}
+use Rattle.arch_compile.specs.Steps.{IsLabelled, IsLaid, IsMadeOf, policy_tables}
+use Rattle.arch_compile.specs.declared.laying.Layout.{Layout}
+use Rattle.arch_compile.specs.declared.making.Made.{Made}
+use Rattle.arch_policy.specs.Labels.{label_numbers}
+use Rattle.arch_policy.specs.Policies.{IsPolicyOf}
+use Rattle.arch_policy.specs.Tables.{Tables as PolicyTables}
+use Rattle.arch_policy.specs.declared.numbers.LabelNumbers.{LabelNumbers}
+use Rattle.auth_kinds.specs.Tables.{has}
+use Rattle.auth_kinds.specs.declared.edge.Edge.{Edge}
+use Rattle.auth_kinds.specs.declared.object_labels.Labels.{Labels}
+use Rattle.auth_kinds.specs.declared.policy.Policy.{Policy}
+use Rattle.cap_model.specs.declared.spec.Spec.{Spec}
+use Rattle.cspace_layout.specs.Uses.{slots_of}
+use Rattle.cspace_layout.specs.declared.plan.Slots.{Slots}
+use Rattle.front_end.specs.First.{source_tables}
+use Rattle.front_end.specs.Fronts.{IsAssigned, IsMeant}
+use Rattle.program_sections.specs.declared.images.Images.{Images}
+use Rattle.system_spec.specs.Buildable.{IsBuildable}
+use Rattle.system_spec.specs.Made.{entry, labels_of, spec_of}
+use Rattle.system_spec.specs.Parts.{parts}
+use Rattle.system_spec.specs.Tables.{Tables}
+use Rattle.system_spec.specs.TablesFrom.{tables_from}
+use Rattle.system_spec.specs.Windowed.{IsWindowed}
+use Rattle.vspace_layout.specs.Given.{given}
+use Rattle.vspace_layout.specs.Laid.{spaces_of}
+use Rattle.vspace_layout.specs.declared.spaces.Spaces.{Spaces}
+
+pub few_objects : (t : Tables) (spec : Spec) → IsBuildable t → spec ≡ spec_of t → length spec.entries < 2 ^ 32
+few_objects t spec is e = let few = is.few.objects in subst (λ (z : Spec). length z.entries < 2 ^ 32) (sym e) (omega (arith, few, length-map (parts t) (entry t)))
+
+pub labelled_of : (t : Tables) (old new : Policy) (spec : Spec) (labels : Labels) → spec ≡ spec_of t → labels ≡ labels_of t → IsLabelled old spec labels new → IsLabelled old (spec_of t) (labels_of t) new
+labelled_of t old new spec labels a b is = subst (λ z. IsLabelled old z (labels_of t) new) a (subst (λ z. IsLabelled old spec z new) b is)
+
+-- edges that another list has are assigned
+same_policy : (t : PolicyTables) (old new : List Edge) → ((e : Edge) → has new e ≡ has old e) → IsPolicyOf t old → IsPolicyOf t new
+same_policy t old new same is e = (λ h. (is e).0 (sym (same e) ∙ h), λ r. same e ∙ (is e).1 r)
+
+made_is : (s : Source) (images : Images) (p : Policy) (m : Made) → IsAssigned s p → IsMadeOf (system_tables s images) p m → IsMade s images m.spec m.policy m.cert m.map
+made_is s images p m assigned is = record {
+  spec_is = is.spec;
+  labels = is.policy_is.lines ∙ assigned.labels;
+  objects = is.policy_is.objects;
+  edges = same_policy (source_tables s) p.edges m.policy.edges is.policy_is.same assigned.edges;
+  sorted = is.policy_is.sorted;
+  certified = is.cert;
+  cert_sorted = is.sorted;
+  map_is = is.map;
+}
+
+-- the tables of a source whose parts these are
+tables_are : (s : Source) (flat : Flat) (settled : Settled) (images : Images) (slots : Slots) (spaces : Spaces) (numbers : LabelNumbers)
+    → slots ≡ slots_of s flat → spaces ≡ spaces_of (given s flat settled images) → numbers ≡ label_numbers flat
+    → (let t : Tables = record { source = s; flat = flat; settled = settled; images = images; slots = slots; spaces = spaces; numbers = numbers } in t ≡ tables_from s flat settled images)
+tables_are s flat settled images slots spaces numbers a b c =
+    ap (λ z. let t : Tables = record { source = s; flat = flat; settled = settled; images = images; slots = z; spaces = spaces; numbers = numbers } in t) a
+    ∙ ap (λ z. let t : Tables = record { source = s; flat = flat; settled = settled; images = images; slots = slots_of s flat; spaces = z; numbers = numbers } in t) b
+    ∙ ap (λ z. let t : Tables = record { source = s; flat = flat; settled = settled; images = images; slots = slots_of s flat; spaces = spaces_of (given s flat settled images); numbers = z } in t) c
+
+system_is : (s : Source) (flat : Flat) (settled : Settled) (images : Images) → IsMeant s flat settled → tables_from s flat settled images ≡ system_tables s images
+system_is s flat settled images meant = ap (λ z. tables_from s z settled images) meant.is_flat ∙ ap (λ z. tables_from s (flat_of s) z images) meant.is_settled
+
+module _ (s : Source) (flat : Flat) (settled : Settled) (images : Images) (l : Layout) (numbers : LabelNumbers) (laid : IsLaid s flat settled images l) (numbered : numbers ≡ label_numbers flat) where
+  abbrev Here : Tables
+  Here = record { source = s; flat = flat; settled = settled; images = images; slots = l.slots; spaces = l.spaces; numbers = numbers }
+
+  pub here_builds : IsBuildable Here
+  here_builds = subst IsBuildable (sym (tables_are s flat settled images l.slots l.spaces numbers laid.slots laid.spaces numbered)) laid.buildable
+
+  pub here_windowed : IsWindowed Here
+  here_windowed = subst IsWindowed (sym (tables_are s flat settled images l.slots l.spaces numbers laid.slots laid.spaces numbered)) laid.windowed
+
+  pub here_assigned : (p : Policy) → IsMeant s flat settled → IsAssigned s p → IsPolicyOf (policy_tables Here) p.edges
+  here_assigned p meant assigned =
+      subst (λ t. IsPolicyOf (policy_tables t) p.edges) (sym (tables_are s flat settled images l.slots l.spaces numbers laid.slots laid.spaces numbered ∙ system_is s flat settled images meant)) assigned.edges
+
+  pub here_made : (p : Policy) (m : Made) → IsMeant s flat settled → IsAssigned s p → IsMadeOf Here p m → IsMade s images m.spec m.policy m.cert m.map
+  here_made p m meant assigned is =
+      made_is s images p m assigned
+      (subst (λ t. IsMadeOf t p m) (tables_are s flat settled images l.slots l.spaces numbers laid.slots laid.spaces numbered ∙ system_is s flat settled images meant) is)

@@ -1,0 +1,17 @@
+use Rattle.arch_compile.proofs.FromTables.{few_objects, labelled_of}
+use Rattle.system_spec.specs.Told.{told}
+use Rattle.arch_compile.proofs.making.made_of.Goals as goal
+
+pub with_objects-requires : goal.with_objects-requires
+with_objects-requires c = few_objects (told c.args.tables.now) c.in_ok-spec.field-0.spec c.requires.buildable c.in_ok-spec.ensures.spec
+
+pub returns : goal.returns
+returns c =
+    let made = c.in_ok-spec in
+    record {
+      spec = made.ensures.spec;
+      policy_is = labelled_of (told c.args.tables.now) c.args.policy.now c.in_ok-policy.policy made.field-0.spec made.field-0.labels made.ensures.spec made.ensures.labels c.in_ok-policy.ensures;
+      cert = c.in_ok-cert.ensures.cert;
+      sorted = c.in_ok-cert.ensures.sorted;
+      map = c.in_ok-map.ensures;
+    }

@@ -1,0 +1,57 @@
+-- What is made of a source without faults, and of its images.
+use Rattle.std.specs.Prelude.{◌≡◌, ℕ, List, [], ◌∷◌, Option, None}
+use Rattle.adl_ast.specs.declared.source.Source.{Source}
+use Rattle.adl_meaning.specs.Flat.{flat_of}
+use Rattle.adl_settings.specs.Settled.{settled_of}
+use Rattle.arch_compile.specs.LayoutFaults.{first_fault, images_from, tables_beside}
+use Rattle.arch_compile.specs.declared.building.Build.{Build}
+use Rattle.arch_policy.specs.Labels.{label_lines}
+use Rattle.arch_policy.specs.Policies.{IsCertificateOf, IsPolicyOf}
+use Rattle.auth_kinds.specs.ObjectLabels.{label_of}
+use Rattle.auth_kinds.specs.Tables.{IsSorted}
+use Rattle.auth_kinds.specs.declared.edge.Edge.{Edge}
+use Rattle.auth_kinds.specs.declared.policy.Policy.{Policy}
+use Rattle.cam_io.specs.Contents.{Contents}
+use Rattle.cap_model.specs.declared.spec.Entry.{Entry}
+use Rattle.cap_model.specs.declared.spec.Spec.{Spec}
+use Rattle.front_end.specs.First.{source_tables}
+use Rattle.front_end.specs.Fronts.{IsFrontOf}
+use Rattle.numbering.specs.Gather.{gather}
+use Rattle.program_sections.specs.declared.images.Images.{Images}
+use Rattle.source_images.specs.Found.{AreFound, Found}
+use Rattle.system_spec.specs.Made.{labels_of, spec_of}
+use Rattle.system_spec.specs.MapLines.{map_lines}
+use Rattle.system_spec.specs.Tables.{Tables}
+use Rattle.system_spec.specs.TablesFrom.{tables_from}
+use Rattle.system_spec.specs.declared.map_line.MapLine.{MapLine}
+
+-- what objects are made from
+abbrev pub system_tables : Source → Images → Tables
+system_tables s images = tables_from s (flat_of s) (settled_of s) images
+
+-- the name of each object with its label
+abbrev pub labelled : List Entry → List ℕ → List (List ℕ × ℕ)
+labelled entries labels = gather (λ n e. (e.name, label_of labels n) ∷ []) entries
+
+-- The spec and the map are those of the tables. The policy has the source's labels, the label of each object, and just the
+-- edges that are assigned; the certificate has what may be done by locks besides. Edges stand in order, each once.
+pub record IsMade (source : Source) (images : Images) (spec : Spec) (policy : Policy) (cert : List Edge) (map : List MapLine)
+    : Type 0 where
+  pub spec_is : spec ≡ spec_of (system_tables source images)
+  pub labels : policy.labels ≡ label_lines (flat_of source)
+  pub objects : policy.objects
+      ≡ labelled (spec_of (system_tables source images)).entries (labels_of (system_tables source images)).by_object
+  pub edges : IsPolicyOf (source_tables source) policy.edges
+  pub sorted : IsSorted policy.edges
+  pub certified : IsCertificateOf (source_tables source) cert
+  pub cert_sorted : IsSorted cert
+  pub map_is : map ≡ map_lines (system_tables source images)
+
+-- The root's source is loaded, with what it means and what it assigns. Something is found under the name of each section table,
+-- which is what the contents have, where they are told; in all of it no fault stands, and all is made from it.
+pub record IsBuildOf (root : List ℕ) (contents : Option Contents) (b : Build) : Type 0 where
+  pub front : IsFrontOf root contents b.front
+  pub found : List Found
+  pub told : AreFound contents (tables_beside b.front.source) found
+  pub clean : first_fault b.front.source found ≡ None
+  pub made : IsMade b.front.source (images_from b.front.source found) b.spec b.policy b.cert b.map

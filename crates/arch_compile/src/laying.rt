@@ -1,0 +1,52 @@
+//! Slots and spaces, or the first fault that stands in their way.
+
+ghost use Rattle.adl_meaning.specs.Faults.{Refuses};
+ghost use Rattle.arch_compile.specs.Steps.{IsImaged, IsLaid, first_laid_fault};
+ghost use Rattle.front_end.specs.Steps.{IsSound};
+ghost use Rattle.program_sections.specs.Numbered.{AreNumbered};
+ghost use Rattle.program_sections.specs.SpaceFaults.{first_space_fault};
+ghost use Rattle.std.specs.Prelude.{IfOk};
+ghost use Rattle.vspace_layout.specs.Given.{given};
+
+use adl_meaning::Flat;
+use cam_base::{Fault, Refused};
+use cspace_layout::{Slots, lay_caps};
+use front_end::Meaning;
+use program_sections::{Images, first_space_fault};
+use std::alloc::Global;
+use vspace_layout::{Spaces, lay_apart};
+
+/// The slots of a system, and its spaces.
+#[derive(Drop)]
+pub struct Layout {
+    pub slots: Slots,
+    pub spaces: Spaces,
+}
+
+/// Refused exactly where a fault of sections stands.
+fn check_sections(alloc: Global, flat: &Flat, images: &Images) -> Result<(), Refused<Fault>>
+    requires { AreNumbered flat.now images.now }
+    ensures { Refuses result (first_space_fault flat.now images.now) }
+{
+    match first_space_fault(alloc, flat, images)? {
+        Some(fault) => Err(Refused::Fault(fault)),
+        None => Ok(()),
+    }
+}
+
+/// The slots and the spaces of what is meant, with these images; refused exactly where a fault of sections stands, or else a
+/// limit on slots, or else a limit on pages is passed.
+pub fn lay_out(alloc: Global, meaning: &Meaning, images: &Images) -> Result<Layout, Refused<Fault>>
+    requires sound { IsSound meaning.now.source meaning.now.flat meaning.now.settled }
+    requires imaged { IsImaged meaning.now.flat images.now }
+    ensures fault { Refuses result (first_laid_fault (given meaning.now.source meaning.now.flat meaning.now.settled images.now)) }
+    ensures laid { IfOk result (IsLaid meaning.now.source meaning.now.flat meaning.now.settled images.now) }
+{
+    let source = &meaning.source;
+    let flat = &meaning.flat;
+    let settled = &meaning.settled;
+    check_sections(alloc, flat, images)?;
+    let slots = lay_caps(alloc, source, flat, settled)?;
+    let spaces = lay_apart(alloc, source, flat, settled, images)?;
+    Ok(Layout { slots, spaces })
+}

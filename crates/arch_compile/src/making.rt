@@ -1,0 +1,92 @@
+//! What is made of a system whose slots and spaces are laid out.
+
+ghost use Rattle.arch_compile.specs.Built.{IsMade};
+ghost use Rattle.arch_compile.specs.Steps.{IsLaid, IsMadeOf, policy_tables};
+ghost use Rattle.arch_policy.specs.Policies.{IsCertificateOf, IsPolicyOf};
+ghost use Rattle.auth_kinds.specs.Tables.{IsSorted};
+ghost use Rattle.front_end.specs.Fronts.{IsAssigned};
+ghost use Rattle.front_end.specs.Steps.{IsSound};
+ghost use Rattle.std.specs.Prelude.{IfOk};
+ghost use Rattle.system_spec.specs.Buildable.{IsBuildable};
+ghost use Rattle.system_spec.specs.Told.{told};
+ghost use Rattle.system_spec.specs.Windowed.{IsWindowed};
+
+use crate::labelled::with_objects;
+use crate::laying::Layout;
+use arch_cert::certificate_of;
+use arch_policy::{Tables as PolicyTables, labels_of};
+use auth_kinds::{EdgeTable, Policy};
+use cam_base::{List, NoMemory};
+use cap_model::Spec;
+use front_end::FrontEnd;
+use program_sections::Images;
+use std::alloc::Global;
+use system_spec::{MapLine, System, Tables, build, map_lines};
+
+/// The spec of a system, its policy with the labels of objects, its certificate and its map.
+#[derive(Drop)]
+pub struct Made {
+    pub spec: Spec,
+    pub policy: Policy,
+    pub cert: EdgeTable,
+    pub map: List<MapLine>,
+}
+
+/// The certificate of these tables, with the edges of a policy.
+fn certificate(alloc: Global, tables: &Tables<'_>, edges: &EdgeTable) -> Result<EdgeTable, NoMemory>
+    requires { IsPolicyOf (policy_tables (told tables.now)) edges.now }
+    ensures cert { IfOk result (IsCertificateOf (policy_tables (told tables.now))) }
+    ensures sorted { IfOk result IsSorted }
+{
+    let tables = PolicyTables {
+        source: tables.source,
+        flat: tables.flat,
+        settled: tables.settled,
+        numbers: tables.numbers,
+    };
+    certificate_of(alloc, &tables, edges)
+}
+
+/// What is made of these tables, with this policy.
+fn made_of(alloc: Global, tables: &Tables<'_>, policy: &Policy) -> Result<Made, NoMemory>
+    requires buildable { IsBuildable (told tables.now) }
+    requires windowed { IsWindowed (told tables.now) }
+    requires assigned { IsPolicyOf (policy_tables (told tables.now)) policy.now.edges }
+    ensures { IfOk result (IsMadeOf (told tables.now) policy.now) }
+{
+    let cert = certificate(alloc, tables, &policy.edges)?;
+    let map = map_lines(alloc, tables)?;
+    let System { spec, labels } = build(alloc, tables)?;
+    let policy = with_objects(alloc, policy, &spec, &labels)?;
+    Ok(Made {
+        spec,
+        policy,
+        cert,
+        map,
+    })
+}
+
+/// What is made of a source with these images, whose slots and spaces these are.
+pub fn made_from(
+    alloc: Global,
+    front: &FrontEnd,
+    images: &Images,
+    layout: &Layout,
+) -> Result<Made, NoMemory>
+    requires sound { IsSound front.now.source front.now.flat front.now.settled }
+    requires assigned { IsAssigned front.now.source front.now.policy }
+    requires laid { IsLaid front.now.source front.now.flat front.now.settled images.now layout.now }
+    ensures { IfOk result (λ m. IsMade front.now.source images.now m.spec m.policy m.cert m.map) }
+{
+    let labelling = labels_of(alloc, &front.flat)?;
+    let tables = Tables {
+        source: &front.source,
+        flat: &front.flat,
+        settled: &front.settled,
+        images,
+        slots: &layout.slots,
+        spaces: &layout.spaces,
+        numbers: &labelling.numbers,
+    };
+    made_of(alloc, &tables, &front.policy)
+}
