@@ -1,0 +1,2 @@
+pub mod BuildTexts
+pub use Rattle.cam_io.specs.Scripts
