@@ -1,0 +1,9 @@
+pub mod CertBack
+pub mod EdgeCounts
+pub mod EdgeTexts
+mod Facts
+pub mod Labelled
+pub mod LabelsBack
+pub mod PolicyLimited
+pub mod SpecBack
+pub mod TrioValid

@@ -1,0 +1,187 @@
+-- Policies of builds keep the limits of their readers on labels, objects and edges.
+use Rattle.std.proofs.Common.{◌≡◌, ◌≢◌, ◌∙◌, ◌<◌, ◌≤◌, ℕ, zero, suc, Bool, true, not, List, [], ◌∷◌, Option, Some, length, map, get_or, is_some, refl, sym, ap, subst, inl, arith}
+use Rattle.std.proofs.lemmas.Bool.{and_parts}
+use Rattle.std.proofs.lemmas.Option.{slice_get-get_or}
+use Rattle.std.specs.List.{All, AllPairs, list_all, slice_get}
+use Rattle.adl_ast.specs.declared.source.Source.{Source}
+use Rattle.adl_meaning.specs.Flat.{flat_of}
+use Rattle.adl_meaning.specs.declared.flat.Flat.{Flat}
+use Rattle.arch_compile.specs.Built.{IsBuildOf, IsMade, labelled, system_tables}
+use Rattle.arch_compile.specs.LayoutFaults.{images_from}
+use Rattle.arch_compile.specs.declared.building.Build.{Build}
+use Rattle.arch_policy.proofs.Lists.{in_has}
+use Rattle.arch_policy.specs.Labels.{label_lines, label_texts}
+use Rattle.assigned_laws.proofs.Ranked.{lines_apart}
+use Rattle.auth_kinds.specs.ObjectLabels.{label_of}
+use Rattle.auth_kinds.specs.Policies.{label_name}
+use Rattle.auth_kinds.specs.declared.edge.Edge.{Edge}
+use Rattle.cam_base.specs.Names.{is_name}
+use Rattle.cam_io.specs.Contents.{Contents}
+use Rattle.cap_model.specs.declared.spec.Entry.{Entry}
+use Rattle.capdl_back.specs.Writable.{is_word}
+use Rattle.capdl_lexer.specs.TokenFaults.{is_left_out_word}
+use Rattle.front_end.specs.First.{source_tables}
+use Rattle.numbering.proofs.Gathered.{from_ones, gather_ones, in_place}
+use Rattle.policy_text.specs.PolicyTexts.{AreLabelled}
+use Rattle.program_sections.specs.declared.images.Images.{Images}
+use Rattle.spec_kept.proofs.Telling.{names_tell}
+use Rattle.system_spec.specs.Made.{entry, labels_of, part_label, spec_of}
+use Rattle.system_spec.specs.Parts.{parts}
+use Rattle.system_spec.specs.Tables.{Tables}
+use Rattle.build_back.proofs.CertBack.{flat_is, policy_few, small_is}
+use Rattle.build_back.proofs.Facts.{AreFacts, build_facts}
+use Rattle.build_back.proofs.Labelled.{IsLabel, edge_labels, few_labels, named_at}
+use Rattle.build_back.proofs.LabelsBack.{line_at}
+use Rattle.build_back.proofs.SpecBack.{made_fit, made_writable}
+use Rattle.build_back.specs.PolicyLimits.{IsPolicyLimited}
+
+-- ---- labels
+
+record AreObjects (os : List (List ℕ × ℕ)) : Type 0 where
+  names : All (λ (o : List ℕ × ℕ). is_name o.0 ≡ true) os
+  differ : AllPairs (λ (o p : List ℕ × ℕ). o.0 ≢ p.0) os
+  few : length os ≤ 262144
+
+record AreLabels (ls : List (ℕ × List ℕ)) : Type 0 where
+  rising : AllPairs (λ (l m : ℕ × List ℕ). l.0 < m.0) ls
+  numbers : All (λ (l : ℕ × List ℕ). l.0 < 8192) ls
+  texts : AllPairs (λ (l m : ℕ × List ℕ). l.1 ≢ m.1) ls
+  few : length ls ≤ 8192
+
+module _ (flat : Flat) (few : length (label_texts flat) ≤ 6144) where
+  abbrev lines : List (ℕ × List ℕ)
+  lines = label_lines flat
+
+  lines_count : length lines ≡ length (label_texts flat)
+  lines_count = gather_ones (λ n x. (n, x)) (label_texts flat)
+
+  line_there : (k : ℕ) (d : ℕ × List ℕ) → k < length lines → slice_get lines k ≡ Some (get_or lines k d)
+  line_there k d l = slice_get-get_or lines k d l
+
+  number_is : (k : ℕ) (d : ℕ × List ℕ) → k < length lines → (get_or lines k d).0 ≡ k
+  number_is k d l = let x = from_ones (λ n y. (n, y)) (label_texts flat) k (get_or lines k d) (line_there k d l) in ap (λ (z : ℕ × List ℕ). z.0) (sym x.2)
+
+  rising_is : AllPairs (λ (l m : ℕ × List ℕ). l.0 < m.0) lines
+  rising_is i j d l m =
+      let a = number_is i d (omega (arith, l, m)) in
+      let b = number_is j d m in
+      omega (arith, a, b, l)
+
+  numbers_are : All (λ (l : ℕ × List ℕ). l.0 < 8192) lines
+  numbers_are k d l =
+      let a = number_is k d l in
+      let c = lines_count in
+      omega (arith, a, c, l, few)
+
+  texts_are : AllPairs (λ (l m : ℕ × List ℕ). l.1 ≢ m.1) lines
+  texts_are i j d l m same =
+      let x = get_or lines i d in
+      let y = get_or lines j d in
+      let a = number_is i d (omega (arith, l, m)) in
+      let b = number_is j d m in
+      let here = in_place x lines i (line_there i d (omega (arith, l, m))) in
+      let there = in_place y lines j (line_there j d m) in
+      let one = (lines_apart flat x.0 y.0 x.1 y.1 here there).1 same in
+      absurd (omega (arith, a, b, one, l))
+
+  labels_are : AreLabels (label_lines flat)
+  labels_are = record { rising = rising_is; numbers = numbers_are; texts = texts_are; few = let a = lines_count in omega (arith, a, few) }
+
+-- ---- objects
+
+all_at : {X : Type 0} (test : X → Bool) (xs : List X) (n : ℕ) (x : X) → list_all test xs ≡ true → slice_get xs n ≡ Some x → test x ≡ true
+all_at test [] n x h e = cc
+all_at test (y ∷ ys) zero x h e = let same : y ≡ x = cc in ap test (sym same) ∙ (and_parts (test y) (list_all test ys) h).0
+all_at test (y ∷ ys) (suc n) x h e = all_at test ys n x (and_parts (test y) (list_all test ys) h).1 e
+
+-- things that have entries and labels
+module _ {X : Type 0} (entry : X → Entry) (label : X → ℕ) (xs : List X)
+    (differ : (m n : ℕ) (x y : X) → slice_get xs m ≡ Some x → slice_get xs n ≡ Some y → (entry x).name ≡ (entry y).name → m ≡ n)
+    (words : list_all (λ (e : Entry). is_word e.name) (map entry xs) ≡ true) (short : length (map entry xs) ≤ 262144) where
+  abbrev objects : List (List ℕ × ℕ)
+  objects = labelled (map entry xs) (map label xs)
+
+  abbrev of_place : ℕ → Entry → List ℕ × ℕ
+  of_place n e = (e.name, label_of (map label xs) n)
+
+  object_there : (k : ℕ) (d : List ℕ × ℕ) → k < length objects → slice_get objects k ≡ Some (get_or objects k d)
+  object_there k d l = slice_get-get_or objects k d l
+
+  few_objects : length objects ≤ 262144
+  few_objects = let a = gather_ones of_place (map entry xs) in let b = short in omega (arith, a, b)
+
+  names_are : All (λ (o : List ℕ × ℕ). is_name o.0 ≡ true) objects
+  names_are k d l =
+      let x = from_ones of_place (map entry xs) k (get_or objects k d) (object_there k d l) in
+      let w = all_at (λ (e : Entry). is_word e.name) (map entry xs) k x.0 words x.1 in
+      ap (λ (z : List ℕ × ℕ). is_name z.0) (sym x.2) ∙ (and_parts (is_name x.0.name) (not (is_left_out_word x.0.name)) w).0
+
+  names_apart : AllPairs (λ (o p : List ℕ × ℕ). o.0 ≢ p.0) objects
+  names_apart i j d l m same =
+      let x = line_at entry label xs differ i (get_or objects i d) (object_there i d (omega (arith, l, m))) in
+      let y = line_at entry label xs differ j (get_or objects j d) (object_there j d m) in
+      let one = differ i j x.0 y.0 x.1 y.1 (sym x.2 ∙ same ∙ y.2) in
+      absurd (omega (arith, one, l))
+
+  objects_are : AreObjects (labelled (map entry xs) (map label xs))
+  objects_are = record { names = names_are; differ = names_apart; few = few_objects }
+
+module _ (s : Source) (images : Images) (facts : AreFacts s images) where
+  abbrev t : Tables
+  t = system_tables s images
+
+  objects_of : AreObjects (labelled (spec_of t).entries (labels_of t).by_object)
+  objects_of =
+      let fit = made_fit s images facts in
+      let w = made_writable s images facts in
+      objects_are (entry t) (part_label t) (parts t) (λ m n p q e f same. names_tell t fit.connections fit.objects m n p q e f same) w.names w.few_objects
+
+  labels_of_flat : AreLabels (label_lines (flat_of s))
+  labels_of_flat = labels_are (flat_of s) (few_labels (flat_of s) (small_is s images facts))
+
+  -- ---- edges
+
+  module _ (b : Build) (made : IsMade s images b.spec b.policy b.cert b.map) where
+    label_there : (l : ℕ) → IsLabel (source_tables s) l → is_some (label_name b.policy.labels l) ≡ true
+    label_there l w = ap (λ z. is_some (label_name z l)) made.labels ∙ named_at (source_tables s) refl l w
+
+    leads : (k : ℕ) (e : Edge) → k < length b.policy.edges → IsLabel (source_tables s) (get_or b.policy.edges k e).from × IsLabel (source_tables s) (get_or b.policy.edges k e).to
+    leads k e l =
+        let x = get_or b.policy.edges k e in
+        edge_labels (source_tables s) (flat_is s images facts) x
+        (inl ((made.edges x).0 (in_has x b.policy.edges (in_place x b.policy.edges k (slice_get-get_or b.policy.edges k e l)))))
+
+    edges_labelled : AreLabelled b.policy b.policy.edges
+    edges_labelled = record {
+      from = λ k e l. label_there (get_or b.policy.edges k e).from (leads k e l).0;
+      to = λ k e l. label_there (get_or b.policy.edges k e).to (leads k e l).1;
+    }
+
+    few_edges : length b.policy.edges ≤ 262144
+    few_edges = let l = policy_few s images facts b made in omega (arith, l)
+
+    objects_here : AreObjects b.policy.objects
+    objects_here = subst AreObjects (sym made.objects) objects_of
+
+    labels_here : AreLabels b.policy.labels
+    labels_here = subst AreLabels (sym made.labels) labels_of_flat
+
+    pub made_limited : IsPolicyLimited b
+    made_limited =
+        let o = objects_here in
+        let l = labels_here in
+        record {
+          rising = l.rising;
+          numbers = l.numbers;
+          labels = l.few;
+          texts = l.texts;
+          names = o.names;
+          names_differ = o.differ;
+          objects = o.few;
+          order = made.sorted;
+          edges = few_edges;
+          labelled = edges_labelled;
+        }
+
+pub policy_limited : (root : List ℕ) (contents : Option Contents) (b : Build) → IsBuildOf root contents b → IsPolicyLimited b
+policy_limited root contents b is = made_limited b.front.source (images_from b.front.source is.found) (build_facts root contents b is) b is.made

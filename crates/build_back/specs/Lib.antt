@@ -1,0 +1,4 @@
+pub mod PolicyLimits
+pub mod ReadBack
+pub mod TriosValid
+pub use Rattle.arch_compile.specs.Built

@@ -1,0 +1,67 @@
+-- What is known of a build: that no fault of any phase stands in its source and its section tables.
+use Rattle.std.proofs.Common.{◌≡◌, List, ℕ, Option, None, refl}
+use Rattle.std.specs.Option.{option_or}
+use Rattle.adl_ast.specs.declared.source.Source.{Source}
+use Rattle.adl_meaning.specs.Flat.{flat_of}
+use Rattle.adl_settings.specs.Settled.{settled_of}
+use Rattle.arch_compile.specs.Built.{IsBuildOf}
+use Rattle.arch_compile.specs.LayoutFaults.{first_imaged_fault, first_layout_fault, images_from, root_of, spaced}
+use Rattle.arch_compile.specs.declared.building.Build.{Build}
+use Rattle.arch_policy.specs.Policies.{first_edge_fault}
+use Rattle.cam_io.specs.Contents.{Contents}
+use Rattle.cspace_layout.specs.SlotFaults.{first_slot_fault}
+use Rattle.flat_laws.proofs.FewEnds.{no_first}
+use Rattle.flat_laws.specs.ShortFiles.{AreFilesShort}
+use Rattle.front_end.proofs.LoadedWhole.{loaded_whole}
+use Rattle.front_end.proofs.Sound.{IsFaultless, faultless, no_second}
+use Rattle.front_end.proofs.Within.{sound_within}
+use Rattle.front_end.specs.First.{first_front_fault, source_tables}
+use Rattle.front_end.specs.Steps.{IsWhole}
+use Rattle.program_sections.specs.Numbered.{AreNumbered, AreSound}
+use Rattle.program_sections.specs.SpaceFaults.{first_space_fault}
+use Rattle.program_sections.specs.declared.images.Images.{Images}
+use Rattle.source_images.proofs.ImageNumbers.{images_numbered}
+use Rattle.source_images.proofs.Soundness.{images_sound}
+use Rattle.source_images.specs.ImagesRead.{AreImagesOf}
+use Rattle.source_images.specs.TableFaults.{first_table_fault}
+use Rattle.source_images.specs.Types.{types}
+use Rattle.vspace_layout.specs.PageLimits.{first_page_limit}
+
+pub record AreFacts (contents : Option Contents) (s : Source) (images : Images) : Type 0 where
+  pub short : AreFilesShort s
+  pub faultless : IsFaultless s
+  pub read : AreImagesOf contents (root_of s) s (flat_of s) images
+  pub numbered : AreNumbered (flat_of s) images
+  pub sound : AreSound images
+  pub space : first_space_fault (flat_of s) images ≡ None
+  pub slot : first_slot_fault s (flat_of s) ≡ None
+  pub page : first_page_limit (spaced s images) ≡ None
+
+-- the facts of a build, with its images
+pub build_facts : (root : List ℕ) (contents : Option Contents) (b : Build) (is : IsBuildOf root contents b) → AreFacts contents b.front.source (images_from b.front.source is.found)
+build_facts root contents b is =
+    let s = b.front.source in
+    let found = is.found in
+    let images = images_from s found in
+    let whole : IsWhole s = loaded_whole contents root s is.front.loaded in
+    let front : first_front_fault s ≡ None = no_first (first_front_fault s) (first_layout_fault s found) is.clean in
+    let layout : first_layout_fault s found ≡ None = no_second (first_front_fault s) (first_layout_fault s found) is.clean in
+    let table : first_table_fault (root_of s) s (flat_of s) found ≡ None = no_first (first_table_fault (root_of s) s (flat_of s) found) (first_imaged_fault s images) layout in
+    let imaged : first_imaged_fault s images ≡ None = no_second (first_table_fault (root_of s) s (flat_of s) found) (first_imaged_fault s images) layout in
+    let space = first_space_fault (flat_of s) images in
+    let slot = first_slot_fault s (flat_of s) in
+    let page = first_page_limit (spaced s images) in
+    let edges = first_edge_fault (source_tables s) in
+    let behind = no_second space (option_or slot (option_or page edges)) imaged in
+    let last = no_second slot (option_or page edges) behind in
+    record {
+      short = whole.short;
+      faultless = faultless s front;
+      read = record { found = found; told = is.told; clean = table; images = refl };
+      numbered = images_numbered (root_of s) s (flat_of s) found is.told.count table
+          (sound_within s (flat_of s) (settled_of s) (record { whole = whole; none = front; meant = record { is_flat = refl; is_settled = refl } }));
+      sound = λ n image at x i. images_sound (types s (flat_of s)) found n image at x i;
+      space = no_first space (option_or slot (option_or page edges)) imaged;
+      slot = no_first slot (option_or page edges) behind;
+      page = no_first page edges last;
+    }

@@ -1,0 +1,2 @@
+mod Facts
+pub mod Soundness

@@ -1,0 +1,2 @@
+pub mod Sound
+pub use Rattle.arch_compile.specs.Built
