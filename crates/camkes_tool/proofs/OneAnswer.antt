@@ -4,10 +4,12 @@ use Rattle.cam_base.specs.declared.place.Fault.{Fault}
 use Rattle.cam_io.specs.Contents.{Contents}
 use Rattle.cam_io.specs.Scripts.{Begin, Write, after}
 use Rattle.cam_io.specs.Sinks.{Sink}
-use Rattle.arch_compile.specs.First.{first_fault}
-use Rattle.arch_compile.proofs.OneAnswer.{none_faulted, one_fault, one_spec}
+use Rattle.arch_compile.proofs.OneAnswer.{build_first, builds_same, one_first}
+use Rattle.arch_compile.specs.declared.building.Build.{Build}
+use Rattle.build_texts.specs.BuildTexts.{AreNamedBy, build_map, build_summary, texts_script}
+use Rattle.build_texts.specs.declared.names.TextNames.{TextNames}
 use Rattle.cap_model.specs.Canonical.{canonical}
-use Rattle.cap_model.specs.declared.spec.Spec.{Spec}
+use Rattle.policy_text.specs.PolicyLines.{cert_text, policy_text}
 use Rattle.command_words.specs.Words.{read_words}
 use Rattle.command_words.specs.declared.command.Command.{Command}
 use Rattle.command_words.specs.declared.command.Command.TheVariants.{Compile, Check, List as ListOf, Explain, Replay, Audit, Certify, Sections, Plan}
@@ -15,27 +17,26 @@ use Rattle.camkes_tool.specs.Answers.{AreOne, Fits, FitsAsked, FitsRoot, IsCompi
 use Rattle.camkes_tool.specs.Lines.{fault_line}
 use Rattle.camkes_tool.specs.declared.answer.Answer.{Answer}
 use Rattle.camkes_tool.specs.declared.answer.Answer.TheVariants.{Compiled, Listed, Explained, Told, Faulted, Refused, Usage, ReadFault, NoMemory}
-use Rattle.std.specs.Prelude.{String}
-use Rattle.std.specs.declared.alloc.Global.{Global}
 
 same_answer : (a : Answer) → AreOne a a
 same_answer a = record { status = refl; script = refl; compiled = refl; faulted = refl }
 
 module _ (m : Contents) (root base : List ℕ) (old new later last : List ℕ → ℕ) where
-  compiled_same : (a b : String Global) (s t : Spec) → FitsRoot root base (Some m) old new (Compiled a s) → FitsRoot root base (Some m) later last (Compiled b t) → AreOne (Compiled a s) (Compiled b t)
-  compiled_same a b s t x y =
-      let spec : s ≡ t = one_spec m root x.1.0 y.1.0 s t x.1.1 y.1.1 x.1.3 y.1.3 in
-      let name : string_bytes a ≡ string_bytes b = x.0 ∙ sym y.0 in
-      record {
-        status = refl;
-        script = ap (λ n. Begin 2 n ∷ Write 2 (canonical s) ∷ []) name ∙ ap (λ z. Begin 2 (string_bytes b) ∷ Write 2 (canonical z) ∷ []) spec;
-        compiled = ap (λ n. Some (n, s)) name ∙ ap (λ z. Some (string_bytes b, z)) spec;
-        faulted = refl;
-      }
+  names_same : (a b : TextNames) (c : Build) → AreNamedBy base a → AreNamedBy base b → texts_script a c ≡ texts_script b c
+  names_same a b c x y =
+      ap (λ n. Begin 2 n ∷ Write 2 (canonical c.spec) ∷ Begin 3 (string_bytes a.policy) ∷ Write 3 (policy_text c.policy) ∷ Begin 4 (string_bytes a.certificate) ∷ Write 4 (cert_text c.cert) ∷ Begin 5 (string_bytes a.map) ∷ Write 5 (build_map c) ∷ Write 0 (build_summary c) ∷ []) (x.capdl ∙ sym y.capdl)
+      ∙ ap (λ n. Begin 2 (string_bytes b.capdl) ∷ Write 2 (canonical c.spec) ∷ Begin 3 n ∷ Write 3 (policy_text c.policy) ∷ Begin 4 (string_bytes a.certificate) ∷ Write 4 (cert_text c.cert) ∷ Begin 5 (string_bytes a.map) ∷ Write 5 (build_map c) ∷ Write 0 (build_summary c) ∷ []) (x.policy ∙ sym y.policy)
+      ∙ ap (λ n. Begin 2 (string_bytes b.capdl) ∷ Write 2 (canonical c.spec) ∷ Begin 3 (string_bytes b.policy) ∷ Write 3 (policy_text c.policy) ∷ Begin 4 n ∷ Write 4 (cert_text c.cert) ∷ Begin 5 (string_bytes a.map) ∷ Write 5 (build_map c) ∷ Write 0 (build_summary c) ∷ []) (x.certificate ∙ sym y.certificate)
+      ∙ ap (λ n. Begin 2 (string_bytes b.capdl) ∷ Write 2 (canonical c.spec) ∷ Begin 3 (string_bytes b.policy) ∷ Write 3 (policy_text c.policy) ∷ Begin 4 (string_bytes b.certificate) ∷ Write 4 (cert_text c.cert) ∷ Begin 5 n ∷ Write 5 (build_map c) ∷ Write 0 (build_summary c) ∷ []) (x.map ∙ sym y.map)
+
+  compiled_same : (a b : TextNames) (c d : Build) → FitsRoot root base (Some m) old new (Compiled a c) → FitsRoot root base (Some m) later last (Compiled b d) → AreOne (Compiled a c) (Compiled b d)
+  compiled_same a b c d x y =
+      let same : c ≡ d = builds_same m root c d x.1 y.1 in
+      record { status = refl; script = names_same a b c x.0 y.0 ∙ ap (texts_script b) same; compiled = ap (λ z. Some z) same; faulted = refl }
 
   faulted_same : (a b : List ℕ) (f g : Fault) → FitsRoot root base (Some m) old new (Faulted a f) → FitsRoot root base (Some m) later last (Faulted b g) → AreOne (Faulted a f) (Faulted b g)
   faulted_same a b f g x y =
-      let same = one_fault first_fault m root f g a b x y in
+      let same = one_first m root f g a b x y in
       record {
         status = refl;
         script = ap (λ z. Write 1 (fault_line a z) ∷ []) same.0 ∙ ap (λ z. Write 1 (fault_line z g) ∷ []) same.1;
@@ -45,8 +46,8 @@ module _ (m : Contents) (root base : List ℕ) (old new later last : List ℕ �
 
   one_of_root : (a b : Answer) → yields a ≡ false → yields b ≡ false → FitsRoot root base (Some m) old new a → FitsRoot root base (Some m) later last b → AreOne a b
   one_of_root (Compiled a s) (Compiled b t) p q x y = compiled_same a b s t x y
-  one_of_root (Compiled a s) (Faulted b g) p q x y = absurd (none_faulted first_fault m root x.1.0 g b x.1.1 x.1.2 y)
-  one_of_root (Faulted a f) (Compiled b t) p q x y = absurd (none_faulted first_fault m root y.1.0 f a y.1.1 y.1.2 x)
+  one_of_root (Compiled a s) (Faulted b g) p q x y = absurd (build_first m root s g b x.1 y)
+  one_of_root (Faulted a f) (Compiled b t) p q x y = absurd (build_first m root t f a y.1 x)
   one_of_root (Faulted a f) (Faulted b g) p q x y = faulted_same a b f g x y
   one_of_root (Listed o) b p q x y = absurd x
   one_of_root (Explained o) b p q x y = absurd x

@@ -1,20 +1,25 @@
 -- Statuses are exact where contents are told and nothing failed.
-use Rattle.std.proofs.Common.{◌≡◌, ℕ, Bool, true, false, cond, List, Option, Some, None, Result, Ok, Err, refl, inl, inr, arith}
+use Rattle.std.proofs.Common.{◌≡◌, ◌∙◌, ℕ, Bool, true, false, cond, List, Option, Some, None, Result, Ok, Err, refl, sym, ap, inl, inr, arith}
+use Rattle.std.proofs.lemmas.List.{length-map}
+use Rattle.std.specs.FinMap.{get}
 use Rattle.cam_io.specs.Causes.{Rose}
 use Rattle.cam_io.specs.Contents.{Contents}
 use Rattle.cam_io.specs.Sinks.{Sink}
-use Rattle.arch_compile.specs.First.{first_fault}
-use Rattle.arch_compile.proofs.OneAnswer.{none_faulted}
+use Rattle.arch_compile.proofs.OneAnswer.{none_first}
+use Rattle.arch_compile.specs.Built.{IsBuildOf}
+use Rattle.arch_compile.specs.LayoutFaults.{first_fault, tables_beside}
+use Rattle.arch_compile.specs.declared.building.Build.{Build}
 use Rattle.command_words.specs.Words.{read_words}
 use Rattle.command_words.specs.declared.command.Command.{Command}
 use Rattle.command_words.specs.declared.command.Command.TheVariants.{Compile, Check, List as ListOf, Explain, Replay, Audit, Certify, Sections, Plan}
-use Rattle.arch_compile.specs.declared.error.BuildError.{BuildError}
-use Rattle.arch_compile.specs.declared.error.BuildError.TheVariants as build
+use Rattle.front_end.specs.declared.error.BuildError.{BuildError}
+use Rattle.front_end.specs.declared.error.BuildError.TheVariants as build
 use Rattle.reason_lines.specs.Answers.{is_assigned}
 use Rattle.reason_lines.specs.declared.answer.Answer.{Answer as Reply}
 use Rattle.source_commands.specs.Explained.{IsExplained}
 use Rattle.source_commands.specs.Listed.{IsListed}
 use Rattle.source_commands.specs.declared.listing.Listing.{Listing}
+use Rattle.source_images.specs.Found.{found_bytes, found_in}
 use Rattle.text_commands.specs.Commands.{IsAudited, IsCertified, IsChecked, IsPlanned, IsRun, IsTabled}
 use Rattle.text_commands.specs.Outcomes.{is_well}
 use Rattle.text_commands.specs.declared.fault.InputError.{InputError}
@@ -26,8 +31,11 @@ use Rattle.camkes_tool.specs.Statuses.{HasFault, IsSound, IsStatus, IsStatusOf, 
 use Rattle.camkes_tool.specs.declared.answer.Answer.{Answer}
 use Rattle.camkes_tool.specs.declared.answer.Answer.TheVariants.{Compiled, Listed, Explained, Told, Faulted, Refused, Usage, ReadFault, NoMemory}
 
+built_sound : (m : Contents) (root : List ℕ) (b : Build) → IsBuildOf root (Some m) b → IsSound m root
+built_sound m root b is = (b.front.source, is.front.loaded, ap (first_fault b.front.source) (sym is.told.told) ∙ is.clean)
+
 of_root : (m : Contents) (root base : List ℕ) (old new : List ℕ → ℕ) (a : Answer) (status : ℕ) → FitsRoot root base (Some m) old new a → NoneRose old new → status ≡ status_of a → IsStatusOf m root status
-of_root m root base old new (Compiled name spec) status x none e = inl (e, (x.1.0, x.1.1, x.1.2))
+of_root m root base old new (Compiled names b) status x none e = inl (e, built_sound m root b x.1)
 of_root m root base old new (Faulted file fault) status x none e = inr (inl (e, (fault, file, x)))
 of_root m root base old new (Listed o) status x none e = absurd x
 of_root m root base old new (Explained o) status x none e = absurd x
@@ -38,7 +46,7 @@ of_root m root base old new (ReadFault file) status x none e = absurd (none file
 of_root m root base old new NoMemory status x none e = inr (inr e)
 
 of_usage : (m : Contents) (old new : List ℕ → ℕ) (a : Answer) (status : ℕ) → FitsAsked None (Some m) old new a → status ≡ status_of a → IsStatus m old new None status
-of_usage m old new (Compiled name spec) status x e = absurd x
+of_usage m old new (Compiled names b) status x e = absurd x
 of_usage m old new (Listed o) status x e = absurd x
 of_usage m old new (Explained o) status x e = absurd x
 of_usage m old new (Told outcome) status x e = absurd x
@@ -53,7 +61,7 @@ of_texts asked (Told outcome) status none x e = inl (outcome, x, e)
 of_texts asked (Refused file fault) status none x e = inr (inl (fault, file, x, e))
 of_texts asked (ReadFault file) status none x e = absurd (none file x)
 of_texts asked NoMemory status none x e = inr (inr e)
-of_texts asked (Compiled name spec) status none x e = absurd x
+of_texts asked (Compiled names b) status none x e = absurd x
 of_texts asked (Listed o) status none x e = absurd x
 of_texts asked (Explained o) status none x e = absurd x
 of_texts asked (Faulted file fault) status none x e = absurd x
@@ -65,7 +73,7 @@ of_listed asked (Listed o) status none x e = inl (o, x, e)
 of_listed asked (Faulted file fault) status none x e = inr (inl (fault, file, x, e))
 of_listed asked (ReadFault file) status none x e = absurd (none file x)
 of_listed asked NoMemory status none x e = inr (inr e)
-of_listed asked (Compiled name spec) status none x e = absurd x
+of_listed asked (Compiled names b) status none x e = absurd x
 of_listed asked (Explained o) status none x e = absurd x
 of_listed asked (Told outcome) status none x e = absurd x
 of_listed asked (Refused file fault) status none x e = absurd x
@@ -77,7 +85,7 @@ of_explained asked (Explained o) status none x e = inl (o, x, e)
 of_explained asked (Faulted file fault) status none x e = inr (inl (fault, file, x, e))
 of_explained asked (ReadFault file) status none x e = absurd (none file x)
 of_explained asked NoMemory status none x e = inr (inr e)
-of_explained asked (Compiled name spec) status none x e = absurd x
+of_explained asked (Compiled names b) status none x e = absurd x
 of_explained asked (Listed o) status none x e = absurd x
 of_explained asked (Told outcome) status none x e = absurd x
 of_explained asked (Refused file fault) status none x e = absurd x
@@ -111,7 +119,9 @@ exact_status m words old new answer status sink left before now fits tells none 
 ]
 
 pub sound_or_faulty : (m : Contents) (root : List ℕ) → IsSound m root → ¬ HasFault m root
-sound_or_faulty m root sound fault = none_faulted first_fault m root sound.0 fault.0 fault.1 sound.1 sound.2 fault.2
+sound_or_faulty m root sound fault =
+    let s = sound.0 in
+    none_first m root s (found_in m (tables_beside s)) fault.0 fault.1 sound.1 (record { count = length-map (tables_beside s) (λ name. found_bytes (get m name)); told = refl }) sound.2 fault.2
 
 -- ---- the usage line
 
@@ -124,7 +134,7 @@ texts_not_two asked (Told outcome) x e = not_two (is_well outcome) e
 texts_not_two asked (Refused file fault) x e = cc
 texts_not_two asked (ReadFault file) x e = cc
 texts_not_two asked NoMemory x e = cc
-texts_not_two asked (Compiled name spec) x e = absurd x
+texts_not_two asked (Compiled names b) x e = absurd x
 texts_not_two asked (Listed o) x e = absurd x
 texts_not_two asked (Explained o) x e = absurd x
 texts_not_two asked (Faulted file fault) x e = absurd x
@@ -135,7 +145,7 @@ listed_not_two asked (Listed o) x e = cc
 listed_not_two asked (Faulted file fault) x e = cc
 listed_not_two asked (ReadFault file) x e = cc
 listed_not_two asked NoMemory x e = cc
-listed_not_two asked (Compiled name spec) x e = absurd x
+listed_not_two asked (Compiled names b) x e = absurd x
 listed_not_two asked (Explained o) x e = absurd x
 listed_not_two asked (Told outcome) x e = absurd x
 listed_not_two asked (Refused file fault) x e = absurd x
@@ -146,7 +156,7 @@ explained_not_two asked (Explained o) x e = not_two (is_assigned o) e
 explained_not_two asked (Faulted file fault) x e = cc
 explained_not_two asked (ReadFault file) x e = cc
 explained_not_two asked NoMemory x e = cc
-explained_not_two asked (Compiled name spec) x e = absurd x
+explained_not_two asked (Compiled names b) x e = absurd x
 explained_not_two asked (Listed o) x e = absurd x
 explained_not_two asked (Told outcome) x e = absurd x
 explained_not_two asked (Refused file fault) x e = absurd x
@@ -154,7 +164,7 @@ explained_not_two asked Usage x e = absurd x
 
 unread : (m : Contents) (asked : Option Command) (old new : List ℕ → ℕ) (a : Answer) → FitsAsked asked (Some m) old new a → 2 ≡ status_of a → asked ≡ None
 unread m None old new a x e = refl
-unread m (Some (Compile root base)) old new (Compiled name spec) x e = absurd cc
+unread m (Some (Compile root base)) old new (Compiled names b) x e = absurd cc
 unread m (Some (Compile root base)) old new (Faulted file fault) x e = absurd cc
 unread m (Some (Compile root base)) old new (Listed o) x e = absurd x
 unread m (Some (Compile root base)) old new (Explained o) x e = absurd x

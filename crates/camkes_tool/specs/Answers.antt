@@ -1,24 +1,20 @@
 -- When each answer comes, and what it does to the outputs.
-use Rattle.std.specs.Prelude.{◌≡◌, ◌≤◌, ◌⊎◌, ℕ, Bool, true, false, if◌then◌else◌, List, [], ◌∷◌, ◌++◌, Option, None, Some, Result, Ok, Err, codes, string_bytes}
+use Rattle.std.specs.Prelude.{◌≡◌, ◌≤◌, ◌⊎◌, ℕ, Bool, true, false, if◌then◌else◌, List, [], ◌∷◌, Option, None, Some, Result, Ok, Err}
 use Rattle.cam_base.specs.declared.place.Fault.{Fault}
 use Rattle.cam_io.specs.Causes.{Rose}
 use Rattle.cam_io.specs.Contents.{Contents}
 use Rattle.cam_io.specs.Sinks.{Sink}
-use Rattle.cam_io.specs.Scripts.{Act, Begin, Write, after, CutShort}
-use Rattle.adl_ast.specs.declared.source.Source.{Source}
-use Rattle.adl_import.specs.Loaded.{IsLoaded}
-use Rattle.adl_import.specs.declared.error.LoadError.TheVariants as error
-use Rattle.arch_compile.specs.Compiled.{IsFaulted}
-use Rattle.arch_compile.specs.First.{first_fault}
-use Rattle.arch_compile.specs.Laid.{IsSpecOf}
-use Rattle.cap_model.specs.Canonical.{canonical}
-use Rattle.cap_model.specs.declared.spec.Spec.{Spec}
+use Rattle.cam_io.specs.Scripts.{Act, Write, after, CutShort}
+use Rattle.arch_compile.specs.Built.{IsBuildOf}
+use Rattle.arch_compile.specs.Compiled.{IsFirstFault, IsUnread}
+use Rattle.arch_compile.specs.declared.building.Build.{Build}
+use Rattle.build_texts.specs.BuildTexts.{AreNamedBy, texts_script}
 use Rattle.command_words.specs.Lines.{usage_line}
 use Rattle.command_words.specs.Words.{read_words}
 use Rattle.command_words.specs.declared.command.Command.{Command}
 use Rattle.command_words.specs.declared.command.Command.TheVariants.{Compile, Check, List as ListOf, Explain, Replay, Audit, Certify, Sections, Plan}
-use Rattle.arch_compile.specs.declared.error.BuildError.{BuildError}
-use Rattle.arch_compile.specs.declared.error.BuildError.TheVariants as build
+use Rattle.front_end.specs.declared.error.BuildError.{BuildError}
+use Rattle.front_end.specs.declared.error.BuildError.TheVariants as build
 use Rattle.reason_lines.specs.Answers.{answer_text, is_assigned}
 use Rattle.source_commands.specs.Explained.{IsExplained}
 use Rattle.reason_lines.specs.declared.answer.Answer.{Answer as Reply}
@@ -39,24 +35,21 @@ use Rattle.camkes_tool.specs.declared.answer.Answer.TheVariants.{Compiled, Liste
 -- there is one such answer, aside from read faults and want of memory (`answers_are_one` in src/laws.rt), so each comes
 -- exactly where it says.
 abbrev pub FitsRoot : List ℕ → List ℕ → Option Contents → (List ℕ → ℕ) → (List ℕ → ℕ) → Answer → Type 0
-FitsRoot root base contents before now (Compiled name spec) =
-    (string_bytes name ≡ base ++ codes ".cdl")
-    × ((source : Source) × IsLoaded contents root (Ok source) × (first_fault source ≡ None) × IsSpecOf source spec)
-FitsRoot root base contents before now (Faulted file fault) = IsFaulted first_fault root contents fault file
+FitsRoot root base contents before now (Compiled names b) = AreNamedBy base names × IsBuildOf root contents b
+FitsRoot root base contents before now (Faulted file fault) = IsFirstFault root contents fault file
 FitsRoot root base contents before now (Listed listing) = ⊥
 FitsRoot root base contents before now (Explained answer) = ⊥
 FitsRoot root base contents before now (Told outcome) = ⊥
 FitsRoot root base contents before now (Refused file fault) = ⊥
 FitsRoot root base contents before now Usage = ⊥
-FitsRoot root base contents before now (ReadFault file) =
-    IsLoaded contents root (Err (error.ReadFault file)) × Rose (before file) (now file)
+FitsRoot root base contents before now (ReadFault file) = IsUnread root contents file × Rose (before file) (now file)
 FitsRoot root base contents before now NoMemory = Unit {0}
 
 -- words that are no command are answered by the usage line, but for want of memory
 abbrev pub IsUsage : Answer → Type 0
 IsUsage Usage = Unit {0}
 IsUsage NoMemory = Unit {0}
-IsUsage (Compiled name spec) = ⊥
+IsUsage (Compiled names b) = ⊥
 IsUsage (Listed listing) = ⊥
 IsUsage (Explained answer) = ⊥
 IsUsage (Told outcome) = ⊥
@@ -70,7 +63,7 @@ FitsTexts asked (Told outcome) = asked (Ok outcome)
 FitsTexts asked (Refused file fault) = asked (Err (input.Fault fault file))
 FitsTexts asked (ReadFault file) = asked (Err (input.ReadFault file))
 FitsTexts asked NoMemory = Unit {0}
-FitsTexts asked (Compiled name spec) = ⊥
+FitsTexts asked (Compiled names b) = ⊥
 FitsTexts asked (Listed listing) = ⊥
 FitsTexts asked (Explained answer) = ⊥
 FitsTexts asked (Faulted file fault) = ⊥
@@ -81,7 +74,7 @@ abbrev pub FitsRefused : (BuildError → Type 0) → Answer → Type 0
 FitsRefused refused (Faulted file fault) = refused (build.Fault fault file)
 FitsRefused refused (ReadFault file) = refused (build.ReadFault file)
 FitsRefused refused NoMemory = Unit {0}
-FitsRefused refused (Compiled name spec) = ⊥
+FitsRefused refused (Compiled names b) = ⊥
 FitsRefused refused (Listed listing) = ⊥
 FitsRefused refused (Explained answer) = ⊥
 FitsRefused refused (Told outcome) = ⊥
@@ -129,7 +122,7 @@ Fits words = FitsAsked (read_words words)
 
 -- the status, which is 5 where an output failed
 abbrev pub status_of : Answer → ℕ
-status_of (Compiled name spec) = 0
+status_of (Compiled names b) = 0
 status_of (Listed listing) = 0
 status_of (Explained answer) = if is_assigned answer then 0 else 3
 status_of (Told outcome) = if is_well outcome then 0 else 3
@@ -139,9 +132,9 @@ status_of Usage = 2
 status_of (ReadFault file) = 4
 status_of NoMemory = 6
 
--- the name and the spec of an answer that writes one
-abbrev pub compiled_as : Answer → Option (List ℕ × Spec)
-compiled_as (Compiled name spec) = Some (string_bytes name, spec)
+-- the build of an answer that writes one
+abbrev pub compiled_as : Answer → Option Build
+compiled_as (Compiled names b) = Some b
 compiled_as _ = None
 
 -- what an answer says on standard output
@@ -158,7 +151,7 @@ faulted_as _ = None
 
 -- whether an answer may come in place of another: a read fault, or want of memory
 abbrev pub yields : Answer → Bool
-yields (Compiled name spec) = false
+yields (Compiled names b) = false
 yields (Listed listing) = false
 yields (Explained answer) = false
 yields (Told outcome) = false
@@ -170,7 +163,7 @@ yields NoMemory = true
 
 -- what is done
 abbrev pub script : Answer → List Act
-script (Compiled name spec) = Begin 2 (string_bytes name) ∷ Write 2 (canonical spec) ∷ []
+script (Compiled names b) = texts_script names b
 script (Listed listing) = Write 0 (listing_text listing) ∷ []
 script (Explained answer) = Write 0 (answer_text answer) ∷ []
 script (Told outcome) = Write 0 (text_of outcome) ∷ []
@@ -180,7 +173,7 @@ script Usage = Write 1 usage_line ∷ []
 script (ReadFault file) = Write 1 (read_fault_line file) ∷ []
 script NoMemory = Write 1 no_memory_line ∷ []
 
--- Two answers are one: they have one status and one script, and write one spec under one name or name one fault.
+-- Two answers are one: they have one status and one script, and write one build or name one fault.
 pub record AreOne (a b : Answer) : Type 0 where
   pub status : status_of a ≡ status_of b
   pub script : script a ≡ script b

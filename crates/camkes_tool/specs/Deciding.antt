@@ -1,24 +1,25 @@
--- The answer that a spec gives under a base, that of a command over texts, and that of a refusal.
-use Rattle.std.specs.Prelude.{◌≡◌, ℕ, List, ◌++◌, Result, Ok, Err, codes, string_bytes}
-use Rattle.cap_model.specs.declared.spec.Spec.{Spec}
-use Rattle.arch_compile.specs.declared.error.BuildError.{BuildError}
-use Rattle.arch_compile.specs.declared.error.BuildError.TheVariants as build
+-- The answer that a build gives under a base, that of a command over texts, and that of a refusal.
+use Rattle.std.specs.Prelude.{◌≡◌, ℕ, List, Result, Ok, Err}
+use Rattle.arch_compile.specs.declared.building.Build.{Build}
+use Rattle.build_texts.specs.BuildTexts.{AreNamedBy}
+use Rattle.front_end.specs.declared.error.BuildError.{BuildError}
+use Rattle.front_end.specs.declared.error.BuildError.TheVariants as build
 use Rattle.text_commands.specs.declared.fault.InputError.{InputError}
 use Rattle.text_commands.specs.declared.fault.InputError.TheVariants as input
 use Rattle.text_commands.specs.declared.outcome.Outcome.{Outcome}
 use Rattle.camkes_tool.specs.declared.answer.Answer.{Answer}
 use Rattle.camkes_tool.specs.declared.answer.Answer.TheVariants.{Compiled, Listed, Explained, Told, Faulted, Refused, Usage, ReadFault, NoMemory}
 
-abbrev pub IsWrittenAs : List ℕ → Spec → Answer → Type 0
-IsWrittenAs base spec (Compiled name s) = (string_bytes name ≡ base ++ codes ".cdl") × (s ≡ spec)
-IsWrittenAs base spec (Listed listing) = ⊥
-IsWrittenAs base spec (Explained answer) = ⊥
-IsWrittenAs base spec (Told outcome) = ⊥
-IsWrittenAs base spec (Faulted file fault) = ⊥
-IsWrittenAs base spec (Refused file fault) = ⊥
-IsWrittenAs base spec Usage = ⊥
-IsWrittenAs base spec (ReadFault file) = ⊥
-IsWrittenAs base spec NoMemory = Unit {0}
+abbrev pub IsWrittenAs : List ℕ → Build → Answer → Type 0
+IsWrittenAs base made (Compiled names b) = AreNamedBy base names × (b ≡ made)
+IsWrittenAs base made (Listed listing) = ⊥
+IsWrittenAs base made (Explained answer) = ⊥
+IsWrittenAs base made (Told outcome) = ⊥
+IsWrittenAs base made (Faulted file fault) = ⊥
+IsWrittenAs base made (Refused file fault) = ⊥
+IsWrittenAs base made Usage = ⊥
+IsWrittenAs base made (ReadFault file) = ⊥
+IsWrittenAs base made NoMemory = Unit {0}
 
 abbrev pub told : Result Outcome InputError → Answer
 told (Ok outcome) = Told outcome

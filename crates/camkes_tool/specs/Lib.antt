@@ -3,6 +3,7 @@ pub mod Channels
 pub mod Deciding
 pub mod Lines
 pub mod Statuses
+pub mod Theorem
 pub use Rattle.cam_io.specs.Causes
 pub use Rattle.cam_io.specs.Contents
 pub use Rattle.cam_io.specs.Reading

@@ -8,15 +8,16 @@ use Rattle.cam_io.specs.Causes.{Rose}
 use Rattle.cam_io.specs.Contents.{Contents}
 use Rattle.adl_ast.specs.declared.source.Source.{Source}
 use Rattle.adl_import.specs.Loaded.{IsLoaded}
-use Rattle.arch_compile.specs.Compiled.{IsFaulted}
-use Rattle.arch_compile.specs.First.{first_fault}
+use Rattle.arch_compile.specs.Compiled.{IsFirstFault}
+use Rattle.arch_compile.specs.LayoutFaults.{first_fault, tables_beside}
 use Rattle.command_words.specs.declared.command.Command.{Command}
 use Rattle.command_words.specs.declared.command.Command.TheVariants.{Compile, Check, List as ListOf, Explain, Replay, Audit, Certify, Sections, Plan}
-use Rattle.arch_compile.specs.declared.error.BuildError.{BuildError}
-use Rattle.arch_compile.specs.declared.error.BuildError.TheVariants as build
+use Rattle.front_end.specs.declared.error.BuildError.{BuildError}
+use Rattle.front_end.specs.declared.error.BuildError.TheVariants as build
 use Rattle.reason_lines.specs.Answers.{is_assigned}
 use Rattle.source_commands.specs.Explained.{IsExplained}
 use Rattle.source_commands.specs.Listed.{IsListed}
+use Rattle.source_images.specs.Found.{found_in}
 use Rattle.text_commands.specs.Commands.{IsAudited, IsCertified, IsChecked, IsPlanned, IsRun, IsTabled}
 use Rattle.text_commands.specs.Outcomes.{is_well}
 use Rattle.text_commands.specs.declared.fault.InputError.{InputError}
@@ -28,13 +29,14 @@ use Rattle.text_commands.specs.declared.outcome.Outcome.{Outcome}
 abbrev pub NoneRose : (List ℕ → ℕ) → (List ℕ → ℕ) → Type 0
 NoneRose before now = (file : List ℕ) → ¬ Rose (before file) (now file)
 
--- the root's source is loaded, and no fault stands in it
+-- the root's source is loaded, and no fault stands in it or in its section tables
 abbrev pub IsSound : Contents → List ℕ → Type 0
-IsSound m root = (source : Source) × IsLoaded (Some m) root (Ok source) × (first_fault source ≡ None)
+IsSound m root =
+    (source : Source) × IsLoaded (Some m) root (Ok source) × (first_fault source (found_in m (tables_beside source)) ≡ None)
 
--- a fault stands in the root's source: in the turn of one of its files, or in the source that is loaded
+-- a fault stands in the root's source: in the turn of one of its files, or in the source that is loaded, or in its section tables
 abbrev pub HasFault : Contents → List ℕ → Type 0
-HasFault m root = (fault : Fault) × (file : List ℕ) × IsFaulted first_fault root (Some m) fault file
+HasFault m root = (fault : Fault) × (file : List ℕ) × IsFirstFault root (Some m) fault file
 
 -- the status, and why it is this one
 abbrev pub IsStatusOf : Contents → List ℕ → ℕ → Type 0

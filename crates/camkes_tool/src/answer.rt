@@ -1,5 +1,6 @@
+use arch_compile::Build;
+use build_texts::TextNames;
 use cam_base::{Fault, Text};
-use cap_model::Spec;
 use reason_lines::Answer as Reply;
 use source_commands::Listing;
 use text_commands::{InputFault, Outcome};
@@ -7,8 +8,8 @@ use text_commands::{InputFault, Outcome};
 /// What a command has to say, before it says it.
 #[derive(Drop)]
 pub enum Answer {
-    /// The capDL of the source, to be written under this name.
-    Compiled { name: String, spec: Spec },
+    /// What is made of the source, to be written under these names.
+    Compiled { names: TextNames, build: Build },
     /// The labels of a source's system and its assigned edges.
     Listed { listing: Listing },
     /// Why a triple is assigned, or that it isn't.

@@ -9,8 +9,8 @@ ghost use Rattle.std.specs.Prelude.{◌≡◌};
 ghost use Rattle.text_commands.specs.Commands.{IsAudited, IsCertified, IsChecked, IsPlanned, IsRun, IsTabled};
 
 use crate::Answer;
-use arch_compile::BuildError;
 use cam_io::Files;
+use front_end::BuildError;
 use reason_lines::Question;
 use source_commands::{explain, list};
 use std::alloc::Global;
@@ -49,7 +49,7 @@ pub fn explained<F: Files>(
 }
 
 /// The answer where a source is refused.
-fn refused(error: BuildError) -> Answer
+pub fn refused(error: BuildError) -> Answer
     ensures { result ≡ refused error }
 {
     match error {

@@ -2,14 +2,16 @@ ghost use Rattle.cam_io.specs.Reading.{KeepsFiles};
 ghost use Rattle.camkes_tool.specs.Answers.{Fits, FitsAsked, FitsRoot};
 ghost use Rattle.camkes_tool.specs.Deciding.{IsWrittenAs};
 ghost use Rattle.command_words.specs.Words.{AreUtf8};
-ghost use Rattle.std.specs.Prelude.{◌≡◌, ◌++◌, Some, codes, map, string_bytes, IfOk};
+ghost use Rattle.std.specs.Prelude.{Some, map, string_bytes};
 
 use crate::Answer;
-use crate::asking::{audited, certified, checked, explained, listed, planned, replayed, tabled};
-use arch_compile::{BuildError, compile};
+use crate::asking::{
+    audited, certified, checked, explained, listed, planned, refused, replayed, tabled,
+};
+use arch_compile::{Build, compile};
+use build_texts::TextNames;
 use cam_base::NoMemory;
 use cam_io::Files;
-use cap_model::Spec;
 use command_words::{Command, WordsError, as_name, read_words};
 use reason_lines::Question;
 use std::alloc::Global;
@@ -77,27 +79,16 @@ fn answer<F: Files>(alloc: Global, root: &str, base: &str, files: &mut F) -> Ans
     ensures fits { FitsRoot root.now base.now (F.contents files.old) (F.faults files.old) (F.faults files.new) result }
 {
     match compile(alloc, files, root) {
-        Ok(build) => written_as(alloc, base, build.spec),
-        Err(BuildError::Fault(fault, file)) => Answer::Faulted { file, fault },
-        Err(BuildError::ReadFault(file)) => Answer::ReadFault { file },
-        Err(BuildError::NoMemory) => Answer::NoMemory,
+        Ok(build) => written_as(alloc, base, build),
+        Err(error) => refused(error),
     }
 }
 
-fn written_as(alloc: Global, base: &str, spec: Spec) -> Answer
-    ensures { IsWrittenAs base.now spec result }
+fn written_as(alloc: Global, base: &str, build: Build) -> Answer
+    ensures { IsWrittenAs base.now build result }
 {
-    match cdl_name(alloc, base) {
-        Ok(name) => Answer::Compiled { name, spec },
+    match TextNames::of(alloc, base) {
+        Ok(names) => Answer::Compiled { names, build },
         Err(NoMemory) => Answer::NoMemory,
     }
-}
-
-/// `BASE.cdl`
-fn cdl_name(alloc: Global, base: &str) -> Result<String, NoMemory>
-    ensures { IfOk result (λ name. string_bytes name ≡ base.now ++ codes ".cdl") }
-{
-    let mut name = String::from_str(alloc, base)?;
-    name.push_str(".cdl")?;
-    Ok(name)
 }

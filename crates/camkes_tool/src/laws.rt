@@ -1,16 +1,19 @@
 //! What follows from when answers come and how they are told.
 
+ghost use Rattle.arch_compile.specs.declared.building.Build.{Build};
+ghost use Rattle.build_texts.specs.BuildTexts.{texts_script};
+ghost use Rattle.build_texts.specs.declared.names.TextNames.{TextNames};
 ghost use Rattle.cam_io.specs.Causes.{Rose};
 ghost use Rattle.cam_io.specs.Contents.{Contents};
-ghost use Rattle.cam_io.specs.Sinks.{IsCut, Sink, appended, with_begun};
-ghost use Rattle.cap_model.specs.Canonical.{canonical};
-ghost use Rattle.cap_model.specs.declared.spec.Spec.{Spec};
-ghost use Rattle.camkes_tool.specs.Answers.{AreOne, Fits, IsCompiling, Tells, compiled_as, said_as, yields};
+ghost use Rattle.cam_io.specs.Scripts.{CutShort, after};
+ghost use Rattle.cam_io.specs.Sinks.{IsCut, Sink, appended};
+ghost use Rattle.camkes_tool.specs.Answers.{AreOne, Fits, IsCompiling, Tells, said_as, yields};
 ghost use Rattle.camkes_tool.specs.Channels.{IsAsBefore};
 ghost use Rattle.camkes_tool.specs.Statuses.{HasFault, IsSound, IsStatus, NoneRose};
 ghost use Rattle.camkes_tool.specs.declared.answer.Answer.{Answer};
+ghost use Rattle.camkes_tool.specs.declared.answer.Answer.TheVariants.{Compiled};
 ghost use Rattle.command_words.specs.Words.{read_words};
-ghost use Rattle.std.specs.Prelude.{◌≡◌, ◌≢◌, ◌≤◌, ◌⊎◌, ℕ, false, List, None, Some};
+ghost use Rattle.std.specs.Prelude.{◌≡◌, ◌≢◌, ◌<◌, ◌≤◌, ◌⊎◌, ℕ, false, List, None, Some};
 
 /// For the same words and contents there is one answer of `compile`, and of words that are no command, aside from failed reads
 /// and want of memory: two calls that end with a status up to 3 end with the same status, and leave outputs that were the same
@@ -49,24 +52,23 @@ pub fn refusals_touch_one_channel_alone()
         → (channel : ℕ) → channel ≢ 0 → IsAsBefore channel old new }
 {}
 
-/// With status 0 channel 2 is begun under a name, the whole text of a spec stands on it, and nothing else is touched; or the
-/// whole text of what a command found stands on standard output, and nothing else is touched.
+/// With status 0 the channels of the four texts of a build are begun under its names, the whole texts stand on them and the
+/// summary on standard output, and nothing else is touched; or the whole text of what a command found stands on standard output,
+/// and nothing else is touched.
 pub fn success_writes_a_whole_text()
     ensures { (answer : Answer) (old new : Sink) (before now : ℕ) → Tells answer 0 old new before now
-        → ((name : List ℕ) × (spec : Spec) × (compiled_as answer ≡ Some (name, spec))
-        × (new ≡ appended (with_begun old 2 name) 2 (canonical spec)))
+        → ((names : TextNames) × (b : Build) × (answer ≡ Compiled names b) × (new ≡ after old (texts_script names b)))
         ⊎ ((text : List ℕ) × (said_as answer ≡ Some text) × (new ≡ appended old 0 text)) }
 {}
 
-/// With status 5 the outputs' count rose, and nothing but standard output, standard error and channel 2 is touched. Where a
-/// spec was to be written, either all is as it was, or channel 2 is begun under its name, and a front of its text stands on it.
-/// Where there was something to say on standard output, a front of it stands there.
+/// With status 5 the outputs' count rose, and nothing but standard output, standard error and the channels 2 to 5 is touched.
+/// Where a build was to be written, its texts were cut short. Where there was something to say on standard output, a front of it
+/// stands there.
 pub fn failures_have_a_cause()
     ensures cause { (answer : Answer) (old new : Sink) (before now : ℕ) → Tells answer 5 old new before now
-        → Rose before now × ((channel : ℕ) → channel ≢ 0 → channel ≢ 1 → channel ≢ 2 → IsAsBefore channel old new) }
+        → Rose before now × ((channel : ℕ) → 5 < channel → IsAsBefore channel old new) }
     ensures said { (answer : Answer) (old new : Sink) (before now : ℕ) (text : List ℕ)
         → Tells answer 5 old new before now → said_as answer ≡ Some text → IsCut old 0 text new }
-    ensures front { (answer : Answer) (old new : Sink) (before now : ℕ) (name : List ℕ) (spec : Spec)
-        → Tells answer 5 old new before now → compiled_as answer ≡ Some (name, spec)
-        → (new ≡ old) ⊎ IsCut (with_begun old 2 name) 2 (canonical spec) new }
+    ensures front { (answer : Answer) (old new : Sink) (before now : ℕ) (names : TextNames) (b : Build)
+        → Tells answer 5 old new before now → answer ≡ Compiled names b → CutShort old (texts_script names b) new }
 {}

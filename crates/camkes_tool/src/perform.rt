@@ -1,14 +1,15 @@
+ghost use Rattle.build_texts.specs.BuildTexts.{AreUnbegun};
 ghost use Rattle.cam_base.specs.Texts.{together};
 ghost use Rattle.cam_io.specs.Scripts.{Acts};
 ghost use Rattle.cam_io.specs.Sinks.{Writes};
 ghost use Rattle.camkes_tool.specs.Answers.{script};
 ghost use Rattle.camkes_tool.specs.Lines.{fault_line, read_fault_line, space_before};
-ghost use Rattle.std.specs.Prelude.{◌≡◌, ◌∷◌, [], false, codes};
+ghost use Rattle.std.specs.Prelude.{◌≡◌, ◌∷◌, [], codes};
 
 use crate::Answer;
+use build_texts::write_texts;
 use cam_base::Fault;
 use cam_io::{Failed, Outputs, write_all, write_parts};
-use capdl_write::write_spec;
 use command_words::usage_line;
 use itoa::Buffer;
 use source_commands::write_listing;
@@ -16,14 +17,11 @@ use text_commands::write_fault as write_refusal;
 
 /// Does what the answer says. Takes no memory.
 pub fn perform<O: Outputs>(answer: &Answer, out: &mut O) -> Result<(), Failed>
-    requires { (O.sink out.old).begun 2 ≡ false }
+    requires { AreUnbegun (O.sink out.old) }
     ensures { Acts (script answer.now) result (O.sink out.old) (O.sink out.new) (O.faults out.old) (O.faults out.new) }
 {
     match answer {
-        Answer::Compiled { name, spec } => {
-            out.begin(2, name.as_str())?;
-            write_spec(spec, out, 2)
-        }
+        Answer::Compiled { names, build } => write_texts(names, build, out),
         Answer::Listed { listing } => write_listing(listing, out, 0),
         Answer::Explained { answer } => answer.write(out, 0),
         Answer::Told { outcome } => outcome.write(out, 0),

@@ -1,7 +1,11 @@
+ghost use Rattle.build_texts.specs.BuildTexts.{AreUnbegun};
 ghost use Rattle.cam_io.specs.Reading.{KeepsFiles};
 ghost use Rattle.camkes_tool.specs.Answers.{Fits, Tells, status_of};
+ghost use Rattle.camkes_tool.specs.Theorem.{IsSafe, IsWritten};
 ghost use Rattle.camkes_tool.specs.declared.answer.Answer.{Answer};
-ghost use Rattle.std.specs.Prelude.{◌≡◌, ◌≤◌, false, if◌then◌else◌, ℕ, map, string_bytes};
+ghost use Rattle.command_words.specs.Words.{read_words};
+ghost use Rattle.command_words.specs.declared.command.Command.TheVariants.{Check, Compile};
+ghost use Rattle.std.specs.Prelude.{◌≡◌, ℕ, List, Some, if◌then◌else◌, map, string_bytes};
 
 use crate::Answer;
 use crate::decide::decide;
@@ -35,17 +39,30 @@ fn status_of(answer: &Answer) -> u8
 /// be begun. Takes no memory from the first begin on.
 ///
 /// There is an answer that fits the words and the files, and either it was told whole, or the status is 5 and it was
-/// cut short: `specs/Answers.antt`.
+/// cut short: `specs/Answers.antt`. What is compiled lets threads reach exactly what the source assigns, and a yes of the
+/// checker holds over every interleaving of steps: `specs/Theorem.antt`.
 pub fn run<F: Files, O: Outputs>(alloc: Global, words: &[String], files: &mut F, out: &mut O) -> u8
-    requires { (k : ℕ) → 2 ≤ k → k ≤ 5 → (O.sink out.old).begun k ≡ false }
+    requires { AreUnbegun (O.sink out.old) }
     ensures kept { KeepsFiles F.contents F.faults files.old files.new }
     ensures told { (answer : Answer)
         × Fits (map string_bytes words.now) (F.contents files.old) (F.faults files.old) (F.faults files.new) answer
         × Tells answer result (O.sink out.old) (O.sink out.new) (O.faults out.old) (O.faults out.new) }
+    ensures compiled { (root base : List ℕ) → read_words (map string_bytes words.now) ≡ Some (Compile root base) → result ≡ 0
+        → IsWritten (F.contents files.old) root base (O.sink out.old) (O.sink out.new) }
+    ensures checked { (cdl policy cert : List ℕ) → read_words (map string_bytes words.now) ≡ Some (Check cdl policy cert)
+        → result ≡ 0 → IsSafe (F.contents files.old) cdl policy }
 {
     let answer = decide(alloc, words, files);
-    match perform(&answer, out) {
-        Ok(()) => status_of(&answer),
+    tell(&answer, out)
+}
+
+/// Does what the answer says, and answers the status.
+fn tell<O: Outputs>(answer: &Answer, out: &mut O) -> u8
+    requires { AreUnbegun (O.sink out.old) }
+    ensures { Tells answer.now result (O.sink out.old) (O.sink out.new) (O.faults out.old) (O.faults out.new) }
+{
+    match perform(answer, out) {
+        Ok(()) => status_of(answer),
         Err(Failed) => 5,
     }
 }

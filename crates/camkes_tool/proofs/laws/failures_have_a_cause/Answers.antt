@@ -1,35 +1,46 @@
-use Rattle.std.proofs.Common.{◌≡◌, ◌≢◌, ◌⊎◌, ℕ, Bool, true, false, cond, List, [], ◌∷◌, Some, inl, inr, subst}
-use Rattle.std.specs.Prelude.{string_bytes}
+use Rattle.std.proofs.Common.{◌≡◌, ◌≢◌, ◌<◌, ◌≤◌, ℕ, Bool, true, false, cond, List, [], ◌∷◌, Some, inl, inr, subst, arith}
+use Rattle.arch_compile.specs.declared.building.Build.{Build}
+use Rattle.build_texts.specs.BuildTexts.{texts_script}
+use Rattle.build_texts.specs.declared.names.TextNames.{TextNames}
 use Rattle.cam_io.specs.Scripts.{CutShort, Write}
-use Rattle.cam_io.specs.Sinks.{IsCut, Sink, with_begun}
-use Rattle.cap_model.specs.Canonical.{canonical}
-use Rattle.cap_model.specs.declared.spec.Spec.{Spec}
+use Rattle.cam_io.specs.Sinks.{IsCut, Sink}
 use Rattle.reason_lines.specs.Answers.{answer_text, is_assigned}
 use Rattle.source_commands.specs.Listed.{listing_text}
 use Rattle.text_commands.specs.Outcomes.{is_well, text_of}
-use Rattle.camkes_tool.specs.Answers.{compiled_as, script, status_of, said_as}
+use Rattle.camkes_tool.specs.Answers.{script, status_of, said_as}
 use Rattle.camkes_tool.specs.declared.answer.Answer.{Answer}
 use Rattle.camkes_tool.specs.declared.answer.Answer.TheVariants.{Compiled, Listed, Explained, Told, Faulted, Refused, Usage, ReadFault, NoMemory}
 use Rattle.camkes_tool.proofs.Leaving.{Spares, cut_spared}
 use Rattle.camkes_tool.proofs.laws.failures_have_a_cause.Goals as goal
 
-spares : (a : Answer) (k : ℕ) → k ≢ 0 → k ≢ 1 → k ≢ 2 → Spares k (script a)
-spares (Compiled name spec) k z m n = (n, (n, tt))
-spares (Listed o) k z m n = (z, tt)
-spares (Explained o) k z m n = (z, tt)
-spares (Told outcome) k z m n = (z, tt)
-spares (Faulted file fault) k z m n = (m, tt)
-spares (Refused file fault) k z m n = (m, tt)
-spares Usage k z m n = (m, tt)
-spares (ReadFault file) k z m n = (m, tt)
-spares NoMemory k z m n = (m, tt)
+above : (k n : ℕ) → n ≤ 5 → 5 < k → k ≢ n
+above k n l m e = absurd (omega (arith, l, m, e))
+
+build_spares : (k : ℕ) (names : TextNames) (b : Build) → 5 < k → Spares k (texts_script names b)
+build_spares k names b l =
+    let two = above k 2 (omega arith) l in
+    let three = above k 3 (omega arith) l in
+    let four = above k 4 (omega arith) l in
+    let five = above k 5 (omega arith) l in
+    (two, (two, (three, (three, (four, (four, (five, (five, (above k 0 (omega arith) l, tt)))))))))
+
+spares : (a : Answer) (k : ℕ) → 5 < k → Spares k (script a)
+spares (Compiled names b) k l = build_spares k names b l
+spares (Listed o) k l = (above k 0 (omega arith) l, tt)
+spares (Explained o) k l = (above k 0 (omega arith) l, tt)
+spares (Told outcome) k l = (above k 0 (omega arith) l, tt)
+spares (Faulted file fault) k l = (above k 1 (omega arith) l, tt)
+spares (Refused file fault) k l = (above k 1 (omega arith) l, tt)
+spares Usage k l = (above k 1 (omega arith) l, tt)
+spares (ReadFault file) k l = (above k 1 (omega arith) l, tt)
+spares NoMemory k l = (above k 1 (omega arith) l, tt)
 
 five_is_none : (b : Bool) → ◌≡◌ {A = ℕ} 5 (cond b 0 3) → ⊥
 five_is_none true e = cc
 five_is_none false e = cc
 
 not_five : (a : Answer) → 5 ≡ status_of a → ⊥
-not_five (Compiled name spec) e = cc
+not_five (Compiled names b) e = cc
 not_five (Listed o) e = cc
 not_five (Explained o) e = five_is_none (is_assigned o) e
 not_five (Told outcome) e = five_is_none (is_well outcome) e
@@ -42,29 +53,13 @@ not_five NoMemory e = cc
 pub returns-clause-cause : goal.returns-clause-cause
 returns-clause-cause c answer old new before now tells = elim tells.told [
   | inl t ↦ absurd (not_five answer t.0)
-  | inr t ↦ (t.1, λ k z m n. cut_spared k (script answer) old new (spares answer k z m n) t.2)
+  | inr t ↦ (t.1, λ k l. cut_spared k (script answer) old new (spares answer k l) t.2)
 ]
 
--- a text is cut short before it is begun, or behind a front of it
-front : (a : Answer) (old new : Sink) (name : List ℕ) (spec : Spec) → compiled_as a ≡ Some (name, spec) → CutShort old (script a) new → (new ≡ old) ⊎ IsCut (with_begun old 2 name) 2 (canonical spec) new
-front (Compiled n s) old new name spec e (inl same) = inl same
-front (Compiled n s) old new name spec e (inr (inl cut)) =
-    let same : ◌≡◌ {A = List ℕ × Spec} (string_bytes n, s) (name, spec) = cc in
-    inr (subst (λ (z : List ℕ × Spec). IsCut (with_begun old 2 z.0) 2 (canonical z.1) new) same cut)
-front (Compiled n s) old new name spec e (inr (inr none)) = absurd none
-front (Listed o) old new name spec e cut = absurd cc
-front (Explained o) old new name spec e cut = absurd cc
-front (Told outcome) old new name spec e cut = absurd cc
-front (Faulted file fault) old new name spec e cut = absurd cc
-front (Refused file fault) old new name spec e cut = absurd cc
-front Usage old new name spec e cut = absurd cc
-front (ReadFault file) old new name spec e cut = absurd cc
-front NoMemory old new name spec e cut = absurd cc
-
 pub returns-clause-front : goal.returns-clause-front
-returns-clause-front c answer old new before now name spec tells is = elim tells.told [
+returns-clause-front c answer old new before now names b tells is = elim tells.told [
   | inl t ↦ absurd (not_five answer t.0)
-  | inr t ↦ front answer old new name spec is t.2
+  | inr t ↦ subst (λ z. CutShort old (script z) new) is t.2
 ]
 
 some_same : (a b : List ℕ) → Some a ≡ Some b → a ≡ b
@@ -78,7 +73,7 @@ said : (a : Answer) (old new : Sink) (text : List ℕ) → said_as a ≡ Some te
 said (Listed o) old new text e cut = is_said text (listing_text o) old new e cut
 said (Explained o) old new text e cut = is_said text (answer_text o) old new e cut
 said (Told o) old new text e cut = is_said text (text_of o) old new e cut
-said (Compiled n s) old new text e cut = absurd cc
+said (Compiled names b) old new text e cut = absurd cc
 said (Faulted file fault) old new text e cut = absurd cc
 said (Refused file fault) old new text e cut = absurd cc
 said Usage old new text e cut = absurd cc

@@ -13,7 +13,7 @@ zero_or_three true = inl refl
 zero_or_three false = inr refl
 
 spares : (a : Answer) (k : ℕ) → status_of a ≢ 0 → status_of a ≢ 3 → k ≢ 1 → Spares k (script a)
-spares (Compiled name spec) k n t m = absurd (n refl)
+spares (Compiled names b) k n t m = absurd (n refl)
 spares (Listed o) k n t m = absurd (n refl)
 spares (Explained o) k n t m = absurd (⊎_elim n t (zero_or_three (is_assigned o)))
 spares (Told outcome) k n t m = absurd (⊎_elim n t (zero_or_three (is_well outcome)))
@@ -33,7 +33,7 @@ three : (a : Answer) (k : ℕ) → 3 ≡ status_of a → k ≢ 0 → Spares k (s
 three (Explained o) k e n = (n, tt)
 three (Listed o) k e n = (n, tt)
 three (Told outcome) k e n = (n, tt)
-three (Compiled name spec) k e n = absurd cc
+three (Compiled names b) k e n = absurd cc
 three (Faulted file fault) k e n = absurd cc
 three (Refused file fault) k e n = absurd cc
 three Usage k e n = absurd cc

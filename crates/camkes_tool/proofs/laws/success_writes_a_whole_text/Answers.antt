@@ -1,24 +1,24 @@
 use Rattle.std.proofs.Common.{◌≡◌, ◌⊎◌, refl, ℕ, List, Some, inl, inr, arith}
-use Rattle.std.specs.Prelude.{string_bytes}
+use Rattle.arch_compile.specs.declared.building.Build.{Build}
+use Rattle.build_texts.specs.BuildTexts.{texts_script}
+use Rattle.build_texts.specs.declared.names.TextNames.{TextNames}
 use Rattle.cam_io.specs.Scripts.{after}
-use Rattle.cam_io.specs.Sinks.{Sink, appended, with_begun}
-use Rattle.cap_model.specs.Canonical.{canonical}
-use Rattle.cap_model.specs.declared.spec.Spec.{Spec}
+use Rattle.cam_io.specs.Sinks.{Sink, appended}
 use Rattle.text_commands.specs.Outcomes.{text_of}
 use Rattle.reason_lines.specs.Answers.{answer_text}
 use Rattle.source_commands.specs.Listed.{listing_text}
-use Rattle.camkes_tool.specs.Answers.{compiled_as, script, status_of, said_as}
+use Rattle.camkes_tool.specs.Answers.{script, status_of, said_as}
 use Rattle.camkes_tool.specs.declared.answer.Answer.{Answer}
 use Rattle.camkes_tool.specs.declared.answer.Answer.TheVariants.{Compiled, Listed, Explained, Told, Faulted, Refused, Usage, ReadFault, NoMemory}
 use Rattle.camkes_tool.proofs.laws.success_writes_a_whole_text.Goals as goal
 
 abbrev IsWhole : Answer → Sink → Sink → Type 0
 IsWhole a old new =
-    ((name : List ℕ) × (spec : Spec) × (compiled_as a ≡ Some (name, spec)) × (new ≡ appended (with_begun old 2 name) 2 (canonical spec)))
+    ((names : TextNames) × (b : Build) × (a ≡ Compiled names b) × (new ≡ after old (texts_script names b)))
     ⊎ ((text : List ℕ) × (said_as a ≡ Some text) × (new ≡ appended old 0 text))
 
 whole : (a : Answer) (old new : Sink) → 0 ≡ status_of a → new ≡ after old (script a) → IsWhole a old new
-whole (Compiled name spec) old new e told = inl (string_bytes name, spec, refl, told)
+whole (Compiled names b) old new e told = inl (names, b, refl, told)
 whole (Listed o) old new e told = inr (listing_text o, refl, told)
 whole (Explained o) old new e told = inr (answer_text o, refl, told)
 whole (Told outcome) old new e told = inr (text_of outcome, refl, told)

@@ -18,7 +18,7 @@ use Rattle.text_commands.specs.declared.outcome.Outcome.{Outcome}
 use Rattle.camkes_tool.specs.Answers.{FitsTexts, status_of}
 use Rattle.camkes_tool.specs.declared.answer.Answer.{Answer}
 use Rattle.camkes_tool.specs.declared.answer.Answer.TheVariants as answers
-use Rattle.command_laws.specs.Safe.{IsSafe}
+use Rattle.camkes_tool.specs.Theorem.{IsSafe}
 
 yes_stays : (spec : Spec) (labels : List ℕ) (policy cert : List Edge) (verdict : Verdict) → is_yes verdict ≡ true → Judged spec labels policy cert verdict → Stays spec labels policy
 yes_stays spec labels policy cert Yes well judged = λ l a m reaches differ. runs_stay spec labels policy cert judged l a m reaches differ
