@@ -10,7 +10,7 @@ use row_texts::NamedText;
 use std::alloc::Global;
 
 /// The room of each channel in bytes.
-const ROOM: usize = 262_144;
+const ROOM: usize = 4_194_304;
 
 /// What a run did.
 #[derive(Drop)]

@@ -65,6 +65,52 @@ fn is_output(wanted: &NamedText, name: &str, bytes: &[u8]) -> bool {
     wanted.name.as_str() == name && wanted.bytes.as_slice() == bytes
 }
 
+/// The bytes of the output that is begun under this name, or none.
+fn output_of<'a>(out: &'a MemOutputs, name: &str) -> &'a [u8] {
+    for channel in 2..6 {
+        if out.begun(channel) == Some(name) {
+            return out.bytes(channel);
+        }
+    }
+    b""
+}
+
+/// What is left of lines where the first is this one, else all of them.
+fn behind<'a>(lines: &'a [u8], line: &[u8]) -> &'a [u8] {
+    match lines.iter().position(|b| *b == b'\n') {
+        Some(end) if &lines[..end] == line => &lines[end + 1..],
+        _ => lines,
+    }
+}
+
+/// Whether all lines stand in a text, in their order.
+fn stand_in(lines: &[u8], text: &[u8]) -> bool {
+    let mut rest = lines;
+    for line in text.split(|b| *b == b'\n') {
+        rest = behind(rest, line);
+    }
+    rest.is_empty()
+}
+
+fn are_lines(wanted: &[NamedText], out: &MemOutputs) -> bool {
+    wanted.iter().all(|text| stand_in(text.bytes.as_slice(), output_of(out, text.name.as_str())))
+}
+
+/// Whether the outputs are what a run must write.
+fn is_written(wanted: &Run, out: &MemOutputs) -> bool {
+    if wanted.lines.is_empty() {
+        are_outputs(wanted.outputs.as_slice(), out)
+    } else {
+        are_lines(wanted.lines.as_slice(), out)
+    }
+}
+
+/// Whether these bytes are what standard output must be.
+fn is_print(wanted: &Run, bytes: &[u8]) -> bool {
+    let print = wanted.print.as_slice();
+    bytes == print || (wanted.front && bytes.starts_with(print))
+}
+
 /// In what a run differs from what it must do, if it does.
 fn difference(wanted: &Run, done: &Done) -> Option<Part> {
     if done.status != wanted.status {
@@ -76,10 +122,10 @@ fn difference(wanted: &Run, done: &Done) -> Option<Part> {
     if wanted.any {
         return None;
     }
-    if done.out.bytes(0) != wanted.print.as_slice() {
+    if !is_print(wanted, done.out.bytes(0)) {
         return Some(Part::Print);
     }
-    if are_outputs(wanted.outputs.as_slice(), &done.out) {
+    if is_written(wanted, &done.out) {
         None
     } else {
         Some(Part::Outputs)

@@ -30,8 +30,13 @@ pub struct Run {
     pub error: Vec<u8>,
     /// The outputs that are begun, in their order.
     pub outputs: Vec<NamedText>,
+    /// Lines of outputs, where the outputs aren't told whole: each text's lines stand in the output of its name, in their
+    /// order.
+    pub lines: Vec<NamedText>,
     /// Standard output and the outputs are not looked at.
     pub any: bool,
+    /// Standard output need only begin with what is told.
+    pub front: bool,
     /// The file of each read, where each is to fail in turn.
     pub reads: Option<Vec<String>>,
     /// Each begin and write is to fail in turn.
@@ -49,7 +54,9 @@ impl Run {
             print: Vec::new(alloc),
             error: Vec::new(alloc),
             outputs: Vec::new(alloc),
+            lines: Vec::new(alloc),
             any: false,
+            front: false,
             reads: None,
             writes: false,
         }

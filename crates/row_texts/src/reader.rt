@@ -131,6 +131,11 @@ impl Reader {
         Ok(self.run()?.outputs.push(output)?)
     }
 
+    fn add_lines(&mut self, name: &str, lines: &[&str]) -> Result<(), Why> {
+        let output = self.named_text(name, lines, 0)?;
+        Ok(self.run()?.lines.push(output)?)
+    }
+
     fn set_print(&mut self, lines: &[&str]) -> Result<(), Why> {
         let text = self.text(lines, 0)?;
         self.run()?.print = text;
@@ -164,6 +169,7 @@ impl Reader {
             "error" => self.set_error(lines),
             "print" => self.set_print(lines),
             "output" => self.add_output(rest, lines),
+            "lines" => self.add_lines(rest, lines),
             "reads" => self.set_reads(lines),
             _ => self.flag(word, rest),
         }
@@ -173,6 +179,7 @@ impl Reader {
         let run = self.run()?;
         match word {
             "any" => run.any = true,
+            "front" => run.front = true,
             "writes" => run.writes = true,
             "fail-read" => run.failing_read = number_of(rest)?,
             "fail-write" => run.failing_write = number_of(rest)?,
