@@ -11,7 +11,7 @@ use Rattle.adl_meaning.specs.Joins.{strung, strung_by, connections_in}
 use Rattle.adl_meaning.specs.Paths.{placed_by, leaves_in}
 use Rattle.adl_hierarchy.specs.Finite.{IsFinite}
 use Rattle.adl_hierarchy.proofs.Bodies.{inner_of_body}
-use Rattle.adl_meaning.specs.Lists.{IsIn}
+use Rattle.numbering.specs.Gather.{IsIn}
 use Rattle.adl_hierarchy.proofs.Finite.{graph_size}
 use Rattle.adl_hierarchy.proofs.Steps.{listed, leaves_step, connections_step}
 use Rattle.adl_flatten.specs.TotalsOf.{totals_of, totals_in, AreTotals}

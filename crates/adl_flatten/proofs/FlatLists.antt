@@ -9,7 +9,8 @@ use Rattle.adl_meaning.specs.declared.flat.Leaf.{Leaf}
 use Rattle.adl_meaning.specs.Domains.{domain_of, domains, is_hardware}
 use Rattle.adl_meaning.specs.Flat.{item_of, leaf_of, is_inside, flat_domain, domain_number}
 use Rattle.adl_meaning.specs.Hierarchy.{Hierarchy}
-use Rattle.adl_meaning.specs.Lists.{IsIn, place_by, firsts_after}
+use Rattle.adl_meaning.specs.Lists.{place_by, firsts_after}
+use Rattle.numbering.specs.Gather.{IsIn}
 use Rattle.adl_meaning.specs.Paths.{Path, Placed, leaves, same_path}
 use Rattle.component_graph.proofs.Lists.{in_get}
 use Rattle.adl_flatten.specs.Homes.{home, home_number, present, is_number, numbered}

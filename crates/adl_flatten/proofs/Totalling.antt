@@ -6,7 +6,7 @@ use Rattle.std.proofs.lemmas.List.Concat.{flat_map-append}
 use Rattle.adl_meaning.specs.Hierarchy.{Hierarchy, Wire, Part, is_composite}
 use Rattle.adl_meaning.specs.Joins.{Strung, strung, further}
 use Rattle.adl_meaning.specs.Paths.{Path, Placed, outside, placed_by, name_of}
-use Rattle.adl_meaning.specs.Lists.{IsIn}
+use Rattle.numbering.specs.Gather.{IsIn}
 use Rattle.adl_meaning.specs.SizeFaults.{longest}
 use Rattle.adl_flatten.specs.TotalsOf.{saturated, ends_of, totals_of}
 use Rattle.adl_flatten.specs.declared.sums.Totals.{Totals}

@@ -5,7 +5,7 @@ use Rattle.std.proofs.lemmas.List.{append-nil, drop_all, map-append}
 use Rattle.adl_meaning.proofs.Noting.{drop_first}
 use Rattle.adl_meaning.specs.Hierarchy.{Hierarchy, Part, body, is_composite, wires_of, top_number}
 use Rattle.adl_meaning.specs.Joins.{Strung, further, strung, strung_by, connections_within, connections_in}
-use Rattle.adl_meaning.specs.Lists.{IsIn}
+use Rattle.numbering.specs.Gather.{IsIn}
 use Rattle.adl_meaning.specs.Paths.{Path, Placed, outside, placed_by, leaves_within, leaves_in, leaves, name_of}
 use Rattle.adl_meaning.specs.SizeFaults.{longest, depth}
 use Rattle.adl_hierarchy.specs.Finite.{IsFinite}

@@ -6,7 +6,7 @@ ghost use Rattle.adl_hierarchy.specs.Finite.{IsFinite};
 ghost use Rattle.adl_meaning.specs.Graph.{IsInnerFirst};
 ghost use Rattle.adl_meaning.specs.Hierarchy.{Part, body, graph, top_number};
 ghost use Rattle.adl_meaning.specs.Joins.{Strung, further, strung, strung_by, connections_in};
-ghost use Rattle.adl_meaning.specs.Lists.{IsIn};
+ghost use Rattle.numbering.specs.Gather.{IsIn};
 ghost use Rattle.adl_meaning.specs.Paths.{Placed, outside, leaves_in, placed_by};
 ghost use Rattle.std.specs.List.{flat_map};
 ghost use Rattle.std.specs.Prelude.{◌≡◌, ◌<◌, ◌≤◌, ◌+◌, ◌^◌, ◌∷◌, ◌++◌, ℕ, List as Seq, [], map, length, slice_index_or, IfOk};

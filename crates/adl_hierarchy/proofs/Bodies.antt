@@ -15,10 +15,10 @@ use Rattle.adl_meaning.specs.Graph.{inner_of}
 use Rattle.adl_meaning.specs.Hierarchy.{Hierarchy, Part, Body, part_of, parts_by, parts_in, body_of, top_of, kind_named, hierarchy_of, top_number, body, is_composite, graph}
 use Rattle.adl_meaning.specs.Holding.{instances_by, instances_in}
 use Rattle.adl_meaning.specs.Items.{Name, components, assemblies}
-use Rattle.adl_meaning.specs.Lists.{IsIn}
+use Rattle.numbering.specs.Gather.{IsIn}
 use Rattle.adl_meaning.specs.NameFaults.{AreNamesSound}
 use Rattle.adl_meaning.proofs.SoundNames.{one_assembly}
-use Rattle.component_graph.proofs.Lists.{in_flat_map, from_flat_map, from_filter_map, get_map, get_or_map, get_or_last, map_some}
+use Rattle.numbering.proofs.Lists.{in_flat_map, from_flat_map, from_filter_map, get_map, get_or_map, get_or_last, map_some}
 
 -- ---- instances
 

@@ -13,14 +13,14 @@ use Rattle.adl_meaning.specs.Items.{Name}
 use Rattle.adl_meaning.specs.Joins.{Climbs, Reached, behind, reached_by, reached_within, reached}
 use Rattle.adl_meaning.specs.Export.{misfits_in_composition}
 use Rattle.adl_meaning.specs.Known.{Known, known_in}
-use Rattle.adl_meaning.specs.Lists.{IsIn}
+use Rattle.numbering.specs.Gather.{IsIn}
 use Rattle.adl_meaning.specs.NameFaults.{AreNamesSound}
 use Rattle.adl_meaning.specs.Paths.{Path, IsLeaf, at, name_of}
 use Rattle.adl_hierarchy.specs.Once.{IsOnce}
 use Rattle.adl_hierarchy.proofs.Exports.{no_misfit, targets_once}
 use Rattle.adl_hierarchy.proofs.Finite.{sound_is_finite}
 use Rattle.adl_hierarchy.proofs.Leaves.{StandsIn}
-use Rattle.component_graph.proofs.Lists.{found, map_some}
+use Rattle.numbering.proofs.Lists.{found, map_some}
 use Rattle.adl_hierarchy.proofs.PartsAt.{named_in, part_behind, first_on, path_short}
 use Rattle.adl_hierarchy.proofs.Repeats.{find_once}
 

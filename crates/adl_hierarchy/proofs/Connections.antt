@@ -6,12 +6,13 @@ use Rattle.adl_ast.specs.declared.source.Source.{Source}
 use Rattle.adl_meaning.specs.Hierarchy.{Hierarchy, Part, Wire, hierarchy_of, body, wires_of, top_number}
 use Rattle.adl_meaning.specs.Items.{Name}
 use Rattle.adl_meaning.specs.Joins.{Strung, further, strung, strung_by, connections_within, connections}
-use Rattle.adl_meaning.specs.Lists.{IsIn}
+use Rattle.numbering.specs.Gather.{IsIn}
 use Rattle.adl_meaning.specs.NameFaults.{AreNamesSound}
 use Rattle.adl_meaning.specs.Paths.{Path, at, name_of}
 use Rattle.adl_hierarchy.specs.Once.{IsOnce}
 use Rattle.adl_hierarchy.proofs.Finite.{sound_is_finite}
-use Rattle.component_graph.proofs.Lists.{in_left, in_right, in_append, in_map, from_map, in_flat_map, from_flat_map}
+use Rattle.numbering.proofs.Gathered.{in_left, in_right, in_append}
+use Rattle.numbering.proofs.Lists.{in_map, from_map, in_flat_map, from_flat_map}
 use Rattle.adl_hierarchy.proofs.PartNames.{names_once, wires_once}
 use Rattle.adl_hierarchy.proofs.PartsAt.{named_in, at_behind, first_on, path_short}
 use Rattle.adl_hierarchy.proofs.Repeats.{once_append, once_map, head_of, tail_of, once_by_head, find_once}

@@ -8,11 +8,11 @@ use Rattle.adl_ast.specs.declared.source.Source.{Source}
 use Rattle.adl_meaning.specs.Domains.{domain_of, is_hardware, domains}
 use Rattle.adl_meaning.specs.Flat.{leaf_number, domain_number, is_inside, flat_domain}
 use Rattle.adl_meaning.specs.Hierarchy.{Hierarchy, hierarchy_of}
-use Rattle.adl_meaning.specs.Lists.{IsIn}
+use Rattle.numbering.specs.Gather.{IsIn}
 use Rattle.adl_meaning.specs.NameFaults.{AreNamesSound}
 use Rattle.adl_meaning.specs.Paths.{Path, Placed, leaves, same_path}
 use Rattle.adl_hierarchy.specs.Once.{IsOnce}
-use Rattle.component_graph.proofs.Lists.{in_map, from_map, from_enumerate, in_enumerate}
+use Rattle.numbering.proofs.Lists.{in_map, from_map, from_enumerate, in_enumerate}
 use Rattle.adl_hierarchy.proofs.Once.{leaf_paths_once}
 use Rattle.adl_hierarchy.proofs.Places.{place_is, at_place, in_filter, from_filter, once_filter, numbers_once, firsts_are, once_firsts}
 

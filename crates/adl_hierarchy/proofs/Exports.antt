@@ -16,11 +16,12 @@ use Rattle.adl_meaning.specs.Hierarchy.{hierarchy_of, body}
 use Rattle.adl_meaning.specs.Holding.{Held, held_as, connections_in, exports_in}
 use Rattle.adl_meaning.specs.Items.{Name}
 use Rattle.adl_meaning.specs.Known.{Known, known_of, known_in}
-use Rattle.adl_meaning.specs.Lists.{IsIn}
+use Rattle.numbering.specs.Gather.{IsIn}
 use Rattle.adl_meaning.specs.Members.{compositions}
 use Rattle.adl_meaning.specs.NameFaults.{AreNamesSound}
 use Rattle.adl_hierarchy.specs.Once.{IsOnce}
-use Rattle.component_graph.proofs.Lists.{in_get, none_in, none_left, none_right}
+use Rattle.component_graph.proofs.Lists.{in_get}
+use Rattle.numbering.proofs.Lists.{none_in, none_left, none_right}
 use Rattle.adl_hierarchy.proofs.Sources.{composed, none_in_component, none_in_assembly}
 
 -- no export of this composition is at fault

@@ -8,11 +8,12 @@ use Rattle.adl_meaning.specs.declared.item_at.ItemAt.{ItemAt}
 use Rattle.adl_meaning.specs.Graph.{has, inner_of, Walk}
 use Rattle.adl_meaning.specs.Hierarchy.{Hierarchy, Part, Body, body_of, kind_named, hierarchy_of, body, graph}
 use Rattle.adl_meaning.specs.Items.{components}
-use Rattle.adl_meaning.specs.Lists.{IsIn}
+use Rattle.numbering.specs.Gather.{IsIn}
 use Rattle.adl_meaning.specs.NameFaults.{AreNamesSound}
 use Rattle.adl_meaning.specs.Recursive.{instances_of, graph_of}
 use Rattle.component_graph.proofs.ComponentNumbers.{numbers_below, composed_instance, listed, graph_in_range, acyclic_from_none}
-use Rattle.component_graph.proofs.Lists.{get_map, in_has, from_map}
+use Rattle.component_graph.proofs.Lists.{in_has}
+use Rattle.numbering.proofs.Lists.{get_map, from_map}
 use Rattle.component_graph.proofs.Walks.{walk_in_range}
 use Rattle.adl_hierarchy.specs.Finite.{IsFinite}
 use Rattle.adl_hierarchy.proofs.Bodies.{body_at, part_of_body, inner_of_body}

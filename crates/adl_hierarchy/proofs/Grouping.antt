@@ -8,7 +8,7 @@ use Rattle.adl_meaning.specs.Items.{Name}
 use Rattle.adl_meaning.specs.Paths.{Path}
 use Rattle.adl_hierarchy.specs.OutermostGroup.{IsOutermostGroup}
 use Rattle.adl_hierarchy.specs.PartAt.{part_at}
-use Rattle.component_graph.proofs.Lists.{map_some}
+use Rattle.numbering.proofs.Lists.{map_some}
 use Rattle.adl_hierarchy.proofs.PartsAt.{part_behind}
 use Rattle.adl_hierarchy.proofs.Repeats.{head_of, tail_of}
 

@@ -11,8 +11,8 @@ use Rattle.adl_ast.specs.declared.id.Id.{Id}
 use Rattle.adl_meaning.specs.Export.{Port, port_of, instance_held, member_held}
 use Rattle.adl_meaning.specs.Holding.{Held, an_instance, a_group, a_connection, as_held, held_by, held_in, held_as, member_of, instances_by, instances_in}
 use Rattle.adl_meaning.specs.Items.{Name}
-use Rattle.adl_meaning.specs.Lists.{IsIn}
-use Rattle.component_graph.proofs.Lists.{in_flat_map, from_flat_map, from_map, found, map_some}
+use Rattle.numbering.specs.Gather.{IsIn}
+use Rattle.numbering.proofs.Lists.{in_flat_map, from_flat_map, from_map, found, map_some}
 
 held_found : (k : Composition) (n : Name) (x : Held) → held_as k n ≡ Some x → (l : Line) × IsIn l k.lines × (h : Id × Held) × IsIn h (held_by l) × (h.0.name ≡ n) × (h.1 ≡ x)
 held_found k n x e =

@@ -11,7 +11,7 @@ use Rattle.adl_meaning.specs.Flat.{flat_end, flat_ends}
 use Rattle.adl_meaning.specs.Hierarchy.{hierarchy_of, top_number, port_in}
 use Rattle.adl_meaning.specs.Items.{Name}
 use Rattle.adl_meaning.specs.Joins.{Climbs, Joins, Reached, reached, joined_by, Strung, connections}
-use Rattle.adl_meaning.specs.Lists.{IsIn}
+use Rattle.numbering.specs.Gather.{IsIn}
 use Rattle.adl_meaning.specs.NameFaults.{AreNamesSound}
 use Rattle.adl_meaning.specs.Paths.{Path, Placed, at, leaves}
 use Rattle.adl_hierarchy.specs.Leads.{AreDotted}

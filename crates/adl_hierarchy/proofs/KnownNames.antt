@@ -21,12 +21,13 @@ use Rattle.adl_meaning.specs.Hierarchy.{hierarchy_of, body, kind_named, port_in}
 use Rattle.adl_meaning.specs.Holding.{Held, an_instance, a_group, a_connection, held_as, instances_by, instances_in, as_connection, connections_in, as_export, exports_in}
 use Rattle.adl_meaning.specs.Items.{Name, components, component_named}
 use Rattle.adl_meaning.specs.Known.{Known, known_of, known_in}
-use Rattle.adl_meaning.specs.Lists.{IsIn}
+use Rattle.numbering.specs.Gather.{IsIn}
 use Rattle.adl_meaning.specs.Members.{as_composition, compositions}
 use Rattle.adl_meaning.specs.NameFaults.{AreNamesSound}
 use Rattle.adl_meaning.specs.Unknown.{unless_known, unknown_type, unknown_connector, unknown_interface, unknown_in_two, unknown_in_group, unknown_in_three, unknown_in_dotted, unknown_target, unknown_in_line, unknown_in_composition, unknown_in_member, unknown_in_item, is_procedure}
 use Rattle.component_graph.proofs.ComponentNumbers.{number_found}
-use Rattle.component_graph.proofs.Lists.{from_flat_map, from_filter_map, in_get, none_in, none_left, none_right, map_some}
+use Rattle.component_graph.proofs.Lists.{in_get}
+use Rattle.numbering.proofs.Lists.{from_flat_map, from_filter_map, none_in, none_left, none_right, map_some}
 use Rattle.adl_hierarchy.specs.Leads.{IsDotted}
 use Rattle.adl_hierarchy.proofs.HeldInstances.{instance_in, member_in}
 use Rattle.adl_hierarchy.proofs.Sources.{composed, none_in_component, none_in_assembly}

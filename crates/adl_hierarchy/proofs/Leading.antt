@@ -21,7 +21,7 @@ use Rattle.adl_meaning.specs.Holding.{held_as, instances_by, instances_in, conne
 use Rattle.adl_meaning.specs.Items.{Name}
 use Rattle.adl_meaning.specs.Joins.{Reached, behind, reached_by, reached_within, reached, joined_by}
 use Rattle.adl_meaning.specs.Known.{Known, known_of, known_in, is_target, is_exported}
-use Rattle.adl_meaning.specs.Lists.{IsIn}
+use Rattle.numbering.specs.Gather.{IsIn}
 use Rattle.adl_meaning.specs.Members.{composition_of}
 use Rattle.adl_meaning.specs.NameFaults.{AreNamesSound}
 use Rattle.adl_meaning.specs.Paths.{name_of}
@@ -32,7 +32,7 @@ use Rattle.adl_hierarchy.proofs.Bodies.{body_number, parts_of}
 use Rattle.adl_hierarchy.proofs.Exports.{no_misfit, export_leads, end_leads}
 use Rattle.adl_hierarchy.proofs.KnownNames.{IsTyped, typed, no_unknown, instance_typed, export_known, end_known, IsKnown, dotted_known}
 use Rattle.adl_hierarchy.proofs.Finite.{sound_is_finite}
-use Rattle.component_graph.proofs.Lists.{in_flat_map, from_flat_map, in_filter_map, from_filter_map, found, map_some}
+use Rattle.numbering.proofs.Lists.{in_flat_map, from_flat_map, in_filter_map, from_filter_map, found, map_some}
 use Rattle.adl_hierarchy.proofs.PartNames.{names_once}
 use Rattle.adl_hierarchy.proofs.Repeats.{find_once}
 use Rattle.adl_hierarchy.proofs.Steps.{IsShallow, kind_in, shallow, below, no_parts, part_in}

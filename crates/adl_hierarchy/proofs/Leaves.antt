@@ -4,14 +4,14 @@ use Rattle.std.proofs.lemmas.Option.{option_and_then_some}
 use Rattle.adl_ast.specs.declared.source.Source.{Source}
 use Rattle.adl_meaning.specs.Hierarchy.{Hierarchy, Part, hierarchy_of, body, is_composite, part_named, top_number}
 use Rattle.adl_meaning.specs.Items.{Name}
-use Rattle.adl_meaning.specs.Lists.{IsIn}
+use Rattle.numbering.specs.Gather.{IsIn}
 use Rattle.adl_meaning.specs.NameFaults.{AreNamesSound}
 use Rattle.adl_meaning.specs.Paths.{Path, Placed, IsLeaf, name_of, outside, placed_by, leaves_within, leaves}
 use Rattle.adl_hierarchy.specs.Once.{IsOnce}
 use Rattle.adl_hierarchy.specs.PartAt.{part_at}
 use Rattle.adl_hierarchy.proofs.Bodies.{top_composed}
 use Rattle.adl_hierarchy.proofs.Finite.{sound_is_finite}
-use Rattle.component_graph.proofs.Lists.{in_map, from_map, in_flat_map, from_flat_map}
+use Rattle.numbering.proofs.Lists.{in_map, from_map, in_flat_map, from_flat_map}
 use Rattle.adl_hierarchy.proofs.PartNames.{names_once}
 use Rattle.adl_hierarchy.proofs.PartsAt.{named_in, part_behind, at_part, part_from_at, path_short, AreComposed, are_composed, is_outer}
 use Rattle.adl_hierarchy.proofs.Repeats.{find_once}

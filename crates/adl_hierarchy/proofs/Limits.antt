@@ -5,12 +5,12 @@ use Rattle.std.proofs.lemmas.Bool.{ltb-false}
 use Rattle.adl_ast.specs.declared.composition.Assembly.{Assembly}
 use Rattle.adl_ast.specs.declared.source.Source.{Source}
 use Rattle.adl_hierarchy.proofs.Exports.{not_so}
-use Rattle.component_graph.proofs.Lists.{none_in, none_left, none_right}
+use Rattle.numbering.proofs.Lists.{none_in, none_left, none_right}
 use Rattle.adl_meaning.specs.declared.item_at.ItemAt.{ItemAt}
 use Rattle.adl_meaning.specs.Hierarchy.{hierarchy_of}
 use Rattle.adl_meaning.specs.Items.{Name, assemblies}
 use Rattle.adl_meaning.specs.Joins.{connections}
-use Rattle.adl_meaning.specs.Lists.{IsIn}
+use Rattle.numbering.specs.Gather.{IsIn}
 use Rattle.adl_meaning.specs.NameFaults.{AreNamesSound}
 use Rattle.adl_meaning.specs.Paths.{leaves}
 use Rattle.adl_meaning.specs.SizeFaults.{depth, all_ends, limit_passed, limits_passed, size_faults, first_size_fault}

@@ -15,13 +15,14 @@ use Rattle.adl_meaning.specs.Duplicate.{duplicates_in_composition, duplicates_in
 use Rattle.adl_meaning.specs.Hierarchy.{Part, Wire, wire_of, wires_of, part_of, parts_by, parts_in, kind_named, hierarchy_of, body}
 use Rattle.adl_meaning.specs.Holding.{Held, as_connection, connections_in, as_held, held_by, held_in}
 use Rattle.adl_meaning.specs.Items.{Name, items_of}
-use Rattle.adl_meaning.specs.Lists.{IsIn}
+use Rattle.numbering.specs.Gather.{IsIn}
 use Rattle.adl_meaning.specs.Members.{compositions}
 use Rattle.adl_meaning.specs.NameFaults.{AreNamesSound}
 use Rattle.adl_meaning.specs.Paths.{name_of}
 use Rattle.adl_hierarchy.specs.Once.{IsOnce}
 use Rattle.adl_hierarchy.proofs.Bodies.{parts_of}
-use Rattle.component_graph.proofs.Lists.{in_get, none_in, none_right, map_some}
+use Rattle.component_graph.proofs.Lists.{in_get}
+use Rattle.numbering.proofs.Lists.{none_in, none_right, map_some}
 use Rattle.adl_hierarchy.proofs.Repeats.{filtered_in, once_filtered, once_flat_map, unrepeated_once}
 use Rattle.adl_hierarchy.proofs.Sources.{composed, none_in_component, none_in_assembly}
 

@@ -9,12 +9,12 @@ use Rattle.adl_ast.specs.declared.source.Source.{Source}
 use Rattle.adl_meaning.specs.Graph.{Walk}
 use Rattle.adl_meaning.specs.Hierarchy.{Hierarchy, Part, parts_in, kind_named, hierarchy_of, body, graph, is_composite, part_named}
 use Rattle.adl_meaning.specs.Items.{Name}
-use Rattle.adl_meaning.specs.Lists.{IsIn}
+use Rattle.numbering.specs.Gather.{IsIn}
 use Rattle.adl_meaning.specs.Paths.{Path, name_of, at}
 use Rattle.adl_hierarchy.specs.Finite.{IsFinite}
 use Rattle.adl_hierarchy.specs.PartAt.{part_at}
 use Rattle.adl_hierarchy.proofs.Bodies.{parts_of}
-use Rattle.component_graph.proofs.Lists.{found}
+use Rattle.numbering.proofs.Lists.{found}
 use Rattle.adl_hierarchy.proofs.Steps.{listed, kind_in, shallow}
 
 -- an instance found by name is one of the name

@@ -2,9 +2,11 @@
 use Rattle.std.proofs.Common.{◌≡◌, ◌↔◌, ◌⊎◌, ◌+◌, ℕ, zero, suc, Bool, true, false, ◌||◌, cond, List, [], ◌∷◌, map, Some, Decides, refl, sym, ◌∙◌, ap, subst, inl, inr, arith}
 use Rattle.std.specs.List.{slice_get, filter, enumerate_from}
 use Rattle.std.proofs.lemmas.Bool.{or_parts, or_from, both_ways, false_from_ne_true}
-use Rattle.adl_meaning.specs.Lists.{IsIn, place_by, firsts_after, firsts}
+use Rattle.adl_meaning.specs.Lists.{place_by, firsts_after, firsts}
+use Rattle.numbering.specs.Gather.{IsIn}
 use Rattle.adl_hierarchy.specs.Once.{IsOnce}
-use Rattle.component_graph.proofs.Lists.{in_map, from_map, in_get, from_enumerate}
+use Rattle.component_graph.proofs.Lists.{in_get}
+use Rattle.numbering.proofs.Lists.{in_map, from_map, from_enumerate}
 
 -- where keys stand once, the place of the first that has a key is the place of the one that has it
 pub place_is : {X K : Type 0} (same : K → K → Bool) → ((a b : K) → Decides (same a b) (a ≡ b)) → (key : X → K) (xs : List X) (n : ℕ) (x : X) → IsOnce (map key xs) → slice_get xs n ≡ Some x → place_by (λ y. same (key x) (key y)) xs ≡ n

@@ -10,10 +10,11 @@ use Rattle.adl_ast.specs.declared.id.Id.{Id}
 use Rattle.adl_meaning.specs.Duplicate.{repeats_after, repeats}
 use Rattle.adl_meaning.specs.Faults.{where_true}
 use Rattle.adl_meaning.specs.Items.{Name}
-use Rattle.adl_meaning.specs.Lists.{IsIn}
+use Rattle.numbering.specs.Gather.{IsIn}
 use Rattle.adl_meaning.specs.Paths.{Path}
 use Rattle.adl_hierarchy.specs.Once.{IsOnce}
-use Rattle.component_graph.proofs.Lists.{in_left, in_right, in_append, in_map, from_map, from_flat_map, from_filter_map, none_right}
+use Rattle.numbering.proofs.Gathered.{in_left, in_right, in_append}
+use Rattle.numbering.proofs.Lists.{in_map, from_map, from_flat_map, from_filter_map, none_right}
 
 -- ---- lists made of others
 

@@ -10,10 +10,11 @@ use Rattle.adl_ast.specs.declared.source.Source.{Source}
 use Rattle.adl_meaning.specs.declared.item_at.ItemAt.{ItemAt}
 use Rattle.adl_meaning.specs.Hierarchy.{Body, top_of, kind_named, hierarchy_of, body}
 use Rattle.adl_meaning.specs.Items.{items_of, as_component, as_assembly, components, assemblies}
-use Rattle.adl_meaning.specs.Lists.{IsIn}
+use Rattle.numbering.specs.Gather.{IsIn}
 use Rattle.adl_meaning.specs.Members.{composition_of}
 use Rattle.adl_hierarchy.proofs.Bodies.{body_at}
-use Rattle.component_graph.proofs.Lists.{from_filter_map, in_get, none_in}
+use Rattle.component_graph.proofs.Lists.{in_get}
+use Rattle.numbering.proofs.Lists.{from_filter_map, none_in}
 
 -- a component is an item
 pub component_item : (s : Source) (c : ItemAt × Component) → IsIn c (components s) → (x : ItemAt × Item) × IsIn x (items_of s) × (x.1 ≡ items.Component c.1)

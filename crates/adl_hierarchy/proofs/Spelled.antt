@@ -27,12 +27,13 @@ use Rattle.adl_meaning.specs.declared.item_at.ItemAt.{ItemAt}
 use Rattle.adl_meaning.specs.Hierarchy.{hierarchy_of, body}
 use Rattle.adl_meaning.specs.Holding.{as_connection, as_export}
 use Rattle.adl_meaning.specs.Items.{items_in, items_of}
-use Rattle.adl_meaning.specs.Lists.{IsIn}
+use Rattle.numbering.specs.Gather.{IsIn}
 use Rattle.adl_meaning.specs.Members.{as_composition, compositions}
 use Rattle.adl_hierarchy.specs.Leads.{IsDotted, AreDotted}
 use Rattle.adl_hierarchy.specs.Spelled.{AreSpelled}
 use Rattle.adl_hierarchy.proofs.Leading.{own_export, own_connection}
-use Rattle.component_graph.proofs.Lists.{from_map, from_flat_map, from_filter_map, from_enumerate, in_get}
+use Rattle.component_graph.proofs.Lists.{in_get}
+use Rattle.numbering.proofs.Lists.{from_map, from_flat_map, from_filter_map, from_enumerate}
 use Rattle.adl_hierarchy.proofs.Sources.{component_item, assembly_item, composed}
 
 -- some tokens spell it by the rule

@@ -7,13 +7,15 @@ use Rattle.adl_meaning.specs.Graph.{has, inner_of, Walk}
 use Rattle.adl_meaning.specs.Hierarchy.{Hierarchy, Part, body, graph, is_composite, part_named, export_named, exports_of, wires_of, port_in}
 use Rattle.adl_meaning.specs.Items.{Name}
 use Rattle.adl_meaning.specs.Joins.{Reached, behind, reached_by, reached_within, reached, Strung, further, strung, strung_by, connections_within, connections_in}
-use Rattle.adl_meaning.specs.Lists.{IsIn}
+use Rattle.numbering.specs.Gather.{IsIn}
 use Rattle.adl_meaning.specs.Paths.{Placed, name_of, outside, placed_by, leaves_within, leaves_in}
 use Rattle.component_graph.proofs.Walks.{walks_short}
 use Rattle.adl_hierarchy.specs.Finite.{IsFinite}
 use Rattle.adl_hierarchy.proofs.Bodies.{inner_of_body}
 use Rattle.adl_hierarchy.proofs.Finite.{graph_size}
-use Rattle.component_graph.proofs.Lists.{in_map, from_map, in_flat_map, from_flat_map, in_right, has_in, found, empty, flat_map_same}
+use Rattle.component_graph.proofs.Lists.{has_in}
+use Rattle.numbering.proofs.Gathered.{in_right}
+use Rattle.numbering.proofs.Lists.{in_map, from_map, in_flat_map, from_flat_map, found, empty, flat_map_same}
 
 -- ---- depth
 

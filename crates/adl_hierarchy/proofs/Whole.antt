@@ -14,12 +14,12 @@ use Rattle.adl_meaning.specs.Hierarchy.{Part, Wire, part_of, parts_by, parts_in,
 use Rattle.adl_meaning.specs.Holding.{instances_by, instances_in, connections_in}
 use Rattle.adl_meaning.specs.Items.{Name}
 use Rattle.adl_meaning.specs.Known.{Known, known_in}
-use Rattle.adl_meaning.specs.Lists.{IsIn}
+use Rattle.numbering.specs.Gather.{IsIn}
 use Rattle.adl_meaning.specs.NameFaults.{AreNamesSound}
 use Rattle.adl_meaning.specs.Unknown.{unknown_in_composition}
 use Rattle.adl_hierarchy.proofs.Bodies.{parts_of}
 use Rattle.adl_hierarchy.proofs.KnownNames.{typed, no_unknown, instance_typed, connector_known}
-use Rattle.component_graph.proofs.Lists.{in_flat_map, map_some}
+use Rattle.numbering.proofs.Lists.{in_flat_map, map_some}
 
 -- where f gives something at each, and back leads from it, nothing is left out
 whole : {X Y : Type 0} (f : X → Option Y) (back : Y → X) → ((x : X) (y : Y) → f x ≡ Some y → back y ≡ x) → (xs : List X) → ((x : X) → IsIn x xs → (y : Y) × (f x ≡ Some y)) → map back (filter_map f xs) ≡ xs

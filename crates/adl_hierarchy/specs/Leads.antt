@@ -6,7 +6,7 @@ use Rattle.adl_ast.specs.declared.composition.Export.{Export}
 use Rattle.adl_ast.specs.declared.id.Id.{Id}
 use Rattle.adl_meaning.specs.Hierarchy.{Hierarchy, Part, Wire, body, is_composite, part_named, export_named, exports_of, wires_of, port_in}
 use Rattle.adl_meaning.specs.Items.{Name}
-use Rattle.adl_meaning.specs.Lists.{IsIn}
+use Rattle.numbering.specs.Gather.{IsIn}
 
 -- an instance of body k by name, with the name of an interface
 pub record PortLeads (h : Hierarchy) (k : ℕ) (port : Name × Name) : Type 0 where

@@ -16,7 +16,7 @@ ghost use Rattle.adl_meaning.specs.Hierarchy.{hierarchy_of, top_number, body, is
 ghost use Rattle.adl_meaning.specs.Holding.{instances_in, connections_in};
 ghost use Rattle.adl_meaning.specs.Items.{Name};
 ghost use Rattle.adl_meaning.specs.Joins.{Climbs, Joins, Reached, reached, joined_by, Strung, connections};
-ghost use Rattle.adl_meaning.specs.Lists.{IsIn};
+ghost use Rattle.numbering.specs.Gather.{IsIn};
 ghost use Rattle.adl_meaning.specs.NameFaults.{AreNamesSound};
 ghost use Rattle.adl_meaning.specs.Paths.{Path, Placed, at, IsLeaf, name_of, leaves};
 ghost use Rattle.std.specs.List.{slice_get};

@@ -1,10 +1,5 @@
--- Being in a list, the place of something in it, and a list without what stands twice.
-use Rattle.std.specs.Prelude.{◌≡◌, ◌⊎◌, ℕ, zero, suc, Bool, false, ◌||◌, if◌then◌else◌, List, [], ◌∷◌}
-
--- x is one of the list
-abbrev pub IsIn : {X : Type 0} → X → List X → Type 0
-IsIn x [] = ⊥
-IsIn x (y ∷ ys) = (y ≡ x) ⊎ IsIn x ys
+-- The place of something in it, and a list without what stands twice.
+use Rattle.std.specs.Prelude.{ℕ, zero, suc, Bool, false, ◌||◌, if◌then◌else◌, List, [], ◌∷◌}
 
 -- the place of the first that is like this one; where none is, the place behind the last
 abbrev pub place_by : {X : Type 0} → (X → Bool) → List X → ℕ

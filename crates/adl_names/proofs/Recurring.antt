@@ -7,10 +7,11 @@ use Rattle.adl_ast.specs.declared.component.Component.{Component}
 use Rattle.adl_ast.specs.declared.composition.Instance.{Instance}
 use Rattle.adl_meaning.specs.Graph.{has, inner_of}
 use Rattle.adl_meaning.specs.Items.{Name}
-use Rattle.adl_meaning.specs.Lists.{IsIn}
+use Rattle.numbering.specs.Gather.{IsIn}
 use Rattle.adl_meaning.specs.Recursive.{instances_of, types_of, graph_of}
 use Rattle.component_graph.proofs.ComponentNumbers.{inner_at}
-use Rattle.component_graph.proofs.Lists.{has_in, in_filter_map, get_map}
+use Rattle.component_graph.proofs.Lists.{has_in}
+use Rattle.numbering.proofs.Lists.{in_filter_map, get_map}
 use Rattle.adl_names.specs.Listed.{AreListed, IsListed}
 use Rattle.adl_names.specs.Located.{trees}
 use Rattle.adl_names.specs.Pointed.{pointed}

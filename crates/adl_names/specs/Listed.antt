@@ -4,7 +4,7 @@ use Rattle.std.specs.Option.{ForSome}
 use Rattle.adl_ast.specs.declared.composition.Instance.{Instance}
 use Rattle.adl_meaning.specs.Graph.{has}
 use Rattle.adl_meaning.specs.Items.{Name}
-use Rattle.adl_meaning.specs.Lists.{IsIn}
+use Rattle.numbering.specs.Gather.{IsIn}
 
 abbrev pub IsListed : (Name → Option ℕ) → List ℕ → Instance → Type 0
 IsListed numbers types i = ForSome (numbers i.component.name) (λ t. has types t ≡ true)

@@ -13,11 +13,11 @@ use Rattle.adl_meaning.specs.Export.{Port, port_of}
 use Rattle.adl_meaning.specs.Graph.{has, inner_of, Walk, IsAcyclic}
 use Rattle.adl_meaning.specs.Holding.{held_as, instances_in, exports_in}
 use Rattle.adl_meaning.specs.Items.{Name}
-use Rattle.adl_meaning.specs.Lists.{IsIn}
+use Rattle.numbering.specs.Gather.{IsIn}
 use Rattle.adl_meaning.specs.Members.{composition_of}
 use Rattle.adl_meaning.specs.Recursive.{instances_of, number_named, types_of, graph_of}
 use Rattle.component_graph.proofs.ComponentNumbers.{numbers_below, number_found, composed_instance, listed, graph_in_range}
-use Rattle.component_graph.proofs.Lists.{get_map, map_some}
+use Rattle.numbering.proofs.Lists.{get_map, map_some}
 use Rattle.component_graph.proofs.Walks.{walks_short}
 use Rattle.adl_hierarchy.proofs.HeldInstances.{port_in}
 use Rattle.adl_types.specs.LeafPort.{Outline, exported, exported_if, outline_of, outline_named, outlines_of, inside, inwards, leaf_port}

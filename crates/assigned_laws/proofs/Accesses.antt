@@ -19,7 +19,7 @@ use Rattle.adl_ast.specs.declared.source.SourceFile.{SourceFile}
 use Rattle.adl_hierarchy.proofs.Bodies.{body_number}
 use Rattle.adl_hierarchy.proofs.DomainNames.{leaf_number_is}
 use Rattle.adl_hierarchy.specs.Leads.{AreDotted}
-use Rattle.component_graph.proofs.Lists.{get_map}
+use Rattle.numbering.proofs.Lists.{get_map}
 use Rattle.adl_meaning.specs.declared.connector.Connector.{Connector}
 use Rattle.adl_meaning.specs.declared.flat.FlatConnection.{FlatConnection}
 use Rattle.adl_meaning.specs.declared.flat.FlatEnd.{FlatEnd}

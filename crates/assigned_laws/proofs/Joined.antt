@@ -8,13 +8,14 @@ use Rattle.adl_hierarchy.proofs.Connections.{connections_stand}
 use Rattle.adl_hierarchy.proofs.DomainNames.{leaf_number_is}
 use Rattle.adl_hierarchy.proofs.Joining.{all_joined, end_numbers_kept, ends_kept, joined, joins_joined}
 use Rattle.adl_hierarchy.specs.Leads.{AreDotted}
-use Rattle.component_graph.proofs.Lists.{get, get_map, in_get}
+use Rattle.component_graph.proofs.Lists.{get, in_get}
+use Rattle.numbering.proofs.Lists.{get_map}
 use Rattle.adl_meaning.specs.declared.flat.FlatConnection.{FlatConnection}
 use Rattle.adl_meaning.specs.declared.flat.FlatEnd.{FlatEnd}
 use Rattle.adl_meaning.specs.Flat.{flat_connection, flat_end, flat_ends, flat_of, leaf_number}
 use Rattle.adl_meaning.specs.Hierarchy.{Wire, hierarchy_of}
 use Rattle.adl_meaning.specs.Joins.{Reached, Strung, connections}
-use Rattle.adl_meaning.specs.Lists.{IsIn}
+use Rattle.numbering.specs.Gather.{IsIn}
 use Rattle.adl_meaning.specs.NameFaults.{AreNamesSound}
 use Rattle.adl_meaning.specs.Paths.{Path, Placed, leaves}
 use Rattle.arch_policy.specs.Ends.{EndAt}

@@ -23,14 +23,15 @@ use Rattle.adl_hierarchy.proofs.Leaves.{leaves_stand}
 use Rattle.adl_hierarchy.proofs.PartNames.{held_name, held_once, no_duplicates}
 use Rattle.adl_hierarchy.proofs.PartsAt.{last_of, named_in}
 use Rattle.adl_hierarchy.proofs.Repeats.{find_once}
-use Rattle.component_graph.proofs.Lists.{from_filter_map, from_flat_map, get_map, in_flat_map, in_get, in_map, map_some}
+use Rattle.component_graph.proofs.Lists.{in_get}
+use Rattle.numbering.proofs.Lists.{from_filter_map, from_flat_map, get_map, in_flat_map, in_map, map_some}
 use Rattle.adl_meaning.specs.Domains.{domain_of, domains, group_above, is_hardware}
 use Rattle.adl_meaning.specs.Flat.{domain_number, flat_connection, flat_domain, flat_of, leaf_number, leaf_of}
 use Rattle.adl_meaning.specs.Hierarchy.{Hierarchy, Part, body, hierarchy_of, kind_named, part_named, part_of, parts_by, parts_in, top_number}
 use Rattle.adl_meaning.specs.Holding.{Held, a_connection as held_connection, a_group, an_instance, as_connection, as_held, held_by, held_in, instances_by, member_of}
 use Rattle.adl_meaning.specs.Items.{Name}
 use Rattle.adl_meaning.specs.Joins.{Strung, connections}
-use Rattle.adl_meaning.specs.Lists.{IsIn}
+use Rattle.numbering.specs.Gather.{IsIn}
 use Rattle.adl_meaning.specs.NameFaults.{AreNamesSound}
 use Rattle.adl_meaning.specs.Paths.{Path, Placed, at, leaves, name_of}
 use Rattle.adl_meaning.specs.declared.flat.Domain.{Domain}

@@ -9,12 +9,13 @@ use Rattle.adl_hierarchy.proofs.Bodies.{body_number}
 use Rattle.adl_hierarchy.proofs.DomainNames.{domain_found, domains_are}
 use Rattle.adl_hierarchy.proofs.Leaves.{leaves_stand, paths_are_leaves}
 use Rattle.adl_hierarchy.proofs.PartsAt.{at_part}
-use Rattle.component_graph.proofs.Lists.{from_map, get_map, in_get}
+use Rattle.component_graph.proofs.Lists.{in_get}
+use Rattle.numbering.proofs.Lists.{from_map, get_map}
 use Rattle.adl_meaning.specs.CompositeBody.{is_device}
 use Rattle.adl_meaning.specs.Domains.{domain_of, domains, is_hardware}
 use Rattle.adl_meaning.specs.Flat.{domain_number, flat_domain, flat_of, item_of, leaf_of}
 use Rattle.adl_meaning.specs.Hierarchy.{Body, body, hierarchy_of, top_number}
-use Rattle.adl_meaning.specs.Lists.{IsIn}
+use Rattle.numbering.specs.Gather.{IsIn}
 use Rattle.adl_meaning.specs.NameFaults.{AreNamesSound}
 use Rattle.adl_meaning.specs.Paths.{Placed, at, leaves}
 use Rattle.adl_meaning.specs.declared.flat.Leaf.{Leaf}

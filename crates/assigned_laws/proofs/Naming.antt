@@ -5,7 +5,8 @@ use Rattle.adl_ast.specs.declared.source.Source.{Source}
 use Rattle.adl_hierarchy.proofs.DomainNames.{domain_found, domains_are}
 use Rattle.adl_hierarchy.proofs.Leaves.{leaves_stand}
 use Rattle.adl_hierarchy.proofs.PartsAt.{at_part}
-use Rattle.component_graph.proofs.Lists.{get_map, in_get}
+use Rattle.component_graph.proofs.Lists.{in_get}
+use Rattle.numbering.proofs.Lists.{get_map}
 use Rattle.adl_meaning.specs.CompositeBody.{is_device}
 use Rattle.adl_meaning.specs.Domains.{domain_of, domains, is_hardware}
 use Rattle.adl_meaning.specs.Flat.{domain_number, flat_connection, flat_domain, flat_of, leaf_of}

@@ -19,10 +19,11 @@ use Rattle.adl_hierarchy.proofs.Sources.{assembly_item, component_item, composed
 use Rattle.adl_hierarchy.specs.Spelled.{AreSpelled}
 use Rattle.adl_meaning.specs.Hierarchy.{body, hierarchy_of}
 use Rattle.adl_meaning.specs.Items.{items_in, items_of}
-use Rattle.adl_meaning.specs.Lists.{IsIn}
+use Rattle.numbering.specs.Gather.{IsIn}
 use Rattle.adl_meaning.specs.Members.{as_composition, compositions}
 use Rattle.adl_meaning.specs.declared.item_at.ItemAt.{ItemAt}
-use Rattle.component_graph.proofs.Lists.{from_enumerate, from_filter_map, from_flat_map, from_map, in_get}
+use Rattle.component_graph.proofs.Lists.{in_get}
+use Rattle.numbering.proofs.Lists.{from_enumerate, from_filter_map, from_flat_map, from_map}
 use Rattle.grammar.specs.Depth.{deep}
 use Rattle.grammar.specs.Spelling.{Each, Spells}
 

@@ -20,14 +20,15 @@ use Rattle.adl_meaning.specs.Flat.{flat_of}
 use Rattle.adl_meaning.specs.Hierarchy.{Part, body, hierarchy_of, top_number}
 use Rattle.adl_meaning.specs.Holding.{Held, a_connection, as_held, held_by, held_in}
 use Rattle.adl_meaning.specs.Items.{Name}
-use Rattle.adl_meaning.specs.Lists.{IsIn}
+use Rattle.numbering.specs.Gather.{IsIn}
 use Rattle.adl_meaning.specs.NameFaults.{AreNamesSound}
 use Rattle.adl_meaning.specs.Paths.{Path, at, name_of}
 use Rattle.assigned_laws.proofs.LabelPaths.{Ends, held_instance, label_ends}
 use Rattle.assigned_laws.proofs.SpelledLines.{IsOne, line_spelled, one_of}
 use Rattle.assigned_laws.specs.Texts.{AreUndotted, IsUndotted}
 use Rattle.cam_base.specs.Names.{is_letter, is_name, is_word_byte}
-use Rattle.component_graph.proofs.Lists.{from_flat_map, from_map, in_append}
+use Rattle.numbering.proofs.Gathered.{in_append}
+use Rattle.numbering.proofs.Lists.{from_flat_map, from_map}
 
 -- ---- identifiers
 

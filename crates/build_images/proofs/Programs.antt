@@ -19,11 +19,12 @@ use Rattle.adl_meaning.specs.Domains.{domain_of, is_hardware}
 use Rattle.adl_meaning.specs.Flat.{domain_number, flat_of, leaf_of}
 use Rattle.adl_meaning.specs.Hierarchy.{Body, Hierarchy, hierarchy_of}
 use Rattle.adl_meaning.specs.Items.{as_component, components, items_in, items_of}
-use Rattle.adl_meaning.specs.Lists.{IsIn}
+use Rattle.numbering.specs.Gather.{IsIn}
 use Rattle.adl_meaning.specs.NameFaults.{AreNamesSound}
 use Rattle.adl_meaning.specs.Paths.{Placed, leaves}
 use Rattle.cam_io.specs.Contents.{Contents}
-use Rattle.component_graph.proofs.Lists.{from_enumerate, from_filter_map, from_flat_map, from_map, get_map, in_filter_map, in_get}
+use Rattle.component_graph.proofs.Lists.{in_get}
+use Rattle.numbering.proofs.Lists.{from_enumerate, from_filter_map, from_flat_map, from_map, get_map, in_filter_map}
 use Rattle.flat_laws.proofs.FlatLeaves.{from_get, leaf_component}
 use Rattle.program_sections.specs.Images.{image_number}
 use Rattle.program_sections.specs.declared.images.Images.{Images}

@@ -11,11 +11,12 @@ use Rattle.adl_meaning.specs.declared.item_at.ItemAt.{ItemAt}
 use Rattle.adl_meaning.specs.Graph.{has, inner_of, InRange, IsAcyclic, is_held}
 use Rattle.adl_meaning.specs.Holding.{instances_in}
 use Rattle.adl_meaning.specs.Items.{Name}
-use Rattle.adl_meaning.specs.Lists.{IsIn}
+use Rattle.numbering.specs.Gather.{IsIn}
 use Rattle.adl_meaning.specs.Members.{compositions, composition_of}
 use Rattle.adl_meaning.specs.Recursive.{instances_of, number_from, number_named, types_of, graph_of, recursive_type, recursive_instance, recursive_in, recursive_among}
 use Rattle.component_graph.specs.Numbers.{AreBelow}
-use Rattle.component_graph.proofs.Lists.{in_flat_map, in_filter_map, from_filter_map, get_map, in_has, has_in, in_get, get, found, from_enumerate, in_enumerate, none_in, none_from, map_some}
+use Rattle.component_graph.proofs.Lists.{in_has, has_in, in_get, get}
+use Rattle.numbering.proofs.Lists.{in_flat_map, in_filter_map, from_filter_map, get_map, found, from_enumerate, in_enumerate, none_in, none_from, map_some}
 use Rattle.component_graph.proofs.Through.{through_complete, unheld}
 
 -- ---- numbers

@@ -11,7 +11,8 @@ use Rattle.adl_ast.specs.declared.composition.Role.TheVariants.{From, To}
 use Rattle.adl_ast.specs.declared.source.Source.{Source}
 use Rattle.adl_hierarchy.specs.Leads.{AreDotted}
 use Rattle.adl_hierarchy.proofs.Joining.{all_joined, end_numbers_kept}
-use Rattle.component_graph.proofs.Lists.{in_get, map_some}
+use Rattle.component_graph.proofs.Lists.{in_get}
+use Rattle.numbering.proofs.Lists.{map_some}
 use Rattle.adl_meaning.specs.declared.connector.Connector.{Connector}
 use Rattle.adl_meaning.specs.declared.connector.Connector.TheVariants.{Rpc, Notification, SharedMemory, Mmio, Interrupt, Direct}
 use Rattle.adl_meaning.specs.declared.flat.FlatConnection.{FlatConnection}
@@ -21,7 +22,7 @@ use Rattle.adl_meaning.specs.Domains.{domain_of, is_hardware}
 use Rattle.adl_meaning.specs.Flat.{domain_number, leaf_of, flat_end, flat_ends, flat_connection, flat_of}
 use Rattle.adl_meaning.specs.Hierarchy.{hierarchy_of}
 use Rattle.adl_meaning.specs.Joins.{Strung, joined_by, connections}
-use Rattle.adl_meaning.specs.Lists.{IsIn}
+use Rattle.numbering.specs.Gather.{IsIn}
 use Rattle.adl_meaning.specs.NameFaults.{AreNamesSound}
 use Rattle.adl_types.specs.EndCount.{count_of}
 use Rattle.adl_types.specs.TypeFaults.{first_type_fault}

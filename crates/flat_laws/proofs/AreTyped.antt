@@ -16,7 +16,8 @@ use Rattle.adl_meaning.specs.Domains.{is_hardware}
 use Rattle.adl_meaning.specs.Flat.{item_of, leaf_of, flat_of, is_interface}
 use Rattle.adl_meaning.specs.Hierarchy.{Body, Part, hierarchy_of, body, wires_of}
 use Rattle.adl_meaning.specs.Joins.{Strung, connections}
-use Rattle.adl_meaning.specs.Lists.{IsIn, place_by}
+use Rattle.adl_meaning.specs.Lists.{place_by}
+use Rattle.numbering.specs.Gather.{IsIn}
 use Rattle.adl_meaning.specs.NameFaults.{AreNamesSound}
 use Rattle.adl_types.specs.Kind.{is_kind_of}
 use Rattle.adl_types.specs.TypeFaults.{first_type_fault}

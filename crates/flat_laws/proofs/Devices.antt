@@ -7,7 +7,7 @@ use Rattle.adl_ast.specs.declared.composition.Role.{Role}
 use Rattle.adl_ast.specs.declared.composition.Role.TheVariants.{From, To}
 use Rattle.adl_meaning.specs.declared.connector.Connector.TheVariants.{Interrupt}
 use Rattle.adl_meaning.specs.declared.flat.FlatEnd.{FlatEnd}
-use Rattle.adl_meaning.specs.Lists.{IsIn}
+use Rattle.numbering.specs.Gather.{IsIn}
 use Rattle.conn_rules.specs.Ends.{end_rule}
 use Rattle.conn_rules.specs.Row.{same_role}
 use Rattle.spec_layout.specs.Tables.{device_leaf, is_from}

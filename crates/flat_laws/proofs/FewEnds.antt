@@ -10,7 +10,7 @@ use Rattle.adl_meaning.specs.Flat.{flat_end, flat_ends}
 use Rattle.adl_meaning.specs.Hierarchy.{hierarchy_of}
 use Rattle.adl_meaning.specs.JoinFaults.{first_flat_fault, first_join_fault}
 use Rattle.adl_meaning.specs.Joins.{Strung, joined_by, connections}
-use Rattle.adl_meaning.specs.Lists.{IsIn}
+use Rattle.numbering.specs.Gather.{IsIn}
 use Rattle.adl_meaning.specs.NameFaults.{AreNamesSound}
 use Rattle.adl_meaning.specs.SizeFaults.{first_size_fault}
 

@@ -13,7 +13,7 @@ use Rattle.adl_meaning.specs.declared.flat.FlatConnection.{FlatConnection}
 use Rattle.adl_meaning.specs.declared.flat.FlatEnd.{FlatEnd}
 use Rattle.adl_meaning.specs.Flat.{flat_of}
 use Rattle.adl_meaning.specs.Hierarchy.{hierarchy_of}
-use Rattle.adl_meaning.specs.Lists.{IsIn}
+use Rattle.numbering.specs.Gather.{IsIn}
 use Rattle.adl_meaning.specs.Values.{Given}
 use Rattle.adl_hierarchy.proofs.Exports.{not_so}
 use Rattle.adl_hierarchy.proofs.Leading.{is_there}
@@ -33,7 +33,8 @@ use Rattle.adl_settings.specs.SettingTwice.{settings_twice}
 use Rattle.adl_settings.specs.Settled.{LeafFound, end_settings, leaf_setting, leaves_found, settled_of}
 use Rattle.adl_types.specs.Kind.{is_kind_of}
 use Rattle.flat_laws.proofs.SlotBounds.{AreFewSlots, few_uses}
-use Rattle.component_graph.proofs.Lists.{from_map, get_map, in_filter_map, in_get, in_map, none_in, none_left, none_right}
+use Rattle.component_graph.proofs.Lists.{in_get}
+use Rattle.numbering.proofs.Lists.{from_map, get_map, in_filter_map, in_map, none_in, none_left, none_right}
 use Rattle.conn_rules.specs.Ends.{end_rule}
 use Rattle.flat_laws.specs.SourceTables.{tables_with}
 use Rattle.flat_laws.specs.Typed.{AreTyped}

@@ -10,7 +10,8 @@ use Rattle.adl_hierarchy.specs.PartAt.{part_at}
 use Rattle.adl_hierarchy.proofs.Bodies.{body_number, part_of_body}
 use Rattle.adl_hierarchy.proofs.DomainNames.{domains_are, leaves_of_domain, domain_number_is, domain_found}
 use Rattle.adl_hierarchy.proofs.Leaves.{leaves_stand}
-use Rattle.component_graph.proofs.Lists.{in_get, get_map, map_some}
+use Rattle.component_graph.proofs.Lists.{in_get}
+use Rattle.numbering.proofs.Lists.{get_map, map_some}
 use Rattle.adl_hierarchy.proofs.Steps.{part_in}
 use Rattle.adl_meaning.specs.declared.flat.Domain.{Domain}
 use Rattle.adl_meaning.specs.declared.flat.Leaf.{Leaf}
@@ -19,7 +20,7 @@ use Rattle.adl_meaning.specs.Domains.{domain_of, domains, is_hardware}
 use Rattle.adl_meaning.specs.Flat.{domain_number, item_of, leaf_of, flat_domain, flat_of}
 use Rattle.adl_meaning.specs.Hierarchy.{Hierarchy, Part, Body, hierarchy_of, body, part_named, top_number}
 use Rattle.adl_meaning.specs.Items.{components}
-use Rattle.adl_meaning.specs.Lists.{IsIn}
+use Rattle.numbering.specs.Gather.{IsIn}
 use Rattle.adl_meaning.specs.NameFaults.{AreNamesSound}
 use Rattle.adl_meaning.specs.Paths.{Path, Placed, leaves}
 use Rattle.leaf_ends.specs.Members.{members_at, leaf_members, members_of_leaf}

@@ -18,7 +18,7 @@ use Rattle.adl_hierarchy.specs.Leads.{AreDotted}
 use Rattle.adl_hierarchy.proofs.Bodies.{body_number, part_of_body}
 use Rattle.adl_hierarchy.proofs.KnownNames.{no_unknown, export_known, end_known, dotted_known}
 use Rattle.adl_hierarchy.proofs.Leading.{is_there, interface_known, own_connection}
-use Rattle.component_graph.proofs.Lists.{from_map, found, map_some}
+use Rattle.numbering.proofs.Lists.{from_map, found, map_some}
 use Rattle.adl_hierarchy.proofs.PartNames.{names_once}
 use Rattle.adl_hierarchy.proofs.Repeats.{find_once}
 use Rattle.adl_hierarchy.proofs.Whole.{parts_whole}
@@ -30,7 +30,7 @@ use Rattle.adl_meaning.specs.Holding.{held_as, instances_in, exports_in}
 use Rattle.adl_meaning.specs.Items.{Name, components, component_named}
 use Rattle.adl_meaning.specs.Joins.{Reached, behind, reached_by, reached_within, reached, joined_by}
 use Rattle.adl_meaning.specs.Known.{known_of, known_in}
-use Rattle.adl_meaning.specs.Lists.{IsIn}
+use Rattle.numbering.specs.Gather.{IsIn}
 use Rattle.adl_meaning.specs.Members.{interface_of, composition_of}
 use Rattle.adl_meaning.specs.NameFaults.{AreNamesSound}
 use Rattle.adl_meaning.specs.Paths.{name_of}

@@ -6,9 +6,9 @@ use Rattle.adl_ast.specs.declared.file.Ended.{Ended}
 use Rattle.adl_ast.specs.declared.file.Item.{Item}
 use Rattle.adl_ast.specs.declared.file.Item.TheVariants as items
 use Rattle.adl_ast.specs.declared.source.Source.{Source}
-use Rattle.component_graph.proofs.Lists.{from_map, from_flat_map, from_filter_map, from_enumerate}
+use Rattle.numbering.proofs.Lists.{from_map, from_flat_map, from_filter_map, from_enumerate}
 use Rattle.adl_meaning.specs.Items.{items_in, items_of, as_component, components}
-use Rattle.adl_meaning.specs.Lists.{IsIn}
+use Rattle.numbering.specs.Gather.{IsIn}
 use Rattle.adl_meaning.specs.declared.item_at.ItemAt.{ItemAt}
 use Rattle.leaf_ends.specs.Members.{members_of, members_in, items_of_file, members_at}
 

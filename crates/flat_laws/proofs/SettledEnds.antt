@@ -16,11 +16,12 @@ use Rattle.adl_meaning.specs.declared.flat.FlatEnd.{FlatEnd}
 use Rattle.adl_meaning.specs.declared.flat.Leaf.{Leaf}
 use Rattle.adl_meaning.specs.Flat.{flat_of}
 use Rattle.adl_meaning.specs.Hierarchy.{hierarchy_of}
-use Rattle.adl_meaning.specs.Lists.{IsIn}
+use Rattle.numbering.specs.Gather.{IsIn}
 use Rattle.adl_settings.specs.EndMeaning.{end_setting}
 use Rattle.adl_settings.specs.Joints.{Found, Joint, as_component, as_interface, behind, interface_at, found_at, found_of, found_on, founds_in, joint_at, positioned, positioned_after}
 use Rattle.adl_settings.specs.Settled.{end_settings, settled_of}
-use Rattle.component_graph.proofs.Lists.{get_map, in_get}
+use Rattle.component_graph.proofs.Lists.{in_get}
+use Rattle.numbering.proofs.Lists.{get_map}
 use Rattle.leaf_ends.specs.Members.{items_of_file, members_at, members_in, members_of}
 use Rattle.flat_laws.specs.EndSettings.{AreEndsSettled}
 use Rattle.flat_laws.specs.Typed.{AreTyped, IsTypedEnd}

@@ -17,11 +17,12 @@ use Rattle.adl_ast.specs.declared.file.Item.{Item}
 use Rattle.adl_ast.specs.declared.file.Item.TheVariants as items
 use Rattle.adl_ast.specs.declared.seen.Seen.{Seen}
 use Rattle.adl_ast.specs.declared.source.Source.{Source}
-use Rattle.component_graph.proofs.Lists.{from_map, from_flat_map, from_enumerate, in_get}
+use Rattle.component_graph.proofs.Lists.{in_get}
+use Rattle.numbering.proofs.Lists.{from_map, from_flat_map, from_enumerate}
 use Rattle.adl_hierarchy.proofs.Sources.{component_item}
 use Rattle.adl_meaning.specs.declared.item_at.ItemAt.{ItemAt}
 use Rattle.adl_meaning.specs.Items.{items_in, items_of, components}
-use Rattle.adl_meaning.specs.Lists.{IsIn}
+use Rattle.numbering.specs.Gather.{IsIn}
 use Rattle.adl_meaning.specs.FewMembers.{HaveFewMembers}
 use Rattle.flat_laws.specs.ShortFiles.{AreFilesShort}
 

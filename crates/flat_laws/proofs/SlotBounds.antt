@@ -12,7 +12,7 @@ use Rattle.adl_meaning.specs.Items.{assemblies}
 use Rattle.adl_meaning.specs.SizeFaults.{limit_passed}
 use Rattle.adl_meaning.proofs.Least.{least-empty}
 use Rattle.adl_hierarchy.proofs.Limits.{not_passed}
-use Rattle.component_graph.proofs.Lists.{none_left, none_right}
+use Rattle.numbering.proofs.Lists.{none_left, none_right}
 use Rattle.cspace_layout.specs.declared.plan.SlotPlan.{SlotPlan}
 use Rattle.cspace_layout.specs.SlotFaults.{counts, first_slot_fault, greatest, limits_passed, slot_faults}
 use Rattle.cspace_layout.specs.Uses.{domain_uses, plan_of, slots_of}

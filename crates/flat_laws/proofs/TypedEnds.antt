@@ -10,7 +10,8 @@ use Rattle.adl_ast.specs.declared.composition.End.{End}
 use Rattle.adl_ast.specs.declared.file.Item.{Item}
 use Rattle.adl_ast.specs.declared.file.Item.TheVariants as items
 use Rattle.adl_ast.specs.declared.source.Source.{Source}
-use Rattle.component_graph.proofs.Lists.{in_map, in_flat_map, from_filter_map, in_get, none_in, none_left, none_right, map_some}
+use Rattle.component_graph.proofs.Lists.{in_get}
+use Rattle.numbering.proofs.Lists.{in_map, in_flat_map, from_filter_map, none_in, none_left, none_right, map_some}
 use Rattle.adl_hierarchy.proofs.Sources.{component_item, assembly_item, composed}
 use Rattle.adl_meaning.specs.declared.connector.Connector.{Connector}
 use Rattle.adl_meaning.specs.declared.item_at.ItemAt.{ItemAt}
@@ -22,7 +23,7 @@ use Rattle.adl_meaning.specs.Hierarchy.{Wire, hierarchy_of, body, wire_of, wires
 use Rattle.adl_meaning.specs.Holding.{held_as, connections_in}
 use Rattle.adl_meaning.specs.Items.{items_of, components}
 use Rattle.adl_meaning.specs.Joins.{Reached}
-use Rattle.adl_meaning.specs.Lists.{IsIn}
+use Rattle.numbering.specs.Gather.{IsIn}
 use Rattle.adl_meaning.specs.Members.{compositions}
 use Rattle.adl_meaning.proofs.Least.{least-empty}
 use Rattle.adl_types.specs.EndCount.{may_have, wrong_count, wrong_counts}

@@ -4,7 +4,7 @@ use Rattle.adl_ast.specs.Spelling.{IsFileSpelled}
 use Rattle.adl_ast.specs.declared.seen.Seen.{Seen}
 use Rattle.adl_ast.specs.declared.source.Source.{Source}
 use Rattle.adl_ast.specs.declared.source.SourceFile.{SourceFile}
-use Rattle.adl_meaning.specs.Lists.{IsIn}
+use Rattle.numbering.specs.Gather.{IsIn}
 
 abbrev pub AreFilesShort : Source → Type 0
 AreFilesShort s = (f : SourceFile) → IsIn f s.files → (ts : List Seen) × IsFileSpelled f.tree ts × (length ts ≤ 1048576)

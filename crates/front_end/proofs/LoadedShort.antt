@@ -9,7 +9,7 @@ use Rattle.adl_import.proofs.Whole.{clean_each}
 use Rattle.adl_import.specs.Folding.{root_name}
 use Rattle.adl_import.specs.Loaded.{IsLoaded, IsLoadedBy}
 use Rattle.adl_import.specs.Sources.{AreFilesOf}
-use Rattle.adl_meaning.specs.Lists.{IsIn}
+use Rattle.numbering.specs.Gather.{IsIn}
 use Rattle.front_end.proofs.LoadedFew.{tokens_within}
 use Rattle.cam_io.specs.Contents.{Contents}
 use Rattle.flat_laws.specs.ShortFiles.{AreFilesShort}

@@ -1,9 +1,9 @@
 -- What stands in a list, and what a list's elements are made into.
-use Rattle.std.proofs.Common.{◌≡◌, ◌<◌, ◌∙◌, ℕ, zero, suc, List, [], ◌∷◌, length, get_or, map, refl, ap, subst, inl, inr, Some, arith}
-use Rattle.std.specs.List.{slice_get}
+use Rattle.std.proofs.Common.{◌≡◌, ◌<◌, ◌≤◌, ◌+◌, ◌∙◌, ℕ, zero, suc, Bool, true, false, cond, List, [], ◌∷◌, ◌++◌, length, take, drop, get_or, map, refl, sym, ap, subst, inl, inr, ◌⊎◌, Option, Some, None, option_map, arith}
+use Rattle.std.specs.List.{flat_map, filter_map, find, enumerate_from, cons_option, range_with_len, slice_get}
 use Rattle.std.proofs.lemmas.Option.{slice_get-get_or, slice_get_read}
 use Rattle.numbering.specs.Gather.{IsIn, gather}
-use Rattle.numbering.proofs.Gathered.{in_place}
+use Rattle.numbering.proofs.Gathered.{in_append, in_left, in_right, in_place, length_append}
 
 pub in_map : {X A : Type 0} (f : X → A) (x : X) (xs : List X) → IsIn x xs → IsIn (f x) (map f xs)
 in_map f x [] h = h
@@ -40,3 +40,158 @@ map_ones f g h e [] = refl
 map_ones {X} {Y} {Z} f g h e (x ∷ xs) =
     let front : (a b : Z) (us vs : List Z) → a ≡ b → us ≡ vs → a ∷ us ≡ b ∷ vs = λ a b us vs p q. ap (λ z. z ∷ us) p ∙ ap (λ z. b ∷ z) q in
     front _ _ _ _ (e 0 x) (map_ones f (λ j y. g (suc j) y) h (λ j y. e (suc j) y) xs)
+
+pub in_flat_map : {X Y : Type 0} (f : X → List Y) (x : X) (y : Y) (xs : List X) → IsIn x xs → IsIn y (f x) → IsIn y (flat_map f xs)
+in_flat_map f x y [] i j = absurd i
+in_flat_map {X} {Y} f x y (z ∷ xs) (inl e) j = let P : X → Type 0 = λ u. IsIn y (f u) in in_left y (f z) (flat_map f xs) (subst P (sym e) j)
+in_flat_map f x y (z ∷ xs) (inr i) j = in_right y (f z) (flat_map f xs) (in_flat_map f x y xs i j)
+
+pub from_flat_map : {X Y : Type 0} (f : X → List Y) (y : Y) (xs : List X) → IsIn y (flat_map f xs) → (x : X) × IsIn x xs × IsIn y (f x)
+from_flat_map f y [] i = absurd i
+from_flat_map f y (z ∷ xs) i = elim (in_append y (f z) (flat_map f xs) i) [
+  | inl j ↦ (z, inl refl, j)
+  | inr j ↦ let k = from_flat_map f y xs j in (k.0, inr k.1, k.2)
+]
+
+pub in_filter_map : {X Y : Type 0} (f : X → Option Y) (x : X) (y : Y) (xs : List X) → IsIn x xs → f x ≡ Some y → IsIn y (filter_map f xs)
+in_filter_map f x y [] i e = absurd i
+in_filter_map f x y (z ∷ xs) (inl s) e = front (f z) (ap f s ∙ e)
+  where
+    front : (o : Option _) → o ≡ Some y → IsIn y (cons_option o (filter_map f xs))
+    front None t = cc
+    front (Some u) t = inl (cc)
+in_filter_map f x y (z ∷ xs) (inr i) e = behind (f z) (in_filter_map f x y xs i e)
+  where
+    behind : (o : Option _) → IsIn y (filter_map f xs) → IsIn y (cons_option o (filter_map f xs))
+    behind None j = j
+    behind (Some u) j = inr j
+
+pub from_filter_map : {X Y : Type 0} (f : X → Option Y) (y : Y) (xs : List X) → IsIn y (filter_map f xs) → (x : X) × IsIn x xs × (f x ≡ Some y)
+from_filter_map f y [] i = absurd i
+from_filter_map {X} {Y} f y (z ∷ xs) i = by_case (f z) refl (from_filter_map f y xs) i
+  where
+    by_case : (o : Option Y) → f z ≡ o → (IsIn y (filter_map f xs) → (x : X) × IsIn x xs × (f x ≡ Some y)) → IsIn y (cons_option o (filter_map f xs)) → (x : X) × IsIn x (z ∷ xs) × (f x ≡ Some y)
+    by_case None e ih j = let k = ih j in (k.0, inr k.1, k.2)
+    by_case (Some u) e ih (inl s) = (z, inl refl, e ∙ ap Some s)
+    by_case (Some u) e ih (inr j) = let k = ih j in (k.0, inr k.1, k.2)
+
+-- what is found is in the list, and passes
+pub found : {X : Type 0} (p : X → Bool) (xs : List X) (x : X) → find p xs ≡ Some x → IsIn x xs × (p x ≡ true)
+found p [] x e = cc
+found {X} p (y ∷ xs) x e = by_test (p y) refl (found p xs x) e
+  where
+    by_test : (b : Bool) → p y ≡ b → (find p xs ≡ Some x → IsIn x xs × (p x ≡ true)) → cond b (Some y) (find p xs) ≡ Some x → IsIn x (y ∷ xs) × (p x ≡ true)
+    by_test true t ih e = let s : y ≡ x = cc in (inl s, ap p (sym s) ∙ t)
+    by_test false t ih e = let k = ih e in (inr k.0, k.1)
+
+pub from_enumerate : {X : Type 0} (a : ℕ) (xs : List X) (x : ℕ × X) → IsIn x (enumerate_from a xs) → (j : ℕ) × (x.0 ≡ a + j) × (slice_get xs j ≡ Some x.1)
+from_enumerate a [] x i = absurd i
+from_enumerate {X} a (y ∷ xs) x (inl e) = (0, ap (λ (z : ℕ × X). z.0) (sym e) ∙ omega arith, ap (λ (z : ℕ × X). Some z.1) e)
+from_enumerate a (y ∷ xs) x (inr i) = let k = from_enumerate (a + 1) xs x i in (suc k.0, k.1 ∙ omega arith, k.2)
+
+pub in_enumerate : {X : Type 0} (a : ℕ) (xs : List X) (j : ℕ) (x : X) → slice_get xs j ≡ Some x → IsIn (a + j, x) (enumerate_from a xs)
+in_enumerate a [] j x e = cc
+in_enumerate {X} a (y ∷ xs) zero x e = let s : y ≡ x = cc in let t : a ≡ a + 0 = omega arith in inl (ap (λ z. (z, y)) t ∙ ap (λ z. (a + 0, z)) s)
+in_enumerate {X} a (y ∷ xs) (suc j) x e =
+    let t : (a + 1) + j ≡ a + suc j = omega arith in
+    let P : ℕ → Type 0 = λ z. IsIn (z, x) (enumerate_from (a + 1) xs) in
+    inr (subst P t (in_enumerate (a + 1) xs j x e))
+
+-- where a list of lists is empty, each of them is
+pub none_in : {X Y : Type 0} (f : X → List Y) (xs : List X) (x : X) → flat_map f xs ≡ [] → IsIn x xs → f x ≡ []
+none_in {X} {Y} f xs x e i = by_case (f x) (λ y j. let P : List Y → Type 0 = λ ys. IsIn y ys in subst P e (in_flat_map f x y xs i j))
+  where
+    by_case : (ys : List Y) → ((y : Y) → IsIn y ys → IsIn y []) → ys ≡ []
+    by_case [] h = refl
+    by_case (y ∷ ys) h = absurd (h y (inl refl))
+
+-- and where each of them is, the list of lists is
+pub none_from : {X Y : Type 0} (f : X → List Y) (xs : List X) → ((x : X) → IsIn x xs → f x ≡ []) → flat_map f xs ≡ []
+none_from f [] h = refl
+none_from f (x ∷ xs) h = ap (λ ys. ys ++ flat_map f xs) (h x (inl refl)) ∙ none_from f xs (λ y i. h y (inr i))
+
+-- a list in which nothing stands is empty
+pub empty : {X : Type 0} (xs : List X) → ((x : X) → IsIn x xs → ⊥) → xs ≡ []
+empty [] h = refl
+empty (x ∷ xs) h = absurd (h x (inl refl))
+
+-- functions that agree on what stands in a list
+pub flat_map_same : {X Y : Type 0} (f g : X → List Y) (xs : List X) → ((x : X) → IsIn x xs → f x ≡ g x) → flat_map f xs ≡ flat_map g xs
+flat_map_same f g [] h = refl
+flat_map_same f g (x ∷ xs) h = ap (λ ys. ys ++ flat_map f xs) (h x (inl refl)) ∙ ap (λ ys. g x ++ ys) (flat_map_same f g xs (λ y i. h y (inr i)))
+
+-- what an index reads of a mapped list, or the default behind its end
+pub get_or_map : {X Y : Type 0} (f : X → Y) (xs : List X) (k : ℕ) (d : Y)
+    → ((x : X) × (slice_get xs k ≡ Some x) × (get_or (map f xs) k d ≡ f x)) ⊎ ((length xs ≤ k) × (get_or (map f xs) k d ≡ d))
+get_or_map f [] k d = inr (omega arith, refl)
+get_or_map f (x ∷ xs) zero d = inl (x, refl, refl)
+get_or_map f (x ∷ xs) (suc k) d = elim (get_or_map f xs k d) [ inl p ↦ inl p | inr p ↦ inr (let l = p.0 in omega arith, p.1) ]
+
+-- an element behind a list is what its default reads
+pub get_or_last : {X Y : Type 0} (f : X → Y) (xs : List X) (x : X) (k : ℕ) (d : Y) → k ≤ length xs → get_or (map f (xs ++ x ∷ [])) k d ≡ f (get_or xs k x)
+get_or_last f [] x zero d l = refl
+get_or_last f [] x (suc k) d l = absurd (omega arith)
+get_or_last f (y ∷ xs) x zero d l = refl
+get_or_last f (y ∷ xs) x (suc k) d l = get_or_last f xs x k d (omega arith)
+
+pub map_some : {X Y : Type 0} (f : X → Y) (o : Option X) (y : Y) → option_map f o ≡ Some y → (x : X) × (o ≡ Some x) × (f x ≡ y)
+map_some f None y e = cc
+map_some f (Some x) y e = (x, refl, cc)
+
+pub none_left : {X : Type 0} (xs ys : List X) → xs ++ ys ≡ [] → xs ≡ []
+none_left [] ys e = refl
+none_left (x ∷ xs) ys e = cc
+
+pub none_right : {X : Type 0} (xs ys : List X) → xs ++ ys ≡ [] → ys ≡ []
+none_right [] ys e = e
+none_right (x ∷ xs) ys e = cc
+
+pub below : {X : Type 0} (xs : List X) (k : ℕ) (x : X) → slice_get xs k ≡ Some x → k < length xs
+below [] k x e = cc
+below (y ∷ xs) zero x e = omega arith
+below (y ∷ xs) (suc k) x e = let ih = below xs k x e in omega (arith, ih)
+
+pub single : {X : Type 0} (x y : X) (i : ℕ) → slice_get (x ∷ []) i ≡ Some y → (i ≡ 0) × (x ≡ y)
+single x y zero e = (refl, cc)
+single x y (suc i) e = cc
+
+-- ---- ranges
+
+pub in_range : (a n i : ℕ) → i < n → IsIn (a + i) (range_with_len a n)
+in_range a zero i l = absurd (omega (arith, l))
+in_range a (suc n) zero l = inl (omega arith)
+in_range a (suc n) (suc i) l =
+    let e : a + 1 + i ≡ a + suc i = omega arith in
+    let P : ℕ → Type 0 = λ z. IsIn z (range_with_len (a + 1) n) in inr (subst P e (in_range (a + 1) n i (omega (arith, l))))
+
+pub from_range : (a n i : ℕ) → IsIn i (range_with_len a n) → i < a + n
+from_range a zero i h = absurd h
+from_range a (suc n) i (inl e) = omega (arith, e)
+from_range a (suc n) i (inr h) = let l = from_range (a + 1) n i h in omega (arith, l)
+
+-- ---- lists that begin with another
+
+pub get_drop : {X : Type 0} (xs : List X) (p j : ℕ) → slice_get (drop p xs) j ≡ slice_get xs (p + j)
+get_drop xs zero j = let e : j ≡ 0 + j = omega arith in ap (λ z. slice_get xs z) e
+get_drop [] (suc p) j = refl
+get_drop (x ∷ xs) (suc p) j =
+    let e : suc (p + j) ≡ suc p + j = omega arith in get_drop xs p j ∙ ap (λ z. slice_get (x ∷ xs) z) e
+
+pub begins_with : {X : Type 0} (xs ts : List X) → ((j : ℕ) (y : X) → slice_get ts j ≡ Some y → slice_get xs j ≡ Some y) → xs ≡ ts ++ drop (length ts) xs
+begins_with xs [] h = refl
+begins_with [] (y ∷ ts) h = let e = h 0 y refl in cc
+begins_with {X} (x ∷ xs) (y ∷ ts) h =
+    let e = h 0 y refl in
+    let same : x ≡ y = cc in
+    ap (λ z. z ∷ xs) same ∙ ap (λ zs. y ∷ zs) (begins_with xs ts (λ j z f. h (suc j) z f))
+
+-- ---- how long lists are
+
+-- what comes from the first elements is no more than what comes from all
+pub taken_le : {X Y : Type 0} (F : ℕ → X → List Y) (xs : List X) (i : ℕ) → length (gather F (take i xs)) ≤ length (gather F xs)
+taken_le F [] zero = omega arith
+taken_le F [] (suc i) = omega arith
+taken_le F (x ∷ xs) zero = omega arith
+taken_le F (x ∷ xs) (suc i) =
+    let G : ℕ → _ → List _ = λ k y. F (suc k) y in
+    omega (arith, taken_le G xs i, length_append (F 0 x) (gather G (take i xs)), length_append (F 0 x) (gather G xs))

@@ -8,7 +8,7 @@ use Rattle.adl_meaning.specs.Items.{assemblies}
 use Rattle.adl_meaning.specs.SizeFaults.{limit_passed}
 use Rattle.adl_meaning.proofs.Least.{least-empty}
 use Rattle.adl_hierarchy.proofs.Limits.{not_passed}
-use Rattle.component_graph.proofs.Lists.{none_left, none_right}
+use Rattle.numbering.proofs.Lists.{none_left, none_right}
 use Rattle.vspace_layout.specs.Given.{Given}
 use Rattle.vspace_layout.specs.PageLimits.{first_page_limit, limits_passed, page_counts, page_faults, table_counts}
 

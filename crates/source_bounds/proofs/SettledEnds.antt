@@ -11,14 +11,15 @@ use Rattle.adl_meaning.specs.declared.settled.EndSetting.{EndSetting}
 use Rattle.adl_meaning.specs.declared.settled.EndSettings.{EndSettings}
 use Rattle.adl_meaning.specs.Flat.{flat_of}
 use Rattle.adl_meaning.specs.Hierarchy.{hierarchy_of}
-use Rattle.adl_meaning.specs.Lists.{IsIn}
+use Rattle.numbering.specs.Gather.{IsIn}
 use Rattle.adl_settings.specs.BadValue.{bad_at_end, bad_in_connection}
 use Rattle.adl_settings.specs.EndMeaning.{end_setting}
 use Rattle.adl_settings.specs.Joints.{Found, Joint, found_at, found_on, founds_in}
 use Rattle.adl_settings.specs.Missing.{missing_at, missing_in}
 use Rattle.adl_settings.specs.Settled.{end_settings, settled_of}
 use Rattle.adl_types.specs.Kind.{is_kind_of}
-use Rattle.component_graph.proofs.Lists.{get_map, in_get, none_in}
+use Rattle.component_graph.proofs.Lists.{in_get}
+use Rattle.numbering.proofs.Lists.{get_map, none_in}
 use Rattle.conn_rules.specs.Ends.{end_rule}
 use Rattle.flat_laws.specs.Typed.{AreTyped}
 use Rattle.flat_laws.proofs.Fit.{AreSettingsSound}

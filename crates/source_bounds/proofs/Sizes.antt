@@ -14,7 +14,7 @@ use Rattle.adl_settings.specs.BadValue.{bad_at_end}
 use Rattle.adl_settings.specs.EndMeaning.{bytes_of, default_bytes, end_setting, paddr_of}
 use Rattle.adl_settings.specs.Joints.{Found, is_device_memory, is_shared}
 use Rattle.adl_settings.specs.Meant.{bad_value, meaning, meant}
-use Rattle.component_graph.proofs.Lists.{none_left, none_right}
+use Rattle.numbering.proofs.Lists.{none_left, none_right}
 use Rattle.flat_laws.proofs.TypedEnds.{so}
 
 -- one page at least, and at most 65,536

@@ -23,11 +23,12 @@ use Rattle.adl_meaning.specs.declared.item_at.ItemAt.{ItemAt}
 use Rattle.adl_meaning.specs.Flat.{flat_of, leaf_of}
 use Rattle.adl_meaning.specs.Hierarchy.{Body, hierarchy_of}
 use Rattle.adl_meaning.specs.Items.{as_component, components, items_in, items_of}
-use Rattle.adl_meaning.specs.Lists.{IsIn}
+use Rattle.numbering.specs.Gather.{IsIn}
 use Rattle.adl_meaning.specs.NameFaults.{AreNamesSound}
 use Rattle.adl_meaning.specs.Paths.{leaves}
 use Rattle.cam_base.specs.Names.{is_name}
-use Rattle.component_graph.proofs.Lists.{from_enumerate, from_filter_map, from_flat_map, from_map, in_get}
+use Rattle.component_graph.proofs.Lists.{in_get}
+use Rattle.numbering.proofs.Lists.{from_enumerate, from_filter_map, from_flat_map, from_map}
 use Rattle.flat_laws.specs.ShortFiles.{AreFilesShort}
 use Rattle.flat_laws.proofs.FlatLeaves.{from_get, leaf_component}
 use Rattle.leaf_ends.specs.Members.{items_of_file}

@@ -15,12 +15,14 @@ use Rattle.adl_ast.specs.declared.source.SourceFile.{SourceFile}
 use Rattle.adl_meaning.specs.declared.flat.Leaf.{Leaf}
 use Rattle.adl_meaning.specs.declared.item_at.ItemAt.{ItemAt}
 use Rattle.adl_meaning.specs.Flat.{flat_of}
-use Rattle.adl_meaning.specs.Lists.{IsIn, firsts_after}
+use Rattle.adl_meaning.specs.Lists.{firsts_after}
+use Rattle.numbering.specs.Gather.{IsIn}
 use Rattle.cam_base.specs.Names.{is_name}
 use Rattle.cam_base.specs.Numbers.{fits, is_decimal, is_hexadecimal, number_value}
 use Rattle.cam_io.specs.Contents.{Contents}
 use Rattle.cap_model.specs.declared.level.Arch.TheVariants.{Arm11, Aarch64}
-use Rattle.component_graph.proofs.Lists.{from_filter_map, in_get, map_some}
+use Rattle.component_graph.proofs.Lists.{in_get}
+use Rattle.numbering.proofs.Lists.{from_filter_map, map_some}
 use Rattle.flat_laws.specs.ShortFiles.{AreFilesShort}
 use Rattle.program_sections.specs.declared.images.Images.{Images}
 use Rattle.sect_table.specs.Headers.{header, header_of}

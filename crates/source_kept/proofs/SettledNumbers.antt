@@ -17,14 +17,15 @@ use Rattle.adl_meaning.specs.declared.settled.EndSetting.{EndSetting}
 use Rattle.adl_meaning.specs.declared.settled.EndSettings.{EndSettings}
 use Rattle.adl_meaning.specs.Flat.{flat_of}
 use Rattle.adl_meaning.specs.Hierarchy.{hierarchy_of}
-use Rattle.adl_meaning.specs.Lists.{IsIn}
+use Rattle.numbering.specs.Gather.{IsIn}
 use Rattle.adl_meaning.specs.Values.{Given}
 use Rattle.adl_settings.specs.Allowed.{badge_in, badge_kind, irq_in, is_badge_text, number_in, within}
 use Rattle.adl_settings.specs.EndMeaning.{badge_at, badge_of, end_setting, irq_of}
 use Rattle.adl_settings.specs.Joints.{Found, Joint, behind, found_at, found_of, found_on, founds_in, has_badge, interface_at, joint_at, joint_of, positioned, positioned_after}
 use Rattle.adl_settings.specs.Meant.{meaning, meant}
 use Rattle.adl_settings.specs.Settled.{end_settings, settled_of}
-use Rattle.component_graph.proofs.Lists.{from_filter_map, in_get, map_some}
+use Rattle.component_graph.proofs.Lists.{in_get}
+use Rattle.numbering.proofs.Lists.{from_filter_map, map_some}
 use Rattle.flat_laws.proofs.FlatLeaves.{from_get}
 use Rattle.leaf_ends.specs.Lookups.{setting_of}
 use Rattle.system_spec.specs.Objects.{settled_badge}

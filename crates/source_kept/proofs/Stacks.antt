@@ -26,7 +26,8 @@ use Rattle.adl_settings.specs.Missing.{missing_values}
 use Rattle.adl_settings.specs.SettingFaults.{first_setting_fault, setting_faults, value_faults}
 use Rattle.adl_settings.specs.SettingTwice.{settings_twice}
 use Rattle.adl_settings.specs.Settled.{LeafFound, leaf_found, leaf_setting, leaves_found, settled_of}
-use Rattle.component_graph.proofs.Lists.{get_map, in_get, none_in, none_left, none_right}
+use Rattle.component_graph.proofs.Lists.{in_get}
+use Rattle.numbering.proofs.Lists.{get_map, none_in, none_left, none_right}
 use Rattle.flat_laws.proofs.FlatLeaves.{from_get, leaf_owned}
 use Rattle.flat_laws.proofs.TypedEnds.{so}
 use Rattle.leaf_ends.specs.declared.end_at.EndAt.{EndAt}

@@ -16,7 +16,7 @@ use Rattle.adl_meaning.specs.Domains.{domain_of, is_hardware}
 use Rattle.adl_meaning.specs.Flat.{domain_number, flat_connection, flat_end, flat_ends, flat_of, leaf_of}
 use Rattle.adl_meaning.specs.Hierarchy.{hierarchy_of}
 use Rattle.adl_meaning.specs.Joins.{Strung, connections}
-use Rattle.adl_meaning.specs.Lists.{IsIn}
+use Rattle.numbering.specs.Gather.{IsIn}
 use Rattle.adl_meaning.specs.NameFaults.{AreNamesSound}
 use Rattle.adl_meaning.specs.Paths.{leaves}
 use Rattle.adl_meaning.specs.declared.connector.Connector.{Connector}

@@ -9,7 +9,7 @@ use Rattle.adl_hierarchy.specs.Spelled.{AreSpelled}
 use Rattle.adl_import.proofs.Whole.{clean_each}
 use Rattle.adl_import.specs.Folding.{root_name}
 use Rattle.adl_import.specs.Loaded.{IsLoaded, IsLoadedBy}
-use Rattle.adl_meaning.specs.Lists.{IsIn}
+use Rattle.numbering.specs.Gather.{IsIn}
 use Rattle.cam_io.specs.Contents.{Contents}
 
 -- what stands in a list has others before and behind it

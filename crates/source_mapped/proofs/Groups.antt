@@ -7,7 +7,7 @@ use Rattle.adl_meaning.specs.declared.flat.Domain.{Domain}
 use Rattle.adl_meaning.specs.Domains.{domains}
 use Rattle.adl_meaning.specs.Flat.{flat_domain, flat_of, is_inside}
 use Rattle.adl_meaning.specs.Hierarchy.{hierarchy_of}
-use Rattle.adl_meaning.specs.Lists.{IsIn}
+use Rattle.numbering.specs.Gather.{IsIn}
 use Rattle.adl_meaning.specs.Paths.{Placed, leaves}
 use Rattle.component_graph.proofs.Lists.{in_get}
 use Rattle.flat_laws.proofs.FlatLeaves.{from_get}

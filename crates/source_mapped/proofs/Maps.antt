@@ -16,7 +16,7 @@ use Rattle.adl_settings.specs.EndMeaning.{end_setting}
 use Rattle.adl_settings.specs.Settled.{leaf_found, leaf_setting, leaves_found, settled_of}
 use Rattle.adl_settings.specs.SettingFaults.{first_setting_fault}
 use Rattle.adl_types.specs.TypeFaults.{first_type_fault}
-use Rattle.component_graph.proofs.Lists.{get_map}
+use Rattle.numbering.proofs.Lists.{get_map}
 use Rattle.conn_rules.specs.Ends.{end_rule}
 use Rattle.cspace_layout.specs.SlotFaults.{first_slot_fault}
 use Rattle.flat_laws.specs.ShortFiles.{AreFilesShort}

@@ -12,7 +12,7 @@ use Rattle.adl_settings.specs.EndMeaning.{end_setting}
 use Rattle.adl_settings.specs.Settled.{settled_of}
 use Rattle.adl_settings.specs.SettingFaults.{first_setting_fault}
 use Rattle.adl_types.specs.TypeFaults.{first_type_fault}
-use Rattle.component_graph.proofs.Lists.{get_map}
+use Rattle.numbering.proofs.Lists.{get_map}
 use Rattle.conn_rules.specs.Ends.{end_rule}
 use Rattle.cspace_layout.specs.SlotFaults.{first_slot_fault}
 use Rattle.cspace_layout.specs.Uses.{domain_uses, plan_of}

@@ -2,9 +2,9 @@ use Rattle.std.proofs.Common.{◌≡◌, ◌-◌, ◌++◌, ◌∙◌, List, ap,
 use Rattle.std.proofs.lemmas.List.{append-nil}
 use Rattle.std.specs.Result.{OnOk}
 use Rattle.adl_hierarchy.proofs.Steps.{kind_in}
-use Rattle.component_graph.proofs.Lists.{in_map}
+use Rattle.numbering.proofs.Lists.{in_map}
 use Rattle.adl_meaning.specs.Hierarchy.{Body, Part}
-use Rattle.adl_meaning.specs.Lists.{IsIn}
+use Rattle.numbering.specs.Gather.{IsIn}
 use Rattle.adl_meaning.specs.Paths.{Placed, leaves_within, placed_by}
 use Rattle.adl_flatten.specs.Placings.{leaves_told, under}
 use Rattle.adl_flatten.specs.Told.{part_told}

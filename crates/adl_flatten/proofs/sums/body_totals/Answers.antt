@@ -1,6 +1,6 @@
 use Rattle.std.proofs.Common.{List, [], subst, ◌∙◌, ap}
 use Rattle.adl_meaning.specs.Hierarchy.{Part, Body, wires_of}
-use Rattle.adl_meaning.specs.Lists.{IsIn}
+use Rattle.numbering.specs.Gather.{IsIn}
 use Rattle.adl_flatten.specs.Told.{parts_told, wires_told}
 use Rattle.adl_flatten.proofs.Filling.{totals_step}
 use Rattle.adl_flatten.proofs.sums.body_totals.Goals as goal

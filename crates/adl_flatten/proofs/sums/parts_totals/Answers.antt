@@ -2,7 +2,7 @@ use Rattle.std.proofs.Common.{◌∙◌, ◌+◌, ◌++◌, ap, sym, take}
 use Rattle.std.specs.List.{flat_map}
 use Rattle.adl_meaning.specs.Joins.{connections_in, strung_by}
 use Rattle.adl_meaning.specs.Paths.{leaves_in, placed_by}
-use Rattle.component_graph.proofs.Lists.{in_map}
+use Rattle.numbering.proofs.Lists.{in_map}
 use Rattle.adl_flatten.specs.Told.{part_told, parts_told}
 use Rattle.adl_flatten.specs.TotalsOf.{totals_of}
 use Rattle.adl_flatten.proofs.Totalling.{flat_map-told, in_at}
