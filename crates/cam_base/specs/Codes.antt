@@ -35,7 +35,6 @@ number_of code.SectionOverlap = 28
 number_of code.Window = 29
 number_of code.Limit = 30
 number_of code.LeftOut = 31
-number_of code.Unbuilt = 32
 
 abbrev pub title_of : Code → List ℕ
 title_of code.Byte = codes "Byte"
@@ -69,4 +68,3 @@ title_of code.SectionOverlap = codes "SectionOverlap"
 title_of code.Window = codes "Window"
 title_of code.Limit = codes "Limit"
 title_of code.LeftOut = codes "LeftOut"
-title_of code.Unbuilt = codes "Unbuilt"

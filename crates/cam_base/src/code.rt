@@ -66,8 +66,6 @@ pub enum Code {
     Limit,
     /// A byte, word or number of the full language that this profile leaves out.
     LeftOut,
-    /// Something that this compiler can't build yet.
-    Unbuilt,
 }
 
 impl Code {
@@ -107,7 +105,6 @@ impl Code {
             Code::Window => 29,
             Code::Limit => 30,
             Code::LeftOut => 31,
-            Code::Unbuilt => 32,
         }
     }
 
@@ -147,7 +144,6 @@ impl Code {
             Code::Window => "Window",
             Code::Limit => "Limit",
             Code::LeftOut => "LeftOut",
-            Code::Unbuilt => "Unbuilt",
         }
     }
 }

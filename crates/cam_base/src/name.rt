@@ -10,7 +10,8 @@ ghost use Rattle.std.specs.Ordering.{nat_cmp, as_partial_cmp};
 ghost use Rattle.std.specs.Prelude.{◌≡◌, false, IfOk, IsErrOf, ◌↔◌, IsTrue};
 ghost use Rattle.std.specs.Str.{bytes_eq};
 
-use crate::{NoMemory, Refused, Text};
+use crate::{NoMemory, Refused};
+use smallvec::SmallVec;
 use std::alloc::Global;
 use std::cmp::Ordering;
 use std::default::MadeWith;
@@ -23,10 +24,11 @@ use thiserror::Error;
 #[error("not a name")]
 pub struct BadName;
 
-/// An identifier of 1 to 127 bytes, keywords included. Contracts see it as the list of its bytes.
-#[derive(Debug, Drop)]
+/// An identifier of 1 to 127 bytes, keywords included; up to 16 bytes take no memory of their own. Contracts see it as the list of
+/// its bytes.
+#[derive(Drop)]
 pub struct Name {
-    text: Text,
+    bytes: SmallVec<u8, 16>,
 }
 
 impl Model for Name {
@@ -35,9 +37,9 @@ impl Model for Name {
 
     ghost Value = { List ℕ };
 
-    ghost view = { λ n. shown n.text };
+    ghost view = { λ n. shown n.bytes.items };
 
-    ghost invariant = { λ n. IsTrue (is_name (shown n.text)) };
+    ghost invariant = { λ n. IsTrue (is_name (shown n.bytes.items)) };
 }
 
 fn is_letter(byte: u8) -> bool
@@ -88,7 +90,7 @@ impl MadeWith<Global> for Name {
 
     fn made_with(alloc: Global) -> Name {
         Name {
-            text: Text::empty(alloc),
+            bytes: SmallVec::new(alloc),
         }
     }
 }
@@ -103,7 +105,7 @@ impl Name {
             return Err(Refused::Fault(BadName));
         }
         Ok(Name {
-            text: Text::new(alloc, bytes)?,
+            bytes: SmallVec::from_slice(alloc, bytes)?,
         })
     }
 
@@ -113,7 +115,7 @@ impl Name {
         ensures { IfOk result (λ name. name ≡ bytes.now) }
     {
         Ok(Name {
-            text: Text::new(alloc, bytes)?,
+            bytes: SmallVec::from_slice(alloc, bytes)?,
         })
     }
 
@@ -122,7 +124,7 @@ impl Name {
         ensures bytes { result.now ≡ self.now }
         ensures name { IsTrue (is_name self.now) }
     {
-        let bytes = self.text.as_bytes();
+        let bytes = self.bytes.as_slice();
         if bytes.is_empty() { b"_" } else { bytes }
     }
 
@@ -131,7 +133,7 @@ impl Name {
         ensures { IfOk result (λ name. name ≡ self.now) }
     {
         Ok(Name {
-            text: self.text.copy(alloc)?,
+            bytes: SmallVec::from_slice(alloc, self.bytes.as_slice())?,
         })
     }
 }
