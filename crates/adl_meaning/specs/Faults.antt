@@ -1,6 +1,6 @@
 -- The order of faults: by file, then by first byte, then by the number of the code. The first of a list of faults is the
 -- least of them; of faults that stand alike, it is the one that comes first in the list.
-use Rattle.std.specs.Prelude.{◌≡◌, ◌==◌, Bool, if◌then◌else◌, nat_lt, List, [], ◌∷◌, Option, Some, None, Result, Ok, Err}
+use Rattle.std.specs.Prelude.{◌≡◌, ◌==◌, Bool, true, if◌then◌else◌, nat_lt, List, [], ◌∷◌, Option, Some, None, Result, Ok, Err}
 use Rattle.cam_base.specs.Codes.{number_of}
 use Rattle.cam_base.specs.declared.code.Code.{Code}
 use Rattle.cam_base.specs.declared.error.Refused.{Refused}
@@ -34,6 +34,11 @@ least (f ∷ fs) = earlier (Some f) (least fs)
 abbrev pub noted : Option Fault → List Fault → Option Fault
 noted first [] = first
 noted first (f ∷ fs) = noted (earlier first (Some f)) fs
+
+-- whether a fault of this code at this place comes before what was first
+abbrev pub comes_first : Option Fault → Code → Place → Bool
+comes_first None c p = true
+comes_first (Some f) c p = is_before c p f.code f.place
 
 -- Ok exactly where there is no fault, else the first. Want of memory is free.
 abbrev pub Refuses : {T : Type 0} → Result T (Refused Fault) → Option Fault → Type 0

@@ -1,6 +1,7 @@
-ghost use Rattle.adl_meaning.specs.Faults.{is_before, noted};
+ghost use Rattle.adl_meaning.specs.Faults.{noted};
 ghost use Rattle.std.specs.Prelude.{◌≡◌, ◌∷◌, [], None, OnOk, OnErr};
 
+use crate::earliest::is_before;
 use cam_base::{Code, Fault, NoMemory, Place, Text};
 use std::alloc::Global;
 use std::marker::Model;
@@ -18,18 +19,6 @@ impl Model for First {
     ghost Value = { Option Fault };
 
     ghost view = { λ f. f.fault };
-}
-
-fn is_before(code: Code, place: Place, other: &Fault) -> bool
-    ensures { result ≡ is_before code place other.now.code other.now.place }
-{
-    if place.file != other.place.file {
-        place.file < other.place.file
-    } else if place.first != other.place.first {
-        place.first < other.place.first
-    } else {
-        code.number() < other.code.number()
-    }
 }
 
 impl First {
@@ -53,7 +42,7 @@ impl First {
     {
         let comes_first = match &self.fault {
             None => true,
-            Some(other) => is_before(code, place, other),
+            Some(other) => is_before(code, place, other.code, other.place),
         };
         if comes_first {
             let name = Text::new(alloc, name)?;

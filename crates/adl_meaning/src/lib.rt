@@ -6,6 +6,7 @@
 #![tactic(auto)]
 
 mod connector;
+mod earliest;
 mod first;
 mod flat;
 mod item_at;
@@ -14,6 +15,7 @@ mod path;
 mod settled;
 
 pub use connector::Connector;
+pub use earliest::{Earliest, Wrong};
 pub use first::First;
 pub use flat::{Domain, Flat, FlatConnection, FlatEnd, Leaf, same_end};
 pub use item_at::ItemAt;
