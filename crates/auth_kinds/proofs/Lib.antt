@@ -6,3 +6,10 @@ pub mod TablePlaces
 pub mod TableSorting
 pub mod EdgeCompare
 pub mod EdgeGrowth
+pub mod RowEdges
+pub mod TableRows
+pub mod PairLists
+pub mod MadeRows
+pub mod Runs
+pub mod SharedRows
+pub mod ClassNumbers

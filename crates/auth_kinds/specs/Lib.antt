@@ -1,7 +1,11 @@
 pub mod Adds
 pub mod Authorities
 pub mod AuthoritySets
+pub mod Classes
 pub mod Edges
+pub mod Making
 pub mod ObjectLabels
 pub mod Policies
+pub mod Rows
+pub mod Shared
 pub mod Tables

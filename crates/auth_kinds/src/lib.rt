@@ -8,9 +8,12 @@ mod authority;
 mod edge;
 mod growth;
 mod laws;
+mod making;
 mod object_labels;
 mod policy;
+mod rows;
 mod set;
+mod shared;
 mod table;
 
 pub use authority::Authority;

@@ -1,5 +1,6 @@
 //! The control and the bind rule, edge by edge.
 
+ghost use Rattle.auth_kinds.specs.Classes.{OutAlike};
 ghost use Rattle.auth_kinds.specs.Tables.{has};
 ghost use Rattle.cert_check.specs.Least.{FindsLeast};
 ghost use Rattle.cert_check.specs.Parts.{BreaksPair, FindsLeastAt};
@@ -57,6 +58,9 @@ fn pair_at(cert: &EdgeTable, edge: &Edge, low: u32, high: u32) -> Option<Violati
     requires { low < high }
     ensures { FindsLeast (BreaksPair cert.now edge.now low high) result }
 {
+    if same_class(cert, low, high) {
+        return None;
+    }
     if let Some(lack) = missing_copy(cert, high, low) {
         return Some(uncopied(edge, lack, high));
     }
@@ -64,6 +68,13 @@ fn pair_at(cert: &EdgeTable, edge: &Edge, low: u32, high: u32) -> Option<Violati
         Some(lack) => Some(uncopied(edge, lack, low)),
         None => None,
     }
+}
+
+/// Whether the classes of the labels have one number: then the same edges other than Reply go out of both.
+fn same_class(cert: &EdgeTable, low: u32, high: u32) -> bool
+    ensures { result ≡ true → OutAlike cert.now low high }
+{
+    cert.class_of(low) == cert.class_of(high)
 }
 
 /// The bind rule at an edge. The AsyncSend edges of a label stand together.

@@ -1,9 +1,24 @@
-use Rattle.auth_kinds.specs.Tables.{IsSorted}
-use Rattle.auth_kinds.proofs.TablePlaces.{is_ok-search}
+use Rattle.std.proofs.Common.{◌∙◌, List, sym, ap}
+use Rattle.auth_kinds.specs.Rows.{edges_of}
+use Rattle.auth_kinds.specs.Tables.{has}
+use Rattle.auth_kinds.proofs.TableRows.{row_in, none_in, class_there, has_of_row, lacks_row}
+use Rattle.auth_kinds.specs.declared.edge.Edge.{Edge}
 use Rattle.auth_kinds.proofs.table.EdgeTable.contains.Goals as goal
 
-pub returns : goal.returns
-returns c =
-    let sorted : IsSorted c.deref.result.now = rw c.deref.ensures.value c.self.invariant in
-    rw (c.is_ok.ensures.value, ← c.self.view_is, ← c.deref.ensures.value)
-    (is_ok-search c.deref.result.now c.args.edge.now c.binary_search.result sorted c.binary_search.ensures.bound c.binary_search.ensures.position)
+pub has_edge-requires-clause-class : goal.has_edge-requires-clause-class
+has_edge-requires-clause-class c =
+    let row = row_in c.as_slice.result.now c.self.inside.rows.items c.args.edge.now.from c.in-Some.row.now c.as_slice.ensures.value c.in-Some.ensures.found in
+    c.self.invariant.0.lists _ c.index.result.now (class_there c.self.inside.classes.items c.self.inside.rows.items c.self.invariant.0 row.0 c.in-Some.row.now c.index.result.now row.1 c.index.ensures)
+
+pub returns-in-Some : goal.returns-in-Some
+returns-in-Some c =
+    let row = row_in c.as_slice.result.now c.self.inside.rows.items c.args.edge.now.from c.in-Some.row.now c.as_slice.ensures.value c.in-Some.ensures.found in
+    let class = class_there c.self.inside.classes.items c.self.inside.rows.items c.self.invariant.0 row.0 c.in-Some.row.now c.index.result.now row.1 c.index.ensures in
+    c.has_edge.ensures ∙ ap (λ o. has (edges_of o c.in-Some.row.now) c.args.edge.now) (sym class)
+    ∙ has_of_row c.self.inside.classes.items c.self.inside.rows.items row.0 c.in-Some.row.now c.args.edge.now c.self.invariant.0.rising row.1 row.2
+    ∙ ap (λ (es : List Edge). has es c.args.edge.now) c.self.view_is
+
+pub returns-in-None : goal.returns-in-None
+returns-in-None c =
+    sym (lacks_row c.self.inside.classes.items c.self.inside.rows.items c.args.edge.now (none_in c.as_slice.result.now c.self.inside.rows.items c.args.edge.now.from c.as_slice.ensures.value c.in-None.ensures.none))
+    ∙ ap (λ (es : List Edge). has es c.args.edge.now) c.self.view_is

@@ -4,4 +4,4 @@ use Rattle.auth_kinds.proofs.table.EdgeTable.out_of.Goals as goal
 
 pub returns-clause-order : goal.returns-clause-order
 returns-clause-order c =
-    firsts_in_order c.as_slice-edges.result.now (record { from = 0; authority = Receive; to = 0 }) c.args.label c.first_from.result c.first_from-2.result c.first_from.ensures c.first_from-2.ensures
+    firsts_in_order c.args.self.now (record { from = 0; authority = Receive; to = 0 }) c.args.label c.first_from.result c.first_from-2.result c.first_from.ensures.first c.first_from-2.ensures.first

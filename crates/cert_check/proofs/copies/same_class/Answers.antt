@@ -1,0 +1,18 @@
+use Rattle.std.proofs.Common.{◌≡◌, ◌∙◌, ◌==◌, ℕ, Bool, true, false, Option, Some, None, refl, sym, ap, subst}
+use Rattle.std.specs.Option.{option_eq}
+use Rattle.std.proofs.lemmas.Bool.{eqb-true}
+use Rattle.auth_kinds.specs.Classes.{IsClassOf}
+use Rattle.auth_kinds.proofs.ClassNumbers.{class_alike}
+use Rattle.cert_check.proofs.copies.same_class.Goals as goal
+
+same_option : (m n : Option ℕ) → option_eq (λ a b. a == b) m n ≡ true → m ≡ n
+same_option None None e = refl
+same_option None (Some b) e = cc
+same_option (Some a) None e = cc
+same_option (Some a) (Some b) e = ap Some (eqb-true a b e)
+
+pub returns : goal.returns
+returns c h =
+    let same : c.class_of.result ≡ c.class_of-2.result = same_option c.class_of.result c.class_of-2.result (sym c.eq.ensures ∙ h) in
+    class_alike c.args.cert.now c.args.low c.args.high c.class_of.result c.class_of.ensures
+    (subst (λ (n : Option ℕ). IsClassOf c.args.cert.now c.args.high n) (sym same) c.class_of-2.ensures)
