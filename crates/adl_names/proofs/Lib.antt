@@ -1,3 +1,4 @@
+pub mod BodyLists
 pub mod Exporting
 pub mod Filling
 pub mod HeldNames
@@ -6,6 +7,6 @@ pub mod PortSets
 pub mod Recurring
 pub mod Repeating
 pub mod Rising
+pub mod SettingWords
 pub mod TableSteps
-pub mod TablesTold
 pub mod Whole

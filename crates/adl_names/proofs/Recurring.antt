@@ -1,11 +1,9 @@
 -- The types of instances, in the graph of components.
-use Rattle.std.proofs.Common.{◌≡◌, ◌<◌, ◌∙◌, ℕ, zero, suc, true, List, length, get_or, [], ◌∷◌, Bor, Option, Some, None, refl, sym, ap, subst, arith, inl, inr}
-use Rattle.std.specs.Option.{ForSome}
+use Rattle.std.proofs.Common.{◌≡◌, ◌<◌, ◌∙◌, ℕ, zero, suc, List, length, get_or, [], ◌∷◌, Bor, Option, refl, sym, ap, subst, arith, inl, inr}
 use Rattle.std.proofs.lemmas.Option.{slice_get_read}
-use Rattle.std.specs.List.{slice_get}
 use Rattle.adl_ast.specs.declared.component.Component.{Component}
 use Rattle.adl_ast.specs.declared.composition.Instance.{Instance}
-use Rattle.adl_meaning.specs.Graph.{has, inner_of}
+use Rattle.adl_meaning.specs.Graph.{inner_of}
 use Rattle.adl_meaning.specs.Items.{Name}
 use Rattle.numbering.specs.Gather.{IsIn}
 use Rattle.adl_meaning.specs.Recursive.{instances_of, types_of, graph_of}

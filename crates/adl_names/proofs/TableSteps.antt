@@ -1,5 +1,5 @@
 -- Steps of filling tables.
-use Rattle.std.proofs.Common.{◌≡◌, ◌∙◌, ◌<◌, ◌+◌, ℕ, Bool, cond, true, false, refl, sym, ap, List, [], ◌∷◌, ◌++◌, drop, length, get_or, map, Option, Some, None, Bor, option_map}
+use Rattle.std.proofs.Common.{◌≡◌, ◌∙◌, ◌<◌, ◌+◌, ℕ, Bool, cond, true, false, refl, sym, ap, List, [], ◌∷◌, ◌++◌, drop, length, get_or, map, Option, Some, None, option_map}
 use Rattle.std.specs.List.{find, flat_map}
 use Rattle.std.specs.Option.{option_or}
 use Rattle.std.specs.Str.{bytes_eq}
@@ -11,8 +11,9 @@ use Rattle.adl_ast.specs.declared.id.Id.{Id}
 use Rattle.adl_meaning.specs.Holding.{Held, a_group, as_held, held_by, member_of}
 use Rattle.adl_meaning.specs.Items.{Name}
 use Rattle.adl_meaning.proofs.Noting.{drop_first}
-use Rattle.adl_names.specs.ByName.{found}
-use Rattle.adl_names.specs.Tables.{members_told, held_told, holding_told, first_held}
+use Rattle.name_tables.specs.ByName.{found}
+use Rattle.adl_names.specs.Firsts.{first_held}
+use Rattle.adl_names.specs.Tables.{held_told, holding_told}
 use Rattle.adl_names.specs.declared.tables.Held.{Held as Entry}
 use Rattle.adl_names.specs.declared.tables.Held.TheVariants as entry
 
@@ -28,19 +29,18 @@ pub first_held-append : (xs ys : List (Id × Held)) (n : Name) → first_held (x
 first_held-append xs ys n = ap (option_map (λ (h : Id × Held). h.1)) (find-append (λ (h : Id × Held). bytes_eq n h.0.name) xs ys) ∙ map-option_or (λ (h : Id × Held). h.1) _ _
 
 -- the name of a group, and then its instances
-pub group_put : (old mid : List (Name × Entry)) (own : List (Name × Bor Instance)) (g : Group) (new : Option Held) (n : Name) (is : List Instance) → found mid n ≡ option_or (found old n) (found ((g.id.name, entry.Group own) ∷ []) n)
-    → ((m : Name) → members_told own m ≡ member_of g m) → is ≡ g.instances → new ≡ option_or (holding_told mid n) (first_held (map as_held is) n)
+pub group_put : (old mid : List (Name × Entry)) (own g : Group) (new : Option Held) (n : Name) (is : List Instance) → found mid n ≡ option_or (found old n) (found ((g.id.name, entry.Group own) ∷ []) n)
+    → own ≡ g → is ≡ g.instances → new ≡ option_or (holding_told mid n) (first_held (map as_held is) n)
     → new ≡ option_or (holding_told old n) (first_held ((g.id, a_group (member_of g)) ∷ map as_held g.instances) n)
 group_put old mid own g new n is put same e h =
-    let members : members_told own ≡ member_of g = λ i m. same m i in
     h ∙ ap (λ z. option_or (holding_told mid n) (first_held (map as_held z) n)) e
     ∙ ap (λ z. option_or (option_map held_told z) (first_held (map as_held g.instances) n)) put
     ∙ ap (λ z. option_or z (first_held (map as_held g.instances) n)) (map-option_or held_told (found old n) (found ((g.id.name, entry.Group own) ∷ []) n))
     ∙ option_or-assoc (holding_told old n) (option_map held_told (found ((g.id.name, entry.Group own) ∷ []) n)) (first_held (map as_held g.instances) n)
-    ∙ ap (λ z. option_or (holding_told old n) z) (by_test (bytes_eq n g.id.name) ∙ ap (λ (f : Name → Option Instance). first_held ((g.id, a_group f) ∷ map as_held g.instances) n) members)
+    ∙ ap (λ z. option_or (holding_told old n) z) (by_test (bytes_eq n g.id.name) ∙ ap (λ z. first_held ((g.id, a_group (member_of z)) ∷ map as_held g.instances) n) same)
   where
     by_test : (b : Bool) → option_or (option_map held_told (cond b (Some (entry.Group own)) None)) (first_held (map as_held g.instances) n)
-        ≡ option_map (λ (h : Id × Held). h.1) (cond b (Some (g.id, a_group (members_told own))) (find (λ (h : Id × Held). bytes_eq n h.0.name) (map as_held g.instances)))
+        ≡ option_map (λ (h : Id × Held). h.1) (cond b (Some (g.id, a_group (member_of own))) (find (λ (h : Id × Held). bytes_eq n h.0.name) (map as_held g.instances)))
     by_test true = refl
     by_test false = refl
 

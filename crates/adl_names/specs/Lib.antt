@@ -1,6 +1,10 @@
+pub mod Bodies
 pub mod ByName
+pub mod Firsts
+pub mod Groups
 pub mod Listed
 pub mod Located
+pub mod Misfits
 pub mod Places
 pub mod Pointed
 pub mod Ports
@@ -12,6 +16,8 @@ pub use Rattle.adl_meaning.specs.Export
 pub use Rattle.adl_meaning.specs.Faults
 pub use Rattle.adl_meaning.specs.Holding
 pub use Rattle.adl_meaning.specs.Items
+pub use Rattle.adl_meaning.specs.Known
 pub use Rattle.adl_meaning.specs.Members
 pub use Rattle.adl_meaning.specs.NameFaults
 pub use Rattle.adl_meaning.specs.Recursive
+pub use Rattle.adl_meaning.specs.Unknown

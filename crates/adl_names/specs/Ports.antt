@@ -1,14 +1,10 @@
--- Ports and sets of them, as definitions speak of them.
+-- Sets of ports, as definitions speak of them.
 use Rattle.std.specs.Prelude.{ℕ, ◌==◌, ◌&&◌, Bool, List}
 use Rattle.std.specs.List.{list_any}
 use Rattle.std.specs.Str.{bytes_eq}
-use Rattle.adl_meaning.specs.Export as export
+use Rattle.adl_meaning.specs.Export.{Port}
 use Rattle.adl_meaning.specs.Items.{Name}
-use Rattle.adl_names.specs.declared.port.Port.{Port}
-
-abbrev pub port_told : Port → export.Port
-port_told p = (p.instance.now, p.interface.now)
 
 -- whether a port is in a set of ports, which has the first byte of each one's instance, and each one's name
-abbrev pub is_port_among : List (ℕ × Name) → export.Port → Bool
+abbrev pub is_port_among : List (ℕ × Name) → Port → Bool
 is_port_among ports p = list_any (λ e. p.0.id.place.first == e.0 && bytes_eq p.1 e.1) ports

@@ -1,19 +1,24 @@
--- Scopes of settings and owners of compositions, as definitions speak of them.
-use Rattle.std.specs.Prelude.{Option, option_map}
-use Rattle.std.specs.Borrow.{Bor}
-use Rattle.adl_meaning.specs.Known.{Known}
+-- Scopes of settings, as definitions speak of them.
+use Rattle.std.specs.Prelude.{Bool, true, false, is_some}
+use Rattle.adl_meaning.specs.Holding.{held_as, member_of}
+use Rattle.adl_meaning.specs.Items.{Name}
 use Rattle.adl_meaning.specs.Unknown as unknown
-use Rattle.adl_names.specs.Tables.{members_told, holding_told, known_told}
-use Rattle.adl_names.specs.declared.tables.ComponentTable.{ComponentTable}
 use Rattle.adl_names.specs.declared.scope.Scope.{Scope}
 use Rattle.adl_names.specs.declared.scope.Scope.TheVariants as scope
 
 abbrev pub scope_told : Scope → unknown.Scope
-scope_told (scope.Within r) = unknown.within (holding_told r.now)
-scope_told (scope.Inside r) = unknown.inside (members_told r.now)
+scope_told (scope.Within r) = unknown.within (held_as r.now)
+scope_told (scope.Inside r) = unknown.inside (member_of r.now)
 scope_told scope.Behind = unknown.behind
 scope_told scope.Untold = unknown.untold
 
--- what is known of a component that a reference may point to
-abbrev pub owner_told : Option (Bor ComponentTable) → Option Known
-owner_told o = option_map (λ r. known_told r.now) o
+-- whether a scope holds a name; where what the word in front stands for isn't known, it may
+abbrev pub may_hold : unknown.Scope → Name → Bool
+may_hold (unknown.within held) n = is_some (held n)
+may_hold (unknown.inside members) n = is_some (members n)
+may_hold unknown.behind n = false
+may_hold unknown.untold n = true
+
+abbrev pub is_group : unknown.Scope → Bool
+is_group (unknown.inside members) = true
+is_group _ = false

@@ -1,107 +1,193 @@
-//! Members that a composite, a device or a plain component can't have.
+//! The components and assemblies of a source, with what the names in them stand for.
 
-ghost use Rattle.adl_meaning.specs.CompositeBody.{is_composition, is_hardware, is_composite, is_device, body_fault, misplaced_member, misplaced_in_component, misplaced_in_item};
-ghost use Rattle.adl_meaning.specs.Faults.{noted, where_true};
-ghost use Rattle.std.specs.List.{flat_map};
-ghost use Rattle.std.specs.Prelude.{◌≡◌, OnOk};
+ghost use Rattle.adl_meaning.specs.Items.{items_of, procedures, component_of};
+ghost use Rattle.adl_meaning.specs.Unknown.{is_procedure};
+ghost use Rattle.adl_names.specs.Bodies.{body_of, as_body, bodies_of, body_number};
+ghost use Rattle.adl_names.specs.Located.{located};
+ghost use Rattle.name_tables.specs.ByName.{is_among, found};
+ghost use Rattle.std.specs.List.{filter_map, find, cons_option};
+ghost use Rattle.std.specs.Option.{option_copied, option_and_then};
+ghost use Rattle.std.specs.Prelude.{◌≡◌, ◌++◌, [], ℕ, List as Seq, map, is_some, IfOk, OnOk};
+ghost use Rattle.std.specs.Str.{bytes_eq};
 
-use crate::located::Located;
-use adl_ast::{Component, Item, Member};
-use adl_meaning::First;
-use cam_base::{Code, NoMemory, Place};
+use crate::located::{Located, SourceItems};
+use crate::tables::{ComponentTable, Holding};
+use adl_ast::{Assembly, Item, Procedure, Source};
+use cam_base::{Name, NoMemory};
+use name_tables::{NameSet, NameTable};
 use std::alloc::Global;
+use std::marker::Model;
 
-fn is_composition(member: &Member) -> bool
-    ensures { result ≡ is_composition member.now }
-{
-    matches!(member, Member::Composition(_))
+/// An assembly with what its composition holds. Contracts see it as the assembly.
+#[derive(Drop)]
+pub struct AssemblyTable<'a> {
+    pub assembly: &'a Assembly,
+    holding: Holding<'a>,
 }
 
-fn is_hardware(member: &Member) -> bool
-    ensures { result ≡ is_hardware member.now }
-{
-    matches!(member, Member::Hardware(_))
+impl<'a> Model for AssemblyTable<'a> {
+    ghost use Rattle.adl_ast.specs.declared.composition.Assembly.{Assembly};
+    ghost use Rattle.std.specs.Prelude.{◌≡◌};
+
+    ghost Value = { Assembly };
+
+    ghost use Rattle.adl_ast.specs.contracts.value.ValueKind as values;
+    ghost use Rattle.std.specs.Coded.{codes};
+
+    ghost coded = { Prim.hlevel (codes, values.the_row.coded) };
+
+    ghost view = { λ t. t.assembly.now };
+
+    ghost invariant = { λ t. t.holding ≡ t.assembly.now.composition };
 }
 
-fn is_composite(component: &Component) -> bool
-    ensures { result ≡ is_composite component.now }
-{
-    component
-        .members
-        .as_slice()
-        .iter()
-        .any(|m| is_composition(m))
-}
-
-/// Whether the component says `hardware`.
-pub fn is_device(component: &Component) -> bool
-    ensures { result ≡ is_device component.now }
-{
-    component.members.as_slice().iter().any(|m| is_hardware(m))
-}
-
-fn note_body(alloc: Global, is_wrong: bool, place: Place, first: &mut First) -> Result<(), NoMemory>
-    ensures { OnOk result (first.new ≡ noted first.old (where_true is_wrong (body_fault place))) }
-{
-    if is_wrong {
-        first.note(alloc, Code::CompositeBody, place, b"")?;
+impl<'a> AssemblyTable<'a> {
+    /// The table of an assembly.
+    pub fn of(alloc: Global, assembly: &'a Assembly) -> Result<AssemblyTable<'a>, NoMemory>
+        ensures { IfOk result (λ t. t ≡ assembly.entry.now) }
+    {
+        let holding = Holding::of(alloc, &assembly.composition)?;
+        Ok(AssemblyTable { assembly, holding })
     }
-    Ok(())
-}
 
-fn note_member(
-    alloc: Global,
-    composite: bool,
-    device: bool,
-    member: &Member,
-    first: &mut First,
-) -> Result<(), NoMemory>
-    ensures { OnOk result (first.new ≡ noted first.old (misplaced_member composite device member.now)) }
-{
-    match member {
-        Member::Control(place) => note_body(alloc, composite || device, *place, first),
-        Member::Hardware(place) => note_body(alloc, composite, *place, first),
-        Member::Lock(lock) => note_body(alloc, composite || device, lock.id.place, first),
-        Member::Configuration(it) => note_body(alloc, !composite, it.place, first),
-        Member::Include(_) => Ok(()),
-        Member::Interface(_) => Ok(()),
-        Member::Attribute(_) => Ok(()),
-        Member::Composition(_) => Ok(()),
+    /// What its composition holds.
+    pub fn holding(&self) -> &Holding<'a>
+        ensures { result.now ≡ self.now.composition }
+    {
+        &self.holding
     }
 }
 
-fn note_component(alloc: Global, component: &Component, first: &mut First) -> Result<(), NoMemory>
-    ensures { OnOk result (first.new ≡ noted first.old (misplaced_in_component component.now)) }
-{
-    let composite = is_composite(component);
-    let device = is_device(component);
-    for member in component.members.as_slice() {
-        note_member(alloc, composite, device, member, first)?;
-    }
-    Ok(())
+/// A component or an assembly.
+#[derive(Drop)]
+pub enum Body<'a> {
+    Component(ComponentTable<'a>),
+    Assembly(AssemblyTable<'a>),
 }
 
-fn note_item(alloc: Global, item: &Item, first: &mut First) -> Result<(), NoMemory>
-    ensures { OnOk result (first.new ≡ noted first.old (misplaced_in_item item.now)) }
+/// A source with what its names stand for. Contracts see it as the source.
+#[derive(Drop)]
+pub struct SourceTables<'a> {
+    source: &'a Source,
+    bodies: Vec<Body<'a>>,
+    /// The number of the first component of each name among the bodies.
+    components: NameTable<'a, usize>,
+    procedures: NameSet<'a>,
+}
+
+impl<'a> Model for SourceTables<'a> {
+    ghost use Rattle.adl_ast.specs.declared.source.Source.{Source};
+
+    ghost Value = { Source };
+
+    ghost use Rattle.adl_ast.specs.contracts.value.ValueKind as values;
+    ghost use Rattle.std.specs.Coded.{codes};
+
+    ghost coded = { Prim.hlevel (codes, values.the_row.coded) };
+
+    ghost use Rattle.adl_names.specs.Bodies.{AreKnown};
+
+    ghost view = { λ n. n.source.now };
+
+    ghost invariant = { λ n. AreKnown n.bodies.items n.components n.procedures n.source.now };
+}
+
+fn push_body<'a>(alloc: Global, item: &'a Item, bodies: &mut Vec<Body<'a>>) -> Result<(), NoMemory>
+    ensures { OnOk result (bodies.new.items ≡ bodies.old.items ++ cons_option (body_of item.entry.now) []) }
 {
     match item {
-        Item::Import(_) => Ok(()),
-        Item::Procedure(_) => Ok(()),
-        Item::Component(component) => note_component(alloc, component, first),
-        Item::Assembly(_) => Ok(()),
+        Item::Component(it) => {
+            let table = ComponentTable::of(alloc, it)?;
+            bodies.push(Body::Component(table))?;
+            Ok(())
+        }
+        Item::Assembly(it) => {
+            let table = AssemblyTable::of(alloc, it)?;
+            bodies.push(Body::Assembly(table))?;
+            Ok(())
+        }
+        _ => Ok(()),
     }
 }
 
-/// Notes the misplaced members of all components.
-pub fn note_bodies(
-    alloc: Global,
-    items: &[Located<'_, Item>],
-    first: &mut First,
-) -> Result<(), NoMemory>
-    ensures { OnOk result (first.new ≡ noted first.old (flat_map (λ x. misplaced_in_item x.item.now) items.now)) }
+fn bodies<'a>(alloc: Global, items: &[Located<'a, Item>]) -> Result<Vec<Body<'a>>, NoMemory>
+    ensures { IfOk result (λ v. v.items ≡ filter_map as_body (map located items.now)) }
 {
+    let mut bodies = Vec::new(alloc);
     for x in items {
-        note_item(alloc, x.item, first)?;
+        push_body(alloc, x.item, &mut bodies)?;
     }
-    Ok(())
+    Ok(bodies)
+}
+
+/// The number of the first component of each name.
+fn numbers<'a>(alloc: Global, bodies: &[Body<'a>]) -> Result<NameTable<'a, usize>, NoMemory>
+    ensures { IfOk result (λ t. (n : Seq ℕ) → found t n ≡ body_number bodies.now n) }
+{
+    let mut numbers = NameTable::new(alloc);
+    for (number, body) in bodies.iter().enumerate() {
+        if let Body::Component(it) = body {
+            numbers.add(&it.component.id.name, number)?;
+        }
+    }
+    Ok(numbers)
+}
+
+/// The names of procedures.
+fn procedure_names<'a>(
+    alloc: Global,
+    procedures: &[Located<'a, Procedure>],
+) -> Result<NameSet<'a>, NoMemory>
+    ensures { IfOk result (λ t. (n : Seq ℕ) → is_among t n
+        ≡ is_some (find (λ p. bytes_eq n p.1.id.name) (map located procedures.now))) }
+{
+    let mut names = NameSet::new(alloc);
+    for x in procedures {
+        names.insert(&x.item.id.name)?;
+    }
+    Ok(names)
+}
+
+impl<'a> SourceTables<'a> {
+    /// The tables of a source.
+    pub fn of(alloc: Global, items: &SourceItems<'a>) -> Result<SourceTables<'a>, NoMemory>
+        ensures { IfOk result (λ t. t ≡ items.now) }
+    {
+        let bodies = bodies(alloc, items.items())?;
+        let components = numbers(alloc, bodies.as_slice())?;
+        let procedures = procedure_names(alloc, items.procedures())?;
+        Ok(SourceTables {
+            source: items.source(),
+            bodies,
+            components,
+            procedures,
+        })
+    }
+
+    /// The first component of the name.
+    pub fn component(&self, name: &Name) -> Option<&ComponentTable<'a>>
+        ensures { option_copied result ≡ component_of self.now name.now }
+    {
+        match self.components.get(name) {
+            None => None,
+            Some(number) => match self.bodies.as_slice().get(*number) {
+                Some(Body::Component(table)) => Some(table),
+                _ => None,
+            },
+        }
+    }
+
+    /// Whether a procedure has the name.
+    pub fn is_procedure(&self, name: &Name) -> bool
+        ensures { result ≡ is_procedure self.now name.now }
+    {
+        self.procedures.contains(name)
+    }
+
+    /// The components and assemblies, in their order.
+    pub fn bodies(&self) -> &[Body<'a>]
+        ensures { result.now ≡ bodies_of self.now }
+    {
+        self.bodies.as_slice()
+    }
 }

@@ -1,86 +1,71 @@
 //! Exports that fit no interface, and ports of composites that no export gives.
 
-ghost use Rattle.adl_meaning.specs.Export.{Port as PortOf, instance_held, member_held, port_of, interface_at, same_interface, differs, ends_in, is_unled, inner_of, is_port, last_name, export_fault, is_misfit_at, is_misfit, misfits_after, unled_end, unled_ends, misfits_in_composition, misfits_in_item};
+ghost use Rattle.adl_meaning.specs.Export.{Port as PortOf, port_of, interface_at, same_interface, differs, ends_in, is_unled, inner_of, is_port};
+ghost use Rattle.adl_meaning.specs.Export.{last_name, export_fault, is_misfit, is_misfit_at, misfits_after, unled_end, unled_ends};
+ghost use Rattle.adl_meaning.specs.Export.{misfits_in_composition, misfits_in_item, misfit_exports};
 ghost use Rattle.adl_meaning.specs.Faults.{noted, where_true};
-ghost use Rattle.adl_meaning.specs.Known.{known_of};
+ghost use Rattle.adl_meaning.specs.Holding.{held_as, as_connection, exports_in, connections_in};
+ghost use Rattle.adl_meaning.specs.Known.{known_in, known_of};
 ghost use Rattle.adl_meaning.specs.Members.{compositions};
-ghost use Rattle.std.specs.Str.{bytes_eq};
-ghost use Rattle.adl_names.specs.ByName.{is_among};
-ghost use Rattle.adl_names.specs.Pointed.{pointed};
-ghost use Rattle.adl_names.specs.Scopes.{owner_told};
-ghost use Rattle.adl_names.specs.Ports.{port_told, is_port_among};
-ghost use Rattle.adl_names.specs.Tables.{held_told, holding_told, known_told, types_told};
-ghost use Rattle.std.specs.List.{flat_map};
+ghost use Rattle.adl_names.specs.Bodies.{owner_of, item_of};
+ghost use Rattle.adl_ast.specs.declared.composition.Line.{Line as LineOf};
+ghost use Rattle.adl_names.specs.Misfits.{misfits_from};
+ghost use Rattle.adl_names.specs.Ports.{is_port_among};
+ghost use Rattle.name_tables.specs.ByName.{is_among};
+ghost use Rattle.std.specs.List.{flat_map, filter_map};
 ghost use Rattle.std.specs.Option.{option_copied, option_and_then, option_map_or};
-ghost use Rattle.std.specs.Prelude.{◌≡◌, ◌||◌, ℕ, List as Seq, false, Some, option_map, OnOk};
+ghost use Rattle.std.specs.Prelude.{◌≡◌, ◌||◌, ◌∷◌, ℕ, List as Seq, false, Some, OnOk};
+ghost use Rattle.std.specs.Str.{bytes_eq};
 
-use crate::by_name::{NameSet, NameTable};
-use crate::located::Located;
-use crate::parts::{compositions, connections, exports};
+use crate::bodies::{Body, SourceTables};
 use crate::port::{Port, PortSet};
-use crate::scope::Types;
-use crate::tables::{ComponentTable, Held, holding, interface, table_of};
-use adl_ast::{
-    Assembly, Component, Composition, Connection, End, Export, Id, Instance, Interface, Item,
-};
-use adl_meaning::First;
+use crate::tables::{ComponentTable, Held, Holding};
+use adl_ast::{Connection, Export, Id, Interface, Line};
+use adl_meaning::Earliest;
 use cam_base::{Code, Name, NoMemory, Place};
+use name_tables::NameSet;
 use std::alloc::Global;
 
-fn instance_held<'a>(held: Option<&Held<'a>>) -> Option<&'a Instance>
-    ensures { option_copied result ≡ instance_held (option_map (λ r. held_told r.now) held.entry) }
-{
-    match held {
-        None => None,
-        Some(Held::Instance(instance)) => Some(instance),
-        Some(Held::Group(_)) => None,
-        Some(Held::Connection) => None,
-    }
-}
-
-fn member_held<'a>(held: Option<&Held<'a>>, name: &Name) -> Option<&'a Instance>
-    ensures { option_copied result ≡ member_held (option_map (λ r. held_told r.now) held.entry) name.now }
-{
-    match held {
-        None => None,
-        Some(Held::Instance(_)) => None,
-        Some(Held::Group(members)) => members.get(name).copied(),
-        Some(Held::Connection) => None,
-    }
-}
-
-fn with_interface<'a>(instance: Option<&'a Instance>, interface: &'a Name) -> Option<Port<'a>>
-    ensures { option_map port_told result ≡ option_map (λ i. (i, interface.entry.now)) (option_copied instance.entry) }
-{
-    match instance {
-        None => None,
-        Some(instance) => Some(Port {
-            instance,
-            interface,
-        }),
-    }
-}
+/// The bytes of a data port whose size doesn't stand there.
+const DEFAULT_SIZE: u64 = 4096;
 
 /// The port that a dotted name names.
-pub fn port_of<'a>(held: &NameTable<'a, Held<'a>>, words: &'a [Id]) -> Option<Port<'a>>
-    ensures { option_map port_told result ≡ port_of (holding_told held.now) words.entry.now }
+fn port_of<'a>(holding: &Holding<'a>, words: &'a [Id]) -> Option<Port<'a>>
+    ensures { result ≡ port_of (held_as holding.now) words.entry.now }
 {
     match words {
-        [name, last] => with_interface(instance_held(held.get(&name.name)), &last.name),
-        [name, member, last] => {
-            with_interface(member_held(held.get(&name.name), &member.name), &last.name)
-        }
+        [name, last] => match holding.get(&name.name) {
+            Some(Held::Instance(instance)) => Some(Port {
+                instance,
+                interface: &last.name,
+            }),
+            Some(Held::Group(_)) => None,
+            Some(Held::Connection) => None,
+            None => None,
+        },
+        [name, member, last] => match holding.get(&name.name) {
+            Some(Held::Instance(_)) => None,
+            Some(Held::Group(members)) => match members.get(&member.name) {
+                Some(instance) => Some(Port {
+                    instance,
+                    interface: &last.name,
+                }),
+                None => None,
+            },
+            Some(Held::Connection) => None,
+            None => None,
+        },
         _ => None,
     }
 }
 
 /// The interface that the port's component declares.
-fn interface_at<'a>(types: &Types<'a>, port: Port<'a>) -> Option<&'a Interface>
-    ensures { option_copied result ≡ interface_at (types_told types.now) (port_told port.entry) }
+fn interface_at<'a>(tables: &SourceTables<'a>, port: &Port<'a>) -> Option<&'a Interface>
+    ensures { option_copied result ≡ interface_at (known_in tables.now) port.now }
 {
-    match types.get(&port.instance.component.name) {
+    match tables.component(&port.instance.component.name) {
         None => None,
-        Some(table) => interface(&table.declared, port.interface),
+        Some(table) => table.interface(port.interface),
     }
 }
 
@@ -88,7 +73,8 @@ fn same_interface(a: &Interface, b: &Interface) -> bool
     ensures { result ≡ same_interface a.now b.now }
 {
     a.kind == b.kind
-        && (a.word.name == b.word.name && a.size.unwrap_or(4096) == b.size.unwrap_or(4096))
+        && (a.word.name == b.word.name
+            && a.size.unwrap_or(DEFAULT_SIZE) == b.size.unwrap_or(DEFAULT_SIZE))
 }
 
 fn differs(inner: Option<&Interface>, target: Option<&Interface>) -> bool
@@ -102,19 +88,18 @@ fn differs(inner: Option<&Interface>, target: Option<&Interface>) -> bool
 }
 
 fn ends_in(table: &ComponentTable<'_>, name: &Name) -> bool
-    ensures { result ≡ ends_in (known_told table.now) name.now }
+    ensures { result ≡ ends_in (known_of table.now) name.now }
 {
-    interface(&table.declared, name).is_some()
-        && (table.holding.is_some() && !table.targets.contains(name))
+    table.interface(name).is_some() && (table.holding().is_some() && !table.exports(name))
 }
 
 /// Whether the port is one of a composite's that no export gives.
-fn is_unled<'a>(types: &Types<'a>, port: Option<Port<'a>>) -> bool
-    ensures { result ≡ is_unled (types_told types.now) (option_map port_told port.entry) }
+fn is_unled<'a>(tables: &SourceTables<'a>, port: &Option<Port<'a>>) -> bool
+    ensures { result ≡ is_unled (known_in tables.now) port.now }
 {
     match port {
         None => false,
-        Some(port) => match types.get(&port.instance.component.name) {
+        Some(port) => match tables.component(&port.instance.component.name) {
             None => false,
             Some(table) => ends_in(table, port.interface),
         },
@@ -131,32 +116,32 @@ pub fn last_name(words: &[Id]) -> &[u8]
     }
 }
 
-fn inner_interface<'a>(types: &Types<'a>, port: Option<Port<'a>>) -> Option<&'a Interface>
-    ensures { option_copied result ≡ option_and_then (interface_at (types_told types.now)) (option_map port_told port.entry) }
+fn inner_interface<'a>(tables: &SourceTables<'a>, port: &Option<Port<'a>>) -> Option<&'a Interface>
+    ensures { option_copied result ≡ option_and_then (interface_at (known_in tables.now)) port.now }
 {
     match port {
         None => None,
-        Some(port) => interface_at(types, port),
+        Some(port) => interface_at(tables, port),
     }
 }
 
 fn target<'a>(owner: Option<&ComponentTable<'a>>, name: &Name) -> Option<&'a Interface>
-    ensures { option_copied result ≡ option_and_then (λ c. c.interface name.now) (owner_told owner.entry) }
+    ensures { option_copied result ≡ option_and_then (λ c. c.interface name.now) (owner_of owner.entry) }
 {
     match owner {
         None => None,
-        Some(table) => interface(&table.declared, name),
+        Some(table) => table.interface(name),
     }
 }
 
 /// The port, where its component declares the interface.
-fn inner_of<'a>(types: &Types<'a>, port: Option<Port<'a>>) -> Option<Port<'a>>
-    ensures { option_map port_told result ≡ inner_of (types_told types.now) (option_map port_told port.entry) }
+fn inner_of<'p, 'a>(tables: &SourceTables<'a>, port: &'p Option<Port<'a>>) -> Option<&'p Port<'a>>
+    ensures { option_copied result ≡ inner_of (known_in tables.now) port.now }
 {
     match port {
         None => None,
         Some(port) => {
-            if interface_at(types, port).is_some() {
+            if interface_at(tables, port).is_some() {
                 Some(port)
             } else {
                 None
@@ -172,8 +157,8 @@ struct Taken<'a> {
     inners: PortSet<'a>,
 }
 
-fn is_inner_taken<'a>(inners: &PortSet<'a>, inner: Option<Port<'a>>) -> bool
-    ensures { result ≡ option_map_or (is_port_among inners.now) (option_map port_told inner.entry) false }
+fn is_inner_taken<'a>(inners: &PortSet<'a>, inner: Option<&Port<'a>>) -> bool
+    ensures { result ≡ option_map_or (is_port_among inners.now) (option_copied inner.entry) false }
 {
     match inner {
         None => false,
@@ -181,8 +166,9 @@ fn is_inner_taken<'a>(inners: &PortSet<'a>, inner: Option<Port<'a>>) -> bool
     }
 }
 
-fn take_inner<'a>(inners: &mut PortSet<'a>, inner: Option<Port<'a>>) -> Result<(), NoMemory>
-    ensures { OnOk result ((p : PortOf) → is_port_among inners.new p ≡ (is_port_among inners.old p || is_port (option_map port_told inner.entry) p)) }
+fn take_inner<'a>(inners: &mut PortSet<'a>, inner: Option<&Port<'a>>) -> Result<(), NoMemory>
+    ensures { OnOk result ((p : PortOf) → is_port_among inners.new p
+        ≡ (is_port_among inners.old p || is_port (option_copied inner.entry) p)) }
 {
     match inner {
         None => Ok(()),
@@ -192,215 +178,192 @@ fn take_inner<'a>(inners: &mut PortSet<'a>, inner: Option<Port<'a>>) -> Result<(
 
 /// Whether the export is at fault, behind those that have taken these.
 fn is_misfit<'a>(
-    types: &Types<'a>,
+    tables: &SourceTables<'a>,
     owner: Option<&ComponentTable<'a>>,
-    port: Option<Port<'a>>,
+    port: &Option<Port<'a>>,
     taken: &Taken<'a>,
-    export: &'a Export,
+    export: &Export,
 ) -> bool
-    ensures { result ≡ is_misfit_at (types_told types.now) (owner_told owner.entry) (option_map port_told port.entry) (is_among taken.now.targets) (is_port_among taken.now.inners) export.entry.now }
+    ensures { result
+        ≡ is_misfit_at (known_in tables.now) (owner_of owner.entry) port.now
+        (is_among taken.now.targets) (is_port_among taken.now.inners) export.now }
 {
     let name = &export.target.name;
     owner.is_none()
-        || (differs(inner_interface(types, port), target(owner, name))
+        || (differs(inner_interface(tables, port), target(owner, name))
             || (taken.targets.contains(name)
-                || (is_inner_taken(&taken.inners, inner_of(types, port)) || is_unled(types, port))))
+                || (is_inner_taken(&taken.inners, inner_of(tables, port))
+                    || is_unled(tables, port))))
 }
 
-fn note_wrong(
-    alloc: Global,
-    wrong: bool,
-    words: &[Id],
-    place: Place,
-    first: &mut First,
-) -> Result<(), NoMemory>
-    ensures { OnOk result (first.new ≡ noted first.old (where_true wrong (export_fault words.now place))) }
+fn note_wrong<'a>(is_wrong: bool, words: &'a [Id], place: Place, first: &mut Earliest<'a>)
+    ensures { first.new ≡ noted first.old (where_true is_wrong (export_fault words.entry.now place)) }
 {
-    if wrong {
-        first.note(alloc, Code::Export, place, last_name(words))?;
-    }
-    Ok(())
+    first.note(is_wrong, Code::Export, place, last_name(words));
 }
 
 fn note_export<'a>(
-    alloc: Global,
-    types: &Types<'a>,
+    tables: &SourceTables<'a>,
     owner: Option<&ComponentTable<'a>>,
-    held: &NameTable<'a, Held<'a>>,
+    holding: &Holding<'a>,
     export: &'a Export,
     taken: &mut Taken<'a>,
-    first: &mut First,
+    first: &mut Earliest<'a>,
 ) -> Result<(), NoMemory>
-    ensures first { OnOk result (first.new ≡ noted first.old (where_true (is_misfit (types_told types.now) (owner_told owner.entry) (holding_told held.now) (is_among taken.old.targets) (is_port_among taken.old.inners) export.entry.now) (export_fault export.entry.now.words export.entry.now.place))) }
-    ensures targets { OnOk result ((n : Seq ℕ) → is_among taken.new.targets n ≡ (is_among taken.old.targets n || bytes_eq n export.entry.now.target.name)) }
-    ensures inners { OnOk result ((p : PortOf) → is_port_among taken.new.inners p ≡ (is_port_among taken.old.inners p || is_port (inner_of (types_told types.now) (port_of (holding_told held.now) export.entry.now.words)) p)) }
+    ensures first { OnOk result (first.new ≡ noted first.old (where_true
+        (is_misfit (known_in tables.now) (owner_of owner.entry) (held_as holding.now) (is_among taken.old.targets) (is_port_among taken.old.inners) export.entry.now)
+        (export_fault export.entry.now.words export.entry.now.place))) }
+    ensures targets { OnOk result ((n : Seq ℕ) → is_among taken.new.targets n
+        ≡ (is_among taken.old.targets n || bytes_eq n export.entry.now.target.name)) }
+    ensures inners { OnOk result ((p : PortOf) → is_port_among taken.new.inners p
+        ≡ (is_port_among taken.old.inners p || is_port (inner_of (known_in tables.now) (port_of (held_as holding.now) export.entry.now.words)) p)) }
 {
-    let port = port_of(held, export.words.as_slice());
-    let wrong = is_misfit(types, owner, port, taken, export);
-    note_wrong(alloc, wrong, export.words.as_slice(), export.place, first)?;
+    let port = port_of(holding, export.words.as_slice());
+    let is_wrong = is_misfit(tables, owner, &port, taken, export);
+    note_wrong(is_wrong, export.words.as_slice(), export.place, first);
     taken.targets.insert(&export.target.name)?;
-    take_inner(&mut taken.inners, inner_of(types, port))?;
+    take_inner(&mut taken.inners, inner_of(tables, &port))?;
+    Ok(())
+}
+
+/// Notes a line that is an export. What is noted behind it, is noted of the lines from it on.
+fn note_line<'a>(
+    tables: &SourceTables<'a>,
+    owner: Option<&ComponentTable<'a>>,
+    holding: &Holding<'a>,
+    line: &'a Line,
+    taken: &mut Taken<'a>,
+    first: &mut Earliest<'a>,
+) -> Result<(), NoMemory>
+    ensures { OnOk result ((more : Seq LineOf) →
+        noted first.new (misfits_from (known_in tables.now) (owner_of owner.entry) (held_as holding.now) taken.new more)
+        ≡ noted first.old (misfits_from (known_in tables.now) (owner_of owner.entry) (held_as holding.now) taken.old (line.entry.now ∷ more))) }
+{
+    if let Line::Export(export) = line {
+        note_export(tables, owner, holding, export, taken, first)?;
+    }
     Ok(())
 }
 
 fn note_exports<'a>(
     alloc: Global,
-    types: &Types<'a>,
+    tables: &SourceTables<'a>,
     owner: Option<&ComponentTable<'a>>,
-    held: &NameTable<'a, Held<'a>>,
-    exports: &[&'a Export],
-    first: &mut First,
+    holding: &Holding<'a>,
+    first: &mut Earliest<'a>,
 ) -> Result<(), NoMemory>
-    ensures { OnOk result (first.new ≡ noted first.old (misfits_after (types_told types.now) (owner_told owner.entry) (holding_told held.now) (λ n. false) (λ p. false) (pointed exports.now))) }
+    ensures { OnOk result (first.new ≡ noted first.old
+        (misfits_after (known_in tables.now) (owner_of owner.entry) (held_as holding.now) (λ n. false) (λ p. false) (exports_in holding.now))) }
 {
     let mut taken = Taken {
         targets: NameSet::new(alloc),
         inners: PortSet::new(alloc),
     };
-    for export in exports {
-        note_export(alloc, types, owner, held, export, &mut taken, first)?;
-    }
-    Ok(())
-}
-
-fn note_end<'a>(
-    alloc: Global,
-    types: &Types<'a>,
-    held: &NameTable<'a, Held<'a>>,
-    end: &'a End,
-    first: &mut First,
-) -> Result<(), NoMemory>
-    ensures { OnOk result (first.new ≡ noted first.old (unled_end (types_told types.now) (holding_told held.now) end.entry.now)) }
-{
-    let port = port_of(held, end.words.as_slice());
-    note_wrong(
-        alloc,
-        is_unled(types, port),
-        end.words.as_slice(),
-        end.place,
-        first,
-    )?;
-    Ok(())
-}
-
-fn note_ends<'a>(
-    alloc: Global,
-    types: &Types<'a>,
-    held: &NameTable<'a, Held<'a>>,
-    ends: &'a [End],
-    first: &mut First,
-) -> Result<(), NoMemory>
-    ensures { OnOk result (first.new ≡ noted first.old (flat_map (unled_end (types_told types.now) (holding_told held.now)) ends.entry.now)) }
-{
-    for end in ends {
-        note_end(alloc, types, held, end, first)?;
+    for line in holding.composition.lines.as_slice() {
+        note_line(tables, owner, holding, line, &mut taken, first)?;
     }
     Ok(())
 }
 
 fn note_connection<'a>(
-    alloc: Global,
-    types: &Types<'a>,
-    held: &NameTable<'a, Held<'a>>,
+    tables: &SourceTables<'a>,
+    holding: &Holding<'a>,
     connection: &'a Connection,
-    first: &mut First,
-) -> Result<(), NoMemory>
-    ensures { OnOk result (first.new ≡ noted first.old (unled_ends (types_told types.now) (holding_told held.now) connection.entry.now)) }
+    first: &mut Earliest<'a>,
+)
+    ensures { first.new ≡ noted first.old (unled_ends (known_in tables.now) (held_as holding.now) connection.entry.now) }
 {
-    note_ends(alloc, types, held, connection.ends.as_slice(), first)?;
-    Ok(())
+    for end in connection.ends.as_slice() {
+        let port = port_of(holding, end.words.as_slice());
+        note_wrong(
+            is_unled(tables, &port),
+            end.words.as_slice(),
+            end.place,
+            first,
+        );
+    }
 }
 
-fn note_connections<'a>(
-    alloc: Global,
-    types: &Types<'a>,
-    held: &NameTable<'a, Held<'a>>,
-    connections: &[&'a Connection],
-    first: &mut First,
-) -> Result<(), NoMemory>
-    ensures { OnOk result (first.new ≡ noted first.old (flat_map (unled_ends (types_told types.now) (holding_told held.now)) (pointed connections.now))) }
+/// Notes the ends of a line that is a connection. What is noted behind it, is noted of the lines from it on.
+fn note_line_ends<'a>(
+    tables: &SourceTables<'a>,
+    holding: &Holding<'a>,
+    line: &'a Line,
+    first: &mut Earliest<'a>,
+)
+    ensures { (more : Seq LineOf) →
+        noted first.new (flat_map (unled_ends (known_in tables.now) (held_as holding.now)) (filter_map as_connection more))
+        ≡ noted first.old (flat_map (unled_ends (known_in tables.now) (held_as holding.now)) (filter_map as_connection (line.entry.now ∷ more))) }
 {
-    for connection in connections {
-        note_connection(alloc, types, held, connection, first)?;
+    if let Line::Connection(connection) = line {
+        note_connection(tables, holding, connection, first);
     }
-    Ok(())
+}
+
+fn note_connections<'a>(tables: &SourceTables<'a>, holding: &Holding<'a>, first: &mut Earliest<'a>)
+    ensures { first.new
+        ≡ noted first.old (flat_map (unled_ends (known_in tables.now) (held_as holding.now)) (connections_in holding.now)) }
+{
+    for line in holding.composition.lines.as_slice() {
+        note_line_ends(tables, holding, line, first);
+    }
 }
 
 fn note_composition<'a>(
     alloc: Global,
-    types: &Types<'a>,
+    tables: &SourceTables<'a>,
     owner: Option<&ComponentTable<'a>>,
-    composition: &'a Composition,
-    first: &mut First,
+    holding: &Holding<'a>,
+    first: &mut Earliest<'a>,
 ) -> Result<(), NoMemory>
-    ensures { OnOk result (first.new ≡ noted first.old (misfits_in_composition (types_told types.now) (owner_told owner.entry) composition.entry.now)) }
+    ensures { OnOk result (first.new
+        ≡ noted first.old (misfits_in_composition (known_in tables.now) (owner_of owner.entry) holding.now)) }
 {
-    let held = holding(alloc, composition)?;
-    let exports = exports(alloc, composition)?;
-    note_exports(alloc, types, owner, &held, exports.as_slice(), first)?;
-    let connections = connections(alloc, composition)?;
-    note_connections(alloc, types, &held, connections.as_slice(), first)?;
-    Ok(())
-}
-
-fn note_compositions<'a>(
-    alloc: Global,
-    types: &Types<'a>,
-    owner: &ComponentTable<'a>,
-    compositions: &[&'a Composition],
-    first: &mut First,
-) -> Result<(), NoMemory>
-    ensures { OnOk result (first.new ≡ noted first.old (flat_map (misfits_in_composition (types_told types.now) (Some (known_told owner.now))) (pointed compositions.now))) }
-{
-    for composition in compositions {
-        note_composition(alloc, types, Some(owner), composition, first)?;
-    }
+    note_exports(alloc, tables, owner, holding, first)?;
+    note_connections(tables, holding, first);
     Ok(())
 }
 
 fn note_component<'a>(
     alloc: Global,
-    types: &Types<'a>,
-    component: &'a Component,
-    first: &mut First,
+    tables: &SourceTables<'a>,
+    table: &ComponentTable<'a>,
+    first: &mut Earliest<'a>,
 ) -> Result<(), NoMemory>
-    ensures { OnOk result (first.new ≡ noted first.old (flat_map (misfits_in_composition (types_told types.now) (Some (known_of component.entry.now))) (compositions component.entry.now))) }
+    ensures { OnOk result (first.new
+        ≡ noted first.old (flat_map (misfits_in_composition (known_in tables.now)
+        (Some (known_of table.now))) (compositions table.now))) }
 {
-    let owner = table_of(alloc, component)?;
-    let compositions = compositions(alloc, component)?;
-    note_compositions(alloc, types, &owner, compositions.as_slice(), first)?;
+    for holding in table.holdings() {
+        note_composition(alloc, tables, Some(table), holding, first)?;
+    }
     Ok(())
 }
 
-fn note_item<'a>(
+fn note_body<'a>(
     alloc: Global,
-    types: &Types<'a>,
-    item: &'a Item,
-    first: &mut First,
+    tables: &SourceTables<'a>,
+    body: &Body<'a>,
+    first: &mut Earliest<'a>,
 ) -> Result<(), NoMemory>
-    ensures { OnOk result (first.new ≡ noted first.old (misfits_in_item (types_told types.now) item.entry.now)) }
+    ensures { OnOk result (first.new ≡ noted first.old (misfits_in_item (known_in tables.now) (item_of body.now))) }
 {
-    match item {
-        Item::Import(_) => Ok(()),
-        Item::Procedure(_) => Ok(()),
-        Item::Component(component) => note_component(alloc, types, component, first),
-        Item::Assembly(assembly) => {
-            note_composition(alloc, types, None, &assembly.composition, first)
-        }
+    match body {
+        Body::Component(table) => note_component(alloc, tables, table, first),
+        Body::Assembly(table) => note_composition(alloc, tables, None, table.holding(), first),
     }
 }
 
-/// Notes the exports of all items that fit no interface, and the ports that no export gives.
+/// Notes the exports of a source that fit no interface, and the ports that no export gives.
 pub fn note_misfits<'a>(
     alloc: Global,
-    types: &Types<'a>,
-    items: &[Located<'a, Item>],
-    first: &mut First,
+    tables: &SourceTables<'a>,
+    first: &mut Earliest<'a>,
 ) -> Result<(), NoMemory>
-    ensures { OnOk result (first.new ≡ noted first.old (flat_map (λ x. misfits_in_item (types_told types.now) x.item.now) items.now)) }
+    ensures { OnOk result (first.new ≡ noted first.old (misfit_exports tables.now)) }
 {
-    for x in items {
-        note_item(alloc, types, x.item, first)?;
+    for body in tables.bodies() {
+        note_body(alloc, tables, body, first)?;
     }
     Ok(())
 }

@@ -6,9 +6,9 @@
 
 mod assemblies;
 mod bodies;
-mod by_name;
 mod exports;
 mod located;
+mod misplaced;
 mod names;
 mod parts;
 mod port;
@@ -18,12 +18,10 @@ mod scope;
 mod tables;
 mod unknown;
 
-pub use bodies::is_device;
-pub use by_name::NameTable;
-pub use exports::{last_name, port_of};
+pub use exports::last_name;
 pub use located::{Located, all_items, components};
-pub use names::{Names, resolve};
-pub use parts::{compositions, connections};
-pub use port::Port;
+pub use misplaced::is_device;
+pub use name_tables::NameTable;
+pub use names::{Names, check_names, resolve};
 pub use recursion::component_numbers;
-pub use tables::{Declared, Held, attribute, composition_of, declaring, holding, interface};
+pub use tables::{Declared, composition_of, declaring};

@@ -1,6 +1,6 @@
 //! The items of a source, each with its place.
 
-ghost use Rattle.adl_meaning.specs.Items.{items_in, items_of, as_procedure, as_component, as_assembly, AreFew};
+ghost use Rattle.adl_meaning.specs.Items.{items_in, items_of, as_procedure, as_component, as_assembly, procedures, components, assemblies, AreFew};
 ghost use Rattle.adl_names.specs.Located.{located};
 ghost use Rattle.std.specs.List.{filter_map};
 ghost use Rattle.std.specs.Prelude.{◌≡◌, ◌<◌, ◌^◌, ◌++◌, map, length, OnOk, IfOk};
@@ -9,6 +9,7 @@ use adl_ast::{Assembly, Component, Item, Procedure, Source, SourceFile};
 use adl_meaning::ItemAt;
 use cam_base::NoMemory;
 use std::alloc::Global;
+use std::marker::Model;
 
 /// An item, and where it stands.
 #[derive(Drop)]
@@ -51,7 +52,7 @@ pub fn all_items<'a>(alloc: Global, source: &'a Source) -> Result<Vec<Located<'a
 }
 
 /// The procedures among items.
-pub fn procedures<'a>(
+fn procedures<'a>(
     alloc: Global,
     items: &[Located<'a, Item>],
 ) -> Result<Vec<Located<'a, Procedure>>, NoMemory>
@@ -83,7 +84,7 @@ pub fn components<'a>(
 }
 
 /// The assemblies among items.
-pub fn assemblies<'a>(
+fn assemblies<'a>(
     alloc: Global,
     items: &[Located<'a, Item>],
 ) -> Result<Vec<Located<'a, Assembly>>, NoMemory>
@@ -96,4 +97,87 @@ pub fn assemblies<'a>(
         }
     }
     Ok(found)
+}
+
+/// A source with its items by kind. Contracts see it as the source.
+#[derive(Drop)]
+pub struct SourceItems<'a> {
+    source: &'a Source,
+    items: Vec<Located<'a, Item>>,
+    procedures: Vec<Located<'a, Procedure>>,
+    components: Vec<Located<'a, Component>>,
+    assemblies: Vec<Located<'a, Assembly>>,
+}
+
+impl<'a> Model for SourceItems<'a> {
+    ghost use Rattle.adl_ast.specs.declared.source.Source.{Source};
+
+    ghost Value = { Source };
+
+    ghost use Rattle.adl_ast.specs.contracts.value.ValueKind as values;
+    ghost use Rattle.std.specs.Coded.{codes};
+
+    ghost coded = { Prim.hlevel (codes, values.the_row.coded) };
+
+    ghost use Rattle.adl_names.specs.Sorted.{AreSorted};
+
+    ghost view = { λ t. t.source.now };
+
+    ghost invariant = { λ t. AreSorted t.items.items t.procedures.items t.components.items t.assemblies.items t.source.now };
+}
+
+impl<'a> SourceItems<'a> {
+    /// Sorts the items of a source.
+    pub fn of(alloc: Global, source: &'a Source) -> Result<SourceItems<'a>, NoMemory>
+        requires { AreFew source.now }
+        ensures { IfOk result (λ t. t ≡ source.now) }
+    {
+        let items = all_items(alloc, source)?;
+        let procedures = procedures(alloc, items.as_slice())?;
+        let components = components(alloc, items.as_slice())?;
+        let assemblies = assemblies(alloc, items.as_slice())?;
+        Ok(SourceItems {
+            source,
+            items,
+            procedures,
+            components,
+            assemblies,
+        })
+    }
+
+    /// The source.
+    pub fn source(&self) -> &'a Source
+        ensures { result.now ≡ self.now }
+    {
+        self.source
+    }
+
+    /// Its items, in order.
+    pub fn items(&self) -> &[Located<'a, Item>]
+        ensures { map located result.now ≡ items_of self.now }
+    {
+        self.items.as_slice()
+    }
+
+    /// Its procedures, in order.
+    pub fn procedures(&self) -> &[Located<'a, Procedure>]
+        ensures { map located result.now ≡ procedures self.now }
+    {
+        self.procedures.as_slice()
+    }
+
+    /// Its components, in order.
+    pub fn components(&self) -> &[Located<'a, Component>]
+        ensures components { map located result.now ≡ components self.now }
+        ensures few { length result.now < 2 ^ 32 }
+    {
+        self.components.as_slice()
+    }
+
+    /// Its assemblies, in order.
+    pub fn assemblies(&self) -> &[Located<'a, Assembly>]
+        ensures { map located result.now ≡ assemblies self.now }
+    {
+        self.assemblies.as_slice()
+    }
 }

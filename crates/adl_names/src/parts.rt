@@ -1,15 +1,17 @@
 //! Parts of trees, in lists.
 
 ghost use Rattle.adl_meaning.specs.Duplicate.{methods};
-ghost use Rattle.adl_meaning.specs.Holding.{as_held, held_by, held_in, exports_in, connections_in, instances_by, instances_in};
+ghost use Rattle.adl_meaning.specs.Holding.{as_held, held_by, held_in, instances_by, instances_in};
 ghost use Rattle.adl_meaning.specs.Members.{declared_by, declared_in, compositions, configurations};
 ghost use Rattle.adl_meaning.specs.Recursive.{instances_of};
+ghost use Rattle.adl_names.specs.Located.{located};
 ghost use Rattle.adl_names.specs.Pointed.{pointed};
 ghost use Rattle.std.specs.Prelude.{◌≡◌, ◌∷◌, ◌++◌, map, IfOk, OnOk};
 
+use crate::located::Located;
 use adl_ast::{
-    Component, Composition, Configuration, Connection, Export, Group, Id, Instance, Line, Member,
-    Method, Param, ProcMember, Procedure,
+    Component, Composition, Configuration, Group, Id, Instance, Line, Member, Method, Param,
+    ProcMember, Procedure,
 };
 use cam_base::NoMemory;
 use std::alloc::Global;
@@ -153,35 +155,6 @@ pub fn held_ids<'a>(alloc: Global, composition: &'a Composition) -> Result<Vec<&
     Ok(ids)
 }
 
-/// The exports of a composition.
-pub fn exports<'a>(alloc: Global, composition: &'a Composition) -> Result<Vec<&'a Export>, NoMemory>
-    ensures { IfOk result (λ v. pointed v.items ≡ exports_in composition.now) }
-{
-    let mut found = Vec::new(alloc);
-    for line in composition.lines.as_slice() {
-        if let Line::Export(export) = line {
-            found.push(export)?;
-        }
-    }
-    Ok(found)
-}
-
-/// The connections of a composition.
-pub fn connections<'a>(
-    alloc: Global,
-    composition: &'a Composition,
-) -> Result<Vec<&'a Connection>, NoMemory>
-    ensures { IfOk result (λ v. pointed v.items ≡ connections_in composition.now) }
-{
-    let mut found = Vec::new(alloc);
-    for line in composition.lines.as_slice() {
-        if let Line::Connection(connection) = line {
-            found.push(connection)?;
-        }
-    }
-    Ok(found)
-}
-
 fn push_each<'a>(instances: &'a [Instance], found: &mut Vec<&'a Instance>) -> Result<(), NoMemory>
     ensures { OnOk result (pointed found.new.items ≡ pointed found.old.items ++ instances.now) }
 {
@@ -228,4 +201,32 @@ pub fn instances<'a>(alloc: Global, component: &'a Component) -> Result<Vec<&'a 
         }
     }
     Ok(found)
+}
+
+/// The names of procedures.
+pub fn procedure_ids<'a>(
+    alloc: Global,
+    procedures: &[Located<'a, Procedure>],
+) -> Result<Vec<&'a Id>, NoMemory>
+    ensures { IfOk result (λ v. pointed v.items ≡ map (λ p. p.1.id) (map located procedures.now)) }
+{
+    let mut ids = Vec::new(alloc);
+    for x in procedures {
+        ids.push(&x.item.id)?;
+    }
+    Ok(ids)
+}
+
+/// The names of components.
+pub fn component_ids<'a>(
+    alloc: Global,
+    components: &[Located<'a, Component>],
+) -> Result<Vec<&'a Id>, NoMemory>
+    ensures { IfOk result (λ v. pointed v.items ≡ map (λ c. c.1.id) (map located components.now)) }
+{
+    let mut ids = Vec::new(alloc);
+    for x in components {
+        ids.push(&x.item.id)?;
+    }
+    Ok(ids)
 }

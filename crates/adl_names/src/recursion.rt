@@ -1,10 +1,9 @@
 //! Instances whose type is the component that they stand in, or holds it.
 
-ghost use Rattle.adl_meaning.specs.Faults.{noted, where_true, at_word};
+ghost use Rattle.adl_meaning.specs.Faults.{noted};
 ghost use Rattle.adl_meaning.specs.Graph.{has, inner_of};
-ghost use Rattle.adl_meaning.specs.Recursive.{number_named, types_of, graph_of, recursive_type, recursive_instance, recursive_in, recursive_among};
-ghost use Rattle.cam_base.specs.declared.code.Code.TheVariants as code;
-ghost use Rattle.adl_names.specs.ByName.{found};
+ghost use Rattle.adl_meaning.specs.Recursive.{number_named, types_of, graph_of, recursive_type, recursive_instance, recursive_in, recursive_among, recursive_types};
+ghost use Rattle.name_tables.specs.ByName.{found};
 ghost use Rattle.component_graph.specs.Numbers.{AreBelow};
 ghost use Rattle.adl_names.specs.Listed.{AreListed, IsListed};
 ghost use Rattle.adl_names.specs.Located.{trees};
@@ -13,13 +12,13 @@ ghost use Rattle.std.specs.List.{flat_map, filter_map, enumerate_from};
 ghost use Rattle.std.specs.Option.{ForSome};
 ghost use Rattle.std.specs.Prelude.{◌≡◌, ◌<◌, ◌^◌, ℕ, List as Seq, true, length, IfOk, OnOk};
 
-use crate::by_name::NameTable;
-use crate::located::Located;
+use crate::located::{Located, SourceItems};
 use crate::parts::instances;
-use adl_ast::{Component, Id, Instance};
-use adl_meaning::First;
+use adl_ast::{Component, Instance};
+use adl_meaning::Earliest;
 use cam_base::{Code, List, NoMemory};
 use component_graph::Cycles;
+use name_tables::NameTable;
 use std::alloc::Global;
 
 /// The number of the first component of each name.
@@ -80,59 +79,52 @@ fn graph_of(
     Ok(graph)
 }
 
-fn note_where(alloc: Global, held: bool, word: &Id, first: &mut First) -> Result<(), NoMemory>
-    ensures { OnOk result (first.new ≡ noted first.old (where_true held (at_word code.Recursive word.now))) }
-{
-    if held {
-        first.note(alloc, Code::Recursive, word.place, word.name.as_bytes())?;
-    }
-    Ok(())
-}
-
 /// Notes an instance in a component, by the number of its type.
-fn note_type(
+fn note_type<'a>(
     alloc: Global,
     cycles: &Cycles,
     component: u32,
-    instance: &Instance,
+    instance: &'a Instance,
     number: Option<u32>,
-    first: &mut First,
+    first: &mut Earliest<'a>,
 ) -> Result<(), NoMemory>
     requires component { component < length cycles.now }
     requires number { ForSome number (λ t. has (inner_of cycles.now component) t ≡ true) }
-    ensures { OnOk result (first.new ≡ noted first.old (recursive_type cycles.now component instance.now number)) }
+    ensures { OnOk result (first.new ≡ noted first.old (recursive_type cycles.now component instance.entry.now number)) }
 {
     let Some(number) = number else {
         return Ok(());
     };
     let held = cycles.holds_back(alloc, component, number)?;
-    note_where(alloc, held, &instance.component, first)?;
+    let word = &instance.component;
+    first.note(held, Code::Recursive, word.place, word.name.as_bytes());
     Ok(())
 }
 
-fn note_instance(
+fn note_instance<'a>(
     alloc: Global,
     numbers: &NameTable<'_, u32>,
     cycles: &Cycles,
     component: u32,
-    instance: &Instance,
-    first: &mut First,
+    instance: &'a Instance,
+    first: &mut Earliest<'a>,
 ) -> Result<(), NoMemory>
     requires component { component < length cycles.now }
     requires listed { IsListed (found numbers.now) (inner_of cycles.now component) instance.now }
-    ensures { OnOk result (first.new ≡ noted first.old (recursive_instance (found numbers.now) cycles.now component instance.now)) }
+    ensures { OnOk result (first.new
+        ≡ noted first.old (recursive_instance (found numbers.now) cycles.now component instance.entry.now)) }
 {
     let number = numbers.get(&instance.component.name).copied();
     note_type(alloc, cycles, component, instance, number, first)
 }
 
-fn note_instances(
+fn note_instances<'a>(
     alloc: Global,
     numbers: &NameTable<'_, u32>,
     cycles: &Cycles,
     component: u32,
-    instances: &[&Instance],
-    first: &mut First,
+    instances: &[&'a Instance],
+    first: &mut Earliest<'a>,
 ) -> Result<(), NoMemory>
     requires component { component < length cycles.now }
     requires listed { AreListed (found numbers.now) (inner_of cycles.now component) (pointed instances.now) }
@@ -145,29 +137,29 @@ fn note_instances(
     Ok(())
 }
 
-fn note_component(
+fn note_component<'a>(
     alloc: Global,
     numbers: &NameTable<'_, u32>,
     cycles: &Cycles,
     number: u32,
-    component: &Component,
-    first: &mut First,
+    component: &'a Component,
+    first: &mut Earliest<'a>,
 ) -> Result<(), NoMemory>
     requires number { number < length cycles.now }
     requires types { inner_of cycles.now number ≡ types_of (found numbers.now) component.now }
-    ensures { OnOk result (first.new ≡ noted first.old (recursive_in (found numbers.now) cycles.now number component.now)) }
+    ensures { OnOk result (first.new ≡ noted first.old (recursive_in (found numbers.now) cycles.now number component.entry.now)) }
 {
     let instances = instances(alloc, component)?;
     note_instances(alloc, numbers, cycles, number, instances.as_slice(), first)?;
     Ok(())
 }
 
-fn note_each(
+fn note_each<'a>(
     alloc: Global,
     numbers: &NameTable<'_, u32>,
     cycles: &Cycles,
-    components: &[Located<'_, Component>],
-    first: &mut First,
+    components: &[Located<'a, Component>],
+    first: &mut Earliest<'a>,
 ) -> Result<(), NoMemory>
     requires few { length components.now < 2 ^ 32 }
     requires graph { cycles.now ≡ graph_of (found numbers.now) (trees components.now) }
@@ -180,11 +172,11 @@ fn note_each(
     Ok(())
 }
 
-fn note_among(
+fn note_among<'a>(
     alloc: Global,
     numbers: &NameTable<'_, u32>,
-    components: &[Located<'_, Component>],
-    first: &mut First,
+    components: &[Located<'a, Component>],
+    first: &mut Earliest<'a>,
 ) -> Result<(), NoMemory>
     requires few { length components.now < 2 ^ 32 }
     requires numbers { AreBelow (found numbers.now) (length components.now) }
@@ -198,15 +190,14 @@ fn note_among(
 
 /// Notes each instance whose type is the component that it stands in, or holds it. The components that hold each other
 /// are found once, so that this takes time along the size of the source.
-pub fn note_recursive(
+pub fn note_recursive<'a>(
     alloc: Global,
-    components: &[Located<'_, Component>],
-    first: &mut First,
+    items: &SourceItems<'a>,
+    first: &mut Earliest<'a>,
 ) -> Result<(), NoMemory>
-    requires { length components.now < 2 ^ 32 }
-    ensures { OnOk result (first.new
-        ≡ noted first.old (recursive_among (number_named (trees components.now)) (trees components.now))) }
+    ensures { OnOk result (first.new ≡ noted first.old (recursive_types items.now)) }
 {
+    let components = items.components();
     let numbers = component_numbers(alloc, components)?;
     note_among(alloc, &numbers, components, first)?;
     Ok(())

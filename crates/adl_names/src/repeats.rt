@@ -1,97 +1,87 @@
 //! Later ones of equal names, and second compositions and configurations.
 
-ghost use Rattle.adl_meaning.specs.Duplicate.{repeats, again, repeated_params, duplicates_in_procedure, duplicates_in_composition, duplicates_in_component, duplicates_in_item};
-ghost use Rattle.adl_meaning.specs.Faults.{noted, where_true, at_word, at_keyword};
-ghost use Rattle.adl_names.specs.ByName.{is_among};
+ghost use Rattle.adl_meaning.specs.Duplicate.{repeats, again, repeated_params, duplicates};
+ghost use Rattle.adl_meaning.specs.Duplicate.{duplicates_in_procedure, duplicates_in_composition, duplicates_in_component, duplicates_in_item};
+ghost use Rattle.adl_meaning.specs.Faults.{noted, where_true, at_word};
+ghost use Rattle.adl_meaning.specs.Items.{procedures, components};
+ghost use Rattle.name_tables.specs.ByName.{is_among};
 ghost use Rattle.adl_names.specs.Pointed.{pointed};
 ghost use Rattle.cam_base.specs.declared.code.Code.TheVariants as code;
 ghost use Rattle.std.specs.List.{flat_map};
-ghost use Rattle.std.specs.Prelude.{◌≡◌, ◌∷◌, ◌||◌, [], ℕ, List as Seq, map, OnOk};
+ghost use Rattle.std.specs.Prelude.{◌≡◌, ◌++◌, ◌||◌, ℕ, List as Seq, map, OnOk};
 ghost use Rattle.std.specs.Str.{bytes_eq};
 
-use crate::by_name::NameSet;
-use crate::located::Located;
+use crate::located::SourceItems;
 use crate::parts::{
-    compositions, configurations, declared_ids, held_ids, method_ids, methods, param_ids,
+    component_ids, compositions, configurations, declared_ids, held_ids, method_ids, methods,
+    param_ids, procedure_ids,
 };
 use adl_ast::{Component, Composition, Configuration, Id, Item, Method, Procedure};
-use adl_meaning::First;
+use adl_meaning::Earliest;
 use cam_base::{Code, NoMemory, Place};
+use name_tables::NameSet;
 use std::alloc::Global;
 
 /// Takes the next name, or notes that it was met before.
-fn meet<'a>(
-    alloc: Global,
-    id: &'a Id,
-    met: &mut NameSet<'a>,
-    first: &mut First,
-) -> Result<(), NoMemory>
-    ensures first { OnOk result (first.new ≡ noted first.old (where_true (is_among met.old id.entry.now.name) (at_word code.Duplicate id.entry.now))) }
+fn meet<'a>(id: &'a Id, met: &mut NameSet<'a>, first: &mut Earliest<'a>) -> Result<(), NoMemory>
+    ensures first { OnOk result (first.new
+        ≡ noted first.old (where_true (is_among met.old id.entry.now.name) (at_word code.Duplicate id.entry.now))) }
     ensures met { OnOk result ((n : Seq ℕ) → is_among met.new n ≡ (is_among met.old n || bytes_eq n id.entry.now.name)) }
 {
-    if met.contains(&id.name) {
-        first.note(alloc, Code::Duplicate, id.place, id.name.as_bytes())?;
-    }
+    let is_met = met.contains(&id.name);
+    first.note(is_met, Code::Duplicate, id.place, id.name.as_bytes());
     met.insert(&id.name)
 }
 
 /// Notes each word whose name an earlier one has.
-pub fn note_repeats(alloc: Global, ids: &[&Id], first: &mut First) -> Result<(), NoMemory>
+fn note_repeats<'a>(alloc: Global, ids: &[&'a Id], first: &mut Earliest<'a>) -> Result<(), NoMemory>
     ensures { OnOk result (first.new ≡ noted first.old (repeats (pointed ids.now))) }
 {
     let mut met = NameSet::new(alloc);
     for id in ids {
-        meet(alloc, id, &mut met, first)?;
+        meet(id, &mut met, first)?;
     }
     Ok(())
-}
-
-fn note_second(alloc: Global, place: Place, first: &mut First) -> Result<(), NoMemory>
-    ensures { OnOk result (first.new ≡ noted first.old (at_keyword code.Duplicate place ∷ [])) }
-{
-    first.note(alloc, Code::Duplicate, place, b"")
 }
 
 /// Notes each composition but the first.
-fn note_compositions(
-    alloc: Global,
-    compositions: &[&Composition],
-    first: &mut First,
-) -> Result<(), NoMemory>
-    ensures { OnOk result (first.new ≡ noted first.old (again (map (λ k. k.place) (pointed compositions.now)))) }
+fn note_compositions<'a>(compositions: &[&'a Composition], first: &mut Earliest<'a>)
+    ensures { first.new ≡ noted first.old (again (map (λ k. k.place) (pointed compositions.now))) }
 {
     if let [_, later @ ..] = compositions {
         for composition in later {
-            note_second(alloc, composition.place, first)?;
+            first.note(true, Code::Duplicate, composition.place, b"");
         }
     }
-    Ok(())
 }
 
 /// Notes each configuration but the first.
-fn note_configurations(
-    alloc: Global,
-    configurations: &[&Configuration],
-    first: &mut First,
-) -> Result<(), NoMemory>
-    ensures { OnOk result (first.new ≡ noted first.old (again (map (λ f. f.place) (pointed configurations.now)))) }
+fn note_configurations<'a>(configurations: &[&'a Configuration], first: &mut Earliest<'a>)
+    ensures { first.new ≡ noted first.old (again (map (λ f. f.place) (pointed configurations.now))) }
 {
     if let [_, later @ ..] = configurations {
         for configuration in later {
-            note_second(alloc, configuration.place, first)?;
+            first.note(true, Code::Duplicate, configuration.place, b"");
         }
     }
-    Ok(())
 }
 
-fn note_method(alloc: Global, method: &Method, first: &mut First) -> Result<(), NoMemory>
-    ensures { OnOk result (first.new ≡ noted first.old (repeated_params method.now)) }
+fn note_method<'a>(
+    alloc: Global,
+    method: &'a Method,
+    first: &mut Earliest<'a>,
+) -> Result<(), NoMemory>
+    ensures { OnOk result (first.new ≡ noted first.old (repeated_params method.entry.now)) }
 {
     let ids = param_ids(alloc, method.params.as_slice())?;
     note_repeats(alloc, ids.as_slice(), first)
 }
 
-fn note_methods(alloc: Global, methods: &[&Method], first: &mut First) -> Result<(), NoMemory>
+fn note_methods<'a>(
+    alloc: Global,
+    methods: &[&'a Method],
+    first: &mut Earliest<'a>,
+) -> Result<(), NoMemory>
     ensures { OnOk result (first.new ≡ noted first.old (flat_map repeated_params (pointed methods.now))) }
 {
     for method in methods {
@@ -101,8 +91,12 @@ fn note_methods(alloc: Global, methods: &[&Method], first: &mut First) -> Result
 }
 
 #[tactic(auto, using(adl_meaning::proofs::Noting::noting))]
-fn note_procedure(alloc: Global, procedure: &Procedure, first: &mut First) -> Result<(), NoMemory>
-    ensures { OnOk result (first.new ≡ noted first.old (duplicates_in_procedure procedure.now)) }
+fn note_procedure<'a>(
+    alloc: Global,
+    procedure: &'a Procedure,
+    first: &mut Earliest<'a>,
+) -> Result<(), NoMemory>
+    ensures { OnOk result (first.new ≡ noted first.old (duplicates_in_procedure procedure.entry.now)) }
 {
     let methods = methods(alloc, procedure)?;
     let ids = method_ids(alloc, methods.as_slice())?;
@@ -110,21 +104,21 @@ fn note_procedure(alloc: Global, procedure: &Procedure, first: &mut First) -> Re
     note_methods(alloc, methods.as_slice(), first)
 }
 
-fn note_composition(
+fn note_composition<'a>(
     alloc: Global,
-    composition: &Composition,
-    first: &mut First,
+    composition: &'a Composition,
+    first: &mut Earliest<'a>,
 ) -> Result<(), NoMemory>
-    ensures { OnOk result (first.new ≡ noted first.old (duplicates_in_composition composition.now)) }
+    ensures { OnOk result (first.new ≡ noted first.old (duplicates_in_composition composition.entry.now)) }
 {
     let ids = held_ids(alloc, composition)?;
     note_repeats(alloc, ids.as_slice(), first)
 }
 
-fn note_held(
+fn note_held<'a>(
     alloc: Global,
-    compositions: &[&Composition],
-    first: &mut First,
+    compositions: &[&'a Composition],
+    first: &mut Earliest<'a>,
 ) -> Result<(), NoMemory>
     ensures { OnOk result (first.new ≡ noted first.old (flat_map duplicates_in_composition (pointed compositions.now))) }
 {
@@ -135,20 +129,24 @@ fn note_held(
 }
 
 #[tactic(auto, using(adl_meaning::proofs::Noting::noting))]
-fn note_component(alloc: Global, component: &Component, first: &mut First) -> Result<(), NoMemory>
-    ensures { OnOk result (first.new ≡ noted first.old (duplicates_in_component component.now)) }
+fn note_component<'a>(
+    alloc: Global,
+    component: &'a Component,
+    first: &mut Earliest<'a>,
+) -> Result<(), NoMemory>
+    ensures { OnOk result (first.new ≡ noted first.old (duplicates_in_component component.entry.now)) }
 {
     let ids = declared_ids(alloc, component)?;
     note_repeats(alloc, ids.as_slice(), first)?;
     let compositions = compositions(alloc, component)?;
-    note_compositions(alloc, compositions.as_slice(), first)?;
+    note_compositions(compositions.as_slice(), first);
     let configurations = configurations(alloc, component)?;
-    note_configurations(alloc, configurations.as_slice(), first)?;
+    note_configurations(configurations.as_slice(), first);
     note_held(alloc, compositions.as_slice(), first)
 }
 
-fn note_item(alloc: Global, item: &Item, first: &mut First) -> Result<(), NoMemory>
-    ensures { OnOk result (first.new ≡ noted first.old (duplicates_in_item item.now)) }
+fn note_item<'a>(alloc: Global, item: &'a Item, first: &mut Earliest<'a>) -> Result<(), NoMemory>
+    ensures { OnOk result (first.new ≡ noted first.old (duplicates_in_item item.entry.now)) }
 {
     match item {
         Item::Import(_) => Ok(()),
@@ -158,15 +156,31 @@ fn note_item(alloc: Global, item: &Item, first: &mut First) -> Result<(), NoMemo
     }
 }
 
-/// Notes the duplicates within items.
-pub fn note_duplicates(
+fn note_names<'a>(
     alloc: Global,
-    items: &[Located<'_, Item>],
-    first: &mut First,
+    items: &SourceItems<'a>,
+    first: &mut Earliest<'a>,
 ) -> Result<(), NoMemory>
-    ensures { OnOk result (first.new ≡ noted first.old (flat_map (λ x. duplicates_in_item x.item.now) items.now)) }
+    ensures { OnOk result (first.new ≡ noted first.old
+        (repeats (map (λ p. p.1.id) (procedures items.now)) ++ repeats (map (λ c. c.1.id) (components items.now)))) }
 {
-    for x in items {
+    let procedures = procedure_ids(alloc, items.procedures())?;
+    note_repeats(alloc, procedures.as_slice(), first)?;
+    let components = component_ids(alloc, items.components())?;
+    note_repeats(alloc, components.as_slice(), first)?;
+    Ok(())
+}
+
+/// Notes the duplicates of a source.
+pub fn note_duplicates<'a>(
+    alloc: Global,
+    items: &SourceItems<'a>,
+    first: &mut Earliest<'a>,
+) -> Result<(), NoMemory>
+    ensures { OnOk result (first.new ≡ noted first.old (duplicates items.now)) }
+{
+    note_names(alloc, items, first)?;
+    for x in items.items() {
         note_item(alloc, x.item, first)?;
     }
     Ok(())

@@ -1,31 +1,65 @@
 //! Tables of what the names of compositions and components stand for.
 
 ghost use Rattle.adl_meaning.specs.Holding.{as_held, a_group, held_by, held_as, member_of, exports_in};
-ghost use Rattle.adl_meaning.specs.Known.{is_target, known_of};
-ghost use Rattle.adl_meaning.specs.Members.{declared_by, declared_as, composition_of};
-ghost use Rattle.adl_names.specs.ByName.{is_among};
-ghost use Rattle.adl_names.specs.Tables.{members_told, holding_told, declaring_told, interface_told, attribute_told, known_told, types_told, first_held, first_declared};
-ghost use Rattle.adl_names.specs.Located.{located};
-ghost use Rattle.std.specs.List.{find};
+ghost use Rattle.adl_meaning.specs.Known.{is_target, is_exported};
+ghost use Rattle.adl_meaning.specs.Members.{declared_as, interface_of, attribute_of, compositions, composition_of};
+ghost use Rattle.adl_names.specs.Groups.{AreMembers};
+ghost use Rattle.adl_names.specs.Tables.{held_told, holding_told, declaring_told, IsHolding};
+ghost use Rattle.adl_names.specs.Firsts.{first_held};
+ghost use Rattle.name_tables.specs.ByName.{is_among};
 ghost use Rattle.std.specs.Option.{option_or, option_copied};
-ghost use Rattle.std.specs.Prelude.{◌≡◌, ◌∷◌, ℕ, List as Seq, Some, None, map, option_map, OnOk, IfOk, if◌then◌else◌};
-ghost use Rattle.std.specs.Str.{bytes_eq};
+ghost use Rattle.std.specs.Prelude.{◌≡◌, ◌∷◌, ℕ, List as Seq, map, option_map, OnOk, IfOk};
 
-use crate::by_name::{NameSet, NameTable};
-use crate::located::Located;
-use adl_ast::{
-    Attribute, Component, Composition, Export, Group, Instance, Interface, Line, Lock, Member,
-};
+use adl_ast::{Attribute, Component, Composition, Group, Instance, Interface, Line, Lock, Member};
 use cam_base::{Name, NoMemory};
+use name_tables::{NameSet, NameTable};
 use std::alloc::Global;
+use std::marker::Model;
+
+/// A group with its instances by name. Contracts see it as the group.
+#[derive(Drop)]
+pub struct Members<'a> {
+    group: &'a Group,
+    members: NameTable<'a, &'a Instance>,
+}
+
+impl<'a> Model for Members<'a> {
+    ghost use Rattle.adl_ast.specs.declared.composition.Group.{Group};
+
+    ghost Value = { Group };
+
+    ghost use Rattle.adl_names.specs.Groups.{AreMembers};
+
+    ghost view = { λ m. m.group.now };
+
+    ghost invariant = { λ m. AreMembers m.members m.group.now };
+}
 
 /// What a composition holds under a name.
 #[derive(Drop)]
 pub enum Held<'a> {
     Instance(&'a Instance),
-    /// The instances of a group by name.
-    Group(NameTable<'a, &'a Instance>),
+    Group(Members<'a>),
     Connection,
+}
+
+/// A composition with what it holds by name. Contracts see it as the composition.
+#[derive(Drop)]
+pub struct Holding<'a> {
+    pub composition: &'a Composition,
+    held: NameTable<'a, Held<'a>>,
+}
+
+impl<'a> Model for Holding<'a> {
+    ghost use Rattle.adl_ast.specs.declared.composition.Composition.{Composition};
+
+    ghost Value = { Composition };
+
+    ghost use Rattle.adl_names.specs.Tables.{IsHolding};
+
+    ghost view = { λ h. h.composition.now };
+
+    ghost invariant = { λ h. IsHolding h.held h.composition.now };
 }
 
 /// What a component declares under a name.
@@ -36,19 +70,57 @@ pub enum Declared<'a> {
     Lock(&'a Lock),
 }
 
-/// What the names of a component stand for.
+/// A component with what its names stand for. Contracts see it as the component.
 #[derive(Drop)]
 pub struct ComponentTable<'a> {
-    pub declared: NameTable<'a, Declared<'a>>,
-    /// What its composition holds; a leaf has none.
-    pub holding: Option<NameTable<'a, Held<'a>>>,
-    /// The targets of the exports of its composition.
-    pub targets: NameSet<'a>,
+    pub component: &'a Component,
+    declared: NameTable<'a, Declared<'a>>,
+    /// What its compositions hold, in their order.
+    holdings: Vec<Holding<'a>>,
+    /// The targets of the exports of the first.
+    targets: NameSet<'a>,
+}
+
+impl<'a> Model for ComponentTable<'a> {
+    ghost use Rattle.adl_ast.specs.declared.component.Component.{Component};
+
+    ghost Value = { Component };
+
+    ghost use Rattle.adl_ast.specs.contracts.value.ValueKind as values;
+    ghost use Rattle.std.specs.Coded.{codes};
+
+    ghost coded = { Prim.hlevel (codes, values.the_row.coded) };
+
+    ghost use Rattle.adl_names.specs.Tables.{AreTold};
+
+    ghost view = { λ t. t.component.now };
+
+    ghost invariant = { λ t. AreTold t.declared t.holdings.items t.targets t.component.now };
+}
+
+impl<'a> Members<'a> {
+    /// The table of a group.
+    pub fn of(alloc: Global, group: &'a Group) -> Result<Members<'a>, NoMemory>
+        ensures { IfOk result (λ m. m ≡ group.entry.now) }
+    {
+        let members = group_members(alloc, group)?;
+        Ok(Members { group, members })
+    }
+
+    /// The first instance of the group that has the name.
+    pub fn get(&self, name: &Name) -> Option<&'a Instance>
+        ensures { option_copied result ≡ member_of self.now name.now }
+    {
+        self.members.get(name).copied()
+    }
 }
 
 /// The instances of a group by name.
-fn members<'a>(alloc: Global, group: &'a Group) -> Result<NameTable<'a, &'a Instance>, NoMemory>
-    ensures { IfOk result (λ t. (n : Seq ℕ) → members_told t n ≡ member_of group.now n) }
+fn group_members<'a>(
+    alloc: Global,
+    group: &'a Group,
+) -> Result<NameTable<'a, &'a Instance>, NoMemory>
+    ensures { IfOk result (λ t. AreMembers t group.entry.now) }
 {
     let mut table = NameTable::new(alloc);
     for instance in group.instances.as_slice() {
@@ -61,7 +133,8 @@ fn add_instances<'a>(
     instances: &'a [Instance],
     table: &mut NameTable<'a, Held<'a>>,
 ) -> Result<(), NoMemory>
-    ensures { OnOk result ((n : Seq ℕ) → holding_told table.new n ≡ option_or (holding_told table.old n) (first_held (map as_held instances.now) n)) }
+    ensures { OnOk result ((n : Seq ℕ) → holding_told table.new n
+        ≡ option_or (holding_told table.old n) (first_held (map as_held instances.now) n)) }
 {
     for instance in instances {
         table.add(&instance.id.name, Held::Instance(instance))?;
@@ -74,9 +147,10 @@ fn add_group<'a>(
     group: &'a Group,
     table: &mut NameTable<'a, Held<'a>>,
 ) -> Result<(), NoMemory>
-    ensures { OnOk result ((n : Seq ℕ) → holding_told table.new n ≡ option_or (holding_told table.old n) (first_held ((group.now.id, a_group (member_of group.now)) ∷ map as_held group.now.instances) n)) }
+    ensures { OnOk result ((n : Seq ℕ) → holding_told table.new n
+        ≡ option_or (holding_told table.old n) (first_held ((group.now.id, a_group (member_of group.now)) ∷ map as_held group.now.instances) n)) }
 {
-    let own = members(alloc, group)?;
+    let own = Members::of(alloc, group)?;
     table.add(&group.id.name, Held::Group(own))?;
     add_instances(group.instances.as_slice(), table)?;
     Ok(())
@@ -87,7 +161,8 @@ fn add_line<'a>(
     line: &'a Line,
     table: &mut NameTable<'a, Held<'a>>,
 ) -> Result<(), NoMemory>
-    ensures { OnOk result ((n : Seq ℕ) → holding_told table.new n ≡ option_or (holding_told table.old n) (first_held (held_by line.now) n)) }
+    ensures { OnOk result ((n : Seq ℕ) → holding_told table.new n
+        ≡ option_or (holding_told table.old n) (first_held (held_by line.now) n)) }
 {
     match line {
         Line::Instance(instance) => table.add(&instance.id.name, Held::Instance(instance)),
@@ -98,11 +173,11 @@ fn add_line<'a>(
 }
 
 /// What a composition holds by name.
-pub fn holding<'a>(
+fn all_held<'a>(
     alloc: Global,
     composition: &'a Composition,
 ) -> Result<NameTable<'a, Held<'a>>, NoMemory>
-    ensures { IfOk result (λ t. (n : Seq ℕ) → holding_told t n ≡ held_as composition.now n) }
+    ensures { IfOk result (λ t. IsHolding t composition.entry.now) }
 {
     let mut table = NameTable::new(alloc);
     for line in composition.lines.as_slice() {
@@ -111,25 +186,20 @@ pub fn holding<'a>(
     Ok(table)
 }
 
-fn add_member<'a>(
-    member: &'a Member,
-    table: &mut NameTable<'a, Declared<'a>>,
-) -> Result<(), NoMemory>
-    ensures { OnOk result ((n : Seq ℕ) → declaring_told table.new n ≡ option_or (declaring_told table.old n) (first_declared (declared_by member.now) n)) }
-{
-    match member {
-        Member::Interface(interface) => {
-            table.add(&interface.id.name, Declared::Interface(interface))
-        }
-        Member::Attribute(attribute) => {
-            table.add(&attribute.id.name, Declared::Attribute(attribute))
-        }
-        Member::Lock(lock) => table.add(&lock.id.name, Declared::Lock(lock)),
-        Member::Control(_) => Ok(()),
-        Member::Hardware(_) => Ok(()),
-        Member::Include(_) => Ok(()),
-        Member::Composition(_) => Ok(()),
-        Member::Configuration(_) => Ok(()),
+impl<'a> Holding<'a> {
+    /// The table of a composition.
+    pub fn of(alloc: Global, composition: &'a Composition) -> Result<Holding<'a>, NoMemory>
+        ensures { IfOk result (λ h. h ≡ composition.entry.now) }
+    {
+        let held = all_held(alloc, composition)?;
+        Ok(Holding { composition, held })
+    }
+
+    /// The first that the composition holds under the name.
+    pub fn get(&self, name: &Name) -> Option<&Held<'a>>
+        ensures { option_map (λ r. held_told r.now) result ≡ held_as self.now name.now }
+    {
+        self.held.get(name)
     }
 }
 
@@ -142,40 +212,37 @@ pub fn declaring<'a>(
 {
     let mut table = NameTable::new(alloc);
     for member in component.members.as_slice() {
-        add_member(member, &mut table)?;
+        match member {
+            Member::Interface(it) => table.add(&it.id.name, Declared::Interface(it))?,
+            Member::Attribute(it) => table.add(&it.id.name, Declared::Attribute(it))?,
+            Member::Lock(it) => table.add(&it.id.name, Declared::Lock(it))?,
+            _ => (),
+        }
     }
     Ok(table)
 }
 
-/// The interface that a name stands for among what a component declares.
-pub fn interface<'a>(declared: &NameTable<'a, Declared<'a>>, name: &Name) -> Option<&'a Interface>
-    ensures { option_copied result ≡ interface_told declared.now name.now }
+/// What the compositions of a component hold.
+fn holdings<'a>(alloc: Global, component: &'a Component) -> Result<Vec<Holding<'a>>, NoMemory>
+    ensures { IfOk result (λ v. v.items ≡ compositions component.now) }
 {
-    match declared.get(name) {
-        Some(Declared::Interface(interface)) => Some(interface),
-        Some(Declared::Attribute(_)) => None,
-        Some(Declared::Lock(_)) => None,
-        None => None,
+    let mut holdings = Vec::new(alloc);
+    for member in component.members.as_slice() {
+        if let Member::Composition(composition) = member {
+            holdings.push(Holding::of(alloc, composition)?)?;
+        }
     }
+    Ok(holdings)
 }
 
-/// The attribute that a name stands for among what a component declares.
-pub fn attribute<'a>(declared: &NameTable<'a, Declared<'a>>, name: &Name) -> Option<&'a Attribute>
-    ensures { option_copied result ≡ attribute_told declared.now name.now }
-{
-    match declared.get(name) {
-        Some(Declared::Interface(_)) => None,
-        Some(Declared::Attribute(attribute)) => Some(attribute),
-        Some(Declared::Lock(_)) => None,
-        None => None,
-    }
-}
-
-/// The targets of the exports of a composition.
-fn targets<'a>(alloc: Global, composition: &'a Composition) -> Result<NameSet<'a>, NoMemory>
-    ensures { IfOk result (λ t. (n : Seq ℕ) → is_among t n ≡ is_target (exports_in composition.now) n) }
+/// The targets of the exports of a composition that may be absent.
+fn targets<'a>(alloc: Global, composition: Option<&'a Composition>) -> Result<NameSet<'a>, NoMemory>
+    ensures { IfOk result (λ t. (n : Seq ℕ) → is_among t n ≡ is_exported (option_copied composition.entry) n) }
 {
     let mut targets = NameSet::new(alloc);
+    let Some(composition) = composition else {
+        return Ok(targets);
+    };
     for line in composition.lines.as_slice() {
         if let Line::Export(export) = line {
             targets.insert(&export.target.name)?;
@@ -196,50 +263,60 @@ pub fn composition_of(component: &Component) -> Option<&Composition>
     None
 }
 
-/// What the names of a component stand for.
-pub fn table_of<'a>(alloc: Global, component: &'a Component) -> Result<ComponentTable<'a>, NoMemory>
-    ensures { IfOk result (λ t. known_told t ≡ known_of component.now) }
-{
-    let declared = declaring(alloc, component)?;
-    match composition_of(component) {
-        None => Ok(ComponentTable {
+impl<'a> ComponentTable<'a> {
+    /// The table of a component.
+    pub fn of(alloc: Global, component: &'a Component) -> Result<ComponentTable<'a>, NoMemory>
+        ensures { IfOk result (λ t. t ≡ component.entry.now) }
+    {
+        let declared = declaring(alloc, component)?;
+        let targets = targets(alloc, composition_of(component))?;
+        let holdings = holdings(alloc, component)?;
+        Ok(ComponentTable {
+            component,
             declared,
-            holding: None,
-            targets: NameSet::new(alloc),
-        }),
-        Some(composition) => {
-            let holding = holding(alloc, composition)?;
-            let targets = targets(alloc, composition)?;
-            Ok(ComponentTable {
-                declared,
-                holding: Some(holding),
-                targets,
-            })
+            holdings,
+            targets,
+        })
+    }
+
+    /// The interface that the name stands for.
+    pub fn interface(&self, name: &Name) -> Option<&'a Interface>
+        ensures { option_copied result ≡ interface_of self.now name.now }
+    {
+        match self.declared.get(name) {
+            Some(Declared::Interface(interface)) => Some(interface),
+            _ => None,
         }
     }
-}
 
-fn add_component<'a>(
-    alloc: Global,
-    component: &'a Component,
-    types: &mut NameTable<'a, ComponentTable<'a>>,
-) -> Result<(), NoMemory>
-    ensures { OnOk result ((n : Seq ℕ) → types_told types.new n ≡ option_or (types_told types.old n) (if bytes_eq n component.entry.now.id.name then Some (known_of component.entry.now) else None)) }
-{
-    let table = table_of(alloc, component)?;
-    types.add(&component.id.name, table)
-}
-
-/// The tables of components by name, where the first of a name counts.
-pub fn types<'a>(
-    alloc: Global,
-    components: &[Located<'a, Component>],
-) -> Result<NameTable<'a, ComponentTable<'a>>, NoMemory>
-    ensures { IfOk result (λ t. (n : Seq ℕ) → types_told t n ≡ option_map known_of (option_map (λ c. c.1) (find (λ c. bytes_eq n c.1.id.name) (map located components.now)))) }
-{
-    let mut types = NameTable::new(alloc);
-    for x in components {
-        add_component(alloc, x.item, &mut types)?;
+    /// The attribute that the name stands for.
+    pub fn attribute(&self, name: &Name) -> Option<&'a Attribute>
+        ensures { option_copied result ≡ attribute_of self.now name.now }
+    {
+        match self.declared.get(name) {
+            Some(Declared::Attribute(attribute)) => Some(attribute),
+            _ => None,
+        }
     }
-    Ok(types)
+
+    /// What its compositions hold, in their order.
+    pub fn holdings(&self) -> &[Holding<'a>]
+        ensures { result.now ≡ compositions self.now }
+    {
+        self.holdings.as_slice()
+    }
+
+    /// What its composition holds, the first; a leaf has none.
+    pub fn holding(&self) -> Option<&Holding<'a>>
+        ensures { option_copied result ≡ composition_of self.now }
+    {
+        self.holdings.as_slice().first()
+    }
+
+    /// Whether an export of its composition has the name as target.
+    pub fn exports(&self, name: &Name) -> bool
+        ensures { result ≡ is_exported (composition_of self.now) name.now }
+    {
+        self.targets.contains(name)
+    }
 }

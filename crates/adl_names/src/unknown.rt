@@ -1,589 +1,342 @@
 //! Words that nothing has.
 
 ghost use Rattle.adl_meaning.specs.Faults.{noted};
-ghost use Rattle.adl_meaning.specs.Known.{known_of};
-ghost use Rattle.adl_meaning.specs.Unknown.{within, unless_known, unknown_type, names_procedure, unknown_procedure, unknown_connector, unknown_interface, unknown_in_two, unknown_in_group, unknown_in_three, unknown_in_dotted, unknown_last, unknown_inner, unknown_group, unknown_word, unknown_in_setting, unknown_attribute, unknown_target, unknown_in_line, unknown_in_composition, unknown_in_one_setting, unknown_in_configuration, unknown_in_member, unknown_if_configured, unknown_in_assembly, unknown_in_item};
-ghost use Rattle.adl_names.specs.ByName.{is_among};
-ghost use Rattle.adl_names.specs.Scopes.{scope_told, owner_told};
-ghost use Rattle.adl_names.specs.Tables.{held_told, holding_told, known_told, types_told};
-ghost use Rattle.std.specs.List.{flat_map};
+ghost use Rattle.adl_meaning.specs.Holding.{held_as};
+ghost use Rattle.adl_meaning.specs.Known.{known_in, known_of};
+ghost use Rattle.adl_meaning.specs.Unknown.{within, unless_known, names_procedure, unknown_interface, unknown_in_dotted, unknown_word, unknown_in_setting};
+ghost use Rattle.adl_meaning.specs.Unknown.{unknown_in_line, unknown_in_composition, unknown_in_one_setting, unknown_in_configuration};
+ghost use Rattle.adl_meaning.specs.Unknown.{unknown_attribute, unknown_in_member, unknown_if_configured, unknown_in_assembly, unknown_in_item, is_procedure, unknown_names};
+ghost use Rattle.adl_names.specs.Bodies.{owner_of, item_of};
+ghost use Rattle.adl_names.specs.Scopes.{scope_told, may_hold, is_group};
+ghost use Rattle.adl_ast.specs.declared.component.Member.{Member as MemberOf};
+ghost use Rattle.adl_meaning.specs.Members.{as_composition};
+ghost use Rattle.std.specs.List.{flat_map, filter_map};
 ghost use Rattle.std.specs.Option.{option_and_then};
-ghost use Rattle.std.specs.Prelude.{◌≡◌, ◌++◌, option_map, is_some, OnOk};
+ghost use Rattle.std.specs.Prelude.{◌≡◌, ◌∷◌, List as Seq, is_some};
 
-use crate::by_name::{NameSet, NameTable};
-use crate::located::Located;
-use crate::scope::{Scope, Types, of_holding, scope_behind};
-use crate::tables::{ComponentTable, Held, attribute, holding, interface, table_of};
-use adl_ast::{
-    Assembly, Component, Composition, Configuration, Connection, End, Export, Id, Instance,
-    Interface, InterfaceKind, Item, Line, Member, Setter, Setting,
-};
-use adl_meaning::{Connector, First};
-use cam_base::{Code, Name, NoMemory};
-use std::alloc::Global;
+use crate::bodies::{AssemblyTable, Body, SourceTables};
+use crate::scope::{Scope, of_holding, scope_behind};
+use crate::tables::{ComponentTable, Held, Holding};
+use adl_ast::{Configuration, Id, InterfaceKind, Line, Member, Setter, Setting};
+use adl_meaning::{Connector, Earliest};
+use cam_base::{Code, Name};
 
-fn note_unless(alloc: Global, known: bool, word: &Id, first: &mut First) -> Result<(), NoMemory>
-    ensures { OnOk result (first.new ≡ noted first.old (unless_known known word.now)) }
+fn note_unless<'a>(known: bool, word: &'a Id, first: &mut Earliest<'a>)
+    ensures { first.new ≡ noted first.old (unless_known known word.entry.now) }
 {
-    if !known {
-        first.note(alloc, Code::Unknown, word.place, word.name.as_bytes())?;
-    }
-    Ok(())
-}
-
-fn note_type(
-    alloc: Global,
-    types: &Types<'_>,
-    instance: &Instance,
-    first: &mut First,
-) -> Result<(), NoMemory>
-    ensures { OnOk result (first.new ≡ noted first.old (unknown_type (types_told types.now) instance.now)) }
-{
-    let word = &instance.component;
-    note_unless(alloc, types.get(&word.name).is_some(), word, first)
+    first.note(!known, Code::Unknown, word.place, word.name.as_bytes());
 }
 
 fn names_procedure(kind: InterfaceKind) -> bool
     ensures { result ≡ names_procedure kind }
 {
-    match kind {
-        InterfaceKind::Uses => true,
-        InterfaceKind::Provides => true,
-        InterfaceKind::Emits => false,
-        InterfaceKind::Consumes => false,
-        InterfaceKind::Dataport => false,
-    }
+    matches!(kind, InterfaceKind::Uses | InterfaceKind::Provides)
 }
 
-fn note_procedure(
-    alloc: Global,
-    procedures: &NameSet<'_>,
-    interface: &Interface,
-    first: &mut First,
-) -> Result<(), NoMemory>
-    ensures { OnOk result (first.new ≡ noted first.old (unknown_procedure (is_among procedures.now) interface.now)) }
+fn note_interface<'a>(table: Option<&ComponentTable<'a>>, word: &'a Id, first: &mut Earliest<'a>)
+    ensures { first.new ≡ noted first.old (unknown_interface (owner_of table.entry) word.entry.now) }
 {
-    let word = &interface.word;
-    let known = !names_procedure(interface.kind) || procedures.contains(&word.name);
-    note_unless(alloc, known, word, first)
-}
-
-fn note_connector(alloc: Global, connection: &Connection, first: &mut First) -> Result<(), NoMemory>
-    ensures { OnOk result (first.new ≡ noted first.old (unknown_connector connection.now)) }
-{
-    let word = &connection.connector;
-    let known = Connector::find(word.name.as_bytes()).is_some();
-    note_unless(alloc, known, word, first)
-}
-
-fn note_interface(
-    alloc: Global,
-    table: Option<&ComponentTable<'_>>,
-    word: &Id,
-    first: &mut First,
-) -> Result<(), NoMemory>
-    ensures { OnOk result (first.new ≡ noted first.old (unknown_interface (owner_told table.entry) word.now)) }
-{
-    match table {
-        None => Ok(()),
-        Some(table) => note_unless(
-            alloc,
-            interface(&table.declared, &word.name).is_some(),
-            word,
-            first,
-        ),
-    }
-}
-
-fn note_in_two(
-    alloc: Global,
-    types: &Types<'_>,
-    held: Option<&Held<'_>>,
-    name: &Id,
-    port: &Id,
-    first: &mut First,
-) -> Result<(), NoMemory>
-    ensures { OnOk result (first.new ≡ noted first.old (unknown_in_two (types_told types.now) (option_map (λ r. held_told r.now) held.entry) name.now port.now)) }
-{
-    match held {
-        None => note_unless(alloc, false, name, first),
-        Some(Held::Instance(instance)) => {
-            note_interface(alloc, types.get(&instance.component.name), port, first)
-        }
-        Some(Held::Group(members)) => {
-            note_unless(alloc, false, name, first)?;
-            note_unless(alloc, members.get(&port.name).is_some(), port, first)
-        }
-        Some(Held::Connection) => note_unless(alloc, false, name, first),
-    }
-}
-
-fn note_in_group(
-    alloc: Global,
-    types: &Types<'_>,
-    instance: Option<&&Instance>,
-    name: &Id,
-    port: &Id,
-    first: &mut First,
-) -> Result<(), NoMemory>
-    ensures { OnOk result (first.new ≡ noted first.old (unknown_in_group (types_told types.now) (option_map (λ r. r.now.now) instance.entry) name.now port.now)) }
-{
-    match instance {
-        None => note_unless(alloc, false, name, first),
-        Some(instance) => note_interface(alloc, types.get(&instance.component.name), port, first),
-    }
-}
-
-fn note_in_three(
-    alloc: Global,
-    types: &Types<'_>,
-    held: Option<&Held<'_>>,
-    name: &Id,
-    member: &Id,
-    port: &Id,
-    first: &mut First,
-) -> Result<(), NoMemory>
-    ensures { OnOk result (first.new ≡ noted first.old (unknown_in_three (types_told types.now) (option_map (λ r. held_told r.now) held.entry) name.now member.now port.now)) }
-{
-    match held {
-        None => note_unless(alloc, false, name, first),
-        Some(Held::Instance(_)) => note_unless(alloc, false, name, first),
-        Some(Held::Group(members)) => {
-            note_in_group(alloc, types, members.get(&member.name), member, port, first)
-        }
-        Some(Held::Connection) => note_unless(alloc, false, name, first),
+    if let Some(table) = table {
+        note_unless(table.interface(&word.name).is_some(), word, first);
     }
 }
 
 /// Notes the words of a dotted name of an end or an export that nothing has.
-fn note_in_dotted(
-    alloc: Global,
-    types: &Types<'_>,
-    held: &NameTable<'_, Held<'_>>,
-    words: &[Id],
-    first: &mut First,
-) -> Result<(), NoMemory>
-    ensures { OnOk result (first.new ≡ noted first.old (unknown_in_dotted (types_told types.now) (holding_told held.now) words.now)) }
+fn note_dotted<'a>(
+    tables: &SourceTables<'a>,
+    holding: &Holding<'a>,
+    words: &'a [Id],
+    first: &mut Earliest<'a>,
+)
+    ensures { first.new ≡ noted first.old (unknown_in_dotted (known_in tables.now) (held_as holding.now) words.entry.now) }
 {
     match words {
-        [name, port] => note_in_two(alloc, types, held.get(&name.name), name, port, first),
-        [name, member, port] => {
-            note_in_three(
-                alloc,
-                types,
-                held.get(&name.name),
-                name,
-                member,
-                port,
-                first,
-            )
-        }
-        _ => Ok(()),
+        [name, port] => match holding.get(&name.name) {
+            Some(Held::Instance(it)) => {
+                note_interface(tables.component(&it.component.name), port, first);
+            }
+            Some(Held::Group(members)) => {
+                note_unless(false, name, first);
+                note_unless(members.get(&port.name).is_some(), port, first);
+            }
+            Some(Held::Connection) => note_unless(false, name, first),
+            None => note_unless(false, name, first),
+        },
+        [name, member, port] => match holding.get(&name.name) {
+            Some(Held::Group(members)) => match members.get(&member.name) {
+                Some(it) => note_interface(tables.component(&it.component.name), port, first),
+                None => note_unless(false, member, first),
+            },
+            Some(Held::Instance(_)) => note_unless(false, name, first),
+            Some(Held::Connection) => note_unless(false, name, first),
+            None => note_unless(false, name, first),
+        },
+        _ => (),
     }
 }
 
-fn note_ends(
-    alloc: Global,
-    types: &Types<'_>,
-    held: &NameTable<'_, Held<'_>>,
-    ends: &[End],
-    first: &mut First,
-) -> Result<(), NoMemory>
-    ensures { OnOk result (first.new ≡ noted first.old (flat_map (λ e. unknown_in_dotted (types_told types.now) (holding_told held.now) e.words) ends.now)) }
-{
-    for end in ends {
-        note_in_dotted(alloc, types, held, end.words.as_slice(), first)?;
-    }
-    Ok(())
-}
-
-fn note_last(
-    alloc: Global,
-    scope: Scope<'_, '_>,
-    word: &Id,
-    first: &mut First,
-) -> Result<(), NoMemory>
-    ensures { OnOk result (first.new ≡ noted first.old (unknown_last (scope_told scope.entry) word.now)) }
+/// Whether the scope holds the name; where the scope isn't known, it may.
+fn may_hold(scope: Scope<'_, '_>, name: &Name) -> bool
+    ensures { result ≡ may_hold (scope_told scope.entry) name.now }
 {
     match scope {
-        Scope::Within(_) => Ok(()),
-        Scope::Inside(members) => {
-            note_unless(alloc, members.get(&word.name).is_some(), word, first)
-        }
-        Scope::Behind => Ok(()),
-        Scope::Untold => Ok(()),
+        Scope::Within(holding) => holding.get(name).is_some(),
+        Scope::Inside(members) => members.get(name).is_some(),
+        Scope::Behind => false,
+        Scope::Untold => true,
     }
 }
 
-fn note_inner(
-    alloc: Global,
-    scope: Scope<'_, '_>,
-    word: &Id,
-    first: &mut First,
-) -> Result<(), NoMemory>
-    ensures { OnOk result (first.new ≡ noted first.old (unknown_inner (scope_told scope.entry) word.now)) }
+fn is_group(scope: Scope<'_, '_>) -> bool
+    ensures { result ≡ is_group (scope_told scope.entry) }
 {
-    match scope {
-        Scope::Within(held) => note_unless(alloc, held.get(&word.name).is_some(), word, first),
-        Scope::Inside(members) => {
-            note_unless(alloc, members.get(&word.name).is_some(), word, first)
-        }
-        Scope::Behind => note_unless(alloc, false, word, first),
-        Scope::Untold => Ok(()),
-    }
-}
-
-fn note_group(
-    alloc: Global,
-    after: Scope<'_, '_>,
-    word: &Id,
-    first: &mut First,
-) -> Result<(), NoMemory>
-    ensures { OnOk result (first.new ≡ noted first.old (unknown_group (scope_told after.entry) word.now)) }
-{
-    match after {
-        Scope::Within(_) => Ok(()),
-        Scope::Inside(_) => note_unless(alloc, false, word, first),
-        Scope::Behind => Ok(()),
-        Scope::Untold => Ok(()),
-    }
+    matches!(scope, Scope::Inside(_))
 }
 
 /// Notes a word of a setting, by the scopes in which it and the next are looked up, and the words that follow.
-fn note_setting_word(
-    alloc: Global,
-    scope: Scope<'_, '_>,
-    after: Scope<'_, '_>,
-    word: &Id,
+#[tactic(auto, using(crate::proofs::SettingWords::last_word, crate::proofs::SettingWords::group_word, crate::proofs::SettingWords::inner_word, adl_meaning::proofs::Noting::noting))]
+fn note_setting_word<'a>(
+    scope: Scope<'_, 'a>,
+    after: Scope<'_, 'a>,
+    word: &'a Id,
     more: &[Id],
-    first: &mut First,
-) -> Result<(), NoMemory>
-    ensures { OnOk result (first.new ≡ noted first.old (unknown_word (scope_told scope.entry) (scope_told after.entry) word.now more.now)) }
+    first: &mut Earliest<'a>,
+)
+    ensures { first.new
+        ≡ noted first.old (unknown_word (scope_told scope.entry) (scope_told after.entry) word.entry.now more.now) }
 {
+    let held = may_hold(scope, &word.name);
     match more {
-        [] => note_last(alloc, scope, word, first),
+        [] => note_unless(!is_group(scope) || held, word, first),
         [_] => {
-            note_inner(alloc, scope, word, first)?;
-            note_group(alloc, after, word, first)
+            note_unless(held, word, first);
+            note_unless(!is_group(after), word, first);
         }
-        _ => note_inner(alloc, scope, word, first),
+        _ => note_unless(held, word, first),
     }
 }
 
 fn note_setting_words<'t, 'a>(
-    alloc: Global,
-    types: &'t Types<'a>,
+    tables: &'t SourceTables<'a>,
     scope: Scope<'t, 'a>,
-    words: &[Id],
-    first: &mut First,
-) -> Result<(), NoMemory>
-    ensures { OnOk result (first.new ≡ noted first.old (unknown_in_setting (types_told types.now) (scope_told scope.entry) words.now)) }
+    words: &'a [Id],
+    first: &mut Earliest<'a>,
+)
+    ensures { first.new ≡ noted first.old (unknown_in_setting (known_in tables.now) (scope_told scope.entry) words.entry.now) }
 {
     let mut here = scope;
     let mut rest = words;
     while let [word, more @ ..] = rest {
-        let after = scope_behind(types, here, &word.name);
-        note_setting_word(alloc, here, after, word, more, first)?;
+        let after = scope_behind(tables, here, &word.name);
+        note_setting_word(here, after, word, more, first);
         here = after;
         rest = more;
     }
-    Ok(())
 }
 
 fn has_attribute(owner: Option<&ComponentTable<'_>>, name: &Name) -> bool
-    ensures { result ≡ is_some (option_and_then (λ c. c.attribute name.now) (owner_told owner.entry)) }
+    ensures { result ≡ is_some (option_and_then (λ c. c.attribute name.now) (owner_of owner.entry)) }
 {
     match owner {
         None => false,
-        Some(table) => attribute(&table.declared, name).is_some(),
+        Some(table) => table.attribute(name).is_some(),
     }
 }
 
 fn has_interface(owner: Option<&ComponentTable<'_>>, name: &Name) -> bool
-    ensures { result ≡ is_some (option_and_then (λ c. c.interface name.now) (owner_told owner.entry)) }
+    ensures { result ≡ is_some (option_and_then (λ c. c.interface name.now) (owner_of owner.entry)) }
 {
     match owner {
         None => false,
-        Some(table) => interface(&table.declared, name).is_some(),
+        Some(table) => table.interface(name).is_some(),
     }
 }
 
-fn note_attribute(
-    alloc: Global,
-    owner: Option<&ComponentTable<'_>>,
-    setter: &Setter,
-    first: &mut First,
-) -> Result<(), NoMemory>
-    ensures { OnOk result (first.new ≡ noted first.old (unknown_attribute (owner_told owner.entry) setter.now)) }
+/// Notes the unknown words of a line. The owner is the component that has it; an assembly is none.
+fn note_line<'a>(
+    tables: &SourceTables<'a>,
+    owner: Option<&ComponentTable<'a>>,
+    holding: &Holding<'a>,
+    line: &'a Line,
+    first: &mut Earliest<'a>,
+)
+    ensures { first.new
+        ≡ noted first.old (unknown_in_line (known_in tables.now) (owner_of owner.entry) (held_as holding.now) line.entry.now) }
 {
-    match setter {
-        Setter::Literal(_) => Ok(()),
-        Setter::Reference(word) => {
-            note_unless(alloc, has_attribute(owner, &word.name), word, first)
+    match line {
+        Line::Instance(it) => {
+            let word = &it.component;
+            note_unless(tables.component(&word.name).is_some(), word, first);
+        }
+        Line::Group(group) => {
+            for it in group.instances.as_slice() {
+                let word = &it.component;
+                note_unless(tables.component(&word.name).is_some(), word, first);
+            }
+        }
+        Line::Connection(it) => {
+            let word = &it.connector;
+            note_unless(Connector::find(word.name.as_bytes()).is_some(), word, first);
+            for end in it.ends.as_slice() {
+                note_dotted(tables, holding, end.words.as_slice(), first);
+            }
+        }
+        Line::Export(it) => {
+            note_dotted(tables, holding, it.words.as_slice(), first);
+            note_unless(has_interface(owner, &it.target.name), &it.target, first);
         }
     }
 }
 
-fn note_target(
-    alloc: Global,
-    owner: Option<&ComponentTable<'_>>,
-    word: &Id,
-    first: &mut First,
-) -> Result<(), NoMemory>
-    ensures { OnOk result (first.new ≡ noted first.old (unknown_target (owner_told owner.entry) word.now)) }
+fn note_composition<'a>(
+    tables: &SourceTables<'a>,
+    owner: Option<&ComponentTable<'a>>,
+    holding: &Holding<'a>,
+    first: &mut Earliest<'a>,
+)
+    ensures { first.new ≡ noted first.old (unknown_in_composition (known_in tables.now) (owner_of owner.entry) holding.now) }
 {
-    note_unless(alloc, has_interface(owner, &word.name), word, first)
-}
-
-fn note_types(
-    alloc: Global,
-    types: &Types<'_>,
-    instances: &[Instance],
-    first: &mut First,
-) -> Result<(), NoMemory>
-    ensures { OnOk result (first.new ≡ noted first.old (flat_map (unknown_type (types_told types.now)) instances.now)) }
-{
-    for instance in instances {
-        note_type(alloc, types, instance, first)?;
-    }
-    Ok(())
-}
-
-fn note_connection(
-    alloc: Global,
-    types: &Types<'_>,
-    held: &NameTable<'_, Held<'_>>,
-    connection: &Connection,
-    first: &mut First,
-) -> Result<(), NoMemory>
-    ensures { OnOk result (first.new ≡ noted first.old (unknown_connector connection.now ++ flat_map (λ e. unknown_in_dotted (types_told types.now) (holding_told held.now) e.words) connection.now.ends)) }
-{
-    note_connector(alloc, connection, first)?;
-    note_ends(alloc, types, held, connection.ends.as_slice(), first)?;
-    Ok(())
-}
-
-fn note_export(
-    alloc: Global,
-    types: &Types<'_>,
-    owner: Option<&ComponentTable<'_>>,
-    held: &NameTable<'_, Held<'_>>,
-    export: &Export,
-    first: &mut First,
-) -> Result<(), NoMemory>
-    ensures { OnOk result (first.new ≡ noted first.old (unknown_in_dotted (types_told types.now) (holding_told held.now) export.now.words ++ unknown_target (owner_told owner.entry) export.now.target)) }
-{
-    note_in_dotted(alloc, types, held, export.words.as_slice(), first)?;
-    note_target(alloc, owner, &export.target, first)?;
-    Ok(())
-}
-
-fn note_line(
-    alloc: Global,
-    types: &Types<'_>,
-    owner: Option<&ComponentTable<'_>>,
-    held: &NameTable<'_, Held<'_>>,
-    line: &Line,
-    first: &mut First,
-) -> Result<(), NoMemory>
-    ensures { OnOk result (first.new ≡ noted first.old (unknown_in_line (types_told types.now) (owner_told owner.entry) (holding_told held.now) line.now)) }
-{
-    match line {
-        Line::Instance(instance) => note_type(alloc, types, instance, first),
-        Line::Group(group) => note_types(alloc, types, group.instances.as_slice(), first),
-        Line::Connection(connection) => note_connection(alloc, types, held, connection, first),
-        Line::Export(export) => note_export(alloc, types, owner, held, export, first),
+    for line in holding.composition.lines.as_slice() {
+        note_line(tables, owner, holding, line, first);
     }
 }
 
-fn note_lines(
-    alloc: Global,
-    types: &Types<'_>,
-    owner: Option<&ComponentTable<'_>>,
-    held: &NameTable<'_, Held<'_>>,
-    lines: &[Line],
-    first: &mut First,
-) -> Result<(), NoMemory>
-    ensures { OnOk result (first.new ≡ noted first.old (flat_map (unknown_in_line (types_told types.now) (owner_told owner.entry) (holding_told held.now)) lines.now)) }
+fn note_attribute<'a>(
+    owner: Option<&ComponentTable<'a>>,
+    setter: &'a Setter,
+    first: &mut Earliest<'a>,
+)
+    ensures { first.new ≡ noted first.old (unknown_attribute (owner_of owner.entry) setter.entry.now) }
 {
-    for line in lines {
-        note_line(alloc, types, owner, held, line, first)?;
+    if let Setter::Reference(word) = setter {
+        note_unless(has_attribute(owner, &word.name), word, first);
     }
-    Ok(())
-}
-
-fn note_composition(
-    alloc: Global,
-    types: &Types<'_>,
-    owner: Option<&ComponentTable<'_>>,
-    composition: &Composition,
-    first: &mut First,
-) -> Result<(), NoMemory>
-    ensures { OnOk result (first.new ≡ noted first.old (unknown_in_composition (types_told types.now) (owner_told owner.entry) composition.now)) }
-{
-    let held = holding(alloc, composition)?;
-    note_lines(
-        alloc,
-        types,
-        owner,
-        &held,
-        composition.lines.as_slice(),
-        first,
-    )?;
-    Ok(())
 }
 
 fn note_setting<'t, 'a>(
-    alloc: Global,
-    types: &'t Types<'a>,
-    owner: Option<&ComponentTable<'_>>,
+    tables: &'t SourceTables<'a>,
+    owner: Option<&ComponentTable<'a>>,
     scope: Scope<'t, 'a>,
-    setting: &Setting,
-    first: &mut First,
-) -> Result<(), NoMemory>
-    ensures { OnOk result (first.new ≡ noted first.old (unknown_in_one_setting (types_told types.now) (owner_told owner.entry) (scope_told scope.entry) setting.now)) }
+    setting: &'a Setting,
+    first: &mut Earliest<'a>,
+)
+    ensures { first.new
+        ≡ noted first.old (unknown_in_one_setting (known_in tables.now)
+        (owner_of owner.entry) (scope_told scope.entry) setting.entry.now) }
 {
-    note_setting_words(alloc, types, scope, setting.words.as_slice(), first)?;
-    note_attribute(alloc, owner, &setting.setter, first)?;
-    Ok(())
+    note_setting_words(tables, scope, setting.words.as_slice(), first);
+    note_attribute(owner, &setting.setter, first);
 }
 
 fn note_configuration<'t, 'a>(
-    alloc: Global,
-    types: &'t Types<'a>,
-    owner: Option<&ComponentTable<'_>>,
+    tables: &'t SourceTables<'a>,
+    owner: Option<&ComponentTable<'a>>,
     scope: Scope<'t, 'a>,
-    configuration: &Configuration,
-    first: &mut First,
-) -> Result<(), NoMemory>
-    ensures { OnOk result (first.new ≡ noted first.old (unknown_in_configuration (types_told types.now) (owner_told owner.entry) (scope_told scope.entry) configuration.now)) }
+    configuration: &'a Configuration,
+    first: &mut Earliest<'a>,
+)
+    ensures { first.new
+        ≡ noted first.old (unknown_in_configuration (known_in tables.now)
+        (owner_of owner.entry) (scope_told scope.entry) configuration.entry.now) }
 {
     for setting in configuration.settings.as_slice() {
-        note_setting(alloc, types, owner, scope, setting, first)?;
+        note_setting(tables, owner, scope, setting, first);
     }
-    Ok(())
 }
 
+/// Notes the unknown words of a member, where what compositions hold is told from this one on; what is told of those behind it.
 fn note_member<'t, 'a>(
-    alloc: Global,
-    types: &'t Types<'a>,
-    procedures: &NameSet<'_>,
+    tables: &'t SourceTables<'a>,
     owner: &'t ComponentTable<'a>,
-    member: &Member,
-    first: &mut First,
-) -> Result<(), NoMemory>
-    ensures { OnOk result (first.new ≡ noted first.old (unknown_in_member (types_told types.now) (is_among procedures.now) (known_told owner.now) member.now)) }
+    holdings: &'t [Holding<'a>],
+    member: &'a Member,
+    first: &mut Earliest<'a>,
+) -> &'t [Holding<'a>]
+    ensures rest { (more : Seq MemberOf)
+        → holdings.entry.now ≡ filter_map as_composition (member.entry.now ∷ more) → result.now ≡ filter_map as_composition more }
+    ensures faults { (more : Seq MemberOf) → holdings.entry.now ≡ filter_map as_composition (member.entry.now ∷ more)
+        → first.new ≡ noted first.old (unknown_in_member (known_in tables.now) (is_procedure tables.now) (known_of owner.now) member.entry.now) }
 {
     match member {
-        Member::Control(_) => Ok(()),
-        Member::Hardware(_) => Ok(()),
-        Member::Include(_) => Ok(()),
-        Member::Interface(interface) => note_procedure(alloc, procedures, interface, first),
-        Member::Attribute(_) => Ok(()),
-        Member::Lock(_) => Ok(()),
-        Member::Composition(it) => note_composition(alloc, types, Some(owner), it, first),
-        Member::Configuration(it) => {
-            let scope = of_holding(owner.holding.as_ref());
-            note_configuration(alloc, types, Some(owner), scope, it, first)
+        Member::Interface(it) => {
+            let known = !names_procedure(it.kind) || tables.is_procedure(&it.word.name);
+            note_unless(known, &it.word, first);
+            holdings
         }
+        Member::Composition(_) => match holdings {
+            [holding, more @ ..] => {
+                note_composition(tables, Some(owner), holding, first);
+                more
+            }
+            [] => holdings,
+        },
+        Member::Configuration(it) => {
+            note_configuration(tables, Some(owner), of_holding(owner.holding()), it, first);
+            holdings
+        }
+        _ => holdings,
     }
 }
 
-fn note_members<'t, 'a>(
-    alloc: Global,
-    types: &'t Types<'a>,
-    procedures: &NameSet<'_>,
-    owner: &'t ComponentTable<'a>,
-    members: &[Member],
-    first: &mut First,
-) -> Result<(), NoMemory>
-    ensures { OnOk result (first.new ≡ noted first.old (flat_map (unknown_in_member (types_told types.now) (is_among procedures.now) (known_told owner.now)) members.now)) }
+fn note_component<'t, 'a>(
+    tables: &'t SourceTables<'a>,
+    table: &'t ComponentTable<'a>,
+    first: &mut Earliest<'a>,
+)
+    ensures { first.new
+        ≡ noted first.old (flat_map (unknown_in_member (known_in tables.now)
+        (is_procedure tables.now) (known_of table.now)) table.now.members) }
 {
-    for member in members {
-        note_member(alloc, types, procedures, owner, member, first)?;
+    let mut holdings = table.holdings();
+    for member in table.component.members.as_slice() {
+        holdings = note_member(tables, table, holdings, member, first);
     }
-    Ok(())
-}
-
-fn note_component<'a>(
-    alloc: Global,
-    types: &Types<'a>,
-    procedures: &NameSet<'_>,
-    component: &'a Component,
-    first: &mut First,
-) -> Result<(), NoMemory>
-    ensures { OnOk result (first.new ≡ noted first.old (flat_map (unknown_in_member (types_told types.now) (is_among procedures.now) (known_of component.now)) component.now.members)) }
-{
-    let owner = table_of(alloc, component)?;
-    note_members(
-        alloc,
-        types,
-        procedures,
-        &owner,
-        component.members.as_slice(),
-        first,
-    )?;
-    Ok(())
 }
 
 fn note_if_configured<'t, 'a>(
-    alloc: Global,
-    types: &'t Types<'a>,
-    held: &'t NameTable<'a, Held<'a>>,
-    configuration: &Option<Configuration>,
-    first: &mut First,
-) -> Result<(), NoMemory>
-    ensures { OnOk result (first.new ≡ noted first.old (unknown_if_configured (types_told types.now) (within (holding_told held.now)) configuration.now)) }
+    tables: &'t SourceTables<'a>,
+    holding: &'t Holding<'a>,
+    configuration: &'a Option<Configuration>,
+    first: &mut Earliest<'a>,
+)
+    ensures { first.new
+        ≡ noted first.old (unknown_if_configured (known_in tables.now) (within (held_as holding.now)) configuration.entry.now) }
 {
-    match configuration {
-        None => Ok(()),
-        Some(it) => note_configuration(alloc, types, None, Scope::Within(held), it, first),
+    if let Some(it) = configuration {
+        note_configuration(tables, None, Scope::Within(holding), it, first);
     }
 }
 
-fn note_assembly<'a>(
-    alloc: Global,
-    types: &Types<'a>,
-    assembly: &'a Assembly,
-    first: &mut First,
-) -> Result<(), NoMemory>
-    ensures { OnOk result (first.new ≡ noted first.old (unknown_in_assembly (types_told types.now) assembly.now)) }
+fn note_assembly<'t, 'a>(
+    tables: &'t SourceTables<'a>,
+    table: &'t AssemblyTable<'a>,
+    first: &mut Earliest<'a>,
+)
+    ensures { first.new ≡ noted first.old (unknown_in_assembly (known_in tables.now) table.now) }
 {
-    note_composition(alloc, types, None, &assembly.composition, first)?;
-    let held = holding(alloc, &assembly.composition)?;
-    note_if_configured(alloc, types, &held, &assembly.configuration, first)?;
-    Ok(())
+    note_composition(tables, None, table.holding(), first);
+    note_if_configured(
+        tables,
+        table.holding(),
+        &table.assembly.configuration,
+        first,
+    );
 }
 
-fn note_item<'a>(
-    alloc: Global,
-    types: &Types<'a>,
-    procedures: &NameSet<'_>,
-    item: &'a Item,
-    first: &mut First,
-) -> Result<(), NoMemory>
-    ensures { OnOk result (first.new ≡ noted first.old (unknown_in_item (types_told types.now) (is_among procedures.now) item.now)) }
+fn note_body<'t, 'a>(tables: &'t SourceTables<'a>, body: &'t Body<'a>, first: &mut Earliest<'a>)
+    ensures { first.new ≡ noted first.old (unknown_in_item (known_in tables.now) (is_procedure tables.now) (item_of body.now)) }
 {
-    match item {
-        Item::Import(_) => Ok(()),
-        Item::Procedure(_) => Ok(()),
-        Item::Component(component) => note_component(alloc, types, procedures, component, first),
-        Item::Assembly(assembly) => note_assembly(alloc, types, assembly, first),
+    match body {
+        Body::Component(table) => note_component(tables, table, first),
+        Body::Assembly(table) => note_assembly(tables, table, first),
     }
 }
 
-/// Notes the unknown words of all items.
-pub fn note_unknown<'a>(
-    alloc: Global,
-    types: &Types<'a>,
-    procedures: &NameSet<'_>,
-    items: &[Located<'a, Item>],
-    first: &mut First,
-) -> Result<(), NoMemory>
-    ensures { OnOk result (first.new ≡ noted first.old (flat_map (λ x. unknown_in_item (types_told types.now) (is_among procedures.now) x.item.now) items.now)) }
+/// Notes the unknown words of a source.
+pub fn note_unknown<'a>(tables: &SourceTables<'a>, first: &mut Earliest<'a>)
+    ensures { first.new ≡ noted first.old (unknown_names tables.now) }
 {
-    for x in items {
-        note_item(alloc, types, procedures, x.item, first)?;
+    for body in tables.bodies() {
+        note_body(tables, body, first);
     }
-    Ok(())
 }

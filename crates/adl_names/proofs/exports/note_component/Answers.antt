@@ -1,16 +1,10 @@
-use Rattle.std.proofs.Common.{◌≡◌, ◌∙◌, ap, Some}
-use Rattle.std.specs.List.{flat_map}
+use Rattle.std.proofs.Common.{◌∙◌, Some}
 use Rattle.adl_meaning.specs.Export.{misfits_in_composition}
-use Rattle.adl_meaning.specs.Faults.{noted}
-use Rattle.adl_meaning.specs.Known.{Known}
-use Rattle.adl_meaning.specs.Members.{compositions}
-use Rattle.adl_names.specs.Pointed.{pointed}
-use Rattle.adl_names.specs.Tables.{known_told, types_told}
+use Rattle.adl_meaning.specs.Known.{known_in, known_of}
+use Rattle.adl_meaning.proofs.Noting.{noted_each}
 use Rattle.adl_names.proofs.exports.note_component.Goals as goal
 
-pub returns : goal.returns
-returns c =
-    let row = λ (k : Known). misfits_in_composition (types_told c.args.types.now) (Some k) in
-    let all : pointed c.as_slice.result.now ≡ compositions c.args.component.now = ap pointed c.as_slice.ensures.value ∙ c.in_ok-compositions.ensures in
-    c.in_ok-note_compositions.ensures ∙ ap (λ ks. noted c.args.first.now (flat_map (row (known_told c.in_ok-owner.owner)) ks)) all
-    ∙ ap (λ k. noted c.args.first.now (flat_map (row k) (compositions c.args.component.now))) c.in_ok-owner.ensures
+pub loop-holding-preserved : goal.loop-holding-preserved
+loop-holding-preserved c =
+    noted_each (misfits_in_composition (known_in c.args.tables.now) (Some (known_of c.args.table.now))) _ _ c.holdings-holding-items.result.now c.loop-holding.holding-index c.holding-item.result
+    c.loop-holding-test.true c.holding-item.is c.in_ok-note_composition.ensures ∙ c.loop-holding.invariant

@@ -1,10 +1,16 @@
-use Rattle.std.proofs.Common.{◌∙◌}
-use Rattle.adl_names.proofs.Exporting.{misfit_each}
-use Rattle.adl_names.specs.Scopes.{owner_told}
-use Rattle.adl_names.specs.Tables.{holding_told, types_told}
+use Rattle.std.proofs.Common.{◌∙◌, ◌+◌, drop, sym, ap}
+use Rattle.adl_meaning.specs.Faults.{noted}
+use Rattle.adl_meaning.specs.Holding.{held_as}
+use Rattle.adl_meaning.specs.Known.{known_in}
+use Rattle.adl_meaning.proofs.Noting.{drop_first}
+use Rattle.adl_names.specs.Bodies.{owner_of}
+use Rattle.adl_names.specs.Misfits.{misfits_from}
 use Rattle.adl_names.proofs.exports.note_exports.Goals as goal
 
-pub loop-export-preserved : goal.loop-export-preserved
-loop-export-preserved c =
-    misfit_each (types_told c.args.types.now) (owner_told c.args.owner) (holding_told c.args.held.now) _ _ _ _ _ _ c.args.exports.now c.loop-export.export-index c.export-item.result c.loop-export-test.true c.export-item.is
-    c.in_ok-note_export.ensures.first c.in_ok-note_export.ensures.targets c.in_ok-note_export.ensures.inners ∙ c.loop-export.invariant
+pub loop-line-preserved : goal.loop-line-preserved
+loop-line-preserved c =
+    let ls = c.as_slice-line-items.result.now in
+    c.in_ok-note_line.ensures (drop (c.loop-line.line-index + 1) ls)
+    ∙ ap (λ xs. noted c.loop-line.first (misfits_from (known_in c.args.tables.now) (owner_of c.args.owner) (held_as c.args.holding.now) c.loop-line.taken xs))
+    (sym (drop_first ls c.loop-line.line-index c.line-item.result c.loop-line-test.true c.line-item.is))
+    ∙ c.loop-line.invariant

@@ -5,7 +5,7 @@ use Rattle.indexmap.specs.IndexMap.{get, insert_entry}
 use Rattle.indexmap.proofs.CallerLemmas.{insert_entry-new}
 use Rattle.adl_meaning.specs.Items.{Name}
 use Rattle.adl_meaning.specs.declared.item_at.ItemAt.{ItemAt}
-use Rattle.adl_names.proofs.NameLookups.{none_of, found_put, found_kept}
+use Rattle.name_tables.proofs.NameLookups.{none_of, found_put, found_kept}
 use Rattle.adl_names.proofs.names.add_place.Goals as goal
 
 pub returns-in_ok-insert-clause-first : goal.returns-in_ok-insert-clause-first

@@ -2,7 +2,7 @@ use Rattle.std.proofs.Common.{◌≡◌, drop}
 use Rattle.std.specs.Option.{option_or}
 use Rattle.adl_meaning.specs.Items.{Name}
 use Rattle.adl_meaning.specs.Recursive.{number_from}
-use Rattle.adl_names.specs.ByName.{found}
+use Rattle.name_tables.specs.ByName.{found}
 use Rattle.adl_names.specs.Located.{trees}
 use Rattle.adl_names.proofs.recursion.component_numbers.Given as goal
 

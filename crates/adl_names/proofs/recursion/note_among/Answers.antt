@@ -4,8 +4,8 @@ use Rattle.std.proofs.lemmas.List.{length-map}
 use Rattle.adl_ast.specs.declared.component.Component.{Component}
 use Rattle.adl_meaning.specs.Faults.{noted}
 use Rattle.adl_meaning.specs.Graph.{InRange}
-use Rattle.adl_meaning.specs.Recursive.{graph_of, types_of, recursive_in}
-use Rattle.adl_names.specs.ByName.{found}
+use Rattle.adl_meaning.specs.Recursive.{types_of, recursive_in}
+use Rattle.name_tables.specs.ByName.{found}
 use Rattle.adl_names.specs.Located.{trees}
 use Rattle.component_graph.specs.Numbers.{AreBelow}
 use Rattle.adl_names.specs.declared.located.Located.{Located}

@@ -1,9 +1,9 @@
-use Rattle.std.proofs.Common.{◌≡◌, ◌<◌, ◌∙◌, ℕ, length, arith, ap}
+use Rattle.std.proofs.Common.{◌≡◌, ◌∙◌, length, arith, ap}
 use Rattle.std.proofs.lemmas.List.{length-map}
 use Rattle.adl_ast.specs.declared.component.Component.{Component}
 use Rattle.adl_meaning.specs.Recursive.{recursive_in, types_of}
 use Rattle.adl_meaning.proofs.Noting.{noted_numbered}
-use Rattle.adl_names.specs.ByName.{found}
+use Rattle.name_tables.specs.ByName.{found}
 use Rattle.adl_names.specs.Located.{trees}
 use Rattle.adl_names.specs.declared.located.Located.{Located}
 use Rattle.adl_names.proofs.Recurring.{inner_read}

@@ -2,7 +2,7 @@ use Rattle.std.proofs.Common.{◌≡◌, drop}
 use Rattle.std.specs.List.{flat_map, enumerate_from}
 use Rattle.adl_meaning.specs.Faults.{noted}
 use Rattle.adl_meaning.specs.Recursive.{recursive_in}
-use Rattle.adl_names.specs.ByName.{found}
+use Rattle.name_tables.specs.ByName.{found}
 use Rattle.adl_names.specs.Located.{trees}
 use Rattle.adl_names.proofs.recursion.note_each.Given as goal
 

@@ -2,7 +2,7 @@ use Rattle.std.proofs.Common.{◌∙◌, Bor}
 use Rattle.adl_ast.specs.declared.composition.Instance.{Instance}
 use Rattle.adl_meaning.specs.Recursive.{recursive_instance}
 use Rattle.adl_meaning.proofs.Noting.{noted_mapped}
-use Rattle.adl_names.specs.ByName.{found}
+use Rattle.name_tables.specs.ByName.{found}
 use Rattle.adl_names.proofs.Recurring.{in_pointed}
 use Rattle.adl_names.proofs.recursion.note_instances.Goals as goal
 

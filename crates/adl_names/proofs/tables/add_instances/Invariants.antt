@@ -2,7 +2,8 @@ use Rattle.std.proofs.Common.{◌≡◌, drop, map}
 use Rattle.std.specs.Option.{option_or}
 use Rattle.adl_meaning.specs.Holding.{as_held}
 use Rattle.adl_meaning.specs.Items.{Name}
-use Rattle.adl_names.specs.Tables.{holding_told, first_held}
+use Rattle.adl_names.specs.Tables.{holding_told}
+use Rattle.adl_names.specs.Firsts.{first_held}
 use Rattle.adl_names.proofs.tables.add_instances.Given as goal
 
 abbrev pub invariant-loop-instance : goal.invariant-loop-instance

@@ -3,7 +3,8 @@ use Rattle.std.specs.Option.{option_or}
 use Rattle.std.specs.List.{flat_map}
 use Rattle.adl_meaning.specs.Members.{declared_by}
 use Rattle.adl_meaning.specs.Items.{Name}
-use Rattle.adl_names.specs.Tables.{declaring_told, first_declared}
+use Rattle.adl_names.specs.Tables.{declaring_told}
+use Rattle.adl_names.specs.Firsts.{first_declared}
 use Rattle.adl_names.proofs.tables.declaring.Given as goal
 
 abbrev pub invariant-loop-member : goal.invariant-loop-member

@@ -1,14 +1,20 @@
-use Rattle.std.proofs.Common.{◌∙◌, ap}
-use Rattle.std.specs.List.{flat_map}
-use Rattle.adl_meaning.specs.Faults.{noted}
-use Rattle.adl_meaning.specs.Known.{Known}
-use Rattle.adl_meaning.specs.Unknown.{unknown_in_member}
-use Rattle.adl_names.specs.ByName.{is_among}
-use Rattle.adl_names.specs.Tables.{known_told, types_told}
+use Rattle.std.proofs.Common.{◌≡◌, ◌∙◌, ◌+◌, ◌∷◌, drop, ap}
+use Rattle.std.specs.List.{filter_map}
+use Rattle.adl_meaning.specs.Known.{known_in, known_of}
+use Rattle.adl_meaning.specs.Members.{as_composition}
+use Rattle.adl_meaning.specs.Unknown.{unknown_in_member, is_procedure}
+use Rattle.adl_meaning.proofs.Noting.{drop_first, noted_each}
 use Rattle.adl_names.proofs.unknown.note_component.Goals as goal
 
-pub returns : goal.returns
-returns c =
-    let row = λ (k : Known). unknown_in_member (types_told c.args.types.now) (is_among c.args.procedures.now) k in
-    c.in_ok-note_members.ensures ∙ ap (λ ms. noted c.args.first.now (flat_map (row (known_told c.in_ok-owner.owner)) ms)) c.as_slice.ensures
-    ∙ ap (λ k. noted c.args.first.now (flat_map (row k) c.args.component.now.members)) c.in_ok-owner.ensures
+pub loop-member-preserved : goal.loop-member-preserved
+loop-member-preserved c =
+    let s = c.args.tables.now in
+    let ms = c.as_slice-member-items.result.now in
+    let i = c.loop-member.member-index in
+    let m = c.member-item.result in
+    let more = drop (i + 1) ms in
+    let h : c.loop-member.holdings.now ≡ filter_map as_composition (m ∷ more) = c.loop-member.invariant.rest ∙ ap (filter_map as_composition) (drop_first ms i m c.loop-member-test.true c.member-item.is) in
+    record {
+      rest = c.note_member-holdings.ensures.rest more h;
+      faults = noted_each (unknown_in_member (known_in s) (is_procedure s) (known_of c.args.table.now)) _ _ ms i m c.loop-member-test.true c.member-item.is (c.note_member-holdings.ensures.faults more h) ∙ c.loop-member.invariant.faults;
+    }

@@ -1,16 +1,12 @@
-use Rattle.std.proofs.Common.{◌≡◌, ◌∙◌, Option, ap}
-use Rattle.std.specs.List.{flat_map}
-use Rattle.adl_meaning.specs.Faults.{noted}
-use Rattle.adl_meaning.specs.Holding.{Held, held_as}
-use Rattle.adl_meaning.specs.Items.{Name}
+use Rattle.std.proofs.Common.{◌∙◌}
+use Rattle.adl_meaning.specs.Holding.{held_as}
+use Rattle.adl_meaning.specs.Known.{known_in}
 use Rattle.adl_meaning.specs.Unknown.{unknown_in_line}
-use Rattle.adl_names.specs.Scopes.{owner_told}
-use Rattle.adl_names.specs.Tables.{holding_told, types_told}
+use Rattle.adl_meaning.proofs.Noting.{noted_each}
+use Rattle.adl_names.specs.Bodies.{owner_of}
 use Rattle.adl_names.proofs.unknown.note_composition.Goals as goal
 
-pub returns : goal.returns
-returns c =
-    let same : holding_told c.in_ok-held.held ≡ held_as c.args.composition.now = λ i n. c.in_ok-held.ensures n i in
-    let row = λ (h : Name → Option Held). unknown_in_line (types_told c.args.types.now) (owner_told c.args.owner) h in
-    c.in_ok-note_lines.ensures ∙ ap (λ ls. noted c.args.first.now (flat_map (row (holding_told c.in_ok-held.held)) ls)) c.as_slice.ensures
-    ∙ ap (λ h. noted c.args.first.now (flat_map (row h) c.args.composition.now.lines)) same
+pub loop-line-preserved : goal.loop-line-preserved
+loop-line-preserved c =
+    noted_each (unknown_in_line (known_in c.args.tables.now) (owner_of c.args.owner) (held_as c.args.holding.now)) _ _ c.as_slice-line-items.result.now c.loop-line.line-index c.line-item.result
+    c.loop-line-test.true c.line-item.is c.note_line.ensures ∙ c.loop-line.invariant

@@ -1,14 +1,14 @@
 use Rattle.std.proofs.Common.{◌≡◌, length}
 use Rattle.adl_meaning.specs.Faults.{noted}
+use Rattle.adl_meaning.specs.Known.{known_in}
 use Rattle.adl_meaning.specs.Unknown.{unknown_in_setting}
 use Rattle.adl_names.specs.Scopes.{scope_told}
-use Rattle.adl_names.specs.Tables.{types_told}
 use Rattle.adl_names.proofs.unknown.note_setting_words.Given as goal
 
 abbrev pub invariant-loop-rest : goal.invariant-loop-rest
 invariant-loop-rest l =
-    noted l.first (unknown_in_setting (types_told l.types) (scope_told l.here) l.rest)
-    ≡ noted l.fn.first (unknown_in_setting (types_told l.types) (scope_told l.scope) l.words)
+    noted l.first (unknown_in_setting (known_in l.tables) (scope_told l.here) l.rest)
+    ≡ noted l.fn.first (unknown_in_setting (known_in l.tables) (scope_told l.scope) l.words)
 
 abbrev pub decreases-loop-rest : goal.decreases-loop-rest
 decreases-loop-rest l = length l.rest

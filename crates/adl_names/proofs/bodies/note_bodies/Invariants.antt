@@ -1,8 +1,0 @@
-use Rattle.std.proofs.Common.{◌≡◌, drop}
-use Rattle.std.specs.List.{flat_map}
-use Rattle.adl_meaning.specs.Faults.{noted}
-use Rattle.adl_meaning.specs.CompositeBody.{misplaced_in_item}
-use Rattle.adl_names.proofs.bodies.note_bodies.Given as goal
-
-abbrev pub invariant-loop-x : goal.invariant-loop-x
-invariant-loop-x l = noted l.first (flat_map (λ x. misplaced_in_item x.item.now) (drop l.x-index l.items)) ≡ noted l.fn.first (flat_map (λ x. misplaced_in_item x.item.now) l.items)

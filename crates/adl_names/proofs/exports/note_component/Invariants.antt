@@ -1,0 +1,11 @@
+use Rattle.std.proofs.Common.{◌≡◌, drop, Some}
+use Rattle.std.specs.List.{flat_map}
+use Rattle.adl_meaning.specs.Export.{misfits_in_composition}
+use Rattle.adl_meaning.specs.Faults.{noted}
+use Rattle.adl_meaning.specs.Known.{known_in, known_of}
+use Rattle.adl_names.proofs.exports.note_component.Given as goal
+
+abbrev pub invariant-loop-holding : goal.invariant-loop-holding
+invariant-loop-holding l =
+    noted l.first (flat_map (misfits_in_composition (known_in l.tables) (Some (known_of l.table))) (drop l.holding-index l.holding-items))
+    ≡ noted l.fn.first (flat_map (misfits_in_composition (known_in l.tables) (Some (known_of l.table))) l.holding-items)

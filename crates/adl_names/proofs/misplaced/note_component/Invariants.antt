@@ -1,0 +1,10 @@
+use Rattle.std.proofs.Common.{◌≡◌, drop}
+use Rattle.std.specs.List.{flat_map}
+use Rattle.adl_meaning.specs.Faults.{noted}
+use Rattle.adl_meaning.specs.CompositeBody.{misplaced_member}
+use Rattle.adl_names.proofs.misplaced.note_component.Given as goal
+
+abbrev pub invariant-loop-member : goal.invariant-loop-member
+invariant-loop-member l =
+    noted l.first (flat_map (misplaced_member l.composite l.device) (drop l.member-index l.member-items))
+    ≡ noted l.fn.first (flat_map (misplaced_member l.composite l.device) l.member-items)

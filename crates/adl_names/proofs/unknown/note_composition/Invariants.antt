@@ -1,0 +1,13 @@
+use Rattle.std.proofs.Common.{◌≡◌, drop}
+use Rattle.std.specs.List.{flat_map}
+use Rattle.adl_meaning.specs.Faults.{noted}
+use Rattle.adl_meaning.specs.Holding.{held_as}
+use Rattle.adl_meaning.specs.Known.{known_in}
+use Rattle.adl_meaning.specs.Unknown.{unknown_in_line}
+use Rattle.adl_names.specs.Bodies.{owner_of}
+use Rattle.adl_names.proofs.unknown.note_composition.Given as goal
+
+abbrev pub invariant-loop-line : goal.invariant-loop-line
+invariant-loop-line l =
+    noted l.first (flat_map (unknown_in_line (known_in l.tables) (owner_of l.owner) (held_as l.holding)) (drop l.line-index l.line-items))
+    ≡ noted l.fn.first (flat_map (unknown_in_line (known_in l.tables) (owner_of l.owner) (held_as l.holding)) l.line-items)
