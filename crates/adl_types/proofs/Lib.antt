@@ -1,6 +1,2 @@
-pub mod AllJoined
-pub mod Exports
-pub mod Inwards
-pub mod OutlineTables
-pub mod Recalling
-pub mod WalkEnds
+pub mod Faulting
+pub mod Typed

@@ -1,12 +1,2 @@
-pub mod EndCount
-pub mod Joined
-pub mod Kind
-pub mod LeafPort
-pub mod Remembered
-pub mod Told
 pub mod TypeFaults
-pub mod TypeMismatch
-pub use Rattle.adl_meaning.specs.Export
-pub use Rattle.adl_meaning.specs.Faults
-pub use Rattle.adl_meaning.specs.Items
-pub use Rattle.adl_meaning.specs.NameFaults
+pub mod WellTyped

@@ -1,14 +1,104 @@
--- The faults of types that stand in a source, and the first of them.
-use Rattle.std.specs.Prelude.{List, ◌++◌, Option}
+-- Faults of types, over the hierarchy. In each body, the assembly's included:
+--
+--   Kind stands at an end whose leaf interface isn't of the kind that the connector table has for the connector and the
+--     role, or whose component isn't hardware or software as the table has it; its name is the last word of the end;
+--   TypeMismatch stands at an end whose leaf interface has another type word or size than that of the first end of the
+--     connection, where `Buf` is `Buf(4096)`, at each connector but that of interrupts; its name is the last word of the end;
+--   EndCount stands at the name of a connection whose numbers of `from` and `to` ends aren't both as the table allows;
+--   TypeMismatch stands at the name of an interface whose size stands there and is 0 or above 268,435,456.
+--
+-- An end that leads to no interface has no fault here.
+use Rattle.std.specs.Prelude.{ℕ, ◌+◌, zero, suc, Bool, true, false, ◌&&◌, not, if◌then◌else◌, List, [], ◌∷◌, ◌++◌, Option, Some, None, unwrap_or, nat_le, ◌==◌}
+use Rattle.std.specs.List.{flat_map, count_by}
+use Rattle.std.specs.Option.{option_map_or}
+use Rattle.std.specs.Str.{bytes_eq}
+use Rattle.cam_base.specs.declared.code.Code.{Code}
+use Rattle.cam_base.specs.declared.code.Code.TheVariants as code
 use Rattle.cam_base.specs.declared.place.Fault.{Fault}
+use Rattle.adl_ast.specs.declared.component.Member.{Member}
+use Rattle.adl_ast.specs.declared.component.Member.TheVariants as members
+use Rattle.adl_ast.specs.declared.composition.End.{End}
+use Rattle.adl_ast.specs.declared.composition.Role.{Role}
+use Rattle.adl_ast.specs.declared.composition.Role.TheVariants.{From, To}
 use Rattle.adl_ast.specs.declared.source.Source.{Source}
-use Rattle.adl_meaning.specs.Faults.{least}
-use Rattle.adl_types.specs.Kind.{wrong_kinds}
-use Rattle.adl_types.specs.TypeMismatch.{type_mismatches}
-use Rattle.adl_types.specs.EndCount.{wrong_counts}
+use Rattle.adl_meaning.specs.declared.connector.Connector.{Connector}
+use Rattle.adl_meaning.specs.declared.connector.Connector.TheVariants.{Interrupt}
+use Rattle.adl_meaning.specs.Export.{last_name, same_kind, default_size}
+use Rattle.adl_meaning.specs.Faults.{at_word, where_true, least}
+use Rattle.adl_meaning.specs.Hierarchy.{Hierarchy, Wire, body, wires_of, top_number, hierarchy_of}
+use Rattle.conn_rules.specs.Ends.{end_rule, allows}
+use Rattle.conn_rules.specs.Row.{same_role}
+use Rattle.conn_rules.specs.declared.end.EndRule.{EndRule}
+use Rattle.adl_program.specs.LeafInterfaces.{LeafInterface, leaf_of}
+
+-- ---- ends
+
+abbrev pub is_kind_of : EndRule → LeafInterface → Bool
+is_kind_of rule l = same_kind l.interface.kind rule.interface && (if rule.hardware then l.hardware else not l.hardware)
+
+-- whether all ends of the connector have one type
+abbrev pub has_one_type : Connector → Bool
+has_one_type Interrupt = false
+has_one_type _ = true
+
+-- one type word and one size
+abbrev pub same_type : LeafInterface → LeafInterface → Bool
+same_type l m = bytes_eq l.interface.word.name m.interface.word.name && unwrap_or l.interface.size default_size == unwrap_or m.interface.size default_size
+
+-- whether two ends agree; an end that joins no interface agrees with all
+abbrev pub agree : Option LeafInterface → Option LeafInterface → Bool
+agree (Some l) (Some m) = same_type l m
+agree _ _ = true
+
+abbrev pub at_end : Code → End → Fault
+at_end c e = record { code = c; place = e.place; name = last_name e.words }
+
+abbrev pub end_faults : Hierarchy → ℕ → Connector → Option LeafInterface → End → List Fault
+end_faults h k c first e =
+    where_true (not (option_map_or (is_kind_of (end_rule c e.role)) (leaf_of h k e.words) true)) (at_end code.Kind e)
+    ++ where_true (has_one_type c && not (agree first (leaf_of h k e.words))) (at_end code.TypeMismatch e)
+
+-- ---- connections
+
+abbrev pub first_leaf : Hierarchy → ℕ → List End → Option LeafInterface
+first_leaf h k [] = None
+first_leaf h k (e ∷ es) = leaf_of h k e.words
+
+abbrev pub count_of : Role → List End → ℕ
+count_of role ends = count_by (λ e. same_role e.role role) ends
+
+abbrev pub may_have : Connector → List End → Bool
+may_have c ends = allows (end_rule c From) (count_of From ends) && allows (end_rule c To) (count_of To ends)
+
+abbrev pub wire_faults : Hierarchy → ℕ → Wire → List Fault
+wire_faults h k w = flat_map (end_faults h k w.0 (first_leaf h k w.1.ends)) w.1.ends ++ where_true (not (may_have w.0 w.1.ends)) (at_word code.EndCount w.1.id)
+
+-- ---- sizes
+
+abbrev pub is_size : ℕ → Bool
+is_size n = nat_le 1 n && nat_le n 268435456
+
+abbrev pub size_faults : Member → List Fault
+size_faults (members.Interface i) = where_true (not (option_map_or is_size i.size true)) (at_word code.TypeMismatch i.id)
+size_faults _ = []
+
+-- ---- bodies
+
+abbrev pub body_faults : Hierarchy → ℕ → List Fault
+body_faults h k = flat_map (wire_faults h k) (wires_of (body h k)) ++ option_map_or (λ c. flat_map size_faults c.members) (body h k).component []
+
+-- those of the first n bodies
+abbrev pub faults_below : Hierarchy → ℕ → List Fault
+faults_below h zero = []
+faults_below h (suc n) = faults_below h n ++ body_faults h n
+
+-- ---- all
+
+abbrev pub type_faults_in : Hierarchy → List Fault
+type_faults_in h = faults_below h (top_number h + 1)
 
 abbrev pub type_faults : Source → List Fault
-type_faults s = wrong_kinds s ++ type_mismatches s ++ wrong_counts s
+type_faults s = type_faults_in (hierarchy_of s)
 
 abbrev pub first_type_fault : Source → Option Fault
 first_type_fault s = least (type_faults s)

@@ -1,13 +1,17 @@
-//! What the definitions promise together, as functions that do nothing.
+//! What the definitions promise together, as a function that does nothing.
 
-ghost use Rattle.adl_ast.specs.declared.source.Source.{Source as Tree};
-ghost use Rattle.adl_meaning.specs.Export.{Port as PortOf};
-ghost use Rattle.adl_meaning.specs.Items.{components};
+ghost use Rattle.adl_ast.specs.declared.source.Source.{Source};
+ghost use Rattle.adl_meaning.specs.Hierarchy.{hierarchy_of};
+ghost use Rattle.adl_meaning.specs.Joins.{Strung, connections};
 ghost use Rattle.adl_meaning.specs.NameFaults.{AreNamesSound};
-ghost use Rattle.adl_types.specs.LeafPort.{outline_named, outlines_of, inside, leaf_port};
+ghost use Rattle.adl_types.specs.TypeFaults.{first_type_fault};
+ghost use Rattle.adl_types.specs.WellTyped.{IsWellTyped};
+ghost use Rattle.numbering.specs.Gather.{IsIn};
 ghost use Rattle.std.specs.Prelude.{◌≡◌, None};
 
-/// Where no fault of names stands, each walk inwards ends at a port that has none inside.
-pub fn walks_inwards_end()
-    ensures { (s : Tree) → AreNamesSound s → (p : PortOf) → inside (outline_named (components s)) (leaf_port (outlines_of (components s)) p) ≡ None }
+/// Where no fault of types is first, the ends of each connection of the flat system are of the kinds that its connector wants,
+/// agree with the first of them, and are as many as it may have.
+pub fn ends_are_typed()
+    ensures { (s : Source) → AreNamesSound s → first_type_fault s ≡ None → let h = hierarchy_of s in (x : Strung)
+        → IsIn x (connections h) → IsWellTyped h x }
 {}

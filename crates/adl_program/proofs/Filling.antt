@@ -1,0 +1,52 @@
+-- A table filled in an order in which inner bodies stand first: what holds of each body that was filled in.
+use Rattle.std.proofs.Common.{◌≡◌, ◌<◌, ◌≤◌, ◌+◌, ℕ, suc, true, List, length, get_or, take, sym, ◌∙◌, subst, arith, inl, inr, nat_eq, get_or-set_same, get_or-set_other}
+use Rattle.std.proofs.Math.ListN.{set, length-set}
+use Rattle.std.proofs.lemmas.Bool.{or_cases, eqb-true, cases_eq}
+use Rattle.std.proofs.lemmas.List.{take_all}
+use Rattle.std.proofs.lemmas.List.Folds.{list_any_more}
+use Rattle.adl_meaning.specs.Graph.{has, IsInnerFirst}
+use Rattle.adl_meaning.specs.Hierarchy.{Hierarchy, Part, body, graph}
+use Rattle.numbering.specs.Gather.{IsIn}
+use Rattle.adl_hierarchy.proofs.Finite.{graph_size}
+use Rattle.adl_hierarchy.proofs.Steps.{listed}
+use Rattle.component_graph.proofs.Marks.{has_at}
+
+-- P holds of the entries of those of the order that were filled in
+pub record IsFilled {T : Type 0} (P : ℕ → T → Type 0) (h : Hierarchy) (order : List ℕ) (all : List T) (i : ℕ) : Type 0 where
+  pub length_is : length all ≡ suc (length h.bodies)
+  pub each : (k : ℕ) (t : T) → has (take i order) k ≡ true → P k (get_or all k t)
+
+pub order_below : (h : Hierarchy) (order : List ℕ) (i : ℕ) → IsInnerFirst (graph h) order → i < length order → get_or order i 0 ≤ length h.bodies
+order_below h order i o l =
+    let k : get_or order i 0 < length (graph h) = o.below (get_or order i 0) (has_at order i l) in
+    let n = graph_size h in
+    omega arith
+
+-- an instance's component was filled in before
+pub inner_filled : (h : Hierarchy) (order : List ℕ) (i : ℕ) (x : Part) → IsInnerFirst (graph h) order → i < length order → IsIn x (body h (get_or order i 0)).parts → has (take i order) x.kind ≡ true
+inner_filled h order i x o l m = o.inner i x.kind l (listed h (get_or order i 0) x (order_below h order i o l) m)
+
+pub filled_more : {T : Type 0} (P : ℕ → T → Type 0) (h : Hierarchy) (order : List ℕ) (all : List T) (i : ℕ) (t : T) → IsInnerFirst (graph h) order → i < length order
+    → IsFilled P h order all i → P (get_or order i 0) t → IsFilled P h order (set all (get_or order i 0) t) (i + 1)
+filled_more P h order all i t o l r e = record {
+  length_is = length-set all (get_or order i 0) t ∙ r.length_is;
+  each = λ k u m. elim (cases_eq k (get_or order i 0)) [
+    | inl p ↦ let Q : ℕ → Type 0 = λ y. P y (get_or (set all (get_or order i 0) t) y u) in
+        let b : get_or order i 0 ≤ length h.bodies = order_below h order i o l in
+        let w : get_or order i 0 < length all = omega (arith, r.length_is) in
+        subst Q (sym p) (subst (P (get_or order i 0)) (sym (get_or-set_same all (get_or order i 0) t u w)) e)
+    | inr n ↦ subst (P k) (sym (get_or-set_other all (get_or order i 0) k t u n)) (r.each k u (elim (or_cases (has (take i order) k) (nat_eq k (get_or order i 0)) (sym (list_any_more (nat_eq k) order i 0 l) ∙ m)) [
+      | inl q ↦ q
+      | inr q ↦ absurd (n (eqb-true k (get_or order i 0) q))
+    ]))
+  ];
+}
+
+-- at the end all are filled in
+pub all_filled : {T : Type 0} (P : ℕ → T → Type 0) (h : Hierarchy) (order : List ℕ) (all : List T) (i : ℕ) → IsInnerFirst (graph h) order → length order ≤ i → IsFilled P h order all i
+    → (k : ℕ) (t : T) → k ≤ length h.bodies → P k (get_or all k t)
+all_filled P h order all i o l r k t b =
+    let n = graph_size h in
+    let w : k < length (graph h) = omega arith in
+    let Q : List ℕ → Type 0 = λ xs. has xs k ≡ true in
+    r.each k t (subst Q (sym (take_all i order l)) (o.whole k w))

@@ -1,0 +1,32 @@
+-- Leaf interfaces: what stands at one, and what a dotted name means.
+use Rattle.std.specs.Prelude.{ℕ, Bool, List, Option, Some, None}
+use Rattle.std.specs.List.{slice_get}
+use Rattle.std.specs.Option.{option_and_then}
+use Rattle.adl_ast.specs.declared.component.Component.{Component}
+use Rattle.adl_ast.specs.declared.component.Interface.{Interface}
+use Rattle.adl_ast.specs.declared.component.Member.{Member}
+use Rattle.adl_ast.specs.declared.component.Member.TheVariants as members
+use Rattle.adl_ast.specs.declared.id.Id.{Id}
+use Rattle.adl_meaning.specs.CompositeBody.{is_device}
+use Rattle.adl_meaning.specs.Hierarchy.{Hierarchy, body}
+use Rattle.adl_program.specs.Leads.{lead}
+use Rattle.adl_program.specs.declared.leads.LeafPort.{LeafPort}
+
+-- an interface of a leaf, and whether the leaf is a device
+pub record LeafInterface : Type 0 where
+  pub interface : Interface
+  pub hardware : Bool
+
+abbrev pub as_leaf : Bool → Member → Option LeafInterface
+as_leaf device (members.Interface i) = Some (record { interface = i; hardware = device })
+as_leaf device _ = None
+
+abbrev pub leaf_in : ℕ → Component → Option LeafInterface
+leaf_in m c = option_and_then (as_leaf (is_device c)) (slice_get c.members m)
+
+abbrev pub leaf_at : Hierarchy → LeafPort → Option LeafInterface
+leaf_at h p = option_and_then (leaf_in p.member) (body h p.kind).component
+
+-- what a dotted name means in body k
+abbrev pub leaf_of : Hierarchy → ℕ → List Id → Option LeafInterface
+leaf_of h k words = option_and_then (leaf_at h) (lead h k words)

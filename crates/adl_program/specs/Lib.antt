@@ -1,0 +1,5 @@
+pub mod Leads
+pub mod LeafInterfaces
+pub mod Lines
+pub mod Needed
+pub mod Seen

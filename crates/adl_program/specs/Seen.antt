@@ -1,0 +1,50 @@
+-- What a body's fields are, and what its tables by name say of it.
+use Rattle.std.specs.Prelude.{◌≡◌, ℕ, false, List, [], Option, is_some, option_map, unwrap_or}
+use Rattle.std.specs.List.{find, filter_map, list_any, enumerate_from}
+use Rattle.std.specs.Option.{option_copied, option_and_then, option_map_or}
+use Rattle.std.specs.Str.{bytes_eq}
+use Rattle.adl_ast.specs.declared.component.Component.{Component}
+use Rattle.adl_ast.specs.declared.composition.Composition.{Composition}
+use Rattle.adl_meaning.specs.Flat.{is_interface}
+use Rattle.adl_meaning.specs.Hierarchy.{Body, Part, wire_of}
+use Rattle.adl_meaning.specs.Holding.{connections_in}
+use Rattle.adl_meaning.specs.Items.{Name}
+use Rattle.adl_meaning.specs.Lists.{place_by}
+use Rattle.adl_meaning.specs.Members.{declared_as}
+use Rattle.adl_names.specs.ByName.{found}
+use Rattle.adl_names.specs.Tables.{declaring_told}
+use Rattle.adl_program.specs.Needed.{needed_in}
+use Rattle.adl_program.specs.declared.part.PartAt.{PartAt}
+use Rattle.adl_program.specs.declared.body.Body.TheInside.{Inside}
+use Rattle.adl_program.specs.declared.body.Composed.{Composed}
+use Rattle.adl_program.specs.declared.body.Members.{Members}
+
+abbrev pub body_seen : Inside → Body
+body_seen t = record {
+  item = t.item;
+  component = option_copied t.component;
+  composition = option_copied t.composition;
+  configuration = option_copied t.configuration;
+  parts = t.composed.parts.items;
+}
+
+-- the first instance of the name, by its number and that of its component, counted from this number
+abbrev pub part_from : ℕ → List Part → Name → Option PartAt
+part_from i xs n = option_map (λ x. record { number = x.0; kind = x.1.kind }) (find (λ x. bytes_eq n x.1.instance.id.name) (enumerate_from i xs))
+
+-- the tables of a composition agree with it
+pub record IsComposed (o : Option Composition) (t : Composed) : Type 0 where
+  pub parts_by_name : (n : Name) → found t.named n ≡ part_from 0 t.parts.items n
+  pub groups_by_name : (n : Name) → is_some (found t.groups n) ≡ list_any (λ x. option_map_or (bytes_eq n) x.group false) t.parts.items
+  pub wires_are : t.wires.items ≡ filter_map wire_of (option_map_or connections_in o [])
+
+-- those of a component's members agree with it
+pub record AreMembers (o : Option Component) (t : Members) : Type 0 where
+  pub declared_by_name : (n : Name) → declaring_told t.declared n ≡ option_and_then (λ c. declared_as c n) o
+  pub places_by_name : (n : Name) → unwrap_or (found t.places n) t.count ≡ option_map_or (λ c. place_by (is_interface n) c.members) o 0
+  pub needed_are : t.needed.items ≡ needed_in o
+
+-- all tables agree with the body
+pub record IsIndexed (t : Inside) : Type 0 where
+  pub composed : IsComposed (option_copied t.composition) t.composed
+  pub members : AreMembers (option_copied t.component) t.members

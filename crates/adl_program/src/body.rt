@@ -1,0 +1,362 @@
+//! Bodies: components and the assembly.
+
+ghost use Rattle.adl_meaning.specs.CompositeBody.{is_device};
+ghost use Rattle.adl_meaning.specs.Flat.{is_interface};
+ghost use Rattle.adl_meaning.specs.Hierarchy.{body_of, top_of, parts_in, wires_of};
+ghost use Rattle.adl_meaning.specs.Lists.{place_by};
+ghost use Rattle.adl_meaning.specs.Members.{attribute_of, configurations};
+ghost use Rattle.adl_meaning.specs.Unconnected.{may_stay};
+ghost use Rattle.adl_meaning.specs.Values.{is_group};
+ghost use Rattle.adl_names.specs.ByName.{found};
+ghost use Rattle.adl_names.specs.Located.{located};
+ghost use Rattle.adl_program.specs.Needed.{needed_of, needed_in};
+ghost use Rattle.adl_program.specs.Seen.{part_from, IsComposed, AreMembers};
+ghost use Rattle.std.specs.List.{enumerate_from, filter_map, list_any, slice_get};
+ghost use Rattle.std.specs.Option.{option_and_then, option_copied, option_map_or};
+ghost use Rattle.std.specs.Prelude.{◌≡◌, [], ℕ, List as Seq, None, Some, false, is_some, option_map, unwrap_or, length, IfOk};
+ghost use Rattle.std.specs.Str.{bytes_eq};
+
+use crate::part::{Needed, Part, PartAt, Wire, parts_of, wires_of};
+use adl_ast::{
+    Assembly, Attribute, Component, Composition, Configuration, Interface, InterfaceKind, Member,
+};
+use adl_meaning::ItemAt;
+use adl_names::{Declared, Located, NameTable, composition_of, declaring, is_device};
+use cam_base::{Name, NoMemory};
+use std::alloc::Global;
+use std::marker::Model;
+
+/// A component or the assembly. Contracts see it as the body that it is.
+#[derive(Drop)]
+pub struct Body<'a> {
+    item: Option<ItemAt>,
+    component: Option<&'a Component>,
+    composition: Option<&'a Composition>,
+    configuration: Option<&'a Configuration>,
+    composed: Composed<'a>,
+    members: Members<'a>,
+}
+
+/// What stands in a composition.
+#[derive(Drop)]
+pub struct Composed<'a> {
+    parts: Vec<Part<'a>>,
+    named: NameTable<'a, PartAt>,
+    groups: NameTable<'a, ()>,
+    wires: Vec<Wire<'a>>,
+}
+
+/// What stands among the members of a component.
+#[derive(Drop)]
+pub struct Members<'a> {
+    declared: NameTable<'a, Declared<'a>>,
+    /// The place of the first interface of each name.
+    places: NameTable<'a, usize>,
+    count: usize,
+    needed: Vec<Needed<'a>>,
+}
+
+impl<'a> Model for Body<'a> {
+    ghost use Rattle.adl_meaning.specs.Hierarchy.{Body as BodyOf};
+
+    ghost Value = { BodyOf };
+
+    ghost use Rattle.adl_ast.specs.contracts.value.ValueKind as values;
+    ghost use Rattle.std.specs.Coded.{codes};
+
+    ghost coded = { Prim.hlevel (codes, values.the_row.coded) };
+
+    ghost use Rattle.adl_program.specs.Seen.{body_seen, IsIndexed};
+
+    ghost view = { body_seen };
+
+    ghost invariant = { IsIndexed };
+}
+
+impl<'a> Body<'a> {
+    /// Where it stands.
+    pub fn item(&self) -> Option<ItemAt>
+        ensures { result ≡ self.now.item }
+    {
+        self.item
+    }
+
+    /// Its component; the assembly is none.
+    pub fn component(&self) -> Option<&'a Component>
+        ensures { option_copied result ≡ self.now.component }
+    {
+        self.component
+    }
+
+    /// Its composition; a leaf has none.
+    pub fn composition(&self) -> Option<&'a Composition>
+        ensures { option_copied result ≡ self.now.composition }
+    {
+        self.composition
+    }
+
+    /// Its first configuration.
+    pub fn configuration(&self) -> Option<&'a Configuration>
+        ensures { option_copied result ≡ self.now.configuration }
+    {
+        self.configuration
+    }
+
+    /// Whether it has a composition; a component without one is a leaf.
+    pub fn is_composite(&self) -> bool
+        ensures { result ≡ is_some self.now.composition }
+    {
+        self.composition.is_some()
+    }
+
+    /// Whether its component says `hardware`.
+    pub fn is_hardware(&self) -> bool
+        ensures { result ≡ option_map_or is_device self.now.component false }
+    {
+        match self.component {
+            None => false,
+            Some(component) => is_device(component),
+        }
+    }
+
+    /// Its instances, in order.
+    pub fn parts(&self) -> &[Part<'a>]
+        ensures { result.now ≡ self.now.parts }
+    {
+        self.composed.parts.as_slice()
+    }
+
+    /// The first instance of the name.
+    pub fn part(&self, name: &Name) -> Option<PartAt>
+        ensures { result ≡ part_from 0 self.now.parts name.now }
+    {
+        self.composed.named.get(name).copied()
+    }
+
+    /// Whether one of its groups has the name.
+    pub fn has_group(&self, name: &[u8]) -> bool
+        ensures { result ≡ is_group self.now name.now }
+    {
+        self.composed.groups.get_bytes(name).is_some()
+    }
+
+    /// The attribute that its component declares under the name.
+    pub fn attribute(&self, name: &[u8]) -> Option<&'a Attribute>
+        ensures { option_copied result ≡ option_and_then (λ c. attribute_of c name.now) self.now.component }
+    {
+        match self.members.declared.get_bytes(name) {
+            Some(Declared::Attribute(attribute)) => Some(attribute),
+            _ => None,
+        }
+    }
+
+    /// The interfaces of its component that may not stay without a connection, in order.
+    pub fn needed(&self) -> &[Needed<'a>]
+        ensures { result.now ≡ needed_in self.now.component }
+    {
+        self.members.needed.as_slice()
+    }
+
+    /// Its connections, in order.
+    pub fn wires(&self) -> &[Wire<'a>]
+        ensures { result.now ≡ wires_of self.now }
+    {
+        self.composed.wires.as_slice()
+    }
+
+    /// The place of the interface among the members of its component; where it has none, their number.
+    pub fn member_number(&self, name: &Name) -> usize
+        ensures { result ≡ option_map_or (λ c. place_by (is_interface name.now) c.members) self.now.component 0 }
+    {
+        self.members
+            .places
+            .get(name)
+            .copied()
+            .unwrap_or(self.members.count)
+    }
+}
+
+/// The configuration of a component, the first.
+fn configuration_of(component: &Component) -> Option<&Configuration>
+    ensures { option_copied result ≡ slice_get (configurations component.now) 0 }
+{
+    for member in component.members.as_slice() {
+        if let Member::Configuration(configuration) = member {
+            return Some(configuration);
+        }
+    }
+    None
+}
+
+/// Instances by name, where the first of a name counts.
+fn named_parts<'a>(alloc: Global, parts: &[Part<'a>]) -> Result<NameTable<'a, PartAt>, NoMemory>
+    ensures { IfOk result (λ t. (n : Seq ℕ) → found t n ≡ part_from 0 parts.now n) }
+{
+    let mut named = NameTable::new(alloc);
+    for (number, part) in parts.iter().enumerate() {
+        let part: &Part<'a> = part;
+        let at = PartAt {
+            number,
+            kind: part.kind,
+        };
+        named.add(&part.instance.id.name, at)?;
+    }
+    Ok(named)
+}
+
+/// The names of groups.
+fn groups_of<'a>(alloc: Global, parts: &[Part<'a>]) -> Result<NameTable<'a, ()>, NoMemory>
+    ensures { IfOk result (λ t. (n : Seq ℕ)
+        → is_some (found t n) ≡ list_any (λ x. option_map_or (bytes_eq n) x.group false) parts.now) }
+{
+    let mut groups = NameTable::new(alloc);
+    for part in parts {
+        if let Some(name) = part.group {
+            groups.add(name, ())?;
+        }
+    }
+    Ok(groups)
+}
+
+fn may_stay(interface: &Interface) -> bool
+    ensures { result ≡ may_stay interface.now }
+{
+    interface.maybe || interface.kind != InterfaceKind::Uses
+}
+
+/// The interfaces among members that may not stay without a connection.
+fn needed_in<'a>(alloc: Global, members: &'a [Member]) -> Result<Vec<Needed<'a>>, NoMemory>
+    ensures { IfOk result (λ v. v.items ≡ filter_map needed_of (enumerate_from 0 members.entry.now)) }
+{
+    let mut needed = Vec::new(alloc);
+    for (place, member) in members.iter().enumerate() {
+        if let Member::Interface(interface) = member {
+            if !may_stay(interface) {
+                needed.push(Needed {
+                    member: place,
+                    id: &interface.id,
+                })?;
+            }
+        }
+    }
+    Ok(needed)
+}
+
+/// The places of interfaces by name, where the first of a name counts.
+fn interface_places<'a>(
+    alloc: Global,
+    members: &'a [Member],
+) -> Result<NameTable<'a, usize>, NoMemory>
+    ensures { IfOk result (λ t. (n : Seq ℕ)
+        → unwrap_or (found t n) (length members.entry.now) ≡ place_by (is_interface n) members.entry.now) }
+{
+    let mut places = NameTable::new(alloc);
+    for (place, member) in members.iter().enumerate() {
+        if let Member::Interface(interface) = member {
+            places.add(&interface.id.name, place)?;
+        }
+    }
+    Ok(places)
+}
+
+/// What stands in a composition that may be absent.
+fn composed_of<'a>(
+    alloc: Global,
+    kinds: &NameTable<'_, u32>,
+    composition: Option<&'a Composition>,
+) -> Result<Composed<'a>, NoMemory>
+    ensures parts { IfOk result (λ t. t.parts.items ≡ parts_in (found kinds.now) (option_copied composition.entry)) }
+    ensures tables { IfOk result (λ t. IsComposed (option_copied composition.entry) t) }
+{
+    let parts = parts_of(alloc, kinds, composition)?;
+    Ok(Composed {
+        named: named_parts(alloc, parts.as_slice())?,
+        groups: groups_of(alloc, parts.as_slice())?,
+        parts,
+        wires: wires_of(alloc, composition)?,
+    })
+}
+
+/// What stands among the members of a component that may be absent.
+fn members_of<'a>(alloc: Global, component: Option<&'a Component>) -> Result<Members<'a>, NoMemory>
+    ensures { IfOk result (λ t. AreMembers (option_copied component.entry) t) }
+{
+    match component {
+        None => Ok(Members {
+            declared: NameTable::new(alloc),
+            places: NameTable::new(alloc),
+            count: 0,
+            needed: Vec::new(alloc),
+        }),
+        Some(component) => Ok(Members {
+            declared: declaring(alloc, component)?,
+            places: interface_places(alloc, component.members.as_slice())?,
+            count: component.members.len(),
+            needed: needed_in(alloc, component.members.as_slice())?,
+        }),
+    }
+}
+
+/// The body of a component.
+pub fn body_of<'a>(
+    alloc: Global,
+    kinds: &NameTable<'_, u32>,
+    it: &Located<'a, Component>,
+) -> Result<Body<'a>, NoMemory>
+    ensures { IfOk result (λ b. b ≡ body_of (found kinds.now) (it.now.at, it.now.item.now)) }
+{
+    let composition = composition_of(it.item);
+    Ok(Body {
+        item: Some(it.at),
+        component: Some(it.item),
+        composition,
+        configuration: configuration_of(it.item),
+        composed: composed_of(alloc, kinds, composition)?,
+        members: members_of(alloc, Some(it.item))?,
+    })
+}
+
+fn assembly_body<'a>(
+    alloc: Global,
+    kinds: &NameTable<'_, u32>,
+    it: &Located<'a, Assembly>,
+) -> Result<Body<'a>, NoMemory>
+    ensures { IfOk result (λ b. b ≡ top_of (found kinds.now) (Some (it.now.at, it.now.item.now))) }
+{
+    let composition = Some(&it.item.composition);
+    Ok(Body {
+        item: Some(it.at),
+        component: None,
+        composition,
+        configuration: it.item.configuration.as_ref(),
+        composed: composed_of(alloc, kinds, composition)?,
+        members: members_of(alloc, None)?,
+    })
+}
+
+fn no_body<'a>(alloc: Global, kinds: &NameTable<'_, u32>) -> Result<Body<'a>, NoMemory>
+    ensures { IfOk result (λ b. b ≡ top_of (found kinds.now) None) }
+{
+    Ok(Body {
+        item: None,
+        component: None,
+        composition: None,
+        configuration: None,
+        composed: composed_of(alloc, kinds, None)?,
+        members: members_of(alloc, None)?,
+    })
+}
+
+/// The body of an assembly that may be absent.
+pub fn top_of<'a>(
+    alloc: Global,
+    kinds: &NameTable<'_, u32>,
+    it: &Option<Located<'a, Assembly>>,
+) -> Result<Body<'a>, NoMemory>
+    ensures { IfOk result (λ b. b ≡ top_of (found kinds.now) (option_map located it.now)) }
+{
+    match it {
+        None => no_body(alloc, kinds),
+        Some(it) => assembly_body(alloc, kinds, it),
+    }
+}

@@ -1,0 +1,125 @@
+//! A source, resolved.
+
+ghost use Rattle.adl_meaning.specs.Hierarchy.{hierarchy_of, body, top_number};
+ghost use Rattle.adl_meaning.specs.Items.{AreFew};
+ghost use Rattle.adl_meaning.specs.NameFaults.{AreNamesSound};
+ghost use Rattle.adl_program.specs.Leads.{lead};
+ghost use Rattle.adl_program.specs.LeafInterfaces.{leaf_at, leaf_of};
+ghost use Rattle.std.specs.Prelude.{◌≡◌, ◌≤◌, ◌<◌, ◌+◌, ◌^◌, IfOk};
+
+use crate::bodies::{Bodies, bodies_of, graph};
+use crate::body::Body;
+use crate::leads::{Leads, LeafPort, all_leads, lead};
+use crate::leaf::Leaf;
+use adl_ast::{Id, Member, Source};
+use adl_hierarchy::sound_hierarchies_are_finite;
+use cam_base::NoMemory;
+use component_graph::inner_first;
+use std::alloc::Global;
+use std::marker::Model;
+
+/// A source in which no fault of names stands, with its names resolved. Contracts see it as the hierarchy of the source.
+#[derive(Drop)]
+pub struct Program<'a> {
+    bodies: Bodies<'a>,
+    leads: Vec<Leads<'a>>,
+}
+
+impl<'a> Model for Program<'a> {
+    ghost use Rattle.adl_meaning.specs.Hierarchy.{Hierarchy};
+
+    ghost Value = { Hierarchy };
+
+    ghost use Rattle.adl_ast.specs.contracts.value.ValueKind as values;
+    ghost use Rattle.std.specs.Coded.{codes};
+
+    ghost coded = { Prim.hlevel (codes, values.the_row.coded) };
+
+    ghost use Rattle.adl_program.specs.Leads.{AreResolved};
+
+    ghost view = { λ p. p.bodies };
+
+    ghost invariant = { λ p. AreResolved p.bodies p.leads.items };
+}
+
+impl<'a> Program<'a> {
+    /// Its bodies.
+    pub fn bodies(&self) -> &Bodies<'a>
+        ensures { result.now ≡ self.now }
+    {
+        &self.bodies
+    }
+
+    /// The number of the assembly, which is the number of components.
+    pub fn top_number(&self) -> u32
+        ensures number { result ≡ top_number self.now }
+        ensures few { top_number self.now + 1 < 2 ^ 32 }
+    {
+        self.bodies.top_number()
+    }
+
+    /// The body of a number: a component, or the assembly.
+    pub fn body(&self, number: u32) -> &Body<'a>
+        ensures { result.now ≡ body self.now number }
+    {
+        self.bodies.body(number)
+    }
+
+    /// The leaf interface that a dotted name means in the body of the number.
+    pub fn lead(&self, number: u32, words: &[Id]) -> Option<LeafPort>
+        requires { number ≤ top_number self.now }
+        ensures { result ≡ lead self.now number words.now }
+    {
+        lead(&self.bodies, self.leads.as_slice(), number, words)
+    }
+
+    /// What stands at a leaf interface, if it is one.
+    pub fn leaf_at(&self, port: LeafPort) -> Option<Leaf<'a>>
+        ensures { result ≡ leaf_at self.now port }
+    {
+        let body = self.bodies.body(port.kind);
+        let Some(component) = body.component() else {
+            return None;
+        };
+        match component.members.as_slice().get(port.member) {
+            Some(Member::Interface(interface)) => Some(Leaf {
+                interface,
+                hardware: body.is_hardware(),
+            }),
+            _ => None,
+        }
+    }
+
+    /// The leaf interface that a dotted name means in the body of the number.
+    pub fn leaf(&self, number: u32, words: &[Id]) -> Option<Leaf<'a>>
+        requires { number ≤ top_number self.now }
+        ensures { result ≡ leaf_of self.now number words.now }
+    {
+        match self.lead(number, words) {
+            None => None,
+            Some(port) => self.leaf_at(port),
+        }
+    }
+}
+
+/// The program of a source.
+///
+/// # Errors
+///
+/// Want of memory.
+pub fn program_of<'a>(alloc: Global, source: &'a Source) -> Result<Program<'a>, NoMemory>
+    requires few { AreFew source.now }
+    requires sound { AreNamesSound source.now }
+    ensures { IfOk result (λ p. p ≡ hierarchy_of source.now) }
+{
+    sound_hierarchies_are_finite();
+    let bodies = bodies_of(alloc, source)?;
+    let graph = graph(alloc, &bodies)?;
+    match inner_first(alloc, graph.as_slice())? {
+        None => unreachable!(),
+        Some(order) => {
+            let leads = all_leads(alloc, &bodies, order.as_slice())?;
+            Ok(Program { bodies, leads })
+        }
+    }
+}

@@ -1,0 +1,82 @@
+-- Where no fault of types stands, connections are as they should be.
+use Rattle.std.proofs.Common.{◌≡◌, ◌<◌, ◌≤◌, ◌+◌, ◌&&◌, ℕ, zero, suc, Bool, true, false, List, [], length, Option, None, refl, ◌∙◌, ap, arith, inl, inr}
+use Rattle.std.specs.Prelude.{not}
+use Rattle.std.specs.List.{flat_map}
+use Rattle.std.specs.Option.{option_map_or}
+use Rattle.std.proofs.lemmas.Bool.{cases_eq}
+use Rattle.cam_base.specs.declared.code.Code.TheVariants as code
+use Rattle.cam_base.specs.declared.place.Fault.{Fault}
+use Rattle.adl_ast.specs.declared.composition.End.{End}
+use Rattle.adl_ast.specs.declared.source.Source.{Source}
+use Rattle.adl_hierarchy.proofs.Connections.{connections_stand}
+use Rattle.adl_hierarchy.proofs.Exports.{not_so}
+use Rattle.adl_hierarchy.proofs.Finite.{sound_is_finite}
+use Rattle.adl_hierarchy.proofs.PartsAt.{body_in}
+use Rattle.adl_meaning.specs.Faults.{where_true, at_word}
+use Rattle.adl_meaning.specs.Hierarchy.{Hierarchy, hierarchy_of, body, wires_of, top_number}
+use Rattle.adl_meaning.specs.Joins.{Strung, connections}
+use Rattle.numbering.specs.Gather.{IsIn}
+use Rattle.adl_meaning.specs.NameFaults.{AreNamesSound}
+use Rattle.adl_meaning.proofs.Least.{least-empty}
+use Rattle.numbering.proofs.Lists.{none_in, none_left, none_right}
+use Rattle.conn_rules.specs.Ends.{end_rule}
+use Rattle.adl_program.specs.LeafInterfaces.{LeafInterface, leaf_of}
+use Rattle.adl_types.specs.TypeFaults.{first_type_fault, type_faults, first_leaf, has_one_type, is_kind_of, agree, may_have, at_end, end_faults, wire_faults, size_faults, body_faults, faults_below}
+use Rattle.adl_types.specs.WellTyped.{IsWellTyped}
+
+true_from : (b : Bool) → not b ≡ false → b ≡ true
+true_from true e = refl
+true_from false e = cc
+
+none_below : (h : Hierarchy) (n k : ℕ) → faults_below h n ≡ [] → k < n → body_faults h k ≡ []
+none_below h zero k e l = absurd (omega arith)
+none_below h (suc n) k e l = elim (cases_eq k n) [
+  | inl p ↦ ap (body_faults h) p ∙ none_right (faults_below h n) (body_faults h n) e
+  | inr p ↦ none_below h n k (none_left (faults_below h n) (body_faults h n) e) (omega (arith, l, p))
+]
+
+wire_sound : (s : Source) → AreNamesSound s → first_type_fault s ≡ None → (x : Strung) → IsIn x (connections (hierarchy_of s)) → wire_faults (hierarchy_of s) x.inside x.wire ≡ []
+wire_sound s sound none x i =
+    let h = hierarchy_of s in
+    let there = (connections_stand s sound x).0 i in
+    let low : x.inside ≤ length h.bodies = body_in h (sound_is_finite s sound) (top_number h) x.inside x.path (omega arith) there.0 in
+    let all = none_below h (top_number h + 1) x.inside (least-empty (type_faults s) none) (omega (arith, low)) in
+    none_in (wire_faults h x.inside) (wires_of (body h x.inside)) x.wire
+    (none_left (flat_map (wire_faults h x.inside) (wires_of (body h x.inside))) (option_map_or (λ c. flat_map size_faults c.members) (body h x.inside).component []) all) there.1
+
+-- the ends of each connection are as the connector wants them
+pub well_typed : (s : Source) → AreNamesSound s → first_type_fault s ≡ None → (x : Strung) → IsIn x (connections (hierarchy_of s)) → IsWellTyped (hierarchy_of s) x
+well_typed s sound none x i = record {
+  kinds = λ e j. true_from (kind e) (not_so (not (kind e)) (at_end code.Kind e) (none_left (where_true (not (kind e)) (at_end code.Kind e)) (where_true (wrong e) (at_end code.TypeMismatch e)) (end_sound e j)));
+  types = λ e j t. agreed (has_one_type x.wire.0) (agree first (leaf_of h x.inside e.words)) t
+      (not_so (wrong e) (at_end code.TypeMismatch e) (none_right (where_true (not (kind e)) (at_end code.Kind e)) (where_true (wrong e) (at_end code.TypeMismatch e)) (end_sound e j)));
+  counts = true_from count (not_so (not count) (at_word code.EndCount x.wire.1.id) (none_right (flat_map faults x.wire.1.ends) (where_true (not count) (at_word code.EndCount x.wire.1.id)) wire));
+}
+  where
+    h : Hierarchy
+    h = hierarchy_of s
+
+    first : Option LeafInterface
+    first = first_leaf h x.inside x.wire.1.ends
+
+    faults : End → List Fault
+    faults = end_faults h x.inside x.wire.0 first
+
+    count : Bool
+    count = may_have x.wire.0 x.wire.1.ends
+
+    kind : End → Bool
+    kind e = option_map_or (is_kind_of (end_rule x.wire.0 e.role)) (leaf_of h x.inside e.words) true
+
+    wrong : End → Bool
+    wrong e = has_one_type x.wire.0 && not (agree first (leaf_of h x.inside e.words))
+
+    wire : wire_faults h x.inside x.wire ≡ []
+    wire = wire_sound s sound none x i
+
+    end_sound : (e : End) → IsIn e x.wire.1.ends → faults e ≡ []
+    end_sound e j = none_in faults x.wire.1.ends e (none_left (flat_map faults x.wire.1.ends) (where_true (not count) (at_word code.EndCount x.wire.1.id)) wire) j
+
+    agreed : (b a : Bool) → b ≡ true → (b && not a) ≡ false → a ≡ true
+    agreed true a t e = true_from a e
+    agreed false a t e = cc

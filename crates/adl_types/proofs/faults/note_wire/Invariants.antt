@@ -1,0 +1,9 @@
+use Rattle.std.proofs.Common.{◌≡◌, drop}
+use Rattle.std.specs.List.{flat_map}
+use Rattle.adl_meaning.specs.Faults.{noted}
+use Rattle.adl_types.specs.TypeFaults.{end_faults}
+use Rattle.adl_types.proofs.faults.note_wire.Given as goal
+
+abbrev pub invariant-loop-end : goal.invariant-loop-end
+invariant-loop-end l =
+    noted l.first (flat_map (end_faults l.program l.number l.connector l.model) (drop l.end-index l.ends)) ≡ noted l.fn.first (flat_map (end_faults l.program l.number l.connector l.model) l.ends)

@@ -1,0 +1,149 @@
+//! The faults of types.
+
+ghost use Rattle.adl_meaning.specs.Faults.{noted, least};
+ghost use Rattle.adl_meaning.specs.Hierarchy.{top_number};
+ghost use Rattle.adl_types.specs.TypeFaults.{has_one_type, is_kind_of, agree, first_leaf, count_of, may_have, is_size, size_faults, wire_faults, type_faults_in};
+ghost use Rattle.std.specs.List.{flat_map};
+ghost use Rattle.std.specs.Option.{option_copied, option_map_or};
+ghost use Rattle.std.specs.Prelude.{◌≡◌, ◌≤◌, [], true};
+
+use adl_ast::{Component, End, Member, Role};
+use adl_meaning::{Connector, Earliest, noted_is_least};
+use adl_names::last_name;
+use adl_program::{Leaf, Program, Wire};
+use cam_base::Code;
+use conn_rules::EndRule;
+
+/// The bytes of a data port whose size doesn't stand there.
+const DEFAULT_SIZE: u64 = 4096;
+
+/// The most bytes that a data port may have.
+const GREATEST_SIZE: u64 = 268_435_456;
+
+fn has_one_type(connector: Connector) -> bool
+    ensures { result ≡ has_one_type connector }
+{
+    connector != Connector::Interrupt
+}
+
+fn is_right(rule: EndRule, leaf: &Option<Leaf<'_>>) -> bool
+    ensures { result ≡ option_map_or (is_kind_of rule) leaf.now true }
+{
+    match leaf {
+        None => true,
+        Some(leaf) => leaf.interface.kind == rule.interface && leaf.hardware == rule.hardware,
+    }
+}
+
+fn agree(a: &Option<Leaf<'_>>, b: &Option<Leaf<'_>>) -> bool
+    ensures { result ≡ agree a.now b.now }
+{
+    match (a, b) {
+        (Some(a), Some(b)) => {
+            let (a, b) = (a.interface, b.interface);
+            a.word.name == b.word.name
+                && a.size.unwrap_or(DEFAULT_SIZE) == b.size.unwrap_or(DEFAULT_SIZE)
+        }
+        _ => true,
+    }
+}
+
+fn count_of(role: Role, ends: &[End]) -> u64
+    ensures { result ≡ count_of role ends.now }
+{
+    ends.iter().filter(|end| end.role == role).count() as u64
+}
+
+fn may_have(connector: Connector, ends: &[End]) -> bool
+    ensures { result ≡ may_have connector ends.now }
+{
+    EndRule::of(connector, Role::From).allows(count_of(Role::From, ends))
+        && EndRule::of(connector, Role::To).allows(count_of(Role::To, ends))
+}
+
+fn first_leaf<'a>(program: &Program<'a>, number: u32, ends: &[End]) -> Option<Leaf<'a>>
+    requires { number ≤ top_number program.now }
+    ensures { result ≡ first_leaf program.now number ends.now }
+{
+    match ends {
+        [] => None,
+        [end, ..] => program.leaf(number, end.words.as_slice()),
+    }
+}
+
+/// Notes the faults of a connection in the body of the number.
+fn note_wire<'a>(program: &Program<'a>, number: u32, wire: &Wire<'a>, first: &mut Earliest<'a>)
+    requires { number ≤ top_number program.now }
+    ensures { first.new ≡ noted first.old (wire_faults program.now number wire.now) }
+{
+    let connector = wire.connector;
+    let connection = wire.connection;
+    let ends = connection.ends.as_slice();
+    let model = first_leaf(program, number, ends);
+    for end in ends {
+        let leaf = program.leaf(number, end.words.as_slice());
+        let word = last_name(end.words.as_slice());
+        let is_right = is_right(EndRule::of(connector, end.role), &leaf);
+        first.note(!is_right, Code::Kind, end.place, word);
+        let agrees = agree(&model, &leaf);
+        first.note(
+            has_one_type(connector) && !agrees,
+            Code::TypeMismatch,
+            end.place,
+            word,
+        );
+    }
+    let name = &connection.id;
+    first.note(
+        !may_have(connector, ends),
+        Code::EndCount,
+        name.place,
+        name.name.as_bytes(),
+    );
+}
+
+fn is_size(size: Option<u64>) -> bool
+    ensures { result ≡ option_map_or is_size size true }
+{
+    match size {
+        None => true,
+        Some(size) => 1 <= size && size <= GREATEST_SIZE,
+    }
+}
+
+/// Notes the sizes that no memory has.
+fn note_sizes<'a>(component: Option<&'a Component>, first: &mut Earliest<'a>)
+    ensures { first.new ≡ noted first.old
+        (option_map_or (λ c. flat_map size_faults c.members) (option_copied component.entry) []) }
+{
+    let Some(component) = component else {
+        return;
+    };
+    for member in component.members.as_slice() {
+        if let Member::Interface(interface) = member {
+            let name = &interface.id;
+            first.note(
+                !is_size(interface.size),
+                Code::TypeMismatch,
+                name.place,
+                name.name.as_bytes(),
+            );
+        }
+    }
+}
+
+/// The first fault of types, if one stands: `specs/TypeFaults.antt`. Takes no memory.
+pub fn type_fault<'a>(program: &Program<'a>) -> Earliest<'a>
+    ensures { result ≡ least (type_faults_in program.now) }
+{
+    noted_is_least();
+    let mut first = Earliest::none();
+    for number in 0..program.top_number() + 1 {
+        let body = program.body(number);
+        for wire in body.wires() {
+            note_wire(program, number, wire, &mut first);
+        }
+        note_sizes(body.component(), &mut first);
+    }
+    first
+}
