@@ -1,7 +1,6 @@
 -- The lists of a flat system, from those that code keeps.
-use Rattle.std.proofs.Common.{◌≡◌, ◌<◌, ◌+◌, ℕ, zero, suc, Bool, true, false, cond, ◌||◌, ◌&&◌, not, List, length, get_or, take, drop, [], ◌∷◌, ◌++◌, map, Option, Some, None, refl, sym, ◌∙◌, ap, arith, append_assoc, inl, inr, nat_eq}
+use Rattle.std.proofs.Common.{◌≡◌, ◌<◌, ◌+◌, ℕ, zero, suc, Bool, true, false, cond, ◌||◌, ◌&&◌, not, List, length, get_or, drop, [], ◌∷◌, ◌++◌, map, Option, Some, None, refl, sym, ◌∙◌, ap, arith, append_assoc, inl, inr, nat_eq}
 use Rattle.std.specs.List.{filter, enumerate_from, slice_get}
-use Rattle.std.proofs.lemmas.List.{length-map, take_more, map-append, length-take-le}
 use Rattle.std.proofs.lemmas.Bool.Decides.{nat_tests}
 use Rattle.adl_meaning.proofs.Noting.{drop_first}
 use Rattle.adl_meaning.specs.declared.flat.Domain.{Domain}
@@ -14,8 +13,6 @@ use Rattle.numbering.specs.Gather.{IsIn}
 use Rattle.adl_meaning.specs.Paths.{Path, Placed, leaves, same_path}
 use Rattle.component_graph.proofs.Lists.{in_get}
 use Rattle.adl_flatten.specs.Homes.{home, home_number, present, is_number, numbered}
-use Rattle.adl_flatten.specs.Placings.{leaf_told, leaves_told}
-use Rattle.adl_flatten.specs.declared.leaves.PlacedLeaf.{PlacedLeaf}
 use Rattle.adl_flatten.proofs.PathLookups.{same_path-true, same_path-sym}
 
 -- ---- one more
@@ -26,25 +23,12 @@ pushed_more f told new old ws i w l e n =
     ap (λ z. z ++ map f (map told (drop (i + 1) ws))) n ∙ append_assoc old (f (told w) ∷ []) (map f (map told (drop (i + 1) ws)))
     ∙ ap (λ z. old ++ map f (map told z)) (sym (drop_first ws i w l e))
 
-pub read_told : {W X Y : Type 0} (f : X → Y) (t : W → X) (ws : List W) (i : ℕ) (w : W) (d : Y) → i < length ws → w ≡ get_or ws i w → get_or (map f (map t ws)) i d ≡ f (t w)
-read_told f t [] i w d l e = absurd (omega arith)
-read_told f t (v ∷ ws) zero w d l e = ap (λ z. f (t z)) (sym e)
-read_told f t (v ∷ ws) (suc i) w d l e = read_told f t ws i w d (omega arith) e
-
 pub read_maps : {W X Y Z : Type 0} (f : Y → Z) (g : X → Y) (t : W → X) (ws : List W) (i : ℕ) (w : W) (d : Z) → i < length ws → w ≡ get_or ws i w → get_or (map f (map g (map t ws))) i d ≡ f (g (t w))
 read_maps f g t [] i w d l e = absurd (omega arith)
 read_maps f g t (v ∷ ws) zero w d l e = ap (λ z. f (g (t z))) (sym e)
 read_maps f g t (v ∷ ws) (suc i) w d l e = read_maps f g t ws i w d (omega arith) e
 
 -- ---- leaves
-
-pub paths_more : (xs : List PlacedLeaf) (i : ℕ) (x : PlacedLeaf) → i < length xs → x ≡ get_or xs i x → map (λ y. y.path) (leaves_told (take (i + 1) xs)) ≡ map (λ y. y.path) (leaves_told (take i xs)) ++ x.path ∷ []
-paths_more xs i x l e =
-    ap (λ z. map (λ (y : Placed). y.path) (leaves_told z)) (take_more xs i x l ∙ ap (λ z. take i xs ++ z ∷ []) (sym e))
-    ∙ ap (map (λ (y : Placed). y.path)) (map-append leaf_told (take i xs) (x ∷ [])) ∙ map-append (λ (y : Placed). y.path) (leaves_told (take i xs)) (leaf_told x ∷ [])
-
-pub length_taken : (xs : List PlacedLeaf) (i : ℕ) → i < length xs → length (map (λ y. y.path) (leaves_told (take i xs))) ≡ i
-length_taken xs i l = length-map (leaves_told (take i xs)) (λ (y : Placed). y.path) ∙ length-map (take i xs) leaf_told ∙ length-take-le i xs (omega arith)
 
 home_number-home : (h : Hierarchy) (x : Placed) → home_number (domains h) (home h x) ≡ cond (is_hardware h x.part) None (Some (domain_number h (domain_of h x.path)))
 home_number-home h x = by_test (is_hardware h x.part)

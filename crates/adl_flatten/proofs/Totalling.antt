@@ -1,7 +1,7 @@
 -- Totals of lists that are put together.
 use Rattle.std.proofs.Common.{◌≡◌, ◌<◌, ◌+◌, ◌-◌, ◌^◌, ℕ, zero, suc, List, length, get_or, take, [], ◌∷◌, ◌++◌, map, refl, sym, ◌∙◌, ap, arith, length-append, min, max, inl, inr, false, cond}
 use Rattle.std.specs.List.{flat_map}
-use Rattle.std.proofs.lemmas.List.{length-map, take_more, append-nil, map-append}
+use Rattle.std.proofs.lemmas.List.{length-map, take_more, append-nil}
 use Rattle.std.proofs.lemmas.List.Concat.{flat_map-append}
 use Rattle.adl_meaning.specs.Hierarchy.{Hierarchy, Wire, Part, is_composite}
 use Rattle.adl_meaning.specs.Joins.{Strung, strung, further}
@@ -112,12 +112,11 @@ totals-own k n e ws nl few el =
 -- ---- one more
 
 -- what comes out of a list of which one more was told
-pub flat_map-told : {W X Y : Type 0} (f : X → List Y) (g : W → X) (xs : List W) (i : ℕ) (x : W) → i < length xs → x ≡ get_or xs i x → flat_map f (map g (take (i + 1) xs)) ≡ flat_map f (map g (take i xs)) ++ f (g x)
-flat_map-told f g xs i x l e =
-    ap (λ z. flat_map f (map g z)) (take_more xs i x l ∙ ap (λ z. take i xs ++ z ∷ []) (sym e))
-    ∙ ap (λ z. flat_map f z) (map-append g (take i xs) (x ∷ []))
-    ∙ flat_map-append f (map g (take i xs)) (g x ∷ [])
-    ∙ ap (λ z. flat_map f (map g (take i xs)) ++ z) (append-nil (f (g x)))
+pub flat_map-taken : {X Y : Type 0} (f : X → List Y) (xs : List X) (i : ℕ) (x : X) → i < length xs → x ≡ get_or xs i x → flat_map f (take (i + 1) xs) ≡ flat_map f (take i xs) ++ f x
+flat_map-taken f xs i x l e =
+    ap (λ z. flat_map f z) (take_more xs i x l ∙ ap (λ z. take i xs ++ z ∷ []) (sym e))
+    ∙ flat_map-append f (take i xs) (x ∷ [])
+    ∙ ap (λ z. flat_map f (take i xs) ++ z) (append-nil (f x))
 
 pub in_at : {X : Type 0} (xs : List X) (i : ℕ) (x : X) → i < length xs → x ≡ get_or xs i x → IsIn x xs
 in_at [] i x l e = absurd (omega arith)

@@ -1,15 +1,24 @@
 -- The domain path of each leaf, and the leaves of each domain by number.
-use Rattle.std.specs.Prelude.{ℕ, ◌==◌, Bool, false, if◌then◌else◌, List, map, Option, None, Some, option_map}
+use Rattle.std.specs.Prelude.{ℕ, ◌==◌, Bool, false, if◌then◌else◌, List, map, Option, None, Some, option_map, unwrap_or}
 use Rattle.std.specs.List.{filter, filter_map, enumerate_from}
 use Rattle.std.specs.Option.{option_map_or}
 use Rattle.adl_meaning.specs.Domains.{domain_of, is_hardware}
 use Rattle.adl_meaning.specs.Hierarchy.{Hierarchy}
 use Rattle.adl_meaning.specs.Lists.{place_by}
 use Rattle.adl_meaning.specs.Paths.{Path, Placed, same_path}
+use Rattle.adl_templates.specs.Templates.{Homed}
 
 -- the domain path of a leaf; a device has none
 abbrev pub home : Hierarchy → Placed → Option Path
 home h x = if is_hardware h x.part then None else Some (domain_of h x.path)
+
+-- the same, of a leaf of the assembly's template
+abbrev pub home_in : Hierarchy → Homed → Option Path
+home_in h l = if is_hardware h l.leaf.part then None else Some (unwrap_or l.home l.leaf.path)
+
+-- leaves without their homes
+abbrev pub placed : Homed → Placed
+placed l = l.leaf
 
 -- the paths that are there
 abbrev pub present : List (Option Path) → List Path

@@ -1,118 +1,99 @@
-//! The connections of a source, in the order of a walk.
+//! The connections of a flat system, and all their ends with what they join.
 
-ghost use Rattle.adl_flatten.specs.Stringings.{all_strung_told, along};
-ghost use Rattle.adl_flatten.specs.Told.{part_told, wires_told};
-ghost use Rattle.adl_flatten.specs.TotalsOf.{AreTotals};
-ghost use Rattle.adl_hierarchy.specs.Finite.{IsFinite};
-ghost use Rattle.adl_meaning.specs.Hierarchy.{top_number};
-ghost use Rattle.adl_meaning.specs.Joins.{strung, strung_by, connections_within, connections};
-ghost use Rattle.std.specs.Prelude.{◌≡◌, ◌≤◌, ◌++◌, map, OnOk, IfOk};
+ghost use Rattle.adl_flatten.specs.Ends.{flat_end_of, flat_connection_of, all_joined};
+ghost use Rattle.std.specs.Prelude.{◌≡◌, ◌<◌, ◌^◌, map, length, IfOk};
 
-use crate::leaves::below;
-use crate::part::{PartTable, WireTable};
-use crate::sums::Totals;
-use crate::table::HierarchyTable;
-use cam_base::{NoMemory, Path};
+use adl_meaning::{FlatConnection, FlatEnd};
+use adl_names::last_name;
+use adl_templates::{PlacedConnection, PlacedEnd};
+use cam_base::{List, NoMemory};
 use std::alloc::Global;
+use std::marker::Model;
 
-/// A connection: the path and the number of the body around it.
+/// An end that joins an interface of a leaf. Contracts see it as the definitions do.
 #[derive(Drop)]
-pub struct StrungWire<'a> {
-    pub path: Path,
-    pub inside: u32,
-    pub wire: WireTable<'a>,
+pub struct JoinedEnd<'a> {
+    /// The number of its connection.
+    pub connection: u32,
+    /// Its last word.
+    pub word: &'a [u8],
+    pub end: FlatEnd,
+    /// Whether one end alone may join the interface.
+    pub once: bool,
 }
 
-/// Adds the connections of a body itself.
-fn push_wires<'a>(
-    alloc: Global,
-    number: u32,
-    wires: &[WireTable<'a>],
-    path: &Path,
-    found: &mut Vec<StrungWire<'a>>,
-) -> Result<(), NoMemory>
-    ensures { OnOk result (all_strung_told found.new.items ≡ all_strung_told found.old.items ++ map (along path.now) (map (strung number) (wires_told wires.now))) }
-{
-    for wire in wires {
-        found.push(StrungWire {
-            path: path.copy(alloc)?,
-            inside: number,
-            wire: *wire,
-        })?;
-    }
-    Ok(())
+impl<'a> Model for JoinedEnd<'a> {
+    ghost use Rattle.adl_meaning.specs.JoinedEnds.{JoinedEnd as JoinedEndOf};
+
+    ghost Value = { JoinedEndOf };
+
+    ghost view = { λ e. record { connection = e.connection; word = e.word.now; end = e.end; once = e.once } };
 }
 
-/// Adds the connections inside an instance. Instances without connections, of which there may be very many, aren't
-/// walked. A connection has an end, and so a leaf, below it, so that the walk goes no deeper than the leaves do.
-#[cycle(walk)]
-fn push_part<'a>(
-    alloc: Global,
-    table: &HierarchyTable<'a>,
-    totals: &[Totals],
-    depth: u32,
-    part: PartTable<'a>,
-    above: &Path,
-    found: &mut Vec<StrungWire<'a>>,
-) -> Result<(), NoMemory>
-    requires finite { IsFinite table.now }
-    requires totals { AreTotals table.now totals.now }
-    requires kind { part.kind ≤ top_number table.now }
-    ensures { OnOk result (all_strung_told found.new.items ≡ all_strung_told found.old.items ++ map (along above.now) (strung_by (connections_within table.now depth) (part_told part.entry))) }
+fn flat_end(end: &PlacedEnd<'_>) -> FlatEnd
+    ensures { result ≡ flat_end_of end.now }
 {
-    if totals[part.kind as usize].connections == 0 {
-        return Ok(());
+    FlatEnd {
+        role: end.end.role,
+        leaf: end.leaf,
+        member: end.member,
+        place: end.end.place,
     }
-    let path = below(alloc, above, &part.instance.id.name)?;
-    push_body(alloc, table, totals, depth, part.kind, &path, found)
 }
 
-#[cycle(walk)]
-fn push_body<'a>(
+fn flat_connection(
     alloc: Global,
-    table: &HierarchyTable<'a>,
-    totals: &[Totals],
-    depth: u32,
-    number: u32,
-    path: &Path,
-    found: &mut Vec<StrungWire<'a>>,
-) -> Result<(), NoMemory>
-    requires finite { IsFinite table.now }
-    requires totals { AreTotals table.now totals.now }
-    requires number { number ≤ top_number table.now }
-    ensures { OnOk result (all_strung_told found.new.items ≡ all_strung_told found.old.items ++ map (along path.now) (connections_within table.now depth number)) }
+    connection: &PlacedConnection<'_>,
+) -> Result<FlatConnection, NoMemory>
+    ensures { IfOk result (λ k. k ≡ flat_connection_of connection.now) }
 {
-    let body = table.body(number);
-    push_wires(alloc, number, body.wires(), path, found)?;
-    if depth == 0 {
-        return Ok(());
+    let id = &connection.connection.id;
+    let mut path = connection.path.copy(alloc)?;
+    path.push(id.name.copy(alloc)?)?;
+    let mut ends = List::new(alloc);
+    for end in connection.ends.as_slice() {
+        ends.push(flat_end(end))?;
     }
-    for part in body.parts() {
-        push_part(alloc, table, totals, depth - 1, *part, path, found)?;
-    }
-    Ok(())
+    Ok(FlatConnection {
+        path,
+        connector: connection.connector,
+        place: id.place,
+        ends,
+    })
 }
 
-/// The connections in order.
-pub fn connections<'a>(
+/// The connections of a flat system.
+pub fn flat_connections(
     alloc: Global,
-    table: &HierarchyTable<'a>,
-    totals: &[Totals],
-) -> Result<Vec<StrungWire<'a>>, NoMemory>
-    requires finite { IsFinite table.now }
-    requires totals { AreTotals table.now totals.now }
-    ensures { IfOk result (λ v. all_strung_told v.items ≡ connections table.now) }
+    connections: &[PlacedConnection<'_>],
+) -> Result<List<FlatConnection>, NoMemory>
+    ensures { IfOk result (λ ks. ks ≡ map flat_connection_of connections.now) }
 {
-    let mut found = Vec::new(alloc);
-    let top = table.top_number();
-    push_body(
-        alloc,
-        table,
-        totals,
-        top,
-        top,
-        &Path::empty(alloc),
-        &mut found,
-    )?;
-    Ok(found)
+    let mut flat = List::new(alloc);
+    for connection in connections {
+        flat.push(flat_connection(alloc, connection)?)?;
+    }
+    Ok(flat)
+}
+
+/// The ends of all connections, each with the number of its connection.
+pub fn joined_ends<'a>(
+    alloc: Global,
+    connections: &[PlacedConnection<'a>],
+) -> Result<Vec<JoinedEnd<'a>>, NoMemory>
+    requires { length connections.now < 2 ^ 32 }
+    ensures { IfOk result (λ v. v.items ≡ all_joined connections.now) }
+{
+    let mut joined = Vec::new(alloc);
+    for (number, connection) in connections.iter().enumerate() {
+        for end in connection.ends.as_slice() {
+            joined.push(JoinedEnd {
+                connection: number as u32,
+                word: last_name(end.end.words.as_slice()),
+                end: flat_end(end),
+                once: end.once,
+            })?;
+        }
+    }
+    Ok(joined)
 }

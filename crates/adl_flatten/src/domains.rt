@@ -1,80 +1,43 @@
 //! The domains of leaves.
 
-ghost use Rattle.adl_flatten.specs.Homes.{home, present, home_number, is_number, numbered};
+ghost use Rattle.adl_flatten.specs.Homes.{home_in, present, home_number, is_number, numbered};
 ghost use Rattle.adl_flatten.specs.PathNumbers.{ArePlaces, is_met};
-ghost use Rattle.adl_flatten.specs.Placings.{leaf_told, leaves_told};
-ghost use Rattle.adl_meaning.specs.Domains.{group_above, domain_of};
-ghost use Rattle.adl_meaning.specs.Hierarchy.{top_number};
 ghost use Rattle.adl_meaning.specs.Lists.{firsts, firsts_after};
 ghost use Rattle.adl_meaning.specs.Paths.{Path as PathOf, same_path};
 ghost use Rattle.std.specs.Prelude.{◌≡◌, ◌<◌, ◌≤◌, ◌+◌, ◌^◌, ◌∷◌, ◌++◌, [], ℕ, List as Seq, map, length, slice_index_or, if◌then◌else◌, IfOk, OnOk};
 
-use crate::leaves::PlacedLeaf;
 use crate::path_table::PathTable;
-use crate::table::HierarchyTable;
-use cam_base::{List, Name, NoMemory, Path};
+use adl_program::Program;
+use adl_templates::PlacedLeaf;
+use cam_base::{List, NoMemory, Path};
 use std::alloc::Global;
-
-/// The path of the outermost group above a path.
-pub fn group_above(
-    alloc: Global,
-    table: &HierarchyTable<'_>,
-    path: &[Name],
-) -> Result<Option<Path>, NoMemory>
-    ensures { IfOk result (λ g. g ≡ group_above table.now (top_number table.now) path.now) }
-{
-    let mut number = table.top_number();
-    let mut above = Path::empty(alloc);
-    for name in path {
-        let Some(part) = table.body(number).part(name) else {
-            return Ok(None);
-        };
-        if let Some(group) = part.group {
-            above.push(group.copy(alloc)?)?;
-            return Ok(Some(above));
-        }
-        above.push(name.copy(alloc)?)?;
-        number = part.kind;
-    }
-    Ok(None)
-}
-
-/// The path of the outermost group above a path, or the path itself.
-fn domain_of(alloc: Global, table: &HierarchyTable<'_>, path: &Path) -> Result<Path, NoMemory>
-    ensures { IfOk result (λ p. p ≡ domain_of table.now path.now) }
-{
-    match group_above(alloc, table, path.names())? {
-        None => path.copy(alloc),
-        Some(group) => Ok(group),
-    }
-}
 
 /// The path of a leaf's domain; a device has none.
 fn home(
     alloc: Global,
-    table: &HierarchyTable<'_>,
+    program: &Program<'_>,
     leaf: &PlacedLeaf<'_>,
 ) -> Result<Option<Path>, NoMemory>
-    ensures { IfOk result (λ o. o ≡ home table.now (leaf_told leaf.now)) }
+    ensures { IfOk result (λ o. o ≡ home_in program.now leaf.now) }
 {
-    if table.body(leaf.part.kind).is_hardware() {
+    if program.body(leaf.kind).is_hardware() {
         return Ok(None);
     }
-    let path = domain_of(alloc, table, &leaf.path)?;
-    Ok(Some(path))
+    let path = leaf.home.as_ref().unwrap_or(&leaf.path);
+    Ok(Some(path.copy(alloc)?))
 }
 
 /// The path of each leaf's domain.
 pub fn homes(
     alloc: Global,
-    table: &HierarchyTable<'_>,
+    program: &Program<'_>,
     leaves: &[PlacedLeaf<'_>],
 ) -> Result<Vec<Option<Path>>, NoMemory>
-    ensures { IfOk result (λ v. v.items ≡ map (home table.now) (leaves_told leaves.now)) }
+    ensures { IfOk result (λ v. v.items ≡ map (home_in program.now) leaves.now) }
 {
     let mut homes = Vec::new(alloc);
     for leaf in leaves {
-        homes.push(home(alloc, table, leaf)?)?;
+        homes.push(home(alloc, program, leaf)?)?;
     }
     Ok(homes)
 }
@@ -90,7 +53,9 @@ fn add_path(alloc: Global, path: &Path, found: &mut DomainPaths) -> Result<(), N
     requires few { length found.old.paths.items < 2 ^ 32 }
     requires places { ArePlaces found.old.numbers found.old.paths.items }
     ensures places { OnOk result (ArePlaces found.new.numbers found.new.paths.items) }
-    ensures paths { OnOk result ((ps : Seq PathOf) → found.new.paths.items ++ firsts_after same_path (is_met found.new.paths.items) ps ≡ found.old.paths.items ++ firsts_after same_path (is_met found.old.paths.items) (path.now ∷ ps)) }
+    ensures paths { OnOk result ((ps : Seq PathOf) → found.new.paths.items
+        ++ firsts_after same_path (is_met found.new.paths.items) ps
+        ≡ found.old.paths.items ++ firsts_after same_path (is_met found.old.paths.items) (path.now ∷ ps)) }
     ensures more { OnOk result (length found.new.paths.items ≤ length found.old.paths.items + 1) }
 {
     if found.numbers.number(path.copy(alloc)?).is_none() {
@@ -105,7 +70,9 @@ fn add_home(alloc: Global, home: &Option<Path>, found: &mut DomainPaths) -> Resu
     requires few { length found.old.paths.items < 2 ^ 32 }
     requires places { ArePlaces found.old.numbers found.old.paths.items }
     ensures places { OnOk result (ArePlaces found.new.numbers found.new.paths.items) }
-    ensures paths { OnOk result ((ps : Seq PathOf) → found.new.paths.items ++ firsts_after same_path (is_met found.new.paths.items) ps ≡ found.old.paths.items ++ firsts_after same_path (is_met found.old.paths.items) (present (home.now ∷ []) ++ ps)) }
+    ensures paths { OnOk result ((ps : Seq PathOf) → found.new.paths.items
+        ++ firsts_after same_path (is_met found.new.paths.items) ps
+        ≡ found.old.paths.items ++ firsts_after same_path (is_met found.old.paths.items) (present (home.now ∷ []) ++ ps)) }
     ensures more { OnOk result (length found.new.paths.items ≤ length found.old.paths.items + 1) }
 {
     match home {
@@ -181,7 +148,9 @@ fn no_leaves(alloc: Global, count: usize) -> Result<Vec<List<u32>>, NoMemory>
 
 fn push_leaf(domain: Option<u32>, leaf: u32, leaves: &mut Vec<List<u32>>) -> Result<(), NoMemory>
     ensures length_is { OnOk result (length leaves.new.items ≡ length leaves.old.items) }
-    ensures pushed { OnOk result ((d : ℕ) → d < length leaves.old.items → slice_index_or leaves.new.items d [] ≡ slice_index_or leaves.old.items d [] ++ (if is_number d domain then leaf ∷ [] else [])) }
+    ensures pushed { OnOk result ((d : ℕ) → d < length leaves.old.items
+        → slice_index_or leaves.new.items d [] ≡ slice_index_or leaves.old.items d []
+        ++ (if is_number d domain then leaf ∷ [] else [])) }
 {
     if let Some(number) = domain {
         let number = number as usize;

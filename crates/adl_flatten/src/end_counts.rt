@@ -1,13 +1,12 @@
 //! How many ends join each interface.
 
 ghost use Rattle.adl_flatten.specs.EndCounts.{same_key, is_counted, count_at, AreCounts};
-ghost use Rattle.adl_flatten.specs.JoinsTold.{joined_end_told, all_joined_told};
 ghost use Rattle.adl_meaning.specs.JoinedEnds.{is_at};
 ghost use Rattle.adl_meaning.specs.UsedTwice.{clashes};
 ghost use Rattle.std.specs.List.{list_any, count_by};
 ghost use Rattle.std.specs.Prelude.{◌≡◌, ◌<◌, ◌+◌, ◌^◌, if◌then◌else◌, IfOk, OnOk};
 
-use crate::joins::JoinedEnd;
+use crate::connections::JoinedEnd;
 use cam_base::NoMemory;
 use indexmap::IndexMap;
 use std::alloc::Global;
@@ -56,7 +55,8 @@ impl EndCounts {
     /// Counts an end among those of its connection, and among all.
     fn add(&mut self, end: &JoinedEnd<'_>) -> Result<(), NoMemory>
         requires few { (k : EndKey) → count_at self.old k + 1 < 2 ^ 64 }
-        ensures { OnOk result ((k : EndKey) → count_at self.new k ≡ count_at self.old k + (if is_counted k (joined_end_told end.now) then 1 else 0)) }
+        ensures { OnOk result ((k : EndKey) → count_at self.new k
+            ≡ count_at self.old k + (if is_counted k end.now then 1 else 0)) }
     {
         let all = EndKey {
             connection: None,
@@ -73,7 +73,7 @@ impl EndCounts {
 }
 
 fn counts_of(alloc: Global, ends: &[JoinedEnd<'_>]) -> Result<EndCounts, NoMemory>
-    ensures { IfOk result (λ t. AreCounts t (all_joined_told ends.now)) }
+    ensures { IfOk result (λ t. AreCounts t ends.now) }
 {
     let mut counts = EndCounts::new(alloc);
     for end in ends {
@@ -96,17 +96,16 @@ impl<'t, 'a> Model for CountedEnds<'t, 'a> {
     ghost Value = { List JoinedEnd };
 
     ghost use Rattle.adl_flatten.specs.EndCounts.{AreCounts};
-    ghost use Rattle.adl_flatten.specs.JoinsTold.{all_joined_told};
 
-    ghost view = { λ t. all_joined_told t.ends.now };
+    ghost view = { λ t. t.ends.now };
 
-    ghost invariant = { λ t. AreCounts t.counts (all_joined_told t.ends.now) };
+    ghost invariant = { λ t. AreCounts t.counts t.ends.now };
 }
 
 impl<'t, 'a> CountedEnds<'t, 'a> {
     /// Counts the ends.
     pub fn new(alloc: Global, ends: &'t [JoinedEnd<'a>]) -> Result<CountedEnds<'t, 'a>, NoMemory>
-        ensures { IfOk result (λ t. t ≡ all_joined_told ends.entry.now) }
+        ensures { IfOk result (λ t. t ≡ ends.entry.now) }
     {
         let counts = counts_of(alloc, ends)?;
         Ok(CountedEnds { ends, counts })
@@ -114,14 +113,14 @@ impl<'t, 'a> CountedEnds<'t, 'a> {
 
     /// The ends, in order.
     pub fn as_slice(&self) -> &[JoinedEnd<'a>]
-        ensures { all_joined_told result.now ≡ self.now }
+        ensures { result.now ≡ self.now }
     {
         self.ends
     }
 
     /// The number of ends that keep this one from joining its interface; an end among them finds itself.
     pub fn clash_count(&self, end: &JoinedEnd<'_>) -> usize
-        ensures { result ≡ count_by (clashes (joined_end_told end.now)) self.now }
+        ensures { result ≡ count_by (clashes end.now) self.now }
     {
         let connection = if end.once { None } else { Some(end.connection) };
         self.counts.at(EndKey {

@@ -1,160 +1,114 @@
 //! The faults of joins.
 
-ghost use Rattle.adl_flatten.specs.JoinsTold.{joined_end_told, all_joined_told};
-ghost use Rattle.adl_flatten.specs.Placings.{leaf_told, leaves_told};
-ghost use Rattle.adl_flatten.specs.Stringings.{strung_told, all_strung_told};
-ghost use Rattle.adl_meaning.specs.Faults.{noted, at_word, where_true};
-ghost use Rattle.adl_meaning.specs.Flat.{flat_connection, flattened};
+ghost use Rattle.adl_flatten.specs.TemplateFaults.{domain_in, all_in, in_one, misplaced_leaf, misplaced_call, unjoined_leaf};
+ghost use Rattle.adl_flatten.specs.Ends.{flat_end_of};
+ghost use Rattle.adl_meaning.specs.Faults.{noted, least};
+ghost use Rattle.adl_meaning.specs.Flat.{flattened};
+ghost use Rattle.adl_meaning.specs.Hierarchy.{body, top_number};
 ghost use Rattle.adl_meaning.specs.JoinFaults.{join_faults_in};
-ghost use Rattle.adl_meaning.specs.JoinedEnds.{joined_ends};
-ghost use Rattle.adl_meaning.specs.Joins.{connections};
-ghost use Rattle.adl_meaning.specs.Paths.{leaves as leaves_of};
-ghost use Rattle.adl_meaning.specs.Placement.{misplaced_device, same_domain, is_direct, in_one_domain, parted_call, misplaced_in};
-ghost use Rattle.adl_meaning.specs.Unconnected.{unjoined_at, unconnected_in};
-ghost use Rattle.adl_meaning.specs.UsedTwice.{used_twice, used_twice_in};
-ghost use Rattle.adl_meaning.specs.declared.flat.Flat.{Flat as FlatOf};
-ghost use Rattle.adl_flatten.specs.FaultsTold.{domain_in, all_in, unjoined_needed};
-ghost use Rattle.adl_flatten.specs.Needed.{needed_told};
-ghost use Rattle.cam_base.specs.declared.code.Code.TheVariants as code;
+ghost use Rattle.adl_meaning.specs.Placement.{is_direct, same_domain};
+ghost use Rattle.adl_meaning.specs.Unconnected.{may_stay, unjoined_member};
+ghost use Rattle.adl_meaning.specs.UsedTwice.{used_twice};
+ghost use Rattle.adl_templates.specs.AreTemplates.{IsTemplate};
 ghost use Rattle.std.specs.List.{flat_map, enumerate_from};
-ghost use Rattle.std.specs.Prelude.{◌≡◌, ◌<◌, ◌^◌, ◌&&◌, not, map, length, OnOk};
+ghost use Rattle.std.specs.Option.{option_map_or};
+ghost use Rattle.std.specs.Prelude.{◌≡◌, ◌<◌, ◌^◌, ℕ, map, length, IfOk};
 
-use crate::connections::StrungWire;
-use crate::domains::group_above;
+use crate::connections::joined_ends;
 use crate::end_counts::CountedEnds;
-use crate::joins::JoinedEnd;
-use crate::leaves::PlacedLeaf;
-use crate::part::NeededMember;
-use crate::table::HierarchyTable;
-use adl_meaning::{Connector, First, FlatConnection, FlatEnd, Leaf};
+use adl_ast::{Interface, InterfaceKind, Member};
+use adl_meaning::{Connector, Earliest, Leaf};
+use adl_program::Program;
+use adl_templates::{PlacedConnection, PlacedEnd, PlacedLeaf, Template};
 use cam_base::{Code, NoMemory};
 use std::alloc::Global;
 
-/// Notes an end whose interface it may not join beside another.
-fn note_used_twice(
-    alloc: Global,
-    ends: &CountedEnds<'_, '_>,
-    end: &JoinedEnd<'_>,
-    first: &mut First,
-) -> Result<(), NoMemory>
-    ensures { OnOk result (first.new ≡ noted first.old (used_twice ends.now (joined_end_told end.now))) }
+/// Notes the ends whose interfaces they may not join beside others.
+fn note_used_twice<'a>(ends: &CountedEnds<'_, 'a>, first: &mut Earliest<'a>)
+    ensures { first.new ≡ noted first.old (flat_map (used_twice ends.now) ends.now) }
 {
-    if ends.clash_count(end) >= 2 {
-        first.note(alloc, Code::UsedTwice, end.end.place, end.word)?;
+    for end in ends.as_slice() {
+        let is_clash = ends.clash_count(end) >= 2;
+        first.note(is_clash, Code::UsedTwice, end.end.place, end.word);
     }
-    Ok(())
 }
 
-fn note_all_used_twice(
-    alloc: Global,
-    ends: &CountedEnds<'_, '_>,
-    first: &mut First,
-) -> Result<(), NoMemory>
-    ensures { OnOk result (first.new ≡ noted first.old (flat_map (used_twice ends.now) ends.now)) }
+fn may_stay(interface: &Interface) -> bool
+    ensures { result ≡ may_stay interface.now }
 {
-    let all = ends.as_slice();
-    for end in all {
-        note_used_twice(alloc, ends, end, first)?;
+    match interface.kind {
+        InterfaceKind::Uses => interface.maybe,
+        _ => true,
     }
-    Ok(())
 }
 
-fn note_needed(
-    alloc: Global,
+/// Notes the interfaces of the leaf of the number that no end joins, of those that may not stay without one.
+fn note_unjoined<'a>(
     ends: &CountedEnds<'_, '_>,
     leaf: u32,
-    needed: NeededMember<'_>,
-    first: &mut First,
-) -> Result<(), NoMemory>
-    ensures { OnOk result (first.new ≡ noted first.old (unjoined_needed ends.now leaf (needed.entry.member, needed.entry.id.now))) }
+    members: &'a [Member],
+    first: &mut Earliest<'a>,
+)
+    requires { length members.now < 2 ^ 32 }
+    ensures { first.new ≡ noted first.old (flat_map (unjoined_member ends.now leaf) (enumerate_from 0 members.entry.now)) }
 {
-    if !ends.is_joined(leaf, needed.member) {
-        let id = needed.id;
-        first.note(alloc, Code::Unconnected, id.place, id.name.as_bytes())?;
+    for (place, member) in members.iter().enumerate() {
+        if let Member::Interface(interface) = member {
+            let is_joined = may_stay(interface) || ends.is_joined(leaf, place as u32);
+            let id = &interface.id;
+            let name = id.name.as_bytes();
+            first.note(!is_joined, Code::Unconnected, id.place, name);
+        }
     }
-    Ok(())
 }
 
-fn note_all_needed(
-    alloc: Global,
-    ends: &CountedEnds<'_, '_>,
-    leaf: u32,
-    needed: &[NeededMember<'_>],
-    first: &mut First,
-) -> Result<(), NoMemory>
-    ensures { OnOk result (first.new ≡ noted first.old (flat_map (unjoined_needed ends.now leaf) (needed_told needed.now))) }
-{
-    for one in needed {
-        note_needed(alloc, ends, leaf, *one, first)?;
-    }
-    Ok(())
-}
-
-fn note_unjoined(
-    alloc: Global,
-    table: &HierarchyTable<'_>,
+/// Notes the interfaces of a leaf, by its number, that no end joins, of those that may not stay without one.
+fn note_leaf<'a>(
+    program: &Program<'a>,
     ends: &CountedEnds<'_, '_>,
     number: u32,
-    leaf: &PlacedLeaf<'_>,
-    first: &mut First,
-) -> Result<(), NoMemory>
-    ensures { OnOk result (first.new ≡ noted first.old (unjoined_at table.now ends.now (number, leaf_told leaf.now))) }
+    leaf: &PlacedLeaf<'a>,
+    first: &mut Earliest<'a>,
+)
+    requires { (k : ℕ) → option_map_or (λ c. length c.members) (body program.now k).component 0 < 2 ^ 32 }
+    ensures { first.new ≡ noted first.old (unjoined_leaf program.now ends.now (number, leaf.now)) }
 {
-    let needed = table.body(leaf.part.kind).needed();
-    note_all_needed(alloc, ends, number, needed, first)
+    if let Some(component) = program.body(leaf.kind).component() {
+        note_unjoined(ends, number, component.members.as_slice(), first);
+    }
 }
 
-fn note_all_unjoined(
-    alloc: Global,
-    table: &HierarchyTable<'_>,
+/// Notes the interfaces of leaves that no end joins, of those that may not stay without one.
+fn note_all_unjoined<'a>(
+    program: &Program<'a>,
     ends: &CountedEnds<'_, '_>,
-    placed: &[PlacedLeaf<'_>],
-    first: &mut First,
-) -> Result<(), NoMemory>
-    requires { length placed.now < 2 ^ 32 }
-    ensures { OnOk result (first.new ≡ noted first.old (flat_map (unjoined_at table.now ends.now) (enumerate_from 0 (leaves_told placed.now)))) }
+    leaves: &[PlacedLeaf<'a>],
+    first: &mut Earliest<'a>,
+)
+    requires leaves { length leaves.now < 2 ^ 32 }
+    requires members { (k : ℕ) → option_map_or (λ c. length c.members) (body program.now k).component 0 < 2 ^ 32 }
+    ensures { first.new ≡ noted first.old (flat_map (unjoined_leaf program.now ends.now) (enumerate_from 0 leaves.now)) }
 {
-    for (number, leaf) in placed.iter().enumerate() {
-        note_unjoined(alloc, table, ends, number as u32, leaf, first)?;
+    for (number, leaf) in leaves.iter().enumerate() {
+        note_leaf(program, ends, number as u32, leaf, first);
     }
-    Ok(())
 }
 
-/// Notes a device below a group.
-fn note_device(
-    alloc: Global,
-    table: &HierarchyTable<'_>,
-    leaf: &PlacedLeaf<'_>,
-    first: &mut First,
-) -> Result<(), NoMemory>
-    ensures { OnOk result (first.new ≡ noted first.old (misplaced_device table.now (leaf_told leaf.now))) }
+/// Notes the devices below a group.
+fn note_devices<'a>(program: &Program<'_>, leaves: &[PlacedLeaf<'a>], first: &mut Earliest<'a>)
+    ensures { first.new ≡ noted first.old (flat_map (misplaced_leaf program.now) leaves.now) }
 {
-    let grouped = group_above(alloc, table, leaf.path.names())?.is_some();
-    if table.body(leaf.part.kind).is_hardware() && grouped {
-        let id = &leaf.part.instance.id;
-        first.note(alloc, Code::Placement, id.place, id.name.as_bytes())?;
+    for leaf in leaves {
+        let is_misplaced = program.body(leaf.kind).is_hardware() && leaf.home.is_some();
+        let id = &leaf.instance.id;
+        first.note(is_misplaced, Code::Placement, id.place, id.name.as_bytes());
     }
-    Ok(())
 }
 
-fn note_devices(
-    alloc: Global,
-    table: &HierarchyTable<'_>,
-    placed: &[PlacedLeaf<'_>],
-    first: &mut First,
-) -> Result<(), NoMemory>
-    ensures { OnOk result (first.new ≡ noted first.old (flat_map (misplaced_device table.now) (leaves_told placed.now))) }
+fn domain_in(leaves: &[Leaf], end: &PlacedEnd<'_>) -> Option<u32>
+    ensures { result ≡ domain_in leaves.now (flat_end_of end.now) }
 {
-    for leaf in placed {
-        note_device(alloc, table, leaf, first)?;
-    }
-    Ok(())
-}
-
-fn domain_in(all: &[Leaf], end: &FlatEnd) -> Option<u32>
-    ensures { result ≡ domain_in all.now end.now }
-{
-    match all.get(end.leaf as usize) {
+    match leaves.get(end.leaf as usize) {
         None => None,
         Some(leaf) => leaf.domain,
     }
@@ -171,23 +125,23 @@ fn same_domain(a: Option<u32>, b: Option<u32>) -> bool
 }
 
 /// Whether all ends are in this domain.
-fn all_in(all: &[Leaf], ends: &[FlatEnd], domain: Option<u32>) -> bool
-    ensures { result ≡ all_in all.now domain ends.now }
+fn all_in(leaves: &[Leaf], ends: &[PlacedEnd<'_>], domain: Option<u32>) -> bool
+    ensures { result ≡ all_in leaves.now domain (map flat_end_of ends.now) }
 {
     for end in ends {
-        if !same_domain(domain_in(all, end), domain) {
+        if !same_domain(domain_in(leaves, end), domain) {
             return false;
         }
     }
     true
 }
 
-fn in_one_domain(all: &[Leaf], ends: &[FlatEnd]) -> bool
-    ensures { (f : FlatOf) → f.leaves ≡ all.now → result ≡ in_one_domain f ends.now }
+fn in_one_domain(leaves: &[Leaf], ends: &[PlacedEnd<'_>]) -> bool
+    ensures { result ≡ in_one leaves.now (map flat_end_of ends.now) }
 {
     match ends {
         [] => true,
-        [first, ..] => all_in(all, ends, domain_in(all, first)),
+        [first, ..] => all_in(leaves, ends, domain_in(leaves, first)),
     }
 }
 
@@ -196,82 +150,44 @@ fn is_direct(connector: Connector) -> bool
 {
     match connector {
         Connector::Direct => true,
-        Connector::Rpc => false,
-        Connector::Notification => false,
-        Connector::SharedMemory => false,
-        Connector::Mmio => false,
-        Connector::Interrupt => false,
+        _ => false,
     }
 }
 
-/// Notes a connection of direct calls whose ends aren't all in one domain.
-fn note_call(
-    alloc: Global,
-    all: &[Leaf],
-    strung: &StrungWire<'_>,
-    connection: &FlatConnection,
-    first: &mut First,
-) -> Result<(), NoMemory>
-    ensures { OnOk result ((f : FlatOf) → f.leaves ≡ all.now → first.new ≡ noted first.old (where_true (is_direct strung.now.wire.connector && not (in_one_domain f connection.now.ends)) (at_word code.Placement strung.now.wire.connection.now.id))) }
+/// Notes the connections of direct calls whose ends aren't all in one domain.
+fn note_calls<'a>(leaves: &[Leaf], connections: &[PlacedConnection<'a>], first: &mut Earliest<'a>)
+    ensures { first.new ≡ noted first.old (flat_map (misplaced_call leaves.now) connections.now) }
 {
-    let one = in_one_domain(all, connection.ends.as_slice());
-    if is_direct(strung.wire.connector) && !one {
-        let id = &strung.wire.connection.id;
-        first.note(alloc, Code::Placement, id.place, id.name.as_bytes())?;
+    for connection in connections {
+        let is_one = in_one_domain(leaves, connection.ends.as_slice());
+        let is_parted = is_direct(connection.connector) && !is_one;
+        let id = &connection.connection.id;
+        first.note(is_parted, Code::Placement, id.place, id.name.as_bytes());
     }
-    Ok(())
 }
 
-/// Notes the connections of direct calls between domains.
-fn note_calls(
+/// The first fault of joins, from the template of the assembly.
+pub fn join_fault<'a>(
     alloc: Global,
-    table: &HierarchyTable<'_>,
-    all: &[Leaf],
-    strung: &[StrungWire<'_>],
-    flat: &[FlatConnection],
-    first: &mut First,
-) -> Result<(), NoMemory>
-    requires leaves { all.now ≡ (flattened table.now).leaves }
-    requires flat { flat.now ≡ map (flat_connection table.now) (all_strung_told strung.now) }
-    ensures { OnOk result (first.new ≡ noted first.old (flat_map (parted_call table.now (flattened table.now)) (all_strung_told strung.now))) }
-{
-    let _table = table;
-    for (i, one) in strung.iter().enumerate() {
-        note_call(alloc, all, one, &flat[i], first)?;
-    }
-    Ok(())
-}
-
-/// A hierarchy with what it is walked to.
-#[derive(Clone, Copy)]
-pub struct Walked<'t, 'a> {
-    pub table: &'t HierarchyTable<'a>,
-    pub placed: &'t [PlacedLeaf<'a>],
-    pub strung: &'t [StrungWire<'a>],
-}
-
-/// Notes the faults of joins.
-pub fn note_joins(
-    alloc: Global,
-    walked: Walked<'_, '_>,
+    program: &Program<'a>,
+    template: &Template<'a>,
     leaves: &[Leaf],
-    flat: &[FlatConnection],
-    ends: &[JoinedEnd<'_>],
-    first: &mut First,
-) -> Result<(), NoMemory>
-    requires few { length walked.placed.now < 2 ^ 32 }
-    requires placed { leaves_told walked.placed.now ≡ leaves_of walked.table.now }
-    requires strung { all_strung_told walked.strung.now ≡ connections walked.table.now }
-    requires leaves { leaves.now ≡ (flattened walked.table.now).leaves }
-    requires flat { flat.now ≡ (flattened walked.table.now).connections }
-    requires ends { all_joined_told ends.now ≡ joined_ends walked.table.now }
-    ensures { OnOk result (first.new ≡ noted first.old (join_faults_in walked.entry.table.now)) }
+) -> Result<Earliest<'a>, NoMemory>
+    requires few { length template.now.leaves.items < 2 ^ 32 }
+    requires few_connections { length template.now.connections.items < 2 ^ 32 }
+    requires members { (k : ℕ) → option_map_or (λ c. length c.members) (body program.now k).component 0 < 2 ^ 32 }
+    requires template { IsTemplate program.now (top_number program.now) template.now }
+    requires leaves { leaves.now ≡ (flattened program.now).leaves }
+    ensures { IfOk result (λ f. f ≡ least (join_faults_in program.now)) }
 {
-    let table = walked.table;
-    let counted = CountedEnds::new(alloc, ends)?;
-    note_all_used_twice(alloc, &counted, first)?;
-    note_all_unjoined(alloc, table, &counted, walked.placed, first)?;
-    note_devices(alloc, table, walked.placed, first)?;
-    note_calls(alloc, table, leaves, walked.strung, flat, first)?;
-    Ok(())
+    let placed = template.leaves.as_slice();
+    let connections = template.connections.as_slice();
+    let joined = joined_ends(alloc, connections)?;
+    let ends = CountedEnds::new(alloc, joined.as_slice())?;
+    let mut first = Earliest::none();
+    note_used_twice(&ends, &mut first);
+    note_all_unjoined(program, &ends, placed, &mut first);
+    note_devices(program, placed, &mut first);
+    note_calls(leaves, connections, &mut first);
+    Ok(first)
 }

@@ -1,110 +1,110 @@
-//! The leaves of a source, in the order of a walk.
+//! The leaves and the domains of a flat system.
 
-ghost use Rattle.adl_flatten.specs.Placings.{leaves_told, under};
-ghost use Rattle.adl_flatten.specs.Told.{part_told};
-ghost use Rattle.adl_flatten.specs.TotalsOf.{AreTotals};
-ghost use Rattle.adl_hierarchy.specs.Finite.{IsFinite};
+ghost use Rattle.adl_flatten.specs.Homes.{home, home_number, placed};
+ghost use Rattle.adl_meaning.specs.Domains.{domains, is_hardware};
+ghost use Rattle.adl_meaning.specs.Flat.{item_of, leaf_of, flattened};
 ghost use Rattle.adl_meaning.specs.Hierarchy.{top_number};
-ghost use Rattle.adl_meaning.specs.Paths.{leaves_within, placed_by, leaves};
-ghost use Rattle.adl_meaning.specs.SizeFaults.{depth};
-ghost use Rattle.std.specs.Prelude.{◌≡◌, ◌≤◌, ◌++◌, ◌∷◌, [], map, OnOk, IfOk};
+ghost use Rattle.adl_templates.specs.Templates.{template_leaves};
+ghost use Rattle.std.specs.List.{enumerate_from};
+ghost use Rattle.std.specs.Prelude.{◌≡◌, ◌<◌, ◌^◌, [], map, length, slice_index_or, IfOk};
 
-use crate::limits::DEPTH;
-use crate::part::PartTable;
-use crate::sums::Totals;
-use crate::table::HierarchyTable;
-use cam_base::{Name, NoMemory, Path};
+use crate::domains::{domain_leaves, domain_paths, home_numbers, homes};
+use adl_meaning::{Domain, ItemAt, Leaf};
+use adl_program::Program;
+use adl_templates::PlacedLeaf;
+use cam_base::{List, NoMemory, Path};
 use std::alloc::Global;
 
-/// A leaf: its path and its instance.
+/// A leaf with the number of its domain.
+fn flat_leaf(
+    alloc: Global,
+    program: &Program<'_>,
+    leaf: &PlacedLeaf<'_>,
+    domain: Option<u32>,
+) -> Result<Leaf, NoMemory>
+    ensures { IfOk result (λ l. l ≡ record {
+      path = leaf.now.leaf.path;
+      component = item_of program.now leaf.now.leaf.part;
+      place = leaf.now.leaf.part.instance.component.place;
+      hardware = is_hardware program.now leaf.now.leaf.part;
+      domain = domain;
+    }) }
+{
+    let body = program.body(leaf.kind);
+    let nowhere = ItemAt { file: 0, item: 0 };
+    Ok(Leaf {
+        path: leaf.path.copy(alloc)?,
+        component: body.item().unwrap_or(nowhere),
+        place: leaf.instance.component.place,
+        hardware: body.is_hardware(),
+        domain,
+    })
+}
+
+/// The leaves, where each one's domain has the number at its place.
+fn flat_leaves(
+    alloc: Global,
+    program: &Program<'_>,
+    leaves: &[PlacedLeaf<'_>],
+    numbers: &[Option<u32>],
+) -> Result<List<Leaf>, NoMemory>
+    requires { numbers.now ≡ map (home_number (domains program.now)) (map (home program.now) (map placed leaves.now)) }
+    ensures { IfOk result (λ ls. ls ≡ map (leaf_of program.now) (map placed leaves.now)) }
+{
+    let mut flat = List::new(alloc);
+    for (i, leaf) in leaves.iter().enumerate() {
+        flat.push(flat_leaf(alloc, program, leaf, numbers[i])?)?;
+    }
+    Ok(flat)
+}
+
+/// The domains, by their paths and their leaves.
+fn flat_domains(
+    alloc: Global,
+    paths: &[Path],
+    leaves: &[List<u32>],
+) -> Result<List<Domain>, NoMemory>
+    requires { length leaves.now ≡ length paths.now }
+    ensures { IfOk result (λ ds. ds ≡ map (λ x. record {
+      path = x.1;
+      leaves = slice_index_or leaves.now x.0 [];
+    }) (enumerate_from 0 paths.now)) }
+{
+    let mut flat = List::new(alloc);
+    for (i, path) in paths.iter().enumerate() {
+        let leaves = List::from_slice(alloc, leaves[i].as_slice())?;
+        flat.push(Domain {
+            path: path.copy(alloc)?,
+            leaves,
+        })?;
+    }
+    Ok(flat)
+}
+
+/// The leaves and the domains of a flat system.
 #[derive(Drop)]
-pub struct PlacedLeaf<'a> {
-    pub path: Path,
-    pub part: PartTable<'a>,
+pub struct Places {
+    pub leaves: List<Leaf>,
+    pub domains: List<Domain>,
 }
 
-/// The path with one more name.
-pub fn below(alloc: Global, path: &Path, name: &Name) -> Result<Path, NoMemory>
-    ensures { IfOk result (λ p. p ≡ path.now ++ name.now ∷ []) }
-{
-    let mut inner = path.copy(alloc)?;
-    inner.push(name.copy(alloc)?)?;
-    Ok(inner)
-}
-
-/// Adds the leaves that an instance stands for, at paths of at most `depth` names more. Composites without leaves, of
-/// which there may be very many, aren't walked.
-#[cycle(walk)]
-fn push_part<'a>(
+/// The leaves and the domains of a flat system.
+pub fn all_places(
     alloc: Global,
-    table: &HierarchyTable<'a>,
-    totals: &[Totals],
-    depth: u64,
-    part: PartTable<'a>,
-    above: &Path,
-    leaves: &mut Vec<PlacedLeaf<'a>>,
-) -> Result<(), NoMemory>
-    requires finite { IsFinite table.now }
-    requires totals { AreTotals table.now totals.now }
-    requires kind { part.kind ≤ top_number table.now }
-    ensures { OnOk result (leaves_told leaves.new.items ≡ leaves_told leaves.old.items ++ map (under above.now) (placed_by table.now (leaves_within table.now depth) (part_told part.entry))) }
+    program: &Program<'_>,
+    leaves: &[PlacedLeaf<'_>],
+) -> Result<Places, NoMemory>
+    requires few { length leaves.now < 2 ^ 32 }
+    requires leaves { leaves.now ≡ template_leaves program.now (top_number program.now) }
+    ensures leaves { IfOk result (λ p. p.leaves ≡ (flattened program.now).leaves) }
+    ensures domains { IfOk result (λ p. p.domains ≡ (flattened program.now).domains) }
 {
-    if !table.body(part.kind).is_composite() {
-        let path = below(alloc, above, &part.instance.id.name)?;
-        leaves.push(PlacedLeaf { path, part })?;
-        return Ok(());
-    }
-    if totals[part.kind as usize].leaves == 0 {
-        return Ok(());
-    }
-    let path = below(alloc, above, &part.instance.id.name)?;
-    push_body(alloc, table, totals, depth, part.kind, &path, leaves)
-}
-
-#[cycle(walk)]
-fn push_body<'a>(
-    alloc: Global,
-    table: &HierarchyTable<'a>,
-    totals: &[Totals],
-    depth: u64,
-    number: u32,
-    above: &Path,
-    leaves: &mut Vec<PlacedLeaf<'a>>,
-) -> Result<(), NoMemory>
-    requires finite { IsFinite table.now }
-    requires totals { AreTotals table.now totals.now }
-    requires number { number ≤ top_number table.now }
-    ensures { OnOk result (leaves_told leaves.new.items ≡ leaves_told leaves.old.items ++ map (under above.now) (leaves_within table.now depth number)) }
-{
-    if depth == 0 {
-        return Ok(());
-    }
-    for part in table.body(number).parts() {
-        push_part(alloc, table, totals, depth - 1, *part, above, leaves)?;
-    }
-    Ok(())
-}
-
-/// The leaves in order, where none is too deep.
-pub fn leaves<'a>(
-    alloc: Global,
-    table: &HierarchyTable<'a>,
-    totals: &[Totals],
-) -> Result<Vec<PlacedLeaf<'a>>, NoMemory>
-    requires finite { IsFinite table.now }
-    requires totals { AreTotals table.now totals.now }
-    requires shallow { depth table.now ≤ 16 }
-    ensures { IfOk result (λ v. leaves_told v.items ≡ leaves table.now) }
-{
-    let mut leaves = Vec::new(alloc);
-    push_body(
-        alloc,
-        table,
-        totals,
-        DEPTH,
-        table.top_number(),
-        &Path::empty(alloc),
-        &mut leaves,
-    )?;
-    Ok(leaves)
+    let homes = homes(alloc, program, leaves)?;
+    let found = domain_paths(alloc, homes.as_slice())?;
+    let numbers = home_numbers(alloc, &found, homes.as_slice())?;
+    let inside = domain_leaves(alloc, found.paths.len(), numbers.as_slice())?;
+    Ok(Places {
+        leaves: flat_leaves(alloc, program, leaves, numbers.as_slice())?,
+        domains: flat_domains(alloc, found.paths.as_slice(), inside.as_slice())?,
+    })
 }

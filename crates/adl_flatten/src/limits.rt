@@ -1,65 +1,74 @@
 //! The limits of a hierarchy.
 
 ghost use Rattle.adl_flatten.specs.TotalsOf.{totals_in};
-ghost use Rattle.adl_meaning.specs.Faults.{noted, where_true};
-ghost use Rattle.adl_meaning.specs.Hierarchy.{Hierarchy, top_number};
-ghost use Rattle.adl_meaning.specs.SizeFaults.{limits_passed};
+ghost use Rattle.adl_meaning.specs.Faults.{noted, Refuses};
+ghost use Rattle.adl_meaning.specs.Hierarchy.{Hierarchy, hierarchy_of, top_number};
+ghost use Rattle.adl_meaning.specs.Items.{AreFew, as_assembly};
+ghost use Rattle.adl_meaning.specs.NameFaults.{AreNamesSound};
+ghost use Rattle.adl_meaning.specs.SizeFaults.{limits_passed, first_size_fault};
 ghost use Rattle.adl_names.specs.Located.{located};
-ghost use Rattle.cam_base.specs.declared.code.Code.TheVariants as code;
-ghost use Rattle.std.specs.Prelude.{◌≡◌, nat_lt, OnOk};
+ghost use Rattle.std.specs.List.{filter_map, slice_get};
+ghost use Rattle.std.specs.Prelude.{◌≡◌, map, option_map};
 
 use crate::sums::Totals;
-use adl_ast::Assembly;
-use adl_meaning::First;
-use adl_names::Located;
-use cam_base::{Code, NoMemory, Place};
+use adl_ast::{Assembly, Item, Source};
+use adl_meaning::Earliest;
+use adl_names::{Located, all_items};
+use cam_base::{Code, Fault, Refused};
 use std::alloc::Global;
 
-/// The names of the longest leaf path.
-pub const DEPTH: u64 = 16;
+const DEPTH: u64 = 16;
 
-const LEAVES: u64 = 1024;
+/// The most leaves of an assembly.
+pub const LEAVES: u64 = 1024;
 
 const CONNECTIONS: u64 = 4096;
 
 const ENDS: u64 = 16384;
 
-fn note_limit(
-    alloc: Global,
-    place: Place,
-    name: &[u8],
-    greatest: u64,
-    number: u64,
-    first: &mut First,
-) -> Result<(), NoMemory>
-    ensures { OnOk result (first.new ≡ noted first.old (where_true (nat_lt greatest number) (record { code = code.Limit; place = place; name = name.now }))) }
-{
-    if greatest < number {
-        first.note(alloc, Code::Limit, place, name)?;
-    }
-    Ok(())
-}
-
 /// Notes each limit that the totals of the assembly pass.
-pub fn note_limits(
-    alloc: Global,
-    assembly: &Located<'_, Assembly>,
-    totals: Totals,
-    first: &mut First,
-) -> Result<(), NoMemory>
-    ensures { OnOk result ((h : Hierarchy) → totals ≡ totals_in h (top_number h) → first.new ≡ noted first.old (limits_passed h (located assembly.now))) }
+fn note_limits(assembly: &Located<'_, Assembly>, totals: Totals, first: &mut Earliest<'_>)
+    ensures { (h : Hierarchy) → totals ≡ totals_in h (top_number h)
+        → first.new ≡ noted first.old (limits_passed h (located assembly.now)) }
 {
     let place = assembly.item.place;
-    note_limit(alloc, place, b"depth", DEPTH, totals.depth, first)?;
-    note_limit(alloc, place, b"leaves", LEAVES, totals.leaves, first)?;
-    note_limit(
-        alloc,
-        place,
-        b"connections",
-        CONNECTIONS,
-        totals.connections,
-        first,
-    )?;
-    note_limit(alloc, place, b"ends", ENDS, totals.ends, first)?;
-    Ok(())
+    first.note(DEPTH < totals.depth, Code::Limit, place, b"depth");
+    first.note(LEAVES < totals.leaves, Code::Limit, place, b"leaves");
+    let is_passed = CONNECTIONS < totals.connections;
+    first.note(is_passed, Code::Limit, place, b"connections");
+    first.note(ENDS < totals.ends, Code::Limit, place, b"ends");
+}
+
+/// The first assembly among items.
+fn first_assembly<'a>(items: &[Located<'a, Item>]) -> Option<Located<'a, Assembly>>
+    ensures { option_map located result ≡ slice_get (filter_map as_assembly (map located items.now)) 0 }
+{
+    for x in items {
+        if let Item::Assembly(item) = x.item {
+            return Some(Located { at: x.at, item });
+        }
+    }
+    None
+}
+
+/// Refuses a source whose assembly, with these totals, passes a limit.
+///
+/// # Errors
+///
+/// The first limit that is passed. Want of memory.
+pub fn check_limits(alloc: Global, source: &Source, totals: Totals) -> Result<(), Refused<Fault>>
+    requires few { AreFew source.now }
+    requires sound { AreNamesSound source.now }
+    requires totals { totals ≡ totals_in (hierarchy_of source.now) (top_number (hierarchy_of source.now)) }
+    ensures { Refuses result (first_size_fault source.now) }
+{
+    let items = all_items(alloc, source)?;
+    match first_assembly(items.as_slice()) {
+        None => Ok(()),
+        Some(assembly) => {
+            let mut first = Earliest::none();
+            note_limits(&assembly, totals, &mut first);
+            first.refuse(alloc)
+        }
+    }
 }

@@ -1,7 +1,6 @@
 //! Numbers by path.
 
 ghost use Rattle.adl_flatten.specs.PathNumbers.{number_of};
-ghost use Rattle.adl_meaning.specs.Items.{Name as NameOf};
 ghost use Rattle.adl_meaning.specs.Paths.{Path as PathOf, same_path};
 ghost use Rattle.std.proofs.Common.{rules};
 ghost use Rattle.std.proofs.lemmas.Slice.Eq.{bytes_eq-Decides};
@@ -88,7 +87,8 @@ impl PathTable {
 
     /// Gives the path a number, where it has none yet.
     pub fn add(&mut self, path: Path, number: u32) -> Result<(), NoMemory>
-        ensures { OnOk result ((p : PathOf) → number_of self.new p ≡ option_or (number_of self.old p) (if same_path p path then Some number else None)) }
+        ensures { OnOk result ((p : PathOf) → number_of self.new p
+            ≡ option_or (number_of self.old p) (if same_path p path then Some number else None)) }
     {
         let key = PathKey { path };
         if !self.numbers.contains_key(&key) {

@@ -1,6 +1,5 @@
 //! How many leaves, connections and ends there are in each body, and how deep its leaves are. No path is walked.
 
-ghost use Rattle.adl_flatten.specs.Told.{part_told, parts_told, wires_told};
 ghost use Rattle.adl_flatten.specs.TotalsOf.{saturated, totals_of, totals_in, AreTotals};
 ghost use Rattle.adl_hierarchy.specs.Finite.{IsFinite};
 ghost use Rattle.adl_meaning.specs.Graph.{IsInnerFirst};
@@ -11,8 +10,7 @@ ghost use Rattle.adl_meaning.specs.Paths.{Placed, outside, leaves_in, placed_by}
 ghost use Rattle.std.specs.List.{flat_map};
 ghost use Rattle.std.specs.Prelude.{◌≡◌, ◌<◌, ◌≤◌, ◌+◌, ◌^◌, ◌∷◌, ◌++◌, ℕ, List as Seq, [], map, length, slice_index_or, IfOk};
 
-use crate::part::{PartTable, WireTable};
-use crate::table::HierarchyTable;
+use adl_program::{Part, Program, Wire};
 use cam_base::{List, NoMemory};
 use component_graph::inner_first;
 use std::alloc::Global;
@@ -40,7 +38,8 @@ impl Totals {
     }
 
     fn and(self, other: Totals) -> Totals
-        ensures { (ps qs : Seq Placed) (ks ls : Seq Strung) → self ≡ totals_of ps ks → other ≡ totals_of qs ls → result ≡ totals_of (ps ++ qs) (ks ++ ls) }
+        ensures { (ps qs : Seq Placed) (ks ls : Seq Strung) → self ≡ totals_of ps ks → other ≡ totals_of qs ls
+            → result ≡ totals_of (ps ++ qs) (ks ++ ls) }
     {
         Totals {
             leaves: self.leaves.saturating_add(other.leaves),
@@ -52,7 +51,8 @@ impl Totals {
 
     /// The totals of what is one name further in.
     fn outside(self) -> Totals
-        ensures { (n : Seq ℕ) (ps : Seq Placed) (ks : Seq Strung) → self ≡ totals_of ps ks → result ≡ totals_of (map (outside n) ps) (map (further n) ks) }
+        ensures { (n : Seq ℕ) (ps : Seq Placed) (ks : Seq Strung) → self ≡ totals_of ps ks
+            → result ≡ totals_of (map (outside n) ps) (map (further n) ks) }
     {
         if self.leaves == 0 {
             return self;
@@ -67,7 +67,8 @@ impl Totals {
 
     /// The same connections, and one leaf.
     fn with_leaf(self) -> Totals
-        ensures { (x : Placed) (ps : Seq Placed) (ks : Seq Strung) → length x.path ≡ 1 → self ≡ totals_of ps ks → result ≡ totals_of (x ∷ []) ks }
+        ensures { (x : Placed) (ps : Seq Placed) (ks : Seq Strung) → length x.path ≡ 1 → self ≡ totals_of ps ks
+            → result ≡ totals_of (x ∷ []) ks }
     {
         Totals {
             leaves: 1,
@@ -79,8 +80,8 @@ impl Totals {
 }
 
 /// The number of ends of connections.
-fn end_count(wires: &[WireTable<'_>]) -> u64
-    ensures { result ≡ saturated (length (flat_map (λ w. w.1.ends) (wires_told wires.now))) }
+fn end_count(wires: &[Wire<'_>]) -> u64
+    ensures { result ≡ saturated (length (flat_map (λ w. w.1.ends) wires.now)) }
 {
     let mut count: u64 = 0;
     for wire in wires {
@@ -89,15 +90,15 @@ fn end_count(wires: &[WireTable<'_>]) -> u64
     count
 }
 
-fn wire_count(wires: &[WireTable<'_>]) -> u64
+fn wire_count(wires: &[Wire<'_>]) -> u64
     ensures { result ≡ length wires.now }
 {
     wires.len() as u64
 }
 
 /// The totals of the connections of a body itself.
-fn own_totals(wires: &[WireTable<'_>]) -> Totals
-    ensures { (k : ℕ) → result ≡ totals_of [] (map (strung k) (wires_told wires.now)) }
+fn own_totals(wires: &[Wire<'_>]) -> Totals
+    ensures { (k : ℕ) → result ≡ totals_of [] (map (strung k) wires.now) }
 {
     Totals {
         leaves: 0,
@@ -108,13 +109,14 @@ fn own_totals(wires: &[WireTable<'_>]) -> Totals
 }
 
 /// The totals of an instance.
-fn part_totals(table: &HierarchyTable<'_>, all: &[Totals], part: PartTable<'_>) -> Totals
-    requires within { part.kind < length all.now }
-    requires known { (t : Totals) → slice_index_or all.now part.kind t ≡ totals_in table.now part.kind }
-    ensures { result ≡ totals_of (placed_by table.now (leaves_in table.now) (part_told part.entry)) (strung_by (connections_in table.now) (part_told part.entry)) }
+fn part_totals(program: &Program<'_>, all: &[Totals], part: &Part<'_>) -> Totals
+    requires within { part.now.kind < length all.now }
+    requires known { (t : Totals) → slice_index_or all.now part.now.kind t ≡ totals_in program.now part.now.kind }
+    ensures { result ≡ totals_of (placed_by program.now (leaves_in program.now) part.now)
+        (strung_by (connections_in program.now) part.now) }
 {
     let inner = all[part.kind as usize].outside();
-    if table.body(part.kind).is_composite() {
+    if program.body(part.kind).is_composite() {
         inner
     } else {
         inner.with_leaf()
@@ -122,33 +124,36 @@ fn part_totals(table: &HierarchyTable<'_>, all: &[Totals], part: PartTable<'_>) 
 }
 
 /// The totals of instances.
-fn parts_totals(table: &HierarchyTable<'_>, all: &[Totals], parts: &[PartTable<'_>]) -> Totals
-    requires within { (x : Part) → IsIn x (parts_told parts.now) → x.kind < length all.now }
-    requires known { (x : Part) → IsIn x (parts_told parts.now) → (t : Totals) → slice_index_or all.now x.kind t ≡ totals_in table.now x.kind }
-    ensures { result ≡ totals_of (flat_map (placed_by table.now (leaves_in table.now)) (parts_told parts.now)) (flat_map (strung_by (connections_in table.now)) (parts_told parts.now)) }
+fn parts_totals(program: &Program<'_>, all: &[Totals], parts: &[Part<'_>]) -> Totals
+    requires within { (x : Part) → IsIn x parts.now → x.kind < length all.now }
+    requires known { (x : Part) → IsIn x parts.now → (t : Totals)
+        → slice_index_or all.now x.kind t ≡ totals_in program.now x.kind }
+    ensures { result ≡ totals_of (flat_map (placed_by program.now (leaves_in program.now)) parts.now)
+        (flat_map (strung_by (connections_in program.now)) parts.now) }
 {
     let mut totals = Totals::none();
     for part in parts {
-        totals = totals.and(part_totals(table, all, *part));
+        totals = totals.and(part_totals(program, all, part));
     }
     totals
 }
 
 /// The totals of the body of a number, from those of its instances' components.
-fn body_totals(table: &HierarchyTable<'_>, all: &[Totals], number: u32) -> Totals
-    requires finite { IsFinite table.now }
-    requires number { number ≤ top_number table.now }
-    requires within { (x : Part) → IsIn x (body table.now number).parts → x.kind < length all.now }
-    requires known { (x : Part) → IsIn x (body table.now number).parts → (t : Totals) → slice_index_or all.now x.kind t ≡ totals_in table.now x.kind }
-    ensures { result ≡ totals_in table.now number }
+fn body_totals(program: &Program<'_>, all: &[Totals], number: u32) -> Totals
+    requires finite { IsFinite program.now }
+    requires number { number ≤ top_number program.now }
+    requires within { (x : Part) → IsIn x (body program.now number).parts → x.kind < length all.now }
+    requires known { (x : Part) → IsIn x (body program.now number).parts → (t : Totals)
+        → slice_index_or all.now x.kind t ≡ totals_in program.now x.kind }
+    ensures { result ≡ totals_in program.now number }
 {
-    let body = table.body(number);
-    let inner = parts_totals(table, all, body.parts());
+    let body = program.body(number);
+    let inner = parts_totals(program, all, body.parts());
     own_totals(body.wires()).and(inner)
 }
 
-fn kinds(alloc: Global, parts: &[PartTable<'_>]) -> Result<List<u32>, NoMemory>
-    ensures { IfOk result (λ ks. ks ≡ map (λ x. x.kind) (parts_told parts.now)) }
+fn kinds(alloc: Global, parts: &[Part<'_>]) -> Result<List<u32>, NoMemory>
+    ensures { IfOk result (λ ks. ks ≡ map (λ x. x.kind) parts.now) }
 {
     let mut kinds = List::new(alloc);
     for part in parts {
@@ -158,39 +163,43 @@ fn kinds(alloc: Global, parts: &[PartTable<'_>]) -> Result<List<u32>, NoMemory>
 }
 
 /// The bodies by number, with the kinds of their instances.
-fn graph(alloc: Global, table: &HierarchyTable<'_>) -> Result<List<List<u32>>, NoMemory>
-    ensures graph { IfOk result (λ g. g ≡ graph table.now) }
+fn graph(alloc: Global, program: &Program<'_>) -> Result<List<List<u32>>, NoMemory>
+    ensures graph { IfOk result (λ g. g ≡ graph program.now) }
     ensures few { IfOk result (λ g. length g < 2 ^ 32) }
 {
     let mut graph = List::new(alloc);
-    for number in 0..=table.top_number() {
-        graph.push(kinds(alloc, table.body(number).parts())?)?;
+    for number in 0..=program.top_number() {
+        graph.push(kinds(alloc, program.body(number).parts())?)?;
     }
     Ok(graph)
 }
 
-/// The totals of all bodies, inner ones first.
-fn fill(alloc: Global, table: &HierarchyTable<'_>, order: &[u32]) -> Result<Vec<Totals>, NoMemory>
-    requires finite { IsFinite table.now }
-    requires order { IsInnerFirst (graph table.now) order.now }
-    ensures { IfOk result (λ all. AreTotals table.now all.items) }
+/// The bodies by number, each after the components of its instances, where none holds itself.
+pub fn order_of(alloc: Global, program: &Program<'_>) -> Result<List<u32>, NoMemory>
+    requires { IsFinite program.now }
+    ensures { IfOk result (λ order. IsInnerFirst (graph program.now) order) }
 {
-    let mut all = vec![in alloc; Totals::none(); table.top_number() as usize + 1]?;
+    let graph = graph(alloc, program)?;
+    match inner_first(alloc, graph.as_slice())? {
+        Some(order) => Ok(order),
+        None => unreachable!(),
+    }
+}
+
+/// The totals of all bodies, where none holds itself, in an order in which inner ones stand first.
+pub fn all_totals(
+    alloc: Global,
+    program: &Program<'_>,
+    order: &[u32],
+) -> Result<Vec<Totals>, NoMemory>
+    requires finite { IsFinite program.now }
+    requires order { IsInnerFirst (graph program.now) order.now }
+    ensures { IfOk result (λ all. AreTotals program.now all.items) }
+{
+    let mut all = vec![in alloc; Totals::none(); program.top_number() as usize + 1]?;
     for number in order {
-        let totals = body_totals(table, all.as_slice(), *number);
+        let totals = body_totals(program, all.as_slice(), *number);
         all[*number as usize] = totals;
     }
     Ok(all)
-}
-
-/// The totals of all bodies, where none holds itself.
-pub fn all_totals(alloc: Global, table: &HierarchyTable<'_>) -> Result<Vec<Totals>, NoMemory>
-    requires { IsFinite table.now }
-    ensures { IfOk result (λ all. AreTotals table.now all.items) }
-{
-    let graph = graph(alloc, table)?;
-    match inner_first(alloc, graph.as_slice())? {
-        Some(order) => fill(alloc, table, order.as_slice()),
-        None => Ok(Vec::new(alloc)),
-    }
 }

@@ -1,7 +1,6 @@
 use Rattle.std.proofs.Common.{take}
 use Rattle.adl_flatten.specs.EndCounts.{AreCounts}
-use Rattle.adl_flatten.specs.JoinsTold.{all_joined_told}
 use Rattle.adl_flatten.proofs.end_counts.counts_of.Given as goal
 
 abbrev pub invariant-loop-end : goal.invariant-loop-end
-invariant-loop-end l = AreCounts l.counts (all_joined_told (take l.end-index l.ends))
+invariant-loop-end l = AreCounts l.counts (take l.end-index l.ends)

@@ -1,10 +1,8 @@
 use Rattle.std.proofs.Common.{◌∙◌}
-use Rattle.adl_meaning.proofs.Noting.{noted_numbered}
-use Rattle.adl_meaning.specs.Unconnected.{unjoined_at}
-use Rattle.adl_flatten.specs.Placings.{leaf_told}
+use Rattle.adl_flatten.specs.TemplateFaults.{unjoined_leaf}
+use Rattle.adl_flatten.proofs.Templates.{numbered_noted}
 use Rattle.adl_flatten.proofs.faults.note_all_unjoined.Goals as goal
 
 pub loop-number-preserved : goal.loop-number-preserved
 loop-number-preserved c =
-    noted_numbered (λ i x. unjoined_at c.args.table.now c.args.ends.now (i, x)) leaf_told _ _ c.args.placed.now c.loop-number.number c.index-placed-number.result c.loop-number-test.true c.index-placed-number.is c.in_ok-note_unjoined.ensures
-    ∙ c.loop-number.invariant
+    numbered_noted (unjoined_leaf c.args.program.now c.args.ends.now) _ _ c.args.leaves.now c.loop-number.number c.index-leaves-number.result c.loop-number-test.true c.index-leaves-number.is c.note_leaf.ensures ∙ c.loop-number.invariant

@@ -1,8 +1,7 @@
 use Rattle.std.proofs.Common.{◌≡◌, take, length}
 use Rattle.std.specs.List.{flat_map}
-use Rattle.adl_flatten.specs.Told.{wires_told}
 use Rattle.adl_flatten.specs.TotalsOf.{saturated}
 use Rattle.adl_flatten.proofs.sums.end_count.Given as goal
 
 abbrev pub invariant-loop-wire : goal.invariant-loop-wire
-invariant-loop-wire l = l.count ≡ saturated (length (flat_map (λ w. w.1.ends) (wires_told (take l.wire-index l.wires))))
+invariant-loop-wire l = l.count ≡ saturated (length (flat_map (λ w. w.1.ends) (take l.wire-index l.wires)))

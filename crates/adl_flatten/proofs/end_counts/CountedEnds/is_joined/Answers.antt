@@ -1,12 +1,11 @@
 use Rattle.std.proofs.Common.{◌∙◌, ap, None, nat_lt}
 use Rattle.std.specs.List.{list_any}
 use Rattle.adl_meaning.specs.JoinedEnds.{is_at}
-use Rattle.adl_flatten.specs.JoinsTold.{all_joined_told}
 use Rattle.adl_flatten.proofs.EndLookups.{nat_lt-count_by}
 use Rattle.adl_flatten.proofs.end_counts.CountedEnds.is_joined.Goals as goal
 
 pub returns : goal.returns
 returns c =
     ap (λ n. nat_lt 0 n) (c.at.ensures ∙ c.self.invariant (record { connection = None; leaf = c.args.leaf; member = c.args.member }))
-    ∙ nat_lt-count_by c.args.leaf c.args.member (all_joined_told c.self.inside.ends.now)
+    ∙ nat_lt-count_by c.args.leaf c.args.member c.self.inside.ends.now
     ∙ ap (list_any (is_at c.args.leaf c.args.member)) c.self.view_is

@@ -1,0 +1,116 @@
+-- The template of the assembly is the flat system.
+use Rattle.std.proofs.Common.{◌≡◌, ◌+◌, ℕ, not, ◌&&◌, List, [], ◌∷◌, ◌++◌, map, Option, Some, None, option_map, refl, sym, ◌∙◌, ap, length, ◌<◌, ◌≤◌, ◌^◌, get_or, drop, arith}
+use Rattle.std.proofs.lemmas.List.{length-map}
+use Rattle.std.specs.List.{flat_map, filter_map, cons_option, enumerate_from}
+use Rattle.cam_base.specs.declared.place.Fault.{Fault}
+use Rattle.cam_base.specs.declared.code.Code.TheVariants as code
+use Rattle.adl_ast.specs.declared.composition.End.{End}
+use Rattle.adl_meaning.specs.declared.flat.FlatEnd.{FlatEnd}
+use Rattle.adl_meaning.specs.Faults.{at_word, where_true, noted}
+use Rattle.adl_meaning.proofs.Least.{noted-append}
+use Rattle.adl_meaning.proofs.Noting.{drop_first}
+use Rattle.adl_meaning.specs.Flat.{flattened, flat_end, flat_ends, flat_connection}
+use Rattle.adl_meaning.specs.Hierarchy.{Hierarchy, top_number}
+use Rattle.adl_meaning.specs.JoinedEnds.{JoinedEnd, joined_end, joined_ends_of, joined_ends}
+use Rattle.adl_meaning.specs.Joins.{Reached, Strung, joined_by, connections}
+use Rattle.adl_meaning.specs.Paths.{Placed, leaves}
+use Rattle.adl_meaning.specs.Placement.{is_direct, in_one_domain, misplaced_device, parted_call}
+use Rattle.adl_meaning.specs.Unconnected.{unjoined_at}
+use Rattle.adl_templates.specs.Templates.{Homed, homed, template_leaves, Joined, Connected, end_in, ends_in, connection_in, template_connections}
+use Rattle.adl_flatten.specs.Ends.{flat_end_of, flat_connection_of, joined_end_of, joined_of, all_joined}
+use Rattle.adl_flatten.specs.Homes.{home, home_in, placed}
+use Rattle.adl_flatten.specs.TemplateFaults.{unjoined_leaf, misplaced_leaf, in_one, misplaced_call}
+
+-- ---- leaves
+
+pub placed_are : (h : Hierarchy) (k : ℕ) (xs : List Placed) → map placed (map (homed h k) xs) ≡ xs
+placed_are h k [] = refl
+placed_are h k (x ∷ xs) = ap (λ ys. x ∷ ys) (placed_are h k xs)
+
+pub homes_are : (h : Hierarchy) (xs : List Placed) → map (home_in h) (map (homed h (top_number h)) xs) ≡ map (home h) xs
+homes_are h [] = refl
+homes_are h (x ∷ xs) = ap (λ ys. home h x ∷ ys) (homes_are h xs)
+
+-- ---- ends and connections
+
+-- what is told of the ends that join something
+ends_told : {Y : Type 0} (f : End → Reached → Joined) (g : Joined → Y) (k : End → Reached → Y) (j : End → Option Reached) → ((e : End) (r : Reached) → g (f e r) ≡ k e r) → (es : List End)
+    → map g (filter_map (λ e. option_map (f e) (j e)) es) ≡ filter_map (λ e. option_map (k e) (j e)) es
+ends_told f g k j same [] = refl
+ends_told {Y} f g k j same (e ∷ es) = by (j e) (ends_told f g k j same es)
+  where
+    by : (o : Option Reached) → map g (filter_map (λ e. option_map (f e) (j e)) es) ≡ filter_map (λ e. option_map (k e) (j e)) es
+        → map g (cons_option (option_map (f e) o) (filter_map (λ e. option_map (f e) (j e)) es)) ≡ cons_option (option_map (k e) o) (filter_map (λ e. option_map (k e) (j e)) es)
+    by None ih = ih
+    by (Some r) ih = ap (λ y. y ∷ map g (filter_map (λ e. option_map (f e) (j e)) es)) (same e r) ∙ ap (λ ys. k e r ∷ ys) ih
+
+flat_ends_are : (h : Hierarchy) (x : Strung) → map flat_end_of (ends_in h (top_number h) x) ≡ flat_ends h x
+flat_ends_are h x = ends_told (end_in h (top_number h) x.path) flat_end_of (flat_end h x.path) (joined_by h x.inside) (λ e r. refl) x.wire.1.ends
+
+joined_are : (h : Hierarchy) (n : ℕ) (x : Strung) → joined_of (n, connection_in h (top_number h) x) ≡ joined_ends_of h (n, x)
+joined_are h n x = ends_told (end_in h (top_number h) x.path) (joined_end_of n) (joined_end h (n, x)) (joined_by h x.inside) (λ e r. refl) x.wire.1.ends
+
+connections_from : (h : Hierarchy) (xs : List Strung) → map flat_connection_of (map (connection_in h (top_number h)) xs) ≡ map (flat_connection h) xs
+connections_from h [] = refl
+connections_from h (x ∷ xs) = λ i. record {
+  path = x.path ++ x.wire.1.id.name ∷ [];
+  connector = x.wire.0;
+  place = x.wire.1.id.place;
+  ends = flat_ends_are h x i;
+} ∷ connections_from h xs i
+
+pub connections_are : (h : Hierarchy) → map flat_connection_of (template_connections h (top_number h)) ≡ (flattened h).connections
+connections_are h = connections_from h (connections h)
+
+-- a list with numbers, of what is made of each element
+numbered_map : {X Y Z : Type 0} (f : ℕ × Y → List Z) (k : ℕ × X → List Z) (g : X → Y) → ((n : ℕ) (x : X) → f (n, g x) ≡ k (n, x)) → (a : ℕ) (xs : List X)
+    → flat_map f (enumerate_from a (map g xs)) ≡ flat_map k (enumerate_from a xs)
+numbered_map f k g same a [] = refl
+numbered_map f k g same a (x ∷ xs) = ap (λ ys. ys ++ flat_map f (enumerate_from (a + 1) (map g xs))) (same a x) ∙ ap (λ ys. k (a, x) ++ ys) (numbered_map f k g same (a + 1) xs)
+
+each_map : {X Y Z : Type 0} (f : Y → List Z) (k : X → List Z) (g : X → Y) → ((x : X) → f (g x) ≡ k x) → (xs : List X) → flat_map f (map g xs) ≡ flat_map k xs
+each_map f k g same [] = refl
+each_map f k g same (x ∷ xs) = ap (λ ys. ys ++ flat_map f (map g xs)) (same x) ∙ ap (λ ys. k x ++ ys) (each_map f k g same xs)
+
+pub all_joined_are : (h : Hierarchy) → all_joined (template_connections h (top_number h)) ≡ joined_ends h
+all_joined_are h = numbered_map joined_of (joined_ends_of h) (connection_in h (top_number h)) (joined_are h) 0 (connections h)
+
+-- ---- faults
+
+pub unjoined_are : (h : Hierarchy) (all : List JoinedEnd) → flat_map (unjoined_leaf h all) (enumerate_from 0 (template_leaves h (top_number h))) ≡ flat_map (unjoined_at h all) (enumerate_from 0 (leaves h))
+unjoined_are h all = numbered_map (unjoined_leaf h all) (unjoined_at h all) (homed h (top_number h)) (λ n x. refl) 0 (leaves h)
+
+pub devices_are : (h : Hierarchy) → flat_map (misplaced_leaf h) (template_leaves h (top_number h)) ≡ flat_map (misplaced_device h) (leaves h)
+devices_are h = each_map (misplaced_leaf h) (misplaced_device h) (homed h (top_number h)) (λ x. refl) (leaves h)
+
+one_domain : (h : Hierarchy) (es : List FlatEnd) → in_one (flattened h).leaves es ≡ in_one_domain (flattened h) es
+one_domain h [] = refl
+one_domain h (e ∷ es) = refl
+
+pub calls_are : (h : Hierarchy) → flat_map (misplaced_call (flattened h).leaves) (template_connections h (top_number h)) ≡ flat_map (parted_call h (flattened h)) (connections h)
+calls_are h = each_map (misplaced_call (flattened h).leaves) (parted_call h (flattened h)) (connection_in h (top_number h)) same (connections h)
+  where
+    same : (x : Strung) → misplaced_call (flattened h).leaves (connection_in h (top_number h) x) ≡ parted_call h (flattened h) x
+    same x = ap (λ b. where_true (is_direct x.wire.0 && not b) (at_word code.Placement x.wire.1.id)) (ap (in_one (flattened h).leaves) (flat_ends_are h x) ∙ one_domain h (flat_ends h x))
+
+-- ---- noting with numbers
+
+pub numbered_noted : {X : Type 0} (f : ℕ × X → List Fault) (new old : Option Fault) (ys : List X) (i : ℕ) (y : X) → i < length ys → y ≡ get_or ys i y → new ≡ noted old (f (i, y))
+    → noted new (flat_map f (enumerate_from (i + 1) (drop (i + 1) ys))) ≡ noted old (flat_map f (enumerate_from i (drop i ys)))
+numbered_noted f new old ys i y l e n =
+    let rest = flat_map f (enumerate_from (i + 1) (drop (i + 1) ys)) in
+    ap (λ o. noted o rest) n ∙ sym (noted-append old (f (i, y)) rest) ∙ ap (λ zs. noted old (flat_map f (enumerate_from i zs))) (sym (drop_first ys i y l e))
+
+-- ---- within limits
+
+pub leaves_few : (h : Hierarchy) (ls : List Homed) → ls ≡ template_leaves h (top_number h) → length (leaves h) ≤ 1024 → length ls < 2 ^ 32
+leaves_few h ls e l =
+    let n = ap (λ xs. length xs) e in
+    let m = length-map (leaves h) (homed h (top_number h)) in
+    omega (arith, n, m, l)
+
+pub connections_few : (h : Hierarchy) (cs : List Connected) → cs ≡ template_connections h (top_number h) → length (connections h) ≤ 4096 → length cs < 2 ^ 32
+connections_few h cs e l =
+    let n = ap (λ xs. length xs) e in
+    let m = length-map (connections h) (connection_in h (top_number h)) in
+    omega (arith, n, m, l)

@@ -1,0 +1,12 @@
+use Rattle.std.proofs.Common.{◌≡◌, ◌+◌, ◌++◌, drop, map}
+use Rattle.std.specs.List.{flat_map, enumerate_from}
+use Rattle.adl_flatten.specs.Ends.{joined_end_of, joined_of, all_joined}
+use Rattle.adl_flatten.proofs.connections.joined_ends.Given as goal
+
+abbrev pub invariant-loop-number : goal.invariant-loop-number
+invariant-loop-number l = l.joined.items ++ flat_map joined_of (enumerate_from l.number (drop l.number l.connections)) ≡ all_joined l.connections
+
+abbrev pub invariant-loop-end : goal.invariant-loop-end
+invariant-loop-end l =
+    l.joined.items ++ (map (joined_end_of l.number) (drop l.end-index l.end-items) ++ flat_map joined_of (enumerate_from (l.number + 1) (drop (l.number + 1) l.connections)))
+    ≡ all_joined l.connections

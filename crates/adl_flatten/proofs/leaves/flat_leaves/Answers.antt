@@ -1,0 +1,17 @@
+use Rattle.std.proofs.Common.{◌∙◌, ◌++◌, ◌∷◌, [], None, ap, get_or}
+use Rattle.adl_meaning.specs.declared.flat.Leaf.{Leaf}
+use Rattle.adl_meaning.specs.Domains.{domains}
+use Rattle.adl_meaning.specs.Flat.{leaf_of}
+use Rattle.adl_flatten.specs.Homes.{home, home_number, placed}
+use Rattle.adl_flatten.proofs.FlatLists.{pushed_more, leaf_is, read_maps}
+use Rattle.adl_flatten.proofs.leaves.flat_leaves.Goals as goal
+
+pub loop-i-preserved : goal.loop-i-preserved
+loop-i-preserved c =
+    let h = c.args.program.now in
+    let i = c.loop-i.i in
+    let w = c.index-leaves-i.result in
+    let number = ap (λ ns. get_or ns i None) c.requires ∙ read_maps (home_number (domains h)) (home h) placed c.args.leaves.now i w None c.loop-i-test.true c.index-leaves-i.is in
+    pushed_more (leaf_of h) placed _ c.loop-i.flat c.args.leaves.now i w c.loop-i-test.true c.index-leaves-i.is
+    (c.in_ok-push.ensures.ok ∙ ap (λ (l : Leaf). c.loop-i.flat ++ l ∷ []) (c.in_ok-flat_leaf.ensures ∙ leaf_is h (placed w) _ number))
+    ∙ c.loop-i.invariant

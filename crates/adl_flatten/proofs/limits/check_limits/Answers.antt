@@ -1,0 +1,26 @@
+use Rattle.std.proofs.Common.{◌∙◌, Option, ap, sym, subst, map, option_map}
+use Rattle.std.specs.List.{filter_map, slice_get}
+use Rattle.cam_base.specs.declared.place.Fault.{Fault}
+use Rattle.adl_meaning.proofs.Least.{noted-none}
+use Rattle.adl_meaning.specs.Faults.{noted, least, Refuses}
+use Rattle.adl_meaning.specs.Hierarchy.{hierarchy_of}
+use Rattle.adl_meaning.specs.Items.{as_assembly}
+use Rattle.adl_meaning.specs.SizeFaults.{limits_passed}
+use Rattle.adl_names.specs.Located.{located}
+use Rattle.adl_flatten.proofs.Limited.{limits_are}
+use Rattle.adl_flatten.proofs.limits.check_limits.Goals as goal
+
+pub returns-in-None : goal.returns-in-None
+returns-in-None c =
+    let s = c.args.source.now in
+    let found = ap (option_map located) (sym c.in-None.is) ∙ c.first_assembly.ensures ∙ ap (λ xs. slice_get (filter_map as_assembly xs) 0) (ap (map located) c.as_slice.ensures.value ∙ c.in_ok-items.ensures) in
+    ap least (sym (limits_are s c.requires.sound _ found))
+
+pub returns : goal.returns
+returns c =
+    let s = c.args.source.now in
+    let h = hierarchy_of s in
+    let found = ap (option_map located) (sym c.in-Some.is) ∙ c.first_assembly.ensures ∙ ap (λ xs. slice_get (filter_map as_assembly xs) 0) (ap (map located) c.as_slice.ensures.value ∙ c.in_ok-items.ensures) in
+    let fs = limits_passed h (located c.in-Some.assembly) in
+    let P : Option Fault → Type 0 = λ o. Refuses c.refuse.result o in
+    subst P (c.note_limits.ensures h c.requires.totals ∙ ap (λ o. noted o fs) c.none-first.ensures ∙ noted-none fs ∙ ap least (limits_are s c.requires.sound _ found)) c.refuse.ensures

@@ -1,0 +1,90 @@
+-- Lists of what parts give, one part further.
+use Rattle.std.proofs.Common.{◌≡◌, ◌<◌, ◌≤◌, ◌+◌, ℕ, zero, suc, List, [], ◌∷◌, ◌++◌, length, map, take, drop, get_or, refl, sym, ◌∙◌, ap, arith, append_assoc, Some, inl, inr}
+use Rattle.std.proofs.lemmas.Bool.{cases_eq}
+use Rattle.std.specs.List.{flat_map, enumerate_from, slice_get}
+use Rattle.std.proofs.lemmas.List.{length-map, map-append, take_more, take_all, append-nil}
+use Rattle.std.proofs.lemmas.List.Concat.{flat_map-append}
+use Rattle.adl_meaning.proofs.Noting.{drop_first}
+use Rattle.adl_meaning.specs.Hierarchy.{Hierarchy, Part, body}
+use Rattle.adl_meaning.specs.Paths.{placed_by, leaves_in}
+use Rattle.numbering.specs.Gather.{IsIn}
+use Rattle.numbering.proofs.Gathered.{in_place}
+use Rattle.numbering.proofs.Lists.{read_place}
+use Rattle.adl_hierarchy.proofs.Steps.{leaves_step}
+use Rattle.adl_templates.specs.Ready.{IsReady}
+use Rattle.adl_templates.specs.Templates.{Homed, homed, template_leaves, leaves_by, leaves_before}
+use Rattle.adl_templates.proofs.Bounds.{before_room}
+use Rattle.adl_templates.proofs.Placing.{leaves_placed}
+
+-- an instance that was read
+pub record IsRead (h : Hierarchy) (k i : ℕ) (read : List Part) (x : Part) : Type 0 where
+  pub same : read ≡ (body h k).parts
+  pub below : i < length read
+  pub item : x ≡ get_or read i x
+
+pub read_at : (h : Hierarchy) (k i : ℕ) (read : List Part) (x : Part) → IsRead h k i read x → slice_get (body h k).parts i ≡ Some x
+read_at h k i read x r = read_place (body h k).parts read i x r.same r.below r.item
+
+pub read_in : (h : Hierarchy) (k i : ℕ) (read : List Part) (x : Part) → IsRead h k i read x → IsIn x (body h k).parts
+read_in h k i read x r = in_place x (body h k).parts i (read_at h k i read x r)
+
+-- ---- leaves
+
+pub counted : (h : Hierarchy) (k i : ℕ) (ls : List Homed) → ls ≡ map (homed h k) (flat_map (placed_by h (leaves_in h)) (take i (body h k).parts)) → length ls ≡ leaves_before h k i
+counted h k i ls e = ap (λ xs. length xs) e ∙ length-map (flat_map (placed_by h (leaves_in h)) (take i (body h k).parts)) (homed h k)
+
+pub count_few : (h : Hierarchy) → IsReady h → (k i : ℕ) (read : List Part) (x : Part) → k ≤ length h.bodies → IsRead h k i read x → (ls : List Homed)
+    → ls ≡ map (homed h k) (flat_map (placed_by h (leaves_in h)) (take i (body h k).parts)) → length ls ≤ length (leaves_in h k)
+count_few h ready k i read x l r ls e =
+    let n = counted h k i ls e in
+    let b = before_room h ready k i x l (read_at h k i read x r) in
+    omega (arith, n, b)
+
+pub leaves_more : (h : Hierarchy) → IsReady h → (k i : ℕ) (read : List Part) (x : Part) → IsRead h k i read x → (old new : List Homed)
+    → old ≡ map (homed h k) (flat_map (placed_by h (leaves_in h)) (take i (body h k).parts)) → new ≡ old ++ leaves_by h x
+    → new ≡ map (homed h k) (flat_map (placed_by h (leaves_in h)) (take (i + 1) (body h k).parts))
+leaves_more h ready k i read x r old new o n =
+    let f = placed_by h (leaves_in h) in
+    let here = leaves_placed h ready k x (read_in h k i read x r) in
+    let first : get_or read i x ∷ [] ≡ x ∷ [] = ap (λ y. y ∷ []) (sym r.item) in
+    let taken : take (i + 1) (body h k).parts ≡ take i (body h k).parts ++ x ∷ [] =
+    ap (take (i + 1)) (sym r.same) ∙ take_more read i x r.below ∙ ap (λ ys. take i read ++ ys) first ∙ ap (λ ys. take i ys ++ x ∷ []) r.same in
+    n ∙ ap (λ ys. ys ++ leaves_by h x) o ∙ ap (λ ys. map (homed h k) (flat_map f (take i (body h k).parts)) ++ ys) (sym here)
+    ∙ sym (map-append (homed h k) (flat_map f (take i (body h k).parts)) (f x))
+    ∙ ap (map (homed h k)) (ap (λ ys. flat_map f (take i (body h k).parts) ++ ys) (sym (append-nil (f x))) ∙ sym (flat_map-append f (take i (body h k).parts) (x ∷ [])) ∙ ap (flat_map f) (sym taken))
+
+pub leaves_whole : (h : Hierarchy) → IsReady h → (k i : ℕ) (read : List Part) → k ≤ length h.bodies → read ≡ (body h k).parts → length read ≤ i → (ls : List Homed)
+    → ls ≡ map (homed h k) (flat_map (placed_by h (leaves_in h)) (take i (body h k).parts)) → ls ≡ template_leaves h k
+leaves_whole h ready k i read l same over ls e =
+    let n : length read ≡ length (body h k).parts = ap (λ xs. length xs) same in
+    let all : take i (body h k).parts ≡ (body h k).parts = take_all i (body h k).parts (omega (arith, n, over)) in
+    e ∙ ap (λ xs. map (homed h k) (flat_map (placed_by h (leaves_in h)) xs)) all ∙ ap (map (homed h k)) (sym (leaves_step h ready.finite k l))
+
+-- ---- numbers
+
+get_pushed : (xs : List ℕ) (v j : ℕ) → j ≡ length xs → get_or (xs ++ v ∷ []) j 0 ≡ v
+get_pushed [] v zero e = refl
+get_pushed [] v (suc j) e = absurd (omega (arith, e))
+get_pushed (x ∷ xs) v zero e = absurd (omega (arith, e))
+get_pushed (x ∷ xs) v (suc j) e = get_pushed xs v j (omega (arith, e))
+
+get_kept : (xs : List ℕ) (v j : ℕ) → j < length xs → get_or (xs ++ v ∷ []) j 0 ≡ get_or xs j 0
+get_kept [] v j l = absurd (omega (arith, l))
+get_kept (x ∷ xs) v zero l = refl
+get_kept (x ∷ xs) v (suc j) l = get_kept xs v j (omega (arith, l))
+
+pub each_more : (f : ℕ → ℕ) (xs new : List ℕ) (i v : ℕ) → length xs ≡ i → ((j : ℕ) → j < i → get_or xs j 0 ≡ f j) → v ≡ f i → new ≡ xs ++ v ∷ [] → (j : ℕ) → j < i + 1 → get_or new j 0 ≡ f j
+each_more f xs new i v n each e p j l = ap (λ ys. get_or ys j 0) p ∙ elim (cases_eq j i) [
+  | inl q ↦ get_pushed xs v j (q ∙ sym n) ∙ e ∙ ap f (sym q)
+  | inr q ↦ let b : j < i = omega (arith, l, q) in get_kept xs v j (omega (arith, b, n)) ∙ each j b
+]
+
+-- ---- what is gathered with numbers
+
+pub numbered_more : {X Y : Type 0} (f : ℕ × X → List Y) (new old : List Y) (xs read : List X) (i : ℕ) (x : X) → read ≡ xs → i < length read → x ≡ get_or read i x → new ≡ old ++ f (i, x)
+    → new ++ flat_map f (enumerate_from (i + 1) (drop (i + 1) xs)) ≡ old ++ flat_map f (enumerate_from i (drop i xs))
+numbered_more f new old xs read i x same l e n =
+    let rest = flat_map f (enumerate_from (i + 1) (drop (i + 1) read)) in
+    let one : new ++ rest ≡ old ++ flat_map f (enumerate_from i (drop i read)) =
+    ap (λ ys. ys ++ rest) n ∙ append_assoc old (f (i, x)) rest ∙ ap (λ ys. old ++ flat_map f (enumerate_from i ys)) (sym (drop_first read i x l e)) in
+    ap (λ ys. new ++ flat_map f (enumerate_from (i + 1) (drop (i + 1) ys))) (sym same) ∙ one ∙ ap (λ ys. old ++ flat_map f (enumerate_from i (drop i ys))) same

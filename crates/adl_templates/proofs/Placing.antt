@@ -1,0 +1,185 @@
+-- What an instance places of the template of its component.
+use Rattle.std.proofs.Common.{◌≡◌, ◌≤◌, ◌+◌, ℕ, zero, Bool, true, false, cond, List, length, [], ◌∷◌, ◌++◌, map, Option, Some, None, option_map, refl, sym, ◌∙◌, ap, subst, arith}
+use Rattle.std.proofs.lemmas.List.{map-append}
+use Rattle.std.specs.List.{flat_map, filter_map, cons_option, enumerate_from, slice_get}
+use Rattle.std.specs.Option.{option_and_then}
+use Rattle.adl_ast.specs.declared.composition.End.{End}
+use Rattle.adl_ast.specs.declared.composition.Export.{Export}
+use Rattle.adl_meaning.specs.JoinedEnds.{is_once}
+use Rattle.adl_meaning.specs.Domains.{group_above, group_or}
+use Rattle.adl_meaning.specs.Flat.{member_number}
+use Rattle.adl_meaning.specs.Hierarchy.{Hierarchy, Part, body, is_composite, wires_of, part_named, export_named, exports_of, port_in}
+use Rattle.adl_meaning.specs.Items.{Name}
+use Rattle.adl_meaning.specs.Joins.{Reached, behind, reached_by, reached, joined_by, Strung, further, strung, strung_by, connections_in}
+use Rattle.numbering.specs.Gather.{IsIn}
+use Rattle.adl_meaning.specs.Paths.{Path, Placed, name_of, outside, placed_by, leaves_in, same_path}
+use Rattle.adl_hierarchy.proofs.DomainNames.{same_path-Decides}
+use Rattle.adl_templates.specs.Ready.{IsReady}
+use Rattle.adl_hierarchy.proofs.Places.{place_is}
+use Rattle.adl_hierarchy.proofs.Repeats.{find_once}
+use Rattle.adl_hierarchy.proofs.Steps.{leaves_step, connections_step, reached_step, kind_in}
+use Rattle.numbering.proofs.Lists.{get_map, flat_map_same}
+use Rattle.numbering.proofs.Gathered.{in_place, place_of as number_at}
+use Rattle.adl_templates.specs.Templates.{homed, template_leaves, leaf_place, Joined, end_in, ends_in, connection_in, template_connections, own_connections, target_in, target, target_of, export_target, leaves_before, moved_leaf, leaves_by, moved_end, moved_connection, connections_by, moved_target, own_target, target_by}
+use Rattle.adl_templates.proofs.Getting.{get_flat_map, map_flat, flat_map_numbered, map_same}
+use Rattle.adl_templates.proofs.Standing.{paths_once, reached_met, joined_met, composite_around}
+
+-- ---- leaves
+
+-- a leaf's place is its number
+place_of : (h : Hierarchy) → IsReady h → (k n : ℕ) (y : Placed) → slice_get (leaves_in h k) n ≡ Some y → leaf_place h k y.path ≡ n
+place_of h ready k n y e = place_is same_path same_path-Decides (λ (y : Placed). y.path) (leaves_in h k) n y (paths_once h ready k) e
+
+-- a leaf that an instance gives stands that far behind the leaves before the instance
+given_at : (h : Hierarchy) → IsReady h → (k i n : ℕ) (x : Part) (y : Placed) → k ≤ length h.bodies → slice_get (body h k).parts i ≡ Some x
+    → slice_get (placed_by h (leaves_in h) x) n ≡ Some y → leaf_place h k y.path ≡ leaves_before h k i + n
+given_at h ready k i n x y l g t =
+    let m = leaves_before h k i + n in
+    let P : List Placed → Type 0 = λ ls. slice_get ls m ≡ Some y in
+    place_of h ready k m y (subst P (sym (leaves_step h ready.finite k l)) (get_flat_map (placed_by h (leaves_in h)) (body h k).parts i n m x y refl g t))
+
+pub leaf_moved : (h : Hierarchy) → IsReady h → (k i : ℕ) (x : Part) (y : Placed) → k ≤ length h.bodies → slice_get (body h k).parts i ≡ Some x
+    → is_composite h x.kind ≡ true → IsIn y (leaves_in h x.kind)
+    → leaf_place h k (name_of x ∷ y.path) ≡ leaves_before h k i + leaf_place h x.kind y.path
+leaf_moved h ready k i x y l g c m =
+    let at = number_at y (leaves_in h x.kind) m in
+    let P : Bool → Type 0 = λ b. slice_get (cond b (map (outside (name_of x)) (leaves_in h x.kind)) (record { path = name_of x ∷ []; part = x } ∷ [])) at.0 ≡ Some (outside (name_of x) y) in
+    given_at h ready k i at.0 x (outside (name_of x) y) l g (subst P (sym c) (get_map (outside (name_of x)) (leaves_in h x.kind) at.0 y at.1))
+    ∙ ap (λ n. leaves_before h k i + n) (sym (place_of h ready x.kind at.0 y at.1))
+
+map_twice : {X Y Z : Type 0} (f : Y → Z) (g : X → Y) (xs : List X) → map f (map g xs) ≡ map (λ x. f (g x)) xs
+map_twice f g [] = refl
+map_twice f g (x ∷ xs) = ap (λ ys. f (g x) ∷ ys) (map_twice f g xs)
+
+-- ---- ports
+
+-- the first export under a name, and where its words lead
+exported : (h : Hierarchy) (k : ℕ) (e : Option Export) → option_and_then (target h k) (option_and_then (λ e. port_in e.words) e) ≡ option_and_then (λ t. t) (option_map (λ e. target_of h k e.words) e)
+exported h k None = refl
+exported h k (Some e) = refl
+
+leaf_target : (h : Hierarchy) → IsReady h → (k i : ℕ) (c j : Name) (x : Part) → k ≤ length h.bodies
+    → slice_get (body h k).parts i ≡ Some x → part_named (body h k).parts c ≡ Some x → is_composite h x.kind ≡ false
+    → target h k (c, j) ≡ Some (record { leaf = leaves_before h k i; member = member_number h x j; once = is_once h (record { path = name_of x ∷ []; part = x; interface = j }) })
+leaf_target h ready k i c j x l g p e =
+    let y : Placed = record { path = name_of x ∷ []; part = x } in
+    let r : Reached = record { path = name_of x ∷ []; part = x; interface = j } in
+    let inner : Option Reached = option_map (behind (name_of x)) (option_and_then (reached h x.kind) (option_and_then (λ (y : Export). port_in y.words) (export_named (exports_of (body h x.kind)) j))) in
+    let one : reached h k (c, j) ≡ Some r = reached_step h ready.finite k l (c, j) ∙ ap (option_and_then (reached_by h (reached h) j)) p ∙ ap (λ b. cond b inner (Some r)) e in
+    let P : Bool → Type 0 = λ b. slice_get (cond b (map (outside (name_of x)) (leaves_in h x.kind)) (y ∷ [])) zero ≡ Some y in
+    let n : leaf_place h k (name_of x ∷ []) ≡ leaves_before h k i = given_at h ready k i zero x y l g (subst P (sym e) refl) ∙ omega arith in
+    ap (option_map (target_in h k)) one ∙ ap (λ n. Some (record { leaf = n; member = member_number h x j; once = is_once h r })) n
+
+inner_target : (h : Hierarchy) → IsReady h → (k i : ℕ) (c j : Name) (x : Part) → k ≤ length h.bodies
+    → slice_get (body h k).parts i ≡ Some x → part_named (body h k).parts c ≡ Some x → is_composite h x.kind ≡ true
+    → target h k (c, j) ≡ option_map (moved_target (leaves_before h k i)) (option_and_then (λ t. t) (export_target h x.kind j))
+inner_target h ready k i c j x l g p e =
+    let port : Option (Name × Name) = option_and_then (λ (y : Export). port_in y.words) (export_named (exports_of (body h x.kind)) j) in
+    let own : Option Reached = Some (record { path = name_of x ∷ []; part = x; interface = j }) in
+    let one : reached h k (c, j) ≡ option_map (behind (name_of x)) (option_and_then (reached h x.kind) port) =
+    reached_step h ready.finite k l (c, j) ∙ ap (option_and_then (reached_by h (reached h) j)) p ∙ ap (λ b. cond b (option_map (behind (name_of x)) (option_and_then (reached h x.kind) port)) own) e in
+    ap (option_map (target_in h k)) one ∙ by port ∙ ap (option_map (moved_target (leaves_before h k i))) (exported h x.kind (export_named (exports_of (body h x.kind)) j))
+  where
+    on : (port : Name × Name) (r : Option Reached) → reached h x.kind port ≡ r → option_map (target_in h k) (option_map (behind (name_of x)) r) ≡ option_map (moved_target (leaves_before h k i)) (option_map (target_in h x.kind) r)
+    on port None q = refl
+    on port (Some r) q =
+        let y : Placed = record { path = r.path; part = r.part } in
+        let low = kind_in h ready.finite k x l (in_place x (body h k).parts i g) in
+        ap (λ n. Some (record { leaf = n; member = member_number h r.part r.interface; once = is_once h r })) (leaf_moved h ready k i x y l g e (reached_met h ready x.kind port r low q))
+
+    by : (o : Option (Name × Name)) → option_map (target_in h k) (option_map (behind (name_of x)) (option_and_then (reached h x.kind) o))
+        ≡ option_map (moved_target (leaves_before h k i)) (option_and_then (target h x.kind) o)
+    by None = refl
+    by (Some port) = on port (reached h x.kind port) refl
+
+-- where an interface of an instance leads, from its component
+pub target_step : (h : Hierarchy) → IsReady h → (k i : ℕ) (c j : Name) (x : Part) → k ≤ length h.bodies → slice_get (body h k).parts i ≡ Some x → part_named (body h k).parts c ≡ Some x
+    → target h k (c, j) ≡ target_by h (leaves_before h k i) x.kind j
+target_step h ready k i c j x l g p = by (is_composite h x.kind) refl
+  where
+    by : (b : Bool) → is_composite h x.kind ≡ b
+        → target h k (c, j) ≡ cond b (option_map (moved_target (leaves_before h k i)) (option_and_then (λ t. t) (export_target h x.kind j))) (Some (own_target (body h x.kind) (leaves_before h k i) j))
+    by true e = inner_target h ready k i c j x l g p e
+    by false e = leaf_target h ready k i c j x l g p e
+
+pub no_target : (h : Hierarchy) → IsReady h → (k : ℕ) (c j : Name) → k ≤ length h.bodies → part_named (body h k).parts c ≡ None → target h k (c, j) ≡ None
+no_target h ready k c j l p = ap (option_map (target_in h k)) (reached_step h ready.finite k l (c, j) ∙ ap (option_and_then (reached_by h (reached h) j)) p)
+
+-- ---- homes
+
+-- an instance is the first of its name
+first_named : (h : Hierarchy) → IsReady h → (k : ℕ) (x : Part) → IsIn x (body h k).parts → part_named (body h k).parts (name_of x) ≡ Some x
+first_named h ready k x i = find_once name_of (body h k).parts x (ready.once k) i
+
+home_placed : (h : Hierarchy) (k : ℕ) (x : Part) (p : Path) → part_named (body h k).parts (name_of x) ≡ Some x → group_above h k (name_of x ∷ p) ≡ group_or x.group (option_map (λ q. name_of x ∷ q) (group_above h x.kind p))
+home_placed h k x p e = ap (option_and_then (λ (y : Part). group_or y.group (option_map (λ q. name_of x ∷ q) (group_above h y.kind p)))) e
+
+-- the leaves of an instance, with their homes
+pub leaves_placed : (h : Hierarchy) → IsReady h → (k : ℕ) (x : Part) → IsIn x (body h k).parts → map (homed h k) (placed_by h (leaves_in h) x) ≡ leaves_by h x
+leaves_placed h ready k x i = by (is_composite h x.kind)
+  where
+    at_home : (p : Path) → group_above h k (name_of x ∷ p) ≡ group_or x.group (option_map (λ q. name_of x ∷ q) (group_above h x.kind p))
+    at_home p = home_placed h k x p (first_named h ready k x i)
+
+    by : (b : Bool) → map (homed h k) (cond b (map (outside (name_of x)) (leaves_in h x.kind)) (record { path = name_of x ∷ []; part = x } ∷ []))
+        ≡ cond b (map (moved_leaf x) (template_leaves h x.kind)) (record { leaf = record { path = name_of x ∷ []; part = x }; home = group_or x.group None } ∷ [])
+    by true =
+        map_twice (homed h k) (outside (name_of x)) (leaves_in h x.kind)
+        ∙ map_same (λ y. homed h k (outside (name_of x) y)) (λ y. moved_leaf x (homed h x.kind y)) (leaves_in h x.kind) (λ y m. ap (λ o. record { leaf = outside (name_of x) y; home = o }) (at_home y.path))
+        ∙ sym (map_twice (moved_leaf x) (homed h x.kind) (leaves_in h x.kind))
+    by false = ap (λ o. record { leaf = record { path = name_of x ∷ []; part = x }; home = o } ∷ []) (at_home [])
+
+pub template_leaves_placed : (h : Hierarchy) → IsReady h → (k : ℕ) → k ≤ length h.bodies → template_leaves h k ≡ flat_map (leaves_by h) (body h k).parts
+template_leaves_placed h ready k l =
+    ap (map (homed h k)) (leaves_step h ready.finite k l) ∙ map_flat (homed h k) (placed_by h (leaves_in h)) (body h k).parts
+    ∙ flat_map_same (λ x. map (homed h k) (placed_by h (leaves_in h) x)) (leaves_by h) (body h k).parts (λ x i. leaves_placed h ready k x i)
+
+-- ---- connections
+
+ends_moved : (f g : End → Reached → Joined) (j : End → Option Reached) (o : ℕ) → ((e : End) (r : Reached) → j e ≡ Some r → f e r ≡ moved_end o (g e r)) → (es : List End)
+    → filter_map (λ e. option_map (f e) (j e)) es ≡ map (moved_end o) (filter_map (λ e. option_map (g e) (j e)) es)
+ends_moved f g j o same [] = refl
+ends_moved f g j o same (e ∷ es) = by (j e) refl (ends_moved f g j o same es)
+  where
+    by : (r : Option Reached) → j e ≡ r → filter_map (λ e. option_map (f e) (j e)) es ≡ map (moved_end o) (filter_map (λ e. option_map (g e) (j e)) es)
+        → cons_option (option_map (f e) r) (filter_map (λ e. option_map (f e) (j e)) es) ≡ map (moved_end o) (cons_option (option_map (g e) r) (filter_map (λ e. option_map (g e) (j e)) es))
+    by None q rest = rest
+    by (Some r) q rest = ap (λ y. y ∷ filter_map (λ e. option_map (f e) (j e)) es) (same e r q) ∙ ap (λ ys. moved_end o (g e r) ∷ ys) rest
+
+-- a connection inside an instance
+connection_moved : (h : Hierarchy) → IsReady h → (k i : ℕ) (x : Part) (y : Strung) → k ≤ length h.bodies → slice_get (body h k).parts i ≡ Some x
+    → is_composite h x.kind ≡ true → IsIn y (connections_in h x.kind)
+    → connection_in h k (further (name_of x) y) ≡ moved_connection (name_of x) (leaves_before h k i) (connection_in h x.kind y)
+connection_moved h ready k i x y l g c m =
+    let o = leaves_before h k i in
+    let low = kind_in h ready.finite k x l (in_place x (body h k).parts i g) in
+    let one : (e : End) (r : Reached) → joined_by h y.inside e ≡ Some r → end_in h k (name_of x ∷ y.path) e r ≡ moved_end o (end_in h x.kind y.path e r) = λ e r q.
+    let z : Placed = record { path = y.path ++ r.path; part = r.part } in
+    let p : leaf_place h k (name_of x ∷ (y.path ++ r.path)) ≡ o + leaf_place h x.kind (y.path ++ r.path) = leaf_moved h ready k i x z l g c (joined_met h ready x.kind y e r low m q) in
+    ap (λ n. record { end = e; leaf = n; member = member_number h r.part r.interface; once = is_once h r }) p in
+    let es : ends_in h k (further (name_of x) y) ≡ map (moved_end o) (ends_in h x.kind y) = ends_moved (end_in h k (name_of x ∷ y.path)) (end_in h x.kind y.path) (joined_by h y.inside) o one y.wire.1.ends in
+    ap (λ es. record { path = name_of x ∷ y.path; wire = y.wire; ends = es }) es
+
+-- all connections inside an instance
+part_moved : (h : Hierarchy) → IsReady h → (k i : ℕ) (x : Part) → k ≤ length h.bodies → slice_get (body h k).parts i ≡ Some x
+    → map (connection_in h k) (strung_by (connections_in h) x) ≡ map (moved_connection (name_of x) (leaves_before h k i)) (template_connections h x.kind)
+part_moved h ready k i x l g =
+    let o = leaves_before h k i in
+    map_twice (connection_in h k) (further (name_of x)) (connections_in h x.kind)
+    ∙ map_same (λ y. connection_in h k (further (name_of x) y)) (λ y. moved_connection (name_of x) o (connection_in h x.kind y)) (connections_in h x.kind) (λ y m. by y m (is_composite h x.kind) refl)
+    ∙ sym (map_twice (moved_connection (name_of x) o) (connection_in h x.kind) (connections_in h x.kind))
+  where
+    by : (y : Strung) → IsIn y (connections_in h x.kind) → (b : Bool) → is_composite h x.kind ≡ b
+        → connection_in h k (further (name_of x) y) ≡ moved_connection (name_of x) (leaves_before h k i) (connection_in h x.kind y)
+    by y m true c = connection_moved h ready k i x y l g c m
+    by y m false c = absurd (composite_around h ready x.kind y m c)
+
+pub connections_placed : (h : Hierarchy) → IsReady h → (k : ℕ) → k ≤ length h.bodies → template_connections h k ≡ own_connections h k ++ flat_map (connections_by h k) (enumerate_from 0 (body h k).parts)
+connections_placed h ready k l =
+    let own = map (strung k) (wires_of (body h k)) in
+    let inner = flat_map (strung_by (connections_in h)) (body h k).parts in
+    ap (map (connection_in h k)) (connections_step h ready.finite k l) ∙ map-append (connection_in h k) own inner
+    ∙ ap (λ ys. map (connection_in h k) own ++ ys) (map_flat (connection_in h k) (strung_by (connections_in h)) (body h k).parts
+    ∙ flat_map_numbered (λ x. map (connection_in h k) (strung_by (connections_in h) x)) (connections_by h k) 0 (body h k).parts (λ i n x e g.
+    let q : i ≡ n = omega (arith, e) in
+    part_moved h ready k i x l g ∙ ap (λ m. map (moved_connection (name_of x) (leaves_before h k m)) (template_connections h x.kind)) q))

@@ -1,0 +1,12 @@
+use Rattle.std.proofs.Common.{◌≡◌, ◌++◌, drop, map}
+use Rattle.std.specs.List.{filter_map}
+use Rattle.adl_meaning.specs.Hierarchy.{body, wires_of}
+use Rattle.adl_meaning.specs.Joins.{strung}
+use Rattle.adl_templates.specs.Templates.{connection_in, own_connections, own_end}
+use Rattle.adl_templates.proofs.template.own_connections.Given as goal
+
+abbrev pub invariant-loop-wire : goal.invariant-loop-wire
+invariant-loop-wire l = l.connections.items ++ map (connection_in l.program l.number) (map (strung l.number) (drop l.wire-index (wires_of (body l.program l.number)))) ≡ own_connections l.program l.number
+
+abbrev pub invariant-loop-end : goal.invariant-loop-end
+invariant-loop-end l = l.ends.items ++ filter_map (own_end l.program l.number) (drop l.end-index l.end-items) ≡ filter_map (own_end l.program l.number) l.end-items

@@ -1,0 +1,14 @@
+use Rattle.std.proofs.Common.{◌<◌, ◌^◌, sym, subst}
+use Rattle.adl_meaning.specs.Hierarchy.{Body, body}
+use Rattle.adl_templates.specs.Templates.{member_of}
+use Rattle.adl_templates.proofs.Bounds.{target_room, member_few}
+use Rattle.adl_templates.proofs.template.part_target.Goals as goal
+
+pub moved_target-requires : goal.moved_target-requires
+moved_target-requires c =
+    target_room c.args.program.now c.args.kind c.args.name.now c.args.inner.now.targets c.exported.result c.args.before _ (c.requires.template.targets c.args.name.now) c.exported.ensures c.requires.room
+
+pub own_target-requires-clause-few : goal.own_target-requires-clause-few
+own_target-requires-clause-few c =
+    let P : Body → Type 0 = λ b. member_of b c.args.name.now < 2 ^ 32 in
+    subst P (sym c.body-body.ensures) (member_few (body c.args.program.now c.args.kind) c.args.name.now _ (c.requires.ready.few c.args.kind))

@@ -1,0 +1,3 @@
+pub mod AreTemplates
+pub mod Ready
+pub mod Templates

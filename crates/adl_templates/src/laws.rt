@@ -1,0 +1,21 @@
+//! What the definitions promise together, as a function that does nothing.
+
+ghost use Rattle.adl_meaning.specs.Hierarchy.{Hierarchy, Part, body, part_named, top_number};
+ghost use Rattle.adl_meaning.specs.Items.{Name};
+ghost use Rattle.adl_templates.specs.Ready.{IsReady};
+ghost use Rattle.adl_templates.specs.Templates.{template_leaves, template_connections, own_connections, connections_by, leaves_by, leaves_before, target, target_by};
+ghost use Rattle.std.specs.List.{flat_map, enumerate_from, slice_get};
+ghost use Rattle.std.specs.Prelude.{◌≡◌, ◌≤◌, ◌++◌, ℕ, Some};
+
+/// The template of a body is made of those of its instances' components: its leaves with their homes, its connections,
+/// and where its ports lead.
+pub fn templates_are_placed()
+    ensures leaves { (h : Hierarchy) → IsReady h → (k : ℕ) → k ≤ top_number h
+        → template_leaves h k ≡ flat_map (leaves_by h) (body h k).parts }
+    ensures connections { (h : Hierarchy) → IsReady h → (k : ℕ) → k ≤ top_number h
+        → template_connections h k ≡ own_connections h k
+        ++ flat_map (connections_by h k) (enumerate_from 0 (body h k).parts) }
+    ensures targets { (h : Hierarchy) → IsReady h → (k i : ℕ) (c j : Name) (x : Part) → k ≤ top_number h
+        → slice_get (body h k).parts i ≡ Some x → part_named (body h k).parts c ≡ Some x
+        → target h k (c, j) ≡ target_by h (leaves_before h k i) x.kind j }
+{}

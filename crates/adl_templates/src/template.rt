@@ -1,0 +1,388 @@
+//! The template of a body, from those of its instances' components.
+
+ghost use Rattle.adl_meaning.specs.Hierarchy.{body, graph, port_in};
+ghost use Rattle.adl_meaning.specs.Graph.{IsInnerFirst};
+ghost use Rattle.adl_meaning.specs.JoinedEnds.{joins_once};
+ghost use Rattle.adl_templates.specs.AreTemplates.{IsTemplate, AreInner, AreBefore, AreWanted, AreTemplates};
+ghost use Rattle.adl_templates.specs.Ready.{IsReady};
+ghost use Rattle.adl_templates.specs.Templates.{template_leaves, own_connections, connections_by, member_of, own_target, target_by, target, target_of, export_target, leaves_by};
+ghost use Rattle.adl_templates.specs.declared.template.Template.{Template as TemplateOf};
+ghost use Rattle.adl_meaning.specs.Members.{as_interface, declared_as};
+ghost use Rattle.adl_meaning.specs.Paths.{leaves_in};
+ghost use Rattle.adl_names.specs.ByName.{found};
+ghost use Rattle.adl_names.specs.Tables.{declaring_told};
+ghost use Rattle.std.specs.List.{flat_map, enumerate_from};
+ghost use Rattle.std.specs.Option.{option_and_then, option_copied};
+ghost use Rattle.std.specs.Prelude.{◌≡◌, ◌<◌, ◌+◌, ◌^◌, ◌++◌, ℕ, true, List as Seq, length, slice_index, slice_index_or, option_map, IfOk, OnOk};
+
+use crate::place::{moved_target, own_leaf, place_connections, place_leaves};
+use crate::placed::{PlacedConnection, PlacedEnd, PlacedLeaf};
+use crate::target::Target;
+use adl_ast::{Id, Interface, InterfaceKind, Line};
+use adl_names::{Declared, NameTable, declaring};
+use adl_program::{Body, Part, Program};
+use cam_base::{Name, NoMemory, Path};
+use std::alloc::Global;
+
+/// What a body holds: its leaves and its connections in order, where its exports lead, and what its component declares.
+#[derive(Drop)]
+pub struct Template<'a> {
+    pub leaves: Vec<PlacedLeaf<'a>>,
+    pub connections: Vec<PlacedConnection<'a>>,
+    pub targets: NameTable<'a, Option<Target>>,
+    pub declared: NameTable<'a, Declared<'a>>,
+}
+
+impl<'a> Template<'a> {
+    /// The template of nothing.
+    pub fn empty(alloc: Global) -> Template<'a> {
+        Template {
+            leaves: Vec::new(alloc),
+            connections: Vec::new(alloc),
+            targets: NameTable::new(alloc),
+            declared: NameTable::new(alloc),
+        }
+    }
+}
+
+/// The leaves of a body, and how many of them stand in front of each of its instances.
+#[derive(Drop)]
+struct Leaves<'a> {
+    leaves: Vec<PlacedLeaf<'a>>,
+    before: Vec<u32>,
+}
+
+/// Adds the leaves that an instance stands for.
+fn place_part<'a>(
+    alloc: Global,
+    program: &Program<'a>,
+    all: &[Template<'a>],
+    part: &Part<'a>,
+    leaves: &mut Vec<PlacedLeaf<'a>>,
+) -> Result<(), NoMemory>
+    requires within { part.now.kind < length all.now }
+    requires each { (t : TemplateOf) → IsTemplate program.now part.now.kind (slice_index_or all.now part.now.kind t) }
+    ensures { OnOk result (leaves.new.items ≡ leaves.old.items ++ leaves_by program.now part.now) }
+{
+    if program.body(part.kind).is_composite() {
+        let inner = &all[part.kind as usize];
+        place_leaves(alloc, part, inner.leaves.as_slice(), leaves)
+    } else {
+        leaves.push(own_leaf(alloc, part)?)?;
+        Ok(())
+    }
+}
+
+/// The leaves of the body of the number.
+fn leaves_of<'a>(
+    alloc: Global,
+    program: &Program<'a>,
+    all: &[Template<'a>],
+    number: u32,
+) -> Result<Leaves<'a>, NoMemory>
+    requires { AreInner program.now number all.now }
+    ensures leaves { IfOk result (λ l. l.leaves.items ≡ template_leaves program.now number) }
+    ensures before { IfOk result (λ l. AreBefore program.now number l.before.items) }
+{
+    let mut leaves = Vec::new(alloc);
+    let mut before = Vec::new(alloc);
+    for part in program.body(number).parts() {
+        before.push(leaves.len() as u32)?;
+        place_part(alloc, program, all, part, &mut leaves)?;
+    }
+    Ok(Leaves { leaves, before })
+}
+
+fn joins_once(device: bool, kind: InterfaceKind) -> bool
+    ensures { result ≡ joins_once device kind }
+{
+    match kind {
+        InterfaceKind::Uses | InterfaceKind::Consumes => true,
+        InterfaceKind::Emits => device,
+        InterfaceKind::Provides | InterfaceKind::Dataport => false,
+    }
+}
+
+/// Where the export under the name leads.
+fn exported(template: &Template<'_>, name: &Name) -> Option<Target>
+    ensures { result ≡ option_and_then (λ t. t) (found template.now.targets name.now) }
+{
+    template.targets.get(name).copied().flatten()
+}
+
+/// The interface that a name stands for among what a component declares.
+fn interface<'a>(declared: &NameTable<'a, Declared<'a>>, name: &Name) -> Option<&'a Interface>
+    ensures { option_copied result ≡ option_and_then as_interface (declaring_told declared.now name.now) }
+{
+    match declared.get(name) {
+        Some(Declared::Interface(interface)) => Some(interface),
+        Some(Declared::Attribute(_)) => None,
+        Some(Declared::Lock(_)) => None,
+        None => None,
+    }
+}
+
+/// An interface of a leaf of the body, with so many leaves before it.
+fn own_target(
+    body: &Body<'_>,
+    declared: &NameTable<'_, Declared<'_>>,
+    before: u32,
+    name: &Name,
+) -> Target
+    requires declared { (n : Seq ℕ) → declaring_told declared.now n
+        ≡ option_and_then (λ c. declared_as c n) body.now.component }
+    requires few { member_of body.now name.now < 2 ^ 32 }
+    ensures { result ≡ own_target body.now before name.now }
+{
+    let once = match interface(declared, name) {
+        None => false,
+        Some(interface) => joins_once(body.is_hardware(), interface.kind),
+    };
+    Target {
+        leaf: before,
+        member: body.member_number(name) as u32,
+        once,
+    }
+}
+
+/// Where an interface of an instance leads: the number of its component, the template of that, and how many leaves
+/// stand before the instance.
+fn part_target(
+    program: &Program<'_>,
+    inner: &Template<'_>,
+    before: u32,
+    kind: u32,
+    name: &Name,
+) -> Option<Target>
+    requires ready { IsReady program.now }
+    requires template { IsTemplate program.now kind inner.now }
+    requires room { before + length (leaves_in program.now kind) < 2 ^ 32 }
+    ensures { result ≡ target_by program.now before kind name.now }
+{
+    let body = program.body(kind);
+    if body.is_composite() {
+        moved_target(before, exported(inner, name))
+    } else {
+        Some(own_target(body, &inner.declared, before, name))
+    }
+}
+
+/// How many leaves stand in front of the instance of the number.
+fn before_at(before: &[u32], number: usize) -> u32
+    requires { number < length before.now }
+    ensures { result ≡ slice_index before.now number }
+{
+    before[number]
+}
+
+/// Where an interface of an instance of the body of the number leads.
+fn target(
+    program: &Program<'_>,
+    all: &[Template<'_>],
+    before: &[u32],
+    number: u32,
+    part: &Name,
+    interface: &Name,
+) -> Option<Target>
+    requires inner { AreInner program.now number all.now }
+    requires before { AreBefore program.now number before.now }
+    ensures { result ≡ target program.now number (part.now, interface.now) }
+{
+    match program.body(number).part(part) {
+        None => None,
+        Some(at) => {
+            let before = before_at(before, at.number);
+            let inner = &all[at.kind as usize];
+            part_target(program, inner, before, at.kind, interface)
+        }
+    }
+}
+
+/// The instance and the interface of a dotted name: its last two words.
+fn port_in(words: &[Id]) -> Option<(&Name, &Name)>
+    ensures { option_map (λ p. (p.0.now, p.1.now)) result ≡ port_in words.now }
+{
+    match words {
+        [.., part, interface] => Some((&part.name, &interface.name)),
+        _ => None,
+    }
+}
+
+/// Where a dotted name leads in the body of the number.
+fn target_of(
+    program: &Program<'_>,
+    all: &[Template<'_>],
+    before: &[u32],
+    number: u32,
+    words: &[Id],
+) -> Option<Target>
+    requires inner { AreInner program.now number all.now }
+    requires before { AreBefore program.now number before.now }
+    ensures { result ≡ target_of program.now number words.now }
+{
+    match port_in(words) {
+        None => None,
+        Some((part, interface)) => target(program, all, before, number, part, interface),
+    }
+}
+
+/// Where the exports of the body of the number lead.
+fn targets_of<'a>(
+    alloc: Global,
+    program: &Program<'a>,
+    all: &[Template<'a>],
+    before: &[u32],
+    number: u32,
+) -> Result<NameTable<'a, Option<Target>>, NoMemory>
+    requires inner { AreInner program.now number all.now }
+    requires before { AreBefore program.now number before.now }
+    ensures { IfOk result (λ t. (n : Seq ℕ) → found t n ≡ export_target program.now number n) }
+{
+    let mut targets = NameTable::new(alloc);
+    let Some(composition) = program.body(number).composition() else {
+        return Ok(targets);
+    };
+    for line in composition.lines.as_slice() {
+        if let Line::Export(export) = line {
+            let target = target_of(program, all, before, number, export.words.as_slice());
+            targets.add(&export.target.name, target)?;
+        }
+    }
+    Ok(targets)
+}
+
+/// The connections of the composition of the number itself.
+fn own_connections<'a>(
+    alloc: Global,
+    program: &Program<'a>,
+    all: &[Template<'a>],
+    before: &[u32],
+    number: u32,
+) -> Result<Vec<PlacedConnection<'a>>, NoMemory>
+    requires inner { AreInner program.now number all.now }
+    requires before { AreBefore program.now number before.now }
+    ensures { IfOk result (λ v. v.items ≡ own_connections program.now number) }
+{
+    let mut connections = Vec::new(alloc);
+    for wire in program.body(number).wires() {
+        let mut ends = Vec::new(alloc);
+        for end in wire.connection.ends.as_slice() {
+            if let Some(target) = target_of(program, all, before, number, end.words.as_slice()) {
+                ends.push(PlacedEnd {
+                    end,
+                    leaf: target.leaf,
+                    member: target.member,
+                    once: target.once,
+                })?;
+            }
+        }
+        connections.push(PlacedConnection {
+            path: Path::empty(alloc),
+            connector: wire.connector,
+            connection: wire.connection,
+            ends,
+        })?;
+    }
+    Ok(connections)
+}
+
+/// Adds the connections inside the instances of the body of the number.
+fn place_inner<'a>(
+    alloc: Global,
+    program: &Program<'a>,
+    all: &[Template<'a>],
+    before: &[u32],
+    number: u32,
+    connections: &mut Vec<PlacedConnection<'a>>,
+) -> Result<(), NoMemory>
+    requires inner { AreInner program.now number all.now }
+    requires before { AreBefore program.now number before.now }
+    ensures { OnOk result (connections.new.items ≡ connections.old.items
+        ++ flat_map (connections_by program.now number) (enumerate_from 0 (body program.now number).parts)) }
+{
+    for (i, part) in program.body(number).parts().iter().enumerate() {
+        let inner = &all[part.kind() as usize];
+        let inner = inner.connections.as_slice();
+        place_connections(alloc, part, before[i], inner, connections)?;
+    }
+    Ok(())
+}
+
+fn declared_of<'a>(alloc: Global, body: &Body<'a>) -> Result<NameTable<'a, Declared<'a>>, NoMemory>
+    ensures { IfOk result (λ t. (n : Seq ℕ) → declaring_told t n
+        ≡ option_and_then (λ c. declared_as c n) body.now.component) }
+{
+    match body.component() {
+        None => Ok(NameTable::new(alloc)),
+        Some(component) => declaring(alloc, component),
+    }
+}
+
+/// The template of the body of the number.
+fn template_of<'a>(
+    alloc: Global,
+    program: &Program<'a>,
+    all: &[Template<'a>],
+    number: u32,
+) -> Result<Template<'a>, NoMemory>
+    requires { AreInner program.now number all.now }
+    ensures { IfOk result (λ t. IsTemplate program.now number t) }
+{
+    let Leaves { leaves, before } = leaves_of(alloc, program, all, number)?;
+    let before = before.as_slice();
+    let mut connections = own_connections(alloc, program, all, before, number)?;
+    place_inner(alloc, program, all, before, number, &mut connections)?;
+    let targets = targets_of(alloc, program, all, before, number)?;
+    let declared = declared_of(alloc, program.body(number))?;
+    Ok(Template {
+        leaves,
+        connections,
+        targets,
+        declared,
+    })
+}
+
+/// The template of the body of the number, if it is wanted.
+fn wanted_template<'a>(
+    alloc: Global,
+    program: &Program<'a>,
+    all: &[Template<'a>],
+    number: u32,
+    is_wanted: bool,
+) -> Result<Template<'a>, NoMemory>
+    requires { is_wanted ≡ true → AreInner program.now number all.now }
+    ensures { IfOk result (λ t. is_wanted ≡ true → IsTemplate program.now number t) }
+{
+    if is_wanted {
+        template_of(alloc, program, all, number)
+    } else {
+        Ok(Template::empty(alloc))
+    }
+}
+
+/// The templates of the bodies that they are wanted of, by number, made in an order in which inner bodies stand first.
+///
+/// # Errors
+///
+/// Want of memory.
+pub fn all_templates<'a>(
+    alloc: Global,
+    program: &Program<'a>,
+    order: &[u32],
+    wanted: &[bool],
+) -> Result<Vec<Template<'a>>, NoMemory>
+    requires order { IsInnerFirst (graph program.now) order.now }
+    requires wanted { AreWanted program.now wanted.now }
+    ensures { IfOk result (λ all. AreTemplates program.now wanted.now all.items) }
+{
+    let mut all = Vec::new(alloc);
+    for _count in 0..program.top_number() + 1 {
+        all.push(Template::empty(alloc))?;
+    }
+    for number in order {
+        let is_wanted = wanted[*number as usize];
+        let template = wanted_template(alloc, program, all.as_slice(), *number, is_wanted)?;
+        let _empty = std::mem::replace(&mut all[*number as usize], template);
+    }
+    Ok(all)
+}
