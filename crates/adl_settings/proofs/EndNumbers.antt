@@ -5,15 +5,13 @@ use Rattle.std.specs.Option.{option_and_then}
 use Rattle.std.proofs.lemmas.Bool.{and_parts}
 use Rattle.std.proofs.lemmas.Option.{slice_get-map}
 use Rattle.adl_ast.specs.declared.component.Interface.{Interface}
-use Rattle.adl_ast.specs.declared.composition.End.{End}
 use Rattle.adl_ast.specs.declared.source.Source.{Source}
 use Rattle.adl_meaning.specs.declared.flat.Flat.{Flat}
 use Rattle.adl_meaning.specs.declared.flat.FlatConnection.{FlatConnection}
 use Rattle.adl_meaning.specs.declared.flat.FlatEnd.{FlatEnd}
 use Rattle.adl_meaning.specs.declared.flat.Leaf.{Leaf}
-use Rattle.adl_meaning.specs.Flat.{flat_of, flat_end, flat_connection}
+use Rattle.adl_meaning.specs.Flat.{flat_of}
 use Rattle.adl_meaning.specs.Hierarchy.{Hierarchy, hierarchy_of}
-use Rattle.adl_meaning.specs.Joins.{Reached, Strung, joined_by}
 use Rattle.adl_settings.specs.EndMeaning.{end_setting}
 use Rattle.adl_settings.specs.Joints.{Found, interface_at, behind, positioned_after, positioned, joint_at, found_at, found_of, found_on}
 use Rattle.adl_settings.specs.NumberedEnds.{joins_interface, setting_at, IsFoundAt}
@@ -35,27 +33,6 @@ slice_get-filter_map {X} {Y} f (z ∷ zs) n x a e =
     by_head None n s i e rest = cc
     by_head (Some y) zero s i e rest = let same : z ≡ x = cc in (y, ap f (sym same) ∙ i, rw i refl)
     by_head (Some y) (suc m) s i e rest = let r = rest m e in (r.0, r.1, rw i r.2)
-
--- the same, where v makes something of what each gives
-module _ {X Y Z : Type 0} (g : X → Option Z) (v : X → Z → Y) where
-  some-mapped : (x : X) (o : Option Z) → is_some (option_map (v x) o) ≡ is_some o
-  some-mapped x None = refl
-  some-mapped x (Some z) = refl
-
-  all-mapped : (xs : List X) → list_all (λ x. is_some (option_map (v x) (g x))) xs ≡ list_all (λ x. is_some (g x)) xs
-  all-mapped [] = refl
-  all-mapped (x ∷ xs) = ap (λ b. b && list_all (λ y. is_some (option_map (v y) (g y))) xs) (some-mapped x (g x)) ∙ ap (λ b. is_some (g x) && b) (all-mapped xs)
-
-  from_mapped : (x : X) (y : Y) (o : Option Z) → option_map (v x) o ≡ Some y → (z : Z) × (o ≡ Some z) × (v x z ≡ y)
-  from_mapped x y None e = cc
-  from_mapped x y (Some z) e = (z, refl, cc)
-
-  slice_get-filter_map-option_map : (xs : List X) (n : ℕ) (x : X) → list_all (λ z. is_some (g z)) xs ≡ true → slice_get xs n ≡ Some x
-      → (z : Z) × (g x ≡ Some z) × (slice_get (filter_map (λ y. option_map (v y) (g y)) xs) n ≡ Some (v x z))
-  slice_get-filter_map-option_map xs n x a e =
-      let got = slice_get-filter_map (λ y. option_map (v y) (g y)) xs n x (all-mapped xs ∙ a) e in
-      let from = from_mapped x got.0 (g x) got.1 in
-      (from.0, from.1, got.2 ∙ ap Some (sym from.2))
 
 -- ---- ends with their positions
 
@@ -112,9 +89,3 @@ setting_at_number s i n k e at all is =
     let got = found_at_number h s flat k n e all is in
     let connection = slice_get-map end_settings (map (found_on h s flat) flat.connections) i ∙ ap (option_map end_settings) (slice_get-map (found_on h s flat) flat.connections i ∙ ap (option_map (found_on h s flat)) at) in
     (got.0, got.1, ap (option_and_then (λ c. slice_get c.ends n)) connection ∙ slice_get-map end_setting (found_on h s flat k) n ∙ ap (option_map end_setting) got.2)
-
--- ---- ends of the text
-
-pub flat_end_at_number : (h : Hierarchy) (x : Strung) (n : ℕ) (t : End) → list_all (λ u. is_some (joined_by h x.inside u)) x.wire.1.ends ≡ true → slice_get x.wire.1.ends n ≡ Some t
-    → (r : Reached) × (joined_by h x.inside t ≡ Some r) × (slice_get (flat_connection h x).ends n ≡ Some (flat_end h x.path t r))
-flat_end_at_number h x n t all is = slice_get-filter_map-option_map (joined_by h x.inside) (flat_end h x.path) x.wire.1.ends n t all is

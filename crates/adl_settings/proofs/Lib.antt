@@ -1,12 +1,8 @@
-pub mod Bodies
+pub mod BadMeant
 pub mod Counting
 pub mod EndNumbers
-pub mod FoundRecords
-pub mod InnerNames
-pub mod PageSearch
+pub mod Noted
+pub mod PagesShared
 pub mod Positions
-pub mod SettledWhole
-pub mod SettingKeys
-pub mod SettingSteps
+pub mod Twice
 pub mod ValueSearch
-pub mod ValueSteps

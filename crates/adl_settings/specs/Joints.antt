@@ -21,7 +21,7 @@ use Rattle.adl_ast.specs.declared.file.Item.{Item}
 use Rattle.adl_ast.specs.declared.file.Item.TheVariants as items
 use Rattle.adl_ast.specs.declared.source.Source.{Source}
 use Rattle.adl_meaning.specs.declared.connector.Connector.{Connector}
-use Rattle.adl_meaning.specs.declared.connector.Connector.TheVariants.{Rpc, Notification, SharedMemory, Mmio, Interrupt, Direct}
+use Rattle.adl_meaning.specs.declared.connector.Connector.TheVariants.{Rpc, Notification, SharedMemory}
 use Rattle.adl_meaning.specs.declared.flat.Flat.{Flat}
 use Rattle.adl_meaning.specs.declared.flat.FlatConnection.{FlatConnection}
 use Rattle.adl_meaning.specs.declared.flat.FlatEnd.{FlatEnd}
@@ -36,10 +36,8 @@ use Rattle.adl_settings.specs.Meant.{where_set}
 -- ---- interfaces by number
 
 abbrev pub as_component : Item → Option Component
-as_component (items.Import i) = None
-as_component (items.Procedure p) = None
 as_component (items.Component c) = Some c
-as_component (items.Assembly a) = None
+as_component _ = None
 
 -- the component that stands at the place
 abbrev pub component_at : Source → ItemAt → Option Component
@@ -47,13 +45,7 @@ component_at s a = option_and_then (λ f. option_and_then (λ x. as_component x.
 
 abbrev pub as_interface : Member → Option Interface
 as_interface (members.Interface i) = Some i
-as_interface (members.Control p) = None
-as_interface (members.Hardware p) = None
-as_interface (members.Include i) = None
-as_interface (members.Attribute a) = None
-as_interface (members.Lock l) = None
-as_interface (members.Composition k) = None
-as_interface (members.Configuration f) = None
+as_interface _ = None
 
 -- the interface that is this member of the leaf's component
 abbrev pub interface_at : Source → Leaf → ℕ → Option Interface
@@ -117,11 +109,7 @@ has_badge j = are_badged j.connection.connector j.end.role
 
 abbrev pub is_shared : Connector → Bool
 is_shared SharedMemory = true
-is_shared Rpc = false
-is_shared Notification = false
-is_shared Mmio = false
-is_shared Interrupt = false
-is_shared Direct = false
+is_shared _ = false
 
 -- ---- the values of the settings
 

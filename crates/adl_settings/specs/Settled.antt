@@ -45,11 +45,12 @@ leaves_found h flat = map (leaf_found h) flat.leaves
 abbrev pub end_settings : List Found → EndSettings
 end_settings fs = record { ends = map end_setting fs }
 
+-- those that are meant by the values of leaves and of the ends of connections
+abbrev pub settled_from : List LeafFound → List (List Found) → Settled
+settled_from leaves connections = record { leaves = map leaf_setting leaves; connections = map end_settings connections }
+
 abbrev pub settled_in : Hierarchy → Source → Flat → Settled
-settled_in h s flat = record {
-  leaves = map leaf_setting (leaves_found h flat);
-  connections = map end_settings (founds_in h s flat);
-}
+settled_in h s flat = settled_from (leaves_found h flat) (founds_in h s flat)
 
 abbrev pub settled_of : Source → Settled
 settled_of s = settled_in (hierarchy_of s) s (flat_of s)

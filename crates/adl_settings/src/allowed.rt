@@ -28,9 +28,7 @@ fn number_in(value: &Value) -> Option<u64>
 {
     match &value.kind {
         ValueKind::Number(number) => Some(*number),
-        ValueKind::Text(_) => None,
-        ValueKind::Items(_) => None,
-        ValueKind::Dictionary(_) => None,
+        _ => None,
     }
 }
 
@@ -38,10 +36,8 @@ fn text_in(value: &Value) -> Option<&[u8]>
     ensures { option_copied result ≡ text_in value.now.kind }
 {
     match &value.kind {
-        ValueKind::Number(_) => None,
         ValueKind::Text(text) => Some(text.as_bytes()),
-        ValueKind::Items(_) => None,
-        ValueKind::Dictionary(_) => None,
+        _ => None,
     }
 }
 
@@ -167,8 +163,7 @@ pub fn badge_in(value: &Value) -> Option<u64>
     match &value.kind {
         ValueKind::Number(number) => within(0, GREATEST_BADGE, *number),
         ValueKind::Text(text) => badge_named(text.as_bytes()),
-        ValueKind::Items(_) => None,
-        ValueKind::Dictionary(_) => None,
+        _ => None,
     }
 }
 

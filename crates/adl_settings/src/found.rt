@@ -1,17 +1,33 @@
 //! The values of the settings of leaves and ends.
 
+ghost use Rattle.std.specs.Prelude.{◌≡◌};
+
 use adl_ast::{Interface, Value};
 use adl_meaning::{FlatConnection, FlatEnd, Leaf};
+use std::marker::Model;
 
-/// A value, and the name of what gives it: the last word of a setting, or an attribute's name.
-#[derive(Clone, Copy)]
+/// A value, and the name of what gives it: the last word of a setting, or an attribute's name. Contracts see it as the two.
+#[derive(Drop)]
 pub struct Given<'a> {
     pub value: &'a Value,
     pub name: &'a [u8],
 }
 
-/// An end of a connection, at the interface of the leaf that it joins.
-#[derive(Clone, Copy)]
+impl<'a> Model for Given<'a> {
+    ghost use Rattle.adl_meaning.specs.Values.{Given as GivenOf};
+
+    ghost Value = { GivenOf };
+
+    ghost use Rattle.adl_ast.specs.contracts.value.ValueKind as values;
+    ghost use Rattle.std.specs.Coded.{codes};
+
+    ghost coded = { Prim.hlevel (codes, values.the_row.coded) };
+
+    ghost view = { λ g. record { value = g.value.now; name = g.name.now } };
+}
+
+/// An end of a connection, at the interface of the leaf that it joins. Contracts see it as that.
+#[derive(Drop)]
 pub struct Joint<'a> {
     pub connection: &'a FlatConnection,
     /// That of a `from` end among the `from` ends of the connection, from 1.
@@ -21,8 +37,22 @@ pub struct Joint<'a> {
     pub interface: &'a Interface,
 }
 
-/// The values of the settings of an end, where they have a meaning.
-#[derive(Clone, Copy)]
+impl<'a> Model for Joint<'a> {
+    ghost use Rattle.adl_settings.specs.Joints.{Joint as JointOf};
+
+    ghost Value = { JointOf };
+
+    ghost view = { λ j. record {
+      connection = j.connection.now;
+      position = j.position;
+      end = j.end;
+      leaf = j.leaf.now;
+      interface = j.interface.now;
+    } };
+}
+
+/// The values of the settings of an end, where they have a meaning. Contracts see it as that.
+#[derive(Drop)]
 pub struct Found<'a> {
     pub joint: Joint<'a>,
     pub access: Option<Given<'a>>,
@@ -33,16 +63,84 @@ pub struct Found<'a> {
     pub irq: Option<Given<'a>>,
 }
 
-/// The ends of a connection.
+impl<'a> Model for Found<'a> {
+    ghost use Rattle.adl_settings.specs.Joints.{Found as FoundOf};
+
+    ghost Value = { FoundOf };
+
+    ghost use Rattle.adl_ast.specs.contracts.value.ValueKind as values;
+    ghost use Rattle.std.specs.Coded.{codes};
+
+    ghost coded = { Prim.hlevel (codes, values.the_row.coded) };
+
+    ghost view = { λ f. record {
+      joint = f.joint;
+      access = f.access;
+      badge = f.badge;
+      size = f.size;
+      paddr = f.paddr;
+      irq = f.irq;
+    } };
+}
+
+/// The ends of a connection. Contracts see it as their list.
 #[derive(Drop)]
 pub struct FoundEnds<'a> {
     pub ends: Vec<Found<'a>>,
 }
 
-/// The values of the settings of a leaf, where they have a meaning.
-#[derive(Clone, Copy)]
+impl<'a> Model for FoundEnds<'a> {
+    ghost use Rattle.adl_settings.specs.Joints.{Found as FoundOf};
+    ghost use Rattle.std.specs.Prelude.{List};
+
+    ghost Value = { List FoundOf };
+
+    ghost use Rattle.adl_ast.specs.contracts.value.ValueKind as values;
+    ghost use Rattle.std.specs.Coded.{codes};
+
+    ghost coded = { Prim.hlevel (codes, values.the_row.coded) };
+
+    ghost view = { λ k. k.ends.items };
+}
+
+/// The values of the settings of a leaf, where they have a meaning. Contracts see it as that.
+#[derive(Drop)]
 pub struct LeafFound<'a> {
     pub leaf: &'a Leaf,
     pub priority: Option<Given<'a>>,
     pub stack: Option<Given<'a>>,
+}
+
+impl<'a> Model for LeafFound<'a> {
+    ghost use Rattle.adl_settings.specs.Settled.{LeafFound as LeafFoundOf};
+
+    ghost Value = { LeafFoundOf };
+
+    ghost use Rattle.adl_ast.specs.contracts.value.ValueKind as values;
+    ghost use Rattle.std.specs.Coded.{codes};
+
+    ghost coded = { Prim.hlevel (codes, values.the_row.coded) };
+
+    ghost view = { λ f. record { leaf = f.leaf.now; priority = f.priority; stack = f.stack } };
+}
+
+impl<'a> Given<'a> {
+    /// The same value once more.
+    pub fn again(&self) -> Given<'a>
+        ensures { result ≡ self.now }
+    {
+        Given {
+            value: self.value,
+            name: self.name,
+        }
+    }
+}
+
+impl<'a> FoundEnds<'a> {
+    /// The ends, in order.
+    pub fn ends(&self) -> &[Found<'a>]
+        ensures { result.now ≡ self.now }
+    {
+        self.ends.as_slice()
+    }
 }

@@ -1,7 +1,6 @@
 //! Which settings have a meaning at an end.
 
 ghost use Rattle.adl_settings.specs.Joints.{is_dataport, has_access, is_device_memory, is_device_event, are_badged, has_badge, is_shared};
-ghost use Rattle.adl_settings.specs.Told.{joint_told};
 ghost use Rattle.std.specs.Prelude.{◌≡◌};
 
 use crate::Joint;
@@ -26,36 +25,36 @@ pub fn is_shared(connector: Connector) -> bool
 }
 
 impl<'a> Joint<'a> {
-    fn is_dataport(self) -> bool
-        ensures { result ≡ is_dataport (joint_told self.entry) }
+    fn is_dataport(&self) -> bool
+        ensures { result ≡ is_dataport self.now }
     {
         self.interface.kind == InterfaceKind::Dataport
     }
 
     /// Whether it is a dataport of software.
-    pub fn has_access(self) -> bool
-        ensures { result ≡ has_access (joint_told self.entry) }
+    pub fn has_access(&self) -> bool
+        ensures { result ≡ has_access self.now }
     {
         self.is_dataport() && !self.leaf.hardware
     }
 
     /// Whether it is a dataport of a device.
-    pub fn is_device_memory(self) -> bool
-        ensures { result ≡ is_device_memory (joint_told self.entry) }
+    pub fn is_device_memory(&self) -> bool
+        ensures { result ≡ is_device_memory self.now }
     {
         self.is_dataport() && self.leaf.hardware
     }
 
     /// Whether it is an interrupt of a device.
-    pub fn is_device_event(self) -> bool
-        ensures { result ≡ is_device_event (joint_told self.entry) }
+    pub fn is_device_event(&self) -> bool
+        ensures { result ≡ is_device_event self.now }
     {
         self.interface.kind == InterfaceKind::Emits && self.leaf.hardware
     }
 
     /// Whether it is a `from` end of a call or an event.
-    pub fn has_badge(self) -> bool
-        ensures { result ≡ has_badge (joint_told self.entry) }
+    pub fn has_badge(&self) -> bool
+        ensures { result ≡ has_badge self.now }
     {
         are_badged(self.connection.connector, self.end.role)
     }

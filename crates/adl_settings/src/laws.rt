@@ -1,12 +1,10 @@
 //! What the definitions promise together, as functions that do nothing.
 
 ghost use Rattle.adl_ast.specs.declared.configuration.Setter.TheVariants as setters;
-ghost use Rattle.adl_ast.specs.declared.composition.End.{End as Written};
 ghost use Rattle.adl_ast.specs.declared.id.Id.{Id as Word};
 ghost use Rattle.adl_ast.specs.declared.source.Source.{Source as Text};
-ghost use Rattle.adl_meaning.specs.Flat.{flat_of, flat_end, flat_connection};
+ghost use Rattle.adl_meaning.specs.Flat.{flat_of};
 ghost use Rattle.adl_meaning.specs.Hierarchy.{Hierarchy as Tree, hierarchy_of};
-ghost use Rattle.adl_meaning.specs.Joins.{Reached, Strung, joined_by};
 ghost use Rattle.adl_meaning.specs.Items.{Name as Bytes};
 ghost use Rattle.adl_meaning.specs.Paths.{Path as Names};
 ghost use Rattle.adl_meaning.specs.Values.{Given as Value, default_at, setter_at, set_within, value_at};
@@ -18,28 +16,36 @@ ghost use Rattle.adl_settings.specs.NumberedEnds.{joins_interface, setting_at, I
 ghost use Rattle.adl_settings.specs.Settled.{settled_of};
 ghost use Rattle.std.specs.List.{filter, list_all, slice_get};
 ghost use Rattle.std.specs.Option.{option_or};
-ghost use Rattle.std.specs.Prelude.{◌≡◌, ◌<◌, ◌+◌, ◌-◌, ℕ, true, suc, is_some, take, length, List as Seq, Some, None};
+ghost use Rattle.std.specs.Prelude.{◌≡◌, ◌<◌, ◌+◌, ◌-◌, ℕ, true, suc, take, length, List as Seq, Some, None};
 
 /// What a body sets stays, whatever bodies further inwards set, and a default counts where no body sets a value.
 pub fn outer_settings_come_first()
-    ensures outer { (h : Tree) (p : Names) (k end : ℕ) (x : Bytes) (g : Value) → set_within h p k end x ≡ Some g → set_within h p (suc k) end x ≡ Some g }
-    ensures default { (h : Tree) (p : Names) (x : Bytes) → set_within h p (length p - 1) (length p) x ≡ None → value_at h p x ≡ default_at h p x }
+    ensures outer { (h : Tree) (p : Names) (k end : ℕ) (x : Bytes) (g : Value)
+        → set_within h p k end x ≡ Some g → set_within h p (suc k) end x ≡ Some g }
+    ensures default { (h : Tree) (p : Names) (x : Bytes)
+        → set_within h p (length p - 1) (length p) x ≡ None → value_at h p x ≡ default_at h p x }
 {}
 
 /// A reference stands for the value of the attribute at the path of its body, and where there is none, for no setting.
 pub fn references_are_values()
-    ensures found { (h : Tree) (p : Names) (k end : ℕ) (x : Bytes) (y : Word) → k < length p → setter_at h p (suc k) end x ≡ Some (setters.Reference y) → set_within h p (suc k) end x ≡ option_or (set_within h p k end x) (value_at h (take (suc k) p) y.name) }
-    ensures absent { (h : Tree) (p : Names) (k end : ℕ) (x : Bytes) (y : Word) → k < length p → setter_at h p (suc k) end x ≡ Some (setters.Reference y) → value_at h (take (suc k) p) y.name ≡ None → set_within h p (suc k) end x ≡ set_within h p k end x }
+    ensures found { (h : Tree) (p : Names) (k end : ℕ) (x : Bytes) (y : Word)
+        → k < length p → setter_at h p (suc k) end x ≡ Some (setters.Reference y)
+        → set_within h p (suc k) end x ≡ option_or (set_within h p k end x) (value_at h (take (suc k) p) y.name) }
+    ensures absent { (h : Tree) (p : Names) (k end : ℕ) (x : Bytes) (y : Word)
+        → k < length p → setter_at h p (suc k) end x ≡ Some (setters.Reference y) → value_at h (take (suc k) p) y.name ≡ None
+        → set_within h p (suc k) end x ≡ set_within h p k end x }
 {}
 
 /// The badges that `from` ends have by default are 1, 2 and so on, without a gap.
 pub fn badges_count_from_one()
-    ensures { (es : Seq Joining) (i : ℕ) (x : ℕ × Joining) → slice_get (filter (λ y. is_from y.1.role) (positioned es)) i ≡ Some x → x.0 ≡ i + 1 }
+    ensures { (es : Seq Joining) (i : ℕ) (x : ℕ × Joining)
+        → slice_get (filter (λ y. is_from y.1.role) (positioned es)) i ≡ Some x → x.0 ≡ i + 1 }
 {}
 
 /// Where each end of a connection joins an interface, end n of connection i of the flat system has the n-th settings of the
-/// i-th connection, and is that of the n-th end in the text.
+/// i-th connection.
 pub fn settings_are_those_of_joins()
-    ensures flat { (s : Text) (i n : ℕ) (k : Wire) (e : Joining) → slice_get (flat_of s).connections i ≡ Some k → list_all (joins_interface s (flat_of s)) k.ends ≡ true → slice_get k.ends n ≡ Some e → (f : Found) × IsFoundAt (hierarchy_of s) s (flat_of s) k e f × (setting_at (settled_of s) i n ≡ Some (end_setting f)) }
-    ensures text { (h : Tree) (x : Strung) (n : ℕ) (t : Written) → list_all (λ u. is_some (joined_by h x.inside u)) x.wire.1.ends ≡ true → slice_get x.wire.1.ends n ≡ Some t → (r : Reached) × (joined_by h x.inside t ≡ Some r) × (slice_get (flat_connection h x).ends n ≡ Some (flat_end h x.path t r)) }
+    ensures { (s : Text) (i n : ℕ) (k : Wire) (e : Joining) → slice_get (flat_of s).connections i ≡ Some k
+        → list_all (joins_interface s (flat_of s)) k.ends ≡ true → slice_get k.ends n ≡ Some e
+        → (f : Found) × IsFoundAt (hierarchy_of s) s (flat_of s) k e f × (setting_at (settled_of s) i n ≡ Some (end_setting f)) }
 {}

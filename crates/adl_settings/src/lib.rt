@@ -1,35 +1,28 @@
-//! Settings: the settings of all leaves and ends, or the first fault of settings.
+//! Settings: what the values of leaves and ends mean, and the faults of values.
 //!
-//! Nothing here reads a file or places anything in memory.
+//! Nothing here looks for a value: the crate that does so is above. The settings of a source stand in `specs/Settled.antt`,
+//! and its faults in `specs/SettingFaults.antt`.
 #![tactic(auto)]
 
 mod access;
 mod allowed;
 mod bad_values;
 mod badges;
-mod by_body;
-mod finding;
 mod found;
 mod irqs;
 mod joint;
-mod joints;
 mod laws;
 mod meaning;
 mod missing;
-mod outline;
 mod overlaps;
-mod page_index;
-mod reach;
-mod region;
 mod repeated;
-mod setting_table;
-mod settling;
-mod values;
+mod value_faults;
 
 pub use access::Access;
 pub use found::{Found, FoundEnds, Given, Joint, LeafFound};
+pub use joint::is_shared;
 pub use laws::{
     badges_count_from_one, outer_settings_come_first, references_are_values,
     settings_are_those_of_joins,
 };
-pub use settling::settle;
+pub use value_faults::settled;

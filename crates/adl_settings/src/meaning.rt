@@ -5,7 +5,6 @@ ghost use Rattle.adl_settings.specs.Allowed.{priority_in, stack_in, read_and_wri
 ghost use Rattle.adl_settings.specs.EndMeaning.{access_of, badge_of, default_bytes, bytes_of, paddr_of, irq_of, access_at, badge_at, bytes_at, end_setting};
 ghost use Rattle.adl_settings.specs.Meant.{meaning, meant};
 ghost use Rattle.adl_settings.specs.Settled.{leaf_setting};
-ghost use Rattle.adl_settings.specs.Told.{maybe_told, joint_told, found_told, leaf_told};
 ghost use Rattle.std.specs.Prelude.{◌≡◌, unwrap_or};
 
 use crate::allowed::{
@@ -35,26 +34,6 @@ const NO_ACCESS: Access = Access {
     write: false,
 };
 
-/// The priority that is meant.
-pub fn priority(given: Option<Given<'_>>) -> Option<u8>
-    ensures { result ≡ meant priority_in 254 (maybe_told given.entry) }
-{
-    match given {
-        None => Some(DEFAULT_PRIORITY),
-        Some(given) => priority_in(given.value),
-    }
-}
-
-/// The bytes of a stack that are meant.
-pub fn stack(given: Option<Given<'_>>) -> Option<u64>
-    ensures { result ≡ meant stack_in 16384 (maybe_told given.entry) }
-{
-    match given {
-        None => Some(DEFAULT_STACK),
-        Some(given) => stack_in(given.value),
-    }
-}
-
 /// The bytes of the port's type, in whole pages.
 fn default_bytes(interface: &Interface) -> u64
     ensures { result ≡ default_bytes interface.now }
@@ -62,8 +41,8 @@ fn default_bytes(interface: &Interface) -> u64
     sized(interface.size.unwrap_or(DEFAULT_SIZE)).unwrap_or(PAGE)
 }
 
-fn paddr(bytes: u64, given: Option<Given<'_>>) -> Option<u64>
-    ensures { result ≡ meaning (paddr_in bytes) (maybe_told given.entry) }
+fn paddr(bytes: u64, given: &Option<Given<'_>>) -> Option<u64>
+    ensures { result ≡ meaning (paddr_in bytes) given.now }
 {
     match given {
         None => None,
@@ -72,9 +51,29 @@ fn paddr(bytes: u64, given: Option<Given<'_>>) -> Option<u64>
 }
 
 impl<'a> LeafFound<'a> {
+    /// The priority that is meant.
+    pub fn priority(&self) -> Option<u8>
+        ensures { result ≡ meant priority_in 254 self.now.priority }
+    {
+        match &self.priority {
+            None => Some(DEFAULT_PRIORITY),
+            Some(given) => priority_in(given.value),
+        }
+    }
+
+    /// The bytes of a stack that are meant.
+    pub fn stack(&self) -> Option<u64>
+        ensures { result ≡ meant stack_in 16384 self.now.stack }
+    {
+        match &self.stack {
+            None => Some(DEFAULT_STACK),
+            Some(given) => stack_in(given.value),
+        }
+    }
+
     /// The settings of the leaf.
     pub fn setting(&self) -> LeafSetting
-        ensures { result ≡ leaf_setting (leaf_told self.now) }
+        ensures { result ≡ leaf_setting self.now }
     {
         if self.leaf.hardware {
             LeafSetting {
@@ -83,8 +82,8 @@ impl<'a> LeafFound<'a> {
             }
         } else {
             LeafSetting {
-                priority: priority(self.priority).unwrap_or(0),
-                stack: stack(self.stack).unwrap_or(0),
+                priority: self.priority().unwrap_or(0),
+                stack: self.stack().unwrap_or(0),
             }
         }
     }
@@ -93,9 +92,9 @@ impl<'a> LeafFound<'a> {
 impl<'a> Found<'a> {
     /// The access that is meant.
     pub fn access(&self) -> Option<Access>
-        ensures { result ≡ access_of (found_told self.now) }
+        ensures { result ≡ access_of self.now }
     {
-        match self.access {
+        match &self.access {
             None => Some(READ_AND_WRITE),
             Some(given) => access_in(given.value),
         }
@@ -103,9 +102,9 @@ impl<'a> Found<'a> {
 
     /// The badge that is meant.
     pub fn badge(&self) -> Option<u64>
-        ensures { result ≡ badge_of (found_told self.now) }
+        ensures { result ≡ badge_of self.now }
     {
-        match self.badge {
+        match &self.badge {
             None => Some(self.joint.position),
             Some(given) => badge_in(given.value),
         }
@@ -113,9 +112,9 @@ impl<'a> Found<'a> {
 
     /// The bytes of memory that are meant.
     pub fn bytes(&self) -> Option<u64>
-        ensures { result ≡ bytes_of (found_told self.now) }
+        ensures { result ≡ bytes_of self.now }
     {
-        match self.size {
+        match &self.size {
             None => Some(default_bytes(self.joint.interface)),
             Some(given) => size_in(given.value),
         }
@@ -123,30 +122,30 @@ impl<'a> Found<'a> {
 
     /// The bytes beside which an address is looked at: 0 where the size isn't allowed.
     pub fn counted_bytes(&self) -> u64
-        ensures { result ≡ unwrap_or (bytes_of (found_told self.now)) 0 }
+        ensures { result ≡ unwrap_or (bytes_of self.now) 0 }
     {
         self.bytes().unwrap_or(0)
     }
 
     /// The physical address that is meant.
     pub fn paddr(&self) -> Option<u64>
-        ensures { result ≡ paddr_of (found_told self.now) }
+        ensures { result ≡ paddr_of self.now }
     {
-        paddr(self.counted_bytes(), self.paddr)
+        paddr(self.counted_bytes(), &self.paddr)
     }
 
     /// The number of the interrupt that is meant.
     pub fn irq(&self) -> Option<u64>
-        ensures { result ≡ irq_of (found_told self.now) }
+        ensures { result ≡ irq_of self.now }
     {
-        match self.irq {
+        match &self.irq {
             None => None,
             Some(given) => irq_in(given.value),
         }
     }
 
     fn access_at(&self) -> Access
-        ensures { result ≡ access_at (found_told self.now) }
+        ensures { result ≡ access_at self.now }
     {
         if self.joint.has_access() {
             self.access().unwrap_or(NO_ACCESS)
@@ -156,7 +155,7 @@ impl<'a> Found<'a> {
     }
 
     fn badge_at(&self) -> u64
-        ensures { result ≡ badge_at (found_told self.now) }
+        ensures { result ≡ badge_at self.now }
     {
         if self.joint.has_badge() {
             self.badge().unwrap_or(0)
@@ -166,7 +165,7 @@ impl<'a> Found<'a> {
     }
 
     fn bytes_at(&self) -> u64
-        ensures { result ≡ bytes_at (found_told self.now) }
+        ensures { result ≡ bytes_at self.now }
     {
         if is_shared(self.joint.connection.connector) || self.joint.is_device_memory() {
             self.bytes().unwrap_or(0)
@@ -177,7 +176,7 @@ impl<'a> Found<'a> {
 
     /// The settings of the end.
     pub fn setting(&self) -> EndSetting
-        ensures { result ≡ end_setting (found_told self.now) }
+        ensures { result ≡ end_setting self.now }
     {
         let access = self.access_at();
         EndSetting {

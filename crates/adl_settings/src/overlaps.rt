@@ -1,90 +1,100 @@
 //! Dataports of devices that share physical pages.
 
 ghost use Rattle.adl_meaning.specs.Faults.{noted};
-ghost use Rattle.adl_settings.specs.DeviceOverlap.{regions_in, regions, overlap_at, overlaps_among, overlaps};
-ghost use Rattle.adl_settings.specs.Told.{ends_told, connection_told, connections_told, region_told, regions_told};
-ghost use Rattle.std.specs.List.{flat_map};
-ghost use Rattle.std.specs.Prelude.{◌≡◌, ◌++◌, OnOk, IfOk};
+ghost use Rattle.adl_settings.specs.DeviceOverlap.{region_of, regions, overlaps};
+ghost use Rattle.adl_settings.specs.SharedPages.{pages_of};
+ghost use Rattle.std.specs.Prelude.{◌≡◌, map, OnOk, IfOk};
 
-use crate::page_index::PageIndex;
-use crate::region::Region;
 use crate::{Found, FoundEnds};
-use adl_meaning::First;
-use cam_base::{Code, NoMemory};
+use adl_meaning::Earliest;
+use cam_base::{Code, NoMemory, Place};
+use page_index::{PageIndex, Region};
 use std::alloc::Global;
+use std::marker::Model;
 
-fn push_ends(ends: &[Found<'_>], found: &mut Vec<Region>) -> Result<(), NoMemory>
-    ensures { OnOk result (regions_told found.new.items ≡ regions_told found.old.items ++ regions_in (ends_told ends.now)) }
-{
-    for end in ends {
-        if let Some(region) = Region::of(end) {
-            found.push(region)?;
-        }
+/// The pages of a device, with the place of the literal that gives their address. The key of the pages is the number of the
+/// leaf, and that of the interface among its members. Contracts see it as these.
+#[derive(Drop)]
+pub struct DeviceRegion {
+    pages: Region,
+    place: Place,
+}
+
+impl Model for DeviceRegion {
+    ghost use Rattle.adl_settings.specs.DeviceOverlap.{Region as RegionOf};
+
+    ghost Value = { RegionOf };
+
+    ghost view = { λ r. record {
+      leaf = r.pages.key.0;
+      member = r.pages.key.1;
+      first = r.pages.first;
+      bytes = r.pages.count;
+      place = r.place;
+    } };
+}
+
+impl DeviceRegion {
+    fn pages(&self) -> Region
+        ensures { result ≡ pages_of self.now }
+    {
+        self.pages
     }
-    Ok(())
 }
 
-fn push_connection(connection: &FoundEnds<'_>, found: &mut Vec<Region>) -> Result<(), NoMemory>
-    ensures { OnOk result (regions_told found.new.items ≡ regions_told found.old.items ++ regions_in (connection_told connection.now)) }
+fn region_of(end: &Found<'_>) -> Option<DeviceRegion>
+    ensures { result ≡ region_of end.now }
 {
-    push_ends(connection.ends.as_slice(), found)
+    let count = end.bytes()?;
+    let first = end.paddr()?;
+    match &end.paddr {
+        None => None,
+        Some(given) => Some(DeviceRegion {
+            pages: Region {
+                key: (end.joint.end.leaf, end.joint.end.member),
+                first,
+                count,
+            },
+            place: given.value.place,
+        }),
+    }
 }
 
-fn all_regions(alloc: Global, connections: &[FoundEnds<'_>]) -> Result<Vec<Region>, NoMemory>
-    ensures { IfOk result (λ v. regions_told v.items ≡ regions (connections_told connections.now)) }
+fn regions(alloc: Global, connections: &[FoundEnds<'_>]) -> Result<Vec<DeviceRegion>, NoMemory>
+    ensures { IfOk result (λ v. v.items ≡ regions connections.now) }
 {
     let mut found = Vec::new(alloc);
     for connection in connections {
-        push_connection(connection, &mut found)?;
+        for end in connection.ends() {
+            if let Some(region) = region_of(end) {
+                found.push(region)?;
+            }
+        }
     }
     Ok(found)
 }
 
-fn note_region(
-    alloc: Global,
-    index: &PageIndex,
-    region: &Region,
-    first: &mut First,
-) -> Result<(), NoMemory>
-    ensures { OnOk result (first.new ≡ noted first.old (overlap_at index.now (region_told region.now))) }
+fn all_pages(alloc: Global, regions: &[DeviceRegion]) -> Result<Vec<Region>, NoMemory>
+    ensures { IfOk result (λ v. v.items ≡ map pages_of regions.now) }
 {
-    if index.shares_any(region) {
-        first.note(alloc, Code::DeviceOverlap, region.place, b"")?;
-    }
-    Ok(())
-}
-
-fn note_each(
-    alloc: Global,
-    index: &PageIndex,
-    regions: &[Region],
-    first: &mut First,
-) -> Result<(), NoMemory>
-    ensures { OnOk result (first.new ≡ noted first.old (flat_map (overlap_at index.now) (regions_told regions.now))) }
-{
-    for region in regions {
-        note_region(alloc, index, region, first)?;
-    }
-    Ok(())
-}
-
-fn note_among(alloc: Global, all: &[Region], first: &mut First) -> Result<(), NoMemory>
-    ensures { OnOk result (first.new ≡ noted first.old (overlaps_among (regions_told all.now))) }
-{
-    let index = PageIndex::new(alloc, all)?;
-    note_each(alloc, &index, all, first)?;
-    Ok(())
+    let pages = regions.iter().map(|region| region.pages()).collect(alloc)?;
+    Ok(pages)
 }
 
 /// Notes the dataports of devices that share a page with another.
-pub fn note_overlaps(
+pub fn note_overlaps<'a>(
     alloc: Global,
-    connections: &[FoundEnds<'_>],
-    first: &mut First,
+    connections: &[FoundEnds<'a>],
+    first: &mut Earliest<'a>,
 ) -> Result<(), NoMemory>
-    ensures { OnOk result (first.new ≡ noted first.old (overlaps (connections_told connections.now))) }
+    ensures { OnOk result (first.new ≡ noted first.old (overlaps connections.now)) }
 {
-    let regions = all_regions(alloc, connections)?;
-    note_among(alloc, regions.as_slice(), first)?;
+    let regions = regions(alloc, connections)?;
+    let pages = all_pages(alloc, regions.as_slice())?;
+    let index = PageIndex::new(alloc, pages.as_slice())?;
+    for region in regions.as_slice() {
+        let shares = index.shares_any(&region.pages());
+        first.note(shares, Code::DeviceOverlap, region.place, b"");
+    }
     Ok(())
 }

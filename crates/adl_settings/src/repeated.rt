@@ -49,7 +49,8 @@ impl Numbers {
 /// Meets a number: one that was met before stands twice.
 fn meet(number: u64, met: &mut Numbers, twice: &mut Numbers) -> Result<(), NoMemory>
     ensures met { OnOk result ((n : ℕ) → is_among met.new n ≡ (if number == n then true else is_among met.old n)) }
-    ensures twice { OnOk result ((n : ℕ) → is_among twice.new n ≡ (if number == n && is_among met.old number then true else is_among twice.old n)) }
+    ensures twice { OnOk result ((n : ℕ) → is_among twice.new n
+        ≡ (if number == n && is_among met.old number then true else is_among twice.old n)) }
 {
     if met.contains(number) {
         twice.insert(number)?;

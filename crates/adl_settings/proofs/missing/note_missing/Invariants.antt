@@ -1,10 +1,12 @@
-use Rattle.std.proofs.Common.{◌≡◌, drop, map}
+use Rattle.std.proofs.Common.{◌≡◌, ◌+◌, ◌++◌, drop}
 use Rattle.std.specs.List.{flat_map}
 use Rattle.adl_meaning.specs.Faults.{noted}
-use Rattle.adl_settings.specs.Missing.{missing_in}
-use Rattle.adl_settings.specs.Told.{connection_told}
+use Rattle.adl_settings.specs.Missing.{missing_at, missing_in, missing_values}
 use Rattle.adl_settings.proofs.missing.note_missing.Given as goal
 
 abbrev pub invariant-loop-connection : goal.invariant-loop-connection
-invariant-loop-connection l =
-    noted l.first (flat_map missing_in (map connection_told (drop l.connection-index l.connections))) ≡ noted l.fn.first (flat_map missing_in (map connection_told l.connections))
+invariant-loop-connection l = noted l.first (flat_map missing_in (drop l.connection-index l.connections)) ≡ noted l.fn.first (missing_values l.connections)
+
+abbrev pub invariant-loop-end : goal.invariant-loop-end
+invariant-loop-end l =
+    noted l.first (flat_map missing_at (drop l.end-index l.end-items) ++ flat_map missing_in (drop (l.connection-index + 1) l.connections)) ≡ noted l.fn.first (missing_values l.connections)

@@ -1,0 +1,6 @@
+use Rattle.std.proofs.Common.{◌≡◌, drop, map, ◌++◌}
+use Rattle.adl_settings.specs.Settled.{end_settings}
+use Rattle.adl_settings.proofs.value_faults.connection_settings.Given as goal
+
+abbrev pub invariant-loop-connection : goal.invariant-loop-connection
+invariant-loop-connection l = l.settings ++ map end_settings (drop l.connection-index l.connections) ≡ map end_settings l.connections

@@ -1,0 +1,176 @@
+-- Steps of the search for a value, from the outermost body inwards.
+use Rattle.std.proofs.Common.{◌≡◌, ◌∙◌, ◌<◌, ◌≤◌, ◌+◌, ◌-◌, ◌*◌, ℕ, zero, suc, Bool, true, false, cond, ◌&&◌, List, [], ◌∷◌, take, drop, length, max, ◌++◌, Bor, Option, Some, None, option_map, refl, sym, ap, subst, arith, ◌⊎◌, inl, inr}
+use Rattle.std.specs.List.{find, slice_get}
+use Rattle.std.specs.Option.{option_and_then, option_map_or, option_or}
+use Rattle.std.specs.Str.{bytes_eq}
+use Rattle.std.proofs.Math.Seq.{take-length}
+use Rattle.std.proofs.lemmas.List.{length-take, length-drop, drop-append-le, drop-map}
+use Rattle.std.proofs.lemmas.Slice.Eq.{bytes_eq-Decides}
+use Rattle.adl_ast.specs.declared.configuration.Setting.{Setting}
+use Rattle.adl_meaning.specs.Export.{last_name}
+use Rattle.adl_meaning.specs.Hierarchy.{Hierarchy, Part, top_number, body, part_named}
+use Rattle.adl_meaning.specs.Items.{Name}
+use Rattle.adl_meaning.specs.Paths.{Path, at, same_path}
+use Rattle.adl_meaning.specs.Values.{Given, given, settings_of, sets, setting_of, setter_at, set_within, default_at, value_at}
+use Rattle.adl_names.specs.Pointed.{pointed}
+use Rattle.adl_settle.specs.Lookups.{within, attribute_at, given_from}
+use Rattle.adl_settle.proofs.SettingKeys.{same_path-equal}
+use Rattle.adl_settings.proofs.ValueSearch.{referred, value-referred, outer-stays}
+
+-- ---- bodies along a path
+
+within_part : (h : Hierarchy) (o : Option Part) → option_map (λ (x : Part). x.kind) o ≡ option_and_then (λ (x : Part). Some x.kind) o
+within_part h None = refl
+within_part h (Some x) = refl
+
+within_behind : (h : Hierarchy) (q : Path) (i : ℕ) (o : Option Part)
+    → ((k : ℕ) → option_map_or (within h (at h k (take i q))) (slice_get q i) (at h k (take i q)) ≡ at h k (take (suc i) q))
+    → option_map_or (within h (option_and_then (λ (x : Part). at h x.kind (take i q)) o)) (slice_get q i) (option_and_then (λ (x : Part). at h x.kind (take i q)) o) ≡ option_and_then (λ (x : Part). at h x.kind (take (suc i) q)) o
+within_behind h q i None next = none_within (slice_get q i)
+  where
+    none_within : (o : Option Name) → option_map_or (within h None) o None ≡ None
+    none_within None = refl
+    none_within (Some n) = refl
+within_behind h q i (Some x) next = next x.kind
+
+at_more : (h : Hierarchy) (k : ℕ) (p : Path) (i : ℕ) → option_map_or (within h (at h k (take i p))) (slice_get p i) (at h k (take i p)) ≡ at h k (take (suc i) p)
+at_more h k [] zero = refl
+at_more h k [] (suc i) = refl
+at_more h k (n ∷ p) zero = within_part h (part_named (body h k).parts n)
+at_more h k (n ∷ p) (suc i) = within_behind h p i (part_named (body h k).parts n) (λ m. at_more h m p i)
+
+suc_is : (i : ℕ) → suc i ≡ i + 1
+suc_is i = omega arith
+
+-- the body behind the next name
+pub at-next : (h : Hierarchy) (k : ℕ) (p : Path) (i : ℕ) (o : Option ℕ) → o ≡ at h k (take i p) → option_map_or (within h o) (slice_get p i) o ≡ at h k (take (i + 1) p)
+at-next h k p i o e = ap (λ z. option_map_or (within h z) (slice_get p i) z) e ∙ at_more h k p i ∙ ap (λ j. at h k (take j p)) (suc_is i)
+
+-- ---- what one body sets
+
+found_passes : {X : Type 0} (t : X → Bool) (xs : List X) (x : X) → find t xs ≡ Some x → t x ≡ true
+found_passes t [] x e = absurd cc
+found_passes {X} t (y ∷ xs) x e = by_test (t y) refl (found_passes t xs x) e
+  where
+    by_test : (b : Bool) → t y ≡ b → (find t xs ≡ Some x → t x ≡ true) → cond b (Some y) (find t xs) ≡ Some x → t x ≡ true
+    by_test true h rest e = let s : y ≡ x = cc in subst (λ z. t z ≡ true) s h
+    by_test false h rest e = rest e
+
+right_of : (a b : Bool) → (a && b) ≡ true → b ≡ true
+right_of true b e = e
+right_of false b e = absurd cc
+
+pub given-setter : (h : Hierarchy) (refer : Name → Option Given) (q : Path) (x : Name) (o : Option ℕ)
+    → given_from refer (option_and_then (λ k. setting_of h k q x) o) ≡ given refer x (option_and_then (λ k. option_map (λ s. s.setter) (setting_of h k q x)) o)
+given-setter h refer q x None = refl
+given-setter h refer q x (Some k) = by_case (setting_of h k q x) refl
+  where
+    by_case : (o : Option Setting) → setting_of h k q x ≡ o → given_from refer o ≡ given refer x (option_map (λ (s : Setting). s.setter) o)
+    by_case None e = refl
+    by_case (Some s) e =
+        let named = (bytes_eq-Decides x (last_name s.words)).0 (right_of _ (bytes_eq x (last_name s.words)) (found_passes (sets h k q x) (settings_of (body h k)) s e)) in
+        ap (λ n. given refer n (Some s.setter)) (sym named)
+
+-- ---- the search
+
+above : (h : Hierarchy) (p : Path) (j : ℕ) (y : Name) → suc j ≤ length p → attribute_at h (take (suc j) p) y ≡ referred h p j y
+above h [] j y l = absurd (omega (arith, l))
+above h (n ∷ p) j y l = value-referred h (n ∷ p) j y l
+
+-- what the bodies at up to k names set, where those further out set nothing
+pub set-here : (h : Hierarchy) (p : Path) (k : ℕ) (x : Name) → k ≤ length p → ((j : ℕ) → j < k → set_within h p j (length p) x ≡ None)
+    → set_within h p k (length p) x ≡ given (attribute_at h (take k p)) x (setter_at h p k (length p) x)
+set-here h p zero x l none = refl
+set-here h p (suc j) x l none =
+    let refer : referred h p j ≡ attribute_at h (take (suc j) p) = λ i y. sym (above h p j y l) i in
+    ap (λ o. option_or o (given (referred h p j) x (setter_at h p (suc j) (length p) x))) (none j (omega arith)) ∙ ap (λ (f : Name → Option Given). given f x (setter_at h p (suc j) (length p) x)) refer
+
+last_or_below : (k m : ℕ) → k ≤ suc m → (k ≤ m) ⊎ (k ≡ suc m)
+last_or_below k m l = grind arith
+
+pub set-stays : (h : Hierarchy) (p : Path) (k m end : ℕ) (x : Name) (g : Given) → k ≤ m → set_within h p k end x ≡ Some g → set_within h p m end x ≡ Some g
+set-stays h p k zero end x g l e = let z : zero ≡ k = omega (arith, l) in ap (λ n. set_within h p n end x) z ∙ e
+set-stays h p k (suc m) end x g l e = elim (last_or_below k m l) [ inl a ↦ outer-stays h p m end x g (set-stays h p k m end x g a e) | inr a ↦ ap (λ n. set_within h p n end x) (sym a) ∙ e ]
+
+-- the setter of a whole path
+pub setter-whole : (h : Hierarchy) (p : Path) (k : ℕ) (x : Name) → option_and_then (λ b. option_map (λ s. s.setter) (setting_of h b (drop k p) x)) (at h (top_number h) (take k p)) ≡ setter_at h p k (length p) x
+setter-whole h p k x = ap (λ q. option_and_then (λ b. option_map (λ s. s.setter) (setting_of h b (drop k q) x)) (at h (top_number h) (take k p))) (sym (take-length p))
+
+-- what the search has found at k names
+pub found-here : (h : Hierarchy) (p : Path) (k : ℕ) (x : Name) (o : Option ℕ) (s : Option Setting) (found : Option Given) → k ≤ length p → o ≡ at h (top_number h) (take k p)
+    → s ≡ option_and_then (λ b. setting_of h b (drop k p) x) o → found ≡ given_from (attribute_at h (take k p)) s → ((j : ℕ) → j < k → set_within h p j (length p) x ≡ None)
+    → set_within h p k (length p) x ≡ found
+found-here h p k x o s found l there is result none =
+    let refer = attribute_at h (take k p) in
+    set-here h p k x l none ∙ ap (given refer x) (sym (setter-whole h p k x)) ∙ ap (λ b. given refer x (option_and_then (λ b. option_map (λ s. s.setter) (setting_of h b (drop k p) x)) b)) (sym there)
+    ∙ sym (given-setter h refer (drop k p) x o) ∙ ap (given_from refer) (sym is) ∙ sym result
+
+-- the value, where a body sets it
+pub value-found : (h : Hierarchy) (p : Path) (k : ℕ) (x : Name) (g : Given) → k < max (length p) 1 → set_within h p k (length p) x ≡ Some g → Some g ≡ value_at h p x
+value-found h p k x g l e = sym (ap (λ o. option_or o (default_at h p x)) (set-stays h p k (length p - 1) (length p) x g (omega (arith, l)) e))
+
+-- the key of the rest of a path
+pub key-behind : (ks items : List (Bor Name)) (p : Path) (x : Name) (i : ℕ) → ks ≡ items → pointed items ≡ p ++ x ∷ [] → i ≤ length p → pointed (take (length ks - i) (drop i ks)) ≡ drop i p ++ x ∷ []
+key-behind ks items p x i e named l =
+    ap (λ n. pointed (take n (drop i ks))) (sym (length-drop i ks)) ∙ ap pointed (take-length (drop i ks)) ∙ sym (drop-map (λ (r : Bor Name). r.now) i ks)
+    ∙ ap (λ z. drop i (pointed z)) e ∙ ap (drop i) named ∙ drop-append-le i p (x ∷ []) l
+
+-- one step of the search, where it finds a value
+pub step-found : (h : Hierarchy) (p : Path) (i m : ℕ) (x : Name) (o : Option ℕ) (s : Option Setting) (found : Option Given) (g : Given) → i < m → m ≡ max (length p) 1
+    → o ≡ at h (top_number h) (take i p) → s ≡ option_and_then (λ b. setting_of h b (drop i p) x) o → found ≡ given_from (attribute_at h (take i p)) s → found ≡ Some g
+    → ((j : ℕ) → j < i → set_within h p j (length p) x ≡ None) → Some g ≡ value_at h p x
+step-found h p i m x o s found g l most there is result some none =
+    value-found h p i x g (omega (arith, l, most)) (found-here h p i x o s found (omega (arith, l, most)) there is result none ∙ some)
+
+below_or_at : (k i : ℕ) → k < i + 1 → (k < i) ⊎ (k ≡ i)
+below_or_at k i l = grind arith
+
+-- and where it finds none
+pub step-none : (h : Hierarchy) (p : Path) (i m : ℕ) (x : Name) (o : Option ℕ) (s : Option Setting) (found : Option Given) → i < m → m ≡ max (length p) 1
+    → o ≡ at h (top_number h) (take i p) → s ≡ option_and_then (λ b. setting_of h b (drop i p) x) o → found ≡ given_from (attribute_at h (take i p)) s → found ≡ None
+    → ((j : ℕ) → j < i → set_within h p j (length p) x ≡ None) → (k : ℕ) → k < i + 1 → set_within h p k (length p) x ≡ None
+step-none h p i m x o s found l most there is result nothing none k b = elim (below_or_at k i b) [
+  | inl a ↦ none k a
+  | inr a ↦ ap (λ n. set_within h p n (length p) x) a ∙ found-here h p i x o s found (omega (arith, l, most)) there is result none ∙ nothing
+]
+
+-- ---- what is remembered
+
+both_of : (a b : Bool) → (a && b) ≡ true → (a ≡ true) × (b ≡ true)
+both_of true true e = (refl, refl)
+both_of true false e = absurd cc
+both_of false b e = absurd cc
+
+pub remembered_more : (h : Hierarchy) (f f' : Path → Name → Name → Option (Option Given)) (path : Path) (front back : Name) (v : Option Given)
+    → ((p : Path) (x y : Name) (g : Option Given) → f p x y ≡ Some g → g ≡ value_at h p (x ++ y)) → v ≡ value_at h path (front ++ back)
+    → ((p : Path) (x y : Name) → f' p x y ≡ cond (same_path path p && (bytes_eq front x && bytes_eq back y)) (Some v) (f p x y)) → (p : Path) (x y : Name) (g : Option Given) → f' p x y ≡ Some g → g ≡ value_at h p (x ++ y)
+remembered_more h f f' path front back v old is new p x y g e = by_test (same_path path p && (bytes_eq front x && bytes_eq back y)) refl (sym (new p x y) ∙ e)
+  where
+    by_test : (b : Bool) → (same_path path p && (bytes_eq front x && bytes_eq back y)) ≡ b → cond b (Some v) (f p x y) ≡ Some g → g ≡ value_at h p (x ++ y)
+    by_test true t e =
+        let both = both_of (same_path path p) (bytes_eq front x && bytes_eq back y) t in
+        let named = both_of (bytes_eq front x) (bytes_eq back y) both.1 in
+        let same : v ≡ g = cc in
+        sym same ∙ is ∙ ap (λ q. value_at h q (front ++ back)) (same_path-equal path p both.0)
+        ∙ ap (λ n. value_at h p (n ++ back)) ((bytes_eq-Decides front x).0 named.0) ∙ ap (λ n. value_at h p (x ++ n)) ((bytes_eq-Decides back y).0 named.1)
+    by_test false t e = old p x y g e
+
+-- ---- the measure
+
+-- behind the empty path nothing is looked for
+abbrev pub left : Path → ℕ
+left [] = 0
+left (n ∷ p) = 3 * length p + 6
+
+short : (p : Path) (i : ℕ) → length (take i p) ≤ i
+short p i = omega (arith, length-take i p)
+
+pub left_falls : (p : Path) (i : ℕ) → i < max (length p) 1 → left (take i p) + 1 < 3 * length p + 2
+left_falls [] zero l = omega arith
+left_falls [] (suc i) l = omega (arith, l)
+left_falls (n ∷ p) zero l = omega arith
+left_falls (n ∷ p) (suc i) l = omega (arith, l, short p i)
+
+pub left_above : (p : Path) → 0 < length p → 3 * length p + 2 < left p
+left_above [] l = absurd (omega (arith, l))
+left_above (n ∷ p) l = omega arith

@@ -1,0 +1,10 @@
+use Rattle.std.proofs.Common.{◌≡◌, drop, map, ◌++◌}
+use Rattle.adl_settings.specs.Settled.{leaf_found, leaves_found}
+use Rattle.adl_settle.specs.Lookups.{IsRemembered}
+use Rattle.adl_settle.proofs.finding.leaves_found.Given as goal
+
+abbrev pub invariant-loop-leaf : goal.invariant-loop-leaf
+invariant-loop-leaf l = record {
+  found : l.found.items ++ map (leaf_found l.lookup) (drop l.leaf-index l.flat.leaves) ≡ leaves_found l.lookup l.flat;
+  memo : IsRemembered l.lookup l.memo;
+}

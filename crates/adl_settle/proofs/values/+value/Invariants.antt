@@ -1,0 +1,23 @@
+use Rattle.std.proofs.Common.{◌≡◌, ◌<◌, ◌+◌, ◌*◌, ℕ, length, take, None}
+use Rattle.adl_meaning.specs.Hierarchy.{top_number}
+use Rattle.adl_meaning.specs.Paths.{at}
+use Rattle.adl_meaning.specs.Values.{set_within}
+use Rattle.adl_settle.specs.Lookups.{IsRemembered}
+use Rattle.adl_settle.proofs.ValueSteps.{left}
+use Rattle.adl_settle.proofs.values.+value.Given as goal
+
+abbrev pub decreases-value : goal.decreases-value
+decreases-value l = 3 * length l.path.now + 3
+
+abbrev pub decreases-search : goal.decreases-search
+decreases-search l = 3 * length l.path.now + 2
+
+abbrev pub decreases-given_by : goal.decreases-given_by
+decreases-given_by l = left l.path.now + 1
+
+abbrev pub invariant-search-loop-at : goal.invariant-search-loop-at
+invariant-search-loop-at l = record {
+  there : l.number ≡ at l.lookup (top_number l.lookup) (take l.at l.path);
+  none : (k : ℕ) → k < l.at → set_within l.lookup l.path k (length l.path) l.name ≡ None;
+  memo : IsRemembered l.lookup l.memo;
+}

@@ -1,0 +1,222 @@
+//! The settings of each body in a table, by their paths and names.
+
+ghost use Rattle.adl_ast.specs.declared.id.Id.{Id as Word};
+ghost use Rattle.adl_meaning.specs.Export.{last_name};
+ghost use Rattle.adl_meaning.specs.Faults.{noted, where_true};
+ghost use Rattle.adl_meaning.specs.Hierarchy.{body};
+ghost use Rattle.adl_meaning.specs.Items.{Name as Bytes};
+ghost use Rattle.adl_meaning.specs.Paths.{same_path};
+ghost use Rattle.adl_meaning.specs.Values.{path_of, sets, settings_of};
+ghost use Rattle.adl_names.specs.Pointed.{pointed};
+ghost use Rattle.adl_settle.specs.SettingTables.{path_from, key_of, setting_found, IsTable, AreTables};
+ghost use Rattle.adl_settings.specs.SettingTwice.{setting_twice, repeated_after, repeated_in, settings_twice};
+ghost use Rattle.std.specs.List.{find};
+ghost use Rattle.std.specs.Option.{option_or, option_copied};
+ghost use Rattle.std.specs.Prelude.{◌≡◌, ◌∷◌, ◌++◌, [], false, List as Seq, None, Some, is_some, if◌then◌else◌, OnOk, IfOk};
+
+use crate::by_body::ByBody;
+use crate::kinds::kind_of;
+use adl_ast::{Id, Setting};
+use adl_meaning::Earliest;
+use adl_names::last_name;
+use adl_program::{Bodies, Body};
+use cam_base::{Code, Name, NoMemory};
+use indexmap::IndexMap;
+use std::alloc::Global;
+
+/// The first setting of each path and name, by the names of the path with that name behind them.
+#[derive(Drop)]
+pub struct SettingTable<'a> {
+    entries: IndexMap<Vec<&'a [u8]>, &'a Setting>,
+}
+
+impl<'a> SettingTable<'a> {
+    fn new(alloc: Global) -> SettingTable<'a>
+        ensures { (q : Seq Bytes) → setting_found result q ≡ None }
+    {
+        SettingTable {
+            entries: IndexMap::new(alloc),
+        }
+    }
+
+    /// The setting of a path and a name.
+    pub fn get(&self, key: &[&[u8]]) -> Option<&'a Setting>
+        ensures { option_copied result ≡ setting_found self.now (pointed key.now) }
+    {
+        self.entries.get(key).copied()
+    }
+
+    /// Puts a setting under its key, where the key has none yet, and answers whether it has one.
+    fn add(&mut self, key: Vec<&'a [u8]>, setting: &'a Setting) -> Result<bool, NoMemory>
+        ensures met { IfOk result (λ met. met ≡ is_some (setting_found self.old (pointed key.entry.items))) }
+        ensures found { OnOk result ((q : Seq Bytes) → setting_found self.new q
+            ≡ option_or (setting_found self.old q) (if same_path q (pointed key.entry.items) then Some setting.entry.now else None)) }
+    {
+        if self.entries.contains_key(key.as_slice()) {
+            return Ok(true);
+        }
+        self.entries.insert(key, setting)?;
+        Ok(false)
+    }
+}
+
+/// The body behind a word of a setting, and the word itself if it is part of the path.
+fn step<'a>(
+    bodies: &Bodies<'a>,
+    body: u32,
+    name: &'a Name,
+    path: &mut Vec<&'a [u8]>,
+) -> Result<Option<u32>, NoMemory>
+    ensures { IfOk result (λ after. (w : Word) (rest : Seq Word) (last : Word) → w.name ≡ name.entry.now
+        → pointed path.new.items ++ path_from bodies.now after (rest ++ last ∷ [])
+        ≡ pointed path.old.items ++ path_of bodies.now body (w ∷ rest ++ last ∷ [])) }
+{
+    if let Some(kind) = kind_of(bodies.body(body), name) {
+        path.push(name.as_bytes())?;
+        return Ok(Some(kind));
+    }
+    if bodies.body(body).has_group(name.as_bytes()) {
+        return Ok(Some(body));
+    }
+    path.push(name.as_bytes())?;
+    Ok(None)
+}
+
+/// The same behind a leaf or a connection, where each word is part of the path.
+fn step_from<'a>(
+    bodies: &Bodies<'a>,
+    body: Option<u32>,
+    name: &'a Name,
+    path: &mut Vec<&'a [u8]>,
+) -> Result<Option<u32>, NoMemory>
+    ensures { IfOk result (λ after. (w : Word) (rest : Seq Word) (last : Word) → w.name ≡ name.entry.now
+        → pointed path.new.items ++ path_from bodies.now after (rest ++ last ∷ [])
+        ≡ pointed path.old.items ++ path_from bodies.now body (w ∷ rest ++ last ∷ [])) }
+{
+    match body {
+        Some(body) => step(bodies, body, name, path),
+        None => {
+            path.push(name.as_bytes())?;
+            Ok(None)
+        }
+    }
+}
+
+/// The path that words name in a body.
+fn path_in<'a>(
+    alloc: Global,
+    bodies: &Bodies<'a>,
+    body: u32,
+    words: &'a [Id],
+) -> Result<Vec<&'a [u8]>, NoMemory>
+    ensures { IfOk result (λ v. pointed v.items ≡ path_of bodies.now body words.now) }
+{
+    let mut path = Vec::new(alloc);
+    if let [inner @ .., _last] = words {
+        let mut at = Some(body);
+        for word in inner {
+            at = step_from(bodies, at, &word.name, &mut path)?;
+        }
+    }
+    Ok(path)
+}
+
+/// The path that words name in a body, with the last word behind it.
+fn key_in<'a>(
+    alloc: Global,
+    bodies: &Bodies<'a>,
+    body: u32,
+    words: &'a [Id],
+) -> Result<Vec<&'a [u8]>, NoMemory>
+    ensures { IfOk result (λ v. pointed v.items ≡ key_of bodies.now body words.now) }
+{
+    let mut key = path_in(alloc, bodies, body, words)?;
+    key.push(last_name(words))?;
+    Ok(key)
+}
+
+/// Puts a setting into the table of its body, and notes it where an earlier one has its key.
+fn add_setting<'a>(
+    alloc: Global,
+    bodies: &Bodies<'a>,
+    body: u32,
+    setting: &'a Setting,
+    settings: &mut SettingTable<'a>,
+    first: &mut Earliest<'a>,
+) -> Result<(), NoMemory>
+    ensures found { OnOk result ((p : Seq Bytes) (x : Bytes) → setting_found settings.new (p ++ x ∷ [])
+        ≡ option_or (setting_found settings.old (p ++ x ∷ []))
+        (if sets bodies.now body p x setting.entry.now then Some setting.entry.now else None)) }
+    ensures noted { OnOk result (first.new
+        ≡ noted first.old (where_true (is_some (setting_found settings.old (key_of bodies.now body setting.entry.now.words)))
+        (setting_twice setting.entry.now))) }
+{
+    let key = key_in(alloc, bodies, body, setting.words.as_slice())?;
+    let met = settings.add(key, setting)?;
+    let name = last_name(setting.words.as_slice());
+    first.note(met, Code::SettingTwice, setting.place, name);
+    Ok(())
+}
+
+/// The table of a configuration's settings; notes those that stand twice.
+fn settings_in<'a>(
+    alloc: Global,
+    bodies: &Bodies<'a>,
+    body: u32,
+    all: &'a [Setting],
+    first: &mut Earliest<'a>,
+) -> Result<SettingTable<'a>, NoMemory>
+    ensures found { IfOk result (λ t. (p : Seq Bytes) (x : Bytes) → setting_found t (p ++ x ∷ [])
+        ≡ find (sets bodies.now body p x) all.now) }
+    ensures noted { OnOk result (first.new ≡ noted first.old (repeated_after bodies.now body (λ p n. false) all.now)) }
+{
+    let mut settings = SettingTable::new(alloc);
+    for setting in all {
+        add_setting(alloc, bodies, body, setting, &mut settings, first)?;
+    }
+    Ok(settings)
+}
+
+fn settings_of<'a>(body: &Body<'a>) -> &'a [Setting]
+    ensures { result.now ≡ settings_of body.now }
+{
+    match body.configuration() {
+        None => &[],
+        Some(configuration) => configuration.settings.as_slice(),
+    }
+}
+
+/// The table of a body's settings.
+fn table_of<'a>(
+    alloc: Global,
+    bodies: &Bodies<'a>,
+    number: u32,
+    first: &mut Earliest<'a>,
+) -> Result<SettingTable<'a>, NoMemory>
+    ensures found { IfOk result (λ t. IsTable bodies.now number t) }
+    ensures noted { OnOk result (first.new ≡ noted first.old (repeated_in bodies.now (number, body bodies.now number))) }
+{
+    let all = settings_of(bodies.body(number));
+    let settings = settings_in(alloc, bodies, number, all, first)?;
+    Ok(settings)
+}
+
+/// The tables of all bodies; notes the settings that stand twice.
+pub fn setting_tables<'a>(
+    alloc: Global,
+    bodies: &Bodies<'a>,
+    first: &mut Earliest<'a>,
+) -> Result<ByBody<SettingTable<'a>>, NoMemory>
+    ensures found { IfOk result (λ ts. AreTables bodies.now ts) }
+    ensures noted { OnOk result (first.new ≡ noted first.old (settings_twice bodies.now)) }
+{
+    let mut tables = Vec::new(alloc);
+    for number in 0..bodies.top_number() {
+        tables.push(table_of(alloc, bodies, number, first)?)?;
+    }
+    let top = table_of(alloc, bodies, bodies.top_number(), first)?;
+    Ok(ByBody {
+        bodies: tables,
+        top,
+    })
+}

@@ -1,0 +1,126 @@
+//! The settings of a flat system, or the first fault of settings.
+
+ghost use Rattle.adl_meaning.specs.Faults.{noted, Refuses};
+ghost use Rattle.adl_meaning.specs.Flat.{flat_of};
+ghost use Rattle.adl_meaning.specs.Hierarchy.{hierarchy_of};
+ghost use Rattle.adl_meaning.specs.Items.{AreFew};
+ghost use Rattle.adl_settings.specs.Joints.{founds_in};
+ghost use Rattle.adl_settings.specs.SettingFaults.{first_setting_fault};
+ghost use Rattle.adl_settings.specs.SettingTwice.{settings_twice};
+ghost use Rattle.adl_settings.specs.Settled.{leaves_found, settled_of};
+ghost use Rattle.std.specs.Prelude.{◌≡◌, OnOk, IfOk};
+
+use crate::finding::{connections_found, leaves_found};
+use crate::memo::Memo;
+use crate::setting_table::setting_tables;
+use crate::values::Lookup;
+use adl_ast::Source;
+use adl_meaning::{Earliest, Flat, Settled};
+use adl_names::Names;
+use adl_program::{Bodies, Program, bodies_of};
+use adl_settings::{FoundEnds, LeafFound, settled};
+use cam_base::{Fault, NoMemory, Refused};
+use std::alloc::Global;
+
+/// The values of the settings of all leaves and ends.
+#[derive(Drop)]
+struct Values<'a> {
+    leaves: Vec<LeafFound<'a>>,
+    connections: Vec<FoundEnds<'a>>,
+}
+
+/// Finds all values.
+fn find<'a>(
+    alloc: Global,
+    lookup: &Lookup<'_, 'a>,
+    source: &'a Source,
+    flat: &'a Flat,
+) -> Result<Values<'a>, NoMemory>
+    ensures leaves { IfOk result (λ v. v.leaves.items ≡ leaves_found lookup.now flat.now) }
+    ensures connections { IfOk result (λ v. v.connections.items ≡ founds_in lookup.now source.now flat.now) }
+{
+    let mut memo = Memo::new(alloc);
+    let leaves = leaves_found(alloc, lookup, &mut memo, flat)?;
+    let connections = connections_found(alloc, lookup, &mut memo, source, flat)?;
+    Ok(Values {
+        leaves,
+        connections,
+    })
+}
+
+/// Finds all values; notes the settings that stand twice.
+fn find_all<'a>(
+    alloc: Global,
+    bodies: &Bodies<'a>,
+    source: &'a Source,
+    flat: &'a Flat,
+    first: &mut Earliest<'a>,
+) -> Result<Values<'a>, NoMemory>
+    ensures leaves { IfOk result (λ v. v.leaves.items ≡ leaves_found bodies.now flat.now) }
+    ensures connections { IfOk result (λ v. v.connections.items ≡ founds_in bodies.now source.now flat.now) }
+    ensures twice { OnOk result (first.new ≡ noted first.old (settings_twice bodies.now)) }
+{
+    let settings = setting_tables(alloc, bodies, first)?;
+    let lookup = Lookup { bodies, settings };
+    let values = find(alloc, &lookup, source, flat)?;
+    Ok(values)
+}
+
+/// The settings of all leaves and ends of a source with these bodies.
+fn settle_bodies<'a>(
+    alloc: Global,
+    bodies: &Bodies<'a>,
+    source: &'a Source,
+    flat: &'a Flat,
+) -> Result<Settled, Refused<Fault>>
+    requires bodies { bodies.now ≡ hierarchy_of source.now }
+    requires flat { flat.now ≡ flat_of source.now }
+    ensures fault { Refuses result (first_setting_fault source.now) }
+    ensures settled { IfOk result (λ x. x ≡ settled_of source.now) }
+{
+    let mut first = Earliest::none();
+    let values = find_all(alloc, bodies, source, flat, &mut first)?;
+    let leaves = values.leaves.as_slice();
+    let connections = values.connections.as_slice();
+    settled(alloc, leaves, connections, first)
+}
+
+/// The settings of all leaves and ends of a source, over its program, in the order of the flat system.
+///
+/// # Errors
+///
+/// The first fault of settings, or want of memory.
+pub fn settle_program<'a>(
+    alloc: Global,
+    program: &Program<'a>,
+    source: &'a Source,
+    flat: &'a Flat,
+) -> Result<Settled, Refused<Fault>>
+    requires program { program.now ≡ hierarchy_of source.now }
+    requires flat { flat.now ≡ flat_of source.now }
+    ensures fault { Refuses result (first_setting_fault source.now) }
+    ensures settled { IfOk result (λ x. x ≡ settled_of source.now) }
+{
+    settle_bodies(alloc, program.bodies(), source, flat)
+}
+
+/// The settings of all leaves and ends of a source, in the order of the flat system.
+///
+/// # Errors
+///
+/// The first fault of settings, or want of memory.
+pub fn settle<'a>(
+    alloc: Global,
+    source: &'a Source,
+    names: &Names,
+    flat: &'a Flat,
+) -> Result<Settled, Refused<Fault>>
+    requires few { AreFew source.now }
+    requires flat { flat.now ≡ flat_of source.now }
+    ensures fault { Refuses result (first_setting_fault source.now) }
+    ensures settled { IfOk result (λ x. x ≡ settled_of source.now) }
+{
+    let _names = names;
+    let bodies = bodies_of(alloc, source)?;
+    settle_bodies(alloc, &bodies, source, flat)
+}

@@ -1,0 +1,207 @@
+//! The search for the value of a setting.
+
+ghost use Rattle.adl_meaning.specs.Hierarchy.{body, top_number};
+ghost use Rattle.adl_meaning.specs.Items.{Name as Bytes};
+ghost use Rattle.adl_meaning.specs.Values.{default_in, setting_of, value_at};
+ghost use Rattle.adl_names.specs.Pointed.{pointed};
+ghost use Rattle.adl_settle.specs.Lookups.{within, attribute_at, given_from, IsRemembered};
+ghost use Rattle.std.specs.Option.{option_and_then, option_copied, option_map_or};
+ghost use Rattle.std.specs.Prelude.{◌≡◌, ◌∷◌, ◌++◌, [], List as Seq, None, slice_get, OnOk, IfOk};
+
+use crate::by_body::ByBody;
+use crate::kinds::kind_of;
+use crate::memo::Memo;
+use crate::setting_table::SettingTable;
+use adl_ast::{Setter, Setting};
+use adl_names::last_name;
+use adl_program::{Bodies, Body};
+use adl_settings::Given;
+use cam_base::{Name, NoMemory};
+use std::alloc::Global;
+use std::marker::Model;
+
+/// What the search looks at. Contracts see it as the hierarchy of the source.
+#[derive(Drop)]
+pub struct Lookup<'t, 'a> {
+    pub bodies: &'t Bodies<'a>,
+    pub settings: ByBody<SettingTable<'a>>,
+}
+
+impl<'t, 'a> Model for Lookup<'t, 'a> {
+    ghost use Rattle.adl_meaning.specs.Hierarchy.{Hierarchy};
+
+    ghost Value = { Hierarchy };
+
+    ghost use Rattle.adl_ast.specs.contracts.value.ValueKind as values;
+    ghost use Rattle.std.specs.Coded.{codes};
+
+    ghost coded = { Prim.hlevel (codes, values.the_row.coded) };
+
+    ghost use Rattle.adl_settle.specs.SettingTables.{AreTables};
+
+    ghost view = { λ l. l.bodies.now };
+
+    ghost invariant = { λ l. AreTables l.bodies.now l.settings };
+}
+
+impl<'t, 'a> Lookup<'t, 'a> {
+    fn top_number(&self) -> u32
+        ensures { result ≡ top_number self.now }
+    {
+        self.bodies.top_number()
+    }
+
+    /// The body behind a name, where there is one.
+    fn inner(&self, number: Option<u32>, name: &Name) -> Option<u32>
+        ensures { result ≡ within self.now number name.now }
+    {
+        kind_of(self.bodies.body(number?), name)
+    }
+
+    /// The body behind the name at this place of a path; behind the whole path it stays.
+    fn behind(&self, number: Option<u32>, path: &[Name], at: usize) -> Option<u32>
+        ensures { result ≡ option_map_or (within self.now number) (slice_get path.now at) number }
+    {
+        match path.get(at) {
+            None => number,
+            Some(name) => self.inner(number, name),
+        }
+    }
+
+    /// The setting of a path with a name behind it.
+    fn setting(&self, number: Option<u32>, key: &[&[u8]]) -> Option<&'a Setting>
+        ensures { (p : Seq Bytes) (x : Bytes) → pointed key.now ≡ p ++ x ∷ []
+            → option_copied result ≡ option_and_then (λ k. setting_of self.now k p x) number }
+    {
+        match number {
+            None => None,
+            Some(number) => self.settings.get(number).get(key),
+        }
+    }
+
+    fn default(&self, number: Option<u32>, name: &[u8]) -> Option<Given<'a>>
+        ensures { result ≡ option_and_then (λ k. default_in (body self.now k) name.now) number }
+    {
+        default_in(self.bodies.body(number?), name)
+    }
+}
+
+/// The default of an attribute of a body.
+fn default_in<'a>(body: &Body<'a>, name: &[u8]) -> Option<Given<'a>>
+    ensures { result ≡ default_in body.now name.now }
+{
+    let attribute = body.attribute(name)?;
+    let value = attribute.value.as_ref()?;
+    Some(Given {
+        value,
+        name: attribute.id.name.as_bytes(),
+    })
+}
+
+/// A name of two parts.
+fn joined(alloc: Global, front: &[u8], back: &[u8]) -> Result<Vec<u8>, NoMemory>
+    ensures { IfOk result (λ v. v.items ≡ front.now ++ back.now) }
+{
+    let mut name = front.to_vec(alloc)?;
+    name.extend_from_slice(back)?;
+    Ok(name)
+}
+
+/// The names of a path with a name behind them.
+fn key_of<'q>(alloc: Global, path: &'q [Name], name: &'q [u8]) -> Result<Vec<&'q [u8]>, NoMemory>
+    ensures { IfOk result (λ v. pointed v.items ≡ path.now ++ name.now ∷ []) }
+{
+    let mut key = Vec::new(alloc);
+    for part in path {
+        key.push(part.as_bytes())?;
+    }
+    key.push(name)?;
+    Ok(key)
+}
+
+/// What a setting gives, of the body at the path. The assembly, at the empty path, has no attributes.
+#[cycle(value)]
+fn given_by<'a>(
+    alloc: Global,
+    lookup: &Lookup<'_, 'a>,
+    memo: &mut Memo<'a>,
+    setting: Option<&'a Setting>,
+    path: &'a [Name],
+) -> Result<Option<Given<'a>>, NoMemory>
+    requires { IsRemembered lookup.now memo.old }
+    ensures value { IfOk result (λ o. o ≡ given_from (attribute_at lookup.now path.now) (option_copied setting.entry)) }
+    ensures memo { OnOk result (IsRemembered lookup.now memo.new) }
+{
+    match setting {
+        None => Ok(None),
+        Some(setting) => match &setting.setter {
+            Setter::Literal(value) => Ok(Some(Given {
+                value,
+                name: last_name(setting.words.as_slice()),
+            })),
+            Setter::Reference(attribute) => {
+                if path.is_empty() {
+                    return Ok(None);
+                }
+                value(alloc, lookup, memo, path, attribute.name.as_bytes(), b"")
+            }
+        },
+    }
+}
+
+/// The value of the setting at a path, searched for from the outermost body inwards.
+#[cycle(value)]
+fn search<'a>(
+    alloc: Global,
+    lookup: &Lookup<'_, 'a>,
+    memo: &mut Memo<'a>,
+    path: &'a [Name],
+    name: &[u8],
+) -> Result<Option<Given<'a>>, NoMemory>
+    requires { IsRemembered lookup.now memo.old }
+    ensures value { IfOk result (λ o. o ≡ value_at lookup.now path.now name.now) }
+    ensures memo { OnOk result (IsRemembered lookup.now memo.new) }
+{
+    let key = key_of(alloc, path, name)?;
+    let mut number = Some(lookup.top_number());
+    for at in 0..path.len().max(1) {
+        let setting = lookup.setting(number, &key[at..]);
+        match given_by(alloc, lookup, memo, setting, &path[..at])? {
+            Some(given) => return Ok(Some(given)),
+            None => number = lookup.behind(number, path, at),
+        }
+    }
+    Ok(lookup.default(number, name))
+}
+
+/// The value of the setting at a path, whose name has two parts.
+#[cycle(value)]
+pub fn value<'a>(
+    alloc: Global,
+    lookup: &Lookup<'_, 'a>,
+    memo: &mut Memo<'a>,
+    path: &'a [Name],
+    front: &'a [u8],
+    back: &'a [u8],
+) -> Result<Option<Given<'a>>, NoMemory>
+    requires { IsRemembered lookup.now memo.old }
+    ensures value { IfOk result (λ o. o ≡ value_at lookup.now path.now (front.now ++ back.now)) }
+    ensures memo { OnOk result (IsRemembered lookup.now memo.new) }
+{
+    if let Some(found) = memo.get(path, front, back) {
+        return Ok(found);
+    }
+    let name = joined(alloc, front, back)?;
+    let found = search(alloc, lookup, memo, path, name.as_slice())?;
+    memo.insert(path, front, back, again(&found))?;
+    Ok(found)
+}
+
+fn again<'a>(found: &Option<Given<'a>>) -> Option<Given<'a>>
+    ensures { result ≡ found.now }
+{
+    match found {
+        None => None,
+        Some(given) => Some(given.again()),
+    }
+}
