@@ -1,10 +1,12 @@
 -- A table that has the listed edges has as many as there are different ones.
-use Rattle.std.proofs.Common.{◌≡◌, ◌||◌, suc, Bool, true, false, List, [], ◌∷◌, ◌++◌, length, refl, sym, ◌∙◌, ap, subst, inl, inr, arith}
+use Rattle.std.proofs.Common.{◌≡◌, ◌||◌, Bool, true, false, List, [], ◌∷◌, ◌++◌, length, refl, sym, ◌∙◌, ap, subst, inl, inr, arith, get_or}
 use Rattle.std.specs.Cmp.{IsEquivalence}
 use Rattle.std.specs.Cmp.Derive.{one_truth}
-use Rattle.std.specs.List.{AllByRecursion, IsDistinct, filter, list_any}
+use Rattle.std.specs.List.{IsDistinct, filter, list_any}
 use Rattle.std.specs.Set.{is_member}
 use Rattle.std.proofs.lemmas.Map.Made.{length-from_keys}
+use Rattle.std.proofs.lemmas.Map.Keys.{IsDistinct-from_apart}
+use Rattle.std.proofs.lemmas.Option.{slice_get-get_or}
 use Rattle.auth_kinds.specs.Adds.{Adds}
 use Rattle.auth_kinds.specs.Edges.{Before, same_edge}
 use Rattle.auth_kinds.specs.Tables.{IsSorted, has}
@@ -17,7 +19,7 @@ use Rattle.arch_policy.specs.Triples.{bound_edges, triples}
 use Rattle.arch_policy.proofs.Listed.{from_bound, in_bound, triples_are_policy}
 use Rattle.arch_policy.proofs.Lists.{from_filter, has_in, in_filter, in_has}
 use Rattle.numbering.specs.Gather.{IsIn}
-use Rattle.numbering.proofs.Gathered.{in_append, in_left, in_right, place_of}
+use Rattle.numbering.proofs.Gathered.{in_append, in_left, in_right}
 
 same_back : (d e : Edge) → same_edge d e ≡ true → same_edge e d ≡ true
 same_back d e h = ap (λ z. same_edge z d) (sym (same_edge_true d e h)) ∙ same_edge_self d
@@ -25,22 +27,12 @@ same_back d e h = ap (λ z. same_edge z d) (sym (same_edge_true d e h)) ∙ same
 same_swap : (d e : Edge) → same_edge d e ≡ same_edge e d
 same_swap d e = one_truth (same_edge d e) (same_edge e d) (same_back d e) (same_back e d)
 
-same_laws : IsEquivalence same_edge
+pub same_laws : IsEquivalence same_edge
 same_laws = record { refl = same_edge_self; symm = same_swap; congr = λ x y z h. ap (λ v. same_edge v z) (same_edge_true x y h) }
 
-member_has : (es : List Edge) (e : Edge) → is_member same_edge es e ≡ has es e
+pub member_has : (es : List Edge) (e : Edge) → is_member same_edge es e ≡ has es e
 member_has [] e = refl
 member_has (d ∷ es) e = ap (λ b. b || list_any (same_edge e) es) (same_swap e d) ∙ ap (λ b. same_edge d e || b) (member_has es e)
-
-all_in : {X : Type 0} (P : X → Type 0) (xs : List X) → ((x : X) → IsIn x xs → P x) → AllByRecursion P xs
-all_in P [] h = tt
-all_in P (x ∷ xs) h = (h x (inl refl), all_in P xs (λ y i. h y (inr i)))
-
-sorted_tail : (d : Edge) (es : List Edge) → IsSorted (d ∷ es) → IsSorted es
-sorted_tail d es s = record { by_place = λ i j x y l p q. s.by_place (suc i) (suc j) x y (omega (arith, l)) p q }
-
-before_in : (d e : Edge) (es : List Edge) → IsSorted (d ∷ es) → IsIn e es → Before d e
-before_in d e es s i = let k = place_of e es i in s.by_place 0 (suc k.0) d e (omega arith) refl k.1
 
 differs : (d e : Edge) → Before d e → same_edge d e ≡ false
 differs d e b = go (same_edge d e) refl where
@@ -48,10 +40,11 @@ differs d e b = go (same_edge d e) refl where
   go true h = absurd (not_before_self d (subst (λ (z : Edge). Before d z) (sym (same_edge_true d e h)) b))
   go false h = refl
 
-distinct : (es : List Edge) → IsSorted es → IsDistinct same_edge es
-unfolding IsDistinct
-distinct [] s = tt
-distinct (d ∷ es) s = (all_in (λ e. same_edge d e ≡ false) es (λ e i. differs d e (before_in d e es s i)), distinct es (sorted_tail d es s))
+-- edges that stand in order differ
+pub distinct : (es : List Edge) → IsSorted es → IsDistinct same_edge es
+distinct es s =
+    IsDistinct-from_apart same_edge es (λ i j d l m.
+    differs (get_or es i d) (get_or es j d) (s.by_place i j (get_or es i d) (get_or es j d) l (slice_get-get_or es i d (omega (arith, l, m))) (slice_get-get_or es j d m)))
 
 pub table_counts : (t : Tables) (table : List Edge) → IsSorted table → ((e : Edge) → has table e ≡ has (triples t) e) → length table ≡ edge_count t
 table_counts t table s same = length-from_keys same_laws table (triples t) (distinct table s) (λ q. member_has table q ∙ same q ∙ sym (member_has (triples t) q))

@@ -36,12 +36,15 @@ gather_short f (x ∷ xs) h =
     let c = length_append (f 0 x) (gather (λ k y. f (suc k) y) xs) in
     omega (arith, a, b, c)
 
-pub few_texts : (flat : Flat) → length flat.domains + length flat.connections + length flat.leaves < 2 ^ 32 → length (label_texts flat) < 2 ^ 32
-few_texts flat h =
+pub texts_are_few : (flat : Flat) → length (label_texts flat) ≤ length flat.domains + length flat.connections + length flat.leaves
+texts_are_few flat =
     let a = order_short (texts flat) in
     let b = length_append (domain_texts flat.domains) (device_texts flat.leaves ++ connection_texts flat.connections) in
     let c = length_append (device_texts flat.leaves) (connection_texts flat.connections) in
     let d = gather_short (λ d (x : Domain). joined x.path ∷ []) flat.domains (λ k x. omega arith) in
     let e = gather_short (λ l (x : Leaf). where_true (is_device x.domain) (joined x.path)) flat.leaves (λ k x. where_short (is_device x.domain) (joined x.path)) in
     let f = gather_short (λ k (x : FlatConnection). where_true (has_label x.connector) (joined x.path)) flat.connections (λ k x. where_short (has_label x.connector) (joined x.path)) in
-    omega (arith, a, b, c, d, e, f, h)
+    omega (arith, a, b, c, d, e, f)
+
+pub few_texts : (flat : Flat) → length flat.domains + length flat.connections + length flat.leaves < 2 ^ 32 → length (label_texts flat) < 2 ^ 32
+few_texts flat h = let l = texts_are_few flat in omega (arith, l, h)

@@ -16,7 +16,7 @@ use Rattle.auth_kinds.specs.Authorities.{authorities}
 use Rattle.auth_kinds.specs.AuthoritySets.{set_has}
 use Rattle.auth_kinds.specs.Edges.{edge}
 use Rattle.auth_kinds.specs.declared.authority.Authority.{Authority}
-use Rattle.auth_kinds.specs.declared.authority.Authority.TheVariants.{Receive, SyncSend, AsyncSend, Reset, Grant, Read, Write, Control, Call, Reply, GrantBack, Handle}
+use Rattle.auth_kinds.specs.declared.authority.Authority.TheVariants.{AsyncSend, Control, Reply, Handle}
 use Rattle.auth_kinds.specs.declared.edge.Edge.{Edge}
 use Rattle.conn_rules.specs.Row.{rows_of, same_connector, same_role}
 use Rattle.conn_rules.specs.declared.rule.ObjectKind.{ObjectKind}
@@ -36,20 +36,7 @@ use Rattle.arch_policy.specs.Bound.{IsBound}
 use Rattle.arch_policy.specs.Where.{where_true}
 use Rattle.arch_policy.proofs.Lists.{from_any, from_filter, from_where, has_in, in_any, in_filter, in_has, in_where, leads, led_out}
 use Rattle.arch_policy.proofs.Same.{is_connector, is_object, is_role, same_connector_self, same_object_self, same_role_self}
-
-an_authority : (a : Authority) → IsIn a authorities
-an_authority Receive = inl refl
-an_authority SyncSend = inr (inl refl)
-an_authority AsyncSend = inr (inr (inl refl))
-an_authority Reset = inr (inr (inr (inl refl)))
-an_authority Grant = inr (inr (inr (inr (inl refl))))
-an_authority Read = inr (inr (inr (inr (inr (inl refl)))))
-an_authority Write = inr (inr (inr (inr (inr (inr (inl refl))))))
-an_authority Control = inr (inr (inr (inr (inr (inr (inr (inl refl)))))))
-an_authority Call = inr (inr (inr (inr (inr (inr (inr (inr (inl refl))))))))
-an_authority Reply = inr (inr (inr (inr (inr (inr (inr (inr (inr (inl refl)))))))))
-an_authority GrantBack = inr (inr (inr (inr (inr (inr (inr (inr (inr (inr (inl refl))))))))))
-an_authority Handle = inr (inr (inr (inr (inr (inr (inr (inr (inr (inr (inr (inl refl)))))))))))
+use Rattle.arch_policy.proofs.Given.{an_authority}
 
 pub is_same_role : (r q : Role) → r ≡ q → same_role r q ≡ true
 is_same_role r q e = ap (λ z. same_role z q) e ∙ same_role_self q

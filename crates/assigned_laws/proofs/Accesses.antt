@@ -45,7 +45,7 @@ use Rattle.adl_settings.proofs.EndNumbers.{setting_at_number}
 use Rattle.adl_types.specs.TypeFaults.{first_type_fault}
 use Rattle.arch_policy.specs.Ends.{EndAt}
 use Rattle.arch_policy.specs.Gives.{gives, leaves}
-use Rattle.assigned_laws.proofs.Given.{implied, implies, over_object}
+use Rattle.arch_policy.proofs.Given.{implied, implies, over_object}
 use Rattle.assigned_laws.specs.Assigned.{EndOf, access_of, allows}
 use Rattle.assigned_laws.specs.Named.{tables_with}
 use Rattle.assigned_laws.proofs.Joined.{Matches}

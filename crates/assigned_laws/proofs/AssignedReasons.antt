@@ -1,12 +1,12 @@
 -- What a source assigns has a reason in its flat system, and the other way round.
-use Rattle.std.proofs.Common.{◌≡◌, ◌∙◌, ◌↔◌, ℕ, true, Some, None, refl, sym, ap, subst, true≢false}
+use Rattle.std.proofs.Common.{◌≡◌, ◌∙◌, ◌↔◌, ℕ, true, Some, None, refl, sym, ap, subst}
 use Rattle.std.specs.List.{slice_get}
 use Rattle.adl_ast.specs.declared.composition.Role.{Role}
 use Rattle.adl_ast.specs.declared.composition.Role.TheVariants.{From, To}
 use Rattle.adl_ast.specs.declared.source.Source.{Source}
 use Rattle.adl_hierarchy.specs.Leads.{AreDotted}
 use Rattle.adl_meaning.specs.declared.connector.Connector.{Connector}
-use Rattle.adl_meaning.specs.declared.connector.Connector.TheVariants.{Rpc, Notification, SharedMemory, Mmio, Interrupt, Direct as DirectCall}
+use Rattle.adl_meaning.specs.declared.connector.Connector.TheVariants.{Rpc, Notification, Interrupt}
 use Rattle.adl_meaning.specs.declared.flat.FlatConnection.{FlatConnection}
 use Rattle.adl_meaning.specs.Domains.{domain_of}
 use Rattle.adl_meaning.specs.Flat.{flat_of}
@@ -31,39 +31,9 @@ use Rattle.auth_kinds.specs.declared.authority.Authority.{Authority}
 use Rattle.conn_rules.specs.declared.rule.ObjectKind.{ObjectKind}
 use Rattle.conn_rules.specs.declared.rule.ObjectKind.TheVariants.{NoObject, OfEndpoint, OfNotification, OfFrames, OfDevice, OfIrq}
 use Rattle.arch_policy.specs.declared.numbers.LabelNumbers.{LabelNumbers}
+use Rattle.arch_policy.proofs.Given.{labelled_endpoint, labelled_frames, labelled_notification}
 
 -- ---- of the table
-
--- a connection over whose own object something is given has a label
-labelled_endpoint : (c : Connector) (r : Role) (a : Authority) → gives c r OfEndpoint a ≡ true → has_label c ≡ true
-labelled_endpoint Rpc r a h = refl
-labelled_endpoint Notification r a h = refl
-labelled_endpoint SharedMemory r a h = refl
-labelled_endpoint Mmio From a h = absurd (true≢false (sym h))
-labelled_endpoint Mmio To a h = absurd (true≢false (sym h))
-labelled_endpoint Interrupt r a h = refl
-labelled_endpoint DirectCall From a h = absurd (true≢false (sym h))
-labelled_endpoint DirectCall To a h = absurd (true≢false (sym h))
-
-labelled_notification : (c : Connector) (r : Role) (a : Authority) → gives c r OfNotification a ≡ true → has_label c ≡ true
-labelled_notification Rpc r a h = refl
-labelled_notification Notification r a h = refl
-labelled_notification SharedMemory r a h = refl
-labelled_notification Mmio From a h = absurd (true≢false (sym h))
-labelled_notification Mmio To a h = absurd (true≢false (sym h))
-labelled_notification Interrupt r a h = refl
-labelled_notification DirectCall From a h = absurd (true≢false (sym h))
-labelled_notification DirectCall To a h = absurd (true≢false (sym h))
-
-labelled_frames : (c : Connector) (r : Role) (a : Authority) → gives c r OfFrames a ≡ true → has_label c ≡ true
-labelled_frames Rpc r a h = refl
-labelled_frames Notification r a h = refl
-labelled_frames SharedMemory r a h = refl
-labelled_frames Mmio From a h = absurd (true≢false (sym h))
-labelled_frames Mmio To a h = absurd (true≢false (sym h))
-labelled_frames Interrupt r a h = refl
-labelled_frames DirectCall From a h = absurd (true≢false (sym h))
-labelled_frames DirectCall To a h = absurd (true≢false (sym h))
 
 given_to : (c d : Connector) (r q : Role) (o : ObjectKind) (a : Authority) → c ≡ d → r ≡ q → gives d q o a ≡ true → gives c r o a ≡ true
 given_to c d r q o a e f h = ap (λ x. gives x r o a) e ∙ ap (λ x. gives d x o a) f ∙ h

@@ -1,5 +1,5 @@
 -- Ends of the flat system are ends of connections by the hierarchy, and the other way round.
-use Rattle.std.proofs.Common.{◌≡◌, ◌∙◌, ◌<◌, ◌++◌, ℕ, List, length, Some, refl, sym, ap, subst}
+use Rattle.std.proofs.Common.{◌≡◌, ◌∙◌, ◌<◌, ◌++◌, ℕ, length, Some, refl, sym, ap, subst}
 use Rattle.std.specs.List.{slice_get}
 use Rattle.std.proofs.lemmas.Option.{slice_get_within}
 use Rattle.adl_ast.specs.declared.composition.End.{End}
@@ -27,10 +27,6 @@ use Rattle.arch_policy.specs.Tables.{Tables, leaf_label}
 use Rattle.arch_policy.specs.declared.numbers.LabelNumbers.{LabelNumbers}
 use Rattle.numbering.proofs.Gathered.{place_of}
 
--- the place of something in a list
-in_at : {X : Type 0} (x : X) (xs : List X) → IsIn x xs → (n : ℕ) × (slice_get xs n ≡ Some x)
-in_at x xs i = place_of x xs i
-
 module _ (s : Source) (sound : AreNamesSound s) (dotted : AreDotted (hierarchy_of s)) (numbers : LabelNumbers) where
   abbrev t : Tables
   t = tables_with s numbers
@@ -57,7 +53,7 @@ module _ (s : Source) (sound : AreNamesSound s) (dotted : AreDotted (hierarchy_o
   reached_named q r i =
       let h = hierarchy_of s in
       let x : Placed = record { path = q ++ r.path; part = r.part } in
-      let n = in_at x (leaves h) i in
+      let n = place_of x (leaves h) i in
       let is = leaf_number_is s sound n.0 x n.1 in
       subst (λ z. IsNamed t (leaf_label t z) (owner h x.path)) (sym is) (leaf_named s numbers sound x n.0 n.1)
 
@@ -101,7 +97,7 @@ module _ (s : Source) (sound : AreNamesSound s) (dotted : AreDotted (hierarchy_o
       let h = hierarchy_of s in
       let j = e.joins in
       let y : Strung = record { path = q; inside = j.inside; wire = w } in
-      let n = in_at y (connections h) ((connections_stand s sound y).1 (j.there, j.stands)) in
+      let n = place_of y (connections h) ((connections_stand s sound y).1 (j.there, j.stands)) in
       (n.0, j.inside, n.1)
 
   -- from the hierarchy

@@ -1,6 +1,5 @@
 pub mod Accesses
 pub mod AssignedReasons
-pub mod Given
 pub mod Joined
 pub mod LabelPaths
 pub mod LabelTexts

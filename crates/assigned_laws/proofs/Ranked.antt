@@ -18,6 +18,7 @@ use Rattle.arch_policy.specs.Tables.{AreApart, IsThere, Tables, number_of}
 use Rattle.arch_policy.specs.Where.{where_true}
 use Rattle.arch_policy.specs.declared.owner.Owner.{Owner}
 use Rattle.arch_policy.specs.declared.owner.Owner.TheVariants.{OfConnection, OfDomain, OfLeaf}
+use Rattle.arch_policy.proofs.Lists.{from_where, in_where}
 use Rattle.assigned_laws.specs.Named.{HasPath}
 use Rattle.assigned_laws.specs.Texts.{AreTextsApart, IsCalled}
 use Rattle.cam_base.specs.Paths.{joined}
@@ -70,22 +71,13 @@ rank_place (t ∷ ts) (suc n) x r e =
 -- ---- texts of labels
 
 -- who has a label has a path
-path_there : (flat : Flat) (x : Owner) → IsThere flat x → (p : Path) × HasPath flat x p
+pub path_there : (flat : Flat) (x : Owner) → IsThere flat x → (p : Path) × HasPath flat x p
 path_there flat (OfDomain d) h = (h.0.path, (h.0, h.1, refl))
 path_there flat (OfConnection k) h = (h.0.path, (h.0, h.1, h.2, refl))
 path_there flat (OfLeaf l) h = (h.0.path, (h.0, h.1, h.2, refl))
 
 device_none : (leaf : Leaf) → leaf.domain ≡ None → is_device leaf.domain ≡ true
 device_none leaf e = ap is_device e
-
-in_where : {X : Type 0} (b : Bool) (x : X) → b ≡ true → IsIn x (where_true b x)
-in_where true x h = inl refl
-in_where false x h = absurd cc
-
-from_where : {X : Type 0} (b : Bool) (x y : X) → IsIn y (where_true b x) → (b ≡ true) × (x ≡ y)
-from_where true x y (inl e) = (refl, e)
-from_where true x y (inr i) = absurd i
-from_where false x y i = absurd i
 
 -- a label's text is listed
 listed : (flat : Flat) (x : Owner) (p : Path) → HasPath flat x p → IsIn (joined p) (texts flat)

@@ -13,6 +13,7 @@ use Rattle.adl_meaning.specs.declared.flat.FlatConnection.{FlatConnection}
 use Rattle.adl_meaning.specs.declared.flat.Leaf.{Leaf}
 use Rattle.numbering.specs.Gather.{gather, IsIn}
 use Rattle.numbering.proofs.Gathered.{length_append, gather_ones, get_ones}
+use Rattle.numbering.proofs.Lists.{at_place}
 use Rattle.leaf_ends.specs.LeafEnds.{leaf_ends}
 use Rattle.leaf_ends.specs.Members.{is_lock, members_at, members_of_leaf, leaf_members}
 use Rattle.cspace_layout.specs.declared.plan.SlotUse.{SlotUse}
@@ -49,15 +50,10 @@ length-leaf_uses cs leaf members =
 
 -- ---- domains
 
-pub present : {X : Type 0} (xs : List X) (i : ℕ) → i < length xs → (x : X) × (slice_get xs i ≡ Some x)
-present [] i l = absurd (omega arith)
-present (x ∷ xs) zero l = (x, refl)
-present (x ∷ xs) (suc i) l = present xs i (omega arith)
-
 module _ (source : Source) (flat : Flat) where
   count_at : (leaf : ℕ) → leaf < length flat.leaves → slice_index (leaf_counts source flat) leaf ≡ capped (length (leaf_uses flat.connections leaf (leaf_members source flat leaf)))
   count_at leaf l =
-      let here : (x : Leaf) × (slice_get flat.leaves leaf ≡ Some x) = present flat.leaves leaf l in
+      let here : (x : Leaf) × (slice_get flat.leaves leaf ≡ Some x) = at_place flat.leaves leaf l in
       let F : ℕ → Leaf → ℕ = λ n x. capped (length (leaf_uses flat.connections n (members_at source x.component))) in
       get_or_from_slice_get (leaf_counts source flat) leaf (F leaf here.0) 0 (get_ones F flat.leaves leaf here.0 here.1)
       ∙ ap (λ x. capped (length (leaf_uses flat.connections leaf (members_of_leaf source x)))) (sym here.1)

@@ -3,7 +3,7 @@ use Rattle.std.proofs.Common.{◌≡◌, ◌<◌, ◌≤◌, ◌+◌, ℕ, List,
 use Rattle.std.specs.List.{slice_get}
 use Rattle.std.proofs.lemmas.List.{take_all}
 use Rattle.std.proofs.lemmas.Simd.{map-map}
-use Rattle.std.proofs.lemmas.Option.{get_or_from_slice_get, slice_get_read}
+use Rattle.std.proofs.lemmas.Option.{get_or_from_slice_get}
 use Rattle.adl_ast.specs.declared.component.Member.{Member}
 use Rattle.adl_ast.specs.declared.source.Source.{Source}
 use Rattle.adl_meaning.specs.declared.flat.Domain.{Domain}
@@ -11,6 +11,7 @@ use Rattle.adl_meaning.specs.declared.flat.Flat.{Flat}
 use Rattle.adl_meaning.specs.declared.flat.Leaf.{Leaf}
 use Rattle.numbering.specs.Gather.{gather, IsIn}
 use Rattle.numbering.proofs.Gathered.{gather_turn, gather_map, gather_ones, get_ones}
+use Rattle.numbering.proofs.Lists.{at_place, read_place}
 use Rattle.leaf_ends.specs.declared.end_at.EndAt.{EndAt}
 use Rattle.leaf_ends.specs.LeafEnds.{leaf_ends, ends_of}
 use Rattle.leaf_ends.specs.Members.{members_at, members_of_leaf, leaf_members}
@@ -21,11 +22,8 @@ use Rattle.cspace_layout.specs.Counted.{capped, leaf_count, leaf_counts, sum_at}
 use Rattle.cspace_layout.specs.Laid.{laid_leaf}
 use Rattle.cspace_layout.specs.SlotFaults.{counts}
 use Rattle.cspace_layout.specs.Uses.{leaf_uses, domain_uses, plan_of, slots_of}
-use Rattle.cspace_layout.proofs.Counting.{domain_counted, length-leaf_uses, present}
+use Rattle.cspace_layout.proofs.Counting.{domain_counted, length-leaf_uses}
 use Rattle.cspace_layout.proofs.Using.{leaf_laid}
-
-pub at_place : {X : Type 0} (xs read : List X) (i : ℕ) (x : X) → read ≡ xs → i < length read → x ≡ get_or read i x → slice_get xs i ≡ Some x
-at_place xs read i x same l is = subst (λ z. slice_get z i ≡ Some x) same (slice_get_read read (length read) i x refl l is)
 
 pub length-ends_of : (source : Source) (flat : Flat) → length (ends_of source flat) ≡ length flat.leaves
 length-ends_of source flat = gather_ones (λ n (x : Leaf). leaf_ends flat.connections n (members_at source x.component)) flat.leaves
@@ -34,7 +32,7 @@ length-ends_of source flat = gather_ones (λ n (x : Leaf). leaf_ends flat.connec
 ends_here : (source : Source) (flat : Flat) (lists : List (List EndAt)) (i : ℕ) (r : List EndAt) → lists ≡ ends_of source flat → i < length flat.leaves → r ≡ get_or lists i r
     → r ≡ leaf_ends flat.connections i (leaf_members source flat i)
 ends_here source flat lists i r same l is =
-    let here : (x : Leaf) × (slice_get flat.leaves i ≡ Some x) = present flat.leaves i l in
+    let here : (x : Leaf) × (slice_get flat.leaves i ≡ Some x) = at_place flat.leaves i l in
     let F : ℕ → Leaf → List EndAt = λ n x. leaf_ends flat.connections n (members_at source x.component) in
     is ∙ get_or_from_slice_get lists i (F i here.0) r (ap (λ z. slice_get z i) same ∙ get_ones F flat.leaves i here.0 here.1)
     ∙ ap (λ x. leaf_ends flat.connections i (members_of_leaf source x)) (sym here.1)
@@ -45,7 +43,7 @@ pub leaf_turn : (source : Source) (flat : Flat) (lists : List (List EndAt)) (lea
     → new ≡ gather (λ n leaf. capped (length (leaf_uses flat.connections n (members_at source leaf.component))) ∷ []) (take (i + 1) flat.leaves)
 leaf_turn source flat lists leaves i leaf r js members n old new ends same l is here j m e o p =
     let below : i < length flat.leaves = subst (λ (z : List Leaf). i < length z) same l in
-    let there : leaf_members source flat i ≡ members = ap (members_of_leaf source) (at_place flat.leaves leaves i leaf same l is) ∙ sym m in
+    let there : leaf_members source flat i ≡ members = ap (members_of_leaf source) (read_place flat.leaves leaves i leaf same l is) ∙ sym m in
     let q : js ≡ leaf_ends flat.connections i members = j ∙ ends_here source flat lists i r ends below here ∙ ap (λ z. leaf_ends flat.connections i z) there in
     gather_turn (λ n (leaf : Leaf). capped (length (leaf_uses flat.connections n (members_at source leaf.component))) ∷ []) flat.leaves leaves i leaf [] old new same l is o
     (p ∙ ap (λ z. old ++ z ∷ []) (e ∙ ap (λ z. capped (leaf_count flat.connections z members)) q ∙ ap capped (length-leaf_uses flat.connections i members)
@@ -54,7 +52,7 @@ leaf_turn source flat lists leaves i leaf r js members n old new ends same l is 
 -- the members of a leaf that is found by its number
 pub members_here : (source : Source) (flat : Flat) (leaves : List Leaf) (i : ℕ) (leaf : Leaf) (members : List Member) → leaves ≡ flat.leaves → i < length leaves → leaf ≡ get_or leaves i leaf
     → members ≡ members_at source (get_or leaves i leaf).component → members ≡ leaf_members source flat i
-members_here source flat leaves i leaf members same l is m = m ∙ ap (λ (z : Leaf). members_at source z.component) (sym is) ∙ sym (ap (members_of_leaf source) (at_place flat.leaves leaves i leaf same l is))
+members_here source flat leaves i leaf members same l is m = m ∙ ap (λ (z : Leaf). members_at source z.component) (sym is) ∙ sym (ap (members_of_leaf source) (read_place flat.leaves leaves i leaf same l is))
 
 pub uses_turn : (source : Source) (flat : Flat) (lists : List (List EndAt)) (listed : List ℕ) (i leaf : ℕ) (r js : List EndAt) (members : List Member) (old new : List SlotUse) → lists ≡ ends_of source flat
     → i < length listed → leaf ≡ get_or listed i leaf → leaf < length flat.leaves → r ≡ get_or lists leaf r → js ≡ r → members ≡ leaf_members source flat leaf
@@ -77,7 +75,7 @@ pub counts_turn : (source : Source) (flat : Flat) (ds : List Domain) (i : ℕ) (
     → old ≡ gather (λ d domain. capped (length (domain_uses source flat domain.leaves)) ∷ []) (take i flat.domains) → new ≡ old ++ n ∷ []
     → new ≡ gather (λ d domain. capped (length (domain_uses source flat domain.leaves)) ∷ []) (take (i + 1) flat.domains)
 counts_turn source flat ds i domain n counts listed old new within e same l is here c o p =
-    let at : slice_get flat.domains i ≡ Some domain = at_place flat.domains ds i domain same l is in
+    let at : slice_get flat.domains i ≡ Some domain = read_place flat.domains ds i domain same l is in
     let counted = domain_counted source flat counts domain.leaves e (λ leaf q. within.listed i leaf domain at q) in
     gather_turn (λ d (domain : Domain). capped (length (domain_uses source flat domain.leaves)) ∷ []) flat.domains ds i domain [] old new same l is o
     (p ∙ ap (λ z. old ++ z ∷ []) (c ∙ ap (λ z. capped (sum_at counts z)) here ∙ counted))
@@ -86,7 +84,7 @@ counts_turn source flat ds i domain n counts listed old new within e same l is h
 pub listed_here : (source : Source) (flat : Flat) (ds : List Domain) (i : ℕ) (domain : Domain) (listed : List ℕ) → IsWithin source flat → ds ≡ flat.domains → i < length ds → domain ≡ get_or ds i domain → listed ≡ domain.leaves
     → (leaf : ℕ) → IsIn leaf listed → leaf < length flat.leaves
 listed_here source flat ds i domain listed within same l is here leaf q =
-    within.listed i leaf domain (at_place flat.domains ds i domain same l is) (subst (λ z. IsIn leaf z) here q)
+    within.listed i leaf domain (read_place flat.domains ds i domain same l is) (subst (λ z. IsIn leaf z) here q)
 
 -- where a loop over all has ended
 all_taken : {X : Type 0} (xs read : List X) (i : ℕ) → read ≡ xs → length read ≤ i → take i xs ≡ xs

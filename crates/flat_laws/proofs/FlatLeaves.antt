@@ -1,6 +1,7 @@
 -- The leaves and domains of a flat system, by number.
 use Rattle.std.proofs.Common.{◌≡◌, ◌≤◌, ℕ, Bool, true, false, cond, List, [], ◌∷◌, map, Option, Some, None, refl, sym, ◌∙◌, ap, subst, inl, inr, unwrap_or, length, arith}
 use Rattle.std.specs.List.{All, slice_get}
+use Rattle.std.proofs.lemmas.List.{length-map}
 use Rattle.std.proofs.lemmas.List.Elements.{All-head, All-tail}
 use Rattle.std.proofs.lemmas.Option.{option_and_then_some, slice_get-map}
 use Rattle.adl_ast.specs.declared.component.Component.{Component}
@@ -10,7 +11,8 @@ use Rattle.adl_hierarchy.specs.PartAt.{part_at}
 use Rattle.adl_hierarchy.proofs.Bodies.{body_number, part_of_body}
 use Rattle.adl_hierarchy.proofs.DomainNames.{domains_are, leaves_of_domain, domain_number_is, domain_found}
 use Rattle.adl_hierarchy.proofs.Leaves.{leaves_stand}
-use Rattle.component_graph.proofs.Lists.{in_get}
+use Rattle.component_graph.proofs.ComponentNumbers.{numbers_below}
+use Rattle.component_graph.proofs.Lists.{in_get, get}
 use Rattle.numbering.proofs.Lists.{get_map, map_some}
 use Rattle.adl_hierarchy.proofs.Steps.{part_in}
 use Rattle.adl_meaning.specs.declared.flat.Domain.{Domain}
@@ -26,7 +28,6 @@ use Rattle.adl_meaning.specs.Paths.{Path, Placed, leaves}
 use Rattle.leaf_ends.specs.Members.{members_at, leaf_members, members_of_leaf}
 use Rattle.adl_meaning.specs.FewMembers.{HaveFewMembers}
 use Rattle.flat_laws.proofs.MembersAt.{members_there}
-use Rattle.flat_laws.proofs.Named.{named}
 
 -- ---- places
 
@@ -46,8 +47,9 @@ leaf_component s sound x i =
     let h = hierarchy_of s in
     let stands = (leaves_stand s sound x).0 i in
     let m = part_stands h (top_number h) x.path x.part stands.0 in
-    let c = named s x.part.instance.component.name x.part.kind (part_of_body s m.0 x.part m.1).typed in
-    (c.component, c.stands)
+    let trees = map (λ (c : ItemAt × Component). c.1) (components s) in
+    let low = numbers_below trees x.part.instance.component.name x.part.kind (part_of_body s m.0 x.part m.1).typed in
+    get (components s) x.part.kind (omega (arith, low, length-map (components s) (λ (c : ItemAt × Component). c.1)))
 
 -- the members at the place of an instance's component are the component's
 pub members_of_part : (s : Source) (x : Part) (c : ItemAt × Component) → slice_get (components s) x.kind ≡ Some c → members_at s (item_of (hierarchy_of s) x) ≡ c.1.members

@@ -13,7 +13,7 @@ use Rattle.adl_meaning.specs.declared.item_at.ItemAt.{ItemAt}
 use Rattle.leaf_ends.specs.Members.{members_of, members_in, items_of_file, members_at}
 
 -- an item stands at its place
-item_at : (s : Source) (x : ItemAt × Item) → IsIn x (items_of s) → (e : Ended) × (slice_get (items_of_file (slice_get s.files x.0.file)) x.0.item ≡ Some e) × (e.item ≡ x.1)
+pub item_at : (s : Source) (x : ItemAt × Item) → IsIn x (items_of s) → (e : Ended) × (slice_get (items_of_file (slice_get s.files x.0.file)) x.0.item ≡ Some e) × (e.item ≡ x.1)
 item_at s x i =
     let f = from_flat_map items_in x (enumerate_from 0 s.files) i in
     let file = from_enumerate 0 s.files f.0 f.1 in

@@ -14,9 +14,11 @@ use Rattle.adl_meaning.specs.Joins.{connections}
 use Rattle.adl_meaning.specs.Lists.{firsts_after}
 use Rattle.adl_meaning.specs.NameFaults.{AreNamesSound}
 use Rattle.adl_meaning.specs.Paths.{Path, Placed, leaves, same_path}
+use Rattle.adl_meaning.specs.JoinFaults.{first_flat_fault, first_join_fault}
 use Rattle.adl_meaning.specs.SizeFaults.{first_size_fault}
 use Rattle.adl_hierarchy.proofs.Limits.{in_limits}
 use Rattle.flat_laws.specs.Small.{IsSmall}
+use Rattle.flat_laws.proofs.FewEnds.{no_first}
 
 firsts_le : {X : Type 0} (same : X → X → Bool) (met : X → Bool) (xs : List X) → length (firsts_after same met xs) ≤ length xs
 firsts_le same met [] = omega arith
@@ -57,3 +59,6 @@ small s sound none =
       inside = λ d domain e. let p = from_domains h (domains h) d domain e in let l = few_inside h p.0 in subst (λ (z : Domain). length z.leaves ≤ 1024) p.1 (omega (arith, ls, l));
       connections = omega (arith, cs, length-map (connections h) (flat_connection h));
     }
+
+pub flat_small : (s : Source) → AreNamesSound s → first_flat_fault s ≡ None → IsSmall (flat_of s)
+flat_small s sound none = small s sound (no_first (first_size_fault s) (first_join_fault s) none)

@@ -1,7 +1,6 @@
 pub mod EndSettings
 pub mod ShortFiles
 pub mod Small
-pub mod SourceTables
 pub mod Typed
 pub use Rattle.adl_hierarchy.specs.Leads
 pub use Rattle.adl_meaning.specs.FewMembers
@@ -9,10 +8,5 @@ pub use Rattle.adl_meaning.specs.Flat
 pub use Rattle.adl_meaning.specs.Hierarchy
 pub use Rattle.adl_meaning.specs.JoinFaults
 pub use Rattle.adl_meaning.specs.NameFaults
-pub use Rattle.adl_settings.specs.SettingFaults
 pub use Rattle.adl_types.specs.TypeFaults
-pub use Rattle.cspace_layout.specs.SlotFaults
 pub use Rattle.leaf_ends.specs.Within
-pub use Rattle.spec_layout.specs.Direct
-pub use Rattle.spec_layout.specs.Fit
-pub use Rattle.spec_layout.specs.Ready

@@ -8,7 +8,7 @@ use Rattle.adl_meaning.specs.declared.flat.Flat.{Flat}
 use Rattle.adl_meaning.specs.declared.flat.FlatConnection.{FlatConnection}
 use Rattle.adl_meaning.specs.declared.flat.FlatEnd.{FlatEnd}
 use Rattle.adl_meaning.specs.declared.flat.Leaf.{Leaf}
-use Rattle.adl_types.specs.Kind.{is_kind_of}
+use Rattle.adl_types.specs.TypeFaults.{is_kind_of}
 use Rattle.conn_rules.specs.Ends.{end_rule}
 use Rattle.leaf_ends.specs.Members.{members_at}
 

@@ -1,6 +1,6 @@
 -- Where no fault of address spaces stands, sections lie apart and where they may.
-use Rattle.std.proofs.Common.{◌≡◌, ◌∙◌, ◌<◌, ℕ, zero, suc, Bool, true, false, not, List, [], ◌∷◌, ◌++◌, length, Some, None, refl, sym, ap, arith, inl, inr, ⊎_elim}
-use Rattle.std.specs.List.{flat_map, list_any, slice_get}
+use Rattle.std.proofs.Common.{◌≡◌, ◌∙◌, ◌<◌, ℕ, Bool, true, false, not, List, [], ◌∷◌, ◌++◌, Some, None, refl, sym, ⊎_elim}
+use Rattle.std.specs.List.{list_any, slice_get}
 use Rattle.std.proofs.lemmas.Bool.{both_ways, cases_Bool, not-false}
 use Rattle.adl_meaning.specs.Faults.{where_true}
 use Rattle.adl_meaning.specs.declared.flat.Domain.{Domain}
@@ -10,6 +10,7 @@ use Rattle.cam_base.specs.declared.code.Code.TheVariants as code
 use Rattle.cam_base.specs.declared.place.Fault.{Fault}
 use Rattle.numbering.specs.Gather.{IsIn}
 use Rattle.numbering.proofs.Gathered.{in_place}
+use Rattle.numbering.proofs.Lists.{at_place, none_in}
 use Rattle.program_sections.specs.Images.{Placed, arch_of, image_number, sections_end, sections_of}
 use Rattle.program_sections.specs.Numbered.{AreApart, AreNumbered, AreSound}
 use Rattle.program_sections.specs.SectionPages.{is_inside}
@@ -22,28 +23,10 @@ use Rattle.sect_table.specs.declared.image.Image.{Image}
 
 -- ---- lists in which nothing stands
 
-nothing_left : {X : Type 0} (xs ys : List X) → xs ++ ys ≡ [] → xs ≡ []
-nothing_left [] ys e = refl
-nothing_left (x ∷ xs) ys e = cc
-
-nothing_right : {X : Type 0} (xs ys : List X) → xs ++ ys ≡ [] → ys ≡ []
-nothing_right [] ys e = e
-nothing_right (x ∷ xs) ys e = cc
-
-none_in : {X Y : Type 0} (f : X → List Y) (xs : List X) (x : X) → flat_map f xs ≡ [] → IsIn x xs → f x ≡ []
-none_in f [] x e i = absurd i
-none_in f (y ∷ xs) x e (inl s) = ap f (sym s) ∙ nothing_left (f y) (flat_map f xs) e
-none_in f (y ∷ xs) x e (inr i) = none_in f xs x (nothing_right (f y) (flat_map f xs) e) i
-
 two_free : (b c : Bool) (f g : Fault) → where_true b f ++ where_true c g ≡ [] → (b ≡ false) × (c ≡ false)
 two_free true c f g e = cc
 two_free false true f g e = cc
 two_free false false f g e = (refl, refl)
-
-there : {X : Type 0} (xs : List X) (n : ℕ) → n < length xs → (x : X) × (slice_get xs n ≡ Some x)
-there [] n l = absurd (omega arith)
-there (x ∷ xs) zero l = (x, refl)
-there (x ∷ xs) (suc n) l = there xs n (omega arith)
 
 none_any : {X : Type 0} (p : X → Bool) (xs : List X) (x : X) → list_any p xs ≡ false → IsIn x xs → p x ≡ false
 none_any p xs x e i = ⊎_elim (λ t. absurd (both_ways (list_any p xs) e (any_in p xs x i t))) (λ f. f) (cases_Bool (p x))
@@ -55,14 +38,14 @@ module _ (flat : Flat) (images : Images) (numbered : AreNumbered flat images) (n
       → (clashes (sections_of images domain.leaves) m ≡ false) × (is_outside (sections_end (arch_of images.images)) image ≡ false)
   image_free leaf m image i e at =
       let test : ℕ → Bool = clashes (sections_of images domain.leaves) in
-      let x = there flat.leaves leaf (numbered.listed domain within leaf i) in
+      let x = at_place flat.leaves leaf (numbered.listed domain within leaf i) in
       let free : leaf_faults flat images test leaf ≡ [] =
       none_in (leaf_faults flat images test) domain.leaves leaf (none_in (λ d. domain_faults flat images d.leaves) flat.domains domain (least-empty (space_faults flat images) none) within) i in
       let both : image_faults (sections_end (arch_of images.images)) x.0.place (test m) image ≡ [] = sym (leaf_is flat images test leaf m image x.0 x.1 e at) ∙ free in
       two_free (test m) (is_outside (sections_end (arch_of images.images)) image) (fault_at code.SectionOverlap x.0.place image.name) (fault_at code.Window x.0.place image.name) both
 
   clash_free : (leaf m : ℕ) → IsIn leaf domain.leaves → image_number images leaf ≡ Some m → clashes (sections_of images domain.leaves) m ≡ false
-  clash_free leaf m i e = let image = there images.images m (numbered.runs leaf m e) in (image_free leaf m image.0 i e image.1).0
+  clash_free leaf m i e = let image = at_place images.images m (numbered.runs leaf m e) in (image_free leaf m image.0 i e image.1).0
 
   pub free_apart : AreSound images → AreApart images domain.leaves
   free_apart each = record {

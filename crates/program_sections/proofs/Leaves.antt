@@ -5,10 +5,10 @@ use Rattle.std.specs.Option.{option_map_or}
 use Rattle.adl_meaning.specs.declared.flat.Flat.{Flat}
 use Rattle.adl_meaning.specs.declared.flat.Leaf.{Leaf}
 use Rattle.cap_model.specs.declared.level.Arch.{Arch}
+use Rattle.numbering.proofs.Lists.{read_place}
 use Rattle.program_sections.specs.Images.{arch_of, image_number, sections_end}
 use Rattle.program_sections.specs.SpaceFaults.{image_faults, leaf_faults, numbered_faults}
 use Rattle.program_sections.specs.declared.images.Images.{Images}
-use Rattle.program_sections.proofs.SectionsTold.{get_at}
 use Rattle.sect_table.specs.declared.image.Image.{Image}
 
 pub same_tests : (p q : ℕ → Bool) → ((m : ℕ) → p m ≡ q m) → p ≡ q
@@ -28,5 +28,5 @@ pub leaf_noted : (flat : Flat) (images : Images) (clashing : ℕ → Bool) (leaf
     → Some number ≡ image_number images leaf → end ≡ sections_end arch → arch ≡ arch_of images.images → image_faults end x.place (clashing number) image ≡ leaf_faults flat images clashing leaf
 leaf_noted flat images clashing leaf number end arch image x ys zs ye yl y ze zl z is ends kind =
     ap (λ n. image_faults n x.place (clashing number) image) (ends ∙ ap sections_end kind)
-    ∙ sym (leaf_is flat images clashing leaf number image x (get_at flat.leaves zs leaf x ze (subst (λ w. leaf < length w) (sym ze) zl) z) (sym is)
-    (get_at images.images ys number image ye (subst (λ w. number < length w) (sym ye) yl) y))
+    ∙ sym (leaf_is flat images clashing leaf number image x (read_place flat.leaves zs leaf x ze (subst (λ w. leaf < length w) (sym ze) zl) z) (sym is)
+    (read_place images.images ys number image ye (subst (λ w. number < length w) (sym ye) yl) y))

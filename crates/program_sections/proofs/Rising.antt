@@ -6,7 +6,7 @@ use Rattle.std.proofs.lemmas.Bool.{and_cases, and_from, and_parts, both_ways, ca
 use Rattle.cap_model.specs.declared.level.Arch.{Arch}
 use Rattle.cap_model.specs.declared.level.Arch.TheVariants.{Arm11, Aarch64}
 use Rattle.numbering.specs.Gather.{IsIn}
-use Rattle.numbering.proofs.Gathered.{in_append}
+use Rattle.numbering.proofs.Lists.{from_flat_map, from_map}
 use Rattle.program_sections.specs.ByAddress.{by_address, name_of, page_at, pages_of, section_pages}
 use Rattle.program_sections.specs.Images.{Placed, sections_end, sections_of}
 use Rattle.program_sections.specs.Numbered.{AreApart}
@@ -17,19 +17,15 @@ use Rattle.program_sections.specs.declared.pages.SectionPage.{SectionPage}
 use Rattle.program_sections.proofs.Apart.{address, addresses_differ, no_clash, same_numbers, sound_numbers}
 use Rattle.program_sections.proofs.InOrder.{order_climbs, order_moves}
 use Rattle.program_sections.proofs.SectionsTold.{comes_from}
-use Rattle.program_sections.proofs.Sorting.{Later, from_map, in_permutation, later_append, later_map, later_within, own_all, rises_in_order}
+use Rattle.program_sections.proofs.Sorting.{Later, in_permutation, later_append, later_map, later_within, own_all, rises_in_order}
 
 -- ---- lists that are made of others
-
-from_flat : {X Y : Type 0} (f : X → List Y) (y : Y) (xs : List X) → IsIn y (flat_map f xs) → (x : X) × IsIn x xs × IsIn y (f x)
-from_flat f y [] i = absurd i
-from_flat f y (x ∷ xs) i = ⊎_elim (λ j. (x, inl refl, j)) (λ j. let k = from_flat f y xs j in (k.0, inr k.1, k.2)) (in_append y (f x) (flat_map f xs) i)
 
 later_flat : {X Y : Type 0} (R : Y → Y → Type 0) (f : X → List Y) (xs : List X) → ((x : X) → IsIn x xs → Later R (f x))
     → Later (λ x y. (p q : Y) → IsIn p (f x) → IsIn q (f y) → R p q) xs → Later R (flat_map f xs)
 later_flat R f [] h k = tt
 later_flat R f (x ∷ xs) h k =
-    later_append R (f x) (flat_map f xs) (h x (inl refl)) (later_flat R f xs (λ y i. h y (inr i)) k.1) (λ p q i j. let s = from_flat f q xs j in k.0 s.0 s.1 p q i s.2)
+    later_append R (f x) (flat_map f xs) (h x (inl refl)) (later_flat R f xs (λ y i. h y (inr i)) k.1) (λ p q i j. let s = from_flat_map f q xs j in k.0 s.0 s.1 p q i s.2)
 
 pub pairs_from_later : {X : Type 0} (R : X → X → Type 0) (xs : List X) → Later R xs → AllPairs R xs
 pairs_from_later R [] h i j d l k = absurd (omega arith)
@@ -132,7 +128,7 @@ module _ (images : Images) (leaves : List ℕ) (h : AreApart images leaves) wher
       → All (λ p. (4096 ≤ p.vaddr) × (p.vaddr + 4096 ≤ sections_end arch)) (section_pages images leaves)
   pages_inside arch inside k d l =
       let pages = section_pages images leaves in
-      let x = from_flat (pages_of images) (get_or pages k d) (by_address (sections_of images leaves)) (own_all pages k d l) in
+      let x = from_flat_map (pages_of images) (get_or pages k d) (by_address (sections_of images leaves)) (own_all pages k d l) in
       let i = listed x.0 x.1 in
       let s = sound_numbers x.0.section (h.sound x.0 i) in
       let within = and_parts (leb 4096 x.0.section.vaddr) (leb (x.0.section.vaddr + x.0.section.size) (sections_end arch)) (inside x.0 i) in

@@ -1,5 +1,5 @@
 -- What the sections of a domain are, and what is told of them.
-use Rattle.std.proofs.Common.{◌≡◌, ◌∙◌, ◌<◌, ◌+◌, ℕ, zero, suc, Bool, true, false, List, [], ◌∷◌, ◌++◌, length, get_or, drop, Some, refl, sym, ap, subst, inl, inr, arith, append_assoc}
+use Rattle.std.proofs.Common.{◌≡◌, ◌∙◌, ◌<◌, ◌+◌, ℕ, Bool, true, false, List, [], ◌∷◌, ◌++◌, length, get_or, drop, Some, refl, sym, ap, subst, inl, inr, append_assoc}
 use Rattle.std.specs.List.{flat_map, slice_get}
 use Rattle.std.proofs.lemmas.List.{map_push}
 use Rattle.std.proofs.lemmas.Option.{slice_get_read}
@@ -48,15 +48,6 @@ comes_from images leaves x i =
     comes_if images leaves x k.0 k.1 (is_run images leaves k.0) refl k.2 k.3
 
 -- ---- elements that a slice gives
-
-pub get_below : {X : Type 0} (xs : List X) (n : ℕ) (x : X) → slice_get xs n ≡ Some x → n < length xs
-get_below [] n x e = cc
-get_below (y ∷ xs) zero x e = omega arith
-get_below (y ∷ xs) (suc n) x e = let more = get_below xs n x e in omega arith
-
--- ys is the slice by which xs is read
-pub get_at : {X : Type 0} (xs ys : List X) (i : ℕ) (x : X) → ys ≡ xs → i < length ys → x ≡ get_or ys i x → slice_get xs i ≡ Some x
-get_at xs ys i x s l e = subst (λ z. slice_get z i ≡ Some x) s (slice_get_read ys (length ys) i x refl l e)
 
 -- the turn of a loop that appends what each section gives
 pub told_turn : {Y : Type 0} (f : Placed → List Y) (ps : List Given) (i : ℕ) (p : Given) (old new : List Y) → i < length ps → p ≡ get_or ps i p → new ≡ old ++ f (placed_told p)

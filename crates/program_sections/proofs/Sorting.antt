@@ -7,6 +7,7 @@ use Rattle.std.proofs.lemmas.List.Sorted.{All-permutation, IsPermutation-sym, su
 use Rattle.std.proofs.lemmas.List.Sums.{sum_by-cons}
 use Rattle.numbering.specs.Gather.{gather, IsIn}
 use Rattle.numbering.proofs.Gathered.{in_append, from_gather}
+use Rattle.numbering.proofs.Lists.{from_map}
 
 -- ---- members of a permutation
 
@@ -39,11 +40,6 @@ later_append R (x ∷ xs) ys h k c = (
   λ y i. ⊎_elim (λ j. h.0 y j) (λ j. c x y (inl refl) j) (in_append y xs ys i),
   later_append R xs ys h.1 k (λ z y i j. c z y (inr i) j),
 )
-
-pub from_map : {X Y : Type 0} (f : X → Y) (y : Y) (xs : List X) → IsIn y (map f xs) → (x : X) × IsIn x xs × (f x ≡ y)
-from_map f y [] i = absurd i
-from_map f y (x ∷ xs) (inl e) = (x, inl refl, e)
-from_map f y (x ∷ xs) (inr i) = let k = from_map f y xs i in (k.0, inr k.1, k.2)
 
 pub later_map : {X Y : Type 0} (f : X → Y) (R : Y → Y → Type 0) (xs : List X) → Later (λ x y. R (f x) (f y)) xs → Later R (map f xs)
 later_map f R [] h = tt

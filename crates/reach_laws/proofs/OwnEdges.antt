@@ -21,7 +21,7 @@ use Rattle.arch_policy.specs.Triples.{lock_edge, lock_edges, triples}
 use Rattle.arch_policy.specs.Where.{where_true}
 use Rattle.arch_policy.proofs.Listed.{listed, lock_of_member}
 use Rattle.arch_policy.proofs.Lists.{from_any, from_where, has_in, in_any, in_has, in_where}
-use Rattle.reach_laws.proofs.Given.{an_authority}
+use Rattle.arch_policy.proofs.Given.{an_authority}
 
 -- what RW on a notification confers, from one label to itself
 abbrev own_at : ℕ → List Edge

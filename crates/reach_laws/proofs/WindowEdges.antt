@@ -17,7 +17,7 @@ use Rattle.arch_policy.specs.Tables.{Tables, leaf_label}
 use Rattle.arch_policy.specs.Ends.{EndAt}
 use Rattle.arch_policy.specs.Gives.{gives, leaves}
 use Rattle.arch_policy.specs.Reasons.{DirectReason, LeadsTo}
-use Rattle.reach_laws.proofs.Given.{implied, implies, over_object}
+use Rattle.arch_policy.proofs.Given.{implied, implies, over_object}
 use Rattle.reach_laws.specs.Windows.{HasPage, HasWindows, IsWindow, window_rights}
 
 -- who may read may write, and the other way round: access alone tells them apart

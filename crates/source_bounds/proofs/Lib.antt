@@ -5,6 +5,7 @@ pub mod NamedUses
 pub mod PageCounts
 pub mod PartBounds
 pub mod SettledEnds
+pub mod SlotBounds
 pub mod Sizes
 pub mod SpaceBounds
 pub mod Windows

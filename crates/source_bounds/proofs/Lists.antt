@@ -1,10 +1,10 @@
 -- How long gathered lists are, and what stands in them.
-use Rattle.std.proofs.Common.{◌≡◌, ◌<◌, ◌≤◌, ◌+◌, ◌*◌, ℕ, zero, suc, List, [], ◌∷◌, ◌++◌, length, Some, option_map, refl, inl, inr, arith}
+use Rattle.std.proofs.Common.{◌≡◌, ◌<◌, ◌≤◌, ◌+◌, ◌*◌, ℕ, zero, suc, List, [], ◌∷◌, ◌++◌, length, Some, option_map, refl, arith}
 use Rattle.std.specs.Prelude.{sum}
-use Rattle.std.specs.List.{flat_map, range_with_len, slice_get}
+use Rattle.std.specs.List.{slice_get}
 use Rattle.std.proofs.lemmas.List.Sums.{sum_by-cons}
-use Rattle.numbering.specs.Gather.{IsIn, gather}
-use Rattle.numbering.proofs.Gathered.{in_append, length_append}
+use Rattle.numbering.specs.Gather.{gather}
+use Rattle.numbering.proofs.Gathered.{length_append}
 
 -- what is gathered, where each element gives at most so many
 pub gather_most : {X Y : Type 0} (f : ℕ → X → List Y) (xs : List X) → ((k : ℕ) (x : X) → slice_get xs k ≡ Some x → length (f k x) ≤ 262144) → length (gather f xs) ≤ 262144 * length xs
@@ -21,11 +21,6 @@ ones_at f [] k = refl
 ones_at f (x ∷ xs) zero = refl
 ones_at f (x ∷ xs) (suc k) = ones_at (λ n z. f (suc n) z) xs k
 
-pub below : {X : Type 0} (xs : List X) (k : ℕ) (x : X) → slice_get xs k ≡ Some x → k < length xs
-below [] k x e = cc
-below (y ∷ xs) zero x e = omega arith
-below (y ∷ xs) (suc k) x e = let ih = below xs k x e in omega (arith, ih)
-
 pub part_of_sum : {X : Type 0} (f : ℕ → X → ℕ) (xs : List X) (k : ℕ) (x : X) → slice_get xs k ≡ Some x → f k x ≤ sum (gather (λ n z. f n z ∷ []) xs)
 part_of_sum f [] k x e = cc
 part_of_sum {X} f (y ∷ xs) zero x e = by_same y e
@@ -39,30 +34,3 @@ part_of_sum f (y ∷ xs) (suc k) x e =
     let ih = part_of_sum (λ n z. f (suc n) z) xs k x e in
     let s = sum_by-cons (λ (n : ℕ). n) (f 0 y) (gather (λ n z. f (suc n) z ∷ []) xs) in
     omega (arith, ih, s)
-
-pub in_range : (a n j : ℕ) → IsIn j (range_with_len a n) → j < a + n
-in_range a zero j i = absurd i
-in_range a (suc n) j (inl e) = omega (arith, e)
-in_range a (suc n) j (inr i) = let ih = in_range (a + 1) n j i in omega (arith, ih)
-
-pub from_flat_map : {X Y : Type 0} (f : X → List Y) (y : Y) (xs : List X) → IsIn y (flat_map f xs) → (x : X) × IsIn x xs × IsIn y (f x)
-from_flat_map f y [] i = absurd i
-from_flat_map {X} {Y} f y (x ∷ xs) i = elim (in_append y (f x) (flat_map f xs) i) [
-  | inl j ↦ (x, inl refl, j)
-  | inr j ↦ let r : (z : X) × IsIn z xs × IsIn y (f z) = from_flat_map f y xs j in (r.0, inr r.1, r.2)
-]
-
-pub length-eight : {X : Type 0} (a b c d e f g h : List X) → length (a ++ (b ++ (c ++ (d ++ (e ++ (f ++ (g ++ (h ++ []))))))))
-    ≡ length a + (length b + (length c + (length d + (length e + (length f + (length g + (length h + 0)))))))
-length-eight a b c d e f g h =
-    omega (
-      arith,
-      length_append a (b ++ (c ++ (d ++ (e ++ (f ++ (g ++ (h ++ []))))))),
-      length_append b (c ++ (d ++ (e ++ (f ++ (g ++ (h ++ [])))))),
-      length_append c (d ++ (e ++ (f ++ (g ++ (h ++ []))))),
-      length_append d (e ++ (f ++ (g ++ (h ++ [])))),
-      length_append e (f ++ (g ++ (h ++ []))),
-      length_append f (g ++ (h ++ [])),
-      length_append g (h ++ []),
-      length_append h [],
-    )

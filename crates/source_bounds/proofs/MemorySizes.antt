@@ -1,18 +1,16 @@
 -- The memory of connections: its pages, its address, and the registers of devices, in a source without faults.
 use Rattle.std.proofs.Common.{◌≡◌, ◌<◌, ◌≤◌, ◌+◌, ◌*◌, ◌/◌, ◌%◌, ◌^◌, ℕ, true, ◌&&◌, ◌||◌, cond, List, [], ◌∷◌, ◌++◌, codes, Option, Some, None, unwrap_or, refl, sym, ◌∙◌, ap, subst, arith}
-use Rattle.std.specs.Prelude.{nat_le, ◌==◌}
+use Rattle.std.specs.Prelude.{◌==◌}
 use Rattle.std.specs.List.{slice_get}
 use Rattle.std.specs.Option.{option_and_then, option_map_or}
-use Rattle.std.proofs.lemmas.Bool.{and_parts, eqb-true, leb-true, or_right}
+use Rattle.std.proofs.lemmas.Bool.{and_parts, eqb-true, or_right}
 use Rattle.adl_ast.specs.declared.component.Interface.{Interface}
 use Rattle.adl_ast.specs.declared.component.InterfaceKind.TheVariants as interfaces
 use Rattle.adl_ast.specs.declared.component.Member.TheVariants as members
-use Rattle.adl_ast.specs.declared.composition.End.{End}
 use Rattle.adl_ast.specs.declared.composition.Role.{Role}
 use Rattle.adl_ast.specs.declared.composition.Role.TheVariants.{From, To}
 use Rattle.adl_ast.specs.declared.source.Source.{Source}
 use Rattle.adl_hierarchy.specs.Leads.{AreDotted}
-use Rattle.adl_hierarchy.proofs.Joining.{all_joined, end_numbers_kept}
 use Rattle.adl_meaning.specs.declared.connector.Connector.{Connector}
 use Rattle.adl_meaning.specs.declared.connector.Connector.TheVariants.{Rpc, Notification, SharedMemory, Mmio, Interrupt, Direct}
 use Rattle.adl_meaning.specs.declared.flat.FlatConnection.{FlatConnection}
@@ -21,7 +19,7 @@ use Rattle.adl_meaning.specs.declared.flat.Leaf.{Leaf}
 use Rattle.adl_meaning.specs.declared.settled.EndSetting.{EndSetting}
 use Rattle.adl_meaning.specs.declared.settled.Settled.{Settled}
 use Rattle.adl_meaning.specs.Export.{same_kind}
-use Rattle.adl_meaning.specs.Flat.{flat_end, flat_of}
+use Rattle.adl_meaning.specs.Flat.{flat_of}
 use Rattle.adl_meaning.specs.Hierarchy.{Hierarchy, hierarchy_of}
 use Rattle.adl_meaning.specs.NameFaults.{AreNamesSound}
 use Rattle.adl_meaning.specs.Values.{Given, value_at}
@@ -30,25 +28,19 @@ use Rattle.adl_settings.specs.EndMeaning.{default_bytes, end_setting}
 use Rattle.adl_settings.specs.Joints.{is_device_memory, is_shared}
 use Rattle.adl_settings.specs.Meant.{meant, where_set}
 use Rattle.adl_settings.specs.Settled.{settled_of}
-use Rattle.adl_types.specs.EndCount.{count_of}
-use Rattle.adl_types.specs.Kind.{is_kind_of}
-use Rattle.adl_types.specs.TypeFaults.{first_type_fault}
-use Rattle.component_graph.proofs.Lists.{in_get}
-use Rattle.conn_rules.specs.Ends.{allows, end_rule}
-use Rattle.conn_rules.specs.Row.{same_role}
+use Rattle.adl_types.specs.TypeFaults.{is_kind_of, first_type_fault}
+use Rattle.conn_rules.specs.Ends.{end_rule}
 use Rattle.flat_laws.specs.Typed.{AreTyped}
-use Rattle.flat_laws.proofs.AreTyped.{composition_of_strung}
-use Rattle.flat_laws.proofs.Devices.{first_counted}
-use Rattle.flat_laws.proofs.Fit.{AreSettingsSound}
-use Rattle.flat_laws.proofs.FlatEnds.{strung_of}
-use Rattle.flat_laws.proofs.TypedEnds.{count_fits}
+use Rattle.flat_laws.proofs.SomeEnds.{some_end}
+use Rattle.flat_laws.proofs.SoundSettings.{AreSettingsSound}
 use Rattle.leaf_ends.specs.Lookups.{setting_of}
 use Rattle.leaf_ends.specs.Members.{members_at}
 use Rattle.vspace_layout.specs.Memory.{is_to, memory_paddr, memory_pages, memory_place, registers, registers_in, same_port, to_place}
 use Rattle.vspace_layout.specs.Regions.{is_window}
+use Rattle.vspace_layout.proofs.MemoryNumbers.{position_found}
 use Rattle.source_bounds.proofs.SettledEnds.{IsEndFound, end_found, setting_from}
 use Rattle.source_bounds.proofs.Sizes.{IsMeasured, measured, size_of_end}
-use Rattle.source_bounds.proofs.SpaceBounds.{HaveRegisters, at_position, position_found}
+use Rattle.source_bounds.proofs.SpaceBounds.{HaveRegisters, at_position}
 
 -- ---- bounds
 
@@ -90,35 +82,9 @@ addresses_whole s k c = (memory_is s k c).aligned
 
 -- ---- the end at the registers
 
-tos_of_mmio : (n : ℕ) → allows (end_rule Mmio To) n ≡ true → 1 ≤ n
-tos_of_mmio n e = leb-true 1 n (and_parts (nat_le 1 n) (nat_le n 1) e).0
-
-is_to_end : (r : Role) → same_role r To ≡ true → r ≡ To
-is_to_end From e = cc
-is_to_end To e = refl
-
 is_to_role : (r : Role) → is_to r ≡ true → r ≡ To
 is_to_role From e = cc
 is_to_role To e = refl
-
-has_to : (s : Source) → AreNamesSound s → AreDotted (hierarchy_of s) → first_type_fault s ≡ None → (k : ℕ) (c : FlatConnection) → slice_get (flat_of s).connections k ≡ Some c → c.connector ≡ Mmio
-    → (n : ℕ) × (e : FlatEnd) × (slice_get c.ends n ≡ Some e) × (e.role ≡ To)
-has_to s sound dotted none k c at t =
-    let h = hierarchy_of s in
-    let x = strung_of s k c at in
-    let own = composition_of_strung s sound x.0 x.1 in
-    let es = x.0.wire.1.ends in
-    let fits = count_fits s none x.0.inside own.1 x.0.wire own.2 own.0 in
-    let to = (and_parts (allows (end_rule x.0.wire.0 From) (count_of From es)) (allows (end_rule x.0.wire.0 To) (count_of To es)) fits).1 in
-    let mmio : x.0.wire.0 ≡ Mmio = ap (λ (z : FlatConnection). z.connector) x.2 ∙ t in
-    let one : 1 ≤ count_of To es = tos_of_mmio (count_of To es) (ap (λ z. allows (end_rule z To) (count_of To es)) (sym mmio) ∙ to) in
-    let d = first_counted (λ (e : End). same_role e.role To) es one in
-    let r = all_joined s sound dotted x.0 d.1 x.1 (in_get es d.0 d.1 d.2) in (
-      d.0,
-      flat_end h x.0.path d.1 r.0,
-      ap (λ (z : FlatConnection). slice_get z.ends d.0) (sym x.2) ∙ end_numbers_kept s sound dotted x.0 d.0 d.1 r.0 x.1 d.2 r.1,
-      is_to_end d.1.role d.3,
-    )
 
 -- the end at which the memory of a connection to a device is settled
 record IsLed (c : FlatConnection) : Type 0 where
@@ -138,7 +104,7 @@ registers_of : (c : FlatConnection) → c.connector ≡ Mmio → (l : IsLed c) �
 registers_of c t l = ap (λ z. registers_in z c.ends) t ∙ ap (λ o. option_and_then (slice_get c.ends) o) l.first ∙ l.there
 
 -- and only such a connection has one
-from_registers : (c : FlatConnection) (e : FlatEnd) → registers c ≡ Some e → (c.connector ≡ Mmio) × (n : ℕ) × (to_place c.ends ≡ Some n) × (slice_get c.ends n ≡ Some e)
+pub from_registers : (c : FlatConnection) (e : FlatEnd) → registers c ≡ Some e → (c.connector ≡ Mmio) × (n : ℕ) × (to_place c.ends ≡ Some n) × (slice_get c.ends n ≡ Some e)
 from_registers c e r = by_connector c.connector refl r
   where
     by_place : (o : Option ℕ) → to_place c.ends ≡ o → option_and_then (slice_get c.ends) o ≡ Some e → (n : ℕ) × (to_place c.ends ≡ Some n) × (slice_get c.ends n ≡ Some e)
@@ -173,10 +139,10 @@ device_bytes h c shared leaf i =
     let on = same_kind i.kind interfaces.Dataport && leaf.hardware in
     cond (is_shared c || on) (unwrap_or (meant size_in (default_bytes i) (cond (is_shared c) shared (where_set on (value_at h leaf.path (i.id.name ++ codes "_size"))))) 0) 0
 
-some_same : {X : Type 0} (x y : X) → Some x ≡ Some y → x ≡ y
+pub some_same : {X : Type 0} (x y : X) → Some x ≡ Some y → x ≡ y
 some_same x y e = cc
 
-interface_same : (i j : Interface) → Some (members.Interface i) ≡ Some (members.Interface j) → i ≡ j
+pub interface_same : (i j : Interface) → Some (members.Interface i) ≡ Some (members.Interface j) → i ≡ j
 interface_same i j e = cc
 
 module _ (s : Source) (sound : AreNamesSound s) (dotted : AreDotted (hierarchy_of s)) (types : first_type_fault s ≡ None) (typed : AreTyped s (flat_of s)) (settings : AreSettingsSound s) where
@@ -198,7 +164,7 @@ module _ (s : Source) (sound : AreNamesSound s) (dotted : AreDotted (hierarchy_o
       (subst (λ x. is_kind_of (end_rule x e.role) (record { interface = f.found.joint.interface; hardware = f.found.joint.leaf.hardware }) ≡ true) is f.kind)
 
   led : (k : ℕ) (c : FlatConnection) → slice_get (flat_of s).connections k ≡ Some c → c.connector ≡ Mmio → IsLed c
-  led k c at is = let t = has_to s sound dotted types k c at is in led_by c t.0 t.1 t.2 t.3
+  led k c at is = let t = some_end s sound dotted types k c at To in led_by c t.0 t.1 t.2 t.3
 
   registers_some : (k : ℕ) (c : FlatConnection) → slice_get (flat_of s).connections k ≡ Some c → c.connector ≡ Mmio → 0 < memory_pages (settled_of s) k c
   registers_some k c at is =

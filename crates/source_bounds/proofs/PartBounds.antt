@@ -14,7 +14,7 @@ use Rattle.cspace_layout.specs.declared.plan.SlotPlan.{SlotPlan}
 use Rattle.cspace_layout.specs.declared.plan.SlotUse.{SlotUse}
 use Rattle.cspace_layout.specs.declared.plan.SlotUse.TheVariants.{OfEnd, Handler, OwnLock}
 use Rattle.cspace_layout.specs.Uses.{slots_of}
-use Rattle.flat_laws.proofs.SlotBounds.{AreFewSlots, few_uses}
+use Rattle.source_bounds.proofs.SlotBounds.{AreFewSlots, few_uses}
 use Rattle.flat_laws.specs.Small.{IsSmall}
 use Rattle.numbering.specs.Gather.{IsIn, gather}
 use Rattle.numbering.proofs.Gathered.{gather_ones}
@@ -32,26 +32,22 @@ use Rattle.vspace_layout.specs.Laid.{spaces_of}
 use Rattle.vspace_layout.specs.PageLimits.{page_counts}
 use Rattle.vspace_layout.specs.SpaceLaws.{SectionsStand}
 use Rattle.vspace_layout.proofs.Few.{one_each}
-use Rattle.system_spec.specs.declared.part.Owned.{Owned}
 use Rattle.system_spec.specs.declared.part.PageTable.{PageTable}
 use Rattle.system_spec.specs.declared.part.What.TheVariants.{CNodeOf, FrameOf, ThreadOf}
-use Rattle.system_spec.specs.declared.series.Series.{Series}
 use Rattle.system_spec.specs.declared.series.Series.TheVariants as series
 use Rattle.system_spec.specs.Buildable.{IsBuildable}
 use Rattle.system_spec.specs.Few.{AreFew, table_count}
-use Rattle.system_spec.specs.Parts.{all_tables, cnodes, domain_locks, domain_tables, domain_tcbs, endpoint, endpoint_by, endpoints, frame_parts, irq, irq_by, irqs, level_of, lock, locks, notification, notification_by, notifications, numbered, owned, page_mapping, page_table, part, parts, table_part, table_parts, tables_at, tcbs}
+use Rattle.system_spec.specs.Parts.{all_tables, cnodes, domain_locks, domain_tables, domain_tcbs, endpoint, endpoint_by, endpoints, frame_parts, irq, irq_by, irqs, level_of, lock, locks, notification, notification_by, notifications, numbered, owned, page_mapping, page_table, parts, table_part, table_parts, tables_at, tcbs}
 use Rattle.system_spec.specs.Ready.{AreNamed}
 use Rattle.system_spec.specs.Tables.{Tables, arch, device_of, frame_owner, pages_at, threads_at, uses_at}
-use Rattle.source_bounds.proofs.Lists.{gather_most, length-eight}
+use Rattle.system_spec.proofs.Bounds.{length-eight, length-numbered}
+use Rattle.source_bounds.proofs.Lists.{gather_most}
 use Rattle.source_bounds.proofs.NamedUses.{uses_named}
 use Rattle.source_bounds.proofs.SpaceBounds.{HaveRegisters, few_pages, few_threads, frames_most, frames_there, pages_rising}
 
 -- what the tables are laid out from
 abbrev from : Tables → Given
 from t = record { source = t.source; flat = t.flat; settled = t.settled; images = t.images }
-
-length-numbered : (s : Series) (xs : List Owned) → length (numbered s xs) ≡ length xs
-length-numbered s xs = gather_ones (λ n (x : Owned). part s n x.owner x.what) xs
 
 -- ---- connections have one part of a kind at most
 

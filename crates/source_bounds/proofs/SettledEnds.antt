@@ -17,12 +17,12 @@ use Rattle.adl_settings.specs.EndMeaning.{end_setting}
 use Rattle.adl_settings.specs.Joints.{Found, Joint, found_at, found_on, founds_in}
 use Rattle.adl_settings.specs.Missing.{missing_at, missing_in}
 use Rattle.adl_settings.specs.Settled.{end_settings, settled_of}
-use Rattle.adl_types.specs.Kind.{is_kind_of}
+use Rattle.adl_types.specs.TypeFaults.{is_kind_of}
 use Rattle.component_graph.proofs.Lists.{in_get}
 use Rattle.numbering.proofs.Lists.{get_map, none_in}
 use Rattle.conn_rules.specs.Ends.{end_rule}
 use Rattle.flat_laws.specs.Typed.{AreTyped}
-use Rattle.flat_laws.proofs.Fit.{AreSettingsSound}
+use Rattle.flat_laws.proofs.SoundSettings.{AreSettingsSound}
 use Rattle.flat_laws.proofs.FlatLeaves.{from_get}
 use Rattle.flat_laws.proofs.SettledEnds.{found_there}
 use Rattle.leaf_ends.specs.Lookups.{setting_of}

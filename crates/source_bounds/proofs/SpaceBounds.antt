@@ -1,10 +1,9 @@
 -- Where no limit on pages is passed, each space has few threads and pages, and each page shows one of the frames.
-use Rattle.std.proofs.Common.{◌≡◌, ◌<◌, ◌≤◌, ◌+◌, ◌*◌, ℕ, zero, suc, Bool, true, false, cond, List, [], ◌∷◌, length, map, Option, Some, None, option_map, refl, sym, ◌∙◌, ap, subst, arith}
+use Rattle.std.proofs.Common.{◌≡◌, ◌<◌, ◌≤◌, ◌+◌, ◌*◌, ℕ, Bool, true, false, List, [], ◌∷◌, length, map, Option, Some, None, option_map, refl, sym, ◌∙◌, ap, subst, arith}
 use Rattle.std.specs.Prelude.{sum}
-use Rattle.std.specs.List.{flat_map, position, position_from, slice_get}
+use Rattle.std.specs.List.{flat_map, position, slice_get}
 use Rattle.std.specs.Option.{option_map_or}
 use Rattle.std.proofs.lemmas.Bool.{and_from, eq-eqb}
-use Rattle.std.proofs.lemmas.Iterator.Adapters.{position_from-zero}
 use Rattle.std.proofs.lemmas.List.Quantifiers.{position-Some}
 use Rattle.std.proofs.lemmas.Option.{get_or_from_slice_get}
 use Rattle.adl_meaning.specs.declared.connector.Connector.{Connector}
@@ -17,7 +16,7 @@ use Rattle.adl_meaning.specs.declared.settled.Settled.{Settled}
 use Rattle.leaf_ends.specs.declared.end_at.EndAt.{EndAt}
 use Rattle.numbering.specs.Gather.{IsIn, gather}
 use Rattle.numbering.proofs.Gathered.{from_ones, gather_ones, in_place, length_append, place_of}
-use Rattle.numbering.proofs.Lists.{at_place, map_ones}
+use Rattle.numbering.proofs.Lists.{at_place, below, map_ones}
 use Rattle.page_tables.specs.Runs.{Rises}
 use Rattle.vspace_layout.specs.declared.mapped.MappedPage.{MappedPage}
 use Rattle.vspace_layout.specs.declared.mapped.Shown.{Shown}
@@ -25,7 +24,6 @@ use Rattle.vspace_layout.specs.declared.mapped.Shown.TheVariants.{Own, Memory}
 use Rattle.vspace_layout.specs.declared.spaces.Page.{Page}
 use Rattle.vspace_layout.specs.declared.spaces.Space.{Space}
 use Rattle.vspace_layout.specs.declared.spaces.Window.{Window}
-use Rattle.vspace_layout.specs.declared.thread.ThreadOf.{ThreadOf}
 use Rattle.vspace_layout.specs.CanLay.{CanLay, MemoryFits}
 use Rattle.vspace_layout.specs.Frames.{frames, memory_number, memory_part, number_shown, own_part, register_part, shared_part}
 use Rattle.vspace_layout.specs.Given.{Given}
@@ -38,7 +36,9 @@ use Rattle.vspace_layout.specs.SpaceLaws.{SectionsStand}
 use Rattle.vspace_layout.proofs.Few.{few_at, own_few, registers_few, shared_few}
 use Rattle.vspace_layout.proofs.Rising.{rising}
 use Rattle.vspace_layout.proofs.Standing.{frames_stand}
-use Rattle.source_bounds.proofs.Lists.{below, ones_at, part_of_sum}
+use Rattle.vspace_layout.proofs.Laying.{length_threads}
+use Rattle.vspace_layout.proofs.MemoryNumbers.{position_found}
+use Rattle.source_bounds.proofs.Lists.{ones_at, part_of_sum}
 use Rattle.source_bounds.proofs.Windows.{IsSeen, ShowsHere, pages_show, seen, seen_pages}
 
 -- connections to the registers of a device find the device's end, and have as many pages as each other one to them
@@ -47,28 +47,7 @@ pub record HaveRegisters (flat : Flat) (settled : Settled) : Type 0 where
   pub same : (k n : ℕ) (c d : FlatConnection) (e f : FlatEnd) → slice_get flat.connections k ≡ Some c → slice_get flat.connections n ≡ Some d → registers c ≡ Some e → registers d ≡ Some f → same_port e f ≡ true
       → memory_pages settled k c ≡ memory_pages settled n d
 
-pub two_each : (settled : Settled) (ts : List ThreadOf) → length (flat_map (thread_regions settled) ts) ≡ 2 * length ts
-two_each settled [] = omega arith
-two_each settled (t ∷ ts) = let ih = two_each settled ts in omega (arith, ih)
-
 -- ---- the first connection to registers
-
-found_from : {X : Type 0} (is : X → Bool) (a : ℕ) (xs : List X) (k : ℕ) (x : X) → slice_get xs k ≡ Some x → is x ≡ true → (n : ℕ) × (position_from is a xs ≡ Some n)
-found_from is a [] k x e t = cc
-found_from {X} is a (y ∷ xs) zero x e t = (a, ap (λ b. cond b (Some a) (position_from is (a + 1) xs)) (ap is (the_same y x e) ∙ t))
-  where
-    the_same : (y x : X) → Some y ≡ Some x → y ≡ x
-    the_same y x e = cc
-found_from is a (y ∷ xs) (suc k) x e t = by_test (is y) (found_from is (a + 1) xs k x e t)
-  where
-    by_test : (b : Bool) → (n : ℕ) × (position_from is (a + 1) xs ≡ Some n) → (n : ℕ) × (cond b (Some a) (position_from is (a + 1) xs) ≡ Some n)
-    by_test true r = (a, refl)
-    by_test false r = r
-
-pub position_found : {X : Type 0} (is : X → Bool) (xs : List X) (k : ℕ) (x : X) → slice_get xs k ≡ Some x → is x ≡ true → (n : ℕ) × (position is xs ≡ Some n)
-position_found is xs k x e t =
-    let f : (n : ℕ) × (position_from is 0 xs ≡ Some n) = found_from is 0 xs k x e t in
-    (f.0, position_from-zero is xs ∙ f.1)
 
 -- and what stands there
 pub at_position : {X : Type 0} (is : X → Bool) (xs : List X) (n : ℕ) (d : X) → position is xs ≡ Some n → (x : X) × (slice_get xs n ≡ Some x) × (is x ≡ true)
@@ -106,7 +85,7 @@ module _ (g : Given) (can : CanLay g) (few : sum (page_counts g) ≤ 65536) wher
   pub threads_most : (d : ℕ) (x : Domain) → slice_get g.flat.domains d ≡ Some x → length (threads_of g d) ≤ 262144
   threads_most d x e =
       let a = few_at g can few d x e in
-      let b = two_each g.settled (threads_of g d) in
+      let b = length_threads g.settled (threads_of g d) in
       let c = length_append (flat_map (thread_regions g.settled) (threads_of g d)) (map (window_region g.flat g.settled) (windows_of g d)) in
       omega (arith, a, b, c)
 

@@ -9,7 +9,7 @@ use Rattle.leaf_ends.specs.declared.end_at.EndAt.{EndAt}
 use Rattle.leaf_ends.specs.Lookups.{end_in}
 use Rattle.numbering.specs.Gather.{IsIn}
 use Rattle.numbering.proofs.Gathered.{from_gather, in_append, in_place}
-use Rattle.numbering.proofs.Lists.{from_map}
+use Rattle.numbering.proofs.Lists.{from_flat_map, from_map, from_range}
 use Rattle.program_sections.specs.ByAddress.{section_pages}
 use Rattle.program_sections.specs.declared.pages.SectionPage.{SectionPage}
 use Rattle.vspace_layout.specs.declared.mapped.MappedPage.{MappedPage}
@@ -22,7 +22,6 @@ use Rattle.vspace_layout.specs.MappedPages.{mapped_pages, page_of, pages_of_regi
 use Rattle.vspace_layout.specs.Memory.{memory_pages}
 use Rattle.vspace_layout.specs.Regions.{end_window, is_window, leaf_windows, regions, sees_memory, thread_regions, threads_of, window_pages, window_region, windows_of}
 use Rattle.vspace_layout.specs.Threads.{ends_at}
-use Rattle.source_bounds.proofs.Lists.{from_flat_map, in_range}
 
 -- an end that sees memory is one of a connection, and has a window there
 pub record IsSeen (g : Given) (e : EndAt) : Type 0 where
@@ -96,5 +95,5 @@ pages_show g d p i =
     by_page : (r : Region) → IsIn r (regions g d) → (start : ℕ) → IsIn p (map (page_of g.settled start r) (range_with_len 0 r.pages)) → ShowsHere g d p.shown
     by_page r is start i =
         let m : (j : ℕ) × IsIn j (range_with_len 0 r.pages) × (page_of g.settled start r j ≡ p) = from_map (page_of g.settled start r) p (range_with_len 0 r.pages) i in
-        let l = in_range 0 r.pages m.0 m.1 in
+        let l = from_range 0 r.pages m.0 m.1 in
         subst (λ (z : MappedPage). ShowsHere g d z.shown) m.2 (regions_show g d r is start m.0 (omega (arith, l)))

@@ -10,7 +10,7 @@ use Rattle.adl_types.specs.TypeFaults.{first_type_fault}
 use Rattle.cspace_layout.specs.SlotFaults.{first_slot_fault}
 use Rattle.flat_laws.specs.ShortFiles.{AreFilesShort}
 use Rattle.flat_laws.proofs.AreTyped.{ends_typed}
-use Rattle.flat_laws.proofs.Fit.{settings_sound}
+use Rattle.flat_laws.proofs.SoundSettings.{settings_sound}
 use Rattle.program_sections.specs.Numbered.{AreNumbered, AreSound}
 use Rattle.program_sections.specs.SpaceFaults.{first_space_fault}
 use Rattle.program_sections.specs.declared.images.Images.{Images}

@@ -19,6 +19,8 @@ use Rattle.cam_base.specs.declared.place.Fault.{Fault}
 use Rattle.cam_base.specs.declared.place.Place.{Place}
 use Rattle.cap_model.specs.declared.level.Arch.{Arch}
 use Rattle.numbering.specs.Gather.{IsIn}
+use Rattle.numbering.proofs.Lists.{none_in}
+use Rattle.numbering.proofs.Gathered.{place_of}
 use Rattle.sect_table.specs.Headers.{header_of}
 use Rattle.sect_table.specs.Sections.{section_of}
 use Rattle.sect_table.specs.Tables.{bad_line, fault_in, first_bad, first_fault, image, image_in, image_of, section_at, sections_of}
@@ -222,11 +224,6 @@ both_empty : {X : Type 0} (xs ys : List X) → xs ++ ys ≡ [] → (xs ≡ []) �
 both_empty [] ys e = (refl, e)
 both_empty (x ∷ xs) ys e = absurd (cc)
 
-pub each_empty : {X Y : Type 0} (f : X → List Y) (xs : List X) (x : X) → flat_map f xs ≡ [] → IsIn x xs → f x ≡ []
-each_empty f [] x e i = absurd i
-each_empty f (y ∷ ys) x e (inl same) = ap f (sym same) ∙ (both_empty (f y) (flat_map f ys) e).0
-each_empty f (y ∷ ys) x e (inr i) = each_empty f ys x (both_empty (f y) (flat_map f ys) e).1 i
-
 zip_at : (files : List (List ℕ)) (all : List Found) (j : ℕ) → j < length files → j < length all → (file : List ℕ) × (x : Found) × (slice_get (zip files all) j ≡ Some (file, x)) × (slice_get all j ≡ Some x)
 zip_at [] all j a b = absurd (omega arith)
 zip_at (f ∷ files) [] j a b = absurd (omega arith)
@@ -241,11 +238,6 @@ table_there files all place number j is a b e =
     let none : missing place (z.0, z.1) ≡ [] = sym (ap (λ o. missing_at (zip files all) place o) is ∙ ap (λ o. option_map_or (missing place) o []) z.2) ∙ e in
     let r = nothing_missing place z.0 z.1 none in
     (r.0, z.3 ∙ ap (λ x. Some x) r.1)
-
-in_at : {X : Type 0} (xs : List X) (x : X) → IsIn x xs → (d : ℕ) × (slice_get xs d ≡ Some x)
-in_at [] x i = absurd i
-in_at (y ∷ xs) x (inl e) = (0, ap (λ z. Some z) e)
-in_at (y ∷ xs) x (inr i) = let r = in_at xs x i in (suc r.0, r.1)
 
 number_in : {X : Type 0} (f : X → Option ℕ) (xs : List X) (k m : ℕ) → option_and_then (λ o. o) (slice_get (map f xs) k) ≡ Some m → (x : X) × (f x ≡ Some m)
 number_in f [] k m e = absurd (cc)
@@ -269,7 +261,7 @@ module _ (root : List ℕ) (source : Source) (flat : Flat) (all : List Found) (c
       let l = in_filter (type_of source) flat.leaves n.0 n.1 in
       let number : type_number source flat l.0 ≡ Some j = ap (option_and_then (λ name. position (bytes_eq name) (types source flat))) l.2 ∙ n.2 in
       table_there (table_names root source flat) all l.0.place (type_number source flat l.0) j number (omega (arith, count)) lt
-      (each_empty (leaf_faults source flat (zip (table_names root source flat) all)) flat.leaves l.0 none_left.0 l.1)
+      (none_in (leaf_faults source flat (zip (table_names root source flat) all)) flat.leaves l.0 none_left.0 l.1)
 
   all_tables : AreTables (length source.files) all
   all_tables = are_tables (first_arch all) (length source.files) all none_left.1 each_table
@@ -286,5 +278,5 @@ module _ (root : List ℕ) (source : Source) (flat : Flat) (all : List Found) (c
     runs = λ leaf m e.
         let l = number_in (type_number source flat) flat.leaves leaf m e in
         omega (arith, all_images, type_in (types source flat) (type_of source l.0) m l.1);
-    listed = λ domain i leaf j. let d = in_at flat.domains domain i in within.listed d.0 leaf domain d.1 j;
+    listed = λ domain i leaf j. let d = place_of domain flat.domains i in within.listed d.0 leaf domain d.1 j;
   }

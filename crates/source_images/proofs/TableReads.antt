@@ -1,5 +1,5 @@
 -- Tables, read one after another.
-use Rattle.std.proofs.Common.{◌≡◌, ◌∙◌, refl, sym, ap, subst, arith, cond, false, nat_lt, ℕ, zero, suc, ◌+◌, ◌<◌, ◌≤◌, List, [], ◌∷◌, ◌++◌, length, map, take, add-one, Option, None, Some, Result, Ok, Err, IsErr, get_or, inl, inr}
+use Rattle.std.proofs.Common.{◌≡◌, ◌∙◌, refl, sym, ap, subst, arith, cond, false, nat_lt, ℕ, zero, suc, ◌+◌, ◌<◌, ◌≤◌, List, [], ◌∷◌, ◌++◌, length, map, take, add-one, Option, None, Some, Result, Ok, Err, IsErr, get_or}
 use Rattle.std.proofs.lemmas.Bool.Decides.{nat_tests}
 use Rattle.std.proofs.lemmas.List.{length-append, length-map}
 use Rattle.std.proofs.lemmas.Option.{slice_get-get_or}
@@ -11,6 +11,8 @@ use Rattle.std.specs.Prelude.{IfSome, IsErrAnd}
 use Rattle.cam_io.specs.Contents.{Contents}
 use Rattle.cam_io.specs.Reading.{KeepsFiles}
 use Rattle.numbering.specs.Gather.{IsIn}
+use Rattle.numbering.proofs.Gathered.{in_place}
+use Rattle.numbering.proofs.Lists.{get_map}
 use Rattle.source_images.specs.Found.{AreFound, Found, too_long, table, found_bytes, found_in}
 use Rattle.source_images.specs.Told.{AreTablesRead, IsFound, IsTableRead, reading_of, names_told, readings_of, table_at, table_told, tables_told}
 use Rattle.source_images.specs.Types.{Name}
@@ -53,11 +55,6 @@ more_of f [] i x e = absurd (cc)
 more_of f (z ∷ xs) zero x e = let same : z ≡ x = cc in ap (λ w. f w ∷ []) same
 more_of f (z ∷ xs) (suc i) x e = ap (λ w. f z ∷ w) (more_of f xs i x e)
 
-get_map : {X Y : Type 0} (f : X → Y) (xs : List X) (i : ℕ) (x : X) → slice_get xs i ≡ Some x → slice_get (map f xs) i ≡ Some (f x)
-get_map f [] i x e = absurd (cc)
-get_map f (z ∷ xs) zero x e = let same : z ≡ x = cc in ap (λ w. Some (f w)) same
-get_map f (z ∷ xs) (suc i) x e = get_map f xs i x e
-
 told_more : (contents : Option Contents) (names : List (List ℕ)) (n : ℕ) (name : List ℕ) (all : List Found) (x : Found) → slice_get names n ≡ Some name
     → IfSome contents (λ m. all ≡ found_in m (take n names)) → IsFound contents name x → IfSome contents (λ m. all ++ x ∷ [] ≡ found_in m (take (suc n) names))
 told_more None names n name all x at before is = tt
@@ -98,14 +95,9 @@ all_read contents file tables readings a =
 pub keeps_twice : {F : Type 0} {contents : F → Option Contents} {faults : F → List ℕ → ℕ} (a b c : F) → KeepsFiles contents faults a b → KeepsFiles contents faults b c → KeepsFiles contents faults a c
 keeps_twice a b c p q = record { same = q.same ∙ p.same; later = λ name. omega (arith, p.later name, q.later name) }
 
-pub in_place : {X : Type 0} (xs : List X) (n : ℕ) (x : X) → slice_get xs n ≡ Some x → IsIn x xs
-in_place [] n x e = absurd (cc)
-in_place (y ∷ xs) zero x e = let same : y ≡ x = cc in inl same
-in_place (y ∷ xs) (suc n) x e = inr (in_place xs n x e)
-
 -- a read that failed is of one of the tables
 pub failed_in : (tables : List (Name × List ℕ)) (n : ℕ) (t : Name × List ℕ) (name : List ℕ) → slice_get tables n ≡ Some t → name ≡ t.1 → IsIn name (map (λ t. t.1) tables)
-failed_in tables n t name at e = subst (λ z. IsIn z (map (λ t. t.1) tables)) (sym e) (in_place (map (λ t. t.1) tables) n t.1 (get_map (λ t. t.1) tables n t at))
+failed_in tables n t name at e = subst (λ z. IsIn z (map (λ t. t.1) tables)) (sym e) (in_place t.1 (map (λ t. t.1) tables) n (get_map (λ t. t.1) tables n t at))
 
 le_nat_lt : (n m : ℕ) → n ≤ m → nat_lt m n ≡ false
 le_nat_lt n m h = grind (arith, nat_tests)

@@ -1,5 +1,5 @@
 -- The names of components are names, in files that tokens spell.
-use Rattle.std.proofs.Common.{◌≡◌, ◌∙◌, ℕ, Bool, true, false, cond, List, [], ◌∷◌, Option, Some, refl, sym, ap, subst, inl, inr, unwrap_or, arith}
+use Rattle.std.proofs.Common.{◌≡◌, ◌∙◌, ℕ, Bool, true, false, cond, List, [], ◌∷◌, Option, Some, refl, sym, ap, subst, inl, inr, unwrap_or}
 use Rattle.std.specs.List.{enumerate_from, slice_get}
 use Rattle.std.specs.Option.{option_map_or}
 use Rattle.grammar.specs.Depth.{deep}
@@ -31,7 +31,7 @@ use Rattle.component_graph.proofs.Lists.{in_get}
 use Rattle.numbering.proofs.Lists.{from_enumerate, from_filter_map, from_flat_map, from_map}
 use Rattle.flat_laws.specs.ShortFiles.{AreFilesShort}
 use Rattle.flat_laws.proofs.FlatLeaves.{from_get, leaf_component}
-use Rattle.leaf_ends.specs.Members.{items_of_file}
+use Rattle.flat_laws.proofs.MembersAt.{item_at}
 use Rattle.system_spec.specs.Tables.{component_name, name_of_item}
 
 -- ---- names of spelled components
@@ -100,22 +100,6 @@ components_named s short c i =
     component_named c.1 (item_component c.1 (subst P x.2 (item_spelled s short x.0 x.1)))
 
 -- ---- the names of leaves' components
-
--- an item stands at its place
-item_at : (s : Source) (x : ItemAt × Item) → IsIn x (items_of s) → (e : Ended) × (slice_get (items_of_file (slice_get s.files x.0.file)) x.0.item ≡ Some e) × (e.item ≡ x.1)
-item_at s x i =
-    let f = from_flat_map items_in x (enumerate_from 0 s.files) i in
-    let file = from_enumerate 0 s.files f.0 f.1 in
-    let e = from_map (λ (e : ℕ × Ended). let y : ItemAt × Item = (record { file = f.0.0; item = e.0 }, e.1.item) in y) x (enumerate_from 0 f.0.1.tree.items) f.2 in
-    let item = from_enumerate 0 f.0.1.tree.items e.0 e.1 in
-    let P : ItemAt × Item → Type 0 = λ y. (e : Ended) × (slice_get (items_of_file (slice_get s.files y.0.file)) y.0.item ≡ Some e) × (e.item ≡ y.1) in
-    let a : f.0.0 ≡ file.0 = file.1 ∙ omega arith in
-    let b : e.0.0 ≡ item.0 = item.1 ∙ omega arith in
-    subst P e.2 (
-      e.0.1,
-      ap (λ n. slice_get (items_of_file (slice_get s.files n)) e.0.0) a ∙ ap (λ o. slice_get (items_of_file o) e.0.0) file.2 ∙ ap (slice_get f.0.1.tree.items) b ∙ item.2,
-      refl,
-    )
 
 name_there : (s : Source) (c : ItemAt × Component) → IsIn c (components s) → component_name s c.0 ≡ c.1.id.name
 name_there s c i =

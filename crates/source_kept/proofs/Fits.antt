@@ -1,9 +1,6 @@
 -- The tables of a source without faults are fit, and its layouts are limited.
-use Rattle.std.proofs.Common.{◌≡◌, ◌∙◌, ℕ, [], None, Some, refl, sym, arith}
-use Rattle.std.specs.List.{slice_get}
+use Rattle.std.proofs.Common.{◌≡◌, None, refl, arith}
 use Rattle.adl_ast.specs.declared.source.Source.{Source}
-use Rattle.adl_meaning.specs.declared.connector.Connector.TheVariants.{Interrupt}
-use Rattle.adl_meaning.specs.declared.flat.FlatConnection.{FlatConnection}
 use Rattle.adl_meaning.specs.Flat.{flat_of}
 use Rattle.adl_meaning.specs.JoinFaults.{first_flat_fault}
 use Rattle.adl_meaning.specs.NameFaults.{AreNamesSound}
@@ -13,40 +10,27 @@ use Rattle.adl_settings.specs.SettingFaults.{first_setting_fault}
 use Rattle.adl_types.specs.TypeFaults.{first_type_fault}
 use Rattle.cspace_layout.specs.SlotFaults.{first_slot_fault}
 use Rattle.flat_laws.specs.ShortFiles.{AreFilesShort}
-use Rattle.flat_laws.proofs.AreFlat.{flat_is_flat}
-use Rattle.flat_laws.proofs.SourceTables.{flat_small, tables_fit}
+use Rattle.flat_laws.proofs.Small.{flat_small}
+use Rattle.flat_laws.proofs.SoundSettings.{settings_sound}
 use Rattle.program_sections.specs.Numbered.{AreNumbered, AreSound}
 use Rattle.program_sections.specs.SpaceFaults.{first_space_fault}
 use Rattle.program_sections.specs.declared.images.Images.{Images}
 use Rattle.spec_kept.specs.Fit.{IsFit}
 use Rattle.spec_kept.specs.Limited.{IsLimited}
-use Rattle.spec_layout.specs.declared.numbers.LabelNumbers.{LabelNumbers}
-use Rattle.spec_layout.specs.Tables as flat_tables
-use Rattle.system_spec.specs.Tables.{irq_number}
 use Rattle.system_spec.specs.TablesFrom.{tables_from}
 use Rattle.vspace_layout.specs.Given.{given}
 use Rattle.vspace_layout.specs.PageLimits.{first_page_limit}
 use Rattle.vspace_layout.proofs.Sections.{sections_stand}
 use Rattle.source_bounds.proofs.Bounds.{can_build, can_lay, dotted, few_uses}
 use Rattle.source_kept.proofs.FrameFits.{frames_kept}
-use Rattle.source_kept.proofs.Lines.{same_number}
+use Rattle.source_kept.proofs.Interrupts.{one_line}
 use Rattle.source_bounds.proofs.MemorySizes.{addresses_whole}
 use Rattle.source_bounds.proofs.PageCounts.{few_pages}
 use Rattle.source_kept.proofs.PageFits.{pages_placed, threads_mapped}
 use Rattle.source_kept.proofs.SeenMemory.{memory_seen}
+use Rattle.source_kept.proofs.SettledNumbers.{priorities_fit}
 use Rattle.source_kept.proofs.Stacks.{stacks_some}
 use Rattle.source_bounds.proofs.PartBounds.{uses_few}
-
--- labels have no part in it
-no_numbers : LabelNumbers
-no_numbers = record { domains = []; connections = []; devices = [] }
-
--- both layouts have one number for the interrupt of a connection
-number_is : (s : Source) → AreFilesShort s → AreNamesSound s → first_type_fault s ≡ None → (k : ℕ) (c : FlatConnection) → slice_get (flat_of s).connections k ≡ Some c → c.connector ≡ Interrupt
-    → irq_number (settled_of s) k c ≡ flat_tables.irq_number (settled_of s) k c
-number_is s short sound types k c at int =
-    let d = (flat_is_flat s sound (dotted s short) types).device k c at int in
-    same_number (settled_of s) k d.0 c d.1 d.2 d.3 int
 
 pub tables_are_fit : (s : Source) (images : Images) → AreFilesShort s → AreNamesSound s → first_type_fault s ≡ None → first_flat_fault s ≡ None → first_setting_fault s ≡ None
     → AreNumbered (flat_of s) images → AreSound images → first_space_fault (flat_of s) images ≡ None → first_slot_fault s (flat_of s) ≡ None → first_page_limit (given s (flat_of s) (settled_of s) images) ≡ None
@@ -59,7 +43,6 @@ tables_are_fit s images short sound types flat settings numbered sections space 
     let build = can_build s images short sound types flat settings numbered sections space slots pages in
     let stand = sections_stand g numbered sections space in
     let few = (few_pages g one.0 one.1 pages).pages in
-    let fits = tables_fit s no_numbers sound (dotted s short) types settings slots in
     record {
       laid = refl;
       connections = build.few.connections;
@@ -71,9 +54,8 @@ tables_are_fit s images short sound types flat settings numbered sections space 
         mapped = λ x i. threads_mapped g can d x i;
       };
       frames = frames_kept g (λ k c at. addresses_whole s k c);
-      priorities = fits.priorities;
-      one_line = λ j k a b x y int also same.
-          fits.one_line j k a b x y int also (sym (number_is s short sound types j a x int) ∙ same ∙ number_is s short sound types k b y also);
+      priorities = priorities_fit s;
+      one_line = one_line s sound (dotted s short) types (settings_sound s settings);
     }
 
 pub layouts_are_limited : (s : Source) (images : Images) → AreFilesShort s → AreNamesSound s → first_type_fault s ≡ None → first_flat_fault s ≡ None → first_setting_fault s ≡ None

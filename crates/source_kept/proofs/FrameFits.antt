@@ -11,7 +11,7 @@ use Rattle.adl_meaning.specs.declared.settled.Settled.{Settled}
 use Rattle.cap_model.specs.Kept.{keeps_fill, keeps_frame}
 use Rattle.numbering.specs.Gather.{IsIn}
 use Rattle.numbering.proofs.Gathered.{from_gather, in_append, in_place}
-use Rattle.numbering.proofs.Lists.{from_map}
+use Rattle.numbering.proofs.Lists.{from_flat_map, from_map, from_range}
 use Rattle.program_sections.specs.ByAddress.{by_address, name_of, page_at, pages_of, section_pages}
 use Rattle.program_sections.specs.Images.{Placed, sections_of}
 use Rattle.program_sections.specs.SectionPages.{fill_from, fill_of, page_count}
@@ -30,7 +30,6 @@ use Rattle.vspace_layout.specs.Given.{Given, base, leaves_of}
 use Rattle.vspace_layout.specs.MappedPages.{mapped_pages, page_of, pages_of_region, region_page, region_part, section_page, section_part}
 use Rattle.vspace_layout.specs.Memory.{is_shared, memory_paddr, memory_pages, registers}
 use Rattle.vspace_layout.specs.Regions.{regions}
-use Rattle.source_bounds.proofs.Lists.{from_flat_map, in_range}
 
 abbrev Keeps : FrameInfo → Type 0
 Keeps f = keeps_frame f.paddr f.fill ≡ true
@@ -67,7 +66,7 @@ module _ (g : Given) where
       let a : (y : Placed) × IsIn y (by_address (sections_of g.images leaves)) × IsIn x (pages_of g.images y) = from_flat_map (pages_of g.images) x (by_address (sections_of g.images leaves)) i in
       let file = name_of g.images a.0.image in
       let b : (j : ℕ) × IsIn j (range_with_len 0 (page_count a.0.section)) × (page_at file a.0.section j ≡ x) = from_map (page_at file a.0.section) x (range_with_len 0 (page_count a.0.section)) a.2 in
-      let l = in_range 0 (page_count a.0.section) b.0 b.1 in
+      let l = from_range 0 (page_count a.0.section) b.0 b.1 in
       subst (λ (z : SectionPage). keeps_frame None z.fill ≡ true) b.2 (section_kept file a.0.section b.0 (omega (arith, l)))
 
   page_filled : (d : ℕ) (p : MappedPage) → IsIn p (mapped_pages g d) → PageFilled p

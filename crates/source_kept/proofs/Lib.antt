@@ -1,7 +1,7 @@
 pub mod ComponentNames
 pub mod Fits
 pub mod FrameFits
-pub mod Lines
+pub mod Interrupts
 pub mod PageFits
 pub mod Plain
 pub mod ReadImages

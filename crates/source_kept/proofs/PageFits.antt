@@ -8,7 +8,7 @@ use Rattle.cap_model.specs.declared.level.Arch.{Arch}
 use Rattle.cap_model.specs.declared.level.Arch.TheVariants.{Arm11, Aarch64}
 use Rattle.numbering.specs.Gather.{IsIn, gather}
 use Rattle.numbering.proofs.Gathered.{from_gather, from_ones, get_ones, in_append, in_place, length_append, place_of}
-use Rattle.numbering.proofs.Lists.{at_place, from_map}
+use Rattle.numbering.proofs.Lists.{at_place, below, from_map, from_range}
 use Rattle.page_tables.specs.Shapes.{shapes}
 use Rattle.page_tables.specs.Walks.{root_span}
 use Rattle.program_sections.specs.ByAddress.{section_pages}
@@ -33,8 +33,8 @@ use Rattle.vspace_layout.proofs.Counting.{length-region_part}
 use Rattle.vspace_layout.proofs.Few.{few_at}
 use Rattle.vspace_layout.proofs.Fitting.{few_regions, pages_next, pages_upto}
 use Rattle.vspace_layout.proofs.Rising.{each_all, each_in, rising}
-use Rattle.source_bounds.proofs.Lists.{below, in_range}
-use Rattle.source_bounds.proofs.SpaceBounds.{space_cases, two_each}
+use Rattle.vspace_layout.proofs.Laying.{length_threads}
+use Rattle.source_bounds.proofs.SpaceBounds.{space_cases}
 
 -- what lies within 2^30 above the end of sections lies below what the root spans
 root_spans : (a : Arch) (at : ℕ) → at < sections_end a + 1073741824 → at < root_span (shapes a)
@@ -75,7 +75,7 @@ module _ (g : Given) (stand : (d : ℕ) → SectionsStand g d) where
       by_page n r at i =
           let from = region_start (base g) (regions g d) n in
           let m : (j : ℕ) × IsIn j (range_with_len 0 r.pages) × (page_of g.settled from r j ≡ p) = from_map (page_of g.settled from r) p (range_with_len 0 r.pages) i in
-          let l = in_range 0 r.pages m.0 m.1 in
+          let l = from_range 0 r.pages m.0 m.1 in
           let low = region_low (base g) (regions g d) n m.0 r few at (omega (arith, l)) in
           let here : p.at ≡ from + 4096 * m.0 = ap (λ (z : MappedPage). z.at) (sym m.2) ∙ region_at g.settled r.content (from + 4096 * m.0) m.0 in
           omega (arith, low, here)
@@ -101,7 +101,7 @@ module _ (g : Given) (stand : (d : ℕ) → SectionsStand g d) where
 some_page : (g : Given) → CanLay g → (d i : ℕ) (x : ThreadOf) → slice_get (threads_of g d) i ≡ Some x → 0 < length (mapped_pages g d)
 some_page g can d i x at =
     let a = below (threads_of g d) i x at in
-    let b = two_each g.settled (threads_of g d) in
+    let b = length_threads g.settled (threads_of g d) in
     let c = length_append (flat_map (thread_regions g.settled) (threads_of g d)) (map (window_region g.flat g.settled) (windows_of g d)) in
     let d1 = few_regions g.flat g.settled (threads_of g d) (windows_of g d) (can.windows d) in
     let e = length_append (section_part g.images (leaves_of g.flat d)) (region_part g.settled (base g) (regions g d)) in

@@ -12,9 +12,9 @@ use Rattle.flat_laws.proofs.AreWithin.{flat_is_within}
 use Rattle.flat_laws.proofs.FlatLeaves.{leaf_owned}
 use Rattle.flat_laws.proofs.ShortTrees.{short_few}
 use Rattle.numbering.specs.Gather.{IsIn}
+use Rattle.numbering.proofs.Lists.{from_flat_map}
 use Rattle.program_sections.specs.declared.images.Images.{Images}
 use Rattle.sect_table.specs.declared.image.Image.{Image}
-use Rattle.source_bounds.proofs.Lists.{from_flat_map}
 use Rattle.source_kept.proofs.ComponentNames.{leaves_named}
 use Rattle.source_kept.proofs.SettledNumbers.{badges_small, numbers_small}
 use Rattle.source_kept.proofs.Stacks.{domain_there, thread_leaf}

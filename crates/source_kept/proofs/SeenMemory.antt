@@ -1,60 +1,45 @@
 -- The memory of each connection is seen in the domain of its first `from` end.
-use Rattle.std.proofs.Common.{◌≡◌, ◌≤◌, ℕ, true, false, cond, List, [], ◌∷◌, Some, None, option_map, refl, sym, ◌∙◌, ap, subst, inl, inr}
-use Rattle.std.specs.Prelude.{nat_le, ◌==◌}
-use Rattle.std.specs.List.{flat_map, slice_get}
+use Rattle.std.proofs.Common.{◌≡◌, ℕ, true, false, cond, [], ◌∷◌, Some, None, option_map, refl, sym, ◌∙◌, ap, subst, inl, inr}
+use Rattle.std.specs.Prelude.{◌==◌}
+use Rattle.std.specs.List.{slice_get}
 use Rattle.std.specs.Option.{option_and_then, option_map_or}
-use Rattle.std.proofs.lemmas.Bool.{and_from, and_parts, eq-eqb, leb-true}
+use Rattle.std.proofs.lemmas.Bool.{and_from, eq-eqb}
 use Rattle.adl_ast.specs.declared.component.Member.{Member}
 use Rattle.adl_ast.specs.declared.component.Member.TheVariants as members
-use Rattle.adl_ast.specs.declared.composition.End.{End}
-use Rattle.adl_ast.specs.declared.composition.Role.TheVariants.{From, To}
+use Rattle.adl_ast.specs.declared.composition.Role.TheVariants.{From}
 use Rattle.adl_ast.specs.declared.source.Source.{Source}
 use Rattle.adl_hierarchy.specs.Leads.{AreDotted}
-use Rattle.adl_hierarchy.proofs.Joining.{all_joined, end_numbers_kept}
 use Rattle.adl_meaning.specs.declared.connector.Connector.{Connector}
 use Rattle.adl_meaning.specs.declared.flat.Domain.{Domain}
 use Rattle.adl_meaning.specs.declared.flat.FlatConnection.{FlatConnection}
 use Rattle.adl_meaning.specs.declared.flat.FlatEnd.{FlatEnd}
 use Rattle.adl_meaning.specs.declared.flat.Leaf.{Leaf}
 use Rattle.adl_meaning.specs.Domains.{domain_of, is_hardware}
-use Rattle.adl_meaning.specs.Flat.{domain_number, flat_end, flat_of, leaf_of}
+use Rattle.adl_meaning.specs.Flat.{domain_number, flat_of, leaf_of}
 use Rattle.adl_meaning.specs.Hierarchy.{hierarchy_of}
 use Rattle.adl_meaning.specs.NameFaults.{AreNamesSound}
 use Rattle.adl_meaning.specs.Paths.{leaves}
 use Rattle.adl_settings.specs.Settled.{settled_of}
-use Rattle.adl_types.specs.EndCount.{count_of}
 use Rattle.adl_types.specs.TypeFaults.{first_type_fault}
-use Rattle.component_graph.proofs.Lists.{in_get}
-use Rattle.conn_rules.specs.Ends.{allows, end_rule}
-use Rattle.conn_rules.specs.Row.{same_role}
-use Rattle.flat_laws.proofs.AreFlat.{flat_is_flat}
-use Rattle.flat_laws.proofs.AreTyped.{composition_of_strung, ends_typed}
-use Rattle.flat_laws.proofs.Devices.{first_counted, is_from_end}
-use Rattle.flat_laws.proofs.FlatEnds.{strung_of}
-use Rattle.flat_laws.proofs.FlatLeaves.{from_get}
-use Rattle.flat_laws.proofs.TypedEnds.{count_fits, hardware_fits}
+use Rattle.conn_rules.specs.Ends.{end_rule}
+use Rattle.flat_laws.proofs.AreTyped.{ends_typed}
+use Rattle.flat_laws.proofs.FlatLeaves.{from_get, leaf_listed}
+use Rattle.flat_laws.proofs.SomeEnds.{some_end}
+use Rattle.flat_laws.proofs.TypedEnds.{hardware_fits}
 use Rattle.leaf_ends.specs.declared.end_at.EndAt.{EndAt}
 use Rattle.leaf_ends.specs.LeafEnds.{end_here, ends_of, joins, leaf_ends, member_ends}
 use Rattle.leaf_ends.specs.Lookups.{end_in}
 use Rattle.leaf_ends.specs.Members.{members_at}
 use Rattle.numbering.specs.Gather.{IsIn, gather}
-use Rattle.numbering.proofs.Gathered.{get_ones, in_gather, in_left, in_right}
+use Rattle.numbering.proofs.Gathered.{get_ones, in_gather}
+use Rattle.numbering.proofs.Lists.{in_flat_map}
 use Rattle.program_sections.specs.declared.images.Images.{Images}
 use Rattle.spec_kept.specs.Limited.{HasMemory, IsSeen}
 use Rattle.vspace_layout.specs.Given.{ends, given, leaves_of}
 use Rattle.vspace_layout.specs.Regions.{end_window, is_window, leaf_windows, sees_memory}
 use Rattle.vspace_layout.specs.Threads.{ends_at, ends_in}
 
-in_flat_map : {X Y : Type 0} (f : X → List Y) (x : X) (y : Y) (xs : List X) → IsIn x xs → IsIn y (f x) → IsIn y (flat_map f xs)
-in_flat_map f x y [] i j = absurd i
-in_flat_map {X} {Y} f x y (z ∷ xs) (inl e) j = in_left y (f z) (flat_map f xs) (subst (λ w. IsIn y (f w)) (sym e) j)
-in_flat_map f x y (z ∷ xs) (inr i) j = in_right y (f z) (flat_map f xs) (in_flat_map f x y xs i j)
-
--- ---- there is a `from` end of software
-
-some_from : (c : Connector) (n : ℕ) → HasMemory c → allows (end_rule c From) n ≡ true → 1 ≤ n
-some_from c n (inl is) e = leb-true 1 n (and_parts (nat_le 1 n) true (ap (λ z. allows (end_rule z From) n) (sym is) ∙ e)).0
-some_from c n (inr is) e = leb-true 1 n (and_parts (nat_le 1 n) (nat_le n 1) (ap (λ z. allows (end_rule z From) n) (sym is) ∙ e)).0
+-- ---- `from` ends are of software
 
 soft_from : (c : Connector) → HasMemory c → (end_rule c From).hardware ≡ false
 soft_from c (inl is) = ap (λ z. (end_rule z From).hardware) is
@@ -63,25 +48,6 @@ soft_from c (inr is) = ap (λ z. (end_rule z From).hardware) is
 window_from : (c : Connector) → HasMemory c → is_window c From ≡ true
 window_from c (inl is) = ap (λ z. is_window z From) is
 window_from c (inr is) = ap (λ z. is_window z From) is
-
-has_from : (s : Source) → AreNamesSound s → AreDotted (hierarchy_of s) → first_type_fault s ≡ None → (k : ℕ) (c : FlatConnection) → slice_get (flat_of s).connections k ≡ Some c → HasMemory c.connector
-    → (n : ℕ) × (e : FlatEnd) × (slice_get c.ends n ≡ Some e) × (e.role ≡ From)
-has_from s sound dotted none k c at t =
-    let h = hierarchy_of s in
-    let x = strung_of s k c at in
-    let own = composition_of_strung s sound x.0 x.1 in
-    let es = x.0.wire.1.ends in
-    let fits = count_fits s none x.0.inside own.1 x.0.wire own.2 own.0 in
-    let from = (and_parts (allows (end_rule x.0.wire.0 From) (count_of From es)) (allows (end_rule x.0.wire.0 To) (count_of To es)) fits).0 in
-    let same : x.0.wire.0 ≡ c.connector = ap (λ (z : FlatConnection). z.connector) x.2 in
-    let one : 1 ≤ count_of From es = some_from c.connector (count_of From es) t (ap (λ z. allows (end_rule z From) (count_of From es)) (sym same) ∙ from) in
-    let d = first_counted (λ (e : End). same_role e.role From) es one in
-    let r = all_joined s sound dotted x.0 d.1 x.1 (in_get es d.0 d.1 d.2) in (
-      d.0,
-      flat_end h x.0.path d.1 r.0,
-      ap (λ (z : FlatConnection). slice_get z.ends d.0) (sym x.2) ∙ end_numbers_kept s sound dotted x.0 d.0 d.1 r.0 x.1 d.2 r.1,
-      is_from_end d.1.role d.3,
-    )
 
 -- a leaf of software has a domain
 pub has_domain : (s : Source) (l : ℕ) (leaf : Leaf) → slice_get (flat_of s).leaves l ≡ Some leaf → leaf.hardware ≡ false → (d : ℕ) × (leaf.domain ≡ Some d)
@@ -111,7 +77,7 @@ pub memory_seen : (s : Source) (images : Images) → AreNamesSound s → AreDott
     → IsSeen (given s (flat_of s) (settled_of s) images) k
 memory_seen s images sound dotted none k c at t =
     let g = given s (flat_of s) (settled_of s) images in
-    let f = has_from s sound dotted none k c at t in
+    let f = some_end s sound dotted none k c at From in
     let e = f.1 in
     let y = ends_typed s sound dotted none k f.0 c e at f.2 in
     let soft : y.leaf.hardware ≡ false =
@@ -119,7 +85,7 @@ memory_seen s images sound dotted none k c at t =
     ∙ ap (λ r. (end_rule c.connector r).hardware) f.3
     ∙ soft_from c.connector t in
     let d = has_domain s e.leaf y.leaf y.here soft in
-    let home = (flat_is_flat s sound dotted none).listed e.leaf d.0 y.leaf y.here d.1 in
+    let home = leaf_listed (hierarchy_of s) e.leaf d.0 y.leaf y.here d.1 in
     let x : EndAt = record { connection = k; end = f.0 } in
     let sees : sees_memory g.flat x ≡ true =
     ap (λ o. option_map_or (λ (z : Connector × FlatEnd). is_window z.0 z.1.role) (option_and_then (end_in f.0) o) false) at

@@ -1,4 +1,4 @@
--- Settled badges and interrupts are small numbers.
+-- Settled priorities, badges and interrupts are small numbers.
 use Rattle.std.proofs.Common.{◌≡◌, ◌<◌, ◌≤◌, ◌+◌, ◌^◌, ◌∙◌, ℕ, suc, ◌&&◌, List, [], ◌∷◌, length, Option, Some, None, unwrap_or, refl, sym, ap, subst, inl, inr, arith}
 use Rattle.std.specs.Prelude.{nat_le}
 use Rattle.std.specs.List.{slice_get}
@@ -15,15 +15,16 @@ use Rattle.adl_meaning.specs.declared.flat.FlatEnd.{FlatEnd}
 use Rattle.adl_meaning.specs.declared.flat.Leaf.{Leaf}
 use Rattle.adl_meaning.specs.declared.settled.EndSetting.{EndSetting}
 use Rattle.adl_meaning.specs.declared.settled.EndSettings.{EndSettings}
+use Rattle.adl_meaning.specs.declared.settled.LeafSetting.{LeafSetting}
 use Rattle.adl_meaning.specs.Flat.{flat_of}
 use Rattle.adl_meaning.specs.Hierarchy.{hierarchy_of}
 use Rattle.numbering.specs.Gather.{IsIn}
 use Rattle.adl_meaning.specs.Values.{Given}
-use Rattle.adl_settings.specs.Allowed.{badge_in, badge_kind, irq_in, is_badge_text, number_in, within}
+use Rattle.adl_settings.specs.Allowed.{badge_in, badge_kind, irq_in, is_badge_text, number_in, priority_in, within}
 use Rattle.adl_settings.specs.EndMeaning.{badge_at, badge_of, end_setting, irq_of}
 use Rattle.adl_settings.specs.Joints.{Found, Joint, behind, found_at, found_of, found_on, founds_in, has_badge, interface_at, joint_at, joint_of, positioned, positioned_after}
 use Rattle.adl_settings.specs.Meant.{meaning, meant}
-use Rattle.adl_settings.specs.Settled.{end_settings, settled_of}
+use Rattle.adl_settings.specs.Settled.{LeafFound, end_settings, leaf_setting, leaves_found, settled_of}
 use Rattle.component_graph.proofs.Lists.{in_get}
 use Rattle.numbering.proofs.Lists.{from_filter_map, map_some}
 use Rattle.flat_laws.proofs.FlatLeaves.{from_get}
@@ -34,6 +35,28 @@ use Rattle.source_bounds.proofs.SettledEnds.{setting_from}
 
 within_most : (greatest n : ℕ) → unwrap_or (within 0 greatest n) 0 ≤ greatest
 within_most greatest n = cond_both (nat_le 0 n && nat_le n greatest) (Some n) None (λ z. unwrap_or z 0 ≤ greatest) (λ e. leb-true n greatest (and_parts (nat_le 0 n) (nat_le n greatest) e).1) (λ e. omega arith)
+
+-- ---- priorities
+
+priority_most : (o : Option Given) → unwrap_or (meant priority_in 254 o) 0 ≤ 255
+priority_most None = omega arith
+priority_most (Some g) = by_number (number_in g.value.kind)
+  where
+    by_number : (o : Option ℕ) → unwrap_or (option_and_then (within 0 255) o) 0 ≤ 255
+    by_number None = omega arith
+    by_number (Some n) = within_most 255 n
+
+priority_fits : (f : LeafFound) → (leaf_setting f).priority ≤ 255
+priority_fits f = cond_both f.leaf.hardware 0 (unwrap_or (meant priority_in 254 f.priority) 0) (λ z. z ≤ 255) (λ e. omega arith) (λ e. priority_most f.priority)
+
+pub priorities_fit : (s : Source) (leaf : ℕ) → option_map_or (λ z. z.priority) (slice_get (settled_of s).leaves leaf) 0 ≤ 255
+priorities_fit s leaf = by_setting (slice_get (settled_of s).leaves leaf) refl
+  where
+    by_setting : (o : Option LeafSetting) → slice_get (settled_of s).leaves leaf ≡ o → option_map_or (λ z. z.priority) o 0 ≤ 255
+    by_setting None e = omega arith
+    by_setting (Some x) e =
+        let f = from_get leaf_setting (leaves_found (hierarchy_of s) (flat_of s)) leaf x e in
+        subst (λ (z : LeafSetting). z.priority ≤ 255) f.2 (priority_fits f.0)
 
 -- ---- interrupts
 

@@ -27,7 +27,7 @@ use Rattle.adl_settings.specs.SettingFaults.{first_setting_fault, setting_faults
 use Rattle.adl_settings.specs.SettingTwice.{settings_twice}
 use Rattle.adl_settings.specs.Settled.{LeafFound, leaf_found, leaf_setting, leaves_found, settled_of}
 use Rattle.component_graph.proofs.Lists.{in_get}
-use Rattle.numbering.proofs.Lists.{get_map, none_in, none_left, none_right}
+use Rattle.numbering.proofs.Lists.{from_flat_map, get_map, none_in, none_left, none_right}
 use Rattle.flat_laws.proofs.FlatLeaves.{from_get, leaf_owned}
 use Rattle.flat_laws.proofs.TypedEnds.{so}
 use Rattle.leaf_ends.specs.declared.end_at.EndAt.{EndAt}
@@ -37,7 +37,6 @@ use Rattle.vspace_layout.specs.declared.thread.ThreadOf.{ThreadOf}
 use Rattle.vspace_layout.specs.Given.{Given, ends, given, leaves_of}
 use Rattle.vspace_layout.specs.Regions.{stack_pages, threads_of}
 use Rattle.vspace_layout.specs.Threads.{ends_at, leaf_threads, server, serves, thread}
-use Rattle.source_bounds.proofs.Lists.{from_flat_map}
 
 -- ---- threads are of leaves of their domain
 
@@ -112,7 +111,7 @@ leaf_stack f soft good =
     omega (arith, is, l)
 
 -- a leaf of a domain is software
-soft_leaf : (s : Source) (l d : ℕ) (leaf : Leaf) → slice_get (flat_of s).leaves l ≡ Some leaf → leaf.domain ≡ Some d → leaf.hardware ≡ false
+pub soft_leaf : (s : Source) (l d : ℕ) (leaf : Leaf) → slice_get (flat_of s).leaves l ≡ Some leaf → leaf.domain ≡ Some d → leaf.hardware ≡ false
 soft_leaf s l d leaf at is =
     let h = hierarchy_of s in
     let x = from_get (leaf_of h) (leaves h) l leaf at in

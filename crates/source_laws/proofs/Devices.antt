@@ -24,19 +24,20 @@ use Rattle.adl_meaning.specs.declared.connector.Connector.TheVariants.{Rpc, Noti
 use Rattle.adl_meaning.specs.declared.flat.FlatConnection.{FlatConnection}
 use Rattle.adl_meaning.specs.declared.flat.FlatEnd.{FlatEnd}
 use Rattle.adl_meaning.specs.declared.flat.Leaf.{Leaf}
-use Rattle.adl_types.specs.EndCount.{count_of, may_have}
-use Rattle.adl_types.specs.TypeFaults.{first_type_fault}
+use Rattle.adl_types.specs.TypeFaults.{count_of, first_type_fault}
+use Rattle.adl_types.proofs.Typed.{well_typed}
 use Rattle.arch_policy.specs.Ends.{EndAt}
+use Rattle.arch_policy.proofs.Same.{same_role_self}
 use Rattle.component_graph.proofs.Lists.{get, in_get}
 use Rattle.conn_rules.specs.Ends.{allows, end_rule}
 use Rattle.conn_rules.specs.Row.{same_role}
-use Rattle.flat_laws.proofs.AreTyped.{composition_of_strung, ends_typed}
-use Rattle.flat_laws.proofs.Devices.{first_counted}
+use Rattle.flat_laws.proofs.AreTyped.{ends_typed}
+use Rattle.flat_laws.proofs.Counts.{alone}
 use Rattle.flat_laws.proofs.FlatEnds.{strung_of}
 use Rattle.flat_laws.proofs.FlatLeaves.{from_get, leaf_listed, leaf_owned}
-use Rattle.flat_laws.proofs.TypedEnds.{count_fits, hardware_fits}
+use Rattle.flat_laws.proofs.SomeEnds.{allowed, some_end}
+use Rattle.flat_laws.proofs.TypedEnds.{hardware_fits}
 use Rattle.reach_laws.specs.Flat.{HasDevice, IsFlat, is_at_device}
-use Rattle.source_laws.proofs.Counts.{alone}
 
 -- ---- of the table
 
@@ -75,16 +76,6 @@ one_allowed Interrupt To n h a = absurd (true≢false (sym h))
 one_allowed Direct From n h a = absurd (true≢false (sym h))
 one_allowed Direct To n h a = absurd (true≢false (sym h))
 
-itself : (r : Role) → same_role r r ≡ true
-itself From = refl
-itself To = refl
-
-is_role : (r q : Role) → same_role r q ≡ true → r ≡ q
-is_role From From e = refl
-is_role To To e = refl
-is_role From To e = absurd (true≢false (sym e))
-is_role To From e = absurd (true≢false (sym e))
-
 module _ (s : Source) (sound : AreNamesSound s) (dotted : AreDotted (hierarchy_of s)) (types : first_type_fault s ≡ None) where
   -- ---- leaves
 
@@ -113,39 +104,20 @@ module _ (s : Source) (sound : AreNamesSound s) (dotted : AreDotted (hierarchy_o
 
   -- ---- ends of devices
 
-  allowed : (r : Role) (c : Connector) (es : _) → may_have c es ≡ true → allows (end_rule c r) (count_of r es) ≡ true
-  allowed From c es h = (and_parts (allows (end_rule c From) (count_of From es)) (allows (end_rule c To) (count_of To es)) h).0
-  allowed To c es h = (and_parts (allows (end_rule c From) (count_of From es)) (allows (end_rule c To) (count_of To es)) h).1
-
   -- a connection has one end in the role of its devices
   one_end : (y : Strung) → IsIn y (connections (hierarchy_of s)) → (r : Role) → (end_rule y.wire.0 r).hardware ≡ true → count_of r y.wire.1.ends ≡ 1
-  one_end y i r hard =
-      let k = composition_of_strung s sound y i in
-      one_allowed y.wire.0 r (count_of r y.wire.1.ends) hard (allowed r y.wire.0 y.wire.1.ends (count_fits s types y.inside k.1 y.wire k.2 k.0))
+  one_end y i r hard = one_allowed y.wire.0 r (count_of r y.wire.1.ends) hard (allowed y.wire.0 r y.wire.1.ends ((well_typed s sound types y i).counts))
 
   connector_is : (y : Strung) (c : FlatConnection) → flat_connection (hierarchy_of s) y ≡ c → y.wire.0 ≡ c.connector
   connector_is y c e = ap (λ (z : FlatConnection). z.connector) e
 
   has_device : (k : ℕ) (c : FlatConnection) → slice_get (flat_of s).connections k ≡ Some c → (r : Role) → (end_rule c.connector r).hardware ≡ true → HasDevice (flat_of s) k
   has_device k c here r hard =
-      let h = hierarchy_of s in
-      let y = strung_of s k c here in
-      let wire = connector_is y.0 c y.2 in
-      let one = one_end y.0 y.1 r (ap (λ z. (end_rule z r).hardware) wire ∙ hard) in
-      let d = first_counted (λ (e : End). same_role e.role r) y.0.wire.1.ends (omega (arith, one)) in
-      let j = all_joined s sound dotted y.0 d.1 y.1 (in_get y.0.wire.1.ends d.0 d.1 d.2) in
-      let role : d.1.role ≡ r = is_role d.1.role r d.3 in
+      let d = some_end s sound dotted types k c here r in
       record {
-        at = record {
-          place = k;
-          connection = c;
-          here = here;
-          number = d.0;
-          end = flat_end h y.0.path d.1 j.0;
-          stands = ap (λ (z : FlatConnection). slice_get z.ends d.0) (sym y.2) ∙ end_numbers_kept s sound dotted y.0 d.0 d.1 j.0 y.1 d.2 j.1;
-        };
+        at = record { place = k; connection = c; here = here; number = d.0; end = d.1; stands = d.2 };
         place = refl;
-        device = ap (λ r. (end_rule c.connector r).hardware) role ∙ hard;
+        device = ap (λ r. (end_rule c.connector r).hardware) d.3 ∙ hard;
       }
 
   -- the end of the text under the number of an end
@@ -174,7 +146,7 @@ module _ (s : Source) (sound : AreNamesSound s) (dotted : AreDotted (hierarchy_o
       let f = end_of y.0 y.1 z (y.2 ∙ connection) in
       let role : z.end.role ≡ x.end.role = one_role x.connection.connector z.end.role x.end.role (ap (λ (c : FlatConnection). (end_rule c.connector z.end.role).hardware) connection ∙ b) a in
       let one = one_end y.0 y.1 x.end.role (ap (λ c. (end_rule c x.end.role).hardware) (connector_is y.0 x.connection y.2) ∙ a) in
-      let is : (r : Role) → r ≡ x.end.role → same_role r x.end.role ≡ true = λ r e. ap (λ q. same_role q x.end.role) e ∙ itself x.end.role in
+      let is : (r : Role) → r ≡ x.end.role → same_role r x.end.role ≡ true = λ r e. ap (λ q. same_role q x.end.role) e ∙ same_role_self x.end.role in
       alone (λ (e : End). same_role e.role x.end.role) y.0.wire.1.ends z.number x.number f.end e.end (omega (arith, one)) f.stands e.stands (is f.end.role (f.role ∙ role)) (is e.end.role e.role)
 
   pub devices_flat : IsFlat s (flat_of s)

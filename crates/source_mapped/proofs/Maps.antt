@@ -16,20 +16,19 @@ use Rattle.adl_settings.specs.EndMeaning.{end_setting}
 use Rattle.adl_settings.specs.Settled.{leaf_found, leaf_setting, leaves_found, settled_of}
 use Rattle.adl_settings.specs.SettingFaults.{first_setting_fault}
 use Rattle.adl_types.specs.TypeFaults.{first_type_fault}
-use Rattle.numbering.proofs.Lists.{get_map}
+use Rattle.numbering.proofs.Lists.{below, get_map}
 use Rattle.conn_rules.specs.Ends.{end_rule}
 use Rattle.cspace_layout.specs.SlotFaults.{first_slot_fault}
 use Rattle.flat_laws.specs.ShortFiles.{AreFilesShort}
-use Rattle.flat_laws.proofs.AreFlat.{flat_is_flat}
 use Rattle.flat_laws.proofs.AreTyped.{ends_typed}
-use Rattle.flat_laws.proofs.Fit.{settings_sound}
+use Rattle.flat_laws.proofs.FlatLeaves.{leaf_listed, leaf_owned}
+use Rattle.flat_laws.proofs.SoundSettings.{settings_sound}
 use Rattle.flat_laws.proofs.TypedEnds.{hardware_fits}
 use Rattle.leaf_ends.specs.Members.{leaf_members, members_at, members_of_leaf}
 use Rattle.program_sections.specs.Numbered.{AreNumbered, AreSound}
 use Rattle.program_sections.specs.SpaceFaults.{first_space_fault}
 use Rattle.program_sections.specs.declared.images.Images.{Images}
 use Rattle.source_bounds.proofs.Bounds.{can_lay, dotted, registers_there}
-use Rattle.source_bounds.proofs.Lists.{below}
 use Rattle.source_bounds.proofs.PageCounts.{few_pages}
 use Rattle.source_bounds.proofs.SettledEnds.{end_found}
 use Rattle.source_kept.proofs.SeenMemory.{has_domain, memory_seen}
@@ -54,7 +53,6 @@ tables_can_map s images short sound types flat settings numbered sections space 
     let one = one_assembly s sound in
     let typed = ends_typed s sound (dotted s short) types in
     let right = settings_sound s settings in
-    let is = flat_is_flat s sound (dotted s short) types in
     let same = (registers_there s short sound types settings).same in
     record {
       spaces = refl;
@@ -64,8 +62,8 @@ tables_can_map s images short sound types flat settings numbered sections space 
       clean = space;
       few = (few_pages g one.0 one.1 pages).pages;
       grouped = record {
-        listed = λ d leaf x at i. is.owned d leaf x at i;
-        inside = λ leaf d found at own. is.listed leaf d found at own;
+        listed = λ d leaf x at i. leaf_owned h d leaf x at i;
+        inside = λ leaf d found at own. leaf_listed h leaf d found at own;
         once = leaves_once s;
         some = leaves_some s;
       };

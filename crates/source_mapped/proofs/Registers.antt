@@ -1,5 +1,5 @@
 -- Connections to one dataport of a device find its registers at one address.
-use Rattle.std.proofs.Common.{◌≡◌, ◌∙◌, ℕ, ◌&&◌, cond, ◌++◌, codes, Option, Some, None, unwrap_or, refl, sym, ap}
+use Rattle.std.proofs.Common.{◌≡◌, ◌∙◌, ℕ, ◌&&◌, cond, ◌++◌, codes, Option, Some, None, unwrap_or, sym, ap}
 use Rattle.std.specs.List.{slice_get}
 use Rattle.std.specs.Option.{option_and_then, option_map_or}
 use Rattle.adl_ast.specs.declared.component.Interface.{Interface}
@@ -7,7 +7,7 @@ use Rattle.adl_ast.specs.declared.component.InterfaceKind.TheVariants as interfa
 use Rattle.adl_ast.specs.declared.component.Member.TheVariants as members
 use Rattle.adl_ast.specs.declared.source.Source.{Source}
 use Rattle.adl_meaning.specs.declared.connector.Connector.{Connector}
-use Rattle.adl_meaning.specs.declared.connector.Connector.TheVariants.{Rpc, Notification, SharedMemory, Mmio, Interrupt, Direct}
+use Rattle.adl_meaning.specs.declared.connector.Connector.TheVariants.{Mmio}
 use Rattle.adl_meaning.specs.declared.flat.FlatConnection.{FlatConnection}
 use Rattle.adl_meaning.specs.declared.flat.FlatEnd.{FlatEnd}
 use Rattle.adl_meaning.specs.declared.flat.Leaf.{Leaf}
@@ -23,26 +23,12 @@ use Rattle.adl_settings.specs.Joints.{is_shared}
 use Rattle.adl_settings.specs.Meant.{meaning, meant, where_set}
 use Rattle.adl_settings.specs.Settled.{settled_of}
 use Rattle.flat_laws.specs.Typed.{AreTyped}
-use Rattle.flat_laws.proofs.Fit.{AreSettingsSound}
+use Rattle.flat_laws.proofs.SoundSettings.{AreSettingsSound}
 use Rattle.leaf_ends.specs.Lookups.{setting_of}
 use Rattle.leaf_ends.specs.Members.{members_at}
 use Rattle.source_bounds.proofs.SettledEnds.{IsEndFound, end_found}
-use Rattle.vspace_layout.specs.Memory.{memory_paddr, memory_place, registers, registers_in, to_place}
-
-from_registers : (c : FlatConnection) (e : FlatEnd) → registers c ≡ Some e → (c.connector ≡ Mmio) × (n : ℕ) × (to_place c.ends ≡ Some n) × (slice_get c.ends n ≡ Some e)
-from_registers c e r = by_connector c.connector refl r
-  where
-    by_place : (o : Option ℕ) → to_place c.ends ≡ o → option_and_then (slice_get c.ends) o ≡ Some e → (n : ℕ) × (to_place c.ends ≡ Some n) × (slice_get c.ends n ≡ Some e)
-    by_place None is r = cc
-    by_place (Some n) is r = (n, is, r)
-
-    by_connector : (z : Connector) → c.connector ≡ z → registers_in z c.ends ≡ Some e → (c.connector ≡ Mmio) × (n : ℕ) × (to_place c.ends ≡ Some n) × (slice_get c.ends n ≡ Some e)
-    by_connector Mmio is r = let p = by_place (to_place c.ends) refl r in (is, p.0, p.1, p.2)
-    by_connector Rpc is r = cc
-    by_connector Notification is r = cc
-    by_connector SharedMemory is r = cc
-    by_connector Interrupt is r = cc
-    by_connector Direct is r = cc
+use Rattle.source_bounds.proofs.MemorySizes.{from_registers, interface_same, some_same}
+use Rattle.vspace_layout.specs.Memory.{memory_paddr, memory_place, registers, to_place}
 
 paddr_by : (settled : Settled) (k n : ℕ) (c : FlatConnection) (e : EndSetting) → c.connector ≡ Mmio → to_place c.ends ≡ Some n → setting_of settled k n ≡ Some e → memory_paddr settled k c ≡ e.paddr
 paddr_by settled k n c e t at is =
@@ -57,12 +43,6 @@ device_paddr h c shared leaf i =
     unwrap_or
     (meaning (paddr_in (unwrap_or (meant size_in (default_bytes i) (cond (is_shared c) shared (where_set on (value_at h leaf.path (i.id.name ++ codes "_size"))))) 0))
     (where_set on (value_at h leaf.path (i.id.name ++ codes "_paddr")))) 0
-
-some_same : {X : Type 0} (x y : X) → Some x ≡ Some y → x ≡ y
-some_same x y e = cc
-
-interface_same : (i j : Interface) → Some (members.Interface i) ≡ Some (members.Interface j) → i ≡ j
-interface_same i j e = cc
 
 module _ (s : Source) (typed : AreTyped s (flat_of s)) (settings : AreSettingsSound s) where
   paddr_here : (k n : ℕ) (c : FlatConnection) (e : FlatEnd) (f : IsEndFound s k n c e) → c.connector ≡ Mmio → (end_setting f.found).paddr ≡ device_paddr (hierarchy_of s) Mmio None f.found.joint.leaf f.found.joint.interface

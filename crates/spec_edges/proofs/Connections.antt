@@ -36,7 +36,7 @@ use Rattle.reach_laws.proofs.EndLabels.{IsDomains, device_end, domain_no_connect
 use Rattle.reach_laws.proofs.PieceEdges.{pieces_direct}
 use Rattle.reach_steps.specs.Arranged.{Holds, RootOf}
 use Rattle.reach_steps.specs.Plain.{HoldsPlain, is_plain, option_plain, plain_kind}
-use Rattle.spec_kept.proofs.There.{IsThere, kind_there, object_there}
+use Rattle.system_spec.proofs.There.{IsThere, kind_there, object_there}
 use Rattle.spec_kept.proofs.Uses.{uses_are}
 use Rattle.system_spec.specs.declared.part.What.TheVariants.{CNodeOf, EndpointOf, IrqOf, LockOf, NotificationOf, ThreadOf}
 use Rattle.system_spec.specs.Made.{spec_of}

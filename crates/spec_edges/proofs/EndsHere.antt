@@ -18,11 +18,11 @@ use Rattle.leaf_ends.specs.Lookups.{end_of}
 use Rattle.leaf_ends.specs.Members.{members_at}
 use Rattle.numbering.specs.Gather.{IsIn, gather}
 use Rattle.numbering.proofs.Gathered.{from_gather, from_ones, get_ones, in_gather}
+use Rattle.numbering.proofs.Lists.{from_flat_map, in_flat_map}
 use Rattle.reach_laws.specs.Flat.{IsFlat}
 use Rattle.vspace_layout.specs.Given.{Given, ends, leaves_of}
 use Rattle.vspace_layout.specs.Regions.{end_window, is_window, leaf_windows, sees_memory, threads_of, windows_of}
 use Rattle.vspace_layout.specs.Threads.{ends_at, ends_in, leaf_threads, thread}
-use Rattle.spec_edges.proofs.Lists.{from_flat_map, in_flat_map}
 
 abbrev pub joined : {flat : Flat} → EndAt flat → Joined
 joined x = record { connection = x.place; end = x.number }
@@ -129,11 +129,11 @@ module _ (g : Given) where
 
   pub in_windows : IsFlat g.source g.flat → (d : ℕ) (x : EndAt g.flat) → IsIn x.end.leaf (leaves_of g.flat d) → is_window x.connection.connector x.end.role ≡ true → IsIn (joined x) (windows_of g d)
   in_windows flat d x i w =
-      in_flat_map (leaf_windows g.flat (ends g)) (joined x) (leaves_of g.flat d) x.end.leaf i
-      (in_flat_map (end_window g.flat) (joined x) (ends_at (ends g) x.end.leaf) (joined x) (in_ends flat x) (in_end_window (joined x) (sees_is x ∙ w)))
+      in_flat_map (leaf_windows g.flat (ends g)) x.end.leaf (joined x) (leaves_of g.flat d) i
+      (in_flat_map (end_window g.flat) (joined x) (joined x) (ends_at (ends g) x.end.leaf) (in_ends flat x) (in_end_window (joined x) (sees_is x ∙ w)))
 
   -- ---- threads
 
   -- each leaf of the domain has its control thread
   pub in_threads : (d leaf : ℕ) → IsIn leaf (leaves_of g.flat d) → IsIn (thread leaf None) (threads_of g d)
-  in_threads d leaf i = in_flat_map (leaf_threads g.flat (ends g)) (thread leaf None) (leaves_of g.flat d) leaf i (inl refl)
+  in_threads d leaf i = in_flat_map (leaf_threads g.flat (ends g)) leaf (thread leaf None) (leaves_of g.flat d) i (inl refl)

@@ -44,7 +44,7 @@ use Rattle.reach_laws.specs.Flat.{is_at_device}
 use Rattle.reach_laws.specs.Pieces.{IsAccess, OfJoints}
 use Rattle.reach_laws.proofs.EndLabels.{label_of_leaf}
 use Rattle.reach_steps.specs.Arranged.{Holds}
-use Rattle.spec_kept.proofs.There.{IsThere, kind_there, object_there}
+use Rattle.system_spec.proofs.There.{IsThere, kind_there, object_there}
 use Rattle.spec_kept.proofs.Uses.{uses_are}
 use Rattle.system_spec.specs.declared.part.What.TheVariants.{CNodeOf, EndpointOf, NotificationOf, LockOf, IrqOf}
 use Rattle.system_spec.specs.Made.{spec_of}

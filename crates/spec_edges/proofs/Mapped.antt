@@ -26,12 +26,12 @@ use Rattle.leaf_ends.specs.declared.end_at.EndAt.{EndAt as Joined}
 use Rattle.leaf_ends.specs.Lookups.{setting_of}
 use Rattle.numbering.specs.Gather.{IsIn, gather}
 use Rattle.numbering.proofs.Gathered.{from_gather, from_ones, get_ones, in_append, in_gather, in_place, in_right, place_of}
-use Rattle.numbering.proofs.Lists.{from_map, in_map}
+use Rattle.numbering.proofs.Lists.{from_flat_map, from_map, from_range, in_map}
 use Rattle.program_sections.specs.ByAddress.{section_pages}
 use Rattle.program_sections.specs.declared.pages.SectionPage.{SectionPage}
 use Rattle.reach_laws.specs.Flat.{is_at_device}
 use Rattle.reach_laws.proofs.EndLabels.{own_label}
-use Rattle.spec_kept.proofs.There.{IsThere}
+use Rattle.system_spec.proofs.There.{IsThere}
 use Rattle.system_spec.specs.declared.part.What.TheVariants.{FrameOf}
 use Rattle.system_spec.specs.Tables.{Tables, frame_owner, pages_at, threads_at}
 use Rattle.vspace_layout.specs.declared.mapped.MappedPage.{MappedPage}
@@ -54,7 +54,7 @@ use Rattle.vspace_layout.proofs.Standing.{frames_stand}
 use Rattle.spec_edges.specs.Connected.{IsConnected}
 use Rattle.spec_edges.specs.Policy.{given_tables, policy_tables}
 use Rattle.spec_edges.proofs.Devices.{first_found, position_found}
-use Rattle.spec_edges.proofs.Lists.{from_flat_map, from_range, in_range}
+use Rattle.spec_edges.proofs.Lists.{in_range}
 use Rattle.spec_edges.proofs.Rows.{device_role}
 use Rattle.spec_edges.proofs.Whose.{frame_owner_at, owner_of}
 

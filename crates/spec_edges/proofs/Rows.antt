@@ -20,7 +20,8 @@ use Rattle.std.specs.Prelude.{◌==◌}
 use Rattle.arch_policy.specs.Gives.{gives, leaves, same_object}
 use Rattle.arch_policy.specs.Owners.{has_label}
 use Rattle.arch_policy.proofs.Same.{is_object}
-use Rattle.reach_laws.proofs.Given.{at_authority, at_end, fits, fitted, implied, implies, over_all, over_object}
+use Rattle.arch_policy.proofs.Given.{at_authority, at_end, implied, implies, over_all, over_object}
+use Rattle.reach_laws.proofs.Given.{fits, fitted}
 use Rattle.reach_steps.specs.Plain.{plain_kind}
 use Rattle.system_spec.specs.Objects.{end_rights}
 use Rattle.vspace_layout.specs.Regions.{is_window}

@@ -26,7 +26,7 @@ use Rattle.page_tables.proofs.Children.{linked_none, slots_lead}
 use Rattle.page_tables.proofs.Leveled.{in_tables}
 use Rattle.reach_laws.specs.Windows.{InTable}
 use Rattle.spec_kept.proofs.TablesKept.{moved, object_is, stands_there, standing}
-use Rattle.spec_kept.proofs.There.{IsThere, object_there}
+use Rattle.system_spec.proofs.There.{IsThere, object_there}
 use Rattle.system_spec.specs.declared.part.What.TheVariants.{FrameOf, TableOf}
 use Rattle.system_spec.specs.Made.{spec_of}
 use Rattle.system_spec.specs.Objects.{object}

@@ -19,8 +19,9 @@ use Rattle.cap_model.specs.declared.state.ThreadState.{ThreadState}
 use Rattle.cap_model.proofs.BootPlaces.{at_entry}
 use Rattle.numbering.specs.Gather.{IsIn}
 use Rattle.numbering.proofs.Gathered.{get_behind, get_front, place_of}
+use Rattle.numbering.proofs.Lists.{found}
 use Rattle.reach_laws.specs.Pieces.{OfThreads}
-use Rattle.spec_kept.proofs.There.{IsThere}
+use Rattle.system_spec.proofs.There.{IsThere}
 use Rattle.system_spec.specs.declared.part.What.TheVariants.{CNodeOf, FrameOf, TableOf, ThreadOf}
 use Rattle.system_spec.specs.Made.{spec_of}
 use Rattle.system_spec.specs.Objects.{buffer_cap, cap, frame_at, object, tcb}
@@ -41,7 +42,7 @@ use Rattle.vspace_layout.specs.MappedPages.{mapped_pages, page_of}
 use Rattle.vspace_layout.specs.Regions.{buffer_start, region, region_start, regions, thread_regions, threads_of, window_region, windows_of}
 use Rattle.spec_edges.specs.Connected.{IsConnected}
 use Rattle.spec_edges.specs.Policy.{policy_tables}
-use Rattle.spec_edges.proofs.Lists.{found, rises_tell}
+use Rattle.spec_edges.proofs.Lists.{rises_tell}
 use Rattle.spec_edges.proofs.Mapped.{first_page, from_pages, from_threads, in_pages, laid, own_frame}
 use Rattle.spec_edges.proofs.TablesHere.{root_there}
 use Rattle.spec_edges.proofs.Whose.{IsAt, entry_is, label_there, labels, object_stands, of_tcb}

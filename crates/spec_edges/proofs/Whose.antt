@@ -25,7 +25,7 @@ use Rattle.page_tables.specs.declared.layer.Layer.{Layer}
 use Rattle.page_tables.specs.Levels.{layers, numbered as tables_numbered, sizes, table_of}
 use Rattle.page_tables.specs.Shapes.{shapes}
 use Rattle.spec_kept.proofs.TablesKept.{moved, object_is, standing}
-use Rattle.spec_kept.proofs.There.{IsThere, by_section, has_part, there}
+use Rattle.system_spec.proofs.There.{IsThere, by_section, has_part, single, there}
 use Rattle.system_spec.proofs.Standing.{place_is, stands}
 use Rattle.system_spec.specs.declared.part.Owned.{Owned}
 use Rattle.system_spec.specs.declared.part.PageTable.{PageTable}
@@ -40,6 +40,7 @@ use Rattle.system_spec.specs.Parts.{all_tables, cnodes, domain_locks, domain_tcb
 use Rattle.system_spec.specs.Tables.{Tables, arch, device_of, frame_owner, pages_at, threads_at, uses_at}
 use Rattle.vspace_layout.specs.declared.spaces.FrameInfo.{FrameInfo}
 use Rattle.vspace_layout.specs.declared.spaces.ThreadPlace.{ThreadPlace}
+use Rattle.vspace_layout.proofs.MemoryNumbers.{from_get_map}
 
 -- ---- whose a part is
 
@@ -64,10 +65,6 @@ Whose t p = p.owner ≡ owner_of t p.what
 
 abbrev WhoseOwned : Tables → Owned → Type 0
 WhoseOwned t x = x.owner ≡ owner_of t x.what
-
-single : {X : Type 0} (x y : X) → IsIn y (x ∷ []) → x ≡ y
-single x y (inl e) = e
-single x y (inr i) = absurd i
 
 in_order : (t : Tables) (s : Series) (xs : List Owned) (p : Part) → ((x : Owned) → IsIn x xs → WhoseOwned t x) → IsIn p (numbered s xs) → Whose t p
 in_order t s xs p h i =
@@ -234,14 +231,9 @@ pub record IsAt (t : Tables) (o : ℕ) (x : Object) : Type 0 where
   pub is : object t what ≡ x
   pub sort : class what ≡ class_of x
 
-from_mapped : {X Y : Type 0} (f : X → Y) (xs : List X) (o : ℕ) (y : Y) → slice_get (map f xs) o ≡ Some y → (x : X) × (slice_get xs o ≡ Some x) × (f x ≡ y)
-from_mapped f [] o y e = cc
-from_mapped f (z ∷ xs) zero y e = (z, refl, cc)
-from_mapped f (z ∷ xs) (suc o) y e = from_mapped f xs o y e
-
 pub entry_is : (t : Tables) (o : ℕ) (e : Entry) → slice_get (spec_of t).entries o ≡ Some e → IsAt t o e.object
 entry_is t o e h =
-    let p = from_mapped (entry t) (parts t) o e h in
+    let p = from_get_map (entry t) (parts t) o e h in
     let i = in_place p.0 (parts t) o p.1 in
     let is : object t p.0.what ≡ e.object = ap (λ (z : Entry). z.object) p.2 in
     record {

@@ -27,7 +27,7 @@ use Rattle.numbering.specs.Gather.{IsIn}
 use Rattle.numbering.proofs.Gathered.{in_place, place_of}
 use Rattle.reach_laws.specs.Flat.{is_at_device}
 use Rattle.reach_laws.specs.Windows.{HasPage, HasWindows, InTable, IsWindow, window_rights}
-use Rattle.spec_kept.proofs.There.{kind_there}
+use Rattle.system_spec.proofs.There.{kind_there}
 use Rattle.system_spec.specs.declared.part.What.TheVariants.{FrameOf, TableOf}
 use Rattle.system_spec.specs.Made.{spec_of}
 use Rattle.system_spec.specs.Objects.{frame_object, object}

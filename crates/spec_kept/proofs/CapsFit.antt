@@ -33,7 +33,7 @@ use Rattle.system_spec.specs.Objects.{badge_at, cap, end_rights, joint, joint_by
 use Rattle.system_spec.specs.Parts.{place}
 use Rattle.system_spec.specs.Tables.{Tables, uses_at}
 use Rattle.spec_kept.specs.Fit.{IsFit}
-use Rattle.spec_kept.proofs.There.{IsThere, kind_there}
+use Rattle.system_spec.proofs.There.{IsThere, kind_there}
 use Rattle.spec_kept.proofs.Uses.{HasSlot, IsEnd, IsUse, is_use}
 
 -- ---- bits

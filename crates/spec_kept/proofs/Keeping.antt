@@ -29,7 +29,7 @@ use Rattle.spec_kept.proofs.CapsFit.{all_pass, cnode_kept, is_at_of}
 use Rattle.spec_kept.proofs.Lines.{lines_kept}
 use Rattle.spec_kept.proofs.TablesKept.{frame_fits, root_kept, tables_kept}
 use Rattle.spec_kept.proofs.Telling.{names_kept}
-use Rattle.spec_kept.proofs.There.{IsThere, there}
+use Rattle.system_spec.proofs.There.{IsThere, there}
 
 -- what is found stands in the list
 found_in : {X : Type 0} (test : X → Bool) (xs : List X) (x : X) → find test xs ≡ Some x → IsIn x xs

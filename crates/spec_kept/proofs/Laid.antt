@@ -54,7 +54,7 @@ use Rattle.spec_kept.specs.Written.{IsFillWritten, IsFrameWritten, IsThreadWritt
 use Rattle.spec_kept.proofs.CapsFit.{all_pass}
 use Rattle.spec_kept.proofs.Lengths.{AreShort}
 use Rattle.spec_kept.proofs.TablesKept.{from_tables, mappings, moved, object_is, shape_in, standing}
-use Rattle.spec_kept.proofs.There.{IsThere}
+use Rattle.system_spec.proofs.There.{IsThere}
 use Rattle.spec_kept.proofs.Same.{same}
 
 -- ---- names

@@ -28,13 +28,13 @@ use Rattle.spec_kept.proofs.Totals.{length_flat_map, total, total_each}
 
 -- ---- texts in parts
 
-abbrev AllShort : List ℕ → List (List ℕ) → Type 0
+abbrev pub AllShort : List ℕ → List (List ℕ) → Type 0
 AllShort [] [] = Unit {0}
 AllShort [] (x ∷ xs) = ⊥
 AllShort (n ∷ ns) [] = ⊥
 AllShort (n ∷ ns) (x ∷ xs) = (length x ≤ n) × AllShort ns xs
 
-all_short : (ns : List ℕ) (xs : List (List ℕ)) → AllShort ns xs → length (together xs) ≤ total (λ n. n) ns
+pub all_short : (ns : List ℕ) (xs : List (List ℕ)) → AllShort ns xs → length (together xs) ≤ total (λ n. n) ns
 unfolding together
 all_short [] [] h = omega arith
 all_short [] (x ∷ xs) h = absurd h
@@ -45,7 +45,7 @@ all_short (n ∷ ns) (x ∷ xs) h =
     let b = h.0 in
     omega (arith, a, ih, b)
 
-joined : (a b : List ℕ) (m n : ℕ) → length a ≤ m → length b ≤ n → length (a ⊹ b) ≤ m + n
+pub joined : (a b : List ℕ) (m n : ℕ) → length a ≤ m → length b ≤ n → length (a ⊹ b) ≤ m + n
 unfolding ◌⊹◌
 joined a b m n h k = let l = length_append a b in omega (arith, l, h, k)
 

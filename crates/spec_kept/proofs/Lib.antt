@@ -1,5 +1,4 @@
 mod Same
-pub mod There
 mod Names
 mod Sections
 pub mod Telling
@@ -8,11 +7,11 @@ pub mod CapsFit
 pub mod TablesKept
 pub mod Lines
 pub mod Keeping
-mod Totals
+pub mod Totals
 mod Counting
 mod Capping
 pub mod Few
-mod Lengths
+pub mod Lengths
 mod Laid
 pub mod Writing
 mod Seen

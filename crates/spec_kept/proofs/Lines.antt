@@ -20,7 +20,7 @@ use Rattle.system_spec.specs.Objects.{by_number, line_by, lines, put_line}
 use Rattle.system_spec.specs.Parts.{parts, place}
 use Rattle.system_spec.specs.Tables.{Tables, irq_number}
 use Rattle.spec_kept.specs.Fit.{IsFit}
-use Rattle.spec_kept.proofs.There.{IsThere, has_part}
+use Rattle.system_spec.proofs.There.{IsThere, has_part}
 use Rattle.spec_kept.proofs.CapsFit.{all_pass, is_at_of}
 use Rattle.spec_kept.proofs.Same.{same as same_at}
 

@@ -1,7 +1,7 @@
 -- What is laid out plainly can be written.
-use Rattle.std.proofs.Common.{◌≡◌, ◌<◌, ◌≤◌, ◌+◌, ◌*◌, ◌^◌, ℕ, zero, suc, Bool, true, false, cond, List, [], ◌∷◌, refl, sym, ◌∙◌, ap, subst, Option, Some, None, inl, inr, ◌⊎◌, arith}
+use Rattle.std.proofs.Common.{◌≡◌, ◌<◌, ◌≤◌, ◌+◌, ◌*◌, ◌^◌, ℕ, Bool, true, false, cond, List, [], ◌∷◌, refl, sym, ◌∙◌, ap, subst, Option, Some, None, inl, inr, ◌⊎◌, arith}
 use Rattle.std.specs.Prelude.{◌%◌, ◌==◌, ◌&&◌, leb, not, sum, IsTrue}
-use Rattle.std.specs.List.{flat_map, range_with_len, slice_get}
+use Rattle.std.specs.List.{range_with_len, slice_get}
 use Rattle.std.specs.Option.{option_map, option_map_or}
 use Rattle.std.proofs.Math.Nat.{div-mul-le_self}
 use Rattle.std.proofs.lemmas.Bool.{and_parts, ltb-true}
@@ -17,7 +17,7 @@ use Rattle.cam_base.specs.Names.{is_name}
 use Rattle.cap_model.specs.declared.object.Fill.{Fill}
 use Rattle.numbering.specs.Gather.{IsIn, gather}
 use Rattle.numbering.proofs.Gathered.{from_gather, from_ones, in_append, in_place}
-use Rattle.numbering.proofs.Lists.{from_map}
+use Rattle.numbering.proofs.Lists.{from_flat_map, from_map, from_range}
 use Rattle.program_sections.specs.ByAddress.{by_address, name_of, page_at, pages_of, put_section, section_pages}
 use Rattle.program_sections.specs.Images.{Placed, arch_of, image_number, is_run, placed, sections_if, sections_of}
 use Rattle.program_sections.specs.SectionPages.{fill_from, fill_of, page_count}
@@ -56,20 +56,8 @@ use Rattle.spec_kept.proofs.Same.{same}
 
 -- ---- lists
 
-from_flat_map : {X Y : Type 0} (f : X → List Y) (y : Y) (xs : List X) → IsIn y (flat_map f xs) → (x : X) × IsIn x xs × IsIn y (f x)
-from_flat_map f y [] i = absurd i
-from_flat_map {X} {Y} f y (x ∷ xs) i = elim (in_append y (f x) (flat_map f xs) i) [
-  | inl j ↦ (x, inl refl, j)
-  | inr j ↦ let k : (z : X) × IsIn z xs × IsIn y (f z) = from_flat_map f y xs j in (k.0, inr k.1, k.2)
-]
-
-below_from : (a n j : ℕ) → IsIn j (range_with_len a n) → j < a + n
-below_from a zero j i = absurd i
-below_from a (suc n) j (inl e) = omega (arith, e)
-below_from a (suc n) j (inr i) = let l = below_from (a + 1) n j i in omega (arith, l)
-
 below_count : (n j : ℕ) → IsIn j (range_with_len 0 n) → j < n
-below_count n j i = let l = below_from 0 n j i in omega (arith, l)
+below_count n j i = let l = from_range 0 n j i in omega (arith, l)
 
 from_put : (x y : Placed) (ys : List Placed) → IsIn y (put_section x ys) → (x ≡ y) ⊎ IsIn y ys
 from_put x y [] (inl e) = inl e

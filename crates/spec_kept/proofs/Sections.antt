@@ -13,6 +13,7 @@ use Rattle.cap_model.specs.declared.level.Level.{Level}
 use Rattle.cap_model.specs.declared.level.Level.TheVariants.{Global, Upper, Directory, Table}
 use Rattle.numbering.specs.Gather.{before}
 use Rattle.numbering.proofs.Gathered.{from_ones, from_place, gather_ones, length_append, split_get}
+use Rattle.numbering.proofs.Lists.{single}
 use Rattle.system_spec.specs.declared.part.Owned.{Owned}
 use Rattle.system_spec.specs.declared.part.PageTable.{PageTable}
 use Rattle.system_spec.specs.declared.part.Part.{Part}
@@ -54,10 +55,6 @@ told_numbered s xs bound few = record {
   where
     at : (j : ℕ) (p : Part) → slice_get (numbered s xs) j ≡ Some p → (x : Owned) × (slice_get xs j ≡ Some x) × (part s j x.owner x.what ≡ p)
     at j p e = from_ones (λ n (x : Owned). part s n x.owner x.what) xs j p e
-
-single : {X : Type 0} (x y : X) (i : ℕ) → slice_get (x ∷ []) i ≡ Some y → (i ≡ 0) × (x ≡ y)
-single x y zero e = (refl, cc)
-single x y (suc i) e = cc
 
 -- where the parts of connections stand, each of which has its connection's number
 pub record OfConnections (s : List Part) (name : Series) (count : ℕ) (sum : ℕ → ℕ) (j : ℕ) (p : Part) : Type 0 where

@@ -21,7 +21,6 @@ use Rattle.system_spec.specs.Tables.{Tables, arch, pages_at, threads_at, uses_at
 use Rattle.system_spec.specs.TablesFrom.{tables_from}
 use Rattle.vspace_layout.proofs.Counting.{length-region_part}
 use Rattle.vspace_layout.specs.declared.mapped.MappedPage.{MappedPage}
-use Rattle.vspace_layout.specs.declared.region.Region.{Region}
 use Rattle.vspace_layout.specs.declared.spaces.Page.{Page}
 use Rattle.vspace_layout.specs.declared.spaces.Space.{Space}
 use Rattle.vspace_layout.specs.declared.thread.ThreadOf.{ThreadOf}
@@ -30,6 +29,7 @@ use Rattle.vspace_layout.specs.Laid.{page, space, thread_place}
 use Rattle.vspace_layout.specs.MappedPages.{mapped_pages, region_part, section_part}
 use Rattle.vspace_layout.specs.PageLimits.{page_counts, table_counts, tables_needed}
 use Rattle.vspace_layout.specs.Regions.{pages_in, regions, stack_pages, thread_regions, threads_of, window_region, windows_of}
+use Rattle.vspace_layout.proofs.Fitting.{pages_append}
 use Rattle.spec_kept.specs.Limited.{IsLimited}
 use Rattle.spec_kept.specs.Sized.{IsSized, page_count, thread_count, use_count}
 use Rattle.spec_kept.proofs.Few.{all_tables_are}
@@ -40,16 +40,12 @@ use Rattle.spec_kept.proofs.Uses.{uses_are}
 
 -- ---- stacks
 
-in_append : (xs ys : List Region) → pages_in (xs ++ ys) ≡ pages_in xs + pages_in ys
-in_append [] ys = omega arith
-in_append (x ∷ xs) ys = let ih = in_append xs ys in omega (arith, ih)
-
 two_each : (settled : Settled) (ts : List ThreadOf) → ((x : ThreadOf) → IsIn x ts → 1 ≤ stack_pages settled x.leaf) → 2 * length ts ≤ pages_in (flat_map (thread_regions settled) ts)
 two_each settled [] h = omega arith
 two_each settled (x ∷ ts) h =
     let ih = two_each settled ts (λ y i. h y (inr i)) in
     let one = h x (inl refl) in
-    let both = in_append (thread_regions settled x) (flat_map (thread_regions settled) ts) in
+    let both = pages_append (thread_regions settled x) (flat_map (thread_regions settled) ts) in
     omega (arith, ih, one, both)
 
 module _ (source : Source) (flat : Flat) (settled : Settled) (images : Images) where
@@ -106,7 +102,7 @@ module _ (source : Source) (flat : Flat) (settled : Settled) (images : Images) w
       domain d x e =
           let same = threads_same d x e in
           let two = two_each settled (threads_of g d) (stacks d) in
-          let parts = in_append (flat_map (thread_regions settled) (threads_of g d)) (map (window_region flat settled) (windows_of g d)) in
+          let parts = pages_append (flat_map (thread_regions settled) (threads_of g d)) (map (window_region flat settled) (windows_of g d)) in
           let whole = length_append (section_part images (leaves_of flat d)) (region_part settled (base g) (regions g d)) in
           let region = length-region_part settled (base g) (regions g d) in
           omega (arith, same, two, parts, whole, region)

@@ -44,7 +44,7 @@ use Rattle.system_spec.specs.Parts.{page_mapping, page_rights, place, tables_at}
 use Rattle.system_spec.specs.Tables.{Tables, arch, pages_at}
 use Rattle.vspace_layout.specs.declared.spaces.Page.{Page}
 use Rattle.spec_kept.specs.Fit.{IsFit}
-use Rattle.spec_kept.proofs.There.{IsThere, object_there}
+use Rattle.system_spec.proofs.There.{IsThere, object_there}
 use Rattle.spec_kept.proofs.CapsFit.{all_pass, fits_as_of}
 
 -- ---- what tables are

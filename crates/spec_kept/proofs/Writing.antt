@@ -43,7 +43,7 @@ use Rattle.spec_kept.proofs.Lengths.{canonical_short, extra, holder_short, irq_s
 use Rattle.spec_kept.proofs.Lines.{lined}
 use Rattle.spec_kept.proofs.TablesKept.{as_long, from_tables, standing}
 use Rattle.spec_kept.proofs.Telling.{number_few}
-use Rattle.spec_kept.proofs.There.{there}
+use Rattle.system_spec.proofs.There.{there}
 use Rattle.spec_kept.proofs.Totals.{length_flat_map, length_gather, sum_map, total, total_add, total_const, total_each, total_map, total_most, total_times, totals, totals_const, totals_each}
 
 -- ---- how many lines

@@ -13,7 +13,7 @@ use Rattle.cap_model.specs.declared.cap.Cap.{Cap}
 use Rattle.cap_model.specs.declared.object.Object.TheVariants as objects
 use Rattle.numbering.specs.Gather.{before}
 use Rattle.numbering.proofs.Gathered.{from_place, in_right, place_of, split_get}
-use Rattle.numbering.proofs.Lists.{in_map}
+use Rattle.numbering.proofs.Lists.{below, in_map}
 use Rattle.system_spec.specs.declared.part.What.TheVariants.{FrameOf}
 use Rattle.system_spec.specs.Made.{spec_of}
 use Rattle.system_spec.specs.Parts.{place}
@@ -36,7 +36,6 @@ use Rattle.spec_laws.specs.Spaced.{IsAt, IsRegionPage, begins, root_of, system}
 use Rattle.spec_laws.proofs.Blocks.{as_long}
 use Rattle.spec_laws.proofs.Finding.{page_cap}
 use Rattle.spec_laws.proofs.Locks.{part_there}
-use Rattle.spec_laws.proofs.Members.{below}
 use Rattle.spec_laws.proofs.Owning.{own_of}
 use Rattle.spec_laws.proofs.Paging.{region_in}
 use Rattle.spec_laws.proofs.Rooted.{frames_from}

@@ -11,9 +11,9 @@ use Rattle.system_spec.specs.declared.map_line.MapLine.TheVariants.{DomainLine}
 use Rattle.system_spec.specs.MapLines.{domain_lines, domain_slots, domain_threads, domain_windows, map_lines, slot_line, slot_lines, thread_line, thread_lines, window_line, window_lines}
 use Rattle.system_spec.specs.Objects.{use_cap}
 use Rattle.system_spec.specs.Tables.{Tables, threads_at, uses_at, windows_at}
+use Rattle.system_spec.proofs.There.{single}
 use Rattle.vspace_layout.specs.declared.spaces.ThreadPlace.{ThreadPlace}
 use Rattle.vspace_layout.specs.declared.spaces.Window.{Window}
-use Rattle.spec_laws.proofs.SlotLists.{one}
 
 abbrev SaysDomain : MapLine → Type 0
 SaysDomain (DomainLine d) = Unit {0}
@@ -36,20 +36,20 @@ from_lines t l i s = elim (in_append l (domain_lines t) (thread_lines t ++ (slot
         let a = from_gather f l t.flat.domains j in
         let h : ℕ → ThreadPlace → List MapLine = λ n z. thread_line t a.0 n z ∷ [] in
         let b = from_gather h l (threads_at t a.0) a.3 in
-        absurd (subst SaysDomain (sym (one (thread_line t a.0 b.0 b.1) l b.3)) s)
+        absurd (subst SaysDomain (sym (single (thread_line t a.0 b.0 b.1) l b.3)) s)
     | inr q ↦ elim (in_append l (slot_lines t) (window_lines t) q) [
       | inl j ↦
           let f : ℕ → Domain → List MapLine = λ d x. domain_slots t d in
           let a = from_gather f l t.flat.domains j in
           let h : ℕ → SlotUse → List MapLine = λ n u. slot_line (use_cap t a.0 n u).object n u ∷ [] in
           let b = from_gather h l (uses_at t a.0) a.3 in
-          absurd (no_slot (use_cap t a.0 b.0 b.1).object b.0 b.1 (subst SaysDomain (sym (one (slot_line (use_cap t a.0 b.0 b.1).object b.0 b.1) l b.3)) s))
+          absurd (no_slot (use_cap t a.0 b.0 b.1).object b.0 b.1 (subst SaysDomain (sym (single (slot_line (use_cap t a.0 b.0 b.1).object b.0 b.1) l b.3)) s))
       | inr j ↦
           let f : ℕ → Domain → List MapLine = λ d x. domain_windows t d in
           let a = from_gather f l t.flat.domains j in
           let h : ℕ → Window → List MapLine = λ n w. window_line w ∷ [] in
           let b = from_gather h l (windows_at t a.0) a.3 in
-          absurd (subst SaysDomain (sym (one (window_line b.1) l b.3)) s)
+          absurd (subst SaysDomain (sym (single (window_line b.1) l b.3)) s)
     ]
   ]
 ]
@@ -58,7 +58,7 @@ pub domains_are : (t : Tables) (d : ℕ) → IsIn (DomainLine d) (map_lines t) �
 domains_are t d = (
   λ i. (
       let a = from_gather line (DomainLine d) t.flat.domains (from_lines t (DomainLine d) i tt) in
-      let same : DomainLine a.0 ≡ DomainLine d = one (DomainLine a.0) (DomainLine d) a.3 in
+      let same : DomainLine a.0 ≡ DomainLine d = single (DomainLine a.0) (DomainLine d) a.3 in
       let at : a.0 ≡ d = cc in
       let P : ℕ → Type 0 = λ z. (x : Domain) × (slice_get t.flat.domains z ≡ Some x) in
       subst P at (a.1, a.2)),

@@ -9,7 +9,7 @@ use Rattle.cap_model.specs.declared.level.Arch.TheVariants.{Arm11, Aarch64}
 use Rattle.cap_model.specs.declared.object.Object.{Object}
 use Rattle.numbering.specs.Gather.{IsIn, gather}
 use Rattle.numbering.proofs.Gathered.{from_gather, get_ones, in_append, in_gather, in_place, place_of}
-use Rattle.numbering.proofs.Lists.{from_map, in_map}
+use Rattle.numbering.proofs.Lists.{below, from_map, in_map}
 use Rattle.page_tables.specs.declared.mapping.Mapping.{Mapping}
 use Rattle.page_tables.specs.Shapes.{shapes}
 use Rattle.page_tables.specs.Walks.{Walk, root_span}
@@ -40,7 +40,7 @@ use Rattle.vspace_layout.proofs.Rising.{each_all, each_in, rising}
 use Rattle.vspace_layout.proofs.Sections.{sections_stand}
 use Rattle.spec_laws.specs.CanMap.{CanMap}
 use Rattle.spec_laws.specs.Spaced.{IsAt, IsRegionPage, begins, memory_rights, objects_from, root_of, system}
-use Rattle.spec_laws.proofs.Members.{below, from_range}
+use Rattle.spec_laws.proofs.Members.{from_range}
 use Rattle.spec_laws.proofs.Paging.{region_in}
 use Rattle.spec_laws.proofs.Rooted.{frames_from, from_root, tables_of_domain}
 
@@ -72,10 +72,10 @@ module _ (t : Tables) (can : CanMap t) (d : ℕ) (x : Domain) (h : slice_get t.f
   maps = map (page_mapping (frames_from t)) (pages_at t d)
 
   -- page n of the domain, and its mapping
-  abbrev laid_page : ℕ → MappedPage → Page
+  abbrev pub laid_page : ℕ → MappedPage → Page
   laid_page n p = page (system t) d n p
 
-  abbrev mapping : ℕ → MappedPage → Mapping
+  abbrev pub mapping : ℕ → MappedPage → Mapping
   mapping n p = page_mapping (frames_from t) (laid_page n p)
 
   pub pages_are : pages_at t d ≡ gather (λ n p. laid_page n p ∷ []) (mapped_pages (system t) d)
@@ -84,19 +84,19 @@ module _ (t : Tables) (can : CanMap t) (d : ℕ) (x : Domain) (h : slice_get t.f
       ap (λ (z : Spaces). option_map_or (λ (w : Space). w.pages) (slice_get z.spaces d) []) can.spaces
       ∙ ap (λ o. option_map_or (λ (w : Space). w.pages) o []) (get_ones f t.flat.domains d x h)
 
-  in_maps : (n : ℕ) (p : MappedPage) → slice_get (mapped_pages (system t) d) n ≡ Some p → IsIn (mapping n p) maps
+  pub in_maps : (n : ℕ) (p : MappedPage) → slice_get (mapped_pages (system t) d) n ≡ Some p → IsIn (mapping n p) maps
   in_maps n p e =
       let f : ℕ → MappedPage → List Page = λ n p. laid_page n p ∷ [] in
       let P : List Page → Type 0 = λ z. IsIn (laid_page n p) z in
       in_map (page_mapping (frames_from t)) (laid_page n p) (pages_at t d) (subst P (sym pages_are) (in_gather f (laid_page n p) (mapped_pages (system t) d) n p e (inl refl)))
 
-  record IsMapping (m : Mapping) : Type 0 where
-    number : ℕ
-    shown : MappedPage
-    here : slice_get (mapped_pages (system t) d) number ≡ Some shown
-    is : mapping number shown ≡ m
+  pub record IsMapping (m : Mapping) : Type 0 where
+    pub number : ℕ
+    pub shown : MappedPage
+    pub here : slice_get (mapped_pages (system t) d) number ≡ Some shown
+    pub is : mapping number shown ≡ m
 
-  from_maps : (m : Mapping) → IsIn m maps → IsMapping m
+  pub from_maps : (m : Mapping) → IsIn m maps → IsMapping m
   from_maps m i =
       let f : ℕ → MappedPage → List Page = λ n p. laid_page n p ∷ [] in
       let a = from_map (page_mapping (frames_from t)) m (pages_at t d) i in

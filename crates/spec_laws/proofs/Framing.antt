@@ -1,13 +1,10 @@
 -- The frame of each page that is mapped
 use Rattle.std.proofs.Common.{◌≡◌, ◌<◌, ◌+◌, ◌*◌, ◌/◌, ◌⊎◌, ℕ, zero, suc, Bool, true, false, ◌&&◌, List, [], ◌∷◌, get_or, length, Option, Some, None, refl, sym, ◌∙◌, ap, subst, inl, inr, arith}
-use Rattle.std.specs.List.{position, position_or_len, range_with_len, slice_get}
+use Rattle.std.specs.List.{position, range_with_len, slice_get}
 use Rattle.std.specs.Option.{option_and_then, option_map_or}
 use Rattle.std.specs.Prelude.{◌==◌}
-use Rattle.std.proofs.lemmas.Bool.{and_parts, cases_lt, eqb-true, eq-eqb}
-use Rattle.std.proofs.lemmas.Grind.{common_steps}
+use Rattle.std.proofs.lemmas.Bool.{and_parts, eqb-true, eq-eqb}
 use Rattle.std.proofs.lemmas.List.Quantifiers.{position-Some}
-use Rattle.std.proofs.lemmas.List.Sums.{fails_before_first}
-use Rattle.std.proofs.lemmas.Option.{get_or_from_slice_get}
 use Rattle.adl_ast.specs.declared.composition.Role.{Role}
 use Rattle.adl_meaning.specs.declared.connector.Connector.{Connector}
 use Rattle.adl_meaning.specs.declared.connector.Connector.TheVariants.{Rpc, Notification, SharedMemory, Mmio, Interrupt, Direct}
@@ -21,7 +18,7 @@ use Rattle.leaf_ends.specs.declared.end_at.EndAt.{EndAt}
 use Rattle.leaf_ends.specs.Lookups.{setting_of}
 use Rattle.numbering.specs.Gather.{IsIn}
 use Rattle.numbering.proofs.Gathered.{from_gather, get_ones, in_append, in_gather, in_place}
-use Rattle.numbering.proofs.Lists.{from_map}
+use Rattle.numbering.proofs.Lists.{below, from_map}
 use Rattle.program_sections.specs.ByAddress.{section_pages}
 use Rattle.system_spec.specs.declared.part.Owned.{Owned}
 use Rattle.system_spec.specs.declared.part.Part.{Part}
@@ -47,10 +44,11 @@ use Rattle.vspace_layout.specs.MappedPages.{mapped_pages, page_of, pages_of_regi
 use Rattle.vspace_layout.specs.Memory.{first_to, is_shared, is_to, leads_to, memory_pages, memory_paddr, memory_place, registers, registers_in, same_port, to_place}
 use Rattle.vspace_layout.specs.Regions.{is_window, regions}
 use Rattle.vspace_layout.proofs.Standing.{frames_stand}
+use Rattle.vspace_layout.proofs.MemoryNumbers.{position_found}
 use Rattle.spec_laws.specs.CanMap.{CanMap}
 use Rattle.spec_laws.specs.Framed.{OneDevice}
 use Rattle.spec_laws.specs.Spaced.{IsRegionPage, begins, system}
-use Rattle.spec_laws.proofs.Members.{below, from_range}
+use Rattle.spec_laws.proofs.Members.{from_range}
 use Rattle.spec_laws.proofs.Paging.{window_is, window_of}
 
 -- ---- frames as objects
@@ -65,17 +63,6 @@ frame_there t f info e =
     (objects_stand t).object p there ∙ ap (λ o. Some (option_map_or frame_object o Endpoint)) e
 
 -- ---- the first connection to registers
-
-first_hit : {X : Type 0} (p : X → Bool) (xs : List X) (k : ℕ) (x : X) → slice_get xs k ≡ Some x → p x ≡ true → (n : ℕ) × (position p xs ≡ Some n)
-first_hit p xs k x e h = elim (cases_lt (position_or_len p xs) (length xs)) [
-  | inl l ↦ (position_or_len p xs, grind (arith, common_steps))
-  | inr g ↦
-      let l = below xs k x e in
-      let no = fails_before_first p xs k x (omega (arith, l, g)) in
-      let same = get_or_from_slice_get xs k x x e in
-      let yes : p (get_or xs k x) ≡ true = ap p same ∙ h in
-      cc
-]
 
 -- the first connection to the registers of an end, which leads to the same dataport
 pub record FirstTo (t : Tables) (e : FlatEnd) : Type 0 where
@@ -103,7 +90,7 @@ own_port e = ap (λ b. b && (e.member == e.member)) (eq-eqb e.leaf e.leaf refl) 
 pub first_is : (t : Tables) (k : ℕ) (c : FlatConnection) (e : FlatEnd) → slice_get t.flat.connections k ≡ Some c → registers c ≡ Some e → FirstTo t e
 first_is t k c e h r =
     let cs = t.flat.connections in
-    let hit = first_hit (leads_to e) cs k c h (ap (λ o. option_map_or (same_port e) o false) r ∙ own_port e) in
+    let hit = position_found (leads_to e) cs k c h (ap (λ o. option_map_or (same_port e) o false) r ∙ own_port e) in
     let s = position-Some (leads_to e) cs hit.0 c hit.1 in
     let d = get_or cs hit.0 c in
     let p = of_port (registers d) e s.1 in

@@ -20,6 +20,7 @@ use Rattle.spec_laws.proofs.Regioning.{regions_are}
 use Rattle.spec_laws.proofs.Roots.{roots_are}
 use Rattle.spec_laws.proofs.Showing.{memory_frames}
 use Rattle.spec_laws.proofs.Spaces.{pages_are}
+use Rattle.spec_laws.proofs.Tabled.{tables_are}
 use Rattle.spec_laws.proofs.Threading.{threads_hold}
 
 as_many : {X Y Z : Type 0} (f : X → Y) (g : X → Z) (xs : List X) → length (map f xs) ≡ length (map g xs)
@@ -38,6 +39,7 @@ images_are t can slotted = record {
   pages = λ d x h. pages_are t can d x h;
   threads = threads_hold t can;
   regions = regions_are t can;
+  tables = tables_are t can;
   frames = record { memory = memory_frames t can; own = own_frames_are t can; all = all_frames t can };
   labels_are = record {
     as_many = as_many (part_label t) (entry t) (parts t);

@@ -14,6 +14,7 @@ use Rattle.cspace_layout.specs.declared.plan.SlotUse.{SlotUse}
 use Rattle.cspace_layout.specs.declared.plan.SlotUse.TheVariants.{OfEnd, Handler, OwnLock}
 use Rattle.numbering.specs.Gather.{IsIn}
 use Rattle.numbering.proofs.Gathered.{from_gather, in_place}
+use Rattle.numbering.proofs.Lists.{below, from_flat_map}
 use Rattle.system_spec.specs.declared.part.Owned.{Owned}
 use Rattle.system_spec.specs.declared.part.PageTable.{PageTable}
 use Rattle.system_spec.specs.declared.part.Part.{Part}
@@ -27,6 +28,7 @@ use Rattle.system_spec.specs.Parts.{all_tables, cnodes, domain_locks, domain_tcb
 use Rattle.system_spec.specs.Tables.{Tables, device_of, frame_owner, threads_at, uses_at}
 use Rattle.system_spec.proofs.Objects.{objects_stand, parts_are_there}
 use Rattle.system_spec.proofs.Standing.{place_is}
+use Rattle.system_spec.proofs.There.{single}
 use Rattle.vspace_layout.specs.declared.spaces.FrameInfo.{FrameInfo}
 use Rattle.vspace_layout.specs.declared.spaces.ThreadPlace.{ThreadPlace}
 use Rattle.spec_laws.specs.CanMap.{CanMap}
@@ -35,8 +37,7 @@ use Rattle.spec_laws.specs.Slotted.{IsIrqOf}
 use Rattle.spec_laws.proofs.Joints.{ntfn_number}
 use Rattle.spec_laws.proofs.Labels.{label_is}
 use Rattle.spec_laws.proofs.Locks.{part_there}
-use Rattle.spec_laws.proofs.Members.{below, from_flat}
-use Rattle.spec_laws.proofs.SlotLists.{one, some}
+use Rattle.spec_laws.proofs.SlotLists.{some}
 use Rattle.spec_laws.proofs.Whats.{IsTable, table_is}
 
 -- ---- which objects are interrupts
@@ -81,20 +82,20 @@ module _ (t : Tables) where
   in_numbered s xs p h i =
       let f : ℕ → Owned → List Part = λ n x. part s n x.owner x.what ∷ [] in
       let g = from_gather f p xs i in
-      subst (λ (z : Part). Fits z.owner z.what) (one (part s g.0 g.1.owner g.1.what) p g.3) (h g.1 (in_place g.1 xs g.0 g.2))
+      subst (λ (z : Part). Fits z.owner z.what) (single (part s g.0 g.1.owner g.1.what) p g.3) (h g.1 (in_place g.1 xs g.0 g.2))
 
   of_cnodes : (x : Owned) → IsIn x (cnodes t.flat.domains) → Fits x.owner x.what
   of_cnodes x i =
       let f : ℕ → Domain → List Owned = λ d z. owned (OfDomain d) (CNodeOf d) ∷ [] in
       let g = from_gather f x t.flat.domains i in
-      subst (λ (z : Owned). Fits z.owner z.what) (one (owned (OfDomain g.0) (CNodeOf g.0)) x g.3) tt
+      subst (λ (z : Owned). Fits z.owner z.what) (single (owned (OfDomain g.0) (CNodeOf g.0)) x g.3) tt
 
   of_tcbs : (x : Owned) → IsIn x (tcbs t) → Fits x.owner x.what
   of_tcbs x i =
       let g = from_gather (domain_tcbs t) x t.flat.domains i in
       let f : ℕ → ThreadPlace → List Owned = λ n z. owned (OfDomain g.0) (ThreadOf g.0 n) ∷ [] in
       let h = from_gather f x (threads_at t g.0) g.3 in
-      subst (λ (z : Owned). Fits z.owner z.what) (one (owned (OfDomain g.0) (ThreadOf g.0 h.0)) x h.3) tt
+      subst (λ (z : Owned). Fits z.owner z.what) (single (owned (OfDomain g.0) (ThreadOf g.0 h.0)) x h.3) tt
 
   of_locks : (x : Owned) → IsIn x (locks t) → Fits x.owner x.what
   of_locks x i =
@@ -105,7 +106,7 @@ module _ (t : Tables) where
       by_use : (d n : ℕ) (u : SlotUse) → IsIn x (lock d n u) → Fits x.owner x.what
       by_use d n (OfEnd k m) j = absurd j
       by_use d n (Handler k m) j = absurd j
-      by_use d n (OwnLock leaf m) j = subst (λ (z : Owned). Fits z.owner z.what) (one (owned (OfDomain d) (LockOf d n)) x j) tt
+      by_use d n (OwnLock leaf m) j = subst (λ (z : Owned). Fits z.owner z.what) (single (owned (OfDomain d) (LockOf d n)) x j) tt
 
   of_irqs : (x : Owned) → IsIn x (irqs t) → Fits x.owner x.what
   of_irqs x i =
@@ -113,7 +114,7 @@ module _ (t : Tables) where
       by_kind g.0 g.1 g.2 g.1.connector refl g.3
     where
       by_kind : (k : ℕ) (c : FlatConnection) → slice_get t.flat.connections k ≡ Some c → (m : Connector) → c.connector ≡ m → IsIn x (irq_by k (device_of c.connector c.ends) m) → Fits x.owner x.what
-      by_kind k c h Interrupt e j = subst (λ (z : Owned). Fits z.owner z.what) (one (owned (device_of c.connector c.ends) (IrqOf k)) x j) (record { connection = c; here = h; is = e; owner_is = refl })
+      by_kind k c h Interrupt e j = subst (λ (z : Owned). Fits z.owner z.what) (single (owned (device_of c.connector c.ends) (IrqOf k)) x j) (record { connection = c; here = h; is = e; owner_is = refl })
       by_kind k c h Rpc e j = absurd j
       by_kind k c h Notification e j = absurd j
       by_kind k c h SharedMemory e j = absurd j
@@ -124,19 +125,19 @@ module _ (t : Tables) where
   of_frames x i =
       let f : ℕ → FrameInfo → List Owned = λ n z. owned (frame_owner z.owner) (FrameOf n) ∷ [] in
       let g = from_gather f x t.spaces.frames i in
-      subst (λ (z : Owned). Fits z.owner z.what) (one (owned (frame_owner g.1.owner) (FrameOf g.0)) x g.3) tt
+      subst (λ (z : Owned). Fits z.owner z.what) (single (owned (frame_owner g.1.owner) (FrameOf g.0)) x g.3) tt
 
   in_tables : (p : Part) → IsIn p (table_parts (all_tables t)) → Fits p.owner p.what
   in_tables p i =
       let f : ℕ → PageTable → List Part = λ m x. table_part (all_tables t) m x ∷ [] in
       let g = from_gather f p (all_tables t) i in
-      subst (λ (z : Part). Fits z.owner z.what) (one (table_part (all_tables t) g.0 g.1) p g.3) tt
+      subst (λ (z : Part). Fits z.owner z.what) (single (table_part (all_tables t) g.0 g.1) p g.3) tt
 
   in_endpoints : (p : Part) → IsIn p (endpoints t) → Fits p.owner p.what
   in_endpoints p i = let g = from_gather endpoint p t.flat.connections i in by_kind g.0 g.1.connector g.3
     where
       by_kind : (k : ℕ) (c : Connector) → IsIn p (endpoint_by k c) → Fits p.owner p.what
-      by_kind k Rpc i = subst (λ (z : Part). Fits z.owner z.what) (one (part series.Ep k (OfConnection k) (EndpointOf k)) p i) tt
+      by_kind k Rpc i = subst (λ (z : Part). Fits z.owner z.what) (single (part series.Ep k (OfConnection k) (EndpointOf k)) p i) tt
       by_kind k Notification i = absurd i
       by_kind k SharedMemory i = absurd i
       by_kind k Mmio i = absurd i
@@ -147,8 +148,8 @@ module _ (t : Tables) where
   in_notifications p i = let g = from_gather notification p t.flat.connections i in by_kind g.0 g.1.connector g.3
     where
       by_kind : (k : ℕ) (c : Connector) → IsIn p (notification_by k c) → Fits p.owner p.what
-      by_kind k Notification i = subst (λ (z : Part). Fits z.owner z.what) (one (part series.Ntfn k (OfConnection k) (NotificationOf k)) p i) tt
-      by_kind k Interrupt i = subst (λ (z : Part). Fits z.owner z.what) (one (part series.Ntfn k (OfConnection k) (NotificationOf k)) p i) tt
+      by_kind k Notification i = subst (λ (z : Part). Fits z.owner z.what) (single (part series.Ntfn k (OfConnection k) (NotificationOf k)) p i) tt
+      by_kind k Interrupt i = subst (λ (z : Part). Fits z.owner z.what) (single (part series.Ntfn k (OfConnection k) (NotificationOf k)) p i) tt
       by_kind k Rpc i = absurd i
       by_kind k SharedMemory i = absurd i
       by_kind k Mmio i = absurd i
@@ -156,7 +157,7 @@ module _ (t : Tables) where
 
   fits : (p : Part) → IsIn p (parts t) → Fits p.owner p.what
   fits p i =
-      let s = from_flat (λ (z : List Part). z) p (sections t) i in
+      let s = from_flat_map (λ (z : List Part). z) p (sections t) i in
       let Q : List Part → Type 0 = λ z. IsIn p z in
       elim s.1 [
         | inl e ↦ in_numbered series.CNode (cnodes t.flat.domains) p of_cnodes (subst Q (sym e) s.2)

@@ -13,6 +13,7 @@ use Rattle.cap_model.specs.declared.spec.Entry.{Entry}
 use Rattle.cap_model.specs.Lookup.{entry_name}
 use Rattle.numbering.specs.Gather.{IsIn}
 use Rattle.numbering.proofs.Gathered.{from_gather, in_place}
+use Rattle.numbering.proofs.Lists.{below, from_flat_map}
 use Rattle.system_spec.specs.declared.part.Owned.{Owned}
 use Rattle.system_spec.specs.declared.part.PageTable.{PageTable}
 use Rattle.system_spec.specs.declared.part.Part.{Part}
@@ -24,13 +25,12 @@ use Rattle.system_spec.specs.Names.{level_series, name_of}
 use Rattle.system_spec.specs.Parts.{all_tables, endpoint, endpoint_by, endpoints, notification, notification_by, notifications, numbered, part, parts, sections, table_part, table_parts}
 use Rattle.system_spec.specs.Tables.{Tables}
 use Rattle.system_spec.proofs.Standing.{place_is}
+use Rattle.system_spec.proofs.There.{single}
 use Rattle.spec_laws.specs.CanMap.{CanMap}
 use Rattle.spec_laws.specs.Labelled.{IsOf}
 use Rattle.spec_laws.specs.Slotted.{IsNamed}
 use Rattle.spec_laws.proofs.Labels.{label_is}
-use Rattle.spec_laws.proofs.Locks.{get_of_map}
-use Rattle.spec_laws.proofs.Members.{below, from_flat}
-use Rattle.spec_laws.proofs.SlotLists.{one}
+use Rattle.vspace_layout.proofs.MemoryNumbers.{from_get_map}
 
 -- ---- which parts are named as endpoints and notifications
 
@@ -87,7 +87,7 @@ module _ (t : Tables) where
   in_numbered s xs p a b i =
       let f : ℕ → Owned → List Part = λ n x. part s n x.owner x.what ∷ [] in
       let g = from_gather f p xs i in
-      other p s (ap (λ (z : Part). z.series) (sym (one (part s g.0 g.1.owner g.1.what) p g.3))) a b
+      other p s (ap (λ (z : Part). z.series) (sym (single (part s g.0 g.1.owner g.1.what) p g.3))) a b
 
   no_level : (l : Level) → (level_series l ≡ series.Ep → ⊥) × (level_series l ≡ series.Ntfn → ⊥)
   no_level Global = (λ e. cc, λ e. cc)
@@ -100,7 +100,7 @@ module _ (t : Tables) where
       let f : ℕ → PageTable → List Part = λ m x. table_part (all_tables t) m x ∷ [] in
       let g = from_gather f p (all_tables t) i in
       let n = no_level g.1.level in
-      other p (level_series g.1.level) (ap (λ (z : Part). z.series) (sym (one (table_part (all_tables t) g.0 g.1) p g.3))) n.0 n.1
+      other p (level_series g.1.level) (ap (λ (z : Part). z.series) (sym (single (table_part (all_tables t) g.0 g.1) p g.3))) n.0 n.1
 
   in_endpoints : (p : Part) → IsIn p (endpoints t) → Fits p
   in_endpoints p i =
@@ -108,7 +108,7 @@ module _ (t : Tables) where
       by_kind g.0 (below t.flat.connections g.0 g.1 g.2) g.1.connector g.3
     where
       by_kind : (k : ℕ) → k < length t.flat.connections → (c : Connector) → IsIn p (endpoint_by k c) → Fits p
-      by_kind k l Rpc i = subst Fits (one (part series.Ep k (OfConnection k) (EndpointOf k)) p i) (record { ep = λ e. record { is = refl; low = l }; ntfn = λ e. record { is = refl; low = l } })
+      by_kind k l Rpc i = subst Fits (single (part series.Ep k (OfConnection k) (EndpointOf k)) p i) (record { ep = λ e. record { is = refl; low = l }; ntfn = λ e. record { is = refl; low = l } })
       by_kind k l Notification i = absurd i
       by_kind k l SharedMemory i = absurd i
       by_kind k l Mmio i = absurd i
@@ -124,8 +124,8 @@ module _ (t : Tables) where
       made k l = record { ep = λ e. record { is = refl; low = l }; ntfn = λ e. record { is = refl; low = l } }
 
       by_kind : (k : ℕ) → k < length t.flat.connections → (c : Connector) → IsIn p (notification_by k c) → Fits p
-      by_kind k l Notification i = subst Fits (one (part series.Ntfn k (OfConnection k) (NotificationOf k)) p i) (made k l)
-      by_kind k l Interrupt i = subst Fits (one (part series.Ntfn k (OfConnection k) (NotificationOf k)) p i) (made k l)
+      by_kind k l Notification i = subst Fits (single (part series.Ntfn k (OfConnection k) (NotificationOf k)) p i) (made k l)
+      by_kind k l Interrupt i = subst Fits (single (part series.Ntfn k (OfConnection k) (NotificationOf k)) p i) (made k l)
       by_kind k l Rpc i = absurd i
       by_kind k l SharedMemory i = absurd i
       by_kind k l Mmio i = absurd i
@@ -133,7 +133,7 @@ module _ (t : Tables) where
 
   fits : (p : Part) → IsIn p (parts t) → Fits p
   fits p i =
-      let s = from_flat (λ (z : List Part). z) p (sections t) i in
+      let s = from_flat_map (λ (z : List Part). z) p (sections t) i in
       let Q : List Part → Type 0 = λ z. IsIn p z in
       elim s.1 [
         | inl e ↦ in_numbered series.CNode _ p (λ f. cc) (λ f. cc) (subst Q (sym e) s.2)
@@ -167,7 +167,7 @@ module _ (t : Tables) where
     where
       by_entry : (o : Option Entry) → slice_get (map (entry t) (parts t)) at ≡ o → entry_name o ≡ name_of s n → (p : Part) × (slice_get (parts t) at ≡ Some p) × (part_name p ≡ name_of s n)
       by_entry None g k = let z : 0 ≡ first (name_of s n) = ap first k in absurd (omega (arith, l, z))
-      by_entry (Some e) g k = let p = get_of_map (entry t) (parts t) at e g in (p.0, p.1, ap (λ (z : Entry). z.name) p.2 ∙ k)
+      by_entry (Some e) g k = let p = from_get_map (entry t) (parts t) at e g in (p.0, p.1, ap (λ (z : Entry). z.name) p.2 ∙ k)
 
   labelled : (at : ℕ) (p : Part) → slice_get (parts t) at ≡ Some p → IsOf t (labels_of t) at p.owner
   labelled at p e = let P : ℕ → Type 0 = λ z. IsOf t (labels_of t) z p.owner in subst P (place_is t at p e) (label_is t p (in_place p (parts t) at e))

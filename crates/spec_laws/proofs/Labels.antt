@@ -14,7 +14,7 @@ use Rattle.cap_model.specs.Lookup.{object_at}
 use Rattle.leaf_ends.specs.declared.end_at.EndAt.{EndAt}
 use Rattle.numbering.specs.Gather.{IsIn}
 use Rattle.numbering.proofs.Gathered.{get_ones, in_gather}
-use Rattle.numbering.proofs.Lists.{get_map}
+use Rattle.numbering.proofs.Lists.{below, get_map}
 use Rattle.page_tables.specs.Shapes.{shapes}
 use Rattle.page_tables.specs.Walks.{root_span}
 use Rattle.system_spec.specs.declared.map_line.MapLine.TheVariants.{ThreadLine}
@@ -42,7 +42,6 @@ use Rattle.spec_laws.specs.Spaced.{IsAt, root_of, system}
 use Rattle.spec_laws.proofs.Finding.{found}
 use Rattle.spec_laws.proofs.Framing.{IsMemoryFrame, memory_frame}
 use Rattle.spec_laws.proofs.Locks.{slot_is}
-use Rattle.spec_laws.proofs.Members.{below}
 use Rattle.spec_laws.proofs.Owning.{no_memory}
 use Rattle.spec_laws.proofs.Rooted.{frames_from}
 use Rattle.spec_laws.proofs.Showing.{memory_shown}
@@ -54,7 +53,7 @@ use Rattle.spec_laws.proofs.Threads.{thread_part}
 pub label_is : (t : Tables) (p : Part) → IsIn p (parts t) → IsOf t (labels_of t) (place t p.what) p.owner
 label_is t p i = get_map (part_label t) (parts t) (place t p.what) p (stands t p i)
 
-moved : (t : Tables) (m n : ℕ) (o : Owner) → m ≡ n → IsOf t (labels_of t) m o → IsOf t (labels_of t) n o
+pub moved : (t : Tables) (m n : ℕ) (o : Owner) → m ≡ n → IsOf t (labels_of t) m o → IsOf t (labels_of t) n o
 moved t m n o e h = subst (λ z. IsOf t (labels_of t) z o) e h
 
 -- the part of a frame

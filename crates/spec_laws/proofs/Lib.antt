@@ -22,6 +22,7 @@ pub mod SlotLists
 pub mod Slots
 pub mod Slotting
 pub mod Spaces
+pub mod Tabled
 pub mod Threading
 pub mod Threads
 pub mod Whats

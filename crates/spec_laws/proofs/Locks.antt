@@ -25,6 +25,7 @@ use Rattle.page_tables.specs.declared.layer.Layer.{Layer}
 use Rattle.page_tables.specs.Levels.{layers, numbered as in_levels, sizes, table_of}
 use Rattle.page_tables.specs.Shapes.{shapes}
 use Rattle.vspace_layout.proofs.Rising.{Each, each_append}
+use Rattle.vspace_layout.proofs.MemoryNumbers.{from_get_map}
 use Rattle.system_spec.specs.declared.part.Owned.{Owned}
 use Rattle.system_spec.specs.declared.part.Part.{Part}
 use Rattle.system_spec.specs.declared.part.What.{What}
@@ -37,8 +38,9 @@ use Rattle.system_spec.specs.Parts.{domain_locks, lock, locks, numbered, owned, 
 use Rattle.system_spec.specs.Tables.{Tables, arch, device_of, pages_at, threads_at, uses_at}
 use Rattle.system_spec.proofs.Objects.{in_together, objects_stand}
 use Rattle.system_spec.proofs.Standing.{place_is, stands}
+use Rattle.system_spec.proofs.There.{single}
 use Rattle.spec_laws.specs.Slotted.{CanSlot, IsJoint, IsNamed, OwnLocks}
-use Rattle.spec_laws.proofs.SlotLists.{one, some}
+use Rattle.spec_laws.proofs.SlotLists.{some}
 use Rattle.spec_laws.proofs.Slotting.{cap_is, has_irq, of_handler, of_use as from_use, uses_are}
 
 -- ---- what is a CNode
@@ -55,7 +57,7 @@ no_table : (first link : ℕ) (ys : List Layer) → Each NoCNode (in_levels firs
 no_table first link [] = tt
 no_table first link (y ∷ ys) = each_append NoCNode (in_levels first (first + sizes ys) ys) (map (table_of y.shape link) y.tables) (no_table first (first + sizes ys) ys) (each_map NoCNode (table_of y.shape link) y.tables (λ r. tt))
 
-at_index : {X : Type 0} (P : X → Type 0) (xs : List X) (n : ℕ) (d : X) → Each P xs → P d → P (slice_index_or xs n d)
+pub at_index : {X : Type 0} (P : X → Type 0) (xs : List X) (n : ℕ) (d : X) → Each P xs → P d → P (slice_index_or xs n d)
 at_index P [] n d h k = k
 at_index P (x ∷ xs) zero d h k = h.0
 at_index P (x ∷ xs) (suc n) d h k = at_index P xs n d h.1 k
@@ -74,18 +76,13 @@ what_is t (IrqOf k) bits slots h = absurd (subst NoCNode h tt)
 what_is t (TableOf d j) bits slots h = absurd (subst NoCNode h (at_index NoCNode (tables_at t (place t (TableOf d 0)) (place t (FrameOf 0)) d) j objects.Endpoint (no_table (place t (TableOf d 0)) 0 (layers (shapes (arch t)) (map (page_mapping (place t (FrameOf 0))) (pages_at t d)))) tt))
 what_is t (FrameOf f) bits slots h = absurd (subst NoCNode h (by_option NoCNode frame_object (slice_get t.spaces.frames f) (λ x. tt) tt))
 
-pub get_of_map : {X Y : Type 0} (f : X → Y) (xs : List X) (i : ℕ) (y : Y) → slice_get (map f xs) i ≡ Some y → (x : X) × (slice_get xs i ≡ Some x) × (f x ≡ y)
-get_of_map f [] i y e = cc
-get_of_map f (x ∷ xs) zero y e = (x, refl, cc)
-get_of_map f (x ∷ xs) (suc i) y e = get_of_map f xs i y e
-
 pub part_there : (t : Tables) (m : ℕ) (o : Object) → object_at (spec_of t) m ≡ Some o → (p : Part) × (slice_get (parts t) m ≡ Some p) × (object t p.what ≡ o)
 part_there t m o h = by_entry (slice_get (map (entry t) (parts t)) m) refl h
   where
     by_entry : (e : Option Entry) → slice_get (map (entry t) (parts t)) m ≡ e → entry_object e ≡ Some o → (p : Part) × (slice_get (parts t) m ≡ Some p) × (object t p.what ≡ o)
     by_entry None f k = cc
     by_entry (Some e) f k =
-        let p = get_of_map (entry t) (parts t) m e f in
+        let p = from_get_map (entry t) (parts t) m e f in
         let same : e.object ≡ o = cc in
         (p.0, p.1, ap (λ (z : Entry). z.object) p.2 ∙ same)
 
@@ -185,7 +182,7 @@ module _ (t : Tables) (can : CanSlot t) where
       let f : ℕ → SlotUse → List (ℕ × Cap) = λ n u. (n + 1, use_cap t d n u) ∷ [] in
       let b = from_gather f (m, a) (uses_at t d) j in
       let mine : ℕ × Cap = (b.0 + 1, use_cap t d b.0 b.1) in
-      let eq : mine ≡ (m, a) = one mine (m, a) b.3 in
+      let eq : mine ≡ (m, a) = single mine (m, a) b.3 in
       let cap : use_cap t d b.0 b.1 ≡ a = ap (λ (z : ℕ × Cap). z.1) eq in
       let slot : b.0 + 1 ≡ m = ap (λ (z : ℕ × Cap). z.0) eq in
       let k = of_use d b.0 r x b.1 h b.2 (ap (λ (z : Cap). name_at spec z.object) cap ∙ name) in

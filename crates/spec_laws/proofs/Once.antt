@@ -3,7 +3,7 @@ use Rattle.std.proofs.Common.{◌≡◌, ℕ, zero, suc, List, [], ◌∷◌, �
 use Rattle.std.specs.List.{flat_map, slice_get}
 use Rattle.numbering.specs.Gather.{IsIn, gather}
 use Rattle.numbering.proofs.Gathered.{from_gather, in_place, place_of, split_get}
-use Rattle.spec_laws.proofs.Members.{from_flat}
+use Rattle.numbering.proofs.Lists.{from_flat_map}
 
 abbrev pub Once : {X : Type 0} → List X → Type 0
 Once {X} xs = (i j : ℕ) (x : X) → slice_get xs i ≡ Some x → slice_get xs j ≡ Some x → i ≡ j
@@ -51,7 +51,7 @@ once_flat f [] o a b = once_none
 once_flat {X} f (x ∷ xs) o a b =
     let P : X → Type 0 = λ z. IsIn z xs in
     once_append (f x) (flat_map f xs) (a x (inl refl)) (once_flat f xs (once_rest x xs o) (λ z i. a z (inr i)) b)
-    (λ y i j. let k = from_flat f y xs j in not_behind x xs o (subst P (sym (b x k.0 y i k.2)) k.1))
+    (λ y i j. let k = from_flat_map f y xs j in not_behind x xs o (subst P (sym (b x k.0 y i k.2)) k.1))
 
 pub once_cons : {X : Type 0} (x : X) (xs : List X) → Once xs → (IsIn x xs → ⊥) → Once (x ∷ xs)
 once_cons {X} x xs o n = once_append (x ∷ []) xs (once_one x) o (λ z i j. elim i [

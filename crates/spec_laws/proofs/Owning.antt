@@ -10,7 +10,7 @@ use Rattle.cap_model.specs.Lookup.{object_at}
 use Rattle.leaf_ends.specs.declared.end_at.EndAt.{EndAt}
 use Rattle.numbering.specs.Gather.{IsIn, before}
 use Rattle.numbering.proofs.Gathered.{in_left, in_place, place_of}
-use Rattle.numbering.proofs.Lists.{in_map}
+use Rattle.numbering.proofs.Lists.{below, in_map}
 use Rattle.page_tables.specs.Shapes.{shapes}
 use Rattle.page_tables.specs.Walks.{root_span}
 use Rattle.program_sections.specs.ByAddress.{section_pages}
@@ -37,7 +37,7 @@ use Rattle.spec_laws.specs.Spaced.{IsAt, IsRegionPage, IsSectionPage, begins, ro
 use Rattle.spec_laws.proofs.Blocks.{apart, inside}
 use Rattle.spec_laws.proofs.Finding.{Found, found}
 use Rattle.spec_laws.proofs.Framing.{frame_there, shows_at}
-use Rattle.spec_laws.proofs.Members.{below, whole}
+use Rattle.spec_laws.proofs.Members.{whole}
 use Rattle.spec_laws.proofs.Paging.{region_in, section_there}
 use Rattle.spec_laws.proofs.Rooted.{frames_from}
 use Rattle.spec_laws.proofs.Showing.{in_domain}

@@ -14,7 +14,7 @@ use Rattle.leaf_ends.specs.declared.end_at.EndAt.{EndAt}
 use Rattle.leaf_ends.specs.Lookups.{end_in, setting_of}
 use Rattle.numbering.specs.Gather.{IsIn}
 use Rattle.numbering.proofs.Gathered.{from_gather, in_append, in_gather, in_left, in_place, in_right, place_of}
-use Rattle.numbering.proofs.Lists.{from_map, in_map}
+use Rattle.numbering.proofs.Lists.{from_flat_map, from_map, in_flat_map, in_map}
 use Rattle.program_sections.specs.ByAddress.{by_address, name_of, page_at, pages_of, section_pages}
 use Rattle.program_sections.specs.Images.{Placed, image_number, is_run, placed, runs, sections_if, sections_of}
 use Rattle.program_sections.specs.SectionPages.{fill_of, page_count}
@@ -36,7 +36,7 @@ use Rattle.vspace_layout.specs.Regions.{end_window, is_window, leaf_windows, reg
 use Rattle.vspace_layout.specs.Threads.{ends_at}
 use Rattle.spec_laws.specs.CanMap.{AreSettled}
 use Rattle.spec_laws.specs.Spaced.{IsRegionPage, IsSectionPage, MapsPage, begins, system}
-use Rattle.spec_laws.proofs.Members.{from_flat, from_range, in_flat, in_range}
+use Rattle.spec_laws.proofs.Members.{from_range, in_range}
 
 -- ---- windows are of ends that see memory
 
@@ -72,8 +72,8 @@ window_end t e h = by_connection (slice_get t.flat.connections e.connection) ref
 
 pub window_is : (t : Tables) (d : ℕ) (e : EndAt) → IsIn e (windows_of (system t) d) → WindowEnd t e
 window_is t d e i =
-    let a = from_flat (leaf_windows t.flat (ends (system t))) e (leaves_of t.flat d) i in
-    let b = from_flat (end_window t.flat) e (ends_at (ends (system t)) a.0) a.2 in
+    let a = from_flat_map (leaf_windows t.flat (ends (system t))) e (leaves_of t.flat d) i in
+    let b = from_flat_map (end_window t.flat) e (ends_at (ends (system t)) a.0) a.2 in
     let s = shown_if (sees_memory t.flat b.0) b.0 e b.2 in
     let P : EndAt → Type 0 = λ z. sees_memory t.flat z ≡ true in
     window_end t e (subst P s.1 s.0)
@@ -82,7 +82,7 @@ window_is t d e i =
 pub window_of : (t : Tables) (d : ℕ) (r : Region) (e : EndAt) → IsIn r (regions (system t) d) → r.content ≡ Window e → IsIn e (windows_of (system t) d) × (window_region t.flat t.settled e ≡ r)
 window_of t d r e i c = elim (in_append r _ (map (window_region t.flat t.settled) (windows_of (system t) d)) i) [
   | inl j ↦
-      let a = from_flat (thread_regions t.settled) r (threads_of (system t) d) j in
+      let a = from_flat_map (thread_regions t.settled) r (threads_of (system t) d) j in
       elim a.2 [
         | inl s ↦ let f : Stack ≡ Window e = ap (λ (z : Region). z.content) s ∙ c in cc
         | inr h ↦ elim h [
@@ -104,7 +104,7 @@ module _ (t : Tables) (set : AreSettled t) where
   pub section_is : (d : ℕ) (q : SectionPage) → IsIn q (section_pages t.images (leaves_of t.flat d)) → IsSectionPage t d q.vaddr q.write q.fill
   section_is d q i =
       let all = sections_of t.images (leaves_of t.flat d) in
-      let x = from_flat (pages_of t.images) q (by_address all) i in
+      let x = from_flat_map (pages_of t.images) q (by_address all) i in
       let there = in_permutation all (by_address all) x.0 (order_moves all) x.1 in
       let c = comes_from t.images (leaves_of t.flat d) x.0 there in
       let r = run_by t.images (leaves_of t.flat d) x.0 there in
@@ -141,7 +141,7 @@ module _ (t : Tables) (set : AreSettled t) where
       let sorted = in_permutation (by_address all) all x (IsPermutation-sym all (by_address all) (order_moves all)) there in
       let q = page_at (name_of t.images m) s.section s.page in
       let page = in_map (page_at (name_of t.images m) s.section) s.page (range_with_len 0 (page_count s.section)) (in_range (page_count s.section) s.page s.within) in
-      (q, in_flat (pages_of t.images) q (by_address all) x sorted page, sym s.at, sym s.may_write, ap (λ z. fill_of z s.section s.page) (sym (name_is t.images m s.image s.runs.listed)) ∙ sym s.filled)
+      (q, in_flat_map (pages_of t.images) x q (by_address all) sorted page, sym s.at, sym s.may_write, ap (λ z. fill_of z s.section s.page) (sym (name_is t.images m s.image s.runs.listed)) ∙ sym s.filled)
 
   -- ---- pages of regions
 

@@ -27,6 +27,7 @@ use Rattle.system_spec.specs.MapLines.{domain_lines, domain_slots, domain_thread
 use Rattle.system_spec.specs.Objects.{cap, frame_at, tcb, use_cap}
 use Rattle.system_spec.specs.Parts.{place}
 use Rattle.system_spec.specs.Tables.{Tables, pages_at, threads_at, uses_at, windows_at}
+use Rattle.system_spec.proofs.There.{single}
 use Rattle.vspace_layout.specs.declared.mapped.MappedPage.{MappedPage}
 use Rattle.vspace_layout.specs.declared.region.Content.TheVariants.{Buffer}
 use Rattle.vspace_layout.specs.declared.region.Region.{Region}
@@ -49,12 +50,12 @@ use Rattle.spec_laws.specs.Spaced.{IsAt, IsRegionPage, begins, root_of, system}
 use Rattle.spec_laws.proofs.Finding.{pages_are, rise}
 use Rattle.spec_laws.proofs.Paging.{region_in, window_is}
 use Rattle.spec_laws.proofs.Rooted.{frames_from}
-use Rattle.spec_laws.proofs.SlotLists.{one, some}
+use Rattle.spec_laws.proofs.SlotLists.{some}
 use Rattle.spec_laws.proofs.Spaces.{is_at, rises_tell}
 use Rattle.spec_laws.proofs.Threading.{one_line}
 use Rattle.spec_laws.proofs.Threads.{has_thread, line_to, thread_object}
 
--- ---- what is found by a test that one alone passes
+-- ---- what is found by a test that single alone passes
 
 find_is : {X : Type 0} (p : X → Bool) (xs : List X) (n : ℕ) (x : X) → slice_get xs n ≡ Some x → p x ≡ true → ((m : ℕ) (y : X) → slice_get xs m ≡ Some y → p y ≡ true → y ≡ x) → find p xs ≡ Some x
 find_is p [] n x e h u = cc
@@ -205,7 +206,7 @@ module _ (t : Tables) (can : CanMap t) where
         here = e.1;
         connection = v.connection;
         of_connection = v.here;
-        is = sym (one (window_line b.1) line b.3) ∙ ap (λ z. window_line z) (sym e.2) ∙ said a.0 b.0 e.0 v.connection v.here;
+        is = sym (single (window_line b.1) line b.3) ∙ ap (λ z. window_line z) (sym e.2) ∙ said a.0 b.0 e.0 v.connection v.here;
       }
 
   no_slot : (o n : ℕ) (u : SlotUse) → SaysWindow (slot_line o n u) → ⊥
@@ -218,21 +219,21 @@ module _ (t : Tables) (can : CanMap t) where
     | inl j ↦
         let f : ℕ → Domain → List MapLine = λ d x. DomainLine d ∷ [] in
         let a = from_gather f line t.flat.domains j in
-        absurd (subst SaysWindow (sym (one (DomainLine a.0) line a.3)) s)
+        absurd (subst SaysWindow (sym (single (DomainLine a.0) line a.3)) s)
     | inr r ↦ elim (in_append line (thread_lines t) (slot_lines t ++ window_lines t) r) [
       | inl j ↦
           let f : ℕ → Domain → List MapLine = λ d x. domain_threads t d in
           let a = from_gather f line t.flat.domains j in
           let h : ℕ → ThreadPlace → List MapLine = λ n z. thread_line t a.0 n z ∷ [] in
           let b = from_gather h line (threads_at t a.0) a.3 in
-          absurd (subst SaysWindow (sym (one (thread_line t a.0 b.0 b.1) line b.3)) s)
+          absurd (subst SaysWindow (sym (single (thread_line t a.0 b.0 b.1) line b.3)) s)
       | inr q ↦ elim (in_append line (slot_lines t) (window_lines t) q) [
         | inl j ↦
             let f : ℕ → Domain → List MapLine = λ d x. domain_slots t d in
             let a = from_gather f line t.flat.domains j in
             let h : ℕ → SlotUse → List MapLine = λ n u. slot_line (use_cap t a.0 n u).object n u ∷ [] in
             let b = from_gather h line (uses_at t a.0) a.3 in
-            absurd (no_slot (use_cap t a.0 b.0 b.1).object b.0 b.1 (subst SaysWindow (sym (one (slot_line (use_cap t a.0 b.0 b.1).object b.0 b.1) line b.3)) s))
+            absurd (no_slot (use_cap t a.0 b.0 b.1).object b.0 b.1 (subst SaysWindow (sym (single (slot_line (use_cap t a.0 b.0 b.1).object b.0 b.1) line b.3)) s))
         | inr j ↦ window_from line j
       ]
     ]

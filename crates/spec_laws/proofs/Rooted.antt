@@ -7,7 +7,7 @@ use Rattle.cap_model.specs.declared.object.Object.TheVariants.{Endpoint}
 use Rattle.cap_model.specs.declared.spec.Entry.{Entry}
 use Rattle.numbering.specs.Gather.{IsIn, before}
 use Rattle.numbering.proofs.Gathered.{gathered, get_ones, in_gather}
-use Rattle.numbering.proofs.Lists.{at_place, get_map}
+use Rattle.numbering.proofs.Lists.{at_place, begins_with, below, get_drop, get_map}
 use Rattle.page_tables.specs.declared.mapping.Mapping.{Mapping}
 use Rattle.page_tables.specs.Counts.{table_count}
 use Rattle.page_tables.specs.Levels.{layers}
@@ -24,7 +24,7 @@ use Rattle.system_spec.proofs.Objects.{in_together}
 use Rattle.system_spec.proofs.Standing.{stands}
 use Rattle.vspace_layout.specs.declared.spaces.Page.{Page}
 use Rattle.spec_laws.specs.Spaced.{objects_from, root_of}
-use Rattle.spec_laws.proofs.Members.{begins_with, below, get_drop, index_is}
+use Rattle.spec_laws.proofs.Members.{index_is}
 
 -- frame 0
 abbrev pub frames_from : Tables → ℕ
@@ -38,7 +38,7 @@ at_of f [] = refl
 at_of f (p ∷ ps) = ap (λ z. p.vaddr ∷ z) (at_of f ps)
 
 -- how many there are is a matter of addresses
-count_of : (t : Tables) (first frames d : ℕ) → length (tables_at t first frames d) ≡ table_count (shapes (arch t)) (map (λ (p : Page). p.vaddr) (pages_at t d))
+pub count_of : (t : Tables) (first frames d : ℕ) → length (tables_at t first frames d) ≡ table_count (shapes (arch t)) (map (λ (p : Page). p.vaddr) (pages_at t d))
 count_of t first frames d =
     let xs = map (page_mapping frames) (pages_at t d) in
     as_many first 0 (layers (shapes (arch t)) xs) ∙ counts_of_addresses (arch t) xs ∙ ap (λ z. table_count (shapes (arch t)) z) (at_of frames (pages_at t d))

@@ -7,7 +7,7 @@ use Rattle.cap_model.specs.declared.object.Object.{Object}
 use Rattle.cap_model.specs.declared.object.Object.TheVariants.{Endpoint, Pages}
 use Rattle.cap_model.specs.Lookup.{name_at, object_at}
 use Rattle.numbering.specs.Gather.{IsIn, before}
-use Rattle.numbering.proofs.Lists.{from_map, in_map}
+use Rattle.numbering.proofs.Lists.{below, from_map, in_map}
 use Rattle.page_tables.specs.declared.mapping.Mapping.{Mapping}
 use Rattle.page_tables.specs.Shapes.{shapes}
 use Rattle.page_tables.specs.Walks.{root_span}
@@ -24,7 +24,7 @@ use Rattle.spec_laws.specs.CanMap.{CanMap}
 use Rattle.spec_laws.specs.Imaged.{AreRoots}
 use Rattle.spec_laws.specs.Spaced.{IsRootOf, root_of}
 use Rattle.spec_laws.proofs.Finding.{maps_below, some_map}
-use Rattle.spec_laws.proofs.Members.{below, index_is}
+use Rattle.spec_laws.proofs.Members.{index_is}
 use Rattle.spec_laws.proofs.Rooted.{frames_from, table_in, tables_of_domain}
 use Rattle.spec_laws.proofs.RootLevels.{Fine, count_each, first_table, one_in_domain, root_level, root_named, root_whole, take_before}
 use Rattle.spec_laws.proofs.SlotLists.{some}

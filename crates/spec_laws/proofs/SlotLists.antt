@@ -32,11 +32,7 @@ pub from_order : (y : ℕ × ℕ) (xs : List (ℕ × ℕ)) → IsIn y (by_number
 from_order y [] i = i
 from_order y (x ∷ xs) i = elim (from_put x y (by_number xs) i) [ inl e ↦ inl e | inr j ↦ inr (from_order y xs j) ]
 
--- ---- one thing
-
-pub one : {X : Type 0} (x y : X) → IsIn y (x ∷ []) → x ≡ y
-one x y (inl e) = e
-one x y (inr n) = absurd n
+-- ---- single thing
 
 pub some : {X : Type 0} (o : Option X) (a b : X) → o ≡ Some a → o ≡ Some b → a ≡ b
 some o a b e f = cc

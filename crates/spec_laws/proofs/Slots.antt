@@ -24,8 +24,9 @@ use Rattle.system_spec.specs.MapLines.{domain_lines, domain_slots, domain_thread
 use Rattle.system_spec.specs.Objects.{line_by, lines, slots_at, use_cap}
 use Rattle.system_spec.specs.Parts.{place}
 use Rattle.system_spec.specs.Tables.{Tables, irq_number, threads_at, uses_at, windows_at}
+use Rattle.system_spec.proofs.There.{single}
 use Rattle.spec_laws.specs.Slotted.{CanSlot, HasSlots, IsIrqOf, IsLineOf, IsSlotLine, IsUsed}
-use Rattle.spec_laws.proofs.SlotLists.{from_order, one, some}
+use Rattle.spec_laws.proofs.SlotLists.{from_order, some}
 use Rattle.spec_laws.proofs.Slotting.{cnode_object, irq_is, slotted, uses_are}
 
 module _ (t : Tables) (can : CanSlot t) where
@@ -43,7 +44,7 @@ module _ (t : Tables) (can : CanSlot t) where
       by_kind : (k : ℕ) (c : FlatConnection) → slice_get t.flat.connections k ≡ Some c → (m : Connector) → c.connector ≡ m → IsIn (n, at) (line_by t k c m) → (l : ℕ) × (d : FlatConnection) × (slice_get t.flat.connections l ≡ Some d) × (d.connector ≡ Interrupt) × IsIrqOf t spec l at
       by_kind k c h Interrupt e j =
           let line : ℕ × ℕ = (irq_number t.settled k c, place t (IrqOf k)) in
-          let same : line ≡ (n, at) = one line (n, at) j in
+          let same : line ≡ (n, at) = single line (n, at) j in
           (k, c, h, e, subst (IsIrqOf t spec k) (ap (λ (z : ℕ × ℕ). z.1) same) (irq_is t can k c h e))
       by_kind k c h Rpc e j = absurd j
       by_kind k c h Notifies e j = absurd j
@@ -85,7 +86,7 @@ module _ (t : Tables) (can : CanSlot t) where
   no_domain line i s =
       let f : ℕ → Domain → List MapLine = λ d x. DomainLine d ∷ [] in
       let a = from_gather f line t.flat.domains i in
-      subst IsSlotLine (sym (one (DomainLine a.0) line a.3)) s
+      subst IsSlotLine (sym (single (DomainLine a.0) line a.3)) s
 
   no_thread : (line : MapLine) → IsIn line (thread_lines t) → IsSlotLine line → ⊥
   no_thread line i s =
@@ -93,7 +94,7 @@ module _ (t : Tables) (can : CanSlot t) where
       let a = from_gather f line t.flat.domains i in
       let h : ℕ → ThreadPlace → List MapLine = λ i thread. thread_line t a.0 i thread ∷ [] in
       let b = from_gather h line (threads_at t a.0) a.3 in
-      subst IsSlotLine (sym (one (thread_line t a.0 b.0 b.1) line b.3)) s
+      subst IsSlotLine (sym (single (thread_line t a.0 b.0 b.1) line b.3)) s
 
   no_window : (line : MapLine) → IsIn line (window_lines t) → IsSlotLine line → ⊥
   no_window line i s =
@@ -101,7 +102,7 @@ module _ (t : Tables) (can : CanSlot t) where
       let a = from_gather f line t.flat.domains i in
       let h : ℕ → Window → List MapLine = λ j w. window_line w ∷ [] in
       let b = from_gather h line (windows_at t a.0) a.3 in
-      subst IsSlotLine (sym (one (window_line b.1) line b.3)) s
+      subst IsSlotLine (sym (single (window_line b.1) line b.3)) s
 
   map_only : (line : MapLine) → IsIn line (map_lines t) → IsSlotLine line → IsUsed t spec line
   map_only line i s = elim (in_append line (domain_lines t) (thread_lines t ++ (slot_lines t ++ window_lines t)) i) [
@@ -114,7 +115,7 @@ module _ (t : Tables) (can : CanSlot t) where
             let a = from_gather f line t.flat.domains l in
             let h : ℕ → SlotUse → List MapLine = λ n u. slot_line (use_cap t a.0 n u).object n u ∷ [] in
             let b = from_gather h line (uses_at t a.0) a.3 in
-            subst (IsUsed t spec) (one (slot_line (use_cap t a.0 b.0 b.1).object b.0 b.1) line b.3) (used a.0 a.1 b.0 b.1 a.2 b.2)
+            subst (IsUsed t spec) (single (slot_line (use_cap t a.0 b.0 b.1).object b.0 b.1) line b.3) (used a.0 a.1 b.0 b.1 a.2 b.2)
         | inr w ↦ absurd (no_window line w s)
       ]
     ]
@@ -132,7 +133,7 @@ module _ (t : Tables) (can : CanSlot t) where
       let P : List (ℕ × Cap) → Type 0 = λ z. IsIn (w.before + 1, w.cap) z in
       let a = from_gather f (w.before + 1, w.cap) (uses_at t d) (subst P same w.holds) in
       let slot : ℕ × Cap = (a.0 + 1, use_cap t d a.0 a.1) in
-      let eq : slot ≡ (w.before + 1, w.cap) = one slot (w.before + 1, w.cap) a.3 in
+      let eq : slot ≡ (w.before + 1, w.cap) = single slot (w.before + 1, w.cap) a.3 in
       let number : a.0 + 1 ≡ w.before + 1 = ap (λ (z : ℕ × Cap). z.0) eq in
       let at : a.0 ≡ w.before = omega (arith, number) in
       let mine : slice_get (uses_at t d) w.before ≡ Some w.used = ap (λ z. slice_get z w.before) (uses_are t can d w.leaves w.here) ∙ w.at in

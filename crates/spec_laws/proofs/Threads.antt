@@ -22,6 +22,7 @@ use Rattle.leaf_ends.specs.Lookups.{end_in, end_of}
 use Rattle.leaf_ends.specs.Members.{leaf_members}
 use Rattle.numbering.specs.Gather.{IsIn, gather}
 use Rattle.numbering.proofs.Gathered.{from_gather, from_ones, get_ones, in_append, in_gather, in_left, in_right, place_of}
+use Rattle.numbering.proofs.Lists.{from_flat_map, in_flat_map}
 use Rattle.system_spec.specs.declared.map_line.MapLine.{MapLine}
 use Rattle.system_spec.specs.declared.map_line.MapLine.TheVariants.{DomainLine, ThreadLine}
 use Rattle.system_spec.specs.declared.part.Owned.{Owned}
@@ -34,6 +35,7 @@ use Rattle.system_spec.specs.Objects.{tcb, use_cap}
 use Rattle.system_spec.specs.Parts.{domain_tcbs, numbered, owned, part, parts, place, sections, tcbs}
 use Rattle.system_spec.specs.Tables.{Tables, threads_at, uses_at, windows_at}
 use Rattle.system_spec.proofs.Objects.{in_together, objects_stand}
+use Rattle.system_spec.proofs.There.{single}
 use Rattle.vspace_layout.specs.declared.spaces.Space.{Space}
 use Rattle.vspace_layout.specs.declared.spaces.Spaces.{Spaces}
 use Rattle.vspace_layout.specs.declared.spaces.ThreadPlace.{ThreadPlace}
@@ -48,9 +50,7 @@ use Rattle.spec_laws.specs.Spaced.{system}
 use Rattle.spec_laws.specs.Threaded.{HasThread, Serves}
 use Rattle.spec_laws.proofs.EndsAt.{end_of_leaf, ends_are, in_leaf_ends, once_leaf}
 use Rattle.spec_laws.proofs.Once.{Once, once_cons, once_flat, once_none, once_one}
-use Rattle.spec_laws.proofs.Members.{from_flat, in_flat}
 use Rattle.spec_laws.proofs.Paging.{shown_if}
-use Rattle.spec_laws.proofs.SlotLists.{one}
 
 called : (c : Connector) (r : Role) → is_called c r ≡ true → (c ≡ Rpc) × (r ≡ To)
 called Rpc To h = (refl, refl)
@@ -84,12 +84,12 @@ module _ (t : Tables) (can : CanMap t) where
   leaf_of : (leaf : ℕ) (y : ThreadOf) → IsIn y (leaf_threads t.flat all leaf) → leaf ≡ y.leaf
   leaf_of leaf y (inl e) = ap (λ (z : ThreadOf). z.leaf) e
   leaf_of leaf y (inr i) =
-      let b = from_flat (server t.flat leaf) y (ends_at all leaf) i in
+      let b = from_flat_map (server t.flat leaf) y (ends_at all leaf) i in
       ap (λ (z : ThreadOf). z.leaf) (server_is leaf b.0 y b.2).1
 
   pub has_thread : (d : ℕ) (x : Domain) → slice_get t.flat.domains d ≡ Some x → (y : ThreadOf) → IsIn y (threads_of (system t) d) → HasThread t y.leaf y.end × IsIn y.leaf x.leaves
   has_thread d x h y i =
-      let a = from_flat (leaf_threads t.flat all) y (leaves_of t.flat d) i in
+      let a = from_flat_map (leaf_threads t.flat all) y (leaves_of t.flat d) i in
       let P : List ℕ → Type 0 = λ z. IsIn a.0 z in
       let l = subst P (leaves_are d x h) a.1 in
       let g = can.grouped.listed d a.0 x h l in
@@ -97,7 +97,7 @@ module _ (t : Tables) (can : CanMap t) where
       elim a.2 [
         | inl e ↦ subst Q e ((g.0, d, g.1, g.2), l)
         | inr j ↦
-            let b = from_flat (server t.flat a.0) y (ends_at all a.0) j in
+            let b = from_flat_map (server t.flat a.0) y (ends_at all a.0) j in
             let s = server_is a.0 b.0 y b.2 in
             let R : List EndAt → Type 0 = λ z. IsIn b.0 z in
             let m = end_of_leaf t a.0 b.0 (leaf_members t.source t.flat a.0) (subst R (ends_are t a.0 g.0 g.1) b.1) in
@@ -116,7 +116,7 @@ module _ (t : Tables) (can : CanMap t) where
   in_home leaf end found d h e i =
       let g = can.grouped.inside leaf d found h e in
       let P : List ℕ → Type 0 = λ z. IsIn leaf z in
-      record { domain = d; leaves = g.0; here = g.1; there = in_flat (leaf_threads t.flat all) (thread leaf end) (leaves_of t.flat d) leaf (subst P (sym (leaves_are d g.0 g.1)) g.2) i }
+      record { domain = d; leaves = g.0; here = g.1; there = in_flat_map (leaf_threads t.flat all) leaf (thread leaf end) (leaves_of t.flat d) (subst P (sym (leaves_are d g.0 g.1)) g.2) i }
 
   serving : (e : EndAt) (leaf : ℕ) (v : Serves t leaf e) → Home v.end.leaf (Some e)
   serving e leaf v =
@@ -130,7 +130,7 @@ module _ (t : Tables) (can : CanMap t) where
       let j = subst R (sym (ends_are t x.leaf w.0 w.2)) i in
       let yes : serves t.flat e ≡ true = serves_by t e c x v.here v.stands ∙ ap (λ z. is_called z x.role) v.is_rpc ∙ ap (λ z. is_called Rpc z) v.is_to in
       let P : Bool → Type 0 = λ b. IsIn (thread x.leaf (Some e)) (cond b (thread x.leaf (Some e) ∷ []) []) in
-      in_home x.leaf (Some e) w.0 w.1 w.2 w.3 (inr (in_flat (server t.flat x.leaf) (thread x.leaf (Some e)) (ends_at all x.leaf) e j (subst P (sym yes) (inl refl))))
+      in_home x.leaf (Some e) w.0 w.1 w.2 w.3 (inr (in_flat_map (server t.flat x.leaf) e (thread x.leaf (Some e)) (ends_at all x.leaf) j (subst P (sym yes) (inl refl))))
 
   pub at_home : (leaf : ℕ) (end : Option EndAt) → HasThread t leaf end → Home leaf end
   at_home leaf None h = in_home leaf None h.0 h.1 h.2 h.3 (inl refl)
@@ -164,7 +164,7 @@ module _ (t : Tables) (can : CanMap t) where
           let served = once_flat (server t.flat leaf) (ends_at all leaf) ends_once (λ e i. once_server leaf e) (λ e f y i j. (
           let q : Some e ≡ Some f = ap (λ (z : ThreadOf). z.end) ((server_is leaf e y i).1 ∙ sym (server_is leaf f y j).1) in cc)) in
           once_cons (thread leaf None) (flat_map (server t.flat leaf) (ends_at all leaf)) served
-          (λ i. let b = from_flat (server t.flat leaf) (thread leaf None) (ends_at all leaf) i in none leaf (thread leaf None) refl b.0 (server_is leaf b.0 (thread leaf None) b.2).1)
+          (λ i. let b = from_flat_map (server t.flat leaf) (thread leaf None) (ends_at all leaf) i in none leaf (thread leaf None) refl b.0 (server_is leaf b.0 (thread leaf None) b.2).1)
 
   -- ---- lines
 
@@ -214,7 +214,7 @@ module _ (t : Tables) (can : CanMap t) where
         leaf_is = ap (λ (z : ThreadPlace). z.leaf) y.2;
         end_is = ap (λ (z : ThreadPlace). z.end) y.2;
       } in
-      subst SaysThread (one (thread_line t a.0 b.0 b.1) line b.3) it
+      subst SaysThread (single (thread_line t a.0 b.0 b.1) line b.3) it
 
   abbrev IsThreadLine : MapLine → Type 0
   IsThreadLine (ThreadLine at leaf end) = Unit {0}
@@ -230,7 +230,7 @@ module _ (t : Tables) (can : CanMap t) where
     | inl j ↦
         let f : ℕ → Domain → List MapLine = λ d x. DomainLine d ∷ [] in
         let a = from_gather f line t.flat.domains j in
-        absurd (subst IsThreadLine (sym (one (DomainLine a.0) line a.3)) s)
+        absurd (subst IsThreadLine (sym (single (DomainLine a.0) line a.3)) s)
     | inr r ↦ elim (in_append line (thread_lines t) (slot_lines t ++ window_lines t) r) [
       | inl j ↦ thread_from line j
       | inr q ↦ elim (in_append line (slot_lines t) (window_lines t) q) [
@@ -239,13 +239,13 @@ module _ (t : Tables) (can : CanMap t) where
             let a = from_gather f line t.flat.domains j in
             let h : ℕ → SlotUse → List MapLine = λ n u. slot_line (use_cap t a.0 n u).object n u ∷ [] in
             let b = from_gather h line (uses_at t a.0) a.3 in
-            absurd (no_slot (use_cap t a.0 b.0 b.1).object b.0 b.1 (subst IsThreadLine (sym (one (slot_line (use_cap t a.0 b.0 b.1).object b.0 b.1) line b.3)) s))
+            absurd (no_slot (use_cap t a.0 b.0 b.1).object b.0 b.1 (subst IsThreadLine (sym (single (slot_line (use_cap t a.0 b.0 b.1).object b.0 b.1) line b.3)) s))
         | inr j ↦
             let f : ℕ → Domain → List MapLine = λ d x. domain_windows t d in
             let a = from_gather f line t.flat.domains j in
             let h : ℕ → Window → List MapLine = λ n w. window_line w ∷ [] in
             let b = from_gather h line (windows_at t a.0) a.3 in
-            absurd (subst IsThreadLine (sym (one (window_line b.1) line b.3)) s)
+            absurd (subst IsThreadLine (sym (single (window_line b.1) line b.3)) s)
       ]
     ]
   ]

@@ -1,8 +1,7 @@
 -- Which part an object is of
-use Rattle.std.proofs.Common.{◌≡◌, ◌+◌, ℕ, zero, suc, List, [], ◌∷◌, map, Option, Some, None, refl, subst}
+use Rattle.std.proofs.Common.{◌≡◌, ◌+◌, ℕ, List, [], ◌∷◌, map, Option, Some, None, refl, subst}
 use Rattle.std.specs.List.{slice_get}
 use Rattle.std.specs.Option.{option_map_or}
-use Rattle.std.specs.Prelude.{slice_index_or}
 use Rattle.cap_model.specs.declared.object.Fill.{Fill}
 use Rattle.cap_model.specs.declared.object.Object.{Object}
 use Rattle.cap_model.specs.declared.object.Object.TheVariants as objects
@@ -18,7 +17,7 @@ use Rattle.system_spec.specs.declared.part.What.TheVariants.{CNodeOf, ThreadOf, 
 use Rattle.system_spec.specs.Objects.{frame_object, object, tcb}
 use Rattle.system_spec.specs.Parts.{page_mapping, place, tables_at}
 use Rattle.system_spec.specs.Tables.{Tables, arch, pages_at, threads_at}
-use Rattle.spec_laws.proofs.Locks.{each_map}
+use Rattle.spec_laws.proofs.Locks.{at_index, each_map}
 
 abbrev pub IsTable : Object → Type 0
 IsTable (objects.Pages level slots) = Unit {0}
@@ -28,11 +27,6 @@ IsTable _ = ⊥
 tables_are : (first link : ℕ) (ys : List Layer) → Each IsTable (in_levels first link ys)
 tables_are first link [] = tt
 tables_are first link (y ∷ ys) = each_append IsTable (in_levels first (first + sizes ys) ys) (map (table_of y.shape link) y.tables) (tables_are first (first + sizes ys) ys) (each_map IsTable (table_of y.shape link) y.tables (λ r. tt))
-
-at_index : {X : Type 0} (P : X → Type 0) (xs : List X) (n : ℕ) (d : X) → Each P xs → P d → P (slice_index_or xs n d)
-at_index P [] n d h k = k
-at_index P (x ∷ xs) zero d h k = h.0
-at_index P (x ∷ xs) (suc n) d h k = at_index P xs n d h.1 k
 
 pub table_is : (t : Tables) (d j : ℕ) → IsTable (object t (TableOf d j))
 table_is t d j = at_index IsTable (tables_at t (place t (TableOf d 0)) (place t (FrameOf 0)) d) j objects.Endpoint (tables_are (place t (TableOf d 0)) 0 (layers (shapes (arch t)) (map (page_mapping (place t (FrameOf 0))) (pages_at t d)))) tt

@@ -1,6 +1,6 @@
 -- The images of a compiled system, told of its spec, the labels of its objects, and its map: its objects in their order, the
--- roots of its spaces, threads, regions, the pages that are mapped, frames, and labels. Addresses are sums, and what is mapped
--- is a set.
+-- roots of its spaces, threads, regions, the pages that are mapped, page tables, frames, and labels. Addresses are sums, and what
+-- is mapped is a set.
 use Rattle.std.specs.Prelude.{◌≡◌, ◌↔◌, ℕ, List, map, Some, slice_get}
 use Rattle.adl_meaning.specs.declared.flat.Domain.{Domain}
 use Rattle.auth_kinds.specs.declared.object_labels.Labels.{Labels}
@@ -22,6 +22,11 @@ pub record AreRoots (t : Tables) (spec : Spec) (root : ℕ → ℕ) : Type 0 whe
   pub each : (d : ℕ) (x : Domain) → slice_get t.flat.domains d ≡ Some x → IsRootOf spec d (root d)
   pub apart : (d e : ℕ) (x y : Domain) → slice_get t.flat.domains d ≡ Some x → slice_get t.flat.domains e ≡ Some y → root d ≡ root e → d ≡ e
 
+-- page tables: of each level those under which a page is mapped, with their domain's label
+pub record AreTables (t : Tables) (spec : Spec) (root : ℕ → ℕ) (labels : Labels) : Type 0 where
+  pub each : (d : ℕ) (x : Domain) → slice_get t.flat.domains d ≡ Some x → AreTablesOf t spec d (root d)
+  pub labels_are : AreTableLabels t spec root labels
+
 -- the spaces of the domains have these roots
 pub record AreImages (t : Tables) (spec : Spec) (root : ℕ → ℕ) (labels : Labels) (lines : List MapLine) : Type 0 where
   pub named : map (λ e. e.name) spec.entries ≡ map part_name (parts t)
@@ -30,10 +35,6 @@ pub record AreImages (t : Tables) (spec : Spec) (root : ℕ → ℕ) (labels : L
   pub pages : (d : ℕ) (x : Domain) → slice_get t.flat.domains d ≡ Some x → ArePagesOf t spec d (root d)
   pub threads : AreThreads t spec root lines
   pub regions : AreRegions t spec root lines
+  pub tables : AreTables t spec root labels
   pub frames : AreFrames t spec root
   pub labels_are : AreLabels t spec root labels lines
-
--- page tables: of each level those under which a page is mapped, with their domain's label
-pub record AreTables (t : Tables) (spec : Spec) (root : ℕ → ℕ) (labels : Labels) : Type 0 where
-  pub each : (d : ℕ) (x : Domain) → slice_get t.flat.domains d ≡ Some x → AreTablesOf t spec d (root d)
-  pub labels_are : AreTableLabels t spec root labels

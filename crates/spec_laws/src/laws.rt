@@ -5,7 +5,7 @@ ghost use Rattle.std.specs.Prelude.{◌≡◌, ◌↔◌, ℕ, Some, slice_get};
 ghost use Rattle.spec_laws.specs.CanMap.{CanMap};
 ghost use Rattle.spec_laws.specs.Spaced.{ArePagesOf, root_of};
 ghost use Rattle.spec_laws.specs.Framed.{AreAllMapped, AreMemoryFrames, AreOwnFrames};
-ghost use Rattle.spec_laws.specs.Imaged.{AreImages, AreRoots};
+ghost use Rattle.spec_laws.specs.Imaged.{AreImages, AreRoots, AreTables};
 ghost use Rattle.spec_laws.specs.Labelled.{AreDomainLabels, AreFrameLabels, AreJointLabels};
 ghost use Rattle.spec_laws.specs.Regioned.{AreRegions};
 ghost use Rattle.spec_laws.specs.Slotted.{AreSlots, CanSlot};
@@ -27,6 +27,11 @@ pub fn slots_are_those_of_the_system()
 /// that is mapped there, with its rights, and each of them stands at its addresses.
 pub fn pages_stand_where_they_are_mapped()
     ensures { (t : Tables) → CanMap t → (d : ℕ) (x : Domain) → slice_get t.flat.domains d ≡ Some x → ArePagesOf t (spec_of t) d (root_of t d) }
+{}
+
+/// A space has a table of a level for an address exactly where a page is mapped under it. Tables have their domain's label.
+pub fn tables_stand_where_pages_are_mapped()
+    ensures { (t : Tables) → CanMap t → AreTables t (spec_of t) (root_of t) (labels_of t) }
 {}
 
 /// Page k of a shared connection is one frame in all its windows, and page k of a device's registers is one frame, at its address.

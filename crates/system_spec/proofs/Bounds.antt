@@ -11,7 +11,7 @@ use Rattle.system_spec.specs.Few.{AreFew}
 use Rattle.system_spec.specs.Parts.{all_tables, cnodes, endpoints, first_of, frame_parts, irqs, locks, notifications, numbered, owned, part, table_part, table_parts, tcbs}
 use Rattle.system_spec.specs.Tables.{Tables, frame_owner}
 
-length-eight : {X : Type 0} (a b c d e f g h : List X) → length (a ++ (b ++ (c ++ (d ++ (e ++ (f ++ (g ++ (h ++ []))))))))
+pub length-eight : {X : Type 0} (a b c d e f g h : List X) → length (a ++ (b ++ (c ++ (d ++ (e ++ (f ++ (g ++ (h ++ []))))))))
     ≡ length a + (length b + (length c + (length d + (length e + (length f + (length g + (length h + 0)))))))
 length-eight a b c d e f g h =
     omega (
@@ -26,7 +26,7 @@ length-eight a b c d e f g h =
       length_append h [],
     )
 
-length-numbered : (s : Series) (xs : List Owned) → length (numbered s xs) ≡ length xs
+pub length-numbered : (s : Series) (xs : List Owned) → length (numbered s xs) ≡ length xs
 length-numbered s xs = gather_ones (λ n (x : Owned). part s n x.owner x.what) xs
 
 pub record Bounds (t : Tables) : Type 0 where

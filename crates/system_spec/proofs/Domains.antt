@@ -1,5 +1,5 @@
 -- What stands where in each domain, counted domain by domain
-use Rattle.std.proofs.Common.{◌≡◌, ◌<◌, ◌≤◌, ◌+◌, ◌^◌, ℕ, zero, suc, Bool, true, false, List, [], ◌∷◌, ◌++◌, length, map, take, get_or, refl, sym, ◌∙◌, ap, subst, Some, add-one, arith}
+use Rattle.std.proofs.Common.{◌≡◌, ◌<◌, ◌≤◌, ◌+◌, ◌^◌, ℕ, Bool, true, false, List, [], ◌∷◌, ◌++◌, length, map, take, get_or, refl, sym, ◌∙◌, ap, Some, add-one, arith}
 use Rattle.std.specs.List.{flat_map, slice_get}
 use Rattle.std.specs.Option.{option_map_or}
 use Rattle.adl_meaning.specs.declared.flat.Domain.{Domain}
@@ -8,22 +8,23 @@ use Rattle.cspace_layout.specs.declared.plan.SlotUse.{SlotUse}
 use Rattle.std.proofs.lemmas.List.{take_all}
 use Rattle.numbering.specs.Gather.{gather}
 use Rattle.numbering.proofs.Gathered.{gather_more, gather_ones, get_ones, length_append}
-use Rattle.numbering.proofs.Lists.{at_place}
+use Rattle.numbering.proofs.Lists.{at_place, taken_le}
 use Rattle.page_tables.specs.Levels.{layers}
 use Rattle.page_tables.specs.Shapes.{shapes}
 use Rattle.page_tables.specs.Counts.{table_count as count_of}
 use Rattle.page_tables.proofs.Counted.{counts_of_addresses}
 use Rattle.page_tables.proofs.Leveled.{as_many}
 use Rattle.vspace_layout.specs.declared.spaces.Page.{Page}
+use Rattle.vspace_layout.proofs.Few.{one_each}
 use Rattle.system_spec.specs.declared.landmarks.SpaceTables.{SpaceTables}
 use Rattle.system_spec.specs.declared.part.What.TheVariants.{LockOf, TableOf, FrameOf}
 use Rattle.system_spec.specs.Few.{AreFew, table_count}
 use Rattle.system_spec.specs.Landmarks.{all_spaces, objects_in, root_in, space_tables}
-use Rattle.system_spec.specs.Parts.{all_tables, domain_locks, domain_tables, first_of, level_of, lock, locks, page_mapping, page_table, place, tables_at}
+use Rattle.system_spec.specs.Parts.{domain_locks, domain_tables, first_of, level_of, lock, locks, page_mapping, page_table, place, tables_at}
 use Rattle.system_spec.specs.Places.{holds_lock, one}
 use Rattle.system_spec.specs.Tables.{Tables, arch, pages_at, uses_at}
 use Rattle.system_spec.proofs.Bounds.{ends}
-use Rattle.system_spec.proofs.Placing.{as_long, grown_length, length-lock, taken_le}
+use Rattle.system_spec.proofs.Placing.{as_long, grown_length, length-lock}
 
 -- lists one behind another are what each gives
 together_gather : {X : Type 0} (xs : List (List X)) → flat_map (λ x. x) xs ≡ gather (λ k (x : List X). x) xs
@@ -41,12 +42,6 @@ grown {X} {Y} F xs i n l h =
     let more = ap (λ (z : List Y). length z) (ap (λ k. gather F (take k xs)) (add-one i) ∙ gather_more F xs i at.0 at.1) in
     omega (arith, more, length_append (gather F (take i xs)) (F i at.0), h at.0)
 
-at_most : {X Y : Type 0} (F : ℕ → X → List Y) (xs : List X) → ((k : ℕ) (x : X) → length (F k x) ≤ 1) → length (gather F xs) ≤ length xs
-at_most F [] h = omega arith
-at_most F (x ∷ xs) h =
-    let G : ℕ → _ → List _ = λ k y. F (suc k) y in
-    omega (arith, h 0 x, at_most G xs (λ k y. h (suc k) y), length_append (F 0 x) (gather G xs))
-
 -- ---- locks
 
 one_at_most : (b : Bool) → one b ≤ 1
@@ -54,7 +49,7 @@ one_at_most true = omega arith
 one_at_most false = omega arith
 
 pub few_locks : (uses : List SlotUse) (i : ℕ) → length (gather (lock 0) (take i uses)) ≤ length uses
-few_locks uses i = omega (arith, taken_le (lock 0) uses i, at_most (lock 0) uses (λ k u. omega (arith, length-lock 0 k u, one_at_most (holds_lock u))))
+few_locks uses i = omega (arith, taken_le (lock 0) uses i, one_each (lock 0) uses (λ k u. omega (arith, length-lock 0 k u, one_at_most (holds_lock u))))
 
 pub count_turn : (uses : List SlotUse) (i n more : ℕ) (u : SlotUse) → i < length uses → u ≡ get_or uses i u → more ≡ one (holds_lock u) → n ≡ length (gather (lock 0) (take i uses)) → n + more ≡ length (gather (lock 0) (take (i + 1) uses))
 count_turn uses i n more u l is m e = omega (arith, m, e, grown_length (lock 0) uses i u l is, length-lock 0 i u)

@@ -7,7 +7,7 @@ use Rattle.arch_policy.specs.declared.owner.Owner.TheVariants.{OfDomain}
 use Rattle.cspace_layout.specs.declared.plan.SlotUse.{SlotUse}
 use Rattle.numbering.specs.Gather.{gather, before}
 use Rattle.numbering.proofs.Gathered.{gather_more, gather_ones, length_append}
-use Rattle.numbering.proofs.Lists.{at_place}
+use Rattle.numbering.proofs.Lists.{at_place, taken_le}
 use Rattle.vspace_layout.specs.declared.spaces.ThreadPlace.{ThreadPlace}
 use Rattle.system_spec.specs.declared.part.Owned.{Owned}
 use Rattle.system_spec.specs.declared.part.Part.{Part}
@@ -15,10 +15,9 @@ use Rattle.system_spec.specs.declared.part.What.TheVariants.{LockOf, ThreadOf}
 use Rattle.system_spec.specs.declared.series.Series.TheVariants as series
 use Rattle.system_spec.specs.Few.{AreFew}
 use Rattle.system_spec.specs.MapLines.{domain_threads, thread_lines_from}
-use Rattle.system_spec.specs.Parts.{all_tables, cnodes, domain_locks, domain_tcbs, endpoints, first_of, frame_parts, irqs, lock, locks, notifications, numbered, owned, part, parts, place, sections, table_parts, tcbs, together}
+use Rattle.system_spec.specs.Parts.{all_tables, cnodes, domain_locks, domain_tcbs, endpoints, first_of, frame_parts, irqs, lock, locks, notifications, numbered, owned, part, place, sections, table_parts, tcbs, together}
 use Rattle.system_spec.specs.Tables.{Tables, threads_at, uses_at}
 use Rattle.system_spec.proofs.Bounds.{ends}
-use Rattle.system_spec.proofs.Placing.{taken_le}
 
 none_before : {X Y : Type 0} (f : ℕ → X → List Y) (xs : List X) → before f xs 0 ≡ 0
 none_before f [] = refl

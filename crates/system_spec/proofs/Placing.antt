@@ -1,5 +1,5 @@
 -- Places as they are counted
-use Rattle.std.proofs.Common.{◌≡◌, ◌<◌, ◌≤◌, ◌+◌, ℕ, zero, suc, Bool, true, false, cond, List, [], ◌∷◌, ◌++◌, length, take, get_or, refl, sym, ◌∙◌, ap, subst, Some, add-one, arith}
+use Rattle.std.proofs.Common.{◌≡◌, ◌<◌, ◌≤◌, ◌+◌, ℕ, suc, Bool, true, false, cond, List, [], ◌∷◌, ◌++◌, length, take, get_or, refl, sym, ◌∙◌, ap, subst, Some, add-one, arith}
 use Rattle.std.specs.List.{slice_get}
 use Rattle.std.specs.Prelude.{slice_index}
 use Rattle.std.specs.Option.{option_map_or}
@@ -12,7 +12,7 @@ use Rattle.cspace_layout.specs.declared.plan.SlotUse.{SlotUse}
 use Rattle.cspace_layout.specs.declared.plan.SlotUse.TheVariants.{OfEnd, Handler, OwnLock}
 use Rattle.numbering.specs.Gather.{gather, before}
 use Rattle.numbering.proofs.Gathered.{gather_more, gather_same, gather_turn, get_ones, length_append}
-use Rattle.numbering.proofs.Lists.{at_place}
+use Rattle.numbering.proofs.Lists.{at_place, taken_le}
 use Rattle.system_spec.specs.declared.part.What.TheVariants.{EndpointOf, NotificationOf, LockOf, IrqOf}
 use Rattle.system_spec.specs.declared.places.Standing.{Standing}
 use Rattle.system_spec.specs.declared.places.Standing.TheVariants as standings
@@ -26,15 +26,6 @@ pub grown_length : {X Y : Type 0} (F : ℕ → X → List Y) (xs : List X) (i : 
 grown_length {X} {Y} F xs i x l is =
     let at : slice_get xs i ≡ Some x = slice_get_read xs (length xs) i x refl l is in
     ap (λ (z : List Y). length z) (ap (λ k. gather F (take k xs)) (add-one i) ∙ gather_more F xs i x at) ∙ length_append (gather F (take i xs)) (F i x)
-
--- what comes from the first elements is no more than what comes from all
-pub taken_le : {X Y : Type 0} (F : ℕ → X → List Y) (xs : List X) (i : ℕ) → length (gather F (take i xs)) ≤ length (gather F xs)
-taken_le F [] zero = omega arith
-taken_le F [] (suc i) = omega arith
-taken_le F (x ∷ xs) zero = omega arith
-taken_le F (x ∷ xs) (suc i) =
-    let G : ℕ → _ → List _ = λ k y. F (suc k) y in
-    omega (arith, taken_le G xs i, length_append (F 0 x) (gather G (take i xs)), length_append (F 0 x) (gather G xs))
 
 -- lists of one length at each element have one length
 pub as_long : {X Y Z : Type 0} (F : ℕ → X → List Y) (G : ℕ → X → List Z) (xs : List X) → ((k : ℕ) (x : X) → length (F k x) ≡ length (G k x)) → length (gather F xs) ≡ length (gather G xs)

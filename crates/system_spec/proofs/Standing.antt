@@ -11,6 +11,7 @@ use Rattle.cspace_layout.specs.declared.plan.SlotUse.{SlotUse}
 use Rattle.cspace_layout.specs.declared.plan.SlotUse.TheVariants.{OfEnd, Handler, OwnLock}
 use Rattle.numbering.specs.Gather.{IsIn, before}
 use Rattle.numbering.proofs.Gathered.{from_ones, from_place, get_behind, get_front, length_append, place_of, split_get}
+use Rattle.numbering.proofs.Lists.{single}
 use Rattle.vspace_layout.specs.declared.spaces.FrameInfo.{FrameInfo}
 use Rattle.vspace_layout.specs.declared.spaces.ThreadPlace.{ThreadPlace}
 use Rattle.system_spec.specs.declared.part.Owned.{Owned}
@@ -66,10 +67,6 @@ tcbs_stand t j x e =
     let o = from_ones f (threads_at t g.place) g.number x g.stands in
     let at : j ≡ before (domain_tcbs t) t.flat.domains g.place + g.number = g.sum in
     ap (λ (z : Owned). place t z.what) (sym o.2) ∙ omega (arith, at)
-
-pub single : {X : Type 0} (x y : X) (i : ℕ) → slice_get (x ∷ []) i ≡ Some y → (i ≡ 0) × (x ≡ y)
-single x y zero e = (refl, cc)
-single x y (suc i) e = cc
 
 endpoints_stand : (t : Tables) (j : ℕ) (p : Part) → slice_get (endpoints t) j ≡ Some p → place t p.what ≡ first_of t 2 + j
 endpoints_stand t j p e =

@@ -1,131 +1,306 @@
--- The domain or connection of each part is there
-use Rattle.std.proofs.Common.{◌≡◌, ◌<◌, ℕ, zero, suc, List, [], ◌∷◌, length, refl, sym, ◌∙◌, ap, subst, Some, arith}
+-- The parts of a system are of what there is: domains, threads, connections, locks, page tables and frames, each by its number.
+use Rattle.std.proofs.Common.{◌≡◌, ℕ, List, [], ◌∷◌, ◌++◌, refl, sym, ap, subst, inl, inr, ◌⊎◌, Some}
 use Rattle.std.specs.List.{slice_get}
+use Rattle.std.specs.Option.{option_map}
 use Rattle.std.proofs.lemmas.Option.{slice_get_within}
 use Rattle.adl_meaning.specs.declared.connector.Connector.{Connector}
 use Rattle.adl_meaning.specs.declared.connector.Connector.TheVariants.{Rpc, Notification, SharedMemory, Mmio, Interrupt, Direct}
 use Rattle.adl_meaning.specs.declared.flat.Domain.{Domain}
+use Rattle.adl_meaning.specs.declared.flat.FlatConnection.{FlatConnection}
 use Rattle.arch_policy.specs.declared.owner.Owner.{Owner}
 use Rattle.arch_policy.specs.declared.owner.Owner.TheVariants.{OfDomain, OfConnection}
 use Rattle.cap_model.specs.declared.object.Object.{Object}
+use Rattle.cap_model.specs.Kinds.{kind_at, kind_of_object}
+use Rattle.cap_model.specs.Lookup.{object_at}
 use Rattle.cspace_layout.specs.declared.plan.SlotUse.{SlotUse}
 use Rattle.cspace_layout.specs.declared.plan.SlotUse.TheVariants.{OfEnd, Handler, OwnLock}
-use Rattle.numbering.specs.Gather.{IsIn}
-use Rattle.numbering.proofs.Gathered.{from_ones, from_place, place_of}
-use Rattle.vspace_layout.specs.declared.spaces.FrameInfo.{FrameInfo}
-use Rattle.vspace_layout.specs.declared.spaces.ThreadPlace.{ThreadPlace}
+use Rattle.numbering.specs.Gather.{IsIn, gather}
+use Rattle.numbering.proofs.Gathered.{from_gather, from_ones, in_append, in_gather, in_place, place_of}
+use Rattle.system_spec.proofs.Objects.{in_together, objects_stand}
 use Rattle.system_spec.specs.declared.part.Owned.{Owned}
 use Rattle.system_spec.specs.declared.part.PageTable.{PageTable}
 use Rattle.system_spec.specs.declared.part.Part.{Part}
+use Rattle.system_spec.specs.declared.part.What.{What}
 use Rattle.system_spec.specs.declared.part.What.TheVariants.{CNodeOf, ThreadOf, EndpointOf, NotificationOf, LockOf, IrqOf, TableOf, FrameOf}
 use Rattle.system_spec.specs.declared.series.Series.{Series}
 use Rattle.system_spec.specs.declared.series.Series.TheVariants as series
-use Rattle.system_spec.specs.Landmarks.{IsThere}
-use Rattle.system_spec.specs.Parts.{all_tables, cnodes, domain_locks, domain_tables, domain_tcbs, endpoint, endpoint_by, endpoints, frame_parts, irq, irq_by, irqs, level_of, lock, locks, notification, notification_by, notifications, numbered, owned, page_table, part, parts, sections, table_part, table_parts, tables_at, tcbs}
+use Rattle.system_spec.specs.Made.{spec_of}
+use Rattle.system_spec.specs.Objects.{object}
+use Rattle.system_spec.specs.Parts.{all_tables, cnodes, domain_locks, domain_tables, domain_tcbs, endpoint, endpoint_by, endpoints, frame_parts, irq, irq_by, irqs, level_of, lock, locks, notification, notification_by, notifications, numbered, owned, page_table, part, parts, place, sections, table_part, table_parts, tables_at, tcbs}
 use Rattle.system_spec.specs.Tables.{Tables, device_of, frame_owner, threads_at, uses_at}
-use Rattle.system_spec.proofs.Standing.{from_sections, same, single}
+use Rattle.system_spec.specs.Landmarks.{IsThere as IsCounted}
+use Rattle.vspace_layout.specs.declared.spaces.FrameInfo.{FrameInfo}
+use Rattle.vspace_layout.specs.declared.spaces.ThreadPlace.{ThreadPlace}
 
--- parts of these items are there as they are
-of_items : (t : Tables) (s : Series) (xs : List Owned) → ((j : ℕ) (x : Owned) → slice_get xs j ≡ Some x → IsThere t x.what) → (j : ℕ) (p : Part) → slice_get (numbered s xs) j ≡ Some p → IsThere t p.what
-of_items t s xs h j p e =
-    let f : ℕ → Owned → Part = λ n x. part s n x.owner x.what in
-    let o = from_ones f xs j p e in
-    subst (λ (z : Part). IsThere t z.what) o.2 (h j o.0 o.1)
+-- ---- what there is
 
-cnodes_there : (t : Tables) (j : ℕ) (x : Owned) → slice_get (cnodes t.flat.domains) j ≡ Some x → IsThere t x.what
-cnodes_there t j x e =
-    let f : ℕ → Domain → Owned = λ d z. owned (OfDomain d) (CNodeOf d) in
-    let o = from_ones f t.flat.domains j x e in
-    let here : j < length t.flat.domains = slice_get_within t.flat.domains j o.0 o.1 in
-    subst (λ (z : Owned). IsThere t z.what) o.2 here
+abbrev pub IsDomain : Tables → ℕ → Type 0
+IsDomain t d = (x : Domain) × (slice_get t.flat.domains d ≡ Some x)
 
-tcbs_there : (t : Tables) (j : ℕ) (x : Owned) → slice_get (tcbs t) j ≡ Some x → IsThere t x.what
-tcbs_there t j x e =
-    let g = from_place (domain_tcbs t) t.flat.domains j x e in
-    let f : ℕ → ThreadPlace → Owned = λ i z. owned (OfDomain g.place) (ThreadOf g.place i) in
-    let o = from_ones f (threads_at t g.place) g.number x g.stands in
-    let here : g.place < length t.flat.domains = slice_get_within t.flat.domains g.place g.item g.here in
-    subst (λ (z : Owned). IsThere t z.what) o.2 here
+abbrev pub Notifies : Connector → Type 0
+Notifies c = (c ≡ Notification) ⊎ (c ≡ Interrupt)
 
-endpoints_there : (t : Tables) (j : ℕ) (p : Part) → slice_get (endpoints t) j ≡ Some p → IsThere t p.what
-endpoints_there t j p e =
-    let g = from_place endpoint t.flat.connections j p e in
-    by_kind g.item.connector g.place g.number g.stands
+abbrev pub IsThere : Tables → What → Type 0
+IsThere t (CNodeOf d) = IsDomain t d
+IsThere t (ThreadOf d i) = IsDomain t d × ((x : ThreadPlace) × (slice_get (threads_at t d) i ≡ Some x))
+IsThere t (EndpointOf k) = (c : FlatConnection) × (slice_get t.flat.connections k ≡ Some c) × (c.connector ≡ Rpc)
+IsThere t (NotificationOf k) = (c : FlatConnection) × (slice_get t.flat.connections k ≡ Some c) × Notifies c.connector
+IsThere t (LockOf d n) = IsDomain t d × ((leaf m : ℕ) × (slice_get (uses_at t d) n ≡ Some (OwnLock leaf m)))
+IsThere t (IrqOf k) = (c : FlatConnection) × (slice_get t.flat.connections k ≡ Some c) × (c.connector ≡ Interrupt)
+IsThere t (TableOf d j) = IsDomain t d × ((o : Object) × (slice_get (tables_at t 0 0 d) j ≡ Some o))
+IsThere t (FrameOf f) = (x : FrameInfo) × (slice_get t.spaces.frames f ≡ Some x)
+
+abbrev pub HasPart : Tables → What → Type 0
+HasPart t w = (p : Part) × IsIn p (parts t) × (p.what ≡ w)
+
+-- ---- numbered parts
+
+from_numbered : (s : Series) (xs : List Owned) (p : Part) → IsIn p (numbered s xs) → (x : Owned) × IsIn x xs × (p.what ≡ x.what)
+from_numbered s xs p i =
+    let n = place_of p (numbered s xs) i in
+    let o = from_ones (λ j (x : Owned). part s j x.owner x.what) xs n.0 p n.1 in
+    (o.0, in_place o.0 xs n.0 o.1, ap (λ (z : Part). z.what) (sym o.2))
+
+in_numbered : (s : Series) (xs : List Owned) (x : Owned) → IsIn x xs → (n : ℕ) × IsIn (part s n x.owner x.what) (numbered s xs)
+in_numbered s xs x i =
+    let n = place_of x xs i in
+    (n.0, in_gather (λ j (z : Owned). part s j z.owner z.what ∷ []) (part s n.0 x.owner x.what) xs n.0 x n.1 (inl refl))
+
+-- a numbered part of section n
+numbered_part : (t : Tables) (n : ℕ) (s : Series) (xs : List Owned) (x : Owned) → slice_get (sections t) n ≡ Some (numbered s xs) → IsIn x xs → HasPart t x.what
+numbered_part t n s xs x e i =
+    let m = in_numbered s xs x i in
+    (part s m.0 x.owner x.what, in_together (sections t) n (numbered s xs) (part s m.0 x.owner x.what) e m.1, refl)
+
+-- ---- there is a part of what there is
+
+has_endpoint : (t : Tables) (k : ℕ) (c : FlatConnection) → slice_get t.flat.connections k ≡ Some c → c.connector ≡ Rpc → HasPart t (EndpointOf k)
+has_endpoint t k c e r =
+    let p = part series.Ep k (OfConnection k) (EndpointOf k) in
+    let P : Connector → Type 0 = λ z. IsIn p (endpoint_by k z) in
+    (p, in_together (sections t) 2 (gather endpoint t.flat.connections) p refl (in_gather endpoint p t.flat.connections k c e (subst P (sym r) (inl refl))), refl)
+
+has_notification : (t : Tables) (k : ℕ) (c : FlatConnection) → slice_get t.flat.connections k ≡ Some c → Notifies c.connector → HasPart t (NotificationOf k)
+has_notification t k c e n =
+    let p = part series.Ntfn k (OfConnection k) (NotificationOf k) in
+    let P : Connector → Type 0 = λ z. IsIn p (notification_by k z) in
+    let here : IsIn p (notification_by k c.connector) = elim n [ inl r ↦ subst P (sym r) (inl refl) | inr r ↦ subst P (sym r) (inl refl) ] in
+    (p, in_together (sections t) 3 (gather notification t.flat.connections) p refl (in_gather notification p t.flat.connections k c e here), refl)
+
+has_lock : (t : Tables) (d n leaf m : ℕ) (x : Domain) → slice_get t.flat.domains d ≡ Some x → slice_get (uses_at t d) n ≡ Some (OwnLock leaf m) → HasPart t (LockOf d n)
+has_lock t d n leaf m x h u =
+    let o = owned (OfDomain d) (LockOf d n) in
+    let inner : IsIn o (domain_locks t d x) = in_gather (lock d) o (uses_at t d) n (OwnLock leaf m) u (inl refl) in
+    numbered_part t 4 series.Lock (locks t) o refl (in_gather (domain_locks t) o t.flat.domains d x h inner)
+
+has_irq : (t : Tables) (k : ℕ) (c : FlatConnection) → slice_get t.flat.connections k ≡ Some c → c.connector ≡ Interrupt → HasPart t (IrqOf k)
+has_irq t k c e i =
+    let o = owned (device_of c.connector c.ends) (IrqOf k) in
+    let P : Connector → Type 0 = λ z. IsIn o (irq_by k (device_of c.connector c.ends) z) in
+    numbered_part t 5 series.Irq (irqs t) o refl (in_gather irq o t.flat.connections k c e (subst P (sym i) (inl refl)))
+
+has_thread : (t : Tables) (d i : ℕ) (x : Domain) (y : ThreadPlace) → slice_get t.flat.domains d ≡ Some x → slice_get (threads_at t d) i ≡ Some y → HasPart t (ThreadOf d i)
+has_thread t d i x y h u =
+    let o = owned (OfDomain d) (ThreadOf d i) in
+    let f : ℕ → ThreadPlace → List Owned = λ n z. owned (OfDomain d) (ThreadOf d n) ∷ [] in
+    let inner : IsIn o (domain_tcbs t d x) = in_gather f o (threads_at t d) i y u (inl refl) in
+    numbered_part t 1 series.Tcb (tcbs t) o refl (in_gather (domain_tcbs t) o t.flat.domains d x h inner)
+
+has_cnode : (t : Tables) (d : ℕ) (x : Domain) → slice_get t.flat.domains d ≡ Some x → HasPart t (CNodeOf d)
+has_cnode t d x h =
+    let o = owned (OfDomain d) (CNodeOf d) in
+    let f : ℕ → Domain → List Owned = λ n z. owned (OfDomain n) (CNodeOf n) ∷ [] in
+    numbered_part t 0 series.CNode (cnodes t.flat.domains) o refl (in_gather f o t.flat.domains d x h (inl refl))
+
+has_frame : (t : Tables) (f : ℕ) (x : FrameInfo) → slice_get t.spaces.frames f ≡ Some x → HasPart t (FrameOf f)
+has_frame t f x h =
+    let o = owned (frame_owner x.owner) (FrameOf f) in
+    let g : ℕ → FrameInfo → List Owned = λ n z. owned (frame_owner z.owner) (FrameOf n) ∷ [] in
+    numbered_part t 7 series.Frame (frame_parts t.spaces.frames) o refl (in_gather g o t.spaces.frames f x h (inl refl))
+
+has_table : (t : Tables) (d j : ℕ) (x : Domain) (o : Object) → slice_get t.flat.domains d ≡ Some x → slice_get (tables_at t 0 0 d) j ≡ Some o → HasPart t (TableOf d j)
+has_table t d j x o h u =
+    let y = page_table d j (level_of o) in
+    let f : ℕ → Object → List PageTable = λ n z. page_table d n (level_of z) ∷ [] in
+    let g : ℕ → PageTable → List Part = λ m z. table_part (all_tables t) m z ∷ [] in
+    let inner : IsIn y (domain_tables t d x) = in_gather f y (tables_at t 0 0 d) j o u (inl refl) in
+    let n = place_of y (all_tables t) (in_gather (domain_tables t) y t.flat.domains d x h inner) in
+    let p = table_part (all_tables t) n.0 y in
+    (p, in_together (sections t) 6 (table_parts (all_tables t)) p refl (in_gather g p (all_tables t) n.0 y n.1 (inl refl)), refl)
+
+pub has_part : (t : Tables) (w : What) → IsThere t w → HasPart t w
+has_part t (CNodeOf d) h = has_cnode t d h.0 h.1
+has_part t (ThreadOf d i) h = has_thread t d i h.0.0 h.1.0 h.0.1 h.1.1
+has_part t (EndpointOf k) h = has_endpoint t k h.0 h.1 h.2
+has_part t (NotificationOf k) h = has_notification t k h.0 h.1 h.2
+has_part t (LockOf d n) h = has_lock t d n h.1.0 h.1.1 h.0.0 h.0.1 h.1.2
+has_part t (IrqOf k) h = has_irq t k h.0 h.1 h.2
+has_part t (TableOf d j) h = has_table t d j h.0.0 h.1.0 h.0.1 h.1.1
+has_part t (FrameOf f) h = has_frame t f h.0 h.1
+
+-- ---- its object stands at its place
+
+pub object_there : (t : Tables) (w : What) → IsThere t w → object_at (spec_of t) (place t w) ≡ Some (object t w)
+object_there t w h =
+    let p = has_part t w h in
+    let P : What → Type 0 = λ z. object_at (spec_of t) (place t z) ≡ Some (object t z) in
+    subst P p.2 ((objects_stand t).object p.0 p.1)
+
+pub kind_there : (t : Tables) (w : What) → IsThere t w → kind_at (spec_of t) (place t w) ≡ Some (kind_of_object (object t w))
+kind_there t w h = ap (λ o. option_map kind_of_object o) (object_there t w h)
+
+-- ---- parts are of what there is
+
+in_order : (t : Tables) (s : Series) (xs : List Owned) (p : Part) → ((x : Owned) → IsIn x xs → IsThere t x.what) → IsIn p (numbered s xs) → IsThere t p.what
+in_order t s xs p h i = let f = from_numbered s xs p i in subst (λ w. IsThere t w) (sym f.2) (h f.0 f.1)
+
+-- what stands in a list of one
+pub single : {X : Type 0} (x y : X) → IsIn y (x ∷ []) → x ≡ y
+single x y (inl e) = e
+single x y (inr i) = absurd i
+
+of_cnode : (t : Tables) (o : Owned) → IsIn o (cnodes t.flat.domains) → IsThere t o.what
+of_cnode t o i =
+    let f : ℕ → Domain → List Owned = λ n z. owned (OfDomain n) (CNodeOf n) ∷ [] in
+    let g = from_gather f o t.flat.domains i in
+    subst (λ (z : Owned). IsThere t z.what) (single (owned (OfDomain g.0) (CNodeOf g.0)) o g.3) (g.1, g.2)
+
+of_thread : (t : Tables) (o : Owned) → IsIn o (tcbs t) → IsThere t o.what
+of_thread t o i =
+    let g = from_gather (domain_tcbs t) o t.flat.domains i in
+    let f : ℕ → ThreadPlace → List Owned = λ n z. owned (OfDomain g.0) (ThreadOf g.0 n) ∷ [] in
+    let h = from_gather f o (threads_at t g.0) g.3 in
+    subst (λ (z : Owned). IsThere t z.what) (single (owned (OfDomain g.0) (ThreadOf g.0 h.0)) o h.3) ((g.1, g.2), (h.1, h.2))
+
+of_endpoint : (t : Tables) (p : Part) → IsIn p (endpoints t) → IsThere t p.what
+of_endpoint t p i =
+    let g = from_gather endpoint p t.flat.connections i in
+    by_kind g.1.connector g.0 g.3 (λ r. (g.1, g.2, r))
   where
-    by_kind : (c : Connector) (k i : ℕ) → slice_get (endpoint_by k c) i ≡ Some p → IsThere t p.what
-    by_kind Rpc k i h = subst (λ (z : Part). IsThere t z.what) (single (part _ k (OfConnection k) (EndpointOf k)) p i h).1 tt
-    by_kind Notification k i h = absurd cc
-    by_kind SharedMemory k i h = absurd cc
-    by_kind Mmio k i h = absurd cc
-    by_kind Interrupt k i h = absurd cc
-    by_kind Direct k i h = absurd cc
+    by_kind : (c : Connector) (k : ℕ) → IsIn p (endpoint_by k c) → (c ≡ Rpc → IsThere t (EndpointOf k)) → IsThere t p.what
+    by_kind Rpc k i h = subst (λ (z : Part). IsThere t z.what) (single (part series.Ep k (OfConnection k) (EndpointOf k)) p i) (h refl)
+    by_kind Notification k i h = absurd i
+    by_kind SharedMemory k i h = absurd i
+    by_kind Mmio k i h = absurd i
+    by_kind Interrupt k i h = absurd i
+    by_kind Direct k i h = absurd i
 
-notifications_there : (t : Tables) (j : ℕ) (p : Part) → slice_get (notifications t) j ≡ Some p → IsThere t p.what
-notifications_there t j p e =
-    let g = from_place notification t.flat.connections j p e in
-    by_kind g.item.connector g.place g.number g.stands
+of_notification : (t : Tables) (p : Part) → IsIn p (notifications t) → IsThere t p.what
+of_notification t p i =
+    let g = from_gather notification p t.flat.connections i in
+    by_kind g.1.connector g.0 g.3 (λ r. (g.1, g.2, r))
   where
-    by_kind : (c : Connector) (k i : ℕ) → slice_get (notification_by k c) i ≡ Some p → IsThere t p.what
-    by_kind Notification k i h = subst (λ (z : Part). IsThere t z.what) (single (part _ k (OfConnection k) (NotificationOf k)) p i h).1 tt
-    by_kind Interrupt k i h = subst (λ (z : Part). IsThere t z.what) (single (part _ k (OfConnection k) (NotificationOf k)) p i h).1 tt
-    by_kind Rpc k i h = absurd cc
-    by_kind SharedMemory k i h = absurd cc
-    by_kind Mmio k i h = absurd cc
-    by_kind Direct k i h = absurd cc
+    by_kind : (c : Connector) (k : ℕ) → IsIn p (notification_by k c) → (Notifies c → IsThere t (NotificationOf k)) → IsThere t p.what
+    by_kind Notification k i h = subst (λ (z : Part). IsThere t z.what) (single (part series.Ntfn k (OfConnection k) (NotificationOf k)) p i) (h (inl refl))
+    by_kind Interrupt k i h = subst (λ (z : Part). IsThere t z.what) (single (part series.Ntfn k (OfConnection k) (NotificationOf k)) p i) (h (inr refl))
+    by_kind Rpc k i h = absurd i
+    by_kind SharedMemory k i h = absurd i
+    by_kind Mmio k i h = absurd i
+    by_kind Direct k i h = absurd i
 
-locks_there : (t : Tables) (j : ℕ) (x : Owned) → slice_get (locks t) j ≡ Some x → IsThere t x.what
-locks_there t j x e =
-    let g = from_place (domain_locks t) t.flat.domains j x e in
-    let u = from_place (lock g.place) (uses_at t g.place) g.number x g.stands in
-    by_use u.item g.place u.place u.number u.stands
+of_lock : (t : Tables) (o : Owned) → IsIn o (locks t) → IsThere t o.what
+of_lock t o i =
+    let g = from_gather (domain_locks t) o t.flat.domains i in
+    let u = from_gather (lock g.0) o (uses_at t g.0) g.3 in
+    by_use u.1 g.0 u.0 u.3 (g.1, g.2) u.2
   where
-    by_use : (u : SlotUse) (d n m : ℕ) → slice_get (lock d n u) m ≡ Some x → IsThere t x.what
-    by_use (OfEnd k l) d n m h = absurd cc
-    by_use (Handler k l) d n m h = absurd cc
-    by_use (OwnLock leaf l) d n m h = subst (λ (z : Owned). IsThere t z.what) (single (owned (OfDomain d) (LockOf d n)) x m h).1 tt
+    by_use : (u : SlotUse) (d n : ℕ) → IsIn o (lock d n u) → IsDomain t d → slice_get (uses_at t d) n ≡ Some u → IsThere t o.what
+    by_use (OfEnd k l) d n i x h = absurd i
+    by_use (Handler k l) d n i x h = absurd i
+    by_use (OwnLock leaf l) d n i x h = subst (λ (z : Owned). IsThere t z.what) (single (owned (OfDomain d) (LockOf d n)) o i) (x, (leaf, l, h))
 
-irqs_there : (t : Tables) (j : ℕ) (x : Owned) → slice_get (irqs t) j ≡ Some x → IsThere t x.what
-irqs_there t j x e =
-    let g = from_place irq t.flat.connections j x e in
-    by_kind g.item.connector g.place (device_of g.item.connector g.item.ends) g.number g.stands (slice_get_within t.flat.connections g.place g.item g.here)
+of_irq : (t : Tables) (o : Owned) → IsIn o (irqs t) → IsThere t o.what
+of_irq t o i =
+    let g = from_gather irq o t.flat.connections i in
+    by_kind g.1.connector g.0 (device_of g.1.connector g.1.ends) g.3 (λ r. (g.1, g.2, r))
   where
-    by_kind : (c : Connector) (k : ℕ) (o : Owner) (i : ℕ) → slice_get (irq_by k o c) i ≡ Some x → k < length t.flat.connections → IsThere t x.what
-    by_kind Interrupt k o i h l = subst (λ (z : Owned). IsThere t z.what) (single (owned o (IrqOf k)) x i h).1 l
-    by_kind Rpc k o i h l = absurd cc
-    by_kind Notification k o i h l = absurd cc
-    by_kind SharedMemory k o i h l = absurd cc
-    by_kind Mmio k o i h l = absurd cc
-    by_kind Direct k o i h l = absurd cc
+    by_kind : (c : Connector) (k : ℕ) (w : Owner) → IsIn o (irq_by k w c) → (c ≡ Interrupt → IsThere t (IrqOf k)) → IsThere t o.what
+    by_kind Interrupt k w i h = subst (λ (z : Owned). IsThere t z.what) (single (owned w (IrqOf k)) o i) (h refl)
+    by_kind Rpc k w i h = absurd i
+    by_kind Notification k w i h = absurd i
+    by_kind SharedMemory k w i h = absurd i
+    by_kind Mmio k w i h = absurd i
+    by_kind Direct k w i h = absurd i
 
-tables_there : (t : Tables) (j : ℕ) (p : Part) → slice_get (table_parts (all_tables t)) j ≡ Some p → IsThere t p.what
-tables_there t j p e =
-    let f : ℕ → PageTable → Part = λ m x. table_part (all_tables t) m x in
-    let o = from_ones f (all_tables t) j p e in
-    let g = from_place (domain_tables t) t.flat.domains j o.0 o.1 in
-    let h : ℕ → Object → PageTable = λ i z. page_table g.place i (level_of z) in
-    let q = from_ones h (tables_at t 0 0 g.place) g.number o.0 g.stands in
-    let here : g.place < length t.flat.domains = slice_get_within t.flat.domains g.place g.item g.here in
-    subst (λ (z : Part). IsThere t z.what) o.2 (subst (λ (z : PageTable). z.domain < length t.flat.domains) q.2 here)
+of_table : (t : Tables) (p : Part) → IsIn p (table_parts (all_tables t)) → IsThere t p.what
+of_table t p i =
+    let f : ℕ → PageTable → List Part = λ m z. table_part (all_tables t) m z ∷ [] in
+    let g = from_gather f p (all_tables t) i in
+    let d = from_gather (domain_tables t) g.1 t.flat.domains (in_place g.1 (all_tables t) g.0 g.2) in
+    let h : ℕ → Object → List PageTable = λ n z. page_table d.0 n (level_of z) ∷ [] in
+    let o = from_gather h g.1 (tables_at t 0 0 d.0) d.3 in
+    let there : IsThere t (TableOf d.0 o.0) = ((d.1, d.2), (o.1, o.2)) in
+    let here : IsThere t (TableOf g.1.domain g.1.place) = subst (λ (z : PageTable). IsThere t (TableOf z.domain z.place)) {x = page_table d.0 o.0 (level_of o.1)} (single (page_table d.0 o.0 (level_of o.1)) g.1 o.3) there in
+    subst (λ (z : Part). IsThere t z.what) {x = table_part (all_tables t) g.0 g.1} (single (table_part (all_tables t) g.0 g.1) p g.3) here
 
-frames_there : (t : Tables) (j : ℕ) (x : Owned) → slice_get (frame_parts t.spaces.frames) j ≡ Some x → IsThere t x.what
-frames_there t j x e =
-    let f : ℕ → FrameInfo → Owned = λ i z. owned (frame_owner z.owner) (FrameOf i) in
-    let o = from_ones f t.spaces.frames j x e in
-    subst (λ (z : Owned). IsThere t z.what) o.2 tt
+of_frame : (t : Tables) (o : Owned) → IsIn o (frame_parts t.spaces.frames) → IsThere t o.what
+of_frame t o i =
+    let f : ℕ → FrameInfo → List Owned = λ n z. owned (frame_owner z.owner) (FrameOf n) ∷ [] in
+    let g = from_gather f o t.spaces.frames i in
+    subst (λ (z : Owned). IsThere t z.what) (single (owned (frame_owner g.1.owner) (FrameOf g.0)) o g.3) (g.1, g.2)
 
-by_section : (t : Tables) (n : ℕ) (s : List Part) (j : ℕ) (p : Part) → slice_get (sections t) n ≡ Some s → slice_get s j ≡ Some p → IsThere t p.what
-by_section t zero s j p a e = of_items t series.CNode (cnodes t.flat.domains) (cnodes_there t) j p (subst (λ (z : List Part). slice_get z j ≡ Some p) (same (numbered series.CNode (cnodes t.flat.domains)) s a) e)
-by_section t (suc zero) s j p a e = of_items t series.Tcb (tcbs t) (tcbs_there t) j p (subst (λ (z : List Part). slice_get z j ≡ Some p) (same (numbered series.Tcb (tcbs t)) s a) e)
-by_section t (suc (suc zero)) s j p a e = endpoints_there t j p (subst (λ (z : List Part). slice_get z j ≡ Some p) (same (endpoints t) s a) e)
-by_section t (suc (suc (suc zero))) s j p a e = notifications_there t j p (subst (λ (z : List Part). slice_get z j ≡ Some p) (same (notifications t) s a) e)
-by_section t (suc (suc (suc (suc zero)))) s j p a e = of_items t series.Lock (locks t) (locks_there t) j p (subst (λ (z : List Part). slice_get z j ≡ Some p) (same (numbered series.Lock (locks t)) s a) e)
-by_section t (suc (suc (suc (suc (suc zero))))) s j p a e = of_items t series.Irq (irqs t) (irqs_there t) j p (subst (λ (z : List Part). slice_get z j ≡ Some p) (same (numbered series.Irq (irqs t)) s a) e)
-by_section t (suc (suc (suc (suc (suc (suc zero)))))) s j p a e = tables_there t j p (subst (λ (z : List Part). slice_get z j ≡ Some p) (same (table_parts (all_tables t)) s a) e)
-by_section t (suc (suc (suc (suc (suc (suc (suc zero))))))) s j p a e = of_items t series.Frame (frame_parts t.spaces.frames) (frames_there t) j p (subst (λ (z : List Part). slice_get z j ≡ Some p) (same (numbered series.Frame (frame_parts t.spaces.frames)) s a) e)
-by_section t (suc (suc (suc (suc (suc (suc (suc (suc n)))))))) s j p a e = absurd cc
+-- whatever holds of the parts of each section holds of each part
+pub by_section : (t : Tables) (P : Part → Type 0)
+    → ((p : Part) → IsIn p (numbered series.CNode (cnodes t.flat.domains)) → P p) → ((p : Part) → IsIn p (numbered series.Tcb (tcbs t)) → P p)
+    → ((p : Part) → IsIn p (endpoints t) → P p) → ((p : Part) → IsIn p (notifications t) → P p)
+    → ((p : Part) → IsIn p (numbered series.Lock (locks t)) → P p) → ((p : Part) → IsIn p (numbered series.Irq (irqs t)) → P p)
+    → ((p : Part) → IsIn p (table_parts (all_tables t)) → P p) → ((p : Part) → IsIn p (numbered series.Frame (frame_parts t.spaces.frames)) → P p)
+    → (p : Part) → IsIn p (parts t) → P p
+by_section t P a b c d e f g h p i =
+    let s0 = numbered series.CNode (cnodes t.flat.domains) in
+    let s1 = numbered series.Tcb (tcbs t) in
+    let s4 = numbered series.Lock (locks t) in
+    let s5 = numbered series.Irq (irqs t) in
+    let s6 = table_parts (all_tables t) in
+    let s7 = numbered series.Frame (frame_parts t.spaces.frames) in
+    let r7 = s7 ++ [] in
+    let r6 = s6 ++ r7 in
+    let r5 = s5 ++ r6 in
+    let r4 = s4 ++ r5 in
+    let r3 = notifications t ++ r4 in
+    let r2 = endpoints t ++ r3 in
+    let r1 = s1 ++ r2 in
+    elim (in_append p s0 r1 i) [
+      | inl j ↦ a p j
+      | inr i ↦ elim (in_append p s1 r2 i) [
+        | inl j ↦ b p j
+        | inr i ↦ elim (in_append p (endpoints t) r3 i) [
+          | inl j ↦ c p j
+          | inr i ↦ elim (in_append p (notifications t) r4 i) [
+            | inl j ↦ d p j
+            | inr i ↦ elim (in_append p s4 r5 i) [
+              | inl j ↦ e p j
+              | inr i ↦ elim (in_append p s5 r6 i) [
+                | inl j ↦ f p j
+                | inr i ↦ elim (in_append p s6 r7 i) [
+                  | inl j ↦ g p j
+                  | inr i ↦ elim (in_append p s7 [] i) [ inl j ↦ h p j | inr n ↦ absurd n ]
+                ]
+              ]
+            ]
+          ]
+        ]
+      ]
+    ]
 
 pub there : (t : Tables) (p : Part) → IsIn p (parts t) → IsThere t p.what
-there t p i =
-    let m = place_of p (parts t) i in
-    let s = from_sections (sections t) m.0 p m.1 in
-    by_section t s.0 s.1 s.2 p s.3 s.4
+there t = by_section t (λ p. IsThere t p.what)
+    (λ p i. in_order t series.CNode (cnodes t.flat.domains) p (of_cnode t) i)
+    (λ p i. in_order t series.Tcb (tcbs t) p (of_thread t) i)
+    (of_endpoint t)
+    (of_notification t)
+    (λ p i. in_order t series.Lock (locks t) p (of_lock t) i)
+    (λ p i. in_order t series.Irq (irqs t) p (of_irq t) i)
+    (of_table t)
+    (λ p i. in_order t series.Frame (frame_parts t.spaces.frames) p (of_frame t) i)
+
+-- so its domain or connection is one of those that there are
+pub counted : (t : Tables) (w : What) → IsThere t w → IsCounted t w
+counted t (CNodeOf d) h = slice_get_within t.flat.domains d h.0 h.1
+counted t (ThreadOf d i) h = slice_get_within t.flat.domains d h.0.0 h.0.1
+counted t (EndpointOf k) h = tt
+counted t (NotificationOf k) h = tt
+counted t (LockOf d n) h = tt
+counted t (IrqOf k) h = slice_get_within t.flat.connections k h.0 h.1
+counted t (TableOf d j) h = slice_get_within t.flat.domains d h.0.0 h.0.1
+counted t (FrameOf f) h = tt

@@ -1,5 +1,5 @@
 -- Where no limit on pages is passed, pages are few and have numbers
-use Rattle.std.proofs.Common.{◌≡◌, ◌<◌, ◌≤◌, ◌+◌, ◌^◌, ◌∙◌, ℕ, zero, suc, List, [], ◌∷◌, ◌++◌, Option, Some, None, length, map, get_or, refl, sym, ap, subst, inl, inr, ⊎_elim, arith}
+use Rattle.std.proofs.Common.{◌≡◌, ◌<◌, ◌≤◌, ◌+◌, ◌^◌, ◌∙◌, ℕ, List, [], ◌∷◌, ◌++◌, Option, Some, None, length, map, get_or, refl, sym, ap, subst, inl, inr, ⊎_elim, arith}
 use Rattle.std.specs.Prelude.{sum}
 use Rattle.std.specs.List.{flat_map, range_with_len, slice_get}
 use Rattle.std.specs.Option.{option_map_or}
@@ -12,7 +12,7 @@ use Rattle.adl_meaning.specs.declared.settled.Settled.{Settled}
 use Rattle.leaf_ends.specs.declared.end_at.EndAt.{EndAt}
 use Rattle.numbering.specs.Gather.{IsIn}
 use Rattle.numbering.proofs.Gathered.{from_gather, gather_map, gather_ones, gather_same, in_append, in_place, length_append}
-use Rattle.numbering.proofs.Lists.{from_map}
+use Rattle.numbering.proofs.Lists.{below, from_map, from_range}
 use Rattle.program_sections.specs.declared.images.Images.{Images}
 use Rattle.program_sections.specs.declared.pages.SectionPage.{SectionPage}
 use Rattle.program_sections.specs.ByAddress.{section_pages}
@@ -33,15 +33,10 @@ use Rattle.vspace_layout.specs.Regions.{domain_windows, region_start, regions_in
 use Rattle.vspace_layout.specs.Threads.{domain_threads}
 use Rattle.vspace_layout.proofs.Few.{own_few, registers_few, shared_few}
 use Rattle.vspace_layout.proofs.Joining.{here, mapped_here, own_number_of}
-use Rattle.vspace_layout.proofs.Laying.{below, ones_or}
+use Rattle.vspace_layout.proofs.Laying.{ones_or}
 use Rattle.vspace_layout.proofs.MemoryNumbers.{from_get_map, memory_upto}
 
 -- ---- numbers of pages
-
-in_range : (a n j : ℕ) → IsIn j (range_with_len a n) → j < a + n
-in_range a zero j i = absurd i
-in_range a (suc n) j (inl e) = omega (arith, e)
-in_range a (suc n) j (inr i) = let ih = in_range (a + 1) n j i in omega (arith, ih)
 
 -- page j of the memory of a connection
 memory_numbered : (own : ℕ) (flat : Flat) (settled : Settled) (k j : ℕ) (c : FlatConnection) → own + length (memory_part flat settled) + 65536 < 2 ^ 32 → memory_pages settled k c ≤ 65536 → slice_get flat.connections k ≡ Some c → j < memory_pages settled k c
@@ -96,7 +91,7 @@ pages_numbered firsts settled images leaves base rs all p i =
     by_page : (start : ℕ) (r : Region) → HasNumbers firsts settled r → IsIn p (pages_from settled start r) → PageHas firsts p
     by_page start r has i =
         let m : (j : ℕ) × IsIn j (range_with_len 0 r.pages) × (page_of settled start r j ≡ p) = from_map (page_of settled start r) p (range_with_len 0 r.pages) i in
-        let l = in_range 0 r.pages m.0 m.1 in
+        let l = from_range 0 r.pages m.0 m.1 in
         subst (PageHas firsts) m.2 (has start m.0 (omega (arith, l)))
 
     by_region : (k : ℕ) (r : Region) → slice_get rs k ≡ Some r → IsIn p (pages_of_region settled base rs k r) → PageHas firsts p

@@ -10,7 +10,7 @@ use Rattle.adl_meaning.specs.declared.settled.Settled.{Settled}
 use Rattle.leaf_ends.specs.declared.end_at.EndAt.{EndAt}
 use Rattle.numbering.specs.Gather.{IsIn, before, gather}
 use Rattle.numbering.proofs.Gathered.{gather_ones, gather_same, get_ones, place_of}
-use Rattle.numbering.proofs.Lists.{at_place}
+use Rattle.numbering.proofs.Lists.{at_place, below}
 use Rattle.vspace_layout.specs.declared.mapped.MappedPage.{MappedPage}
 use Rattle.vspace_layout.specs.declared.spaces.FrameInfo.{FrameInfo}
 use Rattle.vspace_layout.specs.declared.spaces.Page.{Page}
@@ -23,7 +23,6 @@ use Rattle.vspace_layout.specs.Given.{Given, ends}
 use Rattle.vspace_layout.specs.Outlines.{AreFew, outline, regions_at, space_at, space_in, spaces_with}
 use Rattle.vspace_layout.specs.PageLimits.{page_counts}
 use Rattle.vspace_layout.proofs.Few.{few_at}
-use Rattle.vspace_layout.proofs.Laying.{below}
 
 abbrev pub both : List Space → List FrameInfo → Spaces
 both spaces frames = record { spaces = spaces; frames = frames }

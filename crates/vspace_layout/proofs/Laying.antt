@@ -10,7 +10,7 @@ use Rattle.adl_meaning.specs.declared.settled.Settled.{Settled}
 use Rattle.leaf_ends.specs.declared.end_at.EndAt.{EndAt}
 use Rattle.numbering.specs.Gather.{before, gather}
 use Rattle.numbering.proofs.Gathered.{gather_same, length_append}
-use Rattle.numbering.proofs.Lists.{at_place, get_map}
+use Rattle.numbering.proofs.Lists.{at_place, below, get_map}
 use Rattle.vspace_layout.specs.declared.mapped.MappedPage.{MappedPage}
 use Rattle.vspace_layout.specs.declared.mapped.Shown.{Shown}
 use Rattle.vspace_layout.specs.declared.mapped.Shown.TheVariants.{Own, Memory}
@@ -39,11 +39,6 @@ ones_or f [] zero = refl
 ones_or f [] (suc k) = refl
 ones_or f (x ∷ xs) zero = refl
 ones_or f (x ∷ xs) (suc k) = ones_or (λ n z. f (suc n) z) xs k
-
-pub below : {X : Type 0} (xs : List X) (n : ℕ) (x : X) → slice_get xs n ≡ Some x → n < length xs
-below [] n x e = cc
-below (y ∷ xs) zero x e = omega arith
-below (y ∷ xs) (suc n) x e = let ih = below xs n x e in omega (arith, ih)
 
 -- ---- pages
 

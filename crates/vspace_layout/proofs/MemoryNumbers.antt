@@ -56,24 +56,28 @@ place_there {X} start f xs k x e = ones_or (λ n (y : X). start + before f xs n)
 
 -- ---- the first connection
 
-found : {X : Type 0} (is : X → Bool) (a : ℕ) (xs : List X) (k : ℕ) (x : X) → slice_get xs k ≡ Some x → is x ≡ true → (n : ℕ) × (position_from is a xs ≡ Some n)
-found is a [] k x e t = cc
-found {X} is a (y ∷ xs) zero x e t = (a, ap (λ b. cond b (Some a) (position_from is (a + 1) xs)) (ap is (the_same y x e) ∙ t))
+found_from : {X : Type 0} (is : X → Bool) (a : ℕ) (xs : List X) (k : ℕ) (x : X) → slice_get xs k ≡ Some x → is x ≡ true → (n : ℕ) × (position_from is a xs ≡ Some n)
+found_from is a [] k x e t = cc
+found_from {X} is a (y ∷ xs) zero x e t = (a, ap (λ b. cond b (Some a) (position_from is (a + 1) xs)) (ap is (the_same y x e) ∙ t))
   where
     the_same : (y x : X) → Some y ≡ Some x → y ≡ x
     the_same y x e = cc
-found is a (y ∷ xs) (suc k) x e t = by_test (is y) (found is (a + 1) xs k x e t)
+found_from is a (y ∷ xs) (suc k) x e t = by_test (is y) (found_from is (a + 1) xs k x e t)
   where
     by_test : (b : Bool) → (n : ℕ) × (position_from is (a + 1) xs ≡ Some n) → (n : ℕ) × (cond b (Some a) (position_from is (a + 1) xs) ≡ Some n)
     by_test true r = (a, refl)
     by_test false r = r
 
+pub position_found : {X : Type 0} (is : X → Bool) (xs : List X) (k : ℕ) (x : X) → slice_get xs k ≡ Some x → is x ≡ true → (n : ℕ) × (position is xs ≡ Some n)
+position_found is xs k x e t =
+    let f : (n : ℕ) × (position_from is 0 xs ≡ Some n) = found_from is 0 xs k x e t in
+    (f.0, position_from-zero is xs ∙ f.1)
+
 -- a connection to registers has a first one
 has_first : (cs : List FlatConnection) (k : ℕ) (c : FlatConnection) (x : FlatEnd) → slice_get cs k ≡ Some c → registers c ≡ Some x → (n : ℕ) × (position (leads_to x) cs ≡ Some n)
 has_first cs k c x e r =
     let led : leads_to x c ≡ true = ap (λ o. option_map_or (λ y. same_key (key_of y) (key_of x)) o false) r ∙ same_key-refl (key_of x) in
-    let f : (n : ℕ) × (position_from (leads_to x) 0 cs ≡ Some n) = found (leads_to x) 0 cs k c e led in
-    (f.0, position_from-zero (leads_to x) cs ∙ f.1)
+    position_found (leads_to x) cs k c e led
 
 within : (cs : List FlatConnection) (x : FlatEnd) (d : FlatConnection) (n : ℕ) → position (leads_to x) cs ≡ Some n → n < length cs
 within cs x d n e = (position-Some (leads_to x) cs n d e).0

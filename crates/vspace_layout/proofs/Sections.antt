@@ -1,11 +1,12 @@
 -- Sections stand apart where no fault of sections stands
-use Rattle.std.proofs.Common.{◌≡◌, ◌≤◌, ◌+◌, ◌*◌, ℕ, true, false, List, [], ◌∷◌, get_or, Option, Some, None, refl, sym, ap, subst, inl, inr, arith, ⊎_elim}
+use Rattle.std.proofs.Common.{◌≡◌, ◌≤◌, ◌+◌, ◌*◌, ℕ, true, false, List, [], ◌∷◌, get_or, Option, Some, None, refl, sym, ap, subst, arith}
 use Rattle.std.specs.Prelude.{◌%◌}
-use Rattle.std.specs.List.{All, AllPairs, flat_map, range_with_len, slice_get}
+use Rattle.std.specs.List.{All, AllPairs, range_with_len, slice_get}
 use Rattle.std.specs.Option.{option_map_or}
 use Rattle.adl_meaning.specs.declared.flat.Domain.{Domain}
 use Rattle.numbering.specs.Gather.{IsIn}
-use Rattle.numbering.proofs.Gathered.{in_append, in_place}
+use Rattle.numbering.proofs.Gathered.{in_place}
+use Rattle.numbering.proofs.Lists.{from_flat_map, from_map}
 use Rattle.program_sections.specs.ByAddress.{by_address, name_of, page_at, pages_of, section_pages}
 use Rattle.program_sections.specs.Images.{Placed, sections_of}
 use Rattle.program_sections.specs.Numbered.{AreApart, AreCounted, AreNumbered, AreSound}
@@ -17,20 +18,16 @@ use Rattle.program_sections.proofs.Free.{free_apart, free_inside}
 use Rattle.program_sections.proofs.InOrder.{order_moves}
 use Rattle.program_sections.proofs.Rising.{Precedes, pages_inside, pages_rise, pairs_from_later}
 use Rattle.program_sections.proofs.SectionsTold.{comes_from}
-use Rattle.program_sections.proofs.Sorting.{from_map, in_permutation, own_all}
+use Rattle.program_sections.proofs.Sorting.{in_permutation, own_all}
 use Rattle.vspace_layout.specs.Given.{Given, arch, base, leaves_of}
 use Rattle.vspace_layout.specs.SpaceLaws.{SectionsStand}
-
-from_flat : {X Y : Type 0} (f : X → List Y) (y : Y) (xs : List X) → IsIn y (flat_map f xs) → (x : X) × IsIn x xs × IsIn y (f x)
-from_flat f y [] i = absurd i
-from_flat f y (x ∷ xs) i = ⊎_elim (λ j. (x, inl refl, j)) (λ j. let k = from_flat f y xs j in (k.0, inr k.1, k.2)) (in_append y (f x) (flat_map f xs) i)
 
 -- pages of sections are whole pages
 aligned : (images : Images) (leaves : List ℕ) → AreApart images leaves → All (λ p. p.vaddr % 4096 ≡ 0) (section_pages images leaves)
 aligned images leaves h k d l =
     let pages = section_pages images leaves in
     let all = sections_of images leaves in
-    let x = from_flat (pages_of images) (get_or pages k d) (by_address all) (own_all pages k d l) in
+    let x = from_flat_map (pages_of images) (get_or pages k d) (by_address all) (own_all pages k d l) in
     let s = sound_numbers x.0.section (h.sound x.0 (in_permutation all (by_address all) x.0 (order_moves all) x.1)) in
     let p = from_map (page_at (name_of images x.0.image) x.0.section) (get_or pages k d) (range_with_len 0 (page_count x.0.section)) x.2 in
     let at : (get_or pages k d).vaddr ≡ x.0.section.vaddr + 4096 * p.0 = ap (λ q. q.vaddr) (sym p.2) in

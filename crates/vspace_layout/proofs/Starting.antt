@@ -9,6 +9,7 @@ use Rattle.cap_model.specs.declared.level.Arch.TheVariants.{Aarch64, Arm11}
 use Rattle.leaf_ends.specs.declared.end_at.EndAt.{EndAt}
 use Rattle.numbering.specs.Gather.{gather}
 use Rattle.numbering.proofs.Gathered.{gather_ones, gather_same, gather_turn, read_twice}
+use Rattle.numbering.proofs.Lists.{below}
 use Rattle.program_sections.specs.Images.{sections_end}
 use Rattle.vspace_layout.specs.declared.region.Content.TheVariants.{Stack}
 use Rattle.vspace_layout.specs.declared.region.Region.{Region}
@@ -17,7 +18,7 @@ use Rattle.vspace_layout.specs.MappedPages.{pages_from, pages_of_region, region_
 use Rattle.vspace_layout.specs.Outlines.{AreFew, RegionsFit, StacksFit, starting, starts_in}
 use Rattle.vspace_layout.specs.Regions.{pages_in, region, region_start, regions_in, stack_pages, thread_regions, window_region}
 use Rattle.vspace_layout.proofs.Fitting.{pages_next, pages_upto}
-use Rattle.vspace_layout.proofs.Laying.{below, length_regions, start_same}
+use Rattle.vspace_layout.proofs.Laying.{length_regions, start_same}
 
 -- ---- the turn of the loop over regions
 

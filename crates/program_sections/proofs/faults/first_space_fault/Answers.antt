@@ -6,8 +6,8 @@ use Rattle.adl_meaning.proofs.Least.{noted-none}
 use Rattle.adl_meaning.proofs.Noting.{noted_each}
 use Rattle.numbering.specs.Gather.{IsIn}
 use Rattle.numbering.proofs.Gathered.{in_place}
+use Rattle.numbering.proofs.Lists.{read_place}
 use Rattle.program_sections.specs.SpaceFaults.{domain_faults, space_faults}
-use Rattle.program_sections.proofs.SectionsTold.{get_at}
 use Rattle.program_sections.proofs.faults.first_space_fault.Goals as goal
 
 pub note_domain-requires-clause-leaves : goal.note_domain-requires-clause-leaves
@@ -16,7 +16,7 @@ note_domain-requires-clause-leaves c = λ leaf i.
     let ys = c.as_slice-domain-items.result.now in
     let k = c.loop-domain.domain-index in
     let domain = c.domain-item.result in
-    c.requires.listed domain (in_place domain domains k (get_at domains ys k domain c.as_slice-domain-items.ensures c.loop-domain-test.true c.domain-item.is)) leaf (subst (IsIn leaf) c.as_slice.ensures i)
+    c.requires.listed domain (in_place domain domains k (read_place domains ys k domain c.as_slice-domain-items.ensures c.loop-domain-test.true c.domain-item.is)) leaf (subst (IsIn leaf) c.as_slice.ensures i)
 
 pub loop-domain-preserved : goal.loop-domain-preserved
 loop-domain-preserved c =

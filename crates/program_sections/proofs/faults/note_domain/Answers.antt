@@ -3,18 +3,19 @@ use Rattle.std.specs.Prelude.{OnOk}
 use Rattle.std.specs.List.{flat_map}
 use Rattle.adl_meaning.specs.Faults.{noted}
 use Rattle.numbering.specs.Gather.{IsIn}
+use Rattle.numbering.proofs.Lists.{below}
 use Rattle.program_sections.specs.Images.{sections_of}
 use Rattle.program_sections.specs.SpaceFaults.{clashes, leaf_faults}
 use Rattle.program_sections.specs.Told.{sections_told}
 use Rattle.program_sections.proofs.Leaves.{same_tests}
-use Rattle.program_sections.proofs.SectionsTold.{comes_from, get_below}
+use Rattle.program_sections.proofs.SectionsTold.{comes_from}
 use Rattle.program_sections.proofs.faults.note_domain.Goals as goal
 
 pub clashing-requires : goal.clashing-requires
 clashing-requires c = λ x i.
     let images = c.args.images.now in
     let from = comes_from images c.args.leaves.now x (subst (IsIn x) (ap sections_told c.as_slice.ensures.value ∙ c.in_ok-sections.ensures) i) in
-    subst (λ n. x.image < n) (sym c.len.ensures) (get_below images.images x.image from.image from.at)
+    subst (λ n. x.image < n) (sym c.len.ensures) (below images.images x.image from.image from.at)
 
 pub returns : goal.returns
 returns c =

@@ -5,13 +5,14 @@ use Rattle.adl_meaning.specs.declared.flat.FlatConnection.{FlatConnection}
 use Rattle.arch_policy.specs.declared.owner.Owner.{Owner}
 use Rattle.numbering.proofs.Gathered.{gather_turn}
 use Rattle.numbering.specs.Gather.{gather, before}
+use Rattle.numbering.proofs.Lists.{taken_le}
 use Rattle.system_spec.specs.Few.{AreFew}
 use Rattle.system_spec.specs.Objects.{line, line_by}
 use Rattle.system_spec.specs.Parts.{first_of, irq, irq_by}
 use Rattle.system_spec.specs.Tables.{Tables, device_of}
 use Rattle.system_spec.specs.Told.{told}
 use Rattle.system_spec.proofs.Bounds.{ends}
-use Rattle.system_spec.proofs.Placing.{as_long, taken_le}
+use Rattle.system_spec.proofs.Placing.{as_long}
 use Rattle.system_spec.proofs.irq_lines.gathered.Goals as goal
 
 length-line : (t : Tables) (k : ℕ) (c : FlatConnection) (o : Owner) (by : Connector) → length (line_by t k c by) ≡ length (irq_by k o by)

@@ -1,6 +1,7 @@
 use Rattle.std.proofs.Common.{◌+◌, arith}
+use Rattle.numbering.proofs.Lists.{taken_le}
 use Rattle.system_spec.specs.Places.{mark}
-use Rattle.system_spec.proofs.Placing.{mark_turn, places_turn, taken_le}
+use Rattle.system_spec.proofs.Placing.{mark_turn, places_turn}
 use Rattle.system_spec.proofs.places.places_from.Goals as goal
 
 pub overflow_add-next : goal.overflow_add-next

@@ -2,11 +2,12 @@ use Rattle.std.proofs.Common.{◌≡◌, ◌∙◌, ◌++◌, ◌∷◌, [], ap,
 use Rattle.std.specs.Vec.Iter.{into_iter_len}
 use Rattle.numbering.specs.Gather.{gather}
 use Rattle.numbering.proofs.Gathered.{length_append}
+use Rattle.numbering.proofs.Lists.{below}
 use Rattle.vspace_layout.specs.declared.mapped.MappedPage.{MappedPage}
 use Rattle.vspace_layout.specs.declared.spaces.FrameInfo.{FrameInfo}
 use Rattle.vspace_layout.specs.declared.spaces.Page.{Page}
 use Rattle.vspace_layout.specs.FrameNumbers.{number_of, numbered_page, own_added}
-use Rattle.vspace_layout.proofs.Laying.{below, with_frame}
+use Rattle.vspace_layout.proofs.Laying.{with_frame}
 use Rattle.vspace_layout.proofs.MemoryNumbers.{gather_push}
 use Rattle.vspace_layout.proofs.Numbering.{Turned, frames_more, frames_so_far, own_upto, turned}
 use Rattle.vspace_layout.proofs.frames.number_pages.Goals as goal

@@ -4,11 +4,10 @@ use Rattle.std.specs.Vec.Iter.{into_iter_len}
 use Rattle.std.proofs.lemmas.Option.{get_or_from_slice_get}
 use Rattle.adl_meaning.specs.declared.flat.Domain.{Domain}
 use Rattle.numbering.proofs.Gathered.{gather_turn, in_place, length_append}
-use Rattle.numbering.proofs.Lists.{read_place}
+use Rattle.numbering.proofs.Lists.{below, read_place}
 use Rattle.vspace_layout.specs.declared.outline.Outline.{Outline}
 use Rattle.vspace_layout.specs.declared.spaces.Page.{Page}
 use Rattle.vspace_layout.specs.Outlines.{AreFew, outline, regions_at, space_in}
-use Rattle.vspace_layout.proofs.Laying.{below}
 use Rattle.vspace_layout.proofs.Numbering.{Turned, turned}
 use Rattle.vspace_layout.proofs.lay.spaces_with.Goals as goal
 

@@ -1,0 +1,70 @@
+-- Each connection has an end of each role, since the connector table asks for one.
+use Rattle.std.proofs.Common.{◌≡◌, ◌≤◌, ◌∙◌, ℕ, true, List, Some, None, refl, sym, ap}
+use Rattle.std.specs.Prelude.{nat_le}
+use Rattle.std.specs.List.{slice_get}
+use Rattle.std.proofs.lemmas.Bool.{and_parts, leb-true}
+use Rattle.adl_ast.specs.declared.composition.End.{End}
+use Rattle.adl_ast.specs.declared.composition.Role.{Role}
+use Rattle.adl_ast.specs.declared.composition.Role.TheVariants.{From, To}
+use Rattle.adl_ast.specs.declared.source.Source.{Source}
+use Rattle.adl_hierarchy.specs.Leads.{AreDotted}
+use Rattle.adl_hierarchy.proofs.Joining.{all_joined, end_numbers_kept}
+use Rattle.adl_meaning.specs.declared.connector.Connector.{Connector}
+use Rattle.adl_meaning.specs.declared.connector.Connector.TheVariants.{Rpc, Notification, SharedMemory, Mmio, Interrupt, Direct}
+use Rattle.adl_meaning.specs.declared.flat.FlatConnection.{FlatConnection}
+use Rattle.adl_meaning.specs.declared.flat.FlatEnd.{FlatEnd}
+use Rattle.adl_meaning.specs.Flat.{flat_end, flat_of}
+use Rattle.adl_meaning.specs.Hierarchy.{hierarchy_of}
+use Rattle.adl_meaning.specs.NameFaults.{AreNamesSound}
+use Rattle.adl_types.specs.TypeFaults.{count_of, may_have, first_type_fault}
+use Rattle.adl_types.proofs.Typed.{well_typed}
+use Rattle.component_graph.proofs.Lists.{in_get}
+use Rattle.conn_rules.specs.Ends.{allows, at_most, end_rule}
+use Rattle.conn_rules.specs.Row.{same_role}
+use Rattle.flat_laws.proofs.Counts.{first_counted}
+use Rattle.flat_laws.proofs.FlatEnds.{strung_of}
+
+pub is_role : (r q : Role) → same_role r q ≡ true → r ≡ q
+is_role From From e = refl
+is_role To To e = refl
+is_role From To e = cc
+is_role To From e = cc
+
+least_one : (c : Connector) (r : Role) → (end_rule c r).least ≡ 1
+least_one Rpc From = refl
+least_one Rpc To = refl
+least_one Notification From = refl
+least_one Notification To = refl
+least_one SharedMemory From = refl
+least_one SharedMemory To = refl
+least_one Mmio From = refl
+least_one Mmio To = refl
+least_one Interrupt From = refl
+least_one Interrupt To = refl
+least_one Direct From = refl
+least_one Direct To = refl
+
+-- the ends of a role are as many as the table allows
+pub allowed : (c : Connector) (r : Role) (es : List End) → may_have c es ≡ true → allows (end_rule c r) (count_of r es) ≡ true
+allowed c From es h = (and_parts (allows (end_rule c From) (count_of From es)) (allows (end_rule c To) (count_of To es)) h).0
+allowed c To es h = (and_parts (allows (end_rule c From) (count_of From es)) (allows (end_rule c To) (count_of To es)) h).1
+
+some_allowed : (c : Connector) (r : Role) (n : ℕ) → allows (end_rule c r) n ≡ true → 1 ≤ n
+some_allowed c r n a =
+    let least = (and_parts (nat_le (end_rule c r).least n) (at_most n (end_rule c r).most) a).0 in
+    leb-true 1 n (ap (λ m. nat_le m n) (sym (least_one c r)) ∙ least)
+
+pub some_end : (s : Source) → AreNamesSound s → AreDotted (hierarchy_of s) → first_type_fault s ≡ None → (k : ℕ) (c : FlatConnection) → slice_get (flat_of s).connections k ≡ Some c
+    → (r : Role) → (n : ℕ) × (e : FlatEnd) × (slice_get c.ends n ≡ Some e) × (e.role ≡ r)
+some_end s sound dotted types k c at r =
+    let h = hierarchy_of s in
+    let y = strung_of s k c at in
+    let es = y.0.wire.1.ends in
+    let fits = (well_typed s sound types y.0 y.1).counts in
+    let d = first_counted (λ (e : End). same_role e.role r) es (some_allowed y.0.wire.0 r (count_of r es) (allowed y.0.wire.0 r es fits)) in
+    let j = all_joined s sound dotted y.0 d.1 y.1 (in_get es d.0 d.1 d.2) in (
+      d.0,
+      flat_end h y.0.path d.1 j.0,
+      ap (λ (z : FlatConnection). slice_get z.ends d.0) (sym y.2) ∙ end_numbers_kept s sound dotted y.0 d.0 d.1 j.0 y.1 d.2 j.1,
+      is_role d.1.role r d.3,
+    )
