@@ -11,10 +11,11 @@ use Rattle.arch_policy.proofs.Lists.{in_has}
 use Rattle.arch_policy.specs.Tables.{Tables}
 use Rattle.auth_kinds.specs.Policies.{label_name}
 use Rattle.auth_kinds.specs.declared.edge.Edge.{Edge}
+use Rattle.build_laws.proofs.Facts.{AreFacts, build_facts}
 use Rattle.cam_base.specs.declared.error.Refused.{Refused}
 use Rattle.cam_base.specs.declared.text_fault.TextFault.{TextFault}
 use Rattle.cam_io.specs.Contents.{Contents}
-use Rattle.flat_laws.proofs.SourceTables.{flat_small}
+use Rattle.flat_laws.proofs.Small.{flat_small}
 use Rattle.flat_laws.specs.Small.{IsSmall}
 use Rattle.front_end.specs.First.{source_tables}
 use Rattle.numbering.proofs.Gathered.{in_place}
@@ -28,11 +29,10 @@ use Rattle.reach_laws.specs.Flat.{IsFlat}
 use Rattle.source_connected.proofs.Connected.{tables_are_connected}
 use Rattle.build_back.proofs.EdgeCounts.{few_certified, few_edges}
 use Rattle.build_back.proofs.EdgeTexts.{cert_short}
-use Rattle.build_back.proofs.Facts.{AreFacts, build_facts}
 use Rattle.build_back.proofs.Labelled.{IsLabel, edge_labels, label_small, named_at}
 use Rattle.build_back.specs.ReadBack.{IsCertReadBack}
 
-module _ (s : Source) (images : Images) (facts : AreFacts s images) where
+module _ {contents : Option Contents} (s : Source) (images : Images) (facts : AreFacts contents s images) where
   abbrev t : Tables
   t = source_tables s
 

@@ -1,32 +1,27 @@
 -- How many edges a policy and a certificate have.
-use Rattle.std.proofs.Common.{◌≡◌, ◌∙◌, ◌≤◌, ◌+◌, ◌*◌, ◌||◌, ◌++◌, ℕ, suc, Bool, true, false, cond, List, [], ◌∷◌, Option, None, length, map, get_or, refl, sym, ap, subst, inl, inr, arith}
+use Rattle.std.proofs.Common.{◌≡◌, ◌∙◌, ◌≤◌, ◌+◌, ◌*◌, ◌||◌, ◌++◌, ℕ, suc, Bool, true, false, cond, List, [], ◌∷◌, Option, None, length, map, refl, sym, ap, subst, inl, inr, arith}
 use Rattle.std.proofs.lemmas.Bool.{ltb-false}
 use Rattle.std.proofs.lemmas.List.{length-append}
-use Rattle.std.proofs.lemmas.Map.Keys.{IsDistinct-from_apart}
 use Rattle.std.proofs.lemmas.Map.Made.{length-le_from_is_member}
-use Rattle.std.proofs.lemmas.Option.{slice_get-get_or}
-use Rattle.std.specs.Cmp.{IsEquivalence}
 use Rattle.std.specs.Cmp.Derive.{one_truth}
-use Rattle.std.specs.List.{IsDistinct, list_any, slice_get}
+use Rattle.std.specs.List.{slice_get}
 use Rattle.std.specs.Option.{option_map}
 use Rattle.std.specs.Prelude.{codes, nat_lt}
-use Rattle.std.specs.Set.{is_member}
 use Rattle.adl_ast.specs.declared.composition.Assembly.{Assembly}
 use Rattle.adl_meaning.specs.Items.{assemblies}
 use Rattle.adl_meaning.specs.declared.flat.Domain.{Domain}
 use Rattle.adl_meaning.specs.declared.item_at.ItemAt.{ItemAt}
-use Rattle.arch_policy.proofs.Counted.{table_counts}
+use Rattle.arch_policy.proofs.Counted.{distinct, member_has, same_laws, table_counts}
 use Rattle.arch_policy.proofs.Listed.{triples_are_policy}
 use Rattle.arch_policy.proofs.Lists.{has_in, in_has}
 use Rattle.arch_policy.specs.Policies.{IsCertificateOf, IsLockEdge, IsPolicyOf, edge_count, first_edge_fault}
 use Rattle.arch_policy.specs.Tables.{Tables, domain_label}
 use Rattle.arch_policy.specs.Triples.{triples}
-use Rattle.auth_kinds.proofs.EdgeOrder.{edges_same, not_before_self, same_edge_self, same_edge_true}
+use Rattle.arch_policy.proofs.Given.{an_authority}
+use Rattle.auth_kinds.proofs.EdgeOrder.{edges_same}
 use Rattle.auth_kinds.specs.Authorities.{authorities}
-use Rattle.auth_kinds.specs.Edges.{Before, edge, same_edge}
+use Rattle.auth_kinds.specs.Edges.{edge}
 use Rattle.auth_kinds.specs.Tables.{IsSorted, has}
-use Rattle.auth_kinds.specs.declared.authority.Authority.{Authority}
-use Rattle.auth_kinds.specs.declared.authority.Authority.TheVariants.{Receive, SyncSend, AsyncSend, Reset, Grant, Read, Write, Control, Call, Reply, GrantBack, Handle}
 use Rattle.auth_kinds.specs.declared.edge.Edge.{Edge}
 use Rattle.cam_base.specs.declared.place.Fault.{Fault}
 use Rattle.leaf_ends.specs.Limit.{fault_at, limit_fault, place_in}
@@ -35,32 +30,6 @@ use Rattle.numbering.proofs.Lists.{in_map}
 use Rattle.numbering.specs.Gather.{IsIn, gather}
 use Rattle.reach_laws.proofs.EndLabels.{lock_domain}
 use Rattle.reach_laws.specs.Flat.{IsFlat}
-
--- ---- edges that stand in order differ
-
-same_back : (d e : Edge) → same_edge d e ≡ true → same_edge e d ≡ true
-same_back d e h = ap (λ z. same_edge z d) (sym (same_edge_true d e h)) ∙ same_edge_self d
-
-same_swap : (d e : Edge) → same_edge d e ≡ same_edge e d
-same_swap d e = one_truth (same_edge d e) (same_edge e d) (same_back d e) (same_back e d)
-
-same_laws : IsEquivalence same_edge
-same_laws = record { refl = same_edge_self; symm = same_swap; congr = λ x y z h. ap (λ v. same_edge v z) (same_edge_true x y h) }
-
-member_has : (es : List Edge) (e : Edge) → is_member same_edge es e ≡ has es e
-member_has [] e = refl
-member_has (d ∷ es) e = ap (λ b. b || list_any (same_edge e) es) (same_swap e d) ∙ ap (λ b. same_edge d e || b) (member_has es e)
-
-differs : (d e : Edge) → Before d e → same_edge d e ≡ false
-differs d e b = go (same_edge d e) refl where
-  go : (v : Bool) → same_edge d e ≡ v → v ≡ false
-  go true h = absurd (not_before_self d (subst (λ (z : Edge). Before d z) (sym (same_edge_true d e h)) b))
-  go false h = refl
-
-distinct : (es : List Edge) → IsSorted es → IsDistinct same_edge es
-distinct es s =
-    IsDistinct-from_apart same_edge es (λ i j d l m.
-    differs (get_or es i d) (get_or es j d) (s.by_place i j (get_or es i d) (get_or es j d) l (slice_get-get_or es i d (omega (arith, l, m))) (slice_get-get_or es j d m)))
 
 -- edges that stand in order and in a list are no more than the list
 pub no_more : (xs ys : List Edge) → IsSorted xs → ((e : Edge) → has xs e ≡ true → has ys e ≡ true) → length xs ≤ length ys
@@ -91,20 +60,6 @@ few_edges t a policy one none is sorted =
 
 -- ---- the certificate
 
-in_all : (a : Authority) → IsIn a authorities
-in_all Receive = inl refl
-in_all SyncSend = inr (inl refl)
-in_all AsyncSend = inr (inr (inl refl))
-in_all Reset = inr (inr (inr (inl refl)))
-in_all Grant = inr (inr (inr (inr (inl refl))))
-in_all Read = inr (inr (inr (inr (inr (inl refl)))))
-in_all Write = inr (inr (inr (inr (inr (inr (inl refl))))))
-in_all Control = inr (inr (inr (inr (inr (inr (inr (inl refl)))))))
-in_all Call = inr (inr (inr (inr (inr (inr (inr (inr (inl refl))))))))
-in_all Reply = inr (inr (inr (inr (inr (inr (inr (inr (inr (inl refl)))))))))
-in_all GrantBack = inr (inr (inr (inr (inr (inr (inr (inr (inr (inr (inl refl))))))))))
-in_all Handle = inr (inr (inr (inr (inr (inr (inr (inr (inr (inr (inr (inl refl)))))))))))
-
 -- all edges of a label to itself
 abbrev own : ℕ → List Edge
 own l = map (λ a. edge l a l) authorities
@@ -125,7 +80,7 @@ module _ (t : Tables) (flat : IsFlat t.source t.flat) where
       let d = lock_domain t flat k.lock in
       let l = domain_label t k.lock.domain in
       let same : edge l e.authority l ≡ e = edges_same (edge l e.authority l) e (sym k.from) refl (sym k.to) in
-      let i = in_map (λ a. edge l a l) e.authority authorities (in_all e.authority) in
+      let i = in_map (λ a. edge l a l) e.authority authorities (an_authority e.authority) in
       in_has e (owns t) (in_gather (λ d (x : Domain). own (domain_label t d)) e t.flat.domains k.lock.domain d.0 d.1 (subst (λ z. IsIn z (own l)) same i))
 
   has_left : (e : Edge) (xs ys : List Edge) → has xs e ≡ true → has (xs ++ ys) e ≡ true

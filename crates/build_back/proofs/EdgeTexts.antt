@@ -9,30 +9,10 @@ use Rattle.auth_kinds.specs.Authorities.{text_of}
 use Rattle.auth_kinds.specs.declared.authority.Authority.{Authority}
 use Rattle.auth_kinds.specs.declared.authority.Authority.TheVariants.{Receive, SyncSend, AsyncSend, Reset, Grant, Read, Write, Control, Call, Reply, GrantBack, Handle}
 use Rattle.auth_kinds.specs.declared.edge.Edge.{Edge}
-use Rattle.cam_base.specs.Texts.{◌⊹◌, together}
+use Rattle.cam_base.specs.Texts.{◌⊹◌}
 use Rattle.numbering.specs.Gather.{IsIn}
 use Rattle.policy_text.specs.PolicyLines.{cert_text, edge_line}
-
-abbrev pub total : List ℕ → ℕ
-total [] = 0
-total (n ∷ ns) = n + total ns
-
-abbrev pub AllShort : List ℕ → List (List ℕ) → Type 0
-AllShort [] [] = Unit {0}
-AllShort [] (x ∷ xs) = ⊥
-AllShort (n ∷ ns) [] = ⊥
-AllShort (n ∷ ns) (x ∷ xs) = (length x ≤ n) × AllShort ns xs
-
-pub all_short : (ns : List ℕ) (xs : List (List ℕ)) → AllShort ns xs → length (together xs) ≤ total ns
-unfolding together
-all_short [] [] h = omega arith
-all_short [] (x ∷ xs) h = absurd h
-all_short (n ∷ ns) [] h = absurd h
-all_short (n ∷ ns) (x ∷ xs) h =
-    let a = length-append x (flat_map (λ z. z) xs) in
-    let ih : length (flat_map (λ z. z) xs) ≤ total ns = all_short ns xs h.1 in
-    let b = h.0 in
-    omega (arith, a, ih, b)
+use Rattle.spec_kept.proofs.Lengths.{all_short, joined}
 
 pub lines_short : {X : Type 0} (f : X → List ℕ) (n : ℕ) (xs : List X) → ((x : X) → IsIn x xs → length (f x) ≤ n) → length (flat_map f xs) ≤ n * length xs
 lines_short f n [] h = omega arith
@@ -66,13 +46,9 @@ edge_short e f t =
     (omega arith, (number_short e.from f, (omega arith, (word_short e.authority, (omega arith, (number_short e.to t, (omega arith, tt))))))) in
     omega (arith, s)
 
-pub behind_short : (a b : List ℕ) (m n : ℕ) → length a ≤ m → length b ≤ n → length (a ⊹ b) ≤ m + n
-unfolding ◌⊹◌
-behind_short a b m n h k = let l = length-append a b in omega (arith, l, h, k)
-
 pub cert_short : (cert : List Edge) → ((e : Edge) → IsIn e cert → (e.from < 6144) × (e.to < 6144)) → length cert ≤ 262144 → length (cert_text cert) ≤ 67108864
 unfolding cert_text
 cert_short cert small few =
     let lines = lines_short edge_line 25 cert (λ e i. edge_short e (small e i).0 (small e i).1) in
-    let whole = behind_short (codes "certificate 1\n") (flat_map edge_line cert) 14 (25 * length cert) (omega arith) lines in
+    let whole = joined (codes "certificate 1\n") (flat_map edge_line cert) 14 (25 * length cert) (omega arith) lines in
     omega (arith, whole, few)

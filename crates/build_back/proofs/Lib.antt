@@ -1,7 +1,6 @@
 pub mod CertBack
 pub mod EdgeCounts
 pub mod EdgeTexts
-mod Facts
 pub mod Labelled
 pub mod LabelsBack
 pub mod PolicyLimited

@@ -1,5 +1,5 @@
 -- Policies of builds keep the limits of their readers on labels, objects and edges.
-use Rattle.std.proofs.Common.{◌≡◌, ◌≢◌, ◌∙◌, ◌<◌, ◌≤◌, ℕ, zero, suc, Bool, true, not, List, [], ◌∷◌, Option, Some, length, map, get_or, is_some, refl, sym, ap, subst, inl, arith}
+use Rattle.std.proofs.Common.{◌≡◌, ◌≢◌, ◌∙◌, ◌<◌, ◌≤◌, ℕ, true, not, List, ◌∷◌, Option, Some, length, map, get_or, is_some, refl, sym, ap, subst, inl, arith}
 use Rattle.std.proofs.lemmas.Bool.{and_parts}
 use Rattle.std.proofs.lemmas.Option.{slice_get-get_or}
 use Rattle.std.specs.List.{All, AllPairs, list_all, slice_get}
@@ -15,9 +15,11 @@ use Rattle.assigned_laws.proofs.Ranked.{lines_apart}
 use Rattle.auth_kinds.specs.ObjectLabels.{label_of}
 use Rattle.auth_kinds.specs.Policies.{label_name}
 use Rattle.auth_kinds.specs.declared.edge.Edge.{Edge}
+use Rattle.build_laws.proofs.Facts.{AreFacts, build_facts}
 use Rattle.cam_base.specs.Names.{is_name}
 use Rattle.cam_io.specs.Contents.{Contents}
 use Rattle.cap_model.specs.declared.spec.Entry.{Entry}
+use Rattle.cap_model.proofs.Kept.{all_at}
 use Rattle.capdl_back.specs.Writable.{is_word}
 use Rattle.capdl_lexer.specs.TokenFaults.{is_left_out_word}
 use Rattle.front_end.specs.First.{source_tables}
@@ -29,7 +31,6 @@ use Rattle.system_spec.specs.Made.{entry, labels_of, part_label, spec_of}
 use Rattle.system_spec.specs.Parts.{parts}
 use Rattle.system_spec.specs.Tables.{Tables}
 use Rattle.build_back.proofs.CertBack.{flat_is, policy_few, small_is}
-use Rattle.build_back.proofs.Facts.{AreFacts, build_facts}
 use Rattle.build_back.proofs.Labelled.{IsLabel, edge_labels, few_labels, named_at}
 use Rattle.build_back.proofs.LabelsBack.{line_at}
 use Rattle.build_back.proofs.SpecBack.{made_fit, made_writable}
@@ -89,11 +90,6 @@ module _ (flat : Flat) (few : length (label_texts flat) ≤ 6144) where
 
 -- ---- objects
 
-all_at : {X : Type 0} (test : X → Bool) (xs : List X) (n : ℕ) (x : X) → list_all test xs ≡ true → slice_get xs n ≡ Some x → test x ≡ true
-all_at test [] n x h e = cc
-all_at test (y ∷ ys) zero x h e = let same : y ≡ x = cc in ap test (sym same) ∙ (and_parts (test y) (list_all test ys) h).0
-all_at test (y ∷ ys) (suc n) x h e = all_at test ys n x (and_parts (test y) (list_all test ys) h).1 e
-
 -- things that have entries and labels
 module _ {X : Type 0} (entry : X → Entry) (label : X → ℕ) (xs : List X)
     (differ : (m n : ℕ) (x y : X) → slice_get xs m ≡ Some x → slice_get xs n ≡ Some y → (entry x).name ≡ (entry y).name → m ≡ n)
@@ -126,7 +122,7 @@ module _ {X : Type 0} (entry : X → Entry) (label : X → ℕ) (xs : List X)
   objects_are : AreObjects (labelled (map entry xs) (map label xs))
   objects_are = record { names = names_are; differ = names_apart; few = few_objects }
 
-module _ (s : Source) (images : Images) (facts : AreFacts s images) where
+module _ {contents : Option Contents} (s : Source) (images : Images) (facts : AreFacts contents s images) where
   abbrev t : Tables
   t = system_tables s images
 

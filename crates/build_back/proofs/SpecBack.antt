@@ -6,6 +6,7 @@ use Rattle.adl_settings.specs.Settled.{settled_of}
 use Rattle.arch_compile.specs.Built.{IsBuildOf, system_tables}
 use Rattle.arch_compile.specs.LayoutFaults.{images_from}
 use Rattle.arch_compile.specs.declared.building.Build.{Build}
+use Rattle.build_laws.proofs.Facts.{AreFacts, build_facts}
 use Rattle.cam_io.specs.Contents.{Contents}
 use Rattle.cap_model.specs.Canonical.{canonical}
 use Rattle.capdl_back.proofs.Whole.{canonical_text}
@@ -15,25 +16,25 @@ use Rattle.program_sections.specs.declared.images.Images.{Images}
 use Rattle.source_bounds.proofs.Bounds.{can_lay}
 use Rattle.source_kept.proofs.Fits.{layouts_are_limited, tables_are_fit}
 use Rattle.source_kept.proofs.Plain.{layouts_are_plain}
+use Rattle.source_kept.proofs.ReadImages.{read_images_are_plain}
 use Rattle.spec_kept.proofs.Plainly.{tables_written}
 use Rattle.spec_kept.proofs.Sizing.{tables_sized}
 use Rattle.spec_kept.proofs.Writing.{spec_writable}
 use Rattle.spec_kept.specs.Fit.{IsFit}
 use Rattle.system_spec.specs.Made.{spec_of}
-use Rattle.build_back.proofs.Facts.{AreFacts, build_facts}
 use Rattle.build_back.specs.ReadBack.{IsSpecReadBack}
 
-pub made_fit : (s : Source) (images : Images) → AreFacts s images → IsFit (system_tables s images)
+pub made_fit : {contents : Option Contents} (s : Source) (images : Images) → AreFacts contents s images → IsFit (system_tables s images)
 made_fit s images facts =
     let f = facts.faultless in
     tables_are_fit s images facts.short f.names f.types f.flat f.settings facts.numbered facts.sound facts.space facts.slot facts.page
 
-pub made_writable : (s : Source) (images : Images) → AreFacts s images → IsWritable (spec_of (system_tables s images))
-made_writable s images facts =
+pub made_writable : {contents : Option Contents} (s : Source) (images : Images) → AreFacts contents s images → IsWritable (spec_of (system_tables s images))
+made_writable {contents} s images facts =
     let f = facts.faultless in
     let t = system_tables s images in
     let limited = layouts_are_limited s images facts.short f.names f.types f.flat f.settings facts.slot facts.page in
-    let plain = layouts_are_plain s images facts.short f.names f.flat facts.plain in
+    let plain = layouts_are_plain s images facts.short f.names f.flat (read_images_are_plain contents _ s images facts.short facts.read) in
     let can = can_lay s images facts.short f.names f.types f.flat f.settings in
     spec_writable t
     (made_fit s images facts)

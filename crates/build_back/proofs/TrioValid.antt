@@ -8,6 +8,7 @@ use Rattle.arch_policy.specs.Tables.{AreApart}
 use Rattle.assigned_laws.proofs.TextReasons.{labels_apart}
 use Rattle.auth_kinds.specs.declared.edge.Edge.{Edge}
 use Rattle.auth_kinds.specs.declared.object_labels.Labels.{Labels}
+use Rattle.build_laws.proofs.Facts.{AreFacts, build_facts}
 use Rattle.cam_io.specs.Contents.{Contents}
 use Rattle.cap_model.specs.declared.spec.Entry.{Entry}
 use Rattle.cap_model.specs.declared.spec.Spec.{Spec}
@@ -29,7 +30,6 @@ use Rattle.spec_kept.proofs.Telling.{names_tell}
 use Rattle.system_spec.specs.Made.{entry, labels_of, part_label, spec_of}
 use Rattle.system_spec.specs.Parts.{parts}
 use Rattle.system_spec.specs.Tables.{Tables}
-use Rattle.build_back.proofs.Facts.{AreFacts, build_facts}
 use Rattle.build_back.proofs.LabelsBack.{labels_back, labels_one}
 use Rattle.build_back.proofs.SpecBack.{made_fit}
 use Rattle.build_back.specs.TriosValid.{IsTrioValid}
@@ -38,7 +38,7 @@ judged_yes : {spec : Spec} {labels : List ℕ} {policy cert : List Edge} (verdic
 judged_yes Yes v j = refl
 judged_yes (No number have lack) v j = absurd (j.3 v)
 
-module _ (b : Build) (found : List Found) (facts : AreFacts b.front.source (images_from b.front.source found))
+module _ {contents : Option Contents} (b : Build) (found : List Found) (facts : AreFacts contents b.front.source (images_from b.front.source found))
     (made : IsMade b.front.source (images_from b.front.source found) b.spec b.policy b.cert b.map) where
   abbrev s : Source
   s = b.front.source

@@ -1,3 +1,2 @@
-mod Facts
 mod OfSources
 mod Programs

@@ -4,6 +4,7 @@ use Rattle.adl_ast.specs.declared.source.Source.{Source}
 use Rattle.arch_compile.specs.Built.{IsBuildOf, labelled, system_tables}
 use Rattle.arch_compile.specs.LayoutFaults.{images_from}
 use Rattle.arch_compile.specs.declared.building.Build.{Build}
+use Rattle.build_laws.proofs.Facts.{AreFacts, build_facts}
 use Rattle.cam_io.specs.Contents.{Contents}
 use Rattle.program_sections.specs.declared.images.Images.{Images}
 use Rattle.source_mapped.proofs.Maps.{tables_can_map}
@@ -17,7 +18,6 @@ use Rattle.spec_laws.specs.Slotted.{AreSlots, CanSlot}
 use Rattle.spec_laws.specs.Spaced.{root_of}
 use Rattle.system_spec.specs.MapLines.{map_lines}
 use Rattle.system_spec.specs.Made.{labels_of, spec_of}
-use Rattle.build_images.proofs.Facts.{AreFacts, build_facts}
 use Rattle.build_images.proofs.Programs.{programs_have_images}
 use Rattle.build_images.specs.OfSource.{IsOfSource}
 

@@ -30,6 +30,7 @@ use Rattle.program_sections.specs.Images.{image_number}
 use Rattle.program_sections.specs.declared.images.Images.{Images}
 use Rattle.source_images.specs.ImagesRead.{AreImagesOf}
 use Rattle.source_images.specs.Types.{Name, component_name, component_of, type_number, type_of, types}
+use Rattle.source_kept.proofs.Stacks.{soft_leaf}
 use Rattle.source_mapped.specs.HaveImages.{HaveImages}
 
 -- ---- the component of a leaf has a name
@@ -88,12 +89,6 @@ placed_software h x d e = by_test (is_hardware h x.part) e
     by_test true e = cc
     by_test false e = refl
 
-software : (s : Source) (l d : ℕ) (leaf : Leaf) → slice_get (flat_of s).leaves l ≡ Some leaf → leaf.domain ≡ Some d → leaf.hardware ≡ false
-software s l d leaf at own =
-    let h = hierarchy_of s in
-    let x = from_get (leaf_of h) (leaves h) l leaf at in
-    ap (λ (z : Leaf). z.hardware) (sym x.2) ∙ placed_software h x.0 d (ap (λ (z : Leaf). z.domain) x.2 ∙ own)
-
 -- ---- types list its name
 
 place_from : (n : Name) (i : ℕ) (xs : List Name) → IsIn n xs → (m : ℕ) × (position_from (bytes_eq n) i xs ≡ Some m)
@@ -108,11 +103,11 @@ place_from n i (x ∷ xs) (inr j) = by_test (bytes_eq n x) (place_from n (i + 1)
 place_of : (n : Name) (xs : List Name) → IsIn n xs → (m : ℕ) × (position (bytes_eq n) xs ≡ Some m)
 place_of n xs i = let r = place_from n 0 xs i in (r.0, position_from-zero (bytes_eq n) xs ∙ r.1)
 
--- a leaf of software has the number of its type
+-- a leaf of soft_leaf has the number of its type
 leaf_numbered : (s : Source) → AreNamesSound s → (l d : ℕ) (leaf : Leaf) → slice_get (flat_of s).leaves l ≡ Some leaf → leaf.domain ≡ Some d → (m : ℕ) × (type_number s (flat_of s) leaf ≡ Some m)
 leaf_numbered s sound l d leaf at own =
     let n = leaf_named s sound l leaf at in
-    let typed : type_of s leaf ≡ Some n.0 = ap (λ (b : Bool). cond b None (component_name s leaf.component)) (software s l d leaf at own) ∙ n.1 in
+    let typed : type_of s leaf ≡ Some n.0 = ap (λ (b : Bool). cond b None (component_name s leaf.component)) (soft_leaf s l d leaf at own) ∙ n.1 in
     let all = filter_map (type_of s) (flat_of s).leaves in
     let listed : IsIn n.0 (types s (flat_of s)) = (firsts_are bytes_eq bytes_eq-Decides all n.0).1 (in_filter_map (type_of s) leaf n.0 (flat_of s).leaves (in_get (flat_of s).leaves l leaf at) typed) in
     let r = place_of n.0 (types s (flat_of s)) listed in

@@ -18,7 +18,7 @@ abbrev pub made_from : Build → Images → Tables
 made_from b images = system_tables b.front.source images
 
 -- The images are those that are read for its source, and its policy gives objects these labels. With the images its slots are
--- those of its source; and so are its objects, threads, regions, pages, frames and labels, and its map.
+-- those of its source; and so are its objects, threads, regions, pages, page tables, frames and labels, and its map.
 pub record IsOfSource (contents : Option Contents) (b : Build) : Type 0 where
   pub images : Images
   pub read : AreImagesOf contents (root_name b.front.source) b.front.source (flat_of b.front.source) images

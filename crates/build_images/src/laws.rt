@@ -18,7 +18,7 @@ pub fn programs_have_images()
         → AreImagesOf contents root s (flat_of s) images → HaveImages (flat_of s) images }
 {}
 
-/// The slots of every compiled system, its threads, regions, pages, frames, labels and map are those of its source.
+/// The slots of every compiled system, its threads, regions, pages, page tables, frames, labels and map are those of its source.
 pub fn builds_are_those_of_their_source()
     ensures { (root : List ℕ) (contents : Option Contents) (b : Build) → IsBuildOf root contents b → IsOfSource contents b }
 {}

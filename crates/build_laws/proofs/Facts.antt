@@ -1,5 +1,5 @@
 -- What is known of a build: that no fault of any phase stands in its source and its section tables.
-use Rattle.std.proofs.Common.{◌≡◌, List, ℕ, Option, Some, None, Ok, refl, sym, ap}
+use Rattle.std.proofs.Common.{◌≡◌, List, ℕ, Option, None, refl}
 use Rattle.std.specs.Option.{option_or}
 use Rattle.adl_ast.specs.declared.source.Source.{Source}
 use Rattle.adl_hierarchy.specs.Spelled.{AreSpelled}
@@ -24,23 +24,25 @@ use Rattle.program_sections.specs.SpaceFaults.{first_space_fault}
 use Rattle.program_sections.specs.declared.images.Images.{Images}
 use Rattle.source_images.proofs.ImageNumbers.{images_numbered}
 use Rattle.source_images.proofs.Soundness.{images_sound}
-use Rattle.source_images.specs.Found.{Found}
+use Rattle.source_images.specs.ImagesRead.{AreImagesOf}
 use Rattle.source_images.specs.TableFaults.{first_table_fault}
 use Rattle.source_images.specs.Types.{types}
 use Rattle.vspace_layout.specs.PageLimits.{first_page_limit}
 
-pub record AreFacts (s : Source) (images : Images) : Type 0 where
+pub record AreFacts (contents : Option Contents) (s : Source) (images : Images) : Type 0 where
   pub short : AreFilesShort s
   pub spelled : AreSpelled s
   pub faultless : IsFaultless s
+  pub read : AreImagesOf contents (root_of s) s (flat_of s) images
   pub numbered : AreNumbered (flat_of s) images
   pub sound : AreSound images
   pub space : first_space_fault (flat_of s) images ≡ None
   pub slot : first_slot_fault s (flat_of s) ≡ None
   pub page : first_page_limit (spaced s images) ≡ None
+  pub edge : first_edge_fault (source_tables s) ≡ None
 
 -- the facts of a build, with its images
-pub build_facts : (root : List ℕ) (contents : Option Contents) (b : Build) (is : IsBuildOf root contents b) → AreFacts b.front.source (images_from b.front.source is.found)
+pub build_facts : (root : List ℕ) (contents : Option Contents) (b : Build) (is : IsBuildOf root contents b) → AreFacts contents b.front.source (images_from b.front.source is.found)
 build_facts root contents b is =
     let s = b.front.source in
     let found = is.found in
@@ -48,6 +50,7 @@ build_facts root contents b is =
     let whole : IsWhole s = loaded_whole contents root s is.front.loaded in
     let front : first_front_fault s ≡ None = no_first (first_front_fault s) (first_layout_fault s found) is.clean in
     let layout : first_layout_fault s found ≡ None = no_second (first_front_fault s) (first_layout_fault s found) is.clean in
+    let table : first_table_fault (root_of s) s (flat_of s) found ≡ None = no_first (first_table_fault (root_of s) s (flat_of s) found) (first_imaged_fault s images) layout in
     let imaged : first_imaged_fault s images ≡ None = no_second (first_table_fault (root_of s) s (flat_of s) found) (first_imaged_fault s images) layout in
     let space = first_space_fault (flat_of s) images in
     let slot = first_slot_fault s (flat_of s) in
@@ -59,10 +62,12 @@ build_facts root contents b is =
       short = whole.short;
       spelled = short_spelled s whole.short;
       faultless = faultless s front;
-      numbered = images_numbered (root_of s) s (flat_of s) found is.told.count (no_first (first_table_fault (root_of s) s (flat_of s) found) (first_imaged_fault s images) layout)
+      read = record { found = found; told = is.told; clean = table; images = refl };
+      numbered = images_numbered (root_of s) s (flat_of s) found is.told.count table
           (sound_within s (flat_of s) (settled_of s) (record { whole = whole; none = front; meant = record { is_flat = refl; is_settled = refl } }));
       sound = λ n image at x i. images_sound (types s (flat_of s)) found n image at x i;
       space = no_first space (option_or slot (option_or page edges)) imaged;
       slot = no_first slot (option_or page edges) behind;
       page = no_first page edges last;
+      edge = no_second page edges last;
     }

@@ -1,2 +1,2 @@
-mod Facts
+pub mod Facts
 pub mod Soundness

@@ -1,15 +1,14 @@
 -- Builds are sound: each part by the law of its own layer.
-use Rattle.std.proofs.Common.{◌≡◌, ◌≢◌, ◌∙◌, ℕ, List, Option, Some, None, Ok, refl, sym, ap, subst}
+use Rattle.std.proofs.Common.{◌≡◌, ◌≢◌, ◌∙◌, ℕ, List, Option, refl, sym, subst}
 use Rattle.std.specs.Prelude.{◌↔◌}
 use Rattle.adl_ast.specs.declared.source.Source.{Source}
 use Rattle.adl_meaning.specs.Flat.{flat_of}
-use Rattle.adl_settings.specs.Settled.{settled_of}
 use Rattle.arch_compile.specs.Built.{IsBuildOf, IsMade, labelled, system_tables}
 use Rattle.arch_compile.specs.LayoutFaults.{images_from}
 use Rattle.arch_compile.specs.declared.building.Build.{Build}
 use Rattle.arch_policy.specs.Labels.{label_lines}
 use Rattle.arch_policy.specs.Reasons.{IsReasoned}
-use Rattle.arch_policy.specs.Tables.{AreApart, Tables as PolicyTables}
+use Rattle.arch_policy.specs.Tables.{AreApart}
 use Rattle.assigned_laws.proofs.Ranked.{lines_apart}
 use Rattle.assigned_laws.proofs.TextReasons.{assigned_texts, labels_apart}
 use Rattle.assigned_laws.specs.Texts.{IsAssignedText}
@@ -20,7 +19,6 @@ use Rattle.auth_kinds.specs.declared.edge.Edge.{Edge}
 use Rattle.cam_io.specs.Contents.{Contents}
 use Rattle.cap_machine.specs.Runs.{Reaches}
 use Rattle.cap_model.specs.Kept.{IsKept}
-use Rattle.cap_model.specs.declared.spec.Spec.{Spec}
 use Rattle.cert_check.specs.Valid.{Valid}
 use Rattle.front_end.specs.First.{source_tables}
 use Rattle.numbering.specs.Gather.{IsIn}
@@ -39,7 +37,7 @@ use Rattle.system_spec.specs.Tables.{Tables}
 use Rattle.build_laws.proofs.Facts.{AreFacts, build_facts}
 use Rattle.build_laws.specs.Sound.{IsSound, ReachesText}
 
-module _ (s : Source) (images : Images) (facts : AreFacts s images) where
+module _ {contents : Option Contents} (s : Source) (images : Images) (facts : AreFacts contents s images) where
   abbrev t : Tables
   t = system_tables s images
 

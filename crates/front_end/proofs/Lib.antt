@@ -5,3 +5,4 @@ pub mod OneAnswer
 pub mod Refusing
 pub mod Sound
 pub mod Within
+pub mod Passing

@@ -3,8 +3,11 @@
 ghost use Rattle.adl_meaning.specs.Faults.{Refuses};
 ghost use Rattle.adl_meaning.specs.FewMembers.{HaveFewMembers};
 ghost use Rattle.adl_meaning.specs.Flat.{flat_of};
+ghost use Rattle.adl_meaning.specs.Hierarchy.{hierarchy_of};
 ghost use Rattle.adl_meaning.specs.Items.{AreFew};
+ghost use Rattle.adl_meaning.specs.NameFaults.{AreNamesSound};
 ghost use Rattle.adl_settings.specs.Settled.{settled_of};
+ghost use Rattle.adl_types.specs.TypeFaults.{first_type_fault};
 ghost use Rattle.cam_io.specs.Reading.{KeepsFiles};
 ghost use Rattle.front_end.specs.First.{first_front_fault, name_of_file};
 ghost use Rattle.front_end.specs.Fronts.{IsFront, IsMeaning};
@@ -15,12 +18,13 @@ ghost use Rattle.std.specs.Prelude.{◌≡◌, IfOk};
 use crate::BuildError;
 use crate::error::not_loaded;
 use adl_ast::Source;
-use adl_flatten::flatten;
+use adl_flatten::flatten_program;
 use adl_import::load;
 use adl_meaning::{Flat, Settled};
 use adl_names::resolve;
-use adl_settings::settle;
-use adl_types::check_types;
+use adl_program::{Program, program_of};
+use adl_settle::settle;
+use adl_types::type_fault;
 use arch_policy::policy_of;
 use auth_kinds::Policy;
 use cam_base::{Fault, NoMemory, Refused, Text};
@@ -123,6 +127,24 @@ fn with_parts(alloc: Global, source: Source) -> Result<Meaning, BuildError>
     }
 }
 
+/// The program of a source in which no fault of names stands.
+///
+/// # Errors
+///
+/// The first fault of types, exactly where one stands; want of memory.
+fn typed_program<'a>(alloc: Global, source: &'a Source) -> Result<Program<'a>, Refused<Fault>>
+    requires few { AreFew source.now }
+    requires sound { AreNamesSound source.now }
+    ensures fault { Refuses result (first_type_fault source.now) }
+    ensures program { IfOk result (λ p. p ≡ hierarchy_of source.now) }
+{
+    let program = program_of(alloc, source)?;
+    match type_fault(&program).refuse(alloc) {
+        Ok(()) => Ok(program),
+        Err(refused) => Err(refused),
+    }
+}
+
 fn parts_of(alloc: Global, source: &Source) -> Result<Parts, Refused<Fault>>
     requires few { AreFew source.now }
     requires members { HaveFewMembers source.now }
@@ -131,8 +153,8 @@ fn parts_of(alloc: Global, source: &Source) -> Result<Parts, Refused<Fault>>
     ensures settled { IfOk result (λ m. m.settled ≡ settled_of source.now) }
 {
     let names = resolve(alloc, source)?;
-    check_types(alloc, source, &names)?;
-    let flat = flatten(alloc, source, &names)?;
+    let program = typed_program(alloc, source)?;
+    let flat = flatten_program(alloc, source, &program)?;
     let settled = settle(alloc, source, &names, &flat)?;
     Ok(Parts { flat, settled })
 }

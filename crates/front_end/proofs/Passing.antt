@@ -1,0 +1,35 @@
+-- A phase that refuses tells the first fault, where those before it found none.
+use Rattle.std.proofs.Common.{◌≡◌, Option, Some, None, Result, Ok, Err, sym, subst}
+use Rattle.std.specs.Option.{option_or}
+use Rattle.std.specs.Prelude.{IsErr, IsErrAnd}
+use Rattle.cam_base.specs.declared.error.Refused.{Refused}
+use Rattle.cam_base.specs.declared.error.Refused.TheVariants as refused
+use Rattle.cam_base.specs.declared.place.Fault.{Fault}
+use Rattle.adl_meaning.specs.Faults.{Refuses}
+
+third : (X Y : Type 0) (e : Refused Fault) (a b c d : Option Fault) → a ≡ None → b ≡ None → Refuses {T = Y} (Err e) c → Refuses {T = X} (Err e) (option_or a (option_or b (option_or c d)))
+third X Y refused.NoMemory a b c d p q m = tt
+third X Y (refused.Fault f) None None (Some g) d p q m = m
+third X Y (refused.Fault f) None None None d p q m = absurd cc
+third X Y (refused.Fault f) None (Some g) c d p q m = absurd cc
+third X Y (refused.Fault f) (Some g) b c d p q m = absurd cc
+
+fourth : (X Y : Type 0) (e : Refused Fault) (a b c d : Option Fault) → a ≡ None → b ≡ None → c ≡ None → Refuses {T = Y} (Err e) d
+    → Refuses {T = X} (Err e) (option_or a (option_or b (option_or c d)))
+fourth X Y refused.NoMemory a b c d p q r m = tt
+fourth X Y (refused.Fault f) None None None d p q r m = m
+fourth X Y (refused.Fault f) None None (Some g) d p q r m = absurd cc
+fourth X Y (refused.Fault f) None (Some g) c d p q r m = absurd cc
+fourth X Y (refused.Fault f) (Some g) b c d p q r m = absurd cc
+
+passed : {X : Type 0} (r : Result X (Refused Fault)) (e : Refused Fault) (o : Option Fault) → IsErr r → IsErrAnd r (λ x. x ≡ e) → Refuses {T = X} (Err e) o → Refuses r o
+passed (Ok x) e o is h m = absurd h
+passed {X} (Err f) e o is h m = subst (λ z. Refuses {T = X} (Err z) o) (sym h) m
+
+pub third_told : {X : Type 0} (Y : Type 0) (r : Result X (Refused Fault)) (e : Refused Fault) (a b c d : Option Fault) → IsErr r → IsErrAnd r (λ x. x ≡ e) → a ≡ None → b ≡ None
+    → Refuses {T = Y} (Err e) c → Refuses r (option_or a (option_or b (option_or c d)))
+third_told {X} Y r e a b c d is h p q m = passed r e (option_or a (option_or b (option_or c d))) is h (third X Y e a b c d p q m)
+
+pub fourth_told : {X : Type 0} (Y : Type 0) (r : Result X (Refused Fault)) (e : Refused Fault) (a b c d : Option Fault) → IsErr r → IsErrAnd r (λ x. x ≡ e) → a ≡ None → b ≡ None → c ≡ None
+    → Refuses {T = Y} (Err e) d → Refuses r (option_or a (option_or b (option_or c d)))
+fourth_told {X} Y r e a b c d is h p q n m = passed r e (option_or a (option_or b (option_or c d))) is h (fourth X Y e a b c d p q n m)
