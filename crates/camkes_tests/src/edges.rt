@@ -58,6 +58,22 @@ fn edges_out_of_a_label(rt: HostRuntime) -> Result<(), Fail> {
 }
 
 #[test]
+fn labels_of_one_class(rt: HostRuntime) -> Result<(), Fail> {
+    let sends = AuthoritySet::empty()
+        .with(Authority::SyncSend)
+        .with(Authority::Reset);
+    let edges = with_set(Vec::new(rt.alloc()), 0, sends, 2)?;
+    let edges = with_set(edges, 1, sends, 2)?;
+    let edges = with_edge(edges, edge(0, Authority::Control, 1))?;
+    let edges = with_edge(edges, edge(1, Authority::Control, 1))?;
+    let table = EdgeTable::from_list(rt.alloc(), edges.as_slice())?;
+    assert!(rt;
+        table.class_of(0) == Some(0) && table.class_of(1) == Some(0) && table.class_of(2).is_none()
+    );
+    Ok(())
+}
+
+#[test]
 fn authorities_by_number_and_text(rt: HostRuntime) {
     let texts = [
         "Receive",

@@ -30,14 +30,11 @@ use camkes_tool::{
 };
 use component_graph::{acyclic_is_unheld, held_is_held, walks_are_short};
 use conn_rules::{rights_confer_just_the_authorities, sets_are_their_lists};
-use flat_laws::{
-    ends_are_typed, flat_systems_are_flat, flat_systems_are_within, short_files_have_few_members,
-};
+use flat_laws::{ends_are_typed, flat_systems_are_within, short_files_have_few_members};
 use page_tables::{
     counts_are_of_addresses, root_is_one, runs_are_tables, shapes_are_levels, slots_rise,
     tables_are_kept, tables_hold_what_is_mapped,
 };
-use spec_layout::{boot_edges_are_direct, specs_are_kept};
 
 #[test]
 fn laws_of_the_grammar(_rt: HostRuntime) {
@@ -90,7 +87,6 @@ fn laws_of_hierarchies(_rt: HostRuntime) {
     domains_are_the_domains();
     leaf_numbers_are_places();
     flat_systems_are_within();
-    flat_systems_are_flat();
     ends_are_typed();
     short_files_have_few_members();
 }
@@ -115,8 +111,6 @@ fn laws_of_authorities(_rt: HostRuntime) {
 
 #[test]
 fn laws_of_layouts(_rt: HostRuntime) {
-    boot_edges_are_direct();
-    specs_are_kept();
     shapes_are_levels();
     runs_are_tables();
     tables_hold_what_is_mapped();

@@ -12,11 +12,11 @@ use Rattle.cap_model.specs.Canonical.{canonical}
 use Rattle.policy_text.specs.PolicyLines.{cert_text, policy_text}
 use Rattle.command_words.specs.Words.{read_words}
 use Rattle.command_words.specs.declared.command.Command.{Command}
-use Rattle.command_words.specs.declared.command.Command.TheVariants.{Compile, Check, List as ListOf, Explain, Replay, Audit, Certify, Sections, Plan}
+use Rattle.command_words.specs.declared.command.Command.TheVariants.{Compile, Check, List as ListOf, Explain, Replay, Generate, Audit, Certify, Sections, Plan}
 use Rattle.camkes_tool.specs.Answers.{AreOne, Fits, FitsAsked, FitsRoot, IsCompiling, Tells, script, status_of, yields}
 use Rattle.camkes_tool.specs.Lines.{fault_line}
 use Rattle.camkes_tool.specs.declared.answer.Answer.{Answer}
-use Rattle.camkes_tool.specs.declared.answer.Answer.TheVariants.{Compiled, Listed, Explained, Told, Faulted, Refused, Usage, ReadFault, NoMemory}
+use Rattle.camkes_tool.specs.declared.answer.Answer.TheVariants.{Compiled, Listed, Explained, Told, Generated, Faulted, Refused, Usage, ReadFault, NoMemory}
 
 same_answer : (a : Answer) → AreOne a a
 same_answer a = record { status = refl; script = refl; compiled = refl; faulted = refl }
@@ -52,15 +52,18 @@ module _ (m : Contents) (root base : List ℕ) (old new later last : List ℕ �
   one_of_root (Listed o) b p q x y = absurd x
   one_of_root (Explained o) b p q x y = absurd x
   one_of_root (Told o) b p q x y = absurd x
+  one_of_root (Generated o) b p q x y = absurd x
   one_of_root (Refused a f) b p q x y = absurd x
   one_of_root Usage b p q x y = absurd x
   one_of_root (Compiled a s) (Listed o) p q x y = absurd y
   one_of_root (Compiled a s) (Explained o) p q x y = absurd y
   one_of_root (Compiled a s) (Told o) p q x y = absurd y
+  one_of_root (Compiled a s) (Generated o) p q x y = absurd y
   one_of_root (Compiled a s) (Refused b g) p q x y = absurd y
   one_of_root (Faulted a f) (Listed o) p q x y = absurd y
   one_of_root (Faulted a f) (Explained o) p q x y = absurd y
   one_of_root (Faulted a f) (Told o) p q x y = absurd y
+  one_of_root (Faulted a f) (Generated o) p q x y = absurd y
   one_of_root (Faulted a f) (Refused b g) p q x y = absurd y
   one_of_root (Compiled a s) Usage p q x y = absurd y
   one_of_root (Faulted a f) Usage p q x y = absurd y
@@ -77,10 +80,12 @@ one_usage m old new later last Usage (Compiled b t) p q x y = absurd y
 one_usage m old new later last Usage (Listed o) p q x y = absurd y
 one_usage m old new later last Usage (Explained o) p q x y = absurd y
 one_usage m old new later last Usage (Told o) p q x y = absurd y
+one_usage m old new later last Usage (Generated o) p q x y = absurd y
 one_usage m old new later last Usage (Refused b g) p q x y = absurd y
 one_usage m old new later last (Listed o) b p q x y = absurd x
 one_usage m old new later last (Explained o) b p q x y = absurd x
 one_usage m old new later last (Told o) b p q x y = absurd x
+one_usage m old new later last (Generated o) b p q x y = absurd x
 one_usage m old new later last (Refused a f) b p q x y = absurd x
 one_usage m old new later last Usage (Faulted b g) p q x y = absurd y
 one_usage m old new later last Usage (ReadFault b) p q x y = absurd y
@@ -97,6 +102,7 @@ one_asked m (Some (Check cdl policy cert)) old new later last a b o p q x y = ab
 one_asked m (Some (ListOf root)) old new later last a b o p q x y = absurd o
 one_asked m (Some (Explain root from authority to)) old new later last a b o p q x y = absurd o
 one_asked m (Some (Replay cdl policy steps)) old new later last a b o p q x y = absurd o
+one_asked m (Some (Generate count)) old new later last a b o p q x y = absurd o
 one_asked m (Some (Sections elf)) old new later last a b o p q x y = absurd o
 one_asked m (Some (Audit cdl policy)) old new later last a b o p q x y = absurd o
 one_asked m (Some (Certify cdl policy)) old new later last a b o p q x y = absurd o
@@ -118,6 +124,7 @@ stays (Compiled a s) l = refl
 stays (Listed o) l = refl
 stays (Explained o) l = refl
 stays (Told o) l = refl
+stays (Generated o) l = refl
 stays (Refused a f) l = refl
 stays (Faulted a f) l = refl
 stays Usage l = refl

@@ -60,5 +60,6 @@ module _ (contents : Option Contents) (old new : List ℕ → ℕ) (cdl policy c
   answered_safe (answers.Compiled name spec) fits e = absurd fits
   answered_safe (answers.Listed listing) fits e = absurd fits
   answered_safe (answers.Explained answer) fits e = absurd fits
+  answered_safe (answers.Generated summary) fits e = absurd fits
   answered_safe (answers.Faulted file fault) fits e = absurd fits
   answered_safe answers.Usage fits e = absurd fits

@@ -11,9 +11,10 @@ use Rattle.arch_compile.specs.LayoutFaults.{first_fault, tables_beside}
 use Rattle.arch_compile.specs.declared.building.Build.{Build}
 use Rattle.command_words.specs.Words.{read_words}
 use Rattle.command_words.specs.declared.command.Command.{Command}
-use Rattle.command_words.specs.declared.command.Command.TheVariants.{Compile, Check, List as ListOf, Explain, Replay, Audit, Certify, Sections, Plan}
+use Rattle.command_words.specs.declared.command.Command.TheVariants.{Compile, Check, List as ListOf, Explain, Replay, Generate, Audit, Certify, Sections, Plan}
 use Rattle.front_end.specs.declared.error.BuildError.{BuildError}
 use Rattle.front_end.specs.declared.error.BuildError.TheVariants as build
+use Rattle.generate_command.specs.Generated.{IsGenerated}
 use Rattle.reason_lines.specs.Answers.{is_assigned}
 use Rattle.reason_lines.specs.declared.answer.Answer.{Answer as Reply}
 use Rattle.source_commands.specs.Explained.{IsExplained}
@@ -26,10 +27,10 @@ use Rattle.text_commands.specs.declared.fault.InputError.{InputError}
 use Rattle.text_commands.specs.declared.fault.InputError.TheVariants as input
 use Rattle.text_commands.specs.declared.outcome.Outcome.{Outcome}
 use Rattle.camkes_tool.proofs.ReadFaults.{audit_rose, certify_rose, check_rose, plan_rose, run_rose, table_rose}
-use Rattle.camkes_tool.specs.Answers.{Fits, FitsAsked, FitsExplained, FitsListed, FitsRoot, FitsTexts, Tells, status_of}
+use Rattle.camkes_tool.specs.Answers.{Fits, FitsAsked, FitsExplained, FitsGenerated, FitsListed, FitsRoot, FitsTexts, Tells, status_of}
 use Rattle.camkes_tool.specs.Statuses.{HasFault, IsSound, IsStatus, IsStatusOf, IsStatusOfSource, IsStatusOfTexts, NoneRose}
 use Rattle.camkes_tool.specs.declared.answer.Answer.{Answer}
-use Rattle.camkes_tool.specs.declared.answer.Answer.TheVariants.{Compiled, Listed, Explained, Told, Faulted, Refused, Usage, ReadFault, NoMemory}
+use Rattle.camkes_tool.specs.declared.answer.Answer.TheVariants.{Compiled, Listed, Explained, Told, Generated, Faulted, Refused, Usage, ReadFault, NoMemory}
 
 built_sound : (m : Contents) (root : List ℕ) (b : Build) → IsBuildOf root (Some m) b → IsSound m root
 built_sound m root b is = (b.front.source, is.front.loaded, ap (first_fault b.front.source) (sym is.told.told) ∙ is.clean)
@@ -40,6 +41,7 @@ of_root m root base old new (Faulted file fault) status x none e = inr (inl (e, 
 of_root m root base old new (Listed o) status x none e = absurd x
 of_root m root base old new (Explained o) status x none e = absurd x
 of_root m root base old new (Told outcome) status x none e = absurd x
+of_root m root base old new (Generated o) status x none e = absurd x
 of_root m root base old new (Refused file fault) status x none e = absurd x
 of_root m root base old new Usage status x none e = absurd x
 of_root m root base old new (ReadFault file) status x none e = absurd (none file x.1)
@@ -50,6 +52,7 @@ of_usage m old new (Compiled names b) status x e = absurd x
 of_usage m old new (Listed o) status x e = absurd x
 of_usage m old new (Explained o) status x e = absurd x
 of_usage m old new (Told outcome) status x e = absurd x
+of_usage m old new (Generated o) status x e = absurd x
 of_usage m old new (Faulted file fault) status x e = absurd x
 of_usage m old new (Refused file fault) status x e = absurd x
 of_usage m old new Usage status x e = inl e
@@ -64,6 +67,7 @@ of_texts asked NoMemory status none x e = inr (inr e)
 of_texts asked (Compiled names b) status none x e = absurd x
 of_texts asked (Listed o) status none x e = absurd x
 of_texts asked (Explained o) status none x e = absurd x
+of_texts asked (Generated o) status none x e = absurd x
 of_texts asked (Faulted file fault) status none x e = absurd x
 of_texts asked Usage status none x e = absurd x
 
@@ -76,6 +80,7 @@ of_listed asked NoMemory status none x e = inr (inr e)
 of_listed asked (Compiled names b) status none x e = absurd x
 of_listed asked (Explained o) status none x e = absurd x
 of_listed asked (Told outcome) status none x e = absurd x
+of_listed asked (Generated o) status none x e = absurd x
 of_listed asked (Refused file fault) status none x e = absurd x
 of_listed asked Usage status none x e = absurd x
 
@@ -88,8 +93,21 @@ of_explained asked NoMemory status none x e = inr (inr e)
 of_explained asked (Compiled names b) status none x e = absurd x
 of_explained asked (Listed o) status none x e = absurd x
 of_explained asked (Told outcome) status none x e = absurd x
+of_explained asked (Generated o) status none x e = absurd x
 of_explained asked (Refused file fault) status none x e = absurd x
 of_explained asked Usage status none x e = absurd x
+
+of_generated : (count : ℕ) (a : Answer) (status : ℕ) → FitsGenerated (IsGenerated count) a → status ≡ status_of a → IsStatusOfSource (IsGenerated count) (λ summary. true) status
+of_generated count (Generated summary) status x e = inl (summary, x, e)
+of_generated count (Faulted file fault) status x e = inr (inl (fault, file, x, e))
+of_generated count (ReadFault file) status x e = absurd x
+of_generated count NoMemory status x e = inr (inr e)
+of_generated count (Compiled names b) status x e = absurd x
+of_generated count (Listed o) status x e = absurd x
+of_generated count (Explained o) status x e = absurd x
+of_generated count (Told outcome) status x e = absurd x
+of_generated count (Refused file fault) status x e = absurd x
+of_generated count Usage status x e = absurd x
 
 of_asked : (m : Contents) (asked : Option Command) (old new : List ℕ → ℕ) (a : Answer) (status : ℕ) → FitsAsked asked (Some m) old new a → NoneRose old new → status ≡ status_of a → IsStatus m old new asked status
 of_asked m None old new a status x none e = of_usage m old new a status x e
@@ -102,6 +120,7 @@ of_asked m (Some (Explain root from authority to)) old new a status x none e =
     of_explained (IsExplained from authority to root (Some m) old new) a status (λ file h. none file h.1) x e
 of_asked m (Some (Replay cdl policy steps)) old new a status x none e =
     of_texts (IsRun (Some m) old new cdl policy steps) a status (λ file h. none file (run_rose (Some m) old new cdl policy steps file h)) x e
+of_asked m (Some (Generate count)) old new a status x none e = of_generated count a status x e
 of_asked m (Some (Audit cdl policy)) old new a status x none e =
     of_texts (IsAudited (Some m) old new cdl policy) a status (λ file h. none file (audit_rose (Some m) old new cdl policy file h)) x e
 of_asked m (Some (Certify cdl policy)) old new a status x none e =
@@ -137,6 +156,7 @@ texts_not_two asked NoMemory x e = cc
 texts_not_two asked (Compiled names b) x e = absurd x
 texts_not_two asked (Listed o) x e = absurd x
 texts_not_two asked (Explained o) x e = absurd x
+texts_not_two asked (Generated o) x e = absurd x
 texts_not_two asked (Faulted file fault) x e = absurd x
 texts_not_two asked Usage x e = absurd x
 
@@ -148,6 +168,7 @@ listed_not_two asked NoMemory x e = cc
 listed_not_two asked (Compiled names b) x e = absurd x
 listed_not_two asked (Explained o) x e = absurd x
 listed_not_two asked (Told outcome) x e = absurd x
+listed_not_two asked (Generated o) x e = absurd x
 listed_not_two asked (Refused file fault) x e = absurd x
 listed_not_two asked Usage x e = absurd x
 
@@ -159,8 +180,21 @@ explained_not_two asked NoMemory x e = cc
 explained_not_two asked (Compiled names b) x e = absurd x
 explained_not_two asked (Listed o) x e = absurd x
 explained_not_two asked (Told outcome) x e = absurd x
+explained_not_two asked (Generated o) x e = absurd x
 explained_not_two asked (Refused file fault) x e = absurd x
 explained_not_two asked Usage x e = absurd x
+
+generated_not_two : (count : ℕ) (a : Answer) → FitsGenerated (IsGenerated count) a → 2 ≡ status_of a → ⊥
+generated_not_two count (Generated summary) x e = cc
+generated_not_two count (Faulted file fault) x e = cc
+generated_not_two count (ReadFault file) x e = cc
+generated_not_two count NoMemory x e = cc
+generated_not_two count (Compiled names b) x e = absurd x
+generated_not_two count (Listed o) x e = absurd x
+generated_not_two count (Explained o) x e = absurd x
+generated_not_two count (Told outcome) x e = absurd x
+generated_not_two count (Refused file fault) x e = absurd x
+generated_not_two count Usage x e = absurd x
 
 unread : (m : Contents) (asked : Option Command) (old new : List ℕ → ℕ) (a : Answer) → FitsAsked asked (Some m) old new a → 2 ≡ status_of a → asked ≡ None
 unread m None old new a x e = refl
@@ -169,12 +203,14 @@ unread m (Some (Compile root base)) old new (Faulted file fault) x e = absurd cc
 unread m (Some (Compile root base)) old new (Listed o) x e = absurd x
 unread m (Some (Compile root base)) old new (Explained o) x e = absurd x
 unread m (Some (Compile root base)) old new (Told outcome) x e = absurd x
+unread m (Some (Compile root base)) old new (Generated o) x e = absurd x
 unread m (Some (Compile root base)) old new (Refused file fault) x e = absurd x
 unread m (Some (Compile root base)) old new Usage x e = absurd x
 unread m (Some (Check cdl policy cert)) old new a x e = absurd (texts_not_two (IsChecked (Some m) old new cdl policy cert) a x e)
 unread m (Some (ListOf root)) old new a x e = absurd (listed_not_two (IsListed root (Some m) old new) a x e)
 unread m (Some (Explain root from authority to)) old new a x e = absurd (explained_not_two (IsExplained from authority to root (Some m) old new) a x e)
 unread m (Some (Replay cdl policy steps)) old new a x e = absurd (texts_not_two (IsRun (Some m) old new cdl policy steps) a x e)
+unread m (Some (Generate count)) old new a x e = absurd (generated_not_two count a x e)
 unread m (Some (Audit cdl policy)) old new a x e = absurd (texts_not_two (IsAudited (Some m) old new cdl policy) a x e)
 unread m (Some (Certify cdl policy)) old new a x e = absurd (texts_not_two (IsCertified (Some m) old new cdl policy) a x e)
 unread m (Some (Plan cdl untypeds)) old new a x e = absurd (texts_not_two (IsPlanned (Some m) old new cdl untypeds) a x e)

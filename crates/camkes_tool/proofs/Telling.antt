@@ -3,7 +3,7 @@
 use Rattle.std.proofs.Common.{◌≡◌, ℕ, List, Option, Some, None, Result, Ok, Err, subst, sym}
 use Rattle.cam_io.specs.Contents.{Contents}
 use Rattle.command_words.specs.declared.command.Command.{Command}
-use Rattle.command_words.specs.declared.command.Command.TheVariants.{Compile, Check, List as ListOf, Explain, Replay, Audit, Certify, Sections, Plan}
+use Rattle.command_words.specs.declared.command.Command.TheVariants.{Compile, Check, List as ListOf, Explain, Replay, Generate, Audit, Certify, Sections, Plan}
 use Rattle.text_commands.specs.Commands.{IsAudited, IsCertified, IsChecked, IsPlanned, IsRun, IsTabled}
 use Rattle.text_commands.specs.declared.fault.InputError.{InputError}
 use Rattle.text_commands.specs.declared.fault.InputError.TheVariants.{Fault, ReadFault, NoMemory}
@@ -26,6 +26,7 @@ no_memory_fits (Some (Check cdl policy cert)) contents before now = tt
 no_memory_fits (Some (ListOf root)) contents before now = tt
 no_memory_fits (Some (Explain root from authority to)) contents before now = tt
 no_memory_fits (Some (Replay cdl policy steps)) contents before now = tt
+no_memory_fits (Some (Generate count)) contents before now = tt
 no_memory_fits (Some (Audit cdl policy)) contents before now = tt
 no_memory_fits (Some (Certify cdl policy)) contents before now = tt
 no_memory_fits (Some (Sections elf)) contents before now = tt

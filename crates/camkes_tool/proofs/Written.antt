@@ -9,7 +9,7 @@ use Rattle.camkes_tool.proofs.Safe.{answered_safe}
 use Rattle.camkes_tool.specs.Answers.{FitsAsked, FitsRoot, Tells, status_of}
 use Rattle.camkes_tool.specs.Theorem.{IsSafe, IsWritten}
 use Rattle.camkes_tool.specs.declared.answer.Answer.{Answer}
-use Rattle.camkes_tool.specs.declared.answer.Answer.TheVariants.{Compiled, Listed, Explained, Told, Faulted, Refused, Usage, ReadFault, NoMemory}
+use Rattle.camkes_tool.specs.declared.answer.Answer.TheVariants.{Compiled, Listed, Explained, Told, Generated, Faulted, Refused, Usage, ReadFault, NoMemory}
 
 zero_not_five : (n : ℕ) → n ≡ 0 → n ≡ 5 → ⊥
 zero_not_five n e h = omega arith
@@ -31,6 +31,7 @@ module _ (contents : Option Contents) (before now : List ℕ → ℕ) (root base
   root_written (Listed o) fits tells = absurd fits
   root_written (Explained o) fits tells = absurd fits
   root_written (Told o) fits tells = absurd fits
+  root_written (Generated o) fits tells = absurd fits
   root_written (Refused file fault) fits tells = absurd fits
   root_written Usage fits tells = absurd fits
   root_written (ReadFault file) fits tells = let e = whole_status (ReadFault file) status old new m n tells zero in absurd cc

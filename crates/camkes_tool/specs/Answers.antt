@@ -8,13 +8,15 @@ use Rattle.cam_io.specs.Scripts.{Act, Write, after, CutShort}
 use Rattle.arch_compile.specs.Built.{IsBuildOf}
 use Rattle.arch_compile.specs.Compiled.{IsFirstFault, IsUnread}
 use Rattle.arch_compile.specs.declared.building.Build.{Build}
+use Rattle.build_summary.specs.declared.summary.Summary.{Summary}
 use Rattle.build_texts.specs.BuildTexts.{AreNamedBy, texts_script}
 use Rattle.command_words.specs.Lines.{usage_line}
 use Rattle.command_words.specs.Words.{read_words}
 use Rattle.command_words.specs.declared.command.Command.{Command}
-use Rattle.command_words.specs.declared.command.Command.TheVariants.{Compile, Check, List as ListOf, Explain, Replay, Audit, Certify, Sections, Plan}
+use Rattle.command_words.specs.declared.command.Command.TheVariants.{Compile, Check, List as ListOf, Explain, Replay, Generate, Audit, Certify, Sections, Plan}
 use Rattle.front_end.specs.declared.error.BuildError.{BuildError}
 use Rattle.front_end.specs.declared.error.BuildError.TheVariants as build
+use Rattle.generate_command.specs.Generated.{IsGenerated, generated_text}
 use Rattle.reason_lines.specs.Answers.{answer_text, is_assigned}
 use Rattle.source_commands.specs.Explained.{IsExplained}
 use Rattle.reason_lines.specs.declared.answer.Answer.{Answer as Reply}
@@ -29,7 +31,7 @@ use Rattle.text_commands.specs.declared.fault.InputFault.{InputFault}
 use Rattle.text_commands.specs.declared.outcome.Outcome.{Outcome}
 use Rattle.camkes_tool.specs.Lines.{fault_line, read_fault_line, no_memory_line}
 use Rattle.camkes_tool.specs.declared.answer.Answer.{Answer}
-use Rattle.camkes_tool.specs.declared.answer.Answer.TheVariants.{Compiled, Listed, Explained, Told, Faulted, Refused, Usage, ReadFault, NoMemory}
+use Rattle.camkes_tool.specs.declared.answer.Answer.TheVariants.{Compiled, Listed, Explained, Told, Generated, Faulted, Refused, Usage, ReadFault, NoMemory}
 
 -- The answer is right for this root and base, these files, and these counts of read faults before and now. In given contents
 -- there is one such answer, aside from read faults and want of memory (`answers_are_one` in src/laws.rt), so each comes
@@ -40,6 +42,7 @@ FitsRoot root base contents before now (Faulted file fault) = IsFirstFault root 
 FitsRoot root base contents before now (Listed listing) = ⊥
 FitsRoot root base contents before now (Explained answer) = ⊥
 FitsRoot root base contents before now (Told outcome) = ⊥
+FitsRoot root base contents before now (Generated summary) = ⊥
 FitsRoot root base contents before now (Refused file fault) = ⊥
 FitsRoot root base contents before now Usage = ⊥
 FitsRoot root base contents before now (ReadFault file) = IsUnread root contents file × Rose (before file) (now file)
@@ -53,6 +56,7 @@ IsUsage (Compiled names b) = ⊥
 IsUsage (Listed listing) = ⊥
 IsUsage (Explained answer) = ⊥
 IsUsage (Told outcome) = ⊥
+IsUsage (Generated summary) = ⊥
 IsUsage (Faulted file fault) = ⊥
 IsUsage (Refused file fault) = ⊥
 IsUsage (ReadFault file) = ⊥
@@ -66,6 +70,7 @@ FitsTexts asked NoMemory = Unit {0}
 FitsTexts asked (Compiled names b) = ⊥
 FitsTexts asked (Listed listing) = ⊥
 FitsTexts asked (Explained answer) = ⊥
+FitsTexts asked (Generated summary) = ⊥
 FitsTexts asked (Faulted file fault) = ⊥
 FitsTexts asked Usage = ⊥
 
@@ -78,10 +83,11 @@ FitsRefused refused (Compiled names b) = ⊥
 FitsRefused refused (Listed listing) = ⊥
 FitsRefused refused (Explained answer) = ⊥
 FitsRefused refused (Told outcome) = ⊥
+FitsRefused refused (Generated summary) = ⊥
 FitsRefused refused (Refused file fault) = ⊥
 FitsRefused refused Usage = ⊥
 
--- the answer of a listing, and of an explanation
+-- the answer of a listing, of an explanation, and of generating
 abbrev pub FitsListed : (Result Listing BuildError → Type 0) → Answer → Type 0
 FitsListed asked (Listed listing) = asked (Ok listing)
 FitsListed asked answer = FitsRefused (λ e. asked (Err e)) answer
@@ -89,6 +95,10 @@ FitsListed asked answer = FitsRefused (λ e. asked (Err e)) answer
 abbrev pub FitsExplained : (Result Reply BuildError → Type 0) → Answer → Type 0
 FitsExplained asked (Explained answer) = asked (Ok answer)
 FitsExplained asked answer = FitsRefused (λ e. asked (Err e)) answer
+
+abbrev pub FitsGenerated : (Result Summary BuildError → Type 0) → Answer → Type 0
+FitsGenerated asked (Generated summary) = asked (Ok summary)
+FitsGenerated asked answer = FitsRefused (λ e. asked (Err e)) answer
 
 abbrev pub FitsAsked : Option Command → Option Contents → (List ℕ → ℕ) → (List ℕ → ℕ) → Answer → Type 0
 FitsAsked None contents before now answer = IsUsage answer
@@ -98,6 +108,7 @@ FitsAsked (Some (ListOf root)) contents before now answer = FitsListed (IsListed
 FitsAsked (Some (Explain root from authority to)) contents before now answer =
     FitsExplained (IsExplained from authority to root contents before now) answer
 FitsAsked (Some (Replay cdl policy steps)) contents before now answer = FitsTexts (IsRun contents before now cdl policy steps) answer
+FitsAsked (Some (Generate count)) contents before now answer = FitsGenerated (IsGenerated count) answer
 FitsAsked (Some (Audit cdl policy)) contents before now answer = FitsTexts (IsAudited contents before now cdl policy) answer
 FitsAsked (Some (Certify cdl policy)) contents before now answer = FitsTexts (IsCertified contents before now cdl policy) answer
 FitsAsked (Some (Sections elf)) contents before now answer = FitsTexts (IsTabled contents before now elf) answer
@@ -111,6 +122,7 @@ IsCompiling (Some (Check cdl policy cert)) = ⊥
 IsCompiling (Some (ListOf root)) = ⊥
 IsCompiling (Some (Explain root from authority to)) = ⊥
 IsCompiling (Some (Replay cdl policy steps)) = ⊥
+IsCompiling (Some (Generate count)) = ⊥
 IsCompiling (Some (Audit cdl policy)) = ⊥
 IsCompiling (Some (Certify cdl policy)) = ⊥
 IsCompiling (Some (Sections elf)) = ⊥
@@ -124,6 +136,7 @@ Fits words = FitsAsked (read_words words)
 abbrev pub status_of : Answer → ℕ
 status_of (Compiled names b) = 0
 status_of (Listed listing) = 0
+status_of (Generated summary) = 0
 status_of (Explained answer) = if is_assigned answer then 0 else 3
 status_of (Told outcome) = if is_well outcome then 0 else 3
 status_of (Faulted file fault) = 1
@@ -142,6 +155,7 @@ abbrev pub said_as : Answer → Option (List ℕ)
 said_as (Listed listing) = Some (listing_text listing)
 said_as (Explained answer) = Some (answer_text answer)
 said_as (Told outcome) = Some (text_of outcome)
+said_as (Generated summary) = Some (generated_text summary)
 said_as _ = None
 
 -- the fault of an answer that names one, and its file
@@ -155,6 +169,7 @@ yields (Compiled names b) = false
 yields (Listed listing) = false
 yields (Explained answer) = false
 yields (Told outcome) = false
+yields (Generated summary) = false
 yields (Faulted file fault) = false
 yields (Refused file fault) = false
 yields Usage = false
@@ -167,6 +182,7 @@ script (Compiled names b) = texts_script names b
 script (Listed listing) = Write 0 (listing_text listing) ∷ []
 script (Explained answer) = Write 0 (answer_text answer) ∷ []
 script (Told outcome) = Write 0 (text_of outcome) ∷ []
+script (Generated summary) = Write 0 (generated_text summary) ∷ []
 script (Faulted file fault) = Write 1 (fault_line file fault) ∷ []
 script (Refused file fault) = Write 1 (texts.fault_line file fault) ∷ []
 script Usage = Write 1 usage_line ∷ []

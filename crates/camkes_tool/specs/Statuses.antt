@@ -1,7 +1,8 @@
 -- Which status comes where contents are told, and neither a read nor an output failed in the call. Where the words are no
 -- command it is 2. For `compile` it is 0 where no fault stands in the source of the root, and 1 where one does; so for `list`,
--- and for `explain`, which gives 3 in place of 0 where the triple isn't assigned. For a command over texts it is 1 where a fault of an input is told, and else 0 or 3 by what the command finds. In place of each may come
--- 6, want of memory.
+-- and for `explain`, which gives 3 in place of 0 where the triple isn't assigned; for `generate` by the generated files. For a
+-- command over texts it is 1 where a fault of an input is told, and else 0 or 3 by what the command finds. In place of each may
+-- come 6, want of memory.
 use Rattle.std.specs.Prelude.{◌≡◌, ◌⊎◌, ℕ, Bool, true, List, Option, Some, None, Result, Ok, Err, if◌then◌else◌}
 use Rattle.cam_base.specs.declared.place.Fault.{Fault}
 use Rattle.cam_io.specs.Causes.{Rose}
@@ -11,9 +12,10 @@ use Rattle.adl_import.specs.Loaded.{IsLoaded}
 use Rattle.arch_compile.specs.Compiled.{IsFirstFault}
 use Rattle.arch_compile.specs.LayoutFaults.{first_fault, tables_beside}
 use Rattle.command_words.specs.declared.command.Command.{Command}
-use Rattle.command_words.specs.declared.command.Command.TheVariants.{Compile, Check, List as ListOf, Explain, Replay, Audit, Certify, Sections, Plan}
+use Rattle.command_words.specs.declared.command.Command.TheVariants.{Compile, Check, List as ListOf, Explain, Replay, Generate, Audit, Certify, Sections, Plan}
 use Rattle.front_end.specs.declared.error.BuildError.{BuildError}
 use Rattle.front_end.specs.declared.error.BuildError.TheVariants as build
+use Rattle.generate_command.specs.Generated.{IsGenerated}
 use Rattle.reason_lines.specs.Answers.{is_assigned}
 use Rattle.source_commands.specs.Explained.{IsExplained}
 use Rattle.source_commands.specs.Listed.{IsListed}
@@ -61,6 +63,7 @@ IsStatus m before now (Some (ListOf root)) status = IsStatusOfSource (IsListed r
 IsStatus m before now (Some (Explain root from authority to)) status =
     IsStatusOfSource (IsExplained from authority to root (Some m) before now) is_assigned status
 IsStatus m before now (Some (Replay cdl policy steps)) status = IsStatusOfTexts (IsRun (Some m) before now cdl policy steps) status
+IsStatus m before now (Some (Generate count)) status = IsStatusOfSource (IsGenerated count) (λ summary. true) status
 IsStatus m before now (Some (Audit cdl policy)) status = IsStatusOfTexts (IsAudited (Some m) before now cdl policy) status
 IsStatus m before now (Some (Certify cdl policy)) status = IsStatusOfTexts (IsCertified (Some m) before now cdl policy) status
 IsStatus m before now (Some (Sections elf)) status = IsStatusOfTexts (IsTabled (Some m) before now elf) status

@@ -1,4 +1,5 @@
 use arch_compile::Build;
+use build_summary::Summary;
 use build_texts::TextNames;
 use cam_base::{Fault, Text};
 use reason_lines::Answer as Reply;
@@ -16,6 +17,8 @@ pub enum Answer {
     Explained { answer: Reply },
     /// What a command over texts found.
     Told { outcome: Outcome },
+    /// What is compiled of a generated source, in numbers.
+    Generated { summary: Summary },
     /// A fault of the source, and the file in which it stands.
     Faulted { file: Text, fault: Fault },
     /// A fault of an input, and the input's name.

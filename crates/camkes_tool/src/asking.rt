@@ -1,8 +1,9 @@
 //! The commands that only print: what is asked for is found, and what was found is the answer.
 
 ghost use Rattle.cam_io.specs.Reading.{KeepsFiles};
-ghost use Rattle.camkes_tool.specs.Answers.{FitsExplained, FitsListed, FitsTexts};
+ghost use Rattle.camkes_tool.specs.Answers.{FitsExplained, FitsGenerated, FitsListed, FitsTexts};
 ghost use Rattle.camkes_tool.specs.Deciding.{refused, told};
+ghost use Rattle.generate_command.specs.Generated.{IsGenerated};
 ghost use Rattle.source_commands.specs.Explained.{IsExplained};
 ghost use Rattle.source_commands.specs.Listed.{IsListed};
 ghost use Rattle.std.specs.Prelude.{◌≡◌};
@@ -11,6 +12,7 @@ ghost use Rattle.text_commands.specs.Commands.{IsAudited, IsCertified, IsChecked
 use crate::Answer;
 use cam_io::Files;
 use front_end::BuildError;
+use generate_command::generate;
 use reason_lines::Question;
 use source_commands::{explain, list};
 use std::alloc::Global;
@@ -44,6 +46,16 @@ pub fn explained<F: Files>(
 {
     match explain(alloc, files, root, question) {
         Ok(answer) => Answer::Explained { answer },
+        Err(error) => refused(error),
+    }
+}
+
+/// What is compiled of the source that is generated for so many clients.
+pub fn generated(alloc: Global, count: u64) -> Answer
+    ensures { FitsGenerated (IsGenerated count) result }
+{
+    match generate(alloc, count) {
+        Ok(summary) => Answer::Generated { summary },
         Err(error) => refused(error),
     }
 }

@@ -6,7 +6,7 @@ ghost use Rattle.std.specs.Prelude.{Some, map, string_bytes};
 
 use crate::Answer;
 use crate::asking::{
-    audited, certified, checked, explained, listed, planned, refused, replayed, tabled,
+    audited, certified, checked, explained, generated, listed, planned, refused, replayed, tabled,
 };
 use arch_compile::{Build, compile};
 use build_texts::TextNames;
@@ -64,6 +64,7 @@ fn follow<F: Files>(alloc: Global, command: &Command, files: &mut F) -> Answer
             as_name(steps),
             files,
         ),
+        Command::Generate { count } => generated(alloc, *count),
         Command::Audit { cdl, policy } => audited(alloc, as_name(cdl), as_name(policy), files),
         Command::Certify { cdl, policy } => {
             certified(alloc, as_name(cdl), as_name(policy), files)

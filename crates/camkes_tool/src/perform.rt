@@ -11,6 +11,7 @@ use build_texts::write_texts;
 use cam_base::Fault;
 use cam_io::{Failed, Outputs, write_all, write_parts};
 use command_words::usage_line;
+use generate_command::write_generated;
 use itoa::Buffer;
 use source_commands::write_listing;
 use text_commands::write_fault as write_refusal;
@@ -24,6 +25,7 @@ pub fn perform<O: Outputs>(answer: &Answer, out: &mut O) -> Result<(), Failed>
         Answer::Compiled { names, build } => write_texts(names, build, out),
         Answer::Listed { listing } => write_listing(listing, out, 0),
         Answer::Explained { answer } => answer.write(out, 0),
+        Answer::Generated { summary } => write_generated(*summary, out, 0),
         Answer::Told { outcome } => outcome.write(out, 0),
         Answer::Faulted { file, fault } => write_fault(out, file.as_bytes(), fault),
         Answer::Refused { file, fault } => write_refusal(file.as_bytes(), fault, out, 1),

@@ -26,6 +26,7 @@ fn status_of(answer: &Answer) -> u8
     match answer {
         Answer::Compiled { .. } => 0,
         Answer::Listed { .. } => 0,
+        Answer::Generated { .. } => 0,
         Answer::Explained { answer } => well_or_not(answer.is_assigned()),
         Answer::Told { outcome } => well_or_not(outcome.is_well()),
         Answer::Faulted { .. } | Answer::Refused { .. } => 1,

@@ -1,5 +1,5 @@
 -- What the program's reader makes of its words is what `read_words` says.
-use Rattle.std.proofs.Common.{◌≡◌, ◌∙◌, ◌||◌, Bool, cond, codes, true, false, refl, sym, ap, ap₂, subst, List, [], ◌∷◌, map, Option, Some, None, String, string_bytes, true≢false, option_map, ⊎_elim}
+use Rattle.std.proofs.Common.{◌≡◌, ◌∙◌, ◌||◌, ℕ, Bool, cond, codes, true, false, refl, sym, ap, ap₂, subst, List, [], ◌∷◌, map, Option, Some, None, String, string_bytes, true≢false, option_map, ⊎_elim}
 use Rattle.std.specs.Prelude.{option_and_then, Box, Result, Ok, Err, IfOk, MatchResult}
 use Rattle.std.specs.Box.{box_value}
 use Rattle.std.specs.List.{find, list_all}
@@ -17,10 +17,10 @@ use Rattle.clap.specs.declared.parser.matches.SubCommand.{SubCommand}
 use Rattle.clap.specs.declared.parser.matches.ArgMatches.TheViews.{out-SubCommand}
 use Rattle.clap.proofs.OnLiterals.{clap_on_literals}
 use Rattle.command_words.specs.declared.command.Command.{Command}
-use Rattle.command_words.specs.declared.command.Command.TheVariants.{Compile, Check, List as Listing, Explain, Replay, Audit, Certify, Sections, Plan}
+use Rattle.command_words.specs.declared.command.Command.TheVariants.{Compile, Check, List as Listing, Explain, Replay, Generate, Audit, Certify, Sections, Plan}
 use Rattle.command_words.specs.declared.command.WordsError.{WordsError}
 use Rattle.command_words.specs.Clap.{made_of, reader}
-use Rattle.command_words.specs.Words.{AreUtf8, command_of, is_dashed, of_four, of_one, of_three, of_two, read_words, taken}
+use Rattle.command_words.specs.Words.{AreUtf8, command_of, count_of, is_dashed, of_count, of_four, of_one, of_three, of_two, read_words, taken}
 use Rattle.command_words.proofs.Slots.{AreTexts, has_slots, level_fails, level_same, passes, some_same, some≢none}
 use Rattle.command_words.proofs.Names.{command_met, named, no_command}
 
@@ -89,6 +89,12 @@ replay_fits (a ∷ b ∷ []) = (λ p. fails p, λ p. refl)
 replay_fits (a ∷ b ∷ c ∷ []) = (λ p. refl, λ p. works p)
 replay_fits (a ∷ b ∷ c ∷ d ∷ us) = (λ p. fails p, λ p. refl)
 
+generate_fits : (us : List Text) → FitsAt (sub (codes "generate")) us (of_count Generate us)
+unfolding clap_on_literals
+generate_fits [] = (λ p. fails p, λ p. refl)
+generate_fits (a ∷ []) = (λ p. refl, λ p. works p)
+generate_fits (a ∷ b ∷ us) = (λ p. fails p, λ p. refl)
+
 audit_fits : (us : List Text) → FitsAt (sub (codes "audit")) us (of_two Audit us)
 unfolding clap_on_literals
 audit_fits [] = (λ p. fails p, λ p. refl)
@@ -128,11 +134,12 @@ each_fits name =
     (next (bytes_eq (codes "list") name) _ _ (of_one Listing) _ refl list_fits
     (next (bytes_eq (codes "explain") name) _ _ (of_four Explain) _ refl explain_fits
     (next (bytes_eq (codes "replay") name) _ _ (of_three Replay) _ refl replay_fits
+    (next (bytes_eq (codes "generate") name) _ _ (of_count Generate) _ refl generate_fits
     (next (bytes_eq (codes "audit") name) _ _ (of_two Audit) _ refl audit_fits
     (next (bytes_eq (codes "certify") name) _ _ (of_two Certify) _ refl certify_fits
     (next (bytes_eq (codes "sections") name) _ _ (of_one Sections) _ refl sections_fits
     (next (bytes_eq (codes "plan") name) _ _ (of_two Plan) _ refl plan_fits
-    (λ us. refl)))))))))
+    (λ us. refl))))))))))
 
 none_then : (make : Made) (o : Option (List Text)) → ((us : List Text) → make us ≡ None) → option_and_then make o ≡ None
 none_then make None h = refl
@@ -208,6 +215,15 @@ four_texts make fit (a ∷ b ∷ d ∷ []) c u e = absurd (some≢none c (sym e)
 four_texts make fit (a ∷ b ∷ d ∷ f ∷ []) c u e = subst AreUtf8 (some_same (make a b d f) c e) (fit a b d f (u.0, (u.1.0, (u.1.1.0, u.1.1.1.0))))
 four_texts make fit (a ∷ b ∷ d ∷ f ∷ g ∷ us) c u e = absurd (some≢none c (sym e))
 
+counted_texts : (count : Option ℕ) (c : Command) → option_map Generate count ≡ Some c → AreUtf8 c
+counted_texts None c e = absurd (some≢none c (sym e))
+counted_texts (Some n) c e = subst AreUtf8 (some_same (Generate n) c e) tt
+
+count_texts : (us : List Text) (c : Command) → of_count Generate us ≡ Some c → AreUtf8 c
+count_texts [] c e = absurd (some≢none c (sym e))
+count_texts (a ∷ []) c e = counted_texts (count_of a) c e
+count_texts (a ∷ b ∷ us) c e = absurd (some≢none c (sym e))
+
 either_texts : (b : Bool) (x y : Option Command) (c : Command) → (x ≡ Some c → AreUtf8 c) → (y ≡ Some c → AreUtf8 c) → cond b x y ≡ Some c → AreUtf8 c
 either_texts true x y c here rest e = here e
 either_texts false x y c here rest e = rest e
@@ -219,11 +235,12 @@ command_texts name us c u =
     (either_texts (bytes_eq (codes "list") name) _ _ c (one_texts Listing (λ a t. t) us c u)
     (either_texts (bytes_eq (codes "explain") name) _ _ c (four_texts Explain (λ a b d f t. t) us c u)
     (either_texts (bytes_eq (codes "replay") name) _ _ c (three_texts Replay (λ a b d t. t) us c u)
+    (either_texts (bytes_eq (codes "generate") name) _ _ c (count_texts us c)
     (either_texts (bytes_eq (codes "audit") name) _ _ c (two_texts Audit (λ a b t. t) us c u)
     (either_texts (bytes_eq (codes "certify") name) _ _ c (two_texts Certify (λ a b t. t) us c u)
     (either_texts (bytes_eq (codes "sections") name) _ _ c (one_texts Sections (λ a t. t) us c u)
     (either_texts (bytes_eq (codes "plan") name) _ _ c (two_texts Plan (λ a b t. t) us c u)
-    (λ e. absurd (some≢none c (sym e)))))))))))
+    (λ e. absurd (some≢none c (sym e))))))))))))
 
 read_texts : (words : List Text) (c : Command) → AreTexts words → read_words words ≡ Some c → AreUtf8 c
 read_texts [] c u e = absurd (some≢none c (sym e))

@@ -1,10 +1,11 @@
 -- The program and its commands as `clap` sees them, and the command that its matches make.
-use Rattle.std.specs.Prelude.{true, false, List, [], ◌∷◌, map, codes, Option, Some, None, option_map, if◌then◌else◌}
+use Rattle.std.specs.Prelude.{ℕ, true, false, List, [], ◌∷◌, map, codes, Option, Some, None, option_map, option_and_then, if◌then◌else◌}
 use Rattle.std.specs.Str.{bytes_eq}
 use Rattle.clap.specs.Simple.{App, Shape, new_rule, new_shape}
 use Rattle.clap.specs.Walk.{Row, Rule, Text, first_of}
+use Rattle.command_words.specs.Words.{count_of}
 use Rattle.command_words.specs.declared.command.Command.{Command}
-use Rattle.command_words.specs.declared.command.Command.TheVariants.{Compile, Check, List as Listing, Explain, Replay, Audit, Certify, Sections, Plan}
+use Rattle.command_words.specs.declared.command.Command.TheVariants.{Compile, Check, List as Listing, Explain, Replay, Generate, Audit, Certify, Sections, Plan}
 
 -- an argument that takes one word
 abbrev pub slot : Text → Rule
@@ -34,6 +35,7 @@ reader = record {
       ∷ leaf (codes "list") (codes "ROOT" ∷ [])
       ∷ leaf (codes "explain") (codes "ROOT" ∷ codes "FROM" ∷ codes "AUTHORITY" ∷ codes "TO" ∷ [])
       ∷ leaf (codes "replay") (codes "CDL" ∷ codes "POLICY" ∷ codes "STEPS" ∷ [])
+      ∷ leaf (codes "generate") (codes "N" ∷ [])
       ∷ leaf (codes "audit") (codes "CDL" ∷ codes "POLICY" ∷ [])
       ∷ leaf (codes "certify") (codes "CDL" ∷ codes "POLICY" ∷ [])
       ∷ leaf (codes "sections") (codes "ELF" ∷ [])
@@ -58,6 +60,9 @@ abbrev pub with_four : (Text → Text → Text → Text → Command) → Option 
 with_four make (Some a) b c d = with_three (make a) b c d
 with_four make None b c d = None
 
+abbrev pub with_count : (ℕ → Command) → Option Text → Option Command
+with_count make word = option_map make (option_and_then count_of word)
+
 abbrev pub made_of : Text → List Row → Option Command
 made_of name rows =
     if bytes_eq (codes "compile") name then with_two Compile (first_of (codes "ROOT") rows) (first_of (codes "BASE") rows)
@@ -69,8 +74,9 @@ made_of name rows =
     (first_of (codes "TO") rows)
     else (if bytes_eq (codes "replay") name
     then with_three Replay (first_of (codes "CDL") rows) (first_of (codes "POLICY") rows) (first_of (codes "STEPS") rows)
+    else (if bytes_eq (codes "generate") name then with_count Generate (first_of (codes "N") rows)
     else (if bytes_eq (codes "audit") name then with_two Audit (first_of (codes "CDL") rows) (first_of (codes "POLICY") rows)
     else (if bytes_eq (codes "certify") name then with_two Certify (first_of (codes "CDL") rows) (first_of (codes "POLICY") rows)
     else (if bytes_eq (codes "sections") name then with_one Sections (first_of (codes "ELF") rows)
     else (if bytes_eq (codes "plan") name then with_two Plan (first_of (codes "CDL") rows) (first_of (codes "UNTYPEDS") rows)
-    else None))))))))
+    else None)))))))))

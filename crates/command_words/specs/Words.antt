@@ -3,10 +3,12 @@
 -- The first word is the command, spelled exactly. After it come exactly the words of its table, in order. One `--` may
 -- stand at any place after the command and is skipped; every word after it is taken as it is, also a second `--`. Before
 -- it no word begins with `-`, except `-` alone. The empty word is a word.
-use Rattle.std.specs.Prelude.{ℕ, Bool, false, ◌==◌, List, [], ◌∷◌, Option, Some, None, if◌then◌else◌, codes, option_map, option_and_then}
+use Rattle.std.specs.Prelude.{ℕ, Bool, false, ◌==◌, ◌&&◌, leb, List, [], ◌∷◌, Option, Some, None, if◌then◌else◌, codes, option_map, option_and_then}
+use Rattle.std.specs.List.{list_all}
 use Rattle.std.specs.Str.{bytes_eq, IsUtf8}
+use Rattle.cam_base.specs.Numbers.{is_digit, number_value}
 use Rattle.command_words.specs.declared.command.Command.{Command}
-use Rattle.command_words.specs.declared.command.Command.TheVariants.{Compile, Check, List as Listing, Explain, Replay, Audit, Certify, Sections, Plan}
+use Rattle.command_words.specs.declared.command.Command.TheVariants.{Compile, Check, List as Listing, Explain, Replay, Generate, Audit, Certify, Sections, Plan}
 
 abbrev pub Word : Type 0
 Word = List ℕ
@@ -41,6 +43,19 @@ abbrev pub of_four : (Word → Word → Word → Word → Command) → List Word
 of_four make (a ∷ b ∷ c ∷ d ∷ []) = Some (make a b c d)
 of_four make _ = None
 
+-- a count: a number from 1 to 1,000, in decimal without leading zeros
+abbrev pub counted : Option ℕ → Option ℕ
+counted None = None
+counted (Some n) = if leb 1 n && leb n 1000 then Some n else None
+
+abbrev pub count_of : Word → Option ℕ
+count_of word = if list_all is_digit word then counted (number_value word) else None
+
+-- commands of one count
+abbrev pub of_count : (ℕ → Command) → List Word → Option Command
+of_count make (a ∷ []) = option_map make (count_of a)
+of_count make _ = None
+
 -- the table of commands
 abbrev pub command_of : Word → List Word → Option Command
 command_of name words =
@@ -49,11 +64,12 @@ command_of name words =
     else (if bytes_eq (codes "list") name then of_one Listing words
     else (if bytes_eq (codes "explain") name then of_four Explain words
     else (if bytes_eq (codes "replay") name then of_three Replay words
+    else (if bytes_eq (codes "generate") name then of_count Generate words
     else (if bytes_eq (codes "audit") name then of_two Audit words
     else (if bytes_eq (codes "certify") name then of_two Certify words
     else (if bytes_eq (codes "sections") name then of_one Sections words
     else (if bytes_eq (codes "plan") name then of_two Plan words
-    else None))))))))
+    else None)))))))))
 
 -- the command that the words ask for
 abbrev pub read_words : List Word → Option Command
@@ -67,6 +83,7 @@ AreUtf8 (Check cdl policy cert) = IsUtf8 cdl × (IsUtf8 policy × IsUtf8 cert)
 AreUtf8 (Listing root) = IsUtf8 root
 AreUtf8 (Explain root from authority to) = IsUtf8 root × (IsUtf8 from × (IsUtf8 authority × IsUtf8 to))
 AreUtf8 (Replay cdl policy steps) = IsUtf8 cdl × (IsUtf8 policy × IsUtf8 steps)
+AreUtf8 (Generate count) = Unit {0}
 AreUtf8 (Audit cdl policy) = IsUtf8 cdl × IsUtf8 policy
 AreUtf8 (Certify cdl policy) = IsUtf8 cdl × IsUtf8 policy
 AreUtf8 (Sections elf) = IsUtf8 elf

@@ -36,6 +36,10 @@ pub enum Command {
         policy: Text,
         steps: Text,
     },
+    /// Compiles the source that is generated for so many clients, and checks what is compiled.
+    Generate {
+        count: u64,
+    },
     /// Prints what any run of the capDL's system reaches, and steps that show it.
     Audit {
         cdl: Text,

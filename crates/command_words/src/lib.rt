@@ -6,6 +6,7 @@
 #![tactic(auto)]
 
 mod command;
+mod count;
 mod reader;
 mod reading;
 mod usage;

@@ -72,6 +72,7 @@ pub fn program<'a>(alloc: Global) -> Result<ClapCommand<'a>, AllocError>
         "replay",
         ["CDL", "POLICY", "STEPS"].as_slice(),
     )?;
+    let program = with(alloc, program, "generate", ["N"].as_slice())?;
     let program = with(alloc, program, "audit", ["CDL", "POLICY"].as_slice())?;
     let program = with(alloc, program, "certify", ["CDL", "POLICY"].as_slice())?;
     let program = with(alloc, program, "sections", ["ELF"].as_slice())?;

@@ -1,8 +1,9 @@
 ghost use Rattle.clap.specs.Words.{first_of, found_of, rows_of};
 ghost use Rattle.command_words.specs.Clap.{made_of};
-ghost use Rattle.command_words.specs.Words.{AreUtf8, read_words};
-ghost use Rattle.std.specs.Prelude.{◌≡◌, IfOk, MatchResult, None, Some, map, string_bytes};
+ghost use Rattle.command_words.specs.Words.{AreUtf8, count_of, read_words};
+ghost use Rattle.std.specs.Prelude.{◌≡◌, IfOk, MatchResult, None, Some, map, option_and_then, string_bytes};
 
+use crate::count::count_in;
 use crate::reader::program;
 use crate::{Command, WordsError};
 use cam_base::Text;
@@ -17,6 +18,20 @@ fn text_of(alloc: Global, matches: &ArgMatches, id: &str) -> Result<Text, WordsE
 {
     match matches.get_str(id) {
         Some(text) => Ok(Text::new(alloc, text.as_bytes())?),
+        None => Err(WordsError::Usage),
+    }
+}
+
+/// The count that was given for an argument.
+fn count_of(matches: &ArgMatches, id: &str) -> Result<u64, WordsError>
+    ensures { MatchResult result (λ n. option_and_then count_of (first_of id.now (rows_of (found_of matches.now))) ≡ Some n)
+        (λ _. option_and_then count_of (first_of id.now (rows_of (found_of matches.now))) ≡ None) }
+{
+    let Some(word) = matches.get_str(id) else {
+        return Err(WordsError::Usage);
+    };
+    match count_in(word.as_bytes()) {
+        Some(count) => Ok(count),
         None => Err(WordsError::Usage),
     }
 }
@@ -48,6 +63,9 @@ fn command_from(alloc: Global, name: &str, matches: &ArgMatches) -> Result<Comma
             cdl: text_of(alloc, matches, "CDL")?,
             policy: text_of(alloc, matches, "POLICY")?,
             steps: text_of(alloc, matches, "STEPS")?,
+        }),
+        "generate" => Ok(Command::Generate {
+            count: count_of(matches, "N")?,
         }),
         "audit" => Ok(Command::Audit {
             cdl: text_of(alloc, matches, "CDL")?,

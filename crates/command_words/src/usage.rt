@@ -5,5 +5,5 @@ ghost use Rattle.std.specs.Prelude.{◌≡◌};
 pub fn usage_line() -> &'static [u8]
     ensures { result.now ≡ usage_line }
 {
-    b"usage: camkes compile ROOT BASE | check CDL POLICY CERT | list ROOT | explain ROOT FROM AUTHORITY TO | replay CDL POLICY STEPS | audit CDL POLICY | certify CDL POLICY | sections ELF | plan CDL UNTYPEDS\n"
+    b"usage: camkes compile ROOT BASE | check CDL POLICY CERT | list ROOT | explain ROOT FROM AUTHORITY TO | replay CDL POLICY STEPS | generate N | audit CDL POLICY | certify CDL POLICY | sections ELF | plan CDL UNTYPEDS\n"
 }

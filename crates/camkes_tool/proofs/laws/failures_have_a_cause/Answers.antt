@@ -4,12 +4,13 @@ use Rattle.build_texts.specs.BuildTexts.{texts_script}
 use Rattle.build_texts.specs.declared.names.TextNames.{TextNames}
 use Rattle.cam_io.specs.Scripts.{CutShort, Write}
 use Rattle.cam_io.specs.Sinks.{IsCut, Sink}
+use Rattle.generate_command.specs.Generated.{generated_text}
 use Rattle.reason_lines.specs.Answers.{answer_text, is_assigned}
 use Rattle.source_commands.specs.Listed.{listing_text}
 use Rattle.text_commands.specs.Outcomes.{is_well, text_of}
 use Rattle.camkes_tool.specs.Answers.{script, status_of, said_as}
 use Rattle.camkes_tool.specs.declared.answer.Answer.{Answer}
-use Rattle.camkes_tool.specs.declared.answer.Answer.TheVariants.{Compiled, Listed, Explained, Told, Faulted, Refused, Usage, ReadFault, NoMemory}
+use Rattle.camkes_tool.specs.declared.answer.Answer.TheVariants.{Compiled, Listed, Explained, Told, Generated, Faulted, Refused, Usage, ReadFault, NoMemory}
 use Rattle.camkes_tool.proofs.Leaving.{Spares, cut_spared}
 use Rattle.camkes_tool.proofs.laws.failures_have_a_cause.Goals as goal
 
@@ -29,6 +30,7 @@ spares (Compiled names b) k l = build_spares k names b l
 spares (Listed o) k l = (above k 0 (omega arith) l, tt)
 spares (Explained o) k l = (above k 0 (omega arith) l, tt)
 spares (Told outcome) k l = (above k 0 (omega arith) l, tt)
+spares (Generated o) k l = (above k 0 (omega arith) l, tt)
 spares (Faulted file fault) k l = (above k 1 (omega arith) l, tt)
 spares (Refused file fault) k l = (above k 1 (omega arith) l, tt)
 spares Usage k l = (above k 1 (omega arith) l, tt)
@@ -44,6 +46,7 @@ not_five (Compiled names b) e = cc
 not_five (Listed o) e = cc
 not_five (Explained o) e = five_is_none (is_assigned o) e
 not_five (Told outcome) e = five_is_none (is_well outcome) e
+not_five (Generated o) e = cc
 not_five (Faulted file fault) e = cc
 not_five (Refused file fault) e = cc
 not_five Usage e = cc
@@ -73,6 +76,7 @@ said : (a : Answer) (old new : Sink) (text : List ℕ) → said_as a ≡ Some te
 said (Listed o) old new text e cut = is_said text (listing_text o) old new e cut
 said (Explained o) old new text e cut = is_said text (answer_text o) old new e cut
 said (Told o) old new text e cut = is_said text (text_of o) old new e cut
+said (Generated o) old new text e cut = is_said text (generated_text o) old new e cut
 said (Compiled names b) old new text e cut = absurd cc
 said (Faulted file fault) old new text e cut = absurd cc
 said (Refused file fault) old new text e cut = absurd cc

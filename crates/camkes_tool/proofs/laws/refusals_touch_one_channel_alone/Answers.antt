@@ -4,7 +4,7 @@ use Rattle.text_commands.specs.Outcomes.{is_well}
 use Rattle.camkes_tool.specs.Answers.{script, status_of}
 use Rattle.camkes_tool.specs.Channels.{IsAsBefore}
 use Rattle.camkes_tool.specs.declared.answer.Answer.{Answer}
-use Rattle.camkes_tool.specs.declared.answer.Answer.TheVariants.{Compiled, Listed, Explained, Told, Faulted, Refused, Usage, ReadFault, NoMemory}
+use Rattle.camkes_tool.specs.declared.answer.Answer.TheVariants.{Compiled, Listed, Explained, Told, Generated, Faulted, Refused, Usage, ReadFault, NoMemory}
 use Rattle.camkes_tool.proofs.Leaving.{Spares, after_spared}
 use Rattle.camkes_tool.proofs.laws.refusals_touch_one_channel_alone.Goals as goal
 
@@ -15,6 +15,7 @@ zero_or_three false = inr refl
 spares : (a : Answer) (k : ℕ) → status_of a ≢ 0 → status_of a ≢ 3 → k ≢ 1 → Spares k (script a)
 spares (Compiled names b) k n t m = absurd (n refl)
 spares (Listed o) k n t m = absurd (n refl)
+spares (Generated o) k n t m = absurd (n refl)
 spares (Explained o) k n t m = absurd (⊎_elim n t (zero_or_three (is_assigned o)))
 spares (Told outcome) k n t m = absurd (⊎_elim n t (zero_or_three (is_well outcome)))
 spares (Faulted file fault) k n t m = (m, tt)
@@ -32,6 +33,7 @@ returns-clause-error c answer status old new before now tells not_done not_no no
 three : (a : Answer) (k : ℕ) → 3 ≡ status_of a → k ≢ 0 → Spares k (script a)
 three (Explained o) k e n = (n, tt)
 three (Listed o) k e n = (n, tt)
+three (Generated o) k e n = (n, tt)
 three (Told outcome) k e n = (n, tt)
 three (Compiled names b) k e n = absurd cc
 three (Faulted file fault) k e n = absurd cc

@@ -4,12 +4,13 @@ use Rattle.build_texts.specs.BuildTexts.{texts_script}
 use Rattle.build_texts.specs.declared.names.TextNames.{TextNames}
 use Rattle.cam_io.specs.Scripts.{after}
 use Rattle.cam_io.specs.Sinks.{Sink, appended}
+use Rattle.generate_command.specs.Generated.{generated_text}
 use Rattle.text_commands.specs.Outcomes.{text_of}
 use Rattle.reason_lines.specs.Answers.{answer_text}
 use Rattle.source_commands.specs.Listed.{listing_text}
 use Rattle.camkes_tool.specs.Answers.{script, status_of, said_as}
 use Rattle.camkes_tool.specs.declared.answer.Answer.{Answer}
-use Rattle.camkes_tool.specs.declared.answer.Answer.TheVariants.{Compiled, Listed, Explained, Told, Faulted, Refused, Usage, ReadFault, NoMemory}
+use Rattle.camkes_tool.specs.declared.answer.Answer.TheVariants.{Compiled, Listed, Explained, Told, Generated, Faulted, Refused, Usage, ReadFault, NoMemory}
 use Rattle.camkes_tool.proofs.laws.success_writes_a_whole_text.Goals as goal
 
 abbrev IsWhole : Answer → Sink → Sink → Type 0
@@ -22,6 +23,7 @@ whole (Compiled names b) old new e told = inl (names, b, refl, told)
 whole (Listed o) old new e told = inr (listing_text o, refl, told)
 whole (Explained o) old new e told = inr (answer_text o, refl, told)
 whole (Told outcome) old new e told = inr (text_of outcome, refl, told)
+whole (Generated summary) old new e told = inr (generated_text summary, refl, told)
 whole (Faulted file fault) old new e told = absurd cc
 whole (Refused file fault) old new e told = absurd cc
 whole Usage old new e told = absurd cc

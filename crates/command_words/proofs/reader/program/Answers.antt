@@ -20,7 +20,8 @@ returns c =
     let e3 = more _ _ _ (codes "list") _ (codes "ROOT" ∷ []) e2 (ap texts c.as_slice-3.ensures) c.in_ok-program-3.ensures in
     let e4 = more _ _ _ (codes "explain") _ (codes "ROOT" ∷ codes "FROM" ∷ codes "AUTHORITY" ∷ codes "TO" ∷ []) e3 (ap texts c.as_slice-4.ensures) c.in_ok-program-4.ensures in
     let e5 = more _ _ _ (codes "replay") _ (codes "CDL" ∷ codes "POLICY" ∷ codes "STEPS" ∷ []) e4 (ap texts c.as_slice-5.ensures) c.in_ok-program-5.ensures in
-    let e6 = more _ _ _ (codes "audit") _ (codes "CDL" ∷ codes "POLICY" ∷ []) e5 (ap texts c.as_slice-6.ensures) c.in_ok-program-6.ensures in
-    let e7 = more _ _ _ (codes "certify") _ (codes "CDL" ∷ codes "POLICY" ∷ []) e6 (ap texts c.as_slice-7.ensures) c.in_ok-program-7.ensures in
-    let e8 = more _ _ _ (codes "sections") _ (codes "ELF" ∷ []) e7 (ap texts c.as_slice-8.ensures) c.in_ok-program-8.ensures in
-    IfOk-weaker c.with-9.result _ _ (λ r h. more _ _ _ (codes "plan") _ (codes "CDL" ∷ codes "UNTYPEDS" ∷ []) e8 (ap texts c.as_slice-9.ensures) h) c.with-9.ensures
+    let e6 = more _ _ _ (codes "generate") _ (codes "N" ∷ []) e5 (ap texts c.as_slice-6.ensures) c.in_ok-program-6.ensures in
+    let e7 = more _ _ _ (codes "audit") _ (codes "CDL" ∷ codes "POLICY" ∷ []) e6 (ap texts c.as_slice-7.ensures) c.in_ok-program-7.ensures in
+    let e8 = more _ _ _ (codes "certify") _ (codes "CDL" ∷ codes "POLICY" ∷ []) e7 (ap texts c.as_slice-8.ensures) c.in_ok-program-8.ensures in
+    let e9 = more _ _ _ (codes "sections") _ (codes "ELF" ∷ []) e8 (ap texts c.as_slice-9.ensures) c.in_ok-program-9.ensures in
+    IfOk-weaker c.with-10.result _ _ (λ r h. more _ _ _ (codes "plan") _ (codes "CDL" ∷ codes "UNTYPEDS" ∷ []) e9 (ap texts c.as_slice-10.ensures) h) c.with-10.ensures
