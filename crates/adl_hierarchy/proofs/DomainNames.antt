@@ -1,7 +1,7 @@
 -- The domains of a hierarchy are those of its leaves.
 use Rattle.std.proofs.Common.{◌≡◌, ◌↔◌, ℕ, Bool, true, false, not, List, map, Some, Decides, refl, sym, ◌∙◌, ap, subst, arith}
 use Rattle.std.specs.List.{slice_get, filter, enumerate_from}
-use Rattle.std.proofs.lemmas.Bool.{and_parts, and_from}
+use Rattle.std.proofs.lemmas.Bool.{and_parts, and_from, not-true}
 use Rattle.std.proofs.Common.{◌+◌, map-id}
 use Rattle.std.proofs.lemmas.Slice.Eq.{bytes_eq-Decides, slice_eq-Decides}
 use Rattle.adl_ast.specs.declared.source.Source.{Source}
@@ -19,10 +19,6 @@ use Rattle.adl_hierarchy.proofs.Places.{place_is, at_place, in_filter, from_filt
 pub same_path-Decides : (p q : Path) → Decides (same_path p q) (p ≡ q)
 same_path-Decides p q = slice_eq-Decides bytes_eq-Decides p q (same_path p q) refl
 
-not_false : (b : Bool) → not b ≡ true → b ≡ false
-not_false true e = cc
-not_false false e = refl
-
 not_true : (b : Bool) → b ≡ false → not b ≡ true
 not_true true e = cc
 not_true false e = refl
@@ -35,7 +31,7 @@ domains_are h d =
       λ i.
           let x = from_map domain d (filter software (leaves h)) (are.0 i) in
           let k = from_filter software (leaves h) x.0 x.1 in
-          (x.0, k.0, not_false (is_hardware h x.0.part) k.1, x.2),
+          (x.0, k.0, not-true (is_hardware h x.0.part) k.1, x.2),
       λ x.
           let P : Path → Type 0 = λ p. IsIn p (map domain (filter software (leaves h))) in
           are.1 (subst P x.3 (in_map domain x.0 (filter software (leaves h)) (in_filter software (leaves h) x.0 x.1 (not_true (is_hardware h x.0.part) x.2)))),
@@ -55,7 +51,7 @@ leaves_of_domain h d n =
           let j = from_enumerate 0 (leaves h) x.0 k.0 in
           let b = and_parts (not (is_hardware h x.0.1.part)) (same_path (domain_of h x.0.1.path) d) k.1 in
           let s : j.0 ≡ n = let e = j.1 in let f = x.2 in omega arith in
-          (x.0.1, ap (slice_get (leaves h)) (sym s) ∙ j.2, not_false (is_hardware h x.0.1.part) b.0, (same_path-Decides (domain_of h x.0.1.path) d).0 b.1),
+          (x.0.1, ap (slice_get (leaves h)) (sym s) ∙ j.2, not-true (is_hardware h x.0.1.part) b.0, (same_path-Decides (domain_of h x.0.1.path) d).0 b.1),
       λ x.
           let s : 0 + n ≡ n = omega arith in
           let P : ℕ → Type 0 = λ m. IsIn m (flat_domain h d).leaves in

@@ -39,6 +39,11 @@ leaves_once h a (suc n) k =
     once_by_head name_of (placed_by h (leaves_within h n)) (λ (z : Placed). z.path) (λ x. once_outside x (leaves_within h n x.kind) (is_composite h x.kind) (leaves_once h a n x.kind))
     (λ x z i. begins x (leaves_within h n x.kind) (is_composite h x.kind) z i) (body h k).parts (a k)
 
+-- where no body names two parts alike, no two leaves of an instance have one path
+pub paths_within_once : (h : Hierarchy) → ((k : ℕ) → IsOnce (map name_of (body h k).parts)) → (n k : ℕ) → IsOnce (map (λ x. x.path) (leaves_within h n k))
+unfolding paths
+paths_within_once h a n k = leaves_once h a n k
+
 pub leaf_paths_once : (s : Source) → AreNamesSound s → IsOnce (map (λ x. x.path) (leaves (hierarchy_of s)))
 unfolding paths
 leaf_paths_once s sound = leaves_once (hierarchy_of s) (names_once s sound) (length (hierarchy_of s).bodies) (top_number (hierarchy_of s))

@@ -37,11 +37,11 @@ use Rattle.numbering.proofs.Lists.{from_map, from_flat_map, from_filter_map, fro
 use Rattle.adl_hierarchy.proofs.Sources.{component_item, assembly_item, composed}
 
 -- some tokens spell it by the rule
-abbrev IsOne : {A : Type 0} → Rule A → A → Type 0
+abbrev pub IsOne : {A : Type 0} → Rule A → A → Type 0
 IsOne f x = (ts : List Seen) × IsSpelledBy f x ts
 
 -- what is repeated is spelled one by one
-one_of : {A : Type 0} (f : Rule A) (xs : List A) (ts : List Seen) (x : A) → Each (Spells token_code (deep token_code nested_line limit) f) xs ts → IsIn x xs → IsOne f x
+pub one_of : {A : Type 0} (f : Rule A) (xs : List A) (ts : List Seen) (x : A) → Each (Spells token_code (deep token_code nested_line limit) f) xs ts → IsIn x xs → IsOne f x
 one_of f [] ts x e i = absurd i
 one_of {A} f (y ∷ xs) ts x e (inl s) = let P : A → Type 0 = λ z. IsOne f z in subst P s (e.0, e.3)
 one_of f (y ∷ xs) ts x e (inr i) = one_of f xs e.1 x e.4 i
@@ -209,3 +209,6 @@ spelled_dotted s spelled = record {
       let l = from_filter_map as_connection w.1 o.0.lines o.2 in
       end_name e (connection_end w.1 (line_connection l.0 w.1 (composition_member o.0 (composition_spelled s spelled k o.0 o.1) l.0 l.1) l.2) e m);
 }
+
+pub line_spelled : (s : Source) → AreSpelled s → (k : ℕ) (c : Composition) → (body (hierarchy_of s) k).composition ≡ Some c → (l : Line) → IsIn l c.lines → IsOne composition_member_line l
+line_spelled s spelled k c e = composition_member c (composition_spelled s spelled k c e)

@@ -1,14 +1,13 @@
 -- There is one source of a root, and one answer to its loading.
-use Rattle.std.proofs.Common.{◌≡◌, ◌∙◌, refl, sym, ap, subst, inl, inr, ◌⊎◌, Bool, true, false, not, ◌||◌, cond, ℕ, zero, suc, ◌+◌, ◌<◌, ◌≤◌, List, [], ◌∷◌, ◌++◌, length, map, filter, Option, None, Some, Result, Ok, Err, codes, arith, append_assoc, true≢false}
+use Rattle.std.proofs.Common.{◌≡◌, ◌∙◌, refl, sym, ap, subst, inl, inr, ◌⊎◌, Bool, true, false, not, ◌||◌, cond, ℕ, suc, ◌+◌, ◌<◌, ◌≤◌, List, [], ◌∷◌, ◌++◌, length, Option, None, Some, Result, Ok, Err, arith, append_assoc, true≢false}
 use Rattle.std.proofs.Math.Dec.{ltb}
-use Rattle.std.proofs.lemmas.Bool.{false_from_ne_true, ltb-true, ltb-false}
+use Rattle.std.proofs.lemmas.Bool.{false_from_ne_true, ltb-true, ltb-false, or_parts}
 use Rattle.std.proofs.lemmas.Grind.{flat_map-append}
-use Rattle.std.proofs.lemmas.List.{append-nil, length-append, length-map, map-append}
-use Rattle.std.proofs.lemmas.Option.{slice_get_within, slice_get-get_or}
+use Rattle.std.proofs.lemmas.List.{append-nil, length-map, map-append}
+use Rattle.std.proofs.lemmas.Option.{slice_get_within, same_Some}
 use Rattle.std.specs.FinMap.{get}
 use Rattle.std.specs.List.{flat_map, slice_get}
 use Rattle.std.specs.Str.{bytes_eq}
-use Rattle.cam_base.specs.declared.code.Code.TheVariants.{NoFile, BadPath, Limit}
 use Rattle.cam_base.specs.declared.error.Refused.TheVariants as refused
 use Rattle.cam_base.specs.declared.place.Fault.{Fault}
 use Rattle.cam_base.specs.declared.place.Place.{Place}
@@ -38,7 +37,7 @@ use Rattle.adl_import.specs.Folding.{root_name}
 use Rattle.adl_import.specs.Imports.{imports_of}
 use Rattle.adl_import.specs.Loaded.{IsClean, IsTurnOf, IsFirst, IsLoadedFrom, IsRefusedRoot, IsLoadedBy, IsLoaded, yields}
 use Rattle.adl_import.specs.Sources.{Meeting, IsFileOf, AreFilesOf, IsSource, is_known, root_place, file_limit, meetings_of, firsts, met, names}
-use Rattle.adl_import.specs.Turns.{take_imports, Turns, first, next, met_in, IsReadFault, absent, too_long, lexing, parsing, IsTurnFault, reading, importing, fault_at}
+use Rattle.adl_import.specs.Turns.{take_imports, Turns, first, next, IsReadFault, absent, too_long, lexing, parsing, IsTurnFault, reading, importing}
 use Rattle.adl_import.specs.declared.error.LoadError.{LoadError}
 use Rattle.adl_import.specs.declared.error.LoadError.TheVariants as error
 use Rattle.adl_import.proofs.Firsts.{others, bytes_eq-sym, known_others, known_sub, firsts_more, file_names, snoc_view, snoc_same, turns_meet, Extends}
@@ -46,15 +45,12 @@ use Rattle.adl_import.proofs.Firsts.{others, bytes_eq-sym, known_others, known_s
 abbrev made : List ℕ → List ℕ → File → SourceFile
 made name bytes tree = record { name = name; bytes = bytes; tree = tree }
 
-some_same : {A : Type 0} (a b : A) → Some a ≡ Some b → a ≡ b
-some_same a b e = cc
-
 -- files of one number and name are one
 file_is_one : (m : Contents) (n : ℕ) (x y : SourceFile) → IsFileOf (Some m) n x → IsFileOf (Some m) n y → x.name ≡ y.name → x ≡ y
 file_is_one m n x y p q e =
     let told : get m x.name ≡ Some x.bytes = p.told in
     let told' : get m y.name ≡ Some y.bytes = q.told in
-    let bytes : x.bytes ≡ y.bytes = some_same x.bytes y.bytes (sym told ∙ ap (get m) e ∙ told') in
+    let bytes : x.bytes ≡ y.bytes = same_Some x.bytes y.bytes (sym told ∙ ap (get m) e ∙ told') in
     let tokens : p.tokens ≡ q.tokens = one_list n (length x.bytes) x.bytes p.tokens q.tokens p.lexed (subst (λ (b : List ℕ). Lexes n b q.tokens) (sym bytes) q.lexed) in
     let spelled : IsFileSpelled y.tree (see x.bytes p.tokens) =
     subst (λ (b : List ℕ). IsFileSpelled y.tree (see b p.tokens)) (sym bytes) (subst (λ (t : List Token). IsFileSpelled y.tree (see y.bytes t)) (sym tokens) q.spelled) in
@@ -93,7 +89,7 @@ record IsNext (m : Contents) (root : List ℕ) (before : List SourceFile) (file 
 
 next_is_one : (m : Contents) (root : List ℕ) (before : List SourceFile) (x y : SourceFile) → IsNext m root before x → IsNext m root before y → x ≡ y
 next_is_one m root before x y p q =
-    let name : x.name ≡ y.name = ap (λ (e : Meeting). e.0) (some_same (x.name, p.place) (y.name, q.place) (sym p.at ∙ q.at)) in
+    let name : x.name ≡ y.name = ap (λ (e : Meeting). e.0) (same_Some (x.name, p.place) (y.name, q.place) (sym p.at ∙ q.at)) in
     file_is_one m (length before) x y p.is q.is name
 
 -- where no file is left there is no next
@@ -125,13 +121,9 @@ firsts_distinct : (ms : List Meeting) → Distinct (firsts ms)
 firsts_distinct [] = tt
 firsts_distinct (m ∷ ms) = (own_others m.0 (firsts ms), others_distinct m.0 (firsts ms) (firsts_distinct ms))
 
-or_false : (a b : Bool) → (a || b) ≡ false → (a ≡ false) × (b ≡ false)
-or_false true b e = absurd (true≢false e)
-or_false false b e = (refl, e)
-
 unknown_later : (front rest : List Meeting) (m : Meeting) (name : List ℕ) → is_known (front ++ m ∷ rest) name ≡ false → bytes_eq name m.0 ≡ false
-unknown_later [] rest m name e = (or_false (bytes_eq name m.0) (is_known rest name) e).0
-unknown_later (f ∷ fs) rest m name e = unknown_later fs rest m name (or_false (bytes_eq name f.0) (is_known (fs ++ m ∷ rest) name) e).1
+unknown_later [] rest m name e = (or_parts (bytes_eq name m.0) (is_known rest name) e).0
+unknown_later (f ∷ fs) rest m name e = unknown_later fs rest m name (or_parts (bytes_eq name f.0) (is_known (fs ++ m ∷ rest) name) e).1
 
 distinct_front : (front rest : List Meeting) (m : Meeting) → Distinct (front ++ m ∷ rest) → is_known front m.0 ≡ false
 distinct_front [] rest m d = refl
@@ -307,7 +299,7 @@ spelled_no_stop tree ts TooDeep left s stop =
     (subst (Begins token_code (deep token_code nested_line limit) file_line) (stop.parts ∙ sym (append_assoc stop.before (stop.token ∷ []) stop.after)) (deep_begun token_code nested_line limit file_line tree ts s)))
 
 got_same : (m : Contents) (name xs ys : List ℕ) → get m name ≡ Some xs → get m name ≡ Some ys → xs ≡ ys
-got_same m name xs ys e f = some_same xs ys (sym e ∙ f)
+got_same m name xs ys e f = same_Some xs ys (sym e ∙ f)
 
 no_got : {A : Type 0} (m : Contents) (name xs : List ℕ) → get m name ≡ None → get m name ≡ Some xs → A
 no_got m name xs e f = absurd (cc)
@@ -407,7 +399,7 @@ next_met m root name t = subst (λ (l : List Meeting). slice_get l (length t.fil
 fault_or_done : {A : Type 0} (m : Contents) (root : List ℕ) (f : Fault) (a : List ℕ) (p : IsFirst m root f a) (file : SourceFile) → IsDone (Some m) root p.turn.files file → A
 fault_or_done m root f a p file d =
     let known_is = turns_meet (Some m) root p.turn.files p.turn.known p.turn.turns in
-    let name : file.name ≡ p.name = ap (λ (e : Meeting). e.0) (some_same (file.name, d.place) (p.name, p.turn.place) (sym d.at ∙ next_met m root p.name p.turn)) in
+    let name : file.name ≡ p.name = ap (λ (e : Meeting). e.0) (same_Some (file.name, d.place) (p.name, p.turn.place) (sym d.at ∙ next_met m root p.name p.turn)) in
     absurd (turn_no_fault m root p.turn.files p.turn.known d.after p.name p.turn.place f a file p.stands name d.is
     (subst (λ (l : List Meeting). take_imports root file.name l (imports_of file.tree) ≡ Ok d.after) (sym known_is) d.taken))
 
@@ -428,7 +420,7 @@ same_fault : (m : Contents) (root : List ℕ) (f g : Fault) (a b : List ℕ) (p 
 same_fault m root f g a b p q same =
     let known_is = one_next m root p.turn.files q.turn.files p.turn.known q.turn.known same p.turn.turns q.turn.turns in
     let meeting : (p.name, p.turn.place) ≡ (q.name, q.turn.place) =
-    some_same (p.name, p.turn.place) (q.name, q.turn.place)
+    same_Some (p.name, p.turn.place) (q.name, q.turn.place)
     (sym (next_met m root p.name p.turn) ∙ ap (λ (l : List SourceFile). slice_get (met root l) (length l)) same ∙ next_met m root q.name q.turn) in
     let moved : IsTurnFault m root p.turn.files p.turn.known p.name p.turn.place g b =
     subst (λ (l : List SourceFile). IsTurnFault m root l p.turn.known p.name p.turn.place g b) (sym same)

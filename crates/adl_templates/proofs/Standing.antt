@@ -1,57 +1,28 @@
 -- What ends and ports lead to stands among the leaves of their body.
-use Rattle.std.proofs.Common.{◌≡◌, ◌≤◌, ℕ, zero, suc, Bool, true, false, cond, length, List, [], ◌∷◌, ◌++◌, map, Option, Some, None, is_some, refl, sym, ap, subst, inl, inr}
+use Rattle.std.proofs.Common.{◌≡◌, ◌≤◌, ℕ, false, length, [], ◌∷◌, ◌++◌, map, Option, Some, None, is_some, sym, subst}
 use Rattle.std.specs.List.{filter_map}
 use Rattle.std.specs.Option.{option_map_or}
 use Rattle.std.proofs.lemmas.Option.{option_and_then_some}
 use Rattle.adl_ast.specs.declared.composition.Composition.{Composition}
 use Rattle.adl_ast.specs.declared.composition.End.{End}
 use Rattle.adl_meaning.specs.Holding.{connections_in as lines_in}
-use Rattle.adl_meaning.specs.Hierarchy.{Hierarchy, Part, Wire, body, is_composite, wire_of, wires_of, port_in}
+use Rattle.adl_meaning.specs.Hierarchy.{Hierarchy, Wire, body, is_composite, wire_of, wires_of, port_in}
 use Rattle.adl_meaning.specs.Items.{Name}
 use Rattle.adl_meaning.specs.Joins.{Reached, reached, joined_by, Strung, connections_in}
 use Rattle.numbering.specs.Gather.{IsIn}
-use Rattle.adl_meaning.specs.Paths.{Path, Placed, at, name_of, outside, placed_by, leaves_within, leaves_in}
+use Rattle.adl_meaning.specs.Paths.{Path, Placed, at, leaves_in}
 use Rattle.adl_hierarchy.specs.Once.{IsOnce}
 use Rattle.adl_hierarchy.proofs.Climbing.{found_climbs}
 use Rattle.adl_hierarchy.proofs.Connections.{stands}
 use Rattle.adl_templates.specs.Ready.{IsReady}
 use Rattle.adl_hierarchy.proofs.Leaves.{StandsIn, met}
+use Rattle.adl_hierarchy.proofs.Once.{paths_within_once}
 use Rattle.adl_hierarchy.proofs.PartsAt.{at_part, first_on, part_append, path_short, is_outer}
-use Rattle.adl_hierarchy.proofs.Repeats.{once_map, head_of, tail_of, once_by_head}
-use Rattle.numbering.proofs.Lists.{from_map}
 
 -- ---- no leaf is met twice
 
-paths : List Placed → List Path
-paths xs = map (λ x. x.path) xs
-
-paths_outside : (n : Name) (xs : List Placed) → paths (map (outside n) xs) ≡ map (λ p. n ∷ p) (paths xs)
-unfolding paths
-paths_outside n [] = refl
-paths_outside n (x ∷ xs) = ap (λ ps. (n ∷ x.path) ∷ ps) (paths_outside n xs)
-
-begins : (x : Part) (ys : List Placed) (b : Bool) (z : Placed) → IsIn z (cond b (map (outside (name_of x)) ys) (record { path = name_of x ∷ []; part = x } ∷ [])) → head_of z.path ≡ name_of x
-begins x ys true z i = let k = from_map (outside (name_of x)) z ys i in ap (λ (u : Placed). head_of u.path) (sym k.2)
-begins x ys false z (inl e) = ap (λ (u : Placed). head_of u.path) (sym e)
-begins x ys false z (inr i) = absurd i
-
-once_outside : (x : Part) (ys : List Placed) (b : Bool) → IsOnce (paths ys) → IsOnce (paths (cond b (map (outside (name_of x)) ys) (record { path = name_of x ∷ []; part = x } ∷ [])))
-unfolding paths
-once_outside x ys true a =
-    let P : List Path → Type 0 = λ ps. IsOnce ps in
-    subst P (sym (paths_outside (name_of x) ys)) (once_map (λ p. name_of x ∷ p) tail_of (paths ys) (λ p. refl) a)
-once_outside x ys false a = (λ i. i, tt)
-
-leaves_once : (h : Hierarchy) → ((k : ℕ) → IsOnce (map name_of (body h k).parts)) → (n k : ℕ) → IsOnce (paths (leaves_within h n k))
-unfolding paths
-leaves_once h a zero k = tt
-leaves_once h a (suc n) k =
-    once_by_head name_of (placed_by h (leaves_within h n)) (λ (z : Placed). z.path) (λ x. once_outside x (leaves_within h n x.kind) (is_composite h x.kind) (leaves_once h a n x.kind))
-    (λ x z i. begins x (leaves_within h n x.kind) (is_composite h x.kind) z i) (body h k).parts (a k)
-
 pub paths_once : (h : Hierarchy) → IsReady h → (k : ℕ) → IsOnce (map (λ x. x.path) (leaves_in h k))
-unfolding paths
-paths_once h ready k = leaves_once h ready.once (length h.bodies) k
+paths_once h ready k = paths_within_once h ready.once (length h.bodies) k
 
 -- ---- where ports and ends lead
 

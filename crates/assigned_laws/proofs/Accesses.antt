@@ -4,7 +4,7 @@ use Rattle.std.specs.List.{list_all, slice_get}
 use Rattle.std.specs.Option.{option_and_then, option_map_or}
 use Rattle.std.specs.Str.{bytes_eq}
 use Rattle.std.specs.Prelude.{is_some}
-use Rattle.std.proofs.lemmas.Bool.{and_from, and_parts}
+use Rattle.std.proofs.lemmas.Bool.{and_from, and_parts, not-true}
 use Rattle.std.proofs.lemmas.Slice.Eq.{bytes_eq-Decides}
 use Rattle.adl_ast.specs.declared.component.Interface.{Interface}
 use Rattle.adl_ast.specs.declared.component.InterfaceKind.{InterfaceKind}
@@ -111,14 +111,10 @@ record AtMemory (c : Connector) (r : Role) : Type 0 where
   interface : (end_rule c r).interface ≡ Dataport
   software : (end_rule c r).hardware ≡ false
 
-from_not : (b : Bool) → not b ≡ true → b ≡ false
-from_not true h = absurd (true≢false (sym h))
-from_not false h = refl
-
 memory_test : (c : Connector) (r : Role) → same_kind (end_rule c r).interface Dataport && not (end_rule c r).hardware ≡ true → AtMemory c r
 memory_test c r h =
     let w = and_parts (same_kind (end_rule c r).interface Dataport) (not (end_rule c r).hardware) h in
-    record { interface = is_dataport_kind (end_rule c r).interface w.0; software = from_not (end_rule c r).hardware w.1 }
+    record { interface = is_dataport_kind (end_rule c r).interface w.0; software = not-true (end_rule c r).hardware w.1 }
 
 reader : (c : Connector) (r : Role) (o : ObjectKind) → gives c r o Read ≡ true → AtMemory c r
 reader c r o h = memory_test c r (implied (gives c r o Read) _ (over_object (λ c r o. implies (gives c r o Read) (same_kind (end_rule c r).interface Dataport && not (end_rule c r).hardware)) refl c r o) h)

@@ -6,6 +6,5 @@ pub mod LabelTexts
 pub mod Locks
 pub mod Naming
 pub mod Ranked
-pub mod SpelledLines
 pub mod TextReasons
 pub mod Undotted

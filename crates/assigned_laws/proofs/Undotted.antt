@@ -24,7 +24,7 @@ use Rattle.numbering.specs.Gather.{IsIn}
 use Rattle.adl_meaning.specs.NameFaults.{AreNamesSound}
 use Rattle.adl_meaning.specs.Paths.{Path, at, name_of}
 use Rattle.assigned_laws.proofs.LabelPaths.{Ends, held_instance, label_ends}
-use Rattle.assigned_laws.proofs.SpelledLines.{IsOne, line_spelled, one_of}
+use Rattle.adl_hierarchy.proofs.Spelled.{IsOne, line_spelled, one_of}
 use Rattle.assigned_laws.specs.Texts.{AreUndotted, IsUndotted}
 use Rattle.cam_base.specs.Names.{is_letter, is_name, is_word_byte}
 use Rattle.numbering.proofs.Gathered.{in_append}

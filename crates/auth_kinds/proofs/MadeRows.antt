@@ -5,7 +5,7 @@ use Rattle.std.proofs.lemmas.Bool.{cases_lt}
 use Rattle.std.proofs.lemmas.List.{take-append-le}
 use Rattle.std.proofs.lemmas.List.Concat.{flat_map-append}
 use Rattle.std.proofs.Math.Seq.{take-append_seam}
-use Rattle.std.proofs.lemmas.Option.{slice_get_within, slice_get-get_or}
+use Rattle.std.proofs.lemmas.Option.{slice_get_within, slice_get-get_or, same_Some}
 use Rattle.auth_kinds.specs.Making.{place_in, list_cmp, IsMade, HasNew, HasClass, HasRow}
 use Rattle.auth_kinds.specs.Rows.{reply_to, edges_of, table_edges, IsClass, IsTable}
 use Rattle.auth_kinds.specs.Tables.{IsSorted}
@@ -111,9 +111,6 @@ module _ (classes classes' : List Class) (rows : List Row) (r : Row) (c : Class)
 
 -- ---- one class more
 
-some_same : {X : Type 0} (x y : X) → Some x ≡ Some y → x ≡ y
-some_same x y e = cc
-
 module _ (edges : List Edge) (old new : Made) (label : ℕ) (pairs : List (Authority × ℕ)) (before k : ℕ) (made : IsMade edges old) (h : HasNew old label pairs before new k) where
   known_more : (j : ℕ) (d : Class) → slice_get new.classes.items j ≡ Some d → place_in new d.pairs.items ≡ Some j
   known_more j d p = elim (pushed old.classes.items h.class j d (subst (λ (cs : List Class). slice_get cs j ≡ Some d) h.classes p)) [
@@ -137,7 +134,7 @@ module _ (edges : List Edge) (old new : Made) (label : ℕ) (pairs : List (Autho
       by_test : (b : Bool) → is_eq (list_cmp pairs q.pairs.items) ≡ b → (c : Class) × (slice_get new.classes.items j ≡ Some c) × (c.pairs.items ≡ q.pairs.items)
       by_test true t =
           let there : Some k ≡ Some j = ap (λ (b : Bool). cond b (Some k) (place_in old q.pairs.items)) (sym t) ∙ sym (h.places q) ∙ e in
-          let here : length old.classes.items ≡ j = sym h.place ∙ some_same k j there in
+          let here : length old.classes.items ≡ j = sym h.place ∙ same_Some k j there in
           let at : slice_get new.classes.items j ≡ Some h.class =
           ap (λ (cs : List Class). slice_get cs j) h.classes ∙ subst (λ (n : ℕ). slice_get (old.classes.items ++ h.class ∷ []) n ≡ Some h.class) here (last old.classes.items h.class) in
           (h.class, at, h.pairs_are ∙ is_eq-same pairs q.pairs.items t)
@@ -179,7 +176,7 @@ module _ (edges run : List Edge) (old mid new : Made) (r : Row) (pairs : List (A
       let run_of : edges_of (Some c) r ≡ run = run_is c pairs_are before_is in
       let all : table_edges old.classes.items old.rows.items ++ edges_of (Some c) r ≡ edges ++ run = ap (λ es. es ++ edges_of (Some c) r) made.same ∙ ap (λ es. edges ++ es) run_of in
       let apart : (j k : ℕ) (d e : Class) → slice_get mid.classes.items j ≡ Some d → slice_get mid.classes.items k ≡ Some e → d.pairs.items ≡ e.pairs.items → j ≡ k =
-      λ j k d e p q same. some_same j k (sym (known j d p) ∙ ap (λ ps. place_in mid ps) same ∙ known k e q) in
+      λ j k d e p q same. same_Some j k (sym (known j d p) ∙ ap (λ ps. place_in mid ps) same ∙ known k e q) in
       let table : IsTable mid.classes.items (old.rows.items ++ r ∷ []) = row_added old.classes.items mid.classes.items old.rows.items r c made.table grows fresh there low lists apart up
       (first ∙ ap (λ (es : List Edge). length es) (sym made.same)) replies (subst IsSorted (sym all) sorted) in
       record {

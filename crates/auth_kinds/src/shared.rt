@@ -24,7 +24,7 @@ pub fn class_of_pairs(
     Ok(Class {
         label,
         pairs: pairs.to_vec(alloc)?,
-        before: pairs.partition_point(|(authority, _)| authority.number() < 9),
+        before: pairs.partition_point(|(authority, _)| authority.number() < Authority::Reply.number()),
     })
 }
 

@@ -1,9 +1,9 @@
 -- Packed blocks are a placement.
-use Rattle.std.proofs.Common.{◌≡◌, ◌∙◌, refl, sym, ap, subst, inl, inr, ⊎_elim, ◌⊎◌, ℕ, ◌+◌, ◌%◌, ◌≤◌, ◌^◌, ◌==◌, ◌&&◌, ◌||◌, Bool, true, false, leb, List, [], ◌∷◌, ◌++◌, length, Some, None, arith}
+use Rattle.std.proofs.Common.{◌≡◌, ◌∙◌, refl, sym, ap, subst, inl, inr, ⊎_elim, ◌⊎◌, ℕ, ◌+◌, ◌%◌, ◌≤◌, ◌^◌, ◌==◌, ◌&&◌, Bool, true, false, leb, List, [], ◌∷◌, ◌++◌, length, Some, None, arith}
 use Rattle.std.specs.List.{AllByRecursion, list_any, slice_index}
 use Rattle.std.specs.Prelude.{slice_set}
 use Rattle.std.specs.List.Sorted.{IsPermutation}
-use Rattle.std.proofs.lemmas.Bool.{and_parts, cases_lt, eqb-true}
+use Rattle.std.proofs.lemmas.Bool.{and_parts, cases_lt, eqb-true, or_parts}
 use Rattle.std.proofs.lemmas.Bool.Decides.{nat_tests}
 use Rattle.std.proofs.lemmas.List.Folds.{list_any-append}
 use Rattle.std.proofs.lemmas.List.Sorted.{sum_by-IsPermutation}
@@ -57,14 +57,10 @@ page_free rs before k paddr ns e = first (list_any (has_page paddr) rs) refl
     first true h = second (is_needed paddr before) h refl
     first false h = let s : device_refusal rs before k (DevicePage paddr ∷ ns) ≡ Some (NoDevice k) = rw h refl in absurd cc
 
-or_false : (a b : Bool) → (a || b) ≡ false → (a ≡ false) × (b ≡ false)
-or_false true b e = absurd cc
-or_false false b e = (refl, e)
-
 not_before : (paddr q : ℕ) (before : List ℕ) → is_needed paddr (before ++ q ∷ []) ≡ false → (is_needed paddr before ≡ false) × ((q == paddr) ≡ false)
 not_before paddr q before e =
-    let p = or_false (is_needed paddr before) (is_needed paddr (q ∷ [])) (sym (list_any-append (λ p. p == paddr) before (q ∷ [])) ∙ e) in
-    (p.0, (or_false (q == paddr) false p.1).0)
+    let p = or_parts (is_needed paddr before) (is_needed paddr (q ∷ [])) (sym (list_any-append (λ p. p == paddr) before (q ∷ [])) ∙ e) in
+    (p.0, (or_parts (q == paddr) false p.1).0)
 
 -- ---- what is laid later
 

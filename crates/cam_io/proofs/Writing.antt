@@ -31,7 +31,7 @@ pub open_after : (old new : Sink) (c : ℕ) (a : List ℕ) → new ≡ appended 
 open_after old new c a e h = open_appended old new c c a e h
 
 module _ {X : Type 0} (f : X → List ℕ) where
-  lines_more : (xs : List X) (i : ℕ) (x : X) → i < length xs → x ≡ get_or xs i x → flat_map f (take (i + 1) xs) ≡ flat_map f (take i xs) ++ f x
+  pub lines_more : (xs : List X) (i : ℕ) (x : X) → i < length xs → x ≡ get_or xs i x → flat_map f (take (i + 1) xs) ≡ flat_map f (take i xs) ++ f x
   lines_more xs i x h is =
       ap (flat_map f) (take_more xs i x h)
       ∙ (flat_map-append f (take i xs) (get_or xs i x ∷ [])

@@ -1,7 +1,7 @@
 -- How reports in the making grow, step by step.
 use Rattle.std.proofs.Common.{◌≡◌, ◌≢◌, ◌↔◌, ◌⊎◌, ◌∙◌, ◌<◌, ◌≤◌, ℕ, ◌+◌, true, List, [], length, slice_get, Some, refl, sym, ap, subst, inl, inr, arith}
 use Rattle.std.proofs.lemmas.Bool.{cases_lt}
-use Rattle.std.proofs.lemmas.Option.{slice_get_within}
+use Rattle.std.proofs.lemmas.Option.{slice_get_within, same_Some}
 use Rattle.auth_graph.specs.Sources.{OfLink}
 use Rattle.auth_kinds.specs.Adds.{Adds, Is}
 use Rattle.auth_kinds.specs.ObjectLabels.{label_of}
@@ -16,9 +16,6 @@ use Rattle.cap_model.specs.State.{boot}
 use Rattle.cap_spread.specs.Shows.{Shows}
 use Rattle.cap_audit.specs.Gains.{AtPlace, Below, Gains, IsMade, IsSoFar, Made, Notes, OfSome}
 use Rattle.cap_audit.proofs.Growing.{made_more}
-
-some_is : {A : Type 0} (x y : A) → Some x ≡ Some y → x ≡ y
-some_is x y h = cc
 
 pub gains_none : (P : Edge → Type 0) (m : Made) → IsSoFar m → ((e : Edge) → P e → e.from ≢ e.to → has m.edges e ≡ true) → Gains P m m
 gains_none P m so there = record { so_far = so; same = refl; kept = λ e h. h; added = there }
@@ -140,7 +137,7 @@ module _ (edges : List Edge) where
       a c (notes_then (IsBefore edges n) (λ e. slice_get edges n ≡ Some e) a b c old now)
 
   pub before_one : (n : ℕ) (d : Edge) (a b : Made) → slice_get edges n ≡ Some d → Notes (Is d) a b → Notes (λ e. slice_get edges n ≡ Some e) a b
-  before_one n d a b here notes = notes_by (Is d) (λ e. slice_get edges n ≡ Some e) (λ e is. here ∙ ap (λ (x : Edge). Some x) (sym is)) (λ e h. some_is e d (sym h ∙ here)) a b notes
+  before_one n d a b here notes = notes_by (Is d) (λ e. slice_get edges n ≡ Some e) (λ e is. here ∙ ap (λ (x : Edge). Some x) (sym is)) (λ e h. same_Some e d (sym h ∙ here)) a b notes
 
   pub before_all : (n : ℕ) (a b : Made) → length edges ≤ n → Notes (IsBefore edges n) a b → Notes (λ e. has edges e ≡ true) a b
   before_all n a b le notes =

@@ -3,6 +3,7 @@ use Rattle.std.proofs.Common.{◌≡◌, ◌≢◌, ◌∙◌, ◌⊎◌, ◌<�
 use Rattle.std.specs.List.{Contains}
 use Rattle.std.proofs.lemmas.Bool.{and_parts, cases_eq, cases_lt}
 use Rattle.std.proofs.lemmas.List.{get_or-set_same, get_or-set_other, length-set}
+use Rattle.std.proofs.lemmas.Option.{same_Some}
 use Rattle.cap_model.proofs.Kept.{is_at_below, object_below}
 use Rattle.cap_model.specs.Kept.{IsKept}
 use Rattle.cap_model.specs.Kinds.{is_at}
@@ -70,9 +71,6 @@ rosters_none spec rosters is = record {
   every = λ c t less root. absurd (omega arith);
 }
 
-some_is : {A : Type 0} (x y : A) → Some x ≡ Some y → x ≡ y
-some_is x y h = cc
-
 pub rosters_more : (spec : Spec) (rosters new : List (List ℕ)) (n : ℕ) (root : Option ℕ) → ((c : ℕ) → root ≡ Some c → c < length spec.entries) → AreRosters spec rosters n → root_of (object_at spec n) ≡ root
     → new ≡ enrolled rosters root n → AreRosters spec new (n + 1)
 rosters_more spec rosters new n None inside before is same = subst (λ (rows : List (List ℕ)). AreRosters spec rows (n + 1)) (sym same) (record {
@@ -100,7 +98,7 @@ rosters_more spec rosters new n (Some d) inside before is same = subst (λ (rows
         | inr ge ↦ (
             let at : t ≡ n = omega arith in
             let here : root_of (object_at spec n) ≡ Some c = subst (λ (k : ℕ). root_of (object_at spec k) ≡ Some c) at root in
-            let d_is : d ≡ c = some_is d c (sym is ∙ here) in
+            let d_is : d ≡ c = same_Some d c (sym is ∙ here) in
             let last : slice_get (row_at (with_more rosters d n) d) (length (row_at rosters d)) ≡ Some n = more_last rosters d n within in (
               length (row_at rosters d),
               subst (λ (k : ℕ). slice_get (row_at (with_more rosters d n) k) (length (row_at rosters d)) ≡ Some t) d_is
@@ -128,7 +126,7 @@ gates_more spec f gates new n pair None at held before is same = subst (λ (rows
     | inr ge ↦ absurd (
         let here : k ≡ n = omega arith in
         let there_n : slice_get f.queue n ≡ Some other = subst (λ (j : ℕ). slice_get f.queue j ≡ Some other) here there in
-        let one : pair ≡ other = some_is pair other (sym at ∙ there_n) in
+        let one : pair ≡ other = same_Some pair other (sym at ∙ there_n) in
         let none : ◌≡◌ {A = Option Pick} None (pick_of spec f wants.Caller other.held) = subst (λ (p : Pair). ◌≡◌ {A = Option Pick} None (pick_of spec f wants.Caller p.held)) one is in
         let some = picked spec f wants.Caller other.held cap of wanted in
         let e = none ∙ some in
@@ -155,9 +153,9 @@ gates_more spec f gates new n pair (Some pick) at held before is same = subst (�
         | inr ge ↦ (
             let here : k ≡ n = omega arith in
             let there_n : slice_get f.queue n ≡ Some other = subst (λ (j : ℕ). slice_get f.queue j ≡ Some other) here there in
-            let one : pair ≡ other = some_is pair other (sym at ∙ there_n) in
+            let one : pair ≡ other = same_Some pair other (sym at ∙ there_n) in
             let of_pair : slice_get f.values pair.held.value ≡ Some cap = subst (λ (p : Pair). slice_get f.values p.held.value ≡ Some cap) (sym one) of in
-            let cap_is : pick.cap ≡ cap = some_is pick.cap cap (sym from.0 ∙ of_pair) in (
+            let cap_is : pick.cap ≡ cap = same_Some pick.cap cap (sym from.0 ∙ of_pair) in (
               length (row_at gates pick.cap.object),
               place,
               subst (λ (x : Cap). slice_get (row_at (with_more gates pick.cap.object place) x.object) (length (row_at gates pick.cap.object)) ≡ Some place) cap_is (more_last gates pick.cap.object place within),

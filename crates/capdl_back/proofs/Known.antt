@@ -1,11 +1,9 @@
 -- What the names of a canonical text stand for: each for the object that has it.
-use Rattle.std.proofs.Common.{◌≡◌, ℕ, zero, suc, ◌+◌, Bool, true, false, List, [], ◌∷◌, map, Option, Some, None, is_some, refl, sym, ap, ◌∙◌, slice_get, arith, zero-add}
-use Rattle.std.specs.Prelude.{◌&&◌, ◌||◌, not, ◌==◌}
+use Rattle.std.proofs.Common.{◌≡◌, ℕ, zero, suc, ◌+◌, Bool, true, false, List, [], ◌∷◌, map, Option, Some, None, refl, ap, ◌∙◌, slice_get, arith}
+use Rattle.std.specs.Prelude.{◌&&◌, ◌||◌, not}
 use Rattle.std.specs.List.{list_all, list_any}
-use Rattle.std.specs.Option.{option_map}
 use Rattle.std.specs.Str.{bytes_eq}
-use Rattle.std.proofs.lemmas.Bool.{and_parts}
-use Rattle.std.proofs.lemmas.Bool.Decides.{nat_tests}
+use Rattle.std.proofs.lemmas.Bool.{and_parts, not-true}
 use Rattle.std.proofs.lemmas.Slice.Eq.{bytes_eq-Decides}
 use Rattle.cap_model.specs.Kept.{names_differ}
 use Rattle.cap_model.specs.Kinds.{kind_of_object}
@@ -36,10 +34,6 @@ entry_size arch (Irq notification) = Some 1
 abbrev pub known_object : Arch → ℕ → Object → Known
 known_object arch place o = record { place = place; kind = kind_of_object o; size = entry_size arch o }
 
-pub not_true : (b : Bool) → not b ≡ true → b ≡ false
-not_true true e = absurd cc
-not_true false e = refl
-
 -- no other one has this name
 abbrev pub is_other : List ℕ → List Entry → Bool
 is_other name es = list_all (λ e. not (bytes_eq e.name name)) es
@@ -55,11 +49,11 @@ any_none {A} {B} f p (x ∷ xs) h = go (p (f x)) (list_any p (map f xs)) h (λ k
 pub differ_parts : (e : Entry) (es : List Entry) → names_differ (e ∷ es) ≡ true → (is_other e.name es ≡ true) × (names_differ es ≡ true)
 differ_parts e es d =
     let k = and_parts (not (list_any (λ n. bytes_eq n e.name) (map (λ e. e.name) es))) (names_differ es) d in
-    (any_none (λ (d : Entry). d.name) (λ n. bytes_eq n e.name) es (not_true _ k.0), k.1)
+    (any_none (λ (d : Entry). d.name) (λ n. bytes_eq n e.name) es (not-true _ k.0), k.1)
 
 other_at : (name : List ℕ) (es : List Entry) (j : ℕ) (e : Entry) → is_other name es ≡ true → slice_get es j ≡ Some e → bytes_eq e.name name ≡ false
 other_at name [] j e h g = absurd cc
-other_at name (q ∷ es) zero e h g = let s : q ≡ e = cc in rw (← s) (not_true _ (and_parts (not (bytes_eq q.name name)) (is_other name es) h).0)
+other_at name (q ∷ es) zero e h g = let s : q ≡ e = cc in rw (← s) (not-true _ (and_parts (not (bytes_eq q.name name)) (is_other name es) h).0)
 other_at name (q ∷ es) (suc j) e h g = other_at name es j e (and_parts (not (bytes_eq q.name name)) (is_other name es) h).1 g
 
 module _ (pl : List Piece → Span) where

@@ -1,16 +1,16 @@
 -- The tree of a canonical text says its spec.
-use Rattle.std.proofs.Common.{◌≡◌, ℕ, zero, suc, ◌+◌, ◌≤◌, ◌^◌, Bool, true, false, List, [], ◌∷◌, ◌++◌, map, length, Option, Some, None, is_some, refl, sym, ap, ◌∙◌, slice_get, arith, append_assoc, zero-add}
-use Rattle.std.specs.Prelude.{codes, ◌&&◌, ◌||◌, not, ◌==◌, nat_lt, leb, sum}
+use Rattle.std.proofs.Common.{◌≡◌, ℕ, ◌+◌, ◌^◌, Bool, true, false, List, [], ◌∷◌, ◌++◌, map, Option, Some, None, refl, sym, ap, ◌∙◌, arith, append_assoc}
+use Rattle.std.specs.Prelude.{codes, ◌&&◌, ◌||◌, not, ◌==◌, nat_lt, leb}
 use Rattle.std.specs.BTreeMap.{insert_entry}
-use Rattle.std.specs.List.{flat_map, list_all}
+use Rattle.std.specs.List.{list_all}
 use Rattle.std.specs.Ordering.{nat_cmp}
 use Rattle.std.specs.Str.{bytes_eq}
-use Rattle.std.proofs.lemmas.Bool.{and_parts, eqb-true}
+use Rattle.std.proofs.lemmas.Bool.{and_parts, eqb-true, not-true}
 use Rattle.std.proofs.lemmas.Bool.Decides.{nat_tests}
 use Rattle.std.proofs.lemmas.List.{append-nil}
 use Rattle.std.proofs.lemmas.Slice.Eq.{bytes_eq-Decides}
-use Rattle.cap_model.specs.Kept.{IsKept, differ, rise, if_any, keeps, keeps_slots, keeps_table, keeps_tcb, names_differ, fits, fits_as}
-use Rattle.cap_model.specs.Kinds.{is_at, is_space_root, kind_of_object}
+use Rattle.cap_model.specs.Kept.{IsKept, rise, if_any, keeps, keeps_slots, keeps_table, keeps_tcb, names_differ, fits, fits_as}
+use Rattle.cap_model.specs.Kinds.{is_at, is_space_root}
 use Rattle.cap_model.specs.Levels.{size, child}
 use Rattle.cap_model.specs.Lookup.{name_at, object_at}
 use Rattle.cap_model.specs.RightsWord.{has_rights}
@@ -27,21 +27,20 @@ use Rattle.cap_model.specs.declared.spec.Spec.{Spec}
 use Rattle.capdl_lexer.specs.declared.token.Span.{Span}
 use Rattle.capdl_text.specs.Knowing.{Knows}
 use Rattle.capdl_text.specs.Meaning.{badge_said, cap_said, entry_said, fields_from, fill_said, held, lines_from, named_from, no_tcb, notification_said, object_said, paddr_said, place_or, rights_said, slots_from, thread_said}
-use Rattle.capdl_text.specs.declared.known.Known.{Known}
 use Rattle.capdl_text.specs.declared.tree.Holder.{Holder}
 use Rattle.capdl_text.specs.declared.tree.SlotKey.{SlotKey}
 use Rattle.capdl_text.specs.declared.tree.SlotKey.TheVariants as keys
 use Rattle.capdl_text.specs.declared.tree.SlotLine.{SlotLine}
 use Rattle.capdl_text.specs.declared.tree.ThreadField.{ThreadField}
 use Rattle.capdl_text.specs.declared.tree.ThreadValue.TheVariants as thread
-use Rattle.capdl_back.specs.Canon.{word, hex, brace_r, paren_r, buffer_pieces, named_pieces, held_pieces, holders_pieces, irqs_pieces, objects_pieces, slots_pieces}
+use Rattle.capdl_back.specs.Canon.{word, hex, brace_r, paren_r, held_pieces, holders_pieces, objects_pieces, slots_pieces}
 use Rattle.capdl_back.specs.Pieces.{Piece}
-use Rattle.capdl_back.proofs.Known.{KnowsAll, is_other, differ_parts, known_object, known_place, not_true}
+use Rattle.capdl_back.proofs.Known.{KnowsAll, is_other, differ_parts, known_place}
 use Rattle.capdl_back.proofs.Named.{all_from, both_true}
 use Rattle.capdl_back.proofs.ReadBack.{kind_at as kind_line_at, objects_at, addr_tail, ip_tail, sp_tail, prio_tail, field_at, with_elf, last_fields, fields_at, frame_fields}
-use Rattle.capdl_back.proofs.ReadHolders.{no_rights_at, params_at, slot_at, plain_at}
+use Rattle.capdl_back.proofs.ReadHolders.{no_rights_at, params_at}
 use Rattle.capdl_back.proofs.ReadText.{cap_at, slots_at, buffer_at, vspace_at, cspace_at, irq_slot_at, lines_at, held_at, holders_at, irqs_at}
-use Rattle.capdl_back.proofs.Sound.{fits_object, is_object, root_object, rise_rest}
+use Rattle.capdl_back.proofs.Sound.{fits_object, is_object, root_object}
 
 -- ---- putting in by number
 
@@ -213,7 +212,7 @@ module _ (pl : List Piece → Span) (spec : Spec) (known : Knows) (all : KnowsAl
   held_none name [] more o = refl
   held_none name (e ∷ es) more o =
       let k = and_parts (not (bytes_eq e.name name)) (is_other name es) o in
-      step (lines_at pl spec e.object (holders_pieces spec es more)) (other name e.name (not_true _ k.0)) (held_none name es more k.1)
+      step (lines_at pl spec e.object (holders_pieces spec es more)) (other name e.name (not-true _ k.0)) (held_none name es more k.1)
     where
       other : (a b : List ℕ) → bytes_eq b a ≡ false → bytes_eq a b ≡ false
       other a b h = go (bytes_eq a b) refl
@@ -235,7 +234,7 @@ module _ (pl : List Piece → Span) (spec : Spec) (known : Knows) (all : KnowsAl
   held_later name place (s ∷ ss) hs [] more o h = tt
   held_later name place (s ∷ ss) hs (e ∷ es) more o h =
       let k = and_parts (not (bytes_eq e.name name)) (is_other name es) o in
-      let n = not_true _ k.0 in
+      let n = not-true _ k.0 in
       (rw n h.0, held_later name place (s ∷ ss) hs es more k.1 h.1)
 
   all_held : (es : List Entry) (more : List Piece) → names_differ es ≡ true → IsHeld (holders_at pl spec es more) es more

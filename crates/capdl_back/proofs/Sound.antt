@@ -4,12 +4,11 @@ use Rattle.std.specs.Prelude.{codes, ◌&&◌, ◌||◌, not, ◌==◌, ◌%◌,
 use Rattle.std.specs.List.{flat_map, list_all, list_any}
 use Rattle.std.specs.Option.{option_map}
 use Rattle.std.specs.Str.{bytes_eq}
-use Rattle.std.proofs.lemmas.Bool.{and_parts, eqb-true}
+use Rattle.std.proofs.lemmas.Bool.{and_parts, not-true}
 use Rattle.std.proofs.lemmas.Bool.Decides.{nat_tests}
 use Rattle.std.proofs.lemmas.Slice.Eq.{bytes_eq-Decides}
-use Rattle.cam_base.specs.declared.text_fault.TextFault.{TextFault}
-use Rattle.cap_model.specs.Kept.{IsKept, differ, rise, if_any, within, keeps, keeps_fill, keeps_slots, keeps_table, keeps_tcb, names_differ, fits, fits_as, fits_kind}
-use Rattle.cap_model.specs.Kinds.{is_at, is_kind, is_root_object, is_space_root, kind_at, kind_of_object, kind_rights, has_badge, same_kind}
+use Rattle.cap_model.specs.Kept.{IsKept, differ, rise, if_any, within, keeps, keeps_fill, keeps_slots, keeps_table, names_differ, fits, fits_as, fits_kind}
+use Rattle.cap_model.specs.Kinds.{is_at, is_kind, is_root_object, is_space_root, kind_of_object, kind_rights, has_badge, same_kind}
 use Rattle.cap_model.specs.Levels.{size, child}
 use Rattle.cap_model.specs.Lookup.{name_at, object_at}
 use Rattle.cap_model.specs.RightsWord.{has_rights}
@@ -19,38 +18,34 @@ use Rattle.cap_model.specs.declared.kind.Kind.TheVariants as kinds
 use Rattle.cap_model.specs.declared.level.Arch.{Arch}
 use Rattle.cap_model.specs.declared.level.Level.{Level}
 use Rattle.cap_model.specs.declared.level.Level.TheVariants.{Global, Upper, Directory, Table}
-use Rattle.cap_model.specs.declared.object.Fill.{Fill}
 use Rattle.cap_model.specs.declared.object.Object.{Object}
 use Rattle.cap_model.specs.declared.object.Object.TheVariants.{Endpoint, Notification, CNode, Thread, Frame, Pages, Irq}
-use Rattle.cap_model.specs.declared.object.Tcb.{Tcb}
 use Rattle.cap_model.specs.declared.rights.Rights.{Rights}
 use Rattle.cap_model.specs.declared.spec.Entry.{Entry}
 use Rattle.cap_model.specs.declared.spec.Spec.{Spec}
 use Rattle.capdl_lexer.specs.declared.token.Span.{Span}
 use Rattle.name_tables.specs.Keys.{Key, same_key}
 use Rattle.capdl_text.specs.KindField.{has_key, holds, is_space_root as root_kind, takes, kind_takes, param_off, slot_off, off_in, irq_off, kind_off, thread_value_off}
-use Rattle.capdl_text.specs.Knowing.{Knows, node_size, are_bits}
+use Rattle.capdl_text.specs.Knowing.{Knows}
 use Rattle.capdl_text.specs.SlotRange.{key_past, slots_past, past_in}
-use Rattle.capdl_text.specs.Twice.{names_after, keys_after, keys_twice, param_keyed, params_twice, slot_keyed, thread_keyed, frame_keyed, irq_keyed, fields_twice, twice_in}
+use Rattle.capdl_text.specs.Twice.{names_after, keys_after, keys_twice, params_twice, slot_keyed, thread_keyed, irq_keyed, fields_twice, twice_in}
 use Rattle.capdl_text.specs.Unknown.{unknown, unknown_in}
 use Rattle.capdl_text.specs.declared.known.Known.{Known}
 use Rattle.capdl_text.specs.declared.tree.Holder.{Holder}
 use Rattle.capdl_text.specs.declared.tree.Id.{Id}
-use Rattle.capdl_text.specs.declared.tree.IrqLine.{IrqLine}
-use Rattle.capdl_text.specs.declared.tree.ObjectLine.{ObjectLine}
 use Rattle.capdl_text.specs.declared.tree.Param.{Param}
 use Rattle.capdl_text.specs.declared.tree.SlotKey.{SlotKey}
 use Rattle.capdl_text.specs.declared.tree.SlotKey.TheVariants as keys
 use Rattle.capdl_text.specs.declared.tree.SlotLine.{SlotLine}
 use Rattle.capdl_text.specs.declared.tree.ThreadField.{ThreadField}
 use Rattle.capdl_text.specs.declared.tree.ThreadValue.TheVariants as thread
-use Rattle.capdl_back.specs.Canon.{word, hex, brace_r, held_pieces, holders_pieces, irqs_pieces, objects_pieces}
+use Rattle.capdl_back.specs.Canon.{word, hex, brace_r, holders_pieces, objects_pieces}
 use Rattle.capdl_back.specs.Pieces.{Piece}
-use Rattle.capdl_back.proofs.Known.{KnowsAll, any_none, is_other, differ_parts, known_object, known_place, not_true}
+use Rattle.capdl_back.proofs.Known.{KnowsAll, any_none, is_other, differ_parts, known_object, known_place}
 use Rattle.capdl_back.proofs.Named.{all_from, both_true}
-use Rattle.capdl_back.proofs.ReadBack.{kind_at as kind_line_at, object_at as line_at, objects_at, addr_tail, ip_tail, sp_tail, prio_tail, field_at, with_elf, last_fields, fields_at, frame_fields}
-use Rattle.capdl_back.proofs.ReadHolders.{no_rights_at, params_at, slot_at, plain_at}
-use Rattle.capdl_back.proofs.ReadText.{cap_at, slots_at, buffer_at, vspace_at, cspace_at, irq_slot_at, lines_at, held_at, holders_at, irq_at, irqs_at}
+use Rattle.capdl_back.proofs.ReadBack.{kind_at as kind_line_at, objects_at, addr_tail, ip_tail, sp_tail, prio_tail, field_at, with_elf, last_fields}
+use Rattle.capdl_back.proofs.ReadHolders.{no_rights_at, params_at, slot_at}
+use Rattle.capdl_back.proofs.ReadText.{cap_at, slots_at, buffer_at, vspace_at, cspace_at, irq_slot_at, lines_at, held_at, holders_at, irqs_at}
 
 -- ---- lists
 
@@ -195,7 +190,7 @@ params_none pl kind true true rights badge more w h = let g = h refl in rw (w, g
 
 badge_needs : (has none : Bool) → (has || none) ≡ true → not none ≡ true → has ≡ true
 badge_needs true none h n = refl
-badge_needs false none h n = absurd (let e = not_true none n in cc)
+badge_needs false none h n = absurd (let e = not-true none n in cc)
 
 module _ (pl : List Piece → Span) (spec : Spec) (known : Knows) (all : KnowsAll spec known) where
   good_cap : (h : Known) (key : SlotKey) (p : Piece) (cap : Cap) (more : List Piece) → has_key h.kind key ≡ true → IsBelow h.size key → fits spec cap ≡ true
@@ -295,7 +290,7 @@ module _ (pl : List Piece → Span) (spec : Spec) (known : Knows) (all : KnowsAl
   slots_once name met [] more r u = refl
   slots_once name met (s ∷ ss) more r u =
       let k = and_parts (not (met (0, s.0))) (list_all (λ s. not (met (0, s.0))) ss) u in
-      let n = not_true (met (0, s.0)) k.0 in
+      let n = not-true (met (0, s.0)) k.0 in
       rw n (slots_once name (λ q. met q || same_key q (0, s.0)) ss more (rise_rest s ss r) (numbers_unmet met s ss r k.1))
 
   unmet : {A : Type 0} (xs : List A) → list_all (λ (x : A). true) xs ≡ true
@@ -375,7 +370,7 @@ module _ (pl : List Piece → Span) (spec : Spec) (known : Knows) (all : KnowsAl
   objects_once met (e ∷ es) more d u =
       let k = and_parts (not (met e.name)) (list_all (λ e. not (met e.name)) es) u in
       let p = differ_parts e es d in
-      let n = not_true (met e.name) k.0 in
+      let n = not-true (met e.name) k.0 in
       rw n (objects_once (λ m. met m || bytes_eq m e.name) es more p.1 (names_unmet met e es p.0 k.1))
 
   held_once : (met : List ℕ → Bool) (name : List ℕ) (place : Span) (lines : List SlotLine) (hs : List Holder) → met name ≡ false → names_after met (map (λ h. h.id) hs) ≡ [] → names_after (λ m. met m || bytes_eq m name) (map (λ h. h.id) hs) ≡ []
@@ -388,7 +383,7 @@ module _ (pl : List Piece → Span) (spec : Spec) (known : Knows) (all : KnowsAl
   holders_once met (e ∷ es) more d u =
       let k = and_parts (not (met e.name)) (list_all (λ e. not (met e.name)) es) u in
       let p = differ_parts e es d in
-      held_once met e.name _ (lines_at pl spec e.object (holders_pieces spec es more)) (holders_at pl spec es more) (not_true (met e.name) k.0) (holders_once met es more p.1 k.1)
+      held_once met e.name _ (lines_at pl spec e.object (holders_pieces spec es more)) (holders_at pl spec es more) (not-true (met e.name) k.0) (holders_once met es more p.1 k.1)
       (holders_once (λ m. met m || bytes_eq m e.name) es more p.1 (names_unmet met e es p.0 k.1))
 
   pub names_once : (more : List Piece) → IsKept spec → names_after (λ n. false) (map (λ o. o.id) (objects_at pl spec.entries more)) ≡ []
@@ -471,7 +466,7 @@ module _ (pl : List Piece → Span) (spec : Spec) (known : Knows) (all : KnowsAl
   numbers_once met [] more r u = refl
   numbers_once met (l ∷ ls) more r u =
       let k = and_parts (not (met (0, l.0))) (list_all (λ l. not (met (0, l.0))) ls) u in
-      let n = not_true (met (0, l.0)) k.0 in
+      let n = not-true (met (0, l.0)) k.0 in
       rw n (numbers_once (λ q. met q || same_key q (0, l.0)) ls more (rise_rest l ls r) (numbers_unmet met l ls r k.1))
 
   same_place : (a b : ℕ) (x y : Object) → known (name_at spec a) ≡ Some (known_object spec.arch a x) → known (name_at spec b) ≡ Some (known_object spec.arch b y) → name_at spec a ≡ name_at spec b → a ≡ b
@@ -488,7 +483,7 @@ module _ (pl : List Piece → Span) (spec : Spec) (known : Knows) (all : KnowsAl
           let x = is_object spec kinds.Irq a p in
           let y = is_object spec kinds.Irq b q in
           let s : a ≡ b = same_place a b x.0 y.0 (known_place spec known all a x.0 x.1) (known_place spec known all b y.0 y.1) ((bytes_eq-Decides (name_at spec a) (name_at spec b)).0 e) in
-          absurd (let f = not_true (a == b) n in grind (arith, nat_tests, s, f))
+          absurd (let f = not-true (a == b) n in grind (arith, nat_tests, s, f))
       go false e = refl
 
   pub irq_names_once : (met : List ℕ → Bool) (ls : List (ℕ × ℕ)) (more : List Piece) → differ (λ a b. a == b) (map (λ l. l.1) ls) ≡ true → list_all (λ l. is_at spec kinds.Irq l.1) ls ≡ true → list_all (λ l. not (met (name_at spec l.1))) ls ≡ true
@@ -498,10 +493,10 @@ module _ (pl : List Piece → Span) (spec : Spec) (known : Knows) (all : KnowsAl
       let p = and_parts (is_at spec kinds.Irq l.1) (list_all (λ l. is_at spec kinds.Irq l.1) ls) k in
       let q = and_parts (not (met (name_at spec l.1))) (list_all (λ l. not (met (name_at spec l.1))) ls) u in
       let e = and_parts (not (list_any (λ m. m == l.1) (map (λ l. l.1) ls))) (differ (λ a b. a == b) (map (λ l. l.1) ls)) d in
-      let others : list_all (λ (m : ℕ × ℕ). not (m.1 == l.1)) ls ≡ true = any_none (λ (m : ℕ × ℕ). m.1) (λ m. m == l.1) ls (not_true _ e.0) in
+      let others : list_all (λ (m : ℕ × ℕ). not (m.1 == l.1)) ls ≡ true = any_none (λ (m : ℕ × ℕ). m.1) (λ m. m == l.1) ls (not-true _ e.0) in
       let apart_names : list_all (λ (m : ℕ × ℕ). not (bytes_eq (name_at spec m.1) (name_at spec l.1))) ls ≡ true =
       all_from (λ (m : ℕ × ℕ). is_at spec kinds.Irq m.1) (λ (m : ℕ × ℕ). not (m.1 == l.1)) (λ (m : ℕ × ℕ). not (bytes_eq (name_at spec m.1) (name_at spec l.1))) ls (λ m g h. names_apart m.1 l.1 g p.0 h) p.1 others in
-      let n = not_true (met (name_at spec l.1)) q.0 in
+      let n = not-true (met (name_at spec l.1)) q.0 in
       rw n (irq_names_once (λ m. met m || bytes_eq m (name_at spec l.1)) ls more e.1 p.1
       (all_from (λ (m : ℕ × ℕ). not (met (name_at spec m.1))) (λ (m : ℕ × ℕ). not (bytes_eq (name_at spec m.1) (name_at spec l.1))) (λ (m : ℕ × ℕ). not (met (name_at spec m.1) || bytes_eq (name_at spec m.1) (name_at spec l.1))) ls
       (λ m g h. not_either (met (name_at spec m.1)) (bytes_eq (name_at spec m.1) (name_at spec l.1)) g h) q.1 apart_names))

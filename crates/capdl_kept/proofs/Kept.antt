@@ -1,34 +1,31 @@
 -- The spec of a tree in which no fault stands keeps what every spec keeps.
-use Rattle.std.proofs.Common.{◌≡◌, ℕ, zero, suc, ◌+◌, ◌<◌, ◌≤◌, ◌^◌, Bool, true, false, cond, List, [], ◌∷◌, ◌++◌, map, length, drop, Option, Some, None, refl, sym, ap, subst, ◌∙◌, arith, slice_get, ◌⊎◌, inl, inr}
-use Rattle.std.specs.Prelude.{◌&&◌, ◌||◌, not, nat_lt, leb, ◌==◌, ◌%◌}
+use Rattle.std.proofs.Common.{◌≡◌, ℕ, zero, suc, ◌+◌, ◌≤◌, ◌^◌, Bool, true, false, cond, List, [], ◌∷◌, ◌++◌, map, length, Option, Some, None, refl, sym, ap, subst, ◌∙◌, arith, slice_get, ◌⊎◌, inl, inr}
+use Rattle.std.specs.Prelude.{◌&&◌, not, leb, ◌==◌, ◌%◌}
 use Rattle.std.specs.List.{flat_map, list_all, list_any}
 use Rattle.std.specs.BTreeMap.{insert_entry}
 use Rattle.std.specs.Option.{is_some, option_map}
 use Rattle.std.specs.Ordering.{nat_cmp}
 use Rattle.std.specs.Str.{bytes_eq}
-use Rattle.std.proofs.lemmas.List.{length-map, length-drop}
-use Rattle.std.proofs.lemmas.Bool.{and_parts, eqb-true}
+use Rattle.std.proofs.lemmas.List.{length-map}
+use Rattle.std.proofs.lemmas.Bool.{and_parts, eqb-true, or_parts}
 use Rattle.std.proofs.lemmas.Slice.Eq.{bytes_eq-Decides}
 use Rattle.cam_base.specs.declared.text_fault.TextFault.{TextFault}
 use Rattle.cam_base.specs.declared.text_fault.TextCode.TheVariants.{CapdlUnknown}
 use Rattle.capdl_text.specs.Faults.{at_id}
-use Rattle.cap_model.specs.declared.cap.Cap.{Cap}
 use Rattle.cap_model.specs.declared.kind.Kind.{Kind}
 use Rattle.cap_model.specs.declared.kind.Kind.TheVariants as kinds
 use Rattle.cap_model.specs.declared.level.Arch.{Arch}
 use Rattle.cap_model.specs.declared.level.Level.{Level}
-use Rattle.cap_model.specs.declared.object.Object.{Object}
 use Rattle.cap_model.specs.declared.object.Tcb.{Tcb}
-use Rattle.cap_model.specs.declared.spec.Entry.{Entry}
 use Rattle.cap_model.specs.declared.spec.Spec.{Spec}
-use Rattle.cap_model.specs.Kept.{differ, rise, if_any, within, fits_kind, fits, fits_as, keeps_slots, keeps_cnode, keeps_table, keeps_tcb, keeps_fill, keeps_frame, keeps, names_differ as entries_differ, keeps_lines, IsKept}
-use Rattle.cap_model.specs.Kinds.{kind_of_object, kind_at, same_kind, is_kind, is_at, is_root_object, is_space_root, kind_rights, has_badge}
-use Rattle.cap_model.specs.Levels.{size, child, is_root_level}
+use Rattle.cap_model.specs.Kept.{differ, rise, if_any, fits_kind, fits, fits_as, keeps_cnode, keeps_table, keeps_tcb, keeps_fill, keeps, names_differ as entries_differ, keeps_lines, IsKept}
+use Rattle.cap_model.specs.Kinds.{kind_of_object, kind_at, same_kind, is_kind, is_at, is_root_object, is_space_root}
+use Rattle.cap_model.specs.Levels.{size, child}
 use Rattle.cap_model.specs.Lookup.{entry_object, object_at}
-use Rattle.capdl_text.specs.KindField.{thread_value_off, frame_value_off, fill_off, kind_off, param_off, holder_off, slot_off, slots_off, off_in, irq_off, kind_fields, kind_takes, takes, is_space_root as is_root_kind, has_key}
-use Rattle.capdl_text.specs.Knowing.{Knows, knows, known_as, known_from, kind_said, size_said, are_bits}
+use Rattle.capdl_text.specs.KindField.{thread_value_off, frame_value_off, fill_off, kind_off, param_off, holder_off, slot_off, slots_off, off_in, irq_off, kind_fields, takes, is_space_root as is_root_kind}
+use Rattle.capdl_text.specs.Knowing.{Knows, knows, known_as, kind_said, size_said, are_bits}
 use Rattle.capdl_text.specs.Limits.{past, limits, most_objects}
-use Rattle.capdl_text.specs.Meaning.{place_or, place_said, cap_said, slots_said, put_field, fields_from, no_tcb, named_from, thread_said, paddr_or, paddr_said, fill_of, fill_or, fill_said, lines_from, held, object_said, entry_said, spec_of}
+use Rattle.capdl_text.specs.Meaning.{place_or, place_said, cap_said, slots_said, put_field, fields_from, no_tcb, thread_said, paddr_or, paddr_said, fill_of, fill_or, fill_said, lines_from, held, object_said, entry_said, spec_of}
 use Rattle.capdl_text.specs.SlotRange.{past_in, slots_past, slot_ranges, size_of}
 use Rattle.capdl_text.specs.Texts.{Text}
 use Rattle.capdl_text.specs.TreeFaults.{tree_faults}
@@ -41,12 +38,10 @@ use Rattle.capdl_text.specs.declared.tree.FrameField.{FrameField}
 use Rattle.capdl_text.specs.declared.tree.FrameValue.{FrameValue}
 use Rattle.capdl_text.specs.declared.tree.FrameValue.TheVariants as frame
 use Rattle.capdl_text.specs.declared.tree.Holder.{Holder}
-use Rattle.capdl_text.specs.declared.tree.Id.{Id}
 use Rattle.capdl_text.specs.declared.tree.IrqLine.{IrqLine}
 use Rattle.capdl_text.specs.declared.tree.KindLine.{KindLine}
 use Rattle.capdl_text.specs.declared.tree.KindLine.TheVariants as line
 use Rattle.capdl_text.specs.declared.tree.ObjectLine.{ObjectLine}
-use Rattle.capdl_text.specs.declared.tree.Param.{Param}
 use Rattle.capdl_text.specs.declared.tree.SlotKey.{SlotKey}
 use Rattle.capdl_text.specs.declared.tree.SlotKey.TheVariants as keys
 use Rattle.capdl_text.specs.declared.tree.SlotLine.{SlotLine}
@@ -56,7 +51,7 @@ use Rattle.capdl_text.specs.declared.tree.ThreadValue.{ThreadValue}
 use Rattle.capdl_text.specs.declared.tree.ThreadValue.TheVariants as thread
 use Rattle.capdl_kept.proofs.Named.{names_differ, known_there, known_here}
 use Rattle.capdl_kept.proofs.Nothing.{nil_append, is_true, each_nil}
-use Rattle.capdl_kept.proofs.Slots.{rights_fit, badge_fits, IsBelow, IsGood, AllGood, all_good, IsFit, AllFit, said_kept, IsNamed, AllNamed, Fits, named_fit, named_prio, IsHeld, AllHeld, held_fits}
+use Rattle.capdl_kept.proofs.Slots.{rights_fit, badge_fits, IsBelow, AllGood, all_good, IsFit, AllFit, said_kept, IsNamed, AllNamed, Fits, named_fit, named_prio, IsHeld, AllHeld, held_fits}
 use Rattle.capdl_kept.proofs.Sorted.{rise_insert, all_insert, lacks, parts_differ, differ_insert}
 
 get_map : {A B : Type 0} (f : A → B) (xs : List A) (i : ℕ) (x : A) → slice_get xs i ≡ Some x → slice_get (map f xs) i ≡ Some (f x)
@@ -422,14 +417,10 @@ module _ (t : SpecTree) (sound : tree_faults t ≡ []) where
   lacked_more : (done : List (ℕ × ℕ)) (l : IrqLine) (ls : List IrqLine) → Sound l → AllSound ls → list_any (λ n. bytes_eq n l.object.name) (map (λ i. i.name) (map (λ l. l.object) ls)) ≡ false → AllLacked done ls → AllLacked (put done l) ls
   lacked_more done l [] s a d g = tt
   lacked_more done l (m ∷ ls) s a d g =
-      let p = or_false (bytes_eq m.object.name l.object.name) _ d in
+      let p = or_parts (bytes_eq m.object.name l.object.name) _ d in
       let apart : not (s.0.place == a.0.0.place) ≡ true = places_apart l.object.name m.object.name s.0 a.0.0 s.1 a.0.1 p.0 in
       let apart' : not (place_of l == place_of m) ≡ true = ap (λ z. not (z == place_of m)) (ap place_or s.1) ∙ ap (λ z. not (s.0.place == z)) (ap place_or a.0.1) ∙ apart in
       (all_insert (λ x. not (x.1 == place_of m)) done l.number.value (place_of l) g.0 apart', lacked_more done l ls s a.1 p.1 g.1)
-    where
-      or_false : (a b : Bool) → (a || b) ≡ false → (a ≡ false) × (b ≡ false)
-      or_false true b e = absurd cc
-      or_false false b e = (refl, e)
 
   lines_from_kept : (done : List (ℕ × ℕ)) (ls : List IrqLine) → AllSound ls → differ bytes_eq (map (λ i. i.name) (map (λ l. l.object) ls)) ≡ true → AllLacked done ls → rise done ≡ true → parts_differ done ≡ true → list_all (λ x. is_at spec kinds.Irq x.1) done ≡ true
       → keeps_lines spec (lines_from known done ls) ≡ true

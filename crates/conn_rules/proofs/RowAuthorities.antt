@@ -1,8 +1,8 @@
 -- The rights of each row confer its authorities: a test of each row and authority, which computes.
-use Rattle.std.proofs.Common.{◌≡◌, ◌&&◌, Bool, true, false, not, refl, arith, List, [], ◌∷◌, true≢false, sym}
+use Rattle.std.proofs.Common.{◌≡◌, ◌&&◌, Bool, true, false, not, refl, arith, List, [], ◌∷◌, sym}
 use Rattle.std.specs.Prelude.{nat_lt}
 use Rattle.std.specs.List.{All, list_all}
-use Rattle.std.proofs.lemmas.Bool.{ltb-true}
+use Rattle.std.proofs.lemmas.Bool.{ltb-true, and_parts}
 use Rattle.std.proofs.lemmas.List.Sums.{AllPass-from_list_all}
 use Rattle.auth_kinds.specs.AuthoritySets.{IsSetOf, set_has}
 use Rattle.auth_kinds.specs.declared.authority.Authority.{Authority}
@@ -10,10 +10,6 @@ use Rattle.auth_kinds.specs.declared.authority.Authority.TheVariants.{Receive, S
 use Rattle.conn_rules.specs.Confer.{row_confers}
 use Rattle.conn_rules.specs.Row.{table}
 use Rattle.conn_rules.specs.declared.rule.RuleRow.{RuleRow}
-
-both : (a b : Bool) → (a && b) ≡ true → (a ≡ true) × (b ≡ true)
-both true b e = (refl, e)
-both false b e = absurd (true≢false (sym e))
 
 abbrev agree : Bool → Bool → Bool
 agree true b = b
@@ -52,7 +48,7 @@ is_right row = nat_lt row.authorities.bits 4096 && list_all (agrees row) every
 
 set_of_row : (row : RuleRow) → is_right row ≡ true → IsSetOf (row_confers row) row.authorities.bits
 set_of_row row e =
-    let parts = both (nat_lt row.authorities.bits 4096) (list_all (agrees row) every) e in
+    let parts = and_parts (nat_lt row.authorities.bits 4096) (list_all (agrees row) every) e in
     record {
       each = λ a. agree-same _ _ (passed (agrees row) (AllPass-from_list_all (agrees row) every parts.1) a);
       no_more = ltb-true row.authorities.bits 4096 parts.0;

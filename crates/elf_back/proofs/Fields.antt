@@ -21,7 +21,8 @@ use Rattle.sect_table.specs.declared.image.Section.{Section}
 use Rattle.text_lines.specs.Fields.{spaced_fields}
 use Rattle.text_lines.specs.Lines.{is_silent}
 use Rattle.elf_back.proofs.Lines.{ended, loud}
-use Rattle.elf_back.proofs.Numbers.{hex_plain, hex_value}
+use Rattle.cam_base.proofs.Hexadecimals.{number_value-hex_text}
+use Rattle.elf_back.proofs.Numbers.{hex_plain}
 use Rattle.elf_back.proofs.Words.{Plain, is_clean, is_shown, spaced, spaced_read, spaced_shown}
 
 -- ---- the line of a section
@@ -107,7 +108,7 @@ hex_no_dash n = refl
 
 place_read : (at : Option ℕ) (size : ℕ) → is_placed at size ≡ true → place_of (place at) ≡ Some at
 place_read None size h = refl
-place_read (Some at) size h = other (hex_text at) at (hex_value at (at_small at size h)) (hex_no_dash at)
+place_read (Some at) size h = other (hex_text at) at (number_value-hex_text at (at_small at size h)) (hex_no_dash at)
   where
     other : (word : List ℕ) (n : ℕ) → number_value word ≡ Some n → bytes_eq word (codes "-") ≡ false → place_of word ≡ Some (Some n)
     other word n v e = rw (e, v) refl
@@ -115,7 +116,7 @@ place_read (Some at) size h = other (hex_text at) at (hex_value at (at_small at 
 numbers_read : (s : Section) → HasRow s → numbers_of (hex_text s.vaddr) (hex_text s.size) (rights s.write) (place s.at) ≡ Some (s.vaddr, s.size, s.write, s.at)
 numbers_read s h =
     let n = numbers s h.sound in
-    rw (hex_value s.vaddr n.vaddr, hex_value s.size n.size, rights_read s.write, place_read s.at s.size n.at) refl
+    rw (number_value-hex_text s.vaddr n.vaddr, number_value-hex_text s.size n.size, rights_read s.write, place_read s.at s.size n.at) refl
 
 pub row_read : (s : Section) → HasRow s → section_of (spaced_fields (row s)) ≡ Some s
 row_read s h =
@@ -149,8 +150,8 @@ entry_words_plain Arm11 entry l = (hex_plain entry l, tt)
 entry_words_plain Aarch64 entry l = (hex_plain entry l, (record { some = omega arith; clean = refl }, tt))
 
 header_read : (arch : Arch) (entry : ℕ) → entry < 2 ^ 64 → header_of (codes "entry" ∷ entry_words arch entry) ≡ Some (header arch entry)
-header_read Arm11 entry l = rw (hex_value entry l) refl
-header_read Aarch64 entry l = rw (hex_value entry l) refl
+header_read Arm11 entry l = rw (number_value-hex_text entry l) refl
+header_read Aarch64 entry l = rw (number_value-hex_text entry l) refl
 
 pub entry_read : (arch : Arch) (entry : ℕ) → entry < 2 ^ 64 → header_of (spaced_fields (entry_row arch entry)) ≡ Some (header arch entry)
 entry_read arch entry l = ap header_of (spaced_read (codes "entry") (entry_words arch entry) entry_plain (entry_words_plain arch entry l)) ∙ header_read arch entry l

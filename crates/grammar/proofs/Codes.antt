@@ -1,19 +1,10 @@
 -- Sets of codes, as lists.
 use Rattle.std.proofs.Common.{◌≡◌, ℕ, Bool, true, false, cond, List, [], ◌∷◌, ◌++◌, refl, ◌⊎◌, inl, inr}
-use Rattle.std.specs.Prelude.{◌&&◌, not, ◌==◌}
-use Rattle.std.proofs.lemmas.Bool.{eqb-true}
+use Rattle.std.specs.Prelude.{not, ◌==◌}
+use Rattle.std.proofs.lemmas.Bool.{eqb-true, and_parts}
 use Rattle.grammar.specs.Form.{among}
 use Rattle.grammar.specs.Deciding.{apart, same}
 use Rattle.grammar.specs.Reading.{starts}
-
--- both tests hold
-pub and_true : (a b : Bool) → (a && b) ≡ true → (a ≡ true) × (b ≡ true)
-and_true true b e = (refl, e)
-and_true false b e = absurd cc
-
-pub not_true : (a : Bool) → not a ≡ true → a ≡ false
-not_true true e = absurd cc
-not_true false e = refl
 
 pub if_true : {A : Type 0} (b : Bool) (x y : A) → b ≡ true → cond b x y ≡ x
 if_true b x y e = rw e refl
@@ -70,7 +61,7 @@ same_is [] [] e = refl
 same_is [] (d ∷ ds) e = absurd cc
 same_is (c ∷ cs) [] e = absurd cc
 same_is (c ∷ cs) (d ∷ ds) e =
-    let p = and_true (c == d) (same cs ds) e in
+    let p = and_parts (c == d) (same cs ds) e in
     rw (eqb-true c d p.0, same_is cs ds p.1) refl
 
 module _ {T : Type 0} (code : T → ℕ) where

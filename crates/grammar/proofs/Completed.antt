@@ -2,11 +2,12 @@
 use Rattle.std.proofs.Common.{◌≡◌, ℕ, zero, suc, Bool, true, false, List, [], ◌∷◌, ◌++◌, refl, sym, ap, subst, ◌∙◌, append_assoc, ◌⊎◌, inl, inr}
 use Rattle.std.specs.Prelude.{◌&&◌, ◌||◌, ◌↔◌}
 use Rattle.std.proofs.lemmas.List.{append-nil}
+use Rattle.std.proofs.lemmas.Bool.{and_parts}
 use Rattle.grammar.specs.Form.{Form, Give, One, Then, Or, Many, As, Starts, Nested, among}
 use Rattle.grammar.specs.Spelling.{Meaning, Spells, Begins, Each}
 use Rattle.grammar.specs.Depth.{deep, Spelled, Begun}
 use Rattle.grammar.specs.Spellable.{has_sample, has_spelling, parts_have_spellings}
-use Rattle.grammar.proofs.Codes.{and_true, bool_cases, if_false}
+use Rattle.grammar.proofs.Codes.{bool_cases, if_false}
 use Rattle.grammar.proofs.Depth.{spells_up}
 use Rattle.grammar.proofs.Fronts.{spelling_front}
 
@@ -33,7 +34,7 @@ module _ {T V : Type 0} (code : T → ℕ) (samples : List T) (nested : Bool) wh
     spelling (Give y) e = (y, [], (refl, refl))
     spelling (One cs) e = let s = sample code cs samples e in (s.0, s.0 ∷ [], (s.1, refl))
     spelling (Then f g) e =
-        let p = and_true (has_spelling code samples nested f) (has_spelling code samples nested g) e in
+        let p = and_parts (has_spelling code samples nested f) (has_spelling code samples nested g) e in
         let s = spelling f p.0 in
         let s' = spelling g p.1 in
         ((s.0, s'.0), s.1 ++ s'.1, (s.1, s'.1, refl, s.2, s'.2))
@@ -54,21 +55,21 @@ module _ {T V : Type 0} (code : T → ℕ) (samples : List T) (nested : Bool) wh
     completed (One cs) e ts (inl b) = let s = sample code cs samples e in (s.0, s.0 ∷ [], (s.1, ap (λ z. z ++ s.0 ∷ []) b))
     completed (One cs) e ts (inr b) = (b.0, [], (b.1, append-nil ts ∙ b.2))
     completed (Then f g) e ts (inl b) =
-        let p = and_true (parts_have_spellings code samples nested f) (parts_have_spellings code samples nested g && has_spelling code samples nested g) e in
-        let q = and_true (parts_have_spellings code samples nested g) (has_spelling code samples nested g) p.1 in
+        let p = and_parts (parts_have_spellings code samples nested f) (parts_have_spellings code samples nested g && has_spelling code samples nested g) e in
+        let q = and_parts (parts_have_spellings code samples nested g) (has_spelling code samples nested g) p.1 in
         let s = completed f p.0 ts b in
         let s' = spelling m' some g q.1 in
         ((s.0, s'.0), s.1 ++ s'.1, (ts ++ s.1, s'.1, sym (append_assoc ts s.1 s'.1), s.2, s'.2))
     completed (Then f g) e ts (inr b) =
-        let p = and_true (parts_have_spellings code samples nested f) (parts_have_spellings code samples nested g && has_spelling code samples nested g) e in
-        let q = and_true (parts_have_spellings code samples nested g) (has_spelling code samples nested g) p.1 in
+        let p = and_parts (parts_have_spellings code samples nested f) (parts_have_spellings code samples nested g && has_spelling code samples nested g) e in
+        let q = and_parts (parts_have_spellings code samples nested g) (has_spelling code samples nested g) p.1 in
         let s = completed g q.0 b.2 b.5 in
         ((b.0, s.0), s.1, (b.1, b.2 ++ s.1, ap (λ (z : List T). z ++ s.1) b.3 ∙ append_assoc b.1 b.2 s.1, spells_up code m m' up f b.0 b.1 b.4, s.2))
     completed (Or f g) e ts (inl b) =
-        let p = and_true (parts_have_spellings code samples nested f) (parts_have_spellings code samples nested g) e in
+        let p = and_parts (parts_have_spellings code samples nested f) (parts_have_spellings code samples nested g) e in
         let s = completed f p.0 ts b in (s.0, s.1, inl s.2)
     completed (Or f g) e ts (inr b) =
-        let p = and_true (parts_have_spellings code samples nested f) (parts_have_spellings code samples nested g) e in
+        let p = and_parts (parts_have_spellings code samples nested f) (parts_have_spellings code samples nested g) e in
         let s = completed g p.1 ts b in (s.0, s.1, inr s.2)
     completed (Many f) e ts b =
         let s = completed f e b.2 b.5 in

@@ -2,6 +2,7 @@
 use Rattle.std.proofs.Common.{◌≡◌, ℕ, zero, suc, ◌+◌, ◌≤◌, true, false, List, [], ◌∷◌, ◌++◌, length, Ok, Err, refl, sym, ap, subst, ◌∙◌, append_assoc, arith, ◌⊎◌, inl, inr, add-one, add_comm}
 use Rattle.std.specs.Prelude.{◌&&◌, not}
 use Rattle.std.proofs.lemmas.List.{append-nil, length-append, append_cancel_right}
+use Rattle.std.proofs.lemmas.Bool.{and_parts}
 use Rattle.grammar.specs.declared.error.Stop.{Stop}
 use Rattle.grammar.specs.declared.error.Why.TheVariants.{Unexpected, TooDeep}
 use Rattle.grammar.specs.Form.{Form, Give, One, Then, Or, Many, As, Starts, Nested, among}
@@ -10,7 +11,7 @@ use Rattle.grammar.specs.Depth.{deep, Spelled}
 use Rattle.grammar.specs.Deciding.{apart, can_be_empty, first, further, decides, same}
 use Rattle.grammar.specs.Reading.{◌>>=◌, Reader, left, starts, one, both, either, times, many, mapped, read, guarded, too_deep, read_deep, ended, whole}
 use Rattle.grammar.specs.Faults.{IsSyntaxError, IsTooDeep}
-use Rattle.grammar.proofs.Codes.{and_true, bool_cases, if_true, if_false}
+use Rattle.grammar.proofs.Codes.{bool_cases, if_true, if_false}
 use Rattle.grammar.proofs.Laws.{IsRead, bind_ok, bind_err, ok_is, ok_is_not_err, err_is, why_is}
 use Rattle.grammar.proofs.Repeats.{times_none, times_more}
 use Rattle.grammar.proofs.Whole.{exact}
@@ -110,18 +111,18 @@ module _ {T V : Type 0} (code : T → ℕ) (m m' : Meaning T V) (up : (v : V) (t
   read_past (Give y) d = λ ts e h w. ok_is_not_err (y, ts) e h
   read_past (One cs) d = one_past code cs (Begins code m' (One cs))
   read_past (Then f g) d =
-      let p = and_true (decides opens f) (decides opens g && apart (further opens f) (first opens g)) d in
-      let q = and_true (decides opens g) (apart (further opens f) (first opens g)) p.1 in
+      let p = and_parts (decides opens f) (decides opens g && apart (further opens f) (first opens g)) d in
+      let q = and_parts (decides opens g) (apart (further opens f) (first opens g)) p.1 in
       then_past code (Spells code m' f) (Begins code m' f) (Begins code m' g) (read code opens deeper f) (read code opens deeper g) (sound_up f p.0) (read_past f p.0) (read_past g q.0)
   read_past (Or f g) d =
-      let p = and_true (decides opens f) (decides opens g && (not (can_be_empty f) && apart (first opens f) (first opens g))) d in
-      let q = and_true (decides opens g) (not (can_be_empty f) && apart (first opens f) (first opens g)) p.1 in
+      let p = and_parts (decides opens f) (decides opens g && (not (can_be_empty f) && apart (first opens f) (first opens g))) d in
+      let q = and_parts (decides opens g) (not (can_be_empty f) && apart (first opens f) (first opens g)) p.1 in
       or_past code (first opens f) (Begins code m' f) (Begins code m' g) (read code opens deeper f) (read code opens deeper g) (read_past f p.0) (read_past g q.0)
   read_past (Many f) d =
-      let p = and_true (decides opens f) (not (can_be_empty f) && apart (further opens f) (first opens f)) d in
+      let p = and_parts (decides opens f) (not (can_be_empty f) && apart (further opens f) (first opens f)) d in
       many_past code (Spells code m' f) (Begins code m' f) (first opens f) (read code opens deeper f) (sound_up f p.0) (read_past f p.0)
   read_past (As h f) d = map_past code h (Begins code m' f) (read code opens deeper f) (read_past f d)
-  read_past (Starts cs f) d = read_past f (and_true (decides opens f) (not (can_be_empty f) && same cs (first opens f)) d).0
+  read_past (Starts cs f) d = read_past f (and_parts (decides opens f) (not (can_be_empty f) && same cs (first opens f)) d).0
   read_past Nested d = past
 
 module _ {T V : Type 0} (code : T → ℕ) (line : Form T V V) (opens : List ℕ) (is : IsLine code line opens) where

@@ -1,7 +1,6 @@
 pub mod Before
 pub mod Building
 pub mod Cutting
-pub mod Decimals
 pub mod Inserting
 pub mod Judging
 pub mod Kept

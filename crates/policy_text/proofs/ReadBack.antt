@@ -23,7 +23,7 @@ use Rattle.policy_text.specs.PolicyLines.{label_line, object_line, edge_line, po
 use Rattle.policy_text.specs.PolicyTexts.{bytes_limit, header, is_headed, at_start, body, told, form_fault, head_fault, has_label, policy_lines, is_labelled, label_of, object_of, edge_of, by_number, Says, IsPolicyText, IsCertText}
 use Rattle.policy_text.specs.Writable.{IsWritable, IsWritableCert}
 use Rattle.policy_text.proofs.Before.{first_wrong-append, has_label-append}
-use Rattle.policy_text.proofs.Decimals.{number_value-decimal}
+use Rattle.cam_base.proofs.Decimals.{number_value-decimal}
 use Rattle.policy_text.proofs.Inserting.{Pairs, or_left}
 use Rattle.policy_text.proofs.Judging.{none_then}
 use Rattle.policy_text.proofs.Reading.{fault_none}

@@ -17,7 +17,7 @@ use Rattle.policy_text.specs.declared.kind.Kind.{Kind}
 use Rattle.policy_text.specs.declared.kind.Kind.TheVariants as kinds
 use Rattle.policy_text.specs.Entries.{label, object, edge, entry_of}
 use Rattle.policy_text.specs.PolicyLines.{label_line, object_line, edge_line}
-use Rattle.policy_text.proofs.Decimals.{is_decimal-decimal, digits-decimal}
+use Rattle.cam_base.proofs.Decimals.{is_decimal-decimal, digits-decimal}
 use Rattle.policy_text.proofs.Rows.{IsRow, Item}
 use Rattle.text_lines.specs.Fields.{fields}
 

@@ -9,7 +9,7 @@ use Rattle.std.proofs.lemmas.List.Elements.{All-nil, All-head, All-tail, All-pus
 use Rattle.auth_kinds.specs.declared.edge.Edge.{Edge}
 use Rattle.policy_text.specs.PolicyFaults.{Told}
 use Rattle.policy_text.specs.PolicyTexts.{label_value, label_of, object_of, edge_of, by_number}
-use Rattle.policy_text.proofs.Decimals.{number_value-decimal}
+use Rattle.cam_base.proofs.Decimals.{number_value-decimal}
 use Rattle.policy_text.proofs.Inserting.{Pairs, insert_by}
 use Rattle.policy_text.proofs.Rendering.{label_item, object_item, edge_item}
 use Rattle.policy_text.proofs.Rows.{Item, line_at, told_at}

@@ -17,7 +17,7 @@ use Rattle.policy_text.specs.Entries.{Number, Entry, label, object, edge}
 use Rattle.policy_text.specs.PolicyFaults.{Told, gives, names_label, labels_object, is_label, is_object, is_edge, is_past, says_edge, new_edges, wrong_entry, first_wrong}
 use Rattle.policy_text.specs.PolicyTexts.{has_label}
 use Rattle.policy_text.proofs.Before.{any_more, count_more}
-use Rattle.policy_text.proofs.Decimals.{number_value-decimal}
+use Rattle.cam_base.proofs.Decimals.{number_value-decimal}
 use Rattle.policy_text.proofs.Inserting.{Pairs, neither, or_left, or_right}
 use Rattle.policy_text.proofs.Rendering.{label_item, object_item, edge_item}
 use Rattle.policy_text.proofs.Rows.{Item, line_at, told_at}

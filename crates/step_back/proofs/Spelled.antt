@@ -13,7 +13,8 @@ use Rattle.step_text.specs.Threads.{thread_named}
 use Rattle.step_write.specs.StepLines.{rights_field, step_line}
 use Rattle.text_lines.specs.Lines.{is_silent}
 use Rattle.step_back.specs.Readable.{IsNamed, IsNumber, IsReadable}
-use Rattle.step_back.proofs.Fields.{are_plain, decimal_digits, decimal_value, ended, is_plain, joined, plain_digits, plain_word}
+use Rattle.cam_base.proofs.Decimals.{digits-decimal, number_value-decimal}
+use Rattle.step_back.proofs.Fields.{are_plain, ended, is_plain, joined, plain_digits, plain_word}
 
 rights : Bool → Bool → Bool → Bool → Rights
 rights r w g p = record { read = r; write = w; grant = g; reply = p }
@@ -65,7 +66,7 @@ unfolding rights
 plain_rights r = plain_by r.read r.write r.grant r.reply
 
 plain_number : (n : ℕ) → IsNumber n → is_plain (decimal n) ≡ true
-plain_number n h = plain_digits (decimal n) (decimal_digits n h)
+plain_number n h = plain_digits (decimal n) (digits-decimal n h)
 
 module _ (spec : Spec) where
   plain_name : (t : ℕ) → IsNamed spec t → is_plain (name_at spec t) ≡ true
@@ -154,17 +155,17 @@ module _ (spec : Spec) where
   plain_fields (steps.ReplyTo t i (Some copy)) h = rw (plain_name t h.0, plain_number i h.1, plain_number (copy.0) h.2, plain_rights copy.1) refl
 
   pub spelled_back : (step : Step) → IsReadable spec step → spelled (thread_named spec) (word_of step ∷ behind step) ≡ Some step
-  spelled_back (steps.Take t i j r) h = rw (h.0.found, decimal_value i h.1, decimal_value j h.2, rights_back r) refl
-  spelled_back (steps.Put t i j r) h = rw (h.0.found, decimal_value i h.1, decimal_value j h.2, rights_back r) refl
-  spelled_back (steps.Grant t i u j k r) h = rw (h.0.found, decimal_value i h.2, h.1.found, decimal_value j h.3, decimal_value k h.4, rights_back r) refl
-  spelled_back (steps.Call t i u j) h = rw (h.0.found, decimal_value i h.2, h.1.found, decimal_value j h.3) refl
+  spelled_back (steps.Take t i j r) h = rw (h.0.found, number_value-decimal i h.1, number_value-decimal j h.2, rights_back r) refl
+  spelled_back (steps.Put t i j r) h = rw (h.0.found, number_value-decimal i h.1, number_value-decimal j h.2, rights_back r) refl
+  spelled_back (steps.Grant t i u j k r) h = rw (h.0.found, number_value-decimal i h.2, h.1.found, number_value-decimal j h.3, number_value-decimal k h.4, rights_back r) refl
+  spelled_back (steps.Call t i u j) h = rw (h.0.found, number_value-decimal i h.2, h.1.found, number_value-decimal j h.3) refl
   spelled_back (steps.Reply t None) h = rw h.found refl
-  spelled_back (steps.Reply t (Some copy)) h = rw (h.0.found, decimal_value copy.0 h.1, rights_back copy.1) refl
-  spelled_back (steps.SetCspace t i j) h = rw (h.0.found, decimal_value i h.1, decimal_value j h.2) refl
-  spelled_back (steps.SetVspace t i j) h = rw (h.0.found, decimal_value i h.1, decimal_value j h.2) refl
-  spelled_back (steps.Map t i j r) h = rw (h.0.found, decimal_value i h.1, decimal_value j h.2, rights_back r) refl
-  spelled_back (steps.Bind t i j) h = rw (h.0.found, decimal_value i h.1, decimal_value j h.2) refl
-  spelled_back (steps.Drop t i) h = rw (h.0.found, decimal_value i h.1) refl
+  spelled_back (steps.Reply t (Some copy)) h = rw (h.0.found, number_value-decimal copy.0 h.1, rights_back copy.1) refl
+  spelled_back (steps.SetCspace t i j) h = rw (h.0.found, number_value-decimal i h.1, number_value-decimal j h.2) refl
+  spelled_back (steps.SetVspace t i j) h = rw (h.0.found, number_value-decimal i h.1, number_value-decimal j h.2) refl
+  spelled_back (steps.Map t i j r) h = rw (h.0.found, number_value-decimal i h.1, number_value-decimal j h.2, rights_back r) refl
+  spelled_back (steps.Bind t i j) h = rw (h.0.found, number_value-decimal i h.1, number_value-decimal j h.2) refl
+  spelled_back (steps.Drop t i) h = rw (h.0.found, number_value-decimal i h.1) refl
   spelled_back (steps.Save t) h = rw h.found refl
-  spelled_back (steps.ReplyTo t i None) h = rw (h.0.found, decimal_value i h.1) refl
-  spelled_back (steps.ReplyTo t i (Some copy)) h = rw (h.0.found, decimal_value i h.1, decimal_value copy.0 h.2, rights_back copy.1) refl
+  spelled_back (steps.ReplyTo t i None) h = rw (h.0.found, number_value-decimal i h.1) refl
+  spelled_back (steps.ReplyTo t i (Some copy)) h = rw (h.0.found, number_value-decimal i h.1, number_value-decimal copy.0 h.2, rights_back copy.1) refl

@@ -49,7 +49,7 @@ unfolding is_long
 long_decimal [] h = absurd cc
 long_decimal (b ∷ ds) h = let k = and_parts (leb 49 b && leb b 57) (list_all is_digit ds) h in rw (not_zero_first b k.0, digit_first b k.0, k.1) refl
 
-fits_some : (b : Bool) (n m : ℕ) → b ≡ true → n ≡ m → m < 2 ^ 64 → fits b n ≡ Some m
+pub fits_some : (b : Bool) (n m : ℕ) → b ≡ true → n ≡ m → m < 2 ^ 64 → fits b n ≡ Some m
 fits_some b n m p q l = rw (p, q) (let e : nat_lt m (2 ^ 64) ≡ true = grind (arith, nat_tests) in rw e refl)
 
 pick : {A : Type 0} (z w : Bool) (x y : A) → z ≡ false → cond (z && w) x y ≡ y
