@@ -23,22 +23,26 @@ pub fn files_are_one()
 
 /// No spelling of a value is the beginning of another, and a list of tokens spells at most one.
 pub fn values_stand_alone()
-    ensures { (x y : VTree) (a b c d : Seq Tok) → IsSpelledAtAnyDepth value_line x a → IsSpelledAtAnyDepth value_line y b → a ++ c ≡ b ++ d → (x ≡ y) × (a ≡ b) }
+    ensures { (x y : VTree) (a b c d : Seq Tok) → IsSpelledAtAnyDepth value_line x a → IsSpelledAtAnyDepth value_line y b
+        → a ++ c ≡ b ++ d → (x ≡ y) × (a ≡ b) }
 {}
 
 /// No spelling of a composition is the beginning of another, and a list of tokens spells at most one.
 pub fn compositions_stand_alone()
-    ensures { (x y : CTree) (a b c d : Seq Tok) → IsSpelledAtAnyDepth composition_line x a → IsSpelledAtAnyDepth composition_line y b → a ++ c ≡ b ++ d → (x ≡ y) × (a ≡ b) }
+    ensures { (x y : CTree) (a b c d : Seq Tok) → IsSpelledAtAnyDepth composition_line x a
+        → IsSpelledAtAnyDepth composition_line y b → a ++ c ≡ b ++ d → (x ≡ y) × (a ≡ b) }
 {}
 
 /// No spelling of a configuration is the beginning of another, and a list of tokens spells at most one.
 pub fn configurations_stand_alone()
-    ensures { (x y : STree) (a b c d : Seq Tok) → IsSpelledAtAnyDepth configuration_line x a → IsSpelledAtAnyDepth configuration_line y b → a ++ c ≡ b ++ d → (x ≡ y) × (a ≡ b) }
+    ensures { (x y : STree) (a b c d : Seq Tok) → IsSpelledAtAnyDepth configuration_line x a
+        → IsSpelledAtAnyDepth configuration_line y b → a ++ c ≡ b ++ d → (x ≡ y) × (a ≡ b) }
 {}
 
 /// No spelling of an assembly is the beginning of another, and a list of tokens spells at most one.
 pub fn assemblies_stand_alone()
-    ensures { (x y : ATree) (a b c d : Seq Tok) → IsSpelledAtAnyDepth assembly_line x a → IsSpelledAtAnyDepth assembly_line y b → a ++ c ≡ b ++ d → (x ≡ y) × (a ≡ b) }
+    ensures { (x y : ATree) (a b c d : Seq Tok) → IsSpelledAtAnyDepth assembly_line x a
+        → IsSpelledAtAnyDepth assembly_line y b → a ++ c ≡ b ++ d → (x ≡ y) × (a ≡ b) }
 {}
 
 /// What begins a form is begun in each of its fronts.
@@ -55,16 +59,23 @@ pub fn fronts_begin()
 pub fn fronts_begin_within()
     ensures file { (n : ℕ) (a b : Seq Tok) → IsBegunWithin n file_line (a ++ b) → IsBegunWithin n file_line a }
     ensures value { (n : ℕ) (a b : Seq Tok) → IsBegunWithin n value_line (a ++ b) → IsBegunWithin n value_line a }
-    ensures composition { (n : ℕ) (a b : Seq Tok) → IsBegunWithin n composition_line (a ++ b) → IsBegunWithin n composition_line a }
-    ensures configuration { (n : ℕ) (a b : Seq Tok) → IsBegunWithin n configuration_line (a ++ b) → IsBegunWithin n configuration_line a }
+    ensures composition { (n : ℕ) (a b : Seq Tok) → IsBegunWithin n composition_line (a ++ b)
+        → IsBegunWithin n composition_line a }
+    ensures configuration { (n : ℕ) (a b : Seq Tok) → IsBegunWithin n configuration_line (a ++ b)
+        → IsBegunWithin n configuration_line a }
     ensures assembly { (n : ℕ) (a b : Seq Tok) → IsBegunWithin n assembly_line (a ++ b) → IsBegunWithin n assembly_line a }
 {}
 
 /// A form is begun exactly by the fronts of its spellings.
 pub fn beginnings_are_fronts()
-    ensures file { (ts : Seq Tok) → IsBegun file_line ts ↔ ((x : FTree) × (more : Seq Tok) × IsSpelledAtAnyDepth file_line x (ts ++ more)) }
-    ensures value { (ts : Seq Tok) → IsBegun value_line ts ↔ ((x : VTree) × (more : Seq Tok) × IsSpelledAtAnyDepth value_line x (ts ++ more)) }
-    ensures composition { (ts : Seq Tok) → IsBegun composition_line ts ↔ ((x : CTree) × (more : Seq Tok) × IsSpelledAtAnyDepth composition_line x (ts ++ more)) }
-    ensures configuration { (ts : Seq Tok) → IsBegun configuration_line ts ↔ ((x : STree) × (more : Seq Tok) × IsSpelledAtAnyDepth configuration_line x (ts ++ more)) }
-    ensures assembly { (ts : Seq Tok) → IsBegun assembly_line ts ↔ ((x : ATree) × (more : Seq Tok) × IsSpelledAtAnyDepth assembly_line x (ts ++ more)) }
+    ensures file { (ts : Seq Tok) → IsBegun file_line ts
+        ↔ ((x : FTree) × (more : Seq Tok) × IsSpelledAtAnyDepth file_line x (ts ++ more)) }
+    ensures value { (ts : Seq Tok) → IsBegun value_line ts
+        ↔ ((x : VTree) × (more : Seq Tok) × IsSpelledAtAnyDepth value_line x (ts ++ more)) }
+    ensures composition { (ts : Seq Tok) → IsBegun composition_line ts
+        ↔ ((x : CTree) × (more : Seq Tok) × IsSpelledAtAnyDepth composition_line x (ts ++ more)) }
+    ensures configuration { (ts : Seq Tok) → IsBegun configuration_line ts
+        ↔ ((x : STree) × (more : Seq Tok) × IsSpelledAtAnyDepth configuration_line x (ts ++ more)) }
+    ensures assembly { (ts : Seq Tok) → IsBegun assembly_line ts
+        ↔ ((x : ATree) × (more : Seq Tok) × IsSpelledAtAnyDepth assembly_line x (ts ++ more)) }
 {}

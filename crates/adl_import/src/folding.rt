@@ -86,7 +86,8 @@ fn is_in_folder(parts: &[&[u8]]) -> bool
 /// One step up from the parts, where `up` is `..`; false where it leaves an absolute path.
 fn go_up<'a>(absolute: bool, parts: &mut Vec<&'a [u8]>, up: &'a [u8]) -> Result<bool, NoMemory>
     requires { IsTrue (is_up up.now) }
-    ensures { IfOk result (λ inside. one_up absolute (inner_first parts.old.items) ≡ (if inside then Some (inner_first parts.new.items) else None)) }
+    ensures { IfOk result (λ inside. one_up absolute (inner_first parts.old.items)
+        ≡ (if inside then Some (inner_first parts.new.items) else None)) }
 {
     if is_in_folder(parts.as_slice()) {
         let _ = parts.pop();
@@ -101,7 +102,8 @@ fn go_up<'a>(absolute: bool, parts: &mut Vec<&'a [u8]>, up: &'a [u8]) -> Result<
 
 /// Puts one part more of a path behind the others; false where it leaves an absolute path.
 fn put_part<'a>(absolute: bool, parts: &mut Vec<&'a [u8]>, part: &'a [u8]) -> Result<bool, NoMemory>
-    ensures { IfOk result (λ inside. with_part absolute (inner_first parts.old.items) part.entry.now ≡ (if inside then Some (inner_first parts.new.items) else None)) }
+    ensures { IfOk result (λ inside. with_part absolute (inner_first parts.old.items) part.entry.now
+        ≡ (if inside then Some (inner_first parts.new.items) else None)) }
 {
     if is_dropped(part) {
         return Ok(true);
@@ -115,7 +117,8 @@ fn put_part<'a>(absolute: bool, parts: &mut Vec<&'a [u8]>, part: &'a [u8]) -> Re
 
 /// The parts that are left of a path, outermost first; none where it leaves an absolute path.
 fn walk(alloc: Global, absolute: bool, path: &[u8]) -> Result<Option<Vec<&[u8]>>, NoMemory>
-    ensures { IfOk result (λ kept. option_map (λ parts. inner_first parts.items) kept ≡ with_parts absolute [] (slice_split is_slash path.entry.now)) }
+    ensures { IfOk result (λ kept. option_map (λ parts. inner_first parts.items) kept ≡ with_parts absolute []
+        (slice_split is_slash path.entry.now)) }
 {
     let split = split_path(alloc, path)?;
     let mut kept = Vec::new(alloc);

@@ -10,18 +10,23 @@ ghost use Rattle.std.specs.Prelude.{◌≡◌, ◌<◌, ◌≤◌, ℕ, false, l
 
 /// In given contents a root has one source at most: one list of files meets the equation.
 pub fn sources_are_one()
-    ensures { (m : Contents) (root : Seq ℕ) (xs ys : Seq OneFile) → IsSource root xs → AreFilesOf (Some m) xs → IsSource root ys → AreFilesOf (Some m) ys → xs ≡ ys }
+    ensures { (m : Contents) (root : Seq ℕ) (xs ys : Seq OneFile) → IsSource root xs → AreFilesOf (Some m) xs
+        → IsSource root ys → AreFilesOf (Some m) ys → xs ≡ ys }
 {}
 
 /// In given contents there is one answer, aside from failed reads and want of memory: the source, or its first fault.
 pub fn answers_are_one()
-    ensures { (m : Contents) (root : Seq ℕ) (a b : Result Files Refusal) → yields a ≡ false → yields b ≡ false → IsLoaded (Some m) root a → IsLoaded (Some m) root b → a ≡ b }
+    ensures { (m : Contents) (root : Seq ℕ) (a b : Result Files Refusal) → yields a ≡ false → yields b ≡ false
+        → IsLoaded (Some m) root a → IsLoaded (Some m) root b → a ≡ b }
 {}
 
 /// A source that is loaded has from 1 to 64 files, none longer than the limit, whose trees spell the tokens of their
 /// bytes under their numbers; where contents are told, the bytes are those.
 pub fn loaded_sources_are_whole()
-    ensures some { (contents : Option Contents) (root : Seq ℕ) (files : Seq OneFile) → IsClean contents root files → 0 < length files }
-    ensures few { (contents : Option Contents) (root : Seq ℕ) (files : Seq OneFile) → IsClean contents root files → length files ≤ files_limit }
-    ensures each { (contents : Option Contents) (root : Seq ℕ) (files : Seq OneFile) → IsClean contents root files → AreFilesOf contents files }
+    ensures some { (contents : Option Contents) (root : Seq ℕ) (files : Seq OneFile) → IsClean contents root files
+        → 0 < length files }
+    ensures few { (contents : Option Contents) (root : Seq ℕ) (files : Seq OneFile) → IsClean contents root files
+        → length files ≤ files_limit }
+    ensures each { (contents : Option Contents) (root : Seq ℕ) (files : Seq OneFile) → IsClean contents root files
+        → AreFilesOf contents files }
 {}

@@ -33,7 +33,8 @@ fn met_root(alloc: Global, root: &Text) -> Result<IndexMap<Text, Place>, NoMemor
 fn load_from<F: Files>(alloc: Global, files: &mut F, root: &Text) -> Result<Source, LoadError>
     requires { IsUtf8 root.now }
     ensures kept { KeepsFiles F.contents F.faults files.old files.new }
-    ensures rose { (read : Items ℕ) → result ≡ Err (LoadError.ReadFault read) → Rose (F.faults files.old read) (F.faults files.new read) }
+    ensures rose { (read : Items ℕ) → result ≡ Err (LoadError.ReadFault read)
+        → Rose (F.faults files.old read) (F.faults files.new read) }
     ensures loaded { IsLoadedFrom (F.contents files.old) root.now result }
 {
     let mut known = met_root(alloc, root)?;
@@ -57,7 +58,8 @@ fn refused_root(alloc: Global, root: &str) -> Result<Source, LoadError>
 /// name that it gives rose.
 pub fn load<F: Files>(alloc: Global, files: &mut F, root: &str) -> Result<Source, LoadError>
     ensures kept { KeepsFiles F.contents F.faults files.old files.new }
-    ensures rose { (read : Items ℕ) → result ≡ Err (LoadError.ReadFault read) → Rose (F.faults files.old read) (F.faults files.new read) }
+    ensures rose { (read : Items ℕ) → result ≡ Err (LoadError.ReadFault read)
+        → Rose (F.faults files.old read) (F.faults files.new read) }
     ensures loaded { IsLoaded (F.contents files.old) root.now result }
 {
     match fold_root(alloc, root.as_bytes()) {

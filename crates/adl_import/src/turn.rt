@@ -91,7 +91,8 @@ fn read_file<F: Files>(
     requires few { length done.now < files_limit }
     requires utf8 { IsUtf8 name.now }
     ensures kept { KeepsFiles F.contents F.faults files.old files.new }
-    ensures rose { (read : Items ℕ) → result ≡ Err (LoadError.ReadFault read) → Rose (F.faults files.old read) (F.faults files.new read) }
+    ensures rose { (read : Items ℕ) → result ≡ Err (LoadError.ReadFault read)
+        → Rose (F.faults files.old read) (F.faults files.new read) }
     ensures read { IsRead (F.contents files.old) done.now name.now place result }
 {
     match read_whole(alloc, files, as_text(name.as_bytes()), FILE_LIMIT) {
@@ -122,7 +123,8 @@ fn take_imports_of(
     file: &SourceFile,
     known: &mut IndexMap<Text, Place>,
 ) -> Result<(), LoadError>
-    ensures { IsTakenIn (take_imports root.now file.now.name known.old.entries (imports_of file.now.tree)) file.now.name known.new.entries result }
+    ensures { IsTakenIn (take_imports root.now file.now.name known.old.entries (imports_of file.now.tree)) file.now.name
+        known.new.entries result }
 {
     let own = file.name.as_bytes();
     match take_imports(alloc, root, own, file.tree.items.as_slice(), known) {
@@ -143,7 +145,8 @@ pub(crate) fn take_turn<F: Files>(
     requires few { length known.old.entries ≤ files_limit }
     requires utf8 { AreUtf8 known.old.entries }
     ensures kept { KeepsFiles F.contents F.faults files.old files.new }
-    ensures rose { (read : Items ℕ) → result ≡ Err (LoadError.ReadFault read) → Rose (F.faults files.old read) (F.faults files.new read) }
+    ensures rose { (read : Items ℕ) → result ≡ Err (LoadError.ReadFault read)
+        → Rose (F.faults files.old read) (F.faults files.new read) }
     ensures turn { IsTurn (F.contents files.old) root.now done.now known.old.entries known.new.entries result }
 {
     let Some((name, place)) = known.get_index(done.len()) else {

@@ -47,17 +47,20 @@ pub fn places_rise()
 
 /// The bytes at a token's place are exactly those of its kind, in the plain words of `specs/TokenTexts.antt`.
 pub fn tokens_have_their_texts()
-    ensures { (file : ℕ) (bytes : Seq ℕ) (ts : Seq Tok) → Lexes file bytes ts → All (λ t. IsTextOf t.kind (text_at bytes t.place)) ts }
+    ensures { (file : ℕ) (bytes : Seq ℕ) (ts : Seq Tok) → Lexes file bytes ts
+        → All (λ t. IsTextOf t.kind (text_at bytes t.place)) ts }
 {}
 
 /// At each byte one thing alone begins: a blank or comment, a token, or a fault.
 pub fn one_thing_begins()
-    ensures token { (b : ℕ) (bs : Seq ℕ) → one_gap (b ∷ bs) ≡ None → fault_at (b ∷ bs) ≡ None → (k : TokenKind) × (rest : Seq ℕ) × IsTokenAt (b ∷ bs) k rest }
+    ensures token { (b : ℕ) (bs : Seq ℕ) → one_gap (b ∷ bs) ≡ None → fault_at (b ∷ bs) ≡ None
+        → (k : TokenKind) × (rest : Seq ℕ) × IsTokenAt (b ∷ bs) k rest }
     ensures no_gap { (bs rest after : Seq ℕ) (k : TokenKind) → IsTokenAt bs k rest → one_gap bs ≡ Some after → ⊥ }
     ensures no_fault { (bs rest : Seq ℕ) (f : ErrorCode × Seq ℕ) → fault_at bs ≡ Some f → one_gap bs ≡ Some rest → ⊥ }
 {}
 
 /// At a byte that is at fault for beginning no token, no bytes of a token begin.
 pub fn bytes_at_fault_begin_no_token()
-    ensures { (bs text : Seq ℕ) → fault_at bs ≡ Some (codes.Byte, text) → (k : TokenKind) (front rest : Seq ℕ) → bs ≡ front ++ rest → Spells class_of flat token_form k front → ⊥ }
+    ensures { (bs text : Seq ℕ) → fault_at bs ≡ Some (codes.Byte, text) → (k : TokenKind) (front rest : Seq ℕ)
+        → bs ≡ front ++ rest → Spells class_of flat token_form k front → ⊥ }
 {}

@@ -17,7 +17,8 @@ use cam_base::{Code, Kind, read_number};
 #[tactic(auto, using(crate::proofs::Readings::number_read))]
 pub(crate) fn number(bytes: &[u8]) -> Piece<'_>
     requires { starts class_of digits bytes.now ≡ true }
-    ensures { Fits (reads number_line bytes.now) (number_fault (run word_bytes bytes.now) (after_run word_bytes bytes.now)) None result }
+    ensures { Fits (reads number_line bytes.now) (number_fault (run word_bytes bytes.now) (after_run word_bytes bytes.now))
+        None result }
 {
     let (text, after) = word_run(bytes);
     let Some(value) = read_number(text) else {

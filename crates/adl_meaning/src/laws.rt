@@ -11,7 +11,8 @@ ghost use Rattle.std.specs.Prelude.{◌≡◌, ◌↔◌, ◌++◌, ℕ, false, 
 
 /// The first fault of a list is one of them, and none comes before it. Where there is no first fault, there is none.
 pub fn first_is_first()
-    ensures first { (fs : Seq Wrong) (r : Wrong) → least fs ≡ Some r → IsIn r fs × ((h : Wrong) → IsIn h fs → precedes h r ≡ false) }
+    ensures first { (fs : Seq Wrong) (r : Wrong) → least fs ≡ Some r → IsIn r fs × ((h : Wrong) → IsIn h fs
+        → precedes h r ≡ false) }
     ensures none { (fs : Seq Wrong) → least fs ≡ None → (f : Wrong) → IsIn f fs → ⊥ }
 {}
 

@@ -149,7 +149,8 @@ pub fn take<'a>(
     tokens: &'a [Token],
     kind: Kind,
 ) -> Result<(Token, &'a [Token]), ReadError>
-    ensures { Gives (λ x. (seen_at bytes.now x.0, see bytes.now x.1.now)) result (one token_code (kind_code kind [] ∷ []) (see bytes.now tokens.now)) }
+    ensures { Gives (λ x. (seen_at bytes.now x.0, see bytes.now x.1.now)) result (one token_code (kind_code kind [] ∷ [])
+        (see bytes.now tokens.now)) }
 {
     match tokens {
         [token, rest @ ..] if token_code(bytes, *token) == kind_code(kind, b"") => Ok((
@@ -200,7 +201,8 @@ pub fn next_is_word(bytes: &[u8], tokens: &[Token]) -> bool
 /// The next token, which is a word.
 #[inline]
 fn take_word<'a>(bytes: &[u8], tokens: &'a [Token]) -> Result<(Token, &'a [Token]), ReadError>
-    ensures { Gives (λ x. (seen_at bytes.now x.0, see bytes.now x.1.now)) result (one token_code word_codes (see bytes.now tokens.now)) }
+    ensures { Gives (λ x. (seen_at bytes.now x.0, see bytes.now x.1.now)) result
+        (one token_code word_codes (see bytes.now tokens.now)) }
 {
     match tokens {
         [token, rest @ ..] if next_is_word(bytes, tokens) => Ok((*token, rest)),
@@ -252,7 +254,8 @@ pub fn take_of<'a>(
     tokens: &'a [Token],
     words: WordKind,
 ) -> Result<(Token, &'a [Token]), ReadError>
-    ensures { Gives (λ x. (seen_at bytes.now x.0, see bytes.now x.1.now)) result (one token_code (codes_of words) (see bytes.now tokens.now)) }
+    ensures { Gives (λ x. (seen_at bytes.now x.0, see bytes.now x.1.now)) result
+        (one token_code (codes_of words) (see bytes.now tokens.now)) }
 {
     match tokens {
         [token, rest @ ..] if has_code(words, token_code(bytes, *token)) => Ok((*token, rest)),

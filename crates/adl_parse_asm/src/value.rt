@@ -65,7 +65,8 @@ fn starts_nested(bytes: &[u8], tokens: &[Token]) -> bool
 }
 
 fn starts_value(bytes: &[u8], tokens: &[Token]) -> bool
-    ensures { result ≡ starts token_code (mark_code marks.SquareL ∷ mark_code marks.BraceL ∷ number_code ∷ text_code ∷ []) (see bytes.now tokens.now) }
+    ensures { result ≡ starts token_code (mark_code marks.SquareL ∷ mark_code marks.BraceL ∷ number_code ∷ text_code ∷ [])
+        (see bytes.now tokens.now) }
 {
     starts_nested(bytes, tokens)
         || next_is(bytes, tokens, Kind::Number(0))
@@ -181,7 +182,8 @@ fn next_value<'a>(
     tokens: &'a [Token],
     room: u32,
 ) -> Result<(Value, &'a [Token]), ReadError>
-    ensures { Gives (λ x. (x.0, see bytes.now x.1.now)) result (nests room (behind (mark_code marks.Comma) value_form) (see bytes.now tokens.now)) }
+    ensures { Gives (λ x. (x.0, see bytes.now x.1.now)) result (nests room (behind (mark_code marks.Comma) value_form)
+        (see bytes.now tokens.now)) }
 {
     let (_comma, rest) = take(bytes, tokens, Kind::Mark(Mark::Comma))?;
     value_within(alloc, bytes, rest, room)
@@ -238,7 +240,8 @@ fn next_entry<'a>(
     tokens: &'a [Token],
     room: u32,
 ) -> Result<((Text, Value), &'a [Token]), ReadError>
-    ensures { Gives (λ x. (x.0, see bytes.now x.1.now)) result (nests room (behind (mark_code marks.Comma) entry_form) (see bytes.now tokens.now)) }
+    ensures { Gives (λ x. (x.0, see bytes.now x.1.now)) result (nests room (behind (mark_code marks.Comma) entry_form)
+        (see bytes.now tokens.now)) }
 {
     let (_comma, rest) = take(bytes, tokens, Kind::Mark(Mark::Comma))?;
     entry(alloc, bytes, rest, room)

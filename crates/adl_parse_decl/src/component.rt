@@ -147,7 +147,8 @@ fn port<'a>(
     bytes: &[u8],
     tokens: &'a [Token],
 ) -> Result<(Port, &'a [Token]), ReadError>
-    ensures { Gives (λ x. (x.0, see bytes.now x.1.now)) result (reads (Or (Starts interface_kind_codes plain_port_line) dataport_line) (see bytes.now tokens.now)) }
+    ensures { Gives (λ x. (x.0, see bytes.now x.1.now)) result
+        (reads (Or (Starts interface_kind_codes plain_port_line) dataport_line) (see bytes.now tokens.now)) }
 {
     if starts_interface_kind(bytes, tokens) {
         plain_port(alloc, bytes, tokens)
@@ -184,7 +185,8 @@ fn maybe_value<'a>(
     bytes: &[u8],
     tokens: &'a [Token],
 ) -> Result<(Option<Value>, &'a [Token]), ReadError>
-    ensures { Gives (λ x. (x.0, see bytes.now x.1.now)) result (reads (maybe (behind (mark_code marks.Equals) value_form)) (see bytes.now tokens.now)) }
+    ensures { Gives (λ x. (x.0, see bytes.now x.1.now)) result (reads (maybe (behind (mark_code marks.Equals) value_form))
+        (see bytes.now tokens.now)) }
 {
     if !next_is(bytes, tokens, Kind::Mark(Mark::Equals)) {
         return Ok((None, tokens));

@@ -9,5 +9,6 @@ ghost use Rattle.std.specs.Prelude.{◌≡◌, ℕ, List as Seq, Result};
 
 /// Parsing a file has one answer, aside from want of memory: the tree, or the one fault of the place where its tokens stop.
 pub fn file_answers_are_one()
-    ensures { (bytes : Seq ℕ) (tokens : Seq Tok) (a b : Result Tree (Refusal SourceFault)) → IsSettled a → IsSettled b → IsFileIn bytes tokens a → IsFileIn bytes tokens b → a ≡ b }
+    ensures { (bytes : Seq ℕ) (tokens : Seq Tok) (a b : Result Tree (Refusal SourceFault)) → IsSettled a → IsSettled b
+        → IsFileIn bytes tokens a → IsFileIn bytes tokens b → a ≡ b }
 {}

@@ -21,7 +21,8 @@ fn last_words<'a>(
     bytes: &[u8],
     tokens: &'a [Token],
 ) -> Result<(Option<(Id, Option<Id>)>, &'a [Token]), ReadError>
-    ensures { Gives (λ x. (x.0, see bytes.now x.1.now)) result (reads (maybe (Then word (maybe word))) (see bytes.now tokens.now)) }
+    ensures { Gives (λ x. (x.0, see bytes.now x.1.now)) result (reads (maybe (Then word (maybe word)))
+        (see bytes.now tokens.now)) }
 {
     if !next_is_word(bytes, tokens) {
         return Ok((None, tokens));

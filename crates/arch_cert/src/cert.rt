@@ -91,7 +91,8 @@ pub fn certificate_of(
     policy: &EdgeTable,
 ) -> Result<EdgeTable, NoMemory>
     ensures sorted { IfOk result IsSorted }
-    ensures exact { IfOk result (λ cert. (e : Triple) → (has cert e ≡ true) ↔ ((has policy.now e ≡ true) ⊎ IsLockEdge (told tables.now) e)) }
+    ensures exact { IfOk result (λ cert. (e : Triple) → (has cert e ≡ true)
+        ↔ ((has policy.now e ≡ true) ⊎ IsLockEdge (told tables.now) e)) }
     ensures cert { IsPolicyOf (told tables.now) policy.now → IfOk result (IsCertificateOf (told tables.now)) }
 {
     let kept = edges_of(alloc, policy)?;

@@ -79,7 +79,8 @@ fn push_label(
     end: FlatEnd,
     labels: &mut List<u32>,
 ) -> Result<(), NoMemory>
-    ensures { OnOk result (labels.new ≡ labels.old ++ where_true (same_role end.role role) (leaf_label (told tables.now) end.leaf)) }
+    ensures { OnOk result (labels.new ≡ labels.old ++ where_true (same_role end.role role)
+        (leaf_label (told tables.now) end.leaf)) }
 {
     if end.role == role {
         labels.push(leaf_label(tables, end.leaf))?;
@@ -105,7 +106,8 @@ pub fn labels_in_role(
 
 /// The labels of the end's objects of this kind.
 fn targets(alloc: Global, here: EndHere<'_>, object: ObjectKind) -> Result<List<u32>, NoMemory>
-    ensures { IfOk result (λ labels. labels ≡ targets (told here.entry.tables) here.entry.place here.entry.connection.now here.entry.end.role object) }
+    ensures { IfOk result (λ labels. labels ≡ targets (told here.entry.tables) here.entry.place here.entry.connection.now
+        here.entry.end.role object) }
 {
     match object {
         ObjectKind::OfEndpoint | ObjectKind::OfNotification | ObjectKind::OfFrames => {
@@ -137,7 +139,8 @@ fn push_edge(
     edge: Edge,
     edges: &mut List<Edge>,
 ) -> Result<(), NoMemory>
-    ensures { OnOk result (edges.new ≡ edges.old ++ where_true (row_gives (told here.entry.tables) here.entry.place here.entry.number row edge.authority) edge) }
+    ensures { OnOk result (edges.new ≡ edges.old ++ where_true (row_gives (told here.entry.tables) here.entry.place
+        here.entry.number row edge.authority) edge) }
 {
     if row_gives(here, row, edge.authority) {
         edges.push(edge)?;
@@ -153,7 +156,8 @@ fn push_given(
     to: u32,
     edges: &mut List<Edge>,
 ) -> Result<(), NoMemory>
-    ensures { OnOk result (edges.new ≡ edges.old ++ given_edges (told here.entry.tables) here.entry.place here.entry.number row from to) }
+    ensures { OnOk result (edges.new ≡ edges.old ++ given_edges (told here.entry.tables) here.entry.place
+        here.entry.number row from to) }
 {
     let authorities = AUTHORITIES;
     for authority in authorities.as_slice() {
@@ -174,7 +178,8 @@ fn push_given_to_each(
     targets: &[u32],
     edges: &mut List<Edge>,
 ) -> Result<(), NoMemory>
-    ensures { OnOk result (edges.new ≡ edges.old ++ gather (λ i m. given_edges (told here.entry.tables) here.entry.place here.entry.number row from m) targets.now) }
+    ensures { OnOk result (edges.new ≡ edges.old ++ gather (λ i m. given_edges (told here.entry.tables) here.entry.place
+        here.entry.number row from m) targets.now) }
 {
     for to in targets {
         push_given(here, row, from, *to, edges)?;
@@ -188,7 +193,8 @@ fn push_row(
     row: RuleRow,
     edges: &mut List<Edge>,
 ) -> Result<(), NoMemory>
-    ensures { OnOk result (edges.new ≡ edges.old ++ row_edges (told here.entry.tables) here.entry.place here.entry.connection.now here.entry.number here.entry.end row) }
+    ensures { OnOk result (edges.new ≡ edges.old ++ row_edges (told here.entry.tables) here.entry.place
+        here.entry.connection.now here.entry.number here.entry.end row) }
 {
     let from = leaf_label(&here.tables, here.end.leaf);
     let targets = targets(alloc, here, row.object)?;
@@ -196,7 +202,8 @@ fn push_row(
 }
 
 fn push_end(alloc: Global, here: EndHere<'_>, edges: &mut List<Edge>) -> Result<(), NoMemory>
-    ensures { OnOk result (edges.new ≡ edges.old ++ end_edges (told here.entry.tables) here.entry.place here.entry.connection.now here.entry.number here.entry.end) }
+    ensures { OnOk result (edges.new ≡ edges.old ++ end_edges (told here.entry.tables) here.entry.place
+        here.entry.connection.now here.entry.number here.entry.end) }
 {
     let (first, second) = row(here.connection.connector, here.end.role);
     push_row(alloc, here, first, edges)?;
@@ -212,7 +219,8 @@ fn push_end(alloc: Global, here: EndHere<'_>, edges: &mut List<Edge>) -> Result<
 ///
 /// Want of memory.
 pub fn end_gives(alloc: Global, here: EndHere<'_>, edge: Edge) -> Result<bool, NoMemory>
-    ensures { IfOk result (λ given. given ≡ has (end_edges (told here.entry.tables) here.entry.place here.entry.connection.now here.entry.number here.entry.end) edge) }
+    ensures { IfOk result (λ given. given ≡ has (end_edges (told here.entry.tables) here.entry.place here.entry.connection.now
+        here.entry.number here.entry.end) edge) }
 {
     let mut edges = List::new(alloc);
     push_end(alloc, here, &mut edges)?;
@@ -228,7 +236,8 @@ fn push_ends<'a>(
     edges: &mut List<Edge>,
 ) -> Result<(), NoMemory>
     requires { length connection.now.ends < 2 ^ 32 }
-    ensures { OnOk result (edges.new ≡ edges.old ++ gather (λ n e. end_edges (told tables.now) place connection.now n e) connection.now.ends) }
+    ensures { OnOk result (edges.new ≡ edges.old ++ gather (λ n e. end_edges (told tables.now) place connection.now n e)
+        connection.now.ends) }
 {
     for (number, end) in connection.ends.as_slice().iter().enumerate() {
         let here = EndHere {
@@ -360,7 +369,8 @@ fn push_signals_of(
     connection: &FlatConnection,
     edges: &mut List<Edge>,
 ) -> Result<(), NoMemory>
-    ensures { OnOk result (edges.new ≡ edges.old ++ gather (λ n e. signals_at (told tables.now) place connection.now e) connection.now.ends) }
+    ensures { OnOk result (edges.new ≡ edges.old ++ gather (λ n e. signals_at (told tables.now) place connection.now e)
+        connection.now.ends) }
 {
     for end in connection.ends.as_slice() {
         push_signal(tables, place, connection, *end, edges)?;
@@ -407,7 +417,8 @@ fn push_own(
 }
 
 fn push_lock(tables: &Tables<'_>, leaf: &Leaf, edges: &mut List<Edge>) -> Result<(), NoMemory>
-    ensures { OnOk result (edges.new ≡ edges.old ++ lock_edge (told tables.now) leaf.now.domain (list_any is_lock (members_at tables.now.source.now leaf.now.component))) }
+    ensures { OnOk result (edges.new ≡ edges.old ++ lock_edge (told tables.now) leaf.now.domain
+        (list_any is_lock (members_at tables.now.source.now leaf.now.component))) }
 {
     let members = members_at(tables.source, leaf.component);
     push_own(tables, leaf.domain, has_lock(members), edges)

@@ -55,7 +55,8 @@ fn push_connection(
     connection: &FlatConnection,
     texts: &mut List<Text>,
 ) -> Result<(), NoMemory>
-    ensures { OnOk result (texts.new ≡ texts.old ++ where_true (has_label connection.now.connector) (joined connection.now.path)) }
+    ensures { OnOk result (texts.new ≡ texts.old ++ where_true (has_label connection.now.connector)
+        (joined connection.now.path)) }
 {
     push_text(
         alloc,

@@ -40,7 +40,8 @@ fn handlers(alloc: Global, tables: &Tables<'_>) -> Result<EdgeTable, NoMemory>
 /// By which edges labels signal.
 fn signallers(alloc: Global, tables: &Tables<'_>) -> Result<EdgeTable, NoMemory>
     requires { length tables.now.flat.now.connections < 2 ^ 32 }
-    ensures { IfOk result (λ table. (e : Triple) → has table e ≡ has (signal_edges (told tables.now) ++ lock_edges (told tables.now)) e) }
+    ensures { IfOk result (λ table. (e : Triple)
+        → has table e ≡ has (signal_edges (told tables.now) ++ lock_edges (told tables.now)) e) }
 {
     let edges = signals_of(alloc, tables)?;
     EdgeTable::from_list(alloc, edges.as_slice())
@@ -56,7 +57,8 @@ fn reasoned_with(
     requires few { length tables.now.flat.now.connections < 2 ^ 32 }
     requires short { (k : ℕ) (c : Line) → slice_get tables.now.flat.now.connections k ≡ Some c → length c.ends < 2 ^ 32 }
     requires handlers { (e : Triple) → has handlers.now e ≡ has (handle_edges (told tables.now)) e }
-    requires signallers { (e : Triple) → has signallers.now e ≡ has (signal_edges (told tables.now) ++ lock_edges (told tables.now)) e }
+    requires signallers { (e : Triple)
+        → has signallers.now e ≡ has (signal_edges (told tables.now) ++ lock_edges (told tables.now)) e }
     ensures { IfOk result (λ edges. (e : Triple) → has edges e ≡ has (reasoned_edges (told tables.now)) e) }
 {
     let mut edges = direct_edges(alloc, tables)?;

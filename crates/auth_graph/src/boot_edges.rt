@@ -17,7 +17,8 @@ use std::alloc::Global;
 /// The table of the edges of the boot state under a labelling.
 pub fn direct(alloc: Global, spec: &Spec, labels: &Labels) -> Result<EdgeTable, NoMemory>
     requires { length labels.now.by_object ≡ length spec.now.entries }
-    ensures { IfOk result (λ table. (l : ℕ) (a : Authority) (m : ℕ) → (Has table l a m) ↔ Auth spec.now labels.now.by_object (boot spec.now) l a m) }
+    ensures { IfOk result (λ table. (l : ℕ) (a : Authority) (m : ℕ) → (Has table l a m)
+        ↔ Auth spec.now labels.now.by_object (boot spec.now) l a m) }
 {
     let edges = with_each_object(Vec::new(alloc), spec, labels)?;
     let table = EdgeTable::from_list(alloc, edges.as_slice())?;

@@ -38,7 +38,8 @@ fn with_numbered(
     number: u8,
     to: u32,
 ) -> Result<Vec<Edge>, NoMemory>
-    ensures { IfOk result (λ new. Adds (λ e. IsOfSet from set.bits to e × (number_of e.authority ≡ number)) edges.items new.items) }
+    ensures { IfOk result (λ new. Adds (λ e. IsOfSet from set.bits to e × (number_of e.authority ≡ number))
+        edges.items new.items) }
 {
     match Authority::of_number(number) {
         Some(authority) if set.has(authority) => with_edge(

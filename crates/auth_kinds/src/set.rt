@@ -28,7 +28,8 @@ impl AuthoritySet {
 
     /// The set with one authority more, where the condition holds, and else the set itself.
     pub fn with_if(self, a: Authority, condition: bool) -> AuthoritySet
-        ensures each { (b : Authority) → set_has result.bits b ≡ (set_has self.bits b || (condition && number_of b == number_of a)) }
+        ensures each { (b : Authority)
+            → set_has result.bits b ≡ (set_has self.bits b || (condition && number_of b == number_of a)) }
         ensures no_more { self.bits < 2 ^ 12 → result.bits < 2 ^ 12 }
     {
         if condition { self.with(a) } else { self }

@@ -24,7 +24,8 @@ pub fn class_of_pairs(
     Ok(Class {
         label,
         pairs: pairs.to_vec(alloc)?,
-        before: pairs.partition_point(|(authority, _)| authority.number() < Authority::Reply.number()),
+        before: pairs.partition_point(|(authority, _)| authority.number()
+            < Authority::Reply.number()),
     })
 }
 

@@ -76,7 +76,8 @@ pub fn write_plan<O: Outputs>(
 ) -> Result<(), Failed>
     requires open { IsOpen (O.sink out.old) channel }
     requires kept { IsKept spec.now }
-    ensures { Writes result channel (plan_text spec.now plan.now.places) (O.sink out.old) (O.sink out.new) (O.faults out.old) (O.faults out.new) }
+    ensures { Writes result channel (plan_text spec.now plan.now.places) (O.sink out.old) (O.sink out.new) (O.faults out.old)
+        (O.faults out.new) }
 {
     let places = plan.places.as_slice();
     write_planned(
@@ -95,7 +96,8 @@ fn write_planned<O: Outputs>(
     channel: u8,
 ) -> Result<(), Failed>
     requires { IsOpen (O.sink out.old) channel }
-    ensures { Writes result channel (planned_line objects bytes) (O.sink out.old) (O.sink out.new) (O.faults out.old) (O.faults out.new) }
+    ensures { Writes result channel (planned_line objects bytes) (O.sink out.old) (O.sink out.new) (O.faults out.old)
+        (O.faults out.new) }
 {
     let (mut object_digits, mut byte_digits) = (Buffer::new(), Buffer::new());
     write_parts(
@@ -119,7 +121,8 @@ fn write_places<O: Outputs>(
 ) -> Result<(), Failed>
     requires open { IsOpen (O.sink out.old) channel }
     requires kept { IsKept spec.now }
-    ensures { Writes result channel (place_lines spec.now places.now) (O.sink out.old) (O.sink out.new) (O.faults out.old) (O.faults out.new) }
+    ensures { Writes result channel (place_lines spec.now places.now) (O.sink out.old) (O.sink out.new) (O.faults out.old)
+        (O.faults out.new) }
 {
     for (entry, place) in spec.entries.as_slice().iter().zip(places) {
         write_place(spec.arch, entry, *place, out, channel)?;
@@ -136,7 +139,8 @@ fn write_place<O: Outputs>(
 ) -> Result<(), Failed>
     requires open { IsOpen (O.sink out.old) channel }
     requires few { has_few_bits entry.now.object ≡ true }
-    ensures { Writes result channel (place_line arch (entry.now, place)) (O.sink out.old) (O.sink out.new) (O.faults out.old) (O.faults out.new) }
+    ensures { Writes result channel (place_line arch (entry.now, place)) (O.sink out.old) (O.sink out.new) (O.faults out.old)
+        (O.faults out.new) }
 {
     let Some(first) = place else {
         return Ok(());

@@ -8,7 +8,8 @@ use itoa::Buffer;
 /// Writes the line of a summary to an open channel. After a failure the channel has a front of it. Takes no memory.
 pub fn write_summary<O: Outputs>(summary: Summary, out: &mut O, channel: u8) -> Result<(), Failed>
     requires { IsOpen (O.sink out.old) channel }
-    ensures { Writes result channel (summary_line summary) (O.sink out.old) (O.sink out.new) (O.faults out.old) (O.faults out.new) }
+    ensures { Writes result channel (summary_line summary) (O.sink out.old) (O.sink out.new) (O.faults out.old)
+        (O.faults out.new) }
 {
     write_parts(
         out,

@@ -16,7 +16,8 @@ use system_spec::{MapNames, write_map};
 /// channels 2 to 5 may be begun. Takes no memory.
 pub fn write_texts<O: Outputs>(names: &TextNames, build: &Build, out: &mut O) -> Result<(), Failed>
     requires { AreUnbegun (O.sink out.old) }
-    ensures { Acts (texts_script names.now build.now) result (O.sink out.old) (O.sink out.new) (O.faults out.old) (O.faults out.new) }
+    ensures { Acts (texts_script names.now build.now) result (O.sink out.old) (O.sink out.new) (O.faults out.old)
+        (O.faults out.new) }
 {
     write_capdl(names.capdl.as_str(), &build.spec, out)?;
     write_rules(names.policy.as_str(), &build.policy, out)?;
@@ -39,7 +40,8 @@ fn write_capdl<O: Outputs>(name: &str, spec: &Spec, out: &mut O) -> Result<(), F
 
 fn write_rules<O: Outputs>(name: &str, policy: &Policy, out: &mut O) -> Result<(), Failed>
     requires { (O.sink out.old).begun 3 ≡ false }
-    ensures { Acts (policy_acts name.now policy.now) result (O.sink out.old) (O.sink out.new) (O.faults out.old) (O.faults out.new) }
+    ensures { Acts (policy_acts name.now policy.now) result (O.sink out.old) (O.sink out.new) (O.faults out.old)
+        (O.faults out.new) }
 {
     out.begin(3, name)?;
     write_policy(policy, out, 3)

@@ -119,7 +119,8 @@ impl Outputs for HostOutputs {
         requires some { 0 < length piece.now }
         ensures some { IfOk result (λ n. 0 < n) }
         ensures at_most { IfOk result (λ n. n ≤ length piece.now) }
-        ensures ok { IfOk result (λ n. host_sink self.new.files ≡ appended (host_sink self.old.files) channel (take n piece.now)) }
+        ensures ok { IfOk result (λ n. host_sink self.new.files ≡ appended (host_sink self.old.files) channel
+            (take n piece.now)) }
         ensures err { OnErr result (host_sink self.new.files ≡ host_sink self.old.files) }
         ensures later { self.old.faults ≤ self.new.faults }
         ensures failed { OnErr result (Rose self.old.faults self.new.faults) }

@@ -47,7 +47,8 @@ fn begin_at(channels: &mut [MemChannel], at: usize, name: &str) -> bool
 impl MemOutputs {
     /// Six channels that aren't begun and hold nothing, each with room for `room` bytes and a name of 4,096 bytes.
     pub fn new(alloc: Global, room: usize) -> Result<MemOutputs, NoMemory>
-        ensures channels { IfOk result (λ o. o.channels ≡ blank room ∷ blank room ∷ blank room ∷ blank room ∷ blank room ∷ blank room ∷ []) }
+        ensures channels { IfOk result (λ o. o.channels ≡ blank room ∷ blank room ∷ blank room ∷ blank room ∷ blank room
+            ∷ blank room ∷ []) }
         ensures fresh { IfOk result (λ o. (k : ℕ) → (sink_of o.channels).begun k ≡ false) }
         ensures calls { IfOk result (λ o. o.calls ≡ 0) }
         ensures faults { IfOk result (λ o. o.faults ≡ 0) }
@@ -158,13 +159,16 @@ impl Outputs for MemOutputs {
         requires some { 0 < length piece.now }
         ensures some { IfOk result (λ n. 0 < n) }
         ensures at_most { IfOk result (λ n. n ≤ length piece.now) }
-        ensures ok { IfOk result (λ n. sink_of self.new.channels ≡ appended (sink_of self.old.channels) channel (take n piece.now)) }
+        ensures ok { IfOk result (λ n. sink_of self.new.channels ≡ appended (sink_of self.old.channels) channel
+            (take n piece.now)) }
         ensures err { OnErr result (sink_of self.new.channels ≡ sink_of self.old.channels) }
         ensures later { self.old.faults ≤ self.new.faults }
         ensures failed { OnErr result (Rose self.old.faults self.new.faults) }
-        ensures exactly { IsErr result ↔ (Contains self.old.failing (next_call self.old.calls) ⊎ (room_of self.old.channels channel ≡ 0)) }
+        ensures exactly { IsErr result
+            ↔ (Contains self.old.failing (next_call self.old.calls) ⊎ (room_of self.old.channels channel ≡ 0)) }
         ensures taken { IfOk result (λ n. n ≡ min (length piece.now) (room_of self.old.channels channel)) }
-        ensures rooms { IfOk result (λ n. (k : ℕ) → room_of self.new.channels k ≡ cond (k == channel) (room_of self.old.channels k - n) (room_of self.old.channels k)) }
+        ensures rooms { IfOk result (λ n. (k : ℕ) → room_of self.new.channels k ≡ cond (k == channel)
+            (room_of self.old.channels k - n) (room_of self.old.channels k)) }
         ensures still { OnErr result ((k : ℕ) → room_of self.new.channels k ≡ room_of self.old.channels k) }
         ensures calls { self.new.calls ≡ next_call self.old.calls }
         ensures failing { self.new.failing ≡ self.old.failing }

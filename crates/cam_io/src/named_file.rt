@@ -110,7 +110,9 @@ pub(crate) fn count_fault(files: &mut Vec<NamedFile>, others: &mut u64, name: &[
     ensures contents { contents_of files.new.items ≡ contents_of files.old.items }
     ensures later { NoneFell (count_of files.old.items others.old) (count_of files.new.items others.new) }
     ensures rose { Rose (count_of files.old.items others.old name.now) (count_of files.new.items others.new name.now) }
-    ensures counts { (r : Items ℕ) → count_of files.new.items others.new r ≡ cond (counts_for (contents_of files.old.items) name.now r) (one_more (count_of files.old.items others.old r)) (count_of files.old.items others.old r) }
+    ensures counts { (r : Items ℕ) → count_of files.new.items others.new r
+        ≡ cond (counts_for (contents_of files.old.items) name.now r) (one_more (count_of files.old.items others.old r))
+        (count_of files.old.items others.old r) }
 {
     match place_of(files, name) {
         Some(i) => {

@@ -32,7 +32,8 @@ fn write_rest<O: Outputs>(out: &mut O, channel: u8, bytes: &[u8]) -> Result<(), 
 /// Writes several pieces to an open channel, one behind another; in one go where they are short. Takes no memory.
 pub fn write_parts<O: Outputs>(out: &mut O, channel: u8, parts: &[&[u8]]) -> Result<(), Failed>
     requires { IsOpen (O.sink out.old) channel }
-    ensures { Writes result channel (together (map (λ p. p.now) parts.now)) (O.sink out.old) (O.sink out.new) (O.faults out.old) (O.faults out.new) }
+    ensures { Writes result channel (together (map (λ p. p.now) parts.now)) (O.sink out.old) (O.sink out.new)
+        (O.faults out.old) (O.faults out.new) }
 {
     let mut line = [0; 512];
     match put_together(parts, &mut line) {
@@ -71,7 +72,8 @@ fn put_behind(line: &mut [u8], end: usize, part: &[u8]) -> Option<usize>
 
 fn write_each<O: Outputs>(out: &mut O, channel: u8, parts: &[&[u8]]) -> Result<(), Failed>
     requires { IsOpen (O.sink out.old) channel }
-    ensures { Writes result channel (together (map (λ p. p.now) parts.now)) (O.sink out.old) (O.sink out.new) (O.faults out.old) (O.faults out.new) }
+    ensures { Writes result channel (together (map (λ p. p.now) parts.now)) (O.sink out.old) (O.sink out.new)
+        (O.faults out.old) (O.faults out.new) }
 {
     for part in parts {
         write_all(out, channel, part)?;

@@ -80,7 +80,8 @@ pub fn checked<F: Files>(
     files: &mut F,
 ) -> Answer
     ensures kept { KeepsFiles F.contents F.faults files.old files.new }
-    ensures fits { FitsTexts (IsChecked (F.contents files.old) (F.faults files.old) (F.faults files.new) cdl.now policy.now cert.now) result }
+    ensures fits { FitsTexts (IsChecked (F.contents files.old) (F.faults files.old) (F.faults files.new) cdl.now policy.now
+        cert.now) result }
 {
     told(check_texts(alloc, files, cdl, policy, cert))
 }
@@ -94,7 +95,8 @@ pub fn replayed<F: Files>(
     files: &mut F,
 ) -> Answer
     ensures kept { KeepsFiles F.contents F.faults files.old files.new }
-    ensures fits { FitsTexts (IsRun (F.contents files.old) (F.faults files.old) (F.faults files.new) cdl.now policy.now steps.now) result }
+    ensures fits { FitsTexts (IsRun (F.contents files.old) (F.faults files.old) (F.faults files.new) cdl.now policy.now
+        steps.now) result }
 {
     told(replay_texts(alloc, files, cdl, policy, steps))
 }
@@ -102,7 +104,8 @@ pub fn replayed<F: Files>(
 /// What runs reach.
 pub fn audited<F: Files>(alloc: Global, cdl: &str, policy: &str, files: &mut F) -> Answer
     ensures kept { KeepsFiles F.contents F.faults files.old files.new }
-    ensures fits { FitsTexts (IsAudited (F.contents files.old) (F.faults files.old) (F.faults files.new) cdl.now policy.now) result }
+    ensures fits { FitsTexts (IsAudited (F.contents files.old) (F.faults files.old) (F.faults files.new) cdl.now policy.now)
+        result }
 {
     told(audit_texts(alloc, files, cdl, policy))
 }
@@ -110,7 +113,8 @@ pub fn audited<F: Files>(alloc: Global, cdl: &str, policy: &str, files: &mut F) 
 /// The least certificate.
 pub fn certified<F: Files>(alloc: Global, cdl: &str, policy: &str, files: &mut F) -> Answer
     ensures kept { KeepsFiles F.contents F.faults files.old files.new }
-    ensures fits { FitsTexts (IsCertified (F.contents files.old) (F.faults files.old) (F.faults files.new) cdl.now policy.now) result }
+    ensures fits { FitsTexts (IsCertified (F.contents files.old) (F.faults files.old) (F.faults files.new) cdl.now policy.now)
+        result }
 {
     told(certify_texts(alloc, files, cdl, policy))
 }
@@ -126,7 +130,8 @@ pub fn tabled<F: Files>(alloc: Global, elf: &str, files: &mut F) -> Answer
 /// Where objects go in memory.
 pub fn planned<F: Files>(alloc: Global, cdl: &str, untypeds: &str, files: &mut F) -> Answer
     ensures kept { KeepsFiles F.contents F.faults files.old files.new }
-    ensures fits { FitsTexts (IsPlanned (F.contents files.old) (F.faults files.old) (F.faults files.new) cdl.now untypeds.now) result }
+    ensures fits { FitsTexts (IsPlanned (F.contents files.old) (F.faults files.old) (F.faults files.new) cdl.now untypeds.now)
+        result }
 {
     told(plan_texts(alloc, files, cdl, untypeds))
 }

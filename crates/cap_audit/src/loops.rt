@@ -40,7 +40,8 @@ fn hold_pair(making: &mut Making<'_>, pair: Pair) -> Result<(), NoMemory>
 pub fn hold_all(making: &mut Making<'_>) -> Result<(), NoMemory>
     requires so_far { IsSoFar making.old }
     requires all { IsAll making.old.spec making.old.found }
-    ensures { OnOk result (Gains (OfSome (OfPair making.old.spec making.old.labels making.old.found) making.old.found.queue) making.old making.new) }
+    ensures { OnOk result (Gains (OfSome (OfPair making.old.spec making.old.labels making.old.found) making.old.found.queue)
+        making.old making.new) }
 {
     for place in 0..making.count() {
         hold_pair(making, making.pair(place))?;
@@ -58,7 +59,8 @@ fn act_to_each(
 ) -> Result<(), NoMemory>
     requires so_far { IsSoFar making.old }
     requires own { OwnsFrom making.old.spec making.old.found t deed from.now tos.now }
-    ensures { OnOk result (Gains (OfSome (λ to. OfDeed making.old.spec making.old.labels deed from.now.cap to.cap) tos.now) making.old making.new) }
+    ensures { OnOk result (Gains (OfSome (λ to. OfDeed making.old.spec making.old.labels deed from.now.cap to.cap) tos.now)
+        making.old making.new) }
 {
     for to in tos {
         making.act(deed, t, from, to)?;
@@ -76,7 +78,9 @@ fn act_from_each(
 ) -> Result<(), NoMemory>
     requires so_far { IsSoFar making.old }
     requires own { OwnsAll making.old.spec making.old.found t deed froms.now tos.now }
-    ensures { OnOk result (Gains (OfSome (λ from. OfSome (λ to. OfDeed making.old.spec making.old.labels deed from.cap to.cap) tos.now) froms.now) making.old making.new) }
+    ensures { OnOk result
+        (Gains (OfSome (λ from. OfSome (λ to. OfDeed making.old.spec making.old.labels deed from.cap to.cap) tos.now)
+        froms.now) making.old making.new) }
 {
     for from in froms {
         act_to_each(making, deed, t, from, tos)?;
@@ -104,7 +108,8 @@ fn act_at_root(
 ) -> Result<(), NoMemory>
     requires so_far { IsSoFar making.old }
     requires root { (t : ℕ) → root ≡ Some t → HasRoot making.old.spec t node }
-    ensures { OnOk result (Gains (OfRoot making.old.spec making.old.labels making.old.found deed root node) making.old making.new) }
+    ensures { OnOk result (Gains (OfRoot making.old.spec making.old.labels making.old.found deed root node)
+        making.old making.new) }
 {
     match root {
         Some(t) => {
@@ -134,7 +139,8 @@ pub fn act_at_all(
     requires so_far { IsSoFar making.old }
     requires kept { IsKept making.old.spec }
     requires roots { AreRoots making.old.spec roots.now }
-    ensures { OnOk result (Gains (OfRoots making.old.spec making.old.labels making.old.found deed roots.now) making.old making.new) }
+    ensures { OnOk result (Gains (OfRoots making.old.spec making.old.labels making.old.found deed roots.now)
+        making.old making.new) }
 {
     for c in 0..making.objects() {
         act_at_root(making, deed, thread_of(roots, c as u32), c as u32)?;
@@ -236,7 +242,8 @@ fn call_from_gate(
     requires so_far { IsSoFar making.old }
     requires rosters { AreRosters making.old.spec rosters.now (length making.old.spec.entries) }
     requires meet { (k : ℕ) (at : Place) → slice_get gate.now k ≡ Some at → Meets making.old.spec making.old.found at peer }
-    ensures { OnOk result (Gains (OfSome (λ at. Between making.old.labels rosters.now at.node peer.node) gate.now) making.old making.new) }
+    ensures { OnOk result (Gains (OfSome (λ at. Between making.old.labels rosters.now at.node peer.node) gate.now)
+        making.old making.new) }
 {
     for at in gate {
         call_between(making, rosters, *at, peer)?;
@@ -255,7 +262,8 @@ fn listen(
     requires rosters { AreRosters making.old.spec rosters.now (length making.old.spec.entries) }
     requires gates { AreGates making.old.spec making.old.found gates.now (length making.old.found.queue) }
     requires held { Contains (held_by making.old.found pair.node) pair.held }
-    ensures { OnOk result (Gains (OfListening making.old.spec making.old.labels making.old.found rosters.now gates.now pair) making.old making.new) }
+    ensures { OnOk result (Gains (OfListening making.old.spec making.old.labels making.old.found rosters.now gates.now pair)
+        making.old making.new) }
 {
     match making.pick(Wanted::Listener, pair.held) {
         Some(pick) => {
@@ -280,7 +288,9 @@ pub fn listen_all(
     requires all { IsAll making.old.spec making.old.found }
     requires rosters { AreRosters making.old.spec rosters.now (length making.old.spec.entries) }
     requires gates { AreGates making.old.spec making.old.found gates.now (length making.old.found.queue) }
-    ensures { OnOk result (Gains (OfSome (OfListening making.old.spec making.old.labels making.old.found rosters.now gates.now) making.old.found.queue) making.old making.new) }
+    ensures { OnOk result
+        (Gains (OfSome (OfListening making.old.spec making.old.labels making.old.found rosters.now gates.now)
+        making.old.found.queue) making.old making.new) }
 {
     for place in 0..making.count() {
         listen(making, rosters, gates, making.pair(place))?;

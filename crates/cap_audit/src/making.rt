@@ -169,7 +169,8 @@ impl<'a> Making<'a> {
 
     /// Those of a CNode's capabilities.
     pub fn picks(&self, node: u32, wanted: Wanted) -> Result<Vec<Pick>, NoMemory>
-        ensures { IfOk result (λ picks. picks.items ≡ filter_map (pick_of self.now.spec self.now.found wanted) (held_by self.now.found node)) }
+        ensures { IfOk result (λ picks. picks.items ≡ filter_map (pick_of self.now.spec self.now.found wanted)
+            (held_by self.now.found node)) }
     {
         picks(self.alloc, self.spec, self.findings, node, wanted)
     }
@@ -177,7 +178,8 @@ impl<'a> Making<'a> {
     /// The table of the edges of the boot state.
     pub fn boot_edges(&self) -> Result<EdgeTable, NoMemory>
         requires { length self.now.labels ≡ length self.now.spec.entries }
-        ensures { IfOk result (λ table. (l : ℕ) (a : Authority) (m : ℕ) → (Has table l a m) ↔ Auth self.now.spec self.now.labels (boot self.now.spec) l a m) }
+        ensures { IfOk result (λ table. (l : ℕ) (a : Authority) (m : ℕ) → (Has table l a m)
+            ↔ Auth self.now.spec self.now.labels (boot self.now.spec) l a m) }
     {
         direct(self.alloc, self.spec, self.labels)
     }
@@ -301,7 +303,8 @@ impl<'a> Making<'a> {
 
     /// What a capability confers, from a label.
     fn cap_edges(&self, from: u32, cap: &Cap) -> Result<Vec<Edge>, NoMemory>
-        ensures { IfOk result (λ edges. (e : Edge) → (has edges.items e ≡ true) ↔ OfCap self.now.spec self.now.labels from cap.now e) }
+        ensures { IfOk result (λ edges. (e : Edge) → (has edges.items e ≡ true)
+            ↔ OfCap self.now.spec self.now.labels from cap.now e) }
     {
         let edges = with_cap(Vec::new(self.alloc), self.spec, self.labels, from, cap)?;
         Ok(edges)
@@ -309,7 +312,8 @@ impl<'a> Making<'a> {
 
     /// Leave to send, from a label to that of an object.
     fn send_edges(&self, from: u32, object: u32) -> Result<Vec<Edge>, NoMemory>
-        ensures { IfOk result (λ edges. (e : Edge) → (has edges.items e ≡ true) ↔ (e ≡ edge from AsyncSend (label_of self.now.labels object))) }
+        ensures { IfOk result (λ edges. (e : Edge) → (has edges.items e ≡ true)
+            ↔ (e ≡ edge from AsyncSend (label_of self.now.labels object))) }
     {
         let edges = with_link(
             Vec::new(self.alloc),
@@ -325,7 +329,8 @@ impl<'a> Making<'a> {
     pub fn hold(&mut self, node: u32, pick: &Pick) -> Result<(), NoMemory>
         requires so_far { IsSoFar self.old }
         requires held { HoldsAt self.old.found node pick.now.number pick.now.cap }
-        ensures { OnOk result (Gains (OfCap self.old.spec self.old.labels (label_of self.old.labels node) pick.now.cap) self.old self.new) }
+        ensures { OnOk result (Gains (OfCap self.old.spec self.old.labels (label_of self.old.labels node) pick.now.cap)
+            self.old self.new) }
     {
         let from = self.label(node);
         let edges = self.cap_edges(from, &pick.cap)?;
@@ -335,7 +340,8 @@ impl<'a> Making<'a> {
 
     /// The edges that the step makes.
     fn edges_of(&self, deed: Deed, from: &Pick, to: &Pick) -> Result<Vec<Edge>, NoMemory>
-        ensures { IfOk result (λ edges. (e : Edge) → (has edges.items e ≡ true) ↔ OfDeed self.now.spec self.now.labels deed from.now.cap to.now.cap e) }
+        ensures { IfOk result (λ edges. (e : Edge) → (has edges.items e ≡ true)
+            ↔ OfDeed self.now.spec self.now.labels deed from.now.cap to.now.cap e) }
     {
         let label = self.label(from.cap.object);
         match deed {
@@ -379,7 +385,11 @@ impl<'a> Making<'a> {
 
     /// A call whose reply is saved, and given from there.
     fn push_call(&mut self, caller: Party, listener: Party) -> Result<(), NoMemory>
-        ensures { OnOk result (self.new ≡ record self.old { steps = self.old.steps ++ call_steps self.old.nexts caller listener; nexts = slice_set self.old.nexts listener.node (slice_index self.old.nexts listener.node + 1) }) }
+        ensures { OnOk result (self.new ≡ record self.old {
+          steps = self.old.steps ++ call_steps self.old.nexts caller
+              listener;
+          nexts = slice_set self.old.nexts listener.node (slice_index self.old.nexts listener.node + 1);
+        }) }
     {
         let number = match self.nexts.get(listener.node as usize) {
             Some(next) => *next,

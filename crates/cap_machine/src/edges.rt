@@ -26,7 +26,8 @@ pub fn authorities(
 ) -> Result<EdgeTable, NoMemory>
     requires fits { FitsSpec spec.now state.now.state }
     requires labelled { length labels.now.by_object ≡ length spec.now.entries }
-    ensures { IfOk result (λ table. (l : ℕ) (a : Authority) (m : ℕ) → (Has table l a m) ↔ Auth spec.now labels.now.by_object state.now.state l a m) }
+    ensures { IfOk result (λ table. (l : ℕ) (a : Authority) (m : ℕ) → (Has table l a m)
+        ↔ Auth spec.now labels.now.by_object state.now.state l a m) }
 {
     let edges = state.with_edges(Vec::new(alloc), spec, labels)?;
     let table = EdgeTable::from_list(alloc, edges.as_slice())?;
@@ -75,7 +76,8 @@ fn with_pending(
     from: u32,
     pending: Option<Pending>,
 ) -> Result<Vec<Edge>, NoMemory>
-    ensures { IfOk result (λ new. Adds (OfOption (λ reply. OfLink labels.now.by_object from Authority.Reply reply.caller) pending) edges.items new.items) }
+    ensures { IfOk result (λ new. Adds (OfOption (λ reply. OfLink labels.now.by_object from Authority.Reply reply.caller)
+        pending) edges.items new.items) }
 {
     match pending {
         Some(reply) => with_link(edges, labels, from, Authority::Reply, reply.caller),

@@ -12,8 +12,10 @@ ghost use Rattle.std.specs.Prelude.{◌≡◌, ◌↔◌, map, None};
 
 /// The table has a next state exactly where every test of the stated order passes, and then it has one.
 pub fn steps_follow_the_table()
-    ensures legal { (spec : Spec) (s : State) (step : Step) → (first_failing (checks spec s step) ≡ None) ↔ ((new : State) × StepTo spec s step new) }
-    ensures one { (spec : Spec) (s : State) (step : Step) (new other : State) → StepTo spec s step new → StepTo spec s step other → new ≡ other }
+    ensures legal { (spec : Spec) (s : State) (step : Step) → (first_failing (checks spec s step) ≡ None)
+        ↔ ((new : State) × StepTo spec s step new) }
+    ensures one { (spec : Spec) (s : State) (step : Step) (new other : State) → StepTo spec s step new
+        → StepTo spec s step other → new ≡ other }
 {}
 
 /// The boot state fits its spec, and steps lead to states that fit it.

@@ -43,8 +43,10 @@ pub fn perform(
     change: Change,
 ) -> Result<(), NoMemory>
     requires { RoomFor nodes.old.items change }
-    ensures ok { OnOk result (Turned change (parts nodes.old.items threads.old.items irqs.old.items mapped.old.items) (parts nodes.new.items threads.new.items irqs.new.items mapped.new.items)) }
-    ensures err { OnErr result (Same (parts nodes.old.items threads.old.items irqs.old.items mapped.old.items) (parts nodes.new.items threads.new.items irqs.new.items mapped.new.items)) }
+    ensures ok { OnOk result (Turned change (parts nodes.old.items threads.old.items irqs.old.items mapped.old.items)
+        (parts nodes.new.items threads.new.items irqs.new.items mapped.new.items)) }
+    ensures err { OnErr result (Same (parts nodes.old.items threads.old.items irqs.old.items mapped.old.items)
+        (parts nodes.new.items threads.new.items irqs.new.items mapped.new.items)) }
     ensures memory { (TakesMemory change → ⊥) → IsOk result }
 {
     match change {

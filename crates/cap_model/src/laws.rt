@@ -17,12 +17,14 @@ ghost use Rattle.std.specs.Prelude.{◌≡◌, ◌≢◌, ℕ, Some, slice_get, 
 
 /// In a kept spec each object is found under its own name.
 pub fn objects_are_found()
-    ensures { (spec : Spec) (place : ℕ) (entry : Entry) → IsKept spec → slice_get spec.entries place ≡ Some entry → place_of spec.entries entry.name ≡ Some place }
+    ensures { (spec : Spec) (place : ℕ) (entry : Entry) → IsKept spec → slice_get spec.entries place ≡ Some entry
+        → place_of spec.entries entry.name ≡ Some place }
 {}
 
 /// A lessened capability confers nothing that the capability doesn't.
 pub fn lessened_confers_no_more()
-    ensures { (spec : Spec) (cap : Cap) (rights : Rights) (a : Authority) → confers spec (lessened cap rights) a ≡ true → confers spec cap a ≡ true }
+    ensures { (spec : Spec) (cap : Cap) (rights : Rights) (a : Authority) → confers spec (lessened cap rights) a ≡ true
+        → confers spec cap a ≡ true }
 {}
 
 /// No capability confers `Reply`.

@@ -99,7 +99,8 @@ fn meet(
 ) -> Result<(), NoMemory>
     requires found { IsFound spec.now findings.old }
     requires ways { AreWays spec.now findings.old net.old }
-    requires both { (e : ℕ) × IsMember spec.now findings.old e (Gives passage) giver × IsMember spec.now findings.old e (Takes passage) taker }
+    requires both { (e : ℕ) × IsMember spec.now findings.old e (Gives passage) giver × IsMember spec.now findings.old e
+        (Takes passage) taker }
     ensures { OnOk result (Connects spec.now findings.old net.old giver.node taker.node findings.new net.new) }
 {
     if giver.node == taker.node {
@@ -125,7 +126,8 @@ fn give(
 ) -> Result<(), NoMemory>
     requires found { IsFound spec.now findings.old }
     requires ways { AreWays spec.now findings.old net.old }
-    requires giver { (e : ℕ) × IsMember spec.now findings.old e (Gives passage) giver × ((taker : Member) → Contains takers.now taker → IsMember spec.now findings.old e (Takes passage) taker) }
+    requires giver { (e : ℕ) × IsMember spec.now findings.old e (Gives passage) giver × ((taker : Member)
+        → Contains takers.now taker → IsMember spec.now findings.old e (Takes passage) taker) }
     ensures { OnOk result (Given spec.now findings.old net.old giver takers.now findings.new net.new) }
 {
     for taker in takers {
@@ -146,7 +148,8 @@ fn take(
 ) -> Result<(), NoMemory>
     requires found { IsFound spec.now findings.old }
     requires ways { AreWays spec.now findings.old net.old }
-    requires taker { (e : ℕ) × IsMember spec.now findings.old e (Takes passage) taker × ((giver : Member) → Contains givers.now giver → IsMember spec.now findings.old e (Gives passage) giver) }
+    requires taker { (e : ℕ) × IsMember spec.now findings.old e (Takes passage) taker × ((giver : Member)
+        → Contains givers.now giver → IsMember spec.now findings.old e (Gives passage) giver) }
     ensures { OnOk result (Taken spec.now findings.old net.old givers.now taker findings.new net.new) }
 {
     for giver in givers {
@@ -416,7 +419,8 @@ impl Hubs {
         requires root { HasRoot spec.now member.thread member.node }
         requires at { HoldsAt findings.old member.node member.number cap }
         requires is { is_at spec.now kinds.Endpoint cap.object ≡ true }
-        ensures { OnOk result (Attends spec.now findings.old net.old self.old passage side member cap findings.new net.new self.new) }
+        ensures { OnOk result (Attends spec.now findings.old net.old self.old passage side member cap findings.new
+            net.new self.new) }
     {
         if !allows(passage, side, cap) {
             return Ok(());

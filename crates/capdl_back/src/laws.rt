@@ -29,5 +29,6 @@ pub fn canonical_is_text()
 
 /// What was written of a spec that can be written is read back as the same spec, unless memory runs out.
 pub fn written_is_read()
-    ensures { (spec : System) (r : Res System (Refusal Wrong)) → IsWritable spec → IsRead (canonical spec) r → (r ≡ Good spec) ⊎ (r ≡ Bad refusals.NoMemory) }
+    ensures { (spec : System) (r : Res System (Refusal Wrong)) → IsWritable spec → IsRead (canonical spec) r
+        → (r ≡ Good spec) ⊎ (r ≡ Bad refusals.NoMemory) }
 {}

@@ -18,7 +18,8 @@ pub fn write_holders<O: Outputs>(
     channel: u8,
 ) -> Result<(), Failed>
     requires { IsOpen (O.sink out.old) channel }
-    ensures { Writes result channel (flat_map (entry_text spec.now) entries.now) (O.sink out.old) (O.sink out.new) (O.faults out.old) (O.faults out.new) }
+    ensures { Writes result channel (flat_map (entry_text spec.now) entries.now) (O.sink out.old) (O.sink out.new)
+        (O.faults out.old) (O.faults out.new) }
 {
     for entry in entries {
         write_holder(spec, entry, out, channel)?;
@@ -33,7 +34,8 @@ fn write_holder<O: Outputs>(
     channel: u8,
 ) -> Result<(), Failed>
     requires { IsOpen (O.sink out.old) channel }
-    ensures { Writes result channel (entry_text spec.now entry.now) (O.sink out.old) (O.sink out.new) (O.faults out.old) (O.faults out.new) }
+    ensures { Writes result channel (entry_text spec.now entry.now) (O.sink out.old) (O.sink out.new) (O.faults out.old)
+        (O.faults out.new) }
 {
     let name = entry.name.as_bytes();
     match &entry.object {
@@ -56,7 +58,8 @@ fn write_slots<O: Outputs>(
     channel: u8,
 ) -> Result<(), Failed>
     requires { IsOpen (O.sink out.old) channel }
-    ensures { Writes result channel (slots_text spec.now name.now slots.now) (O.sink out.old) (O.sink out.new) (O.faults out.old) (O.faults out.new) }
+    ensures { Writes result channel (slots_text spec.now name.now slots.now) (O.sink out.old) (O.sink out.new)
+        (O.faults out.old) (O.faults out.new) }
 {
     if slots.is_empty() {
         return Ok(());
@@ -72,7 +75,8 @@ fn write_some_slots<O: Outputs>(
     channel: u8,
 ) -> Result<(), Failed>
     requires { IsOpen (O.sink out.old) channel }
-    ensures { Writes result channel (together (name.now ∷ codes " {\n" ∷ []) ⊹ flat_map (slot_line spec.now) slots.now ⊹ codes "}\n") (O.sink out.old) (O.sink out.new) (O.faults out.old) (O.faults out.new) }
+    ensures { Writes result channel (together (name.now ∷ codes " {\n" ∷ []) ⊹ flat_map (slot_line spec.now) slots.now
+        ⊹ codes "}\n") (O.sink out.old) (O.sink out.new) (O.faults out.old) (O.faults out.new) }
 {
     write_parts(out, channel, &[name, b" {\n"])?;
     write_slot_lines(spec, slots, out, channel)?;
@@ -86,7 +90,8 @@ fn write_slot_lines<O: Outputs>(
     channel: u8,
 ) -> Result<(), Failed>
     requires { IsOpen (O.sink out.old) channel }
-    ensures { Writes result channel (flat_map (slot_line spec.now) slots.now) (O.sink out.old) (O.sink out.new) (O.faults out.old) (O.faults out.new) }
+    ensures { Writes result channel (flat_map (slot_line spec.now) slots.now) (O.sink out.old) (O.sink out.new)
+        (O.faults out.old) (O.faults out.new) }
 {
     for slot in slots {
         write_slot(spec, slot, out, channel)?;
@@ -101,7 +106,8 @@ fn write_slot<O: Outputs>(
     channel: u8,
 ) -> Result<(), Failed>
     requires { IsOpen (O.sink out.old) channel }
-    ensures { Writes result channel (slot_line spec.now slot.now) (O.sink out.old) (O.sink out.new) (O.faults out.old) (O.faults out.new) }
+    ensures { Writes result channel (slot_line spec.now slot.now) (O.sink out.old) (O.sink out.new) (O.faults out.old)
+        (O.faults out.new) }
 {
     let mut digits = [0; 18];
     write_parts(out, channel, &[hexadecimal(slot.0, &mut digits), b": "])?;
@@ -110,7 +116,8 @@ fn write_slot<O: Outputs>(
 
 fn write_cap<O: Outputs>(spec: &Spec, cap: &Cap, out: &mut O, channel: u8) -> Result<(), Failed>
     requires { IsOpen (O.sink out.old) channel }
-    ensures { Writes result channel (cap_end spec.now cap.now) (O.sink out.old) (O.sink out.new) (O.faults out.old) (O.faults out.new) }
+    ensures { Writes result channel (cap_end spec.now cap.now) (O.sink out.old) (O.sink out.new) (O.faults out.old)
+        (O.faults out.new) }
 {
     write_all(out, channel, spec.name(cap.object))?;
     write_params(cap, out, channel)?;
@@ -119,7 +126,8 @@ fn write_cap<O: Outputs>(spec: &Spec, cap: &Cap, out: &mut O, channel: u8) -> Re
 
 fn write_params<O: Outputs>(cap: &Cap, out: &mut O, channel: u8) -> Result<(), Failed>
     requires { IsOpen (O.sink out.old) channel }
-    ensures { Writes result channel (params (has_rights cap.now.rights) (not (cap.now.badge == 0)) cap.now.rights cap.now.badge) (O.sink out.old) (O.sink out.new) (O.faults out.old) (O.faults out.new) }
+    ensures { Writes result channel (params (has_rights cap.now.rights) (not (cap.now.badge == 0)) cap.now.rights
+        cap.now.badge) (O.sink out.old) (O.sink out.new) (O.faults out.old) (O.faults out.new) }
 {
     let word = rights_word(&cap.rights);
     let mut digits = Buffer::new();
@@ -146,7 +154,8 @@ fn write_tcb_slots<O: Outputs>(
     channel: u8,
 ) -> Result<(), Failed>
     requires { IsOpen (O.sink out.old) channel }
-    ensures { Writes result channel (tcb_text spec.now name.now tcb.now (has_slot tcb.now)) (O.sink out.old) (O.sink out.new) (O.faults out.old) (O.faults out.new) }
+    ensures { Writes result channel (tcb_text spec.now name.now tcb.now (has_slot tcb.now)) (O.sink out.old) (O.sink out.new)
+        (O.faults out.old) (O.faults out.new) }
 {
     if has_slot(tcb) {
         write_some_tcb_slots(spec, name, tcb, out, channel)
@@ -169,7 +178,8 @@ fn write_some_tcb_slots<O: Outputs>(
     channel: u8,
 ) -> Result<(), Failed>
     requires { IsOpen (O.sink out.old) channel }
-    ensures { Writes result channel (tcb_text spec.now name.now tcb.now true) (O.sink out.old) (O.sink out.new) (O.faults out.old) (O.faults out.new) }
+    ensures { Writes result channel (tcb_text spec.now name.now tcb.now true) (O.sink out.old) (O.sink out.new)
+        (O.faults out.old) (O.faults out.new) }
 {
     write_parts(out, channel, &[name, b" {\n"])?;
     write_named(spec, b"cspace: ", tcb.cspace, out, channel)?;
@@ -186,7 +196,8 @@ fn write_named<O: Outputs>(
     channel: u8,
 ) -> Result<(), Failed>
     requires { IsOpen (O.sink out.old) channel }
-    ensures { Writes result channel (named_line spec.now word.now object) (O.sink out.old) (O.sink out.new) (O.faults out.old) (O.faults out.new) }
+    ensures { Writes result channel (named_line spec.now word.now object) (O.sink out.old) (O.sink out.new) (O.faults out.old)
+        (O.faults out.new) }
 {
     match object {
         None => Ok(()),
@@ -201,7 +212,8 @@ fn write_buffer<O: Outputs>(
     channel: u8,
 ) -> Result<(), Failed>
     requires { IsOpen (O.sink out.old) channel }
-    ensures { Writes result channel (buffer_line spec.now buffer) (O.sink out.old) (O.sink out.new) (O.faults out.old) (O.faults out.new) }
+    ensures { Writes result channel (buffer_line spec.now buffer) (O.sink out.old) (O.sink out.new) (O.faults out.old)
+        (O.faults out.new) }
 {
     match buffer {
         None => Ok(()),
@@ -216,7 +228,8 @@ fn write_some_buffer<O: Outputs>(
     channel: u8,
 ) -> Result<(), Failed>
     requires { IsOpen (O.sink out.old) channel }
-    ensures { Writes result channel (codes "ipc_buffer_slot: " ⊹ cap_end spec.now cap.now) (O.sink out.old) (O.sink out.new) (O.faults out.old) (O.faults out.new) }
+    ensures { Writes result channel (codes "ipc_buffer_slot: " ⊹ cap_end spec.now cap.now) (O.sink out.old) (O.sink out.new)
+        (O.faults out.old) (O.faults out.new) }
 {
     write_all(out, channel, b"ipc_buffer_slot: ")?;
     write_cap(spec, cap, out, channel)
@@ -230,7 +243,8 @@ fn write_irq_slot<O: Outputs>(
     channel: u8,
 ) -> Result<(), Failed>
     requires { IsOpen (O.sink out.old) channel }
-    ensures { Writes result channel (irq_text spec.now name.now notification) (O.sink out.old) (O.sink out.new) (O.faults out.old) (O.faults out.new) }
+    ensures { Writes result channel (irq_text spec.now name.now notification) (O.sink out.old) (O.sink out.new)
+        (O.faults out.old) (O.faults out.new) }
 {
     match notification {
         None => Ok(()),

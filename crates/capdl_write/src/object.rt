@@ -14,7 +14,8 @@ use itoa::Buffer;
 /// Writes the lines of objects, in order.
 pub fn write_objects<O: Outputs>(entries: &[Entry], out: &mut O, channel: u8) -> Result<(), Failed>
     requires { IsOpen (O.sink out.old) channel }
-    ensures { Writes result channel (flat_map entry_line entries.now) (O.sink out.old) (O.sink out.new) (O.faults out.old) (O.faults out.new) }
+    ensures { Writes result channel (flat_map entry_line entries.now) (O.sink out.old) (O.sink out.new) (O.faults out.old)
+        (O.faults out.new) }
 {
     for entry in entries {
         write_object(entry, out, channel)?;
@@ -24,7 +25,8 @@ pub fn write_objects<O: Outputs>(entries: &[Entry], out: &mut O, channel: u8) ->
 
 fn write_object<O: Outputs>(entry: &Entry, out: &mut O, channel: u8) -> Result<(), Failed>
     requires { IsOpen (O.sink out.old) channel }
-    ensures { Writes result channel (entry_line entry.now) (O.sink out.old) (O.sink out.new) (O.faults out.old) (O.faults out.new) }
+    ensures { Writes result channel (entry_line entry.now) (O.sink out.old) (O.sink out.new) (O.faults out.old)
+        (O.faults out.new) }
 {
     let name = entry.name.as_bytes();
     let mut digits = Buffer::new();
@@ -63,7 +65,8 @@ fn level_word(level: &Level) -> &[u8]
 
 fn write_tcb<O: Outputs>(name: &[u8], tcb: &Tcb, out: &mut O, channel: u8) -> Result<(), Failed>
     requires { IsOpen (O.sink out.old) channel }
-    ensures { Writes result channel (tcb_line name.now tcb.now) (O.sink out.old) (O.sink out.new) (O.faults out.old) (O.faults out.new) }
+    ensures { Writes result channel (tcb_line name.now tcb.now) (O.sink out.old) (O.sink out.new) (O.faults out.old)
+        (O.faults out.new) }
 {
     write_registers(name, tcb, out, channel)?;
     write_elf(&tcb.elf, out, channel)?;
@@ -82,7 +85,9 @@ fn write_registers<O: Outputs>(
     channel: u8,
 ) -> Result<(), Failed>
     requires { IsOpen (O.sink out.old) channel }
-    ensures { Writes result channel (together (name.now ∷ codes " = tcb (addr: " ∷ hex_text tcb.now.addr ∷ codes ", ip: " ∷ hex_text tcb.now.ip ∷ codes ", sp: " ∷ hex_text tcb.now.sp ∷ [])) (O.sink out.old) (O.sink out.new) (O.faults out.old) (O.faults out.new) }
+    ensures { Writes result channel (together (name.now ∷ codes " = tcb (addr: " ∷ hex_text tcb.now.addr ∷ codes ", ip: "
+        ∷ hex_text tcb.now.ip ∷ codes ", sp: " ∷ hex_text tcb.now.sp ∷ [])) (O.sink out.old) (O.sink out.new)
+        (O.faults out.old) (O.faults out.new) }
 {
     let (mut addr, mut ip, mut sp) = ([0; 18], [0; 18], [0; 18]);
     write_parts(
@@ -118,7 +123,8 @@ fn write_frame<O: Outputs>(
     channel: u8,
 ) -> Result<(), Failed>
     requires { IsOpen (O.sink out.old) channel }
-    ensures { Writes result channel (frame_line name.now paddr fill.now) (O.sink out.old) (O.sink out.new) (O.faults out.old) (O.faults out.new) }
+    ensures { Writes result channel (frame_line name.now paddr fill.now) (O.sink out.old) (O.sink out.new) (O.faults out.old)
+        (O.faults out.new) }
 {
     write_parts(out, channel, &[name, b" = frame (4k"])?;
     write_paddr(paddr, out, channel)?;
@@ -143,7 +149,8 @@ fn write_paddr<O: Outputs>(paddr: Option<u64>, out: &mut O, channel: u8) -> Resu
 
 fn write_fill<O: Outputs>(fill: &Option<Fill>, out: &mut O, channel: u8) -> Result<(), Failed>
     requires { IsOpen (O.sink out.old) channel }
-    ensures { Writes result channel (fill_field fill.now) (O.sink out.old) (O.sink out.new) (O.faults out.old) (O.faults out.new) }
+    ensures { Writes result channel (fill_field fill.now) (O.sink out.old) (O.sink out.new) (O.faults out.old)
+        (O.faults out.new) }
 {
     let (mut offset, mut length, mut at) = (Buffer::new(), Buffer::new(), [0; 18]);
     match fill {

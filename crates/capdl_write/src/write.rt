@@ -40,7 +40,8 @@ fn write_irqs<O: Outputs>(
     channel: u8,
 ) -> Result<(), Failed>
     requires { IsOpen (O.sink out.old) channel }
-    ensures { Writes result channel (flat_map (irq_line spec.now) lines.now) (O.sink out.old) (O.sink out.new) (O.faults out.old) (O.faults out.new) }
+    ensures { Writes result channel (flat_map (irq_line spec.now) lines.now) (O.sink out.old) (O.sink out.new)
+        (O.faults out.old) (O.faults out.new) }
 {
     for line in lines {
         write_irq(spec, line, out, channel)?;
@@ -55,7 +56,8 @@ fn write_irq<O: Outputs>(
     channel: u8,
 ) -> Result<(), Failed>
     requires { IsOpen (O.sink out.old) channel }
-    ensures { Writes result channel (irq_line spec.now line.now) (O.sink out.old) (O.sink out.new) (O.faults out.old) (O.faults out.new) }
+    ensures { Writes result channel (irq_line spec.now line.now) (O.sink out.old) (O.sink out.new) (O.faults out.old)
+        (O.faults out.new) }
 {
     let mut digits = Buffer::new();
     write_parts(

@@ -7,5 +7,6 @@ ghost use Rattle.std.specs.Prelude.{ℕ, List};
 
 /// Where the rules hold, every edge that any run reaches is in the policy or within one label.
 pub fn valid_certificates_are_sound()
-    ensures { (spec : Spec) (labels : List ℕ) (policy cert : List Edge) → Valid spec labels policy cert → Stays spec labels policy }
+    ensures { (spec : Spec) (labels : List ℕ) (policy cert : List Edge) → Valid spec labels policy cert
+        → Stays spec labels policy }
 {}

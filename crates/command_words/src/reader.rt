@@ -41,7 +41,8 @@ fn with<'a>(
     name: &'a str,
     slots: &[&'a str],
 ) -> Result<ClapCommand<'a>, AllocError>
-    ensures { IfOk result (λ c. app_of c ≡ with_subcommand (app_of program.entry) (leaf name.entry.now (map (λ s. s.now) slots.now))) }
+    ensures { IfOk result (λ c. app_of c ≡ with_subcommand (app_of program.entry)
+        (leaf name.entry.now (map (λ s. s.now) slots.now))) }
 {
     let command = subcommand(alloc, name, slots)?;
     program.subcommand(command)

@@ -16,7 +16,8 @@ pub fn write_edge<O: Outputs>(
     channel: u8,
 ) -> Result<(), Failed>
     requires { IsOpen (O.sink out.old) channel }
-    ensures { Writes result channel (edge_line word.now names.now edge.now) (O.sink out.old) (O.sink out.new) (O.faults out.old) (O.faults out.new) }
+    ensures { Writes result channel (edge_line word.now names.now edge.now) (O.sink out.old) (O.sink out.new)
+        (O.faults out.old) (O.faults out.new) }
 {
     let authority = edge.authority.text().as_bytes();
     write_words(
@@ -38,7 +39,8 @@ fn write_words<O: Outputs>(
     channel: u8,
 ) -> Result<(), Failed>
     requires { IsOpen (O.sink out.old) channel }
-    ensures { Writes result channel (words_line word.now from.now authority.now to.now) (O.sink out.old) (O.sink out.new) (O.faults out.old) (O.faults out.new) }
+    ensures { Writes result channel (words_line word.now from.now authority.now to.now) (O.sink out.old) (O.sink out.new)
+        (O.faults out.old) (O.faults out.new) }
 {
     write_parts(
         out,
@@ -54,7 +56,8 @@ fn write_apart<O: Outputs>(
     channel: u8,
 ) -> Result<(), Failed>
     requires { IsOpen (O.sink out.old) channel }
-    ensures { Writes result channel (apart_line names.now edge.now) (O.sink out.old) (O.sink out.new) (O.faults out.old) (O.faults out.new) }
+    ensures { Writes result channel (apart_line names.now edge.now) (O.sink out.old) (O.sink out.new) (O.faults out.old)
+        (O.faults out.new) }
 {
     if edge.from == edge.to {
         return write_all(out, channel, b"");
@@ -70,7 +73,8 @@ pub fn write_edges<O: Outputs>(
     channel: u8,
 ) -> Result<(), Failed>
     requires { IsOpen (O.sink out.old) channel }
-    ensures { Writes result channel (apart_lines names.now edges.now) (O.sink out.old) (O.sink out.new) (O.faults out.old) (O.faults out.new) }
+    ensures { Writes result channel (apart_lines names.now edges.now) (O.sink out.old) (O.sink out.new) (O.faults out.old)
+        (O.faults out.new) }
 {
     for at in 0..edges.len() {
         if let Some(edge) = edges.get(at) {

@@ -91,7 +91,8 @@ impl EdgeSet {
     /// Its edges out of a label, in order.
     pub fn out_of(&self, alloc: Global, label: u32) -> Result<Vec<Edge>, NoMemory>
         ensures from { IfOk result (λ edges. (e : Edge) → has edges.items e ≡ true → (has self.now e ≡ true) × (e.from ≡ label)) }
-        ensures every { IfOk result (λ edges. (e : Edge) → has self.now e ≡ true → e.from ≡ label → e.to < 2 ^ 32 → has edges.items e ≡ true) }
+        ensures every { IfOk result (λ edges. (e : Edge) → has self.now e ≡ true → e.from ≡ label → e.to < 2 ^ 32
+            → has edges.items e ≡ true) }
     {
         let first = Edge {
             from: label,
@@ -114,8 +115,10 @@ impl EdgeSet {
         label: u32,
         authority: Authority,
     ) -> Result<Vec<Edge>, NoMemory>
-        ensures from { IfOk result (λ edges. (e : Edge) → has edges.items e ≡ true → (has self.now e ≡ true) × (e.from ≡ label) × (e.authority ≡ authority)) }
-        ensures every { IfOk result (λ edges. (m : ℕ) → has self.now (edge label authority m) ≡ true → m < 2 ^ 32 → has edges.items (edge label authority m) ≡ true) }
+        ensures from { IfOk result (λ edges. (e : Edge) → has edges.items e ≡ true
+            → (has self.now e ≡ true) × (e.from ≡ label) × (e.authority ≡ authority)) }
+        ensures every { IfOk result (λ edges. (m : ℕ) → has self.now (edge label authority m) ≡ true → m < 2 ^ 32
+            → has edges.items (edge label authority m) ≡ true) }
     {
         let first = Edge {
             from: label,

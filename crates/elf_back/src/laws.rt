@@ -12,7 +12,8 @@ ghost use Rattle.std.specs.Prelude.{◌≡◌, ◌⊎◌, ℕ, List as Seq, Some
 
 /// The table of an image that a table can say has no fault, and says that image.
 pub fn tables_are_read_back()
-    ensures { (file : ℕ) (image : Program) → HasTable image → (first_fault file (table_text image) ≡ Absent) × (image_of image.name (table_text image) ≡ There image) }
+    ensures { (file : ℕ) (image : Program) → HasTable image → (first_fault file (table_text image) ≡ Absent)
+        × (image_of image.name (table_text image) ≡ There image) }
 {}
 
 /// A table can say the image of a file.
@@ -22,5 +23,6 @@ pub fn images_have_tables()
 
 /// What was written of the image of a file is read back as the same image, unless memory runs out.
 pub fn written_is_read()
-    ensures { (file : ℕ) (name bytes : Seq ℕ) (image : Program) (r : Res Program (Refusal Wrong)) → AreBytes bytes → Elf name bytes image → IsRead file name (table_text image) r → (r ≡ Good image) ⊎ (r ≡ Bad refusals.NoMemory) }
+    ensures { (file : ℕ) (name bytes : Seq ℕ) (image : Program) (r : Res Program (Refusal Wrong)) → AreBytes bytes
+        → Elf name bytes image → IsRead file name (table_text image) r → (r ≡ Good image) ⊎ (r ≡ Bad refusals.NoMemory) }
 {}

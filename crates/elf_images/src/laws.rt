@@ -13,5 +13,6 @@ pub fn files_have_one_image()
 
 /// A file that is related to an image has no fault.
 pub fn images_have_no_fault()
-    ensures { (name bytes : List ℕ) (image : Image) (fault : ElfFault) → Elf name bytes image → first_fault bytes ≡ Some fault → ⊥ }
+    ensures { (name bytes : List ℕ) (image : Image) (fault : ElfFault) → Elf name bytes image
+        → first_fault bytes ≡ Some fault → ⊥ }
 {}

@@ -23,7 +23,8 @@ fn hexadecimal(n: u64, buf: &mut [u8; 18]) -> &[u8]
 /// comes only where the outputs' count rose, the channel has a front of it. Takes no memory.
 pub fn write_sections<O: Outputs>(image: &Image, out: &mut O, channel: u8) -> Result<(), Failed>
     requires { IsOpen (O.sink out.old) channel }
-    ensures { Writes result channel (table_text image.now) (O.sink out.old) (O.sink out.new) (O.faults out.old) (O.faults out.new) }
+    ensures { Writes result channel (table_text image.now) (O.sink out.old) (O.sink out.new) (O.faults out.old)
+        (O.faults out.new) }
 {
     write_entry(image.arch, image.entry, out, channel)?;
     write_lines(image.sections.as_slice(), out, channel)
@@ -31,7 +32,8 @@ pub fn write_sections<O: Outputs>(image: &Image, out: &mut O, channel: u8) -> Re
 
 fn write_entry<O: Outputs>(arch: Arch, entry: u64, out: &mut O, channel: u8) -> Result<(), Failed>
     requires { IsOpen (O.sink out.old) channel }
-    ensures { Writes result channel (entry_line arch entry) (O.sink out.old) (O.sink out.new) (O.faults out.old) (O.faults out.new) }
+    ensures { Writes result channel (entry_line arch entry) (O.sink out.old) (O.sink out.new) (O.faults out.old)
+        (O.faults out.new) }
 {
     let mut digits = [0; 18];
     let entry = hexadecimal(entry, &mut digits);
@@ -43,7 +45,8 @@ fn write_entry<O: Outputs>(arch: Arch, entry: u64, out: &mut O, channel: u8) -> 
 
 fn write_lines<O: Outputs>(sections: &[Section], out: &mut O, channel: u8) -> Result<(), Failed>
     requires { IsOpen (O.sink out.old) channel }
-    ensures { Writes result channel (flat_map section_line sections.now) (O.sink out.old) (O.sink out.new) (O.faults out.old) (O.faults out.new) }
+    ensures { Writes result channel (flat_map section_line sections.now) (O.sink out.old) (O.sink out.new) (O.faults out.old)
+        (O.faults out.new) }
 {
     for section in sections {
         write_section(section, out, channel)?;
@@ -69,7 +72,8 @@ fn place_word(at: Option<u64>, buf: &mut [u8; 18]) -> &[u8]
 
 fn write_section<O: Outputs>(section: &Section, out: &mut O, channel: u8) -> Result<(), Failed>
     requires { IsOpen (O.sink out.old) channel }
-    ensures { Writes result channel (section_line section.now) (O.sink out.old) (O.sink out.new) (O.faults out.old) (O.faults out.new) }
+    ensures { Writes result channel (section_line section.now) (O.sink out.old) (O.sink out.new) (O.faults out.old)
+        (O.faults out.new) }
 {
     let (mut vaddr, mut size, mut at) = ([0; 18], [0; 18], [0; 18]);
     write_parts(

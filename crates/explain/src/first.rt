@@ -23,7 +23,8 @@ fn numbers(found: Found) -> (u32, u32)
 
 fn direct_reason(search: &Search<'_>, alloc: Global) -> Result<Option<Reason>, NoMemory>
     requires { CanSearch (told search.now.tables) search.now.signals.now }
-    ensures { IfOk result (IsFirstOf (DirectReason (told search.now.tables) search.now.edge) (λ d. told_of (told search.now.tables) search.now.edge (by_direct d))) }
+    ensures { IfOk result (IsFirstOf (DirectReason (told search.now.tables) search.now.edge)
+        (λ d. told_of (told search.now.tables) search.now.edge (by_direct d))) }
 {
     let Some(end) = search.first_end(alloc, Sought::Given)? else {
         return Ok(None);
@@ -38,7 +39,8 @@ fn direct_reason(search: &Search<'_>, alloc: Global) -> Result<Option<Reason>, N
 
 fn call_reason(search: &Search<'_>, alloc: Global) -> Result<Option<Reason>, NoMemory>
     requires { CanSearch (told search.now.tables) search.now.signals.now }
-    ensures { IfOk result (IsFirstOf (CallReason (told search.now.tables) search.now.edge) (λ c. told_of (told search.now.tables) search.now.edge (by_call c))) }
+    ensures { IfOk result (IsFirstOf (CallReason (told search.now.tables) search.now.edge)
+        (λ c. told_of (told search.now.tables) search.now.edge (by_call c))) }
 {
     let Some(caller) = search.first_end(alloc, Sought::Caller)? else {
         return Ok(None);
@@ -56,7 +58,8 @@ fn call_reason(search: &Search<'_>, alloc: Global) -> Result<Option<Reason>, NoM
 
 fn bind_reason(search: &Search<'_>, alloc: Global) -> Result<Option<Reason>, NoMemory>
     requires { CanSearch (told search.now.tables) search.now.signals.now }
-    ensures { IfOk result (IsFirstOf (BindReason (told search.now.tables) search.now.edge) (λ b. told_of (told search.now.tables) search.now.edge (by_bind b))) }
+    ensures { IfOk result (IsFirstOf (BindReason (told search.now.tables) search.now.edge)
+        (λ b. told_of (told search.now.tables) search.now.edge (by_bind b))) }
 {
     let Some(handler) = search.first_end(alloc, Sought::Handler)? else {
         return Ok(None);
@@ -74,7 +77,8 @@ fn bind_reason(search: &Search<'_>, alloc: Global) -> Result<Option<Reason>, NoM
 
 fn lock_reason(search: &Search<'_>, alloc: Global) -> Result<Option<Reason>, NoMemory>
     requires { CanSearch (told search.now.tables) search.now.signals.now }
-    ensures { IfOk result (IsFirstOf (LockReason (told search.now.tables) search.now.edge) (λ k. told_of (told search.now.tables) search.now.edge (by_lock k))) }
+    ensures { IfOk result (IsFirstOf (LockReason (told search.now.tables) search.now.edge)
+        (λ k. told_of (told search.now.tables) search.now.edge (by_lock k))) }
 {
     let Some(handler) = search.first_end(alloc, Sought::LockHandler)? else {
         return Ok(None);
@@ -93,7 +97,8 @@ fn lock_reason(search: &Search<'_>, alloc: Global) -> Result<Option<Reason>, NoM
 /// The first reason of the edge, in the order of the stages.
 fn first_reason(search: &Search<'_>, alloc: Global) -> Result<Option<Reason>, NoMemory>
     requires { CanSearch (told search.now.tables) search.now.signals.now }
-    ensures { IfOk result (IsFirstOf (Why (told search.now.tables) search.now.edge) (told_of (told search.now.tables) search.now.edge)) }
+    ensures { IfOk result (IsFirstOf (Why (told search.now.tables) search.now.edge)
+        (told_of (told search.now.tables) search.now.edge)) }
 {
     if let Some(direct) = direct_reason(search, alloc)? {
         return Ok(Some(direct));

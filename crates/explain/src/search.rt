@@ -117,7 +117,8 @@ impl<'a> Search<'a> {
     fn fits(&self, alloc: Global, sought: Sought, here: EndHere<'_>) -> Result<bool, NoMemory>
         requires ready { CanSearch (told self.now.tables) self.now.signals.now }
         requires tables { told here.tables ≡ told self.now.tables }
-        ensures { IfOk result (λ fit. fit ≡ fits (told self.now.tables) self.now.edge sought here.entry.place here.entry.connection.now here.entry.number here.entry.end) }
+        ensures { IfOk result (λ fit. fit ≡ fits (told self.now.tables) self.now.edge sought here.entry.place
+            here.entry.connection.now here.entry.number here.entry.end) }
     {
         let end = here.end;
         Ok(match sought {
@@ -223,7 +224,8 @@ fn first_of_leaf(tables: &Tables<'_>, label: u32, leaf: &Leaf) -> Option<u32>
 /// The first lock of the domain with this label, by leaf and member.
 pub fn first_lock(tables: &Tables<'_>, label: u32) -> Option<(u32, u32)>
     requires few { length tables.now.flat.now.leaves < 2 ^ 32 }
-    requires members { (l : ℕ) (x : Place) → slice_get tables.now.flat.now.leaves l ≡ Some x → length (members_at tables.now.source.now x.component) < 2 ^ 32 }
+    requires members { (l : ℕ) (x : Place) → slice_get tables.now.flat.now.leaves l ≡ Some x
+        → length (members_at tables.now.source.now x.component) < 2 ^ 32 }
     ensures { IsFirstLock (told tables.now) label result }
 {
     for (number, leaf) in tables.flat.leaves.as_slice().iter().enumerate() {

@@ -8,7 +8,8 @@ use cam_io::{Failed, Outputs, write_all};
 /// has a front of it. Takes no memory.
 pub fn write_generated<O: Outputs>(summary: Summary, out: &mut O, channel: u8) -> Result<(), Failed>
     requires { IsOpen (O.sink out.old) channel }
-    ensures { Writes result channel (generated_text summary) (O.sink out.old) (O.sink out.new) (O.faults out.old) (O.faults out.new) }
+    ensures { Writes result channel (generated_text summary) (O.sink out.old) (O.sink out.new) (O.faults out.old)
+        (O.faults out.new) }
 {
     write_summary(summary, out, channel)?;
     write_all(out, channel, b"check yes\n")

@@ -72,7 +72,8 @@ pub fn read_all<'a, L: Language, R: Repeated<L>>(
     bytes: &[u8],
     tokens: &'a [L::Token],
 ) -> Result<(List<R::Item>, &'a [L::Token]), ReadError>
-    ensures { Gives (λ x. (x.0, L.see bytes.now x.1.now)) result (many_of L.code R.codes (R.gives bytes.now) (L.see bytes.now tokens.now)) }
+    ensures { Gives (λ x. (x.0, L.see bytes.now x.1.now)) result (many_of L.code R.codes (R.gives bytes.now)
+        (L.see bytes.now tokens.now)) }
 {
     let mut items = List::new(alloc);
     let mut rest = tokens;
@@ -90,7 +91,8 @@ fn read_next<'a, L: Language, R: Repeated<L>>(
     bytes: &[u8],
     tokens: &'a [L::Token],
 ) -> Result<(R::Item, &'a [L::Token]), ReadError>
-    ensures { Gives (λ x. (x.0, L.see bytes.now x.1.now)) result (behind_one L.code (L.comma ∷ []) (R.gives bytes.now) (L.see bytes.now tokens.now)) }
+    ensures { Gives (λ x. (x.0, L.see bytes.now x.1.now)) result (behind_one L.code (L.comma ∷ []) (R.gives bytes.now)
+        (L.see bytes.now tokens.now)) }
 {
     let rest = L::after_comma(bytes, tokens)?;
     R::read(alloc, bytes, rest)
@@ -102,7 +104,8 @@ pub fn read_list<'a, L: Language, R: Repeated<L>>(
     bytes: &[u8],
     tokens: &'a [L::Token],
 ) -> Result<(List<R::Item>, &'a [L::Token]), ReadError>
-    ensures { Gives (λ x. (x.0, L.see bytes.now x.1.now)) result (list_of L.code L.comma (R.gives bytes.now) (L.see bytes.now tokens.now)) }
+    ensures { Gives (λ x. (x.0, L.see bytes.now x.1.now)) result (list_of L.code L.comma (R.gives bytes.now)
+        (L.see bytes.now tokens.now)) }
 {
     let mut items = List::new(alloc);
     let (first, mut rest) = R::read(alloc, bytes, tokens)?;

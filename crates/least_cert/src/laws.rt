@@ -13,6 +13,8 @@ ghost use Rattle.std.specs.Prelude.{◌≢◌, ℕ, List};
 /// between labels is in it.
 pub fn the_least_certificate_decides()
     ensures keeps { (spec : Spec) (labels : List ℕ) → KeepsRules spec labels (InLeast spec labels) }
-    ensures decides { (spec : Spec) (labels : List ℕ) (policy cert least : List Edge) → IsLeast spec labels least → Valid spec labels policy cert → Valid spec labels policy least }
-    ensures reached { (spec : Spec) (labels : List ℕ) (least : List Edge) → IsLeast spec labels least → (l : ℕ) (a : Authority) (m : ℕ) → Reaches spec labels l a m → l ≢ m → Has least l a m }
+    ensures decides { (spec : Spec) (labels : List ℕ) (policy cert least : List Edge) → IsLeast spec labels least
+        → Valid spec labels policy cert → Valid spec labels policy least }
+    ensures reached { (spec : Spec) (labels : List ℕ) (least : List Edge) → IsLeast spec labels least
+        → (l : ℕ) (a : Authority) (m : ℕ) → Reaches spec labels l a m → l ≢ m → Has least l a m }
 {}

@@ -59,7 +59,8 @@ fn note_leaf(
     requires numbered { AreNumbered flat.now images.now }
     requires clashing { length clashing.now ≡ length images.now.images }
     requires leaf { leaf < length flat.now.leaves }
-    ensures { OnOk result (first.new ≡ noted first.old (leaf_faults flat.now images.now (λ m. slice_index_or clashing.now m false) leaf)) }
+    ensures { OnOk result
+        (first.new ≡ noted first.old (leaf_faults flat.now images.now (λ m. slice_index_or clashing.now m false) leaf)) }
 {
     let Some(number) = images.number_of(leaf) else {
         return Ok(());
@@ -81,7 +82,10 @@ fn note_leaves(
     requires numbered { AreNumbered flat.now images.now }
     requires clashing { length clashing.now ≡ length images.now.images }
     requires leaves { (leaf : ℕ) → IsIn leaf leaves.now → leaf < length flat.now.leaves }
-    ensures { OnOk result (first.new ≡ noted first.old (flat_map (leaf_faults flat.now images.now (λ m. slice_index_or clashing.now m false)) leaves.now)) }
+    ensures { OnOk result
+        (first.new
+        ≡ noted first.old
+        (flat_map (leaf_faults flat.now images.now (λ m. slice_index_or clashing.now m false)) leaves.now)) }
 {
     for leaf in leaves {
         note_leaf(alloc, flat, images, clashing, *leaf, first)?;

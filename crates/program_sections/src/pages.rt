@@ -73,7 +73,8 @@ fn push_pages(
     pages: &mut List<SectionPage>,
 ) -> Result<(), NoMemory>
     requires { IsTrue (is_sound section.now) }
-    ensures { OnOk result (pages.new ≡ pages.old ++ map (page_at file.now section.now) (range_with_len 0 (page_count section.now))) }
+    ensures { OnOk result (pages.new ≡ pages.old ++ map (page_at file.now section.now)
+        (range_with_len 0 (page_count section.now))) }
 {
     for number in 0..page_count(section) {
         pages.push(page_at(alloc, file, section, number)?)?;

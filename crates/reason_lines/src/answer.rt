@@ -44,7 +44,8 @@ impl Answer {
     /// Writes what there is to say to an open channel. Takes no memory.
     pub fn write<O: Outputs>(&self, out: &mut O, channel: u8) -> Result<(), Failed>
         requires { IsOpen (O.sink out.old) channel }
-        ensures { Writes result channel (answer_text self.now) (O.sink out.old) (O.sink out.new) (O.faults out.old) (O.faults out.new) }
+        ensures { Writes result channel (answer_text self.now) (O.sink out.old) (O.sink out.new) (O.faults out.old)
+            (O.faults out.new) }
     {
         match self {
             Answer::Assigned(text) => write_all(out, channel, text.as_bytes()),
@@ -60,7 +61,8 @@ fn assigned(
     question: &Question<'_>,
     reason: Reason,
 ) -> Result<Answer, NoMemory>
-    ensures { IfOk result (λ answer. answer ≡ Told (explanation source.now flat.now question.now.from.now question.now.authority.now question.now.to.now reason)) }
+    ensures { IfOk result (λ answer. answer ≡ Told (explanation source.now flat.now question.now.from.now
+        question.now.authority.now question.now.to.now reason)) }
 {
     let reason = reason_text(alloc, source, flat, reason)?;
     let text = together(
@@ -88,7 +90,8 @@ pub fn answer_of(
 ) -> Result<Answer, NoMemory>
     requires within { IsWithin source.now flat.now }
     requires few { length flat.now.domains + length flat.now.connections + length flat.now.leaves < 2 ^ 32 }
-    ensures { IfOk result (IsAnswer (tables_of source.now flat.now settled.now) question.now.from.now question.now.authority.now question.now.to.now) }
+    ensures { IfOk result (IsAnswer (tables_of source.now flat.now settled.now) question.now.from.now
+        question.now.authority.now question.now.to.now) }
 {
     let Some(authority) = Authority::find(question.authority) else {
         return Ok(Answer::NotAssigned);

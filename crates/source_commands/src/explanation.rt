@@ -23,7 +23,8 @@ pub fn explain<F: Files>(
     question: &Question<'_>,
 ) -> Result<Answer, BuildError>
     ensures kept { KeepsFiles F.contents F.faults files.old files.new }
-    ensures explained { IsExplained question.now.from.now question.now.authority.now question.now.to.now root.now (F.contents files.old) (F.faults files.old) (F.faults files.new) result }
+    ensures explained { IsExplained question.now.from.now question.now.authority.now question.now.to.now root.now
+        (F.contents files.old) (F.faults files.old) (F.faults files.new) result }
 {
     match front(alloc, files, root) {
         Ok(front) => {

@@ -59,7 +59,8 @@ pub fn list<F: Files>(alloc: Global, files: &mut F, root: &str) -> Result<Listin
 /// Writes a line for each edge to an open channel, in their order. Takes no memory.
 pub fn write_listing<O: Outputs>(listing: &Listing, out: &mut O, channel: u8) -> Result<(), Failed>
     requires { IsOpen (O.sink out.old) channel }
-    ensures { Writes result channel (listing_text listing.now) (O.sink out.old) (O.sink out.new) (O.faults out.old) (O.faults out.new) }
+    ensures { Writes result channel (listing_text listing.now) (O.sink out.old) (O.sink out.new) (O.faults out.old)
+        (O.faults out.new) }
 {
     write_edges(&listing.edges, &listing.names, out, channel)
 }

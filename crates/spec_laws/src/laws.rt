@@ -26,7 +26,8 @@ pub fn slots_are_those_of_the_system()
 /// What stands at an address of a domain's space, from its root by the address's slots, is a page of a section or of a region
 /// that is mapped there, with its rights, and each of them stands at its addresses.
 pub fn pages_stand_where_they_are_mapped()
-    ensures { (t : Tables) → CanMap t → (d : ℕ) (x : Domain) → slice_get t.flat.domains d ≡ Some x → ArePagesOf t (spec_of t) d (root_of t d) }
+    ensures { (t : Tables) → CanMap t → (d : ℕ) (x : Domain) → slice_get t.flat.domains d ≡ Some x
+        → ArePagesOf t (spec_of t) d (root_of t d) }
 {}
 
 /// A space has a table of a level for an address exactly where a page is mapped under it. Tables have their domain's label.

@@ -12,5 +12,6 @@ ghost use Rattle.step_write.specs.StepLines.{steps_text};
 pub fn written_steps_are_read_back()
     ensures fine { (spec : Spec) (steps : List Step) → All (IsReadable spec) steps → length steps ≤ steps_limit
         → length (steps_text spec steps) ≤ bytes_limit → first_fault spec (steps_text spec steps) ≡ None }
-    ensures same { (spec : Spec) (steps : List Step) → All (IsReadable spec) steps → steps_of spec (steps_text spec steps) ≡ steps }
+    ensures same { (spec : Spec) (steps : List Step) → All (IsReadable spec) steps
+        → steps_of spec (steps_text spec steps) ≡ steps }
 {}

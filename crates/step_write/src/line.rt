@@ -23,7 +23,8 @@ pub fn write_thread<O: Outputs>(
     channel: u8,
 ) -> Result<(), Failed>
     requires { IsOpen (O.sink out.old) channel }
-    ensures { Writes result channel (thread_line word.now thread.now) (O.sink out.old) (O.sink out.new) (O.faults out.old) (O.faults out.new) }
+    ensures { Writes result channel (thread_line word.now thread.now) (O.sink out.old) (O.sink out.new) (O.faults out.old)
+        (O.faults out.new) }
 {
     write_parts(out, channel, &[word, thread, b"\n"])
 }
@@ -37,7 +38,8 @@ pub fn write_number<O: Outputs>(
     channel: u8,
 ) -> Result<(), Failed>
     requires { IsOpen (O.sink out.old) channel }
-    ensures { Writes result channel (number_line word.now thread.now i) (O.sink out.old) (O.sink out.new) (O.faults out.old) (O.faults out.new) }
+    ensures { Writes result channel (number_line word.now thread.now i) (O.sink out.old) (O.sink out.new) (O.faults out.old)
+        (O.faults out.new) }
 {
     let mut digits = Buffer::new();
     write_parts(
@@ -57,7 +59,8 @@ pub fn write_numbers<O: Outputs>(
     channel: u8,
 ) -> Result<(), Failed>
     requires { IsOpen (O.sink out.old) channel }
-    ensures { Writes result channel (numbers_line word.now thread.now i j) (O.sink out.old) (O.sink out.new) (O.faults out.old) (O.faults out.new) }
+    ensures { Writes result channel (numbers_line word.now thread.now i j) (O.sink out.old) (O.sink out.new)
+        (O.faults out.old) (O.faults out.new) }
 {
     let mut first = Buffer::new();
     let mut second = Buffer::new();
@@ -86,7 +89,8 @@ pub fn write_copy<O: Outputs>(
     channel: u8,
 ) -> Result<(), Failed>
     requires { IsOpen (O.sink out.old) channel }
-    ensures { Writes result channel (copy_line word.now thread.now numbers.0 numbers.1 r) (O.sink out.old) (O.sink out.new) (O.faults out.old) (O.faults out.new) }
+    ensures { Writes result channel (copy_line word.now thread.now numbers.0 numbers.1 r) (O.sink out.old) (O.sink out.new)
+        (O.faults out.old) (O.faults out.new) }
 {
     let mut first = Buffer::new();
     let mut second = Buffer::new();
@@ -116,7 +120,8 @@ pub fn write_reply<O: Outputs>(
     channel: u8,
 ) -> Result<(), Failed>
     requires { IsOpen (O.sink out.old) channel }
-    ensures { Writes result channel (reply_line thread.now copy.0 copy.1) (O.sink out.old) (O.sink out.new) (O.faults out.old) (O.faults out.new) }
+    ensures { Writes result channel (reply_line thread.now copy.0 copy.1) (O.sink out.old) (O.sink out.new) (O.faults out.old)
+        (O.faults out.new) }
 {
     let mut digits = Buffer::new();
     let rights = rights_field(copy.1);
@@ -144,7 +149,8 @@ pub fn write_call<O: Outputs>(
     channel: u8,
 ) -> Result<(), Failed>
     requires { IsOpen (O.sink out.old) channel }
-    ensures { Writes result channel (call_line (name_at spec.now caller.0) caller.1 (name_at spec.now peer.0) peer.1) (O.sink out.old) (O.sink out.new) (O.faults out.old) (O.faults out.new) }
+    ensures { Writes result channel (call_line (name_at spec.now caller.0) caller.1 (name_at spec.now peer.0) peer.1)
+        (O.sink out.old) (O.sink out.new) (O.faults out.old) (O.faults out.new) }
 {
     let mut first = Buffer::new();
     let mut second = Buffer::new();
@@ -175,7 +181,8 @@ pub fn write_grant<O: Outputs>(
     channel: u8,
 ) -> Result<(), Failed>
     requires { IsOpen (O.sink out.old) channel }
-    ensures { Writes result channel (grant_line (name_at spec.now giver.0) giver.1 (name_at spec.now taker.0) taker.1 copy.0 copy.1) (O.sink out.old) (O.sink out.new) (O.faults out.old) (O.faults out.new) }
+    ensures { Writes result channel (grant_line (name_at spec.now giver.0) giver.1 (name_at spec.now taker.0) taker.1 copy.0
+        copy.1) (O.sink out.old) (O.sink out.new) (O.faults out.old) (O.faults out.new) }
 {
     let mut first = Buffer::new();
     let mut second = Buffer::new();

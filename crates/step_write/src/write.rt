@@ -19,7 +19,8 @@ pub fn write_steps<O: Outputs>(
     channel: u8,
 ) -> Result<(), Failed>
     requires { IsOpen (O.sink out.old) channel }
-    ensures { Writes result channel (steps_text spec.now steps.now) (O.sink out.old) (O.sink out.new) (O.faults out.old) (O.faults out.new) }
+    ensures { Writes result channel (steps_text spec.now steps.now) (O.sink out.old) (O.sink out.new) (O.faults out.old)
+        (O.faults out.new) }
 {
     write_each(spec, steps.as_slice(), out, channel)
 }
@@ -31,7 +32,8 @@ fn write_each<O: Outputs>(
     channel: u8,
 ) -> Result<(), Failed>
     requires { IsOpen (O.sink out.old) channel }
-    ensures { Writes result channel (steps_text spec.now steps.now) (O.sink out.old) (O.sink out.new) (O.faults out.old) (O.faults out.new) }
+    ensures { Writes result channel (steps_text spec.now steps.now) (O.sink out.old) (O.sink out.new) (O.faults out.old)
+        (O.faults out.new) }
 {
     for step in steps {
         write_step(spec, *step, out, channel)?;
@@ -41,7 +43,8 @@ fn write_each<O: Outputs>(
 
 fn write_step<O: Outputs>(spec: &Spec, step: Step, out: &mut O, channel: u8) -> Result<(), Failed>
     requires { IsOpen (O.sink out.old) channel }
-    ensures { Writes result channel (step_line spec.now step) (O.sink out.old) (O.sink out.new) (O.faults out.old) (O.faults out.new) }
+    ensures { Writes result channel (step_line spec.now step) (O.sink out.old) (O.sink out.new) (O.faults out.old)
+        (O.faults out.new) }
 {
     match step {
         Step::Take { t, i, j, r } => write_copy(b"take ", spec.name(t), (i, j), r, out, channel),

@@ -23,7 +23,8 @@ pub fn check_texts<F: Files>(
     cert: &str,
 ) -> Result<Outcome, InputError>
     ensures kept { KeepsFiles F.contents F.faults files.old files.new }
-    ensures checked { IsChecked (F.contents files.old) (F.faults files.old) (F.faults files.new) cdl.now policy.now cert.now result }
+    ensures checked { IsChecked (F.contents files.old) (F.faults files.old) (F.faults files.new) cdl.now policy.now
+        cert.now result }
 {
     let spec = read_system(alloc, files, cdl)?;
     let allowed = read_labels(alloc, files, policy)?;

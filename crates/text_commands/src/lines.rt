@@ -29,7 +29,8 @@ pub fn write_fault<O: Outputs>(
     channel: u8,
 ) -> Result<(), Failed>
     requires { IsOpen (O.sink out.old) channel }
-    ensures { Writes result channel (fault_line file.now fault.now) (O.sink out.old) (O.sink out.new) (O.faults out.old) (O.faults out.new) }
+    ensures { Writes result channel (fault_line file.now fault.now) (O.sink out.old) (O.sink out.new) (O.faults out.old)
+        (O.faults out.new) }
 {
     write_place(file, fault.first, fault.end, out, channel)?;
     let (word, title) = (fault.code.word().as_bytes(), fault.code.title().as_bytes());
@@ -44,7 +45,8 @@ fn write_place<O: Outputs>(
     channel: u8,
 ) -> Result<(), Failed>
     requires { IsOpen (O.sink out.old) channel }
-    ensures { Writes result channel (place_text file.now first end) (O.sink out.old) (O.sink out.new) (O.faults out.old) (O.faults out.new) }
+    ensures { Writes result channel (place_text file.now first end) (O.sink out.old) (O.sink out.new) (O.faults out.old)
+        (O.faults out.new) }
 {
     let (mut front, mut back) = (Buffer::new(), Buffer::new());
     let first = front.format(first).as_bytes();
@@ -60,7 +62,8 @@ fn write_code<O: Outputs>(
     channel: u8,
 ) -> Result<(), Failed>
     requires { IsOpen (O.sink out.old) channel }
-    ensures { Writes result channel (code_text word.now title.now name.now) (O.sink out.old) (O.sink out.new) (O.faults out.old) (O.faults out.new) }
+    ensures { Writes result channel (code_text word.now title.now name.now) (O.sink out.old) (O.sink out.new)
+        (O.faults out.old) (O.faults out.new) }
 {
     let space = space_before(name);
     write_parts(out, channel, &[word, b" ", title, space, name, b"\n"])
@@ -73,7 +76,8 @@ fn write_have<O: Outputs>(
     channel: u8,
 ) -> Result<(), Failed>
     requires { IsOpen (O.sink out.old) channel }
-    ensures { Writes result channel (have_line names.now edge.now) (O.sink out.old) (O.sink out.new) (O.faults out.old) (O.faults out.new) }
+    ensures { Writes result channel (have_line names.now edge.now) (O.sink out.old) (O.sink out.new) (O.faults out.old)
+        (O.faults out.new) }
 {
     match edge {
         Some(edge) => write_edge(b"have ", edge, names, out, channel),
@@ -88,7 +92,8 @@ fn write_haves<O: Outputs>(
     channel: u8,
 ) -> Result<(), Failed>
     requires { IsOpen (O.sink out.old) channel }
-    ensures { Writes result channel (flat_map (have_line names.now) have.now) (O.sink out.old) (O.sink out.new) (O.faults out.old) (O.faults out.new) }
+    ensures { Writes result channel (flat_map (have_line names.now) have.now) (O.sink out.old) (O.sink out.new)
+        (O.faults out.old) (O.faults out.new) }
 {
     for edge in have {
         write_have(edge, names, out, channel)?;
@@ -115,7 +120,8 @@ pub fn write_refusal<O: Outputs>(
     channel: u8,
 ) -> Result<(), Failed>
     requires { IsOpen (O.sink out.old) channel }
-    ensures { Writes result channel (refusal_text names.now rule have.now lack.now) (O.sink out.old) (O.sink out.new) (O.faults out.old) (O.faults out.new) }
+    ensures { Writes result channel (refusal_text names.now rule have.now lack.now) (O.sink out.old) (O.sink out.new)
+        (O.faults out.old) (O.faults out.new) }
 {
     write_rule(rule, out, channel)?;
     write_haves(have, names, out, channel)?;
@@ -140,7 +146,8 @@ pub fn write_run<O: Outputs>(
     channel: u8,
 ) -> Result<(), Failed>
     requires { IsOpen (O.sink out.old) channel }
-    ensures { Writes result channel (run_text names.now count edges.now) (O.sink out.old) (O.sink out.new) (O.faults out.old) (O.faults out.new) }
+    ensures { Writes result channel (run_text names.now count edges.now) (O.sink out.old) (O.sink out.new) (O.faults out.old)
+        (O.faults out.new) }
 {
     write_count(count, out, channel)?;
     write_edges(edges, names, out, channel)
@@ -187,7 +194,8 @@ pub fn write_illegal<O: Outputs>(
     channel: u8,
 ) -> Result<(), Failed>
     requires { IsOpen (O.sink out.old) channel }
-    ensures { Writes result channel (illegal_text number why) (O.sink out.old) (O.sink out.new) (O.faults out.old) (O.faults out.new) }
+    ensures { Writes result channel (illegal_text number why) (O.sink out.old) (O.sink out.new) (O.faults out.old)
+        (O.faults out.new) }
 {
     let (mut digits, mut buffer) = (Buffer::new(), Buffer::new());
     let (word, named) = why_parts(why);
@@ -212,7 +220,8 @@ fn write_reach<O: Outputs>(
     channel: u8,
 ) -> Result<(), Failed>
     requires { IsOpen (O.sink out.old) channel }
-    ensures { Writes result channel (reach_line edges steps) (O.sink out.old) (O.sink out.new) (O.faults out.old) (O.faults out.new) }
+    ensures { Writes result channel (reach_line edges steps) (O.sink out.old) (O.sink out.new) (O.faults out.old)
+        (O.faults out.new) }
 {
     let (mut front, mut back) = (Buffer::new(), Buffer::new());
     let edges = front.format(edges).as_bytes();
@@ -233,7 +242,8 @@ pub fn write_report<O: Outputs>(
     channel: u8,
 ) -> Result<(), Failed>
     requires { IsOpen (O.sink out.old) channel }
-    ensures { Writes result channel (report_text names.now spec.now report.now) (O.sink out.old) (O.sink out.new) (O.faults out.old) (O.faults out.new) }
+    ensures { Writes result channel (report_text names.now spec.now report.now) (O.sink out.old) (O.sink out.new)
+        (O.faults out.old) (O.faults out.new) }
 {
     write_reach(report.edges.len(), report.steps.len(), out, channel)?;
     write_edges(&report.edges, names, out, channel)?;

@@ -68,7 +68,8 @@ impl Outcome {
     /// Writes what there is to say to an open channel. Takes no memory.
     pub fn write<O: Outputs>(&self, out: &mut O, channel: u8) -> Result<(), Failed>
         requires { IsOpen (O.sink out.old) channel }
-        ensures { Writes result channel (text_of self.now) (O.sink out.old) (O.sink out.new) (O.faults out.old) (O.faults out.new) }
+        ensures { Writes result channel (text_of self.now) (O.sink out.old) (O.sink out.new) (O.faults out.old)
+            (O.faults out.new) }
     {
         match self {
             Outcome::Checked { verdict, names } => write_verdict(verdict, names, out, channel),
@@ -92,7 +93,8 @@ fn write_verdict<O: Outputs>(
     channel: u8,
 ) -> Result<(), Failed>
     requires { IsOpen (O.sink out.old) channel }
-    ensures { Writes result channel (verdict_text names.now verdict.now) (O.sink out.old) (O.sink out.new) (O.faults out.old) (O.faults out.new) }
+    ensures { Writes result channel (verdict_text names.now verdict.now) (O.sink out.old) (O.sink out.new) (O.faults out.old)
+        (O.faults out.new) }
 {
     match verdict {
         Verdict::Yes => write_all(out, channel, b"yes\n"),
@@ -107,7 +109,8 @@ fn write_replayed<O: Outputs>(
     channel: u8,
 ) -> Result<(), Failed>
     requires { IsOpen (O.sink out.old) channel }
-    ensures { Writes result channel (replay_text names.now replayed.now) (O.sink out.old) (O.sink out.new) (O.faults out.old) (O.faults out.new) }
+    ensures { Writes result channel (replay_text names.now replayed.now) (O.sink out.old) (O.sink out.new) (O.faults out.old)
+        (O.faults out.new) }
 {
     match replayed {
         Replayed::Done { count, edges } => write_run(*count, edges, names, out, channel),

@@ -31,7 +31,8 @@ pub fn frames_stand_at_their_numbers()
 
 /// Where no fault of sections stands, the pages of the sections of a domain stand one behind another, below the base.
 pub fn sections_stand_apart()
-    ensures { (t : Laid) → AreNumbered t.flat t.images → AreSound t.images → first_space_fault t.flat t.images ≡ None → (d : ℕ) → SectionsStand t d }
+    ensures { (t : Laid) → AreNumbered t.flat t.images → AreSound t.images → first_space_fault t.flat t.images ≡ None
+        → (d : ℕ) → SectionsStand t d }
 {}
 
 /// Where sections stand apart below the base, the pages of a space stand at whole pages, and rise.
@@ -42,23 +43,29 @@ pub fn pages_rise()
 /// Pages can be counted before any is listed, and page tables by the addresses of pages.
 pub fn pages_are_counted()
     ensures pages { (t : Laid) → sum (page_counts t) ≡ all_counted t.flat t.settled (ends t) t.images }
-    ensures tables { (t : Laid) → sum (table_counts t) ≡ sum (map (tables_of (arch t)) (all_mapped t.flat t.settled (ends t) t.images)) }
+    ensures tables { (t : Laid)
+        → sum (table_counts t) ≡ sum (map (tables_of (arch t)) (all_mapped t.flat t.settled (ends t) t.images)) }
 {}
 
 /// Of the limits on pages and on page tables, that on pages is told first.
 pub fn limits_are_told_in_order()
-    ensures pages { (s : Source) (n m : ℕ) → length (assemblies s) ≡ 1 → 65536 < n → limit_fault s (codes "pages") ≡ least (flat_map (limits_passed n m) (assemblies s)) }
-    ensures tables { (s : Source) (n m : ℕ) → length (assemblies s) ≡ 1 → n ≤ 65536 → 65536 < m → limit_fault s (codes "tables") ≡ least (flat_map (limits_passed n m) (assemblies s)) }
-    ensures none { (s : Source) (n m : ℕ) → length (assemblies s) ≡ 1 → n ≤ 65536 → m ≤ 65536 → least (flat_map (limits_passed n m) (assemblies s)) ≡ None }
+    ensures pages { (s : Source) (n m : ℕ) → length (assemblies s) ≡ 1 → 65536 < n → limit_fault s (codes "pages")
+        ≡ least (flat_map (limits_passed n m) (assemblies s)) }
+    ensures tables { (s : Source) (n m : ℕ) → length (assemblies s) ≡ 1 → n ≤ 65536 → 65536 < m
+        → limit_fault s (codes "tables") ≡ least (flat_map (limits_passed n m) (assemblies s)) }
+    ensures none { (s : Source) (n m : ℕ) → length (assemblies s) ≡ 1 → n ≤ 65536 → m ≤ 65536
+        → least (flat_map (limits_passed n m) (assemblies s)) ≡ None }
 {}
 
 /// What is laid domain by domain is the spaces and frames of the definition.
 pub fn spaces_are_laid_by_domain()
-    ensures { (t : Laid) → spaces_in t.flat t.settled (ends t) (base t) (all_mapped t.flat t.settled (ends t) t.images) ≡ spaces_of t }
+    ensures { (t : Laid) → spaces_in t.flat t.settled (ends t) (base t) (all_mapped t.flat t.settled (ends t) t.images)
+        ≡ spaces_of t }
 {}
 
 /// Where the limit on pages isn't passed, regions have addresses of 64 bits, and frames numbers of 32.
 pub fn regions_and_frames_are_few()
-    ensures regions { (t : Laid) → CanLay t → sum (page_counts t) ≤ 65536 → (d : ℕ) (x : Domain) → slice_get t.flat.domains d ≡ Some x → AreFew (regions t d) }
+    ensures regions { (t : Laid) → CanLay t → sum (page_counts t) ≤ 65536 → (d : ℕ) (x : Domain) → slice_get t.flat.domains d
+        ≡ Some x → AreFew (regions t d) }
     ensures frames { (t : Laid) → CanLay t → sum (page_counts t) ≤ 65536 → length (frames t) < 2 ^ 32 }
 {}
