@@ -2,12 +2,12 @@
 use Rattle.std.proofs.Common.{arith, ◌≤◌, ◌⊎◌, ◌≡◌, ℕ, Bool, true, false, cond, List, [], ◌∷◌, refl, sym, ap, ◌∙◌, inl, inr}
 use Rattle.std.specs.Prelude.{◌==◌, ◌&&◌, ◌||◌, not, leb}
 use Rattle.std.specs.List.{list_all}
-use Rattle.std.proofs.lemmas.Bool.{eqb-true, leb-true, le-leb}
+use Rattle.std.proofs.lemmas.Bool.{eqb-true, leb-true, le-leb, and_parts, not-true}
 use Rattle.std.proofs.lemmas.Bool.Decides.{Decides-eqb}
 use Rattle.cam_base.specs.Names.{is_letter, is_word_byte}
 use Rattle.cam_base.specs.Numbers.{is_digit, is_hex_digit}
 use Rattle.grammar.specs.Form.{among}
-use Rattle.grammar.proofs.Codes.{among-left, and_true, not_true, bool_cases, true_is_not_false, if_true, if_false}
+use Rattle.grammar.proofs.Codes.{among-left, bool_cases, true_is_not_false, if_true, if_false}
 use Rattle.adl_lexer.specs.Classes.{class_of, class_in, sign_class, sign_rows, mark_class, mark_rows, left_out_class, left_out_rows, letters, digits, word_bytes}
 use Rattle.adl_lexer.proofs.Classes.{if_has, sign_has}
 
@@ -15,7 +15,7 @@ use Rattle.adl_lexer.proofs.Classes.{if_has, sign_has}
 class_in_pairs : (R : ℕ → ℕ → Bool) (rows : List (ℕ × ℕ)) (c b : ℕ) → list_all (λ row. R row.0 row.1) rows ≡ true → R b c ≡ true → R b (class_in rows c b) ≡ true
 class_in_pairs R [] c b h g = g
 class_in_pairs R (row ∷ rows) c b h g =
-    let p = and_true (R row.0 row.1) (list_all (λ row. R row.0 row.1) rows) h in
+    let p = and_parts (R row.0 row.1) (list_all (λ row. R row.0 row.1) rows) h in
     elim (bool_cases (b == row.0)) [ inl e ↦ rw (e, eqb-true b row.0 e) p.0 | inr e ↦ rw e (class_in_pairs R rows c b p.1 g) ]
 
 -- if the class is k, the byte is v
@@ -55,9 +55,9 @@ hex_is_letter : (b : ℕ) → is_digit b ≡ false → is_hex_digit b ≡ true �
 hex_is_letter b d h = elim (or_cases (is_digit b) ((leb 97 b && leb b 102) || (leb 65 b && leb b 70)) h) [
   | inl e ↦ true_is_not_false (is_digit b) e d
   | inr e ↦ elim (or_cases (leb 97 b && leb b 102) (leb 65 b && leb b 70) e) [
-    | inl f ↦ let p = and_true (leb 97 b) (leb b 102) f in rw (p.0, leb_up b 102 122 p.1 (omega arith)) refl
+    | inl f ↦ let p = and_parts (leb 97 b) (leb b 102) f in rw (p.0, leb_up b 102 122 p.1 (omega arith)) refl
     | inr f ↦
-        let p = and_true (leb 65 b) (leb b 70) f in
+        let p = and_parts (leb 65 b) (leb b 70) f in
         let q : (leb 65 b && leb b 90) ≡ true = rw (p.0, leb_up b 70 90 p.1 (omega arith)) refl in
         or_middle (leb 97 b && leb b 122) (leb 65 b && leb b 90) (leb 95 b && leb b 95) q
   ]
@@ -78,14 +78,14 @@ no_word_class b d n = elim (bool_cases (is_hex_digit b)) [
       if_false (is_digit b) (cond (b == 48) 3 4) (cond (is_hex_digit b) 1 (cond (is_letter b) (cond (b == 120 || b == 88) 2 0) (sign_class b))) d
       ∙ if_false (is_hex_digit b) 1 (cond (is_letter b) (cond (b == 120 || b == 88) 2 0) (sign_class b)) h
       ∙ if_false (is_letter b) (cond (b == 120 || b == 88) 2 0) (sign_class b) n in
-      ap (among word_bytes) c ∙ not_true (among word_bytes (sign_class b)) (sign_has (λ c. not (among word_bytes c)) b refl refl refl refl)
+      ap (among word_bytes) c ∙ not-true (among word_bytes (sign_class b)) (sign_has (λ c. not (among word_bytes c)) b refl refl refl refl)
 ]
 
 digit_no_letter : (b : ℕ) → is_digit b ≡ true → among letters (class_of b) ≡ false
 unfolding class_of
 digit_no_letter b d =
     ap (among letters) (if_true (is_digit b) (cond (b == 48) 3 4) (cond (is_hex_digit b) 1 (cond (is_letter b) (cond (b == 120 || b == 88) 2 0) (sign_class b))) d)
-    ∙ not_true (among letters (cond (b == 48) 3 4)) (if_has (λ c. not (among letters c)) (b == 48) 3 4 refl refl)
+    ∙ not-true (among letters (cond (b == 48) 3 4)) (if_has (λ c. not (among letters c)) (b == 48) 3 4 refl refl)
 
 pub word_byte_of : (b : ℕ) → among word_bytes (class_of b) ≡ true → is_word_byte b ≡ true
 word_byte_of b h = elim (bool_cases (is_digit b)) [

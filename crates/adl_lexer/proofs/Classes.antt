@@ -2,18 +2,18 @@
 use Rattle.std.proofs.Common.{arith, ◌≡◌, ℕ, Bool, true, false, cond, List, [], ◌∷◌, refl, sym, ap, subst, ◌∙◌, ◌⊎◌, inl, inr}
 use Rattle.std.specs.Prelude.{◌==◌, ◌&&◌, ◌||◌, not}
 use Rattle.std.specs.List.{list_all}
-use Rattle.std.proofs.lemmas.Bool.{eqb-true}
+use Rattle.std.proofs.lemmas.Bool.{eqb-true, and_parts, not-true}
 use Rattle.cam_base.specs.Names.{is_letter}
 use Rattle.cam_base.specs.Numbers.{is_digit, is_hex_digit}
 use Rattle.grammar.specs.Form.{among}
-use Rattle.grammar.proofs.Codes.{and_true, not_true, bool_cases, true_is_not_false, if_true, if_false}
+use Rattle.grammar.proofs.Codes.{bool_cases, true_is_not_false, if_true, if_false}
 use Rattle.adl_lexer.specs.Classes.{class_of, class_in, sign_class, sign_rows, mark_class, mark_rows, left_out_class, left_out_rows, blanks, letters, digits, hex_digits, line_bytes}
 
 -- what is true of each row's class and of c is true of the class that is given
 class_in_has : (Q : ℕ → Bool) (rows : List (ℕ × ℕ)) (c b : ℕ) → list_all (λ row. Q row.1) rows ≡ true → Q c ≡ true → Q (class_in rows c b) ≡ true
 class_in_has Q [] c b h g = g
 class_in_has Q (row ∷ rows) c b h g =
-    let p = and_true (Q row.1) (list_all (λ row. Q row.1) rows) h in
+    let p = and_parts (Q row.1) (list_all (λ row. Q row.1) rows) h in
     elim (bool_cases (b == row.0)) [ inl e ↦ rw e p.0 | inr e ↦ rw e (class_in_has Q rows c b p.1 g) ]
 
 pub sign_has : (Q : ℕ → Bool) (b : ℕ) → list_all (λ row. Q row.1) sign_rows ≡ true → list_all (λ row. Q row.1) mark_rows ≡ true → list_all (λ row. Q row.1) left_out_rows ≡ true → Q 25 ≡ true → Q (sign_class b) ≡ true
@@ -40,7 +40,7 @@ no_digit b = cond (is_hex_digit b) 1 (cond (is_letter b) (cond (b == 120 || b ==
 digit_alone : (b : ℕ) → is_digit b ≡ false → among digits (class_of b) ≡ false
 unfolding class_of
 digit_alone b h =
-    not_true (among digits (class_of b)) (subst (λ (c : ℕ). not (among digits c) ≡ true) (sym (if_false (is_digit b) (cond (b == 48) 3 4) (no_digit b) h)) (
+    not-true (among digits (class_of b)) (subst (λ (c : ℕ). not (among digits c) ≡ true) (sym (if_false (is_digit b) (cond (b == 48) 3 4) (no_digit b) h)) (
     if_has (λ c. not (among digits c)) (is_hex_digit b) 1 _ refl (if_has (λ c. not (among digits c)) (is_letter b) (cond (b == 120 || b == 88) 2 0) (sign_class b) (if_has (λ c. not (among digits c)) (b == 120 || b == 88) 2 0 refl refl)
     (sign_has (λ c. not (among digits c)) b refl refl refl refl))))
 
@@ -115,7 +115,7 @@ within (c ∷ cs) ds = among ds c && within cs ds
 pub not_within : (cs ds : List ℕ) (c : ℕ) → within cs ds ≡ true → among ds c ≡ false → among cs c ≡ false
 not_within [] ds c w h = refl
 not_within (d ∷ cs) ds c w h =
-    let p = and_true (among ds d) (within cs ds) w in
+    let p = and_parts (among ds d) (within cs ds) w in
     elim (bool_cases (c == d)) [
       | inl e ↦ true_is_not_false (among ds c) (rw (eqb-true c d e) p.0) h
       | inr e ↦ rw e (not_within cs ds c p.1 h)

@@ -2,14 +2,14 @@
 use Rattle.std.proofs.Common.{◌≡◌, ℕ, Bool, true, false, List, [], ◌∷◌, length, Ok, Some, None, refl, sym, ap, subst, ◌∙◌, arith, inl, inr}
 use Rattle.std.specs.Prelude.{◌==◌, ◌&&◌, ◌||◌}
 use Rattle.std.specs.List.{list_all}
-use Rattle.std.proofs.lemmas.Bool.{eqb-true}
+use Rattle.std.proofs.lemmas.Bool.{eqb-true, and_parts}
 use Rattle.cam_base.specs.declared.token.Kind.TheVariants as kinds
 use Rattle.cam_base.specs.declared.token.Mark.TheVariants as marks
 use Rattle.cam_base.specs.Numbers.{is_digit, is_hex_digit, is_decimal, is_hexadecimal, fits, number_value}
 use Rattle.grammar.specs.Form.{among}
 use Rattle.grammar.specs.Reading.{◌>>=◌, Reader, many, starts, too_deep}
 use Rattle.grammar.specs.Deciding.{can_be_empty}
-use Rattle.grammar.proofs.Codes.{bool_cases, and_true, if_true, if_false, among-left, among-right}
+use Rattle.grammar.proofs.Codes.{bool_cases, if_true, if_false, among-left, among-right}
 use Rattle.adl_lexer.specs.Classes.{class_of, run, after_run, letters, digits, hex_digits, word_bytes, plain_bytes, line_bytes, angle_first, angle_bytes, cross, line_feed, quote, less, minus, greater, backslash}
 use Rattle.adl_lexer.specs.LexFaults.{after_text, after_byte, after_angle}
 use Rattle.adl_lexer.specs.TokenKinds.{reads, flat, word_kind, number_kind, kind_of_value, word_line, hex_line, number_line, text_item, text_line, less_line, arrow_line}
@@ -178,7 +178,7 @@ all_run cs is up w [] h = (refl, refl)
 all_run cs is up w (b ∷ bs) h = elim (bool_cases (among word_bytes (class_of b))) [
   | inl f ↦
       let g : list_all is (b ∷ run word_bytes bs) ≡ true = subst (λ (r : List ℕ). list_all is r ≡ true) (if_true (among word_bytes (class_of b)) (b ∷ run word_bytes bs) [] f) h in
-      let p = and_true (is b) (list_all is (run word_bytes bs)) g in
+      let p = and_parts (is b) (list_all is (run word_bytes bs)) g in
       let r = all_run cs is up w bs p.1 in
       rw (f, up b p.0, r.0, r.1) (refl, refl)
   | inr f ↦ rw (f, not_within cs word_bytes (class_of b) w f) (refl, refl)
@@ -205,13 +205,13 @@ decimal_digits : (b : ℕ) (r : List ℕ) (n : ℕ) → (b == 48) ≡ false → 
 decimal_digits b [] n h e = refl
 decimal_digits b (x ∷ r) n h e =
     let p : number_value (b ∷ x ∷ r) ≡ fits (is_digit b && list_all is_digit (x ∷ r)) (digits_value 10 (b ∷ x ∷ r)) = rw h refl in
-    (and_true (is_digit b) (list_all is_digit (x ∷ r)) (fits_only _ _ n (sym p ∙ e))).1
+    (and_parts (is_digit b) (list_all is_digit (x ∷ r)) (fits_only _ _ n (sym p ∙ e))).1
 
 module _ (b : ℕ) (n : ℕ) (zero : class_of b ≡ 3) where
   hex_whole : (x : ℕ) (r cs : List ℕ) → run word_bytes cs ≡ x ∷ r → class_of x ≡ 2 → is_hexadecimal r ≡ true → number_value (b ∷ x ∷ r) ≡ Some n → reads number_line (b ∷ cs) ≡ Ok (kinds.Number n, after_run word_bytes cs)
   hex_whole x [] cs p c h e = absurd cc
   hex_whole x (d ∷ r) cs p c h e =
-      let q = and_true (is_hex_digit d) (list_all is_hex_digit r) h in
+      let q = and_parts (is_hex_digit d) (list_all is_hex_digit r) h in
       let one = run_some word_bytes cs x (d ∷ r) p in
       let two = run_some word_bytes one.0 d r one.2 in
       let all = all_run hex_digits is_hex_digit hex_class refl two.0 (subst (λ (w : List ℕ). list_all is_hex_digit w ≡ true) (sym two.2) q.1) in

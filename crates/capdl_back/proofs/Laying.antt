@@ -5,6 +5,7 @@ use Rattle.std.specs.List.{list_all}
 use Rattle.std.specs.Option.{is_some, option_map}
 use Rattle.std.specs.Str.{bytes_eq}
 use Rattle.std.proofs.lemmas.Bool.{eqb-true, and_parts}
+use Rattle.std.proofs.lemmas.Option.{same_Some}
 use Rattle.cam_base.specs.declared.text_fault.TextCode.{TextCode}
 use Rattle.cam_base.specs.declared.text_fault.TextCode.TheVariants.{CapdlByte}
 use Rattle.cam_base.specs.Names.{is_letter, is_word_byte}
@@ -21,7 +22,7 @@ use Rattle.capdl_lexer.specs.TokenKinds.{mark_of, digits_kind, is_end, ends_text
 use Rattle.capdl_lexer.specs.Words.{word_of}
 use Rattle.capdl_lexer.proofs.Runs.{bool_cases}
 use Rattle.capdl_lexer.proofs.Steps.{lexes_gap}
-use Rattle.capdl_lexer.proofs.Tokens.{none_is_not, some_of, true_is_not_false, token_at, digits_word, word_or, digit_or}
+use Rattle.capdl_lexer.proofs.Tokens.{none_is_not, true_is_not_false, token_at, digits_word, word_or, digit_or}
 use Rattle.capdl_back.specs.Pieces.{Piece, laid, all_blank, runs_on, goes_on, Fine, tokens}
 
 -- ---- runs
@@ -61,7 +62,7 @@ word_reads b t rest k l e f ends = by_test (list_all is_word_byte t) refl (let p
     by_test : (a : Bool) → list_all is_word_byte t ≡ a → cond a (Some (kinds.Word (word_of (b ∷ t)))) None ≡ Some k → Read (b ∷ t ++ rest) k rest
     by_test false h q = none_is_not k q
     by_test true h q =
-        let same : kinds.Word (word_of (b ∷ t)) ≡ k = some_of (kinds.Word (word_of (b ∷ t))) k q in
+        let same : kinds.Word (word_of (b ∷ t)) ≡ k = same_Some (kinds.Word (word_of (b ∷ t))) k q in
         let g : goes_on rest ≡ false = ends (ap runs_on (sym same)) in
         let all : list_all is_word_byte (b ∷ t) ≡ true = rw (word_or b l, h) refl in
         let front : run is_word_byte (b ∷ t ++ rest) ≡ b ∷ t = run_ends (b ∷ t) rest all g in
@@ -79,9 +80,9 @@ digits_runs : (w : List ℕ) (k : Kind) → digits_kind w ≡ Some k → runs_on
 digits_runs w k e = by_test (bytes_eq w (codes "4k")) (number_value w) e
   where
     by_test : (b : Bool) (v : Option ℕ) → cond b (Some kinds.Page) (option_map kinds.Number v) ≡ Some k → runs_on k ≡ true
-    by_test true v q = ap runs_on (sym (some_of kinds.Page k q))
+    by_test true v q = ap runs_on (sym (same_Some kinds.Page k q))
     by_test false None q = none_is_not k q
-    by_test false (Some n) q = ap runs_on (sym (some_of (kinds.Number n) k q))
+    by_test false (Some n) q = ap runs_on (sym (same_Some (kinds.Number n) k q))
 
 digits_reads : (b : ℕ) (t rest : List ℕ) (k : Kind) → is_letter b ≡ false → is_digit b ≡ true → kind_of (b ∷ t) ≡ Some k → fault_at (b ∷ t) ≡ None → (runs_on k ≡ true → goes_on rest ≡ false) → Read (b ∷ t ++ rest) k rest
 unfolding kind_of one_token fault_at
@@ -108,7 +109,7 @@ quote_reads t rest k e = by_test (ends_text t) refl e
     by_test false h q = none_is_not k q
     by_test true h q =
         let end : after_text (t ++ rest) ≡ Some rest = text_ends t rest h in
-        (ap (option_map {U = Kind × List ℕ} (λ (r : List ℕ). (kinds.Text, r))) end ∙ ap (λ (j : Kind). let r : Taken = Some (j, rest) in r) (some_of kinds.Text k q), ap (λ (o : Option (List ℕ)). unless o (run is_line_byte (34 ∷ t ++ rest))) end)
+        (ap (option_map {U = Kind × List ℕ} (λ (r : List ℕ). (kinds.Text, r))) end ∙ ap (λ (j : Kind). let r : Taken = Some (j, rest) in r) (same_Some kinds.Text k q), ap (λ (o : Option (List ℕ)). unless o (run is_line_byte (34 ∷ t ++ rest))) end)
 
 mark_reads : (b : ℕ) (t rest : List ℕ) (k : Kind) → is_letter b ≡ false → is_digit b ≡ false → (b == 34) ≡ false → kind_of (b ∷ t) ≡ Some k → fault_at (b ∷ t) ≡ None → Read (b ∷ t ++ rest) k rest
 unfolding kind_of one_token fault_at
@@ -121,7 +122,7 @@ mark_reads b [] rest k l d q e f =
   where
     by_mark : (m : Option Mark) → option_map kinds.Mark m ≡ Some k → option_map {U = Kind × List ℕ} (λ m. (kinds.Mark m, rest)) m ≡ Some (k, rest)
     by_mark None p = none_is_not k p
-    by_mark (Some m) p = ap (λ (j : Kind). let r : Taken = Some (j, rest) in r) (some_of (kinds.Mark m) k p)
+    by_mark (Some m) p = ap (λ (j : Kind). let r : Taken = Some (j, rest) in r) (same_Some (kinds.Mark m) k p)
 
     by_test : (x y z : Bool) (m : Found) → cond x None (cond y (Some (CapdlByte, b ∷ [])) (cond z (Some (CapdlByte, b ∷ [])) m)) ≡ None
         → cond x None (cond y (unless (after_slash rest) (cond (is_star rest) (b ∷ rest) (b ∷ []))) (cond z (unless (after_dash rest) (b ∷ [])) m)) ≡ None
