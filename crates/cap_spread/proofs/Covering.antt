@@ -168,13 +168,13 @@ module _ (spec : Spec) (f : Found) (net : Lanes) (doors : Doors) (H : AreHubs sp
       (stands_here spec f net doors H side e member new wide filled less passages.Reply (subst (λ (p : Passage). AddedAt spec f net p side e member doors.replies new wide filled) is a))
 
 -- a root that came to all four
-module _ (spec : Spec) (member : Member) (cap : Cap) (is : is_at spec kinds.Endpoint cap.object ≡ true) (f0 f1 f2 f3 f4 : Found) (n0 n1 n2 n3 n4 : Lanes) (d0 d1 d2 d3 d4 : Doors)
-    (a : Attends spec f0 n0 d0 passages.Grant sides.Giving member cap f1 n1 d1) (b : Attends spec f1 n1 d1 passages.Grant sides.Taking member cap f2 n2 d2)
-    (c : Attends spec f2 n2 d2 passages.Reply sides.Giving member cap f3 n3 d3) (d : Attends spec f3 n3 d3 passages.Reply sides.Taking member cap f4 n4 d4) where
-  no_cnode : is_at spec kinds.CNode cap.object ≡ true → ⊥
+module _ (spec : Spec) (member : Member) (is : is_at spec kinds.Endpoint member.cap.object ≡ true) (f0 f1 f2 f3 f4 : Found) (n0 n1 n2 n3 n4 : Lanes) (d0 d1 d2 d3 d4 : Doors)
+    (a : Attends spec f0 n0 d0 passages.Grant sides.Giving member f1 n1 d1) (b : Attends spec f1 n1 d1 passages.Grant sides.Taking member f2 n2 d2)
+    (c : Attends spec f2 n2 d2 passages.Reply sides.Giving member f3 n3 d3) (d : Attends spec f3 n3 d3 passages.Reply sides.Taking member f4 n4 d4) where
+  no_cnode : is_at spec kinds.CNode member.cap.object ≡ true → ⊥
   no_cnode cnode =
-      let x : kind_at spec cap.object ≡ Some kinds.Endpoint = kind_is spec kinds.Endpoint cap.object is in
-      let y : kind_at spec cap.object ≡ Some kinds.CNode = kind_is spec kinds.CNode cap.object cnode in
+      let x : kind_at spec member.cap.object ≡ Some kinds.Endpoint = kind_is spec kinds.Endpoint member.cap.object is in
+      let y : kind_at spec member.cap.object ≡ Some kinds.CNode = kind_is spec kinds.CNode member.cap.object cnode in
       cc
 
   c_d : Opens spec f2 n2 d2 f4 n4 d4
@@ -183,18 +183,18 @@ module _ (spec : Spec) (member : Member) (cap : Cap) (is : is_at spec kinds.Endp
   b_d : Opens spec f1 n1 d1 f4 n4 d4
   b_d = opens_then spec f1 f2 f4 n1 n2 n4 d1 d2 d4 b.opens c_d
 
-  later_on : (f : Found) (net : Lanes) (doors : Doors) (passage : Passage) (side : Side) → Opens spec f net doors f4 n4 d4 → StandsAt side net (hub_at doors passage cap.object) member.node
-      → StandsAt side n4 (hub_at d4 passage cap.object) member.node
+  later_on : (f : Found) (net : Lanes) (doors : Doors) (passage : Passage) (side : Side) → Opens spec f net doors f4 n4 d4 → StandsAt side net (hub_at doors passage member.cap.object) member.node
+      → StandsAt side n4 (hub_at d4 passage member.cap.object) member.node
   later_on f net doors passage side o at =
-      stands_on side net n4 (hub_at doors passage cap.object) (hub_at d4 passage cap.object) member.node o.widened.widens (o.fills.each passage cap.object) at
+      stands_on side net n4 (hub_at doors passage member.cap.object) (hub_at d4 passage member.cap.object) member.node o.widened.widens (o.fills.each passage member.cap.object) at
 
-  all_stand : (passage : Passage) (side : Side) → Allows passage side cap → StandsAt side n4 (hub_at d4 passage cap.object) member.node
+  all_stand : (passage : Passage) (side : Side) → Allows passage side member.cap → StandsAt side n4 (hub_at d4 passage member.cap.object) member.node
   all_stand passages.Grant sides.Giving allows = later_on f1 n1 d1 passages.Grant sides.Giving b_d (a.stands allows)
   all_stand passages.Grant sides.Taking allows = later_on f2 n2 d2 passages.Grant sides.Taking c_d (b.stands allows)
   all_stand passages.Reply sides.Giving allows = later_on f3 n3 d3 passages.Reply sides.Giving d.opens (c.stands allows)
   all_stand passages.Reply sides.Taking allows = d.stands allows
 
-  pub attended : Covers spec f0 n0 d0 member.node cap f4 n4 d4
+  pub attended : Covers spec f0 n0 d0 member.node member.cap f4 n4 d4
   attended = record {
     opens = opens_then spec f0 f1 f4 n0 n1 n4 d0 d1 d4 a.opens b_d;
     covered = record {

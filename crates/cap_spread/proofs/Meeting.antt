@@ -1,5 +1,5 @@
 -- Members of hubs, and what coming to a hub leaves.
-use Rattle.std.proofs.Common.{◌≡◌, ◌≢◌, ◌<◌, ◌≤◌, ℕ, List, [], ◌∷◌, ◌++◌, Option, Some, None, refl, sym, subst, inl, inr, arith, length, slice_get, ◌∙◌}
+use Rattle.std.proofs.Common.{◌≡◌, ◌≢◌, ◌<◌, ◌≤◌, ℕ, false, List, [], ◌∷◌, ◌++◌, Option, Some, None, refl, sym, subst, inl, inr, arith, length, slice_get, ◌∙◌}
 use Rattle.std.specs.List.{Contains}
 use Rattle.std.proofs.lemmas.List.Elements.{Contains-push, Contains-push_cases, Contains-append_left}
 use Rattle.std.proofs.lemmas.Bool.{cases_lt}
@@ -19,9 +19,13 @@ use Rattle.cap_spread.proofs.Bringing.{none_within}
 use Rattle.cap_spread.proofs.Paths.{later_same, later_then, holds_on, path_on, widens_same, widens_then}
 use Rattle.cap_spread.proofs.Quiet.{quiet_cnode, at_object}
 
+-- what a place past the end of a list of members is read as
+abbrev pub no_member : Member
+no_member = record { node = 0; thread = 0; number = 0; cap = record { object = 0; rights = record { read = false; write = false; grant = false; reply = false }; badge = 0 } }
+
 pub member_on : (spec : Spec) (f g : Found) → Grows f g → (e : ℕ) (Allows : Cap → Type 0) (member : Member) → IsMember spec f e Allows member → IsMember spec g e Allows member
 member_on spec f g grows e Allows member m =
-    record { cap = m.cap; root = m.root; at = holds_on f g grows member.node member.number m.cap m.at; is = m.is; of = m.of; allows = m.allows }
+    record { root = m.root; at = holds_on f g grows member.node member.number member.cap m.at; is = m.is; of = m.of; allows = m.allows }
 
 -- roots that differ are of threads that differ
 roots_differ : (spec : Spec) (t u c d : ℕ) → HasRoot spec t c → HasRoot spec u d → c ≢ d → t ≢ u
@@ -31,8 +35,8 @@ roots_differ spec t u c d a b differ same = differ (let x : HasRoot spec t d = s
 pub meeting_leads : (spec : Spec) (f : Found) (e : ℕ) (passage : Passage) (giver taker : Member) → IsMember spec f e (Gives passage) giver → IsMember spec f e (Takes passage) taker → giver.node ≢ taker.node
     → Leads spec f giver.node taker.node (course_of passage giver taker)
 meeting_leads spec f e passages.Grant giver taker g k differ = (
-  g.cap,
-  k.cap,
+  giver.cap,
+  taker.cap,
   record { other = roots_differ spec giver.thread taker.thread giver.node taker.node g.root k.root differ; root = g.root; peer_root = k.root },
   g.at,
   k.at,
@@ -40,8 +44,8 @@ meeting_leads spec f e passages.Grant giver taker g k differ = (
   g.allows,
 )
 meeting_leads spec f e passages.Reply giver taker g k differ = (
-  k.cap,
-  g.cap,
+  taker.cap,
+  giver.cap,
   record { other = roots_differ spec taker.thread giver.thread taker.node giver.node k.root g.root (λ same. differ (sym same)); root = k.root; peer_root = g.root },
   k.at,
   g.at,

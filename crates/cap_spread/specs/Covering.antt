@@ -72,10 +72,10 @@ pub record AreRoots (spec : Spec) (threads : List (Option ℕ)) : Type 0 where
   pub all_ones : (c t : ℕ) → HasRoot spec t c → slice_index_or threads c None ≡ None → ⊥
 
 -- the root came to its hub
-pub record Attends (spec : Spec) (f : Found) (net : Lanes) (doors : Doors) (passage : Passage) (side : Side) (member : Member) (cap : Cap) (new : Found) (wide : Lanes) (full : Doors)
+pub record Attends (spec : Spec) (f : Found) (net : Lanes) (doors : Doors) (passage : Passage) (side : Side) (member : Member) (new : Found) (wide : Lanes) (full : Doors)
     : Type 0 where
   pub opens : Opens spec f net doors new wide full
-  pub stands : Allows passage side cap → StandsAt side wide (hub_at full passage cap.object) member.node
+  pub stands : Allows passage side member.cap → StandsAt side wide (hub_at full passage member.cap.object) member.node
 
 -- the capability is covered
 pub record Covers (spec : Spec) (f : Found) (net : Lanes) (doors : Doors) (c : ℕ) (cap : Cap) (new : Found) (wide : Lanes) (full : Doors) : Type 0 where

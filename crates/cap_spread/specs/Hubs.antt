@@ -37,12 +37,11 @@ course_of passages.Reply giver taker = courses.Reply taker.thread taker.number g
 
 -- a thread's root that holds, at this number, a capability to the endpoint e that allows it
 pub record IsMember (spec : Spec) (f : Found) (e : ℕ) (Allows : Cap → Type 0) (member : Member) : Type 0 where
-  pub cap : Cap
   pub root : HasRoot spec member.thread member.node
-  pub at : HoldsAt f member.node member.number cap
-  pub is : is_at spec kinds.Endpoint cap.object ≡ true
-  pub of : cap.object ≡ e
-  pub allows : Allows cap
+  pub at : HoldsAt f member.node member.number member.cap
+  pub is : is_at spec kinds.Endpoint member.cap.object ≡ true
+  pub of : member.cap.object ≡ e
+  pub allows : Allows member.cap
 
 -- what contracts see of a hub
 pub record Gathering : Type 0 where

@@ -12,19 +12,20 @@ ghost use Rattle.cap_model.specs.declared.kind.Kind.TheVariants as kinds;
 ghost use Rattle.std.specs.List.{Contains};
 ghost use Rattle.std.specs.Prelude.{◌≡◌, ◌<◌, ◌↔◌, ℕ, true, length, slice_index_or, IsTrue, IfOk, OnOk};
 
-use crate::found::{Course, Findings, Way};
-use crate::ways::{Net, connect};
+use crate::found::{Course, Way};
+use crate::ways::{Net, Web, connect};
 use cam_base::NoMemory;
 use cap_model::{Cap, Spec};
 use std::alloc::Global;
 use std::marker::Model;
 
-/// A root CNode, a thread whose root it is, and the number of a capability to an endpoint in it.
+/// A root CNode, a thread whose root it is, and a capability in it with its number.
 #[derive(Clone, Copy)]
 pub struct Member {
     pub node: u32,
     pub thread: u32,
     pub number: u64,
+    pub cap: Cap,
 }
 
 /// How capabilities pass at an endpoint.
@@ -39,6 +40,13 @@ pub enum Passage {
 pub enum Side {
     Giving,
     Taking,
+}
+
+/// What a member does at an endpoint.
+#[derive(Clone, Copy)]
+pub struct Role {
+    pub passage: Passage,
+    pub side: Side,
 }
 
 fn course_of(passage: Passage, giver: Member, taker: Member) -> Course
@@ -59,6 +67,26 @@ fn course_of(passage: Passage, giver: Member, taker: Member) -> Course
         },
     }
 }
+
+const GIVES_BY_GRANT: Role = Role {
+    passage: Passage::Grant,
+    side: Side::Giving,
+};
+
+const TAKES_BY_GRANT: Role = Role {
+    passage: Passage::Grant,
+    side: Side::Taking,
+};
+
+const GIVES_BY_REPLY: Role = Role {
+    passage: Passage::Reply,
+    side: Side::Giving,
+};
+
+const TAKES_BY_REPLY: Role = Role {
+    passage: Passage::Reply,
+    side: Side::Taking,
+};
 
 /// Those whose capabilities pass, and those to whom they pass.
 #[derive(Drop)]
@@ -90,18 +118,17 @@ fn has_fellow(net: &Net, members: &[Member], node: u32) -> bool
 /// Connects a giver with a taker.
 fn meet(
     alloc: Global,
-    findings: &mut Findings,
-    net: &mut Net,
+    web: &mut Web,
     spec: &Spec,
     passage: Passage,
     giver: Member,
     taker: Member,
 ) -> Result<(), NoMemory>
-    requires found { IsFound spec.now findings.old }
-    requires ways { AreWays spec.now findings.old net.old }
-    requires both { (e : ℕ) × IsMember spec.now findings.old e (Gives passage) giver × IsMember spec.now findings.old e
+    requires found { IsFound spec.now web.old.findings }
+    requires ways { AreWays spec.now web.old.findings web.old.net }
+    requires both { (e : ℕ) × IsMember spec.now web.old.findings e (Gives passage) giver × IsMember spec.now web.old.findings e
         (Takes passage) taker }
-    ensures { OnOk result (Connects spec.now findings.old net.old giver.node taker.node findings.new net.new) }
+    ensures { OnOk result (Connects spec.now web.old.findings web.old.net giver.node taker.node web.new.findings web.new.net) }
 {
     if giver.node == taker.node {
         return Ok(());
@@ -110,28 +137,27 @@ fn meet(
         to: taker.node,
         course: course_of(passage, giver, taker),
     };
-    connect(alloc, findings, net, spec, giver.node, way)?;
+    connect(alloc, web, spec, giver.node, way)?;
     Ok(())
 }
 
 /// Connects a giver with each of these takers.
 fn give(
     alloc: Global,
-    findings: &mut Findings,
-    net: &mut Net,
+    web: &mut Web,
     spec: &Spec,
     passage: Passage,
     giver: Member,
     takers: &[Member],
 ) -> Result<(), NoMemory>
-    requires found { IsFound spec.now findings.old }
-    requires ways { AreWays spec.now findings.old net.old }
-    requires giver { (e : ℕ) × IsMember spec.now findings.old e (Gives passage) giver × ((taker : Member)
-        → Contains takers.now taker → IsMember spec.now findings.old e (Takes passage) taker) }
-    ensures { OnOk result (Given spec.now findings.old net.old giver takers.now findings.new net.new) }
+    requires found { IsFound spec.now web.old.findings }
+    requires ways { AreWays spec.now web.old.findings web.old.net }
+    requires giver { (e : ℕ) × IsMember spec.now web.old.findings e (Gives passage) giver × ((taker : Member)
+        → Contains takers.now taker → IsMember spec.now web.old.findings e (Takes passage) taker) }
+    ensures { OnOk result (Given spec.now web.old.findings web.old.net giver takers.now web.new.findings web.new.net) }
 {
     for taker in takers {
-        meet(alloc, findings, net, spec, passage, giver, *taker)?;
+        meet(alloc, web, spec, passage, giver, *taker)?;
     }
     Ok(())
 }
@@ -139,21 +165,20 @@ fn give(
 /// Connects each of these givers with a taker.
 fn take(
     alloc: Global,
-    findings: &mut Findings,
-    net: &mut Net,
+    web: &mut Web,
     spec: &Spec,
     passage: Passage,
     givers: &[Member],
     taker: Member,
 ) -> Result<(), NoMemory>
-    requires found { IsFound spec.now findings.old }
-    requires ways { AreWays spec.now findings.old net.old }
-    requires taker { (e : ℕ) × IsMember spec.now findings.old e (Takes passage) taker × ((giver : Member)
-        → Contains givers.now giver → IsMember spec.now findings.old e (Gives passage) giver) }
-    ensures { OnOk result (Taken spec.now findings.old net.old givers.now taker findings.new net.new) }
+    requires found { IsFound spec.now web.old.findings }
+    requires ways { AreWays spec.now web.old.findings web.old.net }
+    requires taker { (e : ℕ) × IsMember spec.now web.old.findings e (Takes passage) taker × ((giver : Member)
+        → Contains givers.now giver → IsMember spec.now web.old.findings e (Gives passage) giver) }
+    ensures { OnOk result (Taken spec.now web.old.findings web.old.net givers.now taker web.new.findings web.new.net) }
 {
     for giver in givers {
-        meet(alloc, findings, net, spec, passage, *giver, taker)?;
+        meet(alloc, web, spec, passage, *giver, taker)?;
     }
     Ok(())
 }
@@ -173,32 +198,23 @@ impl Hub {
     pub fn add_giver(
         &mut self,
         alloc: Global,
-        findings: &mut Findings,
-        net: &mut Net,
+        web: &mut Web,
         spec: &Spec,
         passage: Passage,
-        e: u32,
         giver: Member,
     ) -> Result<(), NoMemory>
-        requires found { IsFound spec.now findings.old }
-        requires ways { AreWays spec.now findings.old net.old }
-        requires hub { IsHub spec.now findings.old net.old passage e self.old }
-        requires giver { IsMember spec.now findings.old e (Gives passage) giver }
-        ensures comes { OnOk result (Comes spec.now findings.old net.old passage e self.old findings.new net.new self.new) }
-        ensures gives { OnOk result (GivesAt net.new self.new giver.node) }
+        requires found { IsFound spec.now web.old.findings }
+        requires ways { AreWays spec.now web.old.findings web.old.net }
+        requires hub { IsHub spec.now web.old.findings web.old.net passage giver.cap.object self.old }
+        requires giver { IsMember spec.now web.old.findings giver.cap.object (Gives passage) giver }
+        ensures comes { OnOk result (Comes spec.now web.old.findings web.old.net passage giver.cap.object self.old
+            web.new.findings web.new.net self.new) }
+        ensures gives { OnOk result (GivesAt web.new.net self.new giver.node) }
     {
-        if has_fellow(net, self.givers.as_slice(), giver.node) {
+        if has_fellow(&web.net, self.givers.as_slice(), giver.node) {
             return Ok(());
         }
-        give(
-            alloc,
-            findings,
-            net,
-            spec,
-            passage,
-            giver,
-            self.takers.as_slice(),
-        )?;
+        give(alloc, web, spec, passage, giver, self.takers.as_slice())?;
         self.givers.push(giver)?;
         Ok(())
     }
@@ -207,32 +223,23 @@ impl Hub {
     pub fn add_taker(
         &mut self,
         alloc: Global,
-        findings: &mut Findings,
-        net: &mut Net,
+        web: &mut Web,
         spec: &Spec,
         passage: Passage,
-        e: u32,
         taker: Member,
     ) -> Result<(), NoMemory>
-        requires found { IsFound spec.now findings.old }
-        requires ways { AreWays spec.now findings.old net.old }
-        requires hub { IsHub spec.now findings.old net.old passage e self.old }
-        requires taker { IsMember spec.now findings.old e (Takes passage) taker }
-        ensures comes { OnOk result (Comes spec.now findings.old net.old passage e self.old findings.new net.new self.new) }
-        ensures takes { OnOk result (TakesAt net.new self.new taker.node) }
+        requires found { IsFound spec.now web.old.findings }
+        requires ways { AreWays spec.now web.old.findings web.old.net }
+        requires hub { IsHub spec.now web.old.findings web.old.net passage taker.cap.object self.old }
+        requires taker { IsMember spec.now web.old.findings taker.cap.object (Takes passage) taker }
+        ensures comes { OnOk result (Comes spec.now web.old.findings web.old.net passage taker.cap.object self.old
+            web.new.findings web.new.net self.new) }
+        ensures takes { OnOk result (TakesAt web.new.net self.new taker.node) }
     {
-        if has_fellow(net, self.takers.as_slice(), taker.node) {
+        if has_fellow(&web.net, self.takers.as_slice(), taker.node) {
             return Ok(());
         }
-        take(
-            alloc,
-            findings,
-            net,
-            spec,
-            passage,
-            self.givers.as_slice(),
-            taker,
-        )?;
+        take(alloc, web, spec, passage, self.givers.as_slice(), taker)?;
         self.takers.push(taker)?;
         Ok(())
     }
@@ -243,24 +250,22 @@ impl Hub {
     fn add(
         &mut self,
         alloc: Global,
-        findings: &mut Findings,
-        net: &mut Net,
+        web: &mut Web,
         spec: &Spec,
-        passage: Passage,
-        side: Side,
-        e: u32,
+        role: Role,
         member: Member,
     ) -> Result<(), NoMemory>
-        requires found { IsFound spec.now findings.old }
-        requires ways { AreWays spec.now findings.old net.old }
-        requires hub { IsHub spec.now findings.old net.old passage e self.old }
-        requires member { IsMember spec.now findings.old e (Allows passage side) member }
-        ensures comes { OnOk result (Comes spec.now findings.old net.old passage e self.old findings.new net.new self.new) }
-        ensures stands { OnOk result (StandsAt side net.new self.new member.node) }
+        requires found { IsFound spec.now web.old.findings }
+        requires ways { AreWays spec.now web.old.findings web.old.net }
+        requires hub { IsHub spec.now web.old.findings web.old.net role.passage member.cap.object self.old }
+        requires member { IsMember spec.now web.old.findings member.cap.object (Allows role.passage role.side) member }
+        ensures comes { OnOk result (Comes spec.now web.old.findings web.old.net role.passage member.cap.object self.old
+            web.new.findings web.new.net self.new) }
+        ensures stands { OnOk result (StandsAt role.side web.new.net self.new member.node) }
     {
-        match side {
-            Side::Giving => self.add_giver(alloc, findings, net, spec, passage, e, member),
-            Side::Taking => self.add_taker(alloc, findings, net, spec, passage, e, member),
+        match role.side {
+            Side::Giving => self.add_giver(alloc, web, spec, role.passage, member),
+            Side::Taking => self.add_taker(alloc, web, spec, role.passage, member),
         }
     }
 }
@@ -268,23 +273,22 @@ impl Hub {
 fn add_at(
     hubs: &mut [Hub],
     alloc: Global,
-    findings: &mut Findings,
-    net: &mut Net,
+    web: &mut Web,
     spec: &Spec,
-    passage: Passage,
-    side: Side,
-    e: u32,
+    role: Role,
     member: Member,
 ) -> Result<(), NoMemory>
-    requires found { IsFound spec.now findings.old }
-    requires ways { AreWays spec.now findings.old net.old }
-    requires inside { e < length hubs.old }
-    requires hub { IsHub spec.now findings.old net.old passage e (slice_index_or hubs.old e nobody) }
-    requires member { IsMember spec.now findings.old e (Allows passage side) member }
-    ensures { OnOk result (AddedAt spec.now findings.old net.old passage side e member hubs.old findings.new net.new hubs.new) }
+    requires found { IsFound spec.now web.old.findings }
+    requires ways { AreWays spec.now web.old.findings web.old.net }
+    requires inside { member.cap.object < length hubs.old }
+    requires hub { IsHub spec.now web.old.findings web.old.net role.passage member.cap.object
+        (slice_index_or hubs.old member.cap.object nobody) }
+    requires member { IsMember spec.now web.old.findings member.cap.object (Allows role.passage role.side) member }
+    ensures { OnOk result (AddedAt spec.now web.old.findings web.old.net role.passage role.side member.cap.object member
+        hubs.old web.new.findings web.new.net hubs.new) }
 {
-    let hub = &mut hubs[e as usize];
-    hub.add(alloc, findings, net, spec, passage, side, e, member)
+    let hub = &mut hubs[member.cap.object as usize];
+    hub.add(alloc, web, spec, role, member)
 }
 
 /// The hubs of all endpoints, by the endpoints' places.
@@ -321,12 +325,12 @@ fn takes(passage: Passage, cap: Cap) -> bool
 }
 
 /// Whether a capability to an endpoint allows this.
-fn allows(passage: Passage, side: Side, cap: Cap) -> bool
-    ensures { IsTrue result ↔ Allows passage side cap }
+fn allows(role: Role, cap: Cap) -> bool
+    ensures { IsTrue result ↔ Allows role.passage role.side cap }
 {
-    match side {
-        Side::Giving => gives(passage, cap),
-        Side::Taking => takes(passage, cap),
+    match role.side {
+        Side::Giving => gives(role.passage, cap),
+        Side::Taking => takes(role.passage, cap),
     }
 }
 
@@ -353,49 +357,27 @@ impl Hubs {
     fn add(
         &mut self,
         alloc: Global,
-        findings: &mut Findings,
-        net: &mut Net,
+        web: &mut Web,
         spec: &Spec,
-        passage: Passage,
-        side: Side,
-        e: u32,
+        role: Role,
         member: Member,
     ) -> Result<(), NoMemory>
-        requires found { IsFound spec.now findings.old }
-        requires ways { AreWays spec.now findings.old net.old }
-        requires hubs { AreHubs spec.now findings.old net.old self.old }
-        requires inside { e < length spec.now.entries }
-        requires member { IsMember spec.now findings.old e (Allows passage side) member }
-        ensures opens { OnOk result (Opens spec.now findings.old net.old self.old findings.new net.new self.new) }
-        ensures stands { OnOk result (StandsAt side net.new (hub_at self.new passage e) member.node) }
+        requires found { IsFound spec.now web.old.findings }
+        requires ways { AreWays spec.now web.old.findings web.old.net }
+        requires hubs { AreHubs spec.now web.old.findings web.old.net self.old }
+        requires inside { member.cap.object < length spec.now.entries }
+        requires member { IsMember spec.now web.old.findings member.cap.object (Allows role.passage role.side) member }
+        ensures opens { OnOk result (Opens spec.now web.old.findings web.old.net self.old web.new.findings web.new.net self.new) }
+        ensures stands { OnOk result (StandsAt role.side web.new.net (hub_at self.new role.passage member.cap.object)
+            member.node) }
     {
-        match passage {
+        match role.passage {
             Passage::Grant => {
-                add_at(
-                    &mut self.grants,
-                    alloc,
-                    findings,
-                    net,
-                    spec,
-                    passage,
-                    side,
-                    e,
-                    member,
-                )?;
+                add_at(&mut self.grants, alloc, web, spec, role, member)?;
                 Ok(())
             }
             Passage::Reply => {
-                add_at(
-                    &mut self.replies,
-                    alloc,
-                    findings,
-                    net,
-                    spec,
-                    passage,
-                    side,
-                    e,
-                    member,
-                )?;
+                add_at(&mut self.replies, alloc, web, spec, role, member)?;
                 Ok(())
             }
         }
@@ -405,89 +387,47 @@ impl Hubs {
     fn attend(
         &mut self,
         alloc: Global,
-        findings: &mut Findings,
-        net: &mut Net,
+        web: &mut Web,
         spec: &Spec,
-        passage: Passage,
-        side: Side,
+        role: Role,
         member: Member,
-        cap: Cap,
     ) -> Result<(), NoMemory>
-        requires found { IsFound spec.now findings.old }
-        requires ways { AreWays spec.now findings.old net.old }
-        requires hubs { AreHubs spec.now findings.old net.old self.old }
+        requires found { IsFound spec.now web.old.findings }
+        requires ways { AreWays spec.now web.old.findings web.old.net }
+        requires hubs { AreHubs spec.now web.old.findings web.old.net self.old }
         requires root { HasRoot spec.now member.thread member.node }
-        requires at { HoldsAt findings.old member.node member.number cap }
-        requires is { is_at spec.now kinds.Endpoint cap.object ≡ true }
-        ensures { OnOk result (Attends spec.now findings.old net.old self.old passage side member cap findings.new
-            net.new self.new) }
+        requires at { HoldsAt web.old.findings member.node member.number member.cap }
+        requires is { is_at spec.now kinds.Endpoint member.cap.object ≡ true }
+        ensures { OnOk result (Attends spec.now web.old.findings web.old.net self.old role.passage role.side member
+            web.new.findings web.new.net self.new) }
     {
-        if !allows(passage, side, cap) {
+        if !allows(role, member.cap) {
             return Ok(());
         }
-        self.add(
-            alloc, findings, net, spec, passage, side, cap.object, member,
-        )
+        self.add(alloc, web, spec, role, member)
     }
 
     /// A root comes to the hubs of the endpoint of its capability.
     pub fn attend_all(
         &mut self,
         alloc: Global,
-        findings: &mut Findings,
-        net: &mut Net,
+        web: &mut Web,
         spec: &Spec,
         member: Member,
-        cap: Cap,
     ) -> Result<(), NoMemory>
-        requires found { IsFound spec.now findings.old }
-        requires ways { AreWays spec.now findings.old net.old }
-        requires hubs { AreHubs spec.now findings.old net.old self.old }
+        requires found { IsFound spec.now web.old.findings }
+        requires ways { AreWays spec.now web.old.findings web.old.net }
+        requires hubs { AreHubs spec.now web.old.findings web.old.net self.old }
         requires root { HasRoot spec.now member.thread member.node }
-        requires at { HoldsAt findings.old member.node member.number cap }
-        requires is { is_at spec.now kinds.Endpoint cap.object ≡ true }
-        ensures { OnOk result (Covers spec.now findings.old net.old self.old member.node cap findings.new net.new self.new) }
+        requires at { HoldsAt web.old.findings member.node member.number member.cap }
+        requires is { is_at spec.now kinds.Endpoint member.cap.object ≡ true }
+        ensures { OnOk result (Covers spec.now web.old.findings web.old.net self.old member.node member.cap
+            web.new.findings web.new.net self.new) }
     {
-        self.attend(
-            alloc,
-            findings,
-            net,
-            spec,
-            Passage::Grant,
-            Side::Giving,
-            member,
-            cap,
-        )?;
-        self.attend(
-            alloc,
-            findings,
-            net,
-            spec,
-            Passage::Grant,
-            Side::Taking,
-            member,
-            cap,
-        )?;
-        self.attend(
-            alloc,
-            findings,
-            net,
-            spec,
-            Passage::Reply,
-            Side::Giving,
-            member,
-            cap,
-        )?;
-        self.attend(
-            alloc,
-            findings,
-            net,
-            spec,
-            Passage::Reply,
-            Side::Taking,
-            member,
-            cap,
-        )?;
+        self.attend(alloc, web, spec, GIVES_BY_GRANT, member)?;
+        self.attend(alloc, web, spec, TAKES_BY_GRANT, member)?;
+        self.attend(alloc, web, spec, GIVES_BY_REPLY, member)?;
+        self.attend(alloc, web, spec, TAKES_BY_REPLY, member)?;
         Ok(())
     }
 }

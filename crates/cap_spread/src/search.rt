@@ -13,38 +13,32 @@ ghost use Rattle.std.specs.Prelude.{◌≡◌, ◌<◌, ◌+◌, true, None, len
 use crate::begin::{begin, roots};
 use crate::found::{Course, Findings, Pair, Way};
 use crate::hubs::{Hubs, Member};
-use crate::ways::{Net, connect, go_along};
+use crate::ways::{Net, Web, connect, go_along};
 use cam_base::NoMemory;
-use cap_model::{Cap, Kind, Spec};
+use cap_model::{Kind, Spec};
 use std::alloc::Global;
 
 /// Connects a root with the CNode that it has a capability to, there and back.
-fn link(
-    alloc: Global,
-    findings: &mut Findings,
-    net: &mut Net,
-    spec: &Spec,
-    member: Member,
-    cap: Cap,
-) -> Result<(), NoMemory>
-    requires found { IsFound spec.now findings.old }
-    requires ways { AreWays spec.now findings.old net.old }
+fn link(alloc: Global, web: &mut Web, spec: &Spec, member: Member) -> Result<(), NoMemory>
+    requires found { IsFound spec.now web.old.findings }
+    requires ways { AreWays spec.now web.old.findings web.old.net }
     requires root { HasRoot spec.now member.thread member.node }
-    requires at { HoldsAt findings.old member.node member.number cap }
-    requires is { is_at spec.now kinds.CNode cap.object ≡ true }
-    ensures { OnOk result (Links spec.now findings.old net.old member.node cap.object findings.new net.new) }
+    requires at { HoldsAt web.old.findings member.node member.number member.cap }
+    requires is { is_at spec.now kinds.CNode member.cap.object ≡ true }
+    ensures { OnOk result (Links spec.now web.old.findings web.old.net member.node member.cap.object
+        web.new.findings web.new.net) }
 {
-    if net.are_joined(member.node, cap.object) {
+    if web.net.are_joined(member.node, member.cap.object) {
         return Ok(());
     }
     let there = Way {
-        to: cap.object,
+        to: member.cap.object,
         course: Course::Put {
             t: member.thread,
             i: member.number,
         },
     };
-    connect(alloc, findings, net, spec, member.node, there)?;
+    connect(alloc, web, spec, member.node, there)?;
     let back = Way {
         to: member.node,
         course: Course::Take {
@@ -52,34 +46,33 @@ fn link(
             i: member.number,
         },
     };
-    connect(alloc, findings, net, spec, cap.object, back)?;
-    net.join(member.node, cap.object);
+    connect(alloc, web, spec, member.cap.object, back)?;
+    web.net.join(member.node, member.cap.object);
     Ok(())
 }
 
 /// Does what the rules ask for because a root has this capability.
 fn cover_cap(
     alloc: Global,
-    findings: &mut Findings,
-    net: &mut Net,
+    web: &mut Web,
     hubs: &mut Hubs,
     spec: &Spec,
     member: Member,
-    cap: Cap,
 ) -> Result<(), NoMemory>
-    requires found { IsFound spec.now findings.old }
-    requires ways { AreWays spec.now findings.old net.old }
-    requires hubs { AreHubs spec.now findings.old net.old hubs.old }
+    requires found { IsFound spec.now web.old.findings }
+    requires ways { AreWays spec.now web.old.findings web.old.net }
+    requires hubs { AreHubs spec.now web.old.findings web.old.net hubs.old }
     requires root { HasRoot spec.now member.thread member.node }
-    requires at { HoldsAt findings.old member.node member.number cap }
-    ensures { OnOk result (Covers spec.now findings.old net.old hubs.old member.node cap findings.new net.new hubs.new) }
+    requires at { HoldsAt web.old.findings member.node member.number member.cap }
+    ensures { OnOk result (Covers spec.now web.old.findings web.old.net hubs.old member.node member.cap web.new.findings
+        web.new.net hubs.new) }
 {
-    if is_kind(spec, cap.object, Kind::CNode) {
-        link(alloc, findings, net, spec, member, cap)?;
+    if is_kind(spec, member.cap.object, Kind::CNode) {
+        link(alloc, web, spec, member)?;
         return Ok(());
     }
-    if is_kind(spec, cap.object, Kind::Endpoint) {
-        hubs.attend_all(alloc, findings, net, spec, member, cap)?;
+    if is_kind(spec, member.cap.object, Kind::Endpoint) {
+        hubs.attend_all(alloc, web, spec, member)?;
         return Ok(());
     }
     Ok(())
@@ -107,25 +100,24 @@ fn thread_of(roots: &[Option<u32>], c: u32) -> Option<u32>
 /// Does what the rules ask for because of this pair.
 fn cover(
     alloc: Global,
-    findings: &mut Findings,
-    net: &mut Net,
+    web: &mut Web,
     hubs: &mut Hubs,
     spec: &Spec,
     roots: &[Option<u32>],
     pair: Pair,
 ) -> Result<(), NoMemory>
-    requires found { IsFound spec.now findings.old }
-    requires ways { AreWays spec.now findings.old net.old }
-    requires hubs { AreHubs spec.now findings.old net.old hubs.old }
+    requires found { IsFound spec.now web.old.findings }
+    requires ways { AreWays spec.now web.old.findings web.old.net }
+    requires hubs { AreHubs spec.now web.old.findings web.old.net hubs.old }
     requires roots { AreRoots spec.now roots.now }
-    requires held { Contains (held_by findings.old pair.node) pair.held }
-    ensures { OnOk result (CoversPair spec.now findings.old net.old hubs.old pair findings.new net.new hubs.new) }
+    requires held { Contains (held_by web.old.findings pair.node) pair.held }
+    ensures { OnOk result (CoversPair spec.now web.old.findings web.old.net hubs.old pair web.new.findings web.new.net hubs.new) }
 {
     let thread = match thread_of(roots, pair.node) {
         Some(thread) => thread,
         None => return Ok(()),
     };
-    let cap = match findings.value(pair.held.value) {
+    let cap = match web.findings.value(pair.held.value) {
         Some(cap) => cap,
         None => return Ok(()),
     };
@@ -133,48 +125,54 @@ fn cover(
         node: pair.node,
         thread,
         number: pair.held.number,
+        cap,
     };
-    cover_cap(alloc, findings, net, hubs, spec, member, cap)?;
+    cover_cap(alloc, web, hubs, spec, member)?;
     Ok(())
 }
 
 /// Looks at the pair at a place of the queue.
 fn look(
     alloc: Global,
-    findings: &mut Findings,
-    net: &mut Net,
+    web: &mut Web,
     hubs: &mut Hubs,
     spec: &Spec,
     roots: &[Option<u32>],
     place: usize,
 ) -> Result<(), NoMemory>
-    requires search { IsSearch spec.now findings.old net.old hubs.old place }
-    requires inside { place < length findings.old.queue }
+    requires search { IsSearch spec.now web.old.findings web.old.net hubs.old place }
+    requires inside { place < length web.old.findings.queue }
     requires roots { AreRoots spec.now roots.now }
-    ensures { OnOk result (GoesOn spec.now findings.old (place + 1) findings.new net.new hubs.new) }
+    ensures { OnOk result (GoesOn spec.now web.old.findings (place + 1) web.new.findings web.new.net hubs.new) }
 {
-    let pair = findings.pair(place);
-    go_along(findings, spec, pair.node, net.ways(pair.node), pair.held)?;
-    cover(alloc, findings, net, hubs, spec, roots, pair)?;
+    let pair = web.findings.pair(place);
+    go_along(
+        &mut web.findings,
+        spec,
+        pair.node,
+        web.net.ways(pair.node),
+        pair.held,
+    )?;
+    cover(alloc, web, hubs, spec, roots, pair)?;
     Ok(())
 }
 
 /// Looks at all pairs, also those that are found on the way.
 pub fn search(
     alloc: Global,
-    findings: &mut Findings,
-    net: &mut Net,
+    web: &mut Web,
     hubs: &mut Hubs,
     spec: &Spec,
     roots: &[Option<u32>],
 ) -> Result<(), NoMemory>
-    requires search { IsSearch spec.now findings.old net.old hubs.old 0 }
+    requires search { IsSearch spec.now web.old.findings web.old.net hubs.old 0 }
     requires roots { AreRoots spec.now roots.now }
-    ensures { OnOk result (GoesOn spec.now findings.old (length findings.new.queue) findings.new net.new hubs.new) }
+    ensures { OnOk result (GoesOn spec.now web.old.findings (length web.new.findings.queue) web.new.findings
+        web.new.net hubs.new) }
 {
     let mut done = 0;
-    while done < findings.count() {
-        look(alloc, findings, net, hubs, spec, roots, done)?;
+    while done < web.findings.count() {
+        look(alloc, web, hubs, spec, roots, done)?;
         done += 1;
     }
     Ok(())
@@ -187,17 +185,11 @@ pub fn spread(alloc: Global, spec: &Spec) -> Result<Findings, NoMemory>
     ensures closed { IfOk result (λ f. IsClosed spec.now (IsFoundAt f)) }
 {
     let n = spec.entries.len();
-    let mut findings = begin(alloc, spec)?;
-    let mut net = Net::new(alloc, n)?;
+    let findings = begin(alloc, spec)?;
+    let net = Net::new(alloc, n)?;
+    let mut web = Web { findings, net };
     let mut hubs = Hubs::new(alloc, n)?;
     let roots = roots(alloc, spec)?;
-    search(
-        alloc,
-        &mut findings,
-        &mut net,
-        &mut hubs,
-        spec,
-        roots.as_slice(),
-    )?;
-    Ok(findings)
+    search(alloc, &mut web, &mut hubs, spec, roots.as_slice())?;
+    Ok(web.findings)
 }

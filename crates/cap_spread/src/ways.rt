@@ -219,30 +219,36 @@ fn all_go(
     Ok(())
 }
 
+/// What was found, and the ways along which all of it has gone.
+#[derive(Drop)]
+pub struct Web {
+    pub findings: Findings,
+    pub net: Net,
+}
+
 /// Sees to it that ways lead from one CNode to the end of this way, and that all has gone along them.
 pub fn connect(
     alloc: Global,
-    findings: &mut Findings,
-    net: &mut Net,
+    web: &mut Web,
     spec: &Spec,
     from: u32,
     way: Way,
 ) -> Result<(), NoMemory>
-    requires found { IsFound spec.now findings.old }
-    requires ways { AreWays spec.now findings.old net.old }
-    requires way { IsWay spec.now findings.old from way }
+    requires found { IsFound spec.now web.old.findings }
+    requires ways { AreWays spec.now web.old.findings web.old.net }
+    requires way { IsWay spec.now web.old.findings from way }
     requires from { from < length spec.now.entries }
-    ensures { OnOk result (Connects spec.now findings.old net.old from way.to findings.new net.new) }
+    ensures { OnOk result (Connects spec.now web.old.findings web.old.net from way.to web.new.findings web.new.net) }
 {
-    if net.are_joined(from, way.to) {
+    if web.net.are_joined(from, way.to) {
         return Ok(());
     }
-    if net.has_way(from, way.to) {
+    if web.net.has_way(from, way.to) {
         return Ok(());
     }
-    let helds = findings.held_copy(alloc, from)?;
-    all_go(findings, spec, from, way, helds.as_slice())?;
-    net.add(from, way)?;
-    net.join_back(from, way.to);
+    let helds = web.findings.held_copy(alloc, from)?;
+    all_go(&mut web.findings, spec, from, way, helds.as_slice())?;
+    web.net.add(from, way)?;
+    web.net.join_back(from, way.to);
     Ok(())
 }

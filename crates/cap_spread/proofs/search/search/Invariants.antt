@@ -4,7 +4,7 @@ use Rattle.cap_spread.specs.Search.{unknowns}
 use Rattle.cap_spread.proofs.search.search.Given as goal
 
 abbrev pub invariant-loop-done : goal.invariant-loop-done
-invariant-loop-done l = record { on : GoesOn l.spec l.initial.findings l.done l.findings l.net l.hubs; within : l.done ≤ length l.findings.queue }
+invariant-loop-done l = record { on : GoesOn l.spec l.initial.web.findings l.done l.web.findings l.web.net l.hubs; within : l.done ≤ length l.web.findings.queue }
 
 abbrev pub decreases-loop-done : goal.decreases-loop-done
-decreases-loop-done l = (unknowns l.findings.known + length l.findings.queue) - l.done
+decreases-loop-done l = (unknowns l.web.findings.known + length l.web.findings.queue) - l.done

@@ -16,5 +16,5 @@ search-requires-clause-search c =
 
 pub returns-clause-closed : goal.returns-clause-closed
 returns-clause-closed c =
-    all_found c.args.spec.now c.search.new.findings c.search.new.net c.search.new.hubs c.in_ok-search.ensures.search
-    (slots_on c.args.spec.now c.in_ok-findings.findings c.search.new.findings c.in_ok-search.ensures.later.grows c.in_ok-findings.ensures.slots)
+    all_found c.args.spec.now c.search.new.web.findings c.search.new.web.net c.search.new.hubs c.in_ok-search.ensures.search
+    (slots_on c.args.spec.now c.in_ok-findings.findings c.search.new.web.findings c.in_ok-search.ensures.later.grows c.in_ok-findings.ensures.slots)
