@@ -85,26 +85,29 @@ fn settle_bodies<'a>(
     settled(alloc, leaves, connections, first)
 }
 
-/// The settings of all leaves and ends of a source, over its program, in the order of the flat system.
+/// The settings of all leaves and ends of a source, over its program, in the order of the flat system. The source outlives the flat
+/// system, which is made behind the program.
 ///
 /// # Errors
 ///
 /// The first fault of settings, or want of memory.
-pub fn settle_program<'a>(
+pub fn settle_program<'s: 'f, 'f>(
     alloc: Global,
-    program: &Program<'a>,
-    source: &'a Source,
-    flat: &'a Flat,
+    program: &Program<'s>,
+    source: &'s Source,
+    flat: &'f Flat,
 ) -> Result<Settled, Refused<Fault>>
     requires program { program.now ≡ hierarchy_of source.now }
     requires flat { flat.now ≡ flat_of source.now }
     ensures fault { Refuses result (first_setting_fault source.now) }
     ensures settled { IfOk result (λ x. x ≡ settled_of source.now) }
 {
-    settle_bodies(alloc, program.bodies(), source, flat)
+    let bodies = program.bodies();
+    settle_bodies(alloc, &*bodies, &*source, flat)
 }
 
-/// The settings of all leaves and ends of a source, in the order of the flat system.
+/// The settings of all leaves and ends of a source, in the order of the flat system. Its names, which aren't read, say that they
+/// were resolved before.
 ///
 /// # Errors
 ///
@@ -112,7 +115,7 @@ pub fn settle_program<'a>(
 pub fn settle<'a>(
     alloc: Global,
     source: &'a Source,
-    names: &Names,
+    _names: &Names,
     flat: &'a Flat,
 ) -> Result<Settled, Refused<Fault>>
     requires few { AreFew source.now }
@@ -120,7 +123,6 @@ pub fn settle<'a>(
     ensures fault { Refuses result (first_setting_fault source.now) }
     ensures settled { IfOk result (λ x. x ≡ settled_of source.now) }
 {
-    let _names = names;
     let bodies = bodies_of(alloc, source)?;
     settle_bodies(alloc, &bodies, source, flat)
 }

@@ -21,9 +21,9 @@ use adl_ast::Source;
 use adl_flatten::flatten_program;
 use adl_import::load;
 use adl_meaning::{Flat, Settled};
-use adl_names::resolve;
+use adl_names::check_names;
 use adl_program::{Program, program_of};
-use adl_settle::settle;
+use adl_settle::settle_program;
 use adl_types::type_fault;
 use arch_policy::policy_of;
 use auth_kinds::Policy;
@@ -152,10 +152,10 @@ fn parts_of(alloc: Global, source: &Source) -> Result<Parts, Refused<Fault>>
     ensures flat { IfOk result (λ m. m.flat ≡ flat_of source.now) }
     ensures settled { IfOk result (λ m. m.settled ≡ settled_of source.now) }
 {
-    let names = resolve(alloc, source)?;
+    check_names(alloc, source)?;
     let program = typed_program(alloc, source)?;
     let flat = flatten_program(alloc, source, &program)?;
-    let settled = settle(alloc, source, &names, &flat)?;
+    let settled = settle_program(alloc, &program, source, &flat)?;
     Ok(Parts { flat, settled })
 }
 
