@@ -5,7 +5,7 @@ use Rattle.std.specs.Option.{option_or}
 use Rattle.std.proofs.lemmas.Slice.Eq.{bytes_eq-Decides, slice_eq-Decides}
 use Rattle.adl_meaning.specs.Lists.{place_by, firsts_after}
 use Rattle.adl_meaning.specs.Paths.{Path, same_path}
-use Rattle.adl_names.proofs.NameLookups.{or_kept, or_none, or_some}
+use Rattle.name_tables.proofs.NameLookups.{or_kept, or_none, or_some}
 use Rattle.adl_flatten.specs.PathNumbers.{number_of, ArePlaces, is_met}
 
 pub same_path-Decides : (p q : Path) → Decides (same_path p q) (p ≡ q)

@@ -3,8 +3,8 @@
 ghost use Rattle.adl_flatten.specs.Ends.{flat_end_of, flat_connection_of, all_joined};
 ghost use Rattle.std.specs.Prelude.{◌≡◌, ◌<◌, ◌^◌, map, length, IfOk};
 
+use adl_items::last_name;
 use adl_meaning::{FlatConnection, FlatEnd};
-use adl_names::last_name;
 use adl_templates::{PlacedConnection, PlacedEnd};
 use cam_base::{List, NoMemory};
 use std::alloc::Global;

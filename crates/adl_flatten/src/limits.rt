@@ -3,17 +3,16 @@
 ghost use Rattle.adl_flatten.specs.TotalsOf.{totals_in};
 ghost use Rattle.adl_meaning.specs.Faults.{noted, Refuses};
 ghost use Rattle.adl_meaning.specs.Hierarchy.{Hierarchy, hierarchy_of, top_number};
-ghost use Rattle.adl_meaning.specs.Items.{AreFew, as_assembly};
+ghost use Rattle.adl_meaning.specs.Items.{AreFew};
 ghost use Rattle.adl_meaning.specs.NameFaults.{AreNamesSound};
 ghost use Rattle.adl_meaning.specs.SizeFaults.{limits_passed, first_size_fault};
-ghost use Rattle.adl_names.specs.Located.{located};
-ghost use Rattle.std.specs.List.{filter_map, slice_get};
-ghost use Rattle.std.specs.Prelude.{◌≡◌, map, option_map};
+ghost use Rattle.adl_items.specs.Located.{located};
+ghost use Rattle.std.specs.Prelude.{◌≡◌};
 
 use crate::sums::Totals;
-use adl_ast::{Assembly, Item, Source};
+use adl_ast::{Assembly, Source};
+use adl_items::{Located, all_items, first_assembly};
 use adl_meaning::Earliest;
-use adl_names::{Located, all_items};
 use cam_base::{Code, Fault, Refused};
 use std::alloc::Global;
 
@@ -37,18 +36,6 @@ fn note_limits(assembly: &Located<'_, Assembly>, totals: Totals, first: &mut Ear
     let is_passed = CONNECTIONS < totals.connections;
     first.note(is_passed, Code::Limit, place, b"connections");
     first.note(ENDS < totals.ends, Code::Limit, place, b"ends");
-}
-
-/// The first assembly among items.
-fn first_assembly<'a>(items: &[Located<'a, Item>]) -> Option<Located<'a, Assembly>>
-    ensures { option_map located result ≡ slice_get (filter_map as_assembly (map located items.now)) 0 }
-{
-    for x in items {
-        if let Item::Assembly(item) = x.item {
-            return Some(Located { at: x.at, item });
-        }
-    }
-    None
 }
 
 /// Refuses a source whose assembly, with these totals, passes a limit.

@@ -14,8 +14,8 @@ use Rattle.adl_meaning.specs.Items.{Name, as_component, items_of, component_of}
 use Rattle.adl_meaning.specs.declared.item_at.ItemAt.{ItemAt}
 use Rattle.adl_names.specs.declared.bodies.Body.TheVariants as body
 use Rattle.adl_meaning.proofs.Noting.{drop_first}
-use Rattle.adl_names.specs.Located.{located}
-use Rattle.adl_names.specs.declared.located.Located.{Located}
+use Rattle.adl_items.specs.Located.{located}
+use Rattle.adl_items.specs.declared.located.Located.{Located}
 use Rattle.adl_names.specs.declared.bodies.Body.{Body}
 use Rattle.adl_names.specs.Bodies.{as_body, body_of, item_of, body_component, body_number, bodies_of, component_at, is_named}
 

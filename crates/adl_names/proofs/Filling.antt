@@ -6,8 +6,8 @@ use Rattle.std.specs.Str.{bytes_eq}
 use Rattle.adl_meaning.specs.Items.{Name, Rises}
 use Rattle.adl_meaning.specs.declared.item_at.ItemAt.{ItemAt}
 use Rattle.adl_meaning.proofs.Noting.{drop_first}
-use Rattle.adl_names.specs.Located.{located}
-use Rattle.adl_names.specs.declared.located.Located.{Located}
+use Rattle.adl_items.specs.Located.{located}
+use Rattle.adl_items.specs.declared.located.Located.{Located}
 use Rattle.adl_names.proofs.Rising.{places, rises_drop}
 
 -- the place of the first of the name

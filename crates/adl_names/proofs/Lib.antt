@@ -1,8 +1,7 @@
 pub mod BodyLists
 pub mod Exporting
 pub mod Filling
-pub mod HeldNames
-pub mod NameLookups
+pub mod KindLists
 pub mod PortSets
 pub mod Recurring
 pub mod Repeating

@@ -11,9 +11,9 @@ use Rattle.component_graph.proofs.ComponentNumbers.{inner_at}
 use Rattle.component_graph.proofs.Lists.{has_in}
 use Rattle.numbering.proofs.Lists.{in_filter_map, get_map}
 use Rattle.adl_names.specs.Listed.{AreListed, IsListed}
-use Rattle.adl_names.specs.Located.{trees}
-use Rattle.adl_names.specs.Pointed.{pointed}
-use Rattle.adl_names.specs.declared.located.Located.{Located}
+use Rattle.adl_items.specs.Located.{trees}
+use Rattle.adl_items.specs.Pointed.{pointed}
+use Rattle.adl_items.specs.declared.located.Located.{Located}
 
 -- what an index reads is pointed to
 pub in_pointed : {X : Type 0} (rs : List (Bor X)) (k : ℕ) (r : Bor X) → k < length rs → r ≡ get_or rs k r → IsIn r.now (pointed rs)

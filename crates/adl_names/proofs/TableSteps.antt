@@ -6,13 +6,12 @@ use Rattle.std.specs.Str.{bytes_eq}
 use Rattle.std.proofs.lemmas.List.Folds.{find-append}
 use Rattle.adl_ast.specs.declared.composition.Group.{Group}
 use Rattle.adl_ast.specs.declared.composition.Instance.{Instance}
-use Rattle.adl_ast.specs.declared.composition.Line.{Line}
 use Rattle.adl_ast.specs.declared.id.Id.{Id}
-use Rattle.adl_meaning.specs.Holding.{Held, a_group, as_held, held_by, member_of}
+use Rattle.adl_meaning.specs.Holding.{Held, a_group, as_held, member_of}
 use Rattle.adl_meaning.specs.Items.{Name}
 use Rattle.adl_meaning.proofs.Noting.{drop_first}
 use Rattle.name_tables.specs.ByName.{found}
-use Rattle.adl_names.specs.Firsts.{first_held}
+use Rattle.adl_items.specs.Firsts.{first_named}
 use Rattle.adl_names.specs.Tables.{held_told, holding_told}
 use Rattle.adl_names.specs.declared.tables.Held.{Held as Entry}
 use Rattle.adl_names.specs.declared.tables.Held.TheVariants as entry
@@ -25,29 +24,29 @@ pub map-option_or : {V W : Type 0} (f : V → W) (a b : Option V) → option_map
 map-option_or f None b = refl
 map-option_or f (Some x) b = refl
 
-pub first_held-append : (xs ys : List (Id × Held)) (n : Name) → first_held (xs ++ ys) n ≡ option_or (first_held xs n) (first_held ys n)
-first_held-append xs ys n = ap (option_map (λ (h : Id × Held). h.1)) (find-append (λ (h : Id × Held). bytes_eq n h.0.name) xs ys) ∙ map-option_or (λ (h : Id × Held). h.1) _ _
+pub first_named-append : {X : Type 0} (xs ys : List (Id × X)) (n : Name) → first_named (xs ++ ys) n ≡ option_or (first_named xs n) (first_named ys n)
+first_named-append {X} xs ys n = ap (option_map (λ (h : Id × X). h.1)) (find-append (λ (h : Id × X). bytes_eq n h.0.name) xs ys) ∙ map-option_or (λ (h : Id × X). h.1) _ _
 
 -- the name of a group, and then its instances
 pub group_put : (old mid : List (Name × Entry)) (own g : Group) (new : Option Held) (n : Name) (is : List Instance) → found mid n ≡ option_or (found old n) (found ((g.id.name, entry.Group own) ∷ []) n)
-    → own ≡ g → is ≡ g.instances → new ≡ option_or (holding_told mid n) (first_held (map as_held is) n)
-    → new ≡ option_or (holding_told old n) (first_held ((g.id, a_group (member_of g)) ∷ map as_held g.instances) n)
+    → own ≡ g → is ≡ g.instances → new ≡ option_or (holding_told mid n) (first_named (map as_held is) n)
+    → new ≡ option_or (holding_told old n) (first_named ((g.id, a_group (member_of g)) ∷ map as_held g.instances) n)
 group_put old mid own g new n is put same e h =
-    h ∙ ap (λ z. option_or (holding_told mid n) (first_held (map as_held z) n)) e
-    ∙ ap (λ z. option_or (option_map held_told z) (first_held (map as_held g.instances) n)) put
-    ∙ ap (λ z. option_or z (first_held (map as_held g.instances) n)) (map-option_or held_told (found old n) (found ((g.id.name, entry.Group own) ∷ []) n))
-    ∙ option_or-assoc (holding_told old n) (option_map held_told (found ((g.id.name, entry.Group own) ∷ []) n)) (first_held (map as_held g.instances) n)
-    ∙ ap (λ z. option_or (holding_told old n) z) (by_test (bytes_eq n g.id.name) ∙ ap (λ z. first_held ((g.id, a_group (member_of z)) ∷ map as_held g.instances) n) same)
+    h ∙ ap (λ z. option_or (holding_told mid n) (first_named (map as_held z) n)) e
+    ∙ ap (λ z. option_or (option_map held_told z) (first_named (map as_held g.instances) n)) put
+    ∙ ap (λ z. option_or z (first_named (map as_held g.instances) n)) (map-option_or held_told (found old n) (found ((g.id.name, entry.Group own) ∷ []) n))
+    ∙ option_or-assoc (holding_told old n) (option_map held_told (found ((g.id.name, entry.Group own) ∷ []) n)) (first_named (map as_held g.instances) n)
+    ∙ ap (λ z. option_or (holding_told old n) z) (by_test (bytes_eq n g.id.name) ∙ ap (λ z. first_named ((g.id, a_group (member_of z)) ∷ map as_held g.instances) n) same)
   where
-    by_test : (b : Bool) → option_or (option_map held_told (cond b (Some (entry.Group own)) None)) (first_held (map as_held g.instances) n)
+    by_test : (b : Bool) → option_or (option_map held_told (cond b (Some (entry.Group own)) None)) (first_named (map as_held g.instances) n)
         ≡ option_map (λ (h : Id × Held). h.1) (cond b (Some (g.id, a_group (member_of own))) (find (λ (h : Id × Held). bytes_eq n h.0.name) (map as_held g.instances)))
     by_test true = refl
     by_test false = refl
 
--- the step of the loop over lines
-pub line_put : (old new : Option Held) (ls : List Line) (i : ℕ) (x : Line) (n : Name) → i < length ls → x ≡ get_or ls i x → new ≡ option_or old (first_held (held_by x) n)
-    → option_or new (first_held (flat_map held_by (drop (i + 1) ls)) n) ≡ option_or old (first_held (flat_map held_by (drop i ls)) n)
-line_put old new ls i x n l e h =
-    let rest = flat_map held_by (drop (i + 1) ls) in
-    ap (λ z. option_or z (first_held rest n)) h ∙ option_or-assoc old (first_held (held_by x) n) (first_held rest n)
-    ∙ ap (λ z. option_or old z) (sym (first_held-append (held_by x) rest n) ∙ ap (λ z. first_held (flat_map held_by z) n) (sym (drop_first ls i x l e)))
+-- the step of a loop over what has named things
+pub named_put : {X Y : Type 0} (by : X → List (Id × Y)) (old new : Option Y) (xs : List X) (i : ℕ) (x : X) (n : Name) → i < length xs → x ≡ get_or xs i x → new ≡ option_or old (first_named (by x) n)
+    → option_or new (first_named (flat_map by (drop (i + 1) xs)) n) ≡ option_or old (first_named (flat_map by (drop i xs)) n)
+named_put by old new xs i x n l e h =
+    let rest = flat_map by (drop (i + 1) xs) in
+    ap (λ z. option_or z (first_named rest n)) h ∙ option_or-assoc old (first_named (by x) n) (first_named rest n)
+    ∙ ap (λ z. option_or old z) (sym (first_named-append (by x) rest n) ∙ ap (λ z. first_named (flat_map by z) n) (sym (drop_first xs i x l e)))

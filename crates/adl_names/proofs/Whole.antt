@@ -13,16 +13,8 @@ use Rattle.adl_meaning.specs.Items.{items_of, assemblies}
 use Rattle.adl_meaning.specs.NameFaults.{AreNamesSound}
 use Rattle.adl_meaning.proofs.SoundNames.{one_assembly}
 use Rattle.adl_meaning.specs.declared.item_at.ItemAt.{ItemAt}
-use Rattle.adl_names.specs.Located.{located, trees}
-use Rattle.adl_names.specs.declared.located.Located.{Located}
-
--- what each item gives, over items with their places
-pub over_items : (f : Item → List Fault) (xs : List (Located Item)) (s : Source) → map located xs ≡ items_of s → flat_map (λ x. f x.item.now) xs ≡ flat_map (λ x. f x.1) (items_of s)
-over_items f xs s e = sym (flat_map-map (λ (x : ItemAt × Item). f x.1) located xs) ∙ ap (λ z. flat_map (λ (x : ItemAt × Item). f x.1) z) e
-
-pub trees-located : {T : Type 0} (xs : List (Located T)) → trees xs ≡ map (λ c. c.1) (map located xs)
-trees-located [] = refl
-trees-located (x ∷ xs) = ap (λ z. x.item.now ∷ z) (trees-located xs)
+use Rattle.adl_items.specs.Located.{located, trees}
+use Rattle.adl_items.specs.declared.located.Located.{Located}
 
 -- ---- all of them
 

@@ -1,15 +1,11 @@
 pub mod Bodies
-pub mod ByName
-pub mod Firsts
 pub mod Groups
+pub mod Laters
 pub mod Listed
-pub mod Located
 pub mod Misfits
 pub mod Places
-pub mod Pointed
 pub mod Ports
 pub mod Scopes
-pub mod Sorted
 pub mod Tables
 pub use Rattle.adl_meaning.specs.CompositeBody
 pub use Rattle.adl_meaning.specs.Export

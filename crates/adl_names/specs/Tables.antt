@@ -1,5 +1,5 @@
 -- What tables of trees tell, as definitions speak of it.
-use Rattle.std.specs.Prelude.{◌≡◌, List, Option, option_map}
+use Rattle.std.specs.Prelude.{◌≡◌, Bool, List, Option, is_some, option_map}
 use Rattle.std.specs.List.{slice_get}
 use Rattle.adl_ast.specs.declared.component.Component.{Component}
 use Rattle.adl_ast.specs.declared.composition.Composition.{Composition}
@@ -8,17 +8,20 @@ use Rattle.adl_meaning.specs.Holding as holding
 use Rattle.adl_meaning.specs.Known.{is_exported}
 use Rattle.adl_meaning.specs.Items.{Name}
 use Rattle.adl_meaning.specs.Members.{compositions, declared_as}
-use Rattle.adl_meaning.specs.Members as members
 use Rattle.name_tables.specs.ByName.{is_among, found}
 use Rattle.adl_names.specs.declared.tables.Held.{Held}
 use Rattle.adl_names.specs.declared.tables.Held.TheVariants as held
-use Rattle.adl_names.specs.declared.tables.Declared.{Declared}
-use Rattle.adl_names.specs.declared.tables.Declared.TheVariants as declared
+use Rattle.adl_items.specs.Declaring.{declaring_told}
+use Rattle.adl_items.specs.declared.component.Declared.{Declared}
 
 abbrev pub held_told : Held → holding.Held
 held_told (held.Instance r) = an_instance r.now
 held_told (held.Group g) = a_group (member_of g)
 held_told held.Connection = a_connection
+
+-- whether a table has the name
+abbrev pub has_name : {V : Type 0} → List (Name × V) → Name → Bool
+has_name table n = is_some (found table n)
 
 -- what a composition holds by name
 abbrev pub holding_told : List (Name × Held) → Name → Option holding.Held
@@ -26,15 +29,6 @@ holding_told table n = option_map held_told (found table n)
 
 abbrev pub IsHolding : List (Name × Held) → Composition → Type 0
 IsHolding table k = (n : Name) → holding_told table n ≡ held_as k n
-
-abbrev pub declared_told : Declared → members.Declared
-declared_told (declared.Interface r) = members.an_interface r.now
-declared_told (declared.Attribute r) = members.an_attribute r.now
-declared_told (declared.Lock r) = members.a_lock r.now
-
--- what a component declares by name
-abbrev pub declaring_told : List (Name × Declared) → Name → Option members.Declared
-declaring_told table n = option_map declared_told (found table n)
 
 -- the tables tell what the names of a component stand for
 pub record AreTold (declared : List (Name × Declared)) (holdings : List Composition) (targets : List Name) (c : Component) : Type 0 where

@@ -1,12 +1,12 @@
 //! The assembly of a source: there is one.
 
 ghost use Rattle.adl_meaning.specs.Faults.{noted, at_keyword, where_true};
-ghost use Rattle.adl_names.specs.Located.{located};
+ghost use Rattle.adl_items.specs.Located.{located};
 ghost use Rattle.cam_base.specs.declared.code.Code.TheVariants as code;
 ghost use Rattle.std.specs.Prelude.{◌≡◌, ◌==◌, map, drop, length};
 
-use crate::located::Located;
 use adl_ast::Assembly;
+use adl_items::Located;
 use adl_meaning::Earliest;
 use cam_base::{Code, Place};
 

@@ -1,18 +1,22 @@
 //! The components and assemblies of a source, with what the names in them stand for.
 
+ghost use Rattle.adl_meaning.specs.Duplicate.{repeats, duplicates, duplicates_in_item, duplicates_in_composition};
+ghost use Rattle.adl_meaning.specs.Faults.{noted};
 ghost use Rattle.adl_meaning.specs.Items.{items_of, procedures, component_of};
 ghost use Rattle.adl_meaning.specs.Unknown.{is_procedure};
 ghost use Rattle.adl_names.specs.Bodies.{body_of, as_body, bodies_of, body_number};
-ghost use Rattle.adl_names.specs.Located.{located};
+ghost use Rattle.adl_items.specs.Located.{located};
 ghost use Rattle.name_tables.specs.ByName.{is_among, found};
-ghost use Rattle.std.specs.List.{filter_map, find, cons_option};
+ghost use Rattle.std.specs.List.{filter_map, flat_map, find, cons_option};
 ghost use Rattle.std.specs.Option.{option_copied, option_and_then};
 ghost use Rattle.std.specs.Prelude.{◌≡◌, ◌++◌, [], ℕ, List as Seq, map, is_some, IfOk, OnOk};
 ghost use Rattle.std.specs.Str.{bytes_eq};
 
-use crate::located::{Located, SourceItems};
+use crate::repeats::{meet, note_components, note_procedure};
 use crate::tables::{ComponentTable, Holding};
 use adl_ast::{Assembly, Item, Procedure, Source};
+use adl_items::{Located, SourceItems};
+use adl_meaning::Earliest;
 use cam_base::{Name, NoMemory};
 use name_tables::{NameSet, NameTable};
 use std::alloc::Global;
@@ -42,11 +46,16 @@ impl<'a> Model for AssemblyTable<'a> {
 }
 
 impl<'a> AssemblyTable<'a> {
-    /// The table of an assembly.
-    pub fn of(alloc: Global, assembly: &'a Assembly) -> Result<AssemblyTable<'a>, NoMemory>
-        ensures { IfOk result (λ t. t ≡ assembly.entry.now) }
+    /// The table of an assembly. Notes the names that stand twice.
+    pub fn of(
+        alloc: Global,
+        assembly: &'a Assembly,
+        first: &mut Earliest<'a>,
+    ) -> Result<AssemblyTable<'a>, NoMemory>
+        ensures noted { OnOk result (first.new ≡ noted first.old (duplicates_in_composition assembly.entry.now.composition)) }
+        ensures table { IfOk result (λ t. t ≡ assembly.entry.now) }
     {
-        let holding = Holding::of(alloc, &assembly.composition)?;
+        let holding = Holding::of(alloc, &assembly.composition, first)?;
         Ok(AssemblyTable { assembly, holding })
     }
 
@@ -92,30 +101,43 @@ impl<'a> Model for SourceTables<'a> {
     ghost invariant = { λ n. AreKnown n.bodies.items n.components n.procedures n.source.now };
 }
 
-fn push_body<'a>(alloc: Global, item: &'a Item, bodies: &mut Vec<Body<'a>>) -> Result<(), NoMemory>
-    ensures { OnOk result (bodies.new.items ≡ bodies.old.items ++ cons_option (body_of item.entry.now) []) }
+fn push_body<'a>(
+    alloc: Global,
+    item: &'a Item,
+    bodies: &mut Vec<Body<'a>>,
+    first: &mut Earliest<'a>,
+) -> Result<(), NoMemory>
+    ensures noted { OnOk result (first.new ≡ noted first.old (duplicates_in_item item.entry.now)) }
+    ensures bodies { OnOk result (bodies.new.items ≡ bodies.old.items ++ cons_option (body_of item.entry.now) []) }
 {
     match item {
+        Item::Import(_) => Ok(()),
+        Item::Procedure(it) => note_procedure(alloc, it, first),
         Item::Component(it) => {
-            let table = ComponentTable::of(alloc, it)?;
+            let table = ComponentTable::of(alloc, it, first)?;
             bodies.push(Body::Component(table))?;
             Ok(())
         }
         Item::Assembly(it) => {
-            let table = AssemblyTable::of(alloc, it)?;
+            let table = AssemblyTable::of(alloc, it, first)?;
             bodies.push(Body::Assembly(table))?;
             Ok(())
         }
-        _ => Ok(()),
     }
 }
 
-fn bodies<'a>(alloc: Global, items: &[Located<'a, Item>]) -> Result<Vec<Body<'a>>, NoMemory>
-    ensures { IfOk result (λ v. v.items ≡ filter_map as_body (map located items.now)) }
+/// The components and assemblies among items. Notes what stands twice within each item.
+fn bodies<'a>(
+    alloc: Global,
+    items: &[Located<'a, Item>],
+    first: &mut Earliest<'a>,
+) -> Result<Vec<Body<'a>>, NoMemory>
+    ensures noted { OnOk result (first.new ≡ noted first.old (flat_map (λ x. duplicates_in_item x.1) (map located items.now))) }
+    ensures bodies { IfOk result (λ v. v.items ≡ filter_map as_body (map located items.now)) }
 {
     let mut bodies = Vec::new(alloc);
     for x in items {
-        push_body(alloc, x.item, &mut bodies)?;
+        push_body(alloc, x.item, &mut bodies, first)?;
     }
     Ok(bodies)
 }
@@ -133,29 +155,37 @@ fn numbers<'a>(alloc: Global, bodies: &[Body<'a>]) -> Result<NameTable<'a, usize
     Ok(numbers)
 }
 
-/// The names of procedures.
+/// The names of procedures. Notes those that stand twice.
 fn procedure_names<'a>(
     alloc: Global,
     procedures: &[Located<'a, Procedure>],
+    first: &mut Earliest<'a>,
 ) -> Result<NameSet<'a>, NoMemory>
-    ensures { IfOk result (λ t. (n : Seq ℕ) → is_among t n
+    ensures noted { OnOk result (first.new ≡ noted first.old (repeats (map (λ p. p.1.id) (map located procedures.now)))) }
+    ensures names { IfOk result (λ t. (n : Seq ℕ) → is_among t n
         ≡ is_some (find (λ p. bytes_eq n p.1.id.name) (map located procedures.now))) }
 {
     let mut names = NameSet::new(alloc);
     for x in procedures {
-        names.insert(&x.item.id.name)?;
+        meet(&x.item.id, &mut names, first)?;
     }
     Ok(names)
 }
 
 impl<'a> SourceTables<'a> {
-    /// The tables of a source.
-    pub fn of(alloc: Global, items: &SourceItems<'a>) -> Result<SourceTables<'a>, NoMemory>
-        ensures { IfOk result (λ t. t ≡ items.now) }
+    /// The tables of a source. Notes its duplicates.
+    pub fn of(
+        alloc: Global,
+        items: &SourceItems<'a>,
+        first: &mut Earliest<'a>,
+    ) -> Result<SourceTables<'a>, NoMemory>
+        ensures noted { OnOk result (first.new ≡ noted first.old (duplicates items.now)) }
+        ensures tables { IfOk result (λ t. t ≡ items.now) }
     {
-        let bodies = bodies(alloc, items.items())?;
+        let procedures = procedure_names(alloc, items.procedures(), first)?;
+        note_components(alloc, items.components(), first)?;
+        let bodies = bodies(alloc, items.items(), first)?;
         let components = numbers(alloc, bodies.as_slice())?;
-        let procedures = procedure_names(alloc, items.procedures())?;
         Ok(SourceTables {
             source: items.source(),
             bodies,

@@ -21,6 +21,7 @@ use crate::bodies::{Body, SourceTables};
 use crate::port::{Port, PortSet};
 use crate::tables::{ComponentTable, Held, Holding};
 use adl_ast::{Connection, Export, Id, Interface, Line};
+use adl_items::last_name;
 use adl_meaning::Earliest;
 use cam_base::{Code, Name, NoMemory, Place};
 use name_tables::NameSet;
@@ -103,16 +104,6 @@ fn is_unled<'a>(tables: &SourceTables<'a>, port: &Option<Port<'a>>) -> bool
             None => false,
             Some(table) => ends_in(table, port.interface),
         },
-    }
-}
-
-/// The last word of a dotted name.
-pub fn last_name(words: &[Id]) -> &[u8]
-    ensures { result.now ≡ last_name words.now }
-{
-    match words.last() {
-        None => b"",
-        Some(last) => last.name.as_bytes(),
     }
 }
 

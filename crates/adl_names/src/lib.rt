@@ -7,7 +7,6 @@
 mod assemblies;
 mod bodies;
 mod exports;
-mod located;
 mod misplaced;
 mod names;
 mod parts;
@@ -18,10 +17,4 @@ mod scope;
 mod tables;
 mod unknown;
 
-pub use exports::last_name;
-pub use located::{Located, all_items, components};
-pub use misplaced::is_device;
-pub use name_tables::NameTable;
-pub use names::{Names, check_names, resolve};
-pub use recursion::component_numbers;
-pub use tables::{Declared, composition_of, declaring};
+pub use names::{check_names, resolve};

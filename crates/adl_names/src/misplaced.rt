@@ -1,6 +1,6 @@
 //! Members that a composite, a device or a plain component can't have.
 
-ghost use Rattle.adl_meaning.specs.CompositeBody.{is_composition, is_hardware, is_composite, is_device, body_fault};
+ghost use Rattle.adl_meaning.specs.CompositeBody.{is_composition, is_composite, body_fault};
 ghost use Rattle.adl_meaning.specs.CompositeBody.{misplaced_member, misplaced_in_component, misplaced_in_item, composite_bodies};
 ghost use Rattle.adl_meaning.specs.Faults.{noted, where_true};
 ghost use Rattle.adl_names.specs.Bodies.{item_of};
@@ -8,6 +8,7 @@ ghost use Rattle.std.specs.Prelude.{◌≡◌};
 
 use crate::bodies::{Body, SourceTables};
 use adl_ast::{Component, Member};
+use adl_items::is_device;
 use adl_meaning::Earliest;
 use cam_base::{Code, Place};
 
@@ -15,12 +16,6 @@ fn is_composition(member: &Member) -> bool
     ensures { result ≡ is_composition member.now }
 {
     matches!(member, Member::Composition(_))
-}
-
-fn is_hardware(member: &Member) -> bool
-    ensures { result ≡ is_hardware member.now }
-{
-    matches!(member, Member::Hardware(_))
 }
 
 fn is_composite(component: &Component) -> bool
@@ -31,13 +26,6 @@ fn is_composite(component: &Component) -> bool
         .as_slice()
         .iter()
         .any(|m| is_composition(m))
-}
-
-/// Whether the component says `hardware`.
-pub fn is_device(component: &Component) -> bool
-    ensures { result ≡ is_device component.now }
-{
-    component.members.as_slice().iter().any(|m| is_hardware(m))
 }
 
 fn note_place<'a>(is_wrong: bool, place: Place, first: &mut Earliest<'a>)

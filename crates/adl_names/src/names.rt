@@ -5,7 +5,7 @@ ghost use Rattle.adl_meaning.specs.Items.{procedures, components, assemblies, pr
 ghost use Rattle.adl_meaning.specs.NameFaults.{first_name_fault, AreNamesSound};
 ghost use Rattle.adl_meaning.specs.NoAssembly.{no_assembly};
 ghost use Rattle.adl_meaning.specs.SecondAssembly.{second_assemblies};
-ghost use Rattle.adl_names.specs.Located.{located};
+ghost use Rattle.adl_items.specs.Located.{located};
 ghost use Rattle.adl_names.specs.Places.{table_places};
 ghost use Rattle.indexmap.specs.IndexMap.{get};
 ghost use Rattle.std.specs.List.{find};
@@ -16,24 +16,15 @@ ghost use Rattle.std.specs.Str.{bytes_eq};
 use crate::assemblies::{note_none, note_second};
 use crate::bodies::SourceTables;
 use crate::exports::note_misfits;
-use crate::located::{Located, SourceItems};
 use crate::misplaced::note_misplaced;
 use crate::recursion::note_recursive;
-use crate::repeats::note_duplicates;
 use crate::unknown::note_unknown;
 use adl_ast::{Component, Procedure, Source};
+use adl_items::{Located, Names, SourceItems};
 use adl_meaning::{Earliest, ItemAt};
 use cam_base::{Fault, Name, NoMemory, Refused};
 use indexmap::IndexMap;
 use std::alloc::Global;
-
-/// The first procedure and the first component of each name, in source order, and the assembly.
-#[derive(Drop)]
-pub struct Names {
-    pub procedures: IndexMap<Name, ItemAt>,
-    pub components: IndexMap<Name, ItemAt>,
-    pub assembly: ItemAt,
-}
 
 fn note_assemblies<'a>(items: &SourceItems<'a>, first: &mut Earliest<'a>)
     ensures { first.new ≡ noted first.old (second_assemblies items.now ++ no_assembly items.now) }
@@ -49,8 +40,7 @@ fn first_fault<'a>(alloc: Global, items: &SourceItems<'a>) -> Result<Earliest<'a
 {
     let mut first = Earliest::none();
     note_assemblies(items, &mut first);
-    note_duplicates(alloc, items, &mut first)?;
-    let tables = SourceTables::of(alloc, items)?;
+    let tables = SourceTables::of(alloc, items, &mut first)?;
     note_unknown(&tables, &mut first);
     note_recursive(alloc, items, &mut first)?;
     note_misplaced(&tables, &mut first);

@@ -6,35 +6,20 @@ ghost use Rattle.adl_meaning.specs.Recursive.{number_named, types_of, graph_of, 
 ghost use Rattle.name_tables.specs.ByName.{found};
 ghost use Rattle.component_graph.specs.Numbers.{AreBelow};
 ghost use Rattle.adl_names.specs.Listed.{AreListed, IsListed};
-ghost use Rattle.adl_names.specs.Located.{trees};
-ghost use Rattle.adl_names.specs.Pointed.{pointed};
+ghost use Rattle.adl_items.specs.Located.{trees};
+ghost use Rattle.adl_items.specs.Pointed.{pointed};
 ghost use Rattle.std.specs.List.{flat_map, filter_map, enumerate_from};
 ghost use Rattle.std.specs.Option.{ForSome};
 ghost use Rattle.std.specs.Prelude.{◌≡◌, ◌<◌, ◌^◌, ℕ, List as Seq, true, length, IfOk, OnOk};
 
-use crate::located::{Located, SourceItems};
 use crate::parts::instances;
 use adl_ast::{Component, Instance};
+use adl_items::{Located, SourceItems, component_numbers};
 use adl_meaning::Earliest;
 use cam_base::{Code, List, NoMemory};
 use component_graph::Cycles;
 use name_tables::NameTable;
 use std::alloc::Global;
-
-/// The number of the first component of each name.
-pub fn component_numbers<'a>(
-    alloc: Global,
-    components: &[Located<'a, Component>],
-) -> Result<NameTable<'a, u32>, NoMemory>
-    requires { length components.now < 2 ^ 32 }
-    ensures { IfOk result (λ t. (n : Seq ℕ) → found t n ≡ number_named (trees components.now) n) }
-{
-    let mut table = NameTable::new(alloc);
-    for (i, x) in components.iter().enumerate() {
-        table.add(&x.item.id.name, i as u32)?;
-    }
-    Ok(table)
-}
 
 /// The numbers of the components that instances name.
 fn types(

@@ -1,31 +1,46 @@
 //! Later ones of equal names, and second compositions and configurations.
 
-ghost use Rattle.adl_meaning.specs.Duplicate.{repeats, again, repeated_params, duplicates};
-ghost use Rattle.adl_meaning.specs.Duplicate.{duplicates_in_procedure, duplicates_in_composition, duplicates_in_component, duplicates_in_item};
-ghost use Rattle.adl_meaning.specs.Faults.{noted, where_true, at_word};
-ghost use Rattle.adl_meaning.specs.Items.{procedures, components};
-ghost use Rattle.name_tables.specs.ByName.{is_among};
-ghost use Rattle.adl_names.specs.Pointed.{pointed};
-ghost use Rattle.cam_base.specs.declared.code.Code.TheVariants as code;
+ghost use Rattle.adl_ast.specs.declared.id.Id.{Id as Word};
+ghost use Rattle.adl_items.specs.Located.{located};
+ghost use Rattle.adl_meaning.specs.Duplicate.{methods, again, repeats, repeats_after, repeated_params, duplicates_in_procedure};
+ghost use Rattle.adl_meaning.specs.Faults.{noted};
+ghost use Rattle.adl_meaning.specs.Members.{compositions, configurations};
+ghost use Rattle.adl_names.specs.Tables.{has_name};
+ghost use Rattle.name_tables.specs.ByName.{is_among, found};
 ghost use Rattle.std.specs.List.{flat_map};
-ghost use Rattle.std.specs.Prelude.{◌≡◌, ◌++◌, ◌||◌, ℕ, List as Seq, map, OnOk};
+ghost use Rattle.std.specs.Option.{option_or};
+ghost use Rattle.std.specs.Prelude.{◌≡◌, ◌∷◌, ◌||◌, [], ℕ, List as Seq, map, OnOk};
 ghost use Rattle.std.specs.Str.{bytes_eq};
 
-use crate::located::SourceItems;
-use crate::parts::{
-    component_ids, compositions, configurations, declared_ids, held_ids, method_ids, methods,
-    param_ids, procedure_ids,
-};
-use adl_ast::{Component, Composition, Configuration, Id, Item, Method, Procedure};
+use adl_ast::{Component, Id, Member, Param, ProcMember, Procedure};
+use adl_items::Located;
 use adl_meaning::Earliest;
-use cam_base::{Code, NoMemory, Place};
-use name_tables::NameSet;
+use cam_base::{Code, NoMemory};
+use name_tables::{NameSet, NameTable};
 use std::alloc::Global;
 
-/// Takes the next name, or notes that it was met before.
-fn meet<'a>(id: &'a Id, met: &mut NameSet<'a>, first: &mut Earliest<'a>) -> Result<(), NoMemory>
-    ensures first { OnOk result (first.new
-        ≡ noted first.old (where_true (is_among met.old id.entry.now.name) (at_word code.Duplicate id.entry.now))) }
+/// Puts a value under the name of a word, or notes that an earlier one has the name. What is noted behind it, is noted of the
+/// words from it on.
+pub fn put<'a, V: Drop>(
+    id: &'a Id,
+    value: V,
+    table: &mut NameTable<'a, V>,
+    first: &mut Earliest<'a>,
+) -> Result<(), NoMemory>
+    ensures noted { OnOk result ((more : Seq Word) → noted first.new (repeats_after (has_name table.new) more)
+        ≡ noted first.old (repeats_after (has_name table.old) (id.entry.now ∷ more))) }
+    ensures found { OnOk result ((n : Seq ℕ) → found table.new n
+        ≡ option_or (found table.old n) (found ((id.entry.now.name, value) ∷ []) n)) }
+{
+    let is_met = table.put(&id.name, value)?;
+    first.note(is_met, Code::Duplicate, id.place, id.name.as_bytes());
+    Ok(())
+}
+
+/// The same of a set.
+pub fn meet<'a>(id: &'a Id, met: &mut NameSet<'a>, first: &mut Earliest<'a>) -> Result<(), NoMemory>
+    ensures noted { OnOk result ((more : Seq Word) → noted first.new (repeats_after (is_among met.new) more)
+        ≡ noted first.old (repeats_after (is_among met.old) (id.entry.now ∷ more))) }
     ensures met { OnOk result ((n : Seq ℕ) → is_among met.new n ≡ (is_among met.old n || bytes_eq n id.entry.now.name)) }
 {
     let is_met = met.contains(&id.name);
@@ -33,155 +48,101 @@ fn meet<'a>(id: &'a Id, met: &mut NameSet<'a>, first: &mut Earliest<'a>) -> Resu
     met.insert(&id.name)
 }
 
-/// Notes each word whose name an earlier one has.
-fn note_repeats<'a>(alloc: Global, ids: &[&'a Id], first: &mut Earliest<'a>) -> Result<(), NoMemory>
-    ensures { OnOk result (first.new ≡ noted first.old (repeats (pointed ids.now))) }
+/// Notes the later ones of components of one name.
+pub fn note_components<'a>(
+    alloc: Global,
+    components: &[Located<'a, Component>],
+    first: &mut Earliest<'a>,
+) -> Result<(), NoMemory>
+    ensures { OnOk result (first.new ≡ noted first.old (repeats (map (λ c. c.1.id) (map located components.now)))) }
 {
     let mut met = NameSet::new(alloc);
-    for id in ids {
-        meet(id, &mut met, first)?;
+    for x in components {
+        meet(&x.item.id, &mut met, first)?;
     }
     Ok(())
 }
 
-/// Notes each composition but the first.
-fn note_compositions<'a>(compositions: &[&'a Composition], first: &mut Earliest<'a>)
-    ensures { first.new ≡ noted first.old (again (map (λ k. k.place) (pointed compositions.now))) }
-{
-    if let [_, later @ ..] = compositions {
-        for composition in later {
-            first.note(true, Code::Duplicate, composition.place, b"");
-        }
-    }
-}
-
-/// Notes each configuration but the first.
-fn note_configurations<'a>(configurations: &[&'a Configuration], first: &mut Earliest<'a>)
-    ensures { first.new ≡ noted first.old (again (map (λ f. f.place) (pointed configurations.now))) }
-{
-    if let [_, later @ ..] = configurations {
-        for configuration in later {
-            first.note(true, Code::Duplicate, configuration.place, b"");
-        }
-    }
-}
-
-fn note_method<'a>(
+fn note_params<'a>(
     alloc: Global,
-    method: &'a Method,
+    params: &'a [Param],
     first: &mut Earliest<'a>,
 ) -> Result<(), NoMemory>
-    ensures { OnOk result (first.new ≡ noted first.old (repeated_params method.entry.now)) }
+    ensures { OnOk result (first.new ≡ noted first.old (repeats (map (λ a. a.id) params.entry.now))) }
 {
-    let ids = param_ids(alloc, method.params.as_slice())?;
-    note_repeats(alloc, ids.as_slice(), first)
+    let mut met = NameSet::new(alloc);
+    for param in params {
+        meet(&param.id, &mut met, first)?;
+    }
+    Ok(())
 }
 
 fn note_methods<'a>(
     alloc: Global,
-    methods: &[&'a Method],
+    procedure: &'a Procedure,
     first: &mut Earliest<'a>,
 ) -> Result<(), NoMemory>
-    ensures { OnOk result (first.new ≡ noted first.old (flat_map repeated_params (pointed methods.now))) }
+    ensures { OnOk result (first.new ≡ noted first.old (repeats (map (λ m. m.id) (methods procedure.entry.now)))) }
 {
-    for method in methods {
-        note_method(alloc, method, first)?;
+    let mut met = NameSet::new(alloc);
+    for member in procedure.members.as_slice() {
+        if let ProcMember::Method(method) = member {
+            meet(&method.id, &mut met, first)?;
+        }
     }
     Ok(())
 }
 
+fn note_all_params<'a>(
+    alloc: Global,
+    procedure: &'a Procedure,
+    first: &mut Earliest<'a>,
+) -> Result<(), NoMemory>
+    ensures { OnOk result (first.new ≡ noted first.old (flat_map repeated_params (methods procedure.entry.now))) }
+{
+    for member in procedure.members.as_slice() {
+        if let ProcMember::Method(method) = member {
+            note_params(alloc, method.params.as_slice(), first)?;
+        }
+    }
+    Ok(())
+}
+
+/// Notes the later ones of a procedure's methods and of their parameters.
 #[tactic(auto, using(adl_meaning::proofs::Noting::noting))]
-fn note_procedure<'a>(
+pub fn note_procedure<'a>(
     alloc: Global,
     procedure: &'a Procedure,
     first: &mut Earliest<'a>,
 ) -> Result<(), NoMemory>
     ensures { OnOk result (first.new ≡ noted first.old (duplicates_in_procedure procedure.entry.now)) }
 {
-    let methods = methods(alloc, procedure)?;
-    let ids = method_ids(alloc, methods.as_slice())?;
-    note_repeats(alloc, ids.as_slice(), first)?;
-    note_methods(alloc, methods.as_slice(), first)
+    note_methods(alloc, procedure, first)?;
+    note_all_params(alloc, procedure, first)
 }
 
-fn note_composition<'a>(
-    alloc: Global,
-    composition: &'a Composition,
-    first: &mut Earliest<'a>,
-) -> Result<(), NoMemory>
-    ensures { OnOk result (first.new ≡ noted first.old (duplicates_in_composition composition.entry.now)) }
+/// Notes each composition of a component but the first.
+pub fn note_compositions<'a>(component: &'a Component, first: &mut Earliest<'a>)
+    ensures { first.new ≡ noted first.old (again (map (λ k. k.place) (compositions component.entry.now))) }
 {
-    let ids = held_ids(alloc, composition)?;
-    note_repeats(alloc, ids.as_slice(), first)
-}
-
-fn note_held<'a>(
-    alloc: Global,
-    compositions: &[&'a Composition],
-    first: &mut Earliest<'a>,
-) -> Result<(), NoMemory>
-    ensures { OnOk result (first.new ≡ noted first.old (flat_map duplicates_in_composition (pointed compositions.now))) }
-{
-    for composition in compositions {
-        note_composition(alloc, composition, first)?;
-    }
-    Ok(())
-}
-
-#[tactic(auto, using(adl_meaning::proofs::Noting::noting))]
-fn note_component<'a>(
-    alloc: Global,
-    component: &'a Component,
-    first: &mut Earliest<'a>,
-) -> Result<(), NoMemory>
-    ensures { OnOk result (first.new ≡ noted first.old (duplicates_in_component component.entry.now)) }
-{
-    let ids = declared_ids(alloc, component)?;
-    note_repeats(alloc, ids.as_slice(), first)?;
-    let compositions = compositions(alloc, component)?;
-    note_compositions(compositions.as_slice(), first);
-    let configurations = configurations(alloc, component)?;
-    note_configurations(configurations.as_slice(), first);
-    note_held(alloc, compositions.as_slice(), first)
-}
-
-fn note_item<'a>(alloc: Global, item: &'a Item, first: &mut Earliest<'a>) -> Result<(), NoMemory>
-    ensures { OnOk result (first.new ≡ noted first.old (duplicates_in_item item.entry.now)) }
-{
-    match item {
-        Item::Import(_) => Ok(()),
-        Item::Procedure(procedure) => note_procedure(alloc, procedure, first),
-        Item::Component(component) => note_component(alloc, component, first),
-        Item::Assembly(assembly) => note_composition(alloc, &assembly.composition, first),
+    let mut is_later = false;
+    for member in component.members.as_slice() {
+        if let Member::Composition(composition) = member {
+            first.note(is_later, Code::Duplicate, composition.place, b"");
+            is_later = true;
+        }
     }
 }
 
-fn note_names<'a>(
-    alloc: Global,
-    items: &SourceItems<'a>,
-    first: &mut Earliest<'a>,
-) -> Result<(), NoMemory>
-    ensures { OnOk result (first.new ≡ noted first.old
-        (repeats (map (λ p. p.1.id) (procedures items.now)) ++ repeats (map (λ c. c.1.id) (components items.now)))) }
+/// Notes each configuration of a component but the first.
+pub fn note_configurations<'a>(component: &'a Component, first: &mut Earliest<'a>)
+    ensures { first.new ≡ noted first.old (again (map (λ f. f.place) (configurations component.entry.now))) }
 {
-    let procedures = procedure_ids(alloc, items.procedures())?;
-    note_repeats(alloc, procedures.as_slice(), first)?;
-    let components = component_ids(alloc, items.components())?;
-    note_repeats(alloc, components.as_slice(), first)?;
-    Ok(())
-}
-
-/// Notes the duplicates of a source.
-pub fn note_duplicates<'a>(
-    alloc: Global,
-    items: &SourceItems<'a>,
-    first: &mut Earliest<'a>,
-) -> Result<(), NoMemory>
-    ensures { OnOk result (first.new ≡ noted first.old (duplicates items.now)) }
-{
-    note_names(alloc, items, first)?;
-    for x in items.items() {
-        note_item(alloc, x.item, first)?;
+    let mut is_later = false;
+    for member in component.members.as_slice() {
+        if let Member::Configuration(configuration) = member {
+            first.note(is_later, Code::Duplicate, configuration.place, b"");
+            is_later = true;
+        }
     }
-    Ok(())
 }

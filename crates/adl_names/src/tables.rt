@@ -1,16 +1,24 @@
 //! Tables of what the names of compositions and components stand for.
 
+ghost use Rattle.adl_ast.specs.declared.id.Id.{Id as Word};
+ghost use Rattle.adl_items.specs.Declaring.{declaring_told};
+ghost use Rattle.adl_items.specs.Firsts.{first_named};
+ghost use Rattle.adl_meaning.specs.Duplicate.{repeats, repeats_after, duplicates_in_composition, duplicates_in_component};
+ghost use Rattle.adl_meaning.specs.Faults.{noted};
 ghost use Rattle.adl_meaning.specs.Holding.{as_held, a_group, held_by, held_as, member_of, exports_in};
 ghost use Rattle.adl_meaning.specs.Known.{is_target, is_exported};
-ghost use Rattle.adl_meaning.specs.Members.{declared_as, interface_of, attribute_of, compositions, composition_of};
+ghost use Rattle.adl_meaning.specs.Members.{declared_as, declared_by, declared_in, interface_of, attribute_of, compositions, composition_of};
 ghost use Rattle.adl_names.specs.Groups.{AreMembers};
-ghost use Rattle.adl_names.specs.Tables.{held_told, holding_told, declaring_told, IsHolding};
-ghost use Rattle.adl_names.specs.Firsts.{first_held};
+ghost use Rattle.adl_names.specs.Tables.{has_name, held_told, holding_told, IsHolding};
 ghost use Rattle.name_tables.specs.ByName.{is_among};
+ghost use Rattle.std.specs.List.{flat_map};
 ghost use Rattle.std.specs.Option.{option_or, option_copied};
-ghost use Rattle.std.specs.Prelude.{◌≡◌, ◌∷◌, ℕ, List as Seq, map, option_map, OnOk, IfOk};
+ghost use Rattle.std.specs.Prelude.{◌≡◌, ◌∷◌, ◌++◌, ℕ, List as Seq, map, option_map, OnOk, IfOk};
 
-use adl_ast::{Attribute, Component, Composition, Group, Instance, Interface, Line, Lock, Member};
+use crate::repeats::{note_compositions, note_configurations, put};
+use adl_ast::{Attribute, Component, Composition, Group, Instance, Interface, Line, Member};
+use adl_items::{Declared, composition_of};
+use adl_meaning::Earliest;
 use cam_base::{Name, NoMemory};
 use name_tables::{NameSet, NameTable};
 use std::alloc::Global;
@@ -60,14 +68,6 @@ impl<'a> Model for Holding<'a> {
     ghost view = { λ h. h.composition.now };
 
     ghost invariant = { λ h. IsHolding h.held h.composition.now };
-}
-
-/// What a component declares under a name.
-#[derive(Drop)]
-pub enum Declared<'a> {
-    Interface(&'a Interface),
-    Attribute(&'a Attribute),
-    Lock(&'a Lock),
 }
 
 /// A component with what its names stand for. Contracts see it as the component.
@@ -132,12 +132,15 @@ fn group_members<'a>(
 fn add_instances<'a>(
     instances: &'a [Instance],
     table: &mut NameTable<'a, Held<'a>>,
+    first: &mut Earliest<'a>,
 ) -> Result<(), NoMemory>
-    ensures { OnOk result ((n : Seq ℕ) → holding_told table.new n
-        ≡ option_or (holding_told table.old n) (first_held (map as_held instances.now) n)) }
+    ensures noted { OnOk result ((more : Seq Word) → noted first.new (repeats_after (has_name table.new) more)
+        ≡ noted first.old (repeats_after (has_name table.old) (map (λ h. h.0) (map as_held instances.entry.now) ++ more))) }
+    ensures found { OnOk result ((n : Seq ℕ) → holding_told table.new n
+        ≡ option_or (holding_told table.old n) (first_named (map as_held instances.entry.now) n)) }
 {
     for instance in instances {
-        table.add(&instance.id.name, Held::Instance(instance))?;
+        put(&instance.id, Held::Instance(instance), table, first)?;
     }
     Ok(())
 }
@@ -146,13 +149,16 @@ fn add_group<'a>(
     alloc: Global,
     group: &'a Group,
     table: &mut NameTable<'a, Held<'a>>,
+    first: &mut Earliest<'a>,
 ) -> Result<(), NoMemory>
-    ensures { OnOk result ((n : Seq ℕ) → holding_told table.new n
-        ≡ option_or (holding_told table.old n) (first_held ((group.now.id, a_group (member_of group.now)) ∷ map as_held group.now.instances) n)) }
+    ensures noted { OnOk result ((more : Seq Word) → noted first.new (repeats_after (has_name table.new) more)
+        ≡ noted first.old (repeats_after (has_name table.old) (group.entry.now.id ∷ (map (λ h. h.0) (map as_held group.entry.now.instances) ++ more)))) }
+    ensures found { OnOk result ((n : Seq ℕ) → holding_told table.new n
+        ≡ option_or (holding_told table.old n) (first_named ((group.entry.now.id, a_group (member_of group.entry.now)) ∷ map as_held group.entry.now.instances) n)) }
 {
     let own = Members::of(alloc, group)?;
-    table.add(&group.id.name, Held::Group(own))?;
-    add_instances(group.instances.as_slice(), table)?;
+    put(&group.id, Held::Group(own), table, first)?;
+    add_instances(group.instances.as_slice(), table, first)?;
     Ok(())
 }
 
@@ -160,38 +166,48 @@ fn add_line<'a>(
     alloc: Global,
     line: &'a Line,
     table: &mut NameTable<'a, Held<'a>>,
+    first: &mut Earliest<'a>,
 ) -> Result<(), NoMemory>
-    ensures { OnOk result ((n : Seq ℕ) → holding_told table.new n
-        ≡ option_or (holding_told table.old n) (first_held (held_by line.now) n)) }
+    ensures noted { OnOk result ((more : Seq Word) → noted first.new (repeats_after (has_name table.new) more)
+        ≡ noted first.old (repeats_after (has_name table.old) (map (λ h. h.0) (held_by line.entry.now) ++ more))) }
+    ensures found { OnOk result ((n : Seq ℕ) → holding_told table.new n
+        ≡ option_or (holding_told table.old n) (first_named (held_by line.entry.now) n)) }
 {
     match line {
-        Line::Instance(instance) => table.add(&instance.id.name, Held::Instance(instance)),
-        Line::Group(group) => add_group(alloc, group, table),
-        Line::Connection(connection) => table.add(&connection.id.name, Held::Connection),
+        Line::Instance(instance) => put(&instance.id, Held::Instance(instance), table, first),
+        Line::Group(group) => add_group(alloc, group, table, first),
+        Line::Connection(connection) => put(&connection.id, Held::Connection, table, first),
         Line::Export(_) => Ok(()),
     }
 }
 
-/// What a composition holds by name.
+/// What a composition holds by name. Notes the names that stand twice.
 fn all_held<'a>(
     alloc: Global,
     composition: &'a Composition,
+    first: &mut Earliest<'a>,
 ) -> Result<NameTable<'a, Held<'a>>, NoMemory>
-    ensures { IfOk result (λ t. IsHolding t composition.entry.now) }
+    ensures noted { OnOk result (first.new ≡ noted first.old (duplicates_in_composition composition.entry.now)) }
+    ensures held { IfOk result (λ t. IsHolding t composition.entry.now) }
 {
     let mut table = NameTable::new(alloc);
     for line in composition.lines.as_slice() {
-        add_line(alloc, line, &mut table)?;
+        add_line(alloc, line, &mut table, first)?;
     }
     Ok(table)
 }
 
 impl<'a> Holding<'a> {
-    /// The table of a composition.
-    pub fn of(alloc: Global, composition: &'a Composition) -> Result<Holding<'a>, NoMemory>
-        ensures { IfOk result (λ h. h ≡ composition.entry.now) }
+    /// The table of a composition. Notes the names that stand twice.
+    pub fn of(
+        alloc: Global,
+        composition: &'a Composition,
+        first: &mut Earliest<'a>,
+    ) -> Result<Holding<'a>, NoMemory>
+        ensures noted { OnOk result (first.new ≡ noted first.old (duplicates_in_composition composition.entry.now)) }
+        ensures holding { IfOk result (λ h. h ≡ composition.entry.now) }
     {
-        let held = all_held(alloc, composition)?;
+        let held = all_held(alloc, composition, first)?;
         Ok(Holding { composition, held })
     }
 
@@ -203,33 +219,54 @@ impl<'a> Holding<'a> {
     }
 }
 
-/// What a component declares by name.
-pub fn declaring<'a>(
+fn declare<'a>(
+    member: &'a Member,
+    table: &mut NameTable<'a, Declared<'a>>,
+    first: &mut Earliest<'a>,
+) -> Result<(), NoMemory>
+    ensures noted { OnOk result ((more : Seq Word) → noted first.new (repeats_after (has_name table.new) more)
+        ≡ noted first.old (repeats_after (has_name table.old) (map (λ d. d.0) (declared_by member.entry.now) ++ more))) }
+    ensures found { OnOk result ((n : Seq ℕ) → declaring_told table.new n
+        ≡ option_or (declaring_told table.old n) (first_named (declared_by member.entry.now) n)) }
+{
+    match member {
+        Member::Interface(it) => put(&it.id, Declared::Interface(it), table, first),
+        Member::Attribute(it) => put(&it.id, Declared::Attribute(it), table, first),
+        Member::Lock(it) => put(&it.id, Declared::Lock(it), table, first),
+        _ => Ok(()),
+    }
+}
+
+/// What a component declares by name. Notes the names that stand twice.
+fn declaring<'a>(
     alloc: Global,
     component: &'a Component,
+    first: &mut Earliest<'a>,
 ) -> Result<NameTable<'a, Declared<'a>>, NoMemory>
-    ensures { IfOk result (λ t. (n : Seq ℕ) → declaring_told t n ≡ declared_as component.now n) }
+    ensures noted { OnOk result (first.new ≡ noted first.old (repeats (map (λ d. d.0) (declared_in component.entry.now)))) }
+    ensures declared { IfOk result (λ t. (n : Seq ℕ) → declaring_told t n ≡ declared_as component.entry.now n) }
 {
     let mut table = NameTable::new(alloc);
     for member in component.members.as_slice() {
-        match member {
-            Member::Interface(it) => table.add(&it.id.name, Declared::Interface(it))?,
-            Member::Attribute(it) => table.add(&it.id.name, Declared::Attribute(it))?,
-            Member::Lock(it) => table.add(&it.id.name, Declared::Lock(it))?,
-            _ => (),
-        }
+        declare(member, &mut table, first)?;
     }
     Ok(table)
 }
 
-/// What the compositions of a component hold.
-fn holdings<'a>(alloc: Global, component: &'a Component) -> Result<Vec<Holding<'a>>, NoMemory>
-    ensures { IfOk result (λ v. v.items ≡ compositions component.now) }
+/// What the compositions of a component hold. Notes the names that stand twice in one.
+fn holdings<'a>(
+    alloc: Global,
+    component: &'a Component,
+    first: &mut Earliest<'a>,
+) -> Result<Vec<Holding<'a>>, NoMemory>
+    ensures noted { OnOk result (first.new
+        ≡ noted first.old (flat_map duplicates_in_composition (compositions component.entry.now))) }
+    ensures holdings { IfOk result (λ v. v.items ≡ compositions component.entry.now) }
 {
     let mut holdings = Vec::new(alloc);
     for member in component.members.as_slice() {
         if let Member::Composition(composition) = member {
-            holdings.push(Holding::of(alloc, composition)?)?;
+            holdings.push(Holding::of(alloc, composition, first)?)?;
         }
     }
     Ok(holdings)
@@ -251,26 +288,22 @@ fn targets<'a>(alloc: Global, composition: Option<&'a Composition>) -> Result<Na
     Ok(targets)
 }
 
-/// The composition of a composite, the first.
-pub fn composition_of(component: &Component) -> Option<&Composition>
-    ensures { option_copied result ≡ composition_of component.now }
-{
-    for member in component.members.as_slice() {
-        if let Member::Composition(composition) = member {
-            return Some(composition);
-        }
-    }
-    None
-}
-
 impl<'a> ComponentTable<'a> {
-    /// The table of a component.
-    pub fn of(alloc: Global, component: &'a Component) -> Result<ComponentTable<'a>, NoMemory>
-        ensures { IfOk result (λ t. t ≡ component.entry.now) }
+    /// The table of a component. Notes the names that stand twice, and second compositions and configurations.
+    #[tactic(auto, using(adl_meaning::proofs::Noting::noting))]
+    pub fn of(
+        alloc: Global,
+        component: &'a Component,
+        first: &mut Earliest<'a>,
+    ) -> Result<ComponentTable<'a>, NoMemory>
+        ensures noted { OnOk result (first.new ≡ noted first.old (duplicates_in_component component.entry.now)) }
+        ensures table { IfOk result (λ t. t ≡ component.entry.now) }
     {
-        let declared = declaring(alloc, component)?;
+        let declared = declaring(alloc, component, first)?;
+        note_compositions(component, first);
+        note_configurations(component, first);
         let targets = targets(alloc, composition_of(component))?;
-        let holdings = holdings(alloc, component)?;
+        let holdings = holdings(alloc, component, first)?;
         Ok(ComponentTable {
             component,
             declared,

@@ -10,7 +10,7 @@ use Rattle.numbering.specs.Gather.{IsIn}
 use Rattle.adl_meaning.specs.Hierarchy.{Hierarchy, Part, body, is_composite, export_named, exports_of, port_in}
 use Rattle.adl_meaning.specs.Items.{Name}
 use Rattle.adl_meaning.specs.Joins.{Reached, reached}
-use Rattle.adl_names.specs.ByName.{found}
+use Rattle.name_tables.specs.ByName.{found}
 use Rattle.adl_program.specs.declared.leads.LeafPort.{LeafPort}
 
 abbrev pub port_at : Hierarchy → Reached → LeafPort

@@ -1,5 +1,4 @@
 pub mod Leads
 pub mod LeafInterfaces
 pub mod Lines
-pub mod Needed
 pub mod Seen

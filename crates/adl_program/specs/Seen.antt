@@ -11,9 +11,8 @@ use Rattle.adl_meaning.specs.Holding.{connections_in}
 use Rattle.adl_meaning.specs.Items.{Name}
 use Rattle.adl_meaning.specs.Lists.{place_by}
 use Rattle.adl_meaning.specs.Members.{declared_as}
-use Rattle.adl_names.specs.ByName.{found}
-use Rattle.adl_names.specs.Tables.{declaring_told}
-use Rattle.adl_program.specs.Needed.{needed_in}
+use Rattle.name_tables.specs.ByName.{found}
+use Rattle.adl_items.specs.Declaring.{declaring_told}
 use Rattle.adl_program.specs.declared.part.PartAt.{PartAt}
 use Rattle.adl_program.specs.declared.body.Body.TheInside.{Inside}
 use Rattle.adl_program.specs.declared.body.Composed.{Composed}
@@ -42,7 +41,6 @@ pub record IsComposed (o : Option Composition) (t : Composed) : Type 0 where
 pub record AreMembers (o : Option Component) (t : Members) : Type 0 where
   pub declared_by_name : (n : Name) → declaring_told t.declared n ≡ option_and_then (λ c. declared_as c n) o
   pub places_by_name : (n : Name) → unwrap_or (found t.places n) t.count ≡ option_map_or (λ c. place_by (is_interface n) c.members) o 0
-  pub needed_are : t.needed.items ≡ needed_in o
 
 -- all tables agree with the body
 pub record IsIndexed (t : Inside) : Type 0 where

@@ -4,25 +4,23 @@ ghost use Rattle.adl_meaning.specs.CompositeBody.{is_device};
 ghost use Rattle.adl_meaning.specs.Flat.{is_interface};
 ghost use Rattle.adl_meaning.specs.Hierarchy.{body_of, top_of, parts_in, wires_of};
 ghost use Rattle.adl_meaning.specs.Lists.{place_by};
-ghost use Rattle.adl_meaning.specs.Members.{attribute_of, configurations};
-ghost use Rattle.adl_meaning.specs.Unconnected.{may_stay};
+ghost use Rattle.adl_meaning.specs.Members.{attribute_of, configurations, declared_as, interface_of};
 ghost use Rattle.adl_meaning.specs.Values.{is_group};
-ghost use Rattle.adl_names.specs.ByName.{found};
-ghost use Rattle.adl_names.specs.Located.{located};
-ghost use Rattle.adl_program.specs.Needed.{needed_of, needed_in};
+ghost use Rattle.name_tables.specs.ByName.{found};
+ghost use Rattle.adl_items.specs.Declaring.{declaring_told};
+ghost use Rattle.adl_items.specs.Located.{located};
 ghost use Rattle.adl_program.specs.Seen.{part_from, IsComposed, AreMembers};
 ghost use Rattle.std.specs.List.{enumerate_from, filter_map, list_any, slice_get};
 ghost use Rattle.std.specs.Option.{option_and_then, option_copied, option_map_or};
 ghost use Rattle.std.specs.Prelude.{◌≡◌, [], ℕ, List as Seq, None, Some, false, is_some, option_map, unwrap_or, length, IfOk};
 ghost use Rattle.std.specs.Str.{bytes_eq};
 
-use crate::part::{Needed, Part, PartAt, Wire, parts_of, wires_of};
-use adl_ast::{
-    Assembly, Attribute, Component, Composition, Configuration, Interface, InterfaceKind, Member,
-};
+use crate::part::{Part, PartAt, Wire, parts_of, wires_of};
+use adl_ast::{Assembly, Attribute, Component, Composition, Configuration, Interface, Member};
+use adl_items::{Declared, Located, composition_of, is_device};
 use adl_meaning::ItemAt;
-use adl_names::{Declared, Located, NameTable, composition_of, declaring, is_device};
 use cam_base::{Name, NoMemory};
+use name_tables::NameTable;
 use std::alloc::Global;
 use std::marker::Model;
 
@@ -53,7 +51,6 @@ pub struct Members<'a> {
     /// The place of the first interface of each name.
     places: NameTable<'a, usize>,
     count: usize,
-    needed: Vec<Needed<'a>>,
 }
 
 impl<'a> Model for Body<'a> {
@@ -140,6 +137,16 @@ impl<'a> Body<'a> {
         self.composed.groups.get_bytes(name).is_some()
     }
 
+    /// The interface that its component declares under the name.
+    pub fn interface(&self, name: &Name) -> Option<&'a Interface>
+        ensures { option_copied result ≡ option_and_then (λ c. interface_of c name.now) self.now.component }
+    {
+        match self.members.declared.get(name) {
+            Some(Declared::Interface(interface)) => Some(interface),
+            _ => None,
+        }
+    }
+
     /// The attribute that its component declares under the name.
     pub fn attribute(&self, name: &[u8]) -> Option<&'a Attribute>
         ensures { option_copied result ≡ option_and_then (λ c. attribute_of c name.now) self.now.component }
@@ -148,13 +155,6 @@ impl<'a> Body<'a> {
             Some(Declared::Attribute(attribute)) => Some(attribute),
             _ => None,
         }
-    }
-
-    /// The interfaces of its component that may not stay without a connection, in order.
-    pub fn needed(&self) -> &[Needed<'a>]
-        ensures { result.now ≡ needed_in self.now.component }
-    {
-        self.members.needed.as_slice()
     }
 
     /// Its connections, in order.
@@ -218,30 +218,6 @@ fn groups_of<'a>(alloc: Global, parts: &[Part<'a>]) -> Result<NameTable<'a, ()>,
     Ok(groups)
 }
 
-fn may_stay(interface: &Interface) -> bool
-    ensures { result ≡ may_stay interface.now }
-{
-    interface.maybe || interface.kind != InterfaceKind::Uses
-}
-
-/// The interfaces among members that may not stay without a connection.
-fn needed_in<'a>(alloc: Global, members: &'a [Member]) -> Result<Vec<Needed<'a>>, NoMemory>
-    ensures { IfOk result (λ v. v.items ≡ filter_map needed_of (enumerate_from 0 members.entry.now)) }
-{
-    let mut needed = Vec::new(alloc);
-    for (place, member) in members.iter().enumerate() {
-        if let Member::Interface(interface) = member {
-            if !may_stay(interface) {
-                needed.push(Needed {
-                    member: place,
-                    id: &interface.id,
-                })?;
-            }
-        }
-    }
-    Ok(needed)
-}
-
 /// The places of interfaces by name, where the first of a name counts.
 fn interface_places<'a>(
     alloc: Global,
@@ -277,6 +253,25 @@ fn composed_of<'a>(
     })
 }
 
+/// What a component declares by name, where the first of a name counts.
+fn declaring<'a>(
+    alloc: Global,
+    component: &'a Component,
+) -> Result<NameTable<'a, Declared<'a>>, NoMemory>
+    ensures { IfOk result (λ t. (n : Seq ℕ) → declaring_told t n ≡ declared_as component.now n) }
+{
+    let mut table = NameTable::new(alloc);
+    for member in component.members.as_slice() {
+        match member {
+            Member::Interface(it) => table.add(&it.id.name, Declared::Interface(it))?,
+            Member::Attribute(it) => table.add(&it.id.name, Declared::Attribute(it))?,
+            Member::Lock(it) => table.add(&it.id.name, Declared::Lock(it))?,
+            _ => (),
+        }
+    }
+    Ok(table)
+}
+
 /// What stands among the members of a component that may be absent.
 fn members_of<'a>(alloc: Global, component: Option<&'a Component>) -> Result<Members<'a>, NoMemory>
     ensures { IfOk result (λ t. AreMembers (option_copied component.entry) t) }
@@ -286,13 +281,11 @@ fn members_of<'a>(alloc: Global, component: Option<&'a Component>) -> Result<Mem
             declared: NameTable::new(alloc),
             places: NameTable::new(alloc),
             count: 0,
-            needed: Vec::new(alloc),
         }),
         Some(component) => Ok(Members {
             declared: declaring(alloc, component)?,
             places: interface_places(alloc, component.members.as_slice())?,
             count: component.members.len(),
-            needed: needed_in(alloc, component.members.as_slice())?,
         }),
     }
 }

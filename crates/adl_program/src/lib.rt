@@ -15,5 +15,5 @@ pub use bodies::{Bodies, bodies_of};
 pub use body::Body;
 pub use leads::LeafPort;
 pub use leaf::Leaf;
-pub use part::{Needed, Part, PartAt, Wire};
+pub use part::{Part, PartAt, Wire};
 pub use program::{Program, program_of};

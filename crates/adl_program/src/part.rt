@@ -2,16 +2,17 @@
 
 ghost use Rattle.adl_meaning.specs.Hierarchy.{parts_in, wire_of};
 ghost use Rattle.adl_meaning.specs.Holding.{connections_in, instances_by};
-ghost use Rattle.adl_names.specs.ByName.{found};
+ghost use Rattle.name_tables.specs.ByName.{found};
 ghost use Rattle.adl_program.specs.Lines.{group_by};
 ghost use Rattle.std.specs.List.{filter_map, flat_map};
 ghost use Rattle.std.specs.Option.{option_copied, option_map_or};
 ghost use Rattle.std.specs.Prelude.{◌≡◌, [], IfOk};
 
-use adl_ast::{Composition, Connection, Id, Instance, Line};
+use adl_ast::{Composition, Connection, Instance, Line};
+use adl_items::instances_by;
 use adl_meaning::Connector;
-use adl_names::NameTable;
 use cam_base::{Name, NoMemory};
+use name_tables::NameTable;
 use std::alloc::Global;
 use std::marker::Model;
 
@@ -56,39 +57,12 @@ impl<'a> Model for Wire<'a> {
     ghost view = { λ w. (w.connector, w.connection.now) };
 }
 
-/// An interface that may not stay without a connection: its place among the members of its component, and its name. Contracts
-/// see it as the two.
-#[derive(Drop)]
-pub struct Needed<'a> {
-    pub member: usize,
-    pub id: &'a Id,
-}
-
-impl<'a> Model for Needed<'a> {
-    ghost use Rattle.adl_ast.specs.declared.id.Id.{Id};
-    ghost use Rattle.std.specs.Prelude.{ℕ};
-
-    ghost Value = { ℕ × Id };
-
-    ghost view = { λ n. (n.member, n.id.now) };
-}
-
 impl<'a> Part<'a> {
     /// The number of its component.
     pub fn kind(&self) -> u32
         ensures { result ≡ self.now.kind }
     {
         self.kind
-    }
-}
-
-fn instances_by(line: &Line) -> &[Instance]
-    ensures { result.now ≡ instances_by line.now }
-{
-    match line {
-        Line::Instance(instance) => std::slice::from_ref(instance),
-        Line::Group(group) => group.instances.as_slice(),
-        _ => &[],
     }
 }
 

@@ -5,7 +5,7 @@ use Rattle.adl_ast.specs.declared.id.Id.{Id}
 use Rattle.adl_meaning.specs.Items.{Name}
 use Rattle.adl_meaning.specs.Hierarchy.{Hierarchy}
 use Rattle.adl_meaning.specs.Values.{inner_names}
-use Rattle.adl_names.specs.Pointed.{pointed}
+use Rattle.adl_items.specs.Pointed.{pointed}
 use Rattle.adl_settle.specs.SettingTables.{path_from}
 
 one_more : (n : ℕ) → suc (suc n) - 1 ≡ suc (suc n - 1)

@@ -8,7 +8,7 @@ use Rattle.std.proofs.lemmas.Slice.Eq.{bytes_eq-Decides, slice_eq-Decides}
 use Rattle.adl_ast.specs.declared.configuration.Setting.{Setting}
 use Rattle.adl_meaning.specs.Items.{Name}
 use Rattle.adl_meaning.specs.Paths.{Path, same_path}
-use Rattle.adl_names.specs.Pointed.{pointed}
+use Rattle.adl_items.specs.Pointed.{pointed}
 
 abbrev pub same_keys : List (Bor Name) → List (Bor Name) → Bool
 same_keys q k = pointwise (λ (a b : Bor Name). bytes_eq a.now b.now) q k

@@ -12,7 +12,7 @@ use Rattle.adl_meaning.specs.Hierarchy.{Hierarchy, Part, top_number, body, part_
 use Rattle.adl_meaning.specs.Items.{Name}
 use Rattle.adl_meaning.specs.Paths.{Path, at, same_path}
 use Rattle.adl_meaning.specs.Values.{Given, given, settings_of, sets, setting_of, setter_at, set_within, default_at, value_at}
-use Rattle.adl_names.specs.Pointed.{pointed}
+use Rattle.adl_items.specs.Pointed.{pointed}
 use Rattle.adl_settle.specs.Lookups.{within, attribute_at, given_from}
 use Rattle.adl_settle.proofs.SettingKeys.{same_path-equal}
 use Rattle.adl_settings.proofs.ValueSearch.{referred, value-referred, outer-stays}

@@ -9,7 +9,7 @@ use Rattle.adl_meaning.specs.Hierarchy.{Hierarchy}
 use Rattle.adl_meaning.specs.Items.{Name}
 use Rattle.adl_meaning.specs.Paths.{Path, same_path}
 use Rattle.adl_meaning.specs.Values.{path_of, inner_names, setting_of}
-use Rattle.adl_names.specs.Pointed.{pointed}
+use Rattle.adl_items.specs.Pointed.{pointed}
 use Rattle.adl_settle.specs.declared.by_body.ByBody.{ByBody}
 use Rattle.adl_settle.specs.declared.setting_table.SettingTable.{SettingTable}
 

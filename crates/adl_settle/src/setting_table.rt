@@ -7,7 +7,7 @@ ghost use Rattle.adl_meaning.specs.Hierarchy.{body};
 ghost use Rattle.adl_meaning.specs.Items.{Name as Bytes};
 ghost use Rattle.adl_meaning.specs.Paths.{same_path};
 ghost use Rattle.adl_meaning.specs.Values.{path_of, sets, settings_of};
-ghost use Rattle.adl_names.specs.Pointed.{pointed};
+ghost use Rattle.adl_items.specs.Pointed.{pointed};
 ghost use Rattle.adl_settle.specs.SettingTables.{path_from, key_of, setting_found, IsTable, AreTables};
 ghost use Rattle.adl_settings.specs.SettingTwice.{setting_twice, repeated_after, repeated_in, settings_twice};
 ghost use Rattle.std.specs.List.{find};
@@ -17,8 +17,8 @@ ghost use Rattle.std.specs.Prelude.{◌≡◌, ◌∷◌, ◌++◌, [], false, L
 use crate::by_body::ByBody;
 use crate::kinds::kind_of;
 use adl_ast::{Id, Setting};
+use adl_items::last_name;
 use adl_meaning::Earliest;
-use adl_names::last_name;
 use adl_program::{Bodies, Body};
 use cam_base::{Code, Name, NoMemory};
 use indexmap::IndexMap;

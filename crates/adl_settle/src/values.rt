@@ -3,7 +3,7 @@
 ghost use Rattle.adl_meaning.specs.Hierarchy.{body, top_number};
 ghost use Rattle.adl_meaning.specs.Items.{Name as Bytes};
 ghost use Rattle.adl_meaning.specs.Values.{default_in, setting_of, value_at};
-ghost use Rattle.adl_names.specs.Pointed.{pointed};
+ghost use Rattle.adl_items.specs.Pointed.{pointed};
 ghost use Rattle.adl_settle.specs.Lookups.{within, attribute_at, given_from, IsRemembered};
 ghost use Rattle.std.specs.Option.{option_and_then, option_copied, option_map_or};
 ghost use Rattle.std.specs.Prelude.{◌≡◌, ◌∷◌, ◌++◌, [], List as Seq, None, slice_get, OnOk, IfOk};
@@ -13,7 +13,7 @@ use crate::kinds::kind_of;
 use crate::memo::Memo;
 use crate::setting_table::SettingTable;
 use adl_ast::{Setter, Setting};
-use adl_names::last_name;
+use adl_items::last_name;
 use adl_program::{Bodies, Body};
 use adl_settings::Given;
 use cam_base::{Name, NoMemory};

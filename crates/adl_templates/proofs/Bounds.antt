@@ -4,7 +4,7 @@ use Rattle.std.specs.List.{All, flat_map, filter_map, cons_option, slice_get}
 use Rattle.std.specs.Option.{option_and_then, option_map_or}
 use Rattle.adl_ast.specs.declared.component.Component.{Component}
 use Rattle.adl_meaning.specs.Flat.{is_interface}
-use Rattle.adl_names.specs.ByName.{found}
+use Rattle.name_tables.specs.ByName.{found}
 use Rattle.std.proofs.lemmas.List.{length-append, length-map}
 use Rattle.std.proofs.lemmas.List.Elements.{All-nil, All-cons, All-map}
 use Rattle.adl_ast.specs.declared.composition.End.{End}

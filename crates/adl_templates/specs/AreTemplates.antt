@@ -1,13 +1,10 @@
 -- What tables of templates tell.
 use Rattle.std.specs.Prelude.{◌≡◌, ◌<◌, ◌≤◌, ◌^◌, ℕ, suc, Bool, true, false, List, length, slice_index, slice_index_or}
-use Rattle.std.specs.Option.{option_and_then}
 use Rattle.adl_meaning.specs.Hierarchy.{Hierarchy, Part, body}
 use Rattle.adl_meaning.specs.Items.{Name}
-use Rattle.adl_meaning.specs.Members.{declared_as}
 use Rattle.adl_meaning.specs.Paths.{leaves_in}
 use Rattle.numbering.specs.Gather.{IsIn}
-use Rattle.adl_names.specs.ByName.{found}
-use Rattle.adl_names.specs.Tables.{declaring_told}
+use Rattle.name_tables.specs.ByName.{found}
 use Rattle.adl_templates.specs.Ready.{IsReady}
 use Rattle.adl_templates.specs.Templates.{template_leaves, template_connections, export_target, leaves_before}
 use Rattle.adl_templates.specs.declared.template.Template.{Template}
@@ -17,7 +14,6 @@ pub record IsTemplate (h : Hierarchy) (k : ℕ) (t : Template) : Type 0 where
   pub leaves : t.leaves.items ≡ template_leaves h k
   pub connections : t.connections.items ≡ template_connections h k
   pub targets : (n : Name) → found t.targets n ≡ export_target h k n
-  pub declared : (n : Name) → declaring_told t.declared n ≡ option_and_then (λ c. declared_as c n) (body h k).component
 
 -- the table has the templates of the components of the instances of body k
 pub record AreInner (h : Hierarchy) (k : ℕ) (all : List Template) : Type 0 where

@@ -7,10 +7,8 @@ ghost use Rattle.adl_templates.specs.AreTemplates.{IsTemplate, AreInner, AreBefo
 ghost use Rattle.adl_templates.specs.Ready.{IsReady};
 ghost use Rattle.adl_templates.specs.Templates.{template_leaves, own_connections, connections_by, member_of, own_target, target_by, target, target_of, export_target, leaves_by};
 ghost use Rattle.adl_templates.specs.declared.template.Template.{Template as TemplateOf};
-ghost use Rattle.adl_meaning.specs.Members.{as_interface, declared_as};
 ghost use Rattle.adl_meaning.specs.Paths.{leaves_in};
-ghost use Rattle.adl_names.specs.ByName.{found};
-ghost use Rattle.adl_names.specs.Tables.{declaring_told};
+ghost use Rattle.name_tables.specs.ByName.{found};
 ghost use Rattle.std.specs.List.{flat_map, enumerate_from};
 ghost use Rattle.std.specs.Option.{option_and_then, option_copied};
 ghost use Rattle.std.specs.Prelude.{◌≡◌, ◌<◌, ◌+◌, ◌^◌, ◌++◌, ℕ, true, List as Seq, length, slice_index, slice_index_or, option_map, IfOk, OnOk};
@@ -18,19 +16,18 @@ ghost use Rattle.std.specs.Prelude.{◌≡◌, ◌<◌, ◌+◌, ◌^◌, ◌++�
 use crate::place::{moved_target, own_leaf, place_connections, place_leaves};
 use crate::placed::{PlacedConnection, PlacedEnd, PlacedLeaf};
 use crate::target::Target;
-use adl_ast::{Id, Interface, InterfaceKind, Line};
-use adl_names::{Declared, NameTable, declaring};
+use adl_ast::{Id, InterfaceKind, Line};
 use adl_program::{Body, Part, Program};
 use cam_base::{Name, NoMemory, Path};
+use name_tables::NameTable;
 use std::alloc::Global;
 
-/// What a body holds: its leaves and its connections in order, where its exports lead, and what its component declares.
+/// What a body holds: its leaves and its connections in order, and where its exports lead.
 #[derive(Drop)]
 pub struct Template<'a> {
     pub leaves: Vec<PlacedLeaf<'a>>,
     pub connections: Vec<PlacedConnection<'a>>,
     pub targets: NameTable<'a, Option<Target>>,
-    pub declared: NameTable<'a, Declared<'a>>,
 }
 
 impl<'a> Template<'a> {
@@ -40,7 +37,6 @@ impl<'a> Template<'a> {
             leaves: Vec::new(alloc),
             connections: Vec::new(alloc),
             targets: NameTable::new(alloc),
-            declared: NameTable::new(alloc),
         }
     }
 }
@@ -110,31 +106,12 @@ fn exported(template: &Template<'_>, name: &Name) -> Option<Target>
     template.targets.get(name).copied().flatten()
 }
 
-/// The interface that a name stands for among what a component declares.
-fn interface<'a>(declared: &NameTable<'a, Declared<'a>>, name: &Name) -> Option<&'a Interface>
-    ensures { option_copied result ≡ option_and_then as_interface (declaring_told declared.now name.now) }
-{
-    match declared.get(name) {
-        Some(Declared::Interface(interface)) => Some(interface),
-        Some(Declared::Attribute(_)) => None,
-        Some(Declared::Lock(_)) => None,
-        None => None,
-    }
-}
-
 /// An interface of a leaf of the body, with so many leaves before it.
-fn own_target(
-    body: &Body<'_>,
-    declared: &NameTable<'_, Declared<'_>>,
-    before: u32,
-    name: &Name,
-) -> Target
-    requires declared { (n : Seq ℕ) → declaring_told declared.now n
-        ≡ option_and_then (λ c. declared_as c n) body.now.component }
-    requires few { member_of body.now name.now < 2 ^ 32 }
+fn own_target(body: &Body<'_>, before: u32, name: &Name) -> Target
+    requires { member_of body.now name.now < 2 ^ 32 }
     ensures { result ≡ own_target body.now before name.now }
 {
-    let once = match interface(declared, name) {
+    let once = match body.interface(name) {
         None => false,
         Some(interface) => joins_once(body.is_hardware(), interface.kind),
     };
@@ -163,7 +140,7 @@ fn part_target(
     if body.is_composite() {
         moved_target(before, exported(inner, name))
     } else {
-        Some(own_target(body, &inner.declared, before, name))
+        Some(own_target(body, before, name))
     }
 }
 
@@ -308,16 +285,6 @@ fn place_inner<'a>(
     Ok(())
 }
 
-fn declared_of<'a>(alloc: Global, body: &Body<'a>) -> Result<NameTable<'a, Declared<'a>>, NoMemory>
-    ensures { IfOk result (λ t. (n : Seq ℕ) → declaring_told t n
-        ≡ option_and_then (λ c. declared_as c n) body.now.component) }
-{
-    match body.component() {
-        None => Ok(NameTable::new(alloc)),
-        Some(component) => declaring(alloc, component),
-    }
-}
-
 /// The template of the body of the number.
 fn template_of<'a>(
     alloc: Global,
@@ -333,12 +300,10 @@ fn template_of<'a>(
     let mut connections = own_connections(alloc, program, all, before, number)?;
     place_inner(alloc, program, all, before, number, &mut connections)?;
     let targets = targets_of(alloc, program, all, before, number)?;
-    let declared = declared_of(alloc, program.body(number))?;
     Ok(Template {
         leaves,
         connections,
         targets,
-        declared,
     })
 }
 

@@ -7,7 +7,7 @@ ghost use Rattle.adl_types.specs.TypeFaults.{first_type_fault};
 
 use crate::faults::type_fault;
 use adl_ast::Source;
-use adl_names::Names;
+use adl_items::Names;
 use adl_program::program_of;
 use cam_base::{Fault, Refused};
 use std::alloc::Global;

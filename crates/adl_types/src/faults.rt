@@ -8,8 +8,8 @@ ghost use Rattle.std.specs.Option.{option_copied, option_map_or};
 ghost use Rattle.std.specs.Prelude.{◌≡◌, ◌≤◌, [], true};
 
 use adl_ast::{Component, End, Member, Role};
+use adl_items::last_name;
 use adl_meaning::{Connector, Earliest, noted_is_least};
-use adl_names::last_name;
 use adl_program::{Leaf, Program, Wire};
 use cam_base::Code;
 use conn_rules::EndRule;

@@ -1,10 +1,15 @@
 use Rattle.std.proofs.Common.{◌≡◌, drop, map, ◌||◌, is_some}
 use Rattle.std.specs.List.{find}
 use Rattle.std.specs.Str.{bytes_eq}
+use Rattle.adl_items.specs.Located.{located}
+use Rattle.adl_meaning.specs.Duplicate.{repeats, repeats_after}
+use Rattle.adl_meaning.specs.Faults.{noted}
 use Rattle.adl_meaning.specs.Items.{Name}
-use Rattle.adl_names.specs.ByName.{is_among}
-use Rattle.adl_names.specs.Located.{located}
+use Rattle.name_tables.specs.ByName.{is_among}
 use Rattle.adl_names.proofs.bodies.procedure_names.Given as goal
 
 abbrev pub invariant-loop-x : goal.invariant-loop-x
-invariant-loop-x l = (n : Name) → (is_among l.names n || is_some (find (λ p. bytes_eq n p.1.id.name) (map located (drop l.x-index l.procedures)))) ≡ is_some (find (λ p. bytes_eq n p.1.id.name) (map located l.procedures))
+invariant-loop-x l = record {
+  noted : noted l.first (repeats_after (is_among l.names) (map (λ p. p.1.id) (map located (drop l.x-index l.procedures)))) ≡ noted l.fn.first (repeats (map (λ p. p.1.id) (map located l.procedures)));
+  names : (n : Name) → (is_among l.names n || is_some (find (λ p. bytes_eq n p.1.id.name) (map located (drop l.x-index l.procedures)))) ≡ is_some (find (λ p. bytes_eq n p.1.id.name) (map located l.procedures));
+}

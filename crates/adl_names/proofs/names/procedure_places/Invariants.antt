@@ -4,7 +4,7 @@ use Rattle.std.specs.Option.{option_or}
 use Rattle.std.specs.Str.{bytes_eq}
 use Rattle.indexmap.specs.IndexMap.{get}
 use Rattle.adl_meaning.specs.Items.{Name, Rises}
-use Rattle.adl_names.specs.Located.{located}
+use Rattle.adl_items.specs.Located.{located}
 use Rattle.adl_names.specs.Places.{table_places}
 use Rattle.adl_names.proofs.names.procedure_places.Given as goal
 

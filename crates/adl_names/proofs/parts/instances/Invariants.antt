@@ -1,6 +1,6 @@
 use Rattle.std.proofs.Common.{◌≡◌, drop, ◌++◌}
 use Rattle.std.specs.List.{flat_map, filter_map}
-use Rattle.adl_names.specs.Pointed.{pointed}
+use Rattle.adl_items.specs.Pointed.{pointed}
 use Rattle.adl_meaning.specs.Holding.{instances_in}
 use Rattle.adl_meaning.specs.Members.{as_composition}
 use Rattle.adl_names.proofs.parts.instances.Given as goal

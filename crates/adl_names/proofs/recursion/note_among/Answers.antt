@@ -6,9 +6,9 @@ use Rattle.adl_meaning.specs.Faults.{noted}
 use Rattle.adl_meaning.specs.Graph.{InRange}
 use Rattle.adl_meaning.specs.Recursive.{types_of, recursive_in}
 use Rattle.name_tables.specs.ByName.{found}
-use Rattle.adl_names.specs.Located.{trees}
+use Rattle.adl_items.specs.Located.{trees}
 use Rattle.component_graph.specs.Numbers.{AreBelow}
-use Rattle.adl_names.specs.declared.located.Located.{Located}
+use Rattle.adl_items.specs.declared.located.Located.{Located}
 use Rattle.component_graph.proofs.ComponentNumbers.{graph_in_range}
 use Rattle.adl_names.proofs.recursion.note_among.Goals as goal
 

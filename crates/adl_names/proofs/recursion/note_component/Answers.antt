@@ -1,6 +1,6 @@
 use Rattle.std.proofs.Common.{◌∙◌, ap}
 use Rattle.name_tables.specs.ByName.{found}
-use Rattle.adl_names.specs.Pointed.{pointed}
+use Rattle.adl_items.specs.Pointed.{pointed}
 use Rattle.adl_names.proofs.Recurring.{all_listed}
 use Rattle.adl_names.proofs.recursion.note_component.Goals as goal
 

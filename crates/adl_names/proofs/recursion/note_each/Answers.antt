@@ -4,8 +4,8 @@ use Rattle.adl_ast.specs.declared.component.Component.{Component}
 use Rattle.adl_meaning.specs.Recursive.{recursive_in, types_of}
 use Rattle.adl_meaning.proofs.Noting.{noted_numbered}
 use Rattle.name_tables.specs.ByName.{found}
-use Rattle.adl_names.specs.Located.{trees}
-use Rattle.adl_names.specs.declared.located.Located.{Located}
+use Rattle.adl_items.specs.Located.{trees}
+use Rattle.adl_items.specs.declared.located.Located.{Located}
 use Rattle.adl_names.proofs.Recurring.{inner_read}
 use Rattle.adl_names.proofs.recursion.note_each.Goals as goal
 

@@ -6,10 +6,10 @@ use Rattle.adl_meaning.specs.Items.{Name}
 use Rattle.adl_meaning.specs.Recursive.{number_named, recursive_among}
 use Rattle.adl_meaning.specs.declared.item_at.ItemAt.{ItemAt}
 use Rattle.name_tables.specs.ByName.{found}
-use Rattle.adl_names.specs.Located.{trees}
-use Rattle.adl_names.specs.declared.located.Located.{Located}
+use Rattle.adl_items.specs.Located.{trees}
+use Rattle.adl_items.specs.declared.located.Located.{Located}
 use Rattle.component_graph.proofs.ComponentNumbers.{numbers_below}
-use Rattle.adl_names.proofs.Whole.{trees-located}
+use Rattle.adl_items.proofs.Trees.{trees-located}
 use Rattle.adl_names.proofs.recursion.note_recursive.Goals as goal
 
 pub note_among-requires-clause-numbers : goal.note_among-requires-clause-numbers

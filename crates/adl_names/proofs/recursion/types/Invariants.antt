@@ -1,6 +1,6 @@
 use Rattle.std.proofs.Common.{◌≡◌, drop, ◌++◌}
 use Rattle.std.specs.List.{filter_map}
-use Rattle.adl_names.specs.Pointed.{pointed}
+use Rattle.adl_items.specs.Pointed.{pointed}
 use Rattle.name_tables.specs.ByName.{found}
 use Rattle.adl_names.proofs.recursion.types.Given as goal
 

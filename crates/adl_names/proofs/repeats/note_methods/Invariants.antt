@@ -1,9 +1,11 @@
-use Rattle.std.proofs.Common.{◌≡◌, drop}
-use Rattle.std.specs.List.{flat_map}
+use Rattle.std.proofs.Common.{◌≡◌, drop, map}
+use Rattle.std.specs.List.{filter_map}
+use Rattle.adl_meaning.specs.Duplicate.{as_method, repeats, repeats_after}
 use Rattle.adl_meaning.specs.Faults.{noted}
-use Rattle.adl_names.specs.Pointed.{pointed}
-use Rattle.adl_meaning.specs.Duplicate.{repeated_params}
+use Rattle.name_tables.specs.ByName.{is_among}
 use Rattle.adl_names.proofs.repeats.note_methods.Given as goal
 
-abbrev pub invariant-loop-method : goal.invariant-loop-method
-invariant-loop-method l = noted l.first (flat_map repeated_params (pointed (drop l.method-index l.methods))) ≡ noted l.fn.first (flat_map repeated_params (pointed l.methods))
+abbrev pub invariant-loop-member : goal.invariant-loop-member
+invariant-loop-member l =
+    noted l.first (repeats_after (is_among l.met) (map (λ m. m.id) (filter_map as_method (drop l.member-index l.procedure.members))))
+    ≡ noted l.fn.first (repeats (map (λ m. m.id) (filter_map as_method l.procedure.members)))

@@ -1,10 +1,17 @@
-use Rattle.std.proofs.Common.{◌≡◌, drop, map}
+use Rattle.std.proofs.Common.{◌≡◌, drop, map, ◌++◌, List}
 use Rattle.std.specs.Option.{option_or}
+use Rattle.adl_ast.specs.declared.id.Id.{Id}
+use Rattle.adl_items.specs.Firsts.{first_named}
+use Rattle.adl_meaning.specs.Duplicate.{repeats_after}
+use Rattle.adl_meaning.specs.Faults.{noted}
 use Rattle.adl_meaning.specs.Holding.{as_held}
 use Rattle.adl_meaning.specs.Items.{Name}
-use Rattle.adl_names.specs.Tables.{holding_told}
-use Rattle.adl_names.specs.Firsts.{first_held}
+use Rattle.adl_names.specs.Tables.{has_name, holding_told}
 use Rattle.adl_names.proofs.tables.add_instances.Given as goal
 
 abbrev pub invariant-loop-instance : goal.invariant-loop-instance
-invariant-loop-instance l = (n : Name) → option_or (holding_told l.table n) (first_held (map as_held (drop l.instance-index l.instances)) n) ≡ option_or (holding_told l.fn.table n) (first_held (map as_held l.instances) n)
+invariant-loop-instance l = record {
+  noted : (more : List Id) → noted l.first (repeats_after (has_name l.table) (map (λ h. h.0) (map as_held (drop l.instance-index l.instances)) ++ more))
+      ≡ noted l.fn.first (repeats_after (has_name l.fn.table) (map (λ h. h.0) (map as_held l.instances) ++ more));
+  found : (n : Name) → option_or (holding_told l.table n) (first_named (map as_held (drop l.instance-index l.instances)) n) ≡ option_or (holding_told l.fn.table n) (first_named (map as_held l.instances) n);
+}

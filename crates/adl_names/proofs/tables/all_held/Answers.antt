@@ -1,7 +1,14 @@
 use Rattle.std.proofs.Common.{◌∙◌}
-use Rattle.adl_names.proofs.TableSteps.{line_put}
+use Rattle.adl_meaning.specs.Holding.{held_by}
+use Rattle.adl_names.specs.Tables.{has_name}
+use Rattle.adl_names.proofs.Repeating.{named_each}
+use Rattle.adl_names.proofs.TableSteps.{named_put}
 use Rattle.adl_names.proofs.tables.all_held.Goals as goal
 
 pub loop-line-preserved : goal.loop-line-preserved
-loop-line-preserved c = λ n.
-    line_put _ _ c.as_slice-line-items.result.now c.loop-line.line-index c.line-item.result n c.loop-line-test.true c.line-item.is (c.in_ok-add_line.ensures n) ∙ c.loop-line.invariant n
+loop-line-preserved c =
+    let lines = c.as_slice-line-items.result.now in
+    record {
+      noted = named_each held_by _ _ _ (has_name c.loop-line.table) lines c.loop-line.line-index c.line-item.result c.loop-line-test.true c.line-item.is c.in_ok-add_line.ensures.noted ∙ c.loop-line.invariant.noted;
+      held = λ n. named_put held_by _ _ lines c.loop-line.line-index c.line-item.result n c.loop-line-test.true c.line-item.is (c.in_ok-add_line.ensures.found n) ∙ c.loop-line.invariant.held n;
+    }

@@ -4,7 +4,7 @@ use Rattle.std.specs.List.{list_any}
 use Rattle.std.specs.Option.{option_map_or}
 use Rattle.std.specs.Str.{bytes_eq}
 use Rattle.adl_meaning.specs.Items.{Name}
-use Rattle.adl_names.specs.ByName.{found}
+use Rattle.name_tables.specs.ByName.{found}
 use Rattle.adl_program.proofs.body.groups_of.Given as goal
 
 abbrev pub invariant-loop-part : goal.invariant-loop-part

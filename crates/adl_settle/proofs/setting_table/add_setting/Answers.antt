@@ -3,7 +3,7 @@ use Rattle.std.specs.Option.{option_or}
 use Rattle.adl_meaning.specs.Export.{last_name}
 use Rattle.adl_meaning.specs.Paths.{same_path}
 use Rattle.adl_meaning.specs.Values.{path_of}
-use Rattle.adl_names.specs.Pointed.{pointed}
+use Rattle.adl_items.specs.Pointed.{pointed}
 use Rattle.adl_settle.specs.SettingTables.{setting_found}
 use Rattle.adl_settle.proofs.SettingKeys.{same_path-snoc}
 use Rattle.adl_settle.proofs.setting_table.add_setting.Goals as goal

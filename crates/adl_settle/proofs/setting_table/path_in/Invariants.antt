@@ -1,7 +1,7 @@
 use Rattle.std.proofs.Common.{◌≡◌, drop, ◌++◌, ◌∷◌, []}
 use Rattle.adl_ast.specs.declared.id.Id.{Id}
 use Rattle.adl_meaning.specs.Values.{path_of}
-use Rattle.adl_names.specs.Pointed.{pointed}
+use Rattle.adl_items.specs.Pointed.{pointed}
 use Rattle.adl_settle.specs.SettingTables.{path_from}
 use Rattle.adl_settle.proofs.setting_table.path_in.Given as goal
 

@@ -1,5 +1,5 @@
 use Rattle.std.proofs.Common.{◌≡◌, drop, ◌++◌}
-use Rattle.adl_names.specs.Pointed.{pointed}
+use Rattle.adl_items.specs.Pointed.{pointed}
 use Rattle.adl_settle.proofs.values.key_of.Given as goal
 
 abbrev pub invariant-loop-part : goal.invariant-loop-part

@@ -4,7 +4,7 @@ use Rattle.std.specs.Option.{option_or}
 use Rattle.adl_meaning.specs.Hierarchy.{export_named}
 use Rattle.adl_meaning.specs.Holding.{as_export}
 use Rattle.adl_meaning.specs.Items.{Name}
-use Rattle.adl_names.specs.ByName.{found}
+use Rattle.name_tables.specs.ByName.{found}
 use Rattle.adl_templates.specs.Templates.{target_of}
 use Rattle.adl_templates.proofs.template.targets_of.Given as goal
 

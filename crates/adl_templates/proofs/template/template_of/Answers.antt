@@ -1,8 +1,6 @@
 use Rattle.std.proofs.Common.{◌∙◌, ◌++◌, ap, sym}
 use Rattle.std.specs.List.{flat_map, enumerate_from}
-use Rattle.std.specs.Option.{option_and_then}
-use Rattle.adl_meaning.specs.Hierarchy.{Body, body}
-use Rattle.adl_meaning.specs.Members.{declared_as}
+use Rattle.adl_meaning.specs.Hierarchy.{body}
 use Rattle.adl_templates.specs.Templates.{connections_by}
 use Rattle.adl_templates.proofs.Placing.{connections_placed}
 use Rattle.adl_templates.proofs.template.template_of.Goals as goal
@@ -17,5 +15,4 @@ returns c =
           c.in_ok-place_inner.ensures ∙ ap (λ xs. xs ++ flat_map (connections_by h k) (enumerate_from 0 (body h k).parts)) c.in_ok-connections.ensures
           ∙ sym (connections_placed h c.requires.ready k c.requires.number);
       targets = c.in_ok-targets.ensures;
-      declared = λ n. c.in_ok-declared.ensures n ∙ ap (λ (b : Body). option_and_then (λ c. declared_as c n) b.component) c.body.ensures;
     }

@@ -1,6 +1,6 @@
 use Rattle.std.proofs.Common.{◌∙◌, sym, ap, is_some}
 use Rattle.indexmap.proofs.CallerLemmas.{insert_entry-new}
-use Rattle.adl_names.specs.Pointed.{pointed}
+use Rattle.adl_items.specs.Pointed.{pointed}
 use Rattle.adl_settle.specs.SettingTables.{setting_found}
 use Rattle.adl_settle.proofs.SettingKeys.{keyed, key_there, key_kept, entries_put, none_of}
 use Rattle.adl_settle.proofs.setting_table.SettingTable.add.Goals as goal

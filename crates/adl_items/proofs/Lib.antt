@@ -1,0 +1,2 @@
+pub mod FewComponents
+pub mod Trees

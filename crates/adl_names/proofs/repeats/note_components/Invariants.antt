@@ -1,0 +1,11 @@
+use Rattle.std.proofs.Common.{◌≡◌, drop, map}
+use Rattle.adl_items.specs.Located.{located}
+use Rattle.adl_meaning.specs.Duplicate.{repeats, repeats_after}
+use Rattle.adl_meaning.specs.Faults.{noted}
+use Rattle.name_tables.specs.ByName.{is_among}
+use Rattle.adl_names.proofs.repeats.note_components.Given as goal
+
+abbrev pub invariant-loop-x : goal.invariant-loop-x
+invariant-loop-x l =
+    noted l.first (repeats_after (is_among l.met) (map (λ c. c.1.id) (map located (drop l.x-index l.components))))
+    ≡ noted l.fn.first (repeats (map (λ c. c.1.id) (map located l.components)))

@@ -1,0 +1,9 @@
+use Rattle.std.proofs.Common.{◌≡◌, drop, map}
+use Rattle.adl_meaning.specs.Duplicate.{repeats, repeats_after}
+use Rattle.adl_meaning.specs.Faults.{noted}
+use Rattle.name_tables.specs.ByName.{is_among}
+use Rattle.adl_names.proofs.repeats.note_params.Given as goal
+
+abbrev pub invariant-loop-param : goal.invariant-loop-param
+invariant-loop-param l =
+    noted l.first (repeats_after (is_among l.met) (map (λ a. a.id) (drop l.param-index l.params))) ≡ noted l.fn.first (repeats (map (λ a. a.id) l.params))

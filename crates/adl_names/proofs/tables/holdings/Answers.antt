@@ -1,0 +1,27 @@
+use Rattle.std.proofs.Common.{◌∙◌, ◌++◌, ap}
+use Rattle.std.specs.List.{flat_map}
+use Rattle.adl_meaning.specs.Duplicate.{duplicates_in_composition}
+use Rattle.adl_meaning.specs.Faults.{noted}
+use Rattle.adl_meaning.specs.Members.{as_composition}
+use Rattle.adl_names.proofs.KindLists.{drop_none, drop_some, no_composition, noted_one, pushed_one}
+use Rattle.adl_names.proofs.tables.holdings.Goals as goal
+use Rattle.adl_names.proofs.tables.holdings.Goals.{in-Composition+in_ok-of+in_ok-push, in_default}
+
+pub loop-member-preserved : goal.loop-member-preserved
+loop-member-preserved c =
+    let ms = c.as_slice-member-items.result.now in
+    let i = c.loop-member.member-index in
+    elim c.match-member.branch [
+      | in-Composition+in_ok-of+in_ok-push w ↦
+          let e = drop_some as_composition ms i c.member-item.result w.in-Composition.composition c.loop-member-test.true c.member-item.is (ap as_composition w.in-Composition.is) in
+          record {
+            noted = rw w.first-is (noted_one duplicates_in_composition _ _ _ _ _ e w.in_ok-of.ensures.noted ∙ c.loop-member.invariant.noted);
+            holdings = rw w.holdings-is (pushed_one _ _ _ _ _ _ e w.in_ok-of.ensures.holding w.in_ok-push.ensures.items ∙ c.loop-member.invariant.holdings);
+          }
+      | in_default w ↦
+          let e = drop_none as_composition ms i c.member-item.result c.loop-member-test.true c.member-item.is (no_composition c.member-item.result w.in_default.not-Composition) in
+          record {
+            noted = rw w.first-is (ap (λ z. noted c.loop-member.first (flat_map duplicates_in_composition z)) e ∙ c.loop-member.invariant.noted);
+            holdings = rw w.holdings-is (ap (λ z. c.loop-member.holdings.items ++ z) e ∙ c.loop-member.invariant.holdings);
+          }
+    ]

@@ -1,0 +1,11 @@
+use Rattle.std.proofs.Common.{◌≡◌, drop}
+use Rattle.std.specs.Option.{option_or}
+use Rattle.std.specs.List.{flat_map}
+use Rattle.adl_meaning.specs.Members.{declared_by}
+use Rattle.adl_meaning.specs.Items.{Name}
+use Rattle.adl_items.specs.Declaring.{declaring_told}
+use Rattle.adl_items.specs.Firsts.{first_named}
+use Rattle.adl_program.proofs.body.declaring.Given as goal
+
+abbrev pub invariant-loop-member : goal.invariant-loop-member
+invariant-loop-member l = (n : Name) → option_or (declaring_told l.table n) (first_named (flat_map declared_by (drop l.member-index l.component.members)) n) ≡ first_named (flat_map declared_by l.component.members) n
