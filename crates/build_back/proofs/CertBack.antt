@@ -4,7 +4,7 @@ use Rattle.std.proofs.lemmas.Option.{slice_get-get_or}
 use Rattle.adl_ast.specs.declared.source.Source.{Source}
 use Rattle.adl_meaning.proofs.SoundNames.{one_assembly}
 use Rattle.adl_meaning.specs.Flat.{flat_of}
-use Rattle.arch_compile.specs.Built.{IsBuildOf, IsMade}
+use Rattle.arch_compile.specs.Built.{IsBuildOf, IsMade, system_tables}
 use Rattle.arch_compile.specs.LayoutFaults.{images_from}
 use Rattle.arch_compile.specs.declared.building.Build.{Build}
 use Rattle.arch_policy.proofs.Lists.{in_has}
@@ -27,6 +27,7 @@ use Rattle.policy_text.specs.Writable.{IsWritableCert}
 use Rattle.program_sections.specs.declared.images.Images.{Images}
 use Rattle.reach_laws.specs.Flat.{IsFlat}
 use Rattle.source_connected.proofs.Connected.{tables_are_connected}
+use Rattle.spec_edges.specs.Connected.{IsConnected}
 use Rattle.build_back.proofs.EdgeCounts.{few_certified, few_edges}
 use Rattle.build_back.proofs.EdgeTexts.{cert_short}
 use Rattle.build_back.proofs.Labelled.{IsLabel, edge_labels, label_small, named_at}
@@ -36,10 +37,13 @@ module _ {contents : Option Contents} (s : Source) (images : Images) (facts : Ar
   abbrev t : Tables
   t = source_tables s
 
-  pub flat_is : IsFlat s (flat_of s)
-  flat_is =
+  pub connected_is : IsConnected (system_tables s images)
+  connected_is =
       let f = facts.faultless in
-      (tables_are_connected s images facts.short f.names f.types f.flat f.settings facts.numbered facts.sound facts.space facts.slot facts.page).flat
+      tables_are_connected s images facts.short f.names f.types f.flat f.settings facts.numbered facts.sound facts.space facts.slot facts.page
+
+  pub flat_is : IsFlat s (flat_of s)
+  flat_is = connected_is.flat
 
   pub small_is : IsSmall (flat_of s)
   small_is = flat_small s facts.faultless.names facts.faultless.flat
@@ -58,7 +62,7 @@ module _ {contents : Option Contents} (s : Source) (images : Images) (facts : Ar
     labels_in : (e : Edge) → IsIn e b.cert → IsLabel t e.from × IsLabel t e.to
     labels_in e i = edge_labels t flat_is e ((made.certified e).0 (in_has e b.cert i))
 
-    small_in : (e : Edge) → IsIn e b.cert → (e.from < 6144) × (e.to < 6144)
+    small_in : (e : Edge) → IsIn e b.cert → (e.from < 8192) × (e.to < 8192)
     small_in e i = let l = labels_in e i in (label_small t refl small_is e.from l.0, label_small t refl small_is e.to l.1)
 
     at_in : (k : ℕ) (e : Edge) → k < length b.cert → IsIn (get_or b.cert k e) b.cert

@@ -23,7 +23,7 @@ lines_short f n (x ∷ xs) h =
     let d = mul-suc n (length xs) in
     omega (arith, a, b, c, d)
 
-pub number_short : (n : ℕ) → n < 6144 → length (decimal n) ≤ 4
+pub number_short : (n : ℕ) → n < 8192 → length (decimal n) ≤ 4
 number_short n l = length-decimal-le 4 n (omega arith) (omega (arith, l)) (omega (arith, l))
 
 word_short : (a : Authority) → length (text_of a) ≤ 9
@@ -40,13 +40,13 @@ word_short Reply = omega arith
 word_short GrantBack = omega arith
 word_short Handle = omega arith
 
-pub edge_short : (e : Edge) → e.from < 6144 → e.to < 6144 → length (edge_line e) ≤ 25
+pub edge_short : (e : Edge) → e.from < 8192 → e.to < 8192 → length (edge_line e) ≤ 25
 edge_short e f t =
     let s = all_short (5 ∷ 4 ∷ 1 ∷ 9 ∷ 1 ∷ 4 ∷ 1 ∷ []) (codes "edge " ∷ decimal e.from ∷ codes " " ∷ text_of e.authority ∷ codes " " ∷ decimal e.to ∷ codes "\n" ∷ [])
     (omega arith, (number_short e.from f, (omega arith, (word_short e.authority, (omega arith, (number_short e.to t, (omega arith, tt))))))) in
     omega (arith, s)
 
-pub cert_short : (cert : List Edge) → ((e : Edge) → IsIn e cert → (e.from < 6144) × (e.to < 6144)) → length cert ≤ 262144 → length (cert_text cert) ≤ 67108864
+pub cert_short : (cert : List Edge) → ((e : Edge) → IsIn e cert → (e.from < 8192) × (e.to < 8192)) → length cert ≤ 262144 → length (cert_text cert) ≤ 67108864
 unfolding cert_text
 cert_short cert small few =
     let lines = lines_short edge_line 25 cert (λ e i. edge_short e (small e i).0 (small e i).1) in

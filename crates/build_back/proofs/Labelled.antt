@@ -122,7 +122,7 @@ few_labels flat small =
     let c = small.connections in
     omega (arith, few, d, l, c)
 
-pub label_small : (t : Tables) → t.numbers ≡ label_numbers t.flat → IsSmall t.flat → (l : ℕ) → IsLabel t l → l < 6144
+pub label_small : (t : Tables) → t.numbers ≡ label_numbers t.flat → IsSmall t.flat → (l : ℕ) → IsLabel t l → l < 8192
 label_small t is small l w =
     let x = text_at t is l w in
     let a = slice_get_within (label_texts t.flat) l x.0 x.1 in

@@ -20,7 +20,7 @@ use Rattle.front_end.specs.First.{source_tables}
 use Rattle.policy_text.specs.Labelled.{IsLabelling, object_label}
 use Rattle.program_sections.specs.declared.images.Images.{Images}
 use Rattle.reach_laws.proofs.ValidCertificates.{valid}
-use Rattle.source_connected.proofs.Connected.{tables_are_connected}
+use Rattle.reach_laws.specs.LaidOut.{IsLaidOut}
 use Rattle.source_images.specs.Found.{Found}
 use Rattle.spec_edges.proofs.Connections.{laid_out}
 use Rattle.spec_edges.specs.Connected.{IsConnected}
@@ -30,6 +30,7 @@ use Rattle.spec_kept.proofs.Telling.{names_tell}
 use Rattle.system_spec.specs.Made.{entry, labels_of, part_label, spec_of}
 use Rattle.system_spec.specs.Parts.{parts}
 use Rattle.system_spec.specs.Tables.{Tables}
+use Rattle.build_back.proofs.CertBack.{connected_is}
 use Rattle.build_back.proofs.LabelsBack.{labels_back, labels_one}
 use Rattle.build_back.proofs.SpecBack.{made_fit}
 use Rattle.build_back.specs.TriosValid.{IsTrioValid}
@@ -56,21 +57,21 @@ module _ {contents : Option Contents} (b : Build) (found : List Found) (facts : 
   fit = made_fit s images facts
 
   connected : IsConnected t
-  connected =
-      let f = facts.faultless in
-      tables_are_connected s images facts.short f.names f.types f.flat f.settings facts.numbered facts.sound facts.space facts.slot facts.page
+  connected = connected_is s images facts
 
-  apart : AreApart (source_tables s)
+  pub apart : AreApart (source_tables s)
   apart = labels_apart s facts.faultless.names facts.spelled
 
+  pub laid : IsLaidOut (source_tables s) (spec_of t) labels
+  laid = laid_out t connected apart (spec_kept t fit)
+
   made_valid : Valid (spec_of t) labels b.policy.edges b.cert
-  made_valid =
-      valid (source_tables s) (spec_of t) labels b.policy.edges b.cert connected.flat apart (laid_out t connected apart (spec_kept t fit)) made.edges made.certified
+  made_valid = valid (source_tables s) (spec_of t) labels b.policy.edges b.cert connected.flat apart laid made.edges made.certified
 
   gives_made : map (λ n. Some n) labels ≡ map (λ (e : Entry). object_label (labelled (spec_of t).entries labels) e.name) (spec_of t).entries
   gives_made = labels_back (entry t) (part_label t) (parts t) (λ m n p q e f same. names_tell t fit.connections fit.objects m n p q e f same)
 
-  gives : IsLabelling b.spec b.policy (Ok (record { by_object = labels }))
+  pub gives : IsLabelling b.spec b.policy (Ok (record { by_object = labels }))
   gives =
       gives_made
       ∙ ap (λ z. map (λ (e : Entry). object_label z e.name) (spec_of t).entries) (sym made.objects)

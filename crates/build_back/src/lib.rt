@@ -1,12 +1,10 @@
-//! What is written of a build is read back: its capDL and its certificate. Its policy keeps limits of its reader, and the three
-//! are judged with a yes.
+//! What is written of a build is read back: its capDL, its policy and its certificate. Threads of what is read reach between
+//! labels exactly what the source assigns, and it is judged with a yes.
 //!
-//! There is no code here. What is read back stands in `specs/ReadBack.antt`, what policies keep of their reader's limits in
-//! `specs/PolicyLimits.antt`, and what a build's parts are to each other in `specs/TriosValid.antt`.
+//! There is no code here. What is read back stands in `specs/ReadBack.antt`, what a build's parts are to each other in
+//! `specs/TriosValid.antt`, and what holds of whatever is read of its texts in `specs/AsRead.antt`.
 #![tactic(auto)]
 
 mod laws;
 
-pub use laws::{
-    certificates_are_read_back, policies_are_limited, specs_are_read_back, trios_are_valid,
-};
+pub use laws::{texts_are_read_back, texts_hold_as_read, trios_are_valid};

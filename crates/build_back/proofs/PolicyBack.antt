@@ -1,7 +1,7 @@
--- Policies of builds keep the limits of their readers on labels, objects and edges.
-use Rattle.std.proofs.Common.{◌≡◌, ◌≢◌, ◌∙◌, ◌<◌, ◌≤◌, ℕ, true, not, List, ◌∷◌, Option, Some, length, map, get_or, is_some, refl, sym, ap, subst, inl, arith}
+-- Policies of builds are read back: they keep each limit of their reader, and what every policy keeps.
+use Rattle.std.proofs.Common.{◌≡◌, ◌≢◌, ◌∙◌, ◌<◌, ◌≤◌, ℕ, true, not, List, ◌∷◌, Option, Some, length, map, get_or, is_some, refl, sym, ap, subst, inl, arith, Result, Ok}
 use Rattle.std.proofs.lemmas.Bool.{and_parts}
-use Rattle.std.proofs.lemmas.Option.{slice_get-get_or}
+use Rattle.std.proofs.lemmas.Option.{get_or_from_slice_get, slice_get-get_or, slice_get_within}
 use Rattle.std.specs.List.{All, AllPairs, list_all, slice_get}
 use Rattle.adl_ast.specs.declared.source.Source.{Source}
 use Rattle.adl_meaning.specs.Flat.{flat_of}
@@ -11,30 +11,55 @@ use Rattle.arch_compile.specs.LayoutFaults.{images_from}
 use Rattle.arch_compile.specs.declared.building.Build.{Build}
 use Rattle.arch_policy.proofs.Lists.{in_has}
 use Rattle.arch_policy.specs.Labels.{label_lines, label_texts}
-use Rattle.assigned_laws.proofs.Ranked.{lines_apart}
+use Rattle.assigned_laws.proofs.LabelPaths.{not_empty}
+use Rattle.assigned_laws.proofs.Ranked.{line_called, lines_apart}
 use Rattle.auth_kinds.specs.ObjectLabels.{label_of}
-use Rattle.auth_kinds.specs.Policies.{label_name}
+use Rattle.auth_kinds.specs.Policies.{IsPolicy, label_name}
 use Rattle.auth_kinds.specs.declared.edge.Edge.{Edge}
+use Rattle.auth_kinds.specs.declared.policy.Policy.{Policy}
 use Rattle.build_laws.proofs.Facts.{AreFacts, build_facts}
 use Rattle.cam_base.specs.Names.{is_name}
+use Rattle.cam_base.specs.declared.error.Refused.{Refused}
+use Rattle.cam_base.specs.declared.text_fault.TextFault.{TextFault}
 use Rattle.cam_io.specs.Contents.{Contents}
 use Rattle.cap_model.specs.declared.spec.Entry.{Entry}
 use Rattle.cap_model.proofs.Kept.{all_at}
 use Rattle.capdl_back.specs.Writable.{is_word}
 use Rattle.capdl_lexer.specs.TokenFaults.{is_left_out_word}
 use Rattle.front_end.specs.First.{source_tables}
-use Rattle.numbering.proofs.Gathered.{from_ones, gather_ones, in_place}
+use Rattle.numbering.proofs.Gathered.{from_ones, gather_ones, in_place, place_of}
+use Rattle.numbering.specs.Gather.{IsIn}
+use Rattle.policy_text.proofs.OneMeaning.{policies_one}
+use Rattle.policy_text.proofs.ReadBack.{policy_back}
+use Rattle.policy_text.specs.PolicyLines.{policy_text}
 use Rattle.policy_text.specs.PolicyTexts.{AreLabelled}
+use Rattle.policy_text.specs.Writable.{IsWritable}
 use Rattle.program_sections.specs.declared.images.Images.{Images}
+use Rattle.source_bounds.proofs.Bounds.{dotted}
 use Rattle.spec_kept.proofs.Telling.{names_tell}
 use Rattle.system_spec.specs.Made.{entry, labels_of, part_label, spec_of}
 use Rattle.system_spec.specs.Parts.{parts}
 use Rattle.system_spec.specs.Tables.{Tables}
-use Rattle.build_back.proofs.CertBack.{flat_is, policy_few, small_is}
-use Rattle.build_back.proofs.Labelled.{IsLabel, edge_labels, few_labels, named_at}
+use Rattle.build_back.proofs.CertBack.{connected_is, flat_is, policy_few, small_is}
+use Rattle.build_back.proofs.Identifiers.{identifiers}
+use Rattle.build_back.proofs.LabelNames.{IsShortName, name_part, path_named}
+use Rattle.build_back.proofs.Labelled.{IsLabel, edge_labels, few_labels, label_small, named_at}
 use Rattle.build_back.proofs.LabelsBack.{line_at}
+use Rattle.build_back.proofs.OwnersThere.{object_owner}
+use Rattle.build_back.proofs.PathLengths.{paths_short}
+use Rattle.build_back.proofs.PolicyLengths.{IsEdgeShort, IsLabelShort, IsObjectShort, policy_short}
 use Rattle.build_back.proofs.SpecBack.{made_fit, made_writable}
-use Rattle.build_back.specs.PolicyLimits.{IsPolicyLimited}
+use Rattle.build_back.specs.ReadBack.{IsPolicyReadBack}
+
+-- ---- each element
+
+each_at : {X : Type 0} (P : X → Type 0) (xs : List X) → ((x : X) → IsIn x xs → P x) → All P xs
+each_at P xs h k d l = h (get_or xs k d) (in_place (get_or xs k d) xs k (slice_get-get_or xs k d l))
+
+at_each : {X : Type 0} (P : X → Type 0) (xs : List X) → All P xs → (x : X) → IsIn x xs → P x
+at_each P xs all x i =
+    let n = place_of x xs i in
+    subst P (get_or_from_slice_get xs n.0 x x n.1) (all n.0 x (slice_get_within xs n.0 x n.1))
 
 -- ---- labels
 
@@ -122,6 +147,16 @@ module _ {X : Type 0} (entry : X → Entry) (label : X → ℕ) (xs : List X)
   objects_are : AreObjects (labelled (map entry xs) (map label xs))
   objects_are = record { names = names_are; differ = names_apart; few = few_objects }
 
+-- ---- answers
+
+abbrev same_answer : Policy → Result Policy (Refused TextFault)
+same_answer p = Ok p
+
+one_inside : (p q : Policy) → same_answer p ≡ same_answer q → p ≡ q
+one_inside p q h = cc
+
+-- ---- of a source
+
 module _ {contents : Option Contents} (s : Source) (images : Images) (facts : AreFacts contents s images) where
   abbrev t : Tables
   t = system_tables s images
@@ -135,23 +170,44 @@ module _ {contents : Option Contents} (s : Source) (images : Images) (facts : Ar
   labels_of_flat : AreLabels (label_lines (flat_of s))
   labels_of_flat = labels_are (flat_of s) (few_labels (flat_of s) (small_is s images facts))
 
-  -- ---- edges
+  -- the text of a label is a name that isn't long
+  line_named : (l : ℕ × List ℕ) → IsIn l (label_lines (flat_of s)) → IsShortName l.1
+  line_named l i =
+      let f = facts.faultless in
+      let c = line_called (source_tables s) refl l.0 l.1 i in
+      let w = c.1 in
+      let named = path_named c.0
+      (not_empty s f.names w.labelled c.0 w.there)
+      (paths_short s f.names (dotted s facts.short) f.types f.flat w.labelled c.0 w.there)
+      (identifiers s facts.spelled f.names w.labelled c.0 w.there) in
+      subst IsShortName c.2 named
+
+  -- an object has the label of an owner
+  object_is : (n : ℕ) (e : Entry) → slice_get (spec_of t).entries n ≡ Some e → IsLabel (source_tables s) (label_of (labels_of t).by_object n)
+  object_is n e at = let w = object_owner t (connected_is s images facts) n e at in record { owner = w.owner; there = w.there; is = w.is }
+
+  small : (l : ℕ) → IsLabel (source_tables s) l → l < 8192
+  small l w = label_small (source_tables s) refl (small_is s images facts) l w
+
+  -- ---- of a build
 
   module _ (b : Build) (made : IsMade s images b.spec b.policy b.cert b.map) where
     label_there : (l : ℕ) → IsLabel (source_tables s) l → is_some (label_name b.policy.labels l) ≡ true
     label_there l w = ap (λ z. is_some (label_name z l)) made.labels ∙ named_at (source_tables s) refl l w
 
-    leads : (k : ℕ) (e : Edge) → k < length b.policy.edges → IsLabel (source_tables s) (get_or b.policy.edges k e).from × IsLabel (source_tables s) (get_or b.policy.edges k e).to
-    leads k e l =
-        let x = get_or b.policy.edges k e in
-        edge_labels (source_tables s) (flat_is s images facts) x
-        (inl ((made.edges x).0 (in_has x b.policy.edges (in_place x b.policy.edges k (slice_get-get_or b.policy.edges k e l)))))
+    leads : (e : Edge) → IsIn e b.policy.edges → IsLabel (source_tables s) e.from × IsLabel (source_tables s) e.to
+    leads e i = edge_labels (source_tables s) (flat_is s images facts) e (inl ((made.edges e).0 (in_has e b.policy.edges i)))
 
-    edges_labelled : AreLabelled b.policy b.policy.edges
-    edges_labelled = record {
-      from = λ k e l. label_there (get_or b.policy.edges k e).from (leads k e l).0;
-      to = λ k e l. label_there (get_or b.policy.edges k e).to (leads k e l).1;
-    }
+    object_labelled : (o : List ℕ × ℕ) → IsIn o b.policy.objects → IsLabel (source_tables s) o.1
+    object_labelled o i =
+        let entries = (spec_of t).entries in
+        let labels = (labels_of t).by_object in
+        let n = place_of o (labelled entries labels) (subst (λ z. IsIn o z) made.objects i) in
+        let e = from_ones (λ n (e : Entry). (e.name, label_of labels n)) entries n.0 o n.1 in
+        subst (λ z. IsLabel (source_tables s) z) (ap (λ (z : List ℕ × ℕ). z.1) e.2) (object_is n.0 e.0 e.1)
+
+    line_here : (l : ℕ × List ℕ) → IsIn l b.policy.labels → IsShortName l.1
+    line_here l i = line_named l (subst (λ z. IsIn l z) made.labels i)
 
     few_edges : length b.policy.edges ≤ 262144
     few_edges = let l = policy_few s images facts b made in omega (arith, l)
@@ -162,22 +218,56 @@ module _ {contents : Option Contents} (s : Source) (images : Images) (facts : Ar
     labels_here : AreLabels b.policy.labels
     labels_here = subst AreLabels (sym made.labels) labels_of_flat
 
-    pub made_limited : IsPolicyLimited b
-    made_limited =
+    policy_kept : IsPolicy b.policy
+    policy_kept =
+        let o = objects_here in
+        let l = labels_here in
+        record {
+          numbers = λ i j d first second same. let less = l.rising i j d first second in absurd (omega (arith, less, same));
+          names = l.texts;
+          named = each_at _ b.policy.labels (λ x i. (line_here x i).name);
+          objects = o.differ;
+          labelled = each_at _ b.policy.objects (λ x i. label_there x.1 (object_labelled x i));
+          from = each_at _ b.policy.edges (λ x i. label_there x.from (leads x i).0);
+          to = each_at _ b.policy.edges (λ x i. label_there x.to (leads x i).1);
+        }
+
+    short_label : (l : ℕ × List ℕ) → IsIn l b.policy.labels → IsLabelShort l
+    short_label l i = (at_each (λ (x : ℕ × List ℕ). x.0 < 8192) b.policy.labels labels_here.numbers l i, (line_here l i).short)
+
+    short_object : (o : List ℕ × ℕ) → IsIn o b.policy.objects → IsObjectShort o
+    short_object o i = (
+      (name_part o.0 (at_each (λ (x : List ℕ × ℕ). is_name x.0 ≡ true) b.policy.objects objects_here.names o i)).few,
+      small o.1 (object_labelled o i),
+    )
+
+    short_edge : (e : Edge) → IsIn e b.policy.edges → IsEdgeShort e
+    short_edge e i = let w = leads e i in (small e.from w.0, small e.to w.1)
+
+    policy_writable : IsWritable b.policy
+    policy_writable =
         let o = objects_here in
         let l = labels_here in
         record {
           rising = l.rising;
           numbers = l.numbers;
           labels = l.few;
-          texts = l.texts;
           names = o.names;
-          names_differ = o.differ;
           objects = o.few;
           order = made.sorted;
           edges = few_edges;
-          labelled = edges_labelled;
+          bytes = policy_short b.policy short_label short_object short_edge l.few o.few few_edges;
         }
 
-pub policy_limited : (root : List ℕ) (contents : Option Contents) (b : Build) → IsBuildOf root contents b → IsPolicyLimited b
-policy_limited root contents b is = made_limited b.front.source (images_from b.front.source is.found) (build_facts root contents b is) b is.made
+    pub made_back : IsPolicyReadBack b
+    made_back =
+        let text = policy_back b.policy policy_kept policy_writable in
+        record {
+          kept = policy_kept;
+          writable = policy_writable;
+          text = text;
+          only = λ other u. one_inside other b.policy (policies_one (policy_text b.policy) (Ok other) (Ok b.policy) tt tt u text);
+        }
+
+pub policy_read : (root : List ℕ) (contents : Option Contents) (b : Build) → IsBuildOf root contents b → IsPolicyReadBack b
+policy_read root contents b is = made_back b.front.source (images_from b.front.source is.found) (build_facts root contents b is) b is.made

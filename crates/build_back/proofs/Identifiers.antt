@@ -1,0 +1,120 @@
+-- Where tokens spell the files of a source, the names of labels' paths are identifiers.
+use Rattle.std.proofs.Common.{◌≡◌, ◌∙◌, ◌++◌, ℕ, Bool, true, false, cond, List, [], ◌∷◌, Some, refl, sym, subst, inl, inr}
+use Rattle.adl_ast.specs.Forms.{word, connection_line, composition_member_line, group_line, instance_form, instance_line}
+use Rattle.adl_ast.specs.Seeing.{named}
+use Rattle.adl_ast.specs.declared.composition.Composition.{Composition}
+use Rattle.adl_ast.specs.declared.composition.Connection.{Connection}
+use Rattle.adl_ast.specs.declared.composition.Group.{Group}
+use Rattle.adl_ast.specs.declared.composition.Instance.{Instance}
+use Rattle.adl_ast.specs.declared.composition.Line.{Line}
+use Rattle.adl_ast.specs.declared.composition.Line.TheVariants as lines
+use Rattle.adl_ast.specs.declared.id.Id.{Id}
+use Rattle.adl_ast.specs.declared.source.Source.{Source}
+use Rattle.adl_hierarchy.proofs.Bodies.{part_of_body}
+use Rattle.adl_hierarchy.proofs.PartsAt.{first_on, named_in}
+use Rattle.adl_hierarchy.proofs.Spelled.{IsOne, line_spelled, one_of}
+use Rattle.adl_hierarchy.specs.Spelled.{AreSpelled}
+use Rattle.adl_meaning.specs.Flat.{flat_of}
+use Rattle.adl_meaning.specs.Hierarchy.{Part, body, hierarchy_of, top_number}
+use Rattle.adl_meaning.specs.Holding.{Held, a_connection, as_held, held_by, held_in}
+use Rattle.adl_meaning.specs.Items.{Name}
+use Rattle.adl_meaning.specs.NameFaults.{AreNamesSound}
+use Rattle.adl_meaning.specs.Paths.{Path, at, name_of}
+use Rattle.arch_policy.specs.declared.owner.Owner.{Owner}
+use Rattle.assigned_laws.proofs.LabelPaths.{Ends, held_instance, label_ends}
+use Rattle.assigned_laws.specs.Named.{HasPath}
+use Rattle.cam_base.specs.Names.{is_name}
+use Rattle.numbering.proofs.Gathered.{in_append}
+use Rattle.numbering.proofs.Lists.{from_flat_map, from_map}
+use Rattle.numbering.specs.Gather.{IsIn}
+
+abbrev pub IsIdentifier : Name → Type 0
+IsIdentifier n = is_name n ≡ true
+
+-- what a word of the source names
+named_is : (text : List ℕ) → IsIdentifier (named text)
+named_is text = by_test (is_name text) refl
+  where
+    by_test : (b : Bool) → is_name text ≡ b → IsIdentifier (cond b text (95 ∷ []))
+    by_test true h = h
+    by_test false h = refl
+
+-- ---- lines of compositions
+
+word_name : (i : Id) → IsOne word i → IsIdentifier i.name
+word_name i w = let p = w.1 in subst (λ (z : Id). IsIdentifier z.name) (sym p.1) (named_is p.0.text)
+
+instance_name : (i : Instance) → IsOne instance_line i → IsIdentifier i.id.name
+unfolding instance_line
+instance_name i w = let p = w.1 in subst (λ (z : Instance). IsIdentifier z.id.name) (sym p.1) (word_name p.0.1.1.0 (p.2.4.4.0, p.2.4.4.3))
+
+connection_name : (k : Connection) → IsOne connection_line k → IsIdentifier k.id.name
+unfolding connection_line
+connection_name k w = let p = w.1 in subst (λ (z : Connection). IsIdentifier z.id.name) (sym p.1) (word_name p.0.1.1.0 (p.2.4.4.0, p.2.4.4.3))
+
+group_name : (g : Group) → IsOne group_line g → IsIdentifier g.id.name
+unfolding group_line
+group_name g w = let p = w.1 in subst (λ (z : Group). IsIdentifier z.id.name) (sym p.1) (word_name p.0.1.0 (p.2.4.0, p.2.4.3))
+
+group_instance : (g : Group) → IsOne group_line g → (i : Instance) → IsIn i g.instances → IsOne instance_line i
+unfolding group_line
+group_instance g w i m =
+    let p = w.1 in
+    one_of instance_form p.0.1.1.1.0 p.2.4.4.4.0 i p.2.4.4.4.3 (subst (λ (z : Group). IsIn i z.instances) p.1 m)
+
+same_name : (x y : Id × Held) → x ≡ y → IsIdentifier x.0.name → IsIdentifier y.0.name
+same_name x y e u = subst (λ (z : Id × Held). IsIdentifier z.0.name) e u
+
+line_names : (l : Line) → IsOne composition_member_line l → (x : Id × Held) → IsIn x (held_by l) → IsIdentifier x.0.name
+unfolding composition_member_line
+line_names l w x m = elim w.1 [
+  | inl a ↦ elim (subst (λ z. IsIn x (held_by z)) a.1 m) [
+    | inl e ↦ same_name (as_held a.0) x e (instance_name a.0 (w.0, a.2))
+    | inr none ↦ absurd none
+  ]
+  | inr (inl a) ↦ of_group a.0 (w.0, a.2) (subst (λ z. IsIn x (held_by z)) a.1 m)
+  | inr (inr (inl a)) ↦ elim (subst (λ z. IsIn x (held_by z)) a.1 m) [
+    | inl e ↦ same_name (a.0.id, a_connection) x e (connection_name a.0 (w.0, a.2))
+    | inr none ↦ absurd none
+  ]
+  | inr (inr (inr a)) ↦ absurd (subst (λ z. IsIn x (held_by z)) a.1 m)
+]
+  where
+    of_group : (g : Group) → IsOne group_line g → IsIn x (held_by (lines.Group g)) → IsIdentifier x.0.name
+    of_group g w (inl e) = subst (λ (z : Id × Held). IsIdentifier z.0.name) e (group_name g w)
+    of_group g w (inr j) =
+        let i = from_map as_held x g.instances j in
+        same_name (as_held i.0) x i.2 (instance_name i.0 (group_instance g w i.0 i.1))
+
+-- ---- paths
+
+module _ (s : Source) (spelled : AreSpelled s) where
+  held_names : (k : ℕ) (c : Composition) → (body (hierarchy_of s) k).composition ≡ Some c → (x : Id × Held) → IsIn x (held_in c) → IsIdentifier x.0.name
+  held_names k c e x i =
+      let l = from_flat_map held_by x c.lines i in
+      line_names l.0 (line_spelled s spelled k c e l.0 l.1) x l.2
+
+  part_name : (k : ℕ) (x : Part) → IsIn x (body (hierarchy_of s) k).parts → IsIdentifier (name_of x)
+  part_name k x i =
+      let p = part_of_body s k x i in
+      held_names k p.composition p.composed (as_held x.instance) (held_instance x.instance p.composition.lines p.stands)
+
+  at_names : (k : ℕ) (p : Path) (m : ℕ) → at (hierarchy_of s) k p ≡ Some m → (n : Name) → IsIn n p → IsIdentifier n
+  at_names k [] m e n i = absurd i
+  at_names k (c ∷ p) m e n (inl same) =
+      let y = first_on (hierarchy_of s) k c p m e in
+      let there = named_in (body (hierarchy_of s) k).parts c y.0 y.1 in
+      subst IsIdentifier (there.1 ∙ same) (part_name k y.0 there.0)
+  at_names k (c ∷ p) m e n (inr i) = let y = first_on (hierarchy_of s) k c p m e in at_names y.0.kind p m y.2 n i
+
+  ends_names : (p : Path) (held : Held) → Ends s p held → (n : Name) → IsIn n p → IsIdentifier n
+  ends_names p held w n i = elim (in_append n w.above (w.name ∷ []) (subst (λ z. IsIn n z) w.path i)) [
+    | inl above ↦ at_names (top_number (hierarchy_of s)) w.above w.kind w.there n above
+    | inr (inl same) ↦
+        let h = w.holds in
+        subst IsIdentifier (h.named ∙ same) (held_names w.kind h.composition h.composed (h.id, held) h.stands)
+    | inr (inr none) ↦ absurd none
+  ]
+
+  pub identifiers : AreNamesSound s → (x : Owner) (p : Path) → HasPath (flat_of s) x p → (n : Name) → IsIn n p → IsIdentifier n
+  identifiers sound x p h = let w = label_ends s sound x p h in ends_names p w.0 w.1
