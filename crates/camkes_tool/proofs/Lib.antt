@@ -1,3 +1,4 @@
+pub mod Accepted
 pub mod Leaving
 pub mod OneAnswer
 pub mod Statuses

@@ -1,5 +1,9 @@
--- What `compile` leaves with status 0 is a sound build, written whole.
+-- What `compile` leaves with status 0 is a sound build, written whole, whose texts are read back.
 use Rattle.std.proofs.Common.{◌≡◌, ◌∙◌, ℕ, List, Option, Some, inl, inr, sym, subst, arith}
+use Rattle.build_back.proofs.CertBack.{cert_read}
+use Rattle.build_back.proofs.HeldAsRead.{as_read}
+use Rattle.build_back.proofs.PolicyBack.{policy_read}
+use Rattle.build_back.proofs.SpecBack.{spec_back}
 use Rattle.build_laws.proofs.Soundness.{build_sound}
 use Rattle.cam_io.specs.Contents.{Contents}
 use Rattle.cam_io.specs.Sinks.{Sink}
@@ -24,7 +28,16 @@ whole_status answer status old new m n tells zero = elim tells.told [
 module _ (contents : Option Contents) (before now : List ℕ → ℕ) (root base : List ℕ) (status : ℕ) (old new : Sink) (m n : ℕ) (zero : status ≡ 0) where
   root_written : (answer : Answer) → FitsRoot root base contents before now answer → Tells answer status old new m n → IsWritten contents root base old new
   root_written (Compiled names b) fits tells = elim tells.told [
-    | inl t ↦ record { build = b; names = names; made = fits.1; named = fits.0; whole = t.1; sound = build_sound root contents b fits.1 }
+    | inl t ↦ record {
+      build = b;
+      names = names;
+      made = fits.1;
+      named = fits.0;
+      whole = t.1;
+      read_back = record { spec = spec_back root contents b fits.1; policy = policy_read root contents b fits.1; cert = cert_read root contents b fits.1 };
+      as_read = as_read root contents b fits.1;
+      sound = build_sound root contents b fits.1;
+    }
     | inr t ↦ absurd (zero_not_five status zero t.0)
   ]
   root_written (Faulted file fault) fits tells = let e = whole_status (Faulted file fault) status old new m n tells zero in absurd cc

@@ -1,11 +1,13 @@
 ghost use Rattle.build_texts.specs.BuildTexts.{AreUnbegun};
+ghost use Rattle.cam_io.specs.Causes.{Rose};
 ghost use Rattle.cam_io.specs.Reading.{KeepsFiles};
 ghost use Rattle.camkes_tool.specs.Answers.{Fits, Tells, status_of};
-ghost use Rattle.camkes_tool.specs.Theorem.{IsSafe, IsWritten};
+ghost use Rattle.camkes_tool.specs.Statuses.{NoneRose};
+ghost use Rattle.camkes_tool.specs.Theorem.{HoldTexts, IsSafe, IsWritten};
 ghost use Rattle.camkes_tool.specs.declared.answer.Answer.{Answer};
 ghost use Rattle.command_words.specs.Words.{read_words};
 ghost use Rattle.command_words.specs.declared.command.Command.TheVariants.{Check, Compile};
-ghost use Rattle.std.specs.Prelude.{◌≡◌, ℕ, List, Some, if◌then◌else◌, map, string_bytes};
+ghost use Rattle.std.specs.Prelude.{◌≡◌, ◌⊎◌, ℕ, List, Some, if◌then◌else◌, map, string_bytes};
 
 use crate::Answer;
 use crate::decide::decide;
@@ -40,8 +42,8 @@ fn status_of(answer: &Answer) -> u8
 /// be begun. Takes no memory from the first begin on.
 ///
 /// There is an answer that fits the words and the files, and either it was told whole, or the status is 5 and it was
-/// cut short: `specs/Answers.antt`. What is compiled lets threads reach exactly what the source assigns, and a yes of the
-/// checker holds over every interleaving of steps: `specs/Theorem.antt`.
+/// cut short: `specs/Answers.antt`. What is compiled is read back, and lets threads reach exactly what the source assigns; a
+/// yes of the checker holds over every interleaving of steps; and of what was compiled it says yes: `specs/Theorem.antt`.
 pub fn run<F: Files, O: Outputs>(alloc: Global, words: &[String], files: &mut F, out: &mut O) -> u8
     requires { AreUnbegun (O.sink out.old) }
     ensures kept { KeepsFiles F.contents F.faults files.old files.new }
@@ -52,6 +54,9 @@ pub fn run<F: Files, O: Outputs>(alloc: Global, words: &[String], files: &mut F,
         → IsWritten (F.contents files.old) root base (O.sink out.old) (O.sink out.new) }
     ensures checked { (cdl policy cert : List ℕ) → read_words (map string_bytes words.now) ≡ Some (Check cdl policy cert)
         → result ≡ 0 → IsSafe (F.contents files.old) cdl policy }
+    ensures accepted { (cdl policy cert : List ℕ) → read_words (map string_bytes words.now) ≡ Some (Check cdl policy cert)
+        → HoldTexts (F.contents files.old) cdl policy cert → NoneRose (F.faults files.old) (F.faults files.new)
+        → ¬ Rose (O.faults out.old) (O.faults out.new) → (result ≡ 0) ⊎ (result ≡ 6) }
 {
     let answer = decide(alloc, words, files);
     tell(&answer, out)

@@ -1,0 +1,163 @@
+-- Of files that hold the texts that are written of a build, `check` says yes.
+use Rattle.std.proofs.Common.{◌≡◌, ◌≤◌, ◌⊎◌, ◌∙◌, ℕ, cond, List, Option, Some, None, Result, Ok, Err, length, true, inl, inr, refl, sym, ap, subst, arith}
+use Rattle.std.proofs.lemmas.Bool.{ltb-false}
+use Rattle.std.specs.FinMap.{get}
+use Rattle.arch_compile.specs.declared.building.Build.{Build}
+use Rattle.auth_kinds.specs.declared.edge.Edge.{Edge}
+use Rattle.auth_kinds.specs.declared.object_labels.Labels.{Labels}
+use Rattle.auth_kinds.specs.declared.policy.Policy.{Policy}
+use Rattle.build_back.proofs.CertBack.{cert_read}
+use Rattle.build_back.proofs.HeldAsRead.{as_read}
+use Rattle.build_back.proofs.PolicyBack.{policy_read}
+use Rattle.build_back.proofs.SpecBack.{spec_back}
+use Rattle.build_back.proofs.TrioValid.{trio_valid}
+use Rattle.build_back.specs.AsRead.{HoldsAsRead, IsReadAs}
+use Rattle.build_back.specs.ReadBack.{AreReadBack}
+use Rattle.build_back.specs.TriosValid.{IsTrioValid}
+use Rattle.cam_base.specs.declared.text_fault.TextFault.{TextFault}
+use Rattle.cam_base.specs.declared.error.Refused.TheVariants as refused
+use Rattle.cam_io.specs.Causes.{Rose}
+use Rattle.cam_io.specs.Contents.{Contents}
+use Rattle.cam_io.specs.Sinks.{Sink}
+use Rattle.cap_model.specs.Canonical.{canonical}
+use Rattle.cap_model.specs.declared.spec.Spec.{Spec}
+use Rattle.capdl_text.proofs.Unique.{no_fault_of_text}
+use Rattle.capdl_text.specs.Texts.{Text}
+use Rattle.command_words.specs.Words.{read_words}
+use Rattle.command_words.specs.declared.command.Command.TheVariants.{Check}
+use Rattle.generate_command.proofs.Accepting.{labels_stand}
+use Rattle.policy_text.specs.Labelled.{IsLabelling}
+use Rattle.policy_text.specs.PolicyLines.{cert_text, policy_text}
+use Rattle.policy_text.specs.PolicyTexts.{IsCertText, IsPolicyText, first_cert_fault}
+use Rattle.text_commands.specs.Codes.{tell_text}
+use Rattle.text_commands.specs.Commands.{IsCert, IsChecked, IsPolicy, IsSystem}
+use Rattle.text_commands.specs.Inputs.{Holds, IsInput, IsTold}
+use Rattle.text_commands.specs.Outcomes.{is_well, is_yes}
+use Rattle.text_commands.specs.declared.fault.InputError.{InputError}
+use Rattle.text_commands.specs.declared.fault.InputError.TheVariants.{Fault, NoMemory, ReadFault}
+use Rattle.text_commands.specs.declared.fault.InputFault.{InputFault}
+use Rattle.text_commands.specs.declared.outcome.Outcome.{Outcome}
+use Rattle.camkes_tool.proofs.Statuses.{exact_status}
+use Rattle.camkes_tool.specs.Answers.{Fits, Tells}
+use Rattle.camkes_tool.specs.Statuses.{IsStatus, IsStatusOfTexts, NoneRose}
+use Rattle.camkes_tool.specs.Theorem.{HoldTexts}
+use Rattle.camkes_tool.specs.declared.answer.Answer.{Answer}
+
+some_same : (x y : List ℕ) → Some x ≡ Some y → x ≡ y
+some_same x y e = cc
+
+none_some : (o : Option TextFault) (f : TextFault) → o ≡ None → o ≡ Some f → ⊥
+none_some o f none some = cc
+
+module _ (m : Contents) (old new : List ℕ → ℕ) where
+  -- ---- inputs
+
+  same_bytes : (name bytes other : List ℕ) → get m name ≡ Some other → Holds (Some m) name bytes → bytes ≡ other
+  same_bytes name bytes other is h = some_same bytes other (sym h ∙ is)
+
+  -- a file that is there and short is no fault
+  no_fault : (name bytes : List ℕ) → get m name ≡ Some bytes → length bytes ≤ 67108864 → (fault : InputFault) (file : List ℕ) → IsInput (Some m) old new name (Err (Fault fault file)) → ⊥
+  no_fault name bytes is short fault file (named, inl (told, absent)) = let two : ◌≡◌ {A = Option (List ℕ)} None (Some bytes) = sym absent ∙ is in cc
+  no_fault name bytes is short fault file (named, inr (told, (other, held, long))) =
+      let same = ap (λ (z : List ℕ). length z) (some_same other bytes (sym held ∙ is)) in
+      absurd (omega (arith, same, long, short))
+
+  module _ (cdl policy cert : List ℕ) (b : Build) (back : AreReadBack b) (held : HoldsAsRead b) (trio : IsTrioValid b)
+      (capdl_here : get m cdl ≡ Some (canonical b.spec)) (policy_here : get m policy ≡ Some (policy_text b.policy)) (cert_here : get m cert ≡ Some (cert_text b.cert)) where
+    short_capdl : length (canonical b.spec) ≤ 67108864
+    short_capdl = ltb-false 67108864 (length (canonical b.spec)) back.spec.text.few
+
+    -- ---- what is read
+
+    spec_read : (spec : Spec) → IsSystem (Some m) old new cdl (Ok spec) → Text (canonical b.spec) spec
+    spec_read spec (inl (bytes, input, told)) = subst (λ z. Text z spec) (same_bytes cdl bytes (canonical b.spec) capdl_here input.1) told
+    spec_read spec (inr (e, input, is)) = absurd cc
+
+    allowed_read : (allowed : Policy) → IsPolicy (Some m) old new policy (Ok allowed) → IsPolicyText (policy_text b.policy) allowed
+    allowed_read allowed (inl (bytes, input, told)) = subst (λ z. IsPolicyText z allowed) (same_bytes policy bytes (policy_text b.policy) policy_here input.1) told
+    allowed_read allowed (inr (e, input, is)) = absurd cc
+
+    edges_read : (allowed : Policy) (edges : List Edge) → IsCert (Some m) old new allowed cert (Ok edges) → IsCertText allowed (cert_text b.cert) edges
+    edges_read allowed edges (inl (bytes, input, told)) = subst (λ z. IsCertText allowed z edges) (same_bytes cert bytes (cert_text b.cert) cert_here input.1) told
+    edges_read allowed edges (inr (e, input, is)) = absurd cc
+
+    well : (outcome : Outcome) → IsChecked (Some m) old new cdl policy cert (Ok outcome) → is_well outcome ≡ true
+    well outcome (inl (spec, system, inl (allowed, text, inl (edges, read, inl (labels, labelled, said))))) =
+        let asked : IsReadAs b spec allowed labels = record { capdl = spec_read spec system; policy_is = allowed_read allowed text; labelled = labelled } in
+        let yes = held.yes spec allowed labels edges said.0 asked (edges_read allowed edges read) said.2 in
+        ap is_well said.1 ∙ ap is_yes yes
+    well outcome (inl (spec, system, inl (allowed, text, inl (edges, read, inr (e, labelled, is))))) = absurd cc
+    well outcome (inl (spec, system, inl (allowed, text, inr (e, read, is)))) = absurd cc
+    well outcome (inl (spec, system, inr (e, text, is))) = absurd cc
+    well outcome (inr (e, system, is)) = absurd cc
+
+    -- ---- no fault is told
+
+    capdl_right : (fault : InputFault) (file : List ℕ) → IsSystem (Some m) old new cdl (Err (Fault fault file)) → ⊥
+    capdl_right fault file (inl (bytes, input, told)) =
+        let same = same_bytes cdl bytes (canonical b.spec) capdl_here input.1 in
+        no_fault_of_text bytes b.spec told.1.0 (subst (λ z. Text z b.spec) (sym same) back.spec.text) told.1.1
+    capdl_right fault file (inr (Fault f g, input, is)) = no_fault cdl (canonical b.spec) capdl_here short_capdl f g input
+    capdl_right fault file (inr (ReadFault g, input, is)) = absurd cc
+    capdl_right fault file (inr (NoMemory, input, is)) = absurd cc
+
+    policy_right : (fault : InputFault) (file : List ℕ) → IsPolicy (Some m) old new policy (Err (Fault fault file)) → ⊥
+    policy_right fault file (inl (bytes, input, told)) =
+        let same = same_bytes policy bytes (policy_text b.policy) policy_here input.1 in
+        let right : IsPolicyText bytes b.policy = subst (λ z. IsPolicyText z b.policy) (sym same) back.policy.text in
+        none_some _ told.1.0 right.0 told.1.1
+    policy_right fault file (inr (Fault f g, input, is)) = no_fault policy (policy_text b.policy) policy_here back.policy.writable.bytes f g input
+    policy_right fault file (inr (ReadFault g, input, is)) = absurd cc
+    policy_right fault file (inr (NoMemory, input, is)) = absurd cc
+
+    cert_right : (allowed : Policy) → IsPolicyText (policy_text b.policy) allowed → (fault : InputFault) (file : List ℕ) → IsCert (Some m) old new allowed cert (Err (Fault fault file)) → ⊥
+    cert_right allowed text fault file (inl (bytes, input, told)) =
+        let same = same_bytes cert bytes (cert_text b.cert) cert_here input.1 in
+        let right : IsCertText b.policy bytes b.cert = subst (λ z. IsCertText b.policy z b.cert) (sym same) back.cert.text in
+        none_some (first_cert_fault allowed bytes) told.1.0 (ap (λ z. first_cert_fault z bytes) (back.policy.only allowed text) ∙ right.0) told.1.1
+    cert_right allowed text fault file (inr (Fault f g, input, is)) = no_fault cert (cert_text b.cert) cert_here back.cert.writable.bytes f g input
+    cert_right allowed text fault file (inr (ReadFault g, input, is)) = absurd cc
+    cert_right allowed text fault file (inr (NoMemory, input, is)) = absurd cc
+
+    labels_right : (spec : Spec) (allowed : Policy) → Text (canonical b.spec) spec → IsPolicyText (policy_text b.policy) allowed → (fault : InputFault) (file : List ℕ)
+        → IsTold tell_text policy (IsLabelling spec allowed) (Err (Fault fault file)) → ⊥
+    labels_right spec allowed capdl text fault file told =
+        labels_stand b told.1.0 trio
+        (subst (λ z. IsLabelling z b.policy (Err (refused.Fault told.1.0))) (back.spec.only spec capdl)
+        (subst (λ z. IsLabelling spec z (Err (refused.Fault told.1.0))) (back.policy.only allowed text) told.1.1))
+
+    all_right : (fault : InputFault) (file : List ℕ) → IsChecked (Some m) old new cdl policy cert (Err (Fault fault file)) → ⊥
+    all_right fault file (inr (Fault f g, system, is)) = capdl_right f g system
+    all_right fault file (inr (ReadFault g, system, is)) = absurd cc
+    all_right fault file (inr (NoMemory, system, is)) = absurd cc
+    all_right fault file (inl (spec, system, inr (Fault f g, text, is))) = policy_right f g text
+    all_right fault file (inl (spec, system, inr (ReadFault g, text, is))) = absurd cc
+    all_right fault file (inl (spec, system, inr (NoMemory, text, is))) = absurd cc
+    all_right fault file (inl (spec, system, inl (allowed, text, inr (Fault f g, read, is)))) = cert_right allowed (allowed_read allowed text) f g read
+    all_right fault file (inl (spec, system, inl (allowed, text, inr (ReadFault g, read, is)))) = absurd cc
+    all_right fault file (inl (spec, system, inl (allowed, text, inr (NoMemory, read, is)))) = absurd cc
+    all_right fault file (inl (spec, system, inl (allowed, text, inl (edges, read, inr (Fault f g, labelled, is))))) =
+        labels_right spec allowed (spec_read spec system) (allowed_read allowed text) f g labelled
+    all_right fault file (inl (spec, system, inl (allowed, text, inl (edges, read, inr (ReadFault g, labelled, is))))) = absurd cc
+    all_right fault file (inl (spec, system, inl (allowed, text, inl (edges, read, inr (NoMemory, labelled, is))))) = absurd cc
+    all_right fault file (inl (spec, system, inl (allowed, text, inl (edges, read, inl (labels, labelled, said))))) = absurd said
+
+    -- ---- the status
+
+    status_is : (status : ℕ) → IsStatusOfTexts (IsChecked (Some m) old new cdl policy cert) status → (status ≡ 0) ⊎ (status ≡ 6)
+    status_is status (inl (outcome, asked, e)) = inl (e ∙ ap (λ z. cond z 0 3) (well outcome asked))
+    status_is status (inr (inl (fault, file, asked, e))) = absurd (all_right fault file asked)
+    status_is status (inr (inr six)) = inr six
+
+pub texts_accepted : (contents : Option Contents) (before now : List ℕ → ℕ) (cdl policy cert : List ℕ) (words : List (List ℕ)) (answer : Answer) (status : ℕ) (old new : Sink) (m n : ℕ)
+    → read_words words ≡ Some (Check cdl policy cert) → HoldTexts contents cdl policy cert → NoneRose before now → ¬ Rose m n
+    → Fits words contents before now answer → Tells answer status old new m n → (status ≡ 0) ⊎ (status ≡ 6)
+texts_accepted contents before now cdl policy cert words answer status old new m n asked holds none kept fits tells =
+    let b = holds.build in
+    let root = holds.root in
+    let sources = holds.sources in
+    let told = holds.told in
+    let back : AreReadBack b = record { spec = spec_back root sources b holds.made; policy = policy_read root sources b holds.made; cert = cert_read root sources b holds.made } in
+    let exact = exact_status told words before now answer status old new m n (subst (λ z. Fits words z before now answer) holds.are fits) tells none kept in
+    status_is told before now cdl policy cert b back (as_read root sources b holds.made) (trio_valid root sources b holds.made) holds.capdl holds.allowed holds.certificate status
+    (subst (λ z. IsStatus told before now z status) asked exact)
