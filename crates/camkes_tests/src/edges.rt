@@ -1,5 +1,8 @@
 //! Authorities, and tables of edges.
 
+ghost use Rattle.auth_kinds.specs.Shared.{PairBefore};
+ghost use Rattle.std.specs.Prelude.{◌≡◌, ◌≢◌, ◌<◌, length, All, AllPairs, IfOk, IsTrue};
+
 use auth_kinds::{Authority, AuthoritySet, Edge, EdgeTable, with_edge, with_set};
 use std::alloc::Global;
 use std::test::Fail;
@@ -69,6 +72,74 @@ fn labels_of_one_class(rt: HostRuntime) -> Result<(), Fail> {
     let table = EdgeTable::from_list(rt.alloc(), edges.as_slice())?;
     assert!(rt;
         table.class_of(0) == Some(0) && table.class_of(1) == Some(0) && table.class_of(2).is_none()
+    );
+    Ok(())
+}
+
+/// The labels from 0 on, so many.
+fn labels(alloc: Global, count: u32) -> Result<Vec<u32>, Fail>
+    ensures rise { IfOk result (λ labels. AllPairs ◌<◌ labels.items) }
+    ensures count { IfOk result (λ labels. length labels.items ≡ count) }
+{
+    Ok((0..count).collect(alloc)?)
+}
+
+/// Each of the eleven authorities other than Reply with each label below 8,192.
+fn pairs(alloc: Global) -> Result<Vec<(Authority, u32)>, Fail> {
+    let mut pairs = Vec::new(alloc);
+    for number in [0, 1, 2, 3, 4, 5, 6, 7, 8, 10, 11] {
+        if let Some(authority) = Authority::of_number(number) {
+            for label in 0..8192 {
+                pairs.push((authority, label))?;
+            }
+        }
+    }
+    Ok(pairs)
+}
+
+fn is_before(p: (Authority, u32), q: (Authority, u32)) -> bool
+    ensures { IsTrue result → PairBefore p q }
+{
+    p.0.number() < q.0.number() || p.0.number() == q.0.number() && p.1 < q.1
+}
+
+/// Whether the pairs rise, and none of them is a reply.
+fn may_be_shared(pairs: &[(Authority, u32)]) -> bool
+    ensures rise { IsTrue result → AllPairs PairBefore pairs.now }
+    ensures others { IsTrue result → All (λ p. p.0 ≢ Authority.Reply) pairs.now }
+{
+    for i in 1..pairs.len() {
+        if !is_before(pairs[i - 1], pairs[i]) {
+            return false;
+        }
+    }
+    pairs.iter().all(|pair| pair.0 != Authority::Reply)
+}
+
+fn shared(alloc: Global, labels: &[u32], pairs: &[(Authority, u32)]) -> Result<EdgeTable, Fail>
+    requires rise { AllPairs ◌<◌ labels.now }
+    requires count { length labels.now ≡ 16384 }
+{
+    if pairs.len() > 90_112 || !may_be_shared(pairs) {
+        return Err(Fail::new("pairs that can't be shared"));
+    }
+    Ok(EdgeTable::shared(alloc, labels, pairs)?)
+}
+
+/// More edges than memory has room for one by one.
+fn wide_table(alloc: Global) -> Result<EdgeTable, Fail> {
+    let labels = labels(alloc, 16_384)?;
+    let pairs = pairs(alloc)?;
+    shared(alloc, labels.as_slice(), pairs.as_slice())
+}
+
+#[test]
+fn edges_that_labels_share(rt: HostRuntime) -> Result<(), Fail> {
+    let table = wide_table(rt.alloc())?;
+    assert!(rt;
+        table.out_of(16_383) == (1_476_304_896, 1_476_395_008)
+            && table.class_of(16_383) == Some(0)
+            && table.get(1_476_395_007) == Some(edge(16_383, Authority::Handle, 8191))
     );
     Ok(())
 }
