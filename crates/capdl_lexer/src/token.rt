@@ -4,8 +4,8 @@ use cap_model::Level;
 /// A run of bytes of a text, from its first byte to the byte past its last.
 #[derive(Clone, Copy)]
 pub struct Span {
-    pub first: u64,
-    pub end: u64,
+    pub first: u32,
+    pub end: u32,
 }
 
 #[derive(Clone, Copy)]
@@ -64,8 +64,27 @@ pub enum Kind {
     Mark(Mark),
 }
 
+/// A token. Definitions alone speak of it; readers keep lexemes.
 #[derive(Clone, Copy)]
 pub struct Token {
     pub kind: Kind,
+    pub place: Span,
+}
+
+/// What kind of token stands at a place, without the value of a number.
+#[derive(Clone, Copy)]
+pub enum Sort {
+    Word(Word),
+    Number,
+    /// The size `4k`.
+    Page,
+    Text,
+    Mark(Mark),
+}
+
+/// A token as readers keep it: the value of a number is read from its bytes.
+#[derive(Clone, Copy)]
+pub struct Lexeme {
+    pub sort: Sort,
     pub place: Span,
 }

@@ -10,18 +10,18 @@ ghost use Rattle.std.specs.Option.{option_copied, option_map};
 ghost use Rattle.std.specs.Prelude.{◌≡◌, ◌<◌, ◌≤◌, ◌^◌, ℕ, [], List as Seq, map, length, slice_get, Some as Present, OnOk, IfOk};
 
 use crate::known::find;
-use cam_base::{List, Name, NoMemory};
+use crate::names::Names;
+use cam_base::{List, Name, NoMemory, Text};
 use cap_model::{Cap, Entry, Fill, Object, Rights, Spec, Tcb};
 use capdl_text::{
-    FillLine, FrameField, FrameValue, Holder, IrqLine, KindLine, Known, ObjectLine, Param, SlotKey,
-    SlotLine, SpecTree, ThreadField, ThreadValue,
+    FillLine, FrameField, FrameValue, Holder, IrqLine, KindLine, Known, NameAt, ObjectLine, Param,
+    SlotKey, SlotLine, SpecTree, ThreadField, ThreadValue,
 };
-use name_tables::NameTable;
 use std::alloc::Global;
 use std::collections::BTreeMap;
 
 /// The place of the object that a name stands for, 0 where it stands for none.
-pub(crate) fn place_of(known: &NameTable<Known>, name: &Name) -> usize
+pub(crate) fn place_of(known: &Names<Known>, name: &NameAt) -> usize
     ensures { result ≡ place_or (found known.now name.now) }
 {
     match find(known, name) {
@@ -53,7 +53,7 @@ fn badge_said(params: &[Param]) -> u64
 }
 
 /// The capability of a slot.
-fn cap_said(known: &NameTable<Known>, slot: &SlotLine) -> Cap
+fn cap_said(known: &Names<Known>, slot: &SlotLine) -> Cap
     requires few { (n : Seq ℕ) → place_or (found known.now n) < 2 ^ 32 }
     ensures { result ≡ cap_said (found known.now) slot.now }
 {
@@ -82,7 +82,7 @@ fn put_slot(key: SlotKey, cap: Cap, slots: &mut BTreeMap<u64, Cap>) -> Result<()
 /// The numbered slots, sorted by number.
 fn slots_said(
     alloc: Global,
-    known: &NameTable<Known>,
+    known: &Names<Known>,
     lines: &[SlotLine],
 ) -> Result<List<(u64, Cap)>, NoMemory>
     requires few { (n : Seq ℕ) → place_or (found known.now n) < 2 ^ 32 }
@@ -105,7 +105,7 @@ fn put_field(alloc: Global, value: &ThreadValue, tcb: &mut Tcb) -> Result<(), No
         ThreadValue::Ip(n) => tcb.ip = n.value,
         ThreadValue::Sp(n) => tcb.sp = n.value,
         ThreadValue::Prio(n) => tcb.prio = n.value,
-        ThreadValue::Elf(text) => tcb.elf = Some(text.copy(alloc)?),
+        ThreadValue::Elf(text) => tcb.elf = Some(Text::new(alloc, text.as_bytes())?),
     }
     Ok(())
 }
@@ -133,7 +133,7 @@ fn put_named(key: SlotKey, cap: Cap, tcb: &mut Tcb)
 }
 
 /// Puts each capability into a thread's named slot.
-fn put_all_named(known: &NameTable<Known>, lines: &[SlotLine], tcb: &mut Tcb)
+fn put_all_named(known: &Names<Known>, lines: &[SlotLine], tcb: &mut Tcb)
     requires few { (n : Seq ℕ) → place_or (found known.now n) < 2 ^ 32 }
     ensures { tcb.new ≡ named_from (found known.now) tcb.old lines.now }
 {
@@ -144,7 +144,7 @@ fn put_all_named(known: &NameTable<Known>, lines: &[SlotLine], tcb: &mut Tcb)
 
 fn thread_said(
     alloc: Global,
-    known: &NameTable<Known>,
+    known: &Names<Known>,
     fields: &[ThreadField],
     lines: &[SlotLine],
 ) -> Result<Tcb, NoMemory>
@@ -183,7 +183,7 @@ fn fill_of(alloc: Global, fill: &FillLine) -> Result<Fill, NoMemory>
     Ok(Fill {
         offset: fill.offset.value,
         length: fill.length.value,
-        file: fill.file.copy(alloc)?,
+        file: Text::new(alloc, fill.file.as_bytes())?,
         at: fill.at.value,
     })
 }
@@ -208,7 +208,7 @@ fn fill_said(alloc: Global, fields: &[FrameField]) -> Result<Option<Fill>, NoMem
     Ok(None)
 }
 
-fn notification_said(known: &NameTable<Known>, lines: &[SlotLine]) -> Option<u32>
+fn notification_said(known: &Names<Known>, lines: &[SlotLine]) -> Option<u32>
     requires few { (n : Seq ℕ) → place_or (found known.now n) < 2 ^ 32 }
     ensures { result ≡ notification_said (found known.now) lines.now }
 {
@@ -222,7 +222,7 @@ fn notification_said(known: &NameTable<Known>, lines: &[SlotLine]) -> Option<u32
 
 fn object_said(
     alloc: Global,
-    known: &NameTable<Known>,
+    known: &Names<Known>,
     kind: &KindLine,
     lines: &[SlotLine],
 ) -> Result<Object, NoMemory>
@@ -267,32 +267,22 @@ fn object_said(
 }
 
 /// The slot lines of holders by name: of the first holder of each.
-fn held_names<'a>(
+fn held_names<'x, 'h>(
     alloc: Global,
-    holders: &'a [Holder],
-) -> Result<NameTable<'a, &'a [SlotLine]>, NoMemory>
+    holders: &'h [Holder<'x>],
+) -> Result<Names<'x, &'h [SlotLine<'x>]>, NoMemory>
     ensures { IfOk result (λ t. (n : Seq ℕ) → lines_told (found t n) ≡ held holders.entry.now n) }
 {
-    let mut table = NameTable::new(alloc);
+    let mut table = Names::new(alloc);
     for holder in holders {
-        table.add(&holder.id.name, holder.slots.as_slice())?;
+        table.add(holder.id.name.as_bytes(), holder.slots.as_slice())?;
     }
     Ok(table)
 }
 
-/// The slot lines of a name.
-fn held<'a>(table: &NameTable<'a, &'a [SlotLine]>, name: &Name) -> &'a [SlotLine]
-    ensures { result.now ≡ lines_told (found table.now name.now) }
-{
-    match table.get(name) {
-        None => &[],
-        Some(lines) => lines,
-    }
-}
-
 fn entry_said(
     alloc: Global,
-    known: &NameTable<Known>,
+    known: &Names<Known>,
     object: &ObjectLine,
     lines: &[SlotLine],
 ) -> Result<Entry, NoMemory>
@@ -301,14 +291,31 @@ fn entry_said(
     ensures { IfOk result (λ entry. entry ≡ record { name = object.now.id.name; object = object_said (found known.now) object.now.kind lines.now }) }
 {
     Ok(Entry {
-        name: object.id.name.copy(alloc)?,
+        name: Name::of_identifier(alloc, object.id.name.as_bytes())?,
         object: object_said(alloc, known, &object.kind, lines)?,
     })
 }
 
+/// The entry of an object, with the slot lines of its name.
+fn held_entry(
+    alloc: Global,
+    known: &Names<Known>,
+    table: &Names<&[SlotLine]>,
+    object: &ObjectLine,
+) -> Result<Entry, NoMemory>
+    requires few { (n : Seq ℕ) → place_or (found known.now n) < 2 ^ 32 }
+    requires sound { AreBitsFew object.now.kind }
+    ensures { IfOk result (λ entry. entry ≡ record { name = object.now.id.name; object = object_said (found known.now) object.now.kind (lines_told (found table.now object.now.id.name)) }) }
+{
+    match table.get(object.id.name.as_bytes()).copied() {
+        None => entry_said(alloc, known, object, &[]),
+        Some(lines) => entry_said(alloc, known, object, lines),
+    }
+}
+
 fn entries_said(
     alloc: Global,
-    known: &NameTable<Known>,
+    known: &Names<Known>,
     holders: &[Holder],
     objects: &[ObjectLine],
 ) -> Result<List<Entry>, NoMemory>
@@ -319,15 +326,14 @@ fn entries_said(
     let table = held_names(alloc, holders)?;
     let mut entries = List::new(alloc);
     for object in objects {
-        let lines = held(&table, &object.id.name);
-        entries.push(entry_said(alloc, known, object, lines)?)?;
+        entries.push(held_entry(alloc, known, &table, object)?)?;
     }
     Ok(entries)
 }
 
 fn lines_said(
     alloc: Global,
-    known: &NameTable<Known>,
+    known: &Names<Known>,
     lines: &[IrqLine],
 ) -> Result<List<(u64, u32)>, NoMemory>
     requires few { (n : Seq ℕ) → place_or (found known.now n) < 2 ^ 32 }
@@ -342,11 +348,7 @@ fn lines_said(
 }
 
 /// The spec of a tree without faults.
-pub(crate) fn build(
-    alloc: Global,
-    known: &NameTable<Known>,
-    tree: &SpecTree,
-) -> Result<Spec, NoMemory>
+pub(crate) fn build(alloc: Global, known: &Names<Known>, tree: &SpecTree) -> Result<Spec, NoMemory>
     requires known { (n : Seq ℕ) → found known.now n ≡ known_from tree.now.arch 0 tree.now.objects n }
     requires sound { tree_faults tree.now ≡ [] }
     ensures { IfOk result (λ spec. spec ≡ spec_of tree.now) }

@@ -11,6 +11,7 @@ ghost use Rattle.std.specs.Prelude.{◌≡◌, OnOk};
 
 use crate::first::First;
 use crate::known::{are_bits, find};
+use crate::names::Names;
 use cam_base::{NoMemory, TextCode};
 use cap_model::{Arch, Kind, Rights};
 use capdl_lexer::Span;
@@ -18,7 +19,6 @@ use capdl_text::{
     FillLine, FrameField, FrameValue, Holder, Id, IrqLine, KindLine, Known, ObjectLine, Param,
     SlotKey, SlotLine, SpecTree, ThreadField, ThreadValue,
 };
-use name_tables::NameTable;
 use std::alloc::Global;
 
 fn note_place(alloc: Global, suits: bool, place: Span, first: &mut First) -> Result<(), NoMemory>
@@ -329,7 +329,7 @@ fn note_slot_params(
 fn note_slot(
     alloc: Global,
     arch: Arch,
-    known: &NameTable<Known>,
+    known: &Names<Known>,
     id: &Id,
     holder: Option<Known>,
     slot: &SlotLine,
@@ -346,7 +346,7 @@ fn note_slot(
 fn note_slots(
     alloc: Global,
     arch: Arch,
-    known: &NameTable<Known>,
+    known: &Names<Known>,
     id: &Id,
     holder: Option<Known>,
     slots: &[SlotLine],
@@ -364,7 +364,7 @@ fn note_slots(
 fn note_holder(
     alloc: Global,
     arch: Arch,
-    known: &NameTable<Known>,
+    known: &Names<Known>,
     line: &Holder,
     first: &mut First,
 ) -> Result<(), NoMemory>
@@ -386,7 +386,7 @@ fn note_holder(
 fn note_holders(
     alloc: Global,
     arch: Arch,
-    known: &NameTable<Known>,
+    known: &Names<Known>,
     holders: &[Holder],
     first: &mut First,
 ) -> Result<(), NoMemory>
@@ -414,7 +414,7 @@ fn note_irq(
 
 fn note_irqs(
     alloc: Global,
-    known: &NameTable<Known>,
+    known: &Names<Known>,
     lines: &[IrqLine],
     first: &mut First,
 ) -> Result<(), NoMemory>
@@ -430,7 +430,7 @@ fn note_irqs(
 #[tactic(auto, using(capdl_text::proofs::Noting::noting))]
 pub(crate) fn note_kind_fields(
     alloc: Global,
-    known: &NameTable<Known>,
+    known: &Names<Known>,
     tree: &SpecTree,
     first: &mut First,
 ) -> Result<(), NoMemory>

@@ -2,23 +2,19 @@
 //!
 //! Nothing here writes a text, takes a step or looks at a policy. What is read, and when which fault stands, are
 //! definitions of `capdl_text`: `specs/Texts.antt` there. The rounds in which faults are looked at are functions of their
-//! own: tokens by `capdl_lexer`, the grammar in `parse.rt`, the faults of the tree in `check.rt`, and the spec in
+//! own: tokens by `capdl_lexer`, the grammar by `capdl_parse`, the faults of the tree in `check.rt`, and the spec in
 //! `build.rt`.
 #![tactic(auto)]
 
 mod build;
 mod check;
-mod field;
 mod first;
 mod kind;
 mod known;
 mod limit;
-mod object;
-mod parse;
+mod names;
 mod range;
 mod reader;
-mod slot;
-mod token;
 mod twice;
 mod unknown;
 

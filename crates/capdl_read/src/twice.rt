@@ -10,35 +10,37 @@ ghost use Rattle.std.specs.Prelude.{◌≡◌, ◌||◌, ℕ, [], List as Seq, m
 ghost use Rattle.std.specs.Str.{bytes_eq};
 
 use crate::first::First;
+use crate::names::MetNames;
 use cam_base::{NoMemory, TextCode};
 use capdl_lexer::Span;
 use capdl_text::{
     FrameField, FrameValue, Holder, Id, IrqLine, KindLine, ObjectLine, Param, SlotKey, SlotLine,
     SpecTree, ThreadField, ThreadValue,
 };
-use name_tables::{KeySet, NameSet};
+use name_tables::KeySet;
 use std::alloc::Global;
 
 /// Takes the next name, or notes that it was met before.
-fn meet_name<'a>(
+fn meet_name<'x>(
     alloc: Global,
-    id: &'a Id,
-    met: &mut NameSet<'a>,
+    id: &Id<'x>,
+    met: &mut MetNames<'x>,
     first: &mut First,
 ) -> Result<(), NoMemory>
-    ensures first { OnOk result (first.new ≡ noted first.old (where_true (is_among met.old id.entry.now.name) (at_id code.CapdlTwice id.entry.now))) }
-    ensures met { OnOk result ((n : Seq ℕ) → is_among met.new n ≡ (is_among met.old n || bytes_eq n id.entry.now.name)) }
+    ensures first { OnOk result (first.new ≡ noted first.old (where_true (is_among met.old id.now.name) (at_id code.CapdlTwice id.now))) }
+    ensures met { OnOk result ((n : Seq ℕ) → is_among met.new n ≡ (is_among met.old n || bytes_eq n id.now.name)) }
 {
-    if met.contains(&id.name) {
-        first.note(alloc, TextCode::CapdlTwice, id.place, id.name.as_bytes())?;
+    let name = id.name.as_bytes();
+    if met.contains(name) {
+        first.note(alloc, TextCode::CapdlTwice, id.place, name)?;
     }
-    met.insert(&id.name)
+    met.insert(name)
 }
 
 fn note_objects(alloc: Global, objects: &[ObjectLine], first: &mut First) -> Result<(), NoMemory>
     ensures { OnOk result (first.new ≡ noted first.old (names_twice (map (λ o. o.id) objects.now))) }
 {
-    let mut met = NameSet::new(alloc);
+    let mut met = MetNames::new(alloc);
     for object in objects {
         meet_name(alloc, &object.id, &mut met, first)?;
     }
@@ -48,7 +50,7 @@ fn note_objects(alloc: Global, objects: &[ObjectLine], first: &mut First) -> Res
 fn note_holders(alloc: Global, holders: &[Holder], first: &mut First) -> Result<(), NoMemory>
     ensures { OnOk result (first.new ≡ noted first.old (names_twice (map (λ h. h.id) holders.now))) }
 {
-    let mut met = NameSet::new(alloc);
+    let mut met = MetNames::new(alloc);
     for holder in holders {
         meet_name(alloc, &holder.id, &mut met, first)?;
     }
@@ -58,7 +60,7 @@ fn note_holders(alloc: Global, holders: &[Holder], first: &mut First) -> Result<
 fn note_irq_objects(alloc: Global, lines: &[IrqLine], first: &mut First) -> Result<(), NoMemory>
     ensures { OnOk result (first.new ≡ noted first.old (names_twice (map (λ l. l.object) lines.now))) }
 {
-    let mut met = NameSet::new(alloc);
+    let mut met = MetNames::new(alloc);
     for line in lines {
         meet_name(alloc, &line.object, &mut met, first)?;
     }
@@ -153,7 +155,7 @@ fn note_frame_fields(
     Ok(())
 }
 
-fn note_params(alloc: Global, params: &[Param], first: &mut First) -> Result<(), NoMemory>
+fn note_several(alloc: Global, params: &[Param], first: &mut First) -> Result<(), NoMemory>
     ensures { OnOk result (first.new ≡ noted first.old (keys_twice [] (map param_keyed params.now))) }
 {
     let mut met = KeySet::new(alloc);
@@ -161,6 +163,16 @@ fn note_params(alloc: Global, params: &[Param], first: &mut First) -> Result<(),
         meet_key(alloc, param_keyed(*param), b"", &mut met, first)?;
     }
     Ok(())
+}
+
+/// Notes a kind of parameter that stands a second time, for which there must be two.
+fn note_params(alloc: Global, params: &[Param], first: &mut First) -> Result<(), NoMemory>
+    ensures { OnOk result (first.new ≡ noted first.old (keys_twice [] (map param_keyed params.now))) }
+{
+    match params {
+        [] | [_] => Ok(()),
+        _ => note_several(alloc, params, first),
+    }
 }
 
 fn note_slots(

@@ -8,14 +8,14 @@ ghost use Rattle.std.specs.Prelude.{◌≡◌, OnOk};
 
 use crate::first::First;
 use crate::known::find;
+use crate::names::Names;
 use cam_base::{NoMemory, TextCode};
 use capdl_text::{Holder, Id, IrqLine, Known, SlotLine, SpecTree};
-use name_tables::NameTable;
 use std::alloc::Global;
 
 fn note_unknown(
     alloc: Global,
-    known: &NameTable<Known>,
+    known: &Names<Known>,
     id: &Id,
     first: &mut First,
 ) -> Result<(), NoMemory>
@@ -29,7 +29,7 @@ fn note_unknown(
 
 fn note_slots(
     alloc: Global,
-    known: &NameTable<Known>,
+    known: &Names<Known>,
     slots: &[SlotLine],
     first: &mut First,
 ) -> Result<(), NoMemory>
@@ -44,7 +44,7 @@ fn note_slots(
 #[tactic(auto, using(capdl_text::proofs::Noting::noting))]
 fn note_holder(
     alloc: Global,
-    known: &NameTable<Known>,
+    known: &Names<Known>,
     holder: &Holder,
     first: &mut First,
 ) -> Result<(), NoMemory>
@@ -56,7 +56,7 @@ fn note_holder(
 
 fn note_holders(
     alloc: Global,
-    known: &NameTable<Known>,
+    known: &Names<Known>,
     holders: &[Holder],
     first: &mut First,
 ) -> Result<(), NoMemory>
@@ -70,7 +70,7 @@ fn note_holders(
 
 fn note_irqs(
     alloc: Global,
-    known: &NameTable<Known>,
+    known: &Names<Known>,
     lines: &[IrqLine],
     first: &mut First,
 ) -> Result<(), NoMemory>
@@ -86,7 +86,7 @@ fn note_irqs(
 #[tactic(auto, using(capdl_text::proofs::Noting::noting))]
 pub(crate) fn note_unknowns(
     alloc: Global,
-    known: &NameTable<Known>,
+    known: &Names<Known>,
     tree: &SpecTree,
     first: &mut First,
 ) -> Result<(), NoMemory>

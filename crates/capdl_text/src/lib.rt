@@ -6,10 +6,12 @@
 //! in `specs/Texts.antt`.
 #![tactic(auto)]
 
+mod borrowed;
 mod known;
 mod laws;
 mod tree;
 
+pub use borrowed::{NameAt, TextAt};
 pub use known::Known;
 pub use laws::{
     faults_are_one, first_is_first, specs_are_one, texts_are_read, texts_have_no_fault,

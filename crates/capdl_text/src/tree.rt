@@ -1,13 +1,14 @@
-//! The tree of a text.
+//! The tree of a text, which borrows the names and texts that stand there.
 
-use cam_base::{List, Name, Text};
+use crate::borrowed::{NameAt, TextAt};
+use cam_base::List;
 use cap_model::{Arch, Level, Rights};
 use capdl_lexer::Span;
 
 /// A word that names an object.
 #[derive(Drop)]
-pub struct Id {
-    pub name: Name,
+pub struct Id<'x> {
+    pub name: NameAt<'x>,
     pub place: Span,
 }
 
@@ -19,62 +20,62 @@ pub struct Number {
 
 /// What a field of a thread says.
 #[derive(Drop)]
-pub enum ThreadValue {
+pub enum ThreadValue<'x> {
     Addr(Number),
     Ip(Number),
     Sp(Number),
     Prio(Number),
-    Elf(Text),
+    Elf(TextAt<'x>),
 }
 
 /// A field of a thread. The place is that of its word.
 #[derive(Drop)]
-pub struct ThreadField {
+pub struct ThreadField<'x> {
     pub place: Span,
-    pub value: ThreadValue,
+    pub value: ThreadValue<'x>,
 }
 
 /// What a frame is filled with.
 #[derive(Drop)]
-pub struct FillLine {
+pub struct FillLine<'x> {
     pub offset: Number,
     pub length: Number,
-    pub file: Text,
+    pub file: TextAt<'x>,
     pub at: Number,
 }
 
 /// What a field of a frame says.
 #[derive(Drop)]
-pub enum FrameValue {
+pub enum FrameValue<'x> {
     Paddr(Number),
-    Fill(Option<FillLine>),
+    Fill(Option<FillLine<'x>>),
 }
 
 /// A field of a frame. The place is that of its word.
 #[derive(Drop)]
-pub struct FrameField {
+pub struct FrameField<'x> {
     pub place: Span,
-    pub value: FrameValue,
+    pub value: FrameValue<'x>,
 }
 
 /// What an object is said to be.
 #[derive(Drop)]
-pub enum KindLine {
+pub enum KindLine<'x> {
     Endpoint,
     Notification,
     /// The number of bits.
     CNode(Number),
-    Thread(List<ThreadField>),
-    Frame(List<FrameField>),
+    Thread(List<ThreadField<'x>>),
+    Frame(List<FrameField<'x>>),
     /// The place is that of the kind's word.
     Pages(Level, Span),
     Irq,
 }
 
 #[derive(Drop)]
-pub struct ObjectLine {
-    pub id: Id,
-    pub kind: KindLine,
+pub struct ObjectLine<'x> {
+    pub id: Id<'x>,
+    pub kind: KindLine<'x>,
 }
 
 /// Which slot a line is about.
@@ -95,29 +96,29 @@ pub enum Param {
 
 /// A slot and its capability. The place is that of the slot's number or word.
 #[derive(Drop)]
-pub struct SlotLine {
+pub struct SlotLine<'x> {
     pub key: SlotKey,
     pub place: Span,
-    pub object: Id,
+    pub object: Id<'x>,
     pub params: List<Param>,
 }
 
 #[derive(Drop)]
-pub struct Holder {
-    pub id: Id,
-    pub slots: List<SlotLine>,
+pub struct Holder<'x> {
+    pub id: Id<'x>,
+    pub slots: List<SlotLine<'x>>,
 }
 
 #[derive(Drop)]
-pub struct IrqLine {
+pub struct IrqLine<'x> {
     pub number: Number,
-    pub object: Id,
+    pub object: Id<'x>,
 }
 
 #[derive(Drop)]
-pub struct SpecTree {
+pub struct SpecTree<'x> {
     pub arch: Arch,
-    pub objects: List<ObjectLine>,
-    pub holders: List<Holder>,
-    pub irqs: List<IrqLine>,
+    pub objects: List<ObjectLine<'x>>,
+    pub holders: List<Holder<'x>>,
+    pub irqs: List<IrqLine<'x>>,
 }
