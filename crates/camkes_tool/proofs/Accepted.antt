@@ -1,10 +1,9 @@
 -- Of files that hold the texts that are written of a build, `check` says yes.
-use Rattle.std.proofs.Common.{◌≡◌, ◌≤◌, ◌⊎◌, ◌∙◌, ℕ, cond, List, Option, Some, None, Result, Ok, Err, length, true, inl, inr, refl, sym, ap, subst, arith}
+use Rattle.std.proofs.Common.{◌≡◌, ◌≤◌, ◌⊎◌, ◌∙◌, ℕ, cond, List, Option, Some, None, Ok, Err, length, true, inl, inr, sym, ap, subst, arith}
 use Rattle.std.proofs.lemmas.Bool.{ltb-false}
 use Rattle.std.specs.FinMap.{get}
 use Rattle.arch_compile.specs.declared.building.Build.{Build}
 use Rattle.auth_kinds.specs.declared.edge.Edge.{Edge}
-use Rattle.auth_kinds.specs.declared.object_labels.Labels.{Labels}
 use Rattle.auth_kinds.specs.declared.policy.Policy.{Policy}
 use Rattle.build_back.proofs.CertBack.{cert_read}
 use Rattle.build_back.proofs.HeldAsRead.{as_read}
@@ -33,7 +32,6 @@ use Rattle.text_commands.specs.Codes.{tell_text}
 use Rattle.text_commands.specs.Commands.{IsCert, IsChecked, IsPolicy, IsSystem}
 use Rattle.text_commands.specs.Inputs.{Holds, IsInput, IsTold}
 use Rattle.text_commands.specs.Outcomes.{is_well, is_yes}
-use Rattle.text_commands.specs.declared.fault.InputError.{InputError}
 use Rattle.text_commands.specs.declared.fault.InputError.TheVariants.{Fault, NoMemory, ReadFault}
 use Rattle.text_commands.specs.declared.fault.InputFault.{InputFault}
 use Rattle.text_commands.specs.declared.outcome.Outcome.{Outcome}
