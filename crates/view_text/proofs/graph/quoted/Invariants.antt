@@ -1,0 +1,7 @@
+use Rattle.std.proofs.Common.{◌≡◌, take}
+use Rattle.std.specs.List.{flat_map}
+use Rattle.view_text.specs.Graphs.{quoted_byte}
+use Rattle.view_text.proofs.graph.quoted.Given as goal
+
+abbrev pub invariant-loop-byte : goal.invariant-loop-byte
+invariant-loop-byte l = l.quoted ≡ flat_map quoted_byte (take l.byte-index l.text)

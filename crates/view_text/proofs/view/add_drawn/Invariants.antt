@@ -1,0 +1,6 @@
+use Rattle.std.proofs.Common.{◌≡◌, ◌++◌, map, take}
+use Rattle.view_text.specs.Spots.{drawn}
+use Rattle.view_text.proofs.view.add_drawn.Given as goal
+
+abbrev pub invariant-loop-byte : goal.invariant-loop-byte
+invariant-loop-byte l = l.text ≡ l.fn.text ++ map (drawn l.sign) (take l.byte-index l.bytes)

@@ -1,0 +1,110 @@
+ghost use Rattle.numbering.specs.Gather.{gather};
+ghost use Rattle.std.specs.List.{flat_map};
+ghost use Rattle.std.specs.Prelude.{◌≡◌, ◌++◌, IfOk, OnOk};
+ghost use Rattle.view_text.specs.Graphs.{arrow_line, arrow_lines, graph_of, node_line, note_at, quoted, quoted_byte};
+
+use crate::texts::add;
+use auth_kinds::{Edge, EdgeTable, Policy};
+use cam_base::{List, NoMemory, Text};
+use itoa::Buffer;
+use std::alloc::Global;
+
+fn add_quoted_byte(text: &mut List<u8>, byte: u8) -> Result<(), NoMemory>
+    ensures { OnOk result (text.new ≡ text.old ++ quoted_byte byte) }
+{
+    match byte {
+        b'"' => text.extend(b"\\\""),
+        b'\\' => text.extend(b"\\\\"),
+        b'\n' => text.extend(b"\\l"),
+        _ => text.push(byte),
+    }
+}
+
+/// The text as it stands between quotes.
+fn quoted(alloc: Global, text: &[u8]) -> Result<List<u8>, NoMemory>
+    ensures { IfOk result (λ q. q ≡ quoted text.now) }
+{
+    let mut quoted = List::new(alloc);
+    for byte in text {
+        add_quoted_byte(&mut quoted, *byte)?;
+    }
+    Ok(quoted)
+}
+
+fn add_node(alloc: Global, text: &mut List<u8>, label: &(u32, Text)) -> Result<(), NoMemory>
+    ensures { OnOk result (text.new ≡ text.old ++ node_line label.now) }
+{
+    let (number, name) = label;
+    let name = quoted(alloc, name.as_bytes())?;
+    let mut digits = Buffer::new();
+    let number = digits.format(*number).as_bytes();
+    add(text, &[number, b" [label=\"", name.as_slice(), b"\"];\n"])
+}
+
+fn add_arrow(alloc: Global, text: &mut List<u8>, edge: &Edge, note: &[u8]) -> Result<(), NoMemory>
+    ensures { OnOk result (text.new ≡ text.old ++ arrow_line note.now edge.now) }
+{
+    let note = quoted(alloc, note)?;
+    let (mut from, mut to) = (Buffer::new(), Buffer::new());
+    let from = from.format(edge.from).as_bytes();
+    let to = to.format(edge.to).as_bytes();
+    let authority = edge.authority.text().as_bytes();
+    add(
+        text,
+        &[
+            from,
+            b" -> ",
+            to,
+            b" [label=\"",
+            authority,
+            b"\\l",
+            note.as_slice(),
+            b"\"];\n",
+        ],
+    )
+}
+
+fn add_nodes(alloc: Global, text: &mut List<u8>, labels: &[(u32, Text)]) -> Result<(), NoMemory>
+    ensures { OnOk result (text.new ≡ text.old ++ flat_map node_line labels.now) }
+{
+    for label in labels {
+        add_node(alloc, text, label)?;
+    }
+    Ok(())
+}
+
+fn note_at(notes: &[Text], at: usize) -> &[u8]
+    ensures { result.now ≡ note_at notes.now at }
+{
+    match notes.get(at) {
+        Some(note) => note.as_bytes(),
+        None => b"",
+    }
+}
+
+fn add_arrows(
+    alloc: Global,
+    text: &mut List<u8>,
+    edges: &EdgeTable,
+    notes: &[Text],
+) -> Result<(), NoMemory>
+    ensures { OnOk result (text.new ≡ text.old ++ arrow_lines notes.now edges.now) }
+{
+    for at in 0..edges.len() {
+        if let Some(edge) = edges.get(at) {
+            add_arrow(alloc, text, &edge, note_at(notes, at))?;
+        }
+    }
+    Ok(())
+}
+
+/// A policy as a graph in Graphviz's language, each edge with the note at its place, where there is one.
+pub fn graph_of(alloc: Global, policy: &Policy, notes: &[Text]) -> Result<List<u8>, NoMemory>
+    ensures { IfOk result (λ text. text ≡ graph_of policy.now notes.now) }
+{
+    let mut text = List::from_slice(alloc, b"digraph policy {\n")?;
+    add_nodes(alloc, &mut text, policy.labels.as_slice())?;
+    add_arrows(alloc, &mut text, &policy.edges, notes)?;
+    text.extend(b"}\n")?;
+    Ok(text)
+}
