@@ -27,7 +27,8 @@ fn addr_field<'x, 'a>(
     bytes: &'x [u8],
     tokens: &'a [Lexeme],
 ) -> Result<(ThreadField<'x>, &'a [Lexeme]), ReadError>
-    ensures { Gives (λ x. (x.0, sees bytes.now x.1.now)) result (reads (number_field_line fields.Addr thread.Addr) (sees bytes.now tokens.now)) }
+    ensures { Gives (λ x. (x.0, sees bytes.now x.1.now)) result (reads (number_field_line fields.Addr thread.Addr)
+        (sees bytes.now tokens.now)) }
 {
     let (word, rest) = take(bytes, tokens, Sort::Word(Word::Field(Field::Addr)))?;
     let (_colon, rest) = take(bytes, rest, Sort::Mark(Mark::Colon))?;
@@ -47,7 +48,8 @@ fn ip_field<'x, 'a>(
     bytes: &'x [u8],
     tokens: &'a [Lexeme],
 ) -> Result<(ThreadField<'x>, &'a [Lexeme]), ReadError>
-    ensures { Gives (λ x. (x.0, sees bytes.now x.1.now)) result (reads (number_field_line fields.Ip thread.Ip) (sees bytes.now tokens.now)) }
+    ensures { Gives (λ x. (x.0, sees bytes.now x.1.now)) result (reads (number_field_line fields.Ip thread.Ip)
+        (sees bytes.now tokens.now)) }
 {
     let (word, rest) = take(bytes, tokens, Sort::Word(Word::Field(Field::Ip)))?;
     let (_colon, rest) = take(bytes, rest, Sort::Mark(Mark::Colon))?;
@@ -67,7 +69,8 @@ fn sp_field<'x, 'a>(
     bytes: &'x [u8],
     tokens: &'a [Lexeme],
 ) -> Result<(ThreadField<'x>, &'a [Lexeme]), ReadError>
-    ensures { Gives (λ x. (x.0, sees bytes.now x.1.now)) result (reads (number_field_line fields.Sp thread.Sp) (sees bytes.now tokens.now)) }
+    ensures { Gives (λ x. (x.0, sees bytes.now x.1.now)) result (reads (number_field_line fields.Sp thread.Sp)
+        (sees bytes.now tokens.now)) }
 {
     let (word, rest) = take(bytes, tokens, Sort::Word(Word::Field(Field::Sp)))?;
     let (_colon, rest) = take(bytes, rest, Sort::Mark(Mark::Colon))?;
@@ -87,7 +90,8 @@ fn prio_field<'x, 'a>(
     bytes: &'x [u8],
     tokens: &'a [Lexeme],
 ) -> Result<(ThreadField<'x>, &'a [Lexeme]), ReadError>
-    ensures { Gives (λ x. (x.0, sees bytes.now x.1.now)) result (reads (number_field_line fields.Prio thread.Prio) (sees bytes.now tokens.now)) }
+    ensures { Gives (λ x. (x.0, sees bytes.now x.1.now)) result (reads (number_field_line fields.Prio thread.Prio)
+        (sees bytes.now tokens.now)) }
 {
     let (word, rest) = take(bytes, tokens, Sort::Word(Word::Field(Field::Prio)))?;
     let (_colon, rest) = take(bytes, rest, Sort::Mark(Mark::Colon))?;
@@ -248,7 +252,8 @@ fn maybe_fill<'x, 'a>(
     bytes: &'x [u8],
     tokens: &'a [Lexeme],
 ) -> Result<(Option<FillLine<'x>>, &'a [Lexeme]), ReadError>
-    ensures { Gives (λ x. (x.0, sees bytes.now x.1.now)) result (reads (maybe (Starts (mark_code marks.BraceL ∷ []) fill_line)) (sees bytes.now tokens.now)) }
+    ensures { Gives (λ x. (x.0, sees bytes.now x.1.now)) result
+        (reads (maybe (Starts (mark_code marks.BraceL ∷ []) fill_line)) (sees bytes.now tokens.now)) }
 {
     if !next_is(bytes, tokens, Sort::Mark(Mark::BraceL)) {
         return Ok((None, tokens));

@@ -62,7 +62,8 @@ fn next<'x, 'a, L: Line<'x>>(
     bytes: &'x [u8],
     tokens: &'a [Lexeme],
 ) -> Result<(L::Item, &'a [Lexeme]), ReadError>
-    ensures { Gives (λ x. (x.0, sees bytes.now x.1.now)) result (behind_one token_code (mark_code marks.Comma ∷ []) L.gives (sees bytes.now tokens.now)) }
+    ensures { Gives (λ x. (x.0, sees bytes.now x.1.now)) result (behind_one token_code (mark_code marks.Comma ∷ []) L.gives
+        (sees bytes.now tokens.now)) }
 {
     let (_comma, rest) = take(bytes, tokens, Sort::Mark(Mark::Comma))?;
     L::read(alloc, bytes, rest)
@@ -74,7 +75,8 @@ pub(crate) fn listed<'x, 'a, L: Line<'x>>(
     bytes: &'x [u8],
     tokens: &'a [Lexeme],
 ) -> Result<(List<L::Item>, &'a [Lexeme]), ReadError>
-    ensures { Gives (λ x. (x.0, sees bytes.now x.1.now)) result (list_of token_code (mark_code marks.Comma) L.gives (sees bytes.now tokens.now)) }
+    ensures { Gives (λ x. (x.0, sees bytes.now x.1.now)) result (list_of token_code (mark_code marks.Comma) L.gives
+        (sees bytes.now tokens.now)) }
 {
     let mut items = List::from_vec(Vec::with_capacity(alloc, 1)?);
     let (first, mut rest) = L::read(alloc, bytes, tokens)?;

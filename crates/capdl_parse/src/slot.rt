@@ -117,7 +117,8 @@ fn key<'a>(
     bytes: &[u8],
     tokens: &'a [Lexeme],
 ) -> Result<((SlotKey, Lexeme), &'a [Lexeme]), ReadError>
-    ensures { Gives (λ x. ((x.0.0, seen_of bytes.now x.0.1), sees bytes.now x.1.now)) result (reads key_line (sees bytes.now tokens.now)) }
+    ensures { Gives (λ x. ((x.0.0, seen_of bytes.now x.0.1), sees bytes.now x.1.now)) result
+        (reads key_line (sees bytes.now tokens.now)) }
 {
     if next_is(bytes, tokens, Sort::Number) {
         let (token, rest) = take(bytes, tokens, Sort::Number)?;

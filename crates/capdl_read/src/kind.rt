@@ -418,7 +418,8 @@ fn note_irqs(
     lines: &[IrqLine],
     first: &mut First,
 ) -> Result<(), NoMemory>
-    ensures { OnOk result (first.new ≡ noted first.old (flat_map (λ l. irq_off l.object (found known.now l.object.name)) lines.now)) }
+    ensures { OnOk result
+        (first.new ≡ noted first.old (flat_map (λ l. irq_off l.object (found known.now l.object.name)) lines.now)) }
 {
     for line in lines {
         note_irq(alloc, &line.object, find(known, &line.object.name), first)?;

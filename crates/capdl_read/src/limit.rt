@@ -55,7 +55,8 @@ fn note_slots(
 }
 
 fn note_holders(alloc: Global, holders: &[Holder], first: &mut First) -> Result<(), NoMemory>
-    ensures { OnOk result (first.new ≡ noted first.old (past most_caps (flat_map (λ h. map (λ s. s.object) h.slots) holders.now))) }
+    ensures { OnOk result
+        (first.new ≡ noted first.old (past most_caps (flat_map (λ h. map (λ s. s.object) h.slots) holders.now))) }
 {
     let mut room = MAX_CAPS;
     for holder in holders {

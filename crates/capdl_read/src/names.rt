@@ -88,7 +88,8 @@ impl<'x, V: Drop> Names<'x, V> {
 
     /// Puts a value under its name, where the name has none yet.
     pub(crate) fn add(&mut self, name: &'x [u8], value: V) -> Result<(), NoMemory>
-        ensures { OnOk result ((n : Seq ℕ) → found self.new n ≡ option_or (found self.old n) (found ((name.entry.now, value) ∷ []) n)) }
+        ensures { OnOk result ((n : Seq ℕ) → found self.new n ≡ option_or (found self.old n)
+            (found ((name.entry.now, value) ∷ []) n)) }
     {
         if !self.entries.contains_key(name) {
             self.entries.insert(name, value)?;

@@ -27,7 +27,8 @@ fn meet_name<'x>(
     met: &mut MetNames<'x>,
     first: &mut First,
 ) -> Result<(), NoMemory>
-    ensures first { OnOk result (first.new ≡ noted first.old (where_true (is_among met.old id.now.name) (at_id code.CapdlTwice id.now))) }
+    ensures first { OnOk result (first.new ≡ noted first.old (where_true (is_among met.old id.now.name)
+        (at_id code.CapdlTwice id.now))) }
     ensures met { OnOk result ((n : Seq ℕ) → is_among met.new n ≡ (is_among met.old n || bytes_eq n id.now.name)) }
 {
     let name = id.name.as_bytes();
@@ -75,7 +76,8 @@ fn meet_key(
     met: &mut KeySet,
     first: &mut First,
 ) -> Result<(), NoMemory>
-    ensures first { OnOk result (first.new ≡ noted first.old (where_true (has_key met.old keyed.0) (fault code.CapdlTwice keyed.1 name.now))) }
+    ensures first { OnOk result
+        (first.new ≡ noted first.old (where_true (has_key met.old keyed.0) (fault code.CapdlTwice keyed.1 name.now))) }
     ensures met { OnOk result ((k : Pair) → has_key met.new k ≡ (has_key met.old k || same_key k keyed.0)) }
 {
     if met.contains(keyed.0) {

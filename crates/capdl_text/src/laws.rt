@@ -25,13 +25,16 @@ pub fn texts_have_no_fault()
 
 /// The first fault of a list is one of them, and none comes before it. Where there is no first fault, there is none.
 pub fn first_is_first()
-    ensures first { (fs : Seq Wrong) (r : Wrong) → least fs ≡ Some r → IsIn r fs × ((h : Wrong) → IsIn h fs → precedes h r ≡ false) }
+    ensures first { (fs : Seq Wrong) (r : Wrong) → least fs ≡ Some r → IsIn r fs × ((h : Wrong) → IsIn h fs
+        → precedes h r ≡ false) }
     ensures none { (fs : Seq Wrong) → least fs ≡ None → fs ≡ [] }
 {}
 
 /// Whatever reads texts as `IsRead` says reads a text as its spec, and refuses bytes with a fault by the first, unless
 /// memory runs out.
 pub fn texts_are_read()
-    ensures spec { (bytes : Seq ℕ) (s : System) (r : Res System (Refusal Wrong)) → IsRead bytes r → Text bytes s → (r ≡ Good s) ⊎ (r ≡ Bad refusals.NoMemory) }
-    ensures fault { (bytes : Seq ℕ) (f : Wrong) (r : Res System (Refusal Wrong)) → IsRead bytes r → IsFirstFault bytes f → (r ≡ Bad (refusals.Fault f)) ⊎ (r ≡ Bad refusals.NoMemory) }
+    ensures spec { (bytes : Seq ℕ) (s : System) (r : Res System (Refusal Wrong)) → IsRead bytes r → Text bytes s
+        → (r ≡ Good s) ⊎ (r ≡ Bad refusals.NoMemory) }
+    ensures fault { (bytes : Seq ℕ) (f : Wrong) (r : Res System (Refusal Wrong)) → IsRead bytes r → IsFirstFault bytes f
+        → (r ≡ Bad (refusals.Fault f)) ⊎ (r ≡ Bad refusals.NoMemory) }
 {}
