@@ -1,4 +1,7 @@
 //! Sets and tables by name, which borrow the names from the text.
+//!
+//! They are kept in the order of the names, so that no text can make them slow: whoever knows a hash can write names that
+//! collide.
 
 ghost use Rattle.name_tables.specs.ByName.{found, is_among};
 ghost use Rattle.std.specs.Option.{option_copied, option_or};
@@ -6,14 +9,14 @@ ghost use Rattle.std.specs.Prelude.{◌≡◌, ◌∷◌, ◌||◌, ℕ, [], Lis
 ghost use Rattle.std.specs.Str.{bytes_eq};
 
 use cam_base::NoMemory;
-use indexmap::{IndexMap, IndexSet};
 use std::alloc::Global;
+use std::collections::{BTreeMap, BTreeSet};
 use std::marker::Model;
 
 /// Names that were met. Contracts see it as the list of them.
 #[derive(Drop)]
 pub(crate) struct MetNames<'x> {
-    names: IndexSet<&'x [u8]>,
+    names: BTreeSet<&'x [u8]>,
 }
 
 impl<'x> Model for MetNames<'x> {
@@ -31,7 +34,7 @@ impl<'x> MetNames<'x> {
         ensures { result ≡ [] }
     {
         MetNames {
-            names: IndexSet::new(alloc),
+            names: BTreeSet::new(alloc),
         }
     }
 
@@ -54,7 +57,7 @@ impl<'x> MetNames<'x> {
 /// Values by name. Contracts see it as the list of its entries.
 #[derive(Drop)]
 pub(crate) struct Names<'x, V> {
-    entries: IndexMap<&'x [u8], V>,
+    entries: BTreeMap<&'x [u8], V>,
 }
 
 impl<'x, V> Model for Names<'x, V> {
@@ -75,7 +78,7 @@ impl<'x, V: Drop> Names<'x, V> {
         ensures { result ≡ [] }
     {
         Names {
-            entries: IndexMap::new(alloc),
+            entries: BTreeMap::new(alloc),
         }
     }
 
