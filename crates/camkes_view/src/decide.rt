@@ -1,0 +1,36 @@
+//! What the words ask for.
+
+ghost use Rattle.cam_io.specs.Reading.{KeepsFiles};
+ghost use Rattle.camkes_view.specs.Answers.{Fits, FitsWord};
+ghost use Rattle.std.specs.Prelude.{codes, map, string_bytes};
+ghost use Rattle.std.specs.Str.{bytes_eq};
+
+use crate::answer::Answer;
+use crate::fault::view_fault;
+use crate::graph::view_graph;
+use cam_io::Files;
+use std::alloc::Global;
+
+/// What is answered to the words behind the program's name: `specs/Answers.antt`.
+pub fn decide<F: Files>(alloc: Global, words: &[String], files: &mut F) -> Answer
+    ensures kept { KeepsFiles F.contents F.faults files.old files.new }
+    ensures fits { Fits (map string_bytes words.now) (F.contents files.old) (F.faults files.old) (F.faults files.new) result }
+{
+    match words {
+        [word, what] => follow(alloc, word.as_str(), what.as_str(), files),
+        _ => Answer::Usage,
+    }
+}
+
+/// What is answered to a command and the word behind it.
+fn follow<F: Files>(alloc: Global, word: &str, what: &str, files: &mut F) -> Answer
+    ensures kept { KeepsFiles F.contents F.faults files.old files.new }
+    ensures fits { FitsWord (bytes_eq word.now (codes "fault")) (bytes_eq word.now (codes "graph")) (F.contents files.old)
+        (F.faults files.old) (F.faults files.new) what.now result }
+{
+    match word {
+        "fault" => view_fault(alloc, what, files),
+        "graph" => view_graph(alloc, what, files),
+        _ => Answer::Usage,
+    }
+}

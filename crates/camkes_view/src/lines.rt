@@ -1,0 +1,69 @@
+//! The lines that are printed where nothing is shown.
+
+ghost use Rattle.camkes_view.specs.Lines.{place_line, read_fault, refusal, space_before, text_fault_line, words};
+ghost use Rattle.camkes_view.specs.Words.{Gives};
+ghost use Rattle.camkes_view.specs.declared.answer.Answer.TheVariants as answers;
+ghost use Rattle.std.specs.Prelude.{◌≡◌, IfOk};
+
+use crate::answer::Answer;
+use cam_base::{List, NoMemory, TextFault};
+use itoa::Buffer;
+use std::alloc::Global;
+use view_text::join;
+
+fn space_before(name: &[u8]) -> &[u8]
+    ensures { result.now ≡ space_before name.now }
+{
+    if name.is_empty() { b"" } else { b" " }
+}
+
+fn place_line(
+    alloc: Global,
+    file: &[u8],
+    first: u64,
+    end: u64,
+    rest: &[u8],
+) -> Result<List<u8>, NoMemory>
+    ensures { IfOk result (λ text. text ≡ place_line file.now first end rest.now) }
+{
+    let (mut front, mut back) = (Buffer::new(), Buffer::new());
+    let first = front.format(first).as_bytes();
+    let end = back.format(end).as_bytes();
+    join(alloc, &[file, b":", first, b"-", end, b": ", rest, b"\n"])
+}
+
+fn words(alloc: Global, code: &[u8], title: &[u8], name: &[u8]) -> Result<List<u8>, NoMemory>
+    ensures { IfOk result (λ text. text ≡ words code.now title.now name.now) }
+{
+    join(alloc, &[code, b" ", title, space_before(name), name])
+}
+
+/// The line of a fault of a text.
+pub fn text_fault_line(alloc: Global, file: &str, fault: &TextFault) -> Result<List<u8>, NoMemory>
+    ensures { IfOk result (λ text. text ≡ text_fault_line file.now fault.now) }
+{
+    let code = fault.code.word().as_bytes();
+    let title = fault.code.title().as_bytes();
+    let rest = words(alloc, code, title, fault.name.as_bytes())?;
+    place_line(
+        alloc,
+        file.as_bytes(),
+        fault.first,
+        fault.end,
+        rest.as_slice(),
+    )
+}
+
+/// That nothing is shown of a file, and why.
+pub fn refuse(alloc: Global, what: &[u8], why: &[u8]) -> Answer
+    ensures { Gives (answers.Refused (refusal what.now why.now)) result }
+{
+    Answer::refused(join(alloc, &[what, b": ", why, b"\n"]))
+}
+
+/// That a read failed.
+pub fn read_fault(alloc: Global, file: &[u8]) -> Answer
+    ensures { Gives (answers.ReadFault (read_fault file.now)) result }
+{
+    Answer::read_fault(join(alloc, &[b"read fault ", file, b"\n"]))
+}

@@ -1,0 +1,42 @@
+//! What `camkes` says, shown: a fault's bytes in their file, and a policy as a graph.
+//!
+//! What is answered when is in `specs/Answers.antt`, what is written of it in `specs/Words.antt` and `specs/Lines.antt`.
+#![tactic(auto)]
+
+mod answer;
+mod decide;
+mod fault;
+mod graph;
+mod lines;
+
+use answer::Answer;
+use cam_io::{HostFiles, HostOutputs};
+use decide::decide;
+use std::io::ErrorKind;
+use std::process::ExitCode;
+use std::{env, io};
+
+fn main(rt: HostRuntime) -> io::Result<ExitCode> {
+    let mut files = HostFiles::new(rt.clone()?);
+    let mut out = HostOutputs::new(rt.clone()?);
+    let answer = match words(&rt) {
+        Ok(words) => decide(rt.alloc(), &words, &mut files),
+        Err(error) if error.kind() == ErrorKind::OutOfMemory => Answer::NoMemory,
+        Err(_) => Answer::Usage,
+    };
+    match answer.write(&mut out) {
+        Ok(()) => Ok(ExitCode::from(answer.status())),
+        Err(_) => Ok(ExitCode::from(5)),
+    }
+}
+
+/// The words behind the program's name.
+fn words(rt: &HostRuntime) -> io::Result<Vec<String>> {
+    let mut words = Vec::new(rt.alloc());
+    for word in env::args(rt)?.skip(1) {
+        if words.push(word).is_err() {
+            return Err(io::Error::from(ErrorKind::OutOfMemory));
+        }
+    }
+    Ok(words)
+}
