@@ -28,6 +28,9 @@ use auth_kinds::{
 use camkes_tool::{
     failures_have_a_cause, refusals_touch_one_channel_alone, success_writes_a_whole_text,
 };
+use cap_machine::{answers_are_told, states_keep_fitting, steps_follow_the_table};
+use cap_model::examples_are_written;
+use cert_check::valid_certificates_are_sound;
 use component_graph::{acyclic_is_unheld, held_is_held, walks_are_short};
 use conn_rules::{rights_confer_just_the_authorities, sets_are_their_lists};
 use flat_laws::{ends_are_typed, flat_systems_are_within, short_files_have_few_members};
@@ -125,4 +128,13 @@ fn laws_of_answers(_rt: HostRuntime) {
     refusals_touch_one_channel_alone();
     success_writes_a_whole_text();
     failures_have_a_cause();
+}
+
+#[test]
+fn laws_of_the_machine(_rt: HostRuntime) {
+    examples_are_written();
+    steps_follow_the_table();
+    states_keep_fitting();
+    answers_are_told();
+    valid_certificates_are_sound();
 }
