@@ -1,4 +1,5 @@
 pub mod Appends
+pub mod Buffering
 pub mod Channels
 pub mod Counts
 pub mod Fronts

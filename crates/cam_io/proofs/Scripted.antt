@@ -1,5 +1,5 @@
 -- Scripts, act by act.
-use Rattle.std.proofs.Common.{IsErr, ◌≡◌, inl, inr, sym, ap, subst, ◌∙◌, ℕ, ◌≤◌, ◌==◌, ◌||◌, Bool, true, false, List, [], ◌∷◌, IsTrue, Result, Ok, Err, arith, rules}
+use Rattle.std.proofs.Common.{IsErr, ◌≡◌, inl, inr, sym, ap, subst, ◌∙◌, ℕ, ◌≤◌, ◌==◌, ◌||◌, Bool, true, false, cond, List, [], ◌∷◌, IsTrue, Result, Ok, Err, arith, rules}
 use Rattle.std.proofs.lemmas.Bool.Decides.{nat_tests}
 use Rattle.cam_io.specs.Sinks.{Sink, IsOpen, Writes, with_begun}
 use Rattle.cam_io.proofs.Appends.{begun_appended}
@@ -44,6 +44,17 @@ either false false = search rules
 pub open_begun : (s t : Sink) (c : ℕ) (name : List ℕ) → t ≡ with_begun s c name → IsOpen t c
 unfolding with_begun
 open_begun s t c name e = subst (λ z. IsOpen z c) (sym e) (let same : (c == c) ≡ true = grind (arith, nat_tests) in record { may = rw same (either (c == 0) (c == 1)) })
+
+stays : (a b c d : Bool) → IsTrue (a || (b || d)) → IsTrue (a || (b || cond c true d))
+stays true b c d h = search rules
+stays false true c d h = search rules
+stays false false true d h = search rules
+stays false false false d h = h
+
+-- what was open is open behind a begin
+pub open_behind_begin : (s t : Sink) (c k : ℕ) (name : List ℕ) → t ≡ with_begun s c name → IsOpen s k → IsOpen t k
+unfolding with_begun
+open_behind_begin s t c k name e h = subst (λ z. IsOpen z k) (sym e) record { may = stays (k == 0) (k == 1) (k == c) (s.begun k) h.may }
 
 -- another channel that isn't begun stays so
 pub fresh_begun : (s t : Sink) (c d : ℕ) (name : List ℕ) → t ≡ with_begun s c name → (d == c) ≡ false → s.begun d ≡ false → t.begun d ≡ false

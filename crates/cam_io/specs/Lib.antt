@@ -1,3 +1,4 @@
+pub mod Buffered
 pub mod Causes
 pub mod Channels
 pub mod Contents

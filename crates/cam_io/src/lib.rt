@@ -10,6 +10,7 @@
 //! `proofs/Scripted.antt`.
 #![tactic(auto)]
 
+mod buffered;
 mod files;
 mod fixed_files;
 mod host_files;
@@ -22,6 +23,7 @@ mod outputs;
 mod whole;
 mod write;
 
+pub use buffered::Buffered;
 pub use files::{Failed, Files, Got};
 pub use fixed_files::FixedFiles;
 pub use host_files::HostFiles;

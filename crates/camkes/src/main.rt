@@ -1,10 +1,10 @@
 //! The program: it hands its words, the host's files and the host's outputs to the top call, and ends with its status.
 //!
 //! Nothing here decides anything but what to say of words that can't be read: words that aren't UTF-8 are no command,
-//! and want of memory is status 6.
+//! want of memory is status 6, and outputs that can't hold what was written are status 5.
 #![tactic(auto)]
 
-use cam_io::{HostFiles, HostOutputs, write_all};
+use cam_io::{Buffered, HostFiles, HostOutputs, write_all};
 use camkes_tool::run;
 use std::io::ErrorKind;
 use std::process::ExitCode;
@@ -12,11 +12,15 @@ use std::{env, io};
 
 fn main(rt: HostRuntime) -> io::Result<ExitCode> {
     let mut files = HostFiles::new(rt.clone()?);
-    let mut out = HostOutputs::new(rt.clone()?);
+    let mut out = Buffered::new(HostOutputs::new(rt.clone()?));
     let status = match words(&rt) {
         Ok(words) => run(rt.alloc(), &words, &mut files, &mut out),
         Err(error) if error.kind() == ErrorKind::OutOfMemory => no_memory(&mut out),
         Err(_) => run(rt.alloc(), &[], &mut files, &mut out),
+    };
+    let status = match out.finish() {
+        Ok(_) => status,
+        Err(_) => 5,
     };
     Ok(ExitCode::from(status))
 }
@@ -32,7 +36,7 @@ fn words(rt: &HostRuntime) -> io::Result<Vec<String>> {
     Ok(words)
 }
 
-fn no_memory(out: &mut HostOutputs) -> u8 {
+fn no_memory(out: &mut Buffered<HostOutputs>) -> u8 {
     match write_all(out, 1, b"no memory\n") {
         Ok(()) => 6,
         Err(_) => 5,

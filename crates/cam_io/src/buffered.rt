@@ -1,0 +1,150 @@
+ghost use Rattle.cam_io.specs.Buffered.{with_waiting};
+ghost use Rattle.cam_io.specs.Causes.{Rose};
+ghost use Rattle.cam_io.specs.Sinks.{IsOpen, appended, is_open, with_begun};
+ghost use Rattle.std.specs.Prelude.{◌≡◌, ◌<◌, ◌≤◌, ℕ, [], false, IsTrue, length, take, IfOk, OnOk, OnErr};
+
+use crate::{Failed, Outputs};
+use arrayvec::ArrayVec;
+
+/// Outputs behind a buffer: what is written waits until it is much, or until another channel is asked for, and goes on
+/// in few calls. What the outputs hold and what waits behind it are told as one.
+#[derive(Drop)]
+pub struct Buffered<O: Outputs + Drop> {
+    outputs: O,
+    channel: u8,
+    waiting: ArrayVec<u8, 8192>,
+    sent: usize,
+    ghost is_open: { IsTrue (is_open (O.sink outputs) channel) },
+    ghost within: { sent ≤ length waiting.items },
+}
+
+impl<O: Outputs + Drop> Buffered<O> {
+    /// Nothing waits.
+    pub fn new(outputs: O) -> Buffered<O>
+        ensures sink { with_waiting (O.sink result.outputs) result.channel result.waiting.items result.sent ≡ O.sink outputs }
+        ensures faults { O.faults result.outputs ≡ O.faults outputs }
+    {
+        Buffered {
+            outputs,
+            channel: 0,
+            waiting: ArrayVec::new(),
+            sent: 0,
+        }
+    }
+
+    /// The outputs, which hold all that was written. `Failed` only where the count rose.
+    pub fn finish(self) -> Result<O, Failed>
+        ensures ok { IfOk result (λ outputs. O.sink outputs ≡ with_waiting (O.sink self.outputs) self.channel self.waiting.items
+            self.sent) }
+    {
+        let Buffered {
+            mut outputs,
+            channel,
+            waiting,
+            mut sent,
+        } = self;
+        send(&mut outputs, channel, waiting.as_slice(), &mut sent)?;
+        Ok(outputs)
+    }
+
+    /// Sends what waits. After a failure the rest waits on.
+    fn send_all(&mut self) -> Result<(), Failed>
+        ensures same { with_waiting (O.sink self.new.outputs) self.new.channel self.new.waiting.items self.new.sent
+            ≡ with_waiting (O.sink self.old.outputs) self.old.channel self.old.waiting.items self.old.sent }
+        ensures channel { self.new.channel ≡ self.old.channel }
+        ensures ok { OnOk result (O.sink self.new.outputs
+            ≡ with_waiting (O.sink self.old.outputs) self.old.channel self.old.waiting.items self.old.sent) }
+        ensures waiting { OnOk result (self.new.waiting.items ≡ []) }
+        ensures sent { OnOk result (self.new.sent ≡ 0) }
+        ensures later { O.faults self.old.outputs ≤ O.faults self.new.outputs }
+        ensures failed { OnErr result (Rose (O.faults self.old.outputs) (O.faults self.new.outputs)) }
+    {
+        send(
+            &mut self.outputs,
+            self.channel,
+            self.waiting.as_slice(),
+            &mut self.sent,
+        )?;
+        self.sent = 0;
+        self.waiting.clear();
+        Ok(())
+    }
+
+    /// Sends what waits of another channel.
+    fn turn_to(&mut self, channel: u8) -> Result<(), Failed>
+        requires { IsTrue (is_open (O.sink self.old.outputs) channel) }
+        ensures same { with_waiting (O.sink self.new.outputs) self.new.channel self.new.waiting.items self.new.sent
+            ≡ with_waiting (O.sink self.old.outputs) self.old.channel self.old.waiting.items self.old.sent }
+        ensures channel { OnOk result (self.new.channel ≡ channel) }
+        ensures later { O.faults self.old.outputs ≤ O.faults self.new.outputs }
+        ensures failed { OnErr result (Rose (O.faults self.old.outputs) (O.faults self.new.outputs)) }
+    {
+        if channel != self.channel {
+            self.send_all()?;
+            self.channel = channel;
+        }
+        Ok(())
+    }
+
+    /// Sends what waits, and writes a piece behind it.
+    fn write_through(&mut self, channel: u8, piece: &[u8]) -> Result<usize, Failed>
+        requires open { IsTrue (is_open (O.sink self.old.outputs) channel) }
+        requires some { 0 < length piece.now }
+        ensures some { IfOk result (λ n. 0 < n) }
+        ensures at_most { IfOk result (λ n. n ≤ length piece.now) }
+        ensures ok { IfOk result (λ n. with_waiting (O.sink self.new.outputs) self.new.channel self.new.waiting.items self.new.sent
+            ≡ appended (with_waiting (O.sink self.old.outputs) self.old.channel self.old.waiting.items self.old.sent) channel
+            (take n piece.now)) }
+        ensures err { OnErr result (with_waiting (O.sink self.new.outputs) self.new.channel self.new.waiting.items self.new.sent
+            ≡ with_waiting (O.sink self.old.outputs) self.old.channel self.old.waiting.items self.old.sent) }
+        ensures later { O.faults self.old.outputs ≤ O.faults self.new.outputs }
+        ensures failed { OnErr result (Rose (O.faults self.old.outputs) (O.faults self.new.outputs)) }
+    {
+        self.send_all()?;
+        self.outputs.write(channel, piece)
+    }
+}
+
+/// Writes the bytes behind the first `sent` to an open channel, and counts them as sent.
+fn send<O: Outputs>(
+    outputs: &mut O,
+    channel: u8,
+    bytes: &[u8],
+    sent: &mut usize,
+) -> Result<(), Failed>
+    requires open { IsOpen (O.sink outputs.old) channel }
+    requires within { sent.old ≤ length bytes.now }
+    ensures same { with_waiting (O.sink outputs.new) channel bytes.now sent.new
+        ≡ with_waiting (O.sink outputs.old) channel bytes.now sent.old }
+    ensures open { IsOpen (O.sink outputs.new) channel }
+    ensures within { sent.new ≤ length bytes.now }
+    ensures ok { OnOk result (sent.new ≡ length bytes.now) }
+    ensures later { O.faults outputs.old ≤ O.faults outputs.new }
+    ensures failed { OnErr result (Rose (O.faults outputs.old) (O.faults outputs.new)) }
+{
+    while *sent < bytes.len() {
+        *sent += outputs.write(channel, &bytes[*sent..])?;
+    }
+    Ok(())
+}
+
+impl<O: Outputs + Drop> Outputs for Buffered<O> {
+    ghost use Rattle.cam_io.specs.Buffered.{with_waiting};
+
+    ghost sink = { λ b. with_waiting (O.sink b.outputs) b.channel b.waiting.items b.sent };
+
+    ghost faults = { λ b. O.faults b.outputs };
+
+    fn begin(&mut self, channel: u8, name: &str) -> Result<(), Failed> {
+        self.send_all()?;
+        self.outputs.begin(channel, name)
+    }
+
+    fn write(&mut self, channel: u8, piece: &[u8]) -> Result<usize, Failed> {
+        self.turn_to(channel)?;
+        match self.waiting.try_extend_from_slice(piece) {
+            Ok(()) => Ok(piece.len()),
+            Err(_) => self.write_through(channel, piece),
+        }
+    }
+}
