@@ -17,6 +17,7 @@ use Rattle.arch_compile.specs.declared.laying.Layout.{Layout}
 use Rattle.arch_policy.specs.Policies.{first_edge_fault}
 use Rattle.cam_base.specs.declared.error.Refused.{Refused}
 use Rattle.cam_base.specs.declared.place.Fault.{Fault}
+use Rattle.cam_io.proofs.Counts.{rose_after}
 use Rattle.cam_io.specs.Causes.{NoneFell, Rose}
 use Rattle.cam_io.specs.Contents.{Contents}
 use Rattle.cspace_layout.specs.SlotFaults.{first_slot_fault}
@@ -171,10 +172,6 @@ built_unread contents before now m root e r meant same h rose is =
 
 -- ---- of a root
 
-rose_since : (old mid now : ℕ) → old ≤ mid → Rose mid now → Rose old now
-rose_since old mid now l (inl r) = inl (omega (arith, l, r))
-rose_since old mid now l (inr r) = inr r
-
 first_is : (s : Source) (found : List Found) (o : Option Fault) → first_front_fault s ≡ None → first_layout_fault s found ≡ o → first_fault s found ≡ o
 first_is s found o none e = second_is (first_front_fault s) (first_layout_fault s found) o none e
 
@@ -193,7 +190,7 @@ module _ (root : List ℕ) (contents : Option Contents) (old mid now : List ℕ 
   pub built_compiled : (r : Result Build BuildError) → NoneFell old mid → Builds m contents mid now r → IsCompiled root contents old now r
   built_compiled (Ok b) later h = build_of b h
   built_compiled (Err (error.Fault fault file)) later h = inr (m.source, record { loaded = is.loaded; none = is.none }, h)
-  built_compiled (Err (error.ReadFault file)) later h = (inr (m.source, record { loaded = is.loaded; none = is.none }, h.0), rose_since (old file) (mid file) (now file) (later file) h.1)
+  built_compiled (Err (error.ReadFault file)) later h = (inr (m.source, record { loaded = is.loaded; none = is.none }, h.0), rose_after (old file) (mid file) (now file) (later file) h.1)
   built_compiled (Err error.NoMemory) later h = tt
 
 pub refused_compiled : (root : List ℕ) (contents : Option Contents) (before now : List ℕ → ℕ) (e : BuildError) → Refuses first_front_fault root contents before now e → IsRefusal root contents before now e

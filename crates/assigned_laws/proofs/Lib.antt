@@ -1,5 +1,6 @@
 pub mod Accesses
 pub mod AssignedReasons
+pub mod Identifiers
 pub mod Joined
 pub mod LabelPaths
 pub mod LabelTexts

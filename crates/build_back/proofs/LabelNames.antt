@@ -12,7 +12,7 @@ use Rattle.auth_kinds.specs.Policies.{is_label_byte, is_label_name}
 use Rattle.cam_base.specs.Names.{is_letter, is_name, is_word_byte}
 use Rattle.cam_base.specs.Paths.{joined}
 use Rattle.numbering.specs.Gather.{IsIn}
-use Rattle.build_back.proofs.Identifiers.{IsIdentifier}
+use Rattle.assigned_laws.proofs.Identifiers.{IsIdentifier}
 
 -- ---- identifiers
 

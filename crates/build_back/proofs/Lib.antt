@@ -2,7 +2,6 @@ pub mod CertBack
 pub mod EdgeCounts
 pub mod EdgeTexts
 pub mod HeldAsRead
-pub mod Identifiers
 pub mod LabelNames
 pub mod Labelled
 pub mod LabelsBack

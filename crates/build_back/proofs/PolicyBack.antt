@@ -41,7 +41,7 @@ use Rattle.system_spec.specs.Made.{entry, labels_of, part_label, spec_of}
 use Rattle.system_spec.specs.Parts.{parts}
 use Rattle.system_spec.specs.Tables.{Tables}
 use Rattle.build_back.proofs.CertBack.{connected_is, flat_is, policy_few, small_is}
-use Rattle.build_back.proofs.Identifiers.{identifiers}
+use Rattle.assigned_laws.proofs.Identifiers.{identifiers}
 use Rattle.build_back.proofs.LabelNames.{IsShortName, name_part, path_named}
 use Rattle.build_back.proofs.Labelled.{IsLabel, edge_labels, few_labels, label_small, named_at}
 use Rattle.build_back.proofs.LabelsBack.{line_at}

@@ -1,5 +1,6 @@
 -- Of files that hold the texts that are written of a build, `check` says yes.
 use Rattle.std.proofs.Common.{◌≡◌, ◌≤◌, ◌⊎◌, ◌∙◌, ℕ, cond, List, Option, Some, None, Ok, Err, length, true, inl, inr, sym, ap, subst, arith}
+use Rattle.std.proofs.lemmas.Option.{same_Some}
 use Rattle.std.proofs.lemmas.Bool.{ltb-false}
 use Rattle.std.specs.FinMap.{get}
 use Rattle.arch_compile.specs.declared.building.Build.{Build}
@@ -41,9 +42,6 @@ use Rattle.camkes_tool.specs.Statuses.{IsStatus, IsStatusOfTexts, NoneRose}
 use Rattle.camkes_tool.specs.Theorem.{HoldTexts}
 use Rattle.camkes_tool.specs.declared.answer.Answer.{Answer}
 
-some_same : (x y : List ℕ) → Some x ≡ Some y → x ≡ y
-some_same x y e = cc
-
 none_some : (o : Option TextFault) (f : TextFault) → o ≡ None → o ≡ Some f → ⊥
 none_some o f none some = cc
 
@@ -51,13 +49,13 @@ module _ (m : Contents) (old new : List ℕ → ℕ) where
   -- ---- inputs
 
   same_bytes : (name bytes other : List ℕ) → get m name ≡ Some other → Holds (Some m) name bytes → bytes ≡ other
-  same_bytes name bytes other is h = some_same bytes other (sym h ∙ is)
+  same_bytes name bytes other is h = same_Some bytes other (sym h ∙ is)
 
   -- a file that is there and short is no fault
   no_fault : (name bytes : List ℕ) → get m name ≡ Some bytes → length bytes ≤ 67108864 → (fault : InputFault) (file : List ℕ) → IsInput (Some m) old new name (Err (Fault fault file)) → ⊥
   no_fault name bytes is short fault file (named, inl (told, absent)) = let two : ◌≡◌ {A = Option (List ℕ)} None (Some bytes) = sym absent ∙ is in cc
   no_fault name bytes is short fault file (named, inr (told, (other, held, long))) =
-      let same = ap (λ (z : List ℕ). length z) (some_same other bytes (sym held ∙ is)) in
+      let same = ap (λ (z : List ℕ). length z) (same_Some other bytes (sym held ∙ is)) in
       absurd (omega (arith, same, long, short))
 
   module _ (cdl policy cert : List ℕ) (b : Build) (back : AreReadBack b) (held : HoldsAsRead b) (trio : IsTrioValid b)

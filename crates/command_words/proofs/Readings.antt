@@ -1,5 +1,6 @@
 -- What the program's reader makes of its words is what `read_words` says.
 use Rattle.std.proofs.Common.{◌≡◌, ◌∙◌, ◌||◌, ℕ, Bool, cond, codes, true, false, refl, sym, ap, ap₂, subst, List, [], ◌∷◌, map, Option, Some, None, String, string_bytes, true≢false, option_map, ⊎_elim}
+use Rattle.std.proofs.lemmas.Option.{same_Some}
 use Rattle.std.specs.Prelude.{option_and_then, Box, Result, Ok, Err, IfOk, MatchResult}
 use Rattle.std.specs.Box.{box_value}
 use Rattle.std.specs.List.{find, list_all}
@@ -21,7 +22,7 @@ use Rattle.command_words.specs.declared.command.Command.TheVariants.{Compile, Ch
 use Rattle.command_words.specs.declared.command.WordsError.{WordsError}
 use Rattle.command_words.specs.Clap.{made_of, reader}
 use Rattle.command_words.specs.Words.{AreUtf8, command_of, count_of, is_dashed, of_count, of_four, of_one, of_three, of_two, read_words, taken}
-use Rattle.command_words.proofs.Slots.{AreTexts, has_slots, level_fails, level_same, passes, some_same, some≢none}
+use Rattle.command_words.proofs.Slots.{AreTexts, has_slots, level_fails, level_same, passes, some≢none}
 use Rattle.command_words.proofs.Names.{command_met, named, no_command}
 
 -- ---- each command
@@ -179,32 +180,32 @@ all_right (name ∷ rest) u = go (named name subs) refl (each_fits name) (taken 
 -- ---- the words that a command takes
 
 taken_texts : (words us : List Text) → AreTexts words → taken words ≡ Some us → AreTexts us
-taken_texts [] us u e = subst AreTexts (some_same [] us e) tt
+taken_texts [] us u e = subst AreTexts (same_Some [] us e) tt
 taken_texts (w ∷ ws) us u e = go (bytes_eq w (codes "--")) (is_dashed w) (taken ws) (λ vs. taken_texts ws vs u.1) e
   where
     go : (a b : Bool) (o : Option (List Text)) → ((vs : List Text) → o ≡ Some vs → AreTexts vs)
         → cond a (Some ws) (cond b None (option_map (λ more. w ∷ more) o)) ≡ Some us → AreTexts us
-    go true b o rest e = subst AreTexts (some_same ws us e) u.1
+    go true b o rest e = subst AreTexts (same_Some ws us e) u.1
     go false true o rest e = absurd (some≢none us (sym e))
     go false false None rest e = absurd (some≢none us (sym e))
-    go false false (Some vs) rest e = subst AreTexts (some_same (w ∷ vs) us e) (u.0, rest vs refl)
+    go false false (Some vs) rest e = subst AreTexts (same_Some (w ∷ vs) us e) (u.0, rest vs refl)
 
 one_texts : (make : Text → Command) → ((a : Text) → IsUtf8 a → AreUtf8 (make a)) → (us : List Text) (c : Command) → AreTexts us → of_one make us ≡ Some c → AreUtf8 c
 one_texts make fit [] c u e = absurd (some≢none c (sym e))
-one_texts make fit (a ∷ []) c u e = subst AreUtf8 (some_same (make a) c e) (fit a u.0)
+one_texts make fit (a ∷ []) c u e = subst AreUtf8 (same_Some (make a) c e) (fit a u.0)
 one_texts make fit (a ∷ b ∷ us) c u e = absurd (some≢none c (sym e))
 
 two_texts : (make : Text → Text → Command) → ((a b : Text) → IsUtf8 a × IsUtf8 b → AreUtf8 (make a b)) → (us : List Text) (c : Command) → AreTexts us → of_two make us ≡ Some c → AreUtf8 c
 two_texts make fit [] c u e = absurd (some≢none c (sym e))
 two_texts make fit (a ∷ []) c u e = absurd (some≢none c (sym e))
-two_texts make fit (a ∷ b ∷ []) c u e = subst AreUtf8 (some_same (make a b) c e) (fit a b (u.0, u.1.0))
+two_texts make fit (a ∷ b ∷ []) c u e = subst AreUtf8 (same_Some (make a b) c e) (fit a b (u.0, u.1.0))
 two_texts make fit (a ∷ b ∷ d ∷ us) c u e = absurd (some≢none c (sym e))
 
 three_texts : (make : Text → Text → Text → Command) → ((a b d : Text) → IsUtf8 a × (IsUtf8 b × IsUtf8 d) → AreUtf8 (make a b d)) → (us : List Text) (c : Command) → AreTexts us → of_three make us ≡ Some c → AreUtf8 c
 three_texts make fit [] c u e = absurd (some≢none c (sym e))
 three_texts make fit (a ∷ []) c u e = absurd (some≢none c (sym e))
 three_texts make fit (a ∷ b ∷ []) c u e = absurd (some≢none c (sym e))
-three_texts make fit (a ∷ b ∷ d ∷ []) c u e = subst AreUtf8 (some_same (make a b d) c e) (fit a b d (u.0, (u.1.0, u.1.1.0)))
+three_texts make fit (a ∷ b ∷ d ∷ []) c u e = subst AreUtf8 (same_Some (make a b d) c e) (fit a b d (u.0, (u.1.0, u.1.1.0)))
 three_texts make fit (a ∷ b ∷ d ∷ f ∷ us) c u e = absurd (some≢none c (sym e))
 
 four_texts : (make : Text → Text → Text → Text → Command) → ((a b d f : Text) → IsUtf8 a × (IsUtf8 b × (IsUtf8 d × IsUtf8 f)) → AreUtf8 (make a b d f)) → (us : List Text) (c : Command) → AreTexts us → of_four make us ≡ Some c → AreUtf8 c
@@ -212,12 +213,12 @@ four_texts make fit [] c u e = absurd (some≢none c (sym e))
 four_texts make fit (a ∷ []) c u e = absurd (some≢none c (sym e))
 four_texts make fit (a ∷ b ∷ []) c u e = absurd (some≢none c (sym e))
 four_texts make fit (a ∷ b ∷ d ∷ []) c u e = absurd (some≢none c (sym e))
-four_texts make fit (a ∷ b ∷ d ∷ f ∷ []) c u e = subst AreUtf8 (some_same (make a b d f) c e) (fit a b d f (u.0, (u.1.0, (u.1.1.0, u.1.1.1.0))))
+four_texts make fit (a ∷ b ∷ d ∷ f ∷ []) c u e = subst AreUtf8 (same_Some (make a b d f) c e) (fit a b d f (u.0, (u.1.0, (u.1.1.0, u.1.1.1.0))))
 four_texts make fit (a ∷ b ∷ d ∷ f ∷ g ∷ us) c u e = absurd (some≢none c (sym e))
 
 counted_texts : (count : Option ℕ) (c : Command) → option_map Generate count ≡ Some c → AreUtf8 c
 counted_texts None c e = absurd (some≢none c (sym e))
-counted_texts (Some n) c e = subst AreUtf8 (some_same (Generate n) c e) tt
+counted_texts (Some n) c e = subst AreUtf8 (same_Some (Generate n) c e) tt
 
 count_texts : (us : List Text) (c : Command) → of_count Generate us ≡ Some c → AreUtf8 c
 count_texts [] c e = absurd (some≢none c (sym e))
@@ -278,7 +279,7 @@ differs word name not_same = go (bytes_eq word name) refl
 pub met_is : {Z : Type 0} (o : Option (Box SubCommand Z)) (name : Text) (rows : List Row) → Some name ≡ option_map (λ b. (out-SubCommand (box_value b)).name.now) o
     → Some rows ≡ option_map (λ p. p.1) (subcommand_rows o) → subcommand_rows o ≡ Some (name, rows)
 met_is None name rows n r = absurd (some≢none name n)
-met_is (Some b) name rows n r = ap₂ (λ x y. Some (x, y)) (sym (some_same _ _ n)) (sym (some_same _ _ r))
+met_is (Some b) name rows n r = ap₂ (λ x y. Some (x, y)) (sym (same_Some _ _ n)) (sym (same_Some _ _ r))
 
 module _ (words : List Text) (u : AreTexts words) where
   pub read_ok : fault_of reader words ≡ [] → (name : Text) (rows : List Row) → subcommand_of reader words ≡ Some (name, rows) → made_of name rows ≡ read_words words

@@ -1,5 +1,6 @@
 -- What `clap` makes of the words after a command, of which each argument takes one word.
 use Rattle.std.proofs.Common.{◌≡◌, ◌∙◌, ◌+◌, ◌==◌, ◌&&◌, ◌||◌, ◌<◌, ◌⊎◌, inl, inr, arith, ℕ, Bool, cond, codes, true, false, not, refl, sym, ap, ap₂, subst, List, [], ◌∷◌, ◌++◌, length, min, Option, Some, None, is_some, true≢false, option_map}
+use Rattle.std.proofs.lemmas.Option.{same_Some}
 use Rattle.std.specs.Prelude.{slice_get}
 use Rattle.std.specs.List.{find, fold, list_all}
 use Rattle.std.specs.Option.{option_map_or}
@@ -22,9 +23,6 @@ use Rattle.command_words.specs.Words.{is_dashed, taken}
 pub some≢none : {X : Type 0} (x : X) → Some x ≡ None → ⊥
 some≢none x e = true≢false (ap (λ o. is_some o) e)
 
-pub some_same : {X : Type 0} (x y : X) → Some x ≡ Some y → x ≡ y
-some_same x y e = cc
-
 -- ---- commands of which each argument takes one word
 
 abbrev pub takes_one : Rule → Bool
@@ -38,7 +36,7 @@ find_passes p q [] x all e = absurd (some≢none x (sym e))
 find_passes p q (y ∷ ys) x all e = go (p y) (find_passes p q ys x ((and_parts (q y) (list_all q ys) all).1)) e
   where
     go : (b : Bool) → (find p ys ≡ Some x → q x ≡ true) → cond b (Some y) (find p ys) ≡ Some x → q x ≡ true
-    go true rest e = subst (λ z. q z ≡ true) (some_same y x e) ((and_parts (q y) (list_all q ys) all).0)
+    go true rest e = subst (λ z. q z ≡ true) (same_Some y x e) ((and_parts (q y) (list_all q ys) all).0)
     go false rest e = rest e
 
 pub found_passes : {X : Type 0} (p : X → Bool) (xs : List X) (x : X) → find p xs ≡ Some x → p x ≡ true
@@ -46,7 +44,7 @@ found_passes p [] x e = absurd (some≢none x (sym e))
 found_passes p (y ∷ ys) x e = go (p y) refl (found_passes p ys x) e
   where
     go : (b : Bool) → p y ≡ b → (find p ys ≡ Some x → p x ≡ true) → cond b (Some y) (find p ys) ≡ Some x → p x ≡ true
-    go true hit rest e = subst (λ z. p z ≡ true) (some_same y x e) hit
+    go true hit rest e = subst (λ z. p z ≡ true) (same_Some y x e) hit
     go false hit rest e = rest e
 
 find_none : (p : Rule → Bool) (c : List Rule) → ((a : Rule) → is_some a.index ≡ true → p a ≡ false) → list_all takes_one c ≡ true → find p c ≡ None
@@ -214,7 +212,7 @@ module _ (s : Shape) (slots : has_slots s ≡ true) where
   walk_same : (words us : List Text) → taken words ≡ Some us → (rows : List Row) (pending : Option (Text × List Text)) (p : ℕ)
       → SameWalk (at rows pending p false) words (at rows pending p true) us
   unfolding walk_fault
-  walk_same [] us e rows pending p = subst (λ vs. SameWalk (at rows pending p false) [] (at rows pending p true) vs) (some_same [] us e) (refl, refl)
+  walk_same [] us e rows pending p = subst (λ vs. SameWalk (at rows pending p false) [] (at rows pending p true) vs) (same_Some [] us e) (refl, refl)
   walk_same (w ∷ ws) us e rows pending p = go (bytes_eq w dashes) (is_dashed w) (taken ws) refl refl (walk_same ws) e
     where
       go : (a b : Bool) (o : Option (List Text)) → bytes_eq w dashes ≡ a → is_dashed w ≡ b
@@ -223,11 +221,11 @@ module _ (s : Shape) (slots : has_slots s ≡ true) where
           → SameWalk (at rows pending p false) (w ∷ ws) (at rows pending p true) us
       go true b o is_d is_b rest e =
           subst (λ x. SameWalk (at rows pending p false) (x ∷ ws) (at rows pending p true) us) (sym ((bytes_eq-Decides w dashes).0 is_d))
-          (subst (λ vs. SameWalk (at rows pending p false) (dashes ∷ ws) (at rows pending p true) vs) (some_same ws us e) (dashes_first rows pending p ws))
+          (subst (λ vs. SameWalk (at rows pending p false) (dashes ∷ ws) (at rows pending p true) vs) (same_Some ws us e) (dashes_first rows pending p ws))
       go false true o is_d is_b rest e = absurd (some≢none us (sym e))
       go false false None is_d is_b rest e = absurd (some≢none us (sym e))
       go false false (Some vs) is_d is_b rest e =
-          subst (λ xs. SameWalk (at rows pending p false) (w ∷ ws) (at rows pending p true) xs) (some_same (w ∷ vs) us e)
+          subst (λ xs. SameWalk (at rows pending p false) (w ∷ ws) (at rows pending p true) xs) (same_Some (w ∷ vs) us e)
           (one_step w rows pending p ws vs is_d is_b (rest vs refl))
 
   -- ---- words that no command takes

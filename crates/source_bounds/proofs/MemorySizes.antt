@@ -1,5 +1,6 @@
 -- The memory of connections: its pages, its address, and the registers of devices, in a source without faults.
 use Rattle.std.proofs.Common.{◌≡◌, ◌<◌, ◌≤◌, ◌+◌, ◌*◌, ◌/◌, ◌%◌, ◌^◌, ℕ, true, ◌&&◌, ◌||◌, cond, List, [], ◌∷◌, ◌++◌, codes, Option, Some, None, unwrap_or, refl, sym, ◌∙◌, ap, subst, arith}
+use Rattle.std.proofs.lemmas.Option.{same_Some}
 use Rattle.std.specs.Prelude.{◌==◌}
 use Rattle.std.specs.List.{slice_get}
 use Rattle.std.specs.Option.{option_and_then, option_map_or}
@@ -139,9 +140,6 @@ device_bytes h c shared leaf i =
     let on = same_kind i.kind interfaces.Dataport && leaf.hardware in
     cond (is_shared c || on) (unwrap_or (meant size_in (default_bytes i) (cond (is_shared c) shared (where_set on (value_at h leaf.path (i.id.name ++ codes "_size"))))) 0) 0
 
-pub some_same : {X : Type 0} (x y : X) → Some x ≡ Some y → x ≡ y
-some_same x y e = cc
-
 pub interface_same : (i j : Interface) → Some (members.Interface i) ≡ Some (members.Interface j) → i ≡ j
 interface_same i j e = cc
 
@@ -208,7 +206,7 @@ module _ (s : Source) (sound : AreNamesSound s) (dotted : AreDotted (hierarchy_o
       let port = and_parts (f.leaf == e.leaf) (f.member == e.member) same in
       let leaf_is : f.leaf ≡ e.leaf = eqb-true f.leaf e.leaf port.0 in
       let member_is : f.member ≡ e.member = eqb-true f.member e.member port.1 in
-      let leaf : x.found.joint.leaf ≡ y.found.joint.leaf = some_same _ _ (sym x.leaf ∙ ap (slice_get (flat_of s).leaves) (sym leaf_is) ∙ y.leaf) in
+      let leaf : x.found.joint.leaf ≡ y.found.joint.leaf = same_Some _ _ (sym x.leaf ∙ ap (slice_get (flat_of s).leaves) (sym leaf_is) ∙ y.leaf) in
       let interface : x.found.joint.interface ≡ y.found.joint.interface =
       interface_same _ _ (sym x.interface ∙ ap (λ (z : Leaf). slice_get (members_at s z.component) e.member) leaf ∙ ap (slice_get (members_at s y.found.joint.leaf.component)) (sym member_is) ∙ y.interface) in
       let bytes : (end_setting x.found).bytes ≡ (end_setting y.found).bytes =

@@ -1,5 +1,6 @@
 -- What the images of a source keep.
 use Rattle.std.proofs.Common.{◌≡◌, ◌∙◌, refl, sym, ap, subst, inl, inr, ◌⊎◌, ℕ, zero, suc, Bool, cond, true, false, IsTrue, List, [], ◌∷◌, Option, None, Some}
+use Rattle.std.proofs.lemmas.Option.{same_Some}
 use Rattle.std.specs.List.{cons_option, slice_get}
 use Rattle.std.specs.Option.{option_map}
 use Rattle.numbering.specs.Gather.{IsIn}
@@ -36,16 +37,13 @@ sections_sound (line ∷ ls) s i = by_place (in_cons (section_of (spaced_fields 
     by_place (inl e) more = section_sound (spelled (spaced_fields line.text)) s e
     by_place (inr j) more = more j
 
-some_inside : {X : Type 0} (x y : X) → Some x ≡ Some y → x ≡ y
-some_inside x y e = cc
-
 image_sound : (name : Name) (ls : List Line) (i : Image) → image_in name ls ≡ Some i → (s : Section) → IsIn s i.sections → IsTrue (is_sound s)
 image_sound name [] i e s within = absurd (cc)
 image_sound name (line ∷ more) i e s within = by_header (header_of (spaced_fields line.text)) e
   where
     by_header : (h : Option Header) → option_map (image name more) h ≡ Some i → IsTrue (is_sound s)
     by_header None q = absurd (cc)
-    by_header (Some h) q = sections_sound more s (subst (λ (z : Image). IsIn s z.sections) (sym (some_inside (image name more h) i q)) within)
+    by_header (Some h) q = sections_sound more s (subst (λ (z : Image). IsIn s z.sections) (sym (same_Some (image name more h) i q)) within)
 
 -- an image is that of a table
 pub image_there : (names : List Name) (all : List Found) (m : ℕ) (i : Image) → slice_get (images_in names all) m ≡ Some i → (name : Name) × (bytes : List ℕ) × IsIn (table bytes) all × (image_of name bytes ≡ Some i)

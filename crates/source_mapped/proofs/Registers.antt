@@ -1,5 +1,6 @@
 -- Connections to one dataport of a device find its registers at one address.
 use Rattle.std.proofs.Common.{◌≡◌, ◌∙◌, ℕ, ◌&&◌, cond, ◌++◌, codes, Option, Some, None, unwrap_or, sym, ap}
+use Rattle.std.proofs.lemmas.Option.{same_Some}
 use Rattle.std.specs.List.{slice_get}
 use Rattle.std.specs.Option.{option_and_then, option_map_or}
 use Rattle.adl_ast.specs.declared.component.Interface.{Interface}
@@ -27,7 +28,7 @@ use Rattle.flat_laws.proofs.SoundSettings.{AreSettingsSound}
 use Rattle.leaf_ends.specs.Lookups.{setting_of}
 use Rattle.leaf_ends.specs.Members.{members_at}
 use Rattle.source_bounds.proofs.SettledEnds.{IsEndFound, end_found}
-use Rattle.source_bounds.proofs.MemorySizes.{from_registers, interface_same, some_same}
+use Rattle.source_bounds.proofs.MemorySizes.{from_registers, interface_same}
 use Rattle.vspace_layout.specs.Memory.{memory_paddr, memory_place, registers, to_place}
 
 paddr_by : (settled : Settled) (k n : ℕ) (c : FlatConnection) (e : EndSetting) → c.connector ≡ Mmio → to_place c.ends ≡ Some n → setting_of settled k n ≡ Some e → memory_paddr settled k c ≡ e.paddr
@@ -62,7 +63,7 @@ module _ (s : Source) (typed : AreTyped s (flat_of s)) (settings : AreSettingsSo
       let b = from_registers d f also in
       let x = end_found s typed settings k a.1 c e at a.3 in
       let y = end_found s typed settings n b.1 d f there b.3 in
-      let leaf : x.found.joint.leaf ≡ y.found.joint.leaf = some_same _ _ (sym x.leaf ∙ ap (slice_get (flat_of s).leaves) leaf_is ∙ y.leaf) in
+      let leaf : x.found.joint.leaf ≡ y.found.joint.leaf = same_Some _ _ (sym x.leaf ∙ ap (slice_get (flat_of s).leaves) leaf_is ∙ y.leaf) in
       let interface : x.found.joint.interface ≡ y.found.joint.interface =
       interface_same _ _ (sym x.interface ∙ ap (λ (z : Leaf). slice_get (members_at s z.component) e.member) leaf ∙ ap (slice_get (members_at s y.found.joint.leaf.component)) member_is ∙ y.interface) in
       paddr_by (settled_of s) k a.1 c (end_setting x.found) a.0 a.2 x.setting

@@ -6,7 +6,7 @@ use Rattle.std.specs.Option.{option_map, option_map_or}
 use Rattle.std.proofs.lemmas.Bool.{and_from, and_parts, eqb-true, false_from_ne_true, leb-true, lt-ltb, not_from_false}
 use Rattle.std.proofs.lemmas.Fmt.{length-decimal-le}
 use Rattle.std.proofs.lemmas.List.{length-append}
-use Rattle.std.proofs.lemmas.Option.{slice_get_within}
+use Rattle.std.proofs.lemmas.Option.{same_Some, slice_get_within}
 use Rattle.adl_ast.specs.declared.composition.Role.{Role}
 use Rattle.adl_ast.specs.declared.composition.Role.TheVariants.{From, To}
 use Rattle.adl_meaning.specs.declared.connector.Connector.{Connector}
@@ -55,7 +55,6 @@ use Rattle.spec_kept.proofs.CapsFit.{all_pass}
 use Rattle.spec_kept.proofs.Lengths.{AreShort}
 use Rattle.spec_kept.proofs.TablesKept.{from_tables, mappings, moved, object_is, shape_in, standing}
 use Rattle.system_spec.proofs.There.{IsThere}
-use Rattle.spec_kept.proofs.Same.{same}
 
 -- ---- names
 
@@ -257,7 +256,7 @@ module _ (t : Tables) (fit : IsFit t) (written : IsWritten t) where
   thread_there d i None h = (refl, tt)
   thread_there d i (Some y) h =
       let w = written.threads d y (h y refl) in
-      (tcb_laid d y w, λ elf e. subst (λ (z : List ℕ). length z ≤ 127) (same (leaf_name t y.leaf) elf e) (name_short (leaf_name t y.leaf) w.name))
+      (tcb_laid d y w, λ elf e. subst (λ (z : List ℕ). length z ≤ 127) (same_Some (leaf_name t y.leaf) elf e) (name_short (leaf_name t y.leaf) w.name))
 
   frame_there : (o : Option FrameInfo) → ((x : FrameInfo) → o ≡ Some x → IsIn x t.spaces.frames) → Fine (option_map_or frame_object o objects.Endpoint)
   frame_there None h = (refl, tt)

@@ -1,4 +1,3 @@
-mod Same
 mod Names
 mod Sections
 pub mod Telling

@@ -1,5 +1,6 @@
 -- Interrupt lines rise by number, and each leads to an interrupt of its own.
 use Rattle.std.proofs.Common.{◌≡◌, ◌<◌, ◌≤◌, ℕ, suc, Bool, true, false, ◌&&◌, cond, List, [], ◌∷◌, ◌++◌, length, map, refl, sym, ◌∙◌, ap, subst, Some, inl, inr, ◌⊎◌, arith}
+use Rattle.std.proofs.lemmas.Option.{same_Some}
 use Rattle.std.specs.Prelude.{leb, nat_lt, ◌==◌}
 use Rattle.std.specs.List.{list_all, list_any, slice_get}
 use Rattle.std.proofs.lemmas.Bool.{and_from, and_parts, lt-ltb, ltb-true, leb-true, leb-false, eqb-true, false_from_ne_true, cases_order}
@@ -22,7 +23,6 @@ use Rattle.system_spec.specs.Tables.{Tables, irq_number}
 use Rattle.spec_kept.specs.Fit.{IsFit}
 use Rattle.system_spec.proofs.There.{IsThere, has_part}
 use Rattle.spec_kept.proofs.CapsFit.{all_pass, is_at_of}
-use Rattle.spec_kept.proofs.Same.{same as same_at}
 
 abbrev Line : Type 0
 Line = ℕ × ℕ
@@ -166,7 +166,7 @@ module _ (t : Tables) (fit : IsFit t) where
       let q = has_part t (IrqOf k) b in
       let e : slice_get (parts t) (place t (IrqOf j)) ≡ Some p.0 = ap (λ w. slice_get (parts t) (place t w)) (sym p.2) ∙ stands t p.0 p.1 in
       let f : slice_get (parts t) (place t (IrqOf k)) ≡ Some q.0 = ap (λ w. slice_get (parts t) (place t w)) (sym q.2) ∙ stands t q.0 q.1 in
-      let one : p.0 ≡ q.0 = same_at _ _ (sym e ∙ ap (λ n. slice_get (parts t) n) same ∙ f) in
+      let one : p.0 ≡ q.0 = same_Some _ _ (sym e ∙ ap (λ n. slice_get (parts t) n) same ∙ f) in
       ap of_irq (sym p.2 ∙ ap (λ (z : Part). z.what) one ∙ q.2)
     where
       of_irq : What → ℕ
@@ -179,7 +179,7 @@ module _ (t : Tables) (fit : IsFit t) where
       let b = lined y j in
       let at : place t (IrqOf a.number) ≡ place t (IrqOf b.number) = ap (λ (z : Line). z.1) a.is ∙ e ∙ sym (ap (λ (z : Line). z.1) b.is) in
       let k : a.number ≡ b.number = one_place a.number b.number a.there b.there at in
-      let c : a.there.0 ≡ b.there.0 = same_at _ _ (sym a.there.1 ∙ ap (λ n. slice_get t.flat.connections n) k ∙ b.there.1) in
+      let c : a.there.0 ≡ b.there.0 = same_Some _ _ (sym a.there.1 ∙ ap (λ n. slice_get t.flat.connections n) k ∙ b.there.1) in
       sym (ap (λ (z : Line). z.0) a.is) ∙ ap (λ n. irq_number t.settled n a.there.0) k ∙ ap (λ z. irq_number t.settled b.number z) c ∙ ap (λ (z : Line). z.0) b.is
 
   to_interrupt : (l : Line) → IsIn l (lines t) → is_at (spec_of t) kinds.Irq l.1 ≡ true

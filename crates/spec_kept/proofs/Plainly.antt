@@ -5,7 +5,7 @@ use Rattle.std.specs.List.{range_with_len, slice_get}
 use Rattle.std.specs.Option.{option_map, option_map_or}
 use Rattle.std.proofs.Math.Nat.{div-mul-le_self}
 use Rattle.std.proofs.lemmas.Bool.{and_parts, ltb-true}
-use Rattle.std.proofs.lemmas.Option.{slice_get_within}
+use Rattle.std.proofs.lemmas.Option.{same_Some, slice_get_within}
 use Rattle.adl_ast.specs.declared.source.Source.{Source}
 use Rattle.adl_meaning.specs.declared.flat.Domain.{Domain}
 use Rattle.adl_meaning.specs.declared.flat.Flat.{Flat}
@@ -52,7 +52,6 @@ use Rattle.vspace_layout.specs.PageLimits.{page_counts}
 use Rattle.vspace_layout.specs.Regions.{region_start, regions, threads_of, windows_of}
 use Rattle.spec_kept.specs.Plain.{IsPlain}
 use Rattle.spec_kept.specs.Written.{IsFillWritten, IsFrameWritten, IsThreadWritten, IsWritten}
-use Rattle.spec_kept.proofs.Same.{same}
 
 -- ---- lists
 
@@ -101,7 +100,7 @@ section_fine file s j named sound l f e = by_at s.at (sound_at s sound) e
     by_at (Some at) h e =
         let within = ltb-true (at + s.size) (2 ^ 64) h in
         let there = byte_there s j l in
-        subst IsFillWritten (same (fill_from file s j at) f e) (record { file = named; at = omega (arith, within, there) })
+        subst IsFillWritten (same_Some (fill_from file s j at) f e) (record { file = named; at = omega (arith, within, there) })
 
 module _ (g : Given) (plain : IsPlain g) where
   placed_fine : (leaves : List ℕ) (x : Placed) → IsIn x (sections_of g.images leaves) → (is_name (name_of g.images x.image) ≡ true) × IsTrue (is_sound x.section)
@@ -186,7 +185,7 @@ module _ (g : Given) (plain : IsPlain g) where
             let room = can.addresses k c h in
             let at : ℕ = memory_paddr g.settled k c + 4096 * j.0 in
             let few : at < 2 ^ 64 = omega (arith, l, room) in
-            subst IsFrameWritten {x = device_frame e.leaf (memory_paddr g.settled k c) j.0} j.2 (record { paddr = λ n s. subst (λ z. z < 2 ^ 64) (same at n s) few; fill = λ z n. absurd cc })
+            subst IsFrameWritten {x = device_frame e.leaf (memory_paddr g.settled k c) j.0} j.2 (record { paddr = λ n s. subst (λ z. z < 2 ^ 64) (same_Some at n s) few; fill = λ z n. absurd cc })
 
         by_end : (k : ℕ) (c : FlatConnection) → slice_get g.flat.connections k ≡ Some c → (o : Option FlatEnd) → IsIn f (option_map_or (frames_at g.flat g.settled k c) o []) → IsFrameWritten f
         by_end k c h None i = absurd i

@@ -5,7 +5,7 @@ use Rattle.std.specs.List.{count_by, flat_map, slice_get}
 use Rattle.std.proofs.lemmas.Bool.{cases_order, eq-eqb}
 use Rattle.std.proofs.lemmas.List.{length-take-le}
 use Rattle.std.proofs.lemmas.List.Sums.{count_by-le-length, sum_by-cons}
-use Rattle.std.proofs.lemmas.Option.{slice_get_within}
+use Rattle.std.proofs.lemmas.Option.{same_Some, slice_get_within}
 use Rattle.adl_meaning.specs.declared.connector.Connector.{Connector}
 use Rattle.adl_meaning.specs.declared.connector.Connector.TheVariants.{Rpc, Notification, SharedMemory, Mmio, Interrupt, Direct}
 use Rattle.arch_policy.specs.declared.owner.Owner.TheVariants.{OfConnection}
@@ -23,7 +23,6 @@ use Rattle.system_spec.specs.declared.series.Series.TheVariants as series
 use Rattle.system_spec.specs.Names.{level_series}
 use Rattle.system_spec.specs.Parts.{all_tables, cnodes, endpoint, endpoint_by, endpoints, frame_parts, irqs, is_of, level_number, locks, notification, notification_by, notifications, numbered, of_level, part, parts, sections, table_part, table_parts, tcbs}
 use Rattle.system_spec.specs.Tables.{Tables}
-use Rattle.spec_kept.proofs.Same.{same}
 
 -- ---- each section
 
@@ -214,14 +213,14 @@ abbrev Tells : ℕ → List Part → Type 0
 Tells n s = Told s rank n (2 ^ 32)
 
 pub told : (t : Tables) → length t.flat.connections < 2 ^ 32 → length (parts t) < 2 ^ 32 → (n : ℕ) (s : List Part) → slice_get (sections t) n ≡ Some s → Tells n s
-told t few all zero s e = subst (Tells 0) (same _ _ e) (told_numbered series.CNode (cnodes t.flat.domains) (2 ^ 32) (few_owned t 0 series.CNode (cnodes t.flat.domains) all refl))
-told t few all (suc zero) s e = subst (Tells 1) (same _ _ e) (told_numbered series.Tcb (tcbs t) (2 ^ 32) (few_owned t 1 series.Tcb (tcbs t) all refl))
-told t few all (suc (suc zero)) s e = subst (Tells 2) (same _ _ e) (told_connections (endpoints t) series.Ep (length t.flat.connections) (before endpoint t.flat.connections) (2 ^ 32) (omega (arith, few)) (endpoint_at t))
-told t few all (suc (suc (suc zero))) s e = subst (Tells 3) (same _ _ e) (told_connections (notifications t) series.Ntfn (length t.flat.connections) (before notification t.flat.connections) (2 ^ 32) (omega (arith, few)) (notification_at t))
-told t few all (suc (suc (suc (suc zero)))) s e = subst (Tells 4) (same _ _ e) (told_numbered series.Lock (locks t) (2 ^ 32) (few_owned t 4 series.Lock (locks t) all refl))
-told t few all (suc (suc (suc (suc (suc zero))))) s e = subst (Tells 5) (same _ _ e) (told_numbered series.Irq (irqs t) (2 ^ 32) (few_owned t 5 series.Irq (irqs t) all refl))
-told t few all (suc (suc (suc (suc (suc (suc zero)))))) s e = subst (Tells 6) (same _ _ e) (told_tables (all_tables t) (2 ^ 32) (few_tables t all))
-told t few all (suc (suc (suc (suc (suc (suc (suc zero))))))) s e = subst (Tells 7) (same _ _ e) (told_numbered series.Frame (frame_parts t.spaces.frames) (2 ^ 32) (few_owned t 7 series.Frame (frame_parts t.spaces.frames) all refl))
+told t few all zero s e = subst (Tells 0) (same_Some _ _ e) (told_numbered series.CNode (cnodes t.flat.domains) (2 ^ 32) (few_owned t 0 series.CNode (cnodes t.flat.domains) all refl))
+told t few all (suc zero) s e = subst (Tells 1) (same_Some _ _ e) (told_numbered series.Tcb (tcbs t) (2 ^ 32) (few_owned t 1 series.Tcb (tcbs t) all refl))
+told t few all (suc (suc zero)) s e = subst (Tells 2) (same_Some _ _ e) (told_connections (endpoints t) series.Ep (length t.flat.connections) (before endpoint t.flat.connections) (2 ^ 32) (omega (arith, few)) (endpoint_at t))
+told t few all (suc (suc (suc zero))) s e = subst (Tells 3) (same_Some _ _ e) (told_connections (notifications t) series.Ntfn (length t.flat.connections) (before notification t.flat.connections) (2 ^ 32) (omega (arith, few)) (notification_at t))
+told t few all (suc (suc (suc (suc zero)))) s e = subst (Tells 4) (same_Some _ _ e) (told_numbered series.Lock (locks t) (2 ^ 32) (few_owned t 4 series.Lock (locks t) all refl))
+told t few all (suc (suc (suc (suc (suc zero))))) s e = subst (Tells 5) (same_Some _ _ e) (told_numbered series.Irq (irqs t) (2 ^ 32) (few_owned t 5 series.Irq (irqs t) all refl))
+told t few all (suc (suc (suc (suc (suc (suc zero)))))) s e = subst (Tells 6) (same_Some _ _ e) (told_tables (all_tables t) (2 ^ 32) (few_tables t all))
+told t few all (suc (suc (suc (suc (suc (suc (suc zero))))))) s e = subst (Tells 7) (same_Some _ _ e) (told_numbered series.Frame (frame_parts t.spaces.frames) (2 ^ 32) (few_owned t 7 series.Frame (frame_parts t.spaces.frames) all refl))
 told t few all (suc (suc (suc (suc (suc (suc (suc (suc n)))))))) s e = cc
 
 -- what stands at place m of all stands in a section, behind those before it

@@ -1,5 +1,6 @@
 -- No two parts have one name.
 use Rattle.std.proofs.Common.{◌≡◌, ◌<◌, ◌+◌, ◌^◌, ℕ, zero, suc, Bool, true, false, not, List, [], ◌∷◌, length, map, take, refl, sym, ◌∙◌, ap, subst, Some, arith}
+use Rattle.std.proofs.lemmas.Option.{same_Some}
 use Rattle.std.specs.List.{flat_map, list_any, slice_get}
 use Rattle.std.specs.Str.{bytes_eq}
 use Rattle.std.proofs.lemmas.Bool.{and_from, or_from, not_from_false, false_from_ne_true}
@@ -14,7 +15,6 @@ use Rattle.system_spec.specs.Parts.{parts, sections}
 use Rattle.system_spec.specs.Tables.{Tables}
 use Rattle.spec_kept.proofs.Names.{same_number, same_series}
 use Rattle.spec_kept.proofs.Sections.{in_section, rank, told}
-use Rattle.spec_kept.proofs.Same.{same as same_at}
 
 -- ---- a list with no two equal
 
@@ -45,7 +45,7 @@ module _ (t : Tables) (few : length t.flat.connections < 2 ^ 32) (all : length (
       let lb = tb.number b.place q b.stands in
       let k = same_number p.series q.series p.number q.number (omega (arith, la)) (omega (arith, lb)) same in
       let section : b.section ≡ a.section = sym (tb.series b.place q b.stands) ∙ ap rank (sym s) ∙ ta.series a.place p a.stands in
-      let list : b.list ≡ a.list = same_at _ _ (sym b.is ∙ ap (λ z. slice_get (sections t) z) section ∙ a.is) in
+      let list : b.list ≡ a.list = same_Some _ _ (sym b.is ∙ ap (λ z. slice_get (sections t) z) section ∙ a.is) in
       let place : a.place ≡ b.place = ta.place a.place b.place p q a.stands (subst (λ (z : List Part). slice_get z b.place ≡ Some q) list b.stands) s k in
       a.sum ∙ ap (λ z. length (flat_map (λ z. z) (take z (sections t))) + a.place) (sym section) ∙ ap (λ z. length (flat_map (λ z. z) (take b.section (sections t))) + z) place ∙ sym b.sum
 

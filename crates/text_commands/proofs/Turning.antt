@@ -1,6 +1,7 @@
 -- Turns of inputs, with other counts: what was read stays so, and a read fault from a later count is one from an earlier.
 use Rattle.std.proofs.Common.{◌≡◌, ◌≤◌, ◌∙◌, ℕ, List, Option, Result, Ok, Err, subst, inl, inr, arith, IsErr, IsErrAnd}
 use Rattle.cam_base.specs.declared.error.Refused.{Refused}
+use Rattle.cam_io.proofs.Counts.{rose_after}
 use Rattle.cam_io.specs.Causes.{NoneFell, Rose}
 use Rattle.cam_io.specs.Contents.{Contents}
 use Rattle.cam_io.specs.Reading.{KeepsFiles}
@@ -13,10 +14,6 @@ pub is_err : {A : Type 0} (r : Result A InputError) (e : InputError) → IsErr r
 is_err (Ok x) e is and = absurd cc
 is_err (Err y) e is and = cc
 
-rose_earlier : (first before now : ℕ) → first ≤ before → Rose before now → Rose first now
-rose_earlier first before now l (inl r) = inl (omega arith)
-rose_earlier first before now l (inr e) = inr e
-
 none_fell : (a b c : List ℕ → ℕ) → NoneFell a b → NoneFell b c → NoneFell a c
 none_fell a b c x y = λ name. let l = x name in let m = y name in omega arith
 
@@ -25,7 +22,7 @@ input_from : (contents later : Option Contents) (first before now : List ℕ →
     → IsInput later before now file r → IsInput contents first now file r
 input_from contents later first before now file (Ok bytes) same fell h = subst (λ c. IsInput c first now file (Ok bytes)) same h
 input_from contents later first before now file (Err (Fault fault f)) same fell h = subst (λ c. IsInput c first now file (Err (Fault fault f))) same h
-input_from contents later first before now file (Err (ReadFault f)) same fell h = (h.0, rose_earlier (first file) (before file) (now file) (fell file) h.1)
+input_from contents later first before now file (Err (ReadFault f)) same fell h = (h.0, rose_after (first file) (before file) (now file) (fell file) h.1)
 input_from contents later first before now file (Err NoMemory) same fell h = tt
 
 module _ {A E : Type 0} (tell : E → InputFault) (reads : List ℕ → Result A (Refused E) → Type 0) (file : List ℕ) where

@@ -1,4 +1,5 @@
 use Rattle.std.proofs.Common.{◌≡◌, ◌≢◌, ◌<◌, ◌≤◌, ℕ, Bool, true, false, cond, List, [], ◌∷◌, Some, inl, inr, subst, arith}
+use Rattle.std.proofs.lemmas.Option.{same_Some}
 use Rattle.arch_compile.specs.declared.building.Build.{Build}
 use Rattle.build_texts.specs.BuildTexts.{texts_script}
 use Rattle.build_texts.specs.declared.names.TextNames.{TextNames}
@@ -65,11 +66,8 @@ returns-clause-front c answer old new before now names b tells is = elim tells.t
   | inr t ↦ subst (λ z. CutShort old (script z) new) is t.2
 ]
 
-some_same : (a b : List ℕ) → Some a ≡ Some b → a ≡ b
-some_same a b e = cc
-
 is_said : (text told : List ℕ) (old new : Sink) → Some told ≡ Some text → CutShort old (Write 0 told ∷ []) new → IsCut old 0 text new
-is_said text told old new e (inl cut) = subst (λ z. IsCut old 0 z new) (some_same told text e) cut
+is_said text told old new e (inl cut) = subst (λ z. IsCut old 0 z new) (same_Some told text e) cut
 is_said text told old new e (inr none) = absurd none
 
 said : (a : Answer) (old new : Sink) (text : List ℕ) → said_as a ≡ Some text → CutShort old (script a) new → IsCut old 0 text new
