@@ -17,7 +17,6 @@ use Rattle.cert_check.specs.Parts.{OfCap, OfLink, OfBound, Asked}
 use Rattle.auth_kinds.specs.Edges.{edge}
 use Rattle.cap_model.specs.Lookup.{entry_object}
 use Rattle.cap_model.specs.State.{boot_slot}
-use Rattle.cap_model.specs.declared.state.Content.{Content}
 use Rattle.cap_model.specs.declared.state.Content.TheVariants.{Capability}
 use Rattle.cap_model.proofs.BootPlaces.{at_contains, at_entry, contains_at, entry_at, none_saved, nothing_pending, slot_of}
 use Rattle.std.proofs.lemmas.Option.{slice_get-map}

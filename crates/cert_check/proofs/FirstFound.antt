@@ -12,9 +12,8 @@ use Rattle.cert_check.specs.Meetings.{IsFirstNotBefore}
 use Rattle.cert_check.specs.Parts.{FindsLeastAt}
 use Rattle.cert_check.specs.Violations.{BreaksBind, BreaksPolicy}
 use Rattle.cert_check.specs.declared.violation.Violation.{Violation}
-use Rattle.cert_check.proofs.Labels.{first_of}
 use Rattle.cert_check.proofs.Search.{NoneUpTo, none_end, found_first}
-use Rattle.cert_check.proofs.Violations.{at_first}
+use Rattle.cert_check.proofs.Violations.{at_first, first_of}
 
 module _ (cert : List Edge) (P : Violation → Type 0) (named : (v : Violation) → P v → has cert v.first ≡ true) where
   pub edge_none : (i : ℕ) → length cert ≤ i → NoneUpTo P first_of cert i → FindsLeast P None

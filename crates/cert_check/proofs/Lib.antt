@@ -1,14 +1,15 @@
 pub mod Alike
 pub mod Asked
 pub mod Keeps
-pub mod Labels
 pub mod LeastEdges
 pub mod Missed
-pub mod Partners
+pub mod Pairs
 pub mod FirstFound
 pub mod Halving
 pub mod Safe
 pub mod Search
+pub mod Twins
+pub mod Walks
 pub mod Unheld
 pub mod Verdicts
 pub mod Violations

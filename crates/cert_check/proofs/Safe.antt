@@ -1,6 +1,6 @@
 -- What every state of a run keeps, given the rules; that such a state has no edge between labels outside the
 -- certificate, and that the boot state is one.
-use Rattle.std.proofs.Common.{◌≡◌, ◌≢◌, ℕ, ◌<◌, Bool, true, List, [], ◌∷◌, length, map, zero, suc, get_or, Option, Some, None, refl, sym, ap, subst, inl, inr, arith}
+use Rattle.std.proofs.Common.{◌≡◌, ◌≢◌, ℕ, Bool, true, List, Option, Some, refl, sym, inl, inr}
 use Rattle.std.specs.List.{All, Contains}
 use Rattle.std.proofs.lemmas.List.Elements.{All-contains, All-nil, Contains-get_or}
 use Rattle.auth_kinds.specs.ObjectLabels.{label_of}
@@ -10,11 +10,9 @@ use Rattle.auth_kinds.specs.declared.authority.Authority.TheVariants.{Receive, A
 use Rattle.auth_kinds.specs.declared.edge.Edge.{Edge}
 use Rattle.cap_model.specs.Auth.{Held, Structural, of_buffer, of_table, of_root, of_space, of_reply, of_saved, of_mapped, of_irq, Auth}
 use Rattle.cap_model.specs.Confers.{confers, kind_confers}
-use Rattle.cap_model.specs.State.{Node, State, node_at, thread_at, irq_at, boot, boot_node, boot_slot, boot_thread, no_node, no_thread}
+use Rattle.cap_model.specs.State.{Node, State, node_at, thread_at, irq_at, boot}
 use Rattle.cap_model.specs.declared.cap.Cap.{Cap}
 use Rattle.cap_model.specs.declared.kind.Kind.TheVariants.{Frame}
-use Rattle.cap_model.specs.declared.object.Object.{Object}
-use Rattle.cap_model.specs.declared.object.Object.TheVariants.{CNode, Thread}
 use Rattle.cap_model.specs.declared.spec.Spec.{Spec}
 use Rattle.cap_model.specs.declared.state.Content.{Content}
 use Rattle.cap_model.specs.declared.state.Content.TheVariants.{Capability, SavedReply}

@@ -7,6 +7,9 @@ use Rattle.cert_check.specs.Least.{FindsLeast, NotAfter}
 use Rattle.cert_check.specs.Parts.{LesserOf}
 use Rattle.cert_check.specs.declared.violation.Violation.{Violation}
 
+abbrev pub first_of : Violation → Edge
+first_of v = v.first
+
 pub at_first : (d e : Edge) → d ≡ e → AtMost d e
 at_first d e same = subst (λ (x : Edge). AtMost d x) same (at_most_self d)
 
@@ -64,3 +67,9 @@ kept_is (Some old) (Some new) kept v (inr is) same = inl (sym is.1 ∙ same)
 pub found_is : (P : Violation → Type 0) (found : Option Violation) (v : Violation) → FindsLeast P found → found ≡ Some v → P v
 found_is P None v f same = absurd cc
 found_is P (Some b) v f same = let s : b ≡ v = cc in subst P s f.0
+
+-- what is kept is least, where it has the property and each with the property is covered
+pub finds_least : (P : Violation → Type 0) (best : Option Violation) → ((v : Violation) → best ≡ Some v → P v) → ((v : Violation) → P v → Covered best v) → FindsLeast P best
+finds_least P None sound covers = λ v p. (let c = covers v p in let w = c.is in absurd cc)
+finds_least P (Some b) sound covers =
+    (sound b refl, λ v p. (let c = covers v p in let w = c.is in let same : c.kept ≡ b = cc in subst (λ (x : Violation). NotAfter x v) same c.not_after))

@@ -1,7 +1,7 @@
 //! Edges by their authority, and places of a table.
 
 ghost use Rattle.auth_kinds.specs.Edges.{edge};
-ghost use Rattle.auth_kinds.specs.Tables.{has, IsSorted};
+ghost use Rattle.auth_kinds.specs.Tables.{IsSorted};
 ghost use Rattle.cert_check.specs.Meetings.{Halved, IsFirstNotBefore};
 ghost use Rattle.std.specs.Prelude.{◌≡◌, ◌↔◌, IsTrue};
 
@@ -20,18 +20,6 @@ pub fn first_not_before(cert: &EdgeTable, edge: &Edge) -> usize
     ensures sorted { IsSorted cert.now }
 {
     search(cert, edge, 0, cert.len())
-}
-
-/// Whether the table has the edge, which stands nowhere but between the two places.
-pub fn has_within(cert: &EdgeTable, edge: &Edge, low: usize, high: usize) -> bool
-    requires sorted { IsSorted cert.now }
-    requires between { Halved cert.now edge.now low high }
-    ensures { result ≡ has cert.now edge.now }
-{
-    match cert.get(search(cert, edge, low, high)) {
-        Some(other) => !edge.is_before(&other),
-        None => false,
-    }
 }
 
 fn search(cert: &EdgeTable, edge: &Edge, low: usize, high: usize) -> usize

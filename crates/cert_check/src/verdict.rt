@@ -6,7 +6,8 @@ ghost use Rattle.std.specs.Prelude.{◌≡◌, length, [], ◌∷◌, Some, None
 use crate::boot_edges::find_unheld;
 use crate::copies::{find_bind, find_control};
 use crate::in_policy::find_outside;
-use crate::meetings::{Meeting, find_meeting};
+use crate::meeting_walk::find_meeting;
+use crate::meetings::Meeting;
 use crate::rule::Rule;
 use crate::violation::Violation;
 use auth_kinds::{Edge, EdgeTable, Labels};
