@@ -1,6 +1,7 @@
 -- A set of edges in order: a list that is sorted, and what lies between two edges.
 use Rattle.std.proofs.Common.{◌≡◌, ◌∙◌, ◌<◌, ◌≤◌, ◌^◌, ◌↔◌, ◌&&◌, ℕ, Bool, true, false, not, List, Less, Equal, Greater, refl, sym, ap, subst, arith}
 use Rattle.std.proofs.lemmas.Bool.{and_parts}
+use Rattle.std.proofs.lemmas.List.Kept.{IsStrictlySortedBy-filter}
 use Rattle.std.proofs.lemmas.Map.Keys.{Less-from_sorted}
 use Rattle.std.proofs.lemmas.Map.Views.{any-filter_same}
 use Rattle.std.proofs.lemmas.Option.{slice_get_within, get_or_from_slice_get}
@@ -89,6 +90,9 @@ module _ (edges : List Edge) (first last e : Edge) where
         has_filtered ∙ and_true (lies_between first last e) (has edges e)
         (and_true (is_le (ordered.cmp first e)) (not (is_lt (ordered.cmp last e))) (compared_at_most first e b.above) (not_past_by last e (ordered.cmp last e) refl b.below)) b.there,
   )
+
+pub between_sorted : (first last : Edge) (edges : List Edge) → IsStrictlySortedBy ordered.cmp edges → IsSorted (filter (lies_between first last) edges)
+between_sorted first last edges s = sorted_by_place (filter (lies_between first last) edges) (IsStrictlySortedBy-filter ordered.cmp (lies_between first last) edges s)
 
 -- ---- out of a label
 

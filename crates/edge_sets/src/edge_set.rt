@@ -82,7 +82,8 @@ impl EdgeSet {
     /// Its edges from one up to another, in order.
     fn between(&self, alloc: Global, first: Edge, last: Edge) -> Result<Vec<Edge>, NoMemory>
         requires { AtMost first last }
-        ensures { IfOk result (λ edges. (e : Edge) → (has edges.items e ≡ true) ↔ IsBetween self.now first last e) }
+        ensures between { IfOk result (λ edges. (e : Edge) → (has edges.items e ≡ true) ↔ IsBetween self.now first last e) }
+        ensures sorted { IfOk result (λ edges. IsSorted edges.items) }
     {
         let edges = self.edges.range(first..=last).copied().collect(alloc)?;
         Ok(edges)
@@ -93,6 +94,7 @@ impl EdgeSet {
         ensures from { IfOk result (λ edges. (e : Edge) → has edges.items e ≡ true → (has self.now e ≡ true) × (e.from ≡ label)) }
         ensures every { IfOk result (λ edges. (e : Edge) → has self.now e ≡ true → e.from ≡ label → e.to < 2 ^ 32
             → has edges.items e ≡ true) }
+        ensures sorted { IfOk result (λ edges. IsSorted edges.items) }
     {
         let first = Edge {
             from: label,
@@ -119,6 +121,7 @@ impl EdgeSet {
             → (has self.now e ≡ true) × (e.from ≡ label) × (e.authority ≡ authority)) }
         ensures every { IfOk result (λ edges. (m : ℕ) → has self.now (edge label authority m) ≡ true → m < 2 ^ 32
             → has edges.items (edge label authority m) ≡ true) }
+        ensures sorted { IfOk result (λ edges. IsSorted edges.items) }
     {
         let first = Edge {
             from: label,
