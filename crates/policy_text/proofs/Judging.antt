@@ -1,24 +1,26 @@
 -- One line judged or noted, and then the lines behind it.
-use Rattle.std.proofs.Common.{◌≡◌, ◌∙◌, ap, sym, refl, ℕ, Bool, false, ◌||◌, List, [], ◌∷◌, ◌++◌, Option, Some, None, Result, Ok, Err, subst}
+use Rattle.std.proofs.Common.{◌≡◌, ◌∙◌, ap, sym, refl, ℕ, ◌+◌, ◌≤◌, min, nat_le, Bool, true, false, cond, ◌||◌, List, [], ◌∷◌, ◌++◌, append_assoc, count_by, Option, Some, None, Result, Ok, Err, subst, arith}
 use Rattle.std.specs.Option.{option_map, option_or}
 use Rattle.std.specs.Result.{IsErrAnd}
 use Rattle.std.specs.Str.{bytes_eq}
 use Rattle.std.proofs.Math.Bool.{or_comm, or_assoc}
+use Rattle.std.proofs.lemmas.List.Sums.{sum_by-append}
 use Rattle.auth_kinds.specs.declared.authority.Authority.{Authority}
 use Rattle.cam_base.specs.declared.error.Refused.{Refused}
 use Rattle.cam_base.specs.declared.error.Refused.TheVariants as refused
 use Rattle.cam_base.specs.declared.text_fault.TextCode.TheVariants.{PolicySyntax}
 use Rattle.cam_base.specs.declared.text_fault.TextFault.{TextFault}
 use Rattle.policy_text.specs.declared.kind.Kind.{Kind}
+use Rattle.policy_text.specs.declared.read.Noted.{Noted}
 use Rattle.policy_text.specs.declared.seen.Seen.{Seen}
 use Rattle.policy_text.specs.declared.words.Words.{Words}
 use Rattle.policy_text.specs.Entries.{Number, Entry, label, object, edge}
-use Rattle.policy_text.specs.LinesSeen.{IsSeen, IsLineJudged}
-use Rattle.policy_text.specs.PolicyFaults.{Told, wrong_entry, first_wrong}
+use Rattle.policy_text.specs.LinesSeen.{HasFewEdges, IsSeen, IsLineJudged}
+use Rattle.policy_text.specs.PolicyFaults.{Told, edges_limit, is_edge, wrong_entry, first_wrong}
 use Rattle.policy_text.specs.PolicyTexts.{said, told, form_fault, has_label, IsFault}
-use Rattle.policy_text.specs.TextsRead.{FindsFault, IsNoted, AreNumbers}
+use Rattle.policy_text.specs.TextsRead.{FindsFault, IsNoted, AreNoted}
 use Rattle.policy_text.specs.WordSets.{has, IsAdded}
-use Rattle.policy_text.proofs.Before.{or_false, append_nil, first_wrong-append, told-cons, form-cons, has_label-append, told_none, told_one}
+use Rattle.policy_text.proofs.Before.{or_false, append_nil, first_wrong-append, told-cons, form-cons, has_label-append, one_if, told_none, told_one}
 use Rattle.text_lines.specs.LineFaults.{Wrong, at_line, IsRefusal}
 use Rattle.text_lines.specs.Lines.{Line}
 
@@ -42,9 +44,9 @@ pub passed : (fault : Option TextFault) (answer : Result (Unit {0}) (Refused Tex
 passed fault (Ok x) r is h = absurd is
 passed fault (Err other) r is h = subst (λ (e : Refused TextFault). IsFault fault e) (sym is) h
 
-pub numbers_refused : (kind : Kind) (lines : List Line) (answer : Result Words (Refused TextFault)) (r : Refused TextFault) → IsErrAnd answer (λ other. other ≡ r) → IsFault (form_fault kind lines) r → AreNumbers kind lines answer
-numbers_refused kind lines (Ok x) r is h = absurd is
-numbers_refused kind lines (Err other) r is h = subst (λ (e : Refused TextFault). IsFault (form_fault kind lines) e) (sym is) h
+pub notes_refused : (kind : Kind) (lines : List Line) (answer : Result Noted (Refused TextFault)) (r : Refused TextFault) → IsErrAnd answer (λ other. other ≡ r) → IsFault (form_fault kind lines) r → AreNoted kind lines answer
+notes_refused kind lines (Ok x) r is h = absurd is
+notes_refused kind lines (Err other) r is h = subst (λ (e : Refused TextFault). IsFault (form_fault kind lines) e) (sym is) h
 
 -- ---- one line is judged
 
@@ -98,23 +100,45 @@ pub noted_none : (kind : Kind) (line : Line) (r : Refused TextFault) → said ki
 noted_none kind line (refused.Fault f) none fits = form_none kind line none ∙ ap (λ f. Some f) (sym fits)
 noted_none kind line refused.NoMemory none fits = tt
 
-pub noted_label : (kind : Kind) (line : Line) (old new : Words) (n name : List ℕ) → said kind line ≡ Some (label n name) → IsAdded n old new → IsNoted kind line old new (Ok tt)
-noted_label kind line old new n name says added = (
+no_edges : (kind : Kind) (line : Line) (e : Entry) (n : ℕ) → said kind line ≡ Some e → is_edge e ≡ false → n ≡ n + count_by (λ t. is_edge t.1) (told kind (line ∷ []))
+no_edges kind line e n says apart =
+    let one : count_by (λ t. is_edge t.1) (told kind (line ∷ [])) ≡ 0 + one_if (is_edge e) = ap (count_by (λ t. is_edge t.1)) (told_one kind line e says) in
+    let none : one_if (is_edge e) ≡ 0 = ap one_if apart in
+    omega (arith, one, none)
+
+pub noted_label : (kind : Kind) (line : Line) (old : Noted) (numbers : Words) (n name : List ℕ) → said kind line ≡ Some (label n name) → IsAdded n old.numbers numbers
+    → IsNoted kind line old (record { numbers = numbers; edges = old.edges }) (Ok tt)
+noted_label kind line old numbers n name says added = (
   form_some kind line (label n name) says,
-  λ m. added.each m ∙ or_comm (bytes_eq n m) (has old m) ∙ ap (λ b. has old m || b) (sym (ap (λ ts. has_label ts m) (told_one kind line (label n name) says) ∙ or_false (bytes_eq n m))),
+  λ m. added.each m ∙ or_comm (bytes_eq n m) (has old.numbers m)
+      ∙ ap (λ b. has old.numbers m || b) (sym (ap (λ ts. has_label ts m) (told_one kind line (label n name) says) ∙ or_false (bytes_eq n m))),
+  λ le. no_edges kind line (label n name) old.edges says refl,
 )
 
-noted_other : (kind : Kind) (line : Line) (set : Words) (e : Entry) → said kind line ≡ Some e → ((m : List ℕ) → has_label ((line, e) ∷ []) m ≡ false) → IsNoted kind line set set (Ok tt)
-noted_other kind line set e says apart = (
-  form_some kind line e says,
-  λ m. sym (or_false (has set m)) ∙ ap (λ b. has set m || b) (sym (ap (λ ts. has_label ts m) (told_one kind line e says) ∙ apart m)),
+same_numbers : (kind : Kind) (line : Line) (set : Words) (e : Entry) → said kind line ≡ Some e → ((m : List ℕ) → has_label ((line, e) ∷ []) m ≡ false)
+    → (m : List ℕ) → has set m ≡ (has set m || has_label (told kind (line ∷ [])) m)
+same_numbers kind line set e says apart m = sym (or_false (has set m)) ∙ ap (λ b. has set m || b) (sym (ap (λ ts. has_label ts m) (told_one kind line e says) ∙ apart m))
+
+pub noted_object : (kind : Kind) (line : Line) (old : Noted) (word n : List ℕ) → said kind line ≡ Some (object word n) → IsNoted kind line old old (Ok tt)
+noted_object kind line old word n says = (
+  form_some kind line (object word n) says,
+  same_numbers kind line old.numbers (object word n) says (λ m. refl),
+  λ le. no_edges kind line (object word n) old.edges says refl,
 )
 
-pub noted_object : (kind : Kind) (line : Line) (set : Words) (word n : List ℕ) → said kind line ≡ Some (object word n) → IsNoted kind line set set (Ok tt)
-noted_object kind line set word n says = noted_other kind line set (object word n) says (λ m. refl)
+capped : (n m : ℕ) → n ≡ min (m + 1) 18446744073709551615 → n ≤ edges_limit → n ≡ m + 1
+capped n m is le = omega arith
 
-pub noted_edge : (kind : Kind) (line : Line) (set : Words) (l : List ℕ) (a : Authority) (m : List ℕ) → said kind line ≡ Some (edge l a m) → IsNoted kind line set set (Ok tt)
-noted_edge kind line set l a m says = noted_other kind line set (edge l a m) says (λ n. refl)
+pub noted_edge : (kind : Kind) (line : Line) (old : Noted) (edges : ℕ) (l : List ℕ) (a : Authority) (m : List ℕ) → said kind line ≡ Some (edge l a m)
+    → edges ≡ min (old.edges + 1) 18446744073709551615 → IsNoted kind line old (record { numbers = old.numbers; edges = edges }) (Ok tt)
+noted_edge kind line old edges l a m says is = (
+  form_some kind line (edge l a m) says,
+  same_numbers kind line old.numbers (edge l a m) says (λ n. refl),
+  λ le.
+      let one : count_by (λ t. is_edge t.1) (told kind (line ∷ [])) ≡ 1 = ap (count_by (λ t. is_edge t.1)) (told_one kind line (edge l a m) says) in
+      let more : edges ≡ old.edges + 1 = capped edges old.edges is le in
+      omega (arith, one, more),
+)
 
 -- ---- the lines behind it
 
@@ -134,3 +158,42 @@ numbers_step kind line left more old new n all is so_far noted =
     ap (λ b. b || has_label (told kind more) n) noted ∙ or_assoc (has old n) (has_label (told kind (line ∷ [])) n) (has_label (told kind more) n)
     ∙ ap (λ b. has old n || b) (sym (ap (λ ls. has_label (told kind ls) n) is ∙ ap (λ ts. has_label ts n) (told-cons kind line more) ∙ has_label-append (told kind (line ∷ [])) (told kind more) n))
     ∙ so_far
+
+counts : (kind : Kind) (line : Line) (left more : List Line) → left ≡ line ∷ more
+    → count_by (λ t. is_edge t.1) (told kind left) ≡ count_by (λ t. is_edge t.1) (told kind (line ∷ [])) + count_by (λ t. is_edge t.1) (told kind more)
+counts kind line left more is =
+    ap (λ ls. count_by (λ t. is_edge t.1) (told kind ls)) is ∙ ap (count_by (λ t. is_edge t.1)) (told-cons kind line more)
+    ∙ sum_by-append (λ t. cond (is_edge t.1) 1 0) (told kind (line ∷ [])) (told kind more)
+
+pub edges_step : (kind : Kind) (line : Line) (left more : List Line) (old new all : ℕ) → left ≡ line ∷ more → (old ≤ edges_limit → old + count_by (λ t. is_edge t.1) (told kind left) ≡ all)
+    → (new ≤ edges_limit → new ≡ old + count_by (λ t. is_edge t.1) (told kind (line ∷ []))) → new ≤ edges_limit → new + count_by (λ t. is_edge t.1) (told kind more) ≡ all
+edges_step kind line left more old new all is so_far noted le =
+    let both = counts kind line left more is in
+    let step = noted le in
+    let few : old ≤ edges_limit = omega arith in
+    let before = so_far few in
+    omega arith
+
+-- the lines told so far, and then those that are left
+pub told_on : (kind : Kind) (before : List Told) (line : Line) (left more : List Line) (all : List Told) → left ≡ line ∷ more → before ++ told kind left ≡ all
+    → (before ++ told kind (line ∷ [])) ++ told kind more ≡ all
+told_on kind before line left more all is so_far =
+    append_assoc before (told kind (line ∷ [])) (told kind more) ∙ ap (λ ts. before ++ ts) (sym (ap (told kind) is ∙ told-cons kind line more)) ∙ so_far
+
+pub few_front : (kind : Kind) (before : List Told) (line : Line) (left more : List Line) (all : List Told) → left ≡ line ∷ more → before ++ told kind left ≡ all → HasFewEdges all
+    → HasFewEdges (before ++ told kind (line ∷ []))
+few_front kind before line left more all is so_far few =
+    let whole = told_on kind before line left more all is so_far in
+    let sum = sum_by-append (λ t. cond (is_edge t.1) 1 0) (before ++ told kind (line ∷ [])) (told kind more) in
+    let same = ap (count_by (λ t. is_edge t.1)) whole in
+    let f = few in
+    omega arith
+
+pub few_said : (kind : Kind) (before : List Told) (line : Line) (e : Entry) → said kind line ≡ Some e → HasFewEdges (before ++ told kind (line ∷ [])) → HasFewEdges (before ++ (line, e) ∷ [])
+few_said kind before line e says few = subst (λ (ts : List Told). HasFewEdges (before ++ ts)) (told_one kind line e says) few
+
+few_le : (n : ℕ) → nat_le n edges_limit ≡ true → n ≤ edges_limit
+few_le n test = grind arith
+
+pub few_noted : (ts : List Told) (n : ℕ) → (n ≤ edges_limit → count_by (λ t. is_edge t.1) ts ≡ n) → nat_le n edges_limit ≡ true → HasFewEdges ts
+few_noted ts n counted test = let le = few_le n test in let same = counted le in omega arith

@@ -1,17 +1,18 @@
 -- What is kept of the lines so far, after one line more.
-use Rattle.std.proofs.Common.{◌≡◌, ◌∙◌, ap, sym, refl, ℕ, ◌+◌, Bool, true, false, cond, ◌||◌, not, List, [], ◌∷◌, ◌++◌, None, Result, Ok, Err, count_by, arith, subst}
+use Rattle.std.proofs.Common.{◌≡◌, ◌∙◌, ap, sym, refl, ℕ, ◌+◌, Bool, true, false, cond, ◌||◌, not, List, [], ◌∷◌, ◌++◌, Option, Some, None, IfSome, Result, Ok, Err, count_by, ◌≤◌, ◌&&◌, nat_le, arith, subst}
 use Rattle.std.specs.List.{list_any}
 use Rattle.std.specs.Str.{bytes_eq}
+use Rattle.std.proofs.lemmas.List.Sums.{sum_by-append}
 use Rattle.std.specs.Result.{OnOk}
 use Rattle.auth_kinds.specs.declared.authority.Authority.{Authority}
 use Rattle.cam_base.specs.declared.error.NoMemory.{NoMemory}
 use Rattle.policy_text.specs.Entries.{Number, Entry, label, object, edge}
-use Rattle.policy_text.specs.LinesSeen.{IsSeen, Takes}
-use Rattle.policy_text.specs.PolicyFaults.{Told, gives, names_label, labels_object, says_edge, is_label, is_object, new_edges, wrong_entry}
+use Rattle.policy_text.specs.LinesSeen.{HasEdges, HasFewEdges, HasRoom, IsSeen, Takes}
+use Rattle.policy_text.specs.PolicyFaults.{Told, gives, names_label, labels_object, says_edge, is_edge, is_label, is_object, is_new_edge, new_edges, edges_limit, wrong_entry}
 use Rattle.policy_text.specs.WordSets.{has, words_len, IsAdded}
 use Rattle.policy_text.specs.declared.seen.Seen.{Seen}
 use Rattle.policy_text.specs.declared.words.Words.{Words}
-use Rattle.policy_text.proofs.Before.{any_more, count_more, edges_more}
+use Rattle.policy_text.proofs.Before.{any_more, count_more, edges_more, one_if}
 use Rattle.text_lines.specs.Lines.{Line}
 
 -- a label that isn't wrong has a number that no line in front of it has
@@ -51,8 +52,17 @@ counted p before t word old new is fresh added so_far =
 uncounted : (p : Told → Bool) (before : List Told) (t : Told) (set : Words) → p t ≡ false → words_len set ≡ count_by p before → words_len set ≡ count_by p (before ++ t ∷ [])
 uncounted p before t set is so_far = let more : ◌≡◌ {A = ℕ} (cond (p t) 1 0) 0 = ap (λ (b : Bool). cond b 1 0) is in omega (arith, more, so_far, count_more p before t)
 
-no_edge : (before : List Told) (t : Told) (set : Words) → new_edges [] (before ++ t ∷ []) ≡ new_edges [] before + 0 → words_len set ≡ new_edges [] before → words_len set ≡ new_edges [] (before ++ t ∷ [])
-no_edge before t set more so_far = omega arith
+-- a line that says no edge
+edges_kept : (before : List Told) (t : Told) (o : Option Words) → ((other : List ℕ) → says_edge other t ≡ false) → new_edges [] (before ++ t ∷ []) ≡ new_edges [] before + 0
+    → IfSome o (HasEdges before) → IfSome o (HasEdges (before ++ t ∷ []))
+edges_kept before t None apart more h = tt
+edges_kept before t (Some set) apart more h = record { each = kept says_edge before t set apart h.each; len = (let l = h.len in omega arith) }
+
+-- the edge is added where edges are kept
+abbrev pub AddsEdge : List ℕ → Option Words → Option Words → Type 0
+AddsEdge text None new = new ≡ None
+AddsEdge text (Some old) None = ⊥
+AddsEdge text (Some old) (Some new) = IsAdded text old new
 
 pub seen_label : (old : Seen) (numbers names : Words) (before : List Told) (knows : Number → Bool) (line : Line) (n name : List ℕ) → IsSeen old before
     → IsAdded n old.numbers numbers → IsAdded name old.names names → wrong_entry knows before line (label n name) ≡ None
@@ -61,10 +71,9 @@ seen_label old numbers names before knows line n name seen number_added name_add
   numbers = grown (λ other t. gives other t.1) before (line, label n name) n old.numbers numbers (λ other. refl) number_added seen.numbers;
   names = grown (λ other t. names_label other t.1) before (line, label n name) name old.names names (λ other. refl) name_added seen.names;
   objects = kept (λ other t. labels_object other t.1) before (line, label n name) old.objects (λ other. refl) seen.objects;
-  edges = kept says_edge before (line, label n name) old.edges (λ other. refl) seen.edges;
+  edges = edges_kept before (line, label n name) old.edges (λ other. refl) (edges_more [] before (line, label n name)) seen.edges;
   labels_len = counted (λ t. is_label t.1) before (line, label n name) n old.numbers numbers refl (seen.numbers n ∙ fresh_label knows before line n name none) number_added seen.labels_len;
   objects_len = uncounted (λ t. is_object t.1) before (line, label n name) old.objects refl seen.objects_len;
-  edges_len = no_edge before (line, label n name) old.edges (edges_more [] before (line, label n name)) seen.edges_len;
 }
 
 pub seen_object : (old : Seen) (objects : Words) (before : List Told) (knows : Number → Bool) (line : Line) (word n : List ℕ) → IsSeen old before
@@ -74,10 +83,9 @@ seen_object old objects before knows line word n seen added none = record {
   numbers = kept (λ other t. gives other t.1) before (line, object word n) old.numbers (λ other. refl) seen.numbers;
   names = kept (λ other t. names_label other t.1) before (line, object word n) old.names (λ other. refl) seen.names;
   objects = grown (λ other t. labels_object other t.1) before (line, object word n) word old.objects objects (λ other. refl) added seen.objects;
-  edges = kept says_edge before (line, object word n) old.edges (λ other. refl) seen.edges;
+  edges = edges_kept before (line, object word n) old.edges (λ other. refl) (edges_more [] before (line, object word n)) seen.edges;
   labels_len = uncounted (λ t. is_label t.1) before (line, object word n) old.numbers refl seen.labels_len;
   objects_len = counted (λ t. is_object t.1) before (line, object word n) word old.objects objects refl (seen.objects word ∙ fresh_object knows before line word n none) added seen.objects_len;
-  edges_len = no_edge before (line, object word n) old.edges (edges_more [] before (line, object word n)) seen.edges_len;
 }
 
 -- an edge more, unless it is there
@@ -85,18 +93,27 @@ edge_counted : (b : Bool) → ◌≡◌ {A = ℕ} (cond b 0 1) (cond (not b) 1 0
 edge_counted true = refl
 edge_counted false = refl
 
-pub seen_edge : (old : Seen) (edges : Words) (before : List Told) (line : Line) (l : List ℕ) (a : Authority) (m : List ℕ) → IsSeen old before
-    → IsAdded line.text old.edges edges → IsSeen (record { numbers = old.numbers; names = old.names; objects = old.objects; edges = edges }) (before ++ (line, edge l a m) ∷ [])
-seen_edge old edges before line l a m seen added = record {
+edges_grown : (before : List Told) (line : Line) (l : List ℕ) (a : Authority) (m : List ℕ) (o n : Option Words) → AddsEdge line.text o n → IfSome o (HasEdges before)
+    → IfSome n (HasEdges (before ++ (line, edge l a m) ∷ []))
+edges_grown before line l a m None None adds h = tt
+edges_grown before line l a m None (Some new) adds h = absurd cc
+edges_grown before line l a m (Some old) None adds h = absurd adds
+edges_grown before line l a m (Some old) (Some new) added h = record {
+  each = grown says_edge before (line, edge l a m) line.text old new (λ other. refl) added h.each;
+  len =
+      let here : ◌≡◌ {A = ℕ} (cond (has old line.text) 0 1) (cond (not (list_any (says_edge line.text) before)) 1 0) = ap (λ (b : Bool). cond b 0 1) (h.each line.text) ∙ edge_counted (list_any (says_edge line.text) before) in
+      omega (arith, here, added.len, h.len, edges_more [] before (line, edge l a m));
+}
+
+pub seen_edge : (old : Seen) (edges : Option Words) (before : List Told) (line : Line) (l : List ℕ) (a : Authority) (m : List ℕ) → IsSeen old before
+    → AddsEdge line.text old.edges edges → IsSeen (record { numbers = old.numbers; names = old.names; objects = old.objects; edges = edges }) (before ++ (line, edge l a m) ∷ [])
+seen_edge old edges before line l a m seen adds = record {
   numbers = kept (λ other t. gives other t.1) before (line, edge l a m) old.numbers (λ other. refl) seen.numbers;
   names = kept (λ other t. names_label other t.1) before (line, edge l a m) old.names (λ other. refl) seen.names;
   objects = kept (λ other t. labels_object other t.1) before (line, edge l a m) old.objects (λ other. refl) seen.objects;
-  edges = grown says_edge before (line, edge l a m) line.text old.edges edges (λ other. refl) added seen.edges;
+  edges = edges_grown before line l a m old.edges edges adds seen.edges;
   labels_len = uncounted (λ t. is_label t.1) before (line, edge l a m) old.numbers refl seen.labels_len;
   objects_len = uncounted (λ t. is_object t.1) before (line, edge l a m) old.objects refl seen.objects_len;
-  edges_len =
-      let here : ◌≡◌ {A = ℕ} (cond (has old.edges line.text) 0 1) (cond (not (list_any (says_edge line.text) before)) 1 0) = ap (λ (b : Bool). cond b 0 1) (seen.edges line.text) ∙ edge_counted (list_any (says_edge line.text) before) in
-      omega (arith, here, added.len, seen.edges_len, edges_more [] before (line, edge l a m));
 }
 
 -- ---- one line is taken in
@@ -115,9 +132,42 @@ pub takes_object : (old : Seen) (objects : Words) (text : List ℕ) (entry : Ent
 takes_object old objects text entry word n (Ok x) is added = takes_same entry (object word n) text old _ is (λ before knows line same seen none. seen_object old objects before knows line word n seen added none)
 takes_object old objects text entry word n (Err e) is added = tt
 
-pub takes_edge : (old : Seen) (edges : Words) (text : List ℕ) (entry : Entry) (l : List ℕ) (a : Authority) (m : List ℕ) (r : Result (Unit {0}) NoMemory) → entry ≡ edge l a m
-    → OnOk r (IsAdded text old.edges edges) → OnOk r (Takes entry text old (record { numbers = old.numbers; names = old.names; objects = old.objects; edges = edges }))
+pub takes_edge : (old : Seen) (edges : Option Words) (text : List ℕ) (entry : Entry) (l : List ℕ) (a : Authority) (m : List ℕ) (r : Result (Unit {0}) NoMemory) → entry ≡ edge l a m
+    → OnOk r (AddsEdge text old.edges edges) → OnOk r (Takes entry text old (record { numbers = old.numbers; names = old.names; objects = old.objects; edges = edges }))
 takes_edge old edges text entry l a m (Ok x) is added =
     takes_same entry (edge l a m) text old _ is
-    (λ before knows line same seen none. seen_edge old edges before line l a m seen (subst (λ (t : List ℕ). IsAdded t old.edges edges) (sym same) added))
+    (λ before knows line same seen none. seen_edge old edges before line l a m seen (subst (λ (t : List ℕ). AddsEdge t old.edges edges) (sym same) added))
 takes_edge old edges text entry l a m (Err e) is added = tt
+
+-- ---- how many edges there are
+
+few_new : (b c : Bool) → one_if (b && c) ≤ one_if b
+few_new true true = omega arith
+few_new true false = omega arith
+few_new false c = omega arith
+
+new_edges_most : (before ts : List Told) → new_edges before ts ≤ count_by (λ t. is_edge t.1) ts
+new_edges_most before [] = omega arith
+new_edges_most before (t ∷ ts) =
+    let rest : new_edges (before ++ t ∷ []) ts ≤ count_by (λ t. is_edge t.1) ts = new_edges_most (before ++ t ∷ []) ts in
+    let one : one_if (is_new_edge before t) ≤ one_if (is_edge t.1) = few_new (is_edge t.1) (not (list_any (says_edge t.0.text) before)) in
+    let step : count_by (λ t. is_edge t.1) (t ∷ ts) ≡ (0 + one_if (is_edge t.1)) + count_by (λ t. is_edge t.1) ts = sum_by-append (λ t. cond (is_edge t.1) 1 0) (t ∷ []) ts in
+    omega (arith, rest, one, step)
+
+never : (b : Bool) (n : ℕ) → n + 1 ≤ edges_limit → (not b && nat_le edges_limit n) ≡ false
+never true n less = refl
+never false n less = grind arith
+
+-- with few edge lines in front of it none is past the limit
+pub none_past : (before : List Told) (text : List ℕ) → HasRoom before → (not (list_any (says_edge text) before) && nat_le edges_limit (new_edges [] before)) ≡ false
+none_past before text room = never (list_any (says_edge text) before) (new_edges [] before) (let most = new_edges_most [] before in let r = room in omega arith)
+
+pub room_for : (before : List Told) (line : Line) (l : List ℕ) (a : Authority) (m : List ℕ) → HasFewEdges (before ++ (line, edge l a m) ∷ []) → HasRoom before
+room_for before line l a m few = let more = count_more (λ t. is_edge t.1) before (line, edge l a m) in let f = few in omega arith
+
+pub has_edges : (before : List Told) (o : Option Words) (set : Words) → o ≡ Some set → IfSome o (HasEdges before) → HasEdges before set
+has_edges before None set is h = absurd cc
+has_edges before (Some other) set is h = let same : other ≡ set = cc in subst (HasEdges before) same h
+
+pub adds_some : (text : List ℕ) (o : Option Words) (old new : Words) (r : Result (Unit {0}) NoMemory) → o ≡ Some old → OnOk r (IsAdded text old new) → OnOk r (AddsEdge text o (Some new))
+adds_some text o old new r is added = subst (λ (p : Option Words). OnOk r (AddsEdge text p (Some new))) (sym is) added

@@ -1,5 +1,5 @@
 -- What is kept of the lines in front of a line.
-use Rattle.std.specs.Prelude.{◌≡◌, ℕ, Bool, List, [], ◌∷◌, ◌++◌, count_by, Option, None, Result, Ok, Err}
+use Rattle.std.specs.Prelude.{◌≡◌, ◌<◌, ◌≤◌, ℕ, Bool, List, [], ◌∷◌, ◌++◌, count_by, Option, None, Result, Ok, Err, IfSome}
 use Rattle.std.specs.Borrow.{Bor}
 use Rattle.std.specs.List.{list_any}
 use Rattle.std.specs.Option.{option_map}
@@ -7,23 +7,36 @@ use Rattle.cam_base.specs.declared.error.Refused.{Refused}
 use Rattle.cam_base.specs.declared.text_fault.TextCode.{TextCode}
 use Rattle.cam_base.specs.declared.text_fault.TextFault.{TextFault}
 use Rattle.policy_text.specs.Entries.{Number, Entry}
-use Rattle.policy_text.specs.PolicyFaults.{Told, gives, names_label, labels_object, says_edge, is_label, is_object, new_edges, wrong_entry, first_wrong}
+use Rattle.policy_text.specs.PolicyFaults.{Told, gives, names_label, labels_object, says_edge, is_edge, is_label, is_object, new_edges, edges_limit, wrong_entry, first_wrong}
 use Rattle.policy_text.specs.PolicyTexts.{told, IsFault}
 use Rattle.policy_text.specs.WordSets.{has, words_len}
 use Rattle.policy_text.specs.declared.kind.Kind.{Kind}
 use Rattle.policy_text.specs.declared.seen.Seen.{Seen}
+use Rattle.policy_text.specs.declared.words.Words.{Words}
 use Rattle.text_lines.specs.LineFaults.{Wrong}
 use Rattle.text_lines.specs.Lines.{Line}
 
--- what these lines have said
+-- no more of these lines say an edge than a text may have edges
+abbrev pub HasFewEdges : List Told → Type 0
+HasFewEdges lines = count_by (λ t. is_edge t.1) lines ≤ edges_limit
+
+-- and one more line may
+abbrev pub HasRoom : List Told → Type 0
+HasRoom lines = count_by (λ t. is_edge t.1) lines < edges_limit
+
+-- the set has these lines' edges, each once
+pub record HasEdges (before : List Told) (edges : Words) : Type 0 where
+  pub each : (text : List ℕ) → has edges text ≡ list_any (says_edge text) before
+  pub len : words_len edges ≡ new_edges [] before
+
+-- what these lines have said; the edges only where they are kept
 pub record IsSeen (seen : Seen) (before : List Told) : Type 0 where
   pub numbers : (n : List ℕ) → has seen.numbers n ≡ list_any (λ t. gives n t.1) before
   pub names : (name : List ℕ) → has seen.names name ≡ list_any (λ t. names_label name t.1) before
   pub objects : (word : List ℕ) → has seen.objects word ≡ list_any (λ t. labels_object word t.1) before
-  pub edges : (text : List ℕ) → has seen.edges text ≡ list_any (says_edge text) before
+  pub edges : IfSome seen.edges (HasEdges before)
   pub labels_len : words_len seen.numbers ≡ count_by (λ t. is_label t.1) before
   pub objects_len : words_len seen.objects ≡ count_by (λ t. is_object t.1) before
-  pub edges_len : words_len seen.edges ≡ new_edges [] before
 
 -- what was kept of some lines is kept of one line more, which says an entry with which nothing is wrong
 abbrev pub Takes : Entry → List ℕ → Seen → Seen → Type 0

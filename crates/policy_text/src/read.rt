@@ -4,8 +4,9 @@ ghost use Rattle.auth_kinds.specs.Policies.{IsPolicy};
 ghost use Rattle.policy_text.specs.KnownNumbers.{knows};
 ghost use Rattle.policy_text.specs.PolicyFaults.{first_wrong};
 ghost use Rattle.policy_text.specs.PolicyTexts.{body, told, IsPolicyRead, IsCertRead, AreLabelled};
-ghost use Rattle.policy_text.specs.TextsRead.{FindsFault, IsNoted, AreNumbers};
-ghost use Rattle.std.specs.Prelude.{◌≡◌, [], IfOk};
+ghost use Rattle.policy_text.specs.LinesSeen.{HasFewEdges};
+ghost use Rattle.policy_text.specs.TextsRead.{FindsFault, IsNoted, AreNoted};
+ghost use Rattle.std.specs.Prelude.{◌≡◌, [], true, IfOk};
 ghost use Rattle.text_lines.specs.LinesLeft.{line_of};
 
 use crate::entry::{Entry, read_entry};
@@ -13,7 +14,7 @@ use crate::head::{body, check_head};
 use crate::kind::Kind;
 use crate::known::{Known, numbers_of};
 use crate::parts::Parts;
-use crate::seen::Seen;
+use crate::seen::{MAX_EDGES, Seen};
 use crate::words::Words;
 use auth_kinds::{EdgeTable, Policy};
 use cam_base::{Refused, TextCode, TextFault};
@@ -26,8 +27,15 @@ pub fn read_policy(alloc: Global, bytes: &[u8]) -> Result<Policy, Refused<TextFa
     ensures kept { IfOk result IsPolicy }
 {
     check_head(alloc, Kind::Policy, bytes)?;
-    let numbers = label_numbers(alloc, Kind::Policy, bytes)?;
-    check_lines(alloc, Kind::Policy, &Known::Lines(numbers), bytes)?;
+    let noted = note_lines(alloc, Kind::Policy, bytes)?;
+    let few = noted.edges <= MAX_EDGES;
+    check_lines(
+        alloc,
+        Kind::Policy,
+        &Known::Lines(noted.numbers),
+        few,
+        bytes,
+    )?;
     let parts = Parts::of(alloc, Kind::Policy, bytes)?;
     Ok(parts.into_policy(alloc)?)
 }
@@ -43,50 +51,72 @@ pub fn read_cert(
     ensures labelled { IfOk result (AreLabelled policy.now) }
 {
     check_head(alloc, Kind::Certificate, bytes)?;
-    label_numbers(alloc, Kind::Certificate, bytes)?;
+    let noted = note_lines(alloc, Kind::Certificate, bytes)?;
+    let few = noted.edges <= MAX_EDGES;
     let numbers = numbers_of(alloc, policy.labels.as_slice())?;
-    check_lines(alloc, Kind::Certificate, &Known::Labels(numbers), bytes)?;
+    check_lines(
+        alloc,
+        Kind::Certificate,
+        &Known::Labels(numbers),
+        few,
+        bytes,
+    )?;
     let parts = Parts::of(alloc, Kind::Certificate, bytes)?;
     Ok(EdgeTable::from_list(alloc, parts.edges.as_slice())?)
 }
 
-/// The numbers of a text's label lines, or the first line that says nothing of the text's forms.
-fn label_numbers(alloc: Global, kind: Kind, bytes: &[u8]) -> Result<Words<'_>, Refused<TextFault>>
-    ensures { AreNumbers kind (body bytes.now) result }
+/// What the lines of a text say in all: the numbers of its label lines, and how many edge lines it has.
+#[derive(Drop)]
+pub struct Noted<'a> {
+    pub numbers: Words<'a>,
+    pub edges: usize,
+}
+
+/// What the lines of a text say in all, or the first line that says nothing of the text's forms.
+fn note_lines(alloc: Global, kind: Kind, bytes: &[u8]) -> Result<Noted<'_>, Refused<TextFault>>
+    ensures { AreNoted kind (body bytes.now) result }
 {
-    let mut numbers = Words::new(alloc);
+    let mut noted = Noted {
+        numbers: Words::new(alloc),
+        edges: 0,
+    };
     for line in body(bytes) {
-        note_line(alloc, kind, line, &mut numbers)?;
+        note_line(alloc, kind, line, &mut noted)?;
     }
-    Ok(numbers)
+    Ok(noted)
 }
 
 fn note_line<'a>(
     alloc: Global,
     kind: Kind,
     line: Line<'a>,
-    numbers: &mut Words<'a>,
+    noted: &mut Noted<'a>,
 ) -> Result<(), Refused<TextFault>>
-    ensures { IsNoted kind (line_of line.entry) numbers.old numbers.new result }
+    ensures { IsNoted kind (line_of line.entry) noted.old noted.new result }
 {
     match read_entry(kind, line.text) {
         None => Err(refusal(alloc, line, TextCode::PolicySyntax, b"")),
-        Some(Entry::Label { number, .. }) => Ok(numbers.add(number)?),
+        Some(Entry::Label { number, .. }) => Ok(noted.numbers.add(number)?),
         Some(Entry::Object { .. }) => Ok(()),
-        Some(Entry::Edge { .. }) => Ok(()),
+        Some(Entry::Edge { .. }) => {
+            noted.edges = noted.edges.saturating_add(1);
+            Ok(())
+        }
     }
 }
 
-/// Finds the first line with which something is wrong.
+/// Finds the first line with which something is wrong. Where the text has few edge lines, none of them is past the limit.
 fn check_lines(
     alloc: Global,
     kind: Kind,
     known: &Known,
+    few: bool,
     bytes: &[u8],
 ) -> Result<(), Refused<TextFault>>
+    requires { few ≡ true → HasFewEdges (told kind (body bytes.now)) }
     ensures { FindsFault (first_wrong (knows known.now) [] (told kind (body bytes.now))) result }
 {
-    let mut seen = Seen::nothing(alloc);
+    let mut seen = Seen::nothing(alloc, few);
     for line in body(bytes) {
         seen.read_line(alloc, kind, known, line)?;
     }

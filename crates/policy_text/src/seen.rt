@@ -4,9 +4,12 @@ ghost use Rattle.auth_kinds.specs.declared.authority.Authority.{Authority};
 ghost use Rattle.policy_text.specs.Entries.{Number, label, object, edge};
 ghost use Rattle.policy_text.specs.EntriesRead.{meant};
 ghost use Rattle.policy_text.specs.KnownNumbers.{knows};
-ghost use Rattle.policy_text.specs.LinesSeen.{IsSeen, Takes, what, IsLineJudged};
-ghost use Rattle.policy_text.specs.PolicyFaults.{Told, wrong_entry};
-ghost use Rattle.std.specs.Prelude.{◌≡◌, [], List, Bool, OnOk};
+ghost use Rattle.policy_text.specs.LinesSeen.{HasFewEdges, HasRoom, IsSeen, Takes, what, IsLineJudged};
+ghost use Rattle.policy_text.specs.PolicyFaults.{Told, edges_limit, new_edges, says_edge, wrong_entry};
+ghost use Rattle.policy_text.specs.PolicyTexts.{told};
+ghost use Rattle.std.specs.List.{list_any};
+ghost use Rattle.std.specs.Option.{is_none};
+ghost use Rattle.std.specs.Prelude.{◌≡◌, [], ◌∷◌, ◌++◌, ◌&&◌, List, Bool, nat_le, not, true, OnOk, IfNone};
 ghost use Rattle.text_lines.specs.Lines.{Line as SpecLine};
 ghost use Rattle.text_lines.specs.LinesLeft.{line_of};
 
@@ -31,25 +34,27 @@ pub const MAX_EDGES: usize = 262_144;
 /// The most bytes of an object's word.
 const MAX_WORD: usize = 127;
 
-/// What the lines in front of a line have said: labels by number and by name, objects, and edges by their lines.
+/// What the lines in front of a line have said: labels by number and by name, objects, and edges by their lines, which are
+/// kept only for a text with more edge lines than a text may have edges.
 #[derive(Drop)]
 pub struct Seen<'a> {
     pub numbers: Words<'a>,
     pub names: Words<'a>,
     pub objects: Words<'a>,
-    pub edges: Words<'a>,
+    pub edges: Option<Words<'a>>,
 }
 
 impl<'a> Seen<'a> {
     /// Nothing is said. Takes no memory.
-    pub fn nothing(alloc: Global) -> Seen<'a>
-        ensures { IsSeen result [] }
+    pub fn nothing(alloc: Global, few: bool) -> Seen<'a>
+        ensures seen { IsSeen result [] }
+        ensures few { IfNone result.edges (few ≡ true) }
     {
         Seen {
             numbers: Words::new(alloc),
             names: Words::new(alloc),
             objects: Words::new(alloc),
-            edges: Words::new(alloc),
+            edges: if few { None } else { Some(Words::new(alloc)) },
         }
     }
 
@@ -61,8 +66,10 @@ impl<'a> Seen<'a> {
         known: &Known,
         line: Line<'a>,
     ) -> Result<(), Refused<TextFault>>
-        ensures { (before : List Told) → IsSeen self.old before
+        ensures judged { (before : List Told) → IsSeen self.old before
+            → (is_none self.old.edges ≡ true → HasFewEdges (before ++ told kind (line_of line.entry ∷ [])))
             → IsLineJudged kind (knows known.now) before (line_of line.entry) self.new result }
+        ensures few { is_none self.new.edges ≡ is_none self.old.edges }
     {
         let Some(entry) = read_entry(kind, line.text) else {
             return Ok(());
@@ -76,6 +83,7 @@ impl<'a> Seen<'a> {
     /// What is wrong with the entry of a line: the least code, and the name that its fault speaks of.
     fn wrong(&self, known: &Known, text: &'a [u8], entry: Entry<'a>) -> Option<(TextCode, &'a [u8])>
         ensures { (before : List Told) (line : SpecLine) → line.text ≡ text.entry.now → IsSeen self.now before
+            → (is_none self.now.edges ≡ true → HasFewEdges (before ++ (line, meant entry.entry) ∷ []))
             → what result ≡ wrong_entry (knows known.now) before line (meant entry.entry) }
     {
         match entry {
@@ -126,22 +134,35 @@ impl<'a> Seen<'a> {
         to: &'a [u8],
     ) -> Option<(TextCode, &'a [u8])>
         ensures { (before : List Told) (line : SpecLine) (a : Authority) → line.text ≡ text.now → IsSeen self.now before
+            → (is_none self.now.edges ≡ true → HasRoom before)
             → what result ≡ wrong_entry (knows known.now) before line (edge from.entry.now a to.entry.now) }
     {
         if !known.has(from) {
             Some((TextCode::UnknownLabel, from))
         } else if !known.has(to) {
             Some((TextCode::UnknownLabel, to))
-        } else if !self.edges.has(text) && self.edges.len() >= MAX_EDGES {
+        } else if self.is_past_edges(text) {
             Some((TextCode::PolicyLimit, b""))
         } else {
             None
         }
     }
 
+    /// Whether the line says a new edge, behind the most different ones.
+    fn is_past_edges(&self, text: &[u8]) -> bool
+        ensures { (before : List Told) → IsSeen self.now before → (is_none self.now.edges ≡ true → HasRoom before)
+            → result ≡ (not (list_any (says_edge text.now) before) && nat_le edges_limit (new_edges [] before)) }
+    {
+        match &self.edges {
+            Some(edges) => edges.len() >= MAX_EDGES && !edges.has(text),
+            None => false,
+        }
+    }
+
     /// Takes in the entry of a line with which nothing is wrong.
     fn add(&mut self, text: &'a [u8], entry: Entry<'a>) -> Result<(), NoMemory>
-        ensures { OnOk result (Takes (meant entry.entry) text.entry.now self.old self.new) }
+        ensures takes { OnOk result (Takes (meant entry.entry) text.entry.now self.old self.new) }
+        ensures few { is_none self.new.edges ≡ is_none self.old.edges }
     {
         match entry {
             Entry::Label { number, name } => {
@@ -149,7 +170,10 @@ impl<'a> Seen<'a> {
                 self.names.add(name)
             }
             Entry::Object { word, .. } => self.objects.add(word),
-            Entry::Edge { .. } => self.edges.add(text),
+            Entry::Edge { .. } => match &mut self.edges {
+                Some(edges) => edges.add(text),
+                None => Ok(()),
+            },
         }
     }
 }

@@ -1,17 +1,18 @@
-use Rattle.std.proofs.Common.{ap}
+use Rattle.std.proofs.Common.{ap, Some}
 use Rattle.policy_text.specs.EntriesRead.{meant}
-use Rattle.policy_text.proofs.Taking.{takes_label, takes_object, takes_edge}
+use Rattle.policy_text.proofs.Taking.{adds_some, takes_label, takes_object, takes_edge}
 use Rattle.policy_text.proofs.seen.Seen.add.Goals as goal
 
-pub returns-in_ok-add-in-Label : goal.returns-in_ok-add-in-Label
-returns-in_ok-add-in-Label c =
+pub returns-in_ok-add-in-Label-clause-takes : goal.returns-in_ok-add-in-Label-clause-takes
+returns-in_ok-add-in-Label-clause-takes c =
     takes_label c.args.self.now c.add.new.self c.add-in-Label.new.self c.args.text.now (meant c.args.entry) c.in-Label.number.now c.in-Label.name.now c.add-in-Label.result (ap meant c.in-Label.is)
     c.in_ok-add-in-Label.ensures c.add-in-Label.ensures
 
-pub returns-in-Object : goal.returns-in-Object
-returns-in-Object c =
+pub returns-in-Object-clause-takes : goal.returns-in-Object-clause-takes
+returns-in-Object-clause-takes c =
     takes_object c.args.self.now c.add-in-Object.new.self c.args.text.now (meant c.args.entry) c.in-Object.word.now c.in-Object.number.now c.add-in-Object.result (ap meant c.in-Object.is) c.add-in-Object.ensures
 
-pub returns-in-Edge : goal.returns-in-Edge
-returns-in-Edge c =
-    takes_edge c.args.self.now c.add-in-Edge.new.self c.args.text.now (meant c.args.entry) c.in-Edge.from.now c.in-Edge.authority c.in-Edge.to.now c.add-in-Edge.result (ap meant c.in-Edge.is) c.add-in-Edge.ensures
+pub returns-in-Some-clause-takes : goal.returns-in-Some-clause-takes
+returns-in-Some-clause-takes c =
+    takes_edge c.args.self.now (Some c.add-in-Some.new.self) c.args.text.now (meant c.args.entry) c.in-Edge.from.now c.in-Edge.authority c.in-Edge.to.now c.add-in-Some.result (ap meant c.in-Edge.is)
+    (adds_some c.args.text.now c.args.self.now.edges c.in-Some.edges c.add-in-Some.new.self c.add-in-Some.result (cc) c.add-in-Some.ensures)

@@ -1,0 +1,7 @@
+use Rattle.std.proofs.Common.{ap, sym}
+use Rattle.std.specs.Option.{is_none}
+use Rattle.policy_text.proofs.Taking.{none_past}
+use Rattle.policy_text.proofs.seen.Seen.is_past_edges.Goals as goal
+
+pub returns-in-None : goal.returns-in-None
+returns-in-None c = λ before seen room. sym (none_past before c.args.text.now (room (ap is_none c.in-None.is)))
