@@ -1,5 +1,5 @@
 -- What was found makes all edges of an audit.
-use Rattle.std.proofs.Common.{◌≡◌, ◌∙◌, ◌⊎◌, ◌<◌, ◌&&◌, ◌||◌, ℕ, true, List, [], Option, Some, None, length, slice_get, get_or, refl, sym, ap, subst, inl, inr}
+use Rattle.std.proofs.Common.{◌≡◌, ◌∙◌, ◌⊎◌, ◌<◌, ◌&&◌, ◌||◌, ℕ, true, List, [], Option, Some, None, length, slice_get, get_or, refl, sym, ap, subst, inl, inr, arith}
 use Rattle.std.specs.List.{Contains}
 use Rattle.std.proofs.lemmas.Bool.{and_parts}
 use Rattle.std.proofs.lemmas.Option.{slice_get_within}
@@ -17,16 +17,18 @@ use Rattle.cap_model.specs.declared.kind.Kind.TheVariants as kinds
 use Rattle.cap_model.specs.declared.spec.Spec.{Spec}
 use Rattle.cap_model.proofs.BootPlaces.{contains_at}
 use Rattle.cap_spread.specs.Audited.{Audited, at_boot, of_spread, of_map, of_bind, of_call, of_save}
-use Rattle.cap_spread.specs.Covering.{AreRoots, IsFoundAt}
-use Rattle.cap_spread.specs.Search.{Found, HoldsAt, IsFound, bare, held_by}
+use Rattle.cap_spread.specs.Covering.{IsFoundAt}
+use Rattle.cap_spread.specs.Search.{Found, IsFound, bare, held_by}
+use Rattle.cap_spread.specs.declared.found.Pair.{Pair}
 use Rattle.cap_spread.specs.Spread.{HasRoot, HoldsNoThread, IsClosed, Spread}
 use Rattle.cap_spread.proofs.SpreadLeast.{spread_least}
-use Rattle.cap_audit.specs.Gains.{Gains, IsAll, IsMade, Made, OfPair, OfSome}
-use Rattle.cap_audit.specs.Gates.{AreGates, AreRosters, Between, Meets, OfCall, OfListening, row_at}
+use Rattle.cap_audit.specs.Gains.{Gains, IsAll, IsMade, Made, OfFace, OfPair, OfSome}
+use Rattle.cap_audit.specs.Gates.{AreGates, AreReady, Between, MeetBy, OfCall, OfKinds, OfListening}
+use Rattle.cap_audit.specs.Kinds.{AreHeadRoots, AreStandIns, IsQueued, stand_in}
 use Rattle.cap_audit.specs.Picks.{IsHeld, OfDeeds, OfRoot, OfRoots, is_wanted}
 use Rattle.cap_audit.specs.Reports.{IsReport}
-use Rattle.cap_audit.specs.Showing.{IsBegun, OfAllCalls, OfAllDeeds, OfBoot, by_bind, by_map}
-use Rattle.cap_audit.specs.declared.gates.Place.{Place}
+use Rattle.cap_audit.specs.Rows.{row_at}
+use Rattle.cap_audit.specs.Showing.{AreKinds, IsBegun, OfAllCalls, OfAllDeeds, OfBoot, by_bind, by_map}
 use Rattle.cap_audit.specs.declared.making.Deed.{Deed}
 use Rattle.cap_audit.specs.declared.making.Deed.TheVariants as deeds
 use Rattle.cap_audit.specs.declared.picks.Wanted.TheVariants as wants
@@ -57,8 +59,9 @@ made_first spec labels f found = record {
 }
 
 pub begun : (spec : Spec) (labels : List ℕ) (f : Found) (m : Made) → IsFound spec f → IsClosed spec (IsFoundAt f) → IsKept spec → length labels ≡ length spec.entries
-    → m ≡ record { spec = spec; labels = labels; found = bare f; edges = []; steps = f.steps; nexts = f.nexts } → IsBegun m
-begun spec labels f m found closed kept labelled is = subst IsBegun (sym is) (record {
+    → (faces heads : List ℕ) → AreKinds spec labels (bare f) faces heads
+    → m ≡ record { spec = spec; labels = labels; found = bare f; faces = faces; heads = heads; edges = []; steps = f.steps; nexts = f.nexts } → IsBegun m
+begun spec labels f m found closed kept labelled faces heads kinds is = subst IsBegun (sym is) (record {
   so_far = record {
     made = made_first spec labels f found;
     differ = λ l a k h. absurd (let e : has [] (edge l a k) ≡ true = h in cc);
@@ -67,6 +70,7 @@ begun spec labels f m found closed kept labelled is = subst IsBegun (sym is) (re
   all = all_found spec f found closed;
   kept = kept;
   labelled = labelled;
+  kinds = kinds;
 })
 
 module _ (spec : Spec) (f : Found) (all : IsAll spec f) where
@@ -88,77 +92,78 @@ module _ (spec : Spec) (f : Found) (all : IsAll spec f) where
           by = record { item = k.1; there = k.2; by = record { cap = cap; is = k.4; of_cap = subst (λ (n : ℕ). OfCap spec labels (label_of labels n) cap e) (sym k.3) of } };
         }
 
+    -- what a face confers, all do that it stands for
+    pub of_faces : (faces : List ℕ) → AreStandIns f faces → ((c : ℕ) → label_of labels (stand_in faces c) ≡ label_of labels c) → (e : Edge) → OfSome (OfPair spec labels f) f.queue e
+        → OfSome (OfFace spec labels f faces) f.queue e
+    of_faces faces alike labelled e x =
+        let pair : Pair = x.by.item in
+        let q = alike.held_there pair.node pair.held.value (record { place = x.at; pair = pair; there = x.by.there; at = refl; of = refl }) in
+        let cap : Cap = x.by.by.cap in
+        let is : slice_get f.values q.pair.held.value ≡ Some cap = subst (λ (v : ℕ). slice_get f.values v ≡ Some cap) (sym q.of) x.by.by.is in
+        let same : label_of labels pair.node ≡ label_of labels q.pair.node = sym (ap (λ (n : ℕ). label_of labels n) q.at ∙ labelled pair.node) in
+        record {
+          at = q.place;
+          less = slice_get_within f.queue q.place q.pair q.there;
+          by = record {
+            item = q.pair;
+            there = q.there;
+            by = record {
+              itself = subst (λ (n : ℕ). stand_in faces n ≡ n) (sym q.at) (alike.itself pair.node);
+              by = record { cap = cap; is = is; of_cap = subst (λ (l : ℕ). OfCap spec labels l cap e) same x.by.by.of_cap };
+            };
+          };
+        }
+
     -- the deeds of some thread, by the roots
-    pub of_roots : (roots : List (Option ℕ)) (deed : Deed) (t c : ℕ) (e : Edge) → AreRoots spec roots → c < length spec.entries → HasRoot spec t c → OfDeeds spec labels f deed c e
-        → OfRoots spec labels f deed roots e
-    of_roots roots deed t c e are inside root by = record { at = c; less = inside; by = go (get_or roots c None) refl } where
+    pub of_roots : (heads : List ℕ) (roots : List (Option ℕ)) (deed : Deed) (t c : ℕ) (e : Edge) → AreHeadRoots spec heads roots → c < length spec.entries → HasRoot spec t c → stand_in heads c ≡ c
+        → OfDeeds spec labels f deed c e → OfRoots spec labels f deed roots e
+    of_roots heads roots deed t c e are inside root itself by = record { at = c; less = inside; by = go (get_or roots c None) refl } where
       go : (o : Option ℕ) → get_or roots c None ≡ o → OfRoot spec labels f deed (get_or roots c None) c e
-      go None none = absurd (are.all_ones c t root none)
+      go None none = absurd (are.all_ones c t itself root none)
       go (Some u) some = subst (λ (o : Option ℕ). OfRoot spec labels f deed o c e) (sym some) by
 
-    -- the calls, by the endpoints
-    module _ (rosters : List (List ℕ)) (gates : List (List Place)) (r : AreRosters spec rosters (length spec.entries)) (g : AreGates spec f gates (length f.queue)) where
-      pub of_listeners : (e : Edge) → OfAllCalls spec labels e → OfSome (OfListening spec labels f rosters gates) f.queue e
-      of_listeners e x =
-          let a = all.every x.c x.to x.has in
-          let b = all.every x.d x.from x.peer_has in
-          let wanted : is_wanted spec wants.Caller x.to ≡ true = (let is = x.meet.is in let may = x.may in rw is may) in
-          let listens : is_wanted spec wants.Listener x.from ≡ true = (let is : is_at spec kinds.Endpoint x.from.object ≡ true = subst (λ (n : ℕ). is_at spec kinds.Endpoint n ≡ true) (sym x.meet.same) x.meet.is in rw is x.meet.reads) in
-          let gate = g.every a.0 a.1 x.to (slice_get_within f.queue a.0 a.1 a.2) a.2 a.4 wanted in
-          let gate_there : slice_get (row_at gates x.from.object) gate.0 ≡ Some gate.1 = subst (λ (n : ℕ). slice_get (row_at gates n) gate.0 ≡ Some gate.1) (sym x.meet.same) gate.2 in
-          let gate_node : gate.1.node ≡ x.c = gate.3 ∙ a.3 in
-          let tk = r.every x.c x.t (thread_inside spec x.t x.c x.roots.root) x.roots.root in
-          let uk = r.every x.d x.u (thread_inside spec x.u x.d x.roots.peer_root) x.roots.peer_root in
-          let inner : OfSome (OfCall labels x.u x.d) (row_at rosters x.c) e = record { at = tk.0; less = slice_get_within (row_at rosters x.c) tk.0 x.t tk.1; by = record { item = x.t; there = tk.1; by = (x.roots.other, x.is) } } in
-          let between : Between labels rosters x.c x.d e = record { at = uk.0; less = slice_get_within (row_at rosters x.d) uk.0 x.u uk.1; by = record { item = x.u; there = uk.1; by = inner } } in
-          let here : Between labels rosters gate.1.node b.1.node e =
-          subst (λ (n : ℕ). Between labels rosters n b.1.node e) (sym gate_node) (subst (λ (n : ℕ). Between labels rosters x.c n e) (sym b.3) between) in
-          record {
-            at = b.0;
-            less = slice_get_within f.queue b.0 b.1 b.2;
-            by = record {
-              item = b.1;
-              there = b.2;
-              by = record {
-                cap = x.from;
-                is = b.4;
-                wanted = listens;
-                by = record {
-                  at = gate.0;
-                  less = slice_get_within (row_at gates x.from.object) gate.0 gate.1 gate_there;
-                  by = record { item = gate.1; there = gate_there; by = here };
-                };
-              };
-            };
-          }
+  -- who stands for c has what c has
+  pub is_held_there : (heads : List ℕ) → AreStandIns f heads → (c : ℕ) (cap : Cap) → Spread spec c cap → IsHeld f (stand_in heads c) cap
+  is_held_there heads alike c cap has =
+      let k = all.every c cap has in
+      let q = alike.held_there c k.1.held.value (record { place = k.0; pair = k.1; there = k.2; at = k.3; of = refl }) in
+      let at = contains_at (held_by f q.pair.node) q.pair.held (all.queued q.place q.pair q.there) in
+      record {
+        place = at.0;
+        held = q.pair.held;
+        there = subst (λ (n : ℕ). slice_get (held_by f n) at.0 ≡ Some q.pair.held) q.at at.1;
+        is = subst (λ (v : ℕ). slice_get f.values v ≡ Some cap) (sym q.of) k.4;
+      }
 
   -- each edge of an audit is of one of the parts
-  pub audited_parts : (labels : List ℕ) (e : Edge) → Audited spec labels e.from e.authority e.to
-      → OfBoot spec labels e ⊎ (OfSome (OfPair spec labels f) f.queue e ⊎ (OfAllDeeds spec labels f e ⊎ OfAllCalls spec labels e))
-  audited_parts labels e (at_boot structural) = inl (inr structural)
-  audited_parts labels e (of_spread (c, cap, has, confers, from, to)) = inr (inl (of_queue labels c cap e has (record { from_is = from; conferred = confers; to_is = to })))
-  audited_parts labels e (of_map (frame, space, maps, confers, from, to)) =
-      inr (inr (inl (by_map maps.thread maps.root maps.rooted (record {
+  pub audited_parts : (labels faces heads : List ℕ) → AreKinds spec labels f faces heads → (e : Edge) → Audited spec labels e.from e.authority e.to
+      → OfBoot spec labels e ⊎ (OfSome (OfPair spec labels f) f.queue e ⊎ (OfAllDeeds spec labels f heads e ⊎ OfAllCalls spec labels e))
+  audited_parts labels faces heads kinds e (at_boot structural) = inl (inr structural)
+  audited_parts labels faces heads kinds e (of_spread (c, cap, has, confers, from, to)) = inr (inl (of_queue labels c cap e has (record { from_is = from; conferred = confers; to_is = to })))
+  audited_parts labels faces heads kinds e (of_map (frame, space, maps, confers, from, to)) =
+      let u = kinds.rooted maps.root maps.thread maps.rooted in
+      inr (inr (inl (by_map u.0 (stand_in heads maps.root) u.1 (kinds.are_heads.itself maps.root) (record {
         from = space;
         to = frame;
-        has_from = is_held maps.root space maps.has;
-        has_to = is_held maps.root frame maps.has_frame;
+        has_from = is_held_there heads kinds.are_heads maps.root space maps.has;
+        has_to = is_held_there heads kinds.are_heads maps.root frame maps.has_frame;
         is_from = maps.is;
         is_to = maps.is_frame;
         by = record { from_is = from; conferred = confers; to_is = to };
       }))))
-  audited_parts labels e (of_bind (d, n, binds, is, from, to)) =
-      inr (inr (inl (by_bind binds.thread binds.root binds.rooted (record {
+  audited_parts labels faces heads kinds e (of_bind (d, n, binds, is, from, to)) =
+      let u = kinds.rooted binds.root binds.thread binds.rooted in
+      inr (inr (inl (by_bind u.0 (stand_in heads binds.root) u.1 (kinds.are_heads.itself binds.root) (record {
         from = binds.irq;
         to = binds.bound;
-        has_from = is_held binds.root binds.irq binds.has_irq;
-        has_to = is_held binds.root binds.bound binds.has;
+        has_from = is_held_there heads kinds.are_heads binds.root binds.irq binds.has_irq;
+        has_to = is_held_there heads kinds.are_heads binds.root binds.bound binds.has;
         is_from = binds.is_irq;
         is_to = (let a = binds.is in rw a binds.writes);
         by = edges_same e (edge (label_of labels binds.irq.object) AsyncSend (label_of labels binds.bound.object)) (from ∙ ap (λ (k : ℕ). label_of labels k) (sym binds.of_irq)) is
             (to ∙ ap (λ (k : ℕ). label_of labels k) (sym binds.of_bound));
       }))))
-  audited_parts labels e (of_call (t, u, to, from, calls, is, l, m)) = inr (inr (inr (record {
+  audited_parts labels faces heads kinds e (of_call (t, u, to, from, calls, is, l, m)) = inr (inr (inr (record {
     t = t;
     u = u;
     c = calls.root;
@@ -172,7 +177,7 @@ module _ (spec : Spec) (f : Found) (all : IsAll spec f) where
     may = calls.may;
     is = inl (edges_same e (edge (label_of labels u) Reply (label_of labels t)) l is m);
   })))
-  audited_parts labels e (of_save (t, u, c, to, from, calls, root, is, l, m)) = inr (inr (inr (record {
+  audited_parts labels faces heads kinds e (of_save (t, u, c, to, from, calls, root, is, l, m)) = inr (inr (inr (record {
     t = t;
     u = u;
     c = calls.root;
@@ -189,20 +194,78 @@ module _ (spec : Spec) (f : Found) (all : IsAll spec f) where
     same_root : c ≡ calls.peer_root
     same_root = let p : Some c ≡ Some calls.peer_root = sym root ∙ calls.roots.peer_root in cc
 
--- the place of a gate and the place of a listener meet
-pub gate_meets : (spec : Spec) (f : Found) (gates : List (List Place)) (n : ℕ) → AreGates spec f gates n → (peer : Place) (from : Cap) → HoldsAt f peer.node peer.number from
-    → is_wanted spec wants.Listener from ≡ true → (k : ℕ) (at : Place) → slice_get (row_at gates from.object) k ≡ Some at → Meets spec f at peer
-gate_meets spec f gates n g peer from stands listens k at there =
-    let may = g.may from.object k at there in
+-- the calls, by the endpoints
+module _ (spec : Spec) (labels : List ℕ) (f : Found) (heads : List ℕ) (rosters members : List (List ℕ)) (gates : List (List Pair)) (r : AreReady spec f heads rosters members gates) where
+  member_at : (t c : ℕ) → HasRoot spec t c → (k : ℕ) × (slice_get (row_at members (stand_in heads c)) k ≡ Some c)
+  member_at t c root =
+      let less : c < length spec.entries = root_inside spec t c r.kept root in
+      let inside : c < length heads = (let e = r.as_many in omega arith) in
+      r.are_members.every c inside (r.alike.inside c inside)
+
+  pub of_listeners : (e : Edge) → OfAllCalls spec labels e → OfSome (OfListening spec labels f heads rosters members gates) f.queue e
+  of_listeners e x =
+      let a = r.all.every x.c x.to x.has in
+      let b = r.all.every x.d x.from x.peer_has in
+      let p = r.alike.held_there x.c a.1.held.value (record { place = a.0; pair = a.1; there = a.2; at = a.3; of = refl }) in
+      let q = r.alike.held_there x.d b.1.held.value (record { place = b.0; pair = b.1; there = b.2; at = b.3; of = refl }) in
+      let p_is : slice_get f.values p.pair.held.value ≡ Some x.to = subst (λ (v : ℕ). slice_get f.values v ≡ Some x.to) (sym p.of) a.4 in
+      let q_is : slice_get f.values q.pair.held.value ≡ Some x.from = subst (λ (v : ℕ). slice_get f.values v ≡ Some x.from) (sym q.of) b.4 in
+      let p_itself : stand_in heads p.pair.node ≡ p.pair.node = subst (λ (n : ℕ). stand_in heads n ≡ n) (sym p.at) (r.alike.itself x.c) in
+      let q_itself : stand_in heads q.pair.node ≡ q.pair.node = subst (λ (n : ℕ). stand_in heads n ≡ n) (sym q.at) (r.alike.itself x.d) in
+      let wanted : is_wanted spec wants.Caller x.to ≡ true = (let is = x.meet.is in let may = x.may in rw is may) in
+      let listens : is_wanted spec wants.Listener x.from ≡ true = (let is : is_at spec kinds.Endpoint x.from.object ≡ true = subst (λ (n : ℕ). is_at spec kinds.Endpoint n ≡ true) (sym x.meet.same) x.meet.is in rw is x.meet.reads) in
+      let gate = r.are_gates.every p.place p.pair x.to (slice_get_within f.queue p.place p.pair p.there) p.there p_is wanted p_itself in
+      let gate_there : slice_get (row_at gates x.from.object) gate.0 ≡ Some gate.1 = subst (λ (n : ℕ). slice_get (row_at gates n) gate.0 ≡ Some gate.1) (sym x.meet.same) gate.2 in
+      let gate_node : gate.1.node ≡ stand_in heads x.c = gate.3 ∙ p.at in
+      let tk = r.are_rosters.every x.c x.t (thread_inside spec x.t x.c x.roots.root) x.roots.root in
+      let uk = r.are_rosters.every x.d x.u (thread_inside spec x.u x.d x.roots.peer_root) x.roots.peer_root in
+      let inner : OfSome (OfCall labels x.u x.d) (row_at rosters x.c) e = record { at = tk.0; less = slice_get_within (row_at rosters x.c) tk.0 x.t tk.1; by = record { item = x.t; there = tk.1; by = (x.roots.other, x.is) } } in
+      let between : Between labels rosters x.c x.d e = record { at = uk.0; less = slice_get_within (row_at rosters x.d) uk.0 x.u uk.1; by = record { item = x.u; there = uk.1; by = inner } } in
+      let ck = member_at x.t x.c x.roots.root in
+      let dk = member_at x.u x.d x.roots.peer_root in
+      let of_callers : OfSome (λ (y : ℕ). Between labels rosters y x.d) (row_at members (stand_in heads x.c)) e =
+      record { at = ck.0; less = slice_get_within (row_at members (stand_in heads x.c)) ck.0 x.c ck.1; by = record { item = x.c; there = ck.1; by = between } } in
+      let of_kinds : OfKinds labels rosters members (stand_in heads x.c) (stand_in heads x.d) e =
+      record { at = dk.0; less = slice_get_within (row_at members (stand_in heads x.d)) dk.0 x.d dk.1; by = record { item = x.d; there = dk.1; by = of_callers } } in
+      let here : OfKinds labels rosters members gate.1.node q.pair.node e =
+      subst (λ (n : ℕ). OfKinds labels rosters members n q.pair.node e) (sym gate_node) (subst (λ (n : ℕ). OfKinds labels rosters members (stand_in heads x.c) n e) (sym q.at) of_kinds) in
+      record {
+        at = q.place;
+        less = slice_get_within f.queue q.place q.pair q.there;
+        by = record {
+          item = q.pair;
+          there = q.there;
+          by = record {
+            cap = x.from;
+            is = q_is;
+            itself = q_itself;
+            wanted = listens;
+            by = record {
+              at = gate.0;
+              less = slice_get_within (row_at gates x.from.object) gate.0 gate.1 gate_there;
+              by = record { item = gate.1; there = gate_there; by = here };
+            };
+          };
+        };
+      }
+
+-- a door of a gate and one that listens meet
+pub gate_meets : (spec : Spec) (f : Found) (heads : List ℕ) (gates : List (List Pair)) (n : ℕ) → AreGates spec f heads gates n → (pair : Pair) (from : Cap) → slice_get f.values pair.held.value ≡ Some from
+    → is_wanted spec wants.Listener from ≡ true → (k : ℕ) (door : Pair) → slice_get (row_at gates from.object) k ≡ Some door
+    → IsQueued f door.node door.held.value × MeetBy spec f door.held.value pair.held.value
+gate_meets spec f heads gates n g pair from is listens k door there =
+    let may = g.may from.object k door there in
     let reads = and_parts (is_at spec kinds.Endpoint from.object) from.rights.read listens in
-    let calls = and_parts (is_at spec kinds.Endpoint may.cap.object) (may.cap.rights.write && (may.cap.rights.grant || may.cap.rights.reply)) may.wanted in
-    record { to = may.cap; from = from; own = may.held; listens = stands; meet = record { is = calls.0; same = sym may.to; reads = reads.1 }; may = calls.1 }
+    let calls = and_parts (is_at spec kinds.Endpoint may.cap.object) (may.cap.rights.write && (may.cap.rights.grant || may.cap.rights.reply)) may.wanted in (
+      record { place = may.place; pair = door; there = may.there; at = refl; of = refl },
+      record { to = may.cap; from = from; is = may.is; peer_is = is; meet = record { is = calls.0; same = sym may.to; reads = reads.1 }; may = calls.1 },
+    )
 
 -- the deeds of all threads, by the list of roots
-pub deeds_parts : (spec : Spec) (labels : List ℕ) (f : Found) (roots : List (Option ℕ)) → IsAll spec f → IsKept spec → AreRoots spec roots → (e : Edge) → OfAllDeeds spec labels f e
-    → OfRoots spec labels f deeds.Map roots e ⊎ OfRoots spec labels f deeds.Bind roots e
-deeds_parts spec labels f roots all kept are e (by_map t c root of) = inl (of_roots spec f all labels roots deeds.Map t c e are (root_inside spec t c kept root) root of)
-deeds_parts spec labels f roots all kept are e (by_bind t c root of) = inr (of_roots spec f all labels roots deeds.Bind t c e are (root_inside spec t c kept root) root of)
+pub deeds_parts : (spec : Spec) (labels : List ℕ) (f : Found) (heads : List ℕ) (roots : List (Option ℕ)) → IsAll spec f → IsKept spec → AreHeadRoots spec heads roots → (e : Edge)
+    → OfAllDeeds spec labels f heads e → OfRoots spec labels f deeds.Map roots e ⊎ OfRoots spec labels f deeds.Bind roots e
+deeds_parts spec labels f heads roots all kept are e (by_map t c root itself of) = inl (of_roots spec f all labels heads roots deeds.Map t c e are (root_inside spec t c kept root) root itself of)
+deeds_parts spec labels f heads roots all kept are e (by_bind t c root itself of) = inr (of_roots spec f all labels heads roots deeds.Bind t c e are (root_inside spec t c kept root) root itself of)
 
 pub begun_on : (P : Edge → Type 0) (m new : Made) → IsBegun m → Gains P m new → IsBegun new
 begun_on P m new b g = record {
@@ -210,24 +273,28 @@ begun_on P m new b g = record {
   all = subst (λ (x : Made). IsAll x.spec x.found) (sym g.same) b.all;
   kept = subst (λ (x : Made). IsKept x.spec) (sym g.same) b.kept;
   labelled = subst (λ (x : Made). length x.labels ≡ length x.spec.entries) (sym g.same) b.labelled;
+  kinds = subst (λ (x : Made). AreKinds x.spec x.labels x.found x.faces x.heads) (sym g.same) b.kinds;
 }
 
 -- the four parts, one after the other
-pub all_shown : (m a b c d : Made) → IsBegun m → Gains (OfBoot m.spec m.labels) m a → Gains (OfSome (OfPair a.spec a.labels a.found) a.found.queue) a b → Gains (OfAllDeeds b.spec b.labels b.found) b c
+pub all_shown : (m a b c d : Made) → IsBegun m → Gains (OfBoot m.spec m.labels) m a → Gains (OfSome (OfFace a.spec a.labels a.found a.faces) a.found.queue) a b
+    → Gains (OfAllDeeds b.spec b.labels b.found b.heads) b c
     → Gains (OfAllCalls c.spec c.labels) c d → Gains (λ e. Audited m.spec m.labels e.from e.authority e.to) m d
 all_shown m a b c d begun g h k l =
     let P = OfBoot m.spec m.labels in
     let Q = OfSome (OfPair m.spec m.labels m.found) m.found.queue in
-    let R = OfAllDeeds m.spec m.labels m.found in
+    let R = OfAllDeeds m.spec m.labels m.found m.heads in
     let S = OfAllCalls m.spec m.labels in
-    let h_m : Gains Q a b = subst (λ (x : Made). Gains (OfSome (OfPair x.spec x.labels x.found) x.found.queue) a b) g.same h in
+    let F = OfSome (OfFace m.spec m.labels m.found m.faces) m.found.queue in
+    let h_f : Gains F a b = subst (λ (x : Made). Gains (OfSome (OfFace x.spec x.labels x.found x.faces) x.found.queue) a b) g.same h in
+    let h_m : Gains Q a b = gains_by F Q (of_faces m.spec m.found begun.all m.labels m.faces begun.kinds.are_faces begun.kinds.labelled) a b h_f in
     let gh : Gains (λ e. P e ⊎ Q e) m b = gains_then P Q m a b g h_m in
-    let k_m : Gains R b c = subst (λ (x : Made). Gains (OfAllDeeds x.spec x.labels x.found) b c) gh.same k in
+    let k_m : Gains R b c = subst (λ (x : Made). Gains (OfAllDeeds x.spec x.labels x.found x.heads) b c) gh.same k in
     let ghk : Gains (λ e. (P e ⊎ Q e) ⊎ R e) m c = gains_then (λ e. P e ⊎ Q e) R m b c gh k_m in
     let l_m : Gains S c d = subst (λ (x : Made). Gains (OfAllCalls x.spec x.labels) c d) ghk.same l in
     let all = gains_then (λ e. (P e ⊎ Q e) ⊎ R e) S m c d ghk l_m in
     gains_by (λ e. ((P e ⊎ Q e) ⊎ R e) ⊎ S e) (λ e. Audited m.spec m.labels e.from e.authority e.to)
-    (λ e x. elim (audited_parts m.spec m.found begun.all m.labels e x) [
+    (λ e x. elim (audited_parts m.spec m.found begun.all m.labels m.faces m.heads begun.kinds e x) [
       | inl p ↦ inl (inl (inl p))
       | inr y ↦ elim y [ inl q ↦ inl (inl (inr q)) | inr z ↦ elim z [ inl r ↦ inl (inr r) | inr t ↦ inr t ] ]
     ])

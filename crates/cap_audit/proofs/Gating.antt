@@ -1,7 +1,6 @@
 -- Threads by their roots, and callers by their endpoints.
-use Rattle.std.proofs.Common.{◌≡◌, ◌≢◌, ◌∙◌, ◌⊎◌, ◌<◌, ◌&&◌, ◌||◌, ℕ, ◌+◌, List, [], ◌∷◌, ◌++◌, Option, Some, None, length, slice_get, refl, sym, ap, subst, inl, inr, arith}
-use Rattle.std.specs.List.{Contains}
-use Rattle.std.proofs.lemmas.Bool.{and_parts, cases_eq, cases_lt}
+use Rattle.std.proofs.Common.{◌≡◌, ◌≢◌, ◌∙◌, ◌⊎◌, ◌<◌, ◌==◌, ◌&&◌, ◌||◌, ℕ, ◌+◌, Bool, true, false, List, [], ◌∷◌, ◌++◌, Option, Some, None, length, slice_get, refl, sym, ap, subst, inl, inr, arith}
+use Rattle.std.proofs.lemmas.Bool.{and_parts, cases_eq, cases_lt, eq-eqb}
 use Rattle.std.proofs.lemmas.List.{get_or-set_same, get_or-set_other, length-set}
 use Rattle.std.proofs.lemmas.Option.{same_Some}
 use Rattle.cap_model.proofs.Kept.{is_at_below, object_below}
@@ -12,7 +11,7 @@ use Rattle.cap_model.specs.declared.cap.Cap.{Cap}
 use Rattle.cap_model.specs.declared.kind.Kind.TheVariants as kinds
 use Rattle.cap_model.specs.declared.object.Object.{Object}
 use Rattle.cap_model.specs.declared.spec.Spec.{Spec}
-use Rattle.cap_spread.specs.Search.{Found, HoldsAt, held_by}
+use Rattle.cap_spread.specs.Search.{Found}
 use Rattle.cap_spread.specs.Spread.{HasRoot, root_of}
 use Rattle.cap_spread.specs.Start.{repeated}
 use Rattle.cap_spread.specs.declared.found.Pair.{Pair}
@@ -20,12 +19,13 @@ use Rattle.cap_model.specs.State.{boot}
 use Rattle.cap_spread.proofs.Beginning.{repeated_at, repeated_length}
 use Rattle.cap_spread.proofs.Bringing.{at_pushed, pushed_cases, pushed_last}
 use Rattle.cap_spread.proofs.Quiet.{boot_quiet, quiet_cnode}
-use Rattle.cap_audit.specs.Gates.{AreGates, AreRosters, MayCallAt, enrolled, gated, row_at, with_more}
+use Rattle.cap_audit.specs.Gates.{AreGates, AreRosters, MayCallAt, caller_of, enrolled, gated, with_more}
+use Rattle.cap_audit.specs.Kinds.{stand_in}
 use Rattle.cap_audit.specs.Picks.{pick_of}
-use Rattle.cap_audit.specs.declared.gates.Place.{Place}
+use Rattle.cap_audit.specs.Rows.{row_at}
 use Rattle.cap_audit.specs.declared.picks.Pick.{Pick}
 use Rattle.cap_audit.specs.declared.picks.Wanted.TheVariants as wants
-use Rattle.cap_audit.proofs.Picking.{pick_holds, picked, picked_from}
+use Rattle.cap_audit.proofs.Picking.{picked, picked_from}
 
 module _ {A : Type 0} (rows : List (List A)) (o : ℕ) (x : A) (inside : o < length rows) where
   row_new : row_at (with_more rows o x) o ≡ row_at rows o ++ x ∷ []
@@ -35,17 +35,17 @@ module _ {A : Type 0} (rows : List (List A)) (o : ℕ) (x : A) (inside : o < len
   row_other c other = get_or-set_other rows o c (row_at rows o ++ x ∷ []) [] other
 
   -- what stood in a row stands there
-  more_kept : (c k : ℕ) (y : A) → slice_get (row_at rows c) k ≡ Some y → slice_get (row_at (with_more rows o x) c) k ≡ Some y
+  pub more_kept : (c k : ℕ) (y : A) → slice_get (row_at rows c) k ≡ Some y → slice_get (row_at (with_more rows o x) c) k ≡ Some y
   more_kept c k y h = elim (cases_eq c o) [
     | inl same ↦ rw same (rw row_new (at_pushed (row_at rows o) x y k (subst (λ (n : ℕ). slice_get (row_at rows n) k ≡ Some y) same h)))
     | inr other ↦ rw (row_other c other) h
   ]
 
-  more_last : slice_get (row_at (with_more rows o x) o) (length (row_at rows o)) ≡ Some x
+  pub more_last : slice_get (row_at (with_more rows o x) o) (length (row_at rows o)) ≡ Some x
   more_last = rw row_new (pushed_last (row_at rows o) x)
 
   -- what stands there now stood there, or is the new one
-  more_cases : (c k : ℕ) (y : A) → slice_get (row_at (with_more rows o x) c) k ≡ Some y → (slice_get (row_at rows c) k ≡ Some y) ⊎ ((c ≡ o) × (x ≡ y))
+  pub more_cases : (c k : ℕ) (y : A) → slice_get (row_at (with_more rows o x) c) k ≡ Some y → (slice_get (row_at rows c) k ≡ Some y) ⊎ ((c ≡ o) × (x ≡ y))
   more_cases c k y h = elim (cases_eq c o) [
     | inl same ↦ (
         let here : slice_get (row_at (with_more rows o x) o) k ≡ Some y = subst (λ (n : ℕ). slice_get (row_at (with_more rows o x) n) k ≡ Some y) same h in
@@ -56,7 +56,7 @@ module _ {A : Type 0} (rows : List (List A)) (o : ℕ) (x : A) (inside : o < len
     | inr other ↦ inl (subst (λ (xs : List A). slice_get xs k ≡ Some y) (row_other c other) h)
   ]
 
-none_in_blank : {A : Type 0} (rows : List (List A)) (n c k : ℕ) (y : A) → rows ≡ repeated [] n → slice_get (row_at rows c) k ≡ Some y → ⊥
+pub none_in_blank : {A : Type 0} (rows : List (List A)) (n c k : ℕ) (y : A) → rows ≡ repeated [] n → slice_get (row_at rows c) k ≡ Some y → ⊥
 none_in_blank {A} rows n c k y is h =
     let none : row_at rows c ≡ [] = rw is (repeated_at {A = List A} [] n c) in
     let e : slice_get {X = A} [] k ≡ Some y = subst (λ (xs : List A). slice_get xs k ≡ Some y) none h in
@@ -109,47 +109,55 @@ rosters_more spec rosters new n (Some d) inside before is same = subst (λ (rows
 
 -- gates
 
-pub gates_none : (spec : Spec) (f : Found) (gates : List (List Place)) → gates ≡ repeated [] (length spec.entries) → AreGates spec f gates 0
-gates_none spec f gates is = record {
-  as_many = ap (λ (xs : List (List Place)). length xs) is ∙ repeated_length [] (length spec.entries);
-  may = λ o k at h. absurd (none_in_blank gates (length spec.entries) o k at is h);
-  every = λ k pair cap less there of wanted. absurd (omega arith);
+pub gates_none : (spec : Spec) (f : Found) (heads : List ℕ) (gates : List (List Pair)) → gates ≡ repeated [] (length spec.entries) → AreGates spec f heads gates 0
+gates_none spec f heads gates is = record {
+  as_many = ap (λ (xs : List (List Pair)). length xs) is ∙ repeated_length [] (length spec.entries);
+  may = λ o k door h. absurd (none_in_blank gates (length spec.entries) o k door is h);
+  every = λ k pair cap less there of wanted itself. absurd (omega arith);
 }
 
-pub gates_more : (spec : Spec) (f : Found) (gates new : List (List Place)) (n : ℕ) (pair : Pair) (pick : Option Pick) → slice_get f.queue n ≡ Some pair → Contains (held_by f pair.node) pair.held
-    → AreGates spec f gates n → pick ≡ pick_of spec f wants.Caller pair.held → new ≡ gated gates pair.node pick → AreGates spec f new (n + 1)
-gates_more spec f gates new n pair None at held before is same = subst (λ (rows : List (List Place)). AreGates spec f rows (n + 1)) (sym same) (record {
+-- the pick of one that may call
+caller_picked : (spec : Spec) (f : Found) (heads : List ℕ) (pair : Pair) (pick : Pick) → caller_of spec f heads pair ≡ Some pick → pick_of spec f wants.Caller pair.held ≡ Some pick
+caller_picked spec f heads pair pick is = go (stand_in heads pair.node == pair.node) refl where
+  go : (b : Bool) → (stand_in heads pair.node == pair.node) ≡ b → pick_of spec f wants.Caller pair.held ≡ Some pick
+  go true holds = sym (let same : caller_of spec f heads pair ≡ pick_of spec f wants.Caller pair.held = rw holds refl in same) ∙ is
+  go false fails = absurd (let none : caller_of spec f heads pair ≡ None = rw fails refl in let x : ◌≡◌ {A = Option Pick} None (Some pick) = sym none ∙ is in cc)
+
+caller_itself : (spec : Spec) (f : Found) (heads : List ℕ) (pair : Pair) → stand_in heads pair.node ≡ pair.node → caller_of spec f heads pair ≡ pick_of spec f wants.Caller pair.held
+caller_itself spec f heads pair itself = let holds = eq-eqb (stand_in heads pair.node) pair.node itself in rw holds refl
+
+pub gates_more : (spec : Spec) (f : Found) (heads : List ℕ) (gates new : List (List Pair)) (n : ℕ) (pair : Pair) (pick : Option Pick) → slice_get f.queue n ≡ Some pair
+    → AreGates spec f heads gates n → pick ≡ caller_of spec f heads pair → new ≡ gated gates pair pick → AreGates spec f heads new (n + 1)
+gates_more spec f heads gates new n pair None at before is same = subst (λ (rows : List (List Pair)). AreGates spec f heads rows (n + 1)) (sym same) (record {
   as_many = before.as_many;
   may = before.may;
-  every = λ k other cap less there of wanted. elim (cases_lt k n) [
-    | inl below ↦ before.every k other cap below there of wanted
+  every = λ k other cap less there of wanted itself. elim (cases_lt k n) [
+    | inl below ↦ before.every k other cap below there of wanted itself
     | inr ge ↦ absurd (
         let here : k ≡ n = omega arith in
         let there_n : slice_get f.queue n ≡ Some other = subst (λ (j : ℕ). slice_get f.queue j ≡ Some other) here there in
         let one : pair ≡ other = same_Some pair other (sym at ∙ there_n) in
-        let none : ◌≡◌ {A = Option Pick} None (pick_of spec f wants.Caller other.held) = subst (λ (p : Pair). ◌≡◌ {A = Option Pick} None (pick_of spec f wants.Caller p.held)) one is in
+        let none : ◌≡◌ {A = Option Pick} None (caller_of spec f heads other) = subst (λ (p : Pair). ◌≡◌ {A = Option Pick} None (caller_of spec f heads p)) one is in
         let some = picked spec f wants.Caller other.held cap of wanted in
-        let e = none ∙ some in
+        let e = none ∙ (caller_itself spec f heads other itself ∙ some) in
         cc)
   ];
 })
-gates_more spec f gates new n pair (Some pick) at held before is same = subst (λ (rows : List (List Place)). AreGates spec f rows (n + 1)) (sym same) (
-    let from = picked_from spec f wants.Caller pair.held pick (sym is) in
-    let stands : HoldsAt f pair.node pick.number pick.cap = pick_holds spec f wants.Caller pair.node pair.held pick held (sym is) in
+gates_more spec f heads gates new n pair (Some pick) at before is same = subst (λ (rows : List (List Pair)). AreGates spec f heads rows (n + 1)) (sym same) (
+    let from = picked_from spec f wants.Caller pair.held pick (caller_picked spec f heads pair pick (sym is)) in
     let parts = and_parts (is_at spec kinds.Endpoint pick.cap.object) (pick.cap.rights.write && (pick.cap.rights.grant || pick.cap.rights.reply)) from.2 in
     let below : pick.cap.object < length spec.entries = is_at_below spec kinds.Endpoint pick.cap.object parts.0 in
     let within : pick.cap.object < length gates = (let many = before.as_many in omega arith) in
-    let place : Place = record { node = pair.node; number = pick.number } in
     record {
-      as_many = length-set gates pick.cap.object (row_at gates pick.cap.object ++ place ∷ []) ∙ before.as_many;
-      may = λ o k x h. elim (more_cases gates pick.cap.object place within o k x h) [
+      as_many = length-set gates pick.cap.object (row_at gates pick.cap.object ++ pair ∷ []) ∙ before.as_many;
+      may = λ o k x h. elim (more_cases gates pick.cap.object pair within o k x h) [
         | inl old ↦ before.may o k x old
         | inr now ↦ (
-            let mine : MayCallAt spec f pick.cap.object place = record { cap = pick.cap; held = stands; wanted = from.2; to = refl } in
-            subst (λ (y : Place). MayCallAt spec f o y) now.1 (subst (λ (j : ℕ). MayCallAt spec f j place) (sym now.0) mine))
+            let mine : MayCallAt spec f pick.cap.object pair = record { cap = pick.cap; place = n; there = at; is = from.0; wanted = from.2; to = refl } in
+            subst (λ (y : Pair). MayCallAt spec f o y) now.1 (subst (λ (j : ℕ). MayCallAt spec f j pair) (sym now.0) mine))
       ];
-      every = λ k other cap less there of wanted. elim (cases_lt k n) [
-        | inl small ↦ (let r = before.every k other cap small there of wanted in (r.0, r.1, more_kept gates pick.cap.object place within cap.object r.0 r.1 r.2, r.3))
+      every = λ k other cap less there of wanted itself. elim (cases_lt k n) [
+        | inl small ↦ (let r = before.every k other cap small there of wanted itself in (r.0, r.1, more_kept gates pick.cap.object pair within cap.object r.0 r.1 r.2, r.3))
         | inr ge ↦ (
             let here : k ≡ n = omega arith in
             let there_n : slice_get f.queue n ≡ Some other = subst (λ (j : ℕ). slice_get f.queue j ≡ Some other) here there in
@@ -157,8 +165,8 @@ gates_more spec f gates new n pair (Some pick) at held before is same = subst (�
             let of_pair : slice_get f.values pair.held.value ≡ Some cap = subst (λ (p : Pair). slice_get f.values p.held.value ≡ Some cap) (sym one) of in
             let cap_is : pick.cap ≡ cap = same_Some pick.cap cap (sym from.0 ∙ of_pair) in (
               length (row_at gates pick.cap.object),
-              place,
-              subst (λ (x : Cap). slice_get (row_at (with_more gates pick.cap.object place) x.object) (length (row_at gates pick.cap.object)) ≡ Some place) cap_is (more_last gates pick.cap.object place within),
+              pair,
+              subst (λ (x : Cap). slice_get (row_at (with_more gates pick.cap.object pair) x.object) (length (row_at gates pick.cap.object)) ≡ Some pair) cap_is (more_last gates pick.cap.object pair within),
               ap (λ (p : Pair). p.node) one,
             ))
       ];

@@ -5,4 +5,6 @@ pub mod Gaining
 pub mod Gating
 pub mod Looping
 pub mod Growing
+pub mod Kinding
+pub mod Meeting
 pub mod Picking

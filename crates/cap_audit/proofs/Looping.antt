@@ -1,14 +1,18 @@
 -- The turns of the loops of an audit.
-use Rattle.std.proofs.Common.{◌≡◌, ◌∙◌, ℕ, List, Option, Some, None, slice_get, sym, subst}
+use Rattle.std.proofs.Common.{◌≡◌, ◌≢◌, ◌∙◌, ◌==◌, ℕ, true, false, List, Option, Some, None, slice_get, sym, subst}
+use Rattle.std.proofs.lemmas.Bool.{eqb-false}
 use Rattle.std.proofs.lemmas.Option.{same_Some}
 use Rattle.auth_graph.specs.Sources.{OfCap}
 use Rattle.auth_kinds.specs.ObjectLabels.{label_of}
 use Rattle.cap_model.specs.declared.cap.Cap.{Cap}
 use Rattle.cap_spread.specs.declared.found.Pair.{Pair}
-use Rattle.cap_audit.specs.Gains.{Gains, IsSoFar, Made, OfPair}
-use Rattle.cap_audit.specs.Gates.{Between, OfListening, row_at}
+use Rattle.auth_kinds.specs.Tables.{has}
+use Rattle.auth_kinds.specs.declared.edge.Edge.{Edge}
+use Rattle.cap_audit.specs.Gains.{Gains, IsSoFar, Made, OfFace, OfPair}
+use Rattle.cap_audit.specs.Gates.{OfKinds, OfListening}
+use Rattle.cap_audit.specs.Kinds.{stand_in}
+use Rattle.cap_audit.specs.Rows.{row_at}
 use Rattle.cap_audit.specs.Picks.{pick_of}
-use Rattle.cap_audit.specs.declared.gates.Place.{Place}
 use Rattle.cap_audit.specs.declared.picks.Pick.{Pick}
 use Rattle.cap_audit.specs.declared.picks.Wanted.TheVariants as wants
 use Rattle.cap_audit.specs.Gains.{OfSome}
@@ -24,18 +28,27 @@ pair_gains m new pair cap is g =
 pub pair_none : (m : Made) (pair : Pair) → slice_get m.found.values pair.held.value ≡ None → IsSoFar m → Gains (OfPair m.spec m.labels m.found pair) m m
 pair_none m pair is so = gains_none (OfPair m.spec m.labels m.found pair) m so (λ e x differ. absurd (let h : ◌≡◌ {A = Option Cap} None (Some x.cap) = sym is ∙ x.is in cc))
 
-pub listen_gains : (m new : Made) (rosters : List (List ℕ)) (gates : List (List Place)) (pair : Pair) (pick : Pick) → pick_of m.spec m.found wants.Listener pair.held ≡ Some pick
-    → Gains (OfSome (λ (at : Place). Between m.labels rosters at.node pair.node) (row_at gates pick.cap.object)) m new → Gains (OfListening m.spec m.labels m.found rosters gates pair) m new
-listen_gains m new rosters gates pair pick is g =
-    gains_by (OfSome (λ (at : Place). Between m.labels rosters at.node pair.node) (row_at gates pick.cap.object)) (OfListening m.spec m.labels m.found rosters gates pair)
-    (λ e x.
-    let same : x.cap ≡ pick.cap = same_Some x.cap pick.cap (sym x.is ∙ (picked_from m.spec m.found wants.Listener pair.held pick is).0) in
-    subst (λ (y : Cap). OfSome (λ (at : Place). Between m.labels rosters at.node pair.node) (row_at gates y.object) e) same x.by)
-    m new g
+-- a pair whose CNode is a face, or isn't
+pub face_gains : (m new : Made) (pair : Pair) → Gains (OfPair m.spec m.labels m.found pair) m new → Gains (OfFace m.spec m.labels m.found m.faces pair) m new
+face_gains m new pair g = gains_by (OfPair m.spec m.labels m.found pair) (OfFace m.spec m.labels m.found m.faces pair) (λ e x. x.by) m new g
 
-pub listen_none : (m : Made) (rosters : List (List ℕ)) (gates : List (List Place)) (pair : Pair) → pick_of m.spec m.found wants.Listener pair.held ≡ None → IsSoFar m
-    → Gains (OfListening m.spec m.labels m.found rosters gates pair) m m
-listen_none m rosters gates pair is so = gains_none (OfListening m.spec m.labels m.found rosters gates pair) m so (λ e x differ. absurd (
-    let some = picked m.spec m.found wants.Listener pair.held x.cap x.is x.wanted in
-    let h = sym is ∙ some in
-    cc))
+pub no_face : (m : Made) (pair : Pair) → (stand_in m.faces pair.node == pair.node) ≡ false → IsSoFar m → Gains (OfFace m.spec m.labels m.found m.faces pair) m m
+no_face m pair fails so = gains_none (OfFace m.spec m.labels m.found m.faces pair) m so (λ e x differ. absurd (eqb-false (stand_in m.faces pair.node) pair.node fails x.itself))
+
+module _ (m : Made) (rosters members : List (List ℕ)) (gates : List (List Pair)) (pair : Pair) where
+  -- one whose capability listens
+  pub listen_by : (pick : Pick) → pick_of m.spec m.found wants.Listener pair.held ≡ Some pick → (e : Edge) → OfListening m.spec m.labels m.found m.heads rosters members gates pair e
+      → OfSome (λ (door : Pair). OfKinds m.labels rosters members door.node pair.node) (row_at gates pick.cap.object) e
+  listen_by pick is e x =
+      let same : x.cap ≡ pick.cap = same_Some x.cap pick.cap (sym x.is ∙ (picked_from m.spec m.found wants.Listener pair.held pick is).0) in
+      subst (λ (y : Cap). OfSome (λ (door : Pair). OfKinds m.labels rosters members door.node pair.node) (row_at gates y.object) e) same x.by
+
+  -- and one whose doesn't
+  pub listen_none : pick_of m.spec m.found wants.Listener pair.held ≡ None → (e : Edge) → OfListening m.spec m.labels m.found m.heads rosters members gates pair e → e.from ≢ e.to → has m.edges e ≡ true
+  listen_none is e x differ = absurd (
+      let some = picked m.spec m.found wants.Listener pair.held x.cap x.is x.wanted in
+      let h = sym is ∙ some in
+      cc)
+
+  pub no_head : (stand_in m.heads pair.node == pair.node) ≡ false → (e : Edge) → OfListening m.spec m.labels m.found m.heads rosters members gates pair e → e.from ≢ e.to → has m.edges e ≡ true
+  no_head fails e x differ = absurd (eqb-false (stand_in m.heads pair.node) pair.node fails x.itself)

@@ -1,5 +1,5 @@
 -- Words for the contracts of private functions alone: a report in the making, and how it grows.
-use Rattle.std.specs.Prelude.{◌≡◌, ◌≢◌, ◌<◌, ◌⊎◌, ℕ, true, List, length, slice_get, slice_index, Some}
+use Rattle.std.specs.Prelude.{◌≡◌, ◌≢◌, ◌<◌, ◌⊎◌, ℕ, true, List, length, slice_get, slice_index, slice_index_or, Some}
 use Rattle.std.specs.List.{Contains}
 use Rattle.auth_graph.specs.Sources.{OfCap}
 use Rattle.auth_kinds.specs.ObjectLabels.{label_of}
@@ -32,6 +32,8 @@ pub record Made : Type 0 where
   pub spec : Spec
   pub labels : List ℕ
   pub found : Found
+  pub faces : List ℕ
+  pub heads : List ℕ
   pub edges : List Edge
   pub steps : List Step
   pub nexts : List ℕ
@@ -83,3 +85,8 @@ pub record OfPair (spec : Spec) (labels : List ℕ) (f : Found) (pair : Pair) (e
   pub cap : Cap
   pub is : slice_get f.values pair.held.value ≡ Some cap
   pub of_cap : OfCap spec labels (label_of labels pair.node) cap e
+
+-- what the capability of a pair confers, where its CNode stands for itself
+pub record OfFace (spec : Spec) (labels : List ℕ) (f : Found) (faces : List ℕ) (pair : Pair) (e : Edge) : Type 0 where
+  pub itself : slice_index_or faces pair.node pair.node ≡ pair.node
+  pub by : OfPair spec labels f pair e

@@ -1,5 +1,5 @@
 -- Words for the contracts of private functions alone: the capabilities of a CNode that a kind of step takes.
-use Rattle.std.specs.Prelude.{◌≡◌, ◌&&◌, ◌||◌, ℕ, Bool, true, Option, Some, None, if◌then◌else◌, length, slice_get, slice_index_or, List}
+use Rattle.std.specs.Prelude.{◌≡◌, ◌&&◌, ◌||◌, ◌==◌, ◌∷◌, [], ℕ, Bool, true, Option, Some, None, if◌then◌else◌, length, slice_get, slice_index_or, List}
 use Rattle.auth_graph.specs.Sources.{OfCap}
 use Rattle.auth_kinds.specs.Edges.{edge}
 use Rattle.auth_kinds.specs.ObjectLabels.{label_of}
@@ -15,6 +15,7 @@ use Rattle.cap_spread.specs.Search.{Found, HoldsAt, held_by, whole}
 use Rattle.cap_spread.specs.Spread.{HasRoot}
 use Rattle.cap_spread.specs.declared.found.Held.{Held}
 use Rattle.cap_audit.specs.Gains.{Below}
+use Rattle.cap_audit.specs.declared.gates.Place.{Place}
 use Rattle.cap_audit.specs.declared.making.Deed.{Deed}
 use Rattle.cap_audit.specs.declared.making.Deed.TheVariants as deeds
 use Rattle.cap_audit.specs.declared.picks.Pick.{Pick}
@@ -36,6 +37,14 @@ pick_in spec wanted held (Some cap) = if is_wanted spec wanted cap then Some (re
 
 abbrev pub pick_of : Spec → Found → Wanted → Held → Option Pick
 pick_of spec f wanted held = pick_in spec wanted held (slice_get f.values held.value)
+
+-- the first place of a node that has the value
+abbrev pub place_in : ℕ → ℕ → List Held → Option Place
+place_in node value [] = None
+place_in node value (held ∷ helds) = if held.value == value then Some (record { node = node; number = held.number }) else place_in node value helds
+
+abbrev pub place_of : Found → ℕ → ℕ → Option Place
+place_of f value node = place_in node value (held_by f node)
 
 -- what a step of a thread takes: a space root and a frame, or an interrupt and a notification
 abbrev pub wanted_from : Deed → Wanted

@@ -1,14 +1,14 @@
 //! Who may call at each endpoint, and which threads have which root.
 
 ghost use Rattle.cap_audit.specs.Gains.{IsAll};
-ghost use Rattle.cap_audit.specs.Gates.{AreGates, AreRosters, enrolled, gated, row_at, with_more};
-ghost use Rattle.cap_audit.specs.Picks.{pick_of};
-ghost use Rattle.cap_audit.specs.declared.picks.Wanted.TheVariants as wants;
+ghost use Rattle.cap_audit.specs.Gates.{AreGates, AreRosters, caller_of, enrolled, gated, with_more};
+ghost use Rattle.cap_audit.specs.Rows.{row_at};
 ghost use Rattle.cap_model.specs.Kept.{IsKept};
 ghost use Rattle.cap_spread.specs.Spread.{root_of};
 ghost use Rattle.cap_spread.specs.Start.{repeated};
 ghost use Rattle.std.specs.Prelude.{◌≡◌, ◌++◌, ◌∷◌, [], IfOk, OnOk, Some, length};
 
+use crate::kinds::stand_in;
 use crate::picks::{Pick, Wanted, picked};
 use cam_base::NoMemory;
 use cap_model::{Object, Spec};
@@ -61,38 +61,39 @@ impl Roster {
     }
 }
 
-/// The CNodes that have a capability to call at one endpoint, and where.
+/// The CNodes that have a capability to call at one endpoint, with it.
 #[derive(Drop)]
 pub struct Gate {
-    places: Vec<Place>,
+    doors: Vec<Pair>,
 }
 
 impl Model for Gate {
-    ghost use Rattle.cap_audit.specs.declared.gates.Place.{Place};
+    ghost use Rattle.cap_spread.specs.declared.found.Pair.{Pair};
     ghost use Rattle.std.specs.Prelude.{List};
 
-    ghost Value = { List Place };
+    ghost Value = { List Pair };
 
-    ghost view = { λ g. g.places.items };
+    ghost view = { λ g. g.doors.items };
 }
 
 impl Gate {
-    fn push(&mut self, place: Place) -> Result<(), NoMemory>
-        ensures { OnOk result (self.new ≡ self.old ++ place ∷ []) }
+    fn push(&mut self, door: Pair) -> Result<(), NoMemory>
+        ensures { OnOk result (self.new ≡ self.old ++ door ∷ []) }
     {
-        self.places.push(place)?;
+        self.doors.push(door)?;
         Ok(())
     }
 
-    /// The places, in the order found.
-    pub fn places(&self) -> &[Place]
+    /// The doors, in the order found.
+    pub fn doors(&self) -> &[Pair]
         ensures { result.now ≡ self.now }
     {
-        self.places.as_slice()
+        self.doors.as_slice()
     }
 }
 
-fn put_thread(rosters: &mut [Roster], c: u32, t: u32) -> Result<(), NoMemory>
+/// Puts an object into the row of another.
+pub fn put_thread(rosters: &mut [Roster], c: u32, t: u32) -> Result<(), NoMemory>
     ensures { OnOk result (rosters.new ≡ with_more rosters.old c t) }
 {
     let c = c as usize;
@@ -103,18 +104,19 @@ fn put_thread(rosters: &mut [Roster], c: u32, t: u32) -> Result<(), NoMemory>
     Ok(())
 }
 
-fn put_place(gates: &mut [Gate], o: u32, place: Place) -> Result<(), NoMemory>
-    ensures { OnOk result (gates.new ≡ with_more gates.old o place) }
+fn put_door(gates: &mut [Gate], o: u32, door: Pair) -> Result<(), NoMemory>
+    ensures { OnOk result (gates.new ≡ with_more gates.old o door) }
 {
     let o = o as usize;
     if o < gates.len() {
         let gate = &mut gates[o];
-        gate.push(place)?;
+        gate.push(door)?;
     }
     Ok(())
 }
 
-fn no_rosters(alloc: Global, n: usize) -> Result<Vec<Roster>, NoMemory>
+/// Rows with nothing in them.
+pub fn no_rosters(alloc: Global, n: usize) -> Result<Vec<Roster>, NoMemory>
     ensures { IfOk result (λ rosters. rosters.items ≡ repeated [] n) }
 {
     let mut rosters = Vec::new(alloc);
@@ -132,7 +134,7 @@ fn no_gates(alloc: Global, n: usize) -> Result<Vec<Gate>, NoMemory>
     let mut gates = Vec::new(alloc);
     for _ in 0..n {
         gates.push(Gate {
-            places: Vec::new(alloc),
+            doors: Vec::new(alloc),
         })?;
     }
     Ok(gates)
@@ -178,43 +180,82 @@ pub fn rosters(alloc: Global, spec: &Spec) -> Result<Vec<Roster>, NoMemory>
     Ok(rosters)
 }
 
-fn let_in(gates: &mut [Gate], node: u32, pick: Option<Pick>) -> Result<(), NoMemory>
-    ensures { OnOk result (gates.new ≡ gated gates.old node pick) }
+fn let_in(gates: &mut [Gate], door: Pair, pick: Option<Pick>) -> Result<(), NoMemory>
+    ensures { OnOk result (gates.new ≡ gated gates.old door pick) }
 {
     match pick {
-        Some(pick) => {
-            let place = Place {
-                node,
-                number: pick.number,
-            };
-            put_place(gates, pick.cap.object, place)
-        }
+        Some(pick) => put_door(gates, pick.cap.object, door),
         None => Ok(()),
     }
 }
 
-fn let_all_in(gates: &mut [Gate], spec: &Spec, findings: &Findings) -> Result<(), NoMemory>
+/// The capability of a pair by which it may call, where its CNode stands for itself.
+fn caller(spec: &Spec, findings: &Findings, heads: &[u32], pair: Pair) -> Option<Pick>
+    ensures { result ≡ caller_of spec.now findings.now heads.now pair }
+{
+    if stand_in(heads, pair.node) == pair.node {
+        picked(spec, findings, Wanted::Caller, pair.held)
+    } else {
+        None
+    }
+}
+
+fn let_all_in(
+    gates: &mut [Gate],
+    spec: &Spec,
+    findings: &Findings,
+    heads: &[u32],
+) -> Result<(), NoMemory>
     requires all { IsAll spec.now findings.now }
     requires none { gates.old ≡ repeated [] (length spec.now.entries) }
-    ensures { OnOk result (AreGates spec.now findings.now gates.new (length findings.now.queue)) }
+    ensures { OnOk result (AreGates spec.now findings.now heads.now gates.new (length findings.now.queue)) }
 {
     for place in 0..findings.count() {
         let pair = findings.pair(place);
-        let_in(
-            gates,
-            pair.node,
-            picked(spec, findings, Wanted::Caller, pair.held),
-        )?;
+        let_in(gates, pair, caller(spec, findings, heads, pair))?;
     }
     Ok(())
 }
 
-/// The places from which an endpoint may be called, by endpoints.
-pub fn gates(alloc: Global, spec: &Spec, findings: &Findings) -> Result<Vec<Gate>, NoMemory>
+/// By endpoints, those that stand for themselves and may call there.
+pub fn gates(
+    alloc: Global,
+    spec: &Spec,
+    findings: &Findings,
+    heads: &[u32],
+) -> Result<Vec<Gate>, NoMemory>
     requires { IsAll spec.now findings.now }
-    ensures { IfOk result (λ gates. AreGates spec.now findings.now gates.items (length findings.now.queue)) }
+    ensures { IfOk result (λ gates. AreGates spec.now findings.now heads.now gates.items (length findings.now.queue)) }
 {
     let mut gates = no_gates(alloc, spec.entries.len())?;
-    let_all_in(gates.as_mut_slice(), spec, findings)?;
+    let_all_in(gates.as_mut_slice(), spec, findings, heads)?;
     Ok(gates)
+}
+
+/// The threads with a root, or the objects in the row of another.
+pub fn threads_of(rosters: &[Roster], node: u32) -> &[u32]
+    ensures { result.now ≡ row_at rosters.now node }
+{
+    match rosters.get(node as usize) {
+        Some(roster) => roster.threads(),
+        None => &[],
+    }
+}
+
+/// Who may call at an endpoint.
+pub fn doors_at(gates: &[Gate], endpoint: u32) -> &[Pair]
+    ensures { result.now ≡ row_at gates.now endpoint }
+{
+    match gates.get(endpoint as usize) {
+        Some(gate) => gate.doors(),
+        None => &[],
+    }
+}
+
+/// Threads by their roots, objects by who stands for them, and who may call by endpoints.
+#[derive(Drop)]
+pub struct Company {
+    pub rosters: Vec<Roster>,
+    pub members: Vec<Roster>,
+    pub gates: Vec<Gate>,
 }

@@ -3,6 +3,7 @@
 
 mod count;
 mod gates;
+mod kinds;
 mod loops;
 mod making;
 mod picks;

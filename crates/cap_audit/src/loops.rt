@@ -1,28 +1,33 @@
 //! All that was found is gone through, and each edge of it shown.
 
-ghost use Rattle.cap_audit.specs.Gains.{Gains, IsAll, IsSoFar, OfPair, OfSome};
-ghost use Rattle.cap_audit.specs.Gates.{AreGates, AreRosters, Between, Meets, OfCall, OfListening, row_at};
+ghost use Rattle.cap_audit.specs.Gains.{Gains, IsAll, IsSoFar, OfFace, OfSome};
+ghost use Rattle.cap_audit.specs.Gates.{AreMet, AreReady, AreRosters, Between, Greets, MeetBy, Meets, OfCall, OfKinds, OfListening};
+ghost use Rattle.cap_audit.specs.Kinds.{AreHeadRoots, IsQueued};
 ghost use Rattle.cap_audit.specs.declared.gates.Place.{Place};
 ghost use Rattle.cap_audit.specs.Picks.{OfDeed, OfDeeds, OfRoot, OfRoots, OwnsAll, OwnsFrom};
 ghost use Rattle.cap_model.specs.Kept.{IsKept};
-ghost use Rattle.cap_spread.specs.Covering.{AreRoots};
 ghost use Rattle.cap_spread.specs.Search.{held_by};
 ghost use Rattle.cap_spread.specs.Spread.{HasRoot};
+ghost use Rattle.cap_spread.specs.declared.found.Pair.{Pair};
 ghost use Rattle.std.specs.List.{Contains};
-ghost use Rattle.std.specs.Prelude.{◌≡◌, ℕ, None, Some, OnOk, length, slice_get, slice_index_or};
+ghost use Rattle.std.specs.Prelude.{◌≡◌, ℕ, None, Some, IsTrue, OnOk, length, slice_get, slice_index_or};
 
-use crate::gates::{Gate, Party, Place, Roster};
+use crate::gates::{Company, Party, Place, Roster, doors_at, put_thread, threads_of};
 use crate::making::{Deed, Making};
 use crate::picks::{Pick, Wanted};
 use cam_base::NoMemory;
 use cap_spread::Pair;
 
-/// Shows what the capability of a pair confers.
+/// Shows what the capability of a pair confers, where its CNode is a face.
 fn hold_pair(making: &mut Making<'_>, pair: Pair) -> Result<(), NoMemory>
     requires so_far { IsSoFar making.old }
     requires held { Contains (held_by making.old.found pair.node) pair.held }
-    ensures { OnOk result (Gains (OfPair making.old.spec making.old.labels making.old.found pair) making.old making.new) }
+    ensures { OnOk result (Gains (OfFace making.old.spec making.old.labels making.old.found making.old.faces pair)
+        making.old making.new) }
 {
+    if !making.is_face(pair.node) {
+        return Ok(());
+    }
     match making.value(pair.held.value) {
         Some(cap) => {
             let pick = Pick {
@@ -40,7 +45,8 @@ fn hold_pair(making: &mut Making<'_>, pair: Pair) -> Result<(), NoMemory>
 pub fn hold_all(making: &mut Making<'_>) -> Result<(), NoMemory>
     requires so_far { IsSoFar making.old }
     requires all { IsAll making.old.spec making.old.found }
-    ensures { OnOk result (Gains (OfSome (OfPair making.old.spec making.old.labels making.old.found) making.old.found.queue)
+    ensures { OnOk result
+        (Gains (OfSome (OfFace making.old.spec making.old.labels making.old.found making.old.faces) making.old.found.queue)
         making.old making.new) }
 {
     for place in 0..making.count() {
@@ -138,7 +144,7 @@ pub fn act_at_all(
 ) -> Result<(), NoMemory>
     requires so_far { IsSoFar making.old }
     requires kept { IsKept making.old.spec }
-    requires roots { AreRoots making.old.spec roots.now }
+    requires roots { AreHeadRoots making.old.spec making.old.heads roots.now }
     ensures { OnOk result (Gains (OfRoots making.old.spec making.old.labels making.old.found deed roots.now)
         making.old making.new) }
 {
@@ -146,26 +152,6 @@ pub fn act_at_all(
         act_at_root(making, deed, thread_of(roots, c as u32), c as u32)?;
     }
     Ok(())
-}
-
-/// The threads with a root.
-fn threads_of(rosters: &[Roster], node: u32) -> &[u32]
-    ensures { result.now ≡ row_at rosters.now node }
-{
-    match rosters.get(node as usize) {
-        Some(roster) => roster.threads(),
-        None => &[],
-    }
-}
-
-/// From where an endpoint may be called.
-fn places_at(gates: &[Gate], endpoint: u32) -> &[Place]
-    ensures { result.now ≡ row_at gates.now endpoint }
-{
-    match gates.get(endpoint as usize) {
-        Some(gate) => gate.places(),
-        None => &[],
-    }
 }
 
 fn call(making: &mut Making<'_>, t: u32, at: Place, u: u32, peer: Place) -> Result<(), NoMemory>
@@ -251,27 +237,134 @@ fn call_from_gate(
     Ok(())
 }
 
-/// Those who may call call those with the root of the pair, where its capability listens.
-fn listen(
+/// All at the first places call all at the second.
+fn call_all(
     making: &mut Making<'_>,
     rosters: &[Roster],
-    gates: &[Gate],
-    pair: Pair,
+    callers: &[Place],
+    peers: &[Place],
 ) -> Result<(), NoMemory>
     requires so_far { IsSoFar making.old }
     requires rosters { AreRosters making.old.spec rosters.now (length making.old.spec.entries) }
-    requires gates { AreGates making.old.spec making.old.found gates.now (length making.old.found.queue) }
-    requires held { Contains (held_by making.old.found pair.node) pair.held }
-    ensures { OnOk result (Gains (OfListening making.old.spec making.old.labels making.old.found rosters.now gates.now pair)
+    requires meet { (j k : ℕ) (peer at : Place) → slice_get peers.now j ≡ Some peer → slice_get callers.now k ≡ Some at
+        → Meets making.old.spec making.old.found at peer }
+    ensures { OnOk result
+        (Gains (OfSome (λ peer. OfSome (λ at. Between making.old.labels rosters.now at.node peer.node) callers.now) peers.now)
         making.old making.new) }
 {
+    for peer in peers {
+        call_from_gate(making, rosters, callers, *peer)?;
+    }
+    Ok(())
+}
+
+/// All for whom the CNode of the first pair stands call all for whom that of the second stands, by these values.
+fn call_kinds(
+    making: &mut Making<'_>,
+    company: &Company,
+    door: Pair,
+    pair: Pair,
+) -> Result<(), NoMemory>
+    requires so_far { IsSoFar making.old }
+    requires ready { AreReady making.old.spec making.old.found making.old.heads company.now.rosters.items
+        company.now.members.items company.now.gates.items }
+    requires door { IsQueued making.old.found door.node door.held.value }
+    requires pair { IsQueued making.old.found pair.node pair.held.value }
+    requires meet { MeetBy making.old.spec making.old.found door.held.value pair.held.value }
+    ensures { OnOk result
+        (Gains (OfKinds making.old.labels company.now.rosters.items company.now.members.items door.node pair.node)
+        making.old making.new) }
+{
+    let members = company.members.as_slice();
+    let callers = making.places(threads_of(members, door.node), door.held.value)?;
+    let peers = making.places(threads_of(members, pair.node), pair.held.value)?;
+    let rosters = company.rosters.as_slice();
+    call_all(making, rosters, callers.as_slice(), peers.as_slice())?;
+    Ok(())
+}
+
+/// Whether the row has the object.
+fn knows(row: &[u32], object: u32) -> bool
+    ensures { IsTrue result → Contains row.now object }
+{
+    row.contains(&object)
+}
+
+/// The same, where they haven't met yet.
+fn meet(
+    making: &mut Making<'_>,
+    company: &Company,
+    met: &mut [Roster],
+    door: Pair,
+    pair: Pair,
+) -> Result<(), NoMemory>
+    requires so_far { IsSoFar making.old }
+    requires ready { AreReady making.old.spec making.old.found making.old.heads company.now.rosters.items
+        company.now.members.items company.now.gates.items }
+    requires are_met { AreMet making.old.labels company.now.rosters.items company.now.members.items met.old making.old.edges }
+    requires door { IsQueued making.old.found door.node door.held.value }
+    requires pair { IsQueued making.old.found pair.node pair.held.value }
+    requires meet { MeetBy making.old.spec making.old.found door.held.value pair.held.value }
+    ensures { OnOk result (Greets company.now.rosters.items company.now.members.items
+        (OfKinds making.old.labels company.now.rosters.items company.now.members.items door.node pair.node)
+        making.old making.new met.new) }
+{
+    if knows(threads_of(met, door.node), pair.node) {
+        return Ok(());
+    }
+    call_kinds(making, company, door, pair)?;
+    put_thread(met, door.node, pair.node)?;
+    Ok(())
+}
+
+/// All doors of a gate meet the pair.
+fn meet_all(
+    making: &mut Making<'_>,
+    company: &Company,
+    met: &mut [Roster],
+    gate: &[Pair],
+    pair: Pair,
+) -> Result<(), NoMemory>
+    requires so_far { IsSoFar making.old }
+    requires ready { AreReady making.old.spec making.old.found making.old.heads company.now.rosters.items
+        company.now.members.items company.now.gates.items }
+    requires are_met { AreMet making.old.labels company.now.rosters.items company.now.members.items met.old making.old.edges }
+    requires doors { (k : ℕ) (door : Pair) → slice_get gate.now k ≡ Some door
+        → IsQueued making.old.found door.node door.held.value × MeetBy making.old.spec making.old.found door.held.value pair.held.value }
+    requires pair { IsQueued making.old.found pair.node pair.held.value }
+    ensures { OnOk result (Greets company.now.rosters.items company.now.members.items
+        (OfSome (λ door. OfKinds making.old.labels company.now.rosters.items company.now.members.items door.node pair.node) gate.now)
+        making.old making.new met.new) }
+{
+    for door in gate {
+        meet(making, company, met, *door, pair)?;
+    }
+    Ok(())
+}
+
+/// Those who may call call those for whom the pair's CNode stands, where its capability listens.
+fn listen(
+    making: &mut Making<'_>,
+    company: &Company,
+    met: &mut [Roster],
+    pair: Pair,
+) -> Result<(), NoMemory>
+    requires so_far { IsSoFar making.old }
+    requires ready { AreReady making.old.spec making.old.found making.old.heads company.now.rosters.items
+        company.now.members.items company.now.gates.items }
+    requires are_met { AreMet making.old.labels company.now.rosters.items company.now.members.items met.old making.old.edges }
+    requires pair { IsQueued making.old.found pair.node pair.held.value }
+    ensures { OnOk result (Greets company.now.rosters.items company.now.members.items
+        (OfListening making.old.spec making.old.labels making.old.found making.old.heads company.now.rosters.items
+        company.now.members.items company.now.gates.items pair) making.old making.new met.new) }
+{
+    if !making.is_head(pair.node) {
+        return Ok(());
+    }
     match making.pick(Wanted::Listener, pair.held) {
         Some(pick) => {
-            let peer = Place {
-                node: pair.node,
-                number: pick.number,
-            };
-            call_from_gate(making, rosters, places_at(gates, pick.cap.object), peer)?;
+            let gate = doors_at(company.gates.as_slice(), pick.cap.object);
+            meet_all(making, company, met, gate, pair)?;
             Ok(())
         }
         None => Ok(()),
@@ -281,19 +374,19 @@ fn listen(
 /// Shows all calls.
 pub fn listen_all(
     making: &mut Making<'_>,
-    rosters: &[Roster],
-    gates: &[Gate],
+    company: &Company,
+    met: &mut [Roster],
 ) -> Result<(), NoMemory>
     requires so_far { IsSoFar making.old }
-    requires all { IsAll making.old.spec making.old.found }
-    requires rosters { AreRosters making.old.spec rosters.now (length making.old.spec.entries) }
-    requires gates { AreGates making.old.spec making.old.found gates.now (length making.old.found.queue) }
-    ensures { OnOk result
-        (Gains (OfSome (OfListening making.old.spec making.old.labels making.old.found rosters.now gates.now)
-        making.old.found.queue) making.old making.new) }
+    requires ready { AreReady making.old.spec making.old.found making.old.heads company.now.rosters.items
+        company.now.members.items company.now.gates.items }
+    requires are_met { AreMet making.old.labels company.now.rosters.items company.now.members.items met.old making.old.edges }
+    ensures { OnOk result (Greets company.now.rosters.items company.now.members.items
+        (OfSome (OfListening making.old.spec making.old.labels making.old.found making.old.heads company.now.rosters.items
+        company.now.members.items company.now.gates.items) making.old.found.queue) making.old making.new met.new) }
 {
     for place in 0..making.count() {
-        listen(making, rosters, gates, making.pair(place))?;
+        listen(making, company, met, making.pair(place))?;
     }
     Ok(())
 }

@@ -9,24 +9,26 @@ ghost use Rattle.auth_kinds.specs.declared.authority.Authority.TheVariants.{Asyn
 ghost use Rattle.auth_kinds.specs.declared.authority.Authority.{Authority};
 ghost use Rattle.auth_kinds.specs.declared.edge.Edge.{Edge};
 ghost use Rattle.cap_audit.specs.Gains.{Gains, IsAll, IsSoFar, Notes};
-ghost use Rattle.cap_audit.specs.Gates.{AreGates, AreParties, AreRosters, OfParties, call_steps};
+ghost use Rattle.cap_audit.specs.Gates.{AreGates, AreParties, ArePlaces, AreRosters, OfParties, call_steps};
+ghost use Rattle.cap_audit.specs.Kinds.{AreHeadRoots, AreMembers, stand_in};
 ghost use Rattle.cap_audit.specs.Picks.{OfDeed, OwnsBoth, deed_step, pick_of, wanted_from, wanted_to};
 ghost use Rattle.cap_model.specs.Auth.{Auth};
 ghost use Rattle.cap_model.specs.Kept.{IsKept};
 ghost use Rattle.cap_model.specs.State.{boot};
-ghost use Rattle.cap_spread.specs.Covering.{AreRoots};
 ghost use Rattle.cap_spread.specs.Search.{HoldsAt, held_by};
+ghost use Rattle.cap_spread.specs.Start.{repeated};
 ghost use Rattle.std.specs.List.{filter_map};
-ghost use Rattle.std.specs.Prelude.{Some, ◌≡◌, ◌≢◌, ◌<◌, ◌+◌, ℕ, length, slice_get, ◌++◌, ◌∷◌, ◌↔◌, [], true, IfOk, IsTrue, OnOk, slice_set, slice_index};
+ghost use Rattle.std.specs.Prelude.{Some, ◌≡◌, ◌==◌, ◌≢◌, ◌<◌, ◌+◌, ℕ, length, slice_get, ◌++◌, ◌∷◌, ◌↔◌, [], true, IfOk, IsTrue, OnOk, slice_set, slice_index};
 
-use crate::gates::{Gate, Party, Roster, gates, rosters};
-use crate::picks::{Pick, Wanted, picked, picks};
+use crate::gates::{Company, Party, Place, Roster, gates, no_rosters, rosters};
+use crate::kinds::{Kinds, head_roots, members, stand_in};
+use crate::picks::{Pick, Wanted, picked, picks, places};
 use auth_graph::{direct, with_cap, with_link};
 use auth_kinds::{Authority, Edge, EdgeTable, Labels};
 use cam_base::NoMemory;
 use cap_machine::Step;
 use cap_model::{Cap, Spec};
-use cap_spread::{Findings, Held, Pair, roots, whole};
+use cap_spread::{Findings, Held, Pair, whole};
 use edge_sets::EdgeSet;
 use std::alloc::Global;
 use std::marker::Model;
@@ -88,6 +90,13 @@ fn put_next(nexts: &mut [u64], c: u32, next: u64)
     }
 }
 
+/// Steps, and the next number of each CNode after them.
+#[derive(Drop)]
+pub struct Trail {
+    pub steps: Vec<Step>,
+    pub nexts: Vec<u64>,
+}
+
 /// What was found, and a report in the making.
 #[derive(Drop)]
 pub struct Making<'a> {
@@ -95,6 +104,7 @@ pub struct Making<'a> {
     spec: &'a Spec,
     labels: &'a Labels,
     findings: &'a Findings,
+    kinds: &'a Kinds,
     edges: EdgeSet,
     steps: Vec<Step>,
     nexts: Vec<u64>,
@@ -105,7 +115,7 @@ impl<'a> Model for Making<'a> {
 
     ghost Value = { Made };
 
-    ghost view = { λ m. record { spec = m.spec.now; labels = m.labels.now.by_object; found = m.findings.now; edges = m.edges; steps = m.steps.items; nexts = m.nexts.items } };
+    ghost view = { λ m. record { spec = m.spec.now; labels = m.labels.now.by_object; found = m.findings.now; faces = m.kinds.now.faces.items; heads = m.kinds.now.heads.items; edges = m.edges; steps = m.steps.items; nexts = m.nexts.items } };
 }
 
 impl<'a> Making<'a> {
@@ -115,16 +125,18 @@ impl<'a> Making<'a> {
         spec: &'a Spec,
         labels: &'a Labels,
         findings: &'a Findings,
-        steps: Vec<Step>,
-        nexts: Vec<u64>,
+        kinds: &'a Kinds,
+        trail: Trail,
     ) -> Making<'a>
-        ensures { result ≡ record { spec = spec.entry.now; labels = labels.entry.now.by_object; found = findings.entry.now; edges = []; steps = steps.items; nexts = nexts.items } }
+        ensures { result ≡ record { spec = spec.entry.now; labels = labels.entry.now.by_object; found = findings.entry.now; faces = kinds.entry.now.faces.items; heads = kinds.entry.now.heads.items; edges = []; steps = trail.steps.items; nexts = trail.nexts.items } }
     {
+        let Trail { steps, nexts } = trail;
         Making {
             alloc,
             spec,
             labels,
             findings,
+            kinds,
             edges: EdgeSet::new(alloc),
             steps,
             nexts,
@@ -184,28 +196,62 @@ impl<'a> Making<'a> {
         direct(self.alloc, self.spec, self.labels)
     }
 
-    /// A thread of each root.
+    /// Whether the object is a face.
+    pub fn is_face(&self, object: u32) -> bool
+        ensures { result ≡ (stand_in self.now.faces object == object) }
+    {
+        stand_in(self.kinds.faces.as_slice(), object) == object
+    }
+
+    /// Whether the object is a head.
+    pub fn is_head(&self, object: u32) -> bool
+        ensures { result ≡ (stand_in self.now.heads object == object) }
+    {
+        stand_in(self.kinds.heads.as_slice(), object) == object
+    }
+
+    /// A thread of each root that is a head.
     pub fn roots(&self) -> Result<Vec<Option<u32>>, NoMemory>
         requires { IsKept self.now.spec }
-        ensures { IfOk result (λ roots. AreRoots self.now.spec roots.items) }
+        ensures { IfOk result (λ roots. AreHeadRoots self.now.spec self.now.heads roots.items) }
     {
-        roots(self.alloc, self.spec)
+        head_roots(self.alloc, self.spec, self.kinds.heads.as_slice())
     }
 
-    /// The threads by their roots.
-    pub fn rosters(&self) -> Result<Vec<Roster>, NoMemory>
-        requires { IsKept self.now.spec }
-        ensures { IfOk result (λ rosters. AreRosters self.now.spec rosters.items (length self.now.spec.entries)) }
+    /// Threads by their roots, objects by their heads, and heads by the endpoints that they may call.
+    pub fn company(&self) -> Result<Company, NoMemory>
+        requires kept { IsKept self.now.spec }
+        requires all { IsAll self.now.spec self.now.found }
+        requires as_many { length self.now.heads ≡ length self.now.spec.entries }
+        ensures rosters { IfOk result (λ c. AreRosters self.now.spec c.rosters.items (length self.now.spec.entries)) }
+        ensures members { IfOk result (λ c. AreMembers self.now.heads c.members.items (length self.now.heads)) }
+        ensures gates { IfOk result (λ c. AreGates self.now.spec self.now.found self.now.heads c.gates.items
+            (length self.now.found.queue)) }
     {
-        rosters(self.alloc, self.spec)
+        let heads = self.kinds.heads.as_slice();
+        let rosters = rosters(self.alloc, self.spec)?;
+        let members = members(self.alloc, heads)?;
+        let gates = gates(self.alloc, self.spec, self.findings, heads)?;
+        Ok(Company {
+            rosters,
+            members,
+            gates,
+        })
     }
 
-    /// The places from which an endpoint may be called, by endpoints.
-    pub fn gates(&self) -> Result<Vec<Gate>, NoMemory>
-        requires { IsAll self.now.spec self.now.found }
-        ensures { IfOk result (λ gates. AreGates self.now.spec self.now.found gates.items (length self.now.found.queue)) }
+    /// Rows in which nobody has met.
+    pub fn nobody(&self) -> Result<Vec<Roster>, NoMemory>
+        ensures { IfOk result (λ met. met.items ≡ repeated [] (length self.now.spec.entries)) }
     {
-        gates(self.alloc, self.spec, self.findings)
+        no_rosters(self.alloc, self.spec.entries.len())
+    }
+
+    /// Where these CNodes have the value.
+    pub fn places(&self, nodes: &[u32], value: usize) -> Result<Vec<Place>, NoMemory>
+        ensures { IfOk result (λ places. ArePlaces self.now.found nodes.now value places.items) }
+    {
+        let places = places(self.alloc, self.findings, nodes, value)?;
+        Ok(places)
     }
 
     /// The edges as a table, and the steps.
@@ -218,6 +264,7 @@ impl<'a> Making<'a> {
             spec: _,
             labels: _,
             findings: _,
+            kinds: _,
             edges,
             steps,
             nexts: _nexts,

@@ -1,11 +1,12 @@
 //! The capabilities of one CNode that a kind of step takes.
 
-ghost use Rattle.cap_audit.specs.Picks.{is_wanted, pick_of};
+ghost use Rattle.cap_audit.specs.Picks.{is_wanted, pick_of, place_in, place_of};
 ghost use Rattle.cap_model.specs.Kinds.{is_space_root};
 ghost use Rattle.cap_spread.specs.Search.{held_by};
 ghost use Rattle.std.specs.List.{filter_map};
 ghost use Rattle.std.specs.Prelude.{◌≡◌, IfOk};
 
+use crate::gates::Place;
 use cam_base::NoMemory;
 use cap_model::{Cap, Kind, Spec, is_root};
 use cap_spread::{Findings, Held, is_kind};
@@ -89,4 +90,35 @@ pub fn picks(
         .filter_map(|held| picked(spec, findings, wanted, *held))
         .collect(alloc)?;
     Ok(picks)
+}
+
+/// Where a CNode has the value, by what it holds.
+fn place_in(node: u32, helds: &[Held], value: usize) -> Option<Place>
+    ensures { result ≡ place_in node value helds.now }
+{
+    for held in helds {
+        if held.value == value {
+            return Some(Place {
+                node,
+                number: held.number,
+            });
+        }
+    }
+    None
+}
+
+/// Where each of these CNodes that has the value has it.
+pub fn places(
+    alloc: Global,
+    findings: &Findings,
+    nodes: &[u32],
+    value: usize,
+) -> Result<Vec<Place>, NoMemory>
+    ensures { IfOk result (λ places. places.items ≡ filter_map (place_of findings.now value) nodes.now) }
+{
+    let places = nodes
+        .iter()
+        .filter_map(|node| place_in(*node, findings.holdings(*node), value))
+        .collect(alloc)?;
+    Ok(places)
 }

@@ -10,8 +10,9 @@ ghost use Rattle.cap_spread.specs.Spread.{HoldsNoThread};
 ghost use Rattle.std.specs.Prelude.{◌≡◌, ◌≤◌, ◌*◌, IfErr, IfOk, OnOk, length};
 
 use crate::count::Counts;
+use crate::kinds::Kinds;
 use crate::loops::{act_at_all, hold_all, listen_all};
-use crate::making::{Deed, Making};
+use crate::making::{Deed, Making, Trail};
 use auth_kinds::{EdgeTable, Labels};
 use cam_base::{List, NoMemory};
 use cap_machine::Step;
@@ -65,8 +66,11 @@ fn report(alloc: Global, spec: &Spec, labels: &Labels) -> Result<AuditReport, No
     requires none { HoldsNoThread spec.now }
     ensures { IfOk result (λ r. IsReport spec.now labels.now.by_object r.edges r.steps) }
 {
-    let (findings, steps, nexts) = spread(alloc, spec)?.parted(alloc);
-    let making = Making::new(alloc, spec, labels, &findings, steps, nexts);
+    let (found, classes) = spread(alloc, spec)?;
+    let kinds = Kinds::of(alloc, spec, labels, classes.as_slice())?;
+    let (findings, steps, nexts) = found.parted(alloc);
+    let trail = Trail { steps, nexts };
+    let making = Making::new(alloc, spec, labels, &findings, &kinds, trail);
     let report = shown(making)?;
     Ok(report)
 }
@@ -110,7 +114,8 @@ fn show_boot(making: &mut Making<'_>) -> Result<(), NoMemory>
 /// The edges of maps and binds.
 fn show_deeds(making: &mut Making<'_>) -> Result<(), NoMemory>
     requires { IsBegun making.old }
-    ensures { OnOk result (Gains (OfAllDeeds making.old.spec making.old.labels making.old.found) making.old making.new) }
+    ensures { OnOk result (Gains (OfAllDeeds making.old.spec making.old.labels making.old.found making.old.heads)
+        making.old making.new) }
 {
     let roots = making.roots()?;
     act_at_all(making, Deed::Map, roots.as_slice())?;
@@ -123,8 +128,8 @@ fn show_calls(making: &mut Making<'_>) -> Result<(), NoMemory>
     requires { IsBegun making.old }
     ensures { OnOk result (Gains (OfAllCalls making.old.spec making.old.labels) making.old making.new) }
 {
-    let rosters = making.rosters()?;
-    let gates = making.gates()?;
-    listen_all(making, rosters.as_slice(), gates.as_slice())?;
+    let company = making.company()?;
+    let mut met = making.nobody()?;
+    listen_all(making, &company, met.as_mut_slice())?;
     Ok(())
 }

@@ -1,5 +1,5 @@
 -- What looking at a pair leaves, and that nothing is left to find when all are looked at.
-use Rattle.std.proofs.Common.{◌≡◌, ◌<◌, ℕ, ◌+◌, true, List, Option, Some, None, sym, ap, subst, inl, inr, arith, get_or, length, slice_get}
+use Rattle.std.proofs.Common.{◌≡◌, ◌<◌, ℕ, ◌+◌, true, List, Option, Some, None, sym, ap, subst, inl, inr, arith, get_or, length, slice_get, ◌∙◌}
 use Rattle.std.specs.List.{Contains}
 use Rattle.std.proofs.lemmas.Bool.{cases_lt}
 use Rattle.std.proofs.lemmas.Option.{slice_get_within}
@@ -8,7 +8,7 @@ use Rattle.cap_model.specs.declared.cap.Cap.{Cap}
 use Rattle.cap_model.specs.declared.kind.Kind.TheVariants as kinds
 use Rattle.cap_model.specs.declared.spec.Spec.{Spec}
 use Rattle.cap_model.proofs.Kept.{kind_is}
-use Rattle.cap_spread.specs.Covering.{Doors, hub_at, AreHubs, Covered, AreCovered, AreRoots, Covers, IsSearch, HasSlots, Links, CoversPair, GoesOn, IsFoundAt}
+use Rattle.cap_spread.specs.Covering.{AreAlike, Doors, hub_at, AreHubs, Covered, AreCovered, AreRoots, Covers, IsSearch, HasSlots, Links, CoversPair, GoesOn, IsFoundAt}
 use Rattle.cap_spread.specs.Hubs.{GivesAt, TakesAt, Widened}
 use Rattle.cap_spread.specs.Search.{Found, held_by, is_known, IsFound, Grows}
 use Rattle.cap_spread.specs.Spread.{HasRoot, IsClosed}
@@ -198,6 +198,18 @@ module _ (spec : Spec) (f : Found) (net : Lanes) (doors : Doors) (s : IsSearch s
         ((is_covered d from peer).stands u passages.Reply sides.Giving roots.peer_root (subst (λ (n : ℕ). is_at spec kinds.Endpoint n ≡ true) (sym meet.same) meet.is) (meet.reads, back)) in
         let between : Path net gives.giver.node takes.taker.node = (s.hubs.each passages.Reply to.object).met gives.giver takes.taker gives.there takes.there in
         by_path d c cap (path_then net d gives.giver.node c gives.path (path_then net gives.giver.node takes.taker.node c between takes.path)) has);
+  }
+
+  pub all_alike : (classes : List ℕ) → classes ≡ net.classes → AreAlike spec f classes
+  all_alike classes is = record {
+    as_many = ap (λ (xs : List ℕ). length xs) is ∙ s.ways.as_many_classes;
+    known = λ c d v c_less d_less same known. (
+        let inside : InClass net c d = record {
+          one = subst (λ (xs : List ℕ). c < length xs) is c_less;
+          other = subst (λ (xs : List ℕ). d < length xs) is d_less;
+          same = subst (λ (xs : List ℕ). get_or xs c 0 ≡ get_or xs d 0) is same;
+        } in
+        known_along f net v (goes_on v) c d (s.ways.joined c d inside) known);
   }
 
 pub root_below : (spec : Spec) (f : Found) (t c : ℕ) → IsFound spec f → HasRoot spec t c → c < length spec.entries

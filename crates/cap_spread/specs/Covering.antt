@@ -1,5 +1,5 @@
 -- Words for the contracts of private functions alone: what a search has done for the pairs that it has looked at.
-use Rattle.std.specs.Prelude.{◌≡◌, ◌<◌, ℕ, true, List, length, slice_get, slice_index_or, slice_set, Option, Some, None}
+use Rattle.std.specs.Prelude.{◌≡◌, ◌<◌, ℕ, true, List, length, slice_get, slice_index, slice_index_or, slice_set, Option, Some, None}
 use Rattle.std.specs.List.{Contains}
 use Rattle.cap_spread.specs.Hubs.{Gives, Takes, Gathering, nobody, IsHub, GivesAt, TakesAt, Fills, Widened, Comes}
 use Rattle.cap_spread.specs.Search.{Found, is_known, IsFound}
@@ -123,3 +123,8 @@ pub record IsFoundAt (f : Found) (c : ℕ) (cap : Cap) : Type 0 where
   pub value : ℕ
   pub is : slice_get f.values value ≡ Some cap
   pub known : is_known f c value ≡ true
+
+-- those of one class are known to have the same
+pub record AreAlike (spec : Spec) (f : Found) (classes : List ℕ) : Type 0 where
+  pub as_many : length classes ≡ length spec.entries
+  pub known : (c d v : ℕ) → c < length classes → d < length classes → slice_index classes c ≡ slice_index classes d → is_known f c v ≡ true → is_known f d v ≡ true

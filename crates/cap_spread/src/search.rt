@@ -1,6 +1,6 @@
 //! One pair is looked at after the other, until there is none left.
 
-ghost use Rattle.cap_spread.specs.Covering.{AreHubs, AreRoots, Covers, CoversPair, GoesOn, IsFoundAt, IsSearch, Links};
+ghost use Rattle.cap_spread.specs.Covering.{AreAlike, AreHubs, AreRoots, Covers, CoversPair, GoesOn, IsFoundAt, IsSearch, Links};
 ghost use Rattle.cap_spread.specs.Search.{held_by, HoldsAt, IsFound};
 ghost use Rattle.cap_spread.specs.Spread.{HasRoot, IsClosed};
 ghost use Rattle.cap_spread.specs.Ways.{AreWays};
@@ -178,11 +178,13 @@ pub fn search(
     Ok(())
 }
 
-/// What can spread, and steps that bring it about. Takes time by what is found: each value once along each way.
-pub fn spread(alloc: Global, spec: &Spec) -> Result<Findings, NoMemory>
+/// What can spread, and steps that bring it about; and the class of each object: those of one class have the same. Takes
+/// time by what is found: each value once along each way.
+pub fn spread(alloc: Global, spec: &Spec) -> Result<(Findings, Vec<u32>), NoMemory>
     requires { IsKept spec.now }
-    ensures found { IfOk result (λ f. IsFound spec.now f) }
-    ensures closed { IfOk result (λ f. IsClosed spec.now (IsFoundAt f)) }
+    ensures found { IfOk result (λ r. IsFound spec.now r.0) }
+    ensures closed { IfOk result (λ r. IsClosed spec.now (IsFoundAt r.0)) }
+    ensures alike { IfOk result (λ r. AreAlike spec.now r.0 r.1.items) }
 {
     let n = spec.entries.len();
     let findings = begin(alloc, spec)?;
@@ -191,5 +193,6 @@ pub fn spread(alloc: Global, spec: &Spec) -> Result<Findings, NoMemory>
     let mut hubs = Hubs::new(alloc, n)?;
     let roots = roots(alloc, spec)?;
     search(alloc, &mut web, &mut hubs, spec, roots.as_slice())?;
-    Ok(web.findings)
+    let Web { findings, net } = web;
+    Ok((findings, net.into_classes()))
 }

@@ -129,6 +129,14 @@ impl Net {
         c < self.classes.len() && d < self.classes.len() && self.classes[c] == self.classes[d]
     }
 
+    /// The class of each object. Takes no memory.
+    pub fn into_classes(self) -> Vec<u32>
+        ensures { result.items ≡ self.classes }
+    {
+        let Net { out: _out, classes } = self;
+        classes
+    }
+
     /// The ways out of an object.
     pub fn ways(&self, c: u32) -> &[Way]
         ensures { result.now ≡ ways_from self.now c }

@@ -1,5 +1,5 @@
 use Rattle.std.proofs.Common.{List, []}
-use Rattle.cap_audit.specs.declared.gates.Place.{Place}
+use Rattle.cap_spread.specs.declared.found.Pair.{Pair}
 use Rattle.cap_spread.proofs.Beginning.{repeated_more}
 use Rattle.cap_audit.proofs.gates.no_gates.Goals as goal
 
@@ -8,5 +8,5 @@ loop-preserved c =
     let made = c.in_ok-push.ensures.items in
     let before = c.loop.invariant in
     let none = c.new.ensures.items in
-    let more = repeated_more {A = List Place} [] c.loop.counter in
+    let more = repeated_more {A = List Pair} [] c.loop.counter in
     cc

@@ -2,7 +2,8 @@ use Rattle.std.proofs.Common.{◌≡◌, ℕ, List, Some, slice_get, get_or, sym
 use Rattle.std.proofs.lemmas.Option.{slice_get-get_or}
 use Rattle.cap_spread.specs.Spread.{HasRoot}
 use Rattle.cap_audit.specs.Gains.{AtPlace, Gains, Made, OfSome}
-use Rattle.cap_audit.specs.Gates.{Meets, OfCall, row_at}
+use Rattle.cap_audit.specs.Gates.{Meets, OfCall}
+use Rattle.cap_audit.specs.Rows.{row_at}
 use Rattle.cap_audit.proofs.Gaining.{below_none, some_all, some_more}
 use Rattle.cap_audit.proofs.loops.call_between.Goals as goal
 

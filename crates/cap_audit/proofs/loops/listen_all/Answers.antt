@@ -1,41 +1,49 @@
-use Rattle.std.proofs.Common.{◌≡◌, Some, length, slice_get, sym, ap, subst, arith}
-use Rattle.std.specs.List.{Contains}
-use Rattle.cap_spread.specs.Search.{Found, held_by}
-use Rattle.cap_audit.specs.Gains.{AtPlace, Gains, Made}
-use Rattle.cap_audit.specs.Gates.{AreGates, AreRosters, OfListening}
-use Rattle.cap_audit.proofs.Gaining.{below_none, some_all, some_more}
+use Rattle.std.proofs.Common.{◌≡◌, Some, length, slice_get, refl, sym, ap, subst, arith}
+use Rattle.cap_spread.specs.Search.{Found}
+use Rattle.cap_audit.specs.Gains.{AtPlace, Made}
+use Rattle.cap_audit.specs.Gates.{AreMet, AreReady, Greets, OfListening}
+use Rattle.cap_audit.proofs.Meeting.{greets_all, greets_begin, greets_more}
 use Rattle.cap_audit.proofs.loops.listen_all.Goals as goal
 
 pub loop-place-init : goal.loop-place-init
 loop-place-init c =
-    below_none (AtPlace (OfListening c.args.making.now.spec c.args.making.now.labels c.args.making.now.found c.args.rosters.now c.args.gates.now) c.args.making.now.found.queue) c.args.making.now c.requires.so_far
+    let m : Made = c.args.making.now in
+    greets_begin c.args.company.now.rosters.items c.args.company.now.members.items m c.args.met.now c.requires.are_met
+    (AtPlace (OfListening m.spec m.labels m.found m.heads c.args.company.now.rosters.items c.args.company.now.members.items c.args.company.now.gates.items) m.found.queue) c.requires.so_far
 
 pub pair-requires : goal.pair-requires
 pair-requires c =
-    let same = ap (λ (x : Made). length x.found.queue) c.loop-place.invariant.same in
+    let same = ap (λ (x : Made). length x.found.queue) c.loop-place.invariant.gains.same in
     omega (arith, same, c.count-place-end.ensures, c.loop-place-test.true)
 
-pub listen-requires-clause-rosters : goal.listen-requires-clause-rosters
-listen-requires-clause-rosters c = subst (λ (x : Made). AreRosters x.spec c.args.rosters.now (length x.spec.entries)) (sym c.loop-place.invariant.same) c.requires.rosters
+pub listen-requires-clause-so_far : goal.listen-requires-clause-so_far
+listen-requires-clause-so_far c = c.loop-place.invariant.gains.so_far
 
-pub listen-requires-clause-gates : goal.listen-requires-clause-gates
-listen-requires-clause-gates c = subst (λ (x : Made). AreGates x.spec x.found c.args.gates.now (length x.found.queue)) (sym c.loop-place.invariant.same) c.requires.gates
+pub listen-requires-clause-ready : goal.listen-requires-clause-ready
+listen-requires-clause-ready c =
+    subst (λ (x : Made). AreReady x.spec x.found x.heads c.args.company.now.rosters.items c.args.company.now.members.items c.args.company.now.gates.items) (sym c.loop-place.invariant.gains.same) c.requires.ready
 
-pub listen-requires-clause-held : goal.listen-requires-clause-held
-listen-requires-clause-held c =
-    let found : c.loop-place.making.found ≡ c.args.making.now.found = ap (λ (x : Made). x.found) c.loop-place.invariant.same in
-    let here : slice_get c.args.making.now.found.queue c.loop-place.place ≡ Some c.pair.result = subst (λ (f : Found). slice_get f.queue c.loop-place.place ≡ Some c.pair.result) found c.pair.ensures in
-    subst (λ (f : Found). Contains (held_by f c.pair.result.node) c.pair.result.held) (sym found) (c.requires.all.queued c.loop-place.place c.pair.result here)
+pub listen-requires-clause-are_met : goal.listen-requires-clause-are_met
+listen-requires-clause-are_met c =
+    subst (λ (x : Made). AreMet x.labels c.args.company.now.rosters.items c.args.company.now.members.items c.loop-place.met c.loop-place.making.edges) (sym c.loop-place.invariant.gains.same) c.loop-place.invariant.are
+
+pub listen-requires-clause-pair : goal.listen-requires-clause-pair
+listen-requires-clause-pair c = record { place = c.loop-place.place; pair = c.pair.result; there = c.pair.ensures; at = refl; of = refl }
 
 pub loop-place-preserved : goal.loop-place-preserved
 loop-place-preserved c =
     let m : Made = c.args.making.now in
-    let found : c.loop-place.making.found ≡ m.found = ap (λ (x : Made). x.found) c.loop-place.invariant.same in
-    some_more (OfListening m.spec m.labels m.found c.args.rosters.now c.args.gates.now) m.found.queue c.loop-place.place c.pair.result m c.loop-place.making c.listen.new.making
-    (subst (λ (f : Found). slice_get f.queue c.loop-place.place ≡ Some c.pair.result) found c.pair.ensures) c.loop-place.invariant
-    (subst (λ (x : Made). Gains (OfListening x.spec x.labels x.found c.args.rosters.now c.args.gates.now c.pair.result) c.loop-place.making c.listen.new.making) c.loop-place.invariant.same c.in_ok-listen.ensures)
+    let found : c.loop-place.making.found ≡ m.found = ap (λ (x : Made). x.found) c.loop-place.invariant.gains.same in
+    greets_more c.args.company.now.rosters.items c.args.company.now.members.items
+    (OfListening m.spec m.labels m.found m.heads c.args.company.now.rosters.items c.args.company.now.members.items c.args.company.now.gates.items) m.found.queue c.loop-place.place c.pair.result m c.loop-place.making
+    c.listen.new.making c.loop-place.met c.listen.new.met (subst (λ (f : Found). slice_get f.queue c.loop-place.place ≡ Some c.pair.result) found c.pair.ensures) c.loop-place.invariant
+    (subst (λ (x : Made). Greets c.args.company.now.rosters.items c.args.company.now.members.items
+    (OfListening x.spec x.labels x.found x.heads c.args.company.now.rosters.items c.args.company.now.members.items c.args.company.now.gates.items c.pair.result) c.loop-place.making c.listen.new.making c.listen.new.met)
+    c.loop-place.invariant.gains.same c.in_ok-listen.ensures)
 
 pub returns : goal.returns
 returns c =
     let m : Made = c.args.making.now in
-    some_all (OfListening m.spec m.labels m.found c.args.rosters.now c.args.gates.now) m.found.queue c.loop-place.place m c.loop-place.making (omega (arith, c.count-place-end.ensures, c.loop-place-test.false)) c.loop-place.invariant
+    greets_all c.args.company.now.rosters.items c.args.company.now.members.items
+    (OfListening m.spec m.labels m.found m.heads c.args.company.now.rosters.items c.args.company.now.members.items c.args.company.now.gates.items) m.found.queue c.loop-place.place m c.loop-place.making
+    c.loop-place.met (omega (arith, c.count-place-end.ensures, c.loop-place-test.false)) c.loop-place.invariant

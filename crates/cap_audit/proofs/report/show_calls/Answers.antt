@@ -1,24 +1,43 @@
-use Rattle.std.proofs.Common.{List, ℕ, length, subst, sym}
+use Rattle.std.proofs.Common.{◌∙◌, length}
 use Rattle.cap_audit.specs.Gains.{Made, OfSome}
-use Rattle.cap_audit.specs.Gates.{AreGates, AreRosters, OfListening}
+use Rattle.cap_audit.specs.Gates.{AreReady, OfListening}
 use Rattle.cap_audit.specs.Showing.{OfAllCalls}
-use Rattle.cap_audit.specs.declared.gates.Place.{Place}
 use Rattle.cap_audit.proofs.Assembling.{of_listeners}
 use Rattle.cap_audit.proofs.Gaining.{gains_by}
+use Rattle.cap_audit.proofs.Meeting.{none_met}
 use Rattle.cap_audit.proofs.report.show_calls.Goals as goal
 
-pub listen_all-requires-clause-rosters : goal.listen_all-requires-clause-rosters
-listen_all-requires-clause-rosters c =
-    subst (λ (xs : List (List ℕ)). AreRosters c.args.making.now.spec xs (length c.args.making.now.spec.entries)) (sym c.as_slice.ensures.value) c.in_ok-rosters.ensures
+pub company-requires-clause-as_many : goal.company-requires-clause-as_many
+company-requires-clause-as_many c = c.requires.kinds.as_many
 
-pub listen_all-requires-clause-gates : goal.listen_all-requires-clause-gates
-listen_all-requires-clause-gates c =
-    subst (λ (xs : List (List Place)). AreGates c.args.making.now.spec c.args.making.now.found xs (length c.args.making.now.found.queue)) (sym c.as_slice-2.ensures.value) c.in_ok-gates.ensures
+pub listen_all-requires-clause-ready : goal.listen_all-requires-clause-ready
+listen_all-requires-clause-ready c = record {
+  kept = c.requires.kept;
+  all = c.requires.all;
+  alike = c.requires.kinds.are_heads;
+  as_many = c.requires.kinds.as_many;
+  are_rosters = c.in_ok-company.ensures.rosters;
+  are_members = c.in_ok-company.ensures.members;
+  are_gates = c.in_ok-company.ensures.gates;
+}
+
+pub listen_all-requires-clause-are_met : goal.listen_all-requires-clause-are_met
+listen_all-requires-clause-are_met c =
+    none_met c.args.making.now.labels c.in_ok-company.company.rosters.items c.in_ok-company.company.members.items c.as_mut_slice.result.now (length c.args.making.now.spec.entries) c.args.making.now.edges
+    (c.as_mut_slice.ensures.value ∙ c.in_ok-met.ensures)
 
 pub returns : goal.returns
 returns c =
     let m : Made = c.args.making.now in
-    let r = subst (λ (xs : List (List ℕ)). AreRosters m.spec xs (length m.spec.entries)) (sym c.as_slice.ensures.value) c.in_ok-rosters.ensures in
-    let g = subst (λ (xs : List (List Place)). AreGates m.spec m.found xs (length m.found.queue)) (sym c.as_slice-2.ensures.value) c.in_ok-gates.ensures in
-    gains_by (OfSome (OfListening m.spec m.labels m.found c.as_slice.result.now c.as_slice-2.result.now) m.found.queue) (OfAllCalls m.spec m.labels)
-    (of_listeners m.spec m.found c.requires.all m.labels c.as_slice.result.now c.as_slice-2.result.now r g) m c.listen_all.new.making c.in_ok-listen_all.ensures
+    let company = c.in_ok-company.company in
+    let ready : AreReady m.spec m.found m.heads company.rosters.items company.members.items company.gates.items = record {
+      kept = c.requires.kept;
+      all = c.requires.all;
+      alike = c.requires.kinds.are_heads;
+      as_many = c.requires.kinds.as_many;
+      are_rosters = c.in_ok-company.ensures.rosters;
+      are_members = c.in_ok-company.ensures.members;
+      are_gates = c.in_ok-company.ensures.gates;
+    } in
+    gains_by (OfSome (OfListening m.spec m.labels m.found m.heads company.rosters.items company.members.items company.gates.items) m.found.queue) (OfAllCalls m.spec m.labels)
+    (of_listeners m.spec m.labels m.found m.heads company.rosters.items company.members.items company.gates.items ready) m c.listen_all.new.making c.in_ok-listen_all.ensures.gains

@@ -1,7 +1,7 @@
 use Rattle.std.proofs.Common.{List, Option, ℕ, subst, sym}
 use Rattle.auth_kinds.specs.declared.edge.Edge.{Edge}
 use Rattle.cap_model.specs.Kept.{IsKept}
-use Rattle.cap_spread.specs.Covering.{AreRoots}
+use Rattle.cap_audit.specs.Kinds.{AreHeadRoots}
 use Rattle.cap_audit.specs.Gains.{Gains, Made}
 use Rattle.cap_audit.specs.Picks.{OfRoots}
 use Rattle.cap_audit.specs.Showing.{OfAllDeeds}
@@ -11,15 +11,16 @@ use Rattle.cap_audit.proofs.Gaining.{gains_by, gains_then}
 use Rattle.cap_audit.proofs.report.show_deeds.Goals as goal
 
 pub act_at_all-requires-clause-roots : goal.act_at_all-requires-clause-roots
-act_at_all-requires-clause-roots c = subst (λ (xs : List (Option ℕ)). AreRoots c.args.making.now.spec xs) (sym c.as_slice.ensures.value) c.in_ok-roots.ensures
+act_at_all-requires-clause-roots c =
+    subst (λ (xs : List (Option ℕ)). AreHeadRoots c.args.making.now.spec c.args.making.now.heads xs) (sym c.as_slice.ensures.value) c.in_ok-roots.ensures
 
 pub act_at_all-requires-2-clause-kept : goal.act_at_all-requires-2-clause-kept
 act_at_all-requires-2-clause-kept c = subst (λ (x : Made). IsKept x.spec) (sym c.in_ok-act_at_all.ensures.same) c.requires.kept
 
 pub act_at_all-requires-2-clause-roots : goal.act_at_all-requires-2-clause-roots
 act_at_all-requires-2-clause-roots c =
-    subst (λ (x : Made). AreRoots x.spec c.as_slice-2.result.now) (sym c.in_ok-act_at_all.ensures.same)
-    (subst (λ (xs : List (Option ℕ)). AreRoots c.args.making.now.spec xs) (sym c.as_slice-2.ensures.value) c.in_ok-roots.ensures)
+    subst (λ (x : Made). AreHeadRoots x.spec x.heads c.as_slice-2.result.now) (sym c.in_ok-act_at_all.ensures.same)
+    (subst (λ (xs : List (Option ℕ)). AreHeadRoots c.args.making.now.spec c.args.making.now.heads xs) (sym c.as_slice-2.ensures.value) c.in_ok-roots.ensures)
 
 pub returns : goal.returns
 returns c =
@@ -32,5 +33,5 @@ returns c =
     subst (λ (x : Made). Gains (OfRoots x.spec x.labels x.found deeds.Bind roots) c.act_at_all.new.making c.act_at_all-2.new.making) g.same
     (subst (λ (xs : List (Option ℕ)). Gains (OfRoots c.act_at_all.new.making.spec c.act_at_all.new.making.labels c.act_at_all.new.making.found deeds.Bind xs) c.act_at_all.new.making c.act_at_all-2.new.making)
     c.as_slice-2.ensures.value c.in_ok-act_at_all-2.ensures) in
-    gains_by _ (OfAllDeeds m.spec m.labels m.found) (deeds_parts m.spec m.labels m.found roots c.requires.all c.requires.kept c.in_ok-roots.ensures) m c.act_at_all-2.new.making
+    gains_by _ (OfAllDeeds m.spec m.labels m.found m.heads) (deeds_parts m.spec m.labels m.found m.heads roots c.requires.all c.requires.kept c.in_ok-roots.ensures) m c.act_at_all-2.new.making
     (gains_then P Q m c.act_at_all.new.making c.act_at_all-2.new.making g h)

@@ -4,7 +4,7 @@ use Rattle.cap_spread.specs.Hubs.{nobody}
 use Rattle.cap_spread.specs.Start.{repeated, IsCounted}
 use Rattle.cap_spread.specs.declared.found.Way.{Way}
 use Rattle.cap_spread.proofs.Beginning.{blank_search}
-use Rattle.cap_spread.proofs.Looking.{all_found, slots_on}
+use Rattle.cap_spread.proofs.Looking.{all_alike, all_found, slots_on}
 use Rattle.cap_spread.proofs.search.spread.Goals as goal
 
 pub search-requires-clause-search : goal.search-requires-clause-search
@@ -18,3 +18,8 @@ pub returns-clause-closed : goal.returns-clause-closed
 returns-clause-closed c =
     all_found c.args.spec.now c.search.new.web.findings c.search.new.web.net c.search.new.hubs c.in_ok-search.ensures.search
     (slots_on c.args.spec.now c.in_ok-findings.findings c.search.new.web.findings c.in_ok-search.ensures.later.grows c.in_ok-findings.ensures.slots)
+
+pub returns-clause-alike : goal.returns-clause-alike
+returns-clause-alike c =
+    all_alike c.args.spec.now c.search.new.web.findings c.search.new.web.net c.search.new.hubs c.in_ok-search.ensures.search
+    (slots_on c.args.spec.now c.in_ok-findings.findings c.search.new.web.findings c.in_ok-search.ensures.later.grows c.in_ok-findings.ensures.slots) c.into_classes.result.items c.into_classes.ensures

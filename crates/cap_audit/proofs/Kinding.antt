@@ -1,0 +1,261 @@
+-- Who stands for whom.
+use Rattle.std.proofs.Common.{◌≡◌, ◌∙◌, ◌⊎◌, ◌<◌, ◌≤◌, ◌==◌, ℕ, ◌+◌, Bool, true, false, List, [], ◌∷◌, ◌++◌, Option, Some, None, length, slice_get, get_or, set, map, if◌then◌else◌, refl, sym, ap, subst, inl, inr, arith, length-append}
+use Rattle.std.proofs.Math.ListN.{get_or-map}
+use Rattle.std.proofs.Math.Seq.{get_or-append_seam}
+use Rattle.std.proofs.lemmas.Bool.{cases_eq, cases_lt, cases_Bool, eqb-true, eqb-false}
+use Rattle.std.proofs.lemmas.List.{get_or_past, get_or-set_other, get_or-set_same, get_or_append_left, length-set, set_past}
+use Rattle.cap_model.specs.Kept.{IsKept}
+use Rattle.cap_model.specs.declared.spec.Spec.{Spec}
+use Rattle.cap_spread.specs.Covering.{AreAlike, AreRoots}
+use Rattle.cap_spread.specs.Search.{Found, IsFound, bare, is_known}
+use Rattle.cap_spread.specs.Spread.{HasRoot}
+use Rattle.cap_spread.specs.Start.{repeated}
+use Rattle.cap_spread.proofs.Beginning.{repeated_at, repeated_length}
+use Rattle.cap_audit.specs.Gates.{with_more}
+use Rattle.cap_audit.specs.Kinds.{AreFirsts, AreHeadRoots, AreHeads, AreLeft, AreMembers, AreRootMarks, AreRows, AreStandIns, IsLike, IsQueued, StandsFor, root_mark, stand_in}
+use Rattle.cap_audit.specs.Rows.{row_at}
+use Rattle.cap_audit.specs.Showing.{AreKinds}
+use Rattle.auth_kinds.specs.ObjectLabels.{label_of}
+use Rattle.cap_audit.proofs.Gating.{more_cases, more_kept, more_last, none_in_blank, root_inside}
+
+-- the first of each kind, one object after the other
+
+pub firsts_none : (classes marks firsts : List ℕ) → firsts ≡ [] → AreFirsts classes marks firsts 0
+firsts_none classes marks firsts is = record { as_many = ap (λ (xs : List ℕ). length xs) is; each = λ c less. absurd (omega arith) }
+
+pub rows_none : (classes firsts : List ℕ) (rows : List (List ℕ)) (n : ℕ) → rows ≡ repeated [] n → AreRows classes firsts rows
+rows_none classes firsts rows n is = record {
+  inside = λ g k r h. absurd (none_in_blank rows n g k r is h);
+  of_class = λ g k r h. absurd (none_in_blank rows n g k r is h);
+  itself = λ g k r h. absurd (none_in_blank rows n g k r is h);
+}
+
+-- what stands in a row with one more
+pub row_cases : (rows : List (List ℕ)) (o x c k y : ℕ) → slice_get (row_at (with_more rows o x) c) k ≡ Some y → (slice_get (row_at rows c) k ≡ Some y) ⊎ ((c ≡ o) × (x ≡ y))
+row_cases rows o x c k y h = elim (cases_lt o (length rows)) [
+  | inl less ↦ more_cases rows o x less c k y h
+  | inr ge ↦ inl (subst (λ (xs : List (List ℕ)). slice_get (row_at xs c) k ≡ Some y) (set_past rows o (row_at rows o ++ x ∷ []) ge) h)
+]
+
+module _ (classes marks firsts : List ℕ) (c first : ℕ) (are : AreFirsts classes marks firsts c) where
+  abbrev longer : List ℕ
+  longer = firsts ++ first ∷ []
+
+  stand_old : (k : ℕ) → k < c → stand_in longer k ≡ stand_in firsts k
+  stand_old k less = get_or_append_left firsts (first ∷ []) k k (let e = are.as_many in omega arith)
+
+  stand_new : stand_in longer c ≡ first
+  stand_new = subst (λ (n : ℕ). get_or longer n n ≡ first) are.as_many (get_or-append_seam firsts first [] (length firsts))
+
+  new_length : length longer ≡ c + 1
+  new_length = let e = are.as_many in omega (arith, length-append firsts (first ∷ []))
+
+  stays : (r k : ℕ) → StandsFor classes marks firsts r k → StandsFor classes marks longer r k
+  stays r k s = record {
+    inside = (let l = s.inside in let e = are.as_many in let n = new_length in omega arith);
+    of_class = s.of_class;
+    marked = s.marked;
+    itself = stand_old r (let l = s.inside in let e = are.as_many in omega arith) ∙ s.itself;
+  }
+
+  module _ (rows : List (List ℕ)) (of : AreRows classes firsts rows) where
+    rows_stay : AreRows classes longer rows
+    rows_stay = record {
+      inside = λ g k r h. (let l = of.inside g k r h in let e = are.as_many in let n = new_length in omega arith);
+      of_class = of.of_class;
+      itself = λ g k r h. stand_old r (let l = of.inside g k r h in let e = are.as_many in omega arith) ∙ of.itself g k r h;
+    }
+
+    -- with the new one in its row
+    module _ (same : first ≡ c) where
+      more_itself : stand_in longer c ≡ c
+      more_itself = stand_new ∙ same
+
+      rows_longer : AreRows classes longer (with_more rows (get_or classes c 0) c)
+      rows_longer = record {
+        inside = λ g k r h. elim (row_cases rows (get_or classes c 0) c g k r h) [
+          | inl old ↦ rows_stay.inside g k r old
+          | inr now ↦ (let e : c ≡ r = now.1 in let n = new_length in omega arith)
+        ];
+        of_class = λ g k r h. elim (row_cases rows (get_or classes c 0) c g k r h) [
+          | inl old ↦ rows_stay.of_class g k r old
+          | inr now ↦ ap (λ (n : ℕ). get_or classes n 0) (sym now.1) ∙ sym now.0
+        ];
+        itself = λ g k r h. elim (row_cases rows (get_or classes c 0) c g k r h) [
+          | inl old ↦ rows_stay.itself g k r old
+          | inr now ↦ subst (λ (n : ℕ). stand_in longer n ≡ n) now.1 more_itself
+        ];
+      }
+
+    rows_by : (b : Bool) → (first == c) ≡ b → AreRows classes longer (if b then with_more rows (get_or classes c 0) c else rows)
+    rows_by false fails = rows_stay
+    rows_by true holds = rows_longer (eqb-true first c holds)
+
+    pub rows_more : (new : List (List ℕ)) → new ≡ (if first == c then with_more rows (get_or classes c 0) c else rows) → AreRows classes longer new
+    rows_more new is = subst (λ (xs : List (List ℕ)). AreRows classes longer xs) (sym is) (rows_by (first == c) refl)
+
+    module _ (like : IsLike (row_at rows (get_or classes c 0)) marks c first) where
+      first_stands : StandsFor classes marks longer first c
+      first_stands = elim like [
+        | inl same ↦ record {
+          inside = (let n = new_length in omega arith);
+          of_class = ap (λ (n : ℕ). get_or classes n 0) same;
+          marked = ap (λ (n : ℕ). get_or marks n 0) same;
+          itself = subst (λ (n : ℕ). stand_in longer n ≡ first) (sym same) stand_new;
+        }
+        | inr x ↦ record {
+          inside = rows_stay.inside (get_or classes c 0) x.0 first x.1;
+          of_class = of.of_class (get_or classes c 0) x.0 first x.1;
+          marked = x.2;
+          itself = rows_stay.itself (get_or classes c 0) x.0 first x.1;
+        }
+      ]
+
+      pub firsts_more : AreFirsts classes marks longer (c + 1)
+      firsts_more = record {
+        as_many = new_length;
+        each = λ k less. elim (cases_lt k c) [
+          | inl below ↦ subst (λ (r : ℕ). StandsFor classes marks longer r k) (sym (stand_old k below)) (stays (stand_in firsts k) k (are.each k below))
+          | inr ge ↦ (
+              let at : c ≡ k = omega arith in
+              subst (λ (n : ℕ). StandsFor classes marks longer (stand_in longer n) n) at (subst (λ (r : ℕ). StandsFor classes marks longer r c) (sym stand_new) first_stands))
+        ];
+      }
+
+-- those of one class hold the same
+
+module _ (spec : Spec) (f : Found) (found : IsFound spec f) (classes marks firsts : List ℕ) (alike : AreAlike spec f classes) (are : AreFirsts classes marks firsts (length classes)) where
+  queued_known : (c v : ℕ) → IsQueued (bare f) c v → is_known f c v ≡ true
+  queued_known c v q =
+      subst (λ (n : ℕ). is_known f n v ≡ true) q.at (subst (λ (w : ℕ). is_known f q.pair.node w ≡ true) q.of (found.marked q.place q.pair q.there))
+
+  known_queued : (c v : ℕ) → is_known f c v ≡ true → IsQueued (bare f) c v
+  known_queued c v known = let k = found.known c v known in record { place = k.0; pair = k.1; there = k.2; at = k.3; of = k.4 }
+
+  past_itself : (c : ℕ) → length classes ≤ c → stand_in firsts c ≡ c
+  past_itself c ge = get_or_past firsts c c (let e = are.as_many in omega arith)
+
+  pub stand_ins : AreStandIns (bare f) firsts
+  stand_ins = record {
+    itself = λ c. elim (cases_lt c (length classes)) [
+      | inl less ↦ (are.each c less).itself
+      | inr ge ↦ ap (λ (n : ℕ). stand_in firsts n) (past_itself c ge)
+    ];
+    inside = λ c less. (are.each c (let e = are.as_many in omega arith)).inside;
+    held_there = λ c v q. elim (cases_lt c (length classes)) [
+      | inl less ↦ (
+          let s = are.each c less in
+          known_queued (stand_in firsts c) v (alike.known c (stand_in firsts c) v less (let i = s.inside in let e = are.as_many in omega arith) (sym s.of_class) (queued_known c v q)))
+      | inr ge ↦ subst (λ (n : ℕ). IsQueued (bare f) n v) (sym (past_itself c ge)) q
+    ];
+    held_here = λ c v q. elim (cases_lt c (length classes)) [
+      | inl less ↦ (
+          let s = are.each c less in
+          known_queued c v (alike.known (stand_in firsts c) c v (let i = s.inside in let e = are.as_many in omega arith) less s.of_class (queued_known (stand_in firsts c) v q)))
+      | inr ge ↦ subst (λ (n : ℕ). IsQueued (bare f) n v) (past_itself c ge) q
+    ];
+  }
+
+pub kinds_of : (spec : Spec) (f : Found) (labels classes faces heads : List ℕ) → IsKept spec → IsFound spec f → AreAlike spec f classes
+    → AreFirsts classes labels faces (length classes) → AreHeads spec classes heads → AreKinds spec labels (bare f) faces heads
+kinds_of spec f labels classes faces heads kept found alike are_faces are_heads = record {
+  are_faces = stand_ins spec f found classes labels faces alike are_faces;
+  are_heads = stand_ins spec f found classes are_heads.marks heads alike are_heads.firsts;
+  as_many = are_heads.firsts.as_many ∙ alike.as_many;
+  labelled = λ c. elim (cases_lt c (length classes)) [
+    | inl less ↦ (are_faces.each c less).marked
+    | inr ge ↦ ap (λ (n : ℕ). label_of labels n) (past_itself spec f found classes labels faces alike are_faces c ge)
+  ];
+  rooted = λ c t root. (
+      let inside : c < length spec.entries = root_inside spec t c kept root in
+      let less : c < length classes = (let e = alike.as_many in omega arith) in
+      are_heads.are.root (stand_in heads c) ((are_heads.firsts.each c less).marked ∙ are_heads.are.one c t root));
+}
+
+-- marks of roots
+
+pub mark_of_roots : (spec : Spec) (roots : List (Option ℕ)) (marks : List ℕ) → AreRoots spec roots → marks ≡ map root_mark roots → AreRootMarks spec marks
+mark_of_roots spec roots marks are is = record {
+  one = λ c t root. at c ∙ one_by (get_or roots c None) (are.all_ones c t root);
+  root = λ c one. root_by c (get_or roots c None) refl (sym (at c) ∙ one);
+} where
+  at : (c : ℕ) → get_or marks c 0 ≡ root_mark (get_or roots c None)
+  at c = ap (λ (xs : List ℕ). get_or xs c 0) is ∙ get_or-map root_mark roots c None
+
+  one_by : (o : Option ℕ) → (o ≡ None → ⊥) → root_mark o ≡ 1
+  one_by None none = absurd (none refl)
+  one_by (Some t) none = refl
+
+  root_by : (c : ℕ) (o : Option ℕ) → get_or roots c None ≡ o → root_mark o ≡ 1 → (t : ℕ) × HasRoot spec t c
+  root_by c None here h = absurd cc
+  root_by c (Some t) here h = (t, are.true_ones c t here)
+
+-- objects by who stands for them
+
+pub members_none : (heads : List ℕ) (members : List (List ℕ)) → members ≡ repeated [] (length heads) → AreMembers heads members 0
+members_none heads members is = record {
+  as_many = ap (λ (xs : List (List ℕ)). length xs) is ∙ repeated_length [] (length heads);
+  stands = λ h k c there. absurd (none_in_blank members (length heads) h k c is there);
+  every = λ c less inside. absurd (omega arith);
+}
+
+pub members_more : (heads : List ℕ) (members new : List (List ℕ)) (n head : ℕ) → AreMembers heads members n → head ≡ stand_in heads n → new ≡ with_more members head n
+    → AreMembers heads new (n + 1)
+members_more heads members new n head before head_is is_head =
+    let is : new ≡ with_more members (stand_in heads n) n = is_head ∙ ap (λ (x : ℕ). with_more members x n) head_is in
+    subst (λ (rows : List (List ℕ)). AreMembers heads rows (n + 1)) (sym is) (record {
+      as_many = length-set members (stand_in heads n) (row_at members (stand_in heads n) ++ n ∷ []) ∙ before.as_many;
+      stands = λ h k c there. elim (row_cases members (stand_in heads n) n h k c there) [
+        | inl old ↦ before.stands h k c old
+        | inr now ↦ ap (λ (x : ℕ). stand_in heads x) (sym now.1) ∙ sym now.0
+      ];
+      every = λ c less inside. (
+          elim (cases_lt c n) [
+            | inl below ↦ (
+                let r = before.every c below inside in
+                elim (cases_lt (stand_in heads n) (length members)) [
+                  | inl within ↦ (r.0, more_kept members (stand_in heads n) n within (stand_in heads c) r.0 c r.1)
+                  | inr ge ↦ (r.0, subst (λ (xs : List (List ℕ)). slice_get (row_at xs (stand_in heads c)) r.0 ≡ Some c) (sym (set_past members (stand_in heads n) (row_at members (stand_in heads n) ++ n ∷ []) ge)) r.1)
+                ])
+            | inr ge ↦ (
+                let at : n ≡ c = omega arith in
+                let here : stand_in heads n < length members = (let e = before.as_many in subst (λ (x : ℕ). stand_in heads x < length members) (sym at) (omega arith)) in
+                subst (λ (x : ℕ). (k : ℕ) × (slice_get (row_at (with_more members (stand_in heads n) n) (stand_in heads x)) k ≡ Some x)) at
+                (length (row_at members (stand_in heads n)), more_last members (stand_in heads n) n here))
+          ]);
+    })
+
+-- roots that stand for themselves
+
+pub left_none : (heads : List ℕ) (all : List (Option ℕ)) → AreLeft heads all all
+left_none heads all = record { same = λ c itself. refl; some = λ c t h. h }
+
+module _ (heads : List ℕ) (all roots : List (Option ℕ)) (n : ℕ) (left : AreLeft heads all roots) where
+  left_out : (stand_in heads n ≡ n → ⊥) → AreLeft heads all (set roots n None)
+  left_out other = record {
+    same = λ c itself. get_or-set_other roots n c None None (λ same. absurd (other (subst (λ (x : ℕ). stand_in heads x ≡ x) same itself))) ∙ left.same c itself;
+    some = λ c t h. elim (cases_eq c n) [
+      | inl same ↦ absurd (
+          let x : ◌≡◌ {A = Option ℕ} None (Some t) = sym (none_there n) ∙ subst (λ (x : ℕ). get_or (set roots n None) x None ≡ Some t) same h in
+          cc)
+      | inr apart ↦ left.some c t (sym (get_or-set_other roots n c None None apart) ∙ h)
+    ];
+  } where
+    none_there : (k : ℕ) → get_or (set roots k None) k None ≡ None
+    none_there k = elim (cases_lt k (length roots)) [
+      | inl less ↦ get_or-set_same roots k None None less
+      | inr ge ↦ get_or_past (set roots k None) k None (let e = length-set roots k None in omega arith)
+    ]
+
+  left_by : (b : Bool) → (stand_in heads n == n) ≡ b → AreLeft heads all (if b then roots else set roots n None)
+  left_by true holds = left
+  left_by false fails = left_out (eqb-false (stand_in heads n) n fails)
+
+  pub left_more : (new : List (Option ℕ)) → new ≡ (if stand_in heads n == n then roots else set roots n None) → AreLeft heads all new
+  left_more new is = subst (λ (xs : List (Option ℕ)). AreLeft heads all xs) (sym is) (left_by (stand_in heads n == n) refl)
+
+pub head_roots_of : (spec : Spec) (heads : List ℕ) (all roots : List (Option ℕ)) → AreRoots spec all → AreLeft heads all roots → AreHeadRoots spec heads roots
+head_roots_of spec heads all roots are left = record {
+  true_ones = λ c t h. are.true_ones c t (left.some c t h);
+  all_ones = λ c t itself root none. are.all_ones c t root (sym (left.same c itself) ∙ none);
+}

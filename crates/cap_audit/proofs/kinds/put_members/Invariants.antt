@@ -1,0 +1,5 @@
+use Rattle.cap_audit.specs.Kinds.{AreMembers}
+use Rattle.cap_audit.proofs.kinds.put_members.Given as goal
+
+abbrev pub invariant-loop-c : goal.invariant-loop-c
+invariant-loop-c l = AreMembers l.heads l.members l.c

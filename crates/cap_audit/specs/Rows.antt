@@ -1,0 +1,6 @@
+-- Words for the contracts of private functions alone: lists by objects.
+use Rattle.std.specs.Prelude.{ℕ, List, [], slice_index_or}
+
+-- the list of an object
+abbrev pub row_at : {A : Type 0} → List (List A) → ℕ → List A
+row_at rows o = slice_index_or rows o []
