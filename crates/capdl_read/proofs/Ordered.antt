@@ -1,61 +1,123 @@
--- What sets and tables in the order of the names find, in terms of the lists that contracts see.
-use Rattle.std.proofs.Common.{◌≡◌, ◌∙◌, ◌||◌, ap, sym, ℕ, Bool, true, false, cond, List, map, Bor, Some, None, is_some}
+-- What tables in the order of digests find, in terms of the lists that contracts see.
+use Rattle.std.proofs.Common.{◌≡◌, ◌∙◌, ap, sym, refl, arith, ℕ, Bool, true, false, cond, List, [], ◌∷◌, map, Option, Some, None, is_some}
+use Rattle.std.specs.Prelude.{◌==◌, ◌&&◌}
+use Rattle.std.specs.BTreeMap.{insert_entry}
+use Rattle.std.specs.Cmp.{tied_then, unsigned_tied}
 use Rattle.std.specs.Cmp.Lexicographic.{slice_cmp}
-use Rattle.std.specs.List.{list_any}
 use Rattle.std.specs.Map.{lookup}
 use Rattle.std.specs.Option.{option_or}
-use Rattle.std.specs.Ordering.{is_eq, nat_cmp}
+use Rattle.std.specs.Ordering.{is_eq, match_ordering, nat_cmp, ordering_then}
 use Rattle.std.specs.Str.{bytes_eq}
+use Rattle.std.specs.declared.cmp.Ordering.{Ordering}
+use Rattle.std.specs.declared.cmp.Ordering.TheVariants.{Less, Equal, Greater}
+use Rattle.std.proofs.lemmas.Bool.{and_parts}
+use Rattle.std.proofs.lemmas.Bool.Decides.{nat_tests}
 use Rattle.std.proofs.lemmas.Map.Text.{is_eq-slice_cmp}
-use Rattle.name_tables.specs.ByName.{Name, is_among, found}
-use Rattle.name_tables.proofs.NameLookups.{among-keys, found-entries, found_kept, found_put, or_from_cond, shown}
-
-abbrev Key : Type 0
-Key = Bor (List ℕ)
+use Rattle.std.proofs.lemmas.Slice.Eq.{bytes_eq-Decides}
+use Rattle.name_tables.specs.ByName.{Name, found}
+use Rattle.name_tables.proofs.NameLookups.{found_kept, found_put}
+use Rattle.capdl_read.specs.Naming.{Key, digest, is_digested, are_digested}
 
 abbrev key : Name → Key
-key n = record { ref_ptr = (0, 0); now = n }
+key n = (digest n, record { ref_ptr = (0, 0); now = n })
 
--- whether the key is the name, by their order
-abbrev is_key : Name → Key → Bool
-is_key n k = is_eq (slice_cmp nat_cmp n k.now)
+-- the order of keys
+abbrev key_cmp : Key → Key → Ordering
+key_cmp k l = ordering_then (nat_cmp k.0 l.0) (slice_cmp nat_cmp k.1.now l.1.now)
 
-by_bytes : (n : Name) → is_key n ≡ (λ (k : Key). bytes_eq n k.now)
-by_bytes n = λ i k. is_eq-slice_cmp n k.now i
+abbrev is_key : Key → Key → Bool
+is_key k l = is_eq (key_cmp k l)
 
--- ---- sets
+and_true : (a b : Bool) → a ≡ true → b ≡ true → (a && b) ≡ true
+and_true a b e f = (λ i. e i && f i)
 
-abbrev names : List Key → List Name
-names ks = map (λ (k : Key). k.now) ks
+and_false : (a : Bool) → (a && false) ≡ false
+and_false true = refl
+and_false false = refl
 
-pub among_keys : (ks : List Key) (n : Name) → list_any (is_key n) ks ≡ is_among (names ks) n
-among_keys ks n = ap (λ test. list_any test ks) (by_bytes n) ∙ sym (among-keys ks n)
+-- digested keys are equal where their names are
+same_name : (k l : Key) → is_digested k ≡ true → is_digested l ≡ true → is_key k l ≡ bytes_eq k.1.now l.1.now
+same_name k l d e =
+    sym (tied_then (nat_cmp k.0 l.0) (slice_cmp nat_cmp k.1.now l.1.now))
+    ∙ ap (λ b. is_eq (nat_cmp k.0 l.0) && b) (is_eq-slice_cmp k.1.now l.1.now)
+    ∙ by_test (bytes_eq k.1.now l.1.now) refl
+  where
+    one_digest : (a b x y : ℕ) → x ≡ y → (a == x) ≡ true → (b == y) ≡ true → (a == b) ≡ true
+    one_digest a b x y s p q = grind (arith, nat_tests)
 
-pub keys_put : (old new : List Key) (before : List Name) (name : Name) → names old ≡ before
-    → ((k : Key) → list_any (is_key k.now) new ≡ cond (is_key name k) true (list_any (is_key k.now) old)) → (n : Name) → is_among (names new) n ≡ (is_among before n || bytes_eq n name)
-keys_put old new before name seen put n =
-    sym (among_keys new n)
-    ∙ put (key n)
-    ∙ ap (λ b. cond b true (list_any (is_key n) old)) (is_eq-slice_cmp name n)
-    ∙ or_from_cond name n (list_any (is_key n) old)
-    ∙ ap (λ b. b || bytes_eq n name) (among_keys old n ∙ ap (λ s. is_among s n) seen)
+    by_test : (b : Bool) → bytes_eq k.1.now l.1.now ≡ b → (is_eq (nat_cmp k.0 l.0) && b) ≡ b
+    by_test true t =
+        let n = (bytes_eq-Decides k.1.now l.1.now).0 t in
+        and_true (is_eq (nat_cmp k.0 l.0)) true (unsigned_tied k.0 l.0 ∙ one_digest k.0 l.0 (digest k.1.now) (digest l.1.now) (ap digest n) d e) refl
+    by_test false t = and_false (is_eq (nat_cmp k.0 l.0))
 
--- ---- tables
+-- a digest that was made
+pub fits : (a : ℕ) (n : Name) → a ≡ digest n → (a == digest n) ≡ true
+fits a n e = same a (digest n) e
+  where
+    same : (a b : ℕ) → a ≡ b → (a == b) ≡ true
+    same a b e = grind (arith, nat_tests)
+
+is_its_digest : (n : Name) → is_digested (key n) ≡ true
+is_its_digest n = fits (digest n) n refl
 
 module _ {V : Type 0} where
-  pub found_entry : (es : List (Key × V)) (n : Name) → lookup (is_key n) es ≡ found (shown es) n
-  found_entry es n = ap (λ test. lookup test es) (by_bytes n) ∙ sym (found-entries es n)
+  abbrev shown : List (Key × V) → List (Name × V)
+  shown es = map (λ e. (e.0.1.now, e.1)) es
 
-  seen_entry : (old : List (Key × V)) (before : List (Name × V)) → shown old ≡ before → (n : Name) → lookup (is_key n) old ≡ found before n
-  seen_entry old before seen n = found_entry old n ∙ ap (λ s. found s n) seen
+  -- a key that is put in keeps all of them digested
+  pub digested_put : (es : List (Key × V)) (k : Key) (v : V) → are_digested es ≡ true → is_digested k ≡ true → are_digested (insert_entry key_cmp es k v) ≡ true
+  digested_put [] k v a d = and_true (is_digested k) true d refl
+  digested_put (e ∷ es) k v a d = by_order (key_cmp k e.0) (digested_put es k v (and_parts (is_digested e.0) (are_digested es) a).1 d)
+    where
+      parts : (is_digested e.0 ≡ true) × (are_digested es ≡ true)
+      parts = and_parts (is_digested e.0) (are_digested es) a
 
-  pub entry_put : (old new : List (Key × V)) (before : List (Name × V)) (name : Name) (x : V) → shown old ≡ before → is_some (lookup (is_key name) old) ≡ false
-      → ((k : Key) → lookup (is_key k.now) new ≡ cond (is_key name k) (Some x) (lookup (is_key k.now) old)) → (n : Name) → found (shown new) n ≡ option_or (found before n) (cond (bytes_eq n name) (Some x) None)
-  entry_put old new before name x seen absent put =
-      found_put (found before) (found (shown new)) name x (ap is_some (sym (seen_entry old before seen name)) ∙ absent)
-      (λ n. sym (found_entry new n) ∙ put (key n) ∙ ap (λ b. cond b (Some x) (lookup (is_key n) old)) (is_eq-slice_cmp name n)
-      ∙ ap (λ z. cond (bytes_eq name n) (Some x) z) (seen_entry old before seen n))
+      by_order : (o : Ordering) → are_digested (insert_entry key_cmp es k v) ≡ true → are_digested (match_ordering o ((k, v) ∷ e ∷ es) ((e.0, v) ∷ es) (e ∷ insert_entry key_cmp es k v)) ≡ true
+      by_order Less rest = and_true (is_digested k) (are_digested (e ∷ es)) d a
+      by_order Equal rest = and_true (is_digested e.0) (are_digested es) parts.0 parts.1
+      by_order Greater rest = and_true (is_digested e.0) (are_digested (insert_entry key_cmp es k v)) parts.0 rest
 
-  pub entry_kept : (old : List (Key × V)) (before : List (Name × V)) (name : Name) (x : V) → shown old ≡ before → is_some (lookup (is_key name) old) ≡ true
-      → (n : Name) → found before n ≡ option_or (found before n) (cond (bytes_eq n name) (Some x) None)
-  entry_kept old before name x seen there = found_kept (found before) name x (ap is_some (sym (seen_entry old before seen name)) ∙ there)
+  pub found_entry : (es : List (Key × V)) (k : Key) → are_digested es ≡ true → is_digested k ≡ true → lookup (is_key k) es ≡ found (shown es) k.1.now
+  found_entry [] k a d = refl
+  found_entry (e ∷ es) k a d =
+      let p = and_parts (is_digested e.0) (are_digested es) a in
+      ap (λ b. cond b (Some e.1) (lookup (is_key k) es)) (same_name k e.0 d p.0) ∙ ap (λ z. cond (bytes_eq k.1.now e.0.1.now) (Some e.1) z) (found_entry es k p.1 d)
+
+  -- whether a name was there
+  pub was_found : (old : List (Key × V)) (before : List (Name × V)) (k : Key) (o : Option V) → shown old ≡ before → are_digested old ≡ true → is_digested k ≡ true → o ≡ lookup (is_key k) old
+      → is_some o ≡ is_some (found before k.1.now)
+  was_found old before k o seen a d e = ap is_some (e ∙ found_entry old k a d ∙ ap (λ s. found s k.1.now) seen)
+
+  -- what is found after a key was put in
+  put_found : (old new : List (Key × V)) (before : List (Name × V)) (k : Key) (x : V) → shown old ≡ before → are_digested old ≡ true → are_digested new ≡ true → is_digested k ≡ true
+      → ((q : Key) → lookup (is_key q) new ≡ cond (is_key k q) (Some x) (lookup (is_key q) old)) → (n : Name) → found (shown new) n ≡ cond (bytes_eq k.1.now n) (Some x) (found before n)
+  put_found old new before k x seen a b d put n =
+      sym (found_entry new (key n) b (is_its_digest n))
+      ∙ put (key n)
+      ∙ ap (λ t. cond t (Some x) (lookup (is_key (key n)) old)) (same_name k (key n) d (is_its_digest n))
+      ∙ ap (λ z. cond (bytes_eq k.1.now n) (Some x) z) (found_entry old (key n) a (is_its_digest n) ∙ ap (λ s. found s n) seen)
+
+  pub entry_put : (old new : List (Key × V)) (before : List (Name × V)) (k : Key) (x : V) → shown old ≡ before → are_digested old ≡ true → are_digested new ≡ true → is_digested k ≡ true
+      → is_some (lookup (is_key k) old) ≡ false
+      → ((q : Key) → lookup (is_key q) new ≡ cond (is_key k q) (Some x) (lookup (is_key q) old)) → (n : Name) → found (shown new) n ≡ option_or (found before n) (cond (bytes_eq n k.1.now) (Some x) None)
+  entry_put old new before k x seen a b d absent put =
+      found_put (found before) (found (shown new)) k.1.now x (ap is_some (sym (found_entry old k a d ∙ ap (λ s. found s k.1.now) seen)) ∙ absent) (put_found old new before k x seen a b d put)
+
+  -- what is found after a value was put in the place of the first, and the first back
+  pub entry_back : (old mid new : List (Key × V)) (before : List (Name × V)) (k : Key) (x y : V) → shown old ≡ before → are_digested old ≡ true → are_digested mid ≡ true → are_digested new ≡ true
+      → is_digested k ≡ true → lookup (is_key k) old ≡ Some y
+      → ((q : Key) → lookup (is_key q) mid ≡ cond (is_key k q) (Some x) (lookup (is_key q) old))
+      → ((q : Key) → lookup (is_key q) new ≡ cond (is_key k q) (Some y) (lookup (is_key q) mid)) → (n : Name) → found (shown new) n ≡ option_or (found before n) (cond (bytes_eq n k.1.now) (Some x) None)
+  entry_back old mid new before k x y seen a m b d there put back n =
+      put_found mid new (shown mid) k y refl m b d back n
+      ∙ ap (λ z. cond (bytes_eq k.1.now n) (Some y) z) (put_found old mid before k x seen a m d put n)
+      ∙ by_test (bytes_eq k.1.now n) refl
+      ∙ found_kept (found before) k.1.now x (ap is_some had) n
+    where
+      had : found before k.1.now ≡ Some y
+      had = sym (found_entry old k a d ∙ ap (λ s. found s k.1.now) seen) ∙ there
+
+      by_test : (t : Bool) → bytes_eq k.1.now n ≡ t → cond t (Some y) (cond t (Some x) (found before n)) ≡ found before n
+      by_test true e = sym had ∙ ap (found before) ((bytes_eq-Decides k.1.now n).0 e)
+      by_test false e = refl

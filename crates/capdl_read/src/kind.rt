@@ -2,22 +2,20 @@
 
 ghost use Rattle.cam_base.specs.declared.text_fault.TextCode.TheVariants as code;
 ghost use Rattle.capdl_text.specs.Faults.{at_id, at_place, fault, noted, where_false};
-ghost use Rattle.capdl_text.specs.KindField.{cap_off, fill_off, frame_value_off, has_key, holder_off, holder_takes, holds, irq_off, is_fill, is_space_root, key_off, kind_fields, kind_off, kind_takes, no_params, off_in, param_off, params_off, slot_off, slots_off, takes, thread_value_off};
+ghost use Rattle.capdl_text.specs.KindField.{cap_off, fill_off, frame_value_off, has_key, holder_off, holder_takes, holds, irq_off, is_fill, is_space_root, key_off, kind_off, kind_takes, no_params, param_off, params_off, takes, thread_value_off};
 ghost use Rattle.cap_model.specs.Kept.{within};
-ghost use Rattle.name_tables.specs.ByName.{found};
 ghost use Rattle.std.specs.List.{flat_map};
 ghost use Rattle.std.specs.Option.{option_copied};
-ghost use Rattle.std.specs.Prelude.{◌≡◌, OnOk};
+ghost use Rattle.std.specs.Prelude.{◌≡◌, ◌++◌, OnOk};
 
 use crate::first::First;
-use crate::known::{are_bits, find};
-use crate::names::Names;
+use crate::known::are_bits;
 use cam_base::{NoMemory, TextCode};
 use cap_model::{Arch, Kind, Rights};
 use capdl_lexer::Span;
 use capdl_text::{
-    FillLine, FrameField, FrameValue, Holder, Id, IrqLine, KindLine, Known, ObjectLine, Param,
-    SlotKey, SlotLine, SpecTree, ThreadField, ThreadValue,
+    FillLine, FrameField, FrameValue, Id, KindLine, Known, ObjectLine, Param, SlotKey, SlotLine,
+    ThreadField, ThreadValue,
 };
 use std::alloc::Global;
 
@@ -131,7 +129,8 @@ fn note_kind(alloc: Global, arch: Arch, kind: &KindLine, first: &mut First) -> R
     }
 }
 
-fn note_objects(
+/// Notes what doesn't suit the kinds of objects that are said.
+pub(crate) fn note_objects(
     alloc: Global,
     arch: Arch,
     objects: &[ObjectLine],
@@ -159,7 +158,8 @@ fn holds(kind: Kind) -> bool
     }
 }
 
-fn note_holder_kind(
+/// Notes a holder of a kind without slots.
+pub(crate) fn note_holder_kind(
     alloc: Global,
     id: &Id,
     holder: Option<Known>,
@@ -325,80 +325,27 @@ fn note_slot_params(
     }
 }
 
+/// Notes what doesn't suit a slot of a holder, where its name stands for this object.
 #[tactic(auto, using(capdl_text::proofs::Noting::noting))]
-fn note_slot(
+pub(crate) fn note_slot(
     alloc: Global,
     arch: Arch,
-    known: &Names<Known>,
     id: &Id,
     holder: Option<Known>,
     slot: &SlotLine,
+    object: Option<Known>,
     first: &mut First,
 ) -> Result<(), NoMemory>
-    ensures { OnOk result (first.new ≡ noted first.old (slot_off arch (found known.now) id.now holder slot.now)) }
+    ensures { OnOk result (first.new ≡ noted first.old
+        (key_off id.now holder slot.now ++ cap_off arch holder slot.now object ++ params_off slot.now object)) }
 {
-    let object = find(known, &slot.object.name);
     note_key(alloc, id, holder, slot, first)?;
     note_cap(alloc, arch, holder, slot, object, first)?;
     note_slot_params(alloc, slot, object, first)
 }
 
-fn note_slots(
-    alloc: Global,
-    arch: Arch,
-    known: &Names<Known>,
-    id: &Id,
-    holder: Option<Known>,
-    slots: &[SlotLine],
-    first: &mut First,
-) -> Result<(), NoMemory>
-    ensures { OnOk result (first.new ≡ noted first.old (flat_map (slot_off arch (found known.now) id.now holder) slots.now)) }
-{
-    for slot in slots {
-        note_slot(alloc, arch, known, id, holder, slot, first)?;
-    }
-    Ok(())
-}
-
-#[tactic(auto, using(capdl_text::proofs::Noting::noting))]
-fn note_holder(
-    alloc: Global,
-    arch: Arch,
-    known: &Names<Known>,
-    line: &Holder,
-    first: &mut First,
-) -> Result<(), NoMemory>
-    ensures { OnOk result (first.new ≡ noted first.old (off_in arch (found known.now) line.now)) }
-{
-    let holder = find(known, &line.id.name);
-    note_holder_kind(alloc, &line.id, holder, first)?;
-    note_slots(
-        alloc,
-        arch,
-        known,
-        &line.id,
-        holder,
-        line.slots.as_slice(),
-        first,
-    )
-}
-
-fn note_holders(
-    alloc: Global,
-    arch: Arch,
-    known: &Names<Known>,
-    holders: &[Holder],
-    first: &mut First,
-) -> Result<(), NoMemory>
-    ensures { OnOk result (first.new ≡ noted first.old (flat_map (off_in arch (found known.now)) holders.now)) }
-{
-    for holder in holders {
-        note_holder(alloc, arch, known, holder, first)?;
-    }
-    Ok(())
-}
-
-fn note_irq(
+/// Notes the object of an interrupt line that is no interrupt.
+pub(crate) fn note_irq(
     alloc: Global,
     id: &Id,
     object: Option<Known>,
@@ -410,34 +357,4 @@ fn note_irq(
         None => Ok(()),
         Some(known) => note_id(alloc, known.kind.is(Kind::Irq), id, first),
     }
-}
-
-fn note_irqs(
-    alloc: Global,
-    known: &Names<Known>,
-    lines: &[IrqLine],
-    first: &mut First,
-) -> Result<(), NoMemory>
-    ensures { OnOk result
-        (first.new ≡ noted first.old (flat_map (λ l. irq_off l.object (found known.now l.object.name)) lines.now)) }
-{
-    for line in lines {
-        note_irq(alloc, &line.object, find(known, &line.object.name), first)?;
-    }
-    Ok(())
-}
-
-/// Notes what doesn't suit a kind of object.
-#[tactic(auto, using(capdl_text::proofs::Noting::noting))]
-pub(crate) fn note_kind_fields(
-    alloc: Global,
-    known: &Names<Known>,
-    tree: &SpecTree,
-    first: &mut First,
-) -> Result<(), NoMemory>
-    ensures { OnOk result (first.new ≡ noted first.old (kind_fields (found known.now) tree.now)) }
-{
-    note_objects(alloc, tree.arch, tree.objects.as_slice(), first)?;
-    note_holders(alloc, tree.arch, known, tree.holders.as_slice(), first)?;
-    note_irqs(alloc, known, tree.irqs.as_slice(), first)
 }

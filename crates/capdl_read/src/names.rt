@@ -1,75 +1,48 @@
-//! Sets and tables by name, which borrow the names from the text.
+//! Tables by name, which borrow the names from the text.
 //!
-//! They are kept in the order of the names, so that no text can make them slow: whoever knows a hash can write names that
-//! collide.
+//! They are kept in the order of the digests of the names, and of the names where these are equal. So few names are compared
+//! byte by byte, and still no text can make them slow: whoever knows the digest can write names that collide, and these are
+//! kept in order too.
 
-ghost use Rattle.name_tables.specs.ByName.{found, is_among};
+ghost use Rattle.capdl_read.specs.Naming.{digest};
+ghost use Rattle.name_tables.specs.ByName.{found};
 ghost use Rattle.std.specs.Option.{option_copied, option_or};
-ghost use Rattle.std.specs.Prelude.{◌≡◌, ◌∷◌, ◌||◌, ℕ, [], List as Seq, OnOk};
-ghost use Rattle.std.specs.Str.{bytes_eq};
+ghost use Rattle.std.specs.Prelude.{◌≡◌, ◌∷◌, ℕ, [], List as Seq, is_some, IfOk, OnOk};
 
 use cam_base::NoMemory;
 use std::alloc::Global;
-use std::collections::{BTreeMap, BTreeSet};
+use std::collections::BTreeMap;
+use std::hash::{FoldHasher, Hasher};
 use std::marker::Model;
 
-/// Names that were met. Contracts see it as the list of them.
-#[derive(Drop)]
-pub(crate) struct MetNames<'x> {
-    names: BTreeSet<&'x [u8]>,
-}
-
-impl<'x> Model for MetNames<'x> {
-    ghost use Rattle.std.specs.Borrow.{Bor};
-    ghost use Rattle.std.specs.Prelude.{List, ℕ, map};
-
-    ghost Value = { List (List ℕ) };
-
-    ghost view = { λ s. map (λ (k : Bor (List ℕ)). k.now) s.names.keys };
-}
-
-impl<'x> MetNames<'x> {
-    /// No names yet. Takes no memory.
-    pub(crate) fn new(alloc: Global) -> MetNames<'x>
-        ensures { result ≡ [] }
-    {
-        MetNames {
-            names: BTreeSet::new(alloc),
-        }
-    }
-
-    /// Whether the name was met.
-    pub(crate) fn contains(&self, name: &[u8]) -> bool
-        ensures { result ≡ is_among self.now name.now }
-    {
-        self.names.contains(name)
-    }
-
-    /// Takes the next name.
-    pub(crate) fn insert(&mut self, name: &'x [u8]) -> Result<(), NoMemory>
-        ensures { OnOk result ((n : Seq ℕ) → is_among self.new n ≡ (is_among self.old n || bytes_eq n name.entry.now)) }
-    {
-        self.names.insert(name)?;
-        Ok(())
-    }
+/// A number by which most names differ.
+#[tactic(auto, unfolding(crate::specs::Naming::digest))]
+fn digest(name: &[u8]) -> u64
+    ensures { result ≡ digest name.now }
+{
+    let mut hasher = FoldHasher::default();
+    hasher.write(name);
+    hasher.finish()
 }
 
 /// Values by name. Contracts see it as the list of its entries.
 #[derive(Drop)]
 pub(crate) struct Names<'x, V> {
-    entries: BTreeMap<&'x [u8], V>,
+    entries: BTreeMap<(u64, &'x [u8]), V>,
 }
 
 impl<'x, V> Model for Names<'x, V> {
-    ghost use Rattle.std.specs.Borrow.{Bor};
+    ghost use Rattle.capdl_read.specs.Naming.{Key, are_digested};
     ghost use Rattle.std.specs.Coded.{coded×, coded_ℕ, coded_list};
-    ghost use Rattle.std.specs.Prelude.{List, ℕ, map};
+    ghost use Rattle.std.specs.Prelude.{List, ℕ, IsTrue, map};
 
     ghost Value = { List (List ℕ × V) };
 
     ghost coded = { coded_list (coded× (coded_list coded_ℕ) V.code) };
 
-    ghost view = { λ s. map (λ (e : Bor (List ℕ) × V). (e.0.now, e.1)) s.entries.entries };
+    ghost view = { λ s. map (λ (e : Key × V). (e.0.1.now, e.1)) s.entries.entries };
+
+    ghost invariant = { λ s. IsTrue (are_digested s.entries.entries) };
 }
 
 impl<'x, V: Drop> Names<'x, V> {
@@ -83,20 +56,25 @@ impl<'x, V: Drop> Names<'x, V> {
     }
 
     /// What the name stands for.
-    pub(crate) fn get(&self, name: &[u8]) -> Option<&V>
+    pub(crate) fn get(&self, name: &'x [u8]) -> Option<&V>
         ensures { option_copied result ≡ found self.now name.now }
     {
-        self.entries.get(name)
+        self.entries.get(&(digest(name), name))
     }
 
-    /// Puts a value under its name, where the name has none yet.
-    pub(crate) fn add(&mut self, name: &'x [u8], value: V) -> Result<(), NoMemory>
-        ensures { OnOk result ((n : Seq ℕ) → found self.new n ≡ option_or (found self.old n)
+    /// Puts a value under its name, where the name has none yet, and answers whether it has one.
+    pub(crate) fn add(&mut self, name: &'x [u8], value: V) -> Result<bool, NoMemory>
+        ensures met { IfOk result (λ met. met ≡ is_some (found self.old name.entry.now)) }
+        ensures found { OnOk result ((n : Seq ℕ) → found self.new n ≡ option_or (found self.old n)
             (found ((name.entry.now, value) ∷ []) n)) }
     {
-        if !self.entries.contains_key(name) {
-            self.entries.insert(name, value)?;
+        let key = (digest(name), name);
+        match self.entries.insert(key, value)? {
+            None => Ok(false),
+            Some(first) => {
+                self.entries.insert(key, first)?;
+                Ok(true)
+            }
         }
-        Ok(())
     }
 }

@@ -3,14 +3,14 @@
 ghost use Rattle.capdl_text.specs.Faults.{at_id, fault, noted, where_true};
 ghost use Rattle.capdl_text.specs.Twice.{fields_twice, frame_key, frame_keyed, irq_keyed, keys_twice, names_twice, param_keyed, params_twice, slot_key, slot_keyed, thread_key, thread_keyed, twice_in, twices};
 ghost use Rattle.cam_base.specs.declared.text_fault.TextCode.TheVariants as code;
-ghost use Rattle.name_tables.specs.ByName.{is_among};
+ghost use Rattle.name_tables.specs.ByName.{found};
 ghost use Rattle.name_tables.specs.Keys.{Key as Pair, has_key, same_key};
 ghost use Rattle.std.specs.List.{flat_map};
-ghost use Rattle.std.specs.Prelude.{◌≡◌, ◌||◌, ℕ, [], List as Seq, map, OnOk};
-ghost use Rattle.std.specs.Str.{bytes_eq};
+ghost use Rattle.std.specs.Option.{option_or};
+ghost use Rattle.std.specs.Prelude.{◌≡◌, ◌||◌, ◌∷◌, ℕ, [], None, List as Seq, is_some, map, OnOk};
 
 use crate::first::First;
-use crate::names::MetNames;
+use crate::names::Names;
 use cam_base::{NoMemory, TextCode};
 use capdl_lexer::Span;
 use capdl_text::{
@@ -20,30 +20,21 @@ use capdl_text::{
 use name_tables::KeySet;
 use std::alloc::Global;
 
-/// Takes the next name, or notes that it was met before.
-fn meet_name<'x>(
+/// Takes the next name with its value, or notes that it was met before.
+pub(crate) fn meet_name<'x, V: Drop>(
     alloc: Global,
     id: &Id<'x>,
-    met: &mut MetNames<'x>,
+    value: V,
+    met: &mut Names<'x, V>,
     first: &mut First,
 ) -> Result<(), NoMemory>
-    ensures first { OnOk result (first.new ≡ noted first.old (where_true (is_among met.old id.now.name)
+    ensures first { OnOk result (first.new ≡ noted first.old (where_true (is_some (found met.old id.now.name))
         (at_id code.CapdlTwice id.now))) }
-    ensures met { OnOk result ((n : Seq ℕ) → is_among met.new n ≡ (is_among met.old n || bytes_eq n id.now.name)) }
+    ensures met { OnOk result ((n : Seq ℕ) → found met.new n ≡ option_or (found met.old n) (found ((id.now.name, value) ∷ []) n)) }
 {
     let name = id.name.as_bytes();
-    if met.contains(name) {
+    if met.add(name, value)? {
         first.note(alloc, TextCode::CapdlTwice, id.place, name)?;
-    }
-    met.insert(name)
-}
-
-fn note_objects(alloc: Global, objects: &[ObjectLine], first: &mut First) -> Result<(), NoMemory>
-    ensures { OnOk result (first.new ≡ noted first.old (names_twice (map (λ o. o.id) objects.now))) }
-{
-    let mut met = MetNames::new(alloc);
-    for object in objects {
-        meet_name(alloc, &object.id, &mut met, first)?;
     }
     Ok(())
 }
@@ -51,9 +42,9 @@ fn note_objects(alloc: Global, objects: &[ObjectLine], first: &mut First) -> Res
 fn note_holders(alloc: Global, holders: &[Holder], first: &mut First) -> Result<(), NoMemory>
     ensures { OnOk result (first.new ≡ noted first.old (names_twice (map (λ h. h.id) holders.now))) }
 {
-    let mut met = MetNames::new(alloc);
+    let mut met = Names::new(alloc);
     for holder in holders {
-        meet_name(alloc, &holder.id, &mut met, first)?;
+        meet_name(alloc, &holder.id, (), &mut met, first)?;
     }
     Ok(())
 }
@@ -61,9 +52,9 @@ fn note_holders(alloc: Global, holders: &[Holder], first: &mut First) -> Result<
 fn note_irq_objects(alloc: Global, lines: &[IrqLine], first: &mut First) -> Result<(), NoMemory>
     ensures { OnOk result (first.new ≡ noted first.old (names_twice (map (λ l. l.object) lines.now))) }
 {
-    let mut met = MetNames::new(alloc);
+    let mut met = Names::new(alloc);
     for line in lines {
-        meet_name(alloc, &line.object, &mut met, first)?;
+        meet_name(alloc, &line.object, (), &mut met, first)?;
     }
     Ok(())
 }
@@ -264,12 +255,18 @@ fn note_all_slots(alloc: Global, holders: &[Holder], first: &mut First) -> Resul
     Ok(())
 }
 
-/// Notes what stands a second time.
-#[tactic(auto, using(capdl_text::proofs::Noting::noting))]
-pub(crate) fn note_twices(alloc: Global, tree: &SpecTree, first: &mut First) -> Result<(), NoMemory>
+/// Notes what stands a second time, where the names of objects that do are noted by themselves.
+#[tactic(auto, using(capdl_text::proofs::Noting::noting, crate::proofs::Checked::merged))]
+pub(crate) fn note_twices(
+    alloc: Global,
+    tree: &SpecTree,
+    objects: First,
+    first: &mut First,
+) -> Result<(), NoMemory>
+    requires { objects ≡ noted None (names_twice (map (λ o. o.id) tree.now.objects)) }
     ensures { OnOk result (first.new ≡ noted first.old (twices tree.now)) }
 {
-    note_objects(alloc, tree.objects.as_slice(), first)?;
+    first.merge(objects);
     note_all_fields(alloc, tree.objects.as_slice(), first)?;
     note_holders(alloc, tree.holders.as_slice(), first)?;
     note_all_slots(alloc, tree.holders.as_slice(), first)?;

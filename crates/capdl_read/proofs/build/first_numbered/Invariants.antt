@@ -1,0 +1,6 @@
+use Rattle.std.proofs.Common.{◌≡◌, drop}
+use Rattle.capdl_read.specs.Building.{first_numbered}
+use Rattle.capdl_read.proofs.build.first_numbered.Given as goal
+
+abbrev pub invariant-loop-slot : goal.invariant-loop-slot
+invariant-loop-slot l = first_numbered (drop l.slot-index l.slots) ≡ first_numbered l.slots

@@ -1,0 +1,6 @@
+use Rattle.std.proofs.Common.{◌≡◌, drop}
+use Rattle.capdl_text.specs.Meaning.{badge_said}
+use Rattle.capdl_read.proofs.held.badge_said.Given as goal
+
+abbrev pub invariant-loop-param : goal.invariant-loop-param
+invariant-loop-param l = badge_said (drop l.param-index l.params) ≡ badge_said l.params
