@@ -15,6 +15,7 @@ use Rattle.policy_text.specs.declared.read.Noted.{Noted}
 use Rattle.policy_text.specs.declared.seen.Seen.{Seen}
 use Rattle.policy_text.specs.declared.words.Words.{Words}
 use Rattle.policy_text.specs.Entries.{Number, Entry, label, object, edge}
+use Rattle.policy_text.specs.KnownNumbers.{IsNear}
 use Rattle.policy_text.specs.LinesSeen.{HasFewEdges, IsSeen, IsLineJudged}
 use Rattle.policy_text.specs.PolicyFaults.{Told, edges_limit, is_edge, wrong_entry, first_wrong}
 use Rattle.policy_text.specs.PolicyTexts.{said, told, form_fault, has_label, IsFault}
@@ -106,13 +107,14 @@ no_edges kind line e n says apart =
     let none : one_if (is_edge e) ≡ 0 = ap one_if apart in
     omega (arith, one, none)
 
-pub noted_label : (kind : Kind) (line : Line) (old : Noted) (numbers : Words) (n name : List ℕ) → said kind line ≡ Some (label n name) → IsAdded n old.numbers numbers
-    → IsNoted kind line old (record { numbers = numbers; edges = old.edges }) (Ok tt)
-noted_label kind line old numbers n name says added = (
+pub noted_label : (kind : Kind) (line : Line) (old new : Noted) (n name : List ℕ) → said kind line ≡ Some (label n name) → IsAdded n old.numbers new.numbers → new.edges ≡ old.edges
+    → (IsNear old.near.items old.numbers → IsNear new.near.items new.numbers) → IsNoted kind line old new (Ok tt)
+noted_label kind line old new n name says added edges near = (
   form_some kind line (label n name) says,
   λ m. added.each m ∙ or_comm (bytes_eq n m) (has old.numbers m)
       ∙ ap (λ b. has old.numbers m || b) (sym (ap (λ ts. has_label ts m) (told_one kind line (label n name) says) ∙ or_false (bytes_eq n m))),
-  λ le. no_edges kind line (label n name) old.edges says refl,
+  λ le. edges ∙ no_edges kind line (label n name) old.edges says refl,
+  near,
 )
 
 same_numbers : (kind : Kind) (line : Line) (set : Words) (e : Entry) → said kind line ≡ Some e → ((m : List ℕ) → has_label ((line, e) ∷ []) m ≡ false)
@@ -124,13 +126,14 @@ noted_object kind line old word n says = (
   form_some kind line (object word n) says,
   same_numbers kind line old.numbers (object word n) says (λ m. refl),
   λ le. no_edges kind line (object word n) old.edges says refl,
+  λ near. near,
 )
 
 capped : (n m : ℕ) → n ≡ min (m + 1) 18446744073709551615 → n ≤ edges_limit → n ≡ m + 1
 capped n m is le = omega arith
 
 pub noted_edge : (kind : Kind) (line : Line) (old : Noted) (edges : ℕ) (l : List ℕ) (a : Authority) (m : List ℕ) → said kind line ≡ Some (edge l a m)
-    → edges ≡ min (old.edges + 1) 18446744073709551615 → IsNoted kind line old (record { numbers = old.numbers; edges = edges }) (Ok tt)
+    → edges ≡ min (old.edges + 1) 18446744073709551615 → IsNoted kind line old (record { numbers = old.numbers; near = old.near; edges = edges }) (Ok tt)
 noted_edge kind line old edges l a m says is = (
   form_some kind line (edge l a m) says,
   same_numbers kind line old.numbers (edge l a m) says (λ n. refl),
@@ -138,6 +141,7 @@ noted_edge kind line old edges l a m says is = (
       let one : count_by (λ t. is_edge t.1) (told kind (line ∷ [])) ≡ 1 = ap (count_by (λ t. is_edge t.1)) (told_one kind line (edge l a m) says) in
       let more : edges ≡ old.edges + 1 = capped edges old.edges is le in
       omega (arith, one, more),
+  λ near. near,
 )
 
 -- ---- the lines behind it

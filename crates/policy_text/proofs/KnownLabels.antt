@@ -1,10 +1,10 @@
 -- The numbers of labels, after one label more.
-use Rattle.std.proofs.Common.{◌≡◌, ◌∙◌, ap, sym, refl, ℕ, ◌+◌, ◌<◌, ◌^◌, ◌==◌, nat_lt, Bool, true, false, cond, ◌||◌, List, [], ◌∷◌, length, take, get_or, is_some, arith}
+use Rattle.std.proofs.Common.{◌≡◌, ◌∙◌, ap, sym, refl, ℕ, ◌+◌, ◌<◌, ◌^◌, ◌==◌, nat_lt, Bool, true, false, cond, ◌||◌, List, [], ◌∷◌, length, take, get_or, is_some, inl, inr, arith}
 use Rattle.std.specs.BTreeMap.{is_at}
 use Rattle.std.specs.BTreeSet.{BTreeSet, contains, Updates}
 use Rattle.std.specs.List.{list_any}
 use Rattle.std.specs.Ordering.{nat_cmp, is_eq}
-use Rattle.std.proofs.lemmas.Bool.{eqb-true}
+use Rattle.std.proofs.lemmas.Bool.{cases_lt, eqb-true}
 use Rattle.std.proofs.lemmas.Bool.Decides.{nat_tests}
 use Rattle.std.proofs.lemmas.List.Folds.{list_any_more}
 use Rattle.std.proofs.Math.Bool.{or_comm}
@@ -48,3 +48,18 @@ small_more old new k few small updates n h = go (k == n) refl
     go : (b : Bool) → (k == n) ≡ b → n < 2 ^ 32
     go true e = let same : k ≡ n = eqb-true k n e in omega arith
     go false e = small n (ap (λ (b : Bool). b || contains nat_cmp old n) (sym e) ∙ sym (has_more old new k n updates) ∙ h)
+
+-- one number more that has a label
+eqb-self : (a b : ℕ) → a ≡ b → (a == b) ≡ true
+eqb-self a b same = grind (arith, nat_tests)
+
+pub near_more : (old new : List (ℕ × List ℕ)) (near : ℕ) → ((n : ℕ) → is_some (label_name new n) ≡ (near == n || is_some (label_name old n)))
+    → ((n : ℕ) → n < near → is_some (label_name old n) ≡ true) → (n : ℕ) → n < near + 1 → is_some (label_name new n) ≡ true
+near_more old new near more below n less = elim (cases_lt n near) [
+  | inl before ↦ more n ∙ ap (λ b. near == n || b) (below n before) ∙ or_comm (near == n) true
+  | inr ge ↦ let same : near ≡ n = omega arith in more n ∙ ap (λ b. b || is_some (label_name old n)) (eqb-self near n same)
+]
+
+pub near_kept : (old new : List (ℕ × List ℕ)) (near k : ℕ) → ((n : ℕ) → is_some (label_name new n) ≡ (k == n || is_some (label_name old n)))
+    → ((n : ℕ) → n < near → is_some (label_name old n) ≡ true) → (n : ℕ) → n < near → is_some (label_name new n) ≡ true
+near_kept old new near k more below n less = more n ∙ ap (λ b. k == n || b) (below n less) ∙ or_comm (k == n) true

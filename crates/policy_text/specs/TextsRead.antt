@@ -2,6 +2,7 @@
 use Rattle.std.specs.Prelude.{◌≡◌, ◌≤◌, ◌+◌, ℕ, ◌||◌, List, [], ◌∷◌, count_by, Option, None, Result, Ok, Err}
 use Rattle.cam_base.specs.declared.error.Refused.{Refused}
 use Rattle.cam_base.specs.declared.text_fault.TextFault.{TextFault}
+use Rattle.policy_text.specs.KnownNumbers.{IsNear}
 use Rattle.policy_text.specs.PolicyFaults.{edges_limit, is_edge}
 use Rattle.policy_text.specs.PolicyTexts.{told, form_fault, has_label, IsFault}
 use Rattle.policy_text.specs.WordSets.{has}
@@ -21,6 +22,7 @@ IsNoted kind line old new (Ok _) =
     (form_fault kind (line ∷ []) ≡ None)
     × ((n : List ℕ) → has new.numbers n ≡ (has old.numbers n || has_label (told kind (line ∷ [])) n))
     × (new.edges ≤ edges_limit → new.edges ≡ old.edges + count_by (λ t. is_edge t.1) (told kind (line ∷ [])))
+    × (IsNear old.near.items old.numbers → IsNear new.near.items new.numbers)
 IsNoted kind line old new (Err refusal) = IsFault (form_fault kind (line ∷ [])) refusal
 
 -- the numbers of all label lines and how many edge lines there are, or the first line that says nothing
@@ -29,4 +31,5 @@ AreNoted kind lines (Ok noted) =
     (form_fault kind lines ≡ None)
     × ((n : List ℕ) → has noted.numbers n ≡ has_label (told kind lines) n)
     × (noted.edges ≤ edges_limit → count_by (λ t. is_edge t.1) (told kind lines) ≡ noted.edges)
+    × IsNear noted.near.items noted.numbers
 AreNoted kind lines (Err refusal) = IsFault (form_fault kind lines) refusal

@@ -1,11 +1,13 @@
 //! Which numbers have a label.
 
-ghost use Rattle.policy_text.specs.KnownNumbers.{knows, IsSmall};
+ghost use Rattle.policy_text.specs.KnownNumbers.{knows, IsRight, IsSmall};
 ghost use Rattle.policy_text.specs.Entries.{value};
 ghost use Rattle.auth_kinds.specs.Policies.{label_name};
 ghost use Rattle.std.specs.BTreeSet.{contains};
+ghost use Rattle.std.specs.List.{list_any};
 ghost use Rattle.std.specs.Option.{is_some};
 ghost use Rattle.std.specs.Ordering.{nat_cmp};
+ghost use Rattle.std.specs.Str.{bytes_eq};
 ghost use Rattle.std.specs.Prelude.{◌≡◌, ◌<◌, ◌^◌, true, ℕ, IfOk};
 
 use crate::words::Words;
@@ -13,26 +15,59 @@ use cam_base::{NoMemory, Text, read_number};
 use std::alloc::Global;
 use std::collections::BTreeSet;
 
-/// The numbers that have a label: those of a text's label lines as they are written, or those of a policy.
+/// The numbers that have a label: those of a text's label lines as they are written, or those of a policy. Most stand one
+/// behind another from 0 on, and are found by their place.
 #[derive(Drop)]
 pub enum Known<'a> {
-    Lines(Words<'a>),
-    Labels(BTreeSet<u64>),
+    Lines {
+        numbers: Words<'a>,
+        near: Vec<&'a [u8]>,
+    },
+    Labels {
+        numbers: BTreeSet<u64>,
+        near: u64,
+    },
 }
 
 impl Known<'_> {
     /// Whether the number has a label. Takes no memory.
     pub fn has(&self, number: &[u8]) -> bool
+        requires { IsRight self.now }
         ensures { result ≡ knows self.now number.now }
     {
         match self {
-            Known::Lines(numbers) => numbers.has(number),
-            Known::Labels(numbers) => match read_number(number) {
-                Some(value) => numbers.contains(&value),
+            Known::Lines { numbers, near } => {
+                is_near(near.as_slice(), number) || numbers.has(number)
+            }
+            Known::Labels { numbers, near } => match read_number(number) {
+                Some(value) => value < *near || numbers.contains(&value),
                 None => false,
             },
         }
     }
+}
+
+/// Whether the number stands at its place.
+fn is_near(near: &[&[u8]], number: &[u8]) -> bool
+    ensures { result ≡ true → list_any (λ w. bytes_eq w.now number.now) near.now ≡ true }
+{
+    match read_number(number) {
+        Some(place) if place < near.len() as u64 => near[place as usize] == number,
+        _ => false,
+    }
+}
+
+/// How many numbers from 0 on have a label, at least.
+pub fn near_labels(labels: &[(u32, Text)]) -> u64
+    ensures { (n : ℕ) → n < result → is_some (label_name labels.now n) ≡ true }
+{
+    let mut near: u64 = 0;
+    for label in labels {
+        if u64::from(label.0) == near {
+            near += 1;
+        }
+    }
+    near
 }
 
 /// The numbers of labels.

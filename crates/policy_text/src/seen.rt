@@ -3,7 +3,7 @@
 ghost use Rattle.auth_kinds.specs.declared.authority.Authority.{Authority};
 ghost use Rattle.policy_text.specs.Entries.{Number, label, object, edge};
 ghost use Rattle.policy_text.specs.EntriesRead.{meant};
-ghost use Rattle.policy_text.specs.KnownNumbers.{knows};
+ghost use Rattle.policy_text.specs.KnownNumbers.{knows, IsRight};
 ghost use Rattle.policy_text.specs.LinesSeen.{HasFewEdges, HasRoom, IsSeen, Takes, what, IsLineJudged};
 ghost use Rattle.policy_text.specs.PolicyFaults.{Told, edges_limit, new_edges, says_edge, wrong_entry};
 ghost use Rattle.policy_text.specs.PolicyTexts.{told};
@@ -66,6 +66,7 @@ impl<'a> Seen<'a> {
         known: &Known,
         line: Line<'a>,
     ) -> Result<(), Refused<TextFault>>
+        requires { IsRight known.now }
         ensures judged { (before : List Told) → IsSeen self.old before
             → (is_none self.old.edges ≡ true → HasFewEdges (before ++ told kind (line_of line.entry ∷ [])))
             → IsLineJudged kind (knows known.now) before (line_of line.entry) self.new result }
@@ -82,6 +83,7 @@ impl<'a> Seen<'a> {
 
     /// What is wrong with the entry of a line: the least code, and the name that its fault speaks of.
     fn wrong(&self, known: &Known, text: &'a [u8], entry: Entry<'a>) -> Option<(TextCode, &'a [u8])>
+        requires { IsRight known.now }
         ensures { (before : List Told) (line : SpecLine) → line.text ≡ text.entry.now → IsSeen self.now before
             → (is_none self.now.edges ≡ true → HasFewEdges (before ++ (line, meant entry.entry) ∷ []))
             → what result ≡ wrong_entry (knows known.now) before line (meant entry.entry) }
@@ -112,6 +114,7 @@ impl<'a> Seen<'a> {
         word: &'a [u8],
         number: &'a [u8],
     ) -> Option<(TextCode, &'a [u8])>
+        requires { IsRight known.now }
         ensures { (before : List Told) (line : SpecLine) → IsSeen self.now before
             → what result ≡ wrong_entry (knows known.now) before line (object word.entry.now number.entry.now) }
     {
@@ -133,6 +136,7 @@ impl<'a> Seen<'a> {
         from: &'a [u8],
         to: &'a [u8],
     ) -> Option<(TextCode, &'a [u8])>
+        requires { IsRight known.now }
         ensures { (before : List Told) (line : SpecLine) (a : Authority) → line.text ≡ text.now → IsSeen self.now before
             → (is_none self.now.edges ≡ true → HasRoom before)
             → what result ≡ wrong_entry (knows known.now) before line (edge from.entry.now a to.entry.now) }

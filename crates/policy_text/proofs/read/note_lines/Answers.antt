@@ -14,6 +14,7 @@ loop-line-preserved c = record {
   edges =
       edges_step c.args.kind (line_of c.in-Some.line) (lines_left c.loop-line.line-iterator) (lines_left c.next.new.self) c.loop-line.noted.edges c.note_line.new.noted.edges
       (count_by (λ t. is_edge t.1) (told c.args.kind (body c.args.bytes.now))) c.in-Some.ensures.steps c.loop-line.invariant.edges c.in_ok-note_line.ensures.2;
+  near = c.in_ok-note_line.ensures.3 c.loop-line.invariant.near;
 }
 
 pub returns-in_err-note_line : goal.returns-in_err-note_line

@@ -19,5 +19,8 @@ returns-clause-kept c =
     (policy_read c.in_ok-noted.noted.numbers c.args.bytes.now c.in_ok-parts.parts c.in_ok-into_policy.field-0 c.in_ok-check_head.ensures c.in_ok-noted.ensures.0 c.in_ok-noted.ensures.1
     c.in_ok-check_lines.ensures c.in_ok-parts.ensures c.in_ok-into_policy.ensures).1
 
-pub check_lines-requires : goal.check_lines-requires
-check_lines-requires c = few_noted (told kinds.Policy (body c.args.bytes.now)) c.in_ok-noted.noted.edges c.in_ok-noted.ensures.2
+pub check_lines-requires-clause-few : goal.check_lines-requires-clause-few
+check_lines-requires-clause-few c = few_noted (told kinds.Policy (body c.args.bytes.now)) c.in_ok-noted.noted.edges c.in_ok-noted.ensures.2
+
+pub check_lines-requires-clause-known : goal.check_lines-requires-clause-known
+check_lines-requires-clause-known c = c.in_ok-noted.ensures.3

@@ -1,0 +1,6 @@
+use Rattle.std.proofs.Common.{◌≡◌, ◌<◌, ℕ, true, take, is_some}
+use Rattle.auth_kinds.specs.Policies.{label_name}
+use Rattle.policy_text.proofs.known.near_labels.Given as goal
+
+abbrev pub invariant-loop-label : goal.invariant-loop-label
+invariant-loop-label l = (n : ℕ) → n < l.near → is_some (label_name (take l.label-index l.labels) n) ≡ true
