@@ -2,7 +2,7 @@
 use Rattle.std.proofs.Common.{◌≡◌, ◌∙◌, ◌⊎◌, ◌<◌, ◌≤◌, ◌==◌, ℕ, ◌+◌, Bool, true, false, List, [], ◌∷◌, ◌++◌, Option, Some, None, length, slice_get, get_or, set, map, if◌then◌else◌, refl, sym, ap, subst, inl, inr, arith, length-append}
 use Rattle.std.proofs.Math.ListN.{get_or-map}
 use Rattle.std.proofs.Math.Seq.{get_or-append_seam}
-use Rattle.std.proofs.lemmas.Bool.{cases_eq, cases_lt, cases_Bool, eqb-true, eqb-false}
+use Rattle.std.proofs.lemmas.Bool.{cases_eq, cases_lt, eqb-true, eqb-false}
 use Rattle.std.proofs.lemmas.List.{get_or_past, get_or-set_other, get_or-set_same, get_or_append_left, length-set, set_past}
 use Rattle.cap_model.specs.Kept.{IsKept}
 use Rattle.cap_model.specs.declared.spec.Spec.{Spec}
@@ -10,7 +10,7 @@ use Rattle.cap_spread.specs.Covering.{AreAlike, AreRoots}
 use Rattle.cap_spread.specs.Search.{Found, IsFound, bare, is_known}
 use Rattle.cap_spread.specs.Spread.{HasRoot}
 use Rattle.cap_spread.specs.Start.{repeated}
-use Rattle.cap_spread.proofs.Beginning.{repeated_at, repeated_length}
+use Rattle.cap_spread.proofs.Beginning.{repeated_length}
 use Rattle.cap_audit.specs.Gates.{with_more}
 use Rattle.cap_audit.specs.Kinds.{AreFirsts, AreHeadRoots, AreHeads, AreLeft, AreMembers, AreRootMarks, AreRows, AreStandIns, IsLike, IsQueued, StandsFor, root_mark, stand_in}
 use Rattle.cap_audit.specs.Rows.{row_at}

@@ -1,5 +1,5 @@
 -- Those for whom one stands call those for whom another stands.
-use Rattle.std.proofs.Common.{◌≡◌, ◌≢◌, ◌∙◌, ◌<◌, ◌≤◌, ◌==◌, ℕ, ◌+◌, Bool, true, false, List, [], ◌∷◌, ◌++◌, Some, length, slice_get, get_or, drop, drop-cons, add-one, refl, sym, ap, subst, inl, inr, zero, suc}
+use Rattle.std.proofs.Common.{◌≡◌, ◌≢◌, ◌∙◌, ◌<◌, ◌≤◌, ◌==◌, ℕ, ◌+◌, Bool, true, false, List, [], ◌∷◌, Some, length, slice_get, get_or, drop, drop-cons, add-one, refl, sym, ap, subst, inl, inr, zero, suc}
 use Rattle.std.specs.List.{Contains, filter_map}
 use Rattle.std.proofs.lemmas.Bool.{eqb-false, eqb-true}
 use Rattle.std.proofs.lemmas.Option.{slice_get_within}
@@ -13,7 +13,7 @@ use Rattle.cap_spread.specs.declared.found.Held.{Held}
 use Rattle.cap_spread.specs.declared.found.Pair.{Pair}
 use Rattle.cap_audit.specs.Gains.{AtPlace, Below, Gains, IsSoFar, Made, OfSome}
 use Rattle.cap_audit.specs.Gates.{AreMet, ArePlaces, AreReady, Between, Greets, MeetBy, Meets, OfKinds, with_more}
-use Rattle.cap_audit.specs.Kinds.{IsQueued, stand_in}
+use Rattle.cap_audit.specs.Kinds.{IsQueued}
 use Rattle.cap_audit.specs.Picks.{place_in, place_of}
 use Rattle.cap_audit.specs.Rows.{row_at}
 use Rattle.cap_audit.specs.declared.gates.Place.{Place}

@@ -1,4 +1,4 @@
-use Rattle.std.proofs.Common.{◌≡◌, ◌+◌, ℕ, List, subst, sym, arith, length, ◌∙◌, ap, slice_index, get_or}
+use Rattle.std.proofs.Common.{◌≡◌, ◌+◌, ℕ, List, subst, sym, arith, length}
 use Rattle.cap_audit.specs.Kinds.{AreFirsts, AreRows, IsLike}
 use Rattle.cap_audit.proofs.Kinding.{firsts_more, firsts_none, rows_more, rows_none}
 use Rattle.cap_audit.proofs.kinds.firsts_in.Goals as goal

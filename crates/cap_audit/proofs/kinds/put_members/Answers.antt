@@ -1,6 +1,6 @@
-use Rattle.std.proofs.Common.{◌≡◌, ℕ, length, get_or, subst, sym, arith}
+use Rattle.std.proofs.Common.{◌≡◌, ℕ, length, get_or, subst, arith}
 use Rattle.std.proofs.lemmas.List.{get_or_default}
-use Rattle.cap_audit.specs.Kinds.{AreMembers, stand_in}
+use Rattle.cap_audit.specs.Kinds.{AreMembers}
 use Rattle.cap_audit.proofs.Kinding.{members_more, members_none}
 use Rattle.cap_audit.proofs.kinds.put_members.Goals as goal
 

@@ -1,4 +1,4 @@
-use Rattle.std.proofs.Common.{length, get_or, sym, subst, arith}
+use Rattle.std.proofs.Common.{get_or, sym, subst, arith}
 use Rattle.std.proofs.lemmas.Option.{slice_get-get_or}
 use Rattle.cap_audit.specs.Gains.{AtPlace, Made}
 use Rattle.cap_audit.specs.Gates.{AreMet, AreReady, Greets, MeetBy, OfKinds}

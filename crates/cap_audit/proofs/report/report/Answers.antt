@@ -1,5 +1,4 @@
 use Rattle.std.proofs.Common.{◌≡◌, ◌∙◌, ℕ, List, [], ap, length, subst, sym}
-use Rattle.cap_spread.specs.Covering.{AreAlike}
 use Rattle.cap_spread.specs.Search.{bare}
 use Rattle.cap_spread.specs.Spread.{HoldsNoThread}
 use Rattle.cap_audit.specs.Gains.{Made}
