@@ -16,6 +16,7 @@ mod limit;
 mod names;
 mod range;
 mod reader;
+mod rising;
 mod twice;
 mod unknown;
 

@@ -11,6 +11,7 @@ ghost use Rattle.std.specs.Prelude.{◌≡◌, ◌||◌, ◌∷◌, ℕ, [], Non
 
 use crate::first::First;
 use crate::names::Names;
+use crate::rising::rise;
 use cam_base::{NoMemory, TextCode};
 use capdl_lexer::Span;
 use capdl_text::{
@@ -176,6 +177,9 @@ fn note_slots(
 ) -> Result<(), NoMemory>
     ensures { OnOk result (first.new ≡ noted first.old (keys_twice name.now (map slot_keyed slots.now))) }
 {
+    if rise(slots) {
+        return Ok(());
+    }
     let mut met = KeySet::new(alloc);
     for slot in slots {
         meet_key(
