@@ -1,0 +1,7 @@
+use Rattle.std.proofs.Common.{◌≡◌, ◌++◌, take}
+use Rattle.std.specs.List.{flat_map}
+use Rattle.domain_table.specs.Rows.{cell}
+use Rattle.domain_table.proofs.row.add_cells.Given as goal
+
+abbrev pub invariant-loop-cell : goal.invariant-loop-cell
+invariant-loop-cell l = l.text ≡ l.fn.text ++ flat_map (λ c. cell c.now) (take l.cell-index l.cells)

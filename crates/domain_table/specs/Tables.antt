@@ -1,0 +1,204 @@
+-- The tables of a domain: its slots, its threads, its windows, and its pages. What each slot, thread and window is of is said by
+-- the map, the capabilities and the registers of threads by the spec.
+--
+--   domain c: cnode_0, pd_0
+--
+--   | slot | object | rights | badge | of |
+--   |---|---|---|---|---|
+--   | 0x1 | ep_0 | WP | 1 | c.e k |
+--
+--   | thread | object | entry | stack | buffer |
+--   |---|---|---|---|---|
+--   | c | tcb_0 | 0x10000 | 0x40002000 | 0x40003000 |
+--
+--   | window | address | bytes |
+--   |---|---|---|
+--
+--   | page | frame | rights | holds |
+--   |---|---|---|---|
+--   | 0x10000 | frame_0 | R | Client 0x1000 2048 |
+use Rattle.std.specs.Prelude.{ℕ, ◌==◌, Bool, false, if◌then◌else◌, List, [], ◌∷◌, ◌++◌, codes, decimal, find, map, Option, Some, None, slice_get}
+use Rattle.std.specs.List.{flat_map, position}
+use Rattle.std.specs.Option.{option_and_then, option_map_or}
+use Rattle.std.specs.Str.{bytes_eq}
+use Rattle.adl_meaning.specs.declared.flat.Flat.{Flat}
+use Rattle.adl_meaning.specs.declared.flat.FlatEnd.{FlatEnd}
+use Rattle.cam_base.specs.Hex.{hex_text}
+use Rattle.cam_base.specs.Paths.{joined}
+use Rattle.cam_base.specs.Texts.{together}
+use Rattle.cap_model.specs.declared.cap.Cap.{Cap}
+use Rattle.cap_model.specs.declared.object.Object.{Object}
+use Rattle.cap_model.specs.declared.object.Object.TheVariants.{Endpoint, Notification, CNode, Thread, Frame, Pages, Irq}
+use Rattle.cap_model.specs.declared.spec.Spec.{Spec}
+use Rattle.cap_model.specs.Lookup.{name_at, object_at}
+use Rattle.cap_model.specs.RightsWord.{rights_word}
+use Rattle.leaf_ends.specs.declared.end_at.EndAt.{EndAt}
+use Rattle.leaf_ends.specs.Lookups.{end_of}
+use Rattle.system_spec.specs.MapText.{Named, connection_path, leaf_path, member_name}
+use Rattle.system_spec.specs.Names.{name_of, root_series}
+use Rattle.system_spec.specs.declared.map_line.MapLine.{MapLine}
+use Rattle.system_spec.specs.declared.map_line.MapLine.TheVariants.{DomainLine, ThreadLine, SlotLine, OwnLine, WindowLine}
+use Rattle.system_spec.specs.declared.series.Series.TheVariants as series
+use Rattle.domain_table.specs.Pages.{rows_of_space}
+use Rattle.domain_table.specs.Rows.{row}
+
+-- ---- what is inside the domain
+
+abbrev pub is_number : ℕ → Option ℕ → Bool
+is_number d None = false
+is_number d (Some n) = n == d
+
+-- whether the domain with this number has the leaf
+abbrev pub has_leaf : Flat → ℕ → ℕ → Bool
+has_leaf flat d leaf = is_number d (option_and_then (λ x. x.domain) (slice_get flat.leaves leaf))
+
+-- whether it has the leaf at which end n of connection k stands
+abbrev pub has_end : Flat → ℕ → ℕ → ℕ → Bool
+has_end flat d k n = option_map_or (λ x. has_leaf flat d x.1.leaf) (end_of flat k n) false
+
+-- the texts of the labels of all domains, and the number of the domain with this one
+abbrev pub domain_labels : Flat → List (List ℕ)
+domain_labels flat = map (λ x. joined x.path) flat.domains
+
+abbrev pub domain_called : Flat → List ℕ → Option ℕ
+domain_called flat label = position (λ t. bytes_eq t label) (domain_labels flat)
+
+-- ---- words
+
+abbrev pub leaf_text : Flat → ℕ → List ℕ
+leaf_text flat leaf = joined (leaf_path flat leaf)
+
+-- `c.e k`, of an end of connection k
+abbrev pub joined_text : Named → ℕ → FlatEnd → List ℕ
+joined_text n k end = together (
+    leaf_text n.flat end.leaf ∷ codes "." ∷ member_name n end.leaf end.member ∷ codes " " ∷ joined (connection_path n.flat k)
+    ∷ [])
+
+-- of end e of connection k
+abbrev pub end_text : Named → ℕ → ℕ → List ℕ
+end_text n k e = option_map_or (λ x. joined_text n k x.1) (end_of n.flat k e) []
+
+-- `c.m`, of a lock
+abbrev pub lock_text : Named → ℕ → ℕ → List ℕ
+lock_text n leaf member = together (leaf_text n.flat leaf ∷ codes "." ∷ member_name n leaf member ∷ [])
+
+-- `c`, or `s.e k` of a thread that serves at an end
+abbrev pub thread_text : Named → ℕ → Option EndAt → List ℕ
+thread_text n leaf None = leaf_text n.flat leaf
+thread_text n leaf (Some e) = end_text n e.connection e.end
+
+-- ---- slots
+
+-- the slots of a CNode, none of anything else
+abbrev pub cnode_slots : Option Object → List (ℕ × Cap)
+cnode_slots (Some (CNode bits slots)) = slots
+cnode_slots (Some Endpoint) = []
+cnode_slots (Some Notification) = []
+cnode_slots (Some (Thread tcb)) = []
+cnode_slots (Some (Frame paddr fill)) = []
+cnode_slots (Some (Pages level slots)) = []
+cnode_slots (Some (Irq notification)) = []
+cnode_slots None = []
+
+-- a slot of a domain's CNode, which stands at the place of the domain's number
+abbrev pub cap_in : Spec → ℕ → ℕ → Option (ℕ × Cap)
+cap_in spec d slot = find (λ s. s.0 == slot) (cnode_slots (object_at spec d))
+
+abbrev pub rights_of : Option (ℕ × Cap) → List ℕ
+rights_of None = []
+rights_of (Some x) = rights_word x.1.rights
+
+abbrev pub badge_of : Option (ℕ × Cap) → ℕ
+badge_of None = 0
+badge_of (Some x) = x.1.badge
+
+-- `| 0x1 | ep_0 | WP | 1 | c.e k |`
+abbrev pub slot_row : Spec → ℕ → ℕ → ℕ → List ℕ → List ℕ
+slot_row spec d slot object text = row (
+    hex_text slot ∷ name_at spec object ∷ rights_of (cap_in spec d slot) ∷ decimal (badge_of (cap_in spec d slot)) ∷ text ∷ [])
+
+-- of a line of the map, where it tells of a slot of the domain
+abbrev pub slot_line : Named → ℕ → MapLine → List ℕ
+slot_line n d (SlotLine k e slot object) = if has_end n.flat d k e then slot_row n.spec d slot object (end_text n k e) else []
+slot_line n d (OwnLine leaf m slot object) =
+    if has_leaf n.flat d leaf then slot_row n.spec d slot object (lock_text n leaf m) else []
+slot_line n d (DomainLine x) = []
+slot_line n d (ThreadLine tcb leaf end) = []
+slot_line n d (WindowLine k e vaddr bytes) = []
+
+-- ---- threads
+
+-- `| c | tcb_0 | 0x10000 | 0x40002000 | 0x40003000 |`: the entry, the stack's end and the address of the IPC buffer of a thread
+abbrev pub registers_row : List ℕ → List ℕ → Option Object → List ℕ
+registers_row text name (Some (Thread tcb)) = row (text ∷ name ∷ hex_text tcb.ip ∷ hex_text tcb.sp ∷ hex_text tcb.addr ∷ [])
+registers_row text name (Some Endpoint) = []
+registers_row text name (Some Notification) = []
+registers_row text name (Some (CNode bits slots)) = []
+registers_row text name (Some (Frame paddr fill)) = []
+registers_row text name (Some (Pages level slots)) = []
+registers_row text name (Some (Irq notification)) = []
+registers_row text name None = []
+
+abbrev pub thread_row : Named → ℕ → List ℕ → List ℕ
+thread_row n tcb text = registers_row text (name_at n.spec tcb) (object_at n.spec tcb)
+
+abbrev pub thread_line : Named → ℕ → MapLine → List ℕ
+thread_line n d (ThreadLine tcb leaf end) = if has_leaf n.flat d leaf then thread_row n tcb (thread_text n leaf end) else []
+thread_line n d (DomainLine x) = []
+thread_line n d (SlotLine k e slot object) = []
+thread_line n d (OwnLine leaf m slot object) = []
+thread_line n d (WindowLine k e vaddr bytes) = []
+
+-- ---- windows
+
+-- `| c.d m | 0x40005000 | 4096 |`
+abbrev pub window_line : Named → ℕ → MapLine → List ℕ
+window_line n d (WindowLine k e vaddr bytes) =
+    if has_end n.flat d k e then row (end_text n k e ∷ hex_text vaddr ∷ decimal bytes ∷ []) else []
+window_line n d (DomainLine x) = []
+window_line n d (ThreadLine tcb leaf end) = []
+window_line n d (SlotLine k e slot object) = []
+window_line n d (OwnLine leaf m slot object) = []
+
+-- ---- pages
+
+-- the root of a domain's space has the domain's number
+abbrev pub root_name : Spec → ℕ → List ℕ
+root_name spec d = name_of (root_series spec.arch) d
+
+-- ---- all
+
+abbrev pub heading : Named → ℕ → List ℕ → List ℕ
+heading n d label = together (
+    codes "domain " ∷ label ∷ codes ": " ∷ name_of series.CNode d ∷ codes ", " ∷ root_name n.spec d ∷ codes "\n" ∷ [])
+
+-- the name of the table's columns, and the line that Markdown has below them
+abbrev pub slot_head : List ℕ
+slot_head = codes "\n| slot | object | rights | badge | of |\n|---|---|---|---|---|\n"
+
+abbrev pub thread_head : List ℕ
+thread_head = codes "\n| thread | object | entry | stack | buffer |\n|---|---|---|---|---|\n"
+
+abbrev pub window_head : List ℕ
+window_head = codes "\n| window | address | bytes |\n|---|---|---|\n"
+
+abbrev pub page_head : List ℕ
+page_head = codes "\n| page | frame | rights | holds |\n|---|---|---|---|\n"
+
+-- a table below its head
+abbrev pub with_slots : Named → List MapLine → ℕ → List ℕ → List ℕ
+with_slots n lines d text = (text ++ slot_head) ++ flat_map (slot_line n d) lines
+
+abbrev pub with_threads : Named → List MapLine → ℕ → List ℕ → List ℕ
+with_threads n lines d text = (text ++ thread_head) ++ flat_map (thread_line n d) lines
+
+abbrev pub with_windows : Named → List MapLine → ℕ → List ℕ → List ℕ
+with_windows n lines d text = (text ++ window_head) ++ flat_map (window_line n d) lines
+
+abbrev pub with_pages : Named → ℕ → List ℕ → List ℕ
+with_pages n d text = (text ++ page_head) ++ rows_of_space n.spec (root_name n.spec d)
+
+-- the tables of the domain with this number and this label
+abbrev pub tables_of : Named → List MapLine → ℕ → List ℕ → List ℕ
+tables_of n lines d label =
+    with_pages n d (with_windows n lines d (with_threads n lines d (with_slots n lines d (heading n d label))))

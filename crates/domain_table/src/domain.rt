@@ -1,0 +1,57 @@
+//! What is inside a domain.
+
+ghost use Rattle.domain_table.specs.Tables.{domain_called, domain_labels, has_end, has_leaf};
+ghost use Rattle.std.specs.List.{position};
+ghost use Rattle.std.specs.Prelude.{◌≡◌, ◌<◌, length, IfOk, IfSome};
+ghost use Rattle.std.specs.Str.{bytes_eq};
+
+use adl_meaning::Flat;
+use cam_base::{List, NoMemory, Text};
+use leaf_ends::end_of;
+use std::alloc::Global;
+
+/// Whether the domain has the leaf.
+pub(crate) fn has_leaf(flat: &Flat, domain: u32, leaf: u32) -> bool
+    ensures { result ≡ has_leaf flat.now domain leaf }
+{
+    match flat.leaves.as_slice().get(leaf as usize) {
+        Some(leaf) => leaf.domain == Some(domain),
+        None => false,
+    }
+}
+
+/// Whether the domain has the leaf at which the end stands.
+pub(crate) fn has_end(flat: &Flat, domain: u32, connection: u32, end: u32) -> bool
+    ensures { result ≡ has_end flat.now domain connection end }
+{
+    match end_of(flat, connection, end) {
+        Some((_, end)) => has_leaf(flat, domain, end.leaf),
+        None => false,
+    }
+}
+
+fn domain_labels(alloc: Global, flat: &Flat) -> Result<List<Text>, NoMemory>
+    ensures { IfOk result (λ labels. labels ≡ domain_labels flat.now) }
+{
+    let mut labels = List::new(alloc);
+    for domain in flat.domains.as_slice() {
+        labels.push(domain.path.text(alloc)?)?;
+    }
+    Ok(labels)
+}
+
+fn place_of(labels: &[Text], label: &[u8]) -> Option<usize>
+    ensures place { result ≡ position (λ t. bytes_eq t label.now) labels.now }
+    ensures below { IfSome result (λ place. place < length labels.now) }
+{
+    labels.iter().position(|text| text.as_bytes() == label)
+}
+
+/// The number of the domain with this label, `None` exactly where no domain has it.
+pub fn domain_called(alloc: Global, flat: &Flat, label: &[u8]) -> Result<Option<usize>, NoMemory>
+    ensures called { IfOk result (λ domain. domain ≡ domain_called flat.now label.now) }
+    ensures below { IfOk result (λ domain. IfSome domain (λ number. number < length flat.now.domains)) }
+{
+    let labels = domain_labels(alloc, flat)?;
+    Ok(place_of(labels.as_slice(), label))
+}

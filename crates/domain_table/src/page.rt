@@ -1,0 +1,172 @@
+//! The pages of a space.
+
+ghost use Rattle.cam_base.specs.Hex.{hex_text};
+ghost use Rattle.cap_model.specs.RightsWord.{rights_word};
+ghost use Rattle.domain_table.specs.Pages.{address, fill_text, frame_text, object_called, paddr_text, page_row, page_rows, rows_of_space, space_rows, steps, table_slots};
+ghost use Rattle.std.specs.Option.{option_map};
+ghost use Rattle.std.specs.Prelude.{◌≡◌, ◌++◌, IfOk, OnOk};
+
+use crate::row::add_row;
+use cam_base::{List, NoMemory, hex};
+use cap_model::{Arch, Cap, Fill, Object, Rights, Spec};
+use itoa::Buffer;
+use std::alloc::Global;
+use view_text::join;
+
+/// What a slot of each level spans, from the root down.
+fn steps(arch: Arch) -> &'static [u64]
+    ensures { result.now ≡ steps arch }
+{
+    match arch {
+        Arch::Arm11 => &[0x10_0000, 0x1000],
+        Arch::Aarch64 => &[0x80_0000_0000, 0x4000_0000, 0x20_0000, 0x1000],
+    }
+}
+
+fn address(at: u64, slot: u64, step: u64) -> u64
+    ensures { result ≡ address at slot step }
+{
+    at.wrapping_add(slot.wrapping_mul(step))
+}
+
+fn table_slots(object: Option<&Object>) -> &[(u64, Cap)]
+    ensures { result.now ≡ table_slots (option_map (λ o. o.now) object.entry) }
+{
+    match object {
+        Some(Object::Pages { slots, .. }) => slots.as_slice(),
+        _ => &[],
+    }
+}
+
+/// The hexadecimal text of a number, which stands in the buffer.
+pub(crate) fn hexadecimal(n: u64, buf: &mut [u8; 18]) -> &[u8]
+    ensures { result.now ≡ hex_text n }
+{
+    let end = hex(n, buf);
+    &buf[..end]
+}
+
+fn paddr_text(alloc: Global, paddr: Option<u64>) -> Result<List<u8>, NoMemory>
+    ensures { IfOk result (λ text. text ≡ paddr_text paddr) }
+{
+    let Some(paddr) = paddr else {
+        return Ok(List::new(alloc));
+    };
+    let mut digits = [0; 18];
+    join(alloc, &[b"at ", hexadecimal(paddr, &mut digits)])
+}
+
+fn fill_text(alloc: Global, fill: &Option<Fill>) -> Result<List<u8>, NoMemory>
+    ensures { IfOk result (λ text. text ≡ fill_text fill.now) }
+{
+    let Some(fill) = fill else {
+        return Ok(List::new(alloc));
+    };
+    let mut digits = [0; 18];
+    let mut number = Buffer::new();
+    let at = hexadecimal(fill.at, &mut digits);
+    let length = number.format(fill.length).as_bytes();
+    join(alloc, &[fill.file.as_bytes(), b" ", at, b" ", length])
+}
+
+/// What stands in a frame.
+fn frame_text(alloc: Global, object: Option<&Object>) -> Result<List<u8>, NoMemory>
+    ensures { IfOk result (λ text. text ≡ frame_text (option_map (λ o. o.now) object.entry)) }
+{
+    match object {
+        Some(Object::Frame { paddr, fill }) => {
+            let paddr = paddr_text(alloc, *paddr)?;
+            let fill = fill_text(alloc, fill)?;
+            join(alloc, &[paddr.as_slice(), fill.as_slice()])
+        }
+        _ => Ok(List::new(alloc)),
+    }
+}
+
+fn rights_word(rights: &Rights) -> &[u8]
+    ensures { result.now ≡ rights_word rights.now }
+{
+    rights.word()
+}
+
+fn add_page(
+    alloc: Global,
+    text: &mut List<u8>,
+    spec: &Spec,
+    at: u64,
+    cap: &Cap,
+) -> Result<(), NoMemory>
+    ensures { OnOk result (text.new ≡ text.old ++ page_row spec.now at cap.now) }
+{
+    let holds = frame_text(alloc, spec.object(cap.object))?;
+    let mut digits = [0; 18];
+    let at = hexadecimal(at, &mut digits);
+    let name = spec.name(cap.object);
+    let rights = rights_word(&cap.rights);
+    add_row(text, &[at, name, rights, holds.as_slice()])
+}
+
+/// Puts the pages that a capability at an address leads to behind a text, over the levels below it.
+fn add_pages(
+    alloc: Global,
+    text: &mut List<u8>,
+    spec: &Spec,
+    steps: &[u64],
+    at: u64,
+    cap: &Cap,
+) -> Result<(), NoMemory>
+    ensures { OnOk result (text.new ≡ text.old ++ page_rows spec.now steps.now at cap.now) }
+{
+    match steps {
+        [] => add_page(alloc, text, spec, at, cap),
+        [step, below @ ..] => {
+            for slot in table_slots(spec.object(cap.object)) {
+                let place = address(at, slot.0, *step);
+                add_pages(alloc, text, spec, below, place, &slot.1)?;
+            }
+            Ok(())
+        }
+    }
+}
+
+fn add_space(
+    alloc: Global,
+    text: &mut List<u8>,
+    spec: &Spec,
+    steps: &[u64],
+    slots: &[(u64, Cap)],
+) -> Result<(), NoMemory>
+    ensures { OnOk result (text.new ≡ text.old ++ space_rows spec.now steps.now slots.now) }
+{
+    let [step, below @ ..] = steps else {
+        return Ok(());
+    };
+    for slot in slots {
+        add_pages(alloc, text, spec, below, address(0, slot.0, *step), &slot.1)?;
+    }
+    Ok(())
+}
+
+/// The object of that name.
+fn object_called<'a>(spec: &'a Spec, name: &[u8]) -> Option<&'a Object>
+    ensures { option_map (λ o. o.now) result ≡ object_called spec.now name.now }
+{
+    spec.entries
+        .as_slice()
+        .iter()
+        .find(|entry| entry.name.as_bytes() == name)
+        .map(|entry| &entry.object)
+}
+
+/// Puts the pages of the space whose root has that name behind a text.
+pub(crate) fn add_pages_of(
+    alloc: Global,
+    text: &mut List<u8>,
+    spec: &Spec,
+    root: &[u8],
+) -> Result<(), NoMemory>
+    ensures { OnOk result (text.new ≡ text.old ++ rows_of_space spec.now root.now) }
+{
+    let slots = table_slots(object_called(spec, root));
+    add_space(alloc, text, spec, steps(spec.arch), slots)
+}
