@@ -1,11 +1,13 @@
 -- The lines that are printed where nothing is shown.
 use Rattle.std.specs.Prelude.{ℕ, List, [], ◌∷◌, codes, decimal}
+use Rattle.cam_base.specs.Codes.{number_of, title_of}
 use Rattle.cam_base.specs.TextCodes as texts
 use Rattle.cam_base.specs.Texts.{together}
+use Rattle.cam_base.specs.declared.place.Fault.{Fault}
 use Rattle.cam_base.specs.declared.text_fault.TextFault.{TextFault}
 
 abbrev pub usage : List ℕ
-usage = codes "usage: camkes_view fault LINE | graph POLICY\n"
+usage = codes "usage: camkes_view fault LINE | graph POLICY | reasons ROOT | table ROOT LABEL\n"
 
 abbrev pub no_memory : List ℕ
 no_memory = codes "no memory\n"
@@ -38,3 +40,8 @@ words code title name = together (code ∷ codes " " ∷ title ∷ space_before 
 -- of a fault of a text
 abbrev pub text_fault_line : List ℕ → TextFault → List ℕ
 text_fault_line file f = place_line file f.first f.end (words (texts.word_of f.code) (texts.title_of f.code) f.name)
+
+-- of a fault of a source
+abbrev pub fault_line : List ℕ → Fault → List ℕ
+fault_line file f = place_line file f.place.first f.place.end
+    (words (together (codes "E" ∷ decimal (number_of f.code) ∷ [])) (title_of f.code) f.name)

@@ -76,7 +76,11 @@ impl Answer {
         match self {
             Answer::Shown(text) => write_all(out, 0, text.as_slice()),
             Answer::Refused(text) | Answer::ReadFault(text) => write_all(out, 1, text.as_slice()),
-            Answer::Usage => write_all(out, 1, b"usage: camkes_view fault LINE | graph POLICY\n"),
+            Answer::Usage => write_all(
+                out,
+                1,
+                b"usage: camkes_view fault LINE | graph POLICY | reasons ROOT | table ROOT LABEL\n",
+            ),
             Answer::NoMemory => write_all(out, 1, b"no memory\n"),
         }
     }

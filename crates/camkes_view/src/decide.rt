@@ -1,13 +1,15 @@
 //! What the words ask for.
 
 ghost use Rattle.cam_io.specs.Reading.{KeepsFiles};
-ghost use Rattle.camkes_view.specs.Answers.{Fits, FitsWord};
+ghost use Rattle.camkes_view.specs.Answers.{Fits, FitsWord, FitsWords};
 ghost use Rattle.std.specs.Prelude.{codes, map, string_bytes};
 ghost use Rattle.std.specs.Str.{bytes_eq};
 
 use crate::answer::Answer;
 use crate::fault::view_fault;
 use crate::graph::view_graph;
+use crate::reasons::view_reasons;
+use crate::table::view_table;
 use cam_io::Files;
 use std::alloc::Global;
 
@@ -18,6 +20,9 @@ pub fn decide<F: Files>(alloc: Global, words: &[String], files: &mut F) -> Answe
 {
     match words {
         [word, what] => follow(alloc, word.as_str(), what.as_str(), files),
+        [word, root, label] => {
+            follow_both(alloc, word.as_str(), root.as_str(), label.as_str(), files)
+        }
         _ => Answer::Usage,
     }
 }
@@ -25,12 +30,31 @@ pub fn decide<F: Files>(alloc: Global, words: &[String], files: &mut F) -> Answe
 /// What is answered to a command and the word behind it.
 fn follow<F: Files>(alloc: Global, word: &str, what: &str, files: &mut F) -> Answer
     ensures kept { KeepsFiles F.contents F.faults files.old files.new }
-    ensures fits { FitsWord (bytes_eq word.now (codes "fault")) (bytes_eq word.now (codes "graph")) (F.contents files.old)
-        (F.faults files.old) (F.faults files.new) what.now result }
+    ensures fits { FitsWord (bytes_eq word.now (codes "fault")) (bytes_eq word.now (codes "graph"))
+        (bytes_eq word.now (codes "reasons")) (F.contents files.old) (F.faults files.old) (F.faults files.new) what.now result }
 {
     match word {
         "fault" => view_fault(alloc, what, files),
         "graph" => view_graph(alloc, what, files),
+        "reasons" => view_reasons(alloc, what, files),
+        _ => Answer::Usage,
+    }
+}
+
+/// What is answered to a command and the two words behind it.
+fn follow_both<F: Files>(
+    alloc: Global,
+    word: &str,
+    root: &str,
+    label: &str,
+    files: &mut F,
+) -> Answer
+    ensures kept { KeepsFiles F.contents F.faults files.old files.new }
+    ensures fits { FitsWords (bytes_eq word.now (codes "table")) (F.contents files.old) (F.faults files.old) (F.faults files.new)
+        root.now label.now result }
+{
+    match word {
+        "table" => view_table(alloc, root, label, files),
         _ => Answer::Usage,
     }
 }

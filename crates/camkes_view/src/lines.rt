@@ -1,12 +1,14 @@
 //! The lines that are printed where nothing is shown.
 
-ghost use Rattle.camkes_view.specs.Lines.{place_line, read_fault, refusal, space_before, text_fault_line, words};
+ghost use Rattle.camkes_view.specs.Answers.{Refuses};
+ghost use Rattle.camkes_view.specs.Lines.{fault_line, place_line, read_fault, refusal, space_before, text_fault_line, words};
 ghost use Rattle.camkes_view.specs.Words.{Gives};
 ghost use Rattle.camkes_view.specs.declared.answer.Answer.TheVariants as answers;
 ghost use Rattle.std.specs.Prelude.{◌≡◌, IfOk};
 
 use crate::answer::Answer;
-use cam_base::{List, NoMemory, TextFault};
+use cam_base::{Fault, List, NoMemory, TextFault};
+use front_end::BuildError;
 use itoa::Buffer;
 use std::alloc::Global;
 use view_text::join;
@@ -54,7 +56,27 @@ pub fn text_fault_line(alloc: Global, file: &str, fault: &TextFault) -> Result<L
     )
 }
 
-/// That nothing is shown of a file, and why.
+/// The line of a fault of a source.
+fn fault_line(alloc: Global, file: &[u8], fault: &Fault) -> Result<List<u8>, NoMemory>
+    ensures { IfOk result (λ text. text ≡ fault_line file.now fault.now) }
+{
+    let mut digits = Buffer::new();
+    let code = join(
+        alloc,
+        &[b"E", digits.format(fault.code.number()).as_bytes()],
+    )?;
+    let title = fault.code.title().as_bytes();
+    let rest = words(alloc, code.as_slice(), title, fault.name.as_bytes())?;
+    place_line(
+        alloc,
+        file,
+        fault.place.first,
+        fault.place.end,
+        rest.as_slice(),
+    )
+}
+
+/// That nothing is shown of a file or a label, and why.
 pub fn refuse(alloc: Global, what: &[u8], why: &[u8]) -> Answer
     ensures { Gives (answers.Refused (refusal what.now why.now)) result }
 {
@@ -66,4 +88,17 @@ pub fn read_fault(alloc: Global, file: &[u8]) -> Answer
     ensures { Gives (answers.ReadFault (read_fault file.now)) result }
 {
     Answer::read_fault(join(alloc, &[b"read fault ", file, b"\n"]))
+}
+
+/// Why there is nothing of a source.
+pub fn refuse_source(alloc: Global, error: BuildError) -> Answer
+    ensures { Refuses error result }
+{
+    match error {
+        BuildError::Fault(fault, file) => {
+            Answer::refused(fault_line(alloc, file.as_bytes(), &fault))
+        }
+        BuildError::ReadFault(file) => read_fault(alloc, file.as_bytes()),
+        BuildError::NoMemory => Answer::NoMemory,
+    }
 }

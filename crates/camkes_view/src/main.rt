@@ -1,4 +1,4 @@
-//! What `camkes` says, shown: a fault's bytes in their file, and a policy as a graph.
+//! What `camkes` says, shown: a fault's bytes in their file, a policy as a graph, and the tables of a domain.
 //!
 //! What is answered when is in `specs/Answers.antt`, what is written of it in `specs/Words.antt` and `specs/Lines.antt`.
 #![tactic(auto)]
@@ -8,9 +8,11 @@ mod decide;
 mod fault;
 mod graph;
 mod lines;
+mod reasons;
+mod table;
 
 use answer::Answer;
-use cam_io::{HostFiles, HostOutputs};
+use cam_io::{Buffered, HostFiles, HostOutputs};
 use decide::decide;
 use std::io::ErrorKind;
 use std::process::ExitCode;
@@ -18,15 +20,16 @@ use std::{env, io};
 
 fn main(rt: HostRuntime) -> io::Result<ExitCode> {
     let mut files = HostFiles::new(rt.clone()?);
-    let mut out = HostOutputs::new(rt.clone()?);
+    let mut out = Buffered::new(HostOutputs::new(rt.clone()?));
     let answer = match words(&rt) {
         Ok(words) => decide(rt.alloc(), &words, &mut files),
         Err(error) if error.kind() == ErrorKind::OutOfMemory => Answer::NoMemory,
         Err(_) => Answer::Usage,
     };
-    match answer.write(&mut out) {
-        Ok(()) => Ok(ExitCode::from(answer.status())),
-        Err(_) => Ok(ExitCode::from(5)),
+    let written = answer.write(&mut out);
+    match (written, out.finish()) {
+        (Ok(()), Ok(_)) => Ok(ExitCode::from(answer.status())),
+        _ => Ok(ExitCode::from(5)),
     }
 }
 
