@@ -20,7 +20,8 @@ ghost use Rattle.std.specs.Prelude.{◌≡◌, ◌≢◌, ◌<◌, ◌≤◌, �
 /// the same.
 pub fn answers_are_one()
     ensures answers { (m : Contents) (words : List (List ℕ)) (old new later last : List ℕ → ℕ) (a b : Answer)
-        → IsCompiling (read_words words) → yields a ≡ false → yields b ≡ false → Fits words (Some m) old new a → Fits words (Some m) later last b → AreOne a b }
+        → IsCompiling (read_words words) → yields a ≡ false → yields b ≡ false
+        → Fits words (Some m) old new a → Fits words (Some m) later last b → AreOne a b }
     ensures calls { (m : Contents) (words : List (List ℕ)) (old new later last : List ℕ → ℕ) (a b : Answer)
         (first second : ℕ) (sink left right : Sink) (before now before' now' : ℕ)
         → IsCompiling (read_words words) → Fits words (Some m) old new a → Tells a first sink left before now → first ≤ 3

@@ -330,10 +330,12 @@ fn meet_all(
         company.now.members.items company.now.gates.items }
     requires are_met { AreMet making.old.labels company.now.rosters.items company.now.members.items met.old making.old.edges }
     requires doors { (k : ℕ) (door : Pair) → slice_get gate.now k ≡ Some door
-        → IsQueued making.old.found door.node door.held.value × MeetBy making.old.spec making.old.found door.held.value pair.held.value }
+        → IsQueued making.old.found door.node door.held.value × MeetBy making.old.spec making.old.found
+        door.held.value pair.held.value }
     requires pair { IsQueued making.old.found pair.node pair.held.value }
     ensures { OnOk result (Greets company.now.rosters.items company.now.members.items
-        (OfSome (λ door. OfKinds making.old.labels company.now.rosters.items company.now.members.items door.node pair.node) gate.now)
+        (OfSome (λ door. OfKinds making.old.labels company.now.rosters.items company.now.members.items door.node
+        pair.node) gate.now)
         making.old making.new met.new) }
 {
     for door in gate {

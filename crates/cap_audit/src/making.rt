@@ -115,7 +115,16 @@ impl<'a> Model for Making<'a> {
 
     ghost Value = { Made };
 
-    ghost view = { λ m. record { spec = m.spec.now; labels = m.labels.now.by_object; found = m.findings.now; faces = m.kinds.now.faces.items; heads = m.kinds.now.heads.items; edges = m.edges; steps = m.steps.items; nexts = m.nexts.items } };
+    ghost view = { λ m. record {
+      spec = m.spec.now;
+      labels = m.labels.now.by_object;
+      found = m.findings.now;
+      faces = m.kinds.now.faces.items;
+      heads = m.kinds.now.heads.items;
+      edges = m.edges;
+      steps = m.steps.items;
+      nexts = m.nexts.items;
+    } };
 }
 
 impl<'a> Making<'a> {
@@ -128,7 +137,16 @@ impl<'a> Making<'a> {
         kinds: &'a Kinds,
         trail: Trail,
     ) -> Making<'a>
-        ensures { result ≡ record { spec = spec.entry.now; labels = labels.entry.now.by_object; found = findings.entry.now; faces = kinds.entry.now.faces.items; heads = kinds.entry.now.heads.items; edges = []; steps = trail.steps.items; nexts = trail.nexts.items } }
+        ensures { result ≡ record {
+          spec = spec.entry.now;
+          labels = labels.entry.now.by_object;
+          found = findings.entry.now;
+          faces = kinds.entry.now.faces.items;
+          heads = kinds.entry.now.heads.items;
+          edges = [];
+          steps = trail.steps.items;
+          nexts = trail.nexts.items;
+        } }
     {
         let Trail { steps, nexts } = trail;
         Making {

@@ -17,7 +17,7 @@ use auth_kinds::{EdgeTable, Labels};
 use cam_base::{List, NoMemory};
 use cap_machine::Step;
 use cap_model::Spec;
-use cap_spread::{first_thread, spread};
+use cap_spread::{Classed, first_thread, spread};
 use std::alloc::Global;
 
 /// The edges between different labels that runs reach, and steps that show each.
@@ -66,7 +66,10 @@ fn report(alloc: Global, spec: &Spec, labels: &Labels) -> Result<AuditReport, No
     requires none { HoldsNoThread spec.now }
     ensures { IfOk result (λ r. IsReport spec.now labels.now.by_object r.edges r.steps) }
 {
-    let (found, classes) = spread(alloc, spec)?;
+    let Classed {
+        findings: found,
+        classes,
+    } = spread(alloc, spec)?;
     let kinds = Kinds::of(alloc, spec, labels, classes.as_slice())?;
     let (findings, steps, nexts) = found.parted(alloc);
     let trail = Trail { steps, nexts };

@@ -39,7 +39,10 @@ impl Model for State {
 
     ghost Value = { Progress };
 
-    ghost view = { λ s. record { state = record { nodes = s.nodes.items; threads = s.threads.items; irqs = s.irqs.items; mapped = s.mapped.items }; applied = s.applied } };
+    ghost view = { λ s. record {
+      state = record { nodes = s.nodes.items; threads = s.threads.items; irqs = s.irqs.items; mapped = s.mapped.items };
+      applied = s.applied;
+    } };
 
     ghost invariant = { λ s. NextsFit s.nodes.items s.applied };
 }

@@ -272,7 +272,14 @@ impl Model for Findings {
 
     ghost Value = { Found };
 
-    ghost view = { λ f. record { values = f.values.items; held = f.held.items; known = f.known.items; queue = f.queue.items; steps = f.steps.items; nexts = f.nexts.items } };
+    ghost view = { λ f. record {
+      values = f.values.items;
+      held = f.held.items;
+      known = f.known.items;
+      queue = f.queue.items;
+      steps = f.steps.items;
+      nexts = f.nexts.items;
+    } };
 }
 
 impl Findings {

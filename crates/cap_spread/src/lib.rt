@@ -14,4 +14,4 @@ pub use begin::{roots, slots_of};
 pub use found::{Course, Findings, Held, Pair, Way, whole};
 pub use laws::{reached_edges_are_audited, runs_lie_in_the_spread, the_spread_is_least};
 pub use refuse::first_thread;
-pub use search::{is_kind, spread};
+pub use search::{Classed, is_kind, spread};

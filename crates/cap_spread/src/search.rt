@@ -178,13 +178,19 @@ pub fn search(
     Ok(())
 }
 
-/// What can spread, and steps that bring it about; and the class of each object: those of one class have the same. Takes
-/// time by what is found: each value once along each way.
-pub fn spread(alloc: Global, spec: &Spec) -> Result<(Findings, Vec<u32>), NoMemory>
+/// What can spread, with steps that bring it about; and the class of each object: those of one class have the same.
+#[derive(Drop)]
+pub struct Classed {
+    pub findings: Findings,
+    pub classes: Vec<u32>,
+}
+
+/// What can spread, by the rules of `specs/Spread`. Takes time by what is found: each value once along each way.
+pub fn spread(alloc: Global, spec: &Spec) -> Result<Classed, NoMemory>
     requires { IsKept spec.now }
-    ensures found { IfOk result (λ r. IsFound spec.now r.0) }
-    ensures closed { IfOk result (λ r. IsClosed spec.now (IsFoundAt r.0)) }
-    ensures alike { IfOk result (λ r. AreAlike spec.now r.0 r.1.items) }
+    ensures found { IfOk result (λ s. IsFound spec.now s.findings) }
+    ensures closed { IfOk result (λ s. IsClosed spec.now (IsFoundAt s.findings)) }
+    ensures alike { IfOk result (λ s. AreAlike spec.now s.findings s.classes.items) }
 {
     let n = spec.entries.len();
     let findings = begin(alloc, spec)?;
@@ -194,5 +200,8 @@ pub fn spread(alloc: Global, spec: &Spec) -> Result<(Findings, Vec<u32>), NoMemo
     let roots = roots(alloc, spec)?;
     search(alloc, &mut web, &mut hubs, spec, roots.as_slice())?;
     let Web { findings, net } = web;
-    Ok((findings, net.into_classes()))
+    Ok(Classed {
+        findings,
+        classes: net.into_classes(),
+    })
 }

@@ -105,7 +105,8 @@ impl<'a> Search<'a> {
 
     fn signals(&self, label: u32) -> bool
         requires { CanSearch (told self.now.tables) self.now.signals.now }
-        ensures { result ≡ has (signal_edges (told self.now.tables)) (record { from = label; authority = Authority.AsyncSend; to = self.now.edge.to }) }
+        ensures { result ≡ has (signal_edges (told self.now.tables))
+            (record { from = label; authority = Authority.AsyncSend; to = self.now.edge.to }) }
     {
         self.signals.contains(&Edge {
             from: label,

@@ -16,13 +16,15 @@ ghost use Rattle.std.specs.Prelude.{◌≢◌, ℕ, List};
 /// Where one label may call at an endpoint and another receives at it, the second comes to reply to the first.
 pub fn calls_are_reached()
     ensures { (spec : Spec) (labels : List ℕ) → IsArranged spec labels → (s e r : ℕ)
-        → Held spec labels (boot spec) s Call e → Held spec labels (boot spec) r Receive e → s ≢ r → Reaches spec labels r Reply s }
+        → Held spec labels (boot spec) s Call e → Held spec labels (boot spec) r Receive e → s ≢ r
+        → Reaches spec labels r Reply s }
 {}
 
 /// Where a label handles a device and may signal a notification, the device comes to signal it.
 pub fn binds_are_reached()
     ensures { (spec : Spec) (labels : List ℕ) → IsArranged spec labels → (s d n : ℕ)
-        → Held spec labels (boot spec) s Handle d → Held spec labels (boot spec) s AsyncSend n → Reaches spec labels d AsyncSend n }
+        → Held spec labels (boot spec) s Handle d → Held spec labels (boot spec) s AsyncSend n
+        → Reaches spec labels d AsyncSend n }
 {}
 
 /// Where CNodes hold capabilities to endpoints without G, to notifications and to interrupts alone, no run comes to a state in

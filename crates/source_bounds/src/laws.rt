@@ -40,5 +40,6 @@ pub fn specs_can_be_built()
 /// The map of a source without faults can be listed, whatever the images of its programs.
 pub fn maps_can_be_listed()
     ensures { (s : Source) (images : Images) → AreFilesShort s → AreNamesSound s → first_type_fault s ≡ None
-        → first_flat_fault s ≡ None → first_setting_fault s ≡ None → IsWindowed (tables_from s (flat_of s) (settled_of s) images) }
+        → first_flat_fault s ≡ None → first_setting_fault s ≡ None
+        → IsWindowed (tables_from s (flat_of s) (settled_of s) images) }
 {}

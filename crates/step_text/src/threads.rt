@@ -43,7 +43,8 @@ impl<'a> Threads<'a> {
     /// Adds the object, if it is a thread and no thread of that name is there.
     fn add(&mut self, entry: &'a Entry, place: u32) -> Result<(), NoMemory>
         ensures { OnOk result ((name : List ℕ) → found_in self.new name
-            ≡ option_or (found_in self.old name) (if is_thread entry.entry.now.object && bytes_eq entry.entry.now.name name then Some place else None)) }
+            ≡ option_or (found_in self.old name)
+            (if is_thread entry.entry.now.object && bytes_eq entry.entry.now.name name then Some place else None)) }
     {
         if !is_thread(&entry.object) {
             return Ok(());

@@ -12,8 +12,8 @@ of-requires-clause-as_many c = ap (λ (xs : List ℕ). length xs) c.as_slice.ens
 
 pub shown-requires-clause-begun : goal.shown-requires-clause-begun
 shown-requires-clause-begun c =
-    let f = c.in_ok-found.found in
-    let classes : List ℕ = c.in_ok-found.classes.items in
+    let f = c.in_ok-found.field-0.findings in
+    let classes : List ℕ = c.in_ok-found.field-0.classes.items in
     let faces : List ℕ = c.in_ok-kinds.kinds.faces.items in
     let heads : List ℕ = c.in_ok-kinds.kinds.heads.items in
     let labels : List ℕ = c.args.labels.now.by_object in
