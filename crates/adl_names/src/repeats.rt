@@ -43,9 +43,9 @@ pub fn meet<'a>(id: &'a Id, met: &mut NameSet<'a>, first: &mut Earliest<'a>) -> 
         ≡ noted first.old (repeats_after (is_among met.old) (id.entry.now ∷ more))) }
     ensures met { OnOk result ((n : Seq ℕ) → is_among met.new n ≡ (is_among met.old n || bytes_eq n id.entry.now.name)) }
 {
-    let is_met = met.contains(&id.name);
+    let is_met = met.put(&id.name)?;
     first.note(is_met, Code::Duplicate, id.place, id.name.as_bytes());
-    met.insert(&id.name)
+    Ok(())
 }
 
 /// Notes the later ones of components of one name.
