@@ -77,14 +77,13 @@ fn reasoned_edges(alloc: Global, tables: &Tables<'_>) -> Result<List<Edge>, NoMe
     reasoned_with(alloc, tables, &handlers, &signallers)
 }
 
-fn leading_out(alloc: Global, edges: &[Edge]) -> Result<Vec<Edge>, NoMemory>
-    ensures { IfOk result (λ kept. kept.items ≡ filter leads_out edges.now) }
+/// The edges that lead out of their labels, in order.
+fn leading_out(edges: List<Edge>) -> Result<Vec<Edge>, NoMemory>
+    ensures { IfOk result (λ kept. (e : Triple) → has kept.items e ≡ has (filter leads_out edges) e) }
 {
-    let kept = edges
-        .iter()
-        .copied()
-        .filter(|edge| edge.from != edge.to)
-        .collect(alloc)?;
+    let mut kept = edges.into_vec();
+    kept.retain(|edge| edge.from != edge.to);
+    kept.sort()?;
     Ok(kept)
 }
 
@@ -96,7 +95,7 @@ fn assigned_edges(alloc: Global, tables: &Tables<'_>) -> Result<EdgeTable, NoMem
     ensures same { IfOk result (λ table. (e : Triple) → has table e ≡ has (triples (told tables.now)) e) }
 {
     let edges = reasoned_edges(alloc, tables)?;
-    let kept = leading_out(alloc, edges.as_slice())?;
+    let kept = leading_out(edges)?;
     let table = EdgeTable::from_list(alloc, kept.as_slice())?;
     Ok(table)
 }

@@ -9,5 +9,6 @@ use Rattle.arch_policy.proofs.policy.assigned_edges.Goals as goal
 pub returns-clause-same : goal.returns-clause-same
 returns-clause-same c e =
     c.in_ok-table.ensures.same e
-    ∙ ap (λ z. has z e) (c.as_slice-2.ensures.value ∙ c.in_ok-kept.ensures ∙ ap (λ z. filter leads_out z) c.as_slice.ensures)
+    ∙ ap (λ z. has z e) c.as_slice.ensures.value
+    ∙ c.in_ok-kept.ensures e
     ∙ has_filter c.in_ok-edges.edges (reasoned_edges (told c.args.tables.now)) leads_out c.in_ok-edges.ensures e
