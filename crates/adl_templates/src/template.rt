@@ -1,5 +1,6 @@
 //! The template of a body, from those of its instances' components.
 
+ghost use Rattle.adl_meaning.specs.CompositeBody.{is_device};
 ghost use Rattle.adl_meaning.specs.Hierarchy.{body, graph, port_in};
 ghost use Rattle.adl_meaning.specs.Graph.{IsInnerFirst};
 ghost use Rattle.adl_meaning.specs.JoinedEnds.{joins_once};
@@ -10,8 +11,8 @@ ghost use Rattle.adl_templates.specs.declared.template.Template.{Template as Tem
 ghost use Rattle.adl_meaning.specs.Paths.{leaves_in};
 ghost use Rattle.name_tables.specs.ByName.{found};
 ghost use Rattle.std.specs.List.{flat_map, enumerate_from};
-ghost use Rattle.std.specs.Option.{option_and_then, option_copied};
-ghost use Rattle.std.specs.Prelude.{◌≡◌, ◌<◌, ◌+◌, ◌^◌, ◌++◌, ℕ, true, List as Seq, length, slice_index, slice_index_or, option_map, IfOk, OnOk};
+ghost use Rattle.std.specs.Option.{option_and_then, option_copied, option_map_or};
+ghost use Rattle.std.specs.Prelude.{◌≡◌, ◌<◌, ◌+◌, ◌^◌, ◌++◌, ℕ, true, false, List as Seq, length, slice_index, slice_index_or, option_map, IfOk, OnOk};
 
 use crate::place::{moved_target, own_leaf, place_connections, place_leaves};
 use crate::placed::{PlacedConnection, PlacedEnd, PlacedLeaf};
@@ -89,12 +90,13 @@ fn leaves_of<'a>(
     Ok(Leaves { leaves, before })
 }
 
-fn joins_once(device: bool, kind: InterfaceKind) -> bool
-    ensures { result ≡ joins_once device kind }
+/// Whether one end alone may join an interface of this kind. The members are looked through for `hardware` only where it counts.
+fn joins_once(body: &Body<'_>, kind: InterfaceKind) -> bool
+    ensures { result ≡ joins_once (option_map_or is_device body.now.component false) kind }
 {
     match kind {
         InterfaceKind::Uses | InterfaceKind::Consumes => true,
-        InterfaceKind::Emits => device,
+        InterfaceKind::Emits => body.is_hardware(),
         InterfaceKind::Provides | InterfaceKind::Dataport => false,
     }
 }
@@ -113,7 +115,7 @@ fn own_target(body: &Body<'_>, before: u32, name: &Name) -> Target
 {
     let once = match body.interface(name) {
         None => false,
-        Some(interface) => joins_once(body.is_hardware(), interface.kind),
+        Some(interface) => joins_once(body, interface.kind),
     };
     Target {
         leaf: before,
