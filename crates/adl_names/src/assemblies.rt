@@ -25,7 +25,8 @@ pub fn note_second<'a>(assemblies: &[Located<'a, Assembly>], first: &mut Earlies
 /// Notes where there is no assembly.
 pub fn note_none<'a>(assemblies: &[Located<'a, Assembly>], first: &mut Earliest<'a>)
     ensures { first.new ≡ noted first.old
-        (where_true (length (map located assemblies.now) == 0) (at_keyword code.NoAssembly (record { file = 0; first = 0; end = 0 }))) }
+        (where_true (length (map located assemblies.now) == 0)
+        (at_keyword code.NoAssembly (record { file = 0; first = 0; end = 0 }))) }
 {
     let root = Place {
         file: 0,

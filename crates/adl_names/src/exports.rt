@@ -202,12 +202,14 @@ fn note_export<'a>(
     first: &mut Earliest<'a>,
 ) -> Result<(), NoMemory>
     ensures first { OnOk result (first.new ≡ noted first.old (where_true
-        (is_misfit (known_in tables.now) (owner_of owner.entry) (held_as holding.now) (is_among taken.old.targets) (is_port_among taken.old.inners) export.entry.now)
+        (is_misfit (known_in tables.now) (owner_of owner.entry) (held_as holding.now) (is_among taken.old.targets)
+        (is_port_among taken.old.inners) export.entry.now)
         (export_fault export.entry.now.words export.entry.now.place))) }
     ensures targets { OnOk result ((n : Seq ℕ) → is_among taken.new.targets n
         ≡ (is_among taken.old.targets n || bytes_eq n export.entry.now.target.name)) }
     ensures inners { OnOk result ((p : PortOf) → is_port_among taken.new.inners p
-        ≡ (is_port_among taken.old.inners p || is_port (inner_of (known_in tables.now) (port_of (held_as holding.now) export.entry.now.words)) p)) }
+        ≡ (is_port_among taken.old.inners p
+        || is_port (inner_of (known_in tables.now) (port_of (held_as holding.now) export.entry.now.words)) p)) }
 {
     let port = port_of(holding, export.words.as_slice());
     let is_wrong = is_misfit(tables, owner, &port, taken, export);
@@ -228,7 +230,8 @@ fn note_line<'a>(
 ) -> Result<(), NoMemory>
     ensures { OnOk result ((more : Seq LineOf) →
         noted first.new (misfits_from (known_in tables.now) (owner_of owner.entry) (held_as holding.now) taken.new more)
-        ≡ noted first.old (misfits_from (known_in tables.now) (owner_of owner.entry) (held_as holding.now) taken.old (line.entry.now ∷ more))) }
+        ≡ noted first.old (misfits_from (known_in tables.now) (owner_of owner.entry) (held_as holding.now) taken.old
+        (line.entry.now ∷ more))) }
 {
     if let Line::Export(export) = line {
         note_export(tables, owner, holding, export, taken, first)?;
@@ -244,7 +247,8 @@ fn note_exports<'a>(
     first: &mut Earliest<'a>,
 ) -> Result<(), NoMemory>
     ensures { OnOk result (first.new ≡ noted first.old
-        (misfits_after (known_in tables.now) (owner_of owner.entry) (held_as holding.now) (λ n. false) (λ p. false) (exports_in holding.now))) }
+        (misfits_after (known_in tables.now) (owner_of owner.entry) (held_as holding.now)
+        (λ n. false) (λ p. false) (exports_in holding.now))) }
 {
     let mut taken = Taken {
         targets: NameSet::new(alloc),
@@ -284,7 +288,8 @@ fn note_line_ends<'a>(
 )
     ensures { (more : Seq LineOf) →
         noted first.new (flat_map (unled_ends (known_in tables.now) (held_as holding.now)) (filter_map as_connection more))
-        ≡ noted first.old (flat_map (unled_ends (known_in tables.now) (held_as holding.now)) (filter_map as_connection (line.entry.now ∷ more))) }
+        ≡ noted first.old (flat_map (unled_ends (known_in tables.now) (held_as holding.now))
+        (filter_map as_connection (line.entry.now ∷ more))) }
 {
     if let Line::Connection(connection) = line {
         note_connection(tables, holding, connection, first);

@@ -152,9 +152,11 @@ fn add_group<'a>(
     first: &mut Earliest<'a>,
 ) -> Result<(), NoMemory>
     ensures noted { OnOk result ((more : Seq Word) → noted first.new (repeats_after (has_name table.new) more)
-        ≡ noted first.old (repeats_after (has_name table.old) (group.entry.now.id ∷ (map (λ h. h.0) (map as_held group.entry.now.instances) ++ more)))) }
+        ≡ noted first.old (repeats_after (has_name table.old)
+        (group.entry.now.id ∷ (map (λ h. h.0) (map as_held group.entry.now.instances) ++ more)))) }
     ensures found { OnOk result ((n : Seq ℕ) → holding_told table.new n
-        ≡ option_or (holding_told table.old n) (first_named ((group.entry.now.id, a_group (member_of group.entry.now)) ∷ map as_held group.entry.now.instances) n)) }
+        ≡ option_or (holding_told table.old n)
+        (first_named ((group.entry.now.id, a_group (member_of group.entry.now)) ∷ map as_held group.entry.now.instances) n)) }
 {
     let own = Members::of(alloc, group)?;
     put(&group.id, Held::Group(own), table, first)?;

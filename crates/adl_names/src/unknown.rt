@@ -255,7 +255,8 @@ fn note_member<'t, 'a>(
     ensures rest { (more : Seq MemberOf)
         → holdings.entry.now ≡ filter_map as_composition (member.entry.now ∷ more) → result.now ≡ filter_map as_composition more }
     ensures faults { (more : Seq MemberOf) → holdings.entry.now ≡ filter_map as_composition (member.entry.now ∷ more)
-        → first.new ≡ noted first.old (unknown_in_member (known_in tables.now) (is_procedure tables.now) (known_of owner.now) member.entry.now) }
+        → first.new ≡ noted first.old
+        (unknown_in_member (known_in tables.now) (is_procedure tables.now) (known_of owner.now) member.entry.now) }
 {
     match member {
         Member::Interface(it) => {

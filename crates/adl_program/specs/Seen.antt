@@ -5,6 +5,7 @@ use Rattle.std.specs.Option.{option_copied, option_and_then, option_map_or}
 use Rattle.std.specs.Str.{bytes_eq}
 use Rattle.adl_ast.specs.declared.component.Component.{Component}
 use Rattle.adl_ast.specs.declared.composition.Composition.{Composition}
+use Rattle.adl_meaning.specs.CompositeBody.{is_device}
 use Rattle.adl_meaning.specs.Flat.{is_interface}
 use Rattle.adl_meaning.specs.Hierarchy.{Body, Part, wire_of}
 use Rattle.adl_meaning.specs.Holding.{connections_in}
@@ -41,6 +42,7 @@ pub record IsComposed (o : Option Composition) (t : Composed) : Type 0 where
 pub record AreMembers (o : Option Component) (t : Members) : Type 0 where
   pub declared_by_name : (n : Name) → declaring_told t.declared n ≡ option_and_then (λ c. declared_as c n) o
   pub places_by_name : (n : Name) → unwrap_or (found t.places n) t.count ≡ option_map_or (λ c. place_by (is_interface n) c.members) o 0
+  pub hardware_is : t.hardware ≡ option_map_or is_device o false
 
 -- all tables agree with the body
 pub record IsIndexed (t : Inside) : Type 0 where

@@ -51,6 +51,8 @@ pub struct Members<'a> {
     /// The place of the first interface of each name.
     places: NameTable<'a, usize>,
     count: usize,
+    /// Whether one of them says `hardware`.
+    hardware: bool,
 }
 
 impl<'a> Model for Body<'a> {
@@ -110,10 +112,7 @@ impl<'a> Body<'a> {
     pub fn is_hardware(&self) -> bool
         ensures { result ≡ option_map_or is_device self.now.component false }
     {
-        match self.component {
-            None => false,
-            Some(component) => is_device(component),
-        }
+        self.members.hardware
     }
 
     /// Its instances, in order.
@@ -281,11 +280,13 @@ fn members_of<'a>(alloc: Global, component: Option<&'a Component>) -> Result<Mem
             declared: NameTable::new(alloc),
             places: NameTable::new(alloc),
             count: 0,
+            hardware: false,
         }),
         Some(component) => Ok(Members {
             declared: declaring(alloc, component)?,
             places: interface_places(alloc, component.members.as_slice())?,
             count: component.members.len(),
+            hardware: is_device(component),
         }),
     }
 }

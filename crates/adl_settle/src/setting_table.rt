@@ -50,7 +50,8 @@ impl<'a> SettingTable<'a> {
     fn add(&mut self, key: Vec<&'a [u8]>, setting: &'a Setting) -> Result<bool, NoMemory>
         ensures met { IfOk result (λ met. met ≡ is_some (setting_found self.old (pointed key.entry.items))) }
         ensures found { OnOk result ((q : Seq Bytes) → setting_found self.new q
-            ≡ option_or (setting_found self.old q) (if same_path q (pointed key.entry.items) then Some setting.entry.now else None)) }
+            ≡ option_or (setting_found self.old q)
+            (if same_path q (pointed key.entry.items) then Some setting.entry.now else None)) }
     {
         if self.entries.contains_key(key.as_slice()) {
             return Ok(true);
