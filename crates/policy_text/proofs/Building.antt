@@ -1,5 +1,5 @@
 -- What lines say together, after one line more.
-use Rattle.std.proofs.Common.{◌≡◌, ◌∙◌, ap, sym, refl, ℕ, true, false, List, [], ◌∷◌, ◌++◌, append_assoc, Option, Some, None, Result, Ok, Err}
+use Rattle.std.proofs.Common.{◌≡◌, ◌∙◌, ap, sym, refl, ℕ, true, false, List, [], ◌∷◌, ◌++◌, Option, Some, None, Result, Ok, Err}
 use Rattle.std.specs.BTreeMap.{insert_entry}
 use Rattle.std.specs.List.{filter_map}
 use Rattle.std.specs.Ordering.{nat_cmp}
@@ -10,14 +10,13 @@ use Rattle.auth_kinds.specs.declared.authority.Authority.{Authority}
 use Rattle.auth_kinds.specs.declared.edge.Edge.{Edge}
 use Rattle.cam_base.specs.declared.error.NoMemory.{NoMemory}
 use Rattle.cam_base.specs.Names.{is_name}
-use Rattle.policy_text.specs.declared.kind.Kind.{Kind}
 use Rattle.policy_text.specs.declared.parts.Parts.{Parts}
 use Rattle.policy_text.specs.Entries.{Entry, label, object, edge}
 use Rattle.policy_text.specs.Numbers.{narrow}
 use Rattle.policy_text.specs.PartsBuilt.{IsBuilt, Builds, built_label, built_object, built_edge}
 use Rattle.policy_text.specs.PolicyFaults.{Told}
-use Rattle.policy_text.specs.PolicyTexts.{by_number, said, told}
-use Rattle.policy_text.proofs.Before.{append_nil, told-cons, told_none, told_one}
+use Rattle.policy_text.specs.PolicyTexts.{by_number}
+use Rattle.policy_text.proofs.Before.{append_nil}
 use Rattle.text_lines.specs.Lines.{Line}
 
 one_more : {Y : Type 0} (h : Told → Option Y) (before : List Told) (t : Told) (y : Y) → h t ≡ Some y → filter_map h (before ++ t ∷ []) ≡ filter_map h before ++ y ∷ []
@@ -60,18 +59,6 @@ built_edge_more old new before line l a m built labels objects edges = record {
   objects = objects ∙ built.objects ∙ sym (none_more built_object before (line, edge l a m) refl);
   edges = edges ∙ ap (λ (es : List Edge). es ++ record { from = narrow l; authority = a; to = narrow m } ∷ []) built.edges ∙ sym (one_more built_edge before (line, edge l a m) _ refl);
 }
-
--- the lines behind a line
-pub build_none : (kind : Kind) (before : List Told) (line : Line) (left more : List Line) (all : List Told) → left ≡ line ∷ more → before ++ told kind left ≡ all → said kind line ≡ None
-    → before ++ told kind more ≡ all
-build_none kind before line left more all is so_far none =
-    ap (λ ts. before ++ (ts ++ told kind more)) (sym (told_none kind line none)) ∙ ap (λ ts. before ++ ts) (sym (ap (told kind) is ∙ told-cons kind line more)) ∙ so_far
-
-pub build_one : (kind : Kind) (before : List Told) (line : Line) (e : Entry) (left more : List Line) (all : List Told) → left ≡ line ∷ more → before ++ told kind left ≡ all → said kind line ≡ Some e
-    → (before ++ (line, e) ∷ []) ++ told kind more ≡ all
-build_one kind before line e left more all is so_far says =
-    append_assoc before ((line, e) ∷ []) (told kind more) ∙ ap (λ ts. before ++ (ts ++ told kind more)) (sym (told_one kind line e says))
-    ∙ ap (λ ts. before ++ ts) (sym (ap (told kind) is ∙ told-cons kind line more)) ∙ so_far
 
 pub builds_object : (old : Parts) (objects : List (List ℕ × ℕ)) (word n : List ℕ) (r : Result (Unit {0}) NoMemory) → is_name word ≡ true → OnOk r (objects ≡ old.objects ++ (word, narrow n) ∷ [])
     → OnOk r (Builds (object word n) old (record { labels = old.labels; objects = objects; edges = old.edges }))

@@ -1,27 +1,31 @@
 -- One line judged or noted, and then the lines behind it.
-use Rattle.std.proofs.Common.{◌≡◌, ◌∙◌, ap, sym, refl, ℕ, ◌+◌, ◌≤◌, min, nat_le, Bool, true, false, cond, ◌||◌, List, [], ◌∷◌, ◌++◌, append_assoc, count_by, Option, Some, None, Result, Ok, Err, subst, arith}
+use Rattle.std.proofs.Common.{◌≡◌, ◌∙◌, ap, sym, refl, ℕ, ◌+◌, ◌≤◌, min, nat_le, Bool, true, false, cond, ◌||◌, List, [], ◌∷◌, ◌++◌, append_assoc, count_by, length, take, drop, get_or, ◌<◌, Option, Some, None, Result, Ok, Err, subst, arith}
 use Rattle.std.specs.Option.{option_map, option_or}
-use Rattle.std.specs.Result.{IsErrAnd}
+use Rattle.std.specs.Result.{IsErrAnd, OnOk}
 use Rattle.std.specs.Str.{bytes_eq}
 use Rattle.std.proofs.Math.Bool.{or_comm, or_assoc}
-use Rattle.std.proofs.lemmas.List.Sums.{sum_by-append}
+use Rattle.std.proofs.lemmas.List.{drop_more, map_more, map_push, take-map}
+use Rattle.std.proofs.lemmas.List.Sums.{sum_by-append, sum_by-take-le}
 use Rattle.auth_kinds.specs.declared.authority.Authority.{Authority}
+use Rattle.cam_base.specs.declared.error.NoMemory.{NoMemory}
 use Rattle.cam_base.specs.declared.error.Refused.{Refused}
 use Rattle.cam_base.specs.declared.error.Refused.TheVariants as refused
 use Rattle.cam_base.specs.declared.text_fault.TextCode.TheVariants.{PolicySyntax}
 use Rattle.cam_base.specs.declared.text_fault.TextFault.{TextFault}
 use Rattle.policy_text.specs.declared.kind.Kind.{Kind}
+use Rattle.policy_text.specs.declared.entry.EntryLine.{EntryLine}
 use Rattle.policy_text.specs.declared.read.Noted.{Noted}
 use Rattle.policy_text.specs.declared.seen.Seen.{Seen}
 use Rattle.policy_text.specs.declared.words.Words.{Words}
 use Rattle.policy_text.specs.Entries.{Number, Entry, label, object, edge}
+use Rattle.policy_text.specs.EntriesRead.{meant, told_line, told_lines}
 use Rattle.policy_text.specs.KnownNumbers.{IsNear}
 use Rattle.policy_text.specs.LinesSeen.{HasFewEdges, IsSeen, IsLineJudged}
-use Rattle.policy_text.specs.PolicyFaults.{Told, edges_limit, is_edge, wrong_entry, first_wrong}
+use Rattle.policy_text.specs.PolicyFaults.{Told, edges_limit, gives, is_edge, wrong_entry, fault_at, first_wrong}
 use Rattle.policy_text.specs.PolicyTexts.{said, told, form_fault, has_label, IsFault}
-use Rattle.policy_text.specs.TextsRead.{FindsFault, IsNoted, AreNoted}
+use Rattle.policy_text.specs.TextsRead.{FindsFault, AreNoted, Notes}
 use Rattle.policy_text.specs.WordSets.{has, IsAdded}
-use Rattle.policy_text.proofs.Before.{or_false, append_nil, first_wrong-append, told-cons, form-cons, has_label-append, one_if, told_none, told_one}
+use Rattle.policy_text.proofs.Before.{or_false, told-cons, form-cons, has_label-append, one_if, told_one}
 use Rattle.text_lines.specs.LineFaults.{Wrong, at_line, IsRefusal}
 use Rattle.text_lines.specs.Lines.{Line}
 
@@ -51,98 +55,107 @@ notes_refused kind lines (Err other) r is h = subst (λ (e : Refused TextFault).
 
 -- ---- one line is judged
 
-Judged : (Number → Bool) → List Told → Seen → List Told → Type 0
-Judged knows before seen ts = (first_wrong knows before ts ≡ None) × IsSeen seen (before ++ ts)
+pub judged_right : (knows : Number → Bool) (before : List Told) (t : Told) (seen : Seen) → wrong_entry knows before t.0 t.1 ≡ None
+    → IsSeen seen (before ++ t ∷ []) → IsLineJudged knows before t seen (Ok tt)
+judged_right knows before t seen none is = (ap (option_map (at_line t.0)) none, is)
 
-pub judged_none : (kind : Kind) (knows : Number → Bool) (before : List Told) (line : Line) (seen : Seen) → said kind line ≡ None → IsSeen seen before → IsLineJudged kind knows before line seen (Ok tt)
-unfolding Judged
-judged_none kind knows before line seen none is =
-    subst (Judged knows before seen) (sym (told_none kind line none)) (refl, subst (IsSeen seen) (sym (append_nil before)) is)
-
-pub judged_right : (kind : Kind) (knows : Number → Bool) (before : List Told) (line : Line) (e : Entry) (seen : Seen) → said kind line ≡ Some e → wrong_entry knows before line e ≡ None
-    → IsSeen seen (before ++ (line, e) ∷ []) → IsLineJudged kind knows before line seen (Ok tt)
-unfolding Judged
-judged_right kind knows before line e seen says none is =
-    subst (Judged knows before seen) (sym (told_one kind line e says)) (ap (λ (w : Option Wrong). option_or (option_map (at_line line) w) None) none, is)
-
-pub judged_wrong : (kind : Kind) (knows : Number → Bool) (before : List Told) (line : Line) (e : Entry) (w : Wrong) (r : Refused TextFault) → said kind line ≡ Some e
-    → wrong_entry knows before line e ≡ Some w → IsRefusal line w r → IsFault (first_wrong knows before (told kind (line ∷ []))) r
-judged_wrong kind knows before line e w (refused.Fault f) says stands fits =
-    ap (first_wrong knows before) (told_one kind line e says) ∙ ap (λ (w : Option Wrong). option_or (option_map (at_line line) w) None) stands ∙ ap (λ f. Some f) (sym fits)
-judged_wrong kind knows before line e w refused.NoMemory says stands fits = tt
+pub judged_wrong : (knows : Number → Bool) (before : List Told) (t : Told) (w : Wrong) (r : Refused TextFault) → wrong_entry knows before t.0 t.1 ≡ Some w → IsRefusal t.0 w r
+    → IsFault (fault_at knows before t) r
+judged_wrong knows before t w (refused.Fault f) stands fits = ap (option_map (at_line t.0)) stands ∙ ap (λ f. Some f) (sym fits)
+judged_wrong knows before t w refused.NoMemory stands fits = tt
 
 -- ---- the lines behind it
 
-check_more : (knows : Number → Bool) (kind : Kind) (before : List Told) (line : Line) (left more : List Line) → left ≡ line ∷ more
-    → first_wrong knows before (told kind left) ≡ option_or (first_wrong knows before (told kind (line ∷ []))) (first_wrong knows (before ++ told kind (line ∷ [])) (told kind more))
-check_more knows kind before line left more is =
-    ap (λ ls. first_wrong knows before (told kind ls)) is ∙ ap (first_wrong knows before) (told-cons kind line more) ∙ first_wrong-append knows before (told kind (line ∷ [])) (told kind more)
+pub told_more : (lines : List EntryLine) (i : ℕ) (x : EntryLine) → i < length lines → x ≡ get_or lines i x → told_lines (take (i + 1) lines) ≡ told_lines (take i lines) ++ told_line x ∷ []
+told_more lines i x lt is = map_more told_line lines i x lt ∙ ap (λ y. told_lines (take i lines) ++ told_line y ∷ []) (sym is)
 
-pub check_step : (knows : Number → Bool) (kind : Kind) (before : List Told) (line : Line) (left more : List Line) (all : Option TextFault) → left ≡ line ∷ more
-    → first_wrong knows before (told kind left) ≡ all → first_wrong knows before (told kind (line ∷ [])) ≡ None
-    → first_wrong knows (before ++ told kind (line ∷ [])) (told kind more) ≡ all
-check_step knows kind before line left more all is so_far none =
-    ap (λ o. option_or o (first_wrong knows (before ++ told kind (line ∷ [])) (told kind more))) (sym none) ∙ sym (check_more knows kind before line left more is) ∙ so_far
+module _ (knows : Number → Bool) (lines : List EntryLine) (i : ℕ) (x : EntryLine) (lt : i < length lines) (is : x ≡ get_or lines i x) where
+  check_more : first_wrong knows (told_lines (take i lines)) (told_lines (drop i lines))
+      ≡ option_or (fault_at knows (told_lines (take i lines)) (told_line x)) (first_wrong knows (told_lines (take (i + 1) lines)) (told_lines (drop (i + 1) lines)))
+  check_more =
+      ap (λ ls. first_wrong knows (told_lines (take i lines)) (told_lines ls)) (drop_more lines i x lt ∙ ap (λ y. y ∷ drop (i + 1) lines) (sym is))
+      ∙ ap (λ ts. option_or (fault_at knows (told_lines (take i lines)) (told_line x)) (first_wrong knows ts (told_lines (drop (i + 1) lines)))) (sym (told_more lines i x lt is))
 
-pub check_fails : (knows : Number → Bool) (kind : Kind) (before : List Told) (line : Line) (left more : List Line) (all : Option TextFault) (r : Refused TextFault) → left ≡ line ∷ more
-    → first_wrong knows before (told kind left) ≡ all → IsFault (first_wrong knows before (told kind (line ∷ []))) r → IsFault all r
-check_fails knows kind before line left more all r is so_far here =
-    fault_is _ all r (sym (check_more knows kind before line left more is) ∙ so_far) (fault_first _ (first_wrong knows (before ++ told kind (line ∷ [])) (told kind more)) r here)
+  pub check_step : (all : Option TextFault) → first_wrong knows (told_lines (take i lines)) (told_lines (drop i lines)) ≡ all
+      → fault_at knows (told_lines (take i lines)) (told_line x) ≡ None → first_wrong knows (told_lines (take (i + 1) lines)) (told_lines (drop (i + 1) lines)) ≡ all
+  check_step all so_far none =
+      ap (λ o. option_or o (first_wrong knows (told_lines (take (i + 1) lines)) (told_lines (drop (i + 1) lines)))) (sym none) ∙ sym check_more ∙ so_far
+
+  pub check_fails : (all : Option TextFault) (r : Refused TextFault) → first_wrong knows (told_lines (take i lines)) (told_lines (drop i lines)) ≡ all
+      → IsFault (fault_at knows (told_lines (take i lines)) (told_line x)) r → IsFault all r
+  check_fails all r so_far wrong =
+      fault_is _ all r (sym check_more ∙ so_far) (fault_first _ (first_wrong knows (told_lines (take (i + 1) lines)) (told_lines (drop (i + 1) lines))) r wrong)
+
+pub few_front : (lines : List EntryLine) (i : ℕ) (x : EntryLine) → i < length lines → x ≡ get_or lines i x → HasFewEdges (told_lines lines) → HasFewEdges (told_lines (take i lines) ++ told_line x ∷ [])
+few_front lines i x lt is few =
+    let whole = ap (count_by (λ t. is_edge t.1)) (sym (told_more lines i x lt is) ∙ sym (take-map told_line (i + 1) lines)) in
+    let le = sum_by-take-le (λ t. cond (is_edge t.1) 1 0) (told_lines lines) (i + 1) in
+    let f = few in
+    omega (arith, whole, le, f)
 
 -- ---- one line is noted
-
-pub form_none : (kind : Kind) (line : Line) → said kind line ≡ None → form_fault kind (line ∷ []) ≡ Some (at_line line (PolicySyntax, []))
-form_none kind line none = rw none refl
 
 pub form_some : (kind : Kind) (line : Line) (e : Entry) → said kind line ≡ Some e → form_fault kind (line ∷ []) ≡ None
 form_some kind line e says = rw says refl
 
 pub noted_none : (kind : Kind) (line : Line) (r : Refused TextFault) → said kind line ≡ None → IsRefusal line (PolicySyntax, []) r → IsFault (form_fault kind (line ∷ [])) r
-noted_none kind line (refused.Fault f) none fits = form_none kind line none ∙ ap (λ f. Some f) (sym fits)
+noted_none kind line (refused.Fault f) none fits = let is : form_fault kind (line ∷ []) ≡ Some (at_line line (PolicySyntax, [])) = rw none refl in is ∙ ap (λ f. Some f) (sym fits)
 noted_none kind line refused.NoMemory none fits = tt
 
-no_edges : (kind : Kind) (line : Line) (e : Entry) (n : ℕ) → said kind line ≡ Some e → is_edge e ≡ false → n ≡ n + count_by (λ t. is_edge t.1) (told kind (line ∷ []))
-no_edges kind line e n says apart =
-    let one : count_by (λ t. is_edge t.1) (told kind (line ∷ [])) ≡ 0 + one_if (is_edge e) = ap (count_by (λ t. is_edge t.1)) (told_one kind line e says) in
-    let none : one_if (is_edge e) ≡ 0 = ap one_if apart in
-    omega (arith, one, none)
+no_edges : (e : Entry) (n : ℕ) → is_edge e ≡ false → n ≡ n + one_if (is_edge e)
+no_edges e n apart = let none : one_if (is_edge e) ≡ 0 = ap one_if apart in omega (arith, none)
 
-pub noted_label : (kind : Kind) (line : Line) (old new : Noted) (n name : List ℕ) → said kind line ≡ Some (label n name) → IsAdded n old.numbers new.numbers → new.edges ≡ old.edges
-    → (IsNear old.near.items old.numbers → IsNear new.near.items new.numbers) → IsNoted kind line old new (Ok tt)
-noted_label kind line old new n name says added edges near = (
-  form_some kind line (label n name) says,
-  λ m. added.each m ∙ or_comm (bytes_eq n m) (has old.numbers m)
-      ∙ ap (λ b. has old.numbers m || b) (sym (ap (λ ts. has_label ts m) (told_one kind line (label n name) says) ∙ or_false (bytes_eq n m))),
-  λ le. edges ∙ no_edges kind line (label n name) old.edges says refl,
-  near,
-)
+-- the new lines are the old ones and this one
+abbrev Pushed : Noted → EntryLine → Noted → Type 0
+Pushed old line new = new.lines.items ≡ old.lines.items ++ line ∷ []
 
-same_numbers : (kind : Kind) (line : Line) (set : Words) (e : Entry) → said kind line ≡ Some e → ((m : List ℕ) → has_label ((line, e) ∷ []) m ≡ false)
-    → (m : List ℕ) → has set m ≡ (has set m || has_label (told kind (line ∷ [])) m)
-same_numbers kind line set e says apart m = sym (or_false (has set m)) ∙ ap (λ b. has set m || b) (sym (ap (λ ts. has_label ts m) (told_one kind line e says) ∙ apart m))
+lines_more : (old new : Noted) (line : EntryLine) → Pushed old line new → told_lines new.lines.items ≡ told_lines old.lines.items ++ told_line line ∷ []
+lines_more old new line pushed = ap told_lines pushed ∙ map_push told_line old.lines.items line
 
-pub noted_object : (kind : Kind) (line : Line) (old : Noted) (word n : List ℕ) → said kind line ≡ Some (object word n) → IsNoted kind line old old (Ok tt)
-noted_object kind line old word n says = (
-  form_some kind line (object word n) says,
-  same_numbers kind line old.numbers (object word n) says (λ m. refl),
-  λ le. no_edges kind line (object word n) old.edges says refl,
-  λ near. near,
-)
+pub notes_label : (old new : Noted) (line : EntryLine) (n name : List ℕ) (r : Result (Unit {0}) NoMemory) → meant line.entry ≡ label n name → OnOk r (IsAdded n old.numbers new.numbers)
+    → OnOk r (IsNear old.near.items old.numbers → IsNear new.near.items new.numbers) → new.edges ≡ old.edges → Pushed old line new → OnOk r (Notes (told_line line) old new)
+notes_label old new line n name (Ok x) is added near edges pushed = record {
+  numbers = λ m. added.each m ∙ or_comm (bytes_eq n m) (has old.numbers m) ∙ ap (λ e. has old.numbers m || gives m e) (sym is);
+  edges = λ le. edges ∙ no_edges (meant line.entry) old.edges (ap is_edge is);
+  near = near;
+  lines = lines_more old new line pushed;
+}
+notes_label old new line n name (Err e) is added near edges pushed = tt
+
+-- a line that gives no number
+notes_other : (old new : Noted) (line : EntryLine) → ((m : List ℕ) → gives m (meant line.entry) ≡ false) → new.numbers ≡ old.numbers → new.near ≡ old.near
+    → (new.edges ≤ edges_limit → new.edges ≡ old.edges + one_if (is_edge (meant line.entry))) → Pushed old line new → Notes (told_line line) old new
+notes_other old new line apart numbers near edges pushed = record {
+  numbers = λ m. ap (λ set. has set m) numbers ∙ sym (ap (λ b. has old.numbers m || b) (apart m) ∙ or_false (has old.numbers m));
+  edges = edges;
+  near = λ is. rw (numbers, near) is;
+  lines = lines_more old new line pushed;
+}
+
+pub notes_object : (old new : Noted) (line : EntryLine) (word n : List ℕ) → meant line.entry ≡ object word n → new.numbers ≡ old.numbers → new.near ≡ old.near → new.edges ≡ old.edges
+    → Pushed old line new → Notes (told_line line) old new
+notes_object old new line word n is numbers near edges pushed =
+    notes_other old new line (λ m. ap (gives m) is) numbers near (λ le. edges ∙ no_edges (meant line.entry) old.edges (ap is_edge is)) pushed
 
 capped : (n m : ℕ) → n ≡ min (m + 1) 18446744073709551615 → n ≤ edges_limit → n ≡ m + 1
 capped n m is le = omega arith
 
-pub noted_edge : (kind : Kind) (line : Line) (old : Noted) (edges : ℕ) (l : List ℕ) (a : Authority) (m : List ℕ) → said kind line ≡ Some (edge l a m)
-    → edges ≡ min (old.edges + 1) 18446744073709551615 → IsNoted kind line old (record { numbers = old.numbers; near = old.near; edges = edges }) (Ok tt)
-noted_edge kind line old edges l a m says is = (
-  form_some kind line (edge l a m) says,
-  same_numbers kind line old.numbers (edge l a m) says (λ n. refl),
-  λ le.
-      let one : count_by (λ t. is_edge t.1) (told kind (line ∷ [])) ≡ 1 = ap (count_by (λ t. is_edge t.1)) (told_one kind line (edge l a m) says) in
-      let more : edges ≡ old.edges + 1 = capped edges old.edges is le in
-      omega (arith, one, more),
-  λ near. near,
-)
+pub notes_edge : (old new : Noted) (line : EntryLine) (l : List ℕ) (a : Authority) (m : List ℕ) → meant line.entry ≡ edge l a m → new.numbers ≡ old.numbers → new.near ≡ old.near
+    → new.edges ≡ min (old.edges + 1) 18446744073709551615 → Pushed old line new → Notes (told_line line) old new
+notes_edge old new line l a m is numbers near edges pushed =
+    notes_other old new line (λ n. ap (gives n) is) numbers near (λ le. capped new.edges old.edges edges le ∙ ap (λ e. old.edges + one_if (is_edge e)) (sym is)) pushed
+
+pub noted_numbers : (kind : Kind) (line : Line) (e : Entry) (old new : Noted) (n : List ℕ) → said kind line ≡ Some e → Notes (line, e) old new
+    → has new.numbers n ≡ (has old.numbers n || has_label (told kind (line ∷ [])) n)
+noted_numbers kind line e old new n says notes =
+    notes.numbers n ∙ ap (λ b. has old.numbers n || b) (sym (ap (λ ts. has_label ts n) (told_one kind line e says) ∙ or_false (gives n e)))
+
+pub noted_edges : (kind : Kind) (line : Line) (e : Entry) (old new : Noted) → said kind line ≡ Some e → Notes (line, e) old new
+    → new.edges ≤ edges_limit → new.edges ≡ old.edges + count_by (λ t. is_edge t.1) (told kind (line ∷ []))
+noted_edges kind line e old new says notes le =
+    let one : count_by (λ t. is_edge t.1) (told kind (line ∷ [])) ≡ 0 + one_if (is_edge e) = ap (count_by (λ t. is_edge t.1)) (told_one kind line e says) in
+    let more = notes.edges le in
+    omega (arith, one, more)
 
 -- ---- the lines behind it
 
@@ -179,22 +192,11 @@ edges_step kind line left more old new all is so_far noted le =
     omega arith
 
 -- the lines told so far, and then those that are left
-pub told_on : (kind : Kind) (before : List Told) (line : Line) (left more : List Line) (all : List Told) → left ≡ line ∷ more → before ++ told kind left ≡ all
-    → (before ++ told kind (line ∷ [])) ++ told kind more ≡ all
-told_on kind before line left more all is so_far =
-    append_assoc before (told kind (line ∷ [])) (told kind more) ∙ ap (λ ts. before ++ ts) (sym (ap (told kind) is ∙ told-cons kind line more)) ∙ so_far
-
-pub few_front : (kind : Kind) (before : List Told) (line : Line) (left more : List Line) (all : List Told) → left ≡ line ∷ more → before ++ told kind left ≡ all → HasFewEdges all
-    → HasFewEdges (before ++ told kind (line ∷ []))
-few_front kind before line left more all is so_far few =
-    let whole = told_on kind before line left more all is so_far in
-    let sum = sum_by-append (λ t. cond (is_edge t.1) 1 0) (before ++ told kind (line ∷ [])) (told kind more) in
-    let same = ap (count_by (λ t. is_edge t.1)) whole in
-    let f = few in
-    omega arith
-
-pub few_said : (kind : Kind) (before : List Told) (line : Line) (e : Entry) → said kind line ≡ Some e → HasFewEdges (before ++ told kind (line ∷ [])) → HasFewEdges (before ++ (line, e) ∷ [])
-few_said kind before line e says few = subst (λ (ts : List Told). HasFewEdges (before ++ ts)) (told_one kind line e says) few
+pub told_on : (kind : Kind) (before : List Told) (line : Line) (e : Entry) (left more : List Line) (all : List Told) → left ≡ line ∷ more → before ++ told kind left ≡ all → said kind line ≡ Some e
+    → (before ++ (line, e) ∷ []) ++ told kind more ≡ all
+told_on kind before line e left more all is so_far says =
+    append_assoc before ((line, e) ∷ []) (told kind more) ∙ ap (λ ts. before ++ (ts ++ told kind more)) (sym (told_one kind line e says))
+    ∙ ap (λ ts. before ++ ts) (sym (ap (told kind) is ∙ told-cons kind line more)) ∙ so_far
 
 few_le : (n : ℕ) → nat_le n edges_limit ≡ true → n ≤ edges_limit
 few_le n test = grind arith

@@ -1,5 +1,5 @@
 -- The numbers that have a label.
-use Rattle.std.specs.Prelude.{◌≡◌, ◌<◌, ◌^◌, ℕ, Bool, true, false, List}
+use Rattle.std.specs.Prelude.{◌≡◌, ◌<◌, ◌^◌, ℕ, Bool, true, false, List, Option, Some, None}
 use Rattle.std.specs.Borrow.{Bor}
 use Rattle.std.specs.BTreeSet.{BTreeSet, contains}
 use Rattle.std.specs.List.{list_any}
@@ -23,6 +23,11 @@ IsSmall numbers = (n : ℕ) → contains nat_cmp numbers n ≡ true → n < 2 ^ 
 -- the numbers that are found by their place are among them
 abbrev pub IsNear : List (Bor (List ℕ)) → Words → Type 0
 IsNear near numbers = (n : List ℕ) → list_any (λ w. bytes_eq w.now n) near ≡ true → has numbers n ≡ true
+
+-- a value below this one
+abbrev pub IfLow : ℕ → Option ℕ → Type 0
+IfLow near None = ⊥
+IfLow near (Some v) = v < near
 
 abbrev pub IsRight : Known → Type 0
 IsRight (Lines numbers near) = IsNear near.items numbers

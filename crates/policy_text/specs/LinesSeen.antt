@@ -7,10 +7,9 @@ use Rattle.cam_base.specs.declared.error.Refused.{Refused}
 use Rattle.cam_base.specs.declared.text_fault.TextCode.{TextCode}
 use Rattle.cam_base.specs.declared.text_fault.TextFault.{TextFault}
 use Rattle.policy_text.specs.Entries.{Number, Entry}
-use Rattle.policy_text.specs.PolicyFaults.{Told, gives, names_label, labels_object, says_edge, is_edge, is_label, is_object, new_edges, edges_limit, wrong_entry, first_wrong}
-use Rattle.policy_text.specs.PolicyTexts.{told, IsFault}
+use Rattle.policy_text.specs.PolicyFaults.{Told, gives, names_label, labels_object, says_edge, is_edge, is_label, is_object, new_edges, edges_limit, wrong_entry, fault_at}
+use Rattle.policy_text.specs.PolicyTexts.{IsFault}
 use Rattle.policy_text.specs.WordSets.{has, words_len}
-use Rattle.policy_text.specs.declared.kind.Kind.{Kind}
 use Rattle.policy_text.specs.declared.seen.Seen.{Seen}
 use Rattle.policy_text.specs.declared.words.Words.{Words}
 use Rattle.text_lines.specs.LineFaults.{Wrong}
@@ -49,7 +48,6 @@ abbrev pub what : Option (TextCode × Bor (List ℕ)) → Option Wrong
 what = option_map (λ w. (w.0, w.1.now))
 
 -- a line was taken in behind these, or refused by its fault
-abbrev pub IsLineJudged : Kind → (Number → Bool) → List Told → Line → Seen → Result (Unit {0}) (Refused TextFault) → Type 0
-IsLineJudged kind knows before line seen (Ok _) =
-    (first_wrong knows before (told kind (line ∷ [])) ≡ None) × IsSeen seen (before ++ told kind (line ∷ []))
-IsLineJudged kind knows before line seen (Err refusal) = IsFault (first_wrong knows before (told kind (line ∷ []))) refusal
+abbrev pub IsLineJudged : (Number → Bool) → List Told → Told → Seen → Result (Unit {0}) (Refused TextFault) → Type 0
+IsLineJudged knows before told seen (Ok _) = (fault_at knows before told ≡ None) × IsSeen seen (before ++ told ∷ [])
+IsLineJudged knows before told seen (Err refusal) = IsFault (fault_at knows before told) refusal

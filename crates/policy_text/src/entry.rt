@@ -8,26 +8,34 @@ ghost use Rattle.std.specs.Prelude.{◌≡◌, ◌==◌, ◌<◌, ◌∷◌, len
 ghost use Rattle.text_lines.specs.Fields.{fields};
 
 use crate::kind::Kind;
-use crate::number::is_decimal;
+use crate::number::Digits;
 use auth_kinds::{Authority, is_label_name};
 use cam_base::is_word;
+use text_lines::Line;
 
 /// What a line says, by its fields. Numbers stand as they are written.
 #[derive(Clone, Copy)]
 pub enum Entry<'a> {
     Label {
-        number: &'a [u8],
+        number: Digits<'a>,
         name: &'a [u8],
     },
     Object {
         word: &'a [u8],
-        number: &'a [u8],
+        number: Digits<'a>,
     },
     Edge {
-        from: &'a [u8],
+        from: Digits<'a>,
         authority: Authority,
-        to: &'a [u8],
+        to: Digits<'a>,
     },
+}
+
+/// A line, and what it says.
+#[derive(Clone, Copy)]
+pub struct EntryLine<'a> {
+    pub line: Line<'a>,
+    pub entry: Entry<'a>,
 }
 
 fn space_in(text: &[u8]) -> Option<usize>
@@ -50,7 +58,8 @@ fn cut(text: &[u8]) -> (&[u8], Option<&[u8]>)
 fn label_entry<'a>(number: &'a [u8], name: &'a [u8]) -> Option<Entry<'a>>
     ensures { option_map meant result ≡ label_entry number.entry.now name.entry.now }
 {
-    if is_decimal(number) && is_label_name(name) {
+    let number = Digits::read(number)?;
+    if is_label_name(name) {
         Some(Entry::Label { number, name })
     } else {
         None
@@ -60,7 +69,8 @@ fn label_entry<'a>(number: &'a [u8], name: &'a [u8]) -> Option<Entry<'a>>
 fn object_entry<'a>(word: &'a [u8], number: &'a [u8]) -> Option<Entry<'a>>
     ensures { option_map meant result ≡ object_entry word.entry.now number.entry.now }
 {
-    if is_word(word) && is_decimal(number) {
+    let number = Digits::read(number)?;
+    if is_word(word) {
         Some(Entry::Object { word, number })
     } else {
         None
@@ -70,9 +80,8 @@ fn object_entry<'a>(word: &'a [u8], number: &'a [u8]) -> Option<Entry<'a>>
 fn edge_entry<'a>(from: &'a [u8], authority: &[u8], to: &'a [u8]) -> Option<Entry<'a>>
     ensures { option_map meant result ≡ edge_entry from.entry.now authority.now to.entry.now }
 {
-    if !is_decimal(from) || !is_decimal(to) {
-        return None;
-    }
+    let from = Digits::read(from)?;
+    let to = Digits::read(to)?;
     let authority = Authority::find(authority)?;
     Some(Entry::Edge {
         from,

@@ -1,15 +1,16 @@
 //! Which numbers have a label.
 
-ghost use Rattle.policy_text.specs.KnownNumbers.{knows, IsRight, IsSmall};
+ghost use Rattle.policy_text.specs.KnownNumbers.{knows, IfLow, IsRight, IsSmall};
 ghost use Rattle.policy_text.specs.Entries.{value};
 ghost use Rattle.auth_kinds.specs.Policies.{label_name};
 ghost use Rattle.std.specs.BTreeSet.{contains};
 ghost use Rattle.std.specs.List.{list_any};
-ghost use Rattle.std.specs.Option.{is_some};
+ghost use Rattle.std.specs.Option.{is_some, option_map_or};
 ghost use Rattle.std.specs.Ordering.{nat_cmp};
 ghost use Rattle.std.specs.Str.{bytes_eq};
-ghost use Rattle.std.specs.Prelude.{◌≡◌, ◌<◌, ◌^◌, true, ℕ, IfOk};
+ghost use Rattle.std.specs.Prelude.{◌≡◌, ◌<◌, ◌^◌, true, false, ℕ, IfOk};
 
+use crate::number::Digits;
 use crate::words::Words;
 use cam_base::{NoMemory, Text, read_number};
 use std::alloc::Global;
@@ -31,29 +32,43 @@ pub enum Known<'a> {
 
 impl Known<'_> {
     /// Whether the number has a label. Takes no memory.
-    pub fn has(&self, number: &[u8]) -> bool
+    pub fn has(&self, number: Digits) -> bool
         requires { IsRight self.now }
-        ensures { result ≡ knows self.now number.now }
+        ensures { result ≡ knows self.now number.entry.text.now }
     {
         match self {
             Known::Lines { numbers, near } => {
-                is_near(near.as_slice(), number) || numbers.has(number)
+                is_near(near.as_slice(), number) || numbers.has(number.text)
             }
-            Known::Labels { numbers, near } => match read_number(number) {
-                Some(value) => value < *near || numbers.contains(&value),
-                None => false,
-            },
+            Known::Labels { numbers, near } => {
+                is_low(*near, number) || has_label(numbers, number.text)
+            }
         }
     }
 }
 
 /// Whether the number stands at its place.
-fn is_near(near: &[&[u8]], number: &[u8]) -> bool
-    ensures { result ≡ true → list_any (λ w. bytes_eq w.now number.now) near.now ≡ true }
+fn is_near(near: &[&[u8]], number: Digits) -> bool
+    ensures { result ≡ true → list_any (λ w. bytes_eq w.now number.entry.text.now) near.now ≡ true }
+{
+    let place = number.value as usize;
+    place < near.len() && near[place] == number.text
+}
+
+/// Whether the number's value is one from 1 on and below this one.
+fn is_low(near: u64, number: Digits) -> bool
+    ensures { result ≡ true → IfLow near (value number.entry.text.now) }
+{
+    number.value != 0 && u64::from(number.value) < near
+}
+
+/// Whether the number's value is in the set.
+fn has_label(numbers: &BTreeSet<u64>, number: &[u8]) -> bool
+    ensures { result ≡ option_map_or (λ v. contains nat_cmp numbers.now v) (value number.now) false }
 {
     match read_number(number) {
-        Some(place) if place < near.len() as u64 => near[place as usize] == number,
-        _ => false,
+        Some(value) => numbers.contains(&value),
+        None => false,
     }
 }
 

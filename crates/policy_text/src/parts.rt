@@ -1,15 +1,12 @@
 //! What the lines of a text say together.
 
 ghost use Rattle.policy_text.specs.Entries.{label, object, edge};
-ghost use Rattle.policy_text.specs.EntriesRead.{meant};
+ghost use Rattle.policy_text.specs.EntriesRead.{meant, told_lines};
 ghost use Rattle.policy_text.specs.PartsBuilt.{IsBuilt, Builds, IsPolicyOf};
-ghost use Rattle.policy_text.specs.PolicyTexts.{body, told};
 ghost use Rattle.std.specs.Prelude.{[], IfOk, OnOk};
 
-use crate::entry::{Entry, read_entry};
-use crate::head::body;
-use crate::kind::Kind;
-use crate::number::narrow;
+use crate::entry::{Entry, EntryLine};
+use crate::number::Digits;
 use auth_kinds::{Authority, Edge, EdgeTable, Policy};
 use cam_base::{List, Name, NoMemory, Text, is_name};
 use std::alloc::Global;
@@ -35,15 +32,13 @@ impl Parts {
         }
     }
 
-    /// What the lines behind the header say.
-    pub fn of(alloc: Global, kind: Kind, bytes: &[u8]) -> Result<Parts, NoMemory>
-        ensures { IfOk result (λ parts. IsBuilt parts (told kind (body bytes.now))) }
+    /// What the lines say.
+    pub fn of(alloc: Global, lines: &[EntryLine]) -> Result<Parts, NoMemory>
+        ensures { IfOk result (λ parts. IsBuilt parts (told_lines lines.now)) }
     {
         let mut parts = Parts::none(alloc);
-        for line in body(bytes) {
-            if let Some(entry) = read_entry(kind, line.text) {
-                parts.add(alloc, entry)?;
-            }
+        for line in lines {
+            parts.add(alloc, line.entry)?;
         }
         Ok(parts)
     }
@@ -62,31 +57,31 @@ impl Parts {
         }
     }
 
-    fn add_label(&mut self, alloc: Global, number: &[u8], name: &[u8]) -> Result<(), NoMemory>
-        ensures { OnOk result (Builds (label number.now name.now) self.old self.new) }
+    fn add_label(&mut self, alloc: Global, number: Digits, name: &[u8]) -> Result<(), NoMemory>
+        ensures { OnOk result (Builds (label number.entry.text.now name.now) self.old self.new) }
     {
         let text = Text::new(alloc, name)?;
-        self.labels.insert(narrow(number), text)?;
+        self.labels.insert(number.value, text)?;
         Ok(())
     }
 
-    fn add_object(&mut self, alloc: Global, word: &[u8], number: &[u8]) -> Result<(), NoMemory>
-        ensures { OnOk result (Builds (object word.now number.now) self.old self.new) }
+    fn add_object(&mut self, alloc: Global, word: &[u8], number: Digits) -> Result<(), NoMemory>
+        ensures { OnOk result (Builds (object word.now number.entry.text.now) self.old self.new) }
     {
         if !is_name(word) {
             return Ok(());
         }
         let name = Name::of_identifier(alloc, word)?;
-        self.objects.push((name, narrow(number)))
+        self.objects.push((name, number.value))
     }
 
-    fn add_edge(&mut self, from: &[u8], authority: Authority, to: &[u8]) -> Result<(), NoMemory>
-        ensures { OnOk result (Builds (edge from.now authority to.now) self.old self.new) }
+    fn add_edge(&mut self, from: Digits, authority: Authority, to: Digits) -> Result<(), NoMemory>
+        ensures { OnOk result (Builds (edge from.entry.text.now authority to.entry.text.now) self.old self.new) }
     {
         self.edges.push(Edge {
-            from: narrow(from),
+            from: from.value,
             authority,
-            to: narrow(to),
+            to: to.value,
         })?;
         Ok(())
     }

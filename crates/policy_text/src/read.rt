@@ -3,22 +3,24 @@
 ghost use Rattle.auth_kinds.specs.Policies.{IsPolicy};
 ghost use Rattle.policy_text.specs.KnownNumbers.{knows, IsNear, IsRight};
 ghost use Rattle.policy_text.specs.PolicyFaults.{first_wrong};
-ghost use Rattle.policy_text.specs.PolicyTexts.{body, told, IsPolicyRead, IsCertRead, AreLabelled};
+ghost use Rattle.policy_text.specs.PolicyTexts.{body, IsPolicyRead, IsCertRead, AreLabelled};
+ghost use Rattle.policy_text.specs.EntriesRead.{told_line, told_lines};
 ghost use Rattle.policy_text.specs.LinesSeen.{HasFewEdges};
-ghost use Rattle.policy_text.specs.TextsRead.{FindsFault, IsNoted, AreNoted};
+ghost use Rattle.policy_text.specs.TextsRead.{FindsFault, IsNoted, AreNoted, Notes};
 ghost use Rattle.policy_text.specs.WordSets.{IsAdded};
 ghost use Rattle.std.specs.Prelude.{◌≡◌, [], true, IfOk, OnOk};
 ghost use Rattle.text_lines.specs.LinesLeft.{line_of};
 
-use crate::entry::{Entry, read_entry};
+use crate::entry::{Entry, EntryLine, read_entry};
 use crate::head::{body, check_head};
 use crate::kind::Kind;
 use crate::known::{Known, near_labels, numbers_of};
+use crate::number::Digits;
 use crate::parts::Parts;
 use crate::seen::{MAX_EDGES, Seen};
 use crate::words::Words;
 use auth_kinds::{EdgeTable, Policy};
-use cam_base::{NoMemory, Refused, TextCode, TextFault, read_number};
+use cam_base::{NoMemory, Refused, TextCode, TextFault};
 use std::alloc::Global;
 use text_lines::{Line, refusal};
 
@@ -34,8 +36,8 @@ pub fn read_policy(alloc: Global, bytes: &[u8]) -> Result<Policy, Refused<TextFa
         numbers: noted.numbers,
         near: noted.near,
     };
-    check_lines(alloc, Kind::Policy, &known, few, bytes)?;
-    let parts = Parts::of(alloc, Kind::Policy, bytes)?;
+    check_lines(alloc, &known, few, noted.lines.as_slice())?;
+    let parts = Parts::of(alloc, noted.lines.as_slice())?;
     Ok(parts.into_policy(alloc)?)
 }
 
@@ -57,30 +59,47 @@ pub fn read_cert(
         numbers,
         near: near_labels(policy.labels.as_slice()),
     };
-    check_lines(alloc, Kind::Certificate, &known, few, bytes)?;
-    let parts = Parts::of(alloc, Kind::Certificate, bytes)?;
+    check_lines(alloc, &known, few, noted.lines.as_slice())?;
+    let parts = Parts::of(alloc, noted.lines.as_slice())?;
     Ok(EdgeTable::from_list(alloc, parts.edges.as_slice())?)
 }
 
-/// What the lines of a text say in all: the numbers of its label lines, those among them that stand one behind another from
-/// 0 on, and how many edge lines it has.
+/// What the lines of a text say, in order, and in all: the numbers of its label lines, those among them that stand one behind
+/// another from 0 on, and how many edge lines it has.
 #[derive(Drop)]
 pub struct Noted<'a> {
     pub numbers: Words<'a>,
     pub near: Vec<&'a [u8]>,
     pub edges: usize,
+    pub lines: Vec<EntryLine<'a>>,
 }
 
 impl<'a> Noted<'a> {
+    /// Takes in a line.
+    fn add(&mut self, told: EntryLine<'a>) -> Result<(), NoMemory>
+        ensures { OnOk result (Notes (told_line told.entry) self.old self.new) }
+    {
+        self.lines.push(told)?;
+        match told.entry {
+            Entry::Label { number, .. } => self.add_number(number),
+            Entry::Object { .. } => Ok(()),
+            Entry::Edge { .. } => {
+                self.edges = self.edges.saturating_add(1);
+                Ok(())
+            }
+        }
+    }
+
     /// Takes in the number of a label line.
-    fn add(&mut self, number: &'a [u8]) -> Result<(), NoMemory>
-        ensures added { OnOk result (IsAdded number.entry.now self.old.numbers self.new.numbers) }
+    fn add_number(&mut self, number: Digits<'a>) -> Result<(), NoMemory>
+        ensures added { OnOk result (IsAdded number.entry.text.now self.old.numbers self.new.numbers) }
         ensures near { OnOk result (IsNear self.old.near.items self.old.numbers → IsNear self.new.near.items self.new.numbers) }
         ensures edges { self.new.edges ≡ self.old.edges }
+        ensures lines { self.new.lines ≡ self.old.lines }
     {
-        self.numbers.add(number)?;
-        if read_number(number) == Some(self.near.len() as u64) {
-            self.near.push(number)?;
+        self.numbers.add(number.text)?;
+        if number.value as usize == self.near.len() {
+            self.near.push(number.text)?;
         }
         Ok(())
     }
@@ -94,6 +113,7 @@ fn note_lines(alloc: Global, kind: Kind, bytes: &[u8]) -> Result<Noted<'_>, Refu
         numbers: Words::new(alloc),
         near: Vec::new(alloc),
         edges: 0,
+        lines: Vec::new(alloc),
     };
     for line in body(bytes) {
         note_line(alloc, kind, line, &mut noted)?;
@@ -111,30 +131,24 @@ fn note_line<'a>(
 {
     match read_entry(kind, line.text) {
         None => Err(refusal(alloc, line, TextCode::PolicySyntax, b"")),
-        Some(Entry::Label { number, .. }) => Ok(noted.add(number)?),
-        Some(Entry::Object { .. }) => Ok(()),
-        Some(Entry::Edge { .. }) => {
-            noted.edges = noted.edges.saturating_add(1);
-            Ok(())
-        }
+        Some(entry) => Ok(noted.add(EntryLine { line, entry })?),
     }
 }
 
-/// Finds the first line with which something is wrong. Where the text has few edge lines, none of them is past the limit.
+/// Finds the first line with which something is wrong. Where there are few edge lines, none of them is past the limit.
 fn check_lines(
     alloc: Global,
-    kind: Kind,
     known: &Known,
     few: bool,
-    bytes: &[u8],
+    lines: &[EntryLine],
 ) -> Result<(), Refused<TextFault>>
     requires known { IsRight known.now }
-    requires few { few ≡ true → HasFewEdges (told kind (body bytes.now)) }
-    ensures { FindsFault (first_wrong (knows known.now) [] (told kind (body bytes.now))) result }
+    requires few { few ≡ true → HasFewEdges (told_lines lines.now) }
+    ensures { FindsFault (first_wrong (knows known.now) [] (told_lines lines.now)) result }
 {
     let mut seen = Seen::nothing(alloc, few);
-    for line in body(bytes) {
-        seen.read_line(alloc, kind, known, line)?;
+    for line in lines {
+        seen.read_line(alloc, known, *line)?;
     }
     Ok(())
 }

@@ -2,25 +2,22 @@
 
 ghost use Rattle.auth_kinds.specs.declared.authority.Authority.{Authority};
 ghost use Rattle.policy_text.specs.Entries.{Number, label, object, edge};
-ghost use Rattle.policy_text.specs.EntriesRead.{meant};
+ghost use Rattle.policy_text.specs.EntriesRead.{meant, told_line};
 ghost use Rattle.policy_text.specs.KnownNumbers.{knows, IsRight};
 ghost use Rattle.policy_text.specs.LinesSeen.{HasFewEdges, HasRoom, IsSeen, Takes, what, IsLineJudged};
 ghost use Rattle.policy_text.specs.PolicyFaults.{Told, edges_limit, new_edges, says_edge, wrong_entry};
-ghost use Rattle.policy_text.specs.PolicyTexts.{told};
 ghost use Rattle.std.specs.List.{list_any};
 ghost use Rattle.std.specs.Option.{is_none};
 ghost use Rattle.std.specs.Prelude.{◌≡◌, [], ◌∷◌, ◌++◌, ◌&&◌, List, Bool, nat_le, not, true, OnOk, IfNone};
 ghost use Rattle.text_lines.specs.Lines.{Line as SpecLine};
-ghost use Rattle.text_lines.specs.LinesLeft.{line_of};
 
-use crate::entry::{Entry, read_entry};
-use crate::kind::Kind;
+use crate::entry::{Entry, EntryLine};
 use crate::known::Known;
-use crate::number::is_past;
+use crate::number::{Digits, is_past};
 use crate::words::Words;
 use cam_base::{NoMemory, Refused, TextCode, TextFault};
 use std::alloc::Global;
-use text_lines::{Line, refusal};
+use text_lines::refusal;
 
 /// The most labels of a text.
 pub const MAX_LABELS: usize = 8192;
@@ -62,19 +59,16 @@ impl<'a> Seen<'a> {
     pub fn read_line(
         &mut self,
         alloc: Global,
-        kind: Kind,
         known: &Known,
-        line: Line<'a>,
+        told: EntryLine<'a>,
     ) -> Result<(), Refused<TextFault>>
         requires { IsRight known.now }
         ensures judged { (before : List Told) → IsSeen self.old before
-            → (is_none self.old.edges ≡ true → HasFewEdges (before ++ told kind (line_of line.entry ∷ [])))
-            → IsLineJudged kind (knows known.now) before (line_of line.entry) self.new result }
+            → (is_none self.old.edges ≡ true → HasFewEdges (before ++ told_line told.entry ∷ []))
+            → IsLineJudged (knows known.now) before (told_line told.entry) self.new result }
         ensures few { is_none self.new.edges ≡ is_none self.old.edges }
     {
-        let Some(entry) = read_entry(kind, line.text) else {
-            return Ok(());
-        };
+        let EntryLine { line, entry } = told;
         if let Some((code, name)) = self.wrong(known, line.text, entry) {
             return Err(refusal(alloc, line, code, name));
         }
@@ -95,13 +89,13 @@ impl<'a> Seen<'a> {
         }
     }
 
-    fn wrong_label(&self, number: &'a [u8], name: &[u8]) -> Option<(TextCode, &'a [u8])>
+    fn wrong_label(&self, number: Digits<'a>, name: &[u8]) -> Option<(TextCode, &'a [u8])>
         ensures { (before : List Told) (knows : Number → Bool) (line : SpecLine) → IsSeen self.now before
-            → what result ≡ wrong_entry knows before line (label number.entry.now name.now) }
+            → what result ≡ wrong_entry knows before line (label number.entry.text.now name.now) }
     {
-        if self.numbers.has(number) || self.names.has(name) {
-            Some((TextCode::LabelTwice, number))
-        } else if is_past(number) || self.numbers.len() >= MAX_LABELS {
+        if self.numbers.has(number.text) || self.names.has(name) {
+            Some((TextCode::LabelTwice, number.text))
+        } else if is_past(number.text) || self.numbers.len() >= MAX_LABELS {
             Some((TextCode::PolicyLimit, b""))
         } else {
             None
@@ -112,14 +106,14 @@ impl<'a> Seen<'a> {
         &self,
         known: &Known,
         word: &'a [u8],
-        number: &'a [u8],
+        number: Digits<'a>,
     ) -> Option<(TextCode, &'a [u8])>
         requires { IsRight known.now }
         ensures { (before : List Told) (line : SpecLine) → IsSeen self.now before
-            → what result ≡ wrong_entry (knows known.now) before line (object word.entry.now number.entry.now) }
+            → what result ≡ wrong_entry (knows known.now) before line (object word.entry.now number.entry.text.now) }
     {
         if !known.has(number) {
-            Some((TextCode::UnknownLabel, number))
+            Some((TextCode::UnknownLabel, number.text))
         } else if self.objects.has(word) {
             Some((TextCode::ObjectTwice, word))
         } else if word.len() > MAX_WORD || self.objects.len() >= MAX_OBJECTS {
@@ -133,18 +127,18 @@ impl<'a> Seen<'a> {
         &self,
         known: &Known,
         text: &[u8],
-        from: &'a [u8],
-        to: &'a [u8],
+        from: Digits<'a>,
+        to: Digits<'a>,
     ) -> Option<(TextCode, &'a [u8])>
         requires { IsRight known.now }
         ensures { (before : List Told) (line : SpecLine) (a : Authority) → line.text ≡ text.now → IsSeen self.now before
             → (is_none self.now.edges ≡ true → HasRoom before)
-            → what result ≡ wrong_entry (knows known.now) before line (edge from.entry.now a to.entry.now) }
+            → what result ≡ wrong_entry (knows known.now) before line (edge from.entry.text.now a to.entry.text.now) }
     {
         if !known.has(from) {
-            Some((TextCode::UnknownLabel, from))
+            Some((TextCode::UnknownLabel, from.text))
         } else if !known.has(to) {
-            Some((TextCode::UnknownLabel, to))
+            Some((TextCode::UnknownLabel, to.text))
         } else if self.is_past_edges(text) {
             Some((TextCode::PolicyLimit, b""))
         } else {
@@ -170,7 +164,7 @@ impl<'a> Seen<'a> {
     {
         match entry {
             Entry::Label { number, name } => {
-                self.numbers.add(number)?;
+                self.numbers.add(number.text)?;
                 self.names.add(name)
             }
             Entry::Object { word, .. } => self.objects.add(word),

@@ -1,21 +1,32 @@
-use Rattle.std.proofs.Common.{count_by}
+use Rattle.std.proofs.Common.{◌∙◌, ◌++◌, ap, count_by}
+use Rattle.policy_text.specs.EntriesRead.{told_lines}
 use Rattle.policy_text.specs.PolicyFaults.{is_edge}
 use Rattle.policy_text.specs.PolicyTexts.{body, told, form_fault, has_label}
-use Rattle.policy_text.proofs.Judging.{edges_step, forms_step, forms_fail, numbers_step, notes_refused}
+use Rattle.policy_text.proofs.Judging.{edges_step, form_some, forms_step, forms_fail, noted_edges, noted_numbers, numbers_step, notes_refused, told_on}
 use Rattle.policy_text.proofs.read.note_lines.Goals as goal
 use Rattle.text_lines.specs.LinesLeft.{line_of, lines_left}
 
 pub loop-line-preserved : goal.loop-line-preserved
-loop-line-preserved c = record {
-  forms = forms_step c.args.kind (line_of c.in-Some.line) (lines_left c.loop-line.line-iterator) (lines_left c.next.new.self) (form_fault c.args.kind (body c.args.bytes.now)) c.in-Some.ensures.steps c.loop-line.invariant.forms c.in_ok-note_line.ensures.0;
-  numbers = λ n.
-      numbers_step c.args.kind (line_of c.in-Some.line) (lines_left c.loop-line.line-iterator) (lines_left c.next.new.self) c.loop-line.noted.numbers c.note_line.new.noted.numbers n
-      (has_label (told c.args.kind (body c.args.bytes.now)) n) c.in-Some.ensures.steps (c.loop-line.invariant.numbers n) (c.in_ok-note_line.ensures.1 n);
-  edges =
-      edges_step c.args.kind (line_of c.in-Some.line) (lines_left c.loop-line.line-iterator) (lines_left c.next.new.self) c.loop-line.noted.edges c.note_line.new.noted.edges
-      (count_by (λ t. is_edge t.1) (told c.args.kind (body c.args.bytes.now))) c.in-Some.ensures.steps c.loop-line.invariant.edges c.in_ok-note_line.ensures.2;
-  near = c.in_ok-note_line.ensures.3 c.loop-line.invariant.near;
-}
+loop-line-preserved c =
+    let entry = c.in_ok-note_line.ensures.0 in
+    let says = c.in_ok-note_line.ensures.1 in
+    let notes = c.in_ok-note_line.ensures.2 in
+    let line = line_of c.in-Some.line in
+    let left = lines_left c.loop-line.line-iterator in
+    let more = lines_left c.next.new.self in
+    record {
+      forms = forms_step c.args.kind line left more (form_fault c.args.kind (body c.args.bytes.now)) c.in-Some.ensures.steps c.loop-line.invariant.forms (form_some c.args.kind line entry says);
+      numbers = λ n.
+          numbers_step c.args.kind line left more c.loop-line.noted.numbers c.note_line.new.noted.numbers n (has_label (told c.args.kind (body c.args.bytes.now)) n) c.in-Some.ensures.steps
+          (c.loop-line.invariant.numbers n) (noted_numbers c.args.kind line entry c.loop-line.noted c.note_line.new.noted n says notes);
+      edges =
+          edges_step c.args.kind line left more c.loop-line.noted.edges c.note_line.new.noted.edges (count_by (λ t. is_edge t.1) (told c.args.kind (body c.args.bytes.now))) c.in-Some.ensures.steps
+          c.loop-line.invariant.edges (noted_edges c.args.kind line entry c.loop-line.noted c.note_line.new.noted says notes);
+      near = notes.near c.loop-line.invariant.near;
+      lines =
+          ap (λ ts. ts ++ told c.args.kind more) notes.lines
+          ∙ told_on c.args.kind (told_lines c.loop-line.noted.lines.items) line entry left more (told c.args.kind (body c.args.bytes.now)) c.in-Some.ensures.steps c.loop-line.invariant.lines says;
+    }
 
 pub returns-in_err-note_line : goal.returns-in_err-note_line
 returns-in_err-note_line c =

@@ -1,4 +1,5 @@
-use Rattle.std.proofs.Common.{◌≡◌, ◌||◌, ◌≤◌, ◌+◌, ℕ, List, count_by}
+use Rattle.std.proofs.Common.{◌≡◌, ◌||◌, ◌≤◌, ◌+◌, ◌++◌, ℕ, List, count_by}
+use Rattle.policy_text.specs.EntriesRead.{told_lines}
 use Rattle.policy_text.specs.KnownNumbers.{IsNear}
 use Rattle.policy_text.specs.PolicyFaults.{edges_limit, is_edge}
 use Rattle.policy_text.specs.PolicyTexts.{body, told, form_fault, has_label}
@@ -13,4 +14,5 @@ invariant-loop-line l = record {
   edges : l.noted.edges ≤ edges_limit
       → l.noted.edges + count_by (λ t. is_edge t.1) (told l.kind (lines_left l.line-iterator)) ≡ count_by (λ t. is_edge t.1) (told l.kind (body l.bytes));
   near : IsNear l.noted.near.items l.noted.numbers;
+  lines : told_lines l.noted.lines.items ++ told l.kind (lines_left l.line-iterator) ≡ told l.kind (body l.bytes);
 }

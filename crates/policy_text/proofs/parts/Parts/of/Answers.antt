@@ -1,14 +1,11 @@
-use Rattle.std.proofs.Common.{sym, [], ◌∷◌, ◌++◌}
-use Rattle.policy_text.specs.EntriesRead.{meant}
-use Rattle.policy_text.specs.PolicyTexts.{told, body}
-use Rattle.policy_text.proofs.Building.{build_one}
+use Rattle.std.proofs.Common.{subst, sym, take, arith}
+use Rattle.policy_text.specs.EntriesRead.{told_lines}
+use Rattle.policy_text.specs.PartsBuilt.{IsBuilt}
+use Rattle.policy_text.proofs.Judging.{told_more}
 use Rattle.policy_text.proofs.parts.Parts.of.Goals as goal
-use Rattle.text_lines.specs.LinesLeft.{line_of, lines_left}
+use Rattle.text_lines.specs.LinesLeft.{line_of}
 
-pub loop-line-preserved-in-Continue-1 : goal.loop-line-preserved-in-Continue-1
-loop-line-preserved-in-Continue-1 c = (
-  c.loop-line.invariant.0 ++ (line_of c.in-Some.line, meant c.in-Some-read_entry.entry) ∷ [],
-  c.in_ok-add.ensures c.loop-line.invariant.0 (line_of c.in-Some.line) c.loop-line.invariant.1,
-  build_one c.args.kind c.loop-line.invariant.0 (line_of c.in-Some.line) (meant c.in-Some-read_entry.entry) (lines_left c.loop-line.line-iterator) (lines_left c.next.new.self)
-      (told c.args.kind (body c.args.bytes.now)) c.in-Some.ensures.steps c.loop-line.invariant.2 (sym c.in-Some-read_entry.ensures),
-)
+pub loop-line-preserved : goal.loop-line-preserved
+loop-line-preserved c =
+    subst (IsBuilt c.add.new.self) (sym (told_more c.args.lines.now c.loop-line.line-index c.line-item.result (omega arith) c.line-item.is))
+    (c.in_ok-add.ensures (told_lines (take c.loop-line.line-index c.args.lines.now)) (line_of c.line-item.result.line) c.loop-line.invariant)

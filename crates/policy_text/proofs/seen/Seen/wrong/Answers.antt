@@ -16,4 +16,4 @@ returns-in-Object c = λ before line text seen few. c.wrong_object.ensures befor
 pub returns-in-Edge : goal.returns-in-Edge
 returns-in-Edge c = λ before line text seen few.
     c.wrong_edge.ensures before line c.in-Edge.authority text seen
-    (λ none. room_for before line c.in-Edge.from.now c.in-Edge.authority c.in-Edge.to.now (subst (λ e. HasFewEdges (before ++ (line, meant e) ∷ [])) c.in-Edge.is (few none))) ∙ ap (λ e. wrong_entry (knows c.args.known.now) before line (meant e)) (sym c.in-Edge.is)
+    (λ none. room_for before line c.in-Edge.from.text.now c.in-Edge.authority c.in-Edge.to.text.now (subst (λ e. HasFewEdges (before ++ (line, meant e) ∷ [])) c.in-Edge.is (few none))) ∙ ap (λ e. wrong_entry (knows c.args.known.now) before line (meant e)) (sym c.in-Edge.is)
