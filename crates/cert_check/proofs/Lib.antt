@@ -8,6 +8,7 @@ pub mod FirstFound
 pub mod Halving
 pub mod Safe
 pub mod Search
+pub mod Skipping
 pub mod Twins
 pub mod Walks
 pub mod Unheld

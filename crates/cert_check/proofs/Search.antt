@@ -3,9 +3,11 @@ use Rattle.std.specs.Prelude.{◌≡◌, ◌<◌, ◌≤◌, ℕ, ◌+◌, true,
 use Rattle.std.proofs.Common.{inl, inr, arith}
 use Rattle.std.proofs.lemmas.Bool.{cases_lt}
 use Rattle.std.proofs.lemmas.Option.{slice_get_within}
+use Rattle.auth_kinds.specs.declared.authority.Authority.{Authority}
 use Rattle.auth_kinds.specs.declared.edge.Edge.{Edge}
 use Rattle.auth_kinds.specs.Tables.{has, IsSorted}
 use Rattle.auth_kinds.specs.Edges.{AtMost}
+use Rattle.cert_check.specs.Parts.{AreOthers}
 use Rattle.auth_kinds.proofs.TableMembers.{at_has, later_at_most}
 
 -- nothing with the property names an edge before this place
@@ -23,6 +25,14 @@ module _ {X : Type 0} (P : X → Type 0) (w : X → Edge) (table : List Edge) wh
           | inl less ↦ before.none k x less p m
           | inr ge ↦ let same : k ≡ i = omega arith in let this : w x ≡ e = cc in none x this m
         ];
+  }
+
+  pub none_on : (a : Authority) (i j : ℕ) → ((x : X) → P x → (w x).authority ≡ a) → AreOthers table a i j → NoneUpTo P w table i → NoneUpTo P w table j
+  none_on a i j is others before = record {
+    none = λ k x l p m. elim (cases_lt k i) [
+      | inl less ↦ before.none k x less p m
+      | inr ge ↦ others k (w x) ge l p (is x m)
+    ];
   }
 
   pub none_end : ((x : X) → P x → has table (w x) ≡ true) → (i : ℕ) → length table ≤ i → NoneUpTo P w table i → (x : X) → P x → ⊥

@@ -5,7 +5,7 @@ use Rattle.std.specs.List.Sorted.{IsNonDecreasingBy, IsPartitionPoint, IsPermuta
 use Rattle.std.specs.Ordering.{is_lt, nat_cmp, ordering_then}
 use Rattle.std.specs.declared.cmp.Ordering.{Ordering}
 use Rattle.std.specs.declared.cmp.Ordering.TheVariants.{Less, Equal, Greater}
-use Rattle.std.proofs.lemmas.Bool.{cases_lt, eqb-false}
+use Rattle.std.proofs.lemmas.Bool.{cases_lt, eqb-false, leb-false, leb-true, ltb-false, ltb-true}
 use Rattle.std.proofs.lemmas.List.Elements.{Contains-append_left, Contains-push, Contains-push_cases}
 use Rattle.std.proofs.lemmas.List.Sorted.{Contains-permutation, IsNonDecreasingBy-from_sort, IsPermutation-sym}
 use Rattle.std.proofs.lemmas.Option.{slice_get_within, slice_get-get_or, get_or_from_slice_get}
@@ -17,27 +17,15 @@ use Rattle.auth_kinds.proofs.TableMembers.{at_has, has_at, later_at_most}
 use Rattle.cap_model.proofs.BootPlaces.{at_contains, contains_at}
 use Rattle.cert_check.specs.Least.{FindsLeast}
 use Rattle.cert_check.specs.Meetings.{Alike, AreMet, Breaks, GoesLike, HasPartners, IsLed, IsReach, MeetToo, OfPartners, With, end_of, first_authority, partner_authority, partner_of}
-use Rattle.cert_check.specs.Parts.{FindsLeastAt, LesserOf}
+use Rattle.cert_check.specs.Parts.{AreOthers, FindsLeastAt, LesserOf}
 use Rattle.cert_check.specs.declared.meetings.Meeting.{Meeting}
 use Rattle.cert_check.specs.declared.meetings.Meeting.TheVariants as rules
 use Rattle.cert_check.specs.declared.partners.Met.{Met}
 use Rattle.cert_check.specs.declared.violation.Violation.{Violation}
 use Rattle.cert_check.proofs.Pairs.{first_has, first_is, partner_has, partner_is, partner_to, parts}
-use Rattle.cert_check.proofs.Search.{NoneUpTo, none_start, none_more}
+use Rattle.cert_check.proofs.Search.{NoneUpTo, none_start, none_more, none_on}
 use Rattle.cert_check.proofs.Twins.{twin, twin_first, twin_partner, twin_breaks, twin_not_after, alike_self, alike_has, alike_chain, first_no_reply, partner_no_reply}
 use Rattle.cert_check.proofs.Violations.{Covered, covered_later, found_covers, found_is, kept_covers, kept_is, finds_least, first_of}
-
-lt_true : (a b : ℕ) → nat_lt a b ≡ true → a < b
-lt_true a b h = grind arith
-
-lt_false : (a b : ℕ) → nat_lt a b ≡ false → b ≤ a
-lt_false a b h = grind arith
-
-le_true : (a b : ℕ) → nat_le a b ≡ true → a ≤ b
-le_true a b h = grind arith
-
-le_false : (a b : ℕ) → nat_le a b ≡ false → b < a
-le_false a b h = grind arith
 
 not_less : (o q : Ordering) → is_lt (ordering_then o q) ≡ false → is_lt o ≡ false
 not_less Less q h = h
@@ -92,26 +80,26 @@ module _ (ends : List (ℕ × ℕ)) where
     bound = bound;
     order = elim (cases_lt high low) [
       | inl less ↦ absurd (
-          let l : (get_or ends high (0, 0)).0 < to = lt_true _ to (lesser.0 high (0, 0) (omega arith) less) in
-          let g : to < (get_or ends high (0, 0)).0 = le_false _ to (most.1 high (0, 0) (omega arith) (omega arith)) in
+          let l : (get_or ends high (0, 0)).0 < to = ltb-true _ to (lesser.0 high (0, 0) (omega arith) less) in
+          let g : to < (get_or ends high (0, 0)).0 = leb-false _ to (most.1 high (0, 0) (omega arith) (omega arith)) in
           omega arith)
       | inr ge ↦ ge
     ];
     inside = λ k p le less h.
         let e : get_or ends k p ≡ p = get_or_from_slice_get ends k p p h in
-        let g : to ≤ p.0 = lt_false _ to (subst (λ (q : ℕ × ℕ). nat_lt q.0 to ≡ false) e (lesser.1 k p le (omega arith))) in
-        let l : p.0 ≤ to = le_true _ to (subst (λ (q : ℕ × ℕ). nat_le q.0 to ≡ true) e (most.0 k p (omega arith) less)) in
+        let g : to ≤ p.0 = ltb-false _ to (subst (λ (q : ℕ × ℕ). nat_lt q.0 to ≡ false) e (lesser.1 k p le (omega arith))) in
+        let l : p.0 ≤ to = leb-true _ to (subst (λ (q : ℕ × ℕ). nat_le q.0 to ≡ true) e (most.0 k p (omega arith) less)) in
         omega arith;
     all = λ k p h is.
         let e : get_or ends k p ≡ p = get_or_from_slice_get ends k p p h in
         let there : k < length ends = slice_get_within ends k p h in (
           elim (cases_lt k low) [
-            | inl less ↦ absurd (let l : p.0 < to = lt_true _ to (subst (λ (q : ℕ × ℕ). nat_lt q.0 to ≡ true) e (lesser.0 k p (omega arith) less)) in omega arith)
+            | inl less ↦ absurd (let l : p.0 < to = ltb-true _ to (subst (λ (q : ℕ × ℕ). nat_lt q.0 to ≡ true) e (lesser.0 k p (omega arith) less)) in omega arith)
             | inr ge ↦ ge
           ],
           elim (cases_lt k high) [
             | inl less ↦ less
-            | inr ge ↦ absurd (let g : to < p.0 = le_false _ to (subst (λ (q : ℕ × ℕ). nat_le q.0 to ≡ false) e (most.1 k p ge there)) in omega arith)
+            | inr ge ↦ absurd (let g : to < p.0 = leb-false _ to (subst (λ (q : ℕ × ℕ). nat_le q.0 to ≡ false) e (most.1 k p ge there)) in omega arith)
           ],
         );
   }
@@ -135,6 +123,15 @@ module _ (rule : Meeting) (cert : List Edge) where
 
   pub partners_start : (low : ℕ) → HasPartners rule cert low low []
   partners_start low = record { each = λ k d le less here is. absurd (omega arith); only = λ p c. absurd (let w = c.1 in omega arith) }
+
+  pub partners_on : (low i j : ℕ) (ends : List (ℕ × ℕ)) → HasPartners rule cert low i ends → AreOthers cert (partner_authority rule) i j → HasPartners rule cert low j ends
+  partners_on low i j ends h others = record {
+    each = λ k c le less there is. elim (cases_lt k i) [
+      | inl before ↦ h.each k c le before there is
+      | inr ge ↦ absurd (others k c ge less there is)
+    ];
+    only = h.only;
+  }
 
   pub partners_past : (low k : ℕ) (d : Edge) (ends : List (ℕ × ℕ)) → HasPartners rule cert low k ends → slice_get cert k ≡ Some d
       → (d.authority ≡ partner_authority rule → IsLed rule cert d.from) → HasPartners rule cert low (k + 1) ends
@@ -325,8 +322,11 @@ module _ (rule : Meeting) (cert : List Edge) where
       behind = λ m is. further i m (w.behind m is);
     }
 
-    pub not_first : (i : ℕ) (e : Edge) (last : Option Met) → Walked i last → slice_get cert i ≡ Some e → (e.authority ≡ first_authority rule → ⊥) → Walked (i + 1) last
-    not_first i e last w here not_so = walked_past i e last w here (λ v is of. not_so (ap (λ (x : Edge). x.authority) (sym is) ∙ first_is cert rule v of.breaks))
+    pub walked_on : (i j : ℕ) (last : Option Met) → i ≤ j → AreOthers cert (first_authority rule) i j → Walked i last → Walked j last
+    walked_on i j last le others w = record {
+      none = none_on (OfPartners rule cert ends) first_of cert (first_authority rule) i j (λ v of. first_is cert rule v of.breaks) others w.none;
+      behind = λ m is. let b = w.behind m is in record { place = b.place; below = (let l = b.below in omega arith); there = b.there; first = b.first; reach = b.reach };
+    }
 
     pub led_past : (i : ℕ) (e : Edge) (last : Option Met) → IsSorted cert → AreMet rule cert ends → Walked i last → slice_get cert i ≡ Some e → e.authority ≡ first_authority rule
         → IsLed rule cert e.from → Walked (i + 1) last

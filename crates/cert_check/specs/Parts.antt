@@ -1,5 +1,5 @@
 -- Words for the contracts of private functions alone: what each part of the search looks for. No public call cites them.
-use Rattle.std.specs.Prelude.{◌≡◌, ◌≢◌, ◌<◌, ◌⊎◌, ℕ, Bool, true, false, List, slice_get, Option, Some, None}
+use Rattle.std.specs.Prelude.{◌≡◌, ◌≢◌, ◌<◌, ◌≤◌, ◌⊎◌, ℕ, Bool, true, false, List, slice_get, Option, Some, None}
 use Rattle.auth_kinds.specs.Edges.{AtMost, Before}
 use Rattle.auth_kinds.specs.ObjectLabels.{label_of}
 use Rattle.auth_kinds.specs.Tables.{has}
@@ -120,3 +120,14 @@ FindsLeastAt P e found = FindsLeast (λ v. P v × (v.first ≡ e)) found
 -- by the edge e two labels are to have the same edges, and one lacks one that the other has
 abbrev pub BreaksPair : List Edge → Edge → ℕ → ℕ → Violation → Type 0
 BreaksPair cert e x y v = (v.first ≡ e) × MissingEither cert x y v
+
+-- the edges from one place up to another have other authorities
+abbrev pub AreOthers : List Edge → Authority → ℕ → ℕ → Type 0
+AreOthers cert a low high = (k : ℕ) (e : Edge) → low ≤ k → k < high → slice_get cert k ≡ Some e → e.authority ≢ a
+
+-- the first edge of the authority from a place on, and its place
+pub record IsNextOf (cert : List Edge) (a : Authority) (from : ℕ) (found : ℕ × Edge) : Type 0 where
+  pub on : from ≤ found.0
+  pub others : AreOthers cert a from found.0
+  pub there : slice_get cert found.0 ≡ Some found.1
+  pub of : found.1.authority ≡ a

@@ -8,7 +8,7 @@ ghost use Rattle.cert_check.specs.Violations.{BreaksBind, BreaksControl};
 ghost use Rattle.std.specs.Prelude.{◌≡◌, ◌<◌, true};
 
 use crate::missing::missing_copy;
-use crate::places::{first_not_before, is_of, least_of};
+use crate::places::{first_not_before, is_of, least_of, next_of};
 use crate::violation::{Violation, uncopied};
 use auth_kinds::{Authority, Edge, EdgeTable};
 
@@ -16,12 +16,12 @@ use auth_kinds::{Authority, Edge, EdgeTable};
 pub fn find_control(cert: &EdgeTable) -> Option<Violation>
     ensures { FindsLeast (BreaksControl cert.now) result }
 {
-    for i in 0..cert.len() {
-        if let Some(edge) = cert.get(i) {
-            if let Some(found) = control_at(cert, &edge) {
-                return Some(found);
-            }
+    let mut next = 0;
+    while let Some((at, edge)) = next_of(cert, next, Authority::Control) {
+        if let Some(found) = control_at(cert, &edge) {
+            return Some(found);
         }
+        next = at + 1;
     }
     None
 }
@@ -30,12 +30,12 @@ pub fn find_control(cert: &EdgeTable) -> Option<Violation>
 pub fn find_bind(cert: &EdgeTable) -> Option<Violation>
     ensures { FindsLeast (BreaksBind cert.now) result }
 {
-    for i in 0..cert.len() {
-        if let Some(edge) = cert.get(i) {
-            if let Some(found) = bind_at(cert, &edge) {
-                return Some(found);
-            }
+    let mut next = 0;
+    while let Some((at, edge)) = next_of(cert, next, Authority::Handle) {
+        if let Some(found) = bind_at(cert, &edge) {
+            return Some(found);
         }
+        next = at + 1;
     }
     None
 }

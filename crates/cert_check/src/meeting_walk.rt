@@ -9,7 +9,7 @@ ghost use Rattle.std.specs.Prelude.{◌≡◌, true, IfSome};
 
 use crate::meetings::{Meeting, leads, meeting_at};
 use crate::partners::{Met, Partners};
-use crate::places::is_of;
+use crate::places::next_of;
 use crate::violation::{Violation, lesser};
 use auth_kinds::{Edge, EdgeTable};
 
@@ -39,18 +39,18 @@ fn least_by(cert: &EdgeTable, rule: Meeting, partners: &Partners) -> Option<Viol
     }
     let first = rule.first();
     let mut last: Option<Met> = None;
-    for i in 0..cert.len() {
-        if let Some(edge) = cert.get(i) {
-            if is_of(&edge, first) && leads(cert, rule, edge.from) {
-                let met = partners.met(edge);
-                if !goes_like(partners, last, met) {
-                    if let Some(found) = least_of(cert, rule, partners, met) {
-                        return Some(found);
-                    }
-                    last = Some(met);
+    let mut next = 0;
+    while let Some((at, edge)) = next_of(cert, next, first) {
+        if leads(cert, rule, edge.from) {
+            let met = partners.met(edge);
+            if !goes_like(partners, last, met) {
+                if let Some(found) = least_of(cert, rule, partners, met) {
+                    return Some(found);
                 }
+                last = Some(met);
             }
         }
+        next = at + 1;
     }
     None
 }

@@ -2,10 +2,10 @@
 
 ghost use Rattle.cert_check.specs.Meetings.{HasPartners, IsReach};
 ghost use Rattle.std.specs.List.Sorted.{IsNonDecreasingBy};
-ghost use Rattle.std.specs.Prelude.{◌≡◌, ◌<◌, length};
+ghost use Rattle.std.specs.Prelude.{◌≡◌, ◌<◌, [], length};
 
 use crate::meetings::{Meeting, leads};
-use crate::places::is_of;
+use crate::places::next_of;
 use arrayvec::ArrayVec;
 use auth_kinds::{Edge, EdgeTable};
 
@@ -28,7 +28,9 @@ pub struct Met {
 
 impl Partners {
     /// Room for partners. Takes no memory.
-    pub fn none() -> Partners {
+    pub fn none() -> Partners
+        ensures { result.ends.items ≡ [] }
+    {
         Partners {
             ends: ArrayVec::new(),
         }
@@ -45,12 +47,15 @@ impl Partners {
         let mut past = from;
         self.ends.clear();
         while past < cert.len() && self.ends.len() < ROOM {
-            if let Some(edge) = cert.get(past) {
-                if is_of(&edge, partner) && leads(cert, rule, edge.from) {
-                    self.ends.push((edge.to, edge.from));
+            match next_of(cert, past, partner) {
+                Some((at, edge)) => {
+                    if leads(cert, rule, edge.from) {
+                        self.ends.push((edge.to, edge.from));
+                    }
+                    past = at + 1;
                 }
+                None => past = cert.len(),
             }
-            past += 1;
         }
         self.ends.sort_unstable();
         past

@@ -3,7 +3,8 @@
 ghost use Rattle.auth_kinds.specs.Edges.{edge};
 ghost use Rattle.auth_kinds.specs.Tables.{IsSorted};
 ghost use Rattle.cert_check.specs.Meetings.{Halved, IsFirstNotBefore};
-ghost use Rattle.std.specs.Prelude.{◌≡◌, ◌↔◌, IsTrue};
+ghost use Rattle.cert_check.specs.Parts.{AreOthers, IsNextOf};
+ghost use Rattle.std.specs.Prelude.{◌≡◌, ◌≢◌, ◌↔◌, ◌<◌, ◌^◌, ◌+◌, length, slice_get, IsTrue, IfSome, IfNone, Some};
 
 use auth_kinds::{Authority, Edge, EdgeTable};
 
@@ -12,6 +13,40 @@ pub fn is_of(edge: &Edge, authority: Authority) -> bool
     ensures { IsTrue result ↔ (edge.now.authority ≡ authority) }
 {
     edge.authority.number() == authority.number()
+}
+
+/// The first edge of the authority from a place on, and its place.
+pub fn next_of(cert: &EdgeTable, from: usize, authority: Authority) -> Option<(usize, Edge)>
+    ensures found { IfSome result (IsNextOf cert.now authority from) }
+    ensures room { IfSome result (λ found. found.0 + 1 < 2 ^ 64) }
+    ensures none { IfNone result (AreOthers cert.now authority from (length cert.now)) }
+    ensures sorted { IsSorted cert.now }
+{
+    let mut at = from;
+    while at < cert.len() {
+        let edge = cert.get(at)?;
+        if is_of(&edge, authority) {
+            return Some((at, edge));
+        }
+        at = skip(cert, at, &edge, authority);
+    }
+    None
+}
+
+/// A place behind an edge of another authority, up to which edges have other authorities: edges out of a label stand by their
+/// authorities.
+fn skip(cert: &EdgeTable, at: usize, edge: &Edge, authority: Authority) -> usize
+    requires there { slice_get cert.now at ≡ Some edge.now }
+    requires other { edge.now.authority ≢ authority }
+    ensures on { at < result }
+    ensures others { AreOthers cert.now authority at result }
+{
+    let past = cert.out_of(edge.from).1;
+    if edge.authority.number() < authority.number() {
+        search(cert, &least_of(edge.from, authority), at, past)
+    } else {
+        past
+    }
 }
 
 /// The place of the first edge that isn't less than this one.

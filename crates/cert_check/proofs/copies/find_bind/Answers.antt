@@ -1,15 +1,27 @@
-use Rattle.std.proofs.Common.{arith}
+use Rattle.std.proofs.Common.{arith, length}
+use Rattle.auth_kinds.specs.declared.authority.Authority.TheVariants.{Handle}
 use Rattle.auth_kinds.proofs.TableMembers.{has_at}
 use Rattle.cert_check.specs.Violations.{BreaksBind}
 use Rattle.cert_check.proofs.FirstFound.{edge_found, edge_none}
+use Rattle.cert_check.proofs.Search.{none_more, none_on}
+use Rattle.cert_check.proofs.Violations.{first_of}
 use Rattle.cert_check.proofs.copies.find_bind.Goals as goal
 
 pub bind_at-requires : goal.bind_at-requires
-bind_at-requires c = has_at c.args.cert.now c.loop-i.i c.in-Some.edge (cc)
+bind_at-requires c = has_at c.args.cert.now c.in-Some.at c.in-Some.edge c.in-Some.ensures.found.there
 
 pub returns-in-Some-bind_at : goal.returns-in-Some-bind_at
 returns-in-Some-bind_at c =
-    edge_found c.args.cert.now (BreaksBind c.args.cert.now) (λ v p. p.there) c.loop-i.i c.in-Some.edge c.in-Some-bind_at.found c.len-i-end.ensures.sorted (cc) c.loop-i.invariant c.in-Some-bind_at.ensures
+    edge_found c.args.cert.now (BreaksBind c.args.cert.now) (λ v p. p.there) c.in-Some.at c.in-Some.edge c.in-Some-bind_at.found c.next_of.ensures.sorted c.in-Some.ensures.found.there
+    (none_on (BreaksBind c.args.cert.now) first_of c.args.cert.now Handle c.loop-at.next c.in-Some.at (λ v p. p.handle) c.in-Some.ensures.found.others c.loop-at.invariant) c.in-Some-bind_at.ensures
+
+pub loop-at-preserved : goal.loop-at-preserved
+loop-at-preserved c =
+    none_more (BreaksBind c.args.cert.now) first_of c.args.cert.now c.in-Some.at c.in-Some.edge
+    (none_on (BreaksBind c.args.cert.now) first_of c.args.cert.now Handle c.loop-at.next c.in-Some.at (λ v p. p.handle) c.in-Some.ensures.found.others c.loop-at.invariant) c.in-Some.ensures.found.there
+    (λ v is p. c.in_default-bind_at.ensures v (p, is))
 
 pub returns : goal.returns
-returns c = edge_none c.args.cert.now (BreaksBind c.args.cert.now) (λ v p. p.there) c.loop-i.i (omega arith) c.loop-i.invariant
+returns c =
+    edge_none c.args.cert.now (BreaksBind c.args.cert.now) (λ v p. p.there) (length c.args.cert.now) (omega arith)
+    (none_on (BreaksBind c.args.cert.now) first_of c.args.cert.now Handle c.loop-at.next (length c.args.cert.now) (λ v p. p.handle) c.in_default.ensures.none c.loop-at.invariant)

@@ -1,5 +1,9 @@
+use Rattle.std.proofs.Common.{◌-◌, length}
 use Rattle.cert_check.proofs.Walks.{Walked}
 use Rattle.cert_check.proofs.meeting_walk.least_by.Given as goal
 
-abbrev pub invariant-loop-i : goal.invariant-loop-i
-invariant-loop-i l = Walked l.rule l.cert l.partners.ends.items l.i l.last
+abbrev pub invariant-loop-at : goal.invariant-loop-at
+invariant-loop-at l = Walked l.rule l.cert l.partners.ends.items l.next l.last
+
+abbrev pub decreases-loop-at : goal.decreases-loop-at
+decreases-loop-at l = length l.cert - l.next
