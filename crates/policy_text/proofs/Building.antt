@@ -11,7 +11,7 @@ use Rattle.auth_kinds.specs.declared.edge.Edge.{Edge}
 use Rattle.cam_base.specs.declared.error.NoMemory.{NoMemory}
 use Rattle.cam_base.specs.Names.{is_name}
 use Rattle.policy_text.specs.declared.parts.Parts.{Parts}
-use Rattle.policy_text.specs.Entries.{Entry, label, object, edge}
+use Rattle.policy_text.specs.Entries.{label, object, edge}
 use Rattle.policy_text.specs.Numbers.{narrow}
 use Rattle.policy_text.specs.PartsBuilt.{IsBuilt, Builds, built_label, built_object, built_edge}
 use Rattle.policy_text.specs.PolicyFaults.{Told}

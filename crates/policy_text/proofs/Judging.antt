@@ -26,7 +26,7 @@ use Rattle.policy_text.specs.PolicyTexts.{said, told, form_fault, has_label, IsF
 use Rattle.policy_text.specs.TextsRead.{FindsFault, AreNoted, Notes}
 use Rattle.policy_text.specs.WordSets.{has, IsAdded}
 use Rattle.policy_text.proofs.Before.{or_false, told-cons, form-cons, has_label-append, one_if, told_one}
-use Rattle.text_lines.specs.LineFaults.{Wrong, at_line, IsRefusal}
+use Rattle.text_lines.specs.LineFaults.{at_line, IsRefusal}
 use Rattle.text_lines.specs.Lines.{Line}
 
 -- ---- faults of texts in parts
@@ -58,11 +58,6 @@ notes_refused kind lines (Err other) r is h = subst (λ (e : Refused TextFault).
 pub judged_right : (knows : Number → Bool) (before : List Told) (t : Told) (seen : Seen) → wrong_entry knows before t.0 t.1 ≡ None
     → IsSeen seen (before ++ t ∷ []) → IsLineJudged knows before t seen (Ok tt)
 judged_right knows before t seen none is = (ap (option_map (at_line t.0)) none, is)
-
-pub judged_wrong : (knows : Number → Bool) (before : List Told) (t : Told) (w : Wrong) (r : Refused TextFault) → wrong_entry knows before t.0 t.1 ≡ Some w → IsRefusal t.0 w r
-    → IsFault (fault_at knows before t) r
-judged_wrong knows before t w (refused.Fault f) stands fits = ap (option_map (at_line t.0)) stands ∙ ap (λ f. Some f) (sym fits)
-judged_wrong knows before t w refused.NoMemory stands fits = tt
 
 -- ---- the lines behind it
 
