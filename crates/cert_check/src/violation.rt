@@ -36,7 +36,11 @@ impl Violation {
 
 /// The violation of an edge that is to be copied and isn't: `lack` is the copy, and the original goes out of `from`.
 pub fn uncopied(first: &Edge, lack: Edge, from: u32) -> Violation
-    ensures { result ≡ record { first = first.now; lack = lack; second = record { from = from; authority = lack.authority; to = lack.to } } }
+    ensures { result ≡ record {
+      first = first.now;
+      lack = lack;
+      second = record { from = from; authority = lack.authority; to = lack.to };
+    } }
 {
     Violation {
         first: *first,
