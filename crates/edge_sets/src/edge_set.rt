@@ -71,7 +71,7 @@ impl EdgeSet {
     }
 
     /// Its edges, in order.
-    fn listed(&self, alloc: Global) -> Result<Vec<Edge>, NoMemory>
+    pub fn listed(&self, alloc: Global) -> Result<Vec<Edge>, NoMemory>
         ensures items { IfOk result (λ edges. edges.items ≡ self.now) }
         ensures sorted { IfOk result (λ edges. IsSorted edges.items) }
     {

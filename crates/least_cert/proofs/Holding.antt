@@ -21,9 +21,9 @@ use Rattle.cap_model.specs.declared.spec.Spec.{Spec}
 use Rattle.cap_model.specs.declared.state.Content.TheVariants.{Capability}
 use Rattle.cap_model.proofs.BootPlaces.{at_contains, at_entry, contains_at, entry_at, slot_of}
 use Rattle.least_cert.specs.BootEdges.{AreHeld, AreLinks, OfHolder, OfHolders, OfLinks}
-use Rattle.least_cert.specs.Closing.{AddsAll, Begins, Closure, IsEmpty, IsSound, Leads, OfLeast, no_gift}
+use Rattle.least_cert.specs.Closing.{AddsAll, Begins, Closure, IsEmpty, IsSound, OfLeast}
 use Rattle.least_cert.specs.LeastCertificate.{InLeast, KeepsRules}
-use Rattle.least_cert.proofs.Growth.{grows_has}
+use Rattle.least_cert.proofs.Growth.{knows_grows}
 use Rattle.least_cert.proofs.LeastKeeps.{least_keeps}
 
 module _ (spec : Spec) (labels : List ℕ) where
@@ -103,8 +103,11 @@ module _ (spec : Spec) (labels : List ℕ) where
       flows = λ s r h. absurd (let g : has [] (edge s Grant r) ≡ true = subst (λ (xs : List Edge). has xs (edge s Grant r) ≡ true) empty.gives_is h in cc);
       less = λ e h. absurd (let g : has [] e ≡ true = subst (λ (xs : List Edge). has xs e ≡ true) empty.queue_is h in cc);
       gives_less = λ e h. absurd (let g : has [] e ≡ true = subst (λ (xs : List Edge). has xs e ≡ true) empty.gives_is h in cc);
-      to_leader = λ l. subst (λ (k : ℕ). Leads c.gives l k) (sym (empty.leaders_is l)) (no_gift refl);
-      from_leader = λ l. subst (λ (k : ℕ). Leads c.gives k l) (sym (empty.leaders_is l)) (no_gift refl);
+      leads = λ l. rw empty.leaders_is (λ a x other h. h);
+      follows = λ l. rw empty.leaders_is (λ a x other h. h);
+      flat = λ l. rw empty.leaders_is refl;
+      carried = λ e h. absurd (let g : has [] e ≡ true = subst (λ (xs : List Edge). has xs e ≡ true) empty.queue_is h in cc);
+      few_leaders = rw empty.leaders_is (omega arith);
     }
 
     pub held_least : (edges : List Edge) → AreHeld spec labels edges → (e : Edge) → has edges e ≡ true → OfLeast c e
@@ -128,7 +131,7 @@ module _ (spec : Spec) (labels : List ℕ) where
         labels_is = begun_labels add_l;
         sound = add_l.grows.sound;
         has_boot = record {
-          held = rw (begun_spec add_l, begun_labels add_l) (λ l a m h. grows_has mid new add_l.grows (edge l a m) (add_h.there (edge l a m) (are_h.every l a m h)));
+          held = rw (begun_spec add_l, begun_labels add_l) (λ l a m h. knows_grows mid new add_l.grows (edge l a m) (add_h.there (edge l a m) (are_h.every l a m h)));
           structural = rw (begun_spec add_l, begun_labels add_l) (λ l a m h differ. add_l.there (edge l a m) (are_l.every l a m (inr h) differ));
         };
       }

@@ -1,115 +1,134 @@
--- Who leads whom, and along which gifts.
-use Rattle.std.proofs.Common.{◌≡◌, ◌∙◌, ◌⊎◌, ◌++◌, ◌==◌, ◌+◌, ℕ, Bool, true, false, List, [], ◌∷◌, get_or, length, map, refl, sym, ap, subst, inl, inr, zero, suc, length-append}
-use Rattle.std.proofs.lemmas.Bool.{eqb-true}
-use Rattle.auth_kinds.specs.Tables.{Has}
-use Rattle.auth_kinds.specs.declared.authority.Authority.TheVariants.{Grant}
+-- Who leads whom, and the edge of a leader.
+use Rattle.std.proofs.Common.{◌≡◌, ◌≢◌, ◌∙◌, ◌⊎◌, ◌++◌, ◌==◌, ◌+◌, ◌<◌, ◌≤◌, ◌^◌, ℕ, Bool, true, false, List, [], ◌∷◌, get_or, length, map, refl, sym, ap, subst, inl, inr, zero, suc, arith, length-append}
+use Rattle.std.proofs.lemmas.Bool.{cases_lt, eqb-true}
+use Rattle.std.proofs.lemmas.List.{get_or-map, get_or_past, length-map}
+use Rattle.auth_kinds.specs.Authorities.{number_of}
+use Rattle.auth_kinds.specs.Edges.{edge}
+use Rattle.auth_kinds.specs.Tables.{Has, has}
+use Rattle.auth_kinds.specs.declared.authority.Authority.{Authority}
+use Rattle.auth_kinds.specs.declared.authority.Authority.TheVariants.{Reply}
 use Rattle.auth_kinds.specs.declared.edge.Edge.{Edge}
-use Rattle.least_cert.specs.Closing.{Closure, Copied, IsAsBefore, IsSound, Joins, Leads, LeadsTo, by_gift, no_gift, leader_at, led_by}
+use Rattle.auth_kinds.proofs.EdgeOrder.{same_number}
+use Rattle.least_cert.specs.Closing.{Closure, Flows, IsSound, Knows, IsRelabeled, OfLeast, Widens, lead, leader_at, led_by}
+use Rattle.least_cert.specs.LeastCertificate.{InLeast}
+use Rattle.least_cert.proofs.Passing.{differ, self}
 
-pub leads_one : (gives : List Edge) (l m : ℕ) → Has gives l Grant m → Leads gives l m
-leads_one gives l m h = by_gift m h (no_gift refl)
+-- ---- the edge of a leader
 
-to_then : (gives : List Edge) (m n l : ℕ) → LeadsTo gives m l → Leads gives m n → Leads gives l n
-to_then gives m n l (no_gift same) q = subst (λ (k : ℕ). Leads gives k n) (sym same) q
-to_then gives m n l (by_gift k h p) q = by_gift k h (to_then gives m n k p q)
+pub number_other : (a : Authority) → number_of a == 9 ≡ false → a ≢ Reply
+number_other a is reply = absurd (let yes_it : number_of a == 9 ≡ true = rw reply refl in cc)
 
-pub leads_then : (gives : List Edge) (l m n : ℕ) → Leads gives l m → Leads gives m n → Leads gives l n
-leads_then gives l m n p q = to_then gives m n l p q
+pub other_number : (a : Authority) → a ≢ Reply → number_of a == 9 ≡ false
+other_number a other = differ (number_of a) 9 (λ e. other (same_number a Reply e))
 
-to_more : (gives new : List Edge) → ((s r : ℕ) → Has gives s Grant r → Has new s Grant r) → (m l : ℕ) → LeadsTo gives m l → Leads new l m
-to_more gives new grown m l (no_gift same) = no_gift same
-to_more gives new grown m l (by_gift k h p) = by_gift k (grown l k h) (to_more gives new grown m k p)
+-- a reply or not
+pub reply_or_not : (e : Edge) → (number_of e.authority == 9 ≡ true) ⊎ (number_of e.authority == 9 ≡ false)
+reply_or_not e = by (number_of e.authority == 9) refl where
+  by : (b : Bool) → number_of e.authority == 9 ≡ b → (number_of e.authority == 9 ≡ true) ⊎ (number_of e.authority == 9 ≡ false)
+  by true is = inl is
+  by false is = inr is
 
-pub leads_more : (gives new : List Edge) → ((s r : ℕ) → Has gives s Grant r → Has new s Grant r) → (l m : ℕ) → Leads gives l m → Leads new l m
-leads_more gives new grown l m p = to_more gives new grown m l p
+pub lead_reply : (leaders : List ℕ) (e : Edge) → number_of e.authority == 9 ≡ true → lead leaders e ≡ e
+lead_reply leaders e is = rw is refl
 
-copied_to : (gives : List Edge) (queue : List Edge) → ((s r : ℕ) → Has gives s Grant r → Copied queue queue s r) → (m l : ℕ) → LeadsTo gives m l → Copied queue queue l m
-copied_to gives queue each m l (no_gift same) = λ a x other h. subst (λ (k : ℕ). Has queue k a x) same h
-copied_to gives queue each m l (by_gift k h p) = λ a x other there. copied_to gives queue each m k p a x other (each l k h a x other there)
+pub lead_other : (leaders : List ℕ) (e : Edge) → number_of e.authority == 9 ≡ false → lead leaders e ≡ edge (leader_at leaders e.from) e.authority e.to
+lead_other leaders e is = rw is refl
 
--- what closed gifts bring along
-pub copied_along : (gives : List Edge) (queue : List Edge) → ((s r : ℕ) → Has gives s Grant r → Copied queue queue s r) → (l m : ℕ) → Leads gives l m → Copied queue queue l m
-copied_along gives queue each l m p = copied_to gives queue each m l p
+pub lead_as : (leaders : List ℕ) (l : ℕ) (a : Authority) (x : ℕ) → a ≢ Reply → lead leaders (edge l a x) ≡ edge (leader_at leaders l) a x
+lead_as leaders l a x other = lead_other leaders (edge l a x) (other_number a other)
 
--- ---- leaders
+pub lead_then : (old new : List ℕ) → ((l : ℕ) → leader_at new (leader_at old l) ≡ leader_at new l) → (e : Edge) → lead new (lead old e) ≡ lead new e
+lead_then old new same e = elim (reply_or_not e) [
+  | inl is ↦ ap (λ (x : Edge). lead new x) (lead_reply old e is)
+  | inr is ↦ ap (λ (x : Edge). lead new x) (lead_other old e is)
+      ∙ (lead_other new (edge (leader_at old e.from) e.authority e.to) is
+      ∙ (ap (λ (l : ℕ). edge l e.authority e.to) (same e.from) ∙ sym (lead_other new e is)))
+]
 
-led_cases : (from to leader : ℕ) → (led_by from to leader ≡ leader) ⊎ ((leader ≡ from) × (led_by from to leader ≡ to))
+pub flows_then : (c : Closure) (l m n : ℕ) → Flows c.spec c.labels l m → Flows c.spec c.labels m n → Flows c.spec c.labels l n
+flows_then c l m n f g = λ a x other h. g a x other (f a x other h)
+
+module _ (c : Closure) (sound : IsSound c) where
+  -- what flows between labels flows between their leaders
+  pub flows_led : (l m : ℕ) → Flows c.spec c.labels l m → Flows c.spec c.labels (leader_at c.leaders l) (leader_at c.leaders m)
+  flows_led l m f = λ a x other h. sound.leads m a x other (f a x other (sound.follows l a x other h))
+
+  pub knows_led : (l : ℕ) (a : Authority) (x : ℕ) → a ≢ Reply → Knows c (edge l a x) → Has c.queue (leader_at c.leaders l) a x
+  knows_led l a x other h = subst (λ (e : Edge). has c.queue e ≡ true) (lead_as c.leaders l a x other) h
+
+  pub led_knows : (l : ℕ) (a : Authority) (x : ℕ) → a ≢ Reply → Has c.queue (leader_at c.leaders l) a x → Knows c (edge l a x)
+  led_knows l a x other h = subst (λ (e : Edge). has c.queue e ≡ true) (sym (lead_as c.leaders l a x other)) h
+
+  pub least_led : (e : Edge) → OfLeast c e → OfLeast c (lead c.leaders e)
+  least_led e h = elim (reply_or_not e) [
+    | inl is ↦ subst (λ (x : Edge). OfLeast c x) (sym (lead_reply c.leaders e is)) h
+    | inr is ↦ subst (λ (x : Edge). OfLeast c x) (sym (lead_other c.leaders e is)) (sound.leads e.from e.authority e.to (number_other e.authority is) h)
+  ]
+
+  pub knows_least : (e : Edge) → Knows c e → OfLeast c e
+  knows_least e h = elim (reply_or_not e) [
+    | inl is ↦ subst (λ (x : Edge). OfLeast c x) (lead_reply c.leaders e is) (sound.least (lead c.leaders e) h)
+    | inr is ↦ sound.follows e.from e.authority e.to (number_other e.authority is) (subst (λ (x : Edge). OfLeast c x) (lead_other c.leaders e is) (sound.least (lead c.leaders e) h))
+  ]
+
+-- ---- leaders that change
+
+pub led_cases : (from to leader : ℕ) → (led_by from to leader ≡ leader) ⊎ ((leader ≡ from) × (led_by from to leader ≡ to))
 led_cases from to leader = by (leader == from) refl where
   by : (b : Bool) → leader == from ≡ b → (led_by from to leader ≡ leader) ⊎ ((leader ≡ from) × (led_by from to leader ≡ to))
   by true is = inr (eqb-true leader from is, rw is refl)
   by false is = inl (rw is refl)
 
-mapped_at : (f : ℕ → ℕ) (xs : List ℕ) (k d : ℕ) → (get_or (map f xs) k d ≡ get_or xs k d) ⊎ (get_or (map f xs) k d ≡ f (get_or xs k d))
-mapped_at f [] k d = inl refl
-mapped_at f (x ∷ xs) zero d = inr refl
-mapped_at f (x ∷ xs) (suc k) d = mapped_at f xs k d
+pub led_to : (from to : ℕ) → led_by from to to ≡ to
+led_to from to = elim (led_cases from to to) [ inl is ↦ is | inr is ↦ is.1 ]
 
-led_at : (leaders : List ℕ) (from to l : ℕ) → (leader_at (map (led_by from to) leaders) l ≡ leader_at leaders l) ⊎ ((leader_at leaders l ≡ from) × (leader_at (map (led_by from to) leaders) l ≡ to))
-led_at leaders from to l = elim (mapped_at (led_by from to) leaders l l) [
-  | inl same ↦ inl same
-  | inr is ↦ elim (led_cases from to (leader_at leaders l)) [ inl kept ↦ inl (is ∙ kept) | inr led ↦ inr (led.0, is ∙ led.1) ]
+pub led_from : (from to : ℕ) → led_by from to from ≡ to
+led_from from to = rw (self from) refl
+
+relabeled : (leaders : List ℕ) (from to l : ℕ) → from < length leaders → leader_at (map (led_by from to) leaders) l ≡ led_by from to (leader_at leaders l)
+relabeled leaders from to l less = elim (cases_lt l (length leaders)) [
+  | inl within ↦ get_or-map (led_by from to) leaders l l l within
+  | inr past ↦ (
+      let stays : led_by from to l ≡ l = elim (led_cases from to l) [ inl same ↦ same | inr led ↦ absurd (let same : l ≡ from = led.0 in omega arith) ] in
+      let long : length (map (led_by from to) leaders) ≡ length leaders = length-map leaders (led_by from to) in
+      get_or_past (map (led_by from to) leaders) l l (omega arith) ∙ (sym stays ∙ ap (led_by from to) (sym (get_or_past leaders l l past)))
+      )
 ]
-
-pub one_leads : (c : Closure) → IsSound c → (s r : ℕ) → leader_at c.leaders s ≡ leader_at c.leaders r → Leads c.gives s r
-one_leads c sound s r same =
-    leads_then c.gives s (leader_at c.leaders s) r (sound.to_leader s) (subst (λ (l : ℕ). Leads c.gives l r) (sym same) (sound.from_leader r))
-
-module _ (a b : ℕ) (c new : Closure) (sound : IsSound c) (joins : Joins a b c new) (there : Leads c.gives a b) (back : Leads c.gives b a) where
-  la : ℕ
-  la = leader_at c.leaders a
-
-  lb : ℕ
-  lb = leader_at c.leaders b
-
-  to_new : (l : ℕ) → Leads c.gives l (leader_at new.leaders l)
-  unfolding la lb
-  to_new l = elim (led_at c.leaders lb la l) [
-    | inl same ↦ subst (λ (k : ℕ). Leads c.gives l k) (sym (ap (λ (xs : List ℕ). leader_at xs l) joins.leaders_is ∙ same)) (sound.to_leader l)
-    | inr led ↦ subst (λ (k : ℕ). Leads c.gives l k) (sym (ap (λ (xs : List ℕ). leader_at xs l) joins.leaders_is ∙ led.1))
-        (leads_then c.gives l lb la (subst (λ (k : ℕ). Leads c.gives l k) led.0 (sound.to_leader l))
-        (leads_then c.gives lb b la (sound.from_leader b) (leads_then c.gives b a la back (sound.to_leader a))))
-  ]
-
-  from_new : (l : ℕ) → Leads c.gives (leader_at new.leaders l) l
-  unfolding la lb
-  from_new l = elim (led_at c.leaders lb la l) [
-    | inl same ↦ subst (λ (k : ℕ). Leads c.gives k l) (sym (ap (λ (xs : List ℕ). leader_at xs l) joins.leaders_is ∙ same)) (sound.from_leader l)
-    | inr led ↦ subst (λ (k : ℕ). Leads c.gives k l) (sym (ap (λ (xs : List ℕ). leader_at xs l) joins.leaders_is ∙ led.1))
-        (leads_then c.gives la lb l (leads_then c.gives la a lb (sound.from_leader a) (leads_then c.gives a b lb there (sound.to_leader b)))
-        (subst (λ (k : ℕ). Leads c.gives k l) led.0 (sound.from_leader l)))
-  ]
-
-  pub joined_sound : IsAsBefore c new
-  joined_sound =
-      let base : IsSound (record c { leaders = new.leaders }) = record {
-        known_is = sound.known_is;
-        turned_is = sound.turned_is;
-        as_many = sound.as_many;
-        few = sound.few;
-        least = sound.least;
-        flows = sound.flows;
-        less = sound.less;
-        gives_less = sound.gives_less;
-        to_leader = to_new;
-        from_leader = from_new;
-      } in
-      record { is = joins.is; sound = subst IsSound (sym joins.is) base }
-
-pub as_before : (c : Closure) → IsSound c → IsAsBefore c c
-as_before c sound = record { is = refl; sound = sound }
 
 -- ---- labels that lead themselves
 
-pub one_more : (xs new : List ℕ) (n : ℕ) → new ≡ xs ++ n ∷ [] → length xs ≡ n → length new ≡ n + 1
-one_more xs new n is long = ap (λ (ys : List ℕ). length ys) is ∙ (length-append xs (n ∷ []) ∙ ap (λ (k : ℕ). k + 1) long)
-
-push_at : (xs : List ℕ) (n k d : ℕ) → (get_or (xs ++ n ∷ []) k d ≡ get_or xs k d) ⊎ ((k ≡ length xs) × (get_or (xs ++ n ∷ []) k d ≡ n))
-push_at [] n zero d = inr (refl, refl)
+push_at : (xs : List ℕ) (n k d : ℕ) → (get_or (xs ++ n ∷ []) k d ≡ get_or xs k d) ⊎ ((k ≡ length xs) × (get_or (xs ++ n ∷ []) k d ≡ n) × (get_or xs k d ≡ d))
+push_at [] n zero d = inr (refl, refl, refl)
 push_at [] n (suc k) d = inl refl
 push_at (x ∷ xs) n zero d = inl refl
-push_at (x ∷ xs) n (suc k) d = elim (push_at xs n k d) [ inl same ↦ inl same | inr is ↦ inr (ap suc is.0, is.1) ]
+push_at (x ∷ xs) n (suc k) d = elim (push_at xs n k d) [ inl same ↦ inl same | inr is ↦ inr (ap suc is.0, is.1, is.2) ]
 
-pub alone_more : (xs new : List ℕ) (n : ℕ) → new ≡ xs ++ n ∷ [] → length xs ≡ n → ((k : ℕ) → leader_at xs k ≡ k) → (k : ℕ) → leader_at new k ≡ k
-alone_more xs new n is long before k =
-    ap (λ (ys : List ℕ). leader_at ys k) is
-    ∙ elim (push_at xs n k k) [ inl same ↦ same ∙ before k | inr at ↦ at.1 ∙ (sym long ∙ sym at.0) ]
+-- the places up to n, where the labels have the leaders that they had
+pub record WidensTo (n : ℕ) (leaders : List ℕ) (new : List ℕ) : Type 0 where
+  pub long : length new ≡ n
+  pub same : (l : ℕ) → leader_at new l ≡ leader_at leaders l
+
+pub widens_none : (leaders : List ℕ) → WidensTo (length leaders) leaders leaders
+widens_none leaders = record { long = refl; same = λ l. refl }
+
+pub widens_more : (n : ℕ) (leaders mid new : List ℕ) → WidensTo n leaders mid → new ≡ mid ++ n ∷ [] → WidensTo (n + 1) leaders new
+widens_more n leaders mid new w is = record {
+  long = ap (λ (ys : List ℕ). length ys) is ∙ (length-append mid (n ∷ []) ∙ ap (λ (k : ℕ). k + 1) w.long);
+  same = λ l.
+      ap (λ (ys : List ℕ). leader_at ys l) is
+      ∙ (elim (push_at mid n l l) [ inl same ↦ same | inr at ↦ at.1 ∙ (sym w.long ∙ (sym at.0 ∙ sym at.2)) ] ∙ w.same l);
+}
+
+pub widens_all : (n label : ℕ) (leaders new : List ℕ) → WidensTo n leaders new → label < n → n ≤ 2 ^ 32 → Widens label leaders new
+widens_all n label leaders new w less few = let long = w.long in record { within = omega arith; few = omega arith; same = w.same }
+
+-- ---- one leader in place of another
+
+pub is_relabeled : (from to : ℕ) (leaders wide new : List ℕ) → Widens from leaders wide → new ≡ map (led_by from to) wide → IsRelabeled from to leaders new
+is_relabeled from to leaders wide new w is = record {
+  few = (let long : length new ≡ length wide = ap (λ (ls : List ℕ). length ls) is ∙ length-map wide (led_by from to) in let few = w.few in omega arith);
+  led = λ l. ap (λ (ls : List ℕ). leader_at ls l) is ∙ (relabeled wide from to l w.within ∙ ap (led_by from to) (w.same l));
+}
+
+pub widens_same : (label : ℕ) (leaders same new : List ℕ) → same ≡ leaders → Widens label same new → Widens label leaders new
+widens_same label leaders same new is w = subst (λ (ls : List ℕ). Widens label ls new) is w

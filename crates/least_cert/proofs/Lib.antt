@@ -6,3 +6,4 @@ pub mod Leading
 pub mod LeastKeeps
 pub mod Listing
 pub mod Passing
+pub mod Spreading

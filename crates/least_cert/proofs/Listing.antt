@@ -7,23 +7,23 @@ use Rattle.auth_kinds.specs.declared.edge.Edge.{Edge}
 use Rattle.auth_kinds.proofs.EdgeOrder.{same_edge_self, same_edge_true}
 use Rattle.auth_kinds.proofs.TableMembers.{at_has, has_at}
 
-or_assoc : (a b c : Bool) → (a || (b || c)) ≡ ((a || b) || c)
+pub or_assoc : (a b c : Bool) → (a || (b || c)) ≡ ((a || b) || c)
 or_assoc true b c = refl
 or_assoc false b c = refl
 
-or_left : (a b : Bool) → a ≡ true → a || b ≡ true
+pub or_left : (a b : Bool) → a ≡ true → a || b ≡ true
 or_left true b h = refl
 or_left false b h = absurd cc
 
-or_right : (a b : Bool) → b ≡ true → a || b ≡ true
+pub or_right : (a b : Bool) → b ≡ true → a || b ≡ true
 or_right true b h = refl
 or_right false b h = h
 
-or_cases : (a b : Bool) → a || b ≡ true → (a ≡ true) ⊎ (b ≡ true)
+pub or_cases : (a b : Bool) → a || b ≡ true → (a ≡ true) ⊎ (b ≡ true)
 or_cases true b h = inl refl
 or_cases false b h = inr h
 
-or_none : (a : Bool) → a || false ≡ a
+pub or_none : (a : Bool) → a || false ≡ a
 or_none true = refl
 or_none false = refl
 

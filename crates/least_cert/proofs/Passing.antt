@@ -9,10 +9,10 @@ use Rattle.auth_kinds.specs.declared.edge.Edge.{Edge}
 use Rattle.auth_kinds.proofs.EdgeOrder.{same_number}
 use Rattle.least_cert.specs.Closing.{from_other, passed_to, to_other}
 
-self : (n : ℕ) → n == n ≡ true
+pub self : (n : ℕ) → n == n ≡ true
 self n = grind arith
 
-differ : (m n : ℕ) → m ≢ n → m == n ≡ false
+pub differ : (m n : ℕ) → m ≢ n → m == n ≡ false
 differ m n h = by (m == n) refl where
   by : (b : Bool) → m == n ≡ b → m == n ≡ false
   by true is = absurd (h (eqb-true m n is))

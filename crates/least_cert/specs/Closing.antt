@@ -1,5 +1,5 @@
 -- Words for the contracts of private functions alone: edges in the making of the least certificate.
-use Rattle.std.specs.Prelude.{◌≡◌, ◌≢◌, ◌<◌, ◌≤◌, ◌+◌, ◌^◌, ◌⊎◌, ◌++◌, ◌∷◌, ◌==◌, ◌||◌, ℕ, true, false, List, [], Option, Some, None, if◌then◌else◌, length, slice_get, slice_index_or, map, take}
+use Rattle.std.specs.Prelude.{◌≡◌, ◌≢◌, ◌<◌, ◌≤◌, ◌+◌, ◌^◌, ◌⊎◌, ◌++◌, ◌∷◌, ◌==◌, ◌||◌, ℕ, true, false, List, [], Option, Some, None, if◌then◌else◌, length, ltb, slice_get, slice_index_or, take}
 use Rattle.auth_kinds.specs.Authorities.{number_of}
 use Rattle.auth_kinds.specs.Edges.{edge, same_edge}
 use Rattle.auth_kinds.specs.Tables.{Has, has}
@@ -16,7 +16,7 @@ abbrev pub turn : Edge → Edge
 turn e = edge e.to e.authority e.from
 
 -- edges in the order found, the same by both ends, and which label gives all that it has to which: s Grant r where r has
--- what s has
+-- what s has. Labels that have what the others have share one leader, and edges are known of leaders alone
 pub record Closure : Type 0 where
   pub spec : Spec
   pub labels : List ℕ
@@ -26,15 +26,6 @@ pub record Closure : Type 0 where
   pub gives : List Edge
   pub leaders : List ℕ
 
--- gifts lead to the label m
-pub data LeadsTo (gives : List Edge) (m : ℕ) : ℕ → Type 0 where
-  no_gift : {l : ℕ} → l ≡ m → LeadsTo gives m l
-  by_gift : {l : ℕ} (k : ℕ) → Has gives l Grant k → LeadsTo gives m k → LeadsTo gives m l
-
--- gifts lead from the one label to the other
-abbrev pub Leads : List Edge → ℕ → ℕ → Type 0
-Leads gives l m = LeadsTo gives m l
-
 -- the leader of the labels that a label stands with, itself where it stands alone
 abbrev pub leader_at : List ℕ → ℕ → ℕ
 leader_at leaders l = slice_index_or leaders l l
@@ -42,6 +33,22 @@ leader_at leaders l = slice_index_or leaders l l
 -- those with the one leader get the other
 abbrev pub led_by : ℕ → ℕ → ℕ → ℕ
 led_by from to leader = if leader == from then to else leader
+
+-- the edge as its leader's; a reply stays its label's own
+abbrev pub lead : List ℕ → Edge → Edge
+lead leaders e = if number_of e.authority == 9 then e else edge (leader_at leaders e.from) e.authority e.to
+
+-- the edge is known of its label's leader
+abbrev pub Knows : Closure → Edge → Type 0
+Knows c e = has c.queue (lead c.leaders e) ≡ true
+
+-- the leaders are one, or the first gives to a label that the second leads
+abbrev pub Flowing : Closure → ℕ → ℕ → Type 0
+Flowing c s r = (s ≡ r) ⊎ ((k : ℕ) × Has c.gives s Grant k × (leader_at c.leaders k ≡ r))
+
+-- so it is while both lead themselves
+abbrev pub Gifted : Closure → ℕ → ℕ → Type 0
+Gifted c s r = leader_at c.leaders s ≡ s → leader_at c.leaders r ≡ r → Flowing c s r
 
 -- r has each edge of s but replies, where the rules hold
 abbrev pub Flows : Spec → List ℕ → ℕ → ℕ → Type 0
@@ -64,14 +71,17 @@ pub record IsSound (c : Closure) : Type 0 where
   pub flows : (s r : ℕ) → Has c.gives s Grant r → Flows c.spec c.labels s r
   pub less : (e : Edge) → has c.queue e ≡ true → IsLess e
   pub gives_less : (e : Edge) → has c.gives e ≡ true → IsLess e
-  pub to_leader : (l : ℕ) → Leads c.gives l (leader_at c.leaders l)
-  pub from_leader : (l : ℕ) → Leads c.gives (leader_at c.leaders l) l
+  pub leads : (l : ℕ) → Flows c.spec c.labels l (leader_at c.leaders l)
+  pub follows : (l : ℕ) → Flows c.spec c.labels (leader_at c.leaders l) l
+  pub flat : (l : ℕ) → leader_at c.leaders (leader_at c.leaders l) ≡ leader_at c.leaders l
+  pub carried : (e : Edge) → has c.queue e ≡ true → Knows c e
+  pub few_leaders : length c.leaders ≤ 2 ^ 32
 
--- what s had in the first list, r has in the second
-abbrev pub Copied : List Edge → List Edge → ℕ → ℕ → Type 0
-Copied old new s r = (a : Authority) (x : ℕ) → a ≢ Reply → Has old s a x → Has new r a x
+-- what s has in the list is known of r
+abbrev pub Copied : List Edge → Closure → ℕ → ℕ → Type 0
+Copied old new s r = (a : Authority) (x : ℕ) → a ≢ Reply → Has old s a x → Knows new (edge r a x)
 
--- it goes on so; what was known of those that give is copied
+-- it goes on so; what was known of those that give is copied; labels that have one leader keep one
 pub record Grows (c : Closure) (new : Closure) : Type 0 where
   pub spec_is : new.spec ≡ c.spec
   pub labels_is : new.labels ≡ c.labels
@@ -79,28 +89,40 @@ pub record Grows (c : Closure) (new : Closure) : Type 0 where
   pub more : List Edge
   pub longer : new.queue ≡ c.queue ++ more
   pub given : (s r : ℕ) → Has c.gives s Grant r → Has new.gives s Grant r
-  pub copied : (s r : ℕ) → Has new.gives s Grant r → (Has c.gives s Grant r) ⊎ Copied c.queue new.queue s r
-
--- all but its leaders is as before
-pub record IsAsBefore (c : Closure) (new : Closure) : Type 0 where
-  pub is : new ≡ record c { leaders = new.leaders }
-  pub sound : IsSound new
+  pub copied : (s r : ℕ) → Has new.gives s Grant r → (Has c.gives s Grant r) ⊎ Copied c.queue new s r
+  pub together : (l : ℕ) → leader_at new.leaders (leader_at c.leaders l) ≡ leader_at new.leaders l
+  pub led_before : (l : ℕ) → leader_at new.leaders l ≡ l → leader_at c.leaders l ≡ l
 
 pub record Adds (edge : Edge) (c : Closure) (new : Closure) : Type 0 where
   pub grows : Grows c new
-  pub there : has new.queue edge ≡ true
+  pub leaders_is : new.leaders ≡ c.leaders
+  pub there : Knows new edge
+  pub only : (e : Edge) → has new.queue e ≡ true → (has c.queue e ≡ true) ⊎ (lead c.leaders edge ≡ e)
 
 pub record AddsAll (edges : List Edge) (c : Closure) (new : Closure) : Type 0 where
   pub grows : Grows c new
-  pub there : (e : Edge) → has edges e ≡ true → has new.queue e ≡ true
+  pub leaders_is : new.leaders ≡ c.leaders
+  pub there : (e : Edge) → has edges e ≡ true → Knows new e
+  pub only : (e : Edge) → has new.queue e ≡ true → (has c.queue e ≡ true) ⊎ ((d : Edge) × (has edges d ≡ true) × (lead c.leaders d ≡ e))
 
-pub record Gives (gift : Edge) (c : Closure) (new : Closure) : Type 0 where
+-- what the giver has, the taker has
+pub record Copies (giver : ℕ) (taker : ℕ) (c : Closure) (new : Closure) : Type 0 where
   pub grows : Grows c new
-  pub given : Leads new.gives gift.from gift.to
+  pub leaders_is : new.leaders ≡ c.leaders
+  pub copied : Copied new.queue new giver taker
+
+pub record Gives (giver : ℕ) (taker : ℕ) (c : Closure) (new : Closure) : Type 0 where
+  pub grows : Grows c new
+  pub given : Gifted new giver taker
 
 pub record GivesAll (gifts : List Edge) (c : Closure) (new : Closure) : Type 0 where
   pub grows : Grows c new
-  pub given : (g : Edge) → has gifts g ≡ true → Leads new.gives g.from g.to
+  pub given : (g : Edge) → has gifts g ≡ true → Gifted new g.from g.to
+
+-- one leader leads both labels
+pub record Joins (a : ℕ) (b : ℕ) (c : Closure) (new : Closure) : Type 0 where
+  pub grows : Grows c new
+  pub one : leader_at new.leaders a ≡ leader_at new.leaders b
 
 -- the edge stands at the end, and nothing else is other
 pub record Puts (edge : Edge) (c : Closure) (new : Closure) : Type 0 where
@@ -114,10 +136,21 @@ pub record Puts (edge : Edge) (c : Closure) (new : Closure) : Type 0 where
   pub as_many : has c.known edge ≡ false → length new.known ≡ length c.known + 1
   pub turned_is : (e : Edge) → has new.turned e ≡ (has c.turned e || same_edge (turn edge) e)
 
--- leaders alone are other: where those of two labels are led by one
-pub record Joins (a : ℕ) (b : ℕ) (c : Closure) (new : Closure) : Type 0 where
+-- there are places for the labels up to one, and each has the leader that it had
+pub record Widens (label : ℕ) (leaders : List ℕ) (new : List ℕ) : Type 0 where
+  pub within : label < length new
+  pub few : length new ≤ 2 ^ 32
+  pub same : (l : ℕ) → leader_at new l ≡ leader_at leaders l
+
+-- those with the one leader have the other
+pub record IsRelabeled (from : ℕ) (to : ℕ) (leaders : List ℕ) (new : List ℕ) : Type 0 where
+  pub few : length new ≤ 2 ^ 32
+  pub led : (l : ℕ) → leader_at new l ≡ led_by from to (leader_at leaders l)
+
+-- so it is with the leaders, which alone are other
+pub record Relabels (to : ℕ) (from : ℕ) (c : Closure) (new : Closure) : Type 0 where
   pub is : new ≡ record c { leaders = new.leaders }
-  pub leaders_is : new.leaders ≡ map (led_by (leader_at c.leaders b) (leader_at c.leaders a)) c.leaders
+  pub leaders_are : IsRelabeled from to c.leaders new.leaders
 
 -- the gift is there, and nothing else is other
 pub record PutsGift (gift : Edge) (c : Closure) (new : Closure) : Type 0 where
@@ -152,65 +185,106 @@ pub record AreTo (known : List Edge) (label : ℕ) (a : Authority) (edges : List
   pub only : (e : Edge) → has edges e ≡ true → Has known e.to a label
   pub every : (l : ℕ) → Has known l a label → Has edges label a l
 
--- those edges that the giver has, as the taker's
-pub record AreCopies (c : Closure) (gift : Edge) (edges : List Edge) : Type 0 where
-  pub only : (e : Edge) → has edges e ≡ true → OfLeast c e
-  pub every : Copied c.queue edges gift.from gift.to
+-- an edge that the giver has, as the taker's
+pub record IsCopy (c : Closure) (giver : ℕ) (taker : ℕ) (e : Edge) : Type 0 where
+  pub other : e.authority ≢ Reply
+  pub from_is : e.from ≡ taker
+  pub known : Has c.queue giver e.authority e.to
+
+pub record AreCopies (c : Closure) (giver : ℕ) (taker : ℕ) (edges : List Edge) : Type 0 where
+  pub only : (e : Edge) → has edges e ≡ true → IsCopy c giver taker e
+  pub every : (e : Edge) → IsCopy c giver taker e → has edges e ≡ true
 
 -- the edge as that of all to whom its label gives
 pub record ArePassed (c : Closure) (f : Edge) (edges : List Edge) : Type 0 where
   pub only : (e : Edge) → has edges e ≡ true → OfLeast c e
   pub every : (r : ℕ) → f.authority ≢ Reply → Has c.gives f.from Grant r → Has edges r f.authority f.to
 
--- the replies and the signals that it asks for, with an edge that is known
+-- the signals that it asks for, with an edge that is known
 pub record AreAsked (c : Closure) (f : Edge) (edges : List Edge) : Type 0 where
   pub only : (e : Edge) → has edges e ≡ true → OfLeast c e
-  pub of_call : f.authority ≡ Call → (r : ℕ) → Has c.queue r Receive f.to → f.from ≢ r → Has edges r Reply f.from
-  pub of_receive : f.authority ≡ Receive → (s : ℕ) → Has c.queue s Call f.to → s ≢ f.from → Has edges f.from Reply s
   pub of_handle : f.authority ≡ Handle → (n : ℕ) → Has c.queue f.from AsyncSend n → f.to ≢ n → Has edges f.to AsyncSend n
   pub of_send : f.authority ≡ AsyncSend → (d : ℕ) → Has c.queue f.from Handle d → d ≢ f.to → Has edges d AsyncSend f.to
 
 -- the gifts that it asks for, with an edge that is known
 pub record AreGifts (c : Closure) (f : Edge) (gifts : List Edge) : Type 0 where
   pub only : (g : Edge) → has gifts g ≡ true → IsGift c g
-  pub of_control : f.authority ≡ Control → Has gifts f.from Grant f.to
-  pub to_control : f.authority ≡ Control → Has gifts f.to Grant f.from
   pub of_grant : f.authority ≡ Grant → (r : ℕ) → Has c.queue r Receive f.to → f.from ≢ r → Has gifts f.from Grant r
   pub of_receive : f.authority ≡ Receive → (s : ℕ) → Has c.queue s Grant f.to → s ≢ f.from → Has gifts s Grant f.from
   pub of_call : f.authority ≡ Call → (r : ℕ) → Has c.queue r GrantBack f.to → f.from ≢ r → Has gifts r Grant f.from
   pub of_grant_back : f.authority ≡ GrantBack → (s : ℕ) → Has c.queue s Call f.to → s ≢ f.from → Has gifts f.from Grant s
 
+-- where it is a Control edge, its ends have one leader
+pub record JoinsEnds (f : Edge) (c : Closure) (new : Closure) : Type 0 where
+  pub grows : Grows c new
+  pub one : f.authority ≡ Control → leader_at new.leaders f.from ≡ leader_at new.leaders f.to
+
 -- all that it asks for is there
 pub record Looks (c : Closure) (f : Edge) (new : Closure) : Type 0 where
   pub grows : Grows c new
-  pub passed : (r : ℕ) → f.authority ≢ Reply → Has c.gives f.from Grant r → Has new.queue r f.authority f.to
-  pub reply_of : f.authority ≡ Call → (r : ℕ) → Has c.queue r Receive f.to → f.from ≢ r → Has new.queue r Reply f.from
-  pub reply_to : f.authority ≡ Receive → (s : ℕ) → Has c.queue s Call f.to → s ≢ f.from → Has new.queue f.from Reply s
-  pub of_handle : f.authority ≡ Handle → (n : ℕ) → Has c.queue f.from AsyncSend n → f.to ≢ n → Has new.queue f.to AsyncSend n
-  pub of_send : f.authority ≡ AsyncSend → (d : ℕ) → Has c.queue f.from Handle d → d ≢ f.to → Has new.queue d AsyncSend f.to
-  pub of_control : f.authority ≡ Control → Leads new.gives f.from f.to
-  pub to_control : f.authority ≡ Control → Leads new.gives f.to f.from
-  pub of_grant : f.authority ≡ Grant → (r : ℕ) → Has c.queue r Receive f.to → f.from ≢ r → Leads new.gives f.from r
-  pub of_receive : f.authority ≡ Receive → (s : ℕ) → Has c.queue s Grant f.to → s ≢ f.from → Leads new.gives s f.from
-  pub of_call : f.authority ≡ Call → (r : ℕ) → Has c.queue r GrantBack f.to → f.from ≢ r → Leads new.gives r f.from
-  pub of_grant_back : f.authority ≡ GrantBack → (s : ℕ) → Has c.queue s Call f.to → s ≢ f.from → Leads new.gives f.from s
+  pub passed : (r : ℕ) → f.authority ≢ Reply → Has c.gives f.from Grant r → Knows new (edge r f.authority f.to)
+  pub of_handle : f.authority ≡ Handle → (n : ℕ) → Has c.queue f.from AsyncSend n → f.to ≢ n → Knows new (edge f.to AsyncSend n)
+  pub of_send : f.authority ≡ AsyncSend → (d : ℕ) → Has c.queue f.from Handle d → d ≢ f.to → Knows new (edge d AsyncSend f.to)
+  pub of_control : f.authority ≡ Control → leader_at new.leaders f.from ≡ leader_at new.leaders f.to
+  pub of_grant : f.authority ≡ Grant → (r : ℕ) → Has c.queue r Receive f.to → f.from ≢ r → Gifted new f.from r
+  pub of_receive : f.authority ≡ Receive → (s : ℕ) → Has c.queue s Grant f.to → s ≢ f.from → Gifted new s f.from
+  pub of_call : f.authority ≡ Call → (r : ℕ) → Has c.queue r GrantBack f.to → f.from ≢ r → Gifted new r f.from
+  pub of_grant_back : f.authority ≡ GrantBack → (s : ℕ) → Has c.queue s Call f.to → s ≢ f.from → Gifted new f.from s
 
--- what the rules ask for because of edges of the first list is there
+-- what the rules ask for because of edges of the first list is there, but replies
 pub record IsClosedFor (first : List Edge) (c : Closure) : Type 0 where
-  pub control_out : (l m : ℕ) → Has first l Control m → Leads c.gives l m
-  pub control_back : (l m : ℕ) → Has first l Control m → Leads c.gives m l
-  pub passed : (s r : ℕ) → Has c.gives s Grant r → Copied first c.queue s r
-  pub grant : (s e r : ℕ) → Has first s Grant e → Has first r Receive e → s ≢ r → Leads c.gives s r
-  pub call : (s e r : ℕ) → Has first s Call e → Has first r Receive e → s ≢ r → Has c.queue r Reply s
-  pub grant_back : (s e r : ℕ) → Has first s Call e → Has first r GrantBack e → s ≢ r → Leads c.gives r s
-  pub bind : (s d n : ℕ) → Has first s Handle d → Has first s AsyncSend n → d ≢ n → Has c.queue d AsyncSend n
+  pub control : (l m : ℕ) → Has first l Control m → leader_at c.leaders l ≡ leader_at c.leaders m
+  pub passed : (s r : ℕ) → Has c.gives s Grant r → Copied first c s r
+  pub grant : (s e r : ℕ) → Has first s Grant e → Has first r Receive e → s ≢ r → Gifted c s r
+  pub grant_back : (s e r : ℕ) → Has first s Call e → Has first r GrantBack e → s ≢ r → Gifted c r s
+  pub bind : (s d n : ℕ) → Has first s Handle d → Has first s AsyncSend n → d ≢ n → Knows c (edge d AsyncSend n)
+
+-- ---- the edges of all labels
+
+-- an edge that stays where there are n places: a reply, or one of a label that has no place
+abbrev pub stays : ℕ → Edge → Option Edge
+stays n e = if number_of e.authority == 9 then Some e else if ltb e.from n then None else Some e
+
+pub record IsSpread (c : Closure) (edges : List Edge) : Type 0 where
+  pub only : (e : Edge) → has edges e ≡ true → Knows c e
+  pub every : (e : Edge) → Knows c e → has edges e ≡ true
+  pub less : (e : Edge) → has edges e ≡ true → IsLess e
+
+-- the Receive edge, turned
+abbrev pub receiver : Edge → Option Edge
+receiver e = if number_of e.authority == 0 then Some (turn e) else None
+
+-- the Receive edges of a list, each turned
+pub record AreReceivers (edges : List Edge) (turned : List Edge) : Type 0 where
+  pub only : (e : Edge) → has turned e ≡ true → (e.authority ≡ Receive) × Has edges e.to Receive e.from
+  pub every : (r x : ℕ) → Has edges r Receive x → Has turned x Receive r
+
+-- a reply that the edge asks for, with one of the turned edges
+pub record IsAnswer (turned : List Edge) (f : Edge) (e : Edge) : Type 0 where
+  pub call : f.authority ≡ Call
+  pub reply : e.authority ≡ Reply
+  pub to_is : e.to ≡ f.from
+  pub receives : Has turned f.to Receive e.from
+  pub differ : e.from ≢ f.from
+
+-- the replies that calls of the list ask for
+pub record AreReplies (c : Closure) (edges : List Edge) (replies : List Edge) : Type 0 where
+  pub only : (e : Edge) → has replies e ≡ true → (e.authority ≡ Reply) × OfLeast c e
+  pub every : (s x r : ℕ) → Has edges s Call x → Has edges r Receive x → s ≢ r → Has replies r Reply s
+
+pub record IsCertificate (c : Closure) (cert : List Edge) : Type 0 where
+  pub edges : List Edge
+  pub replies : List Edge
+  pub spread : IsSpread c edges
+  pub answers : AreReplies c edges replies
+  pub same : (e : Edge) → has cert e ≡ (has edges e || has replies e)
 
 -- ---- the boot state
 
 -- the edges of the boot state are there
 pub record HasBoot (c : Closure) : Type 0 where
-  pub held : (l : ℕ) (a : Authority) (m : ℕ) → Held c.spec c.labels (boot c.spec) l a m → Has c.queue l a m
-  pub structural : (l : ℕ) (a : Authority) (m : ℕ) → Structural c.spec c.labels (boot c.spec) l a m → l ≢ m → Has c.queue l a m
+  pub held : (l : ℕ) (a : Authority) (m : ℕ) → Held c.spec c.labels (boot c.spec) l a m → Knows c (edge l a m)
+  pub structural : (l : ℕ) (a : Authority) (m : ℕ) → Structural c.spec c.labels (boot c.spec) l a m → l ≢ m → Knows c (edge l a m)
 
 -- nothing is known yet
 pub record IsEmpty (spec : Spec) (labels : List ℕ) (c : Closure) : Type 0 where
@@ -220,7 +294,7 @@ pub record IsEmpty (spec : Spec) (labels : List ℕ) (c : Closure) : Type 0 wher
   pub known_is : c.known ≡ []
   pub turned_is : c.turned ≡ []
   pub gives_is : c.gives ≡ []
-  pub leaders_is : (l : ℕ) → leader_at c.leaders l ≡ l
+  pub leaders_is : c.leaders ≡ []
 
 -- all that the boot state asks for is there
 pub record Begins (spec : Spec) (labels : List ℕ) (c : Closure) : Type 0 where
@@ -237,12 +311,14 @@ pub record Closes (c : Closure) (new : Closure) : Type 0 where
 -- the edges at places before n were put in
 pub record AddsSome (edges : List Edge) (n : ℕ) (c : Closure) (new : Closure) : Type 0 where
   pub grows : Grows c new
-  pub there : (k : ℕ) (e : Edge) → k < n → slice_get edges k ≡ Some e → has new.queue e ≡ true
+  pub leaders_is : new.leaders ≡ c.leaders
+  pub there : (k : ℕ) (e : Edge) → k < n → slice_get edges k ≡ Some e → Knows new e
+  pub only : (e : Edge) → has new.queue e ≡ true → (has c.queue e ≡ true) ⊎ ((d : Edge) × (has edges d ≡ true) × (lead c.leaders d ≡ e))
 
 -- those labels give
 pub record GivesSome (gifts : List Edge) (n : ℕ) (c : Closure) (new : Closure) : Type 0 where
   pub grows : Grows c new
-  pub given : (k : ℕ) (g : Edge) → k < n → slice_get gifts k ≡ Some g → Leads new.gives g.from g.to
+  pub given : (k : ℕ) (g : Edge) → k < n → slice_get gifts k ≡ Some g → Gifted new g.from g.to
 
 -- the edges at places before n were looked at
 pub record LooksAt (n : ℕ) (c : Closure) (new : Closure) : Type 0 where

@@ -1,13 +1,11 @@
 //! What the rules ask for because of one edge.
 
-ghost use Rattle.auth_kinds.specs.Edges.{edge as edge_of};
 ghost use Rattle.auth_kinds.specs.Tables.{has};
-ghost use Rattle.auth_kinds.specs.declared.authority.Authority.TheVariants.{Grant};
 ghost use Rattle.auth_kinds.specs.declared.edge.Edge.{Edge};
-ghost use Rattle.least_cert.specs.Closing.{AreAsked, AreGifts, ArePassed, IsSound, Looks, from_other, passed_to, to_other};
+ghost use Rattle.least_cert.specs.Closing.{AreAsked, AreGifts, ArePassed, IsSound, JoinsEnds, Looks, OfLeast, from_other, passed_to, to_other};
 ghost use Rattle.least_cert.specs.LeastCertificate.{CloseRefused};
 ghost use Rattle.std.specs.List.{filter_map};
-ghost use Rattle.std.specs.Prelude.{◌≡◌, ◌∷◌, true, [], IfErr, IfOk, OnOk};
+ghost use Rattle.std.specs.Prelude.{◌≡◌, true, IfErr, IfOk, OnOk};
 
 use crate::closing::{CloseError, Closing, passed_to};
 use auth_kinds::{Authority, Edge};
@@ -42,7 +40,8 @@ fn to_other(authority: Authority, label: u32, edge: Edge) -> Option<Edge>
     })
 }
 
-fn from_others(
+/// Edges from where others go to the label.
+pub fn from_others(
     alloc: Global,
     authority: Authority,
     label: u32,
@@ -94,23 +93,13 @@ fn passed(alloc: Global, closing: &Closing<'_>, edge: Edge) -> Result<Vec<Edge>,
     Ok(edges)
 }
 
-/// The replies and the signals that the edge asks for.
+/// The signals that the edge asks for.
 fn asked(alloc: Global, closing: &Closing<'_>, edge: Edge) -> Result<Vec<Edge>, NoMemory>
     requires sound { IsSound closing.now }
     requires known { has closing.now.queue edge ≡ true }
     ensures { IfOk result (λ edges. AreAsked closing.now edge edges.items) }
 {
     match edge.authority {
-        Authority::Call => {
-            let peers = closing.to_with(edge.to, Authority::Receive)?;
-            let edges = from_others(alloc, Authority::Reply, edge.from, peers.as_slice())?;
-            Ok(edges)
-        }
-        Authority::Receive => {
-            let peers = closing.to_with(edge.to, Authority::Call)?;
-            let edges = to_others(alloc, Authority::Reply, edge.from, peers.as_slice())?;
-            Ok(edges)
-        }
         Authority::Handle => {
             let peers = closing.out_with(edge.from, Authority::AsyncSend)?;
             let edges = to_others(alloc, Authority::AsyncSend, edge.to, peers.as_slice())?;
@@ -125,17 +114,13 @@ fn asked(alloc: Global, closing: &Closing<'_>, edge: Edge) -> Result<Vec<Edge>, 
     }
 }
 
-/// The gifts that the edge asks for.
+/// The gifts that the edge asks for, between labels that need not share a leader.
 fn gifts(alloc: Global, closing: &Closing<'_>, edge: Edge) -> Result<Vec<Edge>, NoMemory>
     requires sound { IsSound closing.now }
     requires known { has closing.now.queue edge ≡ true }
     ensures { IfOk result (λ gifts. AreGifts closing.now edge gifts.items) }
 {
     match edge.authority {
-        Authority::Control => {
-            let gifts = both_ways(alloc, edge)?;
-            Ok(gifts)
-        }
         Authority::Grant => {
             let peers = closing.to_with(edge.to, Authority::Receive)?;
             let gifts = to_others(alloc, Authority::Grant, edge.from, peers.as_slice())?;
@@ -160,22 +145,20 @@ fn gifts(alloc: Global, closing: &Closing<'_>, edge: Edge) -> Result<Vec<Edge>, 
     }
 }
 
-/// The gifts between the ends of an edge, both ways.
-fn both_ways(alloc: Global, edge: Edge) -> Result<Vec<Edge>, NoMemory>
-    ensures { IfOk result (λ gifts. gifts.items ≡ edge_of edge.from Grant edge.to ∷ edge_of edge.to Grant edge.from ∷ []) }
+/// Makes the ends of a Control edge share one leader.
+fn join_ends(closing: &mut Closing<'_>, edge: Edge) -> Result<(), CloseError>
+    requires sound { IsSound closing.old }
+    requires least { OfLeast closing.old edge }
+    ensures joined { OnOk result (JoinsEnds edge closing.old closing.new) }
+    ensures refused { IfErr result (CloseRefused closing.old.spec closing.old.labels) }
 {
-    let there = Edge {
-        from: edge.from,
-        authority: Authority::Grant,
-        to: edge.to,
-    };
-    let back = Edge {
-        from: edge.to,
-        authority: Authority::Grant,
-        to: edge.from,
-    };
-    let gifts = [there, back].to_vec(alloc)?;
-    Ok(gifts)
+    match edge.authority {
+        Authority::Control => {
+            closing.join(edge.from, edge.to)?;
+            Ok(())
+        }
+        _ => Ok(()),
+    }
 }
 
 /// Puts in all that the rules ask for because of an edge.
@@ -191,5 +174,6 @@ pub fn look(alloc: Global, closing: &mut Closing<'_>, edge: Edge) -> Result<(), 
     closing.add_all(passed.as_slice())?;
     closing.add_all(asked.as_slice())?;
     closing.give_all(gifts.as_slice())?;
+    join_ends(closing, edge)?;
     Ok(())
 }

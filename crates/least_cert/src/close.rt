@@ -7,6 +7,7 @@ ghost use Rattle.std.specs.Prelude.{◌≡◌, ◌≤◌, IfErr, IfOk, OnOk, len
 use crate::asking::look;
 use crate::boot::{held_edges, linking_edges};
 use crate::closing::{CloseError, Closing};
+use crate::replies::certificate;
 use auth_kinds::{EdgeTable, Labels};
 use cap_model::Spec;
 use std::alloc::Global;
@@ -21,7 +22,7 @@ pub fn close_cert(alloc: Global, spec: &Spec, labels: &Labels) -> Result<EdgeTab
 {
     let mut closing = begun(alloc, spec, labels)?;
     close(alloc, &mut closing)?;
-    let table = closing.table()?;
+    let table = certificate(alloc, &closing)?;
     Ok(table)
 }
 
@@ -33,7 +34,7 @@ fn begun<'a>(alloc: Global, spec: &'a Spec, labels: &'a Labels) -> Result<Closin
 {
     let held = held_edges(alloc, spec, labels)?;
     let links = linking_edges(alloc, spec, labels)?;
-    let mut closing = Closing::new(alloc, spec, labels)?;
+    let mut closing = Closing::new(alloc, spec, labels);
     closing.add_all(held.as_slice())?;
     closing.add_all(links.as_slice())?;
     Ok(closing)

@@ -1,13 +1,14 @@
 //! Edges in the making of a certificate, with look-ups by both ends, and which label gives all that it has to which.
 
+ghost use Rattle.auth_kinds.specs.Adds.{Adds as AddsEdges};
 ghost use Rattle.auth_kinds.specs.Edges.{edge};
 ghost use Rattle.auth_kinds.specs.Tables.{has, IsSorted};
 ghost use Rattle.auth_kinds.specs.declared.authority.Authority.TheVariants.{Grant};
 ghost use Rattle.auth_kinds.specs.declared.edge.Edge.{Edge};
-ghost use Rattle.least_cert.specs.Closing.{Adds, AddsAll, AreCopies, AreOut, AreTo, Gives, Flows, GivesAll, IsEmpty, IsGift, IsLess, IsAsBefore, IsSound, Joins, Leads, OfLeast, Puts, PutsGift, leader_at, led_by, passed_to, turn};
+ghost use Rattle.least_cert.specs.Closing.{Adds, AddsAll, AreCopies, AreOut, AreTo, Copies, Gives, Flows, GivesAll, IsCopy, IsEmpty, IsGift, IsLess, IsRelabeled, IsSound, IsSpread, Joins, OfLeast, Puts, PutsGift, Relabels, Widens, lead, leader_at, led_by, passed_to, stays, turn};
 ghost use Rattle.least_cert.specs.LeastCertificate.{CloseRefused};
 ghost use Rattle.std.specs.List.{filter_map};
-ghost use Rattle.std.specs.Prelude.{◌≡◌, ◌<◌, ◌≤◌, ◌^◌, ◌↔◌, ℕ, map, true, IsTrue, IfErr, IfOk, OnOk, length, slice_get, Some};
+ghost use Rattle.std.specs.Prelude.{◌≡◌, ◌<◌, ◌≤◌, ◌^◌, ◌↔◌, ◌++◌, ℕ, map, true, IsTrue, IfErr, IfOk, OnOk, length, slice_get, Some};
 
 use auth_kinds::{Authority, Edge, EdgeTable, Labels};
 use cam_base::NoMemory;
@@ -17,7 +18,7 @@ use std::alloc::Global;
 use std::marker::Model;
 
 /// The most edges of a certificate.
-const LIMIT: usize = 262_144;
+pub const LIMIT: usize = 262_144;
 
 /// Why there is no certificate: the least one has more than 262,144 edges; or want of memory.
 #[derive(Clone, Copy)]
@@ -50,7 +51,7 @@ fn edge_of(from: u32, authority: Authority, to: u32) -> Edge
 }
 
 /// The edge in the other direction.
-fn turned(edge: Edge) -> Edge
+pub fn turned(edge: Edge) -> Edge
     ensures is { result ≡ turn edge }
     ensures less { IsLess edge }
 {
@@ -82,27 +83,38 @@ fn passed_to_one(alloc: Global, label: u32, edges: &[Edge]) -> Result<Vec<Edge>,
     Ok(passed)
 }
 
-/// How many numbers there are up to the greatest of the labels.
-fn width(labels: &[u32]) -> usize
-    ensures { result ≤ 2 ^ 32 }
+/// The edges of both lists.
+pub fn with_more(edges: Vec<Edge>, more: &[Edge]) -> Result<Vec<Edge>, NoMemory>
+    ensures { IfOk result (λ new. new.items ≡ edges.items ++ more.now) }
 {
-    let mut width = 0;
-    for label in labels {
-        width = width.max(*label as usize + 1);
-    }
-    width
+    let mut edges = edges;
+    edges.extend_from_slice(more)?;
+    Ok(edges)
 }
 
-/// Labels of which each leads itself.
-fn alone(alloc: Global, width: usize) -> Result<Vec<u32>, NoMemory>
-    requires { width ≤ 2 ^ 32 }
-    ensures { IfOk result (λ leaders. (l : ℕ) → leader_at leaders.items l ≡ l) }
+/// The leaders, with places for the labels up to one.
+fn widened(leaders: Vec<u32>, label: u32) -> Result<Vec<u32>, NoMemory>
+    requires { length leaders.items ≤ 2 ^ 32 }
+    ensures { IfOk result (λ new. Widens label leaders.items new.items) }
 {
-    let mut leaders = Vec::new(alloc);
-    for label in 0..width {
-        leaders.push(label as u32)?;
+    let mut leaders = leaders;
+    for next in leaders.len()..label as usize + 1 {
+        leaders.push(next as u32)?;
     }
     Ok(leaders)
+}
+
+/// The edge, where it is a reply or its label has no place among the leaders.
+fn stays(places: usize, edge: Edge) -> Option<Edge>
+    ensures { result ≡ stays places edge }
+{
+    if edge.authority.number() == 9 {
+        return Some(edge);
+    }
+    if (edge.from as usize) < places {
+        return None;
+    }
+    Some(edge)
 }
 
 /// The leader of the labels that a label stands with.
@@ -132,6 +144,35 @@ fn with_leader(alloc: Global, leaders: &[u32], from: u32, to: u32) -> Result<Vec
     Ok(new)
 }
 
+fn copied(alloc: Global, leaders: &[u32]) -> Result<Vec<u32>, NoMemory>
+    ensures { IfOk result (λ new. new.items ≡ leaders.now) }
+{
+    let new = leaders.iter().copied().collect(alloc)?;
+    Ok(new)
+}
+
+/// The same for all labels, also where the one had no place.
+fn relabeled(alloc: Global, leaders: &[u32], from: u32, to: u32) -> Result<Vec<u32>, NoMemory>
+    requires { length leaders.now ≤ 2 ^ 32 }
+    ensures { IfOk result (λ new. IsRelabeled from to leaders.now new.items) }
+{
+    let same = copied(alloc, leaders)?;
+    let wide = widened(same, from)?;
+    let new = with_leader(alloc, wide.as_slice(), from, to)?;
+    Ok(new)
+}
+
+/// The edges that stay.
+fn staying(alloc: Global, places: usize, edges: &[Edge]) -> Result<Vec<Edge>, NoMemory>
+    ensures { IfOk result (λ new. new.items ≡ filter_map (stays places) edges.now) }
+{
+    let new = edges
+        .iter()
+        .filter_map(|edge| stays(places, *edge))
+        .collect(alloc)?;
+    Ok(new)
+}
+
 /// Edges in the making.
 #[derive(Drop)]
 pub struct Closing<'a> {
@@ -155,11 +196,10 @@ impl<'a> Model for Closing<'a> {
 
 impl<'a> Closing<'a> {
     /// No edges yet.
-    pub fn new(alloc: Global, spec: &'a Spec, labels: &'a Labels) -> Result<Closing<'a>, NoMemory>
-        ensures { IfOk result (IsEmpty spec.entry.now labels.entry.now.by_object) }
+    pub fn new(alloc: Global, spec: &'a Spec, labels: &'a Labels) -> Closing<'a>
+        ensures { IsEmpty spec.entry.now labels.entry.now.by_object result }
     {
-        let leaders = alone(alloc, width(labels.by_object.as_slice()))?;
-        Ok(Closing {
+        Closing {
             alloc,
             spec,
             labels,
@@ -167,8 +207,8 @@ impl<'a> Closing<'a> {
             known: EdgeSet::new(alloc),
             turned: EdgeSet::new(alloc),
             gives: EdgeSet::new(alloc),
-            leaders,
-        })
+            leaders: Vec::new(alloc),
+        }
     }
 
     /// How many edges there are.
@@ -184,13 +224,6 @@ impl<'a> Closing<'a> {
         ensures { slice_get self.now.queue place ≡ Some result }
     {
         self.queue[place]
-    }
-
-    /// The edges as a table.
-    pub fn table(&self) -> Result<EdgeTable, NoMemory>
-        ensures { IfOk result (λ table. table ≡ self.now.known) }
-    {
-        self.known.table(self.alloc)
     }
 
     /// The edges with an authority out of a label.
@@ -243,13 +276,14 @@ impl<'a> Closing<'a> {
         self.known.len() > LIMIT
     }
 
-    /// Puts an edge in, where it isn't known yet.
+    /// Puts an edge in as its leader's, where it isn't known yet.
     pub fn add(&mut self, edge: Edge) -> Result<(), CloseError>
         requires sound { IsSound self.old }
         requires least { OfLeast self.old edge }
         ensures added { OnOk result (Adds edge self.old self.new) }
         ensures refused { IfErr result (CloseRefused self.old.spec self.old.labels) }
     {
+        let edge = self.lead(edge);
         if self.knows(&edge) {
             return Ok(());
         }
@@ -258,6 +292,26 @@ impl<'a> Closing<'a> {
             return Err(CloseError::Limit);
         }
         Ok(())
+    }
+
+    /// The edge as its leader's. A reply stays its label's own.
+    fn lead(&self, edge: Edge) -> Edge
+        ensures { result ≡ lead self.now.leaders edge }
+    {
+        if edge.authority.number() == 9 {
+            return edge;
+        }
+        Edge {
+            from: self.leader(edge.from),
+            authority: edge.authority,
+            to: edge.to,
+        }
+    }
+
+    fn leader(&self, label: u32) -> u32
+        ensures { result ≡ leader_at self.now.leaders label }
+    {
+        leader(self.leaders.as_slice(), label)
     }
 
     /// Puts edges in, where they aren't known yet.
@@ -274,14 +328,25 @@ impl<'a> Closing<'a> {
     }
 
     /// What the giver has, as the taker's.
-    fn copies(&self, gift: Edge) -> Result<Vec<Edge>, NoMemory>
-        requires sound { IsSound self.now }
-        requires gift { IsGift self.now gift }
-        ensures { IfOk result (λ edges. AreCopies self.now gift edges.items) }
+    fn copies(&self, giver: u32, taker: u32) -> Result<Vec<Edge>, NoMemory>
+        requires { IsSound self.now }
+        ensures { IfOk result (λ edges. AreCopies self.now giver taker edges.items) }
     {
-        let edges = self.known.out_of(self.alloc, gift.from)?;
-        let copies = passed_to_one(self.alloc, gift.to, edges.as_slice())?;
+        let edges = self.known.out_of(self.alloc, giver)?;
+        let copies = passed_to_one(self.alloc, taker, edges.as_slice())?;
         Ok(copies)
+    }
+
+    /// Puts in what the giver has, as the taker's.
+    fn copy(&mut self, giver: u32, taker: u32) -> Result<(), CloseError>
+        requires sound { IsSound self.old }
+        requires flows { Flows self.old.spec self.old.labels giver taker }
+        ensures copied { OnOk result (Copies giver taker self.old self.new) }
+        ensures refused { IfErr result (CloseRefused self.old.spec self.old.labels) }
+    {
+        let copies = self.copies(giver, taker)?;
+        self.add_all(copies.as_slice())?;
+        Ok(())
     }
 
     fn is_given(&self, gift: &Edge) -> bool
@@ -290,51 +355,35 @@ impl<'a> Closing<'a> {
         self.gives.contains(gift)
     }
 
-    /// Whether two labels are led by one.
-    fn are_one(&self, a: u32, b: u32) -> bool
-        ensures { IsTrue result → leader_at self.now.leaders a ≡ leader_at self.now.leaders b }
-    {
-        leader(self.leaders.as_slice(), a) == leader(self.leaders.as_slice(), b)
-    }
-
-    /// Makes one leader lead those of two labels.
-    fn join(&mut self, a: u32, b: u32) -> Result<(), NoMemory>
-        ensures { OnOk result (Joins a b self.old self.new) }
-    {
-        let to = leader(self.leaders.as_slice(), a);
-        let from = leader(self.leaders.as_slice(), b);
-        self.leaders = with_leader(self.alloc, self.leaders.as_slice(), from, to)?;
-        Ok(())
-    }
-
-    /// Makes one leader lead those of two labels, where each gives to the other.
-    fn join_back(&mut self, a: u32, b: u32) -> Result<(), NoMemory>
-        requires sound { IsSound self.old }
-        requires given { Leads self.old.gives a b }
-        ensures { OnOk result (IsAsBefore self.old self.new) }
-    {
-        if self.is_given(&edge_of(b, Authority::Grant, a)) {
-            self.join(a, b)?;
-            return Ok(());
-        }
-        Ok(())
-    }
-
-    /// Makes a label give all that it has to another, where it doesn't yet.
+    /// Makes a label give all that it has to another, where it doesn't yet. Two labels that give to each other share
+    /// one leader.
     pub fn give(&mut self, giver: u32, taker: u32) -> Result<(), CloseError>
         requires sound { IsSound self.old }
         requires flows { Flows self.old.spec self.old.labels giver taker }
-        ensures given { OnOk result (Gives (edge giver Grant taker) self.old self.new) }
+        ensures given { OnOk result (Gives giver taker self.old self.new) }
         ensures refused { IfErr result (CloseRefused self.old.spec self.old.labels) }
     {
-        if self.are_one(giver, taker) {
+        self.give_led(self.leader(giver), self.leader(taker))?;
+        Ok(())
+    }
+
+    fn give_led(&mut self, giver: u32, taker: u32) -> Result<(), CloseError>
+        requires sound { IsSound self.old }
+        requires flows { Flows self.old.spec self.old.labels giver taker }
+        ensures given { OnOk result (Gives giver taker self.old self.new) }
+        ensures refused { IfErr result (CloseRefused self.old.spec self.old.labels) }
+    {
+        if giver == taker {
             return Ok(());
         }
         if self.is_given(&edge_of(giver, Authority::Grant, taker)) {
             return Ok(());
         }
+        if self.is_given(&edge_of(taker, Authority::Grant, giver)) {
+            self.join(giver, taker)?;
+            return Ok(());
+        }
         self.hand(giver, taker)?;
-        self.join_back(giver, taker)?;
         Ok(())
     }
 
@@ -342,13 +391,11 @@ impl<'a> Closing<'a> {
     fn hand(&mut self, giver: u32, taker: u32) -> Result<(), CloseError>
         requires sound { IsSound self.old }
         requires flows { Flows self.old.spec self.old.labels giver taker }
-        ensures given { OnOk result (Gives (edge giver Grant taker) self.old self.new) }
+        ensures given { OnOk result (Gives giver taker self.old self.new) }
         ensures refused { IfErr result (CloseRefused self.old.spec self.old.labels) }
     {
-        let gift = edge_of(giver, Authority::Grant, taker);
-        let copies = self.copies(gift)?;
-        self.add_all(copies.as_slice())?;
-        self.put_gift(gift)?;
+        self.copy(giver, taker)?;
+        self.put_gift(edge_of(giver, Authority::Grant, taker))?;
         Ok(())
     }
 
@@ -356,6 +403,67 @@ impl<'a> Closing<'a> {
         ensures { OnOk result (PutsGift gift self.old self.new) }
     {
         self.gives.insert(gift)?;
+        Ok(())
+    }
+
+    /// Makes two labels share one leader, where each has what the other has.
+    pub fn join(&mut self, a: u32, b: u32) -> Result<(), CloseError>
+        requires sound { IsSound self.old }
+        requires there { Flows self.old.spec self.old.labels a b }
+        requires back { Flows self.old.spec self.old.labels b a }
+        ensures joined { OnOk result (Joins a b self.old self.new) }
+        ensures refused { IfErr result (CloseRefused self.old.spec self.old.labels) }
+    {
+        self.join_led(self.leader(a), self.leader(b))?;
+        Ok(())
+    }
+
+    /// Makes one of two leaders lead those of both: the one that leads more.
+    fn join_led(&mut self, a: u32, b: u32) -> Result<(), CloseError>
+        requires sound { IsSound self.old }
+        requires there { Flows self.old.spec self.old.labels a b }
+        requires back { Flows self.old.spec self.old.labels b a }
+        requires first { leader_at self.old.leaders a ≡ a }
+        requires second { leader_at self.old.leaders b ≡ b }
+        ensures joined { OnOk result (Joins a b self.old self.new) }
+        ensures refused { IfErr result (CloseRefused self.old.spec self.old.labels) }
+    {
+        if a == b {
+            return Ok(());
+        }
+        if self.members(a) < self.members(b) {
+            self.merge(b, a)?;
+            return Ok(());
+        }
+        self.merge(a, b)?;
+        Ok(())
+    }
+
+    /// How many labels the label leads, those alone that a place was made for.
+    fn members(&self, leader: u32) -> usize {
+        self.leaders.iter().filter(|led| **led == leader).count()
+    }
+
+    /// Makes a leader lead those of another.
+    fn merge(&mut self, to: u32, from: u32) -> Result<(), CloseError>
+        requires sound { IsSound self.old }
+        requires there { Flows self.old.spec self.old.labels to from }
+        requires back { Flows self.old.spec self.old.labels from to }
+        requires first { leader_at self.old.leaders to ≡ to }
+        requires second { leader_at self.old.leaders from ≡ from }
+        ensures joined { OnOk result (Joins to from self.old self.new) }
+        ensures refused { IfErr result (CloseRefused self.old.spec self.old.labels) }
+    {
+        self.copy(from, to)?;
+        self.relabel(to, from)?;
+        Ok(())
+    }
+
+    fn relabel(&mut self, to: u32, from: u32) -> Result<(), NoMemory>
+        requires { length self.old.leaders ≤ 2 ^ 32 }
+        ensures { OnOk result (Relabels to from self.old self.new) }
+    {
+        self.leaders = relabeled(self.alloc, self.leaders.as_slice(), from, to)?;
         Ok(())
     }
 
@@ -370,5 +478,68 @@ impl<'a> Closing<'a> {
             self.give(gift.from, gift.to)?;
         }
         Ok(())
+    }
+
+    /// The edges of all labels, but for the replies that calls ask for.
+    pub fn spread(&self) -> Result<Vec<Edge>, CloseError>
+        requires { IsSound self.now }
+        ensures spread { IfOk result (λ edges. IsSpread self.now edges.items) }
+        ensures refused { IfErr result (CloseRefused self.now.spec self.now.labels) }
+    {
+        let mut edges = self.staying()?;
+        for label in 0..self.places() {
+            edges = self.with_copies(edges, self.leader(label as u32), label as u32)?;
+            self.bound(edges.as_slice())?;
+        }
+        Ok(edges)
+    }
+
+    /// The replies that are known, and the edges of labels that have no place among the leaders.
+    fn staying(&self) -> Result<Vec<Edge>, NoMemory>
+        ensures { IfOk result (λ edges. edges.items ≡ filter_map (stays (length self.now.leaders)) self.now.queue) }
+    {
+        let edges = staying(self.alloc, self.leaders.len(), self.queue.as_slice())?;
+        Ok(edges)
+    }
+
+    /// How many labels have a place among the leaders.
+    fn places(&self) -> usize
+        ensures { result ≡ length self.now.leaders }
+    {
+        self.leaders.len()
+    }
+
+    fn with_copies(&self, edges: Vec<Edge>, giver: u32, taker: u32) -> Result<Vec<Edge>, NoMemory>
+        requires { IsSound self.now }
+        ensures { IfOk result (λ new. AddsEdges (IsCopy self.now giver taker) edges.items new.items) }
+    {
+        let copies = self.copies(giver, taker)?;
+        let edges = with_more(edges, copies.as_slice())?;
+        Ok(edges)
+    }
+
+    /// Refuses edges of the least certificate, where these are too many.
+    fn bound(&self, edges: &[Edge]) -> Result<(), CloseError>
+        requires { (e : Edge) → has edges.now e ≡ true → OfLeast self.now e }
+        ensures { IfErr result (CloseRefused self.now.spec self.now.labels) }
+    {
+        if edges.len() > LIMIT {
+            let _table = self.table(edges)?;
+        }
+        Ok(())
+    }
+
+    /// The table of edges of the least certificate.
+    pub fn table(&self, edges: &[Edge]) -> Result<EdgeTable, CloseError>
+        requires { (e : Edge) → has edges.now e ≡ true → OfLeast self.now e }
+        ensures same { IfOk result (λ table. (e : Edge) → has table e ≡ has edges.now e) }
+        ensures few { IfOk result (λ table. length table ≤ 262144) }
+        ensures refused { IfErr result (CloseRefused self.now.spec self.now.labels) }
+    {
+        let table = EdgeTable::from_list(self.alloc, edges)?;
+        if table.len() > LIMIT {
+            return Err(CloseError::Limit);
+        }
+        Ok(table)
     }
 }

@@ -6,6 +6,7 @@ mod boot;
 mod close;
 mod closing;
 mod laws;
+mod replies;
 
 pub use close::close_cert;
 pub use closing::CloseError;

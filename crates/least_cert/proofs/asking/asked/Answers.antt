@@ -1,20 +1,10 @@
-use Rattle.least_cert.proofs.Asks.{asked_call, asked_handle, asked_receive, asked_send}
+use Rattle.least_cert.proofs.Asks.{asked_handle, asked_send}
 use Rattle.least_cert.proofs.asking.asked.Goals as goal
-
-pub returns-in_ok-edges-in-Call : goal.returns-in_ok-edges-in-Call
-returns-in_ok-edges-in-Call c =
-    asked_call c.args.closing.now c.requires.sound c.args.edge c.requires.known c.in_ok-peers-in-Call.peers.items c.in_ok-edges-in-Call.edges.items c.in-Call.is c.in_ok-peers-in-Call.ensures
-    (rw c.as_slice.ensures.value at c.in_ok-edges-in-Call.ensures)
-
-pub returns-in_ok-edges-in-Receive : goal.returns-in_ok-edges-in-Receive
-returns-in_ok-edges-in-Receive c =
-    asked_receive c.args.closing.now c.requires.sound c.args.edge c.requires.known c.in_ok-peers-in-Receive.peers.items c.in_ok-edges-in-Receive.edges.items c.in-Receive.is c.in_ok-peers-in-Receive.ensures
-    (rw c.as_slice-in-Receive.ensures.value at c.in_ok-edges-in-Receive.ensures)
 
 pub returns-in_ok-edges-in-Handle : goal.returns-in_ok-edges-in-Handle
 returns-in_ok-edges-in-Handle c =
     asked_handle c.args.closing.now c.requires.sound c.args.edge c.requires.known c.in_ok-peers-in-Handle.peers.items c.in_ok-edges-in-Handle.edges.items c.in-Handle.is c.in_ok-peers-in-Handle.ensures
-    (rw c.as_slice-in-Handle.ensures.value at c.in_ok-edges-in-Handle.ensures)
+    (rw c.as_slice.ensures.value at c.in_ok-edges-in-Handle.ensures)
 
 pub returns-in_ok-edges-in-AsyncSend : goal.returns-in_ok-edges-in-AsyncSend
 returns-in_ok-edges-in-AsyncSend c =

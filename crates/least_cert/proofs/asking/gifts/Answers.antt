@@ -1,8 +1,5 @@
-use Rattle.least_cert.proofs.Asks.{gifts_call, gifts_control, gifts_grant, gifts_grant_back, gifts_receive}
+use Rattle.least_cert.proofs.Asks.{gifts_call, gifts_grant, gifts_grant_back, gifts_receive}
 use Rattle.least_cert.proofs.asking.gifts.Goals as goal
-
-pub returns-in_ok-gifts-in-Control : goal.returns-in_ok-gifts-in-Control
-returns-in_ok-gifts-in-Control c = gifts_control c.args.closing.now c.requires.sound c.args.edge c.requires.known c.in_ok-gifts-in-Control.gifts.items c.in-Control.is c.in_ok-gifts-in-Control.ensures
 
 pub returns-in_ok-gifts-in-Grant : goal.returns-in_ok-gifts-in-Grant
 returns-in_ok-gifts-in-Grant c =

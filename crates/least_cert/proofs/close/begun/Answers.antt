@@ -6,19 +6,19 @@ use Rattle.least_cert.proofs.Holding.{begins_so, empty_sound, held_least, links_
 use Rattle.least_cert.proofs.close.begun.Goals as goal
 
 pub add_all-requires-clause-sound : goal.add_all-requires-clause-sound
-add_all-requires-clause-sound c = empty_sound c.args.spec.now c.args.labels.now.by_object c.in_ok-closing.closing c.in_ok-closing.ensures
+add_all-requires-clause-sound c = empty_sound c.args.spec.now c.args.labels.now.by_object c.new-closing.result c.new-closing.ensures
 
 pub add_all-requires-clause-least : goal.add_all-requires-clause-least
 add_all-requires-clause-least c = λ e h.
-    held_least c.args.spec.now c.args.labels.now.by_object c.in_ok-closing.closing c.in_ok-closing.ensures c.in_ok-held.held.items c.in_ok-held.ensures e (subst (λ (xs : List Edge). has xs e ≡ true) c.as_slice.ensures.value h)
+    held_least c.args.spec.now c.args.labels.now.by_object c.new-closing.result c.new-closing.ensures c.in_ok-held.held.items c.in_ok-held.ensures e (subst (λ (xs : List Edge). has xs e ≡ true) c.as_slice.ensures.value h)
 
 pub add_all-requires-2-clause-least : goal.add_all-requires-2-clause-least
 add_all-requires-2-clause-least c = λ e h.
-    links_least c.args.spec.now c.args.labels.now.by_object c.in_ok-closing.closing c.in_ok-closing.ensures c.in_ok-held.held.items c.in_ok-links.links.items c.add_all.new.self c.add_all.new.self c.in_ok-held.ensures c.in_ok-links.ensures
-    (subst (λ (xs : List Edge). AddsAll xs c.in_ok-closing.closing c.add_all.new.self) c.as_slice.ensures.value c.in_ok-add_all.ensures.added) e (subst (λ (xs : List Edge). has xs e ≡ true) c.as_slice-2.ensures.value h)
+    links_least c.args.spec.now c.args.labels.now.by_object c.new-closing.result c.new-closing.ensures c.in_ok-held.held.items c.in_ok-links.links.items c.add_all.new.self c.add_all.new.self c.in_ok-held.ensures c.in_ok-links.ensures
+    (subst (λ (xs : List Edge). AddsAll xs c.new-closing.result c.add_all.new.self) c.as_slice.ensures.value c.in_ok-add_all.ensures.added) e (subst (λ (xs : List Edge). has xs e ≡ true) c.as_slice-2.ensures.value h)
 
 pub returns-clause-begun : goal.returns-clause-begun
 returns-clause-begun c =
-    begins_so c.args.spec.now c.args.labels.now.by_object c.in_ok-closing.closing c.in_ok-closing.ensures c.in_ok-held.held.items c.in_ok-links.links.items c.add_all.new.self c.add_all-2.new.self c.in_ok-held.ensures c.in_ok-links.ensures
-    (subst (λ (xs : List Edge). AddsAll xs c.in_ok-closing.closing c.add_all.new.self) c.as_slice.ensures.value c.in_ok-add_all.ensures.added)
+    begins_so c.args.spec.now c.args.labels.now.by_object c.new-closing.result c.new-closing.ensures c.in_ok-held.held.items c.in_ok-links.links.items c.add_all.new.self c.add_all-2.new.self c.in_ok-held.ensures c.in_ok-links.ensures
+    (subst (λ (xs : List Edge). AddsAll xs c.new-closing.result c.add_all.new.self) c.as_slice.ensures.value c.in_ok-add_all.ensures.added)
     (subst (λ (xs : List Edge). AddsAll xs c.add_all.new.self c.add_all-2.new.self) c.as_slice-2.ensures.value c.in_ok-add_all-2.ensures.added)

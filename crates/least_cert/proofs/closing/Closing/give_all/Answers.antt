@@ -1,9 +1,7 @@
-use Rattle.std.proofs.Common.{arith, get_or, subst}
+use Rattle.std.proofs.Common.{arith, get_or}
 use Rattle.std.proofs.lemmas.Option.{slice_get-get_or}
 use Rattle.auth_kinds.proofs.TableMembers.{has_at}
-use Rattle.auth_kinds.specs.declared.edge.Edge.{Edge}
-use Rattle.least_cert.specs.Closing.{Gives}
-use Rattle.least_cert.proofs.Growth.{gift_itself, gift_moves, gives_all, gives_more, gives_none, no_edge}
+use Rattle.least_cert.proofs.Growth.{gift_moves, gives_all, gives_more, gives_none, no_edge}
 use Rattle.least_cert.proofs.closing.Closing.give_all.Goals as goal
 
 pub loop-gift-init : goal.loop-gift-init
@@ -17,11 +15,8 @@ give-requires-clause-flows c =
 
 pub loop-gift-preserved : goal.loop-gift-preserved
 loop-gift-preserved c =
-    let g : Edge = get_or c.args.gifts.now c.loop-gift.gift-index no_edge in
-    let at = slice_get-get_or c.args.gifts.now c.loop-gift.gift-index no_edge c.loop-gift-test.true in
-    let is = c.requires.gifts g (has_at c.args.gifts.now c.loop-gift.gift-index g at) in
-    gives_more c.args.gifts.now c.loop-gift.gift-index g c.args.self.now c.loop-gift.self c.give.new.self at c.loop-gift.invariant
-    (subst (λ (x : Edge). Gives x c.loop-gift.self c.give.new.self) (gift_itself g is.grant) c.in_ok-give.ensures.given)
+    gives_more c.args.gifts.now c.loop-gift.gift-index (get_or c.args.gifts.now c.loop-gift.gift-index no_edge) c.args.self.now c.loop-gift.self c.give.new.self
+    (slice_get-get_or c.args.gifts.now c.loop-gift.gift-index no_edge c.loop-gift-test.true) c.loop-gift.invariant c.in_ok-give.ensures.given
 
 pub returns-clause-given : goal.returns-clause-given
 returns-clause-given c = gives_all c.args.gifts.now c.loop-gift.gift-index c.args.self.now c.loop-gift.self (let t = c.loop-gift-test.false in omega arith) c.loop-gift.invariant

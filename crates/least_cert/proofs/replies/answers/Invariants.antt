@@ -1,0 +1,9 @@
+use Rattle.std.proofs.Common.{[]}
+use Rattle.auth_graph.proofs.Gathering.{OfFirst}
+use Rattle.auth_kinds.specs.Adds.{Adds}
+use Rattle.auth_kinds.specs.declared.edge.Edge.{Edge}
+use Rattle.least_cert.specs.Closing.{IsAnswer}
+use Rattle.least_cert.proofs.replies.answers.Given as goal
+
+abbrev pub invariant-loop-edge : goal.invariant-loop-edge
+invariant-loop-edge l = Adds (OfFirst (λ place (f : Edge). IsAnswer l.receivers f) l.edges l.edge-index) [] l.replies
