@@ -1,14 +1,14 @@
 -- What one edge asks for is of the least certificate, and all of it is made.
-use Rattle.std.proofs.Common.{◌≡◌, ◌≢◌, ◌∙◌, ◌⊎◌, ℕ, true, List, [], ◌∷◌, refl, sym, subst, inl, inr}
+use Rattle.std.proofs.Common.{◌≡◌, ◌∙◌, ℕ, true, List, refl, sym, subst}
 use Rattle.std.specs.List.{filter_map}
 use Rattle.auth_kinds.specs.Edges.{edge}
 use Rattle.auth_kinds.specs.Tables.{Has, has}
 use Rattle.auth_kinds.specs.declared.authority.Authority.{Authority}
-use Rattle.auth_kinds.specs.declared.authority.Authority.TheVariants.{Receive, AsyncSend, Grant, Control, Call, Reply, GrantBack, Handle}
+use Rattle.auth_kinds.specs.declared.authority.Authority.TheVariants.{Receive, AsyncSend, Grant, Control, Call, GrantBack, Handle}
 use Rattle.auth_kinds.specs.declared.edge.Edge.{Edge}
 use Rattle.least_cert.specs.Closing.{AddsAll, AreAsked, AreGifts, AreOut, ArePassed, AreTo, Closure, Flows, GivesAll, Grows, IsGift, IsSound, JoinsEnds, Looks, OfLeast, from_other, passed_to, to_other}
 use Rattle.least_cert.specs.LeastCertificate.{InLeast, KeepsRules}
-use Rattle.least_cert.proofs.Growth.{gifted_grows, grows_none, grows_then, knows_grows}
+use Rattle.least_cert.proofs.Growth.{gifted_grows, grows_then, knows_grows}
 use Rattle.least_cert.proofs.LeastKeeps.{least_keeps}
 use Rattle.least_cert.proofs.Listing.{from_mapped, to_mapped}
 use Rattle.least_cert.proofs.Passing.{from_other_is, from_other_made, passed_is, passes_on, to_other_is, to_other_made}
@@ -66,13 +66,6 @@ module _ (c : Closure) (sound : IsSound c) (f : Edge) (known : has c.queue f ≡
           subst (λ (xs : List Edge). Has xs d AsyncSend f.to) (sym made)
           (to_mapped (from_other AsyncSend f.to) peers (edge f.from Handle d) (edge d AsyncSend f.to) (out.every d h) (from_other_made AsyncSend f.to (edge f.from Handle d) other));
     }
-
-  pub asked_none : f.authority ≢ Handle → f.authority ≢ AsyncSend → AreAsked c f []
-  asked_none no_handle no_send = record {
-    only = λ e h. absurd cc;
-    of_handle = λ auth. absurd (no_handle auth);
-    of_send = λ auth. absurd (no_send auth);
-  }
 
   -- ---- gifts
 
@@ -144,15 +137,6 @@ module _ (c : Closure) (sound : IsSound c) (f : Edge) (known : has c.queue f ≡
           (to_mapped (to_other Grant f.from) peers (edge f.to Call s) (edge f.from Grant s) (to.every s h) (to_other_made Grant f.from (edge f.to Call s) other));
     }
 
-  pub gifts_none : f.authority ≢ Grant → f.authority ≢ Receive → f.authority ≢ Call → f.authority ≢ GrantBack → AreGifts c f []
-  gifts_none no_grant no_receive no_call no_back = record {
-    only = λ e h. absurd cc;
-    of_grant = λ auth. absurd (no_grant auth);
-    of_receive = λ auth. absurd (no_receive auth);
-    of_call = λ auth. absurd (no_call auth);
-    of_grant_back = λ auth. absurd (no_back auth);
-  }
-
   -- ---- all of them, put in
 
   pub looks_at : (passed asked gifts : List Edge) (a b d new : Closure) → ArePassed c f passed → AreAsked c f asked → AreGifts c f gifts → AddsAll passed c a → AddsAll asked a b → GivesAll gifts b d → JoinsEnds f d new → Looks c f new
@@ -181,6 +165,3 @@ module _ (c : Closure) (sound : IsSound c) (f : Edge) (least : OfLeast c f) wher
 
   pub control_back : f.authority ≡ Control → Flows c.spec c.labels f.to f.from
   control_back is = λ a x other g. (least_keeps c.spec c.labels).control_back f.from f.to a x (as_control is) other g
-
-  pub joins_none : f.authority ≢ Control → JoinsEnds f c c
-  joins_none other = record { grows = grows_none c sound; one = λ is. absurd (other is) }

@@ -9,9 +9,9 @@ use Rattle.auth_kinds.specs.declared.authority.Authority.TheVariants.{Receive, A
 use Rattle.auth_kinds.specs.declared.edge.Edge.{Edge}
 use Rattle.auth_kinds.proofs.TableMembers.{has_at}
 use Rattle.cap_model.specs.declared.spec.Spec.{Spec}
-use Rattle.least_cert.specs.Closing.{Begins, Closes, Closure, Copied, Gifted, Grows, HasBoot, IsCertificate, IsClosedFor, IsSound, Knows, Looks, LooksAt, leader_at}
+use Rattle.least_cert.specs.Closing.{Begins, Closes, Closure, Gifted, Grows, HasBoot, IsCertificate, IsClosedFor, IsSound, Knows, Looks, LooksAt, leader_at}
 use Rattle.least_cert.specs.LeastCertificate.{IsLeast, KeepsRules}
-use Rattle.least_cert.proofs.Growth.{gifted_grows, grows_has, grows_none, grows_then, knows_grows, one_grows}
+use Rattle.least_cert.proofs.Growth.{gifted_grows, grows_none, grows_then, knows_grows, one_grows}
 use Rattle.least_cert.proofs.Leading.{knows_led, knows_least, led_knows, number_other}
 use Rattle.least_cert.proofs.Listing.{has_last, or_cases, or_left, or_right}
 

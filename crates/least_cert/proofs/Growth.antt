@@ -1,5 +1,5 @@
 -- How edges in the making grow.
-use Rattle.std.proofs.Common.{◌≡◌, ◌≢◌, ◌∙◌, ◌⊎◌, ◌||◌, ◌&&◌, ◌==◌, ◌++◌, ◌<◌, ◌≤◌, ◌+◌, ◌^◌, ◌↔◌, IsTrue, ℕ, Bool, true, false, List, [], ◌∷◌, Some, length, slice_get, refl, sym, ap, subst, inl, inr, arith, append_assoc, length-append}
+use Rattle.std.proofs.Common.{◌≡◌, ◌∙◌, ◌⊎◌, ◌||◌, ◌&&◌, ◌==◌, ◌++◌, ◌<◌, ◌≤◌, ◌+◌, ◌^◌, ◌↔◌, IsTrue, ℕ, Bool, true, false, List, [], ◌∷◌, Some, length, slice_get, refl, sym, ap, subst, inl, inr, arith, append_assoc, length-append}
 use Rattle.std.specs.List.{filter_map}
 use Rattle.std.proofs.lemmas.Bool.{cases_lt}
 use Rattle.std.proofs.lemmas.Option.{slice_get_within}
@@ -7,12 +7,12 @@ use Rattle.auth_kinds.proofs.TableMembers.{at_has, has_at}
 use Rattle.auth_kinds.specs.Authorities.{number_of}
 use Rattle.auth_kinds.specs.Edges.{edge, same_edge}
 use Rattle.auth_kinds.specs.Tables.{Has, has, IsSorted}
-use Rattle.auth_kinds.specs.declared.authority.Authority.TheVariants.{Grant, Receive, Reply}
+use Rattle.auth_kinds.specs.declared.authority.Authority.TheVariants.{Grant, Receive}
 use Rattle.auth_kinds.specs.declared.edge.Edge.{Edge}
 use Rattle.auth_kinds.proofs.EdgeOrder.{edges_same}
 use Rattle.least_cert.specs.Closing.{Adds, AddsAll, AddsSome, AreCopies, Closure, Copies, Flows, Gifted, Gives, GivesAll, GivesSome, Grows, IsCopy, IsGift, IsLess, IsSound, Joins, Knows, OfLeast, Puts, PutsGift, Relabels, lead, leader_at, led_by, passed_to, turn}
 use Rattle.least_cert.specs.LeastCertificate.{HasMoreThan}
-use Rattle.least_cert.proofs.Leading.{flows_then, knows_led, lead_as, lead_other, lead_reply, lead_then, led_cases, led_from, led_knows, led_to, least_led, number_other, other_number, reply_or_not}
+use Rattle.least_cert.proofs.Leading.{flows_then, knows_led, lead_other, lead_reply, lead_then, led_cases, led_from, led_to, least_led, number_other, other_number, reply_or_not}
 use Rattle.least_cert.proofs.Listing.{from_mapped, has_end, has_front, has_last, has_push, put_cases, put_has, put_self, to_mapped}
 use Rattle.least_cert.proofs.Passing.{passed_is, passes_on}
 
@@ -70,9 +70,6 @@ gifted_grows c new g s r h = λ to_s to_r. elim (h (g.led_before s to_s) (g.led_
   | inl same ↦ inl same
   | inr x ↦ inr (x.0, g.given s x.0 x.1, sym (g.together x.0) ∙ (ap (λ (k : ℕ). leader_at new.leaders k) x.2 ∙ to_r))
 ]
-
-turned_same : (d e : Edge) → turn d ≡ turn e → d ≡ e
-turned_same d e h = edges_same d e (ap (λ (x : Edge). x.to) h) (ap (λ (x : Edge). x.authority) h) (ap (λ (x : Edge). x.from) h)
 
 turned_back : (d e : Edge) → same_edge (turn d) (turn e) ≡ same_edge d e
 turned_back d e = swap (d.to == e.to) (number_of d.authority == number_of e.authority) (d.from == e.from) where

@@ -1,5 +1,5 @@
 -- The held edges of the boot state are what the capabilities of CNodes confer.
-use Rattle.std.proofs.Common.{◌≡◌, ◌≢◌, ◌∙◌, ◌↔◌, ℕ, true, List, [], map, slice_get, Some, refl, sym, subst, inl, inr, arith}
+use Rattle.std.proofs.Common.{◌≡◌, ◌≢◌, ◌∙◌, ◌↔◌, ℕ, true, List, [], map, slice_get, Some, refl, subst, inl, inr, arith}
 use Rattle.std.specs.List.{Contains}
 use Rattle.std.proofs.lemmas.Option.{slice_get-map}
 use Rattle.auth_graph.specs.Sources.{OfCap}

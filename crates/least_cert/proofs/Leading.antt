@@ -10,7 +10,6 @@ use Rattle.auth_kinds.specs.declared.authority.Authority.TheVariants.{Reply}
 use Rattle.auth_kinds.specs.declared.edge.Edge.{Edge}
 use Rattle.auth_kinds.proofs.EdgeOrder.{same_number}
 use Rattle.least_cert.specs.Closing.{Closure, Flows, IsSound, Knows, IsRelabeled, OfLeast, Widens, lead, leader_at, led_by}
-use Rattle.least_cert.specs.LeastCertificate.{InLeast}
 use Rattle.least_cert.proofs.Passing.{differ, self}
 
 -- ---- the edge of a leader
@@ -107,9 +106,6 @@ push_at (x ∷ xs) n (suc k) d = elim (push_at xs n k d) [ inl same ↦ inl same
 pub record WidensTo (n : ℕ) (leaders : List ℕ) (new : List ℕ) : Type 0 where
   pub long : length new ≡ n
   pub same : (l : ℕ) → leader_at new l ≡ leader_at leaders l
-
-pub widens_none : (leaders : List ℕ) → WidensTo (length leaders) leaders leaders
-widens_none leaders = record { long = refl; same = λ l. refl }
 
 pub widens_more : (n : ℕ) (leaders mid new : List ℕ) → WidensTo n leaders mid → new ≡ mid ++ n ∷ [] → WidensTo (n + 1) leaders new
 widens_more n leaders mid new w is = record {

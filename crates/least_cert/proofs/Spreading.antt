@@ -1,5 +1,5 @@
 -- The edges of leaders, as those of the labels that they lead, and the replies that calls ask for.
-use Rattle.std.proofs.Common.{◌≡◌, ◌≢◌, ◌∙◌, ◌⊎◌, ◌||◌, ◌==◌, ◌++◌, ◌<◌, ◌≤◌, ◌+◌, ◌^◌, ℕ, Bool, true, false, List, [], ◌∷◌, Some, None, if◌then◌else◌, get_or, length, ltb, slice_get, take, refl, sym, ap, subst, inl, inr, arith}
+use Rattle.std.proofs.Common.{◌≡◌, ◌∙◌, ◌||◌, ◌==◌, ◌++◌, ◌<◌, ◌≤◌, ◌+◌, ◌^◌, ℕ, Bool, true, false, List, [], Some, None, if◌then◌else◌, get_or, length, ltb, slice_get, take, refl, sym, ap, subst, inl, inr, arith}
 use Rattle.std.specs.List.{filter_map}
 use Rattle.std.proofs.lemmas.Bool.{cases_lt, eqb-true, le-ltb}
 use Rattle.std.proofs.lemmas.List.{get_or_past, take_all, take_more}
@@ -15,13 +15,13 @@ use Rattle.auth_kinds.specs.declared.authority.Authority.TheVariants.{Call, Rece
 use Rattle.auth_kinds.specs.declared.edge.Edge.{Edge}
 use Rattle.auth_kinds.proofs.EdgeOrder.{edges_same, same_number}
 use Rattle.auth_kinds.proofs.TableMembers.{at_has, has_at}
-use Rattle.least_cert.specs.Closing.{AreCopies, AreReceivers, AreReplies, Closure, IsAnswer, IsCertificate, IsCopy, IsLess, IsSound, IsSpread, Knows, OfLeast, from_other, lead, leader_at, receiver, stays, turn}
-use Rattle.least_cert.specs.LeastCertificate.{HasMoreThan, InLeast, KeepsRules}
+use Rattle.least_cert.specs.Closing.{AreReceivers, AreReplies, Closure, IsAnswer, IsCertificate, IsCopy, IsLess, IsSound, IsSpread, Knows, OfLeast, from_other, lead, leader_at, receiver, stays, turn}
+use Rattle.least_cert.specs.LeastCertificate.{HasMoreThan, InLeast}
 use Rattle.least_cert.proofs.Growth.{no_edge}
-use Rattle.least_cert.proofs.Leading.{knows_led, knows_least, led_knows, lead_reply, lead_other, number_other, other_number, reply_or_not}
+use Rattle.least_cert.proofs.Leading.{knows_least, led_knows, lead_reply, lead_other, number_other, reply_or_not}
 use Rattle.least_cert.proofs.LeastKeeps.{least_keeps}
 use Rattle.least_cert.proofs.Listing.{from_mapped, has_append, has_push, or_assoc, or_cases, or_left, or_none, or_right, to_mapped}
-use Rattle.least_cert.proofs.Passing.{from_other_is, from_other_made, self}
+use Rattle.least_cert.proofs.Passing.{from_other_is, from_other_made}
 
 -- ---- lists and sets that grow
 
@@ -242,6 +242,3 @@ answers_made turned peers made old new f call less only every is same = joined (
     let there : has peers p ≡ true = every e.from answer.receives (less p answer.receives).1 in
     subst (λ (x : Edge). has made x ≡ true) (edges_same (edge e.from Reply f.from) e refl (sym answer.reply) (sym answer.to_is))
     (subst (λ (xs : List Edge). Has xs e.from Reply f.from) (sym is) (to_mapped (from_other Reply f.from) peers p (edge e.from Reply f.from) there (from_other_made Reply f.from p answer.differ))))
-
-pub answers_none : (turned old : List Edge) (f : Edge) → f.authority ≢ Call → Adds (IsAnswer turned f) old old
-answers_none turned old f other = record { kept = λ e h. h; added = λ e answer. absurd (other answer.call); only = λ e h. inl h }

@@ -1,4 +1,4 @@
-use Rattle.least_cert.proofs.Asks.{control_back, control_there, joins_none}
+use Rattle.least_cert.proofs.Asks.{control_back, control_there}
 use Rattle.least_cert.proofs.asking.join_ends.Goals as goal
 
 pub join-requires-clause-there : goal.join-requires-clause-there

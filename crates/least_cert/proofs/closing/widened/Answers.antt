@@ -1,5 +1,5 @@
 use Rattle.std.proofs.Common.{◌≡◌, ◌++◌, ◌∷◌, [], arith, rules}
-use Rattle.least_cert.proofs.Leading.{widens_all, widens_more, widens_none}
+use Rattle.least_cert.proofs.Leading.{widens_all, widens_more}
 use Rattle.least_cert.proofs.closing.widened.Goals as goal
 
 pub loop-next-preserved : goal.loop-next-preserved

@@ -1,4 +1,4 @@
-use Rattle.std.proofs.Common.{[], List, arith, length, subst, sym}
+use Rattle.std.proofs.Common.{[], List, arith, subst, sym}
 use Rattle.auth_graph.proofs.Gathering.{OfFirst, all_first, first_more_at, none_first}
 use Rattle.auth_kinds.specs.Adds.{Adds}
 use Rattle.auth_kinds.specs.declared.edge.Edge.{Edge}

@@ -1,6 +1,3 @@
-use Rattle.std.proofs.Common.{◌≡◌, ◌||◌, List, subst}
-use Rattle.auth_kinds.specs.Tables.{has}
-use Rattle.auth_kinds.specs.declared.edge.Edge.{Edge}
 use Rattle.least_cert.proofs.Spreading.{are_receivers}
 use Rattle.least_cert.proofs.replies.receivers.Goals as goal
 

@@ -1,4 +1,3 @@
-use Rattle.std.proofs.Common.{refl}
 use Rattle.least_cert.proofs.Spreading.{answers_made}
 use Rattle.least_cert.proofs.replies.with_answers.Goals as goal
 

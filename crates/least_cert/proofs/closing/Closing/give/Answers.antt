@@ -1,5 +1,3 @@
-use Rattle.std.proofs.Common.{◌≡◌, ℕ, subst, sym}
-use Rattle.least_cert.specs.Closing.{Flows, Gives}
 use Rattle.least_cert.proofs.Growth.{gives_led}
 use Rattle.least_cert.proofs.Leading.{flows_led}
 use Rattle.least_cert.proofs.closing.Closing.give.Goals as goal

@@ -4,7 +4,7 @@ use Rattle.std.proofs.Common.{◌≡◌, ◌+◌, true, List, arith, length, ref
 use Rattle.auth_kinds.specs.Adds.{Adds}
 use Rattle.auth_kinds.specs.Tables.{has}
 use Rattle.auth_kinds.specs.declared.edge.Edge.{Edge}
-use Rattle.least_cert.specs.Closing.{IsCopy, stays}
+use Rattle.least_cert.specs.Closing.{stays}
 use Rattle.least_cert.proofs.Spreading.{copy_at, each_knows, is_spread, some_knows, spread_least}
 use Rattle.least_cert.proofs.closing.Closing.spread.Goals as goal
 
