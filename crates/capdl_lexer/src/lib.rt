@@ -6,6 +6,7 @@
 //! the codes by which a grammar asks for tokens in `specs/Codes.antt`.
 #![tactic(auto)]
 
+mod bytes;
 mod digits;
 mod field;
 mod gap;

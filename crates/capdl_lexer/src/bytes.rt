@@ -1,0 +1,13 @@
+//! Bytes that are looked for among many.
+
+ghost use Rattle.std.specs.Prelude.{◌≡◌};
+ghost use Rattle.std.specs.Str.{bytes_eq};
+
+/// Whether bytes are those of a word. Most aren't, and differ in length.
+#[inline(always)]
+#[tactic(auto, using(crate::proofs::Runs::other_length))]
+pub(crate) fn is(bytes: &[u8], word: &[u8]) -> bool
+    ensures { result ≡ bytes_eq bytes.now word.now }
+{
+    bytes.len() == word.len() && bytes == word
+}
