@@ -191,7 +191,15 @@ impl<'a> Model for Closing<'a> {
 
     ghost Value = { Closure };
 
-    ghost view = { λ c. record { spec = c.spec.now; labels = c.labels.now.by_object; queue = c.queue.items; known = c.known; turned = c.turned; gives = c.gives; leaders = c.leaders.items } };
+    ghost view = { λ c. record {
+      spec = c.spec.now;
+      labels = c.labels.now.by_object;
+      queue = c.queue.items;
+      known = c.known;
+      turned = c.turned;
+      gives = c.gives;
+      leaders = c.leaders.items;
+    } };
 }
 
 impl<'a> Closing<'a> {
