@@ -17,15 +17,12 @@ use Rattle.capdl_read.specs.Rising.{is_above, rises, slot_number}
 abbrev IsFree : Option ℕ → (Key → Bool) → Type 0
 IsFree last met = (n : ℕ) → is_above last (Some n) ≡ true → met (0, n) ≡ false
 
-above_both : (last : Option ℕ) (n m : ℕ) → is_above last (Some n) ≡ true → nat_lt n m ≡ true → is_above last (Some m) ≡ true
+pub above_both : (last : Option ℕ) (n m : ℕ) → is_above last (Some n) ≡ true → nat_lt n m ≡ true → is_above last (Some m) ≡ true
 above_both None n m a b = refl
 above_both (Some l) n m a b = chain l n m a b
   where
     chain : (l n m : ℕ) → nat_lt l n ≡ true → nat_lt n m ≡ true → nat_lt l m ≡ true
     chain l n m a b = grind (arith, nat_tests)
-
-neither : (a b : Bool) → a ≡ false → b ≡ false → (a || b) ≡ false
-neither a b e f = (λ i. e i || f i)
 
 other_number : (n m : ℕ) → nat_lt n m ≡ true → same_key (0, m) (0, n) ≡ false
 other_number n m a = grind (arith, nat_tests)
@@ -34,7 +31,7 @@ step : (name : List ℕ) (last : Option ℕ) (met : Key → Bool) (key : SlotKey
     → ((more : Key → Bool) → IsFree (slot_number key) more → keys_after name more xs ≡ []) → keys_after name met ((slot_key key, place) ∷ xs) ≡ []
 step name last met (keys.Number n) place xs free a rest =
     ap (λ b. where_true b (fault CapdlTwice place name) ++ keys_after name (λ k. met k || same_key k (0, n)) xs) (free n a)
-    ∙ rest (λ k. met k || same_key k (0, n)) (λ m b. neither (met (0, m)) (same_key (0, m) (0, n)) (free m (above_both last n m a b)) (other_number n m b))
+    ∙ rest (λ k. met k || same_key k (0, n)) (λ m b. rw (free m (above_both last n m a b), other_number n m b) refl)
 step name last met keys.Cspace place xs free a rest = absurd cc
 step name last met keys.Vspace place xs free a rest = absurd cc
 step name last met keys.Buffer place xs free a rest = absurd cc

@@ -10,6 +10,7 @@ use Rattle.std.specs.Ordering.{is_eq, match_ordering, nat_cmp, ordering_then}
 use Rattle.std.specs.Str.{bytes_eq}
 use Rattle.std.specs.declared.cmp.Ordering.{Ordering}
 use Rattle.std.specs.declared.cmp.Ordering.TheVariants.{Less, Equal, Greater}
+use Rattle.std.proofs.Math.Bool.{and-false}
 use Rattle.std.proofs.lemmas.Bool.{and_parts}
 use Rattle.std.proofs.lemmas.Bool.Decides.{nat_tests}
 use Rattle.std.proofs.lemmas.Map.Text.{is_eq-slice_cmp}
@@ -31,10 +32,6 @@ is_key k l = is_eq (key_cmp k l)
 and_true : (a b : Bool) → a ≡ true → b ≡ true → (a && b) ≡ true
 and_true a b e f = (λ i. e i && f i)
 
-and_false : (a : Bool) → (a && false) ≡ false
-and_false true = refl
-and_false false = refl
-
 -- digested keys are equal where their names are
 same_name : (k l : Key) → is_digested k ≡ true → is_digested l ≡ true → is_key k l ≡ bytes_eq k.1.now l.1.now
 same_name k l d e =
@@ -49,7 +46,7 @@ same_name k l d e =
     by_test true t =
         let n = (bytes_eq-Decides k.1.now l.1.now).0 t in
         and_true (is_eq (nat_cmp k.0 l.0)) true (unsigned_tied k.0 l.0 ∙ one_digest k.0 l.0 (digest k.1.now) (digest l.1.now) (ap digest n) d e) refl
-    by_test false t = and_false (is_eq (nat_cmp k.0 l.0))
+    by_test false t = and-false (is_eq (nat_cmp k.0 l.0))
 
 -- a digest that was made
 pub fits : (a : ℕ) (n : Name) → a ≡ digest n → (a == digest n) ≡ true

@@ -1,8 +1,9 @@
 -- The digests of names, by which tables are kept in order.
-use Rattle.std.specs.Prelude.{ℕ, ◌==◌, Bool, List}
+use Rattle.std.specs.Prelude.{ℕ, ◌==◌, ◌%◌, Bool, List, [], length, get_or, Option}
 use Rattle.std.specs.Borrow.{Bor}
 use Rattle.std.specs.Hash.FoldHasher.{initial, write, finish}
 use Rattle.std.specs.List.{list_all}
+use Rattle.name_tables.specs.ByName.{Name, found}
 
 unfoldable pub digest : List ℕ → ℕ
 digest name = finish (write initial name)
@@ -16,3 +17,7 @@ is_digested k = k.0 == digest k.1.now
 
 abbrev pub are_digested : {V : Type 0} → List (Key × V) → Bool
 are_digested es = list_all (λ e. is_digested e.0) es
+
+-- what stands under a name in tables, in the one of them that its digest says
+abbrev pub spread_found : {V : Type 0} → List (List (Name × V)) → Name → Option V
+spread_found tables n = found (get_or tables (digest n % length tables) []) n

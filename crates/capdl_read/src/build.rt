@@ -5,10 +5,11 @@ ghost use Rattle.capdl_text.specs.Meaning.{fields_from, fill_of, fill_or, fill_s
 ghost use Rattle.capdl_text.specs.declared.tree.ObjectLine.{ObjectLine as ObjectTree};
 ghost use Rattle.name_tables.specs.ByName.{found};
 ghost use Rattle.std.specs.Option.{option_copied, option_map};
-ghost use Rattle.std.specs.Prelude.{◌≡◌, ℕ, [], map, slice_get, Some as Present, OnOk, IfOk};
+ghost use Rattle.std.specs.Prelude.{◌≡◌, ℕ, [], map, slice_get, Some as Present, OnOk, IfOk, IfSome};
 
 use crate::held::Slot;
 use crate::names::Names;
+use crate::rising::is_above;
 use cam_base::{List, Name, NoMemory, Text};
 use cap_model::{Cap, Entry, Fill, Object, Tcb};
 use capdl_text::{
@@ -32,8 +33,28 @@ fn put_slot(key: SlotKey, cap: Cap, slots: &mut BTreeMap<u64, Cap>) -> Result<()
     }
 }
 
-/// The numbered slots, sorted by number.
-fn numbered(alloc: Global, slots: &[Slot]) -> Result<List<(u64, Cap)>, NoMemory>
+/// The numbered slots as they stand, where each stands above the one before it, as in most texts; else nothing.
+fn rising(alloc: Global, slots: &[Slot]) -> Result<Option<List<(u64, Cap)>>, NoMemory>
+    ensures { IfOk result (λ said. IfSome said (λ rising. rising ≡ numbered_from [] slots.now)) }
+{
+    let mut rising = List::from_vec(Vec::with_capacity(alloc, slots.len())?);
+    let mut last = None;
+    for slot in slots {
+        let SlotKey::Number(n) = slot.key else {
+            return Ok(None);
+        };
+        if is_above(last, Some(n)) {
+            rising.push((n, slot.cap))?;
+            last = Some(n);
+        } else {
+            return Ok(None);
+        }
+    }
+    Ok(Some(rising))
+}
+
+/// The numbered slots, put into their order one by one.
+fn sorted(alloc: Global, slots: &[Slot]) -> Result<List<(u64, Cap)>, NoMemory>
     ensures { IfOk result (λ sorted. sorted ≡ numbered_from [] slots.now) }
 {
     let mut sorted = BTreeMap::new(alloc);
@@ -42,6 +63,16 @@ fn numbered(alloc: Global, slots: &[Slot]) -> Result<List<(u64, Cap)>, NoMemory>
     }
     let items: Vec<(u64, Cap)> = sorted.into_iter().collect(alloc)?;
     Ok(List::from_vec(items))
+}
+
+/// The numbered slots, sorted by number.
+fn numbered(alloc: Global, slots: &[Slot]) -> Result<List<(u64, Cap)>, NoMemory>
+    ensures { IfOk result (λ sorted. sorted ≡ numbered_from [] slots.now) }
+{
+    match rising(alloc, slots)? {
+        Some(slots) => Ok(slots),
+        None => sorted(alloc, slots),
+    }
 }
 
 /// Puts a field into a thread.

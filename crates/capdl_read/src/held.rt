@@ -2,6 +2,7 @@
 //! what it holds.
 
 ghost use Rattle.capdl_read.specs.Building.{slot_said, slots_or, slots_told};
+ghost use Rattle.capdl_read.specs.Naming.{spread_found};
 ghost use Rattle.capdl_text.specs.Faults.{noted};
 ghost use Rattle.capdl_text.specs.KindField.{irq_off, kind_fields, off_in, slot_off};
 ghost use Rattle.capdl_text.specs.Meaning.{badge_said, cap_said, held, lines_from, place_or, rights_said};
@@ -11,9 +12,9 @@ ghost use Rattle.std.specs.List.{flat_map};
 ghost use Rattle.std.specs.Prelude.{◌≡◌, ◌<◌, ◌^◌, ℕ, [], List as Seq, map, IfOk, OnOk};
 
 use crate::first::First;
-use crate::kind::{note_holder_kind, note_irq, note_objects, note_slot};
+use crate::kind::{Named, note_holder_kind, note_irq, note_objects, note_slot};
 use crate::known::find;
-use crate::names::Names;
+use crate::names::{Names, SpreadNames};
 use crate::unknown::note_unknown;
 use cam_base::{List, NoMemory};
 use cap_model::{Arch, Cap, Rights};
@@ -79,21 +80,22 @@ fn badge_said(params: &[Param]) -> u64
 fn slot_held<'x>(
     alloc: Global,
     arch: Arch,
-    known: &Names<'x, Known>,
-    id: &Id,
-    holder: Option<Known>,
+    known: &SpreadNames<'x, Known>,
+    holder: Named,
     slot: &SlotLine<'x>,
     faults: &mut Faults,
 ) -> Result<Slot, NoMemory>
-    requires few { (n : Seq ℕ) → place_or (found known.now n) < 2 ^ 32 }
-    ensures unknown { OnOk result (faults.new.unknown ≡ noted faults.old.unknown (unknown (found known.now) slot.now.object)) }
+    requires few { (n : Seq ℕ) → place_or (spread_found known.now n) < 2 ^ 32 }
+    ensures unknown { OnOk result
+        (faults.new.unknown ≡ noted faults.old.unknown (unknown (spread_found known.now) slot.now.object)) }
     ensures kind { OnOk result
-        (faults.new.kind ≡ noted faults.old.kind (slot_off arch (found known.now) id.now holder slot.now)) }
-    ensures slot { IfOk result (λ s. s ≡ slot_said (found known.now) slot.now) }
+        (faults.new.kind ≡ noted faults.old.kind
+        (slot_off arch (spread_found known.now) holder.entry.id.now holder.entry.known slot.now)) }
+    ensures slot { IfOk result (λ s. s ≡ slot_said (spread_found known.now) slot.now) }
 {
     let object = find(known, &slot.object.name);
     note_unknown(alloc, object, &slot.object, &mut faults.unknown)?;
-    note_slot(alloc, arch, id, holder, slot, object, &mut faults.kind)?;
+    note_slot(alloc, arch, holder, slot, object, &mut faults.kind)?;
     Ok(Slot {
         key: slot.key,
         cap: Cap {
@@ -107,22 +109,22 @@ fn slot_held<'x>(
 fn slots_held<'x>(
     alloc: Global,
     arch: Arch,
-    known: &Names<'x, Known>,
-    id: &Id,
-    holder: Option<Known>,
+    known: &SpreadNames<'x, Known>,
+    holder: Named,
     slots: &[SlotLine<'x>],
     faults: &mut Faults,
 ) -> Result<List<Slot>, NoMemory>
-    requires few { (n : Seq ℕ) → place_or (found known.now n) < 2 ^ 32 }
+    requires few { (n : Seq ℕ) → place_or (spread_found known.now n) < 2 ^ 32 }
     ensures unknown { OnOk result
-        (faults.new.unknown ≡ noted faults.old.unknown (flat_map (λ s. unknown (found known.now) s.object) slots.now)) }
+        (faults.new.unknown ≡ noted faults.old.unknown (flat_map (λ s. unknown (spread_found known.now) s.object) slots.now)) }
     ensures kind { OnOk result
-        (faults.new.kind ≡ noted faults.old.kind (flat_map (slot_off arch (found known.now) id.now holder) slots.now)) }
-    ensures held { IfOk result (λ held. held ≡ map (slot_said (found known.now)) slots.now) }
+        (faults.new.kind ≡ noted faults.old.kind
+        (flat_map (slot_off arch (spread_found known.now) holder.entry.id.now holder.entry.known) slots.now)) }
+    ensures held { IfOk result (λ held. held ≡ map (slot_said (spread_found known.now)) slots.now) }
 {
     let mut held = List::from_vec(Vec::with_capacity(alloc, slots.len())?);
     for slot in slots {
-        held.push(slot_held(alloc, arch, known, id, holder, slot, faults)?)?;
+        held.push(slot_held(alloc, arch, known, holder, slot, faults)?)?;
     }
     Ok(held)
 }
@@ -132,44 +134,39 @@ fn slots_held<'x>(
 fn holder_held<'x>(
     alloc: Global,
     arch: Arch,
-    known: &Names<'x, Known>,
+    known: &SpreadNames<'x, Known>,
     line: &Holder<'x>,
     faults: &mut Faults,
 ) -> Result<List<Slot>, NoMemory>
-    requires few { (n : Seq ℕ) → place_or (found known.now n) < 2 ^ 32 }
-    ensures unknown { OnOk result (faults.new.unknown ≡ noted faults.old.unknown (unknown_in (found known.now) line.now)) }
-    ensures kind { OnOk result (faults.new.kind ≡ noted faults.old.kind (off_in arch (found known.now) line.now)) }
-    ensures held { IfOk result (λ held. held ≡ map (slot_said (found known.now)) line.now.slots) }
+    requires few { (n : Seq ℕ) → place_or (spread_found known.now n) < 2 ^ 32 }
+    ensures unknown { OnOk result (faults.new.unknown ≡ noted faults.old.unknown (unknown_in (spread_found known.now) line.now)) }
+    ensures kind { OnOk result (faults.new.kind ≡ noted faults.old.kind (off_in arch (spread_found known.now) line.now)) }
+    ensures held { IfOk result (λ held. held ≡ map (slot_said (spread_found known.now)) line.now.slots) }
 {
-    let holder = find(known, &line.id.name);
-    note_unknown(alloc, holder, &line.id, &mut faults.unknown)?;
-    note_holder_kind(alloc, &line.id, holder, &mut faults.kind)?;
-    slots_held(
-        alloc,
-        arch,
-        known,
-        &line.id,
-        holder,
-        line.slots.as_slice(),
-        faults,
-    )
+    let holder = Named {
+        id: &line.id,
+        known: find(known, &line.id.name),
+    };
+    note_unknown(alloc, holder.known, holder.id, &mut faults.unknown)?;
+    note_holder_kind(alloc, holder, &mut faults.kind)?;
+    slots_held(alloc, arch, known, holder, line.slots.as_slice(), faults)
 }
 
 /// The slots of holders by name: of the first holder of each.
 fn holders_held<'x>(
     alloc: Global,
     arch: Arch,
-    known: &Names<'x, Known>,
+    known: &SpreadNames<'x, Known>,
     holders: &[Holder<'x>],
     faults: &mut Faults,
 ) -> Result<Names<'x, List<Slot>>, NoMemory>
-    requires few { (n : Seq ℕ) → place_or (found known.now n) < 2 ^ 32 }
+    requires few { (n : Seq ℕ) → place_or (spread_found known.now n) < 2 ^ 32 }
     ensures unknown { OnOk result
-        (faults.new.unknown ≡ noted faults.old.unknown (flat_map (unknown_in (found known.now)) holders.now)) }
+        (faults.new.unknown ≡ noted faults.old.unknown (flat_map (unknown_in (spread_found known.now)) holders.now)) }
     ensures kind { OnOk result
-        (faults.new.kind ≡ noted faults.old.kind (flat_map (off_in arch (found known.now)) holders.now)) }
+        (faults.new.kind ≡ noted faults.old.kind (flat_map (off_in arch (spread_found known.now)) holders.now)) }
     ensures held { IfOk result
-        (λ t. (n : Seq ℕ) → slots_told (found t n) ≡ map (slot_said (found known.now)) (held holders.now n)) }
+        (λ t. (n : Seq ℕ) → slots_told (found t n) ≡ map (slot_said (spread_found known.now)) (held holders.now n)) }
 {
     let mut table = Names::new(alloc);
     for holder in holders {
@@ -182,15 +179,15 @@ fn holders_held<'x>(
 /// What an interrupt line holds.
 fn line_held<'x>(
     alloc: Global,
-    known: &Names<'x, Known>,
+    known: &SpreadNames<'x, Known>,
     id: &Id<'x>,
     faults: &mut Faults,
 ) -> Result<u32, NoMemory>
-    requires few { (n : Seq ℕ) → place_or (found known.now n) < 2 ^ 32 }
-    ensures unknown { OnOk result (faults.new.unknown ≡ noted faults.old.unknown (unknown (found known.now) id.now)) }
+    requires few { (n : Seq ℕ) → place_or (spread_found known.now n) < 2 ^ 32 }
+    ensures unknown { OnOk result (faults.new.unknown ≡ noted faults.old.unknown (unknown (spread_found known.now) id.now)) }
     ensures kind { OnOk result
-        (faults.new.kind ≡ noted faults.old.kind (irq_off id.now (found known.now id.now.name))) }
-    ensures place { IfOk result (λ place. place ≡ place_or (found known.now id.now.name)) }
+        (faults.new.kind ≡ noted faults.old.kind (irq_off id.now (spread_found known.now id.now.name))) }
+    ensures place { IfOk result (λ place. place ≡ place_or (spread_found known.now id.now.name)) }
 {
     let object = find(known, &id.name);
     note_unknown(alloc, object, id, &mut faults.unknown)?;
@@ -201,16 +198,17 @@ fn line_held<'x>(
 /// The interrupt lines, sorted by number.
 fn lines_held<'x>(
     alloc: Global,
-    known: &Names<'x, Known>,
+    known: &SpreadNames<'x, Known>,
     lines: &[IrqLine<'x>],
     faults: &mut Faults,
 ) -> Result<List<(u64, u32)>, NoMemory>
-    requires few { (n : Seq ℕ) → place_or (found known.now n) < 2 ^ 32 }
+    requires few { (n : Seq ℕ) → place_or (spread_found known.now n) < 2 ^ 32 }
     ensures unknown { OnOk result
-        (faults.new.unknown ≡ noted faults.old.unknown (flat_map (λ l. unknown (found known.now) l.object) lines.now)) }
+        (faults.new.unknown ≡ noted faults.old.unknown (flat_map (λ l. unknown (spread_found known.now) l.object) lines.now)) }
     ensures kind { OnOk result
-        (faults.new.kind ≡ noted faults.old.kind (flat_map (λ l. irq_off l.object (found known.now l.object.name)) lines.now)) }
-    ensures lines { IfOk result (λ said. said ≡ lines_from (found known.now) [] lines.now) }
+        (faults.new.kind ≡ noted faults.old.kind
+        (flat_map (λ l. irq_off l.object (spread_found known.now l.object.name)) lines.now)) }
+    ensures lines { IfOk result (λ said. said ≡ lines_from (spread_found known.now) [] lines.now) }
 {
     let mut said = BTreeMap::new(alloc);
     for line in lines {
@@ -225,16 +223,16 @@ fn lines_held<'x>(
 #[tactic(auto, using(capdl_text::proofs::Noting::noting))]
 pub(crate) fn look_up<'x>(
     alloc: Global,
-    known: &Names<'x, Known>,
+    known: &SpreadNames<'x, Known>,
     tree: &SpecTree<'x>,
     faults: &mut Faults,
 ) -> Result<Held<'x>, NoMemory>
-    requires few { (n : Seq ℕ) → place_or (found known.now n) < 2 ^ 32 }
-    ensures unknown { OnOk result (faults.new.unknown ≡ noted faults.old.unknown (unknowns (found known.now) tree.now)) }
-    ensures kind { OnOk result (faults.new.kind ≡ noted faults.old.kind (kind_fields (found known.now) tree.now)) }
+    requires few { (n : Seq ℕ) → place_or (spread_found known.now n) < 2 ^ 32 }
+    ensures unknown { OnOk result (faults.new.unknown ≡ noted faults.old.unknown (unknowns (spread_found known.now) tree.now)) }
+    ensures kind { OnOk result (faults.new.kind ≡ noted faults.old.kind (kind_fields (spread_found known.now) tree.now)) }
     ensures slots { IfOk result (λ held_now. (n : Seq ℕ) → slots_told (found held_now.slots n)
-        ≡ map (slot_said (found known.now)) (held tree.now.holders n)) }
-    ensures irqs { IfOk result (λ held_now. held_now.irqs ≡ lines_from (found known.now) [] tree.now.irqs) }
+        ≡ map (slot_said (spread_found known.now)) (held tree.now.holders n)) }
+    ensures irqs { IfOk result (λ held_now. held_now.irqs ≡ lines_from (spread_found known.now) [] tree.now.irqs) }
 {
     note_objects(alloc, tree.arch, tree.objects.as_slice(), &mut faults.kind)?;
     let slots = holders_held(alloc, tree.arch, known, tree.holders.as_slice(), faults)?;

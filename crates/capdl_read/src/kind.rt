@@ -158,18 +158,24 @@ fn holds(kind: Kind) -> bool
     }
 }
 
+/// The name of a holder, and what it stands for.
+#[derive(Clone, Copy)]
+pub(crate) struct Named<'h, 'x> {
+    pub(crate) id: &'h Id<'x>,
+    pub(crate) known: Option<Known>,
+}
+
 /// Notes a holder of a kind without slots.
 pub(crate) fn note_holder_kind(
     alloc: Global,
-    id: &Id,
-    holder: Option<Known>,
+    holder: Named,
     first: &mut First,
 ) -> Result<(), NoMemory>
-    ensures { OnOk result (first.new ≡ noted first.old (holder_off id.now holder)) }
+    ensures { OnOk result (first.new ≡ noted first.old (holder_off holder.entry.id.now holder.entry.known)) }
 {
-    match holder {
+    match holder.known {
         None => Ok(()),
-        Some(known) => note_id(alloc, holds(known.kind), id, first),
+        Some(known) => note_id(alloc, holds(known.kind), holder.id, first),
     }
 }
 
@@ -186,20 +192,19 @@ fn has_key(kind: Kind, key: SlotKey) -> bool
 
 fn note_key(
     alloc: Global,
-    id: &Id,
-    holder: Option<Known>,
+    holder: Named,
     slot: &SlotLine,
     first: &mut First,
 ) -> Result<(), NoMemory>
-    ensures { OnOk result (first.new ≡ noted first.old (key_off id.now holder slot.now)) }
+    ensures { OnOk result (first.new ≡ noted first.old (key_off holder.entry.id.now holder.entry.known slot.now)) }
 {
-    match holder {
+    match holder.known {
         None => Ok(()),
         Some(known) => note_name(
             alloc,
             has_key(known.kind, slot.key),
             slot.place,
-            id.name.as_bytes(),
+            holder.id.name.as_bytes(),
             first,
         ),
     }
@@ -330,17 +335,16 @@ fn note_slot_params(
 pub(crate) fn note_slot(
     alloc: Global,
     arch: Arch,
-    id: &Id,
-    holder: Option<Known>,
+    holder: Named,
     slot: &SlotLine,
     object: Option<Known>,
     first: &mut First,
 ) -> Result<(), NoMemory>
-    ensures { OnOk result (first.new ≡ noted first.old
-        (key_off id.now holder slot.now ++ cap_off arch holder slot.now object ++ params_off slot.now object)) }
+    ensures { OnOk result (first.new ≡ noted first.old (key_off holder.entry.id.now holder.entry.known slot.now
+        ++ cap_off arch holder.entry.known slot.now object ++ params_off slot.now object)) }
 {
-    note_key(alloc, id, holder, slot, first)?;
-    note_cap(alloc, arch, holder, slot, object, first)?;
+    note_key(alloc, holder, slot, first)?;
+    note_cap(alloc, arch, holder.known, slot, object, first)?;
     note_slot_params(alloc, slot, object, first)
 }
 

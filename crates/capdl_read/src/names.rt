@@ -4,10 +4,10 @@
 //! byte by byte, and still no text can make them slow: whoever knows the digest can write names that collide, and these are
 //! kept in order too.
 
-ghost use Rattle.capdl_read.specs.Naming.{digest};
+ghost use Rattle.capdl_read.specs.Naming.{digest, spread_found};
 ghost use Rattle.name_tables.specs.ByName.{found};
 ghost use Rattle.std.specs.Option.{option_copied, option_or};
-ghost use Rattle.std.specs.Prelude.{◌≡◌, ◌∷◌, ℕ, [], List as Seq, is_some, IfOk, OnOk};
+ghost use Rattle.std.specs.Prelude.{◌≡◌, ◌<◌, ◌%◌, ◌∷◌, ℕ, [], None, List as Seq, is_some, IfOk, OnOk};
 
 use cam_base::NoMemory;
 use std::alloc::Global;
@@ -59,7 +59,14 @@ impl<'x, V: Drop> Names<'x, V> {
     pub(crate) fn get(&self, name: &'x [u8]) -> Option<&V>
         ensures { option_copied result ≡ found self.now name.now }
     {
-        self.entries.get(&(digest(name), name))
+        self.find(digest(name), name)
+    }
+
+    fn find(&self, number: u64, name: &'x [u8]) -> Option<&V>
+        requires { number ≡ digest name.now }
+        ensures { option_copied result ≡ found self.now name.now }
+    {
+        self.entries.get(&(number, name))
     }
 
     /// Puts a value under its name, where the name has none yet, and answers whether it has one.
@@ -68,7 +75,16 @@ impl<'x, V: Drop> Names<'x, V> {
         ensures found { OnOk result ((n : Seq ℕ) → found self.new n ≡ option_or (found self.old n)
             (found ((name.entry.now, value) ∷ []) n)) }
     {
-        let key = (digest(name), name);
+        self.put(digest(name), name, value)
+    }
+
+    fn put(&mut self, number: u64, name: &'x [u8], value: V) -> Result<bool, NoMemory>
+        requires digested { number ≡ digest name.now }
+        ensures met { IfOk result (λ met. met ≡ is_some (found self.old name.entry.now)) }
+        ensures found { OnOk result ((n : Seq ℕ) → found self.new n ≡ option_or (found self.old n)
+            (found ((name.entry.now, value) ∷ []) n)) }
+    {
+        let key = (number, name);
         match self.entries.insert(key, value)? {
             None => Ok(false),
             Some(first) => {
@@ -76,5 +92,71 @@ impl<'x, V: Drop> Names<'x, V> {
                 Ok(true)
             }
         }
+    }
+}
+
+/// How many entries a table of many has.
+const SHARE: usize = 8;
+
+/// Values by name, in many small tables, of which the digest of a name says one. Contracts see it as the list of the
+/// tables.
+#[derive(Drop)]
+pub(crate) struct SpreadNames<'x, V> {
+    tables: Vec<Names<'x, V>>,
+}
+
+impl<'x, V> Model for SpreadNames<'x, V> {
+    ghost use Rattle.std.specs.Coded.{coded×, coded_ℕ, coded_list};
+    ghost use Rattle.std.specs.Prelude.{◌<◌, List, ℕ, length};
+
+    ghost Value = { List (List (List ℕ × V)) };
+
+    ghost coded = { coded_list (coded_list (coded× (coded_list coded_ℕ) V.code)) };
+
+    ghost view = { λ s. s.tables.items };
+
+    ghost invariant = { λ s. 0 < length s.tables.items };
+}
+
+/// The place of a digest among so many tables.
+fn place(number: u64, count: usize) -> usize
+    requires { 0 < count }
+    ensures place { result ≡ number % count }
+    ensures bound { result < count }
+{
+    (number % count as u64) as usize
+}
+
+impl<'x, V: Drop> SpreadNames<'x, V> {
+    /// Empty tables for so many names.
+    pub(crate) fn with_room(alloc: Global, names: usize) -> Result<SpreadNames<'x, V>, NoMemory>
+        ensures { IfOk result (λ t. (n : Seq ℕ) → spread_found t n ≡ None) }
+    {
+        let mut tables = Vec::new(alloc);
+        for _ in 0..names / SHARE + 1 {
+            tables.push(Names::new(alloc))?;
+        }
+        Ok(SpreadNames { tables })
+    }
+
+    /// What the name stands for.
+    pub(crate) fn get(&self, name: &'x [u8]) -> Option<&V>
+        ensures { option_copied result ≡ spread_found self.now name.now }
+    {
+        let number = digest(name);
+        let at = place(number, self.tables.len());
+        self.tables[at].find(number, name)
+    }
+
+    /// Puts a value under its name, where the name has none yet, and answers whether it has one.
+    pub(crate) fn add(&mut self, name: &'x [u8], value: V) -> Result<bool, NoMemory>
+        ensures met { IfOk result (λ met. met ≡ is_some (spread_found self.old name.entry.now)) }
+        ensures found { OnOk result ((n : Seq ℕ) → spread_found self.new n ≡ option_or (spread_found self.old n)
+            (found ((name.entry.now, value) ∷ []) n)) }
+    {
+        let number = digest(name);
+        let at = place(number, self.tables.len());
+        let table = &mut self.tables[at];
+        table.put(number, name, value)
     }
 }

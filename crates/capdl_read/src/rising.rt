@@ -16,7 +16,8 @@ fn slot_number(key: SlotKey) -> Option<u64>
     }
 }
 
-fn is_above(last: Option<u64>, next: Option<u64>) -> bool
+/// Whether there is a next number, above the last.
+pub(crate) fn is_above(last: Option<u64>, next: Option<u64>) -> bool
     ensures { result ≡ is_above last next }
 {
     match (last, next) {

@@ -22,7 +22,7 @@ use name_tables::KeySet;
 use std::alloc::Global;
 
 /// Takes the next name with its value, or notes that it was met before.
-pub(crate) fn meet_name<'x, V: Drop>(
+fn meet_name<'x, V: Drop>(
     alloc: Global,
     id: &Id<'x>,
     value: V,
@@ -31,7 +31,8 @@ pub(crate) fn meet_name<'x, V: Drop>(
 ) -> Result<(), NoMemory>
     ensures first { OnOk result (first.new ≡ noted first.old (where_true (is_some (found met.old id.now.name))
         (at_id code.CapdlTwice id.now))) }
-    ensures met { OnOk result ((n : Seq ℕ) → found met.new n ≡ option_or (found met.old n) (found ((id.now.name, value) ∷ []) n)) }
+    ensures met { OnOk result ((n : Seq ℕ) → found met.new n
+        ≡ option_or (found met.old n) (found ((id.now.name, value) ∷ []) n)) }
 {
     let name = id.name.as_bytes();
     if met.add(name, value)? {

@@ -5,14 +5,15 @@ use Rattle.capdl_text.proofs.Noting.{noted_each}
 use Rattle.name_tables.specs.ByName.{found}
 use Rattle.capdl_read.specs.Building.{slot_said}
 use Rattle.capdl_read.proofs.Tables.{slots_put}
+use Rattle.capdl_read.specs.Naming.{spread_found}
 use Rattle.capdl_read.proofs.held.holders_held.Goals as goal
 
 pub loop-holder-preserved : goal.loop-holder-preserved
 loop-holder-preserved c = record {
-  unknown = noted_each (unknown_in (found c.args.known.now)) _ _ c.args.holders.now c.loop-holder.holder-index c.holder-item.result (omega arith) c.holder-item.is c.in_ok-slots.ensures.unknown ∙ c.loop-holder.invariant.unknown;
-  kind = noted_each (off_in c.args.arch (found c.args.known.now)) _ _ c.args.holders.now c.loop-holder.holder-index c.holder-item.result (omega arith) c.holder-item.is c.in_ok-slots.ensures.kind ∙ c.loop-holder.invariant.kind;
+  unknown = noted_each (unknown_in (spread_found c.args.known.now)) _ _ c.args.holders.now c.loop-holder.holder-index c.holder-item.result (omega arith) c.holder-item.is c.in_ok-slots.ensures.unknown ∙ c.loop-holder.invariant.unknown;
+  kind = noted_each (off_in c.args.arch (spread_found c.args.known.now)) _ _ c.args.holders.now c.loop-holder.holder-index c.holder-item.result (omega arith) c.holder-item.is c.in_ok-slots.ensures.kind ∙ c.loop-holder.invariant.kind;
   said = λ n.
-      slots_put (slot_said (found c.args.known.now)) _ (found c.loop-holder.table n) _ c.args.holders.now c.loop-holder.holder-index c.holder-item.result n (omega arith) c.holder-item.is c.in_ok-slots.ensures.held
+      slots_put (slot_said (spread_found c.args.known.now)) _ (found c.loop-holder.table n) _ c.args.holders.now c.loop-holder.holder-index c.holder-item.result n (omega arith) c.holder-item.is c.in_ok-slots.ensures.held
       (rw c.as_bytes.ensures.bytes at c.in_ok-add.ensures.found n)
       ∙ c.loop-holder.invariant.said n;
 }

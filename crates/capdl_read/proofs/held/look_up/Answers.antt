@@ -3,14 +3,14 @@ use Rattle.capdl_text.specs.KindField.{irq_off, kind_off, off_in}
 use Rattle.capdl_text.specs.declared.tree.IrqLine.{IrqLine}
 use Rattle.capdl_text.specs.declared.tree.ObjectLine.{ObjectLine}
 use Rattle.capdl_text.proofs.Noting.{noted_then}
-use Rattle.name_tables.specs.ByName.{found}
 use Rattle.std.proofs.Common.{◌++◌}
+use Rattle.capdl_read.specs.Naming.{spread_found}
 use Rattle.capdl_read.proofs.held.look_up.Goals as goal
 
 pub returns-clause-kind : goal.returns-clause-kind
 returns-clause-kind c =
     let t = c.args.tree.now in
-    let known = found c.args.known.now in
+    let known = spread_found c.args.known.now in
     let objects = flat_map (λ (o : ObjectLine). kind_off t.arch o.kind) t.objects in
     let holders = flat_map (off_in t.arch known) t.holders in
     let irqs = flat_map (λ (l : IrqLine). irq_off l.object (known l.object.name)) t.irqs in

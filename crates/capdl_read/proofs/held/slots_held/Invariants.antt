@@ -4,13 +4,13 @@ use Rattle.capdl_text.specs.Faults.{noted}
 use Rattle.capdl_text.specs.KindField.{slot_off}
 use Rattle.capdl_text.specs.Unknown.{unknown}
 use Rattle.capdl_text.specs.declared.tree.SlotLine.{SlotLine}
-use Rattle.name_tables.specs.ByName.{found}
 use Rattle.capdl_read.specs.Building.{slot_said}
+use Rattle.capdl_read.specs.Naming.{spread_found}
 use Rattle.capdl_read.proofs.held.slots_held.Given as goal
 
 abbrev pub invariant-loop-slot : goal.invariant-loop-slot
 invariant-loop-slot l = record {
-  unknown : noted l.faults.unknown (flat_map (λ (s : SlotLine). unknown (found l.known) s.object) (drop l.slot-index l.slots)) ≡ noted l.fn.faults.unknown (flat_map (λ (s : SlotLine). unknown (found l.known) s.object) l.slots);
-  kind : noted l.faults.kind (flat_map (slot_off l.arch (found l.known) l.id l.holder) (drop l.slot-index l.slots)) ≡ noted l.fn.faults.kind (flat_map (slot_off l.arch (found l.known) l.id l.holder) l.slots);
-  said : l.held ++ map (slot_said (found l.known)) (drop l.slot-index l.slots) ≡ map (slot_said (found l.known)) l.slots;
+  unknown : noted l.faults.unknown (flat_map (λ (s : SlotLine). unknown (spread_found l.known) s.object) (drop l.slot-index l.slots)) ≡ noted l.fn.faults.unknown (flat_map (λ (s : SlotLine). unknown (spread_found l.known) s.object) l.slots);
+  kind : noted l.faults.kind (flat_map (slot_off l.arch (spread_found l.known) l.holder.id.now l.holder.known) (drop l.slot-index l.slots)) ≡ noted l.fn.faults.kind (flat_map (slot_off l.arch (spread_found l.known) l.holder.id.now l.holder.known) l.slots);
+  said : l.held ++ map (slot_said (spread_found l.known)) (drop l.slot-index l.slots) ≡ map (slot_said (spread_found l.known)) l.slots;
 }

@@ -1,6 +1,6 @@
 use Rattle.std.proofs.Common.{◌≡◌, drop, []}
 use Rattle.capdl_read.specs.Building.{numbered_from}
-use Rattle.capdl_read.proofs.build.numbered.Given as goal
+use Rattle.capdl_read.proofs.build.sorted.Given as goal
 
 abbrev pub invariant-loop-slot : goal.invariant-loop-slot
 invariant-loop-slot l = numbered_from l.sorted.entries (drop l.slot-index l.slots) ≡ numbered_from [] l.slots

@@ -1,0 +1,44 @@
+-- Slots whose numbers rise are sorted as they stand.
+use Rattle.std.proofs.Common.{◌≡◌, ◌∙◌, ◌<◌, ◌+◌, ℕ, true, List, [], ◌∷◌, ◌++◌, add-one, drop, length, get_or, Option, Some, Greater, refl, sym, ap, subst, arith}
+use Rattle.std.proofs.Math.Seq.{drop-cons}
+use Rattle.std.proofs.lemmas.Bool.Decides.{nat_tests}
+use Rattle.std.specs.BTreeMap.{insert_entry}
+use Rattle.std.specs.List.{AllByRecursion}
+use Rattle.std.specs.Ordering.{nat_cmp}
+use Rattle.std.specs.Prelude.{nat_lt}
+use Rattle.cap_model.specs.declared.cap.Cap.{Cap}
+use Rattle.capdl_text.specs.Meaning.{put_slot}
+use Rattle.capdl_text.specs.declared.tree.SlotKey.{SlotKey}
+use Rattle.capdl_text.specs.declared.tree.SlotKey.TheVariants as keys
+use Rattle.capdl_read.specs.Building.{numbered_from}
+use Rattle.capdl_read.specs.Rising.{is_above}
+use Rattle.capdl_read.specs.declared.held.Slot.{Slot}
+use Rattle.capdl_read.proofs.NoneTwice.{above_both}
+
+-- each number above the last stands behind all of these
+abbrev pub AreBehind : List (ℕ × Cap) → Option ℕ → Type 0
+AreBehind slots last = (n : ℕ) → is_above last (Some n) ≡ true → AllByRecursion (λ s. s.0 < n) slots
+
+cmp_after : (k n : ℕ) → n < k → nat_cmp k n ≡ Greater
+cmp_after k n h = grind arith
+
+insert_last : (slots : List (ℕ × Cap)) (n : ℕ) (cap : Cap) → AllByRecursion (λ s. s.0 < n) slots → insert_entry nat_cmp slots n cap ≡ slots ++ (n, cap) ∷ []
+insert_last [] n cap below = refl
+insert_last (s ∷ ss) n cap below = rw (cmp_after n s.0 below.0) (ap (λ rest. s ∷ rest) (insert_last ss n cap below.1))
+
+below_all : (slots : List (ℕ × Cap)) (m n : ℕ) (cap : Cap) → AllByRecursion (λ s. s.0 < n) slots → m < n → AllByRecursion (λ s. s.0 < n) (slots ++ (m, cap) ∷ [])
+below_all [] m n cap below less = (less, _)
+below_all (s ∷ ss) m n cap below less = (below.0, below_all ss m n cap below.1 less)
+
+less : (m n : ℕ) → nat_lt m n ≡ true → m < n
+less m n h = grind (arith, nat_tests)
+
+-- a slot above the last, put in, stands behind all
+pub put_behind : (new old : List (ℕ × Cap)) (last : Option ℕ) (s : Slot) (n : ℕ) (ss : List Slot) (i : ℕ) → i < length ss → (get_or ss i s).key ≡ keys.Number n → is_above last (Some n) ≡ true
+    → AreBehind old last → new ≡ old ++ (n, (get_or ss i s).cap) ∷ [] → (numbered_from new (drop (i + 1) ss) ≡ numbered_from old (drop i ss)) × AreBehind new (Some n)
+put_behind new old last s n ss i l k a behind p =
+    let here = get_or ss i s in (
+      ap (λ z. numbered_from z (drop (i + 1) ss)) (p ∙ sym (insert_last old n here.cap (behind n a)) ∙ ap (λ (z : SlotKey). put_slot z here.cap old) (sym k))
+          ∙ ap (numbered_from old) (sym (drop-cons ss i s l ∙ ap (λ j. here ∷ drop j ss) (sym (add-one i)))),
+      λ m b. subst (AllByRecursion (λ s. s.0 < m)) (sym p) (below_all old n m here.cap (behind m (above_both last n m a b)) (less n m b)),
+    )

@@ -1,8 +1,0 @@
-use Rattle.std.proofs.Common.{◌∙◌, ap}
-use Rattle.name_tables.specs.ByName.{found}
-use Rattle.capdl_read.proofs.Ordered.{fits, found_entry}
-use Rattle.capdl_read.proofs.names.Names.get.Goals as goal
-
-pub returns : goal.returns
-returns g c =
-    c.get.ensures.value ∙ found_entry c.self.inside.entries.entries (c.digest.result, c.args.name) c.self.invariant (fits c.digest.result c.args.name.now c.digest.ensures) ∙ ap (λ s. found s c.args.name.now) c.self.view_is
