@@ -73,7 +73,12 @@ fn number(kind: ItemKind, items: &[Ended]) -> usize
 impl File {
     /// The numbers of imports, procedures, components and assemblies. Takes no memory.
     pub fn count(&self) -> (u64, u64, u64, u64)
-        ensures { result ≡ (count_by is_import self.now.items, count_by is_procedure self.now.items, count_by is_component self.now.items, count_by is_assembly self.now.items) }
+        ensures { result ≡ (
+          count_by is_import self.now.items,
+          count_by is_procedure self.now.items,
+          count_by is_component self.now.items,
+          count_by is_assembly self.now.items,
+        ) }
     {
         let items = self.items.as_slice();
         (

@@ -92,7 +92,8 @@ impl<O: Outputs + Drop> Buffered<O> {
         requires some { 0 < length piece.now }
         ensures some { IfOk result (λ n. 0 < n) }
         ensures at_most { IfOk result (λ n. n ≤ length piece.now) }
-        ensures ok { IfOk result (λ n. with_waiting (O.sink self.new.outputs) self.new.channel self.new.waiting.items self.new.sent
+        ensures ok { IfOk result (λ n.
+            with_waiting (O.sink self.new.outputs) self.new.channel self.new.waiting.items self.new.sent
             ≡ appended (with_waiting (O.sink self.old.outputs) self.old.channel self.old.waiting.items self.old.sent) channel
             (take n piece.now)) }
         ensures err { OnErr result (with_waiting (O.sink self.new.outputs) self.new.channel self.new.waiting.items self.new.sent

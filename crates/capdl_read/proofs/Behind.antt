@@ -1,11 +1,10 @@
 -- Slots whose numbers rise are sorted as they stand.
 use Rattle.std.proofs.Common.{◌≡◌, ◌∙◌, ◌<◌, ◌+◌, ℕ, true, List, [], ◌∷◌, ◌++◌, add-one, drop, length, get_or, Option, Some, Greater, refl, sym, ap, subst, arith}
 use Rattle.std.proofs.Math.Seq.{drop-cons}
-use Rattle.std.proofs.lemmas.Bool.Decides.{nat_tests}
+use Rattle.std.proofs.lemmas.Bool.{ltb-true}
 use Rattle.std.specs.BTreeMap.{insert_entry}
 use Rattle.std.specs.List.{AllByRecursion}
 use Rattle.std.specs.Ordering.{nat_cmp}
-use Rattle.std.specs.Prelude.{nat_lt}
 use Rattle.cap_model.specs.declared.cap.Cap.{Cap}
 use Rattle.capdl_text.specs.Meaning.{put_slot}
 use Rattle.capdl_text.specs.declared.tree.SlotKey.{SlotKey}
@@ -30,9 +29,6 @@ below_all : (slots : List (ℕ × Cap)) (m n : ℕ) (cap : Cap) → AllByRecursi
 below_all [] m n cap below less = (less, _)
 below_all (s ∷ ss) m n cap below less = (below.0, below_all ss m n cap below.1 less)
 
-less : (m n : ℕ) → nat_lt m n ≡ true → m < n
-less m n h = grind (arith, nat_tests)
-
 -- a slot above the last, put in, stands behind all
 pub put_behind : (new old : List (ℕ × Cap)) (last : Option ℕ) (s : Slot) (n : ℕ) (ss : List Slot) (i : ℕ) → i < length ss → (get_or ss i s).key ≡ keys.Number n → is_above last (Some n) ≡ true
     → AreBehind old last → new ≡ old ++ (n, (get_or ss i s).cap) ∷ [] → (numbered_from new (drop (i + 1) ss) ≡ numbered_from old (drop i ss)) × AreBehind new (Some n)
@@ -40,5 +36,5 @@ put_behind new old last s n ss i l k a behind p =
     let here = get_or ss i s in (
       ap (λ z. numbered_from z (drop (i + 1) ss)) (p ∙ sym (insert_last old n here.cap (behind n a)) ∙ ap (λ (z : SlotKey). put_slot z here.cap old) (sym k))
           ∙ ap (numbered_from old) (sym (drop-cons ss i s l ∙ ap (λ j. here ∷ drop j ss) (sym (add-one i)))),
-      λ m b. subst (AllByRecursion (λ s. s.0 < m)) (sym p) (below_all old n m here.cap (behind m (above_both last n m a b)) (less n m b)),
+      λ m b. subst (AllByRecursion (λ s. s.0 < m)) (sym p) (below_all old n m here.cap (behind m (above_both last n m a b)) (ltb-true n m b)),
     )

@@ -54,7 +54,8 @@ pub trait Repeated<L: Language> {
     ) -> Result<(Self::Item, &'a [L::Token]), ReadError>
         ensures { Gives (λ x. (x.0, L.see bytes.now x.1.now)) result (gives bytes.now (L.see bytes.now tokens.now)) };
 
-    ghost eats: { (bytes : Seq ℕ) (ts : Seq L.Seen) (x : Self.Item × Seq L.Seen) → gives bytes ts ≡ Good x → length x.1 < length ts };
+    ghost eats: { (bytes : Seq ℕ) (ts : Seq L.Seen) (x : Self.Item × Seq L.Seen) → gives bytes ts ≡ Good x
+        → length x.1 < length ts };
 }
 
 /// The same items, in no more memory than they need. Takes no memory.
