@@ -2,9 +2,9 @@
 -- within itself.
 use Rattle.std.proofs.Common.{◌≡◌, ℕ, true, [], ◌∷◌, refl, ◌⊎◌, inl, inr}
 use Rattle.std.specs.Prelude.{◌==◌}
+use Rattle.std.proofs.lemmas.Bool.{cases_Bool}
 use Rattle.grammar.specs.Form.{among, behind}
 use Rattle.grammar.specs.Deciding.{decides, further}
-use Rattle.grammar.proofs.Codes.{bool_cases}
 use Rattle.grammar.proofs.Depth.{IsLine}
 use Rattle.cam_base.specs.declared.token.Mark.TheVariants as marks
 use Rattle.adl_ast.specs.Codes.{token_code, mark_code}
@@ -13,7 +13,7 @@ use Rattle.adl_ast.specs.Forms.{value_line, value_form, values_line, list_line, 
 
 -- a token among the brackets is the one or the other
 one_of_two : (c d e : ℕ) → among (d ∷ e ∷ []) c ≡ true → (among (d ∷ []) c ≡ true) ⊎ (among (e ∷ []) c ≡ true)
-one_of_two c d e h = elim (bool_cases (c == d)) [ inl p ↦ inl (rw p refl) | inr p ↦ inr (rw p at h) ]
+one_of_two c d e h = elim (cases_Bool (c == d)) [ inl p ↦ inl (rw p refl) | inr p ↦ inr (rw p at h) ]
 
 pub nested_is : IsLine token_code nested_line opens
 unfolding nested_line list_line dictionary_line values_line entries_line entry_line value_line

@@ -1,9 +1,10 @@
 -- The lines of interfaces, written plainly and so that the next token decides.
 use Rattle.std.proofs.Common.{◌≡◌, ℕ, true, List, [], ◌∷◌, ◌++◌, Option, Some, None, refl, sym, ap, ◌∙◌, append_assoc, ◌⊎◌, inl, inr}
 use Rattle.std.specs.Prelude.{◌==◌}
+use Rattle.std.proofs.lemmas.Bool.{cases_Bool}
 use Rattle.grammar.specs.Form.{among}
 use Rattle.grammar.specs.Spelling.{Meaning, Spells}
-use Rattle.grammar.proofs.Codes.{bool_cases, true_is_not_false}
+use Rattle.grammar.proofs.Codes.{true_is_not_false}
 use Rattle.adl_ast.specs.declared.seen.Seen.{Seen}
 use Rattle.adl_ast.specs.declared.value.Value.{Value}
 use Rattle.adl_ast.specs.declared.id.Id.{Id}
@@ -15,21 +16,21 @@ use Rattle.adl_ast.specs.Forms.{interface_of, interface_line, plain_port_line, b
 use Rattle.adl_ast.specs.Written.{interface_written}
 
 not_buf_is_word : (c : ℕ) → among not_buf_codes c ≡ true → among word_codes c ≡ true
-not_buf_is_word c h = elim (bool_cases (c == plain_code)) [
+not_buf_is_word c h = elim (cases_Bool (c == plain_code)) [
   | inl p ↦ rw p refl
-  | inr p ↦ elim (bool_cases (c == void_code)) [ inl q ↦ rw (p, q) refl | inr q ↦ true_is_not_false (among not_buf_codes c) h (rw (p, q) refl) ]
+  | inr p ↦ elim (cases_Bool (c == void_code)) [ inl q ↦ rw (p, q) refl | inr q ↦ true_is_not_false (among not_buf_codes c) h (rw (p, q) refl) ]
 ]
 
 buf_is_word : (c : ℕ) → among (buf_code ∷ []) c ≡ true → among word_codes c ≡ true
-buf_is_word c h = elim (bool_cases (c == plain_code)) [
+buf_is_word c h = elim (cases_Bool (c == plain_code)) [
   | inl p ↦ rw p refl
-  | inr p ↦ elim (bool_cases (c == void_code)) [ inl q ↦ rw (p, q) refl | inr q ↦ rw (p, q) h ]
+  | inr p ↦ elim (cases_Bool (c == void_code)) [ inl q ↦ rw (p, q) refl | inr q ↦ rw (p, q) h ]
 ]
 
 buf_or_not : (c : ℕ) → among word_codes c ≡ true → (among (buf_code ∷ []) c ≡ true) ⊎ (among not_buf_codes c ≡ true)
-buf_or_not c h = elim (bool_cases (c == plain_code)) [
+buf_or_not c h = elim (cases_Bool (c == plain_code)) [
   | inl p ↦ inr (rw p refl)
-  | inr p ↦ elim (bool_cases (c == void_code)) [ inl q ↦ inr (rw (p, q) refl) | inr q ↦ inl (rw (p, q) at h) ]
+  | inr p ↦ elim (cases_Bool (c == void_code)) [ inl q ↦ inr (rw (p, q) refl) | inr q ↦ inl (rw (p, q) at h) ]
 ]
 
 three : {T : Type 0} (a b c d : List T) → (a ++ (b ++ c)) ++ d ≡ a ++ (b ++ (c ++ d))

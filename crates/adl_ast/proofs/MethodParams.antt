@@ -2,9 +2,10 @@
 use Rattle.std.proofs.Common.{◌≡◌, ℕ, Bool, true, false, List, [], ◌∷◌, ◌++◌, Some, None, refl, sym, ap, subst, ◌∙◌, append_assoc, ◌⊎◌, inl, inr}
 use Rattle.std.specs.Prelude.{◌==◌}
 use Rattle.std.proofs.lemmas.List.{append-nil}
+use Rattle.std.proofs.lemmas.Bool.{cases_Bool}
 use Rattle.grammar.specs.Form.{among}
 use Rattle.grammar.specs.Spelling.{Meaning, Spells}
-use Rattle.grammar.proofs.Codes.{bool_cases, true_is_not_false}
+use Rattle.grammar.proofs.Codes.{true_is_not_false}
 use Rattle.adl_ast.specs.declared.seen.Seen.{Seen}
 use Rattle.adl_ast.specs.declared.value.Value.{Value}
 use Rattle.adl_ast.specs.declared.procedure.Param.{Param}
@@ -16,21 +17,21 @@ use Rattle.adl_ast.proofs.TypedNames.{regroup}
 
 -- a word that isn't void is a word, and each word is void or not
 not_void_is_word : (c : ℕ) → among not_void_codes c ≡ true → among word_codes c ≡ true
-not_void_is_word c h = elim (bool_cases (c == plain_code)) [
+not_void_is_word c h = elim (cases_Bool (c == plain_code)) [
   | inl p ↦ rw p refl
-  | inr p ↦ elim (bool_cases (c == void_code)) [ inl q ↦ rw (p, q) refl | inr q ↦ rw (p, q) (rw p at h) ]
+  | inr p ↦ elim (cases_Bool (c == void_code)) [ inl q ↦ rw (p, q) refl | inr q ↦ rw (p, q) (rw p at h) ]
 ]
 
 void_is_word : (c : ℕ) → among (void_code ∷ []) c ≡ true → among word_codes c ≡ true
-void_is_word c h = elim (bool_cases (c == plain_code)) [
+void_is_word c h = elim (cases_Bool (c == plain_code)) [
   | inl p ↦ rw p refl
-  | inr p ↦ elim (bool_cases (c == void_code)) [ inl q ↦ rw (p, q) refl | inr q ↦ true_is_not_false (among (void_code ∷ []) c) h (rw q refl) ]
+  | inr p ↦ elim (cases_Bool (c == void_code)) [ inl q ↦ rw (p, q) refl | inr q ↦ true_is_not_false (among (void_code ∷ []) c) h (rw q refl) ]
 ]
 
 void_or_not : (c : ℕ) → among word_codes c ≡ true → (among (void_code ∷ []) c ≡ true) ⊎ (among not_void_codes c ≡ true)
-void_or_not c h = elim (bool_cases (c == plain_code)) [
+void_or_not c h = elim (cases_Bool (c == plain_code)) [
   | inl p ↦ inr (rw p refl)
-  | inr p ↦ elim (bool_cases (c == void_code)) [ inl q ↦ inl (rw q refl) | inr q ↦ inr (rw p (rw (p, q) at h)) ]
+  | inr p ↦ elim (cases_Bool (c == void_code)) [ inl q ↦ inl (rw q refl) | inr q ↦ inr (rw p (rw (p, q) at h)) ]
 ]
 
 module _ (m : Meaning Seen Value) where

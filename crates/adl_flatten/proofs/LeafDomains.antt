@@ -1,7 +1,8 @@
 -- Domains of leaves, one leaf further.
-use Rattle.std.proofs.Common.{◌≡◌, ◌<◌, ◌+◌, ℕ, suc, zero, Bool, true, false, cond, List, length, get_or, drop, [], ◌∷◌, ◌++◌, map, Option, Some, None, refl, sym, ◌∙◌, ap, arith, append_assoc}
+use Rattle.std.proofs.Common.{◌≡◌, ◌<◌, ◌+◌, ℕ, suc, zero, Bool, true, false, cond, List, length, get_or, drop, [], ◌∷◌, ◌++◌, map, Option, Some, None, refl, sym, ◌∙◌, ap, append_assoc}
 use Rattle.std.specs.List.{filter, enumerate_from}
-use Rattle.adl_meaning.proofs.Noting.{drop_first}
+use Rattle.std.proofs.lemmas.List.{get_or_default}
+use Rattle.cam_base.proofs.Lists.{drop_first}
 use Rattle.adl_meaning.specs.Paths.{Path}
 use Rattle.adl_flatten.specs.Homes.{present, is_number}
 
@@ -23,17 +24,12 @@ numbered-first d a x xs = by_test (is_number d x)
     by_test true = refl
     by_test false = refl
 
-get_or-any : {X : Type 0} (xs : List X) (i : ℕ) (d e : X) → i < length xs → get_or xs i d ≡ get_or xs i e
-get_or-any [] i d e l = absurd (omega arith)
-get_or-any (x ∷ xs) zero d e l = refl
-get_or-any (x ∷ xs) (suc i) d e l = get_or-any xs i d e (omega arith)
-
 pub numbered_more : (d : ℕ) (xs : List (Option ℕ)) (a : ℕ) (x : Option ℕ) (new old : List ℕ) → a < length xs → x ≡ get_or xs a None → new ≡ old ++ cond (is_number d x) (a ∷ []) []
     → new ++ numbered_from d (a + 1) (drop (a + 1) xs) ≡ old ++ numbered_from d a (drop a xs)
 numbered_more d xs a x new old l e n =
     ap (λ z. z ++ numbered_from d (a + 1) (drop (a + 1) xs)) n
     ∙ append_assoc old (cond (is_number d x) (a ∷ []) []) (numbered_from d (a + 1) (drop (a + 1) xs))
-    ∙ ap (λ z. old ++ z) (sym (numbered-first d a x (drop (a + 1) xs)) ∙ ap (numbered_from d a) (sym (drop_first xs a x l (e ∙ get_or-any xs a None x l))))
+    ∙ ap (λ z. old ++ z) (sym (numbered-first d a x (drop (a + 1) xs)) ∙ ap (numbered_from d a) (sym (drop_first xs a x l (e ∙ get_or_default xs a None x l))))
 
 pub empty_more : (xs : List (List ℕ)) (d : ℕ) → ((d : ℕ) → get_or xs d [] ≡ []) → get_or (xs ++ [] ∷ []) d [] ≡ []
 empty_more [] zero h = refl

@@ -1,15 +1,14 @@
 -- What tables of paths find.
-use Rattle.std.proofs.Common.{◌≡◌, ◌∙◌, ◌+◌, ℕ, zero, suc, Bool, cond, true, false, ◌||◌, append_assoc, unwrap_or, refl, sym, ap, List, [], ◌∷◌, ◌++◌, length, Option, Some, None, is_some, Decides, arith}
+use Rattle.std.proofs.Common.{◌≡◌, ◌∙◌, ◌+◌, ℕ, zero, suc, Bool, cond, true, false, ◌||◌, append_assoc, unwrap_or, refl, sym, ap, List, [], ◌∷◌, ◌++◌, length, Option, Some, None, is_some, arith}
 use Rattle.std.specs.List.{position_from}
 use Rattle.std.specs.Option.{option_or}
-use Rattle.std.proofs.lemmas.Slice.Eq.{bytes_eq-Decides, slice_eq-Decides}
+use Rattle.cam_base.proofs.Options.{option_or-none, option_or-there}
+use Rattle.cam_base.proofs.Lists.{position_from-snoc}
 use Rattle.adl_meaning.specs.Lists.{place_by, firsts_after}
 use Rattle.adl_meaning.specs.Paths.{Path, same_path}
-use Rattle.name_tables.proofs.NameLookups.{or_kept, or_none, or_some}
+use Rattle.name_tables.proofs.NameLookups.{or_some}
 use Rattle.adl_flatten.specs.PathNumbers.{number_of, ArePlaces, is_met}
-
-pub same_path-Decides : (p q : Path) → Decides (same_path p q) (p ≡ q)
-same_path-Decides p q = slice_eq-Decides bytes_eq-Decides p q (same_path p q) refl
+use Rattle.adl_hierarchy.proofs.DomainNames.{same_path-Decides}
 
 pub same_path-true : (p q : Path) → same_path p q ≡ true → p ≡ q
 same_path-true p q e = (same_path-Decides p q).0 e
@@ -33,30 +32,17 @@ number_put old new key n absent put p = put p ∙ ap (λ b. cond b (Some n) (num
   where
     by_test : (b : Bool) → same_path p key ≡ b → cond b (Some n) (number_of old p) ≡ option_or (number_of old p) (cond b (Some n) None)
     by_test true e = or_some (number_of old p) n (ap (λ z. is_some (number_of old z)) (same_path-true p key e) ∙ absent)
-    by_test false e = or_none (number_of old p)
+    by_test false e = option_or-none (number_of old p)
 
 -- what is found where the path was there
 pub number_kept : (old : List (Path × ℕ)) (key : Path) (n : ℕ) → is_some (number_of old key) ≡ true → (p : Path) → number_of old p ≡ option_or (number_of old p) (cond (same_path p key) (Some n) None)
 number_kept old key n there p = by_test (same_path p key) refl
   where
     by_test : (b : Bool) → same_path p key ≡ b → number_of old p ≡ option_or (number_of old p) (cond b (Some n) None)
-    by_test true e = or_kept (number_of old p) (Some n) (ap (λ z. is_some (number_of old z)) (same_path-true p key e) ∙ there)
-    by_test false e = or_none (number_of old p)
+    by_test true e = option_or-there (number_of old p) (Some n) (ap (λ z. is_some (number_of old z)) (same_path-true p key e) ∙ there)
+    by_test false e = option_or-none (number_of old p)
 
 -- ---- places
-
-pub position-snoc : {X : Type 0} (is : X → Bool) (a : ℕ) (xs : List X) (x : X) → position_from is a (xs ++ x ∷ []) ≡ option_or (position_from is a xs) (cond (is x) (Some (a + length xs)) None)
-position-snoc is a [] x = by_test (is x)
-  where
-    by_test : (b : Bool) → cond b (Some a) None ≡ option_or None (cond b (Some (a + 0)) None)
-    by_test true = let e : a ≡ a + 0 = omega arith in ap Some e
-    by_test false = refl
-position-snoc is a (y ∷ xs) x = by_test (is y) (position-snoc is (a + 1) xs x)
-  where
-    by_test : (b : Bool) → position_from is (a + 1) (xs ++ x ∷ []) ≡ option_or (position_from is (a + 1) xs) (cond (is x) (Some ((a + 1) + length xs)) None)
-        → cond b (Some a) (position_from is (a + 1) (xs ++ x ∷ [])) ≡ option_or (cond b (Some a) (position_from is (a + 1) xs)) (cond (is x) (Some (a + suc (length xs))) None)
-    by_test true ih = refl
-    by_test false ih = let e : (a + 1) + length xs ≡ a + suc (length xs) = omega arith in ih ∙ ap (λ k. option_or (position_from is (a + 1) xs) (cond (is x) (Some k) None)) e
 
 -- the table after one more path
 pub places_more : (old new : List (Path × ℕ)) (paths : List Path) (key : Path) (n : ℕ) → n ≡ length paths → ArePlaces old paths
@@ -64,7 +50,7 @@ pub places_more : (old new : List (Path × ℕ)) (paths : List Path) (key : Path
 places_more old new paths key n e places put p =
     let k : n ≡ 0 + length paths = omega arith in
     put p ∙ ap (λ o. option_or o (cond (same_path p key) (Some n) None)) (places p) ∙ ap (λ k. option_or (position_from (same_path p) 0 paths) (cond (same_path p key) (Some k) None)) k
-    ∙ sym (position-snoc (same_path p) 0 paths key)
+    ∙ sym (position_from-snoc (same_path p) 0 paths key)
 
 place_from : {X : Type 0} (is : X → Bool) (a : ℕ) (xs : List X) → unwrap_or (position_from is a xs) (a + length xs) ≡ a + place_by is xs
 place_from is a [] = refl

@@ -4,11 +4,11 @@ use Rattle.std.proofs.lemmas.List.{length-map}
 use Rattle.std.specs.List.{flat_map, filter_map, cons_option, enumerate_from}
 use Rattle.cam_base.specs.declared.place.Fault.{Fault}
 use Rattle.cam_base.specs.declared.code.Code.TheVariants as code
+use Rattle.cam_base.proofs.Lists.{drop_first}
 use Rattle.adl_ast.specs.declared.composition.End.{End}
 use Rattle.adl_meaning.specs.declared.flat.FlatEnd.{FlatEnd}
 use Rattle.adl_meaning.specs.Faults.{at_word, where_true, noted}
 use Rattle.adl_meaning.proofs.Least.{noted-append}
-use Rattle.adl_meaning.proofs.Noting.{drop_first}
 use Rattle.adl_meaning.specs.Flat.{flattened, flat_end, flat_ends, flat_connection}
 use Rattle.adl_meaning.specs.Hierarchy.{Hierarchy, top_number}
 use Rattle.adl_meaning.specs.JoinedEnds.{JoinedEnd, joined_end, joined_ends_of, joined_ends}

@@ -72,7 +72,7 @@ all_joined s sound dotted x e i m =
     let there = (connections_stand s sound x).0 i in
     ends_reach s sound dotted x.inside x.wire e (body_in h (sound_is_finite s sound) (top_number h) x.inside x.path (omega arith) there.0) there.1 m
 
-kept : {X Y : Type 0} (f : X → Option Y) (xs : List X) → ((x : X) → IsIn x xs → (y : Y) × (f x ≡ Some y)) → length (filter_map f xs) ≡ length xs
+pub kept : {X Y : Type 0} (f : X → Option Y) (xs : List X) → ((x : X) → IsIn x xs → (y : Y) × (f x ≡ Some y)) → length (filter_map f xs) ≡ length xs
 kept f [] e = refl
 kept f (x ∷ xs) e = let y = e x (inl refl) in ap (λ o. length (cons_option o (filter_map f xs))) y.1 ∙ ap suc (kept f xs (λ z i. e z (inr i)))
 

@@ -10,6 +10,8 @@ use Rattle.std.specs.Str.{bytes_eq}
 use Rattle.cam_base.specs.declared.code.Code.TheVariants.{BadPath, Limit}
 use Rattle.cam_base.specs.declared.place.Fault.{Fault}
 use Rattle.cam_base.specs.declared.place.Place.{Place}
+use Rattle.cam_base.proofs.Lists.{snoc_same}
+use Rattle.cam_base.proofs.Bytes.{bytes_eq-refl}
 use Rattle.cam_io.specs.Contents.{Contents}
 use Rattle.adl_ast.specs.declared.file.Import.{Import}
 use Rattle.adl_ast.specs.declared.source.SourceFile.{SourceFile}
@@ -23,9 +25,6 @@ others name ms = filter (λ n. not (bytes_eq name n.0)) ms
 
 pub bytes_eq-sym : (a b : List ℕ) → bytes_eq a b ≡ true → bytes_eq b a ≡ true
 bytes_eq-sym a b e = (bytes_eq-Decides b a).1 (sym ((bytes_eq-Decides a b).0 e))
-
-bytes_eq-refl : (a : List ℕ) → bytes_eq a a ≡ true
-bytes_eq-refl a = (bytes_eq-Decides a a).1 refl
 
 -- a name that differs from another is known among the others as among all
 known_others_step : (a name : List ℕ) (m : Meeting) (ms : List Meeting) (c d : Bool) → bytes_eq name a ≡ false → bytes_eq a m.0 ≡ c → bytes_eq name m.0 ≡ d
@@ -260,18 +259,6 @@ snoc_view (x ∷ xs) = elim (snoc_view xs) [
   | inl e ↦ inr ([], x, ap (λ l. x ∷ l) e)
   | inr p ↦ inr (x ∷ p.0, p.1, ap (λ l. x ∷ l) p.2)
 ]
-
-pub snoc_same : {A : Type 0} (xs ys : List A) (x y : A) → xs ++ x ∷ [] ≡ ys ++ y ∷ [] → (xs ≡ ys) × (x ≡ y)
-snoc_same [] [] x y e = (refl, cc)
-snoc_same [] (b ∷ []) x y e = absurd (cc)
-snoc_same [] (b ∷ c ∷ ys) x y e = absurd (cc)
-snoc_same (a ∷ []) [] x y e = absurd (cc)
-snoc_same (a ∷ c ∷ xs) [] x y e = absurd (cc)
-snoc_same (a ∷ xs) (b ∷ ys) x y e =
-    let head : a ≡ b = cc in
-    let tail : xs ++ x ∷ [] ≡ ys ++ y ∷ [] = cc in
-    let p = snoc_same xs ys x y tail in
-    (ap (λ h. h ∷ xs) head ∙ ap (λ l. b ∷ l) p.0, p.1)
 
 reached_next : (root : List ℕ) (files before after : List SourceFile) (last file : SourceFile) (place : Place)
     → ((b a : List SourceFile) (f : SourceFile) → files ≡ b ++ f ∷ a → 0 < length b → IsTrue (is_known (flat_map (meetings_of root) b) f.name))

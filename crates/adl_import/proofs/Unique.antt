@@ -1,7 +1,7 @@
 -- There is one source of a root, and one answer to its loading.
 use Rattle.std.proofs.Common.{◌≡◌, ◌∙◌, refl, sym, ap, subst, inl, inr, ◌⊎◌, Bool, true, false, not, ◌||◌, cond, ℕ, suc, ◌+◌, ◌<◌, ◌≤◌, List, [], ◌∷◌, ◌++◌, length, Option, None, Some, Result, Ok, Err, arith, append_assoc, true≢false}
 use Rattle.std.proofs.Math.Dec.{ltb}
-use Rattle.std.proofs.lemmas.Bool.{false_from_ne_true, ltb-true, ltb-false, or_parts}
+use Rattle.std.proofs.lemmas.Bool.{false_from_ne_true, ltb-true, ltb-false, or_parts, or_right}
 use Rattle.std.proofs.lemmas.Grind.{flat_map-append}
 use Rattle.std.proofs.lemmas.List.{append-nil, length-map, map-append}
 use Rattle.std.proofs.lemmas.Option.{slice_get_within, same_Some}
@@ -12,6 +12,7 @@ use Rattle.cam_base.specs.declared.error.Refused.TheVariants as refused
 use Rattle.cam_base.specs.declared.place.Fault.{Fault}
 use Rattle.cam_base.specs.declared.place.Place.{Place}
 use Rattle.cam_base.specs.declared.token.Token.{Token}
+use Rattle.cam_base.proofs.Lists.{snoc_same}
 use Rattle.cam_io.specs.Contents.{Contents}
 use Rattle.grammar.specs.declared.error.Why.{Why}
 use Rattle.grammar.specs.declared.error.Why.TheVariants.{Unexpected, TooDeep}
@@ -40,7 +41,7 @@ use Rattle.adl_import.specs.Sources.{Meeting, IsFileOf, AreFilesOf, IsSource, is
 use Rattle.adl_import.specs.Turns.{take_imports, Turns, first, next, IsReadFault, absent, too_long, lexing, parsing, IsTurnFault, reading, importing}
 use Rattle.adl_import.specs.declared.error.LoadError.{LoadError}
 use Rattle.adl_import.specs.declared.error.LoadError.TheVariants as error
-use Rattle.adl_import.proofs.Firsts.{others, bytes_eq-sym, known_others, known_sub, firsts_more, file_names, snoc_view, snoc_same, turns_meet, Extends}
+use Rattle.adl_import.proofs.Firsts.{others, bytes_eq-sym, known_others, known_sub, firsts_more, file_names, snoc_view, turns_meet, Extends}
 
 abbrev made : List ℕ → List ℕ → File → SourceFile
 made name bytes tree = record { name = name; bytes = bytes; tree = tree }
@@ -196,16 +197,12 @@ front_of (u ∷ us) more (y ∷ f) r x e le =
     let p = front_of us more f r x tail (omega arith) in
     (p.0, ap (λ z. z ∷ f) head ∙ ap (λ l. u ∷ l) p.1)
 
-or_over : (a c : Bool) → c ≡ true → (a || c) ≡ true
-or_over true c h = refl
-or_over false c h = h
-
 known_inside : (root : List ℕ) (before : List SourceFile) (name : List ℕ) → (0 < length before → is_known (flat_map (meetings_of root) before) name ≡ true)
     → length (met root before) ≤ length before → is_known (met root before) name ≡ true
 known_inside root [] name k le = absurd (omega arith)
 known_inside root (x ∷ xs) name k le =
     known_in_firsts ((root, root_place) ∷ flat_map (meetings_of root) (x ∷ xs)) name
-    (or_over (bytes_eq name root) (is_known (flat_map (meetings_of root) (x ∷ xs)) name) (k (omega arith)))
+    (or_right (bytes_eq name root) (is_known (flat_map (meetings_of root) (x ∷ xs)) name) (k (omega arith)))
 
 next_place : (root : List ℕ) (before : List SourceFile) (name : List ℕ) (f r more : List Meeting) (place : Place) (b : Bool) → ltb (length f) (length (met root before)) ≡ b
     → length f ≡ length before → met root before ++ more ≡ f ++ (name, place) ∷ r → is_known f name ≡ false

@@ -1,8 +1,8 @@
 -- Names are UTF-8: a path is cut and joined at slashes alone.
-use Rattle.std.proofs.Common.{◌≡◌, ◌∙◌, refl, sym, ap, subst, inl, inr, Bool, true, false, ◌&&◌, ◌||◌, cond, ℕ, suc, ◌+◌, ◌<◌, ◌≤◌, List, [], ◌∷◌, ◌++◌, length, drop, get_or, reverse, Option, None, Some, Result, Ok, Err, arith, append_assoc, true≢false}
+use Rattle.std.proofs.Common.{◌≡◌, ◌∙◌, refl, sym, ap, subst, inl, inr, Bool, true, false, ◌||◌, cond, ℕ, suc, ◌+◌, ◌<◌, ◌≤◌, List, [], ◌∷◌, ◌++◌, length, drop, get_or, reverse, Option, None, Some, Result, Ok, Err, arith, append_assoc, true≢false}
 use lib.Utf8.{encode}
 use Rattle.std.proofs.Math.Seq.{take-append_seam, drop-append-add, get_or-append_seam}
-use Rattle.std.proofs.lemmas.Bool.{eqb-true}
+use Rattle.std.proofs.lemmas.Bool.{eqb-true, and_parts}
 use Rattle.std.proofs.lemmas.List.{append-nil, length-append, reverse-append}
 use Rattle.std.proofs.lemmas.Str.{IsUtf8-append, IsUtf8-nil, IsUtf8-take, IsUtf8-drop, IsUtf8-from_is_utf8, IsCharBoundary-before_ascii, IsCharBoundary-after_ascii}
 use Rattle.std.specs.List.{list_any, slice_split, onto_first, join_with_byte}
@@ -127,16 +127,12 @@ in_folder_utf8 : (folder path : List ℕ) → IsUtf8 folder → IsUtf8 path → 
 in_folder_utf8 [] path f u = u
 in_folder_utf8 (b ∷ bs) path f u = IsUtf8-append (b ∷ bs) (47 ∷ path) f (IsUtf8-append (47 ∷ []) path slash_utf8 u)
 
-and_right : (a b : Bool) → (a && b) ≡ true → b ≡ true
-and_right true b e = e
-and_right false b e = absurd (true≢false (sym e))
-
 plain_utf8 : (path : List ℕ) → is_plain path ≡ true → IsUtf8 path
-plain_utf8 path e = IsUtf8-from_is_utf8 path (and_right _ (is_utf8 path) e)
+plain_utf8 path e = IsUtf8-from_is_utf8 path (and_parts _ (is_utf8 path) e).1
 
 import_path_utf8 : (path : List ℕ) → is_import_path path ≡ true → IsUtf8 path
 import_path_utf8 [] e = IsUtf8-nil
-import_path_utf8 (b ∷ bs) e = plain_utf8 (b ∷ bs) (and_right _ (is_plain (b ∷ bs)) e)
+import_path_utf8 (b ∷ bs) e = plain_utf8 (b ∷ bs) (and_parts _ (is_plain (b ∷ bs)) e).1
 
 named_step : (path is name : List ℕ) (b : Bool) → (b ≡ true → IsUtf8 path) → cond b (folded path) None ≡ Some name → IsUtf8 name
 named_step path is name true u e = folded_utf8 path name (u refl) e

@@ -1,2 +1,1 @@
-pub mod FewComponents
 pub mod Trees

@@ -1,13 +1,13 @@
 -- Which bytes a class has.
-use Rattle.std.proofs.Common.{arith, ◌≤◌, ◌⊎◌, ◌≡◌, ℕ, Bool, true, false, cond, List, [], ◌∷◌, refl, sym, ap, ◌∙◌, inl, inr}
+use Rattle.std.proofs.Common.{arith, ◌≤◌, ◌≡◌, ℕ, Bool, true, false, cond, List, [], ◌∷◌, refl, sym, ap, ◌∙◌, inl, inr}
 use Rattle.std.specs.Prelude.{◌==◌, ◌&&◌, ◌||◌, not, leb}
 use Rattle.std.specs.List.{list_all}
-use Rattle.std.proofs.lemmas.Bool.{eqb-true, leb-true, le-leb, and_parts, not-true}
+use Rattle.std.proofs.lemmas.Bool.{eqb-true, leb-true, le-leb, and_parts, not-true, or_right, or_cases, or_from, cases_Bool}
 use Rattle.std.proofs.lemmas.Bool.Decides.{Decides-eqb}
 use Rattle.cam_base.specs.Names.{is_letter, is_word_byte}
 use Rattle.cam_base.specs.Numbers.{is_digit, is_hex_digit}
 use Rattle.grammar.specs.Form.{among}
-use Rattle.grammar.proofs.Codes.{among-left, bool_cases, true_is_not_false, if_true, if_false}
+use Rattle.grammar.proofs.Codes.{among-left, true_is_not_false, if_true, if_false}
 use Rattle.adl_lexer.specs.Classes.{class_of, class_in, sign_class, sign_rows, mark_class, mark_rows, left_out_class, left_out_rows, letters, digits, word_bytes}
 use Rattle.adl_lexer.proofs.Classes.{if_has, sign_has}
 
@@ -16,7 +16,7 @@ class_in_pairs : (R : ℕ → ℕ → Bool) (rows : List (ℕ × ℕ)) (c b : �
 class_in_pairs R [] c b h g = g
 class_in_pairs R (row ∷ rows) c b h g =
     let p = and_parts (R row.0 row.1) (list_all (λ row. R row.0 row.1) rows) h in
-    elim (bool_cases (b == row.0)) [ inl e ↦ rw (e, eqb-true b row.0 e) p.0 | inr e ↦ rw e (class_in_pairs R rows c b p.1 g) ]
+    elim (cases_Bool (b == row.0)) [ inl e ↦ rw (e, eqb-true b row.0 e) p.0 | inr e ↦ rw e (class_in_pairs R rows c b p.1 g) ]
 
 -- if the class is k, the byte is v
 abbrev only : ℕ → ℕ → ℕ → ℕ → Bool
@@ -42,14 +42,6 @@ byte_of k v s m l r0 r1 r2 r3 r4 r25 b e =
 leb_up : (b m n : ℕ) → leb b m ≡ true → m ≤ n → leb b n ≡ true
 leb_up b m n h le = le-leb b n (let p = leb-true b m h in omega (arith, p, le))
 
-or_right : (a b : Bool) → b ≡ true → (a || b) ≡ true
-or_right true b h = refl
-or_right false b h = h
-
-or_cases : (a b : Bool) → (a || b) ≡ true → (a ≡ true) ⊎ (b ≡ true)
-or_cases true b h = inl refl
-or_cases false b h = inr h
-
 -- a hexadecimal digit that is no digit is a letter
 hex_is_letter : (b : ℕ) → is_digit b ≡ false → is_hex_digit b ≡ true → is_letter b ≡ true
 hex_is_letter b d h = elim (or_cases (is_digit b) ((leb 97 b && leb b 102) || (leb 65 b && leb b 70)) h) [
@@ -71,7 +63,7 @@ hex_is_letter b d h = elim (or_cases (is_digit b) ((leb 97 b && leb b 102) || (l
 -- a byte that is no digit and no letter has no class of a word's
 no_word_class : (b : ℕ) → is_digit b ≡ false → is_letter b ≡ false → among word_bytes (class_of b) ≡ false
 unfolding class_of
-no_word_class b d n = elim (bool_cases (is_hex_digit b)) [
+no_word_class b d n = elim (cases_Bool (is_hex_digit b)) [
   | inl h ↦ true_is_not_false (is_letter b) (hex_is_letter b d h) n
   | inr h ↦
       let c : class_of b ≡ sign_class b =
@@ -88,15 +80,15 @@ digit_no_letter b d =
     ∙ not-true (among letters (cond (b == 48) 3 4)) (if_has (λ c. not (among letters c)) (b == 48) 3 4 refl refl)
 
 pub word_byte_of : (b : ℕ) → among word_bytes (class_of b) ≡ true → is_word_byte b ≡ true
-word_byte_of b h = elim (bool_cases (is_digit b)) [
+word_byte_of b h = elim (cases_Bool (is_digit b)) [
   | inl d ↦ or_right (is_letter b) (is_digit b) d
-  | inr d ↦ elim (bool_cases (is_letter b)) [ inl n ↦ rw n refl | inr n ↦ true_is_not_false (among word_bytes (class_of b)) h (no_word_class b d n) ]
+  | inr d ↦ elim (cases_Bool (is_letter b)) [ inl n ↦ rw n refl | inr n ↦ true_is_not_false (among word_bytes (class_of b)) h (no_word_class b d n) ]
 ]
 
 pub letter_of : (b : ℕ) → among letters (class_of b) ≡ true → is_letter b ≡ true
-letter_of b h = elim (bool_cases (is_digit b)) [
+letter_of b h = elim (cases_Bool (is_digit b)) [
   | inl d ↦ true_is_not_false (among letters (class_of b)) h (digit_no_letter b d)
-  | inr d ↦ elim (bool_cases (is_letter b)) [ inl n ↦ n | inr n ↦ true_is_not_false (among word_bytes (class_of b)) (among-left letters digits (class_of b) h) (no_word_class b d n) ]
+  | inr d ↦ elim (cases_Bool (is_letter b)) [ inl n ↦ n | inr n ↦ true_is_not_false (among word_bytes (class_of b)) (among-left letters digits (class_of b) h) (no_word_class b d n) ]
 ]
 
 -- a letter has a class of a word's
@@ -106,7 +98,7 @@ letter_class b d n =
     let own : ℕ = cond (b == 120 || b == 88) 2 0 in
     let third : ℕ = cond (is_letter b) own (sign_class b) in
     let first : class_of b ≡ cond (is_hex_digit b) 1 third = if_false (is_digit b) (cond (b == 48) 3 4) (cond (is_hex_digit b) 1 third) d in
-    elim (bool_cases (is_hex_digit b)) [
+    elim (cases_Bool (is_hex_digit b)) [
       | inl h ↦ ap (among word_bytes) (first ∙ if_true (is_hex_digit b) 1 third h)
       | inr h ↦ ap (among word_bytes) (first ∙ if_false (is_hex_digit b) 1 third h ∙ if_true (is_letter b) own (sign_class b) n) ∙ if_has (among word_bytes) (b == 120 || b == 88) 2 0 refl refl
     ]
@@ -121,16 +113,12 @@ or_left : (a b : Bool) → a ≡ true → (a || b) ≡ true
 or_left true b h = refl
 or_left false b h = absurd cc
 
-or_none : (a b : Bool) → a ≡ false → b ≡ false → (a || b) ≡ false
-or_none true b g h = absurd cc
-or_none false b g h = h
-
 -- the bytes of words are the letters, the digits and the underscore
 pub word_byte_is : (b : ℕ) → among word_bytes (class_of b) ≡ is_word_byte b
-word_byte_is b = elim (bool_cases (is_digit b)) [
+word_byte_is b = elim (cases_Bool (is_digit b)) [
   | inl d ↦ digit_class b d ∙ sym (or_right (is_letter b) (is_digit b) d)
-  | inr d ↦ elim (bool_cases (is_letter b)) [
+  | inr d ↦ elim (cases_Bool (is_letter b)) [
     | inl n ↦ letter_class b d n ∙ sym (or_left (is_letter b) (is_digit b) n)
-    | inr n ↦ no_word_class b d n ∙ sym (or_none (is_letter b) (is_digit b) n d)
+    | inr n ↦ no_word_class b d n ∙ sym (or_from (is_letter b) (is_digit b) n d)
   ]
 ]

@@ -2,11 +2,11 @@
 use Rattle.std.proofs.Common.{arith, ◌≡◌, ℕ, Bool, true, false, cond, List, [], ◌∷◌, refl, sym, ap, subst, ◌∙◌, ◌⊎◌, inl, inr}
 use Rattle.std.specs.Prelude.{◌==◌, ◌&&◌, ◌||◌, not}
 use Rattle.std.specs.List.{list_all}
-use Rattle.std.proofs.lemmas.Bool.{eqb-true, and_parts, not-true}
+use Rattle.std.proofs.lemmas.Bool.{eqb-true, and_parts, not-true, cases_Bool}
 use Rattle.cam_base.specs.Names.{is_letter}
 use Rattle.cam_base.specs.Numbers.{is_digit, is_hex_digit}
 use Rattle.grammar.specs.Form.{among}
-use Rattle.grammar.proofs.Codes.{bool_cases, true_is_not_false, if_true, if_false}
+use Rattle.grammar.proofs.Codes.{true_is_not_false, if_true, if_false}
 use Rattle.adl_lexer.specs.Classes.{class_of, class_in, sign_class, sign_rows, mark_class, mark_rows, left_out_class, left_out_rows, blanks, letters, digits, hex_digits, line_bytes}
 
 -- what is true of each row's class and of c is true of the class that is given
@@ -14,7 +14,7 @@ class_in_has : (Q : ℕ → Bool) (rows : List (ℕ × ℕ)) (c b : ℕ) → lis
 class_in_has Q [] c b h g = g
 class_in_has Q (row ∷ rows) c b h g =
     let p = and_parts (Q row.1) (list_all (λ row. Q row.1) rows) h in
-    elim (bool_cases (b == row.0)) [ inl e ↦ rw e p.0 | inr e ↦ rw e (class_in_has Q rows c b p.1 g) ]
+    elim (cases_Bool (b == row.0)) [ inl e ↦ rw e p.0 | inr e ↦ rw e (class_in_has Q rows c b p.1 g) ]
 
 pub sign_has : (Q : ℕ → Bool) (b : ℕ) → list_all (λ row. Q row.1) sign_rows ≡ true → list_all (λ row. Q row.1) mark_rows ≡ true → list_all (λ row. Q row.1) left_out_rows ≡ true → Q 25 ≡ true → Q (sign_class b) ≡ true
 sign_has Q b h g k l = class_in_has Q sign_rows (mark_class b) b h (class_in_has Q mark_rows (left_out_class b) b g (class_in_has Q left_out_rows 25 b k l))
@@ -50,7 +50,7 @@ digit_class b h = rw h (if_has (among digits) (b == 48) 3 4 refl refl)
 
 pub hex_class : (b : ℕ) → is_hex_digit b ≡ true → among hex_digits (class_of b) ≡ true
 unfolding class_of
-hex_class b h = elim (bool_cases (is_digit b)) [
+hex_class b h = elim (cases_Bool (is_digit b)) [
   | inl d ↦ rw d (if_has (among hex_digits) (b == 48) 3 4 refl refl)
   | inr d ↦ let e : class_of b ≡ 1 = if_false (is_digit b) _ _ d ∙ if_true (is_hex_digit b) _ _ h in rw e refl
 ]
@@ -61,8 +61,8 @@ four_is_not_three c d p q e = absurd (omega (arith, p, q, e))
 -- the digit of the class of 0 is 0
 pub zero_class : (b : ℕ) → class_of b ≡ 3 → b ≡ 48
 unfolding class_of
-zero_class b h = elim (bool_cases (is_digit b)) [
-  | inl d ↦ elim (bool_cases (b == 48)) [
+zero_class b h = elim (cases_Bool (is_digit b)) [
+  | inl d ↦ elim (cases_Bool (b == 48)) [
     | inl e ↦ eqb-true b 48 e
     | inr e ↦ four_is_not_three (class_of b) (class_of b) (if_true (is_digit b) (cond (b == 48) 3 4) (no_digit b) d ∙ if_false (b == 48) 3 4 e) h refl
   ]
@@ -71,16 +71,16 @@ zero_class b h = elim (bool_cases (is_digit b)) [
 
 pub not_zero_class : (b : ℕ) → class_of b ≡ 4 → (b == 48) ≡ false
 unfolding class_of
-not_zero_class b h = elim (bool_cases (b == 48)) [
+not_zero_class b h = elim (cases_Bool (b == 48)) [
   | inl e ↦ let same : b ≡ 48 = eqb-true b 48 e in let p : class_of 48 ≡ 4 = subst (λ (z : ℕ). class_of z ≡ 4) same h in absurd cc
   | inr e ↦ e
 ]
 
 pub cross_class : (b : ℕ) → (b == 120 || b == 88) ≡ true → class_of b ≡ 2
 unfolding class_of
-cross_class b h = elim (bool_cases (b == 120)) [
+cross_class b h = elim (cases_Bool (b == 120)) [
   | inl e ↦ rw (eqb-true b 120 e) refl
-  | inr e ↦ elim (bool_cases (b == 88)) [
+  | inr e ↦ elim (cases_Bool (b == 88)) [
     | inl f ↦ rw (eqb-true b 88 f) refl
     | inr f ↦ true_is_not_false (b == 120 || b == 88) h (rw (e, f) refl)
   ]
@@ -88,19 +88,19 @@ cross_class b h = elim (bool_cases (b == 120)) [
 
 -- the one class among one
 pub one_of : (c d : ℕ) → among (d ∷ []) c ≡ true → c ≡ d
-one_of c d h = elim (bool_cases (c == d)) [ inl e ↦ eqb-true c d e | inr e ↦ true_is_not_false (among (d ∷ []) c) h (rw e refl) ]
+one_of c d h = elim (cases_Bool (c == d)) [ inl e ↦ eqb-true c d e | inr e ↦ true_is_not_false (among (d ∷ []) c) h (rw e refl) ]
 
 -- the classes of digits
 pub digit_cases : (c : ℕ) → among digits c ≡ true → (c ≡ 3) ⊎ (c ≡ 4)
-digit_cases c h = elim (bool_cases (c == 3)) [ inl e ↦ inl (eqb-true c 3 e) | inr e ↦ inr (one_of c 4 (sym (if_false (c == 3) true (among (4 ∷ []) c) e) ∙ h)) ]
+digit_cases c h = elim (cases_Bool (c == 3)) [ inl e ↦ inl (eqb-true c 3 e) | inr e ↦ inr (one_of c 4 (sym (if_false (c == 3) true (among (4 ∷ []) c) e) ∙ h)) ]
 
 pub blank_cases : (c : ℕ) → among blanks c ≡ true → (c ≡ 5) ⊎ (c ≡ 6)
-blank_cases c h = elim (bool_cases (c == 5)) [ inl e ↦ inl (eqb-true c 5 e) | inr e ↦ inr (one_of c 6 (sym (if_false (c == 5) true (among (6 ∷ []) c) e) ∙ h)) ]
+blank_cases c h = elim (cases_Bool (c == 5)) [ inl e ↦ inl (eqb-true c 5 e) | inr e ↦ inr (one_of c 6 (sym (if_false (c == 5) true (among (6 ∷ []) c) e) ∙ h)) ]
 
 pub letter_cases : (c : ℕ) → among letters c ≡ true → (c ≡ 0) ⊎ ((c ≡ 1) ⊎ (c ≡ 2))
-letter_cases c h = elim (bool_cases (c == 0)) [
+letter_cases c h = elim (cases_Bool (c == 0)) [
   | inl e ↦ inl (eqb-true c 0 e)
-  | inr e ↦ elim (bool_cases (c == 1)) [
+  | inr e ↦ elim (cases_Bool (c == 1)) [
     | inl f ↦ inr (inl (eqb-true c 1 f))
     | inr f ↦ inr (inr (one_of c 2 (sym (if_false (c == 1) true (among (2 ∷ []) c) f) ∙ sym (if_false (c == 0) true (among (1 ∷ 2 ∷ []) c) e) ∙ h)))
   ]
@@ -116,13 +116,13 @@ pub not_within : (cs ds : List ℕ) (c : ℕ) → within cs ds ≡ true → amon
 not_within [] ds c w h = refl
 not_within (d ∷ cs) ds c w h =
     let p = and_parts (among ds d) (within cs ds) w in
-    elim (bool_cases (c == d)) [
+    elim (cases_Bool (c == d)) [
       | inl e ↦ true_is_not_false (among ds c) (rw (eqb-true c d e) p.0) h
       | inr e ↦ rw e (not_within cs ds c p.1 h)
     ]
 
 pub line_byte : (b : ℕ) → among line_bytes (class_of b) ≡ not (class_of b == 6)
-line_byte b = elim (bool_cases (class_of b == 6)) [
+line_byte b = elim (cases_Bool (class_of b == 6)) [
   | inl e ↦ rw (eqb-true (class_of b) 6 e) refl
   | inr e ↦ sym (if_false (class_of b == 6) true (among line_bytes (class_of b)) e) ∙ in_line b ∙ ap not (sym e)
 ]

@@ -1,10 +1,10 @@
 -- Blanks and comments.
 use Rattle.std.proofs.Common.{◌≡◌, ℕ, ◌<◌, ◌≤◌, Bool, true, false, cond, List, [], ◌∷◌, length, Some, None, refl, sym, ◌∙◌, arith, inl, inr}
 use Rattle.std.specs.Prelude.{◌==◌, ◌&&◌}
-use Rattle.std.proofs.lemmas.Bool.{eqb-true}
+use Rattle.std.proofs.lemmas.Bool.{eqb-true, cases_Bool}
 use Rattle.cam_base.specs.declared.code.Code.{Code}
 use Rattle.grammar.specs.Form.{among}
-use Rattle.grammar.proofs.Codes.{bool_cases, if_true, if_false}
+use Rattle.grammar.proofs.Codes.{if_true, if_false}
 use Rattle.adl_lexer.specs.Classes.{class_of, blanks, slash}
 use Rattle.adl_lexer.specs.Gaps.{after_close, after_line, after_comment, one_gap, IsGap, none, more}
 use Rattle.adl_lexer.specs.LexFaults.{fault_at, slash_fault}
@@ -15,9 +15,9 @@ use Rattle.adl_lexer.proofs.Readings.{none_is_not, some_of}
 -- a gap begins with no byte of a token
 pub gap_class : (b : ℕ) (cs ds : List ℕ) → one_gap (b ∷ cs) ≡ Some ds → among token_first (class_of b) ≡ false
 unfolding one_gap
-gap_class b cs ds e = elim (bool_cases (among blanks (class_of b))) [
+gap_class b cs ds e = elim (cases_Bool (among blanks (class_of b))) [
   | inl h ↦ elim (blank_cases (class_of b) h) [ inl c ↦ rw c refl | inr c ↦ rw c refl ]
-  | inr h ↦ elim (bool_cases (class_of b == slash)) [
+  | inr h ↦ elim (cases_Bool (class_of b == slash)) [
     | inl g ↦ rw (eqb-true (class_of b) slash g) refl
     | inr g ↦ none_is_not ds (sym (if_false (class_of b == slash) (after_comment cs) None g) ∙ sym (if_false (among blanks (class_of b)) (Some cs) (cond (class_of b == slash) (after_comment cs) None) h) ∙ e)
   ]
@@ -25,19 +25,19 @@ gap_class b cs ds e = elim (bool_cases (among blanks (class_of b))) [
 
 after_line_le : (bs : List ℕ) → length (after_line bs) ≤ length bs
 after_line_le [] = omega arith
-after_line_le (b ∷ bs) = elim (bool_cases (b == 10)) [ inl h ↦ rw h (omega arith) | inr h ↦ let le = after_line_le bs in rw h (omega arith) ]
+after_line_le (b ∷ bs) = elim (cases_Bool (b == 10)) [ inl h ↦ rw h (omega arith) | inr h ↦ let le = after_line_le bs in rw h (omega arith) ]
 
 after_close_le : (bs cs : List ℕ) → after_close bs ≡ Some cs → length cs ≤ length bs
 after_close_le [] cs e = none_is_not cs e
 after_close_le (a ∷ []) cs e = none_is_not cs e
-after_close_le (a ∷ b ∷ bs) cs e = elim (bool_cases (a == 42 && b == 47)) [
+after_close_le (a ∷ b ∷ bs) cs e = elim (cases_Bool (a == 42 && b == 47)) [
   | inl h ↦ let same = some_of bs cs (sym (if_true (a == 42 && b == 47) (Some bs) (after_close (b ∷ bs)) h) ∙ e) in rw (← same) (omega arith)
   | inr h ↦ let le = after_close_le (b ∷ bs) cs (sym (if_false (a == 42 && b == 47) (Some bs) (after_close (b ∷ bs)) h) ∙ e) in omega arith
 ]
 
 after_comment_le : (bs cs : List ℕ) → after_comment bs ≡ Some cs → length cs ≤ length bs
 after_comment_le [] cs e = none_is_not cs e
-after_comment_le (b ∷ bs) cs e = elim (bool_cases (b == 47)) [
+after_comment_le (b ∷ bs) cs e = elim (cases_Bool (b == 47)) [
   | inl h ↦ let same = some_of (after_line bs) cs (sym (if_true (b == 47) (Some (after_line bs)) (cond (b == 42) (after_close bs) None) h) ∙ e) in let le = after_line_le bs in rw (← same) (omega arith)
   | inr h ↦ go (b == 42) (sym (if_false (b == 47) (Some (after_line bs)) (cond (b == 42) (after_close bs) None) h) ∙ e)
 ]
@@ -68,9 +68,9 @@ none_fault f e = absurd cc
 pub fault_no_gap : (bs cs : List ℕ) (f : Code × List ℕ) → fault_at bs ≡ Some f → one_gap bs ≡ Some cs → ⊥
 unfolding fault_at one_gap
 fault_no_gap [] cs f h e = none_is_not cs e
-fault_no_gap (b ∷ bs) cs f h e = elim (bool_cases (among blanks (class_of b))) [
+fault_no_gap (b ∷ bs) cs f h e = elim (cases_Bool (among blanks (class_of b))) [
   | inl g ↦ elim (blank_cases (class_of b) g) [ inl c ↦ none_fault f (sym (let p : fault_at (b ∷ bs) ≡ None = rw c refl in p) ∙ h) | inr c ↦ none_fault f (sym (let p : fault_at (b ∷ bs) ≡ None = rw c refl in p) ∙ h) ]
-  | inr g ↦ elim (bool_cases (class_of b == slash)) [
+  | inr g ↦ elim (cases_Bool (class_of b == slash)) [
     | inl k ↦
         let c = eqb-true (class_of b) slash k in
         let gap : after_comment bs ≡ Some cs = sym (let p : one_gap (b ∷ bs) ≡ after_comment bs = rw c refl in p) ∙ e in

@@ -3,16 +3,17 @@ use Rattle.std.proofs.Common.{◌≡◌, ℕ, true, false, List, [], ◌∷◌, 
 use Rattle.std.specs.Prelude.{◌↔◌}
 use Rattle.std.specs.Str.{bytes_eq}
 use Rattle.std.proofs.lemmas.Slice.Eq.{bytes_eq-Decides}
+use Rattle.std.proofs.lemmas.Bool.{cases_Bool}
 use Rattle.cam_base.specs.declared.token.Keyword.{Keyword}
 use Rattle.cam_base.specs.declared.token.Keyword.TheVariants as keys
-use Rattle.grammar.proofs.Codes.{bool_cases, if_true, if_false, true_is_not_false}
+use Rattle.grammar.proofs.Codes.{if_true, if_false, true_is_not_false}
 use Rattle.adl_lexer.specs.Candidates.{candidate}
 use Rattle.adl_lexer.specs.Keywords.{spelling, all_keywords, named_by, keyword_of}
 
 -- the keyword that is found has this word
 found : (ks : List Keyword) (word : List ℕ) (k : Keyword) → named_by ks word ≡ Some k → bytes_eq (spelling k) word ≡ true
 found [] word k e = absurd cc
-found (j ∷ ks) word k e = elim (bool_cases (bytes_eq (spelling j) word)) [
+found (j ∷ ks) word k e = elim (cases_Bool (bytes_eq (spelling j) word)) [
   | inl h ↦ let same : Some j ≡ Some k = sym (if_true (bytes_eq (spelling j) word) (Some j) (named_by ks word) h) ∙ e in subst (λ (i : Keyword). bytes_eq (spelling i) word ≡ true) (let p : j ≡ k = cc in p) h
   | inr h ↦ found ks word k (sym (if_false (bytes_eq (spelling j) word) (Some j) (named_by ks word) h) ∙ e)
 ]

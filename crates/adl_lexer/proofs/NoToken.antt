@@ -2,6 +2,7 @@
 use Rattle.std.proofs.Common.{◌≡◌, ℕ, Bool, true, false, List, [], ◌∷◌, ◌++◌, Option, Result, Some, None, Ok, Err, refl, sym, ap, subst, ◌∙◌, inl, inr}
 use Rattle.std.specs.Prelude.{◌==◌, ◌&&◌, nat_lt, length}
 use Rattle.std.specs.List.{list_all}
+use Rattle.std.proofs.lemmas.Bool.{cases_Bool}
 use Rattle.cam_base.specs.declared.code.Code.{Code}
 use Rattle.cam_base.specs.declared.code.Code.TheVariants as code
 use Rattle.cam_base.specs.declared.token.Kind.{Kind}
@@ -11,7 +12,7 @@ use Rattle.grammar.specs.Deciding.{can_be_empty, further}
 use Rattle.grammar.specs.Form.{among}
 use Rattle.grammar.specs.Reading.{starts, too_deep}
 use Rattle.grammar.specs.Spelling.{Spells}
-use Rattle.grammar.proofs.Codes.{apart_none, bool_cases, true_is_not_false, if_true}
+use Rattle.grammar.proofs.Codes.{apart_none, true_is_not_false, if_true}
 use Rattle.grammar.proofs.Laws.{spelled_starts}
 use Rattle.grammar.proofs.Theorems.{starts_none}
 use Rattle.grammar.proofs.Whole.{Exact}
@@ -68,18 +69,18 @@ unless_no_byte (Some rest) c text h = refl
 
 word_no_byte : (word : List ℕ) → is_byte (word_fault word) ≡ false
 unfolding is_byte is_code
-word_no_byte word = elim (bool_cases (nat_lt 127 (length word))) [
+word_no_byte word = elim (cases_Bool (nat_lt 127 (length word))) [
   | inl h ↦ rw h refl
-  | inr h ↦ elim (bool_cases (is_left_out_word word)) [ inl g ↦ rw (h, g) refl | inr g ↦ rw (h, g) refl ]
+  | inr h ↦ elim (cases_Bool (is_left_out_word word)) [ inl g ↦ rw (h, g) refl | inr g ↦ rw (h, g) refl ]
 ]
 
 number_no_byte : (o : Option ℕ) (text rest : List ℕ) → is_byte (number_fault_by o text rest) ≡ false
 unfolding is_byte is_code
 number_no_byte None text rest = refl
-number_no_byte (Some n) text rest = elim (bool_cases (list_all is_digit text && is_fraction rest)) [ inl h ↦ rw h refl | inr h ↦ rw h refl ]
+number_no_byte (Some n) text rest = elim (cases_Bool (list_all is_digit text && is_fraction rest)) [ inl h ↦ rw h refl | inr h ↦ rw h refl ]
 
 not_that : (c d : ℕ) → among (d ∷ []) c ≡ false → (c == d) ≡ false
-not_that c d h = elim (bool_cases (c == d)) [ inl e ↦ true_is_not_false (among (d ∷ []) c) (rw e refl) h | inr e ↦ e ]
+not_that c d h = elim (cases_Bool (c == d)) [ inl e ↦ true_is_not_false (among (d ∷ []) c) (rw e refl) h | inr e ↦ e ]
 
 mark_no_byte : (b : ℕ) (bs : List ℕ) → among mark_bytes (class_of b) ≡ true → is_byte (fault_at (b ∷ bs)) ≡ false
 unfolding fault_at is_byte is_code
@@ -106,7 +107,7 @@ is_stopped (Err e) = true
 no_angle : (b : ℕ) (bs : List ℕ) → class_of b ≡ less → after_byte minus bs ≡ None → after_angle bs ≡ None → is_stopped (reads less_line (b ∷ bs)) ≡ true
 unfolding less_line is_stopped
 no_angle b [] h g e = rw h refl
-no_angle b (c ∷ bs) h g e = elim (bool_cases (among angle_first (class_of c))) [
+no_angle b (c ∷ bs) h g e = elim (cases_Bool (among angle_first (class_of c))) [
   | inl f ↦ ends (after_run angle_bytes bs) refl f (sym (if_true (among angle_first (class_of c)) (after_byte greater (after_run angle_bytes bs)) None f) ∙ e)
   | inr f ↦ rw (h, not_one_byte minus (c ∷ bs) g, f) refl
 ]

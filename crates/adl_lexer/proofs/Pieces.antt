@@ -1,11 +1,11 @@
 -- What stands at the front, by the class of the first byte.
 use Rattle.std.proofs.Common.{◌≡◌, ℕ, true, false, List, ◌∷◌, Option, Result, Some, None, refl, sym, subst, ◌∙◌, inl, inr}
 use Rattle.std.specs.Prelude.{◌==◌}
-use Rattle.std.proofs.lemmas.Bool.{eqb-true}
+use Rattle.std.proofs.lemmas.Bool.{ne_eqb}
 use Rattle.cam_base.specs.declared.token.Kind.{Kind}
 use Rattle.grammar.specs.declared.error.Stop.{Stop}
 use Rattle.grammar.specs.Form.{among}
-use Rattle.grammar.proofs.Codes.{bool_cases, if_true}
+use Rattle.grammar.proofs.Codes.{if_true}
 use Rattle.adl_lexer.specs.declared.piece.Piece.{Piece}
 use Rattle.adl_lexer.specs.declared.piece.Piece.TheVariants as pieces
 use Rattle.adl_lexer.specs.Classes.{class_of, run, after_run, letters, digits, blanks, word_bytes, quote, less, minus, slash}
@@ -53,9 +53,6 @@ module _ (b : ℕ) (rest : List ℕ) where
   unfolding fault_at one_gap
   sign_front p h1 h2 h3 h4 h5 h6 h7 fit = fits_as p (rw (h1, h2, h7, h5, h6) refl) (rw (h1, h2, h3, h4, h5, h6, h7) refl) (rw (h3, h4) refl) fit
 
-differs : (c d : ℕ) → (c ≡ d → ⊥) → (c == d) ≡ false
-differs c d h = elim (bool_cases (c == d)) [ inl e ↦ absurd (h (eqb-true c d e)) | inr e ↦ e ]
-
 module _ (b : ℕ) (bs rest : List ℕ) (p : Piece) (cut : bs ≡ b ∷ rest) where
   pub word_piece : among letters (class_of b) ≡ true → Fits (reads word_line bs) (word_fault (run word_bytes bs)) None p → IsPiece bs p
   word_piece h fit = subst (λ (w : List ℕ). IsPiece w p) (sym cut) (word_front b rest p h (subst (λ (w : List ℕ). Fits (reads word_line w) (word_fault (run word_bytes w)) None p) cut fit))
@@ -76,7 +73,7 @@ module _ (b : ℕ) (bs rest : List ℕ) (p : Piece) (cut : bs ≡ b ∷ rest) wh
   text_piece h fit = subst (λ (w : List ℕ). IsPiece w p) (sym cut) (text_front b rest p h (subst (λ (w : List ℕ). Fits (reads text_line w) (text_fault w) None p) cut fit))
 
   pub sign_piece : among letters (class_of b) ≡ false → among digits (class_of b) ≡ false → among blanks (class_of b) ≡ false → (class_of b ≡ slash → ⊥) → (class_of b ≡ less → ⊥) → (class_of b ≡ minus → ⊥) → (class_of b ≡ quote → ⊥) → Fits (reads mark_line bs) (sign_fault bs) None p → IsPiece bs p
-  sign_piece h1 h2 h3 h4 h5 h6 h7 fit = subst (λ (w : List ℕ). IsPiece w p) (sym cut) (sign_front b rest p h1 h2 h3 (differs (class_of b) slash h4) (differs (class_of b) less h5) (differs (class_of b) minus h6) (differs (class_of b) quote h7) (subst (λ (w : List ℕ). Fits (reads mark_line w) (sign_fault w) None p) cut fit))
+  sign_piece h1 h2 h3 h4 h5 h6 h7 fit = subst (λ (w : List ℕ). IsPiece w p) (sym cut) (sign_front b rest p h1 h2 h3 (ne_eqb (class_of b) slash h4) (ne_eqb (class_of b) less h5) (ne_eqb (class_of b) minus h6) (ne_eqb (class_of b) quote h7) (subst (λ (w : List ℕ). Fits (reads mark_line w) (sign_fault w) None p) cut fit))
 
 -- a blank is passed
 pub blank_piece : (b : ℕ) (bs rest : List ℕ) → bs ≡ b ∷ rest → among blanks (class_of b) ≡ true → one_gap bs ≡ Some rest

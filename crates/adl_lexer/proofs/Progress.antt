@@ -1,7 +1,7 @@
 -- At each byte stands a blank, a comment, a token or a fault.
 use Rattle.std.proofs.Common.{◌≡◌, ℕ, Bool, true, false, cond, List, [], ◌∷◌, Option, Some, None, Ok, refl, sym, ap, ◌∙◌, ◌⊎◌, inl, inr}
 use Rattle.std.specs.Prelude.{◌==◌}
-use Rattle.std.proofs.lemmas.Bool.{eqb-true}
+use Rattle.std.proofs.lemmas.Bool.{eqb-true, cases_Bool}
 use Rattle.cam_base.specs.declared.code.Code.{Code}
 use Rattle.cam_base.specs.declared.code.Code.TheVariants as code
 use Rattle.cam_base.specs.declared.token.Kind.{Kind}
@@ -9,7 +9,7 @@ use Rattle.cam_base.specs.declared.token.Kind.TheVariants as kinds
 use Rattle.cam_base.specs.declared.token.Mark.TheVariants as marks
 use Rattle.cam_base.specs.Numbers.{number_value}
 use Rattle.grammar.specs.Form.{among}
-use Rattle.grammar.proofs.Codes.{bool_cases, if_true, if_false}
+use Rattle.grammar.proofs.Codes.{if_true, if_false}
 use Rattle.adl_lexer.specs.Classes.{class_of, run, after_run, letters, digits, blanks, mark_bytes, word_bytes, line_bytes, left_out, quote, less, minus, greater, slash}
 use Rattle.adl_lexer.specs.Gaps.{after_comment, one_gap}
 use Rattle.adl_lexer.specs.LexFaults.{Found, unless, or_else, after_text, after_byte, after_angle, is_star, number_fault_by, fault_at, text_fault, less_fault, minus_fault, slash_fault, sign_fault}
@@ -78,7 +78,7 @@ module _ (b : ℕ) (bs : List ℕ) (clean : fault_at (b ∷ bs) ≡ None) where
       some_is_not r.0 (sym r.1 ∙ sym none_left ∙ gap)
 
 first_or_later : (c : ℕ) (cs : List ℕ) (x : ℕ) → among (c ∷ cs) x ≡ true → (x ≡ c) ⊎ (among cs x ≡ true)
-first_or_later c cs x h = elim (bool_cases (x == c)) [ inl e ↦ inl (eqb-true x c e) | inr e ↦ inr (sym (if_false (x == c) true (among cs x) e) ∙ h) ]
+first_or_later c cs x h = elim (cases_Bool (x == c)) [ inl e ↦ inl (eqb-true x c e) | inr e ↦ inr (sym (if_false (x == c) true (among cs x) e) ∙ h) ]
 
 mark_read : (b : ℕ) (bs : List ℕ) → among mark_bytes (class_of b) ≡ true → (k : Kind) × (reads mark_line (b ∷ bs) ≡ Ok (k, bs))
 unfolding mark_line
@@ -149,25 +149,25 @@ module _ (b : ℕ) (bs : List ℕ) (gap : one_gap (b ∷ bs) ≡ None) (clean : 
   -- where no blank and no comment begins and no fault stands, a token does
   pub progress : HasToken (b ∷ bs)
   progress =
-      elim (bool_cases (among letters (class_of b))) [
+      elim (cases_Bool (among letters (class_of b))) [
         | inl h ↦ word_progress b bs clean h
         | inr h1 ↦
-            elim (bool_cases (among digits (class_of b))) [
+            elim (cases_Bool (among digits (class_of b))) [
               | inl h ↦ number_progress b bs clean h
               | inr h2 ↦
-                  elim (bool_cases (among blanks (class_of b))) [
+                  elim (cases_Bool (among blanks (class_of b))) [
                     | inl h ↦ blank_progress h
                     | inr h3 ↦
-                        elim (bool_cases (class_of b == slash)) [
+                        elim (cases_Bool (class_of b == slash)) [
                           | inl h ↦ slash_progress b bs clean (eqb-true (class_of b) slash h) gap
                           | inr h4 ↦
-                              elim (bool_cases (class_of b == less)) [
+                              elim (cases_Bool (class_of b == less)) [
                                 | inl h ↦ less_progress b bs clean (eqb-true (class_of b) less h)
                                 | inr h5 ↦
-                                    elim (bool_cases (class_of b == minus)) [
+                                    elim (cases_Bool (class_of b == minus)) [
                                       | inl h ↦ minus_progress b bs clean (eqb-true (class_of b) minus h)
                                       | inr h6 ↦
-                                          elim (bool_cases (class_of b == quote)) [ inl h ↦ text_progress b bs clean (eqb-true (class_of b) quote h) | inr h7 ↦ sign_progress h1 h2 h3 h4 h5 h6 h7 ]
+                                          elim (cases_Bool (class_of b == quote)) [ inl h ↦ text_progress b bs clean (eqb-true (class_of b) quote h) | inr h7 ↦ sign_progress h1 h2 h3 h4 h5 h6 h7 ]
                                     ]
                               ]
                         ]

@@ -2,14 +2,14 @@
 use Rattle.std.proofs.Common.{◌≡◌, ℕ, Bool, true, false, List, [], ◌∷◌, length, Ok, Some, None, refl, sym, ap, subst, ◌∙◌, arith, inl, inr}
 use Rattle.std.specs.Prelude.{◌==◌, ◌&&◌, ◌||◌}
 use Rattle.std.specs.List.{list_all}
-use Rattle.std.proofs.lemmas.Bool.{eqb-true, and_parts}
+use Rattle.std.proofs.lemmas.Bool.{eqb-true, and_parts, cases_Bool}
 use Rattle.cam_base.specs.declared.token.Kind.TheVariants as kinds
 use Rattle.cam_base.specs.declared.token.Mark.TheVariants as marks
 use Rattle.cam_base.specs.Numbers.{is_digit, is_hex_digit, is_decimal, is_hexadecimal, fits, number_value}
 use Rattle.grammar.specs.Form.{among}
 use Rattle.grammar.specs.Reading.{◌>>=◌, Reader, many, starts, too_deep}
 use Rattle.grammar.specs.Deciding.{can_be_empty}
-use Rattle.grammar.proofs.Codes.{bool_cases, if_true, if_false, among-left, among-right}
+use Rattle.grammar.proofs.Codes.{if_true, if_false, among-left, among-right}
 use Rattle.adl_lexer.specs.Classes.{class_of, run, after_run, letters, digits, hex_digits, word_bytes, plain_bytes, line_bytes, angle_first, angle_bytes, cross, line_feed, quote, less, minus, greater, backslash}
 use Rattle.adl_lexer.specs.LexFaults.{after_text, after_byte, after_angle}
 use Rattle.adl_lexer.specs.TokenKinds.{reads, flat, word_kind, number_kind, kind_of_value, word_line, hex_line, number_line, text_item, text_line, less_line, arrow_line}
@@ -42,14 +42,14 @@ some_of x y e = cc
 -- one byte of a class comes next
 one_byte : (c : ℕ) (bs rest : List ℕ) → after_byte c bs ≡ Some rest → (b : ℕ) × (bs ≡ b ∷ rest) × (class_of b ≡ c)
 one_byte c [] rest e = none_is_not rest e
-one_byte c (b ∷ bs) rest e = elim (bool_cases (class_of b == c)) [
+one_byte c (b ∷ bs) rest e = elim (cases_Bool (class_of b == c)) [
   | inl f ↦ (b, ap (λ (w : List ℕ). b ∷ w) (some_of bs rest (sym (if_true (class_of b == c) (Some bs) None f) ∙ e)), eqb-true (class_of b) c f)
   | inr f ↦ none_is_not rest (sym (if_false (class_of b == c) (Some bs) None f) ∙ e)
 ]
 
 pub not_one_byte : (c : ℕ) (bs : List ℕ) → after_byte c bs ≡ None → starts class_of (c ∷ []) bs ≡ false
 not_one_byte c [] e = refl
-not_one_byte c (b ∷ bs) e = elim (bool_cases (class_of b == c)) [
+not_one_byte c (b ∷ bs) e = elim (cases_Bool (class_of b == c)) [
   | inl f ↦ none_is_not bs (sym e ∙ if_true (class_of b == c) (Some bs) None f)
   | inr f ↦ rw f refl
 ]
@@ -58,7 +58,7 @@ not_one_byte c (b ∷ bs) e = elim (bool_cases (class_of b == c)) [
 pub angle_read : (b : ℕ) (bs rest : List ℕ) → class_of b ≡ less → after_byte minus bs ≡ None → after_angle bs ≡ Some rest → reads less_line (b ∷ bs) ≡ Ok (kinds.Angle, rest)
 unfolding less_line
 angle_read b [] rest h g e = none_is_not rest e
-angle_read b (c ∷ bs) rest h g e = elim (bool_cases (among angle_first (class_of c))) [
+angle_read b (c ∷ bs) rest h g e = elim (cases_Bool (among angle_first (class_of c))) [
   | inl f ↦
       let end = one_byte greater (after_run angle_bytes bs) rest (sym (if_true (among angle_first (class_of c)) (after_byte greater (after_run angle_bytes bs)) None f) ∙ e) in
       rw (h, not_one_byte minus (c ∷ bs) g, f, run_is angle_bytes bs, end.1, end.2) refl
@@ -114,24 +114,24 @@ body_step bs after rest h e p = (tt ∷ p.0, p.1, item_step bs after h e p.0 (p.
 
 text_body : (bs rest : List ℕ) → after_text bs ≡ Some rest → IsBody bs rest
 text_body [] rest e = none_is_not rest e
-text_body (b ∷ []) rest e = elim (bool_cases (class_of b == quote)) [
+text_body (b ∷ []) rest e = elim (cases_Bool (class_of b == quote)) [
   | inl h ↦
       let q = eqb-true (class_of b) quote h in
       let same = some_of [] rest (sym (if_true (class_of b == quote) (Some []) None h) ∙ e) in
       ([], b, no_item b [] q ∙ ap (λ (w : List ℕ). Ok ([], b ∷ w)) same, q)
   | inr h ↦ none_is_not rest (sym (if_false (class_of b == quote) (Some []) None h) ∙ e)
 ]
-text_body (b ∷ c ∷ bs) rest e = elim (bool_cases (class_of b == quote)) [
+text_body (b ∷ c ∷ bs) rest e = elim (cases_Bool (class_of b == quote)) [
   | inl h ↦
       let q = eqb-true (class_of b) quote h in
       let same = some_of (c ∷ bs) rest (sym (if_true (class_of b == quote) (Some (c ∷ bs)) _ h) ∙ e) in
       ([], b, no_item b (c ∷ bs) q ∙ ap (λ (w : List ℕ). Ok ([], b ∷ w)) same, q)
-  | inr h ↦ elim (bool_cases (class_of b == line_feed)) [
+  | inr h ↦ elim (cases_Bool (class_of b == line_feed)) [
     | inl g ↦ none_is_not rest (sym (rw (h, g) refl) ∙ e)
-    | inr g ↦ elim (bool_cases (class_of b == backslash)) [
+    | inr g ↦ elim (cases_Bool (class_of b == backslash)) [
       | inl f ↦
           let s = eqb-true (class_of b) backslash f in
-          elim (bool_cases (class_of c == line_feed)) [
+          elim (cases_Bool (class_of c == line_feed)) [
             | inl k ↦ none_is_not rest (sym (rw (s, k) refl) ∙ e)
             | inr k ↦
                 body_step (b ∷ c ∷ bs) bs rest (rw s refl) (escaped_item b c bs s (line_goes_on c k))
@@ -175,7 +175,7 @@ digits_read b cs h = rw (h, run_is digits cs) refl
 -- a run all of whose bytes are of fewer classes is their run too
 all_run : (cs : List ℕ) (is : ℕ → Bool) → ((b : ℕ) → is b ≡ true → among cs (class_of b) ≡ true) → within cs word_bytes ≡ true → (bs : List ℕ) → list_all is (run word_bytes bs) ≡ true → (run cs bs ≡ run word_bytes bs) × (after_run cs bs ≡ after_run word_bytes bs)
 all_run cs is up w [] h = (refl, refl)
-all_run cs is up w (b ∷ bs) h = elim (bool_cases (among word_bytes (class_of b))) [
+all_run cs is up w (b ∷ bs) h = elim (cases_Bool (among word_bytes (class_of b))) [
   | inl f ↦
       let g : list_all is (b ∷ run word_bytes bs) ≡ true = subst (λ (r : List ℕ). list_all is r ≡ true) (if_true (among word_bytes (class_of b)) (b ∷ run word_bytes bs) [] f) h in
       let p = and_parts (is b) (list_all is (run word_bytes bs)) g in
@@ -186,14 +186,14 @@ all_run cs is up w (b ∷ bs) h = elim (bool_cases (among word_bytes (class_of b
 
 run_none : (cs bs : List ℕ) → run cs bs ≡ [] → (starts class_of cs bs ≡ false) × (after_run cs bs ≡ bs)
 run_none cs [] e = (refl, refl)
-run_none cs (b ∷ bs) e = elim (bool_cases (among cs (class_of b))) [
+run_none cs (b ∷ bs) e = elim (cases_Bool (among cs (class_of b))) [
   | inl h ↦ no_nil b (run cs bs) (sym (if_true (among cs (class_of b)) (b ∷ run cs bs) [] h) ∙ e)
   | inr h ↦ (h, rw h refl)
 ]
 
 run_some : (cs bs : List ℕ) (x : ℕ) (r : List ℕ) → run cs bs ≡ x ∷ r → (more : List ℕ) × (bs ≡ x ∷ more) × (run cs more ≡ r) × (after_run cs bs ≡ after_run cs more)
 run_some cs [] x r e = no_nil x r (sym e)
-run_some cs (b ∷ bs) x r e = elim (bool_cases (among cs (class_of b))) [
+run_some cs (b ∷ bs) x r e = elim (cases_Bool (among cs (class_of b))) [
   | inl h ↦
       let all : b ∷ run cs bs ≡ x ∷ r = sym (if_true (among cs (class_of b)) (b ∷ run cs bs) [] h) ∙ e in
       (bs, ap (λ (z : ℕ). z ∷ bs) (head_is b x (run cs bs) r all), tail_is b x (run cs bs) r all, rw h refl)
@@ -234,7 +234,7 @@ module _ (b : ℕ) (n : ℕ) (zero : class_of b ≡ 3) where
   zero_whole (x ∷ r) cs p e =
       let z : b ≡ 48 = zero_class b zero in
       let e' : number_value (48 ∷ x ∷ r) ≡ Some n = subst (λ (y : ℕ). number_value (y ∷ x ∷ r) ≡ Some n) z e in
-      elim (bool_cases (x == 120 || x == 88)) [
+      elim (cases_Bool (x == 120 || x == 88)) [
         | inl h ↦
             let f : fits (is_hexadecimal r) (digits_value 16 r) ≡ Some n = sym (if_true (x == 120 || x == 88) (fits (is_hexadecimal r) (digits_value 16 r)) _ h) ∙ e' in
             hex_whole x r cs p (cross_class x h) (fits_only (is_hexadecimal r) (digits_value 16 r) n f) e

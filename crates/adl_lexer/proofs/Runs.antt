@@ -2,9 +2,10 @@
 use Rattle.std.proofs.Common.{◌≡◌, ℕ, ◌-◌, ◌≤◌, true, false, List, [], ◌∷◌, ◌++◌, length, Ok, refl, ap, subst, ◌∙◌, arith, inl, inr, take}
 use Rattle.std.specs.Prelude.{◌==◌, not}
 use Rattle.std.proofs.lemmas.List.{length-append}
+use Rattle.std.proofs.lemmas.Bool.{cases_Bool}
+use Rattle.cam_base.proofs.Lists.{take-front}
 use Rattle.grammar.specs.Form.{among}
 use Rattle.grammar.specs.Reading.{one, many, starts}
-use Rattle.grammar.proofs.Codes.{bool_cases}
 use Rattle.grammar.proofs.Laws.{IsRead-one, consumes}
 use Rattle.grammar.proofs.Repeats.{and_more, many_more, many_none}
 use Rattle.adl_lexer.specs.Classes.{class_of, run, after_run, line_bytes}
@@ -18,7 +19,7 @@ run_step cs b bs h =
 -- reading any number of them gives the run
 pub run_is : (cs bs : List ℕ) → many class_of cs (one class_of cs) bs ≡ Ok (run cs bs, after_run cs bs)
 run_is cs [] = many_none class_of cs (one class_of cs) [] refl
-run_is cs (b ∷ bs) = elim (bool_cases (among cs (class_of b))) [
+run_is cs (b ∷ bs) = elim (cases_Bool (among cs (class_of b))) [
   | inl h ↦ run_step cs b bs h ∙ rw (h, run_is cs bs) refl
   | inr h ↦ many_none class_of cs (one class_of cs) (b ∷ bs) h ∙ rw h refl
 ]
@@ -26,26 +27,19 @@ run_is cs (b ∷ bs) = elim (bool_cases (among cs (class_of b))) [
 -- a run and what is behind it are all
 pub run_after : (cs bs : List ℕ) → run cs bs ++ after_run cs bs ≡ bs
 run_after cs [] = refl
-run_after cs (b ∷ bs) = elim (bool_cases (among cs (class_of b))) [ inl h ↦ rw (h, run_after cs bs) refl | inr h ↦ rw h refl ]
+run_after cs (b ∷ bs) = elim (cases_Bool (among cs (class_of b))) [ inl h ↦ rw (h, run_after cs bs) refl | inr h ↦ rw h refl ]
 
 -- behind a run stands no byte of it
 pub after_run_ends : (cs bs : List ℕ) → starts class_of cs (after_run cs bs) ≡ false
 after_run_ends cs [] = refl
-after_run_ends cs (b ∷ bs) = elim (bool_cases (among cs (class_of b))) [ inl h ↦ rw h (after_run_ends cs bs) | inr h ↦ rw h h ]
+after_run_ends cs (b ∷ bs) = elim (cases_Bool (among cs (class_of b))) [ inl h ↦ rw h (after_run_ends cs bs) | inr h ↦ rw h h ]
 
 pub after_run_le : (cs bs : List ℕ) → length (after_run cs bs) ≤ length bs
 after_run_le cs bs = let e = ap length (run_after cs bs) in omega (arith, length-append (run cs bs) (after_run cs bs))
 
-taken : (a rest : List ℕ) → take (length (a ++ rest) - length rest) (a ++ rest) ≡ a
-taken a rest = rw (let e : length (a ++ rest) - length rest ≡ length a = omega (arith, length-append a rest) in e) (front a)
-  where
-    front : (a : List ℕ) → take (length a) (a ++ rest) ≡ a
-    front [] = refl
-    front (x ∷ a) = ap (λ (w : List ℕ). x ∷ w) (front a)
-
 -- the bytes before what is behind a run are the run
 pub run_taken : (cs bs : List ℕ) → take (length bs - length (after_run cs bs)) bs ≡ run cs bs
-run_taken cs bs = subst (λ (w : List ℕ). take (length w - length (after_run cs bs)) w ≡ run cs bs) (run_after cs bs) (taken (run cs bs) (after_run cs bs))
+run_taken cs bs = subst (λ (w : List ℕ). take (length w - length (after_run cs bs)) w ≡ run cs bs) (run_after cs bs) (take-front (run cs bs) (after_run cs bs))
 
 -- a line goes on with each byte but a line feed
 pub line_goes_on : (b : ℕ) → (class_of b == 6) ≡ false → among line_bytes (class_of b) ≡ true

@@ -3,6 +3,7 @@ use Rattle.std.proofs.Common.{◌≡◌, ℕ, ◌<◌, ◌≤◌, true, List, []
 use Rattle.std.proofs.lemmas.List.{append-nil, length-append}
 use Rattle.cam_base.specs.declared.token.Kind.{Kind}
 use Rattle.cam_base.specs.declared.token.Token.{Token}
+use Rattle.cam_base.proofs.Lists.{longer_front}
 use Rattle.grammar.specs.Deciding.{can_be_empty}
 use Rattle.grammar.specs.Form.{among}
 use Rattle.grammar.specs.Reading.{left}
@@ -18,16 +19,6 @@ use Rattle.adl_lexer.proofs.Exactness.{token_exact, token_full, token_first, tok
 use Rattle.adl_lexer.proofs.Gaps.{gap_class}
 
 -- ---- tokens are read exactly
-
--- one list is longer than the other
-longer_front : (a b c d : List ℕ) → a ++ c ≡ b ++ d → length c ≤ length d → (e : List ℕ) × (a ≡ b ++ e) × (d ≡ e ++ c)
-longer_front a [] c d p le = (a, refl, sym p)
-longer_front [] (x ∷ b) c d p le = absurd (let k = ap length p in omega (arith, length-append b d))
-longer_front (y ∷ a) (x ∷ b) c d p le =
-    let q : a ++ c ≡ b ++ d = cc in
-    let e : y ≡ x = cc in
-    let r = longer_front a b c d q le in
-    (r.0, ap (λ (w : List ℕ). y ∷ w) r.1 ∙ ap (λ (z : ℕ). z ∷ (b ++ r.0)) e, r.2)
 
 no_longer : (a b : List ℕ) → length (a ++ b) ≤ length b → a ≡ []
 no_longer [] b le = refl

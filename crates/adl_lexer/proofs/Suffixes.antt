@@ -5,9 +5,10 @@ use Rattle.std.specs.Prelude.{◌==◌, ◌&&◌}
 use Rattle.std.proofs.Math.Seq.{take-append_seam, drop-append_seam}
 use Rattle.std.proofs.lemmas.List.{length-append}
 use Rattle.std.proofs.lemmas.List.Elements.{All-cons, All-nil}
+use Rattle.std.proofs.lemmas.Bool.{cases_Bool}
 use Rattle.cam_base.specs.declared.token.Token.{Token}
 use Rattle.grammar.specs.Form.{among}
-use Rattle.grammar.proofs.Codes.{bool_cases, if_true, if_false}
+use Rattle.grammar.proofs.Codes.{if_true, if_false}
 use Rattle.adl_lexer.specs.Classes.{class_of, blanks, slash}
 use Rattle.adl_lexer.specs.Gaps.{after_close, after_line, after_comment, one_gap, IsGap, none, more}
 use Rattle.adl_lexer.specs.Lexes.{place_of, LexesFrom}
@@ -30,12 +31,12 @@ ends_in_some bs x cs e p = subst (λ (w : List ℕ). EndsIn bs w) (some_of x cs 
 
 after_line_ends : (bs : List ℕ) → EndsIn bs (after_line bs)
 after_line_ends [] = ([], refl)
-after_line_ends (b ∷ bs) = elim (bool_cases (b == 10)) [ inl h ↦ rw h (b ∷ [], refl) | inr h ↦ rw h (ends_later b bs (after_line bs) (after_line_ends bs)) ]
+after_line_ends (b ∷ bs) = elim (cases_Bool (b == 10)) [ inl h ↦ rw h (b ∷ [], refl) | inr h ↦ rw h (ends_later b bs (after_line bs) (after_line_ends bs)) ]
 
 after_close_ends : (bs cs : List ℕ) → after_close bs ≡ Some cs → EndsIn bs cs
 after_close_ends [] cs e = none_is_not cs e
 after_close_ends (a ∷ []) cs e = none_is_not cs e
-after_close_ends (a ∷ b ∷ bs) cs e = elim (bool_cases (a == 42 && b == 47)) [
+after_close_ends (a ∷ b ∷ bs) cs e = elim (cases_Bool (a == 42 && b == 47)) [
   | inl h ↦ ends_in_some (a ∷ b ∷ bs) bs cs (a ∷ b ∷ [], refl) (sym (if_true (a == 42 && b == 47) (Some bs) (after_close (b ∷ bs)) h) ∙ e)
   | inr h ↦ ends_later a (b ∷ bs) cs (after_close_ends (b ∷ bs) cs (sym (if_false (a == 42 && b == 47) (Some bs) (after_close (b ∷ bs)) h) ∙ e))
 ]

@@ -2,7 +2,7 @@
 use Rattle.std.proofs.Common.{◌≡◌, ℕ, ◌≤◌, true, false, cond, List, [], ◌∷◌, ◌++◌, length, Option, Some, None, Ok, refl, sym, ap, subst, ◌∙◌, append_assoc, arith, inl, inr}
 use Rattle.std.specs.Prelude.{◌==◌, nat_lt}
 use Rattle.std.specs.List.{list_all}
-use Rattle.std.proofs.lemmas.Bool.{eqb-true, le-leb, ltb-false}
+use Rattle.std.proofs.lemmas.Bool.{eqb-true, le-leb, ltb-false, cases_Bool}
 use Rattle.std.proofs.lemmas.List.{append_cancel_right}
 use Rattle.cam_base.specs.declared.code.Code.TheVariants as code
 use Rattle.cam_base.specs.declared.token.Keyword.{Keyword}
@@ -18,7 +18,7 @@ use Rattle.cam_base.specs.Numbers.{number_value}
 use Rattle.grammar.specs.Form.{among}
 use Rattle.grammar.specs.Reading.{starts}
 use Rattle.grammar.specs.Spelling.{Each, Spells}
-use Rattle.grammar.proofs.Codes.{bool_cases, true_is_not_false, if_true}
+use Rattle.grammar.proofs.Codes.{true_is_not_false, if_true}
 use Rattle.adl_lexer.specs.Classes.{class_of, run, after_run, letters, digits, word_bytes, angle_first, angle_bytes, plain_bytes, line_bytes, line_feed, backslash, quote, less, minus, greater}
 use Rattle.adl_lexer.specs.Keywords.{keyword_of}
 use Rattle.adl_lexer.specs.LexFaults.{after_angle, after_byte, after_text, fault_at, word_fault, number_fault, number_fault_by, is_left_out_word}
@@ -55,7 +55,7 @@ pub some_is_not : {A C : Type 0} (x : A) → Some x ≡ None → C
 some_is_not x e = absurd cc
 
 short_word : (word : List ℕ) → word_fault word ≡ None → nat_lt 127 (length word) ≡ false
-short_word word e = elim (bool_cases (nat_lt 127 (length word))) [
+short_word word e = elim (cases_Bool (nat_lt 127 (length word))) [
   | inl h ↦ some_is_not (code.Limit, word) (sym (if_true (nat_lt 127 (length word)) (Some (code.Limit, word)) (cond (is_left_out_word word) (Some (code.LeftOut, word)) None) h) ∙ e)
   | inr h ↦ h
 ]
@@ -93,13 +93,13 @@ greater_is = byte_of 10 62 refl refl refl refl refl refl refl refl refl
 -- ---- the ends of texts and angle names
 
 no_plain : (k c : ℕ) → among plain_bytes k ≡ false → among plain_bytes c ≡ true → (c == k) ≡ false
-no_plain k c n h = elim (bool_cases (c == k)) [
+no_plain k c n h = elim (cases_Bool (c == k)) [
   | inl e ↦ true_is_not_false (among plain_bytes c) h (ap (among plain_bytes) (eqb-true c k e) ∙ n)
   | inr e ↦ e
 ]
 
 no_line : (c : ℕ) → among line_bytes c ≡ true → (c == line_feed) ≡ false
-no_line c h = elim (bool_cases (c == line_feed)) [
+no_line c h = elim (cases_Bool (c == line_feed)) [
   | inl e ↦ true_is_not_false (among line_bytes c) h (ap (among line_bytes) (eqb-true c line_feed e))
   | inr e ↦ e
 ]

@@ -1,3 +1,4 @@
+pub mod FewComponents
 pub mod Least
 pub mod Noting
 pub mod SoundNames

@@ -1,15 +1,11 @@
 -- Noting what each element of a list gives.
-use Rattle.std.proofs.Common.{◌≡◌, ◌<◌, ◌+◌, ℕ, suc, List, length, get_or, drop, ◌∷◌, ◌++◌, Option, sym, ◌∙◌, ap, add-one, map}
-use Rattle.std.proofs.Math.Seq.{drop-cons}
+use Rattle.std.proofs.Common.{◌≡◌, ◌<◌, ◌+◌, ℕ, List, length, get_or, drop, ◌++◌, Option, sym, ◌∙◌, ap, map}
 use Rattle.std.specs.List.{flat_map, enumerate_from}
 use Rattle.std.proofs.lemmas.List.Folds.{flat_map-map}
 use Rattle.cam_base.specs.declared.place.Fault.{Fault}
+use Rattle.cam_base.proofs.Lists.{drop_first}
 use Rattle.adl_meaning.specs.Faults.{noted}
 use Rattle.adl_meaning.proofs.Least.{noted-append}
-
--- the rest of a list, at an element that was read
-pub drop_first : {X : Type 0} (xs : List X) (i : ℕ) (x : X) → i < length xs → x ≡ get_or xs i x → drop i xs ≡ x ∷ drop (i + 1) xs
-drop_first xs i x l e = drop-cons xs i x l ∙ ap (λ z. z ∷ drop (suc i) xs) (sym e) ∙ ap (λ j. x ∷ drop j xs) (sym (add-one i))
 
 -- the step of a loop that notes what each element gives
 pub noted_each : {X : Type 0} (f : X → List Fault) (new old : Option Fault) (xs : List X) (i : ℕ) (x : X) → i < length xs → x ≡ get_or xs i x → new ≡ noted old (f x)

@@ -4,6 +4,7 @@ use Rattle.std.specs.List.{filter_map, flat_map, find, enumerate_from, slice_get
 use Rattle.std.specs.Option.{option_and_then}
 use Rattle.std.specs.Str.{bytes_eq}
 use Rattle.cam_base.specs.declared.place.Fault.{Fault}
+use Rattle.cam_base.proofs.Lists.{drop_first}
 use Rattle.adl_ast.specs.declared.component.Component.{Component}
 use Rattle.adl_ast.specs.declared.file.Import.{Import}
 use Rattle.adl_ast.specs.declared.file.Item.{Item}
@@ -13,7 +14,6 @@ use Rattle.adl_ast.specs.declared.source.Source.{Source}
 use Rattle.adl_meaning.specs.Items.{Name, as_component, items_of, component_of}
 use Rattle.adl_meaning.specs.declared.item_at.ItemAt.{ItemAt}
 use Rattle.adl_names.specs.declared.bodies.Body.TheVariants as body
-use Rattle.adl_meaning.proofs.Noting.{drop_first}
 use Rattle.adl_items.specs.Located.{located}
 use Rattle.adl_items.specs.declared.located.Located.{Located}
 use Rattle.adl_names.specs.declared.bodies.Body.{Body}

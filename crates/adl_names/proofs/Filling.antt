@@ -3,9 +3,9 @@ use Rattle.std.proofs.Common.{◌≡◌, ◌<◌, ◌+◌, ℕ, Bool, true, fals
 use Rattle.std.specs.List.{find}
 use Rattle.std.specs.Option.{option_or}
 use Rattle.std.specs.Str.{bytes_eq}
+use Rattle.cam_base.proofs.Lists.{drop_first}
 use Rattle.adl_meaning.specs.Items.{Name, Rises}
 use Rattle.adl_meaning.specs.declared.item_at.ItemAt.{ItemAt}
-use Rattle.adl_meaning.proofs.Noting.{drop_first}
 use Rattle.adl_items.specs.Located.{located}
 use Rattle.adl_items.specs.declared.located.Located.{Located}
 use Rattle.adl_names.proofs.Rising.{places, rises_drop}

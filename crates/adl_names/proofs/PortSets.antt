@@ -3,10 +3,10 @@ use Rattle.std.proofs.Common.{◌≡◌, ◌∙◌, ℕ, Bool, cond, true, false
 use Rattle.std.specs.List.{list_any}
 use Rattle.std.specs.Str.{bytes_eq}
 use Rattle.std.proofs.lemmas.Bool.{eqb-true, eq-eqb}
+use Rattle.cam_base.proofs.Bytes.{bytes_eq-sym}
 use Rattle.adl_meaning.specs.Export.{Port}
 use Rattle.adl_meaning.specs.Items.{Name}
 use Rattle.adl_names.specs.Ports.{is_port_among}
-use Rattle.name_tables.proofs.NameLookups.{bytes_eq-sym}
 
 nat_eq-sym : (a b : ℕ) → nat_eq a b ≡ nat_eq b a
 nat_eq-sym a b = by_tests (nat_eq a b) (nat_eq b a) refl refl

@@ -7,12 +7,12 @@ use Rattle.std.specs.Str.{bytes_eq}
 use Rattle.cam_base.specs.declared.code.Code.TheVariants as code
 use Rattle.cam_base.specs.declared.place.Fault.{Fault}
 use Rattle.cam_base.specs.declared.place.Place.{Place}
+use Rattle.cam_base.proofs.Lists.{drop_first}
 use Rattle.adl_ast.specs.declared.id.Id.{Id}
 use Rattle.adl_meaning.specs.Faults.{noted, where_true, at_word, at_keyword}
 use Rattle.adl_meaning.specs.Duplicate.{repeats_after}
 use Rattle.adl_meaning.specs.Items.{Name}
 use Rattle.adl_meaning.proofs.Least.{noted-append}
-use Rattle.adl_meaning.proofs.Noting.{drop_first}
 use Rattle.adl_names.specs.Laters.{laters}
 use Rattle.adl_names.specs.Tables.{has_name}
 use Rattle.name_tables.specs.ByName.{found}

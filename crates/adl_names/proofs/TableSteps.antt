@@ -4,28 +4,21 @@ use Rattle.std.specs.List.{find, flat_map}
 use Rattle.std.specs.Option.{option_or}
 use Rattle.std.specs.Str.{bytes_eq}
 use Rattle.std.proofs.lemmas.List.Folds.{find-append}
+use Rattle.cam_base.proofs.Options.{option_or-assoc, option_map-option_or}
+use Rattle.cam_base.proofs.Lists.{drop_first}
 use Rattle.adl_ast.specs.declared.composition.Group.{Group}
 use Rattle.adl_ast.specs.declared.composition.Instance.{Instance}
 use Rattle.adl_ast.specs.declared.id.Id.{Id}
 use Rattle.adl_meaning.specs.Holding.{Held, a_group, as_held, member_of}
 use Rattle.adl_meaning.specs.Items.{Name}
-use Rattle.adl_meaning.proofs.Noting.{drop_first}
 use Rattle.name_tables.specs.ByName.{found}
 use Rattle.adl_items.specs.Firsts.{first_named}
 use Rattle.adl_names.specs.Tables.{held_told, holding_told}
 use Rattle.adl_names.specs.declared.tables.Held.{Held as Entry}
 use Rattle.adl_names.specs.declared.tables.Held.TheVariants as entry
 
-option_or-assoc : {V : Type 0} (a b c : Option V) → option_or (option_or a b) c ≡ option_or a (option_or b c)
-option_or-assoc None b c = refl
-option_or-assoc (Some x) b c = refl
-
-pub map-option_or : {V W : Type 0} (f : V → W) (a b : Option V) → option_map f (option_or a b) ≡ option_or (option_map f a) (option_map f b)
-map-option_or f None b = refl
-map-option_or f (Some x) b = refl
-
 pub first_named-append : {X : Type 0} (xs ys : List (Id × X)) (n : Name) → first_named (xs ++ ys) n ≡ option_or (first_named xs n) (first_named ys n)
-first_named-append {X} xs ys n = ap (option_map (λ (h : Id × X). h.1)) (find-append (λ (h : Id × X). bytes_eq n h.0.name) xs ys) ∙ map-option_or (λ (h : Id × X). h.1) _ _
+first_named-append {X} xs ys n = ap (option_map (λ (h : Id × X). h.1)) (find-append (λ (h : Id × X). bytes_eq n h.0.name) xs ys) ∙ option_map-option_or (λ (h : Id × X). h.1) _ _
 
 -- the name of a group, and then its instances
 pub group_put : (old mid : List (Name × Entry)) (own g : Group) (new : Option Held) (n : Name) (is : List Instance) → found mid n ≡ option_or (found old n) (found ((g.id.name, entry.Group own) ∷ []) n)
@@ -34,7 +27,7 @@ pub group_put : (old mid : List (Name × Entry)) (own g : Group) (new : Option H
 group_put old mid own g new n is put same e h =
     h ∙ ap (λ z. option_or (holding_told mid n) (first_named (map as_held z) n)) e
     ∙ ap (λ z. option_or (option_map held_told z) (first_named (map as_held g.instances) n)) put
-    ∙ ap (λ z. option_or z (first_named (map as_held g.instances) n)) (map-option_or held_told (found old n) (found ((g.id.name, entry.Group own) ∷ []) n))
+    ∙ ap (λ z. option_or z (first_named (map as_held g.instances) n)) (option_map-option_or held_told (found old n) (found ((g.id.name, entry.Group own) ∷ []) n))
     ∙ option_or-assoc (holding_told old n) (option_map held_told (found ((g.id.name, entry.Group own) ∷ []) n)) (first_named (map as_held g.instances) n)
     ∙ ap (λ z. option_or (holding_told old n) z) (by_test (bytes_eq n g.id.name) ∙ ap (λ z. first_named ((g.id, a_group (member_of z)) ∷ map as_held g.instances) n) same)
   where

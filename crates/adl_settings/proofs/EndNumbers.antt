@@ -36,7 +36,7 @@ slice_get-filter_map {X} {Y} f (z ∷ zs) n x a e =
 
 -- ---- ends with their positions
 
-position_of : (before : ℕ) (es : List FlatEnd) (n : ℕ) (e : FlatEnd) → slice_get es n ≡ Some e → (p : ℕ) × (slice_get (positioned_after before es) n ≡ Some (p, e))
+pub position_of : (before : ℕ) (es : List FlatEnd) (n : ℕ) (e : FlatEnd) → slice_get es n ≡ Some e → (p : ℕ) × (slice_get (positioned_after before es) n ≡ Some (p, e))
 position_of before [] n e i = cc
 position_of before (x ∷ es) zero e i = let same : x ≡ e = cc in (before + 1, ap (λ y. Some (before + 1, y)) same)
 position_of before (x ∷ es) (suc n) e i = position_of (behind before x.role) es n e i

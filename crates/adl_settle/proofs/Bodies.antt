@@ -7,6 +7,7 @@ use Rattle.std.proofs.lemmas.List.{length-append, get_or_append_left}
 use Rattle.std.specs.List.{find}
 use Rattle.std.specs.Option.{option_map_or}
 use Rattle.std.specs.Str.{bytes_eq}
+use Rattle.cam_base.proofs.Lists.{drop_first}
 use Rattle.adl_ast.specs.declared.configuration.Setting.{Setting}
 use Rattle.adl_ast.specs.declared.id.Id.{Id}
 use Rattle.adl_meaning.specs.Export.{last_name}
@@ -14,7 +15,6 @@ use Rattle.adl_meaning.specs.Hierarchy.{Hierarchy, Part, Body, body, part_named}
 use Rattle.adl_meaning.specs.Items.{Name}
 use Rattle.adl_meaning.specs.Paths.{Path, same_path}
 use Rattle.adl_meaning.specs.Values.{is_group, inner_names, path_of, settings_of, setting_of}
-use Rattle.adl_meaning.proofs.Noting.{drop_first}
 
 -- P is true of each place and its value
 abbrev pub Each : {T : Type 0} → (ℕ → T → Type 0) → List T → Type 0

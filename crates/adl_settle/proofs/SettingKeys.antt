@@ -1,10 +1,12 @@
 -- Keys of settings: a path with a name behind it.
-use Rattle.std.proofs.Common.{◌≡◌, ◌∙◌, Bool, true, false, cond, ◌&&◌, List, [], ◌∷◌, ◌++◌, Option, Some, None, is_some, option_map, refl, ap, Bor, true≢false, Vec, Global}
+use Rattle.std.proofs.Common.{◌≡◌, ◌∙◌, Bool, true, false, cond, ◌&&◌, List, [], ◌∷◌, ◌++◌, Option, Some, None, is_some, refl, ap, Bor, Vec, Global}
 use Rattle.std.specs.Cmp.Lexicographic.{pointwise}
 use Rattle.std.specs.Map.{lookup}
 use Rattle.std.specs.Option.{option_or, option_copied}
 use Rattle.std.specs.Str.{bytes_eq}
 use Rattle.std.proofs.lemmas.Slice.Eq.{bytes_eq-Decides, slice_eq-Decides}
+use Rattle.std.proofs.Math.Bool.{and-false, and-true}
+use Rattle.cam_base.proofs.Options.{option_or-none, option_map-option_or, option_or-there}
 use Rattle.adl_ast.specs.declared.configuration.Setting.{Setting}
 use Rattle.adl_meaning.specs.Items.{Name}
 use Rattle.adl_meaning.specs.Paths.{Path, same_path}
@@ -19,17 +21,9 @@ same_keys-pointed [] (b ∷ k) = refl
 same_keys-pointed (a ∷ q) [] = refl
 same_keys-pointed (a ∷ q) (b ∷ k) = ap (λ z. bytes_eq a.now b.now && z) (same_keys-pointed q k)
 
-and_false : (b : Bool) → (b && false) ≡ false
-and_false true = refl
-and_false false = refl
-
 and_assoc : (a b c : Bool) → (a && (b && c)) ≡ ((a && b) && c)
 and_assoc true b c = refl
 and_assoc false b c = refl
-
-and_true : (b : Bool) → (b && true) ≡ b
-and_true true = refl
-and_true false = refl
 
 none_longer : (q : Path) (x y : Name) → same_path [] (q ++ y ∷ []) ≡ false
 none_longer [] x y = refl
@@ -41,9 +35,9 @@ none_shorter (a ∷ p) x = refl
 
 -- equal keys are equal paths with equal names
 pub same_path-snoc : (p q : Path) (x y : Name) → same_path (p ++ x ∷ []) (q ++ y ∷ []) ≡ (same_path p q && bytes_eq x y)
-same_path-snoc [] [] x y = and_true (bytes_eq x y)
-same_path-snoc [] (b ∷ q) x y = ap (λ z. bytes_eq x b && z) (none_longer q x y) ∙ and_false (bytes_eq x b)
-same_path-snoc (a ∷ p) [] x y = ap (λ z. bytes_eq a y && z) (none_shorter p x) ∙ and_false (bytes_eq a y)
+same_path-snoc [] [] x y = and-true (bytes_eq x y)
+same_path-snoc [] (b ∷ q) x y = ap (λ z. bytes_eq x b && z) (none_longer q x y) ∙ and-false (bytes_eq x b)
+same_path-snoc (a ∷ p) [] x y = ap (λ z. bytes_eq a y && z) (none_shorter p x) ∙ and-false (bytes_eq a y)
 same_path-snoc (a ∷ p) (b ∷ q) x y = ap (λ z. bytes_eq a b && z) (same_path-snoc p q x y) ∙ and_assoc (bytes_eq a b) (same_path p q) (bytes_eq x y)
 
 pub same_path-equal : (p q : Path) → same_path p q ≡ true → p ≡ q
@@ -60,29 +54,13 @@ lookup-put f (e ∷ es) k v = by_test (f e.0) (lookup-put f es k v)
     by_test true h = refl
     by_test false h = h
 
-or_kept : {V : Type 0} (o p : Option V) → is_some o ≡ true → o ≡ option_or o p
-or_kept None p e = cc
-or_kept (Some y) p e = refl
-
-or_none : {V : Type 0} (o : Option V) → o ≡ option_or o None
-or_none None = refl
-or_none (Some x) = refl
-
-pub map-option_or : {V W : Type 0} (f : V → W) (a b : Option V) → option_map f (option_or a b) ≡ option_or (option_map f a) (option_map f b)
-map-option_or f None b = refl
-map-option_or f (Some x) b = refl
-
 -- what is found where the key was there
 pub key_kept : {V : Type 0} (f : Path → Option V) (key : Path) (x : V) → is_some (f key) ≡ true → (q : Path) → f q ≡ option_or (f q) (cond (same_path q key) (Some x) None)
 key_kept {V} f key x there q = by_test (same_path q key) refl
   where
     by_test : (b : Bool) → same_path q key ≡ b → f q ≡ option_or (f q) (cond b (Some x) None)
-    by_test true e = or_kept (f q) (Some x) (ap (λ z. is_some (f z)) (same_path-equal q key e) ∙ there)
-    by_test false e = or_none (f q)
-
-pub none_of : {V : Type 0} (o : Option V) → is_some o ≡ false → o ≡ None
-none_of None e = refl
-none_of (Some x) e = absurd (true≢false e)
+    by_test true e = option_or-there (f q) (Some x) (ap (λ z. is_some (f z)) (same_path-equal q key e) ∙ there)
+    by_test false e = option_or-none (f q)
 
 -- ---- the table of a body
 
@@ -110,7 +88,7 @@ pub entries_put : (old new : Entries) (key : Vec (Bor Name) Global) (r : Bor Set
     → option_copied (found_in q new) ≡ option_or (option_copied (found_in q old)) (cond (same_path q (pointed key.items)) (Some r.now) None)
 entries_put old new key r e q =
     ap (λ es. option_copied (found_in q es)) e ∙ ap option_copied (lookup-put (λ (k : Vec (Bor Name) Global). same_path q (pointed k.items)) old key r)
-    ∙ map-option_or (λ (x : Bor Setting). x.now) (found_in q old) _ ∙ ap (λ z. option_or (option_copied (found_in q old)) z) (by_test (same_path q (pointed key.items)))
+    ∙ option_map-option_or (λ (x : Bor Setting). x.now) (found_in q old) _ ∙ ap (λ z. option_or (option_copied (found_in q old)) z) (by_test (same_path q (pointed key.items)))
   where
     by_test : (b : Bool) → option_copied (cond b (Some r) None) ≡ cond b (Some r.now) None
     by_test true = refl

@@ -4,6 +4,7 @@ use Rattle.std.specs.List.{find, flat_map, enumerate_from}
 use Rattle.std.specs.Option.{option_or}
 use Rattle.std.specs.Str.{bytes_eq}
 use Rattle.cam_base.specs.declared.place.Fault.{Fault}
+use Rattle.cam_base.proofs.Lists.{drop_first}
 use Rattle.adl_ast.specs.declared.configuration.Setting.{Setting}
 use Rattle.adl_meaning.specs.Export.{last_name}
 use Rattle.adl_meaning.specs.Faults.{noted, where_true}
@@ -12,7 +13,6 @@ use Rattle.adl_meaning.specs.Items.{Name}
 use Rattle.adl_meaning.specs.Paths.{Path, same_path}
 use Rattle.adl_meaning.specs.Values.{path_of, sets}
 use Rattle.adl_meaning.proofs.Least.{noted-append}
-use Rattle.adl_meaning.proofs.Noting.{drop_first}
 use Rattle.adl_settings.specs.SettingTwice.{Met, setting_twice, repeated_after, repeated_in}
 use Rattle.adl_settle.proofs.Bodies.{all_bodies, bodies-next}
 

@@ -1,11 +1,13 @@
 -- Steps of the search for a value, from the outermost body inwards.
-use Rattle.std.proofs.Common.{◌≡◌, ◌∙◌, ◌<◌, ◌≤◌, ◌+◌, ◌-◌, ◌*◌, ℕ, zero, suc, Bool, true, false, cond, ◌&&◌, List, [], ◌∷◌, take, drop, length, max, ◌++◌, Bor, Option, Some, None, option_map, refl, sym, ap, subst, arith, ◌⊎◌, inl, inr}
-use Rattle.std.specs.List.{find, slice_get}
+use Rattle.std.proofs.Common.{◌≡◌, ◌∙◌, ◌<◌, ◌≤◌, ◌+◌, ◌-◌, ◌*◌, ℕ, zero, suc, Bool, true, false, cond, ◌&&◌, List, [], ◌∷◌, take, drop, length, max, ◌++◌, Bor, Option, Some, None, option_map, refl, sym, ap, arith, ◌⊎◌, inl, inr}
+use Rattle.std.specs.List.{slice_get}
 use Rattle.std.specs.Option.{option_and_then, option_map_or, option_or}
 use Rattle.std.specs.Str.{bytes_eq}
 use Rattle.std.proofs.Math.Seq.{take-length}
 use Rattle.std.proofs.lemmas.List.{length-take, length-drop, drop-append-le, drop-map}
 use Rattle.std.proofs.lemmas.Slice.Eq.{bytes_eq-Decides}
+use Rattle.std.proofs.lemmas.Bool.{and_parts}
+use Rattle.cam_base.proofs.Lists.{find_passes}
 use Rattle.adl_ast.specs.declared.configuration.Setting.{Setting}
 use Rattle.adl_meaning.specs.Export.{last_name}
 use Rattle.adl_meaning.specs.Hierarchy.{Hierarchy, Part, top_number, body, part_named}
@@ -48,18 +50,6 @@ at-next h k p i o e = ap (λ z. option_map_or (within h z) (slice_get p i) z) e 
 
 -- ---- what one body sets
 
-found_passes : {X : Type 0} (t : X → Bool) (xs : List X) (x : X) → find t xs ≡ Some x → t x ≡ true
-found_passes t [] x e = absurd cc
-found_passes {X} t (y ∷ xs) x e = by_test (t y) refl (found_passes t xs x) e
-  where
-    by_test : (b : Bool) → t y ≡ b → (find t xs ≡ Some x → t x ≡ true) → cond b (Some y) (find t xs) ≡ Some x → t x ≡ true
-    by_test true h rest e = let s : y ≡ x = cc in subst (λ z. t z ≡ true) s h
-    by_test false h rest e = rest e
-
-right_of : (a b : Bool) → (a && b) ≡ true → b ≡ true
-right_of true b e = e
-right_of false b e = absurd cc
-
 pub given-setter : (h : Hierarchy) (refer : Name → Option Given) (q : Path) (x : Name) (o : Option ℕ)
     → given_from refer (option_and_then (λ k. setting_of h k q x) o) ≡ given refer x (option_and_then (λ k. option_map (λ s. s.setter) (setting_of h k q x)) o)
 given-setter h refer q x None = refl
@@ -68,7 +58,7 @@ given-setter h refer q x (Some k) = by_case (setting_of h k q x) refl
     by_case : (o : Option Setting) → setting_of h k q x ≡ o → given_from refer o ≡ given refer x (option_map (λ (s : Setting). s.setter) o)
     by_case None e = refl
     by_case (Some s) e =
-        let named = (bytes_eq-Decides x (last_name s.words)).0 (right_of _ (bytes_eq x (last_name s.words)) (found_passes (sets h k q x) (settings_of (body h k)) s e)) in
+        let named = (bytes_eq-Decides x (last_name s.words)).0 (and_parts _ (bytes_eq x (last_name s.words)) (find_passes (sets h k q x) (settings_of (body h k)) s e)).1 in
         ap (λ n. given refer n (Some s.setter)) (sym named)
 
 -- ---- the search

@@ -1,10 +1,10 @@
 -- Lists of what parts give, one part further.
-use Rattle.std.proofs.Common.{◌≡◌, ◌<◌, ◌≤◌, ◌+◌, ℕ, zero, suc, List, [], ◌∷◌, ◌++◌, length, map, take, drop, get_or, refl, sym, ◌∙◌, ap, arith, append_assoc, Some, inl, inr}
+use Rattle.std.proofs.Common.{◌≡◌, ◌<◌, ◌≤◌, ◌+◌, ℕ, List, [], ◌∷◌, ◌++◌, length, map, take, drop, get_or, sym, ◌∙◌, ap, arith, append_assoc, Some, inl, inr}
 use Rattle.std.proofs.lemmas.Bool.{cases_eq}
 use Rattle.std.specs.List.{flat_map, enumerate_from, slice_get}
 use Rattle.std.proofs.lemmas.List.{length-map, map-append, take_more, take_all, append-nil}
 use Rattle.std.proofs.lemmas.List.Concat.{flat_map-append}
-use Rattle.adl_meaning.proofs.Noting.{drop_first}
+use Rattle.cam_base.proofs.Lists.{drop_first, get_or-last, get_or-before_last}
 use Rattle.adl_meaning.specs.Hierarchy.{Hierarchy, Part, body}
 use Rattle.adl_meaning.specs.Paths.{placed_by, leaves_in}
 use Rattle.numbering.specs.Gather.{IsIn}
@@ -62,21 +62,10 @@ leaves_whole h ready k i read l same over ls e =
 
 -- ---- numbers
 
-get_pushed : (xs : List ℕ) (v j : ℕ) → j ≡ length xs → get_or (xs ++ v ∷ []) j 0 ≡ v
-get_pushed [] v zero e = refl
-get_pushed [] v (suc j) e = absurd (omega (arith, e))
-get_pushed (x ∷ xs) v zero e = absurd (omega (arith, e))
-get_pushed (x ∷ xs) v (suc j) e = get_pushed xs v j (omega (arith, e))
-
-get_kept : (xs : List ℕ) (v j : ℕ) → j < length xs → get_or (xs ++ v ∷ []) j 0 ≡ get_or xs j 0
-get_kept [] v j l = absurd (omega (arith, l))
-get_kept (x ∷ xs) v zero l = refl
-get_kept (x ∷ xs) v (suc j) l = get_kept xs v j (omega (arith, l))
-
 pub each_more : (f : ℕ → ℕ) (xs new : List ℕ) (i v : ℕ) → length xs ≡ i → ((j : ℕ) → j < i → get_or xs j 0 ≡ f j) → v ≡ f i → new ≡ xs ++ v ∷ [] → (j : ℕ) → j < i + 1 → get_or new j 0 ≡ f j
 each_more f xs new i v n each e p j l = ap (λ ys. get_or ys j 0) p ∙ elim (cases_eq j i) [
-  | inl q ↦ get_pushed xs v j (q ∙ sym n) ∙ e ∙ ap f (sym q)
-  | inr q ↦ let b : j < i = omega (arith, l, q) in get_kept xs v j (omega (arith, b, n)) ∙ each j b
+  | inl q ↦ get_or-last xs v j (q ∙ sym n) ∙ e ∙ ap f (sym q)
+  | inr q ↦ let b : j < i = omega (arith, l, q) in get_or-before_last xs v j (omega (arith, b, n)) ∙ each j b
 ]
 
 -- ---- what is gathered with numbers

@@ -10,7 +10,7 @@ use Rattle.arch_policy.specs.Ends.{LockAt}
 use Rattle.arch_policy.specs.Policies.{IsCertificateOf, IsLockEdge, IsPolicyOf}
 use Rattle.arch_policy.specs.Tables.{Tables, domain_label}
 use Rattle.arch_policy.proofs.Listed.{lock_of_member}
-use Rattle.arch_policy.proofs.Lists.{from_any, in_any}
+use Rattle.arch_policy.proofs.Lists.{in_any}
 use Rattle.auth_graph.specs.Sources.{OfEach}
 use Rattle.auth_kinds.specs.Adds.{Adds, IsOfSet}
 use Rattle.auth_kinds.specs.AuthoritySets.{IsSetOf, set_has}
@@ -22,6 +22,7 @@ use Rattle.cap_model.specs.declared.kind.Kind.TheVariants.{Notification}
 use Rattle.conn_rules.specs.Row.{RW}
 use Rattle.leaf_ends.specs.Members.{is_lock, members_at}
 use Rattle.numbering.proofs.Gathered.{in_place, place_of}
+use Rattle.numbering.proofs.Lists.{from_any}
 
 pub with_lock_adds : (label bits : ℕ) (a b : List Edge) → IsSetOf (kind_confers Notification RW) bits → Adds (IsOfSet label bits label) a b → Adds (IsWithLock label) a b
 with_lock_adds label bits a b set grown =

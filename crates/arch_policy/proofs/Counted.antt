@@ -11,7 +11,7 @@ use Rattle.auth_kinds.specs.Adds.{Adds}
 use Rattle.auth_kinds.specs.Edges.{Before, same_edge}
 use Rattle.auth_kinds.specs.Tables.{IsSorted, has}
 use Rattle.auth_kinds.specs.declared.edge.Edge.{Edge}
-use Rattle.auth_kinds.proofs.EdgeOrder.{not_before_self, same_edge_self, same_edge_true}
+use Rattle.auth_kinds.proofs.EdgeOrder.{not_before_self, same_edge_self, same_edge_true, same_edge-sym}
 use Rattle.arch_policy.specs.Bound.{IsBound}
 use Rattle.arch_policy.specs.Policies.{IsPolicyOf, edge_count}
 use Rattle.arch_policy.specs.Tables.{Tables}
@@ -24,15 +24,12 @@ use Rattle.numbering.proofs.Gathered.{in_append, in_left, in_right}
 same_back : (d e : Edge) → same_edge d e ≡ true → same_edge e d ≡ true
 same_back d e h = ap (λ z. same_edge z d) (sym (same_edge_true d e h)) ∙ same_edge_self d
 
-same_swap : (d e : Edge) → same_edge d e ≡ same_edge e d
-same_swap d e = one_truth (same_edge d e) (same_edge e d) (same_back d e) (same_back e d)
-
 pub same_laws : IsEquivalence same_edge
-same_laws = record { refl = same_edge_self; symm = same_swap; congr = λ x y z h. ap (λ v. same_edge v z) (same_edge_true x y h) }
+same_laws = record { refl = same_edge_self; symm = same_edge-sym; congr = λ x y z h. ap (λ v. same_edge v z) (same_edge_true x y h) }
 
 pub member_has : (es : List Edge) (e : Edge) → is_member same_edge es e ≡ has es e
 member_has [] e = refl
-member_has (d ∷ es) e = ap (λ b. b || list_any (same_edge e) es) (same_swap e d) ∙ ap (λ b. same_edge d e || b) (member_has es e)
+member_has (d ∷ es) e = ap (λ b. b || list_any (same_edge e) es) (same_edge-sym e d) ∙ ap (λ b. same_edge d e || b) (member_has es e)
 
 differs : (d e : Edge) → Before d e → same_edge d e ≡ false
 differs d e b = go (same_edge d e) refl where

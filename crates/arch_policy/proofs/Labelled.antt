@@ -1,5 +1,5 @@
 -- The numbers of labels
-use Rattle.std.proofs.Common.{◌≡◌, ◌<◌, ◌≤◌, ◌+◌, ◌^◌, ℕ, suc, Bool, true, false, List, [], ◌∷◌, ◌++◌, length, ◌∙◌, ap, arith}
+use Rattle.std.proofs.Common.{◌≡◌, ◌<◌, ◌≤◌, ◌+◌, ◌^◌, ℕ, Bool, true, false, List, [], ◌∷◌, ◌++◌, length, ◌∙◌, ap, arith}
 use Rattle.adl_meaning.specs.declared.flat.Domain.{Domain}
 use Rattle.adl_meaning.specs.declared.flat.Flat.{Flat}
 use Rattle.adl_meaning.specs.declared.flat.FlatConnection.{FlatConnection}
@@ -10,8 +10,8 @@ use Rattle.arch_policy.specs.Owners.{connection_texts, device_texts, domain_text
 use Rattle.arch_policy.specs.Where.{where_true}
 use Rattle.arch_policy.proofs.Ordering.{order_short}
 use Rattle.cam_base.specs.Paths.{joined}
-use Rattle.numbering.specs.Gather.{gather}
 use Rattle.numbering.proofs.Gathered.{length_append}
+use Rattle.numbering.proofs.Lists.{length-gather}
 
 pub numbers_are : (flat : Flat) (ts : List (List ℕ)) (ds : List Domain) (cs : List FlatConnection) (ls : List Leaf) (n : LabelNumbers)
     → ts ≡ label_texts flat → ds ≡ flat.domains → cs ≡ flat.connections → ls ≡ flat.leaves
@@ -28,22 +28,14 @@ where_short : {X : Type 0} (b : Bool) (x : X) → length (where_true b x) ≤ 1
 where_short true x = omega arith
 where_short false x = omega arith
 
-gather_short : {X Y : Type 0} (f : ℕ → X → List Y) (xs : List X) → ((k : ℕ) (x : X) → length (f k x) ≤ 1) → length (gather f xs) ≤ length xs
-gather_short f [] h = omega arith
-gather_short f (x ∷ xs) h =
-    let a = h 0 x in
-    let b = gather_short (λ k y. f (suc k) y) xs (λ k y. h (suc k) y) in
-    let c = length_append (f 0 x) (gather (λ k y. f (suc k) y) xs) in
-    omega (arith, a, b, c)
-
 pub texts_are_few : (flat : Flat) → length (label_texts flat) ≤ length flat.domains + length flat.connections + length flat.leaves
 texts_are_few flat =
     let a = order_short (texts flat) in
     let b = length_append (domain_texts flat.domains) (device_texts flat.leaves ++ connection_texts flat.connections) in
     let c = length_append (device_texts flat.leaves) (connection_texts flat.connections) in
-    let d = gather_short (λ d (x : Domain). joined x.path ∷ []) flat.domains (λ k x. omega arith) in
-    let e = gather_short (λ l (x : Leaf). where_true (is_device x.domain) (joined x.path)) flat.leaves (λ k x. where_short (is_device x.domain) (joined x.path)) in
-    let f = gather_short (λ k (x : FlatConnection). where_true (has_label x.connector) (joined x.path)) flat.connections (λ k x. where_short (has_label x.connector) (joined x.path)) in
+    let d = length-gather (λ d (x : Domain). joined x.path ∷ []) flat.domains (λ k x. omega arith) in
+    let e = length-gather (λ l (x : Leaf). where_true (is_device x.domain) (joined x.path)) flat.leaves (λ k x. where_short (is_device x.domain) (joined x.path)) in
+    let f = length-gather (λ k (x : FlatConnection). where_true (has_label x.connector) (joined x.path)) flat.connections (λ k x. where_short (has_label x.connector) (joined x.path)) in
     omega (arith, a, b, c, d, e, f)
 
 pub few_texts : (flat : Flat) → length flat.domains + length flat.connections + length flat.leaves < 2 ^ 32 → length (label_texts flat) < 2 ^ 32

@@ -34,9 +34,10 @@ use Rattle.arch_policy.specs.Tables.{Tables, connection_label, domain_label, lea
 use Rattle.arch_policy.specs.Triples.{bound_edges, crossed, crossed_at, crossed_edges, direct_edges, end_edges, given_edges, handle_edges, labels_in_role, leads_out, lock_edge, lock_edges, reply_edges, row_edges, row_gives, signal_edges, signals_at, targets, triples}
 use Rattle.arch_policy.specs.Bound.{IsBound}
 use Rattle.arch_policy.specs.Where.{where_true}
-use Rattle.arch_policy.proofs.Lists.{from_any, from_filter, from_where, has_in, in_any, in_filter, in_has, in_where, leads, led_out}
+use Rattle.arch_policy.proofs.Lists.{from_filter, from_where, has_in, in_any, in_filter, in_has, in_where, leads, led_out}
 use Rattle.arch_policy.proofs.Same.{is_connector, is_object, is_role, same_connector_self, same_object_self, same_role_self}
 use Rattle.arch_policy.proofs.Given.{an_authority}
+use Rattle.numbering.proofs.Lists.{from_any}
 
 pub is_same_role : (r q : Role) → r ≡ q → same_role r q ≡ true
 is_same_role r q e = ap (λ z. same_role z q) e ∙ same_role_self q

@@ -9,6 +9,7 @@ use Rattle.auth_kinds.proofs.EdgeOrder.{same_edge_self, same_edge_true}
 use Rattle.arch_policy.specs.Triples.{leads_out}
 use Rattle.arch_policy.specs.Where.{where_true}
 use Rattle.numbering.specs.Gather.{IsIn}
+use Rattle.numbering.proofs.Lists.{from_any}
 
 pub from_where : {X : Type 0} (b : Bool) (x y : X) → IsIn y (where_true b x) → (b ≡ true) × (x ≡ y)
 from_where true x y (inl e) = (refl, e)
@@ -17,13 +18,6 @@ from_where false x y i = absurd i
 
 pub in_where : {X : Type 0} (b : Bool) (x : X) → b ≡ true → IsIn x (where_true b x)
 in_where b x e = let P : Bool → Type 0 = λ b. IsIn x (where_true b x) in subst P (sym e) (inl refl)
-
-pub from_any : {X : Type 0} (p : X → Bool) (xs : List X) → list_any p xs ≡ true → (x : X) × IsIn x xs × (p x ≡ true)
-from_any p [] h = absurd (true≢false (sym h))
-from_any {X} p (x ∷ xs) h = go (p x) refl (from_any p xs) h where
-  go : (b : Bool) → p x ≡ b → (list_any p xs ≡ true → (y : X) × IsIn y xs × (p y ≡ true)) → b || list_any p xs ≡ true → (y : X) × IsIn y (x ∷ xs) × (p y ≡ true)
-  go true e rest h = (x, inl refl, e)
-  go false e rest h = let r = rest h in (r.0, inr r.1, r.2)
 
 pub in_any : {X : Type 0} (p : X → Bool) (x : X) (xs : List X) → IsIn x xs → p x ≡ true → list_any p xs ≡ true
 in_any p x [] i h = absurd i

@@ -6,6 +6,7 @@ use Rattle.std.specs.Str.{bytes_eq}
 use Rattle.std.specs.Prelude.{is_some}
 use Rattle.std.proofs.lemmas.Bool.{and_from, and_parts, not-true}
 use Rattle.std.proofs.lemmas.Slice.Eq.{bytes_eq-Decides}
+use Rattle.cam_base.proofs.Lists.{list_all-places}
 use Rattle.adl_ast.specs.declared.component.Interface.{Interface}
 use Rattle.adl_ast.specs.declared.component.InterfaceKind.{InterfaceKind}
 use Rattle.adl_ast.specs.declared.component.InterfaceKind.TheVariants.{Uses, Provides, Emits, Consumes, Dataport}
@@ -62,10 +63,6 @@ use Rattle.leaf_ends.specs.Lookups.{setting_of}
 use Rattle.arch_policy.specs.declared.numbers.LabelNumbers.{LabelNumbers}
 
 -- ---- lists
-
-all_from : {X : Type 0} (p : X → Bool) (xs : List X) → ((n : ℕ) (x : X) → slice_get xs n ≡ Some x → p x ≡ true) → list_all p xs ≡ true
-all_from p [] h = refl
-all_from p (x ∷ xs) h = and_from (p x) (list_all p xs) (h 0 x refl) (all_from p xs (λ n y e. h (suc n) y e))
 
 -- what stands at the place of the first that passes the test passes it
 placed_passes : {X : Type 0} (p : X → Bool) (xs : List X) (x : X) → slice_get xs (place_by p xs) ≡ Some x → p x ≡ true
@@ -132,7 +129,7 @@ module _ (s : Source) (sound : AreNamesSound s) (dotted : AreDotted (hierarchy_o
       ap is_some (ap F d.here ∙ member_interface s d.leaf.component e.member d.interface d.joined)
 
   all_join : (x : EndAt (flat_of s)) → list_all (joins_interface s (flat_of s)) x.connection.ends ≡ true
-  all_join x = all_from (joins_interface s (flat_of s)) x.connection.ends (λ n e at. typed_joins x.connection e (ends_typed s sound dotted types x.place n x.connection e x.here at))
+  all_join x = list_all-places (joins_interface s (flat_of s)) x.connection.ends (λ n e at. typed_joins x.connection e (ends_typed s sound dotted types x.place n x.connection e x.here at))
 
   -- the leaf that the end joins
   leaf_path : (y : Strung) (x : EndAt (flat_of s)) (e : EndOf (hierarchy_of s) y.path y.wire) (w : Matches s sound dotted numbers y x e) (leaf : Leaf) → slice_get (flat_of s).leaves x.end.leaf ≡ Some leaf

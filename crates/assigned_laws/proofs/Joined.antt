@@ -8,8 +8,8 @@ use Rattle.adl_hierarchy.proofs.Connections.{connections_stand}
 use Rattle.adl_hierarchy.proofs.DomainNames.{leaf_number_is}
 use Rattle.adl_hierarchy.proofs.Joining.{all_joined, end_numbers_kept, ends_kept, joined, joins_joined}
 use Rattle.adl_hierarchy.specs.Leads.{AreDotted}
-use Rattle.component_graph.proofs.Lists.{get, in_get}
-use Rattle.numbering.proofs.Lists.{get_map}
+use Rattle.component_graph.proofs.Lists.{in_get}
+use Rattle.numbering.proofs.Lists.{get_map, at_place, from_get_map}
 use Rattle.adl_meaning.specs.declared.flat.FlatConnection.{FlatConnection}
 use Rattle.adl_meaning.specs.declared.flat.FlatEnd.{FlatEnd}
 use Rattle.adl_meaning.specs.Flat.{flat_connection, flat_end, flat_ends, flat_of, leaf_number}
@@ -22,7 +22,6 @@ use Rattle.arch_policy.specs.Ends.{EndAt}
 use Rattle.assigned_laws.specs.Assigned.{EndOf, owner}
 use Rattle.assigned_laws.specs.Named.{IsNamed, tables_with}
 use Rattle.assigned_laws.proofs.Naming.{leaf_named}
-use Rattle.flat_laws.proofs.FlatLeaves.{from_get}
 use Rattle.arch_policy.specs.Tables.{Tables, leaf_label}
 use Rattle.arch_policy.specs.declared.numbers.LabelNumbers.{LabelNumbers}
 use Rattle.numbering.proofs.Gathered.{place_of}
@@ -46,7 +45,7 @@ module _ (s : Source) (sound : AreNamesSound s) (dotted : AreDotted (hierarchy_o
     pub named : IsNamed t (leaf_label t x.end.leaf) (owner (hierarchy_of s) e.leaf)
 
   pub strung_at : (k : ℕ) (c : FlatConnection) → slice_get (flat_of s).connections k ≡ Some c → (y : Strung) × (slice_get (connections (hierarchy_of s)) k ≡ Some y) × (flat_connection (hierarchy_of s) y ≡ c)
-  strung_at k c e = let h = hierarchy_of s in from_get (flat_connection h) (connections h) k c e
+  strung_at k c e = let h = hierarchy_of s in from_get_map (flat_connection h) (connections h) k c e
 
   -- the label of a leaf at the path that is reached
   reached_named : (q : Path) (r : Reached) → IsIn (record { path = q ++ r.path; part = r.part }) (leaves (hierarchy_of s)) → IsNamed t (leaf_label t (leaf_number (hierarchy_of s) (q ++ r.path))) (owner (hierarchy_of s) (q ++ r.path))
@@ -67,7 +66,7 @@ module _ (s : Source) (sound : AreNamesSound s) (dotted : AreDotted (hierarchy_o
       let same : flat_connection h y ≡ x.connection = cc in
       let stands : slice_get (flat_ends h y) x.number ≡ Some x.end = ap (λ (c : FlatConnection). slice_get c.ends x.number) same ∙ x.stands in
       let short : x.number < length y.wire.1.ends = subst (λ n. x.number < n) (ends_kept s sound dotted y i) (slice_get_within (flat_ends h y) x.number x.end stands) in
-      let end = get y.wire.1.ends x.number short in
+      let end = at_place y.wire.1.ends x.number short in
       let r = all_joined s sound dotted y end.0 i (in_get y.wire.1.ends x.number end.0 end.1) in
       let flat = end_numbers_kept s sound dotted y x.number end.0 r.0 i end.1 r.1 in
       let ends : Some (flat_end h y.path end.0 r.0) ≡ Some x.end = sym flat ∙ stands in

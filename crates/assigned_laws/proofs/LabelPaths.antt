@@ -5,6 +5,7 @@ use Rattle.std.specs.List.{filter_map, find, flat_map, slice_get}
 use Rattle.std.specs.Option.{option_and_then}
 use Rattle.std.specs.Str.{bytes_eq}
 use Rattle.std.proofs.lemmas.Option.{option_and_then_some}
+use Rattle.cam_base.proofs.Lists.{snoc_same}
 use Rattle.adl_ast.specs.declared.composition.Composition.{Composition}
 use Rattle.adl_ast.specs.declared.composition.Connection.{Connection}
 use Rattle.adl_ast.specs.declared.composition.Instance.{Instance}
@@ -24,7 +25,7 @@ use Rattle.adl_hierarchy.proofs.PartNames.{held_name, held_once, no_duplicates}
 use Rattle.adl_hierarchy.proofs.PartsAt.{last_of, named_in}
 use Rattle.adl_hierarchy.proofs.Repeats.{find_once}
 use Rattle.component_graph.proofs.Lists.{in_get}
-use Rattle.numbering.proofs.Lists.{from_filter_map, from_flat_map, get_map, in_flat_map, in_map, map_some}
+use Rattle.numbering.proofs.Lists.{from_filter_map, from_flat_map, get_map, in_flat_map, in_map, map_some, from_get_map}
 use Rattle.adl_meaning.specs.Domains.{domain_of, domains, group_above, is_hardware}
 use Rattle.adl_meaning.specs.Flat.{domain_number, flat_connection, flat_domain, flat_of, leaf_number, leaf_of}
 use Rattle.adl_meaning.specs.Hierarchy.{Hierarchy, Part, body, hierarchy_of, kind_named, part_named, part_of, parts_by, parts_in, top_number}
@@ -40,7 +41,6 @@ use Rattle.adl_meaning.specs.declared.flat.Leaf.{Leaf}
 use Rattle.arch_policy.specs.declared.owner.Owner.{Owner}
 use Rattle.arch_policy.specs.declared.owner.Owner.TheVariants.{OfConnection, OfDomain, OfLeaf}
 use Rattle.assigned_laws.specs.Named.{ArePathsApart, HasPath}
-use Rattle.flat_laws.proofs.FlatLeaves.{from_get}
 use Rattle.numbering.proofs.Gathered.{place_of}
 
 -- ---- lists
@@ -48,17 +48,6 @@ use Rattle.numbering.proofs.Gathered.{place_of}
 not_last : {X : Type 0} (x y : X) (xs : List X) → ◌≡◌ {A = List X} [] (xs ++ y ∷ []) → ⊥
 not_last x y [] e = cc
 not_last x y (z ∷ xs) e = cc
-
--- a list tells its last element, and what stands before it
-same_last : {X : Type 0} (xs ys : List X) (x y : X) → xs ++ x ∷ [] ≡ ys ++ y ∷ [] → (xs ≡ ys) × (x ≡ y)
-same_last [] [] x y e = (refl, cc)
-same_last [] (z ∷ ys) x y e = let more : ◌≡◌ {A = List _} [] (ys ++ y ∷ []) = cc in absurd (not_last x y ys more)
-same_last (z ∷ xs) [] x y e = let more : ◌≡◌ {A = List _} [] (xs ++ x ∷ []) = cc in absurd (not_last x x xs more)
-same_last (z ∷ xs) (w ∷ ys) x y e =
-    let head : z ≡ w = cc in
-    let tail : xs ++ x ∷ [] ≡ ys ++ y ∷ [] = cc in
-    let r = same_last xs ys x y tail in
-    (ap (λ a. a ∷ xs) head ∙ ap (λ bs. w ∷ bs) r.0, r.1)
 
 some_is : {X : Type 0} (x y : X) → ◌≡◌ {A = Option X} (Some x) (Some y) → x ≡ y
 some_is x y e = cc
@@ -155,7 +144,7 @@ one_held s sound k n a b x y =
 same_held : (s : Source) → AreNamesSound s → (p : Path) (a b : Held) → Ends s p a → Ends s p b → a ≡ b
 same_held s sound p a b x y =
     let h = hierarchy_of s in
-    let last = same_last x.above y.above x.name y.name (sym x.path ∙ y.path) in
+    let last = snoc_same x.above y.above x.name y.name (sym x.path ∙ y.path) in
     let both : Some x.kind ≡ Some y.kind = sym x.there ∙ ap (at h (top_number h)) last.0 ∙ y.there in
     let kind : x.kind ≡ y.kind = cc in
     one_held s sound y.kind y.name a b (subst (λ k. HoldsIn s k y.name a) kind (subst (λ n. HoldsIn s x.kind n a) last.1 x.holds)) y.holds
@@ -242,13 +231,13 @@ module _ (s : Source) (sound : AreNamesSound s) where
 
   domain_path : (d : ℕ) (p : Path) → HasPath (flat_of s) (OfDomain d) p → slice_get (domains (hierarchy_of s)) d ≡ Some p
   domain_path d p h =
-      let g = from_get (flat_domain (hierarchy_of s)) (domains (hierarchy_of s)) d h.0 h.1 in
+      let g = from_get_map (flat_domain (hierarchy_of s)) (domains (hierarchy_of s)) d h.0 h.1 in
       g.1 ∙ ap (λ z. Some z) (ap (λ (z : Domain). z.path) g.2 ∙ h.2)
 
   device_path : (l : ℕ) (p : Path) → HasPath (flat_of s) (OfLeaf l) p → (x : Placed) × (slice_get (leaves (hierarchy_of s)) l ≡ Some x) × (x.path ≡ p) × (is_hardware (hierarchy_of s) x.part ≡ true)
   device_path l p h =
       let k = hierarchy_of s in
-      let g = from_get (leaf_of k) (leaves k) l h.0 h.1 in
+      let g = from_get_map (leaf_of k) (leaves k) l h.0 h.1 in
       (g.0, g.1, ap (λ (z : Leaf). z.path) g.2 ∙ h.3, by_test (domain_number k (domain_of k g.0.path)) (is_hardware k g.0.part) (ap (λ (z : Leaf). z.domain) g.2 ∙ h.2))
     where
       by_test : (n : ℕ) (b : Bool) → cond b None (Some n) ≡ None → b ≡ true
@@ -257,7 +246,7 @@ module _ (s : Source) (sound : AreNamesSound s) where
 
   connection_path_of : (k : ℕ) (p : Path) → HasPath (flat_of s) (OfConnection k) p → (y : Strung) × (slice_get (connections (hierarchy_of s)) k ≡ Some y) × (y.path ++ y.wire.1.id.name ∷ [] ≡ p)
   connection_path_of k p h =
-      let g = from_get (flat_connection (hierarchy_of s)) (connections (hierarchy_of s)) k h.0 h.1 in
+      let g = from_get_map (flat_connection (hierarchy_of s)) (connections (hierarchy_of s)) k h.0 h.1 in
       (g.0, g.1, ap (λ (z : FlatConnection). z.path) g.2 ∙ h.3)
 
   domain_ends : (d : ℕ) (p : Path) → HasPath (flat_of s) (OfDomain d) p → DomainPath p

@@ -10,7 +10,7 @@ use Rattle.adl_hierarchy.proofs.DomainNames.{domain_found, domains_are}
 use Rattle.adl_hierarchy.proofs.Leaves.{leaves_stand, paths_are_leaves}
 use Rattle.adl_hierarchy.proofs.PartsAt.{at_part}
 use Rattle.component_graph.proofs.Lists.{in_get}
-use Rattle.numbering.proofs.Lists.{from_map, get_map}
+use Rattle.numbering.proofs.Lists.{from_map, get_map, from_get_map}
 use Rattle.adl_meaning.specs.CompositeBody.{is_device}
 use Rattle.adl_meaning.specs.Domains.{domain_of, domains, is_hardware}
 use Rattle.adl_meaning.specs.Flat.{domain_number, flat_domain, flat_of, item_of, leaf_of}
@@ -25,7 +25,7 @@ use Rattle.arch_policy.specs.declared.owner.Owner.TheVariants.{OfDomain}
 use Rattle.assigned_laws.specs.Assigned.{LockOf}
 use Rattle.assigned_laws.specs.Named.{IsNamed, tables_with}
 use Rattle.leaf_ends.specs.Members.{members_at}
-use Rattle.flat_laws.proofs.FlatLeaves.{from_get, leaf_component, members_of_part}
+use Rattle.flat_laws.proofs.FlatLeaves.{leaf_component, members_of_part}
 use Rattle.numbering.proofs.Gathered.{place_of}
 use Rattle.arch_policy.specs.Tables.{Tables, domain_label}
 use Rattle.arch_policy.specs.declared.numbers.LabelNumbers.{LabelNumbers}
@@ -67,7 +67,7 @@ module _ (s : Source) (sound : AreNamesSound s) (numbers : LabelNumbers) where
   pub lock_of : (k : LockAt s (flat_of s)) → (o : LockOf (hierarchy_of s)) × IsNamed t (domain_label t k.domain) (domain_of (hierarchy_of s) o.leaf)
   lock_of k =
       let h = hierarchy_of s in
-      let g = from_get (leaf_of h) (leaves h) k.leaf k.found k.here in
+      let g = from_get_map (leaf_of h) (leaves h) k.leaf k.found k.here in
       let x = g.0 in
       let i = in_get (leaves h) k.leaf x g.1 in
       let stands = (leaves_stand s sound x).0 i in

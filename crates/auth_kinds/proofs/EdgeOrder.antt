@@ -1,6 +1,8 @@
 -- Edges: when two are one, and the laws of their order.
-use Rattle.std.proofs.Common.{◌≡◌, ◌⊎◌, ℕ, ◌==◌, ◌&&◌, true, List, [], ◌∷◌, refl, ap, sym, inl, inr, arith, get_or}
+use Rattle.std.proofs.Common.{◌≡◌, ◌⊎◌, ◌==◌, ◌&&◌, true, List, [], ◌∷◌, refl, ap, sym, inl, inr, arith, get_or, subst}
 use Rattle.std.proofs.lemmas.Bool.{and_parts, cases_lt, eqb-true}
+use Rattle.std.specs.Cmp.Derive.{one_truth}
+use Rattle.cam_base.proofs.Orders.{same_itself}
 use Rattle.auth_kinds.specs.Authorities.{number_of}
 use Rattle.auth_kinds.specs.Edges.{same_edge, AtMost, Before}
 use Rattle.auth_kinds.specs.declared.authority.Authority.{Authority}
@@ -34,9 +36,6 @@ pub edges_same : (d e : Edge) → d.from ≡ e.from → d.authority ≡ e.author
 edges_same d e f a t =
     let g : ◌≡◌ {A = Edge} (record { from = d.from; authority = d.authority; to = d.to }) (record { from = e.from; authority = e.authority; to = e.to }) = rw (f, a, t) refl in g
 
-self : (a : ℕ) → a == a ≡ true
-self a = grind arith
-
 pub same_edge_true : (d e : Edge) → same_edge d e ≡ true → d ≡ e
 same_edge_true d e h =
     let p : (d.from == e.from ≡ true) × (number_of d.authority == number_of e.authority && d.to == e.to ≡ true) = and_parts _ _ h in
@@ -44,7 +43,7 @@ same_edge_true d e h =
     edges_same d e (eqb-true _ _ p.0) (same_number _ _ (eqb-true _ _ q.0)) (eqb-true _ _ q.1)
 
 pub same_edge_self : (e : Edge) → same_edge e e ≡ true
-same_edge_self e = rw (self e.from, self (number_of e.authority), self e.to) refl
+same_edge_self e = rw (same_itself e.from, same_itself (number_of e.authority), same_itself e.to) refl
 
 -- ---- order
 
@@ -96,3 +95,8 @@ before_or_not d e = elim (cases_lt d.from e.from) [
     ]
   ]
 ]
+
+pub same_edge-sym : (d e : Edge) → same_edge d e ≡ same_edge e d
+same_edge-sym d e = one_truth (same_edge d e) (same_edge e d)
+    (λ h. let same = same_edge_true d e h in subst (λ (x : Edge). same_edge x d ≡ true) same (same_edge_self d))
+    (λ h. let same = same_edge_true e d h in subst (λ (x : Edge). same_edge x e ≡ true) same (same_edge_self e))

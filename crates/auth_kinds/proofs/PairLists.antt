@@ -25,7 +25,7 @@ one_list (p ∷ ps) (q ∷ qs) e =
     let same : p ≡ q = pair_is p 0 0 q.0 q.1 (cmp-same (edge_to 0 p) (edge_to 0 q) both.0) in
     ap (λ x. x ∷ ps) same ∙ ap (λ xs. q ∷ xs) (one_list ps qs both.1)
 
-itself : (a : Ordering) → a ≡ ordering_reverse a → a ≡ Equal
+pub itself : (a : Ordering) → a ≡ ordering_reverse a → a ≡ Equal
 itself Less e = cc
 itself Equal e = refl
 itself Greater e = cc

@@ -189,7 +189,7 @@ run_parted_lt label run n r i j d le l h = let up = numbers_rise label run r i j
 pub run_parted_le : (label : ℕ) (run : List Edge) (n : ℕ) → IsRun label run → IsPartitionedBy (λ e. nat_le (number_of e.authority) n) run
 run_parted_le label run n r i j d le l h = let up = numbers_rise label run r i j d le l in grind arith
 
-taken_place : {X : Type 0} (i : ℕ) (xs : List X) (k : ℕ) (x : X) → slice_get (take i xs) k ≡ Some x → (k < i) × (slice_get xs k ≡ Some x)
+pub taken_place : {X : Type 0} (i : ℕ) (xs : List X) (k : ℕ) (x : X) → slice_get (take i xs) k ≡ Some x → (k < i) × (slice_get xs k ≡ Some x)
 taken_place zero xs k x e = cc
 taken_place (suc i) [] k x e = cc
 taken_place (suc i) (y ∷ xs) zero x e = (omega arith, e)

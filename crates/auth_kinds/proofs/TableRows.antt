@@ -24,6 +24,7 @@ use Rattle.auth_kinds.proofs.TableMembers.{one_table}
 use Rattle.numbering.specs.Gather.{IsIn}
 use Rattle.numbering.proofs.Gathered.{place_of, in_place, get_behind, split_get}
 use Rattle.numbering.proofs.Lists.{in_map, from_map, in_flat_map, from_flat_map}
+use Rattle.auth_kinds.proofs.Runs.{taken_place}
 
 -- ---- lists one behind another
 
@@ -48,12 +49,6 @@ module _ {X Y : Type 0} (f : X → List Y) where
 
   pub in_two : (xs : List X) (i : ℕ) → flat_map f xs ≡ flat_map f (take i xs) ++ flat_map f (drop i xs)
   in_two xs i = ap (λ ys. flat_map f ys) (sym (take-append-drop i xs)) ∙ flat_map-append f (take i xs) (drop i xs)
-
-taken_at : {X : Type 0} (i : ℕ) (xs : List X) (k : ℕ) (x : X) → slice_get (take i xs) k ≡ Some x → (k < i) × (slice_get xs k ≡ Some x)
-taken_at zero xs k x e = cc
-taken_at (suc i) [] k x e = cc
-taken_at (suc i) (y ∷ xs) zero x e = (omega arith, e)
-taken_at (suc i) (y ∷ xs) (suc k) x e = let r = taken_at i xs k x e in (omega (arith, r.0), r.1)
 
 dropped_at : {X : Type 0} (i : ℕ) (xs : List X) (k : ℕ) (x : X) → slice_get (drop i xs) k ≡ Some x → slice_get xs (i + k) ≡ Some x
 dropped_at zero xs k x e = let same : 0 + k ≡ k = omega arith in ap (λ n. slice_get xs n) same ∙ e
@@ -211,7 +206,7 @@ module _ (classes : List Class) (rows : List Row) where
           | inl h ↦ (
               let p = from_flat_map (λ r. edges_of (slice_get classes r.class) r) d (take at rows) (in_place d _ k h) in
               let there = place_of p.0 (take at rows) p.1 in
-              let t = taken_at at rows there.0 p.0 there.1 in
+              let t = taken_place at rows there.0 p.0 there.1 in
               let same = of_label (slice_get classes p.0.class) p.0 d p.2 in
               let low = from.below there.0 p.0 t.0 t.1 in omega arith)
           | inr h ↦ absurd (let n = h.1 in omega arith)

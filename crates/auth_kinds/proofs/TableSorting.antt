@@ -19,7 +19,7 @@ use Rattle.auth_kinds.specs.declared.edge.Edge.{Edge}
 use Rattle.auth_kinds.proofs.EdgeCompare.{eq-same, cmp-before}
 use Rattle.auth_kinds.proofs.TableMembers.{contains_has, has_contains}
 
-sorted_by_place : (edges : List Edge) → IsStrictlySortedBy ordered.cmp edges → IsSorted edges
+pub sorted_by_place : (edges : List Edge) → IsStrictlySortedBy ordered.cmp edges → IsSorted edges
 sorted_by_place edges s = record {
   by_place = λ i j d e l p q.
       let less = Less-from_sorted ordered.cmp edges i j d s l (slice_get_within edges j e q) in

@@ -2,9 +2,9 @@
 use Rattle.std.proofs.Common.{◌≡◌, ◌∙◌, refl, sym, ap, subst, ⊎_elim, ℕ, zero, suc, ◌+◌, ◌-◌, ◌<◌, ◌≤◌, Bool, true, false, not, ◌&&◌, ◌^◌, cond, leb, nat_lt, List, [], ◌∷◌, ◌++◌, length, get_or, take, arith}
 use Rattle.std.specs.List.{list_all, list_any, slice_index, sum_by}
 use Rattle.std.specs.List.Sorted.{IsNonDecreasing, IsPartitionPoint, IsPermutation}
-use Rattle.std.proofs.lemmas.Bool.{cases_lt, lt-ltb}
+use Rattle.std.proofs.lemmas.Bool.{cases_lt, lt-ltb, le-ltb}
 use Rattle.std.proofs.lemmas.Bool.Decides.{nat_tests}
-use Rattle.std.proofs.lemmas.List.{get_or_append_left, get_or_push, length_push, take_all}
+use Rattle.std.proofs.lemmas.List.{get_or_append_left, get_or_push, length_push, take_all, get_or_default}
 use Rattle.std.proofs.lemmas.List.Sorted.{list_any-IsPermutation, sum_by-IsPermutation}
 use Rattle.std.proofs.lemmas.List.Sums.{sum_by-cons, sum_by_more}
 use Rattle.boot_plan.specs.Packing.{AreBases, HasOffset, address}
@@ -27,9 +27,6 @@ all_permuted p xs ys h all = all_any p ys ∙ ap not (sym (list_any-IsPermutatio
 pub regions_permuted : (rs ss : List Untyped) → IsPermutation rs ss → are_regions rs ≡ true → are_regions ss ≡ true
 regions_permuted rs ss h all = all_permuted (λ (r : Untyped). is_region r.paddr r.bits) rs ss h all
 
-not_lt : (n m : ℕ) → m ≤ n → nat_lt n m ≡ false
-not_lt n m h = grind (arith, nat_tests)
-
 -- the region with an offset
 pub address_at : (rs : List Untyped) (i : ℕ) (d : Untyped) (offset : ℕ) → i < length rs → had 0 (take i rs) ≤ offset → offset < had 0 (take i rs) + room_bytes 0 (get_or rs i d)
     → address rs offset ≡ (get_or rs i d).paddr + (offset - had 0 (take i rs))
@@ -40,7 +37,7 @@ address_at (r ∷ rs) zero d offset l low high =
     rw (t, e) refl
 address_at (r ∷ rs) (suc i) d offset l low high =
     let more : had 0 (take (suc i) (r ∷ rs)) ≡ room_bytes 0 r + had 0 (take i rs) = sum_by-cons (room_bytes 0) r (take i rs) in
-    let t : nat_lt offset (room_bytes 0 r) ≡ false = not_lt offset (room_bytes 0 r) (omega (arith, more)) in
+    let t : nat_lt offset (room_bytes 0 r) ≡ false = le-ltb offset (room_bytes 0 r) (omega (arith, more)) in
     let ih = address_at rs i d (offset - room_bytes 0 r) (omega arith) (omega (arith, more)) (omega (arith, more)) in
     let e : (offset - room_bytes 0 r) - had 0 (take i rs) ≡ offset - (room_bytes 0 r + had 0 (take i rs)) = omega arith in
     rw (t, more) (ih ∙ ap (λ k. (get_or rs i d).paddr + k) e)
@@ -120,17 +117,11 @@ had_take_less (r ∷ rs) (suc i) (suc j) h =
     let b : had 0 (take (suc j) (r ∷ rs)) ≡ room_bytes 0 r + had 0 (take j rs) = sum_by-cons (room_bytes 0) r (take j rs) in
     omega (arith, ih, a, b)
 
--- an element is read alike with any default
-pub same_read : {A : Type 0} (xs : List A) (i : ℕ) (d e : A) → i < length xs → get_or xs i d ≡ get_or xs i e
-same_read [] i d e h = absurd (omega arith)
-same_read (x ∷ xs) zero d e h = refl
-same_read (x ∷ xs) (suc i) d e h = same_read xs i d e (omega arith)
-
 -- bases rise
 pub rising : (rs : List Untyped) (bases : List ℕ) → AreBases rs bases → IsNonDecreasing bases
 rising rs bases b = λ i j d h l.
-    let x = same_read bases i d 0 (omega arith) in
-    let y = same_read bases j d 0 (omega arith) in
+    let x = get_or_default bases i d 0 (omega arith) in
+    let y = get_or_default bases j d 0 (omega arith) in
     let p = b.each i (omega (arith, b.count)) in
     let q = b.each j (omega (arith, b.count)) in
     let k = had_take_less rs i j h in
@@ -146,7 +137,7 @@ room_end r h = let k = (region_parts r.paddr r.bits h).3 in let e = small_cond (
 
 -- the base and the region that are read for an offset
 pub base_read : (rs : List Untyped) (bases : List ℕ) (offset k b : ℕ) → AreBases rs bases → HasOffset rs bases offset k → b ≡ get_or bases k b → b ≡ slice_index bases k
-base_read rs bases offset k b a h e = e ∙ same_read bases k b 0 (omega (arith, h.within, a.count))
+base_read rs bases offset k b a h e = e ∙ get_or_default bases k b 0 (omega (arith, h.within, a.count))
 
 pub base_low : (rs : List Untyped) (bases : List ℕ) (offset k b : ℕ) → AreBases rs bases → HasOffset rs bases offset k → b ≡ get_or bases k b → b ≤ offset
 base_low rs bases offset k b a h e = omega (arith, base_read rs bases offset k b a h e, h.low)

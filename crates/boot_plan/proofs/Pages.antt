@@ -1,17 +1,18 @@
 -- Pages of devices: which regions have them, and which are needed already.
-use Rattle.std.proofs.Common.{◌≡◌, ◌∙◌, refl, sym, ap, subst, ⊎_elim, ℕ, ◌+◌, ◌%◌, ◌<◌, ◌≤◌, ◌^◌, ◌==◌, ◌&&◌, ◌||◌, Bool, true, false, cond, not, leb, nat_lt, List, [], ◌∷◌, ◌++◌, length, get_or, take, drop, Option, Some, None, Result, Ok, Err, Less, Equal, Greater, arith}
+use Rattle.std.proofs.Common.{◌≡◌, ◌∙◌, refl, sym, ap, subst, ⊎_elim, ℕ, ◌+◌, ◌%◌, ◌<◌, ◌≤◌, ◌^◌, ◌==◌, ◌&&◌, ◌||◌, Bool, true, false, cond, not, leb, nat_lt, List, [], ◌∷◌, ◌++◌, length, get_or, take, drop, Option, Some, None, Result, Ok, Err, arith}
 use Rattle.std.specs.Prelude.{IfOk}
 use Rattle.std.specs.List.{list_any}
 use Rattle.std.specs.List.Sorted.{IsPermutation}
-use Rattle.std.proofs.lemmas.Bool.{and_parts, cases_lt, eqb-true, le-leb, lt-ltb}
+use Rattle.std.proofs.lemmas.Bool.{and_parts, cases_lt, eqb-true, le-leb, lt-ltb, le-ltb}
 use Rattle.std.proofs.lemmas.Bool.Decides.{nat_tests}
-use Rattle.std.proofs.lemmas.List.{at_drop_all, at_drop_more, take_all, take_more}
+use Rattle.std.proofs.lemmas.List.{at_drop_all, at_drop_more, take_all, take_more, append-nil}
 use Rattle.std.proofs.lemmas.List.Folds.{list_any-append, list_any_more}
 use Rattle.std.proofs.lemmas.List.Sorted.{list_any-IsPermutation}
 use Rattle.boot_plan.specs.Devices.{device_refusal, has_page, is_needed}
 use Rattle.std.specs.BTreeSet.{BTreeSet, contains}
-use Rattle.std.specs.Cmp.{nat_cmp_is}
 use Rattle.std.specs.Ordering.{is_eq, nat_cmp}
+use Rattle.std.proofs.Math.Bool.{or-false}
+use Rattle.cam_base.proofs.Orders.{is_eq-nat_cmp}
 use Rattle.boot_plan.specs.DevicesTold.{IsIndexOf, IsSetOf, has_pages, page, pages_of}
 use Rattle.boot_plan.specs.Regions.{is_region, region_end}
 use Rattle.boot_plan.specs.declared.need.Need.{Need}
@@ -28,9 +29,6 @@ use Rattle.page_index.specs.declared.region.Region.{Region}
 
 no_le : (n m : ℕ) → m < n → leb n m ≡ false
 no_le n m h = grind (arith, nat_tests)
-
-no_lt : (n m : ℕ) → m ≤ n → nat_lt n m ≡ false
-no_lt n m h = grind (arith, nat_tests)
 
 -- a great region of a device shares something with a page where it has the page
 pub great_region : (paddr : ℕ) (r : Untyped) → is_region r.paddr r.bits ≡ true → 12 ≤ r.bits → r.device ≡ true → paddr % 4096 ≡ 0 → shares (page paddr) (pages_of r) ≡ has_page paddr r
@@ -66,13 +64,13 @@ great_region paddr r sound great device at = ⊎_elim
     behind : paddr < region_end r → paddr + 4096 ≤ r.paddr → shares (page paddr) (pages_of r) ≡ has_page paddr r
     behind a b =
         let la : nat_lt paddr (region_end r) ≡ true = lt-ltb paddr (region_end r) a in
-        let lb : nat_lt r.paddr (paddr + 4096) ≡ false = no_lt r.paddr (paddr + 4096) b in
+        let lb : nat_lt r.paddr (paddr + 4096) ≡ false = le-ltb r.paddr (paddr + 4096) b in
         let low : leb r.paddr paddr ≡ false = no_le r.paddr paddr (omega arith) in
         rw (la, lb, device, low) refl
 
     in_front : region_end r ≤ paddr → r.paddr < paddr + 4096 → shares (page paddr) (pages_of r) ≡ has_page paddr r
     in_front a b =
-        let la : nat_lt paddr (region_end r) ≡ false = no_lt paddr (region_end r) a in
+        let la : nat_lt paddr (region_end r) ≡ false = le-ltb paddr (region_end r) a in
         let low : leb r.paddr paddr ≡ true = le-leb r.paddr paddr (begins b) in
         let high : leb (paddr + 4096) (region_end r) ≡ false = no_le (paddr + 4096) (region_end r) (omega arith) in
         rw (la, device, low, high) refl
@@ -109,17 +107,13 @@ pub found_none : (rs : List Untyped) → AreFound rs 0 []
 unfolding AreFound
 found_none rs = λ paddr h. refl
 
-or_or_false : (a : Bool) → (a || false) ≡ a
-or_or_false true = refl
-or_or_false false = refl
-
 pub found_more : (rs : List Untyped) (i : ℕ) (d : Untyped) (found new : List Region) → i < length rs → is_region (get_or rs i d).paddr (get_or rs i d).bits ≡ true → 12 ≤ (get_or rs i d).bits → (get_or rs i d).device ≡ true
     → AreFound rs i found → new ≡ found ++ pages_of (get_or rs i d) ∷ [] → AreFound rs (i + 1) new
 unfolding AreFound
 found_more rs i d found new l sound great device so_far pushed = λ paddr at.
     ap (list_any (shares (page paddr))) pushed
     ∙ list_any-append (shares (page paddr)) found (pages_of (get_or rs i d) ∷ [])
-    ∙ ap (λ t. list_any (shares (page paddr)) found || t) (or_or_false (shares (page paddr) (pages_of (get_or rs i d))))
+    ∙ ap (λ t. list_any (shares (page paddr)) found || t) (or-false (shares (page paddr) (pages_of (get_or rs i d))))
     ∙ ap (λ t. t || shares (page paddr) (pages_of (get_or rs i d))) (so_far paddr at)
     ∙ ap (λ t. list_any (has_page paddr) (take i rs) || t) (great_region paddr (get_or rs i d) sound great device at)
     ∙ sym (list_any_more (has_page paddr) rs i d l)
@@ -128,7 +122,7 @@ pub found_still : (rs : List Untyped) (i : ℕ) (d : Untyped) (found : List Regi
 unfolding AreFound
 found_still rs i d found l none so_far = λ paddr at.
     so_far paddr at
-    ∙ sym (or_or_false (list_any (has_page paddr) (take i rs)))
+    ∙ sym (or-false (list_any (has_page paddr) (take i rs)))
     ∙ ap (λ t. list_any (has_page paddr) (take i rs) || t) (sym (none paddr))
     ∙ sym (list_any_more (has_page paddr) rs i d l)
 
@@ -198,10 +192,6 @@ at_next : (rs : List Untyped) (ns : List Need) (i : ℕ) (d : Need) → i < leng
 unfolding refusal_from
 at_next rs ns i d l = at_drop_more (device_refusal rs (pages (take i ns)) i) ns i d l
 
-append_none : {A : Type 0} (xs : List A) → xs ++ [] ≡ xs
-append_none [] = refl
-append_none (x ∷ xs) = ap (λ k. x ∷ k) (append_none xs)
-
 pub record Skips (rs : List Untyped) (ns : List Need) (i : ℕ) : Type 0 where
   pub refusal : refusal_from rs ns i ≡ refusal_from rs ns (i + 1)
   pub before : pages (take (i + 1) ns) ≡ pages (take i ns)
@@ -212,7 +202,7 @@ unfolding refusal_from pages
 skip rs ns i d l none = go (get_or ns i d) refl
   where
     here : (n : Need) → get_or ns i d ≡ n → pages (n ∷ []) ≡ [] → pages (take (i + 1) ns) ≡ pages (take i ns)
-    here n e f = pages_next ns i d l ∙ ap (λ k. pages (take i ns) ++ k) (ap (λ m. pages (m ∷ [])) e ∙ f) ∙ append_none (pages (take i ns))
+    here n e f = pages_next ns i d l ∙ ap (λ k. pages (take i ns) ++ k) (ap (λ m. pages (m ∷ [])) e ∙ f) ∙ append-nil (pages (take i ns))
 
     made : (n : Need) → get_or ns i d ≡ n → pages (n ∷ []) ≡ [] → ((before : List ℕ) (ms : List Need) → device_refusal rs before i (n ∷ ms) ≡ device_refusal rs before (i + 1) ms) → Skips rs ns i
     made n e f g =
@@ -266,18 +256,6 @@ pub set_begin : (ns : List Need) (set : BTreeSet ℕ) → set.keys ≡ [] → Is
 unfolding pages
 set_begin ns set e = λ paddr. rw e refl
 
-same_number : (p q : ℕ) → is_eq (nat_cmp p q) ≡ (p == q)
-same_number p q = ⊎_elim (λ lt. less lt) (λ ge. ⊎_elim (λ lt. more lt) (λ le. equal (omega arith)) (cases_lt q p)) (cases_lt p q)
-  where
-    less : p < q → is_eq (nat_cmp p q) ≡ (p == q)
-    less h = let e : Less ≡ nat_cmp p q = nat_cmp_is p q Less h in let f : (p == q) ≡ false = grind (arith, nat_tests) in ap is_eq (sym e) ∙ sym f
-
-    more : q < p → is_eq (nat_cmp p q) ≡ (p == q)
-    more h = let e : Greater ≡ nat_cmp p q = nat_cmp_is p q Greater h in let f : (p == q) ≡ false = grind (arith, nat_tests) in ap is_eq (sym e) ∙ sym f
-
-    equal : p ≡ q → is_eq (nat_cmp p q) ≡ (p == q)
-    equal h = let e : Equal ≡ nat_cmp p q = nat_cmp_is p q Equal h in let f : (p == q) ≡ true = grind (arith, nat_tests) in ap is_eq (sym e) ∙ sym f
-
 or_cond : (a b : Bool) → cond a true b ≡ (b || (a || false))
 or_cond true true = refl
 or_cond true false = refl
@@ -286,7 +264,7 @@ or_cond false false = refl
 
 pub set_more : (before after : List ℕ) (old new : BTreeSet ℕ) (paddr : ℕ) → IsSetOf before old → ((q : ℕ) → contains nat_cmp new q ≡ cond (is_eq (nat_cmp paddr q)) true (contains nat_cmp old q)) → after ≡ before ++ paddr ∷ [] → IsSetOf after new
 set_more before after old new paddr so_far step is = λ q.
-    step q ∙ ap (λ a. cond a true (contains nat_cmp old q)) (same_number paddr q) ∙ ap (cond (paddr == q) true) (so_far q) ∙ or_cond (paddr == q) (is_needed q before)
+    step q ∙ ap (λ a. cond a true (contains nat_cmp old q)) (is_eq-nat_cmp paddr q) ∙ ap (cond (paddr == q) true) (so_far q) ∙ or_cond (paddr == q) (is_needed q before)
     ∙ sym (list_any-append (λ p. p == q) before (paddr ∷ [])) ∙ ap (is_needed q) (sym is)
 
 -- a page is new in the set, or not

@@ -2,12 +2,13 @@
 use Rattle.std.proofs.Common.{◌≡◌, ◌∙◌, refl, sym, subst, inl, inr, ⊎_elim, ℕ, ◌+◌, ◌<◌, ◌≤◌, ◌&&◌, Bool, true, false, cond, leb, nat_lt, List, [], ◌∷◌, ◌++◌, append_assoc, append-nil, Option, Some, None, arith}
 use Rattle.std.specs.List.{position, position_from, sum_by}
 use Rattle.std.specs.List.Sorted.{IsPermutation}
-use Rattle.std.specs.Option.{option_map, option_or}
+use Rattle.std.specs.Option.{option_map}
 use Rattle.std.proofs.lemmas.Bool.{cases_lt, and_parts}
 use Rattle.std.proofs.lemmas.Bool.Decides.{nat_tests}
 use Rattle.std.proofs.lemmas.Iterator.Adapters.{position_from-zero}
 use Rattle.std.proofs.lemmas.List.Sorted.{sum_by-IsPermutation}
 use Rattle.std.proofs.lemmas.List.Sums.{sum_by-append, sum_by-cons}
+use Rattle.cam_base.proofs.Options.{neither}
 use Rattle.boot_plan.specs.Overlaps.{first_overlap, overlap_at, overlap_behind}
 use Rattle.boot_plan.specs.Placed.{Apart, Bytes, LieIn, LieInOne, bytes_end}
 use Rattle.boot_plan.specs.Regions.{region_end, shares}
@@ -51,10 +52,6 @@ none_hold x r i (q ∷ qs) a e = go (shares r q) refl (holds x q) refl (λ left.
         let all = ih left in
         omega (arith, all, none, sum_by-cons (one x) q qs)
 
-or_none : {A : Type 0} (a b : Option A) → option_or a b ≡ None → (a ≡ None) × (b ≡ None)
-or_none None b e = (refl, e)
-or_none (Some x) b e = absurd cc
-
 map_none : {A B : Type 0} (f : A → B) (a : Option A) → option_map f a ≡ None → a ≡ None
 map_none f None e = refl
 map_none f (Some x) e = absurd cc
@@ -78,7 +75,7 @@ solo_more before r e s = record { at_most = λ x. go x (holds x r) refl }
 solo_behind : (before rs : List Untyped) → overlap_behind before rs ≡ None → Solo before → Solo (before ++ rs)
 solo_behind before [] e s = subst Solo (sym (append-nil before)) s
 solo_behind before (r ∷ rs) e s =
-    let p = or_none (overlap_at before r) (overlap_behind (before ++ r ∷ []) rs) e in
+    let p = neither (overlap_at before r) (overlap_behind (before ++ r ∷ []) rs) e in
     subst Solo (append_assoc before (r ∷ []) rs) (solo_behind (before ++ r ∷ []) rs p.1 (solo_more before r p.0 s))
 
 pub solo_from : (rs : List Untyped) → first_overlap rs ≡ None → Solo rs

@@ -32,10 +32,9 @@ use Rattle.arch_policy.specs.declared.owner.Owner.TheVariants.{OfConnection, OfD
 use Rattle.assigned_laws.specs.Named.{HasPath}
 use Rattle.flat_laws.proofs.FewEnds.{no_first}
 use Rattle.flat_laws.proofs.FlatEnds.{strung_of}
-use Rattle.flat_laws.proofs.FlatLeaves.{from_get}
 use Rattle.flat_laws.proofs.SomeEnds.{some_end}
 use Rattle.numbering.proofs.Gathered.{in_place, place_of}
-use Rattle.numbering.proofs.Lists.{from_filter_map, in_map, map_some}
+use Rattle.numbering.proofs.Lists.{from_filter_map, in_map, map_some, from_get_map}
 use Rattle.numbering.specs.Gather.{IsIn}
 
 longest_of : (ps : List Path) (p : Path) → IsIn p ps → length p ≤ longest ps
@@ -83,14 +82,14 @@ module _ (s : Source) (sound : AreNamesSound s) (limits : AreInLimits s) where
 
   device_path : (l : ℕ) (p : Path) → HasPath (flat_of s) (OfLeaf l) p → length p ≤ 16
   device_path l p h =
-      let g = from_get (leaf_of (hierarchy_of s)) (leaves (hierarchy_of s)) l h.0 h.1 in
+      let g = from_get_map (leaf_of (hierarchy_of s)) (leaves (hierarchy_of s)) l h.0 h.1 in
       let short = leaf_short g.0 (in_place g.0 (leaves (hierarchy_of s)) l g.1) in
       subst (λ (z : Path). length z ≤ 16) (ap (λ (z : Leaf). z.path) g.2 ∙ h.3) short
 
   domain_path : (d : ℕ) (p : Path) → HasPath (flat_of s) (OfDomain d) p → length p ≤ 16
   domain_path d p h =
       let k = hierarchy_of s in
-      let g = from_get (flat_domain k) (domains k) d h.0 h.1 in
+      let g = from_get_map (flat_domain k) (domains k) d h.0 h.1 in
       let w = (domains_are k g.0).0 (in_place g.0 (domains k) d g.1) in
       let short = leaf_short w.0 w.1 in
       let inside = domain_short k w.0.path in

@@ -50,11 +50,9 @@ use Rattle.build_back.proofs.PathLengths.{paths_short}
 use Rattle.build_back.proofs.PolicyLengths.{IsEdgeShort, IsLabelShort, IsObjectShort, policy_short}
 use Rattle.build_back.proofs.SpecBack.{made_fit, made_writable}
 use Rattle.build_back.specs.ReadBack.{IsPolicyReadBack}
+use Rattle.flat_laws.proofs.ShortTrees.{all_of}
 
 -- ---- each element
-
-each_at : {X : Type 0} (P : X → Type 0) (xs : List X) → ((x : X) → IsIn x xs → P x) → All P xs
-each_at P xs h k d l = h (get_or xs k d) (in_place (get_or xs k d) xs k (slice_get-get_or xs k d l))
 
 at_each : {X : Type 0} (P : X → Type 0) (xs : List X) → All P xs → (x : X) → IsIn x xs → P x
 at_each P xs all x i =
@@ -225,11 +223,11 @@ module _ {contents : Option Contents} (s : Source) (images : Images) (facts : Ar
         record {
           numbers = λ i j d first second same. let less = l.rising i j d first second in absurd (omega (arith, less, same));
           names = l.texts;
-          named = each_at _ b.policy.labels (λ x i. (line_here x i).name);
+          named = all_of _ b.policy.labels (λ x i. (line_here x i).name);
           objects = o.differ;
-          labelled = each_at _ b.policy.objects (λ x i. label_there x.1 (object_labelled x i));
-          from = each_at _ b.policy.edges (λ x i. label_there x.from (leads x i).0);
-          to = each_at _ b.policy.edges (λ x i. label_there x.to (leads x i).1);
+          labelled = all_of _ b.policy.objects (λ x i. label_there x.1 (object_labelled x i));
+          from = all_of _ b.policy.edges (λ x i. label_there x.from (leads x i).0);
+          to = all_of _ b.policy.edges (λ x i. label_there x.to (leads x i).1);
         }
 
     short_label : (l : ℕ × List ℕ) → IsIn l b.policy.labels → IsLabelShort l

@@ -24,8 +24,8 @@ use Rattle.adl_meaning.specs.NameFaults.{AreNamesSound}
 use Rattle.adl_meaning.specs.Paths.{Placed, leaves}
 use Rattle.cam_io.specs.Contents.{Contents}
 use Rattle.component_graph.proofs.Lists.{in_get}
-use Rattle.numbering.proofs.Lists.{from_enumerate, from_filter_map, from_flat_map, from_map, get_map, in_filter_map}
-use Rattle.flat_laws.proofs.FlatLeaves.{from_get, leaf_component}
+use Rattle.numbering.proofs.Lists.{from_enumerate, from_filter_map, from_flat_map, from_map, get_map, in_filter_map, from_get_map}
+use Rattle.flat_laws.proofs.FlatLeaves.{leaf_component}
 use Rattle.program_sections.specs.Images.{image_number}
 use Rattle.program_sections.specs.declared.images.Images.{Images}
 use Rattle.source_images.specs.ImagesRead.{AreImagesOf}
@@ -71,7 +71,7 @@ name_there s c i =
 leaf_named : (s : Source) → AreNamesSound s → (l : ℕ) (leaf : Leaf) → slice_get (flat_of s).leaves l ≡ Some leaf → (n : Name) × (component_name s leaf.component ≡ Some n)
 leaf_named s sound l leaf at =
     let h = hierarchy_of s in
-    let x = from_get (leaf_of h) (leaves h) l leaf at in
+    let x = from_get_map (leaf_of h) (leaves h) l leaf at in
     let c = leaf_component s sound x.0 (in_get (leaves h) l x.0 x.1) in
     let k = x.0.part.kind in (
       c.0.1.id.name,

@@ -1,4 +1,11 @@
+pub mod Bytes
 pub mod Decimals
 pub mod Digits
+pub mod Fronts
 pub mod Hexadecimals
+pub mod Joined
+pub mod Lists
+pub mod Naming
+pub mod Options
+pub mod Orders
 pub mod Values

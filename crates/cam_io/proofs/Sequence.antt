@@ -3,7 +3,7 @@ use Rattle.std.proofs.Common.{◌≡◌, ℕ, List, [], ◌∷◌, Result, Ok, E
 use Rattle.cam_io.specs.Sinks.{Sink, IsOpen, Writes}
 use Rattle.std.specs.List.{flat_map}
 use Rattle.std.proofs.lemmas.List.Folds.{flat_map-map}
-use Rattle.cam_base.specs.Texts.{◌⊹◌, together}
+use Rattle.cam_base.specs.Texts.{◌⊹◌}
 use Rattle.cam_io.proofs.Counts.{rose_after}
 use Rattle.cam_io.proofs.Writing.{wrote_nothing, ok_then, cut_first, cut_then, open_after}
 
@@ -32,7 +32,3 @@ module _ {E : Type 0} {c : ℕ} where
 
 join_map : {X : Type 0} (f : X → List ℕ) (xs : List X) → flat_map (λ x. x) (map f xs) ≡ flat_map f xs
 join_map f xs = flat_map-map (λ x. x) f xs
-
-pub together_map : {X : Type 0} (f : X → List ℕ) (xs : List X) → together (map f xs) ≡ flat_map f xs
-unfolding together
-together_map f xs = join_map f xs

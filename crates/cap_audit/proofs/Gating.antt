@@ -4,7 +4,6 @@ use Rattle.std.proofs.lemmas.Bool.{and_parts, cases_eq, cases_lt, eq-eqb}
 use Rattle.std.proofs.lemmas.List.{get_or-set_same, get_or-set_other, length-set}
 use Rattle.std.proofs.lemmas.Option.{same_Some}
 use Rattle.cap_model.proofs.Kept.{is_at_below, object_below}
-use Rattle.cap_model.specs.Kept.{IsKept}
 use Rattle.cap_model.specs.Kinds.{is_at}
 use Rattle.cap_model.specs.Lookup.{object_at}
 use Rattle.cap_model.specs.declared.cap.Cap.{Cap}
@@ -15,10 +14,8 @@ use Rattle.cap_spread.specs.Search.{Found}
 use Rattle.cap_spread.specs.Spread.{HasRoot, root_of}
 use Rattle.cap_spread.specs.Start.{repeated}
 use Rattle.cap_spread.specs.declared.found.Pair.{Pair}
-use Rattle.cap_model.specs.State.{boot}
 use Rattle.cap_spread.proofs.Beginning.{repeated_at, repeated_length}
 use Rattle.cap_spread.proofs.Bringing.{at_pushed, pushed_cases, pushed_last}
-use Rattle.cap_spread.proofs.Quiet.{boot_quiet, quiet_cnode}
 use Rattle.cap_audit.specs.Gates.{AreGates, AreRosters, MayCallAt, caller_of, enrolled, gated, with_more}
 use Rattle.cap_audit.specs.Kinds.{stand_in}
 use Rattle.cap_audit.specs.Picks.{pick_of}
@@ -171,9 +168,6 @@ gates_more spec f heads gates new n pair (Some pick) at before is same = subst (
             ))
       ];
     })
-
-pub root_inside : (spec : Spec) (t c : ℕ) → IsKept spec → HasRoot spec t c → c < length spec.entries
-root_inside spec t c kept root = is_at_below spec kinds.CNode c (quiet_cnode spec (boot spec) (boot_quiet spec kept) t c root)
 
 pub thread_inside : (spec : Spec) (t c : ℕ) → HasRoot spec t c → t < length spec.entries
 thread_inside spec t c root = go (object_at spec t) refl where

@@ -3,6 +3,7 @@ use Rattle.std.proofs.Common.{◌≡◌, ◌≢◌, ◌∙◌, ◌<◌, ◌≤�
 use Rattle.std.specs.List.{Contains, filter_map}
 use Rattle.std.proofs.lemmas.Bool.{eqb-false, eqb-true}
 use Rattle.std.proofs.lemmas.Option.{slice_get_within}
+use Rattle.cam_base.proofs.Lists.{from_filter_map, to_filter_map}
 use Rattle.auth_kinds.specs.Tables.{has}
 use Rattle.auth_kinds.specs.declared.edge.Edge.{Edge}
 use Rattle.cap_model.proofs.BootPlaces.{at_contains, contains_at}
@@ -20,7 +21,6 @@ use Rattle.cap_audit.specs.declared.gates.Place.{Place}
 use Rattle.cap_audit.proofs.Gaining.{below_none, gains_by, gains_none, some_all, some_more}
 use Rattle.cap_audit.proofs.Gating.{none_in_blank}
 use Rattle.cap_audit.proofs.Kinding.{row_cases}
-use Rattle.cap_audit.proofs.Picking.{from_filtered, to_filtered}
 
 -- the place of a value
 
@@ -68,14 +68,14 @@ place_there node value (x ∷ xs) (suc j) held h is = go (x.value == value) refl
 pub places_are : (f : Found) (nodes : List ℕ) (value : ℕ) (places : List Place) → places ≡ filter_map (place_of f value) nodes → ArePlaces f nodes value places
 places_are f nodes value places is = record {
   stand = λ k at h. (
-      let r = from_filtered (place_of f value) nodes k at (subst (λ (xs : List Place). slice_get xs k ≡ Some at) is h) in
+      let r = from_filter_map (place_of f value) nodes k at (subst (λ (xs : List Place). slice_get xs k ≡ Some at) is h) in
       let s = place_stands r.1 value (held_by f r.1) at r.3 in
       let x : Held = record { value = value; number = at.number } in
       at_contains (held_by f at.node) x s.1.0 (subst (λ (n : ℕ). slice_get (held_by f n) s.1.0 ≡ Some x) (sym s.0) s.1.1));
   every = λ k c held h there of. (
       let j = contains_at (held_by f c) held there in
       let p = place_there c value (held_by f c) j.0 held j.1 of in
-      let r = to_filtered (place_of f value) nodes k c p.0 h p.1 in
+      let r = to_filter_map (place_of f value) nodes k c p.0 h p.1 in
       (r.0, p.0, subst (λ (xs : List Place). slice_get xs r.0 ≡ Some p.0) (sym is) r.1, p.2));
 }
 

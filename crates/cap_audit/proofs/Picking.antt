@@ -1,7 +1,8 @@
 -- What the picks of a CNode are, and what steps with them make.
-use Rattle.std.proofs.Common.{◌≡◌, ◌∙◌, ℕ, Bool, true, false, List, [], ◌∷◌, Option, Some, None, slice_get, refl, sym, ap, subst, zero, suc}
+use Rattle.std.proofs.Common.{◌≡◌, ◌∙◌, ℕ, Bool, true, false, List, Option, Some, None, slice_get, refl, sym, ap, subst}
 use Rattle.std.specs.List.{Contains, filter_map}
 use Rattle.std.proofs.lemmas.Option.{slice_get_within}
+use Rattle.cam_base.proofs.Lists.{from_filter_map, to_filter_map}
 use Rattle.auth_kinds.specs.declared.edge.Edge.{Edge}
 use Rattle.cap_model.proofs.BootPlaces.{at_contains}
 use Rattle.cap_model.specs.declared.cap.Cap.{Cap}
@@ -14,36 +15,6 @@ use Rattle.cap_audit.specs.Picks.{IsHeld, OfDeed, OfDeeds, OwnsAll, is_wanted, p
 use Rattle.cap_audit.specs.declared.making.Deed.{Deed}
 use Rattle.cap_audit.specs.declared.picks.Pick.{Pick}
 use Rattle.cap_audit.specs.declared.picks.Wanted.{Wanted}
-
--- what a filter gives comes from some item
-pub from_filtered : {A B : Type 0} (f : A → Option B) (xs : List A) (k : ℕ) (y : B) → slice_get (filter_map f xs) k ≡ Some y → (i : ℕ) × (x : A) × (slice_get xs i ≡ Some x) × (f x ≡ Some y)
-from_filtered f [] k y h = absurd cc
-from_filtered {A} {B} f (x ∷ xs) k y h = go (f x) refl h (λ j g. from_filtered f xs j y g) where
-  go : (o : Option B) → f x ≡ o → slice_get (filter_map f (x ∷ xs)) k ≡ Some y
-      → ((j : ℕ) → slice_get (filter_map f xs) j ≡ Some y → (i : ℕ) × (z : A) × (slice_get xs i ≡ Some z) × (f z ≡ Some y))
-      → (i : ℕ) × (z : A) × (slice_get (x ∷ xs) i ≡ Some z) × (f z ≡ Some y)
-  go None is there rest =
-      let same : filter_map f (x ∷ xs) ≡ filter_map f xs = rw is refl in
-      let r = rest k (subst (λ (ys : List B). slice_get ys k ≡ Some y) same there) in
-      (suc r.0, r.1, r.2, r.3)
-  go (Some z) is there rest =
-      let same : filter_map f (x ∷ xs) ≡ z ∷ filter_map f xs = rw is refl in
-      at_place k (subst (λ (ys : List B). slice_get ys k ≡ Some y) same there) where
-        at_place : (j : ℕ) → slice_get (z ∷ filter_map f xs) j ≡ Some y → (i : ℕ) × (w : A) × (slice_get (x ∷ xs) i ≡ Some w) × (f w ≡ Some y)
-        at_place zero g = (zero, x, refl, is ∙ g)
-        at_place (suc j) g = let r = rest j g in (suc r.0, r.1, r.2, r.3)
-
--- and what it gives of an item is there
-pub to_filtered : {A B : Type 0} (f : A → Option B) (xs : List A) (i : ℕ) (x : A) (y : B) → slice_get xs i ≡ Some x → f x ≡ Some y → (k : ℕ) × (slice_get (filter_map f xs) k ≡ Some y)
-to_filtered f [] i x y h is = absurd cc
-to_filtered {A} {B} f (z ∷ xs) zero x y h is =
-    let same : z ≡ x = cc in
-    let here : f z ≡ Some y = ap f same ∙ is in
-    (zero, rw here refl)
-to_filtered {A} {B} f (z ∷ xs) (suc i) x y h is = go (f z) refl (to_filtered f xs i x y h is) where
-  go : (o : Option B) → f z ≡ o → (k : ℕ) × (slice_get (filter_map f xs) k ≡ Some y) → (k : ℕ) × (slice_get (filter_map f (z ∷ xs)) k ≡ Some y)
-  go None here r = (r.0, rw here r.1)
-  go (Some w) here r = (suc r.0, rw here r.1)
 
 module _ (spec : Spec) (f : Found) (wanted : Wanted) where
   -- a pick is what it was picked from
@@ -78,14 +49,14 @@ module _ (spec : Spec) (f : Found) (wanted : Wanted) where
   module _ (c : ℕ) where
     pub pick_at : (k : ℕ) (pick : Pick) → slice_get (filter_map (pick_of spec f wanted) (held_by f c)) k ≡ Some pick → HoldsAt f c pick.number pick.cap × (is_wanted spec wanted pick.cap ≡ true)
     pick_at k pick h =
-        let r = from_filtered (pick_of spec f wanted) (held_by f c) k pick h in
+        let r = from_filter_map (pick_of spec f wanted) (held_by f c) k pick h in
         (pick_holds c r.1 pick (at_contains (held_by f c) r.1 r.0 r.2) r.3, (picked_from r.1 pick r.3).2)
 
     pub pick_of_held : (cap : Cap) → IsHeld f c cap → is_wanted spec wanted cap ≡ true
         → (k : ℕ) × (pick : Pick) × (slice_get (filter_map (pick_of spec f wanted) (held_by f c)) k ≡ Some pick) × (pick.cap ≡ cap)
     pick_of_held cap h fit =
         let made : Pick = record { number = h.held.number; cap = cap } in
-        let r = to_filtered (pick_of spec f wanted) (held_by f c) h.place h.held made h.there (picked h.held cap h.is fit) in
+        let r = to_filter_map (pick_of spec f wanted) (held_by f c) h.place h.held made h.there (picked h.held cap h.is fit) in
         (r.0, made, r.1, refl)
 
 module _ (spec : Spec) (labels : List ℕ) (f : Found) (deed : Deed) (c : ℕ) (froms tos : List Pick) (are_froms : froms ≡ filter_map (pick_of spec f (wanted_from deed)) (held_by f c))

@@ -99,7 +99,7 @@ there_is spec o entry h = rw h refl
 kind_is : (spec : Spec) (o : ℕ) (kind : Kind) → same_kind kind kind ≡ true → kind_at spec o ≡ Some kind → is_at spec kind o ≡ true
 kind_is spec o kind self h = rw (h, self) refl
 
-at_object : (spec : Spec) (o : ℕ) (entry : Entry) (object : Object) → slice_get spec.entries o ≡ Some entry → entry.object ≡ object → kind_at spec o ≡ Some (kind_of_object object)
+pub at_object : (spec : Spec) (o : ℕ) (entry : Entry) (object : Object) → slice_get spec.entries o ≡ Some entry → entry.object ≡ object → kind_at spec o ≡ Some (kind_of_object object)
 at_object spec o entry object h is = rw (h, is) refl
 
 node_fits : (spec : Spec) (threads : List ThreadState) (c : ℕ) (object : Object) → keeps spec object ≡ true → kind_at spec c ≡ Some (kind_of_object object) → NodeFits spec threads c (boot_node object)

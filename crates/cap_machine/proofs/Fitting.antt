@@ -23,16 +23,16 @@ use Rattle.cap_machine.proofs.Applied.{read_written}
 
 -- elements
 
-behind : {A : Type 0} (x : A) (xs : List A) (y : A) → Contains xs y → Contains (x ∷ xs) y
+pub behind : {A : Type 0} (x : A) (xs : List A) (y : A) → Contains xs y → Contains (x ∷ xs) y
 behind x xs y there = Contains-append_right (x ∷ []) xs y there
 
-first : {A : Type 0} (x : A) (xs : List A) (y : A) → x ≡ y → Contains (x ∷ xs) y
+pub first : {A : Type 0} (x : A) (xs : List A) (y : A) → x ≡ y → Contains (x ∷ xs) y
 first {A} x xs y same = subst (λ (z : A). Contains (x ∷ xs) z) same (Contains-append_left (x ∷ []) xs x (Contains-push [] x))
 
 pub first_or_behind : {A : Type 0} (x : A) (xs : List A) (y : A) → Contains (x ∷ xs) y → (x ≡ y) ⊎ Contains xs y
 first_or_behind x xs y there = elim (Contains-append_cases (x ∷ []) xs y there) [ inl h ↦ elim (Contains-push_cases [] x y h) [ inl none ↦ absurd (let w = none.1 in omega arith) | inr same ↦ inl same ] | inr h ↦ inr h ]
 
-from_filter : {A : Type 0} (p : A → Bool) (xs : List A) (y : A) → Contains (filter p xs) y → Contains xs y
+pub from_filter : {A : Type 0} (p : A → Bool) (xs : List A) (y : A) → Contains (filter p xs) y → Contains xs y
 from_filter p [] y there = there
 from_filter {A} p (x ∷ xs) y there = go (p x) refl (from_filter p xs y) where
   go : (b : Bool) → p x ≡ b → (Contains (filter p xs) y → Contains xs y) → Contains (x ∷ xs) y

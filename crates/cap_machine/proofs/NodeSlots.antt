@@ -1,5 +1,5 @@
 -- The slots of a CNode as a map by number: look-ups, a slot behind all others, a slot taken out.
-use Rattle.std.proofs.Common.{◌≡◌, ◌<◌, ◌≤◌, ◌+◌, ◌==◌, ℕ, Bool, true, false, not, List, [], ◌∷◌, ◌++◌, Less, Greater, refl, sym, ap, arith, nat_lt, map, take, length, get_or, zero, suc}
+use Rattle.std.proofs.Common.{◌≡◌, ◌<◌, ◌≤◌, ◌+◌, ◌==◌, ℕ, Bool, true, false, not, List, [], ◌∷◌, ◌++◌, Less, refl, sym, ap, arith, nat_lt, map, take, length, get_or, zero, suc}
 use Rattle.std.proofs.lemmas.Bool.{and_parts}
 use Rattle.std.proofs.lemmas.List.{map_more}
 use Rattle.std.specs.List.{AllByRecursion, filter, list_all}
@@ -12,6 +12,7 @@ use Rattle.std.specs.List.Sorted.{IsStrictlySortedBy}
 use Rattle.std.specs.Map.{keys_of, lookup, remove_entry}
 use Rattle.std.specs.Ordering.{nat_cmp, is_eq}
 use Rattle.std.specs.BTreeMap.{is_at, insert_entry}
+use Rattle.cam_base.proofs.Orders.{nat_cmp-greater}
 
 test_same : (i n : ℕ) → is_eq (nat_cmp i n) ≡ (n == i)
 test_same i n = grind arith
@@ -20,13 +21,10 @@ pub lookup-number : {X : Type 0} (es : List (ℕ × X)) (i : ℕ) → lookup (is
 lookup-number [] i = refl
 lookup-number (e ∷ es) i = rw (test_same i e.0, lookup-number es i) refl
 
-cmp_after : (k n : ℕ) → n < k → nat_cmp k n ≡ Greater
-cmp_after k n h = grind arith
-
 -- what stands at a greater number than all others comes last
 pub insert_last : {X : Type 0} (es : List (ℕ × X)) (k : ℕ) (v : X) → AllByRecursion (λ n. n < k) (keys_of es) → insert_entry nat_cmp es k v ≡ es ++ (k, v) ∷ []
 insert_last [] k v below = refl
-insert_last (e ∷ es) k v below = rw (cmp_after k e.0 below.0) (ap (λ rest. e ∷ rest) (insert_last es k v below.1))
+insert_last (e ∷ es) k v below = rw (nat_cmp-greater k e.0 below.0) (ap (λ rest. e ∷ rest) (insert_last es k v below.1))
 
 none_there : {X : Type 0} (es : List (ℕ × X)) (i n : ℕ) → n ≡ i → AllByRecursion (λ m. nat_cmp n m ≡ Less) (keys_of es) → filter (λ slot. not (slot.0 == i)) es ≡ es
 none_there [] i n same above = refl
@@ -73,7 +71,7 @@ before_rest : (x : ℕ × Cap) (ys : List (ℕ × Cap)) → rise (x ∷ ys) ≡ 
 before_rest x [] h = tt
 before_rest x (y ∷ ys) h = (first_before x y ys h, above x.0 y.0 ys (first_before x y ys h) (before_rest y ys (and_parts (nat_lt x.0 y.0) (rise (y ∷ ys)) h).1))
 
-rest_rises : (x : ℕ × Cap) (ys : List (ℕ × Cap)) → rise (x ∷ ys) ≡ true → rise ys ≡ true
+pub rest_rises : (x : ℕ × Cap) (ys : List (ℕ × Cap)) → rise (x ∷ ys) ≡ true → rise ys ≡ true
 rest_rises x [] h = refl
 rest_rises x (y ∷ ys) h = (and_parts (nat_lt x.0 y.0) (rise (y ∷ ys)) h).1
 

@@ -96,7 +96,7 @@ none_fits : (here : Option Object) (cap : Cap) → fits_kind (option_map kind_of
 none_fits None cap h = absurd cc
 none_fits (Some object) cap h = refl
 
-none_is_root : (arch : Arch) (here : Option Object) → is_root_object arch here ≡ true → is_some here ≡ true
+pub none_is_root : (arch : Arch) (here : Option Object) → is_root_object arch here ≡ true → is_some here ≡ true
 none_is_root arch None h = absurd cc
 none_is_root arch (Some object) h = refl
 

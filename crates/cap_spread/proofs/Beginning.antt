@@ -4,12 +4,13 @@ use Rattle.std.specs.List.{Contains}
 use Rattle.std.proofs.lemmas.Bool.{cases_lt}
 use Rattle.std.proofs.lemmas.List.{length-set, length-append, length-map, get_or-set_same}
 use Rattle.std.proofs.lemmas.Option.{slice_get_within, slice_get-get_or}
+use Rattle.cam_base.proofs.Lists.{get_or-last, get_or-before_last}
 use Rattle.cap_model.proofs.BootPlaces.{contains_at, at_contains}
 use Rattle.cap_model.specs.Kept.{IsKept}
 use Rattle.cap_machine.specs.Runs.{Run}
 use Rattle.cap_machine.specs.declared.step.Step.{Step}
 use Rattle.cap_model.proofs.BootPlaces.{entry_at}
-use Rattle.cap_model.proofs.Kept.{kind_is}
+use Rattle.cap_model.proofs.Kept.{kind_is, is_at_below}
 use Rattle.cap_model.specs.Kinds.{kind_of_object, kind_at, is_at}
 use Rattle.cap_model.specs.declared.kind.Kind.{Kind}
 use Rattle.cap_model.specs.Lookup.{object_at}
@@ -33,7 +34,7 @@ use Rattle.cap_spread.specs.Start.{empties, blanks, blank_row, blank_rows, owned
 use Rattle.cap_spread.specs.declared.found.Held.{Held}
 use Rattle.cap_spread.specs.declared.found.Pair.{Pair}
 use Rattle.cap_spread.proofs.Bringing.{none_within, at_pushed, pushed_cases, pushed_last, mark_kept, mark_cases, mark_there, mark_lengths, held_kept, held_cases, held_there}
-use Rattle.cap_spread.proofs.Quiet.{slot_at_boot, boot_quiet, at_object, quiet_cnode}
+use Rattle.cap_spread.proofs.Quiet.{slot_at_boot, boot_quiet, quiet_cnode}
 
 pub slots_inside : (spec : Spec) (c k : ℕ) (x : ℕ × Cap) → slice_get (slots_at spec c) k ≡ Some x → c < length spec.entries
 slots_inside spec c k x h = go (slice_get spec.entries c) refl where
@@ -263,7 +264,7 @@ module _ (spec : Spec) (f : Found) (done : ℕ) (m : Marks spec f done) (pair : 
           let same : pair ≡ p = (let a : slice_get f.queue done ≡ Some p = subst (λ (n : ℕ). slice_get f.queue n ≡ Some p) at h in cc) in
           subst (λ (q : Pair). is_known (with_mark f pair) q.node q.held.value ≡ true) same
           (mark_there f.known pair.node pair.held.value
-          (let e = m.row_each in let below = at_object spec kinds.CNode pair.node cnode_held in omega arith)
+          (let e = m.row_each in let below = is_at_below spec kinds.CNode pair.node cnode_held in omega arith)
           (let e = m.rows pair.node cnode_held in let below = m.starts.valued pair.node pair.held (m.starts.queued done pair here) in omega arith)))
     ];
   }
@@ -313,22 +314,12 @@ repeated_at x zero c = refl
 repeated_at x (suc n) zero = refl
 repeated_at x (suc n) (suc c) = repeated_at x n c
 
-get_front : (xs : List ℕ) (y k : ℕ) → k < length xs → get_or (xs ++ y ∷ []) k 0 ≡ get_or xs k 0
-get_front [] y k less = absurd (omega arith)
-get_front (x ∷ xs) y zero less = refl
-get_front (x ∷ xs) y (suc k) less = get_front xs y k (omega arith)
-
-get_last : (xs : List ℕ) (y k : ℕ) → k ≡ length xs → get_or (xs ++ y ∷ []) k 0 ≡ y
-get_last [] y k same = rw same refl
-get_last (x ∷ xs) y zero same = absurd (omega arith)
-get_last (x ∷ xs) y (suc k) same = get_last xs y k (omega arith)
-
 pub counted_more : (numbers new : List ℕ) (n : ℕ) → IsCounted numbers n → new ≡ numbers ++ n ∷ [] → IsCounted new (n + 1)
 counted_more numbers new n c made = record {
   as_many = (let e = c.as_many in let l : length (numbers ++ n ∷ []) ≡ length numbers + 1 = length-append numbers (n ∷ []) in let m = ap (λ (xs : List ℕ). length xs) made in omega arith);
   each = λ k less. rw made (elim (cases_lt k n) [
-    | inl below ↦ get_front numbers n k (let e = c.as_many in omega arith) ∙ c.each k below
-    | inr ge ↦ (let same : k ≡ n = omega arith in get_last numbers n k (let e = c.as_many in omega arith) ∙ sym same)
+    | inl below ↦ get_or-before_last numbers n k (let e = c.as_many in omega arith) ∙ c.each k below
+    | inr ge ↦ (let same : k ≡ n = omega arith in get_or-last numbers n k (let e = c.as_many in omega arith) ∙ sym same)
   ]);
 }
 
@@ -350,8 +341,8 @@ no_roots_below spec roots is = record {
   all_ones = λ c t less root none. absurd (omega arith);
 }
 
-root_inside : (spec : Spec) (t c : ℕ) → IsKept spec → HasRoot spec t c → c < length spec.entries
-root_inside spec t c kept root = at_object spec kinds.CNode c (quiet_cnode spec (boot spec) (boot_quiet spec kept) t c root)
+pub root_inside : (spec : Spec) (t c : ℕ) → IsKept spec → HasRoot spec t c → c < length spec.entries
+root_inside spec t c kept root = is_at_below spec kinds.CNode c (quiet_cnode spec (boot spec) (boot_quiet spec kept) t c root)
 
 pub roots_more : (spec : Spec) (roots new : List (Option ℕ)) (n : ℕ) (root : Option ℕ) → IsKept spec → RootsBelow spec roots n → root_of (object_at spec n) ≡ root → new ≡ rooted roots root n → RootsBelow spec new (n + 1)
 roots_more spec roots new n None kept r is made = rw made (record {

@@ -18,8 +18,9 @@ use Rattle.cap_spread.specs.declared.found.Course.TheVariants as courses
 use Rattle.cap_spread.specs.declared.found.Held.{Held}
 use Rattle.cap_spread.specs.declared.found.Pair.{Pair}
 use Rattle.cap_spread.specs.declared.found.Way.{Way}
-use Rattle.cap_spread.proofs.Quiet.{run_append, kept_at, Lands, landed_there, lands_onward, quiet_cnode, at_object}
+use Rattle.cap_spread.proofs.Quiet.{run_append, kept_at, Lands, landed_there, lands_onward, quiet_cnode}
 use Rattle.cap_spread.proofs.Sequences.{take_on, put_on, grant_on, reply_on}
+use Rattle.cap_model.proofs.Kept.{is_at_below}
 
 pub none_within : {A : Type 0} (xs : List A) (k : ℕ) → slice_get xs k ≡ None → k < length xs → ⊥
 none_within [] k h less = omega arith
@@ -143,7 +144,7 @@ module _ (spec : Spec) (f : Found) (F : IsFound spec f) where
     here = record { value = held.value; number = get_or f.nexts way.to 0 }
 
     less : way.to < length spec.entries
-    less = at_object spec kinds.CNode way.to (end_cnode c way.to way.course leads)
+    less = is_at_below spec kinds.CNode way.to (end_cnode c way.to way.course leads)
 
     in_values : held.value < length f.values
     in_values = F.valued c held has

@@ -7,7 +7,7 @@ use Rattle.cap_model.specs.Kinds.{kind_at, is_at}
 use Rattle.cap_model.specs.declared.cap.Cap.{Cap}
 use Rattle.cap_model.specs.declared.kind.Kind.TheVariants as kinds
 use Rattle.cap_model.specs.declared.spec.Spec.{Spec}
-use Rattle.cap_model.proofs.Kept.{kind_is}
+use Rattle.cap_model.proofs.Kept.{kind_is, is_at_below}
 use Rattle.cap_spread.specs.Covering.{AreAlike, Doors, hub_at, AreHubs, Covered, AreCovered, AreRoots, Covers, IsSearch, HasSlots, Links, CoversPair, GoesOn, IsFoundAt}
 use Rattle.cap_spread.specs.Hubs.{GivesAt, TakesAt, Widened}
 use Rattle.cap_spread.specs.Search.{Found, held_by, is_known, IsFound, Grows}
@@ -20,7 +20,7 @@ use Rattle.cap_spread.specs.declared.hubs.Side.TheVariants as sides
 use Rattle.cap_spread.proofs.Bringing.{none_within}
 use Rattle.cap_spread.proofs.Covering.{covered_on, hubs_on, opens_none, widened_opens}
 use Rattle.cap_spread.proofs.Meeting.{widened_same, widened_then, connects_widened, queue_longer}
-use Rattle.cap_spread.proofs.Quiet.{quiet_cnode, at_object}
+use Rattle.cap_spread.proofs.Quiet.{quiet_cnode}
 use Rattle.cap_spread.proofs.Paths.{path_then, path_on, queue_same, later_same, later_then, ways_on, widens_same, known_along, merged_ways, relabelled}
 
 -- a root and a CNode with ways there and back are one class
@@ -213,10 +213,10 @@ module _ (spec : Spec) (f : Found) (net : Lanes) (doors : Doors) (s : IsSearch s
   }
 
 pub root_below : (spec : Spec) (f : Found) (t c : ℕ) → IsFound spec f → HasRoot spec t c → c < length spec.entries
-root_below spec f t c F root = at_object spec kinds.CNode c (quiet_cnode spec F.state F.quiet t c root)
+root_below spec f t c F root = is_at_below spec kinds.CNode c (quiet_cnode spec F.state F.quiet t c root)
 
 pub cnode_below : (spec : Spec) (c : ℕ) → is_at spec kinds.CNode c ≡ true → c < length spec.entries
-cnode_below spec c is = at_object spec kinds.CNode c is
+cnode_below spec c is = is_at_below spec kinds.CNode c is
 
 pub begun : (spec : Spec) (f : Found) (net : Lanes) (doors : Doors) → IsSearch spec f net doors 0 → GoesOn spec f 0 f net doors
 begun spec f net doors s = record { search = s; later = later_same spec f s.found }

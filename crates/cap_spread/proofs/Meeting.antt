@@ -17,7 +17,8 @@ use Rattle.cap_spread.specs.declared.hubs.Passage.{Passage}
 use Rattle.cap_spread.specs.declared.hubs.Passage.TheVariants as passages
 use Rattle.cap_spread.proofs.Bringing.{none_within}
 use Rattle.cap_spread.proofs.Paths.{later_same, later_then, holds_on, path_on, widens_same, widens_then}
-use Rattle.cap_spread.proofs.Quiet.{quiet_cnode, at_object}
+use Rattle.cap_spread.proofs.Quiet.{quiet_cnode}
+use Rattle.cap_model.proofs.Kept.{is_at_below}
 
 -- what a place past the end of a list of members is read as
 abbrev pub no_member : Member
@@ -55,7 +56,7 @@ meeting_leads spec f e passages.Reply giver taker g k differ = (
 )
 
 pub member_below : (spec : Spec) (f : Found) (e : ℕ) (Allows : Cap → Type 0) (member : Member) → IsFound spec f → IsMember spec f e Allows member → member.node < length spec.entries
-member_below spec f e Allows member F m = at_object spec kinds.CNode member.node (quiet_cnode spec F.state F.quiet member.thread member.node m.root)
+member_below spec f e Allows member F m = is_at_below spec kinds.CNode member.node (quiet_cnode spec F.state F.quiet member.thread member.node m.root)
 
 -- wider and wider
 

@@ -11,7 +11,6 @@ use Rattle.cap_model.specs.declared.cap.Cap.{Cap}
 use Rattle.cap_model.specs.declared.spec.Spec.{Spec}
 use Rattle.cap_machine.proofs.Applied.{read_written}
 use Rattle.cap_spread.proofs.Bringing.{none_within, end_cnode}
-use Rattle.cap_spread.proofs.Quiet.{at_object}
 use Rattle.cap_model.specs.declared.kind.Kind.TheVariants as kinds
 use Rattle.cap_spread.specs.Search.{Found, held_by, is_known, HoldsAt, Leads, IsWay, IsFound, Grows, Brings}
 use Rattle.cap_spread.specs.Ways.{Lanes, ways_from, Path, at_end, along, InClass, AreWays, Widens, HaveGone, Later, AllGo, Connects, Merges, with_way, LeadsTo, JoinsBack}
@@ -20,6 +19,7 @@ use Rattle.cap_spread.specs.declared.found.Course.TheVariants as courses
 use Rattle.cap_spread.specs.declared.found.Held.{Held}
 use Rattle.cap_spread.specs.declared.found.Pair.{Pair}
 use Rattle.cap_spread.specs.declared.found.Way.{Way}
+use Rattle.cap_model.proofs.Kept.{is_at_below}
 
 pub grows_same : (f : Found) → Grows f f
 grows_same f = record { values = refl; held = λ c y there. there; known = λ c v there. there; queue = λ k pair there. there }
@@ -212,7 +212,7 @@ unfolding HaveGone
 relabelled f net classes done gone k pair way less h there = gone k pair way less h there
 
 pub end_below : (spec : Spec) (f : Found) (c : ℕ) (way : Way) → IsFound spec f → IsWay spec f c way → way.to < length spec.entries
-end_below spec f c way F leads = at_object spec kinds.CNode way.to (end_cnode spec f F c way.to way.course leads)
+end_below spec f c way F leads = is_at_below spec kinds.CNode way.to (end_cnode spec f F c way.to way.course leads)
 
 -- the ends of a new way are one class where a way led back
 module _ (spec : Spec) (f : Found) (net : Lanes) (c d : ℕ) (new : Found) (wide joined : Lanes) (x : Connects spec f net c d new wide) (c_less : c < length spec.entries) (d_less : d < length spec.entries) where

@@ -11,7 +11,6 @@ use Rattle.cap_model.specs.Kinds.{is_at}
 use Rattle.cap_model.specs.Lookup.{object_at}
 use Rattle.cap_model.specs.State.{Node, State, node_at, content_at, content_in, boot, boot_slot, boot_node, no_node}
 use Rattle.cap_model.specs.declared.cap.Cap.{Cap}
-use Rattle.cap_model.specs.declared.kind.Kind.{Kind}
 use Rattle.cap_model.specs.declared.kind.Kind.TheVariants as kinds
 use Rattle.cap_model.specs.declared.object.Object.{Object}
 use Rattle.cap_model.specs.declared.object.Object.TheVariants as objects
@@ -19,18 +18,18 @@ use Rattle.cap_model.specs.declared.spec.Spec.{Spec}
 use Rattle.cap_model.specs.declared.state.Content.{Content}
 use Rattle.cap_model.specs.declared.state.Content.TheVariants.{Capability}
 use Rattle.cap_model.specs.declared.state.ThreadState.{ThreadState}
-use Rattle.cap_model.proofs.Kept.{object_kept, object_below}
+use Rattle.cap_model.proofs.Kept.{object_kept, is_at_below}
 use Rattle.cap_machine.specs.declared.step.Step.{Step}
 use Rattle.cap_machine.specs.Effects.{grown, without, grown_at, without_at, added}
 use Rattle.cap_machine.specs.Runs.{Run}
 use Rattle.cap_machine.specs.StepTable.{Acts, StepTo}
 use Rattle.cap_machine.proofs.Applied.{read_written}
 use Rattle.cap_machine.proofs.Booting.{boot_fits}
-use Rattle.cap_machine.proofs.Fitting.{first_or_behind, step_fits}
+use Rattle.cap_machine.proofs.Fitting.{first_or_behind, step_fits, behind, first}
 use Rattle.cap_spread.specs.Quiet.{IsFresh, AreFresh, AreKept, Quiet}
 use Rattle.cap_spread.specs.Spread.{slots_of, slots_at, HasRoot}
 use Rattle.cap_spread.proofs.BootParts.{node_of, boot_node_at, boot_content, root_boot, nobody_waits}
-use Rattle.cap_spread.proofs.RunsWithin.{behind, first}
+use Rattle.cap_machine.proofs.NodeSlots.{rest_rises}
 
 -- a run behind a run
 pub run_append : (spec : Spec) (xs ys : List Step) (s mid new : State) → Run spec s xs mid → Run spec mid ys new → Run spec s (xs ++ ys) new
@@ -95,10 +94,6 @@ above x (y ∷ slots) i cap rises there =
       | inl same ↦ (let n : y.0 ≡ i = ap (λ (p : ℕ × Cap). p.0) same in omega arith)
       | inr more ↦ (let h : y.0 < i = above y slots i cap both.1 more in omega arith)
     ]
-
-pub rest_rises : (x : ℕ × Cap) (slots : List (ℕ × Cap)) → rise (x ∷ slots) ≡ true → rise slots ≡ true
-rest_rises x [] h = refl
-rest_rises x (y ∷ slots) h = (and_parts (nat_lt x.0 y.0) (rise (y ∷ slots)) h).1
 
 slot_found : (slots : List (ℕ × Cap)) (i : ℕ) (cap : Cap) → rise slots ≡ true → Contains slots (i, cap) → lookup (λ n. n == i) (map boot_slot slots) ≡ Some (Capability cap)
 slot_found [] i cap rises there = absurd (let w = there.1 in omega arith)
@@ -267,12 +262,6 @@ onward_then spec s mid new a b = record {
   kept = kept_on s.nodes mid.nodes new.nodes a.kept b.kept;
 }
 
-pub at_object : (spec : Spec) (kind : Kind) (o : ℕ) → is_at spec kind o ≡ true → o < length spec.entries
-at_object spec kind o is = go (object_at spec o) refl where
-  go : (x : Option Object) → object_at spec o ≡ x → o < length spec.entries
-  go None h = absurd (let w : is_at spec kind o ≡ false = rw h refl in cc)
-  go (Some object) h = object_below spec o object h
-
 module _ (spec : Spec) (s : State) (q : Quiet spec s) where
   pub quiet_acts : (t c : ℕ) → HasRoot spec t c → Acts s t c
   quiet_acts t c root = record {
@@ -284,7 +273,7 @@ module _ (spec : Spec) (s : State) (q : Quiet spec s) where
   quiet_cnode t c root = (q.fits.threads t).root c (quiet_acts t c root).root
 
   pub quiet_node : (c : ℕ) → is_at spec kinds.CNode c ≡ true → c < length s.nodes
-  quiet_node c is = let less : c < length spec.entries = at_object spec kinds.CNode c is in let same : length s.nodes ≡ length spec.entries = q.fits.as_many_nodes in omega arith
+  quiet_node c is = let less : c < length spec.entries = is_at_below spec kinds.CNode c is in let same : length s.nodes ≡ length spec.entries = q.fits.as_many_nodes in omega arith
 
   -- one step that copies a capability
   pub copied : (d : ℕ) (cap : Cap) (step : Step) → StepTo spec s step (added s d cap) → Lands spec s d cap (step ∷ [])

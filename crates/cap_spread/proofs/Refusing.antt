@@ -17,7 +17,8 @@ use Rattle.cap_model.proofs.Kept.{object_kept}
 use Rattle.cap_spread.specs.Refusals.{HasNoThread, IsFirstThread, IsThreadSlot}
 use Rattle.cap_spread.specs.Spread.{slots_of, slots_at, HoldsNoThread}
 use Rattle.cap_spread.proofs.Beginning.{slots_inside}
-use Rattle.cap_spread.proofs.Quiet.{above, rest_rises}
+use Rattle.cap_spread.proofs.Quiet.{above}
+use Rattle.cap_machine.proofs.NodeSlots.{rest_rises}
 
 object_rises : (spec : Spec) (object : Object) → keeps spec object ≡ true → rise (slots_of (Some object)) ≡ true
 object_rises spec (objects.CNode bits slots) kept =

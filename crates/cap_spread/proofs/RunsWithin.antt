@@ -1,8 +1,8 @@
 -- Every step keeps what lies in the Spread there, and so every run from the boot state lies in it.
 use Rattle.std.proofs.Common.{◌≡◌, ℕ, ◌==◌, Bool, true, false, ◌&&◌, ◌||◌, List, [], ◌∷◌, ◌++◌, Option, Some, None, refl, sym, ap, subst, inl, inr, arith, get_or, set, ◌∙◌}
-use Rattle.std.specs.List.{Contains, filter}
+use Rattle.std.specs.List.{Contains}
 use Rattle.std.proofs.lemmas.Bool.{and_parts}
-use Rattle.std.proofs.lemmas.List.Elements.{Contains-append_left, Contains-append_right, Contains-push, Contains-push_cases}
+use Rattle.std.proofs.lemmas.List.Elements.{Contains-push_cases}
 use Rattle.std.proofs.lemmas.Map.Views.{Contains-from_lookup}
 use Rattle.auth_kinds.specs.declared.authority.Authority.{Authority}
 use Rattle.auth_kinds.specs.declared.authority.Authority.TheVariants as authorities
@@ -26,27 +26,12 @@ use Rattle.cap_machine.specs.Effects.{grown, without, grown_at, without_at, wait
 use Rattle.cap_machine.specs.Runs.{Run}
 use Rattle.cap_machine.specs.StepTable.{Acts, Own, Peer, StepTo}
 use Rattle.cap_machine.proofs.Applied.{read_written}
-use Rattle.cap_machine.proofs.Fitting.{first_or_behind}
 use Rattle.cap_spread.specs.Spread as spread
 use Rattle.cap_spread.specs.Spread.{HasRoot, HaveRoots, Meet, MayGrant, MayCall, Spread, HoldsNoThread}
 use Rattle.cap_spread.specs.Within.{Holds, Owed, Saved, ContentWithin, Binds, AddedBy, IsWithin}
 use Rattle.cap_spread.proofs.BootParts.{boot_root, boot_content}
 use Rattle.cap_model.proofs.BootPlaces.{nothing_pending}
-
-pub behind : {A : Type 0} (x : A) (xs : List A) (y : A) → Contains xs y → Contains (x ∷ xs) y
-behind x xs y there = Contains-append_right (x ∷ []) xs y there
-
-pub first : {A : Type 0} (x : A) (xs : List A) (y : A) → x ≡ y → Contains (x ∷ xs) y
-first {A} x xs y same = subst (λ (z : A). Contains (x ∷ xs) z) same (Contains-append_left (x ∷ []) xs x (Contains-push [] x))
-
-pub from_filter : {A : Type 0} (p : A → Bool) (xs : List A) (y : A) → Contains (filter p xs) y → Contains xs y
-from_filter p [] y there = there
-from_filter {A} p (x ∷ xs) y there = go (p x) refl (from_filter p xs y) where
-  go : (b : Bool) → p x ≡ b → (Contains (filter p xs) y → Contains xs y) → Contains (x ∷ xs) y
-  go true h rest =
-      let here : Contains (x ∷ filter p xs) y = (let e : filter p (x ∷ xs) ≡ x ∷ filter p xs = rw h refl in subst (λ (zs : List A). Contains zs y) e there) in
-      elim (first_or_behind x (filter p xs) y here) [ inl same ↦ first x xs y same | inr more ↦ behind x xs y (rest more) ]
-  go false h rest = let here : Contains (filter p xs) y = (let e : filter p (x ∷ xs) ≡ filter p xs = rw h refl in subst (λ (zs : List A). Contains zs y) e there) in behind x xs y (rest here)
+use Rattle.cap_machine.proofs.Fitting.{from_filter}
 
 and_assoc : (a b c : Bool) → (a && b) && c ≡ a && (b && c)
 and_assoc true b c = refl

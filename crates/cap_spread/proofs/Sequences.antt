@@ -19,7 +19,7 @@ use Rattle.cap_model.specs.declared.state.Content.TheVariants.{Capability, Saved
 use Rattle.cap_model.specs.declared.state.Mapped.{Mapped}
 use Rattle.cap_model.specs.declared.state.Pending.{Pending}
 use Rattle.cap_model.specs.declared.state.ThreadState.{ThreadState}
-use Rattle.cap_model.proofs.Kept.{kind_is}
+use Rattle.cap_model.proofs.Kept.{kind_is, is_at_below}
 use Rattle.cap_machine.specs.declared.step.Step.TheVariants as steps
 use Rattle.cap_machine.specs.Effects.{without_at, grown_at, with_pending, called_threads, replied_threads, read_write, added, called, replied, saved, released}
 use Rattle.cap_machine.specs.StepTable.{Acts, Peer, StepTo}
@@ -28,7 +28,7 @@ use Rattle.cap_spread.specs.Quiet.{Quiet}
 use Rattle.cap_spread.specs.Shows.{Shows}
 use Rattle.cap_spread.specs.Spread.{HasRoot, HaveRoots, Meet, MayGrant, MayCall}
 use Rattle.cap_model.proofs.BootPlaces.{nothing_pending}
-use Rattle.cap_spread.proofs.Quiet.{kept_on, kept_same, grown_all_fresh, grown_all_kept, grown_at_next, out_all_fresh, out_all_kept, there_by_lookup, Lands, Onward, at_object, quiet_acts, quiet_cnode, quiet_node, copied}
+use Rattle.cap_spread.proofs.Quiet.{kept_on, kept_same, grown_all_fresh, grown_all_kept, grown_at_next, out_all_fresh, out_all_kept, there_by_lookup, Lands, Onward, quiet_acts, quiet_cnode, quiet_node, copied}
 
 abbrev pub all_rights : Rights
 all_rights = record { read = true; write = true; grant = true; reply = true }
@@ -125,7 +125,7 @@ module _ (spec : Spec) (s : State) (q : Quiet spec s) where
             cc)
         | inr is ↦ is
       ]) in
-      let less = at_object spec kinds.Thread t is in
+      let less = is_at_below spec kinds.Thread t is in
       let same : length s.threads ≡ length spec.entries = q.fits.as_many_threads in
       omega arith
 
@@ -317,7 +317,7 @@ module _ (spec : Spec) (s : State) (q : Quiet spec s) where
       let new : State = record s { irqs = set s.irqs irq.object (Some bound.object) } in
       let leads : StepTo spec s (steps.Bind t i j) new = (c, irq, bound, quiet_acts spec s q t c root, record { there = own; is = is }, record { there = of; is = is_bound }, writes, refl) in
       let less : irq.object < length s.irqs = (
-      let a : irq.object < length spec.entries = at_object spec kinds.Irq irq.object is in
+      let a : irq.object < length spec.entries = is_at_below spec kinds.Irq irq.object is in
       let b : length s.irqs ≡ length spec.entries = q.fits.as_many_irqs in
       omega arith) in (
         new,

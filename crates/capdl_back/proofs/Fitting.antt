@@ -3,7 +3,7 @@ use Rattle.std.proofs.Common.{drop, ◌≡◌, ℕ, zero, suc, ◌<◌, ◌≤�
 use Rattle.std.specs.Prelude.{codes, decimal, ◌&&◌, ◌||◌, not, ◌==◌, nat_lt, leb}
 use Rattle.std.specs.List.{list_all}
 use Rattle.std.specs.Str.{bytes_eq}
-use Rattle.std.proofs.lemmas.Bool.{and_parts, ltb-true}
+use Rattle.std.proofs.lemmas.Bool.{and_parts, ltb-true, cases_Bool}
 use Rattle.std.proofs.lemmas.Bool.Decides.{nat_tests}
 use Rattle.cam_base.specs.Hex.{hex_text}
 use Rattle.cam_base.specs.Names.{is_letter, is_word_byte, is_name}
@@ -12,7 +12,6 @@ use Rattle.capdl_lexer.specs.declared.token.Kind.TheVariants as kinds
 use Rattle.capdl_lexer.specs.TokenFaults.{run, word_fault, is_left_out_word, after_text, fault_at}
 use Rattle.capdl_lexer.specs.TokenKinds.{mark_of, ends_text, kind_of}
 use Rattle.capdl_lexer.specs.Words.{word_of}
-use Rattle.capdl_lexer.proofs.Runs.{bool_cases}
 use Rattle.capdl_lexer.proofs.Tokens.{word_or}
 use Rattle.cap_model.specs.Kept.{if_any}
 use Rattle.cap_model.specs.RightsWord.{has_rights, letter, rights_word}

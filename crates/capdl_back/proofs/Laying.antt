@@ -4,7 +4,7 @@ use Rattle.std.specs.Prelude.{◌==◌, ◌&&◌, ◌||◌, not, codes}
 use Rattle.std.specs.List.{list_all}
 use Rattle.std.specs.Option.{is_some, option_map}
 use Rattle.std.specs.Str.{bytes_eq}
-use Rattle.std.proofs.lemmas.Bool.{eqb-true, and_parts}
+use Rattle.std.proofs.lemmas.Bool.{eqb-true, and_parts, cases_Bool}
 use Rattle.std.proofs.lemmas.Option.{same_Some}
 use Rattle.cam_base.specs.declared.text_fault.TextCode.{TextCode}
 use Rattle.cam_base.specs.declared.text_fault.TextCode.TheVariants.{CapdlByte}
@@ -20,10 +20,10 @@ use Rattle.capdl_lexer.specs.Pieces.{Taken, word_taken, digits_taken, text_taken
 use Rattle.capdl_lexer.specs.TokenFaults.{Found, run, after_run, word_fault, digits_fault, unless, after_text, is_line_byte, is_star, mark_fault, fault_at}
 use Rattle.capdl_lexer.specs.TokenKinds.{mark_of, digits_kind, is_end, ends_text, kind_of}
 use Rattle.capdl_lexer.specs.Words.{word_of}
-use Rattle.capdl_lexer.proofs.Runs.{bool_cases}
-use Rattle.capdl_lexer.proofs.Steps.{lexes_gap}
-use Rattle.capdl_lexer.proofs.Tokens.{none_is_not, true_is_not_false, token_at, digits_word, word_or, digit_or}
+use Rattle.capdl_lexer.proofs.Steps.{lexes_gap, no_kind}
+use Rattle.capdl_lexer.proofs.Tokens.{none_is_not, token_at, digits_word, word_or, digit_or}
 use Rattle.capdl_back.specs.Pieces.{Piece, laid, all_blank, runs_on, goes_on, Fine, tokens}
+use Rattle.grammar.proofs.Codes.{true_is_not_false}
 
 -- ---- runs
 
@@ -140,17 +140,13 @@ ends_of k rest h r = by_test (runs_on k) (goes_on rest) r h
     by_test true false p q = refl
     by_test false y p q = true_is_not_false false p refl
 
-no_kind : {C : Type 0} (k : Kind) → kind_of [] ≡ Some k → C
-unfolding kind_of
-no_kind k e = none_is_not k e
-
 piece_reads : (text rest : List ℕ) (k : Kind) → kind_of text ≡ Some k → fault_at text ≡ None → (not (runs_on k) || not (goes_on rest)) ≡ true → Read (text ++ rest) k rest
 piece_reads [] rest k e f h = no_kind k e
-piece_reads (b ∷ t) rest k e f h = elim (bool_cases (is_letter b)) [
+piece_reads (b ∷ t) rest k e f h = elim (cases_Bool (is_letter b)) [
   | inl l ↦ word_reads b t rest k l e f (ends_of k rest h)
-  | inr l ↦ elim (bool_cases (is_digit b)) [
+  | inr l ↦ elim (cases_Bool (is_digit b)) [
     | inl d ↦ digits_reads b t rest k l d e f (ends_of k rest h)
-    | inr d ↦ elim (bool_cases (b == 34)) [
+    | inr d ↦ elim (cases_Bool (b == 34)) [
       | inl q ↦ let s : b ≡ 34 = eqb-true b 34 q in subst (λ (z : ℕ). Read (z ∷ t ++ rest) k rest) (sym s) (quote_reads t rest k (ap (λ (z : ℕ). kind_of (z ∷ t)) (sym s) ∙ e))
       | inr q ↦ mark_reads b t rest k l d q e f
     ]

@@ -1,17 +1,16 @@
 -- What the slots of a writable spec hold can be named.
-use Rattle.std.proofs.Common.{◌≡◌, ℕ, zero, suc, ◌^◌, Bool, true, false, List, [], ◌∷◌, map, Option, Some, None, is_some, refl, slice_get}
+use Rattle.std.proofs.Common.{◌≡◌, ℕ, zero, suc, ◌^◌, Bool, true, List, [], ◌∷◌, map, Option, Some, None, is_some, refl, slice_get}
 use Rattle.std.specs.Prelude.{◌&&◌, ◌==◌, nat_lt, leb}
 use Rattle.std.specs.List.{list_all}
 use Rattle.std.specs.Option.{option_map}
-use Rattle.std.proofs.lemmas.Bool.{and_parts}
+use Rattle.std.proofs.lemmas.Bool.{and_parts, and_from}
 use Rattle.cap_model.specs.Kept.{differ, rise, if_any, keeps, keeps_slots, keeps_table, keeps_tcb, fits, fits_as, fits_kind}
-use Rattle.cap_model.specs.Kinds.{is_at, is_kind, is_root_object, is_space_root, kind_at, kind_of_object}
+use Rattle.cap_model.specs.Kinds.{is_at, is_kind, is_space_root, kind_at, kind_of_object}
 use Rattle.cap_model.specs.Levels.{size, child}
 use Rattle.cap_model.specs.Lookup.{entry_name, entry_object, name_at, object_at}
 use Rattle.cap_model.specs.declared.cap.Cap.{Cap}
 use Rattle.cap_model.specs.declared.kind.Kind.{Kind}
 use Rattle.cap_model.specs.declared.kind.Kind.TheVariants as kinds
-use Rattle.cap_model.specs.declared.level.Arch.{Arch}
 use Rattle.cap_model.specs.declared.level.Level.{Level}
 use Rattle.cap_model.specs.declared.object.Object.{Object}
 use Rattle.cap_model.specs.declared.object.Object.TheVariants.{Endpoint, Notification, CNode, Thread, Frame, Pages, Irq}
@@ -19,6 +18,7 @@ use Rattle.cap_model.specs.declared.object.Tcb.{Tcb}
 use Rattle.cap_model.specs.declared.spec.Entry.{Entry}
 use Rattle.cap_model.specs.declared.spec.Spec.{Spec}
 use Rattle.capdl_back.specs.Writable.{IsWritable, is_word, is_number, is_plain, are_slots, is_laid, is_tcb}
+use Rattle.cap_model.proofs.Kept.{none_is_root}
 
 -- ---- tests of lists
 
@@ -29,10 +29,6 @@ all_from p q r (x ∷ xs) step a b =
     let l = and_parts (q x) (list_all q xs) b in
     rw (step x k.0 l.0, all_from p q r xs step k.1 l.1) refl
 
-pub both_true : (a b : Bool) → a ≡ true → b ≡ true → (a && b) ≡ true
-both_true true b e f = f
-both_true false b e f = absurd cc
-
 -- ---- what is there
 
 fits_some : (k : Option Kind) (cap : Cap) → fits_kind k cap ≡ true → is_some k ≡ true
@@ -42,10 +38,6 @@ fits_some (Some k) cap h = refl
 at_some : (k : Option Kind) (kind : Kind) → is_kind k kind ≡ true → is_some k ≡ true
 at_some None kind h = absurd cc
 at_some (Some k) kind h = refl
-
-root_some : (arch : Arch) (o : Option Object) → is_root_object arch o ≡ true → is_some o ≡ true
-root_some arch None h = absurd cc
-root_some arch (Some o) h = refl
 
 object_some : (o : Option Object) → is_some (option_map kind_of_object o) ≡ true → is_some o ≡ true
 object_some None h = absurd cc
@@ -58,7 +50,7 @@ pub there_is : (spec : Spec) (kind : Kind) (place : ℕ) → is_at spec kind pla
 there_is spec kind place h = object_some (object_at spec place) (at_some (kind_at spec place) kind h)
 
 pub there_root : (spec : Spec) (place : ℕ) → is_space_root spec place ≡ true → is_some (object_at spec place) ≡ true
-there_root spec place h = root_some spec.arch (object_at spec place) h
+there_root spec place h = none_is_root spec.arch (object_at spec place) h
 
 -- ---- it has a name
 
@@ -99,7 +91,7 @@ named_slots : (spec : Spec) → are_words spec.entries ≡ true → (fit : Cap �
     → list_all (is_slot spec) slots ≡ true
 named_slots spec w fit there size slots k a =
     all_from (λ s. nat_lt s.0 size && fit s.1) (λ s. is_number s.0 && is_number s.1.badge) (is_slot spec) slots
-    (λ s p q. let g = and_parts (nat_lt s.0 size) (fit s.1) p in let n = and_parts (is_number s.0) (is_number s.1.badge) q in both_true _ _ n.0 (both_true _ _ (named_there spec s.1.object w (there s.1 g.1)) n.1))
+    (λ s p q. let g = and_parts (nat_lt s.0 size) (fit s.1) p in let n = and_parts (is_number s.0) (is_number s.1.badge) q in and_from _ _ n.0 (and_from _ _ (named_there spec s.1.object w (there s.1 g.1)) n.1))
     (and_parts (rise slots) (list_all (λ s. nat_lt s.0 size && fit s.1) slots) k).1 a
 
 named_any : {A : Type 0} (p q : A → Bool) (o : Option A) → ((x : A) → p x ≡ true → q x ≡ true) → if_any p o ≡ true → if_any q o ≡ true
@@ -119,12 +111,12 @@ named_tcb spec w tcb k l =
     let d = and_parts (is_number tcb.addr && is_number tcb.ip) (is_number tcb.sp && (if_any is_plain tcb.elf && if_any (λ c. is_number c.badge) tcb.buffer)) l in
     let e = and_parts (is_number tcb.sp) (if_any is_plain tcb.elf && if_any (λ c. is_number c.badge) tcb.buffer) d.1 in
     let f = and_parts (if_any is_plain tcb.elf) (if_any (λ c. is_number c.badge) tcb.buffer) e.1 in
-    both_true _ _ (named_any (is_at spec kinds.CNode) (is_named spec) tcb.cspace (λ p h. named_there spec p w (there_is spec kinds.CNode p h)) b.1)
-    (both_true _ _ (named_any (is_space_root spec) (is_named spec) tcb.vspace (λ p h. named_there spec p w (there_root spec p h)) c.0) (buffer_named tcb.buffer c.1 f.1))
+    and_from _ _ (named_any (is_at spec kinds.CNode) (is_named spec) tcb.cspace (λ p h. named_there spec p w (there_is spec kinds.CNode p h)) b.1)
+    (and_from _ _ (named_any (is_space_root spec) (is_named spec) tcb.vspace (λ p h. named_there spec p w (there_root spec p h)) c.0) (buffer_named tcb.buffer c.1 f.1))
   where
     buffer_named : (o : Option Cap) → if_any (fits_as spec kinds.Frame) o ≡ true → if_any (λ c. is_number c.badge) o ≡ true → if_any (is_target spec) o ≡ true
     buffer_named None h n = refl
-    buffer_named (Some cap) h n = both_true _ _ (named_there spec cap.object w (there_fits spec cap (and_parts (is_at spec kinds.Frame cap.object) (fits spec cap) h).1)) n
+    buffer_named (Some cap) h n = and_from _ _ (named_there spec cap.object w (there_fits spec cap (and_parts (is_at spec kinds.Frame cap.object) (fits spec cap) h).1)) n
 
 named_object : (spec : Spec) → are_words spec.entries ≡ true → (o : Object) → keeps spec o ≡ true → is_laid o ≡ true → has_named spec o ≡ true
 named_object spec w Endpoint k l = refl
@@ -145,4 +137,4 @@ is_line spec l = is_number l.0 && is_named spec l.1
 pub lines_named : (spec : Spec) → IsWritable spec → list_all (is_line spec) spec.irqs ≡ true
 lines_named spec w =
     let k = and_parts (rise spec.irqs && differ (λ a b. a == b) (map (λ l. l.1) spec.irqs)) (list_all (λ l. is_at spec kinds.Irq l.1) spec.irqs) w.kept.lines in
-    all_from (λ l. is_at spec kinds.Irq l.1) (λ l. is_number l.0) (is_line spec) spec.irqs (λ l p q. both_true _ _ q (named_there spec l.1 w.names (there_is spec kinds.Irq l.1 p))) k.1 w.lines
+    all_from (λ l. is_at spec kinds.Irq l.1) (λ l. is_number l.0) (is_line spec) spec.irqs (λ l p q. and_from _ _ q (named_there spec l.1 w.names (there_is spec kinds.Irq l.1 p))) k.1 w.lines

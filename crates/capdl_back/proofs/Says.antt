@@ -5,7 +5,7 @@ use Rattle.std.specs.BTreeMap.{insert_entry}
 use Rattle.std.specs.List.{list_all}
 use Rattle.std.specs.Ordering.{nat_cmp}
 use Rattle.std.specs.Str.{bytes_eq}
-use Rattle.std.proofs.lemmas.Bool.{and_parts, eqb-true, not-true}
+use Rattle.std.proofs.lemmas.Bool.{and_parts, eqb-true, not-true, and_from}
 use Rattle.std.proofs.lemmas.Bool.Decides.{nat_tests}
 use Rattle.std.proofs.lemmas.List.{append-nil}
 use Rattle.std.proofs.lemmas.Slice.Eq.{bytes_eq-Decides}
@@ -36,7 +36,7 @@ use Rattle.capdl_text.specs.declared.tree.ThreadValue.TheVariants as thread
 use Rattle.capdl_back.specs.Canon.{word, hex, brace_r, paren_r, held_pieces, holders_pieces, objects_pieces, slots_pieces}
 use Rattle.capdl_back.specs.Pieces.{Piece}
 use Rattle.capdl_back.proofs.Known.{KnowsAll, is_other, differ_parts, known_place}
-use Rattle.capdl_back.proofs.Named.{all_from, both_true}
+use Rattle.capdl_back.proofs.Named.{all_from}
 use Rattle.capdl_back.proofs.ReadBack.{kind_at as kind_line_at, objects_at, addr_tail, ip_tail, sp_tail, prio_tail, field_at, with_elf, last_fields, fields_at, frame_fields}
 use Rattle.capdl_back.proofs.ReadHolders.{no_rights_at, params_at}
 use Rattle.capdl_back.proofs.ReadText.{cap_at, slots_at, buffer_at, vspace_at, cspace_at, irq_slot_at, lines_at, held_at, holders_at, irqs_at}
@@ -62,11 +62,11 @@ insert_end (x ∷ xs) n v h =
 -- what stands before a number is below it
 rise_below : {A : Type 0} (xs : List (ℕ × A)) (y : ℕ × A) (ys : List (ℕ × A)) → rise (xs ++ y ∷ ys) ≡ true → list_all (λ x. nat_lt x.0 y.0) xs ≡ true
 rise_below [] y ys r = refl
-rise_below (x ∷ []) y ys r = both_true _ _ (and_parts (nat_lt x.0 y.0) (rise (y ∷ ys)) r).0 refl
+rise_below (x ∷ []) y ys r = and_from _ _ (and_parts (nat_lt x.0 y.0) (rise (y ∷ ys)) r).0 refl
 rise_below (x ∷ z ∷ xs) y ys r =
     let k = and_parts (nat_lt x.0 z.0) (rise (z ∷ xs ++ y ∷ ys)) r in
     let h = rise_below (z ∷ xs) y ys k.1 in
-    both_true _ _ (on x.0 z.0 y.0 k.0 (and_parts (nat_lt z.0 y.0) (list_all (λ x. nat_lt x.0 y.0) xs) h).0) h
+    and_from _ _ (on x.0 z.0 y.0 k.0 (and_parts (nat_lt z.0 y.0) (list_all (λ x. nat_lt x.0 y.0) xs) h).0) h
   where
     on : (a b c : ℕ) → nat_lt a b ≡ true → nat_lt b c ≡ true → nat_lt a c ≡ true
     on a b c p q = grind (arith, nat_tests)

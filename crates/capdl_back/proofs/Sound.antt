@@ -4,7 +4,7 @@ use Rattle.std.specs.Prelude.{codes, ◌&&◌, ◌||◌, not, ◌==◌, ◌%◌,
 use Rattle.std.specs.List.{flat_map, list_all, list_any}
 use Rattle.std.specs.Option.{option_map}
 use Rattle.std.specs.Str.{bytes_eq}
-use Rattle.std.proofs.lemmas.Bool.{and_parts, not-true}
+use Rattle.std.proofs.lemmas.Bool.{and_parts, not-true, and_from}
 use Rattle.std.proofs.lemmas.Bool.Decides.{nat_tests}
 use Rattle.std.proofs.lemmas.Slice.Eq.{bytes_eq-Decides}
 use Rattle.cap_model.specs.Kept.{IsKept, differ, rise, if_any, within, keeps, keeps_fill, keeps_slots, keeps_table, names_differ, fits, fits_as, fits_kind}
@@ -42,10 +42,11 @@ use Rattle.capdl_text.specs.declared.tree.ThreadValue.TheVariants as thread
 use Rattle.capdl_back.specs.Canon.{word, hex, brace_r, holders_pieces, objects_pieces}
 use Rattle.capdl_back.specs.Pieces.{Piece}
 use Rattle.capdl_back.proofs.Known.{KnowsAll, any_none, is_other, differ_parts, known_object, known_place}
-use Rattle.capdl_back.proofs.Named.{all_from, both_true}
+use Rattle.capdl_back.proofs.Named.{all_from}
 use Rattle.capdl_back.proofs.ReadBack.{kind_at as kind_line_at, objects_at, addr_tail, ip_tail, sp_tail, prio_tail, field_at, with_elf, last_fields}
 use Rattle.capdl_back.proofs.ReadHolders.{no_rights_at, params_at, slot_at}
 use Rattle.capdl_back.proofs.ReadText.{cap_at, slots_at, buffer_at, vspace_at, cspace_at, irq_slot_at, lines_at, held_at, holders_at, irqs_at}
+use Rattle.cap_model.proofs.Kept.{rise_tail}
 
 -- ---- lists
 
@@ -69,14 +70,10 @@ rise_all x [] r = refl
 rise_all x (y ∷ ys) r =
     let k = and_parts (nat_lt x.0 y.0) (rise (y ∷ ys)) r in
     let h = rise_all y ys k.1 in
-    both_true _ _ k.0 (all_from (λ t. nat_lt y.0 t.0) (λ t. nat_lt y.0 t.0) (λ t. nat_lt x.0 t.0) ys (λ t p q. on x.0 y.0 t.0 k.0 p) h h)
+    and_from _ _ k.0 (all_from (λ t. nat_lt y.0 t.0) (λ t. nat_lt y.0 t.0) (λ t. nat_lt x.0 t.0) ys (λ t p q. on x.0 y.0 t.0 k.0 p) h h)
   where
     on : (a b c : ℕ) → nat_lt a b ≡ true → nat_lt b c ≡ true → nat_lt a c ≡ true
     on a b c p q = grind (arith, nat_tests)
-
-pub rise_rest : {A : Type 0} (x : ℕ × A) (xs : List (ℕ × A)) → rise (x ∷ xs) ≡ true → rise xs ≡ true
-rise_rest x [] r = refl
-rise_rest x (y ∷ ys) r = (and_parts (nat_lt x.0 y.0) (rise (y ∷ ys)) r).1
 
 apart : (a b : ℕ) → nat_lt a b ≡ true → not (b == a) ≡ true
 apart a b h = grind (arith, nat_tests)
@@ -291,7 +288,7 @@ module _ (pl : List Piece → Span) (spec : Spec) (known : Knows) (all : KnowsAl
   slots_once name met (s ∷ ss) more r u =
       let k = and_parts (not (met (0, s.0))) (list_all (λ s. not (met (0, s.0))) ss) u in
       let n = not-true (met (0, s.0)) k.0 in
-      rw n (slots_once name (λ q. met q || same_key q (0, s.0)) ss more (rise_rest s ss r) (numbers_unmet met s ss r k.1))
+      rw n (slots_once name (λ q. met q || same_key q (0, s.0)) ss more (rise_tail s ss r) (numbers_unmet met s ss r k.1))
 
   unmet : {A : Type 0} (xs : List A) → list_all (λ (x : A). true) xs ≡ true
   unmet [] = refl
@@ -467,7 +464,7 @@ module _ (pl : List Piece → Span) (spec : Spec) (known : Knows) (all : KnowsAl
   numbers_once met (l ∷ ls) more r u =
       let k = and_parts (not (met (0, l.0))) (list_all (λ l. not (met (0, l.0))) ls) u in
       let n = not-true (met (0, l.0)) k.0 in
-      rw n (numbers_once (λ q. met q || same_key q (0, l.0)) ls more (rise_rest l ls r) (numbers_unmet met l ls r k.1))
+      rw n (numbers_once (λ q. met q || same_key q (0, l.0)) ls more (rise_tail l ls r) (numbers_unmet met l ls r k.1))
 
   same_place : (a b : ℕ) (x y : Object) → known (name_at spec a) ≡ Some (known_object spec.arch a x) → known (name_at spec b) ≡ Some (known_object spec.arch b y) → name_at spec a ≡ name_at spec b → a ≡ b
   same_place a b x y p q e = ap (λ (k : Known). k.place) (some_one (sym p ∙ ap known e ∙ q))

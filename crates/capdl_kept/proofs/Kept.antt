@@ -11,6 +11,7 @@ use Rattle.std.proofs.lemmas.Bool.{and_parts, eqb-true, or_parts}
 use Rattle.std.proofs.lemmas.Slice.Eq.{bytes_eq-Decides}
 use Rattle.cam_base.specs.declared.text_fault.TextFault.{TextFault}
 use Rattle.cam_base.specs.declared.text_fault.TextCode.TheVariants.{CapdlUnknown}
+use Rattle.cam_base.proofs.Lists.{nil_append, cond_nil, flat_map_nil}
 use Rattle.capdl_text.specs.Faults.{at_id}
 use Rattle.cap_model.specs.declared.kind.Kind.{Kind}
 use Rattle.cap_model.specs.declared.kind.Kind.TheVariants as kinds
@@ -50,7 +51,6 @@ use Rattle.capdl_text.specs.declared.tree.ThreadField.{ThreadField}
 use Rattle.capdl_text.specs.declared.tree.ThreadValue.{ThreadValue}
 use Rattle.capdl_text.specs.declared.tree.ThreadValue.TheVariants as thread
 use Rattle.capdl_kept.proofs.Named.{names_differ, known_there, known_here}
-use Rattle.capdl_kept.proofs.Nothing.{nil_append, is_true, each_nil}
 use Rattle.capdl_kept.proofs.Slots.{rights_fit, badge_fits, IsBelow, AllGood, all_good, IsFit, AllFit, said_kept, IsNamed, AllNamed, Fits, named_fit, named_prio, IsHeld, AllHeld, held_fits}
 use Rattle.capdl_kept.proofs.Sorted.{rise_insert, all_insert, lacks, parts_differ, differ_insert}
 
@@ -58,11 +58,6 @@ get_map : {A B : Type 0} (f : A → B) (xs : List A) (i : ℕ) (x : A) → slice
 get_map f [] i x e = absurd cc
 get_map f (y ∷ xs) zero x e = let s : y ≡ x = cc in ap (λ z. Some (f z)) s
 get_map f (y ∷ xs) (suc i) x e = get_map f xs i x e
-
--- all of a list, by place
-all_by_place : {A : Type 0} (P : A → Bool) (xs : List A) → ((i : ℕ) (x : A) → slice_get xs i ≡ Some x → P x ≡ true) → list_all P xs ≡ true
-all_by_place P [] h = refl
-all_by_place P (x ∷ xs) h = rw (h zero x refl, all_by_place P xs (λ i y g. h (suc i) y g)) refl
 
 -- ---- kinds
 
@@ -90,7 +85,7 @@ put_prio : (v : ThreadValue) (tcb : Tcb) → thread_value_off v ≡ [] → leb t
 put_prio (thread.Addr n) tcb e p = p
 put_prio (thread.Ip n) tcb e p = p
 put_prio (thread.Sp n) tcb e p = p
-put_prio (thread.Prio n) tcb e p = is_true (leb n.value 255) _ e
+put_prio (thread.Prio n) tcb e p = cond_nil (leb n.value 255) _ e
 put_prio (thread.Elf text) tcb e p = p
 
 fields_prio : (tcb : Tcb) (fs : List ThreadField) → flat_map (λ f. thread_value_off f.value) fs ≡ [] → leb tcb.prio 255 ≡ true → leb (fields_from tcb fs).prio 255 ≡ true
@@ -121,7 +116,7 @@ paddr_fits (f ∷ fs) e =
     go f.value q.0 (paddr_fits fs q.1)
   where
     go : (v : FrameValue) → frame_value_off v ≡ [] → if_any (λ p. p % 4096 == 0) (paddr_said fs) ≡ true → if_any (λ p. p % 4096 == 0) (paddr_or v (paddr_said fs)) ≡ true
-    go (frame.Paddr n) e ih = is_true (n.value % 4096 == 0) _ e
+    go (frame.Paddr n) e ih = cond_nil (n.value % 4096 == 0) _ e
     go (frame.Fill fill) e ih = ih
 
 fill_fits : (fs : List FrameField) → flat_map (λ f. frame_value_off f.value) fs ≡ [] → if_any keeps_fill (fill_said fs) ≡ true
@@ -132,7 +127,7 @@ fill_fits (f ∷ fs) e =
   where
     one : (fill : Option FillLine) → fill_off fill ≡ [] → if_any keeps_fill (option_map fill_of fill) ≡ true
     one None e = refl
-    one (Some f) e = is_true (keeps_fill (fill_of f)) _ e
+    one (Some f) e = cond_nil (keeps_fill (fill_of f)) _ e
 
     go : (v : FrameValue) → frame_value_off v ≡ [] → if_any keeps_fill (fill_said fs) ≡ true → if_any keeps_fill (fill_or v (fill_said fs)) ≡ true
     go (frame.Paddr n) e ih = ih
@@ -274,11 +269,11 @@ module _ (t : SpecTree) (sound : tree_faults t ≡ []) where
         let h = p.1 in
         let hk = known_as t.arch j o in
         let named : known h.id.name ≡ Some hk = ap known (sym p.3) ∙ known_here t.arch 0 t.objects j o differs g ∙ ap (λ i. Some (known_as t.arch i o)) (let z : 0 + j ≡ j = omega arith in z) in
-        let u = (nil_append (unknown known h.id) (flat_map (λ s. unknown known s.object) h.slots) (each_nil (unknown_in known) t.holders p.0 h (nil_append (flat_map (unknown_in known) t.holders) _ unknown_nil).0 p.2)).1 in
+        let u = (nil_append (unknown known h.id) (flat_map (λ s. unknown known s.object) h.slots) (flat_map_nil (unknown_in known) t.holders p.0 h (nil_append (flat_map (unknown_in known) t.holders) _ unknown_nil).0 p.2)).1 in
         let off : slots_off t.arch known h.id (known h.id.name) h.slots ≡ [] =
-        each_nil (off_in t.arch known) t.holders p.0 h (nil_append (flat_map (λ o. kind_off t.arch o.kind) t.objects) (flat_map (off_in t.arch known) t.holders) (nil_append (flat_map (λ o. kind_off t.arch o.kind) t.objects ++ flat_map (off_in t.arch known) t.holders) _ kind_nil).0).1 p.2 in
+        flat_map_nil (off_in t.arch known) t.holders p.0 h (nil_append (flat_map (λ o. kind_off t.arch o.kind) t.objects) (flat_map (off_in t.arch known) t.holders) (nil_append (flat_map (λ o. kind_off t.arch o.kind) t.objects ++ flat_map (off_in t.arch known) t.holders) _ kind_nil).0).1 p.2 in
         let off' : slots_off t.arch known h.id (Some hk) h.slots ≡ [] = subst (λ (z : Option Known). slots_off t.arch known h.id z h.slots ≡ []) named off in
-        let below : slots_past h.id (size_of (known h.id.name)) h.slots ≡ [] = each_nil (past_in known) t.holders p.0 h range_nil p.2 in
+        let below : slots_past h.id (size_of (known h.id.name)) h.slots ≡ [] = flat_map_nil (past_in known) t.holders p.0 h range_nil p.2 in
         let below' : slots_past h.id (size_of (Some hk)) h.slots ≡ [] = subst (λ (z : Option Known). slots_past h.id (size_of z) h.slots ≡ []) named below in
         subst (λ (ss : List SlotLine). AllGood t.arch known hk ss) (sym p.4) (all_good t.arch known h.id hk h.slots u (nil_append (holder_off h.id (Some hk)) (flat_map (slot_off t.arch known h.id (Some hk)) h.slots) off').1 below')
   ]
@@ -351,10 +346,10 @@ module _ (t : SpecTree) (sound : tree_faults t ≡ []) where
   kind_kept : (j : ℕ) (k : KindLine) (ss : List SlotLine) → kind_off t.arch k ≡ [] → AllGood t.arch known (held_by j (kind_said k) (size_said t.arch k)) ss → keeps spec (object_said known k ss) ≡ true
   kind_kept j line.Endpoint ss e g = refl
   kind_kept j line.Notification ss e g = refl
-  kind_kept j (line.CNode bits) ss e g = node_kept j bits.value ss (is_true (are_bits bits.value) _ e) g
+  kind_kept j (line.CNode bits) ss e g = node_kept j bits.value ss (cond_nil (are_bits bits.value) _ e) g
   kind_kept j (line.Thread fs) ss e g = tcb_kept (held_by j kinds.Thread None) fs ss e g
   kind_kept j (line.Frame fs) ss e g = and_true _ _ (paddr_fits fs e) (fill_fits fs e)
-  kind_kept j (line.Pages level place) ss e g = table_kept j level (size t.arch level) ss (is_true (is_some (size t.arch level)) _ e) g
+  kind_kept j (line.Pages level place) ss e g = table_kept j level (size t.arch level) ss (cond_nil (is_some (size t.arch level)) _ e) g
   kind_kept j line.Irq ss e g = held_fits t.arch known (is_at spec kinds.Notification) ss (held_all j (Some 1) ss g)
 
   objects_from : (os : List ObjectLine) → ((i : ℕ) (o : ObjectLine) → slice_get os i ≡ Some o → keeps spec (object_said known o.kind (lines_of o)) ≡ true) → list_all (λ e. keeps spec e.object) (map (entry_said known t.holders) os) ≡ true
@@ -365,7 +360,7 @@ module _ (t : SpecTree) (sound : tree_faults t ≡ []) where
   objects_kept =
       let kinds_nil : flat_map (λ o. kind_off t.arch o.kind) t.objects ≡ [] =
       (nil_append (flat_map (λ o. kind_off t.arch o.kind) t.objects) (flat_map (off_in t.arch known) t.holders) (nil_append (flat_map (λ o. kind_off t.arch o.kind) t.objects ++ flat_map (off_in t.arch known) t.holders) _ kind_nil).0).0 in
-      objects_from t.objects (λ i o g. kind_kept i o.kind (lines_of o) (each_nil (λ (o : ObjectLine). kind_off t.arch o.kind) t.objects i o kinds_nil g) (good_lines i o g))
+      objects_from t.objects (λ i o g. kind_kept i o.kind (lines_of o) (flat_map_nil (λ (o : ObjectLine). kind_off t.arch o.kind) t.objects i o kinds_nil g) (good_lines i o g))
 
   -- ---- interrupt lines
 
@@ -380,8 +375,8 @@ module _ (t : SpecTree) (sound : tree_faults t ≡ []) where
   AllSound (l ∷ ls) = Sound l × AllSound ls
 
   sound_one : (l : IrqLine) (o : Option Known) → known l.object.name ≡ o → unknown known l.object ≡ [] → irq_off l.object (known l.object.name) ≡ [] → Sound l
-  sound_one l None e u f = absurd (let p : false ≡ true = rw e at (is_true (is_some (known l.object.name)) (at_id CapdlUnknown l.object) u) in cc)
-  sound_one l (Some k) e u f = (k, e, is_true (same_kind k.kind kinds.Irq) _ (rw e at f))
+  sound_one l None e u f = absurd (let p : false ≡ true = rw e at (cond_nil (is_some (known l.object.name)) (at_id CapdlUnknown l.object) u) in cc)
+  sound_one l (Some k) e u f = (k, e, cond_nil (same_kind k.kind kinds.Irq) _ (rw e at f))
 
   sound_all : (ls : List IrqLine) → flat_map (λ l. unknown known l.object) ls ≡ [] → flat_map (λ l. irq_off l.object (known l.object.name)) ls ≡ [] → AllSound ls
   sound_all [] u f = tt

@@ -5,7 +5,7 @@ ghost use Rattle.std.specs.Str.{bytes_eq};
 
 /// Whether bytes are those of a word. Most aren't, and differ in length.
 #[inline(always)]
-#[tactic(auto, using(crate::proofs::Runs::other_length))]
+#[tactic(auto, using(cam_base::proofs::Bytes::other_length))]
 pub(crate) fn is(bytes: &[u8], word: &[u8]) -> bool
     ensures { result ≡ bytes_eq bytes.now word.now }
 {

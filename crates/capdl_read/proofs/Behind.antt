@@ -1,10 +1,11 @@
 -- Slots whose numbers rise are sorted as they stand.
-use Rattle.std.proofs.Common.{◌≡◌, ◌∙◌, ◌<◌, ◌+◌, ℕ, true, List, [], ◌∷◌, ◌++◌, add-one, drop, length, get_or, Option, Some, Greater, refl, sym, ap, subst, arith}
+use Rattle.std.proofs.Common.{◌≡◌, ◌∙◌, ◌<◌, ◌+◌, ℕ, true, List, [], ◌∷◌, ◌++◌, add-one, drop, length, get_or, Option, Some, refl, sym, ap, subst}
 use Rattle.std.proofs.Math.Seq.{drop-cons}
 use Rattle.std.proofs.lemmas.Bool.{ltb-true}
 use Rattle.std.specs.BTreeMap.{insert_entry}
 use Rattle.std.specs.List.{AllByRecursion}
 use Rattle.std.specs.Ordering.{nat_cmp}
+use Rattle.cam_base.proofs.Orders.{nat_cmp-greater}
 use Rattle.cap_model.specs.declared.cap.Cap.{Cap}
 use Rattle.capdl_text.specs.Meaning.{put_slot}
 use Rattle.capdl_text.specs.declared.tree.SlotKey.{SlotKey}
@@ -18,12 +19,9 @@ use Rattle.capdl_read.proofs.NoneTwice.{above_both}
 abbrev pub AreBehind : List (ℕ × Cap) → Option ℕ → Type 0
 AreBehind slots last = (n : ℕ) → is_above last (Some n) ≡ true → AllByRecursion (λ s. s.0 < n) slots
 
-cmp_after : (k n : ℕ) → n < k → nat_cmp k n ≡ Greater
-cmp_after k n h = grind arith
-
 insert_last : (slots : List (ℕ × Cap)) (n : ℕ) (cap : Cap) → AllByRecursion (λ s. s.0 < n) slots → insert_entry nat_cmp slots n cap ≡ slots ++ (n, cap) ∷ []
 insert_last [] n cap below = refl
-insert_last (s ∷ ss) n cap below = rw (cmp_after n s.0 below.0) (ap (λ rest. s ∷ rest) (insert_last ss n cap below.1))
+insert_last (s ∷ ss) n cap below = rw (nat_cmp-greater n s.0 below.0) (ap (λ rest. s ∷ rest) (insert_last ss n cap below.1))
 
 below_all : (slots : List (ℕ × Cap)) (m n : ℕ) (cap : Cap) → AllByRecursion (λ s. s.0 < n) slots → m < n → AllByRecursion (λ s. s.0 < n) (slots ++ (m, cap) ∷ [])
 below_all [] m n cap below less = (less, _)

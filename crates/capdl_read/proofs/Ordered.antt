@@ -11,7 +11,7 @@ use Rattle.std.specs.Str.{bytes_eq}
 use Rattle.std.specs.declared.cmp.Ordering.{Ordering}
 use Rattle.std.specs.declared.cmp.Ordering.TheVariants.{Less, Equal, Greater}
 use Rattle.std.proofs.Math.Bool.{and-false}
-use Rattle.std.proofs.lemmas.Bool.{and_parts}
+use Rattle.std.proofs.lemmas.Bool.{and_parts, and_from}
 use Rattle.std.proofs.lemmas.Bool.Decides.{nat_tests}
 use Rattle.std.proofs.lemmas.Map.Text.{is_eq-slice_cmp}
 use Rattle.std.proofs.lemmas.Slice.Eq.{bytes_eq-Decides}
@@ -29,9 +29,6 @@ key_cmp k l = ordering_then (nat_cmp k.0 l.0) (slice_cmp nat_cmp k.1.now l.1.now
 abbrev is_key : Key → Key → Bool
 is_key k l = is_eq (key_cmp k l)
 
-and_true : (a b : Bool) → a ≡ true → b ≡ true → (a && b) ≡ true
-and_true a b e f = (λ i. e i && f i)
-
 -- digested keys are equal where their names are
 same_name : (k l : Key) → is_digested k ≡ true → is_digested l ≡ true → is_key k l ≡ bytes_eq k.1.now l.1.now
 same_name k l d e =
@@ -45,7 +42,7 @@ same_name k l d e =
     by_test : (b : Bool) → bytes_eq k.1.now l.1.now ≡ b → (is_eq (nat_cmp k.0 l.0) && b) ≡ b
     by_test true t =
         let n = (bytes_eq-Decides k.1.now l.1.now).0 t in
-        and_true (is_eq (nat_cmp k.0 l.0)) true (unsigned_tied k.0 l.0 ∙ one_digest k.0 l.0 (digest k.1.now) (digest l.1.now) (ap digest n) d e) refl
+        and_from (is_eq (nat_cmp k.0 l.0)) true (unsigned_tied k.0 l.0 ∙ one_digest k.0 l.0 (digest k.1.now) (digest l.1.now) (ap digest n) d e) refl
     by_test false t = and-false (is_eq (nat_cmp k.0 l.0))
 
 -- a digest that was made
@@ -64,16 +61,16 @@ module _ {V : Type 0} where
 
   -- a key that is put in keeps all of them digested
   pub digested_put : (es : List (Key × V)) (k : Key) (v : V) → are_digested es ≡ true → is_digested k ≡ true → are_digested (insert_entry key_cmp es k v) ≡ true
-  digested_put [] k v a d = and_true (is_digested k) true d refl
+  digested_put [] k v a d = and_from (is_digested k) true d refl
   digested_put (e ∷ es) k v a d = by_order (key_cmp k e.0) (digested_put es k v (and_parts (is_digested e.0) (are_digested es) a).1 d)
     where
       parts : (is_digested e.0 ≡ true) × (are_digested es ≡ true)
       parts = and_parts (is_digested e.0) (are_digested es) a
 
       by_order : (o : Ordering) → are_digested (insert_entry key_cmp es k v) ≡ true → are_digested (match_ordering o ((k, v) ∷ e ∷ es) ((e.0, v) ∷ es) (e ∷ insert_entry key_cmp es k v)) ≡ true
-      by_order Less rest = and_true (is_digested k) (are_digested (e ∷ es)) d a
-      by_order Equal rest = and_true (is_digested e.0) (are_digested es) parts.0 parts.1
-      by_order Greater rest = and_true (is_digested e.0) (are_digested (insert_entry key_cmp es k v)) parts.0 rest
+      by_order Less rest = and_from (is_digested k) (are_digested (e ∷ es)) d a
+      by_order Equal rest = and_from (is_digested e.0) (are_digested es) parts.0 parts.1
+      by_order Greater rest = and_from (is_digested e.0) (are_digested (insert_entry key_cmp es k v)) parts.0 rest
 
   pub found_entry : (es : List (Key × V)) (k : Key) → are_digested es ≡ true → is_digested k ≡ true → lookup (is_key k) es ≡ found (shown es) k.1.now
   found_entry [] k a d = refl

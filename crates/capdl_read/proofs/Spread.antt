@@ -7,8 +7,8 @@ use Rattle.std.proofs.lemmas.Slice.Eq.{bytes_eq-Decides}
 use Rattle.std.proofs.Math.ListN.{set}
 use Rattle.std.specs.Option.{option_or}
 use Rattle.std.specs.Str.{bytes_eq}
+use Rattle.cam_base.proofs.Options.{option_or-none}
 use Rattle.name_tables.specs.ByName.{Name, found}
-use Rattle.name_tables.proofs.NameLookups.{or_none}
 use Rattle.capdl_read.specs.Naming.{digest, spread_found}
 
 abbrev Table : Type 0 → Type 0
@@ -32,7 +32,7 @@ module _ {V : Type 0} where
 
       by_name : (q : ℕ) → digest n % length old ≡ q → q ≢ p → (b : Bool) → bytes_eq n name ≡ b → (o : Option V) → o ≡ option_or o (cond b (Some v) None)
       by_name q h differ true e o = absurd (differ (sym h ∙ ap (λ m. digest m % length old) ((bytes_eq-Decides n name).0 e) ∙ sym is))
-      by_name q h differ false e o = or_none o
+      by_name q h differ false e o = option_or-none o
 
       by_place : (q : ℕ) (b : Bool) → digest n % length old ≡ q → (q == p) ≡ b → found (get_or (set old p u) q []) n ≡ option_or (found (get_or old q []) n) alone
       by_place q true h e =

@@ -15,8 +15,8 @@ use Rattle.numbering.specs.Gather.{IsIn}
 use Rattle.adl_meaning.specs.Members.{compositions, composition_of}
 use Rattle.adl_meaning.specs.Recursive.{instances_of, number_from, number_named, types_of, graph_of, recursive_type, recursive_instance, recursive_in, recursive_among}
 use Rattle.component_graph.specs.Numbers.{AreBelow}
-use Rattle.component_graph.proofs.Lists.{in_has, has_in, in_get, get}
-use Rattle.numbering.proofs.Lists.{in_flat_map, in_filter_map, from_filter_map, get_map, found, from_enumerate, in_enumerate, none_in, none_from, map_some}
+use Rattle.component_graph.proofs.Lists.{in_has, has_in, in_get}
+use Rattle.numbering.proofs.Lists.{in_flat_map, in_filter_map, from_filter_map, get_map, found, from_enumerate, in_enumerate, none_in, none_from, map_some, at_place}
 use Rattle.component_graph.proofs.Through.{through_complete, unheld}
 
 -- ---- numbers
@@ -71,7 +71,7 @@ record IsTypeIn (numbers : Name → Option ℕ) (cs : List Component) (a t : ℕ
 
 type_in : (numbers : Name → Option ℕ) (cs : List Component) (a t : ℕ) → a < length (graph_of numbers cs) → has (inner_of (graph_of numbers cs) a) t ≡ true → IsTypeIn numbers cs a t
 type_in numbers cs a t l e =
-    let c = get cs a (omega (arith, length-map cs (types_of numbers), l)) in
+    let c = at_place cs a (omega (arith, length-map cs (types_of numbers), l)) in
     let i = from_filter_map (λ (i : Instance). numbers i.component.name) t (instances_of c.0) (in_has t (types_of numbers c.0) (ap (λ ts. has ts t) (sym (inner_at numbers cs a c.0 c.1)) ∙ e)) in
     record { component = c.0; number = c.1; instance = i.0; stands = i.1; typed = i.2 }
 

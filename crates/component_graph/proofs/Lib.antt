@@ -2,7 +2,6 @@
 pub mod ComponentNumbers
 pub mod CycleSearch
 pub mod Cycling
-pub mod FewComponents
 pub mod Lists
 pub mod Marks
 pub mod Reach

@@ -1,5 +1,5 @@
 -- What stands in lists that are made of others.
-use Rattle.std.proofs.Common.{◌≡◌, ◌<◌, ◌≤◌, ◌+◌, ℕ, zero, suc, Bool, true, false, cond, List, length, get_or, [], ◌∷◌, ◌++◌, refl, sym, ◌∙◌, ap, subst, arith, inl, inr, ◌⊎◌, map, Option, Some, None, option_map, nat_eq}
+use Rattle.std.proofs.Common.{◌≡◌, ◌≤◌, ◌+◌, ℕ, zero, suc, Bool, true, false, cond, List, get_or, [], ◌∷◌, ◌++◌, sym, ◌∙◌, ap, subst, inl, inr, ◌⊎◌, map, Option, Some, None, option_map, nat_eq}
 use Rattle.std.specs.List.{flat_map, filter_map, find, enumerate_from, cons_option, slice_get}
 use Rattle.std.proofs.lemmas.Bool.{or_cases, or_left, or_right, eq-eqb, eqb-true}
 use Rattle.adl_meaning.specs.Graph.{has}
@@ -9,11 +9,6 @@ pub in_get : {X : Type 0} (xs : List X) (n : ℕ) (x : X) → slice_get xs n ≡
 in_get [] n x e = cc
 in_get (y ∷ xs) zero x e = inl (cc)
 in_get (y ∷ xs) (suc n) x e = inr (in_get xs n x e)
-
-pub get : {X : Type 0} (xs : List X) (n : ℕ) → n < length xs → (x : X) × (slice_get xs n ≡ Some x)
-get [] n l = absurd (omega arith)
-get (x ∷ xs) zero l = (x, refl)
-get (x ∷ xs) (suc n) l = get xs n (omega arith)
 
 pub in_has : (x : ℕ) (xs : List ℕ) → has xs x ≡ true → IsIn x xs
 in_has x [] e = cc

@@ -1,43 +1,29 @@
 -- What the comparisons of a set of edges say of the edges that it has.
-use Rattle.std.proofs.Common.{◌≡◌, ◌∙◌, ◌||◌, ◌+◌, Bool, if◌then◌else◌, not, length, true, false, cond, List, [], ◌∷◌, Less, Equal, Greater, refl, sym, ap, subst}
+use Rattle.std.proofs.Common.{◌≡◌, ◌∙◌, ◌||◌, ◌+◌, Bool, if◌then◌else◌, not, length, true, false, cond, List, [], ◌∷◌, Equal, refl, sym, ap, subst}
 use Rattle.std.specs.Cmp.Derive.{one_truth}
 use Rattle.std.specs.List.{list_any}
-use Rattle.std.specs.Ordering.{is_eq, ordering_reverse}
-use Rattle.std.specs.declared.cmp.Ordering.{Ordering}
+use Rattle.std.specs.Ordering.{is_eq}
+use Rattle.cam_base.proofs.Orders.{is_equal}
 use Rattle.auth_kinds.specs.Edges.{same_edge}
 use Rattle.auth_kinds.specs.Tables.{has}
 use Rattle.auth_kinds.specs.contracts.edge.EdgeOrd.TheImpl.{ghosts as ordered}
 use Rattle.auth_kinds.specs.contracts.edge.EdgeOrd.TheImpl.Laws.{total-law}
 use Rattle.auth_kinds.specs.declared.edge.Edge.{Edge}
 use Rattle.auth_kinds.proofs.EdgeCompare.{cmp-same}
-use Rattle.auth_kinds.proofs.EdgeOrder.{same_edge_true, same_edge_self}
-
-turned_itself : (o : Ordering) → o ≡ ordering_reverse o → o ≡ Equal
-turned_itself Less h = absurd cc
-turned_itself Equal h = refl
-turned_itself Greater h = absurd cc
+use Rattle.auth_kinds.proofs.EdgeOrder.{same_edge_true, same_edge_self, same_edge-sym}
+use Rattle.auth_kinds.proofs.PairLists.{itself}
 
 equal_self : (e : Edge) → ordered.cmp e e ≡ Equal
-equal_self e = turned_itself (ordered.cmp e e) (total-law.antisymm e e)
-
-is_eq_equal : (o : Ordering) → is_eq o ≡ true → o ≡ Equal
-is_eq_equal Less h = absurd cc
-is_eq_equal Equal h = refl
-is_eq_equal Greater h = absurd cc
+equal_self e = itself (ordered.cmp e e) (total-law.antisymm e e)
 
 pub compared_same : (d e : Edge) → is_eq (ordered.cmp d e) ≡ same_edge d e
 compared_same d e = one_truth (is_eq (ordered.cmp d e)) (same_edge d e)
-    (λ h. let same = cmp-same d e (is_eq_equal (ordered.cmp d e) h) in subst (λ (x : Edge). same_edge d x ≡ true) same (same_edge_self d))
+    (λ h. let same = cmp-same d e (is_equal (ordered.cmp d e) h) in subst (λ (x : Edge). same_edge d x ≡ true) same (same_edge_self d))
     (λ h. let same = same_edge_true d e h in subst (λ (x : Edge). is_eq (ordered.cmp d x) ≡ true) same (ap is_eq (equal_self d)))
-
-same_turned : (d e : Edge) → same_edge d e ≡ same_edge e d
-same_turned d e = one_truth (same_edge d e) (same_edge e d)
-    (λ h. let same = same_edge_true d e h in subst (λ (x : Edge). same_edge x d ≡ true) same (same_edge_self d))
-    (λ h. let same = same_edge_true e d h in subst (λ (x : Edge). same_edge x e ≡ true) same (same_edge_self e))
 
 pub contains_same : (edges : List Edge) (e : Edge) → list_any (λ (d : Edge). is_eq (ordered.cmp e d)) edges ≡ has edges e
 contains_same [] e = refl
-contains_same (d ∷ edges) e = rw (compared_same e d, same_turned e d, contains_same edges e) refl
+contains_same (d ∷ edges) e = rw (compared_same e d, same_edge-sym e d, contains_same edges e) refl
 
 or_cond : (a b : Bool) → cond a true b ≡ (b || a)
 or_cond true true = refl

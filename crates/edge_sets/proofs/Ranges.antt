@@ -2,33 +2,22 @@
 use Rattle.std.proofs.Common.{◌≡◌, ◌∙◌, ◌<◌, ◌≤◌, ◌^◌, ◌↔◌, ◌&&◌, ℕ, Bool, true, false, not, List, Less, Equal, Greater, refl, sym, ap, subst, arith}
 use Rattle.std.proofs.lemmas.Bool.{and_parts}
 use Rattle.std.proofs.lemmas.List.Kept.{IsStrictlySortedBy-filter}
-use Rattle.std.proofs.lemmas.Map.Keys.{Less-from_sorted}
 use Rattle.std.proofs.lemmas.Map.Views.{any-filter_same}
-use Rattle.std.proofs.lemmas.Option.{slice_get_within, get_or_from_slice_get}
 use Rattle.std.specs.List.{filter}
 use Rattle.std.specs.List.Sorted.{IsStrictlySortedBy}
 use Rattle.std.specs.Ordering.{is_gt, is_le, is_lt}
 use Rattle.std.specs.declared.cmp.Ordering.{Ordering}
 use Rattle.auth_kinds.specs.Authorities.{number_of}
-use Rattle.auth_kinds.specs.Edges.{edge, same_edge, AtMost, Before}
+use Rattle.auth_kinds.specs.Edges.{edge, same_edge, AtMost}
 use Rattle.auth_kinds.specs.Tables.{has, IsSorted}
 use Rattle.auth_kinds.specs.contracts.edge.EdgeOrd.TheImpl.{ghosts as ordered}
 use Rattle.auth_kinds.specs.declared.authority.Authority.{Authority}
 use Rattle.auth_kinds.specs.declared.authority.Authority.TheVariants.{Receive, SyncSend, AsyncSend, Reset, Grant, Read, Write, Control, Call, Reply, GrantBack, Handle}
 use Rattle.auth_kinds.specs.declared.edge.Edge.{Edge}
 use Rattle.auth_kinds.proofs.EdgeCompare.{cmp-after, cmp-before, cmp-same}
-use Rattle.auth_kinds.proofs.EdgeOrder.{at_most_before, at_most_self, before_at_most, same_edge_true, same_number}
+use Rattle.auth_kinds.proofs.EdgeOrder.{at_most_before, at_most_self, before_at_most, same_edge_true, same_number, not_before_self}
 use Rattle.edge_sets.specs.Between.{IsBetween}
-
-pub sorted_by_place : (edges : List Edge) → IsStrictlySortedBy ordered.cmp edges → IsSorted edges
-sorted_by_place edges s = record {
-  by_place = λ i j d e l p q.
-      let less = Less-from_sorted ordered.cmp edges i j d s l (slice_get_within edges j e q) in
-      cmp-before d e (rw (← get_or_from_slice_get edges i d d p, ← get_or_from_slice_get edges j e d q) less);
-}
-
-never_before_itself : (d : Edge) → Before d d → ⊥
-never_before_itself d b = let less : d.to < d.to = b.by_to refl refl in omega arith
+use Rattle.auth_kinds.proofs.TableSorting.{sorted_by_place}
 
 -- ---- the comparison, by its answer
 
@@ -43,7 +32,7 @@ at_most_compared d e h = at_most_by d e (ordered.cmp d e) refl h
 le_by : (d e : Edge) (o : Ordering) → ordered.cmp d e ≡ o → AtMost d e → is_le o ≡ true
 le_by d e Less is h = refl
 le_by d e Equal is h = refl
-le_by d e Greater is h = absurd (never_before_itself d (at_most_before d e d h (cmp-after d e is)))
+le_by d e Greater is h = absurd (not_before_self d (at_most_before d e d h (cmp-after d e is)))
 
 pub compared_at_most : (d e : Edge) → AtMost d e → is_le (ordered.cmp d e) ≡ true
 compared_at_most d e h = le_by d e (ordered.cmp d e) refl h
@@ -62,7 +51,7 @@ below_by last e Equal is h = subst (λ (x : Edge). AtMost x last) (cmp-same last
 below_by last e Greater is h = before_at_most e last (cmp-after last e is)
 
 not_past_by : (last e : Edge) (o : Ordering) → ordered.cmp last e ≡ o → AtMost e last → not (is_lt o) ≡ true
-not_past_by last e Less is h = absurd (never_before_itself e (at_most_before e last e h (cmp-before last e is)))
+not_past_by last e Less is h = absurd (not_before_self e (at_most_before e last e h (cmp-before last e is)))
 not_past_by last e Equal is h = refl
 not_past_by last e Greater is h = refl
 

@@ -1,9 +1,9 @@
 -- The fields of the lines of a table.
-use Rattle.std.proofs.Common.{◌≡◌, ◌∙◌, refl, sym, ap, ℕ, ◌+◌, ◌<◌, ◌^◌, nat_lt, ◌==◌, ◌&&◌, leb, Bool, true, false, not, List, [], ◌∷◌, ◌++◌, append_assoc, length, Option, Some, None, arith}
+use Rattle.std.proofs.Common.{◌≡◌, ◌∙◌, refl, sym, ap, ℕ, ◌+◌, ◌<◌, ◌^◌, ◌==◌, ◌&&◌, leb, Bool, true, false, not, List, [], ◌∷◌, ◌++◌, append_assoc, length, Option, Some, None, arith}
 use Rattle.std.specs.Prelude.{codes, ◌%◌}
 use Rattle.std.specs.List.{AllByRecursion, flat_map, list_all}
 use Rattle.std.specs.Str.{bytes_eq}
-use Rattle.std.proofs.lemmas.Bool.{and_parts}
+use Rattle.std.proofs.lemmas.Bool.{and_parts, ltb-true}
 use Rattle.std.proofs.lemmas.Bool.Decides.{nat_tests}
 use Rattle.cam_base.specs.Hex.{hex_text}
 use Rattle.cam_base.specs.Names.{is_letter, is_name, is_word_byte}
@@ -47,19 +47,16 @@ pub record Numbers (s : Section) : Type 0 where
   pub size : s.size < 2 ^ 64
   pub at : is_placed s.at s.size ≡ true
 
-less : (n m : ℕ) → nat_lt n m ≡ true → n < m
-less n m h = grind (arith, nat_tests)
-
 numbers : (s : Section) → is_sound s ≡ true → Numbers s
 numbers s h =
     let p = and_parts (s.vaddr % 4096 == 0) (not (s.size == 0) && (ends_within s.vaddr s.size && is_placed s.at s.size)) h in
     let q = and_parts (not (s.size == 0)) (ends_within s.vaddr s.size && is_placed s.at s.size) p.1 in
     let r = and_parts (ends_within s.vaddr s.size) (is_placed s.at s.size) q.1 in
-    let l = less (s.vaddr + s.size) (2 ^ 64) r.0 in
+    let l = ltb-true (s.vaddr + s.size) (2 ^ 64) r.0 in
     record { vaddr = omega (arith, l); size = omega (arith, l); at = r.1 }
 
 at_small : (at size : ℕ) → is_placed (Some at) size ≡ true → at < 2 ^ 64
-at_small at size h = let l = less (at + size) (2 ^ 64) h in omega (arith, l)
+at_small at size h = let l = ltb-true (at + size) (2 ^ 64) h in omega (arith, l)
 
 clean_letter : (b : ℕ) → is_letter b ≡ true → is_clean b ≡ true
 clean_letter b h = grind (arith, nat_tests)

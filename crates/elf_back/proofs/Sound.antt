@@ -1,11 +1,12 @@
 -- A table can say the image of a file.
-use Rattle.std.proofs.Common.{◌≡◌, ◌∙◌, refl, sym, ap, subst, ℕ, zero, suc, ◌+◌, ◌-◌, ◌<◌, ◌≤◌, ◌^◌, nat_lt, ◌==◌, leb, Bool, true, false, not, cond, List, [], ◌∷◌, ◌++◌, length, take, drop, Option, Some, None, lit<, arith}
+use Rattle.std.proofs.Common.{◌≡◌, ◌∙◌, refl, sym, ap, subst, ℕ, zero, suc, ◌+◌, ◌-◌, ◌<◌, ◌≤◌, ◌^◌, nat_lt, ◌==◌, leb, Bool, true, false, not, cond, List, [], ◌∷◌, ◌++◌, length, take, drop, Some, None, lit<, arith}
 use Rattle.std.specs.Prelude.{codes, decimal, ◌%◌}
 use Rattle.std.specs.List.{AllByRecursion, list_all}
 use Rattle.std.specs.Option.{option_or}
 use Rattle.std.proofs.Math.Nat.{pow-le-pow_right, pow-suc}
-use Rattle.std.proofs.lemmas.Bool.{and_from, and_parts, eqb-true}
+use Rattle.std.proofs.lemmas.Bool.{and_from, and_parts, eqb-true, ltb-true}
 use Rattle.std.proofs.lemmas.Bool.Decides.{nat_tests}
+use Rattle.cam_base.proofs.Options.{neither}
 use Rattle.elf_back.specs.Tables.{AreBytes, HasRow, HasTable}
 use Rattle.elf_images.specs.Classes.{header_length}
 use Rattle.elf_images.specs.Elf.{Elf, image_of}
@@ -18,22 +19,19 @@ use Rattle.elf_images.specs.declared.class.Class.TheVariants.{Bits32, Bits64}
 use Rattle.elf_images.specs.declared.fault.ElfCode.TheVariants as code
 use Rattle.elf_images.specs.declared.fault.ElfFault.{ElfFault}
 use Rattle.elf_images.specs.declared.program_header.ProgramHeader.{ProgramHeader}
-use Rattle.elf_images.proofs.Naming.{is_name-numbered}
+use Rattle.cam_base.proofs.Naming.{is_name-numbered}
 use Rattle.sect_table.specs.Sections.{is_sound}
 use Rattle.sect_table.specs.declared.image.Image.{Image}
 use Rattle.sect_table.specs.declared.image.Section.{Section}
 
 -- ---- fields
 
-less : (n m : ℕ) → nat_lt n m ≡ true → n < m
-less n m h = grind (arith, nat_tests)
-
 little_small : (bs : List ℕ) → list_all (λ b. nat_lt b 256) bs ≡ true → little bs < 256 ^ length bs
 little_small [] h = lit< tt
 little_small (b ∷ bs) h =
     let p = and_parts (nat_lt b 256) (list_all (λ b. nat_lt b 256) bs) h in
     let ih = little_small bs p.1 in
-    let l = less b 256 p.0 in
+    let l = ltb-true b 256 p.0 in
     let e = pow-suc 256 (length bs) in
     omega (arith, ih, l, e)
 
@@ -69,10 +67,6 @@ count_small Bits32 bytes h = let s = field_small bytes 44 2 h in let e : 256 ^ 2
 count_small Bits64 bytes h = let s = field_small bytes 56 2 h in let e : 256 ^ 2 ≡ 65536 = refl in omega (arith, s, e)
 
 -- ---- no fault
-
-or_none : {A : Type 0} (a b : Option A) → option_or a b ≡ None → (a ≡ None) × (b ≡ None)
-or_none None b e = (refl, e)
-or_none (Some x) b e = absurd cc
 
 -- what a used program header without a fault keeps
 pub record Fine (size : ℕ) (h : ProgramHeader) : Type 0 where
@@ -122,7 +116,7 @@ loaded_row h size n a b c d e = record {
 sized_is : (h : ProgramHeader) → is_sized h ≡ true → (h.file ≤ h.memory) × (memory_end h < 2 ^ 64) × (page_up (memory_end h) < 2 ^ 64)
 sized_is h e =
     let p = and_parts (leb h.file h.memory) (nat_lt (page_up (memory_end h)) (2 ^ 64)) e in
-    let l = less (page_up (memory_end h)) (2 ^ 64) p.1 in
+    let l = ltb-true (page_up (memory_end h)) (2 ^ 64) p.1 in
     (le h.file h.memory p.0, omega (arith, l), l)
   where
     le : (n m : ℕ) → leb n m ≡ true → n ≤ m
@@ -144,7 +138,7 @@ behind_rows : (h : ProgramHeader) → h.number < 2 ^ 64 → memory_end h < 2 ^ 6
 behind_rows h n m = go (nat_lt (page_up (file_end h)) (memory_end h)) refl
   where
     go : (b : Bool) → nat_lt (page_up (file_end h)) (memory_end h) ≡ b → AllByRecursion HasRow (zeros_behind h)
-    go true e = rw e (zeros_row h (page_up (file_end h)) n (page_begins (file_end h + 4095)) (less (page_up (file_end h)) (memory_end h) e) m, tt)
+    go true e = rw e (zeros_row h (page_up (file_end h)) n (page_begins (file_end h + 4095)) (ltb-true (page_up (file_end h)) (memory_end h) e) m, tt)
     go false e = rw e tt
 
 used_rows : (h : ProgramHeader) (size : ℕ) → h.number < 2 ^ 64 → size < 2 ^ 64 → 0 < h.memory → Fine size h → AllByRecursion HasRow (sections_of_used h)
@@ -183,7 +177,7 @@ all_rows class bytes size number first zero l n e = tt
 all_rows class bytes size number first (suc left) l n e =
     let h = program_header class bytes number first in
     let rest = headers_from class bytes (number + 1) (first + header_length class) left in
-    let p = or_none (header_fault size h) (headers_fault size rest) e in
+    let p = neither (header_fault size h) (headers_fault size rest) e in
     all_both (sections_of h) (sections_of_all rest)
     (header_rows h size (omega (arith, number_is class bytes number first)) l p.0)
     (all_rows class bytes size (number + 1) (first + header_length class) left l (omega arith) p.1)
@@ -202,8 +196,8 @@ few_sections n f e = go (nat_lt 256 n) refl
 
 class_has_table : (name bytes : List ℕ) (class : Class) → AreBytes bytes → fault_within bytes class ≡ None → HasTable (image_of name bytes class)
 class_has_table name bytes class b e =
-    let p = or_none (table_fault class bytes) (option_or (headers_fault (length bytes) (headers class bytes)) (limit_fault (headers class bytes))) e in
-    let q = or_none (headers_fault (length bytes) (headers class bytes)) (limit_fault (headers class bytes)) p.1 in
+    let p = neither (table_fault class bytes) (option_or (headers_fault (length bytes) (headers class bytes)) (limit_fault (headers class bytes))) e in
+    let q = neither (headers_fault (length bytes) (headers class bytes)) (limit_fault (headers class bytes)) p.1 in
     record {
       entry = entry_small class bytes b;
       few = few_sections (length (sections_of_all (headers class bytes))) _ q.1;

@@ -1,7 +1,7 @@
 -- Words, which one space parts.
-use Rattle.std.proofs.Common.{◌≡◌, ◌∙◌, refl, ap, ℕ, suc, ◌-◌, ◌<◌, nat_lt, ◌==◌, ◌||◌, Bool, true, false, not, cond, List, [], ◌∷◌, ◌++◌, length, filter, arith}
+use Rattle.std.proofs.Common.{◌≡◌, ◌∙◌, refl, ap, ℕ, suc, ◌-◌, ◌<◌, nat_lt, ◌==◌, Bool, true, false, not, cond, List, [], ◌∷◌, ◌++◌, length, filter, arith}
 use Rattle.std.specs.List.{AllByRecursion, list_all, onto_first, slice_index}
-use Rattle.std.proofs.lemmas.Bool.{and_parts, and_from}
+use Rattle.std.proofs.lemmas.Bool.{and_parts, and_from, or_from}
 use Rattle.std.proofs.lemmas.Bool.Decides.{nat_tests}
 use Rattle.std.proofs.lemmas.List.Folds.{list_all-append}
 use Rattle.std.proofs.lemmas.List.Splits.{slice_split-cons_no, slice_split-cons_yes}
@@ -89,12 +89,9 @@ back : (w : List ℕ) (us : List (List ℕ)) → Plain w → AllByRecursion Plai
 back w [] p ps = last_clean w p.some p.clean
 back w (u ∷ us) p ps = ap (λ n. n == 32) (last_behind w (spaced u us) 32 (some_spaced u us ps.0)) ∙ back u us ps.0 ps.1
 
-either : (a b : Bool) → a ≡ false → b ≡ false → (a || b) ≡ false
-either a b e f = rw (e, f) refl
-
 pub spaced_read : (w : List ℕ) (us : List (List ℕ)) → Plain w → AllByRecursion Plain us → spaced_fields (spaced w us) ≡ w ∷ us
 spaced_read w us p ps =
-    let pad : is_padded (spaced w us) ≡ false = either (slice_index (spaced w us) 0 == 32) (slice_index (spaced w us) (length (spaced w us) - 1) == 32) (front w us p) (back w us p ps) in
+    let pad : is_padded (spaced w us) ≡ false = or_from (slice_index (spaced w us) 0 == 32) (slice_index (spaced w us) (length (spaced w us) - 1) == 32) (front w us p) (back w us p ps) in
     ap (λ b. cond b [] (filter (λ (f : List ℕ). not (length f == 0)) (fields (spaced w us)))) pad
     ∙ ap (filter (λ (f : List ℕ). not (length f == 0))) (fields_spaced w us p ps)
     ∙ all_kept (w ∷ us) (p, ps)

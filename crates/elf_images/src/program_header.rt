@@ -57,7 +57,7 @@ fn pages_fit(first: u64, size: u64) -> bool
 }
 
 /// A word and a number.
-#[tactic(auto, using(crate::proofs::Naming::naming))]
+#[tactic(auto, using(cam_base::proofs::Naming::naming))]
 fn numbered(alloc: Global, word: &[u8], number: u64) -> Result<Name, NoMemory>
     requires name { is_name word.now ≡ true }
     requires short { length word.now ≤ 6 }

@@ -12,7 +12,7 @@ use Rattle.arch_policy.specs.Reasons.{BindReason, CallReason, DirectReason, Hand
 use Rattle.arch_policy.specs.Tables.{Tables, connection_label, domain_label, leaf_label}
 use Rattle.arch_policy.specs.Triples.{end_edges, signal_edges}
 use Rattle.arch_policy.proofs.Listed.{from_end, from_end_at, from_signal, in_end, in_signal, is_same_connector, is_same_role, same_place}
-use Rattle.arch_policy.proofs.Lists.{from_any, has_in, in_any, in_has}
+use Rattle.arch_policy.proofs.Lists.{has_in, in_any, in_has}
 use Rattle.arch_policy.proofs.Same.{is_connector, is_role}
 use Rattle.auth_kinds.specs.Edges.{edge}
 use Rattle.auth_kinds.specs.Tables.{has}
@@ -28,6 +28,7 @@ use Rattle.explain.specs.declared.search.Found.{Found}
 use Rattle.explain.specs.declared.search.Sought.TheVariants.{Given, Caller, Server, Handler, Signaller, LockHandler}
 use Rattle.explain.specs.Explained.{AtMost, ComesFirst, IsFirstOf, IsFirstReason, numbers, stage, tell, told_of}
 use Rattle.explain.specs.Sought.{IsFirstEnd, IsFirstLock, IsLeastEnd, IsLeastLock, IsSought, has_side, is_async, is_reply, is_side}
+use Rattle.numbering.proofs.Lists.{from_any}
 
 reply_is : (a : Authority) → is_reply a ≡ true → a ≡ Reply
 reply_is Reply h = refl

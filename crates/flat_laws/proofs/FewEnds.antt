@@ -1,8 +1,9 @@
 -- The ends of one connection are no more than those of all.
 use Rattle.std.proofs.Common.{◌≡◌, ◌≤◌, List, length, [], ◌∷◌, ◌++◌, Option, Some, None, option_map, refl, subst, inl, inr, arith}
-use Rattle.std.specs.List.{flat_map, filter_map, cons_option}
+use Rattle.std.specs.List.{flat_map}
 use Rattle.std.specs.Option.{option_or}
 use Rattle.std.proofs.lemmas.List.{length-append}
+use Rattle.cam_base.proofs.Lists.{length-filter_map}
 use Rattle.adl_ast.specs.declared.composition.End.{End}
 use Rattle.adl_ast.specs.declared.source.Source.{Source}
 use Rattle.adl_hierarchy.proofs.Limits.{AreInLimits, in_limits}
@@ -21,14 +22,6 @@ no_first (Some x) b e = e
 pub flat_in_limits : (s : Source) → AreNamesSound s → first_flat_fault s ≡ None → AreInLimits s
 flat_in_limits s sound e = in_limits s sound (no_first (first_size_fault s) (first_join_fault s) e)
 
-fewer : {X Y : Type 0} (f : X → Option Y) (xs : List X) → length (filter_map f xs) ≤ length xs
-fewer f [] = omega arith
-fewer f (x ∷ xs) = by_case (f x) (fewer f xs)
-  where
-    by_case : (o : Option _) → length (filter_map f xs) ≤ length xs → length (cons_option o (filter_map f xs)) ≤ length (x ∷ xs)
-    by_case None l = omega arith
-    by_case (Some y) l = omega arith
-
 part_shorter : {X Y : Type 0} (f : X → List Y) (xs : List X) (x : X) → IsIn x xs → length (f x) ≤ length (flat_map f xs)
 part_shorter f [] x i = absurd i
 part_shorter {X} {Y} f (y ∷ xs) x (inl e) =
@@ -39,7 +32,7 @@ part_shorter f (y ∷ xs) x (inr i) = let l = part_shorter f xs x i in omega (ar
 pub few_ends : (s : Source) → AreInLimits s → (x : Strung) → IsIn x (connections (hierarchy_of s)) → length (flat_ends (hierarchy_of s) x) ≤ 16384
 few_ends s limits x i =
     let h = hierarchy_of s in
-    let a = fewer (λ (e : End). option_map (flat_end h x.path e) (joined_by h x.inside e)) x.wire.1.ends in
+    let a = length-filter_map (λ (e : End). option_map (flat_end h x.path e) (joined_by h x.inside e)) x.wire.1.ends in
     let b = part_shorter (λ (x : Strung). x.wire.1.ends) (connections h) x i in
     let c = limits.ends_are in
     omega arith

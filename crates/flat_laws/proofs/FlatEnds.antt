@@ -6,7 +6,7 @@ use Rattle.adl_ast.specs.declared.source.Source.{Source}
 use Rattle.adl_hierarchy.proofs.DomainNames.{leaf_number_is}
 use Rattle.adl_hierarchy.proofs.Joining.{joined}
 use Rattle.component_graph.proofs.Lists.{in_get}
-use Rattle.numbering.proofs.Lists.{get_map, from_filter_map, map_some}
+use Rattle.numbering.proofs.Lists.{get_map, from_filter_map, map_some, from_get_map}
 use Rattle.adl_meaning.specs.declared.flat.FlatConnection.{FlatConnection}
 use Rattle.adl_meaning.specs.declared.flat.FlatEnd.{FlatEnd}
 use Rattle.adl_meaning.specs.Flat.{leaf_number, leaf_of, flat_end, flat_connection, flat_of}
@@ -15,9 +15,8 @@ use Rattle.adl_meaning.specs.Joins.{Reached, Strung, joined_by, connections}
 use Rattle.numbering.specs.Gather.{IsIn}
 use Rattle.adl_meaning.specs.NameFaults.{AreNamesSound}
 use Rattle.adl_meaning.specs.Paths.{Placed, leaves}
-use Rattle.flat_laws.proofs.FlatLeaves.{from_get}
 
-place_in : {X : Type 0} (xs : List X) (x : X) → IsIn x xs → (n : ℕ) × (slice_get xs n ≡ Some x)
+pub place_in : {X : Type 0} (xs : List X) (x : X) → IsIn x xs → (n : ℕ) × (slice_get xs n ≡ Some x)
 place_in [] x i = absurd i
 place_in (y ∷ xs) x (inl e) = (0, ap Some e)
 place_in (y ∷ xs) x (inr i) = let k = place_in xs x i in (suc k.0, k.1)
@@ -26,7 +25,7 @@ place_in (y ∷ xs) x (inr i) = let k = place_in xs x i in (suc k.0, k.1)
 pub strung_of : (s : Source) (k : ℕ) (c : FlatConnection) → slice_get (flat_of s).connections k ≡ Some c → (x : Strung) × IsIn x (connections (hierarchy_of s)) × (flat_connection (hierarchy_of s) x ≡ c)
 strung_of s k c e =
     let h = hierarchy_of s in
-    let x = from_get (flat_connection h) (connections h) k c e in
+    let x = from_get_map (flat_connection h) (connections h) k c e in
     (x.0, in_get (connections h) k x.0 x.1, x.2)
 
 -- a flat end is that of an end, at the leaf that it joins

@@ -3,7 +3,7 @@ use Rattle.std.proofs.Common.{◌≡◌, ◌≤◌, ℕ, Bool, true, false, cond
 use Rattle.std.specs.List.{All, slice_get}
 use Rattle.std.proofs.lemmas.List.{length-map}
 use Rattle.std.proofs.lemmas.List.Elements.{All-head, All-tail}
-use Rattle.std.proofs.lemmas.Option.{option_and_then_some, slice_get-map}
+use Rattle.std.proofs.lemmas.Option.{option_and_then_some}
 use Rattle.adl_ast.specs.declared.component.Component.{Component}
 use Rattle.adl_ast.specs.declared.component.Member.{Member}
 use Rattle.adl_ast.specs.declared.source.Source.{Source}
@@ -12,8 +12,8 @@ use Rattle.adl_hierarchy.proofs.Bodies.{body_number, part_of_body}
 use Rattle.adl_hierarchy.proofs.DomainNames.{domains_are, leaves_of_domain, domain_number_is, domain_found}
 use Rattle.adl_hierarchy.proofs.Leaves.{leaves_stand}
 use Rattle.component_graph.proofs.ComponentNumbers.{numbers_below}
-use Rattle.component_graph.proofs.Lists.{in_get, get}
-use Rattle.numbering.proofs.Lists.{get_map, map_some}
+use Rattle.component_graph.proofs.Lists.{in_get}
+use Rattle.numbering.proofs.Lists.{get_map, at_place, from_get_map}
 use Rattle.adl_hierarchy.proofs.Steps.{part_in}
 use Rattle.adl_meaning.specs.declared.flat.Domain.{Domain}
 use Rattle.adl_meaning.specs.declared.flat.Leaf.{Leaf}
@@ -31,10 +31,6 @@ use Rattle.flat_laws.proofs.MembersAt.{members_there}
 
 -- ---- places
 
--- what stands in a mapped list is of what stands there in the list
-pub from_get : {X Y : Type 0} (f : X → Y) (xs : List X) (n : ℕ) (y : Y) → slice_get (map f xs) n ≡ Some y → (x : X) × (slice_get xs n ≡ Some x) × (f x ≡ y)
-from_get f xs n y e = map_some f (slice_get xs n) y (sym (slice_get-map f xs n) ∙ e)
-
 -- ---- the component of a leaf
 
 part_stands : (h : Hierarchy) (k : ℕ) (p : Path) (x : Part) → part_at h k p ≡ Some x → (m : ℕ) × IsIn x (body h m).parts
@@ -49,7 +45,7 @@ leaf_component s sound x i =
     let m = part_stands h (top_number h) x.path x.part stands.0 in
     let trees = map (λ (c : ItemAt × Component). c.1) (components s) in
     let low = numbers_below trees x.part.instance.component.name x.part.kind (part_of_body s m.0 x.part m.1).typed in
-    get (components s) x.part.kind (omega (arith, low, length-map (components s) (λ (c : ItemAt × Component). c.1)))
+    at_place (components s) x.part.kind (omega (arith, low, length-map (components s) (λ (c : ItemAt × Component). c.1)))
 
 -- the members at the place of an instance's component are the component's
 pub members_of_part : (s : Source) (x : Part) (c : ItemAt × Component) → slice_get (components s) x.kind ≡ Some c → members_at s (item_of (hierarchy_of s) x) ≡ c.1.members
@@ -68,7 +64,7 @@ few_members s sound few leaf = by_leaf (slice_get (flat_of s).leaves leaf) refl
     by_leaf None e = omega arith
     by_leaf (Some l) e =
         let h = hierarchy_of s in
-        let x = from_get (leaf_of h) (leaves h) leaf l e in
+        let x = from_get_map (leaf_of h) (leaves h) leaf l e in
         let c = leaf_component s sound x.0 (in_get (leaves h) leaf x.0 x.1) in
         let P : List Member → Type 0 = λ ms. length ms ≤ 1048576 in
         let Q : Leaf → Type 0 = λ z. length (members_at s z.component) ≤ 1048576 in
@@ -88,7 +84,7 @@ domain_is h x d e = by_test (is_hardware h x.part) e
 pub leaf_listed : (h : Hierarchy) (l d : ℕ) (leaf : Leaf) → slice_get (map (leaf_of h) (leaves h)) l ≡ Some leaf → leaf.domain ≡ Some d
     → (domain : Domain) × (slice_get (map (flat_domain h) (domains h)) d ≡ Some domain) × IsIn l domain.leaves
 leaf_listed h l d leaf e f =
-    let x = from_get (leaf_of h) (leaves h) l leaf e in
+    let x = from_get_map (leaf_of h) (leaves h) l leaf e in
     let path = domain_of h x.0.path in
     let is = domain_is h x.0 d (ap (λ (z : Leaf). z.domain) x.2 ∙ f) in
     let there = domain_found h path ((domains_are h path).1 (x.0, in_get (leaves h) l x.0 x.1, is.0, refl)) in (
@@ -100,7 +96,7 @@ leaf_listed h l d leaf e f =
 pub leaf_owned : (h : Hierarchy) (d l : ℕ) (domain : Domain) → slice_get (map (flat_domain h) (domains h)) d ≡ Some domain → IsIn l domain.leaves
     → (leaf : Leaf) × (slice_get (map (leaf_of h) (leaves h)) l ≡ Some leaf) × (leaf.domain ≡ Some d)
 leaf_owned h d l domain e i =
-    let path = from_get (flat_domain h) (domains h) d domain e in
+    let path = from_get_map (flat_domain h) (domains h) d domain e in
     let P : Domain → Type 0 = λ z. IsIn l z.leaves in
     let x = (leaves_of_domain h path.0 l).0 (subst P (sym path.2) i) in (
       leaf_of h x.0,

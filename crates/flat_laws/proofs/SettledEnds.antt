@@ -1,5 +1,5 @@
 -- Where each end joins an interface of a leaf, each has its settings.
-use Rattle.std.proofs.Common.{◌≡◌, ◌∙◌, ◌+◌, ℕ, zero, suc, List, [], ◌∷◌, length, option_map, refl, sym, ap, Option, Some, None, inl, inr}
+use Rattle.std.proofs.Common.{◌≡◌, ◌∙◌, ℕ, zero, suc, List, [], ◌∷◌, length, option_map, refl, sym, ap, Option, Some, None, inl, inr}
 use Rattle.std.specs.List.{cons_option, filter_map, slice_get}
 use Rattle.std.specs.Option.{option_and_then}
 use Rattle.std.proofs.lemmas.List.{length-map}
@@ -25,6 +25,9 @@ use Rattle.numbering.proofs.Lists.{get_map}
 use Rattle.leaf_ends.specs.Members.{items_of_file, members_at, members_in, members_of}
 use Rattle.flat_laws.specs.EndSettings.{AreEndsSettled}
 use Rattle.flat_laws.specs.Typed.{AreTyped, IsTypedEnd}
+use Rattle.adl_hierarchy.proofs.Joining.{kept}
+use Rattle.adl_settings.proofs.EndNumbers.{position_of}
+use Rattle.flat_laws.proofs.FlatEnds.{place_in}
 
 -- ---- lists
 
@@ -39,22 +42,7 @@ all_kept_at {X} {Y} f (z ∷ xs) all n x y e g =
     at_place zero e more = let same : z ≡ x = cc in sym (all z (inl refl)).1 ∙ ap f same ∙ g
     at_place (suc n) e more = more n e
 
--- and there are as many
-all_kept : {X Y : Type 0} (f : X → Option Y) (xs : List X) → ((x : X) → IsIn x xs → (y : Y) × (f x ≡ Some y)) → length (filter_map f xs) ≡ length xs
-all_kept f [] all = refl
-all_kept f (x ∷ xs) all = ap (λ o. length (cons_option o (filter_map f xs))) (all x (inl refl)).1 ∙ ap (λ n. suc n) (all_kept f xs (λ y i. all y (inr i)))
-
-pub place_in : {X : Type 0} (xs : List X) (x : X) → IsIn x xs → (n : ℕ) × (slice_get xs n ≡ Some x)
-place_in [] x i = absurd i
-place_in (y ∷ xs) x (inl same) = (0, ap (λ z. Some z) same)
-place_in (y ∷ xs) x (inr i) = let p = place_in xs x i in (suc p.0, p.1)
-
 -- ---- positions among the `from` ends
-
-pub positioned_at : (p : ℕ) (es : List FlatEnd) (n : ℕ) (e : FlatEnd) → slice_get es n ≡ Some e → (q : ℕ) × (slice_get (positioned_after p es) n ≡ Some (q, e))
-positioned_at p [] n e at = cc
-positioned_at p (f ∷ es) zero e at = let same : f ≡ e = cc in (p + 1, ap (λ z. Some (p + 1, z)) same)
-positioned_at p (f ∷ es) (suc n) e at = positioned_at (behind p f.role) es n e at
 
 pub from_positioned : (p : ℕ) (es : List FlatEnd) (x : ℕ × FlatEnd) → IsIn x (positioned_after p es) → IsIn x.1 es
 from_positioned p [] x i = absurd i
@@ -121,7 +109,7 @@ module _ (s : Source) (typed : AreTyped s (flat_of s)) where
   pub found_there : (k n : ℕ) (c : FlatConnection) (e : FlatEnd) → slice_get (flat_of s).connections k ≡ Some c → slice_get c.ends n ≡ Some e
       → (p : ℕ) × (slice_get (positioned c.ends) n ≡ Some (p, e)) × (f : IsFoundEnd c (p, e)) × (slice_get (found_on (hierarchy_of s) s (flat_of s) c) n ≡ Some f.found)
   found_there k n c e at is =
-      let p = positioned_at 0 c.ends n e is in
+      let p = position_of 0 c.ends n e is in
       let f = end_found k c (p.0, e) at (in_get c.ends n e is) in
       (p.0, p.1, f, all_kept_at (found_of (hierarchy_of s) s (flat_of s) c) (positioned c.ends) (found_all k c at) n (p.0, e) f.found p.1 f.is)
 
@@ -141,7 +129,7 @@ module _ (s : Source) (typed : AreTyped s (flat_of s)) where
             record {
               settings = end_settings es;
               there = settled_there k c at;
-              as_many = length-map es end_setting ∙ all_kept (found_of h s (flat_of s) c) (positioned c.ends) (found_all k c at) ∙ as_many_positions 0 c.ends;
+              as_many = length-map es end_setting ∙ kept (found_of h s (flat_of s) c) (positioned c.ends) (found_all k c at) ∙ as_many_positions 0 c.ends;
             };
         each = λ k n c e at is.
             let t = found_there k n c e at is in

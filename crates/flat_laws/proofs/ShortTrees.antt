@@ -133,7 +133,7 @@ item_short s short x i =
     let P : ItemAt × Item → Type 0 = λ z. IsShort 1048576 item_line z.1 in
     subst P e.2 (file_item 1048576 f.0.1.tree (short f.0.1 (in_get s.files n.0 f.0.1 n.2)) e.0.1 (in_get f.0.1.tree.items m.0 e.0.1 m.2))
 
-all_of : {X : Type 0} (P : X → Type 0) (xs : List X) → ((x : X) → IsIn x xs → P x) → All P xs
+pub all_of : {X : Type 0} (P : X → Type 0) (xs : List X) → ((x : X) → IsIn x xs → P x) → All P xs
 all_of P [] h = All-nil P
 all_of P (x ∷ xs) h = All-cons P x xs (h x (inl refl)) (all_of P xs (λ y i. h y (inr i)))
 

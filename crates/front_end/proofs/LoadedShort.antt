@@ -1,28 +1,21 @@
 -- The trees of a source that is loaded are spelled by few tokens.
-use Rattle.std.proofs.Common.{◌≡◌, ap, inl, inr, ℕ, List, [], ◌∷◌, ◌++◌, length, Option, None, Some, Ok, arith}
+use Rattle.std.proofs.Common.{ℕ, List, length, Option, None, Some, Ok, arith}
 use Rattle.std.proofs.lemmas.List.{length-map}
 use Rattle.adl_ast.specs.Seeing.{see, seen_at}
 use Rattle.adl_ast.specs.declared.source.Source.{Source}
-use Rattle.adl_ast.specs.declared.source.SourceFile.{SourceFile}
 use Rattle.adl_hierarchy.specs.Spelled.{AreSpelled}
 use Rattle.adl_import.proofs.Whole.{clean_each}
 use Rattle.adl_import.specs.Folding.{root_name}
 use Rattle.adl_import.specs.Loaded.{IsLoaded, IsLoadedBy}
 use Rattle.adl_import.specs.Sources.{AreFilesOf}
-use Rattle.numbering.specs.Gather.{IsIn}
 use Rattle.front_end.proofs.LoadedFew.{tokens_within}
 use Rattle.cam_io.specs.Contents.{Contents}
 use Rattle.flat_laws.specs.ShortFiles.{AreFilesShort}
-
--- what stands in a list has others before and behind it
-split_at : (files : List SourceFile) (f : SourceFile) → IsIn f files → (before after : List SourceFile) × (files ≡ before ++ f ∷ after)
-split_at [] f i = absurd i
-split_at (g ∷ files) f (inl same) = ([], files, ap (λ z. z ∷ files) same)
-split_at (g ∷ files) f (inr i) = let s = split_at files f i in (g ∷ s.0, s.1, ap (λ z. g ∷ z) s.2)
+use Rattle.numbering.proofs.Lists.{split_in}
 
 each_short : (contents : Option Contents) (s : Source) → AreFilesOf contents s.files → AreFilesShort s
 each_short contents s each f i =
-    let at = split_at s.files f i in
+    let at = split_in s.files f i in
     let file = each at.0 at.1 f at.2 in
     let tokens = tokens_within (length at.0) (length f.bytes) f.bytes file.tokens file.lexed in
     let size = file.size in

@@ -1,7 +1,7 @@
 -- Sets of codes, as lists.
-use Rattle.std.proofs.Common.{◌≡◌, ℕ, Bool, true, false, cond, List, [], ◌∷◌, ◌++◌, refl, ◌⊎◌, inl, inr}
+use Rattle.std.proofs.Common.{◌≡◌, ℕ, Bool, true, false, cond, List, [], ◌∷◌, ◌++◌, refl, inl, inr}
 use Rattle.std.specs.Prelude.{not, ◌==◌}
-use Rattle.std.proofs.lemmas.Bool.{eqb-true, and_parts}
+use Rattle.std.proofs.lemmas.Bool.{eqb-true, and_parts, cases_Bool}
 use Rattle.grammar.specs.Form.{among}
 use Rattle.grammar.specs.Deciding.{apart, same}
 use Rattle.grammar.specs.Reading.{starts}
@@ -11,10 +11,6 @@ if_true b x y e = rw e refl
 
 pub if_false : {A : Type 0} (b : Bool) (x y : A) → b ≡ false → cond b x y ≡ y
 if_false b x y e = rw e refl
-
-pub bool_cases : (b : Bool) → (b ≡ true) ⊎ (b ≡ false)
-bool_cases true = inl refl
-bool_cases false = inr refl
 
 pub true_is_not_false : {A : Type 0} (b : Bool) → b ≡ true → b ≡ false → A
 true_is_not_false b p q = absurd cc
@@ -36,10 +32,10 @@ among-right [] ds c e = e
 among-right (d ∷ cs) ds c e = cond_true (c == d) (among (cs ++ ds) c) (among-right cs ds c e)
 
 pub none-left : (cs ds : List ℕ) (c : ℕ) → among (cs ++ ds) c ≡ false → among cs c ≡ false
-none-left cs ds c e = elim (bool_cases (among cs c)) [ inl h ↦ true_is_not_false _ (among-left cs ds c h) e | inr h ↦ h ]
+none-left cs ds c e = elim (cases_Bool (among cs c)) [ inl h ↦ true_is_not_false _ (among-left cs ds c h) e | inr h ↦ h ]
 
 pub none-right : (cs ds : List ℕ) (c : ℕ) → among (cs ++ ds) c ≡ false → among ds c ≡ false
-none-right cs ds c e = elim (bool_cases (among ds c)) [ inl h ↦ true_is_not_false _ (among-right cs ds c h) e | inr h ↦ h ]
+none-right cs ds c e = elim (cases_Bool (among ds c)) [ inl h ↦ true_is_not_false _ (among-right cs ds c h) e | inr h ↦ h ]
 
 apart_step : (a c d : Bool) → cond a false d ≡ true → (a ≡ false) × (d ≡ true)
 apart_step true c d e = absurd cc
@@ -79,4 +75,4 @@ module _ {T : Type 0} (code : T → ℕ) where
   starts_apart cs ds (t ∷ ts) p e = apart_none cs ds (code t) p e
 
   pub starts_apart_back : (cs ds : List ℕ) (ts : List T) → apart cs ds ≡ true → starts code ds ts ≡ true → starts code cs ts ≡ false
-  starts_apart_back cs ds ts p e = elim (bool_cases (starts code cs ts)) [ inl h ↦ true_is_not_false _ e (starts_apart cs ds ts p h) | inr h ↦ h ]
+  starts_apart_back cs ds ts p e = elim (cases_Bool (starts code cs ts)) [ inl h ↦ true_is_not_false _ e (starts_apart cs ds ts p h) | inr h ↦ h ]

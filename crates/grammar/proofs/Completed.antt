@@ -1,23 +1,19 @@
 -- Where each part of a form has a spelling, a form is begun exactly by the fronts of its spellings.
-use Rattle.std.proofs.Common.{◌≡◌, ℕ, zero, suc, Bool, true, false, List, [], ◌∷◌, ◌++◌, refl, sym, ap, subst, ◌∙◌, append_assoc, ◌⊎◌, inl, inr}
-use Rattle.std.specs.Prelude.{◌&&◌, ◌||◌, ◌↔◌}
+use Rattle.std.proofs.Common.{◌≡◌, ℕ, zero, suc, Bool, true, false, List, [], ◌∷◌, ◌++◌, refl, sym, ap, subst, ◌∙◌, append_assoc, inl, inr}
+use Rattle.std.specs.Prelude.{◌&&◌, ◌↔◌}
 use Rattle.std.proofs.lemmas.List.{append-nil}
-use Rattle.std.proofs.lemmas.Bool.{and_parts}
+use Rattle.std.proofs.lemmas.Bool.{and_parts, or_cases, cases_Bool}
 use Rattle.grammar.specs.Form.{Form, Give, One, Then, Or, Many, As, Starts, Nested, among}
 use Rattle.grammar.specs.Spelling.{Meaning, Spells, Begins, Each}
 use Rattle.grammar.specs.Depth.{deep, Spelled, Begun}
 use Rattle.grammar.specs.Spellable.{has_sample, has_spelling, parts_have_spellings}
-use Rattle.grammar.proofs.Codes.{bool_cases, if_false}
+use Rattle.grammar.proofs.Codes.{if_false}
 use Rattle.grammar.proofs.Depth.{spells_up}
 use Rattle.grammar.proofs.Fronts.{spelling_front}
 
-or_true : (a b : Bool) → (a || b) ≡ true → (a ≡ true) ⊎ (b ≡ true)
-or_true true b e = inl refl
-or_true false b e = inr e
-
 sample : {T : Type 0} (code : T → ℕ) (cs : List ℕ) (ts : List T) → has_sample code ts cs ≡ true → (t : T) × (among cs (code t) ≡ true)
 sample code cs [] e = absurd cc
-sample code cs (t ∷ ts) e = elim (bool_cases (among cs (code t))) [
+sample code cs (t ∷ ts) e = elim (cases_Bool (among cs (code t))) [
   | inl h ↦ (t, h)
   | inr h ↦ sample code cs ts (sym (if_false (among cs (code t)) true (has_sample code ts cs) h) ∙ e)
 ]
@@ -38,7 +34,7 @@ module _ {T V : Type 0} (code : T → ℕ) (samples : List T) (nested : Bool) wh
         let s = spelling f p.0 in
         let s' = spelling g p.1 in
         ((s.0, s'.0), s.1 ++ s'.1, (s.1, s'.1, refl, s.2, s'.2))
-    spelling (Or f g) e = elim (or_true (has_spelling code samples nested f) (has_spelling code samples nested g) e) [
+    spelling (Or f g) e = elim (or_cases (has_spelling code samples nested f) (has_spelling code samples nested g) e) [
       | inl p ↦ let s = spelling f p in (s.0, s.1, inl s.2)
       | inr p ↦ let s = spelling g p in (s.0, s.1, inr s.2)
     ]

@@ -1,5 +1,6 @@
 -- Readers that go to different depths, and what they keep.
 use Rattle.std.proofs.Common.{◌≡◌, ℕ, zero, suc, ◌+◌, ◌≤◌, Bool, true, false, List, [], ◌∷◌, ◌++◌, length, Result, Ok, Err, refl, sym, ap, subst, ◌∙◌, arith, ◌⊎◌, inl, inr, zero-add, suc-add}
+use Rattle.std.proofs.lemmas.Bool.{cases_Bool}
 use Rattle.grammar.specs.declared.error.Stop.{Stop}
 use Rattle.grammar.specs.declared.error.Why.TheVariants.{Unexpected, TooDeep}
 use Rattle.grammar.specs.Form.{Form, Give, One, Then, Or, Many, As, Starts, Nested, among}
@@ -7,7 +8,7 @@ use Rattle.grammar.specs.Spelling.{Each, Meaning, Spells, Begins}
 use Rattle.grammar.specs.Depth.{deep}
 use Rattle.grammar.specs.Deciding.{can_be_empty, first, further, decides}
 use Rattle.grammar.specs.Reading.{◌>>=◌, Reader, left, starts, either, times, many, read, guarded, too_deep, read_deep}
-use Rattle.grammar.proofs.Codes.{bool_cases, true_is_not_false}
+use Rattle.grammar.proofs.Codes.{true_is_not_false}
 use Rattle.grammar.proofs.Laws.{IsRead, no_nil, failed, ok_is_not_err, err_is, shorter, spelled_starts}
 use Rattle.grammar.proofs.Whole.{Exact, exact}
 
@@ -62,14 +63,14 @@ bind_agree (Err d) w f g (inr h) each = inr (rw (← h) refl)
 
 module _ {T : Type 0} (code : T → ℕ) where
   either_agree : {A : Type 0} (cs : List ℕ) (r r' q q' : Reader T A) (ts : List T) → Agree (r ts) (r' ts) → Agree (q ts) (q' ts) → Agree (either code cs r q ts) (either code cs r' q' ts)
-  either_agree cs r r' q q' ts a b = elim (bool_cases (starts code cs ts)) [
+  either_agree cs r r' q q' ts a b = elim (cases_Bool (starts code cs ts)) [
     | inl h ↦ rw h a
     | inr h ↦ rw h b
   ]
 
   times_agree : {A : Type 0} (n : ℕ) (cs : List ℕ) (r r' : Reader T A) → ((ts : List T) → Agree (r ts) (r' ts)) → (ts : List T) → Agree (times code n cs r ts) (times code n cs r' ts)
   times_agree zero cs r r' h ts = inr refl
-  times_agree (suc n) cs r r' h ts = elim (bool_cases (starts code cs ts)) [
+  times_agree (suc n) cs r r' h ts = elim (cases_Bool (starts code cs ts)) [
     | inl k ↦ rw k (bind_agree (r ts) (r' ts) _ _ (h ts) (λ x. bind_agree (times code n cs r x.1) (times code n cs r' x.1) _ _ (times_agree n cs r r' h x.1) (λ xs. inr refl)))
     | inr k ↦ rw k (inr refl)
   ]
@@ -110,7 +111,7 @@ module _ {T A : Type 0} (code : T → ℕ) {S : A → List T → Type 0} {B : Li
       none (u ∷ us) = refl
 
   guard_shorter : (ts : List T) → left (guarded code fs r ts) ≤ length ts
-  guard_shorter ts = elim (bool_cases (starts code fs ts)) [
+  guard_shorter ts = elim (cases_Bool (starts code fs ts)) [
     | inl h ↦ rw (guard_on ts h) (shorter f ts)
     | inr h ↦ rw (guard_off ts h) (omega arith)
   ]
@@ -121,12 +122,12 @@ module _ {T A : Type 0} (code : T → ℕ) {S : A → List T → Type 0} {B : Li
 
   IsRead-guard : IsRead code S B false fs [] (guarded code fs r)
   IsRead-guard = record {
-    sound = λ ts x e. elim (bool_cases (starts code fs ts)) [
+    sound = λ ts x e. elim (cases_Bool (starts code fs ts)) [
       | inl h ↦ f.sound ts x (sym (guard_on ts h) ∙ e)
       | inr h ↦ ok_is_not_err x (record { why = Unexpected; left = length ts }) (sym e ∙ guard_off ts h)
     ];
     complete = λ x a rest s h. guard_complete x a rest s;
-    stops = λ ts e k. elim (bool_cases (starts code fs ts)) [
+    stops = λ ts e k. elim (cases_Bool (starts code fs ts)) [
       | inl h ↦ f.stops ts e (sym (guard_on ts h) ∙ k)
       | inr h ↦ ([], ts, refl, f.nil, left_is {A = A × List T} (record { why = Unexpected; left = length ts }) e (sym (guard_off ts h) ∙ k))
     ];
@@ -175,7 +176,7 @@ module _ {T V : Type 0} (code : T → ℕ) (line : Form T V V) (opens : List ℕ
   deep_exact n f d = exact code (deep code line n) opens (read_deep code line opens n) (nested_exact n) f d
 
   guarded_agree : (r q : Reader T V) (ts : List T) → Agree (r ts) (q ts) → Agree (guarded code opens r ts) (guarded code opens q ts)
-  guarded_agree r q ts h = elim (bool_cases (starts code opens ts)) [ inl k ↦ rw k h | inr k ↦ rw k (inr refl) ]
+  guarded_agree r q ts h = elim (cases_Bool (starts code opens ts)) [ inl k ↦ rw k h | inr k ↦ rw k (inr refl) ]
 
   nested_agree : (n k : ℕ) (ts : List T) → Agree (read_deep code line opens n ts) (read_deep code line opens (n + k) ts)
   unfolding read_deep

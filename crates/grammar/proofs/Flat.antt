@@ -1,12 +1,13 @@
 -- A grammar in which no line stands within itself: nothing in it nests too deep.
 use Rattle.std.proofs.Common.{◌≡◌, ℕ, zero, suc, List, [], ◌∷◌, ◌++◌, length, Ok, Err, refl, sym, ◌∙◌, inl, inr}
+use Rattle.std.proofs.lemmas.Bool.{cases_Bool}
 use Rattle.grammar.specs.declared.error.Stop.{Stop}
 use Rattle.grammar.specs.declared.error.Why.TheVariants.{Unexpected}
 use Rattle.grammar.specs.Form.{Form, Give, One, Then, Or, Many, As, Starts, Nested, among}
 use Rattle.grammar.specs.Depth.{deep}
 use Rattle.grammar.specs.Deciding.{first}
 use Rattle.grammar.specs.Reading.{◌>>=◌, Reader, starts, one, both, either, times, many, mapped, read, read_deep, whole, ended}
-use Rattle.grammar.proofs.Codes.{bool_cases, if_true, if_false}
+use Rattle.grammar.proofs.Codes.{if_true, if_false}
 use Rattle.grammar.specs.Flat.{never}
 use Rattle.grammar.specs.Faults.{IsTooDeep}
 use Rattle.grammar.proofs.Depth.{IsLine, begins_up}
@@ -18,7 +19,7 @@ IsFlat {T = T} r = (ts : List T) (e : Stop) → r ts ≡ Err e → e.why ≡ Une
 module _ {T : Type 0} (code : T → ℕ) where
   one_flat : (cs : List ℕ) → IsFlat (one code cs)
   one_flat cs [] e h = why_is {A = T × List T} _ e h
-  one_flat cs (t ∷ ts) e h = elim (bool_cases (among cs (code t))) [
+  one_flat cs (t ∷ ts) e h = elim (cases_Bool (among cs (code t))) [
     | inl g ↦ ok_is_not_err (t, ts) e (sym (if_true (among cs (code t)) (Ok (t, ts)) _ g) ∙ h)
     | inr g ↦ why_is {A = T × List T} _ e (sym (if_false (among cs (code t)) (Ok (t, ts)) _ g) ∙ h)
   ]
@@ -30,14 +31,14 @@ module _ {T : Type 0} (code : T → ℕ) where
   ]
 
   either_flat : {A : Type 0} (cs : List ℕ) (r q : Reader T A) → IsFlat r → IsFlat q → IsFlat (either code cs r q)
-  either_flat cs r q p p' ts e h = elim (bool_cases (starts code cs ts)) [
+  either_flat cs r q p p' ts e h = elim (cases_Bool (starts code cs ts)) [
     | inl g ↦ p ts e (sym (if_true (starts code cs ts) (r ts) (q ts) g) ∙ h)
     | inr g ↦ p' ts e (sym (if_false (starts code cs ts) (r ts) (q ts) g) ∙ h)
   ]
 
   times_flat : {A : Type 0} (cs : List ℕ) (r : Reader T A) → IsFlat r → (n : ℕ) → IsFlat (times code n cs r)
   times_flat cs r p zero ts e h = ok_is_not_err ([], ts) e h
-  times_flat cs r p (suc n) ts e h = elim (bool_cases (starts code cs ts)) [
+  times_flat cs r p (suc n) ts e h = elim (cases_Bool (starts code cs ts)) [
     | inl g ↦ elim (bind_err (r ts) (λ x. times code n cs r x.1 >>= λ xs. Ok (x.0 ∷ xs.0, xs.1)) e (sym (if_true (starts code cs ts) _ _ g) ∙ h)) [
       | inl k ↦ p ts e k
       | inr b ↦ elim (bind_err (times code n cs r b.0.1) (λ xs. Ok (b.0.0 ∷ xs.0, xs.1)) e b.2) [ inl k ↦ times_flat cs r p n b.0.1 e k | inr c ↦ ok_is_not_err (b.0.0 ∷ c.0.0, c.0.1) e c.2 ]

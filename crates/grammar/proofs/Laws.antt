@@ -2,11 +2,12 @@
 use Rattle.std.proofs.Common.{◌≡◌, ℕ, ◌<◌, ◌≤◌, Bool, true, false, cond, List, [], ◌∷◌, ◌++◌, length, Result, Ok, Err, refl, sym, ap, subst, ◌∙◌, append_assoc, arith, ◌⊎◌, inl, inr}
 use Rattle.std.specs.Prelude.{◌&&◌}
 use Rattle.std.proofs.lemmas.List.{append-nil, length-append}
+use Rattle.std.proofs.lemmas.Bool.{cases_Bool}
 use Rattle.grammar.specs.declared.error.Stop.{Stop}
 use Rattle.grammar.specs.Form.{among}
 use Rattle.grammar.specs.Deciding.{apart}
 use Rattle.grammar.specs.Reading.{◌>>=◌, Reader, left, starts, one, both, either, mapped}
-use Rattle.grammar.proofs.Codes.{if_true, if_false, bool_cases, true_is_not_false, among-left, among-right, starts_none-left, starts_none-right, starts_apart_back}
+use Rattle.grammar.proofs.Codes.{if_true, if_false, true_is_not_false, among-left, among-right, starts_none-left, starts_none-right, starts_apart_back}
 
 -- A reader answers exactly what is spelled, and stops exactly where nothing is begun any more.
 -- spells and begins are the form's; empty: it spells nothing too; fs: its first codes; gs: the codes that a whole one may go on with.
@@ -101,7 +102,7 @@ IsRead-give {T} {A} code y = record {
 module _ {T : Type 0} (code : T → ℕ) (cs : List ℕ) where
   one_sound : (ts : List T) (x : T × List T) → one code cs ts ≡ Ok x → (among cs (code x.0) ≡ true) × (ts ≡ x.0 ∷ x.1)
   one_sound [] x e = absurd cc
-  one_sound (t ∷ ts) x e = elim (bool_cases (among cs (code t))) [
+  one_sound (t ∷ ts) x e = elim (cases_Bool (among cs (code t))) [
     | inl h ↦ let p = ok_is (t, ts) x (sym (if_true (among cs (code t)) (Ok (t, ts)) _ h) ∙ e) in
         (rw (← p) h, ap (λ (w : T × List T). w.0 ∷ w.1) p)
     | inr h ↦ absurd (let q = sym (if_false (among cs (code t)) (Ok (t, ts)) _ h) ∙ e in cc)
@@ -112,14 +113,14 @@ module _ {T : Type 0} (code : T → ℕ) (cs : List ℕ) where
 
   one_shorter : (ts : List T) → left (one code cs ts) ≤ length ts
   one_shorter [] = omega arith
-  one_shorter (t ∷ ts) = elim (bool_cases (among cs (code t))) [
+  one_shorter (t ∷ ts) = elim (cases_Bool (among cs (code t))) [
     | inl h ↦ rw h (omega arith)
     | inr h ↦ rw h (omega arith)
   ]
 
   one_stops : (ts : List T) (e : Stop) → one code cs ts ≡ Err e → e.left ≡ length ts
   one_stops [] e h = sym (ap (λ (f : Stop). f.left) (err_is {A = T × List T} _ e h))
-  one_stops (t ∷ ts) e h = elim (bool_cases (among cs (code t))) [
+  one_stops (t ∷ ts) e h = elim (cases_Bool (among cs (code t))) [
     | inl g ↦ ok_is_not_err (t, ts) e (sym (one_takes t ts g) ∙ h)
     | inr g ↦ sym (ap (λ (f : Stop). f.left) (err_is {A = T × List T} _ e (sym (if_false (among cs (code t)) (Ok (t, ts)) _ g) ∙ h)))
   ]
@@ -173,7 +174,7 @@ module _ {T A B : Type 0} (code : T → ℕ) {S : A → List T → Type 0} {B1 :
   both_between y (t ∷ b) rest s h = starts_apart_back code gs1 fs2 (t ∷ b ++ rest) decided (spelled_starts g y t b s)
 
   both_after : (rest : List T) → starts code (cond n2 (gs1 ++ gs2) gs2) rest ≡ false → starts code gs2 rest ≡ false
-  both_after rest h = elim (bool_cases n2) [
+  both_after rest h = elim (cases_Bool n2) [
     | inl e ↦ starts_none-right code gs1 gs2 rest (rw (← if_true n2 (gs1 ++ gs2) gs2 e) h)
     | inr e ↦ rw (← if_false n2 (gs1 ++ gs2) gs2 e) h
   ]
@@ -200,7 +201,7 @@ module _ {T A B : Type 0} (code : T → ℕ) {S : A → List T → Type 0} {B1 :
       rw same (both_first u (f.head u a (f.begun x (u ∷ a) s)))
     where
       both_first : (v : T) → among fs1 (code v) ≡ true → among (cond n1 (fs1 ++ fs2) fs1) (code v) ≡ true
-      both_first v k = elim (bool_cases n1) [ inl p ↦ rw p (among-left fs1 fs2 (code v) k) | inr p ↦ rw p k ]
+      both_first v k = elim (cases_Bool n1) [ inl p ↦ rw p (among-left fs1 fs2 (code v) k) | inr p ↦ rw p k ]
 
   pub IsRead-then : IsRead code (λ (x : A × B) (ts : List T). (a : List T) × (b : List T) × (ts ≡ a ++ b) × S x.0 a × S' x.1 b) (λ ts. B1 ts ⊎ ((x : A) × (a : List T) × (b : List T) × (ts ≡ a ++ b) × S x a × B2 b))
       (n1 && n2) (cond n1 (fs1 ++ fs2) fs1) (cond n2 (gs1 ++ gs2) gs2) (both code r q)
@@ -238,7 +239,7 @@ module _ {T A B : Type 0} (code : T → ℕ) {S : A → List T → Type 0} {B1 :
   }
     where
       both_first : (v : T) → among fs1 (code v) ≡ true → among (cond n1 (fs1 ++ fs2) fs1) (code v) ≡ true
-      both_first v k = elim (bool_cases n1) [ inl p ↦ rw p (among-left fs1 fs2 (code v) k) | inr p ↦ rw p k ]
+      both_first v k = elim (cases_Bool n1) [ inl p ↦ rw p (among-left fs1 fs2 (code v) k) | inr p ↦ rw p k ]
 
       both_null : (x : A × B) (a b : List T) → [] ≡ a ++ b → S x.0 a → S' x.1 b → (n1 && n2) ≡ true
       both_null x [] b e s s' = rw (f.null x.0 s) (g.null x.1 (rw e s'))
@@ -258,7 +259,7 @@ module _ {T A : Type 0} (code : T → ℕ) {S : A → List T → Type 0} {B1 : L
   either_gs = cond n2 (fs1 ++ (gs1 ++ gs2)) (gs1 ++ gs2)
 
   either_after : (rest : List T) → starts code either_gs rest ≡ false → (starts code gs1 rest ≡ false) × (starts code gs2 rest ≡ false)
-  either_after rest h = elim (bool_cases n2) [
+  either_after rest h = elim (cases_Bool n2) [
     | inl e ↦ let h' = starts_none-right code fs1 (gs1 ++ gs2) rest (rw (← if_true n2 (fs1 ++ (gs1 ++ gs2)) (gs1 ++ gs2) e) h) in (starts_none-left code gs1 gs2 rest h', starts_none-right code gs1 gs2 rest h')
     | inr e ↦ let h' : starts code (gs1 ++ gs2) rest ≡ false = rw (← if_false n2 (fs1 ++ (gs1 ++ gs2)) (gs1 ++ gs2) e) h in (starts_none-left code gs1 gs2 rest h', starts_none-right code gs1 gs2 rest h')
   ]
@@ -275,7 +276,7 @@ module _ {T A : Type 0} (code : T → ℕ) {S : A → List T → Type 0} {B1 : L
       either_second (t ∷ a ++ rest) (starts_apart_back code fs1 fs2 (t ∷ a ++ rest) decided (spelled_starts g x t a s)) ∙ g.complete x (t ∷ a) rest s (either_after rest h).1
 
   either_shorter : (ts : List T) → left (either code fs1 r q ts) ≤ length ts
-  either_shorter ts = elim (bool_cases (starts code fs1 ts)) [
+  either_shorter ts = elim (cases_Bool (starts code fs1 ts)) [
     | inl h ↦ rw (either_first ts h) (shorter f ts)
     | inr h ↦ rw (either_second ts h) (shorter g ts)
   ]
@@ -290,12 +291,12 @@ module _ {T A : Type 0} (code : T → ℕ) {S : A → List T → Type 0} {B1 : L
 
   pub IsRead-or : IsRead code (λ (x : A) (ts : List T). S x ts ⊎ S' x ts) (λ ts. B1 ts ⊎ B2 ts) n2 (fs1 ++ fs2) (cond n2 (fs1 ++ (gs1 ++ gs2)) (gs1 ++ gs2)) (either code fs1 r q)
   IsRead-or = record {
-    sound = λ ts x e. elim (bool_cases (starts code fs1 ts)) [
+    sound = λ ts x e. elim (cases_Bool (starts code fs1 ts)) [
       | inl h ↦ let s = f.sound ts x (sym (either_first ts h) ∙ e) in (s.0, s.1, inl s.2)
       | inr h ↦ let s = g.sound ts x (sym (either_second ts h) ∙ e) in (s.0, s.1, inr s.2)
     ];
     complete = λ x a rest s h. elim s [ inl s ↦ complete_first x a rest s h | inr s ↦ complete_second x a rest s h ];
-    stops = λ ts e k. elim (bool_cases (starts code fs1 ts)) [
+    stops = λ ts e k. elim (cases_Bool (starts code fs1 ts)) [
       | inl h ↦ let s = f.stops ts e (sym (either_first ts h) ∙ k) in (s.0, s.1, s.2, inl s.3, s.4)
       | inr h ↦ let s = g.stops ts e (sym (either_second ts h) ∙ k) in (s.0, s.1, s.2, inr s.3, s.4)
     ];

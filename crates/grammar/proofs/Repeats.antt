@@ -1,12 +1,13 @@
 -- Any number of one form.
 use Rattle.std.proofs.Common.{◌≡◌, ℕ, zero, suc, ◌<◌, ◌≤◌, true, false, List, [], ◌∷◌, ◌++◌, length, Result, Ok, Err, refl, sym, ap, subst, ◌∙◌, append_assoc, arith, inl, inr}
 use Rattle.std.proofs.lemmas.List.{append-nil, length-append}
+use Rattle.std.proofs.lemmas.Bool.{cases_Bool}
 use Rattle.grammar.specs.declared.error.Stop.{Stop}
 use Rattle.grammar.specs.Form.{among}
 use Rattle.grammar.specs.Spelling.{Each}
 use Rattle.grammar.specs.Deciding.{apart}
 use Rattle.grammar.specs.Reading.{◌>>=◌, Reader, left, starts, times, many}
-use Rattle.grammar.proofs.Codes.{bool_cases, true_is_not_false, starts_none-left, starts_none-right, starts_apart_back}
+use Rattle.grammar.proofs.Codes.{true_is_not_false, starts_none-left, starts_none-right, starts_apart_back}
 use Rattle.grammar.proofs.Laws.{IsRead, done, bind_ok, bind_err, ok_is, ok_is_not_err, shorter, spelled_starts}
 
 regroup : {T : Type 0} (a b c d : List T) → ((a ++ b) ++ c) ++ d ≡ a ++ ((b ++ c) ++ d)
@@ -44,7 +45,7 @@ module _ {T A : Type 0} (code : T → ℕ) (cs : List ℕ) (r : Reader T A) wher
     times_enough zero m (t ∷ ts) p q = absurd (omega arith)
     times_enough (suc n) zero [] p q = times_none (suc n) [] refl
     times_enough (suc n) zero (t ∷ ts) p q = absurd (omega arith)
-    times_enough (suc n) (suc m) ts p q = elim (bool_cases (starts code cs ts)) [
+    times_enough (suc n) (suc m) ts p q = elim (cases_Bool (starts code cs ts)) [
       | inl h ↦ times_more n ts h ∙ same_more (length ts) (times code n cs r) (times code m cs r) (λ us lt. times_enough n m us (omega arith) (omega arith)) (r ts) (eats ts) ∙ sym (times_more m ts h)
       | inr h ↦ times_none (suc n) ts h ∙ sym (times_none (suc m) ts h)
     ]
@@ -68,7 +69,7 @@ module _ {T A : Type 0} (code : T → ℕ) {S : A → List T → Type 0} {B : Li
 
   times_sound : (n : ℕ) (ts : List T) (x : List A × List T) → times code n fs r ts ≡ Ok x → (a : List T) × (ts ≡ a ++ x.1) × Each S x.0 a
   times_sound zero ts x e = none_sound ts x e
-  times_sound (suc n) ts x e = elim (bool_cases (starts code fs ts)) [
+  times_sound (suc n) ts x e = elim (cases_Bool (starts code fs ts)) [
     | inl h ↦
         let b = bind_ok (r ts) (λ x. times code n fs r x.1 >>= λ xs. Ok (x.0 ∷ xs.0, xs.1)) x (sym (times_more code fs r n ts h) ∙ e) in
         let c = bind_ok (times code n fs r b.0.1) (λ xs. Ok (b.0.0 ∷ xs.0, xs.1)) x b.2 in
@@ -111,7 +112,7 @@ module _ {T A : Type 0} (code : T → ℕ) {S : A → List T → Type 0} {B : Li
 
   times_stops : (n : ℕ) (ts : List T) (e : Stop) → times code n fs r ts ≡ Err e → (a : List T) × (rest : List T) × (ts ≡ a ++ rest) × Begun a × (e.left ≡ length rest)
   times_stops zero ts e k = ok_is_not_err ([], ts) e k
-  times_stops (suc n) ts e k = elim (bool_cases (starts code fs ts)) [
+  times_stops (suc n) ts e k = elim (cases_Bool (starts code fs ts)) [
     | inl h ↦ elim (bind_err (r ts) (λ x. times code n fs r x.1 >>= λ xs. Ok (x.0 ∷ xs.0, xs.1)) e (sym (times_more code fs r n ts h) ∙ k)) [
       | inl p ↦ let w = f.stops ts e p in (w.0, w.1, w.2, ([], [], w.0, refl, refl, w.3), w.4)
       | inr b ↦ elim (bind_err (times code n fs r b.0.1) (λ xs. Ok (b.0.0 ∷ xs.0, xs.1)) e b.2) [
@@ -133,7 +134,7 @@ module _ {T A : Type 0} (code : T → ℕ) {S : A → List T → Type 0} {B : Li
 
   times_shorter : (n : ℕ) (ts : List T) → left (times code n fs r ts) ≤ length ts
   times_shorter zero ts = omega arith
-  times_shorter (suc n) ts = elim (bool_cases (starts code fs ts)) [
+  times_shorter (suc n) ts = elim (cases_Bool (starts code fs ts)) [
     | inl h ↦ rw (times_more code fs r n ts h) (left_more code fs r (length ts) (times code n fs r) (times_shorter n) (r ts) (shorter f ts))
     | inr h ↦ rw (times_none code fs r (suc n) ts h) (omega arith)
   ]

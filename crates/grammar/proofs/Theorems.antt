@@ -2,7 +2,7 @@
 use Rattle.std.proofs.Common.{◌≡◌, ℕ, zero, suc, ◌+◌, ◌≤◌, true, false, List, [], ◌∷◌, ◌++◌, length, Ok, Err, refl, sym, ap, subst, ◌∙◌, append_assoc, arith, ◌⊎◌, inl, inr, add-one, add_comm}
 use Rattle.std.specs.Prelude.{◌&&◌, not}
 use Rattle.std.proofs.lemmas.List.{append-nil, length-append, append_cancel_right}
-use Rattle.std.proofs.lemmas.Bool.{and_parts}
+use Rattle.std.proofs.lemmas.Bool.{and_parts, cases_Bool}
 use Rattle.grammar.specs.declared.error.Stop.{Stop}
 use Rattle.grammar.specs.declared.error.Why.TheVariants.{Unexpected, TooDeep}
 use Rattle.grammar.specs.Form.{Form, Give, One, Then, Or, Many, As, Starts, Nested, among}
@@ -11,7 +11,7 @@ use Rattle.grammar.specs.Depth.{deep, Spelled}
 use Rattle.grammar.specs.Deciding.{apart, can_be_empty, first, further, decides, same}
 use Rattle.grammar.specs.Reading.{◌>>=◌, Reader, left, starts, one, both, either, times, many, mapped, read, guarded, too_deep, read_deep, ended, whole}
 use Rattle.grammar.specs.Faults.{IsSyntaxError, IsTooDeep}
-use Rattle.grammar.proofs.Codes.{bool_cases, if_true, if_false}
+use Rattle.grammar.proofs.Codes.{if_true, if_false}
 use Rattle.grammar.proofs.Laws.{IsRead, bind_ok, bind_err, ok_is, ok_is_not_err, err_is, why_is}
 use Rattle.grammar.proofs.Repeats.{times_none, times_more}
 use Rattle.grammar.proofs.Whole.{exact}
@@ -31,13 +31,13 @@ Past {T} B r = (ts : List T) (e : Stop) → r ts ≡ Err e → e.why ≡ TooDeep
 module _ {T : Type 0} (code : T → ℕ) where
   one_past : (cs : List ℕ) (B : List T → Type 0) → Past B (one code cs)
   one_past cs B [] e h w = too_deep_is_not (sym w ∙ why_is {A = T × List T} _ e h)
-  one_past cs B (t ∷ ts) e h w = elim (bool_cases (among cs (code t))) [
+  one_past cs B (t ∷ ts) e h w = elim (cases_Bool (among cs (code t))) [
     | inl g ↦ ok_is_not_err (t, ts) e (sym (if_true (among cs (code t)) (Ok (t, ts)) _ g) ∙ h)
     | inr g ↦ too_deep_is_not (sym w ∙ why_is {A = T × List T} _ e (sym (if_false (among cs (code t)) (Ok (t, ts)) _ g) ∙ h))
   ]
 
   guarded_past : {A : Type 0} (cs : List ℕ) (B : List T → Type 0) (r : Reader T A) → ((ts : List T) → starts code cs ts ≡ true → (e : Stop) → r ts ≡ Err e → e.why ≡ TooDeep → (a : List T) × (t : T) × (rest : List T) × (ts ≡ a ++ t ∷ rest) × B (a ++ t ∷ []) × (e.left ≡ suc (length rest))) → Past B (guarded code cs r)
-  guarded_past {A = A} cs B r h ts e k w = elim (bool_cases (starts code cs ts)) [
+  guarded_past {A = A} cs B r h ts e k w = elim (cases_Bool (starts code cs ts)) [
     | inl g ↦ h ts g e (sym (if_true (starts code cs ts) (r ts) _ g) ∙ k) w
     | inr g ↦ too_deep_is_not (sym w ∙ why_is {A = A × List T} _ e (sym (if_false (starts code cs ts) (r ts) _ g) ∙ k))
   ]
@@ -66,7 +66,7 @@ module _ {T : Type 0} (code : T → ℕ) where
       → ((ts : List T) (x : A × List T) → r ts ≡ Ok x → (a : List T) × (ts ≡ a ++ x.1) × S' x.0 a) → Past B r
       → (n : ℕ) → Past (λ ts. (xs : List A) × (a : List T) × (b : List T) × (ts ≡ a ++ b) × Each S' xs a × B b) (times code n cs r)
   times_past S' B cs r sound p zero ts e h w = ok_is_not_err ([], ts) e h
-  times_past S' B cs r sound p (suc n) ts e h w = elim (bool_cases (starts code cs ts)) [
+  times_past S' B cs r sound p (suc n) ts e h w = elim (cases_Bool (starts code cs ts)) [
     | inl g ↦ elim (bind_err (r ts) (λ x. times code n cs r x.1 >>= λ xs. Ok (x.0 ∷ xs.0, xs.1)) e (sym (times_more code cs r n ts g) ∙ h)) [
       | inl k ↦ let z = p ts e k w in (z.0, z.1, z.2, z.3, ([], [], z.0 ++ z.1 ∷ [], refl, refl, z.4), z.5)
       | inr b ↦ elim (bind_err (times code n cs r b.0.1) (λ xs. Ok (b.0.0 ∷ xs.0, xs.1)) e b.2) [
@@ -97,7 +97,7 @@ module _ {T : Type 0} (code : T → ℕ) where
   map_past h B1 r p ts e k w = elim (bind_err (r ts) (λ x. Ok (h x.0, x.1)) e k) [ inl q ↦ p ts e q w | inr b ↦ ok_is_not_err (h b.0.0, b.0.1) e b.2 ]
 
   or_past : {A : Type 0} (cs : List ℕ) (B1 B2 : List T → Type 0) (r q : Reader T A) → Past B1 r → Past B2 q → Past (λ ts. B1 ts ⊎ B2 ts) (either code cs r q)
-  or_past cs B1 B2 r q p p' ts e k w = elim (bool_cases (starts code cs ts)) [
+  or_past cs B1 B2 r q p p' ts e k w = elim (cases_Bool (starts code cs ts)) [
     | inl g ↦ let z = p ts e (sym (if_true (starts code cs ts) (r ts) (q ts) g) ∙ k) w in (z.0, z.1, z.2, z.3, inl z.4, z.5)
     | inr g ↦ let z = p' ts e (sym (if_false (starts code cs ts) (r ts) (q ts) g) ∙ k) w in (z.0, z.1, z.2, z.3, inr z.4, z.5)
   ]

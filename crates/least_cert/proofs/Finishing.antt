@@ -1,6 +1,6 @@
 -- Where all edges were looked at, the rules hold.
 use Rattle.std.proofs.Common.{◌≡◌, ◌≢◌, ◌∙◌, ◌⊎◌, ◌++◌, ◌||◌, ◌==◌, ◌<◌, ◌≤◌, ◌+◌, ℕ, Bool, true, false, List, [], ◌∷◌, Some, length, slice_get, take, refl, sym, ap, subst, inl, inr, arith, add-one, zero, suc, length-append}
-use Rattle.std.proofs.lemmas.Bool.{eqb-true}
+use Rattle.std.proofs.lemmas.Bool.{eqb-true, or_cases, or_left, or_right}
 use Rattle.std.proofs.lemmas.List.{take-append-le, take_all}
 use Rattle.auth_kinds.specs.Edges.{edge, same_edge}
 use Rattle.auth_kinds.specs.Tables.{Has, has}
@@ -13,7 +13,7 @@ use Rattle.least_cert.specs.Closing.{Begins, Closes, Closure, Gifted, Grows, Has
 use Rattle.least_cert.specs.LeastCertificate.{IsLeast, KeepsRules}
 use Rattle.least_cert.proofs.Growth.{gifted_grows, grows_none, grows_then, knows_grows, one_grows}
 use Rattle.least_cert.proofs.Leading.{knows_led, knows_least, led_knows, number_other}
-use Rattle.least_cert.proofs.Listing.{has_last, or_cases, or_left, or_right}
+use Rattle.least_cert.proofs.Listing.{has_last}
 
 pub closed_none : (c : Closure) → IsClosedFor [] c
 closed_none c = record {

@@ -2,6 +2,7 @@
 use Rattle.std.proofs.Common.{◌≡◌, ◌≢◌, ◌∙◌, ◌⊎◌, ◌++◌, ◌==◌, ◌+◌, ◌<◌, ◌≤◌, ◌^◌, ℕ, Bool, true, false, List, [], ◌∷◌, get_or, length, map, refl, sym, ap, subst, inl, inr, zero, suc, arith, length-append}
 use Rattle.std.proofs.lemmas.Bool.{cases_lt, eqb-true}
 use Rattle.std.proofs.lemmas.List.{get_or-map, get_or_past, length-map}
+use Rattle.cam_base.proofs.Orders.{same_itself}
 use Rattle.auth_kinds.specs.Authorities.{number_of}
 use Rattle.auth_kinds.specs.Edges.{edge}
 use Rattle.auth_kinds.specs.Tables.{Has, has}
@@ -10,7 +11,7 @@ use Rattle.auth_kinds.specs.declared.authority.Authority.TheVariants.{Reply}
 use Rattle.auth_kinds.specs.declared.edge.Edge.{Edge}
 use Rattle.auth_kinds.proofs.EdgeOrder.{same_number}
 use Rattle.least_cert.specs.Closing.{Closure, Flows, IsSound, Knows, IsRelabeled, OfLeast, Widens, lead, leader_at, led_by}
-use Rattle.least_cert.proofs.Passing.{differ, self}
+use Rattle.least_cert.proofs.Passing.{differ}
 
 -- ---- the edge of a leader
 
@@ -82,7 +83,7 @@ pub led_to : (from to : ℕ) → led_by from to to ≡ to
 led_to from to = elim (led_cases from to to) [ inl is ↦ is | inr is ↦ is.1 ]
 
 pub led_from : (from to : ℕ) → led_by from to from ≡ to
-led_from from to = rw (self from) refl
+led_from from to = rw (same_itself from) refl
 
 relabeled : (leaders : List ℕ) (from to l : ℕ) → from < length leaders → leader_at (map (led_by from to) leaders) l ≡ led_by from to (leader_at leaders l)
 relabeled leaders from to l less = elim (cases_lt l (length leaders)) [

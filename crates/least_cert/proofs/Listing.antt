@@ -1,6 +1,8 @@
 -- What lists of edges have: after a push, and after a filter.
-use Rattle.std.proofs.Common.{◌≡◌, ◌∙◌, ◌⊎◌, ◌||◌, ◌++◌, ℕ, Bool, true, false, List, [], ◌∷◌, Option, Some, None, slice_get, refl, sym, ap, subst, inl, inr, zero, suc}
+use Rattle.std.proofs.Common.{◌≡◌, ◌∙◌, ◌⊎◌, ◌||◌, ◌++◌, Bool, true, false, List, [], ◌∷◌, Option, Some, refl, sym, ap, inl, inr}
 use Rattle.std.specs.List.{filter_map}
+use Rattle.std.proofs.lemmas.Bool.{or_cases, or_left, or_right}
+use Rattle.cam_base.proofs.Lists.{from_filter_map, to_filter_map}
 use Rattle.auth_kinds.specs.Edges.{same_edge}
 use Rattle.auth_kinds.specs.Tables.{has}
 use Rattle.auth_kinds.specs.declared.edge.Edge.{Edge}
@@ -10,18 +12,6 @@ use Rattle.auth_kinds.proofs.TableMembers.{at_has, has_at}
 pub or_assoc : (a b c : Bool) → (a || (b || c)) ≡ ((a || b) || c)
 or_assoc true b c = refl
 or_assoc false b c = refl
-
-pub or_left : (a b : Bool) → a ≡ true → a || b ≡ true
-or_left true b h = refl
-or_left false b h = absurd cc
-
-pub or_right : (a b : Bool) → b ≡ true → a || b ≡ true
-or_right true b h = refl
-or_right false b h = h
-
-pub or_cases : (a b : Bool) → a || b ≡ true → (a ≡ true) ⊎ (b ≡ true)
-or_cases true b h = inl refl
-or_cases false b h = inr h
 
 pub or_none : (a : Bool) → a || false ≡ a
 or_none true = refl
@@ -55,44 +45,14 @@ put_cases old d e h = elim (or_cases old (same_edge d e) h) [ inl x ↦ inl x | 
 
 -- ---- filters
 
--- what a filter gives comes from some item
-from_filtered : {A B : Type 0} (f : A → Option B) (xs : List A) (k : ℕ) (y : B) → slice_get (filter_map f xs) k ≡ Some y → (i : ℕ) × (x : A) × (slice_get xs i ≡ Some x) × (f x ≡ Some y)
-from_filtered f [] k y h = absurd cc
-from_filtered {A} {B} f (x ∷ xs) k y h = go (f x) refl h (λ j g. from_filtered f xs j y g) where
-  go : (o : Option B) → f x ≡ o → slice_get (filter_map f (x ∷ xs)) k ≡ Some y
-      → ((j : ℕ) → slice_get (filter_map f xs) j ≡ Some y → (i : ℕ) × (z : A) × (slice_get xs i ≡ Some z) × (f z ≡ Some y))
-      → (i : ℕ) × (z : A) × (slice_get (x ∷ xs) i ≡ Some z) × (f z ≡ Some y)
-  go None is there rest =
-      let same : filter_map f (x ∷ xs) ≡ filter_map f xs = rw is refl in
-      let r = rest k (subst (λ (ys : List B). slice_get ys k ≡ Some y) same there) in
-      (suc r.0, r.1, r.2, r.3)
-  go (Some z) is there rest =
-      let same : filter_map f (x ∷ xs) ≡ z ∷ filter_map f xs = rw is refl in
-      at_place k (subst (λ (ys : List B). slice_get ys k ≡ Some y) same there) where
-        at_place : (j : ℕ) → slice_get (z ∷ filter_map f xs) j ≡ Some y → (i : ℕ) × (w : A) × (slice_get (x ∷ xs) i ≡ Some w) × (f w ≡ Some y)
-        at_place zero g = (zero, x, refl, is ∙ g)
-        at_place (suc j) g = let r = rest j g in (suc r.0, r.1, r.2, r.3)
-
--- and what it gives of an item is there
-to_filtered : {A B : Type 0} (f : A → Option B) (xs : List A) (i : ℕ) (x : A) (y : B) → slice_get xs i ≡ Some x → f x ≡ Some y → (k : ℕ) × (slice_get (filter_map f xs) k ≡ Some y)
-to_filtered f [] i x y h is = absurd cc
-to_filtered {A} {B} f (z ∷ xs) zero x y h is =
-    let same : z ≡ x = cc in
-    let here : f z ≡ Some y = ap f same ∙ is in
-    (zero, rw here refl)
-to_filtered {A} {B} f (z ∷ xs) (suc i) x y h is = go (f z) refl (to_filtered f xs i x y h is) where
-  go : (o : Option B) → f z ≡ o → (k : ℕ) × (slice_get (filter_map f xs) k ≡ Some y) → (k : ℕ) × (slice_get (filter_map f (z ∷ xs)) k ≡ Some y)
-  go None here r = (r.0, rw here r.1)
-  go (Some w) here r = (suc r.0, rw here r.1)
-
 pub from_mapped : (f : Edge → Option Edge) (xs : List Edge) (e : Edge) → has (filter_map f xs) e ≡ true → (x : Edge) × (has xs x ≡ true) × (f x ≡ Some e)
 from_mapped f xs e h =
     let at = at_has (filter_map f xs) e h in
-    let from = from_filtered f xs at.0 e at.1 in
+    let from = from_filter_map f xs at.0 e at.1 in
     (from.1, has_at xs from.0 from.1 from.2, from.3)
 
 pub to_mapped : (f : Edge → Option Edge) (xs : List Edge) (x e : Edge) → has xs x ≡ true → f x ≡ Some e → has (filter_map f xs) e ≡ true
 to_mapped f xs x e h is =
     let at = at_has xs x h in
-    let to = to_filtered f xs at.0 x e at.1 is in
+    let to = to_filter_map f xs at.0 x e at.1 is in
     has_at (filter_map f xs) to.0 e to.1

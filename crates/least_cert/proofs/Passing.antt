@@ -1,6 +1,7 @@
 -- Which edges pass on, and what is made of the ends of two edges.
-use Rattle.std.proofs.Common.{◌≡◌, ◌≢◌, ◌==◌, ℕ, Bool, true, false, Some, None, if◌then◌else◌, refl, arith}
+use Rattle.std.proofs.Common.{◌≡◌, ◌≢◌, ◌==◌, ℕ, Bool, true, false, Some, None, if◌then◌else◌, refl}
 use Rattle.std.proofs.lemmas.Bool.{eqb-true}
+use Rattle.cam_base.proofs.Orders.{same_itself}
 use Rattle.auth_kinds.specs.Authorities.{number_of}
 use Rattle.auth_kinds.specs.Edges.{edge}
 use Rattle.auth_kinds.specs.declared.authority.Authority.{Authority}
@@ -8,9 +9,6 @@ use Rattle.auth_kinds.specs.declared.authority.Authority.TheVariants.{Reply}
 use Rattle.auth_kinds.specs.declared.edge.Edge.{Edge}
 use Rattle.auth_kinds.proofs.EdgeOrder.{same_number}
 use Rattle.least_cert.specs.Closing.{from_other, passed_to, to_other}
-
-pub self : (n : ℕ) → n == n ≡ true
-self n = grind arith
 
 pub differ : (m n : ℕ) → m ≢ n → m == n ≡ false
 differ m n h = by (m == n) refl where
@@ -36,7 +34,7 @@ passes_on r x other =
 pub from_other_is : (a : Authority) (l : ℕ) (p e : Edge) → from_other a l p ≡ Some e → (p.to ≢ l) × (edge p.to a l ≡ e)
 from_other_is a l p e h =
     let is = chosen_none (p.to == l) (edge p.to a l) e h in
-    (λ same. absurd (let yes_it : p.to == l ≡ true = rw same (self l) in let no_it = is.0 in cc), is.1)
+    (λ same. absurd (let yes_it : p.to == l ≡ true = rw same (same_itself l) in let no_it = is.0 in cc), is.1)
 
 pub from_other_made : (a : Authority) (l : ℕ) (p : Edge) → p.to ≢ l → from_other a l p ≡ Some (edge p.to a l)
 from_other_made a l p other = let no_it : p.to == l ≡ false = differ p.to l other in rw no_it refl
@@ -44,7 +42,7 @@ from_other_made a l p other = let no_it : p.to == l ≡ false = differ p.to l ot
 pub to_other_is : (a : Authority) (l : ℕ) (p e : Edge) → to_other a l p ≡ Some e → (p.to ≢ l) × (edge l a p.to ≡ e)
 to_other_is a l p e h =
     let is = chosen_none (p.to == l) (edge l a p.to) e h in
-    (λ same. absurd (let yes_it : p.to == l ≡ true = rw same (self l) in let no_it = is.0 in cc), is.1)
+    (λ same. absurd (let yes_it : p.to == l ≡ true = rw same (same_itself l) in let no_it = is.0 in cc), is.1)
 
 pub to_other_made : (a : Authority) (l : ℕ) (p : Edge) → p.to ≢ l → to_other a l p ≡ Some (edge l a p.to)
 to_other_made a l p other = let no_it : p.to == l ≡ false = differ p.to l other in rw no_it refl

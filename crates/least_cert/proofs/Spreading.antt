@@ -1,7 +1,7 @@
 -- The edges of leaders, as those of the labels that they lead, and the replies that calls ask for.
 use Rattle.std.proofs.Common.{◌≡◌, ◌∙◌, ◌||◌, ◌==◌, ◌++◌, ◌<◌, ◌≤◌, ◌+◌, ◌^◌, ℕ, Bool, true, false, List, [], Some, None, if◌then◌else◌, get_or, length, ltb, slice_get, take, refl, sym, ap, subst, inl, inr, arith}
 use Rattle.std.specs.List.{filter_map}
-use Rattle.std.proofs.lemmas.Bool.{cases_lt, eqb-true, le-ltb}
+use Rattle.std.proofs.lemmas.Bool.{cases_lt, eqb-true, le-ltb, or_cases, or_left, or_right}
 use Rattle.std.proofs.lemmas.List.{get_or_past, take_all, take_more}
 use Rattle.std.proofs.lemmas.Option.{get_or_from_slice_get, slice_get-get_or, slice_get_within}
 use Rattle.auth_graph.specs.Sources.{OfEach}
@@ -20,7 +20,7 @@ use Rattle.least_cert.specs.LeastCertificate.{HasMoreThan, InLeast}
 use Rattle.least_cert.proofs.Growth.{no_edge}
 use Rattle.least_cert.proofs.Leading.{knows_least, led_knows, lead_reply, lead_other, number_other, reply_or_not}
 use Rattle.least_cert.proofs.LeastKeeps.{least_keeps}
-use Rattle.least_cert.proofs.Listing.{from_mapped, has_append, has_push, or_assoc, or_cases, or_left, or_none, or_right, to_mapped}
+use Rattle.least_cert.proofs.Listing.{from_mapped, has_append, has_push, or_assoc, or_none, to_mapped}
 use Rattle.least_cert.proofs.Passing.{from_other_is, from_other_made}
 
 -- ---- lists and sets that grow

@@ -1,7 +1,8 @@
 -- What stands in a list, and what a list's elements are made into.
-use Rattle.std.proofs.Common.{◌≡◌, ◌<◌, ◌≤◌, ◌+◌, ◌∙◌, ℕ, zero, suc, Bool, true, false, cond, List, [], ◌∷◌, ◌++◌, length, take, drop, get_or, map, refl, sym, ap, subst, inl, inr, ◌⊎◌, Option, Some, None, option_map, arith}
-use Rattle.std.specs.List.{flat_map, filter_map, find, enumerate_from, cons_option, range_with_len, slice_get}
+use Rattle.std.proofs.Common.{◌≡◌, ◌<◌, ◌≤◌, ◌+◌, ◌∙◌, ℕ, zero, suc, Bool, true, false, cond, List, [], ◌∷◌, ◌++◌, length, take, drop, get_or, map, refl, sym, ap, subst, inl, inr, ◌⊎◌, Option, Some, None, option_map, arith, true≢false}
+use Rattle.std.specs.List.{flat_map, filter_map, find, enumerate_from, cons_option, range_with_len, slice_get, list_any}
 use Rattle.std.proofs.lemmas.Option.{slice_get-get_or, slice_get_read}
+use Rattle.std.specs.Prelude.{◌||◌}
 use Rattle.numbering.specs.Gather.{IsIn, gather}
 use Rattle.numbering.proofs.Gathered.{in_append, in_left, in_right, in_place, length_append}
 
@@ -195,3 +196,30 @@ taken_le F (x ∷ xs) zero = omega arith
 taken_le F (x ∷ xs) (suc i) =
     let G : ℕ → _ → List _ = λ k y. F (suc k) y in
     omega (arith, taken_le G xs i, length_append (F 0 x) (gather G (take i xs)), length_append (F 0 x) (gather G xs))
+
+pub from_any : {X : Type 0} (p : X → Bool) (xs : List X) → list_any p xs ≡ true → (x : X) × IsIn x xs × (p x ≡ true)
+from_any p [] h = absurd (true≢false (sym h))
+from_any {X} p (x ∷ xs) h = go (p x) refl (from_any p xs) h where
+  go : (b : Bool) → p x ≡ b → (list_any p xs ≡ true → (y : X) × IsIn y xs × (p y ≡ true)) → b || list_any p xs ≡ true → (y : X) × IsIn y (x ∷ xs) × (p y ≡ true)
+  go true e rest h = (x, inl refl, e)
+  go false e rest h = let r = rest h in (r.0, inr r.1, r.2)
+
+pub from_get_map : {X A : Type 0} (f : X → A) (xs : List X) (k : ℕ) (a : A) → slice_get (map f xs) k ≡ Some a → (x : X) × (slice_get xs k ≡ Some x) × (f x ≡ a)
+from_get_map f [] k a e = cc
+from_get_map f (x ∷ xs) zero a e = (x, refl, cc)
+from_get_map f (x ∷ xs) (suc k) a e = from_get_map f xs k a e
+
+-- around an element that is there
+pub split_in : {X : Type 0} (xs : List X) (x : X) → IsIn x xs → (before after : List X) × (xs ≡ before ++ x ∷ after)
+split_in [] x i = absurd i
+split_in (y ∷ xs) x (inl same) = ([], xs, ap (λ z. z ∷ xs) same)
+split_in (y ∷ xs) x (inr i) = let s = split_in xs x i in (y ∷ s.0, s.1, ap (λ z. y ∷ z) s.2)
+
+-- at most one of each element
+pub length-gather : {X Y : Type 0} (f : ℕ → X → List Y) (xs : List X) → ((k : ℕ) (x : X) → length (f k x) ≤ 1) → length (gather f xs) ≤ length xs
+length-gather f [] h = omega arith
+length-gather f (x ∷ xs) h =
+    let a = h 0 x in
+    let b = length-gather (λ k y. f (suc k) y) xs (λ k y. h (suc k) y) in
+    let c = length_append (f 0 x) (gather (λ k y. f (suc k) y) xs) in
+    omega (arith, a, b, c)

@@ -1,10 +1,11 @@
 -- Which regions share a page with one, where they are in the order of their first places, and how far the first so many reach.
-use Rattle.std.proofs.Common.{◌≡◌, ◌∙◌, ◌<◌, ◌≤◌, ◌+◌, ℕ, zero, suc, Bool, true, false, not, ◌&&◌, ◌||◌, nat_lt, List, [], ◌∷◌, ◌++◌, length, get_or, take, refl, sym, ap, subst, arith, ⊎_elim}
+use Rattle.std.proofs.Common.{◌≡◌, ◌∙◌, ◌<◌, ◌≤◌, ◌+◌, ℕ, zero, suc, true, false, not, ◌&&◌, ◌||◌, nat_lt, List, [], ◌∷◌, ◌++◌, length, get_or, take, refl, sym, ap, subst, arith, ⊎_elim}
 use Rattle.std.specs.List.{list_any}
 use Rattle.std.specs.List.Sorted.{IsPartitionPoint}
 use Rattle.std.proofs.lemmas.Bool.{and_right, cases_lt}
 use Rattle.std.proofs.lemmas.List.{get_or_append_left, get_or_push, length_push}
 use Rattle.std.proofs.Math.Seq.{take-suc}
+use Rattle.std.proofs.Math.Bool.{and-true}
 use Rattle.page_index.specs.Reaching.{ends_behind, IsReach, AreReaches}
 use Rattle.page_index.specs.Sharing.{is_same, shares}
 use Rattle.page_index.specs.declared.reach.Reach.{Reach}
@@ -12,15 +13,11 @@ use Rattle.page_index.specs.declared.region.Region.{Region}
 
 -- ---- the regions that begin before the end e of region a
 
-and_true : (t : Bool) → (t && true) ≡ t
-and_true true = refl
-and_true false = refl
-
 module _ (a : Region) (e : ℕ) (is : e ≡ a.first + a.count) where
   shares-before : (b : Region) → nat_lt b.first e ≡ true → shares a b ≡ ends_behind a b
   shares-before b t =
       ap (λ x. not (is_same a b) && (nat_lt a.first (b.first + b.count) && x)) (ap (nat_lt b.first) (sym is) ∙ t)
-      ∙ ap (λ x. not (is_same a b) && x) (and_true (nat_lt a.first (b.first + b.count)))
+      ∙ ap (λ x. not (is_same a b) && x) (and-true (nat_lt a.first (b.first + b.count)))
 
   shares-behind : (b : Region) → nat_lt b.first e ≡ false → shares a b ≡ false
   shares-behind b t = and_right (not (is_same a b)) _ (and_right (nat_lt a.first (b.first + b.count)) _ (ap (nat_lt b.first) (sym is) ∙ t))

@@ -1,29 +1,23 @@
 -- One line more behind others, and lines in two parts.
-use Rattle.std.proofs.Common.{◌≡◌, ◌∙◌, ap, sym, refl, ℕ, ◌+◌, Bool, true, false, cond, ◌||◌, List, [], ◌∷◌, ◌++◌, append_assoc, count_by, Option, Some, None, arith}
+use Rattle.std.proofs.Common.{◌≡◌, ◌∙◌, ap, sym, refl, ℕ, ◌+◌, Bool, true, false, cond, ◌||◌, List, [], ◌∷◌, ◌++◌, append_assoc, count_by, Some, None, arith}
 use Rattle.std.specs.List.{list_any}
 use Rattle.std.specs.Option.{option_or, is_none}
-use Rattle.std.proofs.Math.Bool.{or_comm}
+use Rattle.std.proofs.Math.Bool.{or_comm, or-false}
 use Rattle.std.proofs.lemmas.List.Elements.{filter_map-append}
 use Rattle.std.proofs.lemmas.List.Folds.{list_any-append}
 use Rattle.std.proofs.lemmas.List.Sums.{sum_by-append}
+use Rattle.std.proofs.lemmas.List.{append-nil}
+use Rattle.cam_base.proofs.Options.{option_or-assoc}
 use Rattle.policy_text.specs.declared.kind.Kind.{Kind}
 use Rattle.policy_text.specs.Entries.{Number, Entry}
 use Rattle.policy_text.specs.PolicyFaults.{Told, fault_at, first_wrong, is_new_edge, new_edges}
 use Rattle.policy_text.specs.PolicyTexts.{said, told_of, told, form_fault, has_label}
 use Rattle.text_lines.specs.Lines.{Line}
 
-pub or_false : (b : Bool) → (b || false) ≡ b
-or_false true = refl
-or_false false = refl
-
-pub append_nil : {X : Type 0} (xs : List X) → xs ++ [] ≡ xs
-append_nil [] = refl
-append_nil (x ∷ xs) = ap (λ ys. x ∷ ys) (append_nil xs)
-
 -- ---- one more
 
 pub any_more : {X : Type 0} (p : X → Bool) (xs : List X) (x : X) → list_any p (xs ++ x ∷ []) ≡ (p x || list_any p xs)
-any_more p xs x = list_any-append p xs (x ∷ []) ∙ ap (λ b. list_any p xs || b) (or_false (p x)) ∙ or_comm (list_any p xs) (p x)
+any_more p xs x = list_any-append p xs (x ∷ []) ∙ ap (λ b. list_any p xs || b) (or-false (p x)) ∙ or_comm (list_any p xs) (p x)
 
 pub count_more : {X : Type 0} (p : X → Bool) (xs : List X) (x : X) → count_by p (xs ++ x ∷ []) ≡ count_by p xs + cond (p x) 1 0
 count_more p xs x = omega (arith, sum_by-append (λ y. cond (p y) 1 0) xs (x ∷ []))
@@ -34,7 +28,7 @@ one_if b = cond b 1 0
 
 pub edges_more : (before ts : List Told) (t : Told) → new_edges before (ts ++ t ∷ []) ≡ new_edges before ts + one_if (is_new_edge (before ++ ts) t)
 edges_more before [] t =
-    let same : one_if (is_new_edge (before ++ []) t) ≡ one_if (is_new_edge before t) = ap (λ (all : List Told). one_if (is_new_edge all t)) (append_nil before) in
+    let same : one_if (is_new_edge (before ++ []) t) ≡ one_if (is_new_edge before t) = ap (λ (all : List Told). one_if (is_new_edge all t)) (append-nil before) in
     omega (arith, same)
 edges_more before (s ∷ ts) t =
     let more : new_edges (before ++ s ∷ []) (ts ++ t ∷ []) ≡ new_edges (before ++ s ∷ []) ts + one_if (is_new_edge ((before ++ s ∷ []) ++ ts) t) = edges_more (before ++ s ∷ []) ts t in
@@ -43,17 +37,13 @@ edges_more before (s ∷ ts) t =
 
 -- ---- two parts
 
-or_then : {X : Type 0} (a b c : Option X) → option_or (option_or a b) c ≡ option_or a (option_or b c)
-or_then None b c = refl
-or_then (Some x) b c = refl
-
 pub first_wrong-append : (knows : Number → Bool) (before xs ys : List Told)
     → first_wrong knows before (xs ++ ys) ≡ option_or (first_wrong knows before xs) (first_wrong knows (before ++ xs) ys)
-first_wrong-append knows before [] ys = ap (λ all. first_wrong knows all ys) (sym (append_nil before))
+first_wrong-append knows before [] ys = ap (λ all. first_wrong knows all ys) (sym (append-nil before))
 first_wrong-append knows before (x ∷ xs) ys =
     ap (option_or (fault_at knows before x)) (first_wrong-append knows (before ++ x ∷ []) xs ys
     ∙ ap (λ all. option_or (first_wrong knows (before ++ x ∷ []) xs) (first_wrong knows all ys)) (append_assoc before (x ∷ []) xs))
-    ∙ sym (or_then (fault_at knows before x) (first_wrong knows (before ++ x ∷ []) xs) (first_wrong knows (before ++ x ∷ xs) ys))
+    ∙ sym (option_or-assoc (fault_at knows before x) (first_wrong knows (before ++ x ∷ []) xs) (first_wrong knows (before ++ x ∷ xs) ys))
 
 pub told-cons : (kind : Kind) (line : Line) (more : List Line) → told kind (line ∷ more) ≡ told kind (line ∷ []) ++ told kind more
 told-cons kind line more = filter_map-append (told_of kind) (line ∷ []) more

@@ -6,6 +6,7 @@ use Rattle.std.specs.Ordering.{nat_cmp}
 use Rattle.std.proofs.lemmas.List.Elements.{filter_map-append}
 use Rattle.std.proofs.lemmas.List.Sums.{fold-append}
 use Rattle.std.specs.Result.{OnOk}
+use Rattle.std.proofs.lemmas.List.{append-nil}
 use Rattle.auth_kinds.specs.declared.authority.Authority.{Authority}
 use Rattle.auth_kinds.specs.declared.edge.Edge.{Edge}
 use Rattle.cam_base.specs.declared.error.NoMemory.{NoMemory}
@@ -16,14 +17,13 @@ use Rattle.policy_text.specs.Numbers.{narrow}
 use Rattle.policy_text.specs.PartsBuilt.{IsBuilt, Builds, built_label, built_object, built_edge}
 use Rattle.policy_text.specs.PolicyFaults.{Told}
 use Rattle.policy_text.specs.PolicyTexts.{by_number}
-use Rattle.policy_text.proofs.Before.{append_nil}
 use Rattle.text_lines.specs.Lines.{Line}
 
 one_more : {Y : Type 0} (h : Told → Option Y) (before : List Told) (t : Told) (y : Y) → h t ≡ Some y → filter_map h (before ++ t ∷ []) ≡ filter_map h before ++ y ∷ []
 one_more h before t y is = filter_map-append h before (t ∷ []) ∙ rw is refl
 
 none_more : {Y : Type 0} (h : Told → Option Y) (before : List Told) (t : Told) → h t ≡ None → filter_map h (before ++ t ∷ []) ≡ filter_map h before
-none_more h before t is = filter_map-append h before (t ∷ []) ∙ rw is (append_nil (filter_map h before))
+none_more h before t is = filter_map-append h before (t ∷ []) ∙ rw is (append-nil (filter_map h before))
 
 pub by_number_more : (pairs : List (ℕ × List ℕ)) (n : ℕ) (name : List ℕ) → by_number (pairs ++ (n, name) ∷ []) ≡ insert_entry nat_cmp (by_number pairs) n name
 by_number_more pairs n name = fold-append _ [] pairs ((n, name) ∷ [])

@@ -6,10 +6,11 @@ use Rattle.std.specs.Option.{is_some}
 use Rattle.std.specs.Ordering.{nat_cmp}
 use Rattle.std.specs.Str.{bytes_eq}
 use Rattle.std.proofs.lemmas.Bool.{eqb-true, or_parts}
-use Rattle.std.proofs.lemmas.Bool.Decides.{nat_tests, same_from_decides}
+use Rattle.std.proofs.lemmas.Bool.Decides.{nat_tests}
 use Rattle.std.proofs.lemmas.List.Elements.{All-nil, All-cons}
 use Rattle.std.proofs.lemmas.List.Kept.{AllPairs-cons}
 use Rattle.std.proofs.lemmas.Slice.Eq.{bytes_eq-Decides}
+use Rattle.cam_base.proofs.Bytes.{bytes_eq-sym}
 use Rattle.auth_kinds.specs.Policies.{NumbersDiffer, label_name, is_label_name}
 
 abbrev pub Pairs : Type 0
@@ -30,12 +31,6 @@ or_right false h = h
 or_map : (a : Bool) {b c : Bool} → (a || b) ≡ true → (b ≡ true → c ≡ true) → (a || c) ≡ true
 or_map true h f = refl
 or_map false h f = f h
-
-pub bytes_flip : (a b : List ℕ) → bytes_eq a b ≡ bytes_eq b a
-bytes_flip a b = same_from_decides (bytes_eq a b) (bytes_eq b a) (bytes_eq-Decides a b) (λ h. sym ((bytes_eq-Decides b a).0 h), λ h. (bytes_eq-Decides b a).1 (sym h))
-
-pub bytes_self : (a : List ℕ) → bytes_eq a a ≡ true
-bytes_self a = (bytes_eq-Decides a a).1 refl
 
 -- ---- where a label comes to stand
 
@@ -68,7 +63,7 @@ pub differ_insert : (k : ℕ) (v : List ℕ) (es : Pairs) → named v es ≡ fal
 differ_insert k v [] n d = (refl, tt)
 differ_insert k v (e ∷ es) n d =
     let parts = or_parts (bytes_eq e.1 v) (named v es) n in
-    insert_by k v e es Differ (λ lt. (n, d)) (λ s. (parts.1, d.1)) (λ g. (named_insert e.1 k v es (bytes_flip v e.1 ∙ parts.0) d.0, differ_insert k v es parts.1 d.1))
+    insert_by k v e es Differ (λ lt. (n, d)) (λ s. (parts.1, d.1)) (λ g. (named_insert e.1 k v es (bytes_eq-sym v e.1 ∙ parts.0) d.0, differ_insert k v es parts.1 d.1))
 
 named_all : (x : List ℕ) (es : Pairs) → named x es ≡ false → All (λ m. x ≢ m.1) es
 named_all x [] n = All-nil (λ m. x ≢ m.1)

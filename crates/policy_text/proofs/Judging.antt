@@ -3,7 +3,7 @@ use Rattle.std.proofs.Common.{◌≡◌, ◌∙◌, ap, sym, refl, ℕ, ◌+◌,
 use Rattle.std.specs.Option.{option_map, option_or}
 use Rattle.std.specs.Result.{IsErrAnd, OnOk}
 use Rattle.std.specs.Str.{bytes_eq}
-use Rattle.std.proofs.Math.Bool.{or_comm, or_assoc}
+use Rattle.std.proofs.Math.Bool.{or_comm, or_assoc, or-false}
 use Rattle.std.proofs.lemmas.List.{drop_more, map_more, map_push, take-map}
 use Rattle.std.proofs.lemmas.List.Sums.{sum_by-append, sum_by-take-le}
 use Rattle.auth_kinds.specs.declared.authority.Authority.{Authority}
@@ -25,7 +25,7 @@ use Rattle.policy_text.specs.PolicyFaults.{Told, edges_limit, gives, is_edge, wr
 use Rattle.policy_text.specs.PolicyTexts.{said, told, form_fault, has_label, IsFault}
 use Rattle.policy_text.specs.TextsRead.{FindsFault, AreNoted, Notes}
 use Rattle.policy_text.specs.WordSets.{has, IsAdded}
-use Rattle.policy_text.proofs.Before.{or_false, told-cons, form-cons, has_label-append, one_if, told_one}
+use Rattle.policy_text.proofs.Before.{told-cons, form-cons, has_label-append, one_if, told_one}
 use Rattle.text_lines.specs.LineFaults.{at_line, IsRefusal}
 use Rattle.text_lines.specs.Lines.{Line}
 
@@ -121,7 +121,7 @@ notes_label old new line n name (Err e) is added near edges pushed = tt
 notes_other : (old new : Noted) (line : EntryLine) → ((m : List ℕ) → gives m (meant line.entry) ≡ false) → new.numbers ≡ old.numbers → new.near ≡ old.near
     → (new.edges ≤ edges_limit → new.edges ≡ old.edges + one_if (is_edge (meant line.entry))) → Pushed old line new → Notes (told_line line) old new
 notes_other old new line apart numbers near edges pushed = record {
-  numbers = λ m. ap (λ set. has set m) numbers ∙ sym (ap (λ b. has old.numbers m || b) (apart m) ∙ or_false (has old.numbers m));
+  numbers = λ m. ap (λ set. has set m) numbers ∙ sym (ap (λ b. has old.numbers m || b) (apart m) ∙ or-false (has old.numbers m));
   edges = edges;
   near = λ is. rw (numbers, near) is;
   lines = lines_more old new line pushed;
@@ -143,7 +143,7 @@ notes_edge old new line l a m is numbers near edges pushed =
 pub noted_numbers : (kind : Kind) (line : Line) (e : Entry) (old new : Noted) (n : List ℕ) → said kind line ≡ Some e → Notes (line, e) old new
     → has new.numbers n ≡ (has old.numbers n || has_label (told kind (line ∷ [])) n)
 noted_numbers kind line e old new n says notes =
-    notes.numbers n ∙ ap (λ b. has old.numbers n || b) (sym (ap (λ ts. has_label ts n) (told_one kind line e says) ∙ or_false (gives n e)))
+    notes.numbers n ∙ ap (λ b. has old.numbers n || b) (sym (ap (λ ts. has_label ts n) (told_one kind line e says) ∙ or-false (gives n e)))
 
 pub noted_edges : (kind : Kind) (line : Line) (e : Entry) (old new : Noted) → said kind line ≡ Some e → Notes (line, e) old new
     → new.edges ≤ edges_limit → new.edges ≡ old.edges + count_by (λ t. is_edge t.1) (told kind (line ∷ []))

@@ -24,6 +24,7 @@ use Rattle.auth_kinds.proofs.TableMembers.{has_at}
 use Rattle.cam_base.specs.declared.text_fault.TextFault.{TextFault}
 use Rattle.cam_base.specs.Names.{is_letter, is_word_byte, is_name, is_word}
 use Rattle.cam_base.specs.Numbers.{is_decimal}
+use Rattle.cam_base.proofs.Bytes.{bytes_eq-refl}
 use Rattle.policy_text.specs.declared.kind.Kind.{Kind}
 use Rattle.policy_text.specs.declared.kind.Kind.TheVariants as kinds
 use Rattle.policy_text.specs.declared.parts.Parts.{Parts}
@@ -33,7 +34,7 @@ use Rattle.policy_text.specs.PartsBuilt.{IsBuilt, IsPolicyOf, built_label, built
 use Rattle.policy_text.specs.PolicyFaults.{Told, gives, names_label, labels_object, is_past, wrong_entry, wrong, fault_at, first_wrong}
 use Rattle.policy_text.specs.PolicyTexts.{said, told, has_label, label_value, label_of, object_of, edge_of, by_number, Says}
 use Rattle.policy_text.proofs.Before.{any_more}
-use Rattle.policy_text.proofs.Inserting.{Pairs, or_left, or_right, bytes_self, named, Differ, named_insert, differ_insert, none_pair, names_differ, Valid, valid_insert, all_valid, Rising, rising_insert, numbers_differ, inserted, keyed_in, has_name}
+use Rattle.policy_text.proofs.Inserting.{Pairs, or_left, or_right, named, Differ, named_insert, differ_insert, none_pair, names_differ, Valid, valid_insert, all_valid, Rising, rising_insert, numbers_differ, inserted, keyed_in, has_name}
 use Rattle.text_lines.specs.Fields.{fields}
 use Rattle.text_lines.specs.LineFaults.{Wrong, at_line}
 use Rattle.text_lines.specs.Lines.{Line}
@@ -297,7 +298,7 @@ pub objects_differ : (knows : Number → Bool) (before ts : List Told) → Clean
 objects_differ knows before [] c = none_pair (λ o p. o.0 ≢ p.0)
 objects_differ knows before ((line, object word n) ∷ ts) c =
     AllPairs-cons (λ o p. o.0 ≢ p.0) (word, label_value n) (filter_map object_of ts)
-    (object_apart knows (before ++ (line, object word n) ∷ []) ts word (any_more (λ t. labels_object word t.1) before (line, object word n) ∙ or_left (list_any (λ t. labels_object word t.1) before) (bytes_self word)) c.2)
+    (object_apart knows (before ++ (line, object word n) ∷ []) ts word (any_more (λ t. labels_object word t.1) before (line, object word n) ∙ or_left (list_any (λ t. labels_object word t.1) before) (bytes_eq-refl word)) c.2)
     (objects_differ knows (before ++ (line, object word n) ∷ []) ts c.2)
 objects_differ knows before ((line, label n name) ∷ ts) c = objects_differ knows (before ++ (line, label n name) ∷ []) ts c.2
 objects_differ knows before ((line, edge l a m) ∷ ts) c = objects_differ knows (before ++ (line, edge l a m) ∷ []) ts c.2

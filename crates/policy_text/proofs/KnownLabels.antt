@@ -1,24 +1,16 @@
 -- The numbers of labels, after one label more.
-use Rattle.std.proofs.Common.{◌≡◌, ◌∙◌, ap, sym, refl, ℕ, ◌+◌, ◌<◌, ◌^◌, ◌==◌, nat_lt, Bool, true, false, cond, ◌||◌, List, [], ◌∷◌, length, take, get_or, is_some, inl, inr, arith}
+use Rattle.std.proofs.Common.{◌≡◌, ◌∙◌, ap, sym, refl, ℕ, ◌+◌, ◌<◌, ◌^◌, ◌==◌, Bool, true, false, cond, ◌||◌, List, [], ◌∷◌, length, take, get_or, is_some, inl, inr, arith}
 use Rattle.std.specs.BTreeMap.{is_at}
 use Rattle.std.specs.BTreeSet.{BTreeSet, contains, Updates}
 use Rattle.std.specs.List.{list_any}
-use Rattle.std.specs.Ordering.{nat_cmp, is_eq}
+use Rattle.std.specs.Ordering.{nat_cmp}
 use Rattle.std.proofs.lemmas.Bool.{cases_lt, eqb-true}
 use Rattle.std.proofs.lemmas.Bool.Decides.{nat_tests}
 use Rattle.std.proofs.lemmas.List.Folds.{list_any_more}
 use Rattle.std.proofs.Math.Bool.{or_comm}
+use Rattle.cam_base.proofs.Orders.{is_eq-nat_cmp}
 use Rattle.auth_kinds.specs.Policies.{label_name}
 use Rattle.policy_text.specs.KnownNumbers.{IsSmall}
-
-same_number : (k q : ℕ) → is_eq (nat_cmp k q) ≡ (k == q)
-same_number k q = go (nat_lt k q) (k == q) refl refl
-  where
-    go : (a b : Bool) → nat_lt k q ≡ a → (k == q) ≡ b → is_eq (nat_cmp k q) ≡ (k == q)
-    go true true l s = absurd (grind (arith, nat_tests))
-    go true false l s = rw (l, s) refl
-    go false true l s = rw (l, s) refl
-    go false false l s = rw (l, s) refl
 
 is_named : (labels : List (ℕ × List ℕ)) (n : ℕ) → is_some (label_name labels n) ≡ list_any (λ l. l.0 == n) labels
 is_named [] n = refl
@@ -40,7 +32,7 @@ cond_or true b = refl
 cond_or false b = refl
 
 pub has_more : (old new : BTreeSet ℕ) (k n : ℕ) → Updates nat_cmp old new k true → contains nat_cmp new n ≡ (k == n || contains nat_cmp old n)
-has_more old new k n updates = updates.0 n ∙ cond_or (is_at (nat_cmp k) n) (contains nat_cmp old n) ∙ ap (λ (b : Bool). b || contains nat_cmp old n) (same_number k n)
+has_more old new k n updates = updates.0 n ∙ cond_or (is_at (nat_cmp k) n) (contains nat_cmp old n) ∙ ap (λ (b : Bool). b || contains nat_cmp old n) (is_eq-nat_cmp k n)
 
 pub small_more : (old new : BTreeSet ℕ) (k : ℕ) → k < 2 ^ 32 → IsSmall old → Updates nat_cmp old new k true → IsSmall new
 small_more old new k few small updates n h = go (k == n) refl

@@ -11,14 +11,11 @@ use Rattle.auth_kinds.specs.declared.object_labels.Labels.{Labels}
 use Rattle.auth_kinds.specs.declared.policy.Policy.{Policy}
 use Rattle.cam_base.specs.declared.error.Refused.{Refused}
 use Rattle.cam_base.specs.declared.text_fault.TextFault.{TextFault}
+use Rattle.cam_base.proofs.Options.{option_or-none, option_or-cond}
 use Rattle.cap_model.specs.declared.spec.Entry.{Entry}
 use Rattle.cap_model.specs.declared.spec.Spec.{Spec}
 use Rattle.policy_text.specs.Labelled.{object_label, unlabelled, first_unlabelled, IsLabelling}
 use Rattle.policy_text.specs.PolicyTexts.{IsFault}
-
-or_none : (o : Option ℕ) → o ≡ option_or o None
-or_none None = refl
-or_none (Some x) = refl
 
 -- what a table finds after the insertion of a key that was not there
 pub inserted_label : (f g : List ℕ → Option ℕ) (key : List ℕ) (x : ℕ) → is_some (f key) ≡ false
@@ -31,7 +28,7 @@ inserted_label f g key x absent updates name = go (bytes_eq key name) refl
 
     go : (a : Bool) → bytes_eq key name ≡ a → g name ≡ option_or (f name) (cond (bytes_eq key name) (Some x) None)
     go true e = updates name ∙ rw e (none_or (f name) (ap (λ k. is_some (f k)) (sym ((bytes_eq-Decides key name).0 e)) ∙ absent))
-    go false e = updates name ∙ rw e (or_none (f name))
+    go false e = updates name ∙ rw e (option_or-none (f name))
 
 first_label : (o : List ℕ × ℕ) (more : List (List ℕ × ℕ)) (name : List ℕ) → object_label (o ∷ more) name ≡ cond (bytes_eq o.0 name) (Some o.1) (object_label more name)
 first_label o more name = go (bytes_eq o.0 name) refl
@@ -40,18 +37,13 @@ first_label o more name = go (bytes_eq o.0 name) refl
     go true e = rw e refl
     go false e = rw e refl
 
-or_either : (o : Option ℕ) (b : Bool) (x : ℕ) (more : Option ℕ) → option_or (option_or o (cond b (Some x) None)) more ≡ option_or o (cond b (Some x) more)
-or_either None true x more = refl
-or_either None false x more = refl
-or_either (Some y) b x more = refl
-
 -- one object line more
 pub label_more : (name : List ℕ) (objects : List (List ℕ × ℕ)) (i : ℕ) (o : List ℕ × ℕ) (f g all : Option ℕ) → i < length objects → o ≡ get_or objects i o
     → option_or f (object_label (drop i objects) name) ≡ all → g ≡ option_or f (cond (bytes_eq o.0 name) (Some o.1) None)
     → option_or g (object_label (drop (i + 1) objects) name) ≡ all
 label_more name objects i o f g all lt is before after =
     ap (λ k. option_or k (object_label (drop (i + 1) objects) name)) after
-    ∙ or_either f (bytes_eq o.0 name) o.1 (object_label (drop (i + 1) objects) name)
+    ∙ option_or-cond f (bytes_eq o.0 name) o.1 (object_label (drop (i + 1) objects) name)
     ∙ ap (option_or f) (sym (first_label o (drop (i + 1) objects) name))
     ∙ ap (λ (p : List ℕ × ℕ). option_or f (object_label (p ∷ drop (i + 1) objects) name)) is
     ∙ ap (option_or f) (sym (at_drop_more (λ os. object_label os name) objects i o lt))

@@ -146,7 +146,7 @@ few_new true true = omega arith
 few_new true false = omega arith
 few_new false c = omega arith
 
-new_edges_most : (before ts : List Told) → new_edges before ts ≤ count_by (λ t. is_edge t.1) ts
+pub new_edges_most : (before ts : List Told) → new_edges before ts ≤ count_by (λ t. is_edge t.1) ts
 new_edges_most before [] = omega arith
 new_edges_most before (t ∷ ts) =
     let rest : new_edges (before ++ t ∷ []) ts ≤ count_by (λ t. is_edge t.1) ts = new_edges_most (before ++ t ∷ []) ts in

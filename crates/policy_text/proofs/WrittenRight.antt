@@ -23,6 +23,7 @@ use Rattle.policy_text.proofs.Rendering.{label_item, object_item, edge_item}
 use Rattle.policy_text.proofs.Rows.{Item, line_at, told_at}
 use Rattle.text_lines.specs.LineFaults.{Wrong, at_line}
 use Rattle.text_lines.specs.Lines.{Line}
+use Rattle.policy_text.proofs.Taking.{new_edges_most}
 
 -- ---- numbers and words that differ
 
@@ -134,21 +135,13 @@ one_few true true = omega arith
 one_few true false = omega arith
 one_few false b = omega arith
 
-pub new_edges_few : (before ts : List Told) → new_edges before ts ≤ count_by (λ t. is_edge t.1) ts
-new_edges_few before [] = omega arith
-new_edges_few before (t ∷ ts) =
-    let rest = new_edges_few (before ++ t ∷ []) ts in
-    let one = one_few (is_edge t.1) (not (list_any (says_edge t.0.text) before)) in
-    let more = sum_by-cons (λ (u : Told). cond (is_edge u.1) 1 0) t ts in
-    omega (arith, rest, one, more)
-
 pub edges_right : (knows : Number → Bool) (before : List Told) (at : ℕ) (es : List Edge) → All (λ e. (knows (decimal e.from) ≡ true) × (knows (decimal e.to) ≡ true)) es
     → count_by (λ t. is_edge t.1) before + length es ≤ 262144 → first_wrong knows before (told_at at (map edge_item es)) ≡ None
 edges_right knows before at [] known room = refl
 edges_right knows before at (e ∷ es) known room =
     let line = line_at at (edge_item e).0 in
     let here = All-head (λ d. (knows (decimal d.from) ≡ true) × (knows (decimal d.to) ≡ true)) e es known in
-    let few = new_edges_few [] before in
+    let few = new_edges_most [] before in
     let full : nat_le 262144 (new_edges [] before) ≡ false = grind (arith, nat_tests) in
     let more : count_by (λ t. is_edge t.1) (before ++ (line, (edge_item e).1) ∷ []) ≡ count_by (λ t. is_edge t.1) before + 1 = count_more (λ t. is_edge t.1) before (line, (edge_item e).1) in
     right_more knows before line (edge_item e).1 (told_at (at + (length (edge_item e).0 + 1)) (map edge_item es))

@@ -3,7 +3,7 @@ use Rattle.std.proofs.Common.{◌≡◌, ◌∙◌, ◌<◌, ◌+◌, ◌/◌, �
 use Rattle.std.specs.Prelude.{IsTrue}
 use Rattle.std.specs.List.{list_any}
 use Rattle.std.specs.Option.{option_map_or}
-use Rattle.std.proofs.lemmas.Bool.{and_from, and_left, and_parts, and_right, both_ways, cases_Bool, eq-eqb, eqb-true, lt-ltb, ltb-true, ne_eqb, not-true, or_cases, or_left, or_right}
+use Rattle.std.proofs.lemmas.Bool.{and_from, and_left, and_parts, and_right, both_ways, cases_Bool, eq-eqb, eqb-true, lt-ltb, ltb-true, ne_eqb, not-true, or_left, or_right}
 use Rattle.numbering.specs.Gather.{IsIn}
 use Rattle.numbering.proofs.Gathered.{from_gather}
 use Rattle.program_sections.specs.Images.{Placed, image_number, is_run, placed, runs, sections_if, sections_of}
@@ -16,6 +16,7 @@ use Rattle.program_sections.proofs.Sorting.{Differ, Later, later_gather, later_w
 use Rattle.sect_table.specs.Sections.{is_sound}
 use Rattle.sect_table.specs.declared.image.Image.{Image}
 use Rattle.sect_table.specs.declared.image.Section.{Section}
+use Rattle.numbering.proofs.Lists.{from_any}
 
 -- ---- tests of lists
 
@@ -23,10 +24,6 @@ pub any_in : {X : Type 0} (p : X → Bool) (xs : List X) (x : X) → IsIn x xs �
 any_in p [] x i e = absurd i
 any_in p (y ∷ xs) x (inl s) e = or_left (p y) (list_any p xs) (ap p s ∙ e)
 any_in p (y ∷ xs) x (inr i) e = or_right (p y) (list_any p xs) (any_in p xs x i e)
-
-from_any : {X : Type 0} (p : X → Bool) (xs : List X) → list_any p xs ≡ true → (x : X) × IsIn x xs × (p x ≡ true)
-from_any p [] e = cc
-from_any p (y ∷ xs) e = ⊎_elim (λ t. (y, inl refl, t)) (λ t. let k = from_any p xs t in (k.0, inr k.1, k.2)) (or_cases (p y) (list_any p xs) e)
 
 -- ---- each section of a domain has numbers of its own
 

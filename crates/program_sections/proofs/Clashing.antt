@@ -1,11 +1,12 @@
 -- Which images clash, section by section.
-use Rattle.std.proofs.Common.{◌≡◌, ◌∙◌, ◌<◌, ◌+◌, ◌&&◌, ◌||◌, ℕ, Bool, true, false, List, [], ◌∷◌, get_or, set, map, drop, length, refl, sym, ap, nat_eq, ⊎_elim}
+use Rattle.std.proofs.Common.{◌≡◌, ◌∙◌, ◌<◌, ◌+◌, ◌&&◌, ◌||◌, ℕ, Bool, true, false, List, get_or, set, map, drop, length, refl, sym, ap, nat_eq, ⊎_elim}
 use Rattle.std.specs.List.{list_any}
 use Rattle.std.specs.List.Sorted.{IsPermutation}
 use Rattle.std.proofs.lemmas.Bool.{cases_eq, eq-eqb, ne_eqb}
 use Rattle.std.proofs.lemmas.List.{get_or-set_same, get_or-set_other}
 use Rattle.std.proofs.lemmas.List.Sorted.{list_any-IsPermutation}
-use Rattle.adl_meaning.proofs.Noting.{drop_first}
+use Rattle.std.proofs.Math.Bool.{and-false}
+use Rattle.cam_base.proofs.Lists.{drop_first, list_any-map}
 use Rattle.page_index.specs.Sharing.{shares}
 use Rattle.page_index.specs.declared.region.Region.{Region}
 use Rattle.program_sections.specs.Images.{Placed}
@@ -17,13 +18,9 @@ use Rattle.program_sections.specs.declared.sections.Placed.{Placed as Given}
 abbrev pub clashes_among : List Placed → List Placed → ℕ → Bool
 clashes_among all xs m = list_any (λ x. nat_eq x.image m && list_any (clashes_with x) all) xs
 
-any_map : {X Y : Type 0} (p : Y → Bool) (f : X → Y) (xs : List X) → list_any p (map f xs) ≡ list_any (λ x. p (f x)) xs
-any_map p f [] = refl
-any_map p f (x ∷ xs) = ap (λ t. p (f x) || t) (any_map p f xs)
-
 -- what the index of all pages says of a section
 pub any-shares : (all : List Placed) (x : Placed) (index : List Region) → IsPermutation (map region_of all) index → list_any (shares (region_of x)) index ≡ list_any (clashes_with x) all
-any-shares all x index h = sym (list_any-IsPermutation (shares (region_of x)) (map region_of all) index h) ∙ any_map (shares (region_of x)) region_of all
+any-shares all x index h = sym (list_any-IsPermutation (shares (region_of x)) (map region_of all) index h) ∙ list_any-map (shares (region_of x)) region_of all
 
 step_true : (b e r : Bool) → e ≡ true → true || r ≡ b || ((e && true) || r)
 step_true true e r s = refl
@@ -41,13 +38,9 @@ marked marks k m t r s l =
     (λ n. ap (λ z. z || r) (get_or-set_other marks k m true false (λ e. n (sym e))) ∙ step_false (get_or marks m false) (nat_eq k m) r (ne_eqb k m n))
     (cases_eq k m) ∙ ap (λ z. get_or marks m false || ((nat_eq k m && z) || r)) (sym s)
 
-and_false : (e : Bool) → (e && false) ≡ false
-and_false true = refl
-and_false false = refl
-
 -- and where it is not
 unmarked : (b e t r : Bool) → t ≡ false → b || r ≡ b || ((e && t) || r)
-unmarked b e t r s = sym (ap (λ z. b || ((e && z) || r)) s ∙ ap (λ z. b || (z || r)) (and_false e))
+unmarked b e t r s = sym (ap (λ z. b || ((e && z) || r)) s ∙ ap (λ z. b || (z || r)) (and-false e))
 
 -- the turn of a loop over sections, of which those before place i are marked
 module _ (all : List Placed) (ps : List Given) (i : ℕ) (p : Given) (marks : List Bool) (l : i < length ps) (e : p ≡ get_or ps i p) (done : (m : ℕ) → get_or marks m false || clashes_among all (sections_told (drop i ps)) m ≡ clashes all m) where

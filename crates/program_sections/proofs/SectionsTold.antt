@@ -3,7 +3,7 @@ use Rattle.std.proofs.Common.{◌≡◌, ◌∙◌, ◌<◌, ◌+◌, ℕ, Bool,
 use Rattle.std.specs.List.{flat_map, slice_get}
 use Rattle.std.proofs.lemmas.List.{map_push}
 use Rattle.std.proofs.lemmas.Option.{slice_get_read}
-use Rattle.adl_meaning.proofs.Noting.{drop_first}
+use Rattle.cam_base.proofs.Lists.{drop_first}
 use Rattle.numbering.specs.Gather.{IsIn}
 use Rattle.numbering.proofs.Gathered.{from_gather, in_place}
 use Rattle.program_sections.specs.Images.{Placed, is_run, placed, sections_if, sections_of}

@@ -20,8 +20,9 @@ use Rattle.arch_policy.specs.Tables.{Tables, domain_label}
 use Rattle.arch_policy.specs.Triples.{lock_edge, lock_edges, triples}
 use Rattle.arch_policy.specs.Where.{where_true}
 use Rattle.arch_policy.proofs.Listed.{listed, lock_of_member}
-use Rattle.arch_policy.proofs.Lists.{from_any, from_where, has_in, in_any, in_has, in_where}
+use Rattle.arch_policy.proofs.Lists.{from_where, has_in, in_any, in_has, in_where}
 use Rattle.arch_policy.proofs.Given.{an_authority}
+use Rattle.numbering.proofs.Lists.{from_any}
 
 -- what RW on a notification confers, from one label to itself
 abbrev own_at : ℕ → List Edge

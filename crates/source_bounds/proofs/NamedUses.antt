@@ -19,9 +19,8 @@ use Rattle.leaf_ends.specs.LeafEnds.{joins}
 use Rattle.leaf_ends.specs.Members.{is_lock, leaf_members}
 use Rattle.numbering.specs.Gather.{IsIn, gather}
 use Rattle.numbering.proofs.Gathered.{from_gather, in_append, in_place}
-use Rattle.numbering.proofs.Lists.{below}
+use Rattle.numbering.proofs.Lists.{below, from_get_map}
 use Rattle.system_spec.specs.Ready.{AreNamed, NamesOneOf}
-use Rattle.vspace_layout.proofs.MemoryNumbers.{from_get_map}
 
 of_end : (connector : Connector) (role : Role) (k n count : ℕ) (u : SlotUse) → k < count → IsIn u (end_uses connector role k n) → NamesOneOf count u
 of_end Rpc role k n count u l (inl e) = subst (NamesOneOf count) e l

@@ -31,7 +31,6 @@ use Rattle.vspace_layout.specs.Given.{Given}
 use Rattle.vspace_layout.specs.Laid.{spaces_of}
 use Rattle.vspace_layout.specs.PageLimits.{page_counts}
 use Rattle.vspace_layout.specs.SpaceLaws.{SectionsStand}
-use Rattle.vspace_layout.proofs.Few.{one_each}
 use Rattle.system_spec.specs.declared.part.PageTable.{PageTable}
 use Rattle.system_spec.specs.declared.part.What.TheVariants.{CNodeOf, FrameOf, ThreadOf}
 use Rattle.system_spec.specs.declared.series.Series.TheVariants as series
@@ -44,6 +43,7 @@ use Rattle.system_spec.proofs.Bounds.{length-eight, length-numbered}
 use Rattle.source_bounds.proofs.Lists.{gather_most}
 use Rattle.source_bounds.proofs.NamedUses.{uses_named}
 use Rattle.source_bounds.proofs.SpaceBounds.{HaveRegisters, few_pages, few_threads, frames_most, frames_there, pages_rising}
+use Rattle.numbering.proofs.Lists.{length-gather}
 
 -- what the tables are laid out from
 abbrev from : Tables → Given
@@ -52,7 +52,7 @@ from t = record { source = t.source; flat = t.flat; settled = t.settled; images 
 -- ---- connections have one part of a kind at most
 
 few_endpoints : (cs : List FlatConnection) → length (gather endpoint cs) ≤ length cs
-few_endpoints cs = one_each endpoint cs (λ k c. one k c.connector)
+few_endpoints cs = length-gather endpoint cs (λ k c. one k c.connector)
   where
     one : (k : ℕ) (c : Connector) → length (endpoint_by k c) ≤ 1
     one k Rpc = omega arith
@@ -63,7 +63,7 @@ few_endpoints cs = one_each endpoint cs (λ k c. one k c.connector)
     one k Direct = omega arith
 
 few_notifications : (cs : List FlatConnection) → length (gather notification cs) ≤ length cs
-few_notifications cs = one_each notification cs (λ k c. one k c.connector)
+few_notifications cs = length-gather notification cs (λ k c. one k c.connector)
   where
     one : (k : ℕ) (c : Connector) → length (notification_by k c) ≤ 1
     one k Rpc = omega arith
@@ -74,7 +74,7 @@ few_notifications cs = one_each notification cs (λ k c. one k c.connector)
     one k Direct = omega arith
 
 few_irqs : (cs : List FlatConnection) → length (gather irq cs) ≤ length cs
-few_irqs cs = one_each irq cs (λ k c. one k (device_of c.connector c.ends) c.connector)
+few_irqs cs = length-gather irq cs (λ k c. one k (device_of c.connector c.ends) c.connector)
   where
     one : (k : ℕ) (o : _) (c : Connector) → length (irq_by k o c) ≤ 1
     one k o Rpc = omega arith
@@ -86,7 +86,7 @@ few_irqs cs = one_each irq cs (λ k c. one k (device_of c.connector c.ends) c.co
 
 -- a use has one lock at most
 few_locks : (d : ℕ) (uses : List SlotUse) → length (gather (lock d) uses) ≤ length uses
-few_locks d uses = one_each (lock d) uses (λ n u. one n u)
+few_locks d uses = length-gather (lock d) uses (λ n u. one n u)
   where
     one : (n : ℕ) (u : SlotUse) → length (lock d n u) ≤ 1
     one n (OfEnd k m) = omega arith

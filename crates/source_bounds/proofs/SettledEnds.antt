@@ -19,11 +19,10 @@ use Rattle.adl_settings.specs.Missing.{missing_at, missing_in}
 use Rattle.adl_settings.specs.Settled.{end_settings, settled_of}
 use Rattle.adl_types.specs.TypeFaults.{is_kind_of}
 use Rattle.component_graph.proofs.Lists.{in_get}
-use Rattle.numbering.proofs.Lists.{get_map, none_in}
+use Rattle.numbering.proofs.Lists.{get_map, none_in, from_get_map}
 use Rattle.conn_rules.specs.Ends.{end_rule}
 use Rattle.flat_laws.specs.Typed.{AreTyped}
 use Rattle.flat_laws.proofs.SoundSettings.{AreSettingsSound}
-use Rattle.flat_laws.proofs.FlatLeaves.{from_get}
 use Rattle.flat_laws.proofs.SettledEnds.{found_there}
 use Rattle.leaf_ends.specs.Lookups.{setting_of}
 use Rattle.leaf_ends.specs.Members.{members_at}
@@ -35,9 +34,9 @@ setting_from s k n e at = by_connection (slice_get (settled_of s).connections k)
     by_connection : (o : Option EndSettings) → slice_get (settled_of s).connections k ≡ o → option_and_then (λ z. slice_get z.ends n) o ≡ Some e → (f : Found) × (end_setting f ≡ e)
     by_connection None is at = cc
     by_connection (Some z) is at =
-        let x = from_get end_settings (founds_in (hierarchy_of s) s (flat_of s)) k z is in
+        let x = from_get_map end_settings (founds_in (hierarchy_of s) s (flat_of s)) k z is in
         let there : slice_get (end_settings x.0).ends n ≡ Some e = ap (λ (w : EndSettings). slice_get w.ends n) x.2 ∙ at in
-        let y = from_get end_setting x.0 n e there in
+        let y = from_get_map end_setting x.0 n e there in
         (y.0, y.2)
 
 -- end n of connection k, with its settings

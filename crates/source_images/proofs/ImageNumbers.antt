@@ -17,6 +17,7 @@ use Rattle.leaf_ends.specs.Within.{IsWithin}
 use Rattle.program_sections.specs.Numbered.{AreNumbered}
 use Rattle.cam_base.specs.declared.place.Fault.{Fault}
 use Rattle.cam_base.specs.declared.place.Place.{Place}
+use Rattle.cam_base.proofs.Lists.{nil_append, length-filter_map}
 use Rattle.cap_model.specs.declared.level.Arch.{Arch}
 use Rattle.numbering.specs.Gather.{IsIn}
 use Rattle.numbering.proofs.Lists.{none_in}
@@ -37,14 +38,6 @@ use Rattle.text_lines.specs.Fields.{spaced_fields}
 use Rattle.text_lines.specs.Lines.{Line, lines}
 
 -- ---- counts
-
-pub filter_few : {X Y : Type 0} (h : X → Option Y) (xs : List X) → length (filter_map h xs) ≤ length xs
-filter_few h [] = omega arith
-filter_few {X} {Y} h (x ∷ xs) = by_some (h x) (filter_few h xs)
-  where
-    by_some : (o : Option Y) → length (filter_map h xs) ≤ length xs → length (cons_option o (filter_map h xs)) ≤ length (x ∷ xs)
-    by_some None few = omega arith
-    by_some (Some y) few = omega arith
 
 behind_few : (names xs : List Name) → length (behind names xs) ≤ length xs
 behind_few names [] = omega arith
@@ -84,7 +77,7 @@ sound_table file name bytes e = by_lines (lines bytes) e
     by_header line more (Some h) (Some l) is q = absurd (cc)
     by_header line more (Some h) None is q =
         let few : 0 + length more ≤ 256 = lines_few 0 more is (omega arith) in
-        let less : length (sections_of more) ≤ length more = filter_few (λ (l : Line). section_of (spaced_fields l.text)) more in
+        let less : length (sections_of more) ≤ length more = length-filter_map (λ (l : Line). section_of (spaced_fields l.text)) more in
         (image name more h, refl, omega arith)
 
     by_lines : (ls : List Line) → fault_in file (length bytes) ls ≡ None → (i : Image) × (image_in name ls ≡ Some i) × (length i.sections ≤ 256)
@@ -220,10 +213,6 @@ in_filter {X} {Y} h (x ∷ xs) y i = by_place (in_cons (h x) (filter_map h xs) y
     by_place (inl e) more = (x, inl refl, e)
     by_place (inr j) more = let r = more j in (r.0, inr r.1, r.2)
 
-both_empty : {X : Type 0} (xs ys : List X) → xs ++ ys ≡ [] → (xs ≡ []) × (ys ≡ [])
-both_empty [] ys e = (refl, e)
-both_empty (x ∷ xs) ys e = absurd (cc)
-
 zip_at : (files : List (List ℕ)) (all : List Found) (j : ℕ) → j < length files → j < length all → (file : List ℕ) × (x : Found) × (slice_get (zip files all) j ≡ Some (file, x)) × (slice_get all j ≡ Some x)
 zip_at [] all j a b = absurd (omega arith)
 zip_at (f ∷ files) [] j a b = absurd (omega arith)
@@ -253,7 +242,7 @@ module _ (root : List ℕ) (source : Source) (flat : Flat) (all : List Found) (c
   types_count = length-map (types source flat) (table_name (folder_of root))
 
   none_left : (flat_map (leaf_faults source flat (zip (table_names root source flat) all)) flat.leaves ≡ []) × (line_faults (first_arch all) (length source.files) all ≡ [])
-  none_left = both_empty _ (line_faults (first_arch all) (length source.files) all) (least-empty (table_faults root source flat all) clean)
+  none_left = nil_append _ (line_faults (first_arch all) (length source.files) all) (least-empty (table_faults root source flat all) clean)
 
   each_table : (j : ℕ) → j < length all → (bytes : List ℕ) × (slice_get all j ≡ Some (table bytes))
   each_table j lt =
@@ -272,7 +261,7 @@ module _ (root : List ℕ) (source : Source) (flat : Flat) (all : List Found) (c
   pub images_numbered : IsWithin source flat → AreNumbered flat (images_of source flat all)
   images_numbered within = record {
     counted = record {
-      count = omega (arith, all_images, firsts_few (filter_map (type_of source) flat.leaves), filter_few (type_of source) flat.leaves, within.leaves);
+      count = omega (arith, all_images, firsts_few (filter_map (type_of source) flat.leaves), length-filter_map (type_of source) flat.leaves, within.leaves);
       sections = λ m i e. omega (arith, images_few (length source.files) (types source flat) all all_tables m i e);
     };
     runs = λ leaf m e.

@@ -14,23 +14,14 @@ use Rattle.adl_meaning.specs.Lists.{firsts, firsts_after}
 use Rattle.adl_meaning.specs.declared.flat.Flat.{Flat}
 use Rattle.adl_meaning.specs.declared.flat.Leaf.{Leaf}
 use Rattle.cam_base.specs.declared.place.Fault.{Fault}
+use Rattle.cam_base.proofs.Lists.{position_from-snoc}
 use Rattle.source_images.specs.Told.{names_told, with_type}
 use Rattle.source_images.specs.Types.{Name, types}
-
-one_place : {X : Type 0} (p : X → Bool) (i : ℕ) (xs : List X) (x : X) → position_from p i (xs ++ x ∷ []) ≡ option_or (position_from p i xs) (cond (p x) (Some (i + length xs)) None)
-one_place p i [] x = ap (λ n. cond (p x) (Some n) None) (omega arith)
-one_place p i (y ∷ ys) x =
-    by_test (p y) (one_place p (i + 1) ys x ∙ ap (λ n. option_or (position_from p (i + 1) ys) (cond (p x) (Some n) None)) (omega arith))
-  where
-    by_test : (b : Bool) → position_from p (i + 1) (ys ++ x ∷ []) ≡ option_or (position_from p (i + 1) ys) (cond (p x) (Some (i + length (y ∷ ys))) None)
-        → cond b (Some i) (position_from p (i + 1) (ys ++ x ∷ [])) ≡ option_or (cond b (Some i) (position_from p (i + 1) ys)) (cond (p x) (Some (i + length (y ∷ ys))) None)
-    by_test true next = refl
-    by_test false next = next
 
 -- where something stands behind all others
 pub position-push : {X : Type 0} (p : X → Bool) (xs : List X) (x : X) → position p (xs ++ x ∷ []) ≡ option_or (position p xs) (cond (p x) (Some (length xs)) None)
 position-push p xs x =
-    position_from-zero p (xs ++ x ∷ []) ∙ one_place p 0 xs x
+    position_from-zero p (xs ++ x ∷ []) ∙ position_from-snoc p 0 xs x
     ∙ ap (λ n. option_or (position_from p 0 xs) (cond (p x) (Some n) None)) (omega arith)
     ∙ ap (λ o. option_or o (cond (p x) (Some (length xs)) None)) (sym (position_from-zero p xs))
 

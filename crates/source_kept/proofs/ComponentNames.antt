@@ -28,9 +28,9 @@ use Rattle.adl_meaning.specs.NameFaults.{AreNamesSound}
 use Rattle.adl_meaning.specs.Paths.{leaves}
 use Rattle.cam_base.specs.Names.{is_name}
 use Rattle.component_graph.proofs.Lists.{in_get}
-use Rattle.numbering.proofs.Lists.{from_enumerate, from_filter_map, from_flat_map, from_map}
+use Rattle.numbering.proofs.Lists.{from_enumerate, from_filter_map, from_flat_map, from_map, from_get_map}
 use Rattle.flat_laws.specs.ShortFiles.{AreFilesShort}
-use Rattle.flat_laws.proofs.FlatLeaves.{from_get, leaf_component}
+use Rattle.flat_laws.proofs.FlatLeaves.{leaf_component}
 use Rattle.flat_laws.proofs.MembersAt.{item_at}
 use Rattle.system_spec.specs.Tables.{component_name, name_of_item}
 
@@ -119,7 +119,7 @@ name_there s c i =
 pub leaves_named : (s : Source) → AreFilesShort s → AreNamesSound s → (l : ℕ) (leaf : Leaf) → slice_get (flat_of s).leaves l ≡ Some leaf → is_name (component_name s leaf.component) ≡ true
 leaves_named s short sound l leaf at =
     let h = hierarchy_of s in
-    let x = from_get (leaf_of h) (leaves h) l leaf at in
+    let x = from_get_map (leaf_of h) (leaves h) l leaf at in
     let c = leaf_component s sound x.0 (in_get (leaves h) l x.0 x.1) in
     let k = x.0.part.kind in
     let i = in_get (components s) k c.0 c.1 in

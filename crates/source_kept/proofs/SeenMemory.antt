@@ -23,7 +23,7 @@ use Rattle.adl_settings.specs.Settled.{settled_of}
 use Rattle.adl_types.specs.TypeFaults.{first_type_fault}
 use Rattle.conn_rules.specs.Ends.{end_rule}
 use Rattle.flat_laws.proofs.AreTyped.{ends_typed}
-use Rattle.flat_laws.proofs.FlatLeaves.{from_get, leaf_listed}
+use Rattle.flat_laws.proofs.FlatLeaves.{leaf_listed}
 use Rattle.flat_laws.proofs.SomeEnds.{some_end}
 use Rattle.flat_laws.proofs.TypedEnds.{hardware_fits}
 use Rattle.leaf_ends.specs.declared.end_at.EndAt.{EndAt}
@@ -32,7 +32,7 @@ use Rattle.leaf_ends.specs.Lookups.{end_in}
 use Rattle.leaf_ends.specs.Members.{members_at}
 use Rattle.numbering.specs.Gather.{IsIn, gather}
 use Rattle.numbering.proofs.Gathered.{get_ones, in_gather}
-use Rattle.numbering.proofs.Lists.{in_flat_map}
+use Rattle.numbering.proofs.Lists.{in_flat_map, from_get_map}
 use Rattle.program_sections.specs.declared.images.Images.{Images}
 use Rattle.spec_kept.specs.Limited.{HasMemory, IsSeen}
 use Rattle.vspace_layout.specs.Given.{ends, given, leaves_of}
@@ -53,7 +53,7 @@ window_from c (inr is) = ap (λ z. is_window z From) is
 pub has_domain : (s : Source) (l : ℕ) (leaf : Leaf) → slice_get (flat_of s).leaves l ≡ Some leaf → leaf.hardware ≡ false → (d : ℕ) × (leaf.domain ≡ Some d)
 has_domain s l leaf at soft =
     let h = hierarchy_of s in
-    let x = from_get (leaf_of h) (leaves h) l leaf at in
+    let x = from_get_map (leaf_of h) (leaves h) l leaf at in
     let hard : is_hardware h x.0.part ≡ false = ap (λ (z : Leaf). z.hardware) x.2 ∙ soft in
     let number = domain_number h (domain_of h x.0.path) in
     (number, ap (λ (z : Leaf). z.domain) (sym x.2) ∙ ap (λ b. cond b None (Some number)) hard)

@@ -26,8 +26,7 @@ use Rattle.adl_settings.specs.Joints.{Found, Joint, behind, found_at, found_of, 
 use Rattle.adl_settings.specs.Meant.{meaning, meant}
 use Rattle.adl_settings.specs.Settled.{LeafFound, end_settings, leaf_setting, leaves_found, settled_of}
 use Rattle.component_graph.proofs.Lists.{in_get}
-use Rattle.numbering.proofs.Lists.{from_filter_map, map_some}
-use Rattle.flat_laws.proofs.FlatLeaves.{from_get}
+use Rattle.numbering.proofs.Lists.{from_filter_map, map_some, from_get_map}
 use Rattle.leaf_ends.specs.Lookups.{setting_of}
 use Rattle.system_spec.specs.Objects.{settled_badge}
 use Rattle.system_spec.specs.Tables.{device_place, irq_number}
@@ -55,7 +54,7 @@ priorities_fit s leaf = by_setting (slice_get (settled_of s).leaves leaf) refl
     by_setting : (o : Option LeafSetting) → slice_get (settled_of s).leaves leaf ≡ o → option_map_or (λ z. z.priority) o 0 ≤ 255
     by_setting None e = omega arith
     by_setting (Some x) e =
-        let f = from_get leaf_setting (leaves_found (hierarchy_of s) (flat_of s)) leaf x e in
+        let f = from_get_map leaf_setting (leaves_found (hierarchy_of s) (flat_of s)) leaf x e in
         subst (λ (z : LeafSetting). z.priority ≤ 255) f.2 (priority_fits f.0)
 
 -- ---- interrupts
@@ -123,7 +122,7 @@ badges_small s short k n = by_connection (slice_get (settled_of s).connections k
     by_found : (fs : List Found) (c : FlatConnection) → slice_get (flat_of s).connections k ≡ Some c → found_on (hierarchy_of s) s (flat_of s) c ≡ fs → (o : Option EndSetting) → slice_get (end_settings fs).ends n ≡ o → option_map_or (λ z. z.badge) o 0 < 2 ^ 64
     by_found fs c at are None e = omega arith
     by_found fs c at are (Some x) e =
-        let f = from_get end_setting fs n x e in
+        let f = from_get_map end_setting fs n x e in
         let P : List Found → Type 0 = λ z. IsIn f.0 z in
         let y = from_filter_map (found_of (hierarchy_of s) s (flat_of s) c) f.0 (positioned c.ends) (subst P (sym are) (in_get fs n f.0 f.1)) in
         let p = position_is s c y.0 f.0 y.2 in
@@ -137,7 +136,7 @@ badges_small s short k n = by_connection (slice_get (settled_of s).connections k
     by_connection None e = omega arith
     by_connection (Some z) e =
         let h = hierarchy_of s in
-        let x = from_get end_settings (founds_in h s (flat_of s)) k z e in
-        let c = from_get (found_on h s (flat_of s)) (flat_of s).connections k x.0 x.1 in
+        let x = from_get_map end_settings (founds_in h s (flat_of s)) k z e in
+        let c = from_get_map (found_on h s (flat_of s)) (flat_of s).connections k x.0 x.1 in
         let P : EndSettings → Type 0 = λ w. option_map_or (λ y. y.badge) (slice_get w.ends n) 0 < 2 ^ 64 in
         subst P x.2 (by_found x.0 c.0 c.1 c.2 (slice_get (end_settings x.0).ends n) refl)

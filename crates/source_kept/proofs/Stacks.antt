@@ -27,8 +27,8 @@ use Rattle.adl_settings.specs.SettingFaults.{first_setting_fault, setting_faults
 use Rattle.adl_settings.specs.SettingTwice.{settings_twice}
 use Rattle.adl_settings.specs.Settled.{LeafFound, leaf_found, leaf_setting, leaves_found, settled_of}
 use Rattle.component_graph.proofs.Lists.{in_get}
-use Rattle.numbering.proofs.Lists.{from_flat_map, get_map, none_in, none_left, none_right}
-use Rattle.flat_laws.proofs.FlatLeaves.{from_get, leaf_owned}
+use Rattle.numbering.proofs.Lists.{from_flat_map, get_map, none_in, none_left, none_right, from_get_map}
+use Rattle.flat_laws.proofs.FlatLeaves.{leaf_owned}
 use Rattle.flat_laws.proofs.TypedEnds.{so}
 use Rattle.leaf_ends.specs.declared.end_at.EndAt.{EndAt}
 use Rattle.numbering.specs.Gather.{IsIn}
@@ -114,7 +114,7 @@ leaf_stack f soft good =
 pub soft_leaf : (s : Source) (l d : ℕ) (leaf : Leaf) → slice_get (flat_of s).leaves l ≡ Some leaf → leaf.domain ≡ Some d → leaf.hardware ≡ false
 soft_leaf s l d leaf at is =
     let h = hierarchy_of s in
-    let x = from_get (leaf_of h) (leaves h) l leaf at in
+    let x = from_get_map (leaf_of h) (leaves h) l leaf at in
     let own : (leaf_of h x.0).domain ≡ Some d = ap (λ (z : Leaf). z.domain) x.2 ∙ is in
     ap (λ (z : Leaf). z.hardware) (sym x.2) ∙ by_test (is_hardware h x.0.part) (domain_number h (domain_of h x.0.path)) own
   where

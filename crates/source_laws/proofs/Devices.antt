@@ -28,16 +28,17 @@ use Rattle.adl_types.specs.TypeFaults.{count_of, first_type_fault}
 use Rattle.adl_types.proofs.Typed.{well_typed}
 use Rattle.arch_policy.specs.Ends.{EndAt}
 use Rattle.arch_policy.proofs.Same.{same_role_self}
-use Rattle.component_graph.proofs.Lists.{get, in_get}
+use Rattle.component_graph.proofs.Lists.{in_get}
 use Rattle.conn_rules.specs.Ends.{allows, end_rule}
 use Rattle.conn_rules.specs.Row.{same_role}
 use Rattle.flat_laws.proofs.AreTyped.{ends_typed}
 use Rattle.flat_laws.proofs.Counts.{alone}
 use Rattle.flat_laws.proofs.FlatEnds.{strung_of}
-use Rattle.flat_laws.proofs.FlatLeaves.{from_get, leaf_listed, leaf_owned}
+use Rattle.flat_laws.proofs.FlatLeaves.{leaf_listed, leaf_owned}
 use Rattle.flat_laws.proofs.SomeEnds.{allowed, some_end}
 use Rattle.flat_laws.proofs.TypedEnds.{hardware_fits}
 use Rattle.reach_laws.specs.Flat.{HasDevice, IsFlat, is_at_device}
+use Rattle.numbering.proofs.Lists.{at_place, from_get_map}
 
 -- ---- of the table
 
@@ -82,7 +83,7 @@ module _ (s : Source) (sound : AreNamesSound s) (dotted : AreDotted (hierarchy_o
   domain_of_software : (n : ℕ) (leaf : Leaf) → slice_get (flat_of s).leaves n ≡ Some leaf → leaf.hardware ≡ false → (d : ℕ) × (leaf.domain ≡ Some d)
   domain_of_software n leaf e soft =
       let h = hierarchy_of s in
-      let x = from_get (leaf_of h) (leaves h) n leaf e in
+      let x = from_get_map (leaf_of h) (leaves h) n leaf e in
       let d = domain_number h (domain_of h x.0.path) in
       let hard : is_hardware h x.0.part ≡ false = ap (λ (z : Leaf). z.hardware) x.2 ∙ soft in
       (d, ap (λ (z : Leaf). z.domain) (sym x.2) ∙ ap (λ b. cond b None (Some d)) hard)
@@ -90,7 +91,7 @@ module _ (s : Source) (sound : AreNamesSound s) (dotted : AreDotted (hierarchy_o
   domain_of_hardware : (n : ℕ) (leaf : Leaf) → slice_get (flat_of s).leaves n ≡ Some leaf → leaf.hardware ≡ true → leaf.domain ≡ None
   domain_of_hardware n leaf e hard =
       let h = hierarchy_of s in
-      let x = from_get (leaf_of h) (leaves h) n leaf e in
+      let x = from_get_map (leaf_of h) (leaves h) n leaf e in
       let is : is_hardware h x.0.part ≡ true = ap (λ (z : Leaf). z.hardware) x.2 ∙ hard in
       ap (λ (z : Leaf). z.domain) (sym x.2) ∙ ap (λ b. cond b None (Some (domain_number h (domain_of h x.0.path)))) is
 
@@ -131,7 +132,7 @@ module _ (s : Source) (sound : AreNamesSound s) (dotted : AreDotted (hierarchy_o
       let h = hierarchy_of s in
       let stands : slice_get (flat_ends h y) x.number ≡ Some x.end = ap (λ (c : FlatConnection). slice_get c.ends x.number) same ∙ x.stands in
       let short : x.number < length y.wire.1.ends = subst (λ n. x.number < n) (ends_kept s sound dotted y i) (slice_get_within (flat_ends h y) x.number x.end stands) in
-      let end = get y.wire.1.ends x.number short in
+      let end = at_place y.wire.1.ends x.number short in
       let r = all_joined s sound dotted y end.0 i (in_get y.wire.1.ends x.number end.0 end.1) in
       let both : Some (flat_end h y.path end.0 r.0) ≡ Some x.end = sym (end_numbers_kept s sound dotted y x.number end.0 r.0 i end.1 r.1) ∙ stands in
       let is : flat_end h y.path end.0 r.0 ≡ x.end = cc in

@@ -1,22 +1,15 @@
 -- Tokens spell the trees of a source that is loaded.
-use Rattle.std.proofs.Common.{◌≡◌, ap, inl, inr, ℕ, List, [], ◌∷◌, ◌++◌, Option, None, Some, Ok}
+use Rattle.std.proofs.Common.{ℕ, List, Option, None, Some, Ok}
 use Rattle.adl_ast.specs.Seeing.{see}
 use Rattle.adl_ast.specs.Spelling.{IsFileSpelled}
 use Rattle.adl_ast.specs.declared.seen.Seen.{Seen}
 use Rattle.adl_ast.specs.declared.source.Source.{Source}
-use Rattle.adl_ast.specs.declared.source.SourceFile.{SourceFile}
 use Rattle.adl_hierarchy.specs.Spelled.{AreSpelled}
 use Rattle.adl_import.proofs.Whole.{clean_each}
 use Rattle.adl_import.specs.Folding.{root_name}
 use Rattle.adl_import.specs.Loaded.{IsLoaded, IsLoadedBy}
-use Rattle.numbering.specs.Gather.{IsIn}
 use Rattle.cam_io.specs.Contents.{Contents}
-
--- what stands in a list has others before and behind it
-split_at : (files : List SourceFile) (f : SourceFile) → IsIn f files → (before after : List SourceFile) × (files ≡ before ++ f ∷ after)
-split_at [] f i = absurd i
-split_at (g ∷ files) f (inl same) = ([], files, ap (λ z. z ∷ files) same)
-split_at (g ∷ files) f (inr i) = let s = split_at files f i in (g ∷ s.0, s.1, ap (λ z. g ∷ z) s.2)
+use Rattle.numbering.proofs.Lists.{split_in}
 
 pub loaded_spelled : (contents : Option Contents) (root : List ℕ) (s : Source) → IsLoaded contents root (Ok s) → AreSpelled s
 loaded_spelled contents root s loaded f i = by_name (root_name root) loaded
@@ -24,6 +17,6 @@ loaded_spelled contents root s loaded f i = by_name (root_name root) loaded
     by_name : (name : Option (List ℕ)) → IsLoadedBy contents root name (Ok s) → (ts : List Seen) × IsFileSpelled f.tree ts
     by_name None l = absurd l
     by_name (Some name) l =
-        let at = split_at s.files f i in
+        let at = split_in s.files f i in
         let file = clean_each contents name s.files l at.0 at.1 f at.2 in
         (see f.bytes file.tokens, file.spelled)

@@ -10,8 +10,8 @@ use Rattle.adl_meaning.specs.Hierarchy.{hierarchy_of}
 use Rattle.numbering.specs.Gather.{IsIn}
 use Rattle.adl_meaning.specs.Paths.{Placed, leaves}
 use Rattle.component_graph.proofs.Lists.{in_get}
-use Rattle.flat_laws.proofs.FlatLeaves.{from_get}
-use Rattle.flat_laws.proofs.SettledEnds.{place_in}
+use Rattle.flat_laws.proofs.FlatEnds.{place_in}
+use Rattle.numbering.proofs.Lists.{from_get_map}
 
 -- the numbers of the elements that pass, where the first has this one
 abbrev numbers : {X : Type 0} → (ℕ × X → Bool) → ℕ → List X → List ℕ
@@ -47,14 +47,14 @@ some_in (y ∷ xs) x i = omega arith
 pub leaves_once : (s : Source) (d i j leaf : ℕ) (x : Domain) → slice_get (flat_of s).domains d ≡ Some x → slice_get x.leaves i ≡ Some leaf → slice_get x.leaves j ≡ Some leaf → i ≡ j
 leaves_once s d i j leaf x at e f =
     let h = hierarchy_of s in
-    let q = from_get (flat_domain h) (domains h) d x at in
+    let q = from_get_map (flat_domain h) (domains h) d x at in
     let P : Domain → Type 0 = λ z. slice_get z.leaves i ≡ Some leaf → slice_get z.leaves j ≡ Some leaf → i ≡ j in
     subst P q.2 (λ e f. one_place (λ (y : ℕ × Placed). is_inside h q.0 y.1) 0 (leaves h) i j leaf e f) e f
 
 pub leaves_some : (s : Source) (d : ℕ) (x : Domain) → slice_get (flat_of s).domains d ≡ Some x → 0 < length x.leaves
 leaves_some s d x at =
     let h = hierarchy_of s in
-    let q = from_get (flat_domain h) (domains h) d x at in
+    let q = from_get_map (flat_domain h) (domains h) d x at in
     let y = (domains_are h q.0).0 (in_get (domains h) d q.0 q.1) in
     let n = place_in (leaves h) y.0 y.1 in
     let i = (leaves_of_domain h q.0 n.0).1 (y.0, n.1, y.2, y.3) in

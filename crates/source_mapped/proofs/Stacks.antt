@@ -12,7 +12,7 @@ use Rattle.adl_meaning.specs.Values.{Given}
 use Rattle.adl_settings.specs.Allowed.{number_in, stack_in, whole_pages, within}
 use Rattle.adl_settings.specs.Meant.{meant}
 use Rattle.adl_settings.specs.Settled.{LeafFound, leaf_setting, leaves_found, settled_of}
-use Rattle.flat_laws.proofs.FlatLeaves.{from_get}
+use Rattle.numbering.proofs.Lists.{from_get_map}
 
 sized_whole : (n : ℕ) → unwrap_or (option_map whole_pages (within 1 16777216 n)) 0 % 4096 ≡ 0
 sized_whole n = by_test (nat_le 1 n && nat_le n 16777216)
@@ -34,5 +34,5 @@ leaf_whole f = cond_both f.leaf.hardware 0 (unwrap_or (meant stack_in 16384 f.st
 
 pub stacks_whole : (s : Source) (leaf : ℕ) (x : LeafSetting) → slice_get (settled_of s).leaves leaf ≡ Some x → x.stack % 4096 ≡ 0
 stacks_whole s leaf x at =
-    let f = from_get leaf_setting (leaves_found (hierarchy_of s) (flat_of s)) leaf x at in
+    let f = from_get_map leaf_setting (leaves_found (hierarchy_of s) (flat_of s)) leaf x at in
     subst (λ (z : LeafSetting). z.stack % 4096 ≡ 0) f.2 (leaf_whole f.0)

@@ -1,6 +1,6 @@
 -- What ends are given over the objects of their connections, by the table and by the rights of their capabilities.
 use Rattle.std.proofs.Common.{◌≡◌, ◌⊎◌, ◌∙◌, ◌&&◌, ◌||◌, not, Bool, true, false, Option, refl, sym, inl, inr, true≢false}
-use Rattle.std.proofs.lemmas.Bool.{and_parts}
+use Rattle.std.proofs.lemmas.Bool.{and_parts, or_cases}
 use Rattle.adl_ast.specs.declared.composition.Role.{Role}
 use Rattle.adl_ast.specs.declared.composition.Role.TheVariants.{From, To}
 use Rattle.adl_meaning.specs.declared.connector.Connector.{Connector}
@@ -53,10 +53,6 @@ truth_is true true h = refl
 truth_is true false h = absurd (true≢false (sym h))
 truth_is false true h = absurd (true≢false (sym h))
 truth_is false false h = refl
-
-pub either : (a b : Bool) → a || b ≡ true → (a ≡ true) ⊎ (b ≡ true)
-either true b h = inl refl
-either false b h = inr h
 
 -- the rights of an end's capability confer just what the table gives the end over its connection's object
 pub row_law : (c : Connector) (r : Role) (a : Authority) → has_slot c r ≡ true → kind_confers (joint_kind c) (end_rights c r) a ≡ gives c r (joint_object c) a
@@ -145,11 +141,11 @@ pub given_by : (c : Connector) (r : Role) (o : ObjectKind) (a : Authority) → g
     → ((a ≡ Read) ⊎ (a ≡ Write)) ⊎ (OfSlot c r o ⊎ (IsHandling c r o a ⊎ IsSignalling c r o a))
 given_by c r o a h =
     let w = implied (gives c r o a) _ (over_all (λ c r o a. implies (gives c r o a) (is_access a || (by_slot c r o || (by_handling c r o a || by_signalling c r o a)))) refl c r o a) h in
-    elim (either (is_access a) _ w) [
+    elim (or_cases (is_access a) _ w) [
       | inl e ↦ inl (access_is a e)
-      | inr w ↦ elim (either (by_slot c r o) _ w) [
+      | inr w ↦ elim (or_cases (by_slot c r o) _ w) [
         | inl e ↦ (let q = and_parts (has_slot c r) (same_object o (joint_object c)) e in inr (inl (record { slot = q.0; object = is_object o (joint_object c) q.1 })))
-        | inr w ↦ elim (either (by_handling c r o a) (by_signalling c r o a) w) [
+        | inr w ↦ elim (or_cases (by_handling c r o a) (by_signalling c r o a) w) [
           | inl e ↦
               let q = and_parts (fits c r o Interrupt To OfIrq) (number_of a == number_of Handle) e in
               let f = fitted c r o Interrupt To OfIrq q.0 in
@@ -177,7 +173,7 @@ pub record SeesDevice (c : Connector) (r : Role) (o : ObjectKind) : Type 0 where
 pub seen_by : (c : Connector) (r : Role) (o : ObjectKind) → gives c r o Read ≡ true → SeesShared c o ⊎ SeesDevice c r o
 seen_by c r o h =
     let w = implied (gives c r o Read) _ (over_object (λ c r o. implies (gives c r o Read) (fits c r o SharedMemory r OfFrames || fits c r o Mmio From OfDevice)) refl c r o) h in
-    elim (either (fits c r o SharedMemory r OfFrames) (fits c r o Mmio From OfDevice) w) [
+    elim (or_cases (fits c r o SharedMemory r OfFrames) (fits c r o Mmio From OfDevice) w) [
       | inl e ↦ (let f = fitted c r o SharedMemory r OfFrames e in inl (record { connector = f.0; object = f.2 }))
       | inr e ↦ (let f = fitted c r o Mmio From OfDevice e in inr (record { connector = f.0; role = f.1; object = f.2 }))
     ]

@@ -20,7 +20,7 @@ use Rattle.cspace_layout.specs.declared.plan.SlotUse.{SlotUse}
 use Rattle.cspace_layout.specs.declared.plan.SlotUse.TheVariants.{OfEnd, Handler, OwnLock}
 use Rattle.numbering.specs.Gather.{IsIn}
 use Rattle.numbering.proofs.Gathered.{from_gather, from_ones, in_append, in_place, place_of}
-use Rattle.numbering.proofs.Lists.{from_map}
+use Rattle.numbering.proofs.Lists.{from_map, from_get_map}
 use Rattle.page_tables.specs.declared.layer.Layer.{Layer}
 use Rattle.page_tables.specs.Levels.{layers, numbered as tables_numbered, sizes, table_of}
 use Rattle.page_tables.specs.Shapes.{shapes}
@@ -40,7 +40,6 @@ use Rattle.system_spec.specs.Parts.{all_tables, cnodes, domain_locks, domain_tcb
 use Rattle.system_spec.specs.Tables.{Tables, arch, device_of, frame_owner, pages_at, threads_at, uses_at}
 use Rattle.vspace_layout.specs.declared.spaces.FrameInfo.{FrameInfo}
 use Rattle.vspace_layout.specs.declared.spaces.ThreadPlace.{ThreadPlace}
-use Rattle.vspace_layout.proofs.MemoryNumbers.{from_get_map}
 
 -- ---- whose a part is
 

@@ -1,5 +1,5 @@
 -- What is laid out is written in numbers of 64 bits and in plain texts.
-use Rattle.std.proofs.Common.{◌≡◌, ◌<◌, ◌≤◌, ◌+◌, ◌^◌, ℕ, true, false, ◌&&◌, ◌||◌, not, List, [], ◌∷◌, ◌++◌, length, map, decimal, refl, sym, ◌∙◌, ap, subst, Option, Some, None, inl, inr, true≢false, arith}
+use Rattle.std.proofs.Common.{◌≡◌, ◌<◌, ◌≤◌, ◌+◌, ◌^◌, ℕ, true, false, ◌&&◌, not, List, [], ◌∷◌, ◌++◌, length, map, decimal, refl, sym, ◌∙◌, ap, subst, Option, Some, None, inl, inr, true≢false, arith}
 use Rattle.std.specs.Prelude.{◌==◌, leb}
 use Rattle.std.specs.List.{list_all, slice_get}
 use Rattle.std.specs.Option.{option_map, option_map_or}
@@ -30,13 +30,13 @@ use Rattle.numbering.specs.Gather.{IsIn}
 use Rattle.numbering.proofs.Gathered.{from_gather, in_place}
 use Rattle.numbering.proofs.Lists.{from_map}
 use Rattle.page_tables.proofs.Children.{slots_lead}
-use Rattle.page_tables.proofs.Rising.{slots_below}
+use Rattle.page_tables.proofs.Rising.{slots_below, shape_of_layer}
 use Rattle.page_tables.specs.declared.layer.Layer.{Layer}
 use Rattle.page_tables.specs.declared.mapping.Mapping.{Mapping}
 use Rattle.page_tables.specs.declared.shape.Shape.{Shape}
 use Rattle.page_tables.specs.Levels.{layers, slot_of, table_of}
 use Rattle.page_tables.specs.Shapes.{shapes}
-use Rattle.system_spec.proofs.Naming.{is_name-numbered}
+use Rattle.cam_base.proofs.Naming.{is_name-numbered}
 use Rattle.system_spec.specs.declared.part.Part.{Part}
 use Rattle.system_spec.specs.declared.part.What.{What}
 use Rattle.system_spec.specs.declared.part.What.TheVariants.{CNodeOf, ThreadOf, EndpointOf, NotificationOf, LockOf, IrqOf, TableOf, FrameOf}
@@ -53,8 +53,9 @@ use Rattle.spec_kept.specs.Fit.{IsFit}
 use Rattle.spec_kept.specs.Written.{IsFillWritten, IsFrameWritten, IsThreadWritten, IsWritten}
 use Rattle.spec_kept.proofs.CapsFit.{all_pass}
 use Rattle.spec_kept.proofs.Lengths.{AreShort}
-use Rattle.spec_kept.proofs.TablesKept.{from_tables, mappings, moved, object_is, shape_in, standing}
+use Rattle.spec_kept.proofs.TablesKept.{from_tables, mappings, moved, object_is, standing}
 use Rattle.system_spec.proofs.There.{IsThere}
+use Rattle.capdl_lexer.proofs.Tokens.{word_or}
 
 -- ---- names
 
@@ -119,9 +120,6 @@ not_byte c b n w = not_from_false (b == c) (false_from_ne_true (b == c) (λ e. t
 byte_plain : (b : ℕ) → is_word_byte b ≡ true → not (b == 34) && not (b == 10) ≡ true
 byte_plain b w = and_from (not (b == 34)) (not (b == 10)) (not_byte 34 b refl w) (not_byte 10 b refl w)
 
-letter_byte : (b : ℕ) → is_letter b ≡ true → is_word_byte b ≡ true
-letter_byte b h = ap (λ z. z || (leb 48 b && leb b 57)) h
-
 bytes_plain : (bs : List ℕ) → list_all is_word_byte bs ≡ true → is_plain bs ≡ true
 bytes_plain [] h = refl
 bytes_plain (b ∷ bs) h =
@@ -133,7 +131,7 @@ name_plain [] h = refl
 name_plain (b ∷ bs) h =
     let p = and_parts (leb (length bs) 126) (is_letter b && list_all is_word_byte bs) h in
     let q = and_parts (is_letter b) (list_all is_word_byte bs) p.1 in
-    and_from (not (b == 34) && not (b == 10)) (is_plain bs) (byte_plain b (letter_byte b q.0)) (bytes_plain bs q.1)
+    and_from (not (b == 34) && not (b == 10)) (is_plain bs) (byte_plain b (word_or b q.0)) (bytes_plain bs q.1)
 
 pub name_short : (text : List ℕ) → is_name text ≡ true → length text ≤ 127
 name_short [] h = omega arith
@@ -233,7 +231,7 @@ module _ (t : Tables) (fit : IsFit t) (written : IsWritten t) where
         all_pass (λ (s : ℕ × Cap). is_number s.0 && is_number s.1.badge) (map (slot_of y.shape link) r)
         (λ s k.
         let below = slots_below (arch t) (mappings t fit d x here) y j r link s k in
-        let small = shape_small (arch t) y.shape (shape_in (shapes (arch t)) (mappings t fit d x here) y j) in
+        let small = shape_small (arch t) y.shape (shape_of_layer (shapes (arch t)) (mappings t fit d x here) y j) in
         let none = no_badge o i y r link e s k in
         slot_is s (omega (arith, below, small)) (omega (arith, none)))
 

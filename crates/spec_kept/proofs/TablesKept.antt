@@ -27,15 +27,14 @@ use Rattle.page_tables.proofs.Children.{slots_lead}
 use Rattle.page_tables.proofs.Counted.{counts_of_addresses}
 use Rattle.page_tables.proofs.Fitting.{shapes_are_sized}
 use Rattle.page_tables.proofs.Leveled.{as_many}
-use Rattle.page_tables.proofs.Rising.{kept_rise, slots_below}
+use Rattle.page_tables.proofs.Rising.{kept_rise, slots_below, shape_of_layer}
 use Rattle.page_tables.proofs.Rooting.{root_first}
 use Rattle.page_tables.specs.declared.layer.Layer.{Layer}
 use Rattle.page_tables.specs.declared.mapping.Mapping.{Mapping}
-use Rattle.page_tables.specs.declared.shape.Shape.{Shape}
 use Rattle.page_tables.specs.Counts.{table_count}
-use Rattle.page_tables.specs.Levels.{IsChild, layers, numbered, sizes, slot_of, table_of, tables_of, uppers}
-use Rattle.page_tables.specs.Runs.{Rises, runs}
-use Rattle.page_tables.specs.Shapes.{shape, shapes, span}
+use Rattle.page_tables.specs.Levels.{IsChild, layers, numbered, sizes, slot_of, table_of, tables_of}
+use Rattle.page_tables.specs.Runs.{Rises}
+use Rattle.page_tables.specs.Shapes.{shape, shapes}
 use Rattle.page_tables.specs.Walks.{root_span}
 use Rattle.system_spec.specs.declared.part.What.TheVariants.{FrameOf, TableOf}
 use Rattle.system_spec.specs.Made.{spec_of}
@@ -63,11 +62,6 @@ from_tables first link (y ∷ ys) o i = elim (in_append o (numbered first (first
   | inl j ↦ let r = from_tables first (first + sizes ys) ys o j in record { layer = r.layer; among = inr r.among; run = r.run; there = r.there; link = r.link; is = r.is }
   | inr j ↦ let m = from_map (table_of y.shape link) o y.tables j in record { layer = y; among = inl refl; run = m.0; there = m.1; link = link; is = m.2 }
 ]
-
-pub shape_in : (ls : List Shape) (xs : List Mapping) (y : Layer) → IsIn y (layers ls xs) → IsIn y.shape ls
-shape_in [] xs y i = absurd i
-shape_in (l ∷ ls) xs y (inl e) = inl (ap (λ (z : Layer). z.shape) e)
-shape_in (l ∷ ls) xs y (inr i) = inr (shape_in ls (uppers l (runs (span l) xs)) y i)
 
 -- ---- pages
 
@@ -195,7 +189,7 @@ module _ (t : Tables) where
         → level ≡ ys.shape.level → slots ≡ map (slot_of ys.shape link) r → keeps (spec_of t) (objects.Pages level slots) ≡ true
     table_kept level slots i y j r k link same are =
         let entries = y.shape.entries in
-        let sized : size (arch t) level ≡ Some entries = ap (λ l. size (arch t) l) same ∙ shapes_are_sized (arch t) y.shape (shape_in (shapes (arch t)) mappings y j) in
+        let sized : size (arch t) level ≡ Some entries = ap (λ l. size (arch t) l) same ∙ shapes_are_sized (arch t) y.shape (shape_of_layer (shapes (arch t)) mappings y j) in
         let whole = (fit.domains d x here) in
         let risen = pages_rise (place t (FrameOf 0)) (pages_at t d) (λ p q. (whole.pages p q).aligned) whole.rise in
         let ordered : rise slots ≡ true = ap rise are ∙ kept_rise (arch t) mappings risen y j r k link in

@@ -13,7 +13,7 @@ use Rattle.cap_model.specs.declared.spec.Entry.{Entry}
 use Rattle.cap_model.specs.Lookup.{entry_name}
 use Rattle.numbering.specs.Gather.{IsIn}
 use Rattle.numbering.proofs.Gathered.{from_gather, in_place}
-use Rattle.numbering.proofs.Lists.{below, from_flat_map}
+use Rattle.numbering.proofs.Lists.{below, from_flat_map, from_get_map}
 use Rattle.system_spec.specs.declared.part.Owned.{Owned}
 use Rattle.system_spec.specs.declared.part.PageTable.{PageTable}
 use Rattle.system_spec.specs.declared.part.Part.{Part}
@@ -30,7 +30,6 @@ use Rattle.spec_laws.specs.CanMap.{CanMap}
 use Rattle.spec_laws.specs.Labelled.{IsOf}
 use Rattle.spec_laws.specs.Slotted.{IsNamed}
 use Rattle.spec_laws.proofs.Labels.{label_is}
-use Rattle.vspace_layout.proofs.MemoryNumbers.{from_get_map}
 
 -- ---- which parts are named as endpoints and notifications
 

@@ -25,7 +25,6 @@ use Rattle.page_tables.specs.declared.layer.Layer.{Layer}
 use Rattle.page_tables.specs.Levels.{layers, numbered as in_levels, sizes, table_of}
 use Rattle.page_tables.specs.Shapes.{shapes}
 use Rattle.vspace_layout.proofs.Rising.{Each, each_append}
-use Rattle.vspace_layout.proofs.MemoryNumbers.{from_get_map}
 use Rattle.system_spec.specs.declared.part.Owned.{Owned}
 use Rattle.system_spec.specs.declared.part.Part.{Part}
 use Rattle.system_spec.specs.declared.part.What.{What}
@@ -42,6 +41,7 @@ use Rattle.system_spec.proofs.There.{single}
 use Rattle.spec_laws.specs.Slotted.{CanSlot, IsJoint, IsNamed, OwnLocks}
 use Rattle.spec_laws.proofs.SlotLists.{some}
 use Rattle.spec_laws.proofs.Slotting.{cap_is, has_irq, of_handler, of_use as from_use, uses_are}
+use Rattle.numbering.proofs.Lists.{from_get_map}
 
 -- ---- what is a CNode
 

@@ -7,6 +7,7 @@ use Rattle.std.proofs.lemmas.Bool.Decides.{nat_tests}
 use Rattle.std.proofs.lemmas.List.Folds.{list_all-append}
 use Rattle.cam_base.specs.Names.{is_word_byte}
 use Rattle.cam_base.specs.Numbers.{is_digit}
+use Rattle.cam_base.proofs.Orders.{same_itself}
 use Rattle.text_lines.specs.Fields.{fields}
 use Rattle.text_lines.specs.Parts.{parts}
 
@@ -34,14 +35,11 @@ plain_word (b ∷ bs) h = let k = and_parts (is_word_byte b) (list_all is_word_b
 
 -- ---- a list that a byte parts
 
-self : (n : ℕ) → n == n ≡ true
-self n = grind arith
-
 abbrev pub lacks : ℕ → List ℕ → Bool
 lacks separator bs = list_all (λ b. not (b == separator)) bs
 
 pub split_front : (separator : ℕ) (xs ys : List ℕ) → lacks separator xs ≡ true → parts separator (xs ++ separator ∷ ys) ≡ xs ∷ parts separator ys
-split_front separator [] ys h = rw (self separator) refl
+split_front separator [] ys h = rw (same_itself separator) refl
 split_front separator (x ∷ xs) ys h =
     let k = and_parts (not (x == separator)) (lacks separator xs) h in
     let no_it : x == separator ≡ false = not-true (x == separator) k.0 in

@@ -7,16 +7,13 @@ use Rattle.std.specs.Str.{bytes_eq}
 use Rattle.std.proofs.lemmas.Iterator.Adapters.{position_from-zero}
 use Rattle.std.proofs.lemmas.List.{at_drop_more, at_drop_all}
 use Rattle.std.proofs.lemmas.Slice.Eq.{bytes_eq-Decides}
+use Rattle.cam_base.proofs.Options.{option_or-none, option_or-cond}
 use Rattle.cap_model.specs.declared.spec.Entry.{Entry}
 use Rattle.cap_model.specs.declared.spec.Spec.{Spec}
 use Rattle.step_text.specs.Threads.{is_thread, thread_named}
 
 abbrev pub is_named : List ℕ → Entry → Bool
 is_named name entry = is_thread entry.object && bytes_eq entry.name name
-
-or_none : (o : Option ℕ) → o ≡ option_or o None
-or_none None = refl
-or_none (Some x) = refl
 
 -- what a table finds after the insertion of a key that was not there
 pub inserted : (f g : List ℕ → Option ℕ) (key : List ℕ) (x : ℕ) → is_some (f key) ≡ false
@@ -29,12 +26,7 @@ inserted f g key x absent updates name = go (bytes_eq key name) refl
 
     go : (a : Bool) → bytes_eq key name ≡ a → g name ≡ option_or (f name) (cond (bytes_eq key name) (Some x) None)
     go true e = updates name ∙ rw e (none_or (f name) (ap (λ k. is_some (f k)) (sym ((bytes_eq-Decides key name).0 e)) ∙ absent))
-    go false e = updates name ∙ rw e (or_none (f name))
-
-or_either : (o : Option ℕ) (b : Bool) (i : ℕ) (more : Option ℕ) → option_or (option_or o (cond b (Some i) None)) more ≡ option_or o (cond b (Some i) more)
-or_either None true i more = refl
-or_either None false i more = refl
-or_either (Some x) b i more = refl
+    go false e = updates name ∙ rw e (option_or-none (f name))
 
 -- one object more: f is what the table found before it, and g what it finds after
 pub added_more : (name : List ℕ) (entries : List Entry) (i : ℕ) (entry : Entry) (f g : Option ℕ) (all : Option ℕ) → i < length entries → entry ≡ get_or entries i entry
@@ -42,7 +34,7 @@ pub added_more : (name : List ℕ) (entries : List Entry) (i : ℕ) (entry : Ent
     → option_or g (position_from (is_named name) (i + 1) (drop (i + 1) entries)) ≡ all
 added_more name entries i entry f g all lt is before after =
     ap (λ o. option_or o (position_from (is_named name) (i + 1) (drop (i + 1) entries))) after
-    ∙ or_either f (is_named name entry) i (position_from (is_named name) (i + 1) (drop (i + 1) entries))
+    ∙ option_or-cond f (is_named name entry) i (position_from (is_named name) (i + 1) (drop (i + 1) entries))
     ∙ ap (λ (e : Entry). option_or f (position_from (is_named name) i (e ∷ drop (i + 1) entries))) is
     ∙ ap (option_or f) (sym (at_drop_more (position_from (is_named name) i) entries i entry lt))
     ∙ before
@@ -51,5 +43,5 @@ added_more name entries i entry f g all lt is before after =
 pub added_all : (spec : Spec) (entries : List Entry) (found : List ℕ → Option ℕ) (i : ℕ) → entries ≡ spec.entries → length entries ≤ i
     → ((name : List ℕ) → option_or (found name) (position_from (is_named name) i (drop i entries)) ≡ position_from (is_named name) 0 entries) → found ≡ thread_named spec
 added_all spec entries found i is end filled = fun_ext (λ name.
-    or_none (found name) ∙ ap (option_or (found name)) (sym (at_drop_all (position_from (is_named name) i) entries i end))
+    option_or-none (found name) ∙ ap (option_or (found name)) (sym (at_drop_all (position_from (is_named name) i) entries i end))
     ∙ filled name ∙ sym (position_from-zero (is_named name) entries) ∙ ap (position (is_named name)) is)

@@ -1,7 +1,7 @@
 -- Where no fault stands each line spells one step.
 use Rattle.std.proofs.Common.{◌≡◌, ap, refl, ℕ, suc, ◌+◌, nat_lt, Bool, true, false, List, [], ◌∷◌, length, Option, Some, None}
 use Rattle.std.specs.List.{filter_map}
-use Rattle.std.specs.Option.{option_or}
+use Rattle.cam_base.proofs.Options.{neither}
 use Rattle.cap_machine.specs.declared.step.Step.{Step}
 use Rattle.cap_model.specs.declared.spec.Spec.{Spec}
 use Rattle.text_lines.specs.LineFaults.{at_line}
@@ -10,10 +10,6 @@ use Rattle.text_lines.specs.Lines.{Line, lines}
 use Rattle.step_text.specs.Spelling.{spelled}
 use Rattle.step_text.specs.StepTexts.{bytes_limit, fault_of, step_of, misspelled, first_fault_of, first_fault, steps_of}
 use Rattle.step_text.specs.Threads.{thread_named}
-
-neither : {X : Type 0} (a b : Option X) → option_or a b ≡ None → (a ≡ None) × (b ≡ None)
-neither None b none = (refl, none)
-neither (Some x) b none = absurd cc
 
 each_line : (place : List ℕ → Option ℕ) (before : ℕ) (lines : List Line) → first_fault_of place before lines ≡ None → length (filter_map (step_of place) lines) ≡ length lines
 each_line place before [] none = refl

@@ -8,14 +8,13 @@ use Rattle.cspace_layout.specs.declared.plan.SlotUse.{SlotUse}
 use Rattle.std.proofs.lemmas.List.{take_all}
 use Rattle.numbering.specs.Gather.{gather}
 use Rattle.numbering.proofs.Gathered.{gather_more, gather_ones, get_ones, length_append}
-use Rattle.numbering.proofs.Lists.{at_place, taken_le}
+use Rattle.numbering.proofs.Lists.{at_place, taken_le, length-gather}
 use Rattle.page_tables.specs.Levels.{layers}
 use Rattle.page_tables.specs.Shapes.{shapes}
 use Rattle.page_tables.specs.Counts.{table_count as count_of}
 use Rattle.page_tables.proofs.Counted.{counts_of_addresses}
 use Rattle.page_tables.proofs.Leveled.{as_many}
 use Rattle.vspace_layout.specs.declared.spaces.Page.{Page}
-use Rattle.vspace_layout.proofs.Few.{one_each}
 use Rattle.system_spec.specs.declared.landmarks.SpaceTables.{SpaceTables}
 use Rattle.system_spec.specs.declared.part.What.TheVariants.{LockOf, TableOf, FrameOf}
 use Rattle.system_spec.specs.Few.{AreFew, table_count}
@@ -49,7 +48,7 @@ one_at_most true = omega arith
 one_at_most false = omega arith
 
 pub few_locks : (uses : List SlotUse) (i : ℕ) → length (gather (lock 0) (take i uses)) ≤ length uses
-few_locks uses i = omega (arith, taken_le (lock 0) uses i, one_each (lock 0) uses (λ k u. omega (arith, length-lock 0 k u, one_at_most (holds_lock u))))
+few_locks uses i = omega (arith, taken_le (lock 0) uses i, length-gather (lock 0) uses (λ k u. omega (arith, length-lock 0 k u, one_at_most (holds_lock u))))
 
 pub count_turn : (uses : List SlotUse) (i n more : ℕ) (u : SlotUse) → i < length uses → u ≡ get_or uses i u → more ≡ one (holds_lock u) → n ≡ length (gather (lock 0) (take i uses)) → n + more ≡ length (gather (lock 0) (take (i + 1) uses))
 count_turn uses i n more u l is m e = omega (arith, m, e, grown_length (lock 0) uses i u l is, length-lock 0 i u)

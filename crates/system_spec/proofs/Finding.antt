@@ -7,7 +7,7 @@ use Rattle.std.specs.List.{AllWithin}
 use Rattle.std.specs.List.Sorted.{IsNonDecreasingBy, IsPartitionPoint}
 use Rattle.std.proofs.Math.Dec.{ltb}
 use Rattle.std.proofs.lemmas.Option.{get_or_from_slice_get, slice_get_within}
-use Rattle.std.proofs.lemmas.Bool.{ltb-true, ltb-false}
+use Rattle.std.proofs.lemmas.Bool.{ltb-true, ltb-false, ne_eqb}
 use Rattle.numbering.specs.Gather.{IsIn}
 use Rattle.page_tables.specs.Runs.{Rises}
 use Rattle.vspace_layout.specs.declared.spaces.Page.{Page}
@@ -21,15 +21,12 @@ abbrev pub there_at : ℕ → Option Page → Option Page
 there_at at None = None
 there_at at (Some p) = cond (p.vaddr == at) (Some p) None
 
-apart : (v at : ℕ) → (v ≡ at → ⊥) → (v == at) ≡ false
-apart v at h = grind (arith, h)
-
 -- nothing stands at an address below all of them
 none_above : (at v : ℕ) (ps : List Page) → Rises (v ∷ map (λ p. p.vaddr) ps) → at ≤ v → find (at_page at) ps ≡ None
 none_above at v [] r l = refl
 none_above at v (p ∷ ps) r l =
     let below : v < p.vaddr = r.0 in
-    let other : (p.vaddr == at) ≡ false = apart p.vaddr at (λ e. omega (arith, below, l, e)) in
+    let other : (p.vaddr == at) ≡ false = ne_eqb p.vaddr at (λ e. omega (arith, below, l, e)) in
     ap (λ z. cond z (Some p) (find (at_page at) ps)) other ∙ none_above at p.vaddr ps r.1 (omega (arith, below, l))
 
 pub found_at : (at i : ℕ) (ps : List Page) → Rises (map (λ p. p.vaddr) ps) → ((k : ℕ) (p : Page) → slice_get ps k ≡ Some p → k < i → p.vaddr < at) → ((k : ℕ) (p : Page) → slice_get ps k ≡ Some p → i ≤ k → at ≤ p.vaddr)
@@ -40,7 +37,7 @@ found_at at zero (p ∷ ps) r low high =
     ap (λ z. cond (p.vaddr == at) (Some p) z) (none_above at p.vaddr ps r above)
 found_at at (suc i) (p ∷ ps) r low high =
     let below : p.vaddr < at = low 0 p refl (omega arith) in
-    let other : (p.vaddr == at) ≡ false = apart p.vaddr at (λ e. omega (arith, below, e)) in
+    let other : (p.vaddr == at) ≡ false = ne_eqb p.vaddr at (λ e. omega (arith, below, e)) in
     ap (λ z. cond z (Some p) (find (at_page at) ps)) other ∙ found_at at i ps r.1 (λ k q e l. low (suc k) q e (omega (arith, l))) (λ k q e l. high (suc k) q e (omega (arith, l)))
 
 -- what is found is one of the list
@@ -91,4 +88,4 @@ frame_here at p e =
     ap (λ z. option_map (λ (q : Page). q.frame) (cond z (Some p) None)) same
 
 pub frame_elsewhere : (at : ℕ) (p : Page) → (p.vaddr ≡ at → ⊥) → option_map (λ (q : Page). q.frame) (there_at at (Some p)) ≡ None
-frame_elsewhere at p h = ap (λ z. option_map (λ (q : Page). q.frame) (cond z (Some p) None)) (apart p.vaddr at h)
+frame_elsewhere at p h = ap (λ z. option_map (λ (q : Page). q.frame) (cond z (Some p) None)) (ne_eqb p.vaddr at h)

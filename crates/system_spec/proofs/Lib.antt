@@ -6,7 +6,6 @@ pub mod LeastBits
 pub mod LevelCounting
 pub mod MapPlaces
 pub mod Mapping
-pub mod Naming
 pub mod Objects
 pub mod Placing
 pub mod Sizes

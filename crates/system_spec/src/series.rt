@@ -58,7 +58,7 @@ impl Series {
     }
 
     /// The name of an object of the series: `specs/Names.antt`.
-    #[tactic(auto, using(crate::proofs::Naming::naming))]
+    #[tactic(auto, using(cam_base::proofs::Naming::naming))]
     pub fn name(self, alloc: Global, number: u64) -> Result<Name, NoMemory>
         ensures { IfOk result (λ name. name ≡ name_of self number) }
     {

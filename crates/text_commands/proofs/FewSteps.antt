@@ -2,7 +2,6 @@
 use Rattle.std.proofs.Common.{◌≡◌, ◌≤◌, ◌<◌, ◌+◌, ℕ, Bool, true, false, List, [], ◌∷◌, length, Option, Some, None, arith, refl, nat_lt}
 use Rattle.std.proofs.lemmas.Bool.Decides.{nat_tests}
 use Rattle.std.specs.List.{filter_map}
-use Rattle.std.specs.Option.{option_or}
 use Rattle.cap_machine.specs.declared.step.Step.{Step}
 use Rattle.cap_model.specs.declared.spec.Spec.{Spec}
 use Rattle.text_lines.specs.LineFaults.{at_line}
@@ -12,10 +11,7 @@ use Rattle.step_text.specs.Spelling.{spelled}
 use Rattle.step_text.specs.StepTexts.{bytes_limit, fault_of, first_fault, first_fault_of, misspelled, step_of, steps_of}
 use Rattle.step_text.specs.Threads.{thread_named}
 use Rattle.cam_base.specs.declared.text_fault.TextCode.TheVariants.{StepLimit}
-
-neither : {X : Type 0} (a b : Option X) → option_or a b ≡ None → (a ≡ None) × (b ≡ None)
-neither None b none = (refl, none)
-neither (Some x) b none = absurd cc
+use Rattle.cam_base.proofs.Options.{neither}
 
 below : (before : ℕ) (b : Bool) → nat_lt before 100000 ≡ b → b ≡ true → before < 100000
 below before b e is = grind (arith, nat_tests)

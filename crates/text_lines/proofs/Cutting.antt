@@ -1,28 +1,12 @@
 -- The first part of a text, and the parts behind it.
-use Rattle.std.proofs.Common.{◌≡◌, ◌∙◌, ap, sym, refl, ℕ, ◌+◌, ◌<◌, ◌≤◌, ◌==◌, nat_lt, leb, Bool, true, false, List, [], ◌∷◌, Some, None, length, take, drop, inl, inr, arith}
-use Rattle.std.specs.List.{slice_split, before_first, position, position_or_len}
+use Rattle.std.proofs.Common.{◌≡◌, ◌∙◌, ap, sym, refl, ℕ, ◌+◌, ◌<◌, ◌≤◌, ◌==◌, leb, Bool, true, false, List, [], ◌∷◌, length, drop, inl, inr, arith}
+use Rattle.std.specs.List.{slice_split, before_first, position_or_len}
 use Rattle.std.proofs.lemmas.Bool.{cases_lt}
 use Rattle.std.proofs.lemmas.Bool.Decides.{nat_tests}
 use Rattle.std.proofs.lemmas.List.{length-take-le, length-drop, drop-drop, take_all}
 use Rattle.std.proofs.lemmas.List.Splits.{slice_split_first, slice_split_none}
 use Rattle.std.proofs.lemmas.List.Sums.{fails_before_first}
 use Rattle.text_lines.specs.Parts.{parts, parts_from}
-
-pub front_at : (p : ℕ → Bool) (bs : List ℕ) (n : ℕ) → position p bs ≡ Some n → take n bs ≡ before_first p bs
-front_at p bs n e = go (nat_lt (position_or_len p bs) (length bs)) refl
-  where
-    go : (v : Bool) → nat_lt (position_or_len p bs) (length bs) ≡ v → take n bs ≡ before_first p bs
-    go true t = let is : position p bs ≡ Some (position_or_len p bs) = rw t refl in ap (λ k. take k bs) (cc)
-    go false t = let is : position p bs ≡ None = rw t refl in absurd cc
-
-pub front_whole : (p : ℕ → Bool) (bs : List ℕ) → position p bs ≡ None → bs ≡ before_first p bs
-front_whole p bs e = go (nat_lt (position_or_len p bs) (length bs)) refl
-  where
-    go : (v : Bool) → nat_lt (position_or_len p bs) (length bs) ≡ v → bs ≡ before_first p bs
-    go true t = let is : position p bs ≡ Some (position_or_len p bs) = rw t refl in absurd cc
-    go false t = let le : length bs ≤ position_or_len p bs = grind (arith, nat_tests) in sym (take_all (position_or_len p bs) bs le)
-
-pub ruleset front_rules = (front_at, front_whole)
 
 -- the first part and the others
 split_more : (p : ℕ → Bool) (rest : List ℕ) → position_or_len p rest < length rest

@@ -10,7 +10,7 @@ fn position_of(bytes: &[u8], byte: u8) -> Option<usize>
 }
 
 /// What stands in front of the first such byte, all of it where there is none. Takes no memory.
-#[tactic(auto, using(crate::proofs::Cutting::front_rules))]
+#[tactic(auto, using(cam_base::proofs::Fronts::front_rules))]
 fn first_part(bytes: &[u8], separator: u8) -> &[u8]
     ensures { result.now ≡ before_first (λ b. b == separator) bytes.now }
 {

@@ -16,7 +16,7 @@ fn feed_at(bytes: &[u8]) -> Option<usize>
 }
 
 /// What stands before the first line feed, all of it where there is none.
-#[tactic(auto, using(crate::proofs::Fronts::front_rules))]
+#[tactic(auto, using(cam_base::proofs::Fronts::front_rules))]
 fn first_line(bytes: &[u8]) -> &[u8]
     ensures { result.now ≡ before_first (λ b. b == 10) bytes.now }
 {

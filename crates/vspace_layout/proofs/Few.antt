@@ -24,6 +24,7 @@ use Rattle.vspace_layout.specs.PageLimits.{page_counts}
 use Rattle.vspace_layout.specs.Regions.{pages_in, regions, threads_of, windows_of}
 use Rattle.vspace_layout.proofs.Counting.{length-region_part}
 use Rattle.vspace_layout.proofs.Fitting.{few_regions}
+use Rattle.numbering.proofs.Lists.{length-gather}
 
 -- ---- sums
 
@@ -58,14 +59,6 @@ at_most f (x ∷ xs) h =
     let b = h 0 x refl in
     omega (arith, ih, a, b)
 
-pub one_each : {X Y : Type 0} (f : ℕ → X → List Y) (xs : List X) → ((k : ℕ) (x : X) → length (f k x) ≤ 1) → length (gather f xs) ≤ length xs
-one_each f [] h = omega arith
-one_each f (x ∷ xs) h =
-    let ih = one_each (λ n z. f (suc n) z) xs (λ k z. h (suc k) z) in
-    let a = length_append (f 0 x) (gather (λ n z. f (suc n) z) xs) in
-    let b = h 0 x in
-    omega (arith, ih, a, b)
-
 -- ---- regions
 
 pages_below : (t : Given) (d : ℕ) → pages_in (regions t d) ≤ length (mapped_pages t d)
@@ -88,7 +81,7 @@ own_one d (Own fill) = omega arith
 own_one d (Memory k j) = omega arith
 
 pub own_few : (t : Given) → length (own_part t) ≤ sum (page_counts t)
-own_few t = within_sum (own_frames t) (λ n (x : Domain). length (mapped_pages t n)) t.flat.domains (λ k x. one_each (λ n (p : MappedPage). own_frame k p.shown) (mapped_pages t k) (λ n p. own_one k p.shown))
+own_few t = within_sum (own_frames t) (λ n (x : Domain). length (mapped_pages t n)) t.flat.domains (λ k x. length-gather (λ n (p : MappedPage). own_frame k p.shown) (mapped_pages t k) (λ n p. own_one k p.shown))
 
 pub shared_few : (t : Given) → CanLay t → length (shared_part t.flat t.settled) ≤ 65536 * length t.flat.connections
 shared_few t can = at_most (shared_frames t.settled) t.flat.connections (λ k c e. by_test k c (is_shared c.connector) (can.memory k c e))

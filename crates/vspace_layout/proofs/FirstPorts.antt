@@ -6,6 +6,7 @@ use Rattle.std.specs.Option.{option_and_then, option_map_or, option_or}
 use Rattle.std.proofs.lemmas.Bool.{and_parts, eq-eqb, eqb-true}
 use Rattle.std.proofs.lemmas.Iterator.Adapters.{position_from-zero}
 use Rattle.std.proofs.lemmas.List.{at_drop_more}
+use Rattle.cam_base.proofs.Options.{option_or-none, option_or-cond}
 use Rattle.adl_meaning.specs.declared.flat.FlatConnection.{FlatConnection}
 use Rattle.adl_meaning.specs.declared.flat.FlatEnd.{FlatEnd}
 use Rattle.vspace_layout.specs.declared.ports.PortKey.{PortKey}
@@ -24,10 +25,6 @@ same_key-true k l e =
 pub same_key-refl : (k : PortKey) → same_key k k ≡ true
 same_key-refl k = ap (λ b. b && (k.member == k.member)) (eq-eqb k.leaf k.leaf refl) ∙ eq-eqb k.member k.member refl
 
-or_none : (o : Option ℕ) → o ≡ option_or o None
-or_none None = refl
-or_none (Some x) = refl
-
 -- ---- one key
 
 -- a key that wasn't there
@@ -38,7 +35,7 @@ put_port old new key n absent put k = put k ∙ by_test (same_key key k) refl
   where
     by_test : (b : Bool) → same_key key k ≡ b → cond b (Some n) (lookup (same_key k) old) ≡ option_or (lookup (same_key k) old) (cond b (Some n) None)
     by_test true e = ap (λ o. option_or o (Some n)) (sym (ap (λ l. lookup (same_key l) old) (sym (same_key-true key k e)) ∙ absent))
-    by_test false e = or_none (lookup (same_key k) old)
+    by_test false e = option_or-none (lookup (same_key k) old)
 
 pub put_here : (old new : List (PortKey × ℕ)) (key : PortKey) (n : ℕ) → ((k : PortKey) → lookup (same_key k) new ≡ cond (same_key key k) (Some n) (lookup (same_key k) old))
     → lookup (same_key key) new ≡ Some n
@@ -54,7 +51,7 @@ kept_port old key n m there k = by_test (same_key key k) refl
 
     by_test : (b : Bool) → same_key key k ≡ b → lookup (same_key k) old ≡ option_or (lookup (same_key k) old) (cond b (Some n) None)
     by_test true e = by_some (lookup (same_key k) old) (ap (λ l. lookup (same_key l) old) (sym (same_key-true key k e)) ∙ there)
-    by_test false e = or_none (lookup (same_key k) old)
+    by_test false e = option_or-none (lookup (same_key k) old)
 
 -- ---- one connection
 
@@ -64,12 +61,7 @@ pub noted_end : (c : FlatConnection) (x : FlatEnd) (n : ℕ) (f g : PortKey → 
 noted_end c x n f g e put k = put k ∙ ap (λ o. option_or (f k) (cond (option_map_or (λ y. same_key (key_of y) k) o false) (Some n) None)) (sym e)
 
 noted_none : (c : FlatConnection) (n : ℕ) (f : PortKey → Option ℕ) → registers c ≡ None → (k : PortKey) → f k ≡ option_or (f k) (cond (leads_by k c) (Some n) None)
-noted_none c n f e k = or_none (f k) ∙ ap (λ o. option_or (f k) (cond (option_map_or (λ y. same_key (key_of y) k) o false) (Some n) None)) (sym e)
-
-or_either : (o : Option ℕ) (b : Bool) (i : ℕ) (more : Option ℕ) → option_or (option_or o (cond b (Some i) None)) more ≡ option_or o (cond b (Some i) more)
-or_either None true i more = refl
-or_either None false i more = refl
-or_either (Some x) b i more = refl
+noted_none c n f e k = option_or-none (f k) ∙ ap (λ o. option_or (f k) (cond (option_map_or (λ y. same_key (key_of y) k) o false) (Some n) None)) (sym e)
 
 -- one connection more: f is what the table found before it, and g what it finds after
 pub ports_more : (cs : List FlatConnection) (i : ℕ) (c : FlatConnection) (f g : PortKey → Option ℕ) → i < length cs → c ≡ get_or cs i c
@@ -78,7 +70,7 @@ pub ports_more : (cs : List FlatConnection) (i : ℕ) (c : FlatConnection) (f g 
     → (k : PortKey) → option_or (g k) (position_from (leads_by k) (i + 1) (drop (i + 1) cs)) ≡ position_from (leads_by k) 0 cs
 ports_more cs i c f g lt is before put k =
     ap (λ o. option_or o (position_from (leads_by k) (i + 1) (drop (i + 1) cs))) (put k)
-    ∙ or_either (f k) (leads_by k c) i (position_from (leads_by k) (i + 1) (drop (i + 1) cs))
+    ∙ option_or-cond (f k) (leads_by k c) i (position_from (leads_by k) (i + 1) (drop (i + 1) cs))
     ∙ ap (λ (x : FlatConnection). option_or (f k) (position_from (leads_by k) i (x ∷ drop (i + 1) cs))) is
     ∙ ap (option_or (f k)) (sym (at_drop_more (position_from (leads_by k) i) cs i c lt))
     ∙ before k

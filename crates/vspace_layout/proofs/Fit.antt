@@ -12,7 +12,7 @@ use Rattle.adl_meaning.specs.declared.settled.Settled.{Settled}
 use Rattle.leaf_ends.specs.declared.end_at.EndAt.{EndAt}
 use Rattle.numbering.specs.Gather.{IsIn}
 use Rattle.numbering.proofs.Gathered.{from_gather, gather_map, gather_ones, gather_same, in_append, in_place, length_append}
-use Rattle.numbering.proofs.Lists.{below, from_map, from_range}
+use Rattle.numbering.proofs.Lists.{below, from_map, from_range, from_get_map}
 use Rattle.program_sections.specs.declared.images.Images.{Images}
 use Rattle.program_sections.specs.declared.pages.SectionPage.{SectionPage}
 use Rattle.program_sections.specs.ByAddress.{section_pages}
@@ -34,7 +34,7 @@ use Rattle.vspace_layout.specs.Threads.{domain_threads}
 use Rattle.vspace_layout.proofs.Few.{own_few, registers_few, shared_few}
 use Rattle.vspace_layout.proofs.Joining.{here, mapped_here, own_number_of}
 use Rattle.vspace_layout.proofs.Laying.{ones_or}
-use Rattle.vspace_layout.proofs.MemoryNumbers.{from_get_map, memory_upto}
+use Rattle.vspace_layout.proofs.MemoryNumbers.{memory_upto}
 
 -- ---- numbers of pages
 

@@ -1,5 +1,5 @@
 -- Where the frames of connections' memory stand.
-use Rattle.std.proofs.Common.{◌≡◌, ◌<◌, ◌≤◌, ◌+◌, ◌^◌, ◌∙◌, ℕ, zero, suc, Bool, cond, true, false, refl, sym, ap, List, [], ◌∷◌, ◌++◌, Option, Some, None, length, map, take, get_or, append_assoc, append-nil, arith}
+use Rattle.std.proofs.Common.{◌≡◌, ◌<◌, ◌≤◌, ◌+◌, ◌^◌, ◌∙◌, ℕ, zero, suc, Bool, cond, true, false, refl, sym, ap, List, [], ◌∷◌, ◌++◌, Option, Some, None, length, take, get_or, append_assoc, append-nil, arith}
 use Rattle.std.specs.List.{position, position_from, slice_get}
 use Rattle.std.specs.Option.{option_and_then, option_map_or}
 use Rattle.std.proofs.lemmas.Iterator.Adapters.{position_from-zero}
@@ -12,7 +12,7 @@ use Rattle.adl_meaning.specs.declared.flat.FlatEnd.{FlatEnd}
 use Rattle.adl_meaning.specs.declared.settled.Settled.{Settled}
 use Rattle.numbering.specs.Gather.{before, gather}
 use Rattle.numbering.proofs.Gathered.{gather_ones, gather_same, gather_turn, length_append, read_twice}
-use Rattle.numbering.proofs.Lists.{at_place, get_map}
+use Rattle.numbering.proofs.Lists.{at_place, get_map, from_get_map}
 use Rattle.vspace_layout.specs.FrameNumbers.{AreFirsts, first_of, firsts_from, frames_by, frames_where, is_that, memory_first, memory_firsts, places_of}
 use Rattle.vspace_layout.specs.Frames.{frames_at, memory_before, memory_part, register_frames, register_part, registers_before, shared_frames, shared_part}
 use Rattle.vspace_layout.specs.Memory.{first_to, leads_to, registers}
@@ -41,11 +41,6 @@ before_upto f (x ∷ xs) (suc k) =
     let a = length_append (f 0 x) (gather (λ n y. f (suc n) y) (take k xs)) in
     let b = length_append (f 0 x) (gather (λ n y. f (suc n) y) xs) in
     omega (arith, ih, a, b)
-
-pub from_get_map : {X A : Type 0} (f : X → A) (xs : List X) (k : ℕ) (a : A) → slice_get (map f xs) k ≡ Some a → (x : X) × (slice_get xs k ≡ Some x) × (f x ≡ a)
-from_get_map f [] k a e = cc
-from_get_map f (x ∷ xs) zero a e = (x, refl, cc)
-from_get_map f (x ∷ xs) (suc k) a e = from_get_map f xs k a e
 
 -- what a loop that reads how many there are puts into its list
 pub places_more : {X Y : Type 0} (f : ℕ → X → List Y) (xs : List X) (i : ℕ) (old mid : List Y) → mid ≡ old ++ gather f (take i xs) → length mid ≡ length old + before f xs i

@@ -14,8 +14,9 @@ use Rattle.vspace_layout.specs.declared.mapped.MappedPage.{MappedPage}
 use Rattle.vspace_layout.specs.declared.spaces.FrameInfo.{FrameInfo}
 use Rattle.vspace_layout.specs.FrameNumbers.{own_added}
 use Rattle.vspace_layout.specs.Frames.{own_frame}
-use Rattle.vspace_layout.proofs.Few.{one_each, own_one}
+use Rattle.vspace_layout.proofs.Few.{own_one}
 use Rattle.vspace_layout.proofs.MemoryNumbers.{gather_push}
+use Rattle.numbering.proofs.Lists.{length-gather}
 
 pub map_same : {X : Type 0} (xs : List X) → map (λ x. x) xs ≡ xs
 map_same [] = refl
@@ -24,7 +25,7 @@ map_same (x ∷ xs) = ap (λ z. x ∷ z) (map_same xs)
 -- ---- pages of a domain
 
 pub own_upto : (d : ℕ) (ps : List MappedPage) → length (own_added d ps) ≤ length ps
-own_upto d ps = one_each (λ n (p : MappedPage). own_frame d p.shown) ps (λ n p. own_one d p.shown)
+own_upto d ps = length-gather (λ n (p : MappedPage). own_frame d p.shown) ps (λ n p. own_one d p.shown)
 
 -- how many frames there are before page n of a domain, when those of the pages before it were added
 pub frames_so_far : (d : ℕ) (mapped sofar : List MappedPage) (old frames : List FrameInfo) → sofar ≡ take (length sofar) mapped → frames ≡ old ++ own_added d sofar

@@ -1,10 +1,10 @@
 use Rattle.std.proofs.Common.{◌∙◌, ◌+◌, drop, sym, ap}
 use Rattle.std.specs.List.{flat_map, filter_map}
+use Rattle.cam_base.proofs.Lists.{drop_first}
 use Rattle.adl_meaning.specs.Export.{unled_ends}
 use Rattle.adl_meaning.specs.Faults.{noted}
 use Rattle.adl_meaning.specs.Holding.{held_as, as_connection}
 use Rattle.adl_meaning.specs.Known.{known_in}
-use Rattle.adl_meaning.proofs.Noting.{drop_first}
 use Rattle.adl_names.proofs.exports.note_connections.Goals as goal
 
 pub loop-line-preserved : goal.loop-line-preserved

@@ -1,8 +1,8 @@
 use Rattle.std.proofs.Common.{◌∙◌, ◌+◌, drop, sym, ap}
+use Rattle.cam_base.proofs.Lists.{drop_first}
 use Rattle.adl_meaning.specs.Faults.{noted}
 use Rattle.adl_meaning.specs.Holding.{held_as}
 use Rattle.adl_meaning.specs.Known.{known_in}
-use Rattle.adl_meaning.proofs.Noting.{drop_first}
 use Rattle.adl_names.specs.Bodies.{owner_of}
 use Rattle.adl_names.specs.Misfits.{misfits_from}
 use Rattle.adl_names.proofs.exports.note_exports.Goals as goal

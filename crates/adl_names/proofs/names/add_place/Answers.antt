@@ -1,11 +1,12 @@
 use Rattle.std.proofs.Common.{◌≡◌, ◌∙◌, ◌∷◌, [], sym, ap, cond, Some, None, map, inl, inr, refl}
 use Rattle.std.specs.Str.{bytes_eq}
 use Rattle.std.proofs.lemmas.List.{map-append}
+use Rattle.cam_base.proofs.Options.{is_none}
 use Rattle.indexmap.specs.IndexMap.{get, insert_entry}
 use Rattle.indexmap.proofs.CallerLemmas.{insert_entry-new}
 use Rattle.adl_meaning.specs.Items.{Name}
 use Rattle.adl_meaning.specs.declared.item_at.ItemAt.{ItemAt}
-use Rattle.name_tables.proofs.NameLookups.{none_of, found_put, found_kept}
+use Rattle.name_tables.proofs.NameLookups.{found_put, found_kept}
 use Rattle.adl_names.proofs.names.add_place.Goals as goal
 
 pub returns-in_ok-insert-clause-first : goal.returns-in_ok-insert-clause-first
@@ -15,7 +16,7 @@ returns-in_ok-insert-clause-first c =
 
 pub returns-in_ok-insert-clause-places : goal.returns-in_ok-insert-clause-places
 returns-in_ok-insert-clause-places c =
-    let absent : get bytes_eq c.args.table.now c.args.name.now ≡ None = none_of (get bytes_eq c.args.table.now c.args.name.now) (sym c.contains_key.ensures ∙ c.if-not-contains_key.true) in
+    let absent : get bytes_eq c.args.table.now c.args.name.now ≡ None = is_none (get bytes_eq c.args.table.now c.args.name.now) (sym c.contains_key.ensures ∙ c.if-not-contains_key.true) in
     inr (ap (map (λ (e : Name × ItemAt). e.1)) (c.in_ok-insert.ensures.entries ∙ ap (λ k. insert_entry bytes_eq c.args.table.now.entries k c.args.at) c.in_ok-copy.ensures ∙ insert_entry-new bytes_eq c.args.table.now c.args.name.now c.args.at absent)
     ∙ map-append (λ (e : Name × ItemAt). e.1) c.args.table.now.entries ((c.args.name.now, c.args.at) ∷ []))
 

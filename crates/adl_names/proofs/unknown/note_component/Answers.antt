@@ -1,9 +1,10 @@
 use Rattle.std.proofs.Common.{◌≡◌, ◌∙◌, ◌+◌, ◌∷◌, drop, ap}
 use Rattle.std.specs.List.{filter_map}
+use Rattle.cam_base.proofs.Lists.{drop_first}
 use Rattle.adl_meaning.specs.Known.{known_in, known_of}
 use Rattle.adl_meaning.specs.Members.{as_composition}
 use Rattle.adl_meaning.specs.Unknown.{unknown_in_member, is_procedure}
-use Rattle.adl_meaning.proofs.Noting.{drop_first, noted_each}
+use Rattle.adl_meaning.proofs.Noting.{noted_each}
 use Rattle.adl_names.proofs.unknown.note_component.Goals as goal
 
 pub loop-member-preserved : goal.loop-member-preserved

@@ -1,6 +1,6 @@
 use Rattle.std.proofs.Common.{◌≤◌, ◌∙◌, ℕ, List, length, take_all, ap, sym, Bor}
 use Rattle.std.specs.List.{flat_map}
-use Rattle.cam_io.proofs.Sequence.{together_map}
+use Rattle.cam_base.proofs.Joined.{together_map}
 use Rattle.cam_io.proofs.write.put_together.Goals as goal
 
 pub returns-clause-put : goal.returns-clause-put

@@ -1,7 +1,8 @@
 use Rattle.std.proofs.Common.{◌≡◌, ◌<◌, ℕ, List, [], sym, length, get_or, arith, Bor}
 use Rattle.std.proofs.lemmas.Option.{get_or_from_slice_get, slice_get-get_or}
+use Rattle.cam_base.proofs.Joined.{together_map}
 use Rattle.cam_io.proofs.Lines.{lines_begin, lines_end, lines_fail, lines_step}
-use Rattle.cam_io.proofs.Sequence.{together_map, writes_exit}
+use Rattle.cam_io.proofs.Sequence.{writes_exit}
 use Rattle.cam_io.proofs.write.write_each.Goals as goal
 
 -- a piece that is read with a default is itself the default

@@ -1,6 +1,6 @@
 use Rattle.std.proofs.Common.{◌∙◌, ap, sym, ◌++◌, Bor, List, ℕ, take_all}
 use Rattle.std.specs.List.{flat_map}
-use Rattle.view_text.proofs.Joined.{together_map}
+use Rattle.cam_base.proofs.Joined.{together_map}
 use Rattle.view_text.proofs.texts.add.Goals as goal
 
 pub returns : goal.returns

@@ -3,7 +3,7 @@ use Rattle.std.specs.List.{filter_map}
 use Rattle.std.proofs.lemmas.List.{length-map}
 use Rattle.adl_ast.specs.declared.component.Component.{Component}
 use Rattle.adl_meaning.specs.Items.{as_procedure, as_component, as_assembly, components}
-use Rattle.adl_items.proofs.FewComponents.{few_components}
+use Rattle.adl_meaning.proofs.FewComponents.{few_components}
 use Rattle.adl_items.specs.Located.{located}
 use Rattle.adl_items.proofs.located.SourceItems.of.Goals as goal
 

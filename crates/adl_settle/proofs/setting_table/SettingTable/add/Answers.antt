@@ -1,8 +1,9 @@
 use Rattle.std.proofs.Common.{◌∙◌, sym, ap, is_some}
+use Rattle.cam_base.proofs.Options.{is_none}
 use Rattle.indexmap.proofs.CallerLemmas.{insert_entry-new}
 use Rattle.adl_items.specs.Pointed.{pointed}
 use Rattle.adl_settle.specs.SettingTables.{setting_found}
-use Rattle.adl_settle.proofs.SettingKeys.{keyed, key_there, key_kept, entries_put, none_of}
+use Rattle.adl_settle.proofs.SettingKeys.{keyed, key_there, key_kept, entries_put}
 use Rattle.adl_settle.proofs.setting_table.SettingTable.add.Goals as goal
 
 pub returns-then-contains_key-clause-met : goal.returns-then-contains_key-clause-met
@@ -21,6 +22,6 @@ returns-clause-met c =
 pub returns-clause-found : goal.returns-clause-found
 returns-clause-found c =
     let es = c.args.self.now.entries.entries in
-    let absent = none_of (keyed c.args.key.items es) (sym (c.contains_key.ensures ∙ ap (λ z. is_some (keyed z es)) c.as_slice.ensures.value) ∙ c.if-contains_key.false) in
+    let absent = is_none (keyed c.args.key.items es) (sym (c.contains_key.ensures ∙ ap (λ z. is_some (keyed z es)) c.as_slice.ensures.value) ∙ c.if-contains_key.false) in
     entries_put c.args.self.now.entries.entries c.insert.new.self.entries c.args.key c.args.setting
     (c.in_ok-insert.ensures.entries ∙ insert_entry-new _ c.args.self.now.entries c.args.key c.args.setting absent)

@@ -1,7 +1,8 @@
 use Rattle.std.proofs.Common.{◌∙◌, ◌||◌, sym, ap, is_some}
 use Rattle.std.specs.Str.{bytes_eq}
+use Rattle.cam_base.proofs.Options.{is_some-option_or}
 use Rattle.name_tables.specs.ByName.{is_among}
-use Rattle.name_tables.proofs.NameLookups.{among_found, some_or}
+use Rattle.name_tables.proofs.NameLookups.{among_found}
 use Rattle.name_tables.proofs.by_name.NameSet.put.Goals as goal
 
 pub returns-clause-met : goal.returns-clause-met
@@ -9,5 +10,5 @@ returns-clause-met c = c.in_ok-met.ensures.met ∙ sym (among_found c.self.insid
 
 pub returns-clause-names : goal.returns-clause-names
 returns-clause-names c = λ n.
-    among_found c.put.new.self n ∙ ap is_some (c.in_ok-met.ensures.found n) ∙ some_or _ (bytes_eq n c.args.name.now) _
+    among_found c.put.new.self n ∙ ap is_some (c.in_ok-met.ensures.found n) ∙ is_some-option_or _ (bytes_eq n c.args.name.now) _
     ∙ ap (λ b. b || bytes_eq n c.args.name.now) (sym (among_found c.self.inside.names n) ∙ ap (λ s. is_among s n) c.self.view_is)
