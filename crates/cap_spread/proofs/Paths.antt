@@ -201,11 +201,11 @@ each_of_all P xs i le all x there = let k = contains_at xs x there in let within
 
 -- a way that is there
 
-pub lead_path : (net : Lanes) (c d : ℕ) → LeadsTo net c d → Path net c d
-lead_path net c d l = along l.way l.there (subst (λ (n : ℕ). Path net l.way.to n) l.to at_end)
+pub lead_path : (spec : Spec) (f : Found) (net : Lanes) (c d : ℕ) → AreWays spec f net → LeadsTo net c d → Path net c d
+lead_path spec f net c d A l = along l.way l.there (elim l.to [ inl same ↦ subst (λ (n : ℕ). Path net l.way.to n) same at_end | inr joined ↦ A.joined l.way.to d joined ])
 
 pub lead_connects : (spec : Spec) (f : Found) (net : Lanes) (c d : ℕ) → IsFound spec f → AreWays spec f net → LeadsTo net c d → Connects spec f net c d f net
-lead_connects spec f net c d F A l = record { later = later_same spec f F; ways = A; widens = widens_same net; path = lead_path net c d l; gone = λ done le gone. gone }
+lead_connects spec f net c d F A l = record { later = later_same spec f F; ways = A; widens = widens_same net; path = lead_path spec f net c d A l; gone = λ done le gone. gone }
 
 pub relabelled : (f : Found) (net : Lanes) (classes : List ℕ) (done : ℕ) → HaveGone f net done → HaveGone f (record { out = net.out; classes = classes }) done
 unfolding HaveGone
@@ -224,7 +224,7 @@ module _ (spec : Spec) (f : Found) (net : Lanes) (c d : ℕ) (new : Found) (wide
       subst (λ (n : Lanes). Connects spec f net c d new n) same
       (record {
         later = x.later;
-        ways = merged_ways spec new wide x.ways c d joined.classes m x.path (lead_path wide d c back) (omega arith) (omega arith);
+        ways = merged_ways spec new wide x.ways c d joined.classes m x.path (lead_path spec new wide d c x.ways back) (omega arith) (omega arith);
         widens = record { ways = λ k way there. x.widens.ways k way there };
         path = path_on wide (record { out = wide.out; classes = joined.classes }) (record { ways = λ k way there. there }) c d x.path;
         gone = λ done le gone. relabelled new wide joined.classes done (x.gone done le gone);

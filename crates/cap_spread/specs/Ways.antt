@@ -75,11 +75,11 @@ pub record Merges (old : List ℕ) (c : ℕ) (d : ℕ) (new : List ℕ) : Type 0
 abbrev pub with_way : Lanes → ℕ → Way → Lanes
 with_way net c way = record { out = slice_set net.out c (slice_index_or net.out c [] ++ way ∷ []); classes = net.classes }
 
--- a way leads from c to d
+-- a way leads from c to d, or to one of its class
 pub record LeadsTo (net : Lanes) (c : ℕ) (d : ℕ) : Type 0 where
   pub way : Way
   pub there : Contains (ways_from net c) way
-  pub to : way.to ≡ d
+  pub to : (way.to ≡ d) ⊎ InClass net way.to d
 
 -- nothing changed, or a way leads back and the class of d is now the class of c
 abbrev pub JoinsBack : Lanes → ℕ → ℕ → Lanes → Type 0

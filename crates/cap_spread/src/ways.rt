@@ -147,12 +147,12 @@ impl Net {
         }
     }
 
-    /// Whether a way leads from the one to the other.
-    fn has_way(&self, c: u32, d: u32) -> bool
+    /// Whether a way leads from the one to the other, or to one that is joined with it.
+    fn leads_to(&self, c: u32, d: u32) -> bool
         ensures { IsTrue result → LeadsTo self.now c d }
     {
         for way in self.ways(c) {
-            if way.to == d {
+            if way.to == d || self.are_joined(way.to, d) {
                 return true;
             }
         }
@@ -165,7 +165,7 @@ impl Net {
         requires other { d < length self.old.classes }
         ensures { JoinsBack self.old c d self.new }
     {
-        if self.has_way(d, c) {
+        if self.leads_to(d, c) {
             self.join(c, d);
             return;
         }
@@ -251,7 +251,7 @@ pub fn connect(
     if web.net.are_joined(from, way.to) {
         return Ok(());
     }
-    if web.net.has_way(from, way.to) {
+    if web.net.leads_to(from, way.to) {
         return Ok(());
     }
     let helds = web.findings.held_copy(alloc, from)?;

@@ -4,9 +4,9 @@ use Rattle.cap_spread.specs.declared.found.Held.{Held}
 use Rattle.cap_spread.proofs.Paths.{way_connects, lead_connects, connects_back, end_below}
 use Rattle.cap_spread.proofs.ways.connect.Goals as goal
 
-pub returns-then-has_way : goal.returns-then-has_way
-returns-then-has_way c =
-    lead_connects c.args.spec.now c.args.web.now.findings c.args.web.now.net c.args.from c.args.way.to c.requires.found c.requires.ways (c.has_way.ensures c.if-has_way.true)
+pub returns-then-leads_to : goal.returns-then-leads_to
+returns-then-leads_to c =
+    lead_connects c.args.spec.now c.args.web.now.findings c.args.web.now.net c.args.from c.args.way.to c.requires.found c.requires.ways (c.leads_to.ensures c.if-leads_to.true)
 
 pub join_back-requires-clause-one : goal.join_back-requires-clause-one
 join_back-requires-clause-one c =
