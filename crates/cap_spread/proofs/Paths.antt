@@ -13,7 +13,7 @@ use Rattle.cap_machine.proofs.Applied.{read_written}
 use Rattle.cap_spread.proofs.Bringing.{none_within, end_cnode}
 use Rattle.cap_model.specs.declared.kind.Kind.TheVariants as kinds
 use Rattle.cap_spread.specs.Search.{Found, held_by, is_known, HoldsAt, Leads, IsWay, IsFound, Grows, Brings}
-use Rattle.cap_spread.specs.Ways.{Lanes, ways_from, Path, at_end, along, InClass, AreWays, Widens, HaveGone, Later, AllGo, Connects, Merges, with_way, LeadsTo, JoinsBack}
+use Rattle.cap_spread.specs.Ways.{Lanes, ways_from, Path, at_end, along, InClass, AreWays, Widens, HaveGone, Later, AllGo, Connects, Merges, with_way, Near, LeadsTo, Unites, JoinsBack}
 use Rattle.cap_spread.specs.declared.found.Course.{Course}
 use Rattle.cap_spread.specs.declared.found.Course.TheVariants as courses
 use Rattle.cap_spread.specs.declared.found.Held.{Held}
@@ -201,8 +201,14 @@ each_of_all P xs i le all x there = let k = contains_at xs x there in let within
 
 -- a way that is there
 
+near_path : (spec : Spec) (f : Found) (net : Lanes) (c d : ℕ) → AreWays spec f net → Near net c d → Path net c d
+near_path spec f net c d A (inl same) = subst (λ (n : ℕ). Path net c n) same at_end
+near_path spec f net c d A (inr joined) = A.joined c d joined
+
 pub lead_path : (spec : Spec) (f : Found) (net : Lanes) (c d : ℕ) → AreWays spec f net → LeadsTo net c d → Path net c d
-lead_path spec f net c d A l = along l.way l.there (elim l.to [ inl same ↦ subst (λ (n : ℕ). Path net l.way.to n) same at_end | inr joined ↦ A.joined l.way.to d joined ])
+lead_path spec f net c d A l =
+    let way = l.has.way in
+    path_then net c l.by d (near_path spec f net c l.by A l.from) (along way l.has.there (near_path spec f net way.to d A l.has.to))
 
 pub lead_connects : (spec : Spec) (f : Found) (net : Lanes) (c d : ℕ) → IsFound spec f → AreWays spec f net → LeadsTo net c d → Connects spec f net c d f net
 lead_connects spec f net c d F A l = record { later = later_same spec f F; ways = A; widens = widens_same net; path = lead_path spec f net c d A l; gone = λ done le gone. gone }
@@ -216,15 +222,19 @@ end_below spec f c way F leads = is_at_below spec kinds.CNode way.to (end_cnode 
 
 -- the ends of a new way are one class where a way led back
 module _ (spec : Spec) (f : Found) (net : Lanes) (c d : ℕ) (new : Found) (wide joined : Lanes) (x : Connects spec f net c d new wide) (c_less : c < length spec.entries) (d_less : d < length spec.entries) where
-  joined_both : LeadsTo wide d c → joined.out ≡ wide.out → Merges wide.classes c d joined.classes → Connects spec f net c d new joined
-  joined_both back out m =
+  joined_both : LeadsTo wide d c → joined.out ≡ wide.out → Unites wide.classes c d joined.classes → Connects spec f net c d new joined
+  joined_both back out u =
       let many = x.ways.as_many_classes in
+      let to_back = lead_path spec new wide d c x.ways back in
       let renamed : Lanes = record { out = wide.out; classes = joined.classes } in
       let same : renamed ≡ joined = ap (λ (o : List (List Way)). record { out = o; classes = joined.classes }) (sym out) in
       subst (λ (n : Lanes). Connects spec f net c d new n) same
       (record {
         later = x.later;
-        ways = merged_ways spec new wide x.ways c d joined.classes m x.path (lead_path spec new wide d c x.ways back) (omega arith) (omega arith);
+        ways = elim u [
+          | inl m ↦ merged_ways spec new wide x.ways c d joined.classes m x.path to_back (omega arith) (omega arith)
+          | inr m ↦ merged_ways spec new wide x.ways d c joined.classes m to_back x.path (omega arith) (omega arith)
+        ];
         widens = record { ways = λ k way there. x.widens.ways k way there };
         path = path_on wide (record { out = wide.out; classes = joined.classes }) (record { ways = λ k way there. there }) c d x.path;
         gone = λ done le gone. relabelled new wide joined.classes done (x.gone done le gone);
@@ -232,4 +242,4 @@ module _ (spec : Spec) (f : Found) (net : Lanes) (c d : ℕ) (new : Found) (wide
 
   pub connects_back : JoinsBack wide c d joined → Connects spec f net c d new joined
   connects_back (inl same) = subst (λ (n : Lanes). Connects spec f net c d new n) (sym same) x
-  connects_back (inr (back, out, m)) = joined_both back out m
+  connects_back (inr (back, out, u)) = joined_both back out u

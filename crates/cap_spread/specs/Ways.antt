@@ -75,12 +75,26 @@ pub record Merges (old : List ℕ) (c : ℕ) (d : ℕ) (new : List ℕ) : Type 0
 abbrev pub with_way : Lanes → ℕ → Way → Lanes
 with_way net c way = record { out = slice_set net.out c (slice_index_or net.out c [] ++ way ∷ []); classes = net.classes }
 
--- a way leads from c to d, or to one of its class
-pub record LeadsTo (net : Lanes) (c : ℕ) (d : ℕ) : Type 0 where
+-- one of the classes is now the other
+abbrev pub Unites : List ℕ → ℕ → ℕ → List ℕ → Type 0
+Unites old c d new = Merges old c d new ⊎ Merges old d c new
+
+-- both are the same or in one class
+abbrev pub Near : Lanes → ℕ → ℕ → Type 0
+Near net c d = (c ≡ d) ⊎ InClass net c d
+
+-- a way leads from c near to d
+pub record HasWay (net : Lanes) (c : ℕ) (d : ℕ) : Type 0 where
   pub way : Way
   pub there : Contains (ways_from net c) way
-  pub to : (way.to ≡ d) ⊎ InClass net way.to d
+  pub to : Near net way.to d
 
--- nothing changed, or a way leads back and the class of d is now the class of c
+-- a way leads from near c to near d
+pub record LeadsTo (net : Lanes) (c : ℕ) (d : ℕ) : Type 0 where
+  pub by : ℕ
+  pub from : Near net c by
+  pub has : HasWay net by d
+
+-- nothing changed, or a way leads back and both classes are now one
 abbrev pub JoinsBack : Lanes → ℕ → ℕ → Lanes → Type 0
-JoinsBack old c d new = (new ≡ old) ⊎ (LeadsTo old d c × (new.out ≡ old.out) × Merges old.classes c d new.classes)
+JoinsBack old c d new = (new ≡ old) ⊎ (LeadsTo old d c × (new.out ≡ old.out) × Unites old.classes c d new.classes)

@@ -2,7 +2,7 @@
 
 ghost use Rattle.cap_spread.specs.Search.{held_by, IsFound, IsWay};
 ghost use Rattle.cap_spread.specs.Start.{repeated, IsCounted};
-ghost use Rattle.cap_spread.specs.Ways.{ways_from, with_way, InClass, AreWays, GoesAlong, AllGo, Connects, JoinsBack, LeadsTo, Merges};
+ghost use Rattle.cap_spread.specs.Ways.{ways_from, with_way, InClass, AreWays, GoesAlong, AllGo, Connects, HasWay, JoinsBack, LeadsTo, Merges, Unites};
 ghost use Rattle.cap_spread.specs.declared.found.Held.{Held};
 ghost use Rattle.cap_spread.specs.declared.found.Way.{Way};
 ghost use Rattle.std.specs.List.{Contains};
@@ -148,8 +148,8 @@ impl Net {
     }
 
     /// Whether a way leads from the one to the other, or to one that is joined with it.
-    fn leads_to(&self, c: u32, d: u32) -> bool
-        ensures { IsTrue result → LeadsTo self.now c d }
+    fn has_way(&self, c: u32, d: u32) -> bool
+        ensures { IsTrue result → HasWay self.now c d }
     {
         for way in self.ways(c) {
             if way.to == d || self.are_joined(way.to, d) {
@@ -159,14 +159,49 @@ impl Net {
         false
     }
 
-    /// Says that both are joined in both directions, where a way leads back.
+    /// The object after which the class of another is named.
+    fn head(&self, c: u32) -> u32
+        ensures { result ≡ slice_index_or self.now.classes c c }
+    {
+        match self.classes.get(c as usize) {
+            Some(head) => *head,
+            None => c,
+        }
+    }
+
+    /// Whether a way leads there from the one or from the head of its class.
+    fn leads_to(&self, c: u32, d: u32) -> bool
+        ensures { IsTrue result → LeadsTo self.now c d }
+    {
+        if self.has_way(c, d) {
+            return true;
+        }
+        let head = self.head(c);
+        self.are_joined(c, head) && self.has_way(head, d)
+    }
+
+    /// Says that both are joined in both directions, under the head of the one with more ways.
+    fn unite(&mut self, c: u32, d: u32)
+        requires one { c < length self.old.classes }
+        requires other { d < length self.old.classes }
+        ensures out { self.new.out ≡ self.old.out }
+        ensures classes { Unites self.old.classes c d self.new.classes }
+    {
+        if self.ways(c).len() < self.ways(d).len() {
+            self.join(d, c);
+        } else {
+            self.join(c, d);
+        }
+    }
+
+    /// The same, where a way leads back.
     fn join_back(&mut self, c: u32, d: u32)
         requires one { c < length self.old.classes }
         requires other { d < length self.old.classes }
         ensures { JoinsBack self.old c d self.new }
     {
         if self.leads_to(d, c) {
-            self.join(c, d);
+            self.unite(c, d);
             return;
         }
     }
