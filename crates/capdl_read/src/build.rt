@@ -8,13 +8,13 @@ ghost use Rattle.std.specs.Option.{option_copied, option_map};
 ghost use Rattle.std.specs.Prelude.{◌≡◌, ℕ, [], map, slice_get, Some as Present, OnOk, IfOk, IfSome};
 
 use crate::held::Slot;
-use crate::names::Names;
 use crate::rising::is_above;
 use cam_base::{List, Name, NoMemory, Text};
 use cap_model::{Cap, Entry, Fill, Object, Tcb};
 use capdl_text::{
     FillLine, FrameField, FrameValue, KindLine, ObjectLine, SlotKey, ThreadField, ThreadValue,
 };
+use spread_names::Names;
 use std::alloc::Global;
 use std::collections::BTreeMap;
 

@@ -2,7 +2,7 @@
 //! what it holds.
 
 ghost use Rattle.capdl_read.specs.Building.{slot_said, slots_or, slots_told};
-ghost use Rattle.capdl_read.specs.Naming.{spread_found};
+ghost use Rattle.spread_names.specs.Naming.{spread_found};
 ghost use Rattle.capdl_text.specs.Faults.{noted};
 ghost use Rattle.capdl_text.specs.KindField.{irq_off, kind_fields, off_in, slot_off};
 ghost use Rattle.capdl_text.specs.Meaning.{badge_said, cap_said, held, lines_from, place_or, rights_said};
@@ -14,11 +14,11 @@ ghost use Rattle.std.specs.Prelude.{◌≡◌, ◌<◌, ◌^◌, ℕ, [], List a
 use crate::first::First;
 use crate::kind::{Named, note_holder_kind, note_irq, note_objects, note_slot};
 use crate::known::find;
-use crate::names::{Names, SpreadNames};
 use crate::unknown::note_unknown;
 use cam_base::{List, NoMemory};
 use cap_model::{Arch, Cap, Rights};
 use capdl_text::{Holder, Id, IrqLine, Known, Param, SlotKey, SlotLine, SpecTree};
+use spread_names::{Names, SpreadNames};
 use std::alloc::Global;
 use std::collections::BTreeMap;
 

@@ -13,7 +13,6 @@ mod held;
 mod kind;
 mod known;
 mod limit;
-mod names;
 mod range;
 mod reader;
 mod rising;

@@ -10,7 +10,6 @@ ghost use Rattle.std.specs.Option.{option_or};
 ghost use Rattle.std.specs.Prelude.{◌≡◌, ◌||◌, ◌∷◌, ℕ, [], None, List as Seq, is_some, map, OnOk};
 
 use crate::first::First;
-use crate::names::Names;
 use crate::rising::rise;
 use cam_base::{NoMemory, TextCode};
 use capdl_lexer::Span;
@@ -19,6 +18,7 @@ use capdl_text::{
     SpecTree, ThreadField, ThreadValue,
 };
 use name_tables::KeySet;
+use spread_names::Names;
 use std::alloc::Global;
 
 /// Takes the next name with its value, or notes that it was met before.

@@ -1,34 +1,19 @@
 -- A table of the labels of objects that is filled line by line, and the labels of a spec's objects.
-use Rattle.std.proofs.Common.{◌≡◌, ◌∙◌, ap, sym, refl, ℕ, ◌+◌, ◌<◌, Bool, true, false, cond, List, ◌∷◌, Option, Some, None, length, drop, get_or, is_some, true≢false, Result, Ok, Err, subst}
+use Rattle.std.proofs.Common.{◌≡◌, ◌∙◌, ap, sym, refl, ℕ, ◌+◌, ◌<◌, Bool, true, false, cond, List, ◌∷◌, Option, Some, None, length, drop, get_or, Result, Ok, Err, subst}
 use mathlib.Core.Path.{fun_ext}
-use Rattle.std.specs.Map.{update}
 use Rattle.std.specs.Option.{option_or}
 use Rattle.std.specs.Str.{bytes_eq}
 use Rattle.std.proofs.lemmas.List.{at_drop_more}
-use Rattle.std.proofs.lemmas.Slice.Eq.{bytes_eq-Decides}
 use Rattle.std.specs.Result.{IsErrAnd}
 use Rattle.auth_kinds.specs.declared.object_labels.Labels.{Labels}
 use Rattle.auth_kinds.specs.declared.policy.Policy.{Policy}
 use Rattle.cam_base.specs.declared.error.Refused.{Refused}
 use Rattle.cam_base.specs.declared.text_fault.TextFault.{TextFault}
-use Rattle.cam_base.proofs.Options.{option_or-none, option_or-cond}
+use Rattle.cam_base.proofs.Options.{option_or-cond}
 use Rattle.cap_model.specs.declared.spec.Entry.{Entry}
 use Rattle.cap_model.specs.declared.spec.Spec.{Spec}
 use Rattle.policy_text.specs.Labelled.{object_label, unlabelled, first_unlabelled, IsLabelling}
 use Rattle.policy_text.specs.PolicyTexts.{IsFault}
-
--- what a table finds after the insertion of a key that was not there
-pub inserted_label : (f g : List ℕ → Option ℕ) (key : List ℕ) (x : ℕ) → is_some (f key) ≡ false
-    → ((name : List ℕ) → g name ≡ update bytes_eq f key (Some x) name) → (name : List ℕ) → g name ≡ option_or (f name) (cond (bytes_eq key name) (Some x) None)
-inserted_label f g key x absent updates name = go (bytes_eq key name) refl
-  where
-    none_or : (o : Option ℕ) → is_some o ≡ false → Some x ≡ option_or o (Some x)
-    none_or None e = refl
-    none_or (Some y) e = absurd (true≢false e)
-
-    go : (a : Bool) → bytes_eq key name ≡ a → g name ≡ option_or (f name) (cond (bytes_eq key name) (Some x) None)
-    go true e = updates name ∙ rw e (none_or (f name) (ap (λ k. is_some (f k)) (sym ((bytes_eq-Decides key name).0 e)) ∙ absent))
-    go false e = updates name ∙ rw e (option_or-none (f name))
 
 first_label : (o : List ℕ × ℕ) (more : List (List ℕ × ℕ)) (name : List ℕ) → object_label (o ∷ more) name ≡ cond (bytes_eq o.0 name) (Some o.1) (object_label more name)
 first_label o more name = go (bytes_eq o.0 name) refl
@@ -60,10 +45,9 @@ unlabelled_at label entries i entry lt is none so_far =
     ∙ ap (λ (e : Entry). first_unlabelled label (e ∷ drop (i + 1) entries)) (sym is) ∙ first_without label entry (drop (i + 1) entries) none
 
 -- the refusal of the first object without a label
-pub labelling_fails : (spec : Spec) (policy : Policy) (label : List ℕ → Option ℕ) (entry : Entry) (answer : Result Labels (Refused TextFault)) (r : Refused TextFault)
-    → ((name : List ℕ) → label name ≡ object_label policy.objects name) → first_unlabelled label spec.entries ≡ Some (unlabelled entry) → IsErrAnd answer (λ other. other ≡ r)
-    → IsFault (Some (unlabelled entry)) r → IsLabelling spec policy answer
-labelling_fails spec policy label entry (Ok x) r same first is h = absurd is
-labelling_fails spec policy label entry (Err other) r same first is h =
-    let fault : first_unlabelled (object_label policy.objects) spec.entries ≡ Some (unlabelled entry) = ap (λ (f : List ℕ → Option ℕ). first_unlabelled f spec.entries) (sym (fun_ext same)) ∙ first in
-    subst (λ (o : Option TextFault). IsFault o other) (sym fault) (subst (λ (e : Refused TextFault). IsFault (Some (unlabelled entry)) e) (sym is) h)
+pub labelling_fails : (spec : Spec) (policy : Policy) (label : List ℕ → Option ℕ) (answer : Result Labels (Refused TextFault)) (r : Refused TextFault)
+    → ((name : List ℕ) → label name ≡ object_label policy.objects name) → IsErrAnd answer (λ other. other ≡ r) → IsFault (first_unlabelled label spec.entries) r → IsLabelling spec policy answer
+labelling_fails spec policy label (Ok x) r same is h = absurd is
+labelling_fails spec policy label (Err other) r same is h =
+    subst (λ (o : Option TextFault). IsFault o other) (ap (λ (f : List ℕ → Option ℕ). first_unlabelled f spec.entries) (fun_ext same))
+    (subst (λ (e : Refused TextFault). IsFault (first_unlabelled label spec.entries) e) (sym is) h)

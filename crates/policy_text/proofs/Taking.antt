@@ -9,7 +9,7 @@ use Rattle.cam_base.specs.declared.error.NoMemory.{NoMemory}
 use Rattle.policy_text.specs.Entries.{Number, Entry, label, object, edge}
 use Rattle.policy_text.specs.LinesSeen.{HasEdges, HasFewEdges, HasRoom, IsSeen, Takes}
 use Rattle.policy_text.specs.PolicyFaults.{Told, gives, names_label, labels_object, says_edge, is_edge, is_label, is_object, is_new_edge, new_edges, edges_limit, wrong_entry}
-use Rattle.policy_text.specs.WordSets.{has, words_len, IsAdded}
+use Rattle.policy_text.specs.WordSets.{has, IsAdded}
 use Rattle.policy_text.specs.declared.seen.Seen.{Seen}
 use Rattle.policy_text.specs.declared.words.Words.{Words}
 use Rattle.policy_text.proofs.Before.{any_more, count_more, edges_more, one_if}
@@ -43,13 +43,13 @@ kept : (p : List ℕ → Told → Bool) (before : List Told) (t : Told) (set : W
 kept p before t set apart so_far other = so_far other ∙ ap (λ b. b || list_any (p other) before) (sym (apart other)) ∙ sym (any_more (p other) before t)
 
 counted : (p : Told → Bool) (before : List Told) (t : Told) (word : List ℕ) (old new : Words) → p t ≡ true → has old word ≡ false → IsAdded word old new
-    → words_len old ≡ count_by p before → words_len new ≡ count_by p (before ++ t ∷ [])
+    → old.len ≡ count_by p before → new.len ≡ count_by p (before ++ t ∷ [])
 counted p before t word old new is fresh added so_far =
     let one : ◌≡◌ {A = ℕ} (cond (has old word) 0 1) 1 = ap (λ (b : Bool). cond b 0 1) fresh in
     let more : ◌≡◌ {A = ℕ} (cond (p t) 1 0) 1 = ap (λ (b : Bool). cond b 1 0) is in
     omega (arith, one, more, added.len, so_far, count_more p before t)
 
-uncounted : (p : Told → Bool) (before : List Told) (t : Told) (set : Words) → p t ≡ false → words_len set ≡ count_by p before → words_len set ≡ count_by p (before ++ t ∷ [])
+uncounted : (p : Told → Bool) (before : List Told) (t : Told) (set : Words) → p t ≡ false → set.len ≡ count_by p before → set.len ≡ count_by p (before ++ t ∷ [])
 uncounted p before t set is so_far = let more : ◌≡◌ {A = ℕ} (cond (p t) 1 0) 0 = ap (λ (b : Bool). cond b 1 0) is in omega (arith, more, so_far, count_more p before t)
 
 -- a line that says no edge

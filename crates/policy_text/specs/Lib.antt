@@ -4,7 +4,6 @@ pub mod KnownNumbers
 pub mod Labelled
 pub mod LinesSeen
 pub mod Numbers
-pub mod ObjectTables
 pub mod PartsBuilt
 pub mod PolicyFaults
 pub mod PolicyLines

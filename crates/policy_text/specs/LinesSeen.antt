@@ -9,7 +9,7 @@ use Rattle.cam_base.specs.declared.text_fault.TextFault.{TextFault}
 use Rattle.policy_text.specs.Entries.{Number, Entry}
 use Rattle.policy_text.specs.PolicyFaults.{Told, gives, names_label, labels_object, says_edge, is_edge, is_label, is_object, new_edges, edges_limit, wrong_entry, fault_at}
 use Rattle.policy_text.specs.PolicyTexts.{IsFault}
-use Rattle.policy_text.specs.WordSets.{has, words_len}
+use Rattle.policy_text.specs.WordSets.{has}
 use Rattle.policy_text.specs.declared.seen.Seen.{Seen}
 use Rattle.policy_text.specs.declared.words.Words.{Words}
 use Rattle.text_lines.specs.LineFaults.{Wrong}
@@ -26,7 +26,7 @@ HasRoom lines = count_by (λ t. is_edge t.1) lines < edges_limit
 -- the set has these lines' edges, each once
 pub record HasEdges (before : List Told) (edges : Words) : Type 0 where
   pub each : (text : List ℕ) → has edges text ≡ list_any (says_edge text) before
-  pub len : words_len edges ≡ new_edges [] before
+  pub len : edges.len ≡ new_edges [] before
 
 -- what these lines have said; the edges only where they are kept
 pub record IsSeen (seen : Seen) (before : List Told) : Type 0 where
@@ -34,8 +34,8 @@ pub record IsSeen (seen : Seen) (before : List Told) : Type 0 where
   pub names : (name : List ℕ) → has seen.names name ≡ list_any (λ t. names_label name t.1) before
   pub objects : (word : List ℕ) → has seen.objects word ≡ list_any (λ t. labels_object word t.1) before
   pub edges : IfSome seen.edges (HasEdges before)
-  pub labels_len : words_len seen.numbers ≡ count_by (λ t. is_label t.1) before
-  pub objects_len : words_len seen.objects ≡ count_by (λ t. is_object t.1) before
+  pub labels_len : seen.numbers.len ≡ count_by (λ t. is_label t.1) before
+  pub objects_len : seen.objects.len ≡ count_by (λ t. is_object t.1) before
 
 -- what was kept of some lines is kept of one line more, which says an entry with which nothing is wrong
 abbrev pub Takes : Entry → List ℕ → Seen → Seen → Type 0

@@ -30,9 +30,9 @@ pub enum Known<'a> {
     },
 }
 
-impl Known<'_> {
+impl<'a> Known<'a> {
     /// Whether the number has a label. Takes no memory.
-    pub fn has(&self, number: Digits) -> bool
+    pub fn has(&self, number: Digits<'a>) -> bool
         requires { IsRight self.now }
         ensures { result ≡ knows self.now number.entry.text.now }
     {

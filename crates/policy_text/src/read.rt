@@ -136,11 +136,11 @@ fn note_line<'a>(
 }
 
 /// Finds the first line with which something is wrong. Where there are few edge lines, none of them is past the limit.
-fn check_lines(
+fn check_lines<'a>(
     alloc: Global,
-    known: &Known,
+    known: &Known<'a>,
     few: bool,
-    lines: &[EntryLine],
+    lines: &[EntryLine<'a>],
 ) -> Result<(), Refused<TextFault>>
     requires known { IsRight known.now }
     requires few { few ≡ true → HasFewEdges (told_lines lines.now) }

@@ -59,7 +59,7 @@ impl<'a> Seen<'a> {
     pub fn read_line(
         &mut self,
         alloc: Global,
-        known: &Known,
+        known: &Known<'a>,
         told: EntryLine<'a>,
     ) -> Result<(), Refused<TextFault>>
         requires { IsRight known.now }
@@ -76,7 +76,12 @@ impl<'a> Seen<'a> {
     }
 
     /// What is wrong with the entry of a line: the least code, and the name that its fault speaks of.
-    fn wrong(&self, known: &Known, text: &'a [u8], entry: Entry<'a>) -> Option<(TextCode, &'a [u8])>
+    fn wrong(
+        &self,
+        known: &Known<'a>,
+        text: &'a [u8],
+        entry: Entry<'a>,
+    ) -> Option<(TextCode, &'a [u8])>
         requires { IsRight known.now }
         ensures { (before : List Told) (line : SpecLine) → line.text ≡ text.entry.now → IsSeen self.now before
             → (is_none self.now.edges ≡ true → HasFewEdges (before ++ (line, meant entry.entry) ∷ []))
@@ -89,13 +94,13 @@ impl<'a> Seen<'a> {
         }
     }
 
-    fn wrong_label(&self, number: Digits<'a>, name: &[u8]) -> Option<(TextCode, &'a [u8])>
+    fn wrong_label(&self, number: Digits<'a>, name: &'a [u8]) -> Option<(TextCode, &'a [u8])>
         ensures { (before : List Told) (knows : Number → Bool) (line : SpecLine) → IsSeen self.now before
             → what result ≡ wrong_entry knows before line (label number.entry.text.now name.now) }
     {
         if self.numbers.has(number.text) || self.names.has(name) {
             Some((TextCode::LabelTwice, number.text))
-        } else if is_past(number.text) || self.numbers.len() >= MAX_LABELS {
+        } else if is_past(number.text) || self.numbers.len >= MAX_LABELS {
             Some((TextCode::PolicyLimit, b""))
         } else {
             None
@@ -104,7 +109,7 @@ impl<'a> Seen<'a> {
 
     fn wrong_object(
         &self,
-        known: &Known,
+        known: &Known<'a>,
         word: &'a [u8],
         number: Digits<'a>,
     ) -> Option<(TextCode, &'a [u8])>
@@ -116,7 +121,7 @@ impl<'a> Seen<'a> {
             Some((TextCode::UnknownLabel, number.text))
         } else if self.objects.has(word) {
             Some((TextCode::ObjectTwice, word))
-        } else if word.len() > MAX_WORD || self.objects.len() >= MAX_OBJECTS {
+        } else if word.len() > MAX_WORD || self.objects.len >= MAX_OBJECTS {
             Some((TextCode::PolicyLimit, b""))
         } else {
             None
@@ -125,8 +130,8 @@ impl<'a> Seen<'a> {
 
     fn wrong_edge(
         &self,
-        known: &Known,
-        text: &[u8],
+        known: &Known<'a>,
+        text: &'a [u8],
         from: Digits<'a>,
         to: Digits<'a>,
     ) -> Option<(TextCode, &'a [u8])>
@@ -147,12 +152,12 @@ impl<'a> Seen<'a> {
     }
 
     /// Whether the line says a new edge, behind the most different ones.
-    fn is_past_edges(&self, text: &[u8]) -> bool
+    fn is_past_edges(&self, text: &'a [u8]) -> bool
         ensures { (before : List Told) → IsSeen self.now before → (is_none self.now.edges ≡ true → HasRoom before)
             → result ≡ (not (list_any (says_edge text.now) before) && nat_le edges_limit (new_edges [] before)) }
     {
         match &self.edges {
-            Some(edges) => edges.len() >= MAX_EDGES && !edges.has(text),
+            Some(edges) => edges.len >= MAX_EDGES && !edges.has(text),
             None => false,
         }
     }

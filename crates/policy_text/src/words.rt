@@ -1,48 +1,49 @@
 //! Sets of words that stand in a text.
 
-ghost use Rattle.policy_text.specs.WordSets.{has, words_len, IsAdded};
+ghost use Rattle.policy_text.specs.WordSets.{has, IsAdded};
 ghost use Rattle.std.specs.Prelude.{◌≡◌, ◌+◌, ◌||◌, false, List, ℕ, OnOk};
 
 use cam_base::NoMemory;
+use spread_names::Names;
 use std::alloc::Global;
-use std::collections::BTreeMap;
 
-/// Words of a text, each once.
+/// Words of a text, each once, and how many there are.
 #[derive(Drop)]
 pub struct Words<'a> {
-    pub words: BTreeMap<&'a [u8], ()>,
+    pub words: Names<'a, ()>,
+    pub len: usize,
 }
 
 impl<'a> Words<'a> {
     /// The set without words. Takes no memory.
     pub fn new(alloc: Global) -> Words<'a>
         ensures none { (word : List ℕ) → has result word ≡ false }
-        ensures len { words_len result ≡ 0 }
+        ensures len { result.len ≡ 0 }
     {
         Words {
-            words: BTreeMap::new(alloc),
+            words: Names::new(alloc),
+            len: 0,
         }
     }
 
     /// Whether the word is in the set. Takes no memory.
-    pub fn has(&self, word: &[u8]) -> bool
+    pub fn has(&self, word: &'a [u8]) -> bool
         ensures { result ≡ has self.now word.now }
     {
-        self.words.contains_key(word)
-    }
-
-    /// The number of words. Takes no memory.
-    pub fn len(&self) -> usize
-        ensures { result ≡ words_len self.now }
-    {
-        self.words.len()
+        self.words.get(word).is_some()
     }
 
     /// Puts the word into the set.
     pub fn add(&mut self, word: &'a [u8]) -> Result<(), NoMemory>
         ensures { OnOk result (IsAdded word.entry.now self.old self.new) }
     {
-        self.words.insert(word, ())?;
+        let more = match self.len.checked_add(1) {
+            Some(more) => more,
+            None => return Err(NoMemory),
+        };
+        if !self.words.add(word, ())? {
+            self.len = more;
+        }
         Ok(())
     }
 }

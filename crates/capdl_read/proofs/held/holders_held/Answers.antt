@@ -5,7 +5,7 @@ use Rattle.capdl_text.proofs.Noting.{noted_each}
 use Rattle.name_tables.specs.ByName.{found}
 use Rattle.capdl_read.specs.Building.{slot_said}
 use Rattle.capdl_read.proofs.Tables.{slots_put}
-use Rattle.capdl_read.specs.Naming.{spread_found}
+use Rattle.spread_names.specs.Naming.{spread_found}
 use Rattle.capdl_read.proofs.held.holders_held.Goals as goal
 
 pub loop-holder-preserved : goal.loop-holder-preserved

@@ -6,7 +6,7 @@ use Rattle.capdl_text.specs.Meaning.{held}
 use Rattle.capdl_text.specs.Unknown.{unknown_in}
 use Rattle.name_tables.specs.ByName.{found}
 use Rattle.capdl_read.specs.Building.{slot_said, slots_or}
-use Rattle.capdl_read.specs.Naming.{spread_found}
+use Rattle.spread_names.specs.Naming.{spread_found}
 use Rattle.capdl_read.proofs.held.holders_held.Given as goal
 
 abbrev pub invariant-loop-holder : goal.invariant-loop-holder

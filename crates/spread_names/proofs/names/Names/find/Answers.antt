@@ -1,7 +1,7 @@
 use Rattle.std.proofs.Common.{◌∙◌, ap}
 use Rattle.name_tables.specs.ByName.{found}
-use Rattle.capdl_read.proofs.Ordered.{fits, found_entry}
-use Rattle.capdl_read.proofs.names.Names.find.Goals as goal
+use Rattle.spread_names.proofs.Ordered.{fits, found_entry}
+use Rattle.spread_names.proofs.names.Names.find.Goals as goal
 
 pub returns : goal.returns
 returns g c =

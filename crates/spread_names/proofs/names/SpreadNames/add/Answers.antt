@@ -1,8 +1,8 @@
 use Rattle.std.proofs.Common.{◌∙◌, []}
 use Rattle.std.proofs.lemmas.List.{get_or_read_under}
 use Rattle.std.proofs.lemmas.Result.{on_ok_weaker}
-use Rattle.capdl_read.proofs.Spread.{spread_add}
-use Rattle.capdl_read.proofs.names.SpreadNames.add.Goals as goal
+use Rattle.spread_names.proofs.Spread.{spread_add}
+use Rattle.spread_names.proofs.names.SpreadNames.add.Goals as goal
 
 pub returns-clause-found : goal.returns-clause-found
 returns-clause-found g c =

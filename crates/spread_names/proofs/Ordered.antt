@@ -17,7 +17,7 @@ use Rattle.std.proofs.lemmas.Map.Text.{is_eq-slice_cmp}
 use Rattle.std.proofs.lemmas.Slice.Eq.{bytes_eq-Decides}
 use Rattle.name_tables.specs.ByName.{Name, found}
 use Rattle.name_tables.proofs.NameLookups.{found_kept, found_put}
-use Rattle.capdl_read.specs.Naming.{Key, digest, is_digested, are_digested}
+use Rattle.spread_names.specs.Naming.{Key, digest, is_digested, are_digested}
 
 abbrev key : Name → Key
 key n = (digest n, record { ref_ptr = (0, 0); now = n })

@@ -1,7 +1,7 @@
 use Rattle.std.proofs.Common.{◌∙◌, ap, sym, is_some}
-use Rattle.capdl_read.specs.Naming.{are_digested}
-use Rattle.capdl_read.proofs.Ordered.{digested_put, entry_back, entry_put, fits, was_found}
-use Rattle.capdl_read.proofs.names.Names.put.Goals as goal
+use Rattle.spread_names.specs.Naming.{are_digested}
+use Rattle.spread_names.proofs.Ordered.{digested_put, entry_back, entry_put, fits, was_found}
+use Rattle.spread_names.proofs.names.Names.put.Goals as goal
 
 pub invariant_of-self-in-None : goal.invariant_of-self-in-None
 invariant_of-self-in-None g c =

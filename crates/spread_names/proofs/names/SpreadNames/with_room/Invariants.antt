@@ -1,5 +1,5 @@
 use Rattle.std.proofs.Common.{◌≡◌, replicate, []}
-use Rattle.capdl_read.proofs.names.SpreadNames.with_room.Given as goal
+use Rattle.spread_names.proofs.names.SpreadNames.with_room.Given as goal
 
 abbrev pub invariant-loop : goal.invariant-loop
 invariant-loop g l = l.tables.items ≡ replicate l.counter []

@@ -4,7 +4,7 @@
 //! byte by byte, and still no text can make them slow: whoever knows the digest can write names that collide, and these are
 //! kept in order too.
 
-ghost use Rattle.capdl_read.specs.Naming.{digest, spread_found};
+ghost use Rattle.spread_names.specs.Naming.{digest, spread_found};
 ghost use Rattle.name_tables.specs.ByName.{found};
 ghost use Rattle.std.specs.Option.{option_copied, option_or};
 ghost use Rattle.std.specs.Prelude.{◌≡◌, ◌<◌, ◌%◌, ◌∷◌, ℕ, [], None, List as Seq, is_some, IfOk, OnOk};
@@ -27,12 +27,12 @@ fn digest(name: &[u8]) -> u64
 
 /// Values by name. Contracts see it as the list of its entries.
 #[derive(Drop)]
-pub(crate) struct Names<'x, V> {
+pub struct Names<'x, V> {
     entries: BTreeMap<(u64, &'x [u8]), V>,
 }
 
 impl<'x, V> Model for Names<'x, V> {
-    ghost use Rattle.capdl_read.specs.Naming.{Key, are_digested};
+    ghost use Rattle.spread_names.specs.Naming.{Key, are_digested};
     ghost use Rattle.std.specs.Coded.{coded×, coded_ℕ, coded_list};
     ghost use Rattle.std.specs.Prelude.{List, ℕ, IsTrue, map};
 
@@ -47,7 +47,7 @@ impl<'x, V> Model for Names<'x, V> {
 
 impl<'x, V: Drop> Names<'x, V> {
     /// The empty table. Takes no memory.
-    pub(crate) fn new(alloc: Global) -> Names<'x, V>
+    pub fn new(alloc: Global) -> Names<'x, V>
         ensures { result ≡ [] }
     {
         Names {
@@ -56,7 +56,7 @@ impl<'x, V: Drop> Names<'x, V> {
     }
 
     /// What the name stands for.
-    pub(crate) fn get(&self, name: &'x [u8]) -> Option<&V>
+    pub fn get(&self, name: &'x [u8]) -> Option<&V>
         ensures { option_copied result ≡ found self.now name.now }
     {
         self.find(digest(name), name)
@@ -70,7 +70,7 @@ impl<'x, V: Drop> Names<'x, V> {
     }
 
     /// Puts a value under its name, where the name has none yet, and answers whether it has one.
-    pub(crate) fn add(&mut self, name: &'x [u8], value: V) -> Result<bool, NoMemory>
+    pub fn add(&mut self, name: &'x [u8], value: V) -> Result<bool, NoMemory>
         ensures met { IfOk result (λ met. met ≡ is_some (found self.old name.entry.now)) }
         ensures found { OnOk result ((n : Seq ℕ) → found self.new n ≡ option_or (found self.old n)
             (found ((name.entry.now, value) ∷ []) n)) }
@@ -101,7 +101,7 @@ const SHARE: usize = 8;
 /// Values by name, in many small tables, of which the digest of a name says one. Contracts see it as the list of the
 /// tables.
 #[derive(Drop)]
-pub(crate) struct SpreadNames<'x, V> {
+pub struct SpreadNames<'x, V> {
     tables: Vec<Names<'x, V>>,
 }
 
@@ -129,7 +129,7 @@ fn place(number: u64, count: usize) -> usize
 
 impl<'x, V: Drop> SpreadNames<'x, V> {
     /// Empty tables for so many names.
-    pub(crate) fn with_room(alloc: Global, names: usize) -> Result<SpreadNames<'x, V>, NoMemory>
+    pub fn with_room(alloc: Global, names: usize) -> Result<SpreadNames<'x, V>, NoMemory>
         ensures { IfOk result (λ t. (n : Seq ℕ) → spread_found t n ≡ None) }
     {
         let mut tables = Vec::new(alloc);
@@ -140,7 +140,7 @@ impl<'x, V: Drop> SpreadNames<'x, V> {
     }
 
     /// What the name stands for.
-    pub(crate) fn get(&self, name: &'x [u8]) -> Option<&V>
+    pub fn get(&self, name: &'x [u8]) -> Option<&V>
         ensures { option_copied result ≡ spread_found self.now name.now }
     {
         let number = digest(name);
@@ -149,7 +149,7 @@ impl<'x, V: Drop> SpreadNames<'x, V> {
     }
 
     /// Puts a value under its name, where the name has none yet, and answers whether it has one.
-    pub(crate) fn add(&mut self, name: &'x [u8], value: V) -> Result<bool, NoMemory>
+    pub fn add(&mut self, name: &'x [u8], value: V) -> Result<bool, NoMemory>
         ensures met { IfOk result (λ met. met ≡ is_some (spread_found self.old name.entry.now)) }
         ensures found { OnOk result ((n : Seq ℕ) → spread_found self.new n ≡ option_or (spread_found self.old n)
             (found ((name.entry.now, value) ∷ []) n)) }

@@ -9,7 +9,7 @@ use Rattle.std.specs.Option.{option_or}
 use Rattle.std.specs.Str.{bytes_eq}
 use Rattle.cam_base.proofs.Options.{option_or-none}
 use Rattle.name_tables.specs.ByName.{Name, found}
-use Rattle.capdl_read.specs.Naming.{digest, spread_found}
+use Rattle.spread_names.specs.Naming.{digest, spread_found}
 
 abbrev Table : Type 0 → Type 0
 Table V = List (Name × V)
