@@ -30,7 +30,7 @@ use Rattle.cap_spread.specs.declared.hubs.Passage.TheVariants as passages
 use Rattle.cap_machine.proofs.Applied.{read_written}
 use Rattle.cap_spread.specs.Search.{Found, held_by, marks_of, is_known, HoldsAt, IsFound}
 use Rattle.cap_spread.specs.Spread.{slots_of, slots_at, root_of, HasRoot}
-use Rattle.cap_spread.specs.Start.{empties, blanks, blank_row, blank_rows, owned, with_rows, with_mark, Queued, Starts, Marks, repeated, IsCounted, rooted}
+use Rattle.cap_spread.specs.Start.{empties, blanks, blank_row, blank_rows, HasValue, owned, with_value, with_rows, with_mark, Queued, Starts, Marks, repeated, IsCounted, rooted}
 use Rattle.cap_spread.specs.declared.found.Held.{Held}
 use Rattle.cap_spread.specs.declared.found.Pair.{Pair}
 use Rattle.cap_spread.proofs.Bringing.{none_within, at_pushed, pushed_cases, pushed_last, mark_kept, mark_cases, mark_there, mark_lengths, held_kept, held_cases, held_there}
@@ -119,38 +119,53 @@ blank_starts spec = record {
 
 -- one slot more
 
-queued_on : (f : Found) (n i : ℕ) (x : Cap) (c : ℕ) (cap : Cap) → Queued f c cap → Queued (owned f n i x) c cap
-queued_on f n i x c cap q = record {
-  place = q.place;
-  pair = q.pair;
-  there = at_pushed f.queue (record { node = n; held = record { value = length f.values; number = i } }) q.pair q.place q.there;
-  node = q.node;
-  is = at_pushed f.values x cap q.pair.held.value q.is;
+value_queued : (f : Found) (x : Cap) (c : ℕ) (cap : Cap) → Queued f c cap → Queued (with_value f x) c cap
+value_queued f x c cap q = record { place = q.place; pair = q.pair; there = q.there; node = q.node; is = at_pushed f.values x cap q.pair.held.value q.is }
+
+value_starts : (spec : Spec) (f : Found) (n m : ℕ) (x : Cap) → Starts spec f n m → Starts spec (with_value f x) n m
+value_starts spec f n m x s = record {
+  steps = s.steps;
+  nexts = s.nexts;
+  row_nexts = s.row_nexts;
+  row_held = s.row_held;
+  own = λ c i cap at. elim (pushed_cases f.values x cap at.value at.is) [
+    | inl is ↦ s.own c i cap (record { value = at.value; held = at.held; is = is })
+    | inr last ↦ absurd (let below = s.valued c (record { value = at.value; number = i }) at.held in let e = last.0 in omega arith)
+  ];
+  queued = s.queued;
+  valued = λ c held there. (let below = s.valued c held there in let more = length-append f.values (x ∷ []) in omega arith);
+  slots = λ c k slot h before. value_queued f x c slot.1 (s.slots c k slot h before);
 }
 
-module _ (spec : Spec) (f : Found) (n m : ℕ) (s : Starts spec f n m) (slot : ℕ × Cap) (here : slice_get (slots_at spec n) m ≡ Some slot) (less : n < length spec.entries) where
-  abbrev held : Held
-  held = record { value = length f.values; number = slot.0 }
+-- the same, where the values have this one
+pub valued_starts : (spec : Spec) (f new : Found) (n m place : ℕ) (x : Cap) → HasValue f x new place → Starts spec f n m → Starts spec new n m
+valued_starts spec f new n m place x has s = elim has.0 [
+  | inl same ↦ subst (λ (g : Found). Starts spec g n m) (sym same) s
+  | inr more ↦ subst (λ (g : Found). Starts spec g n m) (sym more) (value_starts spec f n m x s)
+]
 
-  own_after : (c i : ℕ) (cap : Cap) → HoldsAt (owned f n slot.0 slot.1) c i cap → Contains (slots_at spec c) (i, cap)
+module _ (spec : Spec) (f : Found) (n m : ℕ) (s : Starts spec f n m) (slot : ℕ × Cap) (here : slice_get (slots_at spec n) m ≡ Some slot) (less : n < length spec.entries) (v : ℕ) (value : slice_get f.values v ≡ Some slot.1) where
+  abbrev held : Held
+  held = record { value = v; number = slot.0 }
+
+  abbrev after : Found
+  after = owned f n held
+
+  queued_on : (c : ℕ) (cap : Cap) → Queued f c cap → Queued after c cap
+  queued_on c cap q = record { place = q.place; pair = q.pair; there = at_pushed f.queue (record { node = n; held = held }) q.pair q.place q.there; node = q.node; is = q.is }
+
+  own_after : (c i : ℕ) (cap : Cap) → HoldsAt after c i cap → Contains (slots_at spec c) (i, cap)
   own_after c i cap at = elim (held_cases f.held n held c (record { value = at.value; number = i }) at.held) [
-    | inl old ↦ (
-        let below : at.value < length f.values = s.valued c (record { value = at.value; number = i }) old in
-        elim (pushed_cases f.values slot.1 cap at.value at.is) [
-          | inl is ↦ s.own c i cap (record { value = at.value; held = old; is = is })
-          | inr last ↦ absurd (let e = last.0 in omega arith)
-        ])
+    | inl old ↦ s.own c i cap (record { value = at.value; held = old; is = at.is })
     | inr new ↦ (
         let number : slot.0 ≡ i = ap (λ (h : Held). h.number) new.1 in
-        let value : length f.values ≡ at.value = ap (λ (h : Held). h.value) new.1 in
-        let same : slot.1 ≡ cap = (elim (pushed_cases f.values slot.1 cap at.value at.is) [
-          | inl is ↦ absurd (let within = slice_get_within f.values at.value cap is in omega arith)
-          | inr last ↦ last.1
-        ]) in
+        let place : v ≡ at.value = ap (λ (h : Held). h.value) new.1 in
+        let both : Some slot.1 ≡ Some cap = sym value ∙ ap (slice_get f.values) place ∙ at.is in
+        let same : slot.1 ≡ cap = cc in
         rw (new.0, ← number, ← same) (at_contains (slots_at spec n) slot m here))
   ]
 
-  pub owned_starts : Starts spec (owned f n slot.0 slot.1) n (m + 1)
+  pub owned_starts : Starts spec after n (m + 1)
   owned_starts = record {
     steps = s.steps;
     nexts = s.nexts;
@@ -159,30 +174,28 @@ module _ (spec : Spec) (f : Found) (n m : ℕ) (s : Starts spec f n m) (slot : �
     own = own_after;
     queued = λ k pair h. elim (pushed_cases f.queue (record { node = n; held = held }) pair k h) [
       | inl old ↦ held_kept f.held n held pair.node pair.held (s.queued k pair old)
-      | inr new ↦ subst (λ (p : Pair). Contains (held_by (owned f n slot.0 slot.1) p.node) p.held) new.1 (held_there f.held n held (let e = s.row_held in omega arith))
+      | inr new ↦ subst (λ (p : Pair). Contains (held_by after p.node) p.held) new.1 (held_there f.held n held (let e = s.row_held in omega arith))
     ];
-    valued = λ c x there. (
-        let more : length (f.values ++ slot.1 ∷ []) ≡ length f.values + 1 = length-append f.values (slot.1 ∷ []) in
-        elim (held_cases f.held n held c x there) [
-          | inl old ↦ (let below = s.valued c x old in omega arith)
-          | inr new ↦ (let e : length f.values ≡ x.value = ap (λ (h : Held). h.value) new.1 in omega arith)
-        ]);
+    valued = λ c x there. elim (held_cases f.held n held c x there) [
+      | inl old ↦ s.valued c x old
+      | inr new ↦ (let e : v ≡ x.value = ap (λ (h : Held). h.value) new.1 in let below = slice_get_within f.values v slot.1 value in omega arith)
+    ];
     slots = λ c k x h before. slots_after c k x h before;
   } where
-    slots_after : (c k : ℕ) (x : ℕ × Cap) → slice_get (slots_at spec c) k ≡ Some x → (c < n) ⊎ ((c ≡ n) × (k < m + 1)) → Queued (owned f n slot.0 slot.1) c x.1
-    slots_after c k x h (inl below) = queued_on f n slot.0 slot.1 c x.1 (s.slots c k x h (inl below))
+    slots_after : (c k : ℕ) (x : ℕ × Cap) → slice_get (slots_at spec c) k ≡ Some x → (c < n) ⊎ ((c ≡ n) × (k < m + 1)) → Queued after c x.1
+    slots_after c k x h (inl below) = queued_on c x.1 (s.slots c k x h (inl below))
     slots_after c k x h (inr (same, less)) = elim (cases_lt k m) [
-      | inl below ↦ queued_on f n slot.0 slot.1 c x.1 (s.slots c k x h (inr (same, below)))
+      | inl below ↦ queued_on c x.1 (s.slots c k x h (inr (same, below)))
       | inr ge ↦ (
           let at : k ≡ m = omega arith in
           let slot_is : slot ≡ x = (let a : slice_get (slots_at spec n) m ≡ Some x = subst (λ (i : ℕ). slice_get (slots_at spec n) i ≡ Some x) at (subst (λ (i : ℕ). slice_get (slots_at spec i) k ≡ Some x) same h) in cc) in
-          subst (λ (y : ℕ × Cap). Queued (owned f n slot.0 slot.1) c y.1) slot_is
+          subst (λ (y : ℕ × Cap). Queued after c y.1) slot_is
           (record {
             place = length f.queue;
             pair = record { node = n; held = held };
             there = pushed_last f.queue (record { node = n; held = held });
             node = sym same;
-            is = pushed_last f.values slot.1;
+            is = value;
           }))
     ]
 

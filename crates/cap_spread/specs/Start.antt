@@ -30,13 +30,21 @@ blank_row width _ = []
 abbrev pub blank_rows : ℕ → List Entry → List (List Bool)
 blank_rows width entries = map (λ e. blank_row width e.object) entries
 
--- a CNode has a capability at a number from the start
-abbrev pub owned : Found → ℕ → ℕ → Cap → Found
-owned f c i cap = record {
-  values = f.values ++ cap ∷ [];
-  held = slice_set f.held c (held_by f c ++ record { value = length f.values; number = i } ∷ []);
+-- a value more
+abbrev pub with_value : Found → Cap → Found
+with_value f cap = record { values = f.values ++ cap ∷ []; held = f.held; known = f.known; queue = f.queue; steps = f.steps; nexts = f.nexts }
+
+-- the values have this one at the place, and nothing else changed but that it may be a new one
+abbrev pub HasValue : Found → Cap → Found → ℕ → Type 0
+HasValue f cap new place = ((new ≡ f) ⊎ (new ≡ with_value f cap)) × (slice_get new.values place ≡ Some cap)
+
+-- a CNode has a value at a number from the start
+abbrev pub owned : Found → ℕ → Held → Found
+owned f c held = record {
+  values = f.values;
+  held = slice_set f.held c (held_by f c ++ held ∷ []);
   known = f.known;
-  queue = f.queue ++ record { node = c; held = record { value = length f.values; number = i } } ∷ [];
+  queue = f.queue ++ record { node = c; held = held } ∷ [];
   steps = f.steps;
   nexts = f.nexts;
 }

@@ -3,14 +3,15 @@
 ghost use Rattle.cap_spread.specs.Covering.{AreRoots, HasSlots};
 ghost use Rattle.cap_spread.specs.Search.{IsFound};
 ghost use Rattle.cap_spread.specs.Spread.{root_of, slots_of, slots_at};
-ghost use Rattle.cap_spread.specs.Start.{repeated, rooted, Marks, Starts};
+ghost use Rattle.cap_spread.specs.Start.{repeated, rooted, HasValue, Marks, Starts};
 ghost use Rattle.cap_model.specs.Kept.{IsKept};
 ghost use Rattle.std.specs.Prelude.{◌≡◌, ◌<◌, ◌+◌, Some, None, length, IfOk, OnOk};
 
-use crate::found::Findings;
+use crate::found::{Findings, Held};
 use cam_base::NoMemory;
 use cap_model::{Cap, Object, Spec};
 use std::alloc::Global;
+use std::collections::BTreeMap;
 
 fn root_of(object: &Object) -> Option<u32>
     ensures { result ≡ root_of (Some object.now) }
@@ -73,8 +74,46 @@ pub fn slots_of(object: &Object) -> &[(u64, Cap)]
     }
 }
 
+/// A capability as a key: its object, its rights as one number, and its badge.
+fn key_of(cap: Cap) -> (u32, u8, u64)
+    ensures object { result.0 ≡ cap.object }
+    ensures badge { result.2 ≡ cap.badge }
+{
+    let rights = [
+        cap.rights.read,
+        cap.rights.write,
+        cap.rights.grant,
+        cap.rights.reply,
+    ];
+    let mut number = 0;
+    for right in rights {
+        number = number << 1 | right as u8;
+    }
+    (cap.object, number, cap.badge)
+}
+
+/// The place of a value, behind all others where it is a new one. `places` say where equal ones may stand.
+fn value_of(
+    findings: &mut Findings,
+    places: &mut BTreeMap<(u32, u8, u64), usize>,
+    cap: Cap,
+) -> Result<usize, NoMemory>
+    ensures { IfOk result (HasValue findings.old cap findings.new) }
+{
+    let key = key_of(cap);
+    if let Some(place) = places.get(&key) {
+        if findings.has_value(*place, cap) {
+            return Ok(*place);
+        }
+    }
+    let place = findings.add_value(cap)?;
+    places.insert(key, place)?;
+    Ok(place)
+}
+
 fn own_slots(
     findings: &mut Findings,
+    places: &mut BTreeMap<(u32, u8, u64), usize>,
     spec: &Spec,
     c: u32,
     slots: &[(u64, Cap)],
@@ -85,24 +124,24 @@ fn own_slots(
     ensures { OnOk result (Starts spec.now findings.new (c + 1) 0) }
 {
     for slot in slots {
-        findings.own(c, slot.0, slot.1)?;
+        let value = value_of(findings, places, slot.1)?;
+        let number = slot.0;
+        findings.own(c, Held { value, number })?;
     }
     Ok(())
 }
 
-fn own_all(findings: &mut Findings, spec: &Spec) -> Result<(), NoMemory>
+/// All capabilities of slots, those that are equal as one value.
+fn own_all(alloc: Global, findings: &mut Findings, spec: &Spec) -> Result<(), NoMemory>
     requires kept { IsKept spec.now }
     requires starts { Starts spec.now findings.old 0 0 }
     ensures { OnOk result (Starts spec.now findings.new (length spec.now.entries) 0) }
 {
+    let mut places = BTreeMap::new(alloc);
     let entries = spec.entries.as_slice();
     for place in 0..entries.len() {
-        own_slots(
-            findings,
-            spec,
-            place as u32,
-            slots_of(&entries[place].object),
-        )?;
+        let slots = slots_of(&entries[place].object);
+        own_slots(findings, &mut places, spec, place as u32, slots)?;
     }
     Ok(())
 }
@@ -125,7 +164,7 @@ pub fn begin(alloc: Global, spec: &Spec) -> Result<Findings, NoMemory>
     ensures slots { IfOk result (λ f. HasSlots spec.now f) }
 {
     let mut findings = Findings::blank(alloc, spec)?;
-    own_all(&mut findings, spec)?;
+    own_all(alloc, &mut findings, spec)?;
     findings.open_rows(alloc, spec)?;
     mark_all(&mut findings, spec);
     Ok(findings)

@@ -1,12 +1,12 @@
 //! What a search has found of the Spread, and the steps that it made.
 
 ghost use Rattle.cap_spread.specs.Search.{bare, held_by, is_known, landed, steps_of, whole, IsFound, IsWay, Brings};
-ghost use Rattle.cap_spread.specs.Start.{Starts, owned, empties, blanks, blank_row, blank_rows, with_rows, with_mark};
+ghost use Rattle.cap_spread.specs.Start.{Starts, owned, empties, blanks, blank_row, blank_rows, with_rows, with_mark, with_value};
 ghost use Rattle.cap_machine.specs.Progress.{Bootable};
 ghost use Rattle.cap_model.specs.Kept.{IsKept};
 ghost use Rattle.cap_model.specs.State.{boot_node};
 ghost use Rattle.std.specs.List.{All, Contains};
-ghost use Rattle.std.specs.Prelude.{◌≡◌, ◌<◌, ◌++◌, ◌∷◌, [], true, false, map, OnOk, IfOk, length, Some, slice_get, slice_set, slice_index, slice_index_or};
+ghost use Rattle.std.specs.Prelude.{◌≡◌, ◌<◌, ◌++◌, ◌∷◌, [], true, false, map, IsTrue, OnOk, IfOk, length, Some, slice_get, slice_set, slice_index, slice_index_or};
 
 use cam_base::NoMemory;
 use cap_machine::Step;
@@ -142,6 +142,12 @@ fn put_next(nexts: &mut [u64], c: u32, next: u64)
     if c < nexts.len() {
         nexts[c] = next;
     }
+}
+
+fn are_same(a: Cap, b: Cap) -> bool
+    ensures { IsTrue result → a ≡ b }
+{
+    a.object == b.object && a.badge == b.badge && a.rights == b.rights
 }
 
 /// All rights.
@@ -388,15 +394,30 @@ impl Findings {
         })
     }
 
-    /// A CNode has a capability at a number from the start.
-    pub fn own(&mut self, c: u32, number: u64, cap: Cap) -> Result<(), NoMemory>
-        ensures { OnOk result (self.new ≡ owned self.old c number cap) }
+    /// Whether the value at a place is this capability.
+    pub fn has_value(&self, value: usize, cap: Cap) -> bool
+        ensures { IsTrue result → slice_get self.now.values value ≡ Some cap }
     {
-        let held = Held {
-            value: self.values.len(),
-            number,
-        };
+        match self.values.get(value) {
+            Some(here) => are_same(*here, cap),
+            None => false,
+        }
+    }
+
+    /// A value more, and its place.
+    pub fn add_value(&mut self, cap: Cap) -> Result<usize, NoMemory>
+        ensures values { OnOk result (self.new ≡ with_value self.old cap) }
+        ensures place { IfOk result (λ place. place ≡ length self.old.values) }
+    {
+        let place = self.values.len();
         self.values.push(cap)?;
+        Ok(place)
+    }
+
+    /// A CNode has a value at a number from the start.
+    pub fn own(&mut self, c: u32, held: Held) -> Result<(), NoMemory>
+        ensures { OnOk result (self.new ≡ owned self.old c held) }
+    {
         put_held(&mut self.held, c, held)?;
         self.queue.push(Pair { node: c, held })?;
         Ok(())

@@ -4,7 +4,7 @@ use Rattle.cap_model.specs.declared.cap.Cap.{Cap}
 use Rattle.cap_spread.specs.Search.{Found}
 use Rattle.cap_spread.specs.Spread.{slots_at}
 use Rattle.cap_spread.specs.Start.{Starts}
-use Rattle.cap_spread.proofs.Beginning.{owned_starts, next_object}
+use Rattle.cap_spread.proofs.Beginning.{owned_starts, valued_starts, next_object}
 use Rattle.cap_spread.proofs.begin.own_slots.Goals as goal
 
 abbrev no_slot : ℕ × Cap
@@ -12,11 +12,13 @@ no_slot = (0, record { object = 0; rights = record { read = false; write = false
 
 pub loop-slot-preserved : goal.loop-slot-preserved
 loop-slot-preserved c =
-    let here : slice_get (slots_at c.args.spec.now c.args.c) c.loop-slot.slot-index ≡ Some (get_or c.args.slots.now c.loop-slot.slot-index no_slot) =
-    subst (λ (slots : List (ℕ × Cap)). slice_get slots c.loop-slot.slot-index ≡ Some (get_or c.args.slots.now c.loop-slot.slot-index no_slot)) c.requires.slots
+    let slot = get_or c.args.slots.now c.loop-slot.slot-index no_slot in
+    let here : slice_get (slots_at c.args.spec.now c.args.c) c.loop-slot.slot-index ≡ Some slot =
+    subst (λ (slots : List (ℕ × Cap)). slice_get slots c.loop-slot.slot-index ≡ Some slot) c.requires.slots
     (slice_get-get_or c.args.slots.now c.loop-slot.slot-index no_slot c.loop-slot-test.true) in
+    let starts = valued_starts c.args.spec.now c.loop-slot.findings c.value_of.new.findings c.args.c c.loop-slot.slot-index c.in_ok-value.value slot.1 c.in_ok-value.ensures c.loop-slot.invariant in
     subst (λ (f : Found). Starts c.args.spec.now f c.args.c (c.loop-slot.slot-index + 1)) (sym c.in_ok-own.ensures)
-    (owned_starts c.args.spec.now c.loop-slot.findings c.args.c c.loop-slot.slot-index c.loop-slot.invariant (get_or c.args.slots.now c.loop-slot.slot-index no_slot) here c.requires.inside)
+    (owned_starts c.args.spec.now c.value_of.new.findings c.args.c c.loop-slot.slot-index starts slot here c.requires.inside c.in_ok-value.value c.in_ok-value.ensures.1)
 
 pub returns : goal.returns
 returns c =
