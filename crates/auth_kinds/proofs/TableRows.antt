@@ -79,6 +79,21 @@ row_from rows label at bound point = record {
   above = λ k r l h. let t = behind_point (λ r. nat_lt r.label label) rows at bound point k r l h in grind arith;
 }
 
+-- behind the row of a label
+pub row_from-behind : (rows : List Row) (label near : ℕ) (r : Row) → HasRising rows → slice_get rows near ≡ Some r → r.label ≡ label → IsRowFrom rows (label + 1) (near + 1)
+row_from-behind rows label near r rising there is = record {
+  bound = (let w = slice_get_within rows near r there in omega arith);
+  below = λ k s l h. elim (cases_lt k near) [
+    | inl less ↦ let up = rising.by_place k near s r less h there in omega arith
+    | inr ge ↦ (
+        let same : k ≡ near = omega arith in
+        let here : slice_get rows near ≡ Some s = subst (λ n. slice_get rows n ≡ Some s) same h in
+        let one : s ≡ r = cc in
+        let t : s.label ≡ r.label = ap (λ (x : Row). x.label) one in omega arith)
+  ];
+  above = λ k s le h. let up = rising.by_place near k r s (omega arith) there h in omega arith;
+}
+
 pub firsts_parted : (rows : List Row) (place : ℕ) → FirstsRise rows → IsPartitionedBy (λ r. nat_le r.first place) rows
 firsts_parted rows place rise i j d le l h =
     let up : (get_or rows i d).first ≤ (get_or rows j d).first = rise.by_place i j _ _ le (slice_get-get_or rows i d (omega arith)) (slice_get-get_or rows j d l) in

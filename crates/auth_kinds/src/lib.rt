@@ -7,6 +7,7 @@
 mod authority;
 mod edge;
 mod growth;
+mod hint;
 mod laws;
 mod making;
 mod object_labels;
@@ -19,6 +20,7 @@ mod table;
 pub use authority::Authority;
 pub use edge::Edge;
 pub use growth::{with_edge, with_set};
+pub use hint::Hint;
 pub use laws::{
     authorities_are_their_words, edges_are_ordered, has_is_membership, sets_are_their_members,
     tables_are_their_edges,

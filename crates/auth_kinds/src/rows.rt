@@ -1,8 +1,21 @@
 //! What a table keeps: the labels that have edges, and the lists that they share.
 
-ghost use Rattle.auth_kinds.specs.Rows.{edge_to, edges_of, reply_to, HasRising, IsClass, IsRowFrom, IsRowOf, IsRowPast, NoRowOf, FirstsRise};
+ghost use Rattle.auth_kinds.specs.Rows.{
+  edge_to,
+  edges_of,
+  reply_to,
+  table_edges,
+  HasRising,
+  IsClass,
+  IsRowFrom,
+  IsRowOf,
+  IsRowPast,
+  IsTable,
+  NoRowOf,
+  FirstsRise,
+};
 ghost use Rattle.auth_kinds.specs.Tables.{has, IsSorted};
-ghost use Rattle.std.specs.Prelude.{◌≡◌, ◌==◌, if◌then◌else◌, length, map, slice_get, None, Some, IfSome, IfNone};
+ghost use Rattle.std.specs.Prelude.{◌≡◌, ◌==◌, ◌+◌, if◌then◌else◌, true, length, map, slice_get, None, Some, IfSome, IfNone};
 
 use crate::{Authority, Edge};
 
@@ -94,11 +107,53 @@ pub fn rows_below(rows: &[Row], label: u64) -> usize
 }
 
 /// The place behind the rows whose first edge stands at the place of an edge or before it.
-pub fn rows_up_to(rows: &[Row], place: usize) -> usize
+fn rows_up_to(rows: &[Row], place: usize) -> usize
     requires { FirstsRise rows.now }
     ensures { IsRowPast rows.now place result }
 {
     rows.partition_point(|row| row.first <= place)
+}
+
+/// The same, looked for at what it was for another place, and at what is next to that.
+pub fn rows_near(rows: &[Row], place: usize, near: usize) -> usize
+    requires { FirstsRise rows.now }
+    ensures { IsRowPast rows.now place result }
+{
+    let next = near.saturating_add(1);
+    if is_past(rows, place, near) {
+        near
+    } else if is_past(rows, place, next) {
+        next
+    } else {
+        rows_up_to(rows, place)
+    }
+}
+
+/// Whether the last row before `past` begins at the place of an edge or before it, and the next one behind that.
+fn is_past(rows: &[Row], place: usize, past: usize) -> bool
+    requires { FirstsRise rows.now }
+    ensures { result ≡ true → IsRowPast rows.now place past }
+{
+    if past == 0 || past > rows.len() || rows[past - 1].first > place {
+        return false;
+    }
+    match rows.get(past) {
+        Some(row) => place < row.first,
+        None => true,
+    }
+}
+
+/// The edge at a place of a table, of whose rows so many begin there or before.
+pub fn edge_in(rows: &[Row], classes: &[Class], past: usize, at: usize) -> Option<Edge>
+    requires table { IsTable classes.now rows.now }
+    requires past { IsRowPast rows.now at past }
+    ensures { result ≡ slice_get (table_edges classes.now rows.now) at }
+{
+    if past == 0 {
+        return None;
+    }
+    let row = &rows[past - 1];
+    edge_at(&classes[row.class], row, at - row.first)
 }
 
 /// The row of a label.
@@ -110,5 +165,30 @@ pub fn row_of(rows: &[Row], label: u32) -> Option<&Row>
     match rows.get(rows_below(rows, label as u64)) {
         Some(row) if row.label == label => Some(row),
         _ => None,
+    }
+}
+
+/// The same, looked for at the last row before a place first.
+pub fn row_near(rows: &[Row], past: usize, label: u32) -> Option<&Row>
+    requires { HasRising rows.now }
+    ensures found { IfSome result (λ r. IsRowOf rows.now label r.now) }
+    ensures none { IfNone result (NoRowOf rows.now label) }
+{
+    match rows.get(past.saturating_sub(1)) {
+        Some(row) if row.label == label => Some(row),
+        _ => row_of(rows, label),
+    }
+}
+
+/// The first place at which no row of the label or of a lesser one stands, looked for behind the last row before a place
+/// first.
+pub fn rows_behind(rows: &[Row], past: usize, label: u32) -> usize
+    requires { HasRising rows.now }
+    ensures { IsRowFrom rows.now (label + 1) result }
+{
+    let near = past.saturating_sub(1);
+    match rows.get(near) {
+        Some(row) if row.label == label => near + 1,
+        _ => rows_below(rows, u64::from(label) + 1),
     }
 }

@@ -5,8 +5,11 @@ ghost use Rattle.auth_kinds.specs.declared.edge.Edge.{Edge};
 ghost use Rattle.auth_kinds.specs.Classes.{IsClassOf};
 ghost use Rattle.auth_kinds.specs.Tables.{has, IsSorted, IsFirstFrom};
 
+use crate::hint::Hint;
 use crate::making::made_of;
-use crate::rows::{Class, Row, edge_at, has_edge, row_of, rows_below, rows_up_to};
+use crate::rows::{
+    Class, Row, edge_in, has_edge, row_near, row_of, rows_behind, rows_below, rows_near,
+};
 use crate::shared::{class_of_pairs, shared_rows};
 use crate::{Authority, Edge};
 use cam_base::NoMemory;
@@ -108,12 +111,16 @@ impl EdgeTable {
     pub fn get(&self, at: usize) -> Option<Edge>
         ensures { result ≡ slice_get self.now at }
     {
-        let past = rows_up_to(self.rows.as_slice(), at);
-        if past == 0 {
-            return None;
-        }
-        let row = &self.rows[past - 1];
-        edge_at(&self.classes[row.class], row, at - row.first)
+        self.get_near(at, &mut Hint::first())
+    }
+
+    /// The same, with a hint, which from then on is that of this place.
+    pub fn get_near(&self, at: usize, hint: &mut Hint) -> Option<Edge>
+        ensures { result ≡ slice_get self.now at }
+    {
+        let rows = self.rows.as_slice();
+        hint.past = rows_near(rows, at, hint.past);
+        edge_in(rows, self.classes.as_slice(), hint.past, at)
     }
 
     /// Whether the table has the edge. Takes no memory.
@@ -131,7 +138,14 @@ impl EdgeTable {
     pub fn class_of(&self, label: u32) -> Option<u32>
         ensures { IsClassOf self.now label result }
     {
-        match row_of(self.rows.as_slice(), label) {
+        self.class_near(label, Hint::first())
+    }
+
+    /// The same, with the hint of an edge out of the label.
+    pub fn class_near(&self, label: u32, hint: Hint) -> Option<u32>
+        ensures { IsClassOf self.now label result }
+    {
+        match row_near(self.rows.as_slice(), hint.past, label) {
             Some(row) => self.classes[row.class].number(),
             None => None,
         }
@@ -149,6 +163,19 @@ impl EdgeTable {
             self.first_from(label as u64),
             self.first_from(label as u64 + 1),
         )
+    }
+
+    /// The place past the edges from a label and lesser ones, with the hint of an edge out of the label. Takes no memory.
+    pub fn behind(&self, label: u32, hint: Hint) -> usize
+        ensures { IsFirstFrom self.now (label + 1) result }
+    {
+        match self
+            .rows
+            .get(rows_behind(self.rows.as_slice(), hint.past, label))
+        {
+            Some(row) => row.first,
+            None => self.len,
+        }
     }
 
     /// The first place at which no edge from a lesser label stands.

@@ -1,6 +1,6 @@
 -- Edges that a walk passes over, since they have another authority.
-use Rattle.std.proofs.Common.{◌≡◌, ◌≢◌, ◌<◌, ◌≤◌, ◌+◌, ◌^◌, ℕ, nat_lt, true, false, ap, List, slice_get, Some, length, refl, sym, inl, inr, arith}
-use Rattle.std.proofs.lemmas.Bool.{cases_lt, ltb-true, ltb-false}
+use Rattle.std.proofs.Common.{◌≡◌, ◌<◌, ◌+◌, ℕ, ap, List, slice_get, Some, refl, inl, inr, arith}
+use Rattle.std.proofs.lemmas.Bool.{cases_lt}
 use Rattle.auth_kinds.specs.Authorities.{number_of}
 use Rattle.auth_kinds.specs.Edges.{edge, AtMost, Before}
 use Rattle.auth_kinds.specs.Tables.{IsFirstFrom, IsSorted}

@@ -3,15 +3,19 @@
 ghost use Rattle.auth_kinds.specs.Tables.{Finds};
 ghost use Rattle.cert_check.specs.Violations.{BreaksPolicy};
 
-use auth_kinds::{Edge, EdgeTable};
+use crate::beside::Beside;
+use auth_kinds::{Edge, EdgeTable, Hint};
 
-/// The least edge of the certificate between different labels that the policy lacks.
+/// The least edge of the certificate between different labels that the policy lacks. The edges of both are walked side by
+/// side.
 pub fn find_outside(policy: &EdgeTable, cert: &EdgeTable) -> Option<Edge>
     ensures { Finds (BreaksPolicy policy.now cert.now) result }
 {
+    let mut hint = Hint::first();
+    let mut beside = Beside::at(0);
     for i in 0..cert.len() {
-        if let Some(edge) = cert.get(i) {
-            if edge.from != edge.to && !policy.contains(&edge) {
+        if let Some(edge) = cert.get_near(i, &mut hint) {
+            if edge.from != edge.to && !beside.has(policy, &edge) {
                 return Some(edge);
             }
         }

@@ -5,6 +5,7 @@
 //! is in `specs/Violations.antt` and `specs/Least.antt`. That a Yes holds over every run is proved.
 #![tactic(auto)]
 
+mod beside;
 mod boot_edges;
 mod copies;
 mod in_policy;

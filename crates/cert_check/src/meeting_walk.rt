@@ -11,7 +11,7 @@ use crate::meetings::{Meeting, leads, meeting_at};
 use crate::partners::{Met, Partners};
 use crate::places::next_of;
 use crate::violation::{Violation, lesser};
-use auth_kinds::{Edge, EdgeTable};
+use auth_kinds::{Edge, EdgeTable, Hint};
 
 /// The least violation of one of the three rules. Each walk takes the first edges past as many partners as there is room
 /// for.
@@ -40,8 +40,9 @@ fn least_by(cert: &EdgeTable, rule: Meeting, partners: &Partners) -> Option<Viol
     let first = rule.first();
     let mut last: Option<Met> = None;
     let mut next = 0;
-    while let Some((at, edge)) = next_of(cert, next, first) {
-        if leads(cert, rule, edge.from) {
+    let mut hint = Hint::first();
+    while let Some((at, edge)) = next_of(cert, next, first, &mut hint) {
+        if leads(cert, rule, edge.from, hint) {
             let met = partners.met(edge);
             if !goes_like(partners, last, met) {
                 if let Some(found) = least_of(cert, rule, partners, met) {

@@ -7,7 +7,7 @@ ghost use Rattle.std.specs.Prelude.{◌≡◌, true, false};
 
 use crate::missing::missing_copy;
 use crate::violation::{Violation, uncopied};
-use auth_kinds::{Authority, Edge, EdgeTable};
+use auth_kinds::{Authority, Edge, EdgeTable, Hint};
 
 /// The three rules over two labels that meet at a third.
 #[derive(Clone, Copy)]
@@ -41,12 +41,12 @@ impl Meeting {
 
 /// Whether no lesser label stands for this one by the rule: of the call rule none does, of the others the least label
 /// that has the same edges other than Reply.
-pub fn leads(cert: &EdgeTable, rule: Meeting, label: u32) -> bool
+pub fn leads(cert: &EdgeTable, rule: Meeting, label: u32, hint: Hint) -> bool
     ensures { result ≡ false → IsLed rule cert.now label }
 {
     match rule {
         Meeting::Call => true,
-        Meeting::Grant | Meeting::GrantBack => match cert.class_of(label) {
+        Meeting::Grant | Meeting::GrantBack => match cert.class_near(label, hint) {
             Some(least) => least == label,
             None => true,
         },

@@ -7,7 +7,7 @@ ghost use Rattle.std.specs.Prelude.{◌≡◌, ◌<◌, [], length};
 use crate::meetings::{Meeting, leads};
 use crate::places::next_of;
 use arrayvec::ArrayVec;
-use auth_kinds::{Edge, EdgeTable};
+use auth_kinds::{Edge, EdgeTable, Hint};
 
 /// The most edges that are held at once.
 const ROOM: usize = 16_384;
@@ -45,11 +45,12 @@ impl Partners {
     {
         let partner = rule.partner();
         let mut past = from;
+        let mut hint = Hint::first();
         self.ends.clear();
         while past < cert.len() && self.ends.len() < ROOM {
-            match next_of(cert, past, partner) {
+            match next_of(cert, past, partner, &mut hint) {
                 Some((at, edge)) => {
-                    if leads(cert, rule, edge.from) {
+                    if leads(cert, rule, edge.from, hint) {
                         self.ends.push((edge.to, edge.from));
                     }
                     past = at + 1;

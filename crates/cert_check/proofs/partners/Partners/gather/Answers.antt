@@ -1,8 +1,5 @@
-use Rattle.std.proofs.Common.{◌<◌, length, ap, sym, arith, ◌∙◌}
-use Rattle.std.proofs.lemmas.Option.{slice_get-get_or}
+use Rattle.std.proofs.Common.{length, ap, arith, ◌∙◌}
 use Rattle.arrayvec.proofs.ArrayVecLemmas.{items-with_items}
-use Rattle.auth_kinds.specs.Edges.{edge}
-use Rattle.auth_kinds.specs.declared.authority.Authority.TheVariants.{Receive}
 use Rattle.cert_check.proofs.Walks.{partners_on, partners_past, partners_more, partners_sorted, rising_of}
 use Rattle.cert_check.proofs.partners.Partners.gather.Goals as goal
 use Rattle.cert_check.proofs.partners.Partners.gather.Goals.{then-leads, else-leads}

@@ -2,7 +2,7 @@ use Rattle.std.proofs.Common.{List, None, subst}
 use Rattle.auth_kinds.specs.Classes.{IsClassOf}
 use Rattle.auth_kinds.proofs.TableRows.{row_in, none_in, class_there, class_number, no_class}
 use Rattle.auth_kinds.specs.declared.edge.Edge.{Edge}
-use Rattle.auth_kinds.proofs.table.EdgeTable.class_of.Goals as goal
+use Rattle.auth_kinds.proofs.table.EdgeTable.class_near.Goals as goal
 
 pub returns-in-Some : goal.returns-in-Some
 returns-in-Some c =

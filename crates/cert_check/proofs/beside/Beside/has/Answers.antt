@@ -3,9 +3,9 @@ use Rattle.auth_kinds.proofs.EdgeCompare.{eq-same}
 use Rattle.auth_kinds.proofs.TableMembers.{has_at}
 use Rattle.auth_kinds.specs.Tables.{has}
 use Rattle.auth_kinds.specs.declared.edge.Edge.{Edge}
-use Rattle.cert_check.proofs.missing.has_near.Goals as goal
+use Rattle.cert_check.proofs.beside.Beside.has.Goals as goal
 
 pub returns-in-Some : goal.returns-in-Some
 returns-in-Some c =
     let same : c.in-Some.other ≡ c.args.edge.now = eq-same c.in-Some.other c.args.edge.now (sym c.eq.ensures ∙ c.if-eq.true) in
-    sym (subst (λ (e : Edge). has c.args.cert.now e ≡ true) same (has_at c.args.cert.now c.args.near c.in-Some.other (cc)))
+    sym (subst (λ (e : Edge). has c.args.table.now e ≡ true) same (has_at c.args.table.now c.draw_near.new.self.at c.in-Some.other (cc)))
