@@ -121,5 +121,8 @@ kind_back kinds.Text text = refl
 kind_back kinds.Angle text = refl
 kind_back (kinds.Mark m) text = mark_back m
 
+pub same_code : (a b : Kind) (s t : List ℕ) → kind_code a s ≡ kind_code b t → without_value a ≡ without_value b
+same_code a b s t e = sym (kind_back a s) ∙ ap kind_with e ∙ kind_back b t
+
 pub one_kind : (a b : Seen) → token_code a ≡ token_code b → without_value a.kind ≡ without_value b.kind
-one_kind a b e = sym (kind_back a.kind a.text) ∙ ap kind_with e ∙ kind_back b.kind b.text
+one_kind a b e = same_code a.kind b.kind a.text b.text e

@@ -1,10 +1,15 @@
--- The code of a word, by its length.
-use Rattle.std.proofs.Common.{◌≡◌, ℕ, Bool, cond, List, length, ap, ◌∙◌, arith}
+-- The code of a word, by its length; and the codes of words apart from those of other tokens.
+use Rattle.std.proofs.Common.{◌≡◌, ℕ, Bool, true, false, cond, List, [], length, refl, ap, ◌∙◌, inl, inr, arith}
 use Rattle.std.specs.Prelude.{codes}
 use Rattle.std.specs.Str.{bytes_eq}
 use Rattle.cam_base.proofs.Bytes.{other_length}
-use Rattle.adl_ast.specs.Codes.{word_code}
-use Rattle.adl_parse_asm.specs.Words.{if_buf, if_void}
+use Rattle.cam_base.specs.declared.token.Kind.{Kind}
+use Rattle.cam_base.specs.declared.token.Kind.TheVariants as kinds
+use Rattle.std.proofs.lemmas.Bool.Decides.{eqb_tells}
+use Rattle.std.specs.Prelude.{◌==◌}
+use Rattle.adl_ast.specs.Codes.{kind_code, without_value, word_code}
+use Rattle.adl_ast.proofs.OneKind.{same_code}
+use Rattle.adl_parse_asm.specs.Words.{if_buf, if_void, is_word}
 
 pub of_four : (text : List ℕ) → length text ≡ 4 → word_code text ≡ if_void text
 of_four text h = ap (λ (b : Bool). cond (bytes_eq text (codes "void")) 1 (cond b 2 0)) (other_length text (codes "Buf") (λ e. absurd (omega (arith, h, e))))
@@ -16,3 +21,33 @@ pub of_another : (text : List ℕ) → (length text ≡ 4 → ⊥) → (length t
 of_another text four three =
     ap (λ (b : Bool). cond b 1 (cond (bytes_eq text (codes "Buf")) 2 0)) (other_length text (codes "void") (λ e. four e))
     ∙ ap (λ (b : Bool). cond b 2 0) (other_length text (codes "Buf") (λ e. three e))
+
+pub of_sign : (kind : Kind) (text : List ℕ) → is_word kind ≡ false → kind_code kind text ≡ kind_code kind []
+of_sign kinds.Word text h = absurd cc
+of_sign (kinds.Key key) text h = refl
+of_sign (kinds.Number n) text h = refl
+of_sign kinds.Text text h = refl
+of_sign kinds.Angle text h = refl
+of_sign (kinds.Mark mark) text h = refl
+
+pub of_word : (kind : Kind) (text : List ℕ) → is_word kind ≡ true → kind_code kind text ≡ word_code text
+of_word kinds.Word text h = refl
+of_word (kinds.Key key) text h = absurd cc
+of_word (kinds.Number n) text h = absurd cc
+of_word kinds.Text text h = absurd cc
+of_word kinds.Angle text h = absurd cc
+of_word (kinds.Mark mark) text h = absurd cc
+
+no_word : (kind : Kind) → is_word kind ≡ false → kinds.Word ≡ without_value kind → ⊥
+no_word kinds.Word h e = absurd cc
+no_word (kinds.Key key) h e = absurd cc
+no_word (kinds.Number n) h e = absurd cc
+no_word kinds.Text h e = absurd cc
+no_word kinds.Angle h e = absurd cc
+no_word (kinds.Mark mark) h e = absurd cc
+
+pub word_or_sign : (kind : Kind) (text : List ℕ) → is_word kind ≡ false → (word_code text == kind_code kind []) ≡ false
+word_or_sign kind text h = elim (eqb_tells (word_code text) (kind_code kind [])) [
+  | inl t ↦ absurd (no_word kind h (same_code kinds.Word kind text [] t.1))
+  | inr t ↦ t.0
+]

@@ -4,12 +4,12 @@ ghost use Rattle.adl_ast.specs.Codes.{kind_code, token_code, word_code, word_cod
 ghost use Rattle.adl_ast.specs.Forms.{word};
 ghost use Rattle.adl_ast.specs.Seeing.{see, seen_at, text_at, id_of, named, number_of, inner, span};
 ghost use Rattle.adl_ast.specs.Spelling.{reads};
-ghost use Rattle.adl_parse_asm.specs.Words.{codes_of, if_buf, if_void};
+ghost use Rattle.adl_parse_asm.specs.Words.{codes_of, if_buf, if_void, is_word};
 ghost use Rattle.grammar.specs.Form.{among, maybe};
 ghost use Rattle.grammar.specs.Gives.{Gives};
 ghost use Rattle.grammar.specs.Reading.{starts, one};
 ghost use Rattle.cam_base.specs.declared.token.Mark.TheVariants as marks;
-ghost use Rattle.std.specs.Prelude.{◌≡◌, ◌∷◌, [], IfOk};
+ghost use Rattle.std.specs.Prelude.{◌≡◌, ◌==◌, ◌∷◌, [], IfOk};
 
 use adl_ast::{Id, Seen};
 use cam_base::{Keyword, Kind, Mark, Name, NoMemory, Place, Text, Token, is_name};
@@ -131,6 +131,30 @@ fn token_code(bytes: &[u8], token: Token) -> u8
     kind_code(token.kind, text_at(bytes, token.place))
 }
 
+fn is_word(kind: Kind) -> bool
+    ensures { result ≡ is_word kind }
+{
+    match kind {
+        Kind::Word => true,
+        Kind::Key(_) | Kind::Number(_) | Kind::Text | Kind::Angle | Kind::Mark(_) => false,
+    }
+}
+
+/// Whether a token is of this kind; for words, a plain word. Only of words the bytes are looked at.
+#[tactic(auto, using(crate::proofs::Words::of_sign, crate::proofs::Words::of_word, crate::proofs::Words::word_or_sign))]
+#[inline(always)]
+fn is_of(bytes: &[u8], token: Token, kind: Kind) -> bool
+    ensures { result ≡ (token_code (seen_at bytes.now token) == kind_code kind []) }
+{
+    if !is_word(token.kind) {
+        kind_code(token.kind, b"") == kind_code(kind, b"")
+    } else if is_word(kind) {
+        word_code(text_at(bytes, token.place)) == 0
+    } else {
+        false
+    }
+}
+
 /// Whether the next token is of this kind; for words, a plain word.
 #[inline(always)]
 pub fn next_is(bytes: &[u8], tokens: &[Token], kind: Kind) -> bool
@@ -138,7 +162,7 @@ pub fn next_is(bytes: &[u8], tokens: &[Token], kind: Kind) -> bool
 {
     match tokens {
         [] => false,
-        [token, ..] => token_code(bytes, *token) == kind_code(kind, b""),
+        [token, ..] => is_of(bytes, *token, kind),
     }
 }
 
@@ -153,9 +177,7 @@ pub fn take<'a>(
         (see bytes.now tokens.now)) }
 {
     match tokens {
-        [token, rest @ ..] if token_code(bytes, *token) == kind_code(kind, b"") => Ok((
-            *token, rest,
-        )),
+        [token, rest @ ..] if is_of(bytes, *token, kind) => Ok((*token, rest)),
         _ => Err(ReadError::Stop(Stop {
             why: Why::Unexpected,
             left: tokens.len(),
