@@ -1,5 +1,5 @@
 -- Objects whose names differ are given back the labels that stand beside their names.
-use Rattle.std.proofs.Common.{◌≡◌, ◌∙◌, ℕ, zero, suc, Bool, true, false, List, [], ◌∷◌, map, Some, refl, sym, ap, arith}
+use Rattle.std.proofs.Common.{◌≡◌, ◌∙◌, ℕ, zero, suc, Bool, true, false, List, [], ◌∷◌, length, map, Some, refl, sym, ap, arith}
 use Rattle.std.proofs.lemmas.Option.{get_or_from_slice_get}
 use Rattle.std.proofs.lemmas.Simd.{map-map}
 use Rattle.std.proofs.lemmas.Slice.Eq.{bytes_eq-Decides}
@@ -30,6 +30,13 @@ find_only {X} test (y ∷ ys) (suc n) x at passes only =
 pub map_same : {X Y : Type 0} (f g : X → Y) (xs : List X) → ((n : ℕ) (x : X) → slice_get xs n ≡ Some x → f x ≡ g x) → map f xs ≡ map g xs
 map_same f g [] h = refl
 map_same f g (x ∷ xs) h = ap (λ z. z ∷ map f xs) (h 0 x refl) ∙ ap (λ z. g x ∷ z) (map_same f g xs (λ n y e. h (suc n) y e))
+
+-- the labels that stand beside names, in order
+pub labels_beside : (entries : List Entry) (labels : List ℕ) → length entries ≡ length labels → map (λ (o : List ℕ × ℕ). o.1) (labelled entries labels) ≡ labels
+labels_beside [] [] h = refl
+labels_beside [] (l ∷ ls) h = absurd (omega (arith, h))
+labels_beside (e ∷ es) [] h = absurd (omega (arith, h))
+labels_beside (e ∷ es) (l ∷ ls) h = ap (λ z. l ∷ z) (labels_beside es ls (omega (arith, h)))
 
 -- things that have entries and labels
 module _ {X : Type 0} (entry : X → Entry) (label : X → ℕ) (xs : List X)

@@ -1,5 +1,6 @@
 -- The spec, policy and certificate of a build keep the rules of the checker, by the labels that the policy gives to objects.
 use Rattle.std.proofs.Common.{◌≡◌, ◌∙◌, ℕ, List, Option, Some, Ok, map, refl, sym, ap, subst}
+use Rattle.std.proofs.lemmas.List.{length-map}
 use Rattle.adl_ast.specs.declared.source.Source.{Source}
 use Rattle.arch_compile.specs.Built.{IsBuildOf, IsMade, labelled, system_tables}
 use Rattle.arch_compile.specs.LayoutFaults.{images_from}
@@ -31,7 +32,7 @@ use Rattle.system_spec.specs.Made.{entry, labels_of, part_label, spec_of}
 use Rattle.system_spec.specs.Parts.{parts}
 use Rattle.system_spec.specs.Tables.{Tables}
 use Rattle.build_back.proofs.CertBack.{connected_is}
-use Rattle.build_back.proofs.LabelsBack.{labels_back, labels_one}
+use Rattle.build_back.proofs.LabelsBack.{labels_back, labels_beside, labels_one}
 use Rattle.build_back.proofs.SpecBack.{made_fit}
 use Rattle.build_back.specs.TriosValid.{IsTrioValid}
 
@@ -77,6 +78,10 @@ module _ {contents : Option Contents} (b : Build) (found : List Found) (facts : 
       ∙ ap (λ z. map (λ (e : Entry). object_label z e.name) (spec_of t).entries) (sym made.objects)
       ∙ ap (λ (z : Spec). map (λ (e : Entry). object_label b.policy.objects e.name) z.entries) (sym made.spec_is)
 
+  listed : map (λ (o : List ℕ × ℕ). o.1) b.policy.objects ≡ labels
+  listed = ap (λ z. map (λ (o : List ℕ × ℕ). o.1) z) made.objects
+      ∙ labels_beside (spec_of t).entries labels (length-map (parts t) (entry t) ∙ sym (length-map (parts t) (part_label t)))
+
   by_labels : (given : Labels) → IsLabelling b.spec b.policy (Ok given) → Valid b.spec given.by_object b.policy.edges b.cert
   by_labels given l =
       subst (λ z. Valid b.spec z b.policy.edges b.cert) (labels_one labels given.by_object (gives ∙ sym l))
@@ -86,6 +91,7 @@ module _ {contents : Option Contents} (b : Build) (found : List Found) (facts : 
   made_trio = record {
     labels = record { by_object = labels };
     labelled = gives;
+    listed = listed;
     valid = by_labels;
     yes = λ given verdict l j. judged_yes verdict (by_labels given l) j;
   }

@@ -3,16 +3,15 @@
 ghost use Rattle.build_back.specs.TriosValid.{IsTrioValid};
 ghost use Rattle.generate_command.specs.Generated.{IsAccepted, IsGenerated};
 ghost use Rattle.policy_text.specs.Labelled.{IsLabelling};
-ghost use Rattle.std.specs.Prelude.{◌≡◌, length, IfOk, Ok};
+ghost use Rattle.std.specs.Prelude.{◌≡◌, length, map, IfOk, Ok};
 
 use arch_compile::{Build, compile};
 use auth_kinds::Labels;
 use build_summary::Summary;
-use cam_base::{NoMemory, Refused};
+use cam_base::{List, Name, NoMemory};
 use cert_check::{Verdict, check};
 use front_end::BuildError;
 use generated_files::{ROOT, generated};
-use policy_text::label_objects;
 use std::alloc::Global;
 
 /// What is compiled of the source that is generated for so many clients, in numbers. The checker accepts it.
@@ -47,15 +46,22 @@ fn accepted(alloc: Global, build: &Build) -> Result<Summary, NoMemory>
     }
 }
 
-/// The labels that a build's policy gives the objects of its spec. Each object has one.
+/// The labels that stand beside names, in order.
+fn labels_beside(alloc: Global, objects: &[(Name, u32)]) -> Result<Vec<u32>, NoMemory>
+    ensures { IfOk result (λ labels. labels.items ≡ map (λ o. o.1) objects.now) }
+{
+    let labels = objects.iter().map(|object| object.1).collect(alloc)?;
+    Ok(labels)
+}
+
+/// The labels that a build's policy gives the objects of its spec, which stand in its order.
 fn labels_of(alloc: Global, build: &Build) -> Result<Labels, NoMemory>
     requires { IsTrioValid build.now }
     ensures labels { IfOk result (λ labels. IsLabelling build.now.spec build.now.policy (Ok labels)) }
     ensures each { IfOk result (λ labels. length labels.by_object ≡ length build.now.spec.entries) }
 {
-    match label_objects(alloc, &build.spec, &build.policy) {
-        Ok(labels) => Ok(labels),
-        Err(Refused::NoMemory) => Err(NoMemory),
-        Err(Refused::Fault(_)) => unreachable!(),
-    }
+    let labels = labels_beside(alloc, build.policy.objects.as_slice())?;
+    Ok(Labels {
+        by_object: List::from_vec(labels),
+    })
 }

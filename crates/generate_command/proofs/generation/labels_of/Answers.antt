@@ -1,5 +1,8 @@
-use Rattle.generate_command.proofs.Accepting.{labels_stand}
+use Rattle.std.proofs.Common.{◌∙◌, Some, ap, map}
 use Rattle.generate_command.proofs.generation.labels_of.Goals as goal
 
-pub unreachable-requires : goal.unreachable-requires
-unreachable-requires c = labels_stand c.args.build.now c.in-Err-Fault.field-0-0 c.requires (rw c.in-Err-Fault.field-0-is at c.in-Err-Fault.ensures.labels)
+pub returns-clause-labels : goal.returns-clause-labels
+returns-clause-labels c =
+    let trio = c.requires in
+    let beside = c.from_vec.ensures ∙ c.in_ok-labels.ensures ∙ ap (λ os. map (λ o. o.1) os) c.as_slice.ensures ∙ trio.listed in
+    ap (λ ls. map (λ n. Some n) ls) beside ∙ trio.labelled
