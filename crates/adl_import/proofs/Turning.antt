@@ -14,7 +14,6 @@ use Rattle.cam_base.specs.declared.place.Fault.{Fault}
 use Rattle.cam_base.specs.declared.place.Place.{Place}
 use Rattle.cam_base.specs.declared.token.Token.{Token}
 use Rattle.cam_io.specs.Contents.{Contents}
-use Rattle.cam_io.specs.Reading.{KeepsFiles}
 use Rattle.adl_ast.specs.declared.file.Import.{Import}
 use Rattle.adl_ast.specs.declared.source.SourceFile.{SourceFile}
 use Rattle.adl_ast.specs.Seeing.{see}
@@ -248,7 +247,3 @@ pub loaded_none : (contents : Option Contents) (root top : List ℕ) (files : Li
 loaded_none contents root top files known after o r turns e h =
     let t = subst (λ (x : Option SourceFile). IsTurn contents top files known after (Ok x)) e h in
     subst (λ (n : List ℕ). IsClean contents n files) r (loaded_clean contents top files known turns t.0)
-
--- what two calls keep
-pub keeps_twice : {F : Type 0} {contents : F → Option Contents} {faults : F → List ℕ → ℕ} (a b c : F) → KeepsFiles contents faults a b → KeepsFiles contents faults b c → KeepsFiles contents faults a c
-keeps_twice a b c x y = record { same = y.same ∙ x.same; later = λ name. omega (arith, x.later name, y.later name) }

@@ -1,5 +1,5 @@
 -- How long the lines of edges are.
-use Rattle.std.proofs.Common.{◌<◌, ◌≤◌, ◌+◌, ◌*◌, ℕ, List, [], ◌∷◌, length, refl, inl, inr, arith}
+use Rattle.std.proofs.Common.{◌<◌, ◌≤◌, ◌*◌, ℕ, List, [], ◌∷◌, length, refl, inl, inr, arith}
 use Rattle.std.proofs.Math.Nat.{mul-suc}
 use Rattle.std.proofs.lemmas.Fmt.{length-decimal-le}
 use Rattle.std.proofs.lemmas.List.{length-append}
@@ -9,7 +9,6 @@ use Rattle.auth_kinds.specs.Authorities.{text_of}
 use Rattle.auth_kinds.specs.declared.authority.Authority.{Authority}
 use Rattle.auth_kinds.specs.declared.authority.Authority.TheVariants.{Receive, SyncSend, AsyncSend, Reset, Grant, Read, Write, Control, Call, Reply, GrantBack, Handle}
 use Rattle.auth_kinds.specs.declared.edge.Edge.{Edge}
-use Rattle.cam_base.specs.Texts.{◌⊹◌}
 use Rattle.numbering.specs.Gather.{IsIn}
 use Rattle.policy_text.specs.PolicyLines.{cert_text, edge_line}
 use Rattle.spec_kept.proofs.Lengths.{all_short, joined}

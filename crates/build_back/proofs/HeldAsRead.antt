@@ -1,12 +1,11 @@
 -- Whatever is read of the texts of a build is the build's own, and so what holds of the build holds of it.
-use Rattle.std.proofs.Common.{◌≡◌, ◌≢◌, ◌∙◌, ℕ, List, Option, Ok, refl, sym, subst}
+use Rattle.std.proofs.Common.{◌≡◌, ◌≢◌, ◌∙◌, ℕ, List, Option, Ok, sym, subst}
 use Rattle.std.specs.Prelude.{◌↔◌}
 use Rattle.adl_ast.specs.declared.source.Source.{Source}
 use Rattle.adl_meaning.specs.Flat.{flat_of}
 use Rattle.arch_compile.specs.Built.{IsBuildOf, IsMade, system_tables}
 use Rattle.arch_compile.specs.LayoutFaults.{images_from}
 use Rattle.arch_compile.specs.declared.building.Build.{Build}
-use Rattle.arch_policy.specs.Labels.{label_lines}
 use Rattle.arch_policy.specs.Reasons.{IsReasoned}
 use Rattle.assigned_laws.proofs.Ranked.{lines_apart}
 use Rattle.assigned_laws.proofs.TextReasons.{assigned_texts}
@@ -28,7 +27,6 @@ use Rattle.numbering.specs.Gather.{IsIn}
 use Rattle.policy_text.specs.Labelled.{IsLabelling}
 use Rattle.policy_text.specs.PolicyLines.{cert_text}
 use Rattle.policy_text.specs.PolicyTexts.{IsCertText}
-use Rattle.program_sections.specs.declared.images.Images.{Images}
 use Rattle.reach_laws.proofs.Reached.{exactly_reached}
 use Rattle.source_images.specs.Found.{Found}
 use Rattle.system_spec.specs.Made.{labels_of, spec_of}

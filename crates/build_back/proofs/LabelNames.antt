@@ -1,5 +1,5 @@
 -- The text of a path of at most 16 identifiers is a label's name.
-use Rattle.std.proofs.Common.{◌≡◌, ◌≢◌, ◌∙◌, ◌≤◌, ◌+◌, ◌*◌, ◌&&◌, ◌==◌, ℕ, true, List, [], ◌∷◌, ◌++◌, length, refl, inl, inr, arith}
+use Rattle.std.proofs.Common.{◌≡◌, ◌≢◌, ◌∙◌, ◌≤◌, ◌*◌, ◌&&◌, ◌==◌, ℕ, true, List, [], ◌∷◌, length, refl, inl, inr, arith}
 use Rattle.std.proofs.Math.Nat.{mul-suc}
 use Rattle.std.proofs.lemmas.Bool.{and_from, and_parts, le-leb, leb-true, or_left}
 use Rattle.std.proofs.lemmas.List.{length-append}
@@ -9,7 +9,7 @@ use Rattle.std.specs.Prelude.{leb, nat_le}
 use Rattle.adl_meaning.specs.Items.{Name}
 use Rattle.adl_meaning.specs.Paths.{Path}
 use Rattle.auth_kinds.specs.Policies.{is_label_byte, is_label_name}
-use Rattle.cam_base.specs.Names.{is_letter, is_name, is_word_byte}
+use Rattle.cam_base.specs.Names.{is_letter, is_word_byte}
 use Rattle.cam_base.specs.Paths.{joined}
 use Rattle.numbering.specs.Gather.{IsIn}
 use Rattle.assigned_laws.proofs.Identifiers.{IsIdentifier}

@@ -1,24 +1,20 @@
 -- Each object of connected tables belongs to a domain, a connection or a device that is there and has a label.
-use Rattle.std.proofs.Common.{◌≡◌, ◌∙◌, ℕ, Bool, true, false, cond, List, [], ◌∷◌, Option, Some, None, refl, sym, ap, subst, inl, inr}
+use Rattle.std.proofs.Common.{◌≡◌, ◌∙◌, ℕ, Bool, true, false, cond, List, [], Option, Some, None, refl, sym, ap, subst, inl, inr}
 use Rattle.std.specs.List.{range_with_len, slice_get}
 use Rattle.std.specs.Option.{option_map_or}
 use Rattle.adl_meaning.specs.declared.connector.Connector.{Connector}
 use Rattle.adl_meaning.specs.declared.connector.Connector.TheVariants.{Rpc, Notification, SharedMemory, Mmio, Interrupt, Direct}
-use Rattle.adl_meaning.specs.declared.flat.Domain.{Domain}
-use Rattle.adl_meaning.specs.declared.flat.Flat.{Flat}
 use Rattle.adl_meaning.specs.declared.flat.FlatConnection.{FlatConnection}
 use Rattle.adl_meaning.specs.declared.flat.FlatEnd.{FlatEnd}
-use Rattle.arch_policy.specs.Ends.{EndAt}
 use Rattle.arch_policy.specs.Owners.{has_label}
 use Rattle.arch_policy.specs.Tables.{IsThere as HasLabel, number_of}
 use Rattle.arch_policy.specs.declared.owner.Owner.{Owner}
-use Rattle.arch_policy.specs.declared.owner.Owner.TheVariants.{OfConnection, OfDomain, OfLeaf}
+use Rattle.arch_policy.specs.declared.owner.Owner.TheVariants.{OfConnection, OfLeaf}
 use Rattle.auth_kinds.specs.ObjectLabels.{label_of}
 use Rattle.cap_model.specs.declared.spec.Entry.{Entry}
 use Rattle.numbering.proofs.Gathered.{from_gather, in_append, in_place}
 use Rattle.numbering.proofs.Lists.{from_map}
 use Rattle.numbering.specs.Gather.{IsIn}
-use Rattle.reach_laws.specs.Flat.{is_at_device}
 use Rattle.spec_edges.proofs.Devices.{device_found}
 use Rattle.spec_edges.proofs.Mapped.{at_registers}
 use Rattle.spec_edges.proofs.Whose.{device_at, entry_is, label_there, labels, owner_of}
@@ -35,7 +31,6 @@ use Rattle.vspace_layout.specs.Memory.{is_shared, memory_paddr, memory_pages, re
 use Rattle.vspace_layout.specs.declared.mapped.MappedPage.{MappedPage}
 use Rattle.vspace_layout.specs.declared.mapped.Shown.{Shown}
 use Rattle.vspace_layout.specs.declared.mapped.Shown.TheVariants.{Own, Memory}
-use Rattle.vspace_layout.specs.declared.owner.Owner.{Owner as FrameOwner}
 use Rattle.vspace_layout.specs.declared.owner.Owner.TheVariants as owners
 use Rattle.vspace_layout.specs.declared.spaces.FrameInfo.{FrameInfo}
 use Rattle.vspace_layout.specs.declared.spaces.Spaces.{Spaces}

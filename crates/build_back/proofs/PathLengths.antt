@@ -3,9 +3,7 @@
 use Rattle.std.proofs.Common.{◌≡◌, ◌≤◌, ◌+◌, ◌++◌, ◌∙◌, ℕ, List, [], ◌∷◌, length, map, Option, Some, None, refl, sym, ap, subst, inl, inr, arith, unwrap_or}
 use Rattle.std.proofs.Math.Nat.{le-max_left, le-max_right}
 use Rattle.std.proofs.lemmas.List.{length-append}
-use Rattle.std.specs.List.{filter_map, slice_get}
 use Rattle.std.specs.Option.{option_map}
-use Rattle.std.specs.Prelude.{max}
 use Rattle.adl_ast.specs.declared.composition.End.{End}
 use Rattle.adl_ast.specs.declared.composition.Role.TheVariants.{From}
 use Rattle.adl_ast.specs.declared.source.Source.{Source}
@@ -14,11 +12,11 @@ use Rattle.adl_hierarchy.proofs.Grouping.{above_outermost}
 use Rattle.adl_hierarchy.proofs.Joining.{joined}
 use Rattle.adl_hierarchy.proofs.Limits.{AreInLimits, in_limits}
 use Rattle.adl_hierarchy.specs.Leads.{AreDotted}
-use Rattle.adl_meaning.specs.Domains.{domain_of, domains, group_above, is_hardware}
-use Rattle.adl_meaning.specs.Flat.{flat_connection, flat_domain, flat_end, flat_ends, flat_of, leaf_of}
+use Rattle.adl_meaning.specs.Domains.{domain_of, domains, group_above}
+use Rattle.adl_meaning.specs.Flat.{flat_domain, flat_end, flat_ends, flat_of, leaf_of}
 use Rattle.adl_meaning.specs.Hierarchy.{Hierarchy, hierarchy_of, top_number}
 use Rattle.adl_meaning.specs.JoinFaults.{first_flat_fault, first_join_fault}
-use Rattle.adl_meaning.specs.Joins.{Joins, Strung, connections, joined_by}
+use Rattle.adl_meaning.specs.Joins.{Strung, connections, joined_by}
 use Rattle.adl_meaning.specs.NameFaults.{AreNamesSound}
 use Rattle.adl_meaning.specs.Paths.{Path, Placed, leaves}
 use Rattle.adl_meaning.specs.SizeFaults.{first_size_fault, longest}

@@ -1,5 +1,5 @@
 -- Policies of builds are read back: they keep each limit of their reader, and what every policy keeps.
-use Rattle.std.proofs.Common.{◌≡◌, ◌≢◌, ◌∙◌, ◌<◌, ◌≤◌, ℕ, true, not, List, ◌∷◌, Option, Some, length, map, get_or, is_some, refl, sym, ap, subst, inl, arith, Result, Ok}
+use Rattle.std.proofs.Common.{◌≡◌, ◌≢◌, ◌∙◌, ◌<◌, ◌≤◌, ℕ, true, not, List, Option, Some, length, map, get_or, is_some, refl, sym, ap, subst, inl, arith, Result, Ok}
 use Rattle.std.proofs.lemmas.Bool.{and_parts}
 use Rattle.std.proofs.lemmas.Option.{get_or_from_slice_get, slice_get-get_or, slice_get_within}
 use Rattle.std.specs.List.{All, AllPairs, list_all, slice_get}
@@ -32,7 +32,6 @@ use Rattle.numbering.specs.Gather.{IsIn}
 use Rattle.policy_text.proofs.OneMeaning.{policies_one}
 use Rattle.policy_text.proofs.ReadBack.{policy_back}
 use Rattle.policy_text.specs.PolicyLines.{policy_text}
-use Rattle.policy_text.specs.PolicyTexts.{AreLabelled}
 use Rattle.policy_text.specs.Writable.{IsWritable}
 use Rattle.program_sections.specs.declared.images.Images.{Images}
 use Rattle.source_bounds.proofs.Bounds.{dotted}

@@ -4,7 +4,7 @@ use Rattle.std.specs.List.{flat_map}
 use Rattle.std.proofs.lemmas.List.Folds.{flat_map-map}
 use Rattle.cam_base.specs.Texts.{together}
 
-join_map : {X : Type 0} (f : X → List ℕ) (xs : List X) → flat_map (λ x. x) (map f xs) ≡ flat_map f xs
+pub join_map : {X : Type 0} (f : X → List ℕ) (xs : List X) → flat_map (λ x. x) (map f xs) ≡ flat_map f xs
 join_map f xs = flat_map-map (λ x. x) f xs
 
 pub together_map : {X : Type 0} (f : X → List ℕ) (xs : List X) → together (map f xs) ≡ flat_map f xs

@@ -10,3 +10,4 @@ pub mod Scripted
 pub mod Sequence
 pub mod Taken
 pub mod Writing
+pub mod Kept

@@ -1,8 +1,6 @@
 -- Writers one after another: what a function that calls several cites at each exit.
-use Rattle.std.proofs.Common.{◌≡◌, ℕ, List, [], ◌∷◌, Result, Ok, Err, IsErr, arith, length, map}
+use Rattle.std.proofs.Common.{◌≡◌, ℕ, List, [], ◌∷◌, Result, Ok, Err, IsErr, arith, length}
 use Rattle.cam_io.specs.Sinks.{Sink, IsOpen, Writes}
-use Rattle.std.specs.List.{flat_map}
-use Rattle.std.proofs.lemmas.List.Folds.{flat_map-map}
 use Rattle.cam_base.specs.Texts.{◌⊹◌}
 use Rattle.cam_io.proofs.Counts.{rose_after}
 use Rattle.cam_io.proofs.Writing.{wrote_nothing, ok_then, cut_first, cut_then, open_after}
@@ -29,6 +27,3 @@ module _ {E : Type 0} {c : ℕ} where
 
   pub open_still : {s t : Sink} {m n : ℕ} {a : List ℕ} {o : Unit {0}} → Writes {E = E} (Ok o) c a s t m n → IsOpen s c → IsOpen t c
   open_still {s} {t} {a = a} w h = record { may = open_after s t c a w.ok h.may }
-
-join_map : {X : Type 0} (f : X → List ℕ) (xs : List X) → flat_map (λ x. x) (map f xs) ≡ flat_map f xs
-join_map f xs = flat_map-map (λ x. x) f xs

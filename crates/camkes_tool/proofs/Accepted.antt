@@ -14,7 +14,6 @@ use Rattle.build_back.proofs.TrioValid.{trio_valid}
 use Rattle.build_back.specs.AsRead.{HoldsAsRead, IsReadAs}
 use Rattle.build_back.specs.ReadBack.{AreReadBack}
 use Rattle.build_back.specs.TriosValid.{IsTrioValid}
-use Rattle.cam_base.specs.declared.text_fault.TextFault.{TextFault}
 use Rattle.cam_base.specs.declared.error.Refused.TheVariants as refused
 use Rattle.cam_io.specs.Causes.{Rose}
 use Rattle.cam_io.specs.Contents.{Contents}
@@ -25,7 +24,7 @@ use Rattle.capdl_text.proofs.Unique.{no_fault_of_text}
 use Rattle.capdl_text.specs.Texts.{Text}
 use Rattle.command_words.specs.Words.{read_words}
 use Rattle.command_words.specs.declared.command.Command.TheVariants.{Check}
-use Rattle.generate_command.proofs.Accepting.{labels_stand}
+use Rattle.generate_command.proofs.Accepting.{labels_stand, none_some}
 use Rattle.policy_text.specs.Labelled.{IsLabelling}
 use Rattle.policy_text.specs.PolicyLines.{cert_text, policy_text}
 use Rattle.policy_text.specs.PolicyTexts.{IsCertText, IsPolicyText, first_cert_fault}
@@ -41,9 +40,6 @@ use Rattle.camkes_tool.specs.Answers.{Fits, Tells}
 use Rattle.camkes_tool.specs.Statuses.{IsStatus, IsStatusOfTexts, NoneRose}
 use Rattle.camkes_tool.specs.Theorem.{HoldTexts}
 use Rattle.camkes_tool.specs.declared.answer.Answer.{Answer}
-
-none_some : (o : Option TextFault) (f : TextFault) → o ≡ None → o ≡ Some f → ⊥
-none_some o f none some = cc
 
 module _ (m : Contents) (old new : List ℕ → ℕ) where
   -- ---- inputs

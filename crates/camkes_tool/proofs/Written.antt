@@ -15,7 +15,7 @@ use Rattle.camkes_tool.specs.Theorem.{IsSafe, IsWritten}
 use Rattle.camkes_tool.specs.declared.answer.Answer.{Answer}
 use Rattle.camkes_tool.specs.declared.answer.Answer.TheVariants.{Compiled, Listed, Explained, Told, Generated, Faulted, Refused, Usage, ReadFault, NoMemory}
 
-zero_not_five : (n : ℕ) → n ≡ 0 → n ≡ 5 → ⊥
+pub zero_not_five : (n : ℕ) → n ≡ 0 → n ≡ 5 → ⊥
 zero_not_five n e h = omega arith
 
 -- with status 0 the answer was told whole

@@ -34,9 +34,8 @@ use Rattle.cap_audit.specs.declared.making.Deed.TheVariants as deeds
 use Rattle.cap_audit.specs.declared.picks.Wanted.TheVariants as wants
 use Rattle.auth_kinds.proofs.EdgeOrder.{edges_same}
 use Rattle.cap_audit.proofs.Gaining.{gains_by, gains_then}
-use Rattle.cap_audit.proofs.Gating.{thread_inside}
 use Rattle.cap_audit.proofs.Growing.{report_exact}
-use Rattle.cap_spread.proofs.Beginning.{root_inside}
+use Rattle.cap_spread.proofs.Beginning.{root_inside, thread_inside}
 
 -- the search found all of the Spread
 pub all_found : (spec : Spec) (f : Found) → IsFound spec f → IsClosed spec (IsFoundAt f) → IsAll spec (bare f)

@@ -3,15 +3,14 @@ use Rattle.std.proofs.Common.{◌≡◌, ◌≢◌, ◌∙◌, ◌⊎◌, ◌<�
 use Rattle.std.proofs.lemmas.Bool.{and_parts, cases_eq, cases_lt, eq-eqb}
 use Rattle.std.proofs.lemmas.List.{get_or-set_same, get_or-set_other, length-set}
 use Rattle.std.proofs.lemmas.Option.{same_Some}
-use Rattle.cap_model.proofs.Kept.{is_at_below, object_below}
+use Rattle.cap_model.proofs.Kept.{is_at_below}
 use Rattle.cap_model.specs.Kinds.{is_at}
 use Rattle.cap_model.specs.Lookup.{object_at}
 use Rattle.cap_model.specs.declared.cap.Cap.{Cap}
 use Rattle.cap_model.specs.declared.kind.Kind.TheVariants as kinds
-use Rattle.cap_model.specs.declared.object.Object.{Object}
 use Rattle.cap_model.specs.declared.spec.Spec.{Spec}
 use Rattle.cap_spread.specs.Search.{Found}
-use Rattle.cap_spread.specs.Spread.{HasRoot, root_of}
+use Rattle.cap_spread.specs.Spread.{root_of}
 use Rattle.cap_spread.specs.Start.{repeated}
 use Rattle.cap_spread.specs.declared.found.Pair.{Pair}
 use Rattle.cap_spread.proofs.Beginning.{repeated_at, repeated_length}
@@ -168,9 +167,3 @@ gates_more spec f heads gates new n pair (Some pick) at before is same = subst (
             ))
       ];
     })
-
-pub thread_inside : (spec : Spec) (t c : ℕ) → HasRoot spec t c → t < length spec.entries
-thread_inside spec t c root = go (object_at spec t) refl where
-  go : (o : Option Object) → object_at spec t ≡ o → t < length spec.entries
-  go (Some object) there = object_below spec t object there
-  go None there = absurd (let none : root_of (object_at spec t) ≡ None = rw there refl in let x : ◌≡◌ {A = Option ℕ} None (Some c) = sym none ∙ root in cc)

@@ -35,6 +35,7 @@ use Rattle.cap_spread.specs.declared.found.Held.{Held}
 use Rattle.cap_spread.specs.declared.found.Pair.{Pair}
 use Rattle.cap_spread.proofs.Bringing.{none_within, at_pushed, pushed_cases, pushed_last, mark_kept, mark_cases, mark_there, mark_lengths, held_kept, held_cases, held_there}
 use Rattle.cap_spread.proofs.Quiet.{slot_at_boot, boot_quiet, quiet_cnode}
+use Rattle.cap_machine.proofs.Booting.{at_object}
 
 pub slots_inside : (spec : Spec) (c k : ℕ) (x : ℕ × Cap) → slice_get (slots_at spec c) k ≡ Some x → c < length spec.entries
 slots_inside spec c k x h = go (slice_get spec.entries c) refl where
@@ -224,9 +225,6 @@ next_object spec f n m s all = record {
 
 -- rows, and marks in them
 
-kind_here : (spec : Spec) (c : ℕ) (entry : Entry) (object : Object) → slice_get spec.entries c ≡ Some entry → entry.object ≡ object → kind_at spec c ≡ Some (kind_of_object object)
-kind_here spec c entry object h is = rw (h, is) refl
-
 cnode_row : (width : ℕ) (object : Object) → ◌≡◌ {A = Option Kind} (Some (kind_of_object object)) (Some kinds.CNode) → length (blank_row width object) ≡ width
 cnode_row width (objects.CNode bits slots) h = blanks_length width
 cnode_row width objects.Endpoint h = absurd cc
@@ -242,7 +240,7 @@ row_width spec width c is = go (slice_get spec.entries c) refl where
   go None h = absurd (let w : is_at spec kinds.CNode c ≡ false = rw h refl in cc)
   go (Some entry) h =
       let kind : kind_at spec c ≡ Some kinds.CNode = kind_is spec kinds.CNode c is in
-      ap (λ (row : List Bool). length row) (entry_at (blank_row width) spec.entries c [] entry h) ∙ cnode_row width entry.object (sym (kind_here spec c entry entry.object h refl) ∙ kind)
+      ap (λ (row : List Bool). length row) (entry_at (blank_row width) spec.entries c [] entry h) ∙ cnode_row width entry.object (sym (at_object spec c entry entry.object h refl) ∙ kind)
 
 pub rows_marks : (spec : Spec) (f : Found) → Starts spec f (length spec.entries) 0 → Marks spec (with_rows f (blank_rows (length f.values) spec.entries)) 0
 rows_marks spec f s = record {
@@ -395,14 +393,14 @@ roots_more spec roots new n (Some d) kept r is made = rw made (record {
   ];
 })
 
-no_such_thread : (spec : Spec) (t c : ℕ) → HasRoot spec t c → t < length spec.entries
-no_such_thread spec t c root = go (slice_get spec.entries t) refl where
+pub thread_inside : (spec : Spec) (t c : ℕ) → HasRoot spec t c → t < length spec.entries
+thread_inside spec t c root = go (slice_get spec.entries t) refl where
   go : (e : Option Entry) → slice_get spec.entries t ≡ e → t < length spec.entries
   go (Some entry) there = slice_get_within spec.entries t entry there
   go None there = absurd (let none : root_of (object_at spec t) ≡ None = rw there refl in let x : ◌≡◌ {A = Option ℕ} None (Some c) = sym none ∙ root in cc)
 
 pub roots_all : (spec : Spec) (roots : List (Option ℕ)) → RootsBelow spec roots (length spec.entries) → AreRoots spec roots
-roots_all spec roots r = record { true_ones = r.true_ones; all_ones = λ c t root none. r.all_ones c t (no_such_thread spec t c root) root none }
+roots_all spec roots r = record { true_ones = r.true_ones; all_ones = λ c t root none. r.all_ones c t (thread_inside spec t c root) root none }
 
 -- nets and hubs with nothing in them
 

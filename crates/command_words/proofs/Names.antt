@@ -12,7 +12,8 @@ use Rattle.clap.proofs.FaultLemmas.{stopped_fault}
 use Rattle.clap.proofs.SimpleLemmas.{is_nil, label_first}
 use Rattle.clap.proofs.WalkLemmas.{walk_stopped}
 use Rattle.command_words.specs.Clap.{bare}
-use Rattle.command_words.proofs.Slots.{find_passes, first_fails, first_word_fails, found_passes, passes}
+use Rattle.cam_base.proofs.Lists.{find_passes as found_passes}
+use Rattle.command_words.proofs.Slots.{find_passes, first_fails, first_word_fails, passes}
 
 -- the program as `clap` builds it
 abbrev pub top : Shape

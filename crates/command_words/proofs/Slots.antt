@@ -39,14 +39,6 @@ find_passes p q (y ∷ ys) x all e = go (p y) (find_passes p q ys x ((and_parts 
     go true rest e = subst (λ z. q z ≡ true) (same_Some y x e) ((and_parts (q y) (list_all q ys) all).0)
     go false rest e = rest e
 
-pub found_passes : {X : Type 0} (p : X → Bool) (xs : List X) (x : X) → find p xs ≡ Some x → p x ≡ true
-found_passes p [] x e = absurd (some≢none x (sym e))
-found_passes p (y ∷ ys) x e = go (p y) refl (found_passes p ys x) e
-  where
-    go : (b : Bool) → p y ≡ b → (find p ys ≡ Some x → p x ≡ true) → cond b (Some y) (find p ys) ≡ Some x → p x ≡ true
-    go true hit rest e = subst (λ z. p z ≡ true) (same_Some y x e) hit
-    go false hit rest e = rest e
-
 find_none : (p : Rule → Bool) (c : List Rule) → ((a : Rule) → is_some a.index ≡ true → p a ≡ false) → list_all takes_one c ≡ true → find p c ≡ None
 find_none p [] h e = refl
 find_none p (a ∷ c) h e =

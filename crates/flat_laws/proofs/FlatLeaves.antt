@@ -1,8 +1,7 @@
 -- The leaves and domains of a flat system, by number.
-use Rattle.std.proofs.Common.{◌≡◌, ◌≤◌, ℕ, Bool, true, false, cond, List, [], ◌∷◌, map, Option, Some, None, refl, sym, ◌∙◌, ap, subst, inl, inr, unwrap_or, length, arith}
-use Rattle.std.specs.List.{All, slice_get}
+use Rattle.std.proofs.Common.{◌≡◌, ◌≤◌, ℕ, Bool, true, false, cond, List, [], ◌∷◌, map, Option, Some, None, refl, sym, ◌∙◌, ap, subst, unwrap_or, length, arith}
+use Rattle.std.specs.List.{slice_get}
 use Rattle.std.proofs.lemmas.List.{length-map}
-use Rattle.std.proofs.lemmas.List.Elements.{All-head, All-tail}
 use Rattle.std.proofs.lemmas.Option.{option_and_then_some}
 use Rattle.adl_ast.specs.declared.component.Component.{Component}
 use Rattle.adl_ast.specs.declared.component.Member.{Member}
@@ -13,7 +12,7 @@ use Rattle.adl_hierarchy.proofs.DomainNames.{domains_are, leaves_of_domain, doma
 use Rattle.adl_hierarchy.proofs.Leaves.{leaves_stand}
 use Rattle.component_graph.proofs.ComponentNumbers.{numbers_below}
 use Rattle.component_graph.proofs.Lists.{in_get}
-use Rattle.numbering.proofs.Lists.{get_map, at_place, from_get_map}
+use Rattle.numbering.proofs.Lists.{get_map, at_place, from_get_map, all_in}
 use Rattle.adl_hierarchy.proofs.Steps.{part_in}
 use Rattle.adl_meaning.specs.declared.flat.Domain.{Domain}
 use Rattle.adl_meaning.specs.declared.flat.Leaf.{Leaf}
@@ -52,11 +51,6 @@ pub members_of_part : (s : Source) (x : Part) (c : ItemAt × Component) → slic
 members_of_part s x c e =
     ap (λ (b : Body). members_at s (unwrap_or b.item (record { file = 0; item = 0 }))) (body_number s x.kind c e) ∙ members_there s c (in_get (components s) x.kind c e)
 
-one_of : {X : Type 0} (P : X → Type 0) (xs : List X) (x : X) → All P xs → IsIn x xs → P x
-one_of P [] x a i = absurd i
-one_of P (y ∷ xs) x a (inl e) = subst P e (All-head P y xs a)
-one_of P (y ∷ xs) x a (inr i) = one_of P xs x (All-tail P y xs a) i
-
 pub few_members : (s : Source) → AreNamesSound s → HaveFewMembers s → (leaf : ℕ) → length (leaf_members s (flat_of s) leaf) ≤ 1048576
 few_members s sound few leaf = by_leaf (slice_get (flat_of s).leaves leaf) refl
   where
@@ -68,7 +62,7 @@ few_members s sound few leaf = by_leaf (slice_get (flat_of s).leaves leaf) refl
         let c = leaf_component s sound x.0 (in_get (leaves h) leaf x.0 x.1) in
         let P : List Member → Type 0 = λ ms. length ms ≤ 1048576 in
         let Q : Leaf → Type 0 = λ z. length (members_at s z.component) ≤ 1048576 in
-        let own = one_of (λ (c : ItemAt × Component). length c.1.members ≤ 1048576) (components s) c.0 few (in_get (components s) x.0.part.kind c.0 c.1) in
+        let own = all_in (λ (c : ItemAt × Component). length c.1.members ≤ 1048576) (components s) c.0 few (in_get (components s) x.0.part.kind c.0 c.1) in
         subst Q x.2 (subst P (sym (members_of_part s x.0.part c.0 c.1)) own)
 
 -- ---- leaves of domains

@@ -15,10 +15,10 @@ none_unlabelled label (x ∷ xs) (n ∷ ns) e =
     let rest : map (λ n. Some n) ns ≡ map (λ (e : Entry). label e.name) xs = cc in
     rw here (none_unlabelled label xs ns rest)
 
-unlabelled_not : (o : Option TextFault) (fault : TextFault) → o ≡ None → o ≡ Some fault → ⊥
-unlabelled_not o fault none some = cc
+pub none_some : (o : Option TextFault) (fault : TextFault) → o ≡ None → o ≡ Some fault → ⊥
+none_some o fault none some = cc
 
 pub labels_stand : (b : Build) (fault : TextFault) → IsTrioValid b → IsLabelling b.spec b.policy (Err (refused.Fault fault)) → ⊥
 labels_stand b fault trio h =
-    unlabelled_not (first_unlabelled (object_label b.policy.objects) b.spec.entries) fault
+    none_some (first_unlabelled (object_label b.policy.objects) b.spec.entries) fault
     (none_unlabelled (object_label b.policy.objects) b.spec.entries trio.labels.by_object trio.labelled) h

@@ -1,6 +1,6 @@
 -- On gather
 use Rattle.std.proofs.Common.{◌≡◌, ◌<◌, ◌+◌, ℕ, zero, suc, List, length, map, get_or, take, [], ◌∷◌, ◌++◌, refl, sym, ◌∙◌, ap, subst, inl, inr, ◌⊎◌, Some, append_assoc, append-nil, add-one, arith}
-use Rattle.std.proofs.lemmas.Option.{slice_get_read, slice_get-get_or, get_or_from_slice_get}
+use Rattle.std.proofs.lemmas.Option.{slice_get_read, slice_get-get_or}
 use Rattle.std.proofs.lemmas.Grind.{flat_map-append}
 use Rattle.std.specs.List.{flat_map, slice_get}
 pub use Rattle.std.proofs.lemmas.List.{length-append as length_append}
@@ -123,10 +123,6 @@ pub from_ones : {X Y : Type 0} (f : ℕ → X → Y) (xs : List X) (k : ℕ) (y 
 from_ones f [] k y e = cc
 from_ones f (z ∷ xs) zero y e = (z, refl, cc)
 from_ones f (z ∷ xs) (suc k) y e = from_ones (λ k z. f (suc k) z) xs k y e
-
--- an element that is read with a default of its own
-pub read_twice : {X : Type 0} (ys : List X) (i : ℕ) (d : X) → i < length ys → get_or ys i d ≡ get_or ys i (get_or ys i d)
-read_twice ys i d l = sym (get_or_from_slice_get ys i (get_or ys i d) (get_or ys i d) (slice_get-get_or ys i d l))
 
 -- THE turn of a loop that appends what each element gives. ys is the slice by which the loop reads xs
 pub gather_turn : {X Y : Type 0} (f : ℕ → X → List Y) (xs ys : List X) (i : ℕ) (x : X) (old mid new : List Y) → ys ≡ xs → i < length ys → x ≡ get_or ys i x

@@ -1,6 +1,6 @@
 -- What stands in a list, and what a list's elements are made into.
 use Rattle.std.proofs.Common.{◌≡◌, ◌<◌, ◌≤◌, ◌+◌, ◌∙◌, ℕ, zero, suc, Bool, true, false, cond, List, [], ◌∷◌, ◌++◌, length, take, drop, get_or, map, refl, sym, ap, subst, inl, inr, ◌⊎◌, Option, Some, None, option_map, arith, true≢false}
-use Rattle.std.specs.List.{flat_map, filter_map, find, enumerate_from, cons_option, range_with_len, slice_get, list_any}
+use Rattle.std.specs.List.{flat_map, filter_map, find, enumerate_from, cons_option, range_with_len, slice_get, list_any, All}
 use Rattle.std.proofs.lemmas.Option.{slice_get-get_or, slice_get_read}
 use Rattle.std.specs.Prelude.{◌||◌}
 use Rattle.numbering.specs.Gather.{IsIn, gather}
@@ -223,3 +223,11 @@ length-gather f (x ∷ xs) h =
     let b = length-gather (λ k y. f (suc k) y) xs (λ k y. h (suc k) y) in
     let c = length_append (f 0 x) (gather (λ k y. f (suc k) y) xs) in
     omega (arith, a, b, c)
+
+pub all_in : {X : Type 0} (P : X → Type 0) (xs : List X) (x : X) → All P xs → IsIn x xs → P x
+all_in P [] x h i = absurd i
+all_in P (y ∷ xs) x h (inl e) = subst P e (h 0 y (omega arith))
+all_in P (y ∷ xs) x h (inr i) = all_in P xs x (λ k d l. h (suc k) d (omega arith)) i
+
+pub below_count : (n i : ℕ) → IsIn i (range_with_len 0 n) → i < n
+below_count n i h = let l = from_range 0 n i h in omega (arith, l)

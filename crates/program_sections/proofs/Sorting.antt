@@ -7,7 +7,7 @@ use Rattle.std.proofs.lemmas.List.Sorted.{All-permutation, IsPermutation-sym, su
 use Rattle.std.proofs.lemmas.List.Sums.{sum_by-cons}
 use Rattle.numbering.specs.Gather.{gather, IsIn}
 use Rattle.numbering.proofs.Gathered.{in_append, from_gather}
-use Rattle.numbering.proofs.Lists.{from_map}
+use Rattle.numbering.proofs.Lists.{from_map, all_in}
 
 -- ---- members of a permutation
 
@@ -15,11 +15,6 @@ pub own_all : {X : Type 0} (xs : List X) → All (λ x. IsIn x xs) xs
 own_all [] k d l = absurd (omega arith)
 own_all (x ∷ xs) zero d l = inl refl
 own_all (x ∷ xs) (suc k) d l = inr (own_all xs k d (omega arith))
-
-all_in : {X : Type 0} (P : X → Type 0) (xs : List X) (x : X) → All P xs → IsIn x xs → P x
-all_in P [] x h i = absurd i
-all_in P (y ∷ xs) x h (inl e) = subst P e (h 0 y (omega arith))
-all_in P (y ∷ xs) x h (inr i) = all_in P xs x (λ k d l. h (suc k) d (omega arith)) i
 
 pub in_permutation : {X : Type 0} (xs ys : List X) (x : X) → IsPermutation xs ys → IsIn x ys → IsIn x xs
 in_permutation xs ys x p i = all_in (λ z. IsIn z xs) ys x (All-permutation (λ z. IsIn z xs) xs ys p (own_all xs)) i

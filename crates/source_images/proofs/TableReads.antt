@@ -9,7 +9,6 @@ use Rattle.std.specs.FinMap.{get}
 use Rattle.std.specs.List.{slice_get}
 use Rattle.std.specs.Prelude.{IfSome, IsErrAnd}
 use Rattle.cam_io.specs.Contents.{Contents}
-use Rattle.cam_io.specs.Reading.{KeepsFiles}
 use Rattle.numbering.specs.Gather.{IsIn}
 use Rattle.numbering.proofs.Gathered.{in_place}
 use Rattle.numbering.proofs.Lists.{get_map}
@@ -91,9 +90,6 @@ all_read contents file tables readings a =
     )
 
 -- ---- files
-
-pub keeps_twice : {F : Type 0} {contents : F → Option Contents} {faults : F → List ℕ → ℕ} (a b c : F) → KeepsFiles contents faults a b → KeepsFiles contents faults b c → KeepsFiles contents faults a c
-keeps_twice a b c p q = record { same = q.same ∙ p.same; later = λ name. omega (arith, p.later name, q.later name) }
 
 -- a read that failed is of one of the tables
 pub failed_in : (tables : List (Name × List ℕ)) (n : ℕ) (t : Name × List ℕ) (name : List ℕ) → slice_get tables n ≡ Some t → name ≡ t.1 → IsIn name (map (λ t. t.1) tables)

@@ -17,7 +17,7 @@ use Rattle.cam_base.specs.Names.{is_name}
 use Rattle.cap_model.specs.declared.object.Fill.{Fill}
 use Rattle.numbering.specs.Gather.{IsIn, gather}
 use Rattle.numbering.proofs.Gathered.{from_gather, from_ones, in_append, in_place}
-use Rattle.numbering.proofs.Lists.{from_flat_map, from_map, from_range}
+use Rattle.numbering.proofs.Lists.{from_flat_map, from_map, below_count}
 use Rattle.program_sections.specs.ByAddress.{by_address, name_of, page_at, pages_of, put_section, section_pages}
 use Rattle.program_sections.specs.Images.{Placed, arch_of, image_number, is_run, placed, sections_if, sections_of}
 use Rattle.program_sections.specs.SectionPages.{fill_from, fill_of, page_count}
@@ -54,9 +54,6 @@ use Rattle.spec_kept.specs.Plain.{IsPlain}
 use Rattle.spec_kept.specs.Written.{IsFillWritten, IsFrameWritten, IsThreadWritten, IsWritten}
 
 -- ---- lists
-
-below_count : (n j : ℕ) → IsIn j (range_with_len 0 n) → j < n
-below_count n j i = let l = from_range 0 n j i in omega (arith, l)
 
 from_put : (x y : Placed) (ys : List Placed) → IsIn y (put_section x ys) → (x ≡ y) ⊎ IsIn y ys
 from_put x y [] (inl e) = inl e

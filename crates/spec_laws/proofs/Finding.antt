@@ -9,7 +9,7 @@ use Rattle.cap_model.specs.declared.level.Arch.TheVariants.{Arm11, Aarch64}
 use Rattle.cap_model.specs.declared.object.Object.{Object}
 use Rattle.numbering.specs.Gather.{IsIn, gather}
 use Rattle.numbering.proofs.Gathered.{from_gather, get_ones, in_append, in_gather, in_place, place_of}
-use Rattle.numbering.proofs.Lists.{below, from_map, in_map}
+use Rattle.numbering.proofs.Lists.{below, from_map, in_map, below_count}
 use Rattle.page_tables.specs.declared.mapping.Mapping.{Mapping}
 use Rattle.page_tables.specs.Shapes.{shapes}
 use Rattle.page_tables.specs.Walks.{Walk, root_span}
@@ -40,7 +40,6 @@ use Rattle.vspace_layout.proofs.Rising.{each_all, each_in, rising}
 use Rattle.vspace_layout.proofs.Sections.{sections_stand}
 use Rattle.spec_laws.specs.CanMap.{CanMap}
 use Rattle.spec_laws.specs.Spaced.{IsAt, IsRegionPage, begins, memory_rights, objects_from, root_of, system}
-use Rattle.spec_laws.proofs.Members.{from_range}
 use Rattle.spec_laws.proofs.Paging.{region_in}
 use Rattle.spec_laws.proofs.Rooted.{frames_from, from_root, tables_of_domain}
 
@@ -135,7 +134,7 @@ module _ (t : Tables) (can : CanMap t) (d : ℕ) (x : Domain) (h : slice_get t.f
         | inr j ↦
             let a = from_gather (pages_of_region t.settled (base s) (regions s d)) p (regions s d) j in
             let b = from_map (page_of t.settled (begins t d a.0) a.1) p (range_with_len 0 a.1.pages) a.3 in
-            let l = region_below a.0 b.0 a.1 a.2 (from_range a.1.pages b.0 b.1) in
+            let l = region_below a.0 b.0 a.1 a.2 (below_count a.1.pages b.0 b.1) in
             let e : begins t d a.0 + 4096 * b.0 ≡ p.at = sym (at_is t.settled a.1.content (begins t d a.0 + 4096 * b.0) b.0) ∙ ap (λ (z : MappedPage). z.at) b.2 in
             let P : ℕ → Type 0 = λ z. z < root_span (shapes (arch t)) in subst P e l
       ]

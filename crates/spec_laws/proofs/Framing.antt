@@ -18,7 +18,7 @@ use Rattle.leaf_ends.specs.declared.end_at.EndAt.{EndAt}
 use Rattle.leaf_ends.specs.Lookups.{setting_of}
 use Rattle.numbering.specs.Gather.{IsIn}
 use Rattle.numbering.proofs.Gathered.{from_gather, get_ones, in_append, in_gather, in_place}
-use Rattle.numbering.proofs.Lists.{below, from_map}
+use Rattle.numbering.proofs.Lists.{below, from_map, below_count}
 use Rattle.program_sections.specs.ByAddress.{section_pages}
 use Rattle.system_spec.specs.declared.part.Owned.{Owned}
 use Rattle.system_spec.specs.declared.part.Part.{Part}
@@ -48,7 +48,6 @@ use Rattle.vspace_layout.proofs.MemoryNumbers.{position_found}
 use Rattle.spec_laws.specs.CanMap.{CanMap}
 use Rattle.spec_laws.specs.Framed.{OneDevice}
 use Rattle.spec_laws.specs.Spaced.{IsRegionPage, begins, system}
-use Rattle.spec_laws.proofs.Members.{from_range}
 use Rattle.spec_laws.proofs.Paging.{window_is, window_of}
 
 -- ---- frames as objects
@@ -186,7 +185,7 @@ shows_at t d k j p e i =
       | inr q ↦
           let a = from_gather (pages_of_region t.settled (base s) (regions s d)) p (regions s d) q in
           let b = from_map (page_of t.settled (begins t d a.0) a.1) p (range_with_len 0 a.1.pages) a.3 in
-          by_content a.0 a.1 b.0 a.1.content refl a.2 (from_range a.1.pages b.0 b.1) b.2
+          by_content a.0 a.1 b.0 a.1.content refl a.2 (below_count a.1.pages b.0 b.1) b.2
     ]
   where
     by_content : (n : ℕ) (r : Region) (i : ℕ) (c : Content) → r.content ≡ c → slice_get (regions (system t) d) n ≡ Some r → i < r.pages → region_page t.settled c (begins t d n + 4096 * i) i ≡ p → ShowsAt t d p.at k j

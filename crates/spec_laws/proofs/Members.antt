@@ -10,9 +10,6 @@ in_range n i l =
     let e : 0 + i ≡ i = omega arith in
     let P : ℕ → Type 0 = λ z. IsIn z (range_with_len 0 n) in subst P e (lists.in_range 0 n i l)
 
-pub from_range : (n i : ℕ) → IsIn i (range_with_len 0 n) → i < n
-from_range n i h = let l = lists.from_range 0 n i h in omega (arith, l)
-
 -- ---- lists that begin with another
 
 pub index_is : {X : Type 0} (xs : List X) (j : ℕ) (d y : X) → slice_get xs j ≡ Some y → slice_index_or xs j d ≡ y

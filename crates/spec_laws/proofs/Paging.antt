@@ -14,7 +14,7 @@ use Rattle.leaf_ends.specs.declared.end_at.EndAt.{EndAt}
 use Rattle.leaf_ends.specs.Lookups.{end_in, setting_of}
 use Rattle.numbering.specs.Gather.{IsIn}
 use Rattle.numbering.proofs.Gathered.{from_gather, in_append, in_gather, in_left, in_place, in_right, place_of}
-use Rattle.numbering.proofs.Lists.{from_flat_map, from_map, in_flat_map, in_map}
+use Rattle.numbering.proofs.Lists.{from_flat_map, from_map, in_flat_map, in_map, below_count}
 use Rattle.program_sections.specs.ByAddress.{by_address, name_of, page_at, pages_of, section_pages}
 use Rattle.program_sections.specs.Images.{Placed, image_number, is_run, placed, runs, sections_if, sections_of}
 use Rattle.program_sections.specs.SectionPages.{fill_of, page_count}
@@ -36,7 +36,7 @@ use Rattle.vspace_layout.specs.Regions.{end_window, is_window, leaf_windows, reg
 use Rattle.vspace_layout.specs.Threads.{ends_at}
 use Rattle.spec_laws.specs.CanMap.{AreSettled}
 use Rattle.spec_laws.specs.Spaced.{IsRegionPage, IsSectionPage, MapsPage, begins, system}
-use Rattle.spec_laws.proofs.Members.{from_range, in_range}
+use Rattle.spec_laws.proofs.Members.{in_range}
 
 -- ---- windows are of ends that see memory
 
@@ -117,7 +117,7 @@ module _ (t : Tables) (set : AreSettled t) where
         section = x.0.section;
         has = in_place x.0.section c.image.sections x.0.number c.section;
         page = m.0;
-        within = from_range (page_count x.0.section) m.0 m.1;
+        within = below_count (page_count x.0.section) m.0 m.1;
         at = ap (λ (z : SectionPage). z.vaddr) (sym m.2);
         may_write = ap (λ (z : SectionPage). z.write) (sym m.2);
         filled = ap (λ (z : SectionPage). z.fill) (sym m.2) ∙ ap (λ z. fill_of z x.0.section m.0) (sym (name_is t.images x.0.image c.image c.at));
@@ -177,7 +177,7 @@ module _ (t : Tables) (set : AreSettled t) where
         | inr j ↦
             let a = from_gather (pages_of_region t.settled (base s) (regions s d)) p (regions s d) j in
             let b = from_map (page_of t.settled (begins t d a.0) a.1) p (range_with_len 0 a.1.pages) a.3 in
-            subst (Maps d) b.2 (by_content d a.0 b.0 a.1 a.1.content refl (record { here = a.2; within = from_range a.1.pages b.0 b.1; at = refl }))
+            subst (Maps d) b.2 (by_content d a.0 b.0 a.1 a.1.content refl (record { here = a.2; within = below_count a.1.pages b.0 b.1; at = refl }))
       ]
 
   pub record Mapped (d v : ℕ) (read write : Bool) : Type 0 where

@@ -44,9 +44,6 @@ module _ {A E : Type 0} (tell : E → InputFault) (reads : List ℕ → Result A
 -- ---- over files, as calls leave them
 
 module _ {F : Type 0} (contents : F → Option Contents) (faults : F → List ℕ → ℕ) where
-  pub keeps_twice : (a b c : F) → KeepsFiles contents faults a b → KeepsFiles contents faults b c → KeepsFiles contents faults a c
-  keeps_twice a b c k l = record { same = l.same ∙ k.same; later = none_fell (faults a) (faults b) (faults c) k.later l.later }
-
   module _ {A E : Type 0} (tell : E → InputFault) (reads : List ℕ → Result A (Refused E) → Type 0) (file : List ℕ) where
     -- a turn after a call, told from before it
     pub turn_after : (a b n : F) (r : Result A InputError) → KeepsFiles contents faults a b → Turn (contents b) (faults b) (faults n) tell reads file r

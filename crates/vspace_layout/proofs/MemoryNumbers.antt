@@ -3,7 +3,7 @@ use Rattle.std.proofs.Common.{◌≡◌, ◌<◌, ◌≤◌, ◌+◌, ◌^◌, �
 use Rattle.std.specs.List.{position, position_from, slice_get}
 use Rattle.std.specs.Option.{option_and_then, option_map_or}
 use Rattle.std.proofs.lemmas.Iterator.Adapters.{position_from-zero}
-use Rattle.std.proofs.lemmas.List.{length-map}
+use Rattle.std.proofs.lemmas.List.{length-map, get_or_default}
 use Rattle.std.proofs.lemmas.List.Quantifiers.{position-Some}
 use Rattle.std.proofs.lemmas.Option.{get_or_from_slice_get}
 use Rattle.adl_meaning.specs.declared.flat.Flat.{Flat}
@@ -11,7 +11,7 @@ use Rattle.adl_meaning.specs.declared.flat.FlatConnection.{FlatConnection}
 use Rattle.adl_meaning.specs.declared.flat.FlatEnd.{FlatEnd}
 use Rattle.adl_meaning.specs.declared.settled.Settled.{Settled}
 use Rattle.numbering.specs.Gather.{before, gather}
-use Rattle.numbering.proofs.Gathered.{gather_ones, gather_same, gather_turn, length_append, read_twice}
+use Rattle.numbering.proofs.Gathered.{gather_ones, gather_same, gather_turn, length_append}
 use Rattle.numbering.proofs.Lists.{at_place, get_map, from_get_map}
 use Rattle.vspace_layout.specs.FrameNumbers.{AreFirsts, first_of, firsts_from, frames_by, frames_where, is_that, memory_first, memory_firsts, places_of}
 use Rattle.vspace_layout.specs.Frames.{frames_at, memory_before, memory_part, register_frames, register_part, registers_before, shared_frames, shared_part}
@@ -30,7 +30,7 @@ gather_push f (z ∷ xs) x = ap (λ w. f 0 z ++ w) (gather_push (λ k y. f (suc 
 -- the turn of a loop over a slice of copies
 pub copy_turn : {X Y : Type 0} (f : ℕ → X → List Y) (xs : List X) (i : ℕ) (d : X) (old mid new : List Y) → i < length xs → mid ≡ old ++ gather f (take i xs) → new ≡ mid ++ f i (get_or xs i d)
     → new ≡ old ++ gather f (take (i + 1) xs)
-copy_turn f xs i d old mid new l e g = gather_turn f xs xs i (get_or xs i d) old mid new refl l (read_twice xs i d l) e g
+copy_turn f xs i d old mid new l e g = gather_turn f xs xs i (get_or xs i d) old mid new refl l (get_or_default xs i d (get_or xs i d) l) e g
 
 pub before_upto : {X Y : Type 0} (f : ℕ → X → List Y) (xs : List X) (k : ℕ) → before f xs k ≤ length (gather f xs)
 before_upto f [] zero = omega arith

@@ -2,13 +2,14 @@
 use Rattle.std.proofs.Common.{◌≡◌, ◌<◌, ◌≤◌, ◌+◌, ◌*◌, ◌^◌, ◌∙◌, ℕ, zero, suc, List, [], ◌∷◌, ◌++◌, Some, length, map, take, get_or, refl, ap, add-one, arith}
 use Rattle.std.specs.List.{flat_map, slice_get}
 use Rattle.std.proofs.lemmas.Option.{slice_get-get_or}
+use Rattle.std.proofs.lemmas.List.{get_or_default}
 use Rattle.adl_meaning.specs.declared.flat.Flat.{Flat}
 use Rattle.adl_meaning.specs.declared.settled.Settled.{Settled}
 use Rattle.cap_model.specs.declared.level.Arch.{Arch}
 use Rattle.cap_model.specs.declared.level.Arch.TheVariants.{Aarch64, Arm11}
 use Rattle.leaf_ends.specs.declared.end_at.EndAt.{EndAt}
 use Rattle.numbering.specs.Gather.{gather}
-use Rattle.numbering.proofs.Gathered.{gather_ones, gather_same, gather_turn, read_twice}
+use Rattle.numbering.proofs.Gathered.{gather_ones, gather_same, gather_turn}
 use Rattle.numbering.proofs.Lists.{below}
 use Rattle.program_sections.specs.Images.{sections_end}
 use Rattle.vspace_layout.specs.declared.region.Content.TheVariants.{Stack}
@@ -41,7 +42,7 @@ pub starts_more : (base end : ℕ) (rs : List Region) (i : ℕ) (d : Region) (st
     → new ≡ gather (λ n (r : Region). region_start base rs n ∷ []) (take (i + 1) rs)
 starts_more base end rs i d starts new at l before push =
     let here : end + 4096 ≡ region_start base rs i = omega (arith, at) in
-    gather_turn (λ n (r : Region). region_start base rs n ∷ []) rs rs i (get_or rs i d) [] starts new refl l (read_twice rs i d l) before (push ∙ ap (λ n. starts ++ n ∷ []) here)
+    gather_turn (λ n (r : Region). region_start base rs n ∷ []) rs rs i (get_or rs i d) [] starts new refl l (get_or_default rs i d (get_or rs i d) l) before (push ∙ ap (λ n. starts ++ n ∷ []) here)
 
 -- ---- what fits
 

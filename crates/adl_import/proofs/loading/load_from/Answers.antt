@@ -1,8 +1,9 @@
 use Rattle.std.proofs.Common.{◌≡◌, ◌∙◌, refl, sym, subst, arith, ℕ, List, Ok, Err}
 use Rattle.std.specs.Str.{IsUtf8}
 use Rattle.adl_import.specs.Loaded.{IsLoadedFrom}
-use Rattle.adl_import.proofs.Turning.{err_is, keeps_twice, loaded_err, loaded_none, turn_told, turns_first, turns_few, turns_utf8, turns_next, turns_smaller}
+use Rattle.adl_import.proofs.Turning.{err_is, loaded_err, loaded_none, turn_told, turns_first, turns_few, turns_utf8, turns_next, turns_smaller}
 use Rattle.adl_import.proofs.loading.load_from.Goals as goal
+use Rattle.cam_io.proofs.Kept.{keeps_twice}
 
 pub loop-done-init : goal.loop-done-init
 loop-done-init g c = record {

@@ -1,4 +1,4 @@
-use Rattle.std.proofs.Common.{◌≡◌, ◌⊎◌, refl, ℕ, List, Some, inl, inr, arith}
+use Rattle.std.proofs.Common.{◌≡◌, ◌⊎◌, refl, ℕ, List, Some, inl, inr}
 use Rattle.arch_compile.specs.declared.building.Build.{Build}
 use Rattle.build_texts.specs.BuildTexts.{texts_script}
 use Rattle.build_texts.specs.declared.names.TextNames.{TextNames}
@@ -12,6 +12,7 @@ use Rattle.camkes_tool.specs.Answers.{script, status_of, said_as}
 use Rattle.camkes_tool.specs.declared.answer.Answer.{Answer}
 use Rattle.camkes_tool.specs.declared.answer.Answer.TheVariants.{Compiled, Listed, Explained, Told, Generated, Faulted, Refused, Usage, ReadFault, NoMemory}
 use Rattle.camkes_tool.proofs.laws.success_writes_a_whole_text.Goals as goal
+use Rattle.camkes_tool.proofs.Written.{zero_not_five}
 
 abbrev IsWhole : Answer → Sink → Sink → Type 0
 IsWhole a old new =
@@ -30,8 +31,5 @@ whole Usage old new e told = absurd cc
 whole (ReadFault file) old new e told = absurd cc
 whole NoMemory old new e told = absurd cc
 
-zero_is_not_five : (n : ℕ) → n ≡ 0 → n ≡ 5 → ⊥
-zero_is_not_five n e h = omega arith
-
 pub returns : goal.returns
-returns c answer old new before now tells = elim tells.told [ inl t ↦ whole answer old new t.0 t.1 | inr t ↦ absurd (zero_is_not_five 0 refl t.0) ]
+returns c answer old new before now tells = elim tells.told [ inl t ↦ whole answer old new t.0 t.1 | inr t ↦ absurd (zero_not_five 0 refl t.0) ]

@@ -1,5 +1,6 @@
 use Rattle.std.proofs.Common.{List, length, get_or, ap, arith}
-use Rattle.numbering.proofs.Gathered.{listed_at, read_twice}
+use Rattle.std.proofs.lemmas.List.{get_or_default}
+use Rattle.numbering.proofs.Gathered.{listed_at}
 use Rattle.cspace_layout.proofs.Laying.{length-ends_of, members_here, uses_turn}
 use Rattle.cspace_layout.proofs.lay.lay_domain.Goals as goal
 
@@ -32,5 +33,5 @@ loop-leaf-preserved c =
     let w = c.requires.within _ (listed_at c.args.listed.now i c.loop-leaf-test.true) in
     let same = ap (λ (z : List _). length z) c.as_slice-leaves.ensures in
     let m = members_here c.args.source.now c.args.flat.now c.as_slice-leaves.result.now leaf c.index-leaves-leaf.result _ c.as_slice-leaves.ensures (omega (arith, w, same)) c.index-leaves-leaf.is c.members_at-members.ensures in
-    uses_turn c.args.source.now c.args.flat.now c.args.ends.now c.args.listed.now i leaf c.index-ends-leaf.result _ _ _ _ c.requires.ends c.loop-leaf-test.true (read_twice _ _ _ c.loop-leaf-test.true) w
+    uses_turn c.args.source.now c.args.flat.now c.args.ends.now c.args.listed.now i leaf c.index-ends-leaf.result _ _ _ _ c.requires.ends c.loop-leaf-test.true (get_or_default _ _ _ _ c.loop-leaf-test.true) w
     c.index-ends-leaf.is c.as_slice-here.ensures m c.loop-leaf.invariant c.in_ok-add_leaf.ensures

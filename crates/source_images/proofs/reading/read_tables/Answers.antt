@@ -1,7 +1,8 @@
 use Rattle.std.proofs.Common.{refl, sym, subst, arith}
 use Rattle.source_images.specs.Told.{tables_told}
-use Rattle.source_images.proofs.TableReads.{AreRead, err_is, keeps_twice, none_read, tables_failed, tables_more}
+use Rattle.source_images.proofs.TableReads.{AreRead, err_is, none_read, tables_failed, tables_more}
 use Rattle.source_images.proofs.reading.read_tables.Goals as goal
+use Rattle.cam_io.proofs.Kept.{keeps_twice}
 
 pub loop-number-init : goal.loop-number-init
 loop-number-init g c = record {

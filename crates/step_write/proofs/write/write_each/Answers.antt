@@ -1,5 +1,5 @@
-use Rattle.std.proofs.Common.{arith, false, get_or, sym, ◌≡◌, ◌<◌, ℕ, List, length}
-use Rattle.std.proofs.lemmas.Option.{get_or_from_slice_get, slice_get-get_or}
+use Rattle.std.proofs.Common.{arith, false, get_or}
+use Rattle.std.proofs.lemmas.List.{get_or_default}
 use Rattle.cam_io.proofs.Lines.{lines_begin, lines_end, lines_fail, lines_step}
 use Rattle.cam_io.proofs.Sequence.{writes_exit}
 use Rattle.cap_machine.specs.declared.step.Step.{Step}
@@ -10,10 +10,6 @@ use Rattle.step_write.proofs.write.write_each.Goals as goal
 no_step : Step
 no_step = steps.Take 0 0 0 (record { read = false; write = false; grant = false; reply = false })
 
--- an item that is read with a default is itself the default
-read_is : {X : Type 0} (xs : List X) (i : ℕ) (d : X) → i < length xs → get_or xs i d ≡ get_or xs i (get_or xs i d)
-read_is xs i d h = sym (get_or_from_slice_get xs i (get_or xs i d) (get_or xs i d) (slice_get-get_or xs i d h))
-
 pub loop-step-init : goal.loop-step-init
 loop-step-init g c = lines_begin (step_line c.args.spec.now) c.args.steps.now c.requires
 
@@ -21,13 +17,13 @@ pub returns-in_err-write_step : goal.returns-in_err-write_step
 unfolding no_step
 returns-in_err-write_step g c =
     writes_exit c.from_residual.ensures.0
-    (lines_fail (step_line c.args.spec.now) c.args.steps.now c.loop-step.step-index (get_or c.args.steps.now c.loop-step.step-index no_step) (omega arith) (read_is c.args.steps.now c.loop-step.step-index _ (omega arith))
+    (lines_fail (step_line c.args.spec.now) c.args.steps.now c.loop-step.step-index (get_or c.args.steps.now c.loop-step.step-index no_step) (omega arith) (get_or_default c.args.steps.now c.loop-step.step-index _ _ (omega arith))
     c.loop-step.invariant c.in_err-write_step.ensures)
 
 pub loop-step-preserved : goal.loop-step-preserved
 unfolding no_step
 loop-step-preserved g c =
-    lines_step (step_line c.args.spec.now) c.args.steps.now c.loop-step.step-index (get_or c.args.steps.now c.loop-step.step-index no_step) (omega arith) (read_is c.args.steps.now c.loop-step.step-index _ (omega arith))
+    lines_step (step_line c.args.spec.now) c.args.steps.now c.loop-step.step-index (get_or c.args.steps.now c.loop-step.step-index no_step) (omega arith) (get_or_default c.args.steps.now c.loop-step.step-index _ _ (omega arith))
     c.loop-step.invariant c.in_ok-write_step.ensures
 
 pub returns : goal.returns

@@ -1,8 +1,9 @@
 use Rattle.std.proofs.Common.{◌+◌, ◌∷◌, [], ◌++◌, ◌∙◌, get_or, refl, ap, arith}
 use Rattle.std.proofs.lemmas.Option.{slice_get-get_or}
+use Rattle.std.proofs.lemmas.List.{get_or_default}
 use Rattle.cspace_layout.specs.declared.plan.SlotUse.{SlotUse}
 use Rattle.cspace_layout.specs.declared.plan.SlotUse.TheVariants.{OfEnd}
-use Rattle.numbering.proofs.Gathered.{gather_turn, read_twice}
+use Rattle.numbering.proofs.Gathered.{gather_turn}
 use Rattle.system_spec.specs.Objects.{use_cap, use_cap_at}
 use Rattle.system_spec.specs.Told.{told}
 use Rattle.system_spec.proofs.Placing.{lock_turn, lock_within}
@@ -16,7 +17,7 @@ overflow_add-lock c =
     let t = told c.args.tables.now in
     let uses = c.args.uses.now in
     let below = c.loop-n-test.true in
-    let more = lock_turn t c.args.domain uses c.loop-n.n c.loop-n.lock _ (get_or uses c.loop-n.n (OfEnd 0 0)) c.requires.uses below (read_twice _ _ _ below) c.lock_number-lock.ensures c.loop-n.invariant.lock in
+    let more = lock_turn t c.args.domain uses c.loop-n.n c.loop-n.lock _ (get_or uses c.loop-n.n (OfEnd 0 0)) c.requires.uses below (get_or_default _ _ _ _ below) c.lock_number-lock.ensures c.loop-n.invariant.lock in
     omega (arith, c.requires.few, lock_within t c.args.domain uses (c.loop-n.n + 1) c.args.first_lock _ c.requires.uses c.requires.first more)
 
 pub loop-n-preserved : goal.loop-n-preserved
@@ -27,7 +28,7 @@ loop-n-preserved c =
     let u = get_or uses n (OfEnd 0 0) in
     let below = c.loop-n-test.true in
     record {
-      so_far = gather_turn (λ k (v : SlotUse). (k + 1, use_cap t c.args.domain k v) ∷ []) uses uses n u [] _ _ refl below (read_twice _ _ _ below) c.loop-n.invariant.so_far
+      so_far = gather_turn (λ k (v : SlotUse). (k + 1, use_cap t c.args.domain k v) ∷ []) uses uses n u [] _ _ refl below (get_or_default _ _ _ _ below) c.loop-n.invariant.so_far
           (c.in_ok-push.ensures.ok ∙ ap (λ z. c.loop-n.caps ++ (n + 1, z) ∷ []) (c.use_cap.ensures ∙ ap (λ z. use_cap_at t z u) c.loop-n.invariant.lock));
-      lock = lock_turn t c.args.domain uses n c.loop-n.lock _ u c.requires.uses below (read_twice _ _ _ below) c.lock_number-lock.ensures c.loop-n.invariant.lock;
+      lock = lock_turn t c.args.domain uses n c.loop-n.lock _ u c.requires.uses below (get_or_default _ _ _ _ below) c.lock_number-lock.ensures c.loop-n.invariant.lock;
     }

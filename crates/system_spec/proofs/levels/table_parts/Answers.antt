@@ -1,7 +1,8 @@
 use Rattle.std.proofs.Common.{◌∷◌, [], ◌++◌, ◌∙◌, get_or, take, refl, sym, ap}
+use Rattle.std.proofs.lemmas.List.{get_or_default}
 use Rattle.arch_policy.specs.declared.owner.Owner.TheVariants.{OfDomain}
 use Rattle.cap_model.specs.declared.level.Level.TheVariants.{Global}
-use Rattle.numbering.proofs.Gathered.{gather_turn, read_twice}
+use Rattle.numbering.proofs.Gathered.{gather_turn}
 use Rattle.system_spec.specs.declared.part.PageTable.{PageTable}
 use Rattle.system_spec.specs.declared.part.What.TheVariants.{TableOf}
 use Rattle.system_spec.specs.LevelNumbers.{counted, one_more}
@@ -19,8 +20,8 @@ loop-table-preserved c =
     let below = c.loop-table-test.true in
     let number = c.counted.ensures ∙ ap (λ z. counted z x.level) c.loop-table.invariant.counts ∙ counted_in (take i all) x.level in
     record {
-      so_far = gather_turn (λ m (y : PageTable). table_part all m y ∷ []) all _ i x [] _ _ refl below (read_twice _ _ _ below) c.loop-table.invariant.so_far
+      so_far = gather_turn (λ m (y : PageTable). table_part all m y ∷ []) all _ i x [] _ _ refl below (get_or_default _ _ _ _ below) c.loop-table.invariant.so_far
           (c.in_ok-push.ensures.ok ∙ ap (λ z. c.loop-table.parts ++ part z c.counted.result (OfDomain x.domain) (TableOf x.domain x.place) ∷ []) c.of_level.ensures
           ∙ ap (λ z. c.loop-table.parts ++ part (level_series x.level) z (OfDomain x.domain) (TableOf x.domain x.place) ∷ []) number);
-      counts = c.one_more-counts.ensures ∙ ap (λ z. one_more z x.level) c.loop-table.invariant.counts ∙ sym (counts_more all i x x.level below (read_twice _ _ _ below) refl);
+      counts = c.one_more-counts.ensures ∙ ap (λ z. one_more z x.level) c.loop-table.invariant.counts ∙ sym (counts_more all i x x.level below (get_or_default _ _ _ _ below) refl);
     }

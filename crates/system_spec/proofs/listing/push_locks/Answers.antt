@@ -1,5 +1,6 @@
 use Rattle.std.proofs.Common.{get_or, refl}
-use Rattle.numbering.proofs.Gathered.{gather_turn, read_twice}
+use Rattle.std.proofs.lemmas.List.{get_or_default}
+use Rattle.numbering.proofs.Gathered.{gather_turn}
 use Rattle.cspace_layout.specs.declared.plan.SlotUse.TheVariants.{OfEnd}
 use Rattle.system_spec.specs.Parts.{lock}
 use Rattle.system_spec.proofs.listing.push_locks.Goals as goal
@@ -7,4 +8,4 @@ use Rattle.system_spec.proofs.listing.push_locks.Goals as goal
 pub loop-place-preserved : goal.loop-place-preserved
 loop-place-preserved c =
     gather_turn (lock c.args.domain) c.args.uses.now _ c.loop-place.place (get_or c.args.uses.now c.loop-place.place (OfEnd 0 0)) c.args.items.now _ _ refl
-    c.loop-place-test.true (read_twice _ _ _ c.loop-place-test.true) c.loop-place.invariant c.in_ok-push_lock.ensures
+    c.loop-place-test.true (get_or_default _ _ _ _ c.loop-place-test.true) c.loop-place.invariant c.in_ok-push_lock.ensures

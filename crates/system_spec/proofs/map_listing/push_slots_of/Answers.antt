@@ -1,10 +1,11 @@
 use Rattle.std.proofs.Common.{◌≡◌, ◌+◌, ◌∷◌, [], ◌++◌, ◌∙◌, get_or, refl, sym, ap, subst, arith}
 use Rattle.std.proofs.lemmas.Option.{slice_get-get_or}
 use Rattle.std.specs.Prelude.{length}
+use Rattle.std.proofs.lemmas.List.{get_or_default}
 use Rattle.cspace_layout.specs.declared.plan.SlotUse.{SlotUse}
 use Rattle.cspace_layout.specs.declared.plan.SlotUse.TheVariants.{OfEnd}
 use Rattle.cap_model.specs.declared.cap.Cap.{Cap}
-use Rattle.numbering.proofs.Gathered.{gather_turn, read_twice}
+use Rattle.numbering.proofs.Gathered.{gather_turn}
 use Rattle.system_spec.specs.MapLines.{slot_line}
 use Rattle.system_spec.specs.Objects.{use_cap, use_cap_at}
 use Rattle.system_spec.specs.Ready.{AreNamed}
@@ -25,7 +26,7 @@ overflow_add-next c =
     let uses = c.args.uses.now in
     let n = c.loop-number.number in
     let below = c.loop-number-test.true in
-    let more = lock_turn t c.args.domain uses n c.loop-number.next _ (get_or uses n (OfEnd 0 0)) c.requires.uses below (read_twice _ _ _ below) c.lock_number-next.ensures c.loop-number.invariant.next in
+    let more = lock_turn t c.args.domain uses n c.loop-number.next _ (get_or uses n (OfEnd 0 0)) c.requires.uses below (get_or_default _ _ _ _ below) c.lock_number-next.ensures c.loop-number.invariant.next in
     omega (arith, c.requires.few, lock_within t c.args.domain uses (n + 1) c.args.first_lock _ c.requires.uses c.requires.first more)
 
 pub loop-number-preserved : goal.loop-number-preserved
@@ -37,9 +38,9 @@ loop-number-preserved c =
     let below = c.loop-number-test.true in
     let object = ap (λ (z : Cap). z.object) (c.use_cap-object.ensures ∙ ap (λ z. use_cap_at t z u) c.loop-number.invariant.next) in
     record {
-      so_far = gather_turn (λ k (v : SlotUse). slot_line (use_cap t c.args.domain k v).object k v ∷ []) uses uses n u c.args.lines.now _ _ refl below (read_twice _ _ _ below) c.loop-number.invariant.so_far
+      so_far = gather_turn (λ k (v : SlotUse). slot_line (use_cap t c.args.domain k v).object k v ∷ []) uses uses n u c.args.lines.now _ _ refl below (get_or_default _ _ _ _ below) c.loop-number.invariant.so_far
           (c.in_ok-push.ensures.ok ∙ ap (λ z. c.loop-number.lines ++ z ∷ []) (c.slot_line.ensures ∙ ap (λ z. slot_line z n u) object));
-      next = lock_turn t c.args.domain uses n c.loop-number.next _ u c.requires.uses below (read_twice _ _ _ below) c.lock_number-next.ensures c.loop-number.invariant.next;
+      next = lock_turn t c.args.domain uses n c.loop-number.next _ u c.requires.uses below (get_or_default _ _ _ _ below) c.lock_number-next.ensures c.loop-number.invariant.next;
     }
 
 pub returns-clause-next : goal.returns-clause-next

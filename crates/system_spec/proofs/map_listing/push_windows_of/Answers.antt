@@ -1,5 +1,6 @@
 use Rattle.std.proofs.Common.{◌∷◌, [], get_or, refl, arith}
-use Rattle.numbering.proofs.Gathered.{gather_turn, read_twice}
+use Rattle.std.proofs.lemmas.List.{get_or_default}
+use Rattle.numbering.proofs.Gathered.{gather_turn}
 use Rattle.numbering.proofs.Lists.{read_in}
 use Rattle.vspace_layout.specs.declared.spaces.Window.{Window}
 use Rattle.system_spec.specs.MapLines.{window_line}
@@ -14,4 +15,4 @@ overflow_mul-bytes c =
 pub loop-window-preserved : goal.loop-window-preserved
 loop-window-preserved c =
     gather_turn (λ j (w : Window). window_line w ∷ []) c.args.windows.now c.args.windows.now c.loop-window.window-index _ c.args.lines.now _ _
-    refl c.loop-window-test.true (read_twice _ _ _ c.loop-window-test.true) c.loop-window.invariant c.in_ok-push.ensures.ok
+    refl c.loop-window-test.true (get_or_default _ _ _ _ c.loop-window-test.true) c.loop-window.invariant c.in_ok-push.ensures.ok

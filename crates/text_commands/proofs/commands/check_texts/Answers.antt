@@ -3,8 +3,9 @@ use Rattle.capdl_text.specs.Texts as capdl
 use Rattle.policy_text.specs.PolicyTexts.{IsCertRead, IsPolicyRead}
 use Rattle.text_commands.specs.Codes.{tell_text}
 use Rattle.text_commands.specs.declared.outcome.Outcome.TheVariants.{Checked}
-use Rattle.text_commands.proofs.Turning.{is_err, keeps_twice, turn_after, turn_until}
+use Rattle.text_commands.proofs.Turning.{is_err, turn_after, turn_until}
 use Rattle.text_commands.proofs.commands.check_texts.Goals as goal
+use Rattle.cam_io.proofs.Kept.{keeps_twice}
 
 pub returns-in_err-spec-clause-checked : goal.returns-in_err-spec-clause-checked
 returns-in_err-spec-clause-checked g c =
@@ -29,7 +30,7 @@ returns-in_err-edges-clause-checked g c =
       inl (
         c.in_ok-allowed.allowed,
         (turn_until g.F.Files.contents g.F.Files.faults tell_text IsPolicyRead c.args.policy.now c.args.files.now c.read_labels.new.files c.read_edges.new.files c.in_ok-allowed.allowed (turn_after g.F.Files.contents g.F.Files.faults tell_text IsPolicyRead c.args.policy.now c.args.files.now c.read_system.new.files c.read_labels.new.files (Ok c.in_ok-allowed.allowed) c.in_ok-spec.ensures.kept c.in_ok-allowed.ensures.policy)),
-        inr (c.in_err-edges.field-0.0, (turn_after g.F.Files.contents g.F.Files.faults tell_text (IsCertRead c.in_ok-allowed.allowed) c.args.cert.now c.args.files.now c.read_labels.new.files c.read_edges.new.files (Err c.in_err-edges.field-0.0) (keeps_twice g.F.Files.contents g.F.Files.faults c.args.files.now c.read_system.new.files c.read_labels.new.files c.in_ok-spec.ensures.kept c.in_ok-allowed.ensures.kept) c.in_err-edges.ensures.edges), refl),
+        inr (c.in_err-edges.field-0.0, (turn_after g.F.Files.contents g.F.Files.faults tell_text (IsCertRead c.in_ok-allowed.allowed) c.args.cert.now c.args.files.now c.read_labels.new.files c.read_edges.new.files (Err c.in_err-edges.field-0.0) (keeps_twice {contents = g.F.Files.contents} {faults = g.F.Files.faults} c.args.files.now c.read_system.new.files c.read_labels.new.files c.in_ok-spec.ensures.kept c.in_ok-allowed.ensures.kept) c.in_err-edges.ensures.edges), refl),
       ),
     ))
 
@@ -44,7 +45,7 @@ returns-in_err-labels-clause-checked g c =
         (turn_until g.F.Files.contents g.F.Files.faults tell_text IsPolicyRead c.args.policy.now c.args.files.now c.read_labels.new.files c.read_edges.new.files c.in_ok-allowed.allowed (turn_after g.F.Files.contents g.F.Files.faults tell_text IsPolicyRead c.args.policy.now c.args.files.now c.read_system.new.files c.read_labels.new.files (Ok c.in_ok-allowed.allowed) c.in_ok-spec.ensures.kept c.in_ok-allowed.ensures.policy)),
         inl (
           c.in_ok-edges.edges,
-          (turn_after g.F.Files.contents g.F.Files.faults tell_text (IsCertRead c.in_ok-allowed.allowed) c.args.cert.now c.args.files.now c.read_labels.new.files c.read_edges.new.files (Ok c.in_ok-edges.edges) (keeps_twice g.F.Files.contents g.F.Files.faults c.args.files.now c.read_system.new.files c.read_labels.new.files c.in_ok-spec.ensures.kept c.in_ok-allowed.ensures.kept) c.in_ok-edges.ensures.edges),
+          (turn_after g.F.Files.contents g.F.Files.faults tell_text (IsCertRead c.in_ok-allowed.allowed) c.args.cert.now c.args.files.now c.read_labels.new.files c.read_edges.new.files (Ok c.in_ok-edges.edges) (keeps_twice {contents = g.F.Files.contents} {faults = g.F.Files.faults} c.args.files.now c.read_system.new.files c.read_labels.new.files c.in_ok-spec.ensures.kept c.in_ok-allowed.ensures.kept) c.in_ok-edges.ensures.edges),
           inr (c.in_err-labels.field-0.0, c.in_err-labels.ensures.labels, refl),
         ),
       ),
@@ -63,7 +64,7 @@ returns-clause-checked g c =
         (turn_until g.F.Files.contents g.F.Files.faults tell_text IsPolicyRead c.args.policy.now c.args.files.now c.read_labels.new.files c.read_edges.new.files c.in_ok-allowed.allowed (turn_after g.F.Files.contents g.F.Files.faults tell_text IsPolicyRead c.args.policy.now c.args.files.now c.read_system.new.files c.read_labels.new.files (Ok c.in_ok-allowed.allowed) c.in_ok-spec.ensures.kept c.in_ok-allowed.ensures.policy)),
         inl (
           c.in_ok-edges.edges,
-          (turn_after g.F.Files.contents g.F.Files.faults tell_text (IsCertRead c.in_ok-allowed.allowed) c.args.cert.now c.args.files.now c.read_labels.new.files c.read_edges.new.files (Ok c.in_ok-edges.edges) (keeps_twice g.F.Files.contents g.F.Files.faults c.args.files.now c.read_system.new.files c.read_labels.new.files c.in_ok-spec.ensures.kept c.in_ok-allowed.ensures.kept) c.in_ok-edges.ensures.edges),
+          (turn_after g.F.Files.contents g.F.Files.faults tell_text (IsCertRead c.in_ok-allowed.allowed) c.args.cert.now c.args.files.now c.read_labels.new.files c.read_edges.new.files (Ok c.in_ok-edges.edges) (keeps_twice {contents = g.F.Files.contents} {faults = g.F.Files.faults} c.args.files.now c.read_system.new.files c.read_labels.new.files c.in_ok-spec.ensures.kept c.in_ok-allowed.ensures.kept) c.in_ok-edges.ensures.edges),
           inl (c.in_ok-labels.labels, c.in_ok-labels.ensures.labels, (c.check-verdict.result, ap (λ n. Checked c.check-verdict.result n) c.of.ensures, c.check-verdict.ensures.judged)),
         ),
       ),

@@ -6,8 +6,9 @@ use Rattle.text_commands.specs.Codes.{tell_text}
 use Rattle.text_commands.specs.Replays.{IsReplayed}
 use Rattle.text_commands.specs.declared.fault.InputError.TheVariants.{NoMemory}
 use Rattle.text_commands.specs.declared.outcome.Outcome.TheVariants.{Ran}
-use Rattle.text_commands.proofs.Turning.{is_err, keeps_twice, turn_after, turn_until}
+use Rattle.text_commands.proofs.Turning.{is_err, turn_after, turn_until}
 use Rattle.text_commands.proofs.commands.replay_texts.Goals as goal
+use Rattle.cam_io.proofs.Kept.{keeps_twice}
 
 pub returns-in_err-spec-clause-ran : goal.returns-in_err-spec-clause-ran
 returns-in_err-spec-clause-ran g c =
@@ -32,7 +33,7 @@ returns-in_err-list-clause-ran g c =
       inl (
         c.in_ok-allowed.allowed,
         (turn_until g.F.Files.contents g.F.Files.faults tell_text IsPolicyRead c.args.policy.now c.args.files.now c.read_labels.new.files c.read_run.new.files c.in_ok-allowed.allowed (turn_after g.F.Files.contents g.F.Files.faults tell_text IsPolicyRead c.args.policy.now c.args.files.now c.read_system.new.files c.read_labels.new.files (Ok c.in_ok-allowed.allowed) c.in_ok-spec.ensures.kept c.in_ok-allowed.ensures.policy)),
-        inr (c.in_err-list.field-0.0, (turn_after g.F.Files.contents g.F.Files.faults tell_text (steps.IsRead c.in_ok-spec.spec) c.args.steps.now c.args.files.now c.read_labels.new.files c.read_run.new.files (Err c.in_err-list.field-0.0) (keeps_twice g.F.Files.contents g.F.Files.faults c.args.files.now c.read_system.new.files c.read_labels.new.files c.in_ok-spec.ensures.kept c.in_ok-allowed.ensures.kept) c.in_err-list.ensures.steps), refl),
+        inr (c.in_err-list.field-0.0, (turn_after g.F.Files.contents g.F.Files.faults tell_text (steps.IsRead c.in_ok-spec.spec) c.args.steps.now c.args.files.now c.read_labels.new.files c.read_run.new.files (Err c.in_err-list.field-0.0) (keeps_twice {contents = g.F.Files.contents} {faults = g.F.Files.faults} c.args.files.now c.read_system.new.files c.read_labels.new.files c.in_ok-spec.ensures.kept c.in_ok-allowed.ensures.kept) c.in_err-list.ensures.steps), refl),
       ),
     ))
 
@@ -47,7 +48,7 @@ returns-in_err-labels-clause-ran g c =
         (turn_until g.F.Files.contents g.F.Files.faults tell_text IsPolicyRead c.args.policy.now c.args.files.now c.read_labels.new.files c.read_run.new.files c.in_ok-allowed.allowed (turn_after g.F.Files.contents g.F.Files.faults tell_text IsPolicyRead c.args.policy.now c.args.files.now c.read_system.new.files c.read_labels.new.files (Ok c.in_ok-allowed.allowed) c.in_ok-spec.ensures.kept c.in_ok-allowed.ensures.policy)),
         inl (
           c.in_ok-list.list,
-          (turn_after g.F.Files.contents g.F.Files.faults tell_text (steps.IsRead c.in_ok-spec.spec) c.args.steps.now c.args.files.now c.read_labels.new.files c.read_run.new.files (Ok c.in_ok-list.list) (keeps_twice g.F.Files.contents g.F.Files.faults c.args.files.now c.read_system.new.files c.read_labels.new.files c.in_ok-spec.ensures.kept c.in_ok-allowed.ensures.kept) c.in_ok-list.ensures.steps),
+          (turn_after g.F.Files.contents g.F.Files.faults tell_text (steps.IsRead c.in_ok-spec.spec) c.args.steps.now c.args.files.now c.read_labels.new.files c.read_run.new.files (Ok c.in_ok-list.list) (keeps_twice {contents = g.F.Files.contents} {faults = g.F.Files.faults} c.args.files.now c.read_system.new.files c.read_labels.new.files c.in_ok-spec.ensures.kept c.in_ok-allowed.ensures.kept) c.in_ok-list.ensures.steps),
           inr (c.in_err-labels.field-0.0, c.in_err-labels.ensures.labels, refl),
         ),
       ),
@@ -67,7 +68,7 @@ returns-in_err-replayed-clause-ran g c =
         (turn_until g.F.Files.contents g.F.Files.faults tell_text IsPolicyRead c.args.policy.now c.args.files.now c.read_labels.new.files c.read_run.new.files c.in_ok-allowed.allowed (turn_after g.F.Files.contents g.F.Files.faults tell_text IsPolicyRead c.args.policy.now c.args.files.now c.read_system.new.files c.read_labels.new.files (Ok c.in_ok-allowed.allowed) c.in_ok-spec.ensures.kept c.in_ok-allowed.ensures.policy)),
         inl (
           c.in_ok-list.list,
-          (turn_after g.F.Files.contents g.F.Files.faults tell_text (steps.IsRead c.in_ok-spec.spec) c.args.steps.now c.args.files.now c.read_labels.new.files c.read_run.new.files (Ok c.in_ok-list.list) (keeps_twice g.F.Files.contents g.F.Files.faults c.args.files.now c.read_system.new.files c.read_labels.new.files c.in_ok-spec.ensures.kept c.in_ok-allowed.ensures.kept) c.in_ok-list.ensures.steps),
+          (turn_after g.F.Files.contents g.F.Files.faults tell_text (steps.IsRead c.in_ok-spec.spec) c.args.steps.now c.args.files.now c.read_labels.new.files c.read_run.new.files (Ok c.in_ok-list.list) (keeps_twice {contents = g.F.Files.contents} {faults = g.F.Files.faults} c.args.files.now c.read_system.new.files c.read_labels.new.files c.in_ok-spec.ensures.kept c.in_ok-allowed.ensures.kept) c.in_ok-list.ensures.steps),
           inl (c.in_ok-labels.labels, c.in_ok-labels.ensures.labels, tt),
         ),
       ),
@@ -83,7 +84,7 @@ returns-clause-ran g c =
         (turn_until g.F.Files.contents g.F.Files.faults tell_text IsPolicyRead c.args.policy.now c.args.files.now c.read_labels.new.files c.read_run.new.files c.in_ok-allowed.allowed (turn_after g.F.Files.contents g.F.Files.faults tell_text IsPolicyRead c.args.policy.now c.args.files.now c.read_system.new.files c.read_labels.new.files (Ok c.in_ok-allowed.allowed) c.in_ok-spec.ensures.kept c.in_ok-allowed.ensures.policy)),
         inl (
           c.in_ok-list.list,
-          (turn_after g.F.Files.contents g.F.Files.faults tell_text (steps.IsRead c.in_ok-spec.spec) c.args.steps.now c.args.files.now c.read_labels.new.files c.read_run.new.files (Ok c.in_ok-list.list) (keeps_twice g.F.Files.contents g.F.Files.faults c.args.files.now c.read_system.new.files c.read_labels.new.files c.in_ok-spec.ensures.kept c.in_ok-allowed.ensures.kept) c.in_ok-list.ensures.steps),
+          (turn_after g.F.Files.contents g.F.Files.faults tell_text (steps.IsRead c.in_ok-spec.spec) c.args.steps.now c.args.files.now c.read_labels.new.files c.read_run.new.files (Ok c.in_ok-list.list) (keeps_twice {contents = g.F.Files.contents} {faults = g.F.Files.faults} c.args.files.now c.read_system.new.files c.read_labels.new.files c.in_ok-spec.ensures.kept c.in_ok-allowed.ensures.kept) c.in_ok-list.ensures.steps),
           inl (c.in_ok-labels.labels, c.in_ok-labels.ensures.labels, (c.in_ok-replayed.replayed, ap (λ n. Ran c.in_ok-replayed.replayed n) c.of.ensures, subst (λ zs. IsReplayed c.in_ok-spec.spec c.in_ok-labels.labels.by_object zs c.in_ok-replayed.replayed) c.as_slice.ensures c.in_ok-replayed.ensures)),
         ),
       ),
