@@ -13,7 +13,8 @@ use Rattle.numbering.specs.Gather.{IsIn}
 use Rattle.adl_meaning.specs.Paths.{Path, Placed, leaves, same_path}
 use Rattle.component_graph.proofs.Lists.{in_get}
 use Rattle.adl_flatten.specs.Homes.{home, home_number, present, is_number, numbered}
-use Rattle.adl_flatten.proofs.PathLookups.{same_path-true, same_path-sym}
+use Rattle.adl_flatten.proofs.PathLookups.{same_path-sym}
+use Rattle.adl_meaning.proofs.SamePaths.{same_path-true}
 
 -- ---- one more
 

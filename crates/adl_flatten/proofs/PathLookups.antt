@@ -9,9 +9,7 @@ use Rattle.adl_meaning.specs.Paths.{Path, same_path}
 use Rattle.name_tables.proofs.NameLookups.{or_some}
 use Rattle.adl_flatten.specs.PathNumbers.{number_of, ArePlaces, is_met}
 use Rattle.adl_hierarchy.proofs.DomainNames.{same_path-Decides}
-
-pub same_path-true : (p q : Path) → same_path p q ≡ true → p ≡ q
-same_path-true p q e = (same_path-Decides p q).0 e
+use Rattle.adl_meaning.proofs.SamePaths.{same_path-true}
 
 pub same_path-refl : (p : Path) → same_path p p ≡ true
 same_path-refl p = (same_path-Decides p p).1 refl

@@ -147,7 +147,7 @@ assembly_composition a w =
     let P : Assembly → Type 0 = λ z. IsOne composition_line z.composition in
     subst P (sym p.1) (p.2.4.4.4.0, p.2.4.4.4.3)
 
-item_component : (c : Component) → IsOne item_line (items.Component c) → IsOne component_line c
+pub item_component : (c : Component) → IsOne item_line (items.Component c) → IsOne component_line c
 unfolding item_line
 item_component c w = elim w.1 [
   | inl a ↦ let u = a.1 in cc
@@ -169,14 +169,14 @@ ended_item : (e : Ended) → IsOne ended_line e → IsOne item_line e.item
 unfolding ended_line
 ended_item e w = let p = w.1 in let P : Ended → Type 0 = λ z. IsOne item_line z.item in subst P (sym p.1) (p.2.0, p.2.3)
 
-file_item : (f : File) → IsOne file_line f → (e : Ended) → IsIn e f.items → IsOne item_line e.item
+pub file_item : (f : File) → IsOne file_line f → (e : Ended) → IsIn e f.items → IsOne item_line e.item
 unfolding file_line
 file_item f w e i =
     let p = w.1 in
     let P : File → Type 0 = λ z. IsIn e z.items in
     ended_item e (one_of ended_form p.0 w.0 e p.2 (subst P p.1 i))
 
-item_spelled : (s : Source) → AreSpelled s → (x : ItemAt × Item) → IsIn x (items_of s) → IsOne item_line x.1
+pub item_spelled : (s : Source) → AreSpelled s → (x : ItemAt × Item) → IsIn x (items_of s) → IsOne item_line x.1
 item_spelled s spelled x i =
     let f = from_flat_map items_in x (enumerate_from 0 s.files) i in
     let n = from_enumerate 0 s.files f.0 f.1 in

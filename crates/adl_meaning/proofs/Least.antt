@@ -7,7 +7,7 @@ use Rattle.adl_meaning.specs.Faults.{precedes, earlier, least, noted}
 use Rattle.numbering.specs.Gather.{IsIn}
 
 -- precedes, on numbers
-abbrev lex : (a b c x y z : ℕ) → Bool
+abbrev pub lex : (a b c x y z : ℕ) → Bool
 lex a b c x y z = cond (nat_eq a x) (cond (nat_eq b y) (nat_lt c z) (nat_lt b y)) (nat_lt a x)
 
 lex_chain : (a b c x y z u v w : ℕ) → lex a b c x y z ≡ true → lex x y z u v w ≡ true → lex a b c u v w ≡ true
@@ -16,7 +16,7 @@ lex_chain a b c x y z u v w p q = grind (arith, nat_tests)
 lex_back : (a b c x y z u v w : ℕ) → lex a b c x y z ≡ false → lex x y z u v w ≡ false → lex a b c u v w ≡ false
 lex_back a b c x y z u v w p q = grind (arith, nat_tests)
 
-lex_self : (a b c : ℕ) → lex a b c a b c ≡ false
+pub lex_self : (a b c : ℕ) → lex a b c a b c ≡ false
 lex_self a b c = grind (arith, nat_tests)
 
 lex_one : (a b c x y z : ℕ) → lex a b c x y z ≡ true → lex x y z a b c ≡ false

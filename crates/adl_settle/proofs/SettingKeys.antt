@@ -4,13 +4,13 @@ use Rattle.std.specs.Cmp.Lexicographic.{pointwise}
 use Rattle.std.specs.Map.{lookup}
 use Rattle.std.specs.Option.{option_or, option_copied}
 use Rattle.std.specs.Str.{bytes_eq}
-use Rattle.std.proofs.lemmas.Slice.Eq.{bytes_eq-Decides, slice_eq-Decides}
 use Rattle.std.proofs.Math.Bool.{and-false, and-true}
 use Rattle.cam_base.proofs.Options.{option_or-none, option_map-option_or, option_or-there}
 use Rattle.adl_ast.specs.declared.configuration.Setting.{Setting}
 use Rattle.adl_meaning.specs.Items.{Name}
 use Rattle.adl_meaning.specs.Paths.{Path, same_path}
 use Rattle.adl_items.specs.Pointed.{pointed}
+use Rattle.adl_meaning.proofs.SamePaths.{same_path-true}
 
 abbrev pub same_keys : List (Bor Name) → List (Bor Name) → Bool
 same_keys q k = pointwise (λ (a b : Bor Name). bytes_eq a.now b.now) q k
@@ -40,9 +40,6 @@ same_path-snoc [] (b ∷ q) x y = ap (λ z. bytes_eq x b && z) (none_longer q x 
 same_path-snoc (a ∷ p) [] x y = ap (λ z. bytes_eq a y && z) (none_shorter p x) ∙ and-false (bytes_eq a y)
 same_path-snoc (a ∷ p) (b ∷ q) x y = ap (λ z. bytes_eq a b && z) (same_path-snoc p q x y) ∙ and_assoc (bytes_eq a b) (same_path p q) (bytes_eq x y)
 
-pub same_path-equal : (p q : Path) → same_path p q ≡ true → p ≡ q
-same_path-equal p q e = (slice_eq-Decides bytes_eq-Decides p q (same_path p q) refl).0 e
-
 -- ---- tables
 
 pub lookup-put : {K V : Type 0} (f : K → Bool) (es : List (K × V)) (k : K) (v : V) → lookup f (es ++ (k, v) ∷ []) ≡ option_or (lookup f es) (cond (f k) (Some v) None)
@@ -59,7 +56,7 @@ pub key_kept : {V : Type 0} (f : Path → Option V) (key : Path) (x : V) → is_
 key_kept {V} f key x there q = by_test (same_path q key) refl
   where
     by_test : (b : Bool) → same_path q key ≡ b → f q ≡ option_or (f q) (cond b (Some x) None)
-    by_test true e = option_or-there (f q) (Some x) (ap (λ z. is_some (f z)) (same_path-equal q key e) ∙ there)
+    by_test true e = option_or-there (f q) (Some x) (ap (λ z. is_some (f z)) (same_path-true q key e) ∙ there)
     by_test false e = option_or-none (f q)
 
 -- ---- the table of a body

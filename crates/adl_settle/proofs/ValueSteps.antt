@@ -16,8 +16,8 @@ use Rattle.adl_meaning.specs.Paths.{Path, at, same_path}
 use Rattle.adl_meaning.specs.Values.{Given, given, settings_of, sets, setting_of, setter_at, set_within, default_at, value_at}
 use Rattle.adl_items.specs.Pointed.{pointed}
 use Rattle.adl_settle.specs.Lookups.{within, attribute_at, given_from}
-use Rattle.adl_settle.proofs.SettingKeys.{same_path-equal}
 use Rattle.adl_settings.proofs.ValueSearch.{referred, value-referred, outer-stays}
+use Rattle.adl_meaning.proofs.SamePaths.{same_path-true}
 
 -- ---- bodies along a path
 
@@ -141,7 +141,7 @@ remembered_more h f f' path front back v old is new p x y g e = by_test (same_pa
         let both = both_of (same_path path p) (bytes_eq front x && bytes_eq back y) t in
         let named = both_of (bytes_eq front x) (bytes_eq back y) both.1 in
         let same : v ≡ g = cc in
-        sym same ∙ is ∙ ap (λ q. value_at h q (front ++ back)) (same_path-equal path p both.0)
+        sym same ∙ is ∙ ap (λ q. value_at h q (front ++ back)) (same_path-true path p both.0)
         ∙ ap (λ n. value_at h p (n ++ back)) ((bytes_eq-Decides front x).0 named.0) ∙ ap (λ n. value_at h p (x ++ n)) ((bytes_eq-Decides back y).0 named.1)
     by_test false t e = old p x y g e
 

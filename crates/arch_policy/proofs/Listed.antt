@@ -35,9 +35,10 @@ use Rattle.arch_policy.specs.Triples.{bound_edges, crossed, crossed_at, crossed_
 use Rattle.arch_policy.specs.Bound.{IsBound}
 use Rattle.arch_policy.specs.Where.{where_true}
 use Rattle.arch_policy.proofs.Lists.{from_filter, from_where, has_in, in_any, in_filter, in_has, in_where, leads, led_out}
-use Rattle.arch_policy.proofs.Same.{is_connector, is_object, is_role, same_connector_self, same_object_self, same_role_self}
+use Rattle.arch_policy.proofs.Same.{is_connector, is_object, same_connector_self, same_object_self, same_role_self}
 use Rattle.arch_policy.proofs.Given.{an_authority}
 use Rattle.numbering.proofs.Lists.{from_any}
+use Rattle.conn_rules.proofs.Roles.{is_role}
 
 pub is_same_role : (r q : Role) → r ≡ q → same_role r q ≡ true
 is_same_role r q e = ap (λ z. same_role z q) e ∙ same_role_self q

@@ -47,12 +47,6 @@ is_connector Direct Mmio h = absurd (true≢false (sym h))
 is_connector Direct Interrupt h = absurd (true≢false (sym h))
 is_connector Direct Direct h = refl
 
-pub is_role : (r q : Role) → same_role r q ≡ true → r ≡ q
-is_role From From h = refl
-is_role To To h = refl
-is_role From To h = absurd (true≢false (sym h))
-is_role To From h = absurd (true≢false (sym h))
-
 pub is_object : (o p : ObjectKind) → same_object o p ≡ true → o ≡ p
 is_object NoObject NoObject h = refl
 is_object NoObject OfEndpoint h = absurd (true≢false (sym h))

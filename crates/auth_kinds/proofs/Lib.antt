@@ -13,3 +13,4 @@ pub mod MadeRows
 pub mod Runs
 pub mod SharedRows
 pub mod ClassNumbers
+pub mod Words

@@ -27,8 +27,8 @@ pushed xs x k y e = elim (split_get xs (x ∷ []) k y e) [
   | inr h ↦ let s = single x y h.0 h.2 in inr (let z = s.0 in let n = h.1 in omega arith, s.1)
 ]
 
-pub last : {X : Type 0} (xs : List X) (x : X) → slice_get (xs ++ x ∷ []) (length xs) ≡ Some x
-last xs x = get_behind xs (x ∷ []) 0 (length xs) (omega arith)
+pub pushed_last : {X : Type 0} (xs : List X) (x : X) → slice_get (xs ++ x ∷ []) (length xs) ≡ Some x
+pushed_last xs x = get_behind xs (x ∷ []) 0 (length xs) (omega arith)
 
 -- ---- one row more
 
@@ -104,7 +104,7 @@ module _ (classes classes' : List Class) (rows : List Row) (r : Row) (c : Class)
     lists = lists;
     numbered = λ k d p. elim (fresh k d p) [
       | inl h ↦ let n = table.numbered k d h in (n.0, n.1, get_front rows (r ∷ []) n.0 n.1 n.2, n.3, n.4)
-      | inr h ↦ (length rows, r, last rows r, sym h.0, sym h.1)
+      | inr h ↦ (length rows, r, pushed_last rows r, sym h.0, sym h.1)
     ];
     apart = apart;
   }
@@ -136,7 +136,7 @@ module _ (edges : List Edge) (old new : Made) (label : ℕ) (pairs : List (Autho
           let there : Some k ≡ Some j = ap (λ (b : Bool). cond b (Some k) (place_in old q.pairs.items)) (sym t) ∙ sym (h.places q) ∙ e in
           let here : length old.classes.items ≡ j = sym h.place ∙ same_Some k j there in
           let at : slice_get new.classes.items j ≡ Some h.class =
-          ap (λ (cs : List Class). slice_get cs j) h.classes ∙ subst (λ (n : ℕ). slice_get (old.classes.items ++ h.class ∷ []) n ≡ Some h.class) here (last old.classes.items h.class) in
+          ap (λ (cs : List Class). slice_get cs j) h.classes ∙ subst (λ (n : ℕ). slice_get (old.classes.items ++ h.class ∷ []) n ≡ Some h.class) here (pushed_last old.classes.items h.class) in
           (h.class, at, h.pairs_are ∙ is_eq-same pairs q.pairs.items t)
       by_test false t =
           let there : place_in old q.pairs.items ≡ Some j = ap (λ (b : Bool). cond b (Some k) (place_in old q.pairs.items)) (sym t) ∙ sym (h.places q) ∙ e in
@@ -214,7 +214,7 @@ module _ (edges run : List Edge) (old mid new : Made) (r : Row) (pairs : List (A
       (ap (λ (m : Made). m.rows.items) h.same)
   row_made q listed (inr h) =
       let label = h.label_is in
-      finish h.class (ap (λ (cs : List Class). slice_get cs r.class) h.classes ∙ subst (λ (n : ℕ). slice_get (old.classes.items ++ h.class ∷ []) n ≡ Some h.class) (sym h.place) (last old.classes.items h.class))
+      finish h.class (ap (λ (cs : List Class). slice_get cs r.class) h.classes ∙ subst (λ (n : ℕ). slice_get (old.classes.items ++ h.class ∷ []) n ≡ Some h.class) (sym h.place) (pushed_last old.classes.items h.class))
       h.pairs_are h.before_is (omega arith)
       (λ k d p. ap (λ (cs : List Class). slice_get cs k) h.classes ∙ get_front old.classes.items (h.class ∷ []) k d p)
       (λ k d p. elim (pushed old.classes.items h.class k d (subst (λ (cs : List Class). slice_get cs k ≡ Some d) h.classes p)) [

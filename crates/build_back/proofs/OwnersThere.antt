@@ -1,5 +1,5 @@
 -- Each object of connected tables belongs to a domain, a connection or a device that is there and has a label.
-use Rattle.std.proofs.Common.{◌≡◌, ◌∙◌, ℕ, Bool, true, false, cond, List, [], Option, Some, None, refl, sym, ap, subst, inl, inr}
+use Rattle.std.proofs.Common.{◌≡◌, ◌∙◌, ℕ, Bool, true, false, cond, [], Option, Some, None, refl, sym, ap, subst, inl, inr}
 use Rattle.std.specs.List.{range_with_len, slice_get}
 use Rattle.std.specs.Option.{option_map_or}
 use Rattle.adl_meaning.specs.declared.connector.Connector.{Connector}
@@ -27,13 +27,14 @@ use Rattle.system_spec.specs.declared.part.What.{What}
 use Rattle.system_spec.specs.declared.part.What.TheVariants.{CNodeOf, ThreadOf, EndpointOf, NotificationOf, LockOf, IrqOf, TableOf, FrameOf}
 use Rattle.vspace_layout.specs.Frames.{connection_frames, device_frame, device_frames, frame, frames, frames_at, is_first, memory_part, own_frame, own_frames, own_part, register_frames, register_part, shared_frames, shared_part}
 use Rattle.vspace_layout.specs.MappedPages.{mapped_pages}
-use Rattle.vspace_layout.specs.Memory.{is_shared, memory_paddr, memory_pages, registers, registers_in}
+use Rattle.vspace_layout.specs.Memory.{is_shared, memory_paddr, memory_pages, registers}
 use Rattle.vspace_layout.specs.declared.mapped.MappedPage.{MappedPage}
 use Rattle.vspace_layout.specs.declared.mapped.Shown.{Shown}
 use Rattle.vspace_layout.specs.declared.mapped.Shown.TheVariants.{Own, Memory}
 use Rattle.vspace_layout.specs.declared.owner.Owner.TheVariants as owners
 use Rattle.vspace_layout.specs.declared.spaces.FrameInfo.{FrameInfo}
 use Rattle.vspace_layout.specs.declared.spaces.Spaces.{Spaces}
+use Rattle.vspace_layout.proofs.Standing.{registers_mmio}
 
 shared_labelled : (c : Connector) → is_shared c ≡ true → has_label c ≡ true
 shared_labelled SharedMemory e = refl
@@ -42,14 +43,6 @@ shared_labelled Notification e = absurd cc
 shared_labelled Mmio e = absurd cc
 shared_labelled Interrupt e = absurd cc
 shared_labelled Direct e = absurd cc
-
-registers_mmio : (c : Connector) (ends : List FlatEnd) (e : FlatEnd) → registers_in c ends ≡ Some e → c ≡ Mmio
-registers_mmio Mmio ends e h = refl
-registers_mmio Rpc ends e h = absurd cc
-registers_mmio Notification ends e h = absurd cc
-registers_mmio SharedMemory ends e h = absurd cc
-registers_mmio Interrupt ends e h = absurd cc
-registers_mmio Direct ends e h = absurd cc
 
 module _ (t : Tables) (h : IsConnected t) where
   -- ---- frames

@@ -33,9 +33,10 @@ use Rattle.cap_spread.specs.Spread.{slots_of, slots_at, root_of, HasRoot}
 use Rattle.cap_spread.specs.Start.{empties, blanks, blank_row, blank_rows, HasValue, owned, with_value, with_rows, with_mark, Queued, Starts, Marks, repeated, IsCounted, rooted}
 use Rattle.cap_spread.specs.declared.found.Held.{Held}
 use Rattle.cap_spread.specs.declared.found.Pair.{Pair}
-use Rattle.cap_spread.proofs.Bringing.{none_within, at_pushed, pushed_cases, pushed_last, mark_kept, mark_cases, mark_there, mark_lengths, held_kept, held_cases, held_there}
+use Rattle.cap_spread.proofs.Bringing.{none_within, at_pushed, pushed_cases, mark_kept, mark_cases, mark_there, mark_lengths, held_kept, held_cases, held_there}
 use Rattle.cap_spread.proofs.Quiet.{slot_at_boot, boot_quiet, quiet_cnode}
 use Rattle.cap_machine.proofs.Booting.{at_object}
+use Rattle.auth_kinds.proofs.MadeRows.{pushed_last}
 
 pub slots_inside : (spec : Spec) (c k : ℕ) (x : ℕ × Cap) → slice_get (slots_at spec c) k ≡ Some x → c < length spec.entries
 slots_inside spec c k x h = go (slice_get spec.entries c) refl where

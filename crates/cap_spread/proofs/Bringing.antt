@@ -21,6 +21,7 @@ use Rattle.cap_spread.specs.declared.found.Way.{Way}
 use Rattle.cap_spread.proofs.Quiet.{run_append, kept_at, Lands, landed_there, lands_onward, quiet_cnode}
 use Rattle.cap_spread.proofs.Sequences.{take_on, put_on, grant_on, reply_on}
 use Rattle.cap_model.proofs.Kept.{is_at_below}
+use Rattle.auth_kinds.proofs.MadeRows.{pushed_last}
 
 pub none_within : {A : Type 0} (xs : List A) (k : ℕ) → slice_get xs k ≡ None → k < length xs → ⊥
 none_within [] k h less = omega arith
@@ -39,10 +40,6 @@ pushed_cases [] x y zero h = inr (refl, cc)
 pushed_cases [] x y (suc k) h = absurd cc
 pushed_cases (z ∷ xs) x y zero h = inl h
 pushed_cases (z ∷ xs) x y (suc k) h = elim (pushed_cases xs x y k h) [ inl e ↦ inl e | inr e ↦ inr (ap (λ n. suc n) e.0, e.1) ]
-
-pub pushed_last : {A : Type 0} (xs : List A) (x : A) → slice_get (xs ++ x ∷ []) (length xs) ≡ Some x
-pushed_last [] x = refl
-pushed_last (z ∷ xs) x = pushed_last xs x
 
 -- one mark more
 

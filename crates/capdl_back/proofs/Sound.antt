@@ -47,16 +47,10 @@ use Rattle.capdl_back.proofs.ReadBack.{kind_at as kind_line_at, objects_at, addr
 use Rattle.capdl_back.proofs.ReadHolders.{no_rights_at, params_at, slot_at}
 use Rattle.capdl_back.proofs.ReadText.{cap_at, slots_at, buffer_at, vspace_at, cspace_at, irq_slot_at, lines_at, held_at, holders_at, irqs_at}
 use Rattle.cap_model.proofs.Kept.{rise_tail}
+use Rattle.cap_model.proofs.Eaches.{each_then, Each}
+use Rattle.capdl_text.proofs.Below.{IsBelow}
 
 -- ---- lists
-
-abbrev pub Each : {A : Type 0} → (A → Type 0) → List A → Type 0
-Each p [] = Unit {0}
-Each p (x ∷ xs) = p x × Each p xs
-
-pub each_map : {A : Type 0} (p q : A → Type 0) (xs : List A) → ((x : A) → p x → q x) → Each p xs → Each q xs
-each_map p q [] f e = tt
-each_map p q (x ∷ xs) f e = (f x e.0, each_map p q xs f e.1)
 
 pub nil_both : {A : Type 0} (xs ys : List A) → xs ≡ [] → ys ≡ [] → xs ++ ys ≡ []
 nil_both xs ys e f = rw (e, f) refl
@@ -124,11 +118,6 @@ same_there spec kind place o h g = rw g at h
 
 -- ---- slot lines without faults
 
--- a numbered slot is below the size, where there is one
-abbrev pub IsBelow : Option ℕ → SlotKey → Type 0
-IsBelow (Some size) (keys.Number n) = nat_lt n size ≡ true
-IsBelow size key = Unit {0}
-
 module _ (arch : Arch) (known : Knows) where
   -- no fault stands at the slot line, where its holder is h
   pub record IsGood (h : Known) (s : SlotLine) : Type 0 where
@@ -168,7 +157,7 @@ module _ (arch : Arch) (known : Knows) where
     found = rw e (flat_none (λ s. unknown known s.object) (IsGood h) ss (good_found h) g);
     once = nil_both _ _ t (flat_none params_twice (IsGood h) ss (λ s q. q.once) g);
     suits = rw (e, k) (flat_none (slot_off arch known id (Some h)) (IsGood h) ss (good_suits id h) g);
-    below = rw e (below_all id h.size ss (each_map (IsGood h) (λ (s : SlotLine). IsBelow h.size s.key) ss (λ s q. q.below) g));
+    below = rw e (below_all id h.size ss (each_then (IsGood h) (λ (s : SlotLine). IsBelow h.size s.key) ss (λ s q. q.below) g));
   }
 
 -- ---- parameters

@@ -45,7 +45,8 @@ use Rattle.capdl_back.proofs.ReadBack.{objects_at}
 use Rattle.capdl_back.proofs.ReadText.{slots_at, cspace_at, irq_slot_at, lines_at, held_at, holders_at, irqs_at, tree_at, tree_spelled}
 use Rattle.capdl_back.proofs.Says.{entries_back, lines_back}
 use Rattle.capdl_back.proofs.Shown.{placed, seen_tokens, shown}
-use Rattle.capdl_back.proofs.Sound.{Each, IsFine, all_fine, all_fields_once, flat_none, held_names_once, irq_names_once, irqs_found, irqs_suit, names_once, nil_both, numbers_once, objects_suit}
+use Rattle.capdl_back.proofs.Sound.{IsFine, all_fine, all_fields_once, flat_none, held_names_once, irq_names_once, irqs_found, irqs_suit, names_once, nil_both, numbers_once, objects_suit}
+use Rattle.cap_model.proofs.Eaches.{Each}
 
 -- ---- limits
 

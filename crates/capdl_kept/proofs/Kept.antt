@@ -9,6 +9,7 @@ use Rattle.std.specs.Str.{bytes_eq}
 use Rattle.std.proofs.lemmas.List.{length-map}
 use Rattle.std.proofs.lemmas.Bool.{and_parts, eqb-true, or_parts}
 use Rattle.std.proofs.lemmas.Slice.Eq.{bytes_eq-Decides}
+use Rattle.std.proofs.lemmas.Option.{slice_get-map}
 use Rattle.cam_base.specs.declared.text_fault.TextFault.{TextFault}
 use Rattle.cam_base.specs.declared.text_fault.TextCode.TheVariants.{CapdlUnknown}
 use Rattle.cam_base.proofs.Lists.{nil_append, cond_nil, flat_map_nil}
@@ -51,13 +52,9 @@ use Rattle.capdl_text.specs.declared.tree.ThreadField.{ThreadField}
 use Rattle.capdl_text.specs.declared.tree.ThreadValue.{ThreadValue}
 use Rattle.capdl_text.specs.declared.tree.ThreadValue.TheVariants as thread
 use Rattle.capdl_kept.proofs.Named.{names_differ, known_there, known_here}
-use Rattle.capdl_kept.proofs.Slots.{rights_fit, badge_fits, IsBelow, AllGood, all_good, IsFit, AllFit, said_kept, IsNamed, AllNamed, Fits, named_fit, named_prio, IsHeld, AllHeld, held_fits}
+use Rattle.capdl_kept.proofs.Slots.{rights_fit, badge_fits, AllGood, all_good, IsFit, AllFit, said_kept, IsNamed, AllNamed, Fits, named_fit, named_prio, IsHeld, AllHeld, held_fits}
 use Rattle.capdl_kept.proofs.Sorted.{rise_insert, all_insert, lacks, parts_differ, differ_insert}
-
-get_map : {A B : Type 0} (f : A → B) (xs : List A) (i : ℕ) (x : A) → slice_get xs i ≡ Some x → slice_get (map f xs) i ≡ Some (f x)
-get_map f [] i x e = absurd cc
-get_map f (y ∷ xs) zero x e = let s : y ≡ x = cc in ap (λ z. Some (f z)) s
-get_map f (y ∷ xs) (suc i) x e = get_map f xs i x e
+use Rattle.capdl_text.proofs.Below.{IsBelow}
 
 -- ---- kinds
 
@@ -234,7 +231,7 @@ module _ (t : SpecTree) (sound : tree_faults t ≡ []) where
       let o = r.1 in
       let place : k.place ≡ r.0 = ap (λ (z : Known). z.place) r.3 ∙ (let z : 0 + r.0 ≡ r.0 = omega arith in z) in
       let kind : k.kind ≡ kind_said o.kind = ap (λ (z : Known). z.kind) r.3 in
-      let here : object_at spec k.place ≡ Some (object_said known o.kind (lines_of o)) = ap (object_at spec) place ∙ ap entry_object (get_map (entry_said known t.holders) t.objects r.0 o r.2) in
+      let here : object_at spec k.place ≡ Some (object_said known o.kind (lines_of o)) = ap (object_at spec) place ∙ ap entry_object (slice_get-map (entry_said known t.holders) t.objects r.0 ∙ ap (option_map (entry_said known t.holders)) r.2) in
       (ap (option_map kind_of_object) here ∙ ap (λ z. Some z) (kind_is known o.kind (lines_of o) ∙ sym kind), ap (is_root_object spec.arch) here ∙ root_is t.arch known o.kind (lines_of o) ∙ ap (is_root_kind t.arch) (sym kind))
 
   -- the capability of a slot

@@ -5,3 +5,4 @@ pub mod Least
 pub mod Noting
 pub mod Few
 pub mod Answered
+pub mod Below

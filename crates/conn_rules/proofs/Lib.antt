@@ -1,2 +1,3 @@
+pub mod Roles
 pub mod RowAuthorities
 pub mod Sets

@@ -1,9 +1,8 @@
 -- The first limit of the counts, at the keyword of the assembly, is the first fault of slots.
 use Rattle.std.proofs.Common.{◌≡◌, ◌+◌, ℕ, Bool, true, false, cond, List, [], ◌∷◌, ◌++◌, length, map, Option, Some, None, refl, sym, ◌∙◌, ap, arith}
-use Rattle.std.specs.Prelude.{nat_lt, nat_eq, sum, option_map}
+use Rattle.std.specs.Prelude.{nat_lt, sum, option_map}
 use Rattle.std.specs.List.{flat_map, slice_get}
 use Rattle.std.proofs.lemmas.Bool.{ltb-true, ltb-false}
-use Rattle.std.proofs.lemmas.Bool.Decides.{nat_tests}
 use lib.Dec.{ltb}
 use Rattle.cam_base.specs.Codes.{number_of}
 use Rattle.cam_base.specs.declared.code.Code.TheVariants as code
@@ -23,12 +22,11 @@ use Rattle.cspace_layout.specs.Counted.{capped, first_limit, name_of}
 use Rattle.cspace_layout.specs.SlotFaults.{counts, greatest, limits_passed, first_slot_fault}
 use Rattle.cspace_layout.specs.Uses.{slots_of}
 use Rattle.cspace_layout.proofs.Counting.{any_over, sum_capped}
+use Rattle.adl_meaning.proofs.Least.{lex_self}
+use Rattle.leaf_ends.proofs.Keyword.{has_place}
 
 abbrev fault_of : Place → Limit → Fault
 fault_of place limit = fault_at place (name_of limit)
-
-lex_self : (a b c : ℕ) → cond (nat_eq a a) (cond (nat_eq b b) (nat_lt c c) (nat_lt b b)) (nat_lt a a) ≡ false
-lex_self a b c = grind (arith, nat_tests)
 
 abbrev by_tests : Bool → Bool → Option Limit
 by_tests b c = cond b (Some Slots) (cond c (Some AllSlots) None)
@@ -61,10 +59,6 @@ one_assembly ns (x ∷ []) p l e =
     let same : x.1.place ≡ p = cc in
     first_told x.1.place (nat_lt 4095 (greatest ns)) (nat_lt 65536 (sum ns)) ∙ ap (λ q. option_map (fault_of q) (by_tests (nat_lt 4095 (greatest ns)) (nat_lt 65536 (sum ns)))) same ∙ ap (option_map (fault_of p)) (sym (first_capped ns))
 one_assembly ns (x ∷ y ∷ xs) p l e = absurd (omega arith)
-
-has_place : (xs : List (ItemAt × Assembly)) → length xs ≡ 1 → (p : Place) × (place_in (slice_get xs 0) ≡ Some p)
-has_place [] l = absurd (omega arith)
-has_place (x ∷ xs) l = (x.1.place, refl)
 
 told : (source : Source) (flat : Flat) (o : Option Limit) → IsWithin source flat → o ≡ first_limit (map capped (counts (slots_of source flat)))
     → (p : Place) × (keyword source ≡ Some p) × (first_slot_fault source flat ≡ option_map (fault_of p) o)

@@ -13,7 +13,7 @@ use Rattle.arch_policy.specs.Tables.{Tables, connection_label, domain_label, lea
 use Rattle.arch_policy.specs.Triples.{end_edges, signal_edges}
 use Rattle.arch_policy.proofs.Listed.{from_end, from_end_at, from_signal, in_end, in_signal, is_same_connector, is_same_role, same_place}
 use Rattle.arch_policy.proofs.Lists.{has_in, in_any, in_has}
-use Rattle.arch_policy.proofs.Same.{is_connector, is_role}
+use Rattle.arch_policy.proofs.Same.{is_connector}
 use Rattle.auth_kinds.specs.Edges.{edge}
 use Rattle.auth_kinds.specs.Tables.{has}
 use Rattle.auth_kinds.specs.declared.authority.Authority.{Authority}
@@ -29,6 +29,7 @@ use Rattle.explain.specs.declared.search.Sought.TheVariants.{Given, Caller, Serv
 use Rattle.explain.specs.Explained.{AtMost, ComesFirst, IsFirstOf, IsFirstReason, numbers, stage, tell, told_of}
 use Rattle.explain.specs.Sought.{IsFirstEnd, IsFirstLock, IsLeastEnd, IsLeastLock, IsSought, has_side, is_async, is_reply, is_side}
 use Rattle.numbering.proofs.Lists.{from_any}
+use Rattle.conn_rules.proofs.Roles.{is_role}
 
 reply_is : (a : Authority) → is_reply a ≡ true → a ≡ Reply
 reply_is Reply h = refl

@@ -23,12 +23,7 @@ use Rattle.conn_rules.specs.Ends.{allows, at_most, end_rule}
 use Rattle.conn_rules.specs.Row.{same_role}
 use Rattle.flat_laws.proofs.Counts.{first_counted}
 use Rattle.flat_laws.proofs.FlatEnds.{strung_of}
-
-pub is_role : (r q : Role) → same_role r q ≡ true → r ≡ q
-is_role From From e = refl
-is_role To To e = refl
-is_role From To e = cc
-is_role To From e = cc
+use Rattle.conn_rules.proofs.Roles.{is_role}
 
 least_one : (c : Connector) (r : Role) → (end_rule c r).least ≡ 1
 least_one Rpc From = refl

@@ -1,5 +1,5 @@
 -- The keyword of the first assembly, as it is looked for file by file.
-use Rattle.std.proofs.Common.{◌≡◌, ◌+◌, ℕ, List, [], ◌∷◌, ◌++◌, map, Option, Some, None, refl, sym, ◌∙◌, ap}
+use Rattle.std.proofs.Common.{◌≡◌, ◌+◌, ℕ, List, [], ◌∷◌, ◌++◌, length, map, Option, Some, None, refl, sym, ◌∙◌, ap, arith}
 use Rattle.std.specs.Prelude.{option_map}
 use Rattle.std.specs.List.{flat_map, filter_map, enumerate_from, slice_get}
 use Rattle.std.specs.Option.{option_or}
@@ -56,3 +56,8 @@ limit_nowhere source files name f e = ap (λ o. option_map (λ place. fault_at p
 
 pub limit_there : (source : Source) (files : List SourceFile) (name : List ℕ) (place : Place) → files ≡ source.files → Some place ≡ keyword_among files → Some (fault_at place name) ≡ limit_fault source name
 limit_there source files name place f e = ap (λ o. option_map (λ p. fault_at p name) o) (e ∙ ap keyword_among f ∙ sym (keyword_found source))
+
+-- the only assembly has a keyword
+pub has_place : (xs : List (ItemAt × Assembly)) → length xs ≡ 1 → (p : Place) × (place_in (slice_get xs 0) ≡ Some p)
+has_place [] l = absurd (omega arith)
+has_place (x ∷ xs) l = (x.1.place, refl)

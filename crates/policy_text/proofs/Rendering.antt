@@ -5,7 +5,7 @@ use Rattle.std.proofs.lemmas.Bool.{and_parts}
 use Rattle.std.proofs.lemmas.Bool.Decides.{nat_tests}
 use Rattle.std.proofs.lemmas.List.Elements.{All-nil, All-cons, All-append, All-weaker}
 use Rattle.std.proofs.lemmas.List.Splits.{slice_split_at, slice_split_none}
-use Rattle.auth_kinds.specs.Authorities.{text_of, authority_of}
+use Rattle.auth_kinds.specs.Authorities.{text_of}
 use Rattle.auth_kinds.specs.Policies.{is_label_byte, is_label_name}
 use Rattle.auth_kinds.specs.declared.authority.Authority.{Authority}
 use Rattle.auth_kinds.specs.declared.authority.Authority.TheVariants.{Receive, SyncSend, AsyncSend, Reset, Grant, Read, Write, Control, Call, Reply, GrantBack, Handle}
@@ -20,6 +20,7 @@ use Rattle.policy_text.specs.PolicyLines.{label_line, object_line, edge_line}
 use Rattle.cam_base.proofs.Decimals.{is_decimal-decimal, digits-decimal}
 use Rattle.policy_text.proofs.Rows.{IsRow, Item}
 use Rattle.text_lines.specs.Fields.{fields}
+use Rattle.auth_kinds.proofs.Words.{its_word}
 
 -- ---- fields
 
@@ -80,20 +81,6 @@ text_past Call = refl
 text_past Reply = refl
 text_past GrantBack = refl
 text_past Handle = refl
-
-its_word : (a : Authority) → authority_of (text_of a) ≡ Some a
-its_word Receive = refl
-its_word SyncSend = refl
-its_word AsyncSend = refl
-its_word Reset = refl
-its_word Grant = refl
-its_word Read = refl
-its_word Write = refl
-its_word Control = refl
-its_word Call = refl
-its_word Reply = refl
-its_word GrantBack = refl
-its_word Handle = refl
 
 no_space : (b : ℕ) → 32 < b → (b == 32) ≡ false
 no_space b h = grind (arith, nat_tests)

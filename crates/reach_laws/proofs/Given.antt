@@ -11,8 +11,9 @@ use Rattle.conn_rules.specs.declared.rule.ObjectKind.TheVariants.{NoObject, OfEn
 use Rattle.conn_rules.specs.Row.{same_connector, same_role}
 use Rattle.arch_policy.specs.Gives.{gives, same_object}
 use Rattle.arch_policy.specs.Owners.{has_label}
-use Rattle.arch_policy.proofs.Same.{is_connector, is_object, is_role}
+use Rattle.arch_policy.proofs.Same.{is_connector, is_object}
 use Rattle.arch_policy.proofs.Given.{implied, implies, over_object}
+use Rattle.conn_rules.proofs.Roles.{is_role}
 
 -- ---- who is given what
 

@@ -3,7 +3,6 @@ use Rattle.std.proofs.Common.{◌≡◌, ◌<◌, ◌≤◌, ◌+◌, ◌*◌, �
 use Rattle.std.specs.Prelude.{sum}
 use Rattle.std.specs.List.{flat_map, position, slice_get}
 use Rattle.std.specs.Option.{option_map_or}
-use Rattle.std.proofs.lemmas.Bool.{and_from, eq-eqb}
 use Rattle.std.proofs.lemmas.List.Quantifiers.{position-Some}
 use Rattle.std.proofs.lemmas.Option.{get_or_from_slice_get}
 use Rattle.adl_meaning.specs.declared.connector.Connector.{Connector}
@@ -35,7 +34,7 @@ use Rattle.vspace_layout.specs.Regions.{is_window, thread_regions, threads_of, w
 use Rattle.vspace_layout.specs.SpaceLaws.{SectionsStand}
 use Rattle.vspace_layout.proofs.Few.{few_at, own_few, registers_few, shared_few}
 use Rattle.vspace_layout.proofs.Rising.{rising}
-use Rattle.vspace_layout.proofs.Standing.{frames_stand}
+use Rattle.vspace_layout.proofs.Standing.{frames_stand, own_port}
 use Rattle.vspace_layout.proofs.Laying.{length_threads}
 use Rattle.vspace_layout.proofs.MemoryNumbers.{position_found}
 use Rattle.source_bounds.proofs.Lists.{ones_at, part_of_sum}
@@ -62,9 +61,6 @@ led_to e c l = by_end (registers c) refl l
     by_end : (o : Option FlatEnd) → registers c ≡ o → option_map_or (same_port e) o false ≡ true → (f : FlatEnd) × (registers c ≡ Some f) × (same_port e f ≡ true)
     by_end None is l = cc
     by_end (Some f) is l = (f, is, l)
-
-own_port : (e : FlatEnd) → same_port e e ≡ true
-own_port e = and_from _ _ (eq-eqb e.leaf e.leaf refl) (eq-eqb e.member e.member refl)
 
 module _ (g : Given) (can : CanLay g) (few : sum (page_counts g) ≤ 65536) where
   pub frames_most : length (frames g) ≤ 65536 + 2 * 268435456

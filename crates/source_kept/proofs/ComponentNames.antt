@@ -1,20 +1,14 @@
 -- The names of components are names, in files that tokens spell.
-use Rattle.std.proofs.Common.{◌≡◌, ◌∙◌, ℕ, Bool, true, false, cond, List, [], ◌∷◌, Option, Some, refl, sym, ap, subst, inl, inr, unwrap_or}
-use Rattle.std.specs.List.{enumerate_from, slice_get}
+use Rattle.std.proofs.Common.{◌≡◌, ◌∙◌, ℕ, Bool, true, false, cond, List, [], ◌∷◌, Option, Some, refl, sym, ap, subst, unwrap_or}
+use Rattle.std.specs.List.{slice_get}
 use Rattle.std.specs.Option.{option_map_or}
-use Rattle.grammar.specs.Depth.{deep}
-use Rattle.grammar.specs.Spelling.{Each, Spells}
-use Rattle.adl_ast.specs.Codes.{token_code}
-use Rattle.adl_ast.specs.Forms.{Rule, component_line, ended_form, ended_line, file_line, item_line, nested_line}
+use Rattle.adl_ast.specs.Forms.{component_line, item_line}
 use Rattle.adl_ast.specs.Seeing.{named}
-use Rattle.adl_ast.specs.Spelling.{IsSpelledBy, limit}
 use Rattle.adl_ast.specs.declared.component.Component.{Component}
 use Rattle.adl_ast.specs.declared.file.Ended.{Ended}
-use Rattle.adl_ast.specs.declared.file.File.{File}
 use Rattle.adl_ast.specs.declared.file.Item.{Item}
 use Rattle.adl_ast.specs.declared.file.Item.TheVariants as items
 use Rattle.adl_ast.specs.declared.id.Id.{Id}
-use Rattle.adl_ast.specs.declared.seen.Seen.{Seen}
 use Rattle.adl_ast.specs.declared.source.Source.{Source}
 use Rattle.adl_hierarchy.proofs.Bodies.{body_number}
 use Rattle.adl_hierarchy.proofs.Sources.{component_item}
@@ -22,17 +16,18 @@ use Rattle.adl_meaning.specs.declared.flat.Leaf.{Leaf}
 use Rattle.adl_meaning.specs.declared.item_at.ItemAt.{ItemAt}
 use Rattle.adl_meaning.specs.Flat.{flat_of, leaf_of}
 use Rattle.adl_meaning.specs.Hierarchy.{Body, hierarchy_of}
-use Rattle.adl_meaning.specs.Items.{as_component, components, items_in, items_of}
+use Rattle.adl_meaning.specs.Items.{as_component, components, items_of}
 use Rattle.numbering.specs.Gather.{IsIn}
 use Rattle.adl_meaning.specs.NameFaults.{AreNamesSound}
 use Rattle.adl_meaning.specs.Paths.{leaves}
 use Rattle.cam_base.specs.Names.{is_name}
 use Rattle.component_graph.proofs.Lists.{in_get}
-use Rattle.numbering.proofs.Lists.{from_enumerate, from_filter_map, from_flat_map, from_map, from_get_map}
+use Rattle.numbering.proofs.Lists.{from_filter_map, from_get_map}
 use Rattle.flat_laws.specs.ShortFiles.{AreFilesShort}
 use Rattle.flat_laws.proofs.FlatLeaves.{leaf_component}
 use Rattle.flat_laws.proofs.MembersAt.{item_at}
 use Rattle.system_spec.specs.Tables.{component_name, name_of_item}
+use Rattle.adl_hierarchy.proofs.Spelled.{item_component, IsOne, item_spelled}
 
 -- ---- names of spelled components
 
@@ -43,15 +38,7 @@ named_is text = by_test (is_name text) refl
     by_test true e = e
     by_test false e = refl
 
-abbrev pub IsSpelled : {A : Type 0} → Rule A → A → Type 0
-IsSpelled f x = (ts : List Seen) × IsSpelledBy f x ts
-
-one_spelled : {A : Type 0} (f : Rule A) (xs : List A) (ts : List Seen) (x : A) → Each (Spells token_code (deep token_code nested_line limit) f) xs ts → IsIn x xs → IsSpelled f x
-one_spelled f [] ts x w i = absurd i
-one_spelled {A} f (y ∷ xs) ts x w (inl s) = let P : A → Type 0 = λ z. IsSpelled f z in subst P s (w.0, w.3)
-one_spelled f (y ∷ xs) ts x w (inr i) = one_spelled f xs w.1 x w.4 i
-
-pub component_named : (c : Component) → IsSpelled component_line c → is_name c.id.name ≡ true
+pub component_named : (c : Component) → IsOne component_line c → is_name c.id.name ≡ true
 unfolding component_line
 component_named c w =
     let p = w.1 in
@@ -60,44 +47,11 @@ component_named c w =
     let is : c.id.name ≡ named word.0.text = ap (λ (z : Component). z.id.name) p.1 ∙ ap (λ (z : Id). z.name) word.1 in
     subst P (sym is) (named_is word.0.text)
 
-pub item_component : (c : Component) → IsSpelled item_line (items.Component c) → IsSpelled component_line c
-unfolding item_line
-item_component c w = elim w.1 [
-  | inl a ↦ let u = a.1 in cc
-  | inr (inl a) ↦ let u = a.1 in cc
-  | inr (inr (inl a)) ↦ let u = a.1 in let s : a.0 ≡ c = cc in let P : Component → Type 0 = λ z. IsSpelled component_line z in subst P s (w.0, a.2)
-  | inr (inr (inr a)) ↦ let u = a.1 in cc
-]
-
-ended_item : (e : Ended) → IsSpelled ended_line e → IsSpelled item_line e.item
-unfolding ended_line
-ended_item e w =
-    let p = w.1 in
-    let P : Ended → Type 0 = λ z. IsSpelled item_line z.item in
-    subst P (sym p.1) (p.2.0, p.2.3)
-
-pub file_item : (f : File) → IsSpelled file_line f → (e : Ended) → IsIn e f.items → IsSpelled item_line e.item
-unfolding file_line
-file_item f w e i =
-    let p = w.1 in
-    let P : File → Type 0 = λ z. IsIn e z.items in
-    ended_item e (one_spelled ended_form p.0 w.0 e p.2 (subst P p.1 i))
-
-item_spelled : (s : Source) → AreFilesShort s → (x : ItemAt × Item) → IsIn x (items_of s) → IsSpelled item_line x.1
-item_spelled s short x i =
-    let f = from_flat_map items_in x (enumerate_from 0 s.files) i in
-    let n = from_enumerate 0 s.files f.0 f.1 in
-    let e = from_map (λ (e : ℕ × Ended). let at : ItemAt = record { file = f.0.0; item = e.0 } in (at, e.1.item)) x (enumerate_from 0 f.0.1.tree.items) f.2 in
-    let m = from_enumerate 0 f.0.1.tree.items e.0 e.1 in
-    let P : ItemAt × Item → Type 0 = λ z. IsSpelled item_line z.1 in
-    let w = short f.0.1 (in_get s.files n.0 f.0.1 n.2) in
-    subst P e.2 (file_item f.0.1.tree (w.0, w.1) e.0.1 (in_get f.0.1.tree.items m.0 e.0.1 m.2))
-
 pub components_named : (s : Source) → AreFilesShort s → (c : ItemAt × Component) → IsIn c (components s) → is_name c.1.id.name ≡ true
 components_named s short c i =
     let x = component_item s c i in
-    let P : Item → Type 0 = λ y. IsSpelled item_line y in
-    component_named c.1 (item_component c.1 (subst P x.2 (item_spelled s short x.0 x.1)))
+    let P : Item → Type 0 = λ y. IsOne item_line y in
+    component_named c.1 (item_component c.1 (subst P x.2 (item_spelled s (λ f j. let w = short f j in (w.0, w.1)) x.0 x.1)))
 
 -- ---- the names of leaves' components
 

@@ -4,15 +4,12 @@ use Rattle.std.specs.Prelude.{sum}
 use Rattle.std.specs.List.{flat_map, range_with_len, slice_get}
 use Rattle.std.specs.Option.{option_map_or}
 use Rattle.adl_meaning.specs.declared.settled.Settled.{Settled}
-use Rattle.cap_model.specs.declared.level.Arch.{Arch}
-use Rattle.cap_model.specs.declared.level.Arch.TheVariants.{Arm11, Aarch64}
 use Rattle.numbering.specs.Gather.{IsIn, gather}
 use Rattle.numbering.proofs.Gathered.{from_gather, from_ones, get_ones, in_append, in_place, length_append, place_of}
 use Rattle.numbering.proofs.Lists.{at_place, below, from_map, from_range}
 use Rattle.page_tables.specs.Shapes.{shapes}
 use Rattle.page_tables.specs.Walks.{root_span}
 use Rattle.program_sections.specs.ByAddress.{section_pages}
-use Rattle.program_sections.specs.Images.{sections_end}
 use Rattle.program_sections.specs.declared.pages.SectionPage.{SectionPage}
 use Rattle.vspace_layout.specs.declared.mapped.MappedPage.{MappedPage}
 use Rattle.vspace_layout.specs.declared.region.Content.{Content}
@@ -35,11 +32,7 @@ use Rattle.vspace_layout.proofs.Fitting.{few_regions, pages_next, pages_upto}
 use Rattle.vspace_layout.proofs.Rising.{each_all, each_in, rising}
 use Rattle.vspace_layout.proofs.Laying.{length_threads}
 use Rattle.source_bounds.proofs.SpaceBounds.{space_cases}
-
--- what lies within 2^30 above the end of sections lies below what the root spans
-root_spans : (a : Arch) (at : ℕ) → at < sections_end a + 1073741824 → at < root_span (shapes a)
-root_spans Arm11 at l = omega (arith, l)
-root_spans Aarch64 at l = omega (arith, l)
+use Rattle.vspace_layout.proofs.Spans.{root_spans}
 
 region_at : (settled : Settled) (c : Content) (at j : ℕ) → (region_page settled c at j).at ≡ at
 region_at settled Stack at j = refl

@@ -38,11 +38,12 @@ use Rattle.source_images.proofs.Soundness.{images_sound}
 use Rattle.spec_kept.specs.Plain.{IsImagePlain}
 use Rattle.text_lines.specs.Fields.{spaced_fields}
 use Rattle.text_lines.specs.Lines.{Line, lines}
-use Rattle.source_kept.proofs.ComponentNames.{IsSpelled, component_named, file_item, item_component}
+use Rattle.source_kept.proofs.ComponentNames.{component_named}
+use Rattle.adl_hierarchy.proofs.Spelled.{file_item, item_component, IsOne}
 
 -- ---- types are names
 
-component_spelled : (i : Item) (n : Name) → IsSpelled item_line i → component_of i ≡ Some n → is_name n ≡ true
+component_spelled : (i : Item) (n : Name) → IsOne item_line i → component_of i ≡ Some n → is_name n ≡ true
 component_spelled (items.Import p) n w e = cc
 component_spelled (items.Procedure p) n w e = cc
 component_spelled (items.Component c) n w e =

@@ -34,9 +34,9 @@ use Rattle.spec_kept.specs.Limited.{IsLimited}
 use Rattle.spec_kept.specs.Sized.{IsSized, page_count, thread_count, use_count}
 use Rattle.spec_kept.proofs.Few.{all_tables_are}
 use Rattle.spec_kept.proofs.Seen.{frames_few}
-use Rattle.spec_kept.proofs.TablesKept.{count_is}
 use Rattle.spec_kept.proofs.Totals.{sum_map, sum_ones, total_map, totals_flat, totals_most, totals_same, totals_times}
 use Rattle.spec_kept.proofs.Uses.{uses_are}
+use Rattle.system_spec.proofs.Domains.{tables_counted}
 
 -- ---- stacks
 
@@ -76,7 +76,7 @@ module _ (source : Source) (flat : Flat) (settled : Settled) (images : Images) w
   table_sum : length (all_tables t) ≡ sum (table_counts g)
   table_sum =
       sym (all_tables_are t)
-      ∙ totals_same (λ d (x : Domain). length (tables_at t 0 0 d)) (λ d x. tables_needed g d) flat.domains (λ d x e. count_is t 0 0 d ∙ ap (λ z. table_count (shapes (arch t)) z) (addresses d x e))
+      ∙ totals_same (λ d (x : Domain). length (tables_at t 0 0 d)) (λ d x. tables_needed g d) flat.domains (λ d x e. tables_counted t 0 0 d ∙ ap (λ z. table_count (shapes (arch t)) z) (addresses d x e))
       ∙ sym (sum_ones (λ d (x : Domain). tables_needed g d) flat.domains)
     where
       addresses : (d : ℕ) (x : Domain) → slice_get flat.domains d ≡ Some x → map (λ (p : Page). p.vaddr) (pages_at t d) ≡ map (λ (p : MappedPage). p.at) (mapped_pages g d)

@@ -24,14 +24,11 @@ use Rattle.numbering.specs.Gather.{IsIn}
 use Rattle.numbering.proofs.Gathered.{in_append, in_place}
 use Rattle.numbering.proofs.Lists.{at_place, from_map}
 use Rattle.page_tables.proofs.Children.{slots_lead}
-use Rattle.page_tables.proofs.Counted.{counts_of_addresses}
 use Rattle.page_tables.proofs.Fitting.{shapes_are_sized}
-use Rattle.page_tables.proofs.Leveled.{as_many}
 use Rattle.page_tables.proofs.Rising.{kept_rise, slots_below, shape_of_layer}
 use Rattle.page_tables.proofs.Rooting.{root_first}
 use Rattle.page_tables.specs.declared.layer.Layer.{Layer}
 use Rattle.page_tables.specs.declared.mapping.Mapping.{Mapping}
-use Rattle.page_tables.specs.Counts.{table_count}
 use Rattle.page_tables.specs.Levels.{IsChild, layers, numbered, sizes, slot_of, table_of, tables_of}
 use Rattle.page_tables.specs.Runs.{Rises}
 use Rattle.page_tables.specs.Shapes.{shape, shapes}
@@ -45,6 +42,7 @@ use Rattle.vspace_layout.specs.declared.spaces.Page.{Page}
 use Rattle.spec_kept.specs.Fit.{IsFit}
 use Rattle.system_spec.proofs.There.{IsThere, object_there}
 use Rattle.spec_kept.proofs.CapsFit.{all_pass, fits_as_of}
+use Rattle.system_spec.proofs.Domains.{tables_counted}
 
 -- ---- what tables are
 
@@ -64,10 +62,6 @@ from_tables first link (y ∷ ys) o i = elim (in_append o (numbered first (first
 ]
 
 -- ---- pages
-
-addresses_are : (frames : ℕ) (ps : List Page) → map (λ (x : Mapping). x.at) (map (page_mapping frames) ps) ≡ map (λ (p : Page). p.vaddr) ps
-addresses_are frames [] = refl
-addresses_are frames (p ∷ ps) = ap (λ z. p.vaddr ∷ z) (addresses_are frames ps)
 
 -- whole addresses that rise, rise by pages
 pages_rise : (frames : ℕ) (ps : List Page) → ((p : Page) → IsIn p ps → p.vaddr % 4096 ≡ 0) → Rises (map (λ (p : Page). p.vaddr) ps) → Rises (map (λ (x : Mapping). x.at / 4096) (map (page_mapping frames) ps))
@@ -96,13 +90,8 @@ root_of Aarch64 x xs first h =
 
 module _ (t : Tables) where
   -- there are as many tables, wherever they and the frames stand
-  pub count_is : (first frames d : ℕ) → length (tables_at t first frames d) ≡ table_count (shapes (arch t)) (map (λ (p : Page). p.vaddr) (pages_at t d))
-  count_is first frames d =
-      let xs = map (page_mapping frames) (pages_at t d) in
-      as_many first 0 (layers (shapes (arch t)) xs) ∙ counts_of_addresses (arch t) xs ∙ ap (λ z. table_count (shapes (arch t)) z) (addresses_are frames (pages_at t d))
-
   pub as_long : (first frames a b d : ℕ) → length (tables_at t first frames d) ≡ length (tables_at t a b d)
-  as_long first frames a b d = count_is first frames d ∙ sym (count_is a b d)
+  as_long first frames a b d = tables_counted t first frames d ∙ sym (tables_counted t a b d)
 
   -- wherever they stand, as many are there
   pub moved : (first frames a b d j : ℕ) (o : Object) → slice_get (tables_at t first frames d) j ≡ Some o → (p : Object) × (slice_get (tables_at t a b d) j ≡ Some p)

@@ -43,6 +43,7 @@ use Rattle.spec_laws.proofs.Showing.{MemoryPlace, in_domain, memory_at}
 use Rattle.spec_laws.proofs.SlotLists.{some}
 use Rattle.spec_laws.proofs.Spaces.{is_at}
 use Rattle.spec_laws.proofs.Whats.{frame_what}
+use Rattle.vspace_layout.proofs.Standing.{registers_mmio}
 
 shared_is : (c : Connector) → is_shared c ≡ true → c ≡ SharedMemory
 shared_is SharedMemory h = refl
@@ -51,14 +52,6 @@ shared_is Notification h = cc
 shared_is Mmio h = cc
 shared_is Interrupt h = cc
 shared_is Direct h = cc
-
-mmio_is : (c : Connector) (ends : List FlatEnd) (e : FlatEnd) → registers_in c ends ≡ Some e → c ≡ Mmio
-mmio_is Mmio ends e h = refl
-mmio_is SharedMemory ends e h = cc
-mmio_is Rpc ends e h = cc
-mmio_is Notification ends e h = cc
-mmio_is Interrupt ends e h = cc
-mmio_is Direct ends e h = cc
 
 -- what is given if a test passes
 given_if : {X : Type 0} (b : Bool) (xs : List X) (j : ℕ) (x : X) → slice_get (cond b xs []) j ≡ Some x → (b ≡ true) × (slice_get xs j ≡ Some x)
@@ -183,7 +176,7 @@ module _ (t : Tables) (can : CanMap t) where
           let l = below list j info q.1 in
           let long = as_long (register_frame t.settled k c p) 0 (memory_pages t.settled k c) in
           let within : j < memory_pages t.settled k c = omega (arith, l, long) in
-          let kind = mmio_is c.connector c.ends p r in
+          let kind = registers_mmio c.connector c.ends p r in
           by_place k j c p h kind r (first_is (first_to t.flat p) k q.0) within (memory_at t can k j c h (inr kind) within) s
 
   -- ---- all

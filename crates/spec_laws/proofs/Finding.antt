@@ -15,7 +15,6 @@ use Rattle.page_tables.specs.Shapes.{shapes}
 use Rattle.page_tables.specs.Walks.{Walk, root_span}
 use Rattle.page_tables.proofs.Walking.{found_before}
 use Rattle.program_sections.specs.ByAddress.{section_pages}
-use Rattle.program_sections.specs.Images.{sections_end}
 use Rattle.program_sections.specs.declared.pages.SectionPage.{SectionPage}
 use Rattle.system_spec.specs.Made.{spec_of}
 use Rattle.system_spec.specs.Parts.{page_mapping}
@@ -42,6 +41,7 @@ use Rattle.spec_laws.specs.CanMap.{CanMap}
 use Rattle.spec_laws.specs.Spaced.{IsAt, IsRegionPage, begins, memory_rights, objects_from, root_of, system}
 use Rattle.spec_laws.proofs.Paging.{region_in}
 use Rattle.spec_laws.proofs.Rooted.{frames_from, from_root, tables_of_domain}
+use Rattle.vspace_layout.proofs.Spans.{root_spans}
 
 -- ---- regions end below what a root spans
 
@@ -51,10 +51,6 @@ pages_before (x ∷ rs) zero r e =
     let same : x ≡ r = cc in
     let l : x.pages ≡ r.pages = ap (λ (z : Region). z.pages) same in omega (arith, l)
 pages_before (x ∷ rs) (suc n) r e = let l = pages_before rs n r e in omega (arith, l)
-
-room : (a : Arch) (v : ℕ) → v < sections_end a + 1073741824 → v < root_span (shapes a)
-room Arm11 v l = omega (arith, l)
-room Aarch64 v l = omega (arith, l)
 
 at_is : (s : _) (c : Content) (at j : ℕ) → (region_page s c at j).at ≡ at
 at_is s Stack at j = refl
@@ -120,7 +116,7 @@ module _ (t : Tables) (can : CanMap t) (d : ℕ) (x : Domain) (h : slice_get t.f
       let few = few_at (system t) can.lay can.few d x h in
       let a = pages_before rs n r e in
       let b = below rs n r e in
-      room (arch t) (begins t d n + 4096 * j) (omega (arith, few, a, b, l))
+      root_spans (arch t) (begins t d n + 4096 * j) (omega (arith, few, a, b, l))
 
   page_below : (p : MappedPage) → IsIn p (mapped_pages (system t) d) → p.at < root_span (shapes (arch t))
   page_below p i =
@@ -130,7 +126,7 @@ module _ (t : Tables) (can : CanMap t) (d : ℕ) (x : Domain) (h : slice_get t.f
             let q = from_map section_page p (section_pages t.images (leaves_of t.flat d)) j in
             let l : q.0.vaddr + 4096 ≤ base s = each_in (λ (z : SectionPage). z.vaddr + 4096 ≤ base s) (section_pages t.images (leaves_of t.flat d)) q.0 (each_all (λ (z : SectionPage). z.vaddr + 4096 ≤ base s) (section_pages t.images (leaves_of t.flat d)) stand.below) q.1 in
             let e : q.0.vaddr ≡ p.at = ap (λ (z : MappedPage). z.at) q.2 in
-            room (arch t) p.at (omega (arith, l, e))
+            root_spans (arch t) p.at (omega (arith, l, e))
         | inr j ↦
             let a = from_gather (pages_of_region t.settled (base s) (regions s d)) p (regions s d) j in
             let b = from_map (page_of t.settled (begins t d a.0) a.1) p (range_with_len 0 a.1.pages) a.3 in

@@ -1,9 +1,9 @@
 -- The frame of each page that is mapped
-use Rattle.std.proofs.Common.{◌≡◌, ◌<◌, ◌+◌, ◌*◌, ◌/◌, ◌⊎◌, ℕ, zero, suc, Bool, true, false, ◌&&◌, List, [], ◌∷◌, get_or, length, Option, Some, None, refl, sym, ◌∙◌, ap, subst, inl, inr, arith}
+use Rattle.std.proofs.Common.{◌≡◌, ◌<◌, ◌+◌, ◌*◌, ◌/◌, ◌⊎◌, ℕ, zero, suc, Bool, true, false, List, [], ◌∷◌, get_or, length, Option, Some, None, refl, sym, ◌∙◌, ap, subst, inl, inr, arith}
 use Rattle.std.specs.List.{position, range_with_len, slice_get}
 use Rattle.std.specs.Option.{option_and_then, option_map_or}
 use Rattle.std.specs.Prelude.{◌==◌}
-use Rattle.std.proofs.lemmas.Bool.{and_parts, eqb-true, eq-eqb}
+use Rattle.std.proofs.lemmas.Bool.{and_parts, eqb-true}
 use Rattle.std.proofs.lemmas.List.Quantifiers.{position-Some}
 use Rattle.adl_ast.specs.declared.composition.Role.{Role}
 use Rattle.adl_meaning.specs.declared.connector.Connector.{Connector}
@@ -43,7 +43,7 @@ use Rattle.vspace_layout.specs.Given.{base, leaves_of}
 use Rattle.vspace_layout.specs.MappedPages.{mapped_pages, page_of, pages_of_region, region_page, region_part, section_page, section_part}
 use Rattle.vspace_layout.specs.Memory.{first_to, is_shared, is_to, leads_to, memory_pages, memory_paddr, memory_place, registers, registers_in, same_port, to_place}
 use Rattle.vspace_layout.specs.Regions.{is_window, regions}
-use Rattle.vspace_layout.proofs.Standing.{frames_stand}
+use Rattle.vspace_layout.proofs.Standing.{frames_stand, own_port}
 use Rattle.vspace_layout.proofs.MemoryNumbers.{position_found}
 use Rattle.spec_laws.specs.CanMap.{CanMap}
 use Rattle.spec_laws.specs.Framed.{OneDevice}
@@ -82,9 +82,6 @@ at_get : {X : Type 0} (xs : List X) (n : ℕ) (d : X) → n < length xs → slic
 at_get [] n d l = absurd (omega (arith, l))
 at_get (x ∷ xs) zero d l = refl
 at_get (x ∷ xs) (suc n) d l = at_get xs n d (omega (arith, l))
-
-own_port : (e : FlatEnd) → same_port e e ≡ true
-own_port e = ap (λ b. b && (e.member == e.member)) (eq-eqb e.leaf e.leaf refl) ∙ eq-eqb e.member e.member refl
 
 pub first_is : (t : Tables) (k : ℕ) (c : FlatConnection) (e : FlatEnd) → slice_get t.flat.connections k ≡ Some c → registers c ≡ Some e → FirstTo t e
 first_is t k c e h r =

@@ -24,7 +24,7 @@ use Rattle.numbering.proofs.Gathered.{from_gather, in_gather, in_place, place_of
 use Rattle.page_tables.specs.declared.layer.Layer.{Layer}
 use Rattle.page_tables.specs.Levels.{layers, numbered as in_levels, sizes, table_of}
 use Rattle.page_tables.specs.Shapes.{shapes}
-use Rattle.vspace_layout.proofs.Rising.{Each, each_append}
+use Rattle.vspace_layout.proofs.Rising.{each_append}
 use Rattle.system_spec.specs.declared.part.Owned.{Owned}
 use Rattle.system_spec.specs.declared.part.Part.{Part}
 use Rattle.system_spec.specs.declared.part.What.{What}
@@ -42,6 +42,7 @@ use Rattle.spec_laws.specs.Slotted.{CanSlot, IsJoint, IsNamed, OwnLocks}
 use Rattle.spec_laws.proofs.SlotLists.{some}
 use Rattle.spec_laws.proofs.Slotting.{cap_is, has_irq, of_handler, of_use as from_use, uses_are}
 use Rattle.numbering.proofs.Lists.{from_get_map}
+use Rattle.cap_model.proofs.Eaches.{Each}
 
 -- ---- what is a CNode
 

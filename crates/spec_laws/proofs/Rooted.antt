@@ -8,23 +8,17 @@ use Rattle.cap_model.specs.declared.spec.Entry.{Entry}
 use Rattle.numbering.specs.Gather.{IsIn, before}
 use Rattle.numbering.proofs.Gathered.{gathered, get_ones, in_gather}
 use Rattle.numbering.proofs.Lists.{at_place, begins_with, below, get_drop, get_map}
-use Rattle.page_tables.specs.declared.mapping.Mapping.{Mapping}
-use Rattle.page_tables.specs.Counts.{table_count}
-use Rattle.page_tables.specs.Levels.{layers}
-use Rattle.page_tables.specs.Shapes.{shapes}
-use Rattle.page_tables.proofs.Counted.{counts_of_addresses}
-use Rattle.page_tables.proofs.Leveled.{as_many}
 use Rattle.system_spec.specs.declared.part.PageTable.{PageTable}
 use Rattle.system_spec.specs.declared.part.Part.{Part}
 use Rattle.system_spec.specs.declared.part.What.TheVariants.{FrameOf, TableOf}
 use Rattle.system_spec.specs.Made.{entry, spec_of}
-use Rattle.system_spec.specs.Parts.{all_tables, domain_tables, level_of, page_mapping, page_table, parts, place, sections, table_part, table_parts, tables_at}
-use Rattle.system_spec.specs.Tables.{Tables, arch, pages_at}
+use Rattle.system_spec.specs.Parts.{all_tables, domain_tables, level_of, page_table, parts, place, sections, table_part, table_parts, tables_at}
+use Rattle.system_spec.specs.Tables.{Tables}
 use Rattle.system_spec.proofs.Objects.{in_together}
 use Rattle.system_spec.proofs.Standing.{stands}
-use Rattle.vspace_layout.specs.declared.spaces.Page.{Page}
 use Rattle.spec_laws.specs.Spaced.{objects_from, root_of}
 use Rattle.spec_laws.proofs.Members.{index_is}
+use Rattle.system_spec.proofs.Domains.{tables_counted}
 
 -- frame 0
 abbrev pub frames_from : Tables → ℕ
@@ -32,16 +26,6 @@ frames_from t = place t (FrameOf 0)
 
 abbrev pub tables_of_domain : Tables → ℕ → List Object
 tables_of_domain t d = tables_at t (root_of t d) (frames_from t) d
-
-at_of : (f : ℕ) (ps : List Page) → map (λ (m : Mapping). m.at) (map (page_mapping f) ps) ≡ map (λ (p : Page). p.vaddr) ps
-at_of f [] = refl
-at_of f (p ∷ ps) = ap (λ z. p.vaddr ∷ z) (at_of f ps)
-
--- how many there are is a matter of addresses
-pub count_of : (t : Tables) (first frames d : ℕ) → length (tables_at t first frames d) ≡ table_count (shapes (arch t)) (map (λ (p : Page). p.vaddr) (pages_at t d))
-count_of t first frames d =
-    let xs = map (page_mapping frames) (pages_at t d) in
-    as_many first 0 (layers (shapes (arch t)) xs) ∙ counts_of_addresses (arch t) xs ∙ ap (λ z. table_count (shapes (arch t)) z) (at_of frames (pages_at t d))
 
 module _ (t : Tables) (d : ℕ) (x : Domain) (h : slice_get t.flat.domains d ≡ Some x) where
   -- page table j of the domain, among all
@@ -58,7 +42,7 @@ module _ (t : Tables) (d : ℕ) (x : Domain) (h : slice_get t.flat.domains d ≡
 
   object_there : (j : ℕ) (o : Object) → slice_get (tables_of_domain t d) j ≡ Some o → slice_get (map (λ (z : Entry). z.object) (spec_of t).entries) (root_of t d + j) ≡ Some o
   object_there j o e =
-      let long : length (tables_of_domain t d) ≡ length (tables_at t 0 0 d) = count_of t (root_of t d) (frames_from t) d ∙ sym (count_of t 0 0 d) in
+      let long : length (tables_of_domain t d) ≡ length (tables_at t 0 0 d) = tables_counted t (root_of t d) (frames_from t) d ∙ sym (tables_counted t 0 0 d) in
       let l = below (tables_of_domain t d) j o e in
       let q = at_place (tables_at t 0 0 d) j (omega (arith, long, l)) in
       let p = table_part (all_tables t) (before (domain_tables t) t.flat.domains d + j) (page_table d j (level_of q.0)) in

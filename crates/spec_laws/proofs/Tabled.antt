@@ -32,7 +32,8 @@ use Rattle.spec_laws.specs.Spaced.{AreTablesOf, objects_from, root_of, system}
 use Rattle.spec_laws.proofs.Finding.{from_maps, in_maps, mapping, maps, maps_below, some_map}
 use Rattle.spec_laws.proofs.Labels.{label_is, moved}
 use Rattle.spec_laws.proofs.Paging.{is_mapped, mapped_is}
-use Rattle.spec_laws.proofs.Rooted.{count_of, frames_from, from_root, table_in, tables_of_domain}
+use Rattle.spec_laws.proofs.Rooted.{frames_from, from_root, table_in, tables_of_domain}
+use Rattle.system_spec.proofs.Domains.{tables_counted}
 
 -- ---- levels above others
 
@@ -153,7 +154,7 @@ module _ (t : Tables) (can : CanMap t) where
   -- the table at a place from the root on is the domain's
   table_label : (d n : ℕ) (x : Domain) → slice_get t.flat.domains d ≡ Some x → n < length (tables_of_domain t d) → IsOf t (labels_of t) (root_of t d + n) (owners.OfDomain d)
   table_label d n x h l =
-      let long : length (tables_of_domain t d) ≡ length (tables_at t 0 0 d) = count_of t (root_of t d) (frames_from t) d ∙ sym (count_of t 0 0 d) in
+      let long : length (tables_of_domain t d) ≡ length (tables_at t 0 0 d) = tables_counted t (root_of t d) (frames_from t) d ∙ sym (tables_counted t 0 0 d) in
       let o = at_place (tables_at t 0 0 d) n (omega (arith, long, l)) in
       let p = table_part (all_tables t) (before (domain_tables t) t.flat.domains d + n) (page_table d n (level_of o.0)) in
       let at : place t (TableOf d n) ≡ root_of t d + n = omega arith in

@@ -9,7 +9,7 @@ use Rattle.cap_model.specs.declared.object.Tcb.{Tcb}
 use Rattle.page_tables.specs.declared.layer.Layer.{Layer}
 use Rattle.page_tables.specs.Levels.{layers, numbered as in_levels, sizes, table_of}
 use Rattle.page_tables.specs.Shapes.{shapes}
-use Rattle.vspace_layout.proofs.Rising.{Each, each_append}
+use Rattle.vspace_layout.proofs.Rising.{each_append}
 use Rattle.vspace_layout.specs.declared.spaces.FrameInfo.{FrameInfo}
 use Rattle.vspace_layout.specs.declared.spaces.ThreadPlace.{ThreadPlace}
 use Rattle.system_spec.specs.declared.part.What.{What}
@@ -18,6 +18,7 @@ use Rattle.system_spec.specs.Objects.{frame_object, object, tcb}
 use Rattle.system_spec.specs.Parts.{page_mapping, place, tables_at}
 use Rattle.system_spec.specs.Tables.{Tables, arch, pages_at, threads_at}
 use Rattle.spec_laws.proofs.Locks.{at_index, each_map}
+use Rattle.cap_model.proofs.Eaches.{Each}
 
 abbrev pub IsTable : Object → Type 0
 IsTable (objects.Pages level slots) = Unit {0}

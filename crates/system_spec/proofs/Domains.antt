@@ -88,6 +88,10 @@ counted t frames d = counts_of_addresses (arch t) (map (page_mapping frames) (pa
 length-tables_at : (t : Tables) (first frames d : ℕ) → length (tables_at t first frames d) ≡ table_count t frames d
 length-tables_at t first frames d = as_many first 0 (layers (shapes (arch t)) (map (page_mapping frames) (pages_at t d)))
 
+-- how many tables a domain has is a matter of addresses
+pub tables_counted : (t : Tables) (first frames d : ℕ) → length (tables_at t first frames d) ≡ count_of (shapes (arch t)) (map (λ p. p.vaddr) (pages_at t d))
+tables_counted t first frames d = length-tables_at t first frames d ∙ counted t frames d
+
 length-domain_tables : (t : Tables) (frames d : ℕ) (x : Domain) → length (domain_tables t d x) ≡ table_count t frames d
 length-domain_tables t frames d x =
     let ones : length (domain_tables t d x) ≡ length (tables_at t 0 0 d) = gather_ones (λ j (o : Object). page_table d j (level_of o)) (tables_at t 0 0 d) in

@@ -15,10 +15,8 @@ use Rattle.vspace_layout.specs.declared.mapped.MappedPage.{MappedPage}
 use Rattle.vspace_layout.specs.declared.mapped.Shown.{Shown}
 use Rattle.vspace_layout.specs.declared.mapped.Shown.TheVariants.{Own, Memory}
 use Rattle.vspace_layout.specs.declared.region.Region.{Region}
-use Rattle.vspace_layout.specs.declared.spaces.FrameInfo.{FrameInfo}
 use Rattle.vspace_layout.specs.declared.spaces.Page.{Page}
 use Rattle.vspace_layout.specs.declared.spaces.Space.{Space}
-use Rattle.vspace_layout.specs.declared.spaces.Spaces.{Spaces}
 use Rattle.vspace_layout.specs.declared.spaces.ThreadPlace.{ThreadPlace}
 use Rattle.vspace_layout.specs.declared.spaces.Window.{Window}
 use Rattle.vspace_layout.specs.declared.thread.ThreadOf.{ThreadOf}
@@ -30,6 +28,7 @@ use Rattle.vspace_layout.specs.MappedPages.{mapped_pages}
 use Rattle.vspace_layout.specs.Outlines.{all_mapped, domain_mapped, outline, pages_at, space_at, space_in, spaces_in, start_at, starts_in, thread_at, thread_places, window_place, window_places}
 use Rattle.vspace_layout.specs.Regions.{region_start, regions, regions_in, stack_pages, start, thread_regions, threads_of, window_pages, window_region, windows_of}
 use Rattle.vspace_layout.proofs.Joining.{own_before, own_gathered, own_number_of}
+use Rattle.vspace_layout.proofs.Joined.{both}
 
 -- ---- lists
 
@@ -137,13 +136,10 @@ space_same t d x e =
     ∙ ap (λ ts. made (gather (λ n p. page t d n p ∷ []) (mapped_pages t d)) ts (window_places t.flat t.settled (starts_in (base t) (regions t d)) (2 * length (threads_of t d)) (windows_of t d))) (threads_same t d)
     ∙ ap (λ ws. made (gather (λ n p. page t d n p ∷ []) (mapped_pages t d)) (gather (λ i y. thread_place t d i y ∷ []) (threads_of t d)) ws) (windows_same t d)
 
-abbrev all_of : List Space → List FrameInfo → Spaces
-all_of spaces frames = record { spaces = spaces; frames = frames }
-
 -- what is laid domain by domain is what the definition says
 pub laid : (t : Given) → spaces_in t.flat t.settled (ends t) (base t) (all_mapped t.flat t.settled (ends t) t.images) ≡ spaces_of t
 laid t =
     let mapped = all_mapped t.flat t.settled (ends t) t.images in
-    ap (λ ss. all_of ss (gather own_added mapped ++ memory_part t.flat t.settled))
+    ap (λ ss. both ss (gather own_added mapped ++ memory_part t.flat t.settled))
     (gather_same (λ d (x : Domain). space_at t.flat t.settled (ends t) (base t) mapped d x ∷ []) (λ d (x : Domain). space t d x ∷ []) t.flat.domains (λ k x e. ap (λ s. s ∷ []) (space_same t k x e)))
-    ∙ ap (λ fs. all_of (gather (λ d (x : Domain). space t d x ∷ []) t.flat.domains) (fs ++ memory_part t.flat t.settled)) (own_gathered t)
+    ∙ ap (λ fs. both (gather (λ d (x : Domain). space t d x ∷ []) t.flat.domains) (fs ++ memory_part t.flat t.settled)) (own_gathered t)

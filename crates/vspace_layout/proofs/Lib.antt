@@ -11,6 +11,7 @@ pub mod Standing
 pub mod FirstPorts
 pub mod MemoryNumbers
 pub mod Numbering
+pub mod Spans
 pub mod Starting
 pub mod Fit
 pub mod Joined

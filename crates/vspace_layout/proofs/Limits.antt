@@ -1,9 +1,8 @@
 -- The first limit on pages that is passed, at the keyword of the assembly, is the first fault of pages.
 use Rattle.std.proofs.Common.{◌≡◌, ◌≤◌, ◌<◌, ℕ, Bool, true, false, cond, List, [], ◌∷◌, ◌++◌, length, Option, Some, None, refl, sym, ◌∙◌, ap, arith}
-use Rattle.std.specs.Prelude.{nat_lt, nat_eq, option_map, codes}
+use Rattle.std.specs.Prelude.{nat_lt, option_map, codes}
 use Rattle.std.specs.List.{flat_map, slice_get}
 use Rattle.std.proofs.lemmas.Bool.{ltb-true, ltb-false}
-use Rattle.std.proofs.lemmas.Bool.Decides.{nat_tests}
 use lib.Dec.{ltb}
 use Rattle.cam_base.specs.Codes.{number_of}
 use Rattle.cam_base.specs.declared.code.Code.TheVariants as code
@@ -17,12 +16,11 @@ use Rattle.adl_meaning.specs.Items.{assemblies}
 use Rattle.leaf_ends.specs.Limit.{fault_at, keyword, limit_fault, place_in}
 use Rattle.vspace_layout.specs.Counted.{capped, limit_over}
 use Rattle.vspace_layout.specs.PageLimits.{limits_passed}
+use Rattle.adl_meaning.proofs.Least.{lex_self}
+use Rattle.leaf_ends.proofs.Keyword.{has_place}
 
 abbrev pub faults_of : Source → ℕ → ℕ → Option Fault
 faults_of source pages tables = least (flat_map (limits_passed pages tables) (assemblies source))
-
-lex_self : (a b c : ℕ) → cond (nat_eq a a) (cond (nat_eq b b) (nat_lt c c) (nat_lt b b)) (nat_lt a a) ≡ false
-lex_self a b c = grind (arith, nat_tests)
 
 -- the name of the first limit
 abbrev name_by : Bool → Bool → Option (List ℕ)
@@ -41,10 +39,6 @@ one_assembly n m (x ∷ []) p l e =
     let same : x.1.place ≡ p = cc in
     first_told x.1.place (nat_lt 65536 n) (nat_lt 65536 m) ∙ ap (λ q. option_map (fault_at q) (name_by (nat_lt 65536 n) (nat_lt 65536 m))) same
 one_assembly n m (x ∷ y ∷ xs) p l e = absurd (omega arith)
-
-has_place : (xs : List (ItemAt × Assembly)) → length xs ≡ 1 → (p : Place) × (place_in (slice_get xs 0) ≡ Some p)
-has_place [] l = absurd (omega arith)
-has_place (x ∷ xs) l = (x.1.place, refl)
 
 pub told : (source : Source) (n m : ℕ) → length (assemblies source) ≡ 1 → (p : Place) × (keyword source ≡ Some p) × (faults_of source n m ≡ option_map (fault_at p) (name_by (nat_lt 65536 n) (nat_lt 65536 m)))
 told source n m one =

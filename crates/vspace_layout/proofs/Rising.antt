@@ -18,16 +18,10 @@ use Rattle.vspace_layout.specs.MappedPages.{mapped_pages, page_of, pages_from, r
 use Rattle.vspace_layout.specs.Regions.{regions, start}
 use Rattle.vspace_layout.specs.SpaceLaws.{PagesRise, SectionsStand}
 use Rattle.vspace_layout.proofs.Apart.{apart}
+use Rattle.cap_model.proofs.Eaches.{each_then, Each}
+use Rattle.program_sections.proofs.Sorting.{Later}
 
--- ---- each of a list, and each pair of it
-
-abbrev pub Each : {X : Type 0} → (X → Type 0) → List X → Type 0
-Each P [] = Unit {0}
-Each P (x ∷ xs) = P x × Each P xs
-
-abbrev pub Pairs : {X : Type 0} → (X → X → Type 0) → List X → Type 0
-Pairs R [] = Unit {0}
-Pairs R (x ∷ xs) = Each (R x) xs × Pairs R xs
+-- ---- each of a list, and each with each later one
 
 pub each_append : {X : Type 0} (P : X → Type 0) (xs ys : List X) → Each P xs → Each P ys → Each P (xs ++ ys)
 each_append P [] ys a b = b
@@ -42,23 +36,23 @@ pub each_all : {X : Type 0} (P : X → Type 0) (xs : List X) → All P xs → Ea
 each_all P [] h = tt
 each_all P (x ∷ xs) h = (h 0 x (omega arith), each_all P xs (λ i d l. h (suc i) d (omega (arith, l))))
 
+each_from : {X : Type 0} (P : X → Type 0) (xs : List X) → ((x : X) → IsIn x xs → P x) → Each P xs
+each_from P [] h = tt
+each_from P (x ∷ xs) h = (h x (inl refl), each_from P xs (λ y i. h y (inr i)))
+
 each_map : {X Y : Type 0} (P : Y → Type 0) (f : X → Y) (xs : List X) → Each (λ x. P (f x)) xs → Each P (map f xs)
 each_map P f [] h = tt
 each_map P f (x ∷ xs) h = (h.0, each_map P f xs h.1)
-
-each_then : {X : Type 0} (P Q : X → Type 0) (xs : List X) → ((x : X) → P x → Q x) → Each P xs → Each Q xs
-each_then P Q [] h a = tt
-each_then P Q (x ∷ xs) h a = (h x a.0, each_then P Q xs h a.1)
 
 pub each_gather : {X Y : Type 0} (P : Y → Type 0) (f : ℕ → X → Y) (xs : List X) → ((i : ℕ) (x : X) → slice_get xs i ≡ Some x → P (f i x)) → Each P (gather (λ n x. f n x ∷ []) xs)
 each_gather P f [] h = tt
 each_gather P f (x ∷ xs) h = (h 0 x refl, each_gather P (λ n z. f (suc n) z) xs (λ i z e. h (suc i) z e))
 
-pub pairs_gather : {X Y : Type 0} (R : Y → Y → Type 0) (f : ℕ → X → Y) (xs : List X) → ((i j : ℕ) (x y : X) → i < j → slice_get xs i ≡ Some x → slice_get xs j ≡ Some y → R (f i x) (f j y)) → Pairs R (gather (λ n x. f n x ∷ []) xs)
-pairs_gather R f [] h = tt
-pairs_gather R f (x ∷ xs) h = (
-  each_gather (R (f 0 x)) (λ n z. f (suc n) z) xs (λ i z e. h 0 (suc i) x z (omega arith) refl e),
-  pairs_gather R (λ n z. f (suc n) z) xs (λ i j y z l e g. h (suc i) (suc j) y z (omega (arith, l)) e g),
+pub later_ones : {X Y : Type 0} (R : Y → Y → Type 0) (f : ℕ → X → Y) (xs : List X) → ((i j : ℕ) (x y : X) → i < j → slice_get xs i ≡ Some x → slice_get xs j ≡ Some y → R (f i x) (f j y)) → Later R (gather (λ n x. f n x ∷ []) xs)
+later_ones R f [] h = tt
+later_ones R f (x ∷ xs) h = (
+  λ y i. each_in (R (f 0 x)) (gather (λ n z. f (suc n) z ∷ []) xs) y (each_gather (R (f 0 x)) (λ n z. f (suc n) z) xs (λ j z e. h 0 (suc j) x z (omega arith) refl e)) i,
+  later_ones R (λ n z. f (suc n) z) xs (λ i j y z l e g. h (suc i) (suc j) y z (omega (arith, l)) e g),
 )
 
 -- ---- blocks of pages
@@ -105,11 +99,11 @@ rises_append (x ∷ []) [] mid a b h l = (tt, tt)
 rises_append (x ∷ []) (y ∷ ys) mid a b h l = (let s = h.0 in let g = l.0 in omega (arith, s, g), b)
 rises_append (x ∷ z ∷ xs) ys mid a b h l = (a.0, rises_append (z ∷ xs) ys mid a.1 b h.1 l)
 
-blocks_rise : (bs : List Block) → Pairs Before bs → Rises (addresses bs)
+blocks_rise : (bs : List Block) → Later Before bs → Rises (addresses bs)
 blocks_rise [] p = tt
 blocks_rise (b ∷ bs) p =
     rises_append (addresses_of b) (addresses bs) (ends b) (rises_from b.at 0 b.pages) (blocks_rise bs p.1)
-    (high_from b.at 0 b.pages (ends b) (omega arith)) (low_blocks bs (ends b) p.0)
+    (high_from b.at 0 b.pages (ends b) (omega arith)) (low_blocks bs (ends b) (each_from (λ (a : Block). ends b ≤ a.at) bs p.0))
 
 whole_from : (at a n : ℕ) → at % 4096 ≡ 0 → Each (λ v. v % 4096 ≡ 0) (map (λ j. at + 4096 * j) (range_with_len a n))
 whole_from at a zero w = tt
@@ -182,7 +176,7 @@ rising t d h =
     low_blocks (blocks t d) (base t) (each_gather (λ b. base t ≤ b.at) (λ n (q : Region). block (start t d n) q.pages) (regions t d) (λ j x g. (let u = r.above j in omega (arith, u)))) in
     let rise : Rises (map vaddr_of (sections t d) ++ addresses (blocks t d)) =
     rises_append (map vaddr_of (sections t d)) (addresses (blocks t d)) (base t) (sections_rise (sections t d) h.apart)
-    (blocks_rise (blocks t d) (pairs_gather Before (λ n (q : Region). block (start t d n) q.pages) (regions t d) (λ i j x y l e g. (let a = r.apart i j x l e in omega (arith, a)))))
+    (blocks_rise (blocks t d) (later_ones Before (λ n (q : Region). block (start t d n) q.pages) (regions t d) (λ i j x y l e g. (let a = r.apart i j x l e in omega (arith, a)))))
     below above in
     record {
       aligned = λ p i. each_in (λ v. v % 4096 ≡ 0) (map at_of (mapped_pages t d)) p.at (subst P (sym (all_addresses t d)) whole) (in_map at_of p (mapped_pages t d) i);

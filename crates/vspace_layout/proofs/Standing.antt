@@ -61,6 +61,19 @@ no_registers SharedMemory ends e = refl
 no_registers Interrupt ends e = refl
 no_registers Direct ends e = refl
 
+-- registers are of hardware
+pub registers_mmio : (c : Connector) (ends : List FlatEnd) (e : FlatEnd) → registers_in c ends ≡ Some e → c ≡ Mmio
+registers_mmio Mmio ends e h = refl
+registers_mmio Rpc ends e h = absurd cc
+registers_mmio Notification ends e h = absurd cc
+registers_mmio SharedMemory ends e h = absurd cc
+registers_mmio Interrupt ends e h = absurd cc
+registers_mmio Direct ends e h = absurd cc
+
+-- an end has the port of itself
+pub own_port : (e : FlatEnd) → same_port e e ≡ true
+own_port e = ap (λ b. b && (e.member == e.member)) (eq-eqb e.leaf e.leaf refl) ∙ eq-eqb e.member e.member refl
+
 -- the number of a page of a connection that is there
 number_at : (t : Given) (k j : ℕ) (c : FlatConnection) → slice_get t.flat.connections k ≡ Some c → memory_number t k j ≡ length (own_part t) + memory_before t.flat t.settled k c + j
 number_at t k j c e = ap (λ o. option_map_or (λ c. length (own_part t) + memory_before t.flat t.settled k c) o 0 + j) e

@@ -1,22 +1,5 @@
-use Rattle.std.proofs.Common.{◌≡◌, refl, Some}
-use Rattle.auth_kinds.specs.Authorities.{authority_of, text_of}
-use Rattle.auth_kinds.specs.declared.authority.Authority.{Authority}
-use Rattle.auth_kinds.specs.declared.authority.Authority.TheVariants.{Receive, SyncSend, AsyncSend, Reset, Grant, Read, Write, Control, Call, Reply, GrantBack, Handle}
 use Rattle.auth_kinds.proofs.laws.authorities_are_their_words.Goals as goal
-
-its_word : (a : Authority) → authority_of (text_of a) ≡ Some a
-its_word Receive = refl
-its_word SyncSend = refl
-its_word AsyncSend = refl
-its_word Reset = refl
-its_word Grant = refl
-its_word Read = refl
-its_word Write = refl
-its_word Control = refl
-its_word Call = refl
-its_word Reply = refl
-its_word GrantBack = refl
-its_word Handle = refl
+use Rattle.auth_kinds.proofs.Words.{its_word}
 
 pub returns : goal.returns
 returns c = its_word

@@ -1,0 +1,9 @@
+-- A numbered slot is below the size, where there is one.
+use Rattle.std.proofs.Common.{◌≡◌, ℕ, true, Option, Some}
+use Rattle.std.specs.Prelude.{nat_lt}
+use Rattle.capdl_text.specs.declared.tree.SlotKey.{SlotKey}
+use Rattle.capdl_text.specs.declared.tree.SlotKey.TheVariants as keys
+
+abbrev pub IsBelow : Option ℕ → SlotKey → Type 0
+IsBelow (Some size) (keys.Number n) = nat_lt n size ≡ true
+IsBelow size key = Unit {0}
