@@ -37,9 +37,18 @@ fn kind(text: &[u8]) -> Kind
     }
 }
 
-/// Whether a word is left out of this profile.
+/// Whether a word is left out of this profile: by its length one word at most is looked at.
+#[tactic(auto, using(crate::proofs::LeftOutWords::of_nine, crate::proofs::LeftOutWords::of_six, crate::proofs::LeftOutWords::of_four, crate::proofs::LeftOutWords::of_another))]
 fn is_left_out_word(text: &[u8]) -> bool
     ensures { result ≡ is_left_out_word text.now }
 {
-    text == b"connector".as_slice() || text == b"struct".as_slice() || text == b"enum".as_slice()
+    if text.len() == 9 {
+        text == b"connector".as_slice()
+    } else if text.len() == 6 {
+        text == b"struct".as_slice()
+    } else if text.len() == 4 {
+        text == b"enum".as_slice()
+    } else {
+        false
+    }
 }

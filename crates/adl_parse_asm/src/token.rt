@@ -124,13 +124,6 @@ fn kind_code(kind: Kind, text: &[u8]) -> u8
     }
 }
 
-#[inline(always)]
-fn token_code(bytes: &[u8], token: Token) -> u8
-    ensures { result ≡ token_code (seen_at bytes.now token) }
-{
-    kind_code(token.kind, text_at(bytes, token.place))
-}
-
 fn is_word(kind: Kind) -> bool
     ensures { result ≡ is_word kind }
 {
@@ -210,13 +203,14 @@ impl Language for Adl {
 }
 
 /// Whether the next token is a word.
+#[tactic(auto, using(crate::proofs::Words::codes_of_words))]
 #[inline(always)]
 pub fn next_is_word(bytes: &[u8], tokens: &[Token]) -> bool
     ensures { result ≡ starts token_code word_codes (see bytes.now tokens.now) }
 {
     match tokens {
         [] => false,
-        [token, ..] => token_code(bytes, *token) <= 2,
+        [token, ..] => is_word(token.kind),
     }
 }
 
@@ -258,6 +252,15 @@ fn has_code(words: WordKind, code: u8) -> bool
     }
 }
 
+/// Whether a token is a word of this kind.
+#[tactic(auto, using(crate::proofs::Words::of_word, crate::proofs::Words::no_sign_has))]
+#[inline]
+fn has(bytes: &[u8], token: Token, words: WordKind) -> bool
+    ensures { result ≡ among (codes_of words) (token_code (seen_at bytes.now token)) }
+{
+    is_word(token.kind) && has_code(words, word_code(text_at(bytes, token.place)))
+}
+
 /// Whether the next token is a word of this kind.
 #[inline]
 pub fn next_has(bytes: &[u8], tokens: &[Token], words: WordKind) -> bool
@@ -265,7 +268,7 @@ pub fn next_has(bytes: &[u8], tokens: &[Token], words: WordKind) -> bool
 {
     match tokens {
         [] => false,
-        [token, ..] => has_code(words, token_code(bytes, *token)),
+        [token, ..] => has(bytes, *token, words),
     }
 }
 
@@ -280,7 +283,7 @@ pub fn take_of<'a>(
         (one token_code (codes_of words) (see bytes.now tokens.now)) }
 {
     match tokens {
-        [token, rest @ ..] if has_code(words, token_code(bytes, *token)) => Ok((*token, rest)),
+        [token, rest @ ..] if has(bytes, *token, words) => Ok((*token, rest)),
         _ => Err(ReadError::Stop(Stop {
             why: Why::Unexpected,
             left: tokens.len(),
