@@ -10,7 +10,7 @@ ghost use Rattle.adl_parse_decl.specs.Members.{flag_codes, body_codes};
 ghost use Rattle.grammar.specs.Form.{Or, Starts, maybe, behind};
 ghost use Rattle.grammar.specs.Gives.{Gives};
 ghost use Rattle.grammar.specs.Reading.{starts};
-ghost use Rattle.std.specs.Prelude.{◌≡◌, ◌∷◌, ◌++◌, ◌||◌, []};
+ghost use Rattle.std.specs.Prelude.{◌≡◌, ◌∷◌, ◌++◌, []};
 
 use crate::import::read_import;
 use crate::typed::{brackets, typed_name};
@@ -326,20 +326,10 @@ fn starts_body(bytes: &[u8], tokens: &[Token]) -> bool
         || next_is(bytes, tokens, Kind::Key(Keyword::KConfiguration))
 }
 
-fn any(first: bool, second: bool, third: bool) -> bool
-    ensures { result ≡ (first || (second || third)) }
-{
-    first || second || third
-}
-
 fn starts_member(bytes: &[u8], tokens: &[Token]) -> bool
     ensures { result ≡ starts token_code member_codes (see bytes.now tokens.now) }
 {
-    any(
-        starts_flag(bytes, tokens),
-        starts_interface(bytes, tokens),
-        starts_body(bytes, tokens),
-    )
+    starts_flag(bytes, tokens) || starts_interface(bytes, tokens) || starts_body(bytes, tokens)
 }
 
 struct Members;

@@ -8,8 +8,8 @@ use Rattle.cert_check.specs.declared.verdict.Verdict.{Verdict}
 use Rattle.cert_check.specs.declared.verdict.Verdict.TheVariants.{Yes}
 use Rattle.policy_text.specs.Labelled.{IsLabelling}
 
--- The policy gives each object of the spec a label, in the order of objects. By whatever labels it gives, the certificate keeps all rules, so that
--- whatever judges them says yes.
+-- The policy gives each object of the spec a label, in the order of objects. By whatever labels it gives, the certificate
+-- keeps all rules, so that whatever judges them says yes.
 pub record IsTrioValid (b : Build) : Type 0 where
   pub labels : Labels
   pub labelled : IsLabelling b.spec b.policy (Ok labels)
