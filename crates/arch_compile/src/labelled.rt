@@ -6,7 +6,7 @@ ghost use Rattle.auth_kinds.specs.Tables.{IsSorted, has};
 ghost use Rattle.auth_kinds.specs.declared.edge.Edge.{Edge as Triple};
 ghost use Rattle.std.specs.Prelude.{◌≡◌, ◌<◌, ◌^◌, length, IfOk};
 
-use auth_kinds::{EdgeTable, Labels, Policy};
+use auth_kinds::{EdgeTable, Hint, Labels, Policy};
 use cam_base::{List, Name, NoMemory, Text};
 use cap_model::{Entry, Spec};
 use std::alloc::Global;
@@ -14,7 +14,7 @@ use std::alloc::Global;
 fn copy_labels(alloc: Global, labels: &[(u32, Text)]) -> Result<List<(u32, Text)>, NoMemory>
     ensures { IfOk result (λ copies. copies ≡ labels.now) }
 {
-    let mut copies = List::new(alloc);
+    let mut copies = List::from_vec(Vec::with_capacity(alloc, labels.len())?);
     for label in labels {
         copies.push((label.0, label.1.copy(alloc)?))?;
     }
@@ -25,9 +25,10 @@ fn copy_edges(alloc: Global, edges: &EdgeTable) -> Result<EdgeTable, NoMemory>
     ensures sorted { IfOk result IsSorted }
     ensures same { IfOk result (λ copy. (e : Triple) → has copy e ≡ has edges.now e) }
 {
-    let mut copies = List::new(alloc);
+    let mut copies = List::from_vec(Vec::with_capacity(alloc, edges.len())?);
+    let mut hint = Hint::first();
     for at in 0..edges.len() {
-        if let Some(edge) = edges.get(at) {
+        if let Some(edge) = edges.get_near(at, &mut hint) {
             copies.push(edge)?;
         }
     }
@@ -43,7 +44,7 @@ fn labelled_objects(
     requires { length entries.now < 2 ^ 32 }
     ensures { IfOk result (λ objects. objects ≡ labelled entries.now labels.now.by_object) }
 {
-    let mut objects = List::new(alloc);
+    let mut objects = List::from_vec(Vec::with_capacity(alloc, entries.len())?);
     for (number, entry) in entries.iter().enumerate() {
         objects.push((entry.name.copy(alloc)?, labels.of(number as u32)))?;
     }

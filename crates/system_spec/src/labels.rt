@@ -16,7 +16,7 @@ pub fn part_labels(
 ) -> Result<List<u32>, NoMemory>
     ensures { IfOk result (λ labels. labels ≡ map (part_label (told tables.now)) parts.now) }
 {
-    let mut labels = List::new(alloc);
+    let mut labels = List::from_vec(Vec::with_capacity(alloc, parts.len())?);
     for part in parts {
         labels.push(tables.numbers.of(part.owner))?;
     }

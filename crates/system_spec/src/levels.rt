@@ -47,7 +47,7 @@ fn mappings(alloc: Global, frames: u32, pages: &[Page]) -> Result<List<Mapping>,
     requires { AreShown frames pages.now }
     ensures { IfOk result (λ mappings. mappings ≡ map (page_mapping frames) pages.now) }
 {
-    let mut mappings = List::new(alloc);
+    let mut mappings = List::from_vec(Vec::with_capacity(alloc, pages.len())?);
     for page in pages {
         mappings.push(mapping(frames, *page))?;
     }
@@ -161,7 +161,7 @@ pub fn table_parts(alloc: Global, tables: &[PageTable]) -> Result<List<Part>, No
     requires { length tables.now < 2 ^ 32 }
     ensures { IfOk result (λ parts. parts ≡ table_parts tables.now) }
 {
-    let mut parts = List::new(alloc);
+    let mut parts = List::from_vec(Vec::with_capacity(alloc, tables.len())?);
     let mut counts = no_tables();
     for table in tables {
         parts.push(Part {

@@ -24,7 +24,7 @@ fn numbered(alloc: Global, series: Series, items: &[Owned]) -> Result<List<Part>
     requires { length items.now < 2 ^ 32 }
     ensures { IfOk result (λ parts. parts ≡ numbered series items.now) }
 {
-    let mut parts = List::new(alloc);
+    let mut parts = List::from_vec(Vec::with_capacity(alloc, items.len())?);
     for (number, item) in items.iter().enumerate() {
         parts.push(Part {
             series,
@@ -214,7 +214,7 @@ fn frame_parts(alloc: Global, frames: &[FrameInfo]) -> Result<List<Owned>, NoMem
     requires { length frames.now < 2 ^ 32 }
     ensures { IfOk result (λ items. items ≡ frame_parts frames.now) }
 {
-    let mut items = List::new(alloc);
+    let mut items = List::from_vec(Vec::with_capacity(alloc, frames.len())?);
     for (number, frame) in frames.iter().enumerate() {
         items.push(Owned {
             owner: frame_owner(frame.owner),

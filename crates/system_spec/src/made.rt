@@ -54,7 +54,7 @@ fn entries(
     requires parts { parts.now ≡ all_parts (told tables.now) }
     ensures { IfOk result (λ made. made ≡ map (entry (told tables.now)) (all_parts (told tables.now))) }
 {
-    let mut entries = List::new(alloc);
+    let mut entries = List::from_vec(Vec::with_capacity(alloc, parts.len())?);
     for part in parts {
         entries.push(entry(alloc, tables, marks, *part)?)?;
     }

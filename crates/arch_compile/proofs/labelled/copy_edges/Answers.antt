@@ -17,7 +17,7 @@ none = record { from = 0; authority = Read; to = 0 }
 pub loop-at-preserved : goal.loop-at-preserved
 loop-at-preserved c =
     let within : c.loop-at.at < length c.args.edges.now = omega (arith, c.loop-at-test.true, c.len-at-end.ensures.len) in
-    elim c.match-get.branch [
-      | in-Some+in_ok-push w ↦ one_more c.args.edges.now c.loop-at.copies c.match-get.copies c.loop-at.at w.in-Some.edge within (sym c.get.ensures ∙ w.in-Some.is) c.loop-at.invariant (w.copies-is ∙ w.in_ok-push.ensures.ok)
-      | in_default w ↦ absurd (w.in_default.not-Some _ (c.get.ensures ∙ slice_get-get_or c.args.edges.now c.loop-at.at none within))
+    elim c.match-get_near.branch [
+      | in-Some+in_ok-push w ↦ one_more c.args.edges.now c.loop-at.copies c.match-get_near.copies c.loop-at.at w.in-Some.edge within (sym c.get_near.ensures ∙ w.in-Some.is) c.loop-at.invariant (w.copies-is ∙ w.in_ok-push.ensures.ok)
+      | in_default w ↦ absurd (w.in_default.not-Some _ (c.get_near.ensures ∙ slice_get-get_or c.args.edges.now c.loop-at.at none within))
     ]
