@@ -5,7 +5,7 @@ ghost use Rattle.least_cert.specs.BootEdges.{AreHeld, AreLinks, IsLink, OfHolder
 ghost use Rattle.std.specs.Prelude.{◌≡◌, [], IfOk, Some, length};
 
 use auth_graph::{direct, with_each_slot};
-use auth_kinds::{Edge, EdgeTable, Labels, with_edge};
+use auth_kinds::{Edge, EdgeTable, Hint, Labels, with_edge};
 use cam_base::NoMemory;
 use cap_model::{Object, Spec};
 use std::alloc::Global;
@@ -62,8 +62,9 @@ fn links_of(alloc: Global, table: &EdgeTable) -> Result<Vec<Edge>, NoMemory>
     ensures { IfOk result (λ links. Adds (OfLinks table.now) [] links.items) }
 {
     let mut links = Vec::new(alloc);
+    let mut hint = Hint::first();
     for place in 0..table.len() {
-        links = with_link(links, table.get(place))?;
+        links = with_link(links, table.get_near(place, &mut hint))?;
     }
     Ok(links)
 }

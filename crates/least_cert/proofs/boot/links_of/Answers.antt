@@ -13,7 +13,7 @@ loop-place-preserved c =
     let item : Edge = get_or c.args.table.now c.loop-place.place no_edge in
     let here : slice_get c.args.table.now c.loop-place.place ≡ Some item = slice_get-get_or c.args.table.now c.loop-place.place no_edge less in
     first_more (λ place (edge : Edge). IsLink (Some edge)) c.args.table.now c.loop-place.place item [] c.loop-place.links.items c.in_ok-links.links.items here c.loop-place.invariant
-    (subst (λ (o : Option Edge). Adds (IsLink o) c.loop-place.links.items c.in_ok-links.links.items) (c.get.ensures ∙ here) c.in_ok-links.ensures)
+    (subst (λ (o : Option Edge). Adds (IsLink o) c.loop-place.links.items c.in_ok-links.links.items) (c.get_near.ensures ∙ here) c.in_ok-links.ensures)
 
 pub returns : goal.returns
 returns c =
