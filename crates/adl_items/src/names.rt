@@ -30,7 +30,7 @@ pub fn component_numbers<'a>(
     requires { length components.now < 2 ^ 32 }
     ensures { IfOk result (λ t. (n : Seq ℕ) → found t n ≡ number_named (trees components.now) n) }
 {
-    let mut table = NameTable::for_many(alloc);
+    let mut table = NameTable::with_room(alloc, components.len())?;
     for (i, x) in components.iter().enumerate() {
         table.add(&x.item.id.name, i as u32)?;
     }

@@ -56,7 +56,7 @@ pub fn note_components<'a>(
 ) -> Result<(), NoMemory>
     ensures { OnOk result (first.new ≡ noted first.old (repeats (map (λ c. c.1.id) (map located components.now)))) }
 {
-    let mut met = NameSet::new(alloc);
+    let mut met = NameSet::with_room(alloc, components.len())?;
     for x in components {
         meet(&x.item.id, &mut met, first)?;
     }

@@ -192,7 +192,7 @@ fn all_held<'a>(
     ensures noted { OnOk result (first.new ≡ noted first.old (duplicates_in_composition composition.entry.now)) }
     ensures held { IfOk result (λ t. IsHolding t composition.entry.now) }
 {
-    let mut table = NameTable::new(alloc);
+    let mut table = NameTable::with_room(alloc, composition.lines.len())?;
     for line in composition.lines.as_slice() {
         add_line(alloc, line, &mut table, first)?;
     }
@@ -248,7 +248,7 @@ fn declaring<'a>(
     ensures noted { OnOk result (first.new ≡ noted first.old (repeats (map (λ d. d.0) (declared_in component.entry.now)))) }
     ensures declared { IfOk result (λ t. (n : Seq ℕ) → declaring_told t n ≡ declared_as component.entry.now n) }
 {
-    let mut table = NameTable::new(alloc);
+    let mut table = NameTable::with_room(alloc, component.members.len())?;
     for member in component.members.as_slice() {
         declare(member, &mut table, first)?;
     }

@@ -21,6 +21,7 @@ if_void text = if bytes_eq text (codes "void") then void_code else plain_code
 abbrev pub if_buf : List ℕ → ℕ
 if_buf text = if bytes_eq text (codes "Buf") then buf_code else plain_code
 
+-- whether a token of this kind is a word that isn't a key word
 abbrev pub is_word : Kind → Bool
 is_word kinds.Word = true
 is_word (kinds.Key key) = false

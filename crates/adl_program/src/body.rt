@@ -191,7 +191,7 @@ fn configuration_of(component: &Component) -> Option<&Configuration>
 fn named_parts<'a>(alloc: Global, parts: &[Part<'a>]) -> Result<NameTable<'a, PartAt>, NoMemory>
     ensures { IfOk result (λ t. (n : Seq ℕ) → found t n ≡ part_from 0 parts.now n) }
 {
-    let mut named = NameTable::new(alloc);
+    let mut named = NameTable::with_room(alloc, parts.len())?;
     for (number, part) in parts.iter().enumerate() {
         let part: &Part<'a> = part;
         let at = PartAt {

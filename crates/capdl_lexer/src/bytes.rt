@@ -1,5 +1,6 @@
 //! Bytes that are looked for among many.
 
+ghost use Rattle.capdl_lexer.specs.NumberedWords.{ends_in_digit};
 ghost use Rattle.std.specs.Prelude.{◌≡◌};
 ghost use Rattle.std.specs.Str.{bytes_eq};
 
@@ -10,4 +11,14 @@ pub(crate) fn is(bytes: &[u8], word: &[u8]) -> bool
     ensures { result ≡ bytes_eq bytes.now word.now }
 {
     bytes.len() == word.len() && bytes == word
+}
+
+/// Whether the last byte is a digit.
+pub(crate) fn ends_in_digit(bytes: &[u8]) -> bool
+    ensures { result ≡ ends_in_digit bytes.now }
+{
+    match bytes.last() {
+        Some(byte) => byte.is_ascii_digit(),
+        None => false,
+    }
 }
