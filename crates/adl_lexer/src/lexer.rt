@@ -12,7 +12,8 @@ use std::alloc::Global;
 pub fn lex(alloc: Global, file: u32, bytes: &[u8]) -> Result<Tokens, Refused<Fault>>
     ensures { IsLexed file bytes.now result }
 {
-    let mut tokens = List::new(alloc);
+    // most tokens, with the gap before them, have four bytes or more
+    let mut tokens = List::from_vec(Vec::with_capacity(alloc, bytes.len() / 4)?);
     let mut rest = bytes;
     'scan: while let Some(piece) = next_piece(rest) {
         let first = (bytes.len() - rest.len()) as u64;

@@ -14,6 +14,7 @@ use Rattle.arch_compile.specs.LayoutFaults.{file_of, first_fault, first_imaged_f
 use Rattle.arch_compile.specs.Steps.{Builds, Completes, Finishes, IsBuiltOf, IsImaged, IsLaid, Lays, first_laid_fault, not_imaged}
 use Rattle.arch_compile.specs.declared.building.Build.{Build}
 use Rattle.arch_compile.specs.declared.laying.Layout.{Layout}
+use Rattle.arch_policy.specs.Labels.{label_numbers}
 use Rattle.arch_policy.specs.Policies.{first_edge_fault}
 use Rattle.cam_base.specs.declared.error.Refused.{Refused}
 use Rattle.cam_base.specs.declared.place.Fault.{Fault}
@@ -57,6 +58,9 @@ front_sound m f a sound = carried IsSound m f a sound
 
 pub front_assigned : (m : Meaning) (f : FrontEnd) → Assigns m (Ok f) → IsAssigned f.source f.policy
 front_assigned m f a = subst (λ z. IsAssigned z f.policy) (sym a.0) a.4
+
+pub front_numbered : (m : Meaning) (f : FrontEnd) → Assigns m (Ok f) → f.numbers ≡ label_numbers f.flat
+front_numbered m f a = a.5 ∙ ap label_numbers (sym a.1)
 
 pub front_laid : (m : Meaning) (f : FrontEnd) (images : Images) (l : Layout) → Assigns m (Ok f) → IsLaid m.source m.flat m.settled images l → IsLaid f.source f.flat f.settled images l
 front_laid m f images l a laid = carried (λ s flat settled. IsLaid s flat settled images l) m f a laid

@@ -2,9 +2,11 @@
 
 ghost use Rattle.arch_compile.specs.Compiled.{IsCompiled};
 ghost use Rattle.arch_compile.specs.Steps.{Builds, Completes, Finishes, IsImaged, IsLaid, Lays};
+ghost use Rattle.arch_policy.specs.Labels.{label_numbers};
 ghost use Rattle.cam_io.specs.Reading.{KeepsFiles};
 ghost use Rattle.front_end.specs.Fronts.{IsAssigned};
 ghost use Rattle.front_end.specs.Steps.{IsSound};
+ghost use Rattle.std.specs.Prelude.{◌≡◌};
 
 use crate::imaging::{not_imaged, root_of};
 use crate::laying::{Layout, lay_out};
@@ -97,6 +99,7 @@ fn with_made(
 ) -> Result<Build, BuildError>
     requires sound { IsSound front.source front.flat front.settled }
     requires assigned { IsAssigned front.source front.policy }
+    requires numbered { front.numbers ≡ label_numbers front.flat }
     requires laid { IsLaid front.source front.flat front.settled images.now layout.now }
     ensures { Finishes front images.now result }
 {

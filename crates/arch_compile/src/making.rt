@@ -2,11 +2,12 @@
 
 ghost use Rattle.arch_compile.specs.Built.{IsMade};
 ghost use Rattle.arch_compile.specs.Steps.{IsLaid, IsMadeOf, policy_tables};
+ghost use Rattle.arch_policy.specs.Labels.{label_numbers};
 ghost use Rattle.arch_policy.specs.Policies.{IsCertificateOf, IsPolicyOf};
 ghost use Rattle.auth_kinds.specs.Tables.{IsSorted};
 ghost use Rattle.front_end.specs.Fronts.{IsAssigned};
 ghost use Rattle.front_end.specs.Steps.{IsSound};
-ghost use Rattle.std.specs.Prelude.{IfOk};
+ghost use Rattle.std.specs.Prelude.{◌≡◌, IfOk};
 ghost use Rattle.system_spec.specs.Buildable.{IsBuildable};
 ghost use Rattle.system_spec.specs.Told.{told};
 ghost use Rattle.system_spec.specs.Windowed.{IsWindowed};
@@ -14,7 +15,7 @@ ghost use Rattle.system_spec.specs.Windowed.{IsWindowed};
 use crate::labelled::with_objects;
 use crate::laying::Layout;
 use arch_cert::certificate_of;
-use arch_policy::{Tables as PolicyTables, labels_of};
+use arch_policy::Tables as PolicyTables;
 use auth_kinds::{EdgeTable, Policy};
 use cam_base::{List, NoMemory};
 use cap_model::Spec;
@@ -75,10 +76,10 @@ pub fn made_from(
 ) -> Result<Made, NoMemory>
     requires sound { IsSound front.now.source front.now.flat front.now.settled }
     requires assigned { IsAssigned front.now.source front.now.policy }
+    requires numbered { front.now.numbers ≡ label_numbers front.now.flat }
     requires laid { IsLaid front.now.source front.now.flat front.now.settled images.now layout.now }
     ensures { IfOk result (λ m. IsMade front.now.source images.now m.spec m.policy m.cert m.map) }
 {
-    let labelling = labels_of(alloc, &front.flat)?;
     let tables = Tables {
         source: &front.source,
         flat: &front.flat,
@@ -86,7 +87,7 @@ pub fn made_from(
         images,
         slots: &layout.slots,
         spaces: &layout.spaces,
-        numbers: &labelling.numbers,
+        numbers: &front.numbers,
     };
     made_of(alloc, &tables, &front.policy)
 }

@@ -19,5 +19,5 @@ pub use labels::{Labelling, labels_of};
 pub use laws::triples_are_the_policy;
 pub use numbers::LabelNumbers;
 pub use owner::Owner;
-pub use policy::policy_of;
+pub use policy::{Assigned, policy_of};
 pub use tables::{Tables, connection_label, domain_label, leaf_label};

@@ -134,8 +134,16 @@ fn edge_fault(alloc: Global, source: &Source, count: usize) -> Result<Option<Fau
     }
 }
 
-/// The policy of a system: its labels, numbered from 0 in the byte order of their texts, and the assigned edges. It
-/// labels no object yet.
+/// The policy of a system, and the numbers of its labels.
+#[derive(Drop)]
+pub struct Assigned {
+    /// It labels no object.
+    pub policy: Policy,
+    pub numbers: LabelNumbers,
+}
+
+/// The policy of a system: its labels, numbered from 0 in the byte order of their texts, and the assigned edges; and these
+/// numbers.
 ///
 /// # Errors
 ///
@@ -145,23 +153,25 @@ pub fn policy_of(
     source: &Source,
     flat: &Flat,
     settled: &Settled,
-) -> Result<Policy, Refused<Fault>>
+) -> Result<Assigned, Refused<Fault>>
     requires within { IsWithin source.now flat.now }
     requires few { length flat.now.domains + length flat.now.connections + length flat.now.leaves < 2 ^ 32 }
     ensures limit { Refuses result (first_edge_fault (tables_of source.now flat.now settled.now)) }
-    ensures labels { IfOk result (λ policy. policy.labels ≡ label_lines flat.now) }
-    ensures objects { IfOk result (λ policy. policy.objects ≡ []) }
-    ensures edges { IfOk result (λ policy. IsPolicyOf (tables_of source.now flat.now settled.now) policy.edges) }
-    ensures sorted { IfOk result (λ policy. IsSorted policy.edges) }
+    ensures labels { IfOk result (λ assigned. assigned.policy.labels ≡ label_lines flat.now) }
+    ensures objects { IfOk result (λ assigned. assigned.policy.objects ≡ []) }
+    ensures edges { IfOk result (λ assigned. IsPolicyOf (tables_of source.now flat.now settled.now) assigned.policy.edges) }
+    ensures sorted { IfOk result (λ assigned. IsSorted assigned.policy.edges) }
+    ensures numbers { IfOk result (λ assigned. assigned.numbers ≡ label_numbers flat.now) }
 {
     let Labelling { texts, numbers } = labels_of(alloc, flat)?;
     let edges = edges_with(alloc, source, flat, settled, &numbers)?;
     if let Some(fault) = edge_fault(alloc, source, edges.len())? {
         return Err(Refused::Fault(fault));
     }
-    Ok(Policy {
+    let policy = Policy {
         labels: label_lines(alloc, texts.as_slice())?,
         objects: List::new(alloc),
         edges,
-    })
+    };
+    Ok(Assigned { policy, numbers })
 }

@@ -3,7 +3,7 @@
 ghost use Rattle.capdl_read.specs.Building.{AreBitsFew, all_named, entry_of, first_numbered, numbered_from, object_of, slots_told};
 ghost use Rattle.capdl_text.specs.Meaning.{fields_from, fill_of, fill_or, fill_said, no_tcb, numbered_or, paddr_or, paddr_said, put_field, put_named, put_slot};
 ghost use Rattle.capdl_text.specs.declared.tree.ObjectLine.{ObjectLine as ObjectTree};
-ghost use Rattle.name_tables.specs.ByName.{found};
+ghost use Rattle.spread_names.specs.Naming.{spread_found};
 ghost use Rattle.std.specs.Option.{option_copied, option_map};
 ghost use Rattle.std.specs.Prelude.{◌≡◌, ℕ, [], map, slice_get, Some as Present, OnOk, IfOk, IfSome};
 
@@ -14,7 +14,7 @@ use cap_model::{Cap, Entry, Fill, Object, Tcb};
 use capdl_text::{
     FillLine, FrameField, FrameValue, KindLine, ObjectLine, SlotKey, ThreadField, ThreadValue,
 };
-use spread_names::Names;
+use spread_names::SpreadNames;
 use std::alloc::Global;
 use std::collections::BTreeMap;
 
@@ -230,8 +230,8 @@ fn object_of(alloc: Global, kind: &KindLine, slots: &[Slot]) -> Result<Object, N
 }
 
 /// What the table has for a name, nothing where it has none.
-fn slots_told<'h, 'x>(table: &'h Names<'x, List<Slot>>, object: &ObjectLine<'x>) -> &'h [Slot]
-    ensures { result.now ≡ slots_told (found table.now object.now.id.name) }
+fn slots_told<'h, 'x>(table: &'h SpreadNames<'x, List<Slot>>, object: &ObjectLine<'x>) -> &'h [Slot]
+    ensures { result.now ≡ slots_told (spread_found table.now object.now.id.name) }
 {
     match table.get(object.id.name.as_bytes()) {
         None => &[],
@@ -242,11 +242,11 @@ fn slots_told<'h, 'x>(table: &'h Names<'x, List<Slot>>, object: &ObjectLine<'x>)
 /// The entry of an object, with the slots that its name has.
 fn entry_of<'x>(
     alloc: Global,
-    table: &Names<'x, List<Slot>>,
+    table: &SpreadNames<'x, List<Slot>>,
     object: &ObjectLine<'x>,
 ) -> Result<Entry, NoMemory>
     requires { AreBitsFew object.now.kind }
-    ensures { IfOk result (λ entry. entry ≡ entry_of (λ n. slots_told (found table.now n)) object.now) }
+    ensures { IfOk result (λ entry. entry ≡ entry_of (λ n. slots_told (spread_found table.now n)) object.now) }
 {
     Ok(Entry {
         name: Name::of_identifier(alloc, object.id.name.as_bytes())?,
@@ -257,11 +257,11 @@ fn entry_of<'x>(
 /// The entries of objects without faults, with the slots that their names have.
 pub(crate) fn entries_of<'x>(
     alloc: Global,
-    table: &Names<'x, List<Slot>>,
+    table: &SpreadNames<'x, List<Slot>>,
     objects: &[ObjectLine<'x>],
 ) -> Result<List<Entry>, NoMemory>
     requires { (i : ℕ) (o : ObjectTree) → slice_get objects.now i ≡ Present o → AreBitsFew o.kind }
-    ensures { IfOk result (λ entries. entries ≡ map (entry_of (λ n. slots_told (found table.now n))) objects.now) }
+    ensures { IfOk result (λ entries. entries ≡ map (entry_of (λ n. slots_told (spread_found table.now n))) objects.now) }
 {
     let mut entries = List::from_vec(Vec::with_capacity(alloc, objects.len())?);
     for object in objects {

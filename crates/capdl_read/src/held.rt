@@ -7,7 +7,6 @@ ghost use Rattle.capdl_text.specs.Faults.{noted};
 ghost use Rattle.capdl_text.specs.KindField.{irq_off, kind_fields, off_in, slot_off};
 ghost use Rattle.capdl_text.specs.Meaning.{badge_said, cap_said, held, lines_from, place_or, rights_said};
 ghost use Rattle.capdl_text.specs.Unknown.{unknown, unknown_in, unknowns};
-ghost use Rattle.name_tables.specs.ByName.{found};
 ghost use Rattle.std.specs.List.{flat_map};
 ghost use Rattle.std.specs.Prelude.{◌≡◌, ◌<◌, ◌^◌, ℕ, [], List as Seq, map, IfOk, OnOk};
 
@@ -18,7 +17,7 @@ use crate::unknown::note_unknown;
 use cam_base::{List, NoMemory};
 use cap_model::{Arch, Cap, Rights};
 use capdl_text::{Holder, Id, IrqLine, Known, Param, SlotKey, SlotLine, SpecTree};
-use spread_names::{Names, SpreadNames};
+use spread_names::SpreadNames;
 use std::alloc::Global;
 use std::collections::BTreeMap;
 
@@ -39,7 +38,7 @@ pub(crate) struct Faults {
 /// What is held: the slots of each holder, by its name, and the interrupt lines, sorted by number.
 #[derive(Drop)]
 pub(crate) struct Held<'x> {
-    pub(crate) slots: Names<'x, List<Slot>>,
+    pub(crate) slots: SpreadNames<'x, List<Slot>>,
     pub(crate) irqs: List<(u64, u32)>,
 }
 
@@ -159,16 +158,16 @@ fn holders_held<'x>(
     known: &SpreadNames<'x, Known>,
     holders: &[Holder<'x>],
     faults: &mut Faults,
-) -> Result<Names<'x, List<Slot>>, NoMemory>
+) -> Result<SpreadNames<'x, List<Slot>>, NoMemory>
     requires few { (n : Seq ℕ) → place_or (spread_found known.now n) < 2 ^ 32 }
     ensures unknown { OnOk result
         (faults.new.unknown ≡ noted faults.old.unknown (flat_map (unknown_in (spread_found known.now)) holders.now)) }
     ensures kind { OnOk result
         (faults.new.kind ≡ noted faults.old.kind (flat_map (off_in arch (spread_found known.now)) holders.now)) }
     ensures held { IfOk result
-        (λ t. (n : Seq ℕ) → slots_told (found t n) ≡ map (slot_said (spread_found known.now)) (held holders.now n)) }
+        (λ t. (n : Seq ℕ) → slots_told (spread_found t n) ≡ map (slot_said (spread_found known.now)) (held holders.now n)) }
 {
-    let mut table = Names::new(alloc);
+    let mut table = SpreadNames::with_room(alloc, holders.len())?;
     for holder in holders {
         let slots = holder_held(alloc, arch, known, holder, faults)?;
         table.add(holder.id.name.as_bytes(), slots)?;
@@ -230,7 +229,7 @@ pub(crate) fn look_up<'x>(
     requires few { (n : Seq ℕ) → place_or (spread_found known.now n) < 2 ^ 32 }
     ensures unknown { OnOk result (faults.new.unknown ≡ noted faults.old.unknown (unknowns (spread_found known.now) tree.now)) }
     ensures kind { OnOk result (faults.new.kind ≡ noted faults.old.kind (kind_fields (spread_found known.now) tree.now)) }
-    ensures slots { IfOk result (λ held_now. (n : Seq ℕ) → slots_told (found held_now.slots n)
+    ensures slots { IfOk result (λ held_now. (n : Seq ℕ) → slots_told (spread_found held_now.slots n)
         ≡ map (slot_said (spread_found known.now)) (held tree.now.holders n)) }
     ensures irqs { IfOk result (λ held_now. held_now.irqs ≡ lines_from (spread_found known.now) [] tree.now.irqs) }
 {

@@ -5,6 +5,7 @@ ghost use Rattle.capdl_text.specs.Twice.{fields_twice, frame_key, frame_keyed, i
 ghost use Rattle.cam_base.specs.declared.text_fault.TextCode.TheVariants as code;
 ghost use Rattle.name_tables.specs.ByName.{found};
 ghost use Rattle.name_tables.specs.Keys.{Key as Pair, has_key, same_key};
+ghost use Rattle.spread_names.specs.Naming.{spread_found};
 ghost use Rattle.std.specs.List.{flat_map};
 ghost use Rattle.std.specs.Option.{option_or};
 ghost use Rattle.std.specs.Prelude.{◌≡◌, ◌||◌, ◌∷◌, ℕ, [], None, List as Seq, is_some, map, OnOk};
@@ -18,7 +19,7 @@ use capdl_text::{
     SpecTree, ThreadField, ThreadValue,
 };
 use name_tables::KeySet;
-use spread_names::Names;
+use spread_names::SpreadNames;
 use std::alloc::Global;
 
 /// Takes the next name with its value, or notes that it was met before.
@@ -26,13 +27,13 @@ fn meet_name<'x, V: Drop>(
     alloc: Global,
     id: &Id<'x>,
     value: V,
-    met: &mut Names<'x, V>,
+    met: &mut SpreadNames<'x, V>,
     first: &mut First,
 ) -> Result<(), NoMemory>
-    ensures first { OnOk result (first.new ≡ noted first.old (where_true (is_some (found met.old id.now.name))
+    ensures first { OnOk result (first.new ≡ noted first.old (where_true (is_some (spread_found met.old id.now.name))
         (at_id code.CapdlTwice id.now))) }
-    ensures met { OnOk result ((n : Seq ℕ) → found met.new n
-        ≡ option_or (found met.old n) (found ((id.now.name, value) ∷ []) n)) }
+    ensures met { OnOk result ((n : Seq ℕ) → spread_found met.new n
+        ≡ option_or (spread_found met.old n) (found ((id.now.name, value) ∷ []) n)) }
 {
     let name = id.name.as_bytes();
     if met.add(name, value)? {
@@ -44,7 +45,7 @@ fn meet_name<'x, V: Drop>(
 fn note_holders(alloc: Global, holders: &[Holder], first: &mut First) -> Result<(), NoMemory>
     ensures { OnOk result (first.new ≡ noted first.old (names_twice (map (λ h. h.id) holders.now))) }
 {
-    let mut met = Names::new(alloc);
+    let mut met = SpreadNames::with_room(alloc, holders.len())?;
     for holder in holders {
         meet_name(alloc, &holder.id, (), &mut met, first)?;
     }
@@ -54,7 +55,7 @@ fn note_holders(alloc: Global, holders: &[Holder], first: &mut First) -> Result<
 fn note_irq_objects(alloc: Global, lines: &[IrqLine], first: &mut First) -> Result<(), NoMemory>
     ensures { OnOk result (first.new ≡ noted first.old (names_twice (map (λ l. l.object) lines.now))) }
 {
-    let mut met = Names::new(alloc);
+    let mut met = SpreadNames::with_room(alloc, lines.len())?;
     for line in lines {
         meet_name(alloc, &line.object, (), &mut met, first)?;
     }

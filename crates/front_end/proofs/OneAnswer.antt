@@ -10,6 +10,7 @@ use Rattle.adl_import.specs.declared.error.LoadError.TheVariants as load
 use Rattle.adl_import.proofs.Unique.{loaded_one}
 use Rattle.adl_meaning.specs.Flat.{flat_of}
 use Rattle.adl_settings.specs.Settled.{settled_of}
+use Rattle.arch_policy.specs.Labels.{label_numbers}
 use Rattle.auth_kinds.specs.Tables.{has}
 use Rattle.auth_kinds.specs.declared.policy.Policy.{Policy}
 use Rattle.auth_kinds.proofs.TableMembers.{one_table}
@@ -84,19 +85,14 @@ policies_same s p q a b =
     ∙ ap (λ z. let r : Policy = record { labels = q.labels; objects = q.objects; edges = z } in r) edges
 
 front_from : Source → Policy → FrontEnd
-front_from s p = record { source = s; flat = flat_of s; settled = settled_of s; policy = p }
+front_from s p = record { source = s; flat = flat_of s; settled = settled_of s; policy = p; numbers = label_numbers (flat_of s) }
 
-is_front_from : (f : FrontEnd) → IsMeant f.source f.flat f.settled → f ≡ front_from f.source f.policy
+is_front_from : (f : FrontEnd) → IsMeant f.source f.flat f.settled → f.numbers ≡ label_numbers f.flat → f ≡ front_from f.source f.policy
 unfolding front_from
-is_front_from f meant =
-    ap (λ z. let g : FrontEnd = record { source = f.source; flat = z; settled = f.settled; policy = f.policy } in g) meant.is_flat
-    ∙ ap (λ z. let g : FrontEnd = record { source = f.source; flat = flat_of f.source; settled = z; policy = f.policy } in g) meant.is_settled
-
--- fronts of one source are one
-pub fronts_same : (f g : FrontEnd) → f.source ≡ g.source → IsMeant f.source f.flat f.settled → IsMeant g.source g.flat g.settled → IsAssigned f.source f.policy → IsAssigned g.source g.policy → f ≡ g
-fronts_same f g same x y p q =
-    let policy : f.policy ≡ g.policy = policies_same g.source f.policy g.policy (subst (λ z. IsAssigned z f.policy) same p) q in
-    is_front_from f x ∙ ap (λ z. front_from z f.policy) same ∙ ap (front_from g.source) policy ∙ sym (is_front_from g y)
+is_front_from f meant numbered =
+    ap (λ z. let g : FrontEnd = record { source = f.source; flat = f.flat; settled = f.settled; policy = f.policy; numbers = z } in g) numbered
+    ∙ ap (λ z. let g : FrontEnd = record { source = f.source; flat = z; settled = f.settled; policy = f.policy; numbers = label_numbers z } in g) meant.is_flat
+    ∙ ap (λ z. let g : FrontEnd = record { source = f.source; flat = flat_of f.source; settled = z; policy = f.policy; numbers = label_numbers (flat_of f.source) } in g) meant.is_settled
 
 pub faults_same : {T : Type 0} (f g : Fault) (a b : List ℕ) → (f ≡ g) × (a ≡ b) → ◌≡◌ {A = Result T BuildError} (Err (error.Fault f a)) (Err (error.Fault g b))
 faults_same f g a b e = ap (λ z. Err (error.Fault z a)) e.0 ∙ ap (λ z. Err (error.Fault g z)) e.1
@@ -114,8 +110,12 @@ one_meaning m root old new later last (Ok f) (Err error.NoMemory) p q x y = cc
 one_meaning m root old new later last (Err (error.Fault f a)) (Err (error.ReadFault b)) p q x y = cc
 one_meaning m root old new later last (Err (error.Fault f a)) (Err error.NoMemory) p q x y = cc
 
+-- fronts of one root are one
 pub front_one : (m : Contents) (root : List ℕ) (f g : FrontEnd) → IsFrontOf root (Some m) f → IsFrontOf root (Some m) g → f ≡ g
-front_one m root f g x y = fronts_same f g (one_loaded m root f.source g.source x.loaded y.loaded) x.meant y.meant x.assigned y.assigned
+front_one m root f g x y =
+    let same : f.source ≡ g.source = one_loaded m root f.source g.source x.loaded y.loaded in
+    let policy : f.policy ≡ g.policy = policies_same g.source f.policy g.policy (subst (λ z. IsAssigned z f.policy) same x.assigned) y.assigned in
+    is_front_from f x.meant x.numbered ∙ ap (λ z. front_from z f.policy) same ∙ ap (front_from g.source) policy ∙ sym (is_front_from g y.meant y.numbered)
 
 pub one_front : (m : Contents) (root : List ℕ) (old new later last : List ℕ → ℕ) (a b : Result FrontEnd BuildError) → yields a ≡ false → yields b ≡ false
     → IsFront root (Some m) old new a → IsFront root (Some m) later last b → a ≡ b

@@ -12,9 +12,10 @@ use Rattle.adl_meaning.specs.Flat.{flat_of}
 use Rattle.adl_meaning.specs.declared.flat.Flat.{Flat}
 use Rattle.adl_meaning.specs.declared.settled.Settled.{Settled}
 use Rattle.adl_settings.specs.Settled.{settled_of}
-use Rattle.arch_policy.specs.Labels.{label_lines}
+use Rattle.arch_policy.specs.Labels.{label_lines, label_numbers}
 use Rattle.arch_policy.specs.Policies.{IsPolicyOf, first_edge_fault}
 use Rattle.arch_policy.specs.Tables.{Tables, tables_of}
+use Rattle.arch_policy.specs.declared.policy.Assigned.{Assigned}
 use Rattle.auth_kinds.specs.declared.policy.Policy.{Policy}
 use Rattle.auth_kinds.specs.Tables.{IsSorted}
 use Rattle.front_end.specs.First.{first_front_fault, first_list_fault, name_of_file, source_tables}
@@ -75,9 +76,9 @@ policy_assigned m p meant labels objects edges sorted = record {
 pub no_edge_fault : (m : Meaning) → IsMeant m.source m.flat m.settled → first_edge_fault (tables_of m.source m.flat m.settled) ≡ None → first_edge_fault (source_tables m.source) ≡ None
 no_edge_fault m meant none = sym (ap first_edge_fault (tables_are m.source m.flat m.settled meant)) ∙ none
 
-pub policy_refuses : (m : Meaning) (r : Refused Fault) (e : BuildError) → IsMeant m.source m.flat m.settled → RefusesAs {T = Policy} (Err r) (first_edge_fault (tables_of m.source m.flat m.settled)) → IsRefused m.source r e → Assigns m (Err e)
+pub policy_refuses : (m : Meaning) (r : Refused Fault) (e : BuildError) → IsMeant m.source m.flat m.settled → RefusesAs {T = Assigned} (Err r) (first_edge_fault (tables_of m.source m.flat m.settled)) → IsRefused m.source r e → Assigns m (Err e)
 policy_refuses m r e meant h n =
-    refused_tells Policy m.source (first_edge_fault (source_tables m.source)) r e (subst (λ t. RefusesAs {T = Policy} (Err r) (first_edge_fault t)) (tables_are m.source m.flat m.settled meant) h) n
+    refused_tells Assigned m.source (first_edge_fault (source_tables m.source)) r e (subst (λ t. RefusesAs {T = Assigned} (Err r) (first_edge_fault t)) (tables_are m.source m.flat m.settled meant) h) n
 
 list_tells : (s : Source) (e : BuildError) → first_front_fault s ≡ None → Tells s (first_edge_fault (source_tables s)) e → Tells s (first_list_fault s) e
 list_tells s (error.Fault fault file) none t = (second_is (first_front_fault s) (first_edge_fault (source_tables s)) (Some fault) none t.0, t.1)
@@ -96,6 +97,7 @@ assigned_front root contents before now m (Ok f) is a = record {
   none = ap first_list_fault a.0 ∙ second_is (first_front_fault m.source) (first_edge_fault (source_tables m.source)) None is.none a.3;
   meant = front_meant m f a.0 a.1 a.2 is.meant;
   assigned = subst (λ z. IsAssigned z f.policy) (sym a.0) a.4;
+  numbered = a.5 ∙ ap label_numbers (sym a.1);
 }
 assigned_front root contents before now m (Err e) is a = told_refuses first_list_fault root contents before now m.source e is.loaded (list_tells m.source e is.none a)
 

@@ -7,7 +7,7 @@ use Rattle.adl_meaning.specs.Flat.{flat_of}
 use Rattle.adl_meaning.specs.declared.flat.Flat.{Flat}
 use Rattle.adl_meaning.specs.declared.settled.Settled.{Settled}
 use Rattle.adl_settings.specs.Settled.{settled_of}
-use Rattle.arch_policy.specs.Labels.{label_lines}
+use Rattle.arch_policy.specs.Labels.{label_lines, label_numbers}
 use Rattle.arch_policy.specs.Policies.{IsPolicyOf}
 use Rattle.auth_kinds.specs.Tables.{IsSorted}
 use Rattle.auth_kinds.specs.declared.policy.Policy.{Policy}
@@ -41,12 +41,13 @@ pub record IsAssigned (source : Source) (policy : Policy) : Type 0 where
   pub sorted : IsSorted policy.edges
 
 -- the root's source is loaded, none of these phases' faults stands, nor is the limit on edges passed; this is what the source
--- means, and what it assigns
+-- means, and what it assigns, with the numbers of the labels
 pub record IsFrontOf (root : List ℕ) (contents : Option Contents) (f : FrontEnd) : Type 0 where
   pub loaded : IsLoaded contents root (Ok f.source)
   pub none : first_list_fault f.source ≡ None
   pub meant : IsMeant f.source f.flat f.settled
   pub assigned : IsAssigned f.source f.policy
+  pub numbered : f.numbers ≡ label_numbers f.flat
 
 abbrev pub IsFront : List ℕ → Option Contents → (List ℕ → ℕ) → (List ℕ → ℕ) → Result FrontEnd BuildError → Type 0
 IsFront root contents before now (Ok f) = IsFrontOf root contents f

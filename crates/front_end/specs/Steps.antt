@@ -6,6 +6,7 @@ use Rattle.adl_ast.specs.declared.source.Source.{Source}
 use Rattle.adl_meaning.specs.Items.{AreFew}
 use Rattle.adl_meaning.specs.declared.flat.Flat.{Flat}
 use Rattle.adl_meaning.specs.declared.settled.Settled.{Settled}
+use Rattle.arch_policy.specs.Labels.{label_numbers}
 use Rattle.arch_policy.specs.Policies.{first_edge_fault}
 use Rattle.flat_laws.specs.ShortFiles.{AreFilesShort}
 use Rattle.front_end.specs.First.{first_front_fault, name_of_file, source_tables}
@@ -43,5 +44,5 @@ Means source (Err e) = Tells source (first_front_fault source) e
 abbrev pub Assigns : Meaning → Result FrontEnd BuildError → Type 0
 Assigns m (Ok f) =
     (f.source ≡ m.source) × (f.flat ≡ m.flat) × (f.settled ≡ m.settled) × (first_edge_fault (source_tables m.source) ≡ None)
-    × IsAssigned m.source f.policy
+    × IsAssigned m.source f.policy × (f.numbers ≡ label_numbers m.flat)
 Assigns m (Err e) = Tells m.source (first_edge_fault (source_tables m.source)) e

@@ -25,7 +25,7 @@ use adl_names::check_names;
 use adl_program::{Program, program_of};
 use adl_settle::settle_program;
 use adl_types::type_fault;
-use arch_policy::policy_of;
+use arch_policy::{LabelNumbers, policy_of};
 use auth_kinds::Policy;
 use cam_base::{Fault, NoMemory, Refused, Text};
 use cam_io::Files;
@@ -47,6 +47,8 @@ pub struct FrontEnd {
     pub settled: Settled,
     /// It labels no object.
     pub policy: Policy,
+    /// The numbers of its labels.
+    pub numbers: LabelNumbers,
 }
 
 /// What a source means.
@@ -102,11 +104,12 @@ pub fn with_policy(alloc: Global, meaning: Meaning) -> Result<FrontEnd, BuildErr
         settled,
     } = meaning;
     match policy_of(alloc, &source, &flat, &settled) {
-        Ok(policy) => Ok(FrontEnd {
+        Ok(assigned) => Ok(FrontEnd {
             source,
             flat,
             settled,
-            policy,
+            policy: assigned.policy,
+            numbers: assigned.numbers,
         }),
         Err(refused) => Err(in_file(alloc, &source, refused)),
     }

@@ -13,10 +13,10 @@ mod runs;
 mod shape;
 mod tables;
 
-pub use counts::table_count;
+pub use counts::{levels_of, table_count};
 pub use laws::{
-    counts_are_of_addresses, pages_are_found, root_is_one, runs_are_tables, shapes_are_levels,
-    slots_rise, tables_are_kept, tables_hold_what_is_mapped,
+    counts_are_of_addresses, levels_are_of_addresses, pages_are_found, root_is_one,
+    runs_are_tables, shapes_are_levels, slots_rise, tables_are_kept, tables_hold_what_is_mapped,
 };
 pub use mapping::Mapping;
 pub use shape::{Shape, shapes};

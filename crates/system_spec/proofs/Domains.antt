@@ -19,7 +19,7 @@ use Rattle.system_spec.specs.declared.landmarks.SpaceTables.{SpaceTables}
 use Rattle.system_spec.specs.declared.part.What.TheVariants.{LockOf, TableOf, FrameOf}
 use Rattle.system_spec.specs.Few.{AreFew, table_count}
 use Rattle.system_spec.specs.Landmarks.{all_spaces, objects_in, root_in, space_tables}
-use Rattle.system_spec.specs.Parts.{domain_locks, domain_tables, first_of, level_of, lock, locks, page_mapping, page_table, place, tables_at}
+use Rattle.system_spec.specs.Parts.{domain_locks, domain_tables, first_of, level_of, lock, page_mapping, page_table, place, tables_at}
 use Rattle.system_spec.specs.Places.{holds_lock, one}
 use Rattle.system_spec.specs.Tables.{Tables, arch, pages_at, uses_at}
 use Rattle.system_spec.proofs.Bounds.{ends}
@@ -77,7 +77,7 @@ locks_few t d first uses few l same f =
 
 -- ---- page tables
 
-addresses_same : (frames : ℕ) (pages : List Page) → map (λ x. x.at) (map (page_mapping frames) pages) ≡ map (λ p. p.vaddr) pages
+pub addresses_same : (frames : ℕ) (pages : List Page) → map (λ x. x.at) (map (page_mapping frames) pages) ≡ map (λ p. p.vaddr) pages
 addresses_same frames [] = refl
 addresses_same frames (p ∷ ps) = ap (λ z. p.vaddr ∷ z) (addresses_same frames ps)
 

@@ -23,12 +23,12 @@ use Rattle.arch_policy.specs.declared.owner.Owner.TheVariants.{OfDomain, OfConne
 use Rattle.cap_model.specs.declared.level.Level.{Level}
 use Rattle.cap_model.specs.declared.level.Level.TheVariants.{Global, Upper, Directory, Table}
 use Rattle.cap_model.specs.declared.object.Object.{Object}
-use Rattle.cap_model.specs.declared.object.Object.TheVariants as objects
 use Rattle.cap_model.specs.declared.rights.Rights.{Rights}
 use Rattle.cspace_layout.specs.declared.plan.SlotUse.{SlotUse}
 use Rattle.cspace_layout.specs.declared.plan.SlotUse.TheVariants.{OfEnd, Handler, OwnLock}
 use Rattle.numbering.specs.Gather.{before, gather}
 use Rattle.page_tables.specs.declared.mapping.Mapping.{Mapping}
+pub use Rattle.page_tables.specs.Levels.{level_of}
 use Rattle.page_tables.specs.Levels.{tables_of}
 use Rattle.page_tables.specs.Shapes.{shapes}
 use Rattle.vspace_layout.specs.declared.spaces.FrameInfo.{FrameInfo}
@@ -135,10 +135,6 @@ page_mapping frames p = record { at = p.vaddr; cap = record { object = frames + 
 -- the page tables of a domain, where the first of them and frame 0 stand there
 abbrev pub tables_at : Tables → ℕ → ℕ → ℕ → List Object
 tables_at t first frames d = tables_of first (shapes (arch t)) (map (page_mapping frames) (pages_at t d))
-
-abbrev pub level_of : Object → Level
-level_of (objects.Pages level slots) = level
-level_of _ = Table
 
 abbrev pub page_table : ℕ → ℕ → Level → PageTable
 page_table d j level = record { domain = d; place = j; level = level }

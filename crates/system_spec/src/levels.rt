@@ -1,9 +1,11 @@
 //! The page tables of all domains, and their numbers.
 
-ghost use Rattle.std.specs.Prelude.{◌≡◌, ◌<◌, ◌+◌, ◌^◌, ◌++◌, map, length, IfOk, OnOk};
+ghost use Rattle.numbering.specs.Gather.{gather};
+ghost use Rattle.page_tables.specs.Levels.{level_of};
+ghost use Rattle.std.specs.Prelude.{◌≡◌, ◌<◌, ◌+◌, ◌^◌, ◌++◌, ◌∷◌, [], map, length, IfOk, OnOk};
 ghost use Rattle.system_spec.specs.Few.{AreFew, AreShown, IsShown, table_count};
 ghost use Rattle.system_spec.specs.LevelNumbers.{counted, counts, one_more};
-ghost use Rattle.system_spec.specs.Parts.{all_tables, level_of, page_mapping, page_rights, page_tables, table_parts, tables_at};
+ghost use Rattle.system_spec.specs.Parts.{all_tables, page_mapping, page_rights, page_table, table_parts, tables_at};
 ghost use Rattle.system_spec.specs.Tables.{pages_at};
 ghost use Rattle.system_spec.specs.Told.{told};
 
@@ -12,7 +14,7 @@ use crate::{PageTable, Part, Series, What};
 use arch_policy::Owner;
 use cam_base::{List, NoMemory};
 use cap_model::{Cap, Level, Object, Rights};
-use page_tables::{Mapping, tables_of};
+use page_tables::{Mapping, levels_of, tables_of};
 use std::alloc::Global;
 use vspace_layout::Page;
 
@@ -70,29 +72,39 @@ pub fn tables_at(
     tables_of(alloc, tables.images.arch(), first, mappings.as_slice())
 }
 
-fn level_of(object: &Object) -> Level
-    ensures { result ≡ level_of object.now }
+/// The addresses of pages.
+fn addresses(alloc: Global, pages: &[Page]) -> Result<List<u64>, NoMemory>
+    ensures { IfOk result (λ addresses. addresses ≡ map (λ p. p.vaddr) pages.now) }
 {
-    match object {
-        Object::Pages { level, .. } => *level,
-        _ => Level::Table,
+    let mut addresses = List::from_vec(Vec::with_capacity(alloc, pages.len())?);
+    for page in pages {
+        addresses.push(page.vaddr)?;
     }
+    Ok(addresses)
 }
 
-/// Puts the page tables of a domain behind the others.
+/// The levels of the page tables of a domain.
+fn levels_at(alloc: Global, tables: &Tables<'_>, domain: u32) -> Result<List<Level>, NoMemory>
+    ensures { IfOk result (λ levels. levels ≡ map level_of (tables_at (told tables.now) 0 0 domain)) }
+{
+    let addresses = addresses(alloc, pages_at(tables, domain))?;
+    levels_of(alloc, tables.images.arch(), addresses.as_slice())
+}
+
+/// Puts the page tables of a domain, which have these levels, behind the others.
 fn push_page_tables(
     domain: u32,
-    objects: &[Object],
+    levels: &[Level],
     all: &mut List<PageTable>,
 ) -> Result<(), NoMemory>
-    requires { length objects.now < 2 ^ 32 }
-    ensures { OnOk result (all.new ≡ all.old ++ page_tables domain objects.now) }
+    requires { length levels.now < 2 ^ 32 }
+    ensures { OnOk result (all.new ≡ all.old ++ gather (λ j level. page_table domain j level ∷ []) levels.now) }
 {
-    for (place, object) in objects.iter().enumerate() {
+    for (place, level) in levels.iter().enumerate() {
         all.push(PageTable {
             domain,
             place: place as u32,
-            level: level_of(object),
+            level: *level,
         })?;
     }
     Ok(())
@@ -105,8 +117,8 @@ pub fn all_tables(alloc: Global, tables: &Tables<'_>) -> Result<List<PageTable>,
 {
     let mut all = List::new(alloc);
     for number in 0..tables.flat.domains.len() as u32 {
-        let objects = tables_at(alloc, tables, 0, 0, number)?;
-        push_page_tables(number, objects.as_slice(), &mut all)?;
+        let levels = levels_at(alloc, tables, number)?;
+        push_page_tables(number, levels.as_slice(), &mut all)?;
     }
     Ok(all)
 }

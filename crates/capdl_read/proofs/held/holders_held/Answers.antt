@@ -2,7 +2,6 @@ use Rattle.std.proofs.Common.{◌∙◌, arith}
 use Rattle.capdl_text.specs.KindField.{off_in}
 use Rattle.capdl_text.specs.Unknown.{unknown_in}
 use Rattle.capdl_text.proofs.Noting.{noted_each}
-use Rattle.name_tables.specs.ByName.{found}
 use Rattle.capdl_read.specs.Building.{slot_said}
 use Rattle.capdl_read.proofs.Tables.{slots_put}
 use Rattle.spread_names.specs.Naming.{spread_found}
@@ -13,7 +12,7 @@ loop-holder-preserved c = record {
   unknown = noted_each (unknown_in (spread_found c.args.known.now)) _ _ c.args.holders.now c.loop-holder.holder-index c.holder-item.result (omega arith) c.holder-item.is c.in_ok-slots.ensures.unknown ∙ c.loop-holder.invariant.unknown;
   kind = noted_each (off_in c.args.arch (spread_found c.args.known.now)) _ _ c.args.holders.now c.loop-holder.holder-index c.holder-item.result (omega arith) c.holder-item.is c.in_ok-slots.ensures.kind ∙ c.loop-holder.invariant.kind;
   said = λ n.
-      slots_put (slot_said (spread_found c.args.known.now)) _ (found c.loop-holder.table n) _ c.args.holders.now c.loop-holder.holder-index c.holder-item.result n (omega arith) c.holder-item.is c.in_ok-slots.ensures.held
+      slots_put (slot_said (spread_found c.args.known.now)) _ (spread_found c.loop-holder.table n) _ c.args.holders.now c.loop-holder.holder-index c.holder-item.result n (omega arith) c.holder-item.is c.in_ok-slots.ensures.held
       (rw c.as_bytes.ensures.bytes at c.in_ok-add.ensures.found n)
       ∙ c.loop-holder.invariant.said n;
 }

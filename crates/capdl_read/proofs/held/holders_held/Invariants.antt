@@ -4,7 +4,6 @@ use Rattle.capdl_text.specs.Faults.{noted}
 use Rattle.capdl_text.specs.KindField.{off_in}
 use Rattle.capdl_text.specs.Meaning.{held}
 use Rattle.capdl_text.specs.Unknown.{unknown_in}
-use Rattle.name_tables.specs.ByName.{found}
 use Rattle.capdl_read.specs.Building.{slot_said, slots_or}
 use Rattle.spread_names.specs.Naming.{spread_found}
 use Rattle.capdl_read.proofs.held.holders_held.Given as goal
@@ -13,5 +12,5 @@ abbrev pub invariant-loop-holder : goal.invariant-loop-holder
 invariant-loop-holder l = record {
   unknown : noted l.faults.unknown (flat_map (unknown_in (spread_found l.known)) (drop l.holder-index l.holders)) ≡ noted l.fn.faults.unknown (flat_map (unknown_in (spread_found l.known)) l.holders);
   kind : noted l.faults.kind (flat_map (off_in l.arch (spread_found l.known)) (drop l.holder-index l.holders)) ≡ noted l.fn.faults.kind (flat_map (off_in l.arch (spread_found l.known)) l.holders);
-  said : (n : List ℕ) → slots_or (found l.table n) (map (slot_said (spread_found l.known)) (held (drop l.holder-index l.holders) n)) ≡ map (slot_said (spread_found l.known)) (held l.holders n);
+  said : (n : List ℕ) → slots_or (spread_found l.table n) (map (slot_said (spread_found l.known)) (held (drop l.holder-index l.holders) n)) ≡ map (slot_said (spread_found l.known)) (held l.holders n);
 }

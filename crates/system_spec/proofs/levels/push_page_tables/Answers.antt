@@ -1,10 +1,12 @@
-use Rattle.std.proofs.Common.{◌∷◌, [], ◌++◌, ◌∙◌, refl, ap}
-use Rattle.cap_model.specs.declared.object.Object.{Object}
+use Rattle.std.proofs.Common.{◌∷◌, [], get_or, refl}
+use Rattle.std.proofs.lemmas.List.{get_or_default}
+use Rattle.cap_model.specs.declared.level.Level.{Level}
+use Rattle.cap_model.specs.declared.level.Level.TheVariants.{Global}
 use Rattle.numbering.proofs.Gathered.{gather_turn}
-use Rattle.system_spec.specs.Parts.{level_of, page_table}
+use Rattle.system_spec.specs.Parts.{page_table}
 use Rattle.system_spec.proofs.levels.push_page_tables.Goals as goal
 
 pub loop-place-preserved : goal.loop-place-preserved
 loop-place-preserved c =
-    gather_turn (λ j (o : Object). page_table c.args.domain j (level_of o) ∷ []) c.args.objects.now _ c.loop-place.place _ c.args.all.now _ _ refl
-    c.loop-place-test.true c.index-objects-place.is c.loop-place.invariant (c.in_ok-push.ensures.ok ∙ ap (λ z. c.loop-place.all ++ page_table c.args.domain c.loop-place.place z ∷ []) c.level_of.ensures)
+    gather_turn (λ j (level : Level). page_table c.args.domain j level ∷ []) c.args.levels.now _ c.loop-place.place (get_or c.args.levels.now c.loop-place.place Global)
+    c.args.all.now _ _ refl c.loop-place-test.true (get_or_default _ _ _ _ c.loop-place-test.true) c.loop-place.invariant c.in_ok-push.ensures.ok
