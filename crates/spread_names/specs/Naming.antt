@@ -1,5 +1,5 @@
 -- The digests of names, by which tables are kept in order.
-use Rattle.std.specs.Prelude.{ℕ, ◌==◌, ◌%◌, Bool, List, [], length, get_or, Option}
+use Rattle.std.specs.Prelude.{ℕ, ◌==◌, ◌%◌, Bool, List, [], ◌∷◌, length, get_or, Option, Some, None}
 use Rattle.std.specs.Borrow.{Bor}
 use Rattle.std.specs.Hash.FoldHasher.{initial, write, finish}
 use Rattle.std.specs.List.{list_all}
@@ -17,6 +17,11 @@ is_digested k = k.0 == digest k.1.now
 
 abbrev pub are_digested : {V : Type 0} → List (Key × V) → Bool
 are_digested es = list_all (λ e. is_digested e.0) es
+
+-- an entry that there may be, as a list
+abbrev pub one : {V : Type 0} → Option (Bor (List ℕ) × V) → List (Name × V)
+one None = []
+one (Some e) = (e.0.now, e.1) ∷ []
 
 -- what stands under a name in tables, in the one of them that its digest says
 abbrev pub spread_found : {V : Type 0} → List (List (Name × V)) → Name → Option V

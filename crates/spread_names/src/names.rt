@@ -95,14 +95,72 @@ impl<'x, V: Drop> Names<'x, V> {
     }
 }
 
-/// How many entries a table of many has.
-const SHARE: usize = 8;
+/// Values by name, of which the first stands by itself, since most of many small tables have no other. Contracts see it as
+/// the list of its entries.
+#[derive(Drop)]
+struct Share<'x, V> {
+    first: Option<(&'x [u8], V)>,
+    others: Names<'x, V>,
+}
 
-/// Values by name, in many small tables, of which the digest of a name says one. Contracts see it as the list of the
-/// tables.
+impl<'x, V> Model for Share<'x, V> {
+    ghost use Rattle.spread_names.specs.Naming.{one};
+    ghost use Rattle.std.specs.Coded.{coded×, coded_ℕ, coded_list};
+    ghost use Rattle.std.specs.Prelude.{◌≡◌, ◌++◌, [], IfNone, List, ℕ};
+
+    ghost Value = { List (List ℕ × V) };
+
+    ghost coded = { coded_list (coded× (coded_list coded_ℕ) V.code) };
+
+    ghost view = { λ s. one s.first ++ s.others };
+
+    ghost invariant = { λ s. IfNone s.first (s.others ≡ []) };
+}
+
+impl<'x, V: Drop> Share<'x, V> {
+    fn new(alloc: Global) -> Share<'x, V>
+        ensures { result ≡ [] }
+    {
+        Share {
+            first: None,
+            others: Names::new(alloc),
+        }
+    }
+
+    /// What the name of this digest stands for.
+    fn find(&self, number: u64, name: &'x [u8]) -> Option<&V>
+        requires { number ≡ digest name.now }
+        ensures { option_copied result ≡ found self.now name.now }
+    {
+        match &self.first {
+            Some((found, value)) if *found == name => Some(value),
+            _ => self.others.find(number, name),
+        }
+    }
+
+    /// Puts a value under its name, where the name has none yet, and answers whether it has one.
+    fn put(&mut self, number: u64, name: &'x [u8], value: V) -> Result<bool, NoMemory>
+        requires digested { number ≡ digest name.now }
+        ensures met { IfOk result (λ met. met ≡ is_some (found self.old name.entry.now)) }
+        ensures found { OnOk result ((n : Seq ℕ) → found self.new n ≡ option_or (found self.old n)
+            (found ((name.entry.now, value) ∷ []) n)) }
+    {
+        match &self.first {
+            None => {
+                self.first = Some((name, value));
+                Ok(false)
+            }
+            Some((found, _)) if *found == name => Ok(true),
+            Some(_) => self.others.put(number, name, value),
+        }
+    }
+}
+
+/// Values by name, in about as many small tables as names, of which the digest of a name says one. Contracts see it as the
+/// list of the tables.
 #[derive(Drop)]
 pub struct SpreadNames<'x, V> {
-    tables: Vec<Names<'x, V>>,
+    tables: Vec<Share<'x, V>>,
 }
 
 impl<'x, V> Model for SpreadNames<'x, V> {
@@ -132,9 +190,10 @@ impl<'x, V: Drop> SpreadNames<'x, V> {
     pub fn with_room(alloc: Global, names: usize) -> Result<SpreadNames<'x, V>, NoMemory>
         ensures { IfOk result (λ t. (n : Seq ℕ) → spread_found t n ≡ None) }
     {
-        let mut tables = Vec::new(alloc);
-        for _ in 0..names / SHARE + 1 {
-            tables.push(Names::new(alloc))?;
+        let count = names.saturating_add(1);
+        let mut tables = Vec::with_capacity(alloc, count)?;
+        for _ in 0..count {
+            tables.push(Share::new(alloc))?;
         }
         Ok(SpreadNames { tables })
     }
