@@ -12,7 +12,7 @@ use std::alloc::Global;
 pub fn lex(alloc: Global, file: u32, bytes: &[u8]) -> Result<Tokens, Refused<Fault>>
     ensures { IsLexed file bytes.now result }
 {
-    // most tokens, with the gap before them, have four bytes or more
+    // a token, with the gap before it, has about four bytes
     let mut tokens = List::from_vec(Vec::with_capacity(alloc, bytes.len() / 4)?);
     let mut rest = bytes;
     'scan: while let Some(piece) = next_piece(rest) {

@@ -54,15 +54,34 @@ impl Path {
         join_names(alloc, self.names())
     }
 
+    /// Puts copies of names at the end.
+    fn extend(&mut self, alloc: Global, names: &[Name]) -> Result<(), NoMemory>
+        ensures { OnOk result (self.new ≡ self.old ++ names.now) }
+    {
+        for name in names {
+            self.push(name.copy(alloc)?)?;
+        }
+        Ok(())
+    }
+
+    /// The path of some names and more behind them. Room for all of them is taken at once.
+    pub fn of(alloc: Global, names: &[Name], more: &[Name]) -> Result<Path, NoMemory>
+        ensures { IfOk result (λ path. path ≡ names.now ++ more.now) }
+    {
+        let count = names.len().saturating_add(more.len());
+        let mut path = Path {
+            names: SmallVec::with_capacity(alloc, count)?,
+        };
+        path.extend(alloc, names)?;
+        path.extend(alloc, more)?;
+        Ok(path)
+    }
+
     /// An equal path.
     pub fn copy(&self, alloc: Global) -> Result<Path, NoMemory>
         ensures { IfOk result (λ path. path ≡ self.now) }
     {
-        let mut path = Path::empty(alloc);
-        for name in self.names() {
-            path.push(name.copy(alloc)?)?;
-        }
-        Ok(path)
+        Path::of(alloc, self.names(), &[])
     }
 }
 
