@@ -1,11 +1,11 @@
 -- The edges of the boot state are those that the objects are the sources of.
-use Rattle.std.proofs.Common.{◌≡◌, ◌↔◌, ℕ, true, List, [], map, slice_get, Option, Some, None, refl, sym, inl, inr, arith, subst, ◌∙◌}
+use Rattle.std.proofs.Common.{◌≡◌, ◌↔◌, ℕ, List, [], map, slice_get, Option, Some, None, refl, inl, inr, arith, subst}
 use Rattle.std.specs.List.{Contains}
 use Rattle.std.proofs.lemmas.Option.{slice_get-map}
 use Rattle.auth_kinds.specs.Adds.{Adds}
 use Rattle.auth_kinds.specs.Edges.{edge}
 use Rattle.auth_kinds.specs.ObjectLabels.{label_of}
-use Rattle.auth_kinds.specs.Tables.{has, Has}
+use Rattle.auth_kinds.specs.Tables.{Has}
 use Rattle.auth_kinds.specs.declared.authority.Authority.{Authority}
 use Rattle.auth_kinds.specs.declared.authority.Authority.TheVariants.{Control, AsyncSend}
 use Rattle.auth_kinds.specs.declared.edge.Edge.{Edge}
@@ -145,12 +145,9 @@ module _ (spec : Spec) (labels : List ℕ) where
   pub source_auth : (l : ℕ) (a : Authority) (m : ℕ) → OfSpec spec labels (edge l a m) → Auth spec labels (boot spec) l a m
   source_auth l a m h = object_auth h.place h.item h.item.object l a m h.there refl h.by
 
-  -- a table of the edges that were gathered from the spec
-  pub direct_edges : (edges table : List Edge) → Adds (OfSpec spec labels) [] edges → ((e : Edge) → has table e ≡ has edges e) → (l : ℕ) (a : Authority) (m : ℕ)
-      → (Has table l a m) ↔ Auth spec labels (boot spec) l a m
-  direct_edges edges table grown same l a m = (
-    λ h.
-        let there : has edges (edge l a m) ≡ true = sym (same (edge l a m)) ∙ h in
-        elim (grown.only (edge l a m) there) [ inl none ↦ absurd cc | inr of ↦ source_auth l a m of ],
-    λ h. same (edge l a m) ∙ grown.added (edge l a m) (auth_source l a m h),
+  -- the edges that were gathered from the spec
+  pub boot_sources : (edges : List Edge) → Adds (OfSpec spec labels) [] edges → (l : ℕ) (a : Authority) (m : ℕ) → (Has edges l a m) ↔ Auth spec labels (boot spec) l a m
+  boot_sources edges grown l a m = (
+    λ h. elim (grown.only (edge l a m) h) [ inl none ↦ absurd cc | inr of ↦ source_auth l a m of ],
+    λ h. grown.added (edge l a m) (auth_source l a m h),
   )

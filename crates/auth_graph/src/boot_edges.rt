@@ -14,13 +14,23 @@ use cam_base::NoMemory;
 use cap_model::{Object, Spec, Tcb};
 use std::alloc::Global;
 
+/// The edges of the boot state under a labelling, object by object; an edge may stand several times.
+pub fn edges_at_boot(alloc: Global, spec: &Spec, labels: &Labels) -> Result<Vec<Edge>, NoMemory>
+    requires { length labels.now.by_object ≡ length spec.now.entries }
+    ensures { IfOk result (λ edges. (l : ℕ) (a : Authority) (m : ℕ) → (Has edges.items l a m)
+        ↔ Auth spec.now labels.now.by_object (boot spec.now) l a m) }
+{
+    let edges = with_each_object(Vec::new(alloc), spec, labels)?;
+    Ok(edges)
+}
+
 /// The table of the edges of the boot state under a labelling.
 pub fn direct(alloc: Global, spec: &Spec, labels: &Labels) -> Result<EdgeTable, NoMemory>
     requires { length labels.now.by_object ≡ length spec.now.entries }
     ensures { IfOk result (λ table. (l : ℕ) (a : Authority) (m : ℕ) → (Has table l a m)
         ↔ Auth spec.now labels.now.by_object (boot spec.now) l a m) }
 {
-    let edges = with_each_object(Vec::new(alloc), spec, labels)?;
+    let edges = edges_at_boot(alloc, spec, labels)?;
     let table = EdgeTable::from_list(alloc, edges.as_slice())?;
     Ok(table)
 }

@@ -6,6 +6,7 @@ ghost use Rattle.spread_names.specs.Naming.{spread_found};
 ghost use Rattle.capdl_text.specs.Faults.{noted};
 ghost use Rattle.capdl_text.specs.KindField.{irq_off, kind_fields, off_in, slot_off};
 ghost use Rattle.capdl_text.specs.Meaning.{badge_said, cap_said, held, lines_from, place_or, rights_said};
+ghost use Rattle.capdl_text.specs.Twice.{names_twice};
 ghost use Rattle.capdl_text.specs.Unknown.{unknown, unknown_in, unknowns};
 ghost use Rattle.std.specs.List.{flat_map};
 ghost use Rattle.std.specs.Prelude.{◌≡◌, ◌<◌, ◌^◌, ℕ, [], List as Seq, map, IfOk, OnOk};
@@ -13,6 +14,7 @@ ghost use Rattle.std.specs.Prelude.{◌≡◌, ◌<◌, ◌^◌, ℕ, [], List a
 use crate::first::First;
 use crate::kind::{Named, note_holder_kind, note_irq, note_objects, note_slot};
 use crate::known::find;
+use crate::twice::meet_name;
 use crate::unknown::note_unknown;
 use cam_base::{List, NoMemory};
 use cap_model::{Arch, Cap, Rights};
@@ -151,26 +153,28 @@ fn holder_held<'x>(
     slots_held(alloc, arch, known, holder, line.slots.as_slice(), faults)
 }
 
-/// The slots of holders by name: of the first holder of each.
+/// The slots of holders by name: of the first holder of each. Notes the names of holders that stand a second time.
 fn holders_held<'x>(
     alloc: Global,
     arch: Arch,
     known: &SpreadNames<'x, Known>,
     holders: &[Holder<'x>],
     faults: &mut Faults,
+    twice: &mut First,
 ) -> Result<SpreadNames<'x, List<Slot>>, NoMemory>
     requires few { (n : Seq ℕ) → place_or (spread_found known.now n) < 2 ^ 32 }
     ensures unknown { OnOk result
         (faults.new.unknown ≡ noted faults.old.unknown (flat_map (unknown_in (spread_found known.now)) holders.now)) }
     ensures kind { OnOk result
         (faults.new.kind ≡ noted faults.old.kind (flat_map (off_in arch (spread_found known.now)) holders.now)) }
+    ensures twice { OnOk result (twice.new ≡ noted twice.old (names_twice (map (λ h. h.id) holders.now))) }
     ensures held { IfOk result
         (λ t. (n : Seq ℕ) → slots_told (spread_found t n) ≡ map (slot_said (spread_found known.now)) (held holders.now n)) }
 {
     let mut table = SpreadNames::with_room(alloc, holders.len())?;
     for holder in holders {
         let slots = holder_held(alloc, arch, known, holder, faults)?;
-        table.add(holder.id.name.as_bytes(), slots)?;
+        meet_name(alloc, &holder.id, slots, &mut table, twice)?;
     }
     Ok(table)
 }
@@ -218,23 +222,33 @@ fn lines_held<'x>(
     Ok(List::from_vec(items))
 }
 
-/// What is held in a tree. Notes the names that stand for nothing, and what doesn't suit a kind of object.
+/// What is held in a tree. Notes the names that stand for nothing, what doesn't suit a kind of object, and the names of
+/// holders that stand a second time.
 #[tactic(auto, using(capdl_text::proofs::Noting::noting))]
 pub(crate) fn look_up<'x>(
     alloc: Global,
     known: &SpreadNames<'x, Known>,
     tree: &SpecTree<'x>,
     faults: &mut Faults,
+    twice: &mut First,
 ) -> Result<Held<'x>, NoMemory>
     requires few { (n : Seq ℕ) → place_or (spread_found known.now n) < 2 ^ 32 }
     ensures unknown { OnOk result (faults.new.unknown ≡ noted faults.old.unknown (unknowns (spread_found known.now) tree.now)) }
     ensures kind { OnOk result (faults.new.kind ≡ noted faults.old.kind (kind_fields (spread_found known.now) tree.now)) }
+    ensures twice { OnOk result (twice.new ≡ noted twice.old (names_twice (map (λ h. h.id) tree.now.holders))) }
     ensures slots { IfOk result (λ held_now. (n : Seq ℕ) → slots_told (spread_found held_now.slots n)
         ≡ map (slot_said (spread_found known.now)) (held tree.now.holders n)) }
     ensures irqs { IfOk result (λ held_now. held_now.irqs ≡ lines_from (spread_found known.now) [] tree.now.irqs) }
 {
     note_objects(alloc, tree.arch, tree.objects.as_slice(), &mut faults.kind)?;
-    let slots = holders_held(alloc, tree.arch, known, tree.holders.as_slice(), faults)?;
+    let slots = holders_held(
+        alloc,
+        tree.arch,
+        known,
+        tree.holders.as_slice(),
+        faults,
+        twice,
+    )?;
     let irqs = lines_held(alloc, known, tree.irqs.as_slice(), faults)?;
     Ok(Held { slots, irqs })
 }

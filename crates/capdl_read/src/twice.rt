@@ -23,7 +23,7 @@ use spread_names::SpreadNames;
 use std::alloc::Global;
 
 /// Takes the next name with its value, or notes that it was met before.
-fn meet_name<'x, V: Drop>(
+pub(crate) fn meet_name<'x, V: Drop>(
     alloc: Global,
     id: &Id<'x>,
     value: V,
@@ -38,16 +38,6 @@ fn meet_name<'x, V: Drop>(
     let name = id.name.as_bytes();
     if met.add(name, value)? {
         first.note(alloc, TextCode::CapdlTwice, id.place, name)?;
-    }
-    Ok(())
-}
-
-fn note_holders(alloc: Global, holders: &[Holder], first: &mut First) -> Result<(), NoMemory>
-    ensures { OnOk result (first.new ≡ noted first.old (names_twice (map (λ h. h.id) holders.now))) }
-{
-    let mut met = SpreadNames::with_room(alloc, holders.len())?;
-    for holder in holders {
-        meet_name(alloc, &holder.id, (), &mut met, first)?;
     }
     Ok(())
 }
@@ -261,20 +251,22 @@ fn note_all_slots(alloc: Global, holders: &[Holder], first: &mut First) -> Resul
     Ok(())
 }
 
-/// Notes what stands a second time, where the names of objects that do are noted by themselves.
+/// Notes what stands a second time, where the names of objects and of holders that do are noted by themselves.
 #[tactic(auto, using(capdl_text::proofs::Noting::noting, crate::proofs::Checked::merged))]
 pub(crate) fn note_twices(
     alloc: Global,
     tree: &SpecTree,
     objects: First,
+    holders: First,
     first: &mut First,
 ) -> Result<(), NoMemory>
-    requires { objects ≡ noted None (names_twice (map (λ o. o.id) tree.now.objects)) }
+    requires objects { objects ≡ noted None (names_twice (map (λ o. o.id) tree.now.objects)) }
+    requires holders { holders ≡ noted None (names_twice (map (λ h. h.id) tree.now.holders)) }
     ensures { OnOk result (first.new ≡ noted first.old (twices tree.now)) }
 {
     first.merge(objects);
     note_all_fields(alloc, tree.objects.as_slice(), first)?;
-    note_holders(alloc, tree.holders.as_slice(), first)?;
+    first.merge(holders);
     note_all_slots(alloc, tree.holders.as_slice(), first)?;
     note_irq_numbers(alloc, tree.irqs.as_slice(), first)?;
     note_irq_objects(alloc, tree.irqs.as_slice(), first)

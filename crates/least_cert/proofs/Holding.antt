@@ -1,6 +1,6 @@
 -- The held edges of the boot state are what the capabilities of CNodes confer.
-use Rattle.std.proofs.Common.{◌≡◌, ◌≢◌, ◌∙◌, ◌↔◌, ℕ, true, List, [], map, slice_get, Some, refl, subst, inl, inr, arith}
-use Rattle.std.specs.List.{Contains}
+use Rattle.std.proofs.Common.{◌≡◌, ◌≢◌, ◌∙◌, ◌↔◌, ℕ, true, List, [], map, slice_get, Some, refl, sym, subst, inl, inr, arith}
+use Rattle.std.specs.List.{Contains, filter_map}
 use Rattle.std.proofs.lemmas.Option.{slice_get-map}
 use Rattle.auth_graph.specs.Sources.{OfCap}
 use Rattle.auth_kinds.specs.Adds.{Adds}
@@ -10,7 +10,6 @@ use Rattle.auth_kinds.specs.Tables.{Has, has}
 use Rattle.auth_kinds.specs.declared.authority.Authority.{Authority}
 use Rattle.auth_kinds.specs.declared.authority.Authority.TheVariants.{Grant}
 use Rattle.auth_kinds.specs.declared.edge.Edge.{Edge}
-use Rattle.auth_kinds.proofs.TableMembers.{at_has, has_at}
 use Rattle.cap_model.specs.Auth.{Auth, Held}
 use Rattle.cap_model.specs.State.{Node, boot, boot_node, boot_slot, no_node, node_at}
 use Rattle.cap_model.specs.declared.cap.Cap.{Cap}
@@ -20,11 +19,13 @@ use Rattle.cap_model.specs.declared.spec.Entry.{Entry}
 use Rattle.cap_model.specs.declared.spec.Spec.{Spec}
 use Rattle.cap_model.specs.declared.state.Content.TheVariants.{Capability}
 use Rattle.cap_model.proofs.BootPlaces.{at_contains, at_entry, contains_at, entry_at, slot_of}
-use Rattle.least_cert.specs.BootEdges.{AreHeld, AreLinks, OfHolder, OfHolders, OfLinks}
+use Rattle.least_cert.specs.BootEdges.{AreHeld, AreLinks, OfHolder, OfHolders, between_labels}
 use Rattle.least_cert.specs.Closing.{AddsAll, Begins, Closure, IsEmpty, IsSound, OfLeast}
 use Rattle.least_cert.specs.LeastCertificate.{InLeast, KeepsRules}
 use Rattle.least_cert.proofs.Growth.{knows_grows}
 use Rattle.least_cert.proofs.LeastKeeps.{least_keeps}
+use Rattle.least_cert.proofs.Listing.{from_mapped, to_mapped}
+use Rattle.least_cert.proofs.Passing.{link_is, link_of}
 
 module _ (spec : Spec) (labels : List ℕ) where
   held_object : (from : ℕ) (object : Object) (i : ℕ) (x : Cap) (e : Edge) → Contains (boot_node object).slots (i, Capability x) → OfCap spec labels from x e → OfHolder spec labels from object e
@@ -72,15 +73,14 @@ module _ (spec : Spec) (labels : List ℕ) where
     every = λ l a m h. grown.added (edge l a m) (held_source l a m h);
   }
 
-  pub are_links : (table links : List Edge) → ((l : ℕ) (a : Authority) (m : ℕ) → (Has table l a m) ↔ Auth spec labels (boot spec) l a m) → Adds (OfLinks table) [] links → AreLinks spec labels links
-  are_links table links are grown = record {
-    only = λ e h. elim (grown.only e h) [
-      | inl none ↦ absurd cc
-      | inr of ↦ (let same : of.item ≡ e = cc in (are e.from e.authority e.to).0 (subst (λ (x : Edge). has table x ≡ true) same (has_at table of.place of.item of.there)), of.by.1)
-    ];
+  pub are_links : (edges links : List Edge) → ((l : ℕ) (a : Authority) (m : ℕ) → (Has edges l a m) ↔ Auth spec labels (boot spec) l a m) → links ≡ filter_map between_labels edges → AreLinks spec labels links
+  are_links edges links are is = record {
+    only = λ e h.
+        let from = from_mapped between_labels edges e (subst (λ (xs : List Edge). has xs e ≡ true) is h) in
+        let link = link_is from.0 e from.2 in
+        ((are e.from e.authority e.to).0 (subst (λ (x : Edge). has edges x ≡ true) link.0 from.1), link.1);
     every = λ l a m h differ.
-        let at = at_has table (edge l a m) ((are l a m).1 h) in
-        grown.added (edge l a m) (record { place = at.0; item = edge l a m; there = at.1; by = (refl, differ) });
+        subst (λ (xs : List Edge). has xs (edge l a m) ≡ true) (sym is) (to_mapped between_labels edges (edge l a m) (edge l a m) ((are l a m).1 h) (link_of (edge l a m) differ));
   }
 
   -- ---- what the boot state asks for is of the least certificate

@@ -1,6 +1,6 @@
 -- Who leads whom, and the edge of a leader.
 use Rattle.std.proofs.Common.{◌≡◌, ◌≢◌, ◌∙◌, ◌⊎◌, ◌++◌, ◌==◌, ◌+◌, ◌<◌, ◌≤◌, ◌^◌, ℕ, Bool, true, false, List, [], ◌∷◌, get_or, length, map, refl, sym, ap, subst, inl, inr, zero, suc, arith, length-append}
-use Rattle.std.proofs.lemmas.Bool.{cases_lt, eqb-true}
+use Rattle.std.proofs.lemmas.Bool.{cases_lt, eqb-true, ne_eqb}
 use Rattle.std.proofs.lemmas.List.{get_or-map, get_or_past, length-map}
 use Rattle.cam_base.proofs.Orders.{same_itself}
 use Rattle.auth_kinds.specs.Authorities.{number_of}
@@ -11,7 +11,6 @@ use Rattle.auth_kinds.specs.declared.authority.Authority.TheVariants.{Reply}
 use Rattle.auth_kinds.specs.declared.edge.Edge.{Edge}
 use Rattle.auth_kinds.proofs.EdgeOrder.{same_number}
 use Rattle.least_cert.specs.Closing.{Closure, Flows, IsSound, Knows, IsRelabeled, OfLeast, Widens, lead, leader_at, led_by}
-use Rattle.least_cert.proofs.Passing.{differ}
 
 -- ---- the edge of a leader
 
@@ -19,7 +18,7 @@ pub number_other : (a : Authority) → number_of a == 9 ≡ false → a ≢ Repl
 number_other a is reply = absurd (let yes_it : number_of a == 9 ≡ true = rw reply refl in cc)
 
 pub other_number : (a : Authority) → a ≢ Reply → number_of a == 9 ≡ false
-other_number a other = differ (number_of a) 9 (λ e. other (same_number a Reply e))
+other_number a other = ne_eqb (number_of a) 9 (λ e. other (same_number a Reply e))
 
 -- a reply or not
 pub reply_or_not : (e : Edge) → (number_of e.authority == 9 ≡ true) ⊎ (number_of e.authority == 9 ≡ false)

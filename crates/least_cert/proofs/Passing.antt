@@ -1,6 +1,6 @@
 -- Which edges pass on, and what is made of the ends of two edges.
 use Rattle.std.proofs.Common.{◌≡◌, ◌≢◌, ◌==◌, ℕ, Bool, true, false, Some, None, if◌then◌else◌, refl}
-use Rattle.std.proofs.lemmas.Bool.{eqb-true}
+use Rattle.std.proofs.lemmas.Bool.{eq-eqb, ne_eqb}
 use Rattle.cam_base.proofs.Orders.{same_itself}
 use Rattle.auth_kinds.specs.Authorities.{number_of}
 use Rattle.auth_kinds.specs.Edges.{edge}
@@ -8,18 +8,22 @@ use Rattle.auth_kinds.specs.declared.authority.Authority.{Authority}
 use Rattle.auth_kinds.specs.declared.authority.Authority.TheVariants.{Reply}
 use Rattle.auth_kinds.specs.declared.edge.Edge.{Edge}
 use Rattle.auth_kinds.proofs.EdgeOrder.{same_number}
+use Rattle.least_cert.specs.BootEdges.{between_labels}
 use Rattle.least_cert.specs.Closing.{from_other, passed_to, to_other}
-
-pub differ : (m n : ℕ) → m ≢ n → m == n ≡ false
-differ m n h = by (m == n) refl where
-  by : (b : Bool) → m == n ≡ b → m == n ≡ false
-  by true is = absurd (h (eqb-true m n is))
-  by false is = is
 
 module _ {A : Type 0} where
   chosen_none : (b : Bool) (x y : A) → (if b then None else Some x) ≡ Some y → (b ≡ false) × (x ≡ y)
   chosen_none true x y h = absurd cc
   chosen_none false x y h = (refl, cc)
+
+-- edges that lie between different labels
+pub link_is : (x e : Edge) → between_labels x ≡ Some e → (x ≡ e) × (e.from ≢ e.to)
+link_is x e h =
+    let is = chosen_none (x.from == x.to) x e h in
+    (is.1, λ same. absurd (let yes_it : x.from == x.to ≡ true = eq-eqb x.from x.to (rw is.1 same) in let no_it = is.0 in cc))
+
+pub link_of : (e : Edge) → e.from ≢ e.to → between_labels e ≡ Some e
+link_of e other = rw (ne_eqb e.from e.to other) refl
 
 pub passed_is : (r : ℕ) (x e : Edge) → passed_to r x ≡ Some e → (x.authority ≢ Reply) × (edge r x.authority x.to ≡ e)
 passed_is r x e h =
@@ -28,7 +32,7 @@ passed_is r x e h =
 
 pub passes_on : (r : ℕ) (x : Edge) → x.authority ≢ Reply → passed_to r x ≡ Some (edge r x.authority x.to)
 passes_on r x other =
-    let no_it : number_of x.authority == 9 ≡ false = differ (number_of x.authority) 9 (λ e. other (same_number x.authority Reply e)) in
+    let no_it : number_of x.authority == 9 ≡ false = ne_eqb (number_of x.authority) 9 (λ e. other (same_number x.authority Reply e)) in
     rw no_it refl
 
 pub from_other_is : (a : Authority) (l : ℕ) (p e : Edge) → from_other a l p ≡ Some e → (p.to ≢ l) × (edge p.to a l ≡ e)
@@ -37,7 +41,7 @@ from_other_is a l p e h =
     (λ same. absurd (let yes_it : p.to == l ≡ true = rw same (same_itself l) in let no_it = is.0 in cc), is.1)
 
 pub from_other_made : (a : Authority) (l : ℕ) (p : Edge) → p.to ≢ l → from_other a l p ≡ Some (edge p.to a l)
-from_other_made a l p other = let no_it : p.to == l ≡ false = differ p.to l other in rw no_it refl
+from_other_made a l p other = let no_it : p.to == l ≡ false = ne_eqb p.to l other in rw no_it refl
 
 pub to_other_is : (a : Authority) (l : ℕ) (p e : Edge) → to_other a l p ≡ Some e → (p.to ≢ l) × (edge l a p.to ≡ e)
 to_other_is a l p e h =
@@ -45,4 +49,4 @@ to_other_is a l p e h =
     (λ same. absurd (let yes_it : p.to == l ≡ true = rw same (same_itself l) in let no_it = is.0 in cc), is.1)
 
 pub to_other_made : (a : Authority) (l : ℕ) (p : Edge) → p.to ≢ l → to_other a l p ≡ Some (edge l a p.to)
-to_other_made a l p other = let no_it : p.to == l ≡ false = differ p.to l other in rw no_it refl
+to_other_made a l p other = let no_it : p.to == l ≡ false = ne_eqb p.to l other in rw no_it refl

@@ -1,5 +1,5 @@
 -- Words for the contracts of private functions alone: the edges that the boot state asks for.
-use Rattle.std.specs.Prelude.{◌≡◌, ◌≢◌, ℕ, true, List, Option, Some}
+use Rattle.std.specs.Prelude.{◌≡◌, ◌≢◌, ◌==◌, ℕ, true, List, Option, None, Some, if◌then◌else◌}
 use Rattle.auth_graph.specs.Sources.{OfEach, OfSlots}
 use Rattle.auth_kinds.specs.ObjectLabels.{label_of}
 use Rattle.auth_kinds.specs.Tables.{Has, has}
@@ -27,12 +27,8 @@ abbrev pub OfHolders : Spec → List ℕ → Edge → Type 0
 OfHolders spec labels e = OfEach (λ place (entry : Entry). OfHolder spec labels (label_of labels place) entry.object) spec.entries e
 
 -- the edge, where it lies between different labels
-abbrev pub IsLink : Option Edge → Edge → Type 0
-IsLink edge e = (edge ≡ Some e) × (e.from ≢ e.to)
-
--- the edges of a list that lie between different labels
-abbrev pub OfLinks : List Edge → Edge → Type 0
-OfLinks edges e = OfEach (λ place (edge : Edge). IsLink (Some edge)) edges e
+abbrev pub between_labels : Edge → Option Edge
+between_labels e = if e.from == e.to then None else Some e
 
 -- the held edges of the boot state
 pub record AreHeld (spec : Spec) (labels : List ℕ) (edges : List Edge) : Type 0 where

@@ -1,11 +1,12 @@
 //! The edges that the boot state asks for.
 
 ghost use Rattle.auth_kinds.specs.Adds.{Adds};
-ghost use Rattle.least_cert.specs.BootEdges.{AreHeld, AreLinks, IsLink, OfHolder, OfHolders, OfLinks};
-ghost use Rattle.std.specs.Prelude.{◌≡◌, [], IfOk, Some, length};
+ghost use Rattle.least_cert.specs.BootEdges.{AreHeld, AreLinks, OfHolder, OfHolders, between_labels};
+ghost use Rattle.std.specs.List.{filter_map};
+ghost use Rattle.std.specs.Prelude.{◌≡◌, IfOk, length};
 
-use auth_graph::{direct, with_each_slot};
-use auth_kinds::{Edge, EdgeTable, Hint, Labels, with_edge};
+use auth_graph::{edges_at_boot, with_each_slot};
+use auth_kinds::{Edge, Labels};
 use cam_base::NoMemory;
 use cap_model::{Object, Spec};
 use std::alloc::Global;
@@ -47,42 +48,33 @@ fn with_holder(
     }
 }
 
+/// The edge, where it lies between different labels.
+fn between_labels(edge: Edge) -> Option<Edge>
+    ensures { result ≡ between_labels edge }
+{
+    if edge.from == edge.to {
+        return None;
+    }
+    Some(edge)
+}
+
+/// Those of the edges that lie between different labels.
+fn links_of(alloc: Global, edges: &[Edge]) -> Result<Vec<Edge>, NoMemory>
+    ensures { IfOk result (λ links. links.items ≡ filter_map between_labels edges.now) }
+{
+    let links = edges
+        .iter()
+        .filter_map(|edge| between_labels(*edge))
+        .collect(alloc)?;
+    Ok(links)
+}
+
 /// The edges between different labels.
 pub fn linking_edges(alloc: Global, spec: &Spec, labels: &Labels) -> Result<Vec<Edge>, NoMemory>
     requires { length labels.now.by_object ≡ length spec.now.entries }
     ensures { IfOk result (λ edges. AreLinks spec.now labels.now.by_object edges.items) }
 {
-    let table = direct(alloc, spec, labels)?;
-    let edges = links_of(alloc, &table)?;
-    Ok(edges)
-}
-
-/// The edges of a table between different labels.
-fn links_of(alloc: Global, table: &EdgeTable) -> Result<Vec<Edge>, NoMemory>
-    ensures { IfOk result (λ links. Adds (OfLinks table.now) [] links.items) }
-{
-    let mut links = Vec::new(alloc);
-    let mut hint = Hint::first();
-    for place in 0..table.len() {
-        links = with_link(links, table.get_near(place, &mut hint))?;
-    }
+    let edges = edges_at_boot(alloc, spec, labels)?;
+    let links = links_of(alloc, edges.as_slice())?;
     Ok(links)
-}
-
-fn with_link(links: Vec<Edge>, edge: Option<Edge>) -> Result<Vec<Edge>, NoMemory>
-    ensures { IfOk result (λ new. Adds (IsLink edge) links.items new.items) }
-{
-    match edge {
-        Some(edge) => with_one(links, edge),
-        None => Ok(links),
-    }
-}
-
-fn with_one(links: Vec<Edge>, edge: Edge) -> Result<Vec<Edge>, NoMemory>
-    ensures { IfOk result (λ new. Adds (IsLink (Some edge)) links.items new.items) }
-{
-    if edge.from == edge.to {
-        return Ok(links);
-    }
-    with_edge(links, edge)
 }

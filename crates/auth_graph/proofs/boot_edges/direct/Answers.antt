@@ -1,7 +1,9 @@
-use Rattle.auth_graph.proofs.BootSources.{direct_edges}
+use Rattle.std.proofs.Common.{◌∙◌, sym}
+use Rattle.auth_kinds.specs.Edges.{edge}
 use Rattle.auth_graph.proofs.boot_edges.direct.Goals as goal
 
 pub returns : goal.returns
-returns c =
-    direct_edges c.args.spec.now c.args.labels.now.by_object c.in_ok-edges.edges.items c.in_ok-table.table (rw c.new.ensures.items at c.in_ok-edges.ensures)
-    (rw c.as_slice.ensures.value at c.in_ok-table.ensures.same)
+returns c = λ l a m.
+    let same = rw c.as_slice.ensures.value at c.in_ok-table.ensures.same in
+    let are = c.in_ok-edges.ensures l a m in
+    (λ h. are.0 (sym (same (edge l a m)) ∙ h), λ h. same (edge l a m) ∙ are.1 h)

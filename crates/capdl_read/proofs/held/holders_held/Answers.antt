@@ -3,6 +3,8 @@ use Rattle.capdl_text.specs.KindField.{off_in}
 use Rattle.capdl_text.specs.Unknown.{unknown_in}
 use Rattle.capdl_text.proofs.Noting.{noted_each}
 use Rattle.capdl_read.specs.Building.{slot_said}
+use Rattle.capdl_text.specs.declared.tree.Holder.{Holder}
+use Rattle.capdl_read.proofs.Repeating.{names_more}
 use Rattle.capdl_read.proofs.Tables.{slots_put}
 use Rattle.spread_names.specs.Naming.{spread_found}
 use Rattle.capdl_read.proofs.held.holders_held.Goals as goal
@@ -13,6 +15,10 @@ loop-holder-preserved c = record {
   kind = noted_each (off_in c.args.arch (spread_found c.args.known.now)) _ _ c.args.holders.now c.loop-holder.holder-index c.holder-item.result (omega arith) c.holder-item.is c.in_ok-slots.ensures.kind ∙ c.loop-holder.invariant.kind;
   said = λ n.
       slots_put (slot_said (spread_found c.args.known.now)) _ (spread_found c.loop-holder.table n) _ c.args.holders.now c.loop-holder.holder-index c.holder-item.result n (omega arith) c.holder-item.is c.in_ok-slots.ensures.held
-      (rw c.as_bytes.ensures.bytes at c.in_ok-add.ensures.found n)
+      (c.in_ok-meet_name.ensures.met n)
       ∙ c.loop-holder.invariant.said n;
+  twice =
+      names_more (λ (h : Holder). h.id) _ _ (spread_found c.meet_name.new.met) (spread_found c.loop-holder.table) _ c.args.holders.now c.loop-holder.holder-index c.holder-item.result (omega arith) c.holder-item.is
+      c.in_ok-meet_name.ensures.first c.in_ok-meet_name.ensures.met
+      ∙ c.loop-holder.invariant.twice;
 }
