@@ -11,17 +11,13 @@ use crate::target::Target;
 use adl_program::Part;
 use cam_base::{Name, NoMemory, Path};
 use std::alloc::Global;
+use std::slice;
 
 /// The path behind a name.
 fn behind(alloc: Global, name: &Name, path: &[Name]) -> Result<Path, NoMemory>
     ensures { IfOk result (λ p. p ≡ name.now ∷ path.now) }
 {
-    let mut behind = Path::empty(alloc);
-    behind.push(name.copy(alloc)?)?;
-    for inner in path {
-        behind.push(inner.copy(alloc)?)?;
-    }
-    Ok(behind)
+    Path::of(alloc, slice::from_ref(name), path)
 }
 
 /// The path of the outermost group above what stands in an instance, from that inside its component.
@@ -55,23 +51,6 @@ pub fn own_leaf<'a>(alloc: Global, part: &Part<'a>) -> Result<PlacedLeaf<'a>, No
     })
 }
 
-/// A leaf inside an instance.
-fn moved_leaf<'a>(
-    alloc: Global,
-    part: &Part<'_>,
-    leaf: &PlacedLeaf<'a>,
-) -> Result<PlacedLeaf<'a>, NoMemory>
-    ensures { IfOk result (λ l. l ≡ moved_leaf part.now leaf.now) }
-{
-    Ok(PlacedLeaf {
-        path: behind(alloc, &part.instance.id.name, leaf.path.names())?,
-        instance: leaf.instance,
-        group: leaf.group,
-        kind: leaf.kind,
-        home: home_behind(alloc, part, &leaf.home)?,
-    })
-}
-
 /// Adds the leaves inside an instance.
 pub fn place_leaves<'a>(
     alloc: Global,
@@ -82,36 +61,15 @@ pub fn place_leaves<'a>(
     ensures { OnOk result (leaves.new.items ≡ leaves.old.items ++ map (moved_leaf part.now) inner.now) }
 {
     for leaf in inner {
-        leaves.push(moved_leaf(alloc, part, leaf)?)?;
-    }
-    Ok(())
-}
-
-/// A connection inside an instance of the name, with so many leaves before the instance.
-fn moved_connection<'a>(
-    alloc: Global,
-    name: &Name,
-    before: u32,
-    connection: &PlacedConnection<'a>,
-) -> Result<PlacedConnection<'a>, NoMemory>
-    requires { All (λ e. before + e.leaf < 2 ^ 32) connection.now.ends }
-    ensures { IfOk result (λ c. c ≡ moved_connection name.now before connection.now) }
-{
-    let mut ends = Vec::new(alloc);
-    for end in connection.ends.as_slice() {
-        ends.push(PlacedEnd {
-            end: end.end,
-            leaf: before + end.leaf,
-            member: end.member,
-            once: end.once,
+        leaves.push(PlacedLeaf {
+            path: behind(alloc, &part.instance.id.name, leaf.path.names())?,
+            instance: leaf.instance,
+            group: leaf.group,
+            kind: leaf.kind,
+            home: home_behind(alloc, part, &leaf.home)?,
         })?;
     }
-    Ok(PlacedConnection {
-        path: behind(alloc, name, connection.path.names())?,
-        connector: connection.connector,
-        connection: connection.connection,
-        ends,
-    })
+    Ok(())
 }
 
 /// Adds the connections inside an instance, with so many leaves before the instance.
@@ -126,9 +84,22 @@ pub fn place_connections<'a>(
     ensures { OnOk result (connections.new.items ≡ connections.old.items
         ++ map (moved_connection (name_of part.now) before) inner.now) }
 {
-    let name = &part.instance.id.name;
     for connection in inner {
-        connections.push(moved_connection(alloc, name, before, connection)?)?;
+        let mut ends = Vec::with_capacity(alloc, connection.ends.len())?;
+        for end in connection.ends.as_slice() {
+            ends.push(PlacedEnd {
+                end: end.end,
+                leaf: before + end.leaf,
+                member: end.member,
+                once: end.once,
+            })?;
+        }
+        connections.push(PlacedConnection {
+            path: behind(alloc, &part.instance.id.name, connection.path.names())?,
+            connector: connection.connector,
+            connection: connection.connection,
+            ends,
+        })?;
     }
     Ok(())
 }

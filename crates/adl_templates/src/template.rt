@@ -178,6 +178,7 @@ fn target(
 }
 
 /// The instance and the interface of a dotted name: its last two words.
+#[tactic(auto, using(adl_program::proofs::Ports::port_none, adl_program::proofs::Ports::port_at))]
 fn port_in(words: &[Id]) -> Option<(&Name, &Name)>
     ensures { option_map (λ p. (p.0.now, p.1.now)) result ≡ port_in words.now }
 {
@@ -199,10 +200,8 @@ fn target_of(
     requires before { AreBefore program.now number before.now }
     ensures { result ≡ target_of program.now number words.now }
 {
-    match port_in(words) {
-        None => None,
-        Some((part, interface)) => target(program, all, before, number, part, interface),
-    }
+    let (part, interface) = port_in(words)?;
+    target(program, all, before, number, part, interface)
 }
 
 /// Where the exports of the body of the number lead.
@@ -288,6 +287,7 @@ fn place_inner<'a>(
 }
 
 /// The template of the body of the number.
+#[tactic(auto, using(crate::proofs::Placing::connections_placed))]
 fn template_of<'a>(
     alloc: Global,
     program: &Program<'a>,
