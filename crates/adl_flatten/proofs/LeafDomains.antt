@@ -3,15 +3,7 @@ use Rattle.std.proofs.Common.{◌≡◌, ◌<◌, ◌+◌, ℕ, suc, zero, Bool,
 use Rattle.std.specs.List.{filter, enumerate_from}
 use Rattle.std.proofs.lemmas.List.{get_or_default}
 use Rattle.cam_base.proofs.Lists.{drop_first}
-use Rattle.adl_meaning.specs.Paths.{Path}
-use Rattle.adl_flatten.specs.Homes.{present, is_number}
-
-present-first : (x : Option Path) (xs : List (Option Path)) → present (x ∷ xs) ≡ present (x ∷ []) ++ present xs
-present-first None xs = refl
-present-first (Some p) xs = refl
-
-pub present_more : (xs : List (Option Path)) (i : ℕ) (x : Option Path) → i < length xs → x ≡ get_or xs i x → present (x ∷ []) ++ present (drop (i + 1) xs) ≡ present (drop i xs)
-present_more xs i x l e = sym (present-first x (drop (i + 1) xs)) ∙ ap present (sym (drop_first xs i x l e))
+use Rattle.adl_flatten.specs.Homes.{is_number}
 
 -- the places, counted from a, of those that are the number
 abbrev pub numbered_from : ℕ → ℕ → List (Option ℕ) → List ℕ

@@ -1,15 +1,11 @@
--- What tables of paths find.
-use Rattle.std.proofs.Common.{◌≡◌, ◌∙◌, ◌+◌, ℕ, zero, suc, Bool, cond, true, false, ◌||◌, append_assoc, unwrap_or, refl, sym, ap, List, [], ◌∷◌, ◌++◌, length, Option, Some, None, is_some, arith}
-use Rattle.std.specs.List.{position_from}
-use Rattle.std.specs.Option.{option_or}
-use Rattle.cam_base.proofs.Options.{option_or-none, option_or-there}
-use Rattle.cam_base.proofs.Lists.{position_from-snoc}
+-- Paths that were met.
+use Rattle.std.proofs.Common.{◌≡◌, ◌∙◌, ◌+◌, ℕ, zero, suc, Bool, cond, true, false, not, ◌||◌, append_assoc, refl, sym, ap, List, [], ◌∷◌, ◌++◌, Option, Some, arith}
+use Rattle.std.specs.List.{list_any, position_or_len}
+use Rattle.indexmap.specs.IndexSet.{insert_key}
 use Rattle.adl_meaning.specs.Lists.{place_by, firsts_after}
 use Rattle.adl_meaning.specs.Paths.{Path, same_path}
-use Rattle.name_tables.proofs.NameLookups.{or_some}
-use Rattle.adl_flatten.specs.PathNumbers.{number_of, ArePlaces, is_met}
+use Rattle.adl_flatten.specs.Homes.{all_met, home_number, is_met, present}
 use Rattle.adl_hierarchy.proofs.DomainNames.{same_path-Decides}
-use Rattle.adl_meaning.proofs.SamePaths.{same_path-true}
 
 pub same_path-refl : (p : Path) → same_path p p ≡ true
 same_path-refl p = (same_path-Decides p p).1 refl
@@ -23,60 +19,7 @@ same_path-sym p q = by_tests (same_path p q) (same_path q p) refl refl
     by_tests false true e d = sym e ∙ (same_path-Decides p q).1 (sym ((same_path-Decides q p).0 d))
     by_tests false false e d = refl
 
--- what is found after a path was put in that wasn't there
-pub number_put : (old new : List (Path × ℕ)) (key : Path) (n : ℕ) → is_some (number_of old key) ≡ false → ((p : Path) → number_of new p ≡ cond (same_path key p) (Some n) (number_of old p))
-    → (p : Path) → number_of new p ≡ option_or (number_of old p) (cond (same_path p key) (Some n) None)
-number_put old new key n absent put p = put p ∙ ap (λ b. cond b (Some n) (number_of old p)) (same_path-sym key p) ∙ by_test (same_path p key) refl
-  where
-    by_test : (b : Bool) → same_path p key ≡ b → cond b (Some n) (number_of old p) ≡ option_or (number_of old p) (cond b (Some n) None)
-    by_test true e = or_some (number_of old p) n (ap (λ z. is_some (number_of old z)) (same_path-true p key e) ∙ absent)
-    by_test false e = option_or-none (number_of old p)
-
--- what is found where the path was there
-pub number_kept : (old : List (Path × ℕ)) (key : Path) (n : ℕ) → is_some (number_of old key) ≡ true → (p : Path) → number_of old p ≡ option_or (number_of old p) (cond (same_path p key) (Some n) None)
-number_kept old key n there p = by_test (same_path p key) refl
-  where
-    by_test : (b : Bool) → same_path p key ≡ b → number_of old p ≡ option_or (number_of old p) (cond b (Some n) None)
-    by_test true e = option_or-there (number_of old p) (Some n) (ap (λ z. is_some (number_of old z)) (same_path-true p key e) ∙ there)
-    by_test false e = option_or-none (number_of old p)
-
--- ---- places
-
--- the table after one more path
-pub places_more : (old new : List (Path × ℕ)) (paths : List Path) (key : Path) (n : ℕ) → n ≡ length paths → ArePlaces old paths
-    → ((p : Path) → number_of new p ≡ option_or (number_of old p) (cond (same_path p key) (Some n) None)) → ArePlaces new (paths ++ key ∷ [])
-places_more old new paths key n e places put p =
-    let k : n ≡ 0 + length paths = omega arith in
-    put p ∙ ap (λ o. option_or o (cond (same_path p key) (Some n) None)) (places p) ∙ ap (λ k. option_or (position_from (same_path p) 0 paths) (cond (same_path p key) (Some k) None)) k
-    ∙ sym (position_from-snoc (same_path p) 0 paths key)
-
-place_from : {X : Type 0} (is : X → Bool) (a : ℕ) (xs : List X) → unwrap_or (position_from is a xs) (a + length xs) ≡ a + place_by is xs
-place_from is a [] = refl
-place_from is a (x ∷ xs) = by_test (is x) (place_from is (a + 1) xs)
-  where
-    by_test : (b : Bool) → unwrap_or (position_from is (a + 1) xs) ((a + 1) + length xs) ≡ (a + 1) + place_by is xs → unwrap_or (cond b (Some a) (position_from is (a + 1) xs)) (a + suc (length xs)) ≡ a + cond b zero (suc (place_by is xs))
-    by_test true ih = omega arith
-    by_test false ih =
-        let e : a + suc (length xs) ≡ (a + 1) + length xs = omega arith in
-        let f : (a + 1) + place_by is xs ≡ a + suc (place_by is xs) = omega arith in
-        ap (λ n. unwrap_or (position_from is (a + 1) xs) n) e ∙ ih ∙ f
-
--- a place in a list, from a number that may be none
-pub place_of : {X : Type 0} (is : X → Bool) (xs : List X) (o : Option ℕ) (n : ℕ) → o ≡ position_from is 0 xs → n ≡ length xs → unwrap_or o n ≡ place_by is xs
-place_of is xs o n e l =
-    let z : n ≡ 0 + length xs = omega arith in
-    let y : 0 + place_by is xs ≡ place_by is xs = omega arith in
-    ap (λ p. unwrap_or p n) e ∙ ap (λ m. unwrap_or (position_from is 0 xs) m) z ∙ place_from is 0 xs ∙ y
-
 -- ---- those that were met
-
-pub met-position : (p : Path) (a : ℕ) (xs : List Path) → is_some (position_from (same_path p) a xs) ≡ is_met xs p
-met-position p a [] = refl
-met-position p a (x ∷ xs) = by_test (same_path p x) (met-position p (a + 1) xs)
-  where
-    by_test : (b : Bool) → is_some (position_from (same_path p) (a + 1) xs) ≡ is_met xs p → is_some (cond b (Some a) (position_from (same_path p) (a + 1) xs)) ≡ (b || is_met xs p)
-    by_test true ih = refl
-    by_test false ih = ih
 
 met-snoc : (xs : List Path) (x y : Path) → is_met (xs ++ x ∷ []) y ≡ (is_met xs y || same_path y x)
 met-snoc [] x y = or-false (same_path y x)
@@ -91,7 +34,7 @@ met-snoc (z ∷ xs) x y = ap (λ b. same_path y z || b) (met-snoc xs x y) ∙ or
     or-assoc false b c = refl
 
 -- a path that is new
-pub firsts_new : (xs ps : List Path) (x : Path) → is_met xs x ≡ false → (xs ++ x ∷ []) ++ firsts_after same_path (is_met (xs ++ x ∷ [])) ps ≡ xs ++ firsts_after same_path (is_met xs) (x ∷ ps)
+firsts_new : (xs ps : List Path) (x : Path) → is_met xs x ≡ false → (xs ++ x ∷ []) ++ firsts_after same_path (is_met (xs ++ x ∷ [])) ps ≡ xs ++ firsts_after same_path (is_met xs) (x ∷ ps)
 firsts_new xs ps x e =
     let more : is_met (xs ++ x ∷ []) ≡ (λ y. is_met xs y || same_path y x) = λ i y. met-snoc xs x y i in
     append_assoc xs (x ∷ []) (firsts_after same_path (is_met (xs ++ x ∷ [])) ps)
@@ -99,5 +42,36 @@ firsts_new xs ps x e =
     ∙ ap (λ b. xs ++ cond b (firsts_after same_path (is_met xs) ps) (x ∷ firsts_after same_path (λ y. is_met xs y || same_path y x) ps)) (sym e)
 
 -- a path that was met
-pub firsts_met : (xs ps : List Path) (x : Path) → is_met xs x ≡ true → xs ++ firsts_after same_path (is_met xs) ps ≡ xs ++ firsts_after same_path (is_met xs) (x ∷ ps)
+firsts_met : (xs ps : List Path) (x : Path) → is_met xs x ≡ true → xs ++ firsts_after same_path (is_met xs) ps ≡ xs ++ firsts_after same_path (is_met xs) (x ∷ ps)
 firsts_met xs ps x e = ap (λ b. xs ++ cond b (firsts_after same_path (is_met xs) ps) (x ∷ firsts_after same_path (λ y. is_met xs y || same_path y x) ps)) (sym e)
+
+firsts_insert : (xs ps : List Path) (x : Path) → insert_key same_path xs x ++ firsts_after same_path (is_met (insert_key same_path xs x)) ps ≡ xs ++ firsts_after same_path (is_met xs) (x ∷ ps)
+firsts_insert xs ps x = by_test (is_met xs x) refl
+  where
+    by_test : (b : Bool) → is_met xs x ≡ b → cond b xs (xs ++ x ∷ []) ++ firsts_after same_path (is_met (cond b xs (xs ++ x ∷ []))) ps ≡ xs ++ firsts_after same_path (is_met xs) (x ∷ ps)
+    by_test true e = firsts_met xs ps x e
+    by_test false e = firsts_new xs ps x e
+
+-- the place that a set says is that of the path, whatever is met later
+place_insert : {X : Type 0} (is : X → Bool) (x : X) → is x ≡ true → (xs ps : List X) → position_or_len is xs ≡ place_by is (cond (list_any is xs) xs (xs ++ x ∷ []) ++ ps)
+place_insert is x e [] ps = sym (ap (λ b. cond b zero (suc (place_by is ps))) e)
+place_insert {X} is x e (y ∷ ys) ps = by_tests (is y) (list_any is ys) refl (place_insert is x e ys ps)
+  where
+    behind : (b : Bool) (zs : List X) → is y ≡ b → cond b zero (suc (place_by is zs)) ≡ place_by is (y ∷ zs)
+    behind b zs t = sym (ap (λ b. cond b zero (suc (place_by is zs))) t)
+
+    by_tests : (b c : Bool) → is y ≡ b → position_or_len is ys ≡ place_by is (cond c ys (ys ++ x ∷ []) ++ ps)
+        → cond (not b) (1 + position_or_len is ys) 0 ≡ place_by is (cond (b || c) (y ∷ ys) (y ∷ (ys ++ x ∷ [])) ++ ps)
+    by_tests true c t ih = behind true (ys ++ ps) t
+    by_tests false true t ih = let n : 1 + position_or_len is ys ≡ suc (place_by is (ys ++ ps)) = omega arith in n ∙ behind false (ys ++ ps) t
+    by_tests false false t ih = let n : 1 + position_or_len is ys ≡ suc (place_by is ((ys ++ x ∷ []) ++ ps)) = omega arith in n ∙ behind false ((ys ++ x ∷ []) ++ ps) t
+
+-- the paths after one more leaf
+pub met_more : (old new : List Path) (x : Path) (more : List (Option Path)) → new ≡ insert_key same_path old x → all_met new more ≡ all_met old (Some x ∷ more)
+met_more old new x more e = ap (λ ps. all_met ps more) e ∙ firsts_insert old (present more) x
+
+pub met_place : (old new : List Path) (x : Path) (more : List (Option Path)) (n : ℕ) → new ≡ insert_key same_path old x → n ≡ position_or_len (same_path x) old
+    → home_number (all_met new more) (Some x) ≡ Some n
+met_place old new x more n e p =
+    ap (λ ps. home_number (all_met ps more) (Some x)) e
+    ∙ ap Some (sym (p ∙ place_insert (same_path x) x (same_path-refl x) old (firsts_after same_path (is_met (insert_key same_path old x)) (present more))))

@@ -1,12 +1,12 @@
 -- The template of the assembly is the flat system.
 use Rattle.std.proofs.Common.{◌≡◌, ◌+◌, ℕ, not, ◌&&◌, List, [], ◌∷◌, ◌++◌, map, Option, Some, None, option_map, refl, sym, ◌∙◌, ap, length, ◌<◌, ◌≤◌, ◌^◌, get_or, drop, arith}
 use Rattle.std.proofs.lemmas.List.{length-map}
+use Rattle.std.proofs.lemmas.List.Folds.{list_all-map}
 use Rattle.std.specs.List.{flat_map, filter_map, cons_option, enumerate_from}
 use Rattle.cam_base.specs.declared.place.Fault.{Fault}
 use Rattle.cam_base.specs.declared.code.Code.TheVariants as code
 use Rattle.cam_base.proofs.Lists.{drop_first}
 use Rattle.adl_ast.specs.declared.composition.End.{End}
-use Rattle.adl_meaning.specs.declared.flat.FlatEnd.{FlatEnd}
 use Rattle.adl_meaning.specs.Faults.{at_word, where_true, noted}
 use Rattle.adl_meaning.proofs.Least.{noted-append}
 use Rattle.adl_meaning.specs.Flat.{flattened, flat_end, flat_ends, flat_connection}
@@ -14,7 +14,7 @@ use Rattle.adl_meaning.specs.Hierarchy.{Hierarchy, top_number}
 use Rattle.adl_meaning.specs.JoinedEnds.{JoinedEnd, joined_end, joined_ends_of, joined_ends}
 use Rattle.adl_meaning.specs.Joins.{Reached, Strung, joined_by, connections}
 use Rattle.adl_meaning.specs.Paths.{Placed, leaves}
-use Rattle.adl_meaning.specs.Placement.{is_direct, in_one_domain, misplaced_device, parted_call}
+use Rattle.adl_meaning.specs.Placement.{is_direct, domain_at, same_domain, in_one_domain, misplaced_device, parted_call}
 use Rattle.adl_meaning.specs.Unconnected.{unjoined_at}
 use Rattle.adl_templates.specs.Templates.{Homed, homed, template_leaves, Joined, Connected, end_in, ends_in, connection_in, template_connections}
 use Rattle.adl_flatten.specs.Ends.{flat_end_of, flat_connection_of, joined_end_of, joined_of, all_joined}
@@ -83,15 +83,15 @@ unjoined_are h all = numbered_map (unjoined_leaf h all) (unjoined_at h all) (hom
 pub devices_are : (h : Hierarchy) → flat_map (misplaced_leaf h) (template_leaves h (top_number h)) ≡ flat_map (misplaced_device h) (leaves h)
 devices_are h = each_map (misplaced_leaf h) (misplaced_device h) (homed h (top_number h)) (λ x. refl) (leaves h)
 
-one_domain : (h : Hierarchy) (es : List FlatEnd) → in_one (flattened h).leaves es ≡ in_one_domain (flattened h) es
+one_domain : (h : Hierarchy) (es : List Joined) → in_one (flattened h).leaves es ≡ in_one_domain (flattened h) (map flat_end_of es)
 one_domain h [] = refl
-one_domain h (e ∷ es) = refl
+one_domain h (e ∷ es) = sym (list_all-map (λ f. same_domain (domain_at (flattened h) f) (domain_at (flattened h) (flat_end_of e))) flat_end_of (e ∷ es))
 
 pub calls_are : (h : Hierarchy) → flat_map (misplaced_call (flattened h).leaves) (template_connections h (top_number h)) ≡ flat_map (parted_call h (flattened h)) (connections h)
 calls_are h = each_map (misplaced_call (flattened h).leaves) (parted_call h (flattened h)) (connection_in h (top_number h)) same (connections h)
   where
     same : (x : Strung) → misplaced_call (flattened h).leaves (connection_in h (top_number h) x) ≡ parted_call h (flattened h) x
-    same x = ap (λ b. where_true (is_direct x.wire.0 && not b) (at_word code.Placement x.wire.1.id)) (ap (in_one (flattened h).leaves) (flat_ends_are h x) ∙ one_domain h (flat_ends h x))
+    same x = ap (λ b. where_true (is_direct x.wire.0 && not b) (at_word code.Placement x.wire.1.id)) (one_domain h (ends_in h (top_number h) x) ∙ ap (in_one_domain (flattened h)) (flat_ends_are h x))
 
 -- ---- noting with numbers
 

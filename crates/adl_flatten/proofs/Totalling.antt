@@ -1,12 +1,11 @@
 -- Totals of lists that are put together.
-use Rattle.std.proofs.Common.{◌≡◌, ◌<◌, ◌+◌, ◌-◌, ◌^◌, ℕ, zero, suc, List, length, get_or, take, [], ◌∷◌, ◌++◌, map, refl, sym, ◌∙◌, ap, arith, length-append, min, max, inl, inr, false, cond}
+use Rattle.std.proofs.Common.{◌≡◌, ◌<◌, ◌+◌, ◌-◌, ◌^◌, ℕ, suc, List, length, get_or, take, [], ◌∷◌, ◌++◌, map, refl, sym, ◌∙◌, ap, arith, length-append, min, max, false, cond}
 use Rattle.std.specs.List.{flat_map}
 use Rattle.std.proofs.lemmas.List.{length-map, take_more, append-nil}
 use Rattle.std.proofs.lemmas.List.Concat.{flat_map-append}
 use Rattle.adl_meaning.specs.Hierarchy.{Hierarchy, Wire, Part, is_composite}
 use Rattle.adl_meaning.specs.Joins.{Strung, strung, further}
 use Rattle.adl_meaning.specs.Paths.{Path, Placed, outside, placed_by, name_of}
-use Rattle.numbering.specs.Gather.{IsIn}
 use Rattle.adl_meaning.specs.SizeFaults.{longest}
 use Rattle.adl_flatten.specs.TotalsOf.{saturated, ends_of, totals_of}
 use Rattle.adl_flatten.specs.declared.sums.Totals.{Totals}
@@ -60,10 +59,10 @@ ends-strung k (w ∷ ws) = ap (λ z. w.1.ends ++ z) (ends-strung k ws)
 
 -- ---- totals
 
-pub totals-append : (a b : Totals) (l d c e : ℕ) (ps qs : List Placed) (ks ls : List Strung) → a ≡ totals_of ps ks → b ≡ totals_of qs ls
+pub totals_append : (a b : Totals) (l d c e : ℕ) (ps qs : List Placed) (ks ls : List Strung) → a ≡ totals_of ps ks → b ≡ totals_of qs ls
     → l ≡ min (a.leaves + b.leaves) (2 ^ 64 - 1) → d ≡ max a.depth b.depth → c ≡ min (a.connections + b.connections) (2 ^ 64 - 1) → e ≡ min (a.ends + b.ends) (2 ^ 64 - 1)
     → (let t : Totals = record { leaves = l; depth = d; connections = c; ends = e } in t ≡ totals_of (ps ++ qs) (ks ++ ls))
-totals-append a b l d c e ps qs ks ls p q el ed ec ee =
+totals_append a b l d c e ps qs ks ls p q el ed ec ee =
     let both : (f : Totals → ℕ) (m : ℕ) → m ≡ min (f a + f b) (2 ^ 64 - 1) → m ≡ min (f (totals_of ps ks) + f (totals_of qs ls)) (2 ^ 64 - 1) =
     λ f m h. h ∙ ap (λ t. min (f t + f b) (2 ^ 64 - 1)) p ∙ ap (λ t. min (f (totals_of ps ks) + f t) (2 ^ 64 - 1)) q in
     let sl : l ≡ saturated (length (ps ++ qs)) = both (λ t. t.leaves) l el ∙ saturated-add (length ps) (length qs) ∙ ap (λ n. saturated n) (sym (length-append ps qs)) in
@@ -82,9 +81,9 @@ totals-further n ps ks = λ i. record {
   ends = saturated (length (sym (ends-further n ks) i));
 }
 
-pub totals-outside : (t : Totals) (d : ℕ) (n : List ℕ) (ps : List Placed) (ks : List Strung) → t ≡ totals_of ps ks → (t.leaves ≡ 0 → ⊥) → d ≡ min (t.depth + 1) (2 ^ 64 - 1)
+pub totals_outside : (t : Totals) (d : ℕ) (n : List ℕ) (ps : List Placed) (ks : List Strung) → t ≡ totals_of ps ks → (t.leaves ≡ 0 → ⊥) → d ≡ min (t.depth + 1) (2 ^ 64 - 1)
     → (let r : Totals = record { leaves = t.leaves; depth = d; connections = t.connections; ends = t.ends } in r ≡ totals_of (map (outside n) ps) (map (further n) ks))
-totals-outside t d n ps ks p some e =
+totals_outside t d n ps ks p some e =
     let c : t.leaves ≡ saturated (length ps) = ap (λ (t : Totals). t.leaves) p in
     let l : 0 < length ps = omega arith in
     let sl : t.leaves ≡ saturated (length (map (outside n) ps)) = c ∙ ap (λ n. saturated n) (sym (length-map ps (outside n))) in
@@ -92,19 +91,13 @@ totals-outside t d n ps ks p some e =
     let sc : t ≡ totals_of ps (map (further n) ks) = p ∙ totals-further n ps ks in
     λ i. record { leaves = sl i; depth = sd i; connections = (sc i).connections; ends = (sc i).ends }
 
-pub totals-no_leaf : (t : Totals) (n : List ℕ) (ps : List Placed) (ks : List Strung) → t ≡ totals_of ps ks → t.leaves ≡ 0 → t ≡ totals_of (map (outside n) ps) (map (further n) ks)
-totals-no_leaf t n [] ks p z = p ∙ totals-further n [] ks
-totals-no_leaf t n (x ∷ ps) ks p z = let c : t.leaves ≡ saturated (suc (length ps)) = ap (λ (t : Totals). t.leaves) p in absurd (omega arith)
+pub totals_no_leaf : (t : Totals) (n : List ℕ) (ps : List Placed) (ks : List Strung) → t ≡ totals_of ps ks → t.leaves ≡ 0 → t ≡ totals_of (map (outside n) ps) (map (further n) ks)
+totals_no_leaf t n [] ks p z = p ∙ totals-further n [] ks
+totals_no_leaf t n (x ∷ ps) ks p z = let c : t.leaves ≡ saturated (suc (length ps)) = ap (λ (t : Totals). t.leaves) p in absurd (omega arith)
 
-pub totals-leaf : (t : Totals) (x : Placed) (ps : List Placed) (ks : List Strung) → length x.path ≡ 1 → t ≡ totals_of ps ks
-    → (let r : Totals = record { leaves = 1; depth = 1; connections = t.connections; ends = t.ends } in r ≡ totals_of (x ∷ []) ks)
-totals-leaf t x ps ks one p =
-    let d : 1 ≡ saturated (max (length x.path) 0) = omega arith in
-    λ i. record { leaves = 1; depth = d i; connections = (p i).connections; ends = (p i).ends }
-
-pub totals-own : (k n e : ℕ) (ws : List Wire) → n ≡ length ws → n < 2 ^ 64 → e ≡ saturated (length (flat_map (λ w. w.1.ends) ws))
+pub totals_own : (k n e : ℕ) (ws : List Wire) → n ≡ length ws → n < 2 ^ 64 → e ≡ saturated (length (flat_map (λ w. w.1.ends) ws))
     → (let t : Totals = record { leaves = 0; depth = 0; connections = n; ends = e } in t ≡ totals_of [] (map (strung k) ws))
-totals-own k n e ws nl few el =
+totals_own k n e ws nl few el =
     let c : n ≡ saturated (length (map (strung k) ws)) = let m = length-map ws (strung k) in omega arith in
     let s : e ≡ saturated (length (ends_of (map (strung k) ws))) = el ∙ ap (λ z. saturated (length z)) (ends-strung k ws) in
     λ i. record { leaves = 0; depth = 0; connections = c i; ends = s i }
@@ -117,11 +110,6 @@ flat_map-taken f xs i x l e =
     ap (λ z. flat_map f z) (take_more xs i x l ∙ ap (λ z. take i xs ++ z ∷ []) (sym e))
     ∙ flat_map-append f (take i xs) (x ∷ [])
     ∙ ap (λ z. flat_map f (take i xs) ++ z) (append-nil (f x))
-
-pub in_at : {X : Type 0} (xs : List X) (i : ℕ) (x : X) → i < length xs → x ≡ get_or xs i x → IsIn x xs
-in_at [] i x l e = absurd (omega arith)
-in_at (y ∷ xs) zero x l e = inl (sym e)
-in_at (y ∷ xs) (suc i) x l e = inr (in_at xs i x (omega arith) e)
 
 -- ---- an instance of a leaf
 

@@ -1,10 +1,10 @@
 -- The domain path of each leaf, and the leaves of each domain by number.
-use Rattle.std.specs.Prelude.{ℕ, ◌==◌, Bool, false, if◌then◌else◌, List, map, Option, None, Some, option_map, unwrap_or}
-use Rattle.std.specs.List.{filter, filter_map, enumerate_from}
+use Rattle.std.specs.Prelude.{ℕ, ◌==◌, Bool, false, if◌then◌else◌, List, ◌++◌, map, Option, None, Some, option_map, unwrap_or}
+use Rattle.std.specs.List.{filter, filter_map, list_any, enumerate_from}
 use Rattle.std.specs.Option.{option_map_or}
 use Rattle.adl_meaning.specs.Domains.{domain_of, is_hardware}
 use Rattle.adl_meaning.specs.Hierarchy.{Hierarchy}
-use Rattle.adl_meaning.specs.Lists.{place_by}
+use Rattle.adl_meaning.specs.Lists.{place_by, firsts_after}
 use Rattle.adl_meaning.specs.Paths.{Path, Placed, same_path}
 use Rattle.adl_templates.specs.Templates.{Homed}
 
@@ -23,6 +23,14 @@ placed l = l.leaf
 -- the paths that are there
 abbrev pub present : List (Option Path) → List Path
 present homes = filter_map (λ o. o) homes
+
+-- whether the path is in the list
+abbrev pub is_met : List Path → Path → Bool
+is_met paths p = list_any (same_path p) paths
+
+-- the paths, and those of more homes that are not among them
+abbrev pub all_met : List Path → List (Option Path) → List Path
+all_met paths homes = paths ++ firsts_after same_path (is_met paths) (present homes)
 
 -- the place of a domain path among others
 abbrev pub home_number : List Path → Option Path → Option ℕ

@@ -1,7 +1,6 @@
 pub mod EndCounts
 pub mod Ends
 pub mod Homes
-pub mod PathNumbers
 pub mod TemplateFaults
 pub mod TotalsOf
 pub mod Wanted

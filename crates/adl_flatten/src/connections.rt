@@ -6,9 +6,10 @@ ghost use Rattle.std.specs.Prelude.{◌≡◌, ◌<◌, ◌^◌, map, length, If
 use adl_items::last_name;
 use adl_meaning::{FlatConnection, FlatEnd};
 use adl_templates::{PlacedConnection, PlacedEnd};
-use cam_base::{List, NoMemory};
+use cam_base::{List, NoMemory, Path};
 use std::alloc::Global;
 use std::marker::Model;
+use std::slice;
 
 /// An end that joins an interface of a leaf. Contracts see it as the definitions do.
 #[derive(Drop)]
@@ -48,8 +49,7 @@ fn flat_connection(
     ensures { IfOk result (λ k. k ≡ flat_connection_of connection.now) }
 {
     let id = &connection.connection.id;
-    let mut path = connection.path.copy(alloc)?;
-    path.push(id.name.copy(alloc)?)?;
+    let path = Path::of(alloc, connection.path.names(), slice::from_ref(&id.name))?;
     let mut ends = List::new(alloc);
     for end in connection.ends.as_slice() {
         ends.push(flat_end(end))?;
@@ -69,11 +69,11 @@ pub fn flat_connections(
 ) -> Result<List<FlatConnection>, NoMemory>
     ensures { IfOk result (λ ks. ks ≡ map flat_connection_of connections.now) }
 {
-    let mut flat = List::new(alloc);
+    let mut flat = Vec::with_capacity(alloc, connections.len())?;
     for connection in connections {
         flat.push(flat_connection(alloc, connection)?)?;
     }
-    Ok(flat)
+    Ok(List::from_vec(flat))
 }
 
 /// The ends of all connections, each with the number of its connection.

@@ -1,137 +1,75 @@
 //! The domains of leaves.
 
-ghost use Rattle.adl_flatten.specs.Homes.{home_in, present, home_number, is_number, numbered};
-ghost use Rattle.adl_flatten.specs.PathNumbers.{ArePlaces, is_met};
-ghost use Rattle.adl_meaning.specs.Lists.{firsts, firsts_after};
-ghost use Rattle.adl_meaning.specs.Paths.{Path as PathOf, same_path};
-ghost use Rattle.std.specs.Prelude.{◌≡◌, ◌<◌, ◌≤◌, ◌+◌, ◌^◌, ◌∷◌, ◌++◌, [], ℕ, List as Seq, map, length, slice_index_or, if◌then◌else◌, IfOk, OnOk};
+ghost use Rattle.adl_flatten.specs.Homes.{home_in, home_number, all_met, is_number, numbered};
+ghost use Rattle.adl_meaning.specs.Paths.{Path as PathOf};
+ghost use Rattle.std.specs.Prelude.{◌≡◌, ◌<◌, ◌≤◌, ◌+◌, ◌^◌, ◌∷◌, ◌++◌, [], ℕ, List as Seq, Option as Maybe, map, length, slice_index_or, if◌then◌else◌, IfOk, OnOk};
 
-use crate::path_table::PathTable;
+use crate::path_key::PathKey;
 use adl_program::Program;
 use adl_templates::PlacedLeaf;
-use cam_base::{List, NoMemory, Path};
+use cam_base::{List, NoMemory};
+use indexmap::IndexSet;
 use std::alloc::Global;
 
 /// The path of a leaf's domain; a device has none.
-fn home(
-    alloc: Global,
-    program: &Program<'_>,
-    leaf: &PlacedLeaf<'_>,
-) -> Result<Option<Path>, NoMemory>
-    ensures { IfOk result (λ o. o ≡ home_in program.now leaf.now) }
+fn home<'a>(program: &Program<'_>, leaf: &'a PlacedLeaf<'_>) -> Option<PathKey<'a>>
+    ensures { result ≡ home_in program.now leaf.entry.now }
 {
     if program.body(leaf.kind).is_hardware() {
-        return Ok(None);
+        return None;
     }
     let path = leaf.home.as_ref().unwrap_or(&leaf.path);
-    Ok(Some(path.copy(alloc)?))
+    Some(PathKey {
+        names: path.names(),
+    })
 }
 
-/// The path of each leaf's domain.
-pub fn homes(
-    alloc: Global,
-    program: &Program<'_>,
-    leaves: &[PlacedLeaf<'_>],
-) -> Result<Vec<Option<Path>>, NoMemory>
-    ensures { IfOk result (λ v. v.items ≡ map (home_in program.now) leaves.now) }
-{
-    let mut homes = Vec::new(alloc);
-    for leaf in leaves {
-        homes.push(home(alloc, program, leaf)?)?;
-    }
-    Ok(homes)
-}
-
-/// The paths of domains in order, and their numbers.
+/// The domains in the order of their first leaves, and the number of each leaf's domain; a device has none.
 #[derive(Drop)]
-pub struct DomainPaths {
-    pub paths: Vec<Path>,
-    pub numbers: PathTable,
+pub struct Homes<'a> {
+    pub paths: IndexSet<PathKey<'a>>,
+    pub numbers: Vec<Option<u32>>,
 }
 
-fn add_path(alloc: Global, path: &Path, found: &mut DomainPaths) -> Result<(), NoMemory>
-    requires few { length found.old.paths.items < 2 ^ 32 }
-    requires places { ArePlaces found.old.numbers found.old.paths.items }
-    ensures places { OnOk result (ArePlaces found.new.numbers found.new.paths.items) }
-    ensures paths { OnOk result ((ps : Seq PathOf) → found.new.paths.items
-        ++ firsts_after same_path (is_met found.new.paths.items) ps
-        ≡ found.old.paths.items ++ firsts_after same_path (is_met found.old.paths.items) (path.now ∷ ps)) }
-    ensures more { OnOk result (length found.new.paths.items ≤ length found.old.paths.items + 1) }
-{
-    if found.numbers.number(path.copy(alloc)?).is_none() {
-        let number = found.paths.len() as u32;
-        found.numbers.add(path.copy(alloc)?, number)?;
-        found.paths.push(path.copy(alloc)?)?;
-    }
-    Ok(())
-}
-
-fn add_home(alloc: Global, home: &Option<Path>, found: &mut DomainPaths) -> Result<(), NoMemory>
-    requires few { length found.old.paths.items < 2 ^ 32 }
-    requires places { ArePlaces found.old.numbers found.old.paths.items }
-    ensures places { OnOk result (ArePlaces found.new.numbers found.new.paths.items) }
-    ensures paths { OnOk result ((ps : Seq PathOf) → found.new.paths.items
-        ++ firsts_after same_path (is_met found.new.paths.items) ps
-        ≡ found.old.paths.items ++ firsts_after same_path (is_met found.old.paths.items) (present (home.now ∷ []) ++ ps)) }
-    ensures more { OnOk result (length found.new.paths.items ≤ length found.old.paths.items + 1) }
-{
-    match home {
-        None => Ok(()),
-        Some(path) => add_path(alloc, path, found),
-    }
-}
-
-/// The domains in the order of their first leaves.
-pub fn domain_paths(alloc: Global, homes: &[Option<Path>]) -> Result<DomainPaths, NoMemory>
-    requires { length homes.now < 2 ^ 32 }
-    ensures paths { IfOk result (λ f. f.paths.items ≡ firsts same_path (present homes.now)) }
-    ensures places { IfOk result (λ f. ArePlaces f.numbers f.paths.items) }
-    ensures few { IfOk result (λ f. length f.paths.items < 2 ^ 32) }
-{
-    let mut found = DomainPaths {
-        paths: Vec::new(alloc),
-        numbers: PathTable::new(alloc),
-    };
-    for home in homes {
-        add_home(alloc, home, &mut found)?;
-    }
-    Ok(found)
-}
-
-fn home_number(
-    alloc: Global,
-    found: &DomainPaths,
-    home: &Option<Path>,
-) -> Result<Option<u32>, NoMemory>
-    requires places { ArePlaces found.now.numbers found.now.paths.items }
-    requires few { length found.now.paths.items < 2 ^ 32 }
-    ensures { IfOk result (λ n. n ≡ home_number found.now.paths.items home.now) }
-{
-    match home {
-        None => Ok(None),
-        Some(path) => {
-            let none = found.paths.len() as u32;
-            let number = found.numbers.number(path.copy(alloc)?);
-            Ok(Some(number.unwrap_or(none)))
+impl<'a> Homes<'a> {
+    /// Adds a leaf by the path of its domain.
+    #[tactic(auto, using(crate::proofs::PathLookups::met_more, crate::proofs::PathLookups::met_place))]
+    fn add(&mut self, home: Option<PathKey<'a>>) -> Result<(), NoMemory>
+        requires { length self.old.paths.keys < 2 ^ 32 }
+        ensures paths { OnOk result ((more : Seq (Maybe PathOf)) → all_met self.new.paths.keys more ≡ all_met self.old.paths.keys (home.entry ∷ more)) }
+        ensures numbers { OnOk result ((more : Seq (Maybe PathOf)) → self.new.numbers.items
+            ≡ self.old.numbers.items ++ home_number (all_met self.new.paths.keys more) home.entry ∷ []) }
+        ensures count { OnOk result (length self.new.paths.keys ≤ length self.old.paths.keys + 1) }
+    {
+        match home {
+            None => Ok(self.numbers.push(None)?),
+            Some(path) => {
+                let (number, _is_new) = self.paths.insert_full(path)?;
+                Ok(self.numbers.push(Some(number as u32))?)
+            }
         }
     }
 }
 
-/// The number of each leaf's domain; a device has none.
-pub fn home_numbers(
+/// The domains of leaves.
+pub fn homes_of<'a>(
     alloc: Global,
-    found: &DomainPaths,
-    homes: &[Option<Path>],
-) -> Result<Vec<Option<u32>>, NoMemory>
-    requires places { ArePlaces found.now.numbers found.now.paths.items }
-    requires few { length found.now.paths.items < 2 ^ 32 }
-    ensures { IfOk result (λ v. v.items ≡ map (home_number found.now.paths.items) homes.now) }
+    program: &Program<'_>,
+    leaves: &'a [PlacedLeaf<'_>],
+) -> Result<Homes<'a>, NoMemory>
+    requires { length leaves.now < 2 ^ 32 }
+    ensures paths { IfOk result (λ f. f.paths.keys ≡ all_met [] (map (home_in program.now) leaves.entry.now)) }
+    ensures numbers { IfOk result (λ f. f.numbers.items
+        ≡ map (home_number (all_met [] (map (home_in program.now) leaves.entry.now))) (map (home_in program.now) leaves.entry.now)) }
 {
-    let mut numbers = Vec::new(alloc);
-    for home in homes {
-        numbers.push(home_number(alloc, found, home)?)?;
+    let mut homes = Homes {
+        paths: IndexSet::new(alloc),
+        numbers: Vec::with_capacity(alloc, leaves.len())?,
+    };
+    for leaf in leaves {
+        homes.add(home(program, leaf))?;
     }
-    Ok(numbers)
+    Ok(homes)
 }
 
 /// No leaves for each of the domains.

@@ -43,6 +43,7 @@ impl EndCounts {
         self.counts.get(&key).copied().unwrap_or(0)
     }
 
+    #[tactic(auto, using(crate::proofs::EndLookups::count_put))]
     fn add_at(&mut self, key: EndKey) -> Result<(), NoMemory>
         requires { count_at self.old key + 1 < 2 ^ 64 }
         ensures { OnOk result ((k : EndKey) → count_at self.new k ≡ count_at self.old k + (if same_key key k then 1 else 0)) }
@@ -72,16 +73,6 @@ impl EndCounts {
     }
 }
 
-fn counts_of(alloc: Global, ends: &[JoinedEnd<'_>]) -> Result<EndCounts, NoMemory>
-    ensures { IfOk result (λ t. AreCounts t ends.now) }
-{
-    let mut counts = EndCounts::new(alloc);
-    for end in ends {
-        counts.add(end)?;
-    }
-    Ok(counts)
-}
-
 /// Ends, and how many of them join each interface. Contracts see it as the ends.
 #[derive(Drop)]
 pub struct CountedEnds<'t, 'a> {
@@ -107,7 +98,10 @@ impl<'t, 'a> CountedEnds<'t, 'a> {
     pub fn new(alloc: Global, ends: &'t [JoinedEnd<'a>]) -> Result<CountedEnds<'t, 'a>, NoMemory>
         ensures { IfOk result (λ t. t ≡ ends.entry.now) }
     {
-        let counts = counts_of(alloc, ends)?;
+        let mut counts = EndCounts::new(alloc);
+        for end in ends {
+            counts.add(end)?;
+        }
         Ok(CountedEnds { ends, counts })
     }
 

@@ -1,18 +1,17 @@
 //! The faults of joins.
 
 ghost use Rattle.adl_flatten.specs.TemplateFaults.{domain_in, all_in, in_one, misplaced_leaf, misplaced_call, unjoined_leaf};
-ghost use Rattle.adl_flatten.specs.Ends.{flat_end_of};
 ghost use Rattle.adl_meaning.specs.Faults.{noted, least};
 ghost use Rattle.adl_meaning.specs.Flat.{flattened};
 ghost use Rattle.adl_meaning.specs.Hierarchy.{body, top_number};
 ghost use Rattle.adl_meaning.specs.JoinFaults.{join_faults_in};
 ghost use Rattle.adl_meaning.specs.Placement.{is_direct, same_domain};
-ghost use Rattle.adl_meaning.specs.Unconnected.{may_stay, unjoined_member};
+ghost use Rattle.adl_meaning.specs.Unconnected.{may_stay};
 ghost use Rattle.adl_meaning.specs.UsedTwice.{used_twice};
 ghost use Rattle.adl_templates.specs.AreTemplates.{IsTemplate};
 ghost use Rattle.std.specs.List.{flat_map, enumerate_from};
 ghost use Rattle.std.specs.Option.{option_map_or};
-ghost use Rattle.std.specs.Prelude.{◌≡◌, ◌<◌, ◌^◌, ℕ, map, length, IfOk};
+ghost use Rattle.std.specs.Prelude.{◌≡◌, ◌<◌, ◌^◌, ℕ, length, IfOk};
 
 use crate::connections::joined_ends;
 use crate::end_counts::CountedEnds;
@@ -36,30 +35,7 @@ fn note_used_twice<'a>(ends: &CountedEnds<'_, 'a>, first: &mut Earliest<'a>)
 fn may_stay(interface: &Interface) -> bool
     ensures { result ≡ may_stay interface.now }
 {
-    match interface.kind {
-        InterfaceKind::Uses => interface.maybe,
-        _ => true,
-    }
-}
-
-/// Notes the interfaces of the leaf of the number that no end joins, of those that may not stay without one.
-fn note_unjoined<'a>(
-    ends: &CountedEnds<'_, '_>,
-    leaf: u32,
-    members: &'a [Member],
-    first: &mut Earliest<'a>,
-)
-    requires { length members.now < 2 ^ 32 }
-    ensures { first.new ≡ noted first.old (flat_map (unjoined_member ends.now leaf) (enumerate_from 0 members.entry.now)) }
-{
-    for (place, member) in members.iter().enumerate() {
-        if let Member::Interface(interface) = member {
-            let is_joined = may_stay(interface) || ends.is_joined(leaf, place as u32);
-            let id = &interface.id;
-            let name = id.name.as_bytes();
-            first.note(!is_joined, Code::Unconnected, id.place, name);
-        }
-    }
+    interface.maybe || !matches!(interface.kind, InterfaceKind::Uses)
 }
 
 /// Notes the interfaces of a leaf, by its number, that no end joins, of those that may not stay without one.
@@ -73,8 +49,17 @@ fn note_leaf<'a>(
     requires { (k : ℕ) → option_map_or (λ c. length c.members) (body program.now k).component 0 < 2 ^ 32 }
     ensures { first.new ≡ noted first.old (unjoined_leaf program.now ends.now (number, leaf.now)) }
 {
-    if let Some(component) = program.body(leaf.kind).component() {
-        note_unjoined(ends, number, component.members.as_slice(), first);
+    let Some(component) = program.body(leaf.kind).component() else {
+        return;
+    };
+    let members = component.members.as_slice();
+    for (place, member) in members.iter().enumerate() {
+        if let Member::Interface(interface) = member {
+            let is_joined = may_stay(interface) || ends.is_joined(number, place as u32);
+            let id = &interface.id;
+            let name = id.name.as_bytes();
+            first.note(!is_joined, Code::Unconnected, id.place, name);
+        }
     }
 }
 
@@ -106,12 +91,9 @@ fn note_devices<'a>(program: &Program<'_>, leaves: &[PlacedLeaf<'a>], first: &mu
 }
 
 fn domain_in(leaves: &[Leaf], end: &PlacedEnd<'_>) -> Option<u32>
-    ensures { result ≡ domain_in leaves.now (flat_end_of end.now) }
+    ensures { result ≡ domain_in leaves.now end.now }
 {
-    match leaves.get(end.leaf as usize) {
-        None => None,
-        Some(leaf) => leaf.domain,
-    }
+    leaves.get(end.leaf as usize)?.domain
 }
 
 fn same_domain(a: Option<u32>, b: Option<u32>) -> bool
@@ -126,18 +108,14 @@ fn same_domain(a: Option<u32>, b: Option<u32>) -> bool
 
 /// Whether all ends are in this domain.
 fn all_in(leaves: &[Leaf], ends: &[PlacedEnd<'_>], domain: Option<u32>) -> bool
-    ensures { result ≡ all_in leaves.now domain (map flat_end_of ends.now) }
+    ensures { result ≡ all_in leaves.now domain ends.now }
 {
-    for end in ends {
-        if !same_domain(domain_in(leaves, end), domain) {
-            return false;
-        }
-    }
-    true
+    ends.iter()
+        .all(|end| same_domain(domain_in(leaves, end), domain))
 }
 
 fn in_one_domain(leaves: &[Leaf], ends: &[PlacedEnd<'_>]) -> bool
-    ensures { result ≡ in_one leaves.now (map flat_end_of ends.now) }
+    ensures { result ≡ in_one leaves.now ends.now }
 {
     match ends {
         [] => true,
@@ -148,10 +126,7 @@ fn in_one_domain(leaves: &[Leaf], ends: &[PlacedEnd<'_>]) -> bool
 fn is_direct(connector: Connector) -> bool
     ensures { result ≡ is_direct connector }
 {
-    match connector {
-        Connector::Direct => true,
-        _ => false,
-    }
+    matches!(connector, Connector::Direct)
 }
 
 /// Notes the connections of direct calls whose ends aren't all in one domain.

@@ -8,7 +8,8 @@ ghost use Rattle.adl_templates.specs.Templates.{template_leaves};
 ghost use Rattle.std.specs.List.{enumerate_from};
 ghost use Rattle.std.specs.Prelude.{◌≡◌, ◌<◌, ◌^◌, [], map, length, slice_index_or, IfOk};
 
-use crate::domains::{domain_leaves, domain_paths, home_numbers, homes};
+use crate::domains::{domain_leaves, homes_of};
+use crate::path_key::PathKey;
 use adl_meaning::{Domain, ItemAt, Leaf};
 use adl_program::Program;
 use adl_templates::PlacedLeaf;
@@ -51,17 +52,17 @@ fn flat_leaves(
     requires { numbers.now ≡ map (home_number (domains program.now)) (map (home program.now) (map placed leaves.now)) }
     ensures { IfOk result (λ ls. ls ≡ map (leaf_of program.now) (map placed leaves.now)) }
 {
-    let mut flat = List::new(alloc);
+    let mut flat = Vec::with_capacity(alloc, leaves.len())?;
     for (i, leaf) in leaves.iter().enumerate() {
         flat.push(flat_leaf(alloc, program, leaf, numbers[i])?)?;
     }
-    Ok(flat)
+    Ok(List::from_vec(flat))
 }
 
 /// The domains, by their paths and their leaves.
 fn flat_domains(
     alloc: Global,
-    paths: &[Path],
+    paths: &[PathKey<'_>],
     leaves: &[List<u32>],
 ) -> Result<List<Domain>, NoMemory>
     requires { length leaves.now ≡ length paths.now }
@@ -70,15 +71,15 @@ fn flat_domains(
       leaves = slice_index_or leaves.now x.0 [];
     }) (enumerate_from 0 paths.now)) }
 {
-    let mut flat = List::new(alloc);
+    let mut flat = Vec::with_capacity(alloc, paths.len())?;
     for (i, path) in paths.iter().enumerate() {
         let leaves = List::from_slice(alloc, leaves[i].as_slice())?;
         flat.push(Domain {
-            path: path.copy(alloc)?,
+            path: Path::of(alloc, path.names, &[])?,
             leaves,
         })?;
     }
-    Ok(flat)
+    Ok(List::from_vec(flat))
 }
 
 /// The leaves and the domains of a flat system.
@@ -99,12 +100,11 @@ pub fn all_places(
     ensures leaves { IfOk result (λ p. p.leaves ≡ (flattened program.now).leaves) }
     ensures domains { IfOk result (λ p. p.domains ≡ (flattened program.now).domains) }
 {
-    let homes = homes(alloc, program, leaves)?;
-    let found = domain_paths(alloc, homes.as_slice())?;
-    let numbers = home_numbers(alloc, &found, homes.as_slice())?;
-    let inside = domain_leaves(alloc, found.paths.len(), numbers.as_slice())?;
+    let homes = homes_of(alloc, program, leaves)?;
+    let numbers = homes.numbers.as_slice();
+    let inside = domain_leaves(alloc, homes.paths.len(), numbers)?;
     Ok(Places {
-        leaves: flat_leaves(alloc, program, leaves, numbers.as_slice())?,
-        domains: flat_domains(alloc, found.paths.as_slice(), inside.as_slice())?,
+        leaves: flat_leaves(alloc, program, leaves, numbers)?,
+        domains: flat_domains(alloc, homes.paths.as_slice(), inside.as_slice())?,
     })
 }

@@ -12,7 +12,7 @@ mod faults;
 mod flat;
 mod leaves;
 mod limits;
-mod path_table;
+mod path_key;
 mod sums;
 mod wanted;
 

@@ -123,21 +123,6 @@ fn part_totals(program: &Program<'_>, all: &[Totals], part: &Part<'_>) -> Totals
     }
 }
 
-/// The totals of instances.
-fn parts_totals(program: &Program<'_>, all: &[Totals], parts: &[Part<'_>]) -> Totals
-    requires within { (x : Part) → IsIn x parts.now → x.kind < length all.now }
-    requires known { (x : Part) → IsIn x parts.now → (t : Totals)
-        → slice_index_or all.now x.kind t ≡ totals_in program.now x.kind }
-    ensures { result ≡ totals_of (flat_map (placed_by program.now (leaves_in program.now)) parts.now)
-        (flat_map (strung_by (connections_in program.now)) parts.now) }
-{
-    let mut totals = Totals::none();
-    for part in parts {
-        totals = totals.and(part_totals(program, all, part));
-    }
-    totals
-}
-
 /// The totals of the body of a number, from those of its instances' components.
 fn body_totals(program: &Program<'_>, all: &[Totals], number: u32) -> Totals
     requires finite { IsFinite program.now }
@@ -148,18 +133,18 @@ fn body_totals(program: &Program<'_>, all: &[Totals], number: u32) -> Totals
     ensures { result ≡ totals_in program.now number }
 {
     let body = program.body(number);
-    let inner = parts_totals(program, all, body.parts());
-    own_totals(body.wires()).and(inner)
+    let mut totals = own_totals(body.wires());
+    for part in body.parts() {
+        totals = totals.and(part_totals(program, all, part));
+    }
+    totals
 }
 
 fn kinds(alloc: Global, parts: &[Part<'_>]) -> Result<List<u32>, NoMemory>
     ensures { IfOk result (λ ks. ks ≡ map (λ x. x.kind) parts.now) }
 {
-    let mut kinds = List::new(alloc);
-    for part in parts {
-        kinds.push(part.kind)?;
-    }
-    Ok(kinds)
+    let kinds = parts.iter().map(|part| part.kind()).collect(alloc)?;
+    Ok(List::from_vec(kinds))
 }
 
 /// The bodies by number, with the kinds of their instances.

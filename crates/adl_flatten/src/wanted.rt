@@ -64,12 +64,7 @@ fn small_bodies(alloc: Global, totals: &[Totals]) -> Result<Vec<bool>, NoMemory>
 fn are_marked(marks: &[bool], parts: &[Part<'_>]) -> bool
     ensures { result ≡ list_all (λ x. is_marked marks.now x.kind) parts.now }
 {
-    for part in parts {
-        if !is_marked(marks, part.kind()) {
-            return false;
-        }
-    }
-    true
+    parts.iter().all(|part| is_marked(marks, part.kind()))
 }
 
 /// Whether the body, if it is marked, is small, and the components of its instances are marked.

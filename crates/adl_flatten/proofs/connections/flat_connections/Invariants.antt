@@ -3,4 +3,4 @@ use Rattle.adl_flatten.specs.Ends.{flat_connection_of}
 use Rattle.adl_flatten.proofs.connections.flat_connections.Given as goal
 
 abbrev pub invariant-loop-connection : goal.invariant-loop-connection
-invariant-loop-connection l = l.flat ++ map flat_connection_of (drop l.connection-index l.connections) ≡ map flat_connection_of l.connections
+invariant-loop-connection l = l.flat.items ++ map flat_connection_of (drop l.connection-index l.connections) ≡ map flat_connection_of l.connections

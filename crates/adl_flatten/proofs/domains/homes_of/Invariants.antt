@@ -1,6 +1,13 @@
-use Rattle.std.proofs.Common.{◌≡◌, drop, ◌++◌, map}
-use Rattle.adl_flatten.specs.Homes.{home_in}
-use Rattle.adl_flatten.proofs.domains.homes.Given as goal
+use Rattle.std.proofs.Common.{◌≡◌, ◌≤◌, ◌++◌, [], drop, length, map}
+use Rattle.adl_flatten.specs.Homes.{all_met, home_in, home_number}
+use Rattle.adl_flatten.proofs.domains.homes_of.Given as goal
 
 abbrev pub invariant-loop-leaf : goal.invariant-loop-leaf
-invariant-loop-leaf l = l.homes.items ++ map (home_in l.program) (drop l.leaf-index l.leaves) ≡ map (home_in l.program) l.leaves
+invariant-loop-leaf l =
+    let all = map (home_in l.program) l.leaves in
+    let rest = map (home_in l.program) (drop l.leaf-index l.leaves) in
+    record {
+      paths : all_met l.homes.paths.keys rest ≡ all_met [] all;
+      numbers : l.homes.numbers.items ++ map (home_number (all_met [] all)) rest ≡ map (home_number (all_met [] all)) all;
+      count : length l.homes.paths.keys ≤ l.leaf-index;
+    }

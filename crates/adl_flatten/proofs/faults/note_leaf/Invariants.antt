@@ -2,8 +2,8 @@ use Rattle.std.proofs.Common.{◌≡◌, drop}
 use Rattle.std.specs.List.{flat_map, enumerate_from}
 use Rattle.adl_meaning.specs.Faults.{noted}
 use Rattle.adl_meaning.specs.Unconnected.{unjoined_member}
-use Rattle.adl_flatten.proofs.faults.note_unjoined.Given as goal
+use Rattle.adl_flatten.proofs.faults.note_leaf.Given as goal
 
 abbrev pub invariant-loop-place : goal.invariant-loop-place
 invariant-loop-place l =
-    noted l.first (flat_map (unjoined_member l.ends l.leaf) (enumerate_from l.place (drop l.place l.members))) ≡ noted l.fn.first (flat_map (unjoined_member l.ends l.leaf) (enumerate_from 0 l.members))
+    noted l.first (flat_map (unjoined_member l.ends l.number) (enumerate_from l.place (drop l.place l.members))) ≡ noted l.fn.first (flat_map (unjoined_member l.ends l.number) (enumerate_from 0 l.members))

@@ -12,6 +12,6 @@ loop-i-preserved c =
     let i = c.loop-i.i in
     let w = c.index-leaves-i.result in
     let number = ap (λ ns. get_or ns i None) c.requires ∙ read_maps (home_number (domains h)) (home h) placed c.args.leaves.now i w None c.loop-i-test.true c.index-leaves-i.is in
-    pushed_more (leaf_of h) placed _ c.loop-i.flat c.args.leaves.now i w c.loop-i-test.true c.index-leaves-i.is
-    (c.in_ok-push.ensures.ok ∙ ap (λ (l : Leaf). c.loop-i.flat ++ l ∷ []) (c.in_ok-flat_leaf.ensures ∙ leaf_is h (placed w) _ number))
+    pushed_more (leaf_of h) placed _ c.loop-i.flat.items c.args.leaves.now i w c.loop-i-test.true c.index-leaves-i.is
+    (c.in_ok-push.ensures.items ∙ ap (λ (l : Leaf). c.loop-i.flat.items ++ l ∷ []) (c.in_ok-flat_leaf.ensures ∙ leaf_is h (placed w) _ number))
     ∙ c.loop-i.invariant

@@ -1,15 +1,30 @@
-use Rattle.std.proofs.Common.{List, [], subst, ◌∙◌, ap}
-use Rattle.adl_meaning.specs.Hierarchy.{Part, Body, wires_of}
-use Rattle.numbering.specs.Gather.{IsIn}
-use Rattle.adl_flatten.proofs.TotalsStep.{totals_step}
+use Rattle.std.proofs.Common.{◌∙◌, ap, map}
+use Rattle.adl_meaning.specs.Hierarchy.{Body, body, wires_of}
+use Rattle.adl_meaning.specs.Joins.{strung}
+use Rattle.adl_templates.proofs.Filling.{IsRead, read_in}
+use Rattle.adl_flatten.proofs.TotalsStep.{totals_step, totals_more}
 use Rattle.adl_flatten.proofs.sums.body_totals.Goals as goal
 
-pub parts_totals-inner-requires-clause-within : goal.parts_totals-inner-requires-clause-within
-parts_totals-inner-requires-clause-within c = λ x i.
-    let P : List Part → Type 0 = λ xs. IsIn x xs in
-    c.requires.within x (subst P (c.parts.ensures ∙ ap (λ (b : Body). b.parts) c.body-body.ensures) i)
+pub part_totals-requires-clause-within : goal.part_totals-requires-clause-within
+part_totals-requires-clause-within c =
+    let read : IsRead c.args.program.now c.args.number c.loop-part.part-index c.parts-part-items.result.now c.part-item.result =
+    record { same = c.parts-part-items.ensures ∙ ap (λ (b : Body). b.parts) c.body-body.ensures; below = c.loop-part-test.true; item = c.part-item.is } in
+    c.requires.within _ (read_in _ _ _ _ _ read)
+
+pub part_totals-requires-clause-known : goal.part_totals-requires-clause-known
+part_totals-requires-clause-known c = λ t.
+    let read : IsRead c.args.program.now c.args.number c.loop-part.part-index c.parts-part-items.result.now c.part-item.result =
+    record { same = c.parts-part-items.ensures ∙ ap (λ (b : Body). b.parts) c.body-body.ensures; below = c.loop-part-test.true; item = c.part-item.is } in
+    c.requires.known _ (read_in _ _ _ _ _ read) t
+
+pub loop-part-preserved : goal.loop-part-preserved
+loop-part-preserved c =
+    let read : IsRead c.args.program.now c.args.number c.loop-part.part-index c.parts-part-items.result.now c.part-item.result =
+    record { same = c.parts-part-items.ensures ∙ ap (λ (b : Body). b.parts) c.body-body.ensures; below = c.loop-part-test.true; item = c.part-item.is } in
+    totals_more c.args.program.now (map (strung c.args.number) (wires_of (body c.args.program.now c.args.number))) c.args.number c.loop-part.part-index _ _ _ read
+    (c.and-totals.ensures _ _ _ _ c.loop-part.invariant c.part_totals.ensures)
 
 pub returns : goal.returns
 returns c =
-    totals_step c.args.program.now c.requires.finite c.args.number c.requires.number _ c.wires.result.now c.parts.result.now (c.wires.ensures ∙ ap wires_of c.body-body.ensures) (c.parts.ensures ∙ ap (λ (b : Body). b.parts) c.body-body.ensures)
-    (c.and.ensures [] _ _ _ (c.own_totals.ensures c.args.number) c.parts_totals-inner.ensures)
+    totals_step c.args.program.now c.requires.finite c.args.number c.requires.number c.loop-part.part-index _ _ (c.parts-part-items.ensures ∙ ap (λ (b : Body). b.parts) c.body-body.ensures) c.loop-part-test.false
+    c.loop-part.invariant

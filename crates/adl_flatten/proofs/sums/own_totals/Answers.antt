@@ -1,5 +1,5 @@
-use Rattle.adl_flatten.proofs.Totalling.{totals-own}
+use Rattle.adl_flatten.proofs.Totalling.{totals_own}
 use Rattle.adl_flatten.proofs.sums.own_totals.Goals as goal
 
 pub returns : goal.returns
-returns c = λ k. totals-own k _ _ _ c.wire_count.ensures c.wire_count.type_inv c.end_count.ensures
+returns c = λ k. totals_own k _ _ _ c.wire_count.ensures c.wire_count.type_inv c.end_count.ensures

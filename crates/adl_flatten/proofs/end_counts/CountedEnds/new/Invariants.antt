@@ -1,6 +1,6 @@
 use Rattle.std.proofs.Common.{take}
 use Rattle.adl_flatten.specs.EndCounts.{AreCounts}
-use Rattle.adl_flatten.proofs.end_counts.counts_of.Given as goal
+use Rattle.adl_flatten.proofs.end_counts.CountedEnds.new.Given as goal
 
 abbrev pub invariant-loop-end : goal.invariant-loop-end
 invariant-loop-end l = AreCounts l.counts (take l.end-index l.ends)

@@ -1,6 +1,6 @@
-use Rattle.adl_flatten.proofs.Totalling.{totals-append}
+use Rattle.adl_flatten.proofs.Totalling.{totals_append}
 use Rattle.adl_flatten.proofs.sums.Totals.and.Goals as goal
 
 pub returns : goal.returns
 returns c = λ ps qs ks ls p q.
-    totals-append c.args.self c.args.other _ _ _ _ ps qs ks ls p q c.saturating_add.ensures c.max.ensures c.saturating_add-2.ensures c.saturating_add-3.ensures
+    totals_append c.args.self c.args.other _ _ _ _ ps qs ks ls p q c.saturating_add.ensures c.max.ensures c.saturating_add-2.ensures c.saturating_add-3.ensures
