@@ -1,32 +1,31 @@
 -- Components and assemblies among the items of a source.
-use Rattle.std.proofs.Common.{◌≡◌, ◌∙◌, ◌+◌, ◌<◌, length, get_or, drop, map, append_assoc, ℕ, suc, Bool, true, false, cond, List, [], ◌∷◌, ◌++◌, Option, Some, None, option_map, refl, sym, ap, arith}
-use Rattle.std.specs.List.{filter_map, flat_map, find, enumerate_from, slice_get, cons_option}
+use Rattle.adl_names.proofs.Common.{◌≡◌, ◌∙◌, ◌+◌, ◌<◌, length, get_or, drop, map, append_assoc, ℕ, suc, Bool, true, false, cond, List, [], ◌∷◌, ◌++◌, Option, Some, None, option_map, refl, sym, ap, arith, filter_map, flat_map, find, enumerate_from, cons_option, bytes_eq, Fault, drop_first, noted, Component, Item, Procedure, Source, Name, as_component, items_of, ItemAt, located, Located, as_body, item_of, body_number, bodies_of, component_at, is_named}
+use Rattle.std.proofs.Common.{◌≤◌}
+use Rattle.std.specs.List.{slice_get}
 use Rattle.std.specs.Option.{option_and_then}
-use Rattle.std.specs.Str.{bytes_eq}
-use Rattle.cam_base.specs.declared.place.Fault.{Fault}
-use Rattle.cam_base.proofs.Lists.{drop_first}
-use Rattle.adl_ast.specs.declared.component.Component.{Component}
+use Rattle.std.proofs.lemmas.List.{drop_all}
 use Rattle.adl_ast.specs.declared.file.Import.{Import}
-use Rattle.adl_ast.specs.declared.file.Item.{Item}
 use Rattle.adl_ast.specs.declared.file.Item.TheVariants as items
-use Rattle.adl_ast.specs.declared.procedure.Procedure.{Procedure}
-use Rattle.adl_ast.specs.declared.source.Source.{Source}
-use Rattle.adl_meaning.specs.Items.{Name, as_component, items_of, component_of}
-use Rattle.adl_meaning.specs.declared.item_at.ItemAt.{ItemAt}
+use Rattle.adl_meaning.specs.Items.{component_of}
 use Rattle.adl_names.specs.declared.bodies.Body.TheVariants as body
-use Rattle.adl_items.specs.Located.{located}
-use Rattle.adl_items.specs.declared.located.Located.{Located}
 use Rattle.adl_names.specs.declared.bodies.Body.{Body}
-use Rattle.adl_names.specs.Bodies.{as_body, body_of, item_of, body_component, body_number, bodies_of, component_at, is_named}
+use Rattle.adl_names.specs.Bodies.{body_of, body_component}
 
 -- what items give, where only components and assemblies give anything
-pub over_bodies : (f : Item → List Fault) → ((i : Import) → f (items.Import i) ≡ []) → ((p : Procedure) → f (items.Procedure p) ≡ []) → (xs : List (ItemAt × Item))
+over_bodies : (f : Item → List Fault) → ((i : Import) → f (items.Import i) ≡ []) → ((p : Procedure) → f (items.Procedure p) ≡ []) → (xs : List (ItemAt × Item))
     → flat_map (λ b. f (item_of b)) (filter_map as_body xs) ≡ flat_map (λ x. f x.1) xs
 over_bodies f none nil [] = refl
 over_bodies f none nil ((at, items.Import i) ∷ xs) = over_bodies f none nil xs ∙ sym (ap (λ z. z ++ flat_map (λ (x : ItemAt × Item). f x.1) xs) (none i))
 over_bodies f none nil ((at, items.Procedure p) ∷ xs) = over_bodies f none nil xs ∙ sym (ap (λ z. z ++ flat_map (λ (x : ItemAt × Item). f x.1) xs) (nil p))
 over_bodies f none nil ((at, items.Component c) ∷ xs) = ap (λ z. f (items.Component c) ++ z) (over_bodies f none nil xs)
 over_bodies f none nil ((at, items.Assembly a) ∷ xs) = ap (λ z. f (items.Assembly a) ++ z) (over_bodies f none nil xs)
+
+-- what was noted of the bodies of a source, one after another, is noted of its items
+pub noted_bodies : (f : Item → List Fault) → ((i : Import) → f (items.Import i) ≡ []) → ((p : Procedure) → f (items.Procedure p) ≡ []) → (new old : Option Fault) (s : Source) (bs : List Body) (i : ℕ) → length bs ≤ i → bs ≡ bodies_of s
+    → noted new (flat_map (λ b. f (item_of b)) (drop i bs)) ≡ noted old (flat_map (λ b. f (item_of b)) bs) → new ≡ noted old (flat_map (λ x. f x.1) (items_of s))
+noted_bodies f none nil new old s bs i l e n =
+    let g = λ (xs : List Body). flat_map (λ (b : Body). f (item_of b)) xs in
+    ap (λ xs. noted new (g xs)) (sym (drop_all i bs l)) ∙ n ∙ ap (λ xs. noted old (g xs)) e ∙ ap (noted old) (over_bodies f none nil (items_of s))
 
 -- what stands at the number of the first that passes the test
 number_at : {X Y : Type 0} (g : X → Option Y) (p : X → Bool) (xs all : List X) (i : ℕ) → ((j : ℕ) → slice_get all (i + j) ≡ slice_get xs j)

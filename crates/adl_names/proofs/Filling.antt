@@ -1,13 +1,6 @@
 -- Filling a table of places: the first of each name, in order.
-use Rattle.std.proofs.Common.{◌≡◌, ◌<◌, ◌+◌, ℕ, Bool, true, false, cond, List, length, get_or, drop, [], ◌∷◌, ◌++◌, map, Option, Some, None, option_map, refl, sym, ◌∙◌, ap, subst, append_assoc, ◌⊎◌, inl, inr}
-use Rattle.std.specs.List.{find}
-use Rattle.std.specs.Option.{option_or}
-use Rattle.std.specs.Str.{bytes_eq}
-use Rattle.cam_base.proofs.Lists.{drop_first}
-use Rattle.adl_meaning.specs.Items.{Name, Rises}
-use Rattle.adl_meaning.specs.declared.item_at.ItemAt.{ItemAt}
-use Rattle.adl_items.specs.Located.{located}
-use Rattle.adl_items.specs.declared.located.Located.{Located}
+use Rattle.adl_names.proofs.Common.{◌≡◌, ◌<◌, ◌+◌, ℕ, Bool, true, false, cond, List, length, get_or, drop, [], ◌∷◌, ◌++◌, map, Option, Some, None, option_map, refl, sym, ◌∙◌, ap, subst, append_assoc, inl, inr, find, option_or, bytes_eq, drop_first, Name, Rises, ItemAt, located, Located}
+use Rattle.std.proofs.Common.{◌⊎◌}
 use Rattle.adl_names.proofs.Rising.{places, rises_drop}
 
 -- the place of the first of the name

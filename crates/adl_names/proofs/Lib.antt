@@ -1,4 +1,5 @@
 pub mod BodyLists
+pub mod Common
 pub mod Exporting
 pub mod Filling
 pub mod KindLists

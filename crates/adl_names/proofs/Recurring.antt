@@ -1,38 +1,32 @@
 -- The types of instances, in the graph of components.
-use Rattle.std.proofs.Common.{◌≡◌, ◌<◌, ◌∙◌, ℕ, zero, suc, List, length, get_or, [], ◌∷◌, Bor, Option, refl, sym, ap, subst, arith, inl, inr}
+use Rattle.adl_names.proofs.Common.{◌≡◌, ◌<◌, ◌∙◌, ℕ, suc, true, List, length, get_or, [], ◌∷◌, Bor, Option, Some, refl, sym, ap, subst, arith, inl, inr, length-map, Component, Instance, Name, types_of, trees, pointed, Located}
+use Rattle.std.proofs.Common.{zero}
 use Rattle.std.proofs.lemmas.Option.{slice_get_read}
-use Rattle.adl_ast.specs.declared.component.Component.{Component}
-use Rattle.adl_ast.specs.declared.composition.Instance.{Instance}
-use Rattle.adl_meaning.specs.Graph.{inner_of}
-use Rattle.adl_meaning.specs.Items.{Name}
+use Rattle.adl_meaning.specs.Graph.{has, inner_of}
 use Rattle.numbering.specs.Gather.{IsIn}
-use Rattle.adl_meaning.specs.Recursive.{instances_of, types_of, graph_of}
+use Rattle.adl_meaning.specs.Recursive.{instances_of, graph_of}
 use Rattle.component_graph.proofs.ComponentNumbers.{inner_at}
 use Rattle.component_graph.proofs.Lists.{has_in}
 use Rattle.numbering.proofs.Lists.{in_filter_map, get_map}
-use Rattle.adl_names.specs.Listed.{AreListed, IsListed}
-use Rattle.adl_items.specs.Located.{trees}
-use Rattle.adl_items.specs.Pointed.{pointed}
-use Rattle.adl_items.specs.declared.located.Located.{Located}
 
 -- what an index reads is pointed to
-pub in_pointed : {X : Type 0} (rs : List (Bor X)) (k : ℕ) (r : Bor X) → k < length rs → r ≡ get_or rs k r → IsIn r.now (pointed rs)
+in_pointed : {X : Type 0} (rs : List (Bor X)) (k : ℕ) (r : Bor X) → k < length rs → r ≡ get_or rs k r → IsIn r.now (pointed rs)
 in_pointed [] k r l e = absurd (omega arith)
 in_pointed {X} (q ∷ rs) zero r l e = inl (ap (λ (x : Bor X). x.now) (sym e))
 in_pointed (q ∷ rs) (suc k) r l e = inr (in_pointed rs k r (omega arith) e)
 
-listed_type : (numbers : Name → Option ℕ) (c : Component) (i : Instance) → IsIn i (instances_of c) → IsListed numbers (types_of numbers c) i
-listed_type numbers c i m t e = has_in t (types_of numbers c) (in_filter_map (λ (i : Instance). numbers i.component.name) i t (instances_of c) m e)
-
--- the types of a component's instances are listed for it
-pub all_listed : (numbers : Name → Option ℕ) (c : Component) (types : List ℕ) (is : List Instance) → types ≡ types_of numbers c → is ≡ instances_of c → AreListed numbers types is
-all_listed numbers c types is s e i m =
-    let P : List Instance → Type 0 = λ js. IsIn i js in
-    let Q : List ℕ → Type 0 = λ ts. IsListed numbers ts i in
-    subst Q (sym s) (listed_type numbers c i (subst P e m))
+-- the type of an instance of the component, as a loop reads it, is among the component's types
+pub type_read : (numbers : Name → Option ℕ) (c : Component) (types : List ℕ) (rs : List (Bor Instance)) (k : ℕ) (r : Bor Instance) (t : ℕ) → types ≡ types_of numbers c → pointed rs ≡ instances_of c → k < length rs → r ≡ get_or rs k r
+    → numbers r.now.component.name ≡ Some t → has types t ≡ true
+type_read numbers c types rs k r t s e l is n =
+    let P : List Instance → Type 0 = λ js. IsIn r.now js in
+    ap (λ ts. has ts t) s ∙ has_in t (types_of numbers c) (in_filter_map (λ (i : Instance). numbers i.component.name) r.now t (instances_of c) (subst P e (in_pointed rs k r l is)) n)
 
 -- the inner ones of a component that was read
 pub inner_read : (numbers : Name → Option ℕ) (g : List (List ℕ)) (xs : List (Located Component)) (i : ℕ) (x : Located Component) → g ≡ graph_of numbers (trees xs) → i < length xs → x ≡ get_or xs i x
     → inner_of g i ≡ types_of numbers x.item.now
 inner_read numbers g xs i x s l e =
     ap (λ h. inner_of h i) s ∙ inner_at numbers (trees xs) i x.item.now (get_map (λ (y : Located Component). y.item.now) xs i x (slice_get_read xs (length xs) i x refl l e))
+
+pub graph_length : (numbers : Name → Option ℕ) (g : List (List ℕ)) (xs : List (Located Component)) → g ≡ graph_of numbers (trees xs) → length g ≡ length xs
+graph_length numbers g xs e = ap length e ∙ length-map (trees xs) (types_of numbers) ∙ length-map xs (λ (x : Located Component). x.item.now)

@@ -1,17 +1,11 @@
 -- The places of items rise, and so do those of a part of them.
-use Rattle.std.proofs.Common.{◌≡◌, ◌<◌, ◌+◌, ℕ, true, List, [], ◌∷◌, ◌++◌, map, Option, Some, None, refl, sym, ◌∙◌, ap, subst, arith}
-use Rattle.std.specs.List.{flat_map, filter_map, enumerate_from, cons_option, AllByRecursion}
+use Rattle.adl_names.proofs.Common.{◌≡◌, ◌<◌, ◌+◌, ℕ, true, List, [], ◌∷◌, ◌++◌, map, Option, Some, None, refl, sym, ◌∙◌, ap, subst, arith, flat_map, filter_map, enumerate_from, cons_option, map-append, Component, Item, Procedure, Source, items_of, as_component, procedures, components, Rises, ItemAt}
+use Rattle.std.specs.List.{AllByRecursion}
 use Rattle.std.proofs.lemmas.Bool.Decides.{nat_tests}
-use Rattle.std.proofs.lemmas.List.{map-append}
 use Rattle.adl_ast.specs.declared.file.Ended.{Ended}
-use Rattle.adl_ast.specs.declared.component.Component.{Component}
-use Rattle.adl_ast.specs.declared.file.Item.{Item}
 use Rattle.adl_ast.specs.declared.file.Item.TheVariants as items
-use Rattle.adl_ast.specs.declared.procedure.Procedure.{Procedure}
-use Rattle.adl_ast.specs.declared.source.Source.{Source}
 use Rattle.adl_ast.specs.declared.source.SourceFile.{SourceFile}
-use Rattle.adl_meaning.specs.Items.{items_in, items_of, as_procedure, as_component, procedures, components, stands_before, Rises}
-use Rattle.adl_meaning.specs.declared.item_at.ItemAt.{ItemAt}
+use Rattle.adl_meaning.specs.Items.{items_in, as_procedure, stands_before}
 
 -- the places of things
 abbrev pub places : {X : Type 0} → List (ItemAt × X) → List ItemAt

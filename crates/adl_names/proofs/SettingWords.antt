@@ -1,7 +1,6 @@
 -- Words of settings by whether their scopes hold them.
-use Rattle.std.proofs.Common.{◌≡◌, ◌||◌, refl}
+use Rattle.adl_names.proofs.Common.{◌≡◌, ◌||◌, refl, Id}
 use Rattle.std.specs.Prelude.{not}
-use Rattle.adl_ast.specs.declared.id.Id.{Id}
 use Rattle.adl_meaning.specs.Unknown.{Scope, within, inside, behind, untold, unless_known, unknown_last, unknown_inner, unknown_group}
 use Rattle.adl_names.specs.Scopes.{may_hold, is_group}
 

@@ -1,19 +1,10 @@
 -- Steps of filling tables.
-use Rattle.std.proofs.Common.{◌≡◌, ◌∙◌, ◌<◌, ◌+◌, ℕ, Bool, cond, true, false, refl, sym, ap, List, [], ◌∷◌, ◌++◌, drop, length, get_or, map, Option, Some, None, option_map}
-use Rattle.std.specs.List.{find, flat_map}
-use Rattle.std.specs.Option.{option_or}
-use Rattle.std.specs.Str.{bytes_eq}
+use Rattle.adl_names.proofs.Common.{◌≡◌, ◌∙◌, ◌<◌, ◌+◌, ℕ, Bool, cond, true, false, refl, sym, ap, List, [], ◌∷◌, ◌++◌, drop, length, get_or, map, Option, Some, None, option_map, find, flat_map, option_or, bytes_eq, drop_first, Instance, Id, Held, as_held, Name, found, first_named, holding_told}
 use Rattle.std.proofs.lemmas.List.Folds.{find-append}
 use Rattle.cam_base.proofs.Options.{option_or-assoc, option_map-option_or}
-use Rattle.cam_base.proofs.Lists.{drop_first}
 use Rattle.adl_ast.specs.declared.composition.Group.{Group}
-use Rattle.adl_ast.specs.declared.composition.Instance.{Instance}
-use Rattle.adl_ast.specs.declared.id.Id.{Id}
-use Rattle.adl_meaning.specs.Holding.{Held, a_group, as_held, member_of}
-use Rattle.adl_meaning.specs.Items.{Name}
-use Rattle.name_tables.specs.ByName.{found}
-use Rattle.adl_items.specs.Firsts.{first_named}
-use Rattle.adl_names.specs.Tables.{held_told, holding_told}
+use Rattle.adl_meaning.specs.Holding.{a_group, member_of}
+use Rattle.adl_names.specs.Tables.{held_told}
 use Rattle.adl_names.specs.declared.tables.Held.{Held as Entry}
 use Rattle.adl_names.specs.declared.tables.Held.TheVariants as entry
 

@@ -1,20 +1,12 @@
 -- From the passes over sorted items to the faults of a source.
-use Rattle.std.proofs.Common.{◌≡◌, ◌<◌, List, length, [], ◌∷◌, ◌++◌, map, Option, None, refl, sym, ◌∙◌, ap, arith, get_or}
-use Rattle.std.specs.List.{flat_map}
-use Rattle.std.proofs.lemmas.List.Folds.{flat_map-map}
-use Rattle.cam_base.specs.declared.place.Fault.{Fault}
+use Rattle.adl_names.proofs.Common.{◌≡◌, ◌<◌, List, length, [], ◌∷◌, ◌++◌, map, Option, None, sym, ◌∙◌, ap, arith, get_or, Fault, Source, noted, ItemAt, located, Located}
 use Rattle.adl_ast.specs.declared.composition.Assembly.{Assembly}
-use Rattle.adl_ast.specs.declared.file.Item.{Item}
-use Rattle.adl_ast.specs.declared.source.Source.{Source}
-use Rattle.adl_meaning.specs.Faults.{noted, least}
+use Rattle.adl_meaning.specs.Faults.{least}
 use Rattle.adl_meaning.proofs.Least.{noted-none}
 use Rattle.adl_meaning.proofs.Noting.{noted_then}
-use Rattle.adl_meaning.specs.Items.{items_of, assemblies}
+use Rattle.adl_meaning.specs.Items.{assemblies}
 use Rattle.adl_meaning.specs.NameFaults.{AreNamesSound}
 use Rattle.adl_meaning.proofs.SoundNames.{one_assembly}
-use Rattle.adl_meaning.specs.declared.item_at.ItemAt.{ItemAt}
-use Rattle.adl_items.specs.Located.{located, trees}
-use Rattle.adl_items.specs.declared.located.Located.{Located}
 
 -- ---- all of them
 

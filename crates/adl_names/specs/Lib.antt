@@ -1,7 +1,6 @@
 pub mod Bodies
 pub mod Groups
 pub mod Laters
-pub mod Listed
 pub mod Misfits
 pub mod Places
 pub mod Ports

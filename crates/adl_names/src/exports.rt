@@ -1,29 +1,28 @@
 //! Exports that fit no interface, and ports of composites that no export gives.
 
-ghost use Rattle.adl_meaning.specs.Export.{Port as PortOf, port_of, interface_at, same_interface, differs, ends_in, is_unled, inner_of, is_port};
-ghost use Rattle.adl_meaning.specs.Export.{last_name, export_fault, is_misfit, is_misfit_at, misfits_after, unled_end, unled_ends};
-ghost use Rattle.adl_meaning.specs.Export.{misfits_in_composition, misfits_in_item, misfit_exports};
+ghost use Rattle.adl_ast.specs.declared.composition.Export.{Export as ExportOf};
+ghost use Rattle.adl_meaning.specs.Export.{Port as PortOf, port_of, interface_at, differs, is_unled, inner_of, is_port, export_fault};
+ghost use Rattle.adl_meaning.specs.Export.{is_misfit_at, misfits_after, unled_ends, misfits_in_composition, misfits_in_item};
+ghost use Rattle.adl_meaning.specs.Export.{misfit_exports};
 ghost use Rattle.adl_meaning.specs.Faults.{noted, where_true};
-ghost use Rattle.adl_meaning.specs.Holding.{held_as, as_connection, exports_in, connections_in};
+ghost use Rattle.adl_meaning.specs.Holding.{held_as, exports_in, connections_in};
 ghost use Rattle.adl_meaning.specs.Known.{known_in, known_of};
 ghost use Rattle.adl_meaning.specs.Members.{compositions};
 ghost use Rattle.adl_names.specs.Bodies.{owner_of, item_of};
-ghost use Rattle.adl_ast.specs.declared.composition.Line.{Line as LineOf};
 ghost use Rattle.adl_names.specs.Misfits.{misfits_from};
 ghost use Rattle.adl_names.specs.Ports.{is_port_among};
 ghost use Rattle.name_tables.specs.ByName.{is_among};
-ghost use Rattle.std.specs.List.{flat_map, filter_map};
+ghost use Rattle.std.specs.List.{flat_map};
 ghost use Rattle.std.specs.Option.{option_copied, option_and_then, option_map_or};
-ghost use Rattle.std.specs.Prelude.{◌≡◌, ◌||◌, ◌∷◌, ℕ, List as Seq, false, Some, OnOk};
-ghost use Rattle.std.specs.Str.{bytes_eq};
+ghost use Rattle.std.specs.Prelude.{◌≡◌, ◌||◌, ◌∷◌, List as Seq, false, Some, OnOk};
 
 use crate::bodies::{Body, SourceTables};
 use crate::port::{Port, PortSet};
-use crate::tables::{ComponentTable, Held, Holding};
-use adl_ast::{Connection, Export, Id, Interface, Line};
+use crate::tables::{ComponentTable, Held, Holding, target};
+use adl_ast::{Export, Id, Interface, Line};
 use adl_items::last_name;
 use adl_meaning::Earliest;
-use cam_base::{Code, Name, NoMemory, Place};
+use cam_base::{Code, NoMemory, Place};
 use name_tables::NameSet;
 use std::alloc::Global;
 
@@ -61,37 +60,30 @@ fn port_of<'a>(holding: &Holding<'a>, words: &'a [Id]) -> Option<Port<'a>>
 }
 
 /// The interface that the port's component declares.
-fn interface_at<'a>(tables: &SourceTables<'a>, port: &Port<'a>) -> Option<&'a Interface>
-    ensures { option_copied result ≡ interface_at (known_in tables.now) port.now }
+fn interface_at<'a>(tables: &SourceTables<'a>, port: &Option<Port<'a>>) -> Option<&'a Interface>
+    ensures { option_copied result ≡ option_and_then (interface_at (known_in tables.now)) port.now }
 {
-    match tables.component(&port.instance.component.name) {
+    match port {
         None => None,
-        Some(table) => table.interface(port.interface),
+        Some(port) => match tables.component(&port.instance.component.name) {
+            None => None,
+            Some(table) => table.interface(port.interface),
+        },
     }
-}
-
-fn same_interface(a: &Interface, b: &Interface) -> bool
-    ensures { result ≡ same_interface a.now b.now }
-{
-    a.kind == b.kind
-        && (a.word.name == b.word.name
-            && a.size.unwrap_or(DEFAULT_SIZE) == b.size.unwrap_or(DEFAULT_SIZE))
 }
 
 fn differs(inner: Option<&Interface>, target: Option<&Interface>) -> bool
     ensures { result ≡ differs (option_copied inner.entry) (option_copied target.entry) }
 {
     match (inner, target) {
-        (Some(inner), Some(target)) => !same_interface(inner, target),
+        (Some(a), Some(b)) => {
+            !(a.kind == b.kind
+                && (a.word.name == b.word.name
+                    && a.size.unwrap_or(DEFAULT_SIZE) == b.size.unwrap_or(DEFAULT_SIZE)))
+        }
         (Some(_), None) => false,
         (None, _) => false,
     }
-}
-
-fn ends_in(table: &ComponentTable<'_>, name: &Name) -> bool
-    ensures { result ≡ ends_in (known_of table.now) name.now }
-{
-    table.interface(name).is_some() && (table.holding().is_some() && !table.exports(name))
 }
 
 /// Whether the port is one of a composite's that no export gives.
@@ -102,26 +94,12 @@ fn is_unled<'a>(tables: &SourceTables<'a>, port: &Option<Port<'a>>) -> bool
         None => false,
         Some(port) => match tables.component(&port.instance.component.name) {
             None => false,
-            Some(table) => ends_in(table, port.interface),
+            Some(table) => {
+                let name = port.interface;
+                table.interface(name).is_some()
+                    && (table.holding().is_some() && !table.exports(name))
+            }
         },
-    }
-}
-
-fn inner_interface<'a>(tables: &SourceTables<'a>, port: &Option<Port<'a>>) -> Option<&'a Interface>
-    ensures { option_copied result ≡ option_and_then (interface_at (known_in tables.now)) port.now }
-{
-    match port {
-        None => None,
-        Some(port) => interface_at(tables, port),
-    }
-}
-
-fn target<'a>(owner: Option<&ComponentTable<'a>>, name: &Name) -> Option<&'a Interface>
-    ensures { option_copied result ≡ option_and_then (λ c. c.interface name.now) (owner_of owner.entry) }
-{
-    match owner {
-        None => None,
-        Some(table) => table.interface(name),
     }
 }
 
@@ -131,9 +109,9 @@ fn inner_of<'p, 'a>(tables: &SourceTables<'a>, port: &'p Option<Port<'a>>) -> Op
 {
     match port {
         None => None,
-        Some(port) => {
+        Some(inner) => {
             if interface_at(tables, port).is_some() {
-                Some(port)
+                Some(inner)
             } else {
                 None
             }
@@ -181,7 +159,7 @@ fn is_misfit<'a>(
 {
     let name = &export.target.name;
     owner.is_none()
-        || (differs(inner_interface(tables, port), target(owner, name))
+        || (differs(interface_at(tables, port), target(owner, name))
             || (taken.targets.contains(name)
                 || (is_inner_taken(&taken.inners, inner_of(tables, port))
                     || is_unled(tables, port))))
@@ -193,6 +171,7 @@ fn note_wrong<'a>(is_wrong: bool, words: &'a [Id], place: Place, first: &mut Ear
     first.note(is_wrong, Code::Export, place, last_name(words));
 }
 
+/// Notes an export. What is noted behind it, is noted of the exports from it on.
 fn note_export<'a>(
     tables: &SourceTables<'a>,
     owner: Option<&ComponentTable<'a>>,
@@ -201,41 +180,16 @@ fn note_export<'a>(
     taken: &mut Taken<'a>,
     first: &mut Earliest<'a>,
 ) -> Result<(), NoMemory>
-    ensures first { OnOk result (first.new ≡ noted first.old (where_true
-        (is_misfit (known_in tables.now) (owner_of owner.entry) (held_as holding.now) (is_among taken.old.targets)
-        (is_port_among taken.old.inners) export.entry.now)
-        (export_fault export.entry.now.words export.entry.now.place))) }
-    ensures targets { OnOk result ((n : Seq ℕ) → is_among taken.new.targets n
-        ≡ (is_among taken.old.targets n || bytes_eq n export.entry.now.target.name)) }
-    ensures inners { OnOk result ((p : PortOf) → is_port_among taken.new.inners p
-        ≡ (is_port_among taken.old.inners p
-        || is_port (inner_of (known_in tables.now) (port_of (held_as holding.now) export.entry.now.words)) p)) }
+    ensures { OnOk result ((more : Seq ExportOf) →
+        noted first.new (misfits_from (known_in tables.now) (owner_of owner.entry) (held_as holding.now) taken.new more)
+        ≡ noted first.old (misfits_from (known_in tables.now) (owner_of owner.entry) (held_as holding.now) taken.old
+        (export.entry.now ∷ more))) }
 {
     let port = port_of(holding, export.words.as_slice());
     let is_wrong = is_misfit(tables, owner, &port, taken, export);
     note_wrong(is_wrong, export.words.as_slice(), export.place, first);
     taken.targets.insert(&export.target.name)?;
     take_inner(&mut taken.inners, inner_of(tables, &port))?;
-    Ok(())
-}
-
-/// Notes a line that is an export. What is noted behind it, is noted of the lines from it on.
-fn note_line<'a>(
-    tables: &SourceTables<'a>,
-    owner: Option<&ComponentTable<'a>>,
-    holding: &Holding<'a>,
-    line: &'a Line,
-    taken: &mut Taken<'a>,
-    first: &mut Earliest<'a>,
-) -> Result<(), NoMemory>
-    ensures { OnOk result ((more : Seq LineOf) →
-        noted first.new (misfits_from (known_in tables.now) (owner_of owner.entry) (held_as holding.now) taken.new more)
-        ≡ noted first.old (misfits_from (known_in tables.now) (owner_of owner.entry) (held_as holding.now) taken.old
-        (line.entry.now ∷ more))) }
-{
-    if let Line::Export(export) = line {
-        note_export(tables, owner, holding, export, taken, first)?;
-    }
     Ok(())
 }
 
@@ -255,56 +209,35 @@ fn note_exports<'a>(
         inners: PortSet::new(alloc),
     };
     for line in holding.composition.lines.as_slice() {
-        note_line(tables, owner, holding, line, &mut taken, first)?;
+        if let Line::Export(export) = line {
+            note_export(tables, owner, holding, export, &mut taken, first)?;
+        }
     }
     Ok(())
 }
 
-fn note_connection<'a>(
-    tables: &SourceTables<'a>,
-    holding: &Holding<'a>,
-    connection: &'a Connection,
-    first: &mut Earliest<'a>,
-)
-    ensures { first.new ≡ noted first.old (unled_ends (known_in tables.now) (held_as holding.now) connection.entry.now) }
-{
-    for end in connection.ends.as_slice() {
-        let port = port_of(holding, end.words.as_slice());
-        note_wrong(
-            is_unled(tables, &port),
-            end.words.as_slice(),
-            end.place,
-            first,
-        );
-    }
-}
-
-/// Notes the ends of a line that is a connection. What is noted behind it, is noted of the lines from it on.
-fn note_line_ends<'a>(
-    tables: &SourceTables<'a>,
-    holding: &Holding<'a>,
-    line: &'a Line,
-    first: &mut Earliest<'a>,
-)
-    ensures { (more : Seq LineOf) →
-        noted first.new (flat_map (unled_ends (known_in tables.now) (held_as holding.now)) (filter_map as_connection more))
-        ≡ noted first.old (flat_map (unled_ends (known_in tables.now) (held_as holding.now))
-        (filter_map as_connection (line.entry.now ∷ more))) }
-{
-    if let Line::Connection(connection) = line {
-        note_connection(tables, holding, connection, first);
-    }
-}
-
+#[tactic(auto, using(adl_meaning::proofs::Noting::noting))]
+/// Notes the ends of connections that no export gives.
 fn note_connections<'a>(tables: &SourceTables<'a>, holding: &Holding<'a>, first: &mut Earliest<'a>)
     ensures { first.new
         ≡ noted first.old (flat_map (unled_ends (known_in tables.now) (held_as holding.now)) (connections_in holding.now)) }
 {
     for line in holding.composition.lines.as_slice() {
-        note_line_ends(tables, holding, line, first);
+        if let Line::Connection(connection) = line {
+            for end in connection.ends.as_slice() {
+                let port = port_of(holding, end.words.as_slice());
+                note_wrong(
+                    is_unled(tables, &port),
+                    end.words.as_slice(),
+                    end.place,
+                    first,
+                );
+            }
+        }
     }
 }
 
+#[tactic(auto, using(adl_meaning::proofs::Noting::noting))]
 fn note_composition<'a>(
     alloc: Global,
     tables: &SourceTables<'a>,

@@ -4,12 +4,10 @@
 //! each pass here notes what one of them gives.
 #![tactic(auto)]
 
-mod assemblies;
 mod bodies;
 mod exports;
 mod misplaced;
 mod names;
-mod parts;
 mod port;
 mod recursion;
 mod repeats;

@@ -1,30 +1,56 @@
 //! What the names of a source stand for, or the first fault of names.
 
-ghost use Rattle.adl_meaning.specs.Faults.{noted, Refuses};
+ghost use Rattle.adl_meaning.specs.Faults.{noted, at_keyword, where_true, Refuses};
 ghost use Rattle.adl_meaning.specs.Items.{procedures, components, assemblies, procedure_named, component_named, AreFew, Rises};
 ghost use Rattle.adl_meaning.specs.NameFaults.{first_name_fault, AreNamesSound};
 ghost use Rattle.adl_meaning.specs.NoAssembly.{no_assembly};
 ghost use Rattle.adl_meaning.specs.SecondAssembly.{second_assemblies};
 ghost use Rattle.adl_items.specs.Located.{located};
 ghost use Rattle.adl_names.specs.Places.{table_places};
+ghost use Rattle.cam_base.specs.declared.code.Code.TheVariants as code;
 ghost use Rattle.indexmap.specs.IndexMap.{get};
 ghost use Rattle.std.specs.List.{find};
 ghost use Rattle.std.specs.Option.{option_or};
-ghost use Rattle.std.specs.Prelude.{◌≡◌, ◌⊎◌, ◌∷◌, ◌++◌, ℕ, List as Seq, [], None, Some, if◌then◌else◌, map, option_map, OnOk, IfOk};
+ghost use Rattle.std.specs.Prelude.{◌≡◌, ◌==◌, ◌⊎◌, ◌∷◌, ◌++◌, ℕ, List as Seq, [], None, Some, if◌then◌else◌, map, drop, length, option_map, OnOk, IfOk};
 ghost use Rattle.std.specs.Str.{bytes_eq};
 
-use crate::assemblies::{note_none, note_second};
 use crate::bodies::SourceTables;
 use crate::exports::note_misfits;
 use crate::misplaced::note_misplaced;
 use crate::recursion::note_recursive;
 use crate::unknown::note_unknown;
-use adl_ast::{Component, Procedure, Source};
+use adl_ast::{Assembly, Component, Procedure, Source};
 use adl_items::{Located, Names, SourceItems};
 use adl_meaning::{Earliest, ItemAt};
-use cam_base::{Fault, Name, NoMemory, Refused};
+use cam_base::{Code, Fault, Name, NoMemory, Place, Refused};
 use indexmap::IndexMap;
 use std::alloc::Global;
+
+/// Notes each assembly but the first.
+fn note_second<'a>(assemblies: &[Located<'a, Assembly>], first: &mut Earliest<'a>)
+    ensures { first.new
+        ≡ noted first.old (map (λ a. at_keyword code.SecondAssembly a.1.place) (drop 1 (map located assemblies.now))) }
+{
+    if let [_, later @ ..] = assemblies {
+        for x in later {
+            first.note(true, Code::SecondAssembly, x.item.place, b"");
+        }
+    }
+}
+
+/// Notes where there is no assembly.
+fn note_none<'a>(assemblies: &[Located<'a, Assembly>], first: &mut Earliest<'a>)
+    ensures { first.new ≡ noted first.old
+        (where_true (length (map located assemblies.now) == 0)
+        (at_keyword code.NoAssembly (record { file = 0; first = 0; end = 0 }))) }
+{
+    let root = Place {
+        file: 0,
+        first: 0,
+        end: 0,
+    };
+    first.note(assemblies.is_empty(), Code::NoAssembly, root, b"");
+}
 
 fn note_assemblies<'a>(items: &SourceItems<'a>, first: &mut Earliest<'a>)
     ensures { first.new ≡ noted first.old (second_assemblies items.now ++ no_assembly items.now) }

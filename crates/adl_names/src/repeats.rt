@@ -2,12 +2,11 @@
 
 ghost use Rattle.adl_ast.specs.declared.id.Id.{Id as Word};
 ghost use Rattle.adl_items.specs.Located.{located};
-ghost use Rattle.adl_meaning.specs.Duplicate.{methods, again, repeats, repeats_after, repeated_params, duplicates_in_procedure};
+ghost use Rattle.adl_meaning.specs.Duplicate.{methods, again, repeats, repeats_after, duplicates_in_procedure};
 ghost use Rattle.adl_meaning.specs.Faults.{noted};
 ghost use Rattle.adl_meaning.specs.Members.{compositions, configurations};
 ghost use Rattle.adl_names.specs.Tables.{has_name};
 ghost use Rattle.name_tables.specs.ByName.{is_among, found};
-ghost use Rattle.std.specs.List.{flat_map};
 ghost use Rattle.std.specs.Option.{option_or};
 ghost use Rattle.std.specs.Prelude.{◌≡◌, ◌∷◌, ◌||◌, [], ℕ, List as Seq, map, OnOk};
 ghost use Rattle.std.specs.Str.{bytes_eq};
@@ -93,21 +92,6 @@ fn note_methods<'a>(
     Ok(())
 }
 
-fn note_all_params<'a>(
-    alloc: Global,
-    procedure: &'a Procedure,
-    first: &mut Earliest<'a>,
-) -> Result<(), NoMemory>
-    ensures { OnOk result (first.new ≡ noted first.old (flat_map repeated_params (methods procedure.entry.now))) }
-{
-    for member in procedure.members.as_slice() {
-        if let ProcMember::Method(method) = member {
-            note_params(alloc, method.params.as_slice(), first)?;
-        }
-    }
-    Ok(())
-}
-
 /// Notes the later ones of a procedure's methods and of their parameters.
 #[tactic(auto, using(adl_meaning::proofs::Noting::noting))]
 pub fn note_procedure<'a>(
@@ -118,7 +102,12 @@ pub fn note_procedure<'a>(
     ensures { OnOk result (first.new ≡ noted first.old (duplicates_in_procedure procedure.entry.now)) }
 {
     note_methods(alloc, procedure, first)?;
-    note_all_params(alloc, procedure, first)
+    for member in procedure.members.as_slice() {
+        if let ProcMember::Method(method) = member {
+            note_params(alloc, method.params.as_slice(), first)?;
+        }
+    }
+    Ok(())
 }
 
 /// Notes each composition of a component but the first.

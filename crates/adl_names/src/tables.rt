@@ -8,11 +8,11 @@ ghost use Rattle.adl_meaning.specs.Faults.{noted};
 ghost use Rattle.adl_meaning.specs.Holding.{as_held, a_group, held_by, held_as, member_of, exports_in};
 ghost use Rattle.adl_meaning.specs.Known.{is_target, is_exported};
 ghost use Rattle.adl_meaning.specs.Members.{declared_as, declared_by, declared_in, interface_of, attribute_of, compositions, composition_of};
-ghost use Rattle.adl_names.specs.Groups.{AreMembers};
-ghost use Rattle.adl_names.specs.Tables.{has_name, held_told, holding_told, IsHolding};
+ghost use Rattle.adl_names.specs.Bodies.{owner_of};
+ghost use Rattle.adl_names.specs.Tables.{has_name, held_told, holding_told};
 ghost use Rattle.name_tables.specs.ByName.{is_among};
 ghost use Rattle.std.specs.List.{flat_map};
-ghost use Rattle.std.specs.Option.{option_or, option_copied};
+ghost use Rattle.std.specs.Option.{option_or, option_copied, option_and_then};
 ghost use Rattle.std.specs.Prelude.{◌≡◌, ◌∷◌, ◌++◌, ℕ, List as Seq, map, option_map, OnOk, IfOk};
 
 use crate::repeats::{note_compositions, note_configurations, put};
@@ -103,7 +103,10 @@ impl<'a> Members<'a> {
     pub fn of(alloc: Global, group: &'a Group) -> Result<Members<'a>, NoMemory>
         ensures { IfOk result (λ m. m ≡ group.entry.now) }
     {
-        let members = group_members(alloc, group)?;
+        let mut members = NameTable::new(alloc);
+        for instance in group.instances.as_slice() {
+            members.add(&instance.id.name, instance)?;
+        }
         Ok(Members { group, members })
     }
 
@@ -113,20 +116,6 @@ impl<'a> Members<'a> {
     {
         self.members.get(name).copied()
     }
-}
-
-/// The instances of a group by name.
-fn group_members<'a>(
-    alloc: Global,
-    group: &'a Group,
-) -> Result<NameTable<'a, &'a Instance>, NoMemory>
-    ensures { IfOk result (λ t. AreMembers t group.entry.now) }
-{
-    let mut table = NameTable::new(alloc);
-    for instance in group.instances.as_slice() {
-        table.add(&instance.id.name, instance)?;
-    }
-    Ok(table)
 }
 
 fn add_instances<'a>(
@@ -183,22 +172,6 @@ fn add_line<'a>(
     }
 }
 
-/// What a composition holds by name. Notes the names that stand twice.
-fn all_held<'a>(
-    alloc: Global,
-    composition: &'a Composition,
-    first: &mut Earliest<'a>,
-) -> Result<NameTable<'a, Held<'a>>, NoMemory>
-    ensures noted { OnOk result (first.new ≡ noted first.old (duplicates_in_composition composition.entry.now)) }
-    ensures held { IfOk result (λ t. IsHolding t composition.entry.now) }
-{
-    let mut table = NameTable::with_room(alloc, composition.lines.len())?;
-    for line in composition.lines.as_slice() {
-        add_line(alloc, line, &mut table, first)?;
-    }
-    Ok(table)
-}
-
 impl<'a> Holding<'a> {
     /// The table of a composition. Notes the names that stand twice.
     pub fn of(
@@ -209,7 +182,10 @@ impl<'a> Holding<'a> {
         ensures noted { OnOk result (first.new ≡ noted first.old (duplicates_in_composition composition.entry.now)) }
         ensures holding { IfOk result (λ h. h ≡ composition.entry.now) }
     {
-        let held = all_held(alloc, composition, first)?;
+        let mut held = NameTable::with_room(alloc, composition.lines.len())?;
+        for line in composition.lines.as_slice() {
+            add_line(alloc, line, &mut held, first)?;
+        }
         Ok(Holding { composition, held })
     }
 
@@ -353,5 +329,15 @@ impl<'a> ComponentTable<'a> {
         ensures { result ≡ is_exported (composition_of self.now) name.now }
     {
         self.targets.contains(name)
+    }
+}
+
+/// The interface that the name stands for in the component that has a composition; an assembly has none.
+pub fn target<'a>(owner: Option<&ComponentTable<'a>>, name: &Name) -> Option<&'a Interface>
+    ensures { option_copied result ≡ option_and_then (λ c. c.interface name.now) (owner_of owner.entry) }
+{
+    match owner {
+        None => None,
+        Some(table) => table.interface(name),
     }
 }

@@ -4,20 +4,19 @@ ghost use Rattle.adl_meaning.specs.Faults.{noted};
 ghost use Rattle.adl_meaning.specs.Holding.{held_as};
 ghost use Rattle.adl_meaning.specs.Known.{known_in, known_of};
 ghost use Rattle.adl_meaning.specs.Unknown.{within, unless_known, names_procedure, unknown_interface, unknown_in_dotted, unknown_word, unknown_in_setting};
-ghost use Rattle.adl_meaning.specs.Unknown.{unknown_in_line, unknown_in_composition, unknown_in_one_setting, unknown_in_configuration};
+ghost use Rattle.adl_meaning.specs.Unknown.{unknown_in_line, unknown_in_composition, unknown_in_configuration};
 ghost use Rattle.adl_meaning.specs.Unknown.{unknown_attribute, unknown_in_member, unknown_if_configured, unknown_in_assembly, unknown_in_item, is_procedure, unknown_names};
 ghost use Rattle.adl_names.specs.Bodies.{owner_of, item_of};
 ghost use Rattle.adl_names.specs.Scopes.{scope_told, may_hold, is_group};
 ghost use Rattle.adl_ast.specs.declared.component.Member.{Member as MemberOf};
 ghost use Rattle.adl_meaning.specs.Members.{as_composition};
 ghost use Rattle.std.specs.List.{flat_map, filter_map};
-ghost use Rattle.std.specs.Option.{option_and_then};
-ghost use Rattle.std.specs.Prelude.{◌≡◌, ◌∷◌, List as Seq, is_some};
+ghost use Rattle.std.specs.Prelude.{◌≡◌, ◌∷◌, List as Seq};
 
 use crate::bodies::{AssemblyTable, Body, SourceTables};
 use crate::scope::{Scope, of_holding, scope_behind};
-use crate::tables::{ComponentTable, Held, Holding};
-use adl_ast::{Configuration, Id, InterfaceKind, Line, Member, Setter, Setting};
+use crate::tables::{ComponentTable, Held, Holding, target};
+use adl_ast::{Configuration, Id, InterfaceKind, Line, Member, Setter};
 use adl_meaning::{Connector, Earliest};
 use cam_base::{Code, Name};
 
@@ -134,24 +133,6 @@ fn note_setting_words<'t, 'a>(
     }
 }
 
-fn has_attribute(owner: Option<&ComponentTable<'_>>, name: &Name) -> bool
-    ensures { result ≡ is_some (option_and_then (λ c. c.attribute name.now) (owner_of owner.entry)) }
-{
-    match owner {
-        None => false,
-        Some(table) => table.attribute(name).is_some(),
-    }
-}
-
-fn has_interface(owner: Option<&ComponentTable<'_>>, name: &Name) -> bool
-    ensures { result ≡ is_some (option_and_then (λ c. c.interface name.now) (owner_of owner.entry)) }
-{
-    match owner {
-        None => false,
-        Some(table) => table.interface(name).is_some(),
-    }
-}
-
 /// Notes the unknown words of a line. The owner is the component that has it; an assembly is none.
 fn note_line<'a>(
     tables: &SourceTables<'a>,
@@ -183,7 +164,7 @@ fn note_line<'a>(
         }
         Line::Export(it) => {
             note_dotted(tables, holding, it.words.as_slice(), first);
-            note_unless(has_interface(owner, &it.target.name), &it.target, first);
+            note_unless(target(owner, &it.target.name).is_some(), &it.target, first);
         }
     }
 }
@@ -209,23 +190,12 @@ fn note_attribute<'a>(
     ensures { first.new ≡ noted first.old (unknown_attribute (owner_of owner.entry) setter.entry.now) }
 {
     if let Setter::Reference(word) = setter {
-        note_unless(has_attribute(owner, &word.name), word, first);
+        let known = match owner {
+            None => false,
+            Some(table) => table.attribute(&word.name).is_some(),
+        };
+        note_unless(known, word, first);
     }
-}
-
-fn note_setting<'t, 'a>(
-    tables: &'t SourceTables<'a>,
-    owner: Option<&ComponentTable<'a>>,
-    scope: Scope<'t, 'a>,
-    setting: &'a Setting,
-    first: &mut Earliest<'a>,
-)
-    ensures { first.new
-        ≡ noted first.old (unknown_in_one_setting (known_in tables.now)
-        (owner_of owner.entry) (scope_told scope.entry) setting.entry.now) }
-{
-    note_setting_words(tables, scope, setting.words.as_slice(), first);
-    note_attribute(owner, &setting.setter, first);
 }
 
 fn note_configuration<'t, 'a>(
@@ -240,7 +210,8 @@ fn note_configuration<'t, 'a>(
         (owner_of owner.entry) (scope_told scope.entry) configuration.entry.now) }
 {
     for setting in configuration.settings.as_slice() {
-        note_setting(tables, owner, scope, setting, first);
+        note_setting_words(tables, scope, setting.words.as_slice(), first);
+        note_attribute(owner, &setting.setter, first);
     }
 }
 

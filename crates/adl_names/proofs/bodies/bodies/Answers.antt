@@ -1,9 +1,4 @@
-use Rattle.std.proofs.Common.{◌∙◌}
-use Rattle.adl_ast.specs.declared.file.Item.{Item}
-use Rattle.adl_items.specs.Located.{located}
-use Rattle.adl_items.specs.declared.located.Located.{Located}
-use Rattle.adl_meaning.specs.Duplicate.{duplicates_in_item}
-use Rattle.adl_meaning.specs.declared.item_at.ItemAt.{ItemAt}
+use Rattle.adl_names.proofs.Common.{◌∙◌, Item, located, Located, duplicates_in_item, ItemAt}
 use Rattle.adl_meaning.proofs.Noting.{noted_mapped}
 use Rattle.adl_names.proofs.BodyLists.{body_pushed}
 use Rattle.adl_names.proofs.bodies.bodies.Goals as goal

@@ -1,9 +1,4 @@
-use Rattle.std.proofs.Common.{◌≡◌, drop, map, ◌++◌}
-use Rattle.std.specs.List.{filter_map, flat_map}
-use Rattle.adl_items.specs.Located.{located}
-use Rattle.adl_meaning.specs.Duplicate.{duplicates_in_item}
-use Rattle.adl_meaning.specs.Faults.{noted}
-use Rattle.adl_names.specs.Bodies.{as_body}
+use Rattle.adl_names.proofs.Common.{◌≡◌, drop, map, ◌++◌, filter_map, flat_map, located, duplicates_in_item, noted, as_body}
 use Rattle.adl_names.proofs.bodies.bodies.Given as goal
 
 abbrev pub invariant-loop-x : goal.invariant-loop-x

@@ -1,9 +1,4 @@
-use Rattle.std.proofs.Common.{◌≡◌, drop, option_map}
-use Rattle.std.specs.List.{find, enumerate_from}
-use Rattle.std.specs.Option.{option_or}
-use Rattle.adl_meaning.specs.Items.{Name}
-use Rattle.name_tables.specs.ByName.{found}
-use Rattle.adl_names.specs.Bodies.{body_number, is_named}
+use Rattle.adl_names.proofs.Common.{◌≡◌, drop, option_map, find, enumerate_from, option_or, Name, found, body_number, is_named}
 use Rattle.adl_names.proofs.bodies.numbers.Given as goal
 
 abbrev pub invariant-loop-number : goal.invariant-loop-number

@@ -1,11 +1,4 @@
-use Rattle.std.proofs.Common.{◌≡◌, drop, map, ◌||◌, is_some}
-use Rattle.std.specs.List.{find}
-use Rattle.std.specs.Str.{bytes_eq}
-use Rattle.adl_items.specs.Located.{located}
-use Rattle.adl_meaning.specs.Duplicate.{repeats, repeats_after}
-use Rattle.adl_meaning.specs.Faults.{noted}
-use Rattle.adl_meaning.specs.Items.{Name}
-use Rattle.name_tables.specs.ByName.{is_among}
+use Rattle.adl_names.proofs.Common.{◌≡◌, drop, map, ◌||◌, is_some, find, bytes_eq, located, repeats, repeats_after, noted, Name, is_among}
 use Rattle.adl_names.proofs.bodies.procedure_names.Given as goal
 
 abbrev pub invariant-loop-x : goal.invariant-loop-x

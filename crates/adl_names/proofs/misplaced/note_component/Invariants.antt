@@ -1,6 +1,4 @@
-use Rattle.std.proofs.Common.{◌≡◌, drop}
-use Rattle.std.specs.List.{flat_map}
-use Rattle.adl_meaning.specs.Faults.{noted}
+use Rattle.adl_names.proofs.Common.{◌≡◌, drop, flat_map, noted}
 use Rattle.adl_meaning.specs.CompositeBody.{misplaced_member}
 use Rattle.adl_names.proofs.misplaced.note_component.Given as goal
 

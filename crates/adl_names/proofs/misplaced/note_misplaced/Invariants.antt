@@ -1,8 +1,4 @@
-use Rattle.std.proofs.Common.{◌≡◌, drop}
-use Rattle.std.specs.List.{flat_map}
-use Rattle.adl_meaning.specs.CompositeBody.{misplaced_in_item}
-use Rattle.adl_meaning.specs.Faults.{noted}
-use Rattle.adl_names.specs.Bodies.{item_of}
+use Rattle.adl_names.proofs.Common.{◌≡◌, drop, flat_map, misplaced_in_item, noted, item_of}
 use Rattle.adl_names.proofs.misplaced.note_misplaced.Given as goal
 
 abbrev pub invariant-loop-body : goal.invariant-loop-body

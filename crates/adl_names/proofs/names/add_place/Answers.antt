@@ -1,11 +1,7 @@
-use Rattle.std.proofs.Common.{◌≡◌, ◌∙◌, ◌∷◌, [], sym, ap, cond, Some, None, map, inl, inr, refl}
-use Rattle.std.specs.Str.{bytes_eq}
-use Rattle.std.proofs.lemmas.List.{map-append}
+use Rattle.adl_names.proofs.Common.{◌≡◌, ◌∙◌, ◌∷◌, [], sym, ap, cond, Some, None, map, inl, inr, refl, bytes_eq, map-append, get, Name, ItemAt}
 use Rattle.cam_base.proofs.Options.{is_none}
-use Rattle.indexmap.specs.IndexMap.{get, insert_entry}
+use Rattle.indexmap.specs.IndexMap.{insert_entry}
 use Rattle.indexmap.proofs.CallerLemmas.{insert_entry-new}
-use Rattle.adl_meaning.specs.Items.{Name}
-use Rattle.adl_meaning.specs.declared.item_at.ItemAt.{ItemAt}
 use Rattle.name_tables.proofs.NameLookups.{found_put, found_kept}
 use Rattle.adl_names.proofs.names.add_place.Goals as goal
 

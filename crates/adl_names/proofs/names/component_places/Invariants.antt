@@ -1,11 +1,4 @@
-use Rattle.std.proofs.Common.{◌≡◌, ◌++◌, drop, map, option_map}
-use Rattle.std.specs.List.{find}
-use Rattle.std.specs.Option.{option_or}
-use Rattle.std.specs.Str.{bytes_eq}
-use Rattle.indexmap.specs.IndexMap.{get}
-use Rattle.adl_meaning.specs.Items.{Name, Rises}
-use Rattle.adl_items.specs.Located.{located}
-use Rattle.adl_names.specs.Places.{table_places}
+use Rattle.adl_names.proofs.Common.{◌≡◌, ◌++◌, drop, map, option_map, find, option_or, bytes_eq, get, Name, Rises, located, table_places}
 use Rattle.adl_names.proofs.names.component_places.Given as goal
 
 abbrev pub invariant-loop-component : goal.invariant-loop-component

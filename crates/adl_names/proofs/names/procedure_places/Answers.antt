@@ -1,6 +1,4 @@
-use Rattle.std.proofs.Common.{◌∙◌}
-use Rattle.adl_ast.specs.declared.procedure.Procedure.{Procedure}
-use Rattle.adl_names.specs.Places.{table_places}
+use Rattle.adl_names.proofs.Common.{◌∙◌, Procedure, table_places}
 use Rattle.adl_names.proofs.Filling.{first_put, rises_put}
 use Rattle.adl_names.proofs.names.procedure_places.Goals as goal
 

@@ -1,4 +1,4 @@
-use Rattle.std.proofs.Common.{◌∙◌, sym}
+use Rattle.adl_names.proofs.Common.{◌∙◌, sym}
 use Rattle.adl_meaning.proofs.SoundNames.{names_sound}
 use Rattle.adl_names.proofs.names.resolve.Goals as goal
 

@@ -1,10 +1,4 @@
-use Rattle.std.proofs.Common.{◌∙◌, List, ap, sym, subst, option_map}
-use Rattle.std.specs.List.{find}
-use Rattle.std.specs.Str.{bytes_eq}
-use Rattle.adl_ast.specs.declared.component.Component.{Component}
-use Rattle.adl_ast.specs.declared.procedure.Procedure.{Procedure}
-use Rattle.adl_meaning.specs.declared.item_at.ItemAt.{ItemAt}
-use Rattle.adl_meaning.specs.Items.{Rises}
+use Rattle.adl_names.proofs.Common.{◌∙◌, List, ap, sym, subst, option_map, find, bytes_eq, Component, Procedure, ItemAt, Rises}
 use Rattle.adl_names.proofs.Filling.{places-located}
 use Rattle.adl_names.proofs.Rising.{places, rises_procedures, rises_components}
 use Rattle.adl_names.proofs.Whole.{the_assembly}

@@ -1,7 +1,4 @@
-use Rattle.std.proofs.Common.{◌≡◌, drop, ◌++◌, map}
-use Rattle.adl_meaning.specs.Recursive.{types_of}
-use Rattle.name_tables.specs.ByName.{found}
-use Rattle.adl_items.specs.Located.{trees}
+use Rattle.adl_names.proofs.Common.{◌≡◌, drop, ◌++◌, map, types_of, found, trees}
 use Rattle.adl_names.proofs.recursion.graph_of.Given as goal
 
 abbrev pub invariant-loop-x : goal.invariant-loop-x

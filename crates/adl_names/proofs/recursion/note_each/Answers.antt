@@ -1,19 +1,11 @@
-use Rattle.std.proofs.Common.{◌≡◌, ◌∙◌, length, arith, ap}
-use Rattle.std.proofs.lemmas.List.{length-map}
-use Rattle.adl_ast.specs.declared.component.Component.{Component}
-use Rattle.adl_meaning.specs.Recursive.{recursive_in, types_of}
+use Rattle.adl_names.proofs.Common.{◌≡◌, ◌∙◌, Component, Located, recursive_in, found}
+use Rattle.std.proofs.Common.{arith}
 use Rattle.adl_meaning.proofs.Noting.{noted_numbered}
-use Rattle.name_tables.specs.ByName.{found}
-use Rattle.adl_items.specs.Located.{trees}
-use Rattle.adl_items.specs.declared.located.Located.{Located}
-use Rattle.adl_names.proofs.Recurring.{inner_read}
+use Rattle.adl_names.proofs.Recurring.{graph_length, inner_read}
 use Rattle.adl_names.proofs.recursion.note_each.Goals as goal
 
 pub note_component-requires-clause-number : goal.note_component-requires-clause-number
-note_component-requires-clause-number c =
-    let cs = c.args.components.now in
-    let s : length c.args.cycles.now ≡ length cs = ap length c.requires.graph ∙ length-map (trees cs) (types_of (found c.args.numbers.now)) ∙ length-map cs (λ (x : Located Component). x.item.now) in
-    omega arith
+note_component-requires-clause-number c = let e = graph_length _ _ c.args.components.now c.requires.graph in omega arith
 
 pub note_component-requires-clause-types : goal.note_component-requires-clause-types
 note_component-requires-clause-types c =

@@ -1,9 +1,4 @@
-use Rattle.std.proofs.Common.{◌≡◌, drop}
-use Rattle.std.specs.List.{flat_map, enumerate_from}
-use Rattle.adl_meaning.specs.Faults.{noted}
-use Rattle.adl_meaning.specs.Recursive.{recursive_in}
-use Rattle.name_tables.specs.ByName.{found}
-use Rattle.adl_items.specs.Located.{trees}
+use Rattle.adl_names.proofs.Common.{◌≡◌, drop, flat_map, enumerate_from, trees, noted, recursive_in, found}
 use Rattle.adl_names.proofs.recursion.note_each.Given as goal
 
 abbrev pub invariant-loop-i : goal.invariant-loop-i

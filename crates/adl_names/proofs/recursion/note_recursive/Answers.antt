@@ -1,28 +1,26 @@
-use Rattle.std.proofs.Common.{◌≡◌, ◌<◌, ◌∙◌, ℕ, List, length, map, sym, ap, arith, Option}
-use Rattle.std.proofs.lemmas.List.{length-map}
-use Rattle.adl_ast.specs.declared.component.Component.{Component}
-use Rattle.adl_meaning.specs.Faults.{noted}
-use Rattle.adl_meaning.specs.Items.{Name}
-use Rattle.adl_meaning.specs.Recursive.{number_named, recursive_among}
-use Rattle.adl_meaning.specs.declared.item_at.ItemAt.{ItemAt}
-use Rattle.name_tables.specs.ByName.{found}
-use Rattle.adl_items.specs.Located.{trees}
-use Rattle.adl_items.specs.declared.located.Located.{Located}
-use Rattle.component_graph.proofs.ComponentNumbers.{numbers_below}
+use Rattle.adl_names.proofs.Common.{◌≡◌, ◌<◌, ◌∙◌, ℕ, List, length, map, subst, sym, ap, arith, Option, flat_map, enumerate_from, length-map, Component, trees, Located, noted, Name, types_of, recursive_in, ItemAt, found}
+use Rattle.std.proofs.Common.{◌^◌}
 use Rattle.adl_items.proofs.Trees.{trees-located}
+use Rattle.adl_meaning.specs.Graph.{InRange}
+use Rattle.adl_meaning.specs.Recursive.{number_named, recursive_among}
+use Rattle.component_graph.proofs.ComponentNumbers.{numbers_below, graph_in_range}
+use Rattle.adl_names.proofs.Recurring.{graph_length}
 use Rattle.adl_names.proofs.recursion.note_recursive.Goals as goal
 
-pub note_among-requires-clause-numbers : goal.note_among-requires-clause-numbers
-note_among-requires-clause-numbers c = λ m a e.
-    let cs = c.components-components.result.now in
-    let s : length (trees cs) ≡ length cs = length-map cs (λ (x : Located Component). x.item.now) in
-    let l : a < length (trees cs) = numbers_below (trees cs) m a (sym (c.in_ok-numbers.ensures m) ∙ e) in
-    omega arith
+pub of-requires-clause-range : goal.of-requires-clause-range
+of-requires-clause-range c =
+    let cs = trees c.components-components.result.now in
+    let P : List (List ℕ) → Type 0 = λ g. InRange g in
+    subst P (sym c.in_ok-graph.ensures) (graph_in_range (found c.in_ok-numbers.numbers) cs (λ m a e. numbers_below cs m a (sym (c.in_ok-numbers.ensures m) ∙ e)))
+
+pub of-requires-clause-few : goal.of-requires-clause-few
+of-requires-clause-few c = let e = graph_length _ _ c.components-components.result.now c.in_ok-graph.ensures in rw e c.components-components.ensures.few
 
 pub returns : goal.returns
 returns c =
     let cs = c.components-components.result.now in
-    let f = c.args.first.now in
+    let row = λ (g : List (List ℕ)) (x : ℕ × Component). recursive_in (found c.in_ok-numbers.numbers) g x.0 x.1 in
     let same : found c.in_ok-numbers.numbers ≡ number_named (trees cs) = λ i n. c.in_ok-numbers.ensures n i in
-    c.in_ok-note_among.ensures ∙ ap (λ (g : Name → Option ℕ). noted f (recursive_among g (trees cs))) same
-    ∙ ap (λ (zs : List Component). noted f (recursive_among (number_named zs) zs)) (trees-located cs ∙ ap (map (λ (x : ItemAt × Component). x.1)) c.components-components.ensures.components)
+    c.in_ok-note_each.ensures ∙ ap (noted c.args.first.now) (ap (λ g. flat_map (row g) (enumerate_from 0 (trees cs))) (c.in_ok-cycles.ensures ∙ c.in_ok-graph.ensures)
+    ∙ ap (λ (g : Name → Option ℕ). recursive_among g (trees cs)) same
+    ∙ ap (λ (zs : List Component). recursive_among (number_named zs) zs) (trees-located cs ∙ ap (map (λ (x : ItemAt × Component). x.1)) c.components-components.ensures.components))

@@ -1,8 +1,4 @@
-use Rattle.std.proofs.Common.{◌≡◌, drop, map}
-use Rattle.adl_items.specs.Located.{located}
-use Rattle.adl_meaning.specs.Duplicate.{repeats, repeats_after}
-use Rattle.adl_meaning.specs.Faults.{noted}
-use Rattle.name_tables.specs.ByName.{is_among}
+use Rattle.adl_names.proofs.Common.{◌≡◌, drop, map, located, repeats, repeats_after, noted, is_among}
 use Rattle.adl_names.proofs.repeats.note_components.Given as goal
 
 abbrev pub invariant-loop-x : goal.invariant-loop-x

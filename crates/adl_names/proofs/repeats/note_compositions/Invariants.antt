@@ -1,8 +1,4 @@
-use Rattle.std.proofs.Common.{◌≡◌, drop, map, false}
-use Rattle.std.specs.List.{filter_map}
-use Rattle.adl_meaning.specs.Faults.{noted}
-use Rattle.adl_meaning.specs.Members.{as_composition}
-use Rattle.adl_names.specs.Laters.{laters}
+use Rattle.adl_names.proofs.Common.{◌≡◌, drop, map, false, filter_map, noted, as_composition, laters}
 use Rattle.adl_names.proofs.repeats.note_compositions.Given as goal
 
 abbrev pub invariant-loop-member : goal.invariant-loop-member

@@ -1,8 +1,4 @@
-use Rattle.std.proofs.Common.{◌≡◌, drop, map}
-use Rattle.std.specs.List.{filter_map}
-use Rattle.adl_meaning.specs.Duplicate.{as_method, repeats, repeats_after}
-use Rattle.adl_meaning.specs.Faults.{noted}
-use Rattle.name_tables.specs.ByName.{is_among}
+use Rattle.adl_names.proofs.Common.{◌≡◌, drop, map, filter_map, as_method, repeats, repeats_after, noted, is_among}
 use Rattle.adl_names.proofs.repeats.note_methods.Given as goal
 
 abbrev pub invariant-loop-member : goal.invariant-loop-member

@@ -1,7 +1,4 @@
-use Rattle.std.proofs.Common.{◌≡◌, drop, map}
-use Rattle.adl_meaning.specs.Duplicate.{repeats, repeats_after}
-use Rattle.adl_meaning.specs.Faults.{noted}
-use Rattle.name_tables.specs.ByName.{is_among}
+use Rattle.adl_names.proofs.Common.{◌≡◌, drop, map, repeats, repeats_after, noted, is_among}
 use Rattle.adl_names.proofs.repeats.note_params.Given as goal
 
 abbrev pub invariant-loop-param : goal.invariant-loop-param

@@ -1,12 +1,4 @@
-use Rattle.std.proofs.Common.{◌≡◌, drop, map, ◌++◌, List}
-use Rattle.std.specs.Option.{option_or}
-use Rattle.adl_ast.specs.declared.id.Id.{Id}
-use Rattle.adl_items.specs.Firsts.{first_named}
-use Rattle.adl_meaning.specs.Duplicate.{repeats_after}
-use Rattle.adl_meaning.specs.Faults.{noted}
-use Rattle.adl_meaning.specs.Holding.{as_held}
-use Rattle.adl_meaning.specs.Items.{Name}
-use Rattle.adl_names.specs.Tables.{has_name, holding_told}
+use Rattle.adl_names.proofs.Common.{◌≡◌, drop, map, ◌++◌, List, option_or, Id, first_named, repeats_after, noted, as_held, Name, has_name, holding_told}
 use Rattle.adl_names.proofs.tables.add_instances.Given as goal
 
 abbrev pub invariant-loop-instance : goal.invariant-loop-instance

@@ -1,6 +1,4 @@
-use Rattle.std.proofs.Common.{◌∙◌}
-use Rattle.adl_meaning.specs.Members.{declared_by}
-use Rattle.adl_names.specs.Tables.{has_name}
+use Rattle.adl_names.proofs.Common.{◌∙◌, declared_by, has_name}
 use Rattle.adl_names.proofs.Repeating.{named_each}
 use Rattle.adl_names.proofs.TableSteps.{named_put}
 use Rattle.adl_names.proofs.tables.declaring.Goals as goal

@@ -1,13 +1,5 @@
-use Rattle.std.proofs.Common.{◌≡◌, drop, map}
-use Rattle.std.specs.Option.{option_or}
-use Rattle.std.specs.List.{flat_map}
+use Rattle.adl_names.proofs.Common.{◌≡◌, drop, map, option_or, flat_map, first_named, repeats, repeats_after, noted, Name, declared_by, has_name}
 use Rattle.adl_items.specs.Declaring.{declaring_told}
-use Rattle.adl_items.specs.Firsts.{first_named}
-use Rattle.adl_meaning.specs.Duplicate.{repeats, repeats_after}
-use Rattle.adl_meaning.specs.Faults.{noted}
-use Rattle.adl_meaning.specs.Items.{Name}
-use Rattle.adl_meaning.specs.Members.{declared_by}
-use Rattle.adl_names.specs.Tables.{has_name}
 use Rattle.adl_names.proofs.tables.declaring.Given as goal
 
 abbrev pub invariant-loop-member : goal.invariant-loop-member

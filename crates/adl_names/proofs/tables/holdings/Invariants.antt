@@ -1,8 +1,5 @@
-use Rattle.std.proofs.Common.{◌≡◌, drop, ◌++◌}
-use Rattle.std.specs.List.{filter_map, flat_map}
+use Rattle.adl_names.proofs.Common.{◌≡◌, drop, ◌++◌, filter_map, flat_map, noted, as_composition}
 use Rattle.adl_meaning.specs.Duplicate.{duplicates_in_composition}
-use Rattle.adl_meaning.specs.Faults.{noted}
-use Rattle.adl_meaning.specs.Members.{as_composition}
 use Rattle.adl_names.proofs.tables.holdings.Given as goal
 
 abbrev pub invariant-loop-member : goal.invariant-loop-member

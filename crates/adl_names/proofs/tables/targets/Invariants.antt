@@ -1,9 +1,5 @@
-use Rattle.std.proofs.Common.{◌≡◌, drop, ◌||◌}
-use Rattle.std.specs.List.{filter_map}
-use Rattle.adl_meaning.specs.Holding.{as_export}
+use Rattle.adl_names.proofs.Common.{◌≡◌, drop, ◌||◌, filter_map, as_export, Name, is_among}
 use Rattle.adl_meaning.specs.Known.{is_target}
-use Rattle.adl_meaning.specs.Items.{Name}
-use Rattle.name_tables.specs.ByName.{is_among}
 use Rattle.adl_names.proofs.tables.targets.Given as goal
 
 abbrev pub invariant-loop-line : goal.invariant-loop-line

@@ -1,9 +1,4 @@
-use Rattle.std.proofs.Common.{◌≡◌, ◌∙◌, ◌+◌, ◌∷◌, drop, ap}
-use Rattle.std.specs.List.{filter_map}
-use Rattle.cam_base.proofs.Lists.{drop_first}
-use Rattle.adl_meaning.specs.Known.{known_in, known_of}
-use Rattle.adl_meaning.specs.Members.{as_composition}
-use Rattle.adl_meaning.specs.Unknown.{unknown_in_member, is_procedure}
+use Rattle.adl_names.proofs.Common.{◌≡◌, ◌∙◌, ◌+◌, ◌∷◌, drop, ap, filter_map, drop_first, known_in, known_of, as_composition, unknown_in_member, is_procedure}
 use Rattle.adl_meaning.proofs.Noting.{noted_each}
 use Rattle.adl_names.proofs.unknown.note_component.Goals as goal
 

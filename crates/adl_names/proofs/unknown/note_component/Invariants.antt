@@ -1,9 +1,4 @@
-use Rattle.std.proofs.Common.{◌≡◌, drop}
-use Rattle.std.specs.List.{flat_map, filter_map}
-use Rattle.adl_meaning.specs.Faults.{noted}
-use Rattle.adl_meaning.specs.Known.{known_in, known_of}
-use Rattle.adl_meaning.specs.Members.{as_composition}
-use Rattle.adl_meaning.specs.Unknown.{unknown_in_member, is_procedure}
+use Rattle.adl_names.proofs.Common.{◌≡◌, drop, flat_map, filter_map, noted, known_in, known_of, as_composition, unknown_in_member, is_procedure}
 use Rattle.adl_names.proofs.unknown.note_component.Given as goal
 
 abbrev pub invariant-loop-member : goal.invariant-loop-member

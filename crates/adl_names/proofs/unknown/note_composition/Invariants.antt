@@ -1,10 +1,5 @@
-use Rattle.std.proofs.Common.{◌≡◌, drop}
-use Rattle.std.specs.List.{flat_map}
-use Rattle.adl_meaning.specs.Faults.{noted}
-use Rattle.adl_meaning.specs.Holding.{held_as}
-use Rattle.adl_meaning.specs.Known.{known_in}
+use Rattle.adl_names.proofs.Common.{◌≡◌, drop, flat_map, noted, held_as, known_in, owner_of}
 use Rattle.adl_meaning.specs.Unknown.{unknown_in_line}
-use Rattle.adl_names.specs.Bodies.{owner_of}
 use Rattle.adl_names.proofs.unknown.note_composition.Given as goal
 
 abbrev pub invariant-loop-line : goal.invariant-loop-line

@@ -1,12 +1,18 @@
-use Rattle.std.proofs.Common.{◌∙◌}
+use Rattle.std.proofs.Common.{◌∙◌, ap}
+use Rattle.adl_meaning.specs.Faults.{noted}
 use Rattle.adl_meaning.specs.Known.{known_in}
-use Rattle.adl_meaning.specs.Unknown.{unknown_in_one_setting}
-use Rattle.adl_meaning.proofs.Noting.{noted_each}
+use Rattle.adl_meaning.specs.Unknown.{unknown_in_setting, unknown_attribute, unknown_in_one_setting}
+use Rattle.adl_meaning.proofs.Noting.{noted_each, noted_then}
 use Rattle.adl_names.specs.Bodies.{owner_of}
 use Rattle.adl_names.specs.Scopes.{scope_told}
 use Rattle.adl_names.proofs.unknown.note_configuration.Goals as goal
 
 pub loop-setting-preserved : goal.loop-setting-preserved
 loop-setting-preserved c =
-    noted_each (unknown_in_one_setting (known_in c.args.tables.now) (owner_of c.args.owner) (scope_told c.args.scope)) _ _ c.as_slice-setting-items.result.now c.loop-setting.setting-index c.setting-item.result
-    c.loop-setting-test.true c.setting-item.is c.note_setting.ensures ∙ c.loop-setting.invariant
+    let owner = owner_of c.args.owner in
+    let words = unknown_in_setting (known_in c.args.tables.now) (scope_told c.args.scope) in
+    let x = c.setting-item.result in
+    noted_each (unknown_in_one_setting (known_in c.args.tables.now) owner (scope_told c.args.scope)) _ _ c.as_slice-setting-items.result.now c.loop-setting.setting-index x c.loop-setting-test.true c.setting-item.is
+    (noted_then _ c.note_setting_words.new.first c.loop-setting.first (words x.words) (unknown_attribute owner x.setter)
+    (c.note_setting_words.ensures ∙ ap (λ ws. noted c.loop-setting.first (words ws)) c.as_slice.ensures) c.note_attribute.ensures)
+    ∙ c.loop-setting.invariant

@@ -1,10 +1,5 @@
-use Rattle.std.proofs.Common.{◌≡◌, drop}
-use Rattle.std.specs.List.{flat_map}
-use Rattle.adl_meaning.specs.Faults.{noted}
-use Rattle.adl_meaning.specs.Known.{known_in}
+use Rattle.adl_names.proofs.Common.{◌≡◌, drop, flat_map, noted, known_in, owner_of, scope_told}
 use Rattle.adl_meaning.specs.Unknown.{unknown_in_one_setting}
-use Rattle.adl_names.specs.Bodies.{owner_of}
-use Rattle.adl_names.specs.Scopes.{scope_told}
 use Rattle.adl_names.proofs.unknown.note_configuration.Given as goal
 
 abbrev pub invariant-loop-setting : goal.invariant-loop-setting

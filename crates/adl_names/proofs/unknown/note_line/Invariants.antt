@@ -1,8 +1,4 @@
-use Rattle.std.proofs.Common.{◌≡◌, drop}
-use Rattle.std.specs.List.{flat_map}
-use Rattle.adl_meaning.specs.Faults.{noted}
-use Rattle.adl_meaning.specs.Holding.{held_as}
-use Rattle.adl_meaning.specs.Known.{known_in}
+use Rattle.adl_names.proofs.Common.{◌≡◌, drop, flat_map, noted, held_as, known_in}
 use Rattle.adl_meaning.specs.Unknown.{unknown_type, unknown_in_dotted}
 use Rattle.adl_names.proofs.unknown.note_line.Given as goal
 

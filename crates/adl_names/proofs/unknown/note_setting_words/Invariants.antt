@@ -1,8 +1,5 @@
-use Rattle.std.proofs.Common.{◌≡◌, length}
-use Rattle.adl_meaning.specs.Faults.{noted}
-use Rattle.adl_meaning.specs.Known.{known_in}
+use Rattle.adl_names.proofs.Common.{◌≡◌, length, noted, known_in, scope_told}
 use Rattle.adl_meaning.specs.Unknown.{unknown_in_setting}
-use Rattle.adl_names.specs.Scopes.{scope_told}
 use Rattle.adl_names.proofs.unknown.note_setting_words.Given as goal
 
 abbrev pub invariant-loop-rest : goal.invariant-loop-rest

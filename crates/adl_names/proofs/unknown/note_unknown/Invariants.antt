@@ -1,9 +1,4 @@
-use Rattle.std.proofs.Common.{◌≡◌, drop}
-use Rattle.std.specs.List.{flat_map}
-use Rattle.adl_meaning.specs.Faults.{noted}
-use Rattle.adl_meaning.specs.Known.{known_in}
-use Rattle.adl_meaning.specs.Unknown.{unknown_in_item, is_procedure}
-use Rattle.adl_names.specs.Bodies.{item_of}
+use Rattle.adl_names.proofs.Common.{◌≡◌, drop, flat_map, noted, known_in, unknown_in_item, is_procedure, item_of}
 use Rattle.adl_names.proofs.unknown.note_unknown.Given as goal
 
 abbrev pub invariant-loop-body : goal.invariant-loop-body

@@ -1,15 +1,5 @@
-use Rattle.std.proofs.Common.{◌≡◌, ◌∙◌, ◌++◌, map, ap, sym, is_some}
-use Rattle.std.specs.List.{filter_map, find, flat_map}
-use Rattle.std.specs.Str.{bytes_eq}
-use Rattle.adl_ast.specs.declared.component.Component.{Component}
-use Rattle.adl_ast.specs.declared.file.Item.{Item}
-use Rattle.adl_ast.specs.declared.procedure.Procedure.{Procedure}
-use Rattle.adl_meaning.specs.Duplicate.{repeats, duplicates_in_item}
-use Rattle.adl_meaning.specs.Faults.{noted}
-use Rattle.adl_meaning.specs.Items.{procedures, components, items_of}
-use Rattle.adl_meaning.specs.declared.item_at.ItemAt.{ItemAt}
+use Rattle.adl_names.proofs.Common.{◌≡◌, ◌∙◌, ◌++◌, map, ap, sym, is_some, filter_map, find, flat_map, bytes_eq, Component, Item, Procedure, repeats, duplicates_in_item, noted, procedures, components, items_of, ItemAt, as_body, bodies_of, body_number, component_at}
 use Rattle.adl_meaning.proofs.Noting.{noted_then}
-use Rattle.adl_names.specs.Bodies.{as_body, bodies_of, body_number, component_at}
 use Rattle.adl_names.proofs.BodyLists.{component_numbered}
 use Rattle.adl_names.proofs.bodies.SourceTables.of.Goals as goal
 

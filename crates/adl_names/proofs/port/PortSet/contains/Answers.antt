@@ -1,5 +1,4 @@
-use Rattle.std.proofs.Common.{◌∙◌, sym, ap}
-use Rattle.adl_names.specs.Ports.{is_port_among}
+use Rattle.adl_names.proofs.Common.{◌∙◌, sym, ap, is_port_among}
 use Rattle.adl_names.proofs.PortSets.{has_key, among-keys}
 use Rattle.adl_names.proofs.port.PortSet.contains.Goals as goal
 

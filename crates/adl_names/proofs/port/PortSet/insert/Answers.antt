@@ -1,7 +1,5 @@
-use Rattle.std.proofs.Common.{◌∙◌, ◌||◌, sym, ap, cond, true, ◌&&◌, nat_eq}
-use Rattle.std.specs.Str.{bytes_eq}
+use Rattle.adl_names.proofs.Common.{◌∙◌, ◌||◌, sym, ap, cond, true, ◌&&◌, nat_eq, bytes_eq, is_port_among}
 use Rattle.adl_meaning.specs.Export.{same_port}
-use Rattle.adl_names.specs.Ports.{is_port_among}
 use Rattle.adl_names.proofs.PortSets.{has_key, among-keys, or_from_keys}
 use Rattle.adl_names.proofs.port.PortSet.insert.Goals as goal
 

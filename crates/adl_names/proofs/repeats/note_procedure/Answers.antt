@@ -4,8 +4,8 @@ use Rattle.adl_ast.specs.declared.procedure.Param.{Param}
 use Rattle.adl_meaning.specs.Duplicate.{as_method, repeats, repeated_params}
 use Rattle.adl_meaning.specs.Faults.{noted}
 use Rattle.adl_names.proofs.KindLists.{drop_none, drop_some, no_method, noted_one}
-use Rattle.adl_names.proofs.repeats.note_all_params.Goals as goal
-use Rattle.adl_names.proofs.repeats.note_all_params.Goals.{in-Method+in_ok-note_params, in_default}
+use Rattle.adl_names.proofs.repeats.note_procedure.Goals as goal
+use Rattle.adl_names.proofs.repeats.note_procedure.Goals.{in-Method+in_ok-note_params, in_default}
 
 pub loop-member-preserved : goal.loop-member-preserved
 loop-member-preserved c =

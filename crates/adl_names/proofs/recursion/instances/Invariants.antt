@@ -1,9 +1,6 @@
-use Rattle.std.proofs.Common.{◌≡◌, drop, ◌++◌}
-use Rattle.std.specs.List.{flat_map, filter_map}
-use Rattle.adl_items.specs.Pointed.{pointed}
+use Rattle.adl_names.proofs.Common.{◌≡◌, drop, ◌++◌, flat_map, filter_map, pointed, as_composition}
 use Rattle.adl_meaning.specs.Holding.{instances_in}
-use Rattle.adl_meaning.specs.Members.{as_composition}
-use Rattle.adl_names.proofs.parts.instances.Given as goal
+use Rattle.adl_names.proofs.recursion.instances.Given as goal
 
 abbrev pub invariant-loop-member : goal.invariant-loop-member
 invariant-loop-member l =

@@ -1,8 +1,7 @@
-use Rattle.std.proofs.Common.{◌≡◌, drop, map}
+use Rattle.adl_names.proofs.Common.{◌≡◌, drop, map, noted, located}
 use Rattle.cam_base.specs.declared.code.Code.TheVariants as code
-use Rattle.adl_meaning.specs.Faults.{noted, at_keyword}
-use Rattle.adl_items.specs.Located.{located}
-use Rattle.adl_names.proofs.assemblies.note_second.Given as goal
+use Rattle.adl_meaning.specs.Faults.{at_keyword}
+use Rattle.adl_names.proofs.names.note_second.Given as goal
 
 abbrev pub invariant-loop-x : goal.invariant-loop-x
 invariant-loop-x l =

@@ -1,8 +1,6 @@
-use Rattle.std.proofs.Common.{◌≡◌, ◌+◌, drop, ◌++◌}
-use Rattle.std.specs.List.{flat_map}
-use Rattle.adl_items.specs.Pointed.{pointed}
+use Rattle.adl_names.proofs.Common.{◌≡◌, ◌+◌, drop, ◌++◌, flat_map, pointed}
 use Rattle.adl_meaning.specs.Holding.{instances_by}
-use Rattle.adl_names.proofs.parts.push_composition.Given as goal
+use Rattle.adl_names.proofs.recursion.push_composition.Given as goal
 
 abbrev pub invariant-loop-line : goal.invariant-loop-line
 invariant-loop-line l =
