@@ -1,5 +1,5 @@
 -- Domains of leaves, one leaf further.
-use Rattle.std.proofs.Common.{◌≡◌, ◌<◌, ◌+◌, ℕ, suc, zero, Bool, true, false, cond, List, length, get_or, drop, [], ◌∷◌, ◌++◌, map, Option, Some, None, refl, sym, ◌∙◌, ap, append_assoc}
+use Rattle.std.proofs.Common.{◌≡◌, ◌<◌, ◌+◌, ℕ, suc, zero, Bool, true, false, cond, List, length, get_or, drop, [], ◌∷◌, ◌++◌, map, Option, None, refl, sym, ◌∙◌, ap, append_assoc}
 use Rattle.std.specs.List.{filter, enumerate_from}
 use Rattle.std.proofs.lemmas.List.{get_or_default}
 use Rattle.cam_base.proofs.Lists.{drop_first}
