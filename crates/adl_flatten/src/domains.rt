@@ -36,7 +36,8 @@ impl<'a> Homes<'a> {
     #[tactic(auto, using(crate::proofs::PathLookups::met_more, crate::proofs::PathLookups::met_place))]
     fn add(&mut self, home: Option<PathKey<'a>>) -> Result<(), NoMemory>
         requires { length self.old.paths.keys < 2 ^ 32 }
-        ensures paths { OnOk result ((more : Seq (Maybe PathOf)) → all_met self.new.paths.keys more ≡ all_met self.old.paths.keys (home.entry ∷ more)) }
+        ensures paths { OnOk result ((more : Seq (Maybe PathOf)) → all_met self.new.paths.keys more
+            ≡ all_met self.old.paths.keys (home.entry ∷ more)) }
         ensures numbers { OnOk result ((more : Seq (Maybe PathOf)) → self.new.numbers.items
             ≡ self.old.numbers.items ++ home_number (all_met self.new.paths.keys more) home.entry ∷ []) }
         ensures count { OnOk result (length self.new.paths.keys ≤ length self.old.paths.keys + 1) }
