@@ -216,8 +216,8 @@ fn note_exports<'a>(
     Ok(())
 }
 
-#[tactic(auto, using(adl_meaning::proofs::Noting::noting))]
 /// Notes the ends of connections that no export gives.
+#[tactic(auto, using(adl_meaning::proofs::Noting::noting))]
 fn note_connections<'a>(tables: &SourceTables<'a>, holding: &Holding<'a>, first: &mut Earliest<'a>)
     ensures { first.new
         ≡ noted first.old (flat_map (unled_ends (known_in tables.now) (held_as holding.now)) (connections_in holding.now)) }

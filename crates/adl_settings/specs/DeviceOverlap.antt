@@ -1,47 +1,42 @@
 -- DeviceOverlap stands at the literal that gives the address of a joined dataport of a device, where another one shares a
 -- physical page with it. It has no name. A dataport whose address or size isn't allowed or is missing is left out, also as
--- the other one. A dataport that several ends join is one.
-use Rattle.std.specs.Prelude.{◌+◌, ◌==◌, ℕ, nat_lt, Bool, ◌&&◌, not, List, Option, option_map}
+-- the other one. A dataport that several ends join is one. Both begin at a page and have whole pages.
+use Rattle.std.specs.Prelude.{ℕ, List, map, Option, option_map}
 use Rattle.std.specs.List.{flat_map, filter_map, list_any}
 use Rattle.std.specs.Option.{option_and_then}
 use Rattle.cam_base.specs.declared.code.Code.TheVariants as code
 use Rattle.cam_base.specs.declared.place.Fault.{Fault}
-use Rattle.cam_base.specs.declared.place.Place.{Place}
 use Rattle.adl_meaning.specs.Faults.{at_keyword, where_true}
 use Rattle.adl_meaning.specs.Values.{Given}
+use Rattle.adl_settings.specs.declared.overlaps.DeviceRegion.{DeviceRegion}
 use Rattle.adl_settings.specs.EndMeaning.{bytes_of, paddr_of}
 use Rattle.adl_settings.specs.Joints.{Found}
+use Rattle.page_index.specs.declared.region.Region.{Region}
+use Rattle.page_index.specs.Sharing.{shares}
 
--- the pages of a device
-pub record Region : Type 0 where
-  pub leaf : ℕ
-  pub member : ℕ
-  pub first : ℕ  -- the address
-  pub bytes : ℕ
-  pub place : Place  -- of the literal that gives the address
-
-abbrev pub region_from : Found → ℕ → ℕ → Given → Region
-region_from f bytes first g = record { leaf = f.joint.end.leaf; member = f.joint.end.member; first = first; bytes = bytes; place = g.value.place }
+-- the pages from an address on, by the numbers of the leaf and of the interface
+abbrev pub region_from : Found → ℕ → ℕ → Given → DeviceRegion
+region_from f bytes first g = record {
+  pages = record { key = (f.joint.end.leaf, f.joint.end.member); first = first; count = bytes };
+  place = g.value.place;
+}
 
 -- the region of an end, where both numbers are allowed
-abbrev pub region_of : Found → Option Region
+abbrev pub region_of : Found → Option DeviceRegion
 region_of f = option_and_then (λ bytes. option_and_then (λ first. option_map (region_from f bytes first) f.paddr) (paddr_of f)) (bytes_of f)
 
-abbrev pub regions_in : List Found → List Region
+abbrev pub regions_in : List Found → List DeviceRegion
 regions_in ends = filter_map region_of ends
 
-abbrev pub regions : List (List Found) → List Region
+abbrev pub regions : List (List Found) → List DeviceRegion
 regions connections = flat_map regions_in connections
 
--- the regions of two interfaces have a page in common; both begin at a page and have whole pages
-abbrev pub shares_page : Region → Region → Bool
-shares_page a b = not (a.leaf == b.leaf && a.member == b.member) && (nat_lt a.first (b.first + b.bytes) && nat_lt b.first (a.first + a.bytes))
+-- a region, where one of these shares a page with it
+abbrev pub overlap_at : List Region → DeviceRegion → List Fault
+overlap_at all a = where_true (list_any (shares a.pages) all) (at_keyword code.DeviceOverlap a.place)
 
-abbrev pub overlap_at : List Region → Region → List Fault
-overlap_at all a = where_true (list_any (shares_page a) all) (at_keyword code.DeviceOverlap a.place)
-
-abbrev pub overlaps_among : List Region → List Fault
-overlaps_among all = flat_map (overlap_at all) all
+abbrev pub overlaps_among : List DeviceRegion → List Fault
+overlaps_among all = flat_map (overlap_at (map (λ a. a.pages) all)) all
 
 abbrev pub overlaps : List (List Found) → List Fault
 overlaps connections = overlaps_among (regions connections)

@@ -12,7 +12,6 @@ pub mod Repeated
 pub mod SettingFaults
 pub mod SettingTwice
 pub mod Settled
-pub mod SharedPages
 pub use Rattle.adl_meaning.specs.Faults
 pub use Rattle.adl_meaning.specs.FewMembers
 pub use Rattle.adl_meaning.specs.Flat

@@ -45,11 +45,7 @@ fn within(least: u64, greatest: u64, number: u64) -> Option<u64>
     ensures value { result ≡ within least greatest number }
     ensures bound { IfSome result (λ n. n ≤ greatest) }
 {
-    if least <= number && number <= greatest {
-        Some(number)
-    } else {
-        None
-    }
+    (least <= number && number <= greatest).then_some(number)
 }
 
 fn number_within(least: u64, greatest: u64, value: &Value) -> Option<u64>
@@ -81,56 +77,23 @@ pub fn stack_in(value: &Value) -> Option<u64>
     Some(whole_pages(number_within(1, 16_777_216, value)?))
 }
 
-fn access_named(text: &[u8]) -> Option<Access>
-    ensures { result ≡ access_named text.now }
-{
-    if text == b"R".as_slice() {
-        Some(Access {
-            read: true,
-            write: false,
-        })
-    } else if text == b"W".as_slice() {
-        Some(Access {
-            read: false,
-            write: true,
-        })
-    } else if text == b"RW".as_slice() {
-        Some(Access {
-            read: true,
-            write: true,
-        })
-    } else {
-        None
-    }
-}
-
 /// The access that a value means.
 pub fn access_in(value: &Value) -> Option<Access>
     ensures { result ≡ access_in value.now }
 {
-    access_named(text_in(value)?)
+    let (read, write) = match text_in(value)? {
+        b"R" => (true, false),
+        b"W" => (false, true),
+        b"RW" => (true, true),
+        _ => return None,
+    };
+    Some(Access { read, write })
 }
 
 fn all_digits(text: &[u8]) -> bool
     ensures { result ≡ list_all is_digit text.now }
 {
     text.iter().all(|b| b.is_ascii_digit())
-}
-
-fn is_badge_text(text: &[u8]) -> bool
-    ensures { result ≡ is_badge_text text.now }
-{
-    1 <= text.len() && text.len() <= 9 && all_digits(text)
-}
-
-/// The number that another digit makes of a number.
-fn with_digit(value: u64, digit: u8) -> u64
-    requires small { value < 10 ^ 9 }
-    requires digit { is_digit digit ≡ true }
-    ensures value { result ≡ value * 10 + digit_value digit }
-    ensures bound { result < value * 10 + 10 }
-{
-    value * 10 + (digit - b'0') as u64
 }
 
 /// The number that so few digits write.
@@ -141,7 +104,7 @@ fn digits_value(digits: &[u8]) -> u64
 {
     let mut value: u64 = 0;
     for digit in digits {
-        value = with_digit(value, *digit);
+        value = value * 10 + (*digit - b'0') as u64;
     }
     value
 }
@@ -149,7 +112,7 @@ fn digits_value(digits: &[u8]) -> u64
 fn badge_named(text: &[u8]) -> Option<u64>
     ensures { result ≡ badge_named text.now }
 {
-    if is_badge_text(text) {
+    if 1 <= text.len() && text.len() <= 9 && all_digits(text) {
         within(0, GREATEST_BADGE, digits_value(text))
     } else {
         None
@@ -184,11 +147,8 @@ pub fn size_in(value: &Value) -> Option<u64>
 fn placed(bytes: u64, address: u64) -> Option<u64>
     ensures { result ≡ placed bytes address }
 {
-    if address % PAGE == 0 && address <= PHYSICAL_END && bytes <= PHYSICAL_END - address {
-        Some(address)
-    } else {
-        None
-    }
+    let fits = address <= PHYSICAL_END && bytes <= PHYSICAL_END - address;
+    (address % PAGE == 0 && fits).then_some(address)
 }
 
 /// The address of a device's registers of so many bytes that a value means.

@@ -24,6 +24,7 @@ fn note_leaf<'a>(leaf: &LeafFound<'a>, first: &mut Earliest<'a>)
     note_unless(leaf.stack().is_some(), &leaf.stack, first);
 }
 
+#[tactic(auto, using(crate::proofs::BadMeant::bad_meant, adl_meaning::proofs::Noting::noting))]
 fn note_end<'a>(end: &Found<'a>, first: &mut Earliest<'a>)
     ensures { first.new ≡ noted first.old (bad_at_end end.now) }
 {

@@ -1,40 +1,17 @@
 //! Ends of one connection with one badge.
 
 ghost use Rattle.adl_meaning.specs.Faults.{noted};
-ghost use Rattle.adl_settings.specs.BadgeTwice.{last_in, badged, badges_twice_in, badges_twice};
+ghost use Rattle.adl_settings.specs.BadgeTwice.{last_in, own_badge, badge_twice_at, badges_twice_in, badges_twice};
+ghost use Rattle.adl_settings.specs.Repeated.{is_among};
 ghost use Rattle.std.specs.List.{filter_map};
-ghost use Rattle.std.specs.Prelude.{◌≡◌, map, OnOk, IfOk};
+ghost use Rattle.std.specs.Prelude.{◌≡◌, OnOk, IfOk};
 
 use crate::repeated::repeated;
 use crate::{Found, FoundEnds};
 use adl_meaning::Earliest;
-use cam_base::{Code, NoMemory, Path, Place};
+use cam_base::{Code, NoMemory, Path};
+use indexmap::IndexSet;
 use std::alloc::Global;
-use std::marker::Model;
-
-/// An end with its badge, and the name of its connection. Contracts see it as that.
-#[derive(Drop)]
-pub struct Badged<'a> {
-    badge: u64,
-    place: Place,
-    connection: &'a [u8],
-}
-
-impl<'a> Model for Badged<'a> {
-    ghost use Rattle.adl_settings.specs.BadgeTwice.{Badged as BadgedOf};
-
-    ghost Value = { BadgedOf };
-
-    ghost view = { λ b. record { badge = b.badge; place = b.place; connection = b.connection.now } };
-}
-
-impl<'a> Badged<'a> {
-    fn badge(&self) -> u64
-        ensures { result ≡ self.now.badge }
-    {
-        self.badge
-    }
-}
 
 fn last_in(path: &Path) -> &[u8]
     ensures { result.now ≡ last_in path.now }
@@ -45,40 +22,30 @@ fn last_in(path: &Path) -> &[u8]
     }
 }
 
-fn with_badge<'a>(end: &Found<'a>) -> Option<Badged<'a>>
-    ensures { result ≡ badged end.now }
+/// The badge of an end that has one.
+fn own_badge(end: &Found<'_>) -> Option<u64>
+    ensures { result ≡ own_badge end.now }
 {
-    let joint = &end.joint;
-    if !joint.has_badge() {
+    if !end.joint.has_badge() {
         return None;
     }
-    match end.badge() {
-        None => None,
-        Some(badge) => Some(Badged {
-            badge,
-            place: joint.end.place,
-            connection: last_in(&joint.connection.path),
-        }),
-    }
+    end.badge()
 }
 
-fn all_badged<'a>(alloc: Global, ends: &[Found<'a>]) -> Result<Vec<Badged<'a>>, NoMemory>
-    ensures { IfOk result (λ v. v.items ≡ filter_map badged ends.now) }
+fn own_badges(alloc: Global, ends: &[Found<'_>]) -> Result<Vec<u64>, NoMemory>
+    ensures { IfOk result (λ v. v.items ≡ filter_map own_badge ends.now) }
 {
-    let mut found = Vec::new(alloc);
-    for end in ends {
-        if let Some(end) = with_badge(end) {
-            found.push(end)?;
-        }
-    }
-    Ok(found)
-}
-
-fn badges(alloc: Global, ends: &[Badged<'_>]) -> Result<Vec<u64>, NoMemory>
-    ensures { IfOk result (λ v. v.items ≡ map (λ a. a.badge) ends.now) }
-{
-    let badges = ends.iter().map(|end| end.badge()).collect(alloc)?;
+    let badges = ends.iter().filter_map(|end| own_badge(end)).collect(alloc)?;
     Ok(badges)
+}
+
+fn note_end<'a>(end: &Found<'a>, twice: &IndexSet<u64>, first: &mut Earliest<'a>)
+    ensures { first.new ≡ noted first.old (badge_twice_at (is_among twice.now.keys) end.now) }
+{
+    if let Some(badge) = own_badge(end) {
+        let (place, name) = (end.joint.end.place, last_in(&end.joint.connection.path));
+        first.note(twice.contains(&badge), Code::BadgeTwice, place, name);
+    }
 }
 
 fn note_ends<'a>(
@@ -88,16 +55,10 @@ fn note_ends<'a>(
 ) -> Result<(), NoMemory>
     ensures { OnOk result (first.new ≡ noted first.old (badges_twice_in ends.now)) }
 {
-    let ends = all_badged(alloc, ends)?;
-    let badges = badges(alloc, ends.as_slice())?;
+    let badges = own_badges(alloc, ends)?;
     let twice = repeated(alloc, badges.as_slice())?;
-    for end in ends.as_slice() {
-        first.note(
-            twice.contains(end.badge),
-            Code::BadgeTwice,
-            end.place,
-            end.connection,
-        );
+    for end in ends {
+        note_end(end, &twice, first);
     }
     Ok(())
 }

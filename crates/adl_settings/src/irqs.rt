@@ -1,13 +1,15 @@
 //! Interrupts of devices with one number.
 
 ghost use Rattle.adl_meaning.specs.Faults.{noted};
-ghost use Rattle.adl_settings.specs.IrqTwice.{irq_at, irqs, irqs_twice};
+ghost use Rattle.adl_settings.specs.IrqTwice.{irq_at, irqs, irq_twice_at, irqs_twice};
+ghost use Rattle.adl_settings.specs.Repeated.{is_among};
 ghost use Rattle.std.specs.Prelude.{◌≡◌, map, OnOk, IfOk};
 
 use crate::repeated::repeated;
 use crate::{Found, FoundEnds};
 use adl_meaning::Earliest;
 use cam_base::{Code, NoMemory, Place};
+use indexmap::IndexSet;
 use std::alloc::Global;
 use std::marker::Model;
 
@@ -37,13 +39,9 @@ impl Irq {
 fn irq_at(end: &Found<'_>) -> Option<Irq>
     ensures { result ≡ irq_at end.now }
 {
-    match (end.irq(), &end.irq) {
-        (Some(number), Some(given)) => Some(Irq {
-            number,
-            place: given.value.place,
-        }),
-        _ => None,
-    }
+    let number = end.irq()?;
+    let place = end.irq.as_ref()?.value.place;
+    Some(Irq { number, place })
 }
 
 fn irqs(alloc: Global, connections: &[FoundEnds<'_>]) -> Result<Vec<Irq>, NoMemory>
@@ -67,6 +65,13 @@ fn numbers(alloc: Global, irqs: &[Irq]) -> Result<Vec<u64>, NoMemory>
     Ok(numbers)
 }
 
+fn note_irq(irq: &Irq, twice: &IndexSet<u64>, first: &mut Earliest<'_>)
+    ensures { first.new ≡ noted first.old (irq_twice_at (is_among twice.now.keys) irq.now) }
+{
+    let is_twice = twice.contains(&irq.number());
+    first.note(is_twice, Code::IrqTwice, irq.place, b"");
+}
+
 /// Notes the interrupts that have the number of another.
 pub fn note_irqs_twice<'a>(
     alloc: Global,
@@ -79,7 +84,7 @@ pub fn note_irqs_twice<'a>(
     let numbers = numbers(alloc, irqs.as_slice())?;
     let twice = repeated(alloc, numbers.as_slice())?;
     for irq in irqs.as_slice() {
-        first.note(twice.contains(irq.number), Code::IrqTwice, irq.place, b"");
+        note_irq(irq, &twice, first);
     }
     Ok(())
 }

@@ -41,15 +41,6 @@ fn default_bytes(interface: &Interface) -> u64
     sized(interface.size.unwrap_or(DEFAULT_SIZE)).unwrap_or(PAGE)
 }
 
-fn paddr(bytes: u64, given: &Option<Given<'_>>) -> Option<u64>
-    ensures { result ≡ meaning (paddr_in bytes) given.now }
-{
-    match given {
-        None => None,
-        Some(given) => paddr_in(bytes, given.value),
-    }
-}
-
 impl<'a> LeafFound<'a> {
     /// The priority that is meant.
     pub fn priority(&self) -> Option<u8>
@@ -75,17 +66,12 @@ impl<'a> LeafFound<'a> {
     pub fn setting(&self) -> LeafSetting
         ensures { result ≡ leaf_setting self.now }
     {
-        if self.leaf.hardware {
-            LeafSetting {
-                priority: 0,
-                stack: 0,
-            }
+        let (priority, stack) = if self.leaf.hardware {
+            (0, 0)
         } else {
-            LeafSetting {
-                priority: self.priority().unwrap_or(0),
-                stack: self.stack().unwrap_or(0),
-            }
-        }
+            (self.priority().unwrap_or(0), self.stack().unwrap_or(0))
+        };
+        LeafSetting { priority, stack }
     }
 }
 
@@ -131,17 +117,14 @@ impl<'a> Found<'a> {
     pub fn paddr(&self) -> Option<u64>
         ensures { result ≡ paddr_of self.now }
     {
-        paddr(self.counted_bytes(), &self.paddr)
+        paddr_in(self.counted_bytes(), self.paddr.as_ref()?.value)
     }
 
     /// The number of the interrupt that is meant.
     pub fn irq(&self) -> Option<u64>
         ensures { result ≡ irq_of self.now }
     {
-        match &self.irq {
-            None => None,
-            Some(given) => irq_in(given.value),
-        }
+        irq_in(self.irq.as_ref()?.value)
     }
 
     fn access_at(&self) -> Access

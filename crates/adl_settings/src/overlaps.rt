@@ -2,7 +2,6 @@
 
 ghost use Rattle.adl_meaning.specs.Faults.{noted};
 ghost use Rattle.adl_settings.specs.DeviceOverlap.{region_of, regions, overlaps};
-ghost use Rattle.adl_settings.specs.SharedPages.{pages_of};
 ghost use Rattle.std.specs.Prelude.{◌≡◌, map, OnOk, IfOk};
 
 use crate::{Found, FoundEnds};
@@ -10,36 +9,13 @@ use adl_meaning::Earliest;
 use cam_base::{Code, NoMemory, Place};
 use page_index::{PageIndex, Region};
 use std::alloc::Global;
-use std::marker::Model;
 
 /// The pages of a device, with the place of the literal that gives their address. The key of the pages is the number of the
-/// leaf, and that of the interface among its members. Contracts see it as these.
+/// leaf, and that of the interface among its members.
 #[derive(Drop)]
 pub struct DeviceRegion {
-    pages: Region,
-    place: Place,
-}
-
-impl Model for DeviceRegion {
-    ghost use Rattle.adl_settings.specs.DeviceOverlap.{Region as RegionOf};
-
-    ghost Value = { RegionOf };
-
-    ghost view = { λ r. record {
-      leaf = r.pages.key.0;
-      member = r.pages.key.1;
-      first = r.pages.first;
-      bytes = r.pages.count;
-      place = r.place;
-    } };
-}
-
-impl DeviceRegion {
-    fn pages(&self) -> Region
-        ensures { result ≡ pages_of self.now }
-    {
-        self.pages
-    }
+    pub pages: Region,
+    pub place: Place,
 }
 
 fn region_of(end: &Found<'_>) -> Option<DeviceRegion>
@@ -47,17 +23,10 @@ fn region_of(end: &Found<'_>) -> Option<DeviceRegion>
 {
     let count = end.bytes()?;
     let first = end.paddr()?;
-    match &end.paddr {
-        None => None,
-        Some(given) => Some(DeviceRegion {
-            pages: Region {
-                key: (end.joint.end.leaf, end.joint.end.member),
-                first,
-                count,
-            },
-            place: given.value.place,
-        }),
-    }
+    let place = end.paddr.as_ref()?.value.place;
+    let key = (end.joint.end.leaf, end.joint.end.member);
+    let pages = Region { key, first, count };
+    Some(DeviceRegion { pages, place })
 }
 
 fn regions(alloc: Global, connections: &[FoundEnds<'_>]) -> Result<Vec<DeviceRegion>, NoMemory>
@@ -75,13 +44,14 @@ fn regions(alloc: Global, connections: &[FoundEnds<'_>]) -> Result<Vec<DeviceReg
 }
 
 fn all_pages(alloc: Global, regions: &[DeviceRegion]) -> Result<Vec<Region>, NoMemory>
-    ensures { IfOk result (λ v. v.items ≡ map pages_of regions.now) }
+    ensures { IfOk result (λ v. v.items ≡ map (λ a. a.pages) regions.now) }
 {
-    let pages = regions.iter().map(|region| region.pages()).collect(alloc)?;
+    let pages = regions.iter().map(|region| region.pages).collect(alloc)?;
     Ok(pages)
 }
 
 /// Notes the dataports of devices that share a page with another.
+#[tactic(auto, using(crate::proofs::PagesShared::shared_in_index, std::proofs::lemmas::Grind::common_steps))]
 pub fn note_overlaps<'a>(
     alloc: Global,
     connections: &[FoundEnds<'a>],
@@ -93,7 +63,7 @@ pub fn note_overlaps<'a>(
     let pages = all_pages(alloc, regions.as_slice())?;
     let index = PageIndex::new(alloc, pages.as_slice())?;
     for region in regions.as_slice() {
-        let shares = index.shares_any(&region.pages());
+        let shares = index.shares_any(&region.pages);
         first.note(shares, Code::DeviceOverlap, region.place, b"");
     }
     Ok(())

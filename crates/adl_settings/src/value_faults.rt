@@ -16,6 +16,7 @@ use adl_meaning::{Earliest, EndSetting, EndSettings, LeafSetting, Settled};
 use cam_base::{Fault, List, NoMemory, Refused};
 use std::alloc::Global;
 
+#[tactic(auto, using(adl_meaning::proofs::Noting::noting))]
 fn note_value_faults<'a>(
     alloc: Global,
     leaves: &[LeafFound<'a>],
@@ -32,23 +33,17 @@ fn note_value_faults<'a>(
     Ok(())
 }
 
-fn leaf_settings(alloc: Global, leaves: &[LeafFound<'_>]) -> Result<List<LeafSetting>, NoMemory>
-    ensures { IfOk result (λ list. list ≡ map leaf_setting leaves.now) }
+fn leaf_settings(alloc: Global, leaves: &[LeafFound<'_>]) -> Result<Vec<LeafSetting>, NoMemory>
+    ensures { IfOk result (λ v. v.items ≡ map leaf_setting leaves.now) }
 {
-    let mut settings = List::new(alloc);
-    for leaf in leaves {
-        settings.push(leaf.setting())?;
-    }
+    let settings = leaves.iter().map(|leaf| leaf.setting()).collect(alloc)?;
     Ok(settings)
 }
 
-fn end_settings(alloc: Global, ends: &[Found<'_>]) -> Result<List<EndSetting>, NoMemory>
-    ensures { IfOk result (λ list. list ≡ map end_setting ends.now) }
+fn end_settings(alloc: Global, ends: &[Found<'_>]) -> Result<Vec<EndSetting>, NoMemory>
+    ensures { IfOk result (λ v. v.items ≡ map end_setting ends.now) }
 {
-    let mut settings = List::new(alloc);
-    for end in ends {
-        settings.push(end.setting())?;
-    }
+    let settings = ends.iter().map(|end| end.setting()).collect(alloc)?;
     Ok(settings)
 }
 
@@ -60,23 +55,10 @@ fn connection_settings(
 {
     let mut settings = List::new(alloc);
     for connection in connections {
-        let ends = end_settings(alloc, connection.ends())?;
+        let ends = List::from_vec(end_settings(alloc, connection.ends())?);
         settings.push(EndSettings { ends })?;
     }
     Ok(settings)
-}
-
-fn made(
-    alloc: Global,
-    leaves: &[LeafFound<'_>],
-    connections: &[FoundEnds<'_>],
-) -> Result<Settled, NoMemory>
-    ensures { IfOk result (λ x. x ≡ settled_from leaves.now connections.now) }
-{
-    Ok(Settled {
-        leaves: leaf_settings(alloc, leaves)?,
-        connections: connection_settings(alloc, connections)?,
-    })
 }
 
 /// The settings that are meant by the values, or the first of their faults and of what was noted before.
@@ -96,6 +78,10 @@ pub fn settled<'a>(
     let mut first = first;
     note_value_faults(alloc, leaves, connections, &mut first)?;
     first.refuse(alloc)?;
-    let settled = made(alloc, leaves, connections)?;
-    Ok(settled)
+    let connections = connection_settings(alloc, connections)?;
+    let leaves = List::from_vec(leaf_settings(alloc, leaves)?);
+    Ok(Settled {
+        leaves,
+        connections,
+    })
 }
