@@ -61,7 +61,8 @@ pub fn homes_of<'a>(
     requires { length leaves.now < 2 ^ 32 }
     ensures paths { IfOk result (λ f. f.paths.keys ≡ all_met [] (map (home_in program.now) leaves.entry.now)) }
     ensures numbers { IfOk result (λ f. f.numbers.items
-        ≡ map (home_number (all_met [] (map (home_in program.now) leaves.entry.now))) (map (home_in program.now) leaves.entry.now)) }
+        ≡ map (home_number (all_met [] (map (home_in program.now) leaves.entry.now)))
+        (map (home_in program.now) leaves.entry.now)) }
 {
     let mut homes = Homes {
         paths: IndexSet::new(alloc),
