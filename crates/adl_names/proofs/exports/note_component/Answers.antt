@@ -1,6 +1,5 @@
-use Rattle.std.proofs.Common.{◌∙◌, Some}
+use Rattle.adl_names.proofs.Common.{◌∙◌, Some, known_in, known_of}
 use Rattle.adl_meaning.specs.Export.{misfits_in_composition}
-use Rattle.adl_meaning.specs.Known.{known_in, known_of}
 use Rattle.adl_meaning.proofs.Noting.{noted_each}
 use Rattle.adl_names.proofs.exports.note_component.Goals as goal
 

@@ -1,8 +1,5 @@
-use Rattle.std.proofs.Common.{◌≡◌, drop, Some}
-use Rattle.std.specs.List.{flat_map}
+use Rattle.adl_names.proofs.Common.{◌≡◌, drop, Some, flat_map, noted, known_in, known_of}
 use Rattle.adl_meaning.specs.Export.{misfits_in_composition}
-use Rattle.adl_meaning.specs.Faults.{noted}
-use Rattle.adl_meaning.specs.Known.{known_in, known_of}
 use Rattle.adl_names.proofs.exports.note_component.Given as goal
 
 abbrev pub invariant-loop-holding : goal.invariant-loop-holding

@@ -1,9 +1,4 @@
-use Rattle.std.proofs.Common.{◌≡◌, drop}
-use Rattle.std.specs.List.{flat_map}
-use Rattle.adl_meaning.specs.Export.{misfits_in_item}
-use Rattle.adl_meaning.specs.Faults.{noted}
-use Rattle.adl_meaning.specs.Known.{known_in}
-use Rattle.adl_names.specs.Bodies.{item_of}
+use Rattle.adl_names.proofs.Common.{◌≡◌, drop, flat_map, misfits_in_item, noted, known_in, item_of}
 use Rattle.adl_names.proofs.exports.note_misfits.Given as goal
 
 abbrev pub invariant-loop-body : goal.invariant-loop-body

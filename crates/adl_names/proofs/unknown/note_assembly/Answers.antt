@@ -1,7 +1,4 @@
-use Rattle.std.proofs.Common.{◌∙◌, ap, None}
-use Rattle.adl_meaning.specs.Faults.{noted}
-use Rattle.adl_meaning.specs.Holding.{held_as}
-use Rattle.adl_meaning.specs.Known.{known_in}
+use Rattle.adl_names.proofs.Common.{◌∙◌, ap, None, noted, held_as, known_in}
 use Rattle.adl_meaning.specs.Unknown.{within, unknown_in_composition, unknown_if_configured}
 use Rattle.adl_meaning.proofs.Noting.{noted_then}
 use Rattle.adl_names.proofs.unknown.note_assembly.Goals as goal

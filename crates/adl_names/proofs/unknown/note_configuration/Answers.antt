@@ -1,10 +1,6 @@
-use Rattle.std.proofs.Common.{◌∙◌, ap}
-use Rattle.adl_meaning.specs.Faults.{noted}
-use Rattle.adl_meaning.specs.Known.{known_in}
+use Rattle.adl_names.proofs.Common.{◌∙◌, ap, noted, known_in, owner_of, scope_told}
 use Rattle.adl_meaning.specs.Unknown.{unknown_in_setting, unknown_attribute, unknown_in_one_setting}
 use Rattle.adl_meaning.proofs.Noting.{noted_each, noted_then}
-use Rattle.adl_names.specs.Bodies.{owner_of}
-use Rattle.adl_names.specs.Scopes.{scope_told}
 use Rattle.adl_names.proofs.unknown.note_configuration.Goals as goal
 
 pub loop-setting-preserved : goal.loop-setting-preserved

@@ -1,8 +1,6 @@
-use Rattle.adl_names.proofs.Common.{refl, known_in, unknown_in_item, is_procedure}
-use Rattle.std.proofs.Common.{◌∙◌}
+use Rattle.adl_names.proofs.Common.{refl, known_in, unknown_in_item, is_procedure, ◌∙◌, item_of}
 use Rattle.adl_meaning.proofs.Noting.{noted_each}
 use Rattle.adl_names.specs.declared.bodies.Body.{Body}
-use Rattle.adl_names.specs.Bodies.{item_of}
 use Rattle.adl_names.proofs.BodyLists.{noted_bodies}
 use Rattle.adl_names.proofs.unknown.note_unknown.Goals as goal
 
