@@ -32,23 +32,9 @@ impl<O: Outputs + Drop> Buffered<O> {
         }
     }
 
-    /// The outputs, which hold all that was written. `Failed` only where the count rose.
-    pub fn finish(self) -> Result<O, Failed>
-        ensures ok { IfOk result (λ outputs. O.sink outputs ≡ with_waiting (O.sink self.outputs) self.channel self.waiting.items
-            self.sent) }
-    {
-        let Buffered {
-            mut outputs,
-            channel,
-            waiting,
-            mut sent,
-        } = self;
-        send(&mut outputs, channel, waiting.as_slice(), &mut sent)?;
-        Ok(outputs)
-    }
-
-    /// Sends what waits. After a failure the rest waits on.
-    fn send_all(&mut self) -> Result<(), Failed>
+    /// Sends what waits, so that the outputs hold all that was written. `Failed` only where the count rose; then the rest
+    /// waits on.
+    pub fn flush(&mut self) -> Result<(), Failed>
         ensures same { with_waiting (O.sink self.new.outputs) self.new.channel self.new.waiting.items self.new.sent
             ≡ with_waiting (O.sink self.old.outputs) self.old.channel self.old.waiting.items self.old.sent }
         ensures channel { self.new.channel ≡ self.old.channel }
@@ -80,7 +66,7 @@ impl<O: Outputs + Drop> Buffered<O> {
         ensures failed { OnErr result (Rose (O.faults self.old.outputs) (O.faults self.new.outputs)) }
     {
         if channel != self.channel {
-            self.send_all()?;
+            self.flush()?;
             self.channel = channel;
         }
         Ok(())
@@ -101,7 +87,7 @@ impl<O: Outputs + Drop> Buffered<O> {
         ensures later { O.faults self.old.outputs ≤ O.faults self.new.outputs }
         ensures failed { OnErr result (Rose (O.faults self.old.outputs) (O.faults self.new.outputs)) }
     {
-        self.send_all()?;
+        self.flush()?;
         self.outputs.write(channel, piece)
     }
 }
@@ -137,7 +123,7 @@ impl<O: Outputs + Drop> Outputs for Buffered<O> {
     ghost faults = { λ b. O.faults b.outputs };
 
     fn begin(&mut self, channel: u8, name: &str) -> Result<(), Failed> {
-        self.send_all()?;
+        self.flush()?;
         self.outputs.begin(channel, name)
     }
 

@@ -18,8 +18,8 @@ fn main(rt: HostRuntime) -> io::Result<ExitCode> {
         Err(error) if error.kind() == ErrorKind::OutOfMemory => no_memory(&mut out),
         Err(_) => run(rt.alloc(), &[], &mut files, &mut out),
     };
-    let status = match out.finish() {
-        Ok(_) => status,
+    let status = match out.flush() {
+        Ok(()) => status,
         Err(_) => 5,
     };
     Ok(ExitCode::from(status))

@@ -27,8 +27,8 @@ fn main(rt: HostRuntime) -> io::Result<ExitCode> {
         Err(_) => Answer::Usage,
     };
     let written = answer.write(&mut out);
-    match (written, out.finish()) {
-        (Ok(()), Ok(_)) => Ok(ExitCode::from(answer.status())),
+    match (written, out.flush()) {
+        (Ok(()), Ok(())) => Ok(ExitCode::from(answer.status())),
         _ => Ok(ExitCode::from(5)),
     }
 }

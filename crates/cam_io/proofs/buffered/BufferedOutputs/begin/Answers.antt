@@ -5,16 +5,16 @@ use Rattle.cam_io.proofs.buffered.BufferedOutputs.begin.Goals as goal
 pub invariant_of-self : goal.invariant_of-self
 invariant_of-self g c =
     let sink = g.O.Outputs.sink in
-    let sent = c.send_all.new.self in
+    let sent = c.flush.new.self in
     record {
       is_open = begin_keeps_open (sink sent.outputs) (sink c.begin.new.self) c.args.channel c.begin.result c.args.name.now sent.channel c.begin.ensures.ok c.begin.ensures.err sent.is_open;
-      within = omega (arith, c.in_ok-send_all.ensures.sent);
+      within = omega (arith, c.in_ok-flush.ensures.sent);
     }
 
 pub returns-clause-ok : goal.returns-clause-ok
 returns-clause-ok g c =
     let sink = g.O.Outputs.sink in
-    let sent = c.send_all.new.self in
-    let all = c.in_ok-send_all.ensures in
+    let sent = c.flush.new.self in
+    let all = c.in_ok-flush.ensures in
     let none = nothing_waits (sink c.begin.new.self) sent.channel sent.sent sent.waiting.items all.waiting all.sent in
     begin_told (sink sent.outputs) (sink c.begin.new.self) c.args.channel c.begin.result c.args.name.now _ _ none all.ok c.begin.ensures.ok

@@ -1,6 +1,6 @@
 use Rattle.std.proofs.Common.{◌∙◌, sym}
 use Rattle.cam_io.proofs.Appends.{appended_none}
-use Rattle.cam_io.proofs.buffered.Buffered.send_all.Goals as goal
+use Rattle.cam_io.proofs.buffered.Buffered.flush.Goals as goal
 
 pub returns-clause-ok : goal.returns-clause-ok
 returns-clause-ok g c =
