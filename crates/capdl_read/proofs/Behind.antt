@@ -11,13 +11,14 @@ use Rattle.capdl_text.specs.Meaning.{put_slot}
 use Rattle.capdl_text.specs.declared.tree.SlotKey.{SlotKey}
 use Rattle.capdl_text.specs.declared.tree.SlotKey.TheVariants as keys
 use Rattle.capdl_read.specs.Building.{numbered_from}
+use Rattle.name_tables.specs.Keys.{Key}
 use Rattle.capdl_read.specs.Rising.{is_above}
 use Rattle.capdl_read.specs.declared.held.Slot.{Slot}
 use Rattle.capdl_read.proofs.NoneTwice.{above_both}
 
 -- each number above the last stands behind all of these
-abbrev pub AreBehind : List (ℕ × Cap) → Option ℕ → Type 0
-AreBehind slots last = (n : ℕ) → is_above last (Some n) ≡ true → AllByRecursion (λ s. s.0 < n) slots
+abbrev pub AreBehind : List (ℕ × Cap) → Option Key → Type 0
+AreBehind slots last = (n : ℕ) → is_above last (0, n) ≡ true → AllByRecursion (λ s. s.0 < n) slots
 
 insert_last : (slots : List (ℕ × Cap)) (n : ℕ) (cap : Cap) → AllByRecursion (λ s. s.0 < n) slots → insert_entry nat_cmp slots n cap ≡ slots ++ (n, cap) ∷ []
 insert_last [] n cap below = refl
@@ -28,11 +29,11 @@ below_all [] m n cap below less = (less, _)
 below_all (s ∷ ss) m n cap below less = (below.0, below_all ss m n cap below.1 less)
 
 -- a slot above the last, put in, stands behind all
-pub put_behind : (new old : List (ℕ × Cap)) (last : Option ℕ) (s : Slot) (n : ℕ) (ss : List Slot) (i : ℕ) → i < length ss → (get_or ss i s).key ≡ keys.Number n → is_above last (Some n) ≡ true
-    → AreBehind old last → new ≡ old ++ (n, (get_or ss i s).cap) ∷ [] → (numbered_from new (drop (i + 1) ss) ≡ numbered_from old (drop i ss)) × AreBehind new (Some n)
+pub put_behind : (new old : List (ℕ × Cap)) (last : Option Key) (s : Slot) (n : ℕ) (ss : List Slot) (i : ℕ) → i < length ss → (get_or ss i s).key ≡ keys.Number n → is_above last (0, n) ≡ true
+    → AreBehind old last → new ≡ old ++ (n, (get_or ss i s).cap) ∷ [] → (numbered_from new (drop (i + 1) ss) ≡ numbered_from old (drop i ss)) × AreBehind new (Some (0, n))
 put_behind new old last s n ss i l k a behind p =
     let here = get_or ss i s in (
       ap (λ z. numbered_from z (drop (i + 1) ss)) (p ∙ sym (insert_last old n here.cap (behind n a)) ∙ ap (λ (z : SlotKey). put_slot z here.cap old) (sym k))
           ∙ ap (numbered_from old) (sym (drop-cons ss i s l ∙ ap (λ j. here ∷ drop j ss) (sym (add-one i)))),
-      λ m b. subst (AllByRecursion (λ s. s.0 < m)) (sym p) (below_all old n m here.cap (behind m (above_both last n m a b)) (ltb-true n m b)),
+      λ m b. subst (AllByRecursion (λ s. s.0 < m)) (sym p) (below_all old n m here.cap (behind m (above_both last (0, n) (0, m) a b)) (ltb-true n m b)),
     )

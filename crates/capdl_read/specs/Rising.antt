@@ -1,22 +1,13 @@
--- Slots that are numbered, each above the one before it. None of them stands a second time.
-use Rattle.std.specs.Prelude.{ℕ, Bool, true, false, cond, nat_lt, List, [], ◌∷◌, Option, Some, None}
-use Rattle.capdl_text.specs.declared.tree.SlotKey.{SlotKey}
-use Rattle.capdl_text.specs.declared.tree.SlotKey.TheVariants as keys
-use Rattle.capdl_text.specs.declared.tree.SlotLine.{SlotLine}
+-- Keys that rise: each is above the one before it. None of them stands a second time.
+use Rattle.std.specs.Prelude.{Bool, true, false, cond, nat_lt, ◌==◌, ◌&&◌, ◌||◌, List, [], ◌∷◌, Option, Some, None}
+use Rattle.capdl_text.specs.Twice.{Keyed}
+use Rattle.name_tables.specs.Keys.{Key}
 
--- the number of a slot, where it has one
-abbrev pub slot_number : SlotKey → Option ℕ
-slot_number (keys.Number n) = Some n
-slot_number keys.Cspace = None
-slot_number keys.Vspace = None
-slot_number keys.Buffer = None
+-- whether the key is above the last, where there is a last
+abbrev pub is_above : Option Key → Key → Bool
+is_above None k = true
+is_above (Some l) k = nat_lt l.0 k.0 || l.0 == k.0 && nat_lt l.1 k.1
 
--- whether there is a next number, above the last
-abbrev pub is_above : Option ℕ → Option ℕ → Bool
-is_above last None = false
-is_above None (Some n) = true
-is_above (Some m) (Some n) = nat_lt m n
-
-abbrev pub rises : Option ℕ → List SlotLine → Bool
-rises last [] = true
-rises last (s ∷ ss) = cond (is_above last (slot_number s.key)) (rises (slot_number s.key) ss) false
+abbrev pub rises : {X : Type 0} → (X → Keyed) → Option Key → List X → Bool
+rises g last [] = true
+rises g last (x ∷ xs) = cond (is_above last (g x).0) (rises g (Some (g x).0) xs) false

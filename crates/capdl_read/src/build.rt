@@ -8,7 +8,7 @@ ghost use Rattle.std.specs.Option.{option_copied, option_map};
 ghost use Rattle.std.specs.Prelude.{◌≡◌, ℕ, [], map, slice_get, Some as Present, OnOk, IfOk, IfSome};
 
 use crate::held::Slot;
-use crate::rising::is_above;
+use crate::keyed::is_above;
 use cam_base::{List, Name, NoMemory, Text};
 use cap_model::{Cap, Entry, Fill, Object, Tcb};
 use capdl_text::{
@@ -43,9 +43,9 @@ fn rising(alloc: Global, slots: &[Slot]) -> Result<Option<List<(u64, Cap)>>, NoM
         let SlotKey::Number(n) = slot.key else {
             return Ok(None);
         };
-        if is_above(last, Some(n)) {
+        if is_above(last, (0, n)) {
             rising.push((n, slot.cap))?;
-            last = Some(n);
+            last = Some((0, n));
         } else {
             return Ok(None);
         }

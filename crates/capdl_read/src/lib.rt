@@ -10,12 +10,12 @@ mod build;
 mod check;
 mod first;
 mod held;
+mod keyed;
 mod kind;
 mod known;
 mod limit;
 mod range;
 mod reader;
-mod rising;
 mod twice;
 mod unknown;
 

@@ -1,0 +1,6 @@
+use Rattle.std.proofs.Common.{◌≡◌, drop, None}
+use Rattle.capdl_read.specs.Rising.{rises}
+use Rattle.capdl_read.proofs.keyed.rise.Given as goal
+
+abbrev pub invariant-loop-item : goal.invariant-loop-item
+invariant-loop-item g l = rises g.K.Keyed.keyed_as l.last (drop l.item-index l.items) ≡ rises g.K.Keyed.keyed_as None l.items
