@@ -2,11 +2,11 @@
 use Rattle.std.specs.Prelude.{◌≡◌, ℕ, ◌+◌, Bool, ◌||◌, if◌then◌else◌, List}
 use Rattle.std.specs.Option.{is_some}
 use Rattle.std.specs.Str.{bytes_eq}
-use Rattle.name_tables.specs.ByName.{found}
+use Rattle.spread_names.specs.Naming.{spread_found}
 use Rattle.policy_text.specs.declared.words.Words.{Words}
 
 abbrev pub has : Words → List ℕ → Bool
-has set word = is_some (found set.words word)
+has set word = is_some (spread_found set.words word)
 
 -- the new set has this word, and the words of the old one
 pub record IsAdded (word : List ℕ) (old new : Words) : Type 0 where

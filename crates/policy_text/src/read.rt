@@ -17,7 +17,7 @@ use crate::kind::Kind;
 use crate::known::{Known, near_labels, numbers_of};
 use crate::number::Digits;
 use crate::parts::Parts;
-use crate::seen::{MAX_EDGES, Seen};
+use crate::seen::{Expected, MAX_EDGES, Seen};
 use crate::words::Words;
 use auth_kinds::{EdgeTable, Policy};
 use cam_base::{NoMemory, Refused, TextCode, TextFault};
@@ -31,12 +31,16 @@ pub fn read_policy(alloc: Global, bytes: &[u8]) -> Result<Policy, Refused<TextFa
 {
     check_head(alloc, Kind::Policy, bytes)?;
     let noted = note_lines(alloc, Kind::Policy, bytes)?;
-    let few = noted.edges <= MAX_EDGES;
+    let expected = Expected {
+        labels: noted.numbers.len,
+        objects: noted.lines.len().saturating_sub(noted.edges),
+        few_edges: noted.edges <= MAX_EDGES,
+    };
     let known = Known::Lines {
         numbers: noted.numbers,
         near: noted.near,
     };
-    check_lines(alloc, &known, few, noted.lines.as_slice())?;
+    check_lines(alloc, &known, expected, noted.lines.as_slice())?;
     let parts = Parts::of(alloc, noted.lines.as_slice())?;
     Ok(parts.into_policy(alloc)?)
 }
@@ -53,13 +57,17 @@ pub fn read_cert(
 {
     check_head(alloc, Kind::Certificate, bytes)?;
     let noted = note_lines(alloc, Kind::Certificate, bytes)?;
-    let few = noted.edges <= MAX_EDGES;
+    let expected = Expected {
+        labels: 0,
+        objects: 0,
+        few_edges: noted.edges <= MAX_EDGES,
+    };
     let numbers = numbers_of(alloc, policy.labels.as_slice())?;
     let known = Known::Labels {
         numbers,
         near: near_labels(policy.labels.as_slice()),
     };
-    check_lines(alloc, &known, few, noted.lines.as_slice())?;
+    check_lines(alloc, &known, expected, noted.lines.as_slice())?;
     let parts = Parts::of(alloc, noted.lines.as_slice())?;
     Ok(EdgeTable::from_list(alloc, parts.edges.as_slice())?)
 }
@@ -110,7 +118,7 @@ fn note_lines(alloc: Global, kind: Kind, bytes: &[u8]) -> Result<Noted<'_>, Refu
     ensures { AreNoted kind (body bytes.now) result }
 {
     let mut noted = Noted {
-        numbers: Words::new(alloc),
+        numbers: Words::with_room(alloc, 0)?,
         near: Vec::new(alloc),
         edges: 0,
         lines: Vec::new(alloc),
@@ -139,14 +147,14 @@ fn note_line<'a>(
 fn check_lines<'a>(
     alloc: Global,
     known: &Known<'a>,
-    few: bool,
+    expected: Expected,
     lines: &[EntryLine<'a>],
 ) -> Result<(), Refused<TextFault>>
     requires known { IsRight known.now }
-    requires few { few ≡ true → HasFewEdges (told_lines lines.now) }
+    requires few { expected.few_edges ≡ true → HasFewEdges (told_lines lines.now) }
     ensures { FindsFault (first_wrong (knows known.now) [] (told_lines lines.now)) result }
 {
-    let mut seen = Seen::nothing(alloc, few);
+    let mut seen = Seen::nothing(alloc, expected)?;
     for line in lines {
         seen.read_line(alloc, known, *line)?;
     }

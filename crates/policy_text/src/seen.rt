@@ -4,11 +4,11 @@ ghost use Rattle.auth_kinds.specs.declared.authority.Authority.{Authority};
 ghost use Rattle.policy_text.specs.Entries.{Number, label, object, edge};
 ghost use Rattle.policy_text.specs.EntriesRead.{meant, told_line};
 ghost use Rattle.policy_text.specs.KnownNumbers.{knows, IsRight};
-ghost use Rattle.policy_text.specs.LinesSeen.{HasFewEdges, HasRoom, IsSeen, Takes, what, IsLineJudged};
+ghost use Rattle.policy_text.specs.LinesSeen.{HasEdges, HasFewEdges, HasRoom, IsSeen, Takes, what, IsLineJudged};
 ghost use Rattle.policy_text.specs.PolicyFaults.{Told, edges_limit, new_edges, says_edge, wrong_entry};
 ghost use Rattle.std.specs.List.{list_any};
 ghost use Rattle.std.specs.Option.{is_none};
-ghost use Rattle.std.specs.Prelude.{◌≡◌, [], ◌∷◌, ◌++◌, ◌&&◌, List, Bool, nat_le, not, true, OnOk, IfNone};
+ghost use Rattle.std.specs.Prelude.{◌≡◌, [], ◌∷◌, ◌++◌, ◌&&◌, List, Bool, nat_le, not, true, IfOk, OnOk, IfNone, IfSome};
 ghost use Rattle.text_lines.specs.Lines.{Line as SpecLine};
 
 use crate::entry::{Entry, EntryLine};
@@ -31,6 +31,14 @@ pub const MAX_EDGES: usize = 262_144;
 /// The most bytes of an object's word.
 const MAX_WORD: usize = 127;
 
+/// What lines are expected to say: so many labels and objects, and whether they say few edges.
+#[derive(Clone, Copy)]
+pub struct Expected {
+    pub labels: usize,
+    pub objects: usize,
+    pub few_edges: bool,
+}
+
 /// What the lines in front of a line have said: labels by number and by name, objects, and edges by their lines, which are
 /// kept only for a text with more edge lines than a text may have edges.
 #[derive(Drop)]
@@ -41,18 +49,30 @@ pub struct Seen<'a> {
     pub edges: Option<Words<'a>>,
 }
 
+/// The edges of no lines, where edges are kept.
+fn no_edges<'a>(alloc: Global, few: bool) -> Result<Option<Words<'a>>, NoMemory>
+    ensures edges { IfOk result (λ edges. IfSome edges (HasEdges [])) }
+    ensures few { IfOk result (λ edges. IfNone edges (few ≡ true)) }
+{
+    if few {
+        Ok(None)
+    } else {
+        Ok(Some(Words::with_room(alloc, MAX_EDGES)?))
+    }
+}
+
 impl<'a> Seen<'a> {
-    /// Nothing is said. Takes no memory.
-    pub fn nothing(alloc: Global, few: bool) -> Seen<'a>
-        ensures seen { IsSeen result [] }
-        ensures few { IfNone result.edges (few ≡ true) }
+    /// Nothing is said.
+    pub fn nothing(alloc: Global, expected: Expected) -> Result<Seen<'a>, NoMemory>
+        ensures seen { IfOk result (λ seen. IsSeen seen []) }
+        ensures few { IfOk result (λ seen. IfNone seen.edges (expected.few_edges ≡ true)) }
     {
-        Seen {
-            numbers: Words::new(alloc),
-            names: Words::new(alloc),
-            objects: Words::new(alloc),
-            edges: if few { None } else { Some(Words::new(alloc)) },
-        }
+        Ok(Seen {
+            numbers: Words::with_room(alloc, expected.labels)?,
+            names: Words::with_room(alloc, expected.labels)?,
+            objects: Words::with_room(alloc, expected.objects)?,
+            edges: no_edges(alloc, expected.few_edges)?,
+        })
     }
 
     /// Takes a line in, or refuses it by its fault.

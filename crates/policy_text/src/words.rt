@@ -1,29 +1,29 @@
 //! Sets of words that stand in a text.
 
 ghost use Rattle.policy_text.specs.WordSets.{has, IsAdded};
-ghost use Rattle.std.specs.Prelude.{◌≡◌, ◌+◌, ◌||◌, false, List, ℕ, OnOk};
+ghost use Rattle.std.specs.Prelude.{◌≡◌, ◌+◌, ◌||◌, false, List, ℕ, IfOk, OnOk};
 
 use cam_base::NoMemory;
-use spread_names::Names;
+use spread_names::SpreadNames;
 use std::alloc::Global;
 
 /// Words of a text, each once, and how many there are.
 #[derive(Drop)]
 pub struct Words<'a> {
-    pub words: Names<'a, ()>,
+    pub words: SpreadNames<'a, ()>,
     pub len: usize,
 }
 
 impl<'a> Words<'a> {
-    /// The set without words. Takes no memory.
-    pub fn new(alloc: Global) -> Words<'a>
-        ensures none { (word : List ℕ) → has result word ≡ false }
-        ensures len { result.len ≡ 0 }
+    /// The set without words, with room for so many.
+    pub fn with_room(alloc: Global, room: usize) -> Result<Words<'a>, NoMemory>
+        ensures none { IfOk result (λ set. (word : List ℕ) → has set word ≡ false) }
+        ensures len { IfOk result (λ set. set.len ≡ 0) }
     {
-        Words {
-            words: Names::new(alloc),
+        Ok(Words {
+            words: SpreadNames::with_room(alloc, room)?,
             len: 0,
-        }
+        })
     }
 
     /// Whether the word is in the set. Takes no memory.
