@@ -23,6 +23,6 @@ pub use commands::{
 };
 pub use fault::{InputError, InputFault};
 pub use kept::KeptSpec;
-pub use lines::write_fault;
+pub use lines::{write_code, write_fault, write_place};
 pub use outcome::Outcome;
 pub use replay::Replayed;

@@ -37,7 +37,8 @@ pub fn write_fault<O: Outputs>(
     write_code(word, title, fault.name.as_bytes(), out, channel)
 }
 
-fn write_place<O: Outputs>(
+/// Writes the place of a fault in a file, and a colon behind it.
+pub fn write_place<O: Outputs>(
     file: &[u8],
     first: u64,
     end: u64,
@@ -54,7 +55,8 @@ fn write_place<O: Outputs>(
     write_parts(out, channel, &[file, b":", first, b"-", end, b": "])
 }
 
-fn write_code<O: Outputs>(
+/// Writes the word and the title of a fault's code, the name that it speaks of, and a line feed.
+pub fn write_code<O: Outputs>(
     word: &[u8],
     title: &[u8],
     name: &[u8],
