@@ -1,5 +1,3 @@
-use Rattle.std.proofs.Common.{List}
-use Rattle.cap_model.specs.declared.spec.Entry.{Entry}
 use Rattle.spread_names.specs.Naming.{spread_found}
 use Rattle.policy_text.proofs.Labelling.{labelling_fails}
 use Rattle.policy_text.proofs.labelled.label_objects.Goals as goal

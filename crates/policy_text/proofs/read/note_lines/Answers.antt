@@ -30,6 +30,6 @@ loop-line-preserved c =
 
 pub returns-in_err-note_line : goal.returns-in_err-note_line
 returns-in_err-note_line c =
-    notes_refused c.args.kind (body c.args.bytes.now) c.from_residual.result c.in_err-note_line.field-0.0 c.from_residual.ensures.1
+    notes_refused c.args.kind (body c.args.bytes.now) c.from_residual-in_err-note_line.result c.in_err-note_line.field-0.0 c.from_residual-in_err-note_line.ensures.1
     (forms_fail c.args.kind (line_of c.in-Some.line) (lines_left c.loop-line.line-iterator) (lines_left c.next.new.self) (form_fault c.args.kind (body c.args.bytes.now)) c.in_err-note_line.field-0.0
     c.in-Some.ensures.steps c.loop-line.invariant.forms c.in_err-note_line.ensures)
