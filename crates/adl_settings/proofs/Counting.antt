@@ -1,10 +1,7 @@
 -- Which numbers of a list stand once, and which twice.
-use Rattle.std.proofs.Common.{◌≡◌, ◌<◌, ◌+◌, ◌∙◌, ℕ, Bool, true, false, cond, ◌&&◌, nat_eq, nat_le, List, length, get_or, take, sym, ap, arith}
-use Rattle.std.specs.List.{count_by}
-use Rattle.std.proofs.lemmas.Bool.{eqb-true}
+use Rattle.adl_settings.proofs.Common.{◌≡◌, ◌<◌, ◌+◌, ◌∙◌, ℕ, Bool, true, false, cond, ◌&&◌, nat_eq, nat_le, List, length, get_or, take, sym, ap, arith, count_by, eqb-true, is_repeated}
 use Rattle.std.proofs.lemmas.Bool.Decides.{nat_tests}
 use Rattle.std.proofs.lemmas.List.Sums.{count_by_more_yes, count_by_more_no}
-use Rattle.adl_settings.specs.Repeated.{is_repeated}
 
 abbrev pub count_of : List ℕ → ℕ → ℕ
 count_of xs n = count_by (λ m. nat_eq n m) xs

@@ -1,21 +1,11 @@
--- The settings of ends by number.
-use Rattle.std.proofs.Common.{◌≡◌, ◌∙◌, ◌+◌, ℕ, zero, suc, true, ◌&&◌, List, [], ◌∷◌, map, Option, Some, None, is_some, option_map, refl, sym, ap, subst}
-use Rattle.std.specs.List.{filter_map, slice_get, list_all}
-use Rattle.std.specs.Option.{option_and_then}
-use Rattle.std.proofs.lemmas.Bool.{and_parts}
-use Rattle.std.proofs.lemmas.Option.{slice_get-map}
+-- The settings of ends by number, and the positions of `from` ends.
+use Rattle.adl_settings.proofs.Common.{◌≡◌, ◌∙◌, ◌+◌, ℕ, zero, suc, true, ◌&&◌, List, [], ◌∷◌, map, Option, Some, None, is_some, option_map, refl, sym, ap, subst, filter_map, slice_get, list_all, option_and_then, and_parts, slice_get-map, Source, Flat, FlatEnd, Leaf, flat_of, Hierarchy, hierarchy_of, Found, interface_at, behind, positioned_after, positioned, joint_at, found_at, found_of, found_on, end_settings, settled_of, arith, cond, filter, is_from}
 use Rattle.adl_ast.specs.declared.component.Interface.{Interface}
-use Rattle.adl_ast.specs.declared.source.Source.{Source}
-use Rattle.adl_meaning.specs.declared.flat.Flat.{Flat}
 use Rattle.adl_meaning.specs.declared.flat.FlatConnection.{FlatConnection}
-use Rattle.adl_meaning.specs.declared.flat.FlatEnd.{FlatEnd}
-use Rattle.adl_meaning.specs.declared.flat.Leaf.{Leaf}
-use Rattle.adl_meaning.specs.Flat.{flat_of}
-use Rattle.adl_meaning.specs.Hierarchy.{Hierarchy, hierarchy_of}
 use Rattle.adl_settings.specs.EndMeaning.{end_setting}
-use Rattle.adl_settings.specs.Joints.{Found, interface_at, behind, positioned_after, positioned, joint_at, found_at, found_of, found_on}
 use Rattle.adl_settings.specs.NumberedEnds.{joins_interface, setting_at, IsFoundAt}
-use Rattle.adl_settings.specs.Settled.{end_settings, settled_of}
+use Rattle.adl_ast.specs.declared.composition.Role.{Role}
+use Rattle.adl_ast.specs.declared.composition.Role.TheVariants.{From, To}
 
 -- ---- lists
 
@@ -89,3 +79,17 @@ setting_at_number s i n k e at all is =
     let got = found_at_number h s flat k n e all is in
     let connection = slice_get-map end_settings (map (found_on h s flat) flat.connections) i ∙ ap (option_map end_settings) (slice_get-map (found_on h s flat) flat.connections i ∙ ap (option_map (found_on h s flat)) at) in
     (got.0, got.1, ap (option_and_then (λ c. slice_get c.ends n)) connection ∙ slice_get-map end_setting (found_on h s flat k) n ∙ ap (option_map end_setting) got.2)
+
+abbrev pub from_ends : ℕ → List FlatEnd → List (ℕ × FlatEnd)
+from_ends n es = filter (λ x. is_from x.1.role) (positioned_after n es)
+
+-- the `from` ends have the numbers that follow, without a gap
+pub position-nth : (n : ℕ) (es : List FlatEnd) (i : ℕ) (x : ℕ × FlatEnd) → slice_get (from_ends n es) i ≡ Some x → x.0 ≡ n + i + 1
+position-nth n [] i x e = cc
+position-nth n (f ∷ es) i x e = by_role f.role i (λ j. position-nth (n + 1) es j x) (λ j. position-nth n es j x) e
+  where
+    by_role : (r : Role) (i : ℕ) → ((j : ℕ) → slice_get (from_ends (n + 1) es) j ≡ Some x → x.0 ≡ n + 1 + j + 1) → ((j : ℕ) → slice_get (from_ends n es) j ≡ Some x → x.0 ≡ n + j + 1)
+        → slice_get (cond (is_from r) ((n + 1, f) ∷ from_ends (behind n r) es) (from_ends (behind n r) es)) i ≡ Some x → x.0 ≡ n + i + 1
+    by_role From zero more same e = let h : (n + 1, f) ≡ x = cc in sym (ap (λ (y : ℕ × FlatEnd). y.0) h) ∙ omega arith
+    by_role From (suc i) more same e = more i e ∙ omega arith
+    by_role To i more same e = same i e

@@ -1,8 +1,5 @@
-pub mod BadMeant
+pub mod Common
 pub mod Counting
 pub mod EndNumbers
 pub mod Noted
-pub mod PagesShared
-pub mod Positions
-pub mod Twice
 pub mod ValueSearch

@@ -1,13 +1,6 @@
 -- The search for the value of a setting along a path.
-use Rattle.std.proofs.Common.{◌≡◌, ◌≤◌, ◌-◌, ℕ, zero, suc, take, drop, length, Option, Some, None, option_map, refl, sym, ◌∙◌, ap, arith}
-use Rattle.std.specs.Option.{option_and_then, option_or}
-use Rattle.std.proofs.lemmas.List.{take-take, length-take-le}
+use Rattle.adl_settings.proofs.Common.{◌≡◌, ◌≤◌, ◌-◌, ℕ, zero, suc, take, drop, length, Option, Some, None, option_map, refl, sym, ◌∙◌, ap, arith, option_and_then, option_or, take-take, length-take-le, Id, Hierarchy, top_number, Name, Path, at, Given, given, setting_of, default_at, setter_at, set_within, value_at}
 use Rattle.adl_ast.specs.declared.configuration.Setter.TheVariants as setters
-use Rattle.adl_ast.specs.declared.id.Id.{Id}
-use Rattle.adl_meaning.specs.Hierarchy.{Hierarchy, top_number}
-use Rattle.adl_meaning.specs.Items.{Name}
-use Rattle.adl_meaning.specs.Paths.{Path, at}
-use Rattle.adl_meaning.specs.Values.{Given, given, setting_of, default_at, setter_at, set_within, value_at}
 
 -- ---- a path's names behind those that count
 

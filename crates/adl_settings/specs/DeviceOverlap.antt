@@ -1,13 +1,11 @@
 -- DeviceOverlap stands at the literal that gives the address of a joined dataport of a device, where another one shares a
 -- physical page with it. It has no name. A dataport whose address or size isn't allowed or is missing is left out, also as
 -- the other one. A dataport that several ends join is one. Both begin at a page and have whole pages.
-use Rattle.std.specs.Prelude.{ℕ, List, map, Option, option_map}
 use Rattle.std.specs.List.{flat_map, filter_map, list_any}
 use Rattle.std.specs.Option.{option_and_then}
+use Rattle.std.specs.Prelude.{ℕ, List, map, Option, option_map}
+use Rattle.adl_settings.specs.Words.{Fault, at_keyword, where_true, Given}
 use Rattle.cam_base.specs.declared.code.Code.TheVariants as code
-use Rattle.cam_base.specs.declared.place.Fault.{Fault}
-use Rattle.adl_meaning.specs.Faults.{at_keyword, where_true}
-use Rattle.adl_meaning.specs.Values.{Given}
 use Rattle.adl_settings.specs.declared.overlaps.DeviceRegion.{DeviceRegion}
 use Rattle.adl_settings.specs.EndMeaning.{bytes_of, paddr_of}
 use Rattle.adl_settings.specs.Joints.{Found}

@@ -2,9 +2,7 @@
 -- ends, and the bytes of the port's type in whole pages, which are 4,096 where no number stands in the type. An address and
 -- the number of an interrupt have no default.
 use Rattle.std.specs.Prelude.{ℕ, ◌||◌, if◌then◌else◌, Option, unwrap_or}
-use Rattle.adl_ast.specs.declared.component.Interface.{Interface}
-use Rattle.adl_meaning.specs.declared.settled.EndSetting.{EndSetting}
-use Rattle.adl_meaning.specs.Export.{default_size}
+use Rattle.adl_settings.specs.Words.{Interface, EndSetting, default_size}
 use Rattle.adl_settings.specs.declared.access.Access.{Access}
 use Rattle.adl_settings.specs.Allowed.{read_and_write, no_access, page, sized, access_in, badge_in, size_in, paddr_in, irq_in}
 use Rattle.adl_settings.specs.Joints.{Found, has_access, has_badge, is_device_memory, is_shared}

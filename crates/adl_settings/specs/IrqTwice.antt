@@ -1,22 +1,15 @@
 -- IrqTwice stands at the literal that gives the number of a device's joined interrupt, where another one has the same number.
 -- It has no name. An interrupt whose number isn't allowed or is missing is left out, also as the other one. Where no fault of
 -- joins stands, one end alone joins an interrupt.
-use Rattle.std.specs.Prelude.{ℕ, Bool, List, map, Option, option_map}
 use Rattle.std.specs.List.{flat_map, filter_map}
 use Rattle.std.specs.Option.{option_and_then}
+use Rattle.std.specs.Prelude.{ℕ, Bool, List, map, Option, option_map}
+use Rattle.adl_settings.specs.Words.{Fault, at_keyword, where_true, Given}
 use Rattle.cam_base.specs.declared.code.Code.TheVariants as code
-use Rattle.cam_base.specs.declared.place.Fault.{Fault}
-use Rattle.cam_base.specs.declared.place.Place.{Place}
-use Rattle.adl_meaning.specs.Faults.{at_keyword, where_true}
-use Rattle.adl_meaning.specs.Values.{Given}
+pub use Rattle.adl_settings.specs.declared.twice.Irq.{Irq}
 use Rattle.adl_settings.specs.EndMeaning.{irq_of}
 use Rattle.adl_settings.specs.Joints.{Found}
 use Rattle.adl_settings.specs.Repeated.{is_repeated}
-
--- the interrupt of a device
-pub record Irq : Type 0 where
-  pub number : ℕ
-  pub place : Place  -- of the literal that gives the number
 
 abbrev pub irq_from : ℕ → Given → Irq
 irq_from number g = record { number = number; place = g.value.place }

@@ -7,11 +7,11 @@
 --   size of a connection   at each end of shared memory
 --
 -- Here i is the interface of the leaf, and its settings are those of the leaf's path.
-use Rattle.std.specs.Prelude.{◌+◌, ℕ, Bool, true, false, ◌&&◌, not, if◌then◌else◌, List, [], ◌∷◌, ◌++◌, map, codes, Option, Some, None, option_map}
-use Rattle.std.specs.List.{filter_map, slice_get}
+use Rattle.std.specs.List.{filter_map}
 use Rattle.std.specs.Option.{option_and_then}
+use Rattle.std.specs.Prelude.{slice_get, ◌+◌, ℕ, Bool, true, false, ◌&&◌, not, if◌then◌else◌, List, [], ◌∷◌, ◌++◌, map, codes, Option, Some, None, option_map}
+use Rattle.adl_settings.specs.Words.{Interface, Source, Flat, FlatConnection, FlatEnd, Leaf, same_kind, Hierarchy, Name, Given, value_at}
 use Rattle.adl_ast.specs.declared.component.Component.{Component}
-use Rattle.adl_ast.specs.declared.component.Interface.{Interface}
 use Rattle.adl_ast.specs.declared.component.InterfaceKind.TheVariants as interfaces
 use Rattle.adl_ast.specs.declared.component.Member.{Member}
 use Rattle.adl_ast.specs.declared.component.Member.TheVariants as members
@@ -19,19 +19,12 @@ use Rattle.adl_ast.specs.declared.composition.Role.{Role}
 use Rattle.adl_ast.specs.declared.composition.Role.TheVariants.{From, To}
 use Rattle.adl_ast.specs.declared.file.Item.{Item}
 use Rattle.adl_ast.specs.declared.file.Item.TheVariants as items
-use Rattle.adl_ast.specs.declared.source.Source.{Source}
 use Rattle.adl_meaning.specs.declared.connector.Connector.{Connector}
 use Rattle.adl_meaning.specs.declared.connector.Connector.TheVariants.{Rpc, Notification, SharedMemory}
-use Rattle.adl_meaning.specs.declared.flat.Flat.{Flat}
-use Rattle.adl_meaning.specs.declared.flat.FlatConnection.{FlatConnection}
-use Rattle.adl_meaning.specs.declared.flat.FlatEnd.{FlatEnd}
-use Rattle.adl_meaning.specs.declared.flat.Leaf.{Leaf}
 use Rattle.adl_meaning.specs.declared.item_at.ItemAt.{ItemAt}
-use Rattle.adl_meaning.specs.Export.{same_kind}
-use Rattle.adl_meaning.specs.Hierarchy.{Hierarchy}
-use Rattle.adl_meaning.specs.Items.{Name}
-use Rattle.adl_meaning.specs.Values.{Given, value_at}
 use Rattle.adl_settings.specs.Meant.{where_set}
+pub use Rattle.adl_settings.specs.Joint.{Joint}
+pub use Rattle.adl_settings.specs.declared.found.Found.{Found}
 
 -- ---- interfaces by number
 
@@ -52,14 +45,6 @@ abbrev pub interface_at : Source → Leaf → ℕ → Option Interface
 interface_at s leaf member = option_and_then (λ c. option_and_then as_interface (slice_get c.members member)) (component_at s leaf.component)
 
 -- ---- ends with their interfaces
-
--- an end of a connection, at the interface of the leaf that it joins
-pub record Joint : Type 0 where
-  pub connection : FlatConnection
-  pub position : ℕ  -- of a `from` end among the `from` ends of the connection, from 1
-  pub end : FlatEnd
-  pub leaf : Leaf
-  pub interface : Interface
 
 abbrev pub is_from : Role → Bool
 is_from From = true
@@ -112,14 +97,6 @@ is_shared SharedMemory = true
 is_shared _ = false
 
 -- ---- the values of the settings
-
-pub record Found : Type 0 where
-  pub joint : Joint
-  pub access : Option Given
-  pub badge : Option Given
-  pub size : Option Given  -- of the shared memory, or else of the device's registers
-  pub paddr : Option Given
-  pub irq : Option Given
 
 -- the value of the interface's setting
 abbrev pub value_of : Hierarchy → Joint → Name → Option Given

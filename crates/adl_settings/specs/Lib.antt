@@ -4,6 +4,7 @@ pub mod BadgeTwice
 pub mod DeviceOverlap
 pub mod EndMeaning
 pub mod IrqTwice
+pub mod Joint
 pub mod Joints
 pub mod Meant
 pub mod Missing
@@ -12,6 +13,7 @@ pub mod Repeated
 pub mod SettingFaults
 pub mod SettingTwice
 pub mod Settled
+pub mod Words
 pub use Rattle.adl_meaning.specs.Faults
 pub use Rattle.adl_meaning.specs.FewMembers
 pub use Rattle.adl_meaning.specs.Flat

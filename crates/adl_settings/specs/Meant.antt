@@ -1,12 +1,9 @@
 -- What a setting means: what its value means, and where it has none, the default. Where its value isn't one of those that are
 -- allowed, it means nothing, and the literal that gives the value is at fault.
-use Rattle.std.specs.Prelude.{Bool, if◌then◌else◌, List, [], Option, Some, None, is_some}
 use Rattle.std.specs.Option.{option_and_then}
+use Rattle.std.specs.Prelude.{Bool, if◌then◌else◌, List, [], Option, Some, None, is_some}
+use Rattle.adl_settings.specs.Words.{Fault, Value, where_false, Given}
 use Rattle.cam_base.specs.declared.code.Code.TheVariants as code
-use Rattle.cam_base.specs.declared.place.Fault.{Fault}
-use Rattle.adl_ast.specs.declared.value.Value.{Value}
-use Rattle.adl_meaning.specs.Faults.{where_false}
-use Rattle.adl_meaning.specs.Values.{Given}
 
 -- what a value means, where allowed says what allowed values mean
 abbrev pub meaning : {X : Type 0} → (Value → Option X) → Option Given → Option X

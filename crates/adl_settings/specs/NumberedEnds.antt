@@ -1,15 +1,7 @@
 -- The settings of an end by the numbers of its connection and of the end in it, and what they are found at.
-use Rattle.std.specs.Prelude.{◌≡◌, ℕ, Bool, Option, Some, is_some}
-use Rattle.std.specs.List.{slice_get}
 use Rattle.std.specs.Option.{option_and_then}
-use Rattle.adl_ast.specs.declared.component.Interface.{Interface}
-use Rattle.adl_ast.specs.declared.source.Source.{Source}
-use Rattle.adl_meaning.specs.declared.flat.Flat.{Flat}
-use Rattle.adl_meaning.specs.declared.flat.FlatConnection.{FlatConnection}
-use Rattle.adl_meaning.specs.declared.flat.FlatEnd.{FlatEnd}
-use Rattle.adl_meaning.specs.declared.settled.EndSetting.{EndSetting}
-use Rattle.adl_meaning.specs.declared.settled.Settled.{Settled}
-use Rattle.adl_meaning.specs.Hierarchy.{Hierarchy}
+use Rattle.std.specs.Prelude.{slice_get, ◌≡◌, ℕ, Bool, Option, Some, is_some}
+use Rattle.adl_settings.specs.Words.{Interface, Source, Flat, FlatConnection, FlatEnd, EndSetting, Settled, Hierarchy}
 use Rattle.adl_settings.specs.Joints.{Found, interface_at, found_at}
 
 -- the interface that an end joins, where there is one

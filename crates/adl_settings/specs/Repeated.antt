@@ -1,6 +1,6 @@
 -- Numbers that stand once, and numbers that stand twice or more in a list.
-use Rattle.std.specs.Prelude.{ℕ, ◌==◌, nat_le, Bool, List}
 use Rattle.std.specs.List.{count_by, list_any}
+use Rattle.std.specs.Prelude.{ℕ, ◌==◌, nat_le, Bool, List}
 
 abbrev pub is_among : List ℕ → ℕ → Bool
 is_among numbers n = list_any (λ m. n == m) numbers

@@ -1,11 +1,6 @@
 -- The faults of settings that stand in a source, and the first of them.
 use Rattle.std.specs.Prelude.{List, ◌++◌, Option}
-use Rattle.cam_base.specs.declared.place.Fault.{Fault}
-use Rattle.adl_ast.specs.declared.source.Source.{Source}
-use Rattle.adl_meaning.specs.declared.flat.Flat.{Flat}
-use Rattle.adl_meaning.specs.Faults.{least}
-use Rattle.adl_meaning.specs.Flat.{flat_of}
-use Rattle.adl_meaning.specs.Hierarchy.{Hierarchy, hierarchy_of}
+use Rattle.adl_settings.specs.Words.{Fault, Source, Flat, least, flat_of, Hierarchy, hierarchy_of}
 use Rattle.adl_settings.specs.BadValue.{bad_values}
 use Rattle.adl_settings.specs.BadgeTwice.{badges_twice}
 use Rattle.adl_settings.specs.DeviceOverlap.{overlaps}

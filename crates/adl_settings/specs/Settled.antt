@@ -2,15 +2,9 @@
 -- priority, 254 by default, and the bytes of a stack, 16,384 by default; a device has 0 for both. Where no fault of settings
 -- stands, each of these is what its setting means.
 use Rattle.std.specs.Prelude.{not, if◌then◌else◌, List, map, codes, Option, unwrap_or}
-use Rattle.adl_ast.specs.declared.source.Source.{Source}
-use Rattle.adl_meaning.specs.declared.flat.Flat.{Flat}
-use Rattle.adl_meaning.specs.declared.flat.Leaf.{Leaf}
+use Rattle.adl_settings.specs.Words.{Source, Flat, Leaf, Settled, flat_of, Hierarchy, hierarchy_of, Given, value_at}
 use Rattle.adl_meaning.specs.declared.settled.EndSettings.{EndSettings}
 use Rattle.adl_meaning.specs.declared.settled.LeafSetting.{LeafSetting}
-use Rattle.adl_meaning.specs.declared.settled.Settled.{Settled}
-use Rattle.adl_meaning.specs.Flat.{flat_of}
-use Rattle.adl_meaning.specs.Hierarchy.{Hierarchy, hierarchy_of}
-use Rattle.adl_meaning.specs.Values.{Given, value_at}
 use Rattle.adl_settings.specs.Allowed.{priority_in, stack_in}
 use Rattle.adl_settings.specs.EndMeaning.{end_setting}
 use Rattle.adl_settings.specs.Joints.{Found, founds_in}

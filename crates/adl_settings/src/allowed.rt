@@ -1,11 +1,10 @@
 //! The values that settings may have, and what they mean.
 
-ghost use Rattle.adl_settings.specs.Allowed.{number_in, text_in, within, number_within, whole_pages, priority_in, stack_in, access_named, access_in, greatest_badge, is_badge_text, badge_named, badge_in, sized, size_in, placed, paddr_in, irq_in};
-ghost use Rattle.cam_base.specs.Numbers.{is_digit};
-ghost use Rattle.std.specs.Char.{digit_value};
+ghost use Rattle.adl_settings.specs.Allowed.{number_in, text_in, within, number_within, whole_pages, priority_in, stack_in, access_in, badge_named, badge_in, sized, size_in, placed, paddr_in, irq_in};
+ghost use Rattle.adl_settings.specs.Words.{is_digit};
 ghost use Rattle.std.specs.List.{list_all};
-ghost use Rattle.std.specs.Option.{option_and_then, option_copied};
-ghost use Rattle.std.specs.Prelude.{◌≡◌, ◌<◌, ◌≤◌, ◌^◌, ◌+◌, ◌*◌, true, IfSome, length, option_map};
+ghost use Rattle.std.specs.Option.{option_copied};
+ghost use Rattle.std.specs.Prelude.{◌≡◌, ◌<◌, ◌≤◌, ◌^◌, ◌+◌, ◌*◌, true, IfSome, length};
 ghost use Rattle.std.specs.Str.Parse.{digits_value};
 
 use crate::Access;

@@ -1,9 +1,10 @@
-//! The values of the settings of leaves and ends.
+//! The values of the settings of leaves and ends, and which settings have a meaning at an end.
 
 ghost use Rattle.std.specs.Prelude.{◌≡◌};
+ghost use Rattle.adl_settings.specs.Joints.{is_dataport, has_access, is_device_memory, is_device_event, are_badged, has_badge, is_shared};
 
-use adl_ast::{Interface, Value};
-use adl_meaning::{FlatConnection, FlatEnd, Leaf};
+use adl_ast::{Interface, InterfaceKind, Role, Value};
+use adl_meaning::{Connector, FlatConnection, FlatEnd, Leaf};
 use std::marker::Model;
 
 /// A value, and the name of what gives it: the last word of a setting, or an attribute's name. Contracts see it as the two.
@@ -38,7 +39,7 @@ pub struct Joint<'a> {
 }
 
 impl<'a> Model for Joint<'a> {
-    ghost use Rattle.adl_settings.specs.Joints.{Joint as JointOf};
+    ghost use Rattle.adl_settings.specs.Joint.{Joint as JointOf};
 
     ghost Value = { JointOf };
 
@@ -51,7 +52,7 @@ impl<'a> Model for Joint<'a> {
     } };
 }
 
-/// The values of the settings of an end, where they have a meaning. Contracts see it as that.
+/// The values of the settings of an end, where they have a meaning.
 #[derive(Drop)]
 pub struct Found<'a> {
     pub joint: Joint<'a>,
@@ -61,46 +62,6 @@ pub struct Found<'a> {
     pub size: Option<Given<'a>>,
     pub paddr: Option<Given<'a>>,
     pub irq: Option<Given<'a>>,
-}
-
-impl<'a> Model for Found<'a> {
-    ghost use Rattle.adl_settings.specs.Joints.{Found as FoundOf};
-
-    ghost Value = { FoundOf };
-
-    ghost use Rattle.adl_ast.specs.contracts.value.ValueKind as values;
-    ghost use Rattle.std.specs.Coded.{codes};
-
-    ghost coded = { Prim.hlevel (codes, values.the_row.coded) };
-
-    ghost view = { λ f. record {
-      joint = f.joint;
-      access = f.access;
-      badge = f.badge;
-      size = f.size;
-      paddr = f.paddr;
-      irq = f.irq;
-    } };
-}
-
-/// The ends of a connection. Contracts see it as their list.
-#[derive(Drop)]
-pub struct FoundEnds<'a> {
-    pub ends: Vec<Found<'a>>,
-}
-
-impl<'a> Model for FoundEnds<'a> {
-    ghost use Rattle.adl_settings.specs.Joints.{Found as FoundOf};
-    ghost use Rattle.std.specs.Prelude.{List};
-
-    ghost Value = { List FoundOf };
-
-    ghost use Rattle.adl_ast.specs.contracts.value.ValueKind as values;
-    ghost use Rattle.std.specs.Coded.{codes};
-
-    ghost coded = { Prim.hlevel (codes, values.the_row.coded) };
-
-    ghost view = { λ k. k.ends.items };
 }
 
 /// The values of the settings of a leaf, where they have a meaning. Contracts see it as that.
@@ -136,11 +97,55 @@ impl<'a> Given<'a> {
     }
 }
 
-impl<'a> FoundEnds<'a> {
-    /// The ends, in order.
-    pub fn ends(&self) -> &[Found<'a>]
-        ensures { result.now ≡ self.now }
+fn are_badged(connector: Connector, role: Role) -> bool
+    ensures { result ≡ are_badged connector role }
+{
+    match (connector, role) {
+        (Connector::Rpc, Role::From) => true,
+        (Connector::Notification, Role::From) => true,
+        _ => false,
+    }
+}
+
+/// Whether connections of this kind share memory.
+pub fn is_shared(connector: Connector) -> bool
+    ensures { result ≡ is_shared connector }
+{
+    connector == Connector::SharedMemory
+}
+
+impl<'a> Joint<'a> {
+    fn is_dataport(&self) -> bool
+        ensures { result ≡ is_dataport self.now }
     {
-        self.ends.as_slice()
+        self.interface.kind == InterfaceKind::Dataport
+    }
+
+    /// Whether it is a dataport of software.
+    pub fn has_access(&self) -> bool
+        ensures { result ≡ has_access self.now }
+    {
+        self.is_dataport() && !self.leaf.hardware
+    }
+
+    /// Whether it is a dataport of a device.
+    pub fn is_device_memory(&self) -> bool
+        ensures { result ≡ is_device_memory self.now }
+    {
+        self.is_dataport() && self.leaf.hardware
+    }
+
+    /// Whether it is an interrupt of a device.
+    pub fn is_device_event(&self) -> bool
+        ensures { result ≡ is_device_event self.now }
+    {
+        self.interface.kind == InterfaceKind::Emits && self.leaf.hardware
+    }
+
+    /// Whether it is a `from` end of a call or an event.
+    pub fn has_badge(&self) -> bool
+        ensures { result ≡ has_badge self.now }
+    {
+        are_badged(self.connection.connector, self.end.role)
     }
 }

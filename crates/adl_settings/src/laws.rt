@@ -1,22 +1,14 @@
 //! What the definitions promise together, as functions that do nothing.
 
 ghost use Rattle.adl_ast.specs.declared.configuration.Setter.TheVariants as setters;
-ghost use Rattle.adl_ast.specs.declared.id.Id.{Id as Word};
-ghost use Rattle.adl_ast.specs.declared.source.Source.{Source as Text};
-ghost use Rattle.adl_meaning.specs.Flat.{flat_of};
-ghost use Rattle.adl_meaning.specs.Hierarchy.{Hierarchy as Tree, hierarchy_of};
-ghost use Rattle.adl_meaning.specs.Items.{Name as Bytes};
-ghost use Rattle.adl_meaning.specs.Paths.{Path as Names};
-ghost use Rattle.adl_meaning.specs.Values.{Given as Value, default_at, setter_at, set_within, value_at};
-ghost use Rattle.adl_meaning.specs.declared.flat.FlatConnection.{FlatConnection as Wire};
-ghost use Rattle.adl_meaning.specs.declared.flat.FlatEnd.{FlatEnd as Joining};
+ghost use Rattle.adl_settings.specs.Words.{Id as Word, Source as Text, flat_of, Hierarchy as Tree, hierarchy_of, Name as Bytes, Path as Names, Given as Value, default_at, setter_at, set_within, value_at, FlatConnection as Wire, FlatEnd as Joining};
+ghost use Rattle.std.specs.List.{filter, list_all};
+ghost use Rattle.std.specs.Option.{option_or};
+ghost use Rattle.std.specs.Prelude.{slice_get, ◌≡◌, ◌<◌, ◌+◌, ◌-◌, ℕ, true, suc, take, length, List as Seq, Some, None};
 ghost use Rattle.adl_settings.specs.EndMeaning.{end_setting};
 ghost use Rattle.adl_settings.specs.Joints.{Found, is_from, positioned};
 ghost use Rattle.adl_settings.specs.NumberedEnds.{joins_interface, setting_at, IsFoundAt};
 ghost use Rattle.adl_settings.specs.Settled.{settled_of};
-ghost use Rattle.std.specs.List.{filter, list_all, slice_get};
-ghost use Rattle.std.specs.Option.{option_or};
-ghost use Rattle.std.specs.Prelude.{◌≡◌, ◌<◌, ◌+◌, ◌-◌, ℕ, true, suc, take, length, List as Seq, Some, None};
 
 /// What a body sets stays, whatever bodies further inwards set, and a default counts where no body sets a value.
 pub fn outer_settings_come_first()

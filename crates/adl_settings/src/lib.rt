@@ -6,21 +6,15 @@
 
 mod access;
 mod allowed;
-mod bad_values;
-mod badges;
 mod found;
-mod irqs;
-mod joint;
 mod laws;
 mod meaning;
-mod missing;
 mod overlaps;
-mod repeated;
+mod twice;
 mod value_faults;
 
 pub use access::Access;
-pub use found::{Found, FoundEnds, Given, Joint, LeafFound};
-pub use joint::is_shared;
+pub use found::{Found, Given, Joint, LeafFound, is_shared};
 pub use laws::{
     badges_count_from_one, outer_settings_come_first, references_are_values,
     settings_are_those_of_joins,

@@ -1,17 +1,15 @@
 //! What the settings of leaves and ends mean.
 
-ghost use Rattle.adl_meaning.specs.Export.{default_size};
-ghost use Rattle.adl_settings.specs.Allowed.{priority_in, stack_in, read_and_write, access_in, badge_in, size_in, paddr_in, irq_in};
-ghost use Rattle.adl_settings.specs.EndMeaning.{access_of, badge_of, default_bytes, bytes_of, paddr_of, irq_of, access_at, badge_at, bytes_at, end_setting};
-ghost use Rattle.adl_settings.specs.Meant.{meaning, meant};
-ghost use Rattle.adl_settings.specs.Settled.{leaf_setting};
 ghost use Rattle.std.specs.Prelude.{◌≡◌, unwrap_or};
+ghost use Rattle.adl_settings.specs.Allowed.{priority_in, stack_in, access_in, badge_in, size_in, paddr_in, irq_in};
+ghost use Rattle.adl_settings.specs.EndMeaning.{access_of, badge_of, default_bytes, bytes_of, paddr_of, irq_of, access_at, badge_at, bytes_at, end_setting};
+ghost use Rattle.adl_settings.specs.Meant.{meant};
+ghost use Rattle.adl_settings.specs.Settled.{leaf_setting};
 
 use crate::allowed::{
     PAGE, access_in, badge_in, irq_in, paddr_in, priority_in, size_in, sized, stack_in,
 };
-use crate::joint::is_shared;
-use crate::{Access, Found, Given, LeafFound};
+use crate::{Access, Found, Given, LeafFound, is_shared};
 use adl_ast::Interface;
 use adl_meaning::{EndSetting, LeafSetting};
 
@@ -107,7 +105,7 @@ impl<'a> Found<'a> {
     }
 
     /// The bytes beside which an address is looked at: 0 where the size isn't allowed.
-    pub fn counted_bytes(&self) -> u64
+    fn counted_bytes(&self) -> u64
         ensures { result ≡ unwrap_or (bytes_of self.now) 0 }
     {
         self.bytes().unwrap_or(0)

@@ -1,12 +1,12 @@
 //! Dataports of devices that share physical pages.
 
-ghost use Rattle.adl_meaning.specs.Faults.{noted};
-ghost use Rattle.adl_settings.specs.DeviceOverlap.{region_of, regions, overlaps};
+ghost use Rattle.adl_settings.specs.Words.{noted};
 ghost use Rattle.std.specs.Prelude.{◌≡◌, map, OnOk, IfOk};
+ghost use Rattle.adl_settings.specs.DeviceOverlap.{region_of, regions, overlaps};
 
-use crate::{Found, FoundEnds};
+use crate::Found;
 use adl_meaning::Earliest;
-use cam_base::{Code, NoMemory, Place};
+use cam_base::{Code, List, NoMemory, Place};
 use page_index::{PageIndex, Region};
 use std::alloc::Global;
 
@@ -29,12 +29,12 @@ fn region_of(end: &Found<'_>) -> Option<DeviceRegion>
     Some(DeviceRegion { pages, place })
 }
 
-fn regions(alloc: Global, connections: &[FoundEnds<'_>]) -> Result<Vec<DeviceRegion>, NoMemory>
+fn regions(alloc: Global, connections: &[List<Found<'_>>]) -> Result<Vec<DeviceRegion>, NoMemory>
     ensures { IfOk result (λ v. v.items ≡ regions connections.now) }
 {
     let mut found = Vec::new(alloc);
     for connection in connections {
-        for end in connection.ends() {
+        for end in connection.as_slice() {
             if let Some(region) = region_of(end) {
                 found.push(region)?;
             }
@@ -46,15 +46,14 @@ fn regions(alloc: Global, connections: &[FoundEnds<'_>]) -> Result<Vec<DeviceReg
 fn all_pages(alloc: Global, regions: &[DeviceRegion]) -> Result<Vec<Region>, NoMemory>
     ensures { IfOk result (λ v. v.items ≡ map (λ a. a.pages) regions.now) }
 {
-    let pages = regions.iter().map(|region| region.pages).collect(alloc)?;
-    Ok(pages)
+    Ok(regions.iter().map(|region| region.pages).collect(alloc)?)
 }
 
 /// Notes the dataports of devices that share a page with another.
-#[tactic(auto, using(crate::proofs::PagesShared::shared_in_index, std::proofs::lemmas::Grind::common_steps))]
+#[tactic(auto, using(crate::proofs::Noted::shared_in_index, std::proofs::lemmas::Grind::common_steps))]
 pub fn note_overlaps<'a>(
     alloc: Global,
-    connections: &[FoundEnds<'a>],
+    connections: &[List<Found<'a>>],
     first: &mut Earliest<'a>,
 ) -> Result<(), NoMemory>
     ensures { OnOk result (first.new ≡ noted first.old (overlaps connections.now)) }

@@ -1,7 +1,4 @@
-pub mod Bodies
-pub mod FoundRecords
-pub mod InnerNames
 pub mod SettingKeys
-pub mod SettingSteps
-pub mod SettledWhole
+pub mod Settled
+pub mod TableSteps
 pub mod ValueSteps

@@ -1,23 +1,10 @@
 -- Steps of the search for a value, from the outermost body inwards.
-use Rattle.std.proofs.Common.{◌≡◌, ◌∙◌, ◌<◌, ◌≤◌, ◌+◌, ◌-◌, ◌*◌, ℕ, zero, suc, Bool, true, false, cond, ◌&&◌, List, [], ◌∷◌, take, drop, length, max, ◌++◌, Bor, Option, Some, None, option_map, refl, sym, ap, arith, ◌⊎◌, inl, inr}
-use Rattle.std.specs.List.{slice_get}
-use Rattle.std.specs.Option.{option_and_then, option_map_or, option_or}
-use Rattle.std.specs.Str.{bytes_eq}
+use Rattle.adl_settings.proofs.Common.{◌≡◌, ◌∙◌, ◌<◌, ◌≤◌, ◌+◌, ◌-◌, ◌*◌, ℕ, zero, suc, Bool, true, false, cond, ◌&&◌, List, [], ◌∷◌, take, drop, length, max, ◌++◌, Bor, Option, Some, None, option_map, refl, sym, ap, arith, ◌⊎◌, inl, inr, slice_get, option_and_then, option_map_or, option_or, bytes_eq, length-take, length-drop, drop-append-le, drop-map, and_parts, find_passes, Setting, last_name, Hierarchy, Part, top_number, body, part_named, Name, Path, at, same_path, Given, given, settings_of, sets, setting_of, setter_at, set_within, default_at, value_at, same_path-true}
 use Rattle.std.proofs.Math.Seq.{take-length}
-use Rattle.std.proofs.lemmas.List.{length-take, length-drop, drop-append-le, drop-map}
 use Rattle.std.proofs.lemmas.Slice.Eq.{bytes_eq-Decides}
-use Rattle.std.proofs.lemmas.Bool.{and_parts}
-use Rattle.cam_base.proofs.Lists.{find_passes}
-use Rattle.adl_ast.specs.declared.configuration.Setting.{Setting}
-use Rattle.adl_meaning.specs.Export.{last_name}
-use Rattle.adl_meaning.specs.Hierarchy.{Hierarchy, Part, top_number, body, part_named}
-use Rattle.adl_meaning.specs.Items.{Name}
-use Rattle.adl_meaning.specs.Paths.{Path, at, same_path}
-use Rattle.adl_meaning.specs.Values.{Given, given, settings_of, sets, setting_of, setter_at, set_within, default_at, value_at}
 use Rattle.adl_items.specs.Pointed.{pointed}
 use Rattle.adl_settle.specs.Lookups.{within, attribute_at, given_from}
 use Rattle.adl_settings.proofs.ValueSearch.{referred, value-referred, outer-stays}
-use Rattle.adl_meaning.proofs.SamePaths.{same_path-true}
 
 -- ---- bodies along a path
 

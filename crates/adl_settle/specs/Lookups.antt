@@ -1,19 +1,44 @@
--- What the search for values looks at, and what it remembers.
-use Rattle.std.specs.Prelude.{◌≡◌, ℕ, ◌&&◌, ◌++◌, [], ◌∷◌, Option, Some, None, option_map}
+-- The tables of settings, what the search for values looks at, and what it remembers.
 use Rattle.std.specs.Map.{lookup}
-use Rattle.std.specs.Option.{option_and_then}
+use Rattle.std.specs.Option.{option_and_then, option_copied, option_map_or}
+use Rattle.std.specs.Prelude.{◌≡◌, ℕ, Bool, false, ◌&&◌, List, [], ◌∷◌, ◌++◌, Option, Some, None, option_map, slice_index_or}
 use Rattle.std.specs.Str.{bytes_eq}
-use Rattle.adl_ast.specs.declared.configuration.Setting.{Setting}
-use Rattle.adl_meaning.specs.Export.{last_name}
-use Rattle.adl_meaning.specs.Hierarchy.{Hierarchy, body, part_named}
-use Rattle.adl_meaning.specs.Items.{Name}
-use Rattle.adl_meaning.specs.Paths.{Path, same_path}
-use Rattle.adl_meaning.specs.Values.{Given, given, value_at}
-use Rattle.adl_settle.specs.declared.memo.Memo.{Memo}
+use Rattle.adl_settings.specs.Words.{Setting, Id, last_name, Hierarchy, body, part_named, Name, Path, same_path, Given, given, value_at, path_of, inner_names, is_group, setting_of}
+use Rattle.adl_items.specs.Pointed.{pointed}
+use Rattle.adl_settle.specs.declared.search.Memo.{Memo}
+use Rattle.adl_settle.specs.declared.tables.SettingTable.{SettingTable}
+use Rattle.adl_settle.specs.declared.tables.SettingTables.{SettingTables}
 
 -- the body behind a name
 abbrev pub within : Hierarchy → Option ℕ → Name → Option ℕ
 within h o n = option_and_then (λ k. option_map (λ x. x.kind) (part_named (body h k).parts n)) o
+
+-- whether a group of the body has the name
+abbrev pub groups : Hierarchy → Option ℕ → Name → Bool
+groups h o n = option_map_or (λ k. is_group (body h k) n) o false
+
+-- ---- tables
+
+-- the path that words name in a body, and behind a leaf or a connection
+abbrev pub path_from : Hierarchy → Option ℕ → List Id → Path
+path_from h (Some k) words = path_of h k words
+path_from h None words = inner_names words
+
+-- the path that words name in body k, with the last word behind it
+abbrev pub key_of : Hierarchy → ℕ → List Id → Path
+key_of h k words = path_of h k words ++ last_name words ∷ []
+
+-- the setting of a path with a name behind it
+abbrev pub setting_found : SettingTable → Path → Option Setting
+setting_found t q = option_copied (lookup (λ k. same_path q (pointed k.items)) t.entries.entries)
+
+abbrev pub IsTable : Hierarchy → ℕ → SettingTable → Type 0
+IsTable h k t = (p : Path) (x : Name) → setting_found t (p ++ x ∷ []) ≡ setting_of h k p x
+
+abbrev pub AreTables : Hierarchy → SettingTables → Type 0
+AreTables h ts = (k : ℕ) → IsTable h k (slice_index_or ts.bodies.items k ts.top)
+
+-- ---- values
 
 -- the value of an attribute of the body at a path; the assembly has none
 abbrev pub attribute_at : Hierarchy → Path → Name → Option Given
@@ -25,8 +50,7 @@ abbrev pub given_from : (Name → Option Given) → Option Setting → Option Gi
 given_from refer None = None
 given_from refer (Some s) = given refer (last_name s.words) (Some s.setter)
 
--- ---- what is remembered, by the path and the two parts of the name
-
+-- what is remembered, by the path and the two parts of the name
 abbrev pub remembered : Memo → Path → Name → Name → Option (Option Given)
 remembered m p x y = lookup (λ k. same_path p k.0.now && (bytes_eq x k.1.0.now && bytes_eq y k.1.1.now)) m.found.entries
 

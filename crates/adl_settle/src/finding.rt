@@ -1,43 +1,83 @@
-//! The values of the settings of all leaves and ends.
+//! The values of the settings of all leaves, and of the ends of connections at the interfaces that they join.
 
-ghost use Rattle.adl_meaning.specs.Values.{value_at};
-ghost use Rattle.adl_settings.specs.Joints.{behind, value_of, size_of, found_at, found_on, founds_in};
+ghost use Rattle.adl_settings.specs.Words.{value_at};
+ghost use Rattle.std.specs.Option.{option_copied};
+ghost use Rattle.std.specs.Prelude.{◌≡◌, ◌<◌, ◌++◌, ◌^◌, OnOk, IfOk};
+ghost use Rattle.adl_settings.specs.Joints.{component_at, interface_at, joint_of, behind, value_of, size_of, found_at, found_on, founds_in};
 ghost use Rattle.adl_settings.specs.Meant.{where_set};
 ghost use Rattle.adl_settings.specs.Settled.{leaf_found, leaves_found};
 ghost use Rattle.adl_settle.specs.Lookups.{IsRemembered};
-ghost use Rattle.std.specs.Prelude.{◌≡◌, ◌<◌, ◌^◌, OnOk, IfOk};
 
-use crate::joints::joint_of;
-use crate::memo::Memo;
-use crate::values::{Lookup, value};
-use adl_ast::{Role, Source};
-use adl_meaning::{Flat, FlatConnection, Leaf};
-use adl_settings::{Found, FoundEnds, Given, Joint, LeafFound, is_shared};
-use cam_base::{Name, NoMemory};
-use std::alloc::Global;
+use crate::search::{Lookup, Memo, value};
+use adl_ast::{Component, Interface, Item, Member, Role, Source};
+use adl_meaning::{Flat, FlatConnection, FlatEnd, ItemAt, Leaf};
+use adl_settings::{Found, Given, Joint, LeafFound, is_shared};
+use cam_base::{List, Name, NoMemory};
+
+/// The component that stands at a place.
+fn component_at(source: &Source, at: ItemAt) -> Option<&Component>
+    ensures { option_copied result ≡ component_at source.now at }
+{
+    let file = source.files.as_slice().get(at.file as usize)?;
+    let ended = file.tree.items.as_slice().get(at.item as usize)?;
+    match &ended.item {
+        Item::Component(component) => Some(component),
+        _ => None,
+    }
+}
+
+/// The interface that is this member of a leaf's component.
+fn interface_at<'a>(source: &'a Source, leaf: &Leaf, member: u32) -> Option<&'a Interface>
+    ensures { option_copied result ≡ interface_at source.now leaf.now member }
+{
+    let component = component_at(source, leaf.component)?;
+    match component.members.as_slice().get(member as usize)? {
+        Member::Interface(interface) => Some(interface),
+        _ => None,
+    }
+}
+
+/// The end at the interface that it joins.
+fn joint_of<'a>(
+    source: &'a Source,
+    flat: &'a Flat,
+    connection: &'a FlatConnection,
+    position: u64,
+    end: FlatEnd,
+) -> Option<Joint<'a>>
+    ensures { result ≡ joint_of source.now flat.now connection.now (position, end) }
+{
+    let leaf = flat.leaves.as_slice().get(end.leaf as usize)?;
+    let interface = interface_at(source, leaf, end.member)?;
+    Some(Joint {
+        connection,
+        position,
+        end,
+        leaf,
+        interface,
+    })
+}
 
 /// The value of a setting of a leaf, where it has a meaning.
 fn value_where<'a>(
-    alloc: Global,
     lookup: &Lookup<'_, 'a>,
     memo: &mut Memo<'a>,
     on: bool,
     path: &'a [Name],
-    name: &'a [u8],
+    name: (&'a [u8], &'a [u8]),
 ) -> Result<Option<Given<'a>>, NoMemory>
     requires { IsRemembered lookup.now memo.old }
-    ensures value { IfOk result (λ o. o ≡ where_set on (value_at lookup.now path.now name.now)) }
+    ensures value { IfOk result (λ o. o ≡ where_set on (value_at lookup.now path.now (name.entry.0.now ++ name.entry.1.now))) }
     ensures memo { OnOk result (IsRemembered lookup.now memo.new) }
 {
     if !on {
         return Ok(None);
     }
-    value(alloc, lookup, memo, path, name, b"")
+    value(lookup, memo, path, name)
 }
 
 /// The value of a setting of the interface that an end joins, where it has a meaning.
 fn value_of<'a>(
-    alloc: Global,
     lookup: &Lookup<'_, 'a>,
     memo: &mut Memo<'a>,
     on: bool,
@@ -48,17 +88,12 @@ fn value_of<'a>(
     ensures value { IfOk result (λ o. o ≡ where_set on (value_of lookup.now joint.now setting.now)) }
     ensures memo { OnOk result (IsRemembered lookup.now memo.new) }
 {
-    if !on {
-        return Ok(None);
-    }
-    let path = joint.leaf.path.names();
     let name = joint.interface.id.name.as_bytes();
-    value(alloc, lookup, memo, path, name, setting)
+    value_where(lookup, memo, on, joint.leaf.path.names(), (name, setting))
 }
 
 /// The value of the size of shared memory, or else of a device's registers.
 fn size_of<'a>(
-    alloc: Global,
     lookup: &Lookup<'_, 'a>,
     memo: &mut Memo<'a>,
     joint: &Joint<'a>,
@@ -69,16 +104,13 @@ fn size_of<'a>(
 {
     let connection = joint.connection;
     if is_shared(connection.connector) {
-        value(alloc, lookup, memo, connection.path.names(), b"size", b"")
-    } else {
-        let on = joint.is_device_memory();
-        value_of(alloc, lookup, memo, on, joint, b"_size")
+        return value(lookup, memo, connection.path.names(), (b"size", b""));
     }
+    value_of(lookup, memo, joint.is_device_memory(), joint, b"_size")
 }
 
 /// The values of the settings of an end.
 fn found_at<'a>(
-    alloc: Global,
     lookup: &Lookup<'_, 'a>,
     memo: &mut Memo<'a>,
     joint: Joint<'a>,
@@ -87,15 +119,17 @@ fn found_at<'a>(
     ensures value { IfOk result (λ f. f ≡ found_at lookup.now joint.entry) }
     ensures memo { OnOk result (IsRemembered lookup.now memo.new) }
 {
-    let on = joint.has_access();
-    let access = value_of(alloc, lookup, memo, on, &joint, b"_access")?;
-    let on = joint.has_badge();
-    let badge = value_of(alloc, lookup, memo, on, &joint, b"_attributes")?;
-    let size = size_of(alloc, lookup, memo, &joint)?;
-    let on = joint.is_device_memory();
-    let paddr = value_of(alloc, lookup, memo, on, &joint, b"_paddr")?;
-    let on = joint.is_device_event();
-    let irq = value_of(alloc, lookup, memo, on, &joint, b"_irq_number")?;
+    let access = value_of(lookup, memo, joint.has_access(), &joint, b"_access")?;
+    let badge = value_of(lookup, memo, joint.has_badge(), &joint, b"_attributes")?;
+    let size = size_of(lookup, memo, &joint)?;
+    let paddr = value_of(lookup, memo, joint.is_device_memory(), &joint, b"_paddr")?;
+    let irq = value_of(
+        lookup,
+        memo,
+        joint.is_device_event(),
+        &joint,
+        b"_irq_number",
+    )?;
     Ok(Found {
         joint,
         access,
@@ -118,48 +152,45 @@ fn behind(before: u64, role: Role) -> u64
 
 /// The values of the settings of a connection's ends.
 fn found_on<'a>(
-    alloc: Global,
     lookup: &Lookup<'_, 'a>,
     memo: &mut Memo<'a>,
     source: &'a Source,
     flat: &'a Flat,
     connection: &'a FlatConnection,
-) -> Result<FoundEnds<'a>, NoMemory>
+) -> Result<List<Found<'a>>, NoMemory>
     requires { IsRemembered lookup.now memo.old }
     ensures found { IfOk result (λ k. k ≡ found_on lookup.now source.now flat.now connection.now) }
     ensures memo { OnOk result (IsRemembered lookup.now memo.new) }
 {
-    let mut ends = Vec::new(alloc);
+    let mut found = List::new(lookup.alloc);
     let mut before: u64 = 0;
     for end in connection.ends.as_slice() {
         if let Some(joint) = joint_of(source, flat, connection, before + 1, *end) {
-            ends.push(found_at(alloc, lookup, memo, joint)?)?;
+            found.push(found_at(lookup, memo, joint)?)?;
         }
         before = behind(before, end.role);
     }
-    Ok(FoundEnds { ends })
+    Ok(found)
 }
 
 /// The values of the settings of all connections' ends.
 pub fn connections_found<'a>(
-    alloc: Global,
     lookup: &Lookup<'_, 'a>,
     memo: &mut Memo<'a>,
     source: &'a Source,
     flat: &'a Flat,
-) -> Result<Vec<FoundEnds<'a>>, NoMemory>
+) -> Result<Vec<List<Found<'a>>>, NoMemory>
     requires { IsRemembered lookup.now memo.old }
     ensures { IfOk result (λ v. v.items ≡ founds_in lookup.now source.now flat.now) }
 {
-    let mut found = Vec::new(alloc);
+    let mut found = Vec::new(lookup.alloc);
     for connection in flat.connections.as_slice() {
-        found.push(found_on(alloc, lookup, memo, source, flat, connection)?)?;
+        found.push(found_on(lookup, memo, source, flat, connection)?)?;
     }
     Ok(found)
 }
 
 fn leaf_found<'a>(
-    alloc: Global,
     lookup: &Lookup<'_, 'a>,
     memo: &mut Memo<'a>,
     leaf: &'a Leaf,
@@ -170,8 +201,8 @@ fn leaf_found<'a>(
 {
     let software = !leaf.hardware;
     let path = leaf.path.names();
-    let priority = value_where(alloc, lookup, memo, software, path, b"_priority")?;
-    let stack = value_where(alloc, lookup, memo, software, path, b"_stack_size")?;
+    let priority = value_where(lookup, memo, software, path, (b"_priority", b""))?;
+    let stack = value_where(lookup, memo, software, path, (b"_stack_size", b""))?;
     Ok(LeafFound {
         leaf,
         priority,
@@ -181,7 +212,6 @@ fn leaf_found<'a>(
 
 /// The values of the settings of all leaves.
 pub fn leaves_found<'a>(
-    alloc: Global,
     lookup: &Lookup<'_, 'a>,
     memo: &mut Memo<'a>,
     flat: &'a Flat,
@@ -190,9 +220,9 @@ pub fn leaves_found<'a>(
     ensures found { IfOk result (λ v. v.items ≡ leaves_found lookup.now flat.now) }
     ensures memo { OnOk result (IsRemembered lookup.now memo.new) }
 {
-    let mut found = Vec::new(alloc);
+    let mut found = Vec::new(lookup.alloc);
     for leaf in flat.leaves.as_slice() {
-        found.push(leaf_found(alloc, lookup, memo, leaf)?)?;
+        found.push(leaf_found(lookup, memo, leaf)?)?;
     }
     Ok(found)
 }

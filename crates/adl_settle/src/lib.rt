@@ -4,13 +4,9 @@
 //! `adl_meaning/specs/Values.antt`.
 #![tactic(auto)]
 
-mod by_body;
 mod finding;
-mod joints;
-mod kinds;
-mod memo;
-mod setting_table;
+mod search;
 mod settling;
-mod values;
+mod tables;
 
 pub use settling::{settle, settle_program};

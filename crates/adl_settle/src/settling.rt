@@ -1,69 +1,49 @@
 //! The settings of a flat system, or the first fault of settings.
 
-ghost use Rattle.adl_meaning.specs.Faults.{noted, Refuses};
-ghost use Rattle.adl_meaning.specs.Flat.{flat_of};
-ghost use Rattle.adl_meaning.specs.Hierarchy.{hierarchy_of};
+ghost use Rattle.adl_settings.specs.Words.{noted, Refuses, flat_of, hierarchy_of};
+ghost use Rattle.std.specs.Prelude.{◌≡◌, OnOk, IfOk};
 ghost use Rattle.adl_meaning.specs.Items.{AreFew};
 ghost use Rattle.adl_settings.specs.Joints.{founds_in};
 ghost use Rattle.adl_settings.specs.SettingFaults.{first_setting_fault};
 ghost use Rattle.adl_settings.specs.SettingTwice.{settings_twice};
 ghost use Rattle.adl_settings.specs.Settled.{leaves_found, settled_of};
-ghost use Rattle.std.specs.Prelude.{◌≡◌, OnOk, IfOk};
 
 use crate::finding::{connections_found, leaves_found};
-use crate::memo::Memo;
-use crate::setting_table::setting_tables;
-use crate::values::Lookup;
+use crate::search::{Lookup, Memo};
+use crate::tables::setting_tables;
 use adl_ast::Source;
 use adl_items::Names;
 use adl_meaning::{Earliest, Flat, Settled};
 use adl_program::{Bodies, Program, bodies_of};
-use adl_settings::{FoundEnds, LeafFound, settled};
-use cam_base::{Fault, NoMemory, Refused};
+use adl_settings::{Found, LeafFound, settled};
+use cam_base::{Fault, List, NoMemory, Refused};
+use indexmap::IndexMap;
 use std::alloc::Global;
 
-/// The values of the settings of all leaves and ends.
-#[derive(Drop)]
-struct Values<'a> {
-    leaves: Vec<LeafFound<'a>>,
-    connections: Vec<FoundEnds<'a>>,
-}
-
-/// Finds all values.
-fn find<'a>(
-    alloc: Global,
-    lookup: &Lookup<'_, 'a>,
-    source: &'a Source,
-    flat: &'a Flat,
-) -> Result<Values<'a>, NoMemory>
-    ensures leaves { IfOk result (λ v. v.leaves.items ≡ leaves_found lookup.now flat.now) }
-    ensures connections { IfOk result (λ v. v.connections.items ≡ founds_in lookup.now source.now flat.now) }
-{
-    let mut memo = Memo::new(alloc);
-    let leaves = leaves_found(alloc, lookup, &mut memo, flat)?;
-    let connections = connections_found(alloc, lookup, &mut memo, source, flat)?;
-    Ok(Values {
-        leaves,
-        connections,
-    })
-}
-
-/// Finds all values; notes the settings that stand twice.
+/// The values of the settings of all leaves and ends; notes the settings that stand twice.
 fn find_all<'a>(
     alloc: Global,
     bodies: &Bodies<'a>,
     source: &'a Source,
     flat: &'a Flat,
     first: &mut Earliest<'a>,
-) -> Result<Values<'a>, NoMemory>
-    ensures leaves { IfOk result (λ v. v.leaves.items ≡ leaves_found bodies.now flat.now) }
-    ensures connections { IfOk result (λ v. v.connections.items ≡ founds_in bodies.now source.now flat.now) }
+) -> Result<(Vec<LeafFound<'a>>, Vec<List<Found<'a>>>), NoMemory>
+    ensures leaves { IfOk result (λ v. v.0.items ≡ leaves_found bodies.now flat.now) }
+    ensures connections { IfOk result (λ v. v.1.items ≡ founds_in bodies.now source.now flat.now) }
     ensures twice { OnOk result (first.new ≡ noted first.old (settings_twice bodies.now)) }
 {
     let settings = setting_tables(alloc, bodies, first)?;
-    let lookup = Lookup { bodies, settings };
-    let values = find(alloc, &lookup, source, flat)?;
-    Ok(values)
+    let lookup = Lookup {
+        alloc,
+        bodies,
+        settings,
+    };
+    let mut memo = Memo {
+        found: IndexMap::new(alloc),
+    };
+    let leaves = leaves_found(&lookup, &mut memo, flat)?;
+    let connections = connections_found(&lookup, &mut memo, source, flat)?;
+    Ok((leaves, connections))
 }
 
 /// The settings of all leaves and ends of a source with these bodies.
@@ -80,9 +60,7 @@ fn settle_bodies<'a>(
 {
     let mut first = Earliest::none();
     let values = find_all(alloc, bodies, source, flat, &mut first)?;
-    let leaves = values.leaves.as_slice();
-    let connections = values.connections.as_slice();
-    settled(alloc, leaves, connections, first)
+    settled(alloc, values.0.as_slice(), values.1.as_slice(), first)
 }
 
 /// The settings of all leaves and ends of a source, over its program, in the order of the flat system. The source outlives the flat

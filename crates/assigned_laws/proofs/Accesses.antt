@@ -37,7 +37,8 @@ use Rattle.adl_meaning.specs.Paths.{Placed, leaves as tree_leaves}
 use Rattle.adl_meaning.specs.Values.{Given, value_at}
 use Rattle.adl_settings.specs.Allowed.{access_in, no_access, read_and_write}
 use Rattle.adl_settings.specs.EndMeaning.{access_at, end_setting}
-use Rattle.adl_settings.specs.Joints.{Found, as_component, as_interface, component_at, has_access, interface_at}
+use Rattle.adl_settings.specs.Joints.{as_component, as_interface, component_at, has_access, interface_at}
+use Rattle.adl_settings.specs.declared.found.Found.{Found}
 use Rattle.adl_settings.specs.Meant.{meant, where_set}
 use Rattle.adl_settings.specs.NumberedEnds.{joins_interface}
 use Rattle.adl_settings.specs.Settled.{settled_of}

@@ -18,7 +18,8 @@ use Rattle.adl_meaning.specs.Flat.{flat_of}
 use Rattle.adl_meaning.specs.Hierarchy.{hierarchy_of}
 use Rattle.numbering.specs.Gather.{IsIn}
 use Rattle.adl_settings.specs.EndMeaning.{end_setting}
-use Rattle.adl_settings.specs.Joints.{Found, Joint, as_component, as_interface, behind, interface_at, found_at, found_of, found_on, founds_in, joint_at, positioned, positioned_after}
+use Rattle.adl_settings.specs.Joints.{Joint, as_component, as_interface, behind, interface_at, found_at, found_of, found_on, founds_in, joint_at, positioned, positioned_after}
+use Rattle.adl_settings.specs.declared.found.Found.{Found}
 use Rattle.adl_settings.specs.Settled.{end_settings, settled_of}
 use Rattle.component_graph.proofs.Lists.{in_get}
 use Rattle.numbering.proofs.Lists.{get_map}

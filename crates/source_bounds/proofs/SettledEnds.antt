@@ -14,7 +14,8 @@ use Rattle.adl_meaning.specs.Hierarchy.{hierarchy_of}
 use Rattle.numbering.specs.Gather.{IsIn}
 use Rattle.adl_settings.specs.BadValue.{bad_at_end, bad_in_connection}
 use Rattle.adl_settings.specs.EndMeaning.{end_setting}
-use Rattle.adl_settings.specs.Joints.{Found, Joint, found_at, found_on, founds_in}
+use Rattle.adl_settings.specs.Joints.{Joint, found_at, found_on, founds_in}
+use Rattle.adl_settings.specs.declared.found.Found.{Found}
 use Rattle.adl_settings.specs.Missing.{missing_at, missing_in}
 use Rattle.adl_settings.specs.Settled.{end_settings, settled_of}
 use Rattle.adl_types.specs.TypeFaults.{is_kind_of}

@@ -12,7 +12,8 @@ use Rattle.adl_meaning.specs.Values.{Given}
 use Rattle.adl_settings.specs.Allowed.{number_in, paddr_in, placed, size_in, sized, whole_pages}
 use Rattle.adl_settings.specs.BadValue.{bad_at_end}
 use Rattle.adl_settings.specs.EndMeaning.{bytes_of, default_bytes, end_setting, paddr_of}
-use Rattle.adl_settings.specs.Joints.{Found, is_device_memory, is_shared}
+use Rattle.adl_settings.specs.Joints.{is_device_memory, is_shared}
+use Rattle.adl_settings.specs.declared.found.Found.{Found}
 use Rattle.adl_settings.specs.Meant.{bad_value, meaning, meant}
 use Rattle.numbering.proofs.Lists.{none_left, none_right}
 use Rattle.flat_laws.proofs.TypedEnds.{so}

@@ -23,8 +23,10 @@ use Rattle.adl_meaning.specs.Values.{Given}
 use Rattle.adl_settings.specs.Allowed.{irq_in}
 use Rattle.adl_settings.specs.BadValue.{bad_at_end}
 use Rattle.adl_settings.specs.EndMeaning.{irq_of}
-use Rattle.adl_settings.specs.IrqTwice.{Irq, irq_at, irq_from, irq_twice_at, irqs, irqs_in}
-use Rattle.adl_settings.specs.Joints.{Found, found_on, founds_in, is_device_event, is_device_memory}
+use Rattle.adl_settings.specs.IrqTwice.{irq_at, irq_from, irq_twice_at, irqs, irqs_in}
+use Rattle.adl_settings.specs.declared.twice.Irq.{Irq}
+use Rattle.adl_settings.specs.Joints.{found_on, founds_in, is_device_event, is_device_memory}
+use Rattle.adl_settings.specs.declared.found.Found.{Found}
 use Rattle.adl_settings.specs.Meant.{bad_unless, bad_value, meaning}
 use Rattle.adl_settings.specs.Missing.{lacks_value, missing_at}
 use Rattle.adl_settings.specs.Repeated.{is_repeated}

@@ -22,7 +22,8 @@ use Rattle.numbering.specs.Gather.{IsIn}
 use Rattle.adl_meaning.specs.Values.{Given}
 use Rattle.adl_settings.specs.Allowed.{badge_in, badge_kind, irq_in, is_badge_text, number_in, priority_in, within}
 use Rattle.adl_settings.specs.EndMeaning.{badge_at, badge_of, end_setting, irq_of}
-use Rattle.adl_settings.specs.Joints.{Found, Joint, behind, found_at, found_of, found_on, founds_in, has_badge, interface_at, joint_at, joint_of, positioned, positioned_after}
+use Rattle.adl_settings.specs.Joints.{Joint, behind, found_at, found_of, found_on, founds_in, has_badge, interface_at, joint_at, joint_of, positioned, positioned_after}
+use Rattle.adl_settings.specs.declared.found.Found.{Found}
 use Rattle.adl_settings.specs.Meant.{meaning, meant}
 use Rattle.adl_settings.specs.Settled.{LeafFound, end_settings, leaf_setting, leaves_found, settled_of}
 use Rattle.component_graph.proofs.Lists.{in_get}

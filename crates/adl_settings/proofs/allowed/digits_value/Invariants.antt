@@ -1,4 +1,4 @@
-use Rattle.std.proofs.Common.{◌≡◌, ◌<◌, ◌^◌, drop}
+use Rattle.adl_settings.proofs.Common.{◌≡◌, ◌<◌, ◌^◌, drop}
 use Rattle.std.specs.Str.Parse.{digits_value, digits_value_after}
 use Rattle.adl_settings.proofs.allowed.digits_value.Given as goal
 

@@ -1,5 +1,5 @@
-use Rattle.std.proofs.Common.{◌∙◌, arith}
-use Rattle.adl_settings.proofs.Positions.{position-nth}
+use Rattle.adl_settings.proofs.Common.{◌∙◌, arith}
+use Rattle.adl_settings.proofs.EndNumbers.{position-nth}
 use Rattle.adl_settings.proofs.laws.badges_count_from_one.Goals as goal
 
 pub returns : goal.returns

@@ -1,4 +1,4 @@
-use Rattle.std.proofs.Common.{arith}
+use Rattle.adl_settings.proofs.Common.{arith}
 use Rattle.adl_settings.proofs.ValueSearch.{reference-found, reference-absent}
 use Rattle.adl_settings.proofs.laws.references_are_values.Goals as goal
 

@@ -1,7 +1,4 @@
-use Rattle.std.proofs.Common.{◌∙◌, sym, ap, map}
-use Rattle.std.specs.List.{flat_map}
-use Rattle.adl_meaning.specs.Faults.{noted}
-use Rattle.adl_settings.specs.DeviceOverlap.{overlap_at, overlaps_among}
+use Rattle.adl_settings.proofs.Common.{◌∙◌, sym, ap, map, flat_map, noted, overlap_at, overlaps_among}
 use Rattle.adl_settings.specs.declared.overlaps.DeviceRegion.{DeviceRegion}
 use Rattle.adl_settings.proofs.overlaps.note_overlaps.Goals as goal
 

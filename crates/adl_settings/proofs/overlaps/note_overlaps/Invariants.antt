@@ -1,7 +1,4 @@
-use Rattle.std.proofs.Common.{◌≡◌, drop}
-use Rattle.std.specs.List.{flat_map}
-use Rattle.adl_meaning.specs.Faults.{noted}
-use Rattle.adl_settings.specs.DeviceOverlap.{overlap_at, overlaps}
+use Rattle.adl_settings.proofs.Common.{◌≡◌, drop, flat_map, noted, overlap_at, overlaps}
 use Rattle.adl_settings.proofs.overlaps.note_overlaps.Given as goal
 
 abbrev pub invariant-loop-region : goal.invariant-loop-region

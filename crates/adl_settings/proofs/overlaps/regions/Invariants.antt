@@ -1,5 +1,4 @@
-use Rattle.std.proofs.Common.{◌≡◌, ◌+◌, ◌++◌, drop}
-use Rattle.adl_settings.specs.DeviceOverlap.{regions, regions_in}
+use Rattle.adl_settings.proofs.Common.{◌≡◌, ◌+◌, ◌++◌, drop, regions, regions_in}
 use Rattle.adl_settings.proofs.overlaps.regions.Given as goal
 
 abbrev pub invariant-loop-connection : goal.invariant-loop-connection

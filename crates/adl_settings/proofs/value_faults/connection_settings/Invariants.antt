@@ -1,5 +1,4 @@
-use Rattle.std.proofs.Common.{◌≡◌, drop, map, ◌++◌}
-use Rattle.adl_settings.specs.Settled.{end_settings}
+use Rattle.adl_settings.proofs.Common.{◌≡◌, drop, map, ◌++◌, end_settings}
 use Rattle.adl_settings.proofs.value_faults.connection_settings.Given as goal
 
 abbrev pub invariant-loop-connection : goal.invariant-loop-connection

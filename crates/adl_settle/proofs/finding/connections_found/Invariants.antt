@@ -1,5 +1,4 @@
-use Rattle.std.proofs.Common.{◌≡◌, drop, map, ◌++◌}
-use Rattle.adl_settings.specs.Joints.{found_on, founds_in}
+use Rattle.adl_settings.proofs.Common.{◌≡◌, drop, map, ◌++◌, found_on, founds_in}
 use Rattle.adl_settle.specs.Lookups.{IsRemembered}
 use Rattle.adl_settle.proofs.finding.connections_found.Given as goal
 

@@ -1,12 +1,10 @@
-use Rattle.std.proofs.Common.{◌≡◌, ◌≤◌, drop, ◌++◌}
-use Rattle.std.specs.List.{filter_map}
-use Rattle.adl_settings.specs.Joints.{positioned_after, found_of, found_on}
+use Rattle.adl_settings.proofs.Common.{◌≡◌, ◌≤◌, drop, ◌++◌, filter_map, positioned_after, found_of, found_on}
 use Rattle.adl_settle.specs.Lookups.{IsRemembered}
 use Rattle.adl_settle.proofs.finding.found_on.Given as goal
 
 abbrev pub invariant-loop-end : goal.invariant-loop-end
 invariant-loop-end l = record {
   small : l.before ≤ l.end-index;
-  found : l.ends.items ++ filter_map (found_of l.lookup l.source l.flat l.connection) (positioned_after l.before (drop l.end-index l.connection.ends)) ≡ found_on l.lookup l.source l.flat l.connection;
+  found : l.found ++ filter_map (found_of l.lookup l.source l.flat l.connection) (positioned_after l.before (drop l.end-index l.connection.ends)) ≡ found_on l.lookup l.source l.flat l.connection;
   memo : IsRemembered l.lookup l.memo;
 }

@@ -1,7 +1,5 @@
-use Rattle.std.proofs.Common.{not}
-use Rattle.std.specs.Prelude.{codes}
-use Rattle.adl_meaning.specs.Values.{value_at}
-use Rattle.adl_settle.proofs.FoundRecords.{leaf_made}
+use Rattle.adl_settings.proofs.Common.{not, codes, value_at}
+use Rattle.adl_settle.proofs.Settled.{leaf_made}
 use Rattle.adl_settle.proofs.finding.leaf_found.Goals as goal
 
 pub returns-clause-found : goal.returns-clause-found

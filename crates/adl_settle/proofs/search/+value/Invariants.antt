@@ -1,0 +1,20 @@
+use Rattle.adl_settings.proofs.Common.{◌≡◌, ◌<◌, ◌+◌, ◌*◌, ℕ, length, take, None, top_number, at, set_within}
+use Rattle.adl_settle.specs.Lookups.{IsRemembered}
+use Rattle.adl_settle.proofs.ValueSteps.{left}
+use Rattle.adl_settle.proofs.search.+value.Given as goal
+
+abbrev pub decreases-value : goal.decreases-value
+decreases-value l = 3 * length l.path.now + 3
+
+abbrev pub decreases-search : goal.decreases-search
+decreases-search l = 3 * length l.path.now + 2
+
+abbrev pub decreases-given_by : goal.decreases-given_by
+decreases-given_by l = left l.path.now + 1
+
+abbrev pub invariant-search-loop-at : goal.invariant-search-loop-at
+invariant-search-loop-at l = record {
+  there : l.number ≡ at l.lookup (top_number l.lookup) (take l.at l.path);
+  none : (k : ℕ) → k < l.at → set_within l.lookup l.path k (length l.path) l.name ≡ None;
+  memo : IsRemembered l.lookup l.memo;
+}

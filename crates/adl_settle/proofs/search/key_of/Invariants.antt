@@ -1,0 +1,6 @@
+use Rattle.adl_settings.proofs.Common.{◌≡◌, drop, ◌++◌}
+use Rattle.adl_items.specs.Pointed.{pointed}
+use Rattle.adl_settle.proofs.search.key_of.Given as goal
+
+abbrev pub invariant-loop-part : goal.invariant-loop-part
+invariant-loop-part l = pointed l.key.items ++ drop l.part-index l.path ≡ l.path

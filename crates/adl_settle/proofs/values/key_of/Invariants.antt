@@ -1,6 +1,0 @@
-use Rattle.std.proofs.Common.{◌≡◌, drop, ◌++◌}
-use Rattle.adl_items.specs.Pointed.{pointed}
-use Rattle.adl_settle.proofs.values.key_of.Given as goal
-
-abbrev pub invariant-loop-part : goal.invariant-loop-part
-invariant-loop-part l = pointed l.key.items ++ drop l.part-index l.path ≡ l.path

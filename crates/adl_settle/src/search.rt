@@ -1,0 +1,198 @@
+//! The search for the value of a setting.
+
+ghost use Rattle.adl_settings.specs.Words.{Name as Bytes, body, default_in, setting_of, value_at};
+ghost use Rattle.std.specs.Option.{option_and_then, option_copied, option_map_or};
+ghost use Rattle.std.specs.Prelude.{◌≡◌, ◌∷◌, ◌++◌, [], List as Seq, Some, None, slice_get, OnOk, IfOk};
+ghost use Rattle.adl_items.specs.Pointed.{pointed};
+ghost use Rattle.adl_settle.specs.Lookups.{within, attribute_at, given_from, remembered, IsRemembered};
+
+use crate::tables::{SettingTables, within};
+use adl_ast::{Setter, Setting};
+use adl_items::last_name;
+use adl_program::Bodies;
+use adl_settings::Given;
+use cam_base::{Name, NoMemory};
+use indexmap::IndexMap;
+use std::alloc::Global;
+use std::marker::Model;
+
+/// The values that were found before, by the path of the instance and the two parts of the name.
+#[derive(Drop)]
+pub struct Memo<'a> {
+    pub found: IndexMap<(&'a [Name], (&'a [u8], &'a [u8])), Option<Given<'a>>>,
+}
+
+/// What the search looks at. Contracts see it as the hierarchy of the source.
+#[derive(Drop)]
+pub struct Lookup<'t, 'a> {
+    pub alloc: Global,
+    pub bodies: &'t Bodies<'a>,
+    pub settings: SettingTables<'a>,
+}
+
+impl<'t, 'a> Model for Lookup<'t, 'a> {
+    ghost use Rattle.adl_meaning.specs.Hierarchy.{Hierarchy};
+
+    ghost Value = { Hierarchy };
+
+    ghost use Rattle.adl_ast.specs.contracts.value.ValueKind as values;
+    ghost use Rattle.std.specs.Coded.{codes};
+
+    ghost coded = { Prim.hlevel (codes, values.the_row.coded) };
+
+    ghost use Rattle.adl_settle.specs.Lookups.{AreTables};
+
+    ghost view = { λ l. l.bodies.now };
+
+    ghost invariant = { λ l. AreTables l.bodies.now l.settings };
+}
+
+impl<'a> Memo<'a> {
+    /// What was found before: it may be that there is no value.
+    fn get(&self, path: &'a [Name], name: (&'a [u8], &'a [u8])) -> Option<Option<Given<'a>>>
+        ensures { result ≡ remembered self.now path.now name.entry.0.now name.entry.1.now }
+    {
+        let key = (path, name);
+        match self.found.get(&key) {
+            None => None,
+            Some(found) => Some(again(found)),
+        }
+    }
+}
+
+impl<'t, 'a> Lookup<'t, 'a> {
+    /// The body behind the name at this place of a path; behind the whole path it stays.
+    fn behind(&self, number: Option<u32>, path: &[Name], at: usize) -> Option<u32>
+        ensures { result ≡ option_map_or (within self.now number) (slice_get path.now at) number }
+    {
+        match path.get(at) {
+            None => number,
+            Some(name) => within(self.bodies, number, name),
+        }
+    }
+
+    /// The setting of a path with a name behind it.
+    fn setting(&self, number: Option<u32>, key: &[&[u8]]) -> Option<&'a Setting>
+        ensures { (p : Seq Bytes) (x : Bytes) → pointed key.now ≡ p ++ x ∷ []
+            → option_copied result ≡ option_and_then (λ k. setting_of self.now k p x) number }
+    {
+        match number {
+            None => None,
+            Some(number) => self.settings.of(number).get(key),
+        }
+    }
+
+    /// The default of an attribute of a body.
+    fn default(&self, number: Option<u32>, name: &[u8]) -> Option<Given<'a>>
+        ensures { result ≡ option_and_then (λ k. default_in (body self.now k) name.now) number }
+    {
+        let attribute = self.bodies.body(number?).attribute(name)?;
+        let value = attribute.value.as_ref()?;
+        let name = attribute.id.name.as_bytes();
+        Some(Given { value, name })
+    }
+}
+
+fn again<'a>(found: &Option<Given<'a>>) -> Option<Given<'a>>
+    ensures { result ≡ found.now }
+{
+    match found {
+        None => None,
+        Some(given) => Some(given.again()),
+    }
+}
+
+/// A name of two parts.
+fn joined(alloc: Global, name: (&[u8], &[u8])) -> Result<Vec<u8>, NoMemory>
+    ensures { IfOk result (λ v. v.items ≡ name.entry.0.now ++ name.entry.1.now) }
+{
+    let mut joined = name.0.to_vec(alloc)?;
+    joined.extend_from_slice(name.1)?;
+    Ok(joined)
+}
+
+/// The names of a path with a name behind them.
+fn key_of<'q>(alloc: Global, path: &'q [Name], name: &'q [u8]) -> Result<Vec<&'q [u8]>, NoMemory>
+    ensures { IfOk result (λ v. pointed v.items ≡ path.now ++ name.now ∷ []) }
+{
+    let mut key = Vec::new(alloc);
+    for part in path {
+        key.push(part.as_bytes())?;
+    }
+    key.push(name)?;
+    Ok(key)
+}
+
+/// What a setting gives, of the body at the path. The assembly, at the empty path, has no attributes.
+#[cycle(value)]
+fn given_by<'a>(
+    lookup: &Lookup<'_, 'a>,
+    memo: &mut Memo<'a>,
+    setting: Option<&'a Setting>,
+    path: &'a [Name],
+) -> Result<Option<Given<'a>>, NoMemory>
+    requires { IsRemembered lookup.now memo.old }
+    ensures value { IfOk result (λ o. o ≡ given_from (attribute_at lookup.now path.now) (option_copied setting.entry)) }
+    ensures memo { OnOk result (IsRemembered lookup.now memo.new) }
+{
+    match setting {
+        None => Ok(None),
+        Some(setting) => match &setting.setter {
+            Setter::Literal(value) => Ok(Some(Given {
+                value,
+                name: last_name(setting.words.as_slice()),
+            })),
+            Setter::Reference(attribute) => {
+                if path.is_empty() {
+                    return Ok(None);
+                }
+                value(lookup, memo, path, (attribute.name.as_bytes(), b""))
+            }
+        },
+    }
+}
+
+/// The value of the setting at a path, searched for from the outermost body inwards.
+#[cycle(value)]
+fn search<'a>(
+    lookup: &Lookup<'_, 'a>,
+    memo: &mut Memo<'a>,
+    path: &'a [Name],
+    name: &[u8],
+) -> Result<Option<Given<'a>>, NoMemory>
+    requires { IsRemembered lookup.now memo.old }
+    ensures value { IfOk result (λ o. o ≡ value_at lookup.now path.now name.now) }
+    ensures memo { OnOk result (IsRemembered lookup.now memo.new) }
+{
+    let key = key_of(lookup.alloc, path, name)?;
+    let mut number = Some(lookup.bodies.top_number());
+    for at in 0..path.len().max(1) {
+        let setting = lookup.setting(number, &key[at..]);
+        match given_by(lookup, memo, setting, &path[..at])? {
+            Some(given) => return Ok(Some(given)),
+            None => number = lookup.behind(number, path, at),
+        }
+    }
+    Ok(lookup.default(number, name))
+}
+
+/// The value of the setting at a path, whose name has two parts.
+#[cycle(value)]
+pub fn value<'a>(
+    lookup: &Lookup<'_, 'a>,
+    memo: &mut Memo<'a>,
+    path: &'a [Name],
+    name: (&'a [u8], &'a [u8]),
+) -> Result<Option<Given<'a>>, NoMemory>
+    requires { IsRemembered lookup.now memo.old }
+    ensures value { IfOk result (λ o. o ≡ value_at lookup.now path.now (name.entry.0.now ++ name.entry.1.now)) }
+    ensures memo { OnOk result (IsRemembered lookup.now memo.new) }
+{
+    if let Some(found) = memo.get(path, name) {
+        return Ok(found);
+    }
+    let joined = joined(lookup.alloc, name)?;
+    let found = search(lookup, memo, path, joined.as_slice())?;
+    memo.found.insert((path, name), again(&found))?;
+    Ok(found)
+}
