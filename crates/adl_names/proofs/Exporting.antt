@@ -1,9 +1,5 @@
 -- Noting exports one after another.
-use Rattle.adl_names.proofs.Common.{◌≡◌, ◌||◌, ℕ, Bool, List, ◌∷◌, Option, sym, ◌∙◌, ap, bytes_eq, Fault, Port, misfits_after, noted, Held, Name, noted-append, is_among, is_port_among}
-use Rattle.adl_ast.specs.declared.composition.Export.{Export}
-use Rattle.adl_meaning.specs.Export.{port_of, inner_of, is_port, is_misfit, export_fault}
-use Rattle.adl_meaning.specs.Faults.{where_true}
-use Rattle.adl_meaning.specs.Known.{Known}
+use Rattle.adl_names.proofs.Common.{◌≡◌, ◌||◌, ℕ, Bool, List, ◌∷◌, Option, sym, ◌∙◌, ap, bytes_eq, Fault, Port, misfits_after, noted, Held, Name, noted-append, is_among, is_port_among, Export, port_of, inner_of, is_port, is_misfit, export_fault, where_true, Known}
 
 -- an export, and then those behind it
 pub misfit_then : (types : Name → Option Known) (owner : Option Known) (held : Name → Option Held) (new old : Option Fault) (more met : List Name) (ins had : List (ℕ × Name)) (x : Export) (rest : List Export)

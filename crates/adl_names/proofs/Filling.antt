@@ -1,36 +1,66 @@
--- Filling a table of places: the first of each name, in order.
-use Rattle.adl_names.proofs.Common.{◌≡◌, ◌<◌, ◌+◌, ℕ, Bool, true, false, cond, List, length, get_or, drop, [], ◌∷◌, ◌++◌, map, Option, Some, None, option_map, refl, sym, ◌∙◌, ap, subst, append_assoc, inl, inr, find, option_or, bytes_eq, drop_first, Name, Rises, ItemAt, located, Located}
-use Rattle.std.proofs.Common.{◌⊎◌}
-use Rattle.adl_names.proofs.Rising.{places, rises_drop}
+-- Filling a table of places by the items of a kind: the first of each name, in order.
+use Rattle.adl_names.proofs.Common.{append-nil, option_or-none, drop_all, Source, items_of, ◌≤◌, ◌≡◌, ◌<◌, ◌+◌, ◌⊎◌, ℕ, Bool, true, false, cond, List, length, get_or, drop, [], ◌∷◌, ◌++◌, map, Option, Some, None, option_map, refl, sym, ◌∙◌, ap, subst, append_assoc, inl, inr, filter_map, cons_option, find, option_or, bytes_eq, drop_first, Name, Rises, Item, ItemAt, located, Located}
+use Rattle.adl_names.proofs.Rising.{places, rises_drop, rises_items}
 
 -- the place of the first of the name
 abbrev pub first_place : {T : Type 0} → (T → Name) → Name → List (ItemAt × T) → Option ItemAt
 first_place name n xs = option_map (λ p. p.0) (find (λ p. bytes_eq n (name p.1)) xs)
 
-pub first_put : {T : Type 0} (name : T → Name) (n : Name) (old new : Option ItemAt) (xs : List (Located T)) (i : ℕ) (x : Located T) → i < length xs → x ≡ get_or xs i x → new ≡ option_or old (cond (bytes_eq n (name x.item.now)) (Some x.at) None)
-    → option_or new (first_place name n (map located (drop (i + 1) xs))) ≡ option_or old (first_place name n (map located (drop i xs)))
-first_put {T = T} name n old new xs i x l e h =
-    ap (λ z. option_or z (first_place name n (map located (drop (i + 1) xs)))) h
-    ∙ by_test (bytes_eq n (name x.item.now)) old
-    ∙ ap (λ z. option_or old (first_place name n (map located z))) (sym (drop_first xs i x l e))
+-- what a table finds and its places, where it is filled by all items but the rest
+pub record AreFilled {T : Type 0} (kind : ItemAt × Item → Option (ItemAt × T)) (name : T → Name) (found : Name → Option ItemAt) (order : List ItemAt) (rest all : List (ItemAt × Item)) : Type 0 where
+  pub first : (n : Name) → option_or (found n) (first_place name n (filter_map kind rest)) ≡ first_place name n (filter_map kind all)
+  pub rises : Rises (order ++ places rest)
+
+pub filled_skip : {T : Type 0} (kind : ItemAt × Item → Option (ItemAt × T)) (name : T → Name) (found : Name → Option ItemAt) (order : List ItemAt) (all : List (ItemAt × Item)) (xs : List (Located Item)) (i : ℕ) (x : Located Item) → i < length xs → x ≡ get_or xs i x
+    → kind (located x) ≡ None → AreFilled kind name found order (map located (drop i xs)) all → AreFilled kind name found order (map located (drop (i + 1) xs)) all
+filled_skip kind name found order all xs i x l e none h =
+    let rest = map located (drop (i + 1) xs) in
+    let P : List (Located Item) → Type 0 = λ z. AreFilled kind name found order (map located z) all in
+    let k = subst P (drop_first xs i x l e) h in
+    record {
+      first = λ n. ap (λ o. option_or (found n) (first_place name n (cons_option o (filter_map kind rest)))) (sym none) ∙ k.first n;
+      rises = rises_drop x.at order (places rest) k.rises;
+    }
+
+pub filled_put : {T : Type 0} (kind : ItemAt × Item → Option (ItemAt × T)) (name : T → Name) (found new : Name → Option ItemAt) (order more : List ItemAt) (all : List (ItemAt × Item)) (xs : List (Located Item)) (i : ℕ) (x : Located Item) (t : T) → i < length xs → x ≡ get_or xs i x
+    → kind (located x) ≡ Some (x.at, t) → ((n : Name) → new n ≡ option_or (found n) (cond (bytes_eq n (name t)) (Some x.at) None)) → (more ≡ order) ⊎ (more ≡ order ++ x.at ∷ [])
+    → AreFilled kind name found order (map located (drop i xs)) all → AreFilled kind name new more (map located (drop (i + 1) xs)) all
+filled_put {T} kind name found new order more all xs i x t l e one put o h =
+    let rest = map located (drop (i + 1) xs) in
+    let P : List (Located Item) → Type 0 = λ z. AreFilled kind name found order (map located z) all in
+    let k = subst P (drop_first xs i x l e) h in
+    let Q : List ItemAt → Type 0 = λ z. Rises (z ++ places rest) in
+    let R : List ItemAt → Type 0 = λ z. Rises z in
+    record {
+      first = λ n. ap (λ z. option_or z (first_place name n (filter_map kind rest))) (put n) ∙ by_test n (bytes_eq n (name t)) (found n)
+          ∙ ap (λ o. option_or (found n) (first_place name n (cons_option o (filter_map kind rest)))) (sym one) ∙ k.first n;
+      rises = elim o [
+        | inl s ↦ subst Q (sym s) (rises_drop x.at order (places rest) k.rises)
+        | inr s ↦ subst Q (sym s) (subst R (sym (append_assoc order (x.at ∷ []) (places rest))) k.rises)
+      ];
+    }
   where
-    by_test : (b : Bool) (o : Option ItemAt) → option_or (option_or o (cond b (Some x.at) None)) (first_place name n (map located (drop (i + 1) xs)))
-        ≡ option_or o (option_map (λ (p : ItemAt × T). p.0) (cond b (Some (located x)) (find (λ (p : ItemAt × T). bytes_eq n (name p.1)) (map located (drop (i + 1) xs)))))
-    by_test true None = refl
-    by_test true (Some a) = refl
-    by_test false None = refl
-    by_test false (Some a) = refl
+    by_test : (n : Name) (b : Bool) (o : Option ItemAt) → option_or (option_or o (cond b (Some x.at) None)) (first_place name n (filter_map kind (map located (drop (i + 1) xs))))
+        ≡ option_or o (option_map (λ (p : ItemAt × T). p.0) (cond b (Some (x.at, t)) (find (λ (p : ItemAt × T). bytes_eq n (name p.1)) (filter_map kind (map located (drop (i + 1) xs))))))
+    by_test n true None = refl
+    by_test n true (Some a) = refl
+    by_test n false None = refl
+    by_test n false (Some a) = refl
 
-pub rises_put : {T : Type 0} (old new : List ItemAt) (xs : List (Located T)) (i : ℕ) (x : Located T) → i < length xs → x ≡ get_or xs i x → (new ≡ old) ⊎ (new ≡ old ++ x.at ∷ []) → Rises (old ++ map (λ x. x.at) (drop i xs)) → Rises (new ++ map (λ x. x.at) (drop (i + 1) xs))
-rises_put {T = T} old new xs i x l e o h =
-    let P : List (Located T) → Type 0 = λ z. Rises (old ++ map (λ (x : Located T). x.at) z) in
-    let all : Rises (old ++ x.at ∷ map (λ (x : Located T). x.at) (drop (i + 1) xs)) = subst P (drop_first xs i x l e) h in
-    let Q : List ItemAt → Type 0 = λ z. Rises (z ++ map (λ (x : Located T). x.at) (drop (i + 1) xs)) in
-    elim o [
-      | inl s ↦ subst Q (sym s) (rises_drop x.at old (map (λ (x : Located T). x.at) (drop (i + 1) xs)) all)
-      | inr s ↦ subst Q (sym s) (let R : List ItemAt → Type 0 = λ z. Rises z in subst R (sym (append_assoc old (x.at ∷ []) (map (λ (x : Located T). x.at) (drop (i + 1) xs)))) all)
-    ]
+pub filled_none : {T : Type 0} (kind : ItemAt × Item → Option (ItemAt × T)) (name : T → Name) (found : Name → Option ItemAt) (order : List ItemAt) (s : Source) (xs : List (Located Item)) → map located xs ≡ items_of s → ((n : Name) → found n ≡ None) → order ≡ []
+    → AreFilled kind name found order (map located xs) (map located xs)
+filled_none kind name found order s xs seen none start =
+    let P : List (ItemAt × Item) → Type 0 = λ z. Rises (places z) in
+    let Q : List ItemAt → Type 0 = λ z. Rises (z ++ places (map located xs)) in
+    record {
+      first = λ n. ap (λ o. option_or o (first_place name n (filter_map kind (map located xs)))) (none n);
+      rises = subst Q (sym start) (subst P (sym seen) (rises_items s));
+    }
 
-pub places-located : {T : Type 0} (xs : List (Located T)) → map (λ x. x.at) xs ≡ places (map located xs)
-places-located [] = refl
-places-located (x ∷ xs) = ap (λ z. x.at ∷ z) (places-located xs)
+pub filled_all : {T : Type 0} (kind : ItemAt × Item → Option (ItemAt × T)) (name : T → Name) (found : Name → Option ItemAt) (order : List ItemAt) (s : Source) (xs : List (Located Item)) (i : ℕ) → length xs ≤ i → map located xs ≡ items_of s
+    → AreFilled kind name found order (map located (drop i xs)) (map located xs) → ((n : Name) → found n ≡ first_place name n (filter_map kind (items_of s))) × Rises order
+filled_all kind name found order s xs i l seen h =
+    let P : List (Located Item) → Type 0 = λ z. AreFilled kind name found order (map located z) (map located xs) in
+    let k = subst P (drop_all i xs l) h in
+    let Q : List ItemAt → Type 0 = λ z. Rises z in
+    (λ n. option_or-none (found n) ∙ k.first n ∙ ap (λ z. first_place name n (filter_map kind z)) seen, subst Q (append-nil order) k.rises)

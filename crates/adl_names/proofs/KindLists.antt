@@ -1,18 +1,7 @@
 -- Loops over lists in which some elements are of a kind.
-use Rattle.std.proofs.Common.{◌≡◌, ◌∙◌, ◌++◌, ◌<◌, ◌+◌, ℕ, List, [], ◌∷◌, length, get_or, drop, Option, Some, None, refl, sym, ap, append_assoc}
-use Rattle.std.specs.List.{flat_map, filter_map, cons_option}
-use Rattle.cam_base.specs.declared.place.Fault.{Fault}
-use Rattle.cam_base.proofs.Lists.{drop_first}
-use Rattle.adl_ast.specs.declared.component.Member.{Member}
+use Rattle.adl_names.proofs.Common.{◌≡◌, ◌∙◌, ◌++◌, ◌<◌, ◌+◌, ℕ, List, [], ◌∷◌, length, get_or, drop, Option, Some, None, refl, sym, ap, append_assoc, flat_map, filter_map, cons_option, Fault, drop_first, Member, Composition, Method, ProcMember, as_method, noted, as_composition, noted-append}
 use Rattle.adl_ast.specs.declared.component.Member.TheVariants as members
-use Rattle.adl_ast.specs.declared.composition.Composition.{Composition}
-use Rattle.adl_ast.specs.declared.procedure.Method.{Method}
-use Rattle.adl_ast.specs.declared.procedure.ProcMember.{ProcMember}
 use Rattle.adl_ast.specs.declared.procedure.ProcMember.TheVariants as parts
-use Rattle.adl_meaning.specs.Duplicate.{as_method}
-use Rattle.adl_meaning.specs.Faults.{noted}
-use Rattle.adl_meaning.specs.Members.{as_composition}
-use Rattle.adl_meaning.proofs.Least.{noted-append}
 
 pub no_composition : (m : Member) → ((k : Composition) → m ≡ members.Composition k → ⊥) → as_composition m ≡ None
 no_composition (members.Control p) h = refl

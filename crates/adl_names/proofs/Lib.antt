@@ -7,6 +7,5 @@ pub mod PortSets
 pub mod Recurring
 pub mod Repeating
 pub mod Rising
-pub mod SettingWords
 pub mod TableSteps
 pub mod Whole

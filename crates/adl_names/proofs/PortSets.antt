@@ -1,8 +1,5 @@
 -- What sets of ports have.
-use Rattle.adl_names.proofs.Common.{◌≡◌, ◌∙◌, ℕ, Bool, cond, true, false, ◌||◌, ◌&&◌, refl, sym, ap, List, [], ◌∷◌, map, Bor, nat_eq, bytes_eq, Port, Name, is_port_among}
-use Rattle.std.specs.List.{list_any}
-use Rattle.std.proofs.lemmas.Bool.{eqb-true, eq-eqb}
-use Rattle.cam_base.proofs.Bytes.{bytes_eq-sym}
+use Rattle.adl_names.proofs.Common.{◌≡◌, ◌∙◌, ℕ, Bool, cond, true, false, ◌||◌, ◌&&◌, refl, sym, ap, List, [], ◌∷◌, map, Bor, nat_eq, bytes_eq, Port, Name, is_port_among, list_any, eqb-true, eq-eqb, bytes_eq-sym}
 
 nat_eq-sym : (a b : ℕ) → nat_eq a b ≡ nat_eq b a
 nat_eq-sym a b = by_tests (nat_eq a b) (nat_eq b a) refl refl

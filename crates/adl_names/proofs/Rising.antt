@@ -1,29 +1,14 @@
--- The places of items rise, and so do those of a part of them.
-use Rattle.adl_names.proofs.Common.{◌≡◌, ◌<◌, ◌+◌, ℕ, true, List, [], ◌∷◌, ◌++◌, map, Option, Some, None, refl, sym, ◌∙◌, ap, subst, arith, flat_map, filter_map, enumerate_from, cons_option, map-append, Component, Item, Procedure, Source, items_of, as_component, procedures, components, Rises, ItemAt}
-use Rattle.std.specs.List.{AllByRecursion}
-use Rattle.std.proofs.lemmas.Bool.Decides.{nat_tests}
-use Rattle.adl_ast.specs.declared.file.Ended.{Ended}
-use Rattle.adl_ast.specs.declared.file.Item.TheVariants as items
-use Rattle.adl_ast.specs.declared.source.SourceFile.{SourceFile}
-use Rattle.adl_meaning.specs.Items.{items_in, as_procedure, stands_before}
+-- The places of items rise.
+use Rattle.adl_names.proofs.Common.{◌≡◌, ◌+◌, ℕ, true, false, List, [], ◌∷◌, ◌++◌, map, arith, nat_tests, flat_map, enumerate_from, AllByRecursion, Ended, Item, Source, SourceFile, ItemAt, Rises, items_in, items_of, stands_before}
 
 -- the places of things
 abbrev pub places : {X : Type 0} → List (ItemAt × X) → List ItemAt
 places xs = map (λ x. x.0) xs
 
--- a stands before each
 abbrev Before : ItemAt → List ItemAt → Type 0
 Before a bs = AllByRecursion (λ b. stands_before a b ≡ true) bs
 
 -- ---- fewer of rising places rise
-
-before_append : (a : ItemAt) (xs ys : List ItemAt) → Before a xs → Before a ys → Before a (xs ++ ys)
-before_append a [] ys h k = k
-before_append a (x ∷ xs) ys h k = (h.0, before_append a xs ys h.1 k)
-
-before_left : (a : ItemAt) (xs ys : List ItemAt) → Before a (xs ++ ys) → Before a xs
-before_left a [] ys h = tt
-before_left a (x ∷ xs) ys h = (h.0, before_left a xs ys h.1)
 
 before_drop : (a b : ItemAt) (xs ys : List ItemAt) → Before a (xs ++ b ∷ ys) → Before a (xs ++ ys)
 before_drop a b [] ys h = h.1
@@ -33,83 +18,52 @@ pub rises_drop : (b : ItemAt) (xs ys : List ItemAt) → Rises (xs ++ b ∷ ys) �
 rises_drop b [] ys h = h.1
 rises_drop b (x ∷ xs) ys h = (before_drop x b xs ys h.0, rises_drop b xs ys h.1)
 
-before_filter : {X Y : Type 0} (f : ItemAt × X → Option (ItemAt × Y)) → ((x : ItemAt × X) (y : ItemAt × Y) → f x ≡ Some y → y.0 ≡ x.0) → (a : ItemAt) (xs : List (ItemAt × X)) → Before a (places xs) → Before a (places (filter_map f xs))
-before_filter f keeps a [] h = tt
-before_filter {Y = Y} f keeps a (x ∷ xs) h = by_case (f x) (keeps x) (before_filter f keeps a xs h.1)
-  where
-    by_case : (o : Option (ItemAt × Y)) → ((y : ItemAt × Y) → o ≡ Some y → y.0 ≡ x.0) → Before a (places (filter_map f xs)) → Before a (places (cons_option o (filter_map f xs)))
-    by_case None k r = r
-    by_case (Some y) k r = (ap (λ z. stands_before a z) (k y refl) ∙ h.0, r)
-
-pub rises_filter : {X Y : Type 0} (f : ItemAt × X → Option (ItemAt × Y)) → ((x : ItemAt × X) (y : ItemAt × Y) → f x ≡ Some y → y.0 ≡ x.0) → (xs : List (ItemAt × X)) → Rises (places xs) → Rises (places (filter_map f xs))
-rises_filter f keeps [] h = tt
-rises_filter {Y = Y} f keeps (x ∷ xs) h = by_case (f x) (keeps x) (rises_filter f keeps xs h.1)
-  where
-    by_case : (o : Option (ItemAt × Y)) → ((y : ItemAt × Y) → o ≡ Some y → y.0 ≡ x.0) → Rises (places (filter_map f xs)) → Rises (places (cons_option o (filter_map f xs)))
-    by_case None k r = r
-    by_case (Some y) k r = (let P : ItemAt → Type 0 = λ z. Before z (places (filter_map f xs)) in subst P (sym (k y refl)) (before_filter f keeps x.0 xs h.0), r)
-
 -- ---- the places of a source rise
-
-abbrev in_file : ℕ → ℕ → List Ended → List (ItemAt × Item)
-in_file f i es = map (λ e. (record { file = f; item = e.0 }, e.1.item)) (enumerate_from i es)
 
 abbrev place : ℕ → ℕ → ItemAt
 place f i = record { file = f; item = i }
 
-before_same : (f i j : ℕ) → i < j → stands_before (place f i) (place f j) ≡ true
-before_same f i j l = grind (arith, nat_tests)
+-- each stands behind the one in front of it, and none before item i of file f
+abbrev From : ℕ → ℕ → List (ItemAt × Item) → Type 0
+From f i [] = Unit {0}
+From f i (x ∷ xs) = (stands_before x.0 (place f i) ≡ false) × From x.0.file (x.0.item + 1) xs
 
-before_other : (f g i j : ℕ) → f < g → stands_before (place f i) (place g j) ≡ true
-before_other f g i j l = grind (arith, nat_tests)
+not_itself : (f i : ℕ) → stands_before (place f i) (place f i) ≡ false
+not_itself f i = grind (arith, nat_tests)
 
-before_items : (f i j : ℕ) (es : List Ended) → i < j → Before (place f i) (places (in_file f j es))
-before_items f i j [] l = tt
-before_items f i j (e ∷ es) l = (before_same f i j l, before_items f i (j + 1) es (omega arith))
+before_next : (a : ItemAt) → stands_before a (place a.file (a.item + 1)) ≡ true
+before_next a = grind (arith, nat_tests)
 
-rises_file : (f i : ℕ) (es : List Ended) → Rises (places (in_file f i es))
-rises_file f i [] = tt
-rises_file f i (e ∷ es) = (before_items f i (i + 1) es (omega arith), rises_file f (i + 1) es)
+before_chain : (a b c : ItemAt) → stands_before a c ≡ true → stands_before b c ≡ false → stands_before a b ≡ true
+before_chain a b c h k = grind (arith, nat_tests)
 
-before_file : (f i g j : ℕ) (es : List Ended) → f < g → Before (place f i) (places (in_file g j es))
-before_file f i g j [] l = tt
-before_file f i g j (e ∷ es) l = (before_other f g i j l, before_file f i g (j + 1) es l)
+before_more : (a b : ItemAt) → stands_before a b ≡ true → stands_before a (place b.file (b.item + 1)) ≡ true
+before_more a b h = grind (arith, nat_tests)
 
-before_files : (f i g : ℕ) (fs : List SourceFile) → f < g → Before (place f i) (places (flat_map items_in (enumerate_from g fs)))
-before_files f i g [] l = tt
-before_files f i g (x ∷ fs) l =
-    let P : List ItemAt → Type 0 = λ z. Before (place f i) z in
-    subst P (sym (map-append (λ (x : ItemAt × Item). x.0) (items_in (g, x)) (flat_map items_in (enumerate_from (g + 1) fs))))
-    (before_append (place f i) (places (items_in (g, x))) (places (flat_map items_in (enumerate_from (g + 1) fs))) (before_file f i g 0 x.tree.items l) (before_files f i (g + 1) fs (omega arith)))
+not_before : (b : ItemAt) (f j : ℕ) → stands_before b (place (f + 1) 0) ≡ false → stands_before b (place f j) ≡ false
+not_before b f j h = grind (arith, nat_tests)
 
-rises_join : (f i g : ℕ) (es : List Ended) (fs : List SourceFile) → f < g → Rises (places (flat_map items_in (enumerate_from g fs))) → Rises (places (in_file f i es) ++ places (flat_map items_in (enumerate_from g fs)))
-rises_join f i g [] fs l h = h
-rises_join f i g (e ∷ es) fs l h =
-    (before_append (place f i) (places (in_file f (i + 1) es)) (places (flat_map items_in (enumerate_from g fs))) (before_items f i (i + 1) es (omega arith)) (before_files f i g fs l), rises_join f (i + 1) g es fs l h)
+before_all : (a : ItemAt) (f i : ℕ) (xs : List (ItemAt × Item)) → stands_before a (place f i) ≡ true → From f i xs → Before a (places xs)
+before_all a f i [] l h = tt
+before_all a f i (x ∷ xs) l h = let k = before_chain a x.0 (place f i) l h.0 in (k, before_all a x.0.file (x.0.item + 1) xs (before_more a x.0 k) h.1)
 
-rises_files : (f : ℕ) (fs : List SourceFile) → Rises (places (flat_map items_in (enumerate_from f fs)))
-rises_files f [] = tt
-rises_files f (x ∷ fs) =
-    let P : List ItemAt → Type 0 = λ z. Rises z in
-    subst P (sym (map-append (λ (x : ItemAt × Item). x.0) (items_in (f, x)) (flat_map items_in (enumerate_from (f + 1) fs)))) (rises_join f 0 (f + 1) x.tree.items fs (omega arith) (rises_files (f + 1) fs))
+rises_from : (f i : ℕ) (xs : List (ItemAt × Item)) → From f i xs → Rises (places xs)
+rises_from f i [] h = tt
+rises_from f i (x ∷ xs) h = (before_all x.0 x.0.file (x.0.item + 1) xs (before_next x.0) h.1, rises_from x.0.file (x.0.item + 1) xs h.1)
+
+from_before : (f j : ℕ) (xs : List (ItemAt × Item)) → From (f + 1) 0 xs → From f j xs
+from_before f j [] h = tt
+from_before f j (x ∷ xs) h = (not_before x.0 f j h.0, h.1)
+
+from_file : (f i : ℕ) (es : List Ended) (more : List (ItemAt × Item)) → ((j : ℕ) → From f j more) → From f i (map (λ e. (place f e.0, e.1.item)) (enumerate_from i es) ++ more)
+from_file f i [] more h = h i
+from_file f i (e ∷ es) more h = (not_itself f i, from_file f (i + 1) es more h)
+
+from_files : (f : ℕ) (fs : List SourceFile) → From f 0 (flat_map items_in (enumerate_from f fs))
+from_files f [] = tt
+from_files f (x ∷ fs) =
+    let more = flat_map items_in (enumerate_from (f + 1) fs) in
+    from_file f 0 x.tree.items more (λ j. from_before f j more (from_files (f + 1) fs))
 
 pub rises_items : (s : Source) → Rises (places (items_of s))
-rises_items s = rises_files 0 s.files
-
-procedure_keeps : (x : ItemAt × Item) (y : ItemAt × Procedure) → as_procedure x ≡ Some y → y.0 ≡ x.0
-procedure_keeps (at, items.Import i) y e = cc
-procedure_keeps (at, items.Procedure p) y e = let s : (at, p) ≡ y = cc in ap (λ (z : ItemAt × Procedure). z.0) (sym s)
-procedure_keeps (at, items.Component c) y e = cc
-procedure_keeps (at, items.Assembly a) y e = cc
-
-component_keeps : (x : ItemAt × Item) (y : ItemAt × Component) → as_component x ≡ Some y → y.0 ≡ x.0
-component_keeps (at, items.Import i) y e = cc
-component_keeps (at, items.Procedure p) y e = cc
-component_keeps (at, items.Component c) y e = let s : (at, c) ≡ y = cc in ap (λ (z : ItemAt × Component). z.0) (sym s)
-component_keeps (at, items.Assembly a) y e = cc
-
-pub rises_procedures : (s : Source) → Rises (places (procedures s))
-rises_procedures s = rises_filter as_procedure procedure_keeps (items_of s) (rises_items s)
-
-pub rises_components : (s : Source) → Rises (places (components s))
-rises_components s = rises_filter as_component component_keeps (items_of s) (rises_items s)
+rises_items s = rises_from 0 0 (items_of s) (from_files 0 s.files)

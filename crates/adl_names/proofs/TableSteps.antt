@@ -1,10 +1,5 @@
 -- Steps of filling tables.
-use Rattle.adl_names.proofs.Common.{◌≡◌, ◌∙◌, ◌<◌, ◌+◌, ℕ, Bool, cond, true, false, refl, sym, ap, List, [], ◌∷◌, ◌++◌, drop, length, get_or, map, Option, Some, None, option_map, find, flat_map, option_or, bytes_eq, drop_first, Instance, Id, Held, as_held, Name, found, first_named, holding_told}
-use Rattle.std.proofs.lemmas.List.Folds.{find-append}
-use Rattle.cam_base.proofs.Options.{option_or-assoc, option_map-option_or}
-use Rattle.adl_ast.specs.declared.composition.Group.{Group}
-use Rattle.adl_meaning.specs.Holding.{a_group, member_of}
-use Rattle.adl_names.specs.Tables.{held_told}
+use Rattle.adl_names.proofs.Common.{◌≡◌, ◌∙◌, ◌<◌, ◌+◌, ℕ, Bool, cond, true, false, refl, sym, ap, List, [], ◌∷◌, ◌++◌, drop, length, get_or, map, Option, Some, None, option_map, find, flat_map, option_or, bytes_eq, drop_first, Instance, Id, Held, as_held, Name, found, first_named, holding_told, find-append, option_or-assoc, option_map-option_or, Group, a_group, member_of, held_told}
 use Rattle.adl_names.specs.declared.tables.Held.{Held as Entry}
 use Rattle.adl_names.specs.declared.tables.Held.TheVariants as entry
 

@@ -6,6 +6,7 @@ pub mod Places
 pub mod Ports
 pub mod Scopes
 pub mod Tables
+pub mod Words
 pub use Rattle.adl_meaning.specs.CompositeBody
 pub use Rattle.adl_meaning.specs.Export
 pub use Rattle.adl_meaning.specs.Faults

@@ -1,18 +1,8 @@
 -- What tables of trees tell, as definitions speak of it.
-use Rattle.std.specs.Prelude.{◌≡◌, Bool, List, Option, is_some, option_map}
-use Rattle.std.specs.List.{slice_get}
-use Rattle.adl_ast.specs.declared.component.Component.{Component}
-use Rattle.adl_ast.specs.declared.composition.Composition.{Composition}
-use Rattle.adl_meaning.specs.Holding.{an_instance, a_group, a_connection, held_as, member_of}
+use Rattle.adl_names.specs.Words.{◌≡◌, Bool, List, Option, is_some, option_map, slice_get, Component, Composition, an_instance, a_group, a_connection, held_as, member_of, is_exported, Name, compositions, declared_as, is_among, found, declaring_told, Declared}
 use Rattle.adl_meaning.specs.Holding as holding
-use Rattle.adl_meaning.specs.Known.{is_exported}
-use Rattle.adl_meaning.specs.Items.{Name}
-use Rattle.adl_meaning.specs.Members.{compositions, declared_as}
-use Rattle.name_tables.specs.ByName.{is_among, found}
 use Rattle.adl_names.specs.declared.tables.Held.{Held}
 use Rattle.adl_names.specs.declared.tables.Held.TheVariants as held
-use Rattle.adl_items.specs.Declaring.{declaring_told}
-use Rattle.adl_items.specs.declared.component.Declared.{Declared}
 
 abbrev pub held_told : Held → holding.Held
 held_told (held.Instance r) = an_instance r.now

@@ -1,75 +1,118 @@
 //! Exports that fit no interface, and ports of composites that no export gives.
 
-ghost use Rattle.adl_ast.specs.declared.composition.Export.{Export as ExportOf};
-ghost use Rattle.adl_meaning.specs.Export.{Port as PortOf, port_of, interface_at, differs, is_unled, inner_of, is_port, export_fault};
-ghost use Rattle.adl_meaning.specs.Export.{is_misfit_at, misfits_after, unled_ends, misfits_in_composition, misfits_in_item};
-ghost use Rattle.adl_meaning.specs.Export.{misfit_exports};
-ghost use Rattle.adl_meaning.specs.Faults.{noted, where_true};
-ghost use Rattle.adl_meaning.specs.Holding.{held_as, exports_in, connections_in};
-ghost use Rattle.adl_meaning.specs.Known.{known_in, known_of};
-ghost use Rattle.adl_meaning.specs.Members.{compositions};
+ghost use Rattle.adl_names.specs.Words.{Export as ExportOf, Port as PortOf, port_of, interface_at, differs, is_unled, inner_of, is_port, export_fault, is_misfit_at, misfits_after, misfits_in_composition, misfits_in_item, misfit_exports, noted, where_true, held_as, exports_in, known_in, is_among, option_copied, option_and_then, option_map_or, ◌≡◌, ◌||◌, ◌∷◌, List as Seq, false, [], OnOk};
 ghost use Rattle.adl_names.specs.Bodies.{owner_of, item_of};
 ghost use Rattle.adl_names.specs.Misfits.{misfits_from};
 ghost use Rattle.adl_names.specs.Ports.{is_port_among};
-ghost use Rattle.name_tables.specs.ByName.{is_among};
-ghost use Rattle.std.specs.List.{flat_map};
-ghost use Rattle.std.specs.Option.{option_copied, option_and_then, option_map_or};
-ghost use Rattle.std.specs.Prelude.{◌≡◌, ◌||◌, ◌∷◌, List as Seq, false, Some, OnOk};
 
 use crate::bodies::{Body, SourceTables};
-use crate::port::{Port, PortSet};
 use crate::tables::{ComponentTable, Held, Holding, target};
-use adl_ast::{Export, Id, Interface, Line};
+use adl_ast::{Export, Id, Instance, Interface, Line};
 use adl_items::last_name;
 use adl_meaning::Earliest;
-use cam_base::{Code, NoMemory, Place};
+use cam_base::{Code, Name, NoMemory, Place};
+use indexmap::IndexSet;
 use name_tables::NameSet;
 use std::alloc::Global;
+use std::marker::Model;
 
 /// The bytes of a data port whose size doesn't stand there.
 const DEFAULT_SIZE: u64 = 4096;
+
+/// An instance, and the name of an interface. Contracts see it as the two.
+#[derive(Drop)]
+struct Port<'a> {
+    instance: &'a Instance,
+    interface: &'a Name,
+}
+
+impl<'a> Model for Port<'a> {
+    ghost use Rattle.adl_meaning.specs.Export.{Port as PortOf};
+
+    ghost Value = { PortOf };
+
+    ghost view = { λ p. (p.instance.now, p.interface.now) };
+}
+
+/// A set of ports. Contracts see it as the list of the first bytes of their instances, each with the interface's name.
+#[derive(Drop)]
+struct PortSet<'a> {
+    keys: IndexSet<(u64, &'a [u8])>,
+}
+
+impl<'a> Model for PortSet<'a> {
+    ghost use Rattle.std.specs.Borrow.{Bor};
+    ghost use Rattle.std.specs.Prelude.{List, ℕ, map};
+
+    ghost Value = { List (ℕ × List ℕ) };
+
+    ghost view = { λ s. map (λ (k : ℕ × Bor (List ℕ)). (k.0, k.1.now)) s.keys.keys };
+}
+
+impl<'a> PortSet<'a> {
+    /// The empty set. Takes no memory.
+    fn new(alloc: Global) -> PortSet<'a>
+        ensures { result ≡ [] }
+    {
+        PortSet {
+            keys: IndexSet::new(alloc),
+        }
+    }
+
+    /// Whether there is a port, and it is in the set.
+    fn contains(&self, port: Option<&Port<'a>>) -> bool
+        ensures { result ≡ option_map_or (is_port_among self.now) (option_copied port.entry) false }
+    {
+        let Some(port) = port else {
+            return false;
+        };
+        let key = (port.instance.id.place.first, port.interface.as_bytes());
+        self.keys.contains(&key)
+    }
+
+    /// Puts the port, if there is one, into the set.
+    fn insert(&mut self, port: Option<&Port<'a>>) -> Result<(), NoMemory>
+        ensures { OnOk result ((p : PortOf) → is_port_among self.new p
+            ≡ (is_port_among self.old p || is_port (option_copied port.entry) p)) }
+    {
+        let Some(port) = port else {
+            return Ok(());
+        };
+        let key = (port.instance.id.place.first, port.interface.as_bytes());
+        self.keys.insert(key)?;
+        Ok(())
+    }
+}
 
 /// The port that a dotted name names.
 fn port_of<'a>(holding: &Holding<'a>, words: &'a [Id]) -> Option<Port<'a>>
     ensures { result ≡ port_of (held_as holding.now) words.entry.now }
 {
-    match words {
-        [name, last] => match holding.get(&name.name) {
-            Some(Held::Instance(instance)) => Some(Port {
-                instance,
-                interface: &last.name,
-            }),
-            Some(Held::Group(_)) => None,
-            Some(Held::Connection) => None,
-            None => None,
+    let (instance, last) = match words {
+        [name, last] => match holding.get(&name.name)? {
+            Held::Instance(instance) => (*instance, last),
+            Held::Group(_) | Held::Connection => return None,
         },
-        [name, member, last] => match holding.get(&name.name) {
-            Some(Held::Instance(_)) => None,
-            Some(Held::Group(members)) => match members.get(&member.name) {
-                Some(instance) => Some(Port {
-                    instance,
-                    interface: &last.name,
-                }),
-                None => None,
-            },
-            Some(Held::Connection) => None,
-            None => None,
+        [name, member, last] => match holding.get(&name.name)? {
+            Held::Group(members) => (members.get(&member.name)?, last),
+            Held::Instance(_) | Held::Connection => return None,
         },
-        _ => None,
-    }
+        _ => return None,
+    };
+    Some(Port {
+        instance,
+        interface: &last.name,
+    })
 }
 
 /// The interface that the port's component declares.
 fn interface_at<'a>(tables: &SourceTables<'a>, port: &Option<Port<'a>>) -> Option<&'a Interface>
     ensures { option_copied result ≡ option_and_then (interface_at (known_in tables.now)) port.now }
 {
-    match port {
-        None => None,
-        Some(port) => match tables.component(&port.instance.component.name) {
-            None => None,
-            Some(table) => table.interface(port.interface),
-        },
-    }
+    let port = port.as_ref()?;
+    tables
+        .component(&port.instance.component.name)?
+        .interface(port.interface)
 }
 
 fn differs(inner: Option<&Interface>, target: Option<&Interface>) -> bool
@@ -90,33 +133,22 @@ fn differs(inner: Option<&Interface>, target: Option<&Interface>) -> bool
 fn is_unled<'a>(tables: &SourceTables<'a>, port: &Option<Port<'a>>) -> bool
     ensures { result ≡ is_unled (known_in tables.now) port.now }
 {
-    match port {
-        None => false,
-        Some(port) => match tables.component(&port.instance.component.name) {
-            None => false,
-            Some(table) => {
-                let name = port.interface;
-                table.interface(name).is_some()
-                    && (table.holding().is_some() && !table.exports(name))
-            }
-        },
-    }
+    let Some(port) = port else {
+        return false;
+    };
+    let Some(table) = tables.component(&port.instance.component.name) else {
+        return false;
+    };
+    let name = port.interface;
+    table.interface(name).is_some() && (table.holding().is_some() && !table.exports(name))
 }
 
 /// The port, where its component declares the interface.
 fn inner_of<'p, 'a>(tables: &SourceTables<'a>, port: &'p Option<Port<'a>>) -> Option<&'p Port<'a>>
     ensures { option_copied result ≡ inner_of (known_in tables.now) port.now }
 {
-    match port {
-        None => None,
-        Some(inner) => {
-            if interface_at(tables, port).is_some() {
-                Some(inner)
-            } else {
-                None
-            }
-        }
-    }
+    interface_at(tables, port)?;
+    port.as_ref()
 }
 
 /// What earlier exports of a composition have.
@@ -124,25 +156,6 @@ fn inner_of<'p, 'a>(tables: &SourceTables<'a>, port: &'p Option<Port<'a>>) -> Op
 struct Taken<'a> {
     targets: NameSet<'a>,
     inners: PortSet<'a>,
-}
-
-fn is_inner_taken<'a>(inners: &PortSet<'a>, inner: Option<&Port<'a>>) -> bool
-    ensures { result ≡ option_map_or (is_port_among inners.now) (option_copied inner.entry) false }
-{
-    match inner {
-        None => false,
-        Some(port) => inners.contains(port),
-    }
-}
-
-fn take_inner<'a>(inners: &mut PortSet<'a>, inner: Option<&Port<'a>>) -> Result<(), NoMemory>
-    ensures { OnOk result ((p : PortOf) → is_port_among inners.new p
-        ≡ (is_port_among inners.old p || is_port (option_copied inner.entry) p)) }
-{
-    match inner {
-        None => Ok(()),
-        Some(port) => inners.insert(port),
-    }
 }
 
 /// Whether the export is at fault, behind those that have taken these.
@@ -161,8 +174,7 @@ fn is_misfit<'a>(
     owner.is_none()
         || (differs(interface_at(tables, port), target(owner, name))
             || (taken.targets.contains(name)
-                || (is_inner_taken(&taken.inners, inner_of(tables, port))
-                    || is_unled(tables, port))))
+                || (taken.inners.contains(inner_of(tables, port)) || is_unled(tables, port))))
 }
 
 fn note_wrong<'a>(is_wrong: bool, words: &'a [Id], place: Place, first: &mut Earliest<'a>)
@@ -189,7 +201,7 @@ fn note_export<'a>(
     let is_wrong = is_misfit(tables, owner, &port, taken, export);
     note_wrong(is_wrong, export.words.as_slice(), export.place, first);
     taken.targets.insert(&export.target.name)?;
-    take_inner(&mut taken.inners, inner_of(tables, &port))?;
+    taken.inners.insert(inner_of(tables, &port))?;
     Ok(())
 }
 
@@ -216,12 +228,18 @@ fn note_exports<'a>(
     Ok(())
 }
 
-/// Notes the ends of connections that no export gives.
 #[tactic(auto, using(adl_meaning::proofs::Noting::noting))]
-fn note_connections<'a>(tables: &SourceTables<'a>, holding: &Holding<'a>, first: &mut Earliest<'a>)
-    ensures { first.new
-        ≡ noted first.old (flat_map (unled_ends (known_in tables.now) (held_as holding.now)) (connections_in holding.now)) }
+fn note_composition<'a>(
+    alloc: Global,
+    tables: &SourceTables<'a>,
+    owner: Option<&ComponentTable<'a>>,
+    holding: &Holding<'a>,
+    first: &mut Earliest<'a>,
+) -> Result<(), NoMemory>
+    ensures { OnOk result (first.new
+        ≡ noted first.old (misfits_in_composition (known_in tables.now) (owner_of owner.entry) holding.now)) }
 {
+    note_exports(alloc, tables, owner, holding, first)?;
     for line in holding.composition.lines.as_slice() {
         if let Line::Connection(connection) = line {
             for end in connection.ends.as_slice() {
@@ -235,37 +253,6 @@ fn note_connections<'a>(tables: &SourceTables<'a>, holding: &Holding<'a>, first:
             }
         }
     }
-}
-
-#[tactic(auto, using(adl_meaning::proofs::Noting::noting))]
-fn note_composition<'a>(
-    alloc: Global,
-    tables: &SourceTables<'a>,
-    owner: Option<&ComponentTable<'a>>,
-    holding: &Holding<'a>,
-    first: &mut Earliest<'a>,
-) -> Result<(), NoMemory>
-    ensures { OnOk result (first.new
-        ≡ noted first.old (misfits_in_composition (known_in tables.now) (owner_of owner.entry) holding.now)) }
-{
-    note_exports(alloc, tables, owner, holding, first)?;
-    note_connections(tables, holding, first);
-    Ok(())
-}
-
-fn note_component<'a>(
-    alloc: Global,
-    tables: &SourceTables<'a>,
-    table: &ComponentTable<'a>,
-    first: &mut Earliest<'a>,
-) -> Result<(), NoMemory>
-    ensures { OnOk result (first.new
-        ≡ noted first.old (flat_map (misfits_in_composition (known_in tables.now)
-        (Some (known_of table.now))) (compositions table.now))) }
-{
-    for holding in table.holdings() {
-        note_composition(alloc, tables, Some(table), holding, first)?;
-    }
     Ok(())
 }
 
@@ -278,9 +265,15 @@ fn note_body<'a>(
     ensures { OnOk result (first.new ≡ noted first.old (misfits_in_item (known_in tables.now) (item_of body.now))) }
 {
     match body {
-        Body::Component(table) => note_component(alloc, tables, table, first),
-        Body::Assembly(table) => note_composition(alloc, tables, None, table.holding(), first),
+        Body::Import(_) | Body::Procedure(_) => (),
+        Body::Component(table) => {
+            for holding in table.holdings() {
+                note_composition(alloc, tables, Some(table), holding, first)?;
+            }
+        }
+        Body::Assembly(_, holding) => note_composition(alloc, tables, None, holding, first)?,
     }
+    Ok(())
 }
 
 /// Notes the exports of a source that fit no interface, and the ports that no export gives.

@@ -8,10 +8,8 @@ mod bodies;
 mod exports;
 mod misplaced;
 mod names;
-mod port;
 mod recursion;
 mod repeats;
-mod scope;
 mod tables;
 mod unknown;
 

@@ -1,10 +1,7 @@
 //! Members that a composite, a device or a plain component can't have.
 
-ghost use Rattle.adl_meaning.specs.CompositeBody.{is_composition, is_composite, body_fault};
-ghost use Rattle.adl_meaning.specs.CompositeBody.{misplaced_member, misplaced_in_component, misplaced_in_item, composite_bodies};
-ghost use Rattle.adl_meaning.specs.Faults.{noted, where_true};
+ghost use Rattle.adl_names.specs.Words.{is_composite, misplaced_in_component, is_composition, body_fault, misplaced_member, misplaced_in_item, composite_bodies, noted, where_true, ◌≡◌};
 ghost use Rattle.adl_names.specs.Bodies.{item_of};
-ghost use Rattle.std.specs.Prelude.{◌≡◌};
 
 use crate::bodies::{Body, SourceTables};
 use adl_ast::{Component, Member};
@@ -61,7 +58,7 @@ fn note_body<'a>(body: &Body<'a>, first: &mut Earliest<'a>)
 {
     match body {
         Body::Component(table) => note_component(table.component, first),
-        Body::Assembly(_) => (),
+        Body::Import(_) | Body::Procedure(_) | Body::Assembly(_, _) => (),
     }
 }
 

@@ -1,49 +1,29 @@
 //! What the names of a source stand for, or the first fault of names.
 
-ghost use Rattle.adl_meaning.specs.Faults.{noted, at_keyword, where_true, Refuses};
-ghost use Rattle.adl_meaning.specs.Items.{procedures, components, assemblies, procedure_named, component_named, AreFew, Rises};
-ghost use Rattle.adl_meaning.specs.NameFaults.{first_name_fault, AreNamesSound};
-ghost use Rattle.adl_meaning.specs.NoAssembly.{no_assembly};
-ghost use Rattle.adl_meaning.specs.SecondAssembly.{second_assemblies};
-ghost use Rattle.adl_items.specs.Located.{located};
+ghost use Rattle.adl_names.specs.Words.{noted, Refuses, assemblies, procedure_named, component_named, AreFew, Rises, first_name_fault, second_of, none_of, located, get, option_or, ◌≡◌, ◌⊎◌, ◌∷◌, ◌++◌, ℕ, List as Seq, [], None, Some, if◌then◌else◌, map, option_map, OnOk, IfOk, bytes_eq};
 ghost use Rattle.adl_names.specs.Places.{table_places};
-ghost use Rattle.cam_base.specs.declared.code.Code.TheVariants as code;
-ghost use Rattle.indexmap.specs.IndexMap.{get};
-ghost use Rattle.std.specs.List.{find};
-ghost use Rattle.std.specs.Option.{option_or};
-ghost use Rattle.std.specs.Prelude.{◌≡◌, ◌==◌, ◌⊎◌, ◌∷◌, ◌++◌, ℕ, List as Seq, [], None, Some, if◌then◌else◌, map, drop, length, option_map, OnOk, IfOk};
-ghost use Rattle.std.specs.Str.{bytes_eq};
 
 use crate::bodies::SourceTables;
 use crate::exports::note_misfits;
 use crate::misplaced::note_misplaced;
 use crate::recursion::note_recursive;
 use crate::unknown::note_unknown;
-use adl_ast::{Assembly, Component, Procedure, Source};
+use adl_ast::{Assembly, Item, Source};
 use adl_items::{Located, Names, SourceItems};
 use adl_meaning::{Earliest, ItemAt};
 use cam_base::{Code, Fault, Name, NoMemory, Place, Refused};
 use indexmap::IndexMap;
 use std::alloc::Global;
 
-/// Notes each assembly but the first.
-fn note_second<'a>(assemblies: &[Located<'a, Assembly>], first: &mut Earliest<'a>)
-    ensures { first.new
-        ≡ noted first.old (map (λ a. at_keyword code.SecondAssembly a.1.place) (drop 1 (map located assemblies.now))) }
+/// Notes each assembly but the first, and where there is none.
+fn note_assemblies<'a>(assemblies: &[Located<'a, Assembly>], first: &mut Earliest<'a>)
+    ensures { first.new ≡ noted first.old (second_of (map located assemblies.now) ++ none_of (map located assemblies.now)) }
 {
     if let [_, later @ ..] = assemblies {
         for x in later {
             first.note(true, Code::SecondAssembly, x.item.place, b"");
         }
     }
-}
-
-/// Notes where there is no assembly.
-fn note_none<'a>(assemblies: &[Located<'a, Assembly>], first: &mut Earliest<'a>)
-    ensures { first.new ≡ noted first.old
-        (where_true (length (map located assemblies.now) == 0)
-        (at_keyword code.NoAssembly (record { file = 0; first = 0; end = 0 }))) }
-{
     let root = Place {
         file: 0,
         first: 0,
@@ -52,20 +32,12 @@ fn note_none<'a>(assemblies: &[Located<'a, Assembly>], first: &mut Earliest<'a>)
     first.note(assemblies.is_empty(), Code::NoAssembly, root, b"");
 }
 
-fn note_assemblies<'a>(items: &SourceItems<'a>, first: &mut Earliest<'a>)
-    ensures { first.new ≡ noted first.old (second_assemblies items.now ++ no_assembly items.now) }
-{
-    let assemblies = items.assemblies();
-    note_second(assemblies, first);
-    note_none(assemblies, first);
-}
-
 /// The first fault of names that stands in a source.
 fn first_fault<'a>(alloc: Global, items: &SourceItems<'a>) -> Result<Earliest<'a>, NoMemory>
     ensures { IfOk result (λ first. first ≡ first_name_fault items.now) }
 {
     let mut first = Earliest::none();
-    note_assemblies(items, &mut first);
+    note_assemblies(items.assemblies(), &mut first);
     let tables = SourceTables::of(alloc, items, &mut first)?;
     note_unknown(&tables, &mut first);
     note_recursive(alloc, items, &mut first)?;
@@ -90,61 +62,6 @@ fn add_place(
         table.insert(name.copy(alloc)?, at)?;
     }
     Ok(())
-}
-
-/// The first procedure of each name.
-fn procedure_places(
-    alloc: Global,
-    procedures: &[Located<'_, Procedure>],
-) -> Result<IndexMap<Name, ItemAt>, NoMemory>
-    requires { Rises (map (λ x. x.at) procedures.now) }
-    ensures first { IfOk result (λ t. (n : Seq ℕ) → get bytes_eq t n
-        ≡ option_map (λ p. p.0) (find (λ p. bytes_eq n p.1.id.name) (map located procedures.now))) }
-    ensures order { IfOk result (λ t. Rises (table_places t)) }
-{
-    let mut table = IndexMap::new(alloc);
-    for procedure in procedures {
-        add_place(alloc, &procedure.item.id.name, procedure.at, &mut table)?;
-    }
-    Ok(table)
-}
-
-/// The first component of each name.
-fn component_places(
-    alloc: Global,
-    components: &[Located<'_, Component>],
-) -> Result<IndexMap<Name, ItemAt>, NoMemory>
-    requires { Rises (map (λ x. x.at) components.now) }
-    ensures first { IfOk result (λ t. (n : Seq ℕ) → get bytes_eq t n
-        ≡ option_map (λ c. c.0) (find (λ c. bytes_eq n c.1.id.name) (map located components.now))) }
-    ensures order { IfOk result (λ t. Rises (table_places t)) }
-{
-    let mut table = IndexMap::new(alloc);
-    for component in components {
-        add_place(alloc, &component.item.id.name, component.at, &mut table)?;
-    }
-    Ok(table)
-}
-
-/// The names of a source in which no fault of names stands.
-fn sound_names(alloc: Global, items: &SourceItems<'_>) -> Result<Names, NoMemory>
-    requires { AreNamesSound items.now }
-    ensures procedures { IfOk result (λ names. (n : Seq ℕ) → get bytes_eq names.procedures n
-        ≡ option_map (λ p. p.0) (procedure_named items.now n)) }
-    ensures components { IfOk result (λ names. (n : Seq ℕ) → get bytes_eq names.components n
-        ≡ option_map (λ c. c.0) (component_named items.now n)) }
-    ensures procedures_rise { IfOk result (λ names. Rises (table_places names.procedures)) }
-    ensures components_rise { IfOk result (λ names. Rises (table_places names.components)) }
-    ensures assembly { IfOk result (λ names. map (λ a. a.0) (assemblies items.now) ≡ names.assembly ∷ []) }
-{
-    let assembly = items.assemblies()[0].at;
-    let procedures = procedure_places(alloc, items.procedures())?;
-    let components = component_places(alloc, items.components())?;
-    Ok(Names {
-        procedures,
-        components,
-        assembly,
-    })
 }
 
 /// Refuses a source in which a fault of names stands.
@@ -179,5 +96,19 @@ pub fn resolve(alloc: Global, source: &Source) -> Result<Names, Refused<Fault>>
 {
     let items = SourceItems::of(alloc, source)?;
     first_fault(alloc, &items)?.refuse(alloc)?;
-    Ok(sound_names(alloc, &items)?)
+    let mut procedures = IndexMap::new(alloc);
+    let mut components = IndexMap::new(alloc);
+    for x in items.items() {
+        match x.item {
+            Item::Import(_) => (),
+            Item::Procedure(it) => add_place(alloc, &it.id.name, x.at, &mut procedures)?,
+            Item::Component(it) => add_place(alloc, &it.id.name, x.at, &mut components)?,
+            Item::Assembly(_) => (),
+        }
+    }
+    Ok(Names {
+        procedures,
+        components,
+        assembly: items.assemblies()[0].at,
+    })
 }

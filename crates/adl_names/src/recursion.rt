@@ -1,36 +1,15 @@
 //! Instances whose type is the component that they stand in, or holds it.
 
-ghost use Rattle.adl_items.specs.Located.{trees};
-ghost use Rattle.adl_items.specs.Pointed.{pointed};
-ghost use Rattle.adl_meaning.specs.Faults.{noted};
+ghost use Rattle.adl_names.specs.Words.{trees, pointed, noted, instances_of, types_of, graph_of, recursive_in, recursive_types, found, flat_map, enumerate_from, ◌≡◌, ◌<◌, ◌^◌, length, IfOk, OnOk};
 ghost use Rattle.adl_meaning.specs.Graph.{inner_of};
-ghost use Rattle.adl_meaning.specs.Holding.{instances_in};
-ghost use Rattle.adl_meaning.specs.Recursive.{instances_of, types_of, graph_of, recursive_in, recursive_types};
-ghost use Rattle.name_tables.specs.ByName.{found};
-ghost use Rattle.std.specs.List.{flat_map, enumerate_from};
-ghost use Rattle.std.specs.Prelude.{◌≡◌, ◌<◌, ◌^◌, ◌++◌, length, IfOk, OnOk};
 
-use adl_ast::{Component, Composition, Instance, Member};
+use adl_ast::{Component, Instance, Member};
 use adl_items::{Located, SourceItems, component_numbers, instances_by};
 use adl_meaning::Earliest;
 use cam_base::{Code, List, NoMemory};
 use component_graph::Cycles;
 use name_tables::NameTable;
 use std::alloc::Global;
-
-fn push_composition<'a>(
-    composition: &'a Composition,
-    found: &mut Vec<&'a Instance>,
-) -> Result<(), NoMemory>
-    ensures { OnOk result (pointed found.new.items ≡ pointed found.old.items ++ instances_in composition.now) }
-{
-    for line in composition.lines.as_slice() {
-        for instance in instances_by(line) {
-            found.push(instance)?;
-        }
-    }
-    Ok(())
-}
 
 /// The instances of a component, in each of its compositions, in groups or not.
 fn instances<'a>(alloc: Global, component: &'a Component) -> Result<Vec<&'a Instance>, NoMemory>
@@ -39,7 +18,11 @@ fn instances<'a>(alloc: Global, component: &'a Component) -> Result<Vec<&'a Inst
     let mut found = Vec::new(alloc);
     for member in component.members.as_slice() {
         if let Member::Composition(composition) = member {
-            push_composition(composition, &mut found)?;
+            for line in composition.lines.as_slice() {
+                for instance in instances_by(line) {
+                    found.push(instance)?;
+                }
+            }
         }
     }
     Ok(found)

@@ -1,18 +1,9 @@
 //! Later ones of equal names, and second compositions and configurations.
 
-ghost use Rattle.adl_ast.specs.declared.id.Id.{Id as Word};
-ghost use Rattle.adl_items.specs.Located.{located};
-ghost use Rattle.adl_meaning.specs.Duplicate.{methods, again, repeats, repeats_after, duplicates_in_procedure};
-ghost use Rattle.adl_meaning.specs.Faults.{noted};
-ghost use Rattle.adl_meaning.specs.Members.{compositions, configurations};
+ghost use Rattle.adl_names.specs.Words.{Id as Word, methods, again, repeats, repeats_after, duplicates_in_procedure, noted, compositions, configurations, is_among, found, option_or, ◌≡◌, ◌∷◌, ◌||◌, [], ℕ, List as Seq, map, OnOk, bytes_eq};
 ghost use Rattle.adl_names.specs.Tables.{has_name};
-ghost use Rattle.name_tables.specs.ByName.{is_among, found};
-ghost use Rattle.std.specs.Option.{option_or};
-ghost use Rattle.std.specs.Prelude.{◌≡◌, ◌∷◌, ◌||◌, [], ℕ, List as Seq, map, OnOk};
-ghost use Rattle.std.specs.Str.{bytes_eq};
 
 use adl_ast::{Component, Id, Member, Param, ProcMember, Procedure};
-use adl_items::Located;
 use adl_meaning::Earliest;
 use cam_base::{Code, NoMemory};
 use name_tables::{NameSet, NameTable};
@@ -44,21 +35,6 @@ pub fn meet<'a>(id: &'a Id, met: &mut NameSet<'a>, first: &mut Earliest<'a>) -> 
 {
     let is_met = met.put(&id.name)?;
     first.note(is_met, Code::Duplicate, id.place, id.name.as_bytes());
-    Ok(())
-}
-
-/// Notes the later ones of components of one name.
-pub fn note_components<'a>(
-    alloc: Global,
-    components: &[Located<'a, Component>],
-    first: &mut Earliest<'a>,
-) -> Result<(), NoMemory>
-    ensures { OnOk result (first.new ≡ noted first.old (repeats (map (λ c. c.1.id) (map located components.now)))) }
-{
-    let mut met = NameSet::with_room(alloc, components.len())?;
-    for x in components {
-        meet(&x.item.id, &mut met, first)?;
-    }
     Ok(())
 }
 

@@ -1,19 +1,8 @@
 //! Tables of what the names of compositions and components stand for.
 
-ghost use Rattle.adl_ast.specs.declared.id.Id.{Id as Word};
-ghost use Rattle.adl_items.specs.Declaring.{declaring_told};
-ghost use Rattle.adl_items.specs.Firsts.{first_named};
-ghost use Rattle.adl_meaning.specs.Duplicate.{repeats, repeats_after, duplicates_in_composition, duplicates_in_component};
-ghost use Rattle.adl_meaning.specs.Faults.{noted};
-ghost use Rattle.adl_meaning.specs.Holding.{as_held, a_group, held_by, held_as, member_of, exports_in};
-ghost use Rattle.adl_meaning.specs.Known.{is_target, is_exported};
-ghost use Rattle.adl_meaning.specs.Members.{declared_as, declared_by, declared_in, interface_of, attribute_of, compositions, composition_of};
+ghost use Rattle.adl_names.specs.Words.{Id as Word, declaring_told, first_named, repeats, repeats_after, duplicates_in_composition, duplicates_in_component, noted, as_held, a_group, held_by, held_as, member_of, is_exported, declared_as, declared_by, declared_in, interface_of, attribute_of, compositions, composition_of, is_among, flat_map, option_or, option_copied, option_and_then, ◌≡◌, ◌∷◌, ◌++◌, ℕ, List as Seq, map, option_map, OnOk, IfOk};
 ghost use Rattle.adl_names.specs.Bodies.{owner_of};
 ghost use Rattle.adl_names.specs.Tables.{has_name, held_told, holding_told};
-ghost use Rattle.name_tables.specs.ByName.{is_among};
-ghost use Rattle.std.specs.List.{flat_map};
-ghost use Rattle.std.specs.Option.{option_or, option_copied, option_and_then};
-ghost use Rattle.std.specs.Prelude.{◌≡◌, ◌∷◌, ◌++◌, ℕ, List as Seq, map, option_map, OnOk, IfOk};
 
 use crate::repeats::{note_compositions, note_configurations, put};
 use adl_ast::{Attribute, Component, Composition, Group, Instance, Interface, Line, Member};

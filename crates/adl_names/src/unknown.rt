@@ -1,22 +1,13 @@
 //! Words that nothing has.
 
-ghost use Rattle.adl_meaning.specs.Faults.{noted};
-ghost use Rattle.adl_meaning.specs.Holding.{held_as};
-ghost use Rattle.adl_meaning.specs.Known.{known_in, known_of};
-ghost use Rattle.adl_meaning.specs.Unknown.{within, unless_known, names_procedure, unknown_interface, unknown_in_dotted, unknown_word, unknown_in_setting};
-ghost use Rattle.adl_meaning.specs.Unknown.{unknown_in_line, unknown_in_composition, unknown_in_configuration};
-ghost use Rattle.adl_meaning.specs.Unknown.{unknown_attribute, unknown_in_member, unknown_if_configured, unknown_in_assembly, unknown_in_item, is_procedure, unknown_names};
+ghost use Rattle.adl_names.specs.Words.{noted, held_as, known_in, known_of, unless_known, names_procedure, unknown_interface, unknown_in_dotted, unknown_word, unknown_last, unknown_inner, unknown_group, scope_of_held, scope_of_known, scope_behind, option_copied, option_map, unknown_in_setting, unknown_in_line, unknown_in_composition, unknown_in_configuration, unknown_attribute, unknown_in_member, unknown_in_item, is_procedure, unknown_names, Member as MemberOf, as_composition, flat_map, filter_map, ◌≡◌, ◌∷◌, List as Seq};
 ghost use Rattle.adl_names.specs.Bodies.{owner_of, item_of};
-ghost use Rattle.adl_names.specs.Scopes.{scope_told, may_hold, is_group};
-ghost use Rattle.adl_ast.specs.declared.component.Member.{Member as MemberOf};
-ghost use Rattle.adl_meaning.specs.Members.{as_composition};
-ghost use Rattle.std.specs.List.{flat_map, filter_map};
-ghost use Rattle.std.specs.Prelude.{◌≡◌, ◌∷◌, List as Seq};
+ghost use Rattle.adl_names.specs.Scopes.{scope_told};
 
-use crate::bodies::{AssemblyTable, Body, SourceTables};
-use crate::scope::{Scope, of_holding, scope_behind};
-use crate::tables::{ComponentTable, Held, Holding, target};
+use crate::bodies::{Body, SourceTables};
+use crate::tables::{ComponentTable, Held, Holding, Members, target};
 use adl_ast::{Configuration, Id, InterfaceKind, Line, Member, Setter};
+use adl_items::instances_by;
 use adl_meaning::{Connector, Earliest};
 use cam_base::{Code, Name};
 
@@ -58,42 +49,107 @@ fn note_dotted<'a>(
                 note_unless(false, name, first);
                 note_unless(members.get(&port.name).is_some(), port, first);
             }
-            Some(Held::Connection) => note_unless(false, name, first),
-            None => note_unless(false, name, first),
+            Some(Held::Connection) | None => note_unless(false, name, first),
         },
         [name, member, port] => match holding.get(&name.name) {
             Some(Held::Group(members)) => match members.get(&member.name) {
                 Some(it) => note_interface(tables.component(&it.component.name), port, first),
                 None => note_unless(false, member, first),
             },
-            Some(Held::Instance(_)) => note_unless(false, name, first),
-            Some(Held::Connection) => note_unless(false, name, first),
-            None => note_unless(false, name, first),
+            Some(Held::Instance(_) | Held::Connection) | None => note_unless(false, name, first),
         },
         _ => (),
     }
 }
 
-/// Whether the scope holds the name; where the scope isn't known, it may.
-fn may_hold(scope: Scope<'_, '_>, name: &Name) -> bool
-    ensures { result ≡ may_hold (scope_told scope.entry) name.now }
+/// Where the next word is looked up.
+#[derive(Clone, Copy)]
+enum Scope<'t, 'a> {
+    /// Among what a composition holds.
+    Within(&'t Holding<'a>),
+    /// Among the instances of a group.
+    Inside(&'t Members<'a>),
+    /// Nowhere: a leaf or a connection holds nothing.
+    Behind,
+    /// Nowhere: what the word in front stands for isn't known.
+    Untold,
+}
+
+/// The scope of a composition that may be absent.
+fn of_holding<'t, 'a>(holding: Option<&'t Holding<'a>>) -> Scope<'t, 'a>
+    ensures { scope_told result ≡ scope_of_held (option_map held_as (option_copied holding.entry)) }
 {
-    match scope {
-        Scope::Within(holding) => holding.get(name).is_some(),
-        Scope::Inside(members) => members.get(name).is_some(),
-        Scope::Behind => false,
-        Scope::Untold => true,
+    match holding {
+        None => Scope::Behind,
+        Some(holding) => Scope::Within(holding),
     }
 }
 
-fn is_group(scope: Scope<'_, '_>) -> bool
-    ensures { result ≡ is_group (scope_told scope.entry) }
+fn of_type<'t, 'a>(table: Option<&'t ComponentTable<'a>>) -> Scope<'t, 'a>
+    ensures { scope_told result ≡ scope_of_known (owner_of table.entry) }
 {
-    matches!(scope, Scope::Inside(_))
+    match table {
+        None => Scope::Untold,
+        Some(table) => of_holding(table.holding()),
+    }
+}
+
+/// The scope behind a word.
+fn scope_behind<'t, 'a>(
+    tables: &'t SourceTables<'a>,
+    scope: Scope<'t, 'a>,
+    name: &Name,
+) -> Scope<'t, 'a>
+    ensures { scope_told result ≡ scope_behind (known_in tables.now) (scope_told scope.entry) name.now }
+{
+    match scope {
+        Scope::Within(holding) => match holding.get(name) {
+            None => Scope::Untold,
+            Some(Held::Instance(it)) => of_type(tables.component(&it.component.name)),
+            Some(Held::Group(members)) => Scope::Inside(members),
+            Some(Held::Connection) => Scope::Behind,
+        },
+        Scope::Inside(members) => match members.get(name) {
+            None => Scope::Untold,
+            Some(it) => of_type(tables.component(&it.component.name)),
+        },
+        Scope::Behind => Scope::Behind,
+        Scope::Untold => Scope::Untold,
+    }
+}
+
+/// Notes a word of a setting that isn't the last, where its scope doesn't hold it.
+fn note_inner<'a>(scope: Scope<'_, 'a>, word: &'a Id, first: &mut Earliest<'a>)
+    ensures { first.new ≡ noted first.old (unknown_inner (scope_told scope.entry) word.entry.now) }
+{
+    match scope {
+        Scope::Within(holding) => note_unless(holding.get(&word.name).is_some(), word, first),
+        Scope::Inside(members) => note_unless(members.get(&word.name).is_some(), word, first),
+        Scope::Behind => note_unless(false, word, first),
+        Scope::Untold => (),
+    }
+}
+
+fn note_last<'a>(scope: Scope<'_, 'a>, word: &'a Id, first: &mut Earliest<'a>)
+    ensures { first.new ≡ noted first.old (unknown_last (scope_told scope.entry) word.entry.now) }
+{
+    match scope {
+        Scope::Inside(members) => note_unless(members.get(&word.name).is_some(), word, first),
+        Scope::Within(_) | Scope::Behind | Scope::Untold => (),
+    }
+}
+
+fn note_group<'a>(after: Scope<'_, 'a>, word: &'a Id, first: &mut Earliest<'a>)
+    ensures { first.new ≡ noted first.old (unknown_group (scope_told after.entry) word.entry.now) }
+{
+    match after {
+        Scope::Inside(_) => note_unless(false, word, first),
+        Scope::Within(_) | Scope::Behind | Scope::Untold => (),
+    }
 }
 
 /// Notes a word of a setting, by the scopes in which it and the next are looked up, and the words that follow.
-#[tactic(auto, using(crate::proofs::SettingWords::last_word, crate::proofs::SettingWords::group_word, crate::proofs::SettingWords::inner_word, adl_meaning::proofs::Noting::noting))]
+#[tactic(auto, using(adl_meaning::proofs::Noting::noting))]
 fn note_setting_word<'a>(
     scope: Scope<'_, 'a>,
     after: Scope<'_, 'a>,
@@ -104,14 +160,13 @@ fn note_setting_word<'a>(
     ensures { first.new
         ≡ noted first.old (unknown_word (scope_told scope.entry) (scope_told after.entry) word.entry.now more.now) }
 {
-    let held = may_hold(scope, &word.name);
     match more {
-        [] => note_unless(!is_group(scope) || held, word, first),
+        [] => note_last(scope, word, first),
         [_] => {
-            note_unless(held, word, first);
-            note_unless(!is_group(after), word, first);
+            note_inner(scope, word, first);
+            note_group(after, word, first);
         }
-        _ => note_unless(held, word, first),
+        _ => note_inner(scope, word, first),
     }
 }
 
@@ -145,12 +200,8 @@ fn note_line<'a>(
         ≡ noted first.old (unknown_in_line (known_in tables.now) (owner_of owner.entry) (held_as holding.now) line.entry.now) }
 {
     match line {
-        Line::Instance(it) => {
-            let word = &it.component;
-            note_unless(tables.component(&word.name).is_some(), word, first);
-        }
-        Line::Group(group) => {
-            for it in group.instances.as_slice() {
+        Line::Instance(_) | Line::Group(_) => {
+            for it in instances_by(line) {
                 let word = &it.component;
                 note_unless(tables.component(&word.name).is_some(), word, first);
             }
@@ -265,42 +316,19 @@ fn note_component<'t, 'a>(
     }
 }
 
-fn note_if_configured<'t, 'a>(
-    tables: &'t SourceTables<'a>,
-    holding: &'t Holding<'a>,
-    configuration: &'a Option<Configuration>,
-    first: &mut Earliest<'a>,
-)
-    ensures { first.new
-        ≡ noted first.old (unknown_if_configured (known_in tables.now) (within (held_as holding.now)) configuration.entry.now) }
-{
-    if let Some(it) = configuration {
-        note_configuration(tables, None, Scope::Within(holding), it, first);
-    }
-}
-
-fn note_assembly<'t, 'a>(
-    tables: &'t SourceTables<'a>,
-    table: &'t AssemblyTable<'a>,
-    first: &mut Earliest<'a>,
-)
-    ensures { first.new ≡ noted first.old (unknown_in_assembly (known_in tables.now) table.now) }
-{
-    note_composition(tables, None, table.holding(), first);
-    note_if_configured(
-        tables,
-        table.holding(),
-        &table.assembly.configuration,
-        first,
-    );
-}
-
+#[tactic(auto, using(adl_meaning::proofs::Noting::noting))]
 fn note_body<'t, 'a>(tables: &'t SourceTables<'a>, body: &'t Body<'a>, first: &mut Earliest<'a>)
     ensures { first.new ≡ noted first.old (unknown_in_item (known_in tables.now) (is_procedure tables.now) (item_of body.now)) }
 {
     match body {
+        Body::Import(_) | Body::Procedure(_) => (),
         Body::Component(table) => note_component(tables, table, first),
-        Body::Assembly(table) => note_assembly(tables, table, first),
+        Body::Assembly(assembly, holding) => {
+            note_composition(tables, None, holding, first);
+            if let Some(it) = &assembly.configuration {
+                note_configuration(tables, None, Scope::Within(holding), it, first);
+            }
+        }
     }
 }
 

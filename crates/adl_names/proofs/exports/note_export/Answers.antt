@@ -1,7 +1,6 @@
-use Rattle.adl_names.proofs.Common.{held_as, known_in, owner_of}
+use Rattle.adl_names.proofs.Common.{held_as, known_in, owner_of, rules}
 use Rattle.adl_names.proofs.Exporting.{misfit_then}
-use Rattle.std.proofs.Common.{rules}
 use Rattle.adl_names.proofs.exports.note_export.Goals as goal
 
 pub returns : goal.returns
-returns c = λ more. misfit_then (known_in c.args.tables.now) (owner_of c.args.owner) (held_as c.args.holding.now) c.note_wrong.new.first c.args.first.now c.insert.new.self c.args.taken.now.targets c.take_inner.new.inners c.args.taken.now.inners c.args.export.now more (search rules) (search rules) (search rules)
+returns c = λ more. misfit_then (known_in c.args.tables.now) (owner_of c.args.owner) (held_as c.args.holding.now) c.note_wrong.new.first c.args.first.now c.insert.new.self c.args.taken.now.targets c.insert-2.new.self c.args.taken.now.inners c.args.export.now more (search rules) (search rules) (search rules)

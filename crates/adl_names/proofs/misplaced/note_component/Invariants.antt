@@ -1,5 +1,4 @@
-use Rattle.adl_names.proofs.Common.{◌≡◌, drop, flat_map, noted}
-use Rattle.adl_meaning.specs.CompositeBody.{misplaced_member}
+use Rattle.adl_names.proofs.Common.{◌≡◌, drop, flat_map, noted, misplaced_member}
 use Rattle.adl_names.proofs.misplaced.note_component.Given as goal
 
 abbrev pub invariant-loop-member : goal.invariant-loop-member

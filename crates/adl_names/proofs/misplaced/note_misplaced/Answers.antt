@@ -1,6 +1,4 @@
-use Rattle.adl_names.proofs.Common.{refl, misplaced_in_item, ◌∙◌, item_of}
-use Rattle.adl_meaning.proofs.Noting.{noted_each}
-use Rattle.adl_names.specs.declared.bodies.Body.{Body}
+use Rattle.adl_names.proofs.Common.{misplaced_in_item, ◌∙◌, item_of, noted_each, Body}
 use Rattle.adl_names.proofs.BodyLists.{noted_bodies}
 use Rattle.adl_names.proofs.misplaced.note_misplaced.Goals as goal
 
@@ -10,4 +8,4 @@ loop-body-preserved c =
     c.loop-body-test.true c.body-item.is c.note_body.ensures ∙ c.loop-body.invariant
 
 pub returns : goal.returns
-returns c = noted_bodies misplaced_in_item (λ i. refl) (λ p. refl) _ _ c.args.tables.now _ _ c.loop-body-test.false c.bodies-body-items.ensures c.loop-body.invariant
+returns c = noted_bodies misplaced_in_item _ _ c.args.tables.now _ _ c.loop-body-test.false c.bodies-body-items.ensures c.loop-body.invariant

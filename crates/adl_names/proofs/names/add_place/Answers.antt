@@ -1,8 +1,4 @@
-use Rattle.adl_names.proofs.Common.{◌≡◌, ◌∙◌, ◌∷◌, [], sym, ap, cond, Some, None, map, inl, inr, refl, bytes_eq, map-append, get, Name, ItemAt}
-use Rattle.cam_base.proofs.Options.{is_none}
-use Rattle.indexmap.specs.IndexMap.{insert_entry}
-use Rattle.indexmap.proofs.CallerLemmas.{insert_entry-new}
-use Rattle.name_tables.proofs.NameLookups.{found_put, found_kept}
+use Rattle.adl_names.proofs.Common.{◌≡◌, ◌∙◌, ◌∷◌, [], sym, ap, cond, Some, None, map, inl, inr, refl, bytes_eq, map-append, get, Name, ItemAt, is_none, insert_entry, insert_entry-new, found_put, found_kept}
 use Rattle.adl_names.proofs.names.add_place.Goals as goal
 
 pub returns-in_ok-insert-clause-first : goal.returns-in_ok-insert-clause-first

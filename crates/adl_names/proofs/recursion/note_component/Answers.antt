@@ -1,5 +1,4 @@
-use Rattle.adl_names.proofs.Common.{◌∙◌, sym, ap, pointed, found}
-use Rattle.std.specs.Option.{option_copied}
+use Rattle.adl_names.proofs.Common.{◌∙◌, sym, ap, pointed, found, option_copied}
 use Rattle.adl_names.proofs.Recurring.{type_read}
 use Rattle.adl_names.proofs.recursion.note_component.Goals as goal
 

@@ -1,5 +1,4 @@
-use Rattle.adl_names.proofs.Common.{◌≡◌, drop, flat_map, pointed, noted, recursive_in, found}
-use Rattle.adl_meaning.specs.Recursive.{recursive_instance}
+use Rattle.adl_names.proofs.Common.{◌≡◌, drop, flat_map, pointed, noted, recursive_in, found, recursive_instance}
 use Rattle.adl_names.proofs.recursion.note_component.Given as goal
 
 abbrev pub invariant-loop-instance : goal.invariant-loop-instance

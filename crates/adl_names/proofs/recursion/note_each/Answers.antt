@@ -1,5 +1,4 @@
-use Rattle.adl_names.proofs.Common.{◌≡◌, ◌∙◌, Component, Located, recursive_in, found, arith}
-use Rattle.adl_meaning.proofs.Noting.{noted_numbered}
+use Rattle.adl_names.proofs.Common.{◌∙◌, Component, Located, recursive_in, found, arith, noted_numbered}
 use Rattle.adl_names.proofs.Recurring.{graph_length, inner_read}
 use Rattle.adl_names.proofs.recursion.note_each.Goals as goal
 

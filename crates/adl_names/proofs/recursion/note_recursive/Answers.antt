@@ -1,9 +1,4 @@
-use Rattle.adl_names.proofs.Common.{◌≡◌, ◌<◌, ◌∙◌, ℕ, List, length, map, subst, sym, ap, arith, Option, flat_map, enumerate_from, length-map, Component, trees, Located, noted, Name, types_of, recursive_in, ItemAt, found}
-use Rattle.std.proofs.Common.{◌^◌}
-use Rattle.adl_items.proofs.Trees.{trees-located}
-use Rattle.adl_meaning.specs.Graph.{InRange}
-use Rattle.adl_meaning.specs.Recursive.{number_named, recursive_among}
-use Rattle.component_graph.proofs.ComponentNumbers.{numbers_below, graph_in_range}
+use Rattle.adl_names.proofs.Common.{◌≡◌, ◌∙◌, ℕ, List, map, subst, sym, ap, Option, flat_map, enumerate_from, Component, trees, noted, Name, recursive_in, ItemAt, found, trees-located, InRange, number_named, recursive_among, numbers_below, graph_in_range}
 use Rattle.adl_names.proofs.Recurring.{graph_length}
 use Rattle.adl_names.proofs.recursion.note_recursive.Goals as goal
 

@@ -1,6 +1,4 @@
-use Rattle.adl_names.proofs.Common.{◌∙◌, ap, map, flat_map, as_method, repeats, noted}
-use Rattle.adl_ast.specs.declared.procedure.Param.{Param}
-use Rattle.adl_meaning.specs.Duplicate.{repeated_params}
+use Rattle.adl_names.proofs.Common.{◌∙◌, ap, map, flat_map, as_method, repeats, noted, Param, repeated_params}
 use Rattle.adl_names.proofs.KindLists.{drop_none, drop_some, no_method, noted_one}
 use Rattle.adl_names.proofs.repeats.note_procedure.Goals as goal
 use Rattle.adl_names.proofs.repeats.note_procedure.Goals.{in-Method+in_ok-note_params, in_default}

@@ -1,5 +1,4 @@
-use Rattle.adl_names.proofs.Common.{◌≡◌, drop, filter_map, flat_map, as_method, noted}
-use Rattle.adl_meaning.specs.Duplicate.{repeated_params, duplicates_in_procedure}
+use Rattle.adl_names.proofs.Common.{◌≡◌, drop, filter_map, flat_map, as_method, noted, repeated_params, duplicates_in_procedure}
 use Rattle.adl_names.proofs.repeats.note_procedure.Given as goal
 
 abbrev pub invariant-loop-member : goal.invariant-loop-member

@@ -1,5 +1,4 @@
-use Rattle.adl_names.proofs.Common.{◌≡◌, drop, map, option_or, flat_map, first_named, repeats, repeats_after, noted, Name, declared_by, has_name}
-use Rattle.adl_items.specs.Declaring.{declaring_told}
+use Rattle.adl_names.proofs.Common.{◌≡◌, drop, map, option_or, flat_map, first_named, repeats, repeats_after, noted, Name, declared_by, has_name, declaring_told}
 use Rattle.adl_names.proofs.tables.declaring.Given as goal
 
 abbrev pub invariant-loop-member : goal.invariant-loop-member

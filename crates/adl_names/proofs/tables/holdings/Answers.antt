@@ -1,5 +1,4 @@
-use Rattle.adl_names.proofs.Common.{◌∙◌, ◌++◌, ap, flat_map, noted, as_composition}
-use Rattle.adl_meaning.specs.Duplicate.{duplicates_in_composition}
+use Rattle.adl_names.proofs.Common.{◌∙◌, ◌++◌, ap, flat_map, noted, as_composition, duplicates_in_composition}
 use Rattle.adl_names.proofs.KindLists.{drop_none, drop_some, no_composition, noted_one, pushed_one}
 use Rattle.adl_names.proofs.tables.holdings.Goals as goal
 use Rattle.adl_names.proofs.tables.holdings.Goals.{in-Composition+in_ok-of+in_ok-push, in_default}

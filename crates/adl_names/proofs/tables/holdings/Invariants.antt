@@ -1,5 +1,4 @@
-use Rattle.adl_names.proofs.Common.{◌≡◌, drop, ◌++◌, filter_map, flat_map, noted, as_composition}
-use Rattle.adl_meaning.specs.Duplicate.{duplicates_in_composition}
+use Rattle.adl_names.proofs.Common.{◌≡◌, drop, ◌++◌, filter_map, flat_map, noted, as_composition, duplicates_in_composition}
 use Rattle.adl_names.proofs.tables.holdings.Given as goal
 
 abbrev pub invariant-loop-member : goal.invariant-loop-member

@@ -1,5 +1,4 @@
-use Rattle.adl_names.proofs.Common.{◌≡◌, ◌∙◌, ◌+◌, ◌∷◌, drop, ap, filter_map, drop_first, known_in, known_of, as_composition, unknown_in_member, is_procedure}
-use Rattle.adl_meaning.proofs.Noting.{noted_each}
+use Rattle.adl_names.proofs.Common.{◌≡◌, ◌∙◌, ◌+◌, ◌∷◌, drop, ap, filter_map, drop_first, known_in, known_of, as_composition, unknown_in_member, is_procedure, noted_each}
 use Rattle.adl_names.proofs.unknown.note_component.Goals as goal
 
 pub loop-member-preserved : goal.loop-member-preserved

@@ -1,6 +1,4 @@
-use Rattle.adl_names.proofs.Common.{◌∙◌, held_as, known_in, owner_of}
-use Rattle.adl_meaning.specs.Unknown.{unknown_in_line}
-use Rattle.adl_meaning.proofs.Noting.{noted_each}
+use Rattle.adl_names.proofs.Common.{◌∙◌, held_as, known_in, owner_of, unknown_in_line, noted_each}
 use Rattle.adl_names.proofs.unknown.note_composition.Goals as goal
 
 pub loop-line-preserved : goal.loop-line-preserved

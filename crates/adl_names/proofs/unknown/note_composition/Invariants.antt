@@ -1,5 +1,4 @@
-use Rattle.adl_names.proofs.Common.{◌≡◌, drop, flat_map, noted, held_as, known_in, owner_of}
-use Rattle.adl_meaning.specs.Unknown.{unknown_in_line}
+use Rattle.adl_names.proofs.Common.{◌≡◌, drop, flat_map, noted, held_as, known_in, owner_of, unknown_in_line}
 use Rattle.adl_names.proofs.unknown.note_composition.Given as goal
 
 abbrev pub invariant-loop-line : goal.invariant-loop-line

@@ -1,6 +1,4 @@
-use Rattle.adl_names.proofs.Common.{◌∙◌, ap, noted, known_in, owner_of, scope_told}
-use Rattle.adl_meaning.specs.Unknown.{unknown_in_setting, unknown_attribute, unknown_in_one_setting}
-use Rattle.adl_meaning.proofs.Noting.{noted_each, noted_then}
+use Rattle.adl_names.proofs.Common.{◌∙◌, ap, noted, known_in, owner_of, scope_told, unknown_in_setting, unknown_attribute, unknown_in_one_setting, noted_each, noted_then}
 use Rattle.adl_names.proofs.unknown.note_configuration.Goals as goal
 
 pub loop-setting-preserved : goal.loop-setting-preserved

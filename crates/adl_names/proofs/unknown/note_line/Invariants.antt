@@ -1,5 +1,4 @@
-use Rattle.adl_names.proofs.Common.{◌≡◌, drop, flat_map, noted, held_as, known_in}
-use Rattle.adl_meaning.specs.Unknown.{unknown_type, unknown_in_dotted}
+use Rattle.adl_names.proofs.Common.{◌≡◌, drop, flat_map, noted, held_as, known_in, unknown_type, unknown_in_dotted}
 use Rattle.adl_names.proofs.unknown.note_line.Given as goal
 
 abbrev pub invariant-loop-it : goal.invariant-loop-it

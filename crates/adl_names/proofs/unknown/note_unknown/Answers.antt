@@ -1,6 +1,4 @@
-use Rattle.adl_names.proofs.Common.{refl, known_in, unknown_in_item, is_procedure, ◌∙◌, item_of}
-use Rattle.adl_meaning.proofs.Noting.{noted_each}
-use Rattle.adl_names.specs.declared.bodies.Body.{Body}
+use Rattle.adl_names.proofs.Common.{known_in, unknown_in_item, is_procedure, ◌∙◌, item_of, noted_each, Body}
 use Rattle.adl_names.proofs.BodyLists.{noted_bodies}
 use Rattle.adl_names.proofs.unknown.note_unknown.Goals as goal
 
@@ -10,4 +8,4 @@ loop-body-preserved c =
     c.loop-body-test.true c.body-item.is c.note_body.ensures ∙ c.loop-body.invariant
 
 pub returns : goal.returns
-returns c = let s = c.args.tables.now in noted_bodies (unknown_in_item (known_in s) (is_procedure s)) (λ i. refl) (λ p. refl) _ _ s _ _ c.loop-body-test.false c.bodies-body-items.ensures c.loop-body.invariant
+returns c = let s = c.args.tables.now in noted_bodies (unknown_in_item (known_in s) (is_procedure s)) _ _ s _ _ c.loop-body-test.false c.bodies-body-items.ensures c.loop-body.invariant

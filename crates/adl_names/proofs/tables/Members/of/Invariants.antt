@@ -1,5 +1,4 @@
-use Rattle.adl_names.proofs.Common.{◌≡◌, drop, option_or, find, bytes_eq, Name}
-use Rattle.adl_names.specs.Groups.{members_told}
+use Rattle.adl_names.proofs.Common.{◌≡◌, drop, option_or, find, bytes_eq, Name, members_told}
 use Rattle.adl_names.proofs.tables.Members.of.Given as goal
 
 abbrev pub invariant-loop-instance : goal.invariant-loop-instance

@@ -1,6 +1,5 @@
-use Rattle.adl_names.proofs.Common.{◌≡◌, drop, Some, flat_map, noted, known_in, known_of}
-use Rattle.adl_meaning.specs.Export.{misfits_in_composition}
-use Rattle.adl_names.proofs.exports.note_component.Given as goal
+use Rattle.adl_names.proofs.Common.{◌≡◌, drop, Some, flat_map, noted, known_in, known_of, misfits_in_composition}
+use Rattle.adl_names.proofs.exports.note_body.Given as goal
 
 abbrev pub invariant-loop-holding : goal.invariant-loop-holding
 invariant-loop-holding l =

@@ -1,7 +1,6 @@
-use Rattle.adl_names.proofs.Common.{◌≡◌, drop, map, noted, located}
+use Rattle.adl_names.proofs.Common.{◌≡◌, drop, map, noted, located, at_keyword}
 use Rattle.cam_base.specs.declared.code.Code.TheVariants as code
-use Rattle.adl_meaning.specs.Faults.{at_keyword}
-use Rattle.adl_names.proofs.names.note_second.Given as goal
+use Rattle.adl_names.proofs.names.note_assemblies.Given as goal
 
 abbrev pub invariant-loop-x : goal.invariant-loop-x
 invariant-loop-x l =

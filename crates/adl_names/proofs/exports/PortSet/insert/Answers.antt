@@ -1,7 +1,6 @@
-use Rattle.adl_names.proofs.Common.{◌∙◌, ◌||◌, sym, ap, cond, true, ◌&&◌, nat_eq, bytes_eq, is_port_among}
-use Rattle.adl_meaning.specs.Export.{same_port}
+use Rattle.adl_names.proofs.Common.{is_port, option_copied, ◌∙◌, ◌||◌, sym, ap, cond, true, ◌&&◌, nat_eq, bytes_eq, is_port_among, same_port}
 use Rattle.adl_names.proofs.PortSets.{has_key, among-keys, or_from_keys}
-use Rattle.adl_names.proofs.port.PortSet.insert.Goals as goal
+use Rattle.adl_names.proofs.exports.PortSet.insert.Goals as goal
 
 pub returns : goal.returns
 returns c = λ p.
@@ -12,4 +11,5 @@ returns c = λ p.
     ∙ ap (λ n. cond (nat_eq q.instance.now.id.place.first p.0.id.place.first && bytes_eq n p.1) true had) c.as_bytes.ensures.bytes
     ∙ or_from_keys q.instance.now.id.place.first p.0.id.place.first q.interface.now p.1 had
     ∙ ap (λ r. had || same_port p r) c.port.view_is
-    ∙ ap (λ b. b || same_port p c.args.port.now) (sym (among-keys c.self.inside.keys.keys p) ∙ ap (λ s. is_port_among s p) c.self.view_is)
+    ∙ ap (λ b. b || same_port p c.in-Some.port.now) (sym (among-keys c.self.inside.keys.keys p) ∙ ap (λ s. is_port_among s p) c.self.view_is)
+    ∙ sym (ap (λ o. is_port_among c.args.self.now p || is_port (option_copied o) p) c.in-Some.is)
