@@ -1,13 +1,25 @@
 -- Which classes bytes can have.
-use Rattle.std.proofs.Common.{arith, ◌≡◌, ℕ, Bool, true, false, cond, List, [], ◌∷◌, refl, sym, ap, subst, ◌∙◌, ◌⊎◌, inl, inr}
-use Rattle.std.specs.Prelude.{◌==◌, ◌&&◌, ◌||◌, not}
-use Rattle.std.specs.List.{list_all}
+use Rattle.std.proofs.Common.{arith, ◌≡◌, ◌<◌, ℕ, Bool, true, false, cond, List, [], ◌∷◌, refl, sym, ap, subst, ◌∙◌, ◌⊎◌, inl, inr, get_or}
+use Rattle.std.proofs.lemmas.List.FromFn.{get_or-map-range_with_len}
+use Rattle.std.specs.Prelude.{◌==◌, ◌&&◌, ◌||◌, not, map}
+use Rattle.std.specs.List.{list_all, range_with_len}
 use Rattle.std.proofs.lemmas.Bool.{eqb-true, and_parts, not-true, cases_Bool}
 use Rattle.cam_base.specs.Names.{is_letter}
 use Rattle.cam_base.specs.Numbers.{is_digit, is_hex_digit}
 use Rattle.grammar.specs.Form.{among}
 use Rattle.grammar.proofs.Codes.{true_is_not_false, if_true, if_false}
 use Rattle.adl_lexer.specs.Classes.{class_of, class_in, sign_class, sign_rows, mark_class, mark_rows, left_out_class, left_out_rows, blanks, letters, digits, hex_digits, line_bytes}
+
+-- the class of each byte, as the code has it
+abbrev class_table : List ℕ
+class_table = 25 ∷ 25 ∷ 25 ∷ 25 ∷ 25 ∷ 25 ∷ 25 ∷ 25 ∷ 25 ∷ 5 ∷ 6 ∷ 25 ∷ 25 ∷ 5 ∷ 25 ∷ 25 ∷ 25 ∷ 25 ∷ 25 ∷ 25 ∷ 25 ∷ 25 ∷ 25 ∷ 25 ∷ 25 ∷ 25 ∷ 25 ∷ 25 ∷ 25 ∷ 25 ∷ 25 ∷ 25 ∷ 5 ∷ 24 ∷ 11 ∷ 24 ∷ 25 ∷ 24 ∷ 24 ∷ 25 ∷ 16 ∷ 17 ∷ 24 ∷ 24 ∷ 21 ∷ 9 ∷ 13 ∷ 7 ∷ 3 ∷ 4 ∷ 4 ∷ 4 ∷ 4 ∷ 4 ∷ 4 ∷ 4 ∷ 4 ∷ 4 ∷ 23 ∷ 20 ∷ 8 ∷ 22 ∷ 10 ∷ 24 ∷ 25 ∷ 1 ∷ 1 ∷ 1 ∷ 1 ∷ 1 ∷ 1 ∷ 0 ∷ 0 ∷ 0 ∷ 0 ∷ 0 ∷ 0 ∷ 0 ∷ 0 ∷ 0 ∷ 0 ∷ 0 ∷ 0 ∷ 0 ∷ 0 ∷ 0 ∷ 0 ∷ 0 ∷ 2 ∷ 0 ∷ 0 ∷ 18 ∷ 12 ∷ 19 ∷ 24 ∷ 0 ∷ 25 ∷ 1 ∷ 1 ∷ 1 ∷ 1 ∷ 1 ∷ 1 ∷ 0 ∷ 0 ∷ 0 ∷ 0 ∷ 0 ∷ 0 ∷ 0 ∷ 0 ∷ 0 ∷ 0 ∷ 0 ∷ 0 ∷ 0 ∷ 0 ∷ 0 ∷ 0 ∷ 0 ∷ 2 ∷ 0 ∷ 0 ∷ 14 ∷ 24 ∷ 15 ∷ 24 ∷ 25 ∷ 25 ∷ 25 ∷ 25 ∷ 25 ∷ 25 ∷ 25 ∷ 25 ∷ 25 ∷ 25 ∷ 25 ∷ 25 ∷ 25 ∷ 25 ∷ 25 ∷ 25 ∷ 25 ∷ 25 ∷ 25 ∷ 25 ∷ 25 ∷ 25 ∷ 25 ∷ 25 ∷ 25 ∷ 25 ∷ 25 ∷ 25 ∷ 25 ∷ 25 ∷ 25 ∷ 25 ∷ 25 ∷ 25 ∷ 25 ∷ 25 ∷ 25 ∷ 25 ∷ 25 ∷ 25 ∷ 25 ∷ 25 ∷ 25 ∷ 25 ∷ 25 ∷ 25 ∷ 25 ∷ 25 ∷ 25 ∷ 25 ∷ 25 ∷ 25 ∷ 25 ∷ 25 ∷ 25 ∷ 25 ∷ 25 ∷ 25 ∷ 25 ∷ 25 ∷ 25 ∷ 25 ∷ 25 ∷ 25 ∷ 25 ∷ 25 ∷ 25 ∷ 25 ∷ 25 ∷ 25 ∷ 25 ∷ 25 ∷ 25 ∷ 25 ∷ 25 ∷ 25 ∷ 25 ∷ 25 ∷ 25 ∷ 25 ∷ 25 ∷ 25 ∷ 25 ∷ 25 ∷ 25 ∷ 25 ∷ 25 ∷ 25 ∷ 25 ∷ 25 ∷ 25 ∷ 25 ∷ 25 ∷ 25 ∷ 25 ∷ 25 ∷ 25 ∷ 25 ∷ 25 ∷ 25 ∷ 25 ∷ 25 ∷ 25 ∷ 25 ∷ 25 ∷ 25 ∷ 25 ∷ 25 ∷ 25 ∷ 25 ∷ 25 ∷ 25 ∷ 25 ∷ 25 ∷ 25 ∷ 25 ∷ 25 ∷ 25 ∷ 25 ∷ 25 ∷ 25 ∷ 25 ∷ 25 ∷ 25 ∷ 25 ∷ 25 ∷ 25 ∷ 25 ∷ 25 ∷ []
+
+classes_are : class_table ≡ map class_of (range_with_len 0 256)
+unfolding class_of
+classes_are = refl
+
+pub class_in_table : (b : ℕ) → b < 256 → get_or class_table b 0 ≡ class_of b
+class_in_table b h = ap (λ (cs : List ℕ). get_or cs b 0) classes_are ∙ get_or-map-range_with_len class_of 0 256 b b 0 h (omega arith)
 
 -- what is true of each row's class and of c is true of the class that is given
 class_in_has : (Q : ℕ → Bool) (rows : List (ℕ × ℕ)) (c b : ℕ) → list_all (λ row. Q row.1) rows ≡ true → Q c ≡ true → Q (class_in rows c b) ≡ true

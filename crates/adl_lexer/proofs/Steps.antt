@@ -1,5 +1,6 @@
 -- One step of the lexer, and what it leaves of the tokens and the faults.
 use Rattle.std.proofs.Common.{◌≡◌, ℕ, ◌<◌, ◌≤◌, true, List, [], ◌∷◌, ◌++◌, length, Some, None, Ok, refl, sym, ap, subst, ◌∙◌, append_assoc, arith, ◌⊎◌, inl, inr}
+use Rattle.std.proofs.lemmas.Bool.{cases_Bool}
 use Rattle.std.proofs.lemmas.List.{append-nil, length-append}
 use Rattle.cam_base.specs.declared.token.Kind.{Kind}
 use Rattle.cam_base.specs.declared.token.Token.{Token}
@@ -8,10 +9,10 @@ use Rattle.grammar.specs.Deciding.{can_be_empty}
 use Rattle.grammar.specs.Form.{among}
 use Rattle.grammar.specs.Reading.{left}
 use Rattle.grammar.specs.Spelling.{Spells}
-use Rattle.grammar.proofs.Codes.{true_is_not_false}
+use Rattle.grammar.proofs.Codes.{true_is_not_false, if_true}
 use Rattle.grammar.proofs.Laws.{ok_is, spelled_starts}
-use Rattle.adl_lexer.specs.Classes.{class_of}
-use Rattle.adl_lexer.specs.Gaps.{one_gap, none, more}
+use Rattle.adl_lexer.specs.Classes.{class_of, after_run, blanks}
+use Rattle.adl_lexer.specs.Gaps.{one_gap, IsGap, none, more}
 use Rattle.adl_lexer.specs.LexFaults.{fault_at}
 use Rattle.adl_lexer.specs.Lexes.{IsTokenAt, place_of, LexesFrom, Reached, here, past}
 use Rattle.adl_lexer.specs.TokenKinds.{reads, flat, token_form}
@@ -89,16 +90,33 @@ token_eats bs k rest t = go t.text t.kind t.parts
 pub no_token_of_none : {C : Type 0} (bs : List ℕ) (k : Kind) (rest : List ℕ) → bs ≡ [] → IsTokenAt bs k rest → C
 no_token_of_none bs k rest e t = let lt = token_eats bs k rest t in let z = ap length e in absurd (omega arith)
 
--- ---- one step over a blank or a comment
+-- ---- one step over blanks and comments
 
-module _ (bs after : List ℕ) (step : one_gap bs ≡ Some after) where
+gap_on : (bs cs rest : List ℕ) → IsGap bs cs → IsGap cs rest → IsGap bs rest
+gap_on bs cs rest none h = h
+gap_on bs cs rest (more {cs = ds} e g) h = more e (gap_on ds cs rest g h)
+
+module _ (bs after : List ℕ) (step : IsGap bs after) where
   pub lexes_gap : (file total : ℕ) (ts : List Token) → LexesFrom file total after ts → LexesFrom file total bs ts
-  lexes_gap file total [] g = more step g
-  lexes_gap file total (t ∷ ts) l = (l.0, l.1, more step l.2, l.3, l.4, l.5)
+  lexes_gap file total [] g = gap_on bs after [] step g
+  lexes_gap file total (t ∷ ts) l = (l.0, l.1, gap_on bs after l.0 step l.2, l.3, l.4, l.5)
 
   pub reached_gap : (x : List ℕ) → Reached after x → Reached bs x
-  reached_gap x (here g) = here (more step g)
-  reached_gap x (past g t r) = past (more step g) t r
+  reached_gap x (here g) = here (gap_on bs after x step g)
+  reached_gap x (past {at = at} g t r) = past (gap_on bs after at step g) t r
+
+-- blanks are a gap
+pub blanks_gap : (bs : List ℕ) → IsGap bs (after_run blanks bs)
+unfolding one_gap
+blanks_gap [] = none
+blanks_gap (b ∷ bs) = elim (cases_Bool (among blanks (class_of b))) [
+  | inl h ↦ rw h (more (if_true (among blanks (class_of b)) (Some bs) _ h) (blanks_gap bs))
+  | inr h ↦ rw h none
+]
+
+-- a comment and the blanks behind it are a gap
+pub gap_and_blanks : (bs after : List ℕ) → one_gap bs ≡ Some after → IsGap bs (after_run blanks after)
+gap_and_blanks bs after e = more e (blanks_gap after)
 
 -- ---- one step over a token
 

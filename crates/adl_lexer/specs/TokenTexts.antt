@@ -1,5 +1,5 @@
 -- The bytes of a token, in plain words.
-use Rattle.std.specs.Prelude.{◌≡◌, ℕ, ◌-◌, true, List, [], ◌∷◌, ◌++◌, Some, None, take, drop, codes}
+use Rattle.std.specs.Prelude.{◌≡◌, ℕ, ◌-◌, true, List, [], ◌++◌, Some, None, take, drop, codes}
 use Rattle.cam_base.specs.declared.place.Place.{Place}
 use Rattle.cam_base.specs.declared.token.Kind.{Kind}
 use Rattle.cam_base.specs.declared.token.Kind.TheVariants as kinds

@@ -1,6 +1,6 @@
 //! The classes of bytes.
 
-ghost use Rattle.adl_lexer.specs.Classes.{class_of, left_out_class, mark_class, sign_class};
+ghost use Rattle.adl_lexer.specs.Classes.{class_of};
 ghost use Rattle.std.specs.Prelude.{◌≡◌};
 
 // A number for each class, as in `specs/Classes.antt`. Those up to `DIGIT` are of bytes of words.
@@ -56,70 +56,25 @@ pub(crate) const LEFT_OUT: u8 = 24;
 
 pub(crate) const OTHER: u8 = 25;
 
+/// The class of each byte.
+const CLASSES: &[u8; 256] = &[
+    25, 25, 25, 25, 25, 25, 25, 25, 25, 5, 6, 25, 25, 5, 25, 25, 25, 25, 25, 25, 25, 25, 25, 25,
+    25, 25, 25, 25, 25, 25, 25, 25, 5, 24, 11, 24, 25, 24, 24, 25, 16, 17, 24, 24, 21, 9, 13, 7, 3,
+    4, 4, 4, 4, 4, 4, 4, 4, 4, 23, 20, 8, 22, 10, 24, 25, 1, 1, 1, 1, 1, 1, 0, 0, 0, 0, 0, 0, 0, 0,
+    0, 0, 0, 0, 0, 0, 0, 0, 0, 2, 0, 0, 18, 12, 19, 24, 0, 25, 1, 1, 1, 1, 1, 1, 0, 0, 0, 0, 0, 0,
+    0, 0, 0, 0, 0, 0, 0, 0, 0, 0, 0, 2, 0, 0, 14, 24, 15, 24, 25, 25, 25, 25, 25, 25, 25, 25, 25,
+    25, 25, 25, 25, 25, 25, 25, 25, 25, 25, 25, 25, 25, 25, 25, 25, 25, 25, 25, 25, 25, 25, 25, 25,
+    25, 25, 25, 25, 25, 25, 25, 25, 25, 25, 25, 25, 25, 25, 25, 25, 25, 25, 25, 25, 25, 25, 25, 25,
+    25, 25, 25, 25, 25, 25, 25, 25, 25, 25, 25, 25, 25, 25, 25, 25, 25, 25, 25, 25, 25, 25, 25, 25,
+    25, 25, 25, 25, 25, 25, 25, 25, 25, 25, 25, 25, 25, 25, 25, 25, 25, 25, 25, 25, 25, 25, 25, 25,
+    25, 25, 25, 25, 25, 25, 25, 25, 25, 25, 25, 25, 25, 25, 25, 25, 25, 25, 25, 25, 25, 25, 25, 25,
+];
+
 /// The class of a byte, by its number in `specs/Classes.antt`.
-#[tactic(auto, unfolding(crate::specs::Classes::class_of))]
+#[tactic(auto, using(crate::proofs::Classes::class_in_table))]
 #[inline(always)]
 pub(crate) fn class(byte: u8) -> u8
     ensures { result ≡ class_of byte }
 {
-    if byte.is_ascii_digit() {
-        if byte == b'0' { ZERO_DIGIT } else { DIGIT }
-    } else if byte.is_ascii_hexdigit() {
-        HEX_LETTER
-    } else if byte.is_ascii_lowercase() || byte.is_ascii_uppercase() || byte == b'_' {
-        if byte == b'x' || byte == b'X' {
-            CROSS
-        } else {
-            LETTER
-        }
-    } else {
-        sign_class(byte)
-    }
-}
-
-#[inline]
-fn sign_class(byte: u8) -> u8
-    ensures { result ≡ sign_class byte }
-{
-    match byte {
-        b' ' | b'\t' | b'\r' => BLANK,
-        b'\n' => LINE_FEED,
-        b'/' => SLASH,
-        b'<' => LESS,
-        b'-' => MINUS,
-        b'>' => GREATER,
-        b'"' => QUOTE,
-        b'\\' => BACKSLASH,
-        _ => mark_class(byte),
-    }
-}
-
-#[inline]
-fn mark_class(byte: u8) -> u8
-    ensures { result ≡ mark_class byte }
-{
-    match byte {
-        b'.' => DOT,
-        b'{' => BRACE_L,
-        b'}' => BRACE_R,
-        b'(' => PAREN_L,
-        b')' => PAREN_R,
-        b'[' => SQUARE_L,
-        b']' => SQUARE_R,
-        b';' => SEMI,
-        b',' => COMMA,
-        b'=' => EQUALS,
-        b':' => COLON,
-        _ => left_out_class(byte),
-    }
-}
-
-#[inline]
-fn left_out_class(byte: u8) -> u8
-    ensures { result ≡ left_out_class byte }
-{
-    match byte {
-        b'#' | b'+' | b'*' | b'%' | b'&' | b'|' | b'^' | b'!' | b'~' | b'?' => LEFT_OUT,
-        _ => OTHER,
-    }
+    CLASSES[byte as usize]
 }

@@ -5,6 +5,7 @@ ghost use Rattle.adl_lexer.specs.Lexes.{IsLexed};
 ghost use Rattle.std.specs.Prelude.{◌≡◌, ◌≤◌, length, IfOk};
 
 use crate::piece::{Piece, next_piece};
+use crate::run::blanks_end;
 use cam_base::{Code, Fault, List, NoMemory, Place, Refused, Text, Token, Tokens};
 use std::alloc::Global;
 
@@ -14,16 +15,16 @@ pub fn lex(alloc: Global, file: u32, bytes: &[u8]) -> Result<Tokens, Refused<Fau
 {
     // a token, with the gap before it, has about four bytes
     let mut tokens = List::from_vec(Vec::with_capacity(alloc, bytes.len() / 4)?);
-    let mut rest = bytes;
+    let mut rest = blanks_end(bytes);
     'scan: while let Some(piece) = next_piece(rest) {
         let first = (bytes.len() - rest.len()) as u64;
         match piece {
-            Piece::Gap(after) => rest = after,
+            Piece::Gap(after) => rest = blanks_end(after),
             Piece::Token(kind, after) => {
                 let end = (bytes.len() - after.len()) as u64;
                 let place = Place { file, first, end };
                 tokens.push(Token { kind, place })?;
-                rest = after;
+                rest = blanks_end(after);
             }
             Piece::Bad(code, text) => {
                 let end = first + text.len() as u64;

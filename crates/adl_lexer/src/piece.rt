@@ -1,6 +1,6 @@
 //! One step of the lexer.
 
-ghost use Rattle.adl_lexer.specs.Classes.{blanks, class_of, digits, letters, minus, slash};
+ghost use Rattle.adl_lexer.specs.Classes.{class_of, digits, letters, minus, slash};
 ghost use Rattle.adl_lexer.specs.Gaps.{after_comment};
 ghost use Rattle.adl_lexer.specs.LexFaults.{minus_fault, sign_fault, slash_fault};
 ghost use Rattle.adl_lexer.specs.Pieces.{Fits, IsMark, IsNext, IsPiece};
@@ -11,12 +11,12 @@ ghost use Rattle.grammar.specs.Form.{among};
 ghost use Rattle.std.specs.Prelude.{◌≡◌, ◌∷◌, None};
 
 use crate::class::{
-    BLANK, BRACE_L, BRACE_R, COLON, COMMA, CROSS, DIGIT, DOT, EQUALS, GREATER, HEX_LETTER,
-    LEFT_OUT, LESS, LETTER, LINE_FEED, MINUS, PAREN_L, PAREN_R, QUOTE, SEMI, SLASH, SQUARE_L,
-    SQUARE_R, ZERO_DIGIT, class,
+    BRACE_L, BRACE_R, COLON, COMMA, CROSS, DIGIT, DOT, EQUALS, GREATER, HEX_LETTER, LEFT_OUT, LESS,
+    LETTER, MINUS, PAREN_L, PAREN_R, QUOTE, SEMI, SLASH, SQUARE_L, SQUARE_R, ZERO_DIGIT, class,
 };
 use crate::gap::comment;
 use crate::number::number;
+use crate::run::is_blank;
 use crate::text::{byte_end, less, text};
 use crate::word::word;
 use cam_base::{Code, Kind, Mark};
@@ -76,12 +76,6 @@ fn is_digit(class: u8) -> bool
     ensures { result ≡ among digits class }
 {
     class == ZERO_DIGIT || class == DIGIT
-}
-
-fn is_blank(class: u8) -> bool
-    ensures { result ≡ among blanks class }
-{
-    class == BLANK || class == LINE_FEED
 }
 
 /// The comment whose first slash stands before `rest`.

@@ -1,11 +1,10 @@
 //! Runs of bytes.
 
-ghost use Rattle.adl_lexer.specs.Classes.{after_run, class_of, run, word_bytes, angle_bytes, line_bytes};
+ghost use Rattle.adl_lexer.specs.Classes.{after_run, class_of, run, blanks, word_bytes, angle_bytes, line_bytes};
 ghost use Rattle.grammar.specs.Form.{among};
 ghost use Rattle.std.specs.Prelude.{◌≡◌};
 
-use crate::class::{DIGIT, DOT, LINE_FEED, MINUS, SLASH, class};
-use cam_base::is_word_byte;
+use crate::class::{BLANK, DIGIT, DOT, LINE_FEED, MINUS, SLASH, class};
 
 /// A run of letters, digits and underscores, and the rest behind it.
 #[tactic(auto, using(crate::proofs::Runs::run_taken, crate::proofs::Runs::after_run_le))]
@@ -31,7 +30,7 @@ fn word_end(bytes: &[u8]) -> &[u8]
 {
     let mut rest = bytes;
     'run: while let [byte, tail @ ..] = rest {
-        if !is_of_word(*byte) {
+        if class(*byte) > DIGIT {
             break;
         }
         rest = tail;
@@ -39,13 +38,25 @@ fn word_end(bytes: &[u8]) -> &[u8]
     rest
 }
 
-/// Whether a byte is a letter, a digit or an underscore.
-#[tactic(auto, using(crate::proofs::ClassBytes::word_byte_is))]
-#[inline]
-fn is_of_word(byte: u8) -> bool
-    ensures { result ≡ among word_bytes (class_of byte) }
+/// What is behind a run of blanks.
+pub(crate) fn blanks_end(bytes: &[u8]) -> &[u8]
+    ensures { result.now ≡ after_run blanks bytes.now }
 {
-    is_word_byte(byte)
+    let mut rest = bytes;
+    'run: while let [byte, tail @ ..] = rest {
+        if !is_blank(class(*byte)) {
+            break;
+        }
+        rest = tail;
+    }
+    rest
+}
+
+#[inline(always)]
+pub(crate) fn is_blank(class: u8) -> bool
+    ensures { result ≡ among blanks class }
+{
+    class == BLANK || class == LINE_FEED
 }
 
 /// What is behind a run of bytes of an angle name.

@@ -1,27 +1,43 @@
-use Rattle.std.proofs.Common.{ℕ, List, [], ◌∷◌, ◌++◌, length, sym, ap, subst, ◌∙◌, refl, append_assoc, arith}
+use Rattle.std.proofs.Common.{rules, ◌≡◌, ℕ, List, [], ◌∷◌, ◌++◌, length, sym, ap, subst, ◌∙◌, refl, append_assoc, arith}
 use Rattle.std.proofs.lemmas.List.{append-nil}
 use Rattle.cam_base.specs.declared.token.Token.{Token}
+use Rattle.adl_lexer.specs.Classes.{after_run, blanks}
 use Rattle.adl_lexer.specs.Gaps.{none}
 use Rattle.adl_lexer.specs.Lexes.{LexesFrom, here, place_of}
 use Rattle.adl_lexer.specs.Pieces.{IsPiece}
 use Rattle.adl_lexer.specs.declared.piece.Piece.{Piece}
 use Rattle.adl_lexer.proofs.Gaps.{gap_eats}
-use Rattle.adl_lexer.proofs.Steps.{token_at, token_eats, lexes_gap, reached_gap, lexes_token, reached_token}
+use Rattle.adl_lexer.proofs.Runs.{after_run_le}
+use Rattle.adl_lexer.proofs.Steps.{blanks_gap, gap_and_blanks, lexes_gap, lexes_token, reached_gap, reached_token, token_at, token_eats}
 use Rattle.adl_lexer.proofs.lexer.lex.Goals as goal
 
+pub scan-init : goal.scan-init
+scan-init c =
+    let bytes = c.args.bytes.now in
+    let empty : c.from_vec-tokens.result ≡ [] = search rules in
+    record {
+      told = λ ts l. rw empty (lexes_gap bytes (after_run blanks bytes) (blanks_gap bytes) c.args.file (length bytes) ts (rw c.blanks_end-rest.ensures at l));
+      reached = λ x r. reached_gap bytes (after_run blanks bytes) (blanks_gap bytes) x (rw c.blanks_end-rest.ensures at r);
+      short = rw c.blanks_end-rest.ensures (after_run_le blanks bytes);
+    }
+
 pub scan-smaller-in-Gap : goal.scan-smaller-in-Gap
-scan-smaller-in-Gap c = gap_eats c.scan.rest.now c.in-Gap.after.now (subst (λ (p : Piece). IsPiece c.scan.rest.now p) c.in-Gap.is c.in-Some.ensures)
+scan-smaller-in-Gap c =
+    let after = c.in-Gap.after.now in
+    rw c.blanks_end-rest-in-Gap.ensures (omega (arith, gap_eats c.scan.rest.now after (subst (λ (p : Piece). IsPiece c.scan.rest.now p) c.in-Gap.is c.in-Some.ensures), after_run_le blanks after))
 
 pub scan-preserved-in-Gap : goal.scan-preserved-in-Gap
 scan-preserved-in-Gap c =
     let rest = c.scan.rest.now in
     let after = c.in-Gap.after.now in
+    let last = after_run blanks after in
     let step = subst (λ (p : Piece). IsPiece rest p) c.in-Gap.is c.in-Some.ensures in
-    record {
-      told = λ ts l. c.scan.invariant.told ts (lexes_gap rest after step c.args.file (length c.args.bytes.now) ts l);
-      reached = λ x r. c.scan.invariant.reached x (reached_gap rest after step x r);
-      short = omega (arith, gap_eats rest after step);
-    }
+    let gap = gap_and_blanks rest after step in
+    rw c.blanks_end-rest-in-Gap.ensures (record {
+      told = λ ts l. c.scan.invariant.told ts (lexes_gap rest last gap c.args.file (length c.args.bytes.now) ts l);
+      reached = λ x r. c.scan.invariant.reached x (reached_gap rest last gap x r);
+      short = omega (arith, c.scan.invariant.short, gap_eats rest after step, after_run_le blanks after);
+    })
 
 pub overflow_sub-end : goal.overflow_sub-end
 overflow_sub-end c =
@@ -32,24 +48,26 @@ overflow_sub-end c =
 pub scan-smaller : goal.scan-smaller
 scan-smaller c =
     let rest = c.scan.rest.now in
+    let after = c.in-Token.after.now in
     let step = subst (λ (p : Piece). IsPiece rest p) c.in-Token.is c.in-Some.ensures in
-    token_eats rest c.in-Token.kind c.in-Token.after.now (token_at rest c.in-Token.kind c.in-Token.after.now step.0 step.1)
+    rw c.blanks_end-rest-in-Token.ensures (omega (arith, token_eats rest c.in-Token.kind after (token_at rest c.in-Token.kind after step.0 step.1), after_run_le blanks after))
 
 pub scan-preserved : goal.scan-preserved
 scan-preserved c =
     let bytes = c.args.bytes.now in
     let rest = c.scan.rest.now in
     let after = c.in-Token.after.now in
+    let last = after_run blanks after in
     let k = c.in-Token.kind in
     let step = subst (λ (p : Piece). IsPiece rest p) c.in-Token.is c.in-Some.ensures in
     let token = token_at rest k after step.0 step.1 in
     let t : Token = record { kind = k; place = place_of c.args.file (length bytes) rest after } in
-    record {
+    rw c.blanks_end-rest-in-Token.ensures (record {
       told = λ ts l. subst (λ (v : List Token). LexesFrom c.args.file (length bytes) bytes v) (sym (append_assoc c.scan.tokens (t ∷ []) ts) ∙ ap (λ (v : List Token). v ++ ts) (sym c.in_ok-push-in-Token.ensures.ok))
-          (c.scan.invariant.told (t ∷ ts) (lexes_token rest k after token c.args.file (length bytes) t ts refl refl l));
-      reached = λ x r. c.scan.invariant.reached x (reached_token rest k after token x r);
-      short = omega (arith, token_eats rest k after token, c.scan.invariant.short);
-    }
+          (c.scan.invariant.told (t ∷ ts) (lexes_token rest k after token c.args.file (length bytes) t ts refl refl (lexes_gap after last (blanks_gap after) c.args.file (length bytes) ts l)));
+      reached = λ x r. c.scan.invariant.reached x (reached_token rest k after token x (reached_gap after last (blanks_gap after) x r));
+      short = omega (arith, token_eats rest k after token, c.scan.invariant.short, after_run_le blanks after);
+    })
 
 pub returns-in-Bad : goal.returns-in-Bad
 returns-in-Bad c = record {

@@ -1,4 +1,4 @@
-use Rattle.std.proofs.Common.{◌≡◌, ℕ, List, ◌++◌, ◌≤◌, length}
+use Rattle.std.proofs.Common.{ℕ, List, ◌++◌, ◌≤◌, length}
 use Rattle.cam_base.specs.declared.token.Token.{Token}
 use Rattle.adl_lexer.specs.Lexes.{LexesFrom, Reached}
 use Rattle.adl_lexer.proofs.lexer.lex.Given as goal

@@ -1,0 +1,9 @@
+use Rattle.std.proofs.Common.{◌≡◌, length}
+use Rattle.adl_lexer.specs.Classes.{after_run, blanks}
+use Rattle.adl_lexer.proofs.run.blanks_end.Given as goal
+
+abbrev pub invariant-run : goal.invariant-run
+invariant-run l = after_run blanks l.rest ≡ after_run blanks l.bytes
+
+abbrev pub decreases-run : goal.decreases-run
+decreases-run l = length l.rest
