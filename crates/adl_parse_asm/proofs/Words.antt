@@ -56,6 +56,10 @@ word_or_sign kind text h = elim (eqb_tells (word_code text) (kind_code kind []))
   | inr t ↦ t.0
 ]
 
+-- codes of kinds that aren't one are different
+pub other_code : (a b : Kind) (s t : List ℕ) → (without_value a ≡ without_value b → ⊥) → (kind_code a s == kind_code b t) ≡ false
+other_code a b s t n = elim (eqb_tells (kind_code a s) (kind_code b t)) [ inl e ↦ absurd (n (same_code a b s t e.1)) | inr e ↦ e.0 ]
+
 no_word_code : (kind : Kind) (text word : List ℕ) → is_word kind ≡ false → (kind_code kind text == word_code word) ≡ false
 no_word_code kind text word h = elim (eqb_tells (kind_code kind text) (word_code word)) [
   | inl t ↦ absurd (no_word kind h (same_code kinds.Word kind word text (sym t.1)))

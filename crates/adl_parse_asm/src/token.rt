@@ -9,7 +9,7 @@ ghost use Rattle.grammar.specs.Form.{among, maybe};
 ghost use Rattle.grammar.specs.Gives.{Gives};
 ghost use Rattle.grammar.specs.Reading.{starts, one};
 ghost use Rattle.cam_base.specs.declared.token.Mark.TheVariants as marks;
-ghost use Rattle.std.specs.Prelude.{◌≡◌, ◌==◌, ◌∷◌, [], IfOk};
+ghost use Rattle.std.specs.Prelude.{◌≡◌, ◌==◌, ◌∷◌, [], ℕ, List as Seq, IfOk};
 
 use adl_ast::{Id, Seen};
 use cam_base::{Keyword, Kind, Mark, Name, NoMemory, Place, Text, Token, is_name};
@@ -31,58 +31,14 @@ pub fn text_at(bytes: &[u8], place: Place) -> &[u8]
 fn key_code(key: Keyword) -> u8
     ensures { result ≡ key_code key }
 {
-    match key {
-        Keyword::KAssembly => 19,
-        Keyword::KAttribute => 20,
-        Keyword::KBinarySemaphore => 21,
-        Keyword::KComponent => 22,
-        Keyword::KComposition => 23,
-        Keyword::KConfiguration => 24,
-        Keyword::KConnection => 25,
-        Keyword::KConsumes => 26,
-        Keyword::KControl => 27,
-        Keyword::KDataport => 28,
-        Keyword::KEmits => 29,
-        Keyword::KExport => 30,
-        Keyword::KFrom => 31,
-        Keyword::KGroup => 32,
-        Keyword::KHardware => 33,
-        Keyword::KHas => 34,
-        Keyword::KImport => 35,
-        Keyword::KIn => 36,
-        Keyword::KInclude => 37,
-        Keyword::KInout => 38,
-        Keyword::KMaybe => 39,
-        Keyword::KMutex => 40,
-        Keyword::KOut => 41,
-        Keyword::KProcedure => 42,
-        Keyword::KProvides => 43,
-        Keyword::KRefin => 44,
-        Keyword::KSemaphore => 45,
-        Keyword::KTo => 46,
-        Keyword::KUses => 47,
-    }
+    key as u8 + 19
 }
 
 #[inline(always)]
 fn mark_code(mark: Mark) -> u8
     ensures { result ≡ mark_code mark }
 {
-    match mark {
-        Mark::BraceL => 6,
-        Mark::BraceR => 7,
-        Mark::ParenL => 8,
-        Mark::ParenR => 9,
-        Mark::SquareL => 10,
-        Mark::SquareR => 11,
-        Mark::Semi => 12,
-        Mark::Comma => 13,
-        Mark::Dot => 14,
-        Mark::Equals => 15,
-        Mark::Colon => 16,
-        Mark::Arrow => 17,
-        Mark::Back => 18,
-    }
+    mark as u8 + 6
 }
 
 #[tactic(auto, using(crate::proofs::Words::of_four, crate::proofs::Words::of_three, crate::proofs::Words::of_another))]
@@ -124,6 +80,7 @@ fn kind_code(kind: Kind, text: &[u8]) -> u8
     }
 }
 
+#[inline(always)]
 fn is_word(kind: Kind) -> bool
     ensures { result ≡ is_word kind }
 {
@@ -133,10 +90,33 @@ fn is_word(kind: Kind) -> bool
     }
 }
 
+/// Whether a token of this kind is a mark.
+#[tactic(auto, using(crate::proofs::Words::other_code))]
+#[inline(always)]
+fn is_mark(kind: Kind, mark: Mark) -> bool
+    ensures { (text : Seq ℕ) → result ≡ (kind_code kind text == mark_code mark) }
+{
+    match kind {
+        Kind::Mark(own) => mark_code(own) == mark_code(mark),
+        Kind::Word | Kind::Key(_) | Kind::Number(_) | Kind::Text | Kind::Angle => false,
+    }
+}
+
+/// Whether a token of this kind is a keyword.
+#[tactic(auto, using(crate::proofs::Words::other_code))]
+#[inline(always)]
+fn is_key(kind: Kind, key: Keyword) -> bool
+    ensures { (text : Seq ℕ) → result ≡ (kind_code kind text == key_code key) }
+{
+    match kind {
+        Kind::Key(own) => key_code(own) == key_code(key),
+        Kind::Word | Kind::Number(_) | Kind::Text | Kind::Angle | Kind::Mark(_) => false,
+    }
+}
+
 /// Whether a token is of this kind; for words, a plain word. Only of words the bytes are looked at.
 #[tactic(auto, using(crate::proofs::Words::of_sign, crate::proofs::Words::of_word, crate::proofs::Words::word_or_sign))]
-#[inline(always)]
-fn is_of(bytes: &[u8], token: Token, kind: Kind) -> bool
+fn is_other(bytes: &[u8], token: Token, kind: Kind) -> bool
     ensures { result ≡ (token_code (seen_at bytes.now token) == kind_code kind []) }
 {
     if !is_word(token.kind) {
@@ -145,6 +125,18 @@ fn is_of(bytes: &[u8], token: Token, kind: Kind) -> bool
         word_code(text_at(bytes, token.place)) == 0
     } else {
         false
+    }
+}
+
+/// Whether a token is of this kind; for words, a plain word. Of marks and keywords the kind alone is looked at.
+#[inline(always)]
+fn is_of(bytes: &[u8], token: Token, kind: Kind) -> bool
+    ensures { result ≡ (token_code (seen_at bytes.now token) == kind_code kind []) }
+{
+    match kind {
+        Kind::Mark(mark) => is_mark(token.kind, mark),
+        Kind::Key(key) => is_key(token.kind, key),
+        Kind::Word | Kind::Number(_) | Kind::Text | Kind::Angle => is_other(bytes, token, kind),
     }
 }
 
