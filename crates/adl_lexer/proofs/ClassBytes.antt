@@ -2,7 +2,7 @@
 use Rattle.std.proofs.Common.{arith, ◌≤◌, ◌≡◌, ℕ, Bool, true, false, cond, List, [], ◌∷◌, refl, sym, ap, ◌∙◌, inl, inr}
 use Rattle.std.specs.Prelude.{◌==◌, ◌&&◌, ◌||◌, not, leb}
 use Rattle.std.specs.List.{list_all}
-use Rattle.std.proofs.lemmas.Bool.{eqb-true, leb-true, le-leb, and_parts, not-true, or_right, or_cases, or_from, cases_Bool}
+use Rattle.std.proofs.lemmas.Bool.{eqb-true, leb-true, le-leb, and_parts, not-true, or_right, or_cases, cases_Bool}
 use Rattle.std.proofs.lemmas.Bool.Decides.{Decides-eqb}
 use Rattle.cam_base.specs.Names.{is_letter, is_word_byte}
 use Rattle.cam_base.specs.Numbers.{is_digit, is_hex_digit}
@@ -89,36 +89,4 @@ pub letter_of : (b : ℕ) → among letters (class_of b) ≡ true → is_letter 
 letter_of b h = elim (cases_Bool (is_digit b)) [
   | inl d ↦ true_is_not_false (among letters (class_of b)) h (digit_no_letter b d)
   | inr d ↦ elim (cases_Bool (is_letter b)) [ inl n ↦ n | inr n ↦ true_is_not_false (among word_bytes (class_of b)) (among-left letters digits (class_of b) h) (no_word_class b d n) ]
-]
-
--- a letter has a class of a word's
-letter_class : (b : ℕ) → is_digit b ≡ false → is_letter b ≡ true → among word_bytes (class_of b) ≡ true
-unfolding class_of
-letter_class b d n =
-    let own : ℕ = cond (b == 120 || b == 88) 2 0 in
-    let third : ℕ = cond (is_letter b) own (sign_class b) in
-    let first : class_of b ≡ cond (is_hex_digit b) 1 third = if_false (is_digit b) (cond (b == 48) 3 4) (cond (is_hex_digit b) 1 third) d in
-    elim (cases_Bool (is_hex_digit b)) [
-      | inl h ↦ ap (among word_bytes) (first ∙ if_true (is_hex_digit b) 1 third h)
-      | inr h ↦ ap (among word_bytes) (first ∙ if_false (is_hex_digit b) 1 third h ∙ if_true (is_letter b) own (sign_class b) n) ∙ if_has (among word_bytes) (b == 120 || b == 88) 2 0 refl refl
-    ]
-
-digit_class : (b : ℕ) → is_digit b ≡ true → among word_bytes (class_of b) ≡ true
-unfolding class_of
-digit_class b d =
-    ap (among word_bytes) (if_true (is_digit b) (cond (b == 48) 3 4) (cond (is_hex_digit b) 1 (cond (is_letter b) (cond (b == 120 || b == 88) 2 0) (sign_class b))) d)
-    ∙ if_has (among word_bytes) (b == 48) 3 4 refl refl
-
-or_left : (a b : Bool) → a ≡ true → (a || b) ≡ true
-or_left true b h = refl
-or_left false b h = absurd cc
-
--- the bytes of words are the letters, the digits and the underscore
-pub word_byte_is : (b : ℕ) → among word_bytes (class_of b) ≡ is_word_byte b
-word_byte_is b = elim (cases_Bool (is_digit b)) [
-  | inl d ↦ digit_class b d ∙ sym (or_right (is_letter b) (is_digit b) d)
-  | inr d ↦ elim (cases_Bool (is_letter b)) [
-    | inl n ↦ letter_class b d n ∙ sym (or_left (is_letter b) (is_digit b) n)
-    | inr n ↦ no_word_class b d n ∙ sym (or_from (is_letter b) (is_digit b) n d)
-  ]
 ]

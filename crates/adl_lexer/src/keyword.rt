@@ -3,6 +3,7 @@
 ghost use Rattle.adl_lexer.specs.Candidates.{by_front, by_late_front, by_middle_front, candidate, on_c, on_i};
 ghost use Rattle.adl_lexer.specs.Keywords.{all_keywords, keyword_of, named_by, spelling};
 ghost use Rattle.std.specs.Prelude.{◌≡◌, ℕ, List as Seq};
+ghost use Rattle.std.specs.Str.{bytes_eq};
 
 use cam_base::Keyword;
 
@@ -76,11 +77,29 @@ pub(crate) fn keyword_of(word: &[u8]) -> Option<Keyword>
     ensures { result ≡ keyword_of word.now }
 {
     let keyword = candidate(word)?;
-    if spelling(keyword) == word {
+    if is_same(spelling(keyword), word) {
         Some(keyword)
     } else {
         None
     }
+}
+
+/// Whether two words are one: for words as short as keywords a plain loop is quickest.
+fn is_same(left: &[u8], right: &[u8]) -> bool
+    ensures { result ≡ bytes_eq left.now right.now }
+{
+    let mut rest = left;
+    let mut other = right;
+    'same: while let [byte, behind @ ..] = rest {
+        match other {
+            [first, after @ ..] if byte == first => {
+                rest = behind;
+                other = after;
+            }
+            _ => return false,
+        }
+    }
+    other.is_empty()
 }
 
 /// The one keyword that a word can be.
