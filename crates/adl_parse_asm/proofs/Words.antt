@@ -1,8 +1,7 @@
--- The code of a word, by its length; and the codes of words apart from those of other tokens.
-use Rattle.std.proofs.Common.{◌≡◌, ℕ, Bool, true, false, cond, List, [], ◌∷◌, length, refl, sym, ap, ◌∙◌, inl, inr, arith}
+-- The codes of words apart from those of other tokens.
+use Rattle.std.proofs.Common.{◌≡◌, ℕ, Bool, true, false, cond, List, [], ◌∷◌, refl, sym, ap, ◌∙◌, inl, inr}
 use Rattle.std.specs.Prelude.{codes}
 use Rattle.std.specs.Str.{bytes_eq}
-use Rattle.cam_base.proofs.Bytes.{other_length}
 use Rattle.cam_base.specs.declared.token.Kind.{Kind}
 use Rattle.cam_base.specs.declared.token.Kind.TheVariants as kinds
 use Rattle.std.proofs.lemmas.Bool.{cases_Bool}
@@ -10,21 +9,10 @@ use Rattle.std.proofs.lemmas.Bool.Decides.{eqb_tells}
 use Rattle.std.specs.Prelude.{◌==◌}
 use Rattle.adl_ast.specs.Codes.{kind_code, without_value, word_code, word_codes}
 use Rattle.adl_ast.proofs.OneKind.{same_code}
-use Rattle.adl_parse_asm.specs.Words.{codes_of, if_buf, if_void, is_word}
+use Rattle.adl_parse_asm.specs.Words.{codes_of, is_word}
 use Rattle.adl_parse_asm.specs.declared.token.WordKind.{WordKind}
 use Rattle.adl_parse_asm.specs.declared.token.WordKind.TheVariants.{Void, NotVoid, Buf, NotBuf}
 use Rattle.grammar.specs.Form.{among}
-
-pub of_four : (text : List ℕ) → length text ≡ 4 → word_code text ≡ if_void text
-of_four text h = ap (λ (b : Bool). cond (bytes_eq text (codes "void")) 1 (cond b 2 0)) (other_length text (codes "Buf") (λ e. absurd (omega (arith, h, e))))
-
-pub of_three : (text : List ℕ) → length text ≡ 3 → word_code text ≡ if_buf text
-of_three text h = ap (λ (b : Bool). cond b 1 (cond (bytes_eq text (codes "Buf")) 2 0)) (other_length text (codes "void") (λ e. absurd (omega (arith, h, e))))
-
-pub of_another : (text : List ℕ) → (length text ≡ 4 → ⊥) → (length text ≡ 3 → ⊥) → word_code text ≡ 0
-of_another text four three =
-    ap (λ (b : Bool). cond b 1 (cond (bytes_eq text (codes "Buf")) 2 0)) (other_length text (codes "void") (λ e. four e))
-    ∙ ap (λ (b : Bool). cond b 2 0) (other_length text (codes "Buf") (λ e. three e))
 
 pub of_sign : (kind : Kind) (text : List ℕ) → is_word kind ≡ false → kind_code kind text ≡ kind_code kind []
 of_sign kinds.Word text h = absurd cc

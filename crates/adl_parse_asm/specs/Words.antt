@@ -1,9 +1,8 @@
 -- The codes of words by whether they are one of the two with a meaning of their own: of calls of readers alone.
-use Rattle.std.specs.Prelude.{ℕ, Bool, true, false, if◌then◌else◌, List, [], ◌∷◌, codes}
-use Rattle.std.specs.Str.{bytes_eq}
+use Rattle.std.specs.Prelude.{ℕ, Bool, true, false, List, [], ◌∷◌}
 use Rattle.cam_base.specs.declared.token.Kind.{Kind}
 use Rattle.cam_base.specs.declared.token.Kind.TheVariants as kinds
-use Rattle.adl_ast.specs.Codes.{plain_code, void_code, buf_code, not_void_codes, not_buf_codes}
+use Rattle.adl_ast.specs.Codes.{void_code, buf_code, not_void_codes, not_buf_codes}
 use Rattle.adl_parse_asm.specs.declared.token.WordKind.{WordKind}
 use Rattle.adl_parse_asm.specs.declared.token.WordKind.TheVariants.{Void, NotVoid, Buf, NotBuf}
 
@@ -12,14 +11,6 @@ codes_of Void = void_code ∷ []
 codes_of NotVoid = not_void_codes
 codes_of Buf = buf_code ∷ []
 codes_of NotBuf = not_buf_codes
-
--- the code of a word as long as void
-abbrev pub if_void : List ℕ → ℕ
-if_void text = if bytes_eq text (codes "void") then void_code else plain_code
-
--- the code of a word as long as Buf
-abbrev pub if_buf : List ℕ → ℕ
-if_buf text = if bytes_eq text (codes "Buf") then buf_code else plain_code
 
 -- whether a token of this kind is a word that isn't a key word
 abbrev pub is_word : Kind → Bool

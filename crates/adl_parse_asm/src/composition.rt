@@ -83,19 +83,6 @@ fn role<'a>(bytes: &[u8], tokens: &'a [Token]) -> Result<(Role, &'a [Token]), Re
     Ok((Role::To, rest))
 }
 
-#[tactic(auto, unfolding(adl_ast::specs::Forms::end_line))]
-fn end<'a>(
-    alloc: Global,
-    bytes: &[u8],
-    tokens: &'a [Token],
-) -> Result<(End, &'a [Token]), ReadError>
-    ensures { Gives (λ x. (x.0, see bytes.now x.1.now)) result (reads end_line (see bytes.now tokens.now)) }
-{
-    let (role, rest) = role(bytes, tokens)?;
-    let ((words, place), rest) = dotted(alloc, bytes, rest)?;
-    Ok((End { role, words, place }, rest))
-}
-
 struct Ends;
 
 impl Repeated<Adl> for Ends {
@@ -112,12 +99,15 @@ impl Repeated<Adl> for Ends {
             || next_is(bytes, tokens, Kind::Key(Keyword::KTo))
     }
 
+    #[tactic(auto, unfolding(adl_ast::specs::Forms::end_line))]
     fn read<'a>(
         alloc: Global,
         bytes: &[u8],
         tokens: &'a [Token],
     ) -> Result<(End, &'a [Token]), ReadError> {
-        end(alloc, bytes, tokens)
+        let (role, rest) = role(bytes, tokens)?;
+        let ((words, place), rest) = dotted(alloc, bytes, rest)?;
+        Ok((End { role, words, place }, rest))
     }
 }
 
@@ -169,29 +159,6 @@ fn export<'a>(
     ))
 }
 
-#[tactic(auto, unfolding(adl_ast::specs::Forms::composition_member_line))]
-fn line<'a>(
-    alloc: Global,
-    bytes: &[u8],
-    tokens: &'a [Token],
-) -> Result<(Line, &'a [Token]), ReadError>
-    ensures { Gives (λ x. (x.0, see bytes.now x.1.now)) result (reads composition_member_line (see bytes.now tokens.now)) }
-{
-    if next_is(bytes, tokens, Kind::Key(Keyword::KComponent)) {
-        let (instance, rest) = instance(alloc, bytes, tokens)?;
-        Ok((Line::Instance(instance), rest))
-    } else if next_is(bytes, tokens, Kind::Key(Keyword::KGroup)) {
-        let (group, rest) = group(alloc, bytes, tokens)?;
-        Ok((Line::Group(group), rest))
-    } else if next_is(bytes, tokens, Kind::Key(Keyword::KConnection)) {
-        let (connection, rest) = connection(alloc, bytes, tokens)?;
-        Ok((Line::Connection(connection), rest))
-    } else {
-        let (export, rest) = export(alloc, bytes, tokens)?;
-        Ok((Line::Export(export), rest))
-    }
-}
-
 struct Lines;
 
 impl Repeated<Adl> for Lines {
@@ -210,12 +177,25 @@ impl Repeated<Adl> for Lines {
             || next_is(bytes, tokens, Kind::Key(Keyword::KExport))
     }
 
+    #[tactic(auto, unfolding(adl_ast::specs::Forms::composition_member_line))]
     fn read<'a>(
         alloc: Global,
         bytes: &[u8],
         tokens: &'a [Token],
     ) -> Result<(Line, &'a [Token]), ReadError> {
-        line(alloc, bytes, tokens)
+        if next_is(bytes, tokens, Kind::Key(Keyword::KComponent)) {
+            let (instance, rest) = instance(alloc, bytes, tokens)?;
+            Ok((Line::Instance(instance), rest))
+        } else if next_is(bytes, tokens, Kind::Key(Keyword::KGroup)) {
+            let (group, rest) = group(alloc, bytes, tokens)?;
+            Ok((Line::Group(group), rest))
+        } else if next_is(bytes, tokens, Kind::Key(Keyword::KConnection)) {
+            let (connection, rest) = connection(alloc, bytes, tokens)?;
+            Ok((Line::Connection(connection), rest))
+        } else {
+            let (export, rest) = export(alloc, bytes, tokens)?;
+            Ok((Line::Export(export), rest))
+        }
     }
 }
 

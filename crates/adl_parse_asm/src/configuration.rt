@@ -36,27 +36,6 @@ fn setter<'a>(
     }
 }
 
-#[tactic(auto, unfolding(adl_ast::specs::Forms::setting_line))]
-fn setting<'a>(
-    alloc: Global,
-    bytes: &[u8],
-    tokens: &'a [Token],
-) -> Result<(Setting, &'a [Token]), ReadError>
-    ensures { Gives (λ x. (x.0, see bytes.now x.1.now)) result (reads setting_line (see bytes.now tokens.now)) }
-{
-    let ((words, place), rest) = path(alloc, bytes, tokens)?;
-    let (setter, rest) = setter(alloc, bytes, rest)?;
-    let (_end, rest) = take(bytes, rest, Kind::Mark(Mark::Semi))?;
-    Ok((
-        Setting {
-            words,
-            setter,
-            place,
-        },
-        rest,
-    ))
-}
-
 struct Settings;
 
 impl Repeated<Adl> for Settings {
@@ -72,12 +51,23 @@ impl Repeated<Adl> for Settings {
         next_is_word(bytes, tokens)
     }
 
+    #[tactic(auto, unfolding(adl_ast::specs::Forms::setting_line))]
     fn read<'a>(
         alloc: Global,
         bytes: &[u8],
         tokens: &'a [Token],
     ) -> Result<(Setting, &'a [Token]), ReadError> {
-        setting(alloc, bytes, tokens)
+        let ((words, place), rest) = path(alloc, bytes, tokens)?;
+        let (setter, rest) = setter(alloc, bytes, rest)?;
+        let (_end, rest) = take(bytes, rest, Kind::Mark(Mark::Semi))?;
+        Ok((
+            Setting {
+                words,
+                setter,
+                place,
+            },
+            rest,
+        ))
     }
 }
 

@@ -1,12 +1,9 @@
 //! The parts of a file, from a position in its tokens on.
 
 ghost use Rattle.adl_ast.specs.Forms.{value_line, composition_line, configuration_line, assembly_line};
-ghost use Rattle.adl_ast.specs.Seeing.{see};
-ghost use Rattle.adl_ast.specs.Spelling.{reads};
 ghost use Rattle.adl_parse_asm.specs.Faults.{file_of, place_at, code_of, name_of, fault_of, IsRefusalOf};
 ghost use Rattle.adl_parse_asm.specs.Parts.{IsPartAt};
-ghost use Rattle.grammar.specs.Gives.{Gives};
-ghost use Rattle.std.specs.Prelude.{◌≡◌, ◌≤◌, IfOk, length, drop};
+ghost use Rattle.std.specs.Prelude.{◌≡◌, ◌≤◌, IfOk, length};
 
 use crate::assembly::read_assembly;
 use crate::composition::read_composition;
@@ -87,20 +84,6 @@ pub fn refusal_of(alloc: Global, bytes: &[u8], tokens: &[Token], error: ReadErro
     }
 }
 
-#[tactic(auto, using(crate::proofs::Seen::see_drop))]
-fn value_from<'a>(
-    alloc: Global,
-    bytes: &[u8],
-    tokens: &'a [Token],
-    at: usize,
-) -> Result<(Value, &'a [Token]), ReadError>
-    requires { at ≤ length tokens.now }
-    ensures { Gives (λ x. (x.0, see bytes.now x.1.now)) result (reads value_line (drop at (see bytes.now tokens.now))) }
-{
-    let (_before, rest) = tokens.split_at(at);
-    read_value(alloc, bytes, rest)
-}
-
 /// The value that the tokens from a position on spell, and the position behind it.
 pub fn parse_value(
     alloc: Global,
@@ -113,24 +96,11 @@ pub fn parse_value(
     ensures end { IfOk result (λ x. x.1 ≤ length tokens.now.list) }
 {
     let tokens = tokens.list.as_slice();
-    match value_from(alloc, bytes, tokens, at) {
+    let (_before, rest) = tokens.split_at(at);
+    match read_value(alloc, bytes, rest) {
         Ok((value, rest)) => Ok((value, tokens.len() - rest.len())),
         Err(error) => Err(refusal_of(alloc, bytes, tokens, error)),
     }
-}
-
-#[tactic(auto, using(crate::proofs::Seen::see_drop))]
-fn composition_from<'a>(
-    alloc: Global,
-    bytes: &[u8],
-    tokens: &'a [Token],
-    at: usize,
-) -> Result<(Composition, &'a [Token]), ReadError>
-    requires { at ≤ length tokens.now }
-    ensures { Gives (λ x. (x.0, see bytes.now x.1.now)) result (reads composition_line (drop at (see bytes.now tokens.now))) }
-{
-    let (_before, rest) = tokens.split_at(at);
-    read_composition(alloc, bytes, rest)
 }
 
 /// The composition that the tokens from a position on spell, and the position behind it.
@@ -145,24 +115,11 @@ pub fn parse_composition(
     ensures end { IfOk result (λ x. x.1 ≤ length tokens.now.list) }
 {
     let tokens = tokens.list.as_slice();
-    match composition_from(alloc, bytes, tokens, at) {
+    let (_before, rest) = tokens.split_at(at);
+    match read_composition(alloc, bytes, rest) {
         Ok((composition, rest)) => Ok((composition, tokens.len() - rest.len())),
         Err(error) => Err(refusal_of(alloc, bytes, tokens, error)),
     }
-}
-
-#[tactic(auto, using(crate::proofs::Seen::see_drop))]
-fn configuration_from<'a>(
-    alloc: Global,
-    bytes: &[u8],
-    tokens: &'a [Token],
-    at: usize,
-) -> Result<(Configuration, &'a [Token]), ReadError>
-    requires { at ≤ length tokens.now }
-    ensures { Gives (λ x. (x.0, see bytes.now x.1.now)) result (reads configuration_line (drop at (see bytes.now tokens.now))) }
-{
-    let (_before, rest) = tokens.split_at(at);
-    read_configuration(alloc, bytes, rest)
 }
 
 /// The configuration that the tokens from a position on spell, and the position behind it.
@@ -177,24 +134,11 @@ pub fn parse_configuration(
     ensures end { IfOk result (λ x. x.1 ≤ length tokens.now.list) }
 {
     let tokens = tokens.list.as_slice();
-    match configuration_from(alloc, bytes, tokens, at) {
+    let (_before, rest) = tokens.split_at(at);
+    match read_configuration(alloc, bytes, rest) {
         Ok((configuration, rest)) => Ok((configuration, tokens.len() - rest.len())),
         Err(error) => Err(refusal_of(alloc, bytes, tokens, error)),
     }
-}
-
-#[tactic(auto, using(crate::proofs::Seen::see_drop))]
-fn assembly_from<'a>(
-    alloc: Global,
-    bytes: &[u8],
-    tokens: &'a [Token],
-    at: usize,
-) -> Result<(Assembly, &'a [Token]), ReadError>
-    requires { at ≤ length tokens.now }
-    ensures { Gives (λ x. (x.0, see bytes.now x.1.now)) result (reads assembly_line (drop at (see bytes.now tokens.now))) }
-{
-    let (_before, rest) = tokens.split_at(at);
-    read_assembly(alloc, bytes, rest)
 }
 
 /// The assembly that the tokens from a position on spell, and the position behind it.
@@ -209,7 +153,8 @@ pub fn parse_assembly(
     ensures end { IfOk result (λ x. x.1 ≤ length tokens.now.list) }
 {
     let tokens = tokens.list.as_slice();
-    match assembly_from(alloc, bytes, tokens, at) {
+    let (_before, rest) = tokens.split_at(at);
+    match read_assembly(alloc, bytes, rest) {
         Ok((assembly, rest)) => Ok((assembly, tokens.len() - rest.len())),
         Err(error) => Err(refusal_of(alloc, bytes, tokens, error)),
     }

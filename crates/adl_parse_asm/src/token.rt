@@ -4,7 +4,7 @@ ghost use Rattle.adl_ast.specs.Codes.{kind_code, token_code, word_code, word_cod
 ghost use Rattle.adl_ast.specs.Forms.{word};
 ghost use Rattle.adl_ast.specs.Seeing.{see, seen_at, text_at, id_of, named, number_of, inner, span};
 ghost use Rattle.adl_ast.specs.Spelling.{reads};
-ghost use Rattle.adl_parse_asm.specs.Words.{codes_of, if_buf, if_void, is_word};
+ghost use Rattle.adl_parse_asm.specs.Words.{codes_of, is_word};
 ghost use Rattle.grammar.specs.Form.{among, maybe};
 ghost use Rattle.grammar.specs.Gives.{Gives};
 ghost use Rattle.grammar.specs.Reading.{starts, one};
@@ -41,29 +41,16 @@ fn mark_code(mark: Mark) -> u8
     mark as u8 + 6
 }
 
-#[tactic(auto, using(crate::proofs::Words::of_four, crate::proofs::Words::of_three, crate::proofs::Words::of_another))]
 fn word_code(text: &[u8]) -> u8
     ensures { result ≡ word_code text.now }
 {
-    if text.len() == 4 {
-        void_code(text)
-    } else if text.len() == 3 {
-        buf_code(text)
+    if text == b"void".as_slice() {
+        1
+    } else if text == b"Buf".as_slice() {
+        2
     } else {
         0
     }
-}
-
-fn void_code(text: &[u8]) -> u8
-    ensures { result ≡ if_void text.now }
-{
-    if text == b"void".as_slice() { 1 } else { 0 }
-}
-
-fn buf_code(text: &[u8]) -> u8
-    ensures { result ≡ if_buf text.now }
-{
-    if text == b"Buf".as_slice() { 2 } else { 0 }
 }
 
 #[inline(always)]
