@@ -274,41 +274,6 @@ fn starts_interface(bytes: &[u8], tokens: &[Token]) -> bool
         || next_is(bytes, tokens, Kind::Key(Keyword::KDataport))
 }
 
-#[tactic(auto, unfolding(adl_ast::specs::Forms::member_line))]
-fn member<'a>(
-    alloc: Global,
-    bytes: &[u8],
-    tokens: &'a [Token],
-) -> Result<(Member, &'a [Token]), ReadError>
-    ensures { Gives (λ x. (x.0, see bytes.now x.1.now)) result (reads member_line (see bytes.now tokens.now)) }
-{
-    if next_is(bytes, tokens, Kind::Key(Keyword::KControl)) {
-        let (place, rest) = flag(bytes, tokens, Keyword::KControl)?;
-        Ok((Member::Control(place), rest))
-    } else if next_is(bytes, tokens, Kind::Key(Keyword::KHardware)) {
-        let (place, rest) = flag(bytes, tokens, Keyword::KHardware)?;
-        Ok((Member::Hardware(place), rest))
-    } else if next_is(bytes, tokens, Kind::Key(Keyword::KInclude)) {
-        let (include, rest) = read_import(alloc, bytes, tokens, Keyword::KInclude)?;
-        Ok((Member::Include(include), rest))
-    } else if starts_interface(bytes, tokens) {
-        let (interface, rest) = interface(alloc, bytes, tokens)?;
-        Ok((Member::Interface(interface), rest))
-    } else if next_is(bytes, tokens, Kind::Key(Keyword::KAttribute)) {
-        let (attribute, rest) = attribute(alloc, bytes, tokens)?;
-        Ok((Member::Attribute(attribute), rest))
-    } else if next_is(bytes, tokens, Kind::Key(Keyword::KHas)) {
-        let (lock, rest) = lock(alloc, bytes, tokens)?;
-        Ok((Member::Lock(lock), rest))
-    } else if next_is(bytes, tokens, Kind::Key(Keyword::KComposition)) {
-        let (composition, rest) = read_composition(alloc, bytes, tokens)?;
-        Ok((Member::Composition(composition), rest))
-    } else {
-        let (configuration, rest) = read_configuration(alloc, bytes, tokens)?;
-        Ok((Member::Configuration(configuration), rest))
-    }
-}
-
 fn starts_flag(bytes: &[u8], tokens: &[Token]) -> bool
     ensures { result ≡ starts token_code flag_codes (see bytes.now tokens.now) }
 {
@@ -347,12 +312,37 @@ impl Repeated<Adl> for Members {
         starts_member(bytes, tokens)
     }
 
+    #[tactic(auto, unfolding(adl_ast::specs::Forms::member_line))]
     fn read<'a>(
         alloc: Global,
         bytes: &[u8],
         tokens: &'a [Token],
     ) -> Result<(Member, &'a [Token]), ReadError> {
-        member(alloc, bytes, tokens)
+        if next_is(bytes, tokens, Kind::Key(Keyword::KControl)) {
+            let (place, rest) = flag(bytes, tokens, Keyword::KControl)?;
+            Ok((Member::Control(place), rest))
+        } else if next_is(bytes, tokens, Kind::Key(Keyword::KHardware)) {
+            let (place, rest) = flag(bytes, tokens, Keyword::KHardware)?;
+            Ok((Member::Hardware(place), rest))
+        } else if next_is(bytes, tokens, Kind::Key(Keyword::KInclude)) {
+            let (include, rest) = read_import(alloc, bytes, tokens, Keyword::KInclude)?;
+            Ok((Member::Include(include), rest))
+        } else if starts_interface(bytes, tokens) {
+            let (interface, rest) = interface(alloc, bytes, tokens)?;
+            Ok((Member::Interface(interface), rest))
+        } else if next_is(bytes, tokens, Kind::Key(Keyword::KAttribute)) {
+            let (attribute, rest) = attribute(alloc, bytes, tokens)?;
+            Ok((Member::Attribute(attribute), rest))
+        } else if next_is(bytes, tokens, Kind::Key(Keyword::KHas)) {
+            let (lock, rest) = lock(alloc, bytes, tokens)?;
+            Ok((Member::Lock(lock), rest))
+        } else if next_is(bytes, tokens, Kind::Key(Keyword::KComposition)) {
+            let (composition, rest) = read_composition(alloc, bytes, tokens)?;
+            Ok((Member::Composition(composition), rest))
+        } else {
+            let (configuration, rest) = read_configuration(alloc, bytes, tokens)?;
+            Ok((Member::Configuration(configuration), rest))
+        }
     }
 }
 

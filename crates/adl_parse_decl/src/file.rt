@@ -42,24 +42,6 @@ fn item<'a>(
     }
 }
 
-#[tactic(auto, unfolding(adl_ast::specs::Forms::ended_line))]
-fn ended<'a>(
-    alloc: Global,
-    bytes: &[u8],
-    tokens: &'a [Token],
-) -> Result<(Ended, &'a [Token]), ReadError>
-    ensures { Gives (λ x. (x.0, see bytes.now x.1.now)) result (reads ended_line (see bytes.now tokens.now)) }
-{
-    let (item, rest) = item(alloc, bytes, tokens)?;
-    if !next_is(bytes, rest, Kind::Mark(Mark::Semi)) {
-        let semicolon = false;
-        return Ok((Ended { item, semicolon }, rest));
-    }
-    let (_end, rest) = take(bytes, rest, Kind::Mark(Mark::Semi))?;
-    let semicolon = true;
-    Ok((Ended { item, semicolon }, rest))
-}
-
 struct Items;
 
 impl Repeated<Adl> for Items {
@@ -78,12 +60,20 @@ impl Repeated<Adl> for Items {
             || next_is(bytes, tokens, Kind::Key(Keyword::KAssembly))
     }
 
+    #[tactic(auto, unfolding(adl_ast::specs::Forms::ended_line))]
     fn read<'a>(
         alloc: Global,
         bytes: &[u8],
         tokens: &'a [Token],
     ) -> Result<(Ended, &'a [Token]), ReadError> {
-        ended(alloc, bytes, tokens)
+        let (item, rest) = item(alloc, bytes, tokens)?;
+        if !next_is(bytes, rest, Kind::Mark(Mark::Semi)) {
+            let semicolon = false;
+            return Ok((Ended { item, semicolon }, rest));
+        }
+        let (_end, rest) = take(bytes, rest, Kind::Mark(Mark::Semi))?;
+        let semicolon = true;
+        Ok((Ended { item, semicolon }, rest))
     }
 }
 

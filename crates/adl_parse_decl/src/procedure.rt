@@ -253,23 +253,6 @@ fn method<'a>(
     ))
 }
 
-#[tactic(auto, unfolding(adl_ast::specs::Forms::proc_member_line))]
-fn proc_member<'a>(
-    alloc: Global,
-    bytes: &[u8],
-    tokens: &'a [Token],
-) -> Result<(ProcMember, &'a [Token]), ReadError>
-    ensures { Gives (λ x. (x.0, see bytes.now x.1.now)) result (reads proc_member_line (see bytes.now tokens.now)) }
-{
-    if next_is(bytes, tokens, Kind::Key(Keyword::KInclude)) {
-        let (include, rest) = read_import(alloc, bytes, tokens, Keyword::KInclude)?;
-        Ok((ProcMember::Include(include), rest))
-    } else {
-        let (method, rest) = method(alloc, bytes, tokens)?;
-        Ok((ProcMember::Method(method), rest))
-    }
-}
-
 struct ProcMembers;
 
 impl Repeated<Adl> for ProcMembers {
@@ -285,12 +268,19 @@ impl Repeated<Adl> for ProcMembers {
         next_is(bytes, tokens, Kind::Key(Keyword::KInclude)) || next_is_word(bytes, tokens)
     }
 
+    #[tactic(auto, unfolding(adl_ast::specs::Forms::proc_member_line))]
     fn read<'a>(
         alloc: Global,
         bytes: &[u8],
         tokens: &'a [Token],
     ) -> Result<(ProcMember, &'a [Token]), ReadError> {
-        proc_member(alloc, bytes, tokens)
+        if next_is(bytes, tokens, Kind::Key(Keyword::KInclude)) {
+            let (include, rest) = read_import(alloc, bytes, tokens, Keyword::KInclude)?;
+            Ok((ProcMember::Include(include), rest))
+        } else {
+            let (method, rest) = method(alloc, bytes, tokens)?;
+            Ok((ProcMember::Method(method), rest))
+        }
     }
 }
 

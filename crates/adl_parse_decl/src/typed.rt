@@ -16,6 +16,7 @@ use std::alloc::Global;
 /// The words behind the first: one to three.
 pub type More = (Id, Option<(Id, Option<Id>)>);
 
+#[inline(always)]
 fn last_words<'a>(
     alloc: Global,
     bytes: &[u8],
@@ -33,6 +34,7 @@ fn last_words<'a>(
 }
 
 /// One to three more words.
+#[inline(always)]
 pub fn more_words<'a>(
     alloc: Global,
     bytes: &[u8],
@@ -46,6 +48,7 @@ pub fn more_words<'a>(
 }
 
 /// The words of the type, and the name, which is the last word.
+#[inline(always)]
 pub fn typed_of(alloc: Global, first: Id, more: More) -> Result<(List<Name>, Id), NoMemory>
     ensures { IfOk result (λ x. x ≡ typed_of first more) }
 {
@@ -79,6 +82,7 @@ pub fn typed_name<'a>(
 }
 
 /// Whether `[]` stands here.
+#[inline(always)]
 pub fn brackets<'a>(bytes: &[u8], tokens: &'a [Token]) -> Result<(bool, &'a [Token]), ReadError>
     ensures { Gives (λ x. (x.0, see bytes.now x.1.now)) result (reads brackets (see bytes.now tokens.now)) }
 {
