@@ -2,7 +2,7 @@
 
 ghost use Rattle.adl_lexer.specs.LexFaults.{name_in};
 ghost use Rattle.adl_lexer.specs.Lexes.{IsLexed};
-ghost use Rattle.std.specs.Prelude.{◌≡◌, ◌≤◌, length, IfOk};
+ghost use Rattle.std.specs.Prelude.{◌≡◌, IfOk};
 
 use crate::piece::{Piece, next_piece};
 use crate::run::blanks_end;

@@ -110,33 +110,20 @@ fn sign<'a>(byte: u8, bytes: &'a [u8], rest: &'a [u8]) -> Piece<'a>
     requires cut { bytes.now ≡ byte ∷ rest.now }
     ensures { Fits (reads mark_line bytes.now) (sign_fault bytes.now) None result }
 {
-    let class = class(byte);
-    if class == DOT {
-        mark(Mark::Dot, rest)
-    } else if class == BRACE_L {
-        mark(Mark::BraceL, rest)
-    } else if class == BRACE_R {
-        mark(Mark::BraceR, rest)
-    } else if class == PAREN_L {
-        mark(Mark::ParenL, rest)
-    } else if class == PAREN_R {
-        mark(Mark::ParenR, rest)
-    } else if class == SQUARE_L {
-        mark(Mark::SquareL, rest)
-    } else if class == SQUARE_R {
-        mark(Mark::SquareR, rest)
-    } else if class == SEMI {
-        mark(Mark::Semi, rest)
-    } else if class == COMMA {
-        mark(Mark::Comma, rest)
-    } else if class == EQUALS {
-        mark(Mark::Equals, rest)
-    } else if class == COLON {
-        mark(Mark::Colon, rest)
-    } else if class == LEFT_OUT {
-        Piece::Bad(Code::LeftOut, &bytes[..1])
-    } else {
-        Piece::Bad(Code::Byte, &bytes[..1])
+    match class(byte) {
+        DOT => mark(Mark::Dot, rest),
+        BRACE_L => mark(Mark::BraceL, rest),
+        BRACE_R => mark(Mark::BraceR, rest),
+        PAREN_L => mark(Mark::ParenL, rest),
+        PAREN_R => mark(Mark::ParenR, rest),
+        SQUARE_L => mark(Mark::SquareL, rest),
+        SQUARE_R => mark(Mark::SquareR, rest),
+        SEMI => mark(Mark::Semi, rest),
+        COMMA => mark(Mark::Comma, rest),
+        EQUALS => mark(Mark::Equals, rest),
+        COLON => mark(Mark::Colon, rest),
+        LEFT_OUT => Piece::Bad(Code::LeftOut, &bytes[..1]),
+        _ => Piece::Bad(Code::Byte, &bytes[..1]),
     }
 }
 

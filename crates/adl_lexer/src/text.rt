@@ -30,22 +30,14 @@ fn text_end(bytes: &[u8]) -> Option<&[u8]>
 {
     let mut rest = bytes;
     'text: while let [byte, tail @ ..] = rest {
-        let code = class(*byte);
-        if code == QUOTE {
-            return Some(tail);
-        }
-        if code == LINE_FEED {
-            return None;
-        }
-        rest = tail;
-        if code == BACKSLASH {
-            let [escaped, after @ ..] = tail else {
-                return None;
-            };
-            if class(*escaped) == LINE_FEED {
-                return None;
-            }
-            rest = after;
+        match class(*byte) {
+            QUOTE => return Some(tail),
+            LINE_FEED => return None,
+            BACKSLASH => match tail {
+                [escaped, after @ ..] if class(*escaped) != LINE_FEED => rest = after,
+                _ => return None,
+            },
+            _ => rest = tail,
         }
     }
     None
