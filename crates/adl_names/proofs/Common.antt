@@ -40,13 +40,11 @@ pub use Rattle.adl_meaning.specs.SecondAssembly.{second_assemblies, second_of}
 pub use Rattle.adl_meaning.specs.Unknown.{is_procedure, unknown_attribute, unknown_if_configured, unknown_in_composition, unknown_in_configuration, unknown_in_dotted, unknown_in_item, unknown_in_line, unknown_in_member, unknown_in_one_setting, unknown_in_setting, unknown_names, unknown_type, within}
 pub use Rattle.adl_meaning.specs.declared.item_at.ItemAt.{ItemAt}
 pub use Rattle.adl_names.specs.Bodies.{component_at, is_named, item_component, item_number, item_of, owner_of}
-pub use Rattle.adl_names.specs.Groups.{members_told}
 pub use Rattle.adl_names.specs.Laters.{laters}
-pub use Rattle.adl_names.specs.Misfits.{misfits_from}
 pub use Rattle.adl_names.specs.Places.{table_places}
-pub use Rattle.adl_names.specs.Ports.{is_port_among}
+pub use Rattle.adl_names.specs.Ports.{is_port_among, misfits_from}
 pub use Rattle.adl_names.specs.Scopes.{scope_told}
-pub use Rattle.adl_names.specs.Tables.{has_name, held_told, holding_told}
+pub use Rattle.adl_names.specs.Tables.{has_name, held_told, holding_told, members_told}
 pub use Rattle.adl_names.specs.declared.bodies.Body.{Body}
 pub use Rattle.cam_base.proofs.Bytes.{bytes_eq-sym}
 pub use Rattle.cam_base.proofs.Lists.{drop_first}

@@ -1,11 +1,9 @@
 pub mod BodyLists
 pub mod Common
-pub mod Exporting
 pub mod Filling
 pub mod KindLists
 pub mod PortSets
 pub mod Recurring
-pub mod Repeating
 pub mod Rising
 pub mod TableSteps
 pub mod Whole

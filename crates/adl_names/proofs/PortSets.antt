@@ -1,5 +1,5 @@
 -- What sets of ports have.
-use Rattle.adl_names.proofs.Common.{◌≡◌, ◌∙◌, ℕ, Bool, cond, true, false, ◌||◌, ◌&&◌, refl, sym, ap, List, [], ◌∷◌, map, Bor, nat_eq, bytes_eq, Port, Name, is_port_among, list_any, eqb-true, eq-eqb, bytes_eq-sym}
+use Rattle.adl_names.proofs.Common.{◌≡◌, ◌∙◌, ℕ, Bool, cond, true, false, ◌||◌, ◌&&◌, refl, sym, ap, List, [], ◌∷◌, map, Bor, nat_eq, bytes_eq, Port, Name, is_port_among, list_any, eqb-true, eq-eqb, bytes_eq-sym, Option, Fault, misfits_after, noted, Held, noted-append, is_among, Export, port_of, inner_of, is_port, is_misfit, export_fault, where_true, Known}
 
 nat_eq-sym : (a b : ℕ) → nat_eq a b ≡ nat_eq b a
 nat_eq-sym a b = by_tests (nat_eq a b) (nat_eq b a) refl refl
@@ -26,3 +26,17 @@ or_from_keys f g m n rest = by_test (nat_eq f g && bytes_eq m n) rest ∙ ap (λ
     by_test true false = refl
     by_test false true = refl
     by_test false false = refl
+
+-- an export, and then those behind it
+pub misfit_then : (types : Name → Option Known) (owner : Option Known) (held : Name → Option Held) (new old : Option Fault) (more met : List Name) (ins had : List (ℕ × Name)) (x : Export) (rest : List Export)
+    → new ≡ noted old (where_true (is_misfit types owner held (is_among met) (is_port_among had) x) (export_fault x.words x.place))
+    → ((n : Name) → is_among more n ≡ (is_among met n || bytes_eq n x.target.name)) → ((p : Port) → is_port_among ins p ≡ (is_port_among had p || is_port (inner_of types (port_of held x.words)) p))
+    → noted new (misfits_after types owner held (is_among more) (is_port_among ins) rest) ≡ noted old (misfits_after types owner held (is_among met) (is_port_among had) (x ∷ rest))
+misfit_then types owner held new old more met ins had x rest n t h =
+    let targets : is_among more ≡ (λ (m : Name). is_among met m || bytes_eq m x.target.name) = λ k m. t m k in
+    let inners : is_port_among ins ≡ (λ (p : Port). is_port_among had p || is_port (inner_of types (port_of held x.words)) p) = λ k p. h p k in
+    let one = where_true (is_misfit types owner held (is_among met) (is_port_among had) x) (export_fault x.words x.place) in
+    ap (λ o. noted o (misfits_after types owner held (is_among more) (is_port_among ins) rest)) n
+    ∙ ap (λ (f : Name → Bool). noted (noted old one) (misfits_after types owner held f (is_port_among ins) rest)) targets
+    ∙ ap (λ (g : Port → Bool). noted (noted old one) (misfits_after types owner held (λ m. is_among met m || bytes_eq m x.target.name) g rest)) inners
+    ∙ sym (noted-append old one _)

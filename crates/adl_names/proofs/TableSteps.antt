@@ -1,5 +1,5 @@
 -- Steps of filling tables.
-use Rattle.adl_names.proofs.Common.{◌≡◌, ◌∙◌, ◌<◌, ◌+◌, ℕ, Bool, cond, true, false, refl, sym, ap, List, [], ◌∷◌, ◌++◌, drop, length, get_or, map, Option, Some, None, option_map, find, flat_map, option_or, bytes_eq, drop_first, Instance, Id, Held, as_held, Name, found, first_named, holding_told, find-append, option_or-assoc, option_map-option_or, Group, a_group, member_of, held_told}
+use Rattle.adl_names.proofs.Common.{◌≡◌, ◌∙◌, ◌<◌, ◌+◌, ℕ, Bool, cond, true, false, refl, sym, ap, List, [], ◌∷◌, ◌++◌, drop, length, get_or, map, Option, Some, None, option_map, find, flat_map, option_or, bytes_eq, drop_first, Instance, Id, Held, as_held, Name, found, first_named, holding_told, find-append, option_or-assoc, option_map-option_or, Group, a_group, member_of, held_told, map-append, Fault, noted, repeats_after}
 use Rattle.adl_names.specs.declared.tables.Held.{Held as Entry}
 use Rattle.adl_names.specs.declared.tables.Held.TheVariants as entry
 
@@ -29,3 +29,12 @@ named_put by old new xs i x n l e h =
     let rest = flat_map by (drop (i + 1) xs) in
     ap (λ z. option_or z (first_named rest n)) h ∙ option_or-assoc old (first_named (by x) n) (first_named rest n)
     ∙ ap (λ z. option_or old z) (sym (first_named-append (by x) rest n) ∙ ap (λ z. first_named (flat_map by z) n) (sym (drop_first xs i x l e)))
+
+-- the step of a loop that meets the words of what each element has
+pub named_each : {X Y : Type 0} (by : X → List (Id × Y)) (new old : Option Fault) (more met : Name → Bool) (xs : List X) (i : ℕ) (x : X) → i < length xs → x ≡ get_or xs i x
+    → ((ws : List Id) → noted new (repeats_after more ws) ≡ noted old (repeats_after met (map (λ y. y.0) (by x) ++ ws)))
+    → noted new (repeats_after more (map (λ y. y.0) (flat_map by (drop (i + 1) xs)))) ≡ noted old (repeats_after met (map (λ y. y.0) (flat_map by (drop i xs))))
+named_each {Y = Y} by new old more met xs i x l e h =
+    let rest = flat_map by (drop (i + 1) xs) in
+    h (map (λ (y : Id × Y). y.0) rest)
+    ∙ ap (λ z. noted old (repeats_after met z)) (sym (map-append (λ (y : Id × Y). y.0) (by x) rest) ∙ ap (λ z. map (λ (y : Id × Y). y.0) (flat_map by z)) (sym (drop_first xs i x l e)))

@@ -1,7 +1,5 @@
 pub mod Bodies
-pub mod Groups
 pub mod Laters
-pub mod Misfits
 pub mod Places
 pub mod Ports
 pub mod Scopes

@@ -25,7 +25,7 @@ impl<'a> Model for Members<'a> {
 
     ghost Value = { Group };
 
-    ghost use Rattle.adl_names.specs.Groups.{AreMembers};
+    ghost use Rattle.adl_names.specs.Tables.{AreMembers};
 
     ghost view = { λ m. m.group.now };
 

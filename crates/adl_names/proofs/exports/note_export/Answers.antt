@@ -1,5 +1,5 @@
 use Rattle.adl_names.proofs.Common.{held_as, known_in, owner_of, rules}
-use Rattle.adl_names.proofs.Exporting.{misfit_then}
+use Rattle.adl_names.proofs.PortSets.{misfit_then}
 use Rattle.adl_names.proofs.exports.note_export.Goals as goal
 
 pub returns : goal.returns

@@ -26,10 +26,7 @@ loop-x-preserved c =
     let no_procedure = λ (e : as_procedure (located x) ≡ None). filled_skip as_procedure (λ (p : Procedure). p.id.name) (get bytes_eq ps) (table_places ps) (map located xs) xs i x c.loop-x-test.true c.x-item.is e c.loop-x.invariant.procedures in
     let no_component = λ (e : as_component (located x) ≡ None). filled_skip as_component (λ (k : Component). k.id.name) (get bytes_eq ks) (table_places ks) (map located xs) xs i x c.loop-x-test.true c.x-item.is e c.loop-x.invariant.components in
     elim c.match-x.branch [
-      | in-Import w ↦ record {
-        procedures = rw w.procedures-is (no_procedure (ap (λ z. as_procedure (x.at, z)) w.in-Import.is));
-        components = rw w.components-is (no_component (ap (λ z. as_component (x.at, z)) w.in-Import.is));
-      }
+      | in-Import w ↦ let e = w.in-Import.is in record { procedures = rw w.procedures-is (no_procedure (ap (λ z. as_procedure (x.at, z)) e)); components = rw w.components-is (no_component (ap (λ z. as_component (x.at, z)) e)) }
       | in-Procedure+in_ok-add_place-in-Procedure w ↦ let put = w.in_ok-add_place-in-Procedure.ensures in record {
         procedures = rw w.procedures-is (filled_put as_procedure (λ (p : Procedure). p.id.name) (get bytes_eq ps) (get bytes_eq w.add_place.new.table) (table_places ps) (table_places w.add_place.new.table) (map located xs) xs i x w.in-Procedure.it
             c.loop-x-test.true c.x-item.is (ap (λ z. as_procedure (x.at, z)) w.in-Procedure.is) put.first put.places c.loop-x.invariant.procedures);
@@ -40,10 +37,7 @@ loop-x-preserved c =
         components = rw w.components-is (filled_put as_component (λ (k : Component). k.id.name) (get bytes_eq ks) (get bytes_eq w.add_place-in-Component.new.table) (table_places ks) (table_places w.add_place-in-Component.new.table) (map located xs) xs i x w.in-Component.it
             c.loop-x-test.true c.x-item.is (ap (λ z. as_component (x.at, z)) w.in-Component.is) put.first put.places c.loop-x.invariant.components);
       }
-      | in-Assembly w ↦ record {
-        procedures = rw w.procedures-is (no_procedure (ap (λ z. as_procedure (x.at, z)) w.in-Assembly.is));
-        components = rw w.components-is (no_component (ap (λ z. as_component (x.at, z)) w.in-Assembly.is));
-      }
+      | in-Assembly w ↦ let e = w.in-Assembly.is in record { procedures = rw w.procedures-is (no_procedure (ap (λ z. as_procedure (x.at, z)) e)); components = rw w.components-is (no_component (ap (λ z. as_component (x.at, z)) e)) }
     ]
 
 pub returns-clause-procedures : goal.returns-clause-procedures

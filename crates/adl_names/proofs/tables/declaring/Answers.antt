@@ -1,6 +1,5 @@
 use Rattle.adl_names.proofs.Common.{◌∙◌, declared_by, has_name}
-use Rattle.adl_names.proofs.Repeating.{named_each}
-use Rattle.adl_names.proofs.TableSteps.{named_put}
+use Rattle.adl_names.proofs.TableSteps.{named_each, named_put}
 use Rattle.adl_names.proofs.tables.declaring.Goals as goal
 
 pub loop-member-preserved : goal.loop-member-preserved
