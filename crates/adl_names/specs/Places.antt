@@ -1,5 +1,4 @@
 -- The places that a table of names has, in the order of its entries.
-
 use Rattle.adl_names.specs.Words.{List, map, BuildHasherDefault, FoldHasher, IndexMap, Name, ItemAt}
 
 abbrev pub table_places : IndexMap Name ItemAt (BuildHasherDefault FoldHasher) → List ItemAt
