@@ -7,7 +7,8 @@ use Rattle.adl_meaning.specs.Flat.{member_number, is_interface}
 use Rattle.adl_hierarchy.specs.Finite.{IsFinite}
 use Rattle.adl_meaning.specs.Lists.{place_by}
 use Rattle.numbering.specs.Gather.{IsIn}
-use Rattle.adl_meaning.specs.Hierarchy.{Hierarchy, Part, body, is_composite, export_named, exports_of, port_in}
+use Rattle.adl_meaning.specs.Graph.{IsInnerFirst}
+use Rattle.adl_meaning.specs.Hierarchy.{Hierarchy, Part, body, graph, is_composite, export_named, exports_of, port_in}
 use Rattle.adl_meaning.specs.Items.{Name}
 use Rattle.adl_meaning.specs.Joins.{Reached, reached}
 use Rattle.name_tables.specs.ByName.{found}
@@ -53,6 +54,7 @@ pub record AreInnerLeads (h : Hierarchy) (k : ℕ) (all : List (List (Name × Op
   pub each : (x : Part) (t : List (Name × Option LeafPort)) → IsIn x (body h k).parts → AreLeadsOf h x.kind (slice_index_or all x.kind t)
 
 -- what holds of a program
-pub record AreResolved (h : Hierarchy) (all : List (List (Name × Option LeafPort))) : Type 0 where
+pub record AreResolved (h : Hierarchy) (all : List (List (Name × Option LeafPort))) (order : List ℕ) : Type 0 where
   pub finite : IsFinite h
   pub leads : AreLeads h all
+  pub order_is : IsInnerFirst (graph h) order

@@ -13,7 +13,7 @@ mod program;
 
 pub use bodies::{Bodies, bodies_of};
 pub use body::Body;
-pub use leads::LeafPort;
+pub use leads::{LeafPort, port_in};
 pub use leaf::Leaf;
 pub use part::{Part, PartAt, Wire};
 pub use program::{Program, program_of};

@@ -1,6 +1,7 @@
 //! A source, resolved.
 
-ghost use Rattle.adl_meaning.specs.Hierarchy.{hierarchy_of, body, top_number};
+ghost use Rattle.adl_meaning.specs.Graph.{IsInnerFirst};
+ghost use Rattle.adl_meaning.specs.Hierarchy.{hierarchy_of, body, graph, top_number};
 ghost use Rattle.adl_meaning.specs.Items.{AreFew};
 ghost use Rattle.adl_meaning.specs.NameFaults.{AreNamesSound};
 ghost use Rattle.adl_program.specs.Leads.{lead};
@@ -13,7 +14,7 @@ use crate::leads::{Leads, LeafPort, all_leads, lead};
 use crate::leaf::Leaf;
 use adl_ast::{Id, Member, Source};
 use adl_hierarchy::sound_hierarchies_are_finite;
-use cam_base::NoMemory;
+use cam_base::{List, NoMemory};
 use component_graph::inner_first;
 use std::alloc::Global;
 use std::marker::Model;
@@ -23,6 +24,7 @@ use std::marker::Model;
 pub struct Program<'a> {
     bodies: Bodies<'a>,
     leads: Vec<Leads<'a>>,
+    order: List<u32>,
 }
 
 impl<'a> Model for Program<'a> {
@@ -39,7 +41,7 @@ impl<'a> Model for Program<'a> {
 
     ghost view = { λ p. p.bodies };
 
-    ghost invariant = { λ p. AreResolved p.bodies p.leads.items };
+    ghost invariant = { λ p. AreResolved p.bodies p.leads.items p.order };
 }
 
 impl<'a> Program<'a> {
@@ -63,6 +65,13 @@ impl<'a> Program<'a> {
         ensures { result.now ≡ body self.now number }
     {
         self.bodies.body(number)
+    }
+
+    /// The numbers of its bodies, each after the components of its instances.
+    pub fn order(&self) -> &[u32]
+        ensures { IsInnerFirst (graph self.now) result.now }
+    {
+        self.order.as_slice()
     }
 
     /// The leaf interface that a dotted name means in the body of the number.
@@ -119,7 +128,11 @@ pub fn program_of<'a>(alloc: Global, source: &'a Source) -> Result<Program<'a>, 
         None => unreachable!(),
         Some(order) => {
             let leads = all_leads(alloc, &bodies, order.as_slice())?;
-            Ok(Program { bodies, leads })
+            Ok(Program {
+                bodies,
+                leads,
+                order,
+            })
         }
     }
 }
