@@ -7,7 +7,7 @@ use Rattle.std.proofs.Math.Nat.{zero-add}
 use Rattle.std.proofs.lemmas.Bool.{and_parts, eqb-true, lt-ltb}
 use Rattle.std.proofs.lemmas.List.Sums.{sum_by-cons}
 use Rattle.adl_meaning.specs.JoinedEnds.{JoinedEnd, is_at}
-use Rattle.adl_flatten.specs.EndCounts.{same_key, is_counted}
+use Rattle.adl_flatten.specs.TemplateJoins.{same_key, is_counted}
 use Rattle.adl_flatten.specs.declared.end_counts.EndKey.{EndKey}
 
 option_eq-true : (a b : Option ℕ) → option_eq nat_eq a b ≡ true → a ≡ b

@@ -1,11 +1,6 @@
 pub mod EndLookups
-pub mod FlatLists
-pub mod LeafDomains
-pub mod Limited
+pub mod Homes
 pub mod PassedLimits
-pub mod PathLookups
-pub mod SmallBodies
 pub mod SoundReady
 pub mod Templates
-pub mod Totalling
-pub mod TotalsStep
+pub mod Totals

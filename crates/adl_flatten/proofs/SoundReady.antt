@@ -17,7 +17,7 @@ use Rattle.adl_meaning.specs.Hierarchy.{Body, body, top_of, kind_named, hierarch
 use Rattle.adl_meaning.specs.Items.{Name, components}
 use Rattle.adl_meaning.specs.NameFaults.{AreNamesSound}
 use Rattle.numbering.proofs.Lists.{below}
-use Rattle.adl_templates.specs.Ready.{IsReady}
+use Rattle.adl_templates.specs.AreTemplates.{IsReady}
 
 member_count : Option Component → ℕ
 member_count o = option_map_or (λ c. length c.members) o 0

@@ -1,7 +1,8 @@
 -- The template of the assembly is the flat system.
 use Rattle.std.proofs.Common.{◌≡◌, ◌+◌, ℕ, not, ◌&&◌, List, [], ◌∷◌, ◌++◌, map, Option, Some, None, option_map, refl, sym, ◌∙◌, ap, length, ◌<◌, ◌≤◌, ◌^◌, get_or, drop, arith}
-use Rattle.std.proofs.lemmas.List.{length-map}
-use Rattle.std.proofs.lemmas.List.Folds.{list_all-map}
+use Rattle.std.proofs.lemmas.List.{length-map, map-id}
+use Rattle.std.proofs.lemmas.List.Folds.{flat_map-map, list_all-map}
+use Rattle.std.proofs.lemmas.Simd.{map-map}
 use Rattle.std.specs.List.{flat_map, filter_map, cons_option, enumerate_from}
 use Rattle.cam_base.specs.declared.place.Fault.{Fault}
 use Rattle.cam_base.specs.declared.code.Code.TheVariants as code
@@ -9,7 +10,7 @@ use Rattle.cam_base.proofs.Lists.{drop_first}
 use Rattle.adl_ast.specs.declared.composition.End.{End}
 use Rattle.adl_meaning.specs.Faults.{at_word, where_true, noted}
 use Rattle.adl_meaning.proofs.Least.{noted-append}
-use Rattle.adl_meaning.specs.Flat.{flattened, flat_end, flat_ends, flat_connection}
+use Rattle.adl_meaning.specs.Flat.{flattened, flat_end, flat_ends}
 use Rattle.adl_meaning.specs.Hierarchy.{Hierarchy, top_number}
 use Rattle.adl_meaning.specs.JoinedEnds.{JoinedEnd, joined_end, joined_ends_of, joined_ends}
 use Rattle.adl_meaning.specs.Joins.{Reached, Strung, joined_by, connections}
@@ -17,19 +18,16 @@ use Rattle.adl_meaning.specs.Paths.{Placed, leaves}
 use Rattle.adl_meaning.specs.Placement.{is_direct, domain_at, same_domain, in_one_domain, misplaced_device, parted_call}
 use Rattle.adl_meaning.specs.Unconnected.{unjoined_at}
 use Rattle.adl_templates.specs.Templates.{Homed, homed, template_leaves, Joined, Connected, end_in, ends_in, connection_in, template_connections}
-use Rattle.adl_flatten.specs.Ends.{flat_end_of, flat_connection_of, joined_end_of, joined_of, all_joined}
+use Rattle.adl_flatten.specs.TemplateJoins.{flat_end_of, flat_connection_of, joined_end_of, joined_of, all_joined, unjoined_leaf, misplaced_leaf, in_one, misplaced_call}
 use Rattle.adl_flatten.specs.Homes.{home, home_in, placed}
-use Rattle.adl_flatten.specs.TemplateFaults.{unjoined_leaf, misplaced_leaf, in_one, misplaced_call}
 
 -- ---- leaves
 
 pub placed_are : (h : Hierarchy) (k : ℕ) (xs : List Placed) → map placed (map (homed h k) xs) ≡ xs
-placed_are h k [] = refl
-placed_are h k (x ∷ xs) = ap (λ ys. x ∷ ys) (placed_are h k xs)
+placed_are h k xs = map-map placed (homed h k) xs ∙ map-id xs
 
 pub homes_are : (h : Hierarchy) (xs : List Placed) → map (home_in h) (map (homed h (top_number h)) xs) ≡ map (home h) xs
-homes_are h [] = refl
-homes_are h (x ∷ xs) = ap (λ ys. home h x ∷ ys) (homes_are h xs)
+homes_are h xs = map-map (home_in h) (homed h (top_number h)) xs
 
 -- ---- ends and connections
 
@@ -50,27 +48,16 @@ flat_ends_are h x = ends_told (end_in h (top_number h) x.path) flat_end_of (flat
 joined_are : (h : Hierarchy) (n : ℕ) (x : Strung) → joined_of (n, connection_in h (top_number h) x) ≡ joined_ends_of h (n, x)
 joined_are h n x = ends_told (end_in h (top_number h) x.path) (joined_end_of n) (joined_end h (n, x)) (joined_by h x.inside) (λ e r. refl) x.wire.1.ends
 
-connections_from : (h : Hierarchy) (xs : List Strung) → map flat_connection_of (map (connection_in h (top_number h)) xs) ≡ map (flat_connection h) xs
-connections_from h [] = refl
-connections_from h (x ∷ xs) = λ i. record {
-  path = x.path ++ x.wire.1.id.name ∷ [];
-  connector = x.wire.0;
-  place = x.wire.1.id.place;
-  ends = flat_ends_are h x i;
-} ∷ connections_from h xs i
-
 pub connections_are : (h : Hierarchy) → map flat_connection_of (template_connections h (top_number h)) ≡ (flattened h).connections
-connections_are h = connections_from h (connections h)
+connections_are h =
+    map-map flat_connection_of (connection_in h (top_number h)) (connections h)
+    ∙ ap (λ f. map f (connections h)) (λ i x. record { path = x.path ++ x.wire.1.id.name ∷ []; connector = x.wire.0; place = x.wire.1.id.place; ends = flat_ends_are h x i })
 
 -- a list with numbers, of what is made of each element
 numbered_map : {X Y Z : Type 0} (f : ℕ × Y → List Z) (k : ℕ × X → List Z) (g : X → Y) → ((n : ℕ) (x : X) → f (n, g x) ≡ k (n, x)) → (a : ℕ) (xs : List X)
     → flat_map f (enumerate_from a (map g xs)) ≡ flat_map k (enumerate_from a xs)
 numbered_map f k g same a [] = refl
 numbered_map f k g same a (x ∷ xs) = ap (λ ys. ys ++ flat_map f (enumerate_from (a + 1) (map g xs))) (same a x) ∙ ap (λ ys. k (a, x) ++ ys) (numbered_map f k g same (a + 1) xs)
-
-each_map : {X Y Z : Type 0} (f : Y → List Z) (k : X → List Z) (g : X → Y) → ((x : X) → f (g x) ≡ k x) → (xs : List X) → flat_map f (map g xs) ≡ flat_map k xs
-each_map f k g same [] = refl
-each_map f k g same (x ∷ xs) = ap (λ ys. ys ++ flat_map f (map g xs)) (same x) ∙ ap (λ ys. k x ++ ys) (each_map f k g same xs)
 
 pub all_joined_are : (h : Hierarchy) → all_joined (template_connections h (top_number h)) ≡ joined_ends h
 all_joined_are h = numbered_map joined_of (joined_ends_of h) (connection_in h (top_number h)) (joined_are h) 0 (connections h)
@@ -81,14 +68,14 @@ pub unjoined_are : (h : Hierarchy) (all : List JoinedEnd) → flat_map (unjoined
 unjoined_are h all = numbered_map (unjoined_leaf h all) (unjoined_at h all) (homed h (top_number h)) (λ n x. refl) 0 (leaves h)
 
 pub devices_are : (h : Hierarchy) → flat_map (misplaced_leaf h) (template_leaves h (top_number h)) ≡ flat_map (misplaced_device h) (leaves h)
-devices_are h = each_map (misplaced_leaf h) (misplaced_device h) (homed h (top_number h)) (λ x. refl) (leaves h)
+devices_are h = flat_map-map (misplaced_leaf h) (homed h (top_number h)) (leaves h)
 
 one_domain : (h : Hierarchy) (es : List Joined) → in_one (flattened h).leaves es ≡ in_one_domain (flattened h) (map flat_end_of es)
 one_domain h [] = refl
 one_domain h (e ∷ es) = sym (list_all-map (λ f. same_domain (domain_at (flattened h) f) (domain_at (flattened h) (flat_end_of e))) flat_end_of (e ∷ es))
 
 pub calls_are : (h : Hierarchy) → flat_map (misplaced_call (flattened h).leaves) (template_connections h (top_number h)) ≡ flat_map (parted_call h (flattened h)) (connections h)
-calls_are h = each_map (misplaced_call (flattened h).leaves) (parted_call h (flattened h)) (connection_in h (top_number h)) same (connections h)
+calls_are h = flat_map-map (misplaced_call (flattened h).leaves) (connection_in h (top_number h)) (connections h) ∙ ap (λ f. flat_map f (connections h)) (λ i x. same x i)
   where
     same : (x : Strung) → misplaced_call (flattened h).leaves (connection_in h (top_number h) x) ≡ parted_call h (flattened h) x
     same x = ap (λ b. where_true (is_direct x.wire.0 && not b) (at_word code.Placement x.wire.1.id)) (one_domain h (ends_in h (top_number h) x) ∙ ap (in_one_domain (flattened h)) (flat_ends_are h x))

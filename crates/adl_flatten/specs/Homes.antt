@@ -2,6 +2,7 @@
 use Rattle.std.specs.Prelude.{ℕ, ◌==◌, Bool, false, if◌then◌else◌, List, ◌++◌, map, Option, None, Some, option_map, unwrap_or}
 use Rattle.std.specs.List.{filter, filter_map, list_any, enumerate_from}
 use Rattle.std.specs.Option.{option_map_or}
+use Rattle.adl_meaning.specs.declared.flat.Domain.{Domain}
 use Rattle.adl_meaning.specs.Domains.{domain_of, is_hardware}
 use Rattle.adl_meaning.specs.Hierarchy.{Hierarchy}
 use Rattle.adl_meaning.specs.Lists.{place_by, firsts_after}
@@ -43,3 +44,7 @@ is_number d o = option_map_or (λ n. n == d) o false
 -- the places of those that are this number
 abbrev pub numbered : ℕ → List (Option ℕ) → List ℕ
 numbered d numbers = map (λ x. x.0) (filter (λ x. is_number d x.1) (enumerate_from 0 numbers))
+
+-- a domain by its number and its path, with the leaves that have the number
+abbrev pub domain_to : List (Option ℕ) → ℕ × Path → Domain
+domain_to numbers x = record { path = x.1; leaves = numbered x.0 numbers }

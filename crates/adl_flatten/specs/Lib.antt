@@ -1,9 +1,6 @@
-pub mod EndCounts
-pub mod Ends
 pub mod Homes
-pub mod TemplateFaults
+pub mod TemplateJoins
 pub mod TotalsOf
-pub mod Wanted
 pub use Rattle.adl_meaning.specs.CompositeBody
 pub use Rattle.adl_meaning.specs.Faults
 pub use Rattle.adl_meaning.specs.FewMembers

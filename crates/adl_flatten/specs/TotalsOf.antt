@@ -1,5 +1,5 @@
 -- The totals of a body, which are plain sums over the paths in it, each at most the greatest number of 64 bits.
-use Rattle.std.specs.Prelude.{◌≡◌, ◌≤◌, ◌-◌, ◌^◌, ℕ, suc, List, map, length, min, slice_index_or}
+use Rattle.std.specs.Prelude.{◌≤◌, ◌-◌, ◌^◌, ℕ, List, map, length, min}
 use Rattle.std.specs.List.{flat_map}
 use Rattle.adl_ast.specs.declared.composition.End.{End}
 use Rattle.adl_meaning.specs.Hierarchy.{Hierarchy}
@@ -25,11 +25,6 @@ totals_of ps ks = record {
 
 abbrev pub totals_in : Hierarchy → ℕ → Totals
 totals_in h k = totals_of (leaves_in h k) (connections_in h k)
-
--- the totals of each body, by number
-pub record AreTotals (h : Hierarchy) (all : List Totals) : Type 0 where
-  pub length_is : length all ≡ suc (length h.bodies)
-  pub each : (k : ℕ) (t : Totals) → k ≤ length h.bodies → slice_index_or all k t ≡ totals_in h k
 
 -- no limit is passed that a walk rests on
 pub record IsWithinLimits (h : Hierarchy) : Type 0 where

@@ -1,6 +1,6 @@
 //! The connections of a flat system, and all their ends with what they join.
 
-ghost use Rattle.adl_flatten.specs.Ends.{flat_end_of, flat_connection_of, all_joined};
+ghost use Rattle.adl_flatten.specs.TemplateJoins.{flat_end_of, flat_connection_of, all_joined};
 ghost use Rattle.std.specs.Prelude.{◌≡◌, ◌<◌, ◌^◌, map, length, IfOk};
 
 use adl_items::last_name;

@@ -1,13 +1,16 @@
 //! The domains of leaves.
 
-ghost use Rattle.adl_flatten.specs.Homes.{home_in, home_number, all_met, is_number, numbered};
+ghost use Rattle.adl_flatten.specs.Homes.{home_in, home_number, all_met, is_number, domain_to};
+ghost use Rattle.adl_meaning.specs.declared.flat.Domain.{Domain as DomainOf};
 ghost use Rattle.adl_meaning.specs.Paths.{Path as PathOf};
+ghost use Rattle.std.specs.List.{enumerate_from};
 ghost use Rattle.std.specs.Prelude.{◌≡◌, ◌<◌, ◌≤◌, ◌+◌, ◌^◌, ◌∷◌, ◌++◌, [], ℕ, List as Seq, Option as Maybe, map, length, slice_index_or, if◌then◌else◌, IfOk, OnOk};
 
 use crate::path_key::PathKey;
+use adl_meaning::Domain;
 use adl_program::Program;
 use adl_templates::PlacedLeaf;
-use cam_base::{List, NoMemory};
+use cam_base::{List, NoMemory, Path};
 use indexmap::IndexSet;
 use std::alloc::Global;
 
@@ -33,7 +36,7 @@ pub struct Homes<'a> {
 
 impl<'a> Homes<'a> {
     /// Adds a leaf by the path of its domain.
-    #[tactic(auto, using(crate::proofs::PathLookups::met_more, crate::proofs::PathLookups::met_place))]
+    #[tactic(auto, using(crate::proofs::Homes::met_more, crate::proofs::Homes::met_place))]
     fn add(&mut self, home: Option<PathKey<'a>>) -> Result<(), NoMemory>
         requires { length self.old.paths.keys < 2 ^ 32 }
         ensures paths { OnOk result ((more : Seq (Maybe PathOf)) → all_met self.new.paths.keys more
@@ -74,46 +77,42 @@ pub fn homes_of<'a>(
     Ok(homes)
 }
 
-/// No leaves for each of the domains.
-fn no_leaves(alloc: Global, count: usize) -> Result<Vec<List<u32>>, NoMemory>
-    ensures length_is { IfOk result (λ v. length v.items ≡ count) }
-    ensures empty { IfOk result (λ v. (d : ℕ) → slice_index_or v.items d [] ≡ []) }
-{
-    let mut leaves = Vec::new(alloc);
-    for _domain in 0..count {
-        leaves.push(List::new(alloc))?;
-    }
-    Ok(leaves)
-}
-
-fn push_leaf(domain: Option<u32>, leaf: u32, leaves: &mut Vec<List<u32>>) -> Result<(), NoMemory>
-    ensures length_is { OnOk result (length leaves.new.items ≡ length leaves.old.items) }
-    ensures pushed { OnOk result ((d : ℕ) → d < length leaves.old.items
-        → slice_index_or leaves.new.items d [] ≡ slice_index_or leaves.old.items d []
-        ++ (if is_number d domain then leaf ∷ [] else [])) }
+/// Adds a leaf to the domain of the number, if there is one.
+fn push_leaf(domain: Option<u32>, leaf: u32, domains: &mut Vec<Domain>) -> Result<(), NoMemory>
+    ensures length_is { OnOk result (length domains.new.items ≡ length domains.old.items) }
+    ensures pushed { OnOk result ((d : ℕ) (z : DomainOf) → d < length domains.old.items
+        → slice_index_or domains.new.items d z ≡ record {
+          path = (slice_index_or domains.old.items d z).path;
+          leaves = (slice_index_or domains.old.items d z).leaves ++ (if is_number d domain then leaf ∷ [] else []);
+        }) }
 {
     if let Some(number) = domain {
         let number = number as usize;
-        if number < leaves.len() {
-            leaves[number].push(leaf)?;
+        if number < domains.len() {
+            domains[number].leaves.push(leaf)?;
         }
     }
     Ok(())
 }
 
-/// The leaves of each domain, by the numbers of their domains.
-pub fn domain_leaves(
+/// The domains of these paths, each with the leaves that have its number.
+pub fn flat_domains(
     alloc: Global,
-    count: usize,
+    paths: &[PathKey<'_>],
     numbers: &[Option<u32>],
-) -> Result<Vec<List<u32>>, NoMemory>
+) -> Result<List<Domain>, NoMemory>
     requires { length numbers.now < 2 ^ 32 }
-    ensures length_is { IfOk result (λ v. length v.items ≡ count) }
-    ensures leaves { IfOk result (λ v. (d : ℕ) → d < count → slice_index_or v.items d [] ≡ numbered d numbers.now) }
+    ensures { IfOk result (λ ds. ds ≡ map (domain_to numbers.now) (enumerate_from 0 paths.now)) }
 {
-    let mut leaves = no_leaves(alloc, count)?;
-    for (leaf, number) in numbers.iter().enumerate() {
-        push_leaf(*number, leaf as u32, &mut leaves)?;
+    let mut domains = Vec::with_capacity(alloc, paths.len())?;
+    for path in paths {
+        domains.push(Domain {
+            path: Path::of(alloc, path.names, &[])?,
+            leaves: List::new(alloc),
+        })?;
     }
-    Ok(leaves)
+    for (leaf, number) in numbers.iter().enumerate() {
+        push_leaf(*number, leaf as u32, &mut domains)?;
+    }
+    Ok(List::from_vec(domains))
 }

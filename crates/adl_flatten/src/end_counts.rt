@@ -1,6 +1,6 @@
 //! How many ends join each interface.
 
-ghost use Rattle.adl_flatten.specs.EndCounts.{same_key, is_counted, count_at, AreCounts};
+ghost use Rattle.adl_flatten.specs.TemplateJoins.{same_key, is_counted, count_at, AreCounts};
 ghost use Rattle.adl_meaning.specs.JoinedEnds.{is_at};
 ghost use Rattle.adl_meaning.specs.UsedTwice.{clashes};
 ghost use Rattle.std.specs.List.{list_any, count_by};
@@ -86,7 +86,7 @@ impl<'t, 'a> Model for CountedEnds<'t, 'a> {
 
     ghost Value = { List JoinedEnd };
 
-    ghost use Rattle.adl_flatten.specs.EndCounts.{AreCounts};
+    ghost use Rattle.adl_flatten.specs.TemplateJoins.{AreCounts};
 
     ghost view = { λ t. t.ends.now };
 

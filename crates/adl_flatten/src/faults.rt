@@ -1,6 +1,6 @@
 //! The faults of joins.
 
-ghost use Rattle.adl_flatten.specs.TemplateFaults.{domain_in, all_in, in_one, misplaced_leaf, misplaced_call, unjoined_leaf};
+ghost use Rattle.adl_flatten.specs.TemplateJoins.{domain_in, all_in, in_one, misplaced_leaf, misplaced_call, unjoined_leaf};
 ghost use Rattle.adl_meaning.specs.Faults.{noted, least};
 ghost use Rattle.adl_meaning.specs.Flat.{flattened};
 ghost use Rattle.adl_meaning.specs.Hierarchy.{body, top_number};

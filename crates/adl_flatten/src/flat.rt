@@ -1,30 +1,27 @@
 //! All of it together: the limits, the templates, the faults of joins.
 
-ghost use Rattle.adl_flatten.specs.TotalsOf.{AreTotals, IsWithinLimits};
+ghost use Rattle.adl_flatten.specs.TotalsOf.{IsWithinLimits};
 ghost use Rattle.adl_meaning.specs.Faults.{least, Refuses};
 ghost use Rattle.adl_meaning.specs.FewMembers.{HaveFewMembers};
 ghost use Rattle.adl_meaning.specs.Flat.{flat_of, flattened};
-ghost use Rattle.adl_meaning.specs.Graph.{IsInnerFirst};
-ghost use Rattle.adl_meaning.specs.Hierarchy.{hierarchy_of, graph, top_number};
+ghost use Rattle.adl_meaning.specs.Hierarchy.{hierarchy_of, top_number};
 ghost use Rattle.adl_meaning.specs.Items.{AreFew};
 ghost use Rattle.adl_meaning.specs.JoinFaults.{join_faults_in, first_flat_fault};
 ghost use Rattle.adl_meaning.specs.NameFaults.{AreNamesSound};
-ghost use Rattle.adl_templates.specs.AreTemplates.{IsTemplate};
-ghost use Rattle.adl_templates.specs.Ready.{IsReady};
+ghost use Rattle.adl_templates.specs.AreTemplates.{IsTemplate, IsReady};
 ghost use Rattle.std.specs.Prelude.{◌≡◌, IfOk};
 
 use crate::connections::flat_connections;
 use crate::faults::join_fault;
 use crate::leaves::all_places;
 use crate::limits::check_limits;
-use crate::sums::{Totals, all_totals, order_of};
-use crate::wanted::wanted_bodies;
+use crate::sums::assembly_totals;
 use adl_ast::Source;
 use adl_items::Names;
 use adl_meaning::Flat;
 use adl_program::{Program, program_of};
-use adl_templates::{Template, all_templates};
-use cam_base::{Fault, NoMemory, Refused};
+use adl_templates::{Template, assembly_template};
+use cam_base::{Fault, Refused};
 use std::alloc::Global;
 
 /// The flat system that the template of the assembly is.
@@ -50,26 +47,6 @@ fn flat_template(
     })
 }
 
-/// The templates of a program whose assembly passes no limit, and from that of the assembly its flat system.
-fn flat_program(
-    alloc: Global,
-    program: &Program<'_>,
-    order: &[u32],
-    totals: &[Totals],
-) -> Result<Flat, Refused<Fault>>
-    requires ready { IsReady program.now }
-    requires order { IsInnerFirst (graph program.now) order.now }
-    requires totals { AreTotals program.now totals.now }
-    requires small { IsWithinLimits program.now }
-    ensures fault { Refuses result (least (join_faults_in program.now)) }
-    ensures flat { IfOk result (λ f. f ≡ flattened program.now) }
-{
-    let wanted = wanted_bodies(alloc, program, order, totals)?;
-    let templates = all_templates(alloc, program, order, wanted.as_slice())?;
-    let top = &templates[program.top_number() as usize];
-    flat_template(alloc, program, top)
-}
-
 /// The leaves, domains and connections of a source that is resolved.
 ///
 /// # Errors
@@ -88,11 +65,10 @@ pub fn flatten_program(
     ensures fault { Refuses result (first_flat_fault source.now) }
     ensures flat { IfOk result (λ f. f ≡ flat_of source.now) }
 {
-    let order = order_of(alloc, program)?;
-    let totals = all_totals(alloc, program, order.as_slice())?;
-    let top = totals[program.top_number() as usize];
-    check_limits(alloc, source, top)?;
-    flat_program(alloc, program, order.as_slice(), totals.as_slice())
+    let totals = assembly_totals(alloc, program)?;
+    check_limits(alloc, source, totals)?;
+    let template = assembly_template(alloc, program)?;
+    flat_template(alloc, program, &template)
 }
 
 /// The leaves, domains and connections of a source. Its names, which aren't read, say that they were resolved before.

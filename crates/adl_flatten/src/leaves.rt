@@ -5,15 +5,13 @@ ghost use Rattle.adl_meaning.specs.Domains.{domains, is_hardware};
 ghost use Rattle.adl_meaning.specs.Flat.{item_of, leaf_of, flattened};
 ghost use Rattle.adl_meaning.specs.Hierarchy.{top_number};
 ghost use Rattle.adl_templates.specs.Templates.{template_leaves};
-ghost use Rattle.std.specs.List.{enumerate_from};
-ghost use Rattle.std.specs.Prelude.{◌≡◌, ◌<◌, ◌^◌, [], map, length, slice_index_or, IfOk};
+ghost use Rattle.std.specs.Prelude.{◌≡◌, ◌<◌, ◌^◌, map, length, IfOk};
 
-use crate::domains::{domain_leaves, homes_of};
-use crate::path_key::PathKey;
+use crate::domains::{flat_domains, homes_of};
 use adl_meaning::{Domain, ItemAt, Leaf};
 use adl_program::Program;
 use adl_templates::PlacedLeaf;
-use cam_base::{List, NoMemory, Path};
+use cam_base::{List, NoMemory};
 use std::alloc::Global;
 
 /// A leaf with the number of its domain.
@@ -59,29 +57,6 @@ fn flat_leaves(
     Ok(List::from_vec(flat))
 }
 
-/// The domains, by their paths and their leaves.
-fn flat_domains(
-    alloc: Global,
-    paths: &[PathKey<'_>],
-    leaves: &[List<u32>],
-) -> Result<List<Domain>, NoMemory>
-    requires { length leaves.now ≡ length paths.now }
-    ensures { IfOk result (λ ds. ds ≡ map (λ x. record {
-      path = x.1;
-      leaves = slice_index_or leaves.now x.0 [];
-    }) (enumerate_from 0 paths.now)) }
-{
-    let mut flat = Vec::with_capacity(alloc, paths.len())?;
-    for (i, path) in paths.iter().enumerate() {
-        let leaves = List::from_slice(alloc, leaves[i].as_slice())?;
-        flat.push(Domain {
-            path: Path::of(alloc, path.names, &[])?,
-            leaves,
-        })?;
-    }
-    Ok(List::from_vec(flat))
-}
-
 /// The leaves and the domains of a flat system.
 #[derive(Drop)]
 pub struct Places {
@@ -102,9 +77,8 @@ pub fn all_places(
 {
     let homes = homes_of(alloc, program, leaves)?;
     let numbers = homes.numbers.as_slice();
-    let inside = domain_leaves(alloc, homes.paths.len(), numbers)?;
     Ok(Places {
         leaves: flat_leaves(alloc, program, leaves, numbers)?,
-        domains: flat_domains(alloc, homes.paths.as_slice(), inside.as_slice())?,
+        domains: flat_domains(alloc, homes.paths.as_slice(), numbers)?,
     })
 }

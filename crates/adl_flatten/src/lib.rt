@@ -14,6 +14,5 @@ mod leaves;
 mod limits;
 mod path_key;
 mod sums;
-mod wanted;
 
 pub use flat::{flatten, flatten_program};

@@ -19,7 +19,7 @@ use std::alloc::Global;
 const DEPTH: u64 = 16;
 
 /// The most leaves of an assembly.
-pub const LEAVES: u64 = 1024;
+const LEAVES: u64 = 1024;
 
 const CONNECTIONS: u64 = 4096;
 

@@ -1,18 +1,16 @@
-//! How many leaves, connections and ends there are in each body, and how deep its leaves are. No path is walked.
+//! How many leaves, connections and ends the assembly has, and how deep its leaves are. No path is walked.
 
-ghost use Rattle.adl_flatten.specs.TotalsOf.{saturated, totals_of, totals_in, AreTotals};
+ghost use Rattle.adl_flatten.specs.TotalsOf.{saturated, totals_of, totals_in};
 ghost use Rattle.adl_hierarchy.specs.Finite.{IsFinite};
-ghost use Rattle.adl_meaning.specs.Graph.{IsInnerFirst};
-ghost use Rattle.adl_meaning.specs.Hierarchy.{Part, body, graph, top_number};
+ghost use Rattle.adl_meaning.specs.Hierarchy.{Part, body, top_number};
 ghost use Rattle.adl_meaning.specs.Joins.{Strung, further, strung, strung_by, connections_in};
 ghost use Rattle.numbering.specs.Gather.{IsIn};
 ghost use Rattle.adl_meaning.specs.Paths.{Placed, outside, leaves_in, placed_by};
 ghost use Rattle.std.specs.List.{flat_map};
-ghost use Rattle.std.specs.Prelude.{◌≡◌, ◌<◌, ◌≤◌, ◌+◌, ◌^◌, ◌∷◌, ◌++◌, ℕ, List as Seq, [], map, length, slice_index_or, IfOk};
+ghost use Rattle.std.specs.Prelude.{◌≡◌, ◌<◌, ◌≤◌, ◌∷◌, ◌++◌, ℕ, List as Seq, [], map, length, slice_index_or, IfOk};
 
 use adl_program::{Part, Program, Wire};
-use cam_base::{List, NoMemory};
-use component_graph::inner_first;
+use cam_base::NoMemory;
 use std::alloc::Global;
 
 /// Sums over the paths in a body. None goes past the greatest number of 64 bits.
@@ -140,51 +138,16 @@ fn body_totals(program: &Program<'_>, all: &[Totals], number: u32) -> Totals
     totals
 }
 
-fn kinds(alloc: Global, parts: &[Part<'_>]) -> Result<List<u32>, NoMemory>
-    ensures { IfOk result (λ ks. ks ≡ map (λ x. x.kind) parts.now) }
-{
-    let kinds = parts.iter().map(|part| part.kind()).collect(alloc)?;
-    Ok(List::from_vec(kinds))
-}
-
-/// The bodies by number, with the kinds of their instances.
-fn graph(alloc: Global, program: &Program<'_>) -> Result<List<List<u32>>, NoMemory>
-    ensures graph { IfOk result (λ g. g ≡ graph program.now) }
-    ensures few { IfOk result (λ g. length g < 2 ^ 32) }
-{
-    let mut graph = List::new(alloc);
-    for number in 0..=program.top_number() {
-        graph.push(kinds(alloc, program.body(number).parts())?)?;
-    }
-    Ok(graph)
-}
-
-/// The bodies by number, each after the components of its instances, where none holds itself.
-pub fn order_of(alloc: Global, program: &Program<'_>) -> Result<List<u32>, NoMemory>
+/// The totals of the assembly, from those of all bodies, inner ones first.
+pub fn assembly_totals(alloc: Global, program: &Program<'_>) -> Result<Totals, NoMemory>
     requires { IsFinite program.now }
-    ensures { IfOk result (λ order. IsInnerFirst (graph program.now) order) }
+    ensures { IfOk result (λ t. t ≡ totals_in program.now (top_number program.now)) }
 {
-    let graph = graph(alloc, program)?;
-    match inner_first(alloc, graph.as_slice())? {
-        Some(order) => Ok(order),
-        None => unreachable!(),
-    }
-}
-
-/// The totals of all bodies, where none holds itself, in an order in which inner ones stand first.
-pub fn all_totals(
-    alloc: Global,
-    program: &Program<'_>,
-    order: &[u32],
-) -> Result<Vec<Totals>, NoMemory>
-    requires finite { IsFinite program.now }
-    requires order { IsInnerFirst (graph program.now) order.now }
-    ensures { IfOk result (λ all. AreTotals program.now all.items) }
-{
-    let mut all = vec![in alloc; Totals::none(); program.top_number() as usize + 1]?;
-    for number in order {
+    let top = program.top_number() as usize;
+    let mut all = vec![in alloc; Totals::none(); top + 1]?;
+    for number in program.order() {
         let totals = body_totals(program, all.as_slice(), *number);
         all[*number as usize] = totals;
     }
-    Ok(all)
+    Ok(all[top])
 }

@@ -5,7 +5,9 @@ use Rattle.std.specs.Option.{option_and_then, option_map_or}
 use Rattle.adl_ast.specs.declared.component.Component.{Component}
 use Rattle.adl_meaning.specs.Flat.{is_interface}
 use Rattle.name_tables.specs.ByName.{found}
-use Rattle.std.proofs.lemmas.List.{length-append, length-map}
+use Rattle.std.proofs.lemmas.List.{length-map}
+use Rattle.std.proofs.lemmas.List.Folds.{length-flat_map-take}
+use Rattle.std.proofs.lemmas.Option.{get_or_from_slice_get}
 use Rattle.std.proofs.lemmas.List.Elements.{All-nil, All-cons, All-map}
 use Rattle.adl_ast.specs.declared.composition.End.{End}
 use Rattle.adl_ast.specs.declared.composition.Export.{Export}
@@ -16,10 +18,11 @@ use Rattle.adl_meaning.specs.Joins.{Reached, Strung, reached, joined_by, connect
 use Rattle.adl_meaning.specs.Lists.{place_by}
 use Rattle.adl_meaning.specs.Paths.{Placed, name_of, outside, placed_by, leaves_in, same_path}
 use Rattle.numbering.proofs.Gathered.{in_place}
+use Rattle.numbering.proofs.Lists.{below}
 use Rattle.adl_hierarchy.proofs.Steps.{leaves_step, kind_in}
-use Rattle.adl_templates.specs.Ready.{IsReady}
+use Rattle.adl_templates.specs.AreTemplates.{IsReady}
 use Rattle.adl_templates.specs.Templates.{Joined, end_in, ends_in, connection_in, template_connections, target_in, target, target_of, export_target, leaves_before, member_of}
-use Rattle.adl_templates.specs.declared.target.Target.{Target}
+use Rattle.adl_templates.specs.declared.placed.Target.{Target}
 
 place_below : {X : Type 0} (p : X → Bool) (xs : List X) → place_by p xs ≤ length xs
 place_below p [] = omega arith
@@ -77,17 +80,10 @@ connections_below h k a n l = All-map (λ c. All (λ e. a + e.leaf < n) c.ends) 
 -- ---- in the body around
 
 taken : {X Y : Type 0} (f : X → List Y) (xs : List X) (i : ℕ) (x : X) → slice_get xs i ≡ Some x → length (flat_map f (take i xs)) + length (f x) ≤ length (flat_map f xs)
-taken f [] i x e = cc
-taken f (y ∷ xs) zero x e =
-    let s : y ≡ x = cc in
-    let n = length-append (f y) (flat_map f xs) in
-    let m : length (f y) ≡ length (f x) = ap (λ z. length (f z)) s in
+taken f xs i x e =
+    let n = length-flat_map-take f xs i x (below xs i x e) in
+    let m = ap (λ z. length (f z)) (get_or_from_slice_get xs i x x e) in
     omega (arith, n, m)
-taken f (y ∷ xs) (suc i) x e =
-    let n = length-append (f y) (flat_map f xs) in
-    let m = length-append (f y) (flat_map f (take i xs)) in
-    let r = taken f xs i x e in
-    omega (arith, n, m, r)
 
 -- what an instance stands for are the leaves of its component at least
 holds_all : (h : Hierarchy) → IsReady h → (x : Part) → x.kind ≤ length h.bodies → length (leaves_in h x.kind) ≤ length (placed_by h (leaves_in h) x)

@@ -1,20 +1,26 @@
--- Lists of what parts give, one part further.
-use Rattle.std.proofs.Common.{◌≡◌, ◌<◌, ◌≤◌, ◌+◌, ℕ, List, [], ◌∷◌, ◌++◌, length, map, take, drop, get_or, sym, ◌∙◌, ap, arith, append_assoc, Some, inl, inr}
+-- Lists of what parts give, one part further, and where the ports of an instance lead.
+use Rattle.std.proofs.Common.{◌≡◌, ◌<◌, ◌≤◌, ◌+◌, ℕ, List, [], ◌∷◌, ◌++◌, length, map, take, drop, get_or, sym, ◌∙◌, ap, arith, append_assoc, Some, inl, inr, ◌^◌, subst}
 use Rattle.std.proofs.lemmas.Bool.{cases_eq}
 use Rattle.std.specs.List.{flat_map, enumerate_from, slice_get}
 use Rattle.std.proofs.lemmas.List.{length-map, map-append, take_more, take_all, append-nil}
 use Rattle.std.proofs.lemmas.List.Concat.{flat_map-append}
+use Rattle.std.proofs.lemmas.Option.{get_or_from_slice_get}
 use Rattle.cam_base.proofs.Lists.{drop_first, get_or-last, get_or-before_last}
-use Rattle.adl_meaning.specs.Hierarchy.{Hierarchy, Part, body}
+use Rattle.adl_meaning.specs.Hierarchy.{Hierarchy, Body, Part, body}
 use Rattle.adl_meaning.specs.Paths.{placed_by, leaves_in}
 use Rattle.numbering.specs.Gather.{IsIn}
 use Rattle.numbering.proofs.Gathered.{in_place}
-use Rattle.numbering.proofs.Lists.{read_place}
+use Rattle.numbering.proofs.Lists.{below, read_place}
 use Rattle.adl_hierarchy.proofs.Steps.{leaves_step}
-use Rattle.adl_templates.specs.Ready.{IsReady}
-use Rattle.adl_templates.specs.Templates.{Homed, homed, template_leaves, leaves_by, leaves_before}
-use Rattle.adl_templates.proofs.Bounds.{before_room}
-use Rattle.adl_templates.proofs.Placing.{leaves_placed}
+use Rattle.adl_templates.specs.AreTemplates.{IsReady, IsTemplate, AreInner, AreBefore}
+use Rattle.adl_templates.specs.Templates.{Homed, homed, template_leaves, leaves_by, leaves_before, target, target_by}
+use Rattle.adl_templates.proofs.Bounds.{before_room, room}
+use Rattle.adl_templates.proofs.Placing.{leaves_placed, target_step}
+use Rattle.adl_meaning.specs.Items.{Name}
+use Rattle.adl_program.specs.Seen.{part_from}
+use Rattle.adl_program.specs.declared.part.PartAt.{PartAt}
+use Rattle.adl_program.proofs.PartNumbers.{is_named}
+use Rattle.adl_templates.specs.declared.template.Template.{Template}
 
 -- an instance that was read
 pub record IsRead (h : Hierarchy) (k i : ℕ) (read : List Part) (x : Part) : Type 0 where
@@ -22,11 +28,23 @@ pub record IsRead (h : Hierarchy) (k i : ℕ) (read : List Part) (x : Part) : Ty
   pub below : i < length read
   pub item : x ≡ get_or read i x
 
+pub reads : (h : Hierarchy) (k i : ℕ) (read : List Part) (x : Part) (b : Body) → b ≡ body h k → read ≡ b.parts → i < length read → x ≡ get_or read i x → IsRead h k i read x
+reads h k i read x b e p l is = record { same = p ∙ ap (λ (b : Body). b.parts) e; below = l; item = is }
+
 pub read_at : (h : Hierarchy) (k i : ℕ) (read : List Part) (x : Part) → IsRead h k i read x → slice_get (body h k).parts i ≡ Some x
 read_at h k i read x r = read_place (body h k).parts read i x r.same r.below r.item
 
 pub read_in : (h : Hierarchy) (k i : ℕ) (read : List Part) (x : Part) → IsRead h k i read x → IsIn x (body h k).parts
 read_in h k i read x r = in_place x (body h k).parts i (read_at h k i read x r)
+
+-- what comes out of the instances up to that one
+pub parts_taken : (h : Hierarchy) (k i : ℕ) (read : List Part) (x : Part) → IsRead h k i read x → {Y : Type 0} (f : Part → List Y)
+    → flat_map f (take (i + 1) (body h k).parts) ≡ flat_map f (take i (body h k).parts) ++ f x
+parts_taken h k i read x r f =
+    let parts = (body h k).parts in
+    let g = read_at h k i read x r in
+    ap (flat_map f) (take_more parts i x (below parts i x g) ∙ ap (λ y. take i parts ++ y ∷ []) (get_or_from_slice_get parts i x x g))
+    ∙ flat_map-append f (take i parts) (x ∷ []) ∙ ap (λ ys. flat_map f (take i parts) ++ ys) (append-nil (f x))
 
 -- ---- leaves
 
@@ -45,13 +63,8 @@ pub leaves_more : (h : Hierarchy) → IsReady h → (k i : ℕ) (read : List Par
     → new ≡ map (homed h k) (flat_map (placed_by h (leaves_in h)) (take (i + 1) (body h k).parts))
 leaves_more h ready k i read x r old new o n =
     let f = placed_by h (leaves_in h) in
-    let here = leaves_placed h ready k x (read_in h k i read x r) in
-    let first : get_or read i x ∷ [] ≡ x ∷ [] = ap (λ y. y ∷ []) (sym r.item) in
-    let taken : take (i + 1) (body h k).parts ≡ take i (body h k).parts ++ x ∷ [] =
-    ap (take (i + 1)) (sym r.same) ∙ take_more read i x r.below ∙ ap (λ ys. take i read ++ ys) first ∙ ap (λ ys. take i ys ++ x ∷ []) r.same in
-    n ∙ ap (λ ys. ys ++ leaves_by h x) o ∙ ap (λ ys. map (homed h k) (flat_map f (take i (body h k).parts)) ++ ys) (sym here)
-    ∙ sym (map-append (homed h k) (flat_map f (take i (body h k).parts)) (f x))
-    ∙ ap (map (homed h k)) (ap (λ ys. flat_map f (take i (body h k).parts) ++ ys) (sym (append-nil (f x))) ∙ sym (flat_map-append f (take i (body h k).parts) (x ∷ [])) ∙ ap (flat_map f) (sym taken))
+    n ∙ ap (λ ys. ys ++ leaves_by h x) o ∙ ap (λ ys. map (homed h k) (flat_map f (take i (body h k).parts)) ++ ys) (sym (leaves_placed h ready k x (read_in h k i read x r)))
+    ∙ sym (map-append (homed h k) (flat_map f (take i (body h k).parts)) (f x)) ∙ ap (map (homed h k)) (sym (parts_taken h k i read x r f))
 
 pub leaves_whole : (h : Hierarchy) → IsReady h → (k i : ℕ) (read : List Part) → k ≤ length h.bodies → read ≡ (body h k).parts → length read ≤ i → (ls : List Homed)
     → ls ≡ map (homed h k) (flat_map (placed_by h (leaves_in h)) (take i (body h k).parts)) → ls ≡ template_leaves h k
@@ -77,3 +90,29 @@ numbered_more f new old xs read i x same l e n =
     let one : new ++ rest ≡ old ++ flat_map f (enumerate_from i (drop i read)) =
     ap (λ ys. ys ++ rest) n ∙ append_assoc old (f (i, x)) rest ∙ ap (λ ys. old ++ flat_map f (enumerate_from i ys)) (sym (drop_first read i x l e)) in
     ap (λ ys. new ++ flat_map f (enumerate_from (i + 1) (drop (i + 1) ys))) (sym same) ∙ one ∙ ap (λ ys. old ++ flat_map f (enumerate_from i (drop i ys))) same
+
+pub record IsPort (h : Hierarchy) (k : ℕ) (all : List Template) (before : List ℕ) (n : Name) (at : PartAt) : Type 0 where
+  pub within : at.kind < length all
+  pub numbered : at.number < length before
+  pub template : (t : Template) → IsTemplate h at.kind (get_or all at.kind t)
+  pub room : get_or before at.number 0 + length (leaves_in h at.kind) < 2 ^ 32
+  pub leads : (j : Name) → target_by h (get_or before at.number 0) at.kind j ≡ target h k (n, j)
+
+pub is_port : (h : Hierarchy) (k : ℕ) (all : List Template) (before : List ℕ) (n : Name) (at : PartAt) (b : Body) → AreInner h k all → AreBefore h k before
+    → b ≡ body h k → Some at ≡ part_from 0 b.parts n → IsPort h k all before n at
+is_port h k all before n at b inner numbers e found =
+    let x = is_named h k n at (sym (found ∙ ap (λ (b : Body). part_from 0 b.parts n) e)) in
+    let l = below (body h k).parts at.number x.part x.numbered in
+    let m = numbers.each at.number l in
+    let r = room h inner.ready k at.number x.part inner.number x.numbered in
+    let P : ℕ → Type 0 = λ k. k < length all in
+    let Q : ℕ → Type 0 = λ k. (t : Template) → IsTemplate h k (get_or all k t) in
+    record {
+      within = subst P x.kind (inner.within x.part x.stands);
+      numbered = omega (arith, l, numbers.length_is);
+      template = subst Q x.kind (λ t. inner.each x.part t x.stands);
+      room = let same = ap (λ k. length (leaves_in h k)) x.kind in omega (arith, m, r, same, inner.few);
+      leads = λ j.
+          ap (λ k. target_by h (get_or before at.number 0) k j) (sym x.kind) ∙ ap (λ n. target_by h n x.part.kind j) m
+          ∙ sym (target_step h inner.ready k at.number n j x.part inner.number x.numbered x.named);
+    }

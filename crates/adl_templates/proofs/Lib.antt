@@ -1,7 +1,5 @@
 pub mod Bounds
 pub mod Filling
-pub mod Getting
-pub mod PartNumbers
+pub mod Holding
 pub mod Placing
 pub mod Standing
-pub mod Wanted

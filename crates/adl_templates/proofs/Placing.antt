@@ -1,7 +1,10 @@
 -- What an instance places of the template of its component.
-use Rattle.std.proofs.Common.{◌≡◌, ◌≤◌, ◌+◌, ℕ, zero, Bool, true, false, cond, List, length, [], ◌∷◌, ◌++◌, map, Option, Some, None, option_map, refl, sym, ◌∙◌, ap, subst, arith}
-use Rattle.std.proofs.lemmas.List.{map-append}
-use Rattle.std.specs.List.{flat_map, filter_map, cons_option, enumerate_from, slice_get}
+use Rattle.std.proofs.Common.{◌≡◌, ◌+◌, ℕ, zero, suc, List, [], ◌∷◌, ◌++◌, length, map, take, Some, refl, ◌∙◌, ap, arith, inl, inr, ◌≤◌, Bool, true, false, cond, Option, None, option_map, sym, subst}
+use Rattle.std.proofs.lemmas.List.{length-append, map-append}
+use Rattle.std.specs.List.{flat_map, enumerate_from, slice_get, filter_map, cons_option}
+use Rattle.numbering.specs.Gather.{IsIn}
+use Rattle.numbering.proofs.Gathered.{get_front, get_behind, in_place, place_of as number_at}
+use Rattle.std.proofs.lemmas.Simd.{map-map}
 use Rattle.std.specs.Option.{option_and_then}
 use Rattle.adl_ast.specs.declared.composition.End.{End}
 use Rattle.adl_ast.specs.declared.composition.Export.{Export}
@@ -11,18 +14,46 @@ use Rattle.adl_meaning.specs.Flat.{member_number}
 use Rattle.adl_meaning.specs.Hierarchy.{Hierarchy, Part, body, is_composite, wires_of, part_named, export_named, exports_of, port_in}
 use Rattle.adl_meaning.specs.Items.{Name}
 use Rattle.adl_meaning.specs.Joins.{Reached, behind, reached_by, reached, joined_by, Strung, further, strung, strung_by, connections_in}
-use Rattle.numbering.specs.Gather.{IsIn}
 use Rattle.adl_meaning.specs.Paths.{Path, Placed, name_of, outside, placed_by, leaves_in, same_path}
 use Rattle.adl_hierarchy.proofs.DomainNames.{same_path-Decides}
-use Rattle.adl_templates.specs.Ready.{IsReady}
+use Rattle.adl_templates.specs.AreTemplates.{IsReady}
 use Rattle.adl_hierarchy.proofs.Places.{place_is}
 use Rattle.adl_hierarchy.proofs.Repeats.{find_once}
 use Rattle.adl_hierarchy.proofs.Steps.{leaves_step, connections_step, reached_step, kind_in}
 use Rattle.numbering.proofs.Lists.{get_map, flat_map_same}
-use Rattle.numbering.proofs.Gathered.{in_place, place_of as number_at}
 use Rattle.adl_templates.specs.Templates.{homed, template_leaves, leaf_place, Joined, end_in, ends_in, connection_in, template_connections, own_connections, target_in, target, target_of, export_target, leaves_before, moved_leaf, leaves_by, moved_end, moved_connection, connections_by, moved_target, own_target, target_by}
-use Rattle.adl_templates.proofs.Getting.{get_flat_map, map_flat, flat_map_numbered, map_same}
 use Rattle.adl_templates.proofs.Standing.{paths_once, reached_met, joined_met, composite_around}
+
+-- an element of what one element of a list gives
+pub get_flat_map : {X Y : Type 0} (f : X → List Y) (xs : List X) (i n m : ℕ) (x : X) (y : Y) → m ≡ length (flat_map f (take i xs)) + n
+    → slice_get xs i ≡ Some x → slice_get (f x) n ≡ Some y → slice_get (flat_map f xs) m ≡ Some y
+get_flat_map f [] i n m x y e g t = cc
+get_flat_map f (z ∷ xs) zero n m x y e g t =
+    let q : m ≡ n = omega (arith, e) in
+    let s : z ≡ x = cc in
+    ap (slice_get (f z ++ flat_map f xs)) q ∙ get_front (f z) (flat_map f xs) n y (ap (λ u. slice_get (f u) n) s ∙ t)
+get_flat_map f (z ∷ xs) (suc i) n m x y e g t =
+    let rest = flat_map f (take i xs) in
+    let q : m ≡ length (f z) + (length rest + n) = omega (arith, e, length-append (f z) rest) in
+    get_behind (f z) (flat_map f xs) (length rest + n) m q ∙ get_flat_map f xs i n (length rest + n) x y refl g t
+
+pub map_flat : {X Y Z : Type 0} (g : Y → Z) (f : X → List Y) (xs : List X) → map g (flat_map f xs) ≡ flat_map (λ x. map g (f x)) xs
+map_flat g f [] = refl
+map_flat g f (x ∷ xs) = map-append g (f x) (flat_map f xs) ∙ ap (λ ys. map g (f x) ++ ys) (map_flat g f xs)
+
+-- what elements give, and what they give with their numbers
+pub flat_map_numbered : {X Y : Type 0} (f : X → List Y) (g : ℕ × X → List Y) (a : ℕ) (xs : List X)
+    → ((i n : ℕ) (x : X) → n ≡ a + i → slice_get xs i ≡ Some x → f x ≡ g (n, x)) → flat_map f xs ≡ flat_map g (enumerate_from a xs)
+flat_map_numbered f g a [] same = refl
+flat_map_numbered {X} f g a (x ∷ xs) same =
+    let first : f x ≡ g (a, x) = same zero a x (omega arith) refl in
+    let rest : flat_map f xs ≡ flat_map g (enumerate_from (a + 1) xs) = flat_map_numbered f g (a + 1) xs (λ i n y e s. same (suc i) n y (omega (arith, e)) s) in
+    ap (λ ys. ys ++ flat_map f xs) first ∙ ap (λ ys. g (a, x) ++ ys) rest
+
+-- where each element gives the same
+pub map_same : {X Y : Type 0} (f g : X → Y) (xs : List X) → ((x : X) → IsIn x xs → f x ≡ g x) → map f xs ≡ map g xs
+map_same f g [] same = refl
+map_same f g (x ∷ xs) same = ap (λ y. y ∷ map f xs) (same x (inl refl)) ∙ ap (λ ys. g x ∷ ys) (map_same f g xs (λ y i. same y (inr i)))
 
 -- ---- leaves
 
@@ -46,10 +77,6 @@ leaf_moved h ready k i x y l g c m =
     let P : Bool → Type 0 = λ b. slice_get (cond b (map (outside (name_of x)) (leaves_in h x.kind)) (record { path = name_of x ∷ []; part = x } ∷ [])) at.0 ≡ Some (outside (name_of x) y) in
     given_at h ready k i at.0 x (outside (name_of x) y) l g (subst P (sym c) (get_map (outside (name_of x)) (leaves_in h x.kind) at.0 y at.1))
     ∙ ap (λ n. leaves_before h k i + n) (sym (place_of h ready x.kind at.0 y at.1))
-
-map_twice : {X Y Z : Type 0} (f : Y → Z) (g : X → Y) (xs : List X) → map f (map g xs) ≡ map (λ x. f (g x)) xs
-map_twice f g [] = refl
-map_twice f g (x ∷ xs) = ap (λ ys. f (g x) ∷ ys) (map_twice f g xs)
 
 -- ---- ports
 
@@ -124,9 +151,9 @@ leaves_placed h ready k x i = by (is_composite h x.kind)
     by : (b : Bool) → map (homed h k) (cond b (map (outside (name_of x)) (leaves_in h x.kind)) (record { path = name_of x ∷ []; part = x } ∷ []))
         ≡ cond b (map (moved_leaf x) (template_leaves h x.kind)) (record { leaf = record { path = name_of x ∷ []; part = x }; home = group_or x.group None } ∷ [])
     by true =
-        map_twice (homed h k) (outside (name_of x)) (leaves_in h x.kind)
+        map-map (homed h k) (outside (name_of x)) (leaves_in h x.kind)
         ∙ map_same (λ y. homed h k (outside (name_of x) y)) (λ y. moved_leaf x (homed h x.kind y)) (leaves_in h x.kind) (λ y m. ap (λ o. record { leaf = outside (name_of x) y; home = o }) (at_home y.path))
-        ∙ sym (map_twice (moved_leaf x) (homed h x.kind) (leaves_in h x.kind))
+        ∙ sym (map-map (moved_leaf x) (homed h x.kind) (leaves_in h x.kind))
     by false = ap (λ o. record { leaf = record { path = name_of x ∷ []; part = x }; home = o } ∷ []) (at_home [])
 
 pub template_leaves_placed : (h : Hierarchy) → IsReady h → (k : ℕ) → k ≤ length h.bodies → template_leaves h k ≡ flat_map (leaves_by h) (body h k).parts
@@ -165,9 +192,9 @@ part_moved : (h : Hierarchy) → IsReady h → (k i : ℕ) (x : Part) → k ≤ 
     → map (connection_in h k) (strung_by (connections_in h) x) ≡ map (moved_connection (name_of x) (leaves_before h k i)) (template_connections h x.kind)
 part_moved h ready k i x l g =
     let o = leaves_before h k i in
-    map_twice (connection_in h k) (further (name_of x)) (connections_in h x.kind)
+    map-map (connection_in h k) (further (name_of x)) (connections_in h x.kind)
     ∙ map_same (λ y. connection_in h k (further (name_of x) y)) (λ y. moved_connection (name_of x) o (connection_in h x.kind y)) (connections_in h x.kind) (λ y m. by y m (is_composite h x.kind) refl)
-    ∙ sym (map_twice (moved_connection (name_of x) o) (connection_in h x.kind) (connections_in h x.kind))
+    ∙ sym (map-map (moved_connection (name_of x) o) (connection_in h x.kind) (connections_in h x.kind))
   where
     by : (y : Strung) → IsIn y (connections_in h x.kind) → (b : Bool) → is_composite h x.kind ≡ b
         → connection_in h k (further (name_of x) y) ≡ moved_connection (name_of x) (leaves_before h k i) (connection_in h x.kind y)

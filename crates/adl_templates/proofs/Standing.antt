@@ -14,7 +14,7 @@ use Rattle.adl_meaning.specs.Paths.{Path, Placed, at, leaves_in}
 use Rattle.adl_hierarchy.specs.Once.{IsOnce}
 use Rattle.adl_hierarchy.proofs.Climbing.{found_climbs}
 use Rattle.adl_hierarchy.proofs.Connections.{stands}
-use Rattle.adl_templates.specs.Ready.{IsReady}
+use Rattle.adl_templates.specs.AreTemplates.{IsReady}
 use Rattle.adl_hierarchy.proofs.Leaves.{StandsIn, met}
 use Rattle.adl_hierarchy.proofs.Once.{paths_within_once}
 use Rattle.adl_hierarchy.proofs.PartsAt.{at_part, first_on, part_append, path_short, is_outer}

@@ -1,13 +1,21 @@
--- What tables of templates tell.
-use Rattle.std.specs.Prelude.{◌≡◌, ◌<◌, ◌≤◌, ◌^◌, ℕ, suc, Bool, true, false, List, length, slice_index, slice_index_or}
-use Rattle.adl_meaning.specs.Hierarchy.{Hierarchy, Part, body}
+-- What templates rest on, and what tables of templates tell.
+use Rattle.std.specs.Prelude.{◌≡◌, ◌<◌, ◌^◌, ℕ, false, [], map, length, ◌≤◌, suc, Bool, true, List, slice_index, slice_index_or}
+use Rattle.std.specs.Option.{option_map_or}
+use Rattle.adl_hierarchy.specs.Finite.{IsFinite}
+use Rattle.adl_hierarchy.specs.Once.{IsOnce}
+use Rattle.adl_meaning.specs.Hierarchy.{Hierarchy, body, is_composite, Part}
+use Rattle.adl_meaning.specs.Paths.{name_of, leaves_in}
 use Rattle.adl_meaning.specs.Items.{Name}
-use Rattle.adl_meaning.specs.Paths.{leaves_in}
 use Rattle.numbering.specs.Gather.{IsIn}
 use Rattle.name_tables.specs.ByName.{found}
-use Rattle.adl_templates.specs.Ready.{IsReady}
 use Rattle.adl_templates.specs.Templates.{template_leaves, template_connections, export_target, leaves_before}
 use Rattle.adl_templates.specs.declared.template.Template.{Template}
+
+pub record IsReady (h : Hierarchy) : Type 0 where
+  pub finite : IsFinite h
+  pub once : (k : ℕ) → IsOnce (map name_of (body h k).parts)
+  pub composed : (k : ℕ) → is_composite h k ≡ false → (body h k).parts ≡ []
+  pub few : (k : ℕ) → option_map_or (λ c. length c.members) (body h k).component 0 < 2 ^ 32
 
 -- the template of body k
 pub record IsTemplate (h : Hierarchy) (k : ℕ) (t : Template) : Type 0 where
@@ -35,7 +43,10 @@ pub record AreWanted (h : Hierarchy) (wanted : List Bool) : Type 0 where
   pub inner : (k : ℕ) (x : Part) → k ≤ length h.bodies → slice_index_or wanted k false ≡ true → IsIn x (body h k).parts → slice_index_or wanted x.kind false ≡ true
   pub few : (k : ℕ) → k ≤ length h.bodies → slice_index_or wanted k false ≡ true → length (leaves_in h k) < 2 ^ 32
 
+abbrev pub IsWantedTemplate : Hierarchy → List Bool → ℕ → Template → Type 0
+IsWantedTemplate h wanted k t = slice_index_or wanted k false ≡ true → IsTemplate h k t
+
 -- the templates of the bodies that they are wanted of, by number
 pub record AreTemplates (h : Hierarchy) (wanted : List Bool) (all : List Template) : Type 0 where
   pub length_is : length all ≡ suc (length h.bodies)
-  pub each : (k : ℕ) (t : Template) → k ≤ length h.bodies → slice_index_or wanted k false ≡ true → IsTemplate h k (slice_index_or all k t)
+  pub each : (k : ℕ) (t : Template) → k ≤ length h.bodies → IsWantedTemplate h wanted k (slice_index_or all k t)

@@ -1,3 +1,2 @@
 pub mod AreTemplates
-pub mod Ready
 pub mod Templates

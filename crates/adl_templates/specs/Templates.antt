@@ -18,7 +18,7 @@ use Rattle.adl_meaning.specs.Members.{interface_of}
 use Rattle.adl_meaning.specs.Joins.{Reached, Strung, strung, reached, joined_by, connections_in}
 use Rattle.adl_meaning.specs.Lists.{place_by}
 use Rattle.adl_meaning.specs.Paths.{Path, Placed, name_of, outside, placed_by, leaves_in, same_path}
-use Rattle.adl_templates.specs.declared.target.Target.{Target}
+use Rattle.adl_templates.specs.declared.placed.Target.{Target}
 
 -- ---- leaves
 

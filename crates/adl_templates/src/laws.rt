@@ -2,7 +2,7 @@
 
 ghost use Rattle.adl_meaning.specs.Hierarchy.{Hierarchy, Part, body, part_named, top_number};
 ghost use Rattle.adl_meaning.specs.Items.{Name};
-ghost use Rattle.adl_templates.specs.Ready.{IsReady};
+ghost use Rattle.adl_templates.specs.AreTemplates.{IsReady};
 ghost use Rattle.adl_templates.specs.Templates.{template_leaves, template_connections, own_connections, connections_by, leaves_by, leaves_before, target, target_by};
 ghost use Rattle.std.specs.List.{flat_map, enumerate_from, slice_get};
 ghost use Rattle.std.specs.Prelude.{◌≡◌, ◌≤◌, ◌++◌, ℕ, Some};

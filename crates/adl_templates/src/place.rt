@@ -3,11 +3,10 @@
 ghost use Rattle.adl_meaning.specs.Domains.{group_or};
 ghost use Rattle.adl_meaning.specs.Paths.{name_of};
 ghost use Rattle.adl_templates.specs.Templates.{moved_leaf, moved_connection, moved_target};
-ghost use Rattle.adl_templates.specs.declared.target.Target.{Target as TargetOf};
+ghost use Rattle.adl_templates.specs.declared.placed.Target.{Target as TargetOf};
 ghost use Rattle.std.specs.Prelude.{◌≡◌, ◌<◌, ◌+◌, ◌^◌, ◌++◌, ◌∷◌, [], None, Some, All, map, option_map, IfOk, OnOk};
 
-use crate::placed::{PlacedConnection, PlacedEnd, PlacedLeaf};
-use crate::target::Target;
+use crate::placed::{PlacedConnection, PlacedEnd, PlacedLeaf, Target};
 use adl_program::Part;
 use cam_base::{Name, NoMemory, Path};
 use std::alloc::Global;

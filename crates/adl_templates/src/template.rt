@@ -1,24 +1,22 @@
 //! The template of a body, from those of its instances' components.
 
 ghost use Rattle.adl_meaning.specs.CompositeBody.{is_device};
-ghost use Rattle.adl_meaning.specs.Hierarchy.{body, graph, port_in};
-ghost use Rattle.adl_meaning.specs.Graph.{IsInnerFirst};
+ghost use Rattle.adl_meaning.specs.Hierarchy.{body, top_number};
 ghost use Rattle.adl_meaning.specs.JoinedEnds.{joins_once};
-ghost use Rattle.adl_templates.specs.AreTemplates.{IsTemplate, AreInner, AreBefore, AreWanted, AreTemplates};
-ghost use Rattle.adl_templates.specs.Ready.{IsReady};
-ghost use Rattle.adl_templates.specs.Templates.{template_leaves, own_connections, connections_by, member_of, own_target, target_by, target, target_of, export_target, leaves_by};
+ghost use Rattle.adl_templates.specs.AreTemplates.{IsTemplate, AreInner, AreBefore, AreWanted, AreTemplates, IsReady};
+ghost use Rattle.adl_templates.specs.Templates.{template_leaves, own_connections, connections_by, member_of, own_target, target_by, target_of, export_target, leaves_by};
 ghost use Rattle.adl_templates.specs.declared.template.Template.{Template as TemplateOf};
-ghost use Rattle.adl_meaning.specs.Paths.{leaves_in};
+ghost use Rattle.adl_meaning.specs.Paths.{leaves, leaves_in};
 ghost use Rattle.name_tables.specs.ByName.{found};
 ghost use Rattle.std.specs.List.{flat_map, enumerate_from};
-ghost use Rattle.std.specs.Option.{option_and_then, option_copied, option_map_or};
-ghost use Rattle.std.specs.Prelude.{◌≡◌, ◌<◌, ◌+◌, ◌^◌, ◌++◌, ℕ, true, false, List as Seq, length, slice_index, slice_index_or, option_map, IfOk, OnOk};
+ghost use Rattle.std.specs.Option.{option_and_then, option_map_or};
+ghost use Rattle.std.specs.Prelude.{◌≡◌, ◌<◌, ◌+◌, ◌^◌, ◌++◌, ℕ, true, false, List as Seq, length, slice_index, slice_index_or, IfOk, OnOk};
 
+use crate::held::held_bodies;
 use crate::place::{moved_target, own_leaf, place_connections, place_leaves};
-use crate::placed::{PlacedConnection, PlacedEnd, PlacedLeaf};
-use crate::target::Target;
+use crate::placed::{PlacedConnection, PlacedEnd, PlacedLeaf, Target};
 use adl_ast::{Id, InterfaceKind, Line};
-use adl_program::{Body, Part, Program};
+use adl_program::{Body, Part, Program, port_in};
 use cam_base::{Name, NoMemory, Path};
 use name_tables::NameTable;
 use std::alloc::Global;
@@ -154,40 +152,6 @@ fn before_at(before: &[u32], number: usize) -> u32
     before[number]
 }
 
-/// Where an interface of an instance of the body of the number leads.
-fn target(
-    program: &Program<'_>,
-    all: &[Template<'_>],
-    before: &[u32],
-    number: u32,
-    part: &Name,
-    interface: &Name,
-) -> Option<Target>
-    requires inner { AreInner program.now number all.now }
-    requires before { AreBefore program.now number before.now }
-    ensures { result ≡ target program.now number (part.now, interface.now) }
-{
-    match program.body(number).part(part) {
-        None => None,
-        Some(at) => {
-            let before = before_at(before, at.number);
-            let inner = &all[at.kind as usize];
-            part_target(program, inner, before, at.kind, interface)
-        }
-    }
-}
-
-/// The instance and the interface of a dotted name: its last two words.
-#[tactic(auto, using(adl_program::proofs::Ports::port_none, adl_program::proofs::Ports::port_at))]
-fn port_in(words: &[Id]) -> Option<(&Name, &Name)>
-    ensures { option_map (λ p. (p.0.now, p.1.now)) result ≡ port_in words.now }
-{
-    match words {
-        [.., part, interface] => Some((&part.name, &interface.name)),
-        _ => None,
-    }
-}
-
 /// Where a dotted name leads in the body of the number.
 fn target_of(
     program: &Program<'_>,
@@ -200,8 +164,16 @@ fn target_of(
     requires before { AreBefore program.now number before.now }
     ensures { result ≡ target_of program.now number words.now }
 {
-    let (part, interface) = port_in(words)?;
-    target(program, all, before, number, part, interface)
+    match port_in(words) {
+        None => None,
+        Some((part, interface)) => match program.body(number).part(part) {
+            None => None,
+            Some(at) => {
+                let before = before_at(before, at.number);
+                part_target(program, &all[at.kind as usize], before, at.kind, interface)
+            }
+        },
+    }
 }
 
 /// Where the exports of the body of the number lead.
@@ -327,29 +299,39 @@ fn wanted_template<'a>(
     }
 }
 
-/// The templates of the bodies that they are wanted of, by number, made in an order in which inner bodies stand first.
-///
-/// # Errors
-///
-/// Want of memory.
-pub fn all_templates<'a>(
+/// The templates of the bodies that they are wanted of, by number, inner ones first.
+fn all_templates<'a>(
     alloc: Global,
     program: &Program<'a>,
-    order: &[u32],
     wanted: &[bool],
 ) -> Result<Vec<Template<'a>>, NoMemory>
-    requires order { IsInnerFirst (graph program.now) order.now }
-    requires wanted { AreWanted program.now wanted.now }
+    requires { AreWanted program.now wanted.now }
     ensures { IfOk result (λ all. AreTemplates program.now wanted.now all.items) }
 {
     let mut all = Vec::new(alloc);
     for _count in 0..program.top_number() + 1 {
         all.push(Template::empty(alloc))?;
     }
-    for number in order {
+    for number in program.order() {
         let is_wanted = wanted[*number as usize];
         let template = wanted_template(alloc, program, all.as_slice(), *number, is_wanted)?;
         let _empty = std::mem::replace(&mut all[*number as usize], template);
     }
     Ok(all)
+}
+
+/// The template of the assembly, from those of the bodies that it holds.
+///
+/// # Errors
+///
+/// Want of memory.
+pub fn assembly_template<'a>(alloc: Global, program: &Program<'a>) -> Result<Template<'a>, NoMemory>
+    requires ready { IsReady program.now }
+    requires few { length (leaves program.now) < 2 ^ 32 }
+    ensures { IfOk result (λ t. IsTemplate program.now (top_number program.now) t) }
+{
+    let held = held_bodies(alloc, program)?;
+    let mut all = all_templates(alloc, program, held.as_slice())?;
+    let top = program.top_number() as usize;
+    Ok(std::mem::replace(&mut all[top], Template::empty(alloc)))
 }

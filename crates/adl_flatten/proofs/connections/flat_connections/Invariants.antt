@@ -1,5 +1,5 @@
 use Rattle.std.proofs.Common.{◌≡◌, ◌++◌, drop, map}
-use Rattle.adl_flatten.specs.Ends.{flat_connection_of}
+use Rattle.adl_flatten.specs.TemplateJoins.{flat_connection_of}
 use Rattle.adl_flatten.proofs.connections.flat_connections.Given as goal
 
 abbrev pub invariant-loop-connection : goal.invariant-loop-connection

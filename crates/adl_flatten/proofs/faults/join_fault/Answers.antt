@@ -12,8 +12,7 @@ use Rattle.adl_meaning.specs.Placement.{misplaced_device, parted_call}
 use Rattle.adl_meaning.specs.Unconnected.{unjoined_at, unconnected_in}
 use Rattle.adl_meaning.specs.UsedTwice.{used_twice, used_twice_in}
 use Rattle.adl_templates.specs.Templates.{template_connections}
-use Rattle.adl_flatten.specs.Ends.{all_joined}
-use Rattle.adl_flatten.specs.TemplateFaults.{unjoined_leaf, misplaced_leaf, misplaced_call}
+use Rattle.adl_flatten.specs.TemplateJoins.{all_joined, unjoined_leaf, misplaced_leaf, misplaced_call}
 use Rattle.adl_flatten.proofs.Templates.{all_joined_are, unjoined_are, devices_are, calls_are}
 use Rattle.adl_flatten.proofs.faults.join_fault.Goals as goal
 

@@ -1,15 +1,13 @@
-use Rattle.std.proofs.Common.{◌≡◌, ◌∙◌, [], sym, List, ℕ, ap, map, get_or, length, arith}
+use Rattle.std.proofs.Common.{◌≡◌, ◌∙◌, [], sym, List, ap, map}
 use Rattle.std.specs.List.{enumerate_from}
-use Rattle.adl_meaning.specs.declared.flat.Domain.{Domain}
 use Rattle.adl_meaning.specs.Domains.{domains}
 use Rattle.adl_meaning.specs.Lists.{firsts}
-use Rattle.adl_meaning.specs.Paths.{Path, same_path}
+use Rattle.adl_meaning.specs.Paths.{leaves, same_path}
 use Rattle.adl_meaning.specs.Flat.{leaf_of}
 use Rattle.adl_meaning.specs.Hierarchy.{Hierarchy, top_number}
-use Rattle.adl_meaning.specs.Paths.{leaves}
 use Rattle.adl_templates.specs.Templates.{Homed, template_leaves}
-use Rattle.adl_flatten.specs.Homes.{all_met, home, home_in, home_number, placed, present, numbered}
-use Rattle.adl_flatten.proofs.FlatLists.{present_homes, domains_are}
+use Rattle.adl_flatten.specs.Homes.{all_met, home, home_in, home_number, placed, present, domain_to}
+use Rattle.adl_flatten.proofs.Homes.{present_homes, domains_are}
 use Rattle.adl_flatten.proofs.Templates.{placed_are, homes_are}
 use Rattle.adl_flatten.proofs.leaves.all_places.Goals as goal
 
@@ -39,10 +37,6 @@ pub returns-clause-domains : goal.returns-clause-domains
 returns-clause-domains c =
     let h = c.args.program.now in
     let e = c.requires.leaves in
-    let paths = c.in_ok-homes.ensures.paths ∙ domains_in h _ e in
+    let paths = c.as_slice.ensures.keys ∙ c.in_ok-homes.ensures.paths ∙ domains_in h _ e in
     let numbers = c.as_slice-numbers.ensures.value ∙ c.in_ok-homes.ensures.numbers ∙ numbers_in h _ e in
-    let many = ap (λ (z : List Path). length z) paths in
-    let told = c.as_slice-2.ensures.value in
-    c.in_ok-flat_domains.ensures
-    ∙ ap (λ ps. map (λ (x : ℕ × Path). let d : Domain = record { path = x.1; leaves = get_or c.as_slice-2.result.now x.0 [] } in d) (enumerate_from 0 ps)) (c.as_slice.ensures.keys ∙ paths)
-    ∙ domains_are h c.as_slice-2.result.now (λ d l. ap (λ z. get_or z d []) told ∙ c.in_ok-inside.ensures.leaves d (omega (arith, c.len.ensures.len, many, l)) ∙ ap (numbered d) numbers)
+    c.in_ok-flat_domains.ensures ∙ ap (λ ps. map (domain_to c.as_slice-numbers.result.now) (enumerate_from 0 ps)) paths ∙ ap (λ ns. map (domain_to ns) (enumerate_from 0 (domains h))) numbers ∙ domains_are h

@@ -3,7 +3,7 @@ use Rattle.adl_meaning.specs.declared.flat.Leaf.{Leaf}
 use Rattle.adl_meaning.specs.Domains.{domains}
 use Rattle.adl_meaning.specs.Flat.{leaf_of}
 use Rattle.adl_flatten.specs.Homes.{home, home_number, placed}
-use Rattle.adl_flatten.proofs.FlatLists.{pushed_more, leaf_is, read_maps}
+use Rattle.adl_flatten.proofs.Homes.{pushed_more, leaf_is, read_maps}
 use Rattle.adl_flatten.proofs.leaves.flat_leaves.Goals as goal
 
 pub loop-i-preserved : goal.loop-i-preserved

@@ -7,7 +7,7 @@ use Rattle.adl_meaning.specs.Hierarchy.{hierarchy_of}
 use Rattle.adl_meaning.specs.Items.{as_assembly}
 use Rattle.adl_meaning.specs.SizeFaults.{limits_passed}
 use Rattle.adl_items.specs.Located.{located}
-use Rattle.adl_flatten.proofs.Limited.{limits_are}
+use Rattle.adl_flatten.proofs.PassedLimits.{limits_are}
 use Rattle.adl_flatten.proofs.limits.check_limits.Goals as goal
 
 pub returns-in-None : goal.returns-in-None

@@ -1,26 +1,23 @@
 use Rattle.std.proofs.Common.{◌∙◌, ap, map}
 use Rattle.adl_meaning.specs.Hierarchy.{Body, body, wires_of}
 use Rattle.adl_meaning.specs.Joins.{strung}
-use Rattle.adl_templates.proofs.Filling.{IsRead, read_in}
-use Rattle.adl_flatten.proofs.TotalsStep.{totals_step, totals_more}
+use Rattle.adl_templates.proofs.Filling.{reads, read_in}
+use Rattle.adl_flatten.proofs.Totals.{totals_step, totals_more}
 use Rattle.adl_flatten.proofs.sums.body_totals.Goals as goal
 
 pub part_totals-requires-clause-within : goal.part_totals-requires-clause-within
 part_totals-requires-clause-within c =
-    let read : IsRead c.args.program.now c.args.number c.loop-part.part-index c.parts-part-items.result.now c.part-item.result =
-    record { same = c.parts-part-items.ensures ∙ ap (λ (b : Body). b.parts) c.body-body.ensures; below = c.loop-part-test.true; item = c.part-item.is } in
+    let read = reads c.args.program.now c.args.number _ _ _ _ c.body-body.ensures c.parts-part-items.ensures c.loop-part-test.true c.part-item.is in
     c.requires.within _ (read_in _ _ _ _ _ read)
 
 pub part_totals-requires-clause-known : goal.part_totals-requires-clause-known
 part_totals-requires-clause-known c = λ t.
-    let read : IsRead c.args.program.now c.args.number c.loop-part.part-index c.parts-part-items.result.now c.part-item.result =
-    record { same = c.parts-part-items.ensures ∙ ap (λ (b : Body). b.parts) c.body-body.ensures; below = c.loop-part-test.true; item = c.part-item.is } in
+    let read = reads c.args.program.now c.args.number _ _ _ _ c.body-body.ensures c.parts-part-items.ensures c.loop-part-test.true c.part-item.is in
     c.requires.known _ (read_in _ _ _ _ _ read) t
 
 pub loop-part-preserved : goal.loop-part-preserved
 loop-part-preserved c =
-    let read : IsRead c.args.program.now c.args.number c.loop-part.part-index c.parts-part-items.result.now c.part-item.result =
-    record { same = c.parts-part-items.ensures ∙ ap (λ (b : Body). b.parts) c.body-body.ensures; below = c.loop-part-test.true; item = c.part-item.is } in
+    let read = reads c.args.program.now c.args.number _ _ _ _ c.body-body.ensures c.parts-part-items.ensures c.loop-part-test.true c.part-item.is in
     totals_more c.args.program.now (map (strung c.args.number) (wires_of (body c.args.program.now c.args.number))) c.args.number c.loop-part.part-index _ _ _ read
     (c.and-totals.ensures _ _ _ _ c.loop-part.invariant c.part_totals.ensures)
 

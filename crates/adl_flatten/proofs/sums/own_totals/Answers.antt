@@ -1,4 +1,4 @@
-use Rattle.adl_flatten.proofs.Totalling.{totals_own}
+use Rattle.adl_flatten.proofs.Totals.{totals_own}
 use Rattle.adl_flatten.proofs.sums.own_totals.Goals as goal
 
 pub returns : goal.returns

@@ -4,7 +4,7 @@ use Rattle.adl_meaning.specs.Joins.{connections_in, further, strung_by}
 use Rattle.adl_meaning.specs.Paths.{leaves_in, name_of, outside}
 use Rattle.adl_flatten.specs.TotalsOf.{totals_of}
 use Rattle.adl_flatten.specs.declared.sums.Totals.{Totals}
-use Rattle.adl_flatten.proofs.Totalling.{placed-leaf}
+use Rattle.adl_flatten.proofs.Totals.{placed-leaf}
 use Rattle.adl_flatten.proofs.sums.part_totals.Goals as goal
 
 pub returns-else-is_composite : goal.returns-else-is_composite

@@ -1,10 +1,10 @@
 use Rattle.std.proofs.Common.{◌≡◌, length}
 use Rattle.adl_program.proofs.Filling.{IsFilled}
-use Rattle.adl_templates.proofs.Wanted.{IsWantedTemplate}
+use Rattle.adl_templates.specs.AreTemplates.{IsWantedTemplate}
 use Rattle.adl_templates.proofs.template.all_templates.Given as goal
 
 abbrev pub invariant-loop-count : goal.invariant-loop-count
 invariant-loop-count l = length l.all.items ≡ l._count
 
 abbrev pub invariant-loop-number : goal.invariant-loop-number
-invariant-loop-number l = IsFilled (IsWantedTemplate l.program l.wanted) l.program l.order l.all.items l.number-index
+invariant-loop-number l = IsFilled (IsWantedTemplate l.program l.wanted) l.program l.number-items l.all.items l.number-index

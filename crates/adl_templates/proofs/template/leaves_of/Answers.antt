@@ -1,28 +1,25 @@
 use Rattle.std.proofs.Common.{◌≡◌, ◌∙◌, ◌∷◌, [], length, ap, arith, length-append}
 use Rattle.adl_meaning.specs.Hierarchy.{Body}
 use Rattle.adl_templates.specs.Templates.{leaves_before}
-use Rattle.adl_templates.proofs.Filling.{IsRead, read_in, counted, count_few, leaves_more, leaves_whole, each_more}
+use Rattle.adl_templates.proofs.Filling.{reads, read_in, counted, count_few, leaves_more, leaves_whole, each_more}
 use Rattle.adl_templates.proofs.template.leaves_of.Goals as goal
 
 pub overflow_cast-len : goal.overflow_cast-len
 overflow_cast-len c =
     let h = c.args.program.now in
     let i = c.loop-part.part-index in
-    let read : IsRead h c.args.number i c.parts-part-items.result.now c.part-item.result =
-    record { same = c.parts-part-items.ensures ∙ ap (λ (b : Body). b.parts) c.body.ensures; below = c.loop-part-test.true; item = c.part-item.is } in
+    let read = reads c.args.program.now c.args.number _ _ _ _ c.body.ensures c.parts-part-items.ensures c.loop-part-test.true c.part-item.is in
     let n = count_few h c.requires.ready c.args.number i _ _ c.requires.number read c.loop-part.leaves.items c.loop-part.invariant.leaves in
     omega (arith, n, c.requires.few, c.len.ensures, c.loop-part.leaves.ok.0)
 
 pub place_part-requires-clause-within : goal.place_part-requires-clause-within
 place_part-requires-clause-within c =
-    let read : IsRead c.args.program.now c.args.number c.loop-part.part-index c.parts-part-items.result.now c.part-item.result =
-    record { same = c.parts-part-items.ensures ∙ ap (λ (b : Body). b.parts) c.body.ensures; below = c.loop-part-test.true; item = c.part-item.is } in
+    let read = reads c.args.program.now c.args.number _ _ _ _ c.body.ensures c.parts-part-items.ensures c.loop-part-test.true c.part-item.is in
     c.requires.within _ (read_in _ _ _ _ _ read)
 
 pub place_part-requires-clause-each : goal.place_part-requires-clause-each
 place_part-requires-clause-each c = λ t.
-    let read : IsRead c.args.program.now c.args.number c.loop-part.part-index c.parts-part-items.result.now c.part-item.result =
-    record { same = c.parts-part-items.ensures ∙ ap (λ (b : Body). b.parts) c.body.ensures; below = c.loop-part-test.true; item = c.part-item.is } in
+    let read = reads c.args.program.now c.args.number _ _ _ _ c.body.ensures c.parts-part-items.ensures c.loop-part-test.true c.part-item.is in
     c.requires.each _ t (read_in _ _ _ _ _ read)
 
 pub loop-part-preserved : goal.loop-part-preserved
@@ -30,8 +27,7 @@ loop-part-preserved c =
     let h = c.args.program.now in
     let k = c.args.number in
     let i = c.loop-part.part-index in
-    let read : IsRead h k i c.parts-part-items.result.now c.part-item.result =
-    record { same = c.parts-part-items.ensures ∙ ap (λ (b : Body). b.parts) c.body.ensures; below = c.loop-part-test.true; item = c.part-item.is } in
+    let read = reads c.args.program.now c.args.number _ _ _ _ c.body.ensures c.parts-part-items.ensures c.loop-part-test.true c.part-item.is in
     let before : c.len.result ≡ leaves_before h k i = let n = counted h k i c.loop-part.leaves.items c.loop-part.invariant.leaves in omega (arith, n, c.len.ensures, c.loop-part.leaves.ok.0) in
     record {
       leaves = leaves_more h c.requires.ready k i _ _ read _ _ c.loop-part.invariant.leaves c.in_ok-place_part.ensures;

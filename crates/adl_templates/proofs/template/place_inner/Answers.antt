@@ -1,18 +1,17 @@
 use Rattle.std.proofs.Common.{◌<◌, ◌+◌, ◌^◌, ◌∙◌, ◌++◌, ℕ, List, length, map, get_or, ap, sym, subst, arith}
 use Rattle.std.specs.List.{All}
-use Rattle.adl_meaning.specs.Hierarchy.{Body, body}
+use Rattle.adl_meaning.specs.Hierarchy.{body}
 use Rattle.adl_meaning.specs.Paths.{name_of}
 use Rattle.adl_templates.specs.AreTemplates.{IsTemplate}
 use Rattle.adl_templates.specs.Templates.{Connected, moved_connection, template_connections, connections_by}
 use Rattle.adl_templates.specs.declared.template.Template.{Template}
 use Rattle.adl_templates.proofs.Bounds.{room, connections_below}
-use Rattle.adl_templates.proofs.Filling.{IsRead, read_in, read_at, numbered_more}
+use Rattle.adl_templates.proofs.Filling.{reads, read_in, read_at, numbered_more}
 use Rattle.adl_templates.proofs.template.place_inner.Goals as goal
 
 pub bounds-all-kind : goal.bounds-all-kind
 bounds-all-kind c =
-    let read : IsRead c.args.program.now c.args.number c.loop-i.i c.parts-part-items.result.now c.part-item.result =
-    record { same = c.parts-part-items.ensures ∙ ap (λ (b : Body). b.parts) c.body.ensures; below = c.loop-i-test.true; item = c.part-item.is } in
+    let read = reads c.args.program.now c.args.number _ _ _ _ c.body.ensures c.parts-part-items.ensures c.loop-i-test.true c.part-item.is in
     let P : ℕ → Type 0 = λ k. k < length c.args.all.now in
     subst P (sym c.kind.ensures) (c.requires.inner.within _ (read_in _ _ _ _ _ read))
 
@@ -22,7 +21,7 @@ place_connections-requires c =
     let k = c.args.number in
     let i = c.loop-i.i in
     let x = c.part-item.result in
-    let read : IsRead h k i c.parts-part-items.result.now x = record { same = c.parts-part-items.ensures ∙ ap (λ (b : Body). b.parts) c.body.ensures; below = c.loop-i-test.true; item = c.part-item.is } in
+    let read = reads c.args.program.now c.args.number _ _ _ _ c.body.ensures c.parts-part-items.ensures c.loop-i-test.true c.part-item.is in
     let b = c.requires.before.each i (let n = ap (λ xs. length xs) read.same in omega (arith, n, read.below)) in
     let r = room h c.requires.inner.ready k i x c.requires.inner.number (read_at h k i _ x read) in
     let P : ℕ → Type 0 = λ m. IsTemplate h x.kind (get_or c.args.all.now m c.index-all-kind.result) in
@@ -37,7 +36,7 @@ loop-i-preserved c =
     let k = c.args.number in
     let i = c.loop-i.i in
     let x = c.part-item.result in
-    let read : IsRead h k i c.parts-part-items.result.now x = record { same = c.parts-part-items.ensures ∙ ap (λ (b : Body). b.parts) c.body.ensures; below = c.loop-i-test.true; item = c.part-item.is } in
+    let read = reads c.args.program.now c.args.number _ _ _ _ c.body.ensures c.parts-part-items.ensures c.loop-i-test.true c.part-item.is in
     let b = c.requires.before.each i (let n = ap (λ xs. length xs) read.same in omega (arith, n, read.below)) in
     let P : ℕ → Type 0 = λ m. IsTemplate h x.kind (get_or c.args.all.now m c.index-all-kind.result) in
     let Q : Template → Type 0 = λ t. IsTemplate h x.kind t in

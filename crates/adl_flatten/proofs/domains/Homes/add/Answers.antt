@@ -1,6 +1,6 @@
 use Rattle.std.proofs.Common.{◌∙◌, ◌++◌, ◌∷◌, [], ap, sym}
 use Rattle.adl_flatten.specs.Homes.{all_met, home_number}
-use Rattle.adl_flatten.proofs.PathLookups.{met_place}
+use Rattle.adl_flatten.proofs.Homes.{met_place}
 use Rattle.adl_flatten.proofs.domains.Homes.add.Goals as goal
 
 pub returns-in_ok-push-in-Some-clause-numbers : goal.returns-in_ok-push-in-Some-clause-numbers

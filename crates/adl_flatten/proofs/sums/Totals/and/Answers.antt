@@ -1,4 +1,4 @@
-use Rattle.adl_flatten.proofs.Totalling.{totals_append}
+use Rattle.adl_flatten.proofs.Totals.{totals_append}
 use Rattle.adl_flatten.proofs.sums.Totals.and.Goals as goal
 
 pub returns : goal.returns

@@ -1,4 +1,4 @@
-use Rattle.adl_flatten.proofs.Totalling.{totals_outside, totals_no_leaf}
+use Rattle.adl_flatten.proofs.Totals.{totals_outside, totals_no_leaf}
 use Rattle.adl_flatten.proofs.sums.Totals.outside.Goals as goal
 
 pub returns-then-self-eq0 : goal.returns-then-self-eq0

@@ -1,34 +1,17 @@
--- Totals of lists that are put together.
-use Rattle.std.proofs.Common.{◌≡◌, ◌<◌, ◌+◌, ◌-◌, ◌^◌, ℕ, suc, List, length, get_or, take, [], ◌∷◌, ◌++◌, map, refl, sym, ◌∙◌, ap, arith, length-append, min, max, false, cond}
+-- Totals of lists that are put together, and the totals of a body from those of its instances.
+use Rattle.std.proofs.Common.{◌≡◌, ◌<◌, ◌+◌, ◌-◌, ◌^◌, ℕ, suc, List, length, [], ◌∷◌, ◌++◌, map, refl, sym, ◌∙◌, ap, arith, length-append, min, max, false, cond, ◌≤◌, take, append_assoc}
 use Rattle.std.specs.List.{flat_map}
-use Rattle.std.proofs.lemmas.List.{length-map, take_more, append-nil}
+use Rattle.std.proofs.lemmas.List.{length-map, take_all}
 use Rattle.std.proofs.lemmas.List.Concat.{flat_map-append}
-use Rattle.adl_meaning.specs.Hierarchy.{Hierarchy, Wire, Part, is_composite}
-use Rattle.adl_meaning.specs.Joins.{Strung, strung, further}
-use Rattle.adl_meaning.specs.Paths.{Path, Placed, outside, placed_by, name_of}
+use Rattle.adl_meaning.specs.Hierarchy.{Hierarchy, Wire, Part, is_composite, body, wires_of}
+use Rattle.adl_meaning.specs.Joins.{Strung, strung, further, strung_by, connections_in}
+use Rattle.adl_meaning.specs.Paths.{Path, Placed, outside, placed_by, name_of, leaves_in}
 use Rattle.adl_meaning.specs.SizeFaults.{longest}
-use Rattle.adl_flatten.specs.TotalsOf.{saturated, ends_of, totals_of}
+use Rattle.adl_flatten.specs.TotalsOf.{saturated, ends_of, totals_of, totals_in}
 use Rattle.adl_flatten.specs.declared.sums.Totals.{Totals}
-
-abbrev most : ℕ
-most = 2 ^ 64 - 1
-
--- ---- numbers
-
-saturated-add : (a b : ℕ) → min (saturated a + saturated b) (2 ^ 64 - 1) ≡ saturated (a + b)
-saturated-add a b = omega arith
-
-saturated-max : (a b : ℕ) → max (saturated a) (saturated b) ≡ saturated (max a b)
-saturated-max a b = omega arith
-
-saturated-more : (a : ℕ) → min (saturated a + 1) (2 ^ 64 - 1) ≡ saturated (a + 1)
-saturated-more a = omega arith
-
-max-assoc : (a b c : ℕ) → max (max a b) c ≡ max a (max b c)
-max-assoc a b c = omega arith
-
-max-suc : (a b : ℕ) → max (suc a) (b + 1) ≡ max a b + 1
-max-suc a b = omega arith
+use Rattle.adl_hierarchy.specs.Finite.{IsFinite}
+use Rattle.adl_hierarchy.proofs.Steps.{leaves_step, connections_step}
+use Rattle.adl_templates.proofs.Filling.{IsRead, parts_taken}
 
 -- ---- paths
 
@@ -37,12 +20,12 @@ paths ps = map (λ x. x.path) ps
 
 longest-append : (ps qs : List Placed) → longest (paths (ps ++ qs)) ≡ max (longest (paths ps)) (longest (paths qs))
 longest-append [] qs = omega arith
-longest-append (x ∷ ps) qs = ap (λ z. max (length x.path) z) (longest-append ps qs) ∙ sym (max-assoc (length x.path) (longest (paths ps)) (longest (paths qs)))
+longest-append (x ∷ ps) qs = omega (arith, longest-append ps qs)
 
 longest-outside : (n : List ℕ) (ps : List Placed) → 0 < length ps → longest (paths (map (outside n) ps)) ≡ longest (paths ps) + 1
 longest-outside n [] l = absurd (omega arith)
 longest-outside n (x ∷ []) l = omega arith
-longest-outside n (x ∷ y ∷ ps) l = ap (λ z. max (suc (length x.path)) z) (longest-outside n (y ∷ ps) (omega arith)) ∙ max-suc (length x.path) (longest (paths (y ∷ ps)))
+longest-outside n (x ∷ y ∷ ps) l = let rest = longest-outside n (y ∷ ps) (omega arith) in omega (arith, rest)
 
 -- ---- ends
 
@@ -63,13 +46,12 @@ pub totals_append : (a b : Totals) (l d c e : ℕ) (ps qs : List Placed) (ks ls 
     → l ≡ min (a.leaves + b.leaves) (2 ^ 64 - 1) → d ≡ max a.depth b.depth → c ≡ min (a.connections + b.connections) (2 ^ 64 - 1) → e ≡ min (a.ends + b.ends) (2 ^ 64 - 1)
     → (let t : Totals = record { leaves = l; depth = d; connections = c; ends = e } in t ≡ totals_of (ps ++ qs) (ks ++ ls))
 totals_append a b l d c e ps qs ks ls p q el ed ec ee =
-    let both : (f : Totals → ℕ) (m : ℕ) → m ≡ min (f a + f b) (2 ^ 64 - 1) → m ≡ min (f (totals_of ps ks) + f (totals_of qs ls)) (2 ^ 64 - 1) =
-    λ f m h. h ∙ ap (λ t. min (f t + f b) (2 ^ 64 - 1)) p ∙ ap (λ t. min (f (totals_of ps ks) + f t) (2 ^ 64 - 1)) q in
-    let sl : l ≡ saturated (length (ps ++ qs)) = both (λ t. t.leaves) l el ∙ saturated-add (length ps) (length qs) ∙ ap (λ n. saturated n) (sym (length-append ps qs)) in
-    let sd : d ≡ saturated (longest (paths (ps ++ qs))) =
-    ed ∙ ap (λ (t : Totals). max t.depth b.depth) p ∙ ap (λ (t : Totals). max (saturated (longest (paths ps))) t.depth) q ∙ saturated-max (longest (paths ps)) (longest (paths qs)) ∙ ap (λ n. saturated n) (sym (longest-append ps qs)) in
-    let sc : c ≡ saturated (length (ks ++ ls)) = both (λ t. t.connections) c ec ∙ saturated-add (length ks) (length ls) ∙ ap (λ n. saturated n) (sym (length-append ks ls)) in
-    let se : e ≡ saturated (length (ends_of (ks ++ ls))) = both (λ t. t.ends) e ee ∙ saturated-add (length (ends_of ks)) (length (ends_of ls)) ∙ ap (λ n. saturated n) (sym (length-append (ends_of ks) (ends_of ls)) ∙ ap (λ z. length z) (sym (ends-append ks ls))) in
+    let of : (f : Totals → ℕ) → (f a ≡ f (totals_of ps ks)) × (f b ≡ f (totals_of qs ls)) = λ f. (ap f p, ap f q) in
+    let sl : l ≡ saturated (length (ps ++ qs)) = let t = of (λ t. t.leaves) in omega (arith, el, t.0, t.1, length-append ps qs) in
+    let sd : d ≡ saturated (longest (paths (ps ++ qs))) = let t = of (λ t. t.depth) in omega (arith, ed, t.0, t.1, longest-append ps qs) in
+    let sc : c ≡ saturated (length (ks ++ ls)) = let t = of (λ t. t.connections) in omega (arith, ec, t.0, t.1, length-append ks ls) in
+    let se : e ≡ saturated (length (ends_of (ks ++ ls))) =
+    let t = of (λ t. t.ends) in omega (arith, ee, t.0, t.1, ap (λ z. length z) (ends-append ks ls), length-append (ends_of ks) (ends_of ls)) in
     λ i. record { leaves = sl i; depth = sd i; connections = sc i; ends = se i }
 
 -- connections one name further in are as many, with as many ends
@@ -87,7 +69,7 @@ totals_outside t d n ps ks p some e =
     let c : t.leaves ≡ saturated (length ps) = ap (λ (t : Totals). t.leaves) p in
     let l : 0 < length ps = omega arith in
     let sl : t.leaves ≡ saturated (length (map (outside n) ps)) = c ∙ ap (λ n. saturated n) (sym (length-map ps (outside n))) in
-    let sd : d ≡ saturated (longest (paths (map (outside n) ps))) = e ∙ ap (λ (t : Totals). min (t.depth + 1) (2 ^ 64 - 1)) p ∙ saturated-more (longest (paths ps)) ∙ ap (λ n. saturated n) (sym (longest-outside n ps l)) in
+    let sd : d ≡ saturated (longest (paths (map (outside n) ps))) = let f = ap (λ (t : Totals). t.depth) p in omega (arith, e, f, longest-outside n ps l) in
     let sc : t ≡ totals_of ps (map (further n) ks) = p ∙ totals-further n ps ks in
     λ i. record { leaves = sl i; depth = sd i; connections = (sc i).connections; ends = (sc i).ends }
 
@@ -102,16 +84,33 @@ totals_own k n e ws nl few el =
     let s : e ≡ saturated (length (ends_of (map (strung k) ws))) = el ∙ ap (λ z. saturated (length z)) (ends-strung k ws) in
     λ i. record { leaves = 0; depth = 0; connections = c i; ends = s i }
 
--- ---- one more
-
--- what comes out of a list of which one more was told
-pub flat_map-taken : {X Y : Type 0} (f : X → List Y) (xs : List X) (i : ℕ) (x : X) → i < length xs → x ≡ get_or xs i x → flat_map f (take (i + 1) xs) ≡ flat_map f (take i xs) ++ f x
-flat_map-taken f xs i x l e =
-    ap (λ z. flat_map f z) (take_more xs i x l ∙ ap (λ z. take i xs ++ z ∷ []) (sym e))
-    ∙ flat_map-append f (take i xs) (x ∷ [])
-    ∙ ap (λ z. flat_map f (take i xs) ++ z) (append-nil (f x))
-
 -- ---- an instance of a leaf
 
 pub placed-leaf : (h : Hierarchy) (f : ℕ → List Placed) (x : Part) → is_composite h x.kind ≡ false → placed_by h f x ≡ record { path = name_of x ∷ []; part = x } ∷ []
 placed-leaf h f x e = ap (λ b. cond b (map (outside (name_of x)) (f x.kind)) (record { path = name_of x ∷ []; part = x } ∷ [])) e
+
+abbrev pub IsTotal : Hierarchy → ℕ → Totals → Type 0
+IsTotal h k t = t ≡ totals_in h k
+
+-- the totals of connections and of the leaves and connections of the first instances
+abbrev pub totals_to : Hierarchy → List Strung → List Part → Totals
+totals_to h ks xs = totals_of (flat_map (placed_by h (leaves_in h)) xs) (ks ++ flat_map (strung_by (connections_in h)) xs)
+
+pub totals_more : (h : Hierarchy) (ks : List Strung) (k i : ℕ) (read : List Part) (x : Part) (t : Totals) → IsRead h k i read x
+    → (let xs = take i (body h k).parts in
+    t ≡ totals_of (flat_map (placed_by h (leaves_in h)) xs ++ placed_by h (leaves_in h) x) ((ks ++ flat_map (strung_by (connections_in h)) xs) ++ strung_by (connections_in h) x))
+    → t ≡ totals_to h ks (take (i + 1) (body h k).parts)
+totals_more h ks k i read x t r e =
+    let xs = take i (body h k).parts in
+    e ∙ ap (λ ps. totals_of ps ((ks ++ flat_map (strung_by (connections_in h)) xs) ++ strung_by (connections_in h) x)) (sym (parts_taken h k i read x r (placed_by h (leaves_in h))))
+    ∙ ap (λ ls. totals_of (flat_map (placed_by h (leaves_in h)) (take (i + 1) (body h k).parts)) ls)
+    (append_assoc ks (flat_map (strung_by (connections_in h)) xs) (strung_by (connections_in h) x) ∙ ap (λ ls. ks ++ ls) (sym (parts_taken h k i read x r (strung_by (connections_in h)))))
+
+pub totals_step : (h : Hierarchy) → IsFinite h → (k : ℕ) → k ≤ length h.bodies → (i : ℕ) (read : List Part) (t : Totals) → read ≡ (body h k).parts → length read ≤ i
+    → t ≡ totals_to h (map (strung k) (wires_of (body h k))) (take i (body h k).parts) → t ≡ totals_in h k
+totals_step h f k l i read t same over e =
+    let n : length read ≡ length (body h k).parts = ap (λ xs. length xs) same in
+    let ks = map (strung k) (wires_of (body h k)) in
+    e ∙ ap (totals_to h ks) (take_all i (body h k).parts (omega (arith, n, over)))
+    ∙ ap (λ ps. totals_of ps (ks ++ flat_map (strung_by (connections_in h)) (body h k).parts)) (sym (leaves_step h f k l))
+    ∙ ap (λ ls. totals_of (leaves_in h k) ls) (sym (connections_step h f k l))

@@ -1,6 +1,0 @@
-use Rattle.adl_program.proofs.Filling.{IsFilled}
-use Rattle.adl_flatten.proofs.TotalsStep.{IsTotal}
-use Rattle.adl_flatten.proofs.sums.all_totals.Given as goal
-
-abbrev pub invariant-loop-number : goal.invariant-loop-number
-invariant-loop-number l = IsFilled (IsTotal l.program) l.program l.order l.all.items l.number-index

@@ -1,0 +1,38 @@
+use Rattle.std.proofs.Common.{◌∙◌, ap, arith, get_or, length}
+use Rattle.adl_program.proofs.Filling.{order_below, inner_filled, filled_more, all_filled}
+use Rattle.adl_hierarchy.proofs.Steps.{kind_in}
+use Rattle.adl_flatten.proofs.Totals.{IsTotal}
+use Rattle.adl_flatten.proofs.sums.assembly_totals.Goals as goal
+
+pub body_totals-totals-requires-clause-number : goal.body_totals-totals-requires-clause-number
+body_totals-totals-requires-clause-number c = order_below c.args.program.now c.order-number-items.result.now c.loop-number.number-index c.order-number-items.ensures c.loop-number-test.true
+
+pub body_totals-totals-requires-clause-within : goal.body_totals-totals-requires-clause-within
+body_totals-totals-requires-clause-within c = λ x m.
+    let h = c.args.program.now in
+    let i = c.loop-number.number-index in
+    let l = order_below h c.order-number-items.result.now i c.order-number-items.ensures c.loop-number-test.true in
+    let k = kind_in h c.requires (get_or c.order-number-items.result.now i 0) x l m in
+    rw (c.as_slice.ensures.value, c.loop-number.invariant.length_is) (omega arith)
+
+pub body_totals-totals-requires-clause-known : goal.body_totals-totals-requires-clause-known
+body_totals-totals-requires-clause-known c = λ x m t.
+    let h = c.args.program.now in
+    let i = c.loop-number.number-index in
+    ap (λ all. get_or all x.kind t) c.as_slice.ensures.value ∙ c.loop-number.invariant.each x.kind t (inner_filled h c.order-number-items.result.now i x c.order-number-items.ensures c.loop-number-test.true m)
+
+pub index_mut-requires : goal.index_mut-requires
+index_mut-requires c =
+    let b = order_below c.args.program.now c.order-number-items.result.now c.loop-number.number-index c.order-number-items.ensures c.loop-number-test.true in
+    rw (← c.as_slice.ensures.len, c.as_slice.ensures.value, c.loop-number.invariant.length_is) (omega arith)
+
+pub loop-number-preserved : goal.loop-number-preserved
+loop-number-preserved c =
+    filled_more (IsTotal c.args.program.now) c.args.program.now c.order-number-items.result.now c.loop-number.all.items c.loop-number.number-index c.body_totals-totals.result c.order-number-items.ensures c.loop-number-test.true c.loop-number.invariant c.body_totals-totals.ensures
+
+pub returns : goal.returns
+returns c =
+    let h = c.args.program.now in
+    let t = c.index.result.now in
+    c.index.ensures ∙ ap (λ n. get_or c.loop-number.all.items n t) c.top_number-top.ensures.number
+    ∙ all_filled (IsTotal h) h c.order-number-items.result.now c.loop-number.all.items c.loop-number.number-index c.order-number-items.ensures c.loop-number-test.false c.loop-number.invariant (length h.bodies) t (omega arith)

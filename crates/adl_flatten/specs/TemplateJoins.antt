@@ -1,0 +1,75 @@
+-- The connections of a template in a flat system, how many ends join an interface of a leaf, and the faults of joins.
+use Rattle.std.specs.Prelude.{ℕ, List, [], ◌∷◌, ◌++◌, map, ◌≡◌, ◌==◌, nat_eq, Bool, true, ◌&&◌, unwrap_or, not, is_some, Option}
+use Rattle.std.specs.List.{flat_map, enumerate_from, count_by, list_all, slice_get}
+use Rattle.adl_meaning.specs.declared.flat.FlatConnection.{FlatConnection}
+use Rattle.adl_meaning.specs.declared.flat.FlatEnd.{FlatEnd}
+use Rattle.adl_meaning.specs.Export.{last_name}
+use Rattle.adl_meaning.specs.JoinedEnds.{JoinedEnd, is_at}
+use Rattle.adl_templates.specs.Templates.{Joined, Connected, Homed}
+use Rattle.std.specs.Map.{lookup}
+use Rattle.std.specs.Option.{option_eq, option_map_or, option_and_then}
+use Rattle.adl_flatten.specs.declared.end_counts.EndCounts.{EndCounts}
+use Rattle.adl_flatten.specs.declared.end_counts.EndKey.{EndKey}
+use Rattle.cam_base.specs.declared.code.Code.TheVariants as code
+use Rattle.cam_base.specs.declared.place.Fault.{Fault}
+use Rattle.adl_meaning.specs.declared.flat.Leaf.{Leaf}
+use Rattle.adl_meaning.specs.Domains.{is_hardware}
+use Rattle.adl_meaning.specs.Faults.{at_word, where_true}
+use Rattle.adl_meaning.specs.Hierarchy.{Hierarchy, body}
+use Rattle.adl_meaning.specs.Placement.{is_direct, same_domain}
+use Rattle.adl_meaning.specs.Unconnected.{unjoined_member}
+
+abbrev pub flat_end_of : Joined → FlatEnd
+flat_end_of e = record { role = e.end.role; leaf = e.leaf; member = e.member; place = e.end.place }
+
+abbrev pub flat_connection_of : Connected → FlatConnection
+flat_connection_of c = record { path = c.path ++ c.wire.1.id.name ∷ []; connector = c.wire.0; place = c.wire.1.id.place; ends = map flat_end_of c.ends }
+
+-- an end of the connection of the number
+abbrev pub joined_end_of : ℕ → Joined → JoinedEnd
+joined_end_of n e = record { connection = n; word = last_name e.end.words; end = flat_end_of e; once = e.once }
+
+abbrev pub joined_of : ℕ × Connected → List JoinedEnd
+joined_of c = map (joined_end_of c.0) c.1.ends
+
+-- the ends of all connections
+abbrev pub all_joined : List Connected → List JoinedEnd
+all_joined cs = flat_map joined_of (enumerate_from 0 cs)
+
+abbrev pub same_key : EndKey → EndKey → Bool
+same_key k l = option_eq nat_eq k.connection l.connection && (k.leaf == l.leaf && k.member == l.member)
+
+-- whether the end is counted at the key
+abbrev pub is_counted : EndKey → JoinedEnd → Bool
+is_counted k e = is_at k.leaf k.member e && option_map_or (λ c. e.connection == c) k.connection true
+
+abbrev pub count_at : EndCounts → EndKey → ℕ
+count_at t k = unwrap_or (lookup (same_key k) t.counts.entries) 0
+
+-- the table counts these ends
+abbrev pub AreCounts : EndCounts → List JoinedEnd → Type 0
+AreCounts t ends = (k : EndKey) → count_at t k ≡ count_by (is_counted k) ends
+
+-- an interface of a leaf, by its number, that no end joins
+abbrev pub unjoined_leaf : Hierarchy → List JoinedEnd → ℕ × Homed → List Fault
+unjoined_leaf h all x = option_map_or (λ c. flat_map (unjoined_member all x.0) (enumerate_from 0 c.members)) (body h x.1.leaf.part.kind).component []
+
+-- a device below a group
+abbrev pub misplaced_leaf : Hierarchy → Homed → List Fault
+misplaced_leaf h l = where_true (is_hardware h l.leaf.part && is_some l.home) (at_word code.Placement l.leaf.part.instance.id)
+
+-- the domain of the leaf that an end joins
+abbrev pub domain_in : List Leaf → Joined → Option ℕ
+domain_in all e = option_and_then (λ l. l.domain) (slice_get all e.leaf)
+
+abbrev pub all_in : List Leaf → Option ℕ → List Joined → Bool
+all_in all domain ends = list_all (λ f. same_domain (domain_in all f) domain) ends
+
+-- whether all ends are in the domain of the first
+abbrev pub in_one : List Leaf → List Joined → Bool
+in_one all [] = true
+in_one all (e ∷ es) = all_in all (domain_in all e) (e ∷ es)
+
+-- a connection of direct calls between domains
+abbrev pub misplaced_call : List Leaf → Connected → List Fault
+misplaced_call all c = where_true (is_direct c.wire.0 && not (in_one all c.ends)) (at_word code.Placement c.wire.1.id)
