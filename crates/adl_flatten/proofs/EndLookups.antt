@@ -1,13 +1,10 @@
 -- What tables of counts find, and what counts of ends say.
-use Rattle.std.proofs.Common.{◌≡◌, ◌==◌, ◌+◌, ◌∙◌, ◌&&◌, ◌||◌, ℕ, nat_eq, Bool, cond, true, false, refl, sym, ap, List, [], ◌∷◌, Option, Some, None, unwrap_or, nat_lt, true≢false, arith}
-use Rattle.std.specs.List.{count_by, list_any}
+use Rattle.adl_flatten.proofs.Common.{Bool, JoinedEnd, List, None, Option, Some, [], and_parts, ap, arith, cond, count_by, eqb-true, false, is_at, is_counted, list_any, lt-ltb, nat_eq, nat_lt, option_eq, refl, same_key, sym, true, unwrap_or, ℕ, ◌&&◌}
+use Rattle.adl_flatten.proofs.Common.{◌+◌, ◌==◌, ◌||◌, ◌∙◌, ◌∷◌, ◌≡◌}
+use Rattle.std.proofs.Common.{true≢false}
 use Rattle.std.specs.Map.{lookup}
-use Rattle.std.specs.Option.{option_eq}
 use Rattle.std.proofs.Math.Nat.{zero-add}
-use Rattle.std.proofs.lemmas.Bool.{and_parts, eqb-true, lt-ltb}
 use Rattle.std.proofs.lemmas.List.Sums.{sum_by-cons}
-use Rattle.adl_meaning.specs.JoinedEnds.{JoinedEnd, is_at}
-use Rattle.adl_flatten.specs.TemplateJoins.{same_key, is_counted}
 use Rattle.adl_flatten.specs.declared.end_counts.EndKey.{EndKey}
 
 option_eq-true : (a b : Option ℕ) → option_eq nat_eq a b ≡ true → a ≡ b

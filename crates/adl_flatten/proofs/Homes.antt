@@ -1,21 +1,11 @@
 -- Domains of leaves: paths that were met, and the lists of a flat system from those that code keeps.
-use Rattle.std.proofs.Common.{◌≡◌, ◌∙◌, ◌+◌, ℕ, zero, suc, Bool, cond, true, false, not, ◌||◌, append_assoc, refl, sym, ap, List, [], ◌∷◌, ◌++◌, Option, Some, arith, ◌<◌, length, get_or, take, drop, map, None, ◌&&◌, nat_eq}
-use Rattle.std.specs.List.{list_any, position_or_len, filter, enumerate_from, slice_get}
+use Rattle.adl_flatten.proofs.Common.{Bool, Hierarchy, Leaf, List, None, Option, Path, Placed, Some, [], all_met, ap, append_assoc, arith, cond, domain_number, domain_of, domain_to, domains, drop, drop_first, enumerate_from, eq-eqb, false, filter}
+use Rattle.adl_flatten.proofs.Common.{firsts_after, flat_domain, get_or, get_or-map, home, home_number, is_hardware, is_inside, is_met, is_number, item_of, leaf_of, leaves, length, length-map, length-take-le, list_any, list_any-append, map, nat_eq}
+use Rattle.adl_flatten.proofs.Common.{ne_eqb, not, numbered, place_by, position_or_len, present, refl, same_lists, same_path, slice_get, suc, sym, take, take_more, true, true≢false, zero, ℕ, ◌&&◌, ◌++◌, ◌+◌, ◌<◌, ◌||◌, ◌∙◌, ◌∷◌, ◌≡◌}
 use Rattle.indexmap.specs.IndexSet.{insert_key}
-use Rattle.adl_meaning.specs.Lists.{place_by, firsts_after}
-use Rattle.adl_meaning.specs.Paths.{Path, same_path, Placed, leaves}
-use Rattle.adl_flatten.specs.Homes.{all_met, home_number, is_met, present, is_number, home, numbered, domain_to}
 use Rattle.adl_hierarchy.proofs.DomainNames.{same_path-Decides, domain_number_is}
-use Rattle.std.proofs.lemmas.List.{take_more, get_or-map, same_lists, length-map, length-take-le}
-use Rattle.std.proofs.lemmas.List.Folds.{list_any-append}
 use Rattle.std.proofs.lemmas.List.FromFn.{length-enumerate_from, get_or-enumerate_from}
-use Rattle.cam_base.proofs.Lists.{drop_first}
-use Rattle.std.proofs.lemmas.Bool.{eq-eqb, ne_eqb, true≢false}
 use Rattle.adl_meaning.specs.declared.flat.Domain.{Domain}
-use Rattle.adl_meaning.specs.declared.flat.Leaf.{Leaf}
-use Rattle.adl_meaning.specs.Domains.{domain_of, domains, is_hardware}
-use Rattle.adl_meaning.specs.Flat.{item_of, leaf_of, is_inside, flat_domain, domain_number}
-use Rattle.adl_meaning.specs.Hierarchy.{Hierarchy}
 
 met-snoc : (xs : List Path) (x y : Path) → is_met (xs ++ x ∷ []) y ≡ (is_met xs y || same_path y x)
 met-snoc xs x y = list_any-append (same_path y) xs (x ∷ []) ∙ ap (λ b. is_met xs y || b) (or-false (same_path y x))

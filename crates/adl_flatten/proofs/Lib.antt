@@ -1,3 +1,4 @@
+pub mod Common
 pub mod EndLookups
 pub mod Homes
 pub mod PassedLimits

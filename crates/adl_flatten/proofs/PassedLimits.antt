@@ -1,26 +1,10 @@
 -- Limits, by totals, and what holds where none is passed.
-use Rattle.std.proofs.Common.{◌≡◌, [], Option, None, sym, ◌∙◌, ap, ◌<◌, ◌-◌, ◌^◌, ℕ, List, ◌++◌, codes, arith, nat_lt, length}
-use Rattle.std.specs.List.{flat_map, slice_get}
-use Rattle.std.specs.Option.{option_map_or}
-use Rattle.std.proofs.lemmas.List.{append-nil}
-use Rattle.adl_ast.specs.declared.composition.Assembly.{Assembly}
-use Rattle.adl_ast.specs.declared.source.Source.{Source}
+use Rattle.adl_flatten.proofs.Common.{AreNamesSound, Assembly, Fault, Hierarchy, IsWithinLimits, ItemAt, List, None, Option, Source, Totals, [], all_ends, ap, append-nil, arith, assemblies, codes, connections, depth, first_size_fault, flat_map}
+use Rattle.adl_flatten.proofs.Common.{hierarchy_of, leaves, length, limit_passed, limits_passed, nat_lt, noted, noted_then, option_map_or, saturated, size_faults, slice_get, sym, top_number, totals_in, where_true, ℕ, ◌++◌, ◌-◌, ◌<◌, ◌^◌, ◌∙◌, ◌≡◌}
 use Rattle.adl_meaning.proofs.SoundNames.{one_assembly}
-use Rattle.adl_meaning.specs.declared.item_at.ItemAt.{ItemAt}
-use Rattle.adl_meaning.specs.Hierarchy.{hierarchy_of, Hierarchy, top_number}
-use Rattle.adl_meaning.specs.Items.{assemblies}
-use Rattle.adl_meaning.specs.NameFaults.{AreNamesSound}
-use Rattle.adl_meaning.specs.SizeFaults.{limits_passed, size_faults, first_size_fault, limit_passed, depth, all_ends}
 use Rattle.adl_hierarchy.proofs.Limits.{in_limits}
-use Rattle.adl_flatten.specs.TotalsOf.{IsWithinLimits, saturated, totals_in}
 use Rattle.std.proofs.lemmas.Bool.Decides.{nat_tests}
 use Rattle.cam_base.specs.declared.code.Code.TheVariants as code
-use Rattle.cam_base.specs.declared.place.Fault.{Fault}
-use Rattle.adl_meaning.specs.Faults.{noted, where_true}
-use Rattle.adl_meaning.proofs.Noting.{noted_then}
-use Rattle.adl_meaning.specs.Joins.{connections}
-use Rattle.adl_meaning.specs.Paths.{leaves}
-use Rattle.adl_flatten.specs.declared.sums.Totals.{Totals}
 
 -- the limits of the one assembly are those of the source
 pub limits_are : (s : Source) → AreNamesSound s → (o : Option (ItemAt × Assembly)) → o ≡ slice_get (assemblies s) 0 → option_map_or (limits_passed (hierarchy_of s)) o [] ≡ size_faults s

@@ -1,23 +1,14 @@
 -- A source in which no fault of names stands is ready for templates.
-use Rattle.std.proofs.Common.{◌≡◌, ◌<◌, ◌≤◌, ◌^◌, ℕ, List, length, Option, Some, None, sym, subst, arith, inl, inr}
-use Rattle.std.specs.List.{All, slice_get}
-use Rattle.std.specs.Option.{option_map_or}
+use Rattle.adl_flatten.proofs.Common.{All, AreNamesSound, Assembly, Body, IsReady, ItemAt, List, Name, None, Option, Some, Source, arith, body, components, hierarchy_of, inl, inr, kind_named, length, option_map_or, slice_get, sound_is_finite, subst}
+use Rattle.adl_flatten.proofs.Common.{sym, top_of, ℕ, ◌<◌, ◌^◌, ◌≡◌, ◌≤◌}
 use Rattle.std.proofs.lemmas.List.Elements.{All-get_or}
 use Rattle.std.proofs.lemmas.Option.{get_or_from_slice_get}
 use Rattle.adl_ast.specs.declared.component.Component.{Component}
-use Rattle.adl_ast.specs.declared.composition.Assembly.{Assembly}
-use Rattle.adl_ast.specs.declared.source.Source.{Source}
 use Rattle.adl_hierarchy.proofs.Bodies.{body_at}
-use Rattle.adl_hierarchy.proofs.Finite.{sound_is_finite}
 use Rattle.adl_hierarchy.proofs.PartNames.{names_once}
 use Rattle.adl_hierarchy.proofs.PartsAt.{are_composed}
-use Rattle.adl_meaning.specs.declared.item_at.ItemAt.{ItemAt}
 use Rattle.adl_meaning.specs.FewMembers.{HaveFewMembers}
-use Rattle.adl_meaning.specs.Hierarchy.{Body, body, top_of, kind_named, hierarchy_of}
-use Rattle.adl_meaning.specs.Items.{Name, components}
-use Rattle.adl_meaning.specs.NameFaults.{AreNamesSound}
 use Rattle.numbering.proofs.Lists.{below}
-use Rattle.adl_templates.specs.AreTemplates.{IsReady}
 
 member_count : Option Component → ℕ
 member_count o = option_map_or (λ c. length c.members) o 0

@@ -1,25 +1,11 @@
 -- The template of the assembly is the flat system.
-use Rattle.std.proofs.Common.{◌≡◌, ◌+◌, ℕ, not, ◌&&◌, List, [], ◌∷◌, ◌++◌, map, Option, Some, None, option_map, refl, sym, ◌∙◌, ap, length, ◌<◌, ◌≤◌, ◌^◌, get_or, drop, arith}
-use Rattle.std.proofs.lemmas.List.{length-map, map-id}
-use Rattle.std.proofs.lemmas.List.Folds.{flat_map-map, list_all-map}
+use Rattle.adl_flatten.proofs.Common.{Connected, Fault, Hierarchy, Homed, Joined, JoinedEnd, List, None, Option, Placed, Reached, Some, Strung, [], all_joined, ap, arith, at_word, connection_in, connections, cons_option, domain_at, drop, drop_first}
+use Rattle.adl_flatten.proofs.Common.{end_in, ends_in, enumerate_from, filter_map, flat_connection_of, flat_end, flat_end_of, flat_ends, flat_map, flat_map-map, flattened, get_or, home, home_in, homed, in_one, in_one_domain, is_direct, joined_by}
+use Rattle.adl_flatten.proofs.Common.{joined_end, joined_end_of, joined_ends, joined_ends_of, joined_of, leaves, length, length-map, list_all-map, map, map-id, misplaced_call, misplaced_device, misplaced_leaf, not, noted, noted-append, option_map}
+use Rattle.adl_flatten.proofs.Common.{parted_call, placed, refl, same_domain, sym, template_connections, template_leaves, top_number, unjoined_at, unjoined_leaf, where_true, ℕ, ◌&&◌, ◌++◌, ◌+◌, ◌<◌, ◌^◌, ◌∙◌, ◌∷◌, ◌≡◌, ◌≤◌}
 use Rattle.std.proofs.lemmas.Simd.{map-map}
-use Rattle.std.specs.List.{flat_map, filter_map, cons_option, enumerate_from}
-use Rattle.cam_base.specs.declared.place.Fault.{Fault}
 use Rattle.cam_base.specs.declared.code.Code.TheVariants as code
-use Rattle.cam_base.proofs.Lists.{drop_first}
 use Rattle.adl_ast.specs.declared.composition.End.{End}
-use Rattle.adl_meaning.specs.Faults.{at_word, where_true, noted}
-use Rattle.adl_meaning.proofs.Least.{noted-append}
-use Rattle.adl_meaning.specs.Flat.{flattened, flat_end, flat_ends}
-use Rattle.adl_meaning.specs.Hierarchy.{Hierarchy, top_number}
-use Rattle.adl_meaning.specs.JoinedEnds.{JoinedEnd, joined_end, joined_ends_of, joined_ends}
-use Rattle.adl_meaning.specs.Joins.{Reached, Strung, joined_by, connections}
-use Rattle.adl_meaning.specs.Paths.{Placed, leaves}
-use Rattle.adl_meaning.specs.Placement.{is_direct, domain_at, same_domain, in_one_domain, misplaced_device, parted_call}
-use Rattle.adl_meaning.specs.Unconnected.{unjoined_at}
-use Rattle.adl_templates.specs.Templates.{Homed, homed, template_leaves, Joined, Connected, end_in, ends_in, connection_in, template_connections}
-use Rattle.adl_flatten.specs.TemplateJoins.{flat_end_of, flat_connection_of, joined_end_of, joined_of, all_joined, unjoined_leaf, misplaced_leaf, in_one, misplaced_call}
-use Rattle.adl_flatten.specs.Homes.{home, home_in, placed}
 
 -- ---- leaves
 

@@ -1,17 +1,8 @@
 -- Totals of lists that are put together, and the totals of a body from those of its instances.
-use Rattle.std.proofs.Common.{◌≡◌, ◌<◌, ◌+◌, ◌-◌, ◌^◌, ℕ, suc, List, length, [], ◌∷◌, ◌++◌, map, refl, sym, ◌∙◌, ap, arith, length-append, min, max, false, cond, ◌≤◌, take, append_assoc}
-use Rattle.std.specs.List.{flat_map}
-use Rattle.std.proofs.lemmas.List.{length-map, take_all}
+use Rattle.adl_flatten.proofs.Common.{Hierarchy, IsFinite, IsRead, List, Part, Path, Placed, Strung, Totals, Wire, [], ap, append_assoc, arith, body, cond, connections_in, connections_step, ends_of, false, flat_map, further, is_composite, leaves_in}
+use Rattle.adl_flatten.proofs.Common.{leaves_step, length, length-append, length-map, longest, map, max, min, name_of, outside, parts_taken, placed_by, refl, saturated, strung, strung_by, suc, sym, take, take_all, totals_in, totals_of, wires_of, ℕ}
+use Rattle.adl_flatten.proofs.Common.{◌++◌, ◌+◌, ◌-◌, ◌<◌, ◌^◌, ◌∙◌, ◌∷◌, ◌≡◌, ◌≤◌}
 use Rattle.std.proofs.lemmas.List.Concat.{flat_map-append}
-use Rattle.adl_meaning.specs.Hierarchy.{Hierarchy, Wire, Part, is_composite, body, wires_of}
-use Rattle.adl_meaning.specs.Joins.{Strung, strung, further, strung_by, connections_in}
-use Rattle.adl_meaning.specs.Paths.{Path, Placed, outside, placed_by, name_of, leaves_in}
-use Rattle.adl_meaning.specs.SizeFaults.{longest}
-use Rattle.adl_flatten.specs.TotalsOf.{saturated, ends_of, totals_of, totals_in}
-use Rattle.adl_flatten.specs.declared.sums.Totals.{Totals}
-use Rattle.adl_hierarchy.specs.Finite.{IsFinite}
-use Rattle.adl_hierarchy.proofs.Steps.{leaves_step, connections_step}
-use Rattle.adl_templates.proofs.Filling.{IsRead, parts_taken}
 
 -- ---- paths
 

@@ -1,14 +1,8 @@
 -- A table filled in an order in which inner bodies stand first: what holds of each body that was filled in.
-use Rattle.std.proofs.Common.{◌≡◌, ◌<◌, ◌≤◌, ◌+◌, ℕ, suc, true, List, length, get_or, take, sym, ◌∙◌, subst, arith, inl, inr, nat_eq, get_or-set_same, get_or-set_other}
-use Rattle.std.proofs.Math.ListN.{set, length-set}
+use Rattle.adl_program.proofs.Common.{Hierarchy, IsIn, IsInnerFirst, List, Part, arith, body, get_or, get_or-set_other, get_or-set_same, graph, graph_size, has, inl, inr, length, length-set, listed, nat_eq, set, subst, suc, sym, take, take_all, true}
+use Rattle.adl_program.proofs.Common.{ℕ, ◌+◌, ◌<◌, ◌∙◌, ◌≡◌, ◌≤◌}
 use Rattle.std.proofs.lemmas.Bool.{or_cases, eqb-true, cases_eq}
-use Rattle.std.proofs.lemmas.List.{take_all}
 use Rattle.std.proofs.lemmas.List.Folds.{list_any_more}
-use Rattle.adl_meaning.specs.Graph.{has, IsInnerFirst}
-use Rattle.adl_meaning.specs.Hierarchy.{Hierarchy, Part, body, graph}
-use Rattle.numbering.specs.Gather.{IsIn}
-use Rattle.adl_hierarchy.proofs.Finite.{graph_size}
-use Rattle.adl_hierarchy.proofs.Steps.{listed}
 use Rattle.component_graph.proofs.Marks.{has_at}
 
 -- P holds of the entries of those of the order that were filled in

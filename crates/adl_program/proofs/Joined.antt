@@ -1,20 +1,12 @@
 -- The leaf interface of what an end joins.
-use Rattle.std.proofs.Common.{◌≡◌, ℕ, false, Option, None, Some, option_map, sym, ◌∙◌, ap, subst}
-use Rattle.std.specs.List.{slice_get}
-use Rattle.std.specs.Option.{option_and_then, option_map_or}
-use Rattle.adl_ast.specs.declared.component.Component.{Component}
+use Rattle.adl_program.proofs.Common.{Component, Hierarchy, Name, None, Option, Reached, Some, ap, body, false, is_interface, joined_by, lead, leaf_port, option_and_then, option_map, option_map_or, place_by, port_at, port_in, reached, slice_get}
+use Rattle.adl_program.proofs.Common.{subst, sym, ℕ, ◌∙◌, ◌≡◌}
 use Rattle.adl_ast.specs.declared.component.Interface.{Interface}
 use Rattle.adl_ast.specs.declared.component.Member.TheVariants as members
 use Rattle.adl_ast.specs.declared.composition.End.{End}
 use Rattle.adl_meaning.specs.CompositeBody.{is_device}
 use Rattle.adl_meaning.specs.Domains.{is_hardware}
-use Rattle.adl_meaning.specs.Flat.{is_interface}
-use Rattle.adl_meaning.specs.Hierarchy.{Hierarchy, body, port_in}
-use Rattle.adl_meaning.specs.Items.{Name}
-use Rattle.adl_meaning.specs.Joins.{Reached, reached, joined_by}
-use Rattle.adl_meaning.specs.Lists.{place_by}
 use Rattle.adl_program.specs.LeafInterfaces.{as_leaf, leaf_in, leaf_at, leaf_of}
-use Rattle.adl_program.specs.Leads.{port_at, leaf_port, lead}
 
 -- an end leads to what it joins
 pub joined_leads : (h : Hierarchy) (k : ℕ) (e : End) (r : Reached) → joined_by h k e ≡ Some r → lead h k e.words ≡ Some (port_at h r)

@@ -1,3 +1,4 @@
+pub mod Common
 pub mod Filling
 pub mod GraphSteps
 pub mod Joined

@@ -1,13 +1,7 @@
 -- The instance of a name, by its number and that of its component.
-use Rattle.std.proofs.Common.{◌≡◌, ◌+◌, ℕ, Bool, true, false, cond, List, [], ◌∷◌, Option, Some, None, option_map, refl, sym, ◌∙◌, ap, arith}
-use Rattle.std.specs.List.{find, enumerate_from, slice_get}
-use Rattle.std.specs.Str.{bytes_eq}
-use Rattle.adl_meaning.specs.Hierarchy.{Hierarchy, Part, body, part_named}
-use Rattle.adl_meaning.specs.Items.{Name}
-use Rattle.numbering.specs.Gather.{IsIn}
+use Rattle.adl_program.proofs.Common.{Bool, Hierarchy, IsIn, List, Name, None, Option, Part, Some, [], ap, arith, body, bytes_eq, cond, enumerate_from, false, find, option_map, part_from, part_named, refl, slice_get, sym, true, ℕ, ◌+◌, ◌∙◌, ◌∷◌, ◌≡◌}
 use Rattle.numbering.proofs.Gathered.{in_place}
 use Rattle.numbering.proofs.Lists.{found, from_enumerate, map_some}
-use Rattle.adl_program.specs.Seen.{part_from}
 use Rattle.adl_program.specs.declared.part.PartAt.{PartAt}
 
 -- a search that tells numbers too finds the same

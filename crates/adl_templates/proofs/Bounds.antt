@@ -1,27 +1,12 @@
 -- Numbers of leaves in a template are at most that of its leaves, and those of an instance are among those of its body.
-use Rattle.std.proofs.Common.{◌≡◌, ◌≤◌, ◌<◌, ◌+◌, ℕ, zero, suc, Bool, true, false, cond, List, length, [], ◌∷◌, map, take, Option, Some, None, option_map, refl, sym, ◌∙◌, ap, subst, arith, ◌++◌}
-use Rattle.std.specs.List.{All, flat_map, filter_map, cons_option, slice_get}
-use Rattle.std.specs.Option.{option_and_then, option_map_or}
+use Rattle.adl_templates.proofs.Common.{All, Body, Bool, End, Export, Hierarchy, IsReady, Joined, List, Name, None, Option, Part, Placed, Reached, Some, Strung, [], ap, arith, below, body, cond, connection_in, connections_in, cons_option, end_in}
+use Rattle.adl_templates.proofs.Common.{ends_in, export_named, export_target, exports_of, false, filter_map, flat_map, found, get_or_from_slice_get, in_place, is_composite, is_interface, joined_by, kind_in, leaves_before, leaves_in, leaves_step}
+use Rattle.adl_templates.proofs.Common.{length, length-flat_map-take, length-map, map, member_of, name_of, option_and_then, option_map, option_map_or, outside, placed_by, port_in, reached, refl, same_path, slice_get, subst, suc, sym, take, target}
+use Rattle.adl_templates.proofs.Common.{target_in, target_of, template_connections, true, zero, ℕ, ◌++◌, ◌+◌, ◌<◌, ◌∙◌, ◌∷◌, ◌≡◌, ◌≤◌}
 use Rattle.adl_ast.specs.declared.component.Component.{Component}
-use Rattle.adl_meaning.specs.Flat.{is_interface}
-use Rattle.name_tables.specs.ByName.{found}
-use Rattle.std.proofs.lemmas.List.{length-map}
-use Rattle.std.proofs.lemmas.List.Folds.{length-flat_map-take}
-use Rattle.std.proofs.lemmas.Option.{get_or_from_slice_get}
 use Rattle.std.proofs.lemmas.List.Elements.{All-nil, All-cons, All-map}
-use Rattle.adl_ast.specs.declared.composition.End.{End}
-use Rattle.adl_ast.specs.declared.composition.Export.{Export}
 use Rattle.adl_ast.specs.declared.id.Id.{Id}
-use Rattle.adl_meaning.specs.Hierarchy.{Hierarchy, Body, Part, body, is_composite, export_named, exports_of, port_in}
-use Rattle.adl_meaning.specs.Items.{Name}
-use Rattle.adl_meaning.specs.Joins.{Reached, Strung, reached, joined_by, connections_in}
 use Rattle.adl_meaning.specs.Lists.{place_by}
-use Rattle.adl_meaning.specs.Paths.{Placed, name_of, outside, placed_by, leaves_in, same_path}
-use Rattle.numbering.proofs.Gathered.{in_place}
-use Rattle.numbering.proofs.Lists.{below}
-use Rattle.adl_hierarchy.proofs.Steps.{leaves_step, kind_in}
-use Rattle.adl_templates.specs.AreTemplates.{IsReady}
-use Rattle.adl_templates.specs.Templates.{Joined, end_in, ends_in, connection_in, template_connections, target_in, target, target_of, export_target, leaves_before, member_of}
 use Rattle.adl_templates.specs.declared.placed.Target.{Target}
 
 place_below : {X : Type 0} (p : X → Bool) (xs : List X) → place_by p xs ≤ length xs

@@ -1,26 +1,12 @@
 -- Lists of what parts give, one part further, and where the ports of an instance lead.
-use Rattle.std.proofs.Common.{◌≡◌, ◌<◌, ◌≤◌, ◌+◌, ℕ, List, [], ◌∷◌, ◌++◌, length, map, take, drop, get_or, sym, ◌∙◌, ap, arith, append_assoc, Some, inl, inr, ◌^◌, subst}
-use Rattle.std.proofs.lemmas.Bool.{cases_eq}
-use Rattle.std.specs.List.{flat_map, enumerate_from, slice_get}
-use Rattle.std.proofs.lemmas.List.{length-map, map-append, take_more, take_all, append-nil}
+use Rattle.adl_templates.proofs.Common.{AreBefore, AreInner, Body, Hierarchy, Homed, IsIn, IsReady, IsTemplate, List, Name, Part, Some, Template, [], ap, append-nil, append_assoc, arith, below, body, cases_eq, drop, enumerate_from, flat_map, get_or}
+use Rattle.adl_templates.proofs.Common.{get_or_from_slice_get, homed, in_place, inl, inr, is_named, leaves_before, leaves_by, leaves_in, leaves_step, length, length-map, map, map-append, part_from, placed_by, read_place, slice_get, subst, sym, take}
+use Rattle.adl_templates.proofs.Common.{take_all, take_more, target, target_by, template_leaves, ℕ, ◌++◌, ◌+◌, ◌<◌, ◌^◌, ◌∙◌, ◌∷◌, ◌≡◌, ◌≤◌}
 use Rattle.std.proofs.lemmas.List.Concat.{flat_map-append}
-use Rattle.std.proofs.lemmas.Option.{get_or_from_slice_get}
 use Rattle.cam_base.proofs.Lists.{drop_first, get_or-last, get_or-before_last}
-use Rattle.adl_meaning.specs.Hierarchy.{Hierarchy, Body, Part, body}
-use Rattle.adl_meaning.specs.Paths.{placed_by, leaves_in}
-use Rattle.numbering.specs.Gather.{IsIn}
-use Rattle.numbering.proofs.Gathered.{in_place}
-use Rattle.numbering.proofs.Lists.{below, read_place}
-use Rattle.adl_hierarchy.proofs.Steps.{leaves_step}
-use Rattle.adl_templates.specs.AreTemplates.{IsReady, IsTemplate, AreInner, AreBefore}
-use Rattle.adl_templates.specs.Templates.{Homed, homed, template_leaves, leaves_by, leaves_before, target, target_by}
 use Rattle.adl_templates.proofs.Bounds.{before_room, room}
 use Rattle.adl_templates.proofs.Placing.{leaves_placed, target_step}
-use Rattle.adl_meaning.specs.Items.{Name}
-use Rattle.adl_program.specs.Seen.{part_from}
 use Rattle.adl_program.specs.declared.part.PartAt.{PartAt}
-use Rattle.adl_program.proofs.PartNumbers.{is_named}
-use Rattle.adl_templates.specs.declared.template.Template.{Template}
 
 -- an instance that was read
 pub record IsRead (h : Hierarchy) (k i : ℕ) (read : List Part) (x : Part) : Type 0 where

@@ -1,20 +1,9 @@
 -- Marks of the bodies that the assembly holds.
-use Rattle.std.proofs.Common.{◌≡◌, ◌<◌, ◌≤◌, ◌+◌, ◌^◌, ◌==◌, ◌&&◌, ◌||◌, ℕ, zero, suc, Bool, true, false, List, length, get_or, take, [], ◌∷◌, refl, sym, ◌∙◌, ap, subst, arith, inl, inr, get_or-set_same, get_or-set_other}
-use Rattle.std.proofs.Math.ListN.{set, length-set, replicate}
-use Rattle.std.specs.List.{All, list_any}
-use Rattle.std.proofs.lemmas.Bool.{and_parts, or_cases, cases_eq, eq-eqb, eqb-true, ne_eqb, true≢false}
-use Rattle.std.proofs.lemmas.List.{take_all, length-replicate}
-use Rattle.std.proofs.lemmas.List.Folds.{list_any_more}
-use Rattle.numbering.specs.Gather.{IsIn}
-use Rattle.numbering.proofs.Gathered.{place_of}
-use Rattle.numbering.proofs.Lists.{from_any, read_in}
+use Rattle.adl_templates.proofs.Common.{All, AreWanted, Bool, Hierarchy, IsIn, IsReady, List, Part, [], and_parts, ap, arith, body, cases_eq, eq-eqb, eqb-true, false, from_any, get_or, get_or-set_other, get_or-set_same, graph, inl, inner_filled, inr}
+use Rattle.adl_templates.proofs.Common.{kind_in, leaves, leaves_in, length, length-replicate, length-set, list_any, list_any_more, ne_eqb, or_cases, order_below, place_of, read_in, refl, replicate, set, subst, suc, sym, take, take_all, true}
+use Rattle.adl_templates.proofs.Common.{true≢false, zero, ℕ, ◌&&◌, ◌+◌, ◌<◌, ◌==◌, ◌^◌, ◌||◌, ◌∙◌, ◌∷◌, ◌≡◌, ◌≤◌}
 use Rattle.adl_meaning.specs.Graph.{has, IsInnerFirst}
-use Rattle.adl_meaning.specs.Hierarchy.{Hierarchy, Part, body, graph}
-use Rattle.adl_meaning.specs.Paths.{leaves, leaves_in}
 use Rattle.adl_hierarchy.proofs.Finite.{graph_size}
-use Rattle.adl_hierarchy.proofs.Steps.{kind_in}
-use Rattle.adl_program.proofs.Filling.{order_below, inner_filled}
-use Rattle.adl_templates.specs.AreTemplates.{AreWanted, IsReady}
 use Rattle.adl_templates.proofs.Bounds.{room}
 
 -- ---- marks of instances

@@ -1,27 +1,16 @@
 -- What an instance places of the template of its component.
-use Rattle.std.proofs.Common.{◌≡◌, ◌+◌, ℕ, zero, suc, List, [], ◌∷◌, ◌++◌, length, map, take, Some, refl, ◌∙◌, ap, arith, inl, inr, ◌≤◌, Bool, true, false, cond, Option, None, option_map, sym, subst}
-use Rattle.std.proofs.lemmas.List.{length-append, map-append}
-use Rattle.std.specs.List.{flat_map, enumerate_from, slice_get, filter_map, cons_option}
-use Rattle.numbering.specs.Gather.{IsIn}
-use Rattle.numbering.proofs.Gathered.{get_front, get_behind, in_place, place_of as number_at}
+use Rattle.adl_templates.proofs.Common.{Bool, End, Export, Hierarchy, IsIn, IsReady, Joined, List, Name, None, Option, Part, Path, Placed, Reached, Some, Strung, [], ap, arith, behind, body, cond, connection_in, connections_by, connections_in}
+use Rattle.adl_templates.proofs.Common.{connections_step, cons_option, end_in, ends_in, enumerate_from, export_named, export_target, exports_of, false, filter_map, flat_map, flat_map_same, further, get_behind, get_front, get_map, homed, in_place}
+use Rattle.adl_templates.proofs.Common.{inl, inr, is_composite, joined_by, kind_in, leaf_place, leaves_before, leaves_by, leaves_in, leaves_step, length, length-append, map, map-append, member_number, moved_connection, moved_end, moved_leaf}
+use Rattle.adl_templates.proofs.Common.{moved_target, name_of, option_and_then, option_map, outside, own_connections, own_target, part_named, placed_by, port_in, reached, reached_by, reached_step, refl, same_path, slice_get, strung, strung_by, subst}
+use Rattle.adl_templates.proofs.Common.{suc, sym, take, target, target_by, target_in, target_of, template_connections, template_leaves, true, wires_of, zero, ℕ, ◌++◌, ◌+◌, ◌∙◌, ◌∷◌, ◌≡◌, ◌≤◌}
+use Rattle.numbering.proofs.Gathered.{place_of as number_at}
 use Rattle.std.proofs.lemmas.Simd.{map-map}
-use Rattle.std.specs.Option.{option_and_then}
-use Rattle.adl_ast.specs.declared.composition.End.{End}
-use Rattle.adl_ast.specs.declared.composition.Export.{Export}
 use Rattle.adl_meaning.specs.JoinedEnds.{is_once}
 use Rattle.adl_meaning.specs.Domains.{group_above, group_or}
-use Rattle.adl_meaning.specs.Flat.{member_number}
-use Rattle.adl_meaning.specs.Hierarchy.{Hierarchy, Part, body, is_composite, wires_of, part_named, export_named, exports_of, port_in}
-use Rattle.adl_meaning.specs.Items.{Name}
-use Rattle.adl_meaning.specs.Joins.{Reached, behind, reached_by, reached, joined_by, Strung, further, strung, strung_by, connections_in}
-use Rattle.adl_meaning.specs.Paths.{Path, Placed, name_of, outside, placed_by, leaves_in, same_path}
 use Rattle.adl_hierarchy.proofs.DomainNames.{same_path-Decides}
-use Rattle.adl_templates.specs.AreTemplates.{IsReady}
 use Rattle.adl_hierarchy.proofs.Places.{place_is}
 use Rattle.adl_hierarchy.proofs.Repeats.{find_once}
-use Rattle.adl_hierarchy.proofs.Steps.{leaves_step, connections_step, reached_step, kind_in}
-use Rattle.numbering.proofs.Lists.{get_map, flat_map_same}
-use Rattle.adl_templates.specs.Templates.{homed, template_leaves, leaf_place, Joined, end_in, ends_in, connection_in, template_connections, own_connections, target_in, target, target_of, export_target, leaves_before, moved_leaf, leaves_by, moved_end, moved_connection, connections_by, moved_target, own_target, target_by}
 use Rattle.adl_templates.proofs.Standing.{paths_once, reached_met, joined_met, composite_around}
 
 -- an element of what one element of a list gives

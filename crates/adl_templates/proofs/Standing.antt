@@ -1,20 +1,11 @@
 -- What ends and ports lead to stands among the leaves of their body.
-use Rattle.std.proofs.Common.{◌≡◌, ◌≤◌, ℕ, false, length, [], ◌∷◌, ◌++◌, map, Option, Some, None, is_some, sym, subst}
-use Rattle.std.specs.List.{filter_map}
-use Rattle.std.specs.Option.{option_map_or}
-use Rattle.std.proofs.lemmas.Option.{option_and_then_some}
+use Rattle.adl_templates.proofs.Common.{End, Hierarchy, IsIn, IsReady, Name, None, Option, Path, Placed, Reached, Some, Strung, Wire, [], at, body, connections_in, false, filter_map, is_composite, is_some, joined_by, leaves_in, length, map}
+use Rattle.adl_templates.proofs.Common.{option_and_then_some, option_map_or, port_in, reached, subst, sym, wire_of, wires_of, ℕ, ◌++◌, ◌∷◌, ◌≡◌, ◌≤◌}
 use Rattle.adl_ast.specs.declared.composition.Composition.{Composition}
-use Rattle.adl_ast.specs.declared.composition.End.{End}
 use Rattle.adl_meaning.specs.Holding.{connections_in as lines_in}
-use Rattle.adl_meaning.specs.Hierarchy.{Hierarchy, Wire, body, is_composite, wire_of, wires_of, port_in}
-use Rattle.adl_meaning.specs.Items.{Name}
-use Rattle.adl_meaning.specs.Joins.{Reached, reached, joined_by, Strung, connections_in}
-use Rattle.numbering.specs.Gather.{IsIn}
-use Rattle.adl_meaning.specs.Paths.{Path, Placed, at, leaves_in}
 use Rattle.adl_hierarchy.specs.Once.{IsOnce}
 use Rattle.adl_hierarchy.proofs.Climbing.{found_climbs}
 use Rattle.adl_hierarchy.proofs.Connections.{stands}
-use Rattle.adl_templates.specs.AreTemplates.{IsReady}
 use Rattle.adl_hierarchy.proofs.Leaves.{StandsIn, met}
 use Rattle.adl_hierarchy.proofs.Once.{paths_within_once}
 use Rattle.adl_hierarchy.proofs.PartsAt.{at_part, first_on, part_append, path_short, is_outer}

@@ -1,13 +1,6 @@
 -- Noting body by body.
-use Rattle.std.proofs.Common.{◌≡◌, ◌+◌, ◌++◌, ℕ, List, [], Option, None, ap, sym, ◌∙◌, add-one, append_assoc}
-use Rattle.std.specs.List.{flat_map}
-use Rattle.std.specs.Option.{option_map_or}
-use Rattle.cam_base.specs.declared.place.Fault.{Fault}
+use Rattle.adl_types.proofs.Common.{Body, Fault, Hierarchy, List, None, Option, Wire, [], add-one, ap, append_assoc, body, faults_below, flat_map, noted, noted_then, option_map_or, size_faults, sym, wire_faults, wires_of, ℕ, ◌++◌, ◌+◌, ◌∙◌, ◌≡◌}
 use Rattle.adl_ast.specs.declared.component.Component.{Component}
-use Rattle.adl_meaning.specs.Faults.{noted}
-use Rattle.adl_meaning.specs.Hierarchy.{Hierarchy, Body, Wire, body, wires_of}
-use Rattle.adl_meaning.proofs.Noting.{noted_then}
-use Rattle.adl_types.specs.TypeFaults.{size_faults, wire_faults, faults_below}
 
 sizes : Option Component → List Fault
 sizes c = option_map_or (λ c. flat_map size_faults c.members) c []

@@ -1,27 +1,20 @@
 -- Where no fault of types stands, connections are as they should be.
-use Rattle.std.proofs.Common.{◌≡◌, ◌<◌, ◌≤◌, ◌+◌, ◌&&◌, ℕ, zero, suc, Bool, true, false, List, [], length, Option, None, refl, ◌∙◌, ap, arith, inl, inr}
-use Rattle.std.specs.Prelude.{not}
-use Rattle.std.specs.List.{flat_map}
-use Rattle.std.specs.Option.{option_map_or}
+use Rattle.adl_types.proofs.Common.{Bool, Fault, Hierarchy, List, None, Option, [], agree, ap, arith, at_end, at_word, body, body_faults, end_faults, false, faults_below, first_leaf, first_type_fault, flat_map, has_one_type, hierarchy_of, inl, inr}
+use Rattle.adl_types.proofs.Common.{is_kind_of, least-empty, length, may_have, not, option_map_or, refl, size_faults, suc, top_number, true, type_faults, where_true, wire_faults, wires_of, zero, ℕ, ◌&&◌, ◌+◌, ◌<◌, ◌∙◌, ◌≡◌, ◌≤◌}
 use Rattle.std.proofs.lemmas.Bool.{cases_eq}
 use Rattle.cam_base.specs.declared.code.Code.TheVariants as code
-use Rattle.cam_base.specs.declared.place.Fault.{Fault}
 use Rattle.adl_ast.specs.declared.composition.End.{End}
 use Rattle.adl_ast.specs.declared.source.Source.{Source}
 use Rattle.adl_hierarchy.proofs.Connections.{connections_stand}
 use Rattle.adl_hierarchy.proofs.Exports.{not_so}
 use Rattle.adl_hierarchy.proofs.Finite.{sound_is_finite}
 use Rattle.adl_hierarchy.proofs.PartsAt.{body_in}
-use Rattle.adl_meaning.specs.Faults.{where_true, at_word}
-use Rattle.adl_meaning.specs.Hierarchy.{Hierarchy, hierarchy_of, body, wires_of, top_number}
 use Rattle.adl_meaning.specs.Joins.{Strung, connections}
 use Rattle.numbering.specs.Gather.{IsIn}
 use Rattle.adl_meaning.specs.NameFaults.{AreNamesSound}
-use Rattle.adl_meaning.proofs.Least.{least-empty}
 use Rattle.numbering.proofs.Lists.{none_in, none_left, none_right}
 use Rattle.conn_rules.specs.Ends.{end_rule}
 use Rattle.adl_program.specs.LeafInterfaces.{LeafInterface, leaf_of}
-use Rattle.adl_types.specs.TypeFaults.{first_type_fault, type_faults, first_leaf, has_one_type, is_kind_of, agree, may_have, at_end, end_faults, wire_faults, size_faults, body_faults, faults_below}
 use Rattle.adl_types.specs.WellTyped.{IsWellTyped}
 
 true_from : (b : Bool) → not b ≡ false → b ≡ true

@@ -1,5 +1,4 @@
-use Rattle.std.proofs.Common.{◌≡◌, ◌++◌, drop, map}
-use Rattle.adl_flatten.specs.TemplateJoins.{flat_end_of}
+use Rattle.adl_flatten.proofs.Common.{drop, flat_end_of, map, ◌++◌, ◌≡◌}
 use Rattle.adl_flatten.proofs.connections.flat_connection.Given as goal
 
 abbrev pub invariant-loop-end : goal.invariant-loop-end

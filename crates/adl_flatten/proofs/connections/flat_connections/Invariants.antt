@@ -1,5 +1,4 @@
-use Rattle.std.proofs.Common.{◌≡◌, ◌++◌, drop, map}
-use Rattle.adl_flatten.specs.TemplateJoins.{flat_connection_of}
+use Rattle.adl_flatten.proofs.Common.{drop, flat_connection_of, map, ◌++◌, ◌≡◌}
 use Rattle.adl_flatten.proofs.connections.flat_connections.Given as goal
 
 abbrev pub invariant-loop-connection : goal.invariant-loop-connection

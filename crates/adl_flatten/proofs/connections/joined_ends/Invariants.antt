@@ -1,6 +1,4 @@
-use Rattle.std.proofs.Common.{◌≡◌, ◌+◌, ◌++◌, drop, map}
-use Rattle.std.specs.List.{flat_map, enumerate_from}
-use Rattle.adl_flatten.specs.TemplateJoins.{joined_end_of, joined_of, all_joined}
+use Rattle.adl_flatten.proofs.Common.{all_joined, drop, enumerate_from, flat_map, joined_end_of, joined_of, map, ◌++◌, ◌+◌, ◌≡◌}
 use Rattle.adl_flatten.proofs.connections.joined_ends.Given as goal
 
 abbrev pub invariant-loop-number : goal.invariant-loop-number

@@ -1,4 +1,4 @@
-use Rattle.std.proofs.Common.{refl}
+use Rattle.adl_flatten.proofs.Common.{refl}
 use Rattle.adl_flatten.proofs.Homes.{domains_more}
 use Rattle.adl_flatten.proofs.domains.flat_domains.Goals as goal
 

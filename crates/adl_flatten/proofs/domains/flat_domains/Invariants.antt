@@ -1,6 +1,4 @@
-use Rattle.std.proofs.Common.{◌≡◌, ◌++◌, [], drop, map, take}
-use Rattle.std.specs.List.{enumerate_from}
-use Rattle.adl_flatten.specs.Homes.{domain_to}
+use Rattle.adl_flatten.proofs.Common.{[], domain_to, drop, enumerate_from, map, take, ◌++◌, ◌≡◌}
 use Rattle.adl_flatten.proofs.domains.flat_domains.Given as goal
 
 abbrev pub invariant-loop-path : goal.invariant-loop-path

@@ -1,6 +1,4 @@
-use Rattle.std.proofs.Common.{◌∙◌, ◌+◌, ◌++◌, ◌∷◌, [], drop, map, ap, sym, append_assoc, arith}
-use Rattle.cam_base.proofs.Lists.{drop_first}
-use Rattle.adl_flatten.specs.Homes.{all_met, home_in, home_number}
+use Rattle.adl_flatten.proofs.Common.{[], all_met, ap, append_assoc, arith, drop, drop_first, home_in, home_number, map, sym, ◌++◌, ◌+◌, ◌∙◌, ◌∷◌}
 use Rattle.adl_flatten.proofs.domains.homes_of.Goals as goal
 
 pub loop-leaf-preserved : goal.loop-leaf-preserved

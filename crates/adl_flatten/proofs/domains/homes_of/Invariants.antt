@@ -1,5 +1,4 @@
-use Rattle.std.proofs.Common.{◌≡◌, ◌≤◌, ◌++◌, [], drop, length, map}
-use Rattle.adl_flatten.specs.Homes.{all_met, home_in, home_number}
+use Rattle.adl_flatten.proofs.Common.{[], all_met, drop, home_in, home_number, length, map, ◌++◌, ◌≡◌, ◌≤◌}
 use Rattle.adl_flatten.proofs.domains.homes_of.Given as goal
 
 abbrev pub invariant-loop-leaf : goal.invariant-loop-leaf

@@ -1,18 +1,5 @@
-use Rattle.std.proofs.Common.{◌∙◌, ◌++◌, ap, None}
-use Rattle.std.specs.List.{flat_map, enumerate_from}
-use Rattle.adl_meaning.proofs.Least.{noted-none}
-use Rattle.adl_meaning.proofs.Noting.{noted_then}
-use Rattle.adl_meaning.specs.Faults.{noted}
-use Rattle.adl_meaning.specs.Flat.{flattened}
-use Rattle.adl_meaning.specs.Hierarchy.{top_number}
-use Rattle.adl_meaning.specs.JoinFaults.{join_faults_in}
-use Rattle.adl_meaning.specs.Joins.{connections}
-use Rattle.adl_meaning.specs.Paths.{leaves}
-use Rattle.adl_meaning.specs.Placement.{misplaced_device, parted_call}
-use Rattle.adl_meaning.specs.Unconnected.{unjoined_at, unconnected_in}
-use Rattle.adl_meaning.specs.UsedTwice.{used_twice, used_twice_in}
-use Rattle.adl_templates.specs.Templates.{template_connections}
-use Rattle.adl_flatten.specs.TemplateJoins.{all_joined, unjoined_leaf, misplaced_leaf, misplaced_call}
+use Rattle.adl_flatten.proofs.Common.{None, all_joined, ap, connections, enumerate_from, flat_map, flattened, join_faults_in, leaves, misplaced_call, misplaced_device, misplaced_leaf, noted, noted-none, noted_then, parted_call, template_connections}
+use Rattle.adl_flatten.proofs.Common.{top_number, unconnected_in, unjoined_at, unjoined_leaf, used_twice, used_twice_in, ◌++◌, ◌∙◌}
 use Rattle.adl_flatten.proofs.Templates.{all_joined_are, unjoined_are, devices_are, calls_are}
 use Rattle.adl_flatten.proofs.faults.join_fault.Goals as goal
 

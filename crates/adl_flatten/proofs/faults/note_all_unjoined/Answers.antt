@@ -1,5 +1,4 @@
-use Rattle.std.proofs.Common.{◌∙◌}
-use Rattle.adl_flatten.specs.TemplateJoins.{unjoined_leaf}
+use Rattle.adl_flatten.proofs.Common.{unjoined_leaf, ◌∙◌}
 use Rattle.adl_flatten.proofs.Templates.{numbered_noted}
 use Rattle.adl_flatten.proofs.faults.note_all_unjoined.Goals as goal
 

@@ -1,7 +1,4 @@
-use Rattle.std.proofs.Common.{◌≡◌, drop}
-use Rattle.std.specs.List.{flat_map, enumerate_from}
-use Rattle.adl_meaning.specs.Faults.{noted}
-use Rattle.adl_flatten.specs.TemplateJoins.{unjoined_leaf}
+use Rattle.adl_flatten.proofs.Common.{drop, enumerate_from, flat_map, noted, unjoined_leaf, ◌≡◌}
 use Rattle.adl_flatten.proofs.faults.note_all_unjoined.Given as goal
 
 abbrev pub invariant-loop-number : goal.invariant-loop-number

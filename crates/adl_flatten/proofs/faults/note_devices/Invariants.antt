@@ -1,7 +1,4 @@
-use Rattle.std.proofs.Common.{◌≡◌, drop}
-use Rattle.std.specs.List.{flat_map}
-use Rattle.adl_meaning.specs.Faults.{noted}
-use Rattle.adl_flatten.specs.TemplateJoins.{misplaced_leaf}
+use Rattle.adl_flatten.proofs.Common.{drop, flat_map, misplaced_leaf, noted, ◌≡◌}
 use Rattle.adl_flatten.proofs.faults.note_devices.Given as goal
 
 abbrev pub invariant-loop-leaf : goal.invariant-loop-leaf

@@ -1,7 +1,4 @@
-use Rattle.std.proofs.Common.{◌≡◌, drop}
-use Rattle.std.specs.List.{flat_map, enumerate_from}
-use Rattle.adl_meaning.specs.Faults.{noted}
-use Rattle.adl_meaning.specs.Unconnected.{unjoined_member}
+use Rattle.adl_flatten.proofs.Common.{drop, enumerate_from, flat_map, noted, unjoined_member, ◌≡◌}
 use Rattle.adl_flatten.proofs.faults.note_leaf.Given as goal
 
 abbrev pub invariant-loop-place : goal.invariant-loop-place

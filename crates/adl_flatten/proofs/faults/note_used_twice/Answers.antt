@@ -1,9 +1,5 @@
-use Rattle.std.proofs.Common.{◌∙◌, ap, nat_le}
+use Rattle.adl_flatten.proofs.Common.{JoinedEnd, ap, nat_le, noted, noted_each, used_twice, where_true, ◌∙◌}
 use Rattle.cam_base.specs.declared.code.Code.TheVariants as code
-use Rattle.adl_meaning.proofs.Noting.{noted_each}
-use Rattle.adl_meaning.specs.Faults.{noted, where_true}
-use Rattle.adl_meaning.specs.JoinedEnds.{JoinedEnd}
-use Rattle.adl_meaning.specs.UsedTwice.{used_twice}
 use Rattle.adl_flatten.proofs.faults.note_used_twice.Goals as goal
 
 pub loop-end-preserved : goal.loop-end-preserved

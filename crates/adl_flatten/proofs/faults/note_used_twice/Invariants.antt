@@ -1,7 +1,4 @@
-use Rattle.std.proofs.Common.{◌≡◌, drop}
-use Rattle.std.specs.List.{flat_map}
-use Rattle.adl_meaning.specs.Faults.{noted}
-use Rattle.adl_meaning.specs.UsedTwice.{used_twice}
+use Rattle.adl_flatten.proofs.Common.{drop, flat_map, noted, used_twice, ◌≡◌}
 use Rattle.adl_flatten.proofs.faults.note_used_twice.Given as goal
 
 abbrev pub invariant-loop-end : goal.invariant-loop-end

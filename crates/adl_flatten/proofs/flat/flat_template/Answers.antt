@@ -1,5 +1,4 @@
-use Rattle.std.proofs.Common.{◌∙◌, ap, map}
-use Rattle.adl_flatten.specs.TemplateJoins.{flat_connection_of}
+use Rattle.adl_flatten.proofs.Common.{ap, flat_connection_of, map, ◌∙◌}
 use Rattle.adl_flatten.proofs.Templates.{connections_are, leaves_few, connections_few}
 use Rattle.adl_flatten.proofs.flat.flat_template.Goals as goal
 

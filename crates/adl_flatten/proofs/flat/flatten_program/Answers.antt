@@ -1,14 +1,4 @@
-use Rattle.std.proofs.Common.{◌≡◌, ◌∙◌, Option, IfOk, ap, sym, subst, arith}
-use Rattle.std.specs.Option.{option_or}
-use Rattle.cam_base.specs.declared.place.Fault.{Fault}
-use Rattle.adl_hierarchy.proofs.Finite.{sound_is_finite}
-use Rattle.adl_hierarchy.specs.Finite.{IsFinite}
-use Rattle.adl_meaning.specs.Faults.{least, Refuses}
-use Rattle.adl_meaning.specs.Flat.{flattened}
-use Rattle.adl_meaning.specs.Hierarchy.{Hierarchy, top_number}
-use Rattle.adl_meaning.specs.JoinFaults.{join_faults_in, first_join_fault}
-use Rattle.adl_templates.specs.AreTemplates.{IsReady}
-use Rattle.adl_flatten.specs.TotalsOf.{IsWithinLimits, totals_in}
+use Rattle.adl_flatten.proofs.Common.{Fault, Hierarchy, IfOk, IsFinite, IsReady, IsWithinLimits, Option, Refuses, ap, arith, first_join_fault, flattened, join_faults_in, least, option_or, sound_is_finite, subst, sym, top_number, totals_in, ◌∙◌, ◌≡◌}
 use Rattle.adl_flatten.proofs.PassedLimits.{within_limits}
 use Rattle.adl_flatten.proofs.SoundReady.{sound_is_ready}
 use Rattle.adl_flatten.proofs.flat.flatten_program.Goals as goal

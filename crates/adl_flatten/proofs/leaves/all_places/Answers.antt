@@ -1,12 +1,4 @@
-use Rattle.std.proofs.Common.{◌≡◌, ◌∙◌, [], sym, List, ap, map}
-use Rattle.std.specs.List.{enumerate_from}
-use Rattle.adl_meaning.specs.Domains.{domains}
-use Rattle.adl_meaning.specs.Lists.{firsts}
-use Rattle.adl_meaning.specs.Paths.{leaves, same_path}
-use Rattle.adl_meaning.specs.Flat.{leaf_of}
-use Rattle.adl_meaning.specs.Hierarchy.{Hierarchy, top_number}
-use Rattle.adl_templates.specs.Templates.{Homed, template_leaves}
-use Rattle.adl_flatten.specs.Homes.{all_met, home, home_in, home_number, placed, present, domain_to}
+use Rattle.adl_flatten.proofs.Common.{Hierarchy, Homed, List, [], all_met, ap, domain_to, domains, enumerate_from, firsts, home, home_in, home_number, leaf_of, leaves, map, placed, present, same_path, sym, template_leaves, top_number, ◌∙◌, ◌≡◌}
 use Rattle.adl_flatten.proofs.Homes.{present_homes, domains_are}
 use Rattle.adl_flatten.proofs.Templates.{placed_are, homes_are}
 use Rattle.adl_flatten.proofs.leaves.all_places.Goals as goal

@@ -1,8 +1,4 @@
-use Rattle.std.proofs.Common.{◌∙◌, ◌++◌, ◌∷◌, [], None, ap, get_or}
-use Rattle.adl_meaning.specs.declared.flat.Leaf.{Leaf}
-use Rattle.adl_meaning.specs.Domains.{domains}
-use Rattle.adl_meaning.specs.Flat.{leaf_of}
-use Rattle.adl_flatten.specs.Homes.{home, home_number, placed}
+use Rattle.adl_flatten.proofs.Common.{Leaf, None, [], ap, domains, get_or, home, home_number, leaf_of, placed, ◌++◌, ◌∙◌, ◌∷◌}
 use Rattle.adl_flatten.proofs.Homes.{pushed_more, leaf_is, read_maps}
 use Rattle.adl_flatten.proofs.leaves.flat_leaves.Goals as goal
 

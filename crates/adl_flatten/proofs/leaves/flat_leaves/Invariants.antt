@@ -1,6 +1,4 @@
-use Rattle.std.proofs.Common.{◌≡◌, ◌++◌, drop, map}
-use Rattle.adl_meaning.specs.Flat.{leaf_of}
-use Rattle.adl_flatten.specs.Homes.{placed}
+use Rattle.adl_flatten.proofs.Common.{drop, leaf_of, map, placed, ◌++◌, ◌≡◌}
 use Rattle.adl_flatten.proofs.leaves.flat_leaves.Given as goal
 
 abbrev pub invariant-loop-i : goal.invariant-loop-i

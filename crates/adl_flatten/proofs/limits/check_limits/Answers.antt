@@ -1,12 +1,4 @@
-use Rattle.std.proofs.Common.{◌∙◌, Option, ap, sym, subst, map, option_map}
-use Rattle.std.specs.List.{filter_map, slice_get}
-use Rattle.cam_base.specs.declared.place.Fault.{Fault}
-use Rattle.adl_meaning.proofs.Least.{noted-none}
-use Rattle.adl_meaning.specs.Faults.{noted, least, Refuses}
-use Rattle.adl_meaning.specs.Hierarchy.{hierarchy_of}
-use Rattle.adl_meaning.specs.Items.{as_assembly}
-use Rattle.adl_meaning.specs.SizeFaults.{limits_passed}
-use Rattle.adl_items.specs.Located.{located}
+use Rattle.adl_flatten.proofs.Common.{Fault, Option, Refuses, ap, as_assembly, filter_map, hierarchy_of, least, limits_passed, located, map, noted, noted-none, option_map, slice_get, subst, sym, ◌∙◌}
 use Rattle.adl_flatten.proofs.PassedLimits.{limits_are}
 use Rattle.adl_flatten.proofs.limits.check_limits.Goals as goal
 

@@ -1,4 +1,4 @@
-use Rattle.adl_items.specs.Located.{located}
+use Rattle.adl_flatten.proofs.Common.{located}
 use Rattle.adl_flatten.proofs.PassedLimits.{all_limits}
 use Rattle.adl_flatten.proofs.limits.note_limits.Goals as goal
 

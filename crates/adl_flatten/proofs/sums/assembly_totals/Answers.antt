@@ -1,6 +1,4 @@
-use Rattle.std.proofs.Common.{◌∙◌, ap, arith, get_or, length}
-use Rattle.adl_program.proofs.Filling.{order_below, inner_filled, filled_more, all_filled}
-use Rattle.adl_hierarchy.proofs.Steps.{kind_in}
+use Rattle.adl_flatten.proofs.Common.{all_filled, ap, arith, filled_more, get_or, inner_filled, kind_in, length, order_below, ◌∙◌}
 use Rattle.adl_flatten.proofs.Totals.{IsTotal}
 use Rattle.adl_flatten.proofs.sums.assembly_totals.Goals as goal
 

@@ -1,4 +1,4 @@
-use Rattle.adl_program.proofs.Filling.{IsFilled}
+use Rattle.adl_flatten.proofs.Common.{IsFilled}
 use Rattle.adl_flatten.proofs.Totals.{IsTotal}
 use Rattle.adl_flatten.proofs.sums.assembly_totals.Given as goal
 

@@ -1,7 +1,4 @@
-use Rattle.std.proofs.Common.{◌∙◌, ap, map}
-use Rattle.adl_meaning.specs.Hierarchy.{Body, body, wires_of}
-use Rattle.adl_meaning.specs.Joins.{strung}
-use Rattle.adl_templates.proofs.Filling.{reads, read_in}
+use Rattle.adl_flatten.proofs.Common.{Body, ap, body, map, read_in, reads, strung, wires_of, ◌∙◌}
 use Rattle.adl_flatten.proofs.Totals.{totals_step, totals_more}
 use Rattle.adl_flatten.proofs.sums.body_totals.Goals as goal
 

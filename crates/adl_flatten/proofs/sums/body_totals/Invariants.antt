@@ -1,6 +1,4 @@
-use Rattle.std.proofs.Common.{◌≡◌, map, take}
-use Rattle.adl_meaning.specs.Hierarchy.{body, wires_of}
-use Rattle.adl_meaning.specs.Joins.{strung}
+use Rattle.adl_flatten.proofs.Common.{body, map, strung, take, wires_of, ◌≡◌}
 use Rattle.adl_flatten.proofs.Totals.{totals_to}
 use Rattle.adl_flatten.proofs.sums.body_totals.Given as goal
 

@@ -1,6 +1,4 @@
-use Rattle.std.proofs.Common.{◌≡◌, take, length}
-use Rattle.std.specs.List.{flat_map}
-use Rattle.adl_flatten.specs.TotalsOf.{saturated}
+use Rattle.adl_flatten.proofs.Common.{flat_map, length, saturated, take, ◌≡◌}
 use Rattle.adl_flatten.proofs.sums.end_count.Given as goal
 
 abbrev pub invariant-loop-wire : goal.invariant-loop-wire

@@ -1,9 +1,4 @@
-use Rattle.std.proofs.Common.{◌≡◌, ◌∙◌, ap, sym, refl, map, [], ◌∷◌, is_some, get_or}
-use Rattle.adl_meaning.specs.Hierarchy.{Part, Body, body}
-use Rattle.adl_meaning.specs.Joins.{connections_in, further, strung_by}
-use Rattle.adl_meaning.specs.Paths.{leaves_in, name_of, outside}
-use Rattle.adl_flatten.specs.TotalsOf.{totals_of}
-use Rattle.adl_flatten.specs.declared.sums.Totals.{Totals}
+use Rattle.adl_flatten.proofs.Common.{Body, Part, Totals, [], ap, body, connections_in, further, get_or, is_some, leaves_in, map, name_of, outside, refl, strung_by, sym, totals_of, ◌∙◌, ◌∷◌, ◌≡◌}
 use Rattle.adl_flatten.proofs.Totals.{placed-leaf}
 use Rattle.adl_flatten.proofs.sums.part_totals.Goals as goal
 

@@ -1,8 +1,4 @@
-use Rattle.std.proofs.Common.{◌≡◌, drop}
-use Rattle.std.specs.Option.{option_or}
-use Rattle.std.specs.List.{flat_map}
-use Rattle.adl_meaning.specs.Members.{declared_by}
-use Rattle.adl_meaning.specs.Items.{Name}
+use Rattle.adl_program.proofs.Common.{Name, declared_by, drop, flat_map, option_or, ◌≡◌}
 use Rattle.adl_items.specs.Declaring.{declaring_told}
 use Rattle.adl_items.specs.Firsts.{first_named}
 use Rattle.adl_program.proofs.body.declaring.Given as goal

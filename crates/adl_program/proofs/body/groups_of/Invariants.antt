@@ -1,10 +1,4 @@
-use Rattle.std.proofs.Common.{◌≡◌, drop, ◌||◌, false}
-use Rattle.std.specs.Prelude.{is_some}
-use Rattle.std.specs.List.{list_any}
-use Rattle.std.specs.Option.{option_map_or}
-use Rattle.std.specs.Str.{bytes_eq}
-use Rattle.adl_meaning.specs.Items.{Name}
-use Rattle.name_tables.specs.ByName.{found}
+use Rattle.adl_program.proofs.Common.{Name, bytes_eq, drop, false, found, is_some, list_any, option_map_or, ◌||◌, ◌≡◌}
 use Rattle.adl_program.proofs.body.groups_of.Given as goal
 
 abbrev pub invariant-loop-part : goal.invariant-loop-part

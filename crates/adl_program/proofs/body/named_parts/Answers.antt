@@ -1,9 +1,5 @@
-use Rattle.std.proofs.Common.{◌≡◌, ◌∙◌, [], ap, arith, drop, sym}
-use Rattle.std.proofs.Math.ListN.{drop_of_length-le}
-use Rattle.std.specs.Option.{option_or}
+use Rattle.adl_program.proofs.Common.{[], ap, arith, drop, drop_of_length-le, found, option_or, part_from, sym, ◌∙◌, ◌≡◌}
 use Rattle.cam_base.proofs.Options.{option_or-none}
-use Rattle.name_tables.specs.ByName.{found}
-use Rattle.adl_program.specs.Seen.{part_from}
 use Rattle.adl_program.proofs.body.named_parts.Goals as goal
 
 pub returns : goal.returns

@@ -1,9 +1,4 @@
-use Rattle.std.proofs.Common.{◌≡◌, ◌+◌, ◌-◌, ◌==◌, ◌&&◌, ◌||◌, ◌∙◌, ℕ, List, Bool, true, false, length, drop, get_or, rules, arith, ap, subst, sym}
-use Rattle.std.proofs.Math.ListN.{set, replicate}
-use Rattle.std.proofs.lemmas.List.{take_at}
-use Rattle.std.specs.List.{list_any}
-use Rattle.adl_meaning.specs.Hierarchy.{Body, Part, body}
-use Rattle.adl_program.proofs.Filling.{order_below}
+use Rattle.adl_templates.proofs.Common.{Body, Bool, List, Part, ap, arith, body, drop, false, get_or, length, list_any, order_below, replicate, rules, set, subst, sym, take_at, true, ℕ, ◌&&◌, ◌+◌, ◌-◌, ◌==◌, ◌||◌, ◌∙◌, ◌≡◌}
 use Rattle.adl_templates.proofs.Holding.{AreHeld, kinds_in, held_first, held_more, held_all}
 use Rattle.adl_templates.proofs.held.held_bodies.Goals as goal
 

@@ -1,5 +1,4 @@
-use Rattle.std.proofs.Common.{◌≡◌, ◌==◌, ◌||◌, ℕ, false, get_or, take}
-use Rattle.std.specs.List.{list_any}
+use Rattle.adl_templates.proofs.Common.{false, get_or, list_any, take, ℕ, ◌==◌, ◌||◌, ◌≡◌}
 use Rattle.adl_templates.proofs.held.mark_inner.Given as goal
 
 abbrev pub invariant-loop-part : goal.invariant-loop-part

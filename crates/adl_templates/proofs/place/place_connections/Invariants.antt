@@ -1,6 +1,4 @@
-use Rattle.std.proofs.Common.{◌≡◌, ◌++◌, drop, map}
-use Rattle.adl_meaning.specs.Paths.{name_of}
-use Rattle.adl_templates.specs.Templates.{moved_connection, moved_end}
+use Rattle.adl_templates.proofs.Common.{drop, map, moved_connection, moved_end, name_of, ◌++◌, ◌≡◌}
 use Rattle.adl_templates.proofs.place.place_connections.Given as goal
 
 abbrev pub invariant-loop-connection : goal.invariant-loop-connection

@@ -1,5 +1,4 @@
-use Rattle.std.proofs.Common.{◌≡◌, ◌++◌, drop, map}
-use Rattle.adl_templates.specs.Templates.{moved_leaf}
+use Rattle.adl_templates.proofs.Common.{drop, map, moved_leaf, ◌++◌, ◌≡◌}
 use Rattle.adl_templates.proofs.place.place_leaves.Given as goal
 
 abbrev pub invariant-loop-leaf : goal.invariant-loop-leaf

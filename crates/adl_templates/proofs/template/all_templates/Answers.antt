@@ -1,8 +1,4 @@
-use Rattle.std.proofs.Common.{List, sym, subst, arith, get_or}
-use Rattle.adl_templates.specs.AreTemplates.{IsTemplate, IsWantedTemplate}
-use Rattle.adl_templates.specs.declared.template.Template.{Template}
-use Rattle.adl_hierarchy.proofs.Steps.{kind_in}
-use Rattle.adl_program.proofs.Filling.{order_below, inner_filled, filled_more, all_filled}
+use Rattle.adl_templates.proofs.Common.{IsTemplate, IsWantedTemplate, List, Template, all_filled, arith, filled_more, get_or, inner_filled, kind_in, order_below, subst, sym}
 use Rattle.adl_templates.proofs.template.all_templates.Goals as goal
 
 pub bounds-wanted-number : goal.bounds-wanted-number

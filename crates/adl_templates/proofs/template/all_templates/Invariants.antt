@@ -1,6 +1,4 @@
-use Rattle.std.proofs.Common.{◌≡◌, length}
-use Rattle.adl_program.proofs.Filling.{IsFilled}
-use Rattle.adl_templates.specs.AreTemplates.{IsWantedTemplate}
+use Rattle.adl_templates.proofs.Common.{IsFilled, IsWantedTemplate, length, ◌≡◌}
 use Rattle.adl_templates.proofs.template.all_templates.Given as goal
 
 abbrev pub invariant-loop-count : goal.invariant-loop-count

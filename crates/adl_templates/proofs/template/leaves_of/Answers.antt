@@ -1,6 +1,5 @@
-use Rattle.std.proofs.Common.{◌≡◌, ◌∙◌, ◌∷◌, [], length, ap, arith, length-append}
-use Rattle.adl_meaning.specs.Hierarchy.{Body}
-use Rattle.adl_templates.specs.Templates.{leaves_before}
+use Rattle.adl_templates.proofs.Common.{Body, [], ap, arith, leaves_before, length, ◌∙◌, ◌∷◌, ◌≡◌}
+use Rattle.std.proofs.Common.{length-append}
 use Rattle.adl_templates.proofs.Filling.{reads, read_in, counted, count_few, leaves_more, leaves_whole, each_more}
 use Rattle.adl_templates.proofs.template.leaves_of.Goals as goal
 

@@ -1,8 +1,4 @@
-use Rattle.std.proofs.Common.{◌≡◌, ◌<◌, ℕ, length, map, take, slice_index}
-use Rattle.std.specs.List.{flat_map}
-use Rattle.adl_meaning.specs.Hierarchy.{body}
-use Rattle.adl_meaning.specs.Paths.{placed_by, leaves_in}
-use Rattle.adl_templates.specs.Templates.{homed, leaves_before}
+use Rattle.adl_templates.proofs.Common.{body, flat_map, homed, leaves_before, leaves_in, length, map, placed_by, slice_index, take, ℕ, ◌<◌, ◌≡◌}
 use Rattle.adl_templates.proofs.template.leaves_of.Given as goal
 
 abbrev pub invariant-loop-part : goal.invariant-loop-part

@@ -1,8 +1,4 @@
-use Rattle.std.proofs.Common.{◌≡◌, ◌++◌, drop, map}
-use Rattle.std.specs.List.{filter_map}
-use Rattle.adl_meaning.specs.Hierarchy.{body, wires_of}
-use Rattle.adl_meaning.specs.Joins.{strung}
-use Rattle.adl_templates.specs.Templates.{connection_in, own_connections, own_end}
+use Rattle.adl_templates.proofs.Common.{body, connection_in, drop, filter_map, map, own_connections, own_end, strung, wires_of, ◌++◌, ◌≡◌}
 use Rattle.adl_templates.proofs.template.own_connections.Given as goal
 
 abbrev pub invariant-loop-wire : goal.invariant-loop-wire

@@ -1,6 +1,4 @@
-use Rattle.std.proofs.Common.{◌<◌, ◌^◌, sym, subst}
-use Rattle.adl_meaning.specs.Hierarchy.{Body, body}
-use Rattle.adl_templates.specs.Templates.{member_of}
+use Rattle.adl_templates.proofs.Common.{Body, body, member_of, subst, sym, ◌<◌, ◌^◌}
 use Rattle.adl_templates.proofs.Bounds.{target_room, member_few}
 use Rattle.adl_templates.proofs.template.part_target.Goals as goal
 

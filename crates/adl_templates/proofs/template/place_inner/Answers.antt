@@ -1,10 +1,4 @@
-use Rattle.std.proofs.Common.{◌<◌, ◌+◌, ◌^◌, ◌∙◌, ◌++◌, ℕ, List, length, map, get_or, ap, sym, subst, arith}
-use Rattle.std.specs.List.{All}
-use Rattle.adl_meaning.specs.Hierarchy.{body}
-use Rattle.adl_meaning.specs.Paths.{name_of}
-use Rattle.adl_templates.specs.AreTemplates.{IsTemplate}
-use Rattle.adl_templates.specs.Templates.{Connected, moved_connection, template_connections, connections_by}
-use Rattle.adl_templates.specs.declared.template.Template.{Template}
+use Rattle.adl_templates.proofs.Common.{All, Connected, IsTemplate, List, Template, ap, arith, body, connections_by, get_or, length, map, moved_connection, name_of, subst, sym, template_connections, ℕ, ◌++◌, ◌+◌, ◌<◌, ◌^◌, ◌∙◌}
 use Rattle.adl_templates.proofs.Bounds.{room, connections_below}
 use Rattle.adl_templates.proofs.Filling.{reads, read_in, read_at, numbered_more}
 use Rattle.adl_templates.proofs.template.place_inner.Goals as goal

@@ -1,7 +1,4 @@
-use Rattle.std.proofs.Common.{◌≡◌, ◌++◌, drop}
-use Rattle.std.specs.List.{flat_map, enumerate_from}
-use Rattle.adl_meaning.specs.Hierarchy.{body}
-use Rattle.adl_templates.specs.Templates.{connections_by}
+use Rattle.adl_templates.proofs.Common.{body, connections_by, drop, enumerate_from, flat_map, ◌++◌, ◌≡◌}
 use Rattle.adl_templates.proofs.template.place_inner.Given as goal
 
 abbrev pub invariant-loop-i : goal.invariant-loop-i

@@ -1,11 +1,4 @@
-use Rattle.std.proofs.Common.{◌∙◌, ap, arith, sym, subst}
-use Rattle.std.specs.Option.{option_and_then}
-use Rattle.adl_meaning.specs.Hierarchy.{Body}
-use Rattle.adl_program.specs.Seen.{part_from}
-use Rattle.adl_program.proofs.PartNumbers.{is_unnamed}
-use Rattle.adl_templates.specs.AreTemplates.{IsTemplate}
-use Rattle.adl_templates.specs.Templates.{target, target_by}
-use Rattle.adl_templates.specs.declared.template.Template.{Template}
+use Rattle.adl_templates.proofs.Common.{Body, IsTemplate, Template, ap, arith, is_unnamed, option_and_then, part_from, subst, sym, target, target_by, ◌∙◌}
 use Rattle.adl_templates.proofs.Placing.{no_target}
 use Rattle.adl_templates.proofs.Filling.{is_port}
 use Rattle.adl_templates.proofs.template.target_of.Goals as goal

@@ -1,11 +1,5 @@
-use Rattle.std.proofs.Common.{◌≡◌, drop, option_map}
-use Rattle.std.specs.List.{filter_map}
-use Rattle.std.specs.Option.{option_or}
-use Rattle.adl_meaning.specs.Hierarchy.{export_named}
+use Rattle.adl_templates.proofs.Common.{Name, drop, export_named, filter_map, found, option_map, option_or, target_of, ◌≡◌}
 use Rattle.adl_meaning.specs.Holding.{as_export}
-use Rattle.adl_meaning.specs.Items.{Name}
-use Rattle.name_tables.specs.ByName.{found}
-use Rattle.adl_templates.specs.Templates.{target_of}
 use Rattle.adl_templates.proofs.template.targets_of.Given as goal
 
 abbrev pub invariant-loop-line : goal.invariant-loop-line

@@ -1,7 +1,4 @@
-use Rattle.std.proofs.Common.{◌≡◌, drop}
-use Rattle.std.specs.List.{flat_map}
-use Rattle.adl_meaning.specs.Faults.{noted}
-use Rattle.adl_types.specs.TypeFaults.{size_faults}
+use Rattle.adl_types.proofs.Common.{drop, flat_map, noted, size_faults, ◌≡◌}
 use Rattle.adl_types.proofs.faults.note_sizes.Given as goal
 
 abbrev pub invariant-loop-member : goal.invariant-loop-member

@@ -1,12 +1,5 @@
-use Rattle.std.proofs.Common.{◌≡◌, ◌∙◌, sym, ap, subst}
-use Rattle.std.specs.Prelude.{not}
-use Rattle.std.specs.List.{flat_map}
-use Rattle.std.proofs.lemmas.List.{drop_all}
+use Rattle.adl_types.proofs.Common.{Wire, ap, at_word, drop_all, end_faults, first_leaf, flat_map, may_have, not, noted, noted_then, subst, sym, where_true, wire_faults, ◌∙◌, ◌≡◌}
 use Rattle.cam_base.specs.declared.code.Code.TheVariants as code
-use Rattle.adl_meaning.specs.Faults.{noted, where_true, at_word}
-use Rattle.adl_meaning.specs.Hierarchy.{Wire}
-use Rattle.adl_meaning.proofs.Noting.{noted_then}
-use Rattle.adl_types.specs.TypeFaults.{end_faults, first_leaf, may_have, wire_faults}
 use Rattle.adl_types.proofs.faults.note_wire.Goals as goal
 
 pub returns : goal.returns

@@ -1,7 +1,4 @@
-use Rattle.std.proofs.Common.{◌≡◌, drop}
-use Rattle.std.specs.List.{flat_map}
-use Rattle.adl_meaning.specs.Faults.{noted}
-use Rattle.adl_types.specs.TypeFaults.{end_faults}
+use Rattle.adl_types.proofs.Common.{drop, end_faults, flat_map, noted, ◌≡◌}
 use Rattle.adl_types.proofs.faults.note_wire.Given as goal
 
 abbrev pub invariant-loop-end : goal.invariant-loop-end

@@ -1,10 +1,4 @@
-use Rattle.std.proofs.Common.{◌∙◌, sym, ap, None}
-use Rattle.std.specs.List.{flat_map}
-use Rattle.std.proofs.lemmas.List.{drop_all}
-use Rattle.adl_meaning.specs.Faults.{noted}
-use Rattle.adl_meaning.proofs.Noting.{noted_each}
-use Rattle.adl_meaning.proofs.Least.{noted-append}
-use Rattle.adl_types.specs.TypeFaults.{wire_faults, faults_below}
+use Rattle.adl_types.proofs.Common.{None, ap, drop_all, faults_below, flat_map, noted, noted-append, noted_each, sym, wire_faults, ◌∙◌}
 use Rattle.adl_types.proofs.Faulting.{faults_more}
 use Rattle.adl_types.proofs.faults.type_fault.Goals as goal
 

@@ -1,7 +1,4 @@
-use Rattle.std.proofs.Common.{◌≡◌, drop, None, ◌++◌}
-use Rattle.std.specs.List.{flat_map}
-use Rattle.adl_meaning.specs.Faults.{noted}
-use Rattle.adl_types.specs.TypeFaults.{wire_faults, faults_below}
+use Rattle.adl_types.proofs.Common.{None, drop, faults_below, flat_map, noted, wire_faults, ◌++◌, ◌≡◌}
 use Rattle.adl_types.proofs.faults.type_fault.Given as goal
 
 abbrev pub invariant-loop-number : goal.invariant-loop-number

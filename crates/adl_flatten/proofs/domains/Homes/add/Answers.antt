@@ -1,5 +1,4 @@
-use Rattle.std.proofs.Common.{◌∙◌, ◌++◌, ◌∷◌, [], ap, sym}
-use Rattle.adl_flatten.specs.Homes.{all_met, home_number}
+use Rattle.adl_flatten.proofs.Common.{[], all_met, ap, home_number, sym, ◌++◌, ◌∙◌, ◌∷◌}
 use Rattle.adl_flatten.proofs.Homes.{met_place}
 use Rattle.adl_flatten.proofs.domains.Homes.add.Goals as goal
 

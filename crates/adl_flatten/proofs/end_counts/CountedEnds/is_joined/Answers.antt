@@ -1,6 +1,4 @@
-use Rattle.std.proofs.Common.{◌∙◌, ap, None, nat_lt}
-use Rattle.std.specs.List.{list_any}
-use Rattle.adl_meaning.specs.JoinedEnds.{is_at}
+use Rattle.adl_flatten.proofs.Common.{None, ap, is_at, list_any, nat_lt, ◌∙◌}
 use Rattle.adl_flatten.proofs.EndLookups.{nat_lt-count_by}
 use Rattle.adl_flatten.proofs.end_counts.CountedEnds.is_joined.Goals as goal
 

@@ -1,5 +1,4 @@
-use Rattle.std.proofs.Common.{take}
-use Rattle.adl_flatten.specs.TemplateJoins.{AreCounts}
+use Rattle.adl_flatten.proofs.Common.{AreCounts, take}
 use Rattle.adl_flatten.proofs.end_counts.CountedEnds.new.Given as goal
 
 abbrev pub invariant-loop-end : goal.invariant-loop-end

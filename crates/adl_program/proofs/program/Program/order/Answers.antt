@@ -1,6 +1,4 @@
-use Rattle.std.proofs.Common.{ℕ, List, sym, subst}
-use Rattle.adl_meaning.specs.Graph.{IsInnerFirst}
-use Rattle.adl_meaning.specs.Hierarchy.{Hierarchy, graph}
+use Rattle.adl_program.proofs.Common.{Hierarchy, IsInnerFirst, List, graph, subst, sym, ℕ}
 use Rattle.adl_program.proofs.program.Program.order.Goals as goal
 
 pub returns : goal.returns
