@@ -1,5 +1,6 @@
 -- The items of a source, with what the names in them stand for.
-use Rattle.adl_names.specs.Words.{◌≡◌, ℕ, Bool, false, List, Option, Some, None, map, option_map, find, enumerate_from, slice_get, option_and_then, option_copied, option_map_or, Bor, bytes_eq, Component, Item, Source, Name, items_of, component_of, Known, known_of, is_procedure, is_among, found}
+use Rattle.adl_names.specs.Words.{find, enumerate_from, slice_get, option_and_then, option_copied, option_map_or, Bor, bytes_eq, Component, Item, Source, Name, items_of, component_of, Known, known_of, is_procedure, is_among, found}
+use Rattle.std.specs.Prelude.{◌≡◌, ℕ, Bool, false, List, Option, Some, None, map, option_map}
 use Rattle.adl_ast.specs.declared.file.Item.TheVariants as items
 use Rattle.adl_names.specs.declared.bodies.Body.{Body}
 use Rattle.adl_names.specs.declared.bodies.Body.TheVariants as body

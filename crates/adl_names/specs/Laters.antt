@@ -1,5 +1,6 @@
 -- Keywords behind the first of their kind.
-use Rattle.adl_names.specs.Words.{Bool, List, map, drop, if◌then◌else◌, Fault, Place, at_keyword}
+use Rattle.adl_names.specs.Words.{Fault, Place, at_keyword}
+use Rattle.std.specs.Prelude.{Bool, List, map, drop, if◌then◌else◌}
 use Rattle.cam_base.specs.declared.code.Code.TheVariants as code
 
 -- those at fault among the rest, where one stood before them or none

@@ -1,5 +1,6 @@
 -- Sets of ports, as definitions speak of them.
-use Rattle.adl_names.specs.Words.{ℕ, ◌==◌, ◌&&◌, Bool, List, list_any, bytes_eq, Port, Name, Option, Fault, Export, misfits_after, Held, Known, is_among}
+use Rattle.adl_names.specs.Words.{list_any, bytes_eq, Port, Name, Fault, Export, misfits_after, Held, Known, is_among}
+use Rattle.std.specs.Prelude.{ℕ, ◌==◌, ◌&&◌, Bool, List, Option}
 use Rattle.adl_names.specs.declared.exports.Taken.{Taken}
 
 -- whether a port is in a set of ports, which has the first byte of each one's instance, and each one's name

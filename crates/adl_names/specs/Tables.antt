@@ -1,5 +1,6 @@
 -- What tables of trees tell, as definitions speak of it.
-use Rattle.adl_names.specs.Words.{◌≡◌, Bool, List, Option, is_some, option_map, slice_get, Component, Composition, an_instance, a_group, a_connection, held_as, member_of, is_exported, Name, compositions, declared_as, is_among, found, declaring_told, Declared, Bor, Group, Instance}
+use Rattle.adl_names.specs.Words.{slice_get, Component, Composition, an_instance, a_group, a_connection, held_as, member_of, is_exported, Name, compositions, declared_as, is_among, found, declaring_told, Declared, Bor, Group, Instance}
+use Rattle.std.specs.Prelude.{◌≡◌, Bool, List, Option, is_some, option_map}
 use Rattle.adl_meaning.specs.Holding as holding
 use Rattle.adl_names.specs.declared.tables.Held.{Held}
 use Rattle.adl_names.specs.declared.tables.Held.TheVariants as held

@@ -34,7 +34,6 @@ pub use Rattle.name_tables.specs.ByName.{found, is_among}
 pub use Rattle.std.specs.Borrow.{Bor}
 pub use Rattle.std.specs.List.{enumerate_from, filter_map, find, flat_map, list_any, slice_get}
 pub use Rattle.std.specs.Option.{option_and_then, option_copied, option_map_or, option_or}
-pub use Rattle.std.specs.Prelude.{Bool, IfOk, List, None, OnOk, Option, Some, [], drop, false, if◌then◌else◌, is_some, length, map, option_map, ℕ, ◌&&◌, ◌++◌, ◌<◌, ◌==◌, ◌^◌, ◌||◌, ◌∷◌, ◌≡◌, ◌⊎◌}
 pub use Rattle.std.specs.Str.{bytes_eq}
 pub use Rattle.std.specs.declared.hash.BuildHasherDefault.{BuildHasherDefault}
 pub use Rattle.std.specs.declared.hash.FoldHasher.{FoldHasher}

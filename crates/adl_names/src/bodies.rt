@@ -1,6 +1,7 @@
 //! The items of a source, with what the names in them stand for.
 
-ghost use Rattle.adl_names.specs.Words.{as_component, trees, repeats, duplicates, duplicates_in_item, noted, items_of, procedures, component_of, is_procedure, located, is_among, found, filter_map, flat_map, find, option_copied, ◌≡◌, ℕ, List as Seq, map, is_some, IfOk, OnOk, bytes_eq};
+ghost use Rattle.adl_names.specs.Words.{as_component, trees, repeats, duplicates, duplicates_in_item, noted, items_of, procedures, component_of, is_procedure, located, is_among, found, filter_map, flat_map, find, option_copied, bytes_eq};
+ghost use Rattle.std.specs.Prelude.{◌≡◌, ℕ, List as Seq, map, is_some, IfOk, OnOk};
 ghost use Rattle.adl_names.specs.Bodies.{item_of, item_number};
 
 use crate::repeats::{meet, note_procedure, put};

@@ -1,6 +1,7 @@
 //! Exports that fit no interface, and ports of composites that no export gives.
 
-ghost use Rattle.adl_names.specs.Words.{Export as ExportOf, Port as PortOf, port_of, interface_at, differs, is_unled, inner_of, is_port, export_fault, is_misfit_at, misfits_after, misfits_in_composition, misfits_in_item, misfit_exports, noted, where_true, held_as, exports_in, known_in, is_among, option_copied, option_and_then, option_map_or, ◌≡◌, ◌||◌, ◌∷◌, List as Seq, false, [], OnOk};
+ghost use Rattle.adl_names.specs.Words.{Export as ExportOf, Port as PortOf, port_of, interface_at, differs, is_unled, inner_of, is_port, export_fault, is_misfit_at, misfits_after, misfits_in_composition, misfits_in_item, misfit_exports, noted, where_true, held_as, exports_in, known_in, is_among, option_copied, option_and_then, option_map_or};
+ghost use Rattle.std.specs.Prelude.{◌≡◌, ◌||◌, ◌∷◌, List as Seq, false, [], OnOk};
 ghost use Rattle.adl_names.specs.Bodies.{owner_of, item_of};
 ghost use Rattle.adl_names.specs.Ports.{is_port_among, misfits_from};
 

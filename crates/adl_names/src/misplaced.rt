@@ -1,6 +1,7 @@
 //! Members that a composite, a device or a plain component can't have.
 
-ghost use Rattle.adl_names.specs.Words.{is_composite, misplaced_in_component, is_composition, body_fault, misplaced_member, misplaced_in_item, composite_bodies, noted, where_true, ◌≡◌};
+ghost use Rattle.adl_names.specs.Words.{is_composite, misplaced_in_component, is_composition, body_fault, misplaced_member, misplaced_in_item, composite_bodies, noted, where_true};
+ghost use Rattle.std.specs.Prelude.{◌≡◌};
 ghost use Rattle.adl_names.specs.Bodies.{item_of};
 
 use crate::bodies::{Body, SourceTables};

@@ -1,6 +1,7 @@
 //! What the names of a source stand for, or the first fault of names.
 
-ghost use Rattle.adl_names.specs.Words.{noted, Refuses, assemblies, procedure_named, component_named, AreFew, Rises, first_name_fault, second_of, none_of, located, get, option_or, ◌≡◌, ◌⊎◌, ◌∷◌, ◌++◌, ℕ, List as Seq, [], None, Some, if◌then◌else◌, map, option_map, OnOk, IfOk, bytes_eq};
+ghost use Rattle.adl_names.specs.Words.{noted, Refuses, assemblies, procedure_named, component_named, AreFew, Rises, first_name_fault, second_of, none_of, located, get, option_or, bytes_eq};
+ghost use Rattle.std.specs.Prelude.{◌≡◌, ◌⊎◌, ◌∷◌, ◌++◌, ℕ, List as Seq, [], None, Some, if◌then◌else◌, map, option_map, OnOk, IfOk};
 ghost use Rattle.adl_names.specs.Places.{table_places};
 
 use crate::bodies::SourceTables;

@@ -1,9 +1,11 @@
 //! Instances whose type is the component that they stand in, or holds it.
 
-ghost use Rattle.adl_names.specs.Words.{trees, pointed, noted, instances_of, types_of, graph_of, recursive_in, recursive_types, found, flat_map, enumerate_from, ◌≡◌, ◌<◌, ◌^◌, length, IfOk, OnOk};
+ghost use Rattle.adl_names.specs.Words.{trees, pointed, noted, instances_of, types_of, graph_of, recursive_in, recursive_types, found, flat_map, enumerate_from};
+ghost use Rattle.std.specs.Prelude.{◌≡◌, ◌<◌, ◌^◌, ◌++◌, length, IfOk, OnOk};
 ghost use Rattle.adl_meaning.specs.Graph.{inner_of};
+ghost use Rattle.adl_meaning.specs.Holding.{instances_in};
 
-use adl_ast::{Component, Instance, Member};
+use adl_ast::{Component, Composition, Instance, Member};
 use adl_items::{Located, SourceItems, component_numbers, instances_by};
 use adl_meaning::Earliest;
 use cam_base::{Code, List, NoMemory};
@@ -11,18 +13,29 @@ use component_graph::Cycles;
 use name_tables::NameTable;
 use std::alloc::Global;
 
-/// The instances of a component, in each of its compositions, in groups or not.
+/// Adds the instances of a composition, in groups or not.
+fn push_composition<'a>(
+    composition: &'a Composition,
+    found: &mut Vec<&'a Instance>,
+) -> Result<(), NoMemory>
+    ensures { OnOk result (pointed found.new.items ≡ pointed found.old.items ++ instances_in composition.now) }
+{
+    for line in composition.lines.as_slice() {
+        for instance in instances_by(line) {
+            found.push(instance)?;
+        }
+    }
+    Ok(())
+}
+
+/// The instances of a component, in each of its compositions.
 fn instances<'a>(alloc: Global, component: &'a Component) -> Result<Vec<&'a Instance>, NoMemory>
     ensures { IfOk result (λ v. pointed v.items ≡ instances_of component.now) }
 {
     let mut found = Vec::new(alloc);
     for member in component.members.as_slice() {
         if let Member::Composition(composition) = member {
-            for line in composition.lines.as_slice() {
-                for instance in instances_by(line) {
-                    found.push(instance)?;
-                }
-            }
+            push_composition(composition, &mut found)?;
         }
     }
     Ok(found)

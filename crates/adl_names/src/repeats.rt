@@ -1,6 +1,7 @@
 //! Later ones of equal names, and second compositions and configurations.
 
-ghost use Rattle.adl_names.specs.Words.{Id as Word, methods, again, repeats, repeats_after, duplicates_in_procedure, noted, compositions, configurations, is_among, found, option_or, ◌≡◌, ◌∷◌, ◌||◌, [], ℕ, List as Seq, map, OnOk, bytes_eq};
+ghost use Rattle.adl_names.specs.Words.{Id as Word, methods, again, repeats, repeats_after, duplicates_in_procedure, noted, compositions, configurations, is_among, found, option_or, bytes_eq};
+ghost use Rattle.std.specs.Prelude.{◌≡◌, ◌∷◌, ◌||◌, [], ℕ, List as Seq, map, OnOk};
 ghost use Rattle.adl_names.specs.Tables.{has_name};
 
 use adl_ast::{Component, Id, Member, Param, ProcMember, Procedure};

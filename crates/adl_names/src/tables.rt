@@ -1,6 +1,7 @@
 //! Tables of what the names of compositions and components stand for.
 
-ghost use Rattle.adl_names.specs.Words.{Id as Word, declaring_told, first_named, repeats, repeats_after, duplicates_in_composition, duplicates_in_component, noted, as_held, a_group, held_by, held_as, member_of, is_exported, declared_as, declared_by, declared_in, interface_of, attribute_of, compositions, composition_of, is_among, flat_map, option_or, option_copied, option_and_then, ◌≡◌, ◌∷◌, ◌++◌, ℕ, List as Seq, map, option_map, OnOk, IfOk};
+ghost use Rattle.adl_names.specs.Words.{Id as Word, declaring_told, first_named, repeats, repeats_after, duplicates_in_composition, duplicates_in_component, noted, as_held, a_group, held_by, held_as, member_of, is_exported, declared_as, declared_by, declared_in, interface_of, attribute_of, compositions, composition_of, is_among, flat_map, option_or, option_copied, option_and_then};
+ghost use Rattle.std.specs.Prelude.{◌≡◌, ◌∷◌, ◌++◌, ℕ, List as Seq, map, option_map, OnOk, IfOk};
 ghost use Rattle.adl_names.specs.Bodies.{owner_of};
 ghost use Rattle.adl_names.specs.Tables.{has_name, held_told, holding_told};
 

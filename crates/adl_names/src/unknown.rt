@@ -1,6 +1,7 @@
 //! Words that nothing has.
 
-ghost use Rattle.adl_names.specs.Words.{noted, held_as, known_in, known_of, unless_known, names_procedure, unknown_interface, unknown_in_dotted, unknown_word, unknown_last, unknown_inner, unknown_group, scope_of_held, scope_of_known, scope_behind, option_copied, option_map, unknown_in_setting, unknown_in_line, unknown_in_composition, unknown_in_configuration, unknown_attribute, unknown_in_member, unknown_in_item, is_procedure, unknown_names, Member as MemberOf, as_composition, flat_map, filter_map, ◌≡◌, ◌∷◌, List as Seq};
+ghost use Rattle.adl_names.specs.Words.{noted, held_as, known_in, known_of, unless_known, names_procedure, unknown_interface, unknown_in_dotted, unknown_word, unknown_last, unknown_inner, unknown_group, scope_of_held, scope_of_known, scope_behind, option_copied, unknown_in_setting, unknown_in_line, unknown_in_composition, unknown_in_configuration, unknown_attribute, unknown_in_member, unknown_in_item, is_procedure, unknown_names, Member as MemberOf, as_composition, flat_map, filter_map};
+ghost use Rattle.std.specs.Prelude.{option_map, ◌≡◌, ◌∷◌, List as Seq};
 ghost use Rattle.adl_names.specs.Bodies.{owner_of, item_of};
 ghost use Rattle.adl_names.specs.Scopes.{scope_told};
 
