@@ -1,3 +1,4 @@
+pub mod PartKinds
 pub mod SettingKeys
 pub mod Settled
 pub mod TableSteps

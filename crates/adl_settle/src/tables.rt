@@ -73,7 +73,7 @@ impl<'a> SettingTables<'a> {
 }
 
 /// The number of the component of the first instance of the name.
-#[tactic(auto, using(adl_program::proofs::PartNumbers::kinds_same))]
+#[tactic(auto, using(crate::proofs::PartKinds::kinds_same))]
 fn kind_of(body: &Body<'_>, name: &Name) -> Option<u32>
     ensures { result ≡ option_map (λ x. x.kind) (part_named body.now.parts name.now) }
 {
