@@ -1,14 +1,14 @@
 //! Compositions and their lines.
 
 ghost use Rattle.adl_ast.proofs.Eats.{instance_eats, end_eats, composition_member_eats};
-ghost use Rattle.adl_ast.specs.Codes.{key_code, token_code};
+ghost use Rattle.adl_ast.specs.Codes.{key_code};
 ghost use Rattle.adl_ast.specs.Forms.{instance_line, instance_form, group_line, role_form, end_line, end_form, connection_line, export_line, composition_member_line, composition_member_form, composition_line};
 ghost use Rattle.adl_ast.specs.Seeing.{see};
 ghost use Rattle.adl_ast.specs.Spelling.{reads};
 ghost use Rattle.cam_base.specs.declared.token.Keyword.TheVariants as keys;
 ghost use Rattle.grammar.specs.Gives.{Gives};
 ghost use Rattle.grammar.specs.Reading.{starts};
-ghost use Rattle.std.specs.Prelude.{◌≡◌, ◌∷◌, []};
+ghost use Rattle.std.specs.Prelude.{◌∷◌, []};
 
 use crate::dotted::dotted;
 use crate::token::{Adl, next_is, take, word};

@@ -7,7 +7,6 @@ ghost use Rattle.adl_ast.specs.Seeing.{see};
 ghost use Rattle.adl_ast.specs.Spelling.{reads};
 ghost use Rattle.grammar.specs.Form.{maybe};
 ghost use Rattle.grammar.specs.Gives.{Gives};
-ghost use Rattle.std.specs.Prelude.{◌≡◌};
 
 use crate::dotted::path;
 use crate::token::{Adl, next_is, next_is_word, take, word};

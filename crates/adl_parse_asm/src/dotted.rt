@@ -8,7 +8,7 @@ ghost use Rattle.adl_ast.specs.Spelling.{reads};
 ghost use Rattle.cam_base.specs.declared.token.Mark.TheVariants as marks;
 ghost use Rattle.grammar.specs.Form.{maybe};
 ghost use Rattle.grammar.specs.Gives.{Gives};
-ghost use Rattle.std.specs.Prelude.{◌≡◌, ◌∷◌, ◌++◌, [], IfOk};
+ghost use Rattle.std.specs.Prelude.{◌≡◌, ◌∷◌, [], IfOk};
 
 use crate::token::{Adl, next_is, span, take, word};
 use adl_ast::Id;

@@ -1,8 +1,8 @@
 //! Components and their members.
 
 ghost use Rattle.adl_ast.proofs.Eats.{member_eats};
-ghost use Rattle.adl_ast.specs.Codes.{token_code, key_code, mark_code, buf_code, not_buf_codes};
-ghost use Rattle.adl_ast.specs.Forms.{Port as PortOf, interface_of, interface_kind, interface_kind_codes, plain_port_line, size_form, buf_line, data_line, dataport_line, interface_codes, maybe_word, interface_line, attribute_line, lock_kind, lock_line, flag_line, member_line, member_codes, member_form, component_line, value_form};
+ghost use Rattle.adl_ast.specs.Codes.{token_code, mark_code};
+ghost use Rattle.adl_ast.specs.Forms.{interface_kind, interface_kind_codes, plain_port_line, size_form, buf_line, data_line, dataport_line, interface_codes, maybe_word, interface_line, attribute_line, lock_kind, lock_line, flag_line, member_line, member_codes, member_form, component_line, value_form};
 ghost use Rattle.adl_ast.specs.Seeing.{see};
 ghost use Rattle.adl_ast.specs.Spelling.{reads};
 ghost use Rattle.cam_base.specs.declared.token.Mark.TheVariants as marks;
@@ -10,7 +10,7 @@ ghost use Rattle.adl_parse_decl.specs.Members.{flag_codes, body_codes};
 ghost use Rattle.grammar.specs.Form.{Or, Starts, maybe, behind};
 ghost use Rattle.grammar.specs.Gives.{Gives};
 ghost use Rattle.grammar.specs.Reading.{starts};
-ghost use Rattle.std.specs.Prelude.{◌≡◌, ◌∷◌, ◌++◌, []};
+ghost use Rattle.std.specs.Prelude.{◌≡◌, []};
 
 use crate::import::read_import;
 use crate::typed::{brackets, typed_name};

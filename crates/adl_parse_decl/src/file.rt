@@ -3,12 +3,10 @@
 ghost use Rattle.adl_ast.proofs.Eats.{ended_eats};
 ghost use Rattle.adl_ast.specs.Forms.{item_line, item_codes, ended_line, ended_form, file_line};
 ghost use Rattle.adl_ast.specs.Seeing.{see};
-ghost use Rattle.adl_ast.specs.Spelling.{reads, IsFileSpelled};
-ghost use Rattle.adl_ast.specs.declared.file.File.{File as Tree};
+ghost use Rattle.adl_ast.specs.Spelling.{reads};
 ghost use Rattle.adl_parse_decl.specs.Files.{IsFileIn};
 ghost use Rattle.grammar.specs.Gives.{Gives};
 ghost use Rattle.grammar.specs.Reading.{whole};
-ghost use Rattle.std.specs.Prelude.{◌≡◌};
 
 use crate::component::read_component;
 use crate::import::read_import;

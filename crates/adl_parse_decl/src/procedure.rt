@@ -1,15 +1,15 @@
 //! Procedures, their methods and parameters.
 
 ghost use Rattle.adl_ast.proofs.Eats.{next_param_eats, proc_member_eats};
-ghost use Rattle.adl_ast.specs.Codes.{token_code, key_code, mark_code, word_codes, not_void_codes, void_code};
-ghost use Rattle.adl_ast.specs.Forms.{Params as Between, direction_line, direction_form, direction_codes, param_of, param_codes, param_line, param_form, more_params, void_params_of, void_params_line, directed_line, undirected_line, first_param, other_params_line, params_line, method_line, proc_member_line, proc_member_form, procedure_line, more_words, brackets};
-ghost use Rattle.adl_ast.specs.Seeing.{see, seen_at};
+ghost use Rattle.adl_ast.specs.Codes.{token_code, key_code, mark_code, word_codes, not_void_codes};
+ghost use Rattle.adl_ast.specs.Forms.{direction_line, direction_form, direction_codes, param_of, param_line, param_form, void_params_line, directed_line, undirected_line, first_param, other_params_line, params_line, method_line, proc_member_line, proc_member_form, procedure_line, more_words, brackets};
+ghost use Rattle.adl_ast.specs.Seeing.{see};
 ghost use Rattle.adl_ast.specs.Spelling.{reads};
 ghost use Rattle.cam_base.specs.declared.token.Keyword.TheVariants as keys;
 ghost use Rattle.cam_base.specs.declared.token.Mark.TheVariants as marks;
-ghost use Rattle.grammar.specs.Form.{Then, maybe, behind};
+ghost use Rattle.grammar.specs.Form.{maybe, behind};
 ghost use Rattle.grammar.specs.Gives.{Gives};
-ghost use Rattle.grammar.specs.Reading.{starts, one};
+ghost use Rattle.grammar.specs.Reading.{starts};
 ghost use Rattle.std.specs.Prelude.{◌≡◌, ◌∷◌, ◌++◌, [], IfOk};
 
 use crate::import::read_import;
