@@ -15,7 +15,7 @@ use cap_model::{Object, Spec, Tcb};
 use std::alloc::Global;
 
 /// The edges of the boot state under a labelling, object by object; an edge may stand several times.
-pub fn edges_at_boot(alloc: Global, spec: &Spec, labels: &Labels) -> Result<Vec<Edge>, NoMemory>
+fn edges_at_boot(alloc: Global, spec: &Spec, labels: &Labels) -> Result<Vec<Edge>, NoMemory>
     requires { length labels.now.by_object ≡ length spec.now.entries }
     ensures { IfOk result (λ edges. (l : ℕ) (a : Authority) (m : ℕ) → (Has edges.items l a m)
         ↔ Auth spec.now labels.now.by_object (boot spec.now) l a m) }
@@ -48,7 +48,8 @@ fn with_each_object(edges: Vec<Edge>, spec: &Spec, labels: &Labels) -> Result<Ve
     Ok(edges)
 }
 
-fn with_object(
+/// The edges and those that an object with this label is the source of at boot.
+pub fn with_object(
     edges: Vec<Edge>,
     spec: &Spec,
     labels: &Labels,

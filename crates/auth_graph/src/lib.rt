@@ -7,5 +7,5 @@
 mod boot_edges;
 mod collect;
 
-pub use boot_edges::{direct, edges_at_boot};
+pub use boot_edges::{direct, with_object};
 pub use collect::{with_cap, with_each_slot, with_link, with_optional_cap, with_optional_link};

@@ -4,13 +4,19 @@ ghost use Rattle.capdl_lexer.specs.NumberedWords.{ends_in_digit};
 ghost use Rattle.std.specs.Prelude.{◌≡◌};
 ghost use Rattle.std.specs.Str.{bytes_eq};
 
-/// Whether bytes are those of a word. Most aren't, and differ in length.
+/// Whether bytes are those of a word. Most aren't, and differ in length or in the first byte.
 #[inline(always)]
 #[tactic(auto, using(cam_base::proofs::Bytes::other_length))]
 pub(crate) fn is(bytes: &[u8], word: &[u8]) -> bool
     ensures { result ≡ bytes_eq bytes.now word.now }
 {
-    bytes.len() == word.len() && bytes == word
+    if bytes.len() != word.len() {
+        return false;
+    }
+    match (bytes, word) {
+        ([first, ..], [other, ..]) if first != other => false,
+        _ => bytes == word,
+    }
 }
 
 /// Whether the last byte is a digit.

@@ -1,8 +1,9 @@
 -- The held edges of the boot state are what the capabilities of CNodes confer.
-use Rattle.std.proofs.Common.{◌≡◌, ◌≢◌, ◌∙◌, ◌↔◌, ℕ, true, List, [], map, slice_get, Some, refl, sym, subst, inl, inr, arith}
+use Rattle.std.proofs.Common.{◌≡◌, ◌≢◌, ◌∙◌, ◌⊎◌, ℕ, true, List, [], map, slice_get, Some, refl, sym, subst, inl, inr, arith}
 use Rattle.std.specs.List.{Contains, filter_map}
 use Rattle.std.proofs.lemmas.Option.{slice_get-map}
-use Rattle.auth_graph.specs.Sources.{OfCap}
+use Rattle.auth_graph.specs.Sources.{OfCap, OfObject}
+use Rattle.auth_graph.proofs.BootSources.{auth_source, source_auth}
 use Rattle.auth_kinds.specs.Adds.{Adds}
 use Rattle.auth_kinds.specs.Edges.{edge}
 use Rattle.auth_kinds.specs.ObjectLabels.{label_of}
@@ -10,7 +11,7 @@ use Rattle.auth_kinds.specs.Tables.{Has, has}
 use Rattle.auth_kinds.specs.declared.authority.Authority.{Authority}
 use Rattle.auth_kinds.specs.declared.authority.Authority.TheVariants.{Grant}
 use Rattle.auth_kinds.specs.declared.edge.Edge.{Edge}
-use Rattle.cap_model.specs.Auth.{Auth, Held}
+use Rattle.cap_model.specs.Auth.{Auth, Held, Structural}
 use Rattle.cap_model.specs.State.{Node, boot, boot_node, boot_slot, no_node, node_at}
 use Rattle.cap_model.specs.declared.cap.Cap.{Cap}
 use Rattle.cap_model.specs.declared.object.Object.{Object}
@@ -19,7 +20,7 @@ use Rattle.cap_model.specs.declared.spec.Entry.{Entry}
 use Rattle.cap_model.specs.declared.spec.Spec.{Spec}
 use Rattle.cap_model.specs.declared.state.Content.TheVariants.{Capability}
 use Rattle.cap_model.proofs.BootPlaces.{at_contains, at_entry, contains_at, entry_at, slot_of}
-use Rattle.least_cert.specs.BootEdges.{AreHeld, AreLinks, OfHolder, OfHolders, between_labels}
+use Rattle.least_cert.specs.BootEdges.{AreHeld, AreLinks, OfHolder, OfHolders, OfOther, OfOthers, between_labels}
 use Rattle.least_cert.specs.Closing.{AddsAll, Begins, Closure, IsEmpty, IsSound, OfLeast}
 use Rattle.least_cert.specs.LeastCertificate.{InLeast, KeepsRules}
 use Rattle.least_cert.proofs.Growth.{knows_grows}
@@ -73,14 +74,50 @@ module _ (spec : Spec) (labels : List ℕ) where
     every = λ l a m h. grown.added (edge l a m) (held_source l a m h);
   }
 
-  pub are_links : (edges links : List Edge) → ((l : ℕ) (a : Authority) (m : ℕ) → (Has edges l a m) ↔ Auth spec labels (boot spec) l a m) → links ≡ filter_map between_labels edges → AreLinks spec labels links
-  are_links edges links are is = record {
+  other_object : (from : ℕ) (object : Object) (e : Edge) → OfOther spec labels from object e → OfObject spec labels from object e
+  other_object from (CNode bits slots) e h = absurd h
+  other_object from (Pages level slots) e h = h
+  other_object from (Thread tcb) e h = h
+  other_object from (Irq bound) e h = h
+  other_object from Endpoint e h = absurd h
+  other_object from Notification e h = absurd h
+  other_object from (Frame paddr fill) e h = absurd h
+
+  held_or_other : (from : ℕ) (object : Object) (e : Edge) → OfObject spec labels from object e → (OfHolder spec labels from object e) ⊎ (OfOther spec labels from object e)
+  held_or_other from (CNode bits slots) e h = inl h
+  held_or_other from (Pages level slots) e h = inr h
+  held_or_other from (Thread tcb) e h = inr h
+  held_or_other from (Irq bound) e h = inr h
+  held_or_other from Endpoint e h = absurd h
+  held_or_other from Notification e h = absurd h
+  held_or_other from (Frame paddr fill) e h = absurd h
+
+  other_auth : (e : Edge) → OfOthers spec labels e → Auth spec labels (boot spec) e.from e.authority e.to
+  other_auth e h =
+      source_auth spec labels e.from e.authority e.to
+      (record { place = h.place; item = h.item; there = h.there; by = other_object (label_of labels h.place) h.item.object e h.by })
+
+  structural_source : (e : Edge) → Structural spec labels (boot spec) e.from e.authority e.to → (Held spec labels (boot spec) e.from e.authority e.to) ⊎ (OfOthers spec labels e)
+  structural_source e h =
+      let of = auth_source spec labels e.from e.authority e.to (inr h) in
+      elim (held_or_other (label_of labels of.place) of.item.object e of.by) [
+        | inl held ↦ inl (source_held e (record { place = of.place; item = of.item; there = of.there; by = held }))
+        | inr other ↦ inr (record { place = of.place; item = of.item; there = of.there; by = other })
+      ]
+
+  pub are_links : (edges links : List Edge) → Adds (OfOthers spec labels) [] edges → links ≡ filter_map between_labels edges → AreLinks spec labels links
+  are_links edges links grown is = record {
     only = λ e h.
         let from = from_mapped between_labels edges e (subst (λ (xs : List Edge). has xs e ≡ true) is h) in
         let link = link_is from.0 e from.2 in
-        ((are e.from e.authority e.to).0 (subst (λ (x : Edge). has edges x ≡ true) link.0 from.1), link.1);
+        (elim (grown.only e (subst (λ (x : Edge). has edges x ≡ true) link.0 from.1)) [ inl none ↦ absurd cc | inr of ↦ other_auth e of ], link.1);
     every = λ l a m h differ.
-        subst (λ (xs : List Edge). has xs (edge l a m) ≡ true) (sym is) (to_mapped between_labels edges (edge l a m) (edge l a m) ((are l a m).1 h) (link_of (edge l a m) differ));
+        elim (structural_source (edge l a m) h) [
+          | inl held ↦ inl held
+          | inr of ↦ inr
+              (subst (λ (xs : List Edge). has xs (edge l a m) ≡ true) (sym is)
+              (to_mapped between_labels edges (edge l a m) (edge l a m) (grown.added (edge l a m) of) (link_of (edge l a m) differ)))
+        ];
   }
 
   -- ---- what the boot state asks for is of the least certificate
@@ -132,6 +169,9 @@ module _ (spec : Spec) (labels : List ℕ) where
         sound = add_l.grows.sound;
         has_boot = record {
           held = rw (begun_spec add_l, begun_labels add_l) (λ l a m h. knows_grows mid new add_l.grows (edge l a m) (add_h.there (edge l a m) (are_h.every l a m h)));
-          structural = rw (begun_spec add_l, begun_labels add_l) (λ l a m h differ. add_l.there (edge l a m) (are_l.every l a m (inr h) differ));
+          structural = rw (begun_spec add_l, begun_labels add_l) (λ l a m h differ. elim (are_l.every l a m h differ) [
+            | inl of ↦ knows_grows mid new add_l.grows (edge l a m) (add_h.there (edge l a m) (are_h.every l a m of))
+            | inr there ↦ add_l.there (edge l a m) there
+          ]);
         };
       }

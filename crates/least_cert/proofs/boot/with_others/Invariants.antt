@@ -1,0 +1,10 @@
+use Rattle.auth_kinds.specs.Adds.{Adds}
+use Rattle.auth_kinds.specs.ObjectLabels.{label_of}
+use Rattle.auth_graph.proofs.Gathering.{OfFirst}
+use Rattle.cap_model.specs.declared.spec.Entry.{Entry}
+use Rattle.least_cert.specs.BootEdges.{OfOther}
+use Rattle.least_cert.proofs.boot.with_others.Given as goal
+
+abbrev pub invariant-loop-place : goal.invariant-loop-place
+invariant-loop-place l =
+    Adds (OfFirst (λ place (entry : Entry). OfOther l.spec l.labels.by_object (label_of l.labels.by_object place) entry.object) l.spec.entries l.place) l.initial.edges.items l.edges.items
