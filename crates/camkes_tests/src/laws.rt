@@ -25,9 +25,6 @@ use adl_settings::{
 use auth_kinds::{
     edges_are_ordered, has_is_membership, sets_are_their_members, tables_are_their_edges,
 };
-use camkes_tool::{
-    failures_have_a_cause, refusals_touch_one_channel_alone, success_writes_a_whole_text,
-};
 use cap_machine::{answers_are_told, states_keep_fitting, steps_follow_the_table};
 use cap_model::examples_are_written;
 use cert_check::valid_certificates_are_sound;
@@ -121,13 +118,6 @@ fn laws_of_layouts(_rt: HostRuntime) {
     root_is_one();
     counts_are_of_addresses();
     tables_are_kept();
-}
-
-#[test]
-fn laws_of_answers(_rt: HostRuntime) {
-    refusals_touch_one_channel_alone();
-    success_writes_a_whole_text();
-    failures_have_a_cause();
 }
 
 #[test]

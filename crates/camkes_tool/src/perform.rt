@@ -1,10 +1,8 @@
 ghost use Rattle.build_texts.specs.BuildTexts.{AreUnbegun};
-ghost use Rattle.cam_base.specs.Texts.{together};
 ghost use Rattle.cam_io.specs.Scripts.{Acts};
 ghost use Rattle.cam_io.specs.Sinks.{Writes};
 ghost use Rattle.camkes_tool.specs.Answers.{script};
-ghost use Rattle.camkes_tool.specs.Lines.{fault_line, read_fault_line, space_before};
-ghost use Rattle.std.specs.Prelude.{◌≡◌, ◌∷◌, [], codes};
+ghost use Rattle.camkes_tool.specs.Lines.{fault_line, read_fault_line};
 
 use crate::Answer;
 use build_texts::write_texts;
@@ -14,7 +12,7 @@ use command_words::usage_line;
 use generate_command::write_generated;
 use itoa::Buffer;
 use source_commands::write_listing;
-use text_commands::write_fault as write_refusal;
+use text_commands::{write_code, write_fault as write_refusal, write_place};
 
 /// Does what the answer says. Takes no memory.
 pub fn perform<O: Outputs>(answer: &Answer, out: &mut O) -> Result<(), Failed>
@@ -35,62 +33,17 @@ pub fn perform<O: Outputs>(answer: &Answer, out: &mut O) -> Result<(), Failed>
     }
 }
 
-fn space_before(name: &[u8]) -> &[u8]
-    ensures { result.now ≡ space_before name.now }
-{
-    if name.is_empty() { b"" } else { b" " }
-}
-
+/// Writes the line of a fault of the source.
 fn write_fault<O: Outputs>(out: &mut O, file: &[u8], fault: &Fault) -> Result<(), Failed>
     ensures { Writes result 1 (fault_line file.now fault.now)
         (O.sink out.old) (O.sink out.new) (O.faults out.old) (O.faults out.new) }
 {
-    let mut first = Buffer::new();
-    let mut end = Buffer::new();
-    let mut number = Buffer::new();
-    write_fault_parts(
-        out,
-        file,
-        first.format(fault.place.first).as_bytes(),
-        end.format(fault.place.end).as_bytes(),
-        number.format(fault.code.number()).as_bytes(),
-        fault.code.title(),
-        fault.name.as_bytes(),
-    )
-}
-
-fn write_fault_parts<O: Outputs>(
-    out: &mut O,
-    file: &[u8],
-    first: &[u8],
-    end: &[u8],
-    number: &[u8],
-    title: &str,
-    name: &[u8],
-) -> Result<(), Failed>
-    ensures { Writes result 1 (together (
-        file.now ∷ codes ":" ∷ first.now ∷ codes "-" ∷ end.now ∷ codes ": E" ∷ number.now ∷ codes " " ∷ title.now
-        ∷ space_before name.now ∷ name.now ∷ codes "\n" ∷ []))
-        (O.sink out.old) (O.sink out.new) (O.faults out.old) (O.faults out.new) }
-{
-    write_parts(
-        out,
-        1,
-        &[
-            file,
-            b":",
-            first,
-            b"-",
-            end,
-            b": E",
-            number,
-            b" ",
-            title.as_bytes(),
-            space_before(name),
-            name,
-            b"\n",
-        ],
-    )
+    write_place(file, fault.place.first, fault.place.end, out, 1)?;
+    write_all(out, 1, b"E")?;
+    let mut digits = Buffer::new();
+    let number = digits.format(fault.code.number()).as_bytes();
+    let title = fault.code.title().as_bytes();
+    write_code(number, title, fault.name.as_bytes(), out, 1)
 }
 
 fn write_read_fault<O: Outputs>(out: &mut O, file: &[u8]) -> Result<(), Failed>
