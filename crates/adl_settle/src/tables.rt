@@ -37,10 +37,13 @@ impl<'a> SettingTable<'a> {
         }
     }
 
-    /// The setting of a path and a name.
+    /// The setting of a path and a name. Most bodies set nothing, and no key is hashed for them.
     pub fn get(&self, key: &[&[u8]]) -> Option<&'a Setting>
         ensures { option_copied result ≡ setting_found self.now (pointed key.now) }
     {
+        if self.entries.is_empty() {
+            return None;
+        }
         self.entries.get(key).copied()
     }
 
