@@ -26,7 +26,7 @@ pub use Rattle.adl_meaning.proofs.Noting.{noted_each, noted_mapped, noted_number
 pub use Rattle.adl_meaning.proofs.SoundNames.{names_sound, one_assembly}
 pub use Rattle.adl_meaning.specs.CompositeBody.{composite_bodies, misplaced_in_item, misplaced_member}
 pub use Rattle.adl_meaning.specs.Duplicate.{as_method, duplicates, duplicates_in_composition, duplicates_in_item, duplicates_in_procedure, repeated_params, repeats, repeats_after}
-pub use Rattle.adl_meaning.specs.Export.{Port, export_fault, inner_of, is_misfit, is_port, misfit_exports, misfits_after, misfits_in_composition, misfits_in_item, port_of, same_port, unled_end, unled_ends}
+pub use Rattle.adl_meaning.specs.Export.{Port, export_fault, inner_of, is_misfit, is_port, misfit_exports, misfits_after, misfits_in_composition, misfits_in_item, port_of, unled_end, unled_ends}
 pub use Rattle.adl_meaning.specs.Faults.{at_keyword, least, noted, where_true}
 pub use Rattle.adl_meaning.specs.Graph.{InRange, has}
 pub use Rattle.adl_meaning.specs.Holding.{Held, a_group, as_connection, as_export, as_held, held_as, held_by, instances_by, instances_in, member_of}
@@ -42,7 +42,7 @@ pub use Rattle.adl_meaning.specs.declared.item_at.ItemAt.{ItemAt}
 pub use Rattle.adl_names.specs.Bodies.{component_at, is_named, item_component, item_number, item_of, owner_of}
 pub use Rattle.adl_names.specs.Laters.{laters}
 pub use Rattle.adl_names.specs.Places.{table_places}
-pub use Rattle.adl_names.specs.Ports.{is_port_among, misfits_from}
+pub use Rattle.adl_names.specs.Ports.{as_port, is_port_among, misfits_from}
 pub use Rattle.adl_names.specs.Scopes.{scope_told}
 pub use Rattle.adl_names.specs.Tables.{has_name, held_told, holding_told, members_told}
 pub use Rattle.adl_names.specs.declared.bodies.Body.{Body}
@@ -59,7 +59,6 @@ pub use Rattle.name_tables.specs.ByName.{found, is_among}
 pub use Rattle.numbering.proofs.Lists.{get_map, in_filter_map}
 pub use Rattle.numbering.specs.Gather.{IsIn}
 pub use Rattle.std.proofs.Common.{Bool, Bor, List, None, Option, Some, [], ap, append_assoc, arith, cond, drop, false, get_or, inl, inr, is_some, length, map, nat_eq, option_map, refl, rules, subst, suc, sym, true, zero, ℕ, ◌&&◌, ◌++◌, ◌+◌, ◌<◌, ◌||◌, ◌∙◌, ◌∷◌, ◌≡◌, ◌≤◌, ◌⊎◌}
-pub use Rattle.std.proofs.lemmas.Bool.{eq-eqb, eqb-true}
 pub use Rattle.std.proofs.lemmas.Bool.Decides.{nat_tests}
 pub use Rattle.std.proofs.lemmas.List.{append-nil, drop_all, length-map, map-append}
 pub use Rattle.std.proofs.lemmas.List.Folds.{find-append, flat_map-map}

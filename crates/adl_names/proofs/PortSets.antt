@@ -1,22 +1,8 @@
 -- What sets of ports have.
-use Rattle.adl_names.proofs.Common.{◌≡◌, ◌∙◌, ℕ, Bool, cond, true, false, ◌||◌, ◌&&◌, refl, sym, ap, List, [], ◌∷◌, map, Bor, nat_eq, bytes_eq, Port, Name, is_port_among, list_any, eqb-true, eq-eqb, bytes_eq-sym, Option, Fault, misfits_after, noted, Held, noted-append, is_among, Export, port_of, inner_of, is_port, is_misfit, export_fault, where_true, Known}
+use Rattle.adl_names.proofs.Common.{◌≡◌, ◌∙◌, ℕ, Bool, cond, true, false, ◌||◌, ◌&&◌, refl, sym, ap, List, ◌∷◌, Bor, nat_eq, bytes_eq, Port, Name, is_port_among, arith, nat_tests, bytes_eq-sym, Option, Fault, misfits_after, noted, Held, noted-append, is_among, Export, port_of, inner_of, is_port, is_misfit, export_fault, where_true, Known}
 
 nat_eq-sym : (a b : ℕ) → nat_eq a b ≡ nat_eq b a
-nat_eq-sym a b = by_tests (nat_eq a b) (nat_eq b a) refl refl
-  where
-    by_tests : (p q : Bool) → nat_eq a b ≡ p → nat_eq b a ≡ q → p ≡ q
-    by_tests true true e d = refl
-    by_tests true false e d = sym (eq-eqb b a (sym (eqb-true a b e))) ∙ d
-    by_tests false true e d = sym e ∙ eq-eqb a b (sym (eqb-true b a d))
-    by_tests false false e d = refl
-
--- the key of a port is one of the keys
-abbrev pub has_key : List (ℕ × Bor Name) → ℕ → Name → Bool
-has_key ks f n = list_any (λ (k : ℕ × Bor Name). nat_eq f k.0 && bytes_eq n k.1.now) ks
-
-pub among-keys : (ks : List (ℕ × Bor Name)) (p : Port) → is_port_among (map (λ (k : ℕ × Bor Name). (k.0, k.1.now)) ks) p ≡ has_key ks p.0.id.place.first p.1
-among-keys [] p = refl
-among-keys (k ∷ ks) p = ap (λ b. (nat_eq p.0.id.place.first k.0 && bytes_eq p.1 k.1.now) || b) (among-keys ks p)
+nat_eq-sym a b = grind (arith, nat_tests)
 
 pub or_from_keys : (f g : ℕ) (m n : Name) (rest : Bool) → cond (nat_eq f g && bytes_eq m n) true rest ≡ (rest || (nat_eq g f && bytes_eq n m))
 or_from_keys f g m n rest = by_test (nat_eq f g && bytes_eq m n) rest ∙ ap (λ z. rest || (z && bytes_eq m n)) (nat_eq-sym f g) ∙ ap (λ z. rest || (nat_eq g f && z)) (bytes_eq-sym m n)
@@ -28,7 +14,7 @@ or_from_keys f g m n rest = by_test (nat_eq f g && bytes_eq m n) rest ∙ ap (λ
     by_test false false = refl
 
 -- an export, and then those behind it
-pub misfit_then : (types : Name → Option Known) (owner : Option Known) (held : Name → Option Held) (new old : Option Fault) (more met : List Name) (ins had : List (ℕ × Name)) (x : Export) (rest : List Export)
+pub misfit_then : (types : Name → Option Known) (owner : Option Known) (held : Name → Option Held) (new old : Option Fault) (more met : List Name) (ins had : List (ℕ × Bor Name)) (x : Export) (rest : List Export)
     → new ≡ noted old (where_true (is_misfit types owner held (is_among met) (is_port_among had) x) (export_fault x.words x.place))
     → ((n : Name) → is_among more n ≡ (is_among met n || bytes_eq n x.target.name)) → ((p : Port) → is_port_among ins p ≡ (is_port_among had p || is_port (inner_of types (port_of held x.words)) p))
     → noted new (misfits_after types owner held (is_among more) (is_port_among ins) rest) ≡ noted old (misfits_after types owner held (is_among met) (is_port_among had) (x ∷ rest))

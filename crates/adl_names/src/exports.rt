@@ -1,9 +1,9 @@
 //! Exports that fit no interface, and ports of composites that no export gives.
 
 ghost use Rattle.adl_names.specs.Words.{Export as ExportOf, Port as PortOf, port_of, interface_at, differs, is_unled, inner_of, is_port, export_fault, is_misfit_at, misfits_after, misfits_in_composition, misfits_in_item, misfit_exports, noted, where_true, held_as, exports_in, known_in, is_among, option_copied, option_and_then, option_map_or};
-ghost use Rattle.std.specs.Prelude.{◌≡◌, ◌||◌, ◌∷◌, List as Seq, false, [], OnOk};
+ghost use Rattle.std.specs.Prelude.{◌≡◌, ◌||◌, ◌∷◌, List as Seq, false, option_map, OnOk};
 ghost use Rattle.adl_names.specs.Bodies.{owner_of, item_of};
-ghost use Rattle.adl_names.specs.Ports.{is_port_among, misfits_from};
+ghost use Rattle.adl_names.specs.Ports.{as_port, is_port_among, misfits_from};
 
 use crate::bodies::{Body, SourceTables};
 use crate::tables::{ComponentTable, Held, Holding, target};
@@ -14,79 +14,27 @@ use cam_base::{Code, Name, NoMemory, Place};
 use indexmap::IndexSet;
 use name_tables::NameSet;
 use std::alloc::Global;
-use std::marker::Model;
 
 /// The bytes of a data port whose size doesn't stand there.
 const DEFAULT_SIZE: u64 = 4096;
 
-/// An instance, and the name of an interface. Contracts see it as the two.
-#[derive(Drop)]
+/// An instance, and the name of an interface.
+#[derive(Clone, Copy)]
 struct Port<'a> {
     instance: &'a Instance,
     interface: &'a Name,
 }
 
-impl<'a> Model for Port<'a> {
-    ghost use Rattle.adl_meaning.specs.Export.{Port as PortOf};
-
-    ghost Value = { PortOf };
-
-    ghost view = { λ p. (p.instance.now, p.interface.now) };
-}
-
-/// A set of ports. Contracts see it as the list of the first bytes of their instances, each with the interface's name.
+/// What earlier exports of a composition have. Of an inner interface it is the first byte of the instance, and the name.
 #[derive(Drop)]
-struct PortSet<'a> {
-    keys: IndexSet<(u64, &'a [u8])>,
-}
-
-impl<'a> Model for PortSet<'a> {
-    ghost use Rattle.std.specs.Borrow.{Bor};
-    ghost use Rattle.std.specs.Prelude.{List, ℕ, map};
-
-    ghost Value = { List (ℕ × List ℕ) };
-
-    ghost view = { λ s. map (λ (k : ℕ × Bor (List ℕ)). (k.0, k.1.now)) s.keys.keys };
-}
-
-impl<'a> PortSet<'a> {
-    /// The empty set. Takes no memory.
-    fn new(alloc: Global) -> PortSet<'a>
-        ensures { result ≡ [] }
-    {
-        PortSet {
-            keys: IndexSet::new(alloc),
-        }
-    }
-
-    /// Whether there is a port, and it is in the set.
-    fn contains(&self, port: Option<&Port<'a>>) -> bool
-        ensures { result ≡ option_map_or (is_port_among self.now) (option_copied port.entry) false }
-    {
-        let Some(port) = port else {
-            return false;
-        };
-        let key = (port.instance.id.place.first, port.interface.as_bytes());
-        self.keys.contains(&key)
-    }
-
-    /// Puts the port, if there is one, into the set.
-    fn insert(&mut self, port: Option<&Port<'a>>) -> Result<(), NoMemory>
-        ensures { OnOk result ((p : PortOf) → is_port_among self.new p
-            ≡ (is_port_among self.old p || is_port (option_copied port.entry) p)) }
-    {
-        let Some(port) = port else {
-            return Ok(());
-        };
-        let key = (port.instance.id.place.first, port.interface.as_bytes());
-        self.keys.insert(key)?;
-        Ok(())
-    }
+struct Taken<'a> {
+    targets: NameSet<'a>,
+    inners: IndexSet<(u64, &'a [u8])>,
 }
 
 /// The port that a dotted name names.
 fn port_of<'a>(holding: &Holding<'a>, words: &'a [Id]) -> Option<Port<'a>>
-    ensures { result ≡ port_of (held_as holding.now) words.entry.now }
+    ensures { option_map as_port result ≡ port_of (held_as holding.now) words.entry.now }
 {
     let (instance, last) = match words {
         [name, last] => match holding.get(&name.name)? {
@@ -106,10 +54,10 @@ fn port_of<'a>(holding: &Holding<'a>, words: &'a [Id]) -> Option<Port<'a>>
 }
 
 /// The interface that the port's component declares.
-fn interface_at<'a>(tables: &SourceTables<'a>, port: &Option<Port<'a>>) -> Option<&'a Interface>
-    ensures { option_copied result ≡ option_and_then (interface_at (known_in tables.now)) port.now }
+fn interface_at<'a>(tables: &SourceTables<'a>, port: Option<Port<'a>>) -> Option<&'a Interface>
+    ensures { option_copied result ≡ option_and_then (interface_at (known_in tables.now)) (option_map as_port port.entry) }
 {
-    let port = port.as_ref()?;
+    let port = port?;
     tables
         .component(&port.instance.component.name)?
         .interface(port.interface)
@@ -130,8 +78,8 @@ fn differs(inner: Option<&Interface>, target: Option<&Interface>) -> bool
 }
 
 /// Whether the port is one of a composite's that no export gives.
-fn is_unled<'a>(tables: &SourceTables<'a>, port: &Option<Port<'a>>) -> bool
-    ensures { result ≡ is_unled (known_in tables.now) port.now }
+fn is_unled<'a>(tables: &SourceTables<'a>, port: Option<Port<'a>>) -> bool
+    ensures { result ≡ is_unled (known_in tables.now) (option_map as_port port.entry) }
 {
     let Some(port) = port else {
         return false;
@@ -144,37 +92,53 @@ fn is_unled<'a>(tables: &SourceTables<'a>, port: &Option<Port<'a>>) -> bool
 }
 
 /// The port, where its component declares the interface.
-fn inner_of<'p, 'a>(tables: &SourceTables<'a>, port: &'p Option<Port<'a>>) -> Option<&'p Port<'a>>
-    ensures { option_copied result ≡ inner_of (known_in tables.now) port.now }
+fn inner_of<'a>(tables: &SourceTables<'a>, port: Option<Port<'a>>) -> Option<Port<'a>>
+    ensures { option_map as_port result ≡ inner_of (known_in tables.now) (option_map as_port port.entry) }
 {
     interface_at(tables, port)?;
-    port.as_ref()
+    port
 }
 
-/// What earlier exports of a composition have.
-#[derive(Drop)]
-struct Taken<'a> {
-    targets: NameSet<'a>,
-    inners: PortSet<'a>,
+/// Whether there is a port, and it is taken.
+fn is_taken<'a>(taken: &Taken<'a>, port: Option<Port<'a>>) -> bool
+    ensures { result ≡ option_map_or (is_port_among taken.now.inners.keys) (option_map as_port port.entry) false }
+{
+    let Some(port) = port else {
+        return false;
+    };
+    let key = (port.instance.id.place.first, port.interface.as_bytes());
+    taken.inners.contains(&key)
+}
+
+/// Takes the port, if there is one.
+fn take<'a>(inners: &mut IndexSet<(u64, &'a [u8])>, port: Option<Port<'a>>) -> Result<(), NoMemory>
+    ensures { OnOk result ((p : PortOf) → is_port_among inners.new.keys p
+        ≡ (is_port_among inners.old.keys p || is_port (option_map as_port port.entry) p)) }
+{
+    let Some(port) = port else {
+        return Ok(());
+    };
+    inners.insert((port.instance.id.place.first, port.interface.as_bytes()))?;
+    Ok(())
 }
 
 /// Whether the export is at fault, behind those that have taken these.
 fn is_misfit<'a>(
     tables: &SourceTables<'a>,
     owner: Option<&ComponentTable<'a>>,
-    port: &Option<Port<'a>>,
+    port: Option<Port<'a>>,
     taken: &Taken<'a>,
     export: &Export,
 ) -> bool
     ensures { result
-        ≡ is_misfit_at (known_in tables.now) (owner_of owner.entry) port.now
-        (is_among taken.now.targets) (is_port_among taken.now.inners) export.now }
+        ≡ is_misfit_at (known_in tables.now) (owner_of owner.entry) (option_map as_port port.entry)
+        (is_among taken.now.targets) (is_port_among taken.now.inners.keys) export.now }
 {
     let name = &export.target.name;
     owner.is_none()
         || (differs(interface_at(tables, port), target(owner, name))
             || (taken.targets.contains(name)
-                || (taken.inners.contains(inner_of(tables, port)) || is_unled(tables, port))))
+                || (is_taken(taken, inner_of(tables, port)) || is_unled(tables, port))))
 }
 
 fn note_wrong<'a>(is_wrong: bool, words: &'a [Id], place: Place, first: &mut Earliest<'a>)
@@ -198,10 +162,10 @@ fn note_export<'a>(
         (export.entry.now ∷ more))) }
 {
     let port = port_of(holding, export.words.as_slice());
-    let is_wrong = is_misfit(tables, owner, &port, taken, export);
+    let is_wrong = is_misfit(tables, owner, port, taken, export);
     note_wrong(is_wrong, export.words.as_slice(), export.place, first);
     taken.targets.insert(&export.target.name)?;
-    taken.inners.insert(inner_of(tables, &port))?;
+    take(&mut taken.inners, inner_of(tables, port))?;
     Ok(())
 }
 
@@ -218,7 +182,7 @@ fn note_exports<'a>(
 {
     let mut taken = Taken {
         targets: NameSet::new(alloc),
-        inners: PortSet::new(alloc),
+        inners: IndexSet::new(alloc),
     };
     for line in holding.composition.lines.as_slice() {
         if let Line::Export(export) = line {
@@ -245,7 +209,7 @@ fn note_composition<'a>(
             for end in connection.ends.as_slice() {
                 let port = port_of(holding, end.words.as_slice());
                 note_wrong(
-                    is_unled(tables, &port),
+                    is_unled(tables, port),
                     end.words.as_slice(),
                     end.place,
                     first,
