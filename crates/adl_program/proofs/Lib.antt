@@ -7,3 +7,4 @@ pub mod PartNumbers
 pub mod Parts
 pub mod Ports
 pub mod Reading
+pub mod Tables

@@ -4,19 +4,23 @@ ghost use Rattle.adl_meaning.specs.CompositeBody.{is_device};
 ghost use Rattle.adl_meaning.specs.Flat.{is_interface};
 ghost use Rattle.adl_meaning.specs.Hierarchy.{body_of, top_of, parts_in, wires_of};
 ghost use Rattle.adl_meaning.specs.Lists.{place_by};
-ghost use Rattle.adl_meaning.specs.Members.{attribute_of, configurations, declared_as, interface_of};
+ghost use Rattle.adl_meaning.specs.Members.{attribute_of, configurations, declared_as, declared_by, interface_of};
 ghost use Rattle.adl_meaning.specs.Values.{is_group};
 ghost use Rattle.name_tables.specs.ByName.{found};
 ghost use Rattle.adl_items.specs.Declaring.{declaring_told};
+ghost use Rattle.adl_items.specs.Firsts.{first_named};
 ghost use Rattle.adl_items.specs.Located.{located};
+ghost use Rattle.adl_program.specs.Lines.{lines_of};
 ghost use Rattle.adl_program.specs.Seen.{part_from, IsComposed, AreMembers};
 ghost use Rattle.std.specs.List.{enumerate_from, filter_map, list_any, slice_get};
-ghost use Rattle.std.specs.Option.{option_and_then, option_copied, option_map_or};
-ghost use Rattle.std.specs.Prelude.{◌≡◌, [], ℕ, List as Seq, None, Some, false, is_some, option_map, unwrap_or, length, IfOk};
+ghost use Rattle.std.specs.Option.{option_and_then, option_copied, option_map_or, option_or};
+ghost use Rattle.std.specs.Prelude.{◌≡◌, [], ℕ, List as Seq, None, Some, false, is_some, option_map, unwrap_or, length, OnOk, IfOk};
 ghost use Rattle.std.specs.Str.{bytes_eq};
 
 use crate::part::{Part, PartAt, Wire, parts_of, wires_of};
-use adl_ast::{Assembly, Attribute, Component, Composition, Configuration, Interface, Member};
+use adl_ast::{
+    Assembly, Attribute, Component, Composition, Configuration, Interface, Line, Member,
+};
 use adl_items::{Declared, Located, composition_of, is_device};
 use adl_meaning::ItemAt;
 use cam_base::{Name, NoMemory};
@@ -234,7 +238,17 @@ fn interface_places<'a>(
     Ok(places)
 }
 
+fn lines_of(composition: Option<&Composition>) -> &[Line]
+    ensures { result.now ≡ lines_of (option_copied composition.entry) }
+{
+    match composition {
+        None => &[],
+        Some(composition) => composition.lines.as_slice(),
+    }
+}
+
 /// What stands in a composition that may be absent.
+#[tactic(auto, using(crate::proofs::Parts::parts_lines, crate::proofs::Parts::wires_lines))]
 fn composed_of<'a>(
     alloc: Global,
     kinds: &NameTable<'_, u32>,
@@ -243,13 +257,27 @@ fn composed_of<'a>(
     ensures parts { IfOk result (λ t. t.parts.items ≡ parts_in (found kinds.now) (option_copied composition.entry)) }
     ensures tables { IfOk result (λ t. IsComposed (option_copied composition.entry) t) }
 {
-    let parts = parts_of(alloc, kinds, composition)?;
+    let lines = lines_of(composition);
+    let parts = parts_of(alloc, kinds, lines)?;
     Ok(Composed {
         named: named_parts(alloc, parts.as_slice())?,
         groups: groups_of(alloc, parts.as_slice())?,
         parts,
-        wires: wires_of(alloc, composition)?,
+        wires: wires_of(alloc, lines)?,
     })
+}
+
+/// Puts what a member declares under its name, where the name has nothing yet.
+fn declare<'a>(member: &'a Member, table: &mut NameTable<'a, Declared<'a>>) -> Result<(), NoMemory>
+    ensures { OnOk result ((n : Seq ℕ) → declaring_told table.new n
+        ≡ option_or (declaring_told table.old n) (first_named (declared_by member.entry.now) n)) }
+{
+    match member {
+        Member::Interface(it) => table.add(&it.id.name, Declared::Interface(it)),
+        Member::Attribute(it) => table.add(&it.id.name, Declared::Attribute(it)),
+        Member::Lock(it) => table.add(&it.id.name, Declared::Lock(it)),
+        _ => Ok(()),
+    }
 }
 
 /// What a component declares by name, where the first of a name counts.
@@ -261,12 +289,7 @@ fn declaring<'a>(
 {
     let mut table = NameTable::new(alloc);
     for member in component.members.as_slice() {
-        match member {
-            Member::Interface(it) => table.add(&it.id.name, Declared::Interface(it))?,
-            Member::Attribute(it) => table.add(&it.id.name, Declared::Attribute(it))?,
-            Member::Lock(it) => table.add(&it.id.name, Declared::Lock(it))?,
-            _ => (),
-        }
+        declare(member, &mut table)?;
     }
     Ok(table)
 }
@@ -291,6 +314,33 @@ fn members_of<'a>(alloc: Global, component: Option<&'a Component>) -> Result<Mem
     }
 }
 
+/// The body of these parts.
+fn body_with<'a>(
+    alloc: Global,
+    kinds: &NameTable<'_, u32>,
+    item: Option<ItemAt>,
+    component: Option<&'a Component>,
+    composition: Option<&'a Composition>,
+    configuration: Option<&'a Configuration>,
+) -> Result<Body<'a>, NoMemory>
+    ensures { IfOk result (λ b. b ≡ record {
+      item = item;
+      component = option_copied component.entry;
+      composition = option_copied composition.entry;
+      configuration = option_copied configuration.entry;
+      parts = parts_in (found kinds.now) (option_copied composition.entry);
+    }) }
+{
+    Ok(Body {
+        item,
+        component,
+        composition,
+        configuration,
+        composed: composed_of(alloc, kinds, composition)?,
+        members: members_of(alloc, component)?,
+    })
+}
+
 /// The body of a component.
 pub fn body_of<'a>(
     alloc: Global,
@@ -300,45 +350,15 @@ pub fn body_of<'a>(
     ensures { IfOk result (λ b. b ≡ body_of (found kinds.now) (it.now.at, it.now.item.now)) }
 {
     let composition = composition_of(it.item);
-    Ok(Body {
-        item: Some(it.at),
-        component: Some(it.item),
+    let configuration = configuration_of(it.item);
+    body_with(
+        alloc,
+        kinds,
+        Some(it.at),
+        Some(it.item),
         composition,
-        configuration: configuration_of(it.item),
-        composed: composed_of(alloc, kinds, composition)?,
-        members: members_of(alloc, Some(it.item))?,
-    })
-}
-
-fn assembly_body<'a>(
-    alloc: Global,
-    kinds: &NameTable<'_, u32>,
-    it: &Located<'a, Assembly>,
-) -> Result<Body<'a>, NoMemory>
-    ensures { IfOk result (λ b. b ≡ top_of (found kinds.now) (Some (it.now.at, it.now.item.now))) }
-{
-    let composition = Some(&it.item.composition);
-    Ok(Body {
-        item: Some(it.at),
-        component: None,
-        composition,
-        configuration: it.item.configuration.as_ref(),
-        composed: composed_of(alloc, kinds, composition)?,
-        members: members_of(alloc, None)?,
-    })
-}
-
-fn no_body<'a>(alloc: Global, kinds: &NameTable<'_, u32>) -> Result<Body<'a>, NoMemory>
-    ensures { IfOk result (λ b. b ≡ top_of (found kinds.now) None) }
-{
-    Ok(Body {
-        item: None,
-        component: None,
-        composition: None,
-        configuration: None,
-        composed: composed_of(alloc, kinds, None)?,
-        members: members_of(alloc, None)?,
-    })
+        configuration,
+    )
 }
 
 /// The body of an assembly that may be absent.
@@ -350,7 +370,11 @@ pub fn top_of<'a>(
     ensures { IfOk result (λ b. b ≡ top_of (found kinds.now) (option_map located it.now)) }
 {
     match it {
-        None => no_body(alloc, kinds),
-        Some(it) => assembly_body(alloc, kinds, it),
+        None => body_with(alloc, kinds, None, None, None, None),
+        Some(it) => {
+            let composition = Some(&it.item.composition);
+            let configuration = it.item.configuration.as_ref();
+            body_with(alloc, kinds, Some(it.at), None, composition, configuration)
+        }
     }
 }

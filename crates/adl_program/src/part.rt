@@ -1,14 +1,13 @@
 //! The instances and the connections of a body.
 
-ghost use Rattle.adl_meaning.specs.Hierarchy.{parts_in, wire_of};
-ghost use Rattle.adl_meaning.specs.Holding.{connections_in, instances_by};
+ghost use Rattle.adl_meaning.specs.Hierarchy.{parts_by};
 ghost use Rattle.name_tables.specs.ByName.{found};
-ghost use Rattle.adl_program.specs.Lines.{group_by};
+ghost use Rattle.adl_program.specs.Lines.{group_by, wire_by};
 ghost use Rattle.std.specs.List.{filter_map, flat_map};
-ghost use Rattle.std.specs.Option.{option_copied, option_map_or};
-ghost use Rattle.std.specs.Prelude.{◌≡◌, [], IfOk};
+ghost use Rattle.std.specs.Option.{option_copied};
+ghost use Rattle.std.specs.Prelude.{◌≡◌, ◌++◌, OnOk, IfOk};
 
-use adl_ast::{Composition, Connection, Instance, Line};
+use adl_ast::{Connection, Instance, Line};
 use adl_items::instances_by;
 use adl_meaning::Connector;
 use cam_base::{Name, NoMemory};
@@ -75,54 +74,64 @@ fn group_by(line: &Line) -> Option<&Name>
     }
 }
 
-/// The instances of a composition that may be absent.
-#[tactic(auto, using(crate::proofs::Parts::line_parts))]
+/// Puts the instances of a line behind others.
+fn add_parts<'a>(
+    kinds: &NameTable<'_, u32>,
+    line: &'a Line,
+    parts: &mut Vec<Part<'a>>,
+) -> Result<(), NoMemory>
+    ensures { OnOk result (parts.new.items ≡ parts.old.items ++ parts_by (found kinds.now) line.entry.now) }
+{
+    let group = group_by(line);
+    for instance in instances_by(line) {
+        if let Some(kind) = kinds.get(&instance.component.name) {
+            parts.push(Part {
+                instance,
+                group,
+                kind: *kind,
+            })?;
+        }
+    }
+    Ok(())
+}
+
+/// The instances of lines.
 pub fn parts_of<'a>(
     alloc: Global,
     kinds: &NameTable<'_, u32>,
-    composition: Option<&'a Composition>,
+    lines: &'a [Line],
 ) -> Result<Vec<Part<'a>>, NoMemory>
-    ensures { IfOk result (λ v. v.items ≡ parts_in (found kinds.now) (option_copied composition.entry)) }
+    ensures { IfOk result (λ v. v.items ≡ flat_map (parts_by (found kinds.now)) lines.entry.now) }
 {
     let mut parts = Vec::new(alloc);
-    let Some(composition) = composition else {
-        return Ok(parts);
-    };
-    for line in composition.lines.as_slice() {
-        let group = group_by(line);
-        for instance in instances_by(line) {
-            if let Some(kind) = kinds.get(&instance.component.name) {
-                parts.push(Part {
-                    instance,
-                    group,
-                    kind: *kind,
-                })?;
-            }
-        }
+    for line in lines {
+        add_parts(kinds, line, &mut parts)?;
     }
     Ok(parts)
 }
 
-/// The connections of a composition that may be absent, where the connector is one of the six.
-pub fn wires_of<'a>(
-    alloc: Global,
-    composition: Option<&'a Composition>,
-) -> Result<Vec<Wire<'a>>, NoMemory>
-    ensures { IfOk result (λ v.
-        v.items ≡ filter_map wire_of (option_map_or connections_in (option_copied composition.entry) [])) }
+/// The connection that a line is, where its connector is one of the six.
+fn wire_by(line: &Line) -> Option<Wire<'_>>
+    ensures { result ≡ wire_by line.now }
+{
+    let Line::Connection(connection) = line else {
+        return None;
+    };
+    let connector = Connector::find(connection.connector.name.as_bytes())?;
+    Some(Wire {
+        connector,
+        connection,
+    })
+}
+
+/// The connections among lines, where the connector is one of the six.
+pub fn wires_of<'a>(alloc: Global, lines: &'a [Line]) -> Result<Vec<Wire<'a>>, NoMemory>
+    ensures { IfOk result (λ v. v.items ≡ filter_map wire_by lines.entry.now) }
 {
     let mut wires = Vec::new(alloc);
-    let Some(composition) = composition else {
-        return Ok(wires);
-    };
-    for line in composition.lines.as_slice() {
-        if let Line::Connection(connection) = line {
-            if let Some(connector) = Connector::find(connection.connector.name.as_bytes()) {
-                wires.push(Wire {
-                    connector,
-                    connection,
-                })?;
-            }
+    for line in lines {
+        if let Some(wire) = wire_by(line) {
+            wires.push(wire)?;
         }
     }
     Ok(wires)

@@ -4,4 +4,4 @@ use Rattle.adl_items.specs.Firsts.{first_named}
 use Rattle.adl_program.proofs.body.declaring.Given as goal
 
 abbrev pub invariant-loop-member : goal.invariant-loop-member
-invariant-loop-member l = (n : Name) → option_or (declaring_told l.table n) (first_named (flat_map declared_by (drop l.member-index l.component.members)) n) ≡ first_named (flat_map declared_by l.component.members) n
+invariant-loop-member l = (n : Name) → option_or (declaring_told l.table n) (first_named (flat_map declared_by (drop l.member-index l.member-items)) n) ≡ first_named (flat_map declared_by l.component.members) n

@@ -1,0 +1,33 @@
+-- Steps of filling tables by name.
+use Rattle.adl_program.proofs.Common.{Bool, List, Name, None, Option, Part, Some, ap, bytes_eq, cond, drop, enumerate_from, false, find, flat_map, get_or, length, list_any, option_map, option_map_or, option_or, part_from, refl, sym, true, ℕ, ◌+◌, ◌<◌, ◌||◌, ◌∙◌, ◌∷◌, ◌++◌, ◌≡◌}
+use Rattle.std.proofs.lemmas.List.Folds.{find-append}
+use Rattle.adl_ast.specs.declared.id.Id.{Id}
+use Rattle.adl_items.specs.Firsts.{first_named}
+use Rattle.adl_program.specs.declared.part.PartAt.{PartAt}
+use Rattle.cam_base.proofs.Lists.{drop_first}
+use Rattle.cam_base.proofs.Options.{option_or-assoc, option_or-cond, option_map-option_or}
+
+-- the step of a loop over what has named things
+pub named_put : {X Y : Type 0} (by : X → List (Id × Y)) (old new : Option Y) (xs : List X) (i : ℕ) (x : X) (n : Name) → i < length xs → x ≡ get_or xs i x → new ≡ option_or old (first_named (by x) n)
+    → option_or new (first_named (flat_map by (drop (i + 1) xs)) n) ≡ option_or old (first_named (flat_map by (drop i xs)) n)
+named_put {X} {Y} by old new xs i x n l e h =
+    let rest = flat_map by (drop (i + 1) xs) in
+    let split : first_named (by x ++ rest) n ≡ option_or (first_named (by x) n) (first_named rest n)
+    = ap (option_map (λ (h : Id × Y). h.1)) (find-append (λ (h : Id × Y). bytes_eq n h.0.name) (by x) rest) ∙ option_map-option_or (λ (h : Id × Y). h.1) _ _ in
+    ap (λ z. option_or z (first_named rest n)) h ∙ option_or-assoc old (first_named (by x) n) (first_named rest n)
+    ∙ ap (λ z. option_or old z) (sym split ∙ ap (λ z. first_named (flat_map by z) n) (sym (drop_first xs i x l e)))
+
+-- and over instances
+pub part_put : (old new : Option PartAt) (xs : List Part) (i : ℕ) (x : Part) (n : Name) → i < length xs → x ≡ get_or xs i x
+    → new ≡ option_or old (cond (bytes_eq n x.instance.id.name) (Some (record { number = i; kind = x.kind })) None)
+    → option_or new (part_from (i + 1) (drop (i + 1) xs) n) ≡ option_or old (part_from i (drop i xs) n)
+part_put old new xs i x n l e h =
+    let at : PartAt = record { number = i; kind = x.kind } in
+    let rest = find (λ (x : ℕ × Part). bytes_eq n x.1.instance.id.name) (enumerate_from (i + 1) (drop (i + 1) xs)) in
+    ap (λ z. option_or z (part_from (i + 1) (drop (i + 1) xs) n)) h ∙ option_or-cond old (bytes_eq n x.instance.id.name) at (part_from (i + 1) (drop (i + 1) xs) n)
+    ∙ ap (λ z. option_or old z) (by_test (bytes_eq n x.instance.id.name) rest ∙ ap (λ z. part_from i z n) (sym (drop_first xs i x l e)))
+  where
+    by_test : (b : Bool) (o : Option (ℕ × Part)) → cond b (Some (let a : PartAt = record { number = i; kind = x.kind } in a)) (option_map (λ (x : ℕ × Part). record { number = x.0; kind = x.1.kind }) o)
+        ≡ option_map (λ (x : ℕ × Part). let a : PartAt = record { number = x.0; kind = x.1.kind } in a) (cond b (Some (i, x)) o)
+    by_test true o = refl
+    by_test false o = refl
