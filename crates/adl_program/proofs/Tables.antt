@@ -1,5 +1,5 @@
 -- Steps of filling tables by name.
-use Rattle.adl_program.proofs.Common.{Bool, List, Name, None, Option, Part, Some, ap, bytes_eq, cond, drop, enumerate_from, false, find, flat_map, get_or, length, list_any, option_map, option_map_or, option_or, part_from, refl, sym, true, ℕ, ◌+◌, ◌<◌, ◌||◌, ◌∙◌, ◌∷◌, ◌++◌, ◌≡◌}
+use Rattle.adl_program.proofs.Common.{Bool, List, Name, None, Option, Part, Some, ap, bytes_eq, cond, drop, enumerate_from, false, find, flat_map, get_or, length, option_map, option_or, part_from, refl, sym, true, ℕ, ◌+◌, ◌<◌, ◌∙◌, ◌++◌, ◌≡◌}
 use Rattle.std.proofs.lemmas.List.Folds.{find-append}
 use Rattle.adl_ast.specs.declared.id.Id.{Id}
 use Rattle.adl_items.specs.Firsts.{first_named}
