@@ -1,5 +1,6 @@
 //! A source, resolved.
 
+ghost use Rattle.adl_hierarchy.specs.Finite.{IsFinite};
 ghost use Rattle.adl_meaning.specs.Graph.{IsInnerFirst};
 ghost use Rattle.adl_meaning.specs.Hierarchy.{hierarchy_of, body, graph, top_number};
 ghost use Rattle.adl_meaning.specs.Items.{AreFew};
@@ -111,6 +112,18 @@ impl<'a> Program<'a> {
     }
 }
 
+/// The numbers of the bodies, each after the components of its instances.
+fn order_of(alloc: Global, bodies: &Bodies<'_>) -> Result<List<u32>, NoMemory>
+    requires { IsFinite bodies.now }
+    ensures { IfOk result (λ order. IsInnerFirst (graph bodies.now) order) }
+{
+    let graph = graph(alloc, bodies)?;
+    match inner_first(alloc, graph.as_slice())? {
+        None => unreachable!(),
+        Some(order) => Ok(order),
+    }
+}
+
 /// The program of a source.
 ///
 /// # Errors
@@ -123,16 +136,11 @@ pub fn program_of<'a>(alloc: Global, source: &'a Source) -> Result<Program<'a>, 
 {
     sound_hierarchies_are_finite();
     let bodies = bodies_of(alloc, source)?;
-    let graph = graph(alloc, &bodies)?;
-    match inner_first(alloc, graph.as_slice())? {
-        None => unreachable!(),
-        Some(order) => {
-            let leads = all_leads(alloc, &bodies, order.as_slice())?;
-            Ok(Program {
-                bodies,
-                leads,
-                order,
-            })
-        }
-    }
+    let order = order_of(alloc, &bodies)?;
+    let leads = all_leads(alloc, &bodies, order.as_slice())?;
+    Ok(Program {
+        bodies,
+        leads,
+        order,
+    })
 }
