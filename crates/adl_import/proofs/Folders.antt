@@ -1,12 +1,9 @@
 -- The folder of a name, byte by byte from the end.
+use Rattle.std.proofs.Math.Bool.{or-true}
 use Rattle.std.proofs.Common.{◌≡◌, ◌∙◌, refl, ap, Bool, true, false, ◌||◌, cond, ℕ, List, [], ◌∷◌, ◌++◌, length}
 use Rattle.std.specs.List.{list_any}
 use Rattle.adl_import.specs.Folding.{is_slash}
 use Rattle.adl_import.specs.Imports.{folder_of}
-
-or_true : (b : Bool) → (b || true) ≡ true
-or_true true = refl
-or_true false = refl
 
 no_slash_last : (xs : List ℕ) (x : ℕ) → is_slash x ≡ false → list_any is_slash (xs ++ x ∷ []) ≡ list_any is_slash xs
 no_slash_last [] x e = ap (λ (b : Bool). b || false) e
@@ -14,7 +11,7 @@ no_slash_last (y ∷ ys) x e = ap (λ (b : Bool). is_slash y || b) (no_slash_las
 
 slash_last : (xs : List ℕ) (x : ℕ) → is_slash x ≡ true → list_any is_slash (xs ++ x ∷ []) ≡ true
 slash_last [] x e = ap (λ (b : Bool). b || false) e
-slash_last (y ∷ ys) x e = ap (λ (b : Bool). is_slash y || b) (slash_last ys x e) ∙ or_true (is_slash y)
+slash_last (y ∷ ys) x e = ap (λ (b : Bool). is_slash y || b) (slash_last ys x e) ∙ or-true (is_slash y)
 
 -- a last byte that is no slash falls away
 pub folder_of-past : (xs : List ℕ) (x : ℕ) → is_slash x ≡ false → folder_of (xs ++ x ∷ []) ≡ folder_of xs

@@ -61,7 +61,7 @@ pub use Rattle.numbering.specs.Gather.{IsIn}
 pub use Rattle.std.proofs.Common.{Bool, Bor, List, None, Option, Some, [], ap, append_assoc, arith, cond, drop, false, get_or, inl, inr, is_some, length, map, nat_eq, option_map, refl, rules, subst, suc, sym, true, zero, ℕ, ◌&&◌, ◌++◌, ◌+◌, ◌<◌, ◌||◌, ◌∙◌, ◌∷◌, ◌≡◌, ◌≤◌, ◌⊎◌}
 pub use Rattle.std.proofs.lemmas.Bool.Decides.{nat_tests}
 pub use Rattle.std.proofs.lemmas.List.{append-nil, drop_all, length-map, map-append}
-pub use Rattle.std.proofs.lemmas.List.Folds.{find-append, flat_map-map}
+pub use Rattle.std.proofs.lemmas.List.Folds.{flat_map-map}
 pub use Rattle.std.proofs.lemmas.Option.{slice_get_read}
 pub use Rattle.std.specs.List.{AllByRecursion, cons_option, enumerate_from, filter_map, find, flat_map, list_any, slice_get}
 pub use Rattle.std.specs.Option.{option_and_then, option_copied, option_map_or, option_or}

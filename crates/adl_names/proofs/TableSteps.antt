@@ -1,10 +1,7 @@
 -- Steps of filling tables.
-use Rattle.adl_names.proofs.Common.{◌≡◌, ◌∙◌, ◌<◌, ◌+◌, ℕ, Bool, cond, true, false, refl, sym, ap, List, [], ◌∷◌, ◌++◌, drop, length, get_or, map, Option, Some, None, option_map, find, flat_map, option_or, bytes_eq, drop_first, Instance, Id, Held, as_held, Name, found, first_named, holding_told, find-append, option_or-assoc, option_map-option_or, Group, a_group, member_of, held_told, map-append, Fault, noted, repeats_after}
+use Rattle.adl_names.proofs.Common.{◌≡◌, ◌∙◌, ◌<◌, ◌+◌, ℕ, Bool, cond, true, false, refl, sym, ap, List, [], ◌∷◌, ◌++◌, drop, length, get_or, map, Option, Some, None, option_map, find, flat_map, option_or, bytes_eq, drop_first, Instance, Id, Held, as_held, Name, found, first_named, holding_told, option_or-assoc, option_map-option_or, Group, a_group, member_of, held_told, map-append, Fault, noted, repeats_after}
 use Rattle.adl_names.specs.declared.tables.Held.{Held as Entry}
 use Rattle.adl_names.specs.declared.tables.Held.TheVariants as entry
-
-pub first_named-append : {X : Type 0} (xs ys : List (Id × X)) (n : Name) → first_named (xs ++ ys) n ≡ option_or (first_named xs n) (first_named ys n)
-first_named-append {X} xs ys n = ap (option_map (λ (h : Id × X). h.1)) (find-append (λ (h : Id × X). bytes_eq n h.0.name) xs ys) ∙ option_map-option_or (λ (h : Id × X). h.1) _ _
 
 -- the name of a group, and then its instances
 pub group_put : (old mid : List (Name × Entry)) (own g : Group) (new : Option Held) (n : Name) (is : List Instance) → found mid n ≡ option_or (found old n) (found ((g.id.name, entry.Group own) ∷ []) n)
@@ -21,14 +18,6 @@ group_put old mid own g new n is put same e h =
         ≡ option_map (λ (h : Id × Held). h.1) (cond b (Some (g.id, a_group (member_of own))) (find (λ (h : Id × Held). bytes_eq n h.0.name) (map as_held g.instances)))
     by_test true = refl
     by_test false = refl
-
--- the step of a loop over what has named things
-pub named_put : {X Y : Type 0} (by : X → List (Id × Y)) (old new : Option Y) (xs : List X) (i : ℕ) (x : X) (n : Name) → i < length xs → x ≡ get_or xs i x → new ≡ option_or old (first_named (by x) n)
-    → option_or new (first_named (flat_map by (drop (i + 1) xs)) n) ≡ option_or old (first_named (flat_map by (drop i xs)) n)
-named_put by old new xs i x n l e h =
-    let rest = flat_map by (drop (i + 1) xs) in
-    ap (λ z. option_or z (first_named rest n)) h ∙ option_or-assoc old (first_named (by x) n) (first_named rest n)
-    ∙ ap (λ z. option_or old z) (sym (first_named-append (by x) rest n) ∙ ap (λ z. first_named (flat_map by z) n) (sym (drop_first xs i x l e)))
 
 -- the step of a loop that meets the words of what each element has
 pub named_each : {X Y : Type 0} (by : X → List (Id × Y)) (new old : Option Fault) (more met : Name → Bool) (xs : List X) (i : ℕ) (x : X) → i < length xs → x ≡ get_or xs i x

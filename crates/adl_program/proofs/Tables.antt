@@ -1,23 +1,10 @@
 -- Steps of filling tables by name.
-use Rattle.adl_program.proofs.Common.{Bool, List, Name, None, Option, Part, Some, ap, bytes_eq, cond, drop, enumerate_from, false, find, flat_map, get_or, length, option_map, option_or, part_from, refl, sym, true, ℕ, ◌+◌, ◌<◌, ◌∙◌, ◌++◌, ◌≡◌}
-use Rattle.std.proofs.lemmas.List.Folds.{find-append}
-use Rattle.adl_ast.specs.declared.id.Id.{Id}
-use Rattle.adl_items.specs.Firsts.{first_named}
+use Rattle.adl_program.proofs.Common.{Bool, List, Name, None, Option, Part, Some, ap, bytes_eq, cond, drop, enumerate_from, false, find, get_or, length, option_map, option_or, part_from, refl, sym, true, ℕ, ◌+◌, ◌<◌, ◌∙◌, ◌≡◌}
 use Rattle.adl_program.specs.declared.part.PartAt.{PartAt}
 use Rattle.cam_base.proofs.Lists.{drop_first}
-use Rattle.cam_base.proofs.Options.{option_or-assoc, option_or-cond, option_map-option_or}
+use Rattle.cam_base.proofs.Options.{option_or-cond}
 
--- the step of a loop over what has named things
-pub named_put : {X Y : Type 0} (by : X → List (Id × Y)) (old new : Option Y) (xs : List X) (i : ℕ) (x : X) (n : Name) → i < length xs → x ≡ get_or xs i x → new ≡ option_or old (first_named (by x) n)
-    → option_or new (first_named (flat_map by (drop (i + 1) xs)) n) ≡ option_or old (first_named (flat_map by (drop i xs)) n)
-named_put {X} {Y} by old new xs i x n l e h =
-    let rest = flat_map by (drop (i + 1) xs) in
-    let split : first_named (by x ++ rest) n ≡ option_or (first_named (by x) n) (first_named rest n)
-    = ap (option_map (λ (h : Id × Y). h.1)) (find-append (λ (h : Id × Y). bytes_eq n h.0.name) (by x) rest) ∙ option_map-option_or (λ (h : Id × Y). h.1) _ _ in
-    ap (λ z. option_or z (first_named rest n)) h ∙ option_or-assoc old (first_named (by x) n) (first_named rest n)
-    ∙ ap (λ z. option_or old z) (sym split ∙ ap (λ z. first_named (flat_map by z) n) (sym (drop_first xs i x l e)))
-
--- and over instances
+-- the step of a loop over instances
 pub part_put : (old new : Option PartAt) (xs : List Part) (i : ℕ) (x : Part) (n : Name) → i < length xs → x ≡ get_or xs i x
     → new ≡ option_or old (cond (bytes_eq n x.instance.id.name) (Some (record { number = i; kind = x.kind })) None)
     → option_or new (part_from (i + 1) (drop (i + 1) xs) n) ≡ option_or old (part_from i (drop i xs) n)

@@ -118,19 +118,17 @@ both_of true true e = (refl, refl)
 both_of true false e = absurd cc
 both_of false b e = absurd cc
 
-pub remembered_more : (h : Hierarchy) (f f' : Path → Name → Name → Option (Option Given)) (path : Path) (front back : Name) (v : Option Given)
-    → ((p : Path) (x y : Name) (g : Option Given) → f p x y ≡ Some g → g ≡ value_at h p (x ++ y)) → v ≡ value_at h path (front ++ back)
-    → ((p : Path) (x y : Name) → f' p x y ≡ cond (same_path path p && (bytes_eq front x && bytes_eq back y)) (Some v) (f p x y)) → (p : Path) (x y : Name) (g : Option Given) → f' p x y ≡ Some g → g ≡ value_at h p (x ++ y)
-remembered_more h f f' path front back v old is new p x y g e = by_test (same_path path p && (bytes_eq front x && bytes_eq back y)) refl (sym (new p x y) ∙ e)
+pub remembered_more : (h : Hierarchy) (f f' : Path → Name → Option (Option Given)) (path : Path) (name : Name) (v : Option Given)
+    → ((p : Path) (x : Name) (g : Option Given) → f p x ≡ Some g → g ≡ value_at h p x) → v ≡ value_at h path name
+    → ((p : Path) (x : Name) → f' p x ≡ cond (same_path path p && bytes_eq name x) (Some v) (f p x)) → (p : Path) (x : Name) (g : Option Given) → f' p x ≡ Some g → g ≡ value_at h p x
+remembered_more h f f' path name v old is new p x g e = by_test (same_path path p && bytes_eq name x) refl (sym (new p x) ∙ e)
   where
-    by_test : (b : Bool) → (same_path path p && (bytes_eq front x && bytes_eq back y)) ≡ b → cond b (Some v) (f p x y) ≡ Some g → g ≡ value_at h p (x ++ y)
+    by_test : (b : Bool) → (same_path path p && bytes_eq name x) ≡ b → cond b (Some v) (f p x) ≡ Some g → g ≡ value_at h p x
     by_test true t e =
-        let both = both_of (same_path path p) (bytes_eq front x && bytes_eq back y) t in
-        let named = both_of (bytes_eq front x) (bytes_eq back y) both.1 in
+        let both = both_of (same_path path p) (bytes_eq name x) t in
         let same : v ≡ g = cc in
-        sym same ∙ is ∙ ap (λ q. value_at h q (front ++ back)) (same_path-true path p both.0)
-        ∙ ap (λ n. value_at h p (n ++ back)) ((bytes_eq-Decides front x).0 named.0) ∙ ap (λ n. value_at h p (x ++ n)) ((bytes_eq-Decides back y).0 named.1)
-    by_test false t e = old p x y g e
+        sym same ∙ is ∙ ap (λ q. value_at h q name) (same_path-true path p both.0) ∙ ap (value_at h p) ((bytes_eq-Decides name x).0 both.1)
+    by_test false t e = old p x g e
 
 -- ---- the measure
 

@@ -50,9 +50,9 @@ abbrev pub given_from : (Name → Option Given) → Option Setting → Option Gi
 given_from refer None = None
 given_from refer (Some s) = given refer (last_name s.words) (Some s.setter)
 
--- what is remembered, by the path and the two parts of the name
-abbrev pub remembered : Memo → Path → Name → Name → Option (Option Given)
-remembered m p x y = lookup (λ k. same_path p k.0.now && (bytes_eq x k.1.0.now && bytes_eq y k.1.1.now)) m.found.entries
+-- what is remembered, by the path and the name
+abbrev pub remembered : Memo → Path → Name → Option (Option Given)
+remembered m p x = lookup (λ k. same_path p k.0.now && bytes_eq x k.1.now) m.found.entries
 
 pub record IsRemembered (h : Hierarchy) (m : Memo) : Type 0 where
-  pub values : (p : Path) (x y : Name) (g : Option Given) → remembered m p x y ≡ Some g → g ≡ value_at h p (x ++ y)
+  pub values : (p : Path) (x : Name) (g : Option Given) → remembered m p x ≡ Some g → g ≡ value_at h p x

@@ -16,10 +16,10 @@ use indexmap::IndexMap;
 use std::alloc::Global;
 use std::marker::Model;
 
-/// The values that were found before, by the path of the instance and the two parts of the name.
+/// The values of attributes that settings refer to, as far as they were looked for before, by the path of the instance.
 #[derive(Drop)]
 pub struct Memo<'a> {
-    pub found: IndexMap<(&'a [Name], (&'a [u8], &'a [u8])), Option<Given<'a>>>,
+    pub found: IndexMap<(&'a [Name], &'a [u8]), Option<Given<'a>>>,
 }
 
 /// What the search looks at. Contracts see it as the hierarchy of the source.
@@ -49,8 +49,8 @@ impl<'t, 'a> Model for Lookup<'t, 'a> {
 
 impl<'a> Memo<'a> {
     /// What was found before: it may be that there is no value.
-    fn get(&self, path: &'a [Name], name: (&'a [u8], &'a [u8])) -> Option<Option<Given<'a>>>
-        ensures { result ≡ remembered self.now path.now name.entry.0.now name.entry.1.now }
+    fn get(&self, path: &'a [Name], name: &'a [u8]) -> Option<Option<Given<'a>>>
+        ensures { result ≡ remembered self.now path.now name.now }
     {
         let key = (path, name);
         match self.found.get(&key) {
@@ -146,7 +146,7 @@ fn given_by<'a>(
                 if path.is_empty() {
                     return Ok(None);
                 }
-                value(lookup, memo, path, (attribute.name.as_bytes(), b""))
+                referred(lookup, memo, path, attribute.name.as_bytes())
             }
         },
     }
@@ -176,23 +176,37 @@ fn search<'a>(
     Ok(lookup.default(number, name))
 }
 
-/// The value of the setting at a path, whose name has two parts.
+/// The value of an attribute of the instance at a path.
 #[cycle(value)]
-pub fn value<'a>(
+fn referred<'a>(
     lookup: &Lookup<'_, 'a>,
     memo: &mut Memo<'a>,
     path: &'a [Name],
-    name: (&'a [u8], &'a [u8]),
+    name: &'a [u8],
 ) -> Result<Option<Given<'a>>, NoMemory>
     requires { IsRemembered lookup.now memo.old }
-    ensures value { IfOk result (λ o. o ≡ value_at lookup.now path.now (name.entry.0.now ++ name.entry.1.now)) }
+    ensures value { IfOk result (λ o. o ≡ value_at lookup.now path.now name.now) }
     ensures memo { OnOk result (IsRemembered lookup.now memo.new) }
 {
     if let Some(found) = memo.get(path, name) {
         return Ok(found);
     }
-    let joined = joined(lookup.alloc, name)?;
-    let found = search(lookup, memo, path, joined.as_slice())?;
+    let found = search(lookup, memo, path, name)?;
     memo.found.insert((path, name), again(&found))?;
     Ok(found)
+}
+
+/// The value of the setting at a path, whose name has two parts.
+pub fn value<'a>(
+    lookup: &Lookup<'_, 'a>,
+    memo: &mut Memo<'a>,
+    path: &'a [Name],
+    name: (&[u8], &[u8]),
+) -> Result<Option<Given<'a>>, NoMemory>
+    requires { IsRemembered lookup.now memo.old }
+    ensures value { IfOk result (λ o. o ≡ value_at lookup.now path.now (name.entry.0.now ++ name.entry.1.now)) }
+    ensures memo { OnOk result (IsRemembered lookup.now memo.new) }
+{
+    let name = joined(lookup.alloc, name)?;
+    search(lookup, memo, path, name.as_slice())
 }

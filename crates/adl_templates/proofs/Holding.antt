@@ -1,4 +1,5 @@
 -- Marks of the bodies that the assembly holds.
+use Rattle.std.proofs.Math.Bool.{or-true}
 use Rattle.adl_templates.proofs.Common.{All, AreWanted, Bool, Hierarchy, IsIn, IsReady, List, Part, [], and_parts, ap, arith, body, cases_eq, eq-eqb, eqb-true, false, from_any, get_or, get_or-set_other, get_or-set_same, graph, inl, inner_filled, inr}
 use Rattle.adl_templates.proofs.Common.{kind_in, leaves, leaves_in, length, length-replicate, length-set, list_any, list_any_more, ne_eqb, or_cases, order_below, place_of, read_in, refl, replicate, set, subst, suc, sym, take, take_all, true}
 use Rattle.adl_templates.proofs.Common.{true≢false, zero, ℕ, ◌&&◌, ◌+◌, ◌<◌, ◌==◌, ◌^◌, ◌||◌, ◌∙◌, ◌∷◌, ◌≡◌, ◌≤◌}
@@ -8,12 +9,8 @@ use Rattle.adl_templates.proofs.Bounds.{room}
 
 -- ---- marks of instances
 
-or_true : (b : Bool) → (b || true) ≡ true
-or_true true = refl
-or_true false = refl
-
 marked_too : (a b : Bool) → (a || (b || true)) ≡ true
-marked_too a b = ap (λ c. a || c) (or_true b) ∙ or_true a
+marked_too a b = ap (λ c. a || c) (or-true b) ∙ or-true a
 
 marked_alone : (a b : Bool) → (a || b) ≡ (a || (b || false))
 marked_alone true b = refl
@@ -79,7 +76,7 @@ held_first h order o few = record {
 any_in : {X : Type 0} (p : X → Bool) (xs : List X) (x : X) → IsIn x xs → p x ≡ true → list_any p xs ≡ true
 any_in p [] x i e = absurd i
 any_in p (y ∷ xs) x (inl s) e = ap (λ b. b || list_any p xs) (ap p s ∙ e)
-any_in p (y ∷ xs) x (inr i) e = ap (λ b. p y || b) (any_in p xs x i e) ∙ or_true (p y)
+any_in p (y ∷ xs) x (inr i) e = ap (λ b. p y || b) (any_in p xs x i e) ∙ or-true (p y)
 
 -- one place of the order less
 pub held_more : (h : Hierarchy) → IsReady h → (order : List ℕ) → IsInnerFirst (graph h) order → (n : ℕ) (marks new : List Bool) → n < length order → AreHeld h order (n + 1) marks
@@ -107,7 +104,7 @@ held_more h ready order o n marks new l held long put = record {
             let P : ℕ → Type 0 = λ k. get_or marks k false ≡ true in
             let Q : ℕ → Type 0 = λ k. IsIn x (body h k).parts in
             let listed = any_in (λ (y : Part). x.kind == y.kind) parts x (subst Q e i) (eq-eqb x.kind x.kind refl) in
-            ap (λ c. get_or marks x.kind false || (c && list_any (λ (y : Part). x.kind == y.kind) parts)) (subst P e old) ∙ ap (λ c. get_or marks x.kind false || c) listed ∙ or_true (get_or marks x.kind false)
+            ap (λ c. get_or marks x.kind false || (c && list_any (λ (y : Part). x.kind == y.kind) parts)) (subst P e old) ∙ ap (λ c. get_or marks x.kind false || c) listed ∙ or-true (get_or marks x.kind false)
         | inr e ↦
             let outside : has (take (n + 1) order) k ≡ false = list_any_more (λ y. k == y) order n 0 l ∙ ap (λ c. c || (k == number)) out ∙ ne_eqb k number e in
             ap (λ c. c || added x.kind) (held.inner k x b outside old i)

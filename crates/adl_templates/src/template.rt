@@ -31,7 +31,7 @@ pub struct Template<'a> {
 
 impl<'a> Template<'a> {
     /// The template of nothing.
-    pub fn empty(alloc: Global) -> Template<'a> {
+    fn empty(alloc: Global) -> Template<'a> {
         Template {
             leaves: Vec::new(alloc),
             connections: Vec::new(alloc),

@@ -1,5 +1,6 @@
 use Rattle.adl_names.proofs.Common.{◌∙◌, declared_by, has_name}
-use Rattle.adl_names.proofs.TableSteps.{named_each, named_put}
+use Rattle.adl_items.proofs.Firsts.{named_put}
+use Rattle.adl_names.proofs.TableSteps.{named_each}
 use Rattle.adl_names.proofs.tables.declaring.Goals as goal
 
 pub loop-member-preserved : goal.loop-member-preserved

@@ -1,9 +1,9 @@
 use Rattle.adl_program.proofs.Common.{List, [], ap, arith, declared_by, drop, drop_of_length-le, flat_map, option_or, sym, ◌∙◌, ◌≡◌}
 use Rattle.adl_ast.specs.declared.component.Member.{Member}
+use Rattle.adl_items.proofs.Firsts.{named_put}
 use Rattle.adl_items.specs.Declaring.{declaring_told}
 use Rattle.adl_items.specs.Firsts.{first_named}
 use Rattle.cam_base.proofs.Options.{option_or-none}
-use Rattle.adl_program.proofs.Tables.{named_put}
 use Rattle.adl_program.proofs.body.declaring.Goals as goal
 
 pub loop-member-preserved : goal.loop-member-preserved

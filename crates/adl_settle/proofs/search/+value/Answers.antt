@@ -3,14 +3,12 @@ use Rattle.adl_settle.specs.Lookups.{remembered}
 use Rattle.adl_settle.proofs.ValueSteps.{at-next, key-behind, step-found, step-none, remembered_more, left_falls}
 use Rattle.adl_settle.proofs.search.+value.Goals as goal
 
-pub value-returns-clause-memo : goal.value-returns-clause-memo
-value-returns-clause-memo t c =
-    let h = c.args.lookup.now in
+pub referred-returns-clause-memo : goal.referred-returns-clause-memo
+referred-returns-clause-memo t c =
     record {
       values =
-          remembered_more h (remembered c.search.new.memo) (remembered (record { found = c.insert.new.self })) c.args.path.now c.args.name.0.now c.args.name.1.now c.again.result c.in_ok-found.ensures.memo.values
-          (c.again.ensures ∙ c.in_ok-found.ensures.value ∙ ap (value_at h c.args.path.now) (c.as_slice.ensures.value ∙ c.in_ok-joined.ensures))
-          (λ p x y. c.in_ok-insert.ensures.updates.0 (record { ref_ptr = (0, 0); now = p }, (record { ref_ptr = (0, 0); now = x }, record { ref_ptr = (0, 0); now = y })));
+          remembered_more c.args.lookup.now (remembered c.search.new.memo) (remembered (record { found = c.insert.new.self })) c.args.path.now c.args.name.now c.again.result c.in_ok-found.ensures.memo.values
+          (c.again.ensures ∙ c.in_ok-found.ensures.value) (λ p x. c.in_ok-insert.ensures.updates.0 (record { ref_ptr = (0, 0); now = p }, record { ref_ptr = (0, 0); now = x }));
     }
 
 pub search-given_by-requires : goal.search-given_by-requires

@@ -3,8 +3,8 @@ use Rattle.adl_settle.specs.Lookups.{IsRemembered}
 use Rattle.adl_settle.proofs.ValueSteps.{left}
 use Rattle.adl_settle.proofs.search.+value.Given as goal
 
-abbrev pub decreases-value : goal.decreases-value
-decreases-value l = 3 * length l.path.now + 3
+abbrev pub decreases-referred : goal.decreases-referred
+decreases-referred l = 3 * length l.path.now + 3
 
 abbrev pub decreases-search : goal.decreases-search
 decreases-search l = 3 * length l.path.now + 2

@@ -1,5 +1,6 @@
 use Rattle.adl_names.proofs.Common.{◌∙◌, held_by, has_name}
-use Rattle.adl_names.proofs.TableSteps.{named_each, named_put}
+use Rattle.adl_items.proofs.Firsts.{named_put}
+use Rattle.adl_names.proofs.TableSteps.{named_each}
 use Rattle.adl_names.proofs.tables.Holding.of.Goals as goal
 
 pub loop-line-preserved : goal.loop-line-preserved
