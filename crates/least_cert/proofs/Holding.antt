@@ -7,7 +7,7 @@ use Rattle.auth_graph.proofs.BootSources.{auth_source, source_auth}
 use Rattle.auth_kinds.specs.Adds.{Adds}
 use Rattle.auth_kinds.specs.Edges.{edge}
 use Rattle.auth_kinds.specs.ObjectLabels.{label_of}
-use Rattle.auth_kinds.specs.Tables.{Has, has}
+use Rattle.auth_kinds.specs.Tables.{has}
 use Rattle.auth_kinds.specs.declared.authority.Authority.{Authority}
 use Rattle.auth_kinds.specs.declared.authority.Authority.TheVariants.{Grant}
 use Rattle.auth_kinds.specs.declared.edge.Edge.{Edge}

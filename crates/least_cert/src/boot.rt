@@ -1,9 +1,9 @@
 //! The edges that the boot state asks for.
 
 ghost use Rattle.auth_kinds.specs.Adds.{Adds};
-ghost use Rattle.least_cert.specs.BootEdges.{AreHeld, AreLinks, OfHolder, OfHolders, OfOther, OfOthers, between_labels};
+ghost use Rattle.least_cert.specs.BootEdges.{OfHolder, OfHolders, OfOther, OfOthers, between_labels};
 ghost use Rattle.std.specs.List.{filter_map};
-ghost use Rattle.std.specs.Prelude.{◌≡◌, IfOk, length};
+ghost use Rattle.std.specs.Prelude.{◌≡◌, [], IfOk, length};
 
 use auth_graph::{with_each_slot, with_object};
 use auth_kinds::{Edge, Labels};
@@ -11,40 +11,53 @@ use cam_base::NoMemory;
 use cap_model::{Object, Spec};
 use std::alloc::Global;
 
-/// What the capabilities of CNodes confer.
-pub fn held_edges(alloc: Global, spec: &Spec, labels: &Labels) -> Result<Vec<Edge>, NoMemory>
-    requires { length labels.now.by_object ≡ length spec.now.entries }
-    ensures { IfOk result (λ edges. AreHeld spec.now labels.now.by_object edges.items) }
-{
-    let edges = with_holders(Vec::new(alloc), spec, labels)?;
-    Ok(edges)
+/// The edges of the boot state by what they come from: CNodes, and other objects.
+#[derive(Drop)]
+pub struct Sources {
+    pub nodes: Vec<Edge>,
+    pub others: Vec<Edge>,
 }
 
-fn with_holders(edges: Vec<Edge>, spec: &Spec, labels: &Labels) -> Result<Vec<Edge>, NoMemory>
+/// The edges of the boot state, object by object; an edge may stand several times.
+pub fn gathered(alloc: Global, spec: &Spec, labels: &Labels) -> Result<Sources, NoMemory>
     requires { length labels.now.by_object ≡ length spec.now.entries }
-    ensures { IfOk result (λ new. Adds (OfHolders spec.now labels.now.by_object) edges.items new.items) }
+    ensures nodes { IfOk result (λ new. Adds (OfHolders spec.now labels.now.by_object) [] new.nodes.items) }
+    ensures others { IfOk result (λ new. Adds (OfOthers spec.now labels.now.by_object) [] new.others.items) }
 {
-    let mut edges = edges;
+    let mut sources = Sources {
+        nodes: Vec::new(alloc),
+        others: Vec::new(alloc),
+    };
     let entries = spec.entries.as_slice();
     let from = labels.by_object.as_slice();
     for place in 0..entries.len() {
-        edges = with_holder(edges, spec, labels, from[place], &entries[place].object)?;
+        sources = with_source(sources, spec, labels, from[place], &entries[place].object)?;
     }
-    Ok(edges)
+    Ok(sources)
 }
 
-fn with_holder(
-    edges: Vec<Edge>,
+fn with_source(
+    sources: Sources,
     spec: &Spec,
     labels: &Labels,
     from: u32,
     object: &Object,
-) -> Result<Vec<Edge>, NoMemory>
-    ensures { IfOk result (λ new. Adds (OfHolder spec.now labels.now.by_object from object.now) edges.items new.items) }
+) -> Result<Sources, NoMemory>
+    ensures nodes { IfOk result (λ new.
+        Adds (OfHolder spec.now labels.now.by_object from object.now) sources.nodes.items new.nodes.items) }
+    ensures others { IfOk result (λ new.
+        Adds (OfOther spec.now labels.now.by_object from object.now) sources.others.items new.others.items) }
 {
+    let Sources { nodes, others } = sources;
     match object {
-        Object::CNode { slots, .. } => with_each_slot(edges, spec, labels, from, slots.as_slice()),
-        _ => Ok(edges),
+        Object::CNode { slots, .. } => Ok(Sources {
+            nodes: with_each_slot(nodes, spec, labels, from, slots.as_slice())?,
+            others,
+        }),
+        _ => Ok(Sources {
+            nodes,
+            others: with_object(others, spec, labels, from, object)?,
+        }),
     }
 }
 
@@ -59,7 +72,7 @@ fn between_labels(edge: Edge) -> Option<Edge>
 }
 
 /// Those of the edges that lie between different labels.
-fn links_of(alloc: Global, edges: &[Edge]) -> Result<Vec<Edge>, NoMemory>
+pub fn links_of(alloc: Global, edges: &[Edge]) -> Result<Vec<Edge>, NoMemory>
     ensures { IfOk result (λ links. links.items ≡ filter_map between_labels edges.now) }
 {
     let links = edges
@@ -67,42 +80,4 @@ fn links_of(alloc: Global, edges: &[Edge]) -> Result<Vec<Edge>, NoMemory>
         .filter_map(|edge| between_labels(*edge))
         .collect(alloc)?;
     Ok(links)
-}
-
-/// The edges between different labels that other objects than CNodes are the sources of.
-pub fn linking_edges(alloc: Global, spec: &Spec, labels: &Labels) -> Result<Vec<Edge>, NoMemory>
-    requires { length labels.now.by_object ≡ length spec.now.entries }
-    ensures { IfOk result (λ edges. AreLinks spec.now labels.now.by_object edges.items) }
-{
-    let edges = with_others(Vec::new(alloc), spec, labels)?;
-    let links = links_of(alloc, edges.as_slice())?;
-    Ok(links)
-}
-
-fn with_others(edges: Vec<Edge>, spec: &Spec, labels: &Labels) -> Result<Vec<Edge>, NoMemory>
-    requires { length labels.now.by_object ≡ length spec.now.entries }
-    ensures { IfOk result (λ new. Adds (OfOthers spec.now labels.now.by_object) edges.items new.items) }
-{
-    let mut edges = edges;
-    let entries = spec.entries.as_slice();
-    let from = labels.by_object.as_slice();
-    for place in 0..entries.len() {
-        edges = with_other(edges, spec, labels, from[place], &entries[place].object)?;
-    }
-    Ok(edges)
-}
-
-fn with_other(
-    edges: Vec<Edge>,
-    spec: &Spec,
-    labels: &Labels,
-    from: u32,
-    object: &Object,
-) -> Result<Vec<Edge>, NoMemory>
-    ensures { IfOk result (λ new. Adds (OfOther spec.now labels.now.by_object from object.now) edges.items new.items) }
-{
-    match object {
-        Object::CNode { .. } => Ok(edges),
-        _ => with_object(edges, spec, labels, from, object),
-    }
 }

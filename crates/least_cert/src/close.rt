@@ -5,7 +5,7 @@ ghost use Rattle.least_cert.specs.LeastCertificate.{CloseRefused, IsLeast};
 ghost use Rattle.std.specs.Prelude.{◌≡◌, ◌≤◌, IfErr, IfOk, OnOk, length};
 
 use crate::asking::look;
-use crate::boot::{held_edges, linking_edges};
+use crate::boot::{gathered, links_of};
 use crate::closing::{CloseError, Closing};
 use crate::replies::certificate;
 use auth_kinds::{EdgeTable, Labels};
@@ -32,10 +32,10 @@ fn begun<'a>(alloc: Global, spec: &'a Spec, labels: &'a Labels) -> Result<Closin
     ensures begun { IfOk result (Begins spec.entry.now labels.entry.now.by_object) }
     ensures refused { IfErr result (CloseRefused spec.entry.now labels.entry.now.by_object) }
 {
-    let held = held_edges(alloc, spec, labels)?;
-    let links = linking_edges(alloc, spec, labels)?;
+    let sources = gathered(alloc, spec, labels)?;
+    let links = links_of(alloc, sources.others.as_slice())?;
     let mut closing = Closing::new(alloc, spec, labels);
-    closing.add_all(held.as_slice())?;
+    closing.add_all(sources.nodes.as_slice())?;
     closing.add_all(links.as_slice())?;
     Ok(closing)
 }
