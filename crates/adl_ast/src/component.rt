@@ -1,5 +1,5 @@
-use crate::{Composition, Configuration, Id, Import, Value};
-use cam_base::{List, Name, Place};
+use crate::{Composition, Configuration, Id, Import, Value, Words};
+use cam_base::{List, Place};
 
 /// A component: what its instances offer and need.
 #[derive(Drop)]
@@ -48,7 +48,7 @@ pub struct Interface {
 #[derive(Drop)]
 pub struct Attribute {
     /// The words of its type, one to three.
-    pub words: List<Name>,
+    pub words: Words,
     pub id: Id,
     /// `[]` stands behind the name.
     pub array: bool,

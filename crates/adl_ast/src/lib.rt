@@ -15,6 +15,7 @@ mod procedure;
 mod seen;
 mod source;
 mod value;
+mod words;
 mod written;
 
 pub use component::{Attribute, Component, Interface, InterfaceKind, Lock, LockKind, Member};
@@ -33,4 +34,5 @@ pub use procedure::{Direction, Method, Param, ProcMember, Procedure};
 pub use seen::Seen;
 pub use source::{Source, SourceFile};
 pub use value::{Value, ValueKind};
+pub use words::Words;
 pub use written::{interfaces_agree, params_agree, typed_names_agree};

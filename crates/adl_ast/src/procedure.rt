@@ -1,5 +1,5 @@
-use crate::{Id, Import};
-use cam_base::{List, Name};
+use crate::{Id, Import, Words};
+use cam_base::List;
 
 /// A procedure: the methods that one side calls and the other provides.
 #[derive(Drop)]
@@ -19,7 +19,7 @@ pub enum ProcMember {
 #[derive(Drop)]
 pub struct Method {
     /// The words of the type that it answers, one to three.
-    pub result: List<Name>,
+    pub result: Words,
     pub id: Id,
     /// Between the parentheses stands `void` alone.
     pub void: bool,
@@ -40,7 +40,7 @@ pub enum Direction {
 pub struct Param {
     pub direction: Option<Direction>,
     /// The words of its type, one to three.
-    pub words: List<Name>,
+    pub words: Words,
     pub id: Id,
     /// `[]` stands behind the name.
     pub array: bool,

@@ -14,9 +14,9 @@ ghost use Rattle.std.specs.Prelude.{◌≡◌, ◌∷◌, ◌++◌, [], IfOk};
 
 use crate::import::read_import;
 use crate::typed::{More, brackets, more_words, typed_name, typed_of};
-use adl_ast::{Direction, Id, Method, Param, ProcMember, Procedure};
+use adl_ast::{Direction, Id, Method, Param, ProcMember, Procedure, Words};
 use adl_parse_asm::{Adl, WordKind, id_of, next_has, next_is, next_is_word, take, take_of, word};
-use cam_base::{Keyword, Kind, List, Mark, Name, NoMemory, Token};
+use cam_base::{Keyword, Kind, List, Mark, NoMemory, Token};
 use grammar::{ReadError, Repeated, read_all};
 use std::alloc::Global;
 
@@ -61,7 +61,7 @@ fn maybe_direction<'a>(
     Ok((Some(direction), rest))
 }
 
-fn param_of(direction: Option<Direction>, typed: (List<Name>, Id), array: bool) -> Param
+fn param_of(direction: Option<Direction>, typed: (Words, Id), array: bool) -> Param
     ensures { result ≡ param_of direction typed array }
 {
     let (words, id) = typed;

@@ -7,9 +7,9 @@ ghost use Rattle.grammar.specs.Form.{Then, maybe};
 ghost use Rattle.grammar.specs.Gives.{Gives};
 ghost use Rattle.std.specs.Prelude.{◌≡◌, IfOk};
 
-use adl_ast::Id;
+use adl_ast::{Id, Words};
 use adl_parse_asm::{maybe_word, next_is, next_is_word, take, word};
-use cam_base::{Kind, List, Mark, Name, NoMemory, Token};
+use cam_base::{Kind, Mark, NoMemory, Token};
 use grammar::ReadError;
 use std::alloc::Global;
 
@@ -49,10 +49,10 @@ pub fn more_words<'a>(
 
 /// The words of the type, and the name, which is the last word.
 #[inline(always)]
-pub fn typed_of(alloc: Global, first: Id, more: More) -> Result<(List<Name>, Id), NoMemory>
+pub fn typed_of(alloc: Global, first: Id, more: More) -> Result<(Words, Id), NoMemory>
     ensures { IfOk result (λ x. x ≡ typed_of first more) }
 {
-    let mut names = List::from_vec(Vec::with_capacity(alloc, 1)?);
+    let mut names = Words::new(alloc);
     names.push(first.name)?;
     let (second, last) = more;
     let Some((third, fourth)) = last else {
@@ -72,7 +72,7 @@ pub fn typed_name<'a>(
     alloc: Global,
     bytes: &[u8],
     tokens: &'a [Token],
-) -> Result<((List<Name>, Id), &'a [Token]), ReadError>
+) -> Result<((Words, Id), &'a [Token]), ReadError>
     ensures { Gives (λ x. (x.0, see bytes.now x.1.now)) result (reads typed_line (see bytes.now tokens.now)) }
 {
     let (first, rest) = word(alloc, bytes, tokens)?;

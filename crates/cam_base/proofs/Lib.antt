@@ -9,3 +9,4 @@ pub mod Naming
 pub mod Options
 pub mod Orders
 pub mod Values
+pub mod WordBytes
