@@ -5,7 +5,8 @@ use Rattle.std.specs.BTreeMap.{insert_entry}
 use Rattle.std.specs.Cmp.{tied_then, unsigned_tied}
 use Rattle.std.specs.Cmp.Lexicographic.{slice_cmp}
 use Rattle.std.specs.Map.{lookup}
-use Rattle.std.specs.Option.{option_or}
+use Rattle.std.specs.Borrow.{Bor}
+use Rattle.std.specs.Option.{option_copied, option_or}
 use Rattle.std.specs.Ordering.{is_eq, match_ordering, nat_cmp, ordering_then}
 use Rattle.std.specs.Str.{bytes_eq}
 use Rattle.std.specs.declared.cmp.Ordering.{Ordering}
@@ -16,7 +17,7 @@ use Rattle.std.proofs.lemmas.Bool.Decides.{nat_tests}
 use Rattle.std.proofs.lemmas.Map.Text.{is_eq-slice_cmp}
 use Rattle.std.proofs.lemmas.Slice.Eq.{bytes_eq-Decides}
 use Rattle.name_tables.specs.ByName.{Name, found}
-use Rattle.name_tables.proofs.NameLookups.{found_kept, found_put}
+use Rattle.name_tables.proofs.NameLookups.{found_put}
 use Rattle.spread_names.specs.Naming.{Key, digest, is_digested, are_digested}
 
 abbrev key : Name → Key
@@ -55,6 +56,10 @@ fits a n e = same a (digest n) e
 is_its_digest : (n : Name) → is_digested (key n) ≡ true
 is_its_digest n = fits (digest n) n refl
 
+pub is_some-option_copied : {V : Type 0} (o : Option (Bor V)) → is_some (option_copied o) ≡ is_some o
+is_some-option_copied None = refl
+is_some-option_copied (Some x) = refl
+
 module _ {V : Type 0} where
   abbrev shown : List (Key × V) → List (Name × V)
   shown es = map (λ e. (e.0.1.now, e.1)) es
@@ -78,11 +83,6 @@ module _ {V : Type 0} where
       let p = and_parts (is_digested e.0) (are_digested es) a in
       ap (λ b. cond b (Some e.1) (lookup (is_key k) es)) (same_name k e.0 d p.0) ∙ ap (λ z. cond (bytes_eq k.1.now e.0.1.now) (Some e.1) z) (found_entry es k p.1 d)
 
-  -- whether a name was there
-  pub was_found : (old : List (Key × V)) (before : List (Name × V)) (k : Key) (o : Option V) → shown old ≡ before → are_digested old ≡ true → is_digested k ≡ true → o ≡ lookup (is_key k) old
-      → is_some o ≡ is_some (found before k.1.now)
-  was_found old before k o seen a d e = ap is_some (e ∙ found_entry old k a d ∙ ap (λ s. found s k.1.now) seen)
-
   -- what is found after a key was put in
   put_found : (old new : List (Key × V)) (before : List (Name × V)) (k : Key) (x : V) → shown old ≡ before → are_digested old ≡ true → are_digested new ≡ true → is_digested k ≡ true
       → ((q : Key) → lookup (is_key q) new ≡ cond (is_key k q) (Some x) (lookup (is_key q) old)) → (n : Name) → found (shown new) n ≡ cond (bytes_eq k.1.now n) (Some x) (found before n)
@@ -92,26 +92,8 @@ module _ {V : Type 0} where
       ∙ ap (λ t. cond t (Some x) (lookup (is_key (key n)) old)) (same_name k (key n) d (is_its_digest n))
       ∙ ap (λ z. cond (bytes_eq k.1.now n) (Some x) z) (found_entry old (key n) a (is_its_digest n) ∙ ap (λ s. found s n) seen)
 
+  -- where its name wasn't there
   pub entry_put : (old new : List (Key × V)) (before : List (Name × V)) (k : Key) (x : V) → shown old ≡ before → are_digested old ≡ true → are_digested new ≡ true → is_digested k ≡ true
-      → is_some (lookup (is_key k) old) ≡ false
+      → is_some (found before k.1.now) ≡ false
       → ((q : Key) → lookup (is_key q) new ≡ cond (is_key k q) (Some x) (lookup (is_key q) old)) → (n : Name) → found (shown new) n ≡ option_or (found before n) (cond (bytes_eq n k.1.now) (Some x) None)
-  entry_put old new before k x seen a b d absent put =
-      found_put (found before) (found (shown new)) k.1.now x (ap is_some (sym (found_entry old k a d ∙ ap (λ s. found s k.1.now) seen)) ∙ absent) (put_found old new before k x seen a b d put)
-
-  -- what is found after a value was put in the place of the first, and the first back
-  pub entry_back : (old mid new : List (Key × V)) (before : List (Name × V)) (k : Key) (x y : V) → shown old ≡ before → are_digested old ≡ true → are_digested mid ≡ true → are_digested new ≡ true
-      → is_digested k ≡ true → lookup (is_key k) old ≡ Some y
-      → ((q : Key) → lookup (is_key q) mid ≡ cond (is_key k q) (Some x) (lookup (is_key q) old))
-      → ((q : Key) → lookup (is_key q) new ≡ cond (is_key k q) (Some y) (lookup (is_key q) mid)) → (n : Name) → found (shown new) n ≡ option_or (found before n) (cond (bytes_eq n k.1.now) (Some x) None)
-  entry_back old mid new before k x y seen a m b d there put back n =
-      put_found mid new (shown mid) k y refl m b d back n
-      ∙ ap (λ z. cond (bytes_eq k.1.now n) (Some y) z) (put_found old mid before k x seen a m d put n)
-      ∙ by_test (bytes_eq k.1.now n) refl
-      ∙ found_kept (found before) k.1.now x (ap is_some had) n
-    where
-      had : found before k.1.now ≡ Some y
-      had = sym (found_entry old k a d ∙ ap (λ s. found s k.1.now) seen) ∙ there
-
-      by_test : (t : Bool) → bytes_eq k.1.now n ≡ t → cond t (Some y) (cond t (Some x) (found before n)) ≡ found before n
-      by_test true e = sym had ∙ ap (found before) ((bytes_eq-Decides k.1.now n).0 e)
-      by_test false e = refl
+  entry_put old new before k x seen a b d absent put = found_put (found before) (found (shown new)) k.1.now x absent (put_found old new before k x seen a b d put)

@@ -1,46 +1,88 @@
--- What many tables have for a name.
-use Rattle.std.proofs.Common.{◌≡◌, ◌∙◌, ◌<◌, ◌%◌, ◌==◌, ◌≢◌, ap, ap₂, subst, sym, refl, arith, ℕ, Bool, true, false, cond, List, [], ◌∷◌, length, get_or, Option, Some, None}
+-- What a table finds whose entries stand by themselves, but for those whose place another has.
+use Rattle.std.proofs.Common.{◌≡◌, ◌∙◌, ◌<◌, ◌%◌, ◌==◌, ◌≢◌, ap, subst, sym, refl, arith, ℕ, Bool, true, false, cond, List, [], ◌∷◌, length, get_or, map, Option, Some, None, is_some}
 use Rattle.std.proofs.lemmas.Bool.Decides.{nat_tests}
 use Rattle.std.proofs.lemmas.Grind.{get_or-set_at}
 use Rattle.std.proofs.lemmas.List.{get_or-set_other, length-set}
 use Rattle.std.proofs.lemmas.Slice.Eq.{bytes_eq-Decides}
-use Rattle.std.proofs.Math.ListN.{set}
+use Rattle.std.proofs.Math.ListN.{set, get_or-map}
+use Rattle.std.specs.Borrow.{Bor}
 use Rattle.std.specs.Option.{option_or}
+use Rattle.std.specs.Prelude.{OnErr, OnOk, Result, Ok, Err}
 use Rattle.std.specs.Str.{bytes_eq}
-use Rattle.cam_base.proofs.Options.{option_or-none}
+use Rattle.cam_base.specs.declared.error.NoMemory.{NoMemory}
+use Rattle.cam_base.proofs.Options.{is_none, option_or-none, option_or-there}
 use Rattle.name_tables.specs.ByName.{Name, found}
-use Rattle.spread_names.specs.Naming.{digest, spread_found}
+use Rattle.spread_names.specs.Naming.{digest, one, table_of, spread_found, AreOthers}
 
 abbrev Table : Type 0 → Type 0
 Table V = List (Name × V)
 
-module _ {V : Type 0} where
-  -- what is found after a value was put into the table of its name
-  spread_put : (old : List (Table V)) (p : ℕ) (t u : Table V) (name : Name) (v : V) → p ≡ digest name % length old → p < length old → t ≡ get_or old p []
-      → ((n : Name) → found u n ≡ option_or (found t n) (found ((name, v) ∷ []) n)) → (n : Name) → spread_found (set old p u) n ≡ option_or (spread_found old n) (found ((name, v) ∷ []) n)
-  spread_put old p t u name v is within seen added n =
-      ap (λ k. found (get_or (set old p u) (digest n % k) []) n) (length-set old p u) ∙ by_place (digest n % length old) (digest n % length old == p) refl refl
-    where
-      alone : Option V
-      alone = found ((name, v) ∷ []) n
+module _ {V : Type 0} (tables : List (Table V)) (others : Table V) (p : ℕ) (name : Name) (v : V) (is : p ≡ digest name % length tables) where
+  abbrev alone : Table V
+  alone = (name, v) ∷ []
 
+  -- whose table stands at this place
+  by_place : {C : Type 0} (n : Name) → (digest n % length tables ≡ p → C) → (digest n % length tables ≢ p → C) → C
+  by_place {C} n here there = by_test (digest n % length tables) (digest n % length tables == p) refl refl
+    where
       same : (q : ℕ) → (q == p) ≡ true → q ≡ p
       same q e = grind (arith, nat_tests)
 
-      others : (q : ℕ) → (q == p) ≡ false → q ≢ p
-      others q e = grind (arith, nat_tests)
+      other : (q : ℕ) → (q == p) ≡ false → q ≢ p
+      other q e = grind (arith, nat_tests)
 
-      by_name : (q : ℕ) → digest n % length old ≡ q → q ≢ p → (b : Bool) → bytes_eq n name ≡ b → (o : Option V) → o ≡ option_or o (cond b (Some v) None)
-      by_name q h differ true e o = absurd (differ (sym h ∙ ap (λ m. digest m % length old) ((bytes_eq-Decides n name).0 e) ∙ sym is))
-      by_name q h differ false e o = option_or-none o
+      by_test : (q : ℕ) (b : Bool) → digest n % length tables ≡ q → (q == p) ≡ b → C
+      by_test q true h e = here (h ∙ same q e)
+      by_test q false h e = there (λ s. other q e (sym h ∙ s))
 
-      by_place : (q : ℕ) (b : Bool) → digest n % length old ≡ q → (q == p) ≡ b → found (get_or (set old p u) q []) n ≡ option_or (found (get_or old q []) n) alone
-      by_place q true h e =
-          ap (λ z. found z n) (get_or-set_at old p q u [] (same q e) within) ∙ added n ∙ ap (λ z. option_or (found z n) alone) (seen ∙ ap (λ k. get_or old k []) (sym (same q e)))
-      by_place q false h e = ap (λ z. found z n) (get_or-set_other old p q u [] (others q e)) ∙ by_name q h (others q e) (bytes_eq n name) refl (found (get_or old q []) n)
+  -- a name whose table stands elsewhere is another
+  another : (n : Name) → digest n % length tables ≢ p → found alone n ≡ None
+  another n differ = by_test (bytes_eq n name) refl
+    where
+      by_test : (b : Bool) → bytes_eq n name ≡ b → cond b (Some v) None ≡ None
+      by_test true e = absurd (differ (ap (λ m. digest m % length tables) ((bytes_eq-Decides n name).0 e) ∙ sym is))
+      by_test false e = refl
 
-  -- the same, of what a table is seen as
-  pub spread_add : (old seen : List (Table V)) (p d k : ℕ) (t u : Table V) (name : Name) (v : V) → p ≡ d % k → d ≡ digest name → k ≡ length old → p < k → t ≡ get_or old p [] → old ≡ seen
-      → ((n : Name) → found u n ≡ option_or (found t n) (found ((name, v) ∷ []) n)) → (n : Name) → spread_found (set old p u) n ≡ option_or (spread_found seen n) (found ((name, v) ∷ []) n)
-  spread_add old seen p d k t u name v is made many within here same added n =
-      spread_put old p t u name v (is ∙ ap₂ (λ a b. a % b) made many) (subst (λ m. p < m) many within) here added n ∙ ap (λ ts. option_or (spread_found ts n) (found ((name, v) ∷ []) n)) same
+  here : (n : Name) → digest n % length tables ≡ p → p < length tables → table_of (set tables p alone) n ≡ alone
+  here n h within = ap (λ k. get_or (set tables p alone) (digest n % k) []) (length-set tables p alone) ∙ get_or-set_at tables p (digest n % length tables) alone [] h within
+
+  there : (n : Name) → digest n % length tables ≢ p → table_of (set tables p alone) n ≡ table_of tables n
+  there n h = ap (λ k. get_or (set tables p alone) (digest n % k) []) (length-set tables p alone) ∙ get_or-set_other tables p (digest n % length tables) alone [] h
+
+  -- what is found after the name took a free place
+  pub spread_first : p < length tables → get_or tables p [] ≡ [] → AreOthers tables others → (n : Name) → spread_found (set tables p alone, others) n ≡ option_or (spread_found (tables, others) n) (found alone n)
+  spread_first within free theirs n = by_place n
+      (λ h.
+      let e : table_of tables n ≡ [] = ap (λ q. get_or tables q []) h ∙ free in
+      ap (λ t. option_or (found t n) (found others n)) (here n h within) ∙ ap (option_or (found alone n)) (theirs n e) ∙ sym (option_or-none (found alone n))
+      ∙ sym (ap (λ t. option_or (option_or (found t n) (found others n)) (found alone n)) e ∙ ap (λ o. option_or o (found alone n)) (theirs n e)))
+      (λ h. ap (λ t. option_or (found t n) (found others n)) (there n h) ∙ option_or-none (spread_found (tables, others) n) ∙ ap (option_or (spread_found (tables, others) n)) (sym (another n h)))
+
+  pub others_first : p < length tables → AreOthers tables others → AreOthers (set tables p alone) others
+  others_first within theirs n e = by_place n (λ h. let q : alone ≡ [] = sym (here n h within) ∙ e in absurd cc) (λ h. theirs n (sym (there n h) ∙ e))
+
+  -- after the name came to the others, or for want of memory didn't
+  pub others_after : (more : Table V) (r : Result Bool NoMemory) → OnOk r ((n : Name) → found more n ≡ option_or (found others n) (found alone n)) → OnErr r (more ≡ others) → get_or tables p [] ≢ []
+      → AreOthers tables others → AreOthers tables more
+  others_after more (Ok b) added kept taken theirs n e = added n ∙ ap (λ o. option_or o (found alone n)) (theirs n e) ∙ another n (λ h. taken (ap (λ q. get_or tables q []) (sym h) ∙ e))
+  others_after more (Err x) added kept taken theirs n e = ap (λ m. found m n) kept ∙ theirs n e
+
+module _ {V : Type 0} (items : List (Option (Bor (List ℕ) × V))) (p : ℕ) where
+  -- what stands at a place, as the tables show it
+  shown_at : (x : Option (Bor (List ℕ) × V)) → x ≡ get_or items p None → get_or (map one items) p [] ≡ one x
+  shown_at x at = get_or-map one items p None ∙ ap one (sym at)
+
+  pub free_at : (x : Option (Bor (List ℕ) × V)) → x ≡ get_or items p None → is_some x ≡ false → get_or (map one items) p [] ≡ []
+  free_at x at free = shown_at x at ∙ ap one (is_none x free)
+
+  pub taken_at : (x : Option (Bor (List ℕ) × V)) → x ≡ get_or items p None → is_some x ≡ true → get_or (map one items) p [] ≢ []
+  taken_at None at some e = cc
+  taken_at (Some y) at some e = let q : one (Some y) ≡ [] = sym (shown_at (Some y) at) ∙ e in cc
+
+  -- a name that stands by itself is there
+  pub there_alone : (others : Table V) (name : Name) (x : Option (Bor (List ℕ) × V)) → p ≡ digest name % length (map one items) → x ≡ get_or items p None → is_some (found (one x) name) ≡ true
+      → is_some (spread_found (map one items, others) name) ≡ true
+  there_alone others name x is at some =
+      ap (λ t. is_some (option_or (found t name) (found others name))) (ap (λ q. get_or (map one items) q []) (sym is) ∙ shown_at x at)
+      ∙ ap is_some (sym (option_or-there (found (one x) name) (found others name) some))
+      ∙ some

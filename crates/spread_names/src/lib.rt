@@ -5,4 +5,4 @@
 
 mod names;
 
-pub use names::{Names, SpreadNames};
+pub use names::SpreadNames;

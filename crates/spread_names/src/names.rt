@@ -4,10 +4,10 @@
 //! byte by byte, and still no text can make them slow: whoever knows the digest can write names that collide, and these are
 //! kept in order too.
 
-ghost use Rattle.spread_names.specs.Naming.{digest, spread_found};
+ghost use Rattle.spread_names.specs.Naming.{digest, one, spread_found};
 ghost use Rattle.name_tables.specs.ByName.{found};
 ghost use Rattle.std.specs.Option.{option_copied, option_or};
-ghost use Rattle.std.specs.Prelude.{◌≡◌, ◌<◌, ◌%◌, ◌∷◌, ℕ, [], None, List as Seq, is_some, IfOk, OnOk};
+ghost use Rattle.std.specs.Prelude.{◌≡◌, ◌<◌, ◌%◌, ◌∷◌, ℕ, [], None, List as Seq, is_some, IfOk, OnErr, OnOk};
 
 use cam_base::NoMemory;
 use std::alloc::Global;
@@ -27,7 +27,7 @@ fn digest(name: &[u8]) -> u64
 
 /// Values by name. Contracts see it as the list of its entries.
 #[derive(Drop)]
-pub struct Names<'x, V> {
+struct Names<'x, V> {
     entries: BTreeMap<(u64, &'x [u8]), V>,
 }
 
@@ -47,83 +47,11 @@ impl<'x, V> Model for Names<'x, V> {
 
 impl<'x, V: Drop> Names<'x, V> {
     /// The empty table. Takes no memory.
-    pub fn new(alloc: Global) -> Names<'x, V>
+    fn new(alloc: Global) -> Names<'x, V>
         ensures { result ≡ [] }
     {
         Names {
             entries: BTreeMap::new(alloc),
-        }
-    }
-
-    /// What the name stands for.
-    pub fn get(&self, name: &'x [u8]) -> Option<&V>
-        ensures { option_copied result ≡ found self.now name.now }
-    {
-        self.find(digest(name), name)
-    }
-
-    fn find(&self, number: u64, name: &'x [u8]) -> Option<&V>
-        requires { number ≡ digest name.now }
-        ensures { option_copied result ≡ found self.now name.now }
-    {
-        self.entries.get(&(number, name))
-    }
-
-    /// Puts a value under its name, where the name has none yet, and answers whether it has one.
-    pub fn add(&mut self, name: &'x [u8], value: V) -> Result<bool, NoMemory>
-        ensures met { IfOk result (λ met. met ≡ is_some (found self.old name.entry.now)) }
-        ensures found { OnOk result ((n : Seq ℕ) → found self.new n ≡ option_or (found self.old n)
-            (found ((name.entry.now, value) ∷ []) n)) }
-    {
-        self.put(digest(name), name, value)
-    }
-
-    fn put(&mut self, number: u64, name: &'x [u8], value: V) -> Result<bool, NoMemory>
-        requires digested { number ≡ digest name.now }
-        ensures met { IfOk result (λ met. met ≡ is_some (found self.old name.entry.now)) }
-        ensures found { OnOk result ((n : Seq ℕ) → found self.new n ≡ option_or (found self.old n)
-            (found ((name.entry.now, value) ∷ []) n)) }
-    {
-        let key = (number, name);
-        match self.entries.insert(key, value)? {
-            None => Ok(false),
-            Some(first) => {
-                self.entries.insert(key, first)?;
-                Ok(true)
-            }
-        }
-    }
-}
-
-/// Values by name, of which the first stands by itself, since most of many small tables have no other. Contracts see it as
-/// the list of its entries.
-#[derive(Drop)]
-struct Share<'x, V> {
-    first: Option<(&'x [u8], V)>,
-    others: Names<'x, V>,
-}
-
-impl<'x, V> Model for Share<'x, V> {
-    ghost use Rattle.spread_names.specs.Naming.{one};
-    ghost use Rattle.std.specs.Coded.{coded×, coded_ℕ, coded_list};
-    ghost use Rattle.std.specs.Prelude.{◌≡◌, ◌++◌, [], IfNone, List, ℕ};
-
-    ghost Value = { List (List ℕ × V) };
-
-    ghost coded = { coded_list (coded× (coded_list coded_ℕ) V.code) };
-
-    ghost view = { λ s. one s.first ++ s.others };
-
-    ghost invariant = { λ s. IfNone s.first (s.others ≡ []) };
-}
-
-impl<'x, V: Drop> Share<'x, V> {
-    fn new(alloc: Global) -> Share<'x, V>
-        ensures { result ≡ [] }
-    {
-        Share {
-            first: None,
-            others: Names::new(alloc),
         }
     }
 
@@ -132,10 +60,7 @@ impl<'x, V: Drop> Share<'x, V> {
         requires { number ≡ digest name.now }
         ensures { option_copied result ≡ found self.now name.now }
     {
-        match &self.first {
-            Some((found, value)) if *found == name => Some(value),
-            _ => self.others.find(number, name),
-        }
+        self.entries.get(&(number, name))
     }
 
     /// Puts a value under its name, where the name has none yet, and answers whether it has one.
@@ -144,36 +69,37 @@ impl<'x, V: Drop> Share<'x, V> {
         ensures met { IfOk result (λ met. met ≡ is_some (found self.old name.entry.now)) }
         ensures found { OnOk result ((n : Seq ℕ) → found self.new n ≡ option_or (found self.old n)
             (found ((name.entry.now, value) ∷ []) n)) }
+        ensures err { OnErr result (self.new ≡ self.old) }
     {
-        match &self.first {
-            None => {
-                self.first = Some((name, value));
-                Ok(false)
-            }
-            Some((found, _)) if *found == name => Ok(true),
-            Some(_) => self.others.put(number, name, value),
+        if self.find(number, name).is_some() {
+            return Ok(true);
         }
+        self.entries.insert((number, name), value)?;
+        Ok(false)
     }
 }
 
-/// Values by name, in about as many small tables as names, of which the digest of a name says one. Contracts see it as the
-/// list of the tables.
+/// Values by name: for each remainder of digests one that stands by itself, and the others in one table, since a digest says
+/// most of them at once. Contracts see it as the list of those that stand by themselves, each a table of one entry at most, and
+/// the list of the others.
 #[derive(Drop)]
 pub struct SpreadNames<'x, V> {
-    tables: Vec<Share<'x, V>>,
+    tables: Vec<Option<(&'x [u8], V)>>,
+    others: Names<'x, V>,
 }
 
 impl<'x, V> Model for SpreadNames<'x, V> {
+    ghost use Rattle.spread_names.specs.Naming.{AreOthers, one};
     ghost use Rattle.std.specs.Coded.{coded×, coded_ℕ, coded_list};
-    ghost use Rattle.std.specs.Prelude.{◌<◌, List, ℕ, length};
+    ghost use Rattle.std.specs.Prelude.{◌<◌, List, ℕ, length, map};
 
-    ghost Value = { List (List (List ℕ × V)) };
+    ghost Value = { List (List (List ℕ × V)) × List (List ℕ × V) };
 
-    ghost coded = { coded_list (coded_list (coded× (coded_list coded_ℕ) V.code)) };
+    ghost coded = { coded× (coded_list (coded_list (coded× (coded_list coded_ℕ) V.code))) (coded_list (coded× (coded_list coded_ℕ) V.code)) };
 
-    ghost view = { λ s. s.tables.items };
+    ghost view = { λ s. (map one s.tables.items, s.others) };
 
-    ghost invariant = { λ s. 0 < length s.tables.items };
+    ghost invariant = { λ s. (0 < length s.tables.items) × AreOthers (map one s.tables.items) s.others };
 }
 
 /// The place of a digest among so many tables.
@@ -185,17 +111,30 @@ fn place(number: u64, count: usize) -> usize
     (number % count as u64) as usize
 }
 
+/// What the name stands for where one stands by itself.
+fn alone<'s, 'x, V>(table: &'s Option<(&'x [u8], V)>, name: &'x [u8]) -> Option<&'s V>
+    ensures { option_copied result ≡ found (one table.now) name.now }
+{
+    match table {
+        Some((found, value)) if *found == name => Some(value),
+        _ => None,
+    }
+}
+
 impl<'x, V: Drop> SpreadNames<'x, V> {
-    /// Empty tables for so many names.
+    /// An empty table for so many names.
     pub fn with_room(alloc: Global, names: usize) -> Result<SpreadNames<'x, V>, NoMemory>
         ensures { IfOk result (λ t. (n : Seq ℕ) → spread_found t n ≡ None) }
     {
         let count = names.saturating_add(1);
         let mut tables = Vec::with_capacity(alloc, count)?;
         for _ in 0..count {
-            tables.push(Share::new(alloc))?;
+            tables.push(None)?;
         }
-        Ok(SpreadNames { tables })
+        Ok(SpreadNames {
+            tables,
+            others: Names::new(alloc),
+        })
     }
 
     /// What the name stands for.
@@ -204,7 +143,10 @@ impl<'x, V: Drop> SpreadNames<'x, V> {
     {
         let number = digest(name);
         let at = place(number, self.tables.len());
-        self.tables[at].find(number, name)
+        match alone(&self.tables[at], name) {
+            Some(value) => Some(value),
+            None => self.others.find(number, name),
+        }
     }
 
     /// Puts a value under its name, where the name has none yet, and answers whether it has one.
@@ -215,7 +157,13 @@ impl<'x, V: Drop> SpreadNames<'x, V> {
     {
         let number = digest(name);
         let at = place(number, self.tables.len());
-        let table = &mut self.tables[at];
-        table.put(number, name, value)
+        if self.tables[at].is_none() {
+            self.tables[at] = Some((name, value));
+            Ok(false)
+        } else if alone(&self.tables[at], name).is_some() {
+            Ok(true)
+        } else {
+            self.others.put(number, name, value)
+        }
     }
 }
