@@ -1,8 +1,8 @@
 //! Tables by name, which borrow the names from the text.
 //!
-//! They are kept in the order of the digests of the names, and of the names where these are equal. So few names are compared
-//! byte by byte, and still no text can make them slow: whoever knows the digest can write names that collide, and these are
-//! kept in order too.
+//! Most names stand by themselves, each at the place that its digest says. The others are kept in the order of their digests,
+//! and of the names where these are equal. So few names are compared byte by byte, and still no text can make a table slow:
+//! whoever knows the digest can write names that collide, and these are kept in order too.
 
 ghost use Rattle.spread_names.specs.Naming.{digest, one, spread_found};
 ghost use Rattle.name_tables.specs.ByName.{found};
@@ -25,7 +25,7 @@ fn digest(name: &[u8]) -> u64
     hasher.finish()
 }
 
-/// Values by name. Contracts see it as the list of its entries.
+/// Values by name, in order. Contracts see it as the list of its entries.
 #[derive(Drop)]
 struct Names<'x, V> {
     entries: BTreeMap<(u64, &'x [u8]), V>,
@@ -79,9 +79,8 @@ impl<'x, V: Drop> Names<'x, V> {
     }
 }
 
-/// Values by name: for each remainder of digests one that stands by itself, and the others in one table, since a digest says
-/// most of them at once. Contracts see it as the list of those that stand by themselves, each a table of one entry at most, and
-/// the list of the others.
+/// Values by name: one at each place, and those whose place another has. Contracts see it as the list of the places, each a
+/// table of one entry at most, and the list of the others.
 #[derive(Drop)]
 pub struct SpreadNames<'x, V> {
     tables: Vec<Option<(&'x [u8], V)>>,
@@ -95,7 +94,8 @@ impl<'x, V> Model for SpreadNames<'x, V> {
 
     ghost Value = { List (List (List ℕ × V)) × List (List ℕ × V) };
 
-    ghost coded = { coded× (coded_list (coded_list (coded× (coded_list coded_ℕ) V.code))) (coded_list (coded× (coded_list coded_ℕ) V.code)) };
+    ghost coded = { coded× (coded_list (coded_list (coded× (coded_list coded_ℕ) V.code)))
+        (coded_list (coded× (coded_list coded_ℕ) V.code)) };
 
     ghost view = { λ s. (map one s.tables.items, s.others) };
 
