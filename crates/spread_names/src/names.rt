@@ -1,13 +1,13 @@
 //! Tables by name, which borrow the names from the text.
 //!
-//! Most names stand by themselves, each at the place that its digest says. The others are kept in the order of their digests,
-//! and of the names where these are equal. So few names are compared byte by byte, and still no text can make a table slow:
-//! whoever knows the digest can write names that collide, and these are kept in order too.
+//! A digest says the place of a name, at which few others stand. Names whose place has no room are kept in the order of their
+//! digests, and of the names where these are equal. So few names are compared byte by byte, and still no text can make a table
+//! slow: whoever knows the digest can write names that collide, and these are kept in order too.
 
-ghost use Rattle.spread_names.specs.Naming.{digest, one, spread_found};
+ghost use Rattle.spread_names.specs.Naming.{digest, has_room, one, shown, spread_found};
 ghost use Rattle.name_tables.specs.ByName.{found};
 ghost use Rattle.std.specs.Option.{option_copied, option_or};
-ghost use Rattle.std.specs.Prelude.{◌≡◌, ◌<◌, ◌%◌, ◌∷◌, ℕ, [], None, List as Seq, is_some, IfOk, OnErr, OnOk};
+ghost use Rattle.std.specs.Prelude.{◌≡◌, ◌<◌, ◌%◌, ◌∷◌, ◌++◌, ℕ, [], None, List as Seq, is_some, map, IfOk, OnErr, OnOk};
 
 use cam_base::NoMemory;
 use std::alloc::Global;
@@ -79,30 +79,119 @@ impl<'x, V: Drop> Names<'x, V> {
     }
 }
 
-/// Values by name: one at each place, and those whose place another has. Contracts see it as the list of the places, each a
-/// table of one entry at most, and the list of the others.
+/// What a name stands for where this is all there is.
+fn alone<'s, 'x, V>(entry: &'s Option<(&'x [u8], V)>, name: &'x [u8]) -> Option<&'s V>
+    ensures { option_copied result ≡ found (one entry.now) name.now }
+{
+    match entry {
+        Some((found, value)) if *found == name => Some(value),
+        _ => None,
+    }
+}
+
+/// What a name stands for among these.
+fn among<'s, 'x, V>(entries: &'s [(&'x [u8], V)], name: &'x [u8]) -> Option<&'s V>
+    ensures { option_copied result ≡ found (map shown entries.now) name.now }
+{
+    for entry in entries {
+        if name == entry.0 {
+            return Some(&entry.1);
+        }
+    }
+    None
+}
+
+/// How many names a place takes behind the first.
+const MOST: usize = 8;
+
+/// The names of one place. Contracts see it as the list of its entries.
+#[derive(Drop)]
+struct Few<'x, V> {
+    first: Option<(&'x [u8], V)>,
+    more: Vec<(&'x [u8], V)>,
+}
+
+impl<'x, V> Model for Few<'x, V> {
+    ghost use Rattle.spread_names.specs.Naming.{one, shown};
+    ghost use Rattle.std.specs.Coded.{coded×, coded_ℕ, coded_list};
+    ghost use Rattle.std.specs.Prelude.{◌≡◌, ◌++◌, [], IfNone, List, ℕ, map};
+
+    ghost Value = { List (List ℕ × V) };
+
+    ghost coded = { coded_list (coded× (coded_list coded_ℕ) V.code) };
+
+    ghost view = { λ p. one p.first ++ map shown p.more.items };
+
+    ghost invariant = { λ p. IfNone p.first (p.more.items ≡ []) };
+}
+
+impl<'x, V: Drop> Few<'x, V> {
+    /// No name yet. Takes no memory.
+    fn new(alloc: Global) -> Few<'x, V>
+        ensures { result ≡ [] }
+    {
+        Few {
+            first: None,
+            more: Vec::new(alloc),
+        }
+    }
+
+    /// What a name stands for.
+    #[tactic(auto, using(crate::proofs::Spread::found_first, crate::proofs::Spread::found_behind))]
+    fn find(&self, name: &'x [u8]) -> Option<&V>
+        ensures { option_copied result ≡ found self.now name.now }
+    {
+        match alone(&self.first, name) {
+            Some(value) => Some(value),
+            None => among(self.more.as_slice(), name),
+        }
+    }
+
+    fn has_room(&self) -> bool
+        ensures { result ≡ has_room self.now }
+    {
+        self.more.len() < MOST
+    }
+
+    /// Puts a name at the end.
+    fn push(&mut self, name: &'x [u8], value: V) -> Result<(), NoMemory>
+        ensures ok { OnOk result (self.new ≡ self.old ++ (name.entry.now, value) ∷ []) }
+        ensures err { OnErr result (self.new ≡ self.old) }
+    {
+        if self.first.is_none() {
+            self.first = Some((name, value));
+            return Ok(());
+        }
+        self.more.reserve_exact(1)?;
+        self.more.push((name, value))?;
+        Ok(())
+    }
+}
+
+/// Values by name: a few at each place, and those whose place has no room. Contracts see it as the list of the places and the
+/// list of the others.
 #[derive(Drop)]
 pub struct SpreadNames<'x, V> {
-    tables: Vec<Option<(&'x [u8], V)>>,
+    places: Vec<Few<'x, V>>,
     others: Names<'x, V>,
 }
 
 impl<'x, V> Model for SpreadNames<'x, V> {
-    ghost use Rattle.spread_names.specs.Naming.{AreOthers, one};
+    ghost use Rattle.spread_names.specs.Naming.{AreOthers};
     ghost use Rattle.std.specs.Coded.{coded×, coded_ℕ, coded_list};
-    ghost use Rattle.std.specs.Prelude.{◌<◌, List, ℕ, length, map};
+    ghost use Rattle.std.specs.Prelude.{◌<◌, List, ℕ, length};
 
     ghost Value = { List (List (List ℕ × V)) × List (List ℕ × V) };
 
     ghost coded = { coded× (coded_list (coded_list (coded× (coded_list coded_ℕ) V.code)))
         (coded_list (coded× (coded_list coded_ℕ) V.code)) };
 
-    ghost view = { λ s. (map one s.tables.items, s.others) };
+    ghost view = { λ s. (s.places.items, s.others) };
 
-    ghost invariant = { λ s. (0 < length s.tables.items) × AreOthers (map one s.tables.items) s.others };
+    ghost invariant = { λ s. (0 < length s.places.items) × AreOthers s.places.items s.others };
 }
 
-/// The place of a digest among so many tables.
+/// The number of the place of a digest, among so many.
 fn place(number: u64, count: usize) -> usize
     requires { 0 < count }
     ensures place { result ≡ number % count }
@@ -111,28 +200,18 @@ fn place(number: u64, count: usize) -> usize
     (number % count as u64) as usize
 }
 
-/// What the name stands for where one stands by itself.
-fn alone<'s, 'x, V>(table: &'s Option<(&'x [u8], V)>, name: &'x [u8]) -> Option<&'s V>
-    ensures { option_copied result ≡ found (one table.now) name.now }
-{
-    match table {
-        Some((found, value)) if *found == name => Some(value),
-        _ => None,
-    }
-}
-
 impl<'x, V: Drop> SpreadNames<'x, V> {
     /// An empty table for so many names.
     pub fn with_room(alloc: Global, names: usize) -> Result<SpreadNames<'x, V>, NoMemory>
         ensures { IfOk result (λ t. (n : Seq ℕ) → spread_found t n ≡ None) }
     {
         let count = names.saturating_add(1);
-        let mut tables = Vec::with_capacity(alloc, count)?;
+        let mut places = Vec::with_capacity(alloc, count)?;
         for _ in 0..count {
-            tables.push(None)?;
+            places.push(Few::new(alloc))?;
         }
         Ok(SpreadNames {
-            tables,
+            places,
             others: Names::new(alloc),
         })
     }
@@ -142,8 +221,8 @@ impl<'x, V: Drop> SpreadNames<'x, V> {
         ensures { option_copied result ≡ spread_found self.now name.now }
     {
         let number = digest(name);
-        let at = place(number, self.tables.len());
-        match alone(&self.tables[at], name) {
+        let at = place(number, self.places.len());
+        match self.places[at].find(name) {
             Some(value) => Some(value),
             None => self.others.find(number, name),
         }
@@ -156,14 +235,14 @@ impl<'x, V: Drop> SpreadNames<'x, V> {
             (found ((name.entry.now, value) ∷ []) n)) }
     {
         let number = digest(name);
-        let at = place(number, self.tables.len());
-        if self.tables[at].is_none() {
-            self.tables[at] = Some((name, value));
-            Ok(false)
-        } else if alone(&self.tables[at], name).is_some() {
-            Ok(true)
-        } else {
-            self.others.put(number, name, value)
+        let at = place(number, self.places.len());
+        if self.places[at].find(name).is_some() {
+            return Ok(true);
         }
+        if !self.places[at].has_room() {
+            return self.others.put(number, name, value);
+        }
+        self.places[at].push(name, value)?;
+        Ok(false)
     }
 }

@@ -1,5 +1,4 @@
 use Rattle.std.proofs.Common.{◌∙◌, ap, sym, is_some}
-use Rattle.std.specs.Option.{option_copied}
 use Rattle.spread_names.specs.Naming.{are_digested}
 use Rattle.spread_names.proofs.Ordered.{digested_put, entry_put, fits, is_some-option_copied}
 use Rattle.spread_names.proofs.names.Names.put.Goals as goal

@@ -1,6 +1,5 @@
-use Rattle.std.proofs.Common.{◌≡◌, replicate, [], map}
-use Rattle.spread_names.specs.Naming.{one}
+use Rattle.std.proofs.Common.{◌≡◌, replicate, []}
 use Rattle.spread_names.proofs.names.SpreadNames.with_room.Given as goal
 
 abbrev pub invariant-loop : goal.invariant-loop
-invariant-loop g l = map one l.tables.items ≡ replicate l.counter []
+invariant-loop g l = l.places.items ≡ replicate l.counter []
