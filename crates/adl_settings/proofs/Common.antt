@@ -21,7 +21,7 @@ pub use Rattle.adl_settings.specs.DeviceOverlap.{overlap_at, overlaps, overlaps_
 pub use Rattle.adl_settings.specs.IrqTwice.{Irq, irq_twice_at, irqs, irqs_in, irqs_twice, irqs_twice_among}
 pub use Rattle.adl_settings.specs.Joints.{Found, Joint, behind, found_at, found_of, found_on, founds_in, has_access, has_badge, interface_at, is_device_event, is_device_memory, is_from, joint_at, positioned, positioned_after, size_of, value_of}
 pub use Rattle.adl_settings.specs.Meant.{bad_unless, bad_value, meant, where_set}
-pub use Rattle.adl_settings.specs.Repeated.{is_among, is_repeated}
+pub use Rattle.adl_settings.specs.Repeated.{is_marked, is_repeated}
 pub use Rattle.adl_settings.specs.SettingTwice.{Met, repeated_after, repeated_in, setting_twice, settings_twice}
 pub use Rattle.adl_settings.specs.Settled.{LeafFound, end_settings, leaf_found, leaves_found, settled_from, settled_of}
 pub use Rattle.cam_base.proofs.Lists.{drop_first, find_passes}

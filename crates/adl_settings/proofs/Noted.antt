@@ -1,13 +1,18 @@
 -- Noting what the elements of lists give.
-use Rattle.adl_settings.proofs.Common.{◌≡◌, Option, Some, None, is_some, refl, Given, meant, bad_unless, bad_value, ◌∙◌, ◌<◌, ◌+◌, ℕ, List, length, get_or, drop, ◌++◌, sym, ap, flat_map, Fault, noted, noted-append, noted_each, noted_then, Bool, is_repeated, list_any}
+use Rattle.adl_settings.proofs.Common.{◌≡◌, Option, Some, None, is_some, refl, Given, meant, bad_unless, bad_value, ◌∙◌, ◌<◌, ◌+◌, ℕ, List, length, get_or, drop, ◌++◌, sym, ap, flat_map, Fault, noted, noted-append, noted_each, noted_then, Bool, true, false, not, is_repeated, list_any, where_true}
+use Rattle.adl_meaning.specs.Faults.{where_false}
 use Rattle.adl_ast.specs.declared.value.Value.{Value}
 use Rattle.std.specs.List.Sorted.{IsPermutation}
 use Rattle.std.proofs.lemmas.List.Sorted.{list_any-IsPermutation}
 use Rattle.page_index.specs.Sharing.{shares}
 use Rattle.page_index.specs.declared.region.Region.{Region}
 
+pub where_not : (b : Bool) (f : Fault) → where_true (not b) f ≡ where_false b f
+where_not true f = refl
+where_not false f = refl
+
 -- a value is at fault where the setting means nothing
-pub bad_meant : {X : Type 0} (allowed : Value → Option X) (default : X) (o : Option Given) → bad_unless (is_some (meant allowed default o)) o ≡ bad_value allowed o
+bad_meant : {X : Type 0} (allowed : Value → Option X) (default : X) (o : Option Given) → bad_unless (is_some (meant allowed default o)) o ≡ bad_value allowed o
 bad_meant allowed default None = refl
 bad_meant allowed default (Some g) = refl
 

@@ -1,5 +1,5 @@
 -- The search for the value of a setting along a path.
-use Rattle.adl_settings.proofs.Common.{◌≡◌, ◌≤◌, ◌-◌, ℕ, zero, suc, take, drop, length, Option, Some, None, option_map, refl, sym, ◌∙◌, ap, arith, option_and_then, option_or, take-take, length-take-le, Id, Hierarchy, top_number, Name, Path, at, Given, given, setting_of, default_at, setter_at, set_within, value_at}
+use Rattle.adl_settings.proofs.Common.{◌≡◌, ◌≤◌, ◌-◌, ℕ, zero, suc, take, drop, length, Option, Some, None, option_map, sym, ◌∙◌, ap, arith, option_and_then, option_or, option_or-none, take-take, length-take-le, Id, Hierarchy, top_number, Name, Path, at, Given, given, setting_of, default_at, setter_at, set_within, value_at}
 use Rattle.adl_ast.specs.declared.configuration.Setter.TheVariants as setters
 
 -- ---- a path's names behind those that count
@@ -32,27 +32,20 @@ value-referred h p k y l =
     ∙ ap (λ n. option_or (set_within h q n (suc k) y) (default_at h q y)) (less_one k)
     ∙ ap (λ o. option_or o (default_at h q y)) (set-take h p (suc k) k (suc k) y (omega arith) (omega arith))
 
-pub reference-found : (h : Hierarchy) (p : Path) (k end : ℕ) (x : Name) (y : Id) → suc k ≤ length p → setter_at h p (suc k) end x ≡ Some (setters.Reference y)
+pub reference_found : (h : Hierarchy) (p : Path) (k end : ℕ) (x : Name) (y : Id) → suc k ≤ length p → setter_at h p (suc k) end x ≡ Some (setters.Reference y)
     → set_within h p (suc k) end x ≡ option_or (set_within h p k end x) (value_at h (take (suc k) p) y.name)
-reference-found h p k end x y l s =
+reference_found h p k end x y l s =
     ap (λ o. option_or (set_within h p k end x) (given (referred h p k) x o)) s ∙ ap (λ o. option_or (set_within h p k end x) o) (sym (value-referred h p k y.name l))
 
-or_none : {X : Type 0} (o : Option X) → option_or o None ≡ o
-or_none None = refl
-or_none (Some x) = refl
-
 -- a reference that finds nothing counts as no setting
-pub reference-absent : (h : Hierarchy) (p : Path) (k end : ℕ) (x : Name) (y : Id) → suc k ≤ length p → setter_at h p (suc k) end x ≡ Some (setters.Reference y) → value_at h (take (suc k) p) y.name ≡ None
+pub reference_absent : (h : Hierarchy) (p : Path) (k end : ℕ) (x : Name) (y : Id) → suc k ≤ length p → setter_at h p (suc k) end x ≡ Some (setters.Reference y) → value_at h (take (suc k) p) y.name ≡ None
     → set_within h p (suc k) end x ≡ set_within h p k end x
-reference-absent h p k end x y l s n =
-    reference-found h p k end x y l s ∙ ap (λ o. option_or (set_within h p k end x) o) n ∙ or_none (set_within h p k end x)
+reference_absent h p k end x y l s n =
+    reference_found h p k end x y l s ∙ ap (λ o. option_or (set_within h p k end x) o) n ∙ sym (option_or-none (set_within h p k end x))
 
 -- what is set further out stays
-or_kept : {X : Type 0} (o p : Option X) (g : X) → o ≡ Some g → option_or o p ≡ Some g
-or_kept o p g e = ap (λ z. option_or z p) e
+pub outer_stays : (h : Hierarchy) (p : Path) (k end : ℕ) (x : Name) (g : Given) → set_within h p k end x ≡ Some g → set_within h p (suc k) end x ≡ Some g
+outer_stays h p k end x g e = ap (λ o. option_or o (given (referred h p k) x (setter_at h p (suc k) end x))) e
 
-pub outer-stays : (h : Hierarchy) (p : Path) (k end : ℕ) (x : Name) (g : Given) → set_within h p k end x ≡ Some g → set_within h p (suc k) end x ≡ Some g
-outer-stays h p k end x g e = or_kept (set_within h p k end x) (given (referred h p k) x (setter_at h p (suc k) end x)) g e
-
-pub default-last : (h : Hierarchy) (p : Path) (x : Name) → set_within h p (length p - 1) (length p) x ≡ None → value_at h p x ≡ default_at h p x
-default-last h p x e = ap (λ o. option_or o (default_at h p x)) e
+pub default_last : (h : Hierarchy) (p : Path) (x : Name) → set_within h p (length p - 1) (length p) x ≡ None → value_at h p x ≡ default_at h p x
+default_last h p x e = ap (λ o. option_or o (default_at h p x)) e

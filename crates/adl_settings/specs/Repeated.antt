@@ -1,9 +1,11 @@
--- Numbers that stand once, and numbers that stand twice or more in a list.
-use Rattle.std.specs.List.{count_by, list_any}
-use Rattle.std.specs.Prelude.{ℕ, ◌==◌, nat_le, Bool, List}
+-- Numbers that stand twice or more in a list.
+use Rattle.std.specs.List.{count_by}
+use Rattle.std.specs.Map.{lookup}
+use Rattle.std.specs.Prelude.{ℕ, ◌==◌, nat_le, Bool, false, List, unwrap_or}
 
-abbrev pub is_among : List ℕ → ℕ → Bool
-is_among numbers n = list_any (λ m. n == m) numbers
+-- whether a table says that the number stands twice
+abbrev pub is_marked : List (ℕ × Bool) → ℕ → Bool
+is_marked entries n = unwrap_or (lookup (λ m. n == m) entries) false
 
 abbrev pub is_repeated : List ℕ → ℕ → Bool
 is_repeated numbers n = nat_le 2 (count_by (λ m. n == m) numbers)

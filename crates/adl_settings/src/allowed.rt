@@ -1,6 +1,6 @@
 //! The values that settings may have, and what they mean.
 
-ghost use Rattle.adl_settings.specs.Allowed.{number_in, text_in, within, number_within, whole_pages, priority_in, stack_in, access_in, badge_named, badge_in, sized, size_in, placed, paddr_in, irq_in};
+ghost use Rattle.adl_settings.specs.Allowed.{number_in, text_in, within, whole_pages, priority_in, stack_in, access_in, badge_named, badge_in, sized, size_in, paddr_in, irq_in};
 ghost use Rattle.adl_settings.specs.Words.{is_digit};
 ghost use Rattle.std.specs.List.{list_all};
 ghost use Rattle.std.specs.Option.{option_copied};
@@ -47,13 +47,6 @@ fn within(least: u64, greatest: u64, number: u64) -> Option<u64>
     (least <= number && number <= greatest).then_some(number)
 }
 
-fn number_within(least: u64, greatest: u64, value: &Value) -> Option<u64>
-    ensures value { result ≡ number_within least greatest value.now }
-    ensures bound { IfSome result (λ n. n ≤ greatest) }
-{
-    within(least, greatest, number_in(value)?)
-}
-
 /// So many bytes, rounded up to whole pages.
 fn whole_pages(bytes: u64) -> u64
     requires { bytes ≤ 2 ^ 32 }
@@ -66,14 +59,14 @@ fn whole_pages(bytes: u64) -> u64
 pub fn priority_in(value: &Value) -> Option<u8>
     ensures { result ≡ priority_in value.now }
 {
-    Some(number_within(0, 255, value)? as u8)
+    Some(within(0, 255, number_in(value)?)? as u8)
 }
 
 /// The bytes of a stack that a value means.
 pub fn stack_in(value: &Value) -> Option<u64>
     ensures { result ≡ stack_in value.now }
 {
-    Some(whole_pages(number_within(1, 16_777_216, value)?))
+    Some(whole_pages(within(1, 16_777_216, number_in(value)?)?))
 }
 
 /// The access that a value means.
@@ -143,23 +136,18 @@ pub fn size_in(value: &Value) -> Option<u64>
     sized(number_in(value)?)
 }
 
-fn placed(bytes: u64, address: u64) -> Option<u64>
-    ensures { result ≡ placed bytes address }
-{
-    let fits = address <= PHYSICAL_END && bytes <= PHYSICAL_END - address;
-    (address % PAGE == 0 && fits).then_some(address)
-}
-
 /// The address of a device's registers of so many bytes that a value means.
 pub fn paddr_in(bytes: u64, value: &Value) -> Option<u64>
     ensures { result ≡ paddr_in bytes value.now }
 {
-    placed(bytes, number_in(value)?)
+    let address = number_in(value)?;
+    let fits = address <= PHYSICAL_END && bytes <= PHYSICAL_END - address;
+    (address % PAGE == 0 && fits).then_some(address)
 }
 
 /// The number of an interrupt that a value means.
 pub fn irq_in(value: &Value) -> Option<u64>
     ensures { result ≡ irq_in value.now }
 {
-    number_within(0, 1023, value)
+    within(0, 1023, number_in(value)?)
 }

@@ -11,6 +11,7 @@ ghost use Rattle.adl_settings.specs.NumberedEnds.{joins_interface, setting_at, I
 ghost use Rattle.adl_settings.specs.Settled.{settled_of};
 
 /// What a body sets stays, whatever bodies further inwards set, and a default counts where no body sets a value.
+#[tactic(auto, using(crate::proofs::ValueSearch::outer_stays, crate::proofs::ValueSearch::default_last))]
 pub fn outer_settings_come_first()
     ensures outer { (h : Tree) (p : Names) (k end : ℕ) (x : Bytes) (g : Value)
         → set_within h p k end x ≡ Some g → set_within h p (suc k) end x ≡ Some g }
@@ -19,6 +20,7 @@ pub fn outer_settings_come_first()
 {}
 
 /// A reference stands for the value of the attribute at the path of its body, and where there is none, for no setting.
+#[tactic(auto, using(crate::proofs::ValueSearch::reference_found, crate::proofs::ValueSearch::reference_absent))]
 pub fn references_are_values()
     ensures found { (h : Tree) (p : Names) (k end : ℕ) (x : Bytes) (y : Word)
         → k < length p → setter_at h p (suc k) end x ≡ Some (setters.Reference y)
@@ -29,6 +31,7 @@ pub fn references_are_values()
 {}
 
 /// The badges that `from` ends have by default are 1, 2 and so on, without a gap.
+#[tactic(auto, using(crate::proofs::EndNumbers::position_nth))]
 pub fn badges_count_from_one()
     ensures { (es : Seq Joining) (i : ℕ) (x : ℕ × Joining)
         → slice_get (filter (λ y. is_from y.1.role) (positioned es)) i ≡ Some x → x.0 ≡ i + 1 }

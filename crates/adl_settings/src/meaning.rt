@@ -1,8 +1,8 @@
 //! What the settings of leaves and ends mean.
 
-ghost use Rattle.std.specs.Prelude.{◌≡◌, unwrap_or};
+ghost use Rattle.std.specs.Prelude.{◌≡◌, if◌then◌else◌, unwrap_or};
 ghost use Rattle.adl_settings.specs.Allowed.{priority_in, stack_in, access_in, badge_in, size_in, paddr_in, irq_in};
-ghost use Rattle.adl_settings.specs.EndMeaning.{access_of, badge_of, default_bytes, bytes_of, paddr_of, irq_of, access_at, badge_at, bytes_at, end_setting};
+ghost use Rattle.adl_settings.specs.EndMeaning.{access_of, badge_of, default_bytes, bytes_of, paddr_of, irq_of, end_setting};
 ghost use Rattle.adl_settings.specs.Meant.{meant};
 ghost use Rattle.adl_settings.specs.Settled.{leaf_setting};
 
@@ -39,6 +39,17 @@ fn default_bytes(interface: &Interface) -> u64
     sized(interface.size.unwrap_or(DEFAULT_SIZE)).unwrap_or(PAGE)
 }
 
+/// What is meant, where it counts and is allowed.
+fn counted<T: Copy>(counts: bool, meant: Option<T>, otherwise: T) -> T
+    ensures { result ≡ (if counts then unwrap_or meant otherwise else otherwise) }
+{
+    if counts {
+        meant.unwrap_or(otherwise)
+    } else {
+        otherwise
+    }
+}
+
 impl<'a> LeafFound<'a> {
     /// The priority that is meant.
     pub fn priority(&self) -> Option<u8>
@@ -64,12 +75,11 @@ impl<'a> LeafFound<'a> {
     pub fn setting(&self) -> LeafSetting
         ensures { result ≡ leaf_setting self.now }
     {
-        let (priority, stack) = if self.leaf.hardware {
-            (0, 0)
-        } else {
-            (self.priority().unwrap_or(0), self.stack().unwrap_or(0))
-        };
-        LeafSetting { priority, stack }
+        let counts = !self.leaf.hardware;
+        LeafSetting {
+            priority: counted(counts, self.priority(), 0),
+            stack: counted(counts, self.stack(), 0),
+        }
     }
 }
 
@@ -125,46 +135,18 @@ impl<'a> Found<'a> {
         irq_in(self.irq.as_ref()?.value)
     }
 
-    fn access_at(&self) -> Access
-        ensures { result ≡ access_at self.now }
-    {
-        if self.joint.has_access() {
-            self.access().unwrap_or(NO_ACCESS)
-        } else {
-            NO_ACCESS
-        }
-    }
-
-    fn badge_at(&self) -> u64
-        ensures { result ≡ badge_at self.now }
-    {
-        if self.joint.has_badge() {
-            self.badge().unwrap_or(0)
-        } else {
-            0
-        }
-    }
-
-    fn bytes_at(&self) -> u64
-        ensures { result ≡ bytes_at self.now }
-    {
-        if is_shared(self.joint.connection.connector) || self.joint.is_device_memory() {
-            self.bytes().unwrap_or(0)
-        } else {
-            0
-        }
-    }
-
     /// The settings of the end.
     pub fn setting(&self) -> EndSetting
         ensures { result ≡ end_setting self.now }
     {
-        let access = self.access_at();
+        let joint = &self.joint;
+        let access = counted(joint.has_access(), self.access(), NO_ACCESS);
+        let has_memory = is_shared(joint.connection.connector) || joint.is_device_memory();
         EndSetting {
             read: access.read,
             write: access.write,
-            badge: self.badge_at(),
-            bytes: self.bytes_at(),
+            badge: counted(joint.has_badge(), self.badge(), 0),
+            bytes: counted(has_memory, self.bytes(), 0),
             paddr: self.paddr().unwrap_or(0),
             irq: self.irq().unwrap_or(0),
         }

@@ -2,41 +2,33 @@
 
 ghost use Rattle.adl_settings.specs.Words.{noted};
 ghost use Rattle.std.specs.List.{filter_map};
-ghost use Rattle.std.specs.Prelude.{◌≡◌, ◌==◌, ◌&&◌, ℕ, true, if◌then◌else◌, map, OnOk, IfOk};
+ghost use Rattle.std.specs.Prelude.{◌≡◌, ℕ, map, OnOk, IfOk};
 ghost use Rattle.adl_settings.specs.BadgeTwice.{last_in, own_badge, badge_twice_at, badges_twice_in, badges_twice};
 ghost use Rattle.adl_settings.specs.IrqTwice.{irq_at, irqs, irq_twice_at, irqs_twice};
-ghost use Rattle.adl_settings.specs.Repeated.{is_among, is_repeated};
+ghost use Rattle.adl_settings.specs.Repeated.{is_marked, is_repeated};
 
 use crate::Found;
 use adl_meaning::Earliest;
 use cam_base::{Code, List, NoMemory, Path, Place};
-use indexmap::IndexSet;
+use indexmap::IndexMap;
 use std::alloc::Global;
 
-/// Meets a number: one that was met before stands twice.
-fn meet(number: u64, met: &mut IndexSet<u64>, twice: &mut IndexSet<u64>) -> Result<(), NoMemory>
-    ensures met { OnOk result ((n : ℕ) → is_among met.new.keys n
-        ≡ (if number == n then true else is_among met.old.keys n)) }
-    ensures twice { OnOk result ((n : ℕ) → is_among twice.new.keys n
-        ≡ (if number == n && is_among met.old.keys number then true else is_among twice.old.keys n)) }
+/// Whether each of the numbers stands twice or more.
+fn repeated(alloc: Global, numbers: &[u64]) -> Result<IndexMap<u64, bool>, NoMemory>
+    ensures { IfOk result (λ t. (n : ℕ) → is_marked t.entries n ≡ is_repeated numbers.now n) }
 {
-    if met.contains(&number) {
-        twice.insert(number)?;
-    }
-    met.insert(number)?;
-    Ok(())
-}
-
-/// The numbers that stand twice or more.
-fn repeated(alloc: Global, numbers: &[u64]) -> Result<IndexSet<u64>, NoMemory>
-    ensures { IfOk result (λ t. (n : ℕ) → is_among t.keys n ≡ is_repeated numbers.now n) }
-{
-    let mut met = IndexSet::new(alloc);
-    let mut twice = IndexSet::new(alloc);
+    let mut twice = IndexMap::new(alloc);
     for number in numbers {
-        meet(*number, &mut met, &mut twice)?;
+        let is_met = twice.contains_key(number);
+        twice.insert(*number, is_met)?;
     }
     Ok(twice)
+}
+
+fn is_marked(twice: &IndexMap<u64, bool>, number: u64) -> bool
+    ensures { result ≡ is_marked twice.now.entries number }
+{
+    twice.get(&number).copied().unwrap_or(false)
 }
 
 /// The interrupt of a device, with the place of the literal that gives its number.
@@ -74,13 +66,6 @@ fn numbers(alloc: Global, irqs: &[Irq]) -> Result<Vec<u64>, NoMemory>
     Ok(irqs.iter().map(|irq| irq.number).collect(alloc)?)
 }
 
-fn note_irq(irq: &Irq, twice: &IndexSet<u64>, first: &mut Earliest<'_>)
-    ensures { first.new ≡ noted first.old (irq_twice_at (is_among twice.now.keys) irq.now) }
-{
-    let is_twice = twice.contains(&irq.number);
-    first.note(is_twice, Code::IrqTwice, irq.place, b"");
-}
-
 /// Notes the interrupts that have the number of another.
 pub fn note_irqs_twice<'a>(
     alloc: Global,
@@ -93,7 +78,8 @@ pub fn note_irqs_twice<'a>(
     let numbers = numbers(alloc, irqs.as_slice())?;
     let twice = repeated(alloc, numbers.as_slice())?;
     for irq in irqs.as_slice() {
-        note_irq(irq, &twice, first);
+        let is_twice = is_marked(&twice, irq.number);
+        first.note(is_twice, Code::IrqTwice, irq.place, b"");
     }
     Ok(())
 }
@@ -123,12 +109,12 @@ fn own_badges(alloc: Global, ends: &[Found<'_>]) -> Result<Vec<u64>, NoMemory>
     Ok(ends.iter().filter_map(own_badge).collect(alloc)?)
 }
 
-fn note_badge<'a>(end: &Found<'a>, twice: &IndexSet<u64>, first: &mut Earliest<'a>)
-    ensures { first.new ≡ noted first.old (badge_twice_at (is_among twice.now.keys) end.now) }
+fn note_badge<'a>(end: &Found<'a>, twice: &IndexMap<u64, bool>, first: &mut Earliest<'a>)
+    ensures { first.new ≡ noted first.old (badge_twice_at (is_marked twice.now.entries) end.now) }
 {
     if let Some(badge) = own_badge(end) {
         let (place, name) = (end.joint.end.place, last_in(&end.joint.connection.path));
-        first.note(twice.contains(&badge), Code::BadgeTwice, place, name);
+        first.note(is_marked(twice, badge), Code::BadgeTwice, place, name);
     }
 }
 

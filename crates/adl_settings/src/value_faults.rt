@@ -5,7 +5,7 @@ ghost use Rattle.std.specs.Prelude.{◌≡◌, map, OnOk, IfOk};
 ghost use Rattle.adl_settings.specs.BadValue.{bad_in_leaf, bad_at_end, bad_values};
 ghost use Rattle.adl_settings.specs.EndMeaning.{end_setting};
 ghost use Rattle.adl_settings.specs.Meant.{bad_unless};
-ghost use Rattle.adl_settings.specs.Missing.{lacks_value, missing_at, missing_values};
+ghost use Rattle.adl_settings.specs.Missing.{missing_at, missing_values};
 ghost use Rattle.adl_settings.specs.SettingFaults.{value_faults};
 ghost use Rattle.adl_settings.specs.Settled.{leaf_setting, end_settings, settled_from};
 
@@ -16,6 +16,7 @@ use adl_meaning::{Earliest, EndSetting, EndSettings, LeafSetting, Settled};
 use cam_base::{Code, Fault, List, NoMemory, Refused};
 use std::alloc::Global;
 
+#[tactic(auto, using(crate::proofs::Noted::where_not))]
 fn note_unless<'a>(is_right: bool, given: &Option<Given<'a>>, first: &mut Earliest<'a>)
     ensures { first.new ≡ noted first.old (bad_unless is_right given.now) }
 {
@@ -59,24 +60,13 @@ fn note_bad_values<'a>(
     }
 }
 
-fn lacks_value(end: &Found<'_>) -> bool
-    ensures { result ≡ lacks_value end.now }
-{
-    (end.joint.is_device_memory() && end.paddr.is_none())
-        || (end.joint.is_device_event() && end.irq.is_none())
-}
-
 fn note_missing_end<'a>(end: &Found<'a>, first: &mut Earliest<'a>)
     ensures { first.new ≡ noted first.old (missing_at end.now) }
 {
-    let joint = &end.joint;
-    let word = &joint.interface.id;
-    first.note(
-        lacks_value(end),
-        Code::Missing,
-        word.place,
-        word.name.as_bytes(),
-    );
+    let (joint, word) = (&end.joint, &end.joint.interface.id);
+    let lacks_value = (joint.is_device_memory() && end.paddr.is_none())
+        || (joint.is_device_event() && end.irq.is_none());
+    first.note(lacks_value, Code::Missing, word.place, word.name.as_bytes());
 }
 
 /// Notes the interfaces of devices that lack a value.
@@ -90,6 +80,7 @@ fn note_missing<'a>(connections: &[List<Found<'a>>], first: &mut Earliest<'a>)
     }
 }
 
+#[tactic(auto, using(adl_meaning::proofs::Noting::noting))]
 fn note_value_faults<'a>(
     alloc: Global,
     leaves: &[LeafFound<'a>],

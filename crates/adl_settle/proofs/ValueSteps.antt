@@ -4,7 +4,7 @@ use Rattle.std.proofs.Math.Seq.{take-length}
 use Rattle.std.proofs.lemmas.Slice.Eq.{bytes_eq-Decides}
 use Rattle.adl_items.specs.Pointed.{pointed}
 use Rattle.adl_settle.specs.Lookups.{within, attribute_at, given_from}
-use Rattle.adl_settings.proofs.ValueSearch.{referred, value-referred, outer-stays}
+use Rattle.adl_settings.proofs.ValueSearch.{referred, value-referred, outer_stays}
 
 -- ---- bodies along a path
 
@@ -67,7 +67,7 @@ last_or_below k m l = grind arith
 
 pub set-stays : (h : Hierarchy) (p : Path) (k m end : ℕ) (x : Name) (g : Given) → k ≤ m → set_within h p k end x ≡ Some g → set_within h p m end x ≡ Some g
 set-stays h p k zero end x g l e = let z : zero ≡ k = omega (arith, l) in ap (λ n. set_within h p n end x) z ∙ e
-set-stays h p k (suc m) end x g l e = elim (last_or_below k m l) [ inl a ↦ outer-stays h p m end x g (set-stays h p k m end x g a e) | inr a ↦ ap (λ n. set_within h p n end x) (sym a) ∙ e ]
+set-stays h p k (suc m) end x g l e = elim (last_or_below k m l) [ inl a ↦ outer_stays h p m end x g (set-stays h p k m end x g a e) | inr a ↦ ap (λ n. set_within h p n end x) (sym a) ∙ e ]
 
 -- the setter of a whole path
 pub setter-whole : (h : Hierarchy) (p : Path) (k : ℕ) (x : Name) → option_and_then (λ b. option_map (λ s. s.setter) (setting_of h b (drop k p) x)) (at h (top_number h) (take k p)) ≡ setter_at h p k (length p) x

@@ -1,8 +1,14 @@
-use Rattle.adl_settings.proofs.Common.{is_among}
-use Rattle.adl_settings.proofs.Counting.{counted_more}
+use Rattle.adl_settings.proofs.Common.{◌∙◌, ap, false, is_repeated}
+use Rattle.std.proofs.Common.{unwrap_or}
+use Rattle.std.proofs.lemmas.List.{take_all}
+use Rattle.adl_settings.proofs.Counting.{told_by, told_more, told_repeated}
 use Rattle.adl_settings.proofs.twice.repeated.Goals as goal
 
 pub loop-number-preserved : goal.loop-number-preserved
 loop-number-preserved c =
-    counted_more (is_among c.loop-number.met.keys) (is_among c.meet.new.met.keys) (is_among c.loop-number.twice.keys) (is_among c.meet.new.twice.keys) c.args.numbers.now c.loop-number.number-index c.loop-number-test.true
-    c.loop-number.invariant c.in_ok-meet.ensures.met c.in_ok-meet.ensures.twice
+    told_more (told_by c.loop-number.twice.entries) (told_by c.insert.new.self.entries) c.args.numbers.now c.loop-number.number-index c.contains_key-is_met.result c.loop-number-test.true c.loop-number.invariant
+    c.contains_key-is_met.ensures c.in_ok-insert.ensures.updates.0
+
+pub returns : goal.returns
+returns c = λ n.
+    ap (λ o. unwrap_or o false) (c.loop-number.invariant n) ∙ told_repeated _ ∙ ap (λ xs. is_repeated xs n) (take_all c.loop-number.number-index c.args.numbers.now c.loop-number-test.false)
