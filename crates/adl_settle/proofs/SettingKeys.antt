@@ -60,8 +60,7 @@ abbrev pub keyed : List (Bor Name) → Entries → Option (Bor Setting)
 keyed key es = lookup (λ (k : Vec (Bor Name) Global). same_keys key k.items) es
 
 pub found_by : (key : List (Bor Name)) (es : Entries) → keyed key es ≡ found_in (pointed key) es
-found_by key [] = refl
-found_by key (e ∷ es) = λ i. cond (same_keys-pointed key e.0.items i) (Some e.1) (found_by key es i)
+found_by key es = λ i. lookup (λ (k : Vec (Bor Name) Global). same_keys-pointed key k.items i) es
 
 is_some-copied : {X : Type 0} (o : Option (Bor X)) → is_some o ≡ is_some (option_copied o)
 is_some-copied None = refl

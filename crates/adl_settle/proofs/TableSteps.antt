@@ -1,25 +1,23 @@
 -- Tables that have a value for each body, and the steps of filling one.
-use Rattle.adl_settings.proofs.Common.{◌≡◌, ◌∙◌, ◌≤◌, ◌<◌, ◌+◌, ℕ, zero, suc, cond, ◌&&◌, drop, arith, List, [], ◌∷◌, ◌++◌, length, get_or, Some, refl, sym, ap, subst, ◌⊎◌, inl, inr, slice_get, get_or_past, get_or_default, slice_get_cases, length-append, get_or_append_left, find, option_map_or, bytes_eq, drop_first, Setting, Id, last_name, Hierarchy, Part, Body, body, part_named, Name, Path, same_path, is_group, inner_names, path_of, settings_of, setting_of, Bool, true, false, ◌||◌, Option, None, is_some, flat_map, enumerate_from, option_or, Fault, noted, where_true, sets, noted-append, Met, setting_twice, repeated_after, repeated_in}
+use Rattle.adl_settings.proofs.Common.{◌≡◌, ◌∙◌, ◌≤◌, ◌<◌, ◌+◌, ℕ, cond, ◌&&◌, drop, arith, List, [], ◌∷◌, ◌++◌, length, get_or, Some, refl, sym, ap, subst, ◌⊎◌, inl, inr, get_or_past, get_or_default, length-append, get_or_append_left, find, option_map_or, bytes_eq, drop_first, Setting, Id, last_name, Hierarchy, Part, Body, body, part_named, Name, Path, same_path, is_group, inner_names, path_of, settings_of, setting_of, Bool, true, false, ◌||◌, Option, None, is_some, flat_map, enumerate_from, option_or, Fault, noted, where_true, sets, noted-append, Met, setting_twice, repeated_after, repeated_in}
+use Rattle.cam_base.proofs.Options.{option_or-cond, is_some-option_or}
+use Rattle.std.proofs.lemmas.List.{get_or_push}
+use borrow.Author.Count.{below_more}
 
--- P is true of each place and its value
-abbrev pub Each : {T : Type 0} → (ℕ → T → Type 0) → List T → Type 0
-Each {T} P xs = (k : ℕ) (x : T) → slice_get xs k ≡ Some x → P k x
+-- where P is true of each place and its value, it is after one more
+pub each_more : {T : Type 0} (P : ℕ → T → Type 0) (xs new : List T) (y : T) (n : ℕ) → length xs ≡ n → new ≡ xs ++ y ∷ [] → ((k : ℕ) → k < n → (d : T) → P k (get_or xs k d)) → P n y
+    → (k : ℕ) → k < n + 1 → (d : T) → P k (get_or new k d)
+each_more {T} P xs new y n so_many pushed each here =
+    below_more (λ k. (d : T) → P k (get_or new k d)) n
+    (λ k l d. subst (P k) (sym (ap (λ zs. get_or zs k d) pushed ∙ get_or_append_left xs (y ∷ []) d k (omega (arith, l, so_many)))) (each k l d))
+    (λ d. subst (P n) (sym (ap (λ zs. get_or zs n d) pushed ∙ get_or_push xs y d n so_many)) here)
 
-last_or_before : {T : Type 0} (xs : List T) (y : T) (k : ℕ) (x : T) → slice_get (xs ++ y ∷ []) k ≡ Some x → (slice_get xs k ≡ Some x) ⊎ ((length xs ≡ k) × (y ≡ x))
-last_or_before [] y zero x e = inr (refl, cc)
-last_or_before [] y (suc k) x e = absurd cc
-last_or_before (z ∷ xs) y zero x e = inl e
-last_or_before (z ∷ xs) y (suc k) x e = elim (last_or_before xs y k x e) [ inl a ↦ inl a | inr a ↦ inr (ap suc a.0, a.1) ]
-
-pub each_more : {T : Type 0} (P : ℕ → T → Type 0) (xs : List T) (y : T) → Each P xs → P (length xs) y → Each P (xs ++ y ∷ [])
-each_more P xs y each here k x e = elim (last_or_before xs y k x e) [ inl a ↦ each k x a | inr a ↦ subst (λ n. P n x) a.0 (subst (λ z. P (length xs) z) a.1 here) ]
+below_or_past : (k n : ℕ) → (k < n) ⊎ (n ≤ k)
+below_or_past k n = grind arith
 
 -- behind the last the value of the assembly counts
-pub each_or : {T : Type 0} (P : ℕ → T → Type 0) (xs : List T) (top : T) → Each P xs → ((k : ℕ) → length xs ≤ k → P k top) → (k : ℕ) → P k (get_or xs k top)
-each_or {T} P xs top each behind k = elim (slice_get_cases xs k).1 [
-  | inl a ↦ subst (λ z. P k z) (sym a.3 ∙ get_or_default xs k a.0 top a.1) (each k a.0 a.2)
-  | inr a ↦ subst (λ z. P k z) (sym (get_or_past xs k top a.0)) (behind k a.0)
-]
+pub each_or : {T : Type 0} (P : ℕ → T → Type 0) (xs : List T) (top : T) → ((k : ℕ) → k < length xs → (d : T) → P k (get_or xs k d)) → ((k : ℕ) → length xs ≤ k → P k top) → (k : ℕ) → P k (get_or xs k top)
+each_or P xs top each behind k = elim (below_or_past k (length xs)) [ inl a ↦ each k a top | inr a ↦ subst (P k) (sym (get_or_past xs k top a)) (behind k a) ]
 
 -- the body of a number behind the last component's is the assembly
 pub body-behind : (h : Hierarchy) (k : ℕ) → length h.bodies ≤ k → body h k ≡ h.top
@@ -54,17 +52,7 @@ pub found_more : (t : Setting → Bool) (old new : Option Setting) (xs : List Se
     → option_or new (find t (drop (i + 1) xs)) ≡ option_or old (find t (drop i xs))
 found_more t old new xs i x l e n =
     let rest = find t (drop (i + 1) xs) in
-    ap (λ z. option_or z rest) n ∙ by_test old (t x) rest ∙ ap (λ z. option_or old (find t z)) (sym (drop_first xs i x l e))
-  where
-    by_test : (o : Option Setting) (b : Bool) (rest : Option Setting) → option_or (option_or o (cond b (Some x) None)) rest ≡ option_or o (cond b (Some x) rest)
-    by_test None true rest = refl
-    by_test None false rest = refl
-    by_test (Some y) b rest = refl
-
-met_or : (o : Option Setting) (b : Bool) (x : Setting) → is_some (option_or o (cond b (Some x) None)) ≡ (is_some o || b)
-met_or None true x = refl
-met_or None false x = refl
-met_or (Some y) b x = refl
+    ap (λ z. option_or z rest) n ∙ option_or-cond old (t x) x rest ∙ ap (λ z. option_or old (find t z)) (sym (drop_first xs i x l e))
 
 -- the faults of the settings that are left, after one more
 pub twice_more : (h : Hierarchy) (k : ℕ) (old new : Path → Name → Option Setting) (first first' : Option Fault) (xs : List Setting) (i : ℕ) (x : Setting) → i < length xs → x ≡ get_or xs i x
@@ -78,7 +66,7 @@ twice_more h k old new first first' xs i x l e f n =
     let more : Met = λ p n. met p n || (same_path p path && bytes_eq n last) in
     let again = where_true (met path last) (setting_twice x) in
     let rest = drop (i + 1) xs in
-    let same : (λ (p : Path) (n : Name). is_some (new p n)) ≡ more = λ j p n. (ap is_some (f p n) ∙ met_or (old p n) (sets h k p n x) x) j in
+    let same : (λ (p : Path) (n : Name). is_some (new p n)) ≡ more = λ j p n. (ap is_some (f p n) ∙ is_some-option_or (old p n) (sets h k p n x) x) j in
     ap (λ (m : Met). noted first' (repeated_after h k m rest)) same ∙ ap (λ o. noted o (repeated_after h k more rest)) n
     ∙ sym (noted-append first again (repeated_after h k more rest)) ∙ ap (λ ys. noted first (repeated_after h k met ys)) (sym (drop_first xs i x l e))
 

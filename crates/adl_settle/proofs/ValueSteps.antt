@@ -4,6 +4,7 @@ use Rattle.std.proofs.Math.Seq.{take-length}
 use Rattle.std.proofs.lemmas.Slice.Eq.{bytes_eq-Decides}
 use Rattle.adl_items.specs.Pointed.{pointed}
 use Rattle.adl_settle.specs.Lookups.{within, attribute_at, given_from}
+use borrow.Author.Count.{below_more}
 use Rattle.adl_settings.proofs.ValueSearch.{referred, value-referred, outer_stays}
 
 -- ---- bodies along a path
@@ -73,15 +74,6 @@ set-stays h p k (suc m) end x g l e = elim (last_or_below k m l) [ inl a ↦ out
 pub setter-whole : (h : Hierarchy) (p : Path) (k : ℕ) (x : Name) → option_and_then (λ b. option_map (λ s. s.setter) (setting_of h b (drop k p) x)) (at h (top_number h) (take k p)) ≡ setter_at h p k (length p) x
 setter-whole h p k x = ap (λ q. option_and_then (λ b. option_map (λ s. s.setter) (setting_of h b (drop k q) x)) (at h (top_number h) (take k p))) (sym (take-length p))
 
--- what the search has found at k names
-pub found-here : (h : Hierarchy) (p : Path) (k : ℕ) (x : Name) (o : Option ℕ) (s : Option Setting) (found : Option Given) → k ≤ length p → o ≡ at h (top_number h) (take k p)
-    → s ≡ option_and_then (λ b. setting_of h b (drop k p) x) o → found ≡ given_from (attribute_at h (take k p)) s → ((j : ℕ) → j < k → set_within h p j (length p) x ≡ None)
-    → set_within h p k (length p) x ≡ found
-found-here h p k x o s found l there is result none =
-    let refer = attribute_at h (take k p) in
-    set-here h p k x l none ∙ ap (given refer x) (sym (setter-whole h p k x)) ∙ ap (λ b. given refer x (option_and_then (λ b. option_map (λ s. s.setter) (setting_of h b (drop k p) x)) b)) (sym there)
-    ∙ sym (given-setter h refer (drop k p) x o) ∙ ap (given_from refer) (sym is) ∙ sym result
-
 -- the value, where a body sets it
 pub value-found : (h : Hierarchy) (p : Path) (k : ℕ) (x : Name) (g : Given) → k < max (length p) 1 → set_within h p k (length p) x ≡ Some g → Some g ≡ value_at h p x
 value-found h p k x g l e = sym (ap (λ o. option_or o (default_at h p x)) (set-stays h p k (length p - 1) (length p) x g (omega (arith, l)) e))
@@ -92,24 +84,25 @@ key-behind ks items p x i e named l =
     ap (λ n. pointed (take n (drop i ks))) (sym (length-drop i ks)) ∙ ap pointed (take-length (drop i ks)) ∙ sym (drop-map (λ (r : Bor Name). r.now) i ks)
     ∙ ap (λ z. drop i (pointed z)) e ∙ ap (drop i) named ∙ drop-append-le i p (x ∷ []) l
 
--- one step of the search, where it finds a value
-pub step-found : (h : Hierarchy) (p : Path) (i m : ℕ) (x : Name) (o : Option ℕ) (s : Option Setting) (found : Option Given) (g : Given) → i < m → m ≡ max (length p) 1
-    → o ≡ at h (top_number h) (take i p) → s ≡ option_and_then (λ b. setting_of h b (drop i p) x) o → found ≡ given_from (attribute_at h (take i p)) s → found ≡ Some g
-    → ((j : ℕ) → j < i → set_within h p j (length p) x ≡ None) → Some g ≡ value_at h p x
-step-found h p i m x o s found g l most there is result some none =
-    value-found h p i x g (omega (arith, l, most)) (found-here h p i x o s found (omega (arith, l, most)) there is result none ∙ some)
+-- one step of the search, behind i names
+module _ (h : Hierarchy) (p : Path) (i m : ℕ) (x : Name) (o : Option ℕ) (s : Option Setting) (found : Option Given) (ks items : List (Bor Name)) (l : i < m) (most : m ≡ max (length p) 1)
+    (there : o ≡ at h (top_number h) (take i p)) (is : (q : Path) (y : Name) → pointed (take (length ks - i) (drop i ks)) ≡ q ++ y ∷ [] → s ≡ option_and_then (λ k. setting_of h k q y) o)
+    (same : ks ≡ items) (named : pointed items ≡ p ++ x ∷ []) (result : found ≡ given_from (attribute_at h (take i p)) s) (none : (j : ℕ) → j < i → set_within h p j (length p) x ≡ None) where
+  found-here : set_within h p i (length p) x ≡ found
+  found-here =
+      let refer = attribute_at h (take i p) in
+      let inside : i ≤ length p = omega (arith, l, most) in
+      set-here h p i x inside none ∙ ap (given refer x) (sym (setter-whole h p i x))
+      ∙ ap (λ b. given refer x (option_and_then (λ b. option_map (λ s. s.setter) (setting_of h b (drop i p) x)) b)) (sym there)
+      ∙ sym (given-setter h refer (drop i p) x o) ∙ ap (given_from refer) (sym (is (drop i p) x (key-behind ks items p x i same named inside))) ∙ sym result
 
-below_or_at : (k i : ℕ) → k < i + 1 → (k < i) ⊎ (k ≡ i)
-below_or_at k i l = grind arith
+  -- where it finds a value
+  pub step-found : (g : Given) → found ≡ Some g → Some g ≡ value_at h p x
+  step-found g some = value-found h p i x g (omega (arith, l, most)) (found-here ∙ some)
 
--- and where it finds none
-pub step-none : (h : Hierarchy) (p : Path) (i m : ℕ) (x : Name) (o : Option ℕ) (s : Option Setting) (found : Option Given) → i < m → m ≡ max (length p) 1
-    → o ≡ at h (top_number h) (take i p) → s ≡ option_and_then (λ b. setting_of h b (drop i p) x) o → found ≡ given_from (attribute_at h (take i p)) s → found ≡ None
-    → ((j : ℕ) → j < i → set_within h p j (length p) x ≡ None) → (k : ℕ) → k < i + 1 → set_within h p k (length p) x ≡ None
-step-none h p i m x o s found l most there is result nothing none k b = elim (below_or_at k i b) [
-  | inl a ↦ none k a
-  | inr a ↦ ap (λ n. set_within h p n (length p) x) a ∙ found-here h p i x o s found (omega (arith, l, most)) there is result none ∙ nothing
-]
+  -- and where it finds none
+  pub step-none : found ≡ None → (k : ℕ) → k < i + 1 → set_within h p k (length p) x ≡ None
+  step-none nothing = below_more (λ k. set_within h p k (length p) x ≡ None) i none (found-here ∙ nothing)
 
 -- ---- what is remembered
 
@@ -129,23 +122,3 @@ remembered_more h f f' path name v old is new p x g e = by_test (same_path path 
         let same : v ≡ g = cc in
         sym same ∙ is ∙ ap (λ q. value_at h q name) (same_path-true path p both.0) ∙ ap (value_at h p) ((bytes_eq-Decides name x).0 both.1)
     by_test false t e = old p x g e
-
--- ---- the measure
-
--- behind the empty path nothing is looked for
-abbrev pub left : Path → ℕ
-left [] = 0
-left (n ∷ p) = 3 * length p + 6
-
-short : (p : Path) (i : ℕ) → length (take i p) ≤ i
-short p i = omega (arith, length-take i p)
-
-pub left_falls : (p : Path) (i : ℕ) → i < max (length p) 1 → left (take i p) + 1 < 3 * length p + 2
-left_falls [] zero l = omega arith
-left_falls [] (suc i) l = omega (arith, l)
-left_falls (n ∷ p) zero l = omega arith
-left_falls (n ∷ p) (suc i) l = omega (arith, l, short p i)
-
-pub left_above : (p : Path) → 0 < length p → 3 * length p + 2 < left p
-left_above [] l = absurd (omega (arith, l))
-left_above (n ∷ p) l = omega arith

@@ -1,14 +1,13 @@
 //! The values of the settings of all leaves, and of the ends of connections at the interfaces that they join.
 
-ghost use Rattle.adl_settings.specs.Words.{value_at};
 ghost use Rattle.std.specs.Option.{option_copied};
-ghost use Rattle.std.specs.Prelude.{◌≡◌, ◌<◌, ◌++◌, ◌^◌, OnOk, IfOk};
+ghost use Rattle.std.specs.Prelude.{◌≡◌, ◌<◌, ◌^◌, OnOk, IfOk};
 ghost use Rattle.adl_settings.specs.Joints.{component_at, interface_at, joint_of, behind, value_of, size_of, found_at, found_on, founds_in};
 ghost use Rattle.adl_settings.specs.Meant.{where_set};
 ghost use Rattle.adl_settings.specs.Settled.{leaf_found, leaves_found};
 ghost use Rattle.adl_settle.specs.Lookups.{IsRemembered};
 
-use crate::search::{Lookup, Memo, value};
+use crate::search::{Lookup, Memo, search};
 use adl_ast::{Component, Interface, Item, Member, Role, Source};
 use adl_meaning::{Flat, FlatConnection, FlatEnd, ItemAt, Leaf};
 use adl_settings::{Found, Given, Joint, LeafFound, is_shared};
@@ -58,38 +57,24 @@ fn joint_of<'a>(
     })
 }
 
-/// The value of a setting of a leaf, where it has a meaning.
-fn value_where<'a>(
-    lookup: &Lookup<'_, 'a>,
-    memo: &mut Memo<'a>,
-    on: bool,
-    path: &'a [Name],
-    name: (&'a [u8], &'a [u8]),
-) -> Result<Option<Given<'a>>, NoMemory>
-    requires { IsRemembered lookup.now memo.old }
-    ensures value { IfOk result (λ o. o ≡ where_set on (value_at lookup.now path.now (name.entry.0.now ++ name.entry.1.now))) }
-    ensures memo { OnOk result (IsRemembered lookup.now memo.new) }
-{
-    if !on {
-        return Ok(None);
-    }
-    value(lookup, memo, path, name)
-}
-
 /// The value of a setting of the interface that an end joins, where it has a meaning.
 fn value_of<'a>(
     lookup: &Lookup<'_, 'a>,
     memo: &mut Memo<'a>,
     on: bool,
     joint: &Joint<'a>,
-    setting: &'a [u8],
+    setting: &[u8],
 ) -> Result<Option<Given<'a>>, NoMemory>
     requires { IsRemembered lookup.now memo.old }
     ensures value { IfOk result (λ o. o ≡ where_set on (value_of lookup.now joint.now setting.now)) }
     ensures memo { OnOk result (IsRemembered lookup.now memo.new) }
 {
-    let name = joint.interface.id.name.as_bytes();
-    value_where(lookup, memo, on, joint.leaf.path.names(), (name, setting))
+    if !on {
+        return Ok(None);
+    }
+    let mut name = joint.interface.id.name.as_bytes().to_vec(lookup.alloc)?;
+    name.extend_from_slice(setting)?;
+    search(lookup, memo, joint.leaf.path.names(), name.as_slice())
 }
 
 /// The value of the size of shared memory, or else of a device's registers.
@@ -104,7 +89,7 @@ fn size_of<'a>(
 {
     let connection = joint.connection;
     if is_shared(connection.connector) {
-        return value(lookup, memo, connection.path.names(), (b"size", b""));
+        return search(lookup, memo, connection.path.names(), b"size");
     }
     value_of(lookup, memo, joint.is_device_memory(), joint, b"_size")
 }
@@ -199,10 +184,17 @@ fn leaf_found<'a>(
     ensures found { IfOk result (λ f. f ≡ leaf_found lookup.now leaf.entry.now) }
     ensures memo { OnOk result (IsRemembered lookup.now memo.new) }
 {
-    let software = !leaf.hardware;
+    if leaf.hardware {
+        let (priority, stack) = (None, None);
+        return Ok(LeafFound {
+            leaf,
+            priority,
+            stack,
+        });
+    }
     let path = leaf.path.names();
-    let priority = value_where(lookup, memo, software, path, (b"_priority", b""))?;
-    let stack = value_where(lookup, memo, software, path, (b"_stack_size", b""))?;
+    let priority = search(lookup, memo, path, b"_priority")?;
+    let stack = search(lookup, memo, path, b"_stack_size")?;
     Ok(LeafFound {
         leaf,
         priority,

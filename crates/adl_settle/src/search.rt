@@ -4,7 +4,7 @@ ghost use Rattle.adl_settings.specs.Words.{Name as Bytes, body, default_in, sett
 ghost use Rattle.std.specs.Option.{option_and_then, option_copied, option_map_or};
 ghost use Rattle.std.specs.Prelude.{◌≡◌, ◌∷◌, ◌++◌, [], List as Seq, Some, None, slice_get, OnOk, IfOk};
 ghost use Rattle.adl_items.specs.Pointed.{pointed};
-ghost use Rattle.adl_settle.specs.Lookups.{within, attribute_at, given_from, remembered, IsRemembered};
+ghost use Rattle.adl_settle.specs.Lookups.{within, attribute_at, given_from, IsRemembered};
 
 use crate::tables::{SettingTables, within};
 use adl_ast::{Setter, Setting};
@@ -16,7 +16,8 @@ use indexmap::IndexMap;
 use std::alloc::Global;
 use std::marker::Model;
 
-/// The values of attributes that settings refer to, as far as they were looked for before, by the path of the instance.
+/// The values of attributes that settings refer to, as far as they were looked for before, by the path of the instance. It may be
+/// that there is no value.
 #[derive(Drop)]
 pub struct Memo<'a> {
     pub found: IndexMap<(&'a [Name], &'a [u8]), Option<Given<'a>>>,
@@ -45,19 +46,6 @@ impl<'t, 'a> Model for Lookup<'t, 'a> {
     ghost view = { λ l. l.bodies.now };
 
     ghost invariant = { λ l. AreTables l.bodies.now l.settings };
-}
-
-impl<'a> Memo<'a> {
-    /// What was found before: it may be that there is no value.
-    fn get(&self, path: &'a [Name], name: &'a [u8]) -> Option<Option<Given<'a>>>
-        ensures { result ≡ remembered self.now path.now name.now }
-    {
-        let key = (path, name);
-        match self.found.get(&key) {
-            None => None,
-            Some(found) => Some(again(found)),
-        }
-    }
 }
 
 impl<'t, 'a> Lookup<'t, 'a> {
@@ -100,15 +88,6 @@ fn again<'a>(found: &Option<Given<'a>>) -> Option<Given<'a>>
         None => None,
         Some(given) => Some(given.again()),
     }
-}
-
-/// A name of two parts.
-fn joined(alloc: Global, name: (&[u8], &[u8])) -> Result<Vec<u8>, NoMemory>
-    ensures { IfOk result (λ v. v.items ≡ name.entry.0.now ++ name.entry.1.now) }
-{
-    let mut joined = name.0.to_vec(alloc)?;
-    joined.extend_from_slice(name.1)?;
-    Ok(joined)
 }
 
 /// The names of a path with a name behind them.
@@ -154,7 +133,7 @@ fn given_by<'a>(
 
 /// The value of the setting at a path, searched for from the outermost body inwards.
 #[cycle(value)]
-fn search<'a>(
+pub fn search<'a>(
     lookup: &Lookup<'_, 'a>,
     memo: &mut Memo<'a>,
     path: &'a [Name],
@@ -188,25 +167,10 @@ fn referred<'a>(
     ensures value { IfOk result (λ o. o ≡ value_at lookup.now path.now name.now) }
     ensures memo { OnOk result (IsRemembered lookup.now memo.new) }
 {
-    if let Some(found) = memo.get(path, name) {
-        return Ok(found);
+    if let Some(found) = memo.found.get(&(path, name)) {
+        return Ok(again(found));
     }
     let found = search(lookup, memo, path, name)?;
     memo.found.insert((path, name), again(&found))?;
     Ok(found)
-}
-
-/// The value of the setting at a path, whose name has two parts.
-pub fn value<'a>(
-    lookup: &Lookup<'_, 'a>,
-    memo: &mut Memo<'a>,
-    path: &'a [Name],
-    name: (&[u8], &[u8]),
-) -> Result<Option<Given<'a>>, NoMemory>
-    requires { IsRemembered lookup.now memo.old }
-    ensures value { IfOk result (λ o. o ≡ value_at lookup.now path.now (name.entry.0.now ++ name.entry.1.now)) }
-    ensures memo { OnOk result (IsRemembered lookup.now memo.new) }
-{
-    let name = joined(lookup.alloc, name)?;
-    search(lookup, memo, path, name.as_slice())
 }

@@ -1,8 +1,11 @@
-use Rattle.adl_settings.proofs.Common.{not, codes, value_at}
-use Rattle.adl_settle.proofs.Settled.{leaf_made}
+use Rattle.adl_settings.proofs.Common.{◌∙◌, sym, not, codes, value_at, where_set}
 use Rattle.adl_settle.proofs.finding.leaf_found.Goals as goal
 
 pub returns-clause-found : goal.returns-clause-found
 returns-clause-found c =
-    leaf_made (λ p. value_at c.args.lookup.now p (codes "_priority")) (λ p. value_at c.args.lookup.now p (codes "_stack_size")) (not c.args.leaf.now.hardware) c.args.leaf.now
-    c.names-path.result.now c.in_ok-priority.priority c.in_ok-stack.stack c.names-path.ensures c.in_ok-priority.ensures.value c.in_ok-stack.ensures.value
+    let h = c.args.lookup.now in
+    λ i. record {
+      leaf = c.args.leaf.now;
+      priority = (c.in_ok-priority.ensures.value ∙ (λ j. where_set (not (sym c.if-leaf.false j)) (value_at h (c.names-path.ensures j) (codes "_priority")))) i;
+      stack = (c.in_ok-stack.ensures.value ∙ (λ j. where_set (not (sym c.if-leaf.false j)) (value_at h (c.names-path.ensures j) (codes "_stack_size")))) i;
+    }

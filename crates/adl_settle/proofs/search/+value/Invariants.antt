@@ -1,6 +1,6 @@
 use Rattle.adl_settings.proofs.Common.{◌≡◌, ◌<◌, ◌+◌, ◌*◌, ℕ, length, take, None, top_number, at, set_within}
 use Rattle.adl_settle.specs.Lookups.{IsRemembered}
-use Rattle.adl_settle.proofs.ValueSteps.{left}
+use Rattle.std.proofs.Common.{min}
 use Rattle.adl_settle.proofs.search.+value.Given as goal
 
 abbrev pub decreases-referred : goal.decreases-referred
@@ -9,8 +9,9 @@ decreases-referred l = 3 * length l.path.now + 3
 abbrev pub decreases-search : goal.decreases-search
 decreases-search l = 3 * length l.path.now + 2
 
+-- behind the empty path nothing is looked for
 abbrev pub decreases-given_by : goal.decreases-given_by
-decreases-given_by l = left l.path.now + 1
+decreases-given_by l = 3 * length l.path.now + 4 * min (length l.path.now) 1
 
 abbrev pub invariant-search-loop-at : goal.invariant-search-loop-at
 invariant-search-loop-at l = record {

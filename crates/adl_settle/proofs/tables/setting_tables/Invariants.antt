@@ -1,11 +1,12 @@
-use Rattle.adl_settings.proofs.Common.{◌≡◌, length, drop, flat_map, enumerate_from, noted, repeated_in, settings_twice}
+use Rattle.adl_settings.proofs.Common.{◌≡◌, ◌<◌, ℕ, length, get_or, drop, flat_map, enumerate_from, noted, repeated_in, settings_twice}
 use Rattle.adl_settle.specs.Lookups.{IsTable}
-use Rattle.adl_settle.proofs.TableSteps.{Each, all_bodies}
+use Rattle.adl_settle.specs.declared.tables.SettingTable.{SettingTable}
+use Rattle.adl_settle.proofs.TableSteps.{all_bodies}
 use Rattle.adl_settle.proofs.tables.setting_tables.Given as goal
 
 abbrev pub invariant-loop-number : goal.invariant-loop-number
 invariant-loop-number l = record {
   so_many : length l.tables.items ≡ l.number;
-  each : Each (λ k t. IsTable l.bodies k t) l.tables.items;
+  each : (k : ℕ) → k < l.number → (t : SettingTable) → IsTable l.bodies k (get_or l.tables.items k t);
   twice : noted l.first (flat_map (repeated_in l.bodies) (enumerate_from l.number (drop l.number (all_bodies l.bodies)))) ≡ noted l.fn.first (settings_twice l.bodies);
 }
