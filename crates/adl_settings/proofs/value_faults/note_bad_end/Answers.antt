@@ -8,15 +8,9 @@ use Rattle.adl_settings.proofs.value_faults.note_bad_end.Goals as goal
 pub returns : goal.returns
 returns c =
     let f = c.args.end.now in
-    let o = c.args.first.now in
-    let p = c.note_unless.new.first in
-    let q = c.note_unless-2.new.first in
-    let r = c.note_unless-3.new.first in
-    let s = c.note_unless-4.new.first in
-    let t = c.note_unless-5.new.first in
-    noted_five (bad_value access_in f.access) (bad_value badge_in f.badge) (bad_value size_in f.size) (bad_value (paddr_in (unwrap_or (bytes_of f) 0)) f.paddr) (bad_value irq_in f.irq) o p q r s t
-    (noted_bad access_in read_and_write f.access c.access.result c.is_some.result o p c.access.ensures c.is_some.ensures c.note_unless.ensures)
-    (noted_bad badge_in f.joint.position f.badge c.badge.result c.is_some-2.result p q c.badge.ensures c.is_some-2.ensures c.note_unless-2.ensures)
-    (noted_bad size_in (default_bytes f.joint.interface) f.size c.bytes.result c.is_some-3.result q r c.bytes.ensures c.is_some-3.ensures c.note_unless-3.ensures)
-    (c.note_unless-4.ensures ∙ ap (λ b. noted r (bad_unless b f.paddr)) (c.is_some-4.ensures ∙ ap is_some c.paddr.ensures))
-    (c.note_unless-5.ensures ∙ ap (λ b. noted s (bad_unless b f.irq)) (c.is_some-5.ensures ∙ ap is_some c.irq.ensures))
+    noted_five (bad_value access_in f.access) (bad_value badge_in f.badge) (bad_value size_in f.size) (bad_value (paddr_in (unwrap_or (bytes_of f) 0)) f.paddr) (bad_value irq_in f.irq) c.args.first.now _ _ _ _ _
+    (noted_bad access_in read_and_write f.access _ _ _ _ c.access.ensures c.is_some.ensures c.note_unless.ensures)
+    (noted_bad badge_in f.joint.position f.badge _ _ _ _ c.badge.ensures c.is_some-2.ensures c.note_unless-2.ensures)
+    (noted_bad size_in (default_bytes f.joint.interface) f.size _ _ _ _ c.bytes.ensures c.is_some-3.ensures c.note_unless-3.ensures)
+    (c.note_unless-4.ensures ∙ ap (λ b. noted c.note_unless-3.new.first (bad_unless b f.paddr)) (c.is_some-4.ensures ∙ ap is_some c.paddr.ensures))
+    (c.note_unless-5.ensures ∙ ap (λ b. noted c.note_unless-4.new.first (bad_unless b f.irq)) (c.is_some-5.ensures ∙ ap is_some c.irq.ensures))
