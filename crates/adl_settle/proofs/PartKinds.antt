@@ -1,5 +1,5 @@
 -- The component of the first instance of a name.
-use Rattle.std.proofs.Common.{◌≡◌, ◌+◌, ℕ, Bool, true, false, List, [], ◌∷◌, Option, Some, None, option_map, refl, cond}
+use Rattle.std.proofs.Common.{◌≡◌, ◌+◌, ℕ, Bool, true, false, List, [], ◌∷◌, Option, Some, option_map, refl, cond}
 use Rattle.std.specs.List.{find, enumerate_from}
 use Rattle.std.specs.Str.{bytes_eq}
 use Rattle.adl_meaning.specs.Hierarchy.{Part, part_named}

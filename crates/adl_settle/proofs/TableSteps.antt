@@ -1,5 +1,5 @@
 -- Tables that have a value for each body, and the steps of filling one.
-use Rattle.adl_settings.proofs.Common.{◌≡◌, ◌∙◌, ◌≤◌, ◌<◌, ◌+◌, ℕ, cond, ◌&&◌, drop, arith, List, [], ◌∷◌, ◌++◌, length, get_or, Some, refl, sym, ap, subst, ◌⊎◌, inl, inr, get_or_past, get_or_default, length-append, get_or_append_left, find, option_map_or, bytes_eq, drop_first, Setting, Id, last_name, Hierarchy, Part, Body, body, part_named, Name, Path, same_path, is_group, inner_names, path_of, settings_of, setting_of, Bool, true, false, ◌||◌, Option, None, is_some, flat_map, enumerate_from, option_or, Fault, noted, where_true, sets, noted-append, Met, setting_twice, repeated_after, repeated_in}
+use Rattle.adl_settings.proofs.Common.{◌≡◌, ◌∙◌, ◌≤◌, ◌<◌, ◌+◌, ℕ, cond, ◌&&◌, drop, arith, List, [], ◌∷◌, ◌++◌, length, get_or, Some, refl, sym, ap, subst, ◌⊎◌, inl, inr, get_or_past, get_or_default, length-append, get_or_append_left, find, option_map_or, bytes_eq, drop_first, Setting, Id, last_name, Hierarchy, Part, Body, body, part_named, Name, Path, same_path, is_group, inner_names, path_of, settings_of, setting_of, Bool, ◌||◌, Option, None, is_some, flat_map, enumerate_from, option_or, Fault, noted, where_true, sets, noted-append, Met, setting_twice, repeated_after, repeated_in}
 use Rattle.cam_base.proofs.Options.{option_or-cond, is_some-option_or}
 use Rattle.std.proofs.lemmas.List.{get_or_push}
 use borrow.Author.Count.{below_more}

@@ -1,5 +1,5 @@
 -- Steps of the search for a value, from the outermost body inwards.
-use Rattle.adl_settings.proofs.Common.{◌≡◌, ◌∙◌, ◌<◌, ◌≤◌, ◌+◌, ◌-◌, ◌*◌, ℕ, zero, suc, Bool, true, false, cond, ◌&&◌, List, [], ◌∷◌, take, drop, length, max, ◌++◌, Bor, Option, Some, None, option_map, refl, sym, ap, arith, ◌⊎◌, inl, inr, slice_get, option_and_then, option_map_or, option_or, bytes_eq, length-take, length-drop, drop-append-le, drop-map, and_parts, find_passes, Setting, last_name, Hierarchy, Part, top_number, body, part_named, Name, Path, at, same_path, Given, given, settings_of, sets, setting_of, setter_at, set_within, default_at, value_at, same_path-true}
+use Rattle.adl_settings.proofs.Common.{◌≡◌, ◌∙◌, ◌<◌, ◌≤◌, ◌+◌, ◌-◌, ℕ, zero, suc, Bool, true, false, cond, ◌&&◌, List, [], ◌∷◌, take, drop, length, max, ◌++◌, Bor, Option, Some, None, option_map, refl, sym, ap, arith, ◌⊎◌, inl, inr, slice_get, option_and_then, option_map_or, option_or, bytes_eq, length-drop, drop-append-le, drop-map, and_parts, find_passes, Setting, last_name, Hierarchy, Part, top_number, body, part_named, Name, Path, at, same_path, Given, given, settings_of, sets, setting_of, setter_at, set_within, default_at, value_at, same_path-true}
 use Rattle.std.proofs.Math.Seq.{take-length}
 use Rattle.std.proofs.lemmas.Slice.Eq.{bytes_eq-Decides}
 use Rattle.adl_items.specs.Pointed.{pointed}

@@ -1,8 +1,8 @@
 //! The settings of each body in a table, by their paths and names.
 
-ghost use Rattle.adl_settings.specs.Words.{Id as Word, Name as Bytes, body, path_of, same_path, sets, settings_of, noted, where_true};
+ghost use Rattle.adl_settings.specs.Words.{Id as Word, Name as Bytes, body, part_named, path_of, same_path, sets, settings_of, noted, where_true};
 ghost use Rattle.std.specs.Option.{option_or, option_copied};
-ghost use Rattle.std.specs.Prelude.{◌≡◌, ◌∷◌, ◌++◌, [], List as Seq, Some, None, is_some, if◌then◌else◌, slice_index_or, OnOk, IfOk};
+ghost use Rattle.std.specs.Prelude.{◌≡◌, ◌∷◌, ◌++◌, [], List as Seq, Some, None, is_some, if◌then◌else◌, option_map, slice_index_or, OnOk, IfOk};
 ghost use Rattle.adl_items.specs.Pointed.{pointed};
 ghost use Rattle.adl_settings.specs.SettingTwice.{setting_twice, repeated_in, settings_twice};
 ghost use Rattle.adl_settle.specs.Lookups.{within, groups, path_from, key_of, setting_found, IsTable, AreTables};
@@ -75,12 +75,22 @@ impl<'a> SettingTables<'a> {
     }
 }
 
-/// The body behind a name, where there is one.
+/// The number of the component of the first instance of the name.
 #[tactic(auto, using(crate::proofs::PartKinds::kinds_same))]
+fn kind_of(body: &Body<'_>, name: &Name) -> Option<u32>
+    ensures { result ≡ option_map (λ x. x.kind) (part_named body.now.parts name.now) }
+{
+    match body.part(name) {
+        None => None,
+        Some(part) => Some(part.kind),
+    }
+}
+
+/// The body behind a name, where there is one.
 pub fn within(bodies: &Bodies<'_>, number: Option<u32>, name: &Name) -> Option<u32>
     ensures { result ≡ within bodies.now number name.now }
 {
-    Some(bodies.body(number?).part(name)?.kind)
+    kind_of(bodies.body(number?), name)
 }
 
 fn groups(bodies: &Bodies<'_>, number: Option<u32>, name: &Name) -> bool
