@@ -1,5 +1,5 @@
 -- The items of a source, and the components among them.
-use Rattle.adl_names.proofs.Common.{zero, ◌≡◌, ◌∙◌, ◌+◌, ◌≤◌, length, drop, map, ℕ, suc, Bool, true, false, cond, List, [], ◌∷◌, Option, Some, option_map, refl, sym, ap, arith, drop_all, filter_map, flat_map, flat_map-map, find, enumerate_from, slice_get, option_and_then, bytes_eq, Fault, noted, Component, Item, Source, Name, as_component, component_of, items_of, ItemAt, Body, item_of, item_component, item_number, component_at, is_named}
+use Rattle.adl_names.proofs.Common.{zero, ◌≡◌, ◌∙◌, ◌+◌, ◌≤◌, length, drop, map, ℕ, suc, Bool, true, false, cond, List, [], ◌∷◌, Option, None, Some, is_some, option_map, refl, sym, ap, arith, drop_all, filter_map, flat_map, flat_map-map, find, enumerate_from, slice_get, option_and_then, bytes_eq, Fault, noted, Component, Item, Source, Name, as_component, component_of, items_of, ItemAt, Body, item_of, item_component, item_number, component_at, is_named}
 use Rattle.adl_ast.specs.declared.file.Item.TheVariants as items
 
 -- what was noted of the bodies of a source, one after another, is noted of its items
@@ -8,6 +8,10 @@ pub noted_bodies : (f : Item → List Fault) (new old : Option Fault) (s : Sourc
 noted_bodies f new old s bs i l e n =
     ap (λ xs. noted new (flat_map (λ (b : Body). f (item_of b)) xs)) (sym (drop_all i bs l)) ∙ n
     ∙ ap (noted old) (sym (flat_map-map f item_of bs) ∙ ap (flat_map f) e ∙ flat_map-map f (λ (x : ItemAt × Item). x.1) (items_of s))
+
+pub is_some-map : {X Y : Type 0} (f : X → Y) (o : Option X) → is_some (option_map f o) ≡ is_some o
+is_some-map f None = refl
+is_some-map f (Some x) = refl
 
 -- what stands at the number of the first that passes the test
 number_at : {X Y : Type 0} (g : X → Option Y) (p : X → Bool) (xs all : List X) (i : ℕ) → ((j : ℕ) → slice_get all (i + j) ≡ slice_get xs j)

@@ -1,5 +1,5 @@
 -- Filling a table of places by the items of a kind: the first of each name, in order.
-use Rattle.adl_names.proofs.Common.{append-nil, option_or-none, drop_all, Source, items_of, ◌≤◌, ◌≡◌, ◌<◌, ◌+◌, ◌⊎◌, ℕ, Bool, true, false, cond, List, length, get_or, drop, [], ◌∷◌, ◌++◌, map, Option, Some, None, option_map, refl, sym, ◌∙◌, ap, subst, append_assoc, inl, inr, filter_map, cons_option, find, option_or, bytes_eq, drop_first, Name, Rises, Item, ItemAt, located, Located}
+use Rattle.adl_names.proofs.Common.{append-nil, option_or-assoc, option_or-none, option_and_then, drop_all, Source, items_of, ◌≤◌, ◌≡◌, ◌<◌, ◌+◌, ◌⊎◌, ℕ, Bool, true, false, cond, List, length, get_or, drop, [], ◌∷◌, ◌++◌, map, Option, Some, None, option_map, refl, sym, ◌∙◌, ap, subst, append_assoc, inl, inr, filter_map, cons_option, find, option_or, bytes_eq, drop_first, Name, Rises, Item, ItemAt, located, Located}
 use Rattle.adl_names.proofs.Rising.{places, rises_drop, rises_items}
 
 -- the place of the first of the name
@@ -11,28 +11,18 @@ pub record AreFilled {T : Type 0} (kind : ItemAt × Item → Option (ItemAt × T
   pub first : (n : Name) → option_or (found n) (first_place name n (filter_map kind rest)) ≡ first_place name n (filter_map kind all)
   pub rises : Rises (order ++ places rest)
 
-pub filled_skip : {T : Type 0} (kind : ItemAt × Item → Option (ItemAt × T)) (name : T → Name) (found : Name → Option ItemAt) (order : List ItemAt) (all : List (ItemAt × Item)) (xs : List (Located Item)) (i : ℕ) (x : Located Item) → i < length xs → x ≡ get_or xs i x
-    → kind (located x) ≡ None → AreFilled kind name found order (map located (drop i xs)) all → AreFilled kind name found order (map located (drop (i + 1) xs)) all
-filled_skip kind name found order all xs i x l e none h =
-    let rest = map located (drop (i + 1) xs) in
-    let P : List (Located Item) → Type 0 = λ z. AreFilled kind name found order (map located z) all in
-    let k = subst P (drop_first xs i x l e) h in
-    record {
-      first = λ n. ap (λ o. option_or (found n) (first_place name n (cons_option o (filter_map kind rest)))) (sym none) ∙ k.first n;
-      rises = rises_drop x.at order (places rest) k.rises;
-    }
-
-pub filled_put : {T : Type 0} (kind : ItemAt × Item → Option (ItemAt × T)) (name : T → Name) (found new : Name → Option ItemAt) (order more : List ItemAt) (all : List (ItemAt × Item)) (xs : List (Located Item)) (i : ℕ) (x : Located Item) (t : T) → i < length xs → x ≡ get_or xs i x
-    → kind (located x) ≡ Some (x.at, t) → ((n : Name) → new n ≡ option_or (found n) (cond (bytes_eq n (name t)) (Some x.at) None)) → (more ≡ order) ⊎ (more ≡ order ++ x.at ∷ [])
+-- an item, where the table has what it is of the kind put, unless the name has one
+pub filled_next : {T : Type 0} (kind : ItemAt × Item → Option (ItemAt × T)) (name : T → Name) (found new : Name → Option ItemAt) (order more : List ItemAt) (all : List (ItemAt × Item)) (xs : List (Located Item)) (i : ℕ) (x : Located Item) (o : Option T) → i < length xs → x ≡ get_or xs i x
+    → kind (located x) ≡ option_map (λ t. (x.at, t)) o → ((n : Name) → new n ≡ option_or (found n) (option_and_then (λ t. cond (bytes_eq n (name t)) (Some x.at) None) o)) → (more ≡ order) ⊎ (more ≡ order ++ x.at ∷ [])
     → AreFilled kind name found order (map located (drop i xs)) all → AreFilled kind name new more (map located (drop (i + 1) xs)) all
-filled_put {T} kind name found new order more all xs i x t l e one put o h =
+filled_next {T} kind name found new order more all xs i x t l e one put o h =
     let rest = map located (drop (i + 1) xs) in
     let P : List (Located Item) → Type 0 = λ z. AreFilled kind name found order (map located z) all in
     let k = subst P (drop_first xs i x l e) h in
     let Q : List ItemAt → Type 0 = λ z. Rises (z ++ places rest) in
     let R : List ItemAt → Type 0 = λ z. Rises z in
     record {
-      first = λ n. ap (λ z. option_or z (first_place name n (filter_map kind rest))) (put n) ∙ by_test n (bytes_eq n (name t)) (found n)
+      first = λ n. ap (λ z. option_or z (first_place name n (filter_map kind rest))) (put n) ∙ option_or-assoc (found n) _ _ ∙ ap (option_or (found n)) (by_kind n t)
           ∙ ap (λ o. option_or (found n) (first_place name n (cons_option o (filter_map kind rest)))) (sym one) ∙ k.first n;
       rises = elim o [
         | inl s ↦ subst Q (sym s) (rises_drop x.at order (places rest) k.rises)
@@ -40,12 +30,13 @@ filled_put {T} kind name found new order more all xs i x t l e one put o h =
       ];
     }
   where
-    by_test : (n : Name) (b : Bool) (o : Option ItemAt) → option_or (option_or o (cond b (Some x.at) None)) (first_place name n (filter_map kind (map located (drop (i + 1) xs))))
-        ≡ option_or o (option_map (λ (p : ItemAt × T). p.0) (cond b (Some (x.at, t)) (find (λ (p : ItemAt × T). bytes_eq n (name p.1)) (filter_map kind (map located (drop (i + 1) xs))))))
-    by_test n true None = refl
-    by_test n true (Some a) = refl
-    by_test n false None = refl
-    by_test n false (Some a) = refl
+    by_test : (n : Name) (t : T) (b : Bool) → option_or (cond b (Some x.at) None) (first_place name n (filter_map kind (map located (drop (i + 1) xs)))) ≡ option_map (λ (p : ItemAt × T). p.0) (cond b (Some (x.at, t)) (find (λ (p : ItemAt × T). bytes_eq n (name p.1)) (filter_map kind (map located (drop (i + 1) xs)))))
+    by_test n t true = refl
+    by_test n t false = refl
+
+    by_kind : (n : Name) (o : Option T) → option_or (option_and_then (λ (t : T). cond (bytes_eq n (name t)) (Some x.at) None) o) (first_place name n (filter_map kind (map located (drop (i + 1) xs)))) ≡ first_place name n (cons_option (option_map (λ (t : T). (x.at, t)) o) (filter_map kind (map located (drop (i + 1) xs))))
+    by_kind n None = refl
+    by_kind n (Some t) = by_test n t (bytes_eq n (name t))
 
 pub filled_none : {T : Type 0} (kind : ItemAt × Item → Option (ItemAt × T)) (name : T → Name) (found : Name → Option ItemAt) (order : List ItemAt) (s : Source) (xs : List (Located Item)) → map located xs ≡ items_of s → ((n : Name) → found n ≡ None) → order ≡ []
     → AreFilled kind name found order (map located xs) (map located xs)

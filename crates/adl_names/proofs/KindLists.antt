@@ -1,7 +1,6 @@
 -- Loops over lists in which some elements are of a kind.
-use Rattle.adl_names.proofs.Common.{◌≡◌, ◌∙◌, ◌++◌, ◌<◌, ◌+◌, ℕ, List, [], ◌∷◌, length, get_or, drop, Option, Some, None, refl, sym, ap, append_assoc, flat_map, filter_map, cons_option, Fault, drop_first, Member, Composition, Method, ProcMember, as_method, noted, as_composition, noted-append}
+use Rattle.adl_names.proofs.Common.{◌≡◌, ◌∙◌, ◌++◌, ◌<◌, ◌+◌, ℕ, List, [], ◌∷◌, length, get_or, drop, Option, Some, None, refl, sym, ap, append_assoc, filter_map, cons_option, drop_first, Member, Composition, as_composition}
 use Rattle.adl_ast.specs.declared.component.Member.TheVariants as members
-use Rattle.adl_ast.specs.declared.procedure.ProcMember.TheVariants as parts
 
 pub no_composition : (m : Member) → ((k : Composition) → m ≡ members.Composition k → ⊥) → as_composition m ≡ None
 no_composition (members.Control p) h = refl
@@ -13,19 +12,11 @@ no_composition (members.Lock l) h = refl
 no_composition (members.Composition k) h = absurd (h k refl)
 no_composition (members.Configuration f) h = refl
 
-pub no_method : (m : ProcMember) → ((k : Method) → m ≡ parts.Method k → ⊥) → as_method m ≡ None
-no_method (parts.Include i) h = refl
-no_method (parts.Method k) h = absurd (h k refl)
-
 pub drop_none : {X Y : Type 0} (kind : X → Option Y) (xs : List X) (i : ℕ) (x : X) → i < length xs → x ≡ get_or xs i x → kind x ≡ None → filter_map kind (drop (i + 1) xs) ≡ filter_map kind (drop i xs)
 drop_none kind xs i x l e is = ap (λ o. cons_option o (filter_map kind (drop (i + 1) xs))) (sym is) ∙ ap (filter_map kind) (sym (drop_first xs i x l e))
 
 pub drop_some : {X Y : Type 0} (kind : X → Option Y) (xs : List X) (i : ℕ) (x : X) (y : Y) → i < length xs → x ≡ get_or xs i x → kind x ≡ Some y → y ∷ filter_map kind (drop (i + 1) xs) ≡ filter_map kind (drop i xs)
 drop_some kind xs i x y l e is = ap (λ o. cons_option o (filter_map kind (drop (i + 1) xs))) (sym is) ∙ ap (filter_map kind) (sym (drop_first xs i x l e))
-
--- noting what an element gives, and then those behind it
-pub noted_one : {Y : Type 0} (f : Y → List Fault) (new old : Option Fault) (y : Y) (rest all : List Y) → y ∷ rest ≡ all → new ≡ noted old (f y) → noted new (flat_map f rest) ≡ noted old (flat_map f all)
-noted_one f new old y rest all e n = ap (λ o. noted o (flat_map f rest)) n ∙ sym (noted-append old (f y) (flat_map f rest)) ∙ ap (λ z. noted old (flat_map f z)) e
 
 -- pushing an element, and then those behind it
 pub pushed_one : {Y : Type 0} (new old : List Y) (y z : Y) (rest all : List Y) → y ∷ rest ≡ all → z ≡ y → new ≡ old ++ z ∷ [] → new ++ rest ≡ old ++ all

@@ -5,5 +5,4 @@ pub mod KindLists
 pub mod PortSets
 pub mod Recurring
 pub mod Rising
-pub mod TableSteps
 pub mod Whole

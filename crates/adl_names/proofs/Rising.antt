@@ -1,5 +1,5 @@
 -- The places of items rise.
-use Rattle.adl_names.proofs.Common.{◌≡◌, ◌+◌, ℕ, true, false, List, [], ◌∷◌, ◌++◌, map, arith, nat_tests, flat_map, enumerate_from, AllByRecursion, Ended, Item, Source, SourceFile, ItemAt, Rises, items_in, items_of, stands_before}
+use Rattle.adl_names.proofs.Common.{◌≡◌, ◌+◌, ◌<◌, ◌≤◌, ℕ, true, List, [], ◌∷◌, ◌++◌, map, arith, nat_tests, flat_map, enumerate_from, AllByRecursion, Ended, Item, Source, SourceFile, ItemAt, Rises, items_in, items_of, stands_before}
 
 -- the places of things
 abbrev pub places : {X : Type 0} → List (ItemAt × X) → List ItemAt
@@ -23,47 +23,31 @@ rises_drop b (x ∷ xs) ys h = (before_drop x b xs ys h.0, rises_drop b xs ys h.
 abbrev place : ℕ → ℕ → ItemAt
 place f i = record { file = f; item = i }
 
--- each stands behind the one in front of it, and none before item i of file f
-abbrev From : ℕ → ℕ → List (ItemAt × Item) → Type 0
-From f i [] = Unit {0}
-From f i (x ∷ xs) = (stands_before x.0 (place f i) ≡ false) × From x.0.file (x.0.item + 1) xs
+-- the items of a file from this one on
+abbrev in_file : ℕ → ℕ → List Ended → List (ItemAt × Item)
+in_file f i es = map (λ e. (place f e.0, e.1.item)) (enumerate_from i es)
 
-not_itself : (f i : ℕ) → stands_before (place f i) (place f i) ≡ false
-not_itself f i = grind (arith, nat_tests)
+in_one : (f i j : ℕ) → i < j → stands_before (place f i) (place f j) ≡ true
+in_one f i j l = grind (arith, nat_tests)
 
-before_next : (a : ItemAt) → stands_before a (place a.file (a.item + 1)) ≡ true
-before_next a = grind (arith, nat_tests)
+in_later : (f i g j : ℕ) → f < g → stands_before (place f i) (place g j) ≡ true
+in_later f i g j l = grind (arith, nat_tests)
 
-before_chain : (a b c : ItemAt) → stands_before a c ≡ true → stands_before b c ≡ false → stands_before a b ≡ true
-before_chain a b c h k = grind (arith, nat_tests)
+before_file : (a : ItemAt) (f i : ℕ) (es : List Ended) (more : List (ItemAt × Item)) → ((j : ℕ) → i ≤ j → stands_before a (place f j) ≡ true) → Before a (places more) → Before a (places (in_file f i es ++ more))
+before_file a f i [] more h m = m
+before_file a f i (e ∷ es) more h m = (h i (omega arith), before_file a f (i + 1) es more (λ j l. h j (omega (arith, l))) m)
 
-before_more : (a b : ItemAt) → stands_before a b ≡ true → stands_before a (place b.file (b.item + 1)) ≡ true
-before_more a b h = grind (arith, nat_tests)
+before_files : (f i g : ℕ) (fs : List SourceFile) → f < g → Before (place f i) (places (flat_map items_in (enumerate_from g fs)))
+before_files f i g [] l = tt
+before_files f i g (x ∷ fs) l = before_file (place f i) g 0 x.tree.items (flat_map items_in (enumerate_from (g + 1) fs)) (λ j k. in_later f i g j l) (before_files f i (g + 1) fs (omega (arith, l)))
 
-not_before : (b : ItemAt) (f j : ℕ) → stands_before b (place (f + 1) 0) ≡ false → stands_before b (place f j) ≡ false
-not_before b f j h = grind (arith, nat_tests)
+rises_file : (f i : ℕ) (es : List Ended) (more : List (ItemAt × Item)) → ((j : ℕ) → Before (place f j) (places more)) → Rises (places more) → Rises (places (in_file f i es ++ more))
+rises_file f i [] more h r = r
+rises_file f i (e ∷ es) more h r = (before_file (place f i) f (i + 1) es more (λ j l. in_one f i j (omega (arith, l))) (h i), rises_file f (i + 1) es more h r)
 
-before_all : (a : ItemAt) (f i : ℕ) (xs : List (ItemAt × Item)) → stands_before a (place f i) ≡ true → From f i xs → Before a (places xs)
-before_all a f i [] l h = tt
-before_all a f i (x ∷ xs) l h = let k = before_chain a x.0 (place f i) l h.0 in (k, before_all a x.0.file (x.0.item + 1) xs (before_more a x.0 k) h.1)
-
-rises_from : (f i : ℕ) (xs : List (ItemAt × Item)) → From f i xs → Rises (places xs)
-rises_from f i [] h = tt
-rises_from f i (x ∷ xs) h = (before_all x.0 x.0.file (x.0.item + 1) xs (before_next x.0) h.1, rises_from x.0.file (x.0.item + 1) xs h.1)
-
-from_before : (f j : ℕ) (xs : List (ItemAt × Item)) → From (f + 1) 0 xs → From f j xs
-from_before f j [] h = tt
-from_before f j (x ∷ xs) h = (not_before x.0 f j h.0, h.1)
-
-from_file : (f i : ℕ) (es : List Ended) (more : List (ItemAt × Item)) → ((j : ℕ) → From f j more) → From f i (map (λ e. (place f e.0, e.1.item)) (enumerate_from i es) ++ more)
-from_file f i [] more h = h i
-from_file f i (e ∷ es) more h = (not_itself f i, from_file f (i + 1) es more h)
-
-from_files : (f : ℕ) (fs : List SourceFile) → From f 0 (flat_map items_in (enumerate_from f fs))
-from_files f [] = tt
-from_files f (x ∷ fs) =
-    let more = flat_map items_in (enumerate_from (f + 1) fs) in
-    from_file f 0 x.tree.items more (λ j. from_before f j more (from_files (f + 1) fs))
+rises_files : (f : ℕ) (fs : List SourceFile) → Rises (places (flat_map items_in (enumerate_from f fs)))
+rises_files f [] = tt
+rises_files f (x ∷ fs) = rises_file f 0 x.tree.items (flat_map items_in (enumerate_from (f + 1) fs)) (λ j. before_files f j (f + 1) fs (omega arith)) (rises_files (f + 1) fs)
 
 pub rises_items : (s : Source) → Rises (places (items_of s))
-rises_items s = rises_from 0 0 (items_of s) (from_files 0 s.files)
+rises_items s = rises_files 0 s.files

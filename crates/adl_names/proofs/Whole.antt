@@ -1,11 +1,11 @@
 -- From the passes over sorted items to the faults of a source.
-use Rattle.adl_names.proofs.Common.{names_sound, first_name_fault, ◌≡◌, ◌<◌, List, length, [], ◌∷◌, ◌++◌, map, Option, None, sym, ◌∙◌, ap, arith, get_or, Fault, Source, noted, ItemAt, located, Located, Assembly, least, noted-none, noted_then, assemblies, one_assembly}
+use Rattle.adl_names.proofs.Common.{names_sound, first_name_fault, ◌≡◌, ◌<◌, List, length, [], ◌∷◌, map, None, sym, ◌∙◌, ap, arith, get_or, Fault, Source, noted, ItemAt, located, Located, Assembly, least, noted-append, noted-none, assemblies, one_assembly}
 
--- lists noted one after another, from nothing, give the first fault of all
-pub all_noted : (a b c d e f : List Fault) (o p q r t u v : Option Fault) → o ≡ None → p ≡ noted o a → q ≡ noted p b → r ≡ noted q c → t ≡ noted r d → u ≡ noted t e → v ≡ noted u f → v ≡ least (a ++ b ++ c ++ d ++ e ++ f)
-all_noted a b c d e f o p q r t u v oe pe qe re te ue ve =
-    noted_then v u o (a ++ b ++ c ++ d ++ e) f (noted_then u t o (a ++ b ++ c ++ d) e (noted_then t r o (a ++ b ++ c) d (noted_then r q o (a ++ b) c (noted_then q p o a b pe qe) re) te) ue) ve
-    ∙ ap (λ z. noted z (a ++ b ++ c ++ d ++ e ++ f)) oe ∙ noted-none (a ++ b ++ c ++ d ++ e ++ f)
+-- what is noted from nothing, list by list, is the first fault of all
+pub least-noted : (xs : List Fault) → least xs ≡ noted None xs
+least-noted xs = sym (noted-none xs)
+
+pub ruleset noting = (noted-append, least-noted)
 
 -- where no fault of names is first there is one assembly, the first
 pub the_assembly : (xs : List (Located Assembly)) (s : Source) → map located xs ≡ assemblies s → first_name_fault s ≡ None → (0 < length xs) × ((d : Located Assembly) → map (λ a. a.0) (assemblies s) ≡ (get_or xs 0 d).at ∷ [])

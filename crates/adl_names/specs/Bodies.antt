@@ -1,6 +1,6 @@
 -- The items of a source, with what the names in them stand for.
-use Rattle.adl_names.specs.Words.{find, enumerate_from, slice_get, option_and_then, option_copied, option_map_or, Bor, bytes_eq, Component, Item, Source, Name, items_of, component_of, Known, known_of, is_procedure, is_among, found}
-use Rattle.std.specs.Prelude.{◌≡◌, ℕ, Bool, false, List, Option, Some, None, map, option_map}
+use Rattle.adl_names.specs.Words.{find, enumerate_from, slice_get, option_and_then, option_copied, option_map_or, Bor, bytes_eq, Component, Item, Source, Name, items_of, component_of, Known, known_of, is_procedure, found}
+use Rattle.std.specs.Prelude.{◌≡◌, ℕ, Bool, false, List, Option, Some, None, is_some, map, option_map}
 use Rattle.adl_ast.specs.declared.file.Item.TheVariants as items
 use Rattle.adl_names.specs.declared.bodies.Body.{Body}
 use Rattle.adl_names.specs.declared.bodies.Body.TheVariants as body
@@ -29,10 +29,10 @@ abbrev pub component_at : List Body → Option ℕ → Option Component
 component_at bodies number = option_and_then (λ k. option_and_then (λ b. item_component (item_of b)) (slice_get bodies k)) number
 
 -- the tables tell what the names of a source stand for
-pub record AreKnown (bodies : List Body) (numbers : List (Name × ℕ)) (procedures : List Name) (s : Source) : Type 0 where
+pub record AreKnown (bodies : List Body) (numbers : List (Name × ℕ)) (procedures : List (Name × Unit {0})) (s : Source) : Type 0 where
   pub items_are : map item_of bodies ≡ map (λ x. x.1) (items_of s)
   pub components : (n : Name) → component_at bodies (found numbers n) ≡ component_of s n
-  pub are_procedures : (n : Name) → is_among procedures n ≡ is_procedure s n
+  pub are_procedures : (n : Name) → is_some (found procedures n) ≡ is_procedure s n
 
 -- what is known of the component that has a composition; an assembly is none
 abbrev pub owner_of : Option (Bor Component) → Option Known

@@ -1,6 +1,5 @@
 pub mod Bodies
 pub mod Laters
-pub mod Places
 pub mod Ports
 pub mod Scopes
 pub mod Tables

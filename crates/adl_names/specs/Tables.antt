@@ -1,6 +1,6 @@
 -- What tables of trees tell, as definitions speak of it.
-use Rattle.adl_names.specs.Words.{slice_get, Component, Composition, an_instance, a_group, a_connection, held_as, member_of, is_exported, Name, compositions, declared_as, is_among, found, declaring_told, Declared, Bor, Group, Instance}
-use Rattle.std.specs.Prelude.{◌≡◌, Bool, List, Option, is_some, option_map}
+use Rattle.adl_names.specs.Words.{BuildHasherDefault, FoldHasher, IndexMap, ItemAt, slice_get, Component, Composition, an_instance, a_group, a_connection, held_as, member_of, is_exported, Name, compositions, declared_as, is_among, found, declaring_told, Declared, Bor, Group, Instance}
+use Rattle.std.specs.Prelude.{◌≡◌, Bool, List, Option, is_some, map, option_map}
 use Rattle.adl_meaning.specs.Holding as holding
 use Rattle.adl_names.specs.declared.tables.Held.{Held}
 use Rattle.adl_names.specs.declared.tables.Held.TheVariants as held
@@ -33,3 +33,7 @@ pub record AreTold (declared : List (Name × Declared)) (holdings : List Composi
   pub declares : (n : Name) → declaring_told declared n ≡ declared_as c n
   pub holds : holdings ≡ compositions c
   pub exports : (n : Name) → is_among targets n ≡ is_exported (slice_get holdings 0) n
+
+-- the places that a table of names has, in the order of its entries
+abbrev pub table_places : IndexMap Name ItemAt (BuildHasherDefault FoldHasher) → List ItemAt
+table_places table = map (λ e. e.1) table.entries

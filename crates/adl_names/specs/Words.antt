@@ -13,9 +13,9 @@ pub use Rattle.adl_items.specs.Firsts.{first_named}
 pub use Rattle.adl_items.specs.Located.{located, trees}
 pub use Rattle.adl_items.specs.Pointed.{pointed}
 pub use Rattle.adl_items.specs.declared.component.Declared.{Declared}
-pub use Rattle.adl_meaning.specs.CompositeBody.{body_fault, composite_bodies, is_composite, is_composition, misplaced_in_component, misplaced_in_item, misplaced_member}
-pub use Rattle.adl_meaning.specs.Duplicate.{again, duplicates, duplicates_in_component, duplicates_in_composition, duplicates_in_item, duplicates_in_procedure, methods, repeats, repeats_after}
-pub use Rattle.adl_meaning.specs.Export.{Port, differs, export_fault, inner_of, interface_at, is_misfit_at, is_port, is_unled, misfit_exports, misfits_after, misfits_in_composition, misfits_in_item, port_of}
+pub use Rattle.adl_meaning.specs.CompositeBody.{composite_bodies, is_composite, is_composition, misplaced_in_item, misplaced_member}
+pub use Rattle.adl_meaning.specs.Duplicate.{again, duplicates, duplicates_in_component, duplicates_in_composition, duplicates_in_item, duplicates_in_procedure, repeats, repeats_after}
+pub use Rattle.adl_meaning.specs.Export.{Port, differs, export_fault, inner_of, interface_at, is_port, is_unled, misfit_exports, misfits_after, misfits_in_composition, misfits_in_item, port_of}
 pub use Rattle.adl_meaning.specs.Faults.{Refuses, at_keyword, noted, where_true}
 pub use Rattle.adl_meaning.specs.Holding.{Held, a_connection, a_group, an_instance, as_held, exports_in, held_as, held_by, member_of}
 pub use Rattle.adl_meaning.specs.Items.{AreFew, Name, Rises, as_component, assemblies, component_named, component_of, items_of, procedure_named, procedures}
@@ -25,7 +25,7 @@ pub use Rattle.adl_meaning.specs.NameFaults.{first_name_fault}
 pub use Rattle.adl_meaning.specs.NoAssembly.{none_of}
 pub use Rattle.adl_meaning.specs.Recursive.{graph_of, instances_of, recursive_in, recursive_types, types_of}
 pub use Rattle.adl_meaning.specs.SecondAssembly.{second_of}
-pub use Rattle.adl_meaning.specs.Unknown.{is_procedure, names_procedure, scope_behind, scope_of_held, scope_of_known, unknown_attribute, unknown_group, unknown_in_composition, unknown_in_configuration, unknown_in_dotted, unknown_in_item, unknown_in_line, unknown_in_member, unknown_in_setting, unknown_inner, unknown_interface, unknown_last, unknown_names, unknown_word, unless_known}
+pub use Rattle.adl_meaning.specs.Unknown.{is_procedure, names_procedure, scope_behind, scope_of_held, scope_of_known, unknown_attribute, unknown_in_composition, unknown_in_configuration, unknown_in_dotted, unknown_in_item, unknown_in_line, unknown_in_member, unknown_in_setting, unknown_inner, unknown_interface, unknown_names, unknown_word, unless_known}
 pub use Rattle.adl_meaning.specs.declared.item_at.ItemAt.{ItemAt}
 pub use Rattle.cam_base.specs.declared.place.Fault.{Fault}
 pub use Rattle.cam_base.specs.declared.place.Place.{Place}

@@ -1,16 +1,16 @@
 //! The items of a source, with what the names in them stand for.
 
-ghost use Rattle.adl_names.specs.Words.{as_component, trees, repeats, duplicates, duplicates_in_item, noted, items_of, procedures, component_of, is_procedure, located, is_among, found, filter_map, flat_map, find, option_copied, bytes_eq};
-ghost use Rattle.std.specs.Prelude.{◌≡◌, ℕ, List as Seq, map, is_some, IfOk, OnOk};
+ghost use Rattle.adl_names.specs.Words.{Fault, as_component, trees, repeats, duplicates, duplicates_in_item, noted, items_of, procedures, component_of, is_procedure, located, found, filter_map, flat_map, find, option_copied, bytes_eq};
+ghost use Rattle.std.specs.Prelude.{◌≡◌, ◌++◌, ℕ, List as Seq, map, option_map, IfOk, OnOk};
 ghost use Rattle.adl_names.specs.Bodies.{item_of, item_number};
 
-use crate::repeats::{meet, note_procedure, put};
+use crate::repeats::{note_procedure, put};
 use crate::tables::{ComponentTable, Holding};
 use adl_ast::{Assembly, Import, Item, Procedure, Source};
 use adl_items::{Located, SourceItems};
 use adl_meaning::Earliest;
 use cam_base::{Name, NoMemory};
-use name_tables::{NameSet, NameTable};
+use name_tables::NameTable;
 use std::alloc::Global;
 use std::marker::Model;
 
@@ -31,7 +31,7 @@ pub struct SourceTables<'a> {
     bodies: Vec<Body<'a>>,
     /// The number of the first component of each name.
     components: NameTable<'a, usize>,
-    procedures: NameSet<'a>,
+    procedures: NameTable<'a, ()>,
 }
 
 impl<'a> Model for SourceTables<'a> {
@@ -57,7 +57,7 @@ fn body_of<'a>(
     item: &'a Item,
     first: &mut Earliest<'a>,
 ) -> Result<Body<'a>, NoMemory>
-    ensures noted { OnOk result (first.new ≡ noted first.old (duplicates_in_item item.entry.now)) }
+    ensures noted { OnOk result ((more : Seq Fault) → noted first.new more ≡ noted first.old (duplicates_in_item item.entry.now ++ more)) }
     ensures body { IfOk result (λ b. item_of b ≡ item.entry.now) }
 {
     match item {
@@ -114,14 +114,14 @@ fn procedure_names<'a>(
     alloc: Global,
     procedures: &[Located<'a, Procedure>],
     first: &mut Earliest<'a>,
-) -> Result<NameSet<'a>, NoMemory>
+) -> Result<NameTable<'a, ()>, NoMemory>
     ensures noted { OnOk result (first.new ≡ noted first.old (repeats (map (λ p. p.1.id) (map located procedures.now)))) }
-    ensures names { IfOk result (λ t. (n : Seq ℕ) → is_among t n
-        ≡ is_some (find (λ p. bytes_eq n p.1.id.name) (map located procedures.now))) }
+    ensures names { IfOk result (λ t. (n : Seq ℕ) → found t n
+        ≡ option_map (λ p. tt) (find (λ p. bytes_eq n p.1.id.name) (map located procedures.now))) }
 {
-    let mut names = NameSet::new(alloc);
+    let mut names = NameTable::new(alloc);
     for x in procedures {
-        meet(&x.item.id, &mut names, first)?;
+        put(&x.item.id, (), &mut names, first)?;
     }
     Ok(names)
 }
@@ -151,12 +151,10 @@ impl<'a> SourceTables<'a> {
     pub fn component(&self, name: &Name) -> Option<&ComponentTable<'a>>
         ensures { option_copied result ≡ component_of self.now name.now }
     {
-        match self.components.get(name) {
-            None => None,
-            Some(number) => match self.bodies.as_slice().get(*number) {
-                Some(Body::Component(table)) => Some(table),
-                _ => None,
-            },
+        let number = self.components.get(name)?;
+        match self.bodies.as_slice().get(*number) {
+            Some(Body::Component(table)) => Some(table),
+            _ => None,
         }
     }
 
@@ -164,7 +162,7 @@ impl<'a> SourceTables<'a> {
     pub fn is_procedure(&self, name: &Name) -> bool
         ensures { result ≡ is_procedure self.now name.now }
     {
-        self.procedures.contains(name)
+        self.procedures.get(name).is_some()
     }
 
     /// The items, in their order.

@@ -1,8 +1,8 @@
 //! Exports that fit no interface, and ports of composites that no export gives.
 
-ghost use Rattle.adl_names.specs.Words.{Export as ExportOf, Port as PortOf, port_of, interface_at, differs, is_unled, inner_of, is_port, export_fault, is_misfit_at, misfits_after, misfits_in_composition, misfits_in_item, misfit_exports, noted, where_true, held_as, exports_in, known_in, is_among, option_copied, option_and_then, option_map_or};
-ghost use Rattle.std.specs.Prelude.{◌≡◌, ◌||◌, ◌∷◌, List as Seq, false, option_map, OnOk};
-ghost use Rattle.adl_names.specs.Bodies.{owner_of, item_of};
+ghost use Rattle.adl_names.specs.Words.{Fault, Export as ExportOf, Port as PortOf, port_of, interface_at, differs, is_unled, inner_of, is_port, export_fault, misfits_after, misfits_in_composition, misfit_exports, noted, where_true, held_as, exports_in, known_in, option_copied, option_and_then, option_map_or};
+ghost use Rattle.std.specs.Prelude.{◌≡◌, ◌||◌, ◌∷◌, ◌++◌, List as Seq, false, option_map, IfOk, OnOk};
+ghost use Rattle.adl_names.specs.Bodies.{owner_of};
 ghost use Rattle.adl_names.specs.Ports.{as_port, is_port_among, misfits_from};
 
 use crate::bodies::{Body, SourceTables};
@@ -72,8 +72,7 @@ fn differs(inner: Option<&Interface>, target: Option<&Interface>) -> bool
                 && (a.word.name == b.word.name
                     && a.size.unwrap_or(DEFAULT_SIZE) == b.size.unwrap_or(DEFAULT_SIZE)))
         }
-        (Some(_), None) => false,
-        (None, _) => false,
+        _ => false,
     }
 }
 
@@ -99,46 +98,20 @@ fn inner_of<'a>(tables: &SourceTables<'a>, port: Option<Port<'a>>) -> Option<Por
     port
 }
 
-/// Whether there is a port, and it is taken.
-fn is_taken<'a>(taken: &Taken<'a>, port: Option<Port<'a>>) -> bool
-    ensures { result ≡ option_map_or (is_port_among taken.now.inners.keys) (option_map as_port port.entry) false }
-{
-    let Some(port) = port else {
-        return false;
-    };
-    let key = (port.instance.id.place.first, port.interface.as_bytes());
-    taken.inners.contains(&key)
-}
-
-/// Takes the port, if there is one.
-fn take<'a>(inners: &mut IndexSet<(u64, &'a [u8])>, port: Option<Port<'a>>) -> Result<(), NoMemory>
-    ensures { OnOk result ((p : PortOf) → is_port_among inners.new.keys p
+/// Takes the port, if there is one, and answers whether it was taken.
+fn take<'a>(
+    inners: &mut IndexSet<(u64, &'a [u8])>,
+    port: Option<Port<'a>>,
+) -> Result<bool, NoMemory>
+    ensures met { IfOk result (λ met. met ≡ option_map_or (is_port_among inners.old.keys) (option_map as_port port.entry) false) }
+    ensures taken { OnOk result ((p : PortOf) → is_port_among inners.new.keys p
         ≡ (is_port_among inners.old.keys p || is_port (option_map as_port port.entry) p)) }
 {
     let Some(port) = port else {
-        return Ok(());
+        return Ok(false);
     };
-    inners.insert((port.instance.id.place.first, port.interface.as_bytes()))?;
-    Ok(())
-}
-
-/// Whether the export is at fault, behind those that have taken these.
-fn is_misfit<'a>(
-    tables: &SourceTables<'a>,
-    owner: Option<&ComponentTable<'a>>,
-    port: Option<Port<'a>>,
-    taken: &Taken<'a>,
-    export: &Export,
-) -> bool
-    ensures { result
-        ≡ is_misfit_at (known_in tables.now) (owner_of owner.entry) (option_map as_port port.entry)
-        (is_among taken.now.targets) (is_port_among taken.now.inners.keys) export.now }
-{
-    let name = &export.target.name;
-    owner.is_none()
-        || (differs(interface_at(tables, port), target(owner, name))
-            || (taken.targets.contains(name)
-                || (is_taken(taken, inner_of(tables, port)) || is_unled(tables, port))))
+    let is_new = inners.insert((port.instance.id.place.first, port.interface.as_bytes()))?;
+    Ok(!is_new)
 }
 
 fn note_wrong<'a>(is_wrong: bool, words: &'a [Id], place: Place, first: &mut Earliest<'a>)
@@ -162,10 +135,13 @@ fn note_export<'a>(
         (export.entry.now ∷ more))) }
 {
     let port = port_of(holding, export.words.as_slice());
-    let is_wrong = is_misfit(tables, owner, port, taken, export);
+    let name = &export.target.name;
+    let differs = differs(interface_at(tables, port), target(owner, name));
+    let is_met = taken.targets.put(name)?;
+    let is_taken = take(&mut taken.inners, inner_of(tables, port))?;
+    let is_unled = is_unled(tables, port);
+    let is_wrong = owner.is_none() || (differs || (is_met || (is_taken || is_unled)));
     note_wrong(is_wrong, export.words.as_slice(), export.place, first);
-    taken.targets.insert(&export.target.name)?;
-    take(&mut taken.inners, inner_of(tables, port))?;
     Ok(())
 }
 
@@ -192,7 +168,6 @@ fn note_exports<'a>(
     Ok(())
 }
 
-#[tactic(auto, using(adl_meaning::proofs::Noting::noting))]
 fn note_composition<'a>(
     alloc: Global,
     tables: &SourceTables<'a>,
@@ -200,42 +175,18 @@ fn note_composition<'a>(
     holding: &Holding<'a>,
     first: &mut Earliest<'a>,
 ) -> Result<(), NoMemory>
-    ensures { OnOk result (first.new
-        ≡ noted first.old (misfits_in_composition (known_in tables.now) (owner_of owner.entry) holding.now)) }
+    ensures { OnOk result ((more : Seq Fault) → noted first.new more
+        ≡ noted first.old (misfits_in_composition (known_in tables.now) (owner_of owner.entry) holding.now ++ more)) }
 {
     note_exports(alloc, tables, owner, holding, first)?;
     for line in holding.composition.lines.as_slice() {
         if let Line::Connection(connection) = line {
             for end in connection.ends.as_slice() {
-                let port = port_of(holding, end.words.as_slice());
-                note_wrong(
-                    is_unled(tables, port),
-                    end.words.as_slice(),
-                    end.place,
-                    first,
-                );
+                let words = end.words.as_slice();
+                let is_wrong = is_unled(tables, port_of(holding, words));
+                note_wrong(is_wrong, words, end.place, first);
             }
         }
-    }
-    Ok(())
-}
-
-fn note_body<'a>(
-    alloc: Global,
-    tables: &SourceTables<'a>,
-    body: &Body<'a>,
-    first: &mut Earliest<'a>,
-) -> Result<(), NoMemory>
-    ensures { OnOk result (first.new ≡ noted first.old (misfits_in_item (known_in tables.now) (item_of body.now))) }
-{
-    match body {
-        Body::Import(_) | Body::Procedure(_) => (),
-        Body::Component(table) => {
-            for holding in table.holdings() {
-                note_composition(alloc, tables, Some(table), holding, first)?;
-            }
-        }
-        Body::Assembly(_, holding) => note_composition(alloc, tables, None, holding, first)?,
     }
     Ok(())
 }
@@ -249,7 +200,15 @@ pub fn note_misfits<'a>(
     ensures { OnOk result (first.new ≡ noted first.old (misfit_exports tables.now)) }
 {
     for body in tables.bodies() {
-        note_body(alloc, tables, body, first)?;
+        match body {
+            Body::Import(_) | Body::Procedure(_) => (),
+            Body::Component(table) => {
+                for holding in table.holdings() {
+                    note_composition(alloc, tables, Some(table), holding, first)?;
+                }
+            }
+            Body::Assembly(_, holding) => note_composition(alloc, tables, None, holding, first)?,
+        }
     }
     Ok(())
 }

@@ -2,7 +2,7 @@
 //!
 //! Nothing here reads a file or looks at what names are good for. The faults of names are definitions of `adl_meaning`;
 //! each pass here notes what one of them gives.
-#![tactic(auto)]
+#![tactic(auto, using(std::proofs::lemmas::Grind::common_steps, adl_meaning::proofs::Noting::noting))]
 
 mod bodies;
 mod exports;

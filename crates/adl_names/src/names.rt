@@ -2,7 +2,7 @@
 
 ghost use Rattle.adl_names.specs.Words.{noted, Refuses, assemblies, procedure_named, component_named, AreFew, Rises, first_name_fault, second_of, none_of, located, get, option_or, bytes_eq};
 ghost use Rattle.std.specs.Prelude.{◌≡◌, ◌⊎◌, ◌∷◌, ◌++◌, ℕ, List as Seq, [], None, Some, if◌then◌else◌, map, option_map, OnOk, IfOk};
-ghost use Rattle.adl_names.specs.Places.{table_places};
+ghost use Rattle.adl_names.specs.Tables.{table_places};
 
 use crate::bodies::SourceTables;
 use crate::exports::note_misfits;
@@ -34,6 +34,7 @@ fn note_assemblies<'a>(assemblies: &[Located<'a, Assembly>], first: &mut Earlies
 }
 
 /// The first fault of names that stands in a source.
+#[tactic(auto, using(crate::proofs::Whole::noting))]
 fn first_fault<'a>(alloc: Global, items: &SourceItems<'a>) -> Result<Earliest<'a>, NoMemory>
     ensures { IfOk result (λ first. first ≡ first_name_fault items.now) }
 {
@@ -97,6 +98,7 @@ pub fn resolve(alloc: Global, source: &Source) -> Result<Names, Refused<Fault>>
 {
     let items = SourceItems::of(alloc, source)?;
     first_fault(alloc, &items)?.refuse(alloc)?;
+    let assembly = items.assemblies()[0].at;
     let mut procedures = IndexMap::new(alloc);
     let mut components = IndexMap::new(alloc);
     for x in items.items() {
@@ -110,6 +112,6 @@ pub fn resolve(alloc: Global, source: &Source) -> Result<Names, Refused<Fault>>
     Ok(Names {
         procedures,
         components,
-        assembly: items.assemblies()[0].at,
+        assembly,
     })
 }

@@ -1,32 +1,16 @@
 //! Instances whose type is the component that they stand in, or holds it.
 
-ghost use Rattle.adl_names.specs.Words.{trees, pointed, noted, instances_of, types_of, graph_of, recursive_in, recursive_types, found, flat_map, enumerate_from};
-ghost use Rattle.std.specs.Prelude.{◌≡◌, ◌<◌, ◌^◌, ◌++◌, length, IfOk, OnOk};
+ghost use Rattle.adl_names.specs.Words.{Fault, trees, pointed, noted, instances_of, types_of, graph_of, recursive_in, recursive_types, found, flat_map, enumerate_from};
+ghost use Rattle.std.specs.Prelude.{◌≡◌, ◌<◌, ◌^◌, ◌++◌, List as Seq, length, IfOk, OnOk};
 ghost use Rattle.adl_meaning.specs.Graph.{inner_of};
-ghost use Rattle.adl_meaning.specs.Holding.{instances_in};
 
-use adl_ast::{Component, Composition, Instance, Member};
+use adl_ast::{Component, Instance, Member};
 use adl_items::{Located, SourceItems, component_numbers, instances_by};
 use adl_meaning::Earliest;
 use cam_base::{Code, List, NoMemory};
 use component_graph::Cycles;
 use name_tables::NameTable;
 use std::alloc::Global;
-
-/// Adds the instances of a composition, in groups or not.
-fn push_composition<'a>(
-    composition: &'a Composition,
-    found: &mut Vec<&'a Instance>,
-) -> Result<(), NoMemory>
-    ensures { OnOk result (pointed found.new.items ≡ pointed found.old.items ++ instances_in composition.now) }
-{
-    for line in composition.lines.as_slice() {
-        for instance in instances_by(line) {
-            found.push(instance)?;
-        }
-    }
-    Ok(())
-}
 
 /// The instances of a component, in each of its compositions.
 fn instances<'a>(alloc: Global, component: &'a Component) -> Result<Vec<&'a Instance>, NoMemory>
@@ -35,7 +19,11 @@ fn instances<'a>(alloc: Global, component: &'a Component) -> Result<Vec<&'a Inst
     let mut found = Vec::new(alloc);
     for member in component.members.as_slice() {
         if let Member::Composition(composition) = member {
-            push_composition(composition, &mut found)?;
+            for line in composition.lines.as_slice() {
+                for instance in instances_by(line) {
+                    found.push(instance)?;
+                }
+            }
         }
     }
     Ok(found)
@@ -85,7 +73,8 @@ fn note_component<'a>(
 ) -> Result<(), NoMemory>
     requires number { number < length cycles.now }
     requires types { inner_of cycles.now number ≡ types_of (found numbers.now) component.now }
-    ensures { OnOk result (first.new ≡ noted first.old (recursive_in (found numbers.now) cycles.now number component.entry.now)) }
+    ensures { OnOk result ((more : Seq Fault) → noted first.new more
+        ≡ noted first.old (recursive_in (found numbers.now) cycles.now number component.entry.now ++ more)) }
 {
     let instances = instances(alloc, component)?;
     for instance in instances.as_slice() {

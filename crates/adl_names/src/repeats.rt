@@ -1,13 +1,13 @@
 //! Later ones of equal names, and second compositions and configurations.
 
-ghost use Rattle.adl_names.specs.Words.{Id as Word, methods, again, repeats, repeats_after, duplicates_in_procedure, noted, compositions, configurations, is_among, found, option_or, bytes_eq};
-ghost use Rattle.std.specs.Prelude.{◌≡◌, ◌∷◌, ◌||◌, [], ℕ, List as Seq, map, OnOk};
+ghost use Rattle.adl_names.specs.Words.{Fault, Id as Word, again, repeats, repeats_after, duplicates_in_procedure, noted, compositions, configurations, found, option_or};
+ghost use Rattle.std.specs.Prelude.{◌≡◌, ◌∷◌, ◌++◌, [], ℕ, List as Seq, map, OnOk};
 ghost use Rattle.adl_names.specs.Tables.{has_name};
 
 use adl_ast::{Component, Id, Member, Param, ProcMember, Procedure};
 use adl_meaning::Earliest;
 use cam_base::{Code, NoMemory};
-use name_tables::{NameSet, NameTable};
+use name_tables::NameTable;
 use std::alloc::Global;
 
 /// Puts a value under the name of a word, or notes that an earlier one has the name. What is noted behind it, is noted of the
@@ -28,49 +28,22 @@ pub fn put<'a, V: Drop>(
     Ok(())
 }
 
-/// The same of a set.
-pub fn meet<'a>(id: &'a Id, met: &mut NameSet<'a>, first: &mut Earliest<'a>) -> Result<(), NoMemory>
-    ensures noted { OnOk result ((more : Seq Word) → noted first.new (repeats_after (is_among met.new) more)
-        ≡ noted first.old (repeats_after (is_among met.old) (id.entry.now ∷ more))) }
-    ensures met { OnOk result ((n : Seq ℕ) → is_among met.new n ≡ (is_among met.old n || bytes_eq n id.entry.now.name)) }
-{
-    let is_met = met.put(&id.name)?;
-    first.note(is_met, Code::Duplicate, id.place, id.name.as_bytes());
-    Ok(())
-}
-
 fn note_params<'a>(
     alloc: Global,
     params: &'a [Param],
     first: &mut Earliest<'a>,
 ) -> Result<(), NoMemory>
-    ensures { OnOk result (first.new ≡ noted first.old (repeats (map (λ a. a.id) params.entry.now))) }
+    ensures { OnOk result ((more : Seq Fault) → noted first.new more
+        ≡ noted first.old (repeats (map (λ a. a.id) params.entry.now) ++ more)) }
 {
-    let mut met = NameSet::new(alloc);
+    let mut met = NameTable::new(alloc);
     for param in params {
-        meet(&param.id, &mut met, first)?;
-    }
-    Ok(())
-}
-
-fn note_methods<'a>(
-    alloc: Global,
-    procedure: &'a Procedure,
-    first: &mut Earliest<'a>,
-) -> Result<(), NoMemory>
-    ensures { OnOk result (first.new ≡ noted first.old (repeats (map (λ m. m.id) (methods procedure.entry.now)))) }
-{
-    let mut met = NameSet::new(alloc);
-    for member in procedure.members.as_slice() {
-        if let ProcMember::Method(method) = member {
-            meet(&method.id, &mut met, first)?;
-        }
+        put(&param.id, (), &mut met, first)?;
     }
     Ok(())
 }
 
 /// Notes the later ones of a procedure's methods and of their parameters.
-#[tactic(auto, using(adl_meaning::proofs::Noting::noting))]
 pub fn note_procedure<'a>(
     alloc: Global,
     procedure: &'a Procedure,
@@ -78,9 +51,14 @@ pub fn note_procedure<'a>(
 ) -> Result<(), NoMemory>
     ensures { OnOk result (first.new ≡ noted first.old (duplicates_in_procedure procedure.entry.now)) }
 {
-    note_methods(alloc, procedure, first)?;
+    let mut met = NameTable::new(alloc);
     for member in procedure.members.as_slice() {
         if let ProcMember::Method(method) = member {
+            put(&method.id, (), &mut met, first)?;
+        }
+    }
+    for part in procedure.members.as_slice() {
+        if let ProcMember::Method(method) = part {
             note_params(alloc, method.params.as_slice(), first)?;
         }
     }

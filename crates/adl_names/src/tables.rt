@@ -1,7 +1,8 @@
 //! Tables of what the names of compositions and components stand for.
 
-ghost use Rattle.adl_names.specs.Words.{Id as Word, declaring_told, first_named, repeats, repeats_after, duplicates_in_composition, duplicates_in_component, noted, as_held, a_group, held_by, held_as, member_of, is_exported, declared_as, declared_by, declared_in, interface_of, attribute_of, compositions, composition_of, is_among, flat_map, option_or, option_copied, option_and_then};
-ghost use Rattle.std.specs.Prelude.{◌≡◌, ◌∷◌, ◌++◌, ℕ, List as Seq, map, option_map, OnOk, IfOk};
+ghost use Rattle.adl_names.specs.Words.{Fault, Held as HeldOf, Id as Word, declaring_told, first_named, repeats, repeats_after, duplicates_in_composition, duplicates_in_component, noted, as_held, held_by, held_as, member_of, is_exported, declared_as, declared_by, declared_in, interface_of, attribute_of, compositions, composition_of, is_among, flat_map, option_or, option_copied, option_and_then};
+ghost use Rattle.std.specs.Prelude.{◌≡◌, ◌++◌, ℕ, List as Seq, map, option_map, OnOk, IfOk};
+ghost use Rattle.adl_meaning.specs.Members.{Declared as Means};
 ghost use Rattle.adl_names.specs.Bodies.{owner_of};
 ghost use Rattle.adl_names.specs.Tables.{has_name, held_told, holding_told};
 
@@ -113,33 +114,14 @@ fn add_instances<'a>(
     table: &mut NameTable<'a, Held<'a>>,
     first: &mut Earliest<'a>,
 ) -> Result<(), NoMemory>
-    ensures noted { OnOk result ((more : Seq Word) → noted first.new (repeats_after (has_name table.new) more)
-        ≡ noted first.old (repeats_after (has_name table.old) (map (λ h. h.0) (map as_held instances.entry.now) ++ more))) }
-    ensures found { OnOk result ((n : Seq ℕ) → holding_told table.new n
-        ≡ option_or (holding_told table.old n) (first_named (map as_held instances.entry.now) n)) }
+    ensures noted { OnOk result ((more : Seq (Word × HeldOf)) → noted first.new (repeats_after (has_name table.new) (map (λ h. h.0) more))
+        ≡ noted first.old (repeats_after (has_name table.old) (map (λ h. h.0) (map as_held instances.entry.now ++ more)))) }
+    ensures found { OnOk result ((n : Seq ℕ) (more : Seq (Word × HeldOf)) → option_or (holding_told table.new n) (first_named more n)
+        ≡ option_or (holding_told table.old n) (first_named (map as_held instances.entry.now ++ more) n)) }
 {
     for instance in instances {
         put(&instance.id, Held::Instance(instance), table, first)?;
     }
-    Ok(())
-}
-
-fn add_group<'a>(
-    alloc: Global,
-    group: &'a Group,
-    table: &mut NameTable<'a, Held<'a>>,
-    first: &mut Earliest<'a>,
-) -> Result<(), NoMemory>
-    ensures noted { OnOk result ((more : Seq Word) → noted first.new (repeats_after (has_name table.new) more)
-        ≡ noted first.old (repeats_after (has_name table.old)
-        (group.entry.now.id ∷ (map (λ h. h.0) (map as_held group.entry.now.instances) ++ more)))) }
-    ensures found { OnOk result ((n : Seq ℕ) → holding_told table.new n
-        ≡ option_or (holding_told table.old n)
-        (first_named ((group.entry.now.id, a_group (member_of group.entry.now)) ∷ map as_held group.entry.now.instances) n)) }
-{
-    let own = Members::of(alloc, group)?;
-    put(&group.id, Held::Group(own), table, first)?;
-    add_instances(group.instances.as_slice(), table, first)?;
     Ok(())
 }
 
@@ -149,14 +131,19 @@ fn add_line<'a>(
     table: &mut NameTable<'a, Held<'a>>,
     first: &mut Earliest<'a>,
 ) -> Result<(), NoMemory>
-    ensures noted { OnOk result ((more : Seq Word) → noted first.new (repeats_after (has_name table.new) more)
-        ≡ noted first.old (repeats_after (has_name table.old) (map (λ h. h.0) (held_by line.entry.now) ++ more))) }
-    ensures found { OnOk result ((n : Seq ℕ) → holding_told table.new n
-        ≡ option_or (holding_told table.old n) (first_named (held_by line.entry.now) n)) }
+    ensures noted { OnOk result ((more : Seq (Word × HeldOf)) → noted first.new (repeats_after (has_name table.new) (map (λ h. h.0) more))
+        ≡ noted first.old (repeats_after (has_name table.old) (map (λ h. h.0) (held_by line.entry.now ++ more)))) }
+    ensures found { OnOk result ((n : Seq ℕ) (more : Seq (Word × HeldOf)) → option_or (holding_told table.new n) (first_named more n)
+        ≡ option_or (holding_told table.old n) (first_named (held_by line.entry.now ++ more) n)) }
 {
     match line {
         Line::Instance(instance) => put(&instance.id, Held::Instance(instance), table, first),
-        Line::Group(group) => add_group(alloc, group, table, first),
+        Line::Group(group) => {
+            let own = Members::of(alloc, group)?;
+            put(&group.id, Held::Group(own), table, first)?;
+            add_instances(group.instances.as_slice(), table, first)?;
+            Ok(())
+        }
         Line::Connection(connection) => put(&connection.id, Held::Connection, table, first),
         Line::Export(_) => Ok(()),
     }
@@ -169,7 +156,8 @@ impl<'a> Holding<'a> {
         composition: &'a Composition,
         first: &mut Earliest<'a>,
     ) -> Result<Holding<'a>, NoMemory>
-        ensures noted { OnOk result (first.new ≡ noted first.old (duplicates_in_composition composition.entry.now)) }
+        ensures noted { OnOk result ((more : Seq Fault) → noted first.new more
+            ≡ noted first.old (duplicates_in_composition composition.entry.now ++ more)) }
         ensures holding { IfOk result (λ h. h ≡ composition.entry.now) }
     {
         let mut held = NameTable::with_room(alloc, composition.lines.len())?;
@@ -192,10 +180,10 @@ fn declare<'a>(
     table: &mut NameTable<'a, Declared<'a>>,
     first: &mut Earliest<'a>,
 ) -> Result<(), NoMemory>
-    ensures noted { OnOk result ((more : Seq Word) → noted first.new (repeats_after (has_name table.new) more)
-        ≡ noted first.old (repeats_after (has_name table.old) (map (λ d. d.0) (declared_by member.entry.now) ++ more))) }
-    ensures found { OnOk result ((n : Seq ℕ) → declaring_told table.new n
-        ≡ option_or (declaring_told table.old n) (first_named (declared_by member.entry.now) n)) }
+    ensures noted { OnOk result ((more : Seq (Word × Means)) → noted first.new (repeats_after (has_name table.new) (map (λ d. d.0) more))
+        ≡ noted first.old (repeats_after (has_name table.old) (map (λ d. d.0) (declared_by member.entry.now ++ more)))) }
+    ensures found { OnOk result ((n : Seq ℕ) (more : Seq (Word × Means)) → option_or (declaring_told table.new n) (first_named more n)
+        ≡ option_or (declaring_told table.old n) (first_named (declared_by member.entry.now ++ more) n)) }
 {
     match member {
         Member::Interface(it) => put(&it.id, Declared::Interface(it), table, first),
@@ -258,7 +246,6 @@ fn targets<'a>(alloc: Global, composition: Option<&'a Composition>) -> Result<Na
 
 impl<'a> ComponentTable<'a> {
     /// The table of a component. Notes the names that stand twice, and second compositions and configurations.
-    #[tactic(auto, using(adl_meaning::proofs::Noting::noting))]
     pub fn of(
         alloc: Global,
         component: &'a Component,
@@ -326,8 +313,5 @@ impl<'a> ComponentTable<'a> {
 pub fn target<'a>(owner: Option<&ComponentTable<'a>>, name: &Name) -> Option<&'a Interface>
     ensures { option_copied result ≡ option_and_then (λ c. c.interface name.now) (owner_of owner.entry) }
 {
-    match owner {
-        None => None,
-        Some(table) => table.interface(name),
-    }
+    owner?.interface(name)
 }

@@ -1,7 +1,7 @@
 //! Words that nothing has.
 
-ghost use Rattle.adl_names.specs.Words.{noted, held_as, known_in, known_of, unless_known, names_procedure, unknown_interface, unknown_in_dotted, unknown_word, unknown_last, unknown_inner, unknown_group, scope_of_held, scope_of_known, scope_behind, option_copied, unknown_in_setting, unknown_in_line, unknown_in_composition, unknown_in_configuration, unknown_attribute, unknown_in_member, unknown_in_item, is_procedure, unknown_names, Member as MemberOf, as_composition, flat_map, filter_map};
-ghost use Rattle.std.specs.Prelude.{option_map, ◌≡◌, ◌∷◌, List as Seq};
+ghost use Rattle.adl_names.specs.Words.{Fault, noted, held_as, known_in, known_of, unless_known, names_procedure, unknown_interface, unknown_in_dotted, unknown_word, unknown_inner, scope_of_held, scope_of_known, scope_behind, option_copied, unknown_in_setting, unknown_in_line, unknown_in_composition, unknown_in_configuration, unknown_attribute, unknown_in_member, unknown_in_item, is_procedure, unknown_names, Member as MemberOf, as_composition, flat_map, filter_map};
+ghost use Rattle.std.specs.Prelude.{option_map, ◌≡◌, ◌∷◌, ◌++◌, List as Seq};
 ghost use Rattle.adl_names.specs.Bodies.{owner_of, item_of};
 ghost use Rattle.adl_names.specs.Scopes.{scope_told};
 
@@ -131,26 +131,7 @@ fn note_inner<'a>(scope: Scope<'_, 'a>, word: &'a Id, first: &mut Earliest<'a>)
     }
 }
 
-fn note_last<'a>(scope: Scope<'_, 'a>, word: &'a Id, first: &mut Earliest<'a>)
-    ensures { first.new ≡ noted first.old (unknown_last (scope_told scope.entry) word.entry.now) }
-{
-    match scope {
-        Scope::Inside(members) => note_unless(members.get(&word.name).is_some(), word, first),
-        Scope::Within(_) | Scope::Behind | Scope::Untold => (),
-    }
-}
-
-fn note_group<'a>(after: Scope<'_, 'a>, word: &'a Id, first: &mut Earliest<'a>)
-    ensures { first.new ≡ noted first.old (unknown_group (scope_told after.entry) word.entry.now) }
-{
-    match after {
-        Scope::Inside(_) => note_unless(false, word, first),
-        Scope::Within(_) | Scope::Behind | Scope::Untold => (),
-    }
-}
-
 /// Notes a word of a setting, by the scopes in which it and the next are looked up, and the words that follow.
-#[tactic(auto, using(adl_meaning::proofs::Noting::noting))]
 fn note_setting_word<'a>(
     scope: Scope<'_, 'a>,
     after: Scope<'_, 'a>,
@@ -162,10 +143,16 @@ fn note_setting_word<'a>(
         ≡ noted first.old (unknown_word (scope_told scope.entry) (scope_told after.entry) word.entry.now more.now) }
 {
     match more {
-        [] => note_last(scope, word, first),
+        [] => {
+            if let Scope::Inside(members) = scope {
+                note_unless(members.get(&word.name).is_some(), word, first);
+            }
+        }
         [_] => {
             note_inner(scope, word, first);
-            note_group(after, word, first);
+            if let Scope::Inside(_) = after {
+                note_unless(false, word, first);
+            }
         }
         _ => note_inner(scope, word, first),
     }
@@ -197,8 +184,8 @@ fn note_line<'a>(
     line: &'a Line,
     first: &mut Earliest<'a>,
 )
-    ensures { first.new
-        ≡ noted first.old (unknown_in_line (known_in tables.now) (owner_of owner.entry) (held_as holding.now) line.entry.now) }
+    ensures { (more : Seq Fault) → noted first.new more ≡ noted first.old
+        (unknown_in_line (known_in tables.now) (owner_of owner.entry) (held_as holding.now) line.entry.now ++ more) }
 {
     match line {
         Line::Instance(_) | Line::Group(_) => {
@@ -317,7 +304,6 @@ fn note_component<'t, 'a>(
     }
 }
 
-#[tactic(auto, using(adl_meaning::proofs::Noting::noting))]
 fn note_body<'t, 'a>(tables: &'t SourceTables<'a>, body: &'t Body<'a>, first: &mut Earliest<'a>)
     ensures { first.new ≡ noted first.old (unknown_in_item (known_in tables.now) (is_procedure tables.now) (item_of body.now)) }
 {

@@ -1,7 +1,12 @@
-use Rattle.adl_names.proofs.Common.{◌≡◌, drop, filter_map, flat_map, as_method, noted, repeated_params, duplicates_in_procedure}
+use Rattle.adl_names.proofs.Common.{◌≡◌, drop, map, filter_map, flat_map, as_method, noted, has_name, repeats, repeats_after, repeated_params, duplicates_in_procedure}
 use Rattle.adl_names.proofs.repeats.note_procedure.Given as goal
 
 abbrev pub invariant-loop-member : goal.invariant-loop-member
 invariant-loop-member l =
-    noted l.first (flat_map repeated_params (filter_map as_method (drop l.member-index l.member-items)))
+    noted l.first (repeats_after (has_name l.met) (map (λ m. m.id) (filter_map as_method (drop l.member-index l.procedure.members))))
+    ≡ noted l.fn.first (repeats (map (λ m. m.id) (filter_map as_method l.procedure.members)))
+
+abbrev pub invariant-loop-part : goal.invariant-loop-part
+invariant-loop-part l =
+    noted l.first (flat_map repeated_params (filter_map as_method (drop l.part-index l.part-items)))
     ≡ noted l.fn.first (duplicates_in_procedure l.procedure)

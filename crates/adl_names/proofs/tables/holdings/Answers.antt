@@ -1,5 +1,5 @@
-use Rattle.adl_names.proofs.Common.{◌∙◌, ◌++◌, ap, flat_map, noted, as_composition, duplicates_in_composition}
-use Rattle.adl_names.proofs.KindLists.{drop_none, drop_some, no_composition, noted_one, pushed_one}
+use Rattle.adl_names.proofs.Common.{◌∙◌, ◌+◌, ◌++◌, ap, drop, filter_map, flat_map, noted, as_composition, duplicates_in_composition}
+use Rattle.adl_names.proofs.KindLists.{drop_none, drop_some, no_composition, pushed_one}
 use Rattle.adl_names.proofs.tables.holdings.Goals as goal
 use Rattle.adl_names.proofs.tables.holdings.Goals.{in-Composition+in_ok-of+in_ok-push, in_default}
 
@@ -11,7 +11,7 @@ loop-member-preserved c =
       | in-Composition+in_ok-of+in_ok-push w ↦
           let e = drop_some as_composition ms i c.member-item.result w.in-Composition.composition c.loop-member-test.true c.member-item.is (ap as_composition w.in-Composition.is) in
           record {
-            noted = rw w.first-is (noted_one duplicates_in_composition _ _ _ _ _ e w.in_ok-of.ensures.noted ∙ c.loop-member.invariant.noted);
+            noted = rw w.first-is (w.in_ok-of.ensures.noted (flat_map duplicates_in_composition (filter_map as_composition (drop (i + 1) ms))) ∙ ap (λ z. noted c.loop-member.first (flat_map duplicates_in_composition z)) e ∙ c.loop-member.invariant.noted);
             holdings = rw w.holdings-is (pushed_one _ _ _ _ _ _ e w.in_ok-of.ensures.holding w.in_ok-push.ensures.items ∙ c.loop-member.invariant.holdings);
           }
       | in_default w ↦

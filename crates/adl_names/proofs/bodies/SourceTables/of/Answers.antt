@@ -1,5 +1,5 @@
 use Rattle.adl_names.proofs.Common.{◌≡◌, ◌∙◌, ◌++◌, map, ap, sym, is_some, filter_map, find, flat_map, bytes_eq, trees-located, Component, Item, Procedure, repeats, duplicates_in_item, noted, procedures, as_component, items_of, ItemAt, item_of, item_number, component_at, noted_then}
-use Rattle.adl_names.proofs.BodyLists.{component_numbered}
+use Rattle.adl_names.proofs.BodyLists.{component_numbered, is_some-map}
 use Rattle.adl_names.proofs.bodies.SourceTables.of.Goals as goal
 
 pub invariant_of-result : goal.invariant_of-result
@@ -11,7 +11,7 @@ invariant_of-result c =
     record {
       items_are = all;
       components = λ n. ap (component_at bodies) (c.in_ok-components.ensures.numbers n ∙ ap (λ xs. item_number xs n) seen) ∙ component_numbered s bodies n all;
-      are_procedures = λ n. c.in_ok-procedures.ensures.names n ∙ ap (λ ps. is_some (find (λ (p : ItemAt × Procedure). bytes_eq n p.1.id.name) ps)) (c.procedures.ensures ∙ ap procedures (sym c.source.ensures));
+      are_procedures = λ n. ap is_some (c.in_ok-procedures.ensures.names n) ∙ is_some-map _ _ ∙ ap (λ ps. is_some (find (λ (p : ItemAt × Procedure). bytes_eq n p.1.id.name) ps)) (c.procedures.ensures ∙ ap procedures (sym c.source.ensures));
     }
 
 pub returns-clause-noted : goal.returns-clause-noted
