@@ -169,7 +169,7 @@ impl<'a> Holding<'a> {
 
     /// The first that the composition holds under the name.
     pub fn get(&self, name: &Name) -> Option<&Held<'a>>
-        ensures { option_map (λ r. held_told r.now) result ≡ held_as self.now name.now }
+        ensures { option_map held_told (option_copied result) ≡ held_as self.now name.now }
     {
         self.held.get(name)
     }
