@@ -229,10 +229,7 @@ fn note_attribute<'a>(
     ensures { first.new ≡ noted first.old (unknown_attribute (owner_of owner.entry) setter.entry.now) }
 {
     if let Setter::Reference(word) = setter {
-        let known = match owner {
-            None => false,
-            Some(table) => table.attribute(&word.name).is_some(),
-        };
+        let known = owner.is_some_and(|table| table.attribute(&word.name).is_some());
         note_unless(known, word, first);
     }
 }
