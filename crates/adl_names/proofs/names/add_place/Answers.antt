@@ -1,4 +1,4 @@
-use Rattle.adl_names.proofs.Common.{◌≡◌, ◌∙◌, ◌∷◌, [], sym, ap, cond, Some, None, map, inl, inr, refl, bytes_eq, map-append, get, Name, ItemAt, is_none, insert_entry, insert_entry-new, found_put, found_kept}
+use Rattle.adl_names.proofs.Common.{◌≡◌, ◌∙◌, ◌∷◌, [], sym, ap, cond, Some, None, map, inr, bytes_eq, map-append, get, Name, ItemAt, is_none, insert_entry, insert_entry-new, found_put}
 use Rattle.adl_names.proofs.names.add_place.Goals as goal
 
 pub returns-in_ok-insert-clause-first : goal.returns-in_ok-insert-clause-first
@@ -11,9 +11,3 @@ returns-in_ok-insert-clause-places c =
     let absent : get bytes_eq c.args.table.now c.args.name.now ≡ None = is_none (get bytes_eq c.args.table.now c.args.name.now) (sym c.contains_key.ensures ∙ c.if-not-contains_key.true) in
     inr (ap (map (λ (e : Name × ItemAt). e.1)) (c.in_ok-insert.ensures.entries ∙ ap (λ k. insert_entry bytes_eq c.args.table.now.entries k c.args.at) c.in_ok-copy.ensures ∙ insert_entry-new bytes_eq c.args.table.now c.args.name.now c.args.at absent)
     ∙ map-append (λ (e : Name × ItemAt). e.1) c.args.table.now.entries ((c.args.name.now, c.args.at) ∷ []))
-
-pub returns-else-not-contains_key-clause-first : goal.returns-else-not-contains_key-clause-first
-returns-else-not-contains_key-clause-first c = found_kept (get bytes_eq c.args.table.now) c.args.name.now c.args.at (sym c.contains_key.ensures ∙ c.if-not-contains_key.false)
-
-pub returns-else-not-contains_key-clause-places : goal.returns-else-not-contains_key-clause-places
-returns-else-not-contains_key-clause-places c = inl refl
