@@ -57,7 +57,8 @@ fn body_of<'a>(
     item: &'a Item,
     first: &mut Earliest<'a>,
 ) -> Result<Body<'a>, NoMemory>
-    ensures noted { OnOk result ((more : Seq Fault) → noted first.new more ≡ noted first.old (duplicates_in_item item.entry.now ++ more)) }
+    ensures noted { OnOk result ((more : Seq Fault) → noted first.new more
+        ≡ noted first.old (duplicates_in_item item.entry.now ++ more)) }
     ensures body { IfOk result (λ b. item_of b ≡ item.entry.now) }
 {
     match item {

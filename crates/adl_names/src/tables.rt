@@ -114,9 +114,11 @@ fn add_instances<'a>(
     table: &mut NameTable<'a, Held<'a>>,
     first: &mut Earliest<'a>,
 ) -> Result<(), NoMemory>
-    ensures noted { OnOk result ((more : Seq (Word × HeldOf)) → noted first.new (repeats_after (has_name table.new) (map (λ h. h.0) more))
+    ensures noted { OnOk result ((more : Seq (Word × HeldOf)) →
+        noted first.new (repeats_after (has_name table.new) (map (λ h. h.0) more))
         ≡ noted first.old (repeats_after (has_name table.old) (map (λ h. h.0) (map as_held instances.entry.now ++ more)))) }
-    ensures found { OnOk result ((n : Seq ℕ) (more : Seq (Word × HeldOf)) → option_or (holding_told table.new n) (first_named more n)
+    ensures found { OnOk result ((n : Seq ℕ) (more : Seq (Word × HeldOf)) →
+        option_or (holding_told table.new n) (first_named more n)
         ≡ option_or (holding_told table.old n) (first_named (map as_held instances.entry.now ++ more) n)) }
 {
     for instance in instances {
@@ -131,9 +133,11 @@ fn add_line<'a>(
     table: &mut NameTable<'a, Held<'a>>,
     first: &mut Earliest<'a>,
 ) -> Result<(), NoMemory>
-    ensures noted { OnOk result ((more : Seq (Word × HeldOf)) → noted first.new (repeats_after (has_name table.new) (map (λ h. h.0) more))
+    ensures noted { OnOk result ((more : Seq (Word × HeldOf)) →
+        noted first.new (repeats_after (has_name table.new) (map (λ h. h.0) more))
         ≡ noted first.old (repeats_after (has_name table.old) (map (λ h. h.0) (held_by line.entry.now ++ more)))) }
-    ensures found { OnOk result ((n : Seq ℕ) (more : Seq (Word × HeldOf)) → option_or (holding_told table.new n) (first_named more n)
+    ensures found { OnOk result ((n : Seq ℕ) (more : Seq (Word × HeldOf)) →
+        option_or (holding_told table.new n) (first_named more n)
         ≡ option_or (holding_told table.old n) (first_named (held_by line.entry.now ++ more) n)) }
 {
     match line {
@@ -180,9 +184,11 @@ fn declare<'a>(
     table: &mut NameTable<'a, Declared<'a>>,
     first: &mut Earliest<'a>,
 ) -> Result<(), NoMemory>
-    ensures noted { OnOk result ((more : Seq (Word × Means)) → noted first.new (repeats_after (has_name table.new) (map (λ d. d.0) more))
+    ensures noted { OnOk result ((more : Seq (Word × Means)) →
+        noted first.new (repeats_after (has_name table.new) (map (λ d. d.0) more))
         ≡ noted first.old (repeats_after (has_name table.old) (map (λ d. d.0) (declared_by member.entry.now ++ more)))) }
-    ensures found { OnOk result ((n : Seq ℕ) (more : Seq (Word × Means)) → option_or (declaring_told table.new n) (first_named more n)
+    ensures found { OnOk result ((n : Seq ℕ) (more : Seq (Word × Means)) →
+        option_or (declaring_told table.new n) (first_named more n)
         ≡ option_or (declaring_told table.old n) (first_named (declared_by member.entry.now ++ more) n)) }
 {
     match member {
