@@ -39,8 +39,9 @@ fn load_from<F: Files>(alloc: Global, files: &mut F, root: &Text) -> Result<Sour
 {
     let mut known = met_root(alloc, root)?;
     let mut done = List::new(alloc);
+    let mut room = Vec::new(alloc);
     let top = root.as_bytes();
-    while let Some(file) = take_turn(alloc, files, top, done.as_slice(), &mut known)? {
+    while let Some(file) = take_turn(alloc, files, top, done.as_slice(), &mut known, &mut room)? {
         done.push(file)?;
     }
     Ok(Source { files: done })

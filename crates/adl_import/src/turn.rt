@@ -12,12 +12,13 @@ ghost use Rattle.std.specs.Str.{IsUtf8};
 use crate::LoadError;
 use crate::imports::{fault_at, take_imports};
 use adl_ast::{File, SourceFile};
-use adl_lexer::lex;
+use adl_lexer::lex_within;
 use adl_parse_decl::parse_file;
-use cam_base::{Code, Fault, List, NoMemory, Place, Refused, Text};
+use cam_base::{Code, Fault, List, NoMemory, Place, Refused, Text, Token};
 use cam_io::{Files, WholeError, read_whole};
 use indexmap::IndexMap;
 use std::alloc::Global;
+use std::mem::replace;
 use std::str::from_utf8;
 
 /// The greatest length of a file, in bytes.
@@ -34,19 +35,32 @@ fn as_text(name: &[u8]) -> &str
     }
 }
 
-/// The tree of a file of this number and these bytes.
-fn tree_of(alloc: Global, number: u32, bytes: &[u8]) -> Result<File, Refused<Fault>>
+/// The tree of a file of this number and these bytes. The tokens stand in the memory of those of the file before.
+fn tree_of(
+    alloc: Global,
+    number: u32,
+    bytes: &[u8],
+    room: &mut Vec<Token>,
+) -> Result<File, Refused<Fault>>
     ensures { IsTreeOf number bytes.now result }
 {
-    let tokens = lex(alloc, number, bytes)?;
-    parse_file(alloc, bytes, &tokens)
+    let tokens = lex_within(alloc, number, bytes, replace(room, Vec::new(alloc)))?;
+    let tree = parse_file(alloc, bytes, &tokens);
+    *room = tokens.list.into_vec();
+    tree
 }
 
 /// The file of this number, name and bytes.
-fn parsed(alloc: Global, number: u32, name: &Text, bytes: List<u8>) -> Result<SourceFile, LoadError>
+fn parsed(
+    alloc: Global,
+    number: u32,
+    name: &Text,
+    bytes: List<u8>,
+    room: &mut Vec<Token>,
+) -> Result<SourceFile, LoadError>
     ensures { IsParsed number name.now bytes result }
 {
-    match tree_of(alloc, number, bytes.as_slice()) {
+    match tree_of(alloc, number, bytes.as_slice(), room) {
         Ok(tree) => {
             let name = name.copy(alloc)?;
             Ok(SourceFile { name, bytes, tree })
@@ -87,6 +101,7 @@ fn read_file<F: Files>(
     done: &[SourceFile],
     name: &Text,
     place: Place,
+    room: &mut Vec<Token>,
 ) -> Result<SourceFile, LoadError>
     requires few { length done.now < files_limit }
     requires utf8 { IsUtf8 name.now }
@@ -96,7 +111,7 @@ fn read_file<F: Files>(
     ensures read { IsRead (F.contents files.old) done.now name.now place result }
 {
     match read_whole(alloc, files, as_text(name.as_bytes()), FILE_LIMIT) {
-        Ok(bytes) => parsed(alloc, done.len() as u32, name, bytes),
+        Ok(bytes) => parsed(alloc, done.len() as u32, name, bytes, room),
         Err(WholeError::Absent) => Err(fault_where_met(
             alloc,
             Code::NoFile,
@@ -134,13 +149,14 @@ fn take_imports_of(
     }
 }
 
-/// The turn of the next file after these; none where no file is left.
+/// The turn of the next file after these; none where no file is left. `room` is the memory of tokens.
 pub(crate) fn take_turn<F: Files>(
     alloc: Global,
     files: &mut F,
     root: &[u8],
     done: &[SourceFile],
     known: &mut IndexMap<Text, Place>,
+    room: &mut Vec<Token>,
 ) -> Result<Option<SourceFile>, LoadError>
     requires few { length known.old.entries ≤ files_limit }
     requires utf8 { AreUtf8 known.old.entries }
@@ -152,7 +168,7 @@ pub(crate) fn take_turn<F: Files>(
     let Some((name, place)) = known.get_index(done.len()) else {
         return Ok(None);
     };
-    let file = read_file(alloc, files, done, name, *place)?;
+    let file = read_file(alloc, files, done, name, *place, room)?;
     take_imports_of(alloc, root, &file, known)?;
     Ok(Some(file))
 }

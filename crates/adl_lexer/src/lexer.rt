@@ -13,8 +13,22 @@ use std::alloc::Global;
 pub fn lex(alloc: Global, file: u32, bytes: &[u8]) -> Result<Tokens, Refused<Fault>>
     ensures { IsLexed file bytes.now result }
 {
+    lex_within(alloc, file, bytes, Vec::new(alloc))
+}
+
+/// The same, in the memory of tokens that are done with.
+pub fn lex_within(
+    alloc: Global,
+    file: u32,
+    bytes: &[u8],
+    mut room: Vec<Token>,
+) -> Result<Tokens, Refused<Fault>>
+    ensures { IsLexed file bytes.now result }
+{
+    room.clear();
     // a token, with the gap before it, has about four bytes
-    let mut tokens = List::from_vec(Vec::with_capacity(alloc, bytes.len() / 4)?);
+    room.reserve(bytes.len() / 4)?;
+    let mut tokens = List::from_vec(room);
     let mut rest = blanks_end(bytes);
     'scan: while let Some(piece) = next_piece(rest) {
         let first = (bytes.len() - rest.len()) as u64;

@@ -23,4 +23,4 @@ pub use laws::{
     bytes_at_fault_begin_no_token, first_fault_is_one, keywords_are_their_words, one_thing_begins,
     places_rise, tokens_are_one, tokens_have_no_fault, tokens_have_their_texts,
 };
-pub use lexer::lex;
+pub use lexer::{lex, lex_within};

@@ -4,8 +4,8 @@ use Rattle.adl_import.specs.Sources.{files_limit}
 use Rattle.adl_import.specs.Turns.{Turns}
 use Rattle.adl_import.proofs.loading.load_from.Given as goal
 
-abbrev pub invariant-loop-done : goal.invariant-loop-done
-invariant-loop-done g l =
+abbrev pub invariant-loop-room : goal.invariant-loop-room
+invariant-loop-room g l =
     let contents = g.F.Files.contents in
     let faults = g.F.Files.faults in
     record {
@@ -13,5 +13,5 @@ invariant-loop-done g l =
       kept : KeepsFiles contents faults l.fn.files l.files;
     }
 
-abbrev pub decreases-loop-done : goal.decreases-loop-done
-decreases-loop-done g l = files_limit - length l.done
+abbrev pub decreases-loop-room : goal.decreases-loop-room
+decreases-loop-room g l = files_limit - length l.done

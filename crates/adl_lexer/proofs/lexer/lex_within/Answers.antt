@@ -9,7 +9,7 @@ use Rattle.adl_lexer.specs.declared.piece.Piece.{Piece}
 use Rattle.adl_lexer.proofs.Gaps.{gap_eats}
 use Rattle.adl_lexer.proofs.Runs.{after_run_le}
 use Rattle.adl_lexer.proofs.Steps.{blanks_gap, gap_and_blanks, lexes_gap, lexes_token, reached_gap, reached_token, token_at, token_eats}
-use Rattle.adl_lexer.proofs.lexer.lex.Goals as goal
+use Rattle.adl_lexer.proofs.lexer.lex_within.Goals as goal
 
 pub scan-init : goal.scan-init
 scan-init c =
