@@ -3,7 +3,6 @@
 use Rattle.std.specs.Prelude.{◌≡◌, ℕ, Bool, List, [], ◌∷◌, Option, position}
 use Rattle.std.specs.Cmp.Lexicographic.{slice_cmp}
 use Rattle.std.specs.List.{count_by}
-use Rattle.std.specs.Option.{option_map_or}
 use Rattle.std.specs.Ordering.{is_lt, nat_cmp}
 use Rattle.std.specs.declared.cmp.Ordering.{Ordering}
 use Rattle.std.specs.declared.cmp.Ordering.TheVariants.{Less, Equal, Greater}
@@ -61,15 +60,11 @@ domain_numbers ts domains = gather (λ d x. rank ts (joined x.path) ∷ []) doma
 abbrev pub connection_numbers : List (List ℕ) → List FlatConnection → List ℕ
 connection_numbers ts connections = gather (λ k x. rank ts (joined x.path) ∷ []) connections
 
--- a device has a label of its own; at a leaf of a domain stands 0
-abbrev pub leaf_number : List (List ℕ) → Leaf → ℕ
-leaf_number ts x = option_map_or (λ d. 0) x.domain (rank ts (joined x.path))
-
 abbrev pub device_numbers : List (List ℕ) → List Leaf → List ℕ
-device_numbers ts leaves = gather (λ l x. leaf_number ts x ∷ []) leaves
+device_numbers ts leaves = gather (λ l x. rank ts (joined x.path) ∷ []) leaves
 
 -- the numbers of the labels of domains, connections and devices, each by its place in the flat system; at a connection without
--- a label stands the number that its path would have
+-- a label, and at a leaf of a domain, stands the number that its path would have
 abbrev pub label_numbers : Flat → LabelNumbers
 label_numbers flat = record {
   domains = domain_numbers (label_texts flat) flat.domains;

@@ -1,6 +1,6 @@
 //! The labels of a system, in order, and their numbers.
 
-ghost use Rattle.arch_policy.specs.Labels.{IsOrdered, connection_numbers, device_numbers, domain_numbers, in_order, label_numbers, label_texts, leaf_number, rank};
+ghost use Rattle.arch_policy.specs.Labels.{IsOrdered, connection_numbers, device_numbers, domain_numbers, in_order, label_numbers, label_texts, rank};
 ghost use Rattle.arch_policy.specs.Owners.{connection_texts, device_texts, domain_texts, has_label, is_device, texts};
 ghost use Rattle.arch_policy.specs.Where.{where_true};
 ghost use Rattle.cam_base.specs.Paths.{joined};
@@ -140,23 +140,6 @@ fn push_number(
     numbers.push(rank(texts, &text) as u32)
 }
 
-/// Puts the number of a device's label behind the others, 0 for a leaf of a domain.
-fn push_leaf_number(
-    alloc: Global,
-    texts: &[Text],
-    leaf: &Leaf,
-    numbers: &mut List<u32>,
-) -> Result<(), NoMemory>
-    requires ordered { IsOrdered texts.now }
-    requires few { length texts.now < 2 ^ 32 }
-    ensures { OnOk result (numbers.new ≡ numbers.old ++ leaf_number texts.now leaf.now ∷ []) }
-{
-    match leaf.domain {
-        Some(_) => numbers.push(0),
-        None => push_number(alloc, texts, &leaf.path, numbers),
-    }
-}
-
 fn domain_numbers(alloc: Global, texts: &[Text], domains: &[Domain]) -> Result<List<u32>, NoMemory>
     requires ordered { IsOrdered texts.now }
     requires few { length texts.now < 2 ^ 32 }
@@ -192,7 +175,7 @@ fn device_numbers(alloc: Global, texts: &[Text], leaves: &[Leaf]) -> Result<List
 {
     let mut numbers = List::new(alloc);
     for leaf in leaves {
-        push_leaf_number(alloc, texts, leaf, &mut numbers)?;
+        push_number(alloc, texts, &leaf.path, &mut numbers)?;
     }
     Ok(numbers)
 }

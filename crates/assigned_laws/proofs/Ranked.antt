@@ -5,7 +5,6 @@ use Rattle.std.specs.List.{count_by, slice_get}
 use Rattle.std.specs.Ordering.{is_lt, nat_cmp, ordering_reverse}
 use Rattle.std.proofs.lemmas.Cmp.{nat_list_cmp_total, tied_itself}
 use Rattle.std.proofs.lemmas.List.Sums.{sum_by-cons}
-use Rattle.std.specs.Option.{option_map_or}
 use Rattle.std.proofs.lemmas.Option.{get_or_from_slice_get}
 use Rattle.adl_meaning.specs.Paths.{Path}
 use Rattle.adl_meaning.specs.declared.flat.Domain.{Domain}
@@ -13,7 +12,7 @@ use Rattle.adl_meaning.specs.declared.flat.Flat.{Flat}
 use Rattle.adl_meaning.specs.declared.flat.FlatConnection.{FlatConnection}
 use Rattle.adl_meaning.specs.declared.flat.Leaf.{Leaf}
 use Rattle.arch_policy.proofs.Ordering.{Above, Rises, order_rises, to_order, from_order}
-use Rattle.arch_policy.specs.Labels.{comes_before, connection_numbers, device_numbers, domain_numbers, label_lines, label_numbers, label_texts, leaf_number, rank}
+use Rattle.arch_policy.specs.Labels.{comes_before, connection_numbers, device_numbers, domain_numbers, label_lines, label_numbers, label_texts, rank}
 use Rattle.arch_policy.specs.Owners.{connection_texts, device_texts, domain_texts, has_label, is_device, texts}
 use Rattle.arch_policy.specs.Tables.{AreApart, IsThere, Tables, number_of}
 use Rattle.arch_policy.specs.Where.{where_true}
@@ -143,8 +142,7 @@ number_rank flat (OfConnection k) p h =
     get_or_from_slice_get (connection_numbers (label_texts flat) flat.connections) k _ 0 (get_ones (λ k (x : FlatConnection). rank (label_texts flat) (joined x.path)) flat.connections k h.0 h.1)
     ∙ ap (λ z. rank (label_texts flat) (joined z)) h.3
 number_rank flat (OfLeaf l) p h =
-    get_or_from_slice_get (device_numbers (label_texts flat) flat.leaves) l _ 0 (get_ones (λ l (x : Leaf). leaf_number (label_texts flat) x) flat.leaves l h.0 h.1)
-    ∙ ap (λ z. option_map_or (λ d. 0) z (rank (label_texts flat) (joined h.0.path))) h.2
+    get_or_from_slice_get (device_numbers (label_texts flat) flat.leaves) l _ 0 (get_ones (λ l (x : Leaf). rank (label_texts flat) (joined x.path)) flat.leaves l h.0 h.1)
     ∙ ap (λ z. rank (label_texts flat) (joined z)) h.3
 
 -- and the place of its text

@@ -22,7 +22,7 @@ use Rattle.spec_edges.specs.Connected.{IsConnected}
 use Rattle.spec_edges.specs.Policy.{given_tables}
 use Rattle.system_spec.proofs.There.{IsDomain, IsThere, Notifies}
 use Rattle.system_spec.specs.Made.{spec_of}
-use Rattle.system_spec.specs.Tables.{Tables, device_of, frame_owner}
+use Rattle.system_spec.specs.Tables.{Tables, frame_owner, irq_owner}
 use Rattle.system_spec.specs.declared.part.What.{What}
 use Rattle.system_spec.specs.declared.part.What.TheVariants.{CNodeOf, ThreadOf, EndpointOf, NotificationOf, LockOf, IrqOf, TableOf, FrameOf}
 use Rattle.vspace_layout.specs.Frames.{connection_frames, device_frame, device_frames, frame, frames, frames_at, is_first, memory_part, own_frame, own_frames, own_part, register_frames, register_part, shared_frames, shared_part}
@@ -128,7 +128,7 @@ module _ (t : Tables) (h : IsConnected t) where
       let d = device_found t h.flat k c at (h.flat.interrupts k c at e) in
       let j = h.flat.joined d.at in
       let none = h.flat.hardware d.at j.leaf d.device j.here in
-      let own : device_at t k ≡ OfLeaf d.at.end.leaf = ap (λ z. option_map_or (λ (c : FlatConnection). device_of c.connector c.ends) z (OfLeaf 0)) at ∙ d.owner in
+      let own : device_at t k ≡ OfLeaf d.at.end.leaf = ap (λ z. option_map_or (irq_owner k) z (OfConnection k)) at ∙ d.owner in
       subst (λ z. HasLabel t.flat z) (sym own) (j.leaf, j.here, none)
 
   owner_there : (w : What) → IsThere t w → HasLabel t.flat (owner_of t w)

@@ -38,7 +38,7 @@ use Rattle.system_spec.specs.Buildable.{IsBuildable}
 use Rattle.system_spec.specs.Few.{AreFew, table_count}
 use Rattle.system_spec.specs.Parts.{all_tables, cnodes, domain_locks, domain_tables, domain_tcbs, endpoint, endpoint_by, endpoints, frame_parts, irq, irq_by, irqs, level_of, lock, locks, notification, notification_by, notifications, numbered, owned, page_mapping, page_table, parts, table_part, table_parts, tables_at, tcbs}
 use Rattle.system_spec.specs.Ready.{AreNamed}
-use Rattle.system_spec.specs.Tables.{Tables, arch, device_of, frame_owner, pages_at, threads_at, uses_at}
+use Rattle.system_spec.specs.Tables.{Tables, arch, irq_owner, frame_owner, pages_at, threads_at, uses_at}
 use Rattle.system_spec.proofs.Bounds.{length-eight, length-numbered}
 use Rattle.source_bounds.proofs.Lists.{gather_most}
 use Rattle.source_bounds.proofs.NamedUses.{uses_named}
@@ -74,7 +74,7 @@ few_notifications cs = length-gather notification cs (λ k c. one k c.connector)
     one k Direct = omega arith
 
 few_irqs : (cs : List FlatConnection) → length (gather irq cs) ≤ length cs
-few_irqs cs = length-gather irq cs (λ k c. one k (device_of c.connector c.ends) c.connector)
+few_irqs cs = length-gather irq cs (λ k c. one k (irq_owner k c) c.connector)
   where
     one : (k : ℕ) (o : _) (c : Connector) → length (irq_by k o c) ≤ 1
     one k o Rpc = omega arith

@@ -6,13 +6,13 @@ use Rattle.std.proofs.lemmas.Bool.{lt-ltb}
 use Rattle.std.proofs.lemmas.Option.{slice_get_within}
 use Rattle.adl_meaning.specs.declared.flat.FlatConnection.{FlatConnection}
 use Rattle.adl_meaning.specs.declared.flat.FlatEnd.{FlatEnd}
-use Rattle.arch_policy.specs.declared.owner.Owner.TheVariants.{OfLeaf}
+use Rattle.arch_policy.specs.declared.owner.Owner.TheVariants.{OfConnection, OfLeaf}
 use Rattle.arch_policy.specs.Ends.{EndAt}
 use Rattle.arch_policy.specs.Tables.{leaf_label, number_of}
 use Rattle.conn_rules.specs.Ends.{end_rule}
 use Rattle.reach_laws.specs.Flat.{HasDevice, IsFlat, is_at_device}
 use Rattle.reach_laws.proofs.EndLabels.{own_label}
-use Rattle.system_spec.specs.Tables.{Tables, device_end as first_device, device_of, device_place, is_hardware}
+use Rattle.system_spec.specs.Tables.{Tables, device_end as first_device, device_place, irq_owner, is_hardware}
 use Rattle.spec_edges.specs.Policy.{policy_tables}
 use Rattle.spec_edges.proofs.Whose.{device_at}
 
@@ -44,7 +44,7 @@ module _ (t : Tables) (flat : IsFlat t.source t.flat) where
     pub place : at.place ≡ k
     pub connection : at.connection ≡ c
     pub device : is_at_device at ≡ true
-    pub owner : device_of c.connector c.ends ≡ OfLeaf at.end.leaf
+    pub owner : irq_owner k c ≡ OfLeaf at.end.leaf
 
   pub device_found : (k : ℕ) (c : FlatConnection) → slice_get t.flat.connections k ≡ Some c → HasDevice t.flat k → DeviceOf k c
   device_found k c here h =
@@ -64,11 +64,11 @@ module _ (t : Tables) (flat : IsFlat t.source t.flat) where
         place = refl;
         connection = refl;
         device = f.2;
-        owner = ap (λ z. option_map_or (λ (e : FlatEnd). OfLeaf e.leaf) z (OfLeaf 0)) first;
+        owner = ap (λ z. option_map_or (λ (e : FlatEnd). OfLeaf e.leaf) z (OfConnection k)) first;
       }
 
   -- its label is the device's
   pub device_label : (k : ℕ) (c : FlatConnection) → slice_get t.flat.connections k ≡ Some c → (d : DeviceOf k c) → number_of t.numbers (device_at t k) ≡ leaf_label (policy_tables t) d.at.end.leaf
   device_label k c here d =
-      let own : device_at t k ≡ OfLeaf d.at.end.leaf = ap (λ z. option_map_or (λ (c : FlatConnection). device_of c.connector c.ends) z (OfLeaf 0)) here ∙ d.owner in
+      let own : device_at t k ≡ OfLeaf d.at.end.leaf = ap (λ z. option_map_or (irq_owner k) z (OfConnection k)) here ∙ d.owner in
       ap (number_of t.numbers) own ∙ sym (own_label (policy_tables t) flat d.at d.device)

@@ -37,14 +37,14 @@ use Rattle.system_spec.specs.declared.series.Series.TheVariants as series
 use Rattle.system_spec.specs.Made.{entry, labels_of, part_label, spec_of}
 use Rattle.system_spec.specs.Objects.{frame_object, object, tcb}
 use Rattle.system_spec.specs.Parts.{all_tables, cnodes, domain_locks, domain_tcbs, endpoint, endpoint_by, endpoints, frame_parts, irq, irq_by, irqs, lock, locks, notification, notification_by, notifications, numbered, owned, page_mapping, part, parts, place, table_part, table_parts, tcbs}
-use Rattle.system_spec.specs.Tables.{Tables, arch, device_of, frame_owner, pages_at, threads_at, uses_at}
+use Rattle.system_spec.specs.Tables.{Tables, arch, frame_owner, irq_owner, pages_at, threads_at, uses_at}
 use Rattle.vspace_layout.specs.declared.spaces.FrameInfo.{FrameInfo}
 use Rattle.vspace_layout.specs.declared.spaces.ThreadPlace.{ThreadPlace}
 
 -- ---- whose a part is
 
 abbrev pub device_at : Tables → ℕ → Owner
-device_at t k = option_map_or (λ (c : FlatConnection). device_of c.connector c.ends) (slice_get t.flat.connections k) (OfLeaf 0)
+device_at t k = option_map_or (irq_owner k) (slice_get t.flat.connections k) (OfConnection k)
 
 abbrev pub frame_owner_at : Tables → ℕ → Owner
 frame_owner_at t f = option_map_or (λ (x : FrameInfo). frame_owner x.owner) (slice_get t.spaces.frames f) (OfLeaf 0)
@@ -125,9 +125,8 @@ module _ (t : Tables) where
   of_irq : (o : Owned) → IsIn o (irqs t) → WhoseOwned t o
   of_irq o i =
       let g = from_gather irq o t.flat.connections i in
-      let device : device_of g.1.connector g.1.ends ≡ device_at t g.0 =
-      ap (λ z. option_map_or (λ (c : FlatConnection). device_of c.connector c.ends) z (OfLeaf 0)) (sym g.2) in
-      by_kind g.1.connector g.0 (device_of g.1.connector g.1.ends) g.3 device
+      let device : irq_owner g.0 g.1 ≡ device_at t g.0 = ap (λ z. option_map_or (irq_owner g.0) z (OfConnection g.0)) (sym g.2) in
+      by_kind g.1.connector g.0 (irq_owner g.0 g.1) g.3 device
     where
       by_kind : (c : Connector) (k : ℕ) (w : Owner) → IsIn o (irq_by k w c) → w ≡ device_at t k → WhoseOwned t o
       by_kind Interrupt k w i h = subst (λ z. WhoseOwned t z) (single (owned w (IrqOf k)) o i) h

@@ -17,7 +17,7 @@ use Rattle.system_spec.specs.declared.part.What.TheVariants.{CNodeOf, ThreadOf, 
 use Rattle.system_spec.specs.declared.series.Series.{Series}
 use Rattle.system_spec.specs.declared.series.Series.TheVariants as series
 use Rattle.system_spec.specs.Parts.{all_tables, cnodes, domain_locks, domain_tables, domain_tcbs, endpoint, endpoint_by, endpoints, frame_parts, irq as irq_of, irq_by, irqs, level_of, lock as lock_of, locks, notification, notification_by, notifications, numbered, owned, page_table, part, parts, table_part, table_parts, tables_at, tcbs}
-use Rattle.system_spec.specs.Tables.{Tables, device_of, frame_owner, threads_at, uses_at}
+use Rattle.system_spec.specs.Tables.{Tables, frame_owner, irq_owner, threads_at, uses_at}
 use Rattle.vspace_layout.specs.declared.spaces.FrameInfo.{FrameInfo}
 use Rattle.vspace_layout.specs.declared.spaces.ThreadPlace.{ThreadPlace}
 use Rattle.arch_policy.specs.declared.owner.Owner.TheVariants.{OfDomain}
@@ -175,7 +175,7 @@ module _ (t : Tables) (w : What → ℕ) where
         by_use (OwnLock leaf m) d n = let l = most.locks d n in omega (arith, l)
 
     irqs_most : of_irqs ≤ irq * length t.flat.connections
-    irqs_most = totals_each (λ k (c : FlatConnection). total of_owned (irq_of k c)) irq t.flat.connections (λ k c e. by_kind c.connector k (device_of c.connector c.ends))
+    irqs_most = totals_each (λ k (c : FlatConnection). total of_owned (irq_of k c)) irq t.flat.connections (λ k c e. by_kind c.connector k (irq_owner k c))
       where
         by_kind : (c : Connector) (k : ℕ) (o : Owner) → total of_owned (irq_by k o c) ≤ irq
         by_kind Interrupt k o = let l = most.irqs k in omega (arith, l)

@@ -25,7 +25,7 @@ use Rattle.system_spec.specs.declared.series.Series.TheVariants as series
 use Rattle.system_spec.specs.Made.{labels_of, spec_of}
 use Rattle.system_spec.specs.Objects.{frame_object, object, tcb}
 use Rattle.system_spec.specs.Parts.{all_tables, cnodes, domain_locks, domain_tcbs, endpoint, endpoint_by, endpoints, frame_parts, irq, irq_by, irqs, lock, locks, notification, notification_by, notifications, numbered, owned, part, parts, place, sections, table_part, table_parts, tcbs}
-use Rattle.system_spec.specs.Tables.{Tables, device_of, frame_owner, threads_at, uses_at}
+use Rattle.system_spec.specs.Tables.{Tables, frame_owner, irq_owner, threads_at, uses_at}
 use Rattle.system_spec.proofs.Objects.{objects_stand, parts_are_there}
 use Rattle.system_spec.proofs.Standing.{place_is}
 use Rattle.system_spec.proofs.There.{single}
@@ -72,7 +72,7 @@ module _ (t : Tables) where
     connection : FlatConnection
     here : slice_get t.flat.connections k ≡ Some connection
     is : connection.connector ≡ Interrupt
-    owner_is : owner ≡ device_of connection.connector connection.ends
+    owner_is : owner ≡ irq_owner k connection
 
   abbrev Fits : Owner → What → Type 0
   Fits owner (IrqOf k) = OfInterrupt owner k
@@ -113,8 +113,8 @@ module _ (t : Tables) where
       let g = from_gather irq x t.flat.connections i in
       by_kind g.0 g.1 g.2 g.1.connector refl g.3
     where
-      by_kind : (k : ℕ) (c : FlatConnection) → slice_get t.flat.connections k ≡ Some c → (m : Connector) → c.connector ≡ m → IsIn x (irq_by k (device_of c.connector c.ends) m) → Fits x.owner x.what
-      by_kind k c h Interrupt e j = subst (λ (z : Owned). Fits z.owner z.what) (single (owned (device_of c.connector c.ends) (IrqOf k)) x j) (record { connection = c; here = h; is = e; owner_is = refl })
+      by_kind : (k : ℕ) (c : FlatConnection) → slice_get t.flat.connections k ≡ Some c → (m : Connector) → c.connector ≡ m → IsIn x (irq_by k (irq_owner k c) m) → Fits x.owner x.what
+      by_kind k c h Interrupt e j = subst (λ (z : Owned). Fits z.owner z.what) (single (owned (irq_owner k c) (IrqOf k)) x j) (record { connection = c; here = h; is = e; owner_is = refl })
       by_kind k c h Rpc e j = absurd j
       by_kind k c h Notification e j = absurd j
       by_kind k c h SharedMemory e j = absurd j
@@ -185,7 +185,7 @@ module _ (t : Tables) where
         ]
       ]
 
-  pub irqs_are : CanMap t → (k at : ℕ) (c : FlatConnection) → slice_get t.flat.connections k ≡ Some c → IsIrqOf t (spec_of t) k at → IsOf t (labels_of t) at (device_of c.connector c.ends)
+  pub irqs_are : CanMap t → (k at : ℕ) (c : FlatConnection) → slice_get t.flat.connections k ≡ Some c → IsIrqOf t (spec_of t) k at → IsOf t (labels_of t) at (irq_owner k c)
   irqs_are can k at c h w =
       let p = part_there t at (objects.Irq (Some w.notification)) w.is in
       let i = in_place p.0 (parts t) at p.1 in
@@ -202,4 +202,4 @@ module _ (t : Tables) where
       let conn : u.connection ≡ c = some (slice_get t.flat.connections k) u.connection c (subst Q number u.here) h in
       let R : ℕ → Type 0 = λ z. IsOf t (labels_of t) z p.0.owner in
       let S : Owner → Type 0 = λ z. IsOf t (labels_of t) at z in
-      subst S (u.owner_is ∙ ap (λ (z : FlatConnection). device_of z.connector z.ends) conn) (subst R (place_is t at p.0 p.1) (label_is t p.0 i))
+      subst S (u.owner_is ∙ ap (λ z. irq_owner z u.connection) number ∙ ap (irq_owner k) conn) (subst R (place_is t at p.0 p.1) (label_is t p.0 i))

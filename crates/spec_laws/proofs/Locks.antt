@@ -34,7 +34,7 @@ use Rattle.system_spec.specs.Made.{entry, spec_of}
 use Rattle.system_spec.specs.Names.{name_of}
 use Rattle.system_spec.specs.Objects.{frame_object, object, slots_at, tcb, use_cap}
 use Rattle.system_spec.specs.Parts.{domain_locks, lock, locks, numbered, owned, page_mapping, part, parts, place, sections, tables_at}
-use Rattle.system_spec.specs.Tables.{Tables, arch, device_of, pages_at, threads_at, uses_at}
+use Rattle.system_spec.specs.Tables.{Tables, arch, irq_owner, pages_at, threads_at, uses_at}
 use Rattle.system_spec.proofs.Objects.{in_together, objects_stand}
 use Rattle.system_spec.proofs.Standing.{place_is, stands}
 use Rattle.system_spec.proofs.There.{single}
@@ -166,7 +166,7 @@ module _ (t : Tables) (can : CanSlot t) where
   of_use d n r x (Handler k l) h e name =
       let c = handled d n k l x h e in
       let j = has_irq t can k c.connection c.here c.is_interrupt in
-      absurd (no_irq j.0 r (sym ((objects_stand t).name (part series.Irq j.0 (device_of c.connection.connector c.connection.ends) (IrqOf k)) j.1) ∙ ap (λ z. name_at spec z) (sym c.leads) ∙ name))
+      absurd (no_irq j.0 r (sym ((objects_stand t).name (part series.Irq j.0 (irq_owner k c.connection) (IrqOf k)) j.1) ∙ ap (λ z. name_at spec z) (sym c.leads) ∙ name))
   of_use d n r x (OwnLock leaf l) h e name = let j = lock_there d n leaf l x h e in record { number = n; slot = refl; named = j.0; there = j.1; leads = refl }
 
   no_uses : (d : ℕ) → slice_get t.flat.domains d ≡ None → uses_at t d ≡ []

@@ -38,7 +38,7 @@ use Rattle.system_spec.specs.Bits.{bits_for}
 use Rattle.system_spec.specs.Made.{spec_of}
 use Rattle.system_spec.specs.Objects.{badge_at, end_rights, first_rights, joint as joint_at, joint_by, line_by, lines, rights_at, role_badge, settled_badge, slots_at, use_cap}
 use Rattle.system_spec.specs.Parts.{domain_locks, irq, irq_by, irqs, lock, locks, notification_by, numbered, owned, part, parts, place, sections}
-use Rattle.system_spec.specs.Tables.{Tables, device_of, irq_number, uses_at}
+use Rattle.system_spec.specs.Tables.{Tables, irq_number, irq_owner, uses_at}
 use Rattle.system_spec.proofs.LeastBits.{least}
 use Rattle.system_spec.proofs.Objects.{in_together, objects_stand, parts_are_there}
 use Rattle.spec_laws.specs.Slotted.{CanSlot, IsBadge, IsCNodeOf, IsCapOf, IsEndCap, IsHandlerCap, IsIrqOf, IsJoint, IsLockCap, IsNamed}
@@ -219,19 +219,19 @@ module _ (t : Tables) (can : CanSlot t) where
       }
 
   -- the interrupt of a connection is a part, under some number
-  pub has_irq : (k : ℕ) (c : FlatConnection) → slice_get t.flat.connections k ≡ Some c → c.connector ≡ Interrupt → (j : ℕ) × IsIn (part series.Irq j (device_of c.connector c.ends) (IrqOf k)) (parts t)
+  pub has_irq : (k : ℕ) (c : FlatConnection) → slice_get t.flat.connections k ≡ Some c → c.connector ≡ Interrupt → (j : ℕ) × IsIn (part series.Irq j (irq_owner k c) (IrqOf k)) (parts t)
   has_irq k c h e =
-      let x = owned (device_of c.connector c.ends) (IrqOf k) in
-      let P : Connector → Type 0 = λ n. IsIn x (irq_by k (device_of c.connector c.ends) n) in
+      let x = owned (irq_owner k c) (IrqOf k) in
+      let P : Connector → Type 0 = λ n. IsIn x (irq_by k (irq_owner k c) n) in
       let i = in_gather irq x t.flat.connections k c h (subst P (sym e) (inl refl)) in
       let j = place_of x (irqs t) i in
       let f : ℕ → Owned → List Part = λ n z. part series.Irq n z.owner z.what ∷ [] in
-      (j.0, in_together (sections t) 5 (numbered series.Irq (irqs t)) (part series.Irq j.0 (device_of c.connector c.ends) (IrqOf k)) refl (in_gather f (part series.Irq j.0 (device_of c.connector c.ends) (IrqOf k)) (irqs t) j.0 x j.1 (inl refl)))
+      (j.0, in_together (sections t) 5 (numbered series.Irq (irqs t)) (part series.Irq j.0 (irq_owner k c) (IrqOf k)) refl (in_gather f (part series.Irq j.0 (irq_owner k c) (IrqOf k)) (irqs t) j.0 x j.1 (inl refl)))
 
   pub irq_is : (k : ℕ) (c : FlatConnection) → slice_get t.flat.connections k ≡ Some c → c.connector ≡ Interrupt → IsIrqOf t spec k (place t (IrqOf k))
   irq_is k c h e =
       let j = has_irq k c h e in
-      let p = part series.Irq j.0 (device_of c.connector c.ends) (IrqOf k) in
+      let p = part series.Irq j.0 (irq_owner k c) (IrqOf k) in
       let v = can.devices k c h e in
       let s = can.settled k v.0 c v.1 h v.3 in
       let P : Connector → Type 0 = λ n. IsIn (part series.Ntfn k (OfConnection k) (NotificationOf k)) (notification_by k n) in

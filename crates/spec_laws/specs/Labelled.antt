@@ -23,7 +23,7 @@ use Rattle.page_tables.specs.Walks.{root_span}
 use Rattle.system_spec.specs.declared.map_line.MapLine.{MapLine}
 use Rattle.system_spec.specs.declared.map_line.MapLine.TheVariants.{ThreadLine}
 use Rattle.system_spec.specs.declared.series.Series.TheVariants as series
-use Rattle.system_spec.specs.Tables.{Tables, device_of}
+use Rattle.system_spec.specs.Tables.{Tables, irq_owner}
 use Rattle.vspace_layout.specs.Memory.{registers}
 use Rattle.spec_laws.specs.Framed.{IsOwn, ShowsMemory}
 use Rattle.spec_laws.specs.Slotted.{IsIrqOf, IsNamed}
@@ -43,7 +43,7 @@ pub record AreDomainLabels (t : Tables) (spec : Spec) (labels : Labels) (lines :
 pub record AreJointLabels (t : Tables) (spec : Spec) (labels : Labels) : Type 0 where
   pub endpoints : (place k : ℕ) (c : FlatConnection) → slice_get t.flat.connections k ≡ Some c → c.connector ≡ Rpc → IsNamed spec place series.Ep k → IsOf t labels place (OfConnection k)
   pub notifications : (place k : ℕ) (c : FlatConnection) → slice_get t.flat.connections k ≡ Some c → (c.connector ≡ Notification) ⊎ (c.connector ≡ Interrupt) → IsNamed spec place series.Ntfn k → IsOf t labels place (OfConnection k)
-  pub irqs : (k place : ℕ) (c : FlatConnection) → slice_get t.flat.connections k ≡ Some c → IsIrqOf t spec k place → IsOf t labels place (device_of c.connector c.ends)
+  pub irqs : (k place : ℕ) (c : FlatConnection) → slice_get t.flat.connections k ≡ Some c → IsIrqOf t spec k place → IsOf t labels place (irq_owner k c)
 
 -- of what is mapped
 pub record AreFrameLabels (t : Tables) (spec : Spec) (root : ℕ → ℕ) (labels : Labels) : Type 0 where

@@ -19,7 +19,7 @@ use Rattle.system_spec.specs.declared.places.Standing.TheVariants as standings
 use Rattle.system_spec.specs.Objects.{joint, joint_by}
 use Rattle.system_spec.specs.Parts.{endpoint, endpoint_by, first_of, irq, irq_by, lock, notification, notification_by, place}
 use Rattle.system_spec.specs.Places.{has_endpoint, has_irq, has_notification, holds_lock, mark, one, places_from, stands}
-use Rattle.system_spec.specs.Tables.{Tables, device_of, uses_at}
+use Rattle.system_spec.specs.Tables.{Tables, irq_owner, uses_at}
 
 pub grown_length : {X Y : Type 0} (F : ℕ → X → List Y) (xs : List X) (i : ℕ) (x : X) → i < length xs → x ≡ get_or xs i x
     → length (gather F (take (i + 1) xs)) ≡ length (gather F (take i xs)) + length (F i x)
@@ -73,7 +73,7 @@ pub notifications_marked : (cs : List FlatConnection) → length (gather (mark s
 notifications_marked cs = as_long (mark standings.Notification) notification cs (λ k c. length-mark standings.Notification k c ∙ sym (length-notification k c.connector))
 
 pub irqs_marked : (cs : List FlatConnection) → length (gather (mark standings.Interrupt) cs) ≡ length (gather irq cs)
-irqs_marked cs = as_long (mark standings.Interrupt) irq cs (λ k c. length-mark standings.Interrupt k c ∙ sym (length-irq k (device_of c.connector c.ends) c.connector))
+irqs_marked cs = as_long (mark standings.Interrupt) irq cs (λ k c. length-mark standings.Interrupt k c ∙ sym (length-irq k (irq_owner k c) c.connector))
 
 -- ---- tables of places
 

@@ -21,7 +21,7 @@ use Rattle.system_spec.specs.declared.part.What.TheVariants.{CNodeOf, ThreadOf, 
 use Rattle.system_spec.specs.declared.series.Series.{Series}
 use Rattle.system_spec.specs.declared.series.Series.TheVariants as series
 use Rattle.system_spec.specs.Parts.{all_tables, cnodes, domain_locks, domain_tables, domain_tcbs, endpoint, endpoint_by, endpoints, first_of, frame_parts, irq, irq_by, irqs, level_of, lock, locks, notification, notification_by, notifications, numbered, owned, page_table, part, parts, place, sections, table_part, table_parts, tables_at, tcbs}
-use Rattle.system_spec.specs.Tables.{Tables, device_of, frame_owner, threads_at, uses_at}
+use Rattle.system_spec.specs.Tables.{Tables, frame_owner, irq_owner, threads_at, uses_at}
 
 -- ---- sections
 
@@ -108,7 +108,7 @@ locks_stand t j x e =
 irqs_stand : (t : Tables) (j : ℕ) (x : Owned) → slice_get (irqs t) j ≡ Some x → place t x.what ≡ first_of t 5 + j
 irqs_stand t j x e =
     let g = from_place irq t.flat.connections j x e in
-    by_kind g.item.connector g.place (device_of g.item.connector g.item.ends) g.number g.stands g.sum
+    by_kind g.item.connector g.place (irq_owner g.place g.item) g.number g.stands g.sum
   where
     by_kind : (c : Connector) (k : ℕ) (o : Owner) (i : ℕ) → slice_get (irq_by k o c) i ≡ Some x → j ≡ before irq t.flat.connections k + i → place t x.what ≡ first_of t 5 + j
     by_kind Interrupt k o i h a = let s = single (owned o (IrqOf k)) x i h in let z = s.0 in ap (λ (q : Owned). place t q.what) (sym s.1) ∙ omega (arith, a, z)

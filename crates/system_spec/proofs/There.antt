@@ -27,7 +27,7 @@ use Rattle.system_spec.specs.declared.series.Series.TheVariants as series
 use Rattle.system_spec.specs.Made.{spec_of}
 use Rattle.system_spec.specs.Objects.{object}
 use Rattle.system_spec.specs.Parts.{all_tables, cnodes, domain_locks, domain_tables, domain_tcbs, endpoint, endpoint_by, endpoints, frame_parts, irq, irq_by, irqs, level_of, lock, locks, notification, notification_by, notifications, numbered, owned, page_table, part, parts, place, sections, table_part, table_parts, tables_at, tcbs}
-use Rattle.system_spec.specs.Tables.{Tables, device_of, frame_owner, threads_at, uses_at}
+use Rattle.system_spec.specs.Tables.{Tables, frame_owner, irq_owner, threads_at, uses_at}
 use Rattle.system_spec.specs.Landmarks.{IsThere as IsCounted}
 use Rattle.vspace_layout.specs.declared.spaces.FrameInfo.{FrameInfo}
 use Rattle.vspace_layout.specs.declared.spaces.ThreadPlace.{ThreadPlace}
@@ -95,8 +95,8 @@ has_lock t d n leaf m x h u =
 
 has_irq : (t : Tables) (k : ℕ) (c : FlatConnection) → slice_get t.flat.connections k ≡ Some c → c.connector ≡ Interrupt → HasPart t (IrqOf k)
 has_irq t k c e i =
-    let o = owned (device_of c.connector c.ends) (IrqOf k) in
-    let P : Connector → Type 0 = λ z. IsIn o (irq_by k (device_of c.connector c.ends) z) in
+    let o = owned (irq_owner k c) (IrqOf k) in
+    let P : Connector → Type 0 = λ z. IsIn o (irq_by k (irq_owner k c) z) in
     numbered_part t 5 series.Irq (irqs t) o refl (in_gather irq o t.flat.connections k c e (subst P (sym i) (inl refl)))
 
 has_thread : (t : Tables) (d i : ℕ) (x : Domain) (y : ThreadPlace) → slice_get t.flat.domains d ≡ Some x → slice_get (threads_at t d) i ≡ Some y → HasPart t (ThreadOf d i)
@@ -212,7 +212,7 @@ of_lock t o i =
 of_irq : (t : Tables) (o : Owned) → IsIn o (irqs t) → IsThere t o.what
 of_irq t o i =
     let g = from_gather irq o t.flat.connections i in
-    by_kind g.1.connector g.0 (device_of g.1.connector g.1.ends) g.3 (λ r. (g.1, g.2, r))
+    by_kind g.1.connector g.0 (irq_owner g.0 g.1) g.3 (λ r. (g.1, g.2, r))
   where
     by_kind : (c : Connector) (k : ℕ) (w : Owner) → IsIn o (irq_by k w c) → (c ≡ Interrupt → IsThere t (IrqOf k)) → IsThere t o.what
     by_kind Interrupt k w i h = subst (λ (z : Owned). IsThere t z.what) (single (owned w (IrqOf k)) o i) (h refl)

@@ -42,7 +42,7 @@ use Rattle.system_spec.specs.declared.part.What.TheVariants.{CNodeOf, ThreadOf, 
 use Rattle.system_spec.specs.declared.series.Series.{Series}
 use Rattle.system_spec.specs.declared.series.Series.TheVariants as series
 use Rattle.system_spec.specs.Names.{level_series}
-use Rattle.system_spec.specs.Tables.{Tables, arch, device_of, frame_owner, pages_at, threads_at, uses_at}
+use Rattle.system_spec.specs.Tables.{Tables, arch, frame_owner, irq_owner, pages_at, threads_at, uses_at}
 
 abbrev pub part : Series → ℕ → Owner → What → Part
 part s n o w = record { series = s; number = n; owner = o; what = w }
@@ -112,7 +112,7 @@ abbrev pub notification : ℕ → FlatConnection → List Part
 notification k c = notification_by k c.connector
 
 abbrev pub irq : ℕ → FlatConnection → List Owned
-irq k c = irq_by k (device_of c.connector c.ends) c.connector
+irq k c = irq_by k (irq_owner k c) c.connector
 
 abbrev pub endpoints : Tables → List Part
 endpoints t = gather endpoint t.flat.connections

@@ -95,9 +95,9 @@ device_place connector ends = position (is_hardware connector) ends
 abbrev pub device_end : Connector → List FlatEnd → Option FlatEnd
 device_end connector ends = option_and_then (slice_get ends) (device_place connector ends)
 
--- whose the device is that the connection joins
-abbrev pub device_of : Connector → List FlatEnd → Owner
-device_of connector ends = option_map_or (λ e. owners.OfLeaf e.leaf) (device_end connector ends) (owners.OfLeaf 0)
+-- whose the interrupt of connection k is: its device's, or its own where no end is a device's
+abbrev pub irq_owner : ℕ → FlatConnection → Owner
+irq_owner k c = option_map_or (λ e. owners.OfLeaf e.leaf) (device_end c.connector c.ends) (owners.OfConnection k)
 
 -- the settled number of the interrupt, which is that of the device's end
 abbrev pub irq_number : Settled → ℕ → FlatConnection → ℕ

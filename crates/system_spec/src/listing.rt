@@ -10,7 +10,7 @@ ghost use Rattle.system_spec.specs.Parts.{frame_parts, numbered, sections as all
 ghost use Rattle.system_spec.specs.Told.{told};
 
 use crate::levels::{all_tables, table_parts};
-use crate::tables::{Tables, device_of, frame_owner, threads_at, uses_at};
+use crate::tables::{Tables, frame_owner, irq_owner, threads_at, uses_at};
 use crate::{Owned, Part, Series, What};
 use adl_meaning::{Connector, Domain, FlatConnection};
 use arch_policy::Owner;
@@ -190,7 +190,7 @@ fn push_irq(
 {
     match connection.connector {
         Connector::Interrupt => items.push(Owned {
-            owner: device_of(Connector::Interrupt, connection.ends.as_slice()),
+            owner: irq_owner(number, connection),
             what: What::IrqOf(number),
         }),
         _ => Ok(()),

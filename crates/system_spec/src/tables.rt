@@ -1,5 +1,5 @@
 ghost use Rattle.std.specs.Prelude.{◌≡◌};
-ghost use Rattle.system_spec.specs.Tables.{component_name, device_end, device_of, device_place, entry_in};
+ghost use Rattle.system_spec.specs.Tables.{component_name, device_end, device_place, entry_in, irq_owner};
 ghost use Rattle.system_spec.specs.Tables.{frame_owner, leaf_entry};
 ghost use Rattle.system_spec.specs.Tables.{leaf_name, name_of_item, pages_at, priority, threads_at, uses_at, windows_at};
 ghost use Rattle.system_spec.specs.Told.{told};
@@ -80,13 +80,13 @@ fn device_end(connector: Connector, ends: &[FlatEnd]) -> Option<FlatEnd>
     Some(*ends.get(place)?)
 }
 
-/// Whose the device is that a connection with these ends joins. Takes no memory.
-pub fn device_of(connector: Connector, ends: &[FlatEnd]) -> Owner
-    ensures { result ≡ device_of connector ends.now }
+/// Whose the interrupt of the connection of this number is. Takes no memory.
+pub fn irq_owner(number: u32, connection: &FlatConnection) -> Owner
+    ensures { result ≡ irq_owner number connection.now }
 {
-    match device_end(connector, ends) {
+    match device_end(connection.connector, connection.ends.as_slice()) {
         Some(end) => Owner::OfLeaf(end.leaf),
-        None => Owner::OfLeaf(0),
+        None => Owner::OfConnection(number),
     }
 }
 

@@ -9,7 +9,7 @@ use Rattle.numbering.proofs.Lists.{taken_le}
 use Rattle.system_spec.specs.Few.{AreFew}
 use Rattle.system_spec.specs.Objects.{line, line_by}
 use Rattle.system_spec.specs.Parts.{first_of, irq, irq_by}
-use Rattle.system_spec.specs.Tables.{Tables, device_of}
+use Rattle.system_spec.specs.Tables.{Tables, irq_owner}
 use Rattle.system_spec.specs.Told.{told}
 use Rattle.system_spec.proofs.Bounds.{ends}
 use Rattle.system_spec.proofs.Placing.{as_long}
@@ -27,7 +27,7 @@ length-line t k c o Direct = refl
 so_far : (t : Tables) (i n : ℕ) (lines : List (ℕ × ℕ)) → lines ≡ gather (line t) (take i t.flat.connections) → n ≡ length lines → n ≡ before irq t.flat.connections i
 so_far t i n lines e l =
     l ∙ ap (λ (z : List (ℕ × ℕ)). length z) e
-    ∙ as_long (line t) irq (take i t.flat.connections) (λ k c. length-line t k c (device_of c.connector c.ends) c.connector)
+    ∙ as_long (line t) irq (take i t.flat.connections) (λ k c. length-line t k c (irq_owner k c) c.connector)
 
 fits : (t : Tables) → AreFew t → (i n first : ℕ) → first ≡ first_of t 5 → n ≡ before irq t.flat.connections i → first + n < 2 ^ 32
 fits t few i n first f e = omega (arith, f, e, taken_le irq t.flat.connections i, (ends t few).irqs)
