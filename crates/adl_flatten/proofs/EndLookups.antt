@@ -2,7 +2,7 @@
 use Rattle.adl_flatten.proofs.Common.{Bool, JoinedEnd, List, None, Option, Some, [], and_parts, ap, arith, cond, count_by, eqb-true, false, is_at, is_counted, list_any, lt-ltb, nat_eq, nat_lt, option_eq, refl, same_key, sym, true, unwrap_or, ℕ, ◌&&◌}
 use Rattle.adl_flatten.proofs.Common.{◌+◌, ◌==◌, ◌||◌, ◌∙◌, ◌∷◌, ◌≡◌}
 use Rattle.std.proofs.Common.{true≢false}
-use Rattle.std.specs.Map.{lookup}
+use Rattle.adl_meaning.specs.Prelude.{lookup}
 use Rattle.std.proofs.Math.Nat.{zero-add}
 use Rattle.std.proofs.lemmas.List.Sums.{sum_by-cons}
 use Rattle.adl_flatten.specs.declared.end_counts.EndKey.{EndKey}

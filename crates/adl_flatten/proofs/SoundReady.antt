@@ -3,11 +3,10 @@ use Rattle.adl_flatten.proofs.Common.{All, AreNamesSound, Assembly, Body, IsRead
 use Rattle.adl_flatten.proofs.Common.{sym, top_of, ℕ, ◌<◌, ◌^◌, ◌≡◌, ◌≤◌}
 use Rattle.std.proofs.lemmas.List.Elements.{All-get_or}
 use Rattle.std.proofs.lemmas.Option.{get_or_from_slice_get}
-use Rattle.adl_ast.specs.declared.component.Component.{Component}
+use Rattle.adl_meaning.specs.Prelude.{Component, HaveFewMembers}
 use Rattle.adl_hierarchy.proofs.Bodies.{body_at}
 use Rattle.adl_hierarchy.proofs.PartNames.{names_once}
 use Rattle.adl_hierarchy.proofs.PartsAt.{are_composed}
-use Rattle.adl_meaning.specs.FewMembers.{HaveFewMembers}
 use Rattle.numbering.proofs.Lists.{below}
 
 member_count : Option Component → ℕ

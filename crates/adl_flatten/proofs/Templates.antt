@@ -5,7 +5,7 @@ use Rattle.adl_flatten.proofs.Common.{joined_end, joined_end_of, joined_ends, jo
 use Rattle.adl_flatten.proofs.Common.{parted_call, placed, refl, same_domain, sym, template_connections, template_leaves, top_number, unjoined_at, unjoined_leaf, where_true, ℕ, ◌&&◌, ◌++◌, ◌+◌, ◌<◌, ◌^◌, ◌∙◌, ◌∷◌, ◌≡◌, ◌≤◌}
 use Rattle.std.proofs.lemmas.Simd.{map-map}
 use Rattle.cam_base.specs.declared.code.Code.TheVariants as code
-use Rattle.adl_ast.specs.declared.composition.End.{End}
+use Rattle.adl_meaning.specs.Prelude.{End}
 
 -- ---- leaves
 

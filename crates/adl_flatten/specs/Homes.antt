@@ -1,12 +1,6 @@
 -- The domain path of each leaf, and the leaves of each domain by number.
 use Rattle.std.specs.Prelude.{ℕ, ◌==◌, Bool, false, if◌then◌else◌, List, ◌++◌, map, Option, None, Some, option_map, unwrap_or}
-use Rattle.std.specs.List.{filter, filter_map, list_any, enumerate_from}
-use Rattle.std.specs.Option.{option_map_or}
-use Rattle.adl_meaning.specs.declared.flat.Domain.{Domain}
-use Rattle.adl_meaning.specs.Domains.{domain_of, is_hardware}
-use Rattle.adl_meaning.specs.Hierarchy.{Hierarchy}
-use Rattle.adl_meaning.specs.Lists.{place_by, firsts_after}
-use Rattle.adl_meaning.specs.Paths.{Path, Placed, same_path}
+use Rattle.adl_meaning.specs.Prelude.{Domain, Hierarchy, Path, Placed, domain_of, enumerate_from, filter, filter_map, firsts_after, is_hardware, list_any, option_map_or, place_by, same_path}
 use Rattle.adl_templates.specs.Templates.{Homed}
 
 -- the domain path of a leaf; a device has none

@@ -1,22 +1,12 @@
 -- The connections of a template in a flat system, how many ends join an interface of a leaf, and the faults of joins.
 use Rattle.std.specs.Prelude.{ℕ, List, [], ◌∷◌, ◌++◌, map, ◌≡◌, ◌==◌, nat_eq, Bool, true, ◌&&◌, unwrap_or, not, is_some, Option}
-use Rattle.std.specs.List.{flat_map, enumerate_from, count_by, list_all, slice_get}
-use Rattle.adl_meaning.specs.declared.flat.FlatConnection.{FlatConnection}
-use Rattle.adl_meaning.specs.declared.flat.FlatEnd.{FlatEnd}
-use Rattle.adl_meaning.specs.Export.{last_name}
-use Rattle.adl_meaning.specs.JoinedEnds.{JoinedEnd, is_at}
+use Rattle.adl_meaning.specs.Prelude.{Fault, FlatConnection, FlatEnd, Hierarchy, JoinedEnd, Leaf, at_word, body, count_by, enumerate_from, flat_map, is_at, is_direct, is_hardware, last_name, list_all, lookup, option_and_then, option_map_or}
+use Rattle.adl_meaning.specs.Prelude.{same_domain, slice_get, where_true}
 use Rattle.adl_templates.specs.Templates.{Joined, Connected, Homed}
-use Rattle.std.specs.Map.{lookup}
-use Rattle.std.specs.Option.{option_eq, option_map_or, option_and_then}
+use Rattle.std.specs.Option.{option_eq}
 use Rattle.adl_flatten.specs.declared.end_counts.EndCounts.{EndCounts}
 use Rattle.adl_flatten.specs.declared.end_counts.EndKey.{EndKey}
 use Rattle.cam_base.specs.declared.code.Code.TheVariants as code
-use Rattle.cam_base.specs.declared.place.Fault.{Fault}
-use Rattle.adl_meaning.specs.declared.flat.Leaf.{Leaf}
-use Rattle.adl_meaning.specs.Domains.{is_hardware}
-use Rattle.adl_meaning.specs.Faults.{at_word, where_true}
-use Rattle.adl_meaning.specs.Hierarchy.{Hierarchy, body}
-use Rattle.adl_meaning.specs.Placement.{is_direct, same_domain}
 use Rattle.adl_meaning.specs.Unconnected.{unjoined_member}
 
 abbrev pub flat_end_of : Joined → FlatEnd

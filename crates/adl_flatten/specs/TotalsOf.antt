@@ -1,11 +1,8 @@
 -- The totals of a body, which are plain sums over the paths in it, each at most the greatest number of 64 bits.
 use Rattle.std.specs.Prelude.{◌≤◌, ◌-◌, ◌^◌, ℕ, List, map, length, min}
-use Rattle.std.specs.List.{flat_map}
-use Rattle.adl_ast.specs.declared.composition.End.{End}
-use Rattle.adl_meaning.specs.Hierarchy.{Hierarchy}
-use Rattle.adl_meaning.specs.Joins.{Strung, connections, connections_in}
-use Rattle.adl_meaning.specs.Paths.{Placed, leaves, leaves_in}
-use Rattle.adl_meaning.specs.SizeFaults.{longest, depth}
+use Rattle.adl_meaning.specs.Prelude.{End, Hierarchy, Placed, Strung, connections, depth, flat_map, leaves, leaves_in}
+use Rattle.adl_meaning.specs.Joins.{connections_in}
+use Rattle.adl_meaning.specs.SizeFaults.{longest}
 use Rattle.adl_flatten.specs.declared.sums.Totals.{Totals}
 
 abbrev pub saturated : ℕ → ℕ

@@ -3,7 +3,7 @@
 ghost use Rattle.adl_flatten.specs.Homes.{home_in, home_number, all_met, is_number, domain_to};
 ghost use Rattle.adl_meaning.specs.declared.flat.Domain.{Domain as DomainOf};
 ghost use Rattle.adl_meaning.specs.Paths.{Path as PathOf};
-ghost use Rattle.std.specs.List.{enumerate_from};
+ghost use Rattle.adl_meaning.specs.Prelude.{enumerate_from};
 ghost use Rattle.std.specs.Prelude.{◌≡◌, ◌<◌, ◌≤◌, ◌+◌, ◌^◌, ◌∷◌, ◌++◌, [], ℕ, List as Seq, Option as Maybe, map, length, slice_index_or, if◌then◌else◌, IfOk, OnOk};
 
 use crate::path_key::PathKey;

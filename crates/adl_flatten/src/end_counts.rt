@@ -1,9 +1,8 @@
 //! How many ends join each interface.
 
 ghost use Rattle.adl_flatten.specs.TemplateJoins.{same_key, is_counted, count_at, AreCounts};
-ghost use Rattle.adl_meaning.specs.JoinedEnds.{is_at};
+ghost use Rattle.adl_meaning.specs.Prelude.{count_by, is_at, list_any};
 ghost use Rattle.adl_meaning.specs.UsedTwice.{clashes};
-ghost use Rattle.std.specs.List.{list_any, count_by};
 ghost use Rattle.std.specs.Prelude.{◌≡◌, ◌<◌, ◌+◌, ◌^◌, if◌then◌else◌, IfOk, OnOk};
 
 use crate::connections::JoinedEnd;
@@ -81,7 +80,7 @@ pub struct CountedEnds<'t, 'a> {
 }
 
 impl<'t, 'a> Model for CountedEnds<'t, 'a> {
-    ghost use Rattle.adl_meaning.specs.JoinedEnds.{JoinedEnd};
+    ghost use Rattle.adl_meaning.specs.Prelude.{JoinedEnd};
     ghost use Rattle.std.specs.Prelude.{List};
 
     ghost Value = { List JoinedEnd };

@@ -1,16 +1,10 @@
 //! The faults of joins.
 
 ghost use Rattle.adl_flatten.specs.TemplateJoins.{domain_in, all_in, in_one, misplaced_leaf, misplaced_call, unjoined_leaf};
-ghost use Rattle.adl_meaning.specs.Faults.{noted, least};
-ghost use Rattle.adl_meaning.specs.Flat.{flattened};
-ghost use Rattle.adl_meaning.specs.Hierarchy.{body, top_number};
-ghost use Rattle.adl_meaning.specs.JoinFaults.{join_faults_in};
-ghost use Rattle.adl_meaning.specs.Placement.{is_direct, same_domain};
+ghost use Rattle.adl_meaning.specs.Prelude.{body, enumerate_from, flat_map, flattened, is_direct, join_faults_in, least, noted, option_map_or, same_domain, top_number};
 ghost use Rattle.adl_meaning.specs.Unconnected.{may_stay};
 ghost use Rattle.adl_meaning.specs.UsedTwice.{used_twice};
 ghost use Rattle.adl_templates.specs.AreTemplates.{IsTemplate};
-ghost use Rattle.std.specs.List.{flat_map, enumerate_from};
-ghost use Rattle.std.specs.Option.{option_map_or};
 ghost use Rattle.std.specs.Prelude.{◌≡◌, ◌<◌, ◌^◌, ℕ, length, IfOk};
 
 use crate::connections::joined_ends;

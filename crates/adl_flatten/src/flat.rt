@@ -1,13 +1,7 @@
 //! All of it together: the limits, the templates, the faults of joins.
 
 ghost use Rattle.adl_flatten.specs.TotalsOf.{IsWithinLimits};
-ghost use Rattle.adl_meaning.specs.Faults.{least, Refuses};
-ghost use Rattle.adl_meaning.specs.FewMembers.{HaveFewMembers};
-ghost use Rattle.adl_meaning.specs.Flat.{flat_of, flattened};
-ghost use Rattle.adl_meaning.specs.Hierarchy.{hierarchy_of, top_number};
-ghost use Rattle.adl_meaning.specs.Items.{AreFew};
-ghost use Rattle.adl_meaning.specs.JoinFaults.{join_faults_in, first_flat_fault};
-ghost use Rattle.adl_meaning.specs.NameFaults.{AreNamesSound};
+ghost use Rattle.adl_meaning.specs.Prelude.{AreFew, AreNamesSound, HaveFewMembers, Refuses, first_flat_fault, flat_of, flattened, hierarchy_of, join_faults_in, least, top_number};
 ghost use Rattle.adl_templates.specs.AreTemplates.{IsTemplate, IsReady};
 ghost use Rattle.std.specs.Prelude.{◌≡◌, IfOk};
 

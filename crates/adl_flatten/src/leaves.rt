@@ -1,9 +1,7 @@
 //! The leaves and the domains of a flat system.
 
 ghost use Rattle.adl_flatten.specs.Homes.{home, home_number, placed};
-ghost use Rattle.adl_meaning.specs.Domains.{domains, is_hardware};
-ghost use Rattle.adl_meaning.specs.Flat.{item_of, leaf_of, flattened};
-ghost use Rattle.adl_meaning.specs.Hierarchy.{top_number};
+ghost use Rattle.adl_meaning.specs.Prelude.{domains, flattened, is_hardware, item_of, leaf_of, top_number};
 ghost use Rattle.adl_templates.specs.Templates.{template_leaves};
 ghost use Rattle.std.specs.Prelude.{◌≡◌, ◌<◌, ◌^◌, map, length, IfOk};
 

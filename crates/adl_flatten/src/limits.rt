@@ -1,11 +1,7 @@
 //! The limits of a hierarchy.
 
 ghost use Rattle.adl_flatten.specs.TotalsOf.{totals_in};
-ghost use Rattle.adl_meaning.specs.Faults.{noted, Refuses};
-ghost use Rattle.adl_meaning.specs.Hierarchy.{Hierarchy, hierarchy_of, top_number};
-ghost use Rattle.adl_meaning.specs.Items.{AreFew};
-ghost use Rattle.adl_meaning.specs.NameFaults.{AreNamesSound};
-ghost use Rattle.adl_meaning.specs.SizeFaults.{limits_passed, first_size_fault};
+ghost use Rattle.adl_meaning.specs.Prelude.{AreFew, AreNamesSound, Hierarchy, Refuses, first_size_fault, hierarchy_of, limits_passed, noted, top_number};
 ghost use Rattle.adl_items.specs.Located.{located};
 ghost use Rattle.std.specs.Prelude.{◌≡◌};
 

@@ -1,6 +1,6 @@
 //! Paths as keys.
 
-ghost use Rattle.adl_meaning.specs.Paths.{same_path};
+ghost use Rattle.adl_meaning.specs.Prelude.{same_path};
 ghost use Rattle.std.proofs.Common.{rules};
 ghost use Rattle.std.proofs.lemmas.Slice.Eq.{bytes_eq-Decides};
 ghost use Rattle.std.specs.Cmp.Rules.{comparing};

@@ -2,11 +2,9 @@
 
 ghost use Rattle.adl_flatten.specs.TotalsOf.{saturated, totals_of, totals_in};
 ghost use Rattle.adl_hierarchy.specs.Finite.{IsFinite};
-ghost use Rattle.adl_meaning.specs.Hierarchy.{Part, body, top_number};
-ghost use Rattle.adl_meaning.specs.Joins.{Strung, further, strung, strung_by, connections_in};
+ghost use Rattle.adl_meaning.specs.Prelude.{Part, Placed, Strung, body, flat_map, further, leaves_in, outside, placed_by, strung, strung_by, top_number};
+ghost use Rattle.adl_meaning.specs.Joins.{connections_in};
 ghost use Rattle.numbering.specs.Gather.{IsIn};
-ghost use Rattle.adl_meaning.specs.Paths.{Placed, outside, leaves_in, placed_by};
-ghost use Rattle.std.specs.List.{flat_map};
 ghost use Rattle.std.specs.Prelude.{◌≡◌, ◌<◌, ◌≤◌, ◌∷◌, ◌++◌, ℕ, List as Seq, [], map, length, slice_index_or, IfOk};
 
 use adl_program::{Part, Program, Wire};

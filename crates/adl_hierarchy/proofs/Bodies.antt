@@ -1,22 +1,11 @@
 -- The bodies of a source's hierarchy, and their instances.
 use Rattle.std.proofs.Common.{◌≡◌, ◌≤◌, ℕ, List, length, [], ◌∷◌, map, Option, Some, None, refl, sym, subst, ap, ◌∙◌, ◌⊎◌, inl, inr, true, is_some, arith}
-use Rattle.std.specs.List.{filter_map, slice_get}
+use Rattle.adl_meaning.specs.Prelude.{AreNamesSound, Assembly, Body, Component, Composition, Hierarchy, Instance, ItemAt, Line, Name, Part, Source, assemblies, body, body_of, components, filter_map, graph, hierarchy_of, inner_of, instances_by}
+use Rattle.adl_meaning.specs.Prelude.{instances_in, is_composite, kind_named, part_of, parts_by, parts_in, slice_get, top_number, top_of}
 use Rattle.std.proofs.lemmas.Option.{get_or_from_slice_get, slice_get_within}
 use Rattle.std.proofs.lemmas.List.{length-map}
-use Rattle.adl_ast.specs.declared.component.Component.{Component}
-use Rattle.adl_ast.specs.declared.composition.Assembly.{Assembly}
-use Rattle.adl_ast.specs.declared.composition.Composition.{Composition}
-use Rattle.adl_ast.specs.declared.composition.Instance.{Instance}
-use Rattle.adl_ast.specs.declared.composition.Line.{Line}
 use Rattle.adl_ast.specs.declared.composition.Line.TheVariants as lines
-use Rattle.adl_ast.specs.declared.source.Source.{Source}
-use Rattle.adl_meaning.specs.declared.item_at.ItemAt.{ItemAt}
-use Rattle.adl_meaning.specs.Graph.{inner_of}
-use Rattle.adl_meaning.specs.Hierarchy.{Hierarchy, Part, Body, part_of, parts_by, parts_in, body_of, top_of, kind_named, hierarchy_of, top_number, body, is_composite, graph}
-use Rattle.adl_meaning.specs.Holding.{instances_by, instances_in}
-use Rattle.adl_meaning.specs.Items.{Name, components, assemblies}
 use Rattle.numbering.specs.Gather.{IsIn}
-use Rattle.adl_meaning.specs.NameFaults.{AreNamesSound}
 use Rattle.adl_meaning.proofs.SoundNames.{one_assembly}
 use Rattle.numbering.proofs.Lists.{in_flat_map, from_flat_map, from_filter_map, get_map, get_or_map, get_or_last, map_some}
 

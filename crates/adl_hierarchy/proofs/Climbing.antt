@@ -1,21 +1,10 @@
 -- A search downwards finds an interface of a leaf exactly where the interface climbs up to the port.
 use Rattle.std.proofs.Common.{◌≡◌, ◌≤◌, ℕ, zero, suc, Bool, true, false, cond, length, [], ◌∷◌, map, Option, Some, None, option_map, is_some, refl, sym, ◌∙◌, ap, subst, arith}
-use Rattle.std.specs.Option.{option_and_then, option_map_or}
-use Rattle.std.specs.Str.{bytes_eq}
+use Rattle.adl_meaning.specs.Prelude.{AreNamesSound, Climbs, Composition, Export, Hierarchy, IsLeaf, Known, Name, Part, Path, Reached, Source, at, behind, body, bytes_eq, export_named, exports_in, exports_of, hierarchy_of, is_composite, known_in}
+use Rattle.adl_meaning.specs.Prelude.{misfits_in_composition, name_of, option_and_then, option_map_or, part_named, port_in, reached, reached_by, reached_within}
 use Rattle.std.proofs.lemmas.Option.{option_and_then_some}
 use Rattle.std.proofs.lemmas.Slice.Eq.{bytes_eq-Decides}
-use Rattle.adl_ast.specs.declared.composition.Composition.{Composition}
-use Rattle.adl_ast.specs.declared.composition.Export.{Export}
-use Rattle.adl_ast.specs.declared.source.Source.{Source}
-use Rattle.adl_meaning.specs.Hierarchy.{Hierarchy, Part, hierarchy_of, body, is_composite, part_named, export_named, exports_of, port_in}
-use Rattle.adl_meaning.specs.Holding.{exports_in}
-use Rattle.adl_meaning.specs.Items.{Name}
-use Rattle.adl_meaning.specs.Joins.{Climbs, Reached, behind, reached_by, reached_within, reached}
-use Rattle.adl_meaning.specs.Export.{misfits_in_composition}
-use Rattle.adl_meaning.specs.Known.{Known, known_in}
 use Rattle.numbering.specs.Gather.{IsIn}
-use Rattle.adl_meaning.specs.NameFaults.{AreNamesSound}
-use Rattle.adl_meaning.specs.Paths.{Path, IsLeaf, at, name_of}
 use Rattle.adl_hierarchy.specs.Once.{IsOnce}
 use Rattle.adl_hierarchy.proofs.Exports.{no_misfit, targets_once}
 use Rattle.adl_hierarchy.proofs.Finite.{sound_is_finite}

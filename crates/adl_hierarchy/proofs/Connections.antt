@@ -1,14 +1,9 @@
 -- The walk to the connections meets each connection once, and nothing else.
 use Rattle.std.proofs.Common.{◌≡◌, ◌≤◌, ◌↔◌, ℕ, zero, suc, List, length, [], ◌∷◌, ◌++◌, map, Some, refl, sym, ◌∙◌, ap, subst, arith, inl, inr}
-use Rattle.std.specs.List.{flat_map}
+use Rattle.adl_meaning.specs.Prelude.{AreNamesSound, Hierarchy, Name, Part, Path, Source, Strung, Wire, at, body, connections, flat_map, further, hierarchy_of, name_of, strung, strung_by, top_number, wires_of}
 use Rattle.std.proofs.lemmas.List.{map-append}
-use Rattle.adl_ast.specs.declared.source.Source.{Source}
-use Rattle.adl_meaning.specs.Hierarchy.{Hierarchy, Part, Wire, hierarchy_of, body, wires_of, top_number}
-use Rattle.adl_meaning.specs.Items.{Name}
-use Rattle.adl_meaning.specs.Joins.{Strung, further, strung, strung_by, connections_within, connections}
+use Rattle.adl_meaning.specs.Joins.{connections_within}
 use Rattle.numbering.specs.Gather.{IsIn}
-use Rattle.adl_meaning.specs.NameFaults.{AreNamesSound}
-use Rattle.adl_meaning.specs.Paths.{Path, at, name_of}
 use Rattle.adl_hierarchy.specs.Once.{IsOnce}
 use Rattle.adl_hierarchy.proofs.Finite.{sound_is_finite}
 use Rattle.numbering.proofs.Gathered.{in_left, in_right, in_append}

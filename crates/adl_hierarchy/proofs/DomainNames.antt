@@ -1,16 +1,10 @@
 -- The domains of a hierarchy are those of its leaves.
 use Rattle.std.proofs.Common.{◌≡◌, ◌↔◌, ℕ, Bool, true, false, not, List, map, Some, Decides, refl, sym, ◌∙◌, ap, subst, arith}
-use Rattle.std.specs.List.{slice_get, filter, enumerate_from}
+use Rattle.adl_meaning.specs.Prelude.{AreNamesSound, Hierarchy, Path, Placed, Source, domain_number, domain_of, domains, enumerate_from, filter, flat_domain, hierarchy_of, is_hardware, is_inside, leaf_number, leaves, same_path, slice_get}
 use Rattle.std.proofs.lemmas.Bool.{and_parts, and_from, not-true}
 use Rattle.std.proofs.Common.{◌+◌, map-id}
 use Rattle.std.proofs.lemmas.Slice.Eq.{bytes_eq-Decides, slice_eq-Decides}
-use Rattle.adl_ast.specs.declared.source.Source.{Source}
-use Rattle.adl_meaning.specs.Domains.{domain_of, is_hardware, domains}
-use Rattle.adl_meaning.specs.Flat.{leaf_number, domain_number, is_inside, flat_domain}
-use Rattle.adl_meaning.specs.Hierarchy.{Hierarchy, hierarchy_of}
 use Rattle.numbering.specs.Gather.{IsIn}
-use Rattle.adl_meaning.specs.NameFaults.{AreNamesSound}
-use Rattle.adl_meaning.specs.Paths.{Path, Placed, leaves, same_path}
 use Rattle.adl_hierarchy.specs.Once.{IsOnce}
 use Rattle.numbering.proofs.Lists.{in_map, from_map, from_enumerate, in_enumerate}
 use Rattle.adl_hierarchy.proofs.Once.{leaf_paths_once}

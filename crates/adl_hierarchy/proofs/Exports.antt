@@ -1,24 +1,11 @@
 -- Where no export is at fault: exports stand once by target, and what is exported or joined leads on.
 use Rattle.std.proofs.Common.{◌≡◌, ℕ, Bool, true, false, ◌||◌, List, [], ◌∷◌, map, Option, Some, None, refl, sym, ◌∙◌, ap, subst, inl, inr}
-use Rattle.std.specs.List.{flat_map}
-use Rattle.std.specs.Str.{bytes_eq}
+use Rattle.adl_meaning.specs.Prelude.{AreNamesSound, Composition, Connection, End, Export, Fault, Held, Known, Name, Port, Source, body, bytes_eq, compositions, connections_in, exports_in, flat_map, held_as, hierarchy_of, is_unled, known_in}
+use Rattle.adl_meaning.specs.Prelude.{known_of, misfits_in_composition, port_of, where_true}
 use Rattle.std.proofs.lemmas.Bool.{or_left, or_right, or_parts}
 use Rattle.std.proofs.lemmas.Slice.Eq.{bytes_eq-Decides}
-use Rattle.cam_base.specs.declared.place.Fault.{Fault}
-use Rattle.adl_ast.specs.declared.composition.Composition.{Composition}
-use Rattle.adl_ast.specs.declared.composition.Connection.{Connection}
-use Rattle.adl_ast.specs.declared.composition.End.{End}
-use Rattle.adl_ast.specs.declared.composition.Export.{Export}
-use Rattle.adl_ast.specs.declared.source.Source.{Source}
-use Rattle.adl_meaning.specs.Export.{Port, port_of, is_unled, inner_of, is_port, export_fault, is_misfit, misfits_after, unled_end, unled_ends, misfits_in_composition, misfits_in_item}
-use Rattle.adl_meaning.specs.Faults.{where_true}
-use Rattle.adl_meaning.specs.Hierarchy.{hierarchy_of, body}
-use Rattle.adl_meaning.specs.Holding.{Held, held_as, connections_in, exports_in}
-use Rattle.adl_meaning.specs.Items.{Name}
-use Rattle.adl_meaning.specs.Known.{Known, known_of, known_in}
+use Rattle.adl_meaning.specs.Export.{inner_of, is_port, export_fault, is_misfit, misfits_after, unled_end, unled_ends, misfits_in_item}
 use Rattle.numbering.specs.Gather.{IsIn}
-use Rattle.adl_meaning.specs.Members.{compositions}
-use Rattle.adl_meaning.specs.NameFaults.{AreNamesSound}
 use Rattle.adl_hierarchy.specs.Once.{IsOnce}
 use Rattle.component_graph.proofs.Lists.{in_get}
 use Rattle.numbering.proofs.Lists.{none_in, none_left, none_right}

@@ -1,15 +1,8 @@
 -- Where no fault of names stands, the hierarchy is finite: no component is recursive, and the assembly is no component.
 use Rattle.std.proofs.Common.{◌≡◌, ◌<◌, ◌≤◌, ℕ, zero, suc, true, List, length, [], ◌∷◌, ◌++◌, map, Some, sym, ◌∙◌, ap, subst, arith, inl, inr, length-append}
-use Rattle.std.specs.List.{slice_get}
+use Rattle.adl_meaning.specs.Prelude.{AreNamesSound, Body, Component, Hierarchy, ItemAt, Part, Source, Walk, body, body_of, components, graph, has, hierarchy_of, inner_of, kind_named, slice_get}
 use Rattle.std.proofs.lemmas.List.{length-map}
-use Rattle.adl_ast.specs.declared.component.Component.{Component}
-use Rattle.adl_ast.specs.declared.source.Source.{Source}
-use Rattle.adl_meaning.specs.declared.item_at.ItemAt.{ItemAt}
-use Rattle.adl_meaning.specs.Graph.{has, inner_of, Walk}
-use Rattle.adl_meaning.specs.Hierarchy.{Hierarchy, Part, Body, body_of, kind_named, hierarchy_of, body, graph}
-use Rattle.adl_meaning.specs.Items.{components}
 use Rattle.numbering.specs.Gather.{IsIn}
-use Rattle.adl_meaning.specs.NameFaults.{AreNamesSound}
 use Rattle.adl_meaning.specs.Recursive.{instances_of, graph_of}
 use Rattle.component_graph.proofs.ComponentNumbers.{numbers_below, composed_instance, listed, graph_in_range, acyclic_from_none}
 use Rattle.component_graph.proofs.Lists.{in_has}

@@ -1,11 +1,7 @@
 -- The group above a path is the outermost.
 use Rattle.std.proofs.Common.{◌≡◌, ◌↔◌, ℕ, [], ◌∷◌, ◌++◌, Option, Some, None, option_map, refl, sym, ◌∙◌, ap, subst}
-use Rattle.std.specs.Option.{option_and_then}
+use Rattle.adl_meaning.specs.Prelude.{Hierarchy, Name, Part, Path, body, group_above, group_or, option_and_then, part_named}
 use Rattle.std.proofs.lemmas.Option.{option_and_then_some}
-use Rattle.adl_meaning.specs.Domains.{group_or, group_above}
-use Rattle.adl_meaning.specs.Hierarchy.{Hierarchy, Part, body, part_named}
-use Rattle.adl_meaning.specs.Items.{Name}
-use Rattle.adl_meaning.specs.Paths.{Path}
 use Rattle.adl_hierarchy.specs.OutermostGroup.{IsOutermostGroup}
 use Rattle.adl_hierarchy.specs.PartAt.{part_at}
 use Rattle.numbering.proofs.Lists.{map_some}

@@ -1,16 +1,9 @@
 -- What names stand for among what a composition holds: instances of it, each under its own name.
 use Rattle.std.proofs.Common.{◌≡◌, List, [], ◌∷◌, Option, Some, None, refl, sym, ◌∙◌, ap, subst, inl, inr}
-use Rattle.std.specs.List.{find}
-use Rattle.std.specs.Str.{bytes_eq}
+use Rattle.adl_meaning.specs.Prelude.{Composition, Held, Id, Instance, Line, Name, Port, a_connection, a_group, an_instance, as_held, bytes_eq, find, held_as, held_by, held_in, instances_by, instances_in, member_of, port_of}
 use Rattle.std.proofs.lemmas.Slice.Eq.{bytes_eq-Decides}
-use Rattle.adl_ast.specs.declared.composition.Composition.{Composition}
-use Rattle.adl_ast.specs.declared.composition.Instance.{Instance}
-use Rattle.adl_ast.specs.declared.composition.Line.{Line}
 use Rattle.adl_ast.specs.declared.composition.Line.TheVariants as lines
-use Rattle.adl_ast.specs.declared.id.Id.{Id}
-use Rattle.adl_meaning.specs.Export.{Port, port_of, instance_held, member_held}
-use Rattle.adl_meaning.specs.Holding.{Held, an_instance, a_group, a_connection, as_held, held_by, held_in, held_as, member_of, instances_by, instances_in}
-use Rattle.adl_meaning.specs.Items.{Name}
+use Rattle.adl_meaning.specs.Export.{instance_held, member_held}
 use Rattle.numbering.specs.Gather.{IsIn}
 use Rattle.numbering.proofs.Lists.{in_flat_map, from_flat_map, from_map, found, map_some}
 

@@ -1,19 +1,9 @@
 -- What an end joins is what the relation of joining says.
 use Rattle.std.proofs.Common.{◌≡◌, ◌≤◌, ℕ, zero, suc, List, length, [], ◌∷◌, ◌++◌, Option, Some, option_map, refl, sym, ◌∙◌, ap, subst, arith, inl, inr}
-use Rattle.std.specs.List.{filter_map, cons_option, slice_get}
-use Rattle.std.specs.Option.{option_and_then}
+use Rattle.adl_meaning.specs.Prelude.{AreNamesSound, Climbs, End, FlatEnd, Joins, Name, Path, Placed, Reached, Role, Source, Strung, at, connections, cons_option, filter_map, flat_end, flat_ends, hierarchy_of, joined_by, leaves, option_and_then}
+use Rattle.adl_meaning.specs.Prelude.{port_in, reached, slice_get, top_number}
 use Rattle.std.proofs.lemmas.Option.{option_and_then_some}
-use Rattle.adl_ast.specs.declared.composition.End.{End}
-use Rattle.adl_ast.specs.declared.composition.Role.{Role}
-use Rattle.adl_ast.specs.declared.source.Source.{Source}
-use Rattle.adl_meaning.specs.declared.flat.FlatEnd.{FlatEnd}
-use Rattle.adl_meaning.specs.Flat.{flat_end, flat_ends}
-use Rattle.adl_meaning.specs.Hierarchy.{hierarchy_of, top_number, port_in}
-use Rattle.adl_meaning.specs.Items.{Name}
-use Rattle.adl_meaning.specs.Joins.{Climbs, Joins, Reached, reached, joined_by, Strung, connections}
 use Rattle.numbering.specs.Gather.{IsIn}
-use Rattle.adl_meaning.specs.NameFaults.{AreNamesSound}
-use Rattle.adl_meaning.specs.Paths.{Path, Placed, at, leaves}
 use Rattle.adl_hierarchy.specs.Leads.{AreDotted}
 use Rattle.adl_hierarchy.proofs.Climbing.{found_climbs, climbs_reached}
 use Rattle.adl_hierarchy.proofs.Connections.{connections_stand}

@@ -1,30 +1,14 @@
 -- Where no name is unknown: types have components with numbers, and dotted names have instances.
 use Rattle.std.proofs.Common.{◌≡◌, ◌≤◌, ℕ, suc, List, length, [], ◌∷◌, Option, Some, None, option_map, is_some, refl, sym, ◌∙◌, ap, subst, arith, inl, inr}
-use Rattle.std.specs.List.{flat_map, slice_get}
-use Rattle.adl_ast.specs.declared.component.Component.{Component}
-use Rattle.adl_ast.specs.declared.component.Member.{Member}
+use Rattle.adl_meaning.specs.Prelude.{AreNamesSound, Component, Composition, Connection, Connector, End, Export, Held, Id, Instance, ItemAt, Known, Line, Member, Name, Source, a_connection, a_group, an_instance, as_composition, as_connection}
+use Rattle.adl_meaning.specs.Prelude.{as_export, body, components, compositions, connections_in, connector_of, exports_in, flat_map, held_as, hierarchy_of, instances_by, instances_in, kind_named, known_in, known_of, port_in, port_of, slice_get}
+use Rattle.adl_meaning.specs.Prelude.{unknown_in_composition, unknown_interface, unless_known}
 use Rattle.adl_ast.specs.declared.component.Member.TheVariants as members
-use Rattle.adl_ast.specs.declared.composition.Composition.{Composition}
-use Rattle.adl_ast.specs.declared.composition.Connection.{Connection}
-use Rattle.adl_ast.specs.declared.composition.End.{End}
-use Rattle.adl_ast.specs.declared.composition.Export.{Export}
-use Rattle.adl_ast.specs.declared.composition.Instance.{Instance}
-use Rattle.adl_ast.specs.declared.composition.Line.{Line}
 use Rattle.adl_ast.specs.declared.composition.Line.TheVariants as lines
-use Rattle.adl_ast.specs.declared.id.Id.{Id}
-use Rattle.adl_ast.specs.declared.source.Source.{Source}
-use Rattle.adl_meaning.specs.declared.item_at.ItemAt.{ItemAt}
-use Rattle.adl_meaning.specs.declared.connector.Connector.{Connector}
-use Rattle.adl_meaning.specs.Connectors.{connector_of}
-use Rattle.adl_meaning.specs.Export.{instance_held, member_held, port_of}
-use Rattle.adl_meaning.specs.Hierarchy.{hierarchy_of, body, kind_named, port_in}
-use Rattle.adl_meaning.specs.Holding.{Held, an_instance, a_group, a_connection, held_as, instances_by, instances_in, as_connection, connections_in, as_export, exports_in}
-use Rattle.adl_meaning.specs.Items.{Name, components, component_named}
-use Rattle.adl_meaning.specs.Known.{Known, known_of, known_in}
+use Rattle.adl_meaning.specs.Export.{instance_held, member_held}
+use Rattle.adl_meaning.specs.Items.{component_named}
 use Rattle.numbering.specs.Gather.{IsIn}
-use Rattle.adl_meaning.specs.Members.{as_composition, compositions}
-use Rattle.adl_meaning.specs.NameFaults.{AreNamesSound}
-use Rattle.adl_meaning.specs.Unknown.{unless_known, unknown_type, unknown_connector, unknown_interface, unknown_in_two, unknown_in_group, unknown_in_three, unknown_in_dotted, unknown_target, unknown_in_line, unknown_in_composition, unknown_in_member, unknown_in_item, is_procedure}
+use Rattle.adl_meaning.specs.Unknown.{unknown_type, unknown_connector, unknown_in_two, unknown_in_group, unknown_in_three, unknown_in_dotted, unknown_target, unknown_in_line, unknown_in_member, unknown_in_item, is_procedure}
 use Rattle.component_graph.proofs.ComponentNumbers.{number_found}
 use Rattle.component_graph.proofs.Lists.{in_get}
 use Rattle.numbering.proofs.Lists.{from_flat_map, from_filter_map, none_in, none_left, none_right, map_some}

@@ -1,31 +1,13 @@
 -- Where no fault of names stands, the dotted names of exports and ends lead on, and each end joins an interface of a leaf.
 use Rattle.std.proofs.Common.{◌≡◌, ◌≤◌, ℕ, zero, suc, Bool, true, false, ◌||◌, ◌&&◌, not, cond, List, length, [], ◌∷◌, Option, Some, None, option_map, is_some, refl, sym, ◌∙◌, ap, subst}
-use Rattle.std.specs.List.{filter_map, find, list_any}
-use Rattle.std.specs.Option.{option_map_or, option_and_then}
-use Rattle.std.specs.Str.{bytes_eq}
-use Rattle.adl_ast.specs.declared.component.Component.{Component}
-use Rattle.adl_ast.specs.declared.composition.Composition.{Composition}
-use Rattle.adl_ast.specs.declared.composition.Connection.{Connection}
-use Rattle.adl_ast.specs.declared.composition.End.{End}
-use Rattle.adl_ast.specs.declared.composition.Export.{Export}
-use Rattle.adl_ast.specs.declared.composition.Instance.{Instance}
-use Rattle.adl_ast.specs.declared.composition.Line.{Line}
+use Rattle.adl_meaning.specs.Prelude.{AreNamesSound, Body, Component, Composition, Connection, Connector, End, Export, Hierarchy, Id, Instance, Known, Line, Name, Part, Reached, Source, Wire, behind, body, body_of, bytes_eq, composition_of}
+use Rattle.adl_meaning.specs.Prelude.{connections_in, connector_of, export_named, exports_in, exports_of, filter_map, find, held_as, hierarchy_of, instances_by, instances_in, is_composite, is_unled, joined_by, kind_named, known_in, known_of}
+use Rattle.adl_meaning.specs.Prelude.{list_any, name_of, option_and_then, option_map_or, part_named, part_of, parts_by, parts_in, port_in, port_of, reached, reached_by, reached_within, unknown_in_composition, unknown_interface, unless_known, wire_of}
+use Rattle.adl_meaning.specs.Prelude.{wires_of}
 use Rattle.adl_ast.specs.declared.composition.Line.TheVariants as lines
-use Rattle.adl_ast.specs.declared.id.Id.{Id}
-use Rattle.adl_ast.specs.declared.source.Source.{Source}
-use Rattle.adl_meaning.specs.declared.connector.Connector.{Connector}
-use Rattle.adl_meaning.specs.Connectors.{connector_of}
-use Rattle.adl_meaning.specs.Export.{port_of, ends_in, is_unled}
-use Rattle.adl_meaning.specs.Hierarchy.{Hierarchy, Part, Body, Wire, part_of, parts_by, parts_in, body_of, kind_named, hierarchy_of, body, is_composite, part_named, export_named, exports_of, wire_of, wires_of, port_in}
-use Rattle.adl_meaning.specs.Holding.{held_as, instances_by, instances_in, connections_in, exports_in}
-use Rattle.adl_meaning.specs.Items.{Name}
-use Rattle.adl_meaning.specs.Joins.{Reached, behind, reached_by, reached_within, reached, joined_by}
-use Rattle.adl_meaning.specs.Known.{Known, known_of, known_in, is_target, is_exported}
+use Rattle.adl_meaning.specs.Export.{ends_in}
+use Rattle.adl_meaning.specs.Known.{is_target, is_exported}
 use Rattle.numbering.specs.Gather.{IsIn}
-use Rattle.adl_meaning.specs.Members.{composition_of}
-use Rattle.adl_meaning.specs.NameFaults.{AreNamesSound}
-use Rattle.adl_meaning.specs.Paths.{name_of}
-use Rattle.adl_meaning.specs.Unknown.{unless_known, unknown_interface, unknown_in_composition}
 use Rattle.adl_hierarchy.specs.Finite.{IsFinite}
 use Rattle.adl_hierarchy.specs.Leads.{PortLeads, Leads, AllLead, AreDotted}
 use Rattle.adl_hierarchy.proofs.Bodies.{body_number, parts_of}

@@ -2,18 +2,11 @@
 use Rattle.std.proofs.Common.{◌≡◌, ◌≤◌, ℕ, List, length, [], ◌∷◌, ◌++◌, None, sym, subst, inl, refl}
 use Rattle.std.specs.Prelude.{nat_lt, codes}
 use Rattle.std.proofs.lemmas.Bool.{ltb-false}
-use Rattle.adl_ast.specs.declared.composition.Assembly.{Assembly}
-use Rattle.adl_ast.specs.declared.source.Source.{Source}
+use Rattle.adl_meaning.specs.Prelude.{AreNamesSound, Assembly, ItemAt, Name, Source, assemblies, connections, depth, first_size_fault, hierarchy_of, leaves, limits_passed}
 use Rattle.adl_hierarchy.proofs.Exports.{not_so}
 use Rattle.numbering.proofs.Lists.{none_in, none_left, none_right}
-use Rattle.adl_meaning.specs.declared.item_at.ItemAt.{ItemAt}
-use Rattle.adl_meaning.specs.Hierarchy.{hierarchy_of}
-use Rattle.adl_meaning.specs.Items.{Name, assemblies}
-use Rattle.adl_meaning.specs.Joins.{connections}
 use Rattle.numbering.specs.Gather.{IsIn}
-use Rattle.adl_meaning.specs.NameFaults.{AreNamesSound}
-use Rattle.adl_meaning.specs.Paths.{leaves}
-use Rattle.adl_meaning.specs.SizeFaults.{depth, all_ends, limit_passed, limits_passed, size_faults, first_size_fault}
+use Rattle.adl_meaning.specs.SizeFaults.{all_ends, limit_passed, size_faults}
 use Rattle.adl_meaning.proofs.Least.{least-empty}
 use Rattle.adl_meaning.proofs.SoundNames.{one_assembly}
 

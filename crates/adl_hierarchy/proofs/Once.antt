@@ -1,11 +1,7 @@
 -- No leaf is met twice.
 use Rattle.std.proofs.Common.{◌≡◌, ℕ, zero, suc, Bool, true, false, cond, List, length, [], ◌∷◌, map, refl, sym, ap, subst, inl, inr}
-use Rattle.adl_ast.specs.declared.source.Source.{Source}
-use Rattle.adl_meaning.specs.Hierarchy.{Hierarchy, Part, hierarchy_of, body, is_composite, top_number}
-use Rattle.adl_meaning.specs.Items.{Name}
+use Rattle.adl_meaning.specs.Prelude.{AreNamesSound, Hierarchy, Name, Part, Path, Placed, Source, body, hierarchy_of, is_composite, leaves, leaves_within, name_of, outside, placed_by, top_number}
 use Rattle.numbering.specs.Gather.{IsIn}
-use Rattle.adl_meaning.specs.NameFaults.{AreNamesSound}
-use Rattle.adl_meaning.specs.Paths.{Path, Placed, name_of, outside, placed_by, leaves_within, leaves}
 use Rattle.adl_hierarchy.specs.Once.{IsOnce}
 use Rattle.numbering.proofs.Lists.{from_map}
 use Rattle.adl_hierarchy.proofs.PartNames.{names_once}

@@ -1,24 +1,10 @@
 -- Where no name is a duplicate, the names of a body's instances stand once.
 use Rattle.std.proofs.Common.{◌≡◌, ℕ, List, [], ◌∷◌, ◌++◌, map, Option, Some, None, refl, sym, ap, subst, inl, inr}
-use Rattle.std.specs.List.{flat_map, filter_map, cons_option}
-use Rattle.std.specs.Option.{option_map_or}
-use Rattle.adl_ast.specs.declared.composition.Composition.{Composition}
-use Rattle.adl_ast.specs.declared.composition.Connection.{Connection}
-use Rattle.adl_ast.specs.declared.composition.Instance.{Instance}
-use Rattle.adl_ast.specs.declared.composition.Line.{Line}
+use Rattle.adl_meaning.specs.Prelude.{AreNamesSound, Composition, Connection, Connector, Held, Id, Instance, Line, Name, Part, Source, Wire, as_connection, as_held, body, compositions, connections_in, connector_of, cons_option, filter_map, flat_map}
+use Rattle.adl_meaning.specs.Prelude.{held_by, held_in, hierarchy_of, items_of, kind_named, name_of, option_map_or, part_of, parts_by, parts_in, wire_of, wires_of}
 use Rattle.adl_ast.specs.declared.composition.Line.TheVariants as lines
-use Rattle.adl_ast.specs.declared.id.Id.{Id}
-use Rattle.adl_ast.specs.declared.source.Source.{Source}
-use Rattle.adl_meaning.specs.declared.connector.Connector.{Connector}
-use Rattle.adl_meaning.specs.Connectors.{connector_of}
 use Rattle.adl_meaning.specs.Duplicate.{duplicates_in_composition, duplicates_in_item}
-use Rattle.adl_meaning.specs.Hierarchy.{Part, Wire, wire_of, wires_of, part_of, parts_by, parts_in, kind_named, hierarchy_of, body}
-use Rattle.adl_meaning.specs.Holding.{Held, as_connection, connections_in, as_held, held_by, held_in}
-use Rattle.adl_meaning.specs.Items.{Name, items_of}
 use Rattle.numbering.specs.Gather.{IsIn}
-use Rattle.adl_meaning.specs.Members.{compositions}
-use Rattle.adl_meaning.specs.NameFaults.{AreNamesSound}
-use Rattle.adl_meaning.specs.Paths.{name_of}
 use Rattle.adl_hierarchy.specs.Once.{IsOnce}
 use Rattle.adl_hierarchy.proofs.Bodies.{parts_of}
 use Rattle.component_graph.proofs.Lists.{in_get}

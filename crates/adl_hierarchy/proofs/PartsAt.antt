@@ -1,16 +1,9 @@
 -- Instances at paths.
 use Rattle.std.proofs.Common.{◌≡◌, ◌≤◌, ℕ, Bool, true, false, List, length, [], ◌∷◌, ◌++◌, Option, Some, None, is_some, refl, sym, ◌∙◌, ap, subst}
-use Rattle.std.specs.Option.{option_and_then}
-use Rattle.std.specs.Str.{bytes_eq}
+use Rattle.adl_meaning.specs.Prelude.{Composition, Hierarchy, Name, Part, Path, Source, Walk, at, body, bytes_eq, graph, hierarchy_of, is_composite, kind_named, name_of, option_and_then, part_named, parts_in}
 use Rattle.std.proofs.lemmas.Option.{option_and_then_some}
 use Rattle.std.proofs.lemmas.Slice.Eq.{bytes_eq-Decides}
-use Rattle.adl_ast.specs.declared.composition.Composition.{Composition}
-use Rattle.adl_ast.specs.declared.source.Source.{Source}
-use Rattle.adl_meaning.specs.Graph.{Walk}
-use Rattle.adl_meaning.specs.Hierarchy.{Hierarchy, Part, parts_in, kind_named, hierarchy_of, body, graph, is_composite, part_named}
-use Rattle.adl_meaning.specs.Items.{Name}
 use Rattle.numbering.specs.Gather.{IsIn}
-use Rattle.adl_meaning.specs.Paths.{Path, name_of, at}
 use Rattle.adl_hierarchy.specs.Finite.{IsFinite}
 use Rattle.adl_hierarchy.specs.PartAt.{part_at}
 use Rattle.adl_hierarchy.proofs.Bodies.{parts_of}

@@ -1,8 +1,8 @@
 -- Places in lists, and lists without what stands twice, where a test decides equality.
 use Rattle.std.proofs.Common.{◌≡◌, ◌↔◌, ◌⊎◌, ◌+◌, ℕ, zero, suc, Bool, true, false, ◌||◌, cond, List, [], ◌∷◌, map, Some, Decides, refl, sym, ◌∙◌, ap, subst, inl, inr, arith}
-use Rattle.std.specs.List.{slice_get, filter, enumerate_from}
+use Rattle.adl_meaning.specs.Prelude.{enumerate_from, filter, firsts_after, place_by, slice_get}
 use Rattle.std.proofs.lemmas.Bool.{or_parts, or_from, both_ways, false_from_ne_true}
-use Rattle.adl_meaning.specs.Lists.{place_by, firsts_after, firsts}
+use Rattle.adl_meaning.specs.Lists.{firsts}
 use Rattle.numbering.specs.Gather.{IsIn}
 use Rattle.adl_hierarchy.specs.Once.{IsOnce}
 use Rattle.component_graph.proofs.Lists.{in_get}

@@ -1,17 +1,11 @@
 -- Lists in which nothing stands twice.
 use Rattle.std.proofs.Common.{◌≡◌, Bool, true, false, ◌||◌, cond, List, [], ◌∷◌, ◌++◌, map, Option, Some, None, refl, sym, ◌∙◌, ap, subst, inl, inr}
-use Rattle.std.specs.List.{flat_map, filter_map, find, cons_option}
-use Rattle.std.specs.Str.{bytes_eq}
+use Rattle.adl_meaning.specs.Prelude.{Fault, Id, Name, Path, bytes_eq, cons_option, filter_map, find, flat_map, where_true}
 use Rattle.std.proofs.lemmas.Bool.{or_left, or_right}
 use Rattle.std.proofs.lemmas.List.{map-append}
 use Rattle.std.proofs.lemmas.Slice.Eq.{bytes_eq-Decides}
-use Rattle.cam_base.specs.declared.place.Fault.{Fault}
-use Rattle.adl_ast.specs.declared.id.Id.{Id}
 use Rattle.adl_meaning.specs.Duplicate.{repeats_after, repeats}
-use Rattle.adl_meaning.specs.Faults.{where_true}
-use Rattle.adl_meaning.specs.Items.{Name}
 use Rattle.numbering.specs.Gather.{IsIn}
-use Rattle.adl_meaning.specs.Paths.{Path}
 use Rattle.adl_hierarchy.specs.Once.{IsOnce}
 use Rattle.numbering.proofs.Gathered.{in_left, in_right, in_append}
 use Rattle.numbering.proofs.Lists.{in_map, from_map, from_flat_map, from_filter_map, none_right}

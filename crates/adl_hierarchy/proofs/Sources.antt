@@ -1,17 +1,8 @@
 -- The compositions of a source's bodies, and the items that they stand in.
 use Rattle.std.proofs.Common.{◌≡◌, ℕ, List, [], Option, Some, None, refl, sym, ◌∙◌, ap, ◌⊎◌, inl, inr}
-use Rattle.std.specs.List.{flat_map, slice_get}
-use Rattle.adl_ast.specs.declared.component.Component.{Component}
-use Rattle.adl_ast.specs.declared.composition.Assembly.{Assembly}
-use Rattle.adl_ast.specs.declared.composition.Composition.{Composition}
-use Rattle.adl_ast.specs.declared.file.Item.{Item}
+use Rattle.adl_meaning.specs.Prelude.{Assembly, Body, Component, Composition, Item, ItemAt, Source, as_assembly, as_component, assemblies, body, components, composition_of, flat_map, hierarchy_of, items_of, kind_named, slice_get, top_of}
 use Rattle.adl_ast.specs.declared.file.Item.TheVariants as items
-use Rattle.adl_ast.specs.declared.source.Source.{Source}
-use Rattle.adl_meaning.specs.declared.item_at.ItemAt.{ItemAt}
-use Rattle.adl_meaning.specs.Hierarchy.{Body, top_of, kind_named, hierarchy_of, body}
-use Rattle.adl_meaning.specs.Items.{items_of, as_component, as_assembly, components, assemblies}
 use Rattle.numbering.specs.Gather.{IsIn}
-use Rattle.adl_meaning.specs.Members.{composition_of}
 use Rattle.adl_hierarchy.proofs.Bodies.{body_at}
 use Rattle.component_graph.proofs.Lists.{in_get}
 use Rattle.numbering.proofs.Lists.{from_filter_map, none_in}

@@ -1,6 +1,7 @@
 -- In trees that tokens spell, dotted names of ends and exports have two words or three.
 use Rattle.std.proofs.Common.{◌≡◌, ℕ, List, [], ◌∷◌, Option, Some, None, sym, ap, subst, arith, inl, inr}
-use Rattle.std.specs.List.{enumerate_from}
+use Rattle.adl_meaning.specs.Prelude.{Assembly, Component, Composition, Connection, End, Ended, Export, File, Id, Item, ItemAt, Line, Member, Seen, Source, as_composition, as_connection, as_export, body, compositions, enumerate_from, hierarchy_of}
+use Rattle.adl_meaning.specs.Prelude.{items_in, items_of}
 use Rattle.cam_base.specs.declared.token.Mark.TheVariants as marks
 use Rattle.grammar.specs.Form.{behind}
 use Rattle.grammar.specs.Spelling.{Each, Spells}
@@ -8,27 +9,8 @@ use Rattle.grammar.specs.Depth.{deep}
 use Rattle.adl_ast.specs.Codes.{token_code, mark_code}
 use Rattle.adl_ast.specs.Forms.{Rule, nested_line, Dotted, dotted_of, dotted_line, end_line, end_form, connection_line, export_line, composition_member_line, composition_member_form, composition_line, assembly_line, member_line, member_form, component_line, item_line, ended_line, ended_form, file_line}
 use Rattle.adl_ast.specs.Spelling.{limit, IsSpelledBy}
-use Rattle.adl_ast.specs.declared.seen.Seen.{Seen}
-use Rattle.adl_ast.specs.declared.component.Component.{Component}
-use Rattle.adl_ast.specs.declared.component.Member.{Member}
-use Rattle.adl_ast.specs.declared.composition.Assembly.{Assembly}
-use Rattle.adl_ast.specs.declared.composition.Composition.{Composition}
-use Rattle.adl_ast.specs.declared.composition.Connection.{Connection}
-use Rattle.adl_ast.specs.declared.composition.End.{End}
-use Rattle.adl_ast.specs.declared.composition.Export.{Export}
-use Rattle.adl_ast.specs.declared.composition.Line.{Line}
-use Rattle.adl_ast.specs.declared.file.Ended.{Ended}
-use Rattle.adl_ast.specs.declared.file.File.{File}
-use Rattle.adl_ast.specs.declared.file.Item.{Item}
 use Rattle.adl_ast.specs.declared.file.Item.TheVariants as items
-use Rattle.adl_ast.specs.declared.id.Id.{Id}
-use Rattle.adl_ast.specs.declared.source.Source.{Source}
-use Rattle.adl_meaning.specs.declared.item_at.ItemAt.{ItemAt}
-use Rattle.adl_meaning.specs.Hierarchy.{hierarchy_of, body}
-use Rattle.adl_meaning.specs.Holding.{as_connection, as_export}
-use Rattle.adl_meaning.specs.Items.{items_in, items_of}
 use Rattle.numbering.specs.Gather.{IsIn}
-use Rattle.adl_meaning.specs.Members.{as_composition, compositions}
 use Rattle.adl_hierarchy.specs.Leads.{IsDotted, AreDotted}
 use Rattle.adl_hierarchy.specs.Spelled.{AreSpelled}
 use Rattle.adl_hierarchy.proofs.Leading.{own_export, own_connection}

@@ -1,14 +1,9 @@
 -- The walks over a finite hierarchy, without their bounds: a bound past the depth changes nothing.
 use Rattle.std.proofs.Common.{◌≡◌, ◌<◌, ◌≤◌, ℕ, zero, suc, Bool, true, false, cond, List, length, [], ◌∷◌, ◌++◌, map, Option, Some, None, option_map, refl, sym, ◌∙◌, ap, subst, arith, inl, inr, append-nil}
-use Rattle.std.specs.List.{flat_map}
-use Rattle.std.specs.Option.{option_and_then}
-use Rattle.std.specs.Str.{bytes_eq}
-use Rattle.adl_meaning.specs.Graph.{has, inner_of, Walk}
-use Rattle.adl_meaning.specs.Hierarchy.{Hierarchy, Part, body, graph, is_composite, part_named, export_named, exports_of, wires_of, port_in}
-use Rattle.adl_meaning.specs.Items.{Name}
-use Rattle.adl_meaning.specs.Joins.{Reached, behind, reached_by, reached_within, reached, Strung, further, strung, strung_by, connections_within, connections_in}
+use Rattle.adl_meaning.specs.Prelude.{Hierarchy, Name, Part, Placed, Reached, Strung, Walk, behind, body, bytes_eq, export_named, exports_of, flat_map, further, graph, has, inner_of, is_composite, leaves_in, leaves_within, name_of, option_and_then}
+use Rattle.adl_meaning.specs.Prelude.{outside, part_named, placed_by, port_in, reached, reached_by, reached_within, strung, strung_by, wires_of}
+use Rattle.adl_meaning.specs.Joins.{connections_within, connections_in}
 use Rattle.numbering.specs.Gather.{IsIn}
-use Rattle.adl_meaning.specs.Paths.{Placed, name_of, outside, placed_by, leaves_within, leaves_in}
 use Rattle.component_graph.proofs.Walks.{walks_short}
 use Rattle.adl_hierarchy.specs.Finite.{IsFinite}
 use Rattle.adl_hierarchy.proofs.Bodies.{inner_of_body}

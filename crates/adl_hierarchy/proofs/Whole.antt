@@ -1,22 +1,10 @@
 -- Where no name is unknown, nothing is left out of a body: each instance of its composition is there, and each connection.
 use Rattle.std.proofs.Common.{◌≡◌, ℕ, List, [], ◌∷◌, ◌++◌, map, Option, Some, None, option_map, refl, sym, ◌∙◌, ap, inl, inr}
-use Rattle.std.specs.List.{flat_map, filter_map, cons_option}
-use Rattle.std.specs.Option.{option_map_or}
+use Rattle.adl_meaning.specs.Prelude.{AreNamesSound, Composition, Connector, Instance, Known, Line, Name, Part, Source, Wire, body, connections_in, connector_of, cons_option, filter_map, flat_map, hierarchy_of, instances_by, instances_in, kind_named}
+use Rattle.adl_meaning.specs.Prelude.{known_in, option_map_or, part_of, parts_by, parts_in, unknown_in_composition, wire_of, wires_of}
 use Rattle.std.proofs.lemmas.List.{map-append}
-use Rattle.adl_ast.specs.declared.composition.Composition.{Composition}
-use Rattle.adl_ast.specs.declared.composition.Instance.{Instance}
-use Rattle.adl_ast.specs.declared.composition.Line.{Line}
 use Rattle.adl_ast.specs.declared.composition.Line.TheVariants as lines
-use Rattle.adl_ast.specs.declared.source.Source.{Source}
-use Rattle.adl_meaning.specs.declared.connector.Connector.{Connector}
-use Rattle.adl_meaning.specs.Connectors.{connector_of}
-use Rattle.adl_meaning.specs.Hierarchy.{Part, Wire, part_of, parts_by, parts_in, kind_named, hierarchy_of, body, wire_of, wires_of}
-use Rattle.adl_meaning.specs.Holding.{instances_by, instances_in, connections_in}
-use Rattle.adl_meaning.specs.Items.{Name}
-use Rattle.adl_meaning.specs.Known.{Known, known_in}
 use Rattle.numbering.specs.Gather.{IsIn}
-use Rattle.adl_meaning.specs.NameFaults.{AreNamesSound}
-use Rattle.adl_meaning.specs.Unknown.{unknown_in_composition}
 use Rattle.adl_hierarchy.proofs.Bodies.{parts_of}
 use Rattle.adl_hierarchy.proofs.KnownNames.{typed, no_unknown, instance_typed, connector_known}
 use Rattle.numbering.proofs.Lists.{in_flat_map, map_some}

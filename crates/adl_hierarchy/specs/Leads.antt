@@ -1,11 +1,7 @@
 -- A dotted name leads on in body k where its instance stands there, and where, if the instance is a composite, its
 -- composition has an export under the name of the interface. So a search downwards never ends before a leaf.
 use Rattle.std.specs.Prelude.{◌≡◌, ◌≤◌, ℕ, true, List, length, Some}
-use Rattle.adl_ast.specs.declared.composition.End.{End}
-use Rattle.adl_ast.specs.declared.composition.Export.{Export}
-use Rattle.adl_ast.specs.declared.id.Id.{Id}
-use Rattle.adl_meaning.specs.Hierarchy.{Hierarchy, Part, Wire, body, is_composite, part_named, export_named, exports_of, wires_of, port_in}
-use Rattle.adl_meaning.specs.Items.{Name}
+use Rattle.adl_meaning.specs.Prelude.{End, Export, Hierarchy, Id, Name, Part, Wire, body, export_named, exports_of, is_composite, part_named, port_in, wires_of}
 use Rattle.numbering.specs.Gather.{IsIn}
 
 -- an instance of body k by name, with the name of an interface

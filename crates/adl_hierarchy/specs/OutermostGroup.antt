@@ -2,9 +2,7 @@
 -- the group of the first that stands in one. The path of the group is the path of the composition in which it stands, and
 -- the group's name.
 use Rattle.std.specs.Prelude.{◌≡◌, ℕ, [], ◌∷◌, ◌++◌, Some, None}
-use Rattle.adl_meaning.specs.Hierarchy.{Hierarchy, Part}
-use Rattle.adl_meaning.specs.Items.{Name}
-use Rattle.adl_meaning.specs.Paths.{Path}
+use Rattle.adl_meaning.specs.Prelude.{Hierarchy, Name, Part, Path}
 use Rattle.adl_hierarchy.specs.PartAt.{part_at}
 
 pub record IsOutermostGroup (h : Hierarchy) (k : ℕ) (p : Path) (d : Path) : Type 0 where

@@ -1,9 +1,7 @@
 -- Each file of the source has a tree that tokens spell, as each source that is read from files.
 use Rattle.std.specs.Prelude.{List}
 use Rattle.adl_ast.specs.Spelling.{IsFileSpelled}
-use Rattle.adl_ast.specs.declared.seen.Seen.{Seen}
-use Rattle.adl_ast.specs.declared.source.Source.{Source}
-use Rattle.adl_ast.specs.declared.source.SourceFile.{SourceFile}
+use Rattle.adl_meaning.specs.Prelude.{Seen, Source, SourceFile}
 use Rattle.numbering.specs.Gather.{IsIn}
 
 abbrev pub AreSpelled : Source → Type 0

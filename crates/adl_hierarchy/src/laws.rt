@@ -1,26 +1,14 @@
 //! What the definitions promise together, as functions that do nothing. Most laws are of sources in
 //! which no fault of names stands.
 
-ghost use Rattle.adl_ast.specs.declared.composition.End.{End};
-ghost use Rattle.adl_ast.specs.declared.composition.Role.{Role};
-ghost use Rattle.adl_ast.specs.declared.source.Source.{Source};
+ghost use Rattle.adl_meaning.specs.Prelude.{AreNamesSound, Climbs, End, IsLeaf, Joins, Name, Path, Placed, Reached, Role, Source, Strung, at, body, connections, connections_in, domain_number, domain_of, domains, exports_of, flat_domain, flat_end, flat_ends, group_above, hierarchy_of, instances_in, is_composite, is_hardware, joined_by, leaf_number, leaves, name_of, option_map_or, reached, slice_get, top_number, wires_of};
 ghost use Rattle.adl_hierarchy.specs.Finite.{IsFinite};
 ghost use Rattle.adl_hierarchy.specs.Leads.{AllLead, AreDotted};
 ghost use Rattle.adl_hierarchy.specs.Once.{IsOnce};
 ghost use Rattle.adl_hierarchy.specs.OutermostGroup.{IsOutermostGroup};
 ghost use Rattle.adl_hierarchy.specs.PartAt.{part_at};
 ghost use Rattle.adl_hierarchy.specs.Spelled.{AreSpelled};
-ghost use Rattle.adl_meaning.specs.Domains.{group_above, domain_of, is_hardware, domains};
-ghost use Rattle.adl_meaning.specs.Flat.{leaf_number, domain_number, flat_domain, flat_end, flat_ends};
-ghost use Rattle.adl_meaning.specs.Hierarchy.{hierarchy_of, top_number, body, is_composite, exports_of, wires_of};
-ghost use Rattle.adl_meaning.specs.Holding.{instances_in, connections_in};
-ghost use Rattle.adl_meaning.specs.Items.{Name};
-ghost use Rattle.adl_meaning.specs.Joins.{Climbs, Joins, Reached, reached, joined_by, Strung, connections};
 ghost use Rattle.numbering.specs.Gather.{IsIn};
-ghost use Rattle.adl_meaning.specs.NameFaults.{AreNamesSound};
-ghost use Rattle.adl_meaning.specs.Paths.{Path, Placed, at, IsLeaf, name_of, leaves};
-ghost use Rattle.std.specs.List.{slice_get};
-ghost use Rattle.std.specs.Option.{option_map_or};
 ghost use Rattle.std.specs.Prelude.{◌≡◌, ◌≤◌, ◌↔◌, ℕ, false, [], ◌∷◌, ◌++◌, map, length, Some};
 
 /// No component holds itself, and nothing is left out: each instance of a composition has a

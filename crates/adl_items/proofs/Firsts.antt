@@ -1,12 +1,8 @@
 -- What a name first stands for, among what lists have one behind another.
 use Rattle.std.proofs.Common.{◌≡◌, ◌∙◌, ◌<◌, ◌+◌, ℕ, List, ◌++◌, Option, option_map, length, drop, get_or, sym, ap}
-use Rattle.std.specs.List.{flat_map}
-use Rattle.std.specs.Option.{option_or}
-use Rattle.std.specs.Str.{bytes_eq}
+use Rattle.adl_meaning.specs.Prelude.{Id, Name, bytes_eq, flat_map, option_or}
 use Rattle.std.proofs.lemmas.List.Folds.{find-append}
-use Rattle.adl_ast.specs.declared.id.Id.{Id}
 use Rattle.adl_items.specs.Firsts.{first_named}
-use Rattle.adl_meaning.specs.Items.{Name}
 use Rattle.cam_base.proofs.Lists.{drop_first}
 use Rattle.cam_base.proofs.Options.{option_map-option_or, option_or-assoc}
 

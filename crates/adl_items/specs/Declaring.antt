@@ -1,6 +1,6 @@
 -- What a component declares by name, as definitions speak of it.
 use Rattle.std.specs.Prelude.{List, Option, option_map}
-use Rattle.adl_meaning.specs.Items.{Name}
+use Rattle.adl_meaning.specs.Prelude.{Name}
 use Rattle.adl_meaning.specs.Members as members
 use Rattle.name_tables.specs.ByName.{found}
 use Rattle.adl_items.specs.declared.component.Declared.{Declared}

@@ -1,10 +1,7 @@
 -- The items of a source, sorted by kind.
 use Rattle.std.specs.Prelude.{◌≡◌, ◌<◌, ◌^◌, List, length, map}
-use Rattle.adl_ast.specs.declared.component.Component.{Component}
-use Rattle.adl_ast.specs.declared.composition.Assembly.{Assembly}
-use Rattle.adl_ast.specs.declared.file.Item.{Item}
+use Rattle.adl_meaning.specs.Prelude.{Assembly, Component, Item, Source}
 use Rattle.adl_ast.specs.declared.procedure.Procedure.{Procedure}
-use Rattle.adl_ast.specs.declared.source.Source.{Source}
 use Rattle.adl_meaning.specs.Items as of
 use Rattle.adl_items.specs.Located.{located}
 use Rattle.adl_items.specs.declared.located.Located.{Located}

@@ -1,8 +1,7 @@
 //! What a component declares, and what it is.
 
-ghost use Rattle.adl_meaning.specs.CompositeBody.{is_hardware, is_device};
-ghost use Rattle.adl_meaning.specs.Members.{composition_of};
-ghost use Rattle.std.specs.Option.{option_copied};
+ghost use Rattle.adl_meaning.specs.Prelude.{composition_of, is_device, option_copied};
+ghost use Rattle.adl_meaning.specs.CompositeBody.{is_hardware};
 ghost use Rattle.std.specs.Prelude.{◌≡◌};
 
 use adl_ast::{Attribute, Component, Composition, Interface, Lock, Member};

@@ -1,6 +1,6 @@
 //! What a line of a composition has.
 
-ghost use Rattle.adl_meaning.specs.Holding.{instances_by};
+ghost use Rattle.adl_meaning.specs.Prelude.{instances_by};
 ghost use Rattle.std.specs.Prelude.{◌≡◌};
 
 use adl_ast::{Instance, Line};

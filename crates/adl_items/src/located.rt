@@ -1,8 +1,8 @@
 //! The items of a source, each with its place.
 
-ghost use Rattle.adl_meaning.specs.Items.{items_in, items_of, as_procedure, as_component, as_assembly, procedures, components, assemblies, AreFew};
+ghost use Rattle.adl_meaning.specs.Prelude.{AreFew, as_assembly, as_component, as_procedure, assemblies, components, filter_map, items_in, items_of, slice_get};
+ghost use Rattle.adl_meaning.specs.Items.{procedures};
 ghost use Rattle.adl_items.specs.Located.{located};
-ghost use Rattle.std.specs.List.{filter_map, slice_get};
 ghost use Rattle.std.specs.Prelude.{◌≡◌, ◌<◌, ◌^◌, ◌++◌, map, length, option_map, OnOk, IfOk};
 
 use adl_ast::{Assembly, Component, Item, Procedure, Source, SourceFile};
@@ -122,7 +122,7 @@ pub struct SourceItems<'a> {
 }
 
 impl<'a> Model for SourceItems<'a> {
-    ghost use Rattle.adl_ast.specs.declared.source.Source.{Source};
+    ghost use Rattle.adl_meaning.specs.Prelude.{Source};
 
     ghost Value = { Source };
 

@@ -1,8 +1,7 @@
 //! Names of items, and the last words of dotted names.
 
 ghost use Rattle.adl_items.specs.Located.{trees};
-ghost use Rattle.adl_meaning.specs.Export.{last_name};
-ghost use Rattle.adl_meaning.specs.Recursive.{number_named};
+ghost use Rattle.adl_meaning.specs.Prelude.{last_name, number_named};
 ghost use Rattle.name_tables.specs.ByName.{found};
 ghost use Rattle.std.specs.Prelude.{◌≡◌, ◌<◌, ◌^◌, ℕ, List as Seq, length, IfOk};
 

@@ -20,6 +20,7 @@ pub mod NameFaults
 pub mod NoAssembly
 pub mod Paths
 pub mod Placement
+pub mod Prelude
 pub mod Recursive
 pub mod SecondAssembly
 pub mod SizeFaults

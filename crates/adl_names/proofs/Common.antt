@@ -1,8 +1,6 @@
 -- The names that most proofs cite, passed on from one place. Declares nothing.
-pub use Rattle.adl_ast.specs.declared.composition.Assembly.{Assembly}
-pub use Rattle.adl_ast.specs.declared.file.Ended.{Ended}
+pub use Rattle.adl_meaning.specs.Prelude.{Assembly, Ended, SourceFile, as_connection, as_export, as_procedure, cons_option, has, instances_by, instances_in, items_in, least, number_named}
 pub use Rattle.adl_ast.specs.declared.procedure.Procedure.{Procedure}
-pub use Rattle.adl_ast.specs.declared.source.SourceFile.{SourceFile}
 pub use Rattle.adl_items.proofs.Trees.{trees-located}
 pub use Rattle.adl_items.specs.declared.located.Located.{Located}
 pub use Rattle.adl_meaning.proofs.Least.{noted-append, noted-none}
@@ -10,13 +8,11 @@ pub use Rattle.adl_meaning.proofs.Noting.{noted_each, noted_then}
 pub use Rattle.adl_meaning.proofs.SoundNames.{names_sound, one_assembly}
 pub use Rattle.adl_meaning.specs.Duplicate.{as_method, repeated_params}
 pub use Rattle.adl_meaning.specs.Export.{is_misfit, unled_end, unled_ends}
-pub use Rattle.adl_meaning.specs.Faults.{least}
-pub use Rattle.adl_meaning.specs.Graph.{InRange, has}
-pub use Rattle.adl_meaning.specs.Holding.{as_connection, as_export, instances_by, instances_in}
-pub use Rattle.adl_meaning.specs.Items.{as_procedure, items_in, stands_before}
+pub use Rattle.adl_meaning.specs.Graph.{InRange}
+pub use Rattle.adl_meaning.specs.Items.{stands_before}
 pub use Rattle.adl_meaning.specs.Known.{is_target}
 pub use Rattle.adl_meaning.specs.Members.{as_configuration}
-pub use Rattle.adl_meaning.specs.Recursive.{number_named, recursive_among, recursive_instance}
+pub use Rattle.adl_meaning.specs.Recursive.{recursive_among, recursive_instance}
 pub use Rattle.adl_meaning.specs.Unknown.{unknown_if_configured, unknown_in_one_setting, unknown_type, within}
 pub use Rattle.adl_names.specs.Bodies.{component_at, is_named, item_component, item_number, item_of, owner_of}
 pub use Rattle.adl_names.specs.Laters.{laters}
@@ -40,4 +36,4 @@ pub use Rattle.std.proofs.lemmas.Bool.Decides.{nat_tests}
 pub use Rattle.std.proofs.lemmas.List.{append-nil, drop_all, length-map, map-append}
 pub use Rattle.std.proofs.lemmas.List.Folds.{flat_map-map}
 pub use Rattle.std.proofs.lemmas.Option.{slice_get_read}
-pub use Rattle.std.specs.List.{AllByRecursion, cons_option}
+pub use Rattle.std.specs.List.{AllByRecursion}

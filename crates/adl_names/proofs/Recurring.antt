@@ -1,6 +1,6 @@
 -- The types of instances, in the graph of components.
 use Rattle.adl_names.proofs.Common.{◌≡◌, ◌<◌, ◌∙◌, ℕ, suc, true, List, length, get_or, [], ◌∷◌, Bor, Option, Some, refl, sym, ap, subst, arith, inl, inr, length-map, Component, Instance, Name, types_of, trees, pointed, Located, zero, slice_get_read, has, IsIn, instances_of, graph_of, inner_at, has_in, in_filter_map, get_map}
-use Rattle.adl_meaning.specs.Graph.{inner_of}
+use Rattle.adl_meaning.specs.Prelude.{inner_of}
 
 -- what an index reads is pointed to
 in_pointed : {X : Type 0} (rs : List (Bor X)) (k : ℕ) (r : Bor X) → k < length rs → r ≡ get_or rs k r → IsIn r.now (pointed rs)

@@ -35,7 +35,7 @@ pub struct SourceTables<'a> {
 }
 
 impl<'a> Model for SourceTables<'a> {
-    ghost use Rattle.adl_ast.specs.declared.source.Source.{Source};
+    ghost use Rattle.adl_meaning.specs.Prelude.{Source};
 
     ghost Value = { Source };
 

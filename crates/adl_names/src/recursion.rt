@@ -2,7 +2,7 @@
 
 ghost use Rattle.adl_names.specs.Words.{Fault, trees, pointed, noted, instances_of, types_of, graph_of, recursive_in, recursive_types, found, flat_map, enumerate_from};
 ghost use Rattle.std.specs.Prelude.{◌≡◌, ◌<◌, ◌^◌, ◌++◌, List as Seq, length, IfOk, OnOk};
-ghost use Rattle.adl_meaning.specs.Graph.{inner_of};
+ghost use Rattle.adl_meaning.specs.Prelude.{inner_of};
 
 use adl_ast::{Component, Instance, Member};
 use adl_items::{Located, SourceItems, component_numbers, instances_by};

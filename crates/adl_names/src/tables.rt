@@ -23,7 +23,7 @@ pub struct Members<'a> {
 }
 
 impl<'a> Model for Members<'a> {
-    ghost use Rattle.adl_ast.specs.declared.composition.Group.{Group};
+    ghost use Rattle.adl_meaning.specs.Prelude.{Group};
 
     ghost Value = { Group };
 
@@ -50,7 +50,7 @@ pub struct Holding<'a> {
 }
 
 impl<'a> Model for Holding<'a> {
-    ghost use Rattle.adl_ast.specs.declared.composition.Composition.{Composition};
+    ghost use Rattle.adl_meaning.specs.Prelude.{Composition};
 
     ghost Value = { Composition };
 
@@ -73,7 +73,7 @@ pub struct ComponentTable<'a> {
 }
 
 impl<'a> Model for ComponentTable<'a> {
-    ghost use Rattle.adl_ast.specs.declared.component.Component.{Component};
+    ghost use Rattle.adl_meaning.specs.Prelude.{Component};
 
     ghost Value = { Component };
 

@@ -1,11 +1,8 @@
 -- The leaf interface of what an end joins.
 use Rattle.adl_program.proofs.Common.{Component, Hierarchy, Name, None, Option, Reached, Some, ap, body, false, is_interface, joined_by, lead, leaf_port, option_and_then, option_map, option_map_or, place_by, port_at, port_in, reached, slice_get}
 use Rattle.adl_program.proofs.Common.{subst, sym, ℕ, ◌∙◌, ◌≡◌}
-use Rattle.adl_ast.specs.declared.component.Interface.{Interface}
+use Rattle.adl_meaning.specs.Prelude.{End, Interface, is_device, is_hardware}
 use Rattle.adl_ast.specs.declared.component.Member.TheVariants as members
-use Rattle.adl_ast.specs.declared.composition.End.{End}
-use Rattle.adl_meaning.specs.CompositeBody.{is_device}
-use Rattle.adl_meaning.specs.Domains.{is_hardware}
 use Rattle.adl_program.specs.LeafInterfaces.{as_leaf, leaf_in, leaf_at, leaf_of}
 
 -- an end leads to what it joins

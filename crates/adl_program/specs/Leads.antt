@@ -1,16 +1,9 @@
 -- Where interfaces lead: the leaf interface behind an interface of an instance, as the number of the leaf's component and the
 -- place of the interface among its members.
 use Rattle.std.specs.Prelude.{◌≡◌, ◌<◌, ◌≤◌, ℕ, suc, List, length, Option, Some, option_map, slice_index_or, if◌then◌else◌}
-use Rattle.std.specs.Option.{option_and_then, option_map_or}
-use Rattle.adl_ast.specs.declared.id.Id.{Id}
-use Rattle.adl_meaning.specs.Flat.{member_number, is_interface}
+use Rattle.adl_meaning.specs.Prelude.{Hierarchy, Id, IsInnerFirst, Name, Part, Reached, body, export_named, exports_of, graph, is_composite, is_interface, member_number, option_and_then, option_map_or, place_by, port_in, reached}
 use Rattle.adl_hierarchy.specs.Finite.{IsFinite}
-use Rattle.adl_meaning.specs.Lists.{place_by}
 use Rattle.numbering.specs.Gather.{IsIn}
-use Rattle.adl_meaning.specs.Graph.{IsInnerFirst}
-use Rattle.adl_meaning.specs.Hierarchy.{Hierarchy, Part, body, graph, is_composite, export_named, exports_of, port_in}
-use Rattle.adl_meaning.specs.Items.{Name}
-use Rattle.adl_meaning.specs.Joins.{Reached, reached}
 use Rattle.name_tables.specs.ByName.{found}
 use Rattle.adl_program.specs.declared.leads.LeafPort.{LeafPort}
 

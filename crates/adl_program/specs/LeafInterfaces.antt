@@ -1,14 +1,7 @@
 -- Leaf interfaces: what stands at one, and what a dotted name means.
 use Rattle.std.specs.Prelude.{ℕ, Bool, List, Option, Some, None}
-use Rattle.std.specs.List.{slice_get}
-use Rattle.std.specs.Option.{option_and_then}
-use Rattle.adl_ast.specs.declared.component.Component.{Component}
-use Rattle.adl_ast.specs.declared.component.Interface.{Interface}
-use Rattle.adl_ast.specs.declared.component.Member.{Member}
+use Rattle.adl_meaning.specs.Prelude.{Component, Hierarchy, Id, Interface, Member, body, is_device, option_and_then, slice_get}
 use Rattle.adl_ast.specs.declared.component.Member.TheVariants as members
-use Rattle.adl_ast.specs.declared.id.Id.{Id}
-use Rattle.adl_meaning.specs.CompositeBody.{is_device}
-use Rattle.adl_meaning.specs.Hierarchy.{Hierarchy, body}
 use Rattle.adl_program.specs.Leads.{lead}
 use Rattle.adl_program.specs.declared.leads.LeafPort.{LeafPort}
 

@@ -1,17 +1,7 @@
 -- What a body's fields are, and what its tables by name say of it.
 use Rattle.std.specs.Prelude.{◌≡◌, ℕ, false, List, [], Option, is_some, option_map, unwrap_or}
-use Rattle.std.specs.List.{find, filter_map, list_any, enumerate_from}
-use Rattle.std.specs.Option.{option_copied, option_and_then, option_map_or}
-use Rattle.std.specs.Str.{bytes_eq}
-use Rattle.adl_ast.specs.declared.component.Component.{Component}
-use Rattle.adl_ast.specs.declared.composition.Composition.{Composition}
-use Rattle.adl_meaning.specs.CompositeBody.{is_device}
-use Rattle.adl_meaning.specs.Flat.{is_interface}
-use Rattle.adl_meaning.specs.Hierarchy.{Body, Part, wire_of}
-use Rattle.adl_meaning.specs.Holding.{connections_in}
-use Rattle.adl_meaning.specs.Items.{Name}
-use Rattle.adl_meaning.specs.Lists.{place_by}
-use Rattle.adl_meaning.specs.Members.{declared_as}
+use Rattle.adl_meaning.specs.Prelude.{Body, Component, Composition, Name, Part, bytes_eq, connections_in, declared_as, enumerate_from, filter_map, find, is_device, is_interface, list_any, option_and_then, option_copied, option_map_or, place_by}
+use Rattle.adl_meaning.specs.Prelude.{wire_of}
 use Rattle.name_tables.specs.ByName.{found}
 use Rattle.adl_items.specs.Declaring.{declaring_told}
 use Rattle.adl_program.specs.declared.part.PartAt.{PartAt}

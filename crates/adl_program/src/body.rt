@@ -1,21 +1,14 @@
 //! Bodies: components and the assembly.
 
-ghost use Rattle.adl_meaning.specs.CompositeBody.{is_device};
-ghost use Rattle.adl_meaning.specs.Flat.{is_interface};
-ghost use Rattle.adl_meaning.specs.Hierarchy.{body_of, top_of, parts_in, wires_of};
-ghost use Rattle.adl_meaning.specs.Lists.{place_by};
-ghost use Rattle.adl_meaning.specs.Members.{attribute_of, configurations, declared_as, declared_by, interface_of};
-ghost use Rattle.adl_meaning.specs.Values.{is_group};
+ghost use Rattle.adl_meaning.specs.Prelude.{body_of, bytes_eq, declared_as, declared_by, enumerate_from, filter_map, interface_of, is_device, is_group, is_interface, list_any, option_and_then, option_copied, option_map_or, option_or, parts_in, place_by, slice_get, top_of, wires_of};
+ghost use Rattle.adl_meaning.specs.Members.{attribute_of, configurations};
 ghost use Rattle.name_tables.specs.ByName.{found};
 ghost use Rattle.adl_items.specs.Declaring.{declaring_told};
 ghost use Rattle.adl_items.specs.Firsts.{first_named};
 ghost use Rattle.adl_items.specs.Located.{located};
 ghost use Rattle.adl_program.specs.Lines.{lines_of};
 ghost use Rattle.adl_program.specs.Seen.{part_from, IsComposed, AreMembers};
-ghost use Rattle.std.specs.List.{enumerate_from, filter_map, list_any, slice_get};
-ghost use Rattle.std.specs.Option.{option_and_then, option_copied, option_map_or, option_or};
 ghost use Rattle.std.specs.Prelude.{◌≡◌, [], ℕ, List as Seq, None, Some, false, is_some, option_map, unwrap_or, length, OnOk, IfOk};
-ghost use Rattle.std.specs.Str.{bytes_eq};
 
 use crate::part::{Part, PartAt, Wire, parts_of, wires_of};
 use adl_ast::{

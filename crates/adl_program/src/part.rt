@@ -1,10 +1,8 @@
 //! The instances and the connections of a body.
 
-ghost use Rattle.adl_meaning.specs.Hierarchy.{parts_by};
+ghost use Rattle.adl_meaning.specs.Prelude.{filter_map, flat_map, option_copied, parts_by};
 ghost use Rattle.name_tables.specs.ByName.{found};
 ghost use Rattle.adl_program.specs.Lines.{group_by, wire_by};
-ghost use Rattle.std.specs.List.{filter_map, flat_map};
-ghost use Rattle.std.specs.Option.{option_copied};
 ghost use Rattle.std.specs.Prelude.{◌≡◌, ◌++◌, OnOk, IfOk};
 
 use adl_ast::{Connection, Instance, Line};
@@ -27,7 +25,7 @@ pub struct Part<'a> {
 
 impl<'a> Model for Part<'a> {
     ghost use Rattle.adl_meaning.specs.Hierarchy.{Part as PartOf};
-    ghost use Rattle.std.specs.Option.{option_copied};
+    ghost use Rattle.adl_meaning.specs.Prelude.{option_copied};
 
     ghost Value = { PartOf };
 

@@ -1,10 +1,7 @@
 //! A source, resolved.
 
 ghost use Rattle.adl_hierarchy.specs.Finite.{IsFinite};
-ghost use Rattle.adl_meaning.specs.Graph.{IsInnerFirst};
-ghost use Rattle.adl_meaning.specs.Hierarchy.{hierarchy_of, body, graph, top_number};
-ghost use Rattle.adl_meaning.specs.Items.{AreFew};
-ghost use Rattle.adl_meaning.specs.NameFaults.{AreNamesSound};
+ghost use Rattle.adl_meaning.specs.Prelude.{AreFew, AreNamesSound, IsInnerFirst, body, graph, hierarchy_of, top_number};
 ghost use Rattle.adl_program.specs.Leads.{lead};
 ghost use Rattle.adl_program.specs.LeafInterfaces.{leaf_at, leaf_of};
 ghost use Rattle.std.specs.Prelude.{◌≡◌, ◌≤◌, ◌<◌, ◌+◌, ◌^◌, IfOk};
@@ -29,7 +26,7 @@ pub struct Program<'a> {
 }
 
 impl<'a> Model for Program<'a> {
-    ghost use Rattle.adl_meaning.specs.Hierarchy.{Hierarchy};
+    ghost use Rattle.adl_meaning.specs.Prelude.{Hierarchy};
 
     ghost Value = { Hierarchy };
 

@@ -1,20 +1,11 @@
 -- The names that most proofs cite, passed on from one place. Declares nothing.
 pub use Rattle.adl_ast.specs.declared.configuration.Setting.{Setting}
-pub use Rattle.adl_ast.specs.declared.id.Id.{Id}
-pub use Rattle.adl_ast.specs.declared.source.Source.{Source}
+pub use Rattle.adl_meaning.specs.Prelude.{Body, Fault, Flat, FlatEnd, Given, Hierarchy, Id, Leaf, Name, Part, Path, Refuses, Source, at, body, bytes_eq, count_by, enumerate_from, filter, filter_map, find, flat_map, flat_of, hierarchy_of, is_group}
+pub use Rattle.adl_meaning.specs.Prelude.{last_name, least, list_all, list_any, noted, option_and_then, option_copied, option_map_or, option_or, part_named, same_path, slice_get, top_number, value_at, where_true}
 pub use Rattle.adl_meaning.proofs.Least.{noted-append, noted-none}
 pub use Rattle.adl_meaning.proofs.Noting.{noted_each, noted_then}
 pub use Rattle.adl_meaning.proofs.SamePaths.{same_path-true}
-pub use Rattle.adl_meaning.specs.Export.{last_name}
-pub use Rattle.adl_meaning.specs.Faults.{Refuses, least, noted, where_true}
-pub use Rattle.adl_meaning.specs.Flat.{flat_of}
-pub use Rattle.adl_meaning.specs.Hierarchy.{Body, Hierarchy, Part, body, hierarchy_of, part_named, top_number}
-pub use Rattle.adl_meaning.specs.Items.{Name}
-pub use Rattle.adl_meaning.specs.Paths.{Path, at, same_path}
-pub use Rattle.adl_meaning.specs.Values.{Given, default_at, given, inner_names, is_group, path_of, set_within, sets, setter_at, setting_of, settings_of, value_at}
-pub use Rattle.adl_meaning.specs.declared.flat.Flat.{Flat}
-pub use Rattle.adl_meaning.specs.declared.flat.FlatEnd.{FlatEnd}
-pub use Rattle.adl_meaning.specs.declared.flat.Leaf.{Leaf}
+pub use Rattle.adl_meaning.specs.Values.{default_at, given, inner_names, path_of, set_within, sets, setter_at, setting_of, settings_of}
 pub use Rattle.adl_settings.specs.BadValue.{bad_at_end, bad_in_connection, bad_in_leaf, bad_values}
 pub use Rattle.adl_settings.specs.BadgeTwice.{badge_twice_at, badges_twice_in, own_badge}
 pub use Rattle.adl_settings.specs.DeviceOverlap.{overlap_at, overlaps, overlaps_among, regions, regions_in}
@@ -26,12 +17,8 @@ pub use Rattle.adl_settings.specs.SettingTwice.{Met, repeated_after, repeated_in
 pub use Rattle.adl_settings.specs.Settled.{LeafFound, end_settings, leaf_found, leaves_found, settled_from, settled_of}
 pub use Rattle.cam_base.proofs.Lists.{drop_first, find_passes}
 pub use Rattle.cam_base.proofs.Options.{is_none, option_map-option_or, option_or-none, option_or-there}
-pub use Rattle.cam_base.specs.declared.place.Fault.{Fault}
 pub use Rattle.std.proofs.Common.{Bool, Bor, Global, List, None, Option, Some, Vec, [], ap, append_assoc, arith, cond, drop, false, get_or, inl, inr, is_some, length, map, max, nat_eq, nat_le, not, option_map, refl, subst, suc, sym, take, true, zero, ℕ, ◌&&◌, ◌*◌, ◌++◌, ◌+◌, ◌-◌, ◌<◌, ◌^◌, ◌||◌, ◌∙◌, ◌∷◌, ◌≡◌, ◌≤◌, ◌⊎◌}
 pub use Rattle.std.proofs.lemmas.Bool.{and_parts, eqb-true}
 pub use Rattle.std.proofs.lemmas.List.{drop-append-le, drop-map, drop_all, get_or_append_left, get_or_default, get_or_past, length-append, length-drop, length-take, length-take-le, map-append, take-take}
 pub use Rattle.std.proofs.lemmas.Option.{slice_get-map, slice_get_cases}
-pub use Rattle.std.specs.List.{count_by, enumerate_from, filter, filter_map, find, flat_map, list_all, list_any, slice_get}
-pub use Rattle.std.specs.Option.{option_and_then, option_copied, option_map_or, option_or}
 pub use Rattle.std.specs.Prelude.{IfOk, codes}
-pub use Rattle.std.specs.Str.{bytes_eq}

@@ -1,6 +1,6 @@
 -- What a table tells of the numbers of a list: whether each stands twice or more.
 use Rattle.adl_settings.proofs.Common.{◌≡◌, ◌<◌, ◌+◌, ◌∙◌, ℕ, Bool, true, false, cond, nat_eq, nat_le, List, Option, Some, None, is_some, length, get_or, take, sym, ap, arith, count_by, eqb-true}
-use Rattle.std.specs.Map.{lookup}
+use Rattle.adl_meaning.specs.Prelude.{lookup}
 use Rattle.std.proofs.Common.{unwrap_or}
 use Rattle.std.proofs.lemmas.Bool.Decides.{nat_tests}
 use Rattle.std.proofs.lemmas.List.Sums.{count_by_more_yes, count_by_more_no}

@@ -1,6 +1,6 @@
 -- Noting what the elements of lists give.
 use Rattle.adl_settings.proofs.Common.{◌≡◌, Option, Some, None, is_some, refl, Given, meant, bad_unless, bad_value, ◌∙◌, ◌<◌, ◌+◌, ℕ, List, length, get_or, drop, ◌++◌, sym, ap, flat_map, Fault, noted, noted-append, noted_each, noted_then, Bool, true, false, not, is_repeated, list_any, where_true}
-use Rattle.adl_meaning.specs.Faults.{where_false}
+use Rattle.adl_meaning.specs.Prelude.{where_false}
 use Rattle.adl_ast.specs.declared.value.Value.{Value}
 use Rattle.std.specs.List.Sorted.{IsPermutation}
 use Rattle.std.proofs.lemmas.List.Sorted.{list_any-IsPermutation}

@@ -10,11 +10,8 @@
 --
 -- Each is a function from a value to what it means; a value that isn't allowed means nothing. Sizes are rounded up to whole
 -- pages.
-use Rattle.std.specs.List.{list_all}
-use Rattle.std.specs.Option.{option_and_then}
+use Rattle.adl_meaning.specs.Prelude.{bytes_eq, digits_value, list_all, option_and_then}
 use Rattle.std.specs.Prelude.{◌+◌, ◌*◌, ◌/◌, ◌%◌, ◌^◌, ◌==◌, ℕ, nat_le, Bool, true, false, ◌&&◌, if◌then◌else◌, List, length, codes, Option, Some, None, option_map}
-use Rattle.std.specs.Str.{bytes_eq}
-use Rattle.std.specs.Str.Parse.{digits_value}
 use Rattle.adl_settings.specs.Words.{is_digit, Value}
 use Rattle.adl_ast.specs.declared.value.ValueKind.{ValueKind, Number, Text}
 use Rattle.adl_settings.specs.declared.access.Access.{Access}

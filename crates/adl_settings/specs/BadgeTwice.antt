@@ -1,7 +1,6 @@
 -- BadgeTwice stands at an end with a badge, where another end of its connection has the same badge; default badges count. Its
 -- name is that of the connection. An end whose badge isn't allowed is left out, also as the other one.
-use Rattle.std.specs.List.{flat_map, filter_map}
-use Rattle.std.specs.Option.{option_map_or}
+use Rattle.adl_meaning.specs.Prelude.{filter_map, flat_map, option_map_or}
 use Rattle.std.specs.Prelude.{slice_get, ℕ, ◌-◌, Bool, if◌then◌else◌, List, [], length, Option, None, unwrap_or}
 use Rattle.adl_settings.specs.Words.{Fault, where_true, Name, Path}
 use Rattle.cam_base.specs.declared.code.Code.TheVariants as code

@@ -1,8 +1,7 @@
 -- DeviceOverlap stands at the literal that gives the address of a joined dataport of a device, where another one shares a
 -- physical page with it. It has no name. A dataport whose address or size isn't allowed or is missing is left out, also as
 -- the other one. A dataport that several ends join is one. Both begin at a page and have whole pages.
-use Rattle.std.specs.List.{flat_map, filter_map, list_any}
-use Rattle.std.specs.Option.{option_and_then}
+use Rattle.adl_meaning.specs.Prelude.{filter_map, flat_map, list_any, option_and_then}
 use Rattle.std.specs.Prelude.{ℕ, List, map, Option, option_map}
 use Rattle.adl_settings.specs.Words.{Fault, at_keyword, where_true, Given}
 use Rattle.cam_base.specs.declared.code.Code.TheVariants as code

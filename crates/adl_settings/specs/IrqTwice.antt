@@ -1,8 +1,7 @@
 -- IrqTwice stands at the literal that gives the number of a device's joined interrupt, where another one has the same number.
 -- It has no name. An interrupt whose number isn't allowed or is missing is left out, also as the other one. Where no fault of
 -- joins stands, one end alone joins an interrupt.
-use Rattle.std.specs.List.{flat_map, filter_map}
-use Rattle.std.specs.Option.{option_and_then}
+use Rattle.adl_meaning.specs.Prelude.{filter_map, flat_map, option_and_then}
 use Rattle.std.specs.Prelude.{ℕ, Bool, List, map, Option, option_map}
 use Rattle.adl_settings.specs.Words.{Fault, at_keyword, where_true, Given}
 use Rattle.cam_base.specs.declared.code.Code.TheVariants as code

@@ -7,21 +7,12 @@
 --   size of a connection   at each end of shared memory
 --
 -- Here i is the interface of the leaf, and its settings are those of the leaf's path.
-use Rattle.std.specs.List.{filter_map}
-use Rattle.std.specs.Option.{option_and_then}
+use Rattle.adl_meaning.specs.Prelude.{Component, Connector, From, Item, ItemAt, Member, Notification, Role, Rpc, SharedMemory, To, filter_map, option_and_then}
 use Rattle.std.specs.Prelude.{slice_get, ◌+◌, ℕ, Bool, true, false, ◌&&◌, not, if◌then◌else◌, List, [], ◌∷◌, ◌++◌, map, codes, Option, Some, None, option_map}
 use Rattle.adl_settings.specs.Words.{Interface, Source, Flat, FlatConnection, FlatEnd, Leaf, same_kind, Hierarchy, Name, Given, value_at}
-use Rattle.adl_ast.specs.declared.component.Component.{Component}
 use Rattle.adl_ast.specs.declared.component.InterfaceKind.TheVariants as interfaces
-use Rattle.adl_ast.specs.declared.component.Member.{Member}
 use Rattle.adl_ast.specs.declared.component.Member.TheVariants as members
-use Rattle.adl_ast.specs.declared.composition.Role.{Role}
-use Rattle.adl_ast.specs.declared.composition.Role.TheVariants.{From, To}
-use Rattle.adl_ast.specs.declared.file.Item.{Item}
 use Rattle.adl_ast.specs.declared.file.Item.TheVariants as items
-use Rattle.adl_meaning.specs.declared.connector.Connector.{Connector}
-use Rattle.adl_meaning.specs.declared.connector.Connector.TheVariants.{Rpc, Notification, SharedMemory}
-use Rattle.adl_meaning.specs.declared.item_at.ItemAt.{ItemAt}
 use Rattle.adl_settings.specs.Meant.{where_set}
 pub use Rattle.adl_settings.specs.Joint.{Joint}
 pub use Rattle.adl_settings.specs.declared.found.Found.{Found}

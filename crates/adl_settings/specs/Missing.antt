@@ -1,7 +1,7 @@
 -- Missing stands at the name of an interface, in the declaration of a device's component, where an end joins it and it has
 -- none of the values that it needs: a dataport an address, an `emits` the number of its interrupt. Its name is the
 -- interface's. A value that isn't allowed isn't missing.
-use Rattle.std.specs.List.{flat_map}
+use Rattle.adl_meaning.specs.Prelude.{flat_map}
 use Rattle.std.specs.Option.{is_none}
 use Rattle.std.specs.Prelude.{Bool, ◌&&◌, ◌||◌, List}
 use Rattle.adl_settings.specs.Words.{Fault, at_word, where_true}

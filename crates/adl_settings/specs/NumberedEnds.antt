@@ -1,5 +1,5 @@
 -- The settings of an end by the numbers of its connection and of the end in it, and what they are found at.
-use Rattle.std.specs.Option.{option_and_then}
+use Rattle.adl_meaning.specs.Prelude.{option_and_then}
 use Rattle.std.specs.Prelude.{slice_get, ◌≡◌, ℕ, Bool, Option, Some, is_some}
 use Rattle.adl_settings.specs.Words.{Interface, Source, Flat, FlatConnection, FlatEnd, EndSetting, Settled, Hierarchy}
 use Rattle.adl_settings.specs.Joints.{Found, interface_at, found_at}

@@ -1,6 +1,5 @@
 -- Numbers that stand twice or more in a list.
-use Rattle.std.specs.List.{count_by}
-use Rattle.std.specs.Map.{lookup}
+use Rattle.adl_meaning.specs.Prelude.{count_by, lookup}
 use Rattle.std.specs.Prelude.{ℕ, ◌==◌, nat_le, Bool, false, List, unwrap_or}
 
 -- whether a table says that the number stands twice

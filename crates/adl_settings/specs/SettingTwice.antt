@@ -1,9 +1,8 @@
 -- SettingTwice stands at a setting of the same path and last word as an earlier one of its configuration, the names of groups
 -- aside, in each configuration of a component or the assembly, used or not. Its place is the dotted name, and its name the
 -- last word.
-use Rattle.std.specs.List.{flat_map, enumerate_from}
+use Rattle.adl_meaning.specs.Prelude.{bytes_eq, enumerate_from, flat_map}
 use Rattle.std.specs.Prelude.{ℕ, Bool, false, ◌&&◌, ◌||◌, List, [], ◌∷◌, ◌++◌}
-use Rattle.std.specs.Str.{bytes_eq}
 use Rattle.adl_settings.specs.Words.{Fault, Setting, last_name, where_true, Hierarchy, Body, Name, Path, same_path, path_of, settings_of}
 use Rattle.cam_base.specs.declared.code.Code.TheVariants as code
 

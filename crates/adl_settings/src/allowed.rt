@@ -2,10 +2,8 @@
 
 ghost use Rattle.adl_settings.specs.Allowed.{number_in, text_in, within, whole_pages, priority_in, stack_in, access_in, badge_named, badge_in, sized, size_in, paddr_in, irq_in};
 ghost use Rattle.adl_settings.specs.Words.{is_digit};
-ghost use Rattle.std.specs.List.{list_all};
-ghost use Rattle.std.specs.Option.{option_copied};
+ghost use Rattle.adl_meaning.specs.Prelude.{digits_value, list_all, option_copied};
 ghost use Rattle.std.specs.Prelude.{◌≡◌, ◌<◌, ◌≤◌, ◌^◌, ◌+◌, ◌*◌, true, IfSome, length};
-ghost use Rattle.std.specs.Str.Parse.{digits_value};
 
 use crate::Access;
 use adl_ast::{Value, ValueKind};

@@ -2,8 +2,7 @@
 
 ghost use Rattle.adl_ast.specs.declared.configuration.Setter.TheVariants as setters;
 ghost use Rattle.adl_settings.specs.Words.{Id as Word, Source as Text, flat_of, Hierarchy as Tree, hierarchy_of, Name as Bytes, Path as Names, Given as Value, default_at, setter_at, set_within, value_at, FlatConnection as Wire, FlatEnd as Joining};
-ghost use Rattle.std.specs.List.{filter, list_all};
-ghost use Rattle.std.specs.Option.{option_or};
+ghost use Rattle.adl_meaning.specs.Prelude.{filter, list_all, option_or};
 ghost use Rattle.std.specs.Prelude.{slice_get, ◌≡◌, ◌<◌, ◌+◌, ◌-◌, ℕ, true, suc, take, length, List as Seq, Some, None};
 ghost use Rattle.adl_settings.specs.EndMeaning.{end_setting};
 ghost use Rattle.adl_settings.specs.Joints.{Found, is_from, positioned};

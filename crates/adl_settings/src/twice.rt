@@ -1,7 +1,7 @@
 //! Numbers that stand twice: those of devices' interrupts, and the badges of the ends of one connection.
 
 ghost use Rattle.adl_settings.specs.Words.{noted};
-ghost use Rattle.std.specs.List.{filter_map};
+ghost use Rattle.adl_meaning.specs.Prelude.{filter_map};
 ghost use Rattle.std.specs.Prelude.{◌≡◌, ℕ, map, OnOk, IfOk};
 ghost use Rattle.adl_settings.specs.BadgeTwice.{last_in, own_badge, badge_twice_at, badges_twice_in, badges_twice};
 ghost use Rattle.adl_settings.specs.IrqTwice.{irq_at, irqs, irq_twice_at, irqs_twice};

@@ -1,9 +1,6 @@
 -- The component of the first instance of a name.
 use Rattle.std.proofs.Common.{◌≡◌, ◌+◌, ℕ, Bool, true, false, List, [], ◌∷◌, Option, Some, option_map, refl, cond}
-use Rattle.std.specs.List.{find, enumerate_from}
-use Rattle.std.specs.Str.{bytes_eq}
-use Rattle.adl_meaning.specs.Hierarchy.{Part, part_named}
-use Rattle.adl_meaning.specs.Items.{Name}
+use Rattle.adl_meaning.specs.Prelude.{Name, Part, bytes_eq, enumerate_from, find, part_named}
 use Rattle.adl_program.specs.Seen.{part_from}
 use Rattle.adl_program.specs.declared.part.PartAt.{PartAt}
 

@@ -1,7 +1,7 @@
 -- Keys of settings: a path with a name behind it.
 use Rattle.adl_settings.proofs.Common.{◌≡◌, ◌∙◌, Bool, true, false, cond, ◌&&◌, List, [], ◌∷◌, ◌++◌, Option, Some, None, is_some, refl, ap, Bor, Vec, Global, option_or, option_copied, bytes_eq, option_or-none, option_map-option_or, option_or-there, Setting, Name, Path, same_path, same_path-true, ℕ, suc, ◌-◌, length, map, take, sym, arith, append_assoc, map-append, Id, Hierarchy, inner_names, Part, option_map_or, option_map, path_of, body, part_named, is_group}
 use Rattle.std.specs.Cmp.Lexicographic.{pointwise}
-use Rattle.std.specs.Map.{lookup}
+use Rattle.adl_meaning.specs.Prelude.{lookup}
 use Rattle.std.specs.Cmp.Derive.Mapped.{pointwise-map}
 use Rattle.std.proofs.Math.Bool.{and_assoc, and-false, and-true}
 use Rattle.adl_items.specs.Pointed.{pointed}

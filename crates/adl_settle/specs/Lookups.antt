@@ -1,8 +1,6 @@
 -- The tables of settings, what the search for values looks at, and what it remembers.
-use Rattle.std.specs.Map.{lookup}
-use Rattle.std.specs.Option.{option_and_then, option_copied, option_map_or}
+use Rattle.adl_meaning.specs.Prelude.{bytes_eq, lookup, option_and_then, option_copied, option_map_or}
 use Rattle.std.specs.Prelude.{◌≡◌, ℕ, Bool, false, ◌&&◌, List, [], ◌∷◌, ◌++◌, Option, Some, None, option_map, slice_index_or}
-use Rattle.std.specs.Str.{bytes_eq}
 use Rattle.adl_settings.specs.Words.{Setting, Id, last_name, Hierarchy, body, part_named, Name, Path, same_path, Given, given, value_at, path_of, inner_names, is_group, setting_of}
 use Rattle.adl_items.specs.Pointed.{pointed}
 use Rattle.adl_settle.specs.declared.search.Memo.{Memo}

@@ -1,6 +1,6 @@
 //! The values of the settings of all leaves, and of the ends of connections at the interfaces that they join.
 
-ghost use Rattle.std.specs.Option.{option_copied};
+ghost use Rattle.adl_meaning.specs.Prelude.{option_copied};
 ghost use Rattle.std.specs.Prelude.{◌≡◌, ◌<◌, ◌^◌, OnOk, IfOk};
 ghost use Rattle.adl_settings.specs.Joints.{component_at, interface_at, joint_of, behind, value_of, size_of, found_at, found_on, founds_in};
 ghost use Rattle.adl_settings.specs.Meant.{where_set};

@@ -1,7 +1,7 @@
 //! The search for the value of a setting.
 
 ghost use Rattle.adl_settings.specs.Words.{Name as Bytes, body, default_in, setting_of, value_at};
-ghost use Rattle.std.specs.Option.{option_and_then, option_copied, option_map_or};
+ghost use Rattle.adl_meaning.specs.Prelude.{option_and_then, option_copied, option_map_or};
 ghost use Rattle.std.specs.Prelude.{◌≡◌, ◌∷◌, ◌++◌, [], List as Seq, Some, None, slice_get, OnOk, IfOk};
 ghost use Rattle.adl_items.specs.Pointed.{pointed};
 ghost use Rattle.adl_settle.specs.Lookups.{within, attribute_at, given_from, IsRemembered};
@@ -32,7 +32,7 @@ pub struct Lookup<'t, 'a> {
 }
 
 impl<'t, 'a> Model for Lookup<'t, 'a> {
-    ghost use Rattle.adl_meaning.specs.Hierarchy.{Hierarchy};
+    ghost use Rattle.adl_meaning.specs.Prelude.{Hierarchy};
 
     ghost Value = { Hierarchy };
 

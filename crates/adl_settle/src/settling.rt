@@ -2,7 +2,7 @@
 
 ghost use Rattle.adl_settings.specs.Words.{Refuses, flat_of, hierarchy_of};
 ghost use Rattle.std.specs.Prelude.{◌≡◌, IfOk};
-ghost use Rattle.adl_meaning.specs.Items.{AreFew};
+ghost use Rattle.adl_meaning.specs.Prelude.{AreFew};
 ghost use Rattle.adl_settings.specs.SettingFaults.{first_setting_fault};
 ghost use Rattle.adl_settings.specs.Settled.{settled_of};
 

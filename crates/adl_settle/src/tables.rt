@@ -1,7 +1,7 @@
 //! The settings of each body in a table, by their paths and names.
 
 ghost use Rattle.adl_settings.specs.Words.{Id as Word, Name as Bytes, body, part_named, path_of, same_path, sets, settings_of, noted, where_true};
-ghost use Rattle.std.specs.Option.{option_or, option_copied};
+ghost use Rattle.adl_meaning.specs.Prelude.{option_copied, option_or};
 ghost use Rattle.std.specs.Prelude.{◌≡◌, ◌∷◌, ◌++◌, [], List as Seq, Some, None, is_some, if◌then◌else◌, option_map, slice_index_or, OnOk, IfOk};
 ghost use Rattle.adl_items.specs.Pointed.{pointed};
 ghost use Rattle.adl_settings.specs.SettingTwice.{setting_twice, repeated_in, settings_twice};

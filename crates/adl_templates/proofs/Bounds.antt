@@ -3,10 +3,8 @@ use Rattle.adl_templates.proofs.Common.{All, Body, Bool, End, Export, Hierarchy,
 use Rattle.adl_templates.proofs.Common.{ends_in, export_named, export_target, exports_of, false, filter_map, flat_map, found, get_or_from_slice_get, in_place, is_composite, is_interface, joined_by, kind_in, leaves_before, leaves_in, leaves_step}
 use Rattle.adl_templates.proofs.Common.{length, length-flat_map-take, length-map, map, member_of, name_of, option_and_then, option_map, option_map_or, outside, placed_by, port_in, reached, refl, same_path, slice_get, subst, suc, sym, take, target}
 use Rattle.adl_templates.proofs.Common.{target_in, target_of, template_connections, true, zero, ℕ, ◌++◌, ◌+◌, ◌<◌, ◌∙◌, ◌∷◌, ◌≡◌, ◌≤◌}
-use Rattle.adl_ast.specs.declared.component.Component.{Component}
+use Rattle.adl_meaning.specs.Prelude.{Component, Id, place_by}
 use Rattle.std.proofs.lemmas.List.Elements.{All-nil, All-cons, All-map}
-use Rattle.adl_ast.specs.declared.id.Id.{Id}
-use Rattle.adl_meaning.specs.Lists.{place_by}
 use Rattle.adl_templates.specs.declared.placed.Target.{Target}
 
 place_below : {X : Type 0} (p : X → Bool) (xs : List X) → place_by p xs ≤ length xs

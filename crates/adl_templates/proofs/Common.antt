@@ -1,12 +1,9 @@
 -- The names that most proofs cite, passed on from one place. Declares nothing.
-pub use Rattle.adl_ast.specs.declared.composition.End.{End}
-pub use Rattle.adl_ast.specs.declared.composition.Export.{Export}
+pub use Rattle.adl_meaning.specs.Prelude.{All, Body, End, Export, Hierarchy, Name, Part, Path, Placed, Reached, Strung, Wire, at, behind, body, cons_option, enumerate_from, export_named, exports_of, filter_map, flat_map, further, graph, is_composite}
+pub use Rattle.adl_meaning.specs.Prelude.{is_interface, joined_by, leaves, leaves_in, list_any, member_number, name_of, option_and_then, option_map_or, option_or, outside, part_named, placed_by, port_in, reached, reached_by, same_path, slice_get}
+pub use Rattle.adl_meaning.specs.Prelude.{strung, strung_by, wire_of, wires_of}
 pub use Rattle.adl_hierarchy.proofs.Steps.{connections_step, kind_in, leaves_step, reached_step}
-pub use Rattle.adl_meaning.specs.Flat.{is_interface, member_number}
-pub use Rattle.adl_meaning.specs.Hierarchy.{Body, Hierarchy, Part, Wire, body, export_named, exports_of, graph, is_composite, part_named, port_in, wire_of, wires_of}
-pub use Rattle.adl_meaning.specs.Items.{Name}
-pub use Rattle.adl_meaning.specs.Joins.{Reached, Strung, behind, connections_in, further, joined_by, reached, reached_by, strung, strung_by}
-pub use Rattle.adl_meaning.specs.Paths.{Path, Placed, at, leaves, leaves_in, name_of, outside, placed_by, same_path}
+pub use Rattle.adl_meaning.specs.Joins.{connections_in}
 pub use Rattle.adl_program.proofs.Filling.{IsFilled, all_filled, filled_more, inner_filled, order_below}
 pub use Rattle.adl_program.proofs.PartNumbers.{is_named, is_unnamed}
 pub use Rattle.adl_program.specs.Seen.{part_from}
@@ -25,5 +22,3 @@ pub use Rattle.std.proofs.lemmas.Bool.{and_parts, cases_eq, eq-eqb, eqb-true, ne
 pub use Rattle.std.proofs.lemmas.List.{append-nil, length-append, length-map, length-replicate, map-append, take_all, take_at, take_more}
 pub use Rattle.std.proofs.lemmas.List.Folds.{length-flat_map-take, list_any_more}
 pub use Rattle.std.proofs.lemmas.Option.{get_or_from_slice_get, option_and_then_some}
-pub use Rattle.std.specs.List.{All, cons_option, enumerate_from, filter_map, flat_map, list_any, slice_get}
-pub use Rattle.std.specs.Option.{option_and_then, option_map_or, option_or}

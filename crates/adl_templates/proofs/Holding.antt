@@ -3,7 +3,7 @@ use Rattle.std.proofs.Math.Bool.{or-true}
 use Rattle.adl_templates.proofs.Common.{All, AreWanted, Bool, Hierarchy, IsIn, IsReady, List, Part, [], and_parts, ap, arith, body, cases_eq, eq-eqb, eqb-true, false, from_any, get_or, get_or-set_other, get_or-set_same, graph, inl, inner_filled, inr}
 use Rattle.adl_templates.proofs.Common.{kind_in, leaves, leaves_in, length, length-replicate, length-set, list_any, list_any_more, ne_eqb, or_cases, order_below, place_of, read_in, refl, replicate, set, subst, suc, sym, take, take_all, true}
 use Rattle.adl_templates.proofs.Common.{true≢false, zero, ℕ, ◌&&◌, ◌+◌, ◌<◌, ◌==◌, ◌^◌, ◌||◌, ◌∙◌, ◌∷◌, ◌≡◌, ◌≤◌}
-use Rattle.adl_meaning.specs.Graph.{has, IsInnerFirst}
+use Rattle.adl_meaning.specs.Prelude.{IsInnerFirst, has}
 use Rattle.adl_hierarchy.proofs.Finite.{graph_size}
 use Rattle.adl_templates.proofs.Bounds.{room}
 

@@ -7,7 +7,7 @@ use Rattle.adl_templates.proofs.Common.{suc, sym, take, target, target_by, targe
 use Rattle.numbering.proofs.Gathered.{place_of as number_at}
 use Rattle.std.proofs.lemmas.Simd.{map-map}
 use Rattle.adl_meaning.specs.JoinedEnds.{is_once}
-use Rattle.adl_meaning.specs.Domains.{group_above, group_or}
+use Rattle.adl_meaning.specs.Prelude.{group_above, group_or}
 use Rattle.adl_hierarchy.proofs.DomainNames.{same_path-Decides}
 use Rattle.adl_hierarchy.proofs.Places.{place_is}
 use Rattle.adl_hierarchy.proofs.Repeats.{find_once}

@@ -1,7 +1,7 @@
 -- What ends and ports lead to stands among the leaves of their body.
 use Rattle.adl_templates.proofs.Common.{End, Hierarchy, IsIn, IsReady, Name, None, Option, Path, Placed, Reached, Some, Strung, Wire, [], at, body, connections_in, false, filter_map, is_composite, is_some, joined_by, leaves_in, length, map}
 use Rattle.adl_templates.proofs.Common.{option_and_then_some, option_map_or, port_in, reached, subst, sym, wire_of, wires_of, ℕ, ◌++◌, ◌∷◌, ◌≡◌, ◌≤◌}
-use Rattle.adl_ast.specs.declared.composition.Composition.{Composition}
+use Rattle.adl_meaning.specs.Prelude.{Composition}
 use Rattle.adl_meaning.specs.Holding.{connections_in as lines_in}
 use Rattle.adl_hierarchy.specs.Once.{IsOnce}
 use Rattle.adl_hierarchy.proofs.Climbing.{found_climbs}

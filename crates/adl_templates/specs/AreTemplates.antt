@@ -1,11 +1,8 @@
 -- What templates rest on, and what tables of templates tell.
 use Rattle.std.specs.Prelude.{◌≡◌, ◌<◌, ◌^◌, ℕ, false, [], map, length, ◌≤◌, suc, Bool, true, List, slice_index, slice_index_or}
-use Rattle.std.specs.Option.{option_map_or}
+use Rattle.adl_meaning.specs.Prelude.{Hierarchy, Name, Part, body, is_composite, leaves_in, name_of, option_map_or}
 use Rattle.adl_hierarchy.specs.Finite.{IsFinite}
 use Rattle.adl_hierarchy.specs.Once.{IsOnce}
-use Rattle.adl_meaning.specs.Hierarchy.{Hierarchy, body, is_composite, Part}
-use Rattle.adl_meaning.specs.Paths.{name_of, leaves_in}
-use Rattle.adl_meaning.specs.Items.{Name}
 use Rattle.numbering.specs.Gather.{IsIn}
 use Rattle.name_tables.specs.ByName.{found}
 use Rattle.adl_templates.specs.Templates.{template_leaves, template_connections, export_target, leaves_before}

@@ -4,20 +4,10 @@
 -- An instance places the template of its component: its name comes in front of each path, and the number of leaves before it
 -- is added to each leaf's number. Leaves below a group are at home at the outermost one.
 use Rattle.std.specs.Prelude.{ℕ, ◌+◌, Bool, false, List, [], ◌∷◌, ◌++◌, map, length, take, Option, Some, None, option_map, if◌then◌else◌}
-use Rattle.std.specs.List.{flat_map, filter_map}
-use Rattle.std.specs.Option.{option_and_then, option_map_or}
-use Rattle.adl_ast.specs.declared.composition.End.{End}
-use Rattle.adl_ast.specs.declared.id.Id.{Id}
-use Rattle.adl_meaning.specs.Domains.{group_above, group_or}
-use Rattle.adl_meaning.specs.Flat.{member_number, is_interface}
-use Rattle.adl_meaning.specs.Hierarchy.{Hierarchy, Body, Part, Wire, body, is_composite, wires_of, export_named, exports_of, port_in}
-use Rattle.adl_meaning.specs.Items.{Name}
-use Rattle.adl_meaning.specs.CompositeBody.{is_device}
+use Rattle.adl_meaning.specs.Prelude.{Body, End, Hierarchy, Id, Name, Part, Path, Placed, Reached, Strung, Wire, body, export_named, exports_of, filter_map, flat_map, group_above, group_or, interface_of, is_composite, is_device, is_interface}
+use Rattle.adl_meaning.specs.Prelude.{joined_by, leaves_in, member_number, name_of, option_and_then, option_map_or, outside, place_by, placed_by, port_in, reached, same_path, strung, wires_of}
 use Rattle.adl_meaning.specs.JoinedEnds.{is_once, joins_once}
-use Rattle.adl_meaning.specs.Members.{interface_of}
-use Rattle.adl_meaning.specs.Joins.{Reached, Strung, strung, reached, joined_by, connections_in}
-use Rattle.adl_meaning.specs.Lists.{place_by}
-use Rattle.adl_meaning.specs.Paths.{Path, Placed, name_of, outside, placed_by, leaves_in, same_path}
+use Rattle.adl_meaning.specs.Joins.{connections_in}
 use Rattle.adl_templates.specs.declared.placed.Target.{Target}
 
 -- ---- leaves

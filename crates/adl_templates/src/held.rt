@@ -1,9 +1,7 @@
 //! The bodies that the assembly holds.
 
-ghost use Rattle.adl_meaning.specs.Hierarchy.{top_number};
-ghost use Rattle.adl_meaning.specs.Paths.{leaves};
+ghost use Rattle.adl_meaning.specs.Prelude.{leaves, list_any, top_number};
 ghost use Rattle.adl_templates.specs.AreTemplates.{AreWanted, IsReady};
-ghost use Rattle.std.specs.List.{list_any};
 ghost use Rattle.std.specs.Prelude.{◌≡◌, ◌==◌, ◌<◌, ◌^◌, ◌&&◌, ◌||◌, ℕ, All, true, false, slice_index_or, length, IfOk};
 
 use adl_program::{Part, Program};

@@ -1,10 +1,8 @@
 //! What the definitions promise together, as a function that does nothing.
 
-ghost use Rattle.adl_meaning.specs.Hierarchy.{Hierarchy, Part, body, part_named, top_number};
-ghost use Rattle.adl_meaning.specs.Items.{Name};
+ghost use Rattle.adl_meaning.specs.Prelude.{Hierarchy, Name, Part, body, enumerate_from, flat_map, part_named, slice_get, top_number};
 ghost use Rattle.adl_templates.specs.AreTemplates.{IsReady};
 ghost use Rattle.adl_templates.specs.Templates.{template_leaves, template_connections, own_connections, connections_by, leaves_by, leaves_before, target, target_by};
-ghost use Rattle.std.specs.List.{flat_map, enumerate_from, slice_get};
 ghost use Rattle.std.specs.Prelude.{◌≡◌, ◌≤◌, ◌++◌, ℕ, Some};
 
 /// The template of a body is made of those of its instances' components: its leaves with their homes, its connections,

@@ -1,7 +1,6 @@
 //! Placing: a name comes in front of each path, and leaves are told by greater numbers.
 
-ghost use Rattle.adl_meaning.specs.Domains.{group_or};
-ghost use Rattle.adl_meaning.specs.Paths.{name_of};
+ghost use Rattle.adl_meaning.specs.Prelude.{group_or, name_of};
 ghost use Rattle.adl_templates.specs.Templates.{moved_leaf, moved_connection, moved_target};
 ghost use Rattle.adl_templates.specs.declared.placed.Target.{Target as TargetOf};
 ghost use Rattle.std.specs.Prelude.{◌≡◌, ◌<◌, ◌+◌, ◌^◌, ◌++◌, ◌∷◌, [], None, Some, All, map, option_map, IfOk, OnOk};

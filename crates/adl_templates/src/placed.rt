@@ -19,7 +19,7 @@ pub struct PlacedLeaf<'a> {
 
 impl<'a> Model for PlacedLeaf<'a> {
     ghost use Rattle.adl_templates.specs.Templates.{Homed};
-    ghost use Rattle.std.specs.Option.{option_copied};
+    ghost use Rattle.adl_meaning.specs.Prelude.{option_copied};
 
     ghost Value = { Homed };
 

@@ -1,15 +1,11 @@
 //! The template of a body, from those of its instances' components.
 
-ghost use Rattle.adl_meaning.specs.CompositeBody.{is_device};
-ghost use Rattle.adl_meaning.specs.Hierarchy.{body, top_number};
+ghost use Rattle.adl_meaning.specs.Prelude.{body, enumerate_from, flat_map, is_device, leaves, leaves_in, option_and_then, option_map_or, top_number};
 ghost use Rattle.adl_meaning.specs.JoinedEnds.{joins_once};
 ghost use Rattle.adl_templates.specs.AreTemplates.{IsTemplate, AreInner, AreBefore, AreWanted, AreTemplates, IsReady};
 ghost use Rattle.adl_templates.specs.Templates.{template_leaves, own_connections, connections_by, member_of, own_target, target_by, target_of, export_target, leaves_by};
 ghost use Rattle.adl_templates.specs.declared.template.Template.{Template as TemplateOf};
-ghost use Rattle.adl_meaning.specs.Paths.{leaves, leaves_in};
 ghost use Rattle.name_tables.specs.ByName.{found};
-ghost use Rattle.std.specs.List.{flat_map, enumerate_from};
-ghost use Rattle.std.specs.Option.{option_and_then, option_map_or};
 ghost use Rattle.std.specs.Prelude.{◌≡◌, ◌<◌, ◌+◌, ◌^◌, ◌++◌, ℕ, true, false, List as Seq, length, slice_index, slice_index_or, IfOk, OnOk};
 
 use crate::held::held_bodies;

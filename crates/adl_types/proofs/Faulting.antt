@@ -1,6 +1,6 @@
 -- Noting body by body.
 use Rattle.adl_types.proofs.Common.{Body, Fault, Hierarchy, List, None, Option, Wire, [], add-one, ap, append_assoc, body, faults_below, flat_map, noted, noted_then, option_map_or, size_faults, sym, wire_faults, wires_of, ℕ, ◌++◌, ◌+◌, ◌∙◌, ◌≡◌}
-use Rattle.adl_ast.specs.declared.component.Component.{Component}
+use Rattle.adl_meaning.specs.Prelude.{Component}
 
 sizes : Option Component → List Fault
 sizes c = option_map_or (λ c. flat_map size_faults c.members) c []

@@ -3,15 +3,12 @@ use Rattle.adl_types.proofs.Common.{Bool, Fault, Hierarchy, List, None, Option, 
 use Rattle.adl_types.proofs.Common.{is_kind_of, least-empty, length, may_have, not, option_map_or, refl, size_faults, suc, top_number, true, type_faults, where_true, wire_faults, wires_of, zero, ℕ, ◌&&◌, ◌+◌, ◌<◌, ◌∙◌, ◌≡◌, ◌≤◌}
 use Rattle.std.proofs.lemmas.Bool.{cases_eq}
 use Rattle.cam_base.specs.declared.code.Code.TheVariants as code
-use Rattle.adl_ast.specs.declared.composition.End.{End}
-use Rattle.adl_ast.specs.declared.source.Source.{Source}
+use Rattle.adl_meaning.specs.Prelude.{AreNamesSound, End, Source, Strung, connections}
 use Rattle.adl_hierarchy.proofs.Connections.{connections_stand}
 use Rattle.adl_hierarchy.proofs.Exports.{not_so}
 use Rattle.adl_hierarchy.proofs.Finite.{sound_is_finite}
 use Rattle.adl_hierarchy.proofs.PartsAt.{body_in}
-use Rattle.adl_meaning.specs.Joins.{Strung, connections}
 use Rattle.numbering.specs.Gather.{IsIn}
-use Rattle.adl_meaning.specs.NameFaults.{AreNamesSound}
 use Rattle.numbering.proofs.Lists.{none_in, none_left, none_right}
 use Rattle.conn_rules.specs.Ends.{end_rule}
 use Rattle.adl_program.specs.LeafInterfaces.{LeafInterface, leaf_of}

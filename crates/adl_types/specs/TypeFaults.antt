@@ -9,23 +9,12 @@
 --
 -- An end that leads to no interface has no fault here.
 use Rattle.std.specs.Prelude.{ℕ, ◌+◌, zero, suc, Bool, true, false, ◌&&◌, not, if◌then◌else◌, List, [], ◌∷◌, ◌++◌, Option, Some, None, unwrap_or, nat_le, ◌==◌}
-use Rattle.std.specs.List.{flat_map, count_by}
-use Rattle.std.specs.Option.{option_map_or}
-use Rattle.std.specs.Str.{bytes_eq}
+use Rattle.adl_meaning.specs.Prelude.{Connector, End, Fault, From, Hierarchy, Interrupt, Member, Role, Source, To, Wire, at_word, body, bytes_eq, count_by, flat_map, hierarchy_of, last_name, least, option_map_or, same_kind, top_number, where_true}
+use Rattle.adl_meaning.specs.Prelude.{wires_of}
 use Rattle.cam_base.specs.declared.code.Code.{Code}
 use Rattle.cam_base.specs.declared.code.Code.TheVariants as code
-use Rattle.cam_base.specs.declared.place.Fault.{Fault}
-use Rattle.adl_ast.specs.declared.component.Member.{Member}
 use Rattle.adl_ast.specs.declared.component.Member.TheVariants as members
-use Rattle.adl_ast.specs.declared.composition.End.{End}
-use Rattle.adl_ast.specs.declared.composition.Role.{Role}
-use Rattle.adl_ast.specs.declared.composition.Role.TheVariants.{From, To}
-use Rattle.adl_ast.specs.declared.source.Source.{Source}
-use Rattle.adl_meaning.specs.declared.connector.Connector.{Connector}
-use Rattle.adl_meaning.specs.declared.connector.Connector.TheVariants.{Interrupt}
-use Rattle.adl_meaning.specs.Export.{last_name, same_kind, default_size}
-use Rattle.adl_meaning.specs.Faults.{at_word, where_true, least}
-use Rattle.adl_meaning.specs.Hierarchy.{Hierarchy, Wire, body, wires_of, top_number, hierarchy_of}
+use Rattle.adl_meaning.specs.Export.{default_size}
 use Rattle.conn_rules.specs.Ends.{end_rule, allows}
 use Rattle.conn_rules.specs.Row.{same_role}
 use Rattle.conn_rules.specs.declared.end.EndRule.{EndRule}

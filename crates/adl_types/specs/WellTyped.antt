@@ -1,9 +1,6 @@
 -- A connection of the flat system that is as its connector wants it.
 use Rattle.std.specs.Prelude.{◌≡◌, true}
-use Rattle.std.specs.Option.{option_map_or}
-use Rattle.adl_ast.specs.declared.composition.End.{End}
-use Rattle.adl_meaning.specs.Hierarchy.{Hierarchy}
-use Rattle.adl_meaning.specs.Joins.{Strung}
+use Rattle.adl_meaning.specs.Prelude.{End, Hierarchy, Strung, option_map_or}
 use Rattle.adl_program.specs.LeafInterfaces.{leaf_of}
 use Rattle.adl_types.specs.TypeFaults.{is_kind_of, has_one_type, agree, first_leaf, may_have}
 use Rattle.conn_rules.specs.Ends.{end_rule}

@@ -1,8 +1,6 @@
 //! The check of types.
 
-ghost use Rattle.adl_meaning.specs.Faults.{Refuses};
-ghost use Rattle.adl_meaning.specs.Items.{AreFew};
-ghost use Rattle.adl_meaning.specs.NameFaults.{AreNamesSound};
+ghost use Rattle.adl_meaning.specs.Prelude.{AreFew, AreNamesSound, Refuses};
 ghost use Rattle.adl_types.specs.TypeFaults.{first_type_fault};
 
 use crate::faults::type_fault;

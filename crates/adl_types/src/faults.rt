@@ -1,10 +1,7 @@
 //! The faults of types.
 
-ghost use Rattle.adl_meaning.specs.Faults.{noted, least};
-ghost use Rattle.adl_meaning.specs.Hierarchy.{top_number};
+ghost use Rattle.adl_meaning.specs.Prelude.{flat_map, least, noted, option_copied, option_map_or, top_number};
 ghost use Rattle.adl_types.specs.TypeFaults.{has_one_type, is_kind_of, agree, first_leaf, count_of, may_have, is_size, size_faults, wire_faults, type_faults_in};
-ghost use Rattle.std.specs.List.{flat_map};
-ghost use Rattle.std.specs.Option.{option_copied, option_map_or};
 ghost use Rattle.std.specs.Prelude.{◌≡◌, ◌≤◌, [], true};
 
 use adl_ast::{Component, End, Member, Role};

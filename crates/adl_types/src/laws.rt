@@ -1,9 +1,6 @@
 //! What the definitions promise together, as a function that does nothing.
 
-ghost use Rattle.adl_ast.specs.declared.source.Source.{Source};
-ghost use Rattle.adl_meaning.specs.Hierarchy.{hierarchy_of};
-ghost use Rattle.adl_meaning.specs.Joins.{Strung, connections};
-ghost use Rattle.adl_meaning.specs.NameFaults.{AreNamesSound};
+ghost use Rattle.adl_meaning.specs.Prelude.{AreNamesSound, Source, Strung, connections, hierarchy_of};
 ghost use Rattle.adl_types.specs.TypeFaults.{first_type_fault};
 ghost use Rattle.adl_types.specs.WellTyped.{IsWellTyped};
 ghost use Rattle.numbering.specs.Gather.{IsIn};

@@ -1,40 +1,20 @@
 -- The access that an end has in the flat system is that of the interface that it joins.
 use Rattle.std.proofs.Common.{◌≡◌, ◌∙◌, ◌&&◌, ◌++◌, not, ℕ, zero, suc, Bool, true, false, cond, List, [], ◌∷◌, codes, Option, Some, None, refl, sym, ap, subst, true≢false, unwrap_or}
-use Rattle.std.specs.List.{list_all, slice_get}
-use Rattle.std.specs.Option.{option_and_then, option_map_or}
-use Rattle.std.specs.Str.{bytes_eq}
+use Rattle.adl_meaning.specs.Prelude.{AreNamesSound, Body, Connector, EndSetting, Ended, FlatConnection, FlatEnd, Given, Interface, Item, ItemAt, Leaf, Placed, Role, Source, SourceFile, Strung, bytes_eq, flat_of, hierarchy_of, is_interface, leaf_of}
+use Rattle.adl_meaning.specs.Prelude.{list_all, option_and_then, option_map_or, place_by, same_kind, slice_get, value_at}
 use Rattle.std.specs.Prelude.{is_some}
 use Rattle.std.proofs.lemmas.Bool.{and_from, and_parts, not-true}
 use Rattle.std.proofs.lemmas.Slice.Eq.{bytes_eq-Decides}
 use Rattle.cam_base.proofs.Lists.{list_all-places}
-use Rattle.adl_ast.specs.declared.component.Interface.{Interface}
 use Rattle.adl_ast.specs.declared.component.InterfaceKind.{InterfaceKind}
 use Rattle.adl_ast.specs.declared.component.InterfaceKind.TheVariants.{Uses, Provides, Emits, Consumes, Dataport}
 use Rattle.adl_ast.specs.declared.component.Member.TheVariants as members
-use Rattle.adl_ast.specs.declared.composition.Role.{Role}
-use Rattle.adl_ast.specs.declared.file.Ended.{Ended}
-use Rattle.adl_ast.specs.declared.file.Item.{Item}
 use Rattle.adl_ast.specs.declared.file.Item.TheVariants as items
-use Rattle.adl_ast.specs.declared.source.Source.{Source}
-use Rattle.adl_ast.specs.declared.source.SourceFile.{SourceFile}
 use Rattle.adl_hierarchy.proofs.Bodies.{body_number}
 use Rattle.adl_hierarchy.proofs.DomainNames.{leaf_number_is}
 use Rattle.adl_hierarchy.specs.Leads.{AreDotted}
 use Rattle.numbering.proofs.Lists.{get_map}
-use Rattle.adl_meaning.specs.declared.connector.Connector.{Connector}
-use Rattle.adl_meaning.specs.declared.flat.FlatConnection.{FlatConnection}
-use Rattle.adl_meaning.specs.declared.flat.FlatEnd.{FlatEnd}
-use Rattle.adl_meaning.specs.declared.flat.Leaf.{Leaf}
-use Rattle.adl_meaning.specs.declared.item_at.ItemAt.{ItemAt}
-use Rattle.adl_meaning.specs.declared.settled.EndSetting.{EndSetting}
-use Rattle.adl_meaning.specs.Export.{same_kind}
-use Rattle.adl_meaning.specs.Flat.{flat_of, is_interface, leaf_of}
-use Rattle.adl_meaning.specs.Hierarchy.{Body, hierarchy_of}
-use Rattle.adl_meaning.specs.Joins.{Strung}
-use Rattle.adl_meaning.specs.Lists.{place_by}
-use Rattle.adl_meaning.specs.NameFaults.{AreNamesSound}
-use Rattle.adl_meaning.specs.Paths.{Placed, leaves as tree_leaves}
-use Rattle.adl_meaning.specs.Values.{Given, value_at}
+use Rattle.adl_meaning.specs.Paths.{leaves as tree_leaves}
 use Rattle.adl_settings.specs.Allowed.{access_in, no_access, read_and_write}
 use Rattle.adl_settings.specs.EndMeaning.{access_at, end_setting}
 use Rattle.adl_settings.specs.Joints.{as_component, as_interface, component_at, has_access, interface_at}

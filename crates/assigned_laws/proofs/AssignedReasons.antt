@@ -1,19 +1,7 @@
 -- What a source assigns has a reason in its flat system, and the other way round.
 use Rattle.std.proofs.Common.{◌≡◌, ◌∙◌, ◌↔◌, ℕ, true, Some, None, refl, sym, ap, subst}
-use Rattle.std.specs.List.{slice_get}
-use Rattle.adl_ast.specs.declared.composition.Role.{Role}
-use Rattle.adl_ast.specs.declared.composition.Role.TheVariants.{From, To}
-use Rattle.adl_ast.specs.declared.source.Source.{Source}
+use Rattle.adl_meaning.specs.Prelude.{AreNamesSound, Connector, FlatConnection, From, Interrupt, Notification, Path, Role, Rpc, Source, Strung, To, connections, domain_of, flat_of, hierarchy_of, slice_get}
 use Rattle.adl_hierarchy.specs.Leads.{AreDotted}
-use Rattle.adl_meaning.specs.declared.connector.Connector.{Connector}
-use Rattle.adl_meaning.specs.declared.connector.Connector.TheVariants.{Rpc, Notification, Interrupt}
-use Rattle.adl_meaning.specs.declared.flat.FlatConnection.{FlatConnection}
-use Rattle.adl_meaning.specs.Domains.{domain_of}
-use Rattle.adl_meaning.specs.Flat.{flat_of}
-use Rattle.adl_meaning.specs.Hierarchy.{hierarchy_of}
-use Rattle.adl_meaning.specs.Joins.{Strung, connections}
-use Rattle.adl_meaning.specs.NameFaults.{AreNamesSound}
-use Rattle.adl_meaning.specs.Paths.{Path}
 use Rattle.adl_types.specs.TypeFaults.{first_type_fault}
 use Rattle.arch_policy.specs.Ends.{EndAt, IsEnd}
 use Rattle.arch_policy.specs.Gives.{gives, opposite}

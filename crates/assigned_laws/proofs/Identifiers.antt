@@ -2,24 +2,12 @@
 use Rattle.std.proofs.Common.{◌≡◌, ◌∙◌, ◌++◌, ℕ, Bool, true, false, cond, List, [], ◌∷◌, Some, refl, sym, subst, inl, inr}
 use Rattle.adl_ast.specs.Forms.{word, connection_line, composition_member_line, group_line, instance_form, instance_line}
 use Rattle.adl_ast.specs.Seeing.{named}
-use Rattle.adl_ast.specs.declared.composition.Composition.{Composition}
-use Rattle.adl_ast.specs.declared.composition.Connection.{Connection}
-use Rattle.adl_ast.specs.declared.composition.Group.{Group}
-use Rattle.adl_ast.specs.declared.composition.Instance.{Instance}
-use Rattle.adl_ast.specs.declared.composition.Line.{Line}
+use Rattle.adl_meaning.specs.Prelude.{AreNamesSound, Composition, Connection, Group, Held, Id, Instance, Line, Name, Part, Path, Source, a_connection, as_held, at, body, flat_of, held_by, held_in, hierarchy_of, name_of, top_number}
 use Rattle.adl_ast.specs.declared.composition.Line.TheVariants as lines
-use Rattle.adl_ast.specs.declared.id.Id.{Id}
-use Rattle.adl_ast.specs.declared.source.Source.{Source}
 use Rattle.adl_hierarchy.proofs.Bodies.{part_of_body}
 use Rattle.adl_hierarchy.proofs.PartsAt.{first_on, named_in}
 use Rattle.adl_hierarchy.proofs.Spelled.{IsOne, line_spelled, one_of}
 use Rattle.adl_hierarchy.specs.Spelled.{AreSpelled}
-use Rattle.adl_meaning.specs.Flat.{flat_of}
-use Rattle.adl_meaning.specs.Hierarchy.{Part, body, hierarchy_of, top_number}
-use Rattle.adl_meaning.specs.Holding.{Held, a_connection, as_held, held_by, held_in}
-use Rattle.adl_meaning.specs.Items.{Name}
-use Rattle.adl_meaning.specs.NameFaults.{AreNamesSound}
-use Rattle.adl_meaning.specs.Paths.{Path, at, name_of}
 use Rattle.arch_policy.specs.declared.owner.Owner.{Owner}
 use Rattle.assigned_laws.proofs.LabelPaths.{Ends, held_instance, label_ends}
 use Rattle.assigned_laws.specs.Named.{HasPath}

@@ -1,23 +1,14 @@
 -- Ends of the flat system are ends of connections by the hierarchy, and the other way round.
 use Rattle.std.proofs.Common.{◌≡◌, ◌∙◌, ◌<◌, ◌++◌, ℕ, length, Some, refl, sym, ap, subst}
-use Rattle.std.specs.List.{slice_get}
+use Rattle.adl_meaning.specs.Prelude.{AreNamesSound, End, FlatConnection, FlatEnd, Path, Placed, Reached, Source, Strung, Wire, connections, flat_connection, flat_end, flat_ends, flat_of, hierarchy_of, leaf_number, leaves, slice_get}
 use Rattle.std.proofs.lemmas.Option.{slice_get_within}
-use Rattle.adl_ast.specs.declared.composition.End.{End}
-use Rattle.adl_ast.specs.declared.source.Source.{Source}
 use Rattle.adl_hierarchy.proofs.Connections.{connections_stand}
 use Rattle.adl_hierarchy.proofs.DomainNames.{leaf_number_is}
 use Rattle.adl_hierarchy.proofs.Joining.{all_joined, end_numbers_kept, ends_kept, joined, joins_joined}
 use Rattle.adl_hierarchy.specs.Leads.{AreDotted}
 use Rattle.component_graph.proofs.Lists.{in_get}
 use Rattle.numbering.proofs.Lists.{get_map, at_place, from_get_map}
-use Rattle.adl_meaning.specs.declared.flat.FlatConnection.{FlatConnection}
-use Rattle.adl_meaning.specs.declared.flat.FlatEnd.{FlatEnd}
-use Rattle.adl_meaning.specs.Flat.{flat_connection, flat_end, flat_ends, flat_of, leaf_number}
-use Rattle.adl_meaning.specs.Hierarchy.{Wire, hierarchy_of}
-use Rattle.adl_meaning.specs.Joins.{Reached, Strung, connections}
 use Rattle.numbering.specs.Gather.{IsIn}
-use Rattle.adl_meaning.specs.NameFaults.{AreNamesSound}
-use Rattle.adl_meaning.specs.Paths.{Path, Placed, leaves}
 use Rattle.arch_policy.specs.Ends.{EndAt}
 use Rattle.assigned_laws.specs.Assigned.{EndOf, owner}
 use Rattle.assigned_laws.specs.Named.{IsNamed, tables_with}

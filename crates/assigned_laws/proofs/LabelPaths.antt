@@ -1,18 +1,12 @@
 -- No two labels of a source in which no fault of names stands have one path. The last name of a label's path is that of an
 -- instance, of a group or of a connection of one composition, and these differ in name.
 use Rattle.std.proofs.Common.{◌≡◌, ◌∙◌, ◌++◌, ℕ, zero, suc, Bool, true, false, cond, List, [], ◌∷◌, map, Option, Some, None, refl, sym, ap, subst, inl, inr, true≢false, unwrap_or}
-use Rattle.std.specs.List.{filter_map, find, flat_map, slice_get}
-use Rattle.std.specs.Option.{option_and_then}
-use Rattle.std.specs.Str.{bytes_eq}
+use Rattle.adl_meaning.specs.Prelude.{AreNamesSound, Composition, Connection, Domain, FlatConnection, Held, Hierarchy, Id, Instance, Leaf, Line, Name, Part, Path, Placed, Source, Strung, a_group, an_instance, as_connection, as_held, at, body}
+use Rattle.adl_meaning.specs.Prelude.{bytes_eq, connections, domain_number, domain_of, domains, filter_map, find, flat_connection, flat_domain, flat_map, flat_of, group_above, held_by, held_in, hierarchy_of, instances_by, is_hardware, kind_named}
+use Rattle.adl_meaning.specs.Prelude.{leaf_number, leaf_of, leaves, member_of, name_of, option_and_then, part_named, part_of, parts_by, parts_in, slice_get, top_number}
 use Rattle.std.proofs.lemmas.Option.{option_and_then_some}
 use Rattle.cam_base.proofs.Lists.{snoc_same}
-use Rattle.adl_ast.specs.declared.composition.Composition.{Composition}
-use Rattle.adl_ast.specs.declared.composition.Connection.{Connection}
-use Rattle.adl_ast.specs.declared.composition.Instance.{Instance}
-use Rattle.adl_ast.specs.declared.composition.Line.{Line}
 use Rattle.adl_ast.specs.declared.composition.Line.TheVariants as lines
-use Rattle.adl_ast.specs.declared.id.Id.{Id}
-use Rattle.adl_ast.specs.declared.source.Source.{Source}
 use Rattle.adl_hierarchy.specs.Once.{IsOnce}
 use Rattle.adl_hierarchy.specs.PartAt.{part_at}
 use Rattle.adl_hierarchy.proofs.Bodies.{part_of_body, parts_of}
@@ -26,18 +20,8 @@ use Rattle.adl_hierarchy.proofs.PartsAt.{last_of, named_in}
 use Rattle.adl_hierarchy.proofs.Repeats.{find_once}
 use Rattle.component_graph.proofs.Lists.{in_get}
 use Rattle.numbering.proofs.Lists.{from_filter_map, from_flat_map, get_map, in_flat_map, in_map, map_some, from_get_map}
-use Rattle.adl_meaning.specs.Domains.{domain_of, domains, group_above, is_hardware}
-use Rattle.adl_meaning.specs.Flat.{domain_number, flat_connection, flat_domain, flat_of, leaf_number, leaf_of}
-use Rattle.adl_meaning.specs.Hierarchy.{Hierarchy, Part, body, hierarchy_of, kind_named, part_named, part_of, parts_by, parts_in, top_number}
-use Rattle.adl_meaning.specs.Holding.{Held, a_connection as held_connection, a_group, an_instance, as_connection, as_held, held_by, held_in, instances_by, member_of}
-use Rattle.adl_meaning.specs.Items.{Name}
-use Rattle.adl_meaning.specs.Joins.{Strung, connections}
+use Rattle.adl_meaning.specs.Holding.{a_connection as held_connection}
 use Rattle.numbering.specs.Gather.{IsIn}
-use Rattle.adl_meaning.specs.NameFaults.{AreNamesSound}
-use Rattle.adl_meaning.specs.Paths.{Path, Placed, at, leaves, name_of}
-use Rattle.adl_meaning.specs.declared.flat.Domain.{Domain}
-use Rattle.adl_meaning.specs.declared.flat.FlatConnection.{FlatConnection}
-use Rattle.adl_meaning.specs.declared.flat.Leaf.{Leaf}
 use Rattle.arch_policy.specs.declared.owner.Owner.{Owner}
 use Rattle.arch_policy.specs.declared.owner.Owner.TheVariants.{OfConnection, OfDomain, OfLeaf}
 use Rattle.assigned_laws.specs.Named.{ArePathsApart, HasPath}

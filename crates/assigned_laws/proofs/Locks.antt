@@ -1,25 +1,15 @@
 -- Locks of the flat system are locks of leaves by the hierarchy, and the other way round.
 use Rattle.std.proofs.Common.{◌≡◌, ◌∙◌, ℕ, Bool, true, false, cond, Some, None, refl, sym, ap, subst}
-use Rattle.std.specs.List.{slice_get}
-use Rattle.std.specs.Option.{option_map_or}
-use Rattle.adl_ast.specs.declared.component.Component.{Component}
+use Rattle.adl_meaning.specs.Prelude.{AreNamesSound, Body, Component, ItemAt, Leaf, Placed, Source, at, body, domain_number, domain_of, domains, flat_domain, flat_of, hierarchy_of, is_device, is_hardware, item_of, leaf_of, leaves, option_map_or}
+use Rattle.adl_meaning.specs.Prelude.{slice_get, top_number}
 use Rattle.adl_ast.specs.declared.component.Member.TheVariants as members
-use Rattle.adl_ast.specs.declared.source.Source.{Source}
 use Rattle.adl_hierarchy.proofs.Bodies.{body_number}
 use Rattle.adl_hierarchy.proofs.DomainNames.{domain_found, domains_are}
 use Rattle.adl_hierarchy.proofs.Leaves.{leaves_stand, paths_are_leaves}
 use Rattle.adl_hierarchy.proofs.PartsAt.{at_part}
 use Rattle.component_graph.proofs.Lists.{in_get}
 use Rattle.numbering.proofs.Lists.{from_map, get_map, from_get_map}
-use Rattle.adl_meaning.specs.CompositeBody.{is_device}
-use Rattle.adl_meaning.specs.Domains.{domain_of, domains, is_hardware}
-use Rattle.adl_meaning.specs.Flat.{domain_number, flat_domain, flat_of, item_of, leaf_of}
-use Rattle.adl_meaning.specs.Hierarchy.{Body, body, hierarchy_of, top_number}
 use Rattle.numbering.specs.Gather.{IsIn}
-use Rattle.adl_meaning.specs.NameFaults.{AreNamesSound}
-use Rattle.adl_meaning.specs.Paths.{Placed, at, leaves}
-use Rattle.adl_meaning.specs.declared.flat.Leaf.{Leaf}
-use Rattle.adl_meaning.specs.declared.item_at.ItemAt.{ItemAt}
 use Rattle.arch_policy.specs.Ends.{LockAt}
 use Rattle.arch_policy.specs.declared.owner.Owner.TheVariants.{OfDomain}
 use Rattle.assigned_laws.specs.Assigned.{LockOf}

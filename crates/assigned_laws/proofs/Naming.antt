@@ -1,21 +1,12 @@
 -- Labels by number and by path.
 use Rattle.std.proofs.Common.{◌≡◌, ◌∙◌, ℕ, Bool, true, false, cond, Option, Some, None, refl, sym, ap, subst}
-use Rattle.std.specs.List.{slice_get}
-use Rattle.adl_ast.specs.declared.source.Source.{Source}
+use Rattle.adl_meaning.specs.Prelude.{AreNamesSound, Flat, Leaf, Path, Placed, Source, Strung, body, connections, domain_number, domain_of, domains, flat_connection, flat_domain, flat_of, hierarchy_of, is_device, is_hardware, leaf_of, leaves}
+use Rattle.adl_meaning.specs.Prelude.{option_map_or, slice_get, top_number}
 use Rattle.adl_hierarchy.proofs.DomainNames.{domain_found, domains_are}
 use Rattle.adl_hierarchy.proofs.Leaves.{leaves_stand}
 use Rattle.adl_hierarchy.proofs.PartsAt.{at_part}
 use Rattle.component_graph.proofs.Lists.{in_get}
 use Rattle.numbering.proofs.Lists.{get_map}
-use Rattle.adl_meaning.specs.CompositeBody.{is_device}
-use Rattle.adl_meaning.specs.Domains.{domain_of, domains, is_hardware}
-use Rattle.adl_meaning.specs.Flat.{domain_number, flat_connection, flat_domain, flat_of, leaf_of}
-use Rattle.adl_meaning.specs.Hierarchy.{body, hierarchy_of, top_number}
-use Rattle.adl_meaning.specs.Joins.{Strung, connections}
-use Rattle.adl_meaning.specs.NameFaults.{AreNamesSound}
-use Rattle.adl_meaning.specs.Paths.{Path, Placed, leaves}
-use Rattle.adl_meaning.specs.declared.flat.Flat.{Flat}
-use Rattle.adl_meaning.specs.declared.flat.Leaf.{Leaf}
 use Rattle.arch_policy.specs.declared.owner.Owner.{Owner}
 use Rattle.arch_policy.specs.Owners.{has_label, owner_in}
 use Rattle.arch_policy.specs.declared.owner.Owner.TheVariants.{OfConnection, OfDomain, OfLeaf}
@@ -23,7 +14,6 @@ use Rattle.arch_policy.specs.Tables.{AreApart, IsThere, Tables, connection_label
 use Rattle.assigned_laws.specs.Assigned.{connection_path, device_at, owner}
 use Rattle.assigned_laws.specs.Named.{ArePathsApart, HasPath, IsNamed, tables_with}
 use Rattle.arch_policy.specs.declared.numbers.LabelNumbers.{LabelNumbers}
-use Rattle.std.specs.Option.{option_map_or}
 
 -- the label of whose a leaf is that is told so
 abbrev option_label : Tables → ℕ → Option Leaf → ℕ

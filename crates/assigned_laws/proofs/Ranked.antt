@@ -1,16 +1,11 @@
 -- Numbers of labels are the places of their texts, and tell the texts.
 use Rattle.std.proofs.Common.{◌≡◌, ◌↔◌, ◌∙◌, ◌+◌, ◌++◌, ℕ, zero, suc, Bool, true, false, cond, List, [], ◌∷◌, Some, None, Less, refl, sym, ap, subst, inl, inr, arith}
 use Rattle.std.specs.Cmp.Lexicographic.{slice_cmp}
-use Rattle.std.specs.List.{count_by, slice_get}
+use Rattle.adl_meaning.specs.Prelude.{Domain, Flat, FlatConnection, Leaf, Path, count_by, joined, slice_get}
 use Rattle.std.specs.Ordering.{is_lt, nat_cmp, ordering_reverse}
 use Rattle.std.proofs.lemmas.Cmp.{nat_list_cmp_total, tied_itself}
 use Rattle.std.proofs.lemmas.List.Sums.{sum_by-cons}
 use Rattle.std.proofs.lemmas.Option.{get_or_from_slice_get}
-use Rattle.adl_meaning.specs.Paths.{Path}
-use Rattle.adl_meaning.specs.declared.flat.Domain.{Domain}
-use Rattle.adl_meaning.specs.declared.flat.Flat.{Flat}
-use Rattle.adl_meaning.specs.declared.flat.FlatConnection.{FlatConnection}
-use Rattle.adl_meaning.specs.declared.flat.Leaf.{Leaf}
 use Rattle.arch_policy.proofs.Ordering.{Above, Rises, order_rises, to_order, from_order}
 use Rattle.arch_policy.specs.Labels.{comes_before, connection_numbers, device_numbers, domain_numbers, label_lines, label_numbers, label_texts, rank}
 use Rattle.arch_policy.specs.Owners.{connection_texts, device_texts, domain_texts, has_label, is_device, texts}
@@ -21,7 +16,6 @@ use Rattle.arch_policy.specs.declared.owner.Owner.TheVariants.{OfConnection, OfD
 use Rattle.arch_policy.proofs.Lists.{from_where, in_where}
 use Rattle.assigned_laws.specs.Named.{HasPath}
 use Rattle.assigned_laws.specs.Texts.{AreTextsApart, IsCalled}
-use Rattle.cam_base.specs.Paths.{joined}
 use Rattle.numbering.proofs.Gathered.{from_gather, get_ones, in_append, in_gather, in_left, in_place, in_right, place_of}
 use Rattle.numbering.specs.Gather.{IsIn}
 

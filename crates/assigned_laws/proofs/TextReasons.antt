@@ -1,10 +1,8 @@
 -- What a source assigns, by the texts of labels.
 use Rattle.std.proofs.Common.{◌≡◌, ◌≢◌, ◌↔◌, ℕ, List, None, refl}
-use Rattle.adl_ast.specs.declared.source.Source.{Source}
+use Rattle.adl_meaning.specs.Prelude.{AreNamesSound, Source, flat_of}
 use Rattle.adl_hierarchy.proofs.Spelled.{spelled_dotted}
 use Rattle.adl_hierarchy.specs.Spelled.{AreSpelled}
-use Rattle.adl_meaning.specs.Flat.{flat_of}
-use Rattle.adl_meaning.specs.NameFaults.{AreNamesSound}
 use Rattle.adl_settings.specs.Settled.{settled_of}
 use Rattle.adl_types.specs.TypeFaults.{first_type_fault}
 use Rattle.arch_policy.specs.Labels.{label_lines, label_numbers}

@@ -1,13 +1,9 @@
 -- Where tokens spell the files of a source, its names are identifiers, so no name of a label's path has a dot.
 use Rattle.std.proofs.Common.{◌≡◌, ◌∙◌, ◌&&◌, ℕ, true, List, [], ◌∷◌, length, sym, ap, inl, inr, true≢false}
 use Rattle.std.specs.Prelude.{leb}
-use Rattle.std.specs.List.{list_all}
+use Rattle.adl_meaning.specs.Prelude.{AreNamesSound, Name, Source, flat_of, list_all}
 use Rattle.std.proofs.lemmas.Bool.{and_parts, or_left}
-use Rattle.adl_ast.specs.declared.source.Source.{Source}
 use Rattle.adl_hierarchy.specs.Spelled.{AreSpelled}
-use Rattle.adl_meaning.specs.Flat.{flat_of}
-use Rattle.adl_meaning.specs.Items.{Name}
-use Rattle.adl_meaning.specs.NameFaults.{AreNamesSound}
 use Rattle.assigned_laws.proofs.Identifiers.{identifiers}
 use Rattle.assigned_laws.specs.Texts.{AreUndotted, IsUndotted}
 use Rattle.cam_base.specs.Names.{is_letter, is_name, is_word_byte}

@@ -1,15 +1,11 @@
 -- Labels by their texts, which are the names of their paths, joined by dots. Where no name has a dot, texts tell labels.
 use Rattle.std.specs.Prelude.{◌≡◌, ◌≢◌, ℕ, List}
-use Rattle.adl_ast.specs.declared.source.Source.{Source}
-use Rattle.adl_meaning.specs.Items.{Name}
+use Rattle.adl_meaning.specs.Prelude.{Flat, Name, Path, Source, joined}
 use Rattle.numbering.specs.Gather.{IsIn}
-use Rattle.adl_meaning.specs.Paths.{Path}
-use Rattle.adl_meaning.specs.declared.flat.Flat.{Flat}
 use Rattle.arch_policy.specs.declared.owner.Owner.{Owner}
 use Rattle.assigned_laws.specs.Assigned.{IsAssigned}
 use Rattle.assigned_laws.specs.Named.{HasPath, IsNamed}
 use Rattle.auth_kinds.specs.declared.authority.Authority.{Authority}
-use Rattle.cam_base.specs.Paths.{joined}
 use Rattle.arch_policy.specs.Tables.{Tables}
 
 -- the number of the label with this text

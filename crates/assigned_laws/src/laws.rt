@@ -1,13 +1,8 @@
 //! Laws of sources in which no fault stands, as functions that do nothing.
 
-ghost use Rattle.adl_ast.specs.declared.source.Source.{Source};
+ghost use Rattle.adl_meaning.specs.Prelude.{AreNamesSound, Flat, Path, Source, flat_of, hierarchy_of};
 ghost use Rattle.adl_hierarchy.specs.Leads.{AreDotted};
 ghost use Rattle.adl_hierarchy.specs.Spelled.{AreSpelled};
-ghost use Rattle.adl_meaning.specs.Flat.{flat_of};
-ghost use Rattle.adl_meaning.specs.Hierarchy.{hierarchy_of};
-ghost use Rattle.adl_meaning.specs.NameFaults.{AreNamesSound};
-ghost use Rattle.adl_meaning.specs.Paths.{Path};
-ghost use Rattle.adl_meaning.specs.declared.flat.Flat.{Flat};
 ghost use Rattle.adl_settings.specs.Settled.{settled_of};
 ghost use Rattle.adl_types.specs.TypeFaults.{first_type_fault};
 ghost use Rattle.arch_policy.specs.Labels.{label_lines};

@@ -1,7 +1,6 @@
 -- Roles that are told to be the same are.
 use Rattle.std.proofs.Common.{◌≡◌, true, refl, sym, true≢false}
-use Rattle.adl_ast.specs.declared.composition.Role.{Role}
-use Rattle.adl_ast.specs.declared.composition.Role.TheVariants.{From, To}
+use Rattle.adl_meaning.specs.Prelude.{From, Role, To}
 use Rattle.conn_rules.specs.Row.{same_role}
 
 pub is_role : (r q : Role) → same_role r q ≡ true → r ≡ q

@@ -1,7 +1,7 @@
 -- The rights of each row confer its authorities: a test of each row and authority, which computes.
 use Rattle.std.proofs.Common.{◌≡◌, ◌&&◌, Bool, true, false, not, refl, arith, List, [], ◌∷◌, sym}
 use Rattle.std.specs.Prelude.{nat_lt}
-use Rattle.std.specs.List.{All, list_all}
+use Rattle.adl_meaning.specs.Prelude.{All, list_all}
 use Rattle.std.proofs.lemmas.Bool.{ltb-true, and_parts}
 use Rattle.std.proofs.lemmas.List.Sums.{AllPass-from_list_all}
 use Rattle.auth_kinds.specs.AuthoritySets.{IsSetOf, set_has}

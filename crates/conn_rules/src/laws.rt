@@ -4,7 +4,7 @@ ghost use Rattle.auth_kinds.specs.AuthoritySets.{IsSetOf};
 ghost use Rattle.auth_kinds.specs.declared.authority.Authority.{Authority};
 ghost use Rattle.conn_rules.specs.Confer.{row_confers};
 ghost use Rattle.conn_rules.specs.Row.{among, bits_of, table};
-ghost use Rattle.std.specs.List.{All};
+ghost use Rattle.adl_meaning.specs.Prelude.{All};
 ghost use Rattle.std.specs.Prelude.{List as Items};
 
 /// The rights of each row on its object confer just the row's authorities.

@@ -1,22 +1,10 @@
 -- The ends of a source in which no fault of names or types stands are typed.
 use Rattle.std.proofs.Common.{◌≡◌, true, None, sym, ◌∙◌, ap, subst}
-use Rattle.std.specs.List.{slice_get}
-use Rattle.std.specs.Option.{option_map_or}
-use Rattle.adl_ast.specs.declared.component.Component.{Component}
-use Rattle.adl_ast.specs.declared.composition.Role.{Role}
-use Rattle.adl_ast.specs.declared.source.Source.{Source}
+use Rattle.adl_meaning.specs.Prelude.{AreNamesSound, Body, Component, Connector, FlatConnection, FlatEnd, Part, Role, Source, flat_of, hierarchy_of, is_hardware, is_interface, item_of, leaf_of, option_map_or, place_by, slice_get}
 use Rattle.adl_hierarchy.specs.Leads.{AreDotted}
 use Rattle.adl_hierarchy.proofs.Bodies.{body_number}
 use Rattle.adl_hierarchy.proofs.Connections.{connections_stand}
 use Rattle.adl_hierarchy.proofs.Leading.{is_there}
-use Rattle.adl_meaning.specs.declared.connector.Connector.{Connector}
-use Rattle.adl_meaning.specs.declared.flat.FlatConnection.{FlatConnection}
-use Rattle.adl_meaning.specs.declared.flat.FlatEnd.{FlatEnd}
-use Rattle.adl_meaning.specs.Domains.{is_hardware}
-use Rattle.adl_meaning.specs.Flat.{item_of, leaf_of, flat_of, is_interface}
-use Rattle.adl_meaning.specs.Hierarchy.{Body, Part, hierarchy_of}
-use Rattle.adl_meaning.specs.Lists.{place_by}
-use Rattle.adl_meaning.specs.NameFaults.{AreNamesSound}
 use Rattle.adl_program.proofs.Joined.{joined_leaf}
 use Rattle.adl_types.specs.TypeFaults.{is_kind_of, first_type_fault}
 use Rattle.adl_types.proofs.Typed.{well_typed}

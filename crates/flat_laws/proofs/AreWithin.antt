@@ -2,17 +2,9 @@
 use Rattle.std.proofs.Common.{◌≡◌, ◌≤◌, length, None, ap, subst, arith}
 use Rattle.std.proofs.lemmas.List.{length-map}
 use Rattle.std.proofs.lemmas.Option.{slice_get_within}
-use Rattle.adl_ast.specs.declared.source.Source.{Source}
-use Rattle.adl_meaning.specs.declared.flat.FlatConnection.{FlatConnection}
-use Rattle.adl_meaning.specs.Flat.{leaf_of, flat_connection, flat_of}
-use Rattle.adl_meaning.specs.Hierarchy.{hierarchy_of}
-use Rattle.adl_meaning.specs.JoinFaults.{first_flat_fault}
-use Rattle.adl_meaning.specs.Joins.{connections}
-use Rattle.adl_meaning.specs.NameFaults.{AreNamesSound}
-use Rattle.adl_meaning.specs.Paths.{leaves}
+use Rattle.adl_meaning.specs.Prelude.{AreNamesSound, FlatConnection, HaveFewMembers, Source, connections, first_flat_fault, flat_connection, flat_of, hierarchy_of, leaf_of, leaves}
 use Rattle.adl_meaning.proofs.SoundNames.{one_assembly}
 use Rattle.leaf_ends.specs.Within.{IsWithin}
-use Rattle.adl_meaning.specs.FewMembers.{HaveFewMembers}
 use Rattle.flat_laws.proofs.FlatEnds.{strung_of, end_of}
 use Rattle.flat_laws.proofs.FlatLeaves.{few_members, leaf_owned}
 use Rattle.flat_laws.proofs.FewEnds.{flat_in_limits, few_ends}

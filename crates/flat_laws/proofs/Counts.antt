@@ -1,6 +1,6 @@
 -- Elements that pass a test, counted.
 use Rattle.std.proofs.Common.{◌≡◌, ◌≤◌, ◌+◌, ℕ, zero, suc, Bool, true, false, cond, List, [], ◌∷◌, Some, refl, ◌∙◌, ap, arith}
-use Rattle.std.specs.List.{count_by, slice_get}
+use Rattle.adl_meaning.specs.Prelude.{count_by, slice_get}
 use Rattle.std.proofs.lemmas.List.Sums.{sum_by-cons}
 
 abbrev one : Bool → ℕ

@@ -1,16 +1,9 @@
 -- The interface that an end joins is one that the component of its leaf declares.
 use Rattle.std.proofs.Common.{◌≡◌, ℕ, zero, suc, Bool, true, false, cond, List, length, [], ◌∷◌, map, Option, Some, option_map, is_some, sym, ◌∙◌, ap, subst}
-use Rattle.std.specs.List.{slice_get}
-use Rattle.std.specs.Option.{option_and_then, option_map_or}
-use Rattle.std.specs.Str.{bytes_eq}
+use Rattle.adl_meaning.specs.Prelude.{AreNamesSound, Component, Composition, End, Export, Hierarchy, Id, Instance, ItemAt, Known, Name, Part, Reached, Source, Wire, behind, body, bytes_eq, components, export_named, exports_of, hierarchy_of}
+use Rattle.adl_meaning.specs.Prelude.{instances_in, interface_of, is_composite, joined_by, kind_named, known_in, name_of, option_and_then, option_map_or, part_named, port_in, reached, reached_by, reached_within, slice_get, unknown_interface}
+use Rattle.adl_meaning.specs.Prelude.{wires_of}
 use Rattle.std.proofs.lemmas.Option.{option_and_then_some}
-use Rattle.adl_ast.specs.declared.component.Component.{Component}
-use Rattle.adl_ast.specs.declared.composition.Composition.{Composition}
-use Rattle.adl_ast.specs.declared.composition.End.{End}
-use Rattle.adl_ast.specs.declared.composition.Export.{Export}
-use Rattle.adl_ast.specs.declared.composition.Instance.{Instance}
-use Rattle.adl_ast.specs.declared.id.Id.{Id}
-use Rattle.adl_ast.specs.declared.source.Source.{Source}
 use Rattle.adl_hierarchy.specs.Leads.{AreDotted}
 use Rattle.adl_hierarchy.proofs.Bodies.{part_of_body}
 use Rattle.adl_hierarchy.proofs.KnownNames.{typed, no_unknown, instance_typed, export_known, end_known, IsKnown, dotted_known}
@@ -18,16 +11,6 @@ use Rattle.adl_hierarchy.proofs.Leading.{interface_known, own_export, own_connec
 use Rattle.adl_hierarchy.proofs.PartNames.{names_once}
 use Rattle.adl_hierarchy.proofs.Repeats.{find_once}
 use Rattle.adl_hierarchy.proofs.Whole.{parts_whole}
-use Rattle.adl_meaning.specs.declared.item_at.ItemAt.{ItemAt}
-use Rattle.adl_meaning.specs.Hierarchy.{Hierarchy, Part, Wire, kind_named, hierarchy_of, body, is_composite, part_named, export_named, exports_of, wires_of, port_in}
-use Rattle.adl_meaning.specs.Holding.{instances_in}
-use Rattle.adl_meaning.specs.Items.{Name, components}
-use Rattle.adl_meaning.specs.Joins.{Reached, behind, reached_by, reached_within, reached, joined_by}
-use Rattle.adl_meaning.specs.Known.{Known, known_in}
-use Rattle.adl_meaning.specs.Members.{interface_of}
-use Rattle.adl_meaning.specs.NameFaults.{AreNamesSound}
-use Rattle.adl_meaning.specs.Paths.{name_of}
-use Rattle.adl_meaning.specs.Unknown.{unknown_interface}
 use Rattle.numbering.specs.Gather.{IsIn}
 use Rattle.numbering.proofs.Lists.{from_map, found, map_some}
 

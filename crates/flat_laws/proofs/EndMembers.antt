@@ -1,17 +1,8 @@
 -- The interface that an end joins is the one that stands at its place among the members of the leaf's component.
 use Rattle.std.proofs.Common.{◌≡◌, zero, suc, Bool, true, false, cond, List, [], ◌∷◌, Option, Some, option_map, ap}
-use Rattle.std.specs.List.{find, flat_map, slice_get}
-use Rattle.std.specs.Option.{option_and_then}
-use Rattle.std.specs.Str.{bytes_eq}
-use Rattle.adl_ast.specs.declared.component.Component.{Component}
-use Rattle.adl_ast.specs.declared.component.Interface.{Interface}
-use Rattle.adl_ast.specs.declared.component.Member.{Member}
+use Rattle.adl_meaning.specs.Prelude.{Component, Id, Interface, Member, Name, bytes_eq, declared_by, find, flat_map, interface_of, is_interface, option_and_then, place_by, slice_get}
 use Rattle.adl_ast.specs.declared.component.Member.TheVariants as members
-use Rattle.adl_ast.specs.declared.id.Id.{Id}
-use Rattle.adl_meaning.specs.Flat.{is_interface}
-use Rattle.adl_meaning.specs.Items.{Name}
-use Rattle.adl_meaning.specs.Lists.{place_by}
-use Rattle.adl_meaning.specs.Members.{Declared, an_interface, an_attribute, a_lock, declared_by, as_interface, interface_of}
+use Rattle.adl_meaning.specs.Members.{Declared, an_interface, an_attribute, a_lock, as_interface}
 
 -- what the first of the name is as an interface
 abbrev first_declared : List (Id × Declared) → Name → Option Interface

@@ -1,19 +1,10 @@
 -- The ends of one connection are no more than those of all.
 use Rattle.std.proofs.Common.{◌≡◌, ◌≤◌, List, length, [], ◌∷◌, ◌++◌, Option, Some, None, option_map, refl, subst, inl, inr, arith}
-use Rattle.std.specs.List.{flat_map}
-use Rattle.std.specs.Option.{option_or}
+use Rattle.adl_meaning.specs.Prelude.{AreNamesSound, End, Source, Strung, connections, first_flat_fault, first_join_fault, first_size_fault, flat_end, flat_ends, flat_map, hierarchy_of, joined_by, option_or}
 use Rattle.std.proofs.lemmas.List.{length-append}
 use Rattle.cam_base.proofs.Lists.{length-filter_map}
-use Rattle.adl_ast.specs.declared.composition.End.{End}
-use Rattle.adl_ast.specs.declared.source.Source.{Source}
 use Rattle.adl_hierarchy.proofs.Limits.{AreInLimits, in_limits}
-use Rattle.adl_meaning.specs.Flat.{flat_end, flat_ends}
-use Rattle.adl_meaning.specs.Hierarchy.{hierarchy_of}
-use Rattle.adl_meaning.specs.JoinFaults.{first_flat_fault, first_join_fault}
-use Rattle.adl_meaning.specs.Joins.{Strung, joined_by, connections}
 use Rattle.numbering.specs.Gather.{IsIn}
-use Rattle.adl_meaning.specs.NameFaults.{AreNamesSound}
-use Rattle.adl_meaning.specs.SizeFaults.{first_size_fault}
 
 pub no_first : {X : Type 0} (a b : Option X) → option_or a b ≡ None → a ≡ None
 no_first None b e = refl

@@ -1,20 +1,11 @@
 -- The connections of a flat system and their ends, as those of the hierarchy.
 use Rattle.std.proofs.Common.{◌≡◌, ℕ, suc, List, [], ◌∷◌, ◌++◌, map, Some, option_map, refl, sym, ◌∙◌, ap, inl, inr}
-use Rattle.std.specs.List.{slice_get}
-use Rattle.adl_ast.specs.declared.composition.End.{End}
-use Rattle.adl_ast.specs.declared.source.Source.{Source}
+use Rattle.adl_meaning.specs.Prelude.{AreNamesSound, End, FlatConnection, FlatEnd, Placed, Reached, Source, Strung, connections, flat_connection, flat_end, flat_of, hierarchy_of, joined_by, leaf_number, leaf_of, leaves, slice_get}
 use Rattle.adl_hierarchy.proofs.DomainNames.{leaf_number_is}
 use Rattle.adl_hierarchy.proofs.Joining.{joined}
 use Rattle.component_graph.proofs.Lists.{in_get}
 use Rattle.numbering.proofs.Lists.{get_map, from_filter_map, map_some, from_get_map}
-use Rattle.adl_meaning.specs.declared.flat.FlatConnection.{FlatConnection}
-use Rattle.adl_meaning.specs.declared.flat.FlatEnd.{FlatEnd}
-use Rattle.adl_meaning.specs.Flat.{leaf_number, leaf_of, flat_end, flat_connection, flat_of}
-use Rattle.adl_meaning.specs.Hierarchy.{hierarchy_of}
-use Rattle.adl_meaning.specs.Joins.{Reached, Strung, joined_by, connections}
 use Rattle.numbering.specs.Gather.{IsIn}
-use Rattle.adl_meaning.specs.NameFaults.{AreNamesSound}
-use Rattle.adl_meaning.specs.Paths.{Placed, leaves}
 
 pub place_in : {X : Type 0} (xs : List X) (x : X) → IsIn x xs → (n : ℕ) × (slice_get xs n ≡ Some x)
 place_in [] x i = absurd i

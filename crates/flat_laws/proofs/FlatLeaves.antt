@@ -1,11 +1,9 @@
 -- The leaves and domains of a flat system, by number.
 use Rattle.std.proofs.Common.{◌≡◌, ◌≤◌, ℕ, Bool, true, false, cond, List, [], ◌∷◌, map, Option, Some, None, refl, sym, ◌∙◌, ap, subst, unwrap_or, length, arith}
-use Rattle.std.specs.List.{slice_get}
+use Rattle.adl_meaning.specs.Prelude.{AreNamesSound, Body, Component, Domain, HaveFewMembers, Hierarchy, ItemAt, Leaf, Member, Part, Path, Placed, Source, body, components, domain_number, domain_of, domains, flat_domain, flat_of, hierarchy_of}
+use Rattle.adl_meaning.specs.Prelude.{is_hardware, item_of, leaf_of, leaves, part_named, slice_get, top_number}
 use Rattle.std.proofs.lemmas.List.{length-map}
 use Rattle.std.proofs.lemmas.Option.{option_and_then_some}
-use Rattle.adl_ast.specs.declared.component.Component.{Component}
-use Rattle.adl_ast.specs.declared.component.Member.{Member}
-use Rattle.adl_ast.specs.declared.source.Source.{Source}
 use Rattle.adl_hierarchy.specs.PartAt.{part_at}
 use Rattle.adl_hierarchy.proofs.Bodies.{body_number, part_of_body}
 use Rattle.adl_hierarchy.proofs.DomainNames.{domains_are, leaves_of_domain, domain_number_is, domain_found}
@@ -14,18 +12,8 @@ use Rattle.component_graph.proofs.ComponentNumbers.{numbers_below}
 use Rattle.component_graph.proofs.Lists.{in_get}
 use Rattle.numbering.proofs.Lists.{get_map, at_place, from_get_map, all_in}
 use Rattle.adl_hierarchy.proofs.Steps.{part_in}
-use Rattle.adl_meaning.specs.declared.flat.Domain.{Domain}
-use Rattle.adl_meaning.specs.declared.flat.Leaf.{Leaf}
-use Rattle.adl_meaning.specs.declared.item_at.ItemAt.{ItemAt}
-use Rattle.adl_meaning.specs.Domains.{domain_of, domains, is_hardware}
-use Rattle.adl_meaning.specs.Flat.{domain_number, item_of, leaf_of, flat_domain, flat_of}
-use Rattle.adl_meaning.specs.Hierarchy.{Hierarchy, Part, Body, hierarchy_of, body, part_named, top_number}
-use Rattle.adl_meaning.specs.Items.{components}
 use Rattle.numbering.specs.Gather.{IsIn}
-use Rattle.adl_meaning.specs.NameFaults.{AreNamesSound}
-use Rattle.adl_meaning.specs.Paths.{Path, Placed, leaves}
 use Rattle.leaf_ends.specs.Members.{members_at, leaf_members, members_of_leaf}
-use Rattle.adl_meaning.specs.FewMembers.{HaveFewMembers}
 use Rattle.flat_laws.proofs.MembersAt.{members_there}
 
 -- ---- places

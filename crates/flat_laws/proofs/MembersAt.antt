@@ -1,15 +1,9 @@
 -- The members of a component are those at its place in the source.
 use Rattle.std.proofs.Common.{◌≡◌, ℕ, Some, refl, ap, subst, ◌∙◌, arith}
-use Rattle.std.specs.List.{enumerate_from, slice_get}
-use Rattle.adl_ast.specs.declared.component.Component.{Component}
-use Rattle.adl_ast.specs.declared.file.Ended.{Ended}
-use Rattle.adl_ast.specs.declared.file.Item.{Item}
+use Rattle.adl_meaning.specs.Prelude.{Component, Ended, Item, ItemAt, Source, as_component, components, enumerate_from, items_in, items_of, slice_get}
 use Rattle.adl_ast.specs.declared.file.Item.TheVariants as items
-use Rattle.adl_ast.specs.declared.source.Source.{Source}
 use Rattle.numbering.proofs.Lists.{from_map, from_flat_map, from_filter_map, from_enumerate}
-use Rattle.adl_meaning.specs.Items.{items_in, items_of, as_component, components}
 use Rattle.numbering.specs.Gather.{IsIn}
-use Rattle.adl_meaning.specs.declared.item_at.ItemAt.{ItemAt}
 use Rattle.leaf_ends.specs.Members.{members_of, members_in, items_of_file, members_at}
 
 -- an item stands at its place

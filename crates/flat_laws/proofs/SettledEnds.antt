@@ -1,21 +1,9 @@
 -- Where each end joins an interface of a leaf, each has its settings.
 use Rattle.std.proofs.Common.{◌≡◌, ◌∙◌, ℕ, zero, suc, List, [], ◌∷◌, length, option_map, refl, sym, ap, Option, Some, None, inl, inr}
-use Rattle.std.specs.List.{cons_option, filter_map, slice_get}
-use Rattle.std.specs.Option.{option_and_then}
+use Rattle.adl_meaning.specs.Prelude.{Component, Ended, FlatConnection, FlatEnd, Interface, Item, Leaf, Source, SourceFile, cons_option, filter_map, flat_of, hierarchy_of, option_and_then, slice_get}
 use Rattle.std.proofs.lemmas.List.{length-map}
-use Rattle.adl_ast.specs.declared.component.Component.{Component}
-use Rattle.adl_ast.specs.declared.component.Interface.{Interface}
 use Rattle.adl_ast.specs.declared.component.Member.TheVariants as members
-use Rattle.adl_ast.specs.declared.file.Ended.{Ended}
-use Rattle.adl_ast.specs.declared.file.Item.{Item}
 use Rattle.adl_ast.specs.declared.file.Item.TheVariants as items
-use Rattle.adl_ast.specs.declared.source.Source.{Source}
-use Rattle.adl_ast.specs.declared.source.SourceFile.{SourceFile}
-use Rattle.adl_meaning.specs.declared.flat.FlatConnection.{FlatConnection}
-use Rattle.adl_meaning.specs.declared.flat.FlatEnd.{FlatEnd}
-use Rattle.adl_meaning.specs.declared.flat.Leaf.{Leaf}
-use Rattle.adl_meaning.specs.Flat.{flat_of}
-use Rattle.adl_meaning.specs.Hierarchy.{hierarchy_of}
 use Rattle.numbering.specs.Gather.{IsIn}
 use Rattle.adl_settings.specs.EndMeaning.{end_setting}
 use Rattle.adl_settings.specs.Joints.{Joint, as_component, as_interface, behind, interface_at, found_at, found_of, found_on, founds_in, joint_at, positioned, positioned_after}

@@ -1,6 +1,6 @@
 -- A component has no more members than tokens spell its file.
 use Rattle.std.proofs.Common.{◌≡◌, ◌≤◌, ◌+◌, ℕ, Bool, true, false, ◌&&◌, ◌||◌, List, length, [], ◌∷◌, ◌++◌, refl, sym, ◌∙◌, ap, subst, arith, inl, inr}
-use Rattle.std.specs.List.{All, enumerate_from}
+use Rattle.adl_meaning.specs.Prelude.{All, Component, Ended, File, HaveFewMembers, Item, ItemAt, Seen, Source, components, enumerate_from, items_in, items_of}
 use Rattle.std.proofs.lemmas.Bool.{and_parts, or_cases}
 use Rattle.std.proofs.lemmas.List.{length-append}
 use Rattle.std.proofs.lemmas.List.Elements.{All-cons, All-nil}
@@ -10,20 +10,11 @@ use Rattle.grammar.specs.Spelling.{Meaning, Each, Spells}
 use Rattle.adl_ast.specs.Codes.{token_code}
 use Rattle.adl_ast.specs.Forms.{Rule, nested_line, flag_line, import_line, plain_port_line, buf_line, data_line, dataport_line, interface_line, attribute_line, lock_line, composition_line, configuration_line, member_line, member_form, component_line, procedure_line, assembly_line, item_line, ended_line, ended_form, file_line}
 use Rattle.adl_ast.specs.Spelling.{limit, IsSpelledBy}
-use Rattle.adl_ast.specs.declared.component.Component.{Component}
-use Rattle.adl_ast.specs.declared.file.Ended.{Ended}
-use Rattle.adl_ast.specs.declared.file.File.{File}
-use Rattle.adl_ast.specs.declared.file.Item.{Item}
 use Rattle.adl_ast.specs.declared.file.Item.TheVariants as items
-use Rattle.adl_ast.specs.declared.seen.Seen.{Seen}
-use Rattle.adl_ast.specs.declared.source.Source.{Source}
 use Rattle.component_graph.proofs.Lists.{in_get}
 use Rattle.numbering.proofs.Lists.{from_map, from_flat_map, from_enumerate}
 use Rattle.adl_hierarchy.proofs.Sources.{component_item}
-use Rattle.adl_meaning.specs.declared.item_at.ItemAt.{ItemAt}
-use Rattle.adl_meaning.specs.Items.{items_in, items_of, components}
 use Rattle.numbering.specs.Gather.{IsIn}
-use Rattle.adl_meaning.specs.FewMembers.{HaveFewMembers}
 use Rattle.flat_laws.specs.ShortFiles.{AreFilesShort}
 
 -- ---- forms

@@ -4,18 +4,8 @@ use Rattle.std.proofs.lemmas.Bool.{cond_both}
 use Rattle.std.proofs.lemmas.List.{length-map}
 use Rattle.std.proofs.lemmas.List.FromFn.{length-enumerate_from}
 use Rattle.std.proofs.lemmas.List.Sums.{count_by-le-length, length-filter}
-use Rattle.std.specs.List.{enumerate_from, filter, slice_get}
-use Rattle.adl_ast.specs.declared.source.Source.{Source}
-use Rattle.adl_meaning.specs.declared.flat.Domain.{Domain}
-use Rattle.adl_meaning.specs.Domains.{domain_of, domains, is_hardware}
-use Rattle.adl_meaning.specs.Flat.{flat_connection, flat_domain, flat_of, is_inside, leaf_of}
-use Rattle.adl_meaning.specs.Hierarchy.{Hierarchy, hierarchy_of}
-use Rattle.adl_meaning.specs.Joins.{connections}
-use Rattle.adl_meaning.specs.Lists.{firsts_after}
-use Rattle.adl_meaning.specs.NameFaults.{AreNamesSound}
-use Rattle.adl_meaning.specs.Paths.{Path, Placed, leaves, same_path}
-use Rattle.adl_meaning.specs.JoinFaults.{first_flat_fault, first_join_fault}
-use Rattle.adl_meaning.specs.SizeFaults.{first_size_fault}
+use Rattle.adl_meaning.specs.Prelude.{AreNamesSound, Domain, Hierarchy, Path, Placed, Source, connections, domain_of, domains, enumerate_from, filter, first_flat_fault, first_join_fault, first_size_fault, firsts_after, flat_connection, flat_domain}
+use Rattle.adl_meaning.specs.Prelude.{flat_of, hierarchy_of, is_hardware, is_inside, leaf_of, leaves, same_path, slice_get}
 use Rattle.adl_hierarchy.proofs.Limits.{in_limits}
 use Rattle.flat_laws.specs.Small.{IsSmall}
 use Rattle.flat_laws.proofs.FewEnds.{no_first}

@@ -1,21 +1,10 @@
 -- Each connection has an end of each role, since the connector table asks for one.
 use Rattle.std.proofs.Common.{◌≡◌, ◌≤◌, ◌∙◌, ℕ, true, List, Some, None, refl, sym, ap}
 use Rattle.std.specs.Prelude.{nat_le}
-use Rattle.std.specs.List.{slice_get}
+use Rattle.adl_meaning.specs.Prelude.{AreNamesSound, Connector, Direct, End, FlatConnection, FlatEnd, From, Interrupt, Mmio, Notification, Role, Rpc, SharedMemory, Source, To, flat_end, flat_of, hierarchy_of, slice_get}
 use Rattle.std.proofs.lemmas.Bool.{and_parts, leb-true}
-use Rattle.adl_ast.specs.declared.composition.End.{End}
-use Rattle.adl_ast.specs.declared.composition.Role.{Role}
-use Rattle.adl_ast.specs.declared.composition.Role.TheVariants.{From, To}
-use Rattle.adl_ast.specs.declared.source.Source.{Source}
 use Rattle.adl_hierarchy.specs.Leads.{AreDotted}
 use Rattle.adl_hierarchy.proofs.Joining.{all_joined, end_numbers_kept}
-use Rattle.adl_meaning.specs.declared.connector.Connector.{Connector}
-use Rattle.adl_meaning.specs.declared.connector.Connector.TheVariants.{Rpc, Notification, SharedMemory, Mmio, Interrupt, Direct}
-use Rattle.adl_meaning.specs.declared.flat.FlatConnection.{FlatConnection}
-use Rattle.adl_meaning.specs.declared.flat.FlatEnd.{FlatEnd}
-use Rattle.adl_meaning.specs.Flat.{flat_end, flat_of}
-use Rattle.adl_meaning.specs.Hierarchy.{hierarchy_of}
-use Rattle.adl_meaning.specs.NameFaults.{AreNamesSound}
 use Rattle.adl_types.specs.TypeFaults.{count_of, may_have, first_type_fault}
 use Rattle.adl_types.proofs.Typed.{well_typed}
 use Rattle.component_graph.proofs.Lists.{in_get}

@@ -1,10 +1,7 @@
 -- Where no fault of settings stands, each value that an end has is allowed, none is missing, and no two devices have one
 -- interrupt.
 use Rattle.std.proofs.Common.{◌≡◌, [], ◌++◌, None}
-use Rattle.std.specs.List.{flat_map}
-use Rattle.adl_ast.specs.declared.source.Source.{Source}
-use Rattle.adl_meaning.specs.Flat.{flat_of}
-use Rattle.adl_meaning.specs.Hierarchy.{hierarchy_of}
+use Rattle.adl_meaning.specs.Prelude.{Source, flat_map, flat_of, hierarchy_of}
 use Rattle.adl_meaning.proofs.Least.{least-empty}
 use Rattle.adl_settings.specs.BadValue.{bad_in_connection, bad_in_leaf, bad_values}
 use Rattle.adl_settings.specs.BadgeTwice.{badges_twice}

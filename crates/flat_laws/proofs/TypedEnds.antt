@@ -1,9 +1,7 @@
 -- What it means that an end is of the kind that the connector table has.
 use Rattle.std.proofs.Common.{◌≡◌, Bool, true, false, not, cond, [], refl}
 use Rattle.std.proofs.lemmas.Bool.{and_parts}
-use Rattle.cam_base.specs.declared.place.Fault.{Fault}
-use Rattle.adl_meaning.specs.Export.{same_kind}
-use Rattle.adl_meaning.specs.Faults.{where_false}
+use Rattle.adl_meaning.specs.Prelude.{Fault, same_kind, where_false}
 use Rattle.adl_program.specs.LeafInterfaces.{LeafInterface}
 use Rattle.adl_types.specs.TypeFaults.{is_kind_of}
 use Rattle.conn_rules.specs.declared.end.EndRule.{EndRule}

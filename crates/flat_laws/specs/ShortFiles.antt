@@ -1,9 +1,7 @@
 -- Each file of the source has a tree that at most 1,048,576 tokens spell, as each file of at most so many bytes has.
 use Rattle.std.specs.Prelude.{◌≤◌, List, length}
 use Rattle.adl_ast.specs.Spelling.{IsFileSpelled}
-use Rattle.adl_ast.specs.declared.seen.Seen.{Seen}
-use Rattle.adl_ast.specs.declared.source.Source.{Source}
-use Rattle.adl_ast.specs.declared.source.SourceFile.{SourceFile}
+use Rattle.adl_meaning.specs.Prelude.{Seen, Source, SourceFile}
 use Rattle.numbering.specs.Gather.{IsIn}
 
 abbrev pub AreFilesShort : Source → Type 0

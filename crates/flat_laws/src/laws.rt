@@ -1,13 +1,8 @@
 //! What flat systems keep, as functions that do nothing. The laws are of sources in which the
 //! phases that they name found no fault.
 
-ghost use Rattle.adl_ast.specs.declared.source.Source.{Source};
+ghost use Rattle.adl_meaning.specs.Prelude.{AreNamesSound, HaveFewMembers, Source, first_flat_fault, flat_of, hierarchy_of};
 ghost use Rattle.adl_hierarchy.specs.Leads.{AreDotted};
-ghost use Rattle.adl_meaning.specs.FewMembers.{HaveFewMembers};
-ghost use Rattle.adl_meaning.specs.Flat.{flat_of};
-ghost use Rattle.adl_meaning.specs.Hierarchy.{hierarchy_of};
-ghost use Rattle.adl_meaning.specs.JoinFaults.{first_flat_fault};
-ghost use Rattle.adl_meaning.specs.NameFaults.{AreNamesSound};
 ghost use Rattle.adl_types.specs.TypeFaults.{first_type_fault};
 ghost use Rattle.flat_laws.specs.EndSettings.{AreEndsSettled};
 ghost use Rattle.flat_laws.specs.ShortFiles.{AreFilesShort};

@@ -1,21 +1,16 @@
 -- A source that is loaded has few files, and few items in each: no more items than tokens, no more tokens than bytes.
 use Rattle.std.proofs.Common.{◌≡◌, ◌∙◌, refl, sym, subst, ◌≤◌, ℕ, List, [], ◌∷◌, ◌++◌, length, Option, None, Some, Ok, append_assoc, arith}
-use Rattle.std.specs.List.{All}
+use Rattle.adl_meaning.specs.Prelude.{All, AreFew, File, Seen, Source, SourceFile}
 use Rattle.std.proofs.lemmas.List.Elements.{All-cons, All-nil}
 use Rattle.std.proofs.lemmas.List.{length-map}
 use Rattle.cam_base.specs.declared.token.Token.{Token}
 use Rattle.adl_ast.specs.Forms.{ended_form, file_line}
 use Rattle.adl_ast.specs.Seeing.{see, seen_at}
 use Rattle.adl_ast.specs.Spelling.{IsFileSpelled}
-use Rattle.adl_ast.specs.declared.file.File.{File}
-use Rattle.adl_ast.specs.declared.seen.Seen.{Seen}
-use Rattle.adl_ast.specs.declared.source.Source.{Source}
-use Rattle.adl_ast.specs.declared.source.SourceFile.{SourceFile}
 use Rattle.adl_import.proofs.Whole.{clean_few, clean_each}
 use Rattle.adl_import.specs.Folding.{root_name}
 use Rattle.adl_import.specs.Loaded.{IsLoaded, IsLoadedBy}
 use Rattle.adl_import.specs.Sources.{IsFileOf}
-use Rattle.adl_meaning.specs.Items.{AreFew}
 use Rattle.cam_io.specs.Contents.{Contents}
 use Rattle.flat_laws.proofs.ShortTrees.{each_token, ended_token}
 use Rattle.adl_lexer.specs.Lexes.{Lexes, LexesFrom}

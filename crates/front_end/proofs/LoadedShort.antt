@@ -2,7 +2,7 @@
 use Rattle.std.proofs.Common.{ℕ, List, length, Option, None, Some, Ok, arith}
 use Rattle.std.proofs.lemmas.List.{length-map}
 use Rattle.adl_ast.specs.Seeing.{see, seen_at}
-use Rattle.adl_ast.specs.declared.source.Source.{Source}
+use Rattle.adl_meaning.specs.Prelude.{Source}
 use Rattle.adl_hierarchy.specs.Spelled.{AreSpelled}
 use Rattle.adl_import.proofs.Whole.{clean_each}
 use Rattle.adl_import.specs.Folding.{root_name}

@@ -1,8 +1,7 @@
 -- A source that is loaded is whole.
 use Rattle.std.proofs.Common.{◌≡◌, refl, sym, subst, ℕ, List, [], ◌∷◌, Option, None, Some, Ok}
 use Rattle.std.specs.Str.{IsUtf8}
-use Rattle.adl_ast.specs.declared.source.Source.{Source}
-use Rattle.adl_ast.specs.declared.source.SourceFile.{SourceFile}
+use Rattle.adl_meaning.specs.Prelude.{Source, SourceFile}
 use Rattle.adl_import.proofs.Utf8Names.{root_name_utf8}
 use Rattle.adl_import.specs.Folding.{root_name}
 use Rattle.adl_import.specs.Loaded.{IsLoaded, IsLoadedBy}

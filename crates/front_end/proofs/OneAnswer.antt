@@ -1,14 +1,12 @@
 -- In given contents there is one answer, aside from failed reads and want of memory.
 use Rattle.std.proofs.Common.{◌≡◌, ◌∙◌, ℕ, Bool, true, false, List, Option, Some, None, Result, Ok, Err, refl, sym, ap, subst, inl, inr, true≢false}
 use Rattle.std.specs.Prelude.{◌↔◌}
-use Rattle.cam_base.specs.declared.place.Fault.{Fault}
+use Rattle.adl_meaning.specs.Prelude.{Fault, Source, flat_of}
 use Rattle.cam_io.specs.Contents.{Contents}
-use Rattle.adl_ast.specs.declared.source.Source.{Source}
 use Rattle.adl_import.specs.Loaded.{IsLoaded}
 use Rattle.adl_import.specs.declared.error.LoadError.{LoadError}
 use Rattle.adl_import.specs.declared.error.LoadError.TheVariants as load
 use Rattle.adl_import.proofs.Unique.{loaded_one}
-use Rattle.adl_meaning.specs.Flat.{flat_of}
 use Rattle.adl_settings.specs.Settled.{settled_of}
 use Rattle.arch_policy.specs.Labels.{label_numbers}
 use Rattle.auth_kinds.specs.Tables.{has}

@@ -1,11 +1,8 @@
 -- A phase that refuses tells the first fault, where those before it found none.
 use Rattle.std.proofs.Common.{◌≡◌, Option, Some, None, Result, Ok, Err, sym, subst}
-use Rattle.std.specs.Option.{option_or}
+use Rattle.adl_meaning.specs.Prelude.{Fault, Refused, Refuses, option_or}
 use Rattle.std.specs.Prelude.{IsErr, IsErrAnd}
-use Rattle.cam_base.specs.declared.error.Refused.{Refused}
 use Rattle.cam_base.specs.declared.error.Refused.TheVariants as refused
-use Rattle.cam_base.specs.declared.place.Fault.{Fault}
-use Rattle.adl_meaning.specs.Faults.{Refuses}
 
 third : (X Y : Type 0) (e : Refused Fault) (a b c d : Option Fault) → a ≡ None → b ≡ None → Refuses {T = Y} (Err e) c → Refuses {T = X} (Err e) (option_or a (option_or b (option_or c d)))
 third X Y refused.NoMemory a b c d p q m = tt

@@ -1,16 +1,10 @@
 -- What the parts answer is what the whole answers.
 use Rattle.std.proofs.Common.{◌≡◌, ◌∙◌, ℕ, List, [], Option, Some, None, refl, sym, ap, subst, inr, Ok, Err, Result}
-use Rattle.std.specs.Option.{option_or}
-use Rattle.cam_base.specs.declared.error.Refused.{Refused}
+use Rattle.adl_meaning.specs.Prelude.{Fault, Flat, Refused, Settled, Source, flat_of, option_or}
 use Rattle.cam_base.specs.declared.error.Refused.TheVariants as refused
-use Rattle.cam_base.specs.declared.place.Fault.{Fault}
 use Rattle.cam_io.specs.Contents.{Contents}
-use Rattle.adl_ast.specs.declared.source.Source.{Source}
 use Rattle.adl_import.specs.Loaded.{IsLoaded}
 use Rattle.adl_meaning.specs.Faults.{Refuses as RefusesAs}
-use Rattle.adl_meaning.specs.Flat.{flat_of}
-use Rattle.adl_meaning.specs.declared.flat.Flat.{Flat}
-use Rattle.adl_meaning.specs.declared.settled.Settled.{Settled}
 use Rattle.adl_settings.specs.Settled.{settled_of}
 use Rattle.arch_policy.specs.Labels.{label_lines, label_numbers}
 use Rattle.arch_policy.specs.Policies.{IsPolicyOf, first_edge_fault}

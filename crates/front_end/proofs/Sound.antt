@@ -1,9 +1,6 @@
 -- What is known of a source in which no fault stands up to the settings.
 use Rattle.std.proofs.Common.{◌≡◌, Option, Some, None}
-use Rattle.std.specs.Option.{option_or}
-use Rattle.adl_ast.specs.declared.source.Source.{Source}
-use Rattle.adl_meaning.specs.JoinFaults.{first_flat_fault}
-use Rattle.adl_meaning.specs.NameFaults.{AreNamesSound, first_name_fault}
+use Rattle.adl_meaning.specs.Prelude.{AreNamesSound, Source, first_flat_fault, first_name_fault, option_or}
 use Rattle.adl_meaning.proofs.SoundNames.{names_sound}
 use Rattle.adl_settings.specs.SettingFaults.{first_setting_fault}
 use Rattle.adl_types.specs.TypeFaults.{first_type_fault}

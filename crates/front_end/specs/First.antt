@@ -1,11 +1,6 @@
 -- The first fault of a source before anything is laid out: that of its first phase that has one.
 use Rattle.std.specs.Prelude.{ℕ, List, [], Option, slice_get}
-use Rattle.std.specs.Option.{option_map_or, option_or}
-use Rattle.cam_base.specs.declared.place.Fault.{Fault}
-use Rattle.adl_ast.specs.declared.source.Source.{Source}
-use Rattle.adl_meaning.specs.Flat.{flat_of}
-use Rattle.adl_meaning.specs.JoinFaults.{first_flat_fault}
-use Rattle.adl_meaning.specs.NameFaults.{first_name_fault}
+use Rattle.adl_meaning.specs.Prelude.{Fault, Source, first_flat_fault, first_name_fault, flat_of, option_map_or, option_or}
 use Rattle.adl_settings.specs.SettingFaults.{first_setting_fault}
 use Rattle.adl_settings.specs.Settled.{settled_of}
 use Rattle.adl_types.specs.TypeFaults.{first_type_fault}

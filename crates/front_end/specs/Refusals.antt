@@ -1,11 +1,9 @@
 -- Why a source is refused.
 use Rattle.std.specs.Prelude.{◌≡◌, ◌⊎◌, ℕ, Bool, true, false, List, Option, Some, Result, Ok, Err}
-use Rattle.cam_base.specs.declared.error.Refused.{Refused}
+use Rattle.adl_meaning.specs.Prelude.{Fault, Refused, Source}
 use Rattle.cam_base.specs.declared.error.Refused.TheVariants as refused
-use Rattle.cam_base.specs.declared.place.Fault.{Fault}
 use Rattle.cam_io.specs.Causes.{Rose}
 use Rattle.cam_io.specs.Contents.{Contents}
-use Rattle.adl_ast.specs.declared.source.Source.{Source}
 use Rattle.adl_import.specs.Loaded.{IsLoaded}
 use Rattle.adl_import.specs.declared.error.LoadError.{LoadError}
 use Rattle.adl_import.specs.declared.error.LoadError.TheVariants as load

@@ -1,11 +1,6 @@
 //! The phases up to the settings, and the policy.
 
-ghost use Rattle.adl_meaning.specs.Faults.{Refuses};
-ghost use Rattle.adl_meaning.specs.FewMembers.{HaveFewMembers};
-ghost use Rattle.adl_meaning.specs.Flat.{flat_of};
-ghost use Rattle.adl_meaning.specs.Hierarchy.{hierarchy_of};
-ghost use Rattle.adl_meaning.specs.Items.{AreFew};
-ghost use Rattle.adl_meaning.specs.NameFaults.{AreNamesSound};
+ghost use Rattle.adl_meaning.specs.Prelude.{AreFew, AreNamesSound, HaveFewMembers, Refuses, flat_of, hierarchy_of};
 ghost use Rattle.adl_settings.specs.Settled.{settled_of};
 ghost use Rattle.adl_types.specs.TypeFaults.{first_type_fault};
 ghost use Rattle.cam_io.specs.Reading.{KeepsFiles};

@@ -1,18 +1,9 @@
 -- The keyword of the first assembly, as it is looked for file by file.
 use Rattle.std.proofs.Common.{◌≡◌, ◌+◌, ℕ, List, [], ◌∷◌, ◌++◌, length, map, Option, Some, None, refl, sym, ◌∙◌, ap, arith}
 use Rattle.std.specs.Prelude.{option_map}
-use Rattle.std.specs.List.{flat_map, filter_map, enumerate_from, slice_get}
-use Rattle.std.specs.Option.{option_or}
+use Rattle.adl_meaning.specs.Prelude.{Assembly, Ended, Item, ItemAt, Place, Source, SourceFile, as_assembly, assemblies, enumerate_from, filter_map, flat_map, items_in, option_or, slice_get}
 use Rattle.std.proofs.lemmas.List.Elements.{filter_map-append}
-use Rattle.cam_base.specs.declared.place.Place.{Place}
-use Rattle.adl_ast.specs.declared.composition.Assembly.{Assembly}
-use Rattle.adl_ast.specs.declared.file.Ended.{Ended}
-use Rattle.adl_ast.specs.declared.file.Item.{Item}
 use Rattle.adl_ast.specs.declared.file.Item.TheVariants as items
-use Rattle.adl_ast.specs.declared.source.Source.{Source}
-use Rattle.adl_ast.specs.declared.source.SourceFile.{SourceFile}
-use Rattle.adl_meaning.specs.declared.item_at.ItemAt.{ItemAt}
-use Rattle.adl_meaning.specs.Items.{as_assembly, assemblies, items_in}
 use Rattle.leaf_ends.specs.Limit.{fault_at, keyword, keyword_among, keyword_in, keyword_of, limit_fault, place_in}
 
 first_of_two : (xs ys : List (ItemAt × Assembly)) → place_in (slice_get (xs ++ ys) 0) ≡ option_or (place_in (slice_get xs 0)) (place_in (slice_get ys 0))

@@ -1,17 +1,8 @@
 -- The fault of a limit of the layouts: it stands at the keyword of the first assembly, and its name says which limit it is.
 use Rattle.std.specs.Prelude.{ℕ, List, [], ◌∷◌, Option, Some, None, option_map, slice_get}
-use Rattle.std.specs.Option.{option_or}
-use Rattle.adl_ast.specs.declared.composition.Assembly.{Assembly}
-use Rattle.adl_ast.specs.declared.file.Ended.{Ended}
-use Rattle.adl_ast.specs.declared.file.Item.{Item}
+use Rattle.adl_meaning.specs.Prelude.{Assembly, Ended, Fault, Item, ItemAt, Place, Source, SourceFile, assemblies, option_or}
 use Rattle.adl_ast.specs.declared.file.Item.TheVariants as items
-use Rattle.adl_ast.specs.declared.source.Source.{Source}
-use Rattle.adl_ast.specs.declared.source.SourceFile.{SourceFile}
-use Rattle.adl_meaning.specs.declared.item_at.ItemAt.{ItemAt}
-use Rattle.adl_meaning.specs.Items.{assemblies}
 use Rattle.cam_base.specs.declared.code.Code.TheVariants as code
-use Rattle.cam_base.specs.declared.place.Fault.{Fault}
-use Rattle.cam_base.specs.declared.place.Place.{Place}
 
 abbrev pub place_in : Option (ItemAt × Assembly) → Option Place
 place_in found = option_map (λ a. a.1.place) found

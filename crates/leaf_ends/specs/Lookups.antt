@@ -1,12 +1,6 @@
 -- Ends and their settings by number.
 use Rattle.std.specs.Prelude.{ℕ, Option, slice_get, option_map}
-use Rattle.std.specs.Option.{option_and_then}
-use Rattle.adl_meaning.specs.declared.connector.Connector.{Connector}
-use Rattle.adl_meaning.specs.declared.flat.Flat.{Flat}
-use Rattle.adl_meaning.specs.declared.flat.FlatConnection.{FlatConnection}
-use Rattle.adl_meaning.specs.declared.flat.FlatEnd.{FlatEnd}
-use Rattle.adl_meaning.specs.declared.settled.EndSetting.{EndSetting}
-use Rattle.adl_meaning.specs.declared.settled.Settled.{Settled}
+use Rattle.adl_meaning.specs.Prelude.{Connector, EndSetting, Flat, FlatConnection, FlatEnd, Settled, option_and_then}
 
 abbrev pub end_in : ℕ → FlatConnection → Option (Connector × FlatEnd)
 end_in n c = option_map (λ e. (c.connector, e)) (slice_get c.ends n)

@@ -1,29 +1,15 @@
 -- The flat system of a source in which no fault of names or types stands has its devices where the connector table has them.
 use Rattle.std.proofs.Common.{◌≡◌, ◌<◌, ℕ, true, false, cond, length, Some, None, refl, sym, ◌∙◌, ap, subst, true≢false, arith}
-use Rattle.std.specs.List.{slice_get}
+use Rattle.adl_meaning.specs.Prelude.{AreNamesSound, Connector, Direct, End, FlatConnection, FlatEnd, From, Interrupt, Leaf, Mmio, Notification, Role, Rpc, SharedMemory, Source, Strung, To, connections, domain_number, domain_of, flat_connection}
+use Rattle.adl_meaning.specs.Prelude.{flat_end, flat_ends, flat_of, hierarchy_of, is_hardware, leaf_of, leaves, slice_get}
 use Rattle.std.specs.Prelude.{nat_le}
 use Rattle.std.proofs.lemmas.Bool.{and_parts}
 use Rattle.std.proofs.lemmas.Bool.Decides.{leb_tells}
 use Rattle.std.proofs.lemmas.Option.{slice_get_within}
 use Rattle.adl_ast.specs.declared.component.Member.TheVariants as members
-use Rattle.adl_ast.specs.declared.composition.End.{End}
-use Rattle.adl_ast.specs.declared.composition.Role.{Role}
-use Rattle.adl_ast.specs.declared.composition.Role.TheVariants.{From, To}
-use Rattle.adl_ast.specs.declared.source.Source.{Source}
 use Rattle.adl_hierarchy.proofs.Joining.{all_joined, end_numbers_kept, ends_kept}
 use Rattle.adl_hierarchy.specs.Leads.{AreDotted}
-use Rattle.adl_meaning.specs.Domains.{domain_of, is_hardware}
-use Rattle.adl_meaning.specs.Flat.{domain_number, flat_connection, flat_end, flat_ends, flat_of, leaf_of}
-use Rattle.adl_meaning.specs.Hierarchy.{hierarchy_of}
-use Rattle.adl_meaning.specs.Joins.{Strung, connections}
 use Rattle.numbering.specs.Gather.{IsIn}
-use Rattle.adl_meaning.specs.NameFaults.{AreNamesSound}
-use Rattle.adl_meaning.specs.Paths.{leaves}
-use Rattle.adl_meaning.specs.declared.connector.Connector.{Connector}
-use Rattle.adl_meaning.specs.declared.connector.Connector.TheVariants.{Rpc, Notification, SharedMemory, Mmio, Interrupt, Direct}
-use Rattle.adl_meaning.specs.declared.flat.FlatConnection.{FlatConnection}
-use Rattle.adl_meaning.specs.declared.flat.FlatEnd.{FlatEnd}
-use Rattle.adl_meaning.specs.declared.flat.Leaf.{Leaf}
 use Rattle.adl_types.specs.TypeFaults.{count_of, first_type_fault}
 use Rattle.adl_types.proofs.Typed.{well_typed}
 use Rattle.arch_policy.specs.Ends.{EndAt}

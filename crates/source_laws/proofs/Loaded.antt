@@ -2,8 +2,7 @@
 use Rattle.std.proofs.Common.{ℕ, List, Option, None, Some, Ok}
 use Rattle.adl_ast.specs.Seeing.{see}
 use Rattle.adl_ast.specs.Spelling.{IsFileSpelled}
-use Rattle.adl_ast.specs.declared.seen.Seen.{Seen}
-use Rattle.adl_ast.specs.declared.source.Source.{Source}
+use Rattle.adl_meaning.specs.Prelude.{Seen, Source}
 use Rattle.adl_hierarchy.specs.Spelled.{AreSpelled}
 use Rattle.adl_import.proofs.Whole.{clean_each}
 use Rattle.adl_import.specs.Folding.{root_name}

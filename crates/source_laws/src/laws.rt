@@ -1,12 +1,9 @@
 //! The laws, as functions that do nothing.
 
-ghost use Rattle.adl_ast.specs.declared.source.Source.{Source};
+ghost use Rattle.adl_meaning.specs.Prelude.{AreNamesSound, Source, flat_of, hierarchy_of};
 ghost use Rattle.adl_hierarchy.specs.Leads.{AreDotted};
 ghost use Rattle.adl_hierarchy.specs.Spelled.{AreSpelled};
 ghost use Rattle.adl_import.specs.Loaded.{IsLoaded};
-ghost use Rattle.adl_meaning.specs.Flat.{flat_of};
-ghost use Rattle.adl_meaning.specs.Hierarchy.{hierarchy_of};
-ghost use Rattle.adl_meaning.specs.NameFaults.{AreNamesSound};
 ghost use Rattle.adl_types.specs.TypeFaults.{first_type_fault};
 ghost use Rattle.cam_io.specs.Contents.{Contents};
 ghost use Rattle.reach_laws.specs.Flat.{IsFlat};

@@ -1,6 +1,5 @@
 use Rattle.std.proofs.Common.{◌≡◌, drop}
-use Rattle.std.specs.List.{filter_map, slice_get}
-use Rattle.adl_meaning.specs.Members.{as_composition}
+use Rattle.adl_meaning.specs.Prelude.{as_composition, filter_map, slice_get}
 use Rattle.adl_items.proofs.component.composition_of.Given as goal
 
 abbrev pub invariant-loop-member : goal.invariant-loop-member

@@ -1,5 +1,5 @@
 use Rattle.std.proofs.Common.{◌≡◌, drop, map, ◌++◌}
-use Rattle.std.specs.List.{enumerate_from}
+use Rattle.adl_meaning.specs.Prelude.{enumerate_from}
 use Rattle.adl_items.specs.Located.{located}
 use Rattle.adl_items.proofs.located.add_file.Given as goal
 

@@ -1,6 +1,5 @@
 use Rattle.std.proofs.Common.{◌≡◌, drop, map, ◌++◌}
-use Rattle.std.specs.List.{enumerate_from, flat_map}
-use Rattle.adl_meaning.specs.Items.{items_in}
+use Rattle.adl_meaning.specs.Prelude.{enumerate_from, flat_map, items_in}
 use Rattle.adl_items.specs.Located.{located}
 use Rattle.adl_items.proofs.located.all_items.Given as goal
 

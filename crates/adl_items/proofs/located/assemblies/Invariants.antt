@@ -1,6 +1,5 @@
 use Rattle.std.proofs.Common.{◌≡◌, drop, map, ◌++◌}
-use Rattle.std.specs.List.{filter_map}
-use Rattle.adl_meaning.specs.Items.{as_assembly}
+use Rattle.adl_meaning.specs.Prelude.{as_assembly, filter_map}
 use Rattle.adl_items.specs.Located.{located}
 use Rattle.adl_items.proofs.located.assemblies.Given as goal
 

@@ -1,6 +1,5 @@
 use Rattle.std.proofs.Common.{◌≡◌, drop, map, ◌++◌}
-use Rattle.std.specs.List.{filter_map}
-use Rattle.adl_meaning.specs.Items.{as_component}
+use Rattle.adl_meaning.specs.Prelude.{as_component, filter_map}
 use Rattle.adl_items.specs.Located.{located}
 use Rattle.adl_items.proofs.located.components.Given as goal
 

@@ -1,6 +1,6 @@
 use Rattle.std.proofs.Common.{◌≡◌, ◌∙◌, [], ap, arith, drop, sym}
 use Rattle.std.proofs.Math.ListN.{drop_of_length-le}
-use Rattle.std.specs.Option.{option_or}
+use Rattle.adl_meaning.specs.Prelude.{option_or}
 use Rattle.cam_base.proofs.Options.{option_or-none}
 use Rattle.adl_meaning.specs.Recursive.{number_from}
 use Rattle.name_tables.specs.ByName.{found}

@@ -1,6 +1,5 @@
 use Rattle.std.proofs.Common.{◌≡◌, drop}
-use Rattle.std.specs.Option.{option_or}
-use Rattle.adl_meaning.specs.Items.{Name}
+use Rattle.adl_meaning.specs.Prelude.{Name, option_or}
 use Rattle.adl_meaning.specs.Recursive.{number_from}
 use Rattle.name_tables.specs.ByName.{found}
 use Rattle.adl_items.specs.Located.{trees}

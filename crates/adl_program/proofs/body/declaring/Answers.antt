@@ -1,5 +1,5 @@
 use Rattle.adl_program.proofs.Common.{List, [], ap, arith, declared_by, drop, drop_of_length-le, flat_map, option_or, sym, ◌∙◌, ◌≡◌}
-use Rattle.adl_ast.specs.declared.component.Member.{Member}
+use Rattle.adl_meaning.specs.Prelude.{Member}
 use Rattle.adl_items.proofs.Firsts.{named_put}
 use Rattle.adl_items.specs.Declaring.{declaring_told}
 use Rattle.adl_items.specs.Firsts.{first_named}

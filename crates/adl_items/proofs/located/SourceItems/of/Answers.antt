@@ -1,8 +1,6 @@
 use Rattle.std.proofs.Common.{◌≡◌, ◌∙◌, length, map, ap, arith}
-use Rattle.std.specs.List.{filter_map}
+use Rattle.adl_meaning.specs.Prelude.{Component, as_assembly, as_component, as_procedure, components, filter_map}
 use Rattle.std.proofs.lemmas.List.{length-map}
-use Rattle.adl_ast.specs.declared.component.Component.{Component}
-use Rattle.adl_meaning.specs.Items.{as_procedure, as_component, as_assembly, components}
 use Rattle.adl_meaning.proofs.FewComponents.{few_components}
 use Rattle.adl_items.specs.Located.{located}
 use Rattle.adl_items.proofs.located.SourceItems.of.Goals as goal
