@@ -5,7 +5,7 @@ ghost use Rattle.system_spec.specs.Tables.{leaf_name, name_of_item, pages_at, pr
 ghost use Rattle.system_spec.specs.Told.{told};
 
 use adl_ast::{Item, Source};
-use adl_meaning::{Connector, Flat, FlatEnd, ItemAt, Settled};
+use adl_meaning::{Connector, Flat, FlatConnection, FlatEnd, ItemAt, Settled};
 use arch_policy::{LabelNumbers, Owner};
 use conn_rules::EndRule;
 use cspace_layout::{SlotUse, Slots};
