@@ -1,5 +1,7 @@
 -- The names that most proofs cite, passed on from one place. Declares nothing.
-pub use Rattle.adl_meaning.specs.Prelude.{All, AreNamesSound, Assembly, Body, Fault, Hierarchy, ItemAt, JoinedEnd, Leaf, Name, Part, Path, Placed, Reached, Refuses, Source, Strung, Wire, as_assembly, assemblies, at_word, body, components}
+pub use Rattle.adl_meaning.specs.Prelude.{All, AreNamesSound, Assembly, Body, Fault, Hierarchy, JoinedEnd, Name, Part, Path, Placed, Reached, Refuses, Source, Strung, Wire, as_assembly, assemblies, at_word, body, components}
+pub use Rattle.adl_meaning.specs.declared.flat.Leaf.{Leaf}
+pub use Rattle.adl_meaning.specs.declared.item_at.ItemAt.{ItemAt}
 pub use Rattle.adl_meaning.specs.Prelude.{connections, cons_option, count_by, depth, domain_number, domain_of, domains, enumerate_from, filter, filter_map, first_join_fault, first_size_fault, firsts_after, flat_domain, flat_end, flat_ends, flat_map}
 pub use Rattle.adl_meaning.specs.Prelude.{flattened, further, hierarchy_of, is_at, is_composite, is_direct, is_hardware, is_inside, item_of, join_faults_in, joined_by, kind_named, leaf_of, least, leaves, leaves_in, limits_passed, list_any, name_of}
 pub use Rattle.adl_meaning.specs.Prelude.{noted, option_map_or, option_or, outside, place_by, placed_by, same_domain, same_path, slice_get, strung, strung_by, top_number, top_of, where_true, wires_of}

@@ -5,7 +5,7 @@ use Rattle.adl_flatten.proofs.Common.{ne_eqb, not, numbered, place_by, position_
 use Rattle.indexmap.specs.IndexSet.{insert_key}
 use Rattle.adl_hierarchy.proofs.DomainNames.{same_path-Decides, domain_number_is}
 use Rattle.std.proofs.lemmas.List.FromFn.{length-enumerate_from, get_or-enumerate_from}
-use Rattle.adl_meaning.specs.Prelude.{Domain}
+use Rattle.adl_meaning.specs.declared.flat.Domain.{Domain}
 
 met-snoc : (xs : List Path) (x y : Path) → is_met (xs ++ x ∷ []) y ≡ (is_met xs y || same_path y x)
 met-snoc xs x y = list_any-append (same_path y) xs (x ∷ []) ∙ ap (λ b. is_met xs y || b) (or-false (same_path y x))

@@ -1,6 +1,7 @@
 -- The domain path of each leaf, and the leaves of each domain by number.
 use Rattle.std.specs.Prelude.{ℕ, ◌==◌, Bool, false, if◌then◌else◌, List, ◌++◌, map, Option, None, Some, option_map, unwrap_or}
-use Rattle.adl_meaning.specs.Prelude.{Domain, Hierarchy, Path, Placed, domain_of, enumerate_from, filter, filter_map, firsts_after, is_hardware, list_any, option_map_or, place_by, same_path}
+use Rattle.adl_meaning.specs.Prelude.{Hierarchy, Path, Placed, domain_of, enumerate_from, filter, filter_map, firsts_after, is_hardware, list_any, option_map_or, place_by, same_path}
+use Rattle.adl_meaning.specs.declared.flat.Domain.{Domain}
 use Rattle.adl_templates.specs.Templates.{Homed}
 
 -- the domain path of a leaf; a device has none

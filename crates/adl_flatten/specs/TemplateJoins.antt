@@ -1,6 +1,9 @@
 -- The connections of a template in a flat system, how many ends join an interface of a leaf, and the faults of joins.
 use Rattle.std.specs.Prelude.{ℕ, List, [], ◌∷◌, ◌++◌, map, ◌≡◌, ◌==◌, nat_eq, Bool, true, ◌&&◌, unwrap_or, not, is_some, Option}
-use Rattle.adl_meaning.specs.Prelude.{Fault, FlatConnection, FlatEnd, Hierarchy, JoinedEnd, Leaf, at_word, body, count_by, enumerate_from, flat_map, is_at, is_direct, is_hardware, last_name, list_all, lookup, option_and_then, option_map_or}
+use Rattle.adl_meaning.specs.Prelude.{Fault, Hierarchy, JoinedEnd, at_word, body, count_by, enumerate_from, flat_map, is_at, is_direct, is_hardware, last_name, list_all, lookup, option_and_then, option_map_or}
+use Rattle.adl_meaning.specs.declared.flat.FlatConnection.{FlatConnection}
+use Rattle.adl_meaning.specs.declared.flat.FlatEnd.{FlatEnd}
+use Rattle.adl_meaning.specs.declared.flat.Leaf.{Leaf}
 use Rattle.adl_meaning.specs.Prelude.{same_domain, slice_get, where_true}
 use Rattle.adl_templates.specs.Templates.{Joined, Connected, Homed}
 use Rattle.std.specs.Option.{option_eq}

@@ -1,6 +1,7 @@
 -- The bodies of a source's hierarchy, and their instances.
 use Rattle.std.proofs.Common.{◌≡◌, ◌≤◌, ℕ, List, length, [], ◌∷◌, map, Option, Some, None, refl, sym, subst, ap, ◌∙◌, ◌⊎◌, inl, inr, true, is_some, arith}
-use Rattle.adl_meaning.specs.Prelude.{AreNamesSound, Assembly, Body, Component, Composition, Hierarchy, Instance, ItemAt, Line, Name, Part, Source, assemblies, body, body_of, components, filter_map, graph, hierarchy_of, inner_of, instances_by}
+use Rattle.adl_meaning.specs.Prelude.{AreNamesSound, Assembly, Body, Component, Composition, Hierarchy, Instance, Line, Name, Part, Source, assemblies, body, body_of, components, filter_map, graph, hierarchy_of, inner_of, instances_by}
+use Rattle.adl_meaning.specs.declared.item_at.ItemAt.{ItemAt}
 use Rattle.adl_meaning.specs.Prelude.{instances_in, is_composite, kind_named, part_of, parts_by, parts_in, slice_get, top_number, top_of}
 use Rattle.std.proofs.lemmas.Option.{get_or_from_slice_get, slice_get_within}
 use Rattle.std.proofs.lemmas.List.{length-map}

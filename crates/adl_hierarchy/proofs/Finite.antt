@@ -1,6 +1,7 @@
 -- Where no fault of names stands, the hierarchy is finite: no component is recursive, and the assembly is no component.
 use Rattle.std.proofs.Common.{◌≡◌, ◌<◌, ◌≤◌, ℕ, zero, suc, true, List, length, [], ◌∷◌, ◌++◌, map, Some, sym, ◌∙◌, ap, subst, arith, inl, inr, length-append}
-use Rattle.adl_meaning.specs.Prelude.{AreNamesSound, Body, Component, Hierarchy, ItemAt, Part, Source, Walk, body, body_of, components, graph, has, hierarchy_of, inner_of, kind_named, slice_get}
+use Rattle.adl_meaning.specs.Prelude.{AreNamesSound, Body, Component, Hierarchy, Part, Source, Walk, body, body_of, components, graph, has, hierarchy_of, inner_of, kind_named, slice_get}
+use Rattle.adl_meaning.specs.declared.item_at.ItemAt.{ItemAt}
 use Rattle.std.proofs.lemmas.List.{length-map}
 use Rattle.numbering.specs.Gather.{IsIn}
 use Rattle.adl_meaning.specs.Recursive.{instances_of, graph_of}

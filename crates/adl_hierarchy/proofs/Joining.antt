@@ -1,6 +1,7 @@
 -- What an end joins is what the relation of joining says.
 use Rattle.std.proofs.Common.{◌≡◌, ◌≤◌, ℕ, zero, suc, List, length, [], ◌∷◌, ◌++◌, Option, Some, option_map, refl, sym, ◌∙◌, ap, subst, arith, inl, inr}
-use Rattle.adl_meaning.specs.Prelude.{AreNamesSound, Climbs, End, FlatEnd, Joins, Name, Path, Placed, Reached, Role, Source, Strung, at, connections, cons_option, filter_map, flat_end, flat_ends, hierarchy_of, joined_by, leaves, option_and_then}
+use Rattle.adl_meaning.specs.Prelude.{AreNamesSound, Climbs, End, Joins, Name, Path, Placed, Reached, Role, Source, Strung, at, connections, cons_option, filter_map, flat_end, flat_ends, hierarchy_of, joined_by, leaves, option_and_then}
+use Rattle.adl_meaning.specs.declared.flat.FlatEnd.{FlatEnd}
 use Rattle.adl_meaning.specs.Prelude.{port_in, reached, slice_get, top_number}
 use Rattle.std.proofs.lemmas.Option.{option_and_then_some}
 use Rattle.numbering.specs.Gather.{IsIn}

@@ -1,6 +1,8 @@
 -- Where no name is unknown: types have components with numbers, and dotted names have instances.
 use Rattle.std.proofs.Common.{◌≡◌, ◌≤◌, ℕ, suc, List, length, [], ◌∷◌, Option, Some, None, option_map, is_some, refl, sym, ◌∙◌, ap, subst, arith, inl, inr}
-use Rattle.adl_meaning.specs.Prelude.{AreNamesSound, Component, Composition, Connection, Connector, End, Export, Held, Id, Instance, ItemAt, Known, Line, Member, Name, Source, a_connection, a_group, an_instance, as_composition, as_connection}
+use Rattle.adl_meaning.specs.Prelude.{AreNamesSound, Component, Composition, Connection, End, Export, Held, Id, Instance, Known, Line, Member, Name, Source, a_connection, a_group, an_instance, as_composition, as_connection}
+use Rattle.adl_meaning.specs.declared.connector.Connector.{Connector}
+use Rattle.adl_meaning.specs.declared.item_at.ItemAt.{ItemAt}
 use Rattle.adl_meaning.specs.Prelude.{as_export, body, components, compositions, connections_in, connector_of, exports_in, flat_map, held_as, hierarchy_of, instances_by, instances_in, kind_named, known_in, known_of, port_in, port_of, slice_get}
 use Rattle.adl_meaning.specs.Prelude.{unknown_in_composition, unknown_interface, unless_known}
 use Rattle.adl_ast.specs.declared.component.Member.TheVariants as members

@@ -1,6 +1,7 @@
 -- Where no fault of names stands, the dotted names of exports and ends lead on, and each end joins an interface of a leaf.
 use Rattle.std.proofs.Common.{◌≡◌, ◌≤◌, ℕ, zero, suc, Bool, true, false, ◌||◌, ◌&&◌, not, cond, List, length, [], ◌∷◌, Option, Some, None, option_map, is_some, refl, sym, ◌∙◌, ap, subst}
-use Rattle.adl_meaning.specs.Prelude.{AreNamesSound, Body, Component, Composition, Connection, Connector, End, Export, Hierarchy, Id, Instance, Known, Line, Name, Part, Reached, Source, Wire, behind, body, body_of, bytes_eq, composition_of}
+use Rattle.adl_meaning.specs.Prelude.{AreNamesSound, Body, Component, Composition, Connection, End, Export, Hierarchy, Id, Instance, Known, Line, Name, Part, Reached, Source, Wire, behind, body, body_of, bytes_eq, composition_of}
+use Rattle.adl_meaning.specs.declared.connector.Connector.{Connector}
 use Rattle.adl_meaning.specs.Prelude.{connections_in, connector_of, export_named, exports_in, exports_of, filter_map, find, held_as, hierarchy_of, instances_by, instances_in, is_composite, is_unled, joined_by, kind_named, known_in, known_of}
 use Rattle.adl_meaning.specs.Prelude.{list_any, name_of, option_and_then, option_map_or, part_named, part_of, parts_by, parts_in, port_in, port_of, reached, reached_by, reached_within, unknown_in_composition, unknown_interface, unless_known, wire_of}
 use Rattle.adl_meaning.specs.Prelude.{wires_of}

@@ -2,7 +2,8 @@
 use Rattle.std.proofs.Common.{◌≡◌, ◌≤◌, ℕ, List, length, [], ◌∷◌, ◌++◌, None, sym, subst, inl, refl}
 use Rattle.std.specs.Prelude.{nat_lt, codes}
 use Rattle.std.proofs.lemmas.Bool.{ltb-false}
-use Rattle.adl_meaning.specs.Prelude.{AreNamesSound, Assembly, ItemAt, Name, Source, assemblies, connections, depth, first_size_fault, hierarchy_of, leaves, limits_passed}
+use Rattle.adl_meaning.specs.Prelude.{AreNamesSound, Assembly, Name, Source, assemblies, connections, depth, first_size_fault, hierarchy_of, leaves, limits_passed}
+use Rattle.adl_meaning.specs.declared.item_at.ItemAt.{ItemAt}
 use Rattle.adl_hierarchy.proofs.Exports.{not_so}
 use Rattle.numbering.proofs.Lists.{none_in, none_left, none_right}
 use Rattle.numbering.specs.Gather.{IsIn}

@@ -1,6 +1,7 @@
 -- Where no name is a duplicate, the names of a body's instances stand once.
 use Rattle.std.proofs.Common.{◌≡◌, ℕ, List, [], ◌∷◌, ◌++◌, map, Option, Some, None, refl, sym, ap, subst, inl, inr}
-use Rattle.adl_meaning.specs.Prelude.{AreNamesSound, Composition, Connection, Connector, Held, Id, Instance, Line, Name, Part, Source, Wire, as_connection, as_held, body, compositions, connections_in, connector_of, cons_option, filter_map, flat_map}
+use Rattle.adl_meaning.specs.Prelude.{AreNamesSound, Composition, Connection, Held, Id, Instance, Line, Name, Part, Source, Wire, as_connection, as_held, body, compositions, connections_in, connector_of, cons_option, filter_map, flat_map}
+use Rattle.adl_meaning.specs.declared.connector.Connector.{Connector}
 use Rattle.adl_meaning.specs.Prelude.{held_by, held_in, hierarchy_of, items_of, kind_named, name_of, option_map_or, part_of, parts_by, parts_in, wire_of, wires_of}
 use Rattle.adl_ast.specs.declared.composition.Line.TheVariants as lines
 use Rattle.adl_meaning.specs.Duplicate.{duplicates_in_composition, duplicates_in_item}

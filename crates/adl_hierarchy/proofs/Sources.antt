@@ -1,6 +1,7 @@
 -- The compositions of a source's bodies, and the items that they stand in.
 use Rattle.std.proofs.Common.{◌≡◌, ℕ, List, [], Option, Some, None, refl, sym, ◌∙◌, ap, ◌⊎◌, inl, inr}
-use Rattle.adl_meaning.specs.Prelude.{Assembly, Body, Component, Composition, Item, ItemAt, Source, as_assembly, as_component, assemblies, body, components, composition_of, flat_map, hierarchy_of, items_of, kind_named, slice_get, top_of}
+use Rattle.adl_meaning.specs.Prelude.{Assembly, Body, Component, Composition, Item, Source, as_assembly, as_component, assemblies, body, components, composition_of, flat_map, hierarchy_of, items_of, kind_named, slice_get, top_of}
+use Rattle.adl_meaning.specs.declared.item_at.ItemAt.{ItemAt}
 use Rattle.adl_ast.specs.declared.file.Item.TheVariants as items
 use Rattle.numbering.specs.Gather.{IsIn}
 use Rattle.adl_hierarchy.proofs.Bodies.{body_at}

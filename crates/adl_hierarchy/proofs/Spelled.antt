@@ -1,6 +1,7 @@
 -- In trees that tokens spell, dotted names of ends and exports have two words or three.
 use Rattle.std.proofs.Common.{◌≡◌, ℕ, List, [], ◌∷◌, Option, Some, None, sym, ap, subst, arith, inl, inr}
-use Rattle.adl_meaning.specs.Prelude.{Assembly, Component, Composition, Connection, End, Ended, Export, File, Id, Item, ItemAt, Line, Member, Seen, Source, as_composition, as_connection, as_export, body, compositions, enumerate_from, hierarchy_of}
+use Rattle.adl_meaning.specs.Prelude.{Assembly, Component, Composition, Connection, End, Ended, Export, File, Id, Item, Line, Member, Seen, Source, as_composition, as_connection, as_export, body, compositions, enumerate_from, hierarchy_of}
+use Rattle.adl_meaning.specs.declared.item_at.ItemAt.{ItemAt}
 use Rattle.adl_meaning.specs.Prelude.{items_in, items_of}
 use Rattle.cam_base.specs.declared.token.Mark.TheVariants as marks
 use Rattle.grammar.specs.Form.{behind}

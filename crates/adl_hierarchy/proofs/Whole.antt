@@ -1,6 +1,7 @@
 -- Where no name is unknown, nothing is left out of a body: each instance of its composition is there, and each connection.
 use Rattle.std.proofs.Common.{◌≡◌, ℕ, List, [], ◌∷◌, ◌++◌, map, Option, Some, None, option_map, refl, sym, ◌∙◌, ap, inl, inr}
-use Rattle.adl_meaning.specs.Prelude.{AreNamesSound, Composition, Connector, Instance, Known, Line, Name, Part, Source, Wire, body, connections_in, connector_of, cons_option, filter_map, flat_map, hierarchy_of, instances_by, instances_in, kind_named}
+use Rattle.adl_meaning.specs.Prelude.{AreNamesSound, Composition, Instance, Known, Line, Name, Part, Source, Wire, body, connections_in, connector_of, cons_option, filter_map, flat_map, hierarchy_of, instances_by, instances_in, kind_named}
+use Rattle.adl_meaning.specs.declared.connector.Connector.{Connector}
 use Rattle.adl_meaning.specs.Prelude.{known_in, option_map_or, part_of, parts_by, parts_in, unknown_in_composition, wire_of, wires_of}
 use Rattle.std.proofs.lemmas.List.{map-append}
 use Rattle.adl_ast.specs.declared.composition.Line.TheVariants as lines

@@ -1,6 +1,6 @@
 -- An item with its place, as definitions speak of it.
 use Rattle.std.specs.Prelude.{List, map}
-use Rattle.adl_meaning.specs.Prelude.{ItemAt}
+use Rattle.adl_meaning.specs.declared.item_at.ItemAt.{ItemAt}
 use Rattle.adl_items.specs.declared.located.Located.{Located}
 
 abbrev pub located : {T : Type 0} → Located T → ItemAt × T

@@ -43,16 +43,6 @@ pub use Rattle.adl_meaning.specs.Recursive.{number_named}
 pub use Rattle.adl_meaning.specs.SizeFaults.{depth, first_size_fault, limits_passed}
 pub use Rattle.adl_meaning.specs.Unknown.{unknown_in_composition, unknown_interface, unless_known}
 pub use Rattle.adl_meaning.specs.Values.{Given, is_group, value_at}
-pub use Rattle.adl_meaning.specs.declared.connector.Connector.{Connector}
-pub use Rattle.adl_meaning.specs.declared.connector.Connector.TheVariants.{Direct, Interrupt, Mmio, Notification, Rpc, SharedMemory}
-pub use Rattle.adl_meaning.specs.declared.flat.Domain.{Domain}
-pub use Rattle.adl_meaning.specs.declared.flat.Flat.{Flat}
-pub use Rattle.adl_meaning.specs.declared.flat.FlatConnection.{FlatConnection}
-pub use Rattle.adl_meaning.specs.declared.flat.FlatEnd.{FlatEnd}
-pub use Rattle.adl_meaning.specs.declared.flat.Leaf.{Leaf}
-pub use Rattle.adl_meaning.specs.declared.item_at.ItemAt.{ItemAt}
-pub use Rattle.adl_meaning.specs.declared.settled.EndSetting.{EndSetting}
-pub use Rattle.adl_meaning.specs.declared.settled.Settled.{Settled}
 pub use Rattle.cam_base.specs.Paths.{joined}
 pub use Rattle.cam_base.specs.declared.error.Refused.{Refused}
 pub use Rattle.cam_base.specs.declared.place.Fault.{Fault}

@@ -1,5 +1,6 @@
 -- The words that contracts here share, passed on from one place. Declares nothing.
-pub use Rattle.adl_meaning.specs.Prelude.{AreFew, Component, Composition, Export, Fault, Group, Held, Id, Instance, Item, ItemAt, Known, Member, Name, Place, Port, Refuses, Source, a_connection, a_group, an_instance, as_component, as_composition}
+pub use Rattle.adl_meaning.specs.Prelude.{AreFew, Component, Composition, Export, Fault, Group, Held, Id, Instance, Item, Known, Member, Name, Place, Port, Refuses, Source, a_connection, a_group, an_instance, as_component, as_composition}
+pub use Rattle.adl_meaning.specs.declared.item_at.ItemAt.{ItemAt}
 pub use Rattle.adl_meaning.specs.Prelude.{as_held, assemblies, bytes_eq, composition_of, compositions, declared_as, declared_by, enumerate_from, exports_in, filter_map, find, first_name_fault, flat_map, held_as, held_by, interface_of, is_unled}
 pub use Rattle.adl_meaning.specs.Prelude.{items_of, known_in, known_of, list_any, member_of, misfits_in_composition, noted, option_and_then, option_copied, option_map_or, option_or, port_of, slice_get, unknown_in_composition, unknown_interface}
 pub use Rattle.adl_meaning.specs.Prelude.{unless_known, where_true}

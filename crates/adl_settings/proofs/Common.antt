@@ -1,6 +1,9 @@
 -- The names that most proofs cite, passed on from one place. Declares nothing.
 pub use Rattle.adl_ast.specs.declared.configuration.Setting.{Setting}
-pub use Rattle.adl_meaning.specs.Prelude.{Body, Fault, Flat, FlatEnd, Given, Hierarchy, Id, Leaf, Name, Part, Path, Refuses, Source, at, body, bytes_eq, count_by, enumerate_from, filter, filter_map, find, flat_map, flat_of, hierarchy_of, is_group}
+pub use Rattle.adl_meaning.specs.Prelude.{Body, Fault, Given, Hierarchy, Id, Name, Part, Path, Refuses, Source, at, body, bytes_eq, count_by, enumerate_from, filter, filter_map, find, flat_map, flat_of, hierarchy_of, is_group}
+pub use Rattle.adl_meaning.specs.declared.flat.Flat.{Flat}
+pub use Rattle.adl_meaning.specs.declared.flat.FlatEnd.{FlatEnd}
+pub use Rattle.adl_meaning.specs.declared.flat.Leaf.{Leaf}
 pub use Rattle.adl_meaning.specs.Prelude.{last_name, least, list_all, list_any, noted, option_and_then, option_copied, option_map_or, option_or, part_named, same_path, slice_get, top_number, value_at, where_true}
 pub use Rattle.adl_meaning.proofs.Least.{noted-append, noted-none}
 pub use Rattle.adl_meaning.proofs.Noting.{noted_each, noted_then}

@@ -1,6 +1,7 @@
 -- The settings of ends by number, and the positions of `from` ends.
 use Rattle.adl_settings.proofs.Common.{◌≡◌, ◌∙◌, ◌+◌, ℕ, zero, suc, true, List, [], ◌∷◌, map, Option, Some, None, is_some, option_map, refl, sym, ap, subst, filter_map, slice_get, list_all, option_and_then, and_parts, slice_get-map, Source, Flat, FlatEnd, Leaf, flat_of, Hierarchy, hierarchy_of, Found, Joint, interface_at, behind, positioned_after, joint_at, found_at, found_of, found_on, end_settings, settled_of, arith, cond, filter, is_from}
-use Rattle.adl_meaning.specs.Prelude.{FlatConnection, From, Interface, Role, To}
+use Rattle.adl_meaning.specs.Prelude.{From, Interface, Role, To}
+use Rattle.adl_meaning.specs.declared.flat.FlatConnection.{FlatConnection}
 use Rattle.adl_settings.specs.EndMeaning.{end_setting}
 use Rattle.adl_settings.specs.NumberedEnds.{joins_interface, setting_at, IsFoundAt}
 

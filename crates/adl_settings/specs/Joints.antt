@@ -7,7 +7,10 @@
 --   size of a connection   at each end of shared memory
 --
 -- Here i is the interface of the leaf, and its settings are those of the leaf's path.
-use Rattle.adl_meaning.specs.Prelude.{Component, Connector, From, Item, ItemAt, Member, Notification, Role, Rpc, SharedMemory, To, filter_map, option_and_then}
+use Rattle.adl_meaning.specs.Prelude.{Component, From, Item, Member, Role, To, filter_map, option_and_then}
+use Rattle.adl_meaning.specs.declared.connector.Connector.{Connector}
+use Rattle.adl_meaning.specs.declared.connector.Connector.TheVariants.{Notification, Rpc, SharedMemory}
+use Rattle.adl_meaning.specs.declared.item_at.ItemAt.{ItemAt}
 use Rattle.std.specs.Prelude.{slice_get, ◌+◌, ℕ, Bool, true, false, ◌&&◌, not, if◌then◌else◌, List, [], ◌∷◌, ◌++◌, map, codes, Option, Some, None, option_map}
 use Rattle.adl_settings.specs.Words.{Interface, Source, Flat, FlatConnection, FlatEnd, Leaf, same_kind, Hierarchy, Name, Given, value_at}
 use Rattle.adl_ast.specs.declared.component.InterfaceKind.TheVariants as interfaces

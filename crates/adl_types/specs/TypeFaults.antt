@@ -9,7 +9,9 @@
 --
 -- An end that leads to no interface has no fault here.
 use Rattle.std.specs.Prelude.{ℕ, ◌+◌, zero, suc, Bool, true, false, ◌&&◌, not, if◌then◌else◌, List, [], ◌∷◌, ◌++◌, Option, Some, None, unwrap_or, nat_le, ◌==◌}
-use Rattle.adl_meaning.specs.Prelude.{Connector, End, Fault, From, Hierarchy, Interrupt, Member, Role, Source, To, Wire, at_word, body, bytes_eq, count_by, flat_map, hierarchy_of, last_name, least, option_map_or, same_kind, top_number, where_true}
+use Rattle.adl_meaning.specs.Prelude.{End, Fault, From, Hierarchy, Member, Role, Source, To, Wire, at_word, body, bytes_eq, count_by, flat_map, hierarchy_of, last_name, least, option_map_or, same_kind, top_number, where_true}
+use Rattle.adl_meaning.specs.declared.connector.Connector.{Connector}
+use Rattle.adl_meaning.specs.declared.connector.Connector.TheVariants.{Interrupt}
 use Rattle.adl_meaning.specs.Prelude.{wires_of}
 use Rattle.cam_base.specs.declared.code.Code.{Code}
 use Rattle.cam_base.specs.declared.code.Code.TheVariants as code

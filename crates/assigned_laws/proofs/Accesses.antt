@@ -1,6 +1,12 @@
 -- The access that an end has in the flat system is that of the interface that it joins.
 use Rattle.std.proofs.Common.{◌≡◌, ◌∙◌, ◌&&◌, ◌++◌, not, ℕ, zero, suc, Bool, true, false, cond, List, [], ◌∷◌, codes, Option, Some, None, refl, sym, ap, subst, true≢false, unwrap_or}
-use Rattle.adl_meaning.specs.Prelude.{AreNamesSound, Body, Connector, EndSetting, Ended, FlatConnection, FlatEnd, Given, Interface, Item, ItemAt, Leaf, Placed, Role, Source, SourceFile, Strung, bytes_eq, flat_of, hierarchy_of, is_interface, leaf_of}
+use Rattle.adl_meaning.specs.Prelude.{AreNamesSound, Body, Ended, Given, Interface, Item, Placed, Role, Source, SourceFile, Strung, bytes_eq, flat_of, hierarchy_of, is_interface, leaf_of}
+use Rattle.adl_meaning.specs.declared.connector.Connector.{Connector}
+use Rattle.adl_meaning.specs.declared.flat.FlatConnection.{FlatConnection}
+use Rattle.adl_meaning.specs.declared.flat.FlatEnd.{FlatEnd}
+use Rattle.adl_meaning.specs.declared.flat.Leaf.{Leaf}
+use Rattle.adl_meaning.specs.declared.item_at.ItemAt.{ItemAt}
+use Rattle.adl_meaning.specs.declared.settled.EndSetting.{EndSetting}
 use Rattle.adl_meaning.specs.Prelude.{list_all, option_and_then, option_map_or, place_by, same_kind, slice_get, value_at}
 use Rattle.std.specs.Prelude.{is_some}
 use Rattle.std.proofs.lemmas.Bool.{and_from, and_parts, not-true}

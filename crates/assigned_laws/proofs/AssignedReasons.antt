@@ -1,6 +1,9 @@
 -- What a source assigns has a reason in its flat system, and the other way round.
 use Rattle.std.proofs.Common.{◌≡◌, ◌∙◌, ◌↔◌, ℕ, true, Some, None, refl, sym, ap, subst}
-use Rattle.adl_meaning.specs.Prelude.{AreNamesSound, Connector, FlatConnection, From, Interrupt, Notification, Path, Role, Rpc, Source, Strung, To, connections, domain_of, flat_of, hierarchy_of, slice_get}
+use Rattle.adl_meaning.specs.Prelude.{AreNamesSound, From, Path, Role, Source, Strung, To, connections, domain_of, flat_of, hierarchy_of, slice_get}
+use Rattle.adl_meaning.specs.declared.connector.Connector.{Connector}
+use Rattle.adl_meaning.specs.declared.connector.Connector.TheVariants.{Interrupt, Notification, Rpc}
+use Rattle.adl_meaning.specs.declared.flat.FlatConnection.{FlatConnection}
 use Rattle.adl_hierarchy.specs.Leads.{AreDotted}
 use Rattle.adl_types.specs.TypeFaults.{first_type_fault}
 use Rattle.arch_policy.specs.Ends.{EndAt, IsEnd}

@@ -1,6 +1,8 @@
 -- Ends of the flat system are ends of connections by the hierarchy, and the other way round.
 use Rattle.std.proofs.Common.{◌≡◌, ◌∙◌, ◌<◌, ◌++◌, ℕ, length, Some, refl, sym, ap, subst}
-use Rattle.adl_meaning.specs.Prelude.{AreNamesSound, End, FlatConnection, FlatEnd, Path, Placed, Reached, Source, Strung, Wire, connections, flat_connection, flat_end, flat_ends, flat_of, hierarchy_of, leaf_number, leaves, slice_get}
+use Rattle.adl_meaning.specs.Prelude.{AreNamesSound, End, Path, Placed, Reached, Source, Strung, Wire, connections, flat_connection, flat_end, flat_ends, flat_of, hierarchy_of, leaf_number, leaves, slice_get}
+use Rattle.adl_meaning.specs.declared.flat.FlatConnection.{FlatConnection}
+use Rattle.adl_meaning.specs.declared.flat.FlatEnd.{FlatEnd}
 use Rattle.std.proofs.lemmas.Option.{slice_get_within}
 use Rattle.adl_hierarchy.proofs.Connections.{connections_stand}
 use Rattle.adl_hierarchy.proofs.DomainNames.{leaf_number_is}

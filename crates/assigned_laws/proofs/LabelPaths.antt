@@ -1,7 +1,10 @@
 -- No two labels of a source in which no fault of names stands have one path. The last name of a label's path is that of an
 -- instance, of a group or of a connection of one composition, and these differ in name.
 use Rattle.std.proofs.Common.{◌≡◌, ◌∙◌, ◌++◌, ℕ, zero, suc, Bool, true, false, cond, List, [], ◌∷◌, map, Option, Some, None, refl, sym, ap, subst, inl, inr, true≢false, unwrap_or}
-use Rattle.adl_meaning.specs.Prelude.{AreNamesSound, Composition, Connection, Domain, FlatConnection, Held, Hierarchy, Id, Instance, Leaf, Line, Name, Part, Path, Placed, Source, Strung, a_group, an_instance, as_connection, as_held, at, body}
+use Rattle.adl_meaning.specs.Prelude.{AreNamesSound, Composition, Connection, Held, Hierarchy, Id, Instance, Line, Name, Part, Path, Placed, Source, Strung, a_group, an_instance, as_connection, as_held, at, body}
+use Rattle.adl_meaning.specs.declared.flat.Domain.{Domain}
+use Rattle.adl_meaning.specs.declared.flat.FlatConnection.{FlatConnection}
+use Rattle.adl_meaning.specs.declared.flat.Leaf.{Leaf}
 use Rattle.adl_meaning.specs.Prelude.{bytes_eq, connections, domain_number, domain_of, domains, filter_map, find, flat_connection, flat_domain, flat_map, flat_of, group_above, held_by, held_in, hierarchy_of, instances_by, is_hardware, kind_named}
 use Rattle.adl_meaning.specs.Prelude.{leaf_number, leaf_of, leaves, member_of, name_of, option_and_then, part_named, part_of, parts_by, parts_in, slice_get, top_number}
 use Rattle.std.proofs.lemmas.Option.{option_and_then_some}

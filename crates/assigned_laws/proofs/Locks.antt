@@ -1,6 +1,8 @@
 -- Locks of the flat system are locks of leaves by the hierarchy, and the other way round.
 use Rattle.std.proofs.Common.{◌≡◌, ◌∙◌, ℕ, Bool, true, false, cond, Some, None, refl, sym, ap, subst}
-use Rattle.adl_meaning.specs.Prelude.{AreNamesSound, Body, Component, ItemAt, Leaf, Placed, Source, at, body, domain_number, domain_of, domains, flat_domain, flat_of, hierarchy_of, is_device, is_hardware, item_of, leaf_of, leaves, option_map_or}
+use Rattle.adl_meaning.specs.Prelude.{AreNamesSound, Body, Component, Placed, Source, at, body, domain_number, domain_of, domains, flat_domain, flat_of, hierarchy_of, is_device, is_hardware, item_of, leaf_of, leaves, option_map_or}
+use Rattle.adl_meaning.specs.declared.flat.Leaf.{Leaf}
+use Rattle.adl_meaning.specs.declared.item_at.ItemAt.{ItemAt}
 use Rattle.adl_meaning.specs.Prelude.{slice_get, top_number}
 use Rattle.adl_ast.specs.declared.component.Member.TheVariants as members
 use Rattle.adl_hierarchy.proofs.Bodies.{body_number}

@@ -1,6 +1,8 @@
 -- Labels by number and by path.
 use Rattle.std.proofs.Common.{◌≡◌, ◌∙◌, ℕ, Bool, true, false, cond, Option, Some, None, refl, sym, ap, subst}
-use Rattle.adl_meaning.specs.Prelude.{AreNamesSound, Flat, Leaf, Path, Placed, Source, Strung, body, connections, domain_number, domain_of, domains, flat_connection, flat_domain, flat_of, hierarchy_of, is_device, is_hardware, leaf_of, leaves}
+use Rattle.adl_meaning.specs.Prelude.{AreNamesSound, Path, Placed, Source, Strung, body, connections, domain_number, domain_of, domains, flat_connection, flat_domain, flat_of, hierarchy_of, is_device, is_hardware, leaf_of, leaves}
+use Rattle.adl_meaning.specs.declared.flat.Flat.{Flat}
+use Rattle.adl_meaning.specs.declared.flat.Leaf.{Leaf}
 use Rattle.adl_meaning.specs.Prelude.{option_map_or, slice_get, top_number}
 use Rattle.adl_hierarchy.proofs.DomainNames.{domain_found, domains_are}
 use Rattle.adl_hierarchy.proofs.Leaves.{leaves_stand}

@@ -1,7 +1,11 @@
 -- Numbers of labels are the places of their texts, and tell the texts.
 use Rattle.std.proofs.Common.{◌≡◌, ◌↔◌, ◌∙◌, ◌+◌, ◌++◌, ℕ, zero, suc, Bool, true, false, cond, List, [], ◌∷◌, Some, None, Less, refl, sym, ap, subst, inl, inr, arith}
 use Rattle.std.specs.Cmp.Lexicographic.{slice_cmp}
-use Rattle.adl_meaning.specs.Prelude.{Domain, Flat, FlatConnection, Leaf, Path, count_by, joined, slice_get}
+use Rattle.adl_meaning.specs.Prelude.{Path, count_by, joined, slice_get}
+use Rattle.adl_meaning.specs.declared.flat.Domain.{Domain}
+use Rattle.adl_meaning.specs.declared.flat.Flat.{Flat}
+use Rattle.adl_meaning.specs.declared.flat.FlatConnection.{FlatConnection}
+use Rattle.adl_meaning.specs.declared.flat.Leaf.{Leaf}
 use Rattle.std.specs.Ordering.{is_lt, nat_cmp, ordering_reverse}
 use Rattle.std.proofs.lemmas.Cmp.{nat_list_cmp_total, tied_itself}
 use Rattle.std.proofs.lemmas.List.Sums.{sum_by-cons}

@@ -1,6 +1,10 @@
 -- The paths that numbers of labels stand for.
 use Rattle.std.specs.Prelude.{◌≡◌, ℕ, true, Some, None, slice_get}
-use Rattle.adl_meaning.specs.Prelude.{Domain, Flat, FlatConnection, Leaf, Path, Source, flat_of}
+use Rattle.adl_meaning.specs.Prelude.{Path, Source, flat_of}
+use Rattle.adl_meaning.specs.declared.flat.Domain.{Domain}
+use Rattle.adl_meaning.specs.declared.flat.Flat.{Flat}
+use Rattle.adl_meaning.specs.declared.flat.FlatConnection.{FlatConnection}
+use Rattle.adl_meaning.specs.declared.flat.Leaf.{Leaf}
 use Rattle.adl_settings.specs.Settled.{settled_of}
 use Rattle.arch_policy.specs.declared.owner.Owner.{Owner}
 use Rattle.arch_policy.specs.Owners.{has_label}

@@ -1,6 +1,7 @@
 -- Labels by their texts, which are the names of their paths, joined by dots. Where no name has a dot, texts tell labels.
 use Rattle.std.specs.Prelude.{◌≡◌, ◌≢◌, ℕ, List}
-use Rattle.adl_meaning.specs.Prelude.{Flat, Name, Path, Source, joined}
+use Rattle.adl_meaning.specs.Prelude.{Name, Path, Source, joined}
+use Rattle.adl_meaning.specs.declared.flat.Flat.{Flat}
 use Rattle.numbering.specs.Gather.{IsIn}
 use Rattle.arch_policy.specs.declared.owner.Owner.{Owner}
 use Rattle.assigned_laws.specs.Assigned.{IsAssigned}

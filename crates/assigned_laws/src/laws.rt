@@ -1,6 +1,7 @@
 //! Laws of sources in which no fault stands, as functions that do nothing.
 
-ghost use Rattle.adl_meaning.specs.Prelude.{AreNamesSound, Flat, Path, Source, flat_of, hierarchy_of};
+ghost use Rattle.adl_meaning.specs.Prelude.{AreNamesSound, Path, Source, flat_of, hierarchy_of};
+ghost use Rattle.adl_meaning.specs.declared.flat.Flat.{Flat};
 ghost use Rattle.adl_hierarchy.specs.Leads.{AreDotted};
 ghost use Rattle.adl_hierarchy.specs.Spelled.{AreSpelled};
 ghost use Rattle.adl_settings.specs.Settled.{settled_of};

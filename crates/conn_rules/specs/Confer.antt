@@ -1,6 +1,7 @@
 -- What the rights of a row confer.
 use Rattle.std.specs.Prelude.{Bool, ◌&&◌, ◌==◌, not, cond, Option, Some, None}
-use Rattle.adl_meaning.specs.Prelude.{From, Interrupt}
+use Rattle.adl_meaning.specs.Prelude.{From}
+use Rattle.adl_meaning.specs.declared.connector.Connector.TheVariants.{Interrupt}
 use Rattle.auth_kinds.specs.Authorities.{number_of}
 use Rattle.auth_kinds.specs.declared.authority.Authority.{Authority}
 use Rattle.auth_kinds.specs.declared.authority.Authority.TheVariants.{Reset}

@@ -19,7 +19,9 @@
 -- lessened to what the end's access setting allows. The row of an interrupt's `from` end stands for the interrupt
 -- object's slot, which holds the notification.
 use Rattle.std.specs.Prelude.{◌^◌, ℕ, Bool, true, false, ◌&&◌, ◌==◌, List, [], ◌∷◌, Option, None, Some}
-use Rattle.adl_meaning.specs.Prelude.{Connector, Direct, From, Interrupt, Mmio, Notification, Role, Rpc, SharedMemory, To, filter, list_any}
+use Rattle.adl_meaning.specs.Prelude.{From, Role, To, filter, list_any}
+use Rattle.adl_meaning.specs.declared.connector.Connector.{Connector}
+use Rattle.adl_meaning.specs.declared.connector.Connector.TheVariants.{Direct, Interrupt, Mmio, Notification, Rpc, SharedMemory}
 use Rattle.std.specs.Int.Bits.{bit_or}
 use Rattle.auth_kinds.specs.Authorities.{number_of}
 use Rattle.auth_kinds.specs.declared.authority.Authority.{Authority}

@@ -1,6 +1,9 @@
 -- The ends of a source in which no fault of names or types stands are typed.
 use Rattle.std.proofs.Common.{◌≡◌, true, None, sym, ◌∙◌, ap, subst}
-use Rattle.adl_meaning.specs.Prelude.{AreNamesSound, Body, Component, Connector, FlatConnection, FlatEnd, Part, Role, Source, flat_of, hierarchy_of, is_hardware, is_interface, item_of, leaf_of, option_map_or, place_by, slice_get}
+use Rattle.adl_meaning.specs.Prelude.{AreNamesSound, Body, Component, Part, Role, Source, flat_of, hierarchy_of, is_hardware, is_interface, item_of, leaf_of, option_map_or, place_by, slice_get}
+use Rattle.adl_meaning.specs.declared.connector.Connector.{Connector}
+use Rattle.adl_meaning.specs.declared.flat.FlatConnection.{FlatConnection}
+use Rattle.adl_meaning.specs.declared.flat.FlatEnd.{FlatEnd}
 use Rattle.adl_hierarchy.specs.Leads.{AreDotted}
 use Rattle.adl_hierarchy.proofs.Bodies.{body_number}
 use Rattle.adl_hierarchy.proofs.Connections.{connections_stand}

@@ -1,6 +1,7 @@
 -- The interface that an end joins is one that the component of its leaf declares.
 use Rattle.std.proofs.Common.{◌≡◌, ℕ, zero, suc, Bool, true, false, cond, List, length, [], ◌∷◌, map, Option, Some, option_map, is_some, sym, ◌∙◌, ap, subst}
-use Rattle.adl_meaning.specs.Prelude.{AreNamesSound, Component, Composition, End, Export, Hierarchy, Id, Instance, ItemAt, Known, Name, Part, Reached, Source, Wire, behind, body, bytes_eq, components, export_named, exports_of, hierarchy_of}
+use Rattle.adl_meaning.specs.Prelude.{AreNamesSound, Component, Composition, End, Export, Hierarchy, Id, Instance, Known, Name, Part, Reached, Source, Wire, behind, body, bytes_eq, components, export_named, exports_of, hierarchy_of}
+use Rattle.adl_meaning.specs.declared.item_at.ItemAt.{ItemAt}
 use Rattle.adl_meaning.specs.Prelude.{instances_in, interface_of, is_composite, joined_by, kind_named, known_in, name_of, option_and_then, option_map_or, part_named, port_in, reached, reached_by, reached_within, slice_get, unknown_interface}
 use Rattle.adl_meaning.specs.Prelude.{wires_of}
 use Rattle.std.proofs.lemmas.Option.{option_and_then_some}

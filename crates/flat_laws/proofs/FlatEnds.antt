@@ -1,6 +1,8 @@
 -- The connections of a flat system and their ends, as those of the hierarchy.
 use Rattle.std.proofs.Common.{◌≡◌, ℕ, suc, List, [], ◌∷◌, ◌++◌, map, Some, option_map, refl, sym, ◌∙◌, ap, inl, inr}
-use Rattle.adl_meaning.specs.Prelude.{AreNamesSound, End, FlatConnection, FlatEnd, Placed, Reached, Source, Strung, connections, flat_connection, flat_end, flat_of, hierarchy_of, joined_by, leaf_number, leaf_of, leaves, slice_get}
+use Rattle.adl_meaning.specs.Prelude.{AreNamesSound, End, Placed, Reached, Source, Strung, connections, flat_connection, flat_end, flat_of, hierarchy_of, joined_by, leaf_number, leaf_of, leaves, slice_get}
+use Rattle.adl_meaning.specs.declared.flat.FlatConnection.{FlatConnection}
+use Rattle.adl_meaning.specs.declared.flat.FlatEnd.{FlatEnd}
 use Rattle.adl_hierarchy.proofs.DomainNames.{leaf_number_is}
 use Rattle.adl_hierarchy.proofs.Joining.{joined}
 use Rattle.component_graph.proofs.Lists.{in_get}

@@ -1,6 +1,9 @@
 -- The leaves and domains of a flat system, by number.
 use Rattle.std.proofs.Common.{◌≡◌, ◌≤◌, ℕ, Bool, true, false, cond, List, [], ◌∷◌, map, Option, Some, None, refl, sym, ◌∙◌, ap, subst, unwrap_or, length, arith}
-use Rattle.adl_meaning.specs.Prelude.{AreNamesSound, Body, Component, Domain, HaveFewMembers, Hierarchy, ItemAt, Leaf, Member, Part, Path, Placed, Source, body, components, domain_number, domain_of, domains, flat_domain, flat_of, hierarchy_of}
+use Rattle.adl_meaning.specs.Prelude.{AreNamesSound, Body, Component, HaveFewMembers, Hierarchy, Member, Part, Path, Placed, Source, body, components, domain_number, domain_of, domains, flat_domain, flat_of, hierarchy_of}
+use Rattle.adl_meaning.specs.declared.flat.Domain.{Domain}
+use Rattle.adl_meaning.specs.declared.flat.Leaf.{Leaf}
+use Rattle.adl_meaning.specs.declared.item_at.ItemAt.{ItemAt}
 use Rattle.adl_meaning.specs.Prelude.{is_hardware, item_of, leaf_of, leaves, part_named, slice_get, top_number}
 use Rattle.std.proofs.lemmas.List.{length-map}
 use Rattle.std.proofs.lemmas.Option.{option_and_then_some}

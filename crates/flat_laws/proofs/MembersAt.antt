@@ -1,6 +1,7 @@
 -- The members of a component are those at its place in the source.
 use Rattle.std.proofs.Common.{◌≡◌, ℕ, Some, refl, ap, subst, ◌∙◌, arith}
-use Rattle.adl_meaning.specs.Prelude.{Component, Ended, Item, ItemAt, Source, as_component, components, enumerate_from, items_in, items_of, slice_get}
+use Rattle.adl_meaning.specs.Prelude.{Component, Ended, Item, Source, as_component, components, enumerate_from, items_in, items_of, slice_get}
+use Rattle.adl_meaning.specs.declared.item_at.ItemAt.{ItemAt}
 use Rattle.adl_ast.specs.declared.file.Item.TheVariants as items
 use Rattle.numbering.proofs.Lists.{from_map, from_flat_map, from_filter_map, from_enumerate}
 use Rattle.numbering.specs.Gather.{IsIn}

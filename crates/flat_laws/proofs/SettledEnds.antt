@@ -1,6 +1,9 @@
 -- Where each end joins an interface of a leaf, each has its settings.
 use Rattle.std.proofs.Common.{◌≡◌, ◌∙◌, ℕ, zero, suc, List, [], ◌∷◌, length, option_map, refl, sym, ap, Option, Some, None, inl, inr}
-use Rattle.adl_meaning.specs.Prelude.{Component, Ended, FlatConnection, FlatEnd, Interface, Item, Leaf, Source, SourceFile, cons_option, filter_map, flat_of, hierarchy_of, option_and_then, slice_get}
+use Rattle.adl_meaning.specs.Prelude.{Component, Ended, Interface, Item, Source, SourceFile, cons_option, filter_map, flat_of, hierarchy_of, option_and_then, slice_get}
+use Rattle.adl_meaning.specs.declared.flat.FlatConnection.{FlatConnection}
+use Rattle.adl_meaning.specs.declared.flat.FlatEnd.{FlatEnd}
+use Rattle.adl_meaning.specs.declared.flat.Leaf.{Leaf}
 use Rattle.std.proofs.lemmas.List.{length-map}
 use Rattle.adl_ast.specs.declared.component.Member.TheVariants as members
 use Rattle.adl_ast.specs.declared.file.Item.TheVariants as items

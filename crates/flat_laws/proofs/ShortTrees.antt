@@ -1,6 +1,7 @@
 -- A component has no more members than tokens spell its file.
 use Rattle.std.proofs.Common.{◌≡◌, ◌≤◌, ◌+◌, ℕ, Bool, true, false, ◌&&◌, ◌||◌, List, length, [], ◌∷◌, ◌++◌, refl, sym, ◌∙◌, ap, subst, arith, inl, inr}
-use Rattle.adl_meaning.specs.Prelude.{All, Component, Ended, File, HaveFewMembers, Item, ItemAt, Seen, Source, components, enumerate_from, items_in, items_of}
+use Rattle.adl_meaning.specs.Prelude.{All, Component, Ended, File, HaveFewMembers, Item, Seen, Source, components, enumerate_from, items_in, items_of}
+use Rattle.adl_meaning.specs.declared.item_at.ItemAt.{ItemAt}
 use Rattle.std.proofs.lemmas.Bool.{and_parts, or_cases}
 use Rattle.std.proofs.lemmas.List.{length-append}
 use Rattle.std.proofs.lemmas.List.Elements.{All-cons, All-nil}

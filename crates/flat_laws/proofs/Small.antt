@@ -4,7 +4,8 @@ use Rattle.std.proofs.lemmas.Bool.{cond_both}
 use Rattle.std.proofs.lemmas.List.{length-map}
 use Rattle.std.proofs.lemmas.List.FromFn.{length-enumerate_from}
 use Rattle.std.proofs.lemmas.List.Sums.{count_by-le-length, length-filter}
-use Rattle.adl_meaning.specs.Prelude.{AreNamesSound, Domain, Hierarchy, Path, Placed, Source, connections, domain_of, domains, enumerate_from, filter, first_flat_fault, first_join_fault, first_size_fault, firsts_after, flat_connection, flat_domain}
+use Rattle.adl_meaning.specs.Prelude.{AreNamesSound, Hierarchy, Path, Placed, Source, connections, domain_of, domains, enumerate_from, filter, first_flat_fault, first_join_fault, first_size_fault, firsts_after, flat_connection, flat_domain}
+use Rattle.adl_meaning.specs.declared.flat.Domain.{Domain}
 use Rattle.adl_meaning.specs.Prelude.{flat_of, hierarchy_of, is_hardware, is_inside, leaf_of, leaves, same_path, slice_get}
 use Rattle.adl_hierarchy.proofs.Limits.{in_limits}
 use Rattle.flat_laws.specs.Small.{IsSmall}

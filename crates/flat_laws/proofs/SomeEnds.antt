@@ -1,7 +1,11 @@
 -- Each connection has an end of each role, since the connector table asks for one.
 use Rattle.std.proofs.Common.{◌≡◌, ◌≤◌, ◌∙◌, ℕ, true, List, Some, None, refl, sym, ap}
 use Rattle.std.specs.Prelude.{nat_le}
-use Rattle.adl_meaning.specs.Prelude.{AreNamesSound, Connector, Direct, End, FlatConnection, FlatEnd, From, Interrupt, Mmio, Notification, Role, Rpc, SharedMemory, Source, To, flat_end, flat_of, hierarchy_of, slice_get}
+use Rattle.adl_meaning.specs.Prelude.{AreNamesSound, End, From, Role, Source, To, flat_end, flat_of, hierarchy_of, slice_get}
+use Rattle.adl_meaning.specs.declared.connector.Connector.{Connector}
+use Rattle.adl_meaning.specs.declared.connector.Connector.TheVariants.{Direct, Interrupt, Mmio, Notification, Rpc, SharedMemory}
+use Rattle.adl_meaning.specs.declared.flat.FlatConnection.{FlatConnection}
+use Rattle.adl_meaning.specs.declared.flat.FlatEnd.{FlatEnd}
 use Rattle.std.proofs.lemmas.Bool.{and_parts, leb-true}
 use Rattle.adl_hierarchy.specs.Leads.{AreDotted}
 use Rattle.adl_hierarchy.proofs.Joining.{all_joined, end_numbers_kept}

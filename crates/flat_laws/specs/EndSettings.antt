@@ -3,7 +3,9 @@
 -- leaf and the interface that the end joins, where a `from` end counts by its position among the `from` ends.
 use Rattle.std.specs.Prelude.{◌≡◌, ℕ, Some, length, slice_get}
 use Rattle.adl_ast.specs.declared.component.Member.TheVariants as members
-use Rattle.adl_meaning.specs.Prelude.{FlatConnection, FlatEnd, Source, flat_of, hierarchy_of}
+use Rattle.adl_meaning.specs.Prelude.{Source, flat_of, hierarchy_of}
+use Rattle.adl_meaning.specs.declared.flat.FlatConnection.{FlatConnection}
+use Rattle.adl_meaning.specs.declared.flat.FlatEnd.{FlatEnd}
 use Rattle.adl_meaning.specs.declared.settled.EndSettings.{EndSettings}
 use Rattle.adl_settings.specs.EndMeaning.{end_setting}
 use Rattle.adl_settings.specs.Joints.{Joint, found_at, positioned}

@@ -1,6 +1,7 @@
 -- What the limits of a hierarchy give its flat system: at most so many leaves, domains, connections, and leaves in a domain.
 use Rattle.std.specs.Prelude.{◌≡◌, ◌≤◌, ℕ, length, slice_get, Some}
-use Rattle.adl_meaning.specs.Prelude.{Domain, Flat}
+use Rattle.adl_meaning.specs.declared.flat.Domain.{Domain}
+use Rattle.adl_meaning.specs.declared.flat.Flat.{Flat}
 
 pub record IsSmall (flat : Flat) : Type 0 where
   pub leaves : length flat.leaves ≤ 1024

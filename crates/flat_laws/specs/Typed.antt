@@ -1,7 +1,11 @@
 -- What types give a flat system: each end joins an interface of a leaf, at its place among the members of the leaf's component,
 -- and interface and leaf are as the connector table has them for the end.
 use Rattle.std.specs.Prelude.{◌≡◌, ℕ, true, Some, slice_get}
-use Rattle.adl_meaning.specs.Prelude.{Flat, FlatConnection, FlatEnd, Interface, Leaf, Source}
+use Rattle.adl_meaning.specs.Prelude.{Interface, Source}
+use Rattle.adl_meaning.specs.declared.flat.Flat.{Flat}
+use Rattle.adl_meaning.specs.declared.flat.FlatConnection.{FlatConnection}
+use Rattle.adl_meaning.specs.declared.flat.FlatEnd.{FlatEnd}
+use Rattle.adl_meaning.specs.declared.flat.Leaf.{Leaf}
 use Rattle.adl_ast.specs.declared.component.Member.TheVariants as members
 use Rattle.adl_types.specs.TypeFaults.{is_kind_of}
 use Rattle.conn_rules.specs.Ends.{end_rule}

@@ -1,6 +1,8 @@
 -- What the parts answer is what the whole answers.
 use Rattle.std.proofs.Common.{◌≡◌, ◌∙◌, ℕ, List, [], Option, Some, None, refl, sym, ap, subst, inr, Ok, Err, Result}
-use Rattle.adl_meaning.specs.Prelude.{Fault, Flat, Refused, Settled, Source, flat_of, option_or}
+use Rattle.adl_meaning.specs.Prelude.{Fault, Refused, Source, flat_of, option_or}
+use Rattle.adl_meaning.specs.declared.flat.Flat.{Flat}
+use Rattle.adl_meaning.specs.declared.settled.Settled.{Settled}
 use Rattle.cam_base.specs.declared.error.Refused.TheVariants as refused
 use Rattle.cam_io.specs.Contents.{Contents}
 use Rattle.adl_import.specs.Loaded.{IsLoaded}

@@ -1,6 +1,8 @@
 -- What a source means, where no fault stands, is within limits.
 use Rattle.std.proofs.Common.{◌<◌, ◌+◌, ◌^◌, length, sym, subst, arith}
-use Rattle.adl_meaning.specs.Prelude.{Flat, Settled, Source, first_join_fault, first_size_fault}
+use Rattle.adl_meaning.specs.Prelude.{Source, first_join_fault, first_size_fault}
+use Rattle.adl_meaning.specs.declared.flat.Flat.{Flat}
+use Rattle.adl_meaning.specs.declared.settled.Settled.{Settled}
 use Rattle.flat_laws.proofs.AreWithin.{flat_is_within}
 use Rattle.flat_laws.proofs.FewEnds.{no_first}
 use Rattle.flat_laws.proofs.ShortTrees.{short_few}

@@ -1,7 +1,9 @@
 -- What is answered of a root: what its source means, and with it the policy. In given contents there is one answer, aside from
 -- failed reads and want of memory (`answers_are_one` in src/laws.rt), so each comes exactly where it says.
 use Rattle.std.specs.Prelude.{◌≡◌, ℕ, List, [], Option, None, Result, Ok, Err}
-use Rattle.adl_meaning.specs.Prelude.{Flat, Settled, Source, flat_of}
+use Rattle.adl_meaning.specs.Prelude.{Source, flat_of}
+use Rattle.adl_meaning.specs.declared.flat.Flat.{Flat}
+use Rattle.adl_meaning.specs.declared.settled.Settled.{Settled}
 use Rattle.adl_import.specs.Loaded.{IsLoaded}
 use Rattle.adl_settings.specs.Settled.{settled_of}
 use Rattle.arch_policy.specs.Labels.{label_lines, label_numbers}

@@ -1,7 +1,9 @@
 -- What is known and answered of a source that is loaded.
 use Rattle.std.specs.Prelude.{◌≡◌, Option, Some, None, Result, Ok, Err}
 use Rattle.std.specs.Str.{IsUtf8}
-use Rattle.adl_meaning.specs.Prelude.{AreFew, Fault, Flat, Settled, Source}
+use Rattle.adl_meaning.specs.Prelude.{AreFew, Fault, Source}
+use Rattle.adl_meaning.specs.declared.flat.Flat.{Flat}
+use Rattle.adl_meaning.specs.declared.settled.Settled.{Settled}
 use Rattle.arch_policy.specs.Labels.{label_numbers}
 use Rattle.arch_policy.specs.Policies.{first_edge_fault}
 use Rattle.flat_laws.specs.ShortFiles.{AreFilesShort}

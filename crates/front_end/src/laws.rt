@@ -2,7 +2,8 @@
 
 ghost use Rattle.adl_ast.specs.declared.source.Source.{Source as Tree};
 ghost use Rattle.adl_import.specs.Loaded.{IsLoaded};
-ghost use Rattle.adl_meaning.specs.Prelude.{Flat, Settled};
+ghost use Rattle.adl_meaning.specs.declared.flat.Flat.{Flat};
+ghost use Rattle.adl_meaning.specs.declared.settled.Settled.{Settled};
 ghost use Rattle.cam_io.specs.Contents.{Contents};
 ghost use Rattle.front_end.specs.Fronts.{IsFront, IsMeaning};
 ghost use Rattle.front_end.specs.Refusals.{yields};

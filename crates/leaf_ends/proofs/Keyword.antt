@@ -1,7 +1,8 @@
 -- The keyword of the first assembly, as it is looked for file by file.
 use Rattle.std.proofs.Common.{◌≡◌, ◌+◌, ℕ, List, [], ◌∷◌, ◌++◌, length, map, Option, Some, None, refl, sym, ◌∙◌, ap, arith}
 use Rattle.std.specs.Prelude.{option_map}
-use Rattle.adl_meaning.specs.Prelude.{Assembly, Ended, Item, ItemAt, Place, Source, SourceFile, as_assembly, assemblies, enumerate_from, filter_map, flat_map, items_in, option_or, slice_get}
+use Rattle.adl_meaning.specs.Prelude.{Assembly, Ended, Item, Place, Source, SourceFile, as_assembly, assemblies, enumerate_from, filter_map, flat_map, items_in, option_or, slice_get}
+use Rattle.adl_meaning.specs.declared.item_at.ItemAt.{ItemAt}
 use Rattle.std.proofs.lemmas.List.Elements.{filter_map-append}
 use Rattle.adl_ast.specs.declared.file.Item.TheVariants as items
 use Rattle.leaf_ends.specs.Limit.{fault_at, keyword, keyword_among, keyword_in, keyword_of, limit_fault, place_in}

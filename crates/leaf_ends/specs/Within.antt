@@ -3,7 +3,11 @@
 -- numbers below 2^32. Whoever has the flat system of a source without faults of names and sizes shows it from what that
 -- system is defined as.
 use Rattle.std.specs.Prelude.{◌≡◌, ◌<◌, ◌^◌, ℕ, length, slice_get, Some}
-use Rattle.adl_meaning.specs.Prelude.{Domain, Flat, FlatConnection, FlatEnd, Source, assemblies}
+use Rattle.adl_meaning.specs.Prelude.{Source, assemblies}
+use Rattle.adl_meaning.specs.declared.flat.Domain.{Domain}
+use Rattle.adl_meaning.specs.declared.flat.Flat.{Flat}
+use Rattle.adl_meaning.specs.declared.flat.FlatConnection.{FlatConnection}
+use Rattle.adl_meaning.specs.declared.flat.FlatEnd.{FlatEnd}
 use Rattle.numbering.specs.Gather.{IsIn}
 use Rattle.leaf_ends.specs.Members.{leaf_members}
 

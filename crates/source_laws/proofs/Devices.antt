@@ -1,6 +1,11 @@
 -- The flat system of a source in which no fault of names or types stands has its devices where the connector table has them.
 use Rattle.std.proofs.Common.{◌≡◌, ◌<◌, ℕ, true, false, cond, length, Some, None, refl, sym, ◌∙◌, ap, subst, true≢false, arith}
-use Rattle.adl_meaning.specs.Prelude.{AreNamesSound, Connector, Direct, End, FlatConnection, FlatEnd, From, Interrupt, Leaf, Mmio, Notification, Role, Rpc, SharedMemory, Source, Strung, To, connections, domain_number, domain_of, flat_connection}
+use Rattle.adl_meaning.specs.Prelude.{AreNamesSound, End, From, Role, Source, Strung, To, connections, domain_number, domain_of, flat_connection}
+use Rattle.adl_meaning.specs.declared.connector.Connector.{Connector}
+use Rattle.adl_meaning.specs.declared.connector.Connector.TheVariants.{Direct, Interrupt, Mmio, Notification, Rpc, SharedMemory}
+use Rattle.adl_meaning.specs.declared.flat.FlatConnection.{FlatConnection}
+use Rattle.adl_meaning.specs.declared.flat.FlatEnd.{FlatEnd}
+use Rattle.adl_meaning.specs.declared.flat.Leaf.{Leaf}
 use Rattle.adl_meaning.specs.Prelude.{flat_end, flat_ends, flat_of, hierarchy_of, is_hardware, leaf_of, leaves, slice_get}
 use Rattle.std.specs.Prelude.{nat_le}
 use Rattle.std.proofs.lemmas.Bool.{and_parts}

@@ -1,5 +1,5 @@
 use Rattle.adl_settings.proofs.Common.{◌≡◌, ◌∙◌, subst, Option, IfOk, Fault, Refuses}
-use Rattle.adl_meaning.specs.Prelude.{Settled}
+use Rattle.adl_meaning.specs.declared.settled.Settled.{Settled}
 use Rattle.adl_settle.proofs.Settled.{first-noted, settled-whole}
 use Rattle.adl_settle.proofs.settling.settle_bodies.Goals as goal
 

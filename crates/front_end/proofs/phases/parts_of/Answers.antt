@@ -1,5 +1,7 @@
 use Rattle.adl_meaning.proofs.SoundNames.{names_sound}
-use Rattle.adl_meaning.specs.Prelude.{Flat, Settled, first_flat_fault, first_name_fault}
+use Rattle.adl_meaning.specs.Prelude.{first_flat_fault, first_name_fault}
+use Rattle.adl_meaning.specs.declared.flat.Flat.{Flat}
+use Rattle.adl_meaning.specs.declared.settled.Settled.{Settled}
 use Rattle.adl_settings.specs.SettingFaults.{first_setting_fault}
 use Rattle.adl_types.specs.TypeFaults.{first_type_fault}
 use Rattle.front_end.proofs.Passing.{third_told, fourth_told}
