@@ -1,10 +1,11 @@
 -- Totals of lists that are put together, and the totals of a body from those of its instances.
-use Rattle.adl_flatten.proofs.Common.{Hierarchy, IsFinite, IsRead, List, Part, Path, Placed, Strung, Totals, Wire, [], ap, append_assoc, arith, body, cond, connections_in, connections_step, ends_of, false, flat_map, further, is_composite, leaves_in}
-use Rattle.adl_flatten.proofs.Common.{leaves_step, length, length-append, length-map, longest, map, max, min, name_of, outside, parts_taken, placed_by, refl, saturated, strung, strung_by, suc, sym, take, take_all, totals_in, totals_of, wires_of, ℕ}
-use Rattle.adl_flatten.proofs.Common.{◌++◌, ◌+◌, ◌-◌, ◌<◌, ◌^◌, ◌∙◌, ◌∷◌, ◌≡◌, ◌≤◌}
+use Rattle.adl_flatten.proofs.Common.{Hierarchy, IsFinite, List, Part, Path, Placed, Strung, Totals, Wire, [], add_part, ap, append-nil, append_assoc, arith, body, body_total, both, cond, connections_in, connections_step, ends_of, false, flat_map, fold, further}
+use Rattle.adl_flatten.proofs.Common.{get_or, inl, inr, is_composite, leaves_in, leaves_step, length, length-append, length-map, longest, map, max, name_of, ne_eqb, outer, outside, own_total, part_total, placed_by, refl, saturated, strung, strung_by, suc, sym}
+use Rattle.adl_flatten.proofs.Common.{totals_in, totals_of, true, wires_of, Bool, ℕ, ◌+◌, ◌++◌, ◌<◌, ◌∙◌, ◌∷◌, ◌≡◌, ◌≤◌}
+use Rattle.numbering.specs.Gather.{IsIn}
 use Rattle.std.proofs.lemmas.List.Concat.{flat_map-append}
 
--- ---- paths
+-- ---- paths and ends
 
 abbrev paths : List Placed → List Path
 paths ps = map (λ x. x.path) ps
@@ -13,15 +14,9 @@ longest-append : (ps qs : List Placed) → longest (paths (ps ++ qs)) ≡ max (l
 longest-append [] qs = omega arith
 longest-append (x ∷ ps) qs = omega (arith, longest-append ps qs)
 
-longest-outside : (n : List ℕ) (ps : List Placed) → 0 < length ps → longest (paths (map (outside n) ps)) ≡ longest (paths ps) + 1
-longest-outside n [] l = absurd (omega arith)
-longest-outside n (x ∷ []) l = omega arith
-longest-outside n (x ∷ y ∷ ps) l = let rest = longest-outside n (y ∷ ps) (omega arith) in omega (arith, rest)
-
--- ---- ends
-
-ends-append : (ks ls : List Strung) → ends_of (ks ++ ls) ≡ ends_of ks ++ ends_of ls
-ends-append ks ls = flat_map-append (λ (x : Strung). x.wire.1.ends) ks ls
+longest-outside : (n : List ℕ) (x : Placed) (ps : List Placed) → longest (paths (map (outside n) (x ∷ ps))) ≡ longest (paths (x ∷ ps)) + 1
+longest-outside n x [] = omega arith
+longest-outside n x (y ∷ ps) = omega (arith, longest-outside n y ps)
 
 ends-further : (n : List ℕ) (ks : List Strung) → ends_of (map (further n) ks) ≡ ends_of ks
 ends-further n [] = refl
@@ -33,75 +28,62 @@ ends-strung k (w ∷ ws) = ap (λ z. w.1.ends ++ z) (ends-strung k ws)
 
 -- ---- totals
 
-pub totals_append : (a b : Totals) (l d c e : ℕ) (ps qs : List Placed) (ks ls : List Strung) → a ≡ totals_of ps ks → b ≡ totals_of qs ls
-    → l ≡ min (a.leaves + b.leaves) (2 ^ 64 - 1) → d ≡ max a.depth b.depth → c ≡ min (a.connections + b.connections) (2 ^ 64 - 1) → e ≡ min (a.ends + b.ends) (2 ^ 64 - 1)
-    → (let t : Totals = record { leaves = l; depth = d; connections = c; ends = e } in t ≡ totals_of (ps ++ qs) (ks ++ ls))
-totals_append a b l d c e ps qs ks ls p q el ed ec ee =
-    let of : (f : Totals → ℕ) → (f a ≡ f (totals_of ps ks)) × (f b ≡ f (totals_of qs ls)) = λ f. (ap f p, ap f q) in
-    let sl : l ≡ saturated (length (ps ++ qs)) = let t = of (λ t. t.leaves) in omega (arith, el, t.0, t.1, length-append ps qs) in
-    let sd : d ≡ saturated (longest (paths (ps ++ qs))) = let t = of (λ t. t.depth) in omega (arith, ed, t.0, t.1, longest-append ps qs) in
-    let sc : c ≡ saturated (length (ks ++ ls)) = let t = of (λ t. t.connections) in omega (arith, ec, t.0, t.1, length-append ks ls) in
-    let se : e ≡ saturated (length (ends_of (ks ++ ls))) =
-    let t = of (λ t. t.ends) in omega (arith, ee, t.0, t.1, ap (λ z. length z) (ends-append ks ls), length-append (ends_of ks) (ends_of ls)) in
-    λ i. record { leaves = sl i; depth = sd i; connections = sc i; ends = se i }
+both_are : (ps qs : List Placed) (ks ls : List Strung) → both (totals_of ps ks) (totals_of qs ls) ≡ totals_of (ps ++ qs) (ks ++ ls)
+both_are ps qs ks ls =
+    let n : saturated (saturated (length ps) + saturated (length qs)) ≡ saturated (length (ps ++ qs)) = omega (arith, length-append ps qs) in
+    let d : max (saturated (longest (paths ps))) (saturated (longest (paths qs))) ≡ saturated (longest (paths (ps ++ qs))) = omega (arith, longest-append ps qs) in
+    let c : saturated (saturated (length ks) + saturated (length ls)) ≡ saturated (length (ks ++ ls)) = omega (arith, length-append ks ls) in
+    let e : saturated (saturated (length (ends_of ks)) + saturated (length (ends_of ls))) ≡ saturated (length (ends_of (ks ++ ls))) =
+    omega (arith, ap (λ z. length z) (flat_map-append (λ (x : Strung). x.wire.1.ends) ks ls), length-append (ends_of ks) (ends_of ls)) in
+    λ i. record { leaves = n i; depth = d i; connections = c i; ends = e i }
 
--- connections one name further in are as many, with as many ends
-pub totals-further : (n : List ℕ) (ps : List Placed) (ks : List Strung) → totals_of ps ks ≡ totals_of ps (map (further n) ks)
-totals-further n ps ks = λ i. record {
-  leaves = saturated (length ps);
-  depth = saturated (longest (paths ps));
-  connections = saturated (sym (length-map ks (further n)) i);
-  ends = saturated (length (sym (ends-further n ks) i));
-}
+outer_are : (n : List ℕ) (ps : List Placed) (ks : List Strung) → outer (totals_of ps ks) ≡ totals_of (map (outside n) ps) (map (further n) ks)
+outer_are n [] ks = λ i. record { leaves = 0; depth = 0; connections = saturated (sym (length-map ks (further n)) i); ends = saturated (length (sym (ends-further n ks) i)) }
+outer_are n (x ∷ ps) ks =
+    let t = totals_of (x ∷ ps) ks in
+    let s : saturated (saturated (longest (paths (x ∷ ps))) + 1) ≡ saturated (longest (paths (map (outside n) (x ∷ ps)))) = omega (arith, longest-outside n x ps) in
+    ap (λ b. cond b t (record t { depth = saturated (t.depth + 1) })) (ne_eqb t.leaves 0 (λ z. omega arith)) ∙ λ i. record {
+      leaves = saturated (suc (sym (length-map ps (outside n)) i));
+      depth = s i;
+      connections = saturated (sym (length-map ks (further n)) i);
+      ends = saturated (length (sym (ends-further n ks) i));
+    }
 
-pub totals_outside : (t : Totals) (d : ℕ) (n : List ℕ) (ps : List Placed) (ks : List Strung) → t ≡ totals_of ps ks → (t.leaves ≡ 0 → ⊥) → d ≡ min (t.depth + 1) (2 ^ 64 - 1)
-    → (let r : Totals = record { leaves = t.leaves; depth = d; connections = t.connections; ends = t.ends } in r ≡ totals_of (map (outside n) ps) (map (further n) ks))
-totals_outside t d n ps ks p some e =
-    let c : t.leaves ≡ saturated (length ps) = ap (λ (t : Totals). t.leaves) p in
-    let l : 0 < length ps = omega arith in
-    let sl : t.leaves ≡ saturated (length (map (outside n) ps)) = c ∙ ap (λ n. saturated n) (sym (length-map ps (outside n))) in
-    let sd : d ≡ saturated (longest (paths (map (outside n) ps))) = let f = ap (λ (t : Totals). t.depth) p in omega (arith, e, f, longest-outside n ps l) in
-    let sc : t ≡ totals_of ps (map (further n) ks) = p ∙ totals-further n ps ks in
-    λ i. record { leaves = sl i; depth = sd i; connections = (sc i).connections; ends = (sc i).ends }
+own_is : (k : ℕ) (ws : List Wire) → own_total ws ≡ totals_of [] (map (strung k) ws)
+own_is k ws = λ i. record { leaves = 0; depth = 0; connections = saturated (sym (length-map ws (strung k)) i); ends = saturated (length (ends-strung k ws i)) }
 
-pub totals_no_leaf : (t : Totals) (n : List ℕ) (ps : List Placed) (ks : List Strung) → t ≡ totals_of ps ks → t.leaves ≡ 0 → t ≡ totals_of (map (outside n) ps) (map (further n) ks)
-totals_no_leaf t n [] ks p z = p ∙ totals-further n [] ks
-totals_no_leaf t n (x ∷ ps) ks p z = let c : t.leaves ≡ saturated (suc (length ps)) = ap (λ (t : Totals). t.leaves) p in absurd (omega arith)
+part_is : (h : Hierarchy) (all : List Totals) (x : Part) → ((t : Totals) → get_or all x.kind t ≡ totals_in h x.kind) → part_total h all x ≡ totals_of (placed_by h (leaves_in h) x) (strung_by (connections_in h) x)
+part_is h all x known = ap (λ t. cond (is_composite h x.kind) (outer t) (record t { leaves = 1; depth = 1 })) (known _) ∙ by_test (is_composite h x.kind)
+  where
+    n : List ℕ
+    n = name_of x
 
-pub totals_own : (k n e : ℕ) (ws : List Wire) → n ≡ length ws → n < 2 ^ 64 → e ≡ saturated (length (flat_map (λ w. w.1.ends) ws))
-    → (let t : Totals = record { leaves = 0; depth = 0; connections = n; ends = e } in t ≡ totals_of [] (map (strung k) ws))
-totals_own k n e ws nl few el =
-    let c : n ≡ saturated (length (map (strung k) ws)) = let m = length-map ws (strung k) in omega arith in
-    let s : e ≡ saturated (length (ends_of (map (strung k) ws))) = el ∙ ap (λ z. saturated (length z)) (ends-strung k ws) in
-    λ i. record { leaves = 0; depth = 0; connections = c i; ends = s i }
+    by_test : (b : Bool) → cond b (outer (totals_in h x.kind)) (record (totals_in h x.kind) { leaves = 1; depth = 1 })
+        ≡ totals_of (cond b (map (outside n) (leaves_in h x.kind)) (record { path = n ∷ []; part = x } ∷ [])) (map (further n) (connections_in h x.kind))
+    by_test true = outer_are n (leaves_in h x.kind) (connections_in h x.kind)
+    by_test false = λ i. record {
+      leaves = 1;
+      depth = 1;
+      connections = saturated (sym (length-map (connections_in h x.kind) (further n)) i);
+      ends = saturated (length (sym (ends-further n (connections_in h x.kind)) i));
+    }
 
--- ---- an instance of a leaf
-
-pub placed-leaf : (h : Hierarchy) (f : ℕ → List Placed) (x : Part) → is_composite h x.kind ≡ false → placed_by h f x ≡ record { path = name_of x ∷ []; part = x } ∷ []
-placed-leaf h f x e = ap (λ b. cond b (map (outside (name_of x)) (f x.kind)) (record { path = name_of x ∷ []; part = x } ∷ [])) e
+-- ---- bodies
 
 abbrev pub IsTotal : Hierarchy → ℕ → Totals → Type 0
 IsTotal h k t = t ≡ totals_in h k
 
--- the totals of connections and of the leaves and connections of the first instances
-abbrev pub totals_to : Hierarchy → List Strung → List Part → Totals
-totals_to h ks xs = totals_of (flat_map (placed_by h (leaves_in h)) xs) (ks ++ flat_map (strung_by (connections_in h)) xs)
+parts_are : (h : Hierarchy) (all : List Totals) (xs : List Part) → ((x : Part) → IsIn x xs → (t : Totals) → get_or all x.kind t ≡ totals_in h x.kind) → (ps : List Placed) (ks : List Strung)
+    → fold (add_part h all) (totals_of ps ks) xs ≡ totals_of (ps ++ flat_map (placed_by h (leaves_in h)) xs) (ks ++ flat_map (strung_by (connections_in h)) xs)
+parts_are h all [] known ps ks = λ i. totals_of (sym (append-nil ps) i) (sym (append-nil ks) i)
+parts_are h all (x ∷ xs) known ps ks =
+    let qs = placed_by h (leaves_in h) x in
+    let ls = strung_by (connections_in h) x in
+    ap (λ t. fold (add_part h all) t xs) (ap (both (totals_of ps ks)) (part_is h all x (known x (inl refl))) ∙ both_are ps qs ks ls) ∙ parts_are h all xs (λ y m. known y (inr m)) (ps ++ qs) (ks ++ ls)
+    ∙ λ i. totals_of (append_assoc ps qs (flat_map (placed_by h (leaves_in h)) xs) i) (append_assoc ks ls (flat_map (strung_by (connections_in h)) xs) i)
 
-pub totals_more : (h : Hierarchy) (ks : List Strung) (k i : ℕ) (read : List Part) (x : Part) (t : Totals) → IsRead h k i read x
-    → (let xs = take i (body h k).parts in
-    t ≡ totals_of (flat_map (placed_by h (leaves_in h)) xs ++ placed_by h (leaves_in h) x) ((ks ++ flat_map (strung_by (connections_in h)) xs) ++ strung_by (connections_in h) x))
-    → t ≡ totals_to h ks (take (i + 1) (body h k).parts)
-totals_more h ks k i read x t r e =
-    let xs = take i (body h k).parts in
-    e ∙ ap (λ ps. totals_of ps ((ks ++ flat_map (strung_by (connections_in h)) xs) ++ strung_by (connections_in h) x)) (sym (parts_taken h k i read x r (placed_by h (leaves_in h))))
-    ∙ ap (λ ls. totals_of (flat_map (placed_by h (leaves_in h)) (take (i + 1) (body h k).parts)) ls)
-    (append_assoc ks (flat_map (strung_by (connections_in h)) xs) (strung_by (connections_in h) x) ∙ ap (λ ls. ks ++ ls) (sym (parts_taken h k i read x r (strung_by (connections_in h)))))
-
-pub totals_step : (h : Hierarchy) → IsFinite h → (k : ℕ) → k ≤ length h.bodies → (i : ℕ) (read : List Part) (t : Totals) → read ≡ (body h k).parts → length read ≤ i
-    → t ≡ totals_to h (map (strung k) (wires_of (body h k))) (take i (body h k).parts) → t ≡ totals_in h k
-totals_step h f k l i read t same over e =
-    let n : length read ≡ length (body h k).parts = ap (λ xs. length xs) same in
-    let ks = map (strung k) (wires_of (body h k)) in
-    e ∙ ap (totals_to h ks) (take_all i (body h k).parts (omega (arith, n, over)))
-    ∙ ap (λ ps. totals_of ps (ks ++ flat_map (strung_by (connections_in h)) (body h k).parts)) (sym (leaves_step h f k l))
-    ∙ ap (λ ls. totals_of (leaves_in h k) ls) (sym (connections_step h f k l))
+pub body_is : (h : Hierarchy) → IsFinite h → (k : ℕ) → k ≤ length h.bodies → (all : List Totals) → ((x : Part) → IsIn x (body h k).parts → (t : Totals) → get_or all x.kind t ≡ totals_in h x.kind)
+    → body_total h all k ≡ totals_in h k
+body_is h f k l all known =
+    ap (λ t. fold (add_part h all) t (body h k).parts) (own_is k (wires_of (body h k))) ∙ parts_are h all (body h k).parts known [] (map (strung k) (wires_of (body h k)))
+    ∙ λ i. totals_of (sym (leaves_step h f k l) i) (sym (connections_step h f k l) i)

@@ -1,24 +1,13 @@
--- The domain path of each leaf, and the leaves of each domain by number.
-use Rattle.std.specs.Prelude.{ℕ, ◌==◌, Bool, false, if◌then◌else◌, List, ◌++◌, map, Option, None, Some, option_map, unwrap_or}
-use Rattle.adl_meaning.specs.Prelude.{Hierarchy, Path, Placed, domain_of, enumerate_from, filter, filter_map, firsts_after, is_hardware, list_any, option_map_or, place_by, same_path}
+-- The domain path of each leaf of a template, and how leaves are put into domains.
+use Rattle.std.specs.Prelude.{ℕ, ◌+◌, Bool, if◌then◌else◌, List, [], ◌∷◌, ◌++◌, Option, None, Some, option_map, unwrap_or, slice_index_or, slice_set}
+use Rattle.adl_meaning.specs.Prelude.{Hierarchy, Path, filter_map, firsts_after, is_hardware, item_of, list_any, place_by, same_path}
 use Rattle.adl_meaning.specs.declared.flat.Domain.{Domain}
+use Rattle.adl_meaning.specs.declared.flat.Leaf.{Leaf}
 use Rattle.adl_templates.specs.Templates.{Homed}
 
 -- the domain path of a leaf; a device has none
-abbrev pub home : Hierarchy → Placed → Option Path
-home h x = if is_hardware h x.part then None else Some (domain_of h x.path)
-
--- the same, of a leaf of the assembly's template
-abbrev pub home_in : Hierarchy → Homed → Option Path
-home_in h l = if is_hardware h l.leaf.part then None else Some (unwrap_or l.home l.leaf.path)
-
--- leaves without their homes
-abbrev pub placed : Homed → Placed
-placed l = l.leaf
-
--- the paths that are there
-abbrev pub present : List (Option Path) → List Path
-present homes = filter_map (λ o. o) homes
+abbrev pub home : Hierarchy → Homed → Option Path
+home h l = if is_hardware h l.leaf.part then None else Some (unwrap_or l.home l.leaf.path)
 
 -- whether the path is in the list
 abbrev pub is_met : List Path → Path → Bool
@@ -26,20 +15,32 @@ is_met paths p = list_any (same_path p) paths
 
 -- the paths, and those of more homes that are not among them
 abbrev pub all_met : List Path → List (Option Path) → List Path
-all_met paths homes = paths ++ firsts_after same_path (is_met paths) (present homes)
+all_met paths homes = paths ++ firsts_after same_path (is_met paths) (filter_map (λ o. o) homes)
 
 -- the place of a domain path among others
 abbrev pub home_number : List Path → Option Path → Option ℕ
 home_number paths o = option_map (λ p. place_by (same_path p) paths) o
 
--- whether it is this number
-abbrev pub is_number : ℕ → Option ℕ → Bool
-is_number d o = option_map_or (λ n. n == d) o false
+-- a leaf, where the domains have these paths
+abbrev pub leaf_in : Hierarchy → List Path → Homed → Leaf
+leaf_in h paths l = record {
+  path = l.leaf.path;
+  component = item_of h l.leaf.part;
+  place = l.leaf.part.instance.component.place;
+  hardware = is_hardware h l.leaf.part;
+  domain = home_number paths (home h l);
+}
 
--- the places of those that are this number
-abbrev pub numbered : ℕ → List (Option ℕ) → List ℕ
-numbered d numbers = map (λ x. x.0) (filter (λ x. is_number d x.1) (enumerate_from 0 numbers))
+-- a domain with one leaf more
+abbrev pub grown : ℕ → Domain → Domain
+grown n d = record d { leaves = d.leaves ++ n ∷ [] }
 
--- a domain by its number and its path, with the leaves that have the number
-abbrev pub domain_to : List (Option ℕ) → ℕ × Path → Domain
-domain_to numbers x = record { path = x.1; leaves = numbered x.0 numbers }
+-- the domains, where the leaf of the number n is put into one of them
+abbrev pub put_into : Option ℕ → ℕ → List Domain → List Domain
+put_into None n ds = ds
+put_into (Some d) n ds = slice_set ds d (grown n (slice_index_or ds d (record { path = []; leaves = [] })))
+
+-- the domains, where each of the leaves, whose numbers begin at n, is put into its own
+abbrev pub filled : ℕ → List Leaf → List Domain → List Domain
+filled n [] ds = ds
+filled n (l ∷ ls) ds = filled (n + 1) ls (put_into l.domain n ds)

@@ -7,10 +7,10 @@ use Rattle.adl_meaning.specs.declared.flat.Leaf.{Leaf}
 use Rattle.adl_meaning.specs.Prelude.{same_domain, slice_get, where_true}
 use Rattle.adl_templates.specs.Templates.{Joined, Connected, Homed}
 use Rattle.std.specs.Option.{option_eq}
-use Rattle.adl_flatten.specs.declared.end_counts.EndCounts.{EndCounts}
 use Rattle.adl_flatten.specs.declared.end_counts.EndKey.{EndKey}
 use Rattle.cam_base.specs.declared.code.Code.TheVariants as code
 use Rattle.adl_meaning.specs.Unconnected.{unjoined_member}
+use Rattle.adl_meaning.specs.UsedTwice.{used_twice}
 
 abbrev pub flat_end_of : Joined → FlatEnd
 flat_end_of e = record { role = e.end.role; leaf = e.leaf; member = e.member; place = e.end.place }
@@ -36,12 +36,12 @@ same_key k l = option_eq nat_eq k.connection l.connection && (k.leaf == l.leaf &
 abbrev pub is_counted : EndKey → JoinedEnd → Bool
 is_counted k e = is_at k.leaf k.member e && option_map_or (λ c. e.connection == c) k.connection true
 
-abbrev pub count_at : EndCounts → EndKey → ℕ
-count_at t k = unwrap_or (lookup (same_key k) t.counts.entries) 0
+abbrev pub count_at : List (EndKey × ℕ) → EndKey → ℕ
+count_at counts k = unwrap_or (lookup (same_key k) counts) 0
 
 -- the table counts these ends
-abbrev pub AreCounts : EndCounts → List JoinedEnd → Type 0
-AreCounts t ends = (k : EndKey) → count_at t k ≡ count_by (is_counted k) ends
+abbrev pub AreCounts : List (EndKey × ℕ) → List JoinedEnd → Type 0
+AreCounts counts ends = (k : EndKey) → count_at counts k ≡ count_by (is_counted k) ends
 
 -- an interface of a leaf, by its number, that no end joins
 abbrev pub unjoined_leaf : Hierarchy → List JoinedEnd → ℕ × Homed → List Fault
@@ -66,3 +66,10 @@ in_one all (e ∷ es) = all_in all (domain_in all e) (e ∷ es)
 -- a connection of direct calls between domains
 abbrev pub misplaced_call : List Leaf → Connected → List Fault
 misplaced_call all c = where_true (is_direct c.wire.0 && not (in_one all c.ends)) (at_word code.Placement c.wire.1.id)
+
+-- all faults of joins, of the leaves of a flat system and what the template of the assembly has
+abbrev pub faults_by : Hierarchy → List Leaf → List Homed → List Connected → List Fault
+faults_by h all ls cs =
+    flat_map (used_twice (all_joined cs)) (all_joined cs)
+    ++ flat_map (unjoined_leaf h (all_joined cs)) (enumerate_from 0 ls)
+    ++ (flat_map (misplaced_leaf h) ls ++ flat_map (misplaced_call all) cs)

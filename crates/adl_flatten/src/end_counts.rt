@@ -19,64 +19,47 @@ struct EndKey {
     member: u32,
 }
 
-/// The number of ends at each key.
-#[derive(Drop)]
-struct EndCounts {
-    counts: IndexMap<EndKey, usize>,
+fn count_at(counts: &IndexMap<EndKey, usize>, key: EndKey) -> usize
+    ensures { result ≡ count_at counts.now.entries key }
+{
+    counts.get(&key).copied().unwrap_or(0)
 }
 
-impl EndCounts {
-    /// No ends. Takes no memory.
-    fn new(alloc: Global) -> EndCounts
-        ensures { (k : EndKey) → count_at result k ≡ 0 }
-    {
-        EndCounts {
-            counts: IndexMap::new(alloc),
-        }
-    }
+#[tactic(auto, using(crate::proofs::EndLookups::count_put))]
+fn add_at(counts: &mut IndexMap<EndKey, usize>, key: EndKey) -> Result<(), NoMemory>
+    requires { count_at counts.old.entries key + 1 < 2 ^ 64 }
+    ensures { OnOk result ((k : EndKey) → count_at counts.new.entries k
+        ≡ count_at counts.old.entries k + (if same_key key k then 1 else 0)) }
+{
+    let count = count_at(&*counts, key);
+    counts.insert(key, count + 1)?;
+    Ok(())
+}
 
-    /// The number of ends at the key.
-    fn at(&self, key: EndKey) -> usize
-        ensures { result ≡ count_at self.now key }
-    {
-        self.counts.get(&key).copied().unwrap_or(0)
-    }
-
-    #[tactic(auto, using(crate::proofs::EndLookups::count_put))]
-    fn add_at(&mut self, key: EndKey) -> Result<(), NoMemory>
-        requires { count_at self.old key + 1 < 2 ^ 64 }
-        ensures { OnOk result ((k : EndKey) → count_at self.new k ≡ count_at self.old k + (if same_key key k then 1 else 0)) }
-    {
-        let count = self.at(key);
-        self.counts.insert(key, count + 1)?;
-        Ok(())
-    }
-
-    /// Counts an end among those of its connection, and among all.
-    fn add(&mut self, end: &JoinedEnd<'_>) -> Result<(), NoMemory>
-        requires few { (k : EndKey) → count_at self.old k + 1 < 2 ^ 64 }
-        ensures { OnOk result ((k : EndKey) → count_at self.new k
-            ≡ count_at self.old k + (if is_counted k end.now then 1 else 0)) }
-    {
-        let all = EndKey {
-            connection: None,
-            leaf: end.end.leaf,
-            member: end.end.member,
-        };
-        let own = EndKey {
-            connection: Some(end.connection),
-            ..all
-        };
-        self.add_at(all)?;
-        self.add_at(own)
-    }
+/// Counts an end among those of its connection, and among all.
+fn add(counts: &mut IndexMap<EndKey, usize>, end: &JoinedEnd<'_>) -> Result<(), NoMemory>
+    requires { (k : EndKey) → count_at counts.old.entries k + 1 < 2 ^ 64 }
+    ensures { OnOk result ((k : EndKey) → count_at counts.new.entries k
+        ≡ count_at counts.old.entries k + (if is_counted k end.now then 1 else 0)) }
+{
+    let all = EndKey {
+        connection: None,
+        leaf: end.end.leaf,
+        member: end.end.member,
+    };
+    let own = EndKey {
+        connection: Some(end.connection),
+        ..all
+    };
+    add_at(counts, all)?;
+    add_at(counts, own)
 }
 
 /// Ends, and how many of them join each interface. Contracts see it as the ends.
 #[derive(Drop)]
 pub struct CountedEnds<'t, 'a> {
     ends: &'t [JoinedEnd<'a>],
-    counts: EndCounts,
+    counts: IndexMap<EndKey, usize>,
 }
 
 impl<'t, 'a> Model for CountedEnds<'t, 'a> {
@@ -89,7 +72,7 @@ impl<'t, 'a> Model for CountedEnds<'t, 'a> {
 
     ghost view = { λ t. t.ends.now };
 
-    ghost invariant = { λ t. AreCounts t.counts t.ends.now };
+    ghost invariant = { λ t. AreCounts t.counts.entries t.ends.now };
 }
 
 impl<'t, 'a> CountedEnds<'t, 'a> {
@@ -97,9 +80,9 @@ impl<'t, 'a> CountedEnds<'t, 'a> {
     pub fn new(alloc: Global, ends: &'t [JoinedEnd<'a>]) -> Result<CountedEnds<'t, 'a>, NoMemory>
         ensures { IfOk result (λ t. t ≡ ends.entry.now) }
     {
-        let mut counts = EndCounts::new(alloc);
+        let mut counts = IndexMap::new(alloc);
         for end in ends {
-            counts.add(end)?;
+            add(&mut counts, end)?;
         }
         Ok(CountedEnds { ends, counts })
     }
@@ -116,11 +99,13 @@ impl<'t, 'a> CountedEnds<'t, 'a> {
         ensures { result ≡ count_by (clashes end.now) self.now }
     {
         let connection = if end.once { None } else { Some(end.connection) };
-        self.counts.at(EndKey {
+        let (leaf, member) = (end.end.leaf, end.end.member);
+        let key = EndKey {
             connection,
-            leaf: end.end.leaf,
-            member: end.end.member,
-        })
+            leaf,
+            member,
+        };
+        count_at(&self.counts, key)
     }
 
     /// Whether an end joins the interface.
@@ -132,6 +117,6 @@ impl<'t, 'a> CountedEnds<'t, 'a> {
             leaf,
             member,
         };
-        self.counts.at(key) > 0
+        count_at(&self.counts, key) > 0
     }
 }

@@ -1,6 +1,6 @@
 //! The faults of joins.
 
-ghost use Rattle.adl_flatten.specs.TemplateJoins.{domain_in, all_in, in_one, misplaced_leaf, misplaced_call, unjoined_leaf};
+ghost use Rattle.adl_flatten.specs.TemplateJoins.{all_in, domain_in, in_one, misplaced_leaf, misplaced_call, unjoined_leaf};
 ghost use Rattle.adl_meaning.specs.Prelude.{body, enumerate_from, flat_map, flattened, is_direct, join_faults_in, least, noted, option_map_or, same_domain, top_number};
 ghost use Rattle.adl_meaning.specs.Unconnected.{may_stay};
 ghost use Rattle.adl_meaning.specs.UsedTwice.{used_twice};
@@ -95,8 +95,7 @@ fn same_domain(a: Option<u32>, b: Option<u32>) -> bool
 {
     match (a, b) {
         (Some(a), Some(b)) => a == b,
-        (Some(_), None) => false,
-        (None, _) => false,
+        _ => false,
     }
 }
 

@@ -1,9 +1,8 @@
 //! All of it together: the limits, the templates, the faults of joins.
 
-ghost use Rattle.adl_flatten.specs.TotalsOf.{IsWithinLimits};
-ghost use Rattle.adl_meaning.specs.Prelude.{AreFew, AreNamesSound, HaveFewMembers, Refuses, first_flat_fault, flat_of, flattened, hierarchy_of, join_faults_in, least, top_number};
+ghost use Rattle.adl_meaning.specs.Prelude.{AreFew, AreNamesSound, HaveFewMembers, Refuses, connections, first_flat_fault, flat_of, flattened, hierarchy_of, join_faults_in, least, leaves, top_number};
 ghost use Rattle.adl_templates.specs.AreTemplates.{IsTemplate, IsReady};
-ghost use Rattle.std.specs.Prelude.{◌≡◌, IfOk};
+ghost use Rattle.std.specs.Prelude.{◌≡◌, ◌<◌, ◌^◌, length, IfOk};
 
 use crate::connections::flat_connections;
 use crate::faults::join_fault;
@@ -26,7 +25,8 @@ fn flat_template(
 ) -> Result<Flat, Refused<Fault>>
     requires ready { IsReady program.now }
     requires template { IsTemplate program.now (top_number program.now) template.now }
-    requires small { IsWithinLimits program.now }
+    requires leaves { length (leaves program.now) < 2 ^ 32 }
+    requires connections { length (connections program.now) < 2 ^ 32 }
     ensures fault { Refuses result (least (join_faults_in program.now)) }
     ensures flat { IfOk result (λ f. f ≡ flattened program.now) }
 {

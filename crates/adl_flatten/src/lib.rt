@@ -6,13 +6,11 @@
 #![tactic(auto)]
 
 mod connections;
-mod domains;
 mod end_counts;
 mod faults;
 mod flat;
 mod leaves;
 mod limits;
-mod path_key;
 mod sums;
 
 pub use flat::{flatten, flatten_program};

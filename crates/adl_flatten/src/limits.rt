@@ -1,7 +1,7 @@
 //! The limits of a hierarchy.
 
-ghost use Rattle.adl_flatten.specs.TotalsOf.{totals_in};
-ghost use Rattle.adl_meaning.specs.Prelude.{AreFew, AreNamesSound, Hierarchy, Refuses, first_size_fault, hierarchy_of, limits_passed, noted, top_number};
+ghost use Rattle.adl_flatten.specs.TotalsOf.{limits_in, totals_in};
+ghost use Rattle.adl_meaning.specs.Prelude.{AreFew, AreNamesSound, Refuses, first_size_fault, hierarchy_of, noted, top_number};
 ghost use Rattle.adl_items.specs.Located.{located};
 ghost use Rattle.std.specs.Prelude.{◌≡◌};
 
@@ -22,9 +22,9 @@ const CONNECTIONS: u64 = 4096;
 const ENDS: u64 = 16384;
 
 /// Notes each limit that the totals of the assembly pass.
+#[tactic(auto, using(adl_meaning::proofs::Noting::noting))]
 fn note_limits(assembly: &Located<'_, Assembly>, totals: Totals, first: &mut Earliest<'_>)
-    ensures { (h : Hierarchy) → totals ≡ totals_in h (top_number h)
-        → first.new ≡ noted first.old (limits_passed h (located assembly.now)) }
+    ensures { first.new ≡ noted first.old (limits_in (located assembly.now) totals) }
 {
     let place = assembly.item.place;
     first.note(DEPTH < totals.depth, Code::Limit, place, b"depth");

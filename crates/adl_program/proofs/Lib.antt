@@ -1,6 +1,5 @@
 pub mod Common
 pub mod Filling
-pub mod GraphSteps
 pub mod Joined
 pub mod Leading
 pub mod PartNumbers

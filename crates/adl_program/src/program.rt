@@ -85,10 +85,7 @@ impl<'a> Program<'a> {
         ensures { result ≡ leaf_at self.now port }
     {
         let body = self.bodies.body(port.kind);
-        let Some(component) = body.component() else {
-            return None;
-        };
-        match component.members.as_slice().get(port.member) {
+        match body.component()?.members.as_slice().get(port.member) {
             Some(Member::Interface(interface)) => Some(Leaf {
                 interface,
                 hardware: body.is_hardware(),
@@ -102,10 +99,7 @@ impl<'a> Program<'a> {
         requires { number ≤ top_number self.now }
         ensures { result ≡ leaf_of self.now number words.now }
     {
-        match self.lead(number, words) {
-            None => None,
-            Some(port) => self.leaf_at(port),
-        }
+        self.leaf_at(self.lead(number, words)?)
     }
 }
 

@@ -11,8 +11,8 @@ pub use Rattle.adl_meaning.proofs.SamePaths.{same_path-true}
 pub use Rattle.adl_meaning.specs.Values.{default_at, given, inner_names, path_of, set_within, sets, setter_at, setting_of, settings_of}
 pub use Rattle.adl_settings.specs.BadValue.{bad_at_end, bad_in_connection, bad_in_leaf, bad_values}
 pub use Rattle.adl_settings.specs.BadgeTwice.{badge_twice_at, badges_twice_in, own_badge}
-pub use Rattle.adl_settings.specs.DeviceOverlap.{overlap_at, overlaps, overlaps_among, regions, regions_in}
-pub use Rattle.adl_settings.specs.IrqTwice.{Irq, irq_twice_at, irqs, irqs_in, irqs_twice, irqs_twice_among}
+pub use Rattle.adl_settings.specs.DeviceOverlap.{overlap_at, overlaps, regions}
+pub use Rattle.adl_settings.specs.IrqTwice.{Irq, irq_twice_at, irqs, irqs_in, irqs_twice}
 pub use Rattle.adl_settings.specs.Joints.{Found, Joint, behind, found_at, found_of, found_on, founds_in, has_access, has_badge, interface_at, is_device_event, is_device_memory, is_from, joint_at, positioned, positioned_after, size_of, value_of}
 pub use Rattle.adl_settings.specs.Meant.{bad_unless, bad_value, meant, where_set}
 pub use Rattle.adl_settings.specs.Repeated.{is_marked, is_repeated}

@@ -1,5 +1,6 @@
 -- The settings of ends by number, and the positions of `from` ends.
-use Rattle.adl_settings.proofs.Common.{◌≡◌, ◌∙◌, ◌+◌, ℕ, zero, suc, true, List, [], ◌∷◌, map, Option, Some, None, is_some, option_map, refl, sym, ap, subst, filter_map, slice_get, list_all, option_and_then, and_parts, slice_get-map, Source, Flat, FlatEnd, Leaf, flat_of, Hierarchy, hierarchy_of, Found, Joint, interface_at, behind, positioned_after, joint_at, found_at, found_of, found_on, end_settings, settled_of, arith, cond, filter, is_from}
+use Rattle.adl_settings.proofs.Common.{◌≡◌, ◌∙◌, ◌+◌, ℕ, zero, suc, true, List, [], ◌∷◌, map, Option, Some, None, is_some, option_map, refl, sym, ap, subst, filter_map, slice_get, list_all, option_and_then, and_parts, slice_get-map, Source, Flat, FlatEnd, flat_of, Hierarchy, hierarchy_of, Found, Joint, interface_at, behind, positioned_after, found_at, found_of, found_on, end_settings, settled_of, arith, cond, filter, is_from}
+use Rattle.std.proofs.lemmas.Option.{option_and_then_some}
 use Rattle.adl_meaning.specs.Prelude.{From, Interface, Role, To}
 use Rattle.adl_meaning.specs.declared.flat.FlatConnection.{FlatConnection}
 use Rattle.adl_settings.specs.EndMeaning.{end_setting}
@@ -15,40 +16,30 @@ position_of before (x ∷ es) (suc n) e i = position_of (behind before x.role) e
 module _ (h : Hierarchy) (s : Source) (flat : Flat) (k : FlatConnection) where
   -- an end that joins an interface has values, with any position
   found_there : (p : ℕ) (e : FlatEnd) → joins_interface s flat e ≡ true → (f : Found) × IsFoundAt h s flat k e f × (found_of h s flat k (p, e) ≡ Some f)
-  found_there p e joins = by_leaf (slice_get flat.leaves e.leaf) refl joins
+  found_there p e joins = by_interface (option_and_then (λ leaf. interface_at s leaf e.member) (slice_get flat.leaves e.leaf)) refl joins
     where
-      by_interface : (leaf : Leaf) (o : Option Interface) → slice_get flat.leaves e.leaf ≡ Some leaf → interface_at s leaf e.member ≡ o → is_some o ≡ true
+      by_interface : (o : Option Interface) → option_and_then (λ leaf. interface_at s leaf e.member) (slice_get flat.leaves e.leaf) ≡ o → is_some o ≡ true
           → (f : Found) × IsFoundAt h s flat k e f × (found_of h s flat k (p, e) ≡ Some f)
-      by_interface leaf None l m j = cc
-      by_interface leaf (Some i) l m j =
-          let at : Joint = record { connection = k; position = p; end = e; leaf = leaf; interface = i } in (
-            found_at h at,
-            record { connection = refl; end = refl; leaf = l; interface = m; values = refl },
-            ap (λ o. option_map (found_at h) (option_and_then (joint_at s k (p, e)) o)) l ∙ ap (λ o. option_map (found_at h) (option_map (λ i. record { connection = k; position = p; end = e; leaf = leaf; interface = i }) o)) m,
-          )
-
-      by_leaf : (o : Option Leaf) → slice_get flat.leaves e.leaf ≡ o → is_some (option_and_then (λ leaf. interface_at s leaf e.member) o) ≡ true
-          → (f : Found) × IsFoundAt h s flat k e f × (found_of h s flat k (p, e) ≡ Some f)
-      by_leaf None l j = cc
-      by_leaf (Some leaf) l j = by_interface leaf (interface_at s leaf e.member) l refl j
+      by_interface None m j = cc
+      by_interface (Some i) m j =
+          option_and_then_some (λ leaf. interface_at s leaf e.member) (slice_get flat.leaves e.leaf) i m (λ leaf l m.
+          let at : Joint = record { connection = k; position = p; end = e; leaf = leaf; interface = i } in
+          (found_at h at, record { connection = refl; end = refl; leaf = l; interface = m; values = refl }, rw (l, m) refl))
 
   -- where each end joins an interface, end n has the n-th values
   found_nth : (before : ℕ) (es : List FlatEnd) (n : ℕ) (e : FlatEnd) → list_all (joins_interface s flat) es ≡ true → slice_get es n ≡ Some e
       → (f : Found) × IsFoundAt h s flat k e f × (slice_get (filter_map (found_of h s flat k) (positioned_after before es)) n ≡ Some f)
   found_nth before [] n e all i = cc
-  found_nth before (x ∷ es) n e all i =
+  found_nth before (x ∷ es) zero e all i =
+      let got = found_there (before + 1) x (and_parts (joins_interface s flat x) (list_all (joins_interface s flat) es) all).0 in
+      let same : x ≡ e = cc in
+      let is = got.2 in
+      (got.0, subst (λ y. IsFoundAt h s flat k y got.0) same got.1, rw is refl)
+  found_nth before (x ∷ es) (suc n) e all i =
       let parts = and_parts (joins_interface s flat x) (list_all (joins_interface s flat) es) all in
-      let got = found_there (before + 1) x parts.0 in
-      by_number n i got.0 got.1 got.2 (λ m. found_nth (behind before x.role) es m e parts.1)
-    where
-      rest : List Found
-      rest = filter_map (found_of h s flat k) (positioned_after (behind before x.role) es)
-
-      by_number : (n : ℕ) → slice_get (x ∷ es) n ≡ Some e → (f : Found) → IsFoundAt h s flat k x f → found_of h s flat k (before + 1, x) ≡ Some f
-          → ((m : ℕ) → slice_get es m ≡ Some e → (f : Found) × IsFoundAt h s flat k e f × (slice_get rest m ≡ Some f))
-          → (f : Found) × IsFoundAt h s flat k e f × (slice_get (filter_map (found_of h s flat k) (positioned_after before (x ∷ es))) n ≡ Some f)
-      by_number zero i f at is more = let same : x ≡ e = cc in (f, subst (λ y. IsFoundAt h s flat k y f) same at, rw is refl)
-      by_number (suc m) i f at is more = let r = more m i in (r.0, r.1, rw is r.2)
+      let is = (found_there (before + 1) x parts.0).2 in
+      let rest = found_nth (behind before x.role) es n e parts.1 i in
+      (rest.0, rest.1, rw is rest.2)
 
 pub setting_at_number : (s : Source) (i n : ℕ) (k : FlatConnection) (e : FlatEnd) → slice_get (flat_of s).connections i ≡ Some k → list_all (joins_interface s (flat_of s)) k.ends ≡ true → slice_get k.ends n ≡ Some e
     → (f : Found) × IsFoundAt (hierarchy_of s) s (flat_of s) k e f × (setting_at (settled_of s) i n ≡ Some (end_setting f))

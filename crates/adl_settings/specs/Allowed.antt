@@ -51,12 +51,6 @@ stack_in v = option_map whole_pages (number_within 1 16777216 v)
 
 -- ---- ends
 
-abbrev pub read_only : Access
-read_only = record { read = true; write = false }
-
-abbrev pub write_only : Access
-write_only = record { read = false; write = true }
-
 abbrev pub read_and_write : Access
 read_and_write = record { read = true; write = true }
 
@@ -65,8 +59,8 @@ no_access = record { read = false; write = false }
 
 abbrev pub access_named : List ℕ → Option Access
 access_named t =
-    if bytes_eq t (codes "R") then Some read_only
-    else (if bytes_eq t (codes "W") then Some write_only else (if bytes_eq t (codes "RW") then Some read_and_write else None))
+    if bytes_eq t (codes "R") then Some (record { read = true; write = false })
+    else (if bytes_eq t (codes "W") then Some (record { read = false; write = true }) else (if bytes_eq t (codes "RW") then Some read_and_write else None))
 
 abbrev pub access_in : Value → Option Access
 access_in v = option_and_then access_named (text_in v.kind)

@@ -36,15 +36,12 @@ access_at f = if has_access f.joint then unwrap_or (access_of f) no_access else 
 abbrev pub badge_at : Found → ℕ
 badge_at f = if has_badge f.joint then unwrap_or (badge_of f) 0 else 0
 
-abbrev pub bytes_at : Found → ℕ
-bytes_at f = if is_shared f.joint.connection.connector || is_device_memory f.joint then unwrap_or (bytes_of f) 0 else 0
-
 abbrev pub end_setting : Found → EndSetting
 end_setting f = record {
   read = (access_at f).read;
   write = (access_at f).write;
   badge = badge_at f;
-  bytes = bytes_at f;
+  bytes = if is_shared f.joint.connection.connector || is_device_memory f.joint then unwrap_or (bytes_of f) 0 else 0;
   paddr = unwrap_or (paddr_of f) 0;
   irq = unwrap_or (irq_of f) 0;
 }

@@ -1,15 +1,11 @@
 -- The settings of an end by the numbers of its connection and of the end in it, and what they are found at.
 use Rattle.adl_meaning.specs.Prelude.{option_and_then}
 use Rattle.std.specs.Prelude.{slice_get, ◌≡◌, ℕ, Bool, Option, Some, is_some}
-use Rattle.adl_settings.specs.Words.{Interface, Source, Flat, FlatConnection, FlatEnd, EndSetting, Settled, Hierarchy}
+use Rattle.adl_settings.specs.Words.{Source, Flat, FlatConnection, FlatEnd, EndSetting, Settled, Hierarchy}
 use Rattle.adl_settings.specs.Joints.{Found, interface_at, found_at}
 
--- the interface that an end joins, where there is one
-abbrev pub interface_of : Source → Flat → FlatEnd → Option Interface
-interface_of s flat e = option_and_then (λ leaf. interface_at s leaf e.member) (slice_get flat.leaves e.leaf)
-
 abbrev pub joins_interface : Source → Flat → FlatEnd → Bool
-joins_interface s flat e = is_some (interface_of s flat e)
+joins_interface s flat e = is_some (option_and_then (λ leaf. interface_at s leaf e.member) (slice_get flat.leaves e.leaf))
 
 -- the settings of end n of connection k
 abbrev pub setting_at : Settled → ℕ → ℕ → Option EndSetting

@@ -24,9 +24,6 @@ repeated_after h k met (x ∷ xs) =
 abbrev pub repeated_in : Hierarchy → ℕ × Body → List Fault
 repeated_in h b = repeated_after h b.0 (λ p n. false) (settings_of b.1)
 
--- the bodies of the components and of the assembly, by number
-abbrev pub numbered_bodies : Hierarchy → List (ℕ × Body)
-numbered_bodies h = enumerate_from 0 (h.bodies ++ h.top ∷ [])
-
+-- those of the bodies of the components and of the assembly, by number
 abbrev pub settings_twice : Hierarchy → List Fault
-settings_twice h = flat_map (repeated_in h) (numbered_bodies h)
+settings_twice h = flat_map (repeated_in h) (enumerate_from 0 (h.bodies ++ h.top ∷ []))

@@ -32,15 +32,8 @@ fn region_of(end: &Found<'_>) -> Option<DeviceRegion>
 fn regions(alloc: Global, connections: &[List<Found<'_>>]) -> Result<Vec<DeviceRegion>, NoMemory>
     ensures { IfOk result (λ v. v.items ≡ regions connections.now) }
 {
-    let mut found = Vec::new(alloc);
-    for connection in connections {
-        for end in connection.as_slice() {
-            if let Some(region) = region_of(end) {
-                found.push(region)?;
-            }
-        }
-    }
-    Ok(found)
+    let ends = connections.iter().flat_map(|ends| ends.as_slice());
+    Ok(ends.filter_map(region_of).collect(alloc)?)
 }
 
 fn all_pages(alloc: Global, regions: &[DeviceRegion]) -> Result<Vec<Region>, NoMemory>

@@ -2,9 +2,9 @@
 
 ghost use Rattle.adl_settings.specs.Words.{noted};
 ghost use Rattle.adl_meaning.specs.Prelude.{filter_map};
-ghost use Rattle.std.specs.Prelude.{◌≡◌, ℕ, map, OnOk, IfOk};
-ghost use Rattle.adl_settings.specs.BadgeTwice.{last_in, own_badge, badge_twice_at, badges_twice_in, badges_twice};
-ghost use Rattle.adl_settings.specs.IrqTwice.{irq_at, irqs, irq_twice_at, irqs_twice};
+ghost use Rattle.std.specs.Prelude.{◌≡◌, map, OnOk, IfOk};
+ghost use Rattle.adl_settings.specs.BadgeTwice.{last_in, own_badge, badges_twice};
+ghost use Rattle.adl_settings.specs.IrqTwice.{irq_at, irqs, irqs_twice};
 ghost use Rattle.adl_settings.specs.Repeated.{is_marked, is_repeated};
 
 use crate::Found;
@@ -15,7 +15,7 @@ use std::alloc::Global;
 
 /// Whether each of the numbers stands twice or more.
 fn repeated(alloc: Global, numbers: &[u64]) -> Result<IndexMap<u64, bool>, NoMemory>
-    ensures { IfOk result (λ t. (n : ℕ) → is_marked t.entries n ≡ is_repeated numbers.now n) }
+    ensures { IfOk result (λ t. is_marked t.entries ≡ is_repeated numbers.now) }
 {
     let mut twice = IndexMap::new(alloc);
     for number in numbers {
@@ -109,30 +109,6 @@ fn own_badges(alloc: Global, ends: &[Found<'_>]) -> Result<Vec<u64>, NoMemory>
     Ok(ends.iter().filter_map(own_badge).collect(alloc)?)
 }
 
-fn note_badge<'a>(end: &Found<'a>, twice: &IndexMap<u64, bool>, first: &mut Earliest<'a>)
-    ensures { first.new ≡ noted first.old (badge_twice_at (is_marked twice.now.entries) end.now) }
-{
-    if let Some(badge) = own_badge(end) {
-        let (place, name) = (end.joint.end.place, last_in(&end.joint.connection.path));
-        first.note(is_marked(twice, badge), Code::BadgeTwice, place, name);
-    }
-}
-
-fn note_badges<'a>(
-    alloc: Global,
-    ends: &[Found<'a>],
-    first: &mut Earliest<'a>,
-) -> Result<(), NoMemory>
-    ensures { OnOk result (first.new ≡ noted first.old (badges_twice_in ends.now)) }
-{
-    let badges = own_badges(alloc, ends)?;
-    let twice = repeated(alloc, badges.as_slice())?;
-    for end in ends {
-        note_badge(end, &twice, first);
-    }
-    Ok(())
-}
-
 /// Notes the ends that have the badge of another end of their connection.
 pub fn note_badges_twice<'a>(
     alloc: Global,
@@ -142,7 +118,15 @@ pub fn note_badges_twice<'a>(
     ensures { OnOk result (first.new ≡ noted first.old (badges_twice connections.now)) }
 {
     for connection in connections {
-        note_badges(alloc, connection.as_slice(), first)?;
+        let ends = connection.as_slice();
+        let badges = own_badges(alloc, ends)?;
+        let twice = repeated(alloc, badges.as_slice())?;
+        for end in ends {
+            if let Some(badge) = own_badge(end) {
+                let (place, name) = (end.joint.end.place, last_in(&end.joint.connection.path));
+                first.note(is_marked(&twice, badge), Code::BadgeTwice, place, name);
+            }
+        }
     }
     Ok(())
 }

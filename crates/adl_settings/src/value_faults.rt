@@ -1,11 +1,11 @@
 //! The faults of values, and the settings of leaves and ends that have none.
 
-ghost use Rattle.adl_settings.specs.Words.{noted, Refuses};
-ghost use Rattle.std.specs.Prelude.{◌≡◌, map, OnOk, IfOk};
+ghost use Rattle.adl_settings.specs.Words.{noted, Fault as Wrong, Refuses};
+ghost use Rattle.std.specs.Prelude.{◌≡◌, ◌++◌, List as Seq, map, is_some, OnOk, IfOk};
 ghost use Rattle.adl_settings.specs.BadValue.{bad_in_leaf, bad_at_end, bad_values};
 ghost use Rattle.adl_settings.specs.EndMeaning.{end_setting};
 ghost use Rattle.adl_settings.specs.Meant.{bad_unless};
-ghost use Rattle.adl_settings.specs.Missing.{missing_at, missing_values};
+ghost use Rattle.adl_settings.specs.Missing.{missing_values};
 ghost use Rattle.adl_settings.specs.SettingFaults.{value_faults};
 ghost use Rattle.adl_settings.specs.Settled.{leaf_setting, end_settings, settled_from};
 
@@ -16,30 +16,30 @@ use adl_meaning::{Earliest, EndSetting, EndSettings, LeafSetting, Settled};
 use cam_base::{Code, Fault, List, NoMemory, Refused};
 use std::alloc::Global;
 
-#[tactic(auto, using(crate::proofs::Noted::where_not))]
-fn note_unless<'a>(is_right: bool, given: &Option<Given<'a>>, first: &mut Earliest<'a>)
-    ensures { first.new ≡ noted first.old (bad_unless is_right given.now) }
+/// Notes the literal of a value that means nothing.
+fn note_bad<'a, T: Copy>(meant: Option<T>, given: &Option<Given<'a>>, first: &mut Earliest<'a>)
+    ensures { first.new ≡ noted first.old (bad_unless (is_some meant) given.now) }
 {
-    if let Some(given) = given {
-        first.note(!is_right, Code::Value, given.value.place, given.name);
+    if let (Some(given), None) = (given, meant) {
+        first.note(true, Code::Value, given.value.place, given.name);
     }
 }
 
 fn note_bad_leaf<'a>(leaf: &LeafFound<'a>, first: &mut Earliest<'a>)
     ensures { first.new ≡ noted first.old (bad_in_leaf leaf.now) }
 {
-    note_unless(leaf.priority().is_some(), &leaf.priority, first);
-    note_unless(leaf.stack().is_some(), &leaf.stack, first);
+    note_bad(leaf.priority(), &leaf.priority, first);
+    note_bad(leaf.stack(), &leaf.stack, first);
 }
 
 fn note_bad_end<'a>(end: &Found<'a>, first: &mut Earliest<'a>)
-    ensures { first.new ≡ noted first.old (bad_at_end end.now) }
+    ensures { (more : Seq Wrong) → noted first.new more ≡ noted first.old (bad_at_end end.now ++ more) }
 {
-    note_unless(end.access().is_some(), &end.access, first);
-    note_unless(end.badge().is_some(), &end.badge, first);
-    note_unless(end.bytes().is_some(), &end.size, first);
-    note_unless(end.paddr().is_some(), &end.paddr, first);
-    note_unless(end.irq().is_some(), &end.irq, first);
+    note_bad(end.access(), &end.access, first);
+    note_bad(end.badge(), &end.badge, first);
+    note_bad(end.bytes(), &end.size, first);
+    note_bad(end.paddr(), &end.paddr, first);
+    note_bad(end.irq(), &end.irq, first);
 }
 
 /// Notes the values that aren't allowed.
@@ -60,22 +60,16 @@ fn note_bad_values<'a>(
     }
 }
 
-fn note_missing_end<'a>(end: &Found<'a>, first: &mut Earliest<'a>)
-    ensures { first.new ≡ noted first.old (missing_at end.now) }
-{
-    let (joint, word) = (&end.joint, &end.joint.interface.id);
-    let lacks_value = (joint.is_device_memory() && end.paddr.is_none())
-        || (joint.is_device_event() && end.irq.is_none());
-    first.note(lacks_value, Code::Missing, word.place, word.name.as_bytes());
-}
-
 /// Notes the interfaces of devices that lack a value.
 fn note_missing<'a>(connections: &[List<Found<'a>>], first: &mut Earliest<'a>)
     ensures { first.new ≡ noted first.old (missing_values connections.now) }
 {
     for connection in connections {
         for end in connection.as_slice() {
-            note_missing_end(end, first);
+            let (joint, word) = (&end.joint, &end.joint.interface.id);
+            let lacks_value = (joint.is_device_memory() && end.paddr.is_none())
+                || (joint.is_device_event() && end.irq.is_none());
+            first.note(lacks_value, Code::Missing, word.place, word.name.as_bytes());
         }
     }
 }

@@ -106,11 +106,6 @@ module _ (h : Hierarchy) (p : Path) (i m : ℕ) (x : Name) (o : Option ℕ) (s :
 
 -- ---- what is remembered
 
-both_of : (a b : Bool) → (a && b) ≡ true → (a ≡ true) × (b ≡ true)
-both_of true true e = (refl, refl)
-both_of true false e = absurd cc
-both_of false b e = absurd cc
-
 pub remembered_more : (h : Hierarchy) (f f' : Path → Name → Option (Option Given)) (path : Path) (name : Name) (v : Option Given)
     → ((p : Path) (x : Name) (g : Option Given) → f p x ≡ Some g → g ≡ value_at h p x) → v ≡ value_at h path name
     → ((p : Path) (x : Name) → f' p x ≡ cond (same_path path p && bytes_eq name x) (Some v) (f p x)) → (p : Path) (x : Name) (g : Option Given) → f' p x ≡ Some g → g ≡ value_at h p x
@@ -118,7 +113,7 @@ remembered_more h f f' path name v old is new p x g e = by_test (same_path path 
   where
     by_test : (b : Bool) → (same_path path p && bytes_eq name x) ≡ b → cond b (Some v) (f p x) ≡ Some g → g ≡ value_at h p x
     by_test true t e =
-        let both = both_of (same_path path p) (bytes_eq name x) t in
+        let both = and_parts (same_path path p) (bytes_eq name x) t in
         let same : v ≡ g = cc in
         sym same ∙ is ∙ ap (λ q. value_at h q name) (same_path-true path p both.0) ∙ ap (value_at h p) ((bytes_eq-Decides name x).0 both.1)
     by_test false t e = old p x g e

@@ -30,8 +30,8 @@ fn interface_at<'a>(source: &'a Source, leaf: &Leaf, member: u32) -> Option<&'a 
     ensures { option_copied result ≡ interface_at source.now leaf.now member }
 {
     let component = component_at(source, leaf.component)?;
-    match component.members.as_slice().get(member as usize)? {
-        Member::Interface(interface) => Some(interface),
+    match component.members.as_slice().get(member as usize) {
+        Some(Member::Interface(interface)) => Some(interface),
         _ => None,
     }
 }

@@ -13,7 +13,7 @@ pub use Rattle.adl_templates.specs.Templates.{own_connections, own_end, own_targ
 pub use Rattle.adl_templates.specs.declared.template.Template.{Template}
 pub use Rattle.name_tables.specs.ByName.{found}
 pub use Rattle.numbering.proofs.Gathered.{get_behind, get_front, in_place, place_of}
-pub use Rattle.numbering.proofs.Lists.{below, flat_map_same, from_any, get_map, read_in, read_place}
+pub use Rattle.numbering.proofs.Lists.{below, flat_map_same, from_any, from_filter_map, get_map, map_some, read_in, read_place}
 pub use Rattle.numbering.specs.Gather.{IsIn}
 pub use Rattle.std.proofs.Common.{Bool, List, None, Option, Some, [], ap, append_assoc, arith, cond, drop, false, get_or, get_or-set_other, get_or-set_same, inl, inr, is_some, length, map, option_map, refl, rules, slice_index, subst, suc, sym, take}
 pub use Rattle.std.proofs.Common.{true, zero, ℕ, ◌&&◌, ◌++◌, ◌+◌, ◌-◌, ◌<◌, ◌==◌, ◌^◌, ◌||◌, ◌∙◌, ◌∷◌, ◌≡◌, ◌≤◌}

@@ -74,68 +74,52 @@ exported : (h : Hierarchy) (k : ℕ) (e : Option Export) → option_and_then (ta
 exported h k None = refl
 exported h k (Some e) = refl
 
-leaf_target : (h : Hierarchy) → IsReady h → (k i : ℕ) (c j : Name) (x : Part) → k ≤ length h.bodies
-    → slice_get (body h k).parts i ≡ Some x → part_named (body h k).parts c ≡ Some x → is_composite h x.kind ≡ false
-    → target h k (c, j) ≡ Some (record { leaf = leaves_before h k i; member = member_number h x j; once = is_once h (record { path = name_of x ∷ []; part = x; interface = j }) })
-leaf_target h ready k i c j x l g p e =
-    let y : Placed = record { path = name_of x ∷ []; part = x } in
-    let r : Reached = record { path = name_of x ∷ []; part = x; interface = j } in
-    let inner : Option Reached = option_map (behind (name_of x)) (option_and_then (reached h x.kind) (option_and_then (λ (y : Export). port_in y.words) (export_named (exports_of (body h x.kind)) j))) in
-    let one : reached h k (c, j) ≡ Some r = reached_step h ready.finite k l (c, j) ∙ ap (option_and_then (reached_by h (reached h) j)) p ∙ ap (λ b. cond b inner (Some r)) e in
-    let P : Bool → Type 0 = λ b. slice_get (cond b (map (outside (name_of x)) (leaves_in h x.kind)) (y ∷ [])) zero ≡ Some y in
-    let n : leaf_place h k (name_of x ∷ []) ≡ leaves_before h k i = given_at h ready k i zero x y l g (subst P (sym e) refl) ∙ omega arith in
-    ap (option_map (target_in h k)) one ∙ ap (λ n. Some (record { leaf = n; member = member_number h x j; once = is_once h r })) n
-
-inner_target : (h : Hierarchy) → IsReady h → (k i : ℕ) (c j : Name) (x : Part) → k ≤ length h.bodies
-    → slice_get (body h k).parts i ≡ Some x → part_named (body h k).parts c ≡ Some x → is_composite h x.kind ≡ true
-    → target h k (c, j) ≡ option_map (moved_target (leaves_before h k i)) (option_and_then (λ t. t) (export_target h x.kind j))
-inner_target h ready k i c j x l g p e =
-    let port : Option (Name × Name) = option_and_then (λ (y : Export). port_in y.words) (export_named (exports_of (body h x.kind)) j) in
-    let own : Option Reached = Some (record { path = name_of x ∷ []; part = x; interface = j }) in
-    let one : reached h k (c, j) ≡ option_map (behind (name_of x)) (option_and_then (reached h x.kind) port) =
-    reached_step h ready.finite k l (c, j) ∙ ap (option_and_then (reached_by h (reached h) j)) p ∙ ap (λ b. cond b (option_map (behind (name_of x)) (option_and_then (reached h x.kind) port)) own) e in
-    ap (option_map (target_in h k)) one ∙ by port ∙ ap (option_map (moved_target (leaves_before h k i))) (exported h x.kind (export_named (exports_of (body h x.kind)) j))
-  where
-    on : (port : Name × Name) (r : Option Reached) → reached h x.kind port ≡ r → option_map (target_in h k) (option_map (behind (name_of x)) r) ≡ option_map (moved_target (leaves_before h k i)) (option_map (target_in h x.kind) r)
-    on port None q = refl
-    on port (Some r) q =
-        let y : Placed = record { path = r.path; part = r.part } in
-        let low = kind_in h ready.finite k x l (in_place x (body h k).parts i g) in
-        ap (λ n. Some (record { leaf = n; member = member_number h r.part r.interface; once = is_once h r })) (leaf_moved h ready k i x y l g e (reached_met h ready x.kind port r low q))
-
-    by : (o : Option (Name × Name)) → option_map (target_in h k) (option_map (behind (name_of x)) (option_and_then (reached h x.kind) o))
-        ≡ option_map (moved_target (leaves_before h k i)) (option_and_then (target h x.kind) o)
-    by None = refl
-    by (Some port) = on port (reached h x.kind port) refl
-
 -- where an interface of an instance leads, from its component
 pub target_step : (h : Hierarchy) → IsReady h → (k i : ℕ) (c j : Name) (x : Part) → k ≤ length h.bodies → slice_get (body h k).parts i ≡ Some x → part_named (body h k).parts c ≡ Some x
     → target h k (c, j) ≡ target_by h (leaves_before h k i) x.kind j
-target_step h ready k i c j x l g p = by (is_composite h x.kind) refl
+target_step h ready k i c j x l g p =
+    ap (option_map (target_in h k)) (reached_step h ready.finite k l (c, j) ∙ ap (option_and_then (reached_by h (reached h) j)) p) ∙ by (is_composite h x.kind) refl
   where
-    by : (b : Bool) → is_composite h x.kind ≡ b
-        → target h k (c, j) ≡ cond b (option_map (moved_target (leaves_before h k i)) (option_and_then (λ t. t) (export_target h x.kind j))) (Some (own_target (body h x.kind) (leaves_before h k i) j))
-    by true e = inner_target h ready k i c j x l g p e
-    by false e = leaf_target h ready k i c j x l g p e
+    y : Placed
+    y = record { path = name_of x ∷ []; part = x }
+
+    own : Reached
+    own = record { path = name_of x ∷ []; part = x; interface = j }
+
+    on : is_composite h x.kind ≡ true → (port : Name × Name) (r : Option Reached) → reached h x.kind port ≡ r
+        → option_map (target_in h k) (option_map (behind (name_of x)) r) ≡ option_map (moved_target (leaves_before h k i)) (option_map (target_in h x.kind) r)
+    on e port None q = refl
+    on e port (Some r) q =
+        let low = kind_in h ready.finite k x l (in_place x (body h k).parts i g) in
+        ap (λ n. Some (record { leaf = n; member = member_number h r.part r.interface; once = is_once h r })) (leaf_moved h ready k i x (record { path = r.path; part = r.part }) l g e (reached_met h ready x.kind port r low q))
+
+    through : is_composite h x.kind ≡ true → (o : Option (Name × Name)) → option_map (target_in h k) (option_map (behind (name_of x)) (option_and_then (reached h x.kind) o))
+        ≡ option_map (moved_target (leaves_before h k i)) (option_and_then (target h x.kind) o)
+    through e None = refl
+    through e (Some port) = on e port (reached h x.kind port) refl
+
+    port : Option (Name × Name)
+    port = option_and_then (λ (e : Export). port_in e.words) (export_named (exports_of (body h x.kind)) j)
+
+    by : (b : Bool) → is_composite h x.kind ≡ b → option_map (target_in h k) (cond b (option_map (behind (name_of x)) (option_and_then (reached h x.kind) port)) (Some own))
+        ≡ cond b (option_map (moved_target (leaves_before h k i)) (option_and_then (λ t. t) (export_target h x.kind j))) (Some (own_target (body h x.kind) (leaves_before h k i) j))
+    by true e = through e port ∙ ap (option_map (moved_target (leaves_before h k i))) (exported h x.kind (export_named (exports_of (body h x.kind)) j))
+    by false e =
+        let P : Bool → Type 0 = λ b. slice_get (cond b (map (outside (name_of x)) (leaves_in h x.kind)) (y ∷ [])) zero ≡ Some y in
+        let n : leaf_place h k (name_of x ∷ []) ≡ leaves_before h k i = given_at h ready k i zero x y l g (subst P (sym e) refl) ∙ omega arith in
+        ap (λ n. Some (record { leaf = n; member = member_number h x j; once = is_once h own })) n
 
 pub no_target : (h : Hierarchy) → IsReady h → (k : ℕ) (c j : Name) → k ≤ length h.bodies → part_named (body h k).parts c ≡ None → target h k (c, j) ≡ None
 no_target h ready k c j l p = ap (option_map (target_in h k)) (reached_step h ready.finite k l (c, j) ∙ ap (option_and_then (reached_by h (reached h) j)) p)
 
 -- ---- homes
 
--- an instance is the first of its name
-first_named : (h : Hierarchy) → IsReady h → (k : ℕ) (x : Part) → IsIn x (body h k).parts → part_named (body h k).parts (name_of x) ≡ Some x
-first_named h ready k x i = find_once name_of (body h k).parts x (ready.once k) i
-
-home_placed : (h : Hierarchy) (k : ℕ) (x : Part) (p : Path) → part_named (body h k).parts (name_of x) ≡ Some x → group_above h k (name_of x ∷ p) ≡ group_or x.group (option_map (λ q. name_of x ∷ q) (group_above h x.kind p))
-home_placed h k x p e = ap (option_and_then (λ (y : Part). group_or y.group (option_map (λ q. name_of x ∷ q) (group_above h y.kind p)))) e
-
 -- the leaves of an instance, with their homes
 pub leaves_placed : (h : Hierarchy) → IsReady h → (k : ℕ) (x : Part) → IsIn x (body h k).parts → map (homed h k) (placed_by h (leaves_in h) x) ≡ leaves_by h x
 leaves_placed h ready k x i = by (is_composite h x.kind)
   where
     at_home : (p : Path) → group_above h k (name_of x ∷ p) ≡ group_or x.group (option_map (λ q. name_of x ∷ q) (group_above h x.kind p))
-    at_home p = home_placed h k x p (first_named h ready k x i)
+    at_home p = ap (option_and_then (λ (y : Part). group_or y.group (option_map (λ q. name_of x ∷ q) (group_above h y.kind p)))) (find_once name_of (body h k).parts x (ready.once k) i)
 
     by : (b : Bool) → map (homed h k) (cond b (map (outside (name_of x)) (leaves_in h x.kind)) (record { path = name_of x ∷ []; part = x } ∷ []))
         ≡ cond b (map (moved_leaf x) (template_leaves h x.kind)) (record { leaf = record { path = name_of x ∷ []; part = x }; home = group_or x.group None } ∷ [])
@@ -188,7 +172,7 @@ part_moved h ready k i x l g =
     by : (y : Strung) → IsIn y (connections_in h x.kind) → (b : Bool) → is_composite h x.kind ≡ b
         → connection_in h k (further (name_of x) y) ≡ moved_connection (name_of x) (leaves_before h k i) (connection_in h x.kind y)
     by y m true c = connection_moved h ready k i x y l g c m
-    by y m false c = absurd (composite_around h ready x.kind y m c)
+    by y m false c = absurd (composite_around h ready x.kind y (kind_in h ready.finite k x l (in_place x (body h k).parts i g)) m c)
 
 pub connections_placed : (h : Hierarchy) → IsReady h → (k : ℕ) → k ≤ length h.bodies → template_connections h k ≡ own_connections h k ++ flat_map (connections_by h k) (enumerate_from 0 (body h k).parts)
 connections_placed h ready k l =

@@ -1,14 +1,15 @@
 -- What ends and ports lead to stands among the leaves of their body.
-use Rattle.adl_templates.proofs.Common.{End, Hierarchy, IsIn, IsReady, Name, None, Option, Path, Placed, Reached, Some, Strung, Wire, [], at, body, connections_in, false, filter_map, is_composite, is_some, joined_by, leaves_in, length, map}
-use Rattle.adl_templates.proofs.Common.{option_and_then_some, option_map_or, port_in, reached, subst, sym, wire_of, wires_of, ℕ, ◌++◌, ◌∷◌, ◌≡◌, ◌≤◌}
+use Rattle.adl_templates.proofs.Common.{End, Hierarchy, IsIn, IsReady, List, Name, Option, Part, Placed, Reached, Some, Strung, [], ap, body, connections_in, connections_step, false, filter_map, flat_map, is_composite, joined_by, leaves_in}
+use Rattle.adl_templates.proofs.Common.{length, map, option_and_then_some, option_map_or, port_in, reached, strung, strung_by, subst, wire_of, ℕ, ◌++◌, ◌∙◌, ◌≡◌, ◌≤◌}
 use Rattle.adl_meaning.specs.Prelude.{Composition}
 use Rattle.adl_meaning.specs.Holding.{connections_in as lines_in}
+use Rattle.cam_base.proofs.Options.{is_none}
 use Rattle.adl_hierarchy.specs.Once.{IsOnce}
 use Rattle.adl_hierarchy.proofs.Climbing.{found_climbs}
 use Rattle.adl_hierarchy.proofs.Connections.{stands}
 use Rattle.adl_hierarchy.proofs.Leaves.{StandsIn, met}
 use Rattle.adl_hierarchy.proofs.Once.{paths_within_once}
-use Rattle.adl_hierarchy.proofs.PartsAt.{at_part, first_on, part_append, path_short, is_outer}
+use Rattle.adl_hierarchy.proofs.PartsAt.{at_part, part_append, path_short}
 
 -- ---- no leaf is met twice
 
@@ -38,21 +39,9 @@ joined_met h ready k x e r l i j =
 
 -- ---- a leaf's component has no connections
 
-no_wires : (o : Option Composition) (w : Wire) → is_some o ≡ false → IsIn w (filter_map wire_of (option_map_or lines_in o [])) → ⊥
-no_wires None w e i = i
-no_wires (Some k) w e i = cc
-
-pub composite_around : (h : Hierarchy) → IsReady h → (k : ℕ) (x : Strung) → IsIn x (connections_in h k) → is_composite h k ≡ false → ⊥
-composite_around h ready k x i c =
-    let there = stands h ready.once (length h.bodies) k x i in
-    by x.path there.0 there.1
-  where
-    by : (p : Path) → at h k p ≡ Some x.inside → IsIn x.wire (wires_of (body h x.inside)) → ⊥
-    by [] e w =
-        let s2 : k ≡ x.inside = cc in
-        let P : ℕ → Type 0 = λ m. IsIn x.wire (wires_of (body h m)) in
-        no_wires (body h k).composition x.wire c (subst P (sym s2) w)
-    by (n ∷ p) e w =
-        let f = first_on h k n p x.inside e in
-        let t = is_outer h ready.composed k n f.0 f.1 in
-        cc
+pub composite_around : (h : Hierarchy) → IsReady h → (k : ℕ) (x : Strung) → k ≤ length h.bodies → IsIn x (connections_in h k) → is_composite h k ≡ false → ⊥
+composite_around h ready k x l i c =
+    let P : List Strung → Type 0 = λ xs. IsIn x xs in
+    let inner : List Part → List Strung = λ ps. flat_map (strung_by (connections_in h)) ps in
+    subst P (connections_step h ready.finite k l
+    ∙ ap (λ (o : Option Composition). map (strung k) (filter_map wire_of (option_map_or lines_in o [])) ++ inner (body h k).parts) (is_none (body h k).composition c) ∙ ap inner (ready.composed k c)) i

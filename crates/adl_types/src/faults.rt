@@ -1,7 +1,7 @@
 //! The faults of types.
 
 ghost use Rattle.adl_meaning.specs.Prelude.{flat_map, least, noted, option_copied, option_map_or, top_number};
-ghost use Rattle.adl_types.specs.TypeFaults.{has_one_type, is_kind_of, agree, first_leaf, count_of, may_have, is_size, size_faults, wire_faults, type_faults_in};
+ghost use Rattle.adl_types.specs.TypeFaults.{is_kind_of, agree, count_of, may_have, size_faults, wire_faults, type_faults_in};
 ghost use Rattle.std.specs.Prelude.{◌≡◌, ◌≤◌, [], true};
 
 use adl_ast::{Component, End, Member, Role};
@@ -16,12 +16,6 @@ const DEFAULT_SIZE: u64 = 4096;
 
 /// The most bytes that a data port may have.
 const GREATEST_SIZE: u64 = 268_435_456;
-
-fn has_one_type(connector: Connector) -> bool
-    ensures { result ≡ has_one_type connector }
-{
-    connector != Connector::Interrupt
-}
 
 fn is_right(rule: EndRule, leaf: &Option<Leaf<'_>>) -> bool
     ensures { result ≡ option_map_or (is_kind_of rule) leaf.now true }
@@ -58,16 +52,6 @@ fn may_have(connector: Connector, ends: &[End]) -> bool
         && EndRule::of(connector, Role::To).allows(count_of(Role::To, ends))
 }
 
-fn first_leaf<'a>(program: &Program<'a>, number: u32, ends: &[End]) -> Option<Leaf<'a>>
-    requires { number ≤ top_number program.now }
-    ensures { result ≡ first_leaf program.now number ends.now }
-{
-    match ends {
-        [] => None,
-        [end, ..] => program.leaf(number, end.words.as_slice()),
-    }
-}
-
 /// Notes the faults of a connection in the body of the number.
 fn note_wire<'a>(program: &Program<'a>, number: u32, wire: &Wire<'a>, first: &mut Earliest<'a>)
     requires { number ≤ top_number program.now }
@@ -76,7 +60,10 @@ fn note_wire<'a>(program: &Program<'a>, number: u32, wire: &Wire<'a>, first: &mu
     let connector = wire.connector;
     let connection = wire.connection;
     let ends = connection.ends.as_slice();
-    let model = first_leaf(program, number, ends);
+    let model = match ends {
+        [] => None,
+        [end, ..] => program.leaf(number, end.words.as_slice()),
+    };
     for end in ends {
         let leaf = program.leaf(number, end.words.as_slice());
         let word = last_name(end.words.as_slice());
@@ -84,7 +71,7 @@ fn note_wire<'a>(program: &Program<'a>, number: u32, wire: &Wire<'a>, first: &mu
         first.note(!is_right, Code::Kind, end.place, word);
         let agrees = agree(&model, &leaf);
         first.note(
-            has_one_type(connector) && !agrees,
+            connector != Connector::Interrupt && !agrees,
             Code::TypeMismatch,
             end.place,
             word,
@@ -99,15 +86,6 @@ fn note_wire<'a>(program: &Program<'a>, number: u32, wire: &Wire<'a>, first: &mu
     );
 }
 
-fn is_size(size: Option<u64>) -> bool
-    ensures { result ≡ option_map_or is_size size true }
-{
-    match size {
-        None => true,
-        Some(size) => 1 <= size && size <= GREATEST_SIZE,
-    }
-}
-
 /// Notes the sizes that no memory has.
 fn note_sizes<'a>(component: Option<&'a Component>, first: &mut Earliest<'a>)
     ensures { first.new ≡ noted first.old
@@ -119,12 +97,10 @@ fn note_sizes<'a>(component: Option<&'a Component>, first: &mut Earliest<'a>)
     for member in component.members.as_slice() {
         if let Member::Interface(interface) = member {
             let name = &interface.id;
-            first.note(
-                !is_size(interface.size),
-                Code::TypeMismatch,
-                name.place,
-                name.name.as_bytes(),
-            );
+            let size = interface.size;
+            let is_size = size.is_none_or(|size| 1 <= size && size <= GREATEST_SIZE);
+            let word = name.name.as_bytes();
+            first.note(!is_size, Code::TypeMismatch, name.place, word);
         }
     }
 }

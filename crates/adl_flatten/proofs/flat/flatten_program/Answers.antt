@@ -1,10 +1,10 @@
-use Rattle.adl_flatten.proofs.Common.{Fault, Hierarchy, IfOk, IsFinite, IsReady, IsWithinLimits, Option, Refuses, ap, arith, first_join_fault, flattened, join_faults_in, least, option_or, sound_is_finite, subst, sym, top_number, totals_in, ◌∙◌, ◌≡◌}
+use Rattle.adl_flatten.proofs.Common.{Fault, Hierarchy, IfOk, IsReady, Option, Refuses, ap, arith, first_join_fault, flattened, join_faults_in, least, option_or, subst, sym, top_number, totals_in, ◌∙◌, ◌≡◌}
 use Rattle.adl_flatten.proofs.PassedLimits.{within_limits}
 use Rattle.adl_flatten.proofs.SoundReady.{sound_is_ready}
 use Rattle.adl_flatten.proofs.flat.flatten_program.Goals as goal
 
 pub assembly_totals-requires : goal.assembly_totals-requires
-assembly_totals-requires c = let P : Hierarchy → Type 0 = λ h. IsFinite h in subst P (sym c.requires.program) (sound_is_finite c.args.source.now c.requires.sound)
+assembly_totals-requires c = let P : Hierarchy → Type 0 = λ h. IsReady h in subst P (sym c.requires.program) (sound_is_ready c.args.source.now c.requires.sound c.requires.members)
 
 pub check_limits-requires-clause-totals : goal.check_limits-requires-clause-totals
 check_limits-requires-clause-totals c = let P : Hierarchy → Type 0 = λ h. c.in_ok-totals.totals ≡ totals_in h (top_number h) in subst P c.requires.program c.in_ok-totals.ensures
@@ -14,15 +14,24 @@ assembly_template-requires-clause-ready c = let P : Hierarchy → Type 0 = λ h.
 
 pub assembly_template-requires-clause-few : goal.assembly_template-requires-clause-few
 assembly_template-requires-clause-few c =
-    let P : Hierarchy → Type 0 = λ h. IsWithinLimits h in
-    let few = subst P (sym c.requires.program) (within_limits c.args.source.now c.requires.sound c.in_ok-check_limits.ensures) in
-    omega (arith, few.leaves_are)
+    let few = within_limits c.args.source.now c.args.program.now c.requires.sound c.in_ok-check_limits.ensures c.requires.program in
+    let n = few.0 in
+    omega (arith, n)
 
 pub flat_template-requires-clause-ready : goal.flat_template-requires-clause-ready
 flat_template-requires-clause-ready c = let P : Hierarchy → Type 0 = λ h. IsReady h in subst P (sym c.requires.program) (sound_is_ready c.args.source.now c.requires.sound c.requires.members)
 
-pub flat_template-requires-clause-small : goal.flat_template-requires-clause-small
-flat_template-requires-clause-small c = let P : Hierarchy → Type 0 = λ h. IsWithinLimits h in subst P (sym c.requires.program) (within_limits c.args.source.now c.requires.sound c.in_ok-check_limits.ensures)
+pub flat_template-requires-clause-leaves : goal.flat_template-requires-clause-leaves
+flat_template-requires-clause-leaves c =
+    let few = within_limits c.args.source.now c.args.program.now c.requires.sound c.in_ok-check_limits.ensures c.requires.program in
+    let n = few.0 in
+    omega (arith, n)
+
+pub flat_template-requires-clause-connections : goal.flat_template-requires-clause-connections
+flat_template-requires-clause-connections c =
+    let few = within_limits c.args.source.now c.args.program.now c.requires.sound c.in_ok-check_limits.ensures c.requires.program in
+    let n = few.1 in
+    omega (arith, n)
 
 pub returns-clause-fault : goal.returns-clause-fault
 returns-clause-fault c =

@@ -1,34 +1,41 @@
-use Rattle.adl_flatten.proofs.Common.{Hierarchy, Homed, List, [], all_met, ap, domain_to, domains, enumerate_from, firsts, home, home_in, home_number, leaf_of, leaves, map, placed, present, same_path, sym, template_leaves, top_number, ◌∙◌, ◌≡◌}
-use Rattle.adl_flatten.proofs.Homes.{present_homes, domains_are}
-use Rattle.adl_flatten.proofs.Templates.{placed_are, homes_are}
+use Rattle.adl_flatten.proofs.Common.{[], all_met, ap, append-nil, append_assoc, arith, drop, drop_first, home, leaf_in, map, pointed, sym, ◌++◌, ◌+◌, ◌∙◌, ◌∷◌}
+use Rattle.std.proofs.lemmas.List.{at_drop_all}
+use Rattle.adl_flatten.proofs.Homes.{domains_are, leaves_are, paths_are}
 use Rattle.adl_flatten.proofs.leaves.all_places.Goals as goal
 
-homes_in : (h : Hierarchy) (ls : List Homed) → ls ≡ template_leaves h (top_number h) → map (home_in h) ls ≡ map (home h) (leaves h)
-homes_in h ls e = ap (map (home_in h)) e ∙ homes_are h (leaves h)
-
-domains_in : (h : Hierarchy) (ls : List Homed) → ls ≡ template_leaves h (top_number h) → all_met [] (map (home_in h) ls) ≡ domains h
-domains_in h ls e = ap (λ z. firsts same_path (present z)) (homes_in h ls e) ∙ ap (firsts same_path) (present_homes h (leaves h))
-
-numbers_in : (h : Hierarchy) (ls : List Homed) → ls ≡ template_leaves h (top_number h)
-    → map (home_number (all_met [] (map (home_in h) ls))) (map (home_in h) ls) ≡ map (home_number (domains h)) (map (home h) (leaves h))
-numbers_in h ls e = ap (λ ds. map (home_number ds) (map (home_in h) ls)) (domains_in h ls e) ∙ ap (map (home_number (domains h))) (homes_in h ls e)
-
-pub flat_leaves-requires : goal.flat_leaves-requires
-flat_leaves-requires c =
+pub loop-leaf-preserved : goal.loop-leaf-preserved
+loop-leaf-preserved c =
     let h = c.args.program.now in
-    let e = c.requires.leaves in
-    c.as_slice-numbers.ensures.value ∙ c.in_ok-homes.ensures.numbers ∙ numbers_in h _ e
-    ∙ ap (λ xs. map (home_number (domains h)) (map (home h) xs)) (sym (ap (map placed) e ∙ placed_are h (top_number h) (leaves h)))
+    let leaves = c.args.leaves.now in
+    let i = c.loop-leaf.leaf-index in
+    let w = c.leaf-item.result in
+    let old = c.loop-leaf in
+    let f = leaf_in h (all_met [] (map (home h) leaves)) in
+    let rest = map (home h) (drop (i + 1) leaves) in
+    let first = sym (drop_first leaves i w c.loop-leaf-test.true c.leaf-item.is) in
+    let met = ap (λ ls. all_met (pointed old.paths.keys) (map (home h) ls)) first ∙ old.invariant.paths in
+    let leaf = c.in_ok-flat_leaf.ensures.leaf rest ∙ ap (λ ps. leaf_in h ps w) met in
+    record {
+      paths = c.in_ok-flat_leaf.ensures.paths rest ∙ met;
+      leaves =
+          ap (λ ls. ls ++ map f (drop (i + 1) leaves)) (c.in_ok-push.ensures.items ∙ ap (λ l. old.flat.items ++ l ∷ []) leaf) ∙ append_assoc old.flat.items (f w ∷ []) (map f (drop (i + 1) leaves))
+          ∙ ap (λ ls. old.flat.items ++ map f ls) first ∙ old.invariant.leaves;
+      count = let m = c.in_ok-flat_leaf.ensures.count in let n = old.invariant.count in omega arith;
+    }
 
 pub returns-clause-leaves : goal.returns-clause-leaves
 returns-clause-leaves c =
     let h = c.args.program.now in
-    c.in_ok-flat_leaves.ensures ∙ ap (map (leaf_of h)) (ap (map placed) c.requires.leaves ∙ placed_are h (top_number h) (leaves h))
+    let last = c.loop-leaf in
+    let f = leaf_in h (all_met [] (map (home h) c.args.leaves.now)) in
+    c.from_vec.ensures ∙ sym (append-nil last.flat.items) ∙ sym (at_drop_all (λ ls. last.flat.items ++ map f ls) c.args.leaves.now last.leaf-index c.loop-leaf-test.false) ∙ last.invariant.leaves ∙ leaves_are h c.args.leaves.now c.requires.leaves
 
 pub returns-clause-domains : goal.returns-clause-domains
 returns-clause-domains c =
     let h = c.args.program.now in
-    let e = c.requires.leaves in
-    let paths = c.as_slice.ensures.keys ∙ c.in_ok-homes.ensures.paths ∙ domains_in h _ e in
-    let numbers = c.as_slice-numbers.ensures.value ∙ c.in_ok-homes.ensures.numbers ∙ numbers_in h _ e in
-    c.in_ok-flat_domains.ensures ∙ ap (λ ps. map (domain_to c.as_slice-numbers.result.now) (enumerate_from 0 ps)) paths ∙ ap (λ ns. map (domain_to ns) (enumerate_from 0 (domains h))) numbers ∙ domains_are h
+    let last = c.loop-leaf in
+    let f = leaf_in h (all_met [] (map (home h) c.args.leaves.now)) in
+    let leaves = sym (append-nil last.flat.items) ∙ sym (at_drop_all (λ ls. last.flat.items ++ map f ls) c.args.leaves.now last.leaf-index c.loop-leaf-test.false) ∙ last.invariant.leaves ∙ leaves_are h c.args.leaves.now c.requires.leaves in
+    let keys = pointed last.paths.keys in
+    let paths = sym (append-nil keys) ∙ sym (at_drop_all (λ ls. all_met keys (map (home h) ls)) c.args.leaves.now last.leaf-index c.loop-leaf-test.false) ∙ last.invariant.paths ∙ paths_are h c.args.leaves.now c.requires.leaves in
+    c.in_ok-domains.ensures ∙ domains_are h _ _ (c.as_slice-2.ensures.value ∙ leaves) (ap pointed c.as_slice.ensures.keys ∙ paths)

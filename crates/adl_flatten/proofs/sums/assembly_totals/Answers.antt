@@ -1,5 +1,5 @@
 use Rattle.adl_flatten.proofs.Common.{all_filled, ap, arith, filled_more, get_or, inner_filled, kind_in, length, order_below, ◌∙◌}
-use Rattle.adl_flatten.proofs.Totals.{IsTotal}
+use Rattle.adl_flatten.proofs.Totals.{IsTotal, body_is}
 use Rattle.adl_flatten.proofs.sums.assembly_totals.Goals as goal
 
 pub body_totals-totals-requires-clause-number : goal.body_totals-totals-requires-clause-number
@@ -9,15 +9,8 @@ pub body_totals-totals-requires-clause-within : goal.body_totals-totals-requires
 body_totals-totals-requires-clause-within c = λ x m.
     let h = c.args.program.now in
     let i = c.loop-number.number-index in
-    let l = order_below h c.order-number-items.result.now i c.order-number-items.ensures c.loop-number-test.true in
-    let k = kind_in h c.requires (get_or c.order-number-items.result.now i 0) x l m in
+    let k = kind_in h c.requires.finite (get_or c.order-number-items.result.now i 0) x (order_below h c.order-number-items.result.now i c.order-number-items.ensures c.loop-number-test.true) m in
     rw (c.as_slice.ensures.value, c.loop-number.invariant.length_is) (omega arith)
-
-pub body_totals-totals-requires-clause-known : goal.body_totals-totals-requires-clause-known
-body_totals-totals-requires-clause-known c = λ x m t.
-    let h = c.args.program.now in
-    let i = c.loop-number.number-index in
-    ap (λ all. get_or all x.kind t) c.as_slice.ensures.value ∙ c.loop-number.invariant.each x.kind t (inner_filled h c.order-number-items.result.now i x c.order-number-items.ensures c.loop-number-test.true m)
 
 pub index_mut-requires : goal.index_mut-requires
 index_mut-requires c =
@@ -26,7 +19,12 @@ index_mut-requires c =
 
 pub loop-number-preserved : goal.loop-number-preserved
 loop-number-preserved c =
-    filled_more (IsTotal c.args.program.now) c.args.program.now c.order-number-items.result.now c.loop-number.all.items c.loop-number.number-index c.body_totals-totals.result c.order-number-items.ensures c.loop-number-test.true c.loop-number.invariant c.body_totals-totals.ensures
+    let h = c.args.program.now in
+    let order = c.order-number-items.result.now in
+    let i = c.loop-number.number-index in
+    filled_more (IsTotal h) h order c.loop-number.all.items i c.body_totals-totals.result c.order-number-items.ensures c.loop-number-test.true c.loop-number.invariant
+    (c.body_totals-totals.ensures ∙ body_is h c.requires.finite (get_or order i 0) (order_below h order i c.order-number-items.ensures c.loop-number-test.true) c.as_slice.result.now
+    (λ x m t. ap (λ all. get_or all x.kind t) c.as_slice.ensures.value ∙ c.loop-number.invariant.each x.kind t (inner_filled h order i x c.order-number-items.ensures c.loop-number-test.true m)))
 
 pub returns : goal.returns
 returns c =

@@ -1,7 +1,10 @@
-use Rattle.adl_settings.proofs.Common.{◌∙◌, ap, noted_each, noted, badges_twice_in}
+use Rattle.adl_settings.proofs.Common.{◌∙◌, ◌+◌, ◌++◌, sym, ap, drop, drop_first, flat_map, noted, badge_twice_at, badges_twice_in, is_repeated}
 use Rattle.adl_settings.proofs.twice.note_badges_twice.Goals as goal
 
-pub loop-connection-preserved : goal.loop-connection-preserved
-loop-connection-preserved c =
-    noted_each badges_twice_in _ _ c.args.connections.now c.loop-connection.connection-index c.connection-item.result c.loop-connection-test.true c.connection-item.is
-    (c.in_ok-note_badges.ensures ∙ ap (λ es. noted c.loop-connection.first (badges_twice_in es)) c.as_slice.ensures) ∙ c.loop-connection.invariant
+pub loop-end-init : goal.loop-end-init
+loop-end-init c =
+    let first = c.loop-connection.first in
+    let rest = flat_map badges_twice_in (drop (c.loop-connection.connection-index + 1) c.args.connections.now) in
+    let twice = c.in_ok-twice.ensures ∙ ap is_repeated (c.as_slice.ensures.value ∙ c.in_ok-badges.ensures) in
+    (λ i. noted first (flat_map (badge_twice_at (twice i)) c.as_slice-ends.result.now ++ rest)) ∙ ap (λ es. noted first (badges_twice_in es ++ rest)) c.as_slice-ends.ensures
+    ∙ ap (λ z. noted first (flat_map badges_twice_in z)) (sym (drop_first c.args.connections.now c.loop-connection.connection-index c.connection-item.result c.loop-connection-test.true c.connection-item.is)) ∙ c.loop-connection.invariant

@@ -10,5 +10,5 @@ loop-number-preserved c =
     c.contains_key-is_met.ensures c.in_ok-insert.ensures.updates.0
 
 pub returns : goal.returns
-returns c = λ n.
-    ap (λ o. unwrap_or o false) (c.loop-number.invariant n) ∙ told_repeated _ ∙ ap (λ xs. is_repeated xs n) (take_all c.loop-number.number-index c.args.numbers.now c.loop-number-test.false)
+returns c = λ i n.
+    (ap (λ o. unwrap_or o false) (c.loop-number.invariant n) ∙ told_repeated _ ∙ ap (λ xs. is_repeated xs n) (take_all c.loop-number.number-index c.args.numbers.now c.loop-number-test.false)) i
