@@ -27,7 +27,7 @@ returns-in-Some-clause-found g c = λ n.
     let key = c.as_bytes-bytes.result.now in
     put_many c.self.inside.few.items _ c.args.self.now c.self.view_is c.put_hashed.new.entries.entries (key, c.args.value)
     (λ q. c.in_ok-met.ensures.found q ∙ ap (λ m. option_or (found m.entries q) (found ((key, c.args.value) ∷ []) q)) c.deref_mut.ensures.value
-      ∙ ap (λ o. option_or (found (option_map_or (λ b. b.value.entries) o []) q) (found ((key, c.args.value) ∷ []) q)) (sym c.in-Some.is)) n
+    ∙ ap (λ o. option_or (found (option_map_or (λ b. b.value.entries) o []) q) (found ((key, c.args.value) ∷ []) q)) (sym c.in-Some.is)) n
     ∙ ap (λ k. option_or (found c.args.self.now n) (found ((k, c.args.value) ∷ []) n)) c.as_bytes-bytes.ensures.bytes
 
 pub returns-then-len-lt-FEW-clause-found : goal.returns-then-len-lt-FEW-clause-found
@@ -42,5 +42,5 @@ returns-clause-found g c = λ n.
     ap (λ m. found (c.self.inside.few.items ++ m.entries) n) c.in_ok-new.ensures.ok
     ∙ put_many c.self.inside.few.items _ c.args.self.now c.self.view_is c.put_hashed-2.new.entries.entries (key, c.args.value)
     (λ q. c.in_ok-put_hashed.ensures.found q ∙ ap (λ es. option_or (found es q) (found ((key, c.args.value) ∷ []) q)) c.new-many.ensures.empty
-      ∙ ap (λ o. option_or (found (option_map_or (λ b. b.value.entries) o []) q) (found ((key, c.args.value) ∷ []) q)) (sym c.in_default.is)) n
+    ∙ ap (λ o. option_or (found (option_map_or (λ b. b.value.entries) o []) q) (found ((key, c.args.value) ∷ []) q)) (sym c.in_default.is)) n
     ∙ ap (λ k. option_or (found c.args.self.now n) (found ((k, c.args.value) ∷ []) n)) c.as_bytes-bytes.ensures.bytes
