@@ -1,6 +1,5 @@
 pub mod BodyLists
 pub mod Common
-pub mod Filling
 pub mod KindLists
 pub mod PortSets
 pub mod Recurring

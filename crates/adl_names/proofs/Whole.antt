@@ -1,11 +1,5 @@
--- From the passes over sorted items to the faults of a source.
-use Rattle.adl_names.proofs.Common.{names_sound, first_name_fault, ◌≡◌, ◌<◌, List, length, [], ◌∷◌, map, None, sym, ◌∙◌, ap, arith, get_or, Fault, Source, noted, ItemAt, located, Located, Assembly, least, noted-append, noted-none, assemblies, one_assembly}
-
--- what is noted from nothing, list by list, is the first fault of all
-pub least-noted : (xs : List Fault) → least xs ≡ noted None xs
-least-noted xs = sym (noted-none xs)
-
-pub ruleset noting = (noted-append, least-noted)
+-- The assembly of a source without faults of names.
+use Rattle.adl_names.proofs.Common.{names_sound, first_name_fault, ◌≡◌, ◌<◌, List, length, [], ◌∷◌, map, None, sym, ◌∙◌, ap, arith, get_or, Source, ItemAt, located, Located, Assembly, assemblies, one_assembly}
 
 -- where no fault of names is first there is one assembly, the first
 pub the_assembly : (xs : List (Located Assembly)) (s : Source) → map located xs ≡ assemblies s → first_name_fault s ≡ None → (0 < length xs) × ((d : Located Assembly) → map (λ a. a.0) (assemblies s) ≡ (get_or xs 0 d).at ∷ [])

@@ -1,7 +1,8 @@
 -- The items of a source, with what the names in them stand for.
 use Rattle.adl_names.specs.Words.{find, enumerate_from, slice_get, option_and_then, option_copied, option_map_or, Bor, bytes_eq, Component, Item, Source, Name, items_of, component_of, Known, known_of, is_procedure, found}
-use Rattle.std.specs.Prelude.{◌≡◌, ℕ, Bool, false, List, Option, Some, None, is_some, map, option_map}
+use Rattle.std.specs.Prelude.{◌≡◌, ℕ, Bool, false, List, Option, Some, None, map, option_map}
 use Rattle.adl_ast.specs.declared.file.Item.TheVariants as items
+use Rattle.adl_names.specs.Tables.{has_name}
 use Rattle.adl_names.specs.declared.bodies.Body.{Body}
 use Rattle.adl_names.specs.declared.bodies.Body.TheVariants as body
 
@@ -13,9 +14,7 @@ item_of (body.Assembly a k) = items.Assembly (record { place = a.now.place; id =
 
 abbrev pub item_component : Item → Option Component
 item_component (items.Component c) = Some c
-item_component (items.Import i) = None
-item_component (items.Procedure p) = None
-item_component (items.Assembly a) = None
+item_component _ = None
 
 abbrev pub is_named : Name → Item → Bool
 is_named n x = option_map_or (λ c. bytes_eq n c.id.name) (item_component x) false
@@ -24,15 +23,15 @@ is_named n x = option_map_or (λ c. bytes_eq n c.id.name) (item_component x) fal
 abbrev pub item_number : List Item → Name → Option ℕ
 item_number xs n = option_map (λ x. x.0) (find (λ x. is_named n x.1) (enumerate_from 0 xs))
 
--- the component of a number among bodies
-abbrev pub component_at : List Body → Option ℕ → Option Component
-component_at bodies number = option_and_then (λ k. option_and_then (λ b. item_component (item_of b)) (slice_get bodies k)) number
+-- the component of a number among items
+abbrev pub component_at : List Item → Option ℕ → Option Component
+component_at xs number = option_and_then (λ k. option_and_then item_component (slice_get xs k)) number
 
 -- the tables tell what the names of a source stand for
 pub record AreKnown (bodies : List Body) (numbers : List (Name × ℕ)) (procedures : List (Name × Unit {0})) (s : Source) : Type 0 where
   pub items_are : map item_of bodies ≡ map (λ x. x.1) (items_of s)
-  pub components : (n : Name) → component_at bodies (found numbers n) ≡ component_of s n
-  pub are_procedures : (n : Name) → is_some (found procedures n) ≡ is_procedure s n
+  pub components : (n : Name) → component_at (map (λ x. x.1) (items_of s)) (found numbers n) ≡ component_of s n
+  pub are_procedures : (n : Name) → has_name procedures n ≡ is_procedure s n
 
 -- what is known of the component that has a composition; an assembly is none
 abbrev pub owner_of : Option (Bor Component) → Option Known

@@ -1,16 +1,8 @@
 pub mod Bodies
-pub mod Laters
 pub mod Ports
 pub mod Scopes
 pub mod Tables
 pub mod Words
-pub use Rattle.adl_meaning.specs.CompositeBody
-pub use Rattle.adl_meaning.specs.Export
 pub use Rattle.adl_meaning.specs.Faults
-pub use Rattle.adl_meaning.specs.Holding
 pub use Rattle.adl_meaning.specs.Items
-pub use Rattle.adl_meaning.specs.Known
-pub use Rattle.adl_meaning.specs.Members
 pub use Rattle.adl_meaning.specs.NameFaults
-pub use Rattle.adl_meaning.specs.Recursive
-pub use Rattle.adl_meaning.specs.Unknown

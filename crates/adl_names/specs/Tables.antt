@@ -1,5 +1,5 @@
 -- What tables of trees tell, as definitions speak of it.
-use Rattle.adl_names.specs.Words.{BuildHasherDefault, FoldHasher, IndexMap, ItemAt, slice_get, Component, Composition, an_instance, a_group, a_connection, held_as, member_of, is_exported, Name, compositions, declared_as, is_among, found, declaring_told, Declared, Bor, Group, Instance}
+use Rattle.adl_names.specs.Words.{BuildHasherDefault, FoldHasher, IndexMap, ItemAt, slice_get, Component, Composition, an_instance, a_group, a_connection, held_as, is_exported, Name, compositions, declared_as, is_among, found, declaring_told, Declared, Bor, Instance}
 use Rattle.std.specs.Prelude.{◌≡◌, Bool, List, Option, is_some, map, option_map}
 use Rattle.adl_meaning.specs.Holding as holding
 use Rattle.adl_names.specs.declared.tables.Held.{Held}
@@ -9,12 +9,9 @@ use Rattle.adl_names.specs.declared.tables.Held.TheVariants as held
 abbrev pub members_told : List (Name × Bor Instance) → Name → Option Instance
 members_told table n = option_map (λ r. r.now) (found table n)
 
-abbrev pub AreMembers : List (Name × Bor Instance) → Group → Type 0
-AreMembers table g = (n : Name) → members_told table n ≡ member_of g n
-
 abbrev pub held_told : Held → holding.Held
 held_told (held.Instance r) = an_instance r.now
-held_told (held.Group g) = a_group (member_of g)
+held_told (held.Group t) = a_group (members_told t)
 held_told held.Connection = a_connection
 
 -- whether a table has the name

@@ -13,13 +13,13 @@ pub use Rattle.adl_meaning.specs.CompositeBody.{composite_bodies, is_composite, 
 pub use Rattle.adl_meaning.specs.Duplicate.{again, duplicates, duplicates_in_component, duplicates_in_composition, duplicates_in_item, duplicates_in_procedure, repeats, repeats_after}
 pub use Rattle.adl_meaning.specs.Export.{differs, export_fault, inner_of, interface_at, is_port, misfit_exports, misfits_after, misfits_in_item}
 pub use Rattle.adl_meaning.specs.Faults.{at_keyword}
-pub use Rattle.adl_meaning.specs.Items.{Rises, component_named, component_of, procedure_named, procedures}
+pub use Rattle.adl_meaning.specs.Items.{Rises, component_named, component_of, components, procedure_named, procedures}
 pub use Rattle.adl_meaning.specs.Known.{is_exported}
 pub use Rattle.adl_meaning.specs.Members.{attribute_of, configurations, declared_in}
 pub use Rattle.adl_meaning.specs.NoAssembly.{none_of}
 pub use Rattle.adl_meaning.specs.Recursive.{graph_of, instances_of, recursive_in, recursive_types, types_of}
 pub use Rattle.adl_meaning.specs.SecondAssembly.{second_of}
-pub use Rattle.adl_meaning.specs.Unknown.{is_procedure, names_procedure, scope_behind, scope_of_held, scope_of_known, unknown_attribute, unknown_in_configuration, unknown_in_dotted, unknown_in_item, unknown_in_line, unknown_in_member, unknown_in_setting, unknown_inner, unknown_names, unknown_word}
+pub use Rattle.adl_meaning.specs.Unknown.{is_procedure, names_procedure, scope_behind, scope_of_held, scope_of_known, unknown_attribute, unknown_in_configuration, unknown_in_dotted, unknown_in_item, unknown_in_line, unknown_in_member, unknown_in_setting, unknown_inner, unknown_names}
 pub use Rattle.indexmap.specs.IndexMap.{IndexMap, get}
 pub use Rattle.name_tables.specs.ByName.{found, is_among}
 pub use Rattle.std.specs.Borrow.{Bor}

@@ -1,13 +1,14 @@
 //! The items of a source, with what the names in them stand for.
 
-ghost use Rattle.adl_names.specs.Words.{Fault, as_component, trees, repeats, duplicates, duplicates_in_item, noted, items_of, procedures, component_of, is_procedure, located, found, filter_map, flat_map, find, option_copied, bytes_eq};
-ghost use Rattle.std.specs.Prelude.{◌≡◌, ◌++◌, ℕ, List as Seq, map, option_map, IfOk, OnOk};
+ghost use Rattle.adl_names.specs.Words.{Fault, repeats, duplicates, duplicates_in_item, noted, items_of, components, procedures, component_of, is_procedure, found, flat_map, option_copied};
+ghost use Rattle.std.specs.Prelude.{◌≡◌, ◌++◌, ℕ, List as Seq, map, IfOk, OnOk};
 ghost use Rattle.adl_names.specs.Bodies.{item_of, item_number};
+ghost use Rattle.adl_names.specs.Tables.{has_name};
 
 use crate::repeats::{note_procedure, put};
 use crate::tables::{ComponentTable, Holding};
 use adl_ast::{Assembly, Import, Item, Procedure, Source};
-use adl_items::{Located, SourceItems};
+use adl_items::SourceItems;
 use adl_meaning::Earliest;
 use cam_base::{Name, NoMemory};
 use name_tables::NameTable;
@@ -78,14 +79,14 @@ fn body_of<'a>(
 /// Items with what the names in them stand for. Notes what stands twice within each item.
 fn bodies<'a>(
     alloc: Global,
-    items: &[Located<'a, Item>],
+    items: &SourceItems<'a>,
     first: &mut Earliest<'a>,
 ) -> Result<Vec<Body<'a>>, NoMemory>
-    ensures noted { OnOk result (first.new ≡ noted first.old (flat_map (λ x. duplicates_in_item x.1) (map located items.now))) }
-    ensures bodies { IfOk result (λ v. map item_of v.items ≡ trees items.now) }
+    ensures noted { OnOk result (first.new ≡ noted first.old (flat_map (λ x. duplicates_in_item x.1) (items_of items.now))) }
+    ensures bodies { IfOk result (λ v. map item_of v.items ≡ map (λ x. x.1) (items_of items.now)) }
 {
     let mut bodies = Vec::new(alloc);
-    for x in items {
+    for x in items.items() {
         bodies.push(body_of(alloc, x.item, first)?)?;
     }
     Ok(bodies)
@@ -94,15 +95,15 @@ fn bodies<'a>(
 /// The number of the first component of each name among the items. Notes those that stand twice.
 fn numbers<'a>(
     alloc: Global,
-    items: &[Located<'a, Item>],
+    items: &SourceItems<'a>,
     first: &mut Earliest<'a>,
 ) -> Result<NameTable<'a, usize>, NoMemory>
-    ensures noted { OnOk result (first.new
-        ≡ noted first.old (repeats (map (λ c. c.1.id) (filter_map as_component (map located items.now))))) }
-    ensures numbers { IfOk result (λ t. (n : Seq ℕ) → found t n ≡ item_number (trees items.now) n) }
+    ensures noted { OnOk result (first.new ≡ noted first.old (repeats (map (λ c. c.1.id) (components items.now)))) }
+    ensures numbers { IfOk result (λ t. (n : Seq ℕ) → found t n ≡ item_number (map (λ x. x.1) (items_of items.now)) n) }
 {
-    let mut numbers = NameTable::with_room(alloc, items.len())?;
-    for (number, x) in items.iter().enumerate() {
+    let all = items.items();
+    let mut numbers = NameTable::with_room(alloc, all.len())?;
+    for (number, x) in all.iter().enumerate() {
         if let Item::Component(it) = x.item {
             put(&it.id, number, &mut numbers, first)?;
         }
@@ -113,15 +114,14 @@ fn numbers<'a>(
 /// The names of procedures. Notes those that stand twice.
 fn procedure_names<'a>(
     alloc: Global,
-    procedures: &[Located<'a, Procedure>],
+    items: &SourceItems<'a>,
     first: &mut Earliest<'a>,
 ) -> Result<NameTable<'a, ()>, NoMemory>
-    ensures noted { OnOk result (first.new ≡ noted first.old (repeats (map (λ p. p.1.id) (map located procedures.now)))) }
-    ensures names { IfOk result (λ t. (n : Seq ℕ) → found t n
-        ≡ option_map (λ p. tt) (find (λ p. bytes_eq n p.1.id.name) (map located procedures.now))) }
+    ensures noted { OnOk result (first.new ≡ noted first.old (repeats (map (λ p. p.1.id) (procedures items.now)))) }
+    ensures names { IfOk result (λ t. (n : Seq ℕ) → has_name t n ≡ is_procedure items.now n) }
 {
     let mut names = NameTable::new(alloc);
-    for x in procedures {
+    for x in items.procedures() {
         put(&x.item.id, (), &mut names, first)?;
     }
     Ok(names)
@@ -137,9 +137,9 @@ impl<'a> SourceTables<'a> {
         ensures noted { OnOk result (first.new ≡ noted first.old (duplicates items.now)) }
         ensures tables { IfOk result (λ t. t ≡ items.now) }
     {
-        let procedures = procedure_names(alloc, items.procedures(), first)?;
-        let components = numbers(alloc, items.items(), first)?;
-        let bodies = bodies(alloc, items.items(), first)?;
+        let procedures = procedure_names(alloc, items, first)?;
+        let components = numbers(alloc, items, first)?;
+        let bodies = bodies(alloc, items, first)?;
         Ok(SourceTables {
             source: items.source(),
             bodies,
@@ -149,6 +149,7 @@ impl<'a> SourceTables<'a> {
     }
 
     /// The first component of the name.
+    #[tactic(auto, using(crate::proofs::BodyLists::body_at))]
     pub fn component(&self, name: &Name) -> Option<&ComponentTable<'a>>
         ensures { option_copied result ≡ component_of self.now name.now }
     {

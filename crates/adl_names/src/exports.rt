@@ -42,7 +42,7 @@ fn port_of<'a>(holding: &Holding<'a>, words: &'a [Id]) -> Option<Port<'a>>
             Held::Group(_) | Held::Connection => return None,
         },
         [name, member, last] => match holding.get(&name.name)? {
-            Held::Group(members) => (members.get(&member.name)?, last),
+            Held::Group(members) => (*members.get(&member.name)?, last),
             Held::Instance(_) | Held::Connection => return None,
         },
         _ => return None,
@@ -192,6 +192,7 @@ fn note_composition<'a>(
 }
 
 /// Notes the exports of a source that fit no interface, and the ports that no export gives.
+#[tactic(auto, using(std::proofs::lemmas::Grind::common_steps, crate::proofs::BodyLists::walks))]
 pub fn note_misfits<'a>(
     alloc: Global,
     tables: &SourceTables<'a>,

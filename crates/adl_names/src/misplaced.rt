@@ -1,6 +1,6 @@
 //! Members that a composite, a device or a plain component can't have.
 
-ghost use Rattle.adl_names.specs.Words.{is_composite, is_composition, misplaced_member, composite_bodies, noted};
+ghost use Rattle.adl_names.specs.Words.{is_composite, is_composition, composite_bodies, noted};
 ghost use Rattle.std.specs.Prelude.{◌≡◌};
 
 use crate::bodies::{Body, SourceTables};
@@ -25,19 +25,8 @@ fn is_composite(component: &Component) -> bool
         .any(|m| is_composition(m))
 }
 
-fn note_member<'a>(composite: bool, device: bool, member: &'a Member, first: &mut Earliest<'a>)
-    ensures { first.new ≡ noted first.old (misplaced_member composite device member.entry.now) }
-{
-    match member {
-        Member::Control(place) => first.note(composite || device, Code::CompositeBody, *place, b""),
-        Member::Hardware(place) => first.note(composite, Code::CompositeBody, *place, b""),
-        Member::Lock(it) => first.note(composite || device, Code::CompositeBody, it.id.place, b""),
-        Member::Configuration(it) => first.note(!composite, Code::CompositeBody, it.place, b""),
-        _ => (),
-    }
-}
-
 /// Notes the misplaced members of all components.
+#[tactic(auto, using(std::proofs::lemmas::Grind::common_steps, crate::proofs::BodyLists::walks))]
 pub fn note_misplaced<'a>(tables: &SourceTables<'a>, first: &mut Earliest<'a>)
     ensures { first.new ≡ noted first.old (composite_bodies tables.now) }
 {
@@ -46,7 +35,14 @@ pub fn note_misplaced<'a>(tables: &SourceTables<'a>, first: &mut Earliest<'a>)
             let composite = is_composite(table.component);
             let device = is_device(table.component);
             for member in table.component.members.as_slice() {
-                note_member(composite, device, member, first);
+                let (is_wrong, place) = match member {
+                    Member::Control(place) => (composite || device, *place),
+                    Member::Hardware(place) => (composite, *place),
+                    Member::Lock(it) => (composite || device, it.id.place),
+                    Member::Configuration(it) => (!composite, it.place),
+                    _ => continue,
+                };
+                first.note(is_wrong, Code::CompositeBody, place, b"");
             }
         }
     }

@@ -1,7 +1,7 @@
 //! What the names of a source stand for, or the first fault of names.
 
-ghost use Rattle.adl_names.specs.Words.{noted, Refuses, assemblies, procedure_named, component_named, AreFew, Rises, first_name_fault, second_of, none_of, located, get, option_or, bytes_eq};
-ghost use Rattle.std.specs.Prelude.{◌≡◌, ◌⊎◌, ◌∷◌, ◌++◌, ℕ, List as Seq, [], None, Some, if◌then◌else◌, map, option_map, OnOk, IfOk};
+ghost use Rattle.adl_names.specs.Words.{ItemAt as At, noted, Refuses, assemblies, procedure_named, component_named, AreFew, Rises, first_name_fault, second_of, none_of, located, get, option_or, bytes_eq};
+ghost use Rattle.std.specs.Prelude.{◌≡◌, ◌∷◌, ◌++◌, ℕ, List as Seq, [], None, Some, if◌then◌else◌, map, option_map, OnOk, IfOk};
 ghost use Rattle.adl_names.specs.Tables.{table_places};
 
 use crate::bodies::SourceTables;
@@ -9,9 +9,9 @@ use crate::exports::note_misfits;
 use crate::misplaced::note_misplaced;
 use crate::recursion::note_recursive;
 use crate::unknown::note_unknown;
-use adl_ast::{Assembly, Item, Source};
+use adl_ast::{Assembly, Source};
 use adl_items::{Located, Names, SourceItems};
-use adl_meaning::{Earliest, ItemAt};
+use adl_meaning::{Earliest, ItemAt, noted_is_least};
 use cam_base::{Code, Fault, Name, NoMemory, Place, Refused};
 use indexmap::IndexMap;
 use std::alloc::Global;
@@ -34,10 +34,10 @@ fn note_assemblies<'a>(assemblies: &[Located<'a, Assembly>], first: &mut Earlies
 }
 
 /// The first fault of names that stands in a source.
-#[tactic(auto, using(crate::proofs::Whole::noting))]
 fn first_fault<'a>(alloc: Global, items: &SourceItems<'a>) -> Result<Earliest<'a>, NoMemory>
     ensures { IfOk result (λ first. first ≡ first_name_fault items.now) }
 {
+    noted_is_least();
     let mut first = Earliest::none();
     note_assemblies(items.assemblies(), &mut first);
     let tables = SourceTables::of(alloc, items, &mut first)?;
@@ -57,8 +57,8 @@ fn add_place(
 ) -> Result<(), NoMemory>
     ensures first { OnOk result ((n : Seq ℕ) → get bytes_eq table.new n
         ≡ option_or (get bytes_eq table.old n) (if bytes_eq n name.now then Some at else None)) }
-    ensures places { OnOk result ((table_places table.new ≡ table_places table.old)
-        ⊎ (table_places table.new ≡ table_places table.old ++ at ∷ [])) }
+    ensures rises { OnOk result ((more : Seq At) → Rises (table_places table.old ++ at ∷ more)
+        → Rises (table_places table.new ++ more)) }
 {
     if !table.contains_key(name) {
         table.insert(name.copy(alloc)?, at)?;
@@ -100,14 +100,12 @@ pub fn resolve(alloc: Global, source: &Source) -> Result<Names, Refused<Fault>>
     first_fault(alloc, &items)?.refuse(alloc)?;
     let assembly = items.assemblies()[0].at;
     let mut procedures = IndexMap::new(alloc);
+    for x in items.procedures() {
+        add_place(alloc, &x.item.id.name, x.at, &mut procedures)?;
+    }
     let mut components = IndexMap::new(alloc);
-    for x in items.items() {
-        match x.item {
-            Item::Import(_) => (),
-            Item::Procedure(it) => add_place(alloc, &it.id.name, x.at, &mut procedures)?,
-            Item::Component(it) => add_place(alloc, &it.id.name, x.at, &mut components)?,
-            Item::Assembly(_) => (),
-        }
+    for y in items.components() {
+        add_place(alloc, &y.item.id.name, y.at, &mut components)?;
     }
     Ok(Names {
         procedures,

@@ -1,8 +1,7 @@
 //! Instances whose type is the component that they stand in, or holds it.
 
-ghost use Rattle.adl_names.specs.Words.{Fault, trees, pointed, noted, instances_of, types_of, graph_of, recursive_in, recursive_types, found, flat_map, enumerate_from};
-ghost use Rattle.std.specs.Prelude.{◌≡◌, ◌<◌, ◌^◌, ◌++◌, List as Seq, length, IfOk, OnOk};
-ghost use Rattle.adl_meaning.specs.Prelude.{inner_of};
+ghost use Rattle.adl_names.specs.Words.{trees, pointed, noted, instances_of, types_of, graph_of, recursive_in, recursive_types, found, flat_map, enumerate_from};
+ghost use Rattle.std.specs.Prelude.{◌≡◌, ◌<◌, ◌^◌, length, IfOk, OnOk};
 
 use adl_ast::{Component, Instance, Member};
 use adl_items::{Located, SourceItems, component_numbers, instances_by};
@@ -62,31 +61,6 @@ fn graph_of(
     Ok(graph)
 }
 
-/// Notes the instances of the component of a number whose type is that component or holds it.
-fn note_component<'a>(
-    alloc: Global,
-    numbers: &NameTable<'_, u32>,
-    cycles: &Cycles,
-    number: u32,
-    component: &'a Component,
-    first: &mut Earliest<'a>,
-) -> Result<(), NoMemory>
-    requires number { number < length cycles.now }
-    requires types { inner_of cycles.now number ≡ types_of (found numbers.now) component.now }
-    ensures { OnOk result ((more : Seq Fault) → noted first.new more
-        ≡ noted first.old (recursive_in (found numbers.now) cycles.now number component.entry.now ++ more)) }
-{
-    let instances = instances(alloc, component)?;
-    for instance in instances.as_slice() {
-        let word = &instance.component;
-        if let Some(inner) = numbers.get(&word.name) {
-            let held = cycles.holds_back(alloc, number, *inner)?;
-            first.note(held, Code::Recursive, word.place, word.name.as_bytes());
-        }
-    }
-    Ok(())
-}
-
 fn note_each<'a>(
     alloc: Global,
     numbers: &NameTable<'_, u32>,
@@ -100,7 +74,14 @@ fn note_each<'a>(
         (flat_map (λ x. recursive_in (found numbers.now) cycles.now x.0 x.1) (enumerate_from 0 (trees components.now)))) }
 {
     for (i, x) in components.iter().enumerate() {
-        note_component(alloc, numbers, cycles, i as u32, x.item, first)?;
+        let instances = instances(alloc, x.item)?;
+        for instance in instances.as_slice() {
+            let word = &instance.component;
+            if let Some(inner) = numbers.get(&word.name) {
+                let held = cycles.holds_back(alloc, i as u32, *inner)?;
+                first.note(held, Code::Recursive, word.place, word.name.as_bytes());
+            }
+        }
     }
     Ok(())
 }

@@ -1,10 +1,10 @@
 //! Later ones of equal names, and second compositions and configurations.
 
-ghost use Rattle.adl_names.specs.Words.{Fault, Id as Word, again, repeats, repeats_after, duplicates_in_procedure, noted, compositions, configurations, found, option_or};
+ghost use Rattle.adl_names.specs.Words.{Id as Word, again, repeats_after, duplicates_in_procedure, noted, compositions, configurations, found, option_or};
 ghost use Rattle.std.specs.Prelude.{◌≡◌, ◌∷◌, ◌++◌, [], ℕ, List as Seq, map, OnOk};
 ghost use Rattle.adl_names.specs.Tables.{has_name};
 
-use adl_ast::{Component, Id, Member, Param, ProcMember, Procedure};
+use adl_ast::{Component, Id, Member, ProcMember, Procedure};
 use adl_meaning::Earliest;
 use cam_base::{Code, NoMemory};
 use name_tables::NameTable;
@@ -28,21 +28,6 @@ pub fn put<'a, V: Drop>(
     Ok(())
 }
 
-fn note_params<'a>(
-    alloc: Global,
-    params: &'a [Param],
-    first: &mut Earliest<'a>,
-) -> Result<(), NoMemory>
-    ensures { OnOk result ((more : Seq Fault) → noted first.new more
-        ≡ noted first.old (repeats (map (λ a. a.id) params.entry.now) ++ more)) }
-{
-    let mut met = NameTable::new(alloc);
-    for param in params {
-        put(&param.id, (), &mut met, first)?;
-    }
-    Ok(())
-}
-
 /// Notes the later ones of a procedure's methods and of their parameters.
 pub fn note_procedure<'a>(
     alloc: Global,
@@ -59,33 +44,31 @@ pub fn note_procedure<'a>(
     }
     for part in procedure.members.as_slice() {
         if let ProcMember::Method(method) = part {
-            note_params(alloc, method.params.as_slice(), first)?;
+            let mut taken = NameTable::new(alloc);
+            for param in method.params.as_slice() {
+                put(&param.id, (), &mut taken, first)?;
+            }
         }
     }
     Ok(())
 }
 
-/// Notes each composition of a component but the first.
-pub fn note_compositions<'a>(component: &'a Component, first: &mut Earliest<'a>)
-    ensures { first.new ≡ noted first.old (again (map (λ k. k.place) (compositions component.entry.now))) }
+/// Notes each composition of a component but the first, and each configuration but the first.
+pub fn note_again<'a>(component: &'a Component, first: &mut Earliest<'a>)
+    ensures { first.new ≡ noted first.old (again (map (λ k. k.place) (compositions component.entry.now))
+        ++ again (map (λ f. f.place) (configurations component.entry.now))) }
 {
     let mut is_later = false;
     for member in component.members.as_slice() {
-        if let Member::Composition(composition) = member {
-            first.note(is_later, Code::Duplicate, composition.place, b"");
+        if let Member::Composition(it) = member {
+            first.note(is_later, Code::Duplicate, it.place, b"");
             is_later = true;
         }
     }
-}
-
-/// Notes each configuration of a component but the first.
-pub fn note_configurations<'a>(component: &'a Component, first: &mut Earliest<'a>)
-    ensures { first.new ≡ noted first.old (again (map (λ f. f.place) (configurations component.entry.now))) }
-{
     let mut is_later = false;
-    for member in component.members.as_slice() {
-        if let Member::Configuration(configuration) = member {
-            first.note(is_later, Code::Duplicate, configuration.place, b"");
+    for part in component.members.as_slice() {
+        if let Member::Configuration(it) = part {
+            first.note(is_later, Code::Duplicate, it.place, b"");
             is_later = true;
         }
     }

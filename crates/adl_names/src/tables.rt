@@ -4,9 +4,9 @@ ghost use Rattle.adl_names.specs.Words.{Fault, Held as HeldOf, Id as Word, decla
 ghost use Rattle.std.specs.Prelude.{◌≡◌, ◌++◌, ℕ, List as Seq, map, option_map, OnOk, IfOk};
 ghost use Rattle.adl_meaning.specs.Members.{Declared as Means};
 ghost use Rattle.adl_names.specs.Bodies.{owner_of};
-ghost use Rattle.adl_names.specs.Tables.{has_name, held_told, holding_told};
+ghost use Rattle.adl_names.specs.Tables.{has_name, held_told, holding_told, members_told};
 
-use crate::repeats::{note_compositions, note_configurations, put};
+use crate::repeats::{note_again, put};
 use adl_ast::{Attribute, Component, Composition, Group, Instance, Interface, Line, Member};
 use adl_items::{Declared, composition_of};
 use adl_meaning::Earliest;
@@ -15,30 +15,12 @@ use name_tables::{NameSet, NameTable};
 use std::alloc::Global;
 use std::marker::Model;
 
-/// A group with its instances by name. Contracts see it as the group.
-#[derive(Drop)]
-pub struct Members<'a> {
-    group: &'a Group,
-    members: NameTable<'a, &'a Instance>,
-}
-
-impl<'a> Model for Members<'a> {
-    ghost use Rattle.adl_meaning.specs.Prelude.{Group};
-
-    ghost Value = { Group };
-
-    ghost use Rattle.adl_names.specs.Tables.{AreMembers};
-
-    ghost view = { λ m. m.group.now };
-
-    ghost invariant = { λ m. AreMembers m.members m.group.now };
-}
-
 /// What a composition holds under a name.
 #[derive(Drop)]
 pub enum Held<'a> {
     Instance(&'a Instance),
-    Group(Members<'a>),
+    /// The instances of a group by name.
+    Group(NameTable<'a, &'a Instance>),
     Connection,
 }
 
@@ -89,24 +71,15 @@ impl<'a> Model for ComponentTable<'a> {
     ghost invariant = { λ t. AreTold t.declared t.holdings.items t.targets t.component.now };
 }
 
-impl<'a> Members<'a> {
-    /// The table of a group.
-    pub fn of(alloc: Global, group: &'a Group) -> Result<Members<'a>, NoMemory>
-        ensures { IfOk result (λ m. m ≡ group.entry.now) }
-    {
-        let mut members = NameTable::new(alloc);
-        for instance in group.instances.as_slice() {
-            members.add(&instance.id.name, instance)?;
-        }
-        Ok(Members { group, members })
+/// The instances of a group by name.
+fn members_of<'a>(alloc: Global, group: &'a Group) -> Result<NameTable<'a, &'a Instance>, NoMemory>
+    ensures { IfOk result (λ t. members_told t ≡ member_of group.entry.now) }
+{
+    let mut members = NameTable::new(alloc);
+    for instance in group.instances.as_slice() {
+        members.add(&instance.id.name, instance)?;
     }
-
-    /// The first instance of the group that has the name.
-    pub fn get(&self, name: &Name) -> Option<&'a Instance>
-        ensures { option_copied result ≡ member_of self.now name.now }
-    {
-        self.members.get(name).copied()
-    }
+    Ok(members)
 }
 
 fn add_instances<'a>(
@@ -143,7 +116,7 @@ fn add_line<'a>(
     match line {
         Line::Instance(instance) => put(&instance.id, Held::Instance(instance), table, first),
         Line::Group(group) => {
-            let own = Members::of(alloc, group)?;
+            let own = members_of(alloc, group)?;
             put(&group.id, Held::Group(own), table, first)?;
             add_instances(group.instances.as_slice(), table, first)?;
             Ok(())
@@ -261,8 +234,7 @@ impl<'a> ComponentTable<'a> {
         ensures table { IfOk result (λ t. t ≡ component.entry.now) }
     {
         let declared = declaring(alloc, component, first)?;
-        note_compositions(component, first);
-        note_configurations(component, first);
+        note_again(component, first);
         let targets = targets(alloc, composition_of(component))?;
         let holdings = holdings(alloc, component, first)?;
         Ok(ComponentTable {

@@ -1,16 +1,17 @@
 //! Words that nothing has.
 
-ghost use Rattle.adl_names.specs.Words.{Fault, noted, held_as, known_in, known_of, unless_known, names_procedure, unknown_interface, unknown_in_dotted, unknown_word, unknown_inner, scope_of_held, scope_of_known, scope_behind, option_copied, unknown_in_setting, unknown_in_line, unknown_in_composition, unknown_in_configuration, unknown_attribute, unknown_in_member, unknown_in_item, is_procedure, unknown_names, Member as MemberOf, as_composition, flat_map, filter_map};
-ghost use Rattle.std.specs.Prelude.{option_map, ◌≡◌, ◌∷◌, ◌++◌, List as Seq};
-ghost use Rattle.adl_names.specs.Bodies.{owner_of, item_of};
+ghost use Rattle.adl_names.specs.Words.{noted, held_as, known_in, known_of, unless_known, names_procedure, unknown_interface, unknown_in_dotted, unknown_inner, scope_of_held, scope_of_known, scope_behind, option_copied, unknown_in_setting, unknown_in_composition, unknown_in_configuration, unknown_in_member, unknown_in_item, is_procedure, unknown_names, Member as MemberOf, as_composition, flat_map, filter_map};
+ghost use Rattle.std.specs.Prelude.{option_map, ◌≡◌, ◌∷◌, List as Seq};
+ghost use Rattle.adl_names.specs.Bodies.{item_of, owner_of};
 ghost use Rattle.adl_names.specs.Scopes.{scope_told};
 
 use crate::bodies::{Body, SourceTables};
-use crate::tables::{ComponentTable, Held, Holding, Members, target};
-use adl_ast::{Configuration, Id, InterfaceKind, Line, Member, Setter};
+use crate::tables::{ComponentTable, Held, Holding, target};
+use adl_ast::{Configuration, Id, Instance, InterfaceKind, Line, Member, Setter};
 use adl_items::instances_by;
 use adl_meaning::{Connector, Earliest};
 use cam_base::{Code, Name};
+use name_tables::NameTable;
 
 fn note_unless<'a>(known: bool, word: &'a Id, first: &mut Earliest<'a>)
     ensures { first.new ≡ noted first.old (unless_known known word.entry.now) }
@@ -69,7 +70,7 @@ enum Scope<'t, 'a> {
     /// Among what a composition holds.
     Within(&'t Holding<'a>),
     /// Among the instances of a group.
-    Inside(&'t Members<'a>),
+    Inside(&'t NameTable<'a, &'a Instance>),
     /// Nowhere: a leaf or a connection holds nothing.
     Behind,
     /// Nowhere: what the word in front stands for isn't known.
@@ -131,33 +132,7 @@ fn note_inner<'a>(scope: Scope<'_, 'a>, word: &'a Id, first: &mut Earliest<'a>)
     }
 }
 
-/// Notes a word of a setting, by the scopes in which it and the next are looked up, and the words that follow.
-fn note_setting_word<'a>(
-    scope: Scope<'_, 'a>,
-    after: Scope<'_, 'a>,
-    word: &'a Id,
-    more: &[Id],
-    first: &mut Earliest<'a>,
-)
-    ensures { first.new
-        ≡ noted first.old (unknown_word (scope_told scope.entry) (scope_told after.entry) word.entry.now more.now) }
-{
-    match more {
-        [] => {
-            if let Scope::Inside(members) = scope {
-                note_unless(members.get(&word.name).is_some(), word, first);
-            }
-        }
-        [_] => {
-            note_inner(scope, word, first);
-            if let Scope::Inside(_) = after {
-                note_unless(false, word, first);
-            }
-        }
-        _ => note_inner(scope, word, first),
-    }
-}
-
+/// Notes the words of a setting, of which the first is looked up in the scope.
 fn note_setting_words<'t, 'a>(
     tables: &'t SourceTables<'a>,
     scope: Scope<'t, 'a>,
@@ -170,44 +145,26 @@ fn note_setting_words<'t, 'a>(
     let mut rest = words;
     while let [word, more @ ..] = rest {
         let after = scope_behind(tables, here, &word.name);
-        note_setting_word(here, after, word, more, first);
+        match more {
+            [] => {
+                if let Scope::Inside(members) = here {
+                    note_unless(members.get(&word.name).is_some(), word, first);
+                }
+            }
+            [_] => {
+                note_inner(here, word, first);
+                if let Scope::Inside(_) = after {
+                    note_unless(false, word, first);
+                }
+            }
+            _ => note_inner(here, word, first),
+        }
         here = after;
         rest = more;
     }
 }
 
-/// Notes the unknown words of a line. The owner is the component that has it; an assembly is none.
-fn note_line<'a>(
-    tables: &SourceTables<'a>,
-    owner: Option<&ComponentTable<'a>>,
-    holding: &Holding<'a>,
-    line: &'a Line,
-    first: &mut Earliest<'a>,
-)
-    ensures { (more : Seq Fault) → noted first.new more ≡ noted first.old
-        (unknown_in_line (known_in tables.now) (owner_of owner.entry) (held_as holding.now) line.entry.now ++ more) }
-{
-    match line {
-        Line::Instance(_) | Line::Group(_) => {
-            for it in instances_by(line) {
-                let word = &it.component;
-                note_unless(tables.component(&word.name).is_some(), word, first);
-            }
-        }
-        Line::Connection(it) => {
-            let word = &it.connector;
-            note_unless(Connector::find(word.name.as_bytes()).is_some(), word, first);
-            for end in it.ends.as_slice() {
-                note_dotted(tables, holding, end.words.as_slice(), first);
-            }
-        }
-        Line::Export(it) => {
-            note_dotted(tables, holding, it.words.as_slice(), first);
-            note_unless(target(owner, &it.target.name).is_some(), &it.target, first);
-        }
-    }
-}
-
+/// Notes the unknown words of a composition. The owner is the component that has it; an assembly is none.
 fn note_composition<'a>(
     tables: &SourceTables<'a>,
     owner: Option<&ComponentTable<'a>>,
@@ -217,20 +174,25 @@ fn note_composition<'a>(
     ensures { first.new ≡ noted first.old (unknown_in_composition (known_in tables.now) (owner_of owner.entry) holding.now) }
 {
     for line in holding.composition.lines.as_slice() {
-        note_line(tables, owner, holding, line, first);
-    }
-}
-
-fn note_attribute<'a>(
-    owner: Option<&ComponentTable<'a>>,
-    setter: &'a Setter,
-    first: &mut Earliest<'a>,
-)
-    ensures { first.new ≡ noted first.old (unknown_attribute (owner_of owner.entry) setter.entry.now) }
-{
-    if let Setter::Reference(word) = setter {
-        let known = owner.is_some_and(|table| table.attribute(&word.name).is_some());
-        note_unless(known, word, first);
+        match line {
+            Line::Instance(_) | Line::Group(_) => {
+                for it in instances_by(line) {
+                    let word = &it.component;
+                    note_unless(tables.component(&word.name).is_some(), word, first);
+                }
+            }
+            Line::Connection(it) => {
+                let word = &it.connector;
+                note_unless(Connector::find(word.name.as_bytes()).is_some(), word, first);
+                for end in it.ends.as_slice() {
+                    note_dotted(tables, holding, end.words.as_slice(), first);
+                }
+            }
+            Line::Export(it) => {
+                note_dotted(tables, holding, it.words.as_slice(), first);
+                note_unless(target(owner, &it.target.name).is_some(), &it.target, first);
+            }
+        }
     }
 }
 
@@ -247,7 +209,10 @@ fn note_configuration<'t, 'a>(
 {
     for setting in configuration.settings.as_slice() {
         note_setting_words(tables, scope, setting.words.as_slice(), first);
-        note_attribute(owner, &setting.setter, first);
+        if let Setter::Reference(word) = &setting.setter {
+            let known = owner.is_some_and(|table| table.attribute(&word.name).is_some());
+            note_unless(known, word, first);
+        }
     }
 }
 
@@ -317,6 +282,7 @@ fn note_body<'t, 'a>(tables: &'t SourceTables<'a>, body: &'t Body<'a>, first: &m
 }
 
 /// Notes the unknown words of a source.
+#[tactic(auto, using(std::proofs::lemmas::Grind::common_steps, crate::proofs::BodyLists::walks))]
 pub fn note_unknown<'a>(tables: &SourceTables<'a>, first: &mut Earliest<'a>)
     ensures { first.new ≡ noted first.old (unknown_names tables.now) }
 {

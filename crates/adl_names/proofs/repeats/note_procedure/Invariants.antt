@@ -1,4 +1,4 @@
-use Rattle.adl_names.proofs.Common.{◌≡◌, drop, map, filter_map, flat_map, as_method, noted, has_name, repeats, repeats_after, repeated_params, duplicates_in_procedure}
+use Rattle.adl_names.proofs.Common.{◌≡◌, ◌+◌, ◌++◌, drop, map, filter_map, flat_map, as_method, noted, has_name, repeats, repeats_after, repeated_params, duplicates_in_procedure}
 use Rattle.adl_names.proofs.repeats.note_procedure.Given as goal
 
 abbrev pub invariant-loop-member : goal.invariant-loop-member
@@ -9,4 +9,9 @@ invariant-loop-member l =
 abbrev pub invariant-loop-part : goal.invariant-loop-part
 invariant-loop-part l =
     noted l.first (flat_map repeated_params (filter_map as_method (drop l.part-index l.part-items)))
+    ≡ noted l.fn.first (duplicates_in_procedure l.procedure)
+
+abbrev pub invariant-loop-param : goal.invariant-loop-param
+invariant-loop-param l =
+    noted l.first (repeats_after (has_name l.taken) (map (λ a. a.id) (drop l.param-index l.param-items)) ++ flat_map repeated_params (filter_map as_method (drop (l.part-index + 1) l.part-items)))
     ≡ noted l.fn.first (duplicates_in_procedure l.procedure)

@@ -1,4 +1,6 @@
-use Rattle.adl_names.proofs.Common.{◌∙◌, ◌++◌, ap, sym, None, noted, held_as, known_in, is_procedure, item_of, within, unknown_in_composition, unknown_in_configuration, unknown_if_configured, unknown_in_item, noted_then}
+use Rattle.adl_names.proofs.Common.{◌∙◌, ◌++◌, ap, sym, None, noted, held_as, known_in, is_procedure, item_of, unknown_in_composition, unknown_in_item}
+use Rattle.adl_meaning.proofs.Noting.{noted_then}
+use Rattle.adl_meaning.specs.Unknown.{unknown_if_configured, unknown_in_configuration, within}
 use Rattle.adl_names.proofs.unknown.note_body.Goals as goal
 
 pub returns-in-Some : goal.returns-in-Some
