@@ -18,10 +18,10 @@ use cam_base::{Fault, Refused};
 use std::alloc::Global;
 
 /// The flat system that the template of the assembly is.
-fn flat_template(
+fn flat_template<'a>(
     alloc: Global,
-    program: &Program<'_>,
-    template: &Template<'_>,
+    program: &Program<'a>,
+    template: &Template<'a>,
 ) -> Result<Flat, Refused<Fault>>
     requires ready { IsReady program.now }
     requires template { IsTemplate program.now (top_number program.now) template.now }
