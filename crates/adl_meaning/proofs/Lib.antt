@@ -1,5 +1,6 @@
 pub mod FewComponents
 pub mod Least
 pub mod Noting
+pub mod Prelude
 pub mod SamePaths
 pub mod SoundNames
