@@ -35,7 +35,7 @@ pub fn write_parts<O: Outputs>(out: &mut O, channel: u8, parts: &[&[u8]]) -> Res
     ensures { Writes result channel (together (map (λ p. p.now) parts.now)) (O.sink out.old) (O.sink out.new)
         (O.faults out.old) (O.faults out.new) }
 {
-    let mut line = [0; 512];
+    let mut line = [0; 128];
     match put_together(parts, &mut line) {
         Some(end) => write_all(out, channel, &line[..end]),
         None => write_each(out, channel, parts),
