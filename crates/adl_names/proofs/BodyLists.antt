@@ -1,37 +1,40 @@
 -- The items of a source, and the components among them.
-use Rattle.adl_names.proofs.Common.{◌≡◌, ◌∙◌, ◌+◌, map, ℕ, suc, Bool, true, false, cond, List, [], ◌∷◌, Option, Some, option_map, refl, sym, ap, arith, filter_map, flat_map-map, find, enumerate_from, slice_get, slice_get-map, option_and_then, bytes_eq, noted-append, Component, Item, Source, Name, as_component, component_of, items_of, ItemAt, Body, item_of, item_component, item_number, component_at, is_named}
+use Rattle.adl_names.proofs.Common.{Bor, None, option_copied, Member, as_composition, is_composition, is_some, list_any, ◌≡◌, ◌∙◌, ◌+◌, map, ℕ, suc, Bool, true, false, cond, List, [], ◌∷◌, Option, Some, option_map, refl, sym, ap, arith, filter_map, flat_map-map, find, enumerate_from, slice_get, slice_get-map, option_and_then, bytes_eq, noted-append, Component, Item, Source, Name, as_component, component_of, items_of, ItemAt, Body, item_of, item_component, item_number, component_at, is_named}
+use Rattle.adl_ast.specs.declared.component.Member.TheVariants as members
 use Rattle.adl_ast.specs.declared.file.Item.TheVariants as items
+
+-- a component with a composition has a first one
+pub composite_held : (ms : List Member) → list_any is_composition ms ≡ is_some (slice_get (filter_map as_composition ms) 0)
+composite_held [] = refl
+composite_held (members.Composition k ∷ ms) = refl
+composite_held (m ∷ ms) = composite_held ms
+
+pub copied_some : {X : Type 0} (r : Option (Bor X)) → is_some r ≡ is_some (option_copied r)
+copied_some None = refl
+copied_some (Some x) = refl
 
 -- what is noted of the bodies of a source, one after another, is noted of its items
 pub ruleset walks = (noted-append, flat_map-map)
+
+pub ruleset composite_walks = (walks, composite_held, copied_some)
 
 pub body_at : (bs : List Body) (xs : List Item) (k : ℕ) → map item_of bs ≡ xs → slice_get xs k ≡ option_map item_of (slice_get bs k)
 body_at bs xs k e = ap (λ z. slice_get z k) (sym e) ∙ slice_get-map item_of bs k
 
 -- the component of the number of a name, where the items from the number i on are these
-numbered : (n : Name) (all : List Item) (xs : List (ItemAt × Item)) (i : ℕ) → ((j : ℕ) → slice_get all (i + j) ≡ slice_get (map (λ x. x.1) xs) j)
+numbered : (n : Name) (all : List Item) (xs : List (ItemAt × Item)) (i : ℕ) → ((j k : ℕ) → k ≡ i + j → slice_get all k ≡ slice_get (map (λ x. x.1) xs) j)
     → component_at all (option_map (λ x. x.0) (find (λ x. is_named n x.1) (enumerate_from i (map (λ x. x.1) xs)))) ≡ option_map (λ c. c.1) (find (λ c. bytes_eq n c.1.id.name) (filter_map as_component xs))
 numbered n all [] i h = refl
-numbered n all ((at, x) ∷ xs) i h =
-    let here : i ≡ i + 0 = omega arith in
-    let next : (j : ℕ) → slice_get all ((i + 1) + j) ≡ slice_get (map (λ (y : ItemAt × Item). y.1) xs) j = λ j. let e : (i + 1) + j ≡ i + suc j = omega arith in ap (slice_get all) e ∙ h (suc j) in
-    by_kind x (ap (slice_get all) here ∙ h 0) (numbered n all xs (i + 1) next)
-  where
-    rest : Option Component
-    rest = component_at all (option_map (λ (y : ℕ × Item). y.0) (find (λ (y : ℕ × Item). is_named n y.1) (enumerate_from (i + 1) (map (λ (y : ItemAt × Item). y.1) xs))))
-
-    by_test : (c : Component) (b : Bool) → slice_get all i ≡ Some (items.Component c) → rest ≡ option_map (λ (c : ItemAt × Component). c.1) (find (λ (c : ItemAt × Component). bytes_eq n c.1.id.name) (filter_map as_component xs))
-        → component_at all (option_map (λ (y : ℕ × Item). y.0) (cond b (Some (i, items.Component c)) (find (λ (y : ℕ × Item). is_named n y.1) (enumerate_from (i + 1) (map (λ (y : ItemAt × Item). y.1) xs)))))
-        ≡ option_map (λ (c : ItemAt × Component). c.1) (cond b (Some (at, c)) (find (λ (c : ItemAt × Component). bytes_eq n c.1.id.name) (filter_map as_component xs)))
-    by_test c true e ih = ap (option_and_then item_component) e
-    by_test c false e ih = ih
-
-    by_kind : (x : Item) → slice_get all i ≡ Some x → rest ≡ option_map (λ (c : ItemAt × Component). c.1) (find (λ (c : ItemAt × Component). bytes_eq n c.1.id.name) (filter_map as_component xs))
-        → component_at all (option_map (λ (y : ℕ × Item). y.0) (find (λ (y : ℕ × Item). is_named n y.1) (enumerate_from i (x ∷ map (λ (y : ItemAt × Item). y.1) xs)))) ≡ option_map (λ (c : ItemAt × Component). c.1) (find (λ (c : ItemAt × Component). bytes_eq n c.1.id.name) (filter_map as_component ((at, x) ∷ xs)))
-    by_kind (items.Import y) e ih = ih
-    by_kind (items.Procedure y) e ih = ih
-    by_kind (items.Assembly y) e ih = ih
-    by_kind (items.Component c) e ih = by_test c (bytes_eq n c.id.name) e ih
+numbered n all ((at, items.Component c) ∷ xs) i h =
+    let later = find (λ (x : ℕ × Item). is_named n x.1) (enumerate_from (i + 1) (map (λ (x : ItemAt × Item). x.1) xs)) in
+    let named = find (λ (c : ItemAt × Component). bytes_eq n c.1.id.name) (filter_map as_component xs) in
+    elim (bytes_eq n c.id.name) as (λ b. component_at all (option_map (λ (x : ℕ × Item). x.0) (cond b (Some (i, items.Component c)) later)) ≡ option_map (λ (c : ItemAt × Component). c.1) (cond b (Some (at, c)) named)) [
+      | true ↦ ap (option_and_then item_component) (h 0 i (omega arith))
+      | false ↦ numbered n all xs (i + 1) (λ j k e. h (suc j) k (omega (arith, e)))
+    ]
+numbered n all (x ∷ xs) i h = numbered n all xs (i + 1) (λ j k e. h (suc j) k (omega (arith, e)))
 
 pub component_numbered : (s : Source) (n : Name) → component_at (map (λ x. x.1) (items_of s)) (item_number (map (λ x. x.1) (items_of s)) n) ≡ component_of s n
-component_numbered s n = numbered n (map (λ (x : ItemAt × Item). x.1) (items_of s)) (items_of s) 0 (λ j. let z : 0 + j ≡ j = omega arith in ap (slice_get (map (λ (x : ItemAt × Item). x.1) (items_of s))) z)
+component_numbered s n =
+    let all = map (λ (x : ItemAt × Item). x.1) (items_of s) in
+    numbered n all (items_of s) 0 (λ j k e. let same : k ≡ j = omega (arith, e) in ap (slice_get all) same)

@@ -1,4 +1,5 @@
 pub mod Bodies
+pub mod Places
 pub mod Ports
 pub mod Scopes
 pub mod Tables

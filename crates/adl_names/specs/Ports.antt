@@ -1,5 +1,6 @@
 -- Sets of ports, as definitions speak of them.
-use Rattle.adl_names.specs.Words.{list_any, bytes_eq, Bor, Port, Name, Fault, Export, misfits_after, Held, Known, is_among}
+use Rattle.adl_names.specs.Words.{list_any, bytes_eq, Bor, Component, Composition, Port, Name, Fault, Export, Source, held_as, known_in, misfits_after, is_among}
+use Rattle.adl_names.specs.Bodies.{owner_of}
 use Rattle.std.specs.Prelude.{ℕ, ◌==◌, ◌&&◌, Bool, List, Option}
 use Rattle.adl_names.specs.declared.exports.Port.{Port as Borrowed}
 use Rattle.adl_names.specs.declared.exports.Taken.{Taken}
@@ -11,6 +12,6 @@ as_port p = (p.instance.now, p.interface.now)
 abbrev pub is_port_among : List (ℕ × Bor Name) → Port → Bool
 is_port_among keys p = list_any (λ k. p.0.id.place.first == k.0 && bytes_eq p.1 k.1.now) keys
 
--- the exports at fault behind those that have taken targets and inner interfaces
-abbrev pub misfits_from : (Name → Option Known) → Option Known → (Name → Option Held) → Taken → List Export → List Fault
-misfits_from types owner held taken exports = misfits_after types owner held (is_among taken.targets) (is_port_among taken.inners.keys) exports
+-- the exports of a composition at fault, behind those that have taken targets and inner interfaces
+abbrev pub misfits_from : Source → Option (Bor Component) → Composition → Taken → List Export → List Fault
+misfits_from s owner k taken exports = misfits_after (known_in s) (owner_of owner) (held_as k) (is_among taken.targets) (is_port_among taken.inners.keys) exports

@@ -1,6 +1,6 @@
 -- What tables of trees tell, as definitions speak of it.
-use Rattle.adl_names.specs.Words.{BuildHasherDefault, FoldHasher, IndexMap, ItemAt, slice_get, Component, Composition, an_instance, a_group, a_connection, held_as, is_exported, Name, compositions, declared_as, is_among, found, declaring_told, Declared, Bor, Instance}
-use Rattle.std.specs.Prelude.{◌≡◌, Bool, List, Option, is_some, map, option_map}
+use Rattle.adl_names.specs.Words.{Fault, Id, first_named, noted, option_or, repeats_after, slice_get, Component, Composition, an_instance, a_group, a_connection, held_as, is_exported, Name, compositions, declared_as, is_among, found, declaring_told, Declared, Bor, Instance}
+use Rattle.std.specs.Prelude.{◌≡◌, ◌++◌, Bool, List, Option, is_some, map, option_map}
 use Rattle.adl_meaning.specs.Holding as holding
 use Rattle.adl_names.specs.declared.tables.Held.{Held}
 use Rattle.adl_names.specs.declared.tables.Held.TheVariants as held
@@ -18,6 +18,21 @@ held_told held.Connection = a_connection
 abbrev pub has_name : {V : Type 0} → List (Name × V) → Name → Bool
 has_name table n = is_some (found table n)
 
+-- what is noted once a table with these entries has taken these words
+abbrev pub noting : {V X : Type 0} → List (Name × V) → Option Fault → List (Id × X) → Option Fault
+noting table first xs = noted first (repeats_after (has_name table) (map (λ x. x.0) xs))
+
+-- what a name stands for once a table that tells this has taken these words
+abbrev pub naming : {X : Type 0} → (Name → Option X) → List (Id × X) → Name → Option X
+naming told xs n = option_or (told n) (first_named xs n)
+
+-- the words are put into the table: it and what is noted lead to the same, whatever follows
+abbrev pub AreNoted : {V X : Type 0} → List (Name × V) → Option Fault → List (Id × X) → List (Name × V) → Option Fault → Type 0
+AreNoted {X = X} old before xs new after = (more : List (Id × X)) → noting new after more ≡ noting old before (xs ++ more)
+
+abbrev pub AreNamed : {X : Type 0} → (Name → Option X) → List (Id × X) → (Name → Option X) → Type 0
+AreNamed {X} old xs new = (n : Name) (more : List (Id × X)) → naming new more n ≡ naming old (xs ++ more) n
+
 -- what a composition holds by name
 abbrev pub holding_told : List (Name × Held) → Name → Option holding.Held
 holding_told table n = option_map held_told (found table n)
@@ -30,7 +45,3 @@ pub record AreTold (declared : List (Name × Declared)) (holdings : List Composi
   pub declares : (n : Name) → declaring_told declared n ≡ declared_as c n
   pub holds : holdings ≡ compositions c
   pub exports : (n : Name) → is_among targets n ≡ is_exported (slice_get holdings 0) n
-
--- the places that a table of names has, in the order of its entries
-abbrev pub table_places : IndexMap Name ItemAt (BuildHasherDefault FoldHasher) → List ItemAt
-table_places table = map (λ e. e.1) table.entries

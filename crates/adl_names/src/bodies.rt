@@ -1,9 +1,8 @@
 //! The items of a source, with what the names in them stand for.
 
-ghost use Rattle.adl_names.specs.Words.{Fault, repeats, duplicates, duplicates_in_item, noted, items_of, components, procedures, component_of, is_procedure, found, flat_map, option_copied};
+ghost use Rattle.adl_names.specs.Words.{Fault, repeats, duplicates, duplicates_in_item, noted, items_of, components, component_of, is_procedure, found, flat_map, option_copied};
 ghost use Rattle.std.specs.Prelude.{◌≡◌, ◌++◌, ℕ, List as Seq, map, IfOk, OnOk};
 ghost use Rattle.adl_names.specs.Bodies.{item_of, item_number};
-ghost use Rattle.adl_names.specs.Tables.{has_name};
 
 use crate::repeats::{note_procedure, put};
 use crate::tables::{ComponentTable, Holding};
@@ -36,16 +35,14 @@ pub struct SourceTables<'a> {
 }
 
 impl<'a> Model for SourceTables<'a> {
+    ghost use Rattle.adl_ast.specs.contracts.value.ValueKind as values;
     ghost use Rattle.adl_meaning.specs.Prelude.{Source};
+    ghost use Rattle.adl_names.specs.Bodies.{AreKnown};
+    ghost use Rattle.std.specs.Coded.{codes};
 
     ghost Value = { Source };
 
-    ghost use Rattle.adl_ast.specs.contracts.value.ValueKind as values;
-    ghost use Rattle.std.specs.Coded.{codes};
-
     ghost coded = { Prim.hlevel (codes, values.the_row.coded) };
-
-    ghost use Rattle.adl_names.specs.Bodies.{AreKnown};
 
     ghost view = { λ n. n.source.now };
 
@@ -111,22 +108,6 @@ fn numbers<'a>(
     Ok(numbers)
 }
 
-/// The names of procedures. Notes those that stand twice.
-fn procedure_names<'a>(
-    alloc: Global,
-    items: &SourceItems<'a>,
-    first: &mut Earliest<'a>,
-) -> Result<NameTable<'a, ()>, NoMemory>
-    ensures noted { OnOk result (first.new ≡ noted first.old (repeats (map (λ p. p.1.id) (procedures items.now)))) }
-    ensures names { IfOk result (λ t. (n : Seq ℕ) → has_name t n ≡ is_procedure items.now n) }
-{
-    let mut names = NameTable::new(alloc);
-    for x in items.procedures() {
-        put(&x.item.id, (), &mut names, first)?;
-    }
-    Ok(names)
-}
-
 impl<'a> SourceTables<'a> {
     /// The tables of a source. Notes its duplicates.
     pub fn of(
@@ -137,7 +118,10 @@ impl<'a> SourceTables<'a> {
         ensures noted { OnOk result (first.new ≡ noted first.old (duplicates items.now)) }
         ensures tables { IfOk result (λ t. t ≡ items.now) }
     {
-        let procedures = procedure_names(alloc, items, first)?;
+        let mut procedures = NameTable::new(alloc);
+        for x in items.procedures() {
+            put(&x.item.id, (), &mut procedures, first)?;
+        }
         let components = numbers(alloc, items, first)?;
         let bodies = bodies(alloc, items, first)?;
         Ok(SourceTables {

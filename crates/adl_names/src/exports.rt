@@ -1,6 +1,6 @@
 //! Exports that fit no interface, and ports of composites that no export gives.
 
-ghost use Rattle.adl_names.specs.Words.{Fault, Export as ExportOf, Port as PortOf, port_of, interface_at, differs, is_unled, inner_of, is_port, export_fault, misfits_after, misfits_in_composition, misfit_exports, noted, where_true, held_as, exports_in, known_in, option_copied, option_and_then, option_map_or};
+ghost use Rattle.adl_names.specs.Words.{Fault, Export as ExportOf, Port as PortOf, port_of, interface_at, differs, is_unled, inner_of, is_port, misfits_after, misfits_in_composition, misfit_exports, noted, held_as, exports_in, known_in, option_copied, option_and_then, option_map_or};
 ghost use Rattle.std.specs.Prelude.{◌≡◌, ◌||◌, ◌∷◌, ◌++◌, List as Seq, false, option_map, IfOk, OnOk};
 ghost use Rattle.adl_names.specs.Bodies.{owner_of};
 ghost use Rattle.adl_names.specs.Ports.{as_port, is_port_among, misfits_from};
@@ -10,7 +10,7 @@ use crate::tables::{ComponentTable, Held, Holding, target};
 use adl_ast::{Export, Id, Instance, Interface, Line};
 use adl_items::last_name;
 use adl_meaning::Earliest;
-use cam_base::{Code, Name, NoMemory, Place};
+use cam_base::{Code, Name, NoMemory};
 use indexmap::IndexSet;
 use name_tables::NameSet;
 use std::alloc::Global;
@@ -66,14 +66,12 @@ fn interface_at<'a>(tables: &SourceTables<'a>, port: Option<Port<'a>>) -> Option
 fn differs(inner: Option<&Interface>, target: Option<&Interface>) -> bool
     ensures { result ≡ differs (option_copied inner.entry) (option_copied target.entry) }
 {
-    match (inner, target) {
-        (Some(a), Some(b)) => {
-            !(a.kind == b.kind
-                && (a.word.name == b.word.name
-                    && a.size.unwrap_or(DEFAULT_SIZE) == b.size.unwrap_or(DEFAULT_SIZE)))
-        }
-        _ => false,
-    }
+    let (Some(a), Some(b)) = (inner, target) else {
+        return false;
+    };
+    !(a.kind == b.kind
+        && (a.word.name == b.word.name
+            && a.size.unwrap_or(DEFAULT_SIZE) == b.size.unwrap_or(DEFAULT_SIZE)))
 }
 
 /// Whether the port is one of a composite's that no export gives.
@@ -90,34 +88,25 @@ fn is_unled<'a>(tables: &SourceTables<'a>, port: Option<Port<'a>>) -> bool
     table.interface(name).is_some() && (table.holding().is_some() && !table.exports(name))
 }
 
-/// The port, where its component declares the interface.
-fn inner_of<'a>(tables: &SourceTables<'a>, port: Option<Port<'a>>) -> Option<Port<'a>>
-    ensures { option_map as_port result ≡ inner_of (known_in tables.now) (option_map as_port port.entry) }
-{
-    interface_at(tables, port)?;
-    port
-}
-
-/// Takes the port, if there is one, and answers whether it was taken.
+/// Takes the port, where its component declares the interface, and answers whether it was taken.
 fn take<'a>(
-    inners: &mut IndexSet<(u64, &'a [u8])>,
+    tables: &SourceTables<'a>,
     port: Option<Port<'a>>,
+    inners: &mut IndexSet<(u64, &'a [u8])>,
 ) -> Result<bool, NoMemory>
-    ensures met { IfOk result (λ met. met ≡ option_map_or (is_port_among inners.old.keys) (option_map as_port port.entry) false) }
+    ensures met { IfOk result (λ met. met
+        ≡ option_map_or (is_port_among inners.old.keys) (inner_of (known_in tables.now) (option_map as_port port.entry)) false) }
     ensures taken { OnOk result ((p : PortOf) → is_port_among inners.new.keys p
-        ≡ (is_port_among inners.old.keys p || is_port (option_map as_port port.entry) p)) }
+        ≡ (is_port_among inners.old.keys p || is_port (inner_of (known_in tables.now) (option_map as_port port.entry)) p)) }
 {
-    let Some(port) = port else {
+    let Some(taken) = port else {
         return Ok(false);
     };
-    let is_new = inners.insert((port.instance.id.place.first, port.interface.as_bytes()))?;
+    if interface_at(tables, port).is_none() {
+        return Ok(false);
+    }
+    let is_new = inners.insert((taken.instance.id.place.first, taken.interface.as_bytes()))?;
     Ok(!is_new)
-}
-
-fn note_wrong<'a>(is_wrong: bool, words: &'a [Id], place: Place, first: &mut Earliest<'a>)
-    ensures { first.new ≡ noted first.old (where_true is_wrong (export_fault words.entry.now place)) }
-{
-    first.note(is_wrong, Code::Export, place, last_name(words));
 }
 
 /// Notes an export. What is noted behind it, is noted of the exports from it on.
@@ -130,18 +119,18 @@ fn note_export<'a>(
     first: &mut Earliest<'a>,
 ) -> Result<(), NoMemory>
     ensures { OnOk result ((more : Seq ExportOf) →
-        noted first.new (misfits_from (known_in tables.now) (owner_of owner.entry) (held_as holding.now) taken.new more)
-        ≡ noted first.old (misfits_from (known_in tables.now) (owner_of owner.entry) (held_as holding.now) taken.old
-        (export.entry.now ∷ more))) }
+        noted first.new (misfits_from tables.now owner.entry holding.now taken.new more)
+        ≡ noted first.old (misfits_from tables.now owner.entry holding.now taken.old (export.entry.now ∷ more))) }
 {
-    let port = port_of(holding, export.words.as_slice());
+    let words = export.words.as_slice();
+    let port = port_of(holding, words);
     let name = &export.target.name;
     let differs = differs(interface_at(tables, port), target(owner, name));
     let is_met = taken.targets.put(name)?;
-    let is_taken = take(&mut taken.inners, inner_of(tables, port))?;
+    let is_taken = take(tables, port, &mut taken.inners)?;
     let is_unled = is_unled(tables, port);
     let is_wrong = owner.is_none() || (differs || (is_met || (is_taken || is_unled)));
-    note_wrong(is_wrong, export.words.as_slice(), export.place, first);
+    first.note(is_wrong, Code::Export, export.place, last_name(words));
     Ok(())
 }
 
@@ -184,7 +173,7 @@ fn note_composition<'a>(
             for end in connection.ends.as_slice() {
                 let words = end.words.as_slice();
                 let is_wrong = is_unled(tables, port_of(holding, words));
-                note_wrong(is_wrong, words, end.place, first);
+                first.note(is_wrong, Code::Export, end.place, last_name(words));
             }
         }
     }

@@ -1,38 +1,22 @@
 //! Members that a composite, a device or a plain component can't have.
 
-ghost use Rattle.adl_names.specs.Words.{is_composite, is_composition, composite_bodies, noted};
+ghost use Rattle.adl_names.specs.Words.{composite_bodies, noted};
 ghost use Rattle.std.specs.Prelude.{◌≡◌};
 
 use crate::bodies::{Body, SourceTables};
-use adl_ast::{Component, Member};
+use adl_ast::Member;
 use adl_items::is_device;
 use adl_meaning::Earliest;
 use cam_base::Code;
 
-fn is_composition(member: &Member) -> bool
-    ensures { result ≡ is_composition member.now }
-{
-    matches!(member, Member::Composition(_))
-}
-
-fn is_composite(component: &Component) -> bool
-    ensures { result ≡ is_composite component.now }
-{
-    component
-        .members
-        .as_slice()
-        .iter()
-        .any(|m| is_composition(m))
-}
-
 /// Notes the misplaced members of all components.
-#[tactic(auto, using(std::proofs::lemmas::Grind::common_steps, crate::proofs::BodyLists::walks))]
+#[tactic(auto, using(std::proofs::lemmas::Grind::common_steps, crate::proofs::BodyLists::composite_walks))]
 pub fn note_misplaced<'a>(tables: &SourceTables<'a>, first: &mut Earliest<'a>)
     ensures { first.new ≡ noted first.old (composite_bodies tables.now) }
 {
     for body in tables.bodies() {
         if let Body::Component(table) = body {
-            let composite = is_composite(table.component);
+            let composite = table.holding().is_some();
             let device = is_device(table.component);
             for member in table.component.members.as_slice() {
                 let (is_wrong, place) = match member {

@@ -1,15 +1,15 @@
 //! What the names of a source stand for, or the first fault of names.
 
-ghost use Rattle.adl_names.specs.Words.{ItemAt as At, noted, Refuses, assemblies, procedure_named, component_named, AreFew, Rises, first_name_fault, second_of, none_of, located, get, option_or, bytes_eq};
+ghost use Rattle.adl_names.specs.Words.{noted, Refuses, as_component, as_procedure, assemblies, procedure_named, component_named, AreFew, Rises, first_name_fault, second_of, none_of, located, get, option_or, bytes_eq};
 ghost use Rattle.std.specs.Prelude.{◌≡◌, ◌∷◌, ◌++◌, ℕ, List as Seq, [], None, Some, if◌then◌else◌, map, option_map, OnOk, IfOk};
-ghost use Rattle.adl_names.specs.Tables.{table_places};
+ghost use Rattle.adl_names.specs.Places.{Finds, StayRising, table_places};
 
 use crate::bodies::SourceTables;
 use crate::exports::note_misfits;
 use crate::misplaced::note_misplaced;
 use crate::recursion::note_recursive;
 use crate::unknown::note_unknown;
-use adl_ast::{Assembly, Source};
+use adl_ast::{Assembly, Item, Source};
 use adl_items::{Located, Names, SourceItems};
 use adl_meaning::{Earliest, ItemAt, noted_is_least};
 use cam_base::{Code, Fault, Name, NoMemory, Place, Refused};
@@ -20,17 +20,17 @@ use std::alloc::Global;
 fn note_assemblies<'a>(assemblies: &[Located<'a, Assembly>], first: &mut Earliest<'a>)
     ensures { first.new ≡ noted first.old (second_of (map located assemblies.now) ++ none_of (map located assemblies.now)) }
 {
-    if let [_, later @ ..] = assemblies {
-        for x in later {
-            first.note(true, Code::SecondAssembly, x.item.place, b"");
-        }
+    let mut is_later = false;
+    for x in assemblies {
+        first.note(is_later, Code::SecondAssembly, x.item.place, b"");
+        is_later = true;
     }
     let root = Place {
         file: 0,
         first: 0,
         end: 0,
     };
-    first.note(assemblies.is_empty(), Code::NoAssembly, root, b"");
+    first.note(!is_later, Code::NoAssembly, root, b"");
 }
 
 /// The first fault of names that stands in a source.
@@ -49,6 +49,7 @@ fn first_fault<'a>(alloc: Global, items: &SourceItems<'a>) -> Result<Earliest<'a
 }
 
 /// Puts a place under its name, where the name has none yet.
+#[tactic(auto, using(std::proofs::lemmas::Grind::common_steps, crate::proofs::Rising::rises_drop))]
 fn add_place(
     alloc: Global,
     name: &Name,
@@ -57,13 +58,32 @@ fn add_place(
 ) -> Result<(), NoMemory>
     ensures first { OnOk result ((n : Seq ℕ) → get bytes_eq table.new n
         ≡ option_or (get bytes_eq table.old n) (if bytes_eq n name.now then Some at else None)) }
-    ensures rises { OnOk result ((more : Seq At) → Rises (table_places table.old ++ at ∷ more)
-        → Rises (table_places table.new ++ more)) }
+    ensures rises { OnOk result (StayRising table.old table.new at) }
 {
     if !table.contains_key(name) {
         table.insert(name.copy(alloc)?, at)?;
     }
     Ok(())
+}
+
+/// Puts the place of a procedure or a component under its name, where the name has none yet.
+#[tactic(auto, using(std::proofs::lemmas::Grind::common_steps, crate::proofs::Rising::rises_drop))]
+fn add_item(
+    alloc: Global,
+    x: &Located<'_, Item>,
+    procedures: &mut IndexMap<Name, ItemAt>,
+    components: &mut IndexMap<Name, ItemAt>,
+) -> Result<(), NoMemory>
+    ensures procedures { OnOk result (Finds as_procedure (λ p. p.id.name) procedures.old procedures.new (located x.now)) }
+    ensures components { OnOk result (Finds as_component (λ c. c.id.name) components.old components.new (located x.now)) }
+    ensures procedures_rise { OnOk result (StayRising procedures.old procedures.new x.now.at) }
+    ensures components_rise { OnOk result (StayRising components.old components.new x.now.at) }
+{
+    match x.item {
+        Item::Procedure(it) => add_place(alloc, &it.id.name, x.at, procedures),
+        Item::Component(it) => add_place(alloc, &it.id.name, x.at, components),
+        Item::Import(_) | Item::Assembly(_) => Ok(()),
+    }
 }
 
 /// Refuses a source in which a fault of names stands.
@@ -100,12 +120,9 @@ pub fn resolve(alloc: Global, source: &Source) -> Result<Names, Refused<Fault>>
     first_fault(alloc, &items)?.refuse(alloc)?;
     let assembly = items.assemblies()[0].at;
     let mut procedures = IndexMap::new(alloc);
-    for x in items.procedures() {
-        add_place(alloc, &x.item.id.name, x.at, &mut procedures)?;
-    }
     let mut components = IndexMap::new(alloc);
-    for y in items.components() {
-        add_place(alloc, &y.item.id.name, y.at, &mut components)?;
+    for x in items.items() {
+        add_item(alloc, x, &mut procedures, &mut components)?;
     }
     Ok(Names {
         procedures,

@@ -1,7 +1,7 @@
 //! Instances whose type is the component that they stand in, or holds it.
 
-ghost use Rattle.adl_names.specs.Words.{trees, pointed, noted, instances_of, types_of, graph_of, recursive_in, recursive_types, found, flat_map, enumerate_from};
-ghost use Rattle.std.specs.Prelude.{◌≡◌, ◌<◌, ◌^◌, length, IfOk, OnOk};
+ghost use Rattle.adl_names.specs.Words.{trees, pointed, noted, instances_of, graph_of, recursive_types, found};
+ghost use Rattle.std.specs.Prelude.{◌≡◌, IfOk, OnOk};
 
 use adl_ast::{Component, Instance, Member};
 use adl_items::{Located, SourceItems, component_numbers, instances_by};
@@ -28,24 +28,6 @@ fn instances<'a>(alloc: Global, component: &'a Component) -> Result<Vec<&'a Inst
     Ok(found)
 }
 
-/// The numbers of the components that the instances of a component name.
-fn types_of(
-    alloc: Global,
-    numbers: &NameTable<'_, u32>,
-    component: &Component,
-) -> Result<List<u32>, NoMemory>
-    ensures { IfOk result (λ ts. ts ≡ types_of (found numbers.now) component.now) }
-{
-    let instances = instances(alloc, component)?;
-    let mut types = List::new(alloc);
-    for instance in instances.as_slice() {
-        if let Some(number) = numbers.get(&instance.component.name) {
-            types.push(*number)?;
-        }
-    }
-    Ok(types)
-}
-
 /// The components by number, with the types of their instances.
 fn graph_of(
     alloc: Global,
@@ -56,34 +38,16 @@ fn graph_of(
 {
     let mut graph = List::new(alloc);
     for x in components {
-        graph.push(types_of(alloc, numbers, x.item)?)?;
-    }
-    Ok(graph)
-}
-
-fn note_each<'a>(
-    alloc: Global,
-    numbers: &NameTable<'_, u32>,
-    cycles: &Cycles,
-    components: &[Located<'a, Component>],
-    first: &mut Earliest<'a>,
-) -> Result<(), NoMemory>
-    requires few { length components.now < 2 ^ 32 }
-    requires graph { cycles.now ≡ graph_of (found numbers.now) (trees components.now) }
-    ensures { OnOk result (first.new ≡ noted first.old
-        (flat_map (λ x. recursive_in (found numbers.now) cycles.now x.0 x.1) (enumerate_from 0 (trees components.now)))) }
-{
-    for (i, x) in components.iter().enumerate() {
         let instances = instances(alloc, x.item)?;
+        let mut types = List::new(alloc);
         for instance in instances.as_slice() {
-            let word = &instance.component;
-            if let Some(inner) = numbers.get(&word.name) {
-                let held = cycles.holds_back(alloc, i as u32, *inner)?;
-                first.note(held, Code::Recursive, word.place, word.name.as_bytes());
+            if let Some(number) = numbers.get(&instance.component.name) {
+                types.push(*number)?;
             }
         }
+        graph.push(types)?;
     }
-    Ok(())
+    Ok(graph)
 }
 
 /// Notes each instance whose type is the component that it stands in, or holds it. The components that hold each other
@@ -96,9 +60,18 @@ pub fn note_recursive<'a>(
     ensures { OnOk result (first.new ≡ noted first.old (recursive_types items.now)) }
 {
     let components = items.components();
-    let numbers = component_numbers(alloc, components)?;
-    let graph = graph_of(alloc, &numbers, components)?;
-    let cycles = Cycles::of(alloc, graph)?;
-    note_each(alloc, &numbers, &cycles, components, first)?;
+    let numbers = &component_numbers(alloc, components)?;
+    let graph = graph_of(alloc, numbers, components)?;
+    let cycles = &Cycles::of(alloc, graph)?;
+    for (i, x) in components.iter().enumerate() {
+        let instances = instances(alloc, x.item)?;
+        for instance in instances.as_slice() {
+            let word = &instance.component;
+            if let Some(inner) = numbers.get(&word.name) {
+                let held = cycles.holds_back(alloc, i as u32, *inner)?;
+                first.note(held, Code::Recursive, word.place, word.name.as_bytes());
+            }
+        }
+    }
     Ok(())
 }

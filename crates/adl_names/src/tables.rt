@@ -1,10 +1,9 @@
 //! Tables of what the names of compositions and components stand for.
 
-ghost use Rattle.adl_names.specs.Words.{Fault, Held as HeldOf, Id as Word, declaring_told, first_named, repeats, repeats_after, duplicates_in_composition, duplicates_in_component, noted, as_held, held_by, held_as, member_of, is_exported, declared_as, declared_by, declared_in, interface_of, attribute_of, compositions, composition_of, is_among, flat_map, option_or, option_copied, option_and_then};
+ghost use Rattle.adl_names.specs.Words.{Fault, a_group, declaring_told, repeats, duplicates_in_composition, duplicates_in_component, noted, held_by, held_as, member_of, is_exported, declared_as, declared_by, declared_in, interface_of, attribute_of, compositions, composition_of, is_among, flat_map, option_and_then, option_copied};
 ghost use Rattle.std.specs.Prelude.{◌≡◌, ◌++◌, ℕ, List as Seq, map, option_map, OnOk, IfOk};
-ghost use Rattle.adl_meaning.specs.Members.{Declared as Means};
 ghost use Rattle.adl_names.specs.Bodies.{owner_of};
-ghost use Rattle.adl_names.specs.Tables.{has_name, held_told, holding_told, members_told};
+ghost use Rattle.adl_names.specs.Tables.{AreNamed, AreNoted, held_told, holding_told};
 
 use crate::repeats::{note_again, put};
 use adl_ast::{Attribute, Component, Composition, Group, Instance, Interface, Line, Member};
@@ -33,10 +32,9 @@ pub struct Holding<'a> {
 
 impl<'a> Model for Holding<'a> {
     ghost use Rattle.adl_meaning.specs.Prelude.{Composition};
+    ghost use Rattle.adl_names.specs.Tables.{IsHolding};
 
     ghost Value = { Composition };
-
-    ghost use Rattle.adl_names.specs.Tables.{IsHolding};
 
     ghost view = { λ h. h.composition.now };
 
@@ -55,49 +53,29 @@ pub struct ComponentTable<'a> {
 }
 
 impl<'a> Model for ComponentTable<'a> {
+    ghost use Rattle.adl_ast.specs.contracts.value.ValueKind as values;
     ghost use Rattle.adl_meaning.specs.Prelude.{Component};
+    ghost use Rattle.adl_names.specs.Tables.{AreTold};
+    ghost use Rattle.std.specs.Coded.{codes};
 
     ghost Value = { Component };
 
-    ghost use Rattle.adl_ast.specs.contracts.value.ValueKind as values;
-    ghost use Rattle.std.specs.Coded.{codes};
-
     ghost coded = { Prim.hlevel (codes, values.the_row.coded) };
-
-    ghost use Rattle.adl_names.specs.Tables.{AreTold};
 
     ghost view = { λ t. t.component.now };
 
     ghost invariant = { λ t. AreTold t.declared t.holdings.items t.targets t.component.now };
 }
 
-/// The instances of a group by name.
-fn members_of<'a>(alloc: Global, group: &'a Group) -> Result<NameTable<'a, &'a Instance>, NoMemory>
-    ensures { IfOk result (λ t. members_told t ≡ member_of group.entry.now) }
+/// The instances of a group by name, of which the first counts.
+fn members_of<'a>(alloc: Global, group: &'a Group) -> Result<Held<'a>, NoMemory>
+    ensures { IfOk result (λ held. held_told held ≡ a_group (member_of group.entry.now)) }
 {
     let mut members = NameTable::new(alloc);
     for instance in group.instances.as_slice() {
         members.add(&instance.id.name, instance)?;
     }
-    Ok(members)
-}
-
-fn add_instances<'a>(
-    instances: &'a [Instance],
-    table: &mut NameTable<'a, Held<'a>>,
-    first: &mut Earliest<'a>,
-) -> Result<(), NoMemory>
-    ensures noted { OnOk result ((more : Seq (Word × HeldOf)) →
-        noted first.new (repeats_after (has_name table.new) (map (λ h. h.0) more))
-        ≡ noted first.old (repeats_after (has_name table.old) (map (λ h. h.0) (map as_held instances.entry.now ++ more)))) }
-    ensures found { OnOk result ((n : Seq ℕ) (more : Seq (Word × HeldOf)) →
-        option_or (holding_told table.new n) (first_named more n)
-        ≡ option_or (holding_told table.old n) (first_named (map as_held instances.entry.now ++ more) n)) }
-{
-    for instance in instances {
-        put(&instance.id, Held::Instance(instance), table, first)?;
-    }
-    Ok(())
+    Ok(Held::Group(members))
 }
 
 fn add_line<'a>(
@@ -106,19 +84,16 @@ fn add_line<'a>(
     table: &mut NameTable<'a, Held<'a>>,
     first: &mut Earliest<'a>,
 ) -> Result<(), NoMemory>
-    ensures noted { OnOk result ((more : Seq (Word × HeldOf)) →
-        noted first.new (repeats_after (has_name table.new) (map (λ h. h.0) more))
-        ≡ noted first.old (repeats_after (has_name table.old) (map (λ h. h.0) (held_by line.entry.now ++ more)))) }
-    ensures found { OnOk result ((n : Seq ℕ) (more : Seq (Word × HeldOf)) →
-        option_or (holding_told table.new n) (first_named more n)
-        ≡ option_or (holding_told table.old n) (first_named (held_by line.entry.now ++ more) n)) }
+    ensures noted { OnOk result (AreNoted table.old first.old (held_by line.entry.now) table.new first.new) }
+    ensures found { OnOk result (AreNamed (holding_told table.old) (held_by line.entry.now) (holding_told table.new)) }
 {
     match line {
         Line::Instance(instance) => put(&instance.id, Held::Instance(instance), table, first),
         Line::Group(group) => {
-            let own = members_of(alloc, group)?;
-            put(&group.id, Held::Group(own), table, first)?;
-            add_instances(group.instances.as_slice(), table, first)?;
+            put(&group.id, members_of(alloc, group)?, table, first)?;
+            for instance in group.instances.as_slice() {
+                put(&instance.id, Held::Instance(instance), table, first)?;
+            }
             Ok(())
         }
         Line::Connection(connection) => put(&connection.id, Held::Connection, table, first),
@@ -157,12 +132,8 @@ fn declare<'a>(
     table: &mut NameTable<'a, Declared<'a>>,
     first: &mut Earliest<'a>,
 ) -> Result<(), NoMemory>
-    ensures noted { OnOk result ((more : Seq (Word × Means)) →
-        noted first.new (repeats_after (has_name table.new) (map (λ d. d.0) more))
-        ≡ noted first.old (repeats_after (has_name table.old) (map (λ d. d.0) (declared_by member.entry.now ++ more)))) }
-    ensures found { OnOk result ((n : Seq ℕ) (more : Seq (Word × Means)) →
-        option_or (declaring_told table.new n) (first_named more n)
-        ≡ option_or (declaring_told table.old n) (first_named (declared_by member.entry.now ++ more) n)) }
+    ensures noted { OnOk result (AreNoted table.old first.old (declared_by member.entry.now) table.new first.new) }
+    ensures found { OnOk result (AreNamed (declaring_told table.old) (declared_by member.entry.now) (declaring_told table.new)) }
 {
     match member {
         Member::Interface(it) => put(&it.id, Declared::Interface(it), table, first),
@@ -212,12 +183,11 @@ fn targets<'a>(alloc: Global, composition: Option<&'a Composition>) -> Result<Na
     ensures { IfOk result (λ t. (n : Seq ℕ) → is_among t n ≡ is_exported (option_copied composition.entry) n) }
 {
     let mut targets = NameSet::new(alloc);
-    let Some(composition) = composition else {
-        return Ok(targets);
-    };
-    for line in composition.lines.as_slice() {
-        if let Line::Export(export) = line {
-            targets.insert(&export.target.name)?;
+    if let Some(composition) = composition {
+        for line in composition.lines.as_slice() {
+            if let Line::Export(export) = line {
+                targets.insert(&export.target.name)?;
+            }
         }
     }
     Ok(targets)

@@ -1,6 +1,6 @@
 //! Words that nothing has.
 
-ghost use Rattle.adl_names.specs.Words.{noted, held_as, known_in, known_of, unless_known, names_procedure, unknown_interface, unknown_in_dotted, unknown_inner, scope_of_held, scope_of_known, scope_behind, option_copied, unknown_in_setting, unknown_in_composition, unknown_in_configuration, unknown_in_member, unknown_in_item, is_procedure, unknown_names, Member as MemberOf, as_composition, flat_map, filter_map};
+ghost use Rattle.adl_names.specs.Words.{noted, held_as, known_in, known_of, unless_known, unknown_interface, unknown_in_dotted, unknown_inner, scope_of_known, scope_behind, option_copied, unknown_in_setting, unknown_in_composition, unknown_in_configuration, unknown_in_member, unknown_in_item, is_procedure, unknown_names, Member as MemberOf, as_composition, filter_map};
 ghost use Rattle.std.specs.Prelude.{option_map, ◌≡◌, ◌∷◌, List as Seq};
 ghost use Rattle.adl_names.specs.Bodies.{item_of, owner_of};
 ghost use Rattle.adl_names.specs.Scopes.{scope_told};
@@ -17,12 +17,6 @@ fn note_unless<'a>(known: bool, word: &'a Id, first: &mut Earliest<'a>)
     ensures { first.new ≡ noted first.old (unless_known known word.entry.now) }
 {
     first.note(!known, Code::Unknown, word.place, word.name.as_bytes());
-}
-
-fn names_procedure(kind: InterfaceKind) -> bool
-    ensures { result ≡ names_procedure kind }
-{
-    matches!(kind, InterfaceKind::Uses | InterfaceKind::Provides)
 }
 
 fn note_interface<'a>(table: Option<&ComponentTable<'a>>, word: &'a Id, first: &mut Earliest<'a>)
@@ -77,22 +71,16 @@ enum Scope<'t, 'a> {
     Untold,
 }
 
-/// The scope of a composition that may be absent.
-fn of_holding<'t, 'a>(holding: Option<&'t Holding<'a>>) -> Scope<'t, 'a>
-    ensures { scope_told result ≡ scope_of_held (option_map held_as (option_copied holding.entry)) }
-{
-    match holding {
-        None => Scope::Behind,
-        Some(holding) => Scope::Within(holding),
-    }
-}
-
+/// The scope of a component that may not be known.
 fn of_type<'t, 'a>(table: Option<&'t ComponentTable<'a>>) -> Scope<'t, 'a>
     ensures { scope_told result ≡ scope_of_known (owner_of table.entry) }
 {
     match table {
         None => Scope::Untold,
-        Some(table) => of_holding(table.holding()),
+        Some(table) => match table.holding() {
+            None => Scope::Behind,
+            Some(holding) => Scope::Within(holding),
+        },
     }
 }
 
@@ -145,19 +133,11 @@ fn note_setting_words<'t, 'a>(
     let mut rest = words;
     while let [word, more @ ..] = rest {
         let after = scope_behind(tables, here, &word.name);
-        match more {
-            [] => {
-                if let Scope::Inside(members) = here {
-                    note_unless(members.get(&word.name).is_some(), word, first);
-                }
-            }
-            [_] => {
-                note_inner(here, word, first);
-                if let Scope::Inside(_) = after {
-                    note_unless(false, word, first);
-                }
-            }
-            _ => note_inner(here, word, first),
+        if let (Scope::Inside(_), _) | (_, [_, ..]) = (here, more) {
+            note_inner(here, word, first);
+        }
+        if let (Scope::Inside(_), [_]) = (after, more) {
+            note_unless(false, word, first);
         }
         here = after;
         rest = more;
@@ -203,9 +183,8 @@ fn note_configuration<'t, 'a>(
     configuration: &'a Configuration,
     first: &mut Earliest<'a>,
 )
-    ensures { first.new
-        ≡ noted first.old (unknown_in_configuration (known_in tables.now)
-        (owner_of owner.entry) (scope_told scope.entry) configuration.entry.now) }
+    ensures { first.new ≡ noted first.old
+        (unknown_in_configuration (known_in tables.now) (owner_of owner.entry) (scope_told scope.entry) configuration.entry.now) }
 {
     for setting in configuration.settings.as_slice() {
         note_setting_words(tables, scope, setting.words.as_slice(), first);
@@ -232,7 +211,8 @@ fn note_member<'t, 'a>(
 {
     match member {
         Member::Interface(it) => {
-            let known = !names_procedure(it.kind) || tables.is_procedure(&it.word.name);
+            let is_named = matches!(it.kind, InterfaceKind::Uses | InterfaceKind::Provides);
+            let known = !is_named || tables.is_procedure(&it.word.name);
             note_unless(known, &it.word, first);
             holdings
         }
@@ -244,25 +224,10 @@ fn note_member<'t, 'a>(
             [] => holdings,
         },
         Member::Configuration(it) => {
-            note_configuration(tables, Some(owner), of_holding(owner.holding()), it, first);
+            note_configuration(tables, Some(owner), of_type(Some(owner)), it, first);
             holdings
         }
         _ => holdings,
-    }
-}
-
-fn note_component<'t, 'a>(
-    tables: &'t SourceTables<'a>,
-    table: &'t ComponentTable<'a>,
-    first: &mut Earliest<'a>,
-)
-    ensures { first.new
-        ≡ noted first.old (flat_map (unknown_in_member (known_in tables.now)
-        (is_procedure tables.now) (known_of table.now)) table.now.members) }
-{
-    let mut holdings = table.holdings();
-    for member in table.component.members.as_slice() {
-        holdings = note_member(tables, table, holdings, member, first);
     }
 }
 
@@ -271,7 +236,12 @@ fn note_body<'t, 'a>(tables: &'t SourceTables<'a>, body: &'t Body<'a>, first: &m
 {
     match body {
         Body::Import(_) | Body::Procedure(_) => (),
-        Body::Component(table) => note_component(tables, table, first),
+        Body::Component(table) => {
+            let mut holdings = table.holdings();
+            for member in table.component.members.as_slice() {
+                holdings = note_member(tables, table, holdings, member, first);
+            }
+        }
         Body::Assembly(assembly, holding) => {
             note_composition(tables, None, holding, first);
             if let Some(it) = &assembly.configuration {

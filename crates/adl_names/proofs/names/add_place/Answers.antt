@@ -1,9 +1,5 @@
-use Rattle.adl_names.proofs.Common.{◌≡◌, ◌∙◌, ◌++◌, ◌∷◌, [], sym, ap, subst, append_assoc, cond, Some, None, map, bytes_eq, map-append, get, table_places, Name, ItemAt, Rises, is_none, insert_entry, insert_entry-new, found_put}
-use Rattle.adl_names.proofs.Rising.{rises_drop}
+use Rattle.adl_names.proofs.Common.{◌∙◌, append_assoc, ap, bytes_eq, cond, get, insert_entry, insert_entry-new, is_none, map-append, Some, found_put, sym}
 use Rattle.adl_names.proofs.names.add_place.Goals as goal
-
-pub returns-else-not-contains_key-clause-rises : goal.returns-else-not-contains_key-clause-rises
-returns-else-not-contains_key-clause-rises c = λ more. rises_drop c.args.at (table_places c.args.table.now) more
 
 pub returns-in_ok-insert-clause-first : goal.returns-in_ok-insert-clause-first
 returns-in_ok-insert-clause-first c =
@@ -12,7 +8,6 @@ returns-in_ok-insert-clause-first c =
 
 pub returns-in_ok-insert-clause-rises : goal.returns-in_ok-insert-clause-rises
 returns-in_ok-insert-clause-rises c =
-    let absent : get bytes_eq c.args.table.now c.args.name.now ≡ None = is_none (get bytes_eq c.args.table.now c.args.name.now) (sym c.contains_key.ensures ∙ c.if-not-contains_key.true) in
-    let grown = ap (map (λ (e : Name × ItemAt). e.1)) (c.in_ok-insert.ensures.entries ∙ ap (λ k. insert_entry bytes_eq c.args.table.now.entries k c.args.at) c.in_ok-copy.ensures ∙ insert_entry-new bytes_eq c.args.table.now c.args.name.now c.args.at absent)
-    ∙ map-append (λ (e : Name × ItemAt). e.1) c.args.table.now.entries ((c.args.name.now, c.args.at) ∷ []) in
-    λ more h. subst Rises (sym (ap (λ z. z ++ more) grown ∙ append_assoc (table_places c.args.table.now) (c.args.at ∷ []) more)) h
+    let absent = is_none (get bytes_eq c.args.table.now c.args.name.now) (sym c.contains_key.ensures ∙ c.if-not-contains_key.true) in
+    let grown = c.in_ok-insert.ensures.entries ∙ ap (λ k. insert_entry bytes_eq c.args.table.now.entries k c.args.at) c.in_ok-copy.ensures ∙ insert_entry-new bytes_eq c.args.table.now c.args.name.now c.args.at absent in
+    λ more h. rw (grown, map-append, append_assoc) h

@@ -1,9 +1,11 @@
-use Rattle.adl_names.proofs.Common.{drop, map, bytes_eq, get, located, table_places}
-use Rattle.adl_names.proofs.Rising.{AreFilled}
+use Rattle.adl_names.proofs.Common.{◌≡◌, ◌++◌, drop, map, option_map, located, Name, Rises, as_component, as_procedure, component_named, procedure_named, first_place, table_places}
+use Rattle.adl_names.proofs.Rising.{places}
 use Rattle.adl_names.proofs.names.resolve.Given as goal
 
 abbrev pub invariant-loop-x : goal.invariant-loop-x
-invariant-loop-x l = AreFilled (λ p. p.id.name) (get bytes_eq l.procedures) (table_places l.procedures) (map located (drop l.x-index l.x-items)) (map located l.x-items)
-
-abbrev pub invariant-loop-y : goal.invariant-loop-y
-invariant-loop-y l = AreFilled (λ c. c.id.name) (get bytes_eq l.components) (table_places l.components) (map located (drop l.y-index l.y-items)) (map located l.y-items)
+invariant-loop-x l = record {
+  procedures : (n : Name) → first_place as_procedure (λ p. p.id.name) l.procedures (map located (drop l.x-index l.x-items)) n ≡ option_map (λ p. p.0) (procedure_named l.source n);
+  components : (n : Name) → first_place as_component (λ c. c.id.name) l.components (map located (drop l.x-index l.x-items)) n ≡ option_map (λ c. c.0) (component_named l.source n);
+  procedures_rise : Rises (table_places l.procedures ++ places (map located (drop l.x-index l.x-items)));
+  components_rise : Rises (table_places l.components ++ places (map located (drop l.x-index l.x-items)));
+}

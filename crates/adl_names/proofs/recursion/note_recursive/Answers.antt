@@ -1,21 +1,34 @@
-use Rattle.adl_names.proofs.Common.{◌≡◌, ◌∙◌, ℕ, List, map, subst, sym, ap, Option, flat_map, enumerate_from, Component, trees, noted, Name, recursive_in, ItemAt, found, trees-located, InRange, number_named, recursive_among, numbers_below, graph_in_range}
-use Rattle.adl_names.proofs.Recurring.{graph_length}
+use Rattle.adl_names.proofs.Common.{Bor, Component, Instance, ItemAt, List, Located, Name, Option, ap, arith, found, get_map, graph_in_range, graph_of, in_place, length, length-map, listed, map, number_named, numbers_below, option_copied, pointed, refl, slice_get_read, sym, trees, trees-located, types_of, ℕ, ◌∙◌, ◌≡◌}
 use Rattle.adl_names.proofs.recursion.note_recursive.Goals as goal
+
+graph_length : (numbers : Name → Option ℕ) (g : List (List ℕ)) (xs : List (Located Component)) → g ≡ graph_of numbers (trees xs) → length g ≡ length xs
+graph_length numbers g xs e = ap length e ∙ length-map (trees xs) (types_of numbers) ∙ length-map xs (λ (x : Located Component). x.item.now)
 
 pub of-requires-clause-range : goal.of-requires-clause-range
 of-requires-clause-range c =
     let cs = trees c.components-components.result.now in
-    let P : List (List ℕ) → Type 0 = λ g. InRange g in
-    subst P (sym c.in_ok-graph.ensures) (graph_in_range (found c.in_ok-numbers.numbers) cs (λ m a e. numbers_below cs m a (sym (c.in_ok-numbers.ensures m) ∙ e)))
+    rw c.in_ok-graph.ensures (graph_in_range (found c.in_ok-numbers.field-0) cs (λ m a e. numbers_below cs m a (sym (c.in_ok-numbers.ensures m) ∙ e)))
 
 pub of-requires-clause-few : goal.of-requires-clause-few
 of-requires-clause-few c = let e = graph_length _ _ c.components-components.result.now c.in_ok-graph.ensures in rw e c.components-components.ensures.few
 
-pub returns : goal.returns
-returns c =
+pub loop-i-init : goal.loop-i-init
+loop-i-init c =
     let cs = c.components-components.result.now in
-    let row = λ (g : List (List ℕ)) (x : ℕ × Component). recursive_in (found c.in_ok-numbers.numbers) g x.0 x.1 in
-    let same : found c.in_ok-numbers.numbers ≡ number_named (trees cs) = λ i n. c.in_ok-numbers.ensures n i in
-    c.in_ok-note_each.ensures ∙ ap (noted c.args.first.now) (ap (λ g. flat_map (row g) (enumerate_from 0 (trees cs))) (c.in_ok-cycles.ensures ∙ c.in_ok-graph.ensures)
-    ∙ ap (λ (g : Name → Option ℕ). recursive_among g (trees cs)) same
-    ∙ ap (λ (zs : List Component). recursive_among (number_named zs) zs) (trees-located cs ∙ ap (map (λ (x : ItemAt × Component). x.1)) c.components-components.ensures.components))
+    let same : found c.in_ok-numbers.field-0 ≡ number_named (trees cs) = λ i n. c.in_ok-numbers.ensures n i in
+    let all = trees-located cs ∙ ap (map (λ (x : ItemAt × Component). x.1)) c.components-components.ensures.components in
+    rw (c.in_ok-cycles.ensures ∙ c.in_ok-graph.ensures, same, all)
+
+pub holds_back-requires-clause-component : goal.holds_back-requires-clause-component
+holds_back-requires-clause-component c = let e = graph_length _ _ c.components-components.result.now (c.in_ok-cycles.ensures ∙ c.in_ok-graph.ensures) in omega arith
+
+pub holds_back-requires-clause-inner : goal.holds_back-requires-clause-inner
+holds_back-requires-clause-inner c =
+    let xs = c.components-components.result.now in
+    let x = c.index-components-i.result in
+    let rs = c.as_slice-instance-items.result.now in
+    let r = c.instance-item.result in
+    let k = c.loop-instance.instance-index in
+    let at = get_map (λ (y : Located Component). y.item.now) xs c.loop-i.i x (slice_get_read xs (length xs) c.loop-i.i x refl (omega arith) c.index-components-i.is) in
+    let one = rw (ap pointed c.as_slice-instance-items.ensures.value ∙ c.in_ok-instances.ensures) at (in_place r.now (pointed rs) k (get_map (λ (q : Bor Instance). q.now) rs k r (slice_get_read rs (length rs) k r refl c.loop-instance-test.true c.instance-item.is))) in
+    rw (c.in_ok-cycles.ensures ∙ c.in_ok-graph.ensures) (listed (found c.in_ok-numbers.field-0) (trees xs) c.loop-i.i x.item.now r.now _ at one (sym c.get.ensures ∙ ap option_copied c.in-Some.is))

@@ -1,5 +1,5 @@
 use Rattle.adl_names.proofs.Common.{◌≡◌, drop, flat_map, filter_map, noted, known_in, known_of, as_composition, unknown_in_member, is_procedure}
-use Rattle.adl_names.proofs.unknown.note_component.Given as goal
+use Rattle.adl_names.proofs.unknown.note_body.Given as goal
 
 abbrev pub invariant-loop-member : goal.invariant-loop-member
 invariant-loop-member l = record {

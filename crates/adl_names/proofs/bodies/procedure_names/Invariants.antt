@@ -1,8 +1,0 @@
-use Rattle.adl_names.proofs.Common.{◌≡◌, ◌||◌, drop, map, find, bytes_eq, located, repeats, repeats_after, noted, Name, has_name, is_some, is_procedure, procedures}
-use Rattle.adl_names.proofs.bodies.procedure_names.Given as goal
-
-abbrev pub invariant-loop-x : goal.invariant-loop-x
-invariant-loop-x l = record {
-  noted : noted l.first (repeats_after (has_name l.names) (map (λ p. p.1.id) (map located (drop l.x-index l.x-items)))) ≡ noted l.fn.first (repeats (map (λ p. p.1.id) (procedures l.items)));
-  names : (n : Name) → (has_name l.names n || is_some (find (λ p. bytes_eq n p.1.id.name) (map located (drop l.x-index l.x-items)))) ≡ is_procedure l.items n;
-}
