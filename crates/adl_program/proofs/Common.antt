@@ -6,9 +6,9 @@ pub use Rattle.adl_hierarchy.proofs.Finite.{graph_size}
 pub use Rattle.adl_hierarchy.proofs.Steps.{kind_in, listed, reached_step}
 pub use Rattle.adl_items.specs.Located.{located, trees}
 pub use Rattle.adl_meaning.specs.Members.{as_configuration}
-pub use Rattle.adl_program.specs.Leads.{AreLeadsOf, export_lead, lead, lead_by, leaf_port, port_at}
+pub use Rattle.adl_program.specs.Leads.{AreInnerLeads, AreLeadsOf, Leads, lead_by}
+pub use Rattle.adl_program.specs.LeafInterfaces.{LeafInterface, as_leaf, leaf_at, leaf_by, leaf_in, leaf_of}
 pub use Rattle.adl_program.specs.Seen.{part_from}
-pub use Rattle.adl_program.specs.declared.leads.LeafPort.{LeafPort}
 pub use Rattle.name_tables.specs.ByName.{found}
 pub use Rattle.numbering.specs.Gather.{IsIn}
 pub use Rattle.std.proofs.Common.{Bool, List, None, Option, Some, [], ap, arith, cond, drop, false, get_or, get_or-set_other, get_or-set_same, inl, inr, length, map, nat_eq, option_map, refl, subst, suc, sym, take, true, unwrap_or, zero, ℕ, ◌++◌}

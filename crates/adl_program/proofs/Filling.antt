@@ -1,7 +1,8 @@
 -- A table filled in an order in which inner bodies stand first: what holds of each body that was filled in.
-use Rattle.adl_program.proofs.Common.{Hierarchy, IsIn, IsInnerFirst, List, Part, arith, body, get_or, get_or-set_other, get_or-set_same, graph, graph_size, has, inl, inr, length, length-set, listed, nat_eq, set, subst, suc, sym, take, take_all, true}
+use Rattle.adl_program.proofs.Common.{Hierarchy, IsIn, IsInnerFirst, List, Part, arith, body, get_or, get_or-set_other, get_or-set_same, graph, graph_size, has, inl, inr, length, length-set, listed, nat_eq, set, suc, take, take_all, true}
 use Rattle.adl_program.proofs.Common.{ℕ, ◌+◌, ◌<◌, ◌∙◌, ◌≡◌, ◌≤◌}
-use Rattle.std.proofs.lemmas.Bool.{or_cases, eqb-true, cases_eq}
+use Rattle.std.proofs.lemmas.Bool.{cases_eq}
+use Rattle.std.proofs.lemmas.Bool.Decides.{nat_tests}
 use Rattle.std.proofs.lemmas.List.Folds.{list_any_more}
 use Rattle.component_graph.proofs.Marks.{has_at}
 
@@ -11,10 +12,7 @@ pub record IsFilled {T : Type 0} (P : ℕ → T → Type 0) (h : Hierarchy) (ord
   pub each : (k : ℕ) (t : T) → has (take i order) k ≡ true → P k (get_or all k t)
 
 pub order_below : (h : Hierarchy) (order : List ℕ) (i : ℕ) → IsInnerFirst (graph h) order → i < length order → get_or order i 0 ≤ length h.bodies
-order_below h order i o l =
-    let k : get_or order i 0 < length (graph h) = o.below (get_or order i 0) (has_at order i l) in
-    let n = graph_size h in
-    omega arith
+order_below h order i o l = omega (arith, o.below (get_or order i 0) (has_at order i l), graph_size h)
 
 -- an instance's component was filled in before
 pub inner_filled : (h : Hierarchy) (order : List ℕ) (i : ℕ) (x : Part) → IsInnerFirst (graph h) order → i < length order → IsIn x (body h (get_or order i 0)).parts → has (take i order) x.kind ≡ true
@@ -25,22 +23,12 @@ pub filled_more : {T : Type 0} (P : ℕ → T → Type 0) (h : Hierarchy) (order
 filled_more P h order all i t o l r e = record {
   length_is = length-set all (get_or order i 0) t ∙ r.length_is;
   each = λ k u m. elim (cases_eq k (get_or order i 0)) [
-    | inl p ↦ let Q : ℕ → Type 0 = λ y. P y (get_or (set all (get_or order i 0) t) y u) in
-        let b : get_or order i 0 ≤ length h.bodies = order_below h order i o l in
-        let w : get_or order i 0 < length all = omega (arith, r.length_is) in
-        subst Q (sym p) (subst (P (get_or order i 0)) (sym (get_or-set_same all (get_or order i 0) t u w)) e)
-    | inr n ↦ subst (P k) (sym (get_or-set_other all (get_or order i 0) k t u n)) (r.each k u (elim (or_cases (has (take i order) k) (nat_eq k (get_or order i 0)) (sym (list_any_more (nat_eq k) order i 0 l) ∙ m)) [
-      | inl q ↦ q
-      | inr q ↦ absurd (n (eqb-true k (get_or order i 0) q))
-    ]))
+    | inl p ↦ let w : get_or order i 0 < length all = omega (arith, r.length_is, order_below h order i o l) in rw (p, get_or-set_same all (get_or order i 0) t u w) e
+    | inr n ↦ rw (get_or-set_other all (get_or order i 0) k t u n) (r.each k u (grind (arith, nat_tests, list_any_more (nat_eq k) order i 0 l)))
   ];
 }
 
 -- at the end all are filled in
 pub all_filled : {T : Type 0} (P : ℕ → T → Type 0) (h : Hierarchy) (order : List ℕ) (all : List T) (i : ℕ) → IsInnerFirst (graph h) order → length order ≤ i → IsFilled P h order all i
     → (k : ℕ) (t : T) → k ≤ length h.bodies → P k (get_or all k t)
-all_filled P h order all i o l r k t b =
-    let n = graph_size h in
-    let w : k < length (graph h) = omega arith in
-    let Q : List ℕ → Type 0 = λ xs. has xs k ≡ true in
-    r.each k t (subst Q (sym (take_all i order l)) (o.whole k w))
+all_filled P h order all i o l r k t b = r.each k t (rw (take_all i order l) (o.whole k (omega (arith, graph_size h))))

@@ -3,7 +3,6 @@ pub mod Filling
 pub mod Joined
 pub mod Leading
 pub mod PartNumbers
-pub mod Parts
 pub mod Ports
 pub mod Reading
 pub mod Tables

@@ -1,5 +1,6 @@
 -- The instance of a name, by its number and that of its component.
-use Rattle.adl_program.proofs.Common.{Bool, Hierarchy, IsIn, List, Name, None, Option, Part, Some, [], ap, arith, body, bytes_eq, cond, enumerate_from, false, find, option_map, part_from, part_named, refl, slice_get, sym, true, ℕ, ◌+◌, ◌∙◌, ◌∷◌, ◌≡◌}
+use Rattle.adl_program.proofs.Common.{Bool, Hierarchy, IsIn, List, Name, None, Part, Some, [], ap, arith, body, bytes_eq, enumerate_from, find, option_map, part_from, part_named, refl, slice_get, sym, ℕ, ◌+◌, ◌∙◌, ◌∷◌, ◌≡◌}
+use Rattle.std.proofs.lemmas.Grind.{common_steps}
 use Rattle.numbering.proofs.Gathered.{in_place}
 use Rattle.numbering.proofs.Lists.{found, from_enumerate, map_some}
 use Rattle.adl_program.specs.declared.part.PartAt.{PartAt}
@@ -7,12 +8,7 @@ use Rattle.adl_program.specs.declared.part.PartAt.{PartAt}
 -- a search that tells numbers too finds the same
 finds_same : {X : Type 0} (p : X → Bool) (a : ℕ) (xs : List X) → option_map (λ (x : ℕ × X). x.1) (find (λ (x : ℕ × X). p x.1) (enumerate_from a xs)) ≡ find p xs
 finds_same p a [] = refl
-finds_same {X} p a (x ∷ xs) = by (p x) (finds_same p (a + 1) xs)
-  where
-    by : (b : Bool) → option_map (λ (x : ℕ × X). x.1) (find (λ (x : ℕ × X). p x.1) (enumerate_from (a + 1) xs)) ≡ find p xs
-        → option_map (λ (x : ℕ × X). x.1) (cond b (Some (a, x)) (find (λ (x : ℕ × X). p x.1) (enumerate_from (a + 1) xs))) ≡ cond b (Some x) (find p xs)
-    by true e = refl
-    by false e = e
+finds_same p a (x ∷ xs) = grind (arith, common_steps, finds_same p (a + 1) xs)
 
 -- an instance found by name
 pub record IsNamed (h : Hierarchy) (k : ℕ) (n : Name) (a : PartAt) : Type 0 where
@@ -39,10 +35,4 @@ is_named h k n a e =
     }
 
 pub is_unnamed : (h : Hierarchy) (k : ℕ) (n : Name) → part_from 0 (body h k).parts n ≡ None → part_named (body h k).parts n ≡ None
-is_unnamed h k n e =
-    let p : Part → Bool = λ x. bytes_eq n x.instance.id.name in
-    sym (finds_same p 0 (body h k).parts) ∙ none (find (λ (x : ℕ × Part). p x.1) (enumerate_from 0 (body h k).parts)) e
-  where
-    none : (o : Option (ℕ × Part)) → option_map (λ (x : ℕ × Part). let a : PartAt = record { number = x.0; kind = x.1.kind } in a) o ≡ None → option_map (λ (x : ℕ × Part). x.1) o ≡ None
-    none None f = refl
-    none (Some x) f = cc
+is_unnamed h k n e = grind (arith, common_steps, finds_same (λ (x : Part). bytes_eq n x.instance.id.name) 0 (body h k).parts)

@@ -1,4 +1,3 @@
 pub mod Leads
 pub mod LeafInterfaces
-pub mod Lines
 pub mod Seen

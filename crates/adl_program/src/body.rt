@@ -1,19 +1,18 @@
 //! Bodies: components and the assembly.
 
-ghost use Rattle.adl_meaning.specs.Prelude.{body_of, bytes_eq, declared_as, declared_by, enumerate_from, filter_map, interface_of, is_device, is_group, is_interface, list_any, option_and_then, option_copied, option_map_or, option_or, parts_in, place_by, slice_get, top_of, wires_of};
-ghost use Rattle.adl_meaning.specs.Members.{attribute_of, configurations};
+ghost use Rattle.adl_meaning.specs.Prelude.{body_of, bytes_eq, declared_by, interface_of, is_device, is_group, is_interface, list_any, option_and_then, option_copied, option_map_or, option_or, parts_in, place_by, slice_get, top_of, wires_of};
+ghost use Rattle.adl_meaning.specs.Prelude.{Id as Word};
+ghost use Rattle.adl_meaning.specs.Members.{Declared as Told, attribute_of, configurations};
 ghost use Rattle.name_tables.specs.ByName.{found};
 ghost use Rattle.adl_items.specs.Declaring.{declaring_told};
 ghost use Rattle.adl_items.specs.Firsts.{first_named};
 ghost use Rattle.adl_items.specs.Located.{located};
-ghost use Rattle.adl_program.specs.Lines.{lines_of};
+ghost use Rattle.adl_program.specs.LeafInterfaces.{leaf_at};
 ghost use Rattle.adl_program.specs.Seen.{part_from, IsComposed, AreMembers};
-ghost use Rattle.std.specs.Prelude.{◌≡◌, [], ℕ, List as Seq, None, Some, false, is_some, option_map, unwrap_or, length, OnOk, IfOk};
+ghost use Rattle.std.specs.Prelude.{◌≡◌, ℕ, List as Seq, ◌++◌, Some, false, is_some, option_map, OnOk, IfOk};
 
 use crate::part::{Part, PartAt, Wire, parts_of, wires_of};
-use adl_ast::{
-    Assembly, Attribute, Component, Composition, Configuration, Interface, Line, Member,
-};
+use adl_ast::{Assembly, Attribute, Component, Composition, Configuration, Interface, Member};
 use adl_items::{Declared, Located, composition_of, is_device};
 use adl_meaning::ItemAt;
 use cam_base::{Name, NoMemory};
@@ -50,6 +49,21 @@ pub struct Members<'a> {
     count: usize,
     /// Whether one of them says `hardware`.
     hardware: bool,
+}
+
+/// An interface of a leaf, and whether the leaf is a device. Contracts see it as the two.
+#[derive(Drop)]
+pub struct Leaf<'a> {
+    pub interface: &'a Interface,
+    pub hardware: bool,
+}
+
+impl<'a> Model for Leaf<'a> {
+    ghost use Rattle.adl_program.specs.LeafInterfaces.{LeafInterface};
+
+    ghost Value = { LeafInterface };
+
+    ghost view = { λ l. record { interface = l.interface.now; hardware = l.hardware } };
 }
 
 impl<'a> Model for Body<'a> {
@@ -170,6 +184,20 @@ impl<'a> Body<'a> {
             .copied()
             .unwrap_or(self.members.count)
     }
+
+    /// The first interface of its component under the name, as typing looks at it, if the component has one.
+    pub fn leaf(&self, name: &Name) -> Option<Leaf<'a>>
+        ensures { result ≡ leaf_at self.now name.now }
+    {
+        let component = self.component?;
+        match component.members.as_slice().get(self.member_number(name)) {
+            Some(Member::Interface(interface)) => Some(Leaf {
+                interface,
+                hardware: self.members.hardware,
+            }),
+            _ => None,
+        }
+    }
 }
 
 /// The configuration of a component, the first.
@@ -184,64 +212,29 @@ fn configuration_of(component: &Component) -> Option<&Configuration>
     None
 }
 
-/// Instances by name, where the first of a name counts.
-fn named_parts<'a>(alloc: Global, parts: &[Part<'a>]) -> Result<NameTable<'a, PartAt>, NoMemory>
-    ensures { IfOk result (λ t. (n : Seq ℕ) → found t n ≡ part_from 0 parts.now n) }
+/// Instances by name, where the first of a name counts, and the names of groups.
+#[tactic(auto, using(crate::proofs::Tables::filling, std::proofs::lemmas::Grind::common_steps))]
+fn names_of<'a>(
+    alloc: Global,
+    parts: &[Part<'a>],
+) -> Result<(NameTable<'a, PartAt>, NameTable<'a, ()>), NoMemory>
+    ensures parts { IfOk result (λ t. (n : Seq ℕ) → found t.0 n ≡ part_from 0 parts.now n) }
+    ensures groups { IfOk result (λ t. (n : Seq ℕ)
+        → is_some (found t.1 n) ≡ list_any (λ x. option_map_or (bytes_eq n) x.group false) parts.now) }
 {
     let mut named = NameTable::with_room(alloc, parts.len())?;
-    for (number, part) in parts.iter().enumerate() {
-        let part: &Part<'a> = part;
-        let at = PartAt {
-            number,
-            kind: part.kind,
-        };
-        named.add(&part.instance.id.name, at)?;
-    }
-    Ok(named)
-}
-
-/// The names of groups.
-fn groups_of<'a>(alloc: Global, parts: &[Part<'a>]) -> Result<NameTable<'a, ()>, NoMemory>
-    ensures { IfOk result (λ t. (n : Seq ℕ)
-        → is_some (found t n) ≡ list_any (λ x. option_map_or (bytes_eq n) x.group false) parts.now) }
-{
     let mut groups = NameTable::new(alloc);
-    for part in parts {
+    for (number, part) in parts.iter().enumerate() {
+        let kind = part.kind;
+        named.add(&part.instance.id.name, PartAt { number, kind })?;
         if let Some(name) = part.group {
             groups.add(name, ())?;
         }
     }
-    Ok(groups)
-}
-
-/// The places of interfaces by name, where the first of a name counts.
-fn interface_places<'a>(
-    alloc: Global,
-    members: &'a [Member],
-) -> Result<NameTable<'a, usize>, NoMemory>
-    ensures { IfOk result (λ t. (n : Seq ℕ)
-        → unwrap_or (found t n) (length members.entry.now) ≡ place_by (is_interface n) members.entry.now) }
-{
-    let mut places = NameTable::new(alloc);
-    for (place, member) in members.iter().enumerate() {
-        if let Member::Interface(interface) = member {
-            places.add(&interface.id.name, place)?;
-        }
-    }
-    Ok(places)
-}
-
-fn lines_of(composition: Option<&Composition>) -> &[Line]
-    ensures { result.now ≡ lines_of (option_copied composition.entry) }
-{
-    match composition {
-        None => &[],
-        Some(composition) => composition.lines.as_slice(),
-    }
+    Ok((named, groups))
 }
 
 /// What stands in a composition that may be absent.
-#[tactic(auto, using(crate::proofs::Parts::parts_lines, crate::proofs::Parts::wires_lines))]
 fn composed_of<'a>(
     alloc: Global,
     kinds: &NameTable<'_, u32>,
@@ -250,20 +243,30 @@ fn composed_of<'a>(
     ensures parts { IfOk result (λ t. t.parts.items ≡ parts_in (found kinds.now) (option_copied composition.entry)) }
     ensures tables { IfOk result (λ t. IsComposed (option_copied composition.entry) t) }
 {
-    let lines = lines_of(composition);
+    let Some(composition) = composition else {
+        return Ok(Composed {
+            parts: Vec::new(alloc),
+            named: NameTable::new(alloc),
+            groups: NameTable::new(alloc),
+            wires: Vec::new(alloc),
+        });
+    };
+    let lines = composition.lines.as_slice();
     let parts = parts_of(alloc, kinds, lines)?;
+    let (named, groups) = names_of(alloc, parts.as_slice())?;
     Ok(Composed {
-        named: named_parts(alloc, parts.as_slice())?,
-        groups: groups_of(alloc, parts.as_slice())?,
         parts,
+        named,
+        groups,
         wires: wires_of(alloc, lines)?,
     })
 }
 
 /// Puts what a member declares under its name, where the name has nothing yet.
+#[tactic(auto, using(crate::proofs::Tables::filling, std::proofs::lemmas::Grind::common_steps))]
 fn declare<'a>(member: &'a Member, table: &mut NameTable<'a, Declared<'a>>) -> Result<(), NoMemory>
-    ensures { OnOk result ((n : Seq ℕ) → declaring_told table.new n
-        ≡ option_or (declaring_told table.old n) (first_named (declared_by member.entry.now) n)) }
+    ensures { OnOk result ((n : Seq ℕ) (more : Seq (Word × Told)) → option_or (declaring_told table.new n) (first_named more n)
+        ≡ option_or (declaring_told table.old n) (first_named (declared_by member.entry.now ++ more) n)) }
 {
     match member {
         Member::Interface(it) => table.add(&it.id.name, Declared::Interface(it)),
@@ -273,64 +276,24 @@ fn declare<'a>(member: &'a Member, table: &mut NameTable<'a, Declared<'a>>) -> R
     }
 }
 
-/// What a component declares by name, where the first of a name counts.
-fn declaring<'a>(
-    alloc: Global,
-    component: &'a Component,
-) -> Result<NameTable<'a, Declared<'a>>, NoMemory>
-    ensures { IfOk result (λ t. (n : Seq ℕ) → declaring_told t n ≡ declared_as component.now n) }
+/// What stands among the members of a component. The first of a name counts.
+#[tactic(auto, using(crate::proofs::Tables::filling, std::proofs::lemmas::Grind::common_steps))]
+fn members_of<'a>(alloc: Global, component: &'a Component) -> Result<Members<'a>, NoMemory>
+    ensures { IfOk result (λ t. AreMembers (Some component.entry.now) t) }
 {
-    let mut table = NameTable::new(alloc);
-    for member in component.members.as_slice() {
-        declare(member, &mut table)?;
+    let mut declared = NameTable::new(alloc);
+    let mut places = NameTable::new(alloc);
+    for (place, member) in component.members.as_slice().iter().enumerate() {
+        declare(member, &mut declared)?;
+        if let Member::Interface(interface) = member {
+            places.add(&interface.id.name, place)?;
+        }
     }
-    Ok(table)
-}
-
-/// What stands among the members of a component that may be absent.
-fn members_of<'a>(alloc: Global, component: Option<&'a Component>) -> Result<Members<'a>, NoMemory>
-    ensures { IfOk result (λ t. AreMembers (option_copied component.entry) t) }
-{
-    match component {
-        None => Ok(Members {
-            declared: NameTable::new(alloc),
-            places: NameTable::new(alloc),
-            count: 0,
-            hardware: false,
-        }),
-        Some(component) => Ok(Members {
-            declared: declaring(alloc, component)?,
-            places: interface_places(alloc, component.members.as_slice())?,
-            count: component.members.len(),
-            hardware: is_device(component),
-        }),
-    }
-}
-
-/// The body of these parts.
-fn body_with<'a>(
-    alloc: Global,
-    kinds: &NameTable<'_, u32>,
-    item: Option<ItemAt>,
-    component: Option<&'a Component>,
-    composition: Option<&'a Composition>,
-    configuration: Option<&'a Configuration>,
-) -> Result<Body<'a>, NoMemory>
-    ensures { IfOk result (λ b. b ≡ record {
-      item = item;
-      component = option_copied component.entry;
-      composition = option_copied composition.entry;
-      configuration = option_copied configuration.entry;
-      parts = parts_in (found kinds.now) (option_copied composition.entry);
-    }) }
-{
-    Ok(Body {
-        item,
-        component,
-        composition,
-        configuration,
-        composed: composed_of(alloc, kinds, composition)?,
-        members: members_of(alloc, component)?,
+    Ok(Members {
+        declared,
+        places,
+        count: component.members.len(),
+        hardware: is_device(component),
     })
 }
 
@@ -343,15 +306,14 @@ pub fn body_of<'a>(
     ensures { IfOk result (λ b. b ≡ body_of (found kinds.now) (it.now.at, it.now.item.now)) }
 {
     let composition = composition_of(it.item);
-    let configuration = configuration_of(it.item);
-    body_with(
-        alloc,
-        kinds,
-        Some(it.at),
-        Some(it.item),
+    Ok(Body {
+        item: Some(it.at),
+        component: Some(it.item),
         composition,
-        configuration,
-    )
+        configuration: configuration_of(it.item),
+        composed: composed_of(alloc, kinds, composition)?,
+        members: members_of(alloc, it.item)?,
+    })
 }
 
 /// The body of an assembly that may be absent.
@@ -362,12 +324,25 @@ pub fn top_of<'a>(
 ) -> Result<Body<'a>, NoMemory>
     ensures { IfOk result (λ b. b ≡ top_of (found kinds.now) (option_map located it.now)) }
 {
-    match it {
-        None => body_with(alloc, kinds, None, None, None, None),
+    let (item, composition, configuration) = match it {
+        None => (None, None, None),
         Some(it) => {
-            let composition = Some(&it.item.composition);
-            let configuration = it.item.configuration.as_ref();
-            body_with(alloc, kinds, Some(it.at), None, composition, configuration)
+            let assembly = it.item;
+            let configuration = assembly.configuration.as_ref();
+            (Some(it.at), Some(&assembly.composition), configuration)
         }
-    }
+    };
+    Ok(Body {
+        item,
+        component: None,
+        composition,
+        configuration,
+        composed: composed_of(alloc, kinds, composition)?,
+        members: Members {
+            declared: NameTable::new(alloc),
+            places: NameTable::new(alloc),
+            count: 0,
+            hardware: false,
+        },
+    })
 }

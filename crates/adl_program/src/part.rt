@@ -1,9 +1,8 @@
 //! The instances and the connections of a body.
 
-ghost use Rattle.adl_meaning.specs.Prelude.{filter_map, flat_map, option_copied, parts_by};
+ghost use Rattle.adl_meaning.specs.Prelude.{as_connection, filter_map, flat_map, parts_by, wire_of};
 ghost use Rattle.name_tables.specs.ByName.{found};
-ghost use Rattle.adl_program.specs.Lines.{group_by, wire_by};
-ghost use Rattle.std.specs.Prelude.{◌≡◌, ◌++◌, OnOk, IfOk};
+ghost use Rattle.std.specs.Prelude.{◌≡◌, IfOk};
 
 use adl_ast::{Connection, Instance, Line};
 use adl_items::instances_by;
@@ -63,36 +62,6 @@ impl<'a> Part<'a> {
     }
 }
 
-fn group_by(line: &Line) -> Option<&Name>
-    ensures { option_copied result ≡ group_by line.now }
-{
-    match line {
-        Line::Group(group) => Some(&group.id.name),
-        _ => None,
-    }
-}
-
-/// Puts the instances of a line behind others.
-fn add_parts<'a>(
-    kinds: &NameTable<'_, u32>,
-    line: &'a Line,
-    parts: &mut Vec<Part<'a>>,
-) -> Result<(), NoMemory>
-    ensures { OnOk result (parts.new.items ≡ parts.old.items ++ parts_by (found kinds.now) line.entry.now) }
-{
-    let group = group_by(line);
-    for instance in instances_by(line) {
-        if let Some(kind) = kinds.get(&instance.component.name) {
-            parts.push(Part {
-                instance,
-                group,
-                kind: *kind,
-            })?;
-        }
-    }
-    Ok(())
-}
-
 /// The instances of lines.
 pub fn parts_of<'a>(
     alloc: Global,
@@ -103,33 +72,36 @@ pub fn parts_of<'a>(
 {
     let mut parts = Vec::new(alloc);
     for line in lines {
-        add_parts(kinds, line, &mut parts)?;
+        let group = match line {
+            Line::Group(group) => Some(&group.id.name),
+            _ => None,
+        };
+        for instance in instances_by(line) {
+            if let Some(kind) = kinds.get(&instance.component.name) {
+                parts.push(Part {
+                    instance,
+                    group,
+                    kind: *kind,
+                })?;
+            }
+        }
     }
     Ok(parts)
 }
 
-/// The connection that a line is, where its connector is one of the six.
-fn wire_by(line: &Line) -> Option<Wire<'_>>
-    ensures { result ≡ wire_by line.now }
-{
-    let Line::Connection(connection) = line else {
-        return None;
-    };
-    let connector = Connector::find(connection.connector.name.as_bytes())?;
-    Some(Wire {
-        connector,
-        connection,
-    })
-}
-
 /// The connections among lines, where the connector is one of the six.
 pub fn wires_of<'a>(alloc: Global, lines: &'a [Line]) -> Result<Vec<Wire<'a>>, NoMemory>
-    ensures { IfOk result (λ v. v.items ≡ filter_map wire_by lines.entry.now) }
+    ensures { IfOk result (λ v. v.items ≡ filter_map wire_of (filter_map as_connection lines.entry.now)) }
 {
     let mut wires = Vec::new(alloc);
     for line in lines {
-        if let Some(wire) = wire_by(line) {
-            wires.push(wire)?;
+        if let Line::Connection(connection) = line {
+            if let Some(connector) = Connector::find(connection.connector.name.as_bytes()) {
+                wires.push(Wire {
+                    connector,
+                    connection,
+                })?;
+            }
         }
     }
     Ok(wires)

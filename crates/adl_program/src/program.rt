@@ -1,16 +1,13 @@
 //! A source, resolved.
 
-ghost use Rattle.adl_hierarchy.specs.Finite.{IsFinite};
 ghost use Rattle.adl_meaning.specs.Prelude.{AreFew, AreNamesSound, IsInnerFirst, body, graph, hierarchy_of, top_number};
-ghost use Rattle.adl_program.specs.Leads.{lead};
-ghost use Rattle.adl_program.specs.LeafInterfaces.{leaf_at, leaf_of};
+ghost use Rattle.adl_program.specs.LeafInterfaces.{leaf_of};
 ghost use Rattle.std.specs.Prelude.{◌≡◌, ◌≤◌, ◌<◌, ◌+◌, ◌^◌, IfOk};
 
 use crate::bodies::{Bodies, bodies_of, graph};
-use crate::body::Body;
-use crate::leads::{Leads, LeafPort, all_leads, lead};
-use crate::leaf::Leaf;
-use adl_ast::{Id, Member, Source};
+use crate::body::{Body, Leaf};
+use crate::leads::{Leads, all_leads, lead};
+use adl_ast::{Id, Source};
 use adl_hierarchy::sound_hierarchies_are_finite;
 use cam_base::{List, NoMemory};
 use component_graph::inner_first;
@@ -72,46 +69,12 @@ impl<'a> Program<'a> {
         self.order.as_slice()
     }
 
-    /// The leaf interface that a dotted name means in the body of the number.
-    pub fn lead(&self, number: u32, words: &[Id]) -> Option<LeafPort>
-        requires { number ≤ top_number self.now }
-        ensures { result ≡ lead self.now number words.now }
-    {
-        lead(&self.bodies, self.leads.as_slice(), number, words)
-    }
-
-    /// What stands at a leaf interface, if it is one.
-    pub fn leaf_at(&self, port: LeafPort) -> Option<Leaf<'a>>
-        ensures { result ≡ leaf_at self.now port }
-    {
-        let body = self.bodies.body(port.kind);
-        match body.component()?.members.as_slice().get(port.member) {
-            Some(Member::Interface(interface)) => Some(Leaf {
-                interface,
-                hardware: body.is_hardware(),
-            }),
-            _ => None,
-        }
-    }
-
-    /// The leaf interface that a dotted name means in the body of the number.
+    /// What stands at the leaf interface that a dotted name means in the body of the number.
     pub fn leaf(&self, number: u32, words: &[Id]) -> Option<Leaf<'a>>
         requires { number ≤ top_number self.now }
         ensures { result ≡ leaf_of self.now number words.now }
     {
-        self.leaf_at(self.lead(number, words)?)
-    }
-}
-
-/// The numbers of the bodies, each after the components of its instances.
-fn order_of(alloc: Global, bodies: &Bodies<'_>) -> Result<List<u32>, NoMemory>
-    requires { IsFinite bodies.now }
-    ensures { IfOk result (λ order. IsInnerFirst (graph bodies.now) order) }
-{
-    let graph = graph(alloc, bodies)?;
-    match inner_first(alloc, graph.as_slice())? {
-        None => unreachable!(),
-        Some(order) => Ok(order),
+        lead(&self.bodies, self.leads.as_slice(), number, words)
     }
 }
 
@@ -127,7 +90,10 @@ pub fn program_of<'a>(alloc: Global, source: &'a Source) -> Result<Program<'a>, 
 {
     sound_hierarchies_are_finite();
     let bodies = bodies_of(alloc, source)?;
-    let order = order_of(alloc, &bodies)?;
+    let graph = graph(alloc, &bodies)?;
+    let Some(order) = inner_first(alloc, graph.as_slice())? else {
+        unreachable!()
+    };
     let leads = all_leads(alloc, &bodies, order.as_slice())?;
     Ok(Program {
         bodies,
