@@ -7,13 +7,13 @@ pub use Rattle.adl_meaning.specs.Joins.{connections_in}
 pub use Rattle.adl_program.proofs.Filling.{IsFilled, all_filled, filled_more, inner_filled, order_below}
 pub use Rattle.adl_program.proofs.PartNumbers.{is_named, is_unnamed}
 pub use Rattle.adl_program.specs.Seen.{part_from}
-pub use Rattle.adl_templates.specs.AreTemplates.{AreBefore, AreInner, AreWanted, IsReady, IsTemplate, IsWantedTemplate}
-pub use Rattle.adl_templates.specs.Templates.{Connected, Homed, Joined, connection_in, connections_by, end_in, ends_in, export_target, homed, leaf_place, leaves_before, leaves_by, member_of, moved_connection, moved_end, moved_leaf, moved_target}
+pub use Rattle.adl_templates.specs.AreTemplates.{AreBefore, AreInner, IsReady, IsTemplate}
+pub use Rattle.adl_templates.specs.Templates.{Connected, Homed, Joined, connection_in, connections_by, end_in, ends_in, export_target, homed, leaf_place, leaves_before, leaves_by, moved_connection, moved_end, moved_leaf, moved_target}
 pub use Rattle.adl_templates.specs.Templates.{own_connections, own_end, own_target, target, target_by, target_in, target_of, template_connections, template_leaves}
 pub use Rattle.adl_templates.specs.declared.template.Template.{Template}
 pub use Rattle.name_tables.specs.ByName.{found}
 pub use Rattle.numbering.proofs.Gathered.{get_behind, get_front, in_place, place_of}
-pub use Rattle.numbering.proofs.Lists.{below, flat_map_same, from_any, from_filter_map, get_map, map_some, read_in, read_place}
+pub use Rattle.numbering.proofs.Lists.{below, flat_map_same, from_filter_map, get_map, map_some, read_in, read_place}
 pub use Rattle.numbering.specs.Gather.{IsIn}
 pub use Rattle.std.proofs.Common.{Bool, List, None, Option, Some, [], ap, append_assoc, arith, cond, drop, false, get_or, get_or-set_other, get_or-set_same, inl, inr, is_some, length, map, option_map, refl, rules, slice_index, subst, suc, sym, take}
 pub use Rattle.std.proofs.Common.{true, zero, ℕ, ◌&&◌, ◌++◌, ◌+◌, ◌-◌, ◌<◌, ◌==◌, ◌^◌, ◌||◌, ◌∙◌, ◌∷◌, ◌≡◌, ◌≤◌}

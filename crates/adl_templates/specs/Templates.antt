@@ -5,7 +5,7 @@
 -- is added to each leaf's number. Leaves below a group are at home at the outermost one.
 use Rattle.std.specs.Prelude.{ℕ, ◌+◌, Bool, false, List, [], ◌∷◌, ◌++◌, map, length, take, Option, Some, None, option_map, if◌then◌else◌}
 use Rattle.adl_meaning.specs.Prelude.{Body, End, Hierarchy, Id, Name, Part, Path, Placed, Reached, Strung, Wire, body, export_named, exports_of, filter_map, flat_map, group_above, group_or, interface_of, is_composite, is_device, is_interface}
-use Rattle.adl_meaning.specs.Prelude.{joined_by, leaves_in, member_number, name_of, option_and_then, option_map_or, outside, place_by, placed_by, port_in, reached, same_path, strung, wires_of}
+use Rattle.adl_meaning.specs.Prelude.{joined_by, leaves_in, member_number, name_of, option_and_then, option_map_or, outside, place_by, port_in, reached, same_path, strung, wires_of}
 use Rattle.adl_meaning.specs.JoinedEnds.{is_once, joins_once}
 use Rattle.adl_meaning.specs.Joins.{connections_in}
 use Rattle.adl_templates.specs.declared.placed.Target.{Target}
@@ -81,10 +81,6 @@ export_target h k n = option_map (λ e. target_of h k e.words) (export_named (ex
 
 -- ---- placing
 
--- the number of leaves in front of instance number i of body k
-abbrev pub leaves_before : Hierarchy → ℕ → ℕ → ℕ
-leaves_before h k i = length (flat_map (placed_by h (leaves_in h)) (take i (body h k).parts))
-
 abbrev pub moved_leaf : Part → Homed → Homed
 moved_leaf x l = record { leaf = outside (name_of x) l.leaf; home = group_or x.group (option_map (λ q. name_of x ∷ q) l.home) }
 
@@ -95,6 +91,10 @@ leaves_by h x =
     then map (moved_leaf x) (template_leaves h x.kind)
     else record { leaf = record { path = name_of x ∷ []; part = x }; home = group_or x.group None } ∷ []
 
+-- the number of leaves in front of instance number i of body k
+abbrev pub leaves_before : Hierarchy → ℕ → ℕ → ℕ
+leaves_before h k i = length (flat_map (leaves_by h) (take i (body h k).parts))
+
 abbrev pub moved_end : ℕ → Joined → Joined
 moved_end o e = record e { leaf = o + e.leaf }
 
@@ -102,21 +102,17 @@ abbrev pub moved_connection : Name → ℕ → Connected → Connected
 moved_connection n o c = record c { path = n ∷ c.path; ends = map (moved_end o) c.ends }
 
 -- the connections inside instance number i of body k
-abbrev pub connections_by : Hierarchy → ℕ → ℕ × Part → List Connected
-connections_by h k x = map (moved_connection (name_of x.1) (leaves_before h k x.0)) (template_connections h x.1.kind)
+abbrev pub connections_by : Hierarchy → ℕ → ℕ → Part → List Connected
+connections_by h k i x = map (moved_connection (name_of x) (leaves_before h k i)) (template_connections h x.kind)
 
 abbrev pub moved_target : ℕ → Target → Target
 moved_target o t = record t { leaf = o + t.leaf }
-
--- the place of the interface j among the members of a body's component
-abbrev pub member_of : Body → Name → ℕ
-member_of b j = option_map_or (λ c. place_by (is_interface j) c.members) b.component 0
 
 -- the interface j of a leaf of the body, with so many leaves before it
 abbrev pub own_target : Body → ℕ → Name → Target
 own_target b before j = record {
   leaf = before;
-  member = member_of b j;
+  member = option_map_or (λ c. place_by (is_interface j) c.members) b.component 0;
   once = option_map_or (λ i. joins_once (option_map_or is_device b.component false) i.kind) (option_and_then (λ c. interface_of c j) b.component) false;
 }
 

@@ -1,8 +1,8 @@
 //! The bodies that the assembly holds.
 
-ghost use Rattle.adl_meaning.specs.Prelude.{leaves, list_any, top_number};
-ghost use Rattle.adl_templates.specs.AreTemplates.{AreWanted, IsReady};
-ghost use Rattle.std.specs.Prelude.{◌≡◌, ◌==◌, ◌<◌, ◌^◌, ◌&&◌, ◌||◌, ℕ, All, true, false, slice_index_or, length, IfOk};
+ghost use Rattle.adl_meaning.specs.Prelude.{leaves, list_any};
+ghost use Rattle.adl_templates.specs.AreTemplates.{AreHeld, IsReady};
+ghost use Rattle.std.specs.Prelude.{◌≡◌, ◌==◌, ◌<◌, ◌^◌, ◌&&◌, ◌||◌, ℕ, [], All, false, slice_index_or, length, IfOk};
 
 use adl_program::{Part, Program};
 use cam_base::NoMemory;
@@ -17,7 +17,7 @@ fn mark_inner(number: u32, parts: &[Part<'_>], marks: &mut [bool])
 {
     if marks[number as usize] {
         for part in parts {
-            marks[part.kind() as usize] = true;
+            marks[part.kind as usize] = true;
         }
     }
 }
@@ -26,16 +26,13 @@ fn mark_inner(number: u32, parts: &[Part<'_>], marks: &mut [bool])
 pub fn held_bodies(alloc: Global, program: &Program<'_>) -> Result<Vec<bool>, NoMemory>
     requires ready { IsReady program.now }
     requires few { length (leaves program.now) < 2 ^ 32 }
-    ensures wanted { IfOk result (λ v. AreWanted program.now v.items) }
-    ensures top { IfOk result (λ v. slice_index_or v.items (top_number program.now) false ≡ true) }
+    ensures { IfOk result (λ v. AreHeld program.now [] v.items) }
 {
     let top = program.top_number() as usize;
     let mut held = vec![in alloc; false; top + 1]?;
     held[top] = true;
     let order = program.order();
-    let mut left = order.len();
-    while left > 0 {
-        left -= 1;
+    for left in (0..order.len()).rev() {
         let number = order[left];
         mark_inner(number, program.body(number).parts(), held.as_mut_slice());
     }

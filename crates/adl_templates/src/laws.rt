@@ -1,8 +1,9 @@
 //! What the definitions promise together, as a function that does nothing.
 
-ghost use Rattle.adl_meaning.specs.Prelude.{Hierarchy, Name, Part, body, enumerate_from, flat_map, part_named, slice_get, top_number};
+ghost use Rattle.adl_meaning.specs.Prelude.{Hierarchy, Name, Part, body, flat_map, part_named, slice_get, top_number};
 ghost use Rattle.adl_templates.specs.AreTemplates.{IsReady};
 ghost use Rattle.adl_templates.specs.Templates.{template_leaves, template_connections, own_connections, connections_by, leaves_by, leaves_before, target, target_by};
+ghost use Rattle.numbering.specs.Gather.{gather};
 ghost use Rattle.std.specs.Prelude.{◌≡◌, ◌≤◌, ◌++◌, ℕ, Some};
 
 /// The template of a body is made of those of its instances' components: its leaves with their homes, its connections,
@@ -12,7 +13,7 @@ pub fn templates_are_placed()
         → template_leaves h k ≡ flat_map (leaves_by h) (body h k).parts }
     ensures connections { (h : Hierarchy) → IsReady h → (k : ℕ) → k ≤ top_number h
         → template_connections h k ≡ own_connections h k
-        ++ flat_map (connections_by h k) (enumerate_from 0 (body h k).parts) }
+        ++ gather (connections_by h k) (body h k).parts }
     ensures targets { (h : Hierarchy) → IsReady h → (k i : ℕ) (c j : Name) (x : Part) → k ≤ top_number h
         → slice_get (body h k).parts i ≡ Some x → part_named (body h k).parts c ≡ Some x
         → target h k (c, j) ≡ target_by h (leaves_before h k i) x.kind j }
