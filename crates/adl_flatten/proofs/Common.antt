@@ -6,10 +6,10 @@ pub use Rattle.adl_meaning.specs.declared.item_at.ItemAt.{ItemAt}
 pub use Rattle.adl_meaning.specs.Prelude.{connections, cons_option, count_by, depth, domain_number, domain_of, domains, enumerate_from, filter, filter_map, first_join_fault, first_size_fault, firsts_after, flat_domain, flat_end, flat_ends, flat_map}
 pub use Rattle.adl_meaning.specs.Prelude.{flattened, further, hierarchy_of, is_at, is_composite, is_direct, is_hardware, is_inside, item_of, join_faults_in, joined_by, kind_named, leaf_of, least, leaves, leaves_in, limits_passed, list_any, name_of}
 pub use Rattle.adl_meaning.specs.Prelude.{noted, option_map_or, option_or, outside, place_by, placed_by, same_domain, same_path, slice_get, strung, strung_by, top_number, top_of, where_true, wires_of}
-pub use Rattle.adl_flatten.specs.Homes.{all_met, filled, grown, home, home_number, is_met, leaf_in, put_into}
-pub use Rattle.adl_flatten.specs.TemplateJoins.{AreCounts, all_joined, faults_by, flat_connection_of, flat_end_of, in_one, is_counted, joined_end_of, joined_of, misplaced_call, misplaced_leaf, same_key, unjoined_leaf}
+pub use Rattle.adl_flatten.specs.Homes.{filled, grown, home, leaf_in, put_into}
+pub use Rattle.adl_flatten.specs.TemplateJoins.{AreCounts, all_joined, faults_by, flat_connection_of, flat_end_of, in_one, is_counted, joined_end_of, joined_of, misplaced_call, misplaced_leaf, same_key}
 pub use Rattle.adl_flatten.specs.TotalsOf.{add_part, body_total, both, ends_of, limits_in, outer, own_total, part_total, saturated, totals_in, totals_of}
-pub use Rattle.adl_flatten.specs.declared.sums.Totals.{Totals}
+pub use Rattle.adl_flatten.specs.declared.limits.Totals.{Totals}
 pub use Rattle.adl_hierarchy.proofs.Finite.{sound_is_finite}
 pub use Rattle.adl_hierarchy.proofs.Steps.{connections_step, kind_in, leaves_step}
 pub use Rattle.adl_hierarchy.specs.Finite.{IsFinite}
@@ -25,7 +25,7 @@ pub use Rattle.adl_meaning.specs.SizeFaults.{all_ends, limit_passed, longest, si
 pub use Rattle.adl_meaning.specs.Unconnected.{unconnected_in, unjoined_at, unjoined_member}
 pub use Rattle.adl_meaning.specs.UsedTwice.{used_twice, used_twice_in}
 pub use Rattle.adl_program.proofs.Filling.{IsFilled, all_filled, filled_more, inner_filled, order_below}
-pub use Rattle.adl_templates.proofs.Filling.{IsRead, parts_taken, read_in, reads}
+pub use Rattle.adl_templates.proofs.Filling.{kinds_in}
 pub use Rattle.adl_templates.specs.AreTemplates.{IsReady}
 pub use Rattle.adl_templates.specs.Templates.{Connected, Homed, Joined, connection_in, end_in, ends_in, homed, template_connections, template_leaves}
 pub use Rattle.cam_base.proofs.Lists.{drop_first}

@@ -1,5 +1,5 @@
 -- What tables of counts find, and what counts of ends say.
-use Rattle.adl_flatten.proofs.Common.{JoinedEnd, List, None, Option, Some, [], arith, cond, count_by, is_at, is_counted, list_any, nat_lt, refl, same_key, unwrap_or, ℕ, ◌+◌, ◌∷◌, ◌≡◌}
+use Rattle.adl_flatten.proofs.Common.{JoinedEnd, List, None, Some, [], arith, cond, count_by, is_at, is_counted, list_any, nat_lt, refl, same_key, unwrap_or, ℕ, ◌+◌, ◌∷◌, ◌≡◌}
 use Rattle.adl_flatten.specs.declared.end_counts.EndKey.{EndKey}
 use Rattle.adl_meaning.specs.Prelude.{lookup}
 use Rattle.std.proofs.Common.{Decides, rules}

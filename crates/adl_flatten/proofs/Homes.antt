@@ -1,7 +1,8 @@
 -- Domains of leaves: paths that were met, and the leaves and domains of a flat system.
-use Rattle.adl_flatten.proofs.Common.{Bool, Domain, Hierarchy, Homed, Leaf, List, None, Option, Path, Placed, Some, [], all_met, ap, append-nil, append_assoc, arith, cond, domain_number, domain_of, domains, enumerate_from, false, filled, filter, filter_map, firsts}
-use Rattle.adl_flatten.proofs.Common.{firsts_after, flat_domain, flattened, get_or, grown, home, home_number, homed, is_hardware, is_inside, is_met, item_of, leaf_in, leaf_of, leaves, length, length-append, list_any, list_any-append, map, not, place_by, pointed}
-use Rattle.adl_flatten.proofs.Common.{position_or_len, put_into, refl, same_path, set, subst, suc, sym, template_leaves, top_number, true, zero, ℕ, ◌&&◌, ◌++◌, ◌+◌, ◌<◌, ◌||◌, ◌∙◌, ◌∷◌, ◌≡◌, ◌≤◌}
+use Rattle.adl_flatten.proofs.Common.{Bool, Domain, Hierarchy, Homed, Leaf, List, None, Path, Placed, Some, [], ap, append-nil, append_assoc, arith, cond, domain_of, domains, enumerate_from, false, filled, filter, filter_map, firsts}
+use Rattle.adl_flatten.proofs.Common.{firsts_after, flattened, grown, home, homed, is_hardware, is_inside, leaf_in, leaf_of, leaves, length, length-append, list_any, list_any-append, map, not, place_by, pointed}
+use Rattle.adl_flatten.proofs.Common.{put_into, refl, same_path, set, subst, suc, sym, template_leaves, top_number, true, unwrap_or, zero, ℕ, ◌&&◌, ◌++◌, ◌+◌, ◌||◌, ◌∙◌, ◌∷◌, ◌≡◌, ◌≤◌}
+use Rattle.std.specs.Prelude.{position}
 use Rattle.indexmap.specs.IndexSet.{insert_key}
 use Rattle.adl_hierarchy.proofs.DomainNames.{same_path-Decides, domains_once}
 use Rattle.adl_hierarchy.specs.Once.{IsOnce}
@@ -16,48 +17,42 @@ use Rattle.std.specs.Borrow.{Bor}
 
 -- ---- paths that were met
 
+-- whether the path is in the list
+abbrev pub is_met : List Path → Path → Bool
+is_met paths p = list_any (same_path p) paths
+
+-- the paths, and those of more that are not among them
+abbrev pub all_met : List Path → List Path → List Path
+all_met paths more = paths ++ firsts_after same_path (is_met paths) more
+
 -- the paths after one more leaf
-pub met_more : (old new : List (Bor Path)) (k : Bor Path) (more : List (Option Path)) → new ≡ insert_key (λ a b. same_path a.now b.now) old k → all_met (pointed new) more ≡ all_met (pointed old) (Some k.now ∷ more)
+pub met_more : (old new : List (Bor Path)) (k : Bor Path) (more : List Path) → new ≡ insert_key (λ a b. same_path a.now b.now) old k → all_met (pointed new) more ≡ all_met (pointed old) (k.now ∷ more)
 met_more old new k more e =
     let snoc : (y : Path) → is_met (pointed old ++ k.now ∷ []) y ≡ (is_met (pointed old) y || same_path y k.now) = λ y. grind (arith, common_steps, list_any-append (same_path y) (pointed old) (k.now ∷ [])) in
     let met : is_met (pointed old ++ k.now ∷ []) ≡ (λ y. is_met (pointed old) y || same_path y k.now) = λ i y. snoc y i in
     grind (arith, common_steps, met, map-append (λ (r : Bor Path). r.now) old (k ∷ []), list_any-map (same_path k.now) (λ (r : Bor Path). r.now) old)
 
--- the first place of x in a list that goes on with x where it was not met
-place_met : {K X : Type 0} (f : K → X) (is : X → Bool) (x : X) → is x ≡ true → (ks : List K) (ys zs : List X) → position_or_len (λ k. is (f k)) ks ≡ place_by is (map f ks ++ cond (list_any is (map f ks)) ys (x ∷ zs))
-place_met f is x e [] ys zs = grind (arith, common_steps)
-place_met f is x e (k ∷ ks) ys zs = grind (arith, common_steps, place_met f is x e ks ys zs)
-
--- the place that a set says is that of the path, whatever is met later
-pub met_place : (old : List (Bor Path)) (k : Bor Path) (more : List (Option Path)) → home_number (all_met (pointed old) (Some k.now ∷ more)) (Some k.now) ≡ Some (position_or_len (λ j. same_path k.now j.now) old)
-met_place old k more = sym (ap Some (place_met (λ (r : Bor Path). r.now) (same_path k.now) k.now ((same_path-Decides k.now k.now).1 refl) old _ _))
-
 -- the paths of all leaves' domains
-pub paths_are : (h : Hierarchy) (ls : List Homed) → ls ≡ template_leaves h (top_number h) → all_met [] (map (home h) ls) ≡ domains h
-paths_are h ls e = ap (λ (ls : List Homed). all_met [] (map (home h) ls)) e ∙ ap (firsts same_path) (homes (leaves h))
+pub paths_are : (h : Hierarchy) (ls : List Homed) → ls ≡ template_leaves h (top_number h) → all_met [] (filter_map (home h) ls) ≡ domains h
+paths_are h ls e = ap (λ ls. firsts same_path (filter_map (home h) ls)) e ∙ ap (firsts same_path) (homes (leaves h))
   where
-    homes : (xs : List Placed) → filter_map (λ o. o) (map (home h) (map (homed h (top_number h)) xs)) ≡ map (λ x. domain_of h x.path) (filter (λ x. not (is_hardware h x.part)) xs)
+    homes : (xs : List Placed) → filter_map (home h) (map (homed h (top_number h)) xs) ≡ map (λ x. domain_of h x.path) (filter (λ x. not (is_hardware h x.part)) xs)
     homes [] = refl
     homes (x ∷ xs) = grind (arith, common_steps, homes xs)
 
+-- the place of a path that a set finds
+pub place_found : (p : Path) (ks : List (Bor Path)) → unwrap_or (position (λ k. same_path p k.now) ks) (length ks) ≡ place_by (same_path p) (pointed ks)
+place_found p [] = refl
+place_found p (k ∷ ks) = grind (arith, common_steps, place_found p ks)
+
 -- ---- leaves
 
-pub leaves_are : (h : Hierarchy) (ls : List Homed) → ls ≡ template_leaves h (top_number h) → map (leaf_in h (all_met [] (map (home h) ls))) ls ≡ (flattened h).leaves
-leaves_are h ls e =
-    ap (λ ds. map (leaf_in h ds) ls) (paths_are h ls e) ∙ ap (map (leaf_in h (domains h))) e ∙ map-map (leaf_in h (domains h)) (homed h (top_number h)) (leaves h)
-    ∙ ap (λ f. map f (leaves h)) (λ i x. same x i)
+pub leaves_are : (h : Hierarchy) (ps : List Path) (ls : List Homed) → ps ≡ domains h → ls ≡ template_leaves h (top_number h) → map (leaf_in h ps) ls ≡ (flattened h).leaves
+leaves_are h ps ls p e =
+    (λ i. map (leaf_in h (p i)) (e i)) ∙ map-map (leaf_in h (domains h)) (homed h (top_number h)) (leaves h) ∙ ap (λ f. map f (leaves h)) (λ i x. same x i)
   where
-    number : (p : Path) (b : Bool) → home_number (domains h) (cond b None (Some p)) ≡ cond b None (Some (domain_number h p))
-    number p b = grind (arith, common_steps)
-
     same : (x : Placed) → leaf_in h (domains h) (homed h (top_number h) x) ≡ leaf_of h x
-    same x = λ i. record {
-      path = x.path;
-      component = item_of h x.part;
-      place = x.part.instance.component.place;
-      hardware = is_hardware h x.part;
-      domain = number (domain_of h x.path) (is_hardware h x.part) i;
-    }
+    same x = grind (arith, common_steps)
 
 -- ---- domains
 
@@ -88,18 +83,13 @@ domain_more h n xs x p e =
 -- what is put into the domain of the path q is put into no other one
 put_one : (f g : Path → Domain) (q : Path) (n : ℕ) (ds : List Path) → IsOnce ds → ((p : Path) → g p ≡ cond (same_path q p) (grown n (f p)) (f p)) → put_into (Some (place_by (same_path q) ds)) n (map f ds) ≡ map g ds
 put_one f g q n [] once e = refl
-put_one f g q n (p ∷ ds) once e = by_test (same_path q p) refl (put_one f g q n ds once.1 e)
+put_one f g q n (p ∷ ds) once e = grind (arith, common_steps, e p, others ds (λ s i. i), put_one f g q n ds once.1 e)
   where
     others : (ss : List Path) → ((s : Path) → IsIn s ss → IsIn s ds) → same_path q p ≡ true → map f ss ≡ map g ss
     others [] m t = refl
     others (s ∷ ss) m t =
         let no : same_path q s ≡ false = false_from_ne_true _ (λ u. once.0 (subst (λ r. IsIn r ds) (sym ((same_path-Decides q s).0 u) ∙ (same_path-Decides q p).0 t) (m s (inl refl)))) in
         grind (arith, common_steps, e s, others ss (λ r i. m r (inr i)) t)
-
-    by_test : (b : Bool) → same_path q p ≡ b → put_into (Some (place_by (same_path q) ds)) n (map f ds) ≡ map g ds
-        → put_into (Some (cond b zero (suc (place_by (same_path q) ds)))) n (map f (p ∷ ds)) ≡ map g (p ∷ ds)
-    by_test true t ih = grind (arith, common_steps, e p, others ds (λ s i. i) t)
-    by_test false t ih = grind (arith, common_steps, e p)
 
 filled_more : (h : Hierarchy) (n : ℕ) (done xs : List Placed) → n ≡ length done → filled n (map (leaf_of h) xs) (map (domain_to h done) (domains h)) ≡ map (domain_to h (done ++ xs)) (domains h)
 filled_more h n done [] e = ap (λ xs. map (domain_to h xs) (domains h)) (sym (append-nil done))

@@ -1,9 +1,8 @@
 -- The template of the assembly is the flat system.
-use Rattle.adl_flatten.proofs.Common.{Connected, Fault, Hierarchy, Homed, Joined, JoinedEnd, Leaf, List, None, Option, Reached, Some, Strung, [], all_joined, ap, arith, at_word, connection_in, connections, cons_option, domain_at, end_in, ends_in, enumerate_from}
+use Rattle.adl_flatten.proofs.Common.{Connected, Hierarchy, Homed, Joined, Leaf, List, Option, Reached, Strung, [], all_joined, ap, arith, at_word, connection_in, connections, domain_at, end_in, ends_in, enumerate_from}
 use Rattle.adl_flatten.proofs.Common.{faults_by, filter_map, flat_connection_of, flat_end, flat_end_of, flat_ends, flat_map, flat_map-map, flattened, homed, in_one, in_one_domain, is_direct, join_faults_in, joined_by, joined_end, joined_end_of, joined_ends}
 use Rattle.adl_flatten.proofs.Common.{joined_ends_of, joined_of, leaves, list_all-map, map, misplaced_call, misplaced_device, misplaced_leaf, not, option_map, parted_call, refl, same_domain, sym, template_connections, template_leaves, top_number, unjoined_at}
-use Rattle.adl_flatten.proofs.Common.{unjoined_leaf, used_twice, where_true, ℕ, ◌&&◌, ◌++◌, ◌+◌, ◌∙◌, ◌∷◌, ◌≡◌}
-use Rattle.adl_flatten.proofs.Common.{drop, drop_first, get_or, length, noted, noted-append, ◌<◌}
+use Rattle.adl_flatten.proofs.Common.{map-id, used_twice, where_true, ℕ, ◌&&◌, ◌++◌, ◌+◌, ◌∙◌, ◌∷◌, ◌≡◌}
 use Rattle.std.proofs.lemmas.Grind.{common_steps}
 use Rattle.std.proofs.lemmas.Simd.{map-map}
 use Rattle.cam_base.specs.declared.code.Code.TheVariants as code
@@ -39,8 +38,8 @@ all_joined_are h = numbered_map joined_of (joined_ends_of h) (connection_in h (t
 
 -- ---- faults
 
-unjoined_are : (h : Hierarchy) (all : List JoinedEnd) → flat_map (unjoined_leaf h all) (enumerate_from 0 (template_leaves h (top_number h))) ≡ flat_map (unjoined_at h all) (enumerate_from 0 (leaves h))
-unjoined_are h all = numbered_map (unjoined_leaf h all) (unjoined_at h all) (homed h (top_number h)) (λ n x. refl) 0 (leaves h)
+placed_are : (h : Hierarchy) → map (λ x. x.leaf) (template_leaves h (top_number h)) ≡ leaves h
+placed_are h = map-map (λ (x : Homed). x.leaf) (homed h (top_number h)) (leaves h) ∙ map-id (leaves h)
 
 devices_are : (h : Hierarchy) → flat_map (misplaced_leaf h) (template_leaves h (top_number h)) ≡ flat_map (misplaced_device h) (leaves h)
 devices_are h = flat_map-map (misplaced_leaf h) (homed h (top_number h)) (leaves h)
@@ -58,12 +57,4 @@ calls_are h = flat_map-map (misplaced_call (flattened h).leaves) (connection_in 
 pub faults_are : (h : Hierarchy) (all : List Leaf) (ls : List Homed) (cs : List Connected) → all ≡ (flattened h).leaves → ls ≡ template_leaves h (top_number h) → cs ≡ template_connections h (top_number h)
     → faults_by h all ls cs ≡ join_faults_in h
 faults_are h all ls cs p q r =
-    (λ i. faults_by h (p i) (q i) (r i)) ∙ λ i. flat_map (used_twice (all_joined_are h i)) (all_joined_are h i) ++ unjoined_are h (all_joined_are h i) i ++ (devices_are h i ++ calls_are h i)
-
--- ---- noting with numbers
-
-pub numbered_noted : {X : Type 0} (f : ℕ × X → List Fault) (new old : Option Fault) (ys : List X) (i : ℕ) (y : X) → i < length ys → y ≡ get_or ys i y → new ≡ noted old (f (i, y))
-    → noted new (flat_map f (enumerate_from (i + 1) (drop (i + 1) ys))) ≡ noted old (flat_map f (enumerate_from i (drop i ys)))
-numbered_noted f new old ys i y l e n =
-    let rest = flat_map f (enumerate_from (i + 1) (drop (i + 1) ys)) in
-    ap (λ o. noted o rest) n ∙ sym (noted-append old (f (i, y)) rest) ∙ ap (λ zs. noted old (flat_map f (enumerate_from i zs))) (sym (drop_first ys i y l e))
+    (λ i. faults_by h (p i) (q i) (r i)) ∙ λ i. flat_map (used_twice (all_joined_are h i)) (all_joined_are h i) ++ flat_map (unjoined_at h (all_joined_are h i)) (enumerate_from 0 (placed_are h i)) ++ (devices_are h i ++ calls_are h i)

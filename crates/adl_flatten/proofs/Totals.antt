@@ -1,7 +1,7 @@
 -- Totals of lists that are put together, and the totals of a body from those of its instances.
-use Rattle.adl_flatten.proofs.Common.{Hierarchy, IsFinite, List, Part, Path, Placed, Strung, Totals, Wire, [], add_part, ap, append-nil, append_assoc, arith, body, body_total, both, cond, connections_in, connections_step, ends_of, false, flat_map, fold, further}
-use Rattle.adl_flatten.proofs.Common.{get_or, inl, inr, is_composite, leaves_in, leaves_step, length, length-append, length-map, longest, map, max, name_of, ne_eqb, outer, outside, own_total, part_total, placed_by, refl, saturated, strung, strung_by, suc, sym}
-use Rattle.adl_flatten.proofs.Common.{totals_in, totals_of, true, wires_of, Bool, ℕ, ◌+◌, ◌++◌, ◌<◌, ◌∙◌, ◌∷◌, ◌≡◌, ◌≤◌}
+use Rattle.adl_flatten.proofs.Common.{Hierarchy, IsFinite, List, Part, Path, Placed, Strung, Totals, Wire, [], add_part, ap, append-nil, append_assoc, arith, body, body_total, both, cond, connections_in, connections_step, ends_of, false, flat_map, flat_map-map, fold, further}
+use Rattle.adl_flatten.proofs.Common.{get_or, inl, inr, is_composite, leaves_in, leaves_step, length, length-append, length-map, longest, map, max, name_of, ne_eqb, outer, outside, own_total, part_total, placed_by, refl, saturated, strung, strung_by, sym}
+use Rattle.adl_flatten.proofs.Common.{totals_in, totals_of, true, wires_of, Bool, ℕ, ◌+◌, ◌++◌, ◌∙◌, ◌∷◌, ◌≡◌, ◌≤◌}
 use Rattle.numbering.specs.Gather.{IsIn}
 use Rattle.std.proofs.lemmas.List.Concat.{flat_map-append}
 
@@ -18,14 +18,6 @@ longest-outside : (n : List ℕ) (x : Placed) (ps : List Placed) → longest (pa
 longest-outside n x [] = omega arith
 longest-outside n x (y ∷ ps) = omega (arith, longest-outside n y ps)
 
-ends-further : (n : List ℕ) (ks : List Strung) → ends_of (map (further n) ks) ≡ ends_of ks
-ends-further n [] = refl
-ends-further n (x ∷ ks) = ap (λ z. x.wire.1.ends ++ z) (ends-further n ks)
-
-ends-strung : (k : ℕ) (ws : List Wire) → flat_map (λ w. w.1.ends) ws ≡ ends_of (map (strung k) ws)
-ends-strung k [] = refl
-ends-strung k (w ∷ ws) = ap (λ z. w.1.ends ++ z) (ends-strung k ws)
-
 -- ---- totals
 
 both_are : (ps qs : List Placed) (ks ls : List Strung) → both (totals_of ps ks) (totals_of qs ls) ≡ totals_of (ps ++ qs) (ks ++ ls)
@@ -37,36 +29,39 @@ both_are ps qs ks ls =
     omega (arith, ap (λ z. length z) (flat_map-append (λ (x : Strung). x.wire.1.ends) ks ls), length-append (ends_of ks) (ends_of ls)) in
     λ i. record { leaves = n i; depth = d i; connections = c i; ends = e i }
 
+-- a name in front changes no totals of connections
+named : (n : List ℕ) (ps : List Placed) (ks : List Strung) → totals_of ps ks ≡ totals_of ps (map (further n) ks)
+named n ps ks = λ i. record {
+  leaves = saturated (length ps);
+  depth = saturated (longest (paths ps));
+  connections = saturated (sym (length-map ks (further n)) i);
+  ends = saturated (length (sym (flat_map-map (λ (x : Strung). x.wire.1.ends) (further n) ks) i));
+}
+
 outer_are : (n : List ℕ) (ps : List Placed) (ks : List Strung) → outer (totals_of ps ks) ≡ totals_of (map (outside n) ps) (map (further n) ks)
-outer_are n [] ks = λ i. record { leaves = 0; depth = 0; connections = saturated (sym (length-map ks (further n)) i); ends = saturated (length (sym (ends-further n ks) i)) }
+outer_are n [] ks = named n [] ks
 outer_are n (x ∷ ps) ks =
     let t = totals_of (x ∷ ps) ks in
-    let s : saturated (saturated (longest (paths (x ∷ ps))) + 1) ≡ saturated (longest (paths (map (outside n) (x ∷ ps)))) = omega (arith, longest-outside n x ps) in
-    ap (λ b. cond b t (record t { depth = saturated (t.depth + 1) })) (ne_eqb t.leaves 0 (λ z. omega arith)) ∙ λ i. record {
-      leaves = saturated (suc (sym (length-map ps (outside n)) i));
-      depth = s i;
-      connections = saturated (sym (length-map ks (further n)) i);
-      ends = saturated (length (sym (ends-further n ks) i));
-    }
+    let l : saturated (length (x ∷ ps)) ≡ saturated (length (map (outside n) (x ∷ ps))) = omega (arith, length-map ps (outside n)) in
+    let d : saturated (saturated (longest (paths (x ∷ ps))) + 1) ≡ saturated (longest (paths (map (outside n) (x ∷ ps)))) = omega (arith, longest-outside n x ps) in
+    ap (λ b. cond b t (record t { depth = saturated (t.depth + 1) })) (ne_eqb t.leaves 0 (λ z. omega arith))
+    ∙ (λ i. record t { leaves = l i; depth = d i }) ∙ named n (map (outside n) (x ∷ ps)) ks
 
 own_is : (k : ℕ) (ws : List Wire) → own_total ws ≡ totals_of [] (map (strung k) ws)
-own_is k ws = λ i. record { leaves = 0; depth = 0; connections = saturated (sym (length-map ws (strung k)) i); ends = saturated (length (ends-strung k ws i)) }
+own_is k ws = λ i. record {
+  leaves = 0;
+  depth = 0;
+  connections = saturated (sym (length-map ws (strung k)) i);
+  ends = saturated (length (sym (flat_map-map (λ (x : Strung). x.wire.1.ends) (strung k) ws) i));
+}
 
 part_is : (h : Hierarchy) (all : List Totals) (x : Part) → ((t : Totals) → get_or all x.kind t ≡ totals_in h x.kind) → part_total h all x ≡ totals_of (placed_by h (leaves_in h) x) (strung_by (connections_in h) x)
 part_is h all x known = ap (λ t. cond (is_composite h x.kind) (outer t) (record t { leaves = 1; depth = 1 })) (known _) ∙ by_test (is_composite h x.kind)
   where
-    n : List ℕ
-    n = name_of x
-
     by_test : (b : Bool) → cond b (outer (totals_in h x.kind)) (record (totals_in h x.kind) { leaves = 1; depth = 1 })
-        ≡ totals_of (cond b (map (outside n) (leaves_in h x.kind)) (record { path = n ∷ []; part = x } ∷ [])) (map (further n) (connections_in h x.kind))
-    by_test true = outer_are n (leaves_in h x.kind) (connections_in h x.kind)
-    by_test false = λ i. record {
-      leaves = 1;
-      depth = 1;
-      connections = saturated (sym (length-map (connections_in h x.kind) (further n)) i);
-      ends = saturated (length (sym (ends-further n (connections_in h x.kind)) i));
-    }
+        ≡ totals_of (cond b (map (outside (name_of x)) (leaves_in h x.kind)) (record { path = name_of x ∷ []; part = x } ∷ [])) (map (further (name_of x)) (connections_in h x.kind))
+    by_test true = outer_are (name_of x) (leaves_in h x.kind) (connections_in h x.kind)
+    by_test false = named (name_of x) (record { path = name_of x ∷ []; part = x } ∷ []) (connections_in h x.kind)
 
 -- ---- bodies
 

@@ -1,6 +1,6 @@
--- The domain path of each leaf of a template, and how leaves are put into domains.
-use Rattle.std.specs.Prelude.{ℕ, ◌+◌, Bool, if◌then◌else◌, List, [], ◌∷◌, ◌++◌, Option, None, Some, option_map, unwrap_or, slice_index_or, slice_set}
-use Rattle.adl_meaning.specs.Prelude.{Hierarchy, Path, filter_map, firsts_after, is_hardware, item_of, list_any, place_by, same_path}
+-- The domain of each leaf of a template, and how leaves are put into domains.
+use Rattle.std.specs.Prelude.{ℕ, ◌+◌, if◌then◌else◌, List, [], ◌∷◌, ◌++◌, Option, None, Some, option_map, unwrap_or, slice_index_or, slice_set}
+use Rattle.adl_meaning.specs.Prelude.{Hierarchy, Path, is_hardware, item_of, place_by, same_path}
 use Rattle.adl_meaning.specs.declared.flat.Domain.{Domain}
 use Rattle.adl_meaning.specs.declared.flat.Leaf.{Leaf}
 use Rattle.adl_templates.specs.Templates.{Homed}
@@ -9,18 +9,6 @@ use Rattle.adl_templates.specs.Templates.{Homed}
 abbrev pub home : Hierarchy → Homed → Option Path
 home h l = if is_hardware h l.leaf.part then None else Some (unwrap_or l.home l.leaf.path)
 
--- whether the path is in the list
-abbrev pub is_met : List Path → Path → Bool
-is_met paths p = list_any (same_path p) paths
-
--- the paths, and those of more homes that are not among them
-abbrev pub all_met : List Path → List (Option Path) → List Path
-all_met paths homes = paths ++ firsts_after same_path (is_met paths) (filter_map (λ o. o) homes)
-
--- the place of a domain path among others
-abbrev pub home_number : List Path → Option Path → Option ℕ
-home_number paths o = option_map (λ p. place_by (same_path p) paths) o
-
 -- a leaf, where the domains have these paths
 abbrev pub leaf_in : Hierarchy → List Path → Homed → Leaf
 leaf_in h paths l = record {
@@ -28,7 +16,7 @@ leaf_in h paths l = record {
   component = item_of h l.leaf.part;
   place = l.leaf.part.instance.component.place;
   hardware = is_hardware h l.leaf.part;
-  domain = home_number paths (home h l);
+  domain = option_map (λ p. place_by (same_path p) paths) (home h l);
 }
 
 -- a domain with one leaf more

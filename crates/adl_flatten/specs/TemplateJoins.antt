@@ -1,6 +1,6 @@
 -- The connections of a template in a flat system, how many ends join an interface of a leaf, and the faults of joins.
 use Rattle.std.specs.Prelude.{ℕ, List, [], ◌∷◌, ◌++◌, map, ◌≡◌, ◌==◌, nat_eq, Bool, true, ◌&&◌, unwrap_or, not, is_some, Option}
-use Rattle.adl_meaning.specs.Prelude.{Fault, Hierarchy, JoinedEnd, at_word, body, count_by, enumerate_from, flat_map, is_at, is_direct, is_hardware, last_name, list_all, lookup, option_and_then, option_map_or}
+use Rattle.adl_meaning.specs.Prelude.{Fault, Hierarchy, JoinedEnd, at_word, count_by, enumerate_from, flat_map, is_at, is_direct, is_hardware, last_name, list_all, lookup, option_and_then, option_map_or}
 use Rattle.adl_meaning.specs.declared.flat.FlatConnection.{FlatConnection}
 use Rattle.adl_meaning.specs.declared.flat.FlatEnd.{FlatEnd}
 use Rattle.adl_meaning.specs.declared.flat.Leaf.{Leaf}
@@ -9,7 +9,7 @@ use Rattle.adl_templates.specs.Templates.{Joined, Connected, Homed}
 use Rattle.std.specs.Option.{option_eq}
 use Rattle.adl_flatten.specs.declared.end_counts.EndKey.{EndKey}
 use Rattle.cam_base.specs.declared.code.Code.TheVariants as code
-use Rattle.adl_meaning.specs.Unconnected.{unjoined_member}
+use Rattle.adl_meaning.specs.Unconnected.{unjoined_at}
 use Rattle.adl_meaning.specs.UsedTwice.{used_twice}
 
 abbrev pub flat_end_of : Joined → FlatEnd
@@ -43,10 +43,6 @@ count_at counts k = unwrap_or (lookup (same_key k) counts) 0
 abbrev pub AreCounts : List (EndKey × ℕ) → List JoinedEnd → Type 0
 AreCounts counts ends = (k : EndKey) → count_at counts k ≡ count_by (is_counted k) ends
 
--- an interface of a leaf, by its number, that no end joins
-abbrev pub unjoined_leaf : Hierarchy → List JoinedEnd → ℕ × Homed → List Fault
-unjoined_leaf h all x = option_map_or (λ c. flat_map (unjoined_member all x.0) (enumerate_from 0 c.members)) (body h x.1.leaf.part.kind).component []
-
 -- a device below a group
 abbrev pub misplaced_leaf : Hierarchy → Homed → List Fault
 misplaced_leaf h l = where_true (is_hardware h l.leaf.part && is_some l.home) (at_word code.Placement l.leaf.part.instance.id)
@@ -71,5 +67,5 @@ misplaced_call all c = where_true (is_direct c.wire.0 && not (in_one all c.ends)
 abbrev pub faults_by : Hierarchy → List Leaf → List Homed → List Connected → List Fault
 faults_by h all ls cs =
     flat_map (used_twice (all_joined cs)) (all_joined cs)
-    ++ flat_map (unjoined_leaf h (all_joined cs)) (enumerate_from 0 ls)
+    ++ flat_map (unjoined_at h (all_joined cs)) (enumerate_from 0 (map (λ x. x.leaf) ls))
     ++ (flat_map (misplaced_leaf h) ls ++ flat_map (misplaced_call all) cs)

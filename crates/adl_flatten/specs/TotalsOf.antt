@@ -5,7 +5,7 @@ use Rattle.adl_meaning.specs.Prelude.{Assembly, End, Fault, Hierarchy, Part, Pla
 use Rattle.adl_meaning.specs.declared.item_at.ItemAt.{ItemAt}
 use Rattle.adl_meaning.specs.Joins.{connections_in}
 use Rattle.adl_meaning.specs.SizeFaults.{limit_passed, longest}
-use Rattle.adl_flatten.specs.declared.sums.Totals.{Totals}
+use Rattle.adl_flatten.specs.declared.limits.Totals.{Totals}
 
 abbrev pub saturated : ℕ → ℕ
 saturated n = min n (2 ^ 64 - 1)

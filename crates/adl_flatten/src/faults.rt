@@ -1,19 +1,19 @@
 //! The faults of joins.
 
-ghost use Rattle.adl_flatten.specs.TemplateJoins.{all_in, domain_in, in_one, misplaced_leaf, misplaced_call, unjoined_leaf};
-ghost use Rattle.adl_meaning.specs.Prelude.{body, enumerate_from, flat_map, flattened, is_direct, join_faults_in, least, noted, option_map_or, same_domain, top_number};
-ghost use Rattle.adl_meaning.specs.Unconnected.{may_stay};
+ghost use Rattle.adl_flatten.specs.TemplateJoins.{all_in, domain_in, in_one, misplaced_leaf, misplaced_call};
+ghost use Rattle.adl_meaning.specs.Prelude.{Refuses, enumerate_from, flat_map, flattened, is_direct, join_faults_in, least, noted, same_domain, top_number};
+ghost use Rattle.adl_meaning.specs.Unconnected.{may_stay, unjoined_at};
 ghost use Rattle.adl_meaning.specs.UsedTwice.{used_twice};
 ghost use Rattle.adl_templates.specs.AreTemplates.{IsTemplate};
-ghost use Rattle.std.specs.Prelude.{◌≡◌, ◌<◌, ◌^◌, ℕ, length, IfOk};
+ghost use Rattle.std.specs.Prelude.{◌≡◌, map};
 
-use crate::connections::joined_ends;
 use crate::end_counts::CountedEnds;
 use adl_ast::{Interface, InterfaceKind, Member};
+use adl_items::last_name;
 use adl_meaning::{Connector, Earliest, Leaf};
 use adl_program::Program;
 use adl_templates::{PlacedConnection, PlacedEnd, PlacedLeaf, Template};
-use cam_base::{Code, NoMemory};
+use cam_base::{Code, Fault, Refused};
 use std::alloc::Global;
 
 /// Notes the ends whose interfaces they may not join beside others.
@@ -22,7 +22,9 @@ fn note_used_twice<'a>(ends: &CountedEnds<'_, 'a>, first: &mut Earliest<'a>)
 {
     for end in ends.as_slice() {
         let is_clash = ends.clash_count(end) >= 2;
-        first.note(is_clash, Code::UsedTwice, end.end.place, end.word);
+        let placed = end.placed;
+        let word = last_name(placed.end.words.as_slice());
+        first.note(is_clash, Code::UsedTwice, placed.end.place, word);
     }
 }
 
@@ -32,31 +34,6 @@ fn may_stay(interface: &Interface) -> bool
     interface.maybe || !matches!(interface.kind, InterfaceKind::Uses)
 }
 
-/// Notes the interfaces of a leaf, by its number, that no end joins, of those that may not stay without one.
-fn note_leaf<'a>(
-    program: &Program<'a>,
-    ends: &CountedEnds<'_, '_>,
-    number: u32,
-    leaf: &PlacedLeaf<'a>,
-    first: &mut Earliest<'a>,
-)
-    requires { (k : ℕ) → option_map_or (λ c. length c.members) (body program.now k).component 0 < 2 ^ 32 }
-    ensures { first.new ≡ noted first.old (unjoined_leaf program.now ends.now (number, leaf.now)) }
-{
-    let Some(component) = program.body(leaf.kind).component() else {
-        return;
-    };
-    let members = component.members.as_slice();
-    for (place, member) in members.iter().enumerate() {
-        if let Member::Interface(interface) = member {
-            let is_joined = may_stay(interface) || ends.is_joined(number, place as u32);
-            let id = &interface.id;
-            let name = id.name.as_bytes();
-            first.note(!is_joined, Code::Unconnected, id.place, name);
-        }
-    }
-}
-
 /// Notes the interfaces of leaves that no end joins, of those that may not stay without one.
 fn note_all_unjoined<'a>(
     program: &Program<'a>,
@@ -64,12 +41,21 @@ fn note_all_unjoined<'a>(
     leaves: &[PlacedLeaf<'a>],
     first: &mut Earliest<'a>,
 )
-    requires leaves { length leaves.now < 2 ^ 32 }
-    requires members { (k : ℕ) → option_map_or (λ c. length c.members) (body program.now k).component 0 < 2 ^ 32 }
-    ensures { first.new ≡ noted first.old (flat_map (unjoined_leaf program.now ends.now) (enumerate_from 0 leaves.now)) }
+    ensures { first.new ≡ noted first.old (flat_map (unjoined_at program.now ends.now)
+        (enumerate_from 0 (map (λ x. x.leaf) leaves.now))) }
 {
     for (number, leaf) in leaves.iter().enumerate() {
-        note_leaf(program, ends, number as u32, leaf, first);
+        let Some(component) = program.body(leaf.kind).component() else {
+            continue;
+        };
+        let members = component.members.as_slice();
+        for (place, member) in members.iter().enumerate() {
+            if let Member::Interface(interface) = member {
+                let is_joined = may_stay(interface) || ends.is_joined(number, place);
+                let id = &interface.id;
+                first.note(!is_joined, Code::Unconnected, id.place, id.name.as_bytes());
+            }
+        }
     }
 }
 
@@ -134,28 +120,28 @@ fn note_calls<'a>(leaves: &[Leaf], connections: &[PlacedConnection<'a>], first: 
     }
 }
 
-/// The first fault of joins, from the template of the assembly.
-pub fn join_fault<'a>(
+/// Refuses a source with a fault of joins, from the template of the assembly.
+///
+/// # Errors
+///
+/// The first fault of joins. Want of memory.
+pub fn check_joins<'a>(
     alloc: Global,
     program: &Program<'a>,
     template: &Template<'a>,
     leaves: &[Leaf],
-) -> Result<Earliest<'a>, NoMemory>
-    requires few { length template.now.leaves.items < 2 ^ 32 }
-    requires few_connections { length template.now.connections.items < 2 ^ 32 }
-    requires members { (k : ℕ) → option_map_or (λ c. length c.members) (body program.now k).component 0 < 2 ^ 32 }
+) -> Result<(), Refused<Fault>>
     requires template { IsTemplate program.now (top_number program.now) template.now }
     requires leaves { leaves.now ≡ (flattened program.now).leaves }
-    ensures { IfOk result (λ f. f ≡ least (join_faults_in program.now)) }
+    ensures { Refuses result (least (join_faults_in program.now)) }
 {
     let placed = template.leaves.as_slice();
     let connections = template.connections.as_slice();
-    let joined = joined_ends(alloc, connections)?;
-    let ends = CountedEnds::new(alloc, joined.as_slice())?;
+    let ends = CountedEnds::new(alloc, connections)?;
     let mut first = Earliest::none();
     note_used_twice(&ends, &mut first);
     note_all_unjoined(program, &ends, placed, &mut first);
     note_devices(program, placed, &mut first);
     note_calls(leaves, connections, &mut first);
-    Ok(first)
+    first.refuse(alloc)
 }

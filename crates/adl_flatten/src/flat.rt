@@ -1,44 +1,57 @@
-//! All of it together: the limits, the templates, the faults of joins.
+//! The flat system: the limits, the templates, the faults of joins.
 
-ghost use Rattle.adl_meaning.specs.Prelude.{AreFew, AreNamesSound, HaveFewMembers, Refuses, connections, first_flat_fault, flat_of, flattened, hierarchy_of, join_faults_in, least, leaves, top_number};
-ghost use Rattle.adl_templates.specs.AreTemplates.{IsTemplate, IsReady};
-ghost use Rattle.std.specs.Prelude.{◌≡◌, ◌<◌, ◌^◌, length, IfOk};
+ghost use Rattle.adl_flatten.specs.TemplateJoins.{flat_connection_of};
+ghost use Rattle.adl_meaning.specs.Prelude.{AreFew, AreNamesSound, HaveFewMembers, Refuses, first_flat_fault, flat_of, hierarchy_of};
+ghost use Rattle.std.specs.Prelude.{◌≡◌, map, IfOk};
 
-use crate::connections::flat_connections;
-use crate::faults::join_fault;
-use crate::leaves::all_places;
+use crate::faults::check_joins;
+use crate::leaves::{domain_paths, flat_domains, flat_leaves};
 use crate::limits::check_limits;
-use crate::sums::assembly_totals;
 use adl_ast::Source;
 use adl_items::Names;
-use adl_meaning::Flat;
+use adl_meaning::{Flat, FlatConnection, FlatEnd};
 use adl_program::{Program, program_of};
-use adl_templates::{Template, assembly_template};
-use cam_base::{Fault, Refused};
+use adl_templates::{PlacedConnection, assembly_template};
+use cam_base::{Fault, List, NoMemory, Path, Refused};
 use std::alloc::Global;
+use std::slice;
 
-/// The flat system that the template of the assembly is.
-fn flat_template<'a>(
+fn flat_connection(
     alloc: Global,
-    program: &Program<'a>,
-    template: &Template<'a>,
-) -> Result<Flat, Refused<Fault>>
-    requires ready { IsReady program.now }
-    requires template { IsTemplate program.now (top_number program.now) template.now }
-    requires leaves { length (leaves program.now) < 2 ^ 32 }
-    requires connections { length (connections program.now) < 2 ^ 32 }
-    ensures fault { Refuses result (least (join_faults_in program.now)) }
-    ensures flat { IfOk result (λ f. f ≡ flattened program.now) }
+    connection: &PlacedConnection<'_>,
+) -> Result<FlatConnection, NoMemory>
+    ensures { IfOk result (λ k. k ≡ flat_connection_of connection.now) }
 {
-    let places = all_places(alloc, program, template.leaves.as_slice())?;
-    let connections = flat_connections(alloc, template.connections.as_slice())?;
-    let first = join_fault(alloc, program, template, places.leaves.as_slice())?;
-    first.refuse(alloc)?;
-    Ok(Flat {
-        leaves: places.leaves,
-        domains: places.domains,
-        connections,
+    let id = &connection.connection.id;
+    let path = Path::of(alloc, connection.path.names(), slice::from_ref(&id.name))?;
+    let mut ends = List::new(alloc);
+    for end in connection.ends.as_slice() {
+        ends.push(FlatEnd {
+            role: end.end.role,
+            leaf: end.leaf,
+            member: end.member,
+            place: end.end.place,
+        })?;
+    }
+    Ok(FlatConnection {
+        path,
+        connector: connection.connector,
+        place: id.place,
+        ends,
     })
+}
+
+fn flat_connections(
+    alloc: Global,
+    connections: &[PlacedConnection<'_>],
+) -> Result<List<FlatConnection>, NoMemory>
+    ensures { IfOk result (λ ks. ks ≡ map flat_connection_of connections.now) }
+{
+    let mut flat = Vec::with_capacity(alloc, connections.len())?;
+    for connection in connections {
+        flat.push(flat_connection(alloc, connection)?)?;
+    }
+    Ok(List::from_vec(flat))
 }
 
 /// The leaves, domains and connections of a source that is resolved.
@@ -47,6 +60,7 @@ fn flat_template<'a>(
 ///
 /// The first limit of the hierarchy that is passed, or else the first fault of joins: `specs/JoinFaults.antt` of
 /// `adl_meaning`. Want of memory.
+#[tactic(auto, using(crate::proofs::PassedLimits::leaves_few))]
 pub fn flatten_program(
     alloc: Global,
     source: &Source,
@@ -59,10 +73,17 @@ pub fn flatten_program(
     ensures fault { Refuses result (first_flat_fault source.now) }
     ensures flat { IfOk result (λ f. f ≡ flat_of source.now) }
 {
-    let totals = assembly_totals(alloc, program)?;
-    check_limits(alloc, source, totals)?;
+    check_limits(alloc, source, program)?;
     let template = assembly_template(alloc, program)?;
-    flat_template(alloc, program, &template)
+    let placed = template.leaves.as_slice();
+    let paths = domain_paths(alloc, program, placed)?;
+    let leaves = flat_leaves(alloc, program, placed, &paths)?;
+    check_joins(alloc, program, &template, leaves.as_slice())?;
+    Ok(Flat {
+        domains: flat_domains(alloc, paths.as_slice(), leaves.as_slice())?,
+        leaves,
+        connections: flat_connections(alloc, template.connections.as_slice())?,
+    })
 }
 
 /// The leaves, domains and connections of a source. Its names, which aren't read, say that they were resolved before.

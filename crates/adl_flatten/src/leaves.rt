@@ -1,11 +1,10 @@
 //! The leaves and the domains of a flat system.
 
-ghost use Rattle.adl_flatten.specs.Homes.{all_met, filled, home, home_number, leaf_in, put_into};
+ghost use Rattle.adl_flatten.specs.Homes.{filled, home, leaf_in, put_into};
 ghost use Rattle.adl_items.specs.Pointed.{pointed};
-ghost use Rattle.adl_meaning.specs.Paths.{Path as PathOf};
-ghost use Rattle.adl_meaning.specs.Prelude.{flattened, is_hardware, item_of, top_number};
+ghost use Rattle.adl_meaning.specs.Prelude.{domains, place_by, same_path, top_number};
 ghost use Rattle.adl_templates.specs.Templates.{template_leaves};
-ghost use Rattle.std.specs.Prelude.{◌≡◌, ◌<◌, ◌≤◌, ◌+◌, ◌^◌, ◌∷◌, [], List as Seq, Option as Maybe, map, option_map, length, IfOk, OnOk};
+ghost use Rattle.std.specs.Prelude.{◌≡◌, ◌<◌, ◌≤◌, ◌^◌, [], map, option_map, length, IfOk, OnOk};
 
 use adl_meaning::{Domain, ItemAt, Leaf};
 use adl_program::Program;
@@ -24,42 +23,47 @@ fn home<'a>(program: &Program<'_>, leaf: &'a PlacedLeaf<'_>) -> Option<&'a [Name
     Some(leaf.home.as_ref().unwrap_or(&leaf.path).names())
 }
 
-/// The number of a leaf's domain, whose path is now among those that were met.
-#[tactic(auto, using(crate::proofs::Homes::met_more, crate::proofs::Homes::met_place))]
-fn meet<'a>(
-    home: Option<&'a [Name]>,
-    paths: &mut IndexSet<&'a [Name]>,
-) -> Result<Option<u32>, NoMemory>
-    requires { length paths.old.keys < 2 ^ 32 }
-    ensures paths { OnOk result ((more : Seq (Maybe PathOf)) → all_met (pointed paths.new.keys) more
-        ≡ all_met (pointed paths.old.keys) (option_map (λ p. p.now) home.entry ∷ more)) }
-    ensures number { IfOk result (λ o. (more : Seq (Maybe PathOf)) → o ≡ home_number
-        (all_met (pointed paths.old.keys) (option_map (λ p. p.now) home.entry ∷ more)) (option_map (λ p. p.now) home.entry)) }
-    ensures count { OnOk result (length paths.new.keys ≤ length paths.old.keys + 1) }
+/// The paths of domains, in the order of their first leaves.
+pub fn domain_paths<'a>(
+    alloc: Global,
+    program: &Program<'_>,
+    leaves: &'a [PlacedLeaf<'_>],
+) -> Result<IndexSet<&'a [Name]>, NoMemory>
+    requires { leaves.now ≡ template_leaves program.now (top_number program.now) }
+    ensures paths { IfOk result (λ s. pointed s.keys ≡ domains program.now) }
+    ensures few { IfOk result (λ s. length s.keys ≤ length leaves.entry.now) }
 {
-    match home {
-        None => Ok(None),
-        Some(path) => {
-            let (number, _is_new) = paths.insert_full(path)?;
-            Ok(Some(number as u32))
+    let mut paths = IndexSet::new(alloc);
+    for leaf in leaves {
+        if let Some(path) = home(program, leaf) {
+            paths.insert(path)?;
         }
     }
+    Ok(paths)
 }
 
-/// A leaf with the number of its domain.
-fn leaf_with_domain(
+/// The number of a leaf's domain among these paths; a device has none.
+fn domain_number(
+    program: &Program<'_>,
+    leaf: &PlacedLeaf<'_>,
+    paths: &IndexSet<&[Name]>,
+) -> Option<u32>
+    requires { length paths.now.keys < 2 ^ 32 }
+    ensures { result ≡ option_map (λ p. place_by (same_path p) (pointed paths.now.keys)) (home program.now leaf.now) }
+{
+    let path = home(program, leaf)?;
+    let number = paths.get_index_of(path).unwrap_or(paths.len());
+    Some(number as u32)
+}
+
+fn flat_leaf(
     alloc: Global,
     program: &Program<'_>,
     leaf: &PlacedLeaf<'_>,
-    domain: Option<u32>,
+    paths: &IndexSet<&[Name]>,
 ) -> Result<Leaf, NoMemory>
-    ensures { IfOk result (λ l. l ≡ record {
-      path = leaf.now.leaf.path;
-      component = item_of program.now leaf.now.leaf.part;
-      place = leaf.now.leaf.part.instance.component.place;
-      hardware = is_hardware program.now leaf.now.leaf.part;
-      domain = domain;
-    }) }
+    requires { length paths.now.keys < 2 ^ 32 }
+    ensures { IfOk result (λ l. l ≡ leaf_in program.now (pointed paths.now.keys) leaf.now) }
 {
     let body = program.body(leaf.kind);
     let nowhere = ItemAt { file: 0, item: 0 };
@@ -68,26 +72,25 @@ fn leaf_with_domain(
         component: body.item().unwrap_or(nowhere),
         place: leaf.instance.component.place,
         hardware: body.is_hardware(),
-        domain,
+        domain: domain_number(program, leaf, paths),
     })
 }
 
-/// A leaf, whose domain's path is now among those that were met.
-fn flat_leaf<'a>(
+/// The leaves of a flat system, whose domains have these paths.
+pub fn flat_leaves(
     alloc: Global,
     program: &Program<'_>,
-    leaf: &'a PlacedLeaf<'_>,
-    paths: &mut IndexSet<&'a [Name]>,
-) -> Result<Leaf, NoMemory>
-    requires { length paths.old.keys < 2 ^ 32 }
-    ensures paths { OnOk result ((more : Seq (Maybe PathOf)) → all_met (pointed paths.new.keys) more
-        ≡ all_met (pointed paths.old.keys) (home program.now leaf.entry.now ∷ more)) }
-    ensures leaf { IfOk result (λ l. (more : Seq (Maybe PathOf)) → l
-        ≡ leaf_in program.now (all_met (pointed paths.old.keys) (home program.now leaf.entry.now ∷ more)) leaf.entry.now) }
-    ensures count { OnOk result (length paths.new.keys ≤ length paths.old.keys + 1) }
+    leaves: &[PlacedLeaf<'_>],
+    paths: &IndexSet<&[Name]>,
+) -> Result<List<Leaf>, NoMemory>
+    requires { length paths.now.keys < 2 ^ 32 }
+    ensures { IfOk result (λ ls. ls ≡ map (leaf_in program.now (pointed paths.now.keys)) leaves.now) }
 {
-    let domain = meet(home(program, leaf), paths)?;
-    Ok(leaf_with_domain(alloc, program, leaf, domain)?)
+    let mut flat = Vec::with_capacity(alloc, leaves.len())?;
+    for leaf in leaves {
+        flat.push(flat_leaf(alloc, program, leaf, paths)?)?;
+    }
+    Ok(List::from_vec(flat))
 }
 
 /// Puts a leaf into the domain of the number, if there is one.
@@ -103,8 +106,12 @@ fn put_into(domain: Option<u32>, leaf: u32, domains: &mut Vec<Domain>) -> Result
     Ok(())
 }
 
-/// The domains of these paths, each with its leaves.
-fn flat_domains(alloc: Global, paths: &[&[Name]], leaves: &[Leaf]) -> Result<List<Domain>, NoMemory>
+/// The domains of a flat system, which have these paths, each with its leaves.
+pub fn flat_domains(
+    alloc: Global,
+    paths: &[&[Name]],
+    leaves: &[Leaf],
+) -> Result<List<Domain>, NoMemory>
     requires { length leaves.now < 2 ^ 32 }
     ensures { IfOk result (λ ds. ds ≡ filled 0 leaves.now (map (λ p. record { path = p.now; leaves = [] }) paths.now)) }
 {
@@ -119,34 +126,4 @@ fn flat_domains(alloc: Global, paths: &[&[Name]], leaves: &[Leaf]) -> Result<Lis
         put_into(leaf.domain, number as u32, &mut domains)?;
     }
     Ok(List::from_vec(domains))
-}
-
-/// The leaves and the domains of a flat system.
-#[derive(Drop)]
-pub struct Places {
-    pub leaves: List<Leaf>,
-    pub domains: List<Domain>,
-}
-
-/// The leaves and the domains of a flat system.
-pub fn all_places(
-    alloc: Global,
-    program: &Program<'_>,
-    leaves: &[PlacedLeaf<'_>],
-) -> Result<Places, NoMemory>
-    requires few { length leaves.now < 2 ^ 32 }
-    requires leaves { leaves.now ≡ template_leaves program.now (top_number program.now) }
-    ensures leaves { IfOk result (λ p. p.leaves ≡ (flattened program.now).leaves) }
-    ensures domains { IfOk result (λ p. p.domains ≡ (flattened program.now).domains) }
-{
-    let mut paths = IndexSet::new(alloc);
-    let mut flat = Vec::with_capacity(alloc, leaves.len())?;
-    for leaf in leaves {
-        flat.push(flat_leaf(alloc, program, leaf, &mut paths)?)?;
-    }
-    let domains = flat_domains(alloc, paths.as_slice(), flat.as_slice())?;
-    Ok(Places {
-        leaves: List::from_vec(flat),
-        domains,
-    })
 }

@@ -5,12 +5,10 @@
 //! template of the assembly.
 #![tactic(auto)]
 
-mod connections;
 mod end_counts;
 mod faults;
 mod flat;
 mod leaves;
 mod limits;
-mod sums;
 
 pub use flat::{flatten, flatten_program};

@@ -1,43 +1,34 @@
-use Rattle.adl_flatten.proofs.Common.{Fault, Hierarchy, IfOk, IsReady, Option, Refuses, ap, arith, first_join_fault, flattened, join_faults_in, least, option_or, subst, sym, top_number, totals_in, ◌∙◌, ◌≡◌}
-use Rattle.adl_flatten.proofs.PassedLimits.{within_limits}
+use Rattle.adl_flatten.proofs.Common.{Fault, Option, Refuses, ap, flat_connection_of, flattened, map, pointed, subst, sym, ◌∙◌}
+use Rattle.std.proofs.Common.{rules}
+use Rattle.adl_flatten.proofs.Homes.{domains_are, leaves_are}
+use Rattle.adl_flatten.proofs.PassedLimits.{fault_is}
 use Rattle.adl_flatten.proofs.SoundReady.{sound_is_ready}
+use Rattle.adl_flatten.proofs.Templates.{connections_are}
 use Rattle.adl_flatten.proofs.flat.flatten_program.Goals as goal
 
-pub assembly_totals-requires : goal.assembly_totals-requires
-assembly_totals-requires c = let P : Hierarchy → Type 0 = λ h. IsReady h in subst P (sym c.requires.program) (sound_is_ready c.args.source.now c.requires.sound c.requires.members)
-
-pub check_limits-requires-clause-totals : goal.check_limits-requires-clause-totals
-check_limits-requires-clause-totals c = let P : Hierarchy → Type 0 = λ h. c.in_ok-totals.totals ≡ totals_in h (top_number h) in subst P c.requires.program c.in_ok-totals.ensures
+pub check_limits-requires-clause-ready : goal.check_limits-requires-clause-ready
+check_limits-requires-clause-ready c = sound_is_ready _ _ c.requires.sound c.requires.members c.requires.program
 
 pub assembly_template-requires-clause-ready : goal.assembly_template-requires-clause-ready
-assembly_template-requires-clause-ready c = let P : Hierarchy → Type 0 = λ h. IsReady h in subst P (sym c.requires.program) (sound_is_ready c.args.source.now c.requires.sound c.requires.members)
+assembly_template-requires-clause-ready c = sound_is_ready _ _ c.requires.sound c.requires.members c.requires.program
 
-pub assembly_template-requires-clause-few : goal.assembly_template-requires-clause-few
-assembly_template-requires-clause-few c =
-    let few = within_limits c.args.source.now c.args.program.now c.requires.sound c.in_ok-check_limits.ensures c.requires.program in
-    let n = few.0 in
-    omega (arith, n)
+pub check_joins-requires-clause-leaves : goal.check_joins-requires-clause-leaves
+check_joins-requires-clause-leaves c =
+    c.as_slice.ensures ∙ c.in_ok-leaves.ensures ∙ leaves_are c.args.program.now _ _ c.in_ok-paths.ensures.paths (c.as_slice-placed.ensures.value ∙ c.in_ok-template.ensures.leaves)
 
-pub flat_template-requires-clause-ready : goal.flat_template-requires-clause-ready
-flat_template-requires-clause-ready c = let P : Hierarchy → Type 0 = λ h. IsReady h in subst P (sym c.requires.program) (sound_is_ready c.args.source.now c.requires.sound c.requires.members)
-
-pub flat_template-requires-clause-leaves : goal.flat_template-requires-clause-leaves
-flat_template-requires-clause-leaves c =
-    let few = within_limits c.args.source.now c.args.program.now c.requires.sound c.in_ok-check_limits.ensures c.requires.program in
-    let n = few.0 in
-    omega (arith, n)
-
-pub flat_template-requires-clause-connections : goal.flat_template-requires-clause-connections
-flat_template-requires-clause-connections c =
-    let few = within_limits c.args.source.now c.args.program.now c.requires.sound c.in_ok-check_limits.ensures c.requires.program in
-    let n = few.1 in
-    omega (arith, n)
+pub returns-in_err-check_joins-clause-fault : goal.returns-in_err-check_joins-clause-fault
+returns-in_err-check_joins-clause-fault c =
+    let P : Option Fault → Type 0 = λ o. Refuses c.from_residual-in_err-check_joins.result o in
+    subst P (sym (fault_is c.args.source.now c.args.program.now c.requires.program c.in_ok-check_limits.ensures)) (search rules)
 
 pub returns-clause-fault : goal.returns-clause-fault
-returns-clause-fault c =
-    let s = c.args.source.now in
-    let P : Option Fault → Type 0 = λ o. Refuses c.flat_template.result o in
-    subst P (ap (λ h. least (join_faults_in h)) c.requires.program ∙ ap (λ o. option_or o (first_join_fault s)) (sym c.in_ok-check_limits.ensures)) c.flat_template.ensures.fault
+returns-clause-fault c = fault_is c.args.source.now c.args.program.now c.requires.program c.in_ok-check_limits.ensures ∙ c.in_ok-check_joins.ensures
 
 pub returns-clause-flat : goal.returns-clause-flat
-returns-clause-flat c = let P : Hierarchy → Type 0 = λ h. IfOk c.flat_template.result (λ f. f ≡ flattened h) in subst P c.requires.program c.flat_template.ensures.flat
+returns-clause-flat c =
+    let h = c.args.program.now in
+    let paths = c.in_ok-paths.ensures.paths in
+    let leaves = c.in_ok-leaves.ensures ∙ leaves_are h _ _ paths (c.as_slice-placed.ensures.value ∙ c.in_ok-template.ensures.leaves) in
+    let domains = c.in_ok-flat_domains.ensures ∙ domains_are h _ _ (c.as_slice-3.ensures ∙ leaves) (ap pointed c.as_slice-2.ensures.keys ∙ paths) in
+    let connections = c.in_ok-flat_connections.ensures ∙ ap (map flat_connection_of) (c.as_slice-4.ensures.value ∙ c.in_ok-template.ensures.connections) ∙ connections_are h in
+    (λ i. record { leaves = (c.leaves.view_is ∙ leaves) i; domains = domains i; connections = connections i }) ∙ ap flattened c.requires.program

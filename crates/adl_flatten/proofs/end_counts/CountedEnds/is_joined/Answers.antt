@@ -5,5 +5,5 @@ use Rattle.adl_flatten.proofs.end_counts.CountedEnds.is_joined.Goals as goal
 pub returns : goal.returns
 returns c =
     ap (λ n. nat_lt 0 n) (c.count_at.ensures ∙ c.self.invariant (record { connection = None; leaf = c.args.leaf; member = c.args.member }))
-    ∙ nat_lt-count_by c.args.leaf c.args.member c.self.inside.ends.now
+    ∙ nat_lt-count_by c.args.leaf c.args.member c.self.inside.ends.items
     ∙ ap (list_any (is_at c.args.leaf c.args.member)) c.self.view_is

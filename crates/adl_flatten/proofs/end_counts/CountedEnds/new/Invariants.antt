@@ -1,5 +1,15 @@
-use Rattle.adl_flatten.proofs.Common.{AreCounts, take}
+use Rattle.adl_flatten.proofs.Common.{AreCounts, all_joined, drop, enumerate_from, flat_map, joined_end_of, joined_of, map, ◌++◌, ◌+◌, ◌≡◌}
 use Rattle.adl_flatten.proofs.end_counts.CountedEnds.new.Given as goal
 
-abbrev pub invariant-loop-end : goal.invariant-loop-end
-invariant-loop-end l = AreCounts l.counts.entries (take l.end-index l.ends)
+abbrev pub invariant-loop-connection : goal.invariant-loop-connection
+invariant-loop-connection l = record {
+  ends : l.ends.items ++ flat_map joined_of (enumerate_from l.connection (drop l.connection l.connections)) ≡ all_joined l.connections;
+  counts : AreCounts l.counts.entries l.ends.items;
+}
+
+abbrev pub invariant-loop-placed : goal.invariant-loop-placed
+invariant-loop-placed l = record {
+  ends : l.ends.items ++ (map (joined_end_of l.connection) (drop l.placed-index l.placed-items) ++ flat_map joined_of (enumerate_from (l.connection + 1) (drop (l.connection + 1) l.connections)))
+      ≡ all_joined l.connections;
+  counts : AreCounts l.counts.entries l.ends.items;
+}

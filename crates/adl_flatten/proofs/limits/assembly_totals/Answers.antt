@@ -1,16 +1,11 @@
-use Rattle.adl_flatten.proofs.Common.{all_filled, ap, arith, filled_more, get_or, inner_filled, kind_in, length, order_below, ◌∙◌}
+use Rattle.adl_flatten.proofs.Common.{all_filled, ap, arith, filled_more, get_or, inner_filled, kinds_in, length, order_below, ◌∙◌}
 use Rattle.adl_flatten.proofs.Totals.{IsTotal, body_is}
-use Rattle.adl_flatten.proofs.sums.assembly_totals.Goals as goal
+use Rattle.adl_flatten.proofs.limits.assembly_totals.Goals as goal
 
-pub body_totals-totals-requires-clause-number : goal.body_totals-totals-requires-clause-number
-body_totals-totals-requires-clause-number c = order_below c.args.program.now c.order-number-items.result.now c.loop-number.number-index c.order-number-items.ensures c.loop-number-test.true
-
-pub body_totals-totals-requires-clause-within : goal.body_totals-totals-requires-clause-within
-body_totals-totals-requires-clause-within c = λ x m.
-    let h = c.args.program.now in
-    let i = c.loop-number.number-index in
-    let k = kind_in h c.requires.finite (get_or c.order-number-items.result.now i 0) x (order_below h c.order-number-items.result.now i c.order-number-items.ensures c.loop-number-test.true) m in
-    rw (c.as_slice.ensures.value, c.loop-number.invariant.length_is) (omega arith)
+pub body_totals-totals-requires : goal.body_totals-totals-requires
+body_totals-totals-requires c =
+    let l = order_below c.args.program.now c.order-number-items.result.now c.loop-number.number-index c.order-number-items.ensures c.loop-number-test.true in
+    rw c.as_slice.ensures.value (kinds_in c.args.program.now c.requires _ (length c.loop-number.all.items) l c.loop-number.invariant.length_is)
 
 pub index_mut-requires : goal.index_mut-requires
 index_mut-requires c =
