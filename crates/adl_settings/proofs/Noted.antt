@@ -1,5 +1,7 @@
 -- Noting what the elements of lists give.
-use Rattle.adl_settings.proofs.Common.{◌≡◌, Option, Some, None, is_some, refl, Given, meant, bad_unless, bad_value, ◌∙◌, List, ◌++◌, sym, ap, Fault, noted, noted_then, list_any}
+use Rattle.adl_settings.proofs.Common.{◌≡◌, Option, Some, None, [], ◌∷◌, is_some, refl, Given, meant, bad_unless, bad_value, ◌∙◌, List, ◌++◌, sym, ap, list_any, append_assoc, flat_map, filter_map, Found, noted-append}
+use Rattle.adl_settings.specs.IrqTwice.{irq_at}
+use Rattle.std.proofs.lemmas.List.Elements.{filter_map-append}
 use Rattle.adl_ast.specs.declared.value.Value.{Value}
 use Rattle.std.specs.List.Sorted.{IsPermutation}
 use Rattle.std.proofs.lemmas.List.Sorted.{list_any-IsPermutation}
@@ -7,17 +9,16 @@ use Rattle.page_index.specs.Sharing.{shares}
 use Rattle.page_index.specs.declared.region.Region.{Region}
 
 -- a value is at fault where the setting means nothing
-bad_meant : {X : Type 0} (allowed : Value → Option X) (default : X) (o : Option Given) → bad_unless (is_some (meant allowed default o)) o ≡ bad_value allowed o
+pub bad_meant : {X : Type 0} (allowed : Value → Option X) (default : X) (o : Option Given) → bad_unless (is_some (meant allowed default o)) o ≡ bad_value allowed o
 bad_meant allowed default None = refl
 bad_meant allowed default (Some g) = refl
 
-pub noted_bad : {X : Type 0} (allowed : Value → Option X) (default : X) (g : Option Given) (result : Option X) (old new : Option Fault) → result ≡ meant allowed default g
-    → new ≡ noted old (bad_unless (is_some result) g) → new ≡ noted old (bad_value allowed g)
-noted_bad allowed default g result old new r n = n ∙ ap (λ o. noted old (bad_unless (is_some o) g)) r ∙ ap (noted old) (bad_meant allowed default g)
+pub ruleset noted_values = (noted-append, append_assoc, bad_meant)
 
--- five lists, one after another
-pub noted_five : (a b c d e : List Fault) (o p q r s t : Option Fault) → p ≡ noted o a → q ≡ noted p b → r ≡ noted q c → s ≡ noted r d → t ≡ noted s e → t ≡ noted o (a ++ b ++ c ++ d ++ e)
-noted_five a b c d e o p q r s t f g h i j = noted_then t s o (a ++ b ++ c ++ d) e (noted_then s r o (a ++ b ++ c) d (noted_then r q o (a ++ b) c (noted_then q p o a b f g) h) i) j
+-- the interrupts of all ends are those of each connection in turn
+pub irqs_whole : (ks : List (List Found)) → filter_map irq_at (flat_map (λ (es : List Found). es) ks) ≡ flat_map (filter_map irq_at) ks
+irqs_whole [] = refl
+irqs_whole (es ∷ ks) = filter_map-append irq_at es (flat_map (λ (es : List Found). es) ks) ∙ ap (λ z. filter_map irq_at es ++ z) (irqs_whole ks)
 
 -- an index of the pages of all regions finds the regions that share a page with one
 pub shared_in_index : (a : Region) (all index : List Region) → IsPermutation all index → list_any (shares a) index ≡ list_any (shares a) all

@@ -3,7 +3,7 @@ use Rattle.adl_meaning.specs.Prelude.{count_by, lookup}
 use Rattle.std.specs.Prelude.{ℕ, ◌==◌, nat_le, Bool, false, List, unwrap_or}
 
 -- whether a table says that the number stands twice
-abbrev pub is_marked : List (ℕ × Bool) → ℕ → Bool
+unfoldable pub is_marked : List (ℕ × Bool) → ℕ → Bool
 is_marked entries n = unwrap_or (lookup (λ m. n == m) entries) false
 
 abbrev pub is_repeated : List ℕ → ℕ → Bool

@@ -43,8 +43,5 @@ end_settings fs = record { ends = map end_setting fs }
 abbrev pub settled_from : List LeafFound → List (List Found) → Settled
 settled_from leaves connections = record { leaves = map leaf_setting leaves; connections = map end_settings connections }
 
-abbrev pub settled_in : Hierarchy → Source → Flat → Settled
-settled_in h s flat = settled_from (leaves_found h flat) (founds_in h s flat)
-
 abbrev pub settled_of : Source → Settled
-settled_of s = settled_in (hierarchy_of s) s (flat_of s)
+settled_of s = settled_from (leaves_found (hierarchy_of s) (flat_of s)) (founds_in (hierarchy_of s) s (flat_of s))

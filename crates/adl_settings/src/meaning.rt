@@ -22,16 +22,6 @@ const DEFAULT_PRIORITY: u8 = 254;
 /// The bytes of a stack without such a setting.
 const DEFAULT_STACK: u64 = 16_384;
 
-const READ_AND_WRITE: Access = Access {
-    read: true,
-    write: true,
-};
-
-const NO_ACCESS: Access = Access {
-    read: false,
-    write: false,
-};
-
 /// The bytes of the port's type, in whole pages.
 fn default_bytes(interface: &Interface) -> u64
     ensures { result ≡ default_bytes interface.now }
@@ -43,11 +33,7 @@ fn default_bytes(interface: &Interface) -> u64
 fn counted<T: Copy>(counts: bool, meant: Option<T>, otherwise: T) -> T
     ensures { result ≡ (if counts then unwrap_or meant otherwise else otherwise) }
 {
-    if counts {
-        meant.unwrap_or(otherwise)
-    } else {
-        otherwise
-    }
+    meant.filter(|_| counts).unwrap_or(otherwise)
 }
 
 impl<'a> LeafFound<'a> {
@@ -55,20 +41,16 @@ impl<'a> LeafFound<'a> {
     pub fn priority(&self) -> Option<u8>
         ensures { result ≡ meant priority_in 254 self.now.priority }
     {
-        match &self.priority {
-            None => Some(DEFAULT_PRIORITY),
-            Some(given) => priority_in(given.value),
-        }
+        let given = self.priority.as_ref();
+        given.map_or(Some(DEFAULT_PRIORITY), |given| priority_in(given.value))
     }
 
     /// The bytes of a stack that are meant.
     pub fn stack(&self) -> Option<u64>
         ensures { result ≡ meant stack_in 16384 self.now.stack }
     {
-        match &self.stack {
-            None => Some(DEFAULT_STACK),
-            Some(given) => stack_in(given.value),
-        }
+        let given = self.stack.as_ref();
+        given.map_or(Some(DEFAULT_STACK), |given| stack_in(given.value))
     }
 
     /// The settings of the leaf.
@@ -88,30 +70,29 @@ impl<'a> Found<'a> {
     pub fn access(&self) -> Option<Access>
         ensures { result ≡ access_of self.now }
     {
-        match &self.access {
-            None => Some(READ_AND_WRITE),
-            Some(given) => access_in(given.value),
-        }
+        let default = Some(Access {
+            read: true,
+            write: true,
+        });
+        let given = self.access.as_ref();
+        given.map_or(default, |given| access_in(given.value))
     }
 
     /// The badge that is meant.
     pub fn badge(&self) -> Option<u64>
         ensures { result ≡ badge_of self.now }
     {
-        match &self.badge {
-            None => Some(self.joint.position),
-            Some(given) => badge_in(given.value),
-        }
+        let given = self.badge.as_ref();
+        given.map_or(Some(self.joint.position), |given| badge_in(given.value))
     }
 
     /// The bytes of memory that are meant.
     pub fn bytes(&self) -> Option<u64>
         ensures { result ≡ bytes_of self.now }
     {
-        match &self.size {
-            None => Some(default_bytes(self.joint.interface)),
-            Some(given) => size_in(given.value),
-        }
+        let default = default_bytes(self.joint.interface);
+        let given = self.size.as_ref();
+        given.map_or(Some(default), |given| size_in(given.value))
     }
 
     /// The bytes beside which an address is looked at: 0 where the size isn't allowed.
@@ -140,7 +121,11 @@ impl<'a> Found<'a> {
         ensures { result ≡ end_setting self.now }
     {
         let joint = &self.joint;
-        let access = counted(joint.has_access(), self.access(), NO_ACCESS);
+        let no_access = Access {
+            read: false,
+            write: false,
+        };
+        let access = counted(joint.has_access(), self.access(), no_access);
         let has_memory = is_shared(joint.connection.connector) || joint.is_device_memory();
         EndSetting {
             read: access.read,

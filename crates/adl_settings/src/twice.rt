@@ -1,10 +1,10 @@
 //! Numbers that stand twice: those of devices' interrupts, and the badges of the ends of one connection.
 
 ghost use Rattle.adl_settings.specs.Words.{noted};
-ghost use Rattle.adl_meaning.specs.Prelude.{filter_map};
-ghost use Rattle.std.specs.Prelude.{◌≡◌, map, OnOk, IfOk};
+ghost use Rattle.adl_meaning.specs.Prelude.{filter_map, flat_map};
+ghost use Rattle.std.specs.Prelude.{◌≡◌, ℕ, map, OnOk, IfOk};
 ghost use Rattle.adl_settings.specs.BadgeTwice.{last_in, own_badge, badges_twice};
-ghost use Rattle.adl_settings.specs.IrqTwice.{irq_at, irqs, irqs_twice};
+ghost use Rattle.adl_settings.specs.IrqTwice.{irq_at, irqs_twice};
 ghost use Rattle.adl_settings.specs.Repeated.{is_marked, is_repeated};
 
 use crate::Found;
@@ -15,7 +15,7 @@ use std::alloc::Global;
 
 /// Whether each of the numbers stands twice or more.
 fn repeated(alloc: Global, numbers: &[u64]) -> Result<IndexMap<u64, bool>, NoMemory>
-    ensures { IfOk result (λ t. is_marked t.entries ≡ is_repeated numbers.now) }
+    ensures { IfOk result (λ t. (n : ℕ) → is_marked t.entries n ≡ is_repeated numbers.now n) }
 {
     let mut twice = IndexMap::new(alloc);
     for number in numbers {
@@ -25,6 +25,7 @@ fn repeated(alloc: Global, numbers: &[u64]) -> Result<IndexMap<u64, bool>, NoMem
     Ok(twice)
 }
 
+#[tactic(auto, unfolding(crate::specs::Repeated::is_marked))]
 fn is_marked(twice: &IndexMap<u64, bool>, number: u64) -> bool
     ensures { result ≡ is_marked twice.now.entries number }
 {
@@ -47,26 +48,21 @@ fn irq_at(end: &Found<'_>) -> Option<Irq>
 }
 
 fn irqs(alloc: Global, connections: &[List<Found<'_>>]) -> Result<Vec<Irq>, NoMemory>
-    ensures { IfOk result (λ v. v.items ≡ irqs connections.now) }
+    ensures { IfOk result (λ v. v.items ≡ filter_map irq_at (flat_map (λ ends. ends) connections.now)) }
 {
-    let mut found = Vec::new(alloc);
-    for connection in connections {
-        for end in connection.as_slice() {
-            if let Some(irq) = irq_at(end) {
-                found.push(irq)?;
-            }
-        }
-    }
-    Ok(found)
+    let ends = connections.iter().flat_map(|ends| ends.as_slice());
+    Ok(ends.filter_map(irq_at).collect(alloc)?)
 }
 
-fn numbers(alloc: Global, irqs: &[Irq]) -> Result<Vec<u64>, NoMemory>
-    ensures { IfOk result (λ v. v.items ≡ map (λ a. a.number) irqs.now) }
+fn repeated_irqs(alloc: Global, irqs: &[Irq]) -> Result<IndexMap<u64, bool>, NoMemory>
+    ensures { IfOk result (λ t. (n : ℕ) → is_marked t.entries n ≡ is_repeated (map (λ a. a.number) irqs.now) n) }
 {
-    Ok(irqs.iter().map(|irq| irq.number).collect(alloc)?)
+    let numbers: Vec<u64> = irqs.iter().map(|irq| irq.number).collect(alloc)?;
+    repeated(alloc, numbers.as_slice())
 }
 
 /// Notes the interrupts that have the number of another.
+#[tactic(auto, using(crate::proofs::Noted::irqs_whole, std::proofs::lemmas::Grind::common_steps))]
 pub fn note_irqs_twice<'a>(
     alloc: Global,
     connections: &[List<Found<'a>>],
@@ -75,8 +71,7 @@ pub fn note_irqs_twice<'a>(
     ensures { OnOk result (first.new ≡ noted first.old (irqs_twice connections.now)) }
 {
     let irqs = irqs(alloc, connections)?;
-    let numbers = numbers(alloc, irqs.as_slice())?;
-    let twice = repeated(alloc, numbers.as_slice())?;
+    let twice = repeated_irqs(alloc, irqs.as_slice())?;
     for irq in irqs.as_slice() {
         let is_twice = is_marked(&twice, irq.number);
         first.note(is_twice, Code::IrqTwice, irq.place, b"");
@@ -87,20 +82,16 @@ pub fn note_irqs_twice<'a>(
 fn last_in(path: &Path) -> &[u8]
     ensures { result.now ≡ last_in path.now }
 {
-    match path.names().last() {
-        None => b"".as_slice(),
-        Some(name) => name.as_bytes(),
-    }
+    let last = path.names().last();
+    last.map_or(b"".as_slice(), |name| name.as_bytes())
 }
 
 /// The badge of an end that has one.
 fn own_badge(end: &Found<'_>) -> Option<u64>
     ensures { result ≡ own_badge end.now }
 {
-    if !end.joint.has_badge() {
-        return None;
-    }
-    end.badge()
+    let has_badge = end.joint.has_badge();
+    end.badge().filter(|_| has_badge)
 }
 
 fn own_badges(alloc: Global, ends: &[Found<'_>]) -> Result<Vec<u64>, NoMemory>

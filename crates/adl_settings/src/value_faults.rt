@@ -2,7 +2,7 @@
 
 ghost use Rattle.adl_settings.specs.Words.{noted, Fault as Wrong, Refuses};
 ghost use Rattle.std.specs.Prelude.{◌≡◌, ◌++◌, List as Seq, map, is_some, OnOk, IfOk};
-ghost use Rattle.adl_settings.specs.BadValue.{bad_in_leaf, bad_at_end, bad_values};
+ghost use Rattle.adl_settings.specs.BadValue.{bad_at_end, bad_values};
 ghost use Rattle.adl_settings.specs.EndMeaning.{end_setting};
 ghost use Rattle.adl_settings.specs.Meant.{bad_unless};
 ghost use Rattle.adl_settings.specs.Missing.{missing_values};
@@ -18,20 +18,14 @@ use std::alloc::Global;
 
 /// Notes the literal of a value that means nothing.
 fn note_bad<'a, T: Copy>(meant: Option<T>, given: &Option<Given<'a>>, first: &mut Earliest<'a>)
-    ensures { first.new ≡ noted first.old (bad_unless (is_some meant) given.now) }
+    ensures { (more : Seq Wrong) → noted first.new more ≡ noted first.old (bad_unless (is_some meant) given.now ++ more) }
 {
     if let (Some(given), None) = (given, meant) {
         first.note(true, Code::Value, given.value.place, given.name);
     }
 }
 
-fn note_bad_leaf<'a>(leaf: &LeafFound<'a>, first: &mut Earliest<'a>)
-    ensures { first.new ≡ noted first.old (bad_in_leaf leaf.now) }
-{
-    note_bad(leaf.priority(), &leaf.priority, first);
-    note_bad(leaf.stack(), &leaf.stack, first);
-}
-
+#[tactic(auto, using(crate::proofs::Noted::noted_values))]
 fn note_bad_end<'a>(end: &Found<'a>, first: &mut Earliest<'a>)
     ensures { (more : Seq Wrong) → noted first.new more ≡ noted first.old (bad_at_end end.now ++ more) }
 {
@@ -43,6 +37,7 @@ fn note_bad_end<'a>(end: &Found<'a>, first: &mut Earliest<'a>)
 }
 
 /// Notes the values that aren't allowed.
+#[tactic(auto, using(crate::proofs::Noted::noted_values))]
 fn note_bad_values<'a>(
     leaves: &[LeafFound<'a>],
     connections: &[List<Found<'a>>],
@@ -51,7 +46,8 @@ fn note_bad_values<'a>(
     ensures { first.new ≡ noted first.old (bad_values leaves.now connections.now) }
 {
     for leaf in leaves {
-        note_bad_leaf(leaf, first);
+        note_bad(leaf.priority(), &leaf.priority, first);
+        note_bad(leaf.stack(), &leaf.stack, first);
     }
     for connection in connections {
         for end in connection.as_slice() {
@@ -72,23 +68,6 @@ fn note_missing<'a>(connections: &[List<Found<'a>>], first: &mut Earliest<'a>)
             first.note(lacks_value, Code::Missing, word.place, word.name.as_bytes());
         }
     }
-}
-
-#[tactic(auto, using(adl_meaning::proofs::Noting::noting))]
-fn note_value_faults<'a>(
-    alloc: Global,
-    leaves: &[LeafFound<'a>],
-    connections: &[List<Found<'a>>],
-    first: &mut Earliest<'a>,
-) -> Result<(), NoMemory>
-    ensures { OnOk result (first.new ≡ noted first.old (value_faults leaves.now connections.now)) }
-{
-    note_bad_values(leaves, connections, first);
-    note_missing(connections, first);
-    note_overlaps(alloc, connections, first)?;
-    note_irqs_twice(alloc, connections, first)?;
-    note_badges_twice(alloc, connections, first)?;
-    Ok(())
 }
 
 fn leaf_settings(alloc: Global, leaves: &[LeafFound<'_>]) -> Result<Vec<LeafSetting>, NoMemory>
@@ -122,6 +101,7 @@ fn connection_settings(
 /// # Errors
 ///
 /// The first fault, or want of memory.
+#[tactic(auto, using(adl_meaning::proofs::Noting::noting))]
 pub fn settled<'a>(
     alloc: Global,
     leaves: &[LeafFound<'a>],
@@ -132,7 +112,11 @@ pub fn settled<'a>(
     ensures settled { IfOk result (λ x. x ≡ settled_from leaves.now connections.now) }
 {
     let mut first = first;
-    note_value_faults(alloc, leaves, connections, &mut first)?;
+    note_bad_values(leaves, connections, &mut first);
+    note_missing(connections, &mut first);
+    note_overlaps(alloc, connections, &mut first)?;
+    note_irqs_twice(alloc, connections, &mut first)?;
+    note_badges_twice(alloc, connections, &mut first)?;
     first.refuse(alloc)?;
     let connections = connection_settings(alloc, connections)?;
     let leaves = List::from_vec(leaf_settings(alloc, leaves)?);

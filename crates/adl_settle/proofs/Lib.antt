@@ -1,5 +1,3 @@
-pub mod PartKinds
 pub mod SettingKeys
-pub mod Settled
 pub mod TableSteps
 pub mod ValueSteps

@@ -1,7 +1,8 @@
 -- Tables that have a value for each body, and the steps of filling one.
-use Rattle.adl_settings.proofs.Common.{◌≡◌, ◌∙◌, ◌≤◌, ◌<◌, ◌+◌, ℕ, cond, ◌&&◌, drop, arith, List, [], ◌∷◌, ◌++◌, length, get_or, Some, refl, sym, ap, subst, ◌⊎◌, inl, inr, get_or_past, get_or_default, length-append, get_or_append_left, find, option_map_or, bytes_eq, drop_first, Setting, Id, last_name, Hierarchy, Part, Body, body, part_named, Name, Path, same_path, is_group, inner_names, path_of, settings_of, setting_of, Bool, ◌||◌, Option, None, is_some, flat_map, enumerate_from, option_or, Fault, noted, where_true, sets, noted-append, Met, setting_twice, repeated_after, repeated_in}
-use Rattle.cam_base.proofs.Options.{option_or-cond, is_some-option_or}
+use Rattle.adl_settings.proofs.Common.{◌≡◌, ◌∙◌, ◌≤◌, ◌<◌, ◌+◌, ℕ, cond, ◌&&◌, drop, arith, List, [], ◌∷◌, ◌++◌, length, get_or, Some, refl, sym, ap, subst, inl, inr, get_or_past, get_or_default, length-append, get_or_append_left, find, option_map_or, bytes_eq, drop_first, Setting, Id, last_name, Hierarchy, Part, Body, body, part_named, Name, Path, same_path, is_group, inner_names, path_of, settings_of, setting_of, ◌||◌, Option, None, is_some, option_or, Fault, noted, where_true, sets, noted-append, Met, setting_twice, repeated_after}
+use Rattle.cam_base.proofs.Options.{is_some-option_or}
 use Rattle.std.proofs.lemmas.List.{get_or_push}
+use Rattle.std.proofs.lemmas.Bool.{cases_lt}
 use borrow.Author.Count.{below_more}
 
 -- where P is true of each place and its value, it is after one more
@@ -12,12 +13,9 @@ each_more {T} P xs new y n so_many pushed each here =
     (λ k l d. subst (P k) (sym (ap (λ zs. get_or zs k d) pushed ∙ get_or_append_left xs (y ∷ []) d k (omega (arith, l, so_many)))) (each k l d))
     (λ d. subst (P n) (sym (ap (λ zs. get_or zs n d) pushed ∙ get_or_push xs y d n so_many)) here)
 
-below_or_past : (k n : ℕ) → (k < n) ⊎ (n ≤ k)
-below_or_past k n = grind arith
-
 -- behind the last the value of the assembly counts
 pub each_or : {T : Type 0} (P : ℕ → T → Type 0) (xs : List T) (top : T) → ((k : ℕ) → k < length xs → (d : T) → P k (get_or xs k d)) → ((k : ℕ) → length xs ≤ k → P k top) → (k : ℕ) → P k (get_or xs k top)
-each_or P xs top each behind k = elim (below_or_past k (length xs)) [ inl a ↦ each k a top | inr a ↦ subst (P k) (sym (get_or_past xs k top a)) (behind k a) ]
+each_or P xs top each behind k = elim (cases_lt k (length xs)) [ inl a ↦ each k a top | inr a ↦ subst (P k) (sym (get_or_past xs k top a)) (behind k a) ]
 
 -- the body of a number behind the last component's is the assembly
 pub body-behind : (h : Hierarchy) (k : ℕ) → length h.bodies ≤ k → body h k ≡ h.top
@@ -40,19 +38,12 @@ setting_of-same h k l e p x = λ i. find (λ (s : Setting). same_path p (path_of
 abbrev pub all_bodies : Hierarchy → List Body
 all_bodies h = h.bodies ++ h.top ∷ []
 
-pub bodies-next : (h : Hierarchy) (k : ℕ) → k < length h.bodies → drop k (all_bodies h) ≡ body h k ∷ drop (k + 1) (all_bodies h)
-bodies-next h k l =
+pub bodies_next : (h : Hierarchy) (k : ℕ) → k < length h.bodies → drop k (all_bodies h) ≡ body h k ∷ drop (k + 1) (all_bodies h)
+bodies_next h k l =
     let b = body h k in
     drop_first (all_bodies h) k b (omega (arith, l, length-append h.bodies (h.top ∷ []))) (get_or_default h.bodies k h.top b l ∙ sym (get_or_append_left h.bodies (h.top ∷ []) b k l))
 
 -- ---- the settings of one body
-
--- what a table finds after one more setting
-pub found_more : (t : Setting → Bool) (old new : Option Setting) (xs : List Setting) (i : ℕ) (x : Setting) → i < length xs → x ≡ get_or xs i x → new ≡ option_or old (cond (t x) (Some x) None)
-    → option_or new (find t (drop (i + 1) xs)) ≡ option_or old (find t (drop i xs))
-found_more t old new xs i x l e n =
-    let rest = find t (drop (i + 1) xs) in
-    ap (λ z. option_or z rest) n ∙ option_or-cond old (t x) x rest ∙ ap (λ z. option_or old (find t z)) (sym (drop_first xs i x l e))
 
 -- the faults of the settings that are left, after one more
 pub twice_more : (h : Hierarchy) (k : ℕ) (old new : Path → Name → Option Setting) (first first' : Option Fault) (xs : List Setting) (i : ℕ) (x : Setting) → i < length xs → x ≡ get_or xs i x
@@ -69,11 +60,3 @@ twice_more h k old new first first' xs i x l e f n =
     let same : (λ (p : Path) (n : Name). is_some (new p n)) ≡ more = λ j p n. (ap is_some (f p n) ∙ is_some-option_or (old p n) (sets h k p n x) x) j in
     ap (λ (m : Met). noted first' (repeated_after h k m rest)) same ∙ ap (λ o. noted o (repeated_after h k more rest)) n
     ∙ sym (noted-append first again (repeated_after h k more rest)) ∙ ap (λ ys. noted first (repeated_after h k met ys)) (sym (drop_first xs i x l e))
-
--- the faults of the bodies that are left, after one more
-pub bodies_more : (h : Hierarchy) (k : ℕ) (first first' : Option Fault) → k < length h.bodies → first' ≡ noted first (repeated_in h (k, body h k))
-    → noted first' (flat_map (repeated_in h) (enumerate_from (k + 1) (drop (k + 1) (all_bodies h)))) ≡ noted first (flat_map (repeated_in h) (enumerate_from k (drop k (all_bodies h))))
-bodies_more h k first first' l n =
-    let rest = flat_map (repeated_in h) (enumerate_from (k + 1) (drop (k + 1) (all_bodies h))) in
-    ap (λ o. noted o rest) n ∙ sym (noted-append first (repeated_in h (k, body h k)) rest)
-    ∙ ap (λ bs. noted first (flat_map (repeated_in h) (enumerate_from k bs))) (sym (bodies-next h k l))

@@ -1,53 +1,43 @@
 -- Steps of the search for a value, from the outermost body inwards.
-use Rattle.adl_settings.proofs.Common.{◌≡◌, ◌∙◌, ◌<◌, ◌≤◌, ◌+◌, ◌-◌, ℕ, zero, suc, Bool, true, false, cond, ◌&&◌, List, [], ◌∷◌, take, drop, length, max, ◌++◌, Bor, Option, Some, None, option_map, refl, sym, ap, arith, ◌⊎◌, inl, inr, slice_get, option_and_then, option_map_or, option_or, bytes_eq, length-drop, drop-append-le, drop-map, and_parts, find_passes, Setting, last_name, Hierarchy, Part, top_number, body, part_named, Name, Path, at, same_path, Given, given, settings_of, sets, setting_of, setter_at, set_within, default_at, value_at, same_path-true}
+use Rattle.adl_settings.proofs.Common.{◌≡◌, ◌∙◌, ◌<◌, ◌≤◌, ◌+◌, ◌-◌, ℕ, zero, suc, cond, ◌&&◌, List, [], ◌∷◌, take, drop, length, max, ◌++◌, Bor, Option, Some, None, option_map, refl, sym, ap, arith, inl, inr, slice_get, option_and_then, option_map_or, option_or, bytes_eq, length-drop, drop-append-le, drop-map, and_parts, find_passes, Setting, last_name, Hierarchy, Part, top_number, body, part_named, Name, Path, at, same_path, Given, given, settings_of, sets, setting_of, setter_at, set_within, default_at, value_at, same_path-true}
 use Rattle.std.proofs.Math.Seq.{take-length}
 use Rattle.std.proofs.lemmas.Slice.Eq.{bytes_eq-Decides}
 use Rattle.adl_items.specs.Pointed.{pointed}
 use Rattle.adl_settle.specs.Lookups.{within, attribute_at, given_from}
+use Rattle.std.proofs.lemmas.Bool.{cases_lt}
 use borrow.Author.Count.{below_more}
 use Rattle.adl_settings.proofs.ValueSearch.{referred, value-referred, outer_stays}
 
 -- ---- bodies along a path
 
-within_part : (h : Hierarchy) (o : Option Part) → option_map (λ (x : Part). x.kind) o ≡ option_and_then (λ (x : Part). Some x.kind) o
-within_part h None = refl
-within_part h (Some x) = refl
-
 within_behind : (h : Hierarchy) (q : Path) (i : ℕ) (o : Option Part)
     → ((k : ℕ) → option_map_or (within h (at h k (take i q))) (slice_get q i) (at h k (take i q)) ≡ at h k (take (suc i) q))
     → option_map_or (within h (option_and_then (λ (x : Part). at h x.kind (take i q)) o)) (slice_get q i) (option_and_then (λ (x : Part). at h x.kind (take i q)) o) ≡ option_and_then (λ (x : Part). at h x.kind (take (suc i) q)) o
-within_behind h q i None next = none_within (slice_get q i)
-  where
-    none_within : (o : Option Name) → option_map_or (within h None) o None ≡ None
-    none_within None = refl
-    none_within (Some n) = refl
+within_behind h q i None next = grind arith
 within_behind h q i (Some x) next = next x.kind
 
 at_more : (h : Hierarchy) (k : ℕ) (p : Path) (i : ℕ) → option_map_or (within h (at h k (take i p))) (slice_get p i) (at h k (take i p)) ≡ at h k (take (suc i) p)
 at_more h k [] zero = refl
 at_more h k [] (suc i) = refl
-at_more h k (n ∷ p) zero = within_part h (part_named (body h k).parts n)
+at_more h k (n ∷ p) zero = refl
 at_more h k (n ∷ p) (suc i) = within_behind h p i (part_named (body h k).parts n) (λ m. at_more h m p i)
-
-suc_is : (i : ℕ) → suc i ≡ i + 1
-suc_is i = omega arith
 
 -- the body behind the next name
 pub at-next : (h : Hierarchy) (k : ℕ) (p : Path) (i : ℕ) (o : Option ℕ) → o ≡ at h k (take i p) → option_map_or (within h o) (slice_get p i) o ≡ at h k (take (i + 1) p)
-at-next h k p i o e = ap (λ z. option_map_or (within h z) (slice_get p i) z) e ∙ at_more h k p i ∙ ap (λ j. at h k (take j p)) (suc_is i)
+at-next h k p i o e =
+    let next : suc i ≡ i + 1 = omega arith in
+    ap (λ z. option_map_or (within h z) (slice_get p i) z) e ∙ at_more h k p i ∙ ap (λ j. at h k (take j p)) next
 
 -- ---- what one body sets
 
 pub given-setter : (h : Hierarchy) (refer : Name → Option Given) (q : Path) (x : Name) (o : Option ℕ)
     → given_from refer (option_and_then (λ k. setting_of h k q x) o) ≡ given refer x (option_and_then (λ k. option_map (λ s. s.setter) (setting_of h k q x)) o)
 given-setter h refer q x None = refl
-given-setter h refer q x (Some k) = by_case (setting_of h k q x) refl
+given-setter h refer q x (Some k) = by_case (setting_of h k q x) (λ s e. (bytes_eq-Decides x (last_name s.words)).0 (and_parts _ (bytes_eq x (last_name s.words)) (find_passes (sets h k q x) (settings_of (body h k)) s e)).1)
   where
-    by_case : (o : Option Setting) → setting_of h k q x ≡ o → given_from refer o ≡ given refer x (option_map (λ (s : Setting). s.setter) o)
-    by_case None e = refl
-    by_case (Some s) e =
-        let named = (bytes_eq-Decides x (last_name s.words)).0 (and_parts _ (bytes_eq x (last_name s.words)) (find_passes (sets h k q x) (settings_of (body h k)) s e)).1 in
-        ap (λ n. given refer n (Some s.setter)) (sym named)
+    by_case : (o : Option Setting) → ((s : Setting) → o ≡ Some s → x ≡ last_name s.words) → given_from refer o ≡ given refer x (option_map (λ (s : Setting). s.setter) o)
+    by_case None named = refl
+    by_case (Some s) named = ap (λ n. given refer n (Some s.setter)) (sym (named s refl))
 
 -- ---- the search
 
@@ -63,20 +53,10 @@ set-here h p (suc j) x l none =
     let refer : referred h p j ≡ attribute_at h (take (suc j) p) = λ i y. sym (above h p j y l) i in
     ap (λ o. option_or o (given (referred h p j) x (setter_at h p (suc j) (length p) x))) (none j (omega arith)) ∙ ap (λ (f : Name → Option Given). given f x (setter_at h p (suc j) (length p) x)) refer
 
-last_or_below : (k m : ℕ) → k ≤ suc m → (k ≤ m) ⊎ (k ≡ suc m)
-last_or_below k m l = grind arith
-
 pub set-stays : (h : Hierarchy) (p : Path) (k m end : ℕ) (x : Name) (g : Given) → k ≤ m → set_within h p k end x ≡ Some g → set_within h p m end x ≡ Some g
 set-stays h p k zero end x g l e = let z : zero ≡ k = omega (arith, l) in ap (λ n. set_within h p n end x) z ∙ e
-set-stays h p k (suc m) end x g l e = elim (last_or_below k m l) [ inl a ↦ outer_stays h p m end x g (set-stays h p k m end x g a e) | inr a ↦ ap (λ n. set_within h p n end x) (sym a) ∙ e ]
-
--- the setter of a whole path
-pub setter-whole : (h : Hierarchy) (p : Path) (k : ℕ) (x : Name) → option_and_then (λ b. option_map (λ s. s.setter) (setting_of h b (drop k p) x)) (at h (top_number h) (take k p)) ≡ setter_at h p k (length p) x
-setter-whole h p k x = ap (λ q. option_and_then (λ b. option_map (λ s. s.setter) (setting_of h b (drop k q) x)) (at h (top_number h) (take k p))) (sym (take-length p))
-
--- the value, where a body sets it
-pub value-found : (h : Hierarchy) (p : Path) (k : ℕ) (x : Name) (g : Given) → k < max (length p) 1 → set_within h p k (length p) x ≡ Some g → Some g ≡ value_at h p x
-value-found h p k x g l e = sym (ap (λ o. option_or o (default_at h p x)) (set-stays h p k (length p - 1) (length p) x g (omega (arith, l)) e))
+set-stays h p k (suc m) end x g l e =
+    elim (cases_lt m k) [ inl a ↦ let last : suc m ≡ k = omega arith in ap (λ n. set_within h p n end x) last ∙ e | inr a ↦ outer_stays h p m end x g (set-stays h p k m end x g a e) ]
 
 -- the key of the rest of a path
 pub key-behind : (ks items : List (Bor Name)) (p : Path) (x : Name) (i : ℕ) → ks ≡ items → pointed items ≡ p ++ x ∷ [] → i ≤ length p → pointed (take (length ks - i) (drop i ks)) ≡ drop i p ++ x ∷ []
@@ -92,13 +72,13 @@ module _ (h : Hierarchy) (p : Path) (i m : ℕ) (x : Name) (o : Option ℕ) (s :
   found-here =
       let refer = attribute_at h (take i p) in
       let inside : i ≤ length p = omega (arith, l, most) in
-      set-here h p i x inside none ∙ ap (given refer x) (sym (setter-whole h p i x))
-      ∙ ap (λ b. given refer x (option_and_then (λ b. option_map (λ s. s.setter) (setting_of h b (drop i p) x)) b)) (sym there)
+      set-here h p i x inside none
+      ∙ (λ j. given refer x (option_and_then (λ b. option_map (λ s. s.setter) (setting_of h b (drop i (take-length p j)) x)) (sym there j)))
       ∙ sym (given-setter h refer (drop i p) x o) ∙ ap (given_from refer) (sym (is (drop i p) x (key-behind ks items p x i same named inside))) ∙ sym result
 
   -- where it finds a value
   pub step-found : (g : Given) → found ≡ Some g → Some g ≡ value_at h p x
-  step-found g some = value-found h p i x g (omega (arith, l, most)) (found-here ∙ some)
+  step-found g some = sym (ap (λ o. option_or o (default_at h p x)) (set-stays h p i (length p - 1) (length p) x g (omega (arith, l, most)) (found-here ∙ some)))
 
   -- and where it finds none
   pub step-none : found ≡ None → (k : ℕ) → k < i + 1 → set_within h p k (length p) x ≡ None
@@ -109,11 +89,4 @@ module _ (h : Hierarchy) (p : Path) (i m : ℕ) (x : Name) (o : Option ℕ) (s :
 pub remembered_more : (h : Hierarchy) (f f' : Path → Name → Option (Option Given)) (path : Path) (name : Name) (v : Option Given)
     → ((p : Path) (x : Name) (g : Option Given) → f p x ≡ Some g → g ≡ value_at h p x) → v ≡ value_at h path name
     → ((p : Path) (x : Name) → f' p x ≡ cond (same_path path p && bytes_eq name x) (Some v) (f p x)) → (p : Path) (x : Name) (g : Option Given) → f' p x ≡ Some g → g ≡ value_at h p x
-remembered_more h f f' path name v old is new p x g e = by_test (same_path path p && bytes_eq name x) refl (sym (new p x) ∙ e)
-  where
-    by_test : (b : Bool) → (same_path path p && bytes_eq name x) ≡ b → cond b (Some v) (f p x) ≡ Some g → g ≡ value_at h p x
-    by_test true t e =
-        let both = and_parts (same_path path p) (bytes_eq name x) t in
-        let same : v ≡ g = cc in
-        sym same ∙ is ∙ ap (λ q. value_at h q name) (same_path-true path p both.0) ∙ ap (value_at h p) ((bytes_eq-Decides name x).0 both.1)
-    by_test false t e = old p x g e
+remembered_more h f f' path name v old is new p x g e = grind (arith, same_path-true path p, (bytes_eq-Decides name x).0, new p x, old p x g)

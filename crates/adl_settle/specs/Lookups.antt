@@ -1,7 +1,7 @@
 -- The tables of settings, what the search for values looks at, and what it remembers.
-use Rattle.adl_meaning.specs.Prelude.{bytes_eq, lookup, option_and_then, option_copied, option_map_or}
-use Rattle.std.specs.Prelude.{◌≡◌, ℕ, Bool, false, ◌&&◌, List, [], ◌∷◌, ◌++◌, Option, Some, None, option_map, slice_index_or}
-use Rattle.adl_settings.specs.Words.{Setting, Id, last_name, Hierarchy, body, part_named, Name, Path, same_path, Given, given, value_at, path_of, inner_names, is_group, setting_of}
+use Rattle.adl_meaning.specs.Prelude.{at, bytes_eq, lookup, option_and_then, option_copied, option_map_or}
+use Rattle.std.specs.Prelude.{◌≡◌, ℕ, Bool, false, ◌&&◌, List, [], ◌∷◌, ◌++◌, Option, Some, None, slice_index_or}
+use Rattle.adl_settings.specs.Words.{Setting, Id, last_name, Hierarchy, body, Name, Path, same_path, Given, given, value_at, path_of, inner_names, is_group, setting_of}
 use Rattle.adl_items.specs.Pointed.{pointed}
 use Rattle.adl_settle.specs.declared.search.Memo.{Memo}
 use Rattle.adl_settle.specs.declared.tables.SettingTable.{SettingTable}
@@ -9,7 +9,7 @@ use Rattle.adl_settle.specs.declared.tables.SettingTables.{SettingTables}
 
 -- the body behind a name
 abbrev pub within : Hierarchy → Option ℕ → Name → Option ℕ
-within h o n = option_and_then (λ k. option_map (λ x. x.kind) (part_named (body h k).parts n)) o
+within h o n = option_and_then (λ k. at h k (n ∷ [])) o
 
 -- whether a group of the body has the name
 abbrev pub groups : Hierarchy → Option ℕ → Name → Bool
@@ -27,7 +27,7 @@ abbrev pub key_of : Hierarchy → ℕ → List Id → Path
 key_of h k words = path_of h k words ++ last_name words ∷ []
 
 -- the setting of a path with a name behind it
-abbrev pub setting_found : SettingTable → Path → Option Setting
+unfoldable pub setting_found : SettingTable → Path → Option Setting
 setting_found t q = option_copied (lookup (λ k. same_path q (pointed k.items)) t.entries.entries)
 
 abbrev pub IsTable : Hierarchy → ℕ → SettingTable → Type 0

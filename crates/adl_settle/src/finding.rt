@@ -1,8 +1,8 @@
 //! The values of the settings of all leaves, and of the ends of connections at the interfaces that they join.
 
 ghost use Rattle.adl_meaning.specs.Prelude.{option_copied};
-ghost use Rattle.std.specs.Prelude.{◌≡◌, ◌<◌, ◌^◌, OnOk, IfOk};
-ghost use Rattle.adl_settings.specs.Joints.{component_at, interface_at, joint_of, behind, value_of, size_of, found_at, found_on, founds_in};
+ghost use Rattle.std.specs.Prelude.{◌≡◌, OnOk, IfOk};
+ghost use Rattle.adl_settings.specs.Joints.{component_at, interface_at, joint_of, value_of, size_of, found_at, found_on, founds_in};
 ghost use Rattle.adl_settings.specs.Meant.{where_set};
 ghost use Rattle.adl_settings.specs.Settled.{leaf_found, leaves_found};
 ghost use Rattle.adl_settle.specs.Lookups.{IsRemembered};
@@ -108,13 +108,8 @@ fn found_at<'a>(
     let badge = value_of(lookup, memo, joint.has_badge(), &joint, b"_attributes")?;
     let size = size_of(lookup, memo, &joint)?;
     let paddr = value_of(lookup, memo, joint.is_device_memory(), &joint, b"_paddr")?;
-    let irq = value_of(
-        lookup,
-        memo,
-        joint.is_device_event(),
-        &joint,
-        b"_irq_number",
-    )?;
+    let has_irq = joint.is_device_event();
+    let irq = value_of(lookup, memo, has_irq, &joint, b"_irq_number")?;
     Ok(Found {
         joint,
         access,
@@ -123,16 +118,6 @@ fn found_at<'a>(
         paddr,
         irq,
     })
-}
-
-fn behind(before: u64, role: Role) -> u64
-    requires { before < 2 ^ 63 }
-    ensures { result ≡ behind before role }
-{
-    match role {
-        Role::From => before + 1,
-        Role::To => before,
-    }
 }
 
 /// The values of the settings of a connection's ends.
@@ -153,7 +138,9 @@ fn found_on<'a>(
         if let Some(joint) = joint_of(source, flat, connection, before + 1, *end) {
             found.push(found_at(lookup, memo, joint)?)?;
         }
-        before = behind(before, end.role);
+        if end.role == Role::From {
+            before += 1;
+        }
     }
     Ok(found)
 }

@@ -64,10 +64,7 @@ impl<'t, 'a> Lookup<'t, 'a> {
         ensures { (p : Seq Bytes) (x : Bytes) → pointed key.now ≡ p ++ x ∷ []
             → option_copied result ≡ option_and_then (λ k. setting_of self.now k p x) number }
     {
-        match number {
-            None => None,
-            Some(number) => self.settings.of(number).get(key),
-        }
+        self.settings.of(number?).get(key)
     }
 
     /// The default of an attribute of a body.
@@ -84,10 +81,7 @@ impl<'t, 'a> Lookup<'t, 'a> {
 fn again<'a>(found: &Option<Given<'a>>) -> Option<Given<'a>>
     ensures { result ≡ found.now }
 {
-    match found {
-        None => None,
-        Some(given) => Some(given.again()),
-    }
+    found.as_ref().map(Given::again)
 }
 
 /// The names of a path with a name behind them.

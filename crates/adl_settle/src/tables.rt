@@ -1,8 +1,8 @@
 //! The settings of each body in a table, by their paths and names.
 
-ghost use Rattle.adl_settings.specs.Words.{Id as Word, Name as Bytes, body, part_named, path_of, same_path, sets, settings_of, noted, where_true};
-ghost use Rattle.adl_meaning.specs.Prelude.{option_copied, option_or};
-ghost use Rattle.std.specs.Prelude.{◌≡◌, ◌∷◌, ◌++◌, [], List as Seq, Some, None, is_some, if◌then◌else◌, option_map, slice_index_or, OnOk, IfOk};
+ghost use Rattle.adl_settings.specs.Words.{Id as Word, Name as Bytes, body, part_named, same_path, sets, settings_of, noted, where_true};
+ghost use Rattle.adl_meaning.specs.Prelude.{option_and_then, option_copied, option_or};
+ghost use Rattle.std.specs.Prelude.{◌≡◌, ◌∷◌, ◌++◌, [], List as Seq, Some, None, is_some, if◌then◌else◌, slice_index_or, OnOk, IfOk};
 ghost use Rattle.adl_items.specs.Pointed.{pointed};
 ghost use Rattle.adl_settings.specs.SettingTwice.{setting_twice, repeated_in, settings_twice};
 ghost use Rattle.adl_settle.specs.Lookups.{within, groups, path_from, key_of, setting_found, IsTable, AreTables};
@@ -29,15 +29,8 @@ pub struct SettingTables<'a> {
 }
 
 impl<'a> SettingTable<'a> {
-    fn new(alloc: Global) -> SettingTable<'a>
-        ensures { (q : Seq Bytes) → setting_found result q ≡ None }
-    {
-        SettingTable {
-            entries: IndexMap::new(alloc),
-        }
-    }
-
     /// The setting of a path and a name. Most bodies set nothing, and no key is hashed for them.
+    #[tactic(auto, using(crate::proofs::SettingKeys::found_key, crate::proofs::SettingKeys::found_none))]
     pub fn get(&self, key: &[&[u8]]) -> Option<&'a Setting>
         ensures { option_copied result ≡ setting_found self.now (pointed key.now) }
     {
@@ -48,6 +41,7 @@ impl<'a> SettingTable<'a> {
     }
 
     /// Puts a setting under its key, where the key has none yet, and answers whether it has one.
+    #[tactic(auto, using(crate::proofs::SettingKeys::found_there, crate::proofs::SettingKeys::found_kept))]
     fn add(&mut self, key: Vec<&'a [u8]>, setting: &'a Setting) -> Result<bool, NoMemory>
         ensures met { IfOk result (λ met. met ≡ is_some (setting_found self.old (pointed key.entry.items))) }
         ensures found { OnOk result ((q : Seq Bytes) → setting_found self.new q
@@ -67,18 +61,15 @@ impl<'a> SettingTables<'a> {
     pub fn of(&self, number: u32) -> &SettingTable<'a>
         ensures { result.now ≡ slice_index_or self.now.bodies.items number self.now.top }
     {
-        let number = number as usize;
-        if number < self.bodies.len() {
-            return &self.bodies[number];
-        }
-        &self.top
+        let bodies = self.bodies.as_slice();
+        bodies.get(number as usize).unwrap_or(&self.top)
     }
 }
 
 /// The number of the component of the first instance of the name.
-#[tactic(auto, using(crate::proofs::PartKinds::kinds_same))]
+#[tactic(auto, using(crate::proofs::SettingKeys::kinds_same))]
 fn kind_of(body: &Body<'_>, name: &Name) -> Option<u32>
-    ensures { result ≡ option_map (λ x. x.kind) (part_named body.now.parts name.now) }
+    ensures { result ≡ option_and_then (λ x. Some x.kind) (part_named body.now.parts name.now) }
 {
     match body.part(name) {
         None => None,
@@ -103,6 +94,7 @@ fn groups(bodies: &Bodies<'_>, number: Option<u32>, name: &Name) -> bool
 }
 
 /// The body behind a word of a setting, and the word itself if it is part of the path. Behind a leaf or a connection each is.
+#[tactic(auto, using(crate::proofs::SettingKeys::path_steps))]
 fn step<'a>(
     bodies: &Bodies<'a>,
     body: Option<u32>,
@@ -113,34 +105,12 @@ fn step<'a>(
         → pointed path.new.items ++ path_from bodies.now after (rest ++ last ∷ [])
         ≡ pointed path.old.items ++ path_from bodies.now body (word.entry.now ∷ rest ++ last ∷ [])) }
 {
-    if let Some(inside) = within(bodies, body, &word.name) {
-        path.push(word.name.as_bytes())?;
-        return Ok(Some(inside));
-    }
-    if groups(bodies, body, &word.name) {
+    let inside = within(bodies, body, &word.name);
+    if inside.is_none() && groups(bodies, body, &word.name) {
         return Ok(body);
     }
     path.push(word.name.as_bytes())?;
-    Ok(None)
-}
-
-/// The path that words name in a body.
-fn path_in<'a>(
-    alloc: Global,
-    bodies: &Bodies<'a>,
-    body: u32,
-    words: &'a [Id],
-) -> Result<Vec<&'a [u8]>, NoMemory>
-    ensures { IfOk result (λ v. pointed v.items ≡ path_of bodies.now body words.now) }
-{
-    let mut path = Vec::new(alloc);
-    if let [inner @ .., _last] = words {
-        let mut at = Some(body);
-        for word in inner {
-            at = step(bodies, at, word, &mut path)?;
-        }
-    }
-    Ok(path)
+    Ok(inside)
 }
 
 /// The path that words name in a body, with the last word behind it.
@@ -152,12 +122,19 @@ fn key_in<'a>(
 ) -> Result<Vec<&'a [u8]>, NoMemory>
     ensures { IfOk result (λ v. pointed v.items ≡ key_of bodies.now body words.now) }
 {
-    let mut key = path_in(alloc, bodies, body, words)?;
+    let mut key = Vec::new(alloc);
+    if let [inner @ .., _last] = words {
+        let mut at = Some(body);
+        for word in inner {
+            at = step(bodies, at, word, &mut key)?;
+        }
+    }
     key.push(last_name(words))?;
     Ok(key)
 }
 
 /// Puts a setting into the table of its body, and notes it where an earlier one has its key.
+#[tactic(auto, using(crate::proofs::SettingKeys::same_path_snoc))]
 fn add_setting<'a>(
     alloc: Global,
     bodies: &Bodies<'a>,
@@ -183,10 +160,8 @@ fn add_setting<'a>(
 fn settings_of<'a>(body: &Body<'a>) -> &'a [Setting]
     ensures { result.now ≡ settings_of body.now }
 {
-    match body.configuration() {
-        None => &[],
-        Some(configuration) => configuration.settings.as_slice(),
-    }
+    let configuration = body.configuration();
+    configuration.map_or(&[], |configuration| configuration.settings.as_slice())
 }
 
 /// The table of a body's settings; notes those that stand twice.
@@ -199,7 +174,9 @@ fn table_of<'a>(
     ensures found { IfOk result (λ t. IsTable bodies.now number t) }
     ensures noted { OnOk result (first.new ≡ noted first.old (repeated_in bodies.now (number, body bodies.now number))) }
 {
-    let mut settings = SettingTable::new(alloc);
+    let mut settings = SettingTable {
+        entries: IndexMap::new(alloc),
+    };
     for setting in settings_of(bodies.body(number)) {
         add_setting(alloc, bodies, number, setting, &mut settings, first)?;
     }

@@ -1,14 +1,18 @@
-use Rattle.adl_settings.proofs.Common.{◌∙◌, ap, false, is_repeated}
-use Rattle.std.proofs.Common.{unwrap_or}
+use Rattle.adl_settings.proofs.Common.{arith, nat_eq, get_or}
+use Rattle.adl_settings.specs.Repeated.{is_marked}
+use Rattle.std.proofs.lemmas.Bool.Decides.{nat_tests}
 use Rattle.std.proofs.lemmas.List.{take_all}
-use Rattle.adl_settings.proofs.Counting.{told_by, told_more, told_repeated}
+use Rattle.std.proofs.lemmas.List.Sums.{count_by_more_yes, count_by_more_no}
 use Rattle.adl_settings.proofs.twice.repeated.Goals as goal
 
 pub loop-number-preserved : goal.loop-number-preserved
-loop-number-preserved c =
-    told_more (told_by c.loop-number.twice.entries) (told_by c.insert.new.self.entries) c.args.numbers.now c.loop-number.number-index c.contains_key-is_met.result c.loop-number-test.true c.loop-number.invariant
-    c.contains_key-is_met.ensures c.in_ok-insert.ensures.updates.0
+loop-number-preserved c = λ n.
+    let xs = c.args.numbers.now in
+    let i = c.loop-number.number-index in
+    let more = count_by_more_yes (λ m. nat_eq n m) xs i 0 c.loop-number-test.true in
+    let same = count_by_more_no (λ m. nat_eq n m) xs i 0 c.loop-number-test.true in
+    grind (arith, nat_tests, c.loop-number.invariant n, c.loop-number.invariant (get_or xs i 0), c.contains_key-is_met.ensures, c.in_ok-insert.ensures.updates.0 n, more, same)
 
 pub returns : goal.returns
-returns c = λ i n.
-    (ap (λ o. unwrap_or o false) (c.loop-number.invariant n) ∙ told_repeated _ ∙ ap (λ xs. is_repeated xs n) (take_all c.loop-number.number-index c.args.numbers.now c.loop-number-test.false)) i
+unfolding is_marked
+returns c = λ n. grind (arith, nat_tests, c.loop-number.invariant n, take_all c.loop-number.number-index c.args.numbers.now c.loop-number-test.false)

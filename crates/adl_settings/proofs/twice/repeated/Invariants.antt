@@ -1,6 +1,8 @@
-use Rattle.adl_settings.proofs.Common.{take}
-use Rattle.adl_settings.proofs.Counting.{AreTold, told_by}
+use Rattle.adl_settings.proofs.Common.{◌≡◌, ℕ, Some, None, take, count_by, nat_eq, nat_le, cond}
+use Rattle.adl_meaning.specs.Prelude.{lookup}
 use Rattle.adl_settings.proofs.twice.repeated.Given as goal
 
 abbrev pub invariant-loop-number : goal.invariant-loop-number
-invariant-loop-number l = AreTold (told_by l.twice.entries) (take l.number-index l.numbers)
+invariant-loop-number l =
+    (n : ℕ) → let so_often = count_by (λ m. nat_eq n m) (take l.number-index l.numbers) in
+    lookup (λ m. nat_eq n m) l.twice.entries ≡ cond (nat_le 1 so_often) (Some (nat_le 2 so_often)) None

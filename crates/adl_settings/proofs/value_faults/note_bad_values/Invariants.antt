@@ -2,7 +2,7 @@ use Rattle.adl_settings.proofs.Common.{◌≡◌, ◌+◌, ◌++◌, drop, flat_
 use Rattle.adl_settings.proofs.value_faults.note_bad_values.Given as goal
 
 abbrev pub invariant-loop-leaf : goal.invariant-loop-leaf
-invariant-loop-leaf l = noted l.first (flat_map bad_in_leaf (drop l.leaf-index l.leaves)) ≡ noted l.fn.first (flat_map bad_in_leaf l.leaves)
+invariant-loop-leaf l = noted l.first (flat_map bad_in_leaf (drop l.leaf-index l.leaves) ++ flat_map bad_in_connection l.connections) ≡ noted l.fn.first (bad_values l.leaves l.connections)
 
 abbrev pub invariant-loop-connection : goal.invariant-loop-connection
 invariant-loop-connection l = noted l.first (flat_map bad_in_connection (drop l.connection-index l.connections)) ≡ noted l.fn.first (bad_values l.leaves l.connections)

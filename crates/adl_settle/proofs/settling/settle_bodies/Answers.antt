@@ -1,18 +1,19 @@
-use Rattle.adl_settings.proofs.Common.{◌≡◌, ◌∙◌, subst, Option, IfOk, Fault, Refuses}
-use Rattle.adl_meaning.specs.declared.settled.Settled.{Settled}
-use Rattle.adl_settle.proofs.Settled.{first-noted, settled-whole}
+use Rattle.adl_settings.proofs.Common.{◌≡◌, ◌∙◌, None, sym, ap, subst, Option, Fault, Refuses, Source, Flat, noted, least, flat_of, Hierarchy, hierarchy_of, noted-append, noted-none, founds_in, settings_twice, leaves_found}
+use Rattle.adl_settings.specs.SettingFaults.{setting_faults_in, value_faults, first_setting_fault}
 use Rattle.adl_settle.proofs.settling.settle_bodies.Goals as goal
+
+-- the first fault of all that is noted
+first_noted : (s : Source) (h : Hierarchy) (flat : Flat) → h ≡ hierarchy_of s → flat ≡ flat_of s
+    → noted (noted None (settings_twice h)) (value_faults (leaves_found h flat) (founds_in h s flat)) ≡ first_setting_fault s
+first_noted s h flat e f =
+    sym (noted-append None (settings_twice h) (value_faults (leaves_found h flat) (founds_in h s flat)))
+    ∙ noted-none (setting_faults_in h s flat) ∙ (λ i. least (setting_faults_in (e i) s (f i)))
 
 pub returns-clause-fault : goal.returns-clause-fault
 returns-clause-fault c =
+    let h = c.args.bodies.now in
+    let start = c.in_ok-settings.ensures.noted ∙ ap (λ o. noted o (settings_twice h)) c.none-first.ensures in
     subst (λ (o : Option Fault). Refuses c.settled.result o)
-    (first-noted c.args.source.now c.args.flat.now c.args.bodies.now c.as_slice.result.now c.as_slice-2.result.now c.requires.bodies c.requires.flat
-    (c.as_slice.ensures.value ∙ c.in_ok-leaves.ensures.found) (c.as_slice-2.ensures.value ∙ c.in_ok-connections.ensures) c.none-first.result c.setting_tables.new.first c.none-first.ensures c.in_ok-settings.ensures.noted)
+    ((λ i. noted (start i) (value_faults ((c.as_slice.ensures.value ∙ c.in_ok-leaves.ensures.found) i) ((c.as_slice-2.ensures.value ∙ c.in_ok-connections.ensures) i)))
+    ∙ first_noted c.args.source.now h c.args.flat.now c.requires.bodies c.requires.flat)
     c.settled.ensures.fault
-
-pub returns-clause-settled : goal.returns-clause-settled
-returns-clause-settled c =
-    subst (λ (y : Settled). IfOk c.settled.result (λ x. x ≡ y))
-    (settled-whole c.args.source.now c.args.flat.now c.args.bodies.now c.as_slice.result.now c.as_slice-2.result.now c.requires.bodies c.requires.flat
-    (c.as_slice.ensures.value ∙ c.in_ok-leaves.ensures.found) (c.as_slice-2.ensures.value ∙ c.in_ok-connections.ensures))
-    c.settled.ensures.settled

@@ -1,18 +1,17 @@
-use Rattle.adl_settings.proofs.Common.{◌∙◌, length, sym, ap, arith}
+use Rattle.adl_settings.proofs.Common.{noted-append, ◌∙◌, length, sym, ap, arith}
 use Rattle.adl_settle.specs.Lookups.{IsTable}
-use Rattle.adl_settle.proofs.TableSteps.{each_more, each_or, body-behind, setting_of-same, bodies_more}
+use Rattle.adl_settle.proofs.TableSteps.{each_more, each_or, body-behind, setting_of-same, bodies_next}
 use Rattle.adl_settle.proofs.tables.setting_tables.Goals as goal
 
 pub loop-number-preserved : goal.loop-number-preserved
 loop-number-preserved c =
     let h = c.args.bodies.now in
     let before = c.loop-number.invariant in
+    let next = bodies_next h c.loop-number.number (omega (arith, c.loop-number-test.true, c.top_number-number-end.ensures.number)) in
     record {
       so_many = ap length c.in_ok-push.ensures.items ∙ search (arith, before.so_many);
       each = each_more (IsTable h) c.loop-number.tables.items c.push.new.self.items c.in_ok-table_of.field-0 c.loop-number.number before.so_many c.in_ok-push.ensures.items before.each c.in_ok-table_of.ensures.found;
-      twice =
-          bodies_more h c.loop-number.number c.loop-number.first c.table_of.new.first (omega (arith, c.loop-number-test.true, c.top_number-number-end.ensures.number)) c.in_ok-table_of.ensures.noted
-          ∙ before.twice;
+      twice = grind (arith, noted-append, next, c.in_ok-table_of.ensures.noted, before.twice);
     }
 
 pub returns-clause-found : goal.returns-clause-found

@@ -1,6 +1,8 @@
-use Rattle.adl_settings.proofs.Common.{◌∙◌, ◌++◌, ◌∷◌, [], ap, sets, settings_of, find, option_or, is_some, noted, repeated_after}
+use Rattle.cam_base.proofs.Options.{option_or-cond}
+use Rattle.adl_settings.proofs.Common.{drop_first, arith, ◌≡◌, None, Path, ◌∙◌, ◌++◌, ◌∷◌, [], ap, sets, settings_of, find, option_or, is_some, noted, repeated_after}
 use Rattle.adl_settle.specs.Lookups.{setting_found}
-use Rattle.adl_settle.proofs.TableSteps.{found_more, twice_more}
+use Rattle.adl_settle.proofs.SettingKeys.{found_none}
+use Rattle.adl_settle.proofs.TableSteps.{twice_more}
 use Rattle.adl_settle.proofs.tables.table_of.Goals as goal
 
 pub loop-setting-init : goal.loop-setting-init
@@ -8,9 +10,10 @@ loop-setting-init c =
     let h = c.args.bodies.now in
     let k = c.args.number in
     let e = c.settings_of-setting-items.ensures ∙ ap settings_of c.body.ensures in
+    let none : (q : Path) → setting_found (record { entries = c.new.result }) q ≡ None = λ q. found_none (record { entries = c.new.result }) q c.new.ensures.len in
     record {
-      found = λ p x i. option_or (c.new-settings.ensures (p ++ x ∷ []) i) (find (sets h k p x) (e i));
-      twice = λ i. noted c.args.first.now (repeated_after h k (λ p n. is_some (c.new-settings.ensures (p ++ n ∷ []) i)) (e i));
+      found = λ p x i. option_or (none (p ++ x ∷ []) i) (find (sets h k p x) (e i));
+      twice = λ i. noted c.args.first.now (repeated_after h k (λ p n. is_some (none (p ++ n ∷ []) i)) (e i));
     }
 
 pub loop-setting-preserved : goal.loop-setting-preserved
@@ -20,7 +23,7 @@ loop-setting-preserved c =
     let i = c.loop-setting.setting-index in
     let s = c.setting-item.result in
     record {
-      found = λ p x. found_more (sets h k p x) _ _ c.settings_of-setting-items.result.now i s c.loop-setting-test.true c.setting-item.is (c.in_ok-add_setting.ensures.found p x) ∙ c.loop-setting.invariant.found p x;
+      found = λ p x. let next = drop_first c.settings_of-setting-items.result.now i s c.loop-setting-test.true c.setting-item.is in grind (arith, option_or-cond, c.in_ok-add_setting.ensures.found p x, c.loop-setting.invariant.found p x);
       twice =
           twice_more h k (λ p n. setting_found c.loop-setting.settings (p ++ n ∷ [])) (λ p n. setting_found c.add_setting.new.settings (p ++ n ∷ [])) c.loop-setting.first c.add_setting.new.first c.settings_of-setting-items.result.now i s
           c.loop-setting-test.true c.setting-item.is c.in_ok-add_setting.ensures.found c.in_ok-add_setting.ensures.noted
