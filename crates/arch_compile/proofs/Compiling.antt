@@ -22,7 +22,7 @@ use Rattle.cam_io.proofs.Counts.{rose_after}
 use Rattle.cam_io.specs.Causes.{NoneFell, Rose}
 use Rattle.cam_io.specs.Contents.{Contents}
 use Rattle.cspace_layout.specs.SlotFaults.{first_slot_fault}
-use Rattle.front_end.proofs.Refusing.{assigned_front, refused_tells, second_is}
+use Rattle.front_end.proofs.Refusing.{refused_tells, second_is}
 use Rattle.front_end.specs.First.{first_front_fault, name_of_file, source_tables}
 use Rattle.front_end.specs.Fronts.{IsAssigned, IsMeaningOf, IsMeant}
 use Rattle.front_end.specs.Refusals.{IsRefused, Refuses}
@@ -65,11 +65,14 @@ front_numbered m f a = a.5 ∙ ap label_numbers (sym a.1)
 pub front_laid : (m : Meaning) (f : FrontEnd) (images : Images) (l : Layout) → Assigns m (Ok f) → IsLaid m.source m.flat m.settled images l → IsLaid f.source f.flat f.settled images l
 front_laid m f images l a laid = carried (λ s flat settled. IsLaid s flat settled images l) m f a laid
 
+meaning_is : (m : Meaning) (f : FrontEnd) → Assigns m (Ok f) → (let n : Meaning = record { source = f.source; flat = f.flat; settled = f.settled } in n ≡ m)
+meaning_is m f a =
+    ap (λ z. let n : Meaning = record { source = z; flat = f.flat; settled = f.settled } in n) a.0
+    ∙ ap (λ z. let n : Meaning = record { source = m.source; flat = z; settled = f.settled } in n) a.1
+    ∙ ap (λ z. let n : Meaning = record { source = m.source; flat = m.flat; settled = z } in n) a.2
+
 pub finished : (m : Meaning) (f : FrontEnd) (images : Images) (r : Result Build BuildError) → Assigns m (Ok f) → Finishes f images r → Completes m images r
-finished m f images (Ok b) a h = (
-  subst (λ z. Assigns m (Ok z)) (sym h.0) a,
-  subst (λ z. IsMade z images b.spec b.policy b.cert b.map) a.0 h.1,
-)
+finished m f images (Ok b) a h = (h.0 ∙ meaning_is m f a, a.3, subst (λ z. IsMade z images b.spec b.policy b.cert b.map) a.0 h.1)
 finished m f images (Err e) a h = subst (λ z. Tells m.source (first_edge_fault (source_tables m.source)) z) (sym h) tt
 
 -- ---- of a meaning whose layout is known
@@ -96,7 +99,7 @@ module _ (m : Meaning) (images : Images) (meant : IsMeant m.source m.flat m.sett
       (sym (laid_same m images meant) ∙ none)
 
   pub completed : (r : Result Build BuildError) → first_laid_fault (given m.source m.flat m.settled images) ≡ None → Completes m images r → Lays m images r
-  completed (Ok b) none h = (h.0, edges_left none ∙ h.0.3, h.1)
+  completed (Ok b) none h = (h.0, edges_left none ∙ h.1, h.2)
   completed (Err e) none h = subst (λ z. Tells m.source z e) (sym (edges_left none)) h
 
   laid_tells : (e : BuildError) → Tells m.source (first_laid_fault (spaced m.source images)) e → Tells m.source (first_imaged_fault m.source images) e
@@ -138,7 +141,7 @@ in_tables s found n f some = ap (λ (o : Option Fault). if is_some o then name_w
 module _ (contents : Option Contents) (before now : List ℕ → ℕ) (m : Meaning) (images : Images) (is : AreImagesOf contents (root_of m.source) m.source (flat_of m.source) images) where
   laid_builds : (r : Result Build BuildError) → Lays m images r → Builds m contents before now r
   laid_builds (Ok b) h = record {
-    front = h.0;
+    same = h.0;
     found = is.found;
     told = is.told;
     clean = clean_is m.source is.found images None is.clean is.images h.1;
@@ -182,13 +185,13 @@ first_is s found o none e = second_is (first_front_fault s) (first_layout_fault 
 module _ (root : List ℕ) (contents : Option Contents) (old mid now : List ℕ → ℕ) (m : Meaning) (is : IsMeaningOf root contents m) where
   build_of : (b : Build) → IsBuiltOf m contents b → IsBuildOf root contents b
   build_of b h =
-      let same = h.front.0 in
+      let same : m ≡ b.meaning = sym h.same in
       record {
-        front = assigned_front root contents old now m (Ok b.front) is h.front;
+        meant = subst (IsMeaningOf root contents) same is;
         found = h.found;
-        told = subst (λ z. AreFound contents (tables_beside z) h.found) (sym same) h.told;
-        clean = ap (λ z. first_fault z h.found) same ∙ first_is m.source h.found None is.none h.clean;
-        made = subst (λ z. IsMade z (images_from z h.found) b.spec b.policy b.cert b.map) (sym same) h.made;
+        told = subst (λ (z : Meaning). AreFound contents (tables_beside z.source) h.found) same h.told;
+        clean = ap (λ (z : Meaning). first_fault z.source h.found) h.same ∙ first_is m.source h.found None is.none h.clean;
+        made = subst (λ (z : Meaning). IsMade z.source (images_from z.source h.found) b.spec b.policy b.cert b.map) same h.made;
       }
 
   pub built_compiled : (r : Result Build BuildError) → NoneFell old mid → Builds m contents mid now r → IsCompiled root contents old now r

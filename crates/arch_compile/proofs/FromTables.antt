@@ -6,16 +6,13 @@ use Rattle.adl_meaning.specs.Flat.{flat_of}
 use Rattle.adl_meaning.specs.declared.flat.Flat.{Flat}
 use Rattle.adl_meaning.specs.declared.settled.Settled.{Settled}
 use Rattle.arch_compile.specs.Built.{IsMade, system_tables}
-use Rattle.arch_compile.specs.Steps.{IsLabelled, IsLaid, IsMadeOf, policy_tables}
+use Rattle.arch_compile.specs.Steps.{IsLaid, IsMadeOf, policy_tables}
 use Rattle.arch_compile.specs.declared.laying.Layout.{Layout}
 use Rattle.arch_compile.specs.declared.making.Made.{Made}
 use Rattle.arch_policy.specs.Labels.{label_numbers}
 use Rattle.arch_policy.specs.Policies.{IsPolicyOf}
-use Rattle.arch_policy.specs.Tables.{Tables as PolicyTables}
 use Rattle.arch_policy.specs.declared.numbers.LabelNumbers.{LabelNumbers}
-use Rattle.auth_kinds.specs.Tables.{has}
-use Rattle.auth_kinds.specs.declared.edge.Edge.{Edge}
-use Rattle.auth_kinds.specs.declared.object_labels.Labels.{Labels}
+use Rattle.auth_kinds.specs.Tables.{IsSorted}
 use Rattle.auth_kinds.specs.declared.policy.Policy.{Policy}
 use Rattle.cap_model.specs.declared.spec.Spec.{Spec}
 use Rattle.cspace_layout.specs.Uses.{slots_of}
@@ -36,20 +33,13 @@ use Rattle.vspace_layout.specs.declared.spaces.Spaces.{Spaces}
 pub few_objects : (t : Tables) (spec : Spec) → IsBuildable t → spec ≡ spec_of t → length spec.entries < 2 ^ 32
 few_objects t spec is e = let few = is.few.objects in subst (λ (z : Spec). length z.entries < 2 ^ 32) (sym e) (omega (arith, few, length-map (parts t) (entry t)))
 
-pub labelled_of : (t : Tables) (old new : Policy) (spec : Spec) (labels : Labels) → spec ≡ spec_of t → labels ≡ labels_of t → IsLabelled old spec labels new → IsLabelled old (spec_of t) (labels_of t) new
-labelled_of t old new spec labels a b is = subst (λ z. IsLabelled old z (labels_of t) new) a (subst (λ z. IsLabelled old spec z new) b is)
-
--- edges that another list has are assigned
-same_policy : (t : PolicyTables) (old new : List Edge) → ((e : Edge) → has new e ≡ has old e) → IsPolicyOf t old → IsPolicyOf t new
-same_policy t old new same is e = (λ h. (is e).0 (sym (same e) ∙ h), λ r. same e ∙ (is e).1 r)
-
 made_is : (s : Source) (images : Images) (p : Policy) (m : Made) → IsAssigned s p → IsMadeOf (system_tables s images) p m → IsMade s images m.spec m.policy m.cert m.map
 made_is s images p m assigned is = record {
   spec_is = is.spec;
-  labels = is.policy_is.lines ∙ assigned.labels;
-  objects = is.policy_is.objects;
-  edges = same_policy (source_tables s) p.edges m.policy.edges is.policy_is.same assigned.edges;
-  sorted = is.policy_is.sorted;
+  labels = ap (λ (z : Policy). z.labels) is.policy_is ∙ assigned.labels;
+  objects = ap (λ (z : Policy). z.objects) is.policy_is;
+  edges = subst (λ (z : Policy). IsPolicyOf (source_tables s) z.edges) (sym is.policy_is) assigned.edges;
+  sorted = subst (λ (z : Policy). IsSorted z.edges) (sym is.policy_is) assigned.sorted;
   certified = is.cert;
   cert_sorted = is.sorted;
   map_is = is.map;

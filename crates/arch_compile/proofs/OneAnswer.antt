@@ -15,7 +15,7 @@ use Rattle.cam_base.specs.declared.place.Fault.{Fault}
 use Rattle.cam_io.specs.Contents.{Contents}
 use Rattle.cap_model.specs.declared.spec.Spec.{Spec}
 use Rattle.flat_laws.proofs.FewEnds.{no_first}
-use Rattle.front_end.proofs.OneAnswer.{both, faults_same, front_one, none_faulted, one_fault, one_loaded}
+use Rattle.front_end.proofs.OneAnswer.{both, faults_same, meanings_same, none_faulted, one_fault, one_loaded}
 use Rattle.front_end.proofs.Sound.{no_second}
 use Rattle.front_end.specs.First.{first_front_fault}
 use Rattle.front_end.specs.Refusals.{yields}
@@ -37,17 +37,17 @@ policies_one s images spec spec' p q cert cert' map map' a b =
     ∙ ap (λ z. let r : Policy = record { labels = q.labels; objects = z; edges = p.edges } in r) (a.objects ∙ sym b.objects)
     ∙ ap (λ z. let r : Policy = record { labels = q.labels; objects = q.objects; edges = z } in r) edges
 
-builds_one : (s : Source) (images : Images) (b c : Build) → b.front ≡ c.front → IsMade s images b.spec b.policy b.cert b.map → IsMade s images c.spec c.policy c.cert c.map → b ≡ c
-builds_one s images b c front x y =
+builds_one : (s : Source) (images : Images) (b c : Build) → b.meaning ≡ c.meaning → IsMade s images b.spec b.policy b.cert b.map → IsMade s images c.spec c.policy c.cert c.map → b ≡ c
+builds_one s images b c meaning x y =
     let spec : b.spec ≡ c.spec = x.spec_is ∙ sym y.spec_is in
     let policy = policies_one s images b.spec c.spec b.policy c.policy b.cert c.cert b.map c.map x y in
     let cert : b.cert ≡ c.cert = edges_one b.cert c.cert _ x.cert_sorted y.cert_sorted x.certified y.certified in
     let map : b.map ≡ c.map = x.map_is ∙ sym y.map_is in
-    ap (λ z. let d : Build = record { front = z; spec = b.spec; policy = b.policy; cert = b.cert; map = b.map } in d) front
-    ∙ ap (λ z. let d : Build = record { front = c.front; spec = z; policy = b.policy; cert = b.cert; map = b.map } in d) spec
-    ∙ ap (λ z. let d : Build = record { front = c.front; spec = c.spec; policy = z; cert = b.cert; map = b.map } in d) policy
-    ∙ ap (λ z. let d : Build = record { front = c.front; spec = c.spec; policy = c.policy; cert = z; map = b.map } in d) cert
-    ∙ ap (λ z. let d : Build = record { front = c.front; spec = c.spec; policy = c.policy; cert = c.cert; map = z } in d) map
+    ap (λ z. let d : Build = record { meaning = z; spec = b.spec; policy = b.policy; cert = b.cert; map = b.map } in d) meaning
+    ∙ ap (λ z. let d : Build = record { meaning = c.meaning; spec = z; policy = b.policy; cert = b.cert; map = b.map } in d) spec
+    ∙ ap (λ z. let d : Build = record { meaning = c.meaning; spec = c.spec; policy = z; cert = b.cert; map = b.map } in d) policy
+    ∙ ap (λ z. let d : Build = record { meaning = c.meaning; spec = c.spec; policy = c.policy; cert = z; map = b.map } in d) cert
+    ∙ ap (λ z. let d : Build = record { meaning = c.meaning; spec = c.spec; policy = c.policy; cert = c.cert; map = z } in d) map
 
 module _ (m : Contents) (root : List ℕ) where
   -- what is found is one
@@ -56,11 +56,11 @@ module _ (m : Contents) (root : List ℕ) where
 
   pub builds_same : (b c : Build) → IsBuildOf root (Some m) b → IsBuildOf root (Some m) c → b ≡ c
   builds_same b c x y =
-      let front = front_one m root b.front c.front x.front y.front in
-      let source : b.front.source ≡ c.front.source = ap (λ z. z.source) front in
-      let found = found_one b.front.source c.front.source x.found y.found source x.told y.told in
-      builds_one c.front.source (images_from c.front.source y.found) b c front
-      (subst (λ z. IsMade c.front.source (images_from c.front.source z) b.spec b.policy b.cert b.map) found
+      let meaning = meanings_same m root b.meaning c.meaning x.meant y.meant in
+      let source : b.meaning.source ≡ c.meaning.source = ap (λ z. z.source) meaning in
+      let found = found_one b.meaning.source c.meaning.source x.found y.found source x.told y.told in
+      builds_one c.meaning.source (images_from c.meaning.source y.found) b c meaning
+      (subst (λ z. IsMade c.meaning.source (images_from c.meaning.source z) b.spec b.policy b.cert b.map) found
       (subst (λ z. IsMade z (images_from z x.found) b.spec b.policy b.cert b.map) source x.made))
       y.made
 
@@ -79,7 +79,7 @@ module _ (m : Contents) (root : List ℕ) where
       cc
 
   pub build_first : (b : Build) (fault : Fault) (file : List ℕ) → IsBuildOf root (Some m) b → IsFirstFault root (Some m) fault file → ⊥
-  build_first b fault file x f = none_first b.front.source x.found fault file x.front.loaded x.told x.clean f
+  build_first b fault file x f = none_first b.meaning.source x.found fault file x.meant.loaded x.told x.clean f
 
   pub one_first : (f g : Fault) (a b : List ℕ) → IsFirstFault root (Some m) f a → IsFirstFault root (Some m) g b → (f ≡ g) × (a ≡ b)
   one_first f g a b (inl x) (inl y) = one_fault first_front_fault m root f g a b x y

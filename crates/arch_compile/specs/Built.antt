@@ -15,7 +15,7 @@ use Rattle.cam_io.specs.Contents.{Contents}
 use Rattle.cap_model.specs.declared.spec.Entry.{Entry}
 use Rattle.cap_model.specs.declared.spec.Spec.{Spec}
 use Rattle.front_end.specs.First.{source_tables}
-use Rattle.front_end.specs.Fronts.{IsFrontOf}
+use Rattle.front_end.specs.Fronts.{IsMeaningOf}
 use Rattle.numbering.specs.Gather.{gather}
 use Rattle.program_sections.specs.declared.images.Images.{Images}
 use Rattle.source_images.specs.Found.{AreFound, Found}
@@ -50,8 +50,8 @@ pub record IsMade (source : Source) (images : Images) (spec : Spec) (policy : Po
 -- The root's source is loaded, with what it means and what it assigns. Something is found under the name of each section table,
 -- which is what the contents have, where they are told; in all of it no fault stands, and all is made from it.
 pub record IsBuildOf (root : List ℕ) (contents : Option Contents) (b : Build) : Type 0 where
-  pub front : IsFrontOf root contents b.front
+  pub meant : IsMeaningOf root contents b.meaning
   pub found : List Found
-  pub told : AreFound contents (tables_beside b.front.source) found
-  pub clean : first_fault b.front.source found ≡ None
-  pub made : IsMade b.front.source (images_from b.front.source found) b.spec b.policy b.cert b.map
+  pub told : AreFound contents (tables_beside b.meaning.source) found
+  pub clean : first_fault b.meaning.source found ≡ None
+  pub made : IsMade b.meaning.source (images_from b.meaning.source found) b.spec b.policy b.cert b.map

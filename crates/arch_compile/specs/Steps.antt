@@ -12,8 +12,7 @@ use Rattle.arch_compile.specs.declared.laying.Layout.{Layout}
 use Rattle.arch_compile.specs.declared.making.Made.{Made}
 use Rattle.arch_policy.specs.Policies.{IsCertificateOf, first_edge_fault}
 use Rattle.arch_policy.specs.Tables.{Tables as PolicyTables}
-use Rattle.auth_kinds.specs.Tables.{IsSorted, has}
-use Rattle.auth_kinds.specs.declared.edge.Edge.{Edge}
+use Rattle.auth_kinds.specs.Tables.{IsSorted}
 use Rattle.auth_kinds.specs.declared.object_labels.Labels.{Labels}
 use Rattle.auth_kinds.specs.declared.policy.Policy.{Policy}
 use Rattle.cam_base.specs.declared.place.Fault.{Fault}
@@ -23,7 +22,7 @@ use Rattle.cap_model.specs.declared.spec.Spec.{Spec}
 use Rattle.cspace_layout.specs.SlotFaults.{first_slot_fault}
 use Rattle.cspace_layout.specs.Uses.{slots_of}
 use Rattle.front_end.specs.First.{source_tables}
-use Rattle.front_end.specs.Steps.{Assigns, Tells}
+use Rattle.front_end.specs.Steps.{Tells}
 use Rattle.front_end.specs.declared.error.BuildError.{BuildError}
 use Rattle.front_end.specs.declared.error.BuildError.TheVariants as error
 use Rattle.front_end.specs.declared.phases.FrontEnd.{FrontEnd}
@@ -73,11 +72,8 @@ pub record IsLaid (source : Source) (flat : Flat) (settled : Settled) (images : 
 -- ---- what is made
 
 -- the policy with the labels of objects
-pub record IsLabelled (old : Policy) (spec : Spec) (labels : Labels) (new : Policy) : Type 0 where
-  pub lines : new.labels ≡ old.labels
-  pub objects : new.objects ≡ labelled spec.entries labels.by_object
-  pub same : (e : Edge) → has new.edges e ≡ has old.edges e
-  pub sorted : IsSorted new.edges
+abbrev pub with_objects : Policy → Spec → Labels → Policy
+with_objects policy spec labels = record { labels = policy.labels; objects = labelled spec.entries labels.by_object; edges = policy.edges }
 
 -- what the policy and the certificate are made from
 abbrev pub policy_tables : Tables → PolicyTables
@@ -85,7 +81,7 @@ policy_tables t = record { source = t.source; flat = t.flat; settled = t.settled
 
 pub record IsMadeOf (t : Tables) (policy : Policy) (m : Made) : Type 0 where
   pub spec : m.spec ≡ spec_of t
-  pub policy_is : IsLabelled policy (spec_of t) (labels_of t) m.policy
+  pub policy_is : m.policy ≡ with_objects policy (spec_of t) (labels_of t)
   pub cert : IsCertificateOf (policy_tables t) m.cert
   pub sorted : IsSorted m.cert
   pub map : m.map ≡ map_lines t
@@ -94,24 +90,27 @@ pub record IsMadeOf (t : Tables) (policy : Policy) (m : Made) : Type 0 where
 
 -- of a front, with these images
 abbrev pub Finishes : FrontEnd → Images → Result Build BuildError → Type 0
-Finishes f images (Ok b) = (b.front ≡ f) × IsMade f.source images b.spec b.policy b.cert b.map
+Finishes f images (Ok b) =
+    (b.meaning ≡ record { source = f.source; flat = f.flat; settled = f.settled }) × IsMade f.source images b.spec b.policy b.cert b.map
 Finishes f images (Err e) = e ≡ error.NoMemory
 
 -- of a meaning, with these images, whose layout is known
 abbrev pub Completes : Meaning → Images → Result Build BuildError → Type 0
-Completes m images (Ok b) = Assigns m (Ok b.front) × IsMade m.source images b.spec b.policy b.cert b.map
+Completes m images (Ok b) =
+    (b.meaning ≡ m) × (first_edge_fault (source_tables m.source) ≡ None)
+    × IsMade m.source images b.spec b.policy b.cert b.map
 Completes m images (Err e) = Tells m.source (first_edge_fault (source_tables m.source)) e
 
 -- of a meaning, with these images
 abbrev pub Lays : Meaning → Images → Result Build BuildError → Type 0
 Lays m images (Ok b) =
-    Assigns m (Ok b.front) × (first_imaged_fault m.source images ≡ None)
+    (b.meaning ≡ m) × (first_imaged_fault m.source images ≡ None)
     × IsMade m.source images b.spec b.policy b.cert b.map
 Lays m images (Err e) = Tells m.source (first_imaged_fault m.source images) e
 
 -- of a meaning
 pub record IsBuiltOf (m : Meaning) (contents : Option Contents) (b : Build) : Type 0 where
-  pub front : Assigns m (Ok b.front)
+  pub same : b.meaning ≡ m
   pub found : List Found
   pub told : AreFound contents (tables_beside m.source) found
   pub clean : first_layout_fault m.source found ≡ None

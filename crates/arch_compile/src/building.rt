@@ -10,7 +10,7 @@ ghost use Rattle.std.specs.Prelude.{◌≡◌};
 
 use crate::imaging::{not_imaged, root_of};
 use crate::laying::{Layout, lay_out};
-use crate::making::{Made, made_from};
+use crate::making::{Made, made_of};
 use auth_kinds::{EdgeTable, Policy};
 use cam_base::{List, NoMemory};
 use cam_io::Files;
@@ -19,13 +19,13 @@ use front_end::{BuildError, FrontEnd, Meaning, in_file, meaning_of, with_policy}
 use program_sections::Images;
 use source_images::read_images;
 use std::alloc::Global;
-use system_spec::MapLine;
+use system_spec::{MapLine, Tables};
 
-/// What is compiled: the source with what it means and what it assigns, its spec, its policy with the labels of objects, its
-/// certificate, and its map.
+/// What is compiled: the source with what it means, its spec, its policy with the labels of objects, its certificate, and its
+/// map.
 #[derive(Drop)]
 pub struct Build {
-    pub front: FrontEnd,
+    pub meaning: Meaning,
     pub spec: Spec,
     pub policy: Policy,
     pub cert: EdgeTable,
@@ -103,7 +103,23 @@ fn with_made(
     requires laid { IsLaid front.source front.flat front.settled images.now layout.now }
     ensures { Finishes front images.now result }
 {
-    match made_from(alloc, &front, images, layout) {
+    let FrontEnd {
+        source,
+        flat,
+        settled,
+        policy,
+        numbers,
+    } = front;
+    let tables = Tables {
+        source: &source,
+        flat: &flat,
+        settled: &settled,
+        images,
+        slots: &layout.slots,
+        spaces: &layout.spaces,
+        numbers: &numbers,
+    };
+    match made_of(alloc, &tables, policy) {
         Ok(
             Made {
                 spec,
@@ -112,7 +128,11 @@ fn with_made(
                 map,
             },
         ) => Ok(Build {
-            front,
+            meaning: Meaning {
+                source,
+                flat,
+                settled,
+            },
             spec,
             policy,
             cert,

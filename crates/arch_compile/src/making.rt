@@ -1,26 +1,19 @@
 //! What is made of a system whose slots and spaces are laid out.
 
-ghost use Rattle.arch_compile.specs.Built.{IsMade};
-ghost use Rattle.arch_compile.specs.Steps.{IsLaid, IsMadeOf, policy_tables};
-ghost use Rattle.arch_policy.specs.Labels.{label_numbers};
+ghost use Rattle.arch_compile.specs.Steps.{IsMadeOf, policy_tables};
 ghost use Rattle.arch_policy.specs.Policies.{IsCertificateOf, IsPolicyOf};
 ghost use Rattle.auth_kinds.specs.Tables.{IsSorted};
-ghost use Rattle.front_end.specs.Fronts.{IsAssigned};
-ghost use Rattle.front_end.specs.Steps.{IsSound};
-ghost use Rattle.std.specs.Prelude.{◌≡◌, IfOk};
+ghost use Rattle.std.specs.Prelude.{IfOk};
 ghost use Rattle.system_spec.specs.Buildable.{IsBuildable};
 ghost use Rattle.system_spec.specs.Told.{told};
 ghost use Rattle.system_spec.specs.Windowed.{IsWindowed};
 
 use crate::labelled::with_objects;
-use crate::laying::Layout;
 use arch_cert::certificate_of;
 use arch_policy::Tables as PolicyTables;
 use auth_kinds::{EdgeTable, Policy};
 use cam_base::{List, NoMemory};
 use cap_model::Spec;
-use front_end::FrontEnd;
-use program_sections::Images;
 use std::alloc::Global;
 use system_spec::{MapLine, System, Tables, build, map_lines};
 
@@ -49,11 +42,11 @@ fn certificate(alloc: Global, tables: &Tables<'_>, edges: &EdgeTable) -> Result<
 }
 
 /// What is made of these tables, with this policy.
-fn made_of(alloc: Global, tables: &Tables<'_>, policy: &Policy) -> Result<Made, NoMemory>
+pub fn made_of(alloc: Global, tables: &Tables<'_>, policy: Policy) -> Result<Made, NoMemory>
     requires buildable { IsBuildable (told tables.now) }
     requires windowed { IsWindowed (told tables.now) }
-    requires assigned { IsPolicyOf (policy_tables (told tables.now)) policy.now.edges }
-    ensures { IfOk result (IsMadeOf (told tables.now) policy.now) }
+    requires assigned { IsPolicyOf (policy_tables (told tables.now)) policy.edges }
+    ensures { IfOk result (IsMadeOf (told tables.now) policy) }
 {
     let cert = certificate(alloc, tables, &policy.edges)?;
     let map = map_lines(alloc, tables)?;
@@ -65,29 +58,4 @@ fn made_of(alloc: Global, tables: &Tables<'_>, policy: &Policy) -> Result<Made, 
         cert,
         map,
     })
-}
-
-/// What is made of a source with these images, whose slots and spaces these are.
-pub fn made_from(
-    alloc: Global,
-    front: &FrontEnd,
-    images: &Images,
-    layout: &Layout,
-) -> Result<Made, NoMemory>
-    requires sound { IsSound front.now.source front.now.flat front.now.settled }
-    requires assigned { IsAssigned front.now.source front.now.policy }
-    requires numbered { front.now.numbers ≡ label_numbers front.now.flat }
-    requires laid { IsLaid front.now.source front.now.flat front.now.settled images.now layout.now }
-    ensures { IfOk result (λ m. IsMade front.now.source images.now m.spec m.policy m.cert m.map) }
-{
-    let tables = Tables {
-        source: &front.source,
-        flat: &front.flat,
-        settled: &front.settled,
-        images,
-        slots: &layout.slots,
-        spaces: &layout.spaces,
-        numbers: &front.numbers,
-    };
-    made_of(alloc, &tables, &front.policy)
 }

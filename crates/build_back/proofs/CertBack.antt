@@ -91,6 +91,6 @@ one_inside d e h = cc
 
 pub cert_read : (root : List ℕ) (contents : Option Contents) (b : Build) → IsBuildOf root contents b → IsCertReadBack b
 cert_read root contents b is =
-    let w = cert_writable b.front.source (images_from b.front.source is.found) (build_facts root contents b is) b is.made in
+    let w = cert_writable b.meaning.source (images_from b.meaning.source is.found) (build_facts root contents b is) b is.made in
     let text = cert_back b.policy b.cert w in
     record { writable = w; text = text; only = λ other t. one_inside other b.cert (certs_one b.policy (cert_text b.cert) (Ok other) (Ok b.cert) tt tt t text) }

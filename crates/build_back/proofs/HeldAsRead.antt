@@ -42,16 +42,16 @@ use Rattle.build_back.specs.TriosValid.{IsTrioValid}
 
 -- ---- what threads of a build reach
 
-module _ {contents : Option Contents} (b : Build) (found : List Found) (facts : AreFacts contents b.front.source (images_from b.front.source found))
-    (made : IsMade b.front.source (images_from b.front.source found) b.spec b.policy b.cert b.map) where
+module _ {contents : Option Contents} (b : Build) (found : List Found) (facts : AreFacts contents b.meaning.source (images_from b.meaning.source found))
+    (made : IsMade b.meaning.source (images_from b.meaning.source found) b.spec b.policy b.cert b.map) where
   abbrev s : Source
-  s = b.front.source
+  s = b.meaning.source
 
   abbrev t : Tables
-  t = system_tables b.front.source (images_from b.front.source found)
+  t = system_tables b.meaning.source (images_from b.meaning.source found)
 
   abbrev labels : List ℕ
-  labels = (labels_of (system_tables b.front.source (images_from b.front.source found))).by_object
+  labels = (labels_of (system_tables b.meaning.source (images_from b.meaning.source found))).by_object
 
   reached : (l : ℕ) (a : Authority) (m : ℕ) → l ≢ m → Reaches (spec_of t) labels l a m ↔ IsReasoned (source_tables s) (edge l a m)
   reached =
@@ -88,7 +88,7 @@ module _ {contents : Option Contents} (b : Build) (found : List Found) (facts : 
     same_labels spec policy given r = sym (labels_one labels given.by_object (gives b found facts made ∙ sym (own_labels spec policy given r)))
 
     read_reaches : (spec : Spec) (policy : Policy) (given : Labels) → IsReadAs b spec policy given → (from : List ℕ) (a : Authority) (to : List ℕ) → from ≢ to
-        → ReachesText spec policy given from a to ↔ IsAssignedText b.front.source from a to
+        → ReachesText spec policy given from a to ↔ IsAssignedText b.meaning.source from a to
     read_reaches spec policy given r from a to differ =
         subst (λ z. ReachesText z policy given from a to ↔ IsAssignedText s from a to) (sym (spec_is.only spec r.capdl))
         (subst (λ z. ReachesText b.spec z given from a to ↔ IsAssignedText s from a to) (sym (policy_is.only policy r.policy_is))

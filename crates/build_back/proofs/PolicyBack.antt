@@ -267,4 +267,4 @@ module _ {contents : Option Contents} (s : Source) (images : Images) (facts : Ar
         }
 
 pub policy_read : (root : List ℕ) (contents : Option Contents) (b : Build) → IsBuildOf root contents b → IsPolicyReadBack b
-policy_read root contents b is = made_back b.front.source (images_from b.front.source is.found) (build_facts root contents b is) b is.made
+policy_read root contents b is = made_back b.meaning.source (images_from b.meaning.source is.found) (build_facts root contents b is) b is.made

@@ -43,7 +43,7 @@ made_writable {contents} s images facts =
 
 pub spec_back : (root : List ℕ) (contents : Option Contents) (b : Build) → IsBuildOf root contents b → IsSpecReadBack b
 spec_back root contents b is =
-    let s = b.front.source in
+    let s = b.meaning.source in
     let images = images_from s is.found in
     let w : IsWritable b.spec = subst IsWritable (sym is.made.spec_is) (made_writable s images (build_facts root contents b is)) in
     record {

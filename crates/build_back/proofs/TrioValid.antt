@@ -40,19 +40,19 @@ judged_yes : {spec : Spec} {labels : List ℕ} {policy cert : List Edge} (verdic
 judged_yes Yes v j = refl
 judged_yes (No number have lack) v j = absurd (j.3 v)
 
-module _ {contents : Option Contents} (b : Build) (found : List Found) (facts : AreFacts contents b.front.source (images_from b.front.source found))
-    (made : IsMade b.front.source (images_from b.front.source found) b.spec b.policy b.cert b.map) where
+module _ {contents : Option Contents} (b : Build) (found : List Found) (facts : AreFacts contents b.meaning.source (images_from b.meaning.source found))
+    (made : IsMade b.meaning.source (images_from b.meaning.source found) b.spec b.policy b.cert b.map) where
   abbrev s : Source
-  s = b.front.source
+  s = b.meaning.source
 
   abbrev images : Images
-  images = images_from b.front.source found
+  images = images_from b.meaning.source found
 
   abbrev t : Tables
-  t = system_tables b.front.source (images_from b.front.source found)
+  t = system_tables b.meaning.source (images_from b.meaning.source found)
 
   abbrev labels : List ℕ
-  labels = (labels_of (system_tables b.front.source (images_from b.front.source found))).by_object
+  labels = (labels_of (system_tables b.meaning.source (images_from b.meaning.source found))).by_object
 
   fit : IsFit t
   fit = made_fit s images facts

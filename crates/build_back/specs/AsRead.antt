@@ -36,7 +36,7 @@ pub record HoldsAsRead (b : Build) : Type 0 where
   pub read : IsReadAs b b.spec b.policy labels
   pub reaches : (spec : Spec) (policy : Policy) (labels : Labels) → IsReadAs b spec policy labels
       → (from : List ℕ) (a : Authority) (to : List ℕ) → from ≢ to
-      → ReachesText spec policy labels from a to ↔ IsAssignedText b.front.source from a to
+      → ReachesText spec policy labels from a to ↔ IsAssignedText b.meaning.source from a to
   pub yes : (spec : Spec) (policy : Policy) (labels : Labels) (cert : List Edge) (verdict : Verdict)
       → IsReadAs b spec policy labels → IsCertText policy (cert_text b.cert) cert
       → Judged spec labels.by_object policy.edges cert verdict → verdict ≡ Yes

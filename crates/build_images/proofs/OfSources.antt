@@ -33,7 +33,7 @@ module _ (contents : Option Contents) (s : Source) (images : Images) (facts : Ar
 
 pub build_of_source : (root : List ℕ) (contents : Option Contents) (b : Build) → IsBuildOf root contents b → IsOfSource contents b
 build_of_source root contents b is =
-    let s = b.front.source in
+    let s = b.meaning.source in
     let images = images_from s is.found in
     let t = system_tables s images in
     let facts = build_facts root contents b is in

@@ -15,13 +15,13 @@ use Rattle.system_spec.specs.Tables.{Tables}
 
 -- what objects are made from, with these images
 abbrev pub made_from : Build → Images → Tables
-made_from b images = system_tables b.front.source images
+made_from b images = system_tables b.meaning.source images
 
 -- The images are those that are read for its source, and its policy gives objects these labels. With the images its slots are
 -- those of its source; and so are its objects, threads, regions, pages, page tables, frames and labels, and its map.
 pub record IsOfSource (contents : Option Contents) (b : Build) : Type 0 where
   pub images : Images
-  pub read : AreImagesOf contents (root_name b.front.source) b.front.source (flat_of b.front.source) images
+  pub read : AreImagesOf contents (root_name b.meaning.source) b.meaning.source (flat_of b.meaning.source) images
   pub labels : Labels
   pub objects : b.policy.objects ≡ labelled b.spec.entries labels.by_object
   pub slots : AreSlots (made_from b images) b.spec b.map

@@ -42,12 +42,12 @@ pub record AreFacts (contents : Option Contents) (s : Source) (images : Images) 
   pub edge : first_edge_fault (source_tables s) ≡ None
 
 -- the facts of a build, with its images
-pub build_facts : (root : List ℕ) (contents : Option Contents) (b : Build) (is : IsBuildOf root contents b) → AreFacts contents b.front.source (images_from b.front.source is.found)
+pub build_facts : (root : List ℕ) (contents : Option Contents) (b : Build) (is : IsBuildOf root contents b) → AreFacts contents b.meaning.source (images_from b.meaning.source is.found)
 build_facts root contents b is =
-    let s = b.front.source in
+    let s = b.meaning.source in
     let found = is.found in
     let images = images_from s found in
-    let whole : IsWhole s = loaded_whole contents root s is.front.loaded in
+    let whole : IsWhole s = loaded_whole contents root s is.meant.loaded in
     let front : first_front_fault s ≡ None = no_first (first_front_fault s) (first_layout_fault s found) is.clean in
     let layout : first_layout_fault s found ≡ None = no_second (first_front_fault s) (first_layout_fault s found) is.clean in
     let table : first_table_fault (root_of s) s (flat_of s) found ≡ None = no_first (first_table_fault (root_of s) s (flat_of s) found) (first_imaged_fault s images) layout in

@@ -76,7 +76,7 @@ module _ {contents : Option Contents} (s : Source) (images : Images) (facts : Ar
         λ h. let r = join.0 h in (r.0, r.1, r.2, r.3, (reached r.0 a r.1 r.4.differ).1 r.4),
       )
 
-  module _ (b : Build) (source_is : b.front.source ≡ s) (made : IsMade s images b.spec b.policy b.cert b.map) where
+  module _ (b : Build) (source_is : b.meaning.source ≡ s) (made : IsMade s images b.spec b.policy b.cert b.map) where
     same_valid : Valid b.spec object_labels b.policy.edges b.cert
     same_valid = subst (λ z. Valid z object_labels b.policy.edges b.cert) (sym made.spec_is)
         (valid (source_tables s) (spec_of t) object_labels b.policy.edges b.cert connected.flat apart laid made.edges made.certified)
@@ -85,7 +85,7 @@ module _ {contents : Option Contents} (s : Source) (images : Images) (facts : Ar
     same_least policy other v =
         least (source_tables s) (spec_of t) object_labels b.cert connected.flat apart laid made.certified policy other (subst (λ z. Valid z object_labels policy other) made.spec_is v)
 
-    same_reaches : (from : List ℕ) (a : Authority) (to : List ℕ) → from ≢ to → ReachesText b object_labels from a to ↔ IsAssignedText b.front.source from a to
+    same_reaches : (from : List ℕ) (a : Authority) (to : List ℕ) → from ≢ to → ReachesText b object_labels from a to ↔ IsAssignedText b.meaning.source from a to
     same_reaches from a to differ =
         let join = reaches_line from a to differ in (
           λ r.
@@ -119,4 +119,4 @@ module _ {contents : Option Contents} (s : Source) (images : Images) (facts : Ar
 
 pub build_sound : (root : List ℕ) (contents : Option Contents) (b : Build) → IsBuildOf root contents b → IsSound b
 build_sound root contents b is =
-    made_sound b.front.source (images_from b.front.source is.found) (build_facts root contents b is) b refl is.made
+    made_sound b.meaning.source (images_from b.meaning.source is.found) (build_facts root contents b is) b refl is.made

@@ -25,4 +25,4 @@ pub record IsSound (b : Build) : Type 0 where
   pub valid : Valid b.spec labels b.policy.edges b.cert
   pub least : (policy other : List Edge) → Valid b.spec labels policy other → (l : ℕ) (a : Authority) (m : ℕ) → Has b.cert l a m → Has other l a m
   pub reaches : (from : List ℕ) (a : Authority) (to : List ℕ) → from ≢ to
-      → ReachesText b labels from a to ↔ IsAssignedText b.front.source from a to
+      → ReachesText b labels from a to ↔ IsAssignedText b.meaning.source from a to

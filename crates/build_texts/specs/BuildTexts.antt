@@ -23,10 +23,10 @@ pub record AreNamedBy (base : List ℕ) (names : TextNames) : Type 0 where
 
 -- the map of a build, by the names of its source
 abbrev pub build_map : Build → List ℕ
-build_map b = map_text (record { source = b.front.source; flat = b.front.flat; spec = b.spec }) b.map
+build_map b = map_text (record { source = b.meaning.source; flat = b.meaning.flat; spec = b.spec }) b.map
 
 abbrev pub build_summary : Build → List ℕ
-build_summary b = summary_line (summary_of b.front.flat b.spec b.policy.edges)
+build_summary b = summary_line (summary_of b.meaning.flat b.spec b.policy.edges)
 
 -- ---- acts
 

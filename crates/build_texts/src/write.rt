@@ -24,7 +24,7 @@ pub fn write_texts<O: Outputs>(names: &TextNames, build: &Build, out: &mut O) ->
     write_certificate(names.certificate.as_str(), &build.cert, out)?;
     write_places(names.map.as_str(), build, out)?;
     write_summary(
-        Summary::of(&build.front.flat, &build.spec, &build.policy.edges),
+        Summary::of(&build.meaning.flat, &build.spec, &build.policy.edges),
         out,
         0,
     )
@@ -60,8 +60,8 @@ fn write_places<O: Outputs>(name: &str, build: &Build, out: &mut O) -> Result<()
     ensures { Acts (map_acts name.now build.now) result (O.sink out.old) (O.sink out.new) (O.faults out.old) (O.faults out.new) }
 {
     let names = MapNames {
-        source: &build.front.source,
-        flat: &build.front.flat,
+        source: &build.meaning.source,
+        flat: &build.meaning.flat,
         spec: &build.spec,
     };
     out.begin(5, name)?;

@@ -33,7 +33,7 @@ use Rattle.camkes_tool.specs.declared.answer.Answer.{Answer}
 use Rattle.camkes_tool.specs.declared.answer.Answer.TheVariants.{Compiled, Listed, Explained, Told, Generated, Faulted, Refused, Usage, ReadFault, NoMemory}
 
 built_sound : (m : Contents) (root : List ℕ) (b : Build) → IsBuildOf root (Some m) b → IsSound m root
-built_sound m root b is = (b.front.source, is.front.loaded, ap (first_fault b.front.source) (sym is.told.told) ∙ is.clean)
+built_sound m root b is = (b.meaning.source, is.meant.loaded, ap (first_fault b.meaning.source) (sym is.told.told) ∙ is.clean)
 
 of_root : (m : Contents) (root base : List ℕ) (old new : List ℕ → ℕ) (a : Answer) (status : ℕ) → FitsRoot root base (Some m) old new a → NoneRose old new → status ≡ status_of a → IsStatusOf m root status
 of_root m root base old new (Compiled names b) status x none e = inl (e, built_sound m root b x.1)

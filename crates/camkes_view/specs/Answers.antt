@@ -103,7 +103,7 @@ FitsReasons contents before now root answer =
 
 -- what gives names in a build
 abbrev pub named : Build → Named
-named b = record { source = b.front.source; flat = b.front.flat; spec = b.spec }
+named b = record { source = b.meaning.source; flat = b.meaning.flat; spec = b.spec }
 
 -- the tables of the domain with this label are shown, where there is one
 abbrev pub Tabled : Build → List ℕ → Option ℕ → Answer → Type 0
@@ -111,7 +111,7 @@ Tabled b label None answer = Gives (Refused (refusal label (codes "no such domai
 Tabled b label (Some domain) answer = Gives (Shown (tables_of (named b) b.map domain label)) answer
 
 abbrev pub AnswersBuild : List ℕ → Result Build BuildError → Answer → Type 0
-AnswersBuild label (Ok b) answer = Tabled b label (domain_called b.front.flat label) answer
+AnswersBuild label (Ok b) answer = Tabled b label (domain_called b.meaning.flat label) answer
 AnswersBuild label (Err e) answer = Refuses e answer
 
 abbrev pub FitsTable : Option Contents → (List ℕ → ℕ) → (List ℕ → ℕ) → List ℕ → List ℕ → Answer → Type 0

@@ -20,8 +20,8 @@ fn tables(alloc: Global, build: &Build, domain: u32, label: &str) -> Answer
     ensures { Gives (answers.Shown (tables_of (named build.now) build.now.map domain label.now)) result }
 {
     let names = MapNames {
-        source: &build.front.source,
-        flat: &build.front.flat,
+        source: &build.meaning.source,
+        flat: &build.meaning.flat,
         spec: &build.spec,
     };
     Answer::shown(tables_of(
@@ -35,10 +35,10 @@ fn tables(alloc: Global, build: &Build, domain: u32, label: &str) -> Answer
 
 /// The tables of the domain with this label.
 fn show(alloc: Global, build: &Build, label: &str) -> Answer
-    requires { length build.now.front.flat.domains < 2 ^ 32 }
-    ensures { Tabled build.now label.now (domain_called build.now.front.flat label.now) result }
+    requires { length build.now.meaning.flat.domains < 2 ^ 32 }
+    ensures { Tabled build.now label.now (domain_called build.now.meaning.flat label.now) result }
 {
-    match domain_called(alloc, &build.front.flat, label.as_bytes()) {
+    match domain_called(alloc, &build.meaning.flat, label.as_bytes()) {
         Ok(Some(domain)) => tables(alloc, build, domain as u32, label),
         Ok(None) => refuse(alloc, label.as_bytes(), b"no such domain"),
         Err(NoMemory) => Answer::NoMemory,

@@ -64,7 +64,7 @@ is_meaning_from m meant =
     ap (λ z. let g : Meaning = record { source = m.source; flat = z; settled = m.settled } in g) meant.is_flat
     ∙ ap (λ z. let g : Meaning = record { source = m.source; flat = flat_of m.source; settled = z } in g) meant.is_settled
 
-meanings_same : (m : Contents) (root : List ℕ) (f g : Meaning) → IsMeaningOf root (Some m) f → IsMeaningOf root (Some m) g → f ≡ g
+pub meanings_same : (m : Contents) (root : List ℕ) (f g : Meaning) → IsMeaningOf root (Some m) f → IsMeaningOf root (Some m) g → f ≡ g
 meanings_same m root f g x y = is_meaning_from f x.meant ∙ ap meaning_from (one_loaded m root f.source g.source x.loaded y.loaded) ∙ sym (is_meaning_from g y.meant)
 
 -- tests that answer one question are equal

@@ -20,7 +20,7 @@ pub record IsAccepted (b : Build) (summary : Summary) : Type 0 where
   pub labels : Labels
   pub labelled : IsLabelling b.spec b.policy (Ok labels)
   pub judged : Judged b.spec labels.by_object b.policy.edges b.cert Yes
-  pub summed : summary ≡ summary_of b.front.flat b.spec b.policy.edges
+  pub summed : summary ≡ summary_of b.meaning.flat b.spec b.policy.edges
 
 abbrev pub IsGenerated : ℕ → Result Summary BuildError → Type 0
 IsGenerated count (Ok summary) = (b : Build) × IsBuildOf root_name (Some (generated count)) b × IsAccepted b summary

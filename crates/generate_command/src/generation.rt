@@ -41,7 +41,7 @@ fn accepted(alloc: Global, build: &Build) -> Result<Summary, NoMemory>
 {
     let labels = labels_of(alloc, build)?;
     match check(&build.spec, &labels, &build.policy.edges, &build.cert) {
-        Verdict::Yes => Ok(Summary::of(&build.front.flat, &build.spec, &build.policy.edges)),
+        Verdict::Yes => Ok(Summary::of(&build.meaning.flat, &build.spec, &build.policy.edges)),
         Verdict::No { .. } => unreachable!(),
     }
 }

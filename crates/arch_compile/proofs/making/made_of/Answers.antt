@@ -1,4 +1,7 @@
-use Rattle.arch_compile.proofs.FromTables.{few_objects, labelled_of}
+use Rattle.std.proofs.Common.{ap, ◌∙◌}
+use Rattle.arch_compile.proofs.FromTables.{few_objects}
+use Rattle.arch_compile.specs.Steps.{with_objects}
+use Rattle.system_spec.specs.Made.{spec_of}
 use Rattle.system_spec.specs.Told.{told}
 use Rattle.arch_compile.proofs.making.made_of.Goals as goal
 
@@ -8,9 +11,11 @@ with_objects-requires c = few_objects (told c.args.tables.now) c.in_ok-spec.fiel
 pub returns : goal.returns
 returns c =
     let made = c.in_ok-spec in
+    let policy = c.args.policy in
     record {
       spec = made.ensures.spec;
-      policy_is = labelled_of (told c.args.tables.now) c.args.policy.now c.in_ok-policy.policy made.field-0.spec made.field-0.labels made.ensures.spec made.ensures.labels c.in_ok-policy.ensures;
+      policy_is = c.in_ok-policy.ensures ∙ ap (λ z. with_objects policy z made.field-0.labels) made.ensures.spec
+          ∙ ap (with_objects policy (spec_of (told c.args.tables.now))) made.ensures.labels;
       cert = c.in_ok-cert.ensures.cert;
       sorted = c.in_ok-cert.ensures.sorted;
       map = c.in_ok-map.ensures;
