@@ -1,10 +1,6 @@
 -- What tables of counts find, and what counts of ends say.
-use Rattle.adl_flatten.proofs.Common.{JoinedEnd, List, None, Some, [], arith, cond, count_by, is_at, is_counted, list_any, nat_lt, refl, same_key, unwrap_or, ℕ, ◌+◌, ◌∷◌, ◌≡◌}
+use Rattle.adl_flatten.proofs.Common.{Decides, JoinedEnd, List, None, Some, [], arith, common_steps, comparing, cond, count_by, is_at, is_counted, list_any, lookup, nat_lt, refl, rules, same_key, unwrap_or, ℕ, ◌+◌, ◌∷◌, ◌≡◌}
 use Rattle.adl_flatten.specs.declared.end_counts.EndKey.{EndKey}
-use Rattle.adl_meaning.specs.Prelude.{lookup}
-use Rattle.std.proofs.Common.{Decides, rules}
-use Rattle.std.proofs.lemmas.Grind.{common_steps}
-use Rattle.std.specs.Cmp.Rules.{comparing}
 
 same_key-Decides : (k l : EndKey) → Decides (same_key k l) (k ≡ l)
 same_key-Decides k l = search (comparing, rules)

@@ -1,19 +1,8 @@
 -- Domains of leaves: paths that were met, and the leaves and domains of a flat system.
-use Rattle.adl_flatten.proofs.Common.{Bool, Domain, Hierarchy, Homed, Leaf, List, None, Path, Placed, Some, [], ap, append-nil, append_assoc, arith, cond, domain_of, domains, enumerate_from, false, filled, filter, filter_map, firsts}
-use Rattle.adl_flatten.proofs.Common.{firsts_after, flattened, grown, home, homed, is_hardware, is_inside, leaf_in, leaf_of, leaves, length, length-append, list_any, list_any-append, map, not, place_by, pointed}
-use Rattle.adl_flatten.proofs.Common.{put_into, refl, same_path, set, subst, suc, sym, template_leaves, top_number, true, unwrap_or, zero, ℕ, ◌&&◌, ◌++◌, ◌+◌, ◌||◌, ◌∙◌, ◌∷◌, ◌≡◌, ◌≤◌}
-use Rattle.std.specs.Prelude.{position}
+use Rattle.adl_flatten.proofs.Common.{Bool, Bor, Domain, Hierarchy, Homed, IsIn, Leaf, List, None, Path, Placed, Some, [], ap, append-nil, append_assoc, arith, common_steps, cond, domain_of, domains, enumerate_from, false, false_from_ne_true, filled, filter, filter_map, firsts, firsts_after, flattened, grown, home, homed, inl, inr, is_hardware, is_inside, leaf_in, leaf_of, leaves, length, length-append, list_any, list_any-append, list_any-map, map, map-append, map-map, not, place_by, pointed, position, put_into, refl, same_path, set, subst, suc, sym, template_leaves, top_number, true, unwrap_or, zero, ℕ, ◌&&◌, ◌++◌, ◌+◌, ◌||◌, ◌∙◌, ◌∷◌, ◌≡◌, ◌≤◌}
 use Rattle.indexmap.specs.IndexSet.{insert_key}
-use Rattle.adl_hierarchy.proofs.DomainNames.{same_path-Decides, domains_once}
+use Rattle.adl_hierarchy.proofs.DomainNames.{domains_once, same_path-Decides}
 use Rattle.adl_hierarchy.specs.Once.{IsOnce}
-use Rattle.cam_base.proofs.Lists.{list_any-map}
-use Rattle.numbering.specs.Gather.{IsIn}
-use Rattle.std.proofs.Common.{inl, inr}
-use Rattle.std.proofs.lemmas.Bool.{false_from_ne_true}
-use Rattle.std.proofs.lemmas.Grind.{common_steps}
-use Rattle.std.proofs.lemmas.List.{map-append}
-use Rattle.std.proofs.lemmas.Simd.{map-map}
-use Rattle.std.specs.Borrow.{Bor}
 
 -- ---- paths that were met
 

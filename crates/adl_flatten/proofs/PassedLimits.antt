@@ -1,10 +1,6 @@
 -- Limits, by totals, and what holds where none is passed.
-use Rattle.adl_meaning.specs.Prelude.{first_flat_fault}
-use Rattle.adl_flatten.proofs.Common.{AreNamesSound, Assembly, Fault, Hierarchy, ItemAt, List, None, Option, Source, [], all_ends, ap, append-nil, arith, assemblies, codes, connections, depth, first_size_fault, flat_map}
-use Rattle.adl_flatten.proofs.Common.{first_join_fault, hierarchy_of, join_faults_in, least, option_or, leaves, length, limits_in, limits_passed, nat_lt, option_map_or, saturated, slice_get, sym, top_number, totals_in, where_true, ℕ, ◌++◌, ◌-◌, ◌<◌, ◌^◌, ◌∙◌, ◌≡◌}
-use Rattle.adl_meaning.proofs.SoundNames.{one_assembly}
+use Rattle.adl_flatten.proofs.Common.{AreNamesSound, Assembly, Fault, Hierarchy, ItemAt, List, None, Option, Source, [], all_ends, ap, append-nil, arith, assemblies, codes, connections, depth, first_flat_fault, first_join_fault, first_size_fault, flat_map, hierarchy_of, join_faults_in, least, leaves, length, limits_in, limits_passed, nat_lt, nat_tests, one_assembly, option_map_or, option_or, saturated, slice_get, sym, top_number, totals_in, where_true, ℕ, ◌++◌, ◌-◌, ◌<◌, ◌^◌, ◌∙◌, ◌≡◌}
 use Rattle.adl_hierarchy.proofs.Limits.{in_limits}
-use Rattle.std.proofs.lemmas.Bool.Decides.{nat_tests}
 use Rattle.cam_base.specs.declared.code.Code.TheVariants as code
 
 -- numbers of 32 bits count the leaves

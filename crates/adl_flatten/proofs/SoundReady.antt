@@ -1,13 +1,8 @@
 -- A source in which no fault of names stands is ready for templates.
-use Rattle.adl_flatten.proofs.Common.{AreNamesSound, Assembly, Body, Hierarchy, IsReady, ItemAt, Name, None, Option, Some, Source, arith, body, components, hierarchy_of, inl, inr, kind_named, length, option_map_or, sound_is_finite, subst}
-use Rattle.adl_flatten.proofs.Common.{sym, top_of, ℕ, ◌<◌, ◌^◌, ◌≡◌, ◌≤◌}
-use Rattle.std.proofs.lemmas.List.Elements.{All-get_or}
-use Rattle.std.proofs.lemmas.Option.{get_or_from_slice_get}
-use Rattle.adl_meaning.specs.Prelude.{Component, HaveFewMembers}
+use Rattle.adl_flatten.proofs.Common.{All-get_or, AreNamesSound, Assembly, Body, Component, HaveFewMembers, Hierarchy, IsReady, ItemAt, Name, None, Option, Some, Source, arith, below, body, components, get_or_from_slice_get, hierarchy_of, inl, inr, kind_named, length, option_map_or, sound_is_finite, subst, sym, top_of, ℕ, ◌<◌, ◌^◌, ◌≡◌, ◌≤◌}
 use Rattle.adl_hierarchy.proofs.Bodies.{body_at}
 use Rattle.adl_hierarchy.proofs.PartNames.{names_once}
 use Rattle.adl_hierarchy.proofs.PartsAt.{are_composed}
-use Rattle.numbering.proofs.Lists.{below}
 
 top_few : (f : Name → Option ℕ) (a : Option (ItemAt × Assembly)) → option_map_or (λ c. length c.members) (top_of f a).component 0 < 2 ^ 32
 top_few f None = omega arith

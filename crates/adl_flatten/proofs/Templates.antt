@@ -1,12 +1,6 @@
 -- The template of the assembly is the flat system.
-use Rattle.adl_flatten.proofs.Common.{Connected, Hierarchy, Homed, Joined, Leaf, List, Option, Reached, Strung, [], all_joined, ap, arith, at_word, connection_in, connections, domain_at, end_in, ends_in, enumerate_from}
-use Rattle.adl_flatten.proofs.Common.{faults_by, filter_map, flat_connection_of, flat_end, flat_end_of, flat_ends, flat_map, flat_map-map, flattened, homed, in_one, in_one_domain, is_direct, join_faults_in, joined_by, joined_end, joined_end_of, joined_ends}
-use Rattle.adl_flatten.proofs.Common.{joined_ends_of, joined_of, leaves, list_all-map, map, misplaced_call, misplaced_device, misplaced_leaf, not, option_map, parted_call, refl, same_domain, sym, template_connections, template_leaves, top_number, unjoined_at}
-use Rattle.adl_flatten.proofs.Common.{map-id, used_twice, where_true, ℕ, ◌&&◌, ◌++◌, ◌+◌, ◌∙◌, ◌∷◌, ◌≡◌}
-use Rattle.std.proofs.lemmas.Grind.{common_steps}
-use Rattle.std.proofs.lemmas.Simd.{map-map}
+use Rattle.adl_flatten.proofs.Common.{Connected, End, Hierarchy, Homed, Joined, Leaf, List, Option, Reached, Strung, [], all_joined, ap, arith, at_word, common_steps, connection_in, connections, domain_at, end_in, ends_in, enumerate_from, faults_by, filter_map, flat_connection_of, flat_end, flat_end_of, flat_ends, flat_map, flat_map-map, flattened, homed, in_one, in_one_domain, is_direct, join_faults_in, joined_by, joined_end, joined_end_of, joined_ends, joined_ends_of, joined_of, leaves, list_all-map, map, map-id, map-map, misplaced_call, misplaced_device, misplaced_leaf, not, option_map, parted_call, refl, same_domain, sym, template_connections, template_leaves, top_number, unjoined_at, used_twice, where_true, ℕ, ◌&&◌, ◌++◌, ◌+◌, ◌∙◌, ◌∷◌, ◌≡◌}
 use Rattle.cam_base.specs.declared.code.Code.TheVariants as code
-use Rattle.adl_meaning.specs.Prelude.{End}
 
 -- ---- ends and connections
 

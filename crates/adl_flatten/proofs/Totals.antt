@@ -1,9 +1,6 @@
 -- Totals of lists that are put together, and the totals of a body from those of its instances.
-use Rattle.adl_flatten.proofs.Common.{Hierarchy, IsFinite, List, Part, Path, Placed, Strung, Totals, Wire, [], add_part, ap, append-nil, append_assoc, arith, body, body_total, both, cond, connections_in, connections_step, ends_of, false, flat_map, flat_map-map, fold, further}
-use Rattle.adl_flatten.proofs.Common.{get_or, inl, inr, is_composite, leaves_in, leaves_step, length, length-append, length-map, longest, map, max, name_of, ne_eqb, outer, outside, own_total, part_total, placed_by, refl, saturated, strung, strung_by, sym}
-use Rattle.adl_flatten.proofs.Common.{totals_in, totals_of, true, wires_of, Bool, ℕ, ◌+◌, ◌++◌, ◌∙◌, ◌∷◌, ◌≡◌, ◌≤◌}
-use Rattle.numbering.specs.Gather.{IsIn}
-use Rattle.std.proofs.lemmas.List.Concat.{flat_map-append}
+use Rattle.adl_flatten.proofs.Common.{Bool, Hierarchy, IsFinite, IsIn, List, Part, Path, Placed, Strung, Totals, Wire, [], add_part, ap, append-nil, append_assoc, arith, body, body_total, both, cond, connections_step, ends_of, false, flat_map, flat_map-append, flat_map-map, fold, further, get_or, inl, inr, is_composite, leaves_in, leaves_step, length, length-append, length-map, longest, map, max, name_of, ne_eqb, outer, outside, own_total, part_total, placed_by, refl, saturated, strung, strung_by, sym, totals_in, totals_of, true, wires_of, ℕ, ◌++◌, ◌+◌, ◌∙◌, ◌∷◌, ◌≡◌, ◌≤◌}
+use Rattle.adl_meaning.specs.Joins.{connections_in}
 
 -- ---- paths and ends
 

@@ -1,6 +1,6 @@
 -- The domain of each leaf of a template, and how leaves are put into domains.
-use Rattle.std.specs.Prelude.{ℕ, ◌+◌, if◌then◌else◌, List, [], ◌∷◌, ◌++◌, Option, None, Some, option_map, unwrap_or, slice_index_or, slice_set}
 use Rattle.adl_meaning.specs.Prelude.{Hierarchy, Path, is_hardware, item_of, place_by, same_path}
+use Rattle.std.specs.Prelude.{List, None, Option, Some, [], if◌then◌else◌, option_map, slice_index_or, slice_set, unwrap_or, ℕ, ◌++◌, ◌+◌, ◌∷◌}
 use Rattle.adl_meaning.specs.declared.flat.Domain.{Domain}
 use Rattle.adl_meaning.specs.declared.flat.Leaf.{Leaf}
 use Rattle.adl_templates.specs.Templates.{Homed}

@@ -1,16 +1,12 @@
 -- The connections of a template in a flat system, how many ends join an interface of a leaf, and the faults of joins.
-use Rattle.std.specs.Prelude.{ℕ, List, [], ◌∷◌, ◌++◌, map, ◌≡◌, ◌==◌, nat_eq, Bool, true, ◌&&◌, unwrap_or, not, is_some, Option}
-use Rattle.adl_meaning.specs.Prelude.{Fault, Hierarchy, JoinedEnd, at_word, count_by, enumerate_from, flat_map, is_at, is_direct, is_hardware, last_name, list_all, lookup, option_and_then, option_map_or}
+use Rattle.adl_meaning.specs.Prelude.{Fault, Hierarchy, JoinedEnd, at_word, count_by, enumerate_from, flat_map, is_at, is_direct, is_hardware, last_name, list_all, lookup, option_and_then, option_eq, option_map_or, same_domain, slice_get, unjoined_at, used_twice, where_true}
+use Rattle.std.specs.Prelude.{Bool, List, Option, [], is_some, map, nat_eq, not, true, unwrap_or, ℕ, ◌&&◌, ◌++◌, ◌==◌, ◌∷◌, ◌≡◌}
 use Rattle.adl_meaning.specs.declared.flat.FlatConnection.{FlatConnection}
 use Rattle.adl_meaning.specs.declared.flat.FlatEnd.{FlatEnd}
 use Rattle.adl_meaning.specs.declared.flat.Leaf.{Leaf}
-use Rattle.adl_meaning.specs.Prelude.{same_domain, slice_get, where_true}
-use Rattle.adl_templates.specs.Templates.{Joined, Connected, Homed}
-use Rattle.std.specs.Option.{option_eq}
+use Rattle.adl_templates.specs.Templates.{Connected, Homed, Joined}
 use Rattle.adl_flatten.specs.declared.end_counts.EndKey.{EndKey}
 use Rattle.cam_base.specs.declared.code.Code.TheVariants as code
-use Rattle.adl_meaning.specs.Unconnected.{unjoined_at}
-use Rattle.adl_meaning.specs.UsedTwice.{used_twice}
 
 abbrev pub flat_end_of : Joined → FlatEnd
 flat_end_of e = record { role = e.end.role; leaf = e.leaf; member = e.member; place = e.end.place }

@@ -1,10 +1,9 @@
 -- The totals of a body, which are plain sums over the paths in it, each at most the greatest number of 64 bits, and what they
 -- are made of.
-use Rattle.std.specs.Prelude.{ℕ, ◌+◌, ◌-◌, ◌==◌, ◌^◌, if◌then◌else◌, List, ◌++◌, codes, fold, length, map, max, min, slice_index_or}
-use Rattle.adl_meaning.specs.Prelude.{Assembly, End, Fault, Hierarchy, Part, Placed, Strung, Wire, body, flat_map, is_composite, leaves_in, wires_of}
+use Rattle.adl_meaning.specs.Prelude.{Assembly, End, Fault, Hierarchy, Part, Placed, Strung, Wire, body, flat_map, is_composite, leaves_in, limit_passed, longest, wires_of}
+use Rattle.std.specs.Prelude.{List, codes, fold, if◌then◌else◌, length, map, max, min, slice_index_or, ℕ, ◌++◌, ◌+◌, ◌-◌, ◌==◌, ◌^◌}
 use Rattle.adl_meaning.specs.declared.item_at.ItemAt.{ItemAt}
 use Rattle.adl_meaning.specs.Joins.{connections_in}
-use Rattle.adl_meaning.specs.SizeFaults.{limit_passed, longest}
 use Rattle.adl_flatten.specs.declared.limits.Totals.{Totals}
 
 abbrev pub saturated : ℕ → ℕ

@@ -1,9 +1,9 @@
 //! All ends with what they join, and how many of them join each interface.
 
-ghost use Rattle.adl_flatten.specs.TemplateJoins.{all_joined, same_key, is_counted, count_at};
 ghost use Rattle.adl_meaning.specs.Prelude.{count_by, is_at, list_any};
+ghost use Rattle.adl_flatten.specs.TemplateJoins.{all_joined, count_at, is_counted, same_key};
 ghost use Rattle.adl_meaning.specs.UsedTwice.{clashes};
-ghost use Rattle.std.specs.Prelude.{◌≡◌, ◌<◌, ◌+◌, ◌^◌, if◌then◌else◌, IfOk, OnOk};
+ghost use Rattle.std.specs.Prelude.{IfOk, OnOk, if◌then◌else◌, ◌+◌, ◌<◌, ◌^◌, ◌≡◌};
 
 use adl_templates::{PlacedConnection, PlacedEnd};
 use cam_base::NoMemory;

@@ -1,11 +1,10 @@
 //! The faults of joins.
 
-ghost use Rattle.adl_flatten.specs.TemplateJoins.{all_in, domain_in, in_one, misplaced_leaf, misplaced_call};
-ghost use Rattle.adl_meaning.specs.Prelude.{Refuses, enumerate_from, flat_map, flattened, is_direct, join_faults_in, least, noted, same_domain, top_number};
-ghost use Rattle.adl_meaning.specs.Unconnected.{may_stay, unjoined_at};
-ghost use Rattle.adl_meaning.specs.UsedTwice.{used_twice};
+ghost use Rattle.adl_meaning.specs.Prelude.{Refuses, enumerate_from, flat_map, flattened, is_direct, join_faults_in, least, noted, same_domain, top_number, unjoined_at, used_twice};
+ghost use Rattle.adl_flatten.specs.TemplateJoins.{all_in, domain_in, in_one, misplaced_call, misplaced_leaf};
+ghost use Rattle.adl_meaning.specs.Unconnected.{may_stay};
 ghost use Rattle.adl_templates.specs.AreTemplates.{IsTemplate};
-ghost use Rattle.std.specs.Prelude.{◌≡◌, map};
+ghost use Rattle.std.specs.Prelude.{map, ◌≡◌};
 
 use crate::end_counts::CountedEnds;
 use adl_ast::{Interface, InterfaceKind, Member};

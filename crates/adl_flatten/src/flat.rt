@@ -1,8 +1,8 @@
 //! The flat system: the limits, the templates, the faults of joins.
 
-ghost use Rattle.adl_flatten.specs.TemplateJoins.{flat_connection_of};
 ghost use Rattle.adl_meaning.specs.Prelude.{AreFew, AreNamesSound, HaveFewMembers, Refuses, first_flat_fault, flat_of, hierarchy_of};
-ghost use Rattle.std.specs.Prelude.{◌≡◌, map, IfOk};
+ghost use Rattle.adl_flatten.specs.TemplateJoins.{flat_connection_of};
+ghost use Rattle.std.specs.Prelude.{IfOk, map, ◌≡◌};
 
 use crate::faults::check_joins;
 use crate::leaves::{domain_paths, flat_domains, flat_leaves};

@@ -1,10 +1,10 @@
 //! The leaves and the domains of a flat system.
 
+ghost use Rattle.adl_meaning.specs.Prelude.{domains, place_by, same_path, top_number};
 ghost use Rattle.adl_flatten.specs.Homes.{filled, home, leaf_in, put_into};
 ghost use Rattle.adl_items.specs.Pointed.{pointed};
-ghost use Rattle.adl_meaning.specs.Prelude.{domains, place_by, same_path, top_number};
 ghost use Rattle.adl_templates.specs.Templates.{template_leaves};
-ghost use Rattle.std.specs.Prelude.{◌≡◌, ◌<◌, ◌≤◌, ◌^◌, [], map, option_map, length, IfOk, OnOk};
+ghost use Rattle.std.specs.Prelude.{IfOk, OnOk, [], length, map, option_map, ◌<◌, ◌^◌, ◌≡◌, ◌≤◌};
 
 use adl_meaning::{Domain, ItemAt, Leaf};
 use adl_program::Program;

@@ -1,11 +1,11 @@
 //! The limits of a hierarchy: how many leaves, connections and ends the assembly has, and how deep its leaves are. No path is
 //! walked.
 
+ghost use Rattle.adl_meaning.specs.Prelude.{AreFew, AreNamesSound, Refuses, body, first_size_fault, flat_map, hierarchy_of, noted, top_number};
 ghost use Rattle.adl_flatten.specs.TotalsOf.{body_total, both, limits_in, outer, own_total, part_total, saturated, totals_in};
 ghost use Rattle.adl_items.specs.Located.{located};
-ghost use Rattle.adl_meaning.specs.Prelude.{AreFew, AreNamesSound, Refuses, body, first_size_fault, flat_map, hierarchy_of, noted, top_number};
 ghost use Rattle.adl_templates.specs.AreTemplates.{IsReady};
-ghost use Rattle.std.specs.Prelude.{◌≡◌, ◌<◌, All, length, IfOk};
+ghost use Rattle.std.specs.Prelude.{All, IfOk, length, ◌<◌, ◌≡◌};
 
 use adl_ast::{Assembly, Source};
 use adl_items::{Located, all_items, first_assembly};

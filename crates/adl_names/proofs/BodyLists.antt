@@ -1,5 +1,7 @@
 -- The items of a source, and the components among them.
-use Rattle.adl_names.proofs.Common.{Bor, None, option_copied, Member, as_composition, is_composition, is_some, list_any, ◌≡◌, ◌∙◌, ◌+◌, map, ℕ, suc, Bool, true, false, cond, List, [], ◌∷◌, Option, Some, option_map, refl, sym, ap, arith, filter_map, flat_map-map, find, enumerate_from, slice_get, slice_get-map, option_and_then, bytes_eq, noted-append, Component, Item, Source, Name, as_component, component_of, items_of, ItemAt, Body, item_of, item_component, item_number, component_at, is_named}
+use Rattle.adl_names.proofs.Common.{Bool, Bor, Component, Item, ItemAt, List, Member, Name, None, Option, Some, Source, [], ap, arith, as_component, as_composition, bytes_eq, component_at, component_of, cond, enumerate_from, false, filter_map, find, flat_map-map, is_composition, is_named, is_some, item_component, item_number, items_of, list_any, map, noted-append, option_and_then, option_copied, option_map, refl, slice_get, slice_get-map, suc, sym, true, ℕ, ◌+◌, ◌∙◌, ◌∷◌, ◌≡◌}
+use Rattle.adl_names.specs.declared.bodies.Body.{Body}
+use Rattle.adl_names.specs.Bodies.{item_of}
 use Rattle.adl_ast.specs.declared.component.Member.TheVariants as members
 use Rattle.adl_ast.specs.declared.file.Item.TheVariants as items
 

@@ -1,5 +1,5 @@
 -- The places of items rise.
-use Rattle.adl_names.proofs.Common.{◌≡◌, ◌+◌, ◌++◌, ℕ, true, List, [], ◌∷◌, map, Source, SourceFile, Ended, Item, ItemAt, Rises, AllByRecursion, arith, nat_tests, enumerate_from, flat_map, items_in, items_of, stands_before}
+use Rattle.adl_names.proofs.Common.{AllByRecursion, Ended, Item, ItemAt, List, Rises, Source, SourceFile, [], arith, enumerate_from, flat_map, items_in, items_of, map, nat_tests, stands_before, true, ℕ, ◌++◌, ◌+◌, ◌∷◌, ◌≡◌}
 
 abbrev pub places : List (ItemAt × Item) → List ItemAt
 places xs = map (λ x. x.0) xs

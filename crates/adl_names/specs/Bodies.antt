@@ -1,9 +1,10 @@
 -- The items of a source, with what the names in them stand for.
-use Rattle.adl_names.specs.Words.{find, enumerate_from, slice_get, option_and_then, option_copied, option_map_or, Bor, bytes_eq, Component, Item, Source, Name, items_of, component_of, Known, known_of, is_procedure, found}
-use Rattle.std.specs.Prelude.{◌≡◌, ℕ, Bool, false, List, Option, Some, None, map, option_map}
-use Rattle.adl_ast.specs.declared.file.Item.TheVariants as items
+use Rattle.adl_meaning.specs.Prelude.{Bor, Component, Item, Known, Name, Source, bytes_eq, component_of, enumerate_from, find, is_procedure, items_of, known_of, option_and_then, option_copied, option_map_or, slice_get}
+use Rattle.adl_names.specs.Words.{found}
+use Rattle.std.specs.Prelude.{Bool, List, None, Option, Some, false, map, option_map, ℕ, ◌≡◌}
 use Rattle.adl_names.specs.Tables.{has_name}
 use Rattle.adl_names.specs.declared.bodies.Body.{Body}
+use Rattle.adl_ast.specs.declared.file.Item.TheVariants as items
 use Rattle.adl_names.specs.declared.bodies.Body.TheVariants as body
 
 abbrev pub item_of : Body → Item

@@ -1,6 +1,7 @@
 -- Tables of the places of items by name.
-use Rattle.adl_names.specs.Words.{BuildHasherDefault, FoldHasher, IndexMap, Item, ItemAt, Name, Rises, bytes_eq, filter_map, find, get, option_or}
-use Rattle.std.specs.Prelude.{◌≡◌, ◌∷◌, ◌++◌, List, Option, map, option_map}
+use Rattle.adl_meaning.specs.Prelude.{BuildHasherDefault, FoldHasher, Item, Name, Rises, bytes_eq, filter_map, find, option_or}
+use Rattle.adl_names.specs.Words.{IndexMap, ItemAt, get}
+use Rattle.std.specs.Prelude.{List, Option, map, option_map, ◌++◌, ◌∷◌, ◌≡◌}
 
 abbrev pub Places : Type 0
 Places = IndexMap Name ItemAt (BuildHasherDefault FoldHasher)

@@ -1,7 +1,8 @@
 -- Sets of ports, as definitions speak of them.
-use Rattle.adl_names.specs.Words.{list_any, bytes_eq, Bor, Component, Composition, Port, Name, Fault, Export, Source, held_as, known_in, misfits_after, is_among}
+use Rattle.adl_meaning.specs.Prelude.{Bor, Component, Composition, Export, Fault, Name, Port, Source, bytes_eq, held_as, known_in, list_any, misfits_after}
+use Rattle.adl_names.specs.Words.{is_among}
 use Rattle.adl_names.specs.Bodies.{owner_of}
-use Rattle.std.specs.Prelude.{ℕ, ◌==◌, ◌&&◌, Bool, List, Option}
+use Rattle.std.specs.Prelude.{Bool, List, Option, ℕ, ◌&&◌, ◌==◌}
 use Rattle.adl_names.specs.declared.exports.Port.{Port as Borrowed}
 use Rattle.adl_names.specs.declared.exports.Taken.{Taken}
 

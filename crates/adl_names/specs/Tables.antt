@@ -1,8 +1,9 @@
 -- What tables of trees tell, as definitions speak of it.
-use Rattle.adl_names.specs.Words.{Fault, Id, first_named, noted, option_or, repeats_after, slice_get, Component, Composition, an_instance, a_group, a_connection, held_as, is_exported, Name, compositions, declared_as, is_among, found, declaring_told, Declared, Bor, Instance}
-use Rattle.std.specs.Prelude.{◌≡◌, ◌++◌, Bool, List, Option, is_some, map, option_map}
-use Rattle.adl_meaning.specs.Holding as holding
+use Rattle.adl_meaning.specs.Prelude.{Bor, Component, Composition, Fault, Id, Instance, Name, a_connection, a_group, an_instance, compositions, declared_as, held_as, is_exported, noted, option_or, repeats_after, slice_get}
+use Rattle.adl_names.specs.Words.{Declared, declaring_told, first_named, found, is_among}
+use Rattle.std.specs.Prelude.{Bool, List, Option, is_some, map, option_map, ◌++◌, ◌≡◌}
 use Rattle.adl_names.specs.declared.tables.Held.{Held}
+use Rattle.adl_meaning.specs.Holding as holding
 use Rattle.adl_names.specs.declared.tables.Held.TheVariants as held
 
 -- the instances of a group by name

@@ -1,8 +1,9 @@
 //! The items of a source, with what the names in them stand for.
 
-ghost use Rattle.adl_names.specs.Words.{Fault, repeats, duplicates, duplicates_in_item, noted, items_of, components, component_of, is_procedure, found, flat_map, option_copied};
-ghost use Rattle.std.specs.Prelude.{◌≡◌, ◌++◌, ℕ, List as Seq, map, IfOk, OnOk};
-ghost use Rattle.adl_names.specs.Bodies.{item_of, item_number};
+ghost use Rattle.adl_meaning.specs.Prelude.{Fault, component_of, components, duplicates, duplicates_in_item, flat_map, is_procedure, items_of, noted, option_copied, repeats};
+ghost use Rattle.adl_names.specs.Words.{found};
+ghost use Rattle.std.specs.Prelude.{IfOk, List as Seq, OnOk, map, ℕ, ◌++◌, ◌≡◌};
+ghost use Rattle.adl_names.specs.Bodies.{item_number, item_of};
 
 use crate::repeats::{note_procedure, put};
 use crate::tables::{ComponentTable, Holding};

@@ -1,7 +1,8 @@
 //! Exports that fit no interface, and ports of composites that no export gives.
 
-ghost use Rattle.adl_names.specs.Words.{Fault, Export as ExportOf, Port as PortOf, port_of, interface_at, differs, is_unled, inner_of, is_port, misfits_after, misfits_in_composition, misfit_exports, noted, held_as, exports_in, known_in, option_copied, option_and_then, option_map_or};
-ghost use Rattle.std.specs.Prelude.{◌≡◌, ◌||◌, ◌∷◌, ◌++◌, List as Seq, false, option_map, IfOk, OnOk};
+ghost use Rattle.adl_meaning.specs.Prelude.{Export as ExportOf, Fault, Port as PortOf, differs, exports_in, held_as, interface_at, is_port, is_unled, known_in, misfit_exports, misfits_after, misfits_in_composition, noted, option_and_then, option_copied, option_map_or, port_of};
+ghost use Rattle.adl_names.specs.Words.{inner_of};
+ghost use Rattle.std.specs.Prelude.{IfOk, List as Seq, OnOk, false, option_map, ◌++◌, ◌||◌, ◌∷◌, ◌≡◌};
 ghost use Rattle.adl_names.specs.Bodies.{owner_of};
 ghost use Rattle.adl_names.specs.Ports.{as_port, is_port_among, misfits_from};
 

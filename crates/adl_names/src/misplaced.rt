@@ -1,6 +1,6 @@
 //! Members that a composite, a device or a plain component can't have.
 
-ghost use Rattle.adl_names.specs.Words.{composite_bodies, noted};
+ghost use Rattle.adl_meaning.specs.Prelude.{composite_bodies, noted};
 ghost use Rattle.std.specs.Prelude.{◌≡◌};
 
 use crate::bodies::{Body, SourceTables};

@@ -1,7 +1,8 @@
 //! What the names of a source stand for, or the first fault of names.
 
-ghost use Rattle.adl_names.specs.Words.{noted, Refuses, as_component, as_procedure, assemblies, procedure_named, component_named, AreFew, Rises, first_name_fault, second_of, none_of, located, get, option_or, bytes_eq};
-ghost use Rattle.std.specs.Prelude.{◌≡◌, ◌∷◌, ◌++◌, ℕ, List as Seq, [], None, Some, if◌then◌else◌, map, option_map, OnOk, IfOk};
+ghost use Rattle.adl_meaning.specs.Prelude.{AreFew, Refuses, Rises, as_component, as_procedure, assemblies, bytes_eq, component_named, first_name_fault, none_of, noted, option_or, procedure_named, second_of};
+ghost use Rattle.adl_names.specs.Words.{get, located};
+ghost use Rattle.std.specs.Prelude.{IfOk, List as Seq, None, OnOk, Some, [], if◌then◌else◌, map, option_map, ℕ, ◌++◌, ◌∷◌, ◌≡◌};
 ghost use Rattle.adl_names.specs.Places.{Finds, StayRising, table_places};
 
 use crate::bodies::SourceTables;

@@ -1,7 +1,8 @@
 //! Instances whose type is the component that they stand in, or holds it.
 
-ghost use Rattle.adl_names.specs.Words.{trees, pointed, noted, instances_of, graph_of, recursive_types, found};
-ghost use Rattle.std.specs.Prelude.{◌≡◌, IfOk, OnOk};
+ghost use Rattle.adl_meaning.specs.Prelude.{graph_of, instances_of, noted, recursive_types};
+ghost use Rattle.adl_names.specs.Words.{found, pointed, trees};
+ghost use Rattle.std.specs.Prelude.{IfOk, OnOk, ◌≡◌};
 
 use adl_ast::{Component, Instance, Member};
 use adl_items::{Located, SourceItems, component_numbers, instances_by};

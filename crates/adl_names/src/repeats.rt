@@ -1,7 +1,8 @@
 //! Later ones of equal names, and second compositions and configurations.
 
-ghost use Rattle.adl_names.specs.Words.{Id as Word, again, repeats_after, duplicates_in_procedure, noted, compositions, configurations, found, option_or};
-ghost use Rattle.std.specs.Prelude.{◌≡◌, ◌∷◌, ◌++◌, [], ℕ, List as Seq, map, OnOk};
+ghost use Rattle.adl_meaning.specs.Prelude.{Id as Word, again, compositions, configurations, duplicates_in_procedure, noted, option_or, repeats_after};
+ghost use Rattle.adl_names.specs.Words.{found};
+ghost use Rattle.std.specs.Prelude.{List as Seq, OnOk, [], map, ℕ, ◌++◌, ◌∷◌, ◌≡◌};
 ghost use Rattle.adl_names.specs.Tables.{has_name};
 
 use adl_ast::{Component, Id, Member, ProcMember, Procedure};

@@ -1,7 +1,8 @@
 //! Tables of what the names of compositions and components stand for.
 
-ghost use Rattle.adl_names.specs.Words.{Fault, a_group, declaring_told, repeats, duplicates_in_composition, duplicates_in_component, noted, held_by, held_as, member_of, is_exported, declared_as, declared_by, declared_in, interface_of, attribute_of, compositions, composition_of, is_among, flat_map, option_and_then, option_copied};
-ghost use Rattle.std.specs.Prelude.{◌≡◌, ◌++◌, ℕ, List as Seq, map, option_map, OnOk, IfOk};
+ghost use Rattle.adl_meaning.specs.Prelude.{Fault, a_group, attribute_of, composition_of, compositions, declared_as, declared_by, declared_in, duplicates_in_component, duplicates_in_composition, flat_map, held_as, held_by, interface_of, is_exported, member_of, noted, option_and_then, option_copied, repeats};
+ghost use Rattle.adl_names.specs.Words.{declaring_told, is_among};
+ghost use Rattle.std.specs.Prelude.{IfOk, List as Seq, OnOk, map, option_map, ℕ, ◌++◌, ◌≡◌};
 ghost use Rattle.adl_names.specs.Bodies.{owner_of};
 ghost use Rattle.adl_names.specs.Tables.{AreNamed, AreNoted, held_told, holding_told};
 

@@ -1,7 +1,7 @@
 //! Words that nothing has.
 
-ghost use Rattle.adl_names.specs.Words.{noted, held_as, known_in, known_of, unless_known, unknown_interface, unknown_in_dotted, unknown_inner, scope_of_known, scope_behind, option_copied, unknown_in_setting, unknown_in_composition, unknown_in_configuration, unknown_in_member, unknown_in_item, is_procedure, unknown_names, Member as MemberOf, as_composition, filter_map};
-ghost use Rattle.std.specs.Prelude.{option_map, ◌≡◌, ◌∷◌, List as Seq};
+ghost use Rattle.adl_meaning.specs.Prelude.{Member as MemberOf, as_composition, filter_map, held_as, is_procedure, known_in, known_of, noted, option_copied, scope_behind, scope_of_known, unknown_in_composition, unknown_in_configuration, unknown_in_dotted, unknown_in_item, unknown_in_member, unknown_in_setting, unknown_inner, unknown_interface, unknown_names, unless_known};
+ghost use Rattle.std.specs.Prelude.{List as Seq, option_map, ◌∷◌, ◌≡◌};
 ghost use Rattle.adl_names.specs.Bodies.{item_of, owner_of};
 ghost use Rattle.adl_names.specs.Scopes.{scope_told};
 

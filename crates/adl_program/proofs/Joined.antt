@@ -1,7 +1,6 @@
 -- The leaf interface of what an end joins.
-use Rattle.adl_program.proofs.Common.{Component, Hierarchy, Name, None, Option, Reached, Some, ap, body, is_interface, joined_by, leaf_at, leaf_by, leaf_of, option_and_then, place_by, port_in, reached}
-use Rattle.adl_program.proofs.Common.{slice_get, ℕ, ◌∙◌, ◌≡◌}
-use Rattle.adl_meaning.specs.Prelude.{End, Interface, is_hardware}
+use Rattle.adl_program.proofs.Common.{Component, End, Hierarchy, Interface, Name, None, Option, Reached, Some, ap, body, is_hardware, is_interface, joined_by, leaf_at, leaf_by, option_and_then, place_by, port_in, reached, slice_get, ℕ, ◌∙◌, ◌≡◌}
+use Rattle.adl_program.specs.LeafInterfaces.{leaf_of}
 use Rattle.adl_ast.specs.declared.component.Member.TheVariants as members
 
 -- an end leads to what it joins, where the leaf's component has an interface of the name

@@ -1,5 +1,4 @@
 -- What is known of tables by name while they are filled.
-use Rattle.std.proofs.Math.Bool.{or-false}
-use Rattle.cam_base.proofs.Options.{option_or-none}
+use Rattle.adl_program.proofs.Common.{option_or-none, or-false}
 
 pub ruleset filling = (option_or-none, or-false)

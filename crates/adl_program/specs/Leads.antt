@@ -1,8 +1,7 @@
 -- Where the exports of bodies lead: the leaf interfaces behind them.
-use Rattle.std.specs.Prelude.{◌≡◌, ◌≤◌, ℕ, suc, List, length, Option, option_map, slice_index_or, if◌then◌else◌}
-use Rattle.adl_meaning.specs.Prelude.{Hierarchy, IsInnerFirst, Name, Part, body, export_named, exports_of, graph, is_composite, option_and_then}
+use Rattle.adl_meaning.specs.Prelude.{Hierarchy, IsIn, IsInnerFirst, Name, Part, body, export_named, exports_of, graph, is_composite, option_and_then}
+use Rattle.std.specs.Prelude.{List, Option, if◌then◌else◌, length, option_map, slice_index_or, suc, ℕ, ◌≡◌, ◌≤◌}
 use Rattle.adl_hierarchy.specs.Finite.{IsFinite}
-use Rattle.numbering.specs.Gather.{IsIn}
 use Rattle.name_tables.specs.ByName.{found}
 use Rattle.adl_program.specs.LeafInterfaces.{LeafInterface, leaf_at, leaf_of}
 

@@ -1,6 +1,6 @@
 -- Leaf interfaces: what stands at one, and what a dotted name means.
-use Rattle.std.specs.Prelude.{ℕ, Bool, List, Option, Some, None}
 use Rattle.adl_meaning.specs.Prelude.{Body, Component, Hierarchy, Id, Interface, Member, Name, body, is_device, is_interface, option_and_then, place_by, port_in, reached, slice_get}
+use Rattle.std.specs.Prelude.{Bool, List, None, Option, Some, ℕ}
 use Rattle.adl_ast.specs.declared.component.Member.TheVariants as members
 
 -- an interface of a leaf, and whether the leaf is a device

@@ -1,7 +1,6 @@
 -- What a body's fields are, and what its tables by name say of it.
-use Rattle.std.specs.Prelude.{◌≡◌, ℕ, false, List, [], Option, is_some, option_map, unwrap_or}
-use Rattle.adl_meaning.specs.Prelude.{Body, Component, Composition, Name, Part, bytes_eq, connections_in, declared_as, enumerate_from, filter_map, find, is_device, is_interface, list_any, option_and_then, option_copied, option_map_or, place_by}
-use Rattle.adl_meaning.specs.Prelude.{wire_of}
+use Rattle.adl_meaning.specs.Prelude.{Body, Component, Composition, Name, Part, bytes_eq, connections_in, declared_as, enumerate_from, filter_map, find, is_device, is_interface, list_any, option_and_then, option_copied, option_map_or, place_by, wire_of}
+use Rattle.std.specs.Prelude.{List, Option, [], false, is_some, option_map, unwrap_or, ℕ, ◌≡◌}
 use Rattle.name_tables.specs.ByName.{found}
 use Rattle.adl_items.specs.Declaring.{declaring_told}
 use Rattle.adl_program.specs.declared.part.PartAt.{PartAt}

@@ -1,15 +1,14 @@
 //! Bodies: components and the assembly.
 
-ghost use Rattle.adl_meaning.specs.Prelude.{body_of, bytes_eq, declared_by, interface_of, is_device, is_group, is_interface, list_any, option_and_then, option_copied, option_map_or, option_or, parts_in, place_by, slice_get, top_of, wires_of};
-ghost use Rattle.adl_meaning.specs.Prelude.{Id as Word};
-ghost use Rattle.adl_meaning.specs.Members.{Declared as Told, attribute_of, configurations};
+ghost use Rattle.adl_meaning.specs.Prelude.{Id as Word, attribute_of, body_of, bytes_eq, configurations, declared_by, interface_of, is_device, is_group, is_interface, list_any, option_and_then, option_copied, option_map_or, option_or, parts_in, place_by, slice_get, top_of, wires_of};
+ghost use Rattle.adl_meaning.specs.Members.{Declared as Told};
 ghost use Rattle.name_tables.specs.ByName.{found};
 ghost use Rattle.adl_items.specs.Declaring.{declaring_told};
 ghost use Rattle.adl_items.specs.Firsts.{first_named};
 ghost use Rattle.adl_items.specs.Located.{located};
 ghost use Rattle.adl_program.specs.LeafInterfaces.{leaf_at};
-ghost use Rattle.adl_program.specs.Seen.{part_from, IsComposed, AreMembers};
-ghost use Rattle.std.specs.Prelude.{◌≡◌, ℕ, List as Seq, ◌++◌, Some, false, is_some, option_map, OnOk, IfOk};
+ghost use Rattle.adl_program.specs.Seen.{AreMembers, IsComposed, part_from};
+ghost use Rattle.std.specs.Prelude.{IfOk, List as Seq, OnOk, Some, false, is_some, option_map, ℕ, ◌++◌, ◌≡◌};
 
 use crate::part::{Part, PartAt, Wire, parts_of, wires_of};
 use adl_ast::{Assembly, Attribute, Component, Composition, Configuration, Interface, Member};

@@ -2,7 +2,7 @@
 
 ghost use Rattle.adl_meaning.specs.Prelude.{as_connection, filter_map, flat_map, parts_by, wire_of};
 ghost use Rattle.name_tables.specs.ByName.{found};
-ghost use Rattle.std.specs.Prelude.{◌≡◌, IfOk};
+ghost use Rattle.std.specs.Prelude.{IfOk, ◌≡◌};
 
 use adl_ast::{Connection, Instance, Line};
 use adl_items::instances_by;

@@ -2,7 +2,7 @@
 
 ghost use Rattle.adl_meaning.specs.Prelude.{AreFew, AreNamesSound, IsInnerFirst, body, graph, hierarchy_of, top_number};
 ghost use Rattle.adl_program.specs.LeafInterfaces.{leaf_of};
-ghost use Rattle.std.specs.Prelude.{◌≡◌, ◌≤◌, ◌<◌, ◌+◌, ◌^◌, IfOk};
+ghost use Rattle.std.specs.Prelude.{IfOk, ◌+◌, ◌<◌, ◌^◌, ◌≡◌, ◌≤◌};
 
 use crate::bodies::{Bodies, bodies_of, graph};
 use crate::body::{Body, Leaf};

@@ -1,10 +1,9 @@
 -- The settings of ends by number, and the positions of `from` ends.
-use Rattle.adl_settings.proofs.Common.{◌≡◌, ◌∙◌, ◌+◌, ℕ, zero, suc, true, List, [], ◌∷◌, map, Option, Some, None, is_some, option_map, refl, sym, ap, subst, filter_map, slice_get, list_all, option_and_then, and_parts, slice_get-map, Source, Flat, FlatEnd, flat_of, Hierarchy, hierarchy_of, Found, Joint, interface_at, behind, positioned_after, found_at, found_of, found_on, end_settings, settled_of, arith, cond, filter, is_from}
-use Rattle.std.proofs.lemmas.Option.{option_and_then_some}
-use Rattle.adl_meaning.specs.Prelude.{From, Interface, Role, To}
+use Rattle.adl_settings.proofs.Common.{Flat, FlatEnd, Found, From, Hierarchy, Interface, Joint, List, None, Option, Role, Some, Source, To, [], and_parts, ap, arith, cond, end_settings, filter, filter_map, flat_of, found_at, found_of, found_on, hierarchy_of, interface_at, is_from, is_some, list_all, map, option_and_then, option_and_then_some, option_map, positioned_after, refl, settled_of, slice_get, slice_get-map, subst, suc, sym, true, zero, ℕ, ◌+◌, ◌∙◌, ◌∷◌, ◌≡◌}
+use Rattle.adl_settings.specs.Joints.{behind}
 use Rattle.adl_meaning.specs.declared.flat.FlatConnection.{FlatConnection}
 use Rattle.adl_settings.specs.EndMeaning.{end_setting}
-use Rattle.adl_settings.specs.NumberedEnds.{joins_interface, setting_at, IsFoundAt}
+use Rattle.adl_settings.specs.NumberedEnds.{IsFoundAt, joins_interface, setting_at}
 
 -- ---- ends with their positions
 

@@ -1,10 +1,5 @@
 -- Noting what the elements of lists give.
-use Rattle.adl_settings.proofs.Common.{◌≡◌, Option, Some, None, [], ◌∷◌, is_some, refl, Given, meant, bad_unless, bad_value, ◌∙◌, List, ◌++◌, sym, ap, list_any, append_assoc, flat_map, filter_map, Found, noted-append}
-use Rattle.adl_settings.specs.IrqTwice.{irq_at}
-use Rattle.std.proofs.lemmas.List.Elements.{filter_map-append}
-use Rattle.adl_ast.specs.declared.value.Value.{Value}
-use Rattle.std.specs.List.Sorted.{IsPermutation}
-use Rattle.std.proofs.lemmas.List.Sorted.{list_any-IsPermutation}
+use Rattle.adl_settings.proofs.Common.{Found, Given, IsPermutation, List, None, Option, Some, Value, [], ap, append_assoc, bad_unless, bad_value, filter_map, filter_map-append, flat_map, irq_at, is_some, list_any, list_any-IsPermutation, meant, noted-append, refl, sym, ◌++◌, ◌∙◌, ◌∷◌, ◌≡◌}
 use Rattle.page_index.specs.Sharing.{shares}
 use Rattle.page_index.specs.declared.region.Region.{Region}
 

@@ -1,5 +1,5 @@
 -- The search for the value of a setting along a path.
-use Rattle.adl_settings.proofs.Common.{◌≡◌, ◌≤◌, ◌-◌, ℕ, zero, suc, take, drop, length, Option, Some, None, option_map, sym, ◌∙◌, ap, arith, option_and_then, option_or, option_or-none, take-take, length-take-le, Id, Hierarchy, top_number, Name, Path, at, Given, given, setting_of, default_at, setter_at, set_within, value_at}
+use Rattle.adl_settings.proofs.Common.{Given, Hierarchy, Id, Name, None, Option, Path, Some, ap, arith, at, default_at, drop, given, length, length-take-le, option_and_then, option_map, option_or, option_or-none, set_within, setter_at, setting_of, suc, sym, take, take-take, top_number, value_at, zero, ℕ, ◌-◌, ◌∙◌, ◌≡◌, ◌≤◌}
 use Rattle.adl_ast.specs.declared.configuration.Setter.TheVariants as setters
 
 -- ---- a path's names behind those that count

@@ -10,10 +10,9 @@
 --
 -- Each is a function from a value to what it means; a value that isn't allowed means nothing. Sizes are rounded up to whole
 -- pages.
-use Rattle.adl_meaning.specs.Prelude.{bytes_eq, digits_value, list_all, option_and_then}
-use Rattle.std.specs.Prelude.{◌+◌, ◌*◌, ◌/◌, ◌%◌, ◌^◌, ◌==◌, ℕ, nat_le, Bool, true, false, ◌&&◌, if◌then◌else◌, List, length, codes, Option, Some, None, option_map}
-use Rattle.adl_settings.specs.Words.{is_digit, Value}
-use Rattle.adl_ast.specs.declared.value.ValueKind.{ValueKind, Number, Text}
+use Rattle.adl_meaning.specs.Prelude.{Value, ValueKind, bytes_eq, digits_value, is_digit, list_all, option_and_then}
+use Rattle.std.specs.Prelude.{Bool, List, None, Option, Some, codes, false, if◌then◌else◌, length, nat_le, option_map, true, ℕ, ◌%◌, ◌&&◌, ◌*◌, ◌+◌, ◌/◌, ◌==◌, ◌^◌}
+use Rattle.adl_ast.specs.declared.value.ValueKind.{Number, Text}
 use Rattle.adl_settings.specs.declared.access.Access.{Access}
 
 -- ---- numbers and texts

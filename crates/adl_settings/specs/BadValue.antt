@@ -1,10 +1,9 @@
 -- Value stands at a literal that gives a setting its value, where the value isn't one that the setting may have. Its name is
 -- the last word of the setting in which the literal stands, or the attribute's name where it stands in a declaration. A
 -- literal that gives no setting its value is no fault.
-use Rattle.adl_meaning.specs.Prelude.{flat_map}
-use Rattle.std.specs.Prelude.{List, ◌++◌, unwrap_or}
-use Rattle.adl_settings.specs.Words.{Fault}
-use Rattle.adl_settings.specs.Allowed.{priority_in, stack_in, access_in, badge_in, size_in, paddr_in, irq_in}
+use Rattle.adl_meaning.specs.Prelude.{Fault, flat_map}
+use Rattle.std.specs.Prelude.{List, unwrap_or, ◌++◌}
+use Rattle.adl_settings.specs.Allowed.{access_in, badge_in, irq_in, paddr_in, priority_in, size_in, stack_in}
 use Rattle.adl_settings.specs.EndMeaning.{bytes_of}
 use Rattle.adl_settings.specs.Joints.{Found}
 use Rattle.adl_settings.specs.Meant.{bad_value}

@@ -1,12 +1,11 @@
 -- BadgeTwice stands at an end with a badge, where another end of its connection has the same badge; default badges count. Its
 -- name is that of the connection. An end whose badge isn't allowed is left out, also as the other one.
-use Rattle.adl_meaning.specs.Prelude.{filter_map, flat_map, option_map_or}
-use Rattle.std.specs.Prelude.{slice_get, ℕ, ◌-◌, Bool, if◌then◌else◌, List, [], length, Option, None, unwrap_or}
-use Rattle.adl_settings.specs.Words.{Fault, where_true, Name, Path}
-use Rattle.cam_base.specs.declared.code.Code.TheVariants as code
+use Rattle.adl_meaning.specs.Prelude.{Fault, Name, Path, filter_map, flat_map, option_map_or, where_true}
+use Rattle.std.specs.Prelude.{Bool, List, None, Option, [], if◌then◌else◌, length, slice_get, unwrap_or, ℕ, ◌-◌}
 use Rattle.adl_settings.specs.EndMeaning.{badge_of}
 use Rattle.adl_settings.specs.Joints.{Found, has_badge}
 use Rattle.adl_settings.specs.Repeated.{is_repeated}
+use Rattle.cam_base.specs.declared.code.Code.TheVariants as code
 
 -- the last name of a path
 abbrev pub last_in : Path → Name

@@ -1,15 +1,14 @@
 -- DeviceOverlap stands at the literal that gives the address of a joined dataport of a device, where another one shares a
 -- physical page with it. It has no name. A dataport whose address or size isn't allowed or is missing is left out, also as
 -- the other one. A dataport that several ends join is one. Both begin at a page and have whole pages.
-use Rattle.adl_meaning.specs.Prelude.{filter_map, flat_map, list_any, option_and_then}
-use Rattle.std.specs.Prelude.{ℕ, List, map, Option, option_map}
-use Rattle.adl_settings.specs.Words.{Fault, at_keyword, where_true, Given}
-use Rattle.cam_base.specs.declared.code.Code.TheVariants as code
+use Rattle.adl_meaning.specs.Prelude.{Fault, Given, at_keyword, filter_map, flat_map, list_any, option_and_then, where_true}
+use Rattle.std.specs.Prelude.{List, Option, map, option_map, ℕ}
 use Rattle.adl_settings.specs.declared.overlaps.DeviceRegion.{DeviceRegion}
 use Rattle.adl_settings.specs.EndMeaning.{bytes_of, paddr_of}
 use Rattle.adl_settings.specs.Joints.{Found}
 use Rattle.page_index.specs.declared.region.Region.{Region}
 use Rattle.page_index.specs.Sharing.{shares}
+use Rattle.cam_base.specs.declared.code.Code.TheVariants as code
 
 -- the pages from an address on, by the numbers of the leaf and of the interface
 abbrev pub region_from : Found → ℕ → ℕ → Given → DeviceRegion

@@ -1,10 +1,11 @@
 -- What the settings of an end mean. Where there is no value the default counts: both rights, the position among the `from`
 -- ends, and the bytes of the port's type in whole pages, which are 4,096 where no number stands in the type. An address and
 -- the number of an interrupt have no default.
-use Rattle.std.specs.Prelude.{ℕ, ◌||◌, if◌then◌else◌, Option, unwrap_or}
-use Rattle.adl_settings.specs.Words.{Interface, EndSetting, default_size}
+use Rattle.adl_meaning.specs.Prelude.{Interface, default_size}
+use Rattle.std.specs.Prelude.{Option, if◌then◌else◌, unwrap_or, ℕ, ◌||◌}
+use Rattle.adl_settings.specs.Words.{EndSetting}
 use Rattle.adl_settings.specs.declared.access.Access.{Access}
-use Rattle.adl_settings.specs.Allowed.{read_and_write, no_access, page, sized, access_in, badge_in, size_in, paddr_in, irq_in}
+use Rattle.adl_settings.specs.Allowed.{access_in, badge_in, irq_in, no_access, paddr_in, page, read_and_write, size_in, sized}
 use Rattle.adl_settings.specs.Joints.{Found, has_access, has_badge, is_device_memory, is_shared}
 use Rattle.adl_settings.specs.Meant.{meaning, meant}
 

@@ -1,14 +1,13 @@
 -- IrqTwice stands at the literal that gives the number of a device's joined interrupt, where another one has the same number.
 -- It has no name. An interrupt whose number isn't allowed or is missing is left out, also as the other one. Where no fault of
 -- joins stands, one end alone joins an interrupt.
-use Rattle.adl_meaning.specs.Prelude.{filter_map, flat_map, option_and_then}
-use Rattle.std.specs.Prelude.{ℕ, Bool, List, map, Option, option_map}
-use Rattle.adl_settings.specs.Words.{Fault, at_keyword, where_true, Given}
-use Rattle.cam_base.specs.declared.code.Code.TheVariants as code
-pub use Rattle.adl_settings.specs.declared.twice.Irq.{Irq}
+use Rattle.adl_meaning.specs.Prelude.{Fault, Given, at_keyword, filter_map, flat_map, option_and_then, where_true}
+use Rattle.std.specs.Prelude.{Bool, List, Option, map, option_map, ℕ}
 use Rattle.adl_settings.specs.EndMeaning.{irq_of}
 use Rattle.adl_settings.specs.Joints.{Found}
 use Rattle.adl_settings.specs.Repeated.{is_repeated}
+use Rattle.cam_base.specs.declared.code.Code.TheVariants as code
+pub use Rattle.adl_settings.specs.declared.twice.Irq.{Irq}
 
 abbrev pub irq_from : ℕ → Given → Irq
 irq_from number g = record { number = number; place = g.value.place }

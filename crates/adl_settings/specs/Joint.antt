@@ -1,6 +1,7 @@
 -- An end of a connection, at the interface of the leaf that it joins.
+use Rattle.adl_meaning.specs.Prelude.{Interface}
 use Rattle.std.specs.Prelude.{ℕ}
-use Rattle.adl_settings.specs.Words.{Interface, FlatConnection, FlatEnd, Leaf}
+use Rattle.adl_settings.specs.Words.{FlatConnection, FlatEnd, Leaf}
 
 pub record Joint : Type 0 where
   pub connection : FlatConnection

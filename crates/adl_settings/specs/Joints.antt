@@ -7,16 +7,16 @@
 --   size of a connection   at each end of shared memory
 --
 -- Here i is the interface of the leaf, and its settings are those of the leaf's path.
-use Rattle.adl_meaning.specs.Prelude.{Component, From, Item, Member, Role, To, filter_map, option_and_then}
+use Rattle.adl_meaning.specs.Prelude.{Component, From, Given, Hierarchy, Interface, Item, Member, Name, Role, Source, To, filter_map, option_and_then, same_kind, value_at}
 use Rattle.adl_meaning.specs.declared.connector.Connector.{Connector}
 use Rattle.adl_meaning.specs.declared.connector.Connector.TheVariants.{Notification, Rpc, SharedMemory}
 use Rattle.adl_meaning.specs.declared.item_at.ItemAt.{ItemAt}
-use Rattle.std.specs.Prelude.{slice_get, ◌+◌, ℕ, Bool, true, false, ◌&&◌, not, if◌then◌else◌, List, [], ◌∷◌, ◌++◌, map, codes, Option, Some, None, option_map}
-use Rattle.adl_settings.specs.Words.{Interface, Source, Flat, FlatConnection, FlatEnd, Leaf, same_kind, Hierarchy, Name, Given, value_at}
+use Rattle.std.specs.Prelude.{Bool, List, None, Option, Some, [], codes, false, if◌then◌else◌, map, not, option_map, slice_get, true, ℕ, ◌&&◌, ◌++◌, ◌+◌, ◌∷◌}
+use Rattle.adl_settings.specs.Words.{Flat, FlatConnection, FlatEnd, Leaf}
+use Rattle.adl_settings.specs.Meant.{where_set}
 use Rattle.adl_ast.specs.declared.component.InterfaceKind.TheVariants as interfaces
 use Rattle.adl_ast.specs.declared.component.Member.TheVariants as members
 use Rattle.adl_ast.specs.declared.file.Item.TheVariants as items
-use Rattle.adl_settings.specs.Meant.{where_set}
 pub use Rattle.adl_settings.specs.Joint.{Joint}
 pub use Rattle.adl_settings.specs.declared.found.Found.{Found}
 

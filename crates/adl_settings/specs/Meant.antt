@@ -1,8 +1,7 @@
 -- What a setting means: what its value means, and where it has none, the default. Where its value isn't one of those that are
 -- allowed, it means nothing, and the literal that gives the value is at fault.
-use Rattle.adl_meaning.specs.Prelude.{option_and_then}
-use Rattle.std.specs.Prelude.{Bool, if◌then◌else◌, List, [], Option, Some, None, is_some}
-use Rattle.adl_settings.specs.Words.{Fault, Value, where_false, Given}
+use Rattle.adl_meaning.specs.Prelude.{Fault, Given, Value, option_and_then, where_false}
+use Rattle.std.specs.Prelude.{Bool, List, None, Option, Some, [], if◌then◌else◌, is_some}
 use Rattle.cam_base.specs.declared.code.Code.TheVariants as code
 
 -- what a value means, where allowed says what allowed values mean

@@ -1,12 +1,10 @@
 -- Missing stands at the name of an interface, in the declaration of a device's component, where an end joins it and it has
 -- none of the values that it needs: a dataport an address, an `emits` the number of its interrupt. Its name is the
 -- interface's. A value that isn't allowed isn't missing.
-use Rattle.adl_meaning.specs.Prelude.{flat_map}
-use Rattle.std.specs.Option.{is_none}
-use Rattle.std.specs.Prelude.{Bool, ◌&&◌, ◌||◌, List}
-use Rattle.adl_settings.specs.Words.{Fault, at_word, where_true}
+use Rattle.adl_meaning.specs.Prelude.{Fault, at_word, flat_map, is_none, where_true}
+use Rattle.std.specs.Prelude.{Bool, List, ◌&&◌, ◌||◌}
+use Rattle.adl_settings.specs.Joints.{Found, is_device_event, is_device_memory}
 use Rattle.cam_base.specs.declared.code.Code.TheVariants as code
-use Rattle.adl_settings.specs.Joints.{Found, is_device_memory, is_device_event}
 
 abbrev pub lacks_value : Found → Bool
 lacks_value f = (is_device_memory f.joint && is_none f.paddr) || (is_device_event f.joint && is_none f.irq)

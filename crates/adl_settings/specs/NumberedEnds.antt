@@ -1,8 +1,8 @@
 -- The settings of an end by the numbers of its connection and of the end in it, and what they are found at.
-use Rattle.adl_meaning.specs.Prelude.{option_and_then}
-use Rattle.std.specs.Prelude.{slice_get, ◌≡◌, ℕ, Bool, Option, Some, is_some}
-use Rattle.adl_settings.specs.Words.{Source, Flat, FlatConnection, FlatEnd, EndSetting, Settled, Hierarchy}
-use Rattle.adl_settings.specs.Joints.{Found, interface_at, found_at}
+use Rattle.adl_meaning.specs.Prelude.{Hierarchy, Source, option_and_then}
+use Rattle.std.specs.Prelude.{Bool, Option, Some, is_some, slice_get, ℕ, ◌≡◌}
+use Rattle.adl_settings.specs.Words.{EndSetting, Flat, FlatConnection, FlatEnd, Settled}
+use Rattle.adl_settings.specs.Joints.{Found, found_at, interface_at}
 
 abbrev pub joins_interface : Source → Flat → FlatEnd → Bool
 joins_interface s flat e = is_some (option_and_then (λ leaf. interface_at s leaf e.member) (slice_get flat.leaves e.leaf))

@@ -1,6 +1,6 @@
 -- Numbers that stand twice or more in a list.
 use Rattle.adl_meaning.specs.Prelude.{count_by, lookup}
-use Rattle.std.specs.Prelude.{ℕ, ◌==◌, nat_le, Bool, false, List, unwrap_or}
+use Rattle.std.specs.Prelude.{Bool, List, false, nat_le, unwrap_or, ℕ, ◌==◌}
 
 -- whether a table says that the number stands twice
 unfoldable pub is_marked : List (ℕ × Bool) → ℕ → Bool

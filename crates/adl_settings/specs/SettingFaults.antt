@@ -1,6 +1,7 @@
 -- The faults of settings that stand in a source, and the first of them.
-use Rattle.std.specs.Prelude.{List, ◌++◌, Option}
-use Rattle.adl_settings.specs.Words.{Fault, Source, Flat, least, flat_of, Hierarchy, hierarchy_of}
+use Rattle.adl_meaning.specs.Prelude.{Fault, Hierarchy, Source, flat_of, hierarchy_of, least}
+use Rattle.std.specs.Prelude.{List, Option, ◌++◌}
+use Rattle.adl_settings.specs.Words.{Flat}
 use Rattle.adl_settings.specs.BadValue.{bad_values}
 use Rattle.adl_settings.specs.BadgeTwice.{badges_twice}
 use Rattle.adl_settings.specs.DeviceOverlap.{overlaps}

@@ -1,9 +1,8 @@
 -- SettingTwice stands at a setting of the same path and last word as an earlier one of its configuration, the names of groups
 -- aside, in each configuration of a component or the assembly, used or not. Its place is the dotted name, and its name the
 -- last word.
-use Rattle.adl_meaning.specs.Prelude.{bytes_eq, enumerate_from, flat_map}
-use Rattle.std.specs.Prelude.{ℕ, Bool, false, ◌&&◌, ◌||◌, List, [], ◌∷◌, ◌++◌}
-use Rattle.adl_settings.specs.Words.{Fault, Setting, last_name, where_true, Hierarchy, Body, Name, Path, same_path, path_of, settings_of}
+use Rattle.adl_meaning.specs.Prelude.{Body, Fault, Hierarchy, Name, Path, Setting, bytes_eq, enumerate_from, flat_map, last_name, path_of, same_path, settings_of, where_true}
+use Rattle.std.specs.Prelude.{Bool, List, [], false, ℕ, ◌&&◌, ◌++◌, ◌||◌, ◌∷◌}
 use Rattle.cam_base.specs.declared.code.Code.TheVariants as code
 
 -- whether a setting is one of this path and name

@@ -1,8 +1,9 @@
 -- The settings of all leaves and of the ends of all connections, in the order of the flat system. A leaf of software has a
 -- priority, 254 by default, and the bytes of a stack, 16,384 by default; a device has 0 for both. Where no fault of settings
 -- stands, each of these is what its setting means.
-use Rattle.std.specs.Prelude.{not, if◌then◌else◌, List, map, codes, Option, unwrap_or}
-use Rattle.adl_settings.specs.Words.{Source, Flat, Leaf, Settled, flat_of, Hierarchy, hierarchy_of, Given, value_at}
+use Rattle.adl_meaning.specs.Prelude.{Given, Hierarchy, Source, flat_of, hierarchy_of, value_at}
+use Rattle.std.specs.Prelude.{List, Option, codes, if◌then◌else◌, map, not, unwrap_or}
+use Rattle.adl_settings.specs.Words.{Flat, Leaf, Settled}
 use Rattle.adl_meaning.specs.declared.settled.EndSettings.{EndSettings}
 use Rattle.adl_meaning.specs.declared.settled.LeafSetting.{LeafSetting}
 use Rattle.adl_settings.specs.Allowed.{priority_in, stack_in}

@@ -1,9 +1,8 @@
 //! The values that settings may have, and what they mean.
 
-ghost use Rattle.adl_settings.specs.Allowed.{number_in, text_in, within, whole_pages, priority_in, stack_in, access_in, badge_named, badge_in, sized, size_in, paddr_in, irq_in};
-ghost use Rattle.adl_settings.specs.Words.{is_digit};
-ghost use Rattle.adl_meaning.specs.Prelude.{digits_value, list_all, option_copied};
-ghost use Rattle.std.specs.Prelude.{◌≡◌, ◌<◌, ◌≤◌, ◌^◌, ◌+◌, ◌*◌, true, IfSome, length};
+ghost use Rattle.adl_meaning.specs.Prelude.{digits_value, is_digit, list_all, option_copied};
+ghost use Rattle.adl_settings.specs.Allowed.{access_in, badge_in, badge_named, irq_in, number_in, paddr_in, priority_in, size_in, sized, stack_in, text_in, whole_pages, within};
+ghost use Rattle.std.specs.Prelude.{IfSome, length, true, ◌*◌, ◌+◌, ◌<◌, ◌^◌, ◌≡◌, ◌≤◌};
 
 use crate::Access;
 use adl_ast::{Value, ValueKind};

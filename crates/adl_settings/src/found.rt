@@ -1,7 +1,7 @@
 //! The values of the settings of leaves and ends, and which settings have a meaning at an end.
 
 ghost use Rattle.std.specs.Prelude.{◌≡◌};
-ghost use Rattle.adl_settings.specs.Joints.{has_access, is_device_memory, is_device_event, has_badge, is_shared};
+ghost use Rattle.adl_settings.specs.Joints.{has_access, has_badge, is_device_event, is_device_memory, is_shared};
 
 use adl_ast::{Interface, InterfaceKind, Role, Value};
 use adl_meaning::{Connector, FlatConnection, FlatEnd, Leaf};

@@ -1,12 +1,12 @@
 //! What the definitions promise together, as functions that do nothing.
 
 ghost use Rattle.adl_ast.specs.declared.configuration.Setter.TheVariants as setters;
-ghost use Rattle.adl_settings.specs.Words.{Id as Word, Source as Text, flat_of, Hierarchy as Tree, hierarchy_of, Name as Bytes, Path as Names, Given as Value, default_at, setter_at, set_within, value_at, FlatConnection as Wire, FlatEnd as Joining};
-ghost use Rattle.adl_meaning.specs.Prelude.{filter, list_all, option_or};
-ghost use Rattle.std.specs.Prelude.{slice_get, ◌≡◌, ◌<◌, ◌+◌, ◌-◌, ℕ, true, suc, take, length, List as Seq, Some, None};
+ghost use Rattle.adl_meaning.specs.Prelude.{Given as Value, Hierarchy as Tree, Id as Word, Name as Bytes, Path as Names, Source as Text, default_at, filter, flat_of, hierarchy_of, list_all, option_or, set_within, setter_at, value_at};
+ghost use Rattle.adl_settings.specs.Words.{FlatConnection as Wire, FlatEnd as Joining};
+ghost use Rattle.std.specs.Prelude.{List as Seq, None, Some, length, slice_get, suc, take, true, ℕ, ◌+◌, ◌-◌, ◌<◌, ◌≡◌};
 ghost use Rattle.adl_settings.specs.EndMeaning.{end_setting};
 ghost use Rattle.adl_settings.specs.Joints.{Found, is_from, positioned};
-ghost use Rattle.adl_settings.specs.NumberedEnds.{joins_interface, setting_at, IsFoundAt};
+ghost use Rattle.adl_settings.specs.NumberedEnds.{IsFoundAt, joins_interface, setting_at};
 ghost use Rattle.adl_settings.specs.Settled.{settled_of};
 
 /// What a body sets stays, whatever bodies further inwards set, and a default counts where no body sets a value.

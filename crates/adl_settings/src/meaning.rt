@@ -1,8 +1,8 @@
 //! What the settings of leaves and ends mean.
 
-ghost use Rattle.std.specs.Prelude.{◌≡◌, if◌then◌else◌, unwrap_or};
-ghost use Rattle.adl_settings.specs.Allowed.{priority_in, stack_in, access_in, badge_in, size_in, paddr_in, irq_in};
-ghost use Rattle.adl_settings.specs.EndMeaning.{access_of, badge_of, default_bytes, bytes_of, paddr_of, irq_of, end_setting};
+ghost use Rattle.std.specs.Prelude.{if◌then◌else◌, unwrap_or, ◌≡◌};
+ghost use Rattle.adl_settings.specs.Allowed.{access_in, badge_in, irq_in, paddr_in, priority_in, size_in, stack_in};
+ghost use Rattle.adl_settings.specs.EndMeaning.{access_of, badge_of, bytes_of, default_bytes, end_setting, irq_of, paddr_of};
 ghost use Rattle.adl_settings.specs.Meant.{meant};
 ghost use Rattle.adl_settings.specs.Settled.{leaf_setting};
 

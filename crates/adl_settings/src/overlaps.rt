@@ -1,8 +1,8 @@
 //! Dataports of devices that share physical pages.
 
-ghost use Rattle.adl_settings.specs.Words.{noted};
-ghost use Rattle.std.specs.Prelude.{◌≡◌, map, OnOk, IfOk};
-ghost use Rattle.adl_settings.specs.DeviceOverlap.{region_of, regions, overlaps};
+ghost use Rattle.adl_meaning.specs.Prelude.{noted};
+ghost use Rattle.std.specs.Prelude.{IfOk, OnOk, map, ◌≡◌};
+ghost use Rattle.adl_settings.specs.DeviceOverlap.{overlaps, region_of, regions};
 
 use crate::Found;
 use adl_meaning::Earliest;

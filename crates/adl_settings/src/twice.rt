@@ -1,9 +1,8 @@
 //! Numbers that stand twice: those of devices' interrupts, and the badges of the ends of one connection.
 
-ghost use Rattle.adl_settings.specs.Words.{noted};
-ghost use Rattle.adl_meaning.specs.Prelude.{filter_map, flat_map};
-ghost use Rattle.std.specs.Prelude.{◌≡◌, ℕ, map, OnOk, IfOk};
-ghost use Rattle.adl_settings.specs.BadgeTwice.{last_in, own_badge, badges_twice};
+ghost use Rattle.adl_meaning.specs.Prelude.{filter_map, flat_map, noted};
+ghost use Rattle.std.specs.Prelude.{IfOk, OnOk, map, ℕ, ◌≡◌};
+ghost use Rattle.adl_settings.specs.BadgeTwice.{badges_twice, last_in, own_badge};
 ghost use Rattle.adl_settings.specs.IrqTwice.{irq_at, irqs_twice};
 ghost use Rattle.adl_settings.specs.Repeated.{is_marked, is_repeated};
 

@@ -1,13 +1,13 @@
 //! The faults of values, and the settings of leaves and ends that have none.
 
-ghost use Rattle.adl_settings.specs.Words.{noted, Fault as Wrong, Refuses};
-ghost use Rattle.std.specs.Prelude.{◌≡◌, ◌++◌, List as Seq, map, is_some, OnOk, IfOk};
+ghost use Rattle.adl_meaning.specs.Prelude.{Fault as Wrong, Refuses, noted};
+ghost use Rattle.std.specs.Prelude.{IfOk, List as Seq, OnOk, is_some, map, ◌++◌, ◌≡◌};
 ghost use Rattle.adl_settings.specs.BadValue.{bad_at_end, bad_values};
 ghost use Rattle.adl_settings.specs.EndMeaning.{end_setting};
 ghost use Rattle.adl_settings.specs.Meant.{bad_unless};
 ghost use Rattle.adl_settings.specs.Missing.{missing_values};
 ghost use Rattle.adl_settings.specs.SettingFaults.{value_faults};
-ghost use Rattle.adl_settings.specs.Settled.{leaf_setting, end_settings, settled_from};
+ghost use Rattle.adl_settings.specs.Settled.{end_settings, leaf_setting, settled_from};
 
 use crate::overlaps::note_overlaps;
 use crate::twice::{note_badges_twice, note_irqs_twice};

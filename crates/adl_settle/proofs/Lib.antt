@@ -1,3 +1,4 @@
+mod Common
 pub mod SettingKeys
 pub mod TableSteps
 pub mod ValueSteps

@@ -1,15 +1,8 @@
 -- Keys of settings: a path with a name behind it.
+use Rattle.adl_settle.proofs.Common.{Bool, Bor, Global, Hierarchy, Id, List, Name, None, Option, Part, Path, Setting, SettingTable, Some, Vec, [], ap, append_assoc, arith, body, bytes_eq, cond, false, groups, inner_names, is_group, is_none, is_some, length, lookup, map, map-append, nil_from_length, option_and_then, option_copied, option_map, option_map-option_or, option_map_or, option_or, option_or-none, option_or-there, part_named, path_from, path_of, pointed, pointwise, pointwise-map, refl, same_path, same_path-true, suc, sym, take, true, ℕ, ◌&&◌, ◌++◌, ◌+◌, ◌-◌, ◌∙◌, ◌∷◌, ◌≡◌}
 use Rattle.adl_program.specs.Seen.{part_from}
 use Rattle.adl_program.specs.declared.part.PartAt.{PartAt}
-use Rattle.adl_settings.proofs.Common.{◌≡◌, ◌∙◌, Bool, true, false, cond, ◌&&◌, List, [], ◌∷◌, ◌++◌, Option, Some, None, is_some, refl, ap, Bor, Vec, Global, option_or, option_copied, bytes_eq, option_or-none, option_map-option_or, option_or-there, Setting, Name, Path, same_path, same_path-true, ℕ, suc, ◌-◌, length, map, take, sym, arith, append_assoc, map-append, Id, Hierarchy, inner_names, Part, option_map_or, option_and_then, path_of, body, part_named, is_group, option_map, ◌+◌}
-use Rattle.std.specs.Cmp.Lexicographic.{pointwise}
-use Rattle.adl_meaning.specs.Prelude.{lookup}
-use Rattle.std.specs.Cmp.Derive.Mapped.{pointwise-map}
-use Rattle.adl_items.specs.Pointed.{pointed}
-use Rattle.std.proofs.lemmas.List.{nil_from_length}
-use Rattle.adl_settle.specs.Lookups.{path_from, setting_found, within, groups}
-use Rattle.adl_settle.specs.declared.tables.SettingTable.{SettingTable}
-use Rattle.std.specs.Option.{is_none}
+use Rattle.adl_settle.specs.Lookups.{setting_found, within}
 
 abbrev pub same_keys : List (Bor Name) → List (Bor Name) → Bool
 same_keys q k = pointwise (λ (a b : Bor Name). bytes_eq a.now b.now) q k

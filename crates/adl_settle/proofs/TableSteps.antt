@@ -1,8 +1,5 @@
 -- Tables that have a value for each body, and the steps of filling one.
-use Rattle.adl_settings.proofs.Common.{◌≡◌, ◌∙◌, ◌≤◌, ◌<◌, ◌+◌, ℕ, cond, ◌&&◌, drop, arith, List, [], ◌∷◌, ◌++◌, length, get_or, Some, refl, sym, ap, subst, inl, inr, get_or_past, get_or_default, length-append, get_or_append_left, find, option_map_or, bytes_eq, drop_first, Setting, Id, last_name, Hierarchy, Part, Body, body, part_named, Name, Path, same_path, is_group, inner_names, path_of, settings_of, setting_of, ◌||◌, Option, None, is_some, option_or, Fault, noted, where_true, sets, noted-append, Met, setting_twice, repeated_after}
-use Rattle.cam_base.proofs.Options.{is_some-option_or}
-use Rattle.std.proofs.lemmas.List.{get_or_push}
-use Rattle.std.proofs.lemmas.Bool.{cases_lt}
+use Rattle.adl_settle.proofs.Common.{Body, Fault, Hierarchy, Id, List, Met, Name, None, Option, Part, Path, Setting, Some, [], ap, arith, body, bytes_eq, cases_lt, cond, drop, drop_first, find, get_or, get_or_append_left, get_or_default, get_or_past, get_or_push, inl, inner_names, inr, is_group, is_some, is_some-option_or, last_name, length, length-append, noted, noted-append, option_map_or, option_or, part_named, path_of, refl, repeated_after, same_path, sets, setting_of, setting_twice, settings_of, subst, sym, where_true, ℕ, ◌&&◌, ◌++◌, ◌+◌, ◌<◌, ◌||◌, ◌∙◌, ◌∷◌, ◌≡◌, ◌≤◌}
 use borrow.Author.Count.{below_more}
 
 -- where P is true of each place and its value, it is after one more

@@ -1,12 +1,8 @@
 -- Steps of the search for a value, from the outermost body inwards.
-use Rattle.adl_settings.proofs.Common.{◌≡◌, ◌∙◌, ◌<◌, ◌≤◌, ◌+◌, ◌-◌, ℕ, zero, suc, cond, ◌&&◌, List, [], ◌∷◌, take, drop, length, max, ◌++◌, Bor, Option, Some, None, option_map, refl, sym, ap, arith, inl, inr, slice_get, option_and_then, option_map_or, option_or, bytes_eq, length-drop, drop-append-le, drop-map, and_parts, find_passes, Setting, last_name, Hierarchy, Part, top_number, body, part_named, Name, Path, at, same_path, Given, given, settings_of, sets, setting_of, setter_at, set_within, default_at, value_at, same_path-true}
-use Rattle.std.proofs.Math.Seq.{take-length}
-use Rattle.std.proofs.lemmas.Slice.Eq.{bytes_eq-Decides}
-use Rattle.adl_items.specs.Pointed.{pointed}
-use Rattle.adl_settle.specs.Lookups.{within, attribute_at, given_from}
-use Rattle.std.proofs.lemmas.Bool.{cases_lt}
+use Rattle.adl_settle.proofs.Common.{Bor, Given, Hierarchy, List, Name, None, Option, Part, Path, Setting, Some, [], and_parts, ap, arith, at, attribute_at, body, bytes_eq, bytes_eq-Decides, cases_lt, cond, default_at, drop, drop-append-le, drop-map, find_passes, given, given_from, inl, inr, last_name, length, length-drop, max, option_and_then, option_map, option_map_or, option_or, part_named, pointed, refl, same_path, same_path-true, set_within, sets, setter_at, setting_of, settings_of, slice_get, suc, sym, take, take-length, top_number, value_at, zero, ℕ, ◌&&◌, ◌++◌, ◌+◌, ◌-◌, ◌<◌, ◌∙◌, ◌∷◌, ◌≡◌, ◌≤◌}
+use Rattle.adl_settle.specs.Lookups.{within}
+use Rattle.adl_settings.proofs.ValueSearch.{outer_stays, referred, value-referred}
 use borrow.Author.Count.{below_more}
-use Rattle.adl_settings.proofs.ValueSearch.{referred, value-referred, outer_stays}
 
 -- ---- bodies along a path
 

@@ -1,7 +1,6 @@
 -- The tables of settings, what the search for values looks at, and what it remembers.
-use Rattle.adl_meaning.specs.Prelude.{at, bytes_eq, lookup, option_and_then, option_copied, option_map_or}
-use Rattle.std.specs.Prelude.{◌≡◌, ℕ, Bool, false, ◌&&◌, List, [], ◌∷◌, ◌++◌, Option, Some, None, slice_index_or}
-use Rattle.adl_settings.specs.Words.{Setting, Id, last_name, Hierarchy, body, Name, Path, same_path, Given, given, value_at, path_of, inner_names, is_group, setting_of}
+use Rattle.adl_meaning.specs.Prelude.{Given, Hierarchy, Id, Name, Path, Setting, at, body, bytes_eq, given, inner_names, is_group, last_name, lookup, option_and_then, option_copied, option_map_or, path_of, same_path, setting_of, value_at}
+use Rattle.std.specs.Prelude.{Bool, List, None, Option, Some, [], false, slice_index_or, ℕ, ◌&&◌, ◌++◌, ◌∷◌, ◌≡◌}
 use Rattle.adl_items.specs.Pointed.{pointed}
 use Rattle.adl_settle.specs.declared.search.Memo.{Memo}
 use Rattle.adl_settle.specs.declared.tables.SettingTable.{SettingTable}

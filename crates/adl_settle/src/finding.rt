@@ -1,8 +1,8 @@
 //! The values of the settings of all leaves, and of the ends of connections at the interfaces that they join.
 
 ghost use Rattle.adl_meaning.specs.Prelude.{option_copied};
-ghost use Rattle.std.specs.Prelude.{◌≡◌, OnOk, IfOk};
-ghost use Rattle.adl_settings.specs.Joints.{component_at, interface_at, joint_of, value_of, size_of, found_at, found_on, founds_in};
+ghost use Rattle.std.specs.Prelude.{IfOk, OnOk, ◌≡◌};
+ghost use Rattle.adl_settings.specs.Joints.{component_at, found_at, found_on, founds_in, interface_at, joint_of, size_of, value_of};
 ghost use Rattle.adl_settings.specs.Meant.{where_set};
 ghost use Rattle.adl_settings.specs.Settled.{leaf_found, leaves_found};
 ghost use Rattle.adl_settle.specs.Lookups.{IsRemembered};

@@ -1,10 +1,9 @@
 //! The search for the value of a setting.
 
-ghost use Rattle.adl_settings.specs.Words.{Name as Bytes, body, default_in, setting_of, value_at};
-ghost use Rattle.adl_meaning.specs.Prelude.{option_and_then, option_copied, option_map_or};
-ghost use Rattle.std.specs.Prelude.{◌≡◌, ◌∷◌, ◌++◌, [], List as Seq, Some, None, slice_get, OnOk, IfOk};
+ghost use Rattle.adl_meaning.specs.Prelude.{Name as Bytes, body, default_in, option_and_then, option_copied, option_map_or, setting_of, value_at};
+ghost use Rattle.std.specs.Prelude.{IfOk, List as Seq, None, OnOk, Some, [], slice_get, ◌++◌, ◌∷◌, ◌≡◌};
 ghost use Rattle.adl_items.specs.Pointed.{pointed};
-ghost use Rattle.adl_settle.specs.Lookups.{within, attribute_at, given_from, IsRemembered};
+ghost use Rattle.adl_settle.specs.Lookups.{IsRemembered, attribute_at, given_from, within};
 
 use crate::tables::{SettingTables, within};
 use adl_ast::{Setter, Setting};

@@ -1,8 +1,7 @@
 //! The settings of a flat system, or the first fault of settings.
 
-ghost use Rattle.adl_settings.specs.Words.{Refuses, flat_of, hierarchy_of};
-ghost use Rattle.std.specs.Prelude.{◌≡◌, IfOk};
-ghost use Rattle.adl_meaning.specs.Prelude.{AreFew};
+ghost use Rattle.adl_meaning.specs.Prelude.{AreFew, Refuses, flat_of, hierarchy_of};
+ghost use Rattle.std.specs.Prelude.{IfOk, ◌≡◌};
 ghost use Rattle.adl_settings.specs.SettingFaults.{first_setting_fault};
 ghost use Rattle.adl_settings.specs.Settled.{settled_of};
 

@@ -1,11 +1,10 @@
 //! The settings of each body in a table, by their paths and names.
 
-ghost use Rattle.adl_settings.specs.Words.{Id as Word, Name as Bytes, body, part_named, same_path, sets, settings_of, noted, where_true};
-ghost use Rattle.adl_meaning.specs.Prelude.{option_and_then, option_copied, option_or};
-ghost use Rattle.std.specs.Prelude.{◌≡◌, ◌∷◌, ◌++◌, [], List as Seq, Some, None, is_some, if◌then◌else◌, slice_index_or, OnOk, IfOk};
+ghost use Rattle.adl_meaning.specs.Prelude.{Id as Word, Name as Bytes, body, noted, option_and_then, option_copied, option_or, part_named, same_path, sets, settings_of, where_true};
+ghost use Rattle.std.specs.Prelude.{IfOk, List as Seq, None, OnOk, Some, [], if◌then◌else◌, is_some, slice_index_or, ◌++◌, ◌∷◌, ◌≡◌};
 ghost use Rattle.adl_items.specs.Pointed.{pointed};
-ghost use Rattle.adl_settings.specs.SettingTwice.{setting_twice, repeated_in, settings_twice};
-ghost use Rattle.adl_settle.specs.Lookups.{within, groups, path_from, key_of, setting_found, IsTable, AreTables};
+ghost use Rattle.adl_settings.specs.SettingTwice.{repeated_in, setting_twice, settings_twice};
+ghost use Rattle.adl_settle.specs.Lookups.{AreTables, IsTable, groups, key_of, path_from, setting_found, within};
 
 use adl_ast::{Id, Setting};
 use adl_items::last_name;

@@ -1,14 +1,7 @@
 -- Numbers of leaves in a template are at most that of its leaves, and those of an instance are among those of its body.
-use Rattle.adl_templates.proofs.Common.{All, Bool, Export, Hierarchy, IsReady, Joined, List, Name, None, Option, Part, Placed, Some, [], ap, arith, below, body, connection_in, connections_in, end_in, ends_in}
-use Rattle.adl_templates.proofs.Common.{export_named, export_target, exports_of, false, flat_map, from_filter_map, get_or, get_or_from_slice_get, homed, in_place, is_composite, is_interface, joined_by, kind_in, leaves_before, leaves_by, leaves_in, leaves_step, length}
-use Rattle.adl_templates.proofs.Common.{length-flat_map-take, length-map, map, map_some, moved_leaf, option_and_then_some, option_map, option_map_or, placed_by, port_in, reached, read_in, same_path, slice_get}
-use Rattle.adl_templates.proofs.Common.{subst, sym, take, target, target_in, target_of, template_connections, template_leaves, ℕ, ◌++◌, ◌+◌, ◌<◌, ◌^◌, ◌∙◌, ◌∷◌, ◌≡◌, ◌≤◌}
-use Rattle.adl_meaning.specs.Prelude.{Component, place_by}
-use Rattle.core.specs.Option.{option_flatten}
-use Rattle.numbering.proofs.Lists.{at_place}
-use Rattle.std.proofs.lemmas.Bool.{cond_both}
-use Rattle.std.proofs.lemmas.Grind.{common_steps}
-use Rattle.std.proofs.lemmas.List.Elements.{All-map}
+use Rattle.adl_templates.proofs.Common.{All, All-map, Bool, Component, Export, Hierarchy, IsReady, Joined, List, Name, None, Option, Part, Placed, Some, [], ap, arith, at_place, below, body, common_steps, cond_both, connection_in, end_in, ends_in, export_named, export_target, exports_of, false, flat_map, from_filter_map, get_or, get_or_from_slice_get, homed, in_place, is_composite, is_interface, joined_by, kind_in, leaves_before, leaves_by, leaves_in, leaves_step, length, length-flat_map-take, length-map, map, map_some, moved_leaf, option_and_then_some, option_map, option_map_or, place_by, placed_by, port_in, reached, read_in, same_path, slice_get, subst, sym, take, target, target_in, target_of, template_connections, template_leaves, ℕ, ◌++◌, ◌+◌, ◌<◌, ◌^◌, ◌∙◌, ◌∷◌, ◌≡◌, ◌≤◌}
+use Rattle.adl_meaning.specs.Joins.{connections_in}
+use Rattle.std.specs.Option.{option_flatten}
 use Rattle.adl_templates.specs.declared.placed.Target.{Target}
 use Rattle.adl_templates.proofs.Placing.{template_leaves_placed}
 

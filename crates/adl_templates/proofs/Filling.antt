@@ -1,8 +1,5 @@
 -- What stands inside the instances of a body, and where their ports lead.
-use Rattle.adl_templates.proofs.Common.{All, AreBefore, AreInner, Body, Bool, Hierarchy, IsReady, IsTemplate, List, Name, None, Part, Some, Template, ap, arith, below, body, false, get_or, in_place, is_named, is_unnamed}
-use Rattle.adl_templates.proofs.Common.{kind_in, leaves_before, leaves_in, length, option_and_then, option_map, part_from, port_in, reached, reached_by, reached_step, slice_get, subst, suc, sym, target, target_by, target_in, target_of, true, ℕ, ◌+◌, ◌<◌, ◌^◌, ◌∙◌, ◌≡◌, ◌≤◌}
-use Rattle.adl_meaning.specs.Prelude.{Id}
-use Rattle.numbering.proofs.Lists.{all_in, read_in}
+use Rattle.adl_templates.proofs.Common.{All, AreBefore, AreInner, Body, Bool, Hierarchy, Id, IsReady, IsTemplate, List, Name, None, Part, Some, Template, all_in, ap, arith, below, body, false, get_or, in_place, is_named, is_unnamed, kind_in, leaves_before, leaves_in, length, option_and_then, option_map, part_from, port_in, reached, reached_by, reached_step, read_in, slice_get, subst, suc, sym, target, target_by, target_in, target_of, true, ℕ, ◌+◌, ◌<◌, ◌^◌, ◌∙◌, ◌≡◌, ◌≤◌}
 use Rattle.adl_templates.proofs.Bounds.{room}
 use Rattle.adl_templates.proofs.Placing.{target_step}
 use Rattle.adl_program.specs.declared.part.PartAt.{PartAt}

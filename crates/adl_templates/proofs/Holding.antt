@@ -1,12 +1,5 @@
 -- Marks of the bodies that the assembly holds.
-use Rattle.adl_templates.proofs.Common.{All, Bool, Hierarchy, IsIn, IsReady, List, Part, and_parts, ap, arith, body, cases_eq, eq-eqb, eqb-true, false, get_or, graph, inl, inner_filled, inr, leaves_in, length}
-use Rattle.adl_templates.proofs.Common.{list_any, list_any_more, ne_eqb, or_cases, order_below, place_of, refl, subst, sym, take, true, true≢false, ℕ, ◌&&◌, ◌+◌, ◌<◌, ◌==◌, ◌^◌, ◌||◌, ◌∙◌, ◌≡◌}
-use Rattle.std.proofs.Common.{◌⊎◌}
-use Rattle.std.proofs.lemmas.Bool.{and_from, or_left, or_right}
-use Rattle.std.proofs.lemmas.List.Folds.{list_any_at}
-use Rattle.adl_meaning.specs.Prelude.{IsInnerFirst, has}
-use Rattle.numbering.proofs.Lists.{from_any}
-use Rattle.adl_templates.specs.AreTemplates.{AreHeld}
+use Rattle.adl_templates.proofs.Common.{All, AreHeld, Bool, Hierarchy, IsIn, IsInnerFirst, IsReady, List, Part, and_from, and_parts, ap, arith, body, cases_eq, eq-eqb, eqb-true, false, from_any, get_or, graph, has, inl, inner_filled, inr, leaves_in, length, list_any, list_any_at, list_any_more, ne_eqb, or_cases, or_left, or_right, order_below, place_of, refl, subst, sym, take, true, true≢false, ℕ, ◌&&◌, ◌+◌, ◌<◌, ◌==◌, ◌^◌, ◌||◌, ◌∙◌, ◌≡◌, ◌⊎◌}
 use Rattle.adl_templates.proofs.Bounds.{room}
 
 -- one place of the order less

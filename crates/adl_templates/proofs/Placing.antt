@@ -1,20 +1,13 @@
 -- What an instance places of the template of its component.
-use Rattle.adl_templates.proofs.Common.{End, Export, Hierarchy, Homed, IsIn, IsReady, Joined, List, Name, None, Option, Part, Path, Placed, Reached, Some, Strung, [], ap, arith, behind, body, connection_in, connections_by, connections_in}
-use Rattle.adl_templates.proofs.Common.{connections_step, cons_option, end_in, export_named, exports_of, filter_map, flat_map, flat_map_same, further, get_map, homed, in_place}
-use Rattle.adl_templates.proofs.Common.{inl, inr, is_composite, joined_by, kind_in, leaf_place, leaves_before, leaves_by, leaves_in, leaves_step, length, map, map-append, member_number, moved_connection, moved_end, moved_leaf}
-use Rattle.adl_templates.proofs.Common.{moved_target, name_of, option_and_then, option_and_then_some, option_map, outside, own_connections, own_target, part_named, placed_by, port_in, reached, reached_by, reached_step, refl, same_path, slice_get, strung, strung_by}
-use Rattle.adl_templates.proofs.Common.{suc, sym, take, target, target_by, target_in, target_of, template_connections, template_leaves, true, wires_of, ℕ, ◌++◌, ◌+◌, ◌∙◌, ◌∷◌, ◌≡◌, ◌≤◌}
-use Rattle.numbering.proofs.Gathered.{gathered, place_of as number_at}
-use Rattle.numbering.proofs.Lists.{from_get_map}
-use Rattle.numbering.specs.Gather.{gather}
+use Rattle.adl_templates.proofs.Common.{End, Export, Hierarchy, Homed, IsIn, IsReady, Joined, List, Name, None, Option, Part, Path, Placed, Reached, Some, Strung, [], ap, arith, behind, body, connection_in, connections_by, connections_step, cons_option, end_in, export_named, exports_of, filter_map, flat_map, flat_map_same, from_get_map, further, gather, gathered, get_map, group_above, group_or, homed, in_place, inl, inr, is_composite, is_once, joined_by, kind_in, leaf_place, leaves_before, leaves_by, leaves_in, leaves_step, length, map, map-append, member_number, moved_connection, moved_end, moved_leaf, moved_target, name_of, option_and_then, option_and_then_some, option_map, outside, own_connections, own_target, part_named, placed_by, port_in, reached, reached_by, reached_step, refl, same_path, slice_get, strung, strung_by, suc, sym, take, target, target_by, target_in, target_of, template_connections, template_leaves, true, wires_of, ℕ, ◌++◌, ◌+◌, ◌∙◌, ◌∷◌, ◌≡◌, ◌≤◌}
+use Rattle.adl_meaning.specs.Joins.{connections_in}
+use Rattle.numbering.proofs.Gathered.{place_of as number_at}
 use Rattle.std.proofs.lemmas.Bool.{cases_Bool}
-use Rattle.adl_meaning.specs.JoinedEnds.{is_once}
-use Rattle.adl_meaning.specs.Prelude.{group_above, group_or}
 use Rattle.adl_hierarchy.proofs.DomainNames.{same_path-Decides}
 use Rattle.adl_hierarchy.proofs.Once.{paths_within_once}
 use Rattle.adl_hierarchy.proofs.Places.{place_is}
 use Rattle.adl_hierarchy.proofs.Repeats.{find_once}
-use Rattle.adl_templates.proofs.Standing.{reached_met, joined_met, composite_around}
+use Rattle.adl_templates.proofs.Standing.{composite_around, joined_met, reached_met}
 
 map_flat : {X Y Z : Type 0} (g : Y → Z) (f : X → List Y) (xs : List X) → map g (flat_map f xs) ≡ flat_map (λ x. map g (f x)) xs
 map_flat g f [] = refl

@@ -1,9 +1,7 @@
 -- What ends and ports lead to stands among the leaves of their body.
-use Rattle.adl_templates.proofs.Common.{End, Hierarchy, IsIn, IsReady, List, Name, Option, Part, Placed, Reached, Some, Strung, [], ap, body, connections_in, connections_step, filter_map, flat_map, is_composite, joined_by, leaves_in}
-use Rattle.adl_templates.proofs.Common.{length, map, option_and_then_some, option_map_or, port_in, reached, strung, strung_by, subst, true, wire_of, ℕ, ◌++◌, ◌∙◌, ◌≡◌, ◌≤◌}
-use Rattle.adl_meaning.specs.Prelude.{Composition}
-use Rattle.adl_meaning.specs.Holding.{connections_in as lines_in}
-use Rattle.std.proofs.lemmas.Bool.{true_from_ne_false}
+use Rattle.adl_templates.proofs.Common.{Composition, End, Hierarchy, IsIn, IsReady, List, Name, Option, Part, Placed, Reached, Some, Strung, [], ap, body, connections_step, filter_map, flat_map, is_composite, joined_by, leaves_in, length, map, option_and_then_some, option_map_or, port_in, reached, strung, strung_by, subst, true, true_from_ne_false, wire_of, ℕ, ◌++◌, ◌∙◌, ◌≡◌, ◌≤◌}
+use Rattle.adl_meaning.specs.Joins.{connections_in}
+use Rattle.adl_meaning.specs.Prelude.{connections_in as lines_in}
 use Rattle.cam_base.proofs.Options.{is_none}
 use Rattle.adl_hierarchy.proofs.Climbing.{found_climbs}
 use Rattle.adl_hierarchy.proofs.Connections.{stands}

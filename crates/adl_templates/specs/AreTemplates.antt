@@ -1,10 +1,10 @@
 -- What templates rest on, and what tables of templates tell.
-use Rattle.std.specs.Prelude.{◌≡◌, ◌<◌, ◌^◌, ℕ, false, [], All, map, length, ◌≤◌, suc, Bool, true, List, slice_index, slice_index_or}
 use Rattle.adl_meaning.specs.Prelude.{Hierarchy, Name, body, has, is_composite, leaves_in, name_of, option_map_or}
+use Rattle.std.specs.Prelude.{All, Bool, List, [], false, length, map, slice_index, slice_index_or, suc, true, ℕ, ◌<◌, ◌^◌, ◌≡◌, ◌≤◌}
 use Rattle.adl_hierarchy.specs.Finite.{IsFinite}
 use Rattle.adl_hierarchy.specs.Once.{IsOnce}
 use Rattle.name_tables.specs.ByName.{found}
-use Rattle.adl_templates.specs.Templates.{template_leaves, template_connections, export_target, leaves_before}
+use Rattle.adl_templates.specs.Templates.{export_target, leaves_before, template_connections, template_leaves}
 use Rattle.adl_templates.specs.declared.template.Template.{Template}
 
 pub record IsReady (h : Hierarchy) : Type 0 where

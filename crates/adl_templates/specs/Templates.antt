@@ -3,10 +3,8 @@
 --
 -- An instance places the template of its component: its name comes in front of each path, and the number of leaves before it
 -- is added to each leaf's number. Leaves below a group are at home at the outermost one.
-use Rattle.std.specs.Prelude.{ℕ, ◌+◌, Bool, false, List, [], ◌∷◌, ◌++◌, map, length, take, Option, Some, None, option_map, if◌then◌else◌}
-use Rattle.adl_meaning.specs.Prelude.{Body, End, Hierarchy, Id, Name, Part, Path, Placed, Reached, Strung, Wire, body, export_named, exports_of, filter_map, flat_map, group_above, group_or, interface_of, is_composite, is_device, is_interface}
-use Rattle.adl_meaning.specs.Prelude.{joined_by, leaves_in, member_number, name_of, option_and_then, option_map_or, outside, place_by, port_in, reached, same_path, strung, wires_of}
-use Rattle.adl_meaning.specs.JoinedEnds.{is_once, joins_once}
+use Rattle.adl_meaning.specs.Prelude.{Body, End, Hierarchy, Id, Name, Part, Path, Placed, Reached, Strung, Wire, body, export_named, exports_of, filter_map, flat_map, group_above, group_or, interface_of, is_composite, is_device, is_interface, is_once, joined_by, joins_once, leaves_in, member_number, name_of, option_and_then, option_map_or, outside, place_by, port_in, reached, same_path, strung, wires_of}
+use Rattle.std.specs.Prelude.{Bool, List, None, Option, Some, [], false, if◌then◌else◌, length, map, option_map, take, ℕ, ◌++◌, ◌+◌, ◌∷◌}
 use Rattle.adl_meaning.specs.Joins.{connections_in}
 use Rattle.adl_templates.specs.declared.placed.Target.{Target}
 

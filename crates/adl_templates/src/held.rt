@@ -2,7 +2,7 @@
 
 ghost use Rattle.adl_meaning.specs.Prelude.{leaves, list_any};
 ghost use Rattle.adl_templates.specs.AreTemplates.{AreHeld, IsReady};
-ghost use Rattle.std.specs.Prelude.{◌≡◌, ◌==◌, ◌<◌, ◌^◌, ◌&&◌, ◌||◌, ℕ, [], All, false, slice_index_or, length, IfOk};
+ghost use Rattle.std.specs.Prelude.{All, IfOk, [], false, length, slice_index_or, ℕ, ◌&&◌, ◌<◌, ◌==◌, ◌^◌, ◌||◌, ◌≡◌};
 
 use adl_program::{Part, Program};
 use cam_base::NoMemory;

@@ -2,9 +2,9 @@
 
 ghost use Rattle.adl_meaning.specs.Prelude.{Hierarchy, Name, Part, body, flat_map, part_named, slice_get, top_number};
 ghost use Rattle.adl_templates.specs.AreTemplates.{IsReady};
-ghost use Rattle.adl_templates.specs.Templates.{template_leaves, template_connections, own_connections, connections_by, leaves_by, leaves_before, target, target_by};
+ghost use Rattle.adl_templates.specs.Templates.{connections_by, leaves_before, leaves_by, own_connections, target, target_by, template_connections, template_leaves};
 ghost use Rattle.numbering.specs.Gather.{gather};
-ghost use Rattle.std.specs.Prelude.{◌≡◌, ◌≤◌, ◌++◌, ℕ, Some};
+ghost use Rattle.std.specs.Prelude.{Some, ℕ, ◌++◌, ◌≡◌, ◌≤◌};
 
 /// The template of a body is made of those of its instances' components: its leaves with their homes, its connections,
 /// and where its ports lead.

@@ -2,7 +2,7 @@
 
 ghost use Rattle.adl_meaning.specs.Prelude.{group_or, name_of};
 ghost use Rattle.adl_templates.specs.Templates.{moved_connection};
-ghost use Rattle.std.specs.Prelude.{◌≡◌, ◌<◌, ◌+◌, ◌^◌, ◌++◌, ◌∷◌, All, map, option_map, IfOk, OnOk};
+ghost use Rattle.std.specs.Prelude.{All, IfOk, OnOk, map, option_map, ◌++◌, ◌+◌, ◌<◌, ◌^◌, ◌∷◌, ◌≡◌};
 
 use crate::placed::{PlacedConnection, PlacedEnd};
 use adl_program::Part;

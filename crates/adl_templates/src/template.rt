@@ -1,12 +1,12 @@
 //! The template of a body, from those of its instances' components.
 
 ghost use Rattle.adl_meaning.specs.Prelude.{body, leaves, leaves_in, top_number};
-ghost use Rattle.adl_templates.specs.AreTemplates.{IsTemplate, AreInner, AreBefore, IsReady};
-ghost use Rattle.adl_templates.specs.Templates.{own_connections, connections_by, own_target, target_by, target_of, export_target, leaves_by};
+ghost use Rattle.adl_templates.specs.AreTemplates.{AreBefore, AreInner, IsReady, IsTemplate};
+ghost use Rattle.adl_templates.specs.Templates.{connections_by, export_target, leaves_by, own_connections, own_target, target_by, target_of};
 ghost use Rattle.adl_templates.specs.declared.template.Template.{Template as TemplateOf};
 ghost use Rattle.name_tables.specs.ByName.{found};
 ghost use Rattle.numbering.specs.Gather.{gather};
-ghost use Rattle.std.specs.Prelude.{◌≡◌, ◌<◌, ◌+◌, ◌^◌, ◌++◌, ℕ, List as Seq, length, slice_index_or, IfOk, OnOk};
+ghost use Rattle.std.specs.Prelude.{IfOk, List as Seq, OnOk, length, slice_index_or, ℕ, ◌++◌, ◌+◌, ◌<◌, ◌^◌, ◌≡◌};
 
 use crate::held::held_bodies;
 use crate::place::{behind, home_of, place_connections};

@@ -1,12 +1,8 @@
 -- Where no fault of types stands, connections are as they should be.
-use Rattle.adl_types.proofs.Common.{Bool, Fault, Hierarchy, None, [], arith, body_faults, end_faults, false, faults_below, first_leaf, first_type_fault, hierarchy_of}
-use Rattle.adl_types.proofs.Common.{least-empty, length, not, refl, suc, top_number, true, type_faults, where_true, wire_faults, zero, ℕ, ◌&&◌, ◌+◌, ◌<◌, ◌≡◌, ◌≤◌}
-use Rattle.adl_meaning.specs.Prelude.{AreNamesSound, End, Source, Strung, connections}
+use Rattle.adl_types.proofs.Common.{AreNamesSound, Bool, End, Fault, Hierarchy, IsIn, None, Source, Strung, [], ap, arith, body_faults, cases_eq, connections, end_faults, false, faults_below, first_leaf, first_type_fault, hierarchy_of, inl, inr, least-empty, length, none_in, none_left, none_right, not, refl, suc, top_number, true, type_faults, where_true, wire_faults, zero, ℕ, ◌&&◌, ◌+◌, ◌<◌, ◌∙◌, ◌≡◌, ◌≤◌}
 use Rattle.adl_hierarchy.proofs.Connections.{connections_stand}
 use Rattle.adl_hierarchy.proofs.Finite.{sound_is_finite}
 use Rattle.adl_hierarchy.proofs.PartsAt.{body_in}
-use Rattle.numbering.specs.Gather.{IsIn}
-use Rattle.numbering.proofs.Lists.{none_in, none_left, none_right}
 use Rattle.adl_types.specs.WellTyped.{IsWellTyped}
 
 so : (b c : Bool) (f : Fault) → b ≡ true → where_true (b && not c) f ≡ [] → c ≡ true
@@ -16,7 +12,10 @@ so false c f t e = cc
 
 none_below : (h : Hierarchy) (n k : ℕ) → faults_below h n ≡ [] → k < n → body_faults h k ≡ []
 none_below h zero k e l = absurd (omega arith)
-none_below h (suc n) k e l = grind (arith, none_left (faults_below h n) (body_faults h n) e, none_right (faults_below h n) (body_faults h n) e, none_below h n k)
+none_below h (suc n) k e l = elim (cases_eq k n) [
+  | inl p ↦ ap (body_faults h) p ∙ none_right (faults_below h n) (body_faults h n) e
+  | inr p ↦ none_below h n k (none_left (faults_below h n) (body_faults h n) e) (omega (arith, l, p))
+]
 
 -- the ends of each connection are as the connector wants them
 pub well_typed : (s : Source) → AreNamesSound s → first_type_fault s ≡ None → (x : Strung) → IsIn x (connections (hierarchy_of s)) → IsWellTyped (hierarchy_of s) x

@@ -8,19 +8,16 @@
 --   TypeMismatch stands at the name of an interface whose size stands there and is 0 or above 268,435,456.
 --
 -- An end that leads to no interface has no fault here.
-use Rattle.std.specs.Prelude.{ℕ, ◌+◌, zero, suc, Bool, true, false, ◌&&◌, not, if◌then◌else◌, List, [], ◌∷◌, ◌++◌, Option, Some, None, unwrap_or, nat_le, ◌==◌}
-use Rattle.adl_meaning.specs.Prelude.{End, Fault, From, Hierarchy, Member, Role, Source, To, Wire, at_word, body, bytes_eq, count_by, flat_map, hierarchy_of, last_name, least, option_map_or, same_kind, top_number, where_true}
+use Rattle.adl_meaning.specs.Prelude.{Code, End, Fault, From, Hierarchy, Member, Role, Source, To, Wire, at_word, body, bytes_eq, count_by, default_size, flat_map, hierarchy_of, last_name, least, option_map_or, same_kind, top_number, where_true, wires_of}
+use Rattle.std.specs.Prelude.{Bool, List, None, Option, Some, [], false, if◌then◌else◌, nat_le, not, suc, true, unwrap_or, zero, ℕ, ◌&&◌, ◌++◌, ◌+◌, ◌==◌, ◌∷◌}
 use Rattle.adl_meaning.specs.declared.connector.Connector.{Connector}
 use Rattle.adl_meaning.specs.declared.connector.Connector.TheVariants.{Interrupt}
-use Rattle.adl_meaning.specs.Prelude.{wires_of}
-use Rattle.cam_base.specs.declared.code.Code.{Code}
-use Rattle.cam_base.specs.declared.code.Code.TheVariants as code
-use Rattle.adl_ast.specs.declared.component.Member.TheVariants as members
-use Rattle.adl_meaning.specs.Export.{default_size}
-use Rattle.conn_rules.specs.Ends.{end_rule, allows}
+use Rattle.conn_rules.specs.Ends.{allows, end_rule}
 use Rattle.conn_rules.specs.Row.{same_role}
 use Rattle.conn_rules.specs.declared.end.EndRule.{EndRule}
 use Rattle.adl_program.specs.LeafInterfaces.{LeafInterface, leaf_of}
+use Rattle.cam_base.specs.declared.code.Code.TheVariants as code
+use Rattle.adl_ast.specs.declared.component.Member.TheVariants as members
 
 -- ---- ends
 

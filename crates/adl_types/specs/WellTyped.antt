@@ -1,10 +1,9 @@
 -- A connection of the flat system that is as its connector wants it.
-use Rattle.std.specs.Prelude.{◌≡◌, true}
-use Rattle.adl_meaning.specs.Prelude.{End, Hierarchy, Strung, option_map_or}
+use Rattle.adl_meaning.specs.Prelude.{End, Hierarchy, IsIn, Strung, option_map_or}
+use Rattle.std.specs.Prelude.{true, ◌≡◌}
 use Rattle.adl_program.specs.LeafInterfaces.{leaf_of}
-use Rattle.adl_types.specs.TypeFaults.{is_kind_of, has_one_type, agree, first_leaf, may_have}
+use Rattle.adl_types.specs.TypeFaults.{agree, first_leaf, has_one_type, is_kind_of, may_have}
 use Rattle.conn_rules.specs.Ends.{end_rule}
-use Rattle.numbering.specs.Gather.{IsIn}
 
 pub record IsWellTyped (h : Hierarchy) (x : Strung) : Type 0 where
   -- the leaf interface of each end is of the kind that the connector table has

@@ -1,8 +1,8 @@
 //! The faults of types.
 
 ghost use Rattle.adl_meaning.specs.Prelude.{flat_map, least, noted, option_copied, option_map_or, top_number};
-ghost use Rattle.adl_types.specs.TypeFaults.{is_kind_of, agree, count_of, may_have, size_faults, wire_faults, type_faults_in};
-ghost use Rattle.std.specs.Prelude.{◌≡◌, ◌≤◌, [], true};
+ghost use Rattle.adl_types.specs.TypeFaults.{agree, count_of, is_kind_of, may_have, size_faults, type_faults_in, wire_faults};
+ghost use Rattle.std.specs.Prelude.{[], true, ◌≡◌, ◌≤◌};
 
 use adl_ast::{Component, End, Member, Role};
 use adl_items::last_name;

@@ -1,6 +1,5 @@
-use Rattle.adl_flatten.proofs.Common.{Fault, None, Option, Refuses, ap, arith, faults_by, least, noted, noted-none, subst, ◌∙◌, ◌≡◌}
+use Rattle.adl_flatten.proofs.Common.{Fault, None, Option, Refuses, ap, arith, faults_by, least, noted, noted-none, noting, subst, ◌∙◌, ◌≡◌}
 use Rattle.adl_flatten.proofs.Templates.{faults_are}
-use Rattle.adl_meaning.proofs.Noting.{noting}
 use Rattle.adl_flatten.proofs.faults.check_joins.Goals as goal
 
 pub returns : goal.returns

@@ -1,5 +1,4 @@
-use Rattle.adl_flatten.proofs.Common.{Fault, Option, Refuses, ap, flat_connection_of, flattened, map, pointed, subst, sym, ◌∙◌}
-use Rattle.std.proofs.Common.{rules}
+use Rattle.adl_flatten.proofs.Common.{Fault, Option, Refuses, ap, flat_connection_of, flattened, map, pointed, rules, subst, sym, ◌∙◌}
 use Rattle.adl_flatten.proofs.Homes.{domains_are, leaves_are}
 use Rattle.adl_flatten.proofs.PassedLimits.{fault_is}
 use Rattle.adl_flatten.proofs.SoundReady.{sound_is_ready}

@@ -1,6 +1,5 @@
-use Rattle.adl_flatten.proofs.Common.{ap, arith, cons_option, domains, drop, drop_first, filter_map, home, pointed, sym, ◌+◌, ◌∙◌, ◌≡◌}
+use Rattle.adl_flatten.proofs.Common.{ap, arith, common_steps, cons_option, domains, drop, drop_first, filter_map, home, pointed, sym, ◌+◌, ◌∙◌, ◌≡◌}
 use Rattle.adl_flatten.proofs.Homes.{all_met, met_more, paths_are}
-use Rattle.std.proofs.lemmas.Grind.{common_steps}
 use Rattle.adl_flatten.proofs.leaves.domain_paths.Goals.{in-Some+in_ok-insert, in_default}
 use Rattle.adl_flatten.proofs.leaves.domain_paths.Goals as goal
 

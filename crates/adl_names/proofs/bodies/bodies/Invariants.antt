@@ -1,4 +1,5 @@
-use Rattle.adl_names.proofs.Common.{◌≡◌, drop, map, ◌++◌, flat_map, located, items_of, duplicates_in_item, noted, item_of}
+use Rattle.adl_names.proofs.Common.{drop, duplicates_in_item, flat_map, items_of, located, map, noted, ◌++◌, ◌≡◌}
+use Rattle.adl_names.specs.Bodies.{item_of}
 use Rattle.adl_names.proofs.bodies.bodies.Given as goal
 
 abbrev pub invariant-loop-x : goal.invariant-loop-x

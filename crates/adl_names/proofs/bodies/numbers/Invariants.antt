@@ -1,4 +1,4 @@
-use Rattle.adl_names.proofs.Common.{◌≡◌, drop, map, option_map, find, filter_map, enumerate_from, option_or, as_component, components, items_of, located, noted, repeats, repeats_after, has_name, Name, found, item_number, is_named}
+use Rattle.adl_names.proofs.Common.{Name, as_component, components, drop, enumerate_from, filter_map, find, found, has_name, is_named, item_number, items_of, located, map, noted, option_map, option_or, repeats, repeats_after, ◌≡◌}
 use Rattle.adl_names.proofs.bodies.numbers.Given as goal
 
 abbrev pub invariant-loop-number : goal.invariant-loop-number

@@ -1,4 +1,4 @@
-use Rattle.adl_names.proofs.Common.{◌≡◌, ◌+◌, ◌++◌, drop, flat_map, filter_map, noted, held_as, known_in, owner_of, misfits_in_composition, unled_end, unled_ends, as_connection}
+use Rattle.adl_names.proofs.Common.{as_connection, drop, filter_map, flat_map, held_as, known_in, misfits_in_composition, noted, owner_of, unled_end, unled_ends, ◌++◌, ◌+◌, ◌≡◌}
 use Rattle.adl_names.proofs.exports.note_composition.Given as goal
 
 abbrev pub invariant-loop-line : goal.invariant-loop-line

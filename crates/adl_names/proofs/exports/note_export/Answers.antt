@@ -1,4 +1,5 @@
-use Rattle.adl_names.proofs.Common.{Bor, Export, Fault, Held, Known, List, Name, Option, Port, bytes_eq, export_fault, held_as, inner_of, is_among, is_misfit, is_port, is_port_among, known_in, misfits_after, noted, noted-append, owner_of, port_of, rules, where_true, ℕ, ◌||◌, ◌∷◌, ◌≡◌}
+use Rattle.adl_names.proofs.Common.{Bor, Export, Fault, Held, Known, List, Name, Option, Port, bytes_eq, export_fault, held_as, is_among, is_misfit, is_port, is_port_among, known_in, misfits_after, noted, noted-append, owner_of, port_of, rules, where_true, ℕ, ◌||◌, ◌∷◌, ◌≡◌}
+use Rattle.adl_meaning.specs.Export.{inner_of}
 use Rattle.adl_names.proofs.exports.note_export.Goals as goal
 
 -- an export, and then those behind it

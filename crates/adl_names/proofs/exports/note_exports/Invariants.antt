@@ -1,4 +1,4 @@
-use Rattle.adl_names.proofs.Common.{◌≡◌, drop, false, filter_map, misfits_after, noted, held_as, as_export, known_in, owner_of, misfits_from}
+use Rattle.adl_names.proofs.Common.{as_export, drop, false, filter_map, held_as, known_in, misfits_after, misfits_from, noted, owner_of, ◌≡◌}
 use Rattle.adl_names.proofs.exports.note_exports.Given as goal
 
 abbrev pub invariant-loop-line : goal.invariant-loop-line

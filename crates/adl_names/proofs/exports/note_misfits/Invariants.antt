@@ -1,4 +1,5 @@
-use Rattle.adl_names.proofs.Common.{◌≡◌, ◌+◌, ◌++◌, drop, map, Some, flat_map, items_of, misfits_in_composition, misfits_in_item, noted, known_in, known_of, item_of}
+use Rattle.adl_names.proofs.Common.{Some, drop, flat_map, items_of, known_in, known_of, map, misfits_in_composition, misfits_in_item, noted, ◌++◌, ◌+◌, ◌≡◌}
+use Rattle.adl_names.specs.Bodies.{item_of}
 use Rattle.adl_names.proofs.exports.note_misfits.Given as goal
 
 abbrev pub invariant-loop-body : goal.invariant-loop-body

@@ -1,4 +1,5 @@
-use Rattle.adl_names.proofs.Common.{Bool, Name, None, Some, ap, arith, as_port, bytes_eq, bytes_eq-sym, common_steps, cond, inner_of, interface_at, is_port, is_port_among, is_some, known_in, nat_eq, nat_tests, option_map, sym, true, ℕ, ◌&&◌, ◌||◌, ◌∙◌, ◌≡◌}
+use Rattle.adl_names.proofs.Common.{Bool, Name, None, Some, ap, arith, as_port, bytes_eq, bytes_eq-sym, common_steps, cond, interface_at, is_port, is_port_among, is_some, known_in, nat_eq, nat_tests, option_map, sym, true, ℕ, ◌&&◌, ◌||◌, ◌∙◌, ◌≡◌}
+use Rattle.adl_meaning.specs.Export.{inner_of}
 use Rattle.adl_names.proofs.exports.take.Goals as goal
 
 or_from_keys : (f g : ℕ) (m n : Name) (rest : Bool) → cond (nat_eq f g && bytes_eq m n) true rest ≡ (rest || (nat_eq g f && bytes_eq n m))

@@ -1,4 +1,5 @@
-use Rattle.adl_names.proofs.Common.{◌≡◌, ◌+◌, ◌++◌, drop, map, flat_map, items_of, misplaced_in_item, misplaced_member, noted, item_of}
+use Rattle.adl_names.proofs.Common.{drop, flat_map, items_of, map, misplaced_in_item, misplaced_member, noted, ◌++◌, ◌+◌, ◌≡◌}
+use Rattle.adl_names.specs.Bodies.{item_of}
 use Rattle.adl_names.proofs.misplaced.note_misplaced.Given as goal
 
 abbrev pub invariant-loop-body : goal.invariant-loop-body

@@ -1,4 +1,5 @@
-use Rattle.adl_names.proofs.Common.{◌∙◌, append_assoc, ap, bytes_eq, cond, get, insert_entry, insert_entry-new, is_none, map-append, Some, found_put, sym}
+use Rattle.adl_names.proofs.Common.{Some, ap, append_assoc, bytes_eq, cond, found_put, get, insert_entry, insert_entry-new, map-append, sym, ◌∙◌}
+use Rattle.cam_base.proofs.Options.{is_none}
 use Rattle.adl_names.proofs.names.add_place.Goals as goal
 
 pub returns-in_ok-insert-clause-first : goal.returns-in_ok-insert-clause-first

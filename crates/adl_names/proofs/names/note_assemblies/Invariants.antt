@@ -1,4 +1,4 @@
-use Rattle.adl_names.proofs.Common.{◌≡◌, [], ◌++◌, cond, drop, map, noted, located, at_keyword, none_of, second_of}
+use Rattle.adl_names.proofs.Common.{[], at_keyword, cond, drop, located, map, none_of, noted, second_of, ◌++◌, ◌≡◌}
 use Rattle.cam_base.specs.declared.code.Code.TheVariants as code
 use Rattle.adl_names.proofs.names.note_assemblies.Given as goal
 

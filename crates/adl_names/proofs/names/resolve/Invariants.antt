@@ -1,4 +1,4 @@
-use Rattle.adl_names.proofs.Common.{◌≡◌, ◌++◌, drop, map, option_map, located, Name, Rises, as_component, as_procedure, component_named, procedure_named, first_place, table_places}
+use Rattle.adl_names.proofs.Common.{Name, Rises, as_component, as_procedure, component_named, drop, first_place, located, map, option_map, procedure_named, table_places, ◌++◌, ◌≡◌}
 use Rattle.adl_names.proofs.Rising.{places}
 use Rattle.adl_names.proofs.names.resolve.Given as goal
 

@@ -1,4 +1,4 @@
-use Rattle.adl_names.proofs.Common.{◌≡◌, ◌+◌, ◌++◌, ◌∷◌, drop, filter_map, found, graph_of, pointed, trees}
+use Rattle.adl_names.proofs.Common.{drop, filter_map, found, graph_of, pointed, trees, ◌++◌, ◌+◌, ◌∷◌, ◌≡◌}
 use Rattle.adl_names.proofs.recursion.graph_of.Given as goal
 
 abbrev pub invariant-loop-x : goal.invariant-loop-x

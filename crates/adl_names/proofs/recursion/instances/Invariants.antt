@@ -1,4 +1,4 @@
-use Rattle.adl_names.proofs.Common.{◌≡◌, ◌+◌, drop, ◌++◌, flat_map, filter_map, pointed, instances_by, instances_in, as_composition}
+use Rattle.adl_names.proofs.Common.{as_composition, drop, filter_map, flat_map, instances_by, instances_in, pointed, ◌++◌, ◌+◌, ◌≡◌}
 use Rattle.adl_names.proofs.recursion.instances.Given as goal
 
 abbrev pub invariant-loop-member : goal.invariant-loop-member

@@ -1,4 +1,4 @@
-use Rattle.adl_names.proofs.Common.{◌≡◌, ◌+◌, ◌++◌, drop, flat_map, enumerate_from, found, noted, pointed, recursive_in, recursive_instance, recursive_types, trees}
+use Rattle.adl_names.proofs.Common.{drop, enumerate_from, flat_map, found, noted, pointed, recursive_in, recursive_instance, recursive_types, trees, ◌++◌, ◌+◌, ◌≡◌}
 use Rattle.adl_names.proofs.recursion.note_recursive.Given as goal
 
 abbrev pub invariant-loop-i : goal.invariant-loop-i

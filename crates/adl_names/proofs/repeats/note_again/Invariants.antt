@@ -1,4 +1,4 @@
-use Rattle.adl_names.proofs.Common.{◌≡◌, ◌++◌, cond, drop, map, filter_map, noted, again, at_keyword, as_composition, as_configuration, compositions, configurations}
+use Rattle.adl_names.proofs.Common.{again, as_composition, as_configuration, at_keyword, compositions, cond, configurations, drop, filter_map, map, noted, ◌++◌, ◌≡◌}
 use Rattle.cam_base.specs.declared.code.Code.TheVariants as code
 use Rattle.adl_names.proofs.repeats.note_again.Given as goal
 

@@ -1,4 +1,4 @@
-use Rattle.adl_names.proofs.Common.{◌≡◌, ◌+◌, ◌++◌, drop, map, filter_map, flat_map, as_method, noted, has_name, repeats, repeats_after, repeated_params, duplicates_in_procedure}
+use Rattle.adl_names.proofs.Common.{as_method, drop, duplicates_in_procedure, filter_map, flat_map, has_name, map, noted, repeated_params, repeats, repeats_after, ◌++◌, ◌+◌, ◌≡◌}
 use Rattle.adl_names.proofs.repeats.note_procedure.Given as goal
 
 abbrev pub invariant-loop-member : goal.invariant-loop-member

@@ -1,4 +1,5 @@
-use Rattle.adl_names.proofs.Common.{◌≡◌, ◌++◌, Held, Id, List, Name, as_held, drop, held_by, holding_told, map, naming, noting}
+use Rattle.adl_names.proofs.Common.{Held, Id, List, Name, as_held, drop, held_by, holding_told, map, naming, ◌++◌, ◌≡◌}
+use Rattle.adl_names.specs.Tables.{noting}
 use Rattle.adl_names.proofs.tables.add_line.Given as goal
 
 abbrev pub invariant-loop-instance : goal.invariant-loop-instance

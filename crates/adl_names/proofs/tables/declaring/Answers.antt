@@ -1,4 +1,4 @@
-use Rattle.adl_names.proofs.Common.{◌∙◌, ◌+◌, declared_by, drop, drop_first, flat_map}
+use Rattle.adl_names.proofs.Common.{declared_by, drop, drop_first, flat_map, ◌+◌, ◌∙◌}
 use Rattle.adl_names.proofs.tables.declaring.Goals as goal
 
 pub loop-member-preserved : goal.loop-member-preserved

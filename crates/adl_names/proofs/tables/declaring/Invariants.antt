@@ -1,4 +1,5 @@
-use Rattle.adl_names.proofs.Common.{◌≡◌, Name, declared_as, declared_by, declared_in, declaring_told, drop, flat_map, map, naming, noted, noting, repeats}
+use Rattle.adl_names.proofs.Common.{Name, declared_as, declared_by, declared_in, declaring_told, drop, flat_map, map, naming, noted, repeats, ◌≡◌}
+use Rattle.adl_names.specs.Tables.{noting}
 use Rattle.adl_names.proofs.tables.declaring.Given as goal
 
 abbrev pub invariant-loop-member : goal.invariant-loop-member

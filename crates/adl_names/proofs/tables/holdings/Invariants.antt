@@ -1,4 +1,4 @@
-use Rattle.adl_names.proofs.Common.{◌≡◌, drop, ◌++◌, filter_map, flat_map, noted, as_composition, duplicates_in_composition}
+use Rattle.adl_names.proofs.Common.{as_composition, drop, duplicates_in_composition, filter_map, flat_map, noted, ◌++◌, ◌≡◌}
 use Rattle.adl_names.proofs.tables.holdings.Given as goal
 
 abbrev pub invariant-loop-member : goal.invariant-loop-member

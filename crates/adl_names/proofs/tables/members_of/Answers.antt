@@ -1,4 +1,4 @@
-use Rattle.adl_names.proofs.Common.{◌≡◌, ap, arith, common_steps, member_of, members_told}
+use Rattle.adl_names.proofs.Common.{ap, arith, common_steps, member_of, members_told, ◌≡◌}
 use Rattle.adl_meaning.specs.Holding as holding
 use Rattle.adl_names.proofs.tables.members_of.Goals as goal
 

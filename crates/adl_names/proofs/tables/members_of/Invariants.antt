@@ -1,4 +1,4 @@
-use Rattle.adl_names.proofs.Common.{◌≡◌, drop, find, bytes_eq, option_or, Name, member_of, members_told}
+use Rattle.adl_names.proofs.Common.{Name, bytes_eq, drop, find, member_of, members_told, option_or, ◌≡◌}
 use Rattle.adl_names.proofs.tables.members_of.Given as goal
 
 abbrev pub invariant-loop-instance : goal.invariant-loop-instance

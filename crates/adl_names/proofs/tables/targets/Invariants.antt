@@ -1,4 +1,4 @@
-use Rattle.adl_names.proofs.Common.{◌≡◌, drop, ◌||◌, filter_map, as_export, Name, is_among, is_target}
+use Rattle.adl_names.proofs.Common.{Name, as_export, drop, filter_map, is_among, is_target, ◌||◌, ◌≡◌}
 use Rattle.adl_names.proofs.tables.targets.Given as goal
 
 abbrev pub invariant-loop-line : goal.invariant-loop-line

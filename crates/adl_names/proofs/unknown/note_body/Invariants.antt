@@ -1,4 +1,4 @@
-use Rattle.adl_names.proofs.Common.{◌≡◌, drop, flat_map, filter_map, noted, known_in, known_of, as_composition, unknown_in_member, is_procedure}
+use Rattle.adl_names.proofs.Common.{as_composition, drop, filter_map, flat_map, is_procedure, known_in, known_of, noted, unknown_in_member, ◌≡◌}
 use Rattle.adl_names.proofs.unknown.note_body.Given as goal
 
 abbrev pub invariant-loop-member : goal.invariant-loop-member

@@ -1,4 +1,4 @@
-use Rattle.adl_names.proofs.Common.{◌≡◌, ◌+◌, ◌++◌, drop, flat_map, noted, held_as, known_in, owner_of, unknown_in_composition, unknown_in_line, unknown_type, unknown_in_dotted}
+use Rattle.adl_names.proofs.Common.{drop, flat_map, held_as, known_in, noted, owner_of, unknown_in_composition, unknown_in_dotted, unknown_in_line, unknown_type, ◌++◌, ◌+◌, ◌≡◌}
 use Rattle.adl_names.proofs.unknown.note_composition.Given as goal
 
 abbrev pub invariant-loop-line : goal.invariant-loop-line

@@ -1,4 +1,4 @@
-use Rattle.adl_names.proofs.Common.{◌≡◌, drop, flat_map, noted, known_in, owner_of, scope_told, unknown_in_one_setting}
+use Rattle.adl_names.proofs.Common.{drop, flat_map, known_in, noted, owner_of, scope_told, unknown_in_one_setting, ◌≡◌}
 use Rattle.adl_names.proofs.unknown.note_configuration.Given as goal
 
 abbrev pub invariant-loop-setting : goal.invariant-loop-setting

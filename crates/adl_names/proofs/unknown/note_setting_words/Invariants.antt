@@ -1,4 +1,4 @@
-use Rattle.adl_names.proofs.Common.{◌≡◌, length, noted, known_in, scope_told, unknown_in_setting}
+use Rattle.adl_names.proofs.Common.{known_in, length, noted, scope_told, unknown_in_setting, ◌≡◌}
 use Rattle.adl_names.proofs.unknown.note_setting_words.Given as goal
 
 abbrev pub invariant-loop-rest : goal.invariant-loop-rest

@@ -1,4 +1,5 @@
-use Rattle.adl_names.proofs.Common.{◌≡◌, drop, map, flat_map, items_of, noted, known_in, unknown_in_item, is_procedure, item_of}
+use Rattle.adl_names.proofs.Common.{drop, flat_map, is_procedure, items_of, known_in, map, noted, unknown_in_item, ◌≡◌}
+use Rattle.adl_names.specs.Bodies.{item_of}
 use Rattle.adl_names.proofs.unknown.note_unknown.Given as goal
 
 abbrev pub invariant-loop-body : goal.invariant-loop-body

@@ -1,6 +1,4 @@
-use Rattle.adl_settings.proofs.Common.{◌≡◌, ◌<◌, ◌^◌, drop}
-use Rattle.adl_meaning.specs.Prelude.{digits_value}
-use Rattle.std.specs.Str.Parse.{digits_value_after}
+use Rattle.adl_settings.proofs.Common.{digits_value, digits_value_after, drop, ◌<◌, ◌^◌, ◌≡◌}
 use Rattle.adl_settings.proofs.allowed.digits_value.Given as goal
 
 abbrev pub invariant-loop-digit : goal.invariant-loop-digit

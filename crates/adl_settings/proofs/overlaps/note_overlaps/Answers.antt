@@ -1,4 +1,4 @@
-use Rattle.adl_settings.proofs.Common.{◌∙◌, ap, map, flat_map, noted, overlap_at}
+use Rattle.adl_settings.proofs.Common.{ap, flat_map, map, noted, overlap_at, ◌∙◌}
 use Rattle.adl_settings.specs.declared.overlaps.DeviceRegion.{DeviceRegion}
 use Rattle.adl_settings.proofs.overlaps.note_overlaps.Goals as goal
 

@@ -1,4 +1,4 @@
-use Rattle.adl_settings.proofs.Common.{◌≡◌, drop, flat_map, noted, overlap_at, overlaps}
+use Rattle.adl_settings.proofs.Common.{drop, flat_map, noted, overlap_at, overlaps, ◌≡◌}
 use Rattle.adl_settings.proofs.overlaps.note_overlaps.Given as goal
 
 abbrev pub invariant-loop-region : goal.invariant-loop-region

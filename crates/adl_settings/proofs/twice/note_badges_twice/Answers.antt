@@ -1,4 +1,4 @@
-use Rattle.adl_settings.proofs.Common.{◌∙◌, ◌+◌, ◌++◌, sym, ap, drop, drop_first, flat_map, noted, badge_twice_at, badges_twice_in, is_repeated}
+use Rattle.adl_settings.proofs.Common.{ap, badge_twice_at, badges_twice_in, drop, drop_first, flat_map, is_repeated, noted, sym, ◌++◌, ◌+◌, ◌∙◌}
 use Rattle.adl_settings.proofs.twice.note_badges_twice.Goals as goal
 
 pub loop-end-init : goal.loop-end-init

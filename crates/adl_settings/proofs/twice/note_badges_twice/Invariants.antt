@@ -1,4 +1,4 @@
-use Rattle.adl_settings.proofs.Common.{◌≡◌, ◌+◌, ◌++◌, drop, flat_map, noted, badge_twice_at, badges_twice_in, is_marked}
+use Rattle.adl_settings.proofs.Common.{badge_twice_at, badges_twice_in, drop, flat_map, is_marked, noted, ◌++◌, ◌+◌, ◌≡◌}
 use Rattle.adl_settings.proofs.twice.note_badges_twice.Given as goal
 
 abbrev pub invariant-loop-connection : goal.invariant-loop-connection

@@ -1,4 +1,4 @@
-use Rattle.adl_settings.proofs.Common.{◌≡◌, drop, flat_map, noted, map, irq_twice_at, irqs_twice, is_repeated}
+use Rattle.adl_settings.proofs.Common.{drop, flat_map, irq_twice_at, irqs_twice, is_repeated, map, noted, ◌≡◌}
 use Rattle.adl_settings.proofs.twice.note_irqs_twice.Given as goal
 
 abbrev pub invariant-loop-irq : goal.invariant-loop-irq

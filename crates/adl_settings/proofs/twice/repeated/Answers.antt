@@ -1,8 +1,5 @@
-use Rattle.adl_settings.proofs.Common.{arith, nat_eq, get_or}
+use Rattle.adl_settings.proofs.Common.{arith, count_by_more_no, count_by_more_yes, get_or, nat_eq, nat_tests, take_all}
 use Rattle.adl_settings.specs.Repeated.{is_marked}
-use Rattle.std.proofs.lemmas.Bool.Decides.{nat_tests}
-use Rattle.std.proofs.lemmas.List.{take_all}
-use Rattle.std.proofs.lemmas.List.Sums.{count_by_more_yes, count_by_more_no}
 use Rattle.adl_settings.proofs.twice.repeated.Goals as goal
 
 pub loop-number-preserved : goal.loop-number-preserved

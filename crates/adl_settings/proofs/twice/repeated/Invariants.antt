@@ -1,5 +1,4 @@
-use Rattle.adl_settings.proofs.Common.{◌≡◌, ℕ, Some, None, take, count_by, nat_eq, nat_le, cond}
-use Rattle.adl_meaning.specs.Prelude.{lookup}
+use Rattle.adl_settings.proofs.Common.{None, Some, cond, count_by, lookup, nat_eq, nat_le, take, ℕ, ◌≡◌}
 use Rattle.adl_settings.proofs.twice.repeated.Given as goal
 
 abbrev pub invariant-loop-number : goal.invariant-loop-number

@@ -1,4 +1,4 @@
-use Rattle.adl_settings.proofs.Common.{◌≡◌, drop, map, ◌++◌, end_settings}
+use Rattle.adl_settings.proofs.Common.{drop, end_settings, map, ◌++◌, ◌≡◌}
 use Rattle.adl_settings.proofs.value_faults.connection_settings.Given as goal
 
 abbrev pub invariant-loop-connection : goal.invariant-loop-connection

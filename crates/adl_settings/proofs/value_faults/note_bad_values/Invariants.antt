@@ -1,4 +1,4 @@
-use Rattle.adl_settings.proofs.Common.{◌≡◌, ◌+◌, ◌++◌, drop, flat_map, noted, bad_in_leaf, bad_at_end, bad_in_connection, bad_values}
+use Rattle.adl_settings.proofs.Common.{bad_at_end, bad_in_connection, bad_in_leaf, bad_values, drop, flat_map, noted, ◌++◌, ◌+◌, ◌≡◌}
 use Rattle.adl_settings.proofs.value_faults.note_bad_values.Given as goal
 
 abbrev pub invariant-loop-leaf : goal.invariant-loop-leaf

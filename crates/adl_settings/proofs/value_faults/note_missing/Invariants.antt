@@ -1,4 +1,4 @@
-use Rattle.adl_settings.proofs.Common.{◌≡◌, ◌+◌, ◌++◌, drop, flat_map, noted}
+use Rattle.adl_settings.proofs.Common.{drop, flat_map, noted, ◌++◌, ◌+◌, ◌≡◌}
 use Rattle.adl_settings.specs.Missing.{missing_at, missing_in, missing_values}
 use Rattle.adl_settings.proofs.value_faults.note_missing.Given as goal
 

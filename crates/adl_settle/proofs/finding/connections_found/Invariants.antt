@@ -1,5 +1,4 @@
-use Rattle.adl_settings.proofs.Common.{◌≡◌, drop, map, ◌++◌, found_on, founds_in}
-use Rattle.adl_settle.specs.Lookups.{IsRemembered}
+use Rattle.adl_settle.proofs.Common.{IsRemembered, drop, found_on, founds_in, map, ◌++◌, ◌≡◌}
 use Rattle.adl_settle.proofs.finding.connections_found.Given as goal
 
 abbrev pub invariant-loop-connection : goal.invariant-loop-connection

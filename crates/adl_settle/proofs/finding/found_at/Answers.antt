@@ -1,4 +1,4 @@
-use Rattle.adl_settings.proofs.Common.{◌∙◌, ap, codes, where_set, value_of}
+use Rattle.adl_settle.proofs.Common.{ap, codes, value_of, where_set, ◌∙◌}
 use Rattle.adl_settle.proofs.finding.found_at.Goals as goal
 
 pub returns-clause-value : goal.returns-clause-value

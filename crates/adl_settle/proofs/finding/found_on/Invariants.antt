@@ -1,5 +1,4 @@
-use Rattle.adl_settings.proofs.Common.{◌≡◌, ◌≤◌, drop, ◌++◌, filter_map, positioned_after, found_of, found_on}
-use Rattle.adl_settle.specs.Lookups.{IsRemembered}
+use Rattle.adl_settle.proofs.Common.{IsRemembered, drop, filter_map, found_of, found_on, positioned_after, ◌++◌, ◌≡◌, ◌≤◌}
 use Rattle.adl_settle.proofs.finding.found_on.Given as goal
 
 abbrev pub invariant-loop-end : goal.invariant-loop-end

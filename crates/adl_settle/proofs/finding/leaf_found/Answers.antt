@@ -1,4 +1,4 @@
-use Rattle.adl_settings.proofs.Common.{◌∙◌, sym, not, codes, value_at, where_set}
+use Rattle.adl_settle.proofs.Common.{codes, not, sym, value_at, where_set, ◌∙◌}
 use Rattle.adl_settle.proofs.finding.leaf_found.Goals as goal
 
 pub returns-clause-found : goal.returns-clause-found

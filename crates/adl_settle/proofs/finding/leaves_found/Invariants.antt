@@ -1,5 +1,4 @@
-use Rattle.adl_settings.proofs.Common.{◌≡◌, drop, map, ◌++◌, leaf_found, leaves_found}
-use Rattle.adl_settle.specs.Lookups.{IsRemembered}
+use Rattle.adl_settle.proofs.Common.{IsRemembered, drop, leaf_found, leaves_found, map, ◌++◌, ◌≡◌}
 use Rattle.adl_settle.proofs.finding.leaves_found.Given as goal
 
 abbrev pub invariant-loop-leaf : goal.invariant-loop-leaf

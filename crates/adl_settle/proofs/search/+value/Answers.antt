@@ -1,6 +1,5 @@
-use Rattle.adl_settings.proofs.Common.{◌∙◌, sym, ap, arith, length-take, top_number, option_copied}
-use Rattle.adl_settle.specs.Lookups.{remembered}
-use Rattle.adl_settle.proofs.ValueSteps.{at-next, step-found, step-none, remembered_more}
+use Rattle.adl_settle.proofs.Common.{ap, arith, length-take, option_copied, remembered, sym, top_number, ◌∙◌}
+use Rattle.adl_settle.proofs.ValueSteps.{at-next, remembered_more, step-found, step-none}
 use Rattle.adl_settle.proofs.search.+value.Goals as goal
 
 pub referred-returns-in-Some-clause-value : goal.referred-returns-in-Some-clause-value

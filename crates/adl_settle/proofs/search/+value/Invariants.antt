@@ -1,6 +1,4 @@
-use Rattle.adl_settings.proofs.Common.{◌≡◌, ◌<◌, ◌+◌, ◌*◌, ℕ, length, take, None, top_number, at, set_within}
-use Rattle.adl_settle.specs.Lookups.{IsRemembered}
-use Rattle.std.proofs.Common.{min}
+use Rattle.adl_settle.proofs.Common.{IsRemembered, None, at, length, min, set_within, take, top_number, ℕ, ◌*◌, ◌+◌, ◌<◌, ◌≡◌}
 use Rattle.adl_settle.proofs.search.+value.Given as goal
 
 abbrev pub decreases-referred : goal.decreases-referred

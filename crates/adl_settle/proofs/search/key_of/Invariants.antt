@@ -1,5 +1,4 @@
-use Rattle.adl_settings.proofs.Common.{◌≡◌, drop, ◌++◌}
-use Rattle.adl_items.specs.Pointed.{pointed}
+use Rattle.adl_settle.proofs.Common.{drop, pointed, ◌++◌, ◌≡◌}
 use Rattle.adl_settle.proofs.search.key_of.Given as goal
 
 abbrev pub invariant-loop-part : goal.invariant-loop-part

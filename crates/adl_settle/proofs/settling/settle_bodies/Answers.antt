@@ -1,5 +1,6 @@
-use Rattle.adl_settings.proofs.Common.{◌≡◌, ◌∙◌, None, sym, ap, subst, Option, Fault, Refuses, Source, Flat, noted, least, flat_of, Hierarchy, hierarchy_of, noted-append, noted-none, founds_in, settings_twice, leaves_found}
-use Rattle.adl_settings.specs.SettingFaults.{setting_faults_in, value_faults, first_setting_fault}
+use Rattle.adl_settle.proofs.Common.{Fault, Hierarchy, None, Option, Refuses, Source, ap, flat_of, founds_in, hierarchy_of, least, leaves_found, noted, noted-append, noted-none, settings_twice, subst, sym, ◌∙◌, ◌≡◌}
+use Rattle.adl_meaning.specs.declared.flat.Flat.{Flat}
+use Rattle.adl_settings.specs.SettingFaults.{first_setting_fault, setting_faults_in, value_faults}
 use Rattle.adl_settle.proofs.settling.settle_bodies.Goals as goal
 
 -- the first fault of all that is noted

@@ -1,6 +1,4 @@
-use Rattle.adl_settings.proofs.Common.{◌≡◌, drop, ◌++◌, ◌∷◌, [], Id, path_of}
-use Rattle.adl_items.specs.Pointed.{pointed}
-use Rattle.adl_settle.specs.Lookups.{path_from}
+use Rattle.adl_settle.proofs.Common.{Id, [], drop, path_from, path_of, pointed, ◌++◌, ◌∷◌, ◌≡◌}
 use Rattle.adl_settle.proofs.tables.key_in.Given as goal
 
 abbrev pub invariant-loop-word : goal.invariant-loop-word

@@ -1,6 +1,5 @@
-use Rattle.adl_settings.proofs.Common.{noted-append, ◌∙◌, length, sym, ap, arith}
-use Rattle.adl_settle.specs.Lookups.{IsTable}
-use Rattle.adl_settle.proofs.TableSteps.{each_more, each_or, body-behind, setting_of-same, bodies_next}
+use Rattle.adl_settle.proofs.Common.{IsTable, ap, arith, length, noted-append, sym, ◌∙◌}
+use Rattle.adl_settle.proofs.TableSteps.{bodies_next, body-behind, each_more, each_or, setting_of-same}
 use Rattle.adl_settle.proofs.tables.setting_tables.Goals as goal
 
 pub loop-number-preserved : goal.loop-number-preserved

@@ -1,6 +1,4 @@
-use Rattle.adl_settings.proofs.Common.{◌≡◌, ◌<◌, ℕ, length, get_or, drop, flat_map, enumerate_from, noted, repeated_in, settings_twice}
-use Rattle.adl_settle.specs.Lookups.{IsTable}
-use Rattle.adl_settle.specs.declared.tables.SettingTable.{SettingTable}
+use Rattle.adl_settle.proofs.Common.{IsTable, SettingTable, drop, enumerate_from, flat_map, get_or, length, noted, repeated_in, settings_twice, ℕ, ◌<◌, ◌≡◌}
 use Rattle.adl_settle.proofs.TableSteps.{all_bodies}
 use Rattle.adl_settle.proofs.tables.setting_tables.Given as goal
 

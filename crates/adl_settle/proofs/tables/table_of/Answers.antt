@@ -1,6 +1,4 @@
-use Rattle.cam_base.proofs.Options.{option_or-cond}
-use Rattle.adl_settings.proofs.Common.{drop_first, arith, ◌≡◌, None, Path, ◌∙◌, ◌++◌, ◌∷◌, [], ap, sets, settings_of, find, option_or, is_some, noted, repeated_after}
-use Rattle.adl_settle.specs.Lookups.{setting_found}
+use Rattle.adl_settle.proofs.Common.{None, Path, [], ap, arith, drop_first, find, is_some, noted, option_or, option_or-cond, repeated_after, sets, setting_found, settings_of, ◌++◌, ◌∙◌, ◌∷◌, ◌≡◌}
 use Rattle.adl_settle.proofs.SettingKeys.{found_none}
 use Rattle.adl_settle.proofs.TableSteps.{twice_more}
 use Rattle.adl_settle.proofs.tables.table_of.Goals as goal

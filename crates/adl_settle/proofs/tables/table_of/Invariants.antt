@@ -1,5 +1,4 @@
-use Rattle.adl_settings.proofs.Common.{◌≡◌, drop, ◌++◌, ◌∷◌, [], is_some, find, option_or, noted, Name, Path, body, sets, setting_of, repeated_after, repeated_in}
-use Rattle.adl_settle.specs.Lookups.{setting_found}
+use Rattle.adl_settle.proofs.Common.{Name, Path, [], body, drop, find, is_some, noted, option_or, repeated_after, repeated_in, sets, setting_found, setting_of, ◌++◌, ◌∷◌, ◌≡◌}
 use Rattle.adl_settle.proofs.tables.table_of.Given as goal
 
 abbrev pub invariant-loop-setting : goal.invariant-loop-setting

@@ -1,5 +1,4 @@
-use Rattle.adl_templates.proofs.Common.{Body, Part, ap, arith, drop, length, order_below, take_at, ◌-◌, ◌<◌, ◌∙◌, ◌≡◌}
-use Rattle.std.proofs.lemmas.List.Elements.{All-same}
+use Rattle.adl_templates.proofs.Common.{All-same, Body, Part, ap, arith, drop, length, order_below, take_at, ◌-◌, ◌<◌, ◌∙◌, ◌≡◌}
 use Rattle.adl_templates.proofs.Filling.{kinds_in}
 use Rattle.adl_templates.proofs.Holding.{held_more}
 use Rattle.adl_templates.proofs.held.held_bodies.Goals as goal

@@ -1,5 +1,4 @@
-use Rattle.adl_templates.proofs.Common.{take}
-use Rattle.adl_templates.specs.AreTemplates.{AreHeld}
+use Rattle.adl_templates.proofs.Common.{AreHeld, take}
 use Rattle.adl_templates.proofs.held.held_bodies.Given as goal
 
 abbrev pub invariant-loop-left : goal.invariant-loop-left

@@ -1,4 +1,4 @@
-use Rattle.adl_templates.proofs.Placing.{template_leaves_placed, connections_placed, target_step}
+use Rattle.adl_templates.proofs.Placing.{connections_placed, target_step, template_leaves_placed}
 use Rattle.adl_templates.proofs.laws.templates_are_placed.Goals as goal
 
 pub returns : goal.returns

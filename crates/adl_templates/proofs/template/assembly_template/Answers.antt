@@ -1,9 +1,7 @@
-use Rattle.std.proofs.lemmas.List.{get_or_read}
-use Rattle.adl_templates.proofs.Common.{all_filled, arith, body, false, filled_more, get_or, inner_filled, length, order_below, refl, sym, true≢false, ◌∙◌}
-use Rattle.numbering.proofs.Lists.{read_in}
+use Rattle.adl_templates.proofs.Common.{all_filled, arith, body, false, filled_more, get_or, get_or_read, inner_filled, length, order_below, read_in, refl, sym, true≢false, ◌∙◌}
 use Rattle.adl_templates.proofs.Filling.{IsHeldTemplate, kinds_in}
+use Rattle.adl_templates.proofs.template.assembly_template.Goals.{else-index, then-index+in_ok-template}
 use Rattle.adl_templates.proofs.template.assembly_template.Goals as goal
-use Rattle.adl_templates.proofs.template.assembly_template.Goals.{then-index+in_ok-template, else-index}
 
 pub index-requires : goal.index-requires
 index-requires c =

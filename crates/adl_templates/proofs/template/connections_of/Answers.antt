@@ -1,11 +1,8 @@
-use Rattle.adl_templates.proofs.Common.{All, Body, Part, ap, body, get_or, own_connections, read_place, template_connections, ◌+◌, ◌<◌, ◌^◌, ◌∙◌, ◌≡◌}
-use Rattle.adl_templates.proofs.Common.{connections_by}
-use Rattle.numbering.proofs.Gathered.{gather_turn}
-use Rattle.std.proofs.lemmas.List.Elements.{All-same}
+use Rattle.adl_templates.proofs.Common.{All, All-same, Body, Part, ap, body, connections_by, gather_turn, get_or, own_connections, read_place, template_connections, ◌+◌, ◌<◌, ◌^◌, ◌∙◌, ◌≡◌}
 use Rattle.adl_templates.proofs.Bounds.{connections_below}
 use Rattle.adl_templates.proofs.Filling.{IsInside, inside}
-use Rattle.adl_templates.proofs.template.connections_of.Goals as goal
 use Rattle.adl_templates.proofs.template.connections_of.Goals.{After-as_slice-inner}
+use Rattle.adl_templates.proofs.template.connections_of.Goals as goal
 
 here : (c : After-as_slice-inner) → IsInside c.args.program.now c.args.number c.args.all.now c.args.before.now c.loop-i.i c.part-item.result.kind
 here c =

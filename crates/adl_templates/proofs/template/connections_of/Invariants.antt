@@ -1,5 +1,4 @@
-use Rattle.adl_templates.proofs.Common.{body, connection_in, connections_by, drop, filter_map, map, own_connections, own_end, strung, take, wires_of, ◌++◌, ◌≡◌}
-use Rattle.numbering.specs.Gather.{gather}
+use Rattle.adl_templates.proofs.Common.{body, connection_in, connections_by, drop, filter_map, gather, map, own_connections, own_end, strung, take, wires_of, ◌++◌, ◌≡◌}
 use Rattle.adl_templates.proofs.template.connections_of.Given as goal
 
 abbrev pub invariant-loop-wire : goal.invariant-loop-wire

@@ -1,7 +1,7 @@
 use Rattle.adl_templates.proofs.Common.{ap, arith, option_map, sym, ◌∙◌}
 use Rattle.adl_templates.proofs.Filling.{IsPort, is_port, no_port}
-use Rattle.adl_templates.proofs.template.target_of.Goals as goal
 use Rattle.adl_templates.proofs.template.target_of.Goals.{In_ok-at}
+use Rattle.adl_templates.proofs.template.target_of.Goals as goal
 
 port : (c : In_ok-at) → IsPort c.args.program.now c.args.number c.args.all.now c.args.before.now c.args.words.now c.in_ok-part.interface.now c.in_ok-at.at
 port c = is_port c.args.program.now c.args.number c.args.all.now c.args.before.now c.args.words.now c.in_ok-part.part.now c.in_ok-part.interface.now c.in_ok-at.at _ c.requires.inner c.requires.before (sym c.port_in.ensures ∙ ap (option_map (λ p. (p.0.now, p.1.now))) c.in_ok-part.was) c.body.ensures (sym c.part.ensures ∙ c.in_ok-at.was)

@@ -1,5 +1,4 @@
-use Rattle.adl_templates.proofs.Common.{Name, drop, export_named, filter_map, found, option_map, option_or, target_of, ◌≡◌}
-use Rattle.adl_meaning.specs.Prelude.{as_export}
+use Rattle.adl_templates.proofs.Common.{Name, as_export, drop, export_named, filter_map, found, option_map, option_or, target_of, ◌≡◌}
 use Rattle.adl_templates.proofs.template.targets_of.Given as goal
 
 abbrev pub invariant-loop-line : goal.invariant-loop-line

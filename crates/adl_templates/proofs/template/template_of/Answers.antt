@@ -1,5 +1,4 @@
-use Rattle.adl_templates.proofs.Common.{arith, body, flat_map, leaves_by, sym, ◌∙◌, ◌≡◌}
-use Rattle.std.proofs.lemmas.Grind.{common_steps}
+use Rattle.adl_templates.proofs.Common.{arith, body, common_steps, flat_map, leaves_by, sym, ◌∙◌, ◌≡◌}
 use Rattle.adl_templates.proofs.Placing.{connections_placed, template_leaves_placed}
 use Rattle.adl_templates.proofs.template.template_of.Goals as goal
 

@@ -1,4 +1,4 @@
-use Rattle.adl_types.proofs.Common.{None, body, drop, faults_below, flat_map, noted, option_map_or, size_faults, wire_faults, [], ◌++◌, ◌+◌, ◌≡◌}
+use Rattle.adl_types.proofs.Common.{None, [], body, drop, faults_below, flat_map, noted, option_map_or, size_faults, wire_faults, ◌++◌, ◌+◌, ◌≡◌}
 use Rattle.adl_types.proofs.faults.type_fault.Given as goal
 
 abbrev pub invariant-loop-number : goal.invariant-loop-number

@@ -1,4 +1,4 @@
-use Rattle.adl_names.proofs.Common.{arith, common_steps, drop_all, noted-append, ◌∙◌, map, ap, Item, ItemAt, component_at, items_of}
+use Rattle.adl_names.proofs.Common.{Item, ItemAt, ap, arith, common_steps, component_at, drop_all, items_of, map, noted-append, ◌∙◌}
 use Rattle.adl_names.proofs.BodyLists.{component_numbered}
 use Rattle.adl_names.proofs.bodies.SourceTables.of.Goals as goal
 

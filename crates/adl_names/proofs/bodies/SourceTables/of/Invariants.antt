@@ -1,4 +1,4 @@
-use Rattle.adl_names.proofs.Common.{◌≡◌, ◌||◌, drop, map, find, bytes_eq, located, repeats, repeats_after, noted, Name, has_name, is_some, is_procedure, procedures}
+use Rattle.adl_names.proofs.Common.{Name, bytes_eq, drop, find, has_name, is_procedure, is_some, located, map, noted, procedures, repeats, repeats_after, ◌||◌, ◌≡◌}
 use Rattle.adl_names.proofs.bodies.SourceTables.of.Given as goal
 
 abbrev pub invariant-loop-x : goal.invariant-loop-x

@@ -1,4 +1,5 @@
-use Rattle.adl_names.proofs.Common.{◌≡◌, Name, drop, duplicates_in_composition, flat_map, held_as, held_by, holding_told, naming, noted, noting}
+use Rattle.adl_names.proofs.Common.{Name, drop, duplicates_in_composition, flat_map, held_as, held_by, holding_told, naming, noted, ◌≡◌}
+use Rattle.adl_names.specs.Tables.{noting}
 use Rattle.adl_names.proofs.tables.Holding.of.Given as goal
 
 abbrev pub invariant-loop-line : goal.invariant-loop-line

@@ -1,6 +1,7 @@
-use Rattle.adl_settings.proofs.Common.{◌∙◌, sym, ap, is_some, is_none}
+use Rattle.adl_settle.proofs.Common.{ap, is_some, sym, ◌∙◌}
+use Rattle.cam_base.proofs.Options.{is_none}
 use Rattle.indexmap.proofs.CallerLemmas.{insert_entry-new}
-use Rattle.adl_settle.proofs.SettingKeys.{keyed, found_put, found_there}
+use Rattle.adl_settle.proofs.SettingKeys.{found_put, found_there, keyed}
 use Rattle.adl_settle.proofs.tables.SettingTable.add.Goals as goal
 
 pub returns-clause-found : goal.returns-clause-found
