@@ -103,11 +103,11 @@ met_more root files file =
     (flat_map-append (meetings_of root) files (file ∷ []) ∙ ap (λ (l : List Meeting). flat_map (meetings_of root) files ++ l) (append-nil (meetings_of root file)))
 
 -- what is known after turns is what their files meet
-pub turns_meet : (contents : Option Contents) (root : List ℕ) (files : List SourceFile) (known : List Meeting) → Turns contents root files known → known ≡ met root files
-turns_meet contents root _ _ first = refl
-turns_meet contents root _ _ (next {files = files} {known = known} {after = after} {file = file} {place = place} turns at is taken) =
+pub turns_meet : (m : Contents) (root : List ℕ) (files : List SourceFile) (known : List Meeting) → Turns m root files known → known ≡ met root files
+turns_meet m root _ _ first = refl
+turns_meet m root _ _ (next {files = files} {known = known} {after = after} {file = file} {place = place} turns at is taken) =
     imports_firsts root file.name ((root, root_place) ∷ flat_map (meetings_of root) files) after (imports_of file.tree)
-    (subst (λ (l : List Meeting). take_imports root file.name l (imports_of file.tree) ≡ Ok after) (turns_meet contents root files known turns) taken)
+    (subst (λ (l : List Meeting). take_imports root file.name l (imports_of file.tree) ≡ Ok after) (turns_meet m root files known turns) taken)
     ∙ sym (met_more root files file)
 
 -- imports take no name away
@@ -185,10 +185,10 @@ leads_next files known after file place before at ext =
           ∙ ap (λ (l : List (List ℕ)). l ++ (names p.1 ++ names ext.more)) (sym (map-append (λ (f : SourceFile). f.name) files (file ∷ [])));
     }
 
-turns_lead : (contents : Option Contents) (root : List ℕ) (files : List SourceFile) (known : List Meeting) → Turns contents root files known → Leads files known
-turns_lead contents root _ _ first = record { more = root ∷ []; parts = refl }
-turns_lead contents root _ _ (next {files = files} {known = known} {after = after} {file = file} {place = place} turns at is taken) =
-    leads_next files known after file place (turns_lead contents root files known turns) at (imports_extend root file.name known after (imports_of file.tree) taken)
+turns_lead : (m : Contents) (root : List ℕ) (files : List SourceFile) (known : List Meeting) → Turns m root files known → Leads files known
+turns_lead m root _ _ first = record { more = root ∷ []; parts = refl }
+turns_lead m root _ _ (next {files = files} {known = known} {after = after} {file = file} {place = place} turns at is taken) =
+    leads_next files known after file place (turns_lead m root files known turns) at (imports_extend root file.name known after (imports_of file.tree) taken)
 
 no_more : {A : Type 0} (xs ys : List A) → length (xs ++ ys) ≡ length xs → xs ++ ys ≡ xs
 no_more [] [] e = refl
@@ -196,20 +196,20 @@ no_more [] (y ∷ ys) e = absurd (omega arith)
 no_more (x ∷ xs) ys e = ap (λ l. x ∷ l) (no_more xs ys (omega arith))
 
 -- there are no more files than names
-pub turns_within : (contents : Option Contents) (root : List ℕ) (files : List SourceFile) (known : List Meeting) → Turns contents root files known → length files ≤ length known
-turns_within contents root files known turns =
-    let l = turns_lead contents root files known turns in
+pub turns_within : (m : Contents) (root : List ℕ) (files : List SourceFile) (known : List Meeting) → Turns m root files known → length files ≤ length known
+turns_within m root files known turns =
+    let l = turns_lead m root files known turns in
     let e : length known ≡ length files + length l.more =
     sym (length-map known (λ m. m.0)) ∙ ap length l.parts ∙ length-append (file_names files) l.more ∙ ap (λ (n : ℕ). n + length l.more) (length-map files (λ f. f.name)) in
     omega arith
 
-turns_equation : (contents : Option Contents) (root : List ℕ) (files : List SourceFile) (known : List Meeting) → Turns contents root files known → length known ≡ length files
+turns_equation : (m : Contents) (root : List ℕ) (files : List SourceFile) (known : List Meeting) → Turns m root files known → length known ≡ length files
     → file_names files ≡ names (met root files)
-turns_equation contents root files known turns all =
-    let l = turns_lead contents root files known turns in
+turns_equation m root files known turns all =
+    let l = turns_lead m root files known turns in
     let lengths : length (file_names files ++ l.more) ≡ length (file_names files) =
     sym (ap length l.parts) ∙ length-map known (λ m. m.0) ∙ all ∙ sym (length-map files (λ f. f.name)) in
-    sym (l.parts ∙ no_more (file_names files) l.more lengths) ∙ ap names (turns_meet contents root files known turns)
+    sym (l.parts ∙ no_more (file_names files) l.more lengths) ∙ ap names (turns_meet m root files known turns)
 
 -- a first meeting is a meeting
 known_sub_step : (a name : List ℕ) (m : Meeting) (os ms : List Meeting) (c : Bool) → (is_known os name ≡ true → is_known ms name ≡ true) → is_known (cond c (m ∷ os) os) name ≡ true
@@ -280,17 +280,17 @@ reached_next root files before after last file place earlier at e some = elim (s
     newest [] some l place h = absurd (omega arith)
     newest (x ∷ xs) some l place h = given_at root (flat_map (meetings_of root) (x ∷ xs)) (length xs) (l.name, place) h
 
-turns_reach : (contents : Option Contents) (root : List ℕ) (files : List SourceFile) (known : List Meeting) → Turns contents root files known
+turns_reach : (m : Contents) (root : List ℕ) (files : List SourceFile) (known : List Meeting) → Turns m root files known
     → (before after : List SourceFile) (file : SourceFile) → files ≡ before ++ file ∷ after → 0 < length before → IsTrue (is_known (flat_map (meetings_of root) before) file.name)
-turns_reach contents root _ _ first [] after file e some = absurd (omega arith)
-turns_reach contents root _ _ first (b ∷ bs) after file e some = absurd (cc)
-turns_reach contents root _ _ (next {files = files} {known = known} {file = last} {place = place} turns at is taken) before after file e some =
-    reached_next root files before after last file place (turns_reach contents root files known turns)
-    (subst (λ (l : List Meeting). slice_get l (length files) ≡ Some (last.name, place)) (turns_meet contents root files known turns) at) e some
+turns_reach m root _ _ first [] after file e some = absurd (omega arith)
+turns_reach m root _ _ first (b ∷ bs) after file e some = absurd (cc)
+turns_reach m root _ _ (next {files = files} {known = known} {file = last} {place = place} turns at is taken) before after file e some =
+    reached_next root files before after last file place (turns_reach m root files known turns)
+    (subst (λ (l : List Meeting). slice_get l (length files) ≡ Some (last.name, place)) (turns_meet m root files known turns) at) e some
 
 -- when no file is left, the files are the source
-pub turns_make : (contents : Option Contents) (root : List ℕ) (files : List SourceFile) (known : List Meeting) → Turns contents root files known → length known ≡ length files → IsSource root files
-turns_make contents root files known turns all = record {
-  equation = turns_equation contents root files known turns all;
-  reached = turns_reach contents root files known turns;
+pub turns_make : (m : Contents) (root : List ℕ) (files : List SourceFile) (known : List Meeting) → Turns m root files known → length known ≡ length files → IsSource root files
+turns_make m root files known turns all = record {
+  equation = turns_equation m root files known turns all;
+  reached = turns_reach m root files known turns;
 }

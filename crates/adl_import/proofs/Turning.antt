@@ -5,7 +5,6 @@ use Rattle.std.proofs.lemmas.List.{length-append}
 use Rattle.std.proofs.lemmas.Option.{slice_get_within, slice_get-get_or}
 use Rattle.std.specs.FinMap.{get}
 use Rattle.std.specs.List.{slice_get}
-use Rattle.std.specs.Option.{IfSome}
 use Rattle.std.specs.Result.{IsErr, IsErrAnd}
 use Rattle.std.specs.Str.{IsUtf8}
 use Rattle.cam_base.specs.declared.code.Code.TheVariants.{NoFile, Limit}
@@ -14,6 +13,7 @@ use Rattle.cam_base.specs.declared.place.Fault.{Fault}
 use Rattle.cam_base.specs.declared.place.Place.{Place}
 use Rattle.cam_base.specs.declared.token.Token.{Token}
 use Rattle.cam_io.specs.Contents.{Contents}
+use Rattle.cam_io.specs.Reading.{InAll, LearnsOnly}
 use Rattle.adl_ast.specs.declared.file.Import.{Import}
 use Rattle.adl_ast.specs.declared.source.SourceFile.{SourceFile}
 use Rattle.adl_ast.specs.Seeing.{see}
@@ -22,103 +22,75 @@ use Rattle.adl_lexer.specs.Lexes.{Lexes, IsFirstFault}
 use Rattle.adl_parse_decl.specs.Files.{IsFileIn}
 use Rattle.adl_import.specs.Imports.{imports_of, is_built_in, name_given}
 use Rattle.adl_import.specs.Sources.{Meeting, IsFileOf, is_known, root_place, file_limit, files_limit}
-use Rattle.adl_import.specs.Taking.{Each, AreUtf8, IsParsed, IsRead, IsTakenIn, IsTurn}
+use Rattle.adl_import.specs.Taking.{AlikeInNext, Each, AreUtf8, IsParsed, IsRead, IsTakenIn, IsTurn}
 use Rattle.adl_import.specs.Turns.{and_then, fault_at, meet, meet_given, take_import, take_imports, met_in, Turns, first, next, IsReadFault, absent, too_long, lexing, parsing, IsTurnFault, reading, importing}
 use Rattle.adl_import.specs.declared.error.LoadError.{LoadError}
 use Rattle.adl_import.specs.declared.error.LoadError.TheVariants as error
-use Rattle.adl_import.specs.Loaded.{IsClean, IsFirst, IsLoadedFrom}
+use Rattle.adl_import.specs.Loaded.{AlikeInTurns, IsClean, IsFirst, IsLoadedFrom}
 use Rattle.adl_import.proofs.Firsts.{turns_within, turns_make}
 use Rattle.adl_import.proofs.Utf8Names.{name_given_utf8}
 
-told_as : (contents : Option Contents) (name own bytes got : List ℕ) → own ≡ name → got ≡ bytes → IfSome contents (λ m. get m name ≡ Some bytes) → IfSome contents (λ m. get m own ≡ Some got)
-told_as None name own bytes got e b h = tt
-told_as (Some m) name own bytes got e b h = ap (get m) e ∙ h ∙ ap Some (sym b)
-
-fault_in : (contents : Option Contents) (files : List SourceFile) (name in_file : List ℕ) (place : Place) (bytes : List ℕ) (f : Fault) → in_file ≡ name → length bytes ≤ file_limit
+fault_in : (m : Contents) (files : List SourceFile) (name in_file : List ℕ) (place : Place) (bytes : List ℕ) (f : Fault) → in_file ≡ name → length bytes ≤ file_limit
     → (IsFirstFault (length files) bytes f ⊎ ((tokens : List Token) × Lexes (length files) bytes tokens × IsFileIn bytes tokens (Err (refused.Fault f))))
-    → IfSome contents (λ m. get m name ≡ Some bytes) → IfSome contents (λ m. IsReadFault m files name place f in_file)
-fault_in None files name in_file place bytes f e l s h = tt
-fault_in (Some m) files name in_file place bytes f e l (inl s) h = subst (IsReadFault m files name place f) (sym e) (lexing h l s)
-fault_in (Some m) files name in_file place bytes f e l (inr s) h = subst (IsReadFault m files name place f) (sym e) (parsing s.0 h l s.1 s.2)
+    → get m name ≡ Some bytes → IsReadFault m files name place f in_file
+fault_in m files name in_file place bytes f e l (inl s) h = subst (IsReadFault m files name place f) (sym e) (lexing h l s)
+fault_in m files name in_file place bytes f e l (inr s) h = subst (IsReadFault m files name place f) (sym e) (parsing s.0 h l s.1 s.2)
 
 -- a file that is read and not too long
-pub read_ok : (contents : Option Contents) (files : List SourceFile) (name : List ℕ) (place : Place) (bytes : List ℕ) (r : Result SourceFile LoadError)
-    → IfSome contents (λ m. get m name ≡ Some bytes) → length bytes ≤ file_limit → IsParsed (length files) name bytes r → IsRead contents files name place r
-read_ok contents files name place bytes (Ok file) h l p = (
+pub read_ok : (m : Contents) (files : List SourceFile) (name : List ℕ) (place : Place) (bytes : List ℕ) (r : Result SourceFile LoadError)
+    → get m name ≡ Some bytes → length bytes ≤ file_limit → IsParsed (length files) name bytes r → IsRead m files name place r
+read_ok m files name place bytes (Ok file) h l p = (
   p.0,
   record {
-    told = told_as contents name file.name bytes file.bytes p.0 p.1 h;
+    held = ap (get m) p.0 ∙ h ∙ ap Some (sym p.1);
     size = subst (λ (b : List ℕ). length b ≤ file_limit) (sym p.1) l;
     tokens = p.2.0;
     lexed = subst (λ (b : List ℕ). Lexes (length files) b p.2.0) (sym p.1) p.2.1;
     spelled = subst (λ (b : List ℕ). IsFileSpelled file.tree (see b p.2.0)) (sym p.1) p.2.2;
   },
 )
-read_ok contents files name place bytes (Err (error.Fault f in_file)) h l p = fault_in contents files name in_file place bytes f p.0 l p.1 h
-read_ok contents files name place bytes (Err (error.ReadFault in_file)) h l p = absurd p
-read_ok contents files name place bytes (Err error.NoMemory) h l p = tt
+read_ok m files name place bytes (Err (error.Fault f in_file)) h l p = fault_in m files name in_file place bytes f p.0 l p.1 h
+read_ok m files name place bytes (Err (error.ReadFault in_file)) h l p = absurd p
+read_ok m files name place bytes (Err error.NoMemory) h l p = tt
 
-pub read_absent : (contents : Option Contents) (files : List SourceFile) (name : List ℕ) (place : Place) (e : LoadError)
-    → e ≡ error.Fault (fault_at NoFile place name) (met_in files name place) → IfSome contents (λ m. get m name ≡ None) → IsRead contents files name place (Err e)
-read_absent contents files name place e is h = subst (λ (x : LoadError). IsRead contents files name place (Err x)) (sym is) (go contents h)
-  where
-    go : (c : Option Contents) → IfSome c (λ m. get m name ≡ None) → IfSome c (λ m. IsReadFault m files name place (fault_at NoFile place name) (met_in files name place))
-    go None k = tt
-    go (Some m) k = absent k
+pub read_absent : (m : Contents) (files : List SourceFile) (name : List ℕ) (place : Place) (e : LoadError)
+    → e ≡ error.Fault (fault_at NoFile place name) (met_in files name place) → get m name ≡ None → IsRead m files name place (Err e)
+read_absent m files name place e is h = subst (λ (x : LoadError). IsRead m files name place (Err x)) (sym is) (absent h)
 
-pub read_too_long : (contents : Option Contents) (files : List SourceFile) (name : List ℕ) (place : Place) (e : LoadError)
+pub read_too_long : (m : Contents) (files : List SourceFile) (name : List ℕ) (place : Place) (e : LoadError)
     → e ≡ error.Fault (fault_at Limit place (codes "file size")) (met_in files name place)
-    → IfSome contents (λ m. (bytes : List ℕ) × (get m name ≡ Some bytes) × (file_limit < length bytes)) → IsRead contents files name place (Err e)
-read_too_long contents files name place e is h = subst (λ (x : LoadError). IsRead contents files name place (Err x)) (sym is) (go contents h)
-  where
-    go : (c : Option Contents) → IfSome c (λ m. (bytes : List ℕ) × (get m name ≡ Some bytes) × (file_limit < length bytes))
-        → IfSome c (λ m. IsReadFault m files name place (fault_at Limit place (codes "file size")) (met_in files name place))
-    go None k = tt
-    go (Some m) k = too_long k.1 k.2
+    → (bytes : List ℕ) × (get m name ≡ Some bytes) × (file_limit < length bytes) → IsRead m files name place (Err e)
+read_too_long m files name place e is h = subst (λ (x : LoadError). IsRead m files name place (Err x)) (sym is) (too_long h.1 h.2)
 
 -- an error that is passed on
 pub err_is : {X : Type 0} (r : Result X LoadError) (e : LoadError) → IsErr r → IsErrAnd r (λ x. x ≡ e) → r ≡ Err e
 err_is (Ok x) e is h = absurd h
 err_is (Err x) e is h = ap Err h
 
-reading_in : (contents : Option Contents) (root : List ℕ) (files : List SourceFile) (known : List Meeting) (name : List ℕ) (place : Place) (f : Fault) (in_file : List ℕ)
-    → slice_get known (length files) ≡ Some (name, place) → IfSome contents (λ m. IsReadFault m files name place f in_file)
-    → IfSome contents (λ m. (n : List ℕ) × (p : Place) × (slice_get known (length files) ≡ Some (n, p)) × IsTurnFault m root files known n p f in_file)
-reading_in None root files known name place f in_file n h = tt
-reading_in (Some m) root files known name place f in_file n h = (name, place, n, reading h)
-
 -- a turn that stops at its reading
-pub turn_unread : (contents : Option Contents) (root : List ℕ) (files : List SourceFile) (known : List Meeting) (name : List ℕ) (place : Place) (e : LoadError)
-    → slice_get known (length files) ≡ Some (name, place) → IsRead contents files name place (Err e) → IsTurn contents root files known known (Err e)
-turn_unread contents root files known name place (error.Fault f in_file) n h = reading_in contents root files known name place f in_file n h
-turn_unread contents root files known name place (error.ReadFault in_file) n h = (place, n ∙ ap (λ (l : List ℕ). Some (l, place)) (sym h))
-turn_unread contents root files known name place error.NoMemory n h = tt
-
-importing_in : (contents : Option Contents) (root : List ℕ) (files : List SourceFile) (known : List Meeting) (file : SourceFile) (place : Place) (f : Fault) (in_file : List ℕ)
-    → slice_get known (length files) ≡ Some (file.name, place) → IsFileOf contents (length files) file
-    → take_imports root file.name known (imports_of file.tree) ≡ Err f → in_file ≡ file.name
-    → IfSome contents (λ m. (n : List ℕ) × (p : Place) × (slice_get known (length files) ≡ Some (n, p)) × IsTurnFault m root files known n p f in_file)
-importing_in None root files known file place f in_file n is e i = tt
-importing_in (Some m) root files known file place f in_file n is e i =
-    (file.name, place, n, subst (IsTurnFault m root files known file.name place f) (sym i) (importing {file = file} refl is e))
+pub turn_unread : (m : Contents) (root : List ℕ) (files : List SourceFile) (known : List Meeting) (name : List ℕ) (place : Place) (e : LoadError)
+    → slice_get known (length files) ≡ Some (name, place) → IsRead m files name place (Err e) → IsTurn m root files known known (Err e)
+turn_unread m root files known name place (error.Fault f in_file) n h = (name, place, n, reading h)
+turn_unread m root files known name place (error.ReadFault in_file) n h = (place, n ∙ ap (λ (l : List ℕ). Some (l, place)) (sym h))
+turn_unread m root files known name place error.NoMemory n h = tt
 
 named_next : (known : List Meeting) (i : ℕ) (name own : List ℕ) (place : Place) → slice_get known i ≡ Some (name, place) → own ≡ name → slice_get known i ≡ Some (own, place)
 named_next known i name own place n e = n ∙ ap (λ (l : List ℕ). Some (l, place)) (sym e)
 
 -- a turn that stops at an import
-pub turn_stopped : (contents : Option Contents) (root : List ℕ) (files : List SourceFile) (known after : List Meeting) (file : SourceFile) (name : List ℕ) (place : Place) (e : LoadError)
-    → slice_get known (length files) ≡ Some (name, place) → IsRead contents files name place (Ok file)
-    → IsTakenIn (take_imports root file.name known (imports_of file.tree)) file.name after (Err e) → IsTurn contents root files known after (Err e)
-turn_stopped contents root files known after file name place (error.Fault f in_file) n h t =
-    importing_in contents root files known file place f in_file (named_next known (length files) name file.name place n h.0) h.1 t.0 t.1
-turn_stopped contents root files known after file name place (error.ReadFault in_file) n h t = absurd t
-turn_stopped contents root files known after file name place error.NoMemory n h t = tt
+pub turn_stopped : (m : Contents) (root : List ℕ) (files : List SourceFile) (known after : List Meeting) (file : SourceFile) (name : List ℕ) (place : Place) (e : LoadError)
+    → slice_get known (length files) ≡ Some (name, place) → IsRead m files name place (Ok file)
+    → IsTakenIn (take_imports root file.name known (imports_of file.tree)) file.name after (Err e) → IsTurn m root files known after (Err e)
+turn_stopped m root files known after file name place (error.Fault f in_file) n h t =
+    (file.name, place, named_next known (length files) name file.name place n h.0, subst (IsTurnFault m root files known file.name place f) (sym t.1) (importing {file = file} refl h.1 t.0))
+turn_stopped m root files known after file name place (error.ReadFault in_file) n h t = absurd t
+turn_stopped m root files known after file name place error.NoMemory n h t = tt
 
 -- a turn without a fault
-pub turn_done : (contents : Option Contents) (root : List ℕ) (files : List SourceFile) (known after : List Meeting) (file : SourceFile) (name : List ℕ) (place : Place)
-    → slice_get known (length files) ≡ Some (name, place) → IsRead contents files name place (Ok file)
-    → take_imports root file.name known (imports_of file.tree) ≡ Ok after → IsTurn contents root files known after (Ok (Some file))
-turn_done contents root files known after file name place n h t = (place, named_next known (length files) name file.name place n h.0, h.1, t)
+pub turn_done : (m : Contents) (root : List ℕ) (files : List SourceFile) (known after : List Meeting) (file : SourceFile) (name : List ℕ) (place : Place)
+    → slice_get known (length files) ≡ Some (name, place) → IsRead m files name place (Ok file)
+    → take_imports root file.name known (imports_of file.tree) ≡ Ok after → IsTurn m root files known after (Ok (Some file))
+turn_done m root files known after file name place n h t = (place, named_next known (length files) name file.name place n h.0, h.1, t)
 
 each_more : (known : List Meeting) (m : Meeting) → AreUtf8 known → IsUtf8 m.0 → AreUtf8 (known ++ m ∷ [])
 each_more [] m a u = (u, tt)
@@ -174,16 +146,16 @@ imports_kept root own known after (i ∷ is) e =
     imports_step root own known after is (take_import root own known i) (λ k h. import_kept (is_built_in i) root own known k i h) e (λ k h. imports_kept root own k after is h)
 
 -- turns know no more names than the limit
-pub turns_few : (contents : Option Contents) (root : List ℕ) (files : List SourceFile) (known : List Meeting) → Turns contents root files known → length known ≤ files_limit
-turns_few contents root _ _ first = omega arith
-turns_few contents root _ _ (next {files = files} {known = known} {after = after} {file = file} turns at is taken) =
-    (imports_kept root file.name known after (imports_of file.tree) taken).few (turns_few contents root files known turns)
+pub turns_few : (m : Contents) (root : List ℕ) (files : List SourceFile) (known : List Meeting) → Turns m root files known → length known ≤ files_limit
+turns_few m root _ _ first = omega arith
+turns_few m root _ _ (next {files = files} {known = known} {after = after} {file = file} turns at is taken) =
+    (imports_kept root file.name known after (imports_of file.tree) taken).few (turns_few m root files known turns)
 
 -- and UTF-8 alone
-pub turns_utf8 : (contents : Option Contents) (root : List ℕ) (files : List SourceFile) (known : List Meeting) → IsUtf8 root → Turns contents root files known → AreUtf8 known
-turns_utf8 contents root _ _ r first = (r, tt)
-turns_utf8 contents root _ _ r (next {files = files} {known = known} {after = after} {file = file} {place = place} turns at is taken) =
-    let before = turns_utf8 contents root files known r turns in
+pub turns_utf8 : (m : Contents) (root : List ℕ) (files : List SourceFile) (known : List Meeting) → IsUtf8 root → Turns m root files known → AreUtf8 known
+turns_utf8 m root _ _ r first = (r, tt)
+turns_utf8 m root _ _ r (next {files = files} {known = known} {after = after} {file = file} {place = place} turns at is taken) =
+    let before = turns_utf8 m root files known r turns in
     (imports_kept root file.name known after (imports_of file.tree) taken).utf8 r (each_at known (length files) (file.name, place) at before) before
 
 slice_get_none : {A : Type 0} (xs : List A) (i : ℕ) → slice_get xs i ≡ None → length xs ≤ i
@@ -192,58 +164,66 @@ slice_get_none (x ∷ xs) zero e = absurd (cc)
 slice_get_none (x ∷ xs) (suc i) e = let h = slice_get_none xs i e in omega arith
 
 -- when a turn finds no file left
-pub loaded_clean : (contents : Option Contents) (root : List ℕ) (files : List SourceFile) (known : List Meeting) → Turns contents root files known → slice_get known (length files) ≡ None → IsClean contents root files
-loaded_clean contents root files known turns e =
-    let all = omega_all (length known) (length files) (turns_within contents root files known turns) (slice_get_none known (length files) e) in
-    record { source = turns_make contents root files known turns all; known = known; turns = turns; all = all }
+pub loaded_clean : (m : Contents) (root : List ℕ) (files : List SourceFile) (known : List Meeting) → Turns m root files known → slice_get known (length files) ≡ None → IsClean m root files
+loaded_clean m root files known turns e =
+    let all = omega_all (length known) (length files) (turns_within m root files known turns) (slice_get_none known (length files) e) in
+    record { source = turns_make m root files known turns all; known = known; turns = turns; all = all }
   where
     omega_all : (m n : ℕ) → n ≤ m → m ≤ n → m ≡ n
     omega_all m n h k = omega arith
 
-loaded_fault : (contents : Option Contents) (root : List ℕ) (files : List SourceFile) (known : List Meeting) (f : Fault) (in_file : List ℕ) → Turns contents root files known
-    → IfSome contents (λ m. (name : List ℕ) × (place : Place) × (slice_get known (length files) ≡ Some (name, place)) × IsTurnFault m root files known name place f in_file)
-    → IfSome contents (λ m. IsFirst m root f in_file)
-loaded_fault None root files known f in_file turns h = tt
-loaded_fault (Some m) root files known f in_file turns h =
-    record { name = h.0; turn = record { files = files; known = known; place = h.1; turns = turns; next = h.2 }; stands = h.3 }
-
 -- when a turn stops
-pub loaded_err : (contents : Option Contents) (root : List ℕ) (files : List SourceFile) (known after : List Meeting) (e : LoadError) → Turns contents root files known
-    → IsTurn contents root files known after (Err e) → IsLoadedFrom contents root (Err e)
-loaded_err contents root files known after (error.Fault f in_file) turns h = loaded_fault contents root files known f in_file turns h
-loaded_err contents root files known after (error.ReadFault name) turns h = record { files = files; known = known; place = h.0; turns = turns; next = h.1 }
-loaded_err contents root files known after error.NoMemory turns h = tt
+pub loaded_err : (m : Contents) (root : List ℕ) (files : List SourceFile) (known after : List Meeting) (e : LoadError) → Turns m root files known
+    → IsTurn m root files known after (Err e) → IsLoadedFrom m root (Err e)
+loaded_err m root files known after (error.Fault f in_file) turns h =
+    record { name = h.0; turn = record { files = files; known = known; place = h.1; turns = turns; next = h.2 }; stands = h.3 }
+loaded_err m root files known after (error.ReadFault name) turns h = record { files = files; known = known; place = h.0; turns = turns; next = h.1 }
+loaded_err m root files known after error.NoMemory turns h = tt
 
 -- the root alone is known first
-pub turns_first : (contents : Option Contents) (root top : List ℕ) (files : List SourceFile) (known : List Meeting) → top ≡ root → files ≡ [] → known ≡ (root, root_place) ∷ []
-    → Turns contents top files known
-turns_first contents root top files known e f k =
-    subst (λ (l : List SourceFile). Turns contents top l known) (sym f)
-    (subst (λ (l : List Meeting). Turns contents top [] l) (sym (k ∙ ap (λ (r : List ℕ). (r, root_place) ∷ []) (sym e))) first)
+pub turns_first : (m : Contents) (root top : List ℕ) (files : List SourceFile) (known : List Meeting) → top ≡ root → files ≡ [] → known ≡ (root, root_place) ∷ []
+    → Turns m top files known
+turns_first m root top files known e f k =
+    subst (λ (l : List SourceFile). Turns m top l known) (sym f)
+    (subst (λ (l : List Meeting). Turns m top [] l) (sym (k ∙ ap (λ (r : List ℕ). (r, root_place) ∷ []) (sym e))) first)
 
--- a turn of the files as they were
-pub turn_told : (contents now : Option Contents) (root : List ℕ) (files seen : List SourceFile) (known after : List Meeting) (r : Result (Option SourceFile) LoadError) → now ≡ contents → seen ≡ files
-    → IsTurn now root seen known after r → IsTurn contents root files known after r
-turn_told contents now root files seen known after r e s h =
-    subst (λ (l : List SourceFile). IsTurn contents root l known after r) s (subst (λ (c : Option Contents). IsTurn c root seen known after r) e h)
+-- a turn of the files that are done
+pub turn_of : (m : Contents) (root : List ℕ) (files seen : List SourceFile) (known after : List Meeting) (r : Result (Option SourceFile) LoadError) → seen ≡ files
+    → IsTurn m root seen known after r → IsTurn m root files known after r
+turn_of m root files seen known after r s h = subst (λ (l : List SourceFile). IsTurn m root l known after r) s h
 
 -- a turn more
-pub turns_next : (contents : Option Contents) (root : List ℕ) (files pushed : List SourceFile) (known after : List Meeting) (file : SourceFile) (o : Option SourceFile)
-    → Turns contents root files known → o ≡ Some file → IsTurn contents root files known after (Ok o) → pushed ≡ files ++ file ∷ [] → Turns contents root pushed after
-turns_next contents root files pushed known after file o turns e h p =
-    let t = subst (λ (x : Option SourceFile). IsTurn contents root files known after (Ok x)) e h in
-    subst (λ (l : List SourceFile). Turns contents root l after) (sym p) (next turns t.1 t.2 t.3)
+pub turns_next : (m : Contents) (root : List ℕ) (files pushed : List SourceFile) (known after : List Meeting) (file : SourceFile) (o : Option SourceFile)
+    → Turns m root files known → o ≡ Some file → IsTurn m root files known after (Ok o) → pushed ≡ files ++ file ∷ [] → Turns m root pushed after
+turns_next m root files pushed known after file o turns e h p =
+    let t = subst (λ (x : Option SourceFile). IsTurn m root files known after (Ok x)) e h in
+    subst (λ (l : List SourceFile). Turns m root l after) (sym p) (next turns t.1 t.2 t.3)
 
-pub turns_smaller : (contents : Option Contents) (root : List ℕ) (files pushed : List SourceFile) (known after : List Meeting) (file : SourceFile) (o : Option SourceFile)
-    → length known ≤ files_limit → o ≡ Some file → IsTurn contents root files known after (Ok o) → pushed ≡ files ++ file ∷ [] → files_limit - length pushed < files_limit - length files
-turns_smaller contents root files pushed known after file o few e h p =
-    let t = subst (λ (x : Option SourceFile). IsTurn contents root files known after (Ok x)) e h in
+pub turns_smaller : (m : Contents) (root : List ℕ) (files pushed : List SourceFile) (known after : List Meeting) (file : SourceFile) (o : Option SourceFile)
+    → length known ≤ files_limit → o ≡ Some file → IsTurn m root files known after (Ok o) → pushed ≡ files ++ file ∷ [] → files_limit - length pushed < files_limit - length files
+turns_smaller m root files pushed known after file o few e h p =
+    let t = subst (λ (x : Option SourceFile). IsTurn m root files known after (Ok x)) e h in
     let within = slice_get_within known (length files) (file.name, t.0) t.1 in
     let longer : length pushed ≡ length files + 1 = ap length p ∙ length-append files (file ∷ []) in
     omega arith
 
-pub loaded_none : (contents : Option Contents) (root top : List ℕ) (files : List SourceFile) (known after : List Meeting) (o : Option SourceFile) → top ≡ root → Turns contents top files known → o ≡ None
-    → IsTurn contents top files known after (Ok o) → IsClean contents root files
-loaded_none contents root top files known after o r turns e h =
-    let t = subst (λ (x : Option SourceFile). IsTurn contents top files known after (Ok x)) e h in
-    subst (λ (n : List ℕ). IsClean contents n files) r (loaded_clean contents top files known turns t.0)
+pub loaded_none : (m : Contents) (root top : List ℕ) (files : List SourceFile) (known after : List Meeting) (o : Option SourceFile) → top ≡ root → Turns m top files known → o ≡ None
+    → IsTurn m top files known after (Ok o) → IsClean m root files
+loaded_none m root top files known after o r turns e h =
+    let t = subst (λ (x : Option SourceFile). IsTurn m top files known after (Ok x)) e h in
+    subst (λ (n : List ℕ). IsClean m n files) r (loaded_clean m top files known turns t.0)
+
+-- a turn more learns of the next file alone
+pub learns_next : {F : Type 0} (told : F → Contents → Type 0) (root top : List ℕ) (files seen : List SourceFile) (known : List Meeting) (a b c : F) → top ≡ root → seen ≡ files
+    → LearnsOnly told (AlikeInTurns root) a b → InAll (told b) (λ m. Turns m top files known) → InAll (told c) (told b) → LearnsOnly told (AlikeInNext seen known) b c
+    → LearnsOnly told (AlikeInTurns root) a c
+learns_next told root top files seen known a b c r s before turns still turn m n now old alike =
+    let held = still m now in
+    turn m n now (before m n held old alike)
+    (λ name place at. alike name (record {
+      files = files;
+      known = known;
+      place = place;
+      turns = subst (λ l. Turns m l files known) r (turns m held);
+      next = subst (λ l. slice_get known (length l) ≡ Some (name, place)) s at;
+    }))

@@ -47,11 +47,11 @@ abbrev made : List ℕ → List ℕ → File → SourceFile
 made name bytes tree = record { name = name; bytes = bytes; tree = tree }
 
 -- files of one number and name are one
-file_is_one : (m : Contents) (n : ℕ) (x y : SourceFile) → IsFileOf (Some m) n x → IsFileOf (Some m) n y → x.name ≡ y.name → x ≡ y
+file_is_one : (m : Contents) (n : ℕ) (x y : SourceFile) → IsFileOf m n x → IsFileOf m n y → x.name ≡ y.name → x ≡ y
 file_is_one m n x y p q e =
-    let told : get m x.name ≡ Some x.bytes = p.told in
-    let told' : get m y.name ≡ Some y.bytes = q.told in
-    let bytes : x.bytes ≡ y.bytes = same_Some x.bytes y.bytes (sym told ∙ ap (get m) e ∙ told') in
+    let held : get m x.name ≡ Some x.bytes = p.held in
+    let held' : get m y.name ≡ Some y.bytes = q.held in
+    let bytes : x.bytes ≡ y.bytes = same_Some x.bytes y.bytes (sym held ∙ ap (get m) e ∙ held') in
     let tokens : p.tokens ≡ q.tokens = one_list n (length x.bytes) x.bytes p.tokens q.tokens p.lexed (subst (λ (b : List ℕ). Lexes n b q.tokens) (sym bytes) q.lexed) in
     let spelled : IsFileSpelled y.tree (see x.bytes p.tokens) =
     subst (λ (b : List ℕ). IsFileSpelled y.tree (see b p.tokens)) (sym bytes) (subst (λ (t : List Token). IsFileSpelled y.tree (see y.bytes t)) (sym tokens) q.spelled) in
@@ -86,7 +86,7 @@ module _ (P : List SourceFile → SourceFile → Type 0) (one : (before : List S
 record IsNext (m : Contents) (root : List ℕ) (before : List SourceFile) (file : SourceFile) : Type 0 where
   place : Place
   at : slice_get (met root before) (length before) ≡ Some (file.name, place)
-  is : IsFileOf (Some m) (length before) file
+  is : IsFileOf m (length before) file
 
 next_is_one : (m : Contents) (root : List ℕ) (before : List SourceFile) (x y : SourceFile) → IsNext m root before x → IsNext m root before y → x ≡ y
 next_is_one m root before x y p q =
@@ -235,11 +235,11 @@ source_next root xs before after file s e =
 source_all : (root : List ℕ) (xs : List SourceFile) → IsSource root xs → length (met root xs) ≡ length xs
 source_all root xs s = sym (length-map (met root xs) (λ m. m.0)) ∙ sym (ap length s.equation) ∙ length-map xs (λ f. f.name)
 
-source_along : (m : Contents) (root : List ℕ) (xs : List SourceFile) → IsSource root xs → AreFilesOf (Some m) xs → Along (IsNext m root) xs
+source_along : (m : Contents) (root : List ℕ) (xs : List SourceFile) → IsSource root xs → AreFilesOf m xs → Along (IsNext m root) xs
 source_along m root xs s each before after file e = let p = source_next root xs before after file s e in record { place = p.0; at = p.1; is = each before after file e }
 
 -- a root has one source, in given contents
-pub one_source : (m : Contents) (root : List ℕ) (xs ys : List SourceFile) → IsSource root xs → AreFilesOf (Some m) xs → IsSource root ys → AreFilesOf (Some m) ys → xs ≡ ys
+pub one_source : (m : Contents) (root : List ℕ) (xs ys : List SourceFile) → IsSource root xs → AreFilesOf m xs → IsSource root ys → AreFilesOf m ys → xs ≡ ys
 one_source m root xs ys s f t g =
     let p = source_along m root xs s f in
     let q = source_along m root ys t g in
@@ -250,41 +250,41 @@ one_source m root xs ys s f t g =
     ]
 
 -- a turn without a fault, after these files
-record IsDone (contents : Option Contents) (root : List ℕ) (before : List SourceFile) (file : SourceFile) : Type 0 where
+record IsDone (m : Contents) (root : List ℕ) (before : List SourceFile) (file : SourceFile) : Type 0 where
   place : Place
   after : List Meeting
   at : slice_get (met root before) (length before) ≡ Some (file.name, place)
-  is : IsFileOf contents (length before) file
+  is : IsFileOf m (length before) file
   taken : take_imports root file.name (met root before) (imports_of file.tree) ≡ Ok after
 
-turns_done : (contents : Option Contents) (root : List ℕ) (files : List SourceFile) (known : List Meeting) → Turns contents root files known → Along (IsDone contents root) files
-turns_done contents root _ _ first [] after file e = absurd (cc)
-turns_done contents root _ _ first (b ∷ bs) after file e = absurd (cc)
-turns_done contents root _ _ (next {files = files} {known = known} {after = met_after} {file = last} {place = place} turns at is taken) before after file e = elim (snoc_view after) [
+turns_done : (m : Contents) (root : List ℕ) (files : List SourceFile) (known : List Meeting) → Turns m root files known → Along (IsDone m root) files
+turns_done m root _ _ first [] after file e = absurd (cc)
+turns_done m root _ _ first (b ∷ bs) after file e = absurd (cc)
+turns_done m root _ _ (next {files = files} {known = known} {after = met_after} {file = last} {place = place} turns at is taken) before after file e = elim (snoc_view after) [
   | inl none ↦
       let p = snoc_same files before last file (e ∙ ap (λ (l : List SourceFile). before ++ file ∷ l) none) in
-      let now : IsDone contents root files last = record {
+      let now : IsDone m root files last = record {
         place = place;
         after = met_after;
-        at = subst (λ (l : List Meeting). slice_get l (length files) ≡ Some (last.name, place)) (turns_meet contents root files known turns) at;
+        at = subst (λ (l : List Meeting). slice_get l (length files) ≡ Some (last.name, place)) (turns_meet m root files known turns) at;
         is = is;
-        taken = subst (λ (l : List Meeting). take_imports root last.name l (imports_of last.tree) ≡ Ok met_after) (turns_meet contents root files known turns) taken;
+        taken = subst (λ (l : List Meeting). take_imports root last.name l (imports_of last.tree) ≡ Ok met_after) (turns_meet m root files known turns) taken;
       } in
-      subst (λ (f : SourceFile). IsDone contents root before f) p.1 (subst (λ (b : List SourceFile). IsDone contents root b last) p.0 now)
+      subst (λ (f : SourceFile). IsDone m root before f) p.1 (subst (λ (b : List SourceFile). IsDone m root b last) p.0 now)
   | inr v ↦
       let p = snoc_same files (before ++ file ∷ v.0) last v.1
       (e ∙ ap (λ (l : List SourceFile). before ++ file ∷ l) v.2 ∙ sym (append_assoc before (file ∷ v.0) (v.1 ∷ []))) in
-      turns_done contents root files known turns before v.0 file p.0
+      turns_done m root files known turns before v.0 file p.0
 ]
 
 -- each file of turns is the one of its number
-pub turns_each : (contents : Option Contents) (root : List ℕ) (files : List SourceFile) (known : List Meeting) → Turns contents root files known → AreFilesOf contents files
-turns_each contents root files known turns before after file e = (turns_done contents root files known turns before after file e).is
+pub turns_each : (m : Contents) (root : List ℕ) (files : List SourceFile) (known : List Meeting) → Turns m root files known → AreFilesOf m files
+turns_each m root files known turns before after file e = (turns_done m root files known turns before after file e).is
 
-done_next : (m : Contents) (root : List ℕ) (before : List SourceFile) (file : SourceFile) → IsDone (Some m) root before file → IsNext m root before file
+done_next : (m : Contents) (root : List ℕ) (before : List SourceFile) (file : SourceFile) → IsDone m root before file → IsNext m root before file
 done_next m root before file d = record { place = d.place; at = d.at; is = d.is }
 
-done_is_one : (m : Contents) (root : List ℕ) (before : List SourceFile) (x y : SourceFile) → IsDone (Some m) root before x → IsDone (Some m) root before y → x ≡ y
+done_is_one : (m : Contents) (root : List ℕ) (before : List SourceFile) (x y : SourceFile) → IsDone m root before x → IsDone m root before y → x ≡ y
 done_is_one m root before x y p q = next_is_one m root before x y (done_next m root before x p) (done_next m root before y q)
 
 -- tokens that spell a file stop nowhere
@@ -313,20 +313,20 @@ same_tokens n xs ys ts us e l k = one_list n (length xs) xs ts us l (subst (λ (
 
 -- a file that is read, lexed and parsed has no fault there
 read_no_fault : (m : Contents) (files : List SourceFile) (name : List ℕ) (place : Place) (f : Fault) (in_file : List ℕ) (file : SourceFile) → IsReadFault m files name place f in_file → file.name ≡ name
-    → IsFileOf (Some m) (length files) file → ⊥
-read_no_fault m files name place _ _ file (absent e) n is = no_got m name file.bytes e (sym (ap (get m) n) ∙ is.told)
-read_no_fault m files name place _ _ file (too_long {bytes = bytes} e l) n is = too_far bytes file.bytes (got_same m name bytes file.bytes e (sym (ap (get m) n) ∙ is.told)) l is.size
+    → IsFileOf m (length files) file → ⊥
+read_no_fault m files name place _ _ file (absent e) n is = no_got m name file.bytes e (sym (ap (get m) n) ∙ is.held)
+read_no_fault m files name place _ _ file (too_long {bytes = bytes} e l) n is = too_far bytes file.bytes (got_same m name bytes file.bytes e (sym (ap (get m) n) ∙ is.held)) l is.size
 read_no_fault m files name place _ _ file (lexing {bytes = bytes} {f = f} e l s) n is =
-    lexed_both (length files) bytes file.bytes f is.tokens (got_same m name bytes file.bytes e (sym (ap (get m) n) ∙ is.told)) s is.lexed
+    lexed_both (length files) bytes file.bytes f is.tokens (got_same m name bytes file.bytes e (sym (ap (get m) n) ∙ is.held)) s is.lexed
 read_no_fault m files name place _ _ file (parsing {bytes = bytes} tokens {f = f} e l lexed stop) n is =
-    let bytes_same = got_same m name bytes file.bytes e (sym (ap (get m) n) ∙ is.told) in
+    let bytes_same = got_same m name bytes file.bytes e (sym (ap (get m) n) ∙ is.held) in
     let tokens_same = same_tokens (length files) bytes file.bytes tokens is.tokens bytes_same lexed is.lexed in
     let spelled = subst (λ (b : List ℕ). IsFileSpelled file.tree (see b tokens)) (sym bytes_same) (subst (λ (t : List Token). IsFileSpelled file.tree (see file.bytes t)) (sym tokens_same) is.spelled) in
     spelled_no_stop file.tree (see bytes tokens) stop.0 stop.1 spelled stop.3
 
 -- a turn without a fault has none
 turn_no_fault : (m : Contents) (root : List ℕ) (files : List SourceFile) (known after : List Meeting) (name : List ℕ) (place : Place) (f : Fault) (in_file : List ℕ) (file : SourceFile)
-    → IsTurnFault m root files known name place f in_file → file.name ≡ name → IsFileOf (Some m) (length files) file → take_imports root file.name known (imports_of file.tree) ≡ Ok after → ⊥
+    → IsTurnFault m root files known name place f in_file → file.name ≡ name → IsFileOf m (length files) file → take_imports root file.name known (imports_of file.tree) ≡ Ok after → ⊥
 turn_no_fault m root files known after name place _ _ file (reading {f = f} {in_file = in_file} r) n is taken = read_no_fault m files name place f in_file file r n is
 turn_no_fault m root files known after name place _ _ file (importing {file = other} {f = f} o is' stopped) n is taken =
     let same : other ≡ file = file_is_one m (length files) other file is' is (o ∙ sym n) in
@@ -382,36 +382,36 @@ one_turn_fault m root files known name place _ _ _ _ (importing {file = x} {f = 
     (cc, refl)
 
 -- the next of the same files is one
-one_next : (m : Contents) (root : List ℕ) (fs gs : List SourceFile) (known known' : List Meeting) → fs ≡ gs → Turns (Some m) root fs known → Turns (Some m) root gs known' → known ≡ known'
-one_next m root fs gs known known' e t u = turns_meet (Some m) root fs known t ∙ ap (met root) e ∙ sym (turns_meet (Some m) root gs known' u)
+one_next : (m : Contents) (root : List ℕ) (fs gs : List SourceFile) (known known' : List Meeting) → fs ≡ gs → Turns m root fs known → Turns m root gs known' → known ≡ known'
+one_next m root fs gs known known' e t u = turns_meet m root fs known t ∙ ap (met root) e ∙ sym (turns_meet m root gs known' u)
 
 -- no file is left after all
-clean_ends : (m : Contents) (root : List ℕ) (fs : List SourceFile) (x : Meeting) → IsClean (Some m) root fs → slice_get (met root fs) (length fs) ≡ Some x → ⊥
-clean_ends m root fs x c at = none_left root fs x (ap length (sym (turns_meet (Some m) root fs c.known c.turns)) ∙ c.all) at
+clean_ends : (m : Contents) (root : List ℕ) (fs : List SourceFile) (x : Meeting) → IsClean m root fs → slice_get (met root fs) (length fs) ≡ Some x → ⊥
+clean_ends m root fs x c at = none_left root fs x (ap length (sym (turns_meet m root fs c.known c.turns)) ∙ c.all) at
 
-next_met : (m : Contents) (root name : List ℕ) (t : IsTurnOf (Some m) root name) → slice_get (met root t.files) (length t.files) ≡ Some (name, t.place)
-next_met m root name t = subst (λ (l : List Meeting). slice_get l (length t.files) ≡ Some (name, t.place)) (turns_meet (Some m) root t.files t.known t.turns) t.next
+next_met : (m : Contents) (root name : List ℕ) (t : IsTurnOf m root name) → slice_get (met root t.files) (length t.files) ≡ Some (name, t.place)
+next_met m root name t = subst (λ (l : List Meeting). slice_get l (length t.files) ≡ Some (name, t.place)) (turns_meet m root t.files t.known t.turns) t.next
 
 -- a fault and a turn of the same number without one
-fault_or_done : {A : Type 0} (m : Contents) (root : List ℕ) (f : Fault) (a : List ℕ) (p : IsFirst m root f a) (file : SourceFile) → IsDone (Some m) root p.turn.files file → A
+fault_or_done : {A : Type 0} (m : Contents) (root : List ℕ) (f : Fault) (a : List ℕ) (p : IsFirst m root f a) (file : SourceFile) → IsDone m root p.turn.files file → A
 fault_or_done m root f a p file d =
-    let known_is = turns_meet (Some m) root p.turn.files p.turn.known p.turn.turns in
+    let known_is = turns_meet m root p.turn.files p.turn.known p.turn.turns in
     let name : file.name ≡ p.name = ap (λ (e : Meeting). e.0) (same_Some (file.name, d.place) (p.name, p.turn.place) (sym d.at ∙ next_met m root p.name p.turn)) in
     absurd (turn_no_fault m root p.turn.files p.turn.known d.after p.name p.turn.place f a file p.stands name d.is
     (subst (λ (l : List Meeting). take_imports root file.name l (imports_of file.tree) ≡ Ok d.after) (sym known_is) d.taken))
 
-fault_or_clean : {A : Type 0} (m : Contents) (root : List ℕ) (f : Fault) (a : List ℕ) (gs : List SourceFile) → IsFirst m root f a → IsClean (Some m) root gs → A
+fault_or_clean : {A : Type 0} (m : Contents) (root : List ℕ) (f : Fault) (a : List ℕ) (gs : List SourceFile) → IsFirst m root f a → IsClean m root gs → A
 fault_or_clean m root f a gs p c =
-    let q = turns_done (Some m) root p.turn.files p.turn.known p.turn.turns in
-    let r = turns_done (Some m) root gs c.known c.turns in
-    elim (compared (IsDone (Some m) root) (done_is_one m root) p.turn.files gs q r) [
+    let q = turns_done m root p.turn.files p.turn.known p.turn.turns in
+    let r = turns_done m root gs c.known c.turns in
+    elim (compared (IsDone m root) (done_is_one m root) p.turn.files gs q r) [
       | inl same ↦ absurd (clean_ends m root gs (p.name, p.turn.place) c (subst (λ (l : List SourceFile). slice_get (met root l) (length l) ≡ Some (p.name, p.turn.place)) same (next_met m root p.name p.turn)))
       | inr (inl l) ↦ fault_or_done m root f a p l.0 (r p.turn.files l.1 l.0 l.2)
       | inr (inr l) ↦ let n = q gs l.1 l.0 l.2 in absurd (clean_ends m root gs (l.0.name, n.place) c n.at)
     ]
 
-clean_is_one : (m : Contents) (root : List ℕ) (fs gs : List SourceFile) → IsClean (Some m) root fs → IsClean (Some m) root gs → fs ≡ gs
-clean_is_one m root fs gs c d = one_source m root fs gs c.source (turns_each (Some m) root fs c.known c.turns) d.source (turns_each (Some m) root gs d.known d.turns)
+clean_is_one : (m : Contents) (root : List ℕ) (fs gs : List SourceFile) → IsClean m root fs → IsClean m root gs → fs ≡ gs
+clean_is_one m root fs gs c d = one_source m root fs gs c.source (turns_each m root fs c.known c.turns) d.source (turns_each m root gs d.known d.turns)
 
 same_fault : (m : Contents) (root : List ℕ) (f g : Fault) (a b : List ℕ) (p : IsFirst m root f a) (q : IsFirst m root g b) → p.turn.files ≡ q.turn.files → OneFault f g a b
 same_fault m root f g a b p q same =
@@ -427,9 +427,9 @@ same_fault m root f g a b p q same =
 
 first_is_one : (m : Contents) (root : List ℕ) (f g : Fault) (a b : List ℕ) → IsFirst m root f a → IsFirst m root g b → OneFault f g a b
 first_is_one m root f g a b p q =
-    let x = turns_done (Some m) root p.turn.files p.turn.known p.turn.turns in
-    let y = turns_done (Some m) root q.turn.files q.turn.known q.turn.turns in
-    elim (compared (IsDone (Some m) root) (done_is_one m root) p.turn.files q.turn.files x y) [
+    let x = turns_done m root p.turn.files p.turn.known p.turn.turns in
+    let y = turns_done m root q.turn.files q.turn.known q.turn.turns in
+    elim (compared (IsDone m root) (done_is_one m root) p.turn.files q.turn.files x y) [
       | inl same ↦ same_fault m root f g a b p q same
       | inr (inl l) ↦ fault_or_done m root f a p l.0 (y p.turn.files l.1 l.0 l.2)
       | inr (inr l) ↦ fault_or_done m root g b q l.0 (x q.turn.files l.1 l.0 l.2)
@@ -441,7 +441,7 @@ fault_same f g a b e = ap (λ (x : Fault). error.Fault x a) e.0 ∙ ap (λ (x : 
 source_same : (x y : Source) → x.files ≡ y.files → x ≡ y
 source_same x y e = ap (λ (l : List SourceFile). let s : Source = record { files = l } in s) e
 
-from_one : (m : Contents) (root : List ℕ) (a b : Result Source LoadError) → yields a ≡ false → yields b ≡ false → IsLoadedFrom (Some m) root a → IsLoadedFrom (Some m) root b → a ≡ b
+from_one : (m : Contents) (root : List ℕ) (a b : Result Source LoadError) → yields a ≡ false → yields b ≡ false → IsLoadedFrom m root a → IsLoadedFrom m root b → a ≡ b
 from_one m root (Ok x) (Ok y) ya yb p q = ap Ok (source_same x y (clean_is_one m root x.files y.files p q))
 from_one m root (Ok x) (Err (error.Fault g b)) ya yb p q = fault_or_clean m root g b x.files q p
 from_one m root (Ok x) (Err (error.ReadFault n)) ya yb p q = absurd (true≢false yb)
@@ -462,10 +462,10 @@ refused_one root (Err (error.Fault f a)) (Err error.NoMemory) ya yb p q = absurd
 refused_one root (Err (error.ReadFault n)) b ya yb p q = absurd (true≢false ya)
 refused_one root (Err error.NoMemory) b ya yb p q = absurd (true≢false ya)
 
-loaded_by_one : (m : Contents) (root : List ℕ) (name : Option (List ℕ)) (a b : Result Source LoadError) → yields a ≡ false → yields b ≡ false → IsLoadedBy (Some m) root name a → IsLoadedBy (Some m) root name b → a ≡ b
+loaded_by_one : (m : Contents) (root : List ℕ) (name : Option (List ℕ)) (a b : Result Source LoadError) → yields a ≡ false → yields b ≡ false → IsLoadedBy m root name a → IsLoadedBy m root name b → a ≡ b
 loaded_by_one m root None a b ya yb p q = refused_one root a b ya yb p q
 loaded_by_one m root (Some name) a b ya yb p q = from_one m name a b ya yb p q
 
 -- there is one answer that doesn't yield
-pub loaded_one : (m : Contents) (root : List ℕ) (a b : Result Source LoadError) → yields a ≡ false → yields b ≡ false → IsLoaded (Some m) root a → IsLoaded (Some m) root b → a ≡ b
+pub loaded_one : (m : Contents) (root : List ℕ) (a b : Result Source LoadError) → yields a ≡ false → yields b ≡ false → IsLoaded m root a → IsLoaded m root b → a ≡ b
 loaded_one m root a b ya yb p q = loaded_by_one m root (root_name root) a b ya yb p q

@@ -1,11 +1,12 @@
 -- The files of a source, in the order of their numbers.
-use Rattle.std.specs.Prelude.{◌≡◌, ◌<◌, ◌≤◌, ℕ, Bool, not, if◌then◌else◌, List, [], ◌∷◌, ◌++◌, length, map, filter, Option, Some, None, IfSome, IsTrue}
+use Rattle.std.specs.Prelude.{◌≡◌, ◌<◌, ◌≤◌, ◌+◌, ℕ, Bool, not, if◌then◌else◌, List, [], ◌∷◌, ◌++◌, length, map, filter, Option, Some, None, IsTrue}
 use Rattle.std.specs.FinMap.{get}
 use Rattle.std.specs.List.{flat_map, list_any}
 use Rattle.std.specs.Str.{bytes_eq}
 use Rattle.cam_base.specs.declared.place.Place.{Place}
 use Rattle.cam_base.specs.declared.token.Token.{Token}
 use Rattle.cam_io.specs.Contents.{Contents}
+use Rattle.cam_io.specs.Reading.{HaveSameFront}
 use Rattle.adl_ast.specs.declared.file.Import.{Import}
 use Rattle.adl_ast.specs.declared.source.SourceFile.{SourceFile}
 use Rattle.adl_ast.specs.Seeing.{see}
@@ -16,6 +17,10 @@ use Rattle.adl_import.specs.Imports.{imports_of, is_built_in, name_given}
 -- the greatest length of a file, in bytes
 abbrev pub file_limit : ℕ
 file_limit = 1048576
+
+-- both contents have the same file of this name, as far as it is read: up to the limit, and a byte more
+abbrev pub AlikeAsRead : List ℕ → Contents → Contents → Type 0
+AlikeAsRead name = HaveSameFront name (file_limit + 1)
 
 -- the greatest number of files
 abbrev pub files_limit : ℕ
@@ -55,18 +60,18 @@ met root files = firsts ((root, root_place) ∷ flat_map (meetings_of root) file
 abbrev pub names : List Meeting → List (List ℕ)
 names = map (λ m. m.0)
 
--- The file of a number: its bytes are those that are told of its name, where contents are told; there are no more than
--- the limit; and its tree spells their tokens under the number.
-pub record IsFileOf (contents : Option Contents) (number : ℕ) (file : SourceFile) : Type 0 where
-  pub told : IfSome contents (λ m. get m file.name ≡ Some file.bytes)
+-- The file of a number: its bytes are those that the contents have under its name; there are no more than the limit; and its
+-- tree spells their tokens under the number.
+pub record IsFileOf (m : Contents) (number : ℕ) (file : SourceFile) : Type 0 where
+  pub held : get m file.name ≡ Some file.bytes
   pub size : length file.bytes ≤ file_limit
   pub tokens : List Token
   pub lexed : Lexes number file.bytes tokens
   pub spelled : IsFileSpelled file.tree (see file.bytes tokens)
 
 -- each of these files is the one of its number
-abbrev pub AreFilesOf : Option Contents → List SourceFile → Type 0
-AreFilesOf contents files = (before after : List SourceFile) (file : SourceFile) → files ≡ before ++ file ∷ after → IsFileOf contents (length before) file
+abbrev pub AreFilesOf : Contents → List SourceFile → Type 0
+AreFilesOf m files = (before after : List SourceFile) (file : SourceFile) → files ≡ before ++ file ∷ after → IsFileOf m (length before) file
 
 -- The files are the source of a root: their names are the root's, followed by those that their imports give in source
 -- order, leaving out each name that is in the list already; and each but the first is given by an import of a file

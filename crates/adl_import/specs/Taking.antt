@@ -1,5 +1,5 @@
 -- What the steps of a turn answer.
-use Rattle.std.specs.Prelude.{◌≡◌, ◌⊎◌, ℕ, List, [], ◌∷◌, length, slice_get, Option, None, Some, IfSome, Result, Ok, Err}
+use Rattle.std.specs.Prelude.{◌≡◌, ◌⊎◌, ℕ, List, [], ◌∷◌, length, slice_get, Option, None, Some, Result, Ok, Err}
 use Rattle.std.specs.Str.{IsUtf8}
 use Rattle.cam_base.specs.declared.error.Refused.{Refused}
 use Rattle.cam_base.specs.declared.error.Refused.TheVariants as refused
@@ -14,7 +14,7 @@ use Rattle.adl_ast.specs.Spelling.{IsFileSpelled}
 use Rattle.adl_lexer.specs.Lexes.{Lexes, IsFirstFault}
 use Rattle.adl_parse_decl.specs.Files.{IsFileIn}
 use Rattle.adl_import.specs.Imports.{imports_of}
-use Rattle.adl_import.specs.Sources.{Meeting, IsFileOf}
+use Rattle.adl_import.specs.Sources.{Meeting, AlikeAsRead, IsFileOf}
 use Rattle.adl_import.specs.Turns.{take_imports, IsReadFault, IsTurnFault}
 use Rattle.adl_import.specs.declared.error.LoadError.{LoadError}
 use Rattle.adl_import.specs.declared.error.LoadError.TheVariants as error
@@ -58,19 +58,24 @@ IsParsed number name bytes (Err (error.ReadFault in_file)) = ⊥
 IsParsed number name bytes (Err error.NoMemory) = Unit {0}
 
 -- the next file after these, or the fault of its reading, lexing and parsing
-abbrev pub IsRead : Option Contents → List SourceFile → List ℕ → Place → Result SourceFile LoadError → Type 0
-IsRead contents files name place (Ok file) = (file.name ≡ name) × IsFileOf contents (length files) file
-IsRead contents files name place (Err (error.Fault f in_file)) = IfSome contents (λ m. IsReadFault m files name place f in_file)
-IsRead contents files name place (Err (error.ReadFault in_file)) = in_file ≡ name
-IsRead contents files name place (Err error.NoMemory) = Unit {0}
+abbrev pub IsRead : Contents → List SourceFile → List ℕ → Place → Result SourceFile LoadError → Type 0
+IsRead m files name place (Ok file) = (file.name ≡ name) × IsFileOf m (length files) file
+IsRead m files name place (Err (error.Fault f in_file)) = IsReadFault m files name place f in_file
+IsRead m files name place (Err (error.ReadFault in_file)) = in_file ≡ name
+IsRead m files name place (Err error.NoMemory) = Unit {0}
+
+-- both contents have the same file, as far as it is read, where one comes next after these
+abbrev pub AlikeInNext : List SourceFile → List Meeting → Contents → Contents → Type 0
+AlikeInNext files known m n =
+    (name : List ℕ) (place : Place) → slice_get known (length files) ≡ Some (name, place) → AlikeAsRead name m n
 
 -- The turn after these files: none is left; or the next file, and what is known after its imports; or the turn's fault.
-abbrev pub IsTurn : Option Contents → List ℕ → List SourceFile → List Meeting → List Meeting → Result (Option SourceFile) LoadError → Type 0
-IsTurn contents root files known after (Ok None) = (slice_get known (length files) ≡ None) × (after ≡ known)
-IsTurn contents root files known after (Ok (Some file)) =
-    (place : Place) × (slice_get known (length files) ≡ Some (file.name, place)) × IsFileOf contents (length files) file
+abbrev pub IsTurn : Contents → List ℕ → List SourceFile → List Meeting → List Meeting → Result (Option SourceFile) LoadError → Type 0
+IsTurn m root files known after (Ok None) = (slice_get known (length files) ≡ None) × (after ≡ known)
+IsTurn m root files known after (Ok (Some file)) =
+    (place : Place) × (slice_get known (length files) ≡ Some (file.name, place)) × IsFileOf m (length files) file
     × (take_imports root file.name known (imports_of file.tree) ≡ Ok after)
-IsTurn contents root files known after (Err (error.Fault f in_file)) =
-    IfSome contents (λ m. (name : List ℕ) × (place : Place) × (slice_get known (length files) ≡ Some (name, place)) × IsTurnFault m root files known name place f in_file)
-IsTurn contents root files known after (Err (error.ReadFault name)) = (place : Place) × (slice_get known (length files) ≡ Some (name, place))
-IsTurn contents root files known after (Err error.NoMemory) = Unit {0}
+IsTurn m root files known after (Err (error.Fault f in_file)) =
+    (name : List ℕ) × (place : Place) × (slice_get known (length files) ≡ Some (name, place)) × IsTurnFault m root files known name place f in_file
+IsTurn m root files known after (Err (error.ReadFault name)) = (place : Place) × (slice_get known (length files) ≡ Some (name, place))
+IsTurn m root files known after (Err error.NoMemory) = Unit {0}

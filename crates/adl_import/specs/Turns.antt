@@ -45,12 +45,12 @@ take_imports root own known [] = Ok known
 take_imports root own known (import ∷ imports) = and_then (λ more. take_imports root own more imports) (take_import root own known import)
 
 -- After the root is met, and then after a turn without a fault of each of these files in order, this is known.
-pub data Turns (contents : Option Contents) (root : List ℕ) : List SourceFile → List Meeting → Type 0 where
-  first : Turns contents root [] ((root, root_place) ∷ [])
+pub data Turns (m : Contents) (root : List ℕ) : List SourceFile → List Meeting → Type 0 where
+  first : Turns m root [] ((root, root_place) ∷ [])
   next : {files : List SourceFile} {known after : List Meeting} {file : SourceFile} {place : Place}
-      → Turns contents root files known → slice_get known (length files) ≡ Some (file.name, place)
-      → IsFileOf contents (length files) file → take_imports root file.name known (imports_of file.tree) ≡ Ok after
-      → Turns contents root (files ++ file ∷ []) after
+      → Turns m root files known → slice_get known (length files) ≡ Some (file.name, place)
+      → IsFileOf m (length files) file → take_imports root file.name known (imports_of file.tree) ≡ Ok after
+      → Turns m root (files ++ file ∷ []) after
 
 -- the name of the file in which a file is met; the root is met in itself
 abbrev pub met_in : List SourceFile → List ℕ → Place → List ℕ
@@ -70,5 +70,5 @@ pub data IsReadFault (m : Contents) (files : List SourceFile) (name : List ℕ) 
 -- The fault of a turn: of the reading, lexing and parsing, or else of the imports.
 pub data IsTurnFault (m : Contents) (root : List ℕ) (files : List SourceFile) (known : List Meeting) (name : List ℕ) (place : Place) : Fault → List ℕ → Type 0 where
   reading : {f : Fault} {in_file : List ℕ} → IsReadFault m files name place f in_file → IsTurnFault m root files known name place f in_file
-  importing : {file : SourceFile} {f : Fault} → file.name ≡ name → IsFileOf (Some m) (length files) file
+  importing : {file : SourceFile} {f : Fault} → file.name ≡ name → IsFileOf m (length files) file
       → take_imports root name known (imports_of file.tree) ≡ Err f → IsTurnFault m root files known name place f name

@@ -1,8 +1,8 @@
 //! Loading a source.
 
-ghost use Rattle.adl_import.specs.Loaded.{IsLoaded, IsLoadedFrom, IsRefusedRoot};
+ghost use Rattle.adl_import.specs.Loaded.{AlikeInSource, AlikeInTurns, IsLoaded, IsLoadedFrom, IsRefusedRoot};
 ghost use Rattle.cam_io.specs.Causes.{Rose};
-ghost use Rattle.cam_io.specs.Reading.{KeepsFiles};
+ghost use Rattle.cam_io.specs.Reading.{InAll, KeepsFiles, LearnsOnly};
 ghost use Rattle.std.specs.Prelude.{◌≡◌, ◌∷◌, [], ℕ, List as Items, Err, IfOk};
 ghost use Rattle.std.specs.Str.{IsUtf8};
 
@@ -32,10 +32,11 @@ fn met_root(alloc: Global, root: &Text) -> Result<IndexMap<Text, Place>, NoMemor
 
 fn load_from<F: Files>(alloc: Global, files: &mut F, root: &Text) -> Result<Source, LoadError>
     requires { IsUtf8 root.now }
-    ensures kept { KeepsFiles F.contents F.faults files.old files.new }
+    ensures kept { KeepsFiles F.told F.faults files.old files.new }
     ensures rose { (read : Items ℕ) → result ≡ Err (LoadError.ReadFault read)
         → Rose (F.faults files.old read) (F.faults files.new read) }
-    ensures loaded { IsLoadedFrom (F.contents files.old) root.now result }
+    ensures learned { LearnsOnly F.told (AlikeInTurns root.now) files.old files.new }
+    ensures loaded { InAll (F.told files.new) (λ m. IsLoadedFrom m root.now result) }
 {
     let mut known = met_root(alloc, root)?;
     let mut done = List::new(alloc);
@@ -56,12 +57,13 @@ fn refused_root(alloc: Global, root: &str) -> Result<Source, LoadError>
 
 /// The source of a root: its file, and the files that it and they import, each read once. Refused exactly where a turn
 /// has a fault, by the first fault of the first such turn: `specs/Loaded.antt`. `ReadFault` only where the count of the
-/// name that it gives rose.
+/// name that it gives rose. It looks at no file but those whose turns come, and at no more of one than the limit and a byte.
 pub fn load<F: Files>(alloc: Global, files: &mut F, root: &str) -> Result<Source, LoadError>
-    ensures kept { KeepsFiles F.contents F.faults files.old files.new }
+    ensures kept { KeepsFiles F.told F.faults files.old files.new }
     ensures rose { (read : Items ℕ) → result ≡ Err (LoadError.ReadFault read)
         → Rose (F.faults files.old read) (F.faults files.new read) }
-    ensures loaded { IsLoaded (F.contents files.old) root.now result }
+    ensures learned { LearnsOnly F.told (AlikeInSource root.now) files.old files.new }
+    ensures loaded { InAll (F.told files.new) (λ m. IsLoaded m root.now result) }
 {
     match fold_root(alloc, root.as_bytes()) {
         Ok(name) => load_from(alloc, files, &name),

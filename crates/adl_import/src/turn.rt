@@ -1,12 +1,14 @@
 //! The turn of a file.
 
 ghost use Rattle.adl_import.specs.Imports.{imports_of};
-ghost use Rattle.adl_import.specs.Sources.{files_limit};
-ghost use Rattle.adl_import.specs.Taking.{AreUtf8, IsTreeOf, IsParsed, IsRead, IsTakenIn, IsTurn};
+ghost use Rattle.adl_import.specs.Sources.{AlikeAsRead, file_limit, files_limit};
+ghost use Rattle.adl_import.specs.Taking.{AlikeInNext, AreUtf8, IsTreeOf, IsParsed, IsRead, IsTakenIn, IsTurn};
 ghost use Rattle.adl_import.specs.Turns.{met_in, fault_at, take_imports};
 ghost use Rattle.cam_io.specs.Causes.{Rose};
-ghost use Rattle.cam_io.specs.Reading.{KeepsFiles};
-ghost use Rattle.std.specs.Prelude.{◌≡◌, ◌<◌, ◌≤◌, ℕ, List as Items, Err, length, IfOk};
+ghost use Rattle.cam_io.specs.Reading.{InAll, KeepsFiles, LearnsOnly};
+ghost use Rattle.cam_io.specs.Whole.{IsWhole};
+ghost use Rattle.std.specs.FinMap as map;
+ghost use Rattle.std.specs.Prelude.{◌≡◌, ◌<◌, ◌≤◌, ℕ, List as Items, Err, length, IfOk, IsErrOf};
 ghost use Rattle.std.specs.Str.{IsUtf8};
 
 use crate::LoadError;
@@ -94,6 +96,18 @@ fn fault_where_met(
     Ok(LoadError::Fault(fault, in_file.copy(alloc)?))
 }
 
+/// The bytes of a file.
+fn read_named<F: Files>(alloc: Global, files: &mut F, name: &Text) -> Result<List<u8>, WholeError>
+    requires { IsUtf8 name.now }
+    ensures kept { KeepsFiles F.told F.faults files.old files.new }
+    ensures read_fault { IsErrOf result WholeError.ReadFault → Rose (F.faults files.old name.now) (F.faults files.new name.now) }
+    ensures limit { IfOk result (λ bytes. length bytes ≤ file_limit) }
+    ensures learned { LearnsOnly F.told (AlikeAsRead name.now) files.old files.new }
+    ensures whole { InAll (F.told files.new) (λ m. IsWhole (map.get m name.now) file_limit result) }
+{
+    read_whole(alloc, files, as_text(name.as_bytes()), FILE_LIMIT)
+}
+
 /// Reads, lexes and parses the next file after these.
 fn read_file<F: Files>(
     alloc: Global,
@@ -105,12 +119,13 @@ fn read_file<F: Files>(
 ) -> Result<SourceFile, LoadError>
     requires few { length done.now < files_limit }
     requires utf8 { IsUtf8 name.now }
-    ensures kept { KeepsFiles F.contents F.faults files.old files.new }
+    ensures kept { KeepsFiles F.told F.faults files.old files.new }
     ensures rose { (read : Items ℕ) → result ≡ Err (LoadError.ReadFault read)
         → Rose (F.faults files.old read) (F.faults files.new read) }
-    ensures read { IsRead (F.contents files.old) done.now name.now place result }
+    ensures learned { LearnsOnly F.told (AlikeAsRead name.now) files.old files.new }
+    ensures read { InAll (F.told files.new) (λ m. IsRead m done.now name.now place result) }
 {
-    match read_whole(alloc, files, as_text(name.as_bytes()), FILE_LIMIT) {
+    match read_named(alloc, files, name) {
         Ok(bytes) => parsed(alloc, done.len() as u32, name, bytes, room),
         Err(WholeError::Absent) => Err(fault_where_met(
             alloc,
@@ -160,10 +175,11 @@ pub(crate) fn take_turn<F: Files>(
 ) -> Result<Option<SourceFile>, LoadError>
     requires few { length known.old.entries ≤ files_limit }
     requires utf8 { AreUtf8 known.old.entries }
-    ensures kept { KeepsFiles F.contents F.faults files.old files.new }
+    ensures kept { KeepsFiles F.told F.faults files.old files.new }
     ensures rose { (read : Items ℕ) → result ≡ Err (LoadError.ReadFault read)
         → Rose (F.faults files.old read) (F.faults files.new read) }
-    ensures turn { IsTurn (F.contents files.old) root.now done.now known.old.entries known.new.entries result }
+    ensures learned { LearnsOnly F.told (AlikeInNext done.now known.old.entries) files.old files.new }
+    ensures turn { InAll (F.told files.new) (λ m. IsTurn m root.now done.now known.old.entries known.new.entries result) }
 {
     let Some((name, place)) = known.get_index(done.len()) else {
         return Ok(None);

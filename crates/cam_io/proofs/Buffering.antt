@@ -1,7 +1,7 @@
 -- Outputs behind a buffer: what a begin and a write leave of what is told.
 use Rattle.std.proofs.Common.{◌≡◌, ◌∙◌, ap, sym, subst, ℕ, List, [], take, IsTrue, Result, Ok, Err, OnOk, OnErr, IfOk}
 use Rattle.cam_io.specs.Sinks.{Sink, is_open, appended, with_begun}
-use Rattle.cam_io.specs.Buffered.{with_waiting}
+use Rattle.cam_io.specs.Waiting.{with_waiting}
 use Rattle.cam_io.proofs.Appends.{appended_nil, open_appended}
 use Rattle.cam_io.proofs.Scripted.{open_behind_begin}
 

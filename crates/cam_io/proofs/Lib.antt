@@ -3,10 +3,12 @@ pub mod Buffering
 pub mod Channels
 pub mod Counts
 pub mod Fronts
+pub mod Learning
 pub mod Lines
 pub mod Lookups
 pub mod Puts
 pub mod Scripted
+pub mod Seeing
 pub mod Sequence
 pub mod Taken
 pub mod Writing

@@ -3,11 +3,14 @@ pub mod Causes
 pub mod Channels
 pub mod Contents
 pub mod Host
+pub mod LeastSeen
 pub mod MemFiles
 pub mod MemOutputs
 pub mod NamedFiles
 pub mod Reading
 pub mod Scripts
+pub mod Seen
 pub mod Sinks
+pub mod Waiting
 pub mod Whole
 pub use Rattle.cam_base.specs.Texts

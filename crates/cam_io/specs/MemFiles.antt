@@ -9,6 +9,18 @@ use Rattle.cam_io.specs.declared.mem_files.MemFiles.{MemFiles}
 abbrev pub held : MemFiles → Contents
 held m = contents_of m.files.items
 
+-- these are the contents
+abbrev pub IsHeld : MemFiles → Contents → Type 0
+IsHeld m contents = contents ≡ held m
+
+-- how many reads there were
+abbrev pub calls : MemFiles → ℕ
+calls m = m.calls
+
+-- the numbers of the reads that fail
+abbrev pub failing : MemFiles → List ℕ
+failing m = m.failing
+
 -- how often reads of a name have failed
 abbrev pub counts : MemFiles → List ℕ → ℕ
 counts m = count_of m.files.items m.others

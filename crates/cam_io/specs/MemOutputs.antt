@@ -2,6 +2,7 @@
 use Rattle.std.specs.Prelude.{ℕ, zero, suc, false, List, [], ◌∷◌, Option, None, Some}
 use Rattle.cam_io.specs.Channels.{Channel, begun_name}
 use Rattle.cam_io.specs.Sinks.{Sink}
+use Rattle.cam_io.specs.declared.mem_outputs.MemOutputs.{MemOutputs}
 
 -- what the channel of a number has, or d where there is none
 abbrev pub of_channel : {A : Type 0} → (Channel → A) → A → List Channel → ℕ → A
@@ -25,3 +26,31 @@ room_of = of_channel (λ c. c.room) 0
 unfoldable pub sink_of : List Channel → Sink
 sink_of cs =
     record { begun = of_channel (λ c. c.begun) false cs; names = Some (of_channel (λ c. c.name) [] cs); written = Some (bytes_of cs) }
+
+-- ---- of outputs in memory
+
+abbrev pub channels : MemOutputs → List Channel
+channels o = o.channels
+
+abbrev pub mem_sink : MemOutputs → Sink
+mem_sink o = sink_of o.channels
+
+abbrev pub mem_bytes : MemOutputs → ℕ → List ℕ
+mem_bytes o = bytes_of o.channels
+
+abbrev pub mem_begun : MemOutputs → ℕ → Option (List ℕ)
+mem_begun o = begun_of o.channels
+
+-- for how many bytes each channel has room left
+abbrev pub rooms : MemOutputs → ℕ → ℕ
+rooms o = room_of o.channels
+
+-- how often a call has failed, how many calls there were, and the numbers of those that fail
+abbrev pub mem_faults : MemOutputs → ℕ
+mem_faults o = o.faults
+
+abbrev pub calls : MemOutputs → ℕ
+calls o = o.calls
+
+abbrev pub failing : MemOutputs → List ℕ
+failing o = o.failing

@@ -1,4 +1,6 @@
 -- What a read answers, and what it leaves as it was.
+use Rattle.std.specs.FinMap.{get}
+use Rattle.std.specs.Option.{option_map}
 use Rattle.std.specs.Prelude.{◌≡◌, ◌<◌, ◌≤◌, ℕ, ◌+◌, List, length, take, drop, Option, None, Some}
 use Rattle.cam_io.specs.Causes.{NoneFell}
 use Rattle.cam_io.specs.Contents.{Contents}
@@ -17,7 +19,20 @@ IsGot file at buffer Absent = file ≡ None
 IsGot file at buffer End = (bytes : List ℕ) × (file ≡ Some bytes) × (length bytes ≤ at)
 IsGot file at buffer (Bytes n) = (bytes : List ℕ) × (file ≡ Some bytes) × (at + n ≤ length bytes) × (take n buffer ≡ take n (drop at bytes))
 
--- reading changes no content, and no count falls
-pub record KeepsFiles {F : Type 0} (contents : F → Option Contents) (faults : F → List ℕ → ℕ) (before now : F) : Type 0 where
-  pub same : contents now ≡ contents before
+-- it holds of all contents that are told
+abbrev pub InAll : (Contents → Type 0) → (Contents → Type 0) → Type 0
+InAll told holds = (m : Contents) → told m → holds m
+
+-- what was told stays told, and no count falls
+pub record KeepsFiles {F : Type 0} (told : F → Contents → Type 0) (faults : F → List ℕ → ℕ) (before now : F) : Type 0 where
+  pub told_still : InAll (told now) (told before)
   pub later : NoneFell (faults before) (faults now)
+
+-- the file of a name has the same bytes in both contents, as far as so many go, or is in neither
+abbrev pub HaveSameFront : List ℕ → ℕ → Contents → Contents → Type 0
+HaveSameFront name count m n = option_map (take count) (get m name) ≡ option_map (take count) (get n name)
+
+-- What a call learns of the contents is no more than this: contents that were told before it, and are alike in this to some that
+-- are told after it, are told after it too.
+abbrev pub LearnsOnly : {F : Type 0} → (F → Contents → Type 0) → (Contents → Contents → Type 0) → F → F → Type 0
+LearnsOnly told Alike before now = (m n : Contents) → told now m → told before n → Alike m n → told now n

@@ -1,7 +1,7 @@
-ghost use Rattle.cam_io.specs.Buffered.{with_waiting};
 ghost use Rattle.cam_io.specs.Causes.{Rose};
 ghost use Rattle.cam_io.specs.Sinks.{IsOpen, appended, is_open, with_begun};
-ghost use Rattle.std.specs.Prelude.{◌≡◌, ◌<◌, ◌≤◌, ℕ, [], false, IsTrue, length, take, IfOk, OnOk, OnErr};
+ghost use Rattle.cam_io.specs.Waiting.{with_waiting};
+ghost use Rattle.std.specs.Prelude.{◌≡◌, ◌<◌, ◌≤◌, ℕ, false, IsTrue, length, take, IfOk, OnOk, OnErr};
 
 use crate::{Failed, Outputs};
 use arrayvec::ArrayVec;
@@ -19,10 +19,12 @@ pub struct Buffered<O: Outputs + Drop> {
 }
 
 impl<O: Outputs + Drop> Buffered<O> {
+    ghost use Rattle.cam_io.specs.Buffered.{NoneWaits, channel_of, faults_by, sent_by, told_by};
+
     /// Nothing waits.
     pub fn new(outputs: O) -> Buffered<O>
-        ensures sink { with_waiting (O.sink result.outputs) result.channel result.waiting.items result.sent ≡ O.sink outputs }
-        ensures faults { O.faults result.outputs ≡ O.faults outputs }
+        ensures sink { told_by O.sink result ≡ O.sink outputs }
+        ensures faults { faults_by O.faults result ≡ O.faults outputs }
     {
         Buffered {
             outputs,
@@ -35,15 +37,12 @@ impl<O: Outputs + Drop> Buffered<O> {
     /// Sends what waits, so that the outputs hold all that was written. `Failed` only where the count rose; then the rest
     /// waits on.
     pub fn flush(&mut self) -> Result<(), Failed>
-        ensures same { with_waiting (O.sink self.new.outputs) self.new.channel self.new.waiting.items self.new.sent
-            ≡ with_waiting (O.sink self.old.outputs) self.old.channel self.old.waiting.items self.old.sent }
-        ensures channel { self.new.channel ≡ self.old.channel }
-        ensures ok { OnOk result (O.sink self.new.outputs
-            ≡ with_waiting (O.sink self.old.outputs) self.old.channel self.old.waiting.items self.old.sent) }
-        ensures waiting { OnOk result (self.new.waiting.items ≡ []) }
-        ensures sent { OnOk result (self.new.sent ≡ 0) }
-        ensures later { O.faults self.old.outputs ≤ O.faults self.new.outputs }
-        ensures failed { OnErr result (Rose (O.faults self.old.outputs) (O.faults self.new.outputs)) }
+        ensures same { told_by O.sink self.new ≡ told_by O.sink self.old }
+        ensures channel { channel_of self.new ≡ channel_of self.old }
+        ensures ok { OnOk result (sent_by O.sink self.new ≡ told_by O.sink self.old) }
+        ensures none { OnOk result (NoneWaits self.new) }
+        ensures later { faults_by O.faults self.old ≤ faults_by O.faults self.new }
+        ensures failed { OnErr result (Rose (faults_by O.faults self.old) (faults_by O.faults self.new)) }
     {
         send(
             &mut self.outputs,
@@ -58,12 +57,11 @@ impl<O: Outputs + Drop> Buffered<O> {
 
     /// Sends what waits of another channel.
     fn turn_to(&mut self, channel: u8) -> Result<(), Failed>
-        requires { IsTrue (is_open (O.sink self.old.outputs) channel) }
-        ensures same { with_waiting (O.sink self.new.outputs) self.new.channel self.new.waiting.items self.new.sent
-            ≡ with_waiting (O.sink self.old.outputs) self.old.channel self.old.waiting.items self.old.sent }
-        ensures channel { OnOk result (self.new.channel ≡ channel) }
-        ensures later { O.faults self.old.outputs ≤ O.faults self.new.outputs }
-        ensures failed { OnErr result (Rose (O.faults self.old.outputs) (O.faults self.new.outputs)) }
+        requires { IsTrue (is_open (sent_by O.sink self.old) channel) }
+        ensures same { told_by O.sink self.new ≡ told_by O.sink self.old }
+        ensures channel { OnOk result (channel_of self.new ≡ channel) }
+        ensures later { faults_by O.faults self.old ≤ faults_by O.faults self.new }
+        ensures failed { OnErr result (Rose (faults_by O.faults self.old) (faults_by O.faults self.new)) }
     {
         if channel != self.channel {
             self.flush()?;
@@ -74,18 +72,14 @@ impl<O: Outputs + Drop> Buffered<O> {
 
     /// Sends what waits, and writes a piece behind it.
     fn write_through(&mut self, channel: u8, piece: &[u8]) -> Result<usize, Failed>
-        requires open { IsTrue (is_open (O.sink self.old.outputs) channel) }
+        requires open { IsTrue (is_open (sent_by O.sink self.old) channel) }
         requires some { 0 < length piece.now }
         ensures some { IfOk result (λ n. 0 < n) }
         ensures at_most { IfOk result (λ n. n ≤ length piece.now) }
-        ensures ok { IfOk result (λ n.
-            with_waiting (O.sink self.new.outputs) self.new.channel self.new.waiting.items self.new.sent
-            ≡ appended (with_waiting (O.sink self.old.outputs) self.old.channel self.old.waiting.items self.old.sent) channel
-            (take n piece.now)) }
-        ensures err { OnErr result (with_waiting (O.sink self.new.outputs) self.new.channel self.new.waiting.items self.new.sent
-            ≡ with_waiting (O.sink self.old.outputs) self.old.channel self.old.waiting.items self.old.sent) }
-        ensures later { O.faults self.old.outputs ≤ O.faults self.new.outputs }
-        ensures failed { OnErr result (Rose (O.faults self.old.outputs) (O.faults self.new.outputs)) }
+        ensures ok { IfOk result (λ n. told_by O.sink self.new ≡ appended (told_by O.sink self.old) channel (take n piece.now)) }
+        ensures err { OnErr result (told_by O.sink self.new ≡ told_by O.sink self.old) }
+        ensures later { faults_by O.faults self.old ≤ faults_by O.faults self.new }
+        ensures failed { OnErr result (Rose (faults_by O.faults self.old) (faults_by O.faults self.new)) }
     {
         self.flush()?;
         self.outputs.write(channel, piece)
@@ -116,13 +110,22 @@ fn send<O: Outputs>(
 }
 
 impl<O: Outputs + Drop> Outputs for Buffered<O> {
-    ghost use Rattle.cam_io.specs.Buffered.{with_waiting};
+    ghost use Rattle.cam_io.specs.Buffered.{NoneWaits, told_by, faults_by};
 
-    ghost sink = { λ b. with_waiting (O.sink b.outputs) b.channel b.waiting.items b.sent };
+    ghost sink = { told_by O.sink };
 
-    ghost faults = { λ b. O.faults b.outputs };
+    ghost faults = { faults_by O.faults };
 
-    fn begin(&mut self, channel: u8, name: &str) -> Result<(), Failed> {
+    fn begin(&mut self, channel: u8, name: &str) -> Result<(), Failed>
+        requires low { 2 ≤ channel }
+        requires high { channel ≤ 5 }
+        requires fresh { (told_by O.sink self.old).begun channel ≡ false }
+        ensures ok { OnOk result (told_by O.sink self.new ≡ with_begun (told_by O.sink self.old) channel name.now) }
+        ensures err { OnErr result (told_by O.sink self.new ≡ told_by O.sink self.old) }
+        ensures none { OnOk result (NoneWaits self.new) }
+        ensures later { faults_by O.faults self.old ≤ faults_by O.faults self.new }
+        ensures failed { OnErr result (Rose (faults_by O.faults self.old) (faults_by O.faults self.new)) }
+    {
         self.flush()?;
         self.outputs.begin(channel, name)
     }

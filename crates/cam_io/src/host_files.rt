@@ -1,36 +1,36 @@
 ghost use Rattle.cam_io.specs.Causes.{Rose, one_more};
-ghost use Rattle.cam_io.specs.Reading.{TookAtMost, KeepsFiles};
-ghost use Rattle.std.specs.Prelude.{◌≡◌, ◌<◌, ◌≤◌, length, IfOk, OnOk, OnErr};
+ghost use Rattle.cam_io.specs.Contents.{Contents};
+ghost use Rattle.cam_io.specs.Host.{host_told, host_faults};
+ghost use Rattle.cam_io.specs.Reading.{InAll, TookAtMost, IsGot, KeepsFiles, HaveSameFront, LearnsOnly};
+ghost use Rattle.cam_io.specs.Seen.{seen_of, replaced};
+ghost use Rattle.cam_io.specs.declared.seen.Seen.{Seen as Entry};
+ghost use Rattle.std.specs.FinMap as map;
+ghost use Rattle.std.specs.Prelude.{◌≡◌, ◌<◌, ◌≤◌, ◌+◌, length, slice_get, slice_set, IfOk, OnOk, OnErr};
 
+use crate::seen::{Seen, place_of};
 use crate::{Failed, Files, Got};
-use std::fs::File;
-use std::io::{ErrorKind, Read, Seek, SeekFrom};
-use std::{fs, io};
+use cam_base::NoMemory;
 
-/// The files of the host. They tell no contents, and have one count of faults for all names, which rises at each error.
-/// The file that was read last stays open.
+/// The files of the host. What they answer of a name they keep, and answer again, so that no two of their answers ever
+/// differ, and each file is read once, however often it is asked for. The contents that they tell are those that have all that
+/// was answered. They have one count of faults for all names, which rises at each error.
 #[derive(Drop)]
 pub struct HostFiles {
     rt: HostRuntime,
-    open: Option<OpenFile>,
+    seen: Vec<Seen>,
     faults: u64,
 }
 
-/// An open file, and its name where there was memory to keep it.
-#[derive(Drop)]
-struct OpenFile {
-    name: Option<String>,
-    file: File,
-}
-
 impl HostFiles {
-    /// No file is open, and the count is 0. Takes no memory.
+    /// Nothing was read, and the count is 0. Takes no memory.
     pub fn new(rt: HostRuntime) -> HostFiles
-        ensures { result.faults ≡ 0 }
+        ensures told { (m : Contents) → host_told result m }
+        ensures faults { host_faults result ≡ 0 }
     {
+        let seen = Vec::new(rt.alloc());
         HostFiles {
             rt,
-            open: None,
+            seen,
             faults: 0,
         }
     }
@@ -39,99 +39,80 @@ impl HostFiles {
         ensures faults { self.new.faults ≡ one_more self.old.faults }
         ensures rose { Rose self.old.faults self.new.faults }
         ensures later { self.old.faults ≤ self.new.faults }
+        ensures seen { self.new.seen.items ≡ self.old.seen.items }
     {
         self.faults = self.faults.saturating_add(1);
         Failed
     }
-}
 
-impl OpenFile {
-    fn is_named(&self, name: &str) -> bool {
-        match &self.name {
-            Some(own) => own.as_str() == name,
-            None => false,
+    /// The place of a name's entry, which is made where there is none.
+    fn place(&mut self, name: &str) -> Result<usize, NoMemory>
+        ensures told { InAll (host_told self.new) (host_told self.old) }
+        ensures learned { InAll (host_told self.old) (host_told self.new) }
+        ensures faults { self.new.faults ≡ self.old.faults }
+        ensures within { IfOk result (λ i. i < length self.new.seen.items) }
+        ensures found { IfOk result (λ i. seen_of self.new.seen.items name.now ≡ slice_get self.new.seen.items i) }
+        ensures replace { IfOk result (λ i. (s : Entry) → slice_set self.new.seen.items i s
+            ≡ replaced self.new.seen.items name.now s) }
+    {
+        if let Some(place) = place_of(self.seen.as_slice(), name.as_bytes()) {
+            return Ok(place);
         }
+        let entry = Seen::new(self.rt.alloc(), name.as_bytes())?;
+        let place = self.seen.as_slice().len();
+        self.seen.push(entry)?;
+        Ok(place)
     }
-}
 
-/// The file of a name: the one that is open, or opened anew. None where there is no such file.
-fn open_file(rt: &HostRuntime, open: Option<OpenFile>, name: &str) -> io::Result<Option<OpenFile>> {
-    if let Some(file) = open {
-        if file.is_named(name) {
-            return Ok(Some(file));
-        }
-    }
-    match fs::open(rt, name) {
-        Ok(file) => Ok(Some(OpenFile {
-            name: String::from_str(rt.alloc(), name).ok(),
-            file,
-        })),
-        Err(e) => {
-            if e.kind() == ErrorKind::NotFound {
-                Ok(None)
-            } else {
-                Err(e)
-            }
-        }
-    }
-}
-
-/// One read of an open file.
-fn read_at(file: &mut File, at: u64, buf: &mut [u8]) -> io::Result<Got>
-    requires { 0 < length buf.old }
-    ensures { IfOk result (TookAtMost (length buf.new)) }
-{
-    file.seek(SeekFrom::Start(at))?;
-    let count = file.read(buf)?;
-    Ok(if count == 0 {
-        Got::End
-    } else {
-        Got::Bytes(count)
-    })
-}
-
-/// One read of the file of a name, which then stays open.
-fn read_named(
-    rt: &HostRuntime,
-    open: Option<OpenFile>,
-    name: &str,
-    at: u64,
-    buf: &mut [u8],
-) -> io::Result<(Got, Option<OpenFile>)>
-    requires { 0 < length buf.old }
-    ensures { IfOk result (λ p. TookAtMost (length buf.new) p.0) }
-{
-    match open_file(rt, open, name)? {
-        None => Ok((Got::Absent, None)),
-        Some(mut open) => {
-            let got = read_at(&mut open.file, at, buf)?;
-            Ok((got, Some(open)))
-        }
+    /// Reads what was seen of a name, or asks the host and sees it.
+    fn read_named(&mut self, name: &str, at: u64, buf: &mut [u8]) -> Result<Got, Failed>
+        requires { 0 < length buf.old }
+        ensures told { InAll (host_told self.new) (host_told self.old) }
+        ensures faults { self.new.faults ≡ self.old.faults }
+        ensures some { IfOk result (TookAtMost (length buf.new)) }
+        ensures got { InAll (host_told self.new) (λ m. IfOk result (IsGot (map.get m name.now) at buf.new)) }
+        ensures learned { LearnsOnly host_told (HaveSameFront name.now (at + length buf.old)) self.old self.new }
+    {
+        let Ok(place) = self.place(name) else {
+            return Err(Failed);
+        };
+        self.seen[place].read(&self.rt, name, at, buf)
     }
 }
 
 impl Files for HostFiles {
-    ghost use Rattle.std.specs.Prelude.{None};
+    ghost use Rattle.cam_io.specs.Host.{host_told, host_faults};
+    ghost use Rattle.cam_io.specs.Seen.{least};
+    ghost use Rattle.cam_io.specs.LeastSeen.{least_agrees};
 
-    ghost contents = { λ _. None };
+    ghost told = { host_told };
 
-    ghost faults = { λ s _. s.faults };
+    ghost faults = { λ s _. host_faults s };
+
+    fn make_room(&mut self, name: &str, bytes: usize) -> Result<(), NoMemory>
+        ensures kept { KeepsFiles host_told (λ s _. host_faults s) self.old self.new }
+        ensures learned { (m : Contents) → host_told self.old m → host_told self.new m }
+        ensures quiet { host_faults self.new ≡ host_faults self.old }
+    {
+        let place = self.place(name)?;
+        self.seen[place].make_room(bytes)
+    }
 
     fn read(&mut self, name: &str, at: u64, buf: &mut [u8]) -> Result<Got, Failed>
         requires { 0 < length buf.old }
-        ensures kept { KeepsFiles (λ _. None) (λ s _. s.faults) self.old self.new }
-        ensures failed { OnErr result (Rose self.old.faults self.new.faults) }
+        ensures kept { KeepsFiles host_told (λ s _. host_faults s) self.old self.new }
+        ensures failed { OnErr result (Rose (host_faults self.old) (host_faults self.new)) }
         ensures some { IfOk result (TookAtMost (length buf.new)) }
-        ensures quiet { OnOk result (self.new.faults ≡ self.old.faults) }
-        ensures counted { OnErr result (self.new.faults ≡ one_more self.old.faults) }
+        ensures got { InAll (host_told self.new) (λ m. IfOk result (IsGot (map.get m name.now) at buf.new)) }
+        ensures learned { LearnsOnly host_told (HaveSameFront name.now (at + length buf.old)) self.old self.new }
+        ensures quiet { OnOk result (host_faults self.new ≡ host_faults self.old) }
+        ensures counted { OnErr result (host_faults self.new ≡ one_more (host_faults self.old)) }
     {
-        let open = self.open.take();
-        match read_named(&self.rt, open, name, at, buf) {
-            Ok((got, open)) => {
-                self.open = open;
-                Ok(got)
-            }
-            Err(_) => Err(self.fault()),
+        match self.read_named(name, at, buf) {
+            Ok(got) => Ok(got),
+            Err(Failed) => Err(self.fault()),
         }
     }
+
+    ghost some = { λ s. (least s.seen.items, least_agrees s.seen.items) };
 }

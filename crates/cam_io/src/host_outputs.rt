@@ -1,5 +1,5 @@
 ghost use Rattle.cam_io.specs.Causes.{Rose, one_more};
-ghost use Rattle.cam_io.specs.Host.{host_sink};
+ghost use Rattle.cam_io.specs.Host.{begun_by, faults_by, host_sink};
 ghost use Rattle.cam_io.specs.Sinks.{IsOpen, appended, with_begun};
 ghost use Rattle.std.specs.Prelude.{◌≡◌, ◌<◌, ◌≤◌, ℕ, false, length, take, IfOk, OnOk, OnErr};
 
@@ -20,8 +20,8 @@ pub struct HostOutputs {
 impl HostOutputs {
     /// No channel is begun, and the count is 0.
     pub fn new(rt: HostRuntime) -> HostOutputs
-        ensures fresh { (k : ℕ) → (host_sink result.files).begun k ≡ false }
-        ensures faults { result.faults ≡ 0 }
+        ensures fresh { (k : ℕ) → (begun_by result).begun k ≡ false }
+        ensures faults { faults_by result ≡ 0 }
     {
         HostOutputs {
             rt,
@@ -31,9 +31,9 @@ impl HostOutputs {
     }
 
     fn fault(&mut self) -> Failed
-        ensures faults { self.new.faults ≡ one_more self.old.faults }
-        ensures rose { Rose self.old.faults self.new.faults }
-        ensures later { self.old.faults ≤ self.new.faults }
+        ensures faults { faults_by self.new ≡ one_more (faults_by self.old) }
+        ensures rose { Rose (faults_by self.old) (faults_by self.new) }
+        ensures later { faults_by self.old ≤ faults_by self.new }
         ensures files { self.new.files ≡ self.old.files }
     {
         self.faults = self.faults.saturating_add(1);
@@ -91,22 +91,22 @@ fn begin_file(
 }
 
 impl Outputs for HostOutputs {
-    ghost use Rattle.cam_io.specs.Host.{host_sink};
+    ghost use Rattle.cam_io.specs.Host.{begun_by, faults_by};
 
-    ghost sink = { λ s. host_sink s.files };
+    ghost sink = { begun_by };
 
-    ghost faults = { λ s. s.faults };
+    ghost faults = { faults_by };
 
     fn begin(&mut self, channel: u8, name: &str) -> Result<(), Failed>
         requires low { 2 ≤ channel }
         requires high { channel ≤ 5 }
-        requires fresh { (host_sink self.old.files).begun channel ≡ false }
-        ensures ok { OnOk result (host_sink self.new.files ≡ with_begun (host_sink self.old.files) channel name.now) }
-        ensures err { OnErr result (host_sink self.new.files ≡ host_sink self.old.files) }
-        ensures later { self.old.faults ≤ self.new.faults }
-        ensures failed { OnErr result (Rose self.old.faults self.new.faults) }
-        ensures quiet { OnOk result (self.new.faults ≡ self.old.faults) }
-        ensures counted { OnErr result (self.new.faults ≡ one_more self.old.faults) }
+        requires fresh { (begun_by self.old).begun channel ≡ false }
+        ensures ok { OnOk result (begun_by self.new ≡ with_begun (begun_by self.old) channel name.now) }
+        ensures err { OnErr result (begun_by self.new ≡ begun_by self.old) }
+        ensures later { faults_by self.old ≤ faults_by self.new }
+        ensures failed { OnErr result (Rose (faults_by self.old) (faults_by self.new)) }
+        ensures quiet { OnOk result (faults_by self.new ≡ faults_by self.old) }
+        ensures counted { OnErr result (faults_by self.new ≡ one_more (faults_by self.old)) }
     {
         match begin_file(&self.rt, &mut self.files, channel as usize, name) {
             Ok(()) => Ok(()),
@@ -115,17 +115,17 @@ impl Outputs for HostOutputs {
     }
 
     fn write(&mut self, channel: u8, piece: &[u8]) -> Result<usize, Failed>
-        requires open { IsOpen (host_sink self.old.files) channel }
+        requires open { IsOpen (begun_by self.old) channel }
         requires some { 0 < length piece.now }
         ensures some { IfOk result (λ n. 0 < n) }
         ensures at_most { IfOk result (λ n. n ≤ length piece.now) }
-        ensures ok { IfOk result (λ n. host_sink self.new.files ≡ appended (host_sink self.old.files) channel
+        ensures ok { IfOk result (λ n. begun_by self.new ≡ appended (begun_by self.old) channel
             (take n piece.now)) }
-        ensures err { OnErr result (host_sink self.new.files ≡ host_sink self.old.files) }
-        ensures later { self.old.faults ≤ self.new.faults }
-        ensures failed { OnErr result (Rose self.old.faults self.new.faults) }
-        ensures quiet { OnOk result (self.new.faults ≡ self.old.faults) }
-        ensures counted { OnErr result (self.new.faults ≡ one_more self.old.faults) }
+        ensures err { OnErr result (begun_by self.new ≡ begun_by self.old) }
+        ensures later { faults_by self.old ≤ faults_by self.new }
+        ensures failed { OnErr result (Rose (faults_by self.old) (faults_by self.new)) }
+        ensures quiet { OnOk result (faults_by self.new ≡ faults_by self.old) }
+        ensures counted { OnErr result (faults_by self.new ≡ one_more (faults_by self.old)) }
     {
         match write_once(&self.rt, &self.files, channel, piece) {
             Ok(count) => Ok(count),

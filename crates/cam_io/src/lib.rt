@@ -20,6 +20,7 @@ mod mem_files;
 mod mem_outputs;
 mod named_file;
 mod outputs;
+mod seen;
 mod whole;
 mod write;
 

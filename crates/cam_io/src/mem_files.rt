@@ -1,8 +1,9 @@
 ghost use Rattle.cam_io.specs.Causes.{Rose, next_call};
-ghost use Rattle.cam_io.specs.MemFiles.{held, counts, CountsFault};
-ghost use Rattle.cam_io.specs.Reading.{TookAtMost, IsGot, KeepsFiles};
+ghost use Rattle.cam_io.specs.Contents.{Contents};
+ghost use Rattle.cam_io.specs.MemFiles.{IsHeld, held, counts, calls, failing, CountsFault};
+ghost use Rattle.cam_io.specs.Reading.{InAll, TookAtMost, IsGot, KeepsFiles, HaveSameFront, LearnsOnly};
 ghost use Rattle.std.specs.FinMap as map;
-ghost use Rattle.std.specs.Prelude.{List as Items, ◌≡◌, ◌<◌, ◌∷◌, [], ◌++◌, ◌↔◌, ℕ, Contains, IsErr, IfOk, OnOk, OnErr, length};
+ghost use Rattle.std.specs.Prelude.{List as Items, ◌≡◌, ◌<◌, ◌∷◌, [], ◌++◌, ◌+◌, ◌↔◌, ℕ, Contains, IsErr, IsOk, IfOk, OnOk, OnErr, length};
 
 use crate::named_file::{NamedFile, count_fault, put_file, read_file};
 use crate::{Failed, Files, Got};
@@ -26,8 +27,8 @@ impl MemFiles {
     pub fn new(alloc: Global) -> MemFiles
         ensures contents { held result ≡ map.empty }
         ensures counts { (r : Items ℕ) → counts result r ≡ 0 }
-        ensures calls { result.calls ≡ 0 }
-        ensures failing { result.failing ≡ [] }
+        ensures calls { calls result ≡ 0 }
+        ensures failing { failing result ≡ [] }
     {
         MemFiles {
             files: Vec::new(alloc),
@@ -43,8 +44,8 @@ impl MemFiles {
         ensures ok { OnOk result (held self.new ≡ map.insert (held self.old) name.now bytes.now) }
         ensures err { OnErr result (held self.new ≡ held self.old) }
         ensures counts { (r : Items ℕ) → counts self.new r ≡ counts self.old r }
-        ensures calls { self.new.calls ≡ self.old.calls }
-        ensures failing { self.new.failing ≡ self.old.failing }
+        ensures calls { calls self.new ≡ calls self.old }
+        ensures failing { failing self.new ≡ failing self.old }
     {
         put_file(
             self.alloc,
@@ -57,33 +58,44 @@ impl MemFiles {
 
     /// States that the call of this number fails. Refused, it leaves the files as they were.
     pub fn fail_at(&mut self, call: u64) -> Result<(), NoMemory>
-        ensures ok { OnOk result (self.new.failing ≡ self.old.failing ++ call ∷ []) }
-        ensures err { OnErr result (self.new.failing ≡ self.old.failing) }
+        ensures ok { OnOk result (failing self.new ≡ failing self.old ++ call ∷ []) }
+        ensures err { OnErr result (failing self.new ≡ failing self.old) }
         ensures contents { held self.new ≡ held self.old }
         ensures counts { (r : Items ℕ) → counts self.new r ≡ counts self.old r }
-        ensures calls { self.new.calls ≡ self.old.calls }
+        ensures calls { calls self.new ≡ calls self.old }
     {
         self.failing.push(call)
     }
 }
 
 impl Files for MemFiles {
-    ghost use Rattle.std.specs.Prelude.{Some};
-    ghost use Rattle.cam_io.specs.MemFiles.{held, counts};
+    ghost use Rattle.std.specs.Prelude.{refl};
+    ghost use Rattle.cam_io.specs.MemFiles.{IsHeld, held, counts};
 
-    ghost contents = { λ s. Some (held s) };
+    ghost told = { IsHeld };
 
     ghost faults = { counts };
 
+    fn make_room(&mut self, _name: &str, _bytes: usize) -> Result<(), NoMemory>
+        ensures kept { KeepsFiles IsHeld counts self.old self.new }
+        ensures learned { (m : Contents) → IsHeld self.old m → IsHeld self.new m }
+        ensures same { self.new ≡ self.old }
+        ensures ok { IsOk result }
+    {
+        Ok(())
+    }
+
     fn read(&mut self, name: &str, at: u64, buf: &mut [u8]) -> Result<Got, Failed>
         requires { 0 < length buf.old }
-        ensures kept { KeepsFiles (λ s. Some (held s)) counts self.old self.new }
+        ensures kept { KeepsFiles IsHeld counts self.old self.new }
         ensures failed { OnErr result (Rose (counts self.old name.now) (counts self.new name.now)) }
         ensures some { IfOk result (TookAtMost (length buf.new)) }
-        ensures got { IfOk result (IsGot (map.get (held self.old) name.now) at buf.new) }
-        ensures exactly { IsErr result ↔ Contains self.old.failing (next_call self.old.calls) }
-        ensures calls { self.new.calls ≡ next_call self.old.calls }
-        ensures failing { self.new.failing ≡ self.old.failing }
+        ensures got { InAll (IsHeld self.new) (λ m. IfOk result (IsGot (map.get m name.now) at buf.new)) }
+        ensures learned { LearnsOnly IsHeld (HaveSameFront name.now (at + length buf.old)) self.old self.new }
+        ensures same { held self.new ≡ held self.old }
+        ensures exactly { IsErr result ↔ Contains (failing self.old) (next_call (calls self.old)) }
+        ensures calls { calls self.new ≡ next_call (calls self.old) }
+        ensures failing { failing self.new ≡ failing self.old }
         ensures quiet { OnOk result ((r : Items ℕ) → counts self.new r ≡ counts self.old r) }
         ensures counted { OnErr result (CountsFault (held self.old) name.now (counts self.old) (counts self.new)) }
     {
@@ -94,4 +106,6 @@ impl Files for MemFiles {
         }
         Ok(read_file(&self.files, name.as_bytes(), at, buf))
     }
+
+    ghost some = { λ s. (held s, refl) };
 }

@@ -1,6 +1,6 @@
 ghost use Rattle.cam_io.specs.Causes.{Rose, one_more, next_call};
 ghost use Rattle.cam_io.specs.Channels.{blank, name_room};
-ghost use Rattle.cam_io.specs.MemOutputs.{sink_of, bytes_of, begun_of, room_of};
+ghost use Rattle.cam_io.specs.MemOutputs.{sink_of, room_of, channels, mem_sink, mem_faults, mem_bytes, mem_begun, rooms, calls, failing};
 ghost use Rattle.cam_io.specs.Sinks.{IsOpen, appended, with_begun};
 ghost use Rattle.std.specs.Option.{option_map};
 ghost use Rattle.std.specs.Prelude.{◌≡◌, ◌<◌, ◌≤◌, ◌⊎◌, ◌↔◌, ◌∷◌, [], ◌++◌, ◌==◌, ◌-◌, ℕ, false, leb, cond, min, take, length, Contains, IsErr, IsTrue, OnOk, OnErr, IfOk};
@@ -47,12 +47,12 @@ fn begin_at(channels: &mut [MemChannel], at: usize, name: &str) -> bool
 impl MemOutputs {
     /// Six channels that aren't begun and hold nothing, each with room for `room` bytes and a name of 4,096 bytes.
     pub fn new(alloc: Global, room: usize) -> Result<MemOutputs, NoMemory>
-        ensures channels { IfOk result (λ o. o.channels ≡ blank room ∷ blank room ∷ blank room ∷ blank room ∷ blank room
+        ensures channels { IfOk result (λ o. channels o ≡ blank room ∷ blank room ∷ blank room ∷ blank room ∷ blank room
             ∷ blank room ∷ []) }
-        ensures fresh { IfOk result (λ o. (k : ℕ) → (sink_of o.channels).begun k ≡ false) }
-        ensures calls { IfOk result (λ o. o.calls ≡ 0) }
-        ensures faults { IfOk result (λ o. o.faults ≡ 0) }
-        ensures failing { IfOk result (λ o. o.failing ≡ []) }
+        ensures fresh { IfOk result (λ o. (k : ℕ) → (mem_sink o).begun k ≡ false) }
+        ensures calls { IfOk result (λ o. calls o ≡ 0) }
+        ensures faults { IfOk result (λ o. mem_faults o ≡ 0) }
+        ensures failing { IfOk result (λ o. failing o ≡ []) }
     {
         Ok(MemOutputs {
             channels: [
@@ -71,18 +71,18 @@ impl MemOutputs {
 
     /// States that the call of this number fails. Refused, it leaves the outputs as they were.
     pub fn fail_at(&mut self, call: u64) -> Result<(), NoMemory>
-        ensures ok { OnOk result (self.new.failing ≡ self.old.failing ++ call ∷ []) }
-        ensures err { OnErr result (self.new.failing ≡ self.old.failing) }
-        ensures channels { self.new.channels ≡ self.old.channels }
-        ensures calls { self.new.calls ≡ self.old.calls }
-        ensures faults { self.new.faults ≡ self.old.faults }
+        ensures ok { OnOk result (failing self.new ≡ failing self.old ++ call ∷ []) }
+        ensures err { OnErr result (failing self.new ≡ failing self.old) }
+        ensures channels { channels self.new ≡ channels self.old }
+        ensures calls { calls self.new ≡ calls self.old }
+        ensures faults { mem_faults self.new ≡ mem_faults self.old }
     {
         self.failing.push(call)
     }
 
     /// What a channel holds; nothing past channel 5.
     pub fn bytes(&self, channel: u8) -> &[u8]
-        ensures { result.now ≡ bytes_of self.now.channels channel }
+        ensures { result.now ≡ mem_bytes self.now channel }
     {
         match self.channels.get(channel as usize) {
             Some(channel) => channel.bytes(),
@@ -92,7 +92,7 @@ impl MemOutputs {
 
     /// The name that a channel is begun under; none past channel 5.
     pub fn begun(&self, channel: u8) -> Option<&str>
-        ensures { option_map (λ s. s.now) result ≡ begun_of self.now.channels channel }
+        ensures { option_map (λ s. s.now) result ≡ mem_begun self.now channel }
     {
         match self.channels.get(channel as usize) {
             Some(channel) => channel.begun(),
@@ -102,11 +102,11 @@ impl MemOutputs {
 
     /// Counts a call, and answers whether its number was stated.
     fn fails(&mut self) -> bool
-        ensures stated { IsTrue result ↔ Contains self.old.failing (next_call self.old.calls) }
-        ensures calls { self.new.calls ≡ next_call self.old.calls }
-        ensures channels { self.new.channels ≡ self.old.channels }
-        ensures faults { self.new.faults ≡ self.old.faults }
-        ensures failing { self.new.failing ≡ self.old.failing }
+        ensures stated { IsTrue result ↔ Contains (failing self.old) (next_call (calls self.old)) }
+        ensures calls { calls self.new ≡ next_call (calls self.old) }
+        ensures channels { channels self.new ≡ channels self.old }
+        ensures faults { mem_faults self.new ≡ mem_faults self.old }
+        ensures failing { failing self.new ≡ failing self.old }
     {
         self.calls = self.calls.saturating_add(1);
         self.failing.as_slice().contains(&self.calls)
@@ -114,12 +114,12 @@ impl MemOutputs {
 
     /// Counts a fault.
     fn fault(&mut self) -> Failed
-        ensures faults { self.new.faults ≡ one_more self.old.faults }
-        ensures rose { Rose self.old.faults self.new.faults }
-        ensures later { self.old.faults ≤ self.new.faults }
-        ensures channels { self.new.channels ≡ self.old.channels }
-        ensures calls { self.new.calls ≡ self.old.calls }
-        ensures failing { self.new.failing ≡ self.old.failing }
+        ensures faults { mem_faults self.new ≡ one_more (mem_faults self.old) }
+        ensures rose { Rose (mem_faults self.old) (mem_faults self.new) }
+        ensures later { mem_faults self.old ≤ mem_faults self.new }
+        ensures channels { channels self.new ≡ channels self.old }
+        ensures calls { calls self.new ≡ calls self.old }
+        ensures failing { failing self.new ≡ failing self.old }
     {
         self.faults = self.faults.saturating_add(1);
         Failed
@@ -127,26 +127,26 @@ impl MemOutputs {
 }
 
 impl Outputs for MemOutputs {
-    ghost use Rattle.cam_io.specs.MemOutputs.{sink_of};
+    ghost use Rattle.cam_io.specs.MemOutputs.{mem_sink, mem_faults};
 
-    ghost sink = { λ s. sink_of s.channels };
+    ghost sink = { mem_sink };
 
-    ghost faults = { λ s. s.faults };
+    ghost faults = { mem_faults };
 
     fn begin(&mut self, channel: u8, name: &str) -> Result<(), Failed>
         requires low { 2 ≤ channel }
         requires high { channel ≤ 5 }
-        requires fresh { (sink_of self.old.channels).begun channel ≡ false }
-        ensures ok { OnOk result (sink_of self.new.channels ≡ with_begun (sink_of self.old.channels) channel name.now) }
-        ensures err { OnErr result (sink_of self.new.channels ≡ sink_of self.old.channels) }
-        ensures later { self.old.faults ≤ self.new.faults }
-        ensures failed { OnErr result (Rose self.old.faults self.new.faults) }
-        ensures exactly { IsErr result ↔ (Contains self.old.failing (next_call self.old.calls) ⊎ (name_room < length name.now)) }
-        ensures rooms { (k : ℕ) → room_of self.new.channels k ≡ room_of self.old.channels k }
-        ensures calls { self.new.calls ≡ next_call self.old.calls }
-        ensures failing { self.new.failing ≡ self.old.failing }
-        ensures quiet { OnOk result (self.new.faults ≡ self.old.faults) }
-        ensures counted { OnErr result (self.new.faults ≡ one_more self.old.faults) }
+        requires fresh { (mem_sink self.old).begun channel ≡ false }
+        ensures ok { OnOk result (mem_sink self.new ≡ with_begun (mem_sink self.old) channel name.now) }
+        ensures err { OnErr result (mem_sink self.new ≡ mem_sink self.old) }
+        ensures later { mem_faults self.old ≤ mem_faults self.new }
+        ensures failed { OnErr result (Rose (mem_faults self.old) (mem_faults self.new)) }
+        ensures exactly { IsErr result ↔ (Contains (failing self.old) (next_call (calls self.old)) ⊎ (name_room < length name.now)) }
+        ensures rooms { (k : ℕ) → rooms self.new k ≡ rooms self.old k }
+        ensures calls { calls self.new ≡ next_call (calls self.old) }
+        ensures failing { failing self.new ≡ failing self.old }
+        ensures quiet { OnOk result (mem_faults self.new ≡ mem_faults self.old) }
+        ensures counted { OnErr result (mem_faults self.new ≡ one_more (mem_faults self.old)) }
     {
         if self.fails() || !begin_at(&mut self.channels, channel as usize, name) {
             return Err(self.fault());
@@ -155,25 +155,25 @@ impl Outputs for MemOutputs {
     }
 
     fn write(&mut self, channel: u8, piece: &[u8]) -> Result<usize, Failed>
-        requires open { IsOpen (sink_of self.old.channels) channel }
+        requires open { IsOpen (mem_sink self.old) channel }
         requires some { 0 < length piece.now }
         ensures some { IfOk result (λ n. 0 < n) }
         ensures at_most { IfOk result (λ n. n ≤ length piece.now) }
-        ensures ok { IfOk result (λ n. sink_of self.new.channels ≡ appended (sink_of self.old.channels) channel
+        ensures ok { IfOk result (λ n. mem_sink self.new ≡ appended (mem_sink self.old) channel
             (take n piece.now)) }
-        ensures err { OnErr result (sink_of self.new.channels ≡ sink_of self.old.channels) }
-        ensures later { self.old.faults ≤ self.new.faults }
-        ensures failed { OnErr result (Rose self.old.faults self.new.faults) }
+        ensures err { OnErr result (mem_sink self.new ≡ mem_sink self.old) }
+        ensures later { mem_faults self.old ≤ mem_faults self.new }
+        ensures failed { OnErr result (Rose (mem_faults self.old) (mem_faults self.new)) }
         ensures exactly { IsErr result
-            ↔ (Contains self.old.failing (next_call self.old.calls) ⊎ (room_of self.old.channels channel ≡ 0)) }
-        ensures taken { IfOk result (λ n. n ≡ min (length piece.now) (room_of self.old.channels channel)) }
-        ensures rooms { IfOk result (λ n. (k : ℕ) → room_of self.new.channels k ≡ cond (k == channel)
-            (room_of self.old.channels k - n) (room_of self.old.channels k)) }
-        ensures still { OnErr result ((k : ℕ) → room_of self.new.channels k ≡ room_of self.old.channels k) }
-        ensures calls { self.new.calls ≡ next_call self.old.calls }
-        ensures failing { self.new.failing ≡ self.old.failing }
-        ensures quiet { OnOk result (self.new.faults ≡ self.old.faults) }
-        ensures counted { OnErr result (self.new.faults ≡ one_more self.old.faults) }
+            ↔ (Contains (failing self.old) (next_call (calls self.old)) ⊎ (rooms self.old channel ≡ 0)) }
+        ensures taken { IfOk result (λ n. n ≡ min (length piece.now) (rooms self.old channel)) }
+        ensures rooms { IfOk result (λ n. (k : ℕ) → rooms self.new k ≡ cond (k == channel)
+            (rooms self.old k - n) (rooms self.old k)) }
+        ensures still { OnErr result ((k : ℕ) → rooms self.new k ≡ rooms self.old k) }
+        ensures calls { calls self.new ≡ next_call (calls self.old) }
+        ensures failing { failing self.new ≡ failing self.old }
+        ensures quiet { OnOk result (mem_faults self.new ≡ mem_faults self.old) }
+        ensures counted { OnErr result (mem_faults self.new ≡ one_more (mem_faults self.old)) }
     {
         if self.fails() {
             return Err(self.fault());

@@ -3,7 +3,7 @@ ghost use Rattle.cam_io.specs.Causes.{Rose, NoneFell, one_more};
 ghost use Rattle.cam_io.specs.Reading.{TookAtMost, IsGot};
 ghost use Rattle.cam_io.specs.declared.named_file.NamedFile.{NamedFile};
 ghost use Rattle.std.specs.FinMap as map;
-ghost use Rattle.std.specs.Prelude.{List as Items, ◌≡◌, ◌<◌, ℕ, cond, IfNone, IfSome, length, slice_set, slice_get, OnOk, OnErr};
+ghost use Rattle.std.specs.Prelude.{List as Items, ◌≡◌, ◌<◌, ◌≤◌, ℕ, ◌+◌, drop, take, cond, IfNone, IfSome, length, slice_set, slice_get, OnOk, OnErr};
 ghost use Rattle.std.specs.Str.{bytes_eq};
 
 use crate::Got;
@@ -18,7 +18,7 @@ pub(crate) struct NamedFile {
     pub(crate) faults: u64,
 }
 
-fn same(a: &[u8], b: &[u8]) -> bool
+pub(crate) fn same(a: &[u8], b: &[u8]) -> bool
     ensures { result ≡ bytes_eq a.now b.now }
 {
     a == b
@@ -48,8 +48,23 @@ fn found<'a>(files: &'a [NamedFile], name: &[u8]) -> Option<&'a NamedFile>
     Some(&files[at])
 }
 
+/// Copies from these bytes, from a place on, and answers how many.
+pub(crate) fn copy_from(bytes: &[u8], at: usize, buf: &mut [u8]) -> usize
+    requires some { 0 < length buf.old }
+    requires within { at < length bytes.now }
+    ensures some { 0 < result }
+    ensures room { result ≤ length buf.new }
+    ensures within { at + result ≤ length bytes.now }
+    ensures copied { take result buf.new ≡ take result (drop at bytes.now) }
+{
+    let rest = &bytes[at..];
+    let count = rest.len().min(buf.len());
+    buf[..count].copy_from_slice(&rest[..count]);
+    count
+}
+
 /// Reads from these bytes.
-fn read_from(bytes: &[u8], at: u64, buf: &mut [u8]) -> Got
+pub(crate) fn read_from(bytes: &[u8], at: u64, buf: &mut [u8]) -> Got
     requires { 0 < length buf.old }
     ensures some { TookAtMost (length buf.new) result }
     ensures got { IsGot (Some bytes.now) at buf.new result }
@@ -57,10 +72,7 @@ fn read_from(bytes: &[u8], at: u64, buf: &mut [u8]) -> Got
     if at >= bytes.len() as u64 {
         return Got::End;
     }
-    let rest = &bytes[at as usize..];
-    let count = rest.len().min(buf.len());
-    buf[..count].copy_from_slice(&rest[..count]);
-    Got::Bytes(count)
+    Got::Bytes(copy_from(bytes, at as usize, buf))
 }
 
 /// Reads the file of a name.

@@ -1,8 +1,8 @@
 ghost use Rattle.cam_io.specs.Causes.{Rose};
-ghost use Rattle.cam_io.specs.Reading.{TookAtMost, IsGot, KeepsFiles};
+ghost use Rattle.cam_io.specs.Reading.{InAll, TookAtMost, IsGot, KeepsFiles, HaveSameFront, LearnsOnly};
 ghost use Rattle.cam_io.specs.Whole.{IsWhole};
 ghost use Rattle.std.specs.FinMap as map;
-ghost use Rattle.std.specs.Prelude.{◌≡◌, ◌+◌, ◌<◌, ◌≤◌, min, length, IfOk, IfSome, IsErrOf, OnErr};
+ghost use Rattle.std.specs.Prelude.{◌≡◌, ◌+◌, ◌<◌, ◌≤◌, min, length, IfOk, IsErrOf, OnErr};
 
 use crate::{Failed, Files, Got};
 use cam_base::{List, NoMemory};
@@ -67,10 +67,11 @@ fn read_front<F: Files>(
 ) -> Result<Got, Failed>
     requires some { 0 < room }
     requires within { room ≤ length chunk.old }
-    ensures kept { KeepsFiles F.contents F.faults files.old files.new }
+    ensures kept { KeepsFiles F.told F.faults files.old files.new }
     ensures failed { OnErr result (Rose (F.faults files.old name.now) (F.faults files.new name.now)) }
     ensures some { IfOk result (TookAtMost room) }
-    ensures got { IfSome (F.contents files.old) (λ m. IfOk result (IsGot (map.get m name.now) at chunk.new)) }
+    ensures got { InAll (F.told files.new) (λ m. IfOk result (IsGot (map.get m name.now) at chunk.new)) }
+    ensures learned { LearnsOnly F.told (HaveSameFront name.now (at + room)) files.old files.new }
 {
     files.read(name, at, &mut chunk[..room])
 }
@@ -83,16 +84,18 @@ pub fn read_whole<F: Files>(
     name: &str,
     limit: u64,
 ) -> Result<List<u8>, WholeError>
-    ensures kept { KeepsFiles F.contents F.faults files.old files.new }
+    ensures kept { KeepsFiles F.told F.faults files.old files.new }
     ensures read_fault { IsErrOf result WholeError.ReadFault → Rose (F.faults files.old name.now) (F.faults files.new name.now) }
     ensures limit { IfOk result (λ bytes. length bytes ≤ limit) }
-    ensures whole { IfSome (F.contents files.old) (λ m. IsWhole (map.get m name.now) limit result) }
+    ensures learned { LearnsOnly F.told (HaveSameFront name.now (limit + 1)) files.old files.new }
+    ensures whole { InAll (F.told files.new) (λ m. IsWhole (map.get m name.now) limit result) }
 {
     let mut whole = List::new(alloc);
     let mut chunk = [0; CHUNK];
     loop {
         let at = whole.len() as u64;
         let room = lent_room(limit - at);
+        files.make_room(name, room)?;
         match read_front(files, name, at, &mut chunk, room)? {
             Got::Absent => return Err(WholeError::Absent),
             Got::End => return Ok(whole),

@@ -38,10 +38,10 @@ items_few number file bytes tokens l s =
     let few = tokens_within number (length bytes) bytes tokens l in
     omega (arith, length-map tokens (seen_at bytes))
 
-few_in_file : (contents : Option Contents) (number : ℕ) (file : SourceFile) → IsFileOf contents number file → length file.tree.items ≤ 1048576
+few_in_file : (contents : Contents) (number : ℕ) (file : SourceFile) → IsFileOf contents number file → length file.tree.items ≤ 1048576
 few_in_file contents number file is = let few = items_few number file.tree file.bytes is.tokens is.lexed is.spelled in let size = is.size in omega arith
 
-each_few : (contents : Option Contents) (before files : List SourceFile)
+each_few : (contents : Contents) (before files : List SourceFile)
     → ((front after : List SourceFile) (file : SourceFile) → before ++ files ≡ front ++ file ∷ after → IsFileOf contents (length front) file)
     → All (λ f. length f.tree.items ≤ 1048576) files
 each_few contents before [] each = All-nil (λ f. length f.tree.items ≤ 1048576)
@@ -50,7 +50,7 @@ each_few contents before (file ∷ files) each =
     (each_few contents (before ++ file ∷ []) files (λ front after f e. each front after f (sym (append_assoc before (file ∷ []) files) ∙ e)))
 
 -- a source that is loaded
-pub loaded_few : (contents : Option Contents) (root : List ℕ) (source : Source) → IsLoaded contents root (Ok source) → AreFew source
+pub loaded_few : (contents : Contents) (root : List ℕ) (source : Source) → IsLoaded contents root (Ok source) → AreFew source
 loaded_few contents root source loaded = go (root_name root) loaded
   where
     go : (name : Option (List ℕ)) → IsLoadedBy contents root name (Ok source) → AreFew source

@@ -13,7 +13,7 @@ use Rattle.cam_io.specs.Contents.{Contents}
 use Rattle.flat_laws.specs.ShortFiles.{AreFilesShort}
 use Rattle.numbering.proofs.Lists.{split_in}
 
-each_short : (contents : Option Contents) (s : Source) → AreFilesOf contents s.files → AreFilesShort s
+each_short : (contents : Contents) (s : Source) → AreFilesOf contents s.files → AreFilesShort s
 each_short contents s each f i =
     let at = split_in s.files f i in
     let file = each at.0 at.1 f at.2 in
@@ -22,7 +22,7 @@ each_short contents s each f i =
     (see f.bytes file.tokens, file.spelled, omega (arith, tokens, size, length-map file.tokens (seen_at f.bytes)))
 
 -- no more tokens spell a file than it has bytes
-pub loaded_short : (contents : Option Contents) (root : List ℕ) (s : Source) → IsLoaded contents root (Ok s) → AreFilesShort s
+pub loaded_short : (contents : Contents) (root : List ℕ) (s : Source) → IsLoaded contents root (Ok s) → AreFilesShort s
 loaded_short contents root s loaded = go (root_name root) loaded
   where
     go : (name : Option (List ℕ)) → IsLoadedBy contents root name (Ok s) → AreFilesShort s

@@ -23,14 +23,14 @@ root_first : (root : List ℕ) (files : List SourceFile) → IsSource root files
 root_first root [] is = absurd (no_head root _ is.equation)
 root_first root (f ∷ fs) is = heads f.name root _ _ is.equation
 
-root_is : (contents : Option Contents) (root : List ℕ) (s : Source) → IsLoaded contents root (Ok s) → IsUtf8 (name_of_file s 0)
+root_is : (contents : Contents) (root : List ℕ) (s : Source) → IsLoaded contents root (Ok s) → IsUtf8 (name_of_file s 0)
 root_is contents root s loaded = go (root_name root) refl loaded
   where
     go : (name : Option (List ℕ)) → root_name root ≡ name → IsLoadedBy contents root name (Ok s) → IsUtf8 (name_of_file s 0)
     go None e l = absurd l
     go (Some name) e l = subst IsUtf8 (sym (root_first name s.files l.source)) (root_name_utf8 root name e)
 
-pub loaded_whole : (contents : Option Contents) (root : List ℕ) (s : Source) → IsLoaded contents root (Ok s) → IsWhole s
+pub loaded_whole : (contents : Contents) (root : List ℕ) (s : Source) → IsLoaded contents root (Ok s) → IsWhole s
 loaded_whole contents root s loaded = record {
   few = loaded_few contents root s loaded;
   short = loaded_short contents root s loaded;

@@ -22,14 +22,14 @@ use Rattle.front_end.specs.declared.phases.Meaning.{Meaning}
 
 -- ---- sources and faults
 
-pub one_loaded : (m : Contents) (root : List ℕ) (s t : Source) → IsLoaded (Some m) root (Ok s) → IsLoaded (Some m) root (Ok t) → s ≡ t
+pub one_loaded : (m : Contents) (root : List ℕ) (s t : Source) → IsLoaded m root (Ok s) → IsLoaded m root (Ok t) → s ≡ t
 one_loaded m root s t a b =
     let same : ◌≡◌ {A = Result Source LoadError} (Ok s) (Ok t) = loaded_one m root (Ok s) (Ok t) refl refl a b in
     cc
 
 module _ (first : Source → Option Fault) (m : Contents) (root : List ℕ) where
   -- no fault stands in a source that is loaded and has none
-  pub none_faulted : (s : Source) (fault : Fault) (file : List ℕ) → IsLoaded (Some m) root (Ok s) → first s ≡ None → IsFaulted first root (Some m) fault file → ⊥
+  pub none_faulted : (s : Source) (fault : Fault) (file : List ℕ) → IsLoaded m root (Ok s) → first s ≡ None → IsFaulted first root m fault file → ⊥
   none_faulted s fault file loaded none (inl x) =
       let same : ◌≡◌ {A = Result Source LoadError} (Ok s) (Err (load.Fault fault file)) = loaded_one m root (Ok s) (Err (load.Fault fault file)) refl refl loaded x in
       cc
@@ -37,7 +37,7 @@ module _ (first : Source → Option Fault) (m : Contents) (root : List ℕ) wher
       let same : ◌≡◌ {A = Option Fault} None (Some fault) = sym none ∙ ap first (one_loaded m root s x.0 loaded x.1) ∙ x.2 in
       cc
 
-  pub one_fault : (f g : Fault) (a b : List ℕ) → IsFaulted first root (Some m) f a → IsFaulted first root (Some m) g b → (f ≡ g) × (a ≡ b)
+  pub one_fault : (f g : Fault) (a b : List ℕ) → IsFaulted first root m f a → IsFaulted first root m g b → (f ≡ g) × (a ≡ b)
   one_fault f g a b (inl x) (inl y) =
       let same : ◌≡◌ {A = Result Source LoadError} (Err (load.Fault f a)) (Err (load.Fault g b)) = loaded_one m root (Err (load.Fault f a)) (Err (load.Fault g b)) refl refl x y in
       (cc, cc)
@@ -64,7 +64,7 @@ is_meaning_from m meant =
     ap (λ z. let g : Meaning = record { source = m.source; flat = z; settled = m.settled } in g) meant.is_flat
     ∙ ap (λ z. let g : Meaning = record { source = m.source; flat = flat_of m.source; settled = z } in g) meant.is_settled
 
-pub meanings_same : (m : Contents) (root : List ℕ) (f g : Meaning) → IsMeaningOf root (Some m) f → IsMeaningOf root (Some m) g → f ≡ g
+pub meanings_same : (m : Contents) (root : List ℕ) (f g : Meaning) → IsMeaningOf root m f → IsMeaningOf root m g → f ≡ g
 meanings_same m root f g x y = is_meaning_from f x.meant ∙ ap meaning_from (one_loaded m root f.source g.source x.loaded y.loaded) ∙ sym (is_meaning_from g y.meant)
 
 -- tests that answer one question are equal
@@ -96,7 +96,7 @@ pub faults_same : {T : Type 0} (f g : Fault) (a b : List ℕ) → (f ≡ g) × (
 faults_same f g a b e = ap (λ z. Err (error.Fault z a)) e.0 ∙ ap (λ z. Err (error.Fault g z)) e.1
 
 pub one_meaning : (m : Contents) (root : List ℕ) (old new later last : List ℕ → ℕ) (a b : Result Meaning BuildError) → yields a ≡ false → yields b ≡ false
-    → IsMeaning root (Some m) old new a → IsMeaning root (Some m) later last b → a ≡ b
+    → IsMeaning root m old new a → IsMeaning root m later last b → a ≡ b
 one_meaning m root old new later last (Ok f) (Ok g) p q x y = ap Ok (meanings_same m root f g x y)
 one_meaning m root old new later last (Ok f) (Err (error.Fault g b)) p q x y = absurd (none_faulted first_front_fault m root f.source g b x.loaded x.none y)
 one_meaning m root old new later last (Err (error.Fault f a)) (Ok g) p q x y = absurd (none_faulted first_front_fault m root g.source f a y.loaded y.none x)
@@ -109,14 +109,14 @@ one_meaning m root old new later last (Err (error.Fault f a)) (Err (error.ReadFa
 one_meaning m root old new later last (Err (error.Fault f a)) (Err error.NoMemory) p q x y = cc
 
 -- fronts of one root are one
-pub front_one : (m : Contents) (root : List ℕ) (f g : FrontEnd) → IsFrontOf root (Some m) f → IsFrontOf root (Some m) g → f ≡ g
+pub front_one : (m : Contents) (root : List ℕ) (f g : FrontEnd) → IsFrontOf root m f → IsFrontOf root m g → f ≡ g
 front_one m root f g x y =
     let same : f.source ≡ g.source = one_loaded m root f.source g.source x.loaded y.loaded in
     let policy : f.policy ≡ g.policy = policies_same g.source f.policy g.policy (subst (λ z. IsAssigned z f.policy) same x.assigned) y.assigned in
     is_front_from f x.meant x.numbered ∙ ap (λ z. front_from z f.policy) same ∙ ap (front_from g.source) policy ∙ sym (is_front_from g y.meant y.numbered)
 
 pub one_front : (m : Contents) (root : List ℕ) (old new later last : List ℕ → ℕ) (a b : Result FrontEnd BuildError) → yields a ≡ false → yields b ≡ false
-    → IsFront root (Some m) old new a → IsFront root (Some m) later last b → a ≡ b
+    → IsFront root m old new a → IsFront root m later last b → a ≡ b
 one_front m root old new later last (Ok f) (Ok g) p q x y = ap Ok (front_one m root f g x y)
 one_front m root old new later last (Ok f) (Err (error.Fault g b)) p q x y = absurd (none_faulted first_list_fault m root f.source g b x.loaded x.none y)
 one_front m root old new later last (Err (error.Fault f a)) (Ok g) p q x y = absurd (none_faulted first_list_fault m root g.source f a y.loaded y.none x)

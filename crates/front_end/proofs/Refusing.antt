@@ -1,11 +1,14 @@
 -- What the parts answer is what the whole answers.
-use Rattle.std.proofs.Common.{◌≡◌, ◌∙◌, ℕ, List, [], Option, Some, None, refl, sym, ap, subst, inr, Ok, Err, Result}
+use Rattle.std.proofs.Common.{◌≡◌, ◌∙◌, ℕ, List, [], Option, Some, None, refl, sym, ap, subst, inl, inr, Ok, Err, Result}
 use Rattle.adl_meaning.specs.Prelude.{Fault, Refused, Source, flat_of, option_or}
 use Rattle.adl_meaning.specs.declared.flat.Flat.{Flat}
 use Rattle.adl_meaning.specs.declared.settled.Settled.{Settled}
 use Rattle.cam_base.specs.declared.error.Refused.TheVariants as refused
+use Rattle.cam_io.specs.Causes.{Rose}
 use Rattle.cam_io.specs.Contents.{Contents}
 use Rattle.adl_import.specs.Loaded.{IsLoaded}
+use Rattle.adl_import.specs.declared.error.LoadError.{LoadError}
+use Rattle.adl_import.specs.declared.error.LoadError.TheVariants as load
 use Rattle.adl_meaning.specs.Faults.{Refuses as RefusesAs}
 use Rattle.adl_settings.specs.Settled.{settled_of}
 use Rattle.arch_policy.specs.Labels.{label_lines, label_numbers}
@@ -17,7 +20,7 @@ use Rattle.auth_kinds.specs.Tables.{IsSorted}
 use Rattle.front_end.specs.First.{first_front_fault, first_list_fault, name_of_file, source_tables}
 use Rattle.flat_laws.proofs.FewEnds.{no_first}
 use Rattle.front_end.specs.Fronts.{IsAssigned, IsFront, IsFrontOf, IsMeaning, IsMeaningOf, IsMeant}
-use Rattle.front_end.specs.Refusals.{IsRefused, Refuses}
+use Rattle.front_end.specs.Refusals.{IsFaulted, IsRefused, Refuses, not_loaded}
 use Rattle.front_end.specs.Steps.{Assigns, IsSound, Means, Tells}
 use Rattle.front_end.specs.declared.error.BuildError.{BuildError}
 use Rattle.front_end.specs.declared.error.BuildError.TheVariants as error
@@ -30,10 +33,27 @@ second_is a b o e f = ap (λ z. option_or z b) e ∙ f
 
 -- ---- faults that are told
 
-pub told_refuses : (first : Source → Option Fault) (root : List ℕ) (contents : Option Contents) (before now : List ℕ → ℕ) (s : Source) (e : BuildError) → IsLoaded contents root (Ok s) → Tells s (first s) e → Refuses first root contents before now e
+pub told_refuses : (first : Source → Option Fault) (root : List ℕ) (contents : Contents) (before now : List ℕ → ℕ) (s : Source) (e : BuildError) → IsLoaded contents root (Ok s) → Tells s (first s) e → Refuses first root contents before now e
 told_refuses first root contents before now s (error.Fault fault file) loaded t = inr (s, loaded, t.0, t.1.1)
 told_refuses first root contents before now s (error.ReadFault file) loaded t = absurd t
 told_refuses first root contents before now s error.NoMemory loaded t = tt
+
+-- a source that isn't loaded is refused
+pub unloaded_refuses : (first : Source → Option Fault) (root : List ℕ) (contents : Contents) (before now : List ℕ → ℕ) (e : LoadError) (r : BuildError) → IsLoaded contents root (Err e)
+    → ((file : List ℕ) → ◌≡◌ {A = Result Source LoadError} (Err e) (Err (load.ReadFault file)) → Rose (before file) (now file)) → r ≡ not_loaded e → Refuses first root contents before now r
+unloaded_refuses first root contents before now (load.Fault fault file) r loaded rose is = subst (Refuses first root contents before now) (sym is) (inl loaded)
+unloaded_refuses first root contents before now (load.ReadFault file) r loaded rose is = subst (Refuses first root contents before now) (sym is) (loaded, rose file refl)
+unloaded_refuses first root contents before now load.NoMemory r loaded rose is = subst (Refuses first root contents before now) (sym is) tt
+
+-- a fault up to the settings comes before the limit on edges
+faulted_lists : (root : List ℕ) (contents : Contents) (fault : Fault) (file : List ℕ) → IsFaulted first_front_fault root contents fault file → IsFaulted first_list_fault root contents fault file
+faulted_lists root contents fault file (inl x) = inl x
+faulted_lists root contents fault file (inr x) = inr (x.0, x.1, ap (λ o. option_or o (first_edge_fault (source_tables x.0))) x.2, x.3)
+
+pub meaning_lists : (root : List ℕ) (contents : Contents) (before now : List ℕ → ℕ) (e : BuildError) → Refuses first_front_fault root contents before now e → Refuses first_list_fault root contents before now e
+meaning_lists root contents before now (error.Fault fault file) h = faulted_lists root contents fault file h
+meaning_lists root contents before now (error.ReadFault file) h = h
+meaning_lists root contents before now error.NoMemory h = tt
 
 -- a refusal in the file of its fault tells the first fault
 pub refused_tells : (T : Type 0) (s : Source) (first : Option Fault) (r : Refused Fault) (e : BuildError) → RefusesAs {T = T} (Err r) first → IsRefused s r e → Tells s first e
@@ -45,7 +65,7 @@ refused_tells T s first refused.NoMemory e h n = subst (λ z. Tells s first z) (
 
 -- ---- what is meant
 
-pub meant_meaning : (root : List ℕ) (contents : Option Contents) (before now : List ℕ → ℕ) (s : Source) (r : Result Meaning BuildError) → IsLoaded contents root (Ok s) → Means s r → IsMeaning root contents before now r
+pub meant_meaning : (root : List ℕ) (contents : Contents) (before now : List ℕ → ℕ) (s : Source) (r : Result Meaning BuildError) → IsLoaded contents root (Ok s) → Means s r → IsMeaning root contents before now r
 meant_meaning root contents before now s (Ok m) loaded h = record {
   loaded = subst (λ z. IsLoaded contents root (Ok z)) (sym h.0) loaded;
   none = ap first_front_fault h.0 ∙ h.1;
@@ -53,7 +73,7 @@ meant_meaning root contents before now s (Ok m) loaded h = record {
 }
 meant_meaning root contents before now s (Err e) loaded h = told_refuses first_front_fault root contents before now s e loaded h
 
-pub meaning_sound : (root : List ℕ) (contents : Option Contents) (m : Meaning) → IsMeaningOf root contents m → IsSound m.source m.flat m.settled
+pub meaning_sound : (root : List ℕ) (contents : Contents) (m : Meaning) → IsMeaningOf root contents m → IsSound m.source m.flat m.settled
 meaning_sound root contents m is = record { whole = loaded_whole contents root m.source is.loaded; none = is.none; meant = is.meant }
 
 -- ---- what is assigned
@@ -87,7 +107,7 @@ front_meant m f source flat settled meant = record {
   is_settled = settled ∙ meant.is_settled ∙ ap settled_of (sym source);
 }
 
-pub assigned_front : (root : List ℕ) (contents : Option Contents) (before now : List ℕ → ℕ) (m : Meaning) (r : Result FrontEnd BuildError) → IsMeaningOf root contents m → Assigns m r → IsFront root contents before now r
+pub assigned_front : (root : List ℕ) (contents : Contents) (before now : List ℕ → ℕ) (m : Meaning) (r : Result FrontEnd BuildError) → IsMeaningOf root contents m → Assigns m r → IsFront root contents before now r
 assigned_front root contents before now m (Ok f) is a = record {
   loaded = subst (λ z. IsLoaded contents root (Ok z)) (sym a.0) is.loaded;
   none = ap first_list_fault a.0 ∙ second_is (first_front_fault m.source) (first_edge_fault (source_tables m.source)) None is.none a.3;
@@ -97,7 +117,7 @@ assigned_front root contents before now m (Ok f) is a = record {
 }
 assigned_front root contents before now m (Err e) is a = told_refuses first_list_fault root contents before now m.source e is.loaded (list_tells m.source e is.none a)
 
-pub front_sound : (root : List ℕ) (contents : Option Contents) (f : FrontEnd) → IsFrontOf root contents f → IsSound f.source f.flat f.settled
+pub front_sound : (root : List ℕ) (contents : Contents) (f : FrontEnd) → IsFrontOf root contents f → IsSound f.source f.flat f.settled
 front_sound root contents f is = record {
   whole = loaded_whole contents root f.source is.loaded;
   none = no_first (first_front_fault f.source) (first_edge_fault (source_tables f.source)) is.none;

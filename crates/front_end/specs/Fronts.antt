@@ -1,6 +1,6 @@
 -- What is answered of a root: what its source means, and with it the policy. In given contents there is one answer, aside from
 -- failed reads and want of memory (`answers_are_one` in src/laws.rt), so each comes exactly where it says.
-use Rattle.std.specs.Prelude.{◌≡◌, ℕ, List, [], Option, None, Result, Ok, Err}
+use Rattle.std.specs.Prelude.{◌≡◌, ℕ, List, [], None, Result, Ok, Err}
 use Rattle.adl_meaning.specs.Prelude.{Source, flat_of}
 use Rattle.adl_meaning.specs.declared.flat.Flat.{Flat}
 use Rattle.adl_meaning.specs.declared.settled.Settled.{Settled}
@@ -23,12 +23,12 @@ pub record IsMeant (source : Source) (flat : Flat) (settled : Settled) : Type 0 
   pub is_settled : settled ≡ settled_of source
 
 -- the root's source is loaded, no fault of the phases up to the settings stands, and this is what it means
-pub record IsMeaningOf (root : List ℕ) (contents : Option Contents) (m : Meaning) : Type 0 where
+pub record IsMeaningOf (root : List ℕ) (contents : Contents) (m : Meaning) : Type 0 where
   pub loaded : IsLoaded contents root (Ok m.source)
   pub none : first_front_fault m.source ≡ None
   pub meant : IsMeant m.source m.flat m.settled
 
-abbrev pub IsMeaning : List ℕ → Option Contents → (List ℕ → ℕ) → (List ℕ → ℕ) → Result Meaning BuildError → Type 0
+abbrev pub IsMeaning : List ℕ → Contents → (List ℕ → ℕ) → (List ℕ → ℕ) → Result Meaning BuildError → Type 0
 IsMeaning root contents before now (Ok m) = IsMeaningOf root contents m
 IsMeaning root contents before now (Err e) = Refuses first_front_fault root contents before now e
 
@@ -41,13 +41,13 @@ pub record IsAssigned (source : Source) (policy : Policy) : Type 0 where
 
 -- the root's source is loaded, none of these phases' faults stands, nor is the limit on edges passed; this is what the source
 -- means, and what it assigns, with the numbers of the labels
-pub record IsFrontOf (root : List ℕ) (contents : Option Contents) (f : FrontEnd) : Type 0 where
+pub record IsFrontOf (root : List ℕ) (contents : Contents) (f : FrontEnd) : Type 0 where
   pub loaded : IsLoaded contents root (Ok f.source)
   pub none : first_list_fault f.source ≡ None
   pub meant : IsMeant f.source f.flat f.settled
   pub assigned : IsAssigned f.source f.policy
   pub numbered : f.numbers ≡ label_numbers f.flat
 
-abbrev pub IsFront : List ℕ → Option Contents → (List ℕ → ℕ) → (List ℕ → ℕ) → Result FrontEnd BuildError → Type 0
+abbrev pub IsFront : List ℕ → Contents → (List ℕ → ℕ) → (List ℕ → ℕ) → Result FrontEnd BuildError → Type 0
 IsFront root contents before now (Ok f) = IsFrontOf root contents f
 IsFront root contents before now (Err e) = Refuses first_list_fault root contents before now e

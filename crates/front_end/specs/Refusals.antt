@@ -29,13 +29,13 @@ IsRefused source refused.NoMemory e = e ≡ error.NoMemory
 
 -- The root's source isn't loaded, by a fault of its files. Or it is loaded, and this is its first fault, with the name of the
 -- file in which it stands.
-abbrev pub IsFaulted : (Source → Option Fault) → List ℕ → Option Contents → Fault → List ℕ → Type 0
+abbrev pub IsFaulted : (Source → Option Fault) → List ℕ → Contents → Fault → List ℕ → Type 0
 IsFaulted first root contents fault file =
     IsLoaded contents root (Err (load.Fault fault file))
     ⊎ ((source : Source) × IsLoaded contents root (Ok source) × (first source ≡ Some fault)
     × (file ≡ name_of_file source fault.place.file))
 
-abbrev pub Refuses : (Source → Option Fault) → List ℕ → Option Contents → (List ℕ → ℕ) → (List ℕ → ℕ) → BuildError → Type 0
+abbrev pub Refuses : (Source → Option Fault) → List ℕ → Contents → (List ℕ → ℕ) → (List ℕ → ℕ) → BuildError → Type 0
 Refuses first root contents before now (error.Fault fault file) = IsFaulted first root contents fault file
 Refuses first root contents before now (error.ReadFault file) =
     IsLoaded contents root (Err (load.ReadFault file)) × Rose (before file) (now file)

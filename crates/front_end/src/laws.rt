@@ -18,16 +18,16 @@ ghost use Rattle.std.specs.Prelude.{◌≡◌, ◌+◌, ◌<◌, ◌^◌, ℕ, f
 pub fn answers_are_one()
     ensures meaning { (m : Contents) (root : Seq ℕ) (old new later last : Seq ℕ → ℕ) (a b : Result Meant Refusal)
         → yields a ≡ false → yields b ≡ false
-        → IsMeaning root (Some m) old new a → IsMeaning root (Some m) later last b → a ≡ b }
+        → IsMeaning root m old new a → IsMeaning root m later last b → a ≡ b }
     ensures front { (m : Contents) (root : Seq ℕ) (old new later last : Seq ℕ → ℕ) (a b : Result Assigned Refusal)
         → yields a ≡ false → yields b ≡ false
-        → IsFront root (Some m) old new a → IsFront root (Some m) later last b → a ≡ b }
+        → IsFront root m old new a → IsFront root m later last b → a ≡ b }
 {}
 
 /// A source that is loaded has few files and few items in each, each of its files is spelled by few tokens, and the name of its
 /// root is text.
 pub fn loaded_sources_are_whole()
-    ensures { (contents : Option Contents) (root : Seq ℕ) (s : Tree) → IsLoaded contents root (Ok s) → IsWhole s }
+    ensures { (contents : Contents) (root : Seq ℕ) (s : Tree) → IsLoaded contents root (Ok s) → IsWhole s }
 {}
 
 /// What such a source means, where no fault stands, is within the limits of layouts and has few labels.

@@ -1,9 +1,10 @@
 //! The phases up to the settings, and the policy.
 
+ghost use Rattle.adl_import.specs.Loaded.{AlikeInSource};
 ghost use Rattle.adl_meaning.specs.Prelude.{AreFew, AreNamesSound, HaveFewMembers, Refuses, flat_of, hierarchy_of};
 ghost use Rattle.adl_settings.specs.Settled.{settled_of};
 ghost use Rattle.adl_types.specs.TypeFaults.{first_type_fault};
-ghost use Rattle.cam_io.specs.Reading.{KeepsFiles};
+ghost use Rattle.cam_io.specs.Reading.{InAll, KeepsFiles, LearnsOnly};
 ghost use Rattle.front_end.specs.First.{first_front_fault, name_of_file};
 ghost use Rattle.front_end.specs.Fronts.{IsFront, IsMeaning};
 ghost use Rattle.front_end.specs.Refusals.{IsRefused};
@@ -59,8 +60,9 @@ struct Parts {
 ///
 /// The first fault of the phases up to the settings, with the name of its file; a failed read; want of memory.
 pub fn meaning_of<F: Files>(alloc: Global, files: &mut F, root: &str) -> Result<Meaning, BuildError>
-    ensures kept { KeepsFiles F.contents F.faults files.old files.new }
-    ensures meaning { IsMeaning root.now (F.contents files.old) (F.faults files.old) (F.faults files.new) result }
+    ensures kept { KeepsFiles F.told F.faults files.old files.new }
+    ensures learned { LearnsOnly F.told (AlikeInSource root.now) files.old files.new }
+    ensures meaning { InAll (F.told files.new) (λ m. IsMeaning root.now m (F.faults files.old) (F.faults files.new) result) }
 {
     match load(alloc, files, root) {
         Ok(source) => with_parts(alloc, source),
@@ -75,8 +77,9 @@ pub fn meaning_of<F: Files>(alloc: Global, files: &mut F, root: &str) -> Result<
 /// The first fault of the phases up to the settings, and where there is none the limit on edges, with the name of its file; a
 /// failed read; want of memory.
 pub fn front<F: Files>(alloc: Global, files: &mut F, root: &str) -> Result<FrontEnd, BuildError>
-    ensures kept { KeepsFiles F.contents F.faults files.old files.new }
-    ensures front { IsFront root.now (F.contents files.old) (F.faults files.old) (F.faults files.new) result }
+    ensures kept { KeepsFiles F.told F.faults files.old files.new }
+    ensures learned { LearnsOnly F.told (AlikeInSource root.now) files.old files.new }
+    ensures front { InAll (F.told files.new) (λ m. IsFront root.now m (F.faults files.old) (F.faults files.new) result) }
 {
     match meaning_of(alloc, files, root) {
         Ok(meaning) => with_policy(alloc, meaning),

@@ -15,6 +15,7 @@ use Rattle.adl_meaning.specs.declared.flat.Leaf.{Leaf}
 use Rattle.cam_base.specs.declared.place.Fault.{Fault}
 use Rattle.cam_base.specs.declared.place.Place.{Place}
 use Rattle.cam_io.specs.Contents.{Contents}
+use Rattle.source_images.proofs.TableReads.{found_count}
 use Rattle.numbering.specs.Gather.{IsIn}
 use Rattle.program_sections.specs.declared.images.Images.{Images}
 use Rattle.sect_table.specs.Tables.{first_fault, image_of}
@@ -26,7 +27,7 @@ use Rattle.source_images.specs.Found.{AreFound, Found, absent, too_long, table, 
 use Rattle.source_images.specs.ImagesRead.{AreImagesRead}
 use Rattle.source_images.specs.TableFaults.{first_table_fault, line_faults, listed, missing, missing_at, name_of_file}
 use Rattle.source_images.specs.TableImages.{images_in}
-use Rattle.source_images.specs.Told.{AreTablesRead, IsAnswer, file_name, first_missing, first_of, first_read, tables_told, merged, missing_by, missing_reading, names_told, reading_in, reading_of, readings_of, table_at}
+use Rattle.source_images.specs.Told.{AreTablesRead, IsAnswer, file_name, files_told, first_missing, first_of, first_read, tables_told, merged, missing_by, missing_reading, names_told, reading_in, reading_of, readings_of, table_at}
 use Rattle.source_images.specs.Types.{Name, type_number, types}
 use Rattle.source_images.specs.declared.error.ImagesError.{ImagesError}
 use Rattle.source_images.specs.declared.error.ImagesError.TheVariants as error
@@ -123,14 +124,14 @@ module _ (root : List ℕ) (source : Source) (flat : Flat) (all : List Found) wh
   names_same : (n : ℕ) → unwrap_or (slice_get (map (λ f. f.name) source.files ++ map (λ t. t.1) all_tables) n) [] ≡ name_of_file root source flat n
   names_same n = ap (λ z. unwrap_or (slice_get (map (λ f. f.name) source.files ++ z) n) []) (files_are (folder_of root) (types source flat))
 
-  answer_told : (contents : Option Contents) (result : Result Images ImagesError) → AreFound contents (map (λ t. t.1) all_tables) all → IsAnswer source flat all_tables all_readings result → AreImagesRead contents root source flat result
+  answer_told : (contents : Contents) (result : Result Images ImagesError) → AreFound contents (map (λ t. t.1) all_tables) all → IsAnswer source flat all_tables all_readings result → AreImagesRead contents root source flat result
   answer_told contents result told answer = by_result result answer
     where
       told_names : AreFound contents (table_names root source flat) all
       told_names = subst (λ z. AreFound contents z all) (files_are (folder_of root) (types source flat)) told
 
       count : length all_tables ≡ length all
-      count = sym (told.count ∙ length-map all_tables (λ t. t.1))
+      count = sym (found_count contents (map (λ t. t.1) all_tables) all told ∙ length-map all_tables (λ t. t.1))
 
       by_result : (r : Result Images ImagesError) → IsAnswer source flat all_tables all_readings r → AreImagesRead contents root source flat r
       by_result (Ok images) a = record {
@@ -144,7 +145,7 @@ module _ (root : List ℕ) (source : Source) (flat : Flat) (all : List Found) wh
       by_result (Err error.NoMemory) a = tt
 
 -- the answer, where all tables are read
-pub answered : (contents : Option Contents) (root : List ℕ) (source : Source) (flat : Flat) (tables : List (Name × List ℕ)) (readings : List Reading) (result : Result Images ImagesError)
+pub answered : (contents : Contents) (root : List ℕ) (source : Source) (flat : Flat) (tables : List (Name × List ℕ)) (readings : List Reading) (result : Result Images ImagesError)
     → tables ≡ map (table_at (folder_of root)) (types source flat)
     → (all : List Found) × AreFound contents (map (λ t. t.1) tables) all × (readings ≡ readings_of (length source.files) tables all)
     → IsAnswer source flat tables readings result → AreImagesRead contents root source flat result
@@ -153,12 +154,12 @@ answered contents root source flat tables readings result is (all, told, read) a
     (subst (λ z. IsAnswer source flat z (readings_of (length source.files) z all) result) is (subst (λ z. IsAnswer source flat tables z result) read answer))
 
 -- the answer, where a table isn't read
-pub failed : (contents : Option Contents) (root : List ℕ) (source : Source) (flat : Flat) (tables : List (Name × List ℕ)) (file : List ℕ) → tables ≡ map (table_at (folder_of root)) (types source flat)
+pub failed : (contents : Contents) (root : List ℕ) (source : Source) (flat : Flat) (tables : List (Name × List ℕ)) (file : List ℕ) → tables ≡ map (table_at (folder_of root)) (types source flat)
     → IsIn file (map (λ t. t.1) tables) → AreImagesRead contents root source flat (Err (error.ReadFault file))
 failed contents root source flat tables file is among = subst (IsIn file) (ap (map (λ t. t.1)) is ∙ files_are (folder_of root) (types source flat)) among
 
 -- the answer, where reading failed
-pub err_answered : (contents : Option Contents) (root : List ℕ) (source : Source) (flat : Flat) (tables : List (Name × List ℕ)) (e : ImagesError) (result : Result Images ImagesError)
+pub err_answered : (contents : Contents) (root : List ℕ) (source : Source) (flat : Flat) (tables : List (Name × List ℕ)) (e : ImagesError) (result : Result Images ImagesError)
     → tables ≡ map (table_at (folder_of root)) (types source flat) → AreTablesRead contents (length source.files) tables (Err e) → result ≡ Err e → AreImagesRead contents root source flat result
 err_answered contents root source flat tables e result is read same = subst (AreImagesRead contents root source flat) (sym same) (by_error e read)
   where
@@ -214,3 +215,8 @@ pub tables_are : (root : List ℕ) (source : Source) (flat : Flat) (slice tables
     → folder ≡ folder_of root → borrowed ≡ names → names_told names ≡ types source flat → tables_told slice ≡ map (table_at (folder_of root)) (types source flat)
 tables_are root source flat slice tables names borrowed folder a b c d e =
     ap tables_told a ∙ b ∙ ap (λ f. map (table_at f) (names_told borrowed)) c ∙ ap (λ z. map (table_at (folder_of root)) (names_told z)) d ∙ ap (map (table_at (folder_of root))) e
+
+-- the names of their files
+pub files_named : (root : List ℕ) (source : Source) (flat : Flat) (tables : List Table) → tables_told tables ≡ map (table_at (folder_of root)) (types source flat)
+    → files_told tables ≡ table_names root source flat
+files_named root source flat tables is = ap (map (λ t. t.1)) is ∙ files_are (folder_of root) (types source flat)

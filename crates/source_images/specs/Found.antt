@@ -1,11 +1,13 @@
--- The section tables of a source: one for each type of its software, beside the root. What is found under their names is
--- told where the contents of files are told.
-use Rattle.std.specs.Prelude.{◌≡◌, ◌++◌, ◌==◌, ℕ, Bool, nat_lt, if◌then◌else◌, List, [], ◌∷◌, map, length, codes, Option, Some, None, IfSome}
+-- The section tables of a source: one for each type of its software, beside the root. What is found under their names is what
+-- the contents have.
+use Rattle.std.specs.Prelude.{◌≡◌, ◌+◌, ◌++◌, ◌==◌, ℕ, Bool, nat_lt, if◌then◌else◌, List, [], ◌∷◌, map, length, codes, Option, Some, None}
 use Rattle.std.specs.FinMap.{get}
 use Rattle.std.specs.List.{list_any}
 use Rattle.adl_ast.specs.declared.source.Source.{Source}
 use Rattle.adl_meaning.specs.declared.flat.Flat.{Flat}
 use Rattle.cam_io.specs.Contents.{Contents}
+use Rattle.cam_io.specs.Reading.{HaveSameFront}
+use Rattle.numbering.specs.Gather.{IsIn}
 use Rattle.source_images.specs.Types.{Name, types}
 
 -- the greatest length of a table, in bytes
@@ -42,7 +44,14 @@ found_bytes (Some bytes) = if nat_lt table_limit (length bytes) then too_long el
 abbrev pub found_in : Contents → List (List ℕ) → List Found
 found_in m names = map (λ name. found_bytes (get m name)) names
 
--- something is found under each name: what the contents have, where they are told
-pub record AreFound (contents : Option Contents) (names : List (List ℕ)) (all : List Found) : Type 0 where
-  pub count : length all ≡ length names
-  pub told : IfSome contents (λ m. all ≡ found_in m names)
+-- both contents have the same table of this name, as far as it is read: up to the limit, and a byte more
+abbrev pub AlikeAsRead : List ℕ → Contents → Contents → Type 0
+AlikeAsRead name = HaveSameFront name (table_limit + 1)
+
+-- the same of each of these names
+abbrev pub AlikeInTables : List (List ℕ) → Contents → Contents → Type 0
+AlikeInTables names m n = (name : List ℕ) → IsIn name names → AlikeAsRead name m n
+
+-- this is found under the names: what the contents have
+abbrev pub AreFound : Contents → List (List ℕ) → List Found → Type 0
+AreFound contents names all = all ≡ found_in contents names

@@ -1,6 +1,6 @@
 -- What reading the images of a source answers. In given contents there is one answer, aside from failed reads and want of
 -- memory (`answers_are_one` in src/laws.rt), so each comes exactly where it says.
-use Rattle.std.specs.Prelude.{◌≡◌, ℕ, Bool, true, false, List, Option, None, Some, Result, Ok, Err}
+use Rattle.std.specs.Prelude.{◌≡◌, ℕ, Bool, true, false, List, None, Some, Result, Ok, Err}
 use Rattle.adl_ast.specs.declared.source.Source.{Source}
 use Rattle.adl_meaning.specs.declared.flat.Flat.{Flat}
 use Rattle.cam_base.specs.declared.place.Fault.{Fault}
@@ -14,7 +14,7 @@ use Rattle.source_images.specs.declared.error.ImagesError.{ImagesError}
 use Rattle.source_images.specs.declared.error.ImagesError.TheVariants as error
 
 -- something is found under the name of each table, and in all of it no fault stands: these are the images
-pub record AreImagesOf (contents : Option Contents) (root : List ℕ) (source : Source) (flat : Flat) (answer : Images)
+pub record AreImagesOf (contents : Contents) (root : List ℕ) (source : Source) (flat : Flat) (answer : Images)
     : Type 0 where
   pub found : List Found
   pub told : AreFound contents (table_names root source flat) found
@@ -22,7 +22,7 @@ pub record AreImagesOf (contents : Option Contents) (root : List ℕ) (source : 
   pub images : answer ≡ images_of source flat found
 
 -- something is found under the name of each table, and in all of it this fault is the first; with the name of its file
-pub record IsFaultOf (contents : Option Contents) (root : List ℕ) (source : Source) (flat : Flat) (fault : Fault) (file : List ℕ)
+pub record IsFaultOf (contents : Contents) (root : List ℕ) (source : Source) (flat : Flat) (fault : Fault) (file : List ℕ)
     : Type 0 where
   pub found : List Found
   pub told : AreFound contents (table_names root source flat) found
@@ -30,7 +30,7 @@ pub record IsFaultOf (contents : Option Contents) (root : List ℕ) (source : So
   pub named : file ≡ name_of_file root source flat fault.place.file
 
 -- the answer for a source whose root is the file of this name
-abbrev pub AreImagesRead : Option Contents → List ℕ → Source → Flat → Result Images ImagesError → Type 0
+abbrev pub AreImagesRead : Contents → List ℕ → Source → Flat → Result Images ImagesError → Type 0
 AreImagesRead contents root source flat (Ok images) = AreImagesOf contents root source flat images
 AreImagesRead contents root source flat (Err (error.Fault fault file)) = IsFaultOf contents root source flat fault file
 AreImagesRead contents root source flat (Err (error.ReadFault file)) = IsIn file (table_names root source flat)

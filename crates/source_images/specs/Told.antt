@@ -1,5 +1,5 @@
 -- What the reading of section tables goes through: what is read of each table, and what comes of all that is read.
-use Rattle.std.specs.Prelude.{◌≡◌, ℕ, ◌+◌, ◌++◌, if◌then◌else◌, List, [], ◌∷◌, map, codes, fold, Option, None, Some, Result, Ok, Err, IfSome, position, is_some, slice_get, string_bytes, unwrap_or}
+use Rattle.std.specs.Prelude.{◌≡◌, ℕ, ◌+◌, ◌++◌, if◌then◌else◌, List, [], ◌∷◌, map, codes, fold, Option, None, Some, Result, Ok, Err, position, is_some, slice_get, string_bytes, unwrap_or}
 use Rattle.std.specs.Borrow.{Bor}
 use Rattle.std.specs.FinMap.{get}
 use Rattle.std.specs.List.{flat_map}
@@ -60,19 +60,19 @@ readings_of file [] all = []
 readings_of file (t ∷ tables) [] = []
 readings_of file (t ∷ tables) (x ∷ all) = reading_of file t x ∷ readings_of (file + 1) tables all
 
--- something is found under a name: what the contents have, where they are told
-abbrev pub IsFound : Option Contents → List ℕ → Found → Type 0
-IsFound contents name x = IfSome contents (λ m. x ≡ found_bytes (get m name))
+-- this is found under a name: what the contents have
+abbrev pub IsFound : Contents → List ℕ → Found → Type 0
+IsFound contents name x = x ≡ found_bytes (get contents name)
 
 -- the answer for one table: what is read of what is found
-abbrev pub IsTableRead : Option Contents → ℕ → Name × List ℕ → Result Reading ImagesError → Type 0
+abbrev pub IsTableRead : Contents → ℕ → Name × List ℕ → Result Reading ImagesError → Type 0
 IsTableRead contents file t (Ok reading) = (x : Found) × IsFound contents t.1 x × (reading ≡ reading_of file t x)
 IsTableRead contents file t (Err (error.Fault fault f)) = ⊥
 IsTableRead contents file t (Err (error.ReadFault f)) = f ≡ t.1
 IsTableRead contents file t (Err error.NoMemory) = Unit {0}
 
 -- the answer for all tables
-abbrev pub AreTablesRead : Option Contents → ℕ → List (Name × List ℕ) → Result (List Reading) ImagesError → Type 0
+abbrev pub AreTablesRead : Contents → ℕ → List (Name × List ℕ) → Result (List Reading) ImagesError → Type 0
 AreTablesRead contents file tables (Ok readings) =
     (all : List Found) × AreFound contents (map (λ t. t.1) tables) all × (readings ≡ readings_of file tables all)
 AreTablesRead contents file tables (Err (error.Fault fault f)) = ⊥
@@ -90,6 +90,10 @@ table_told t = (t.name.now, string_bytes t.file)
 
 abbrev pub tables_told : List Table → List (Name × List ℕ)
 tables_told = map table_told
+
+-- the names of the files
+abbrev pub files_told : List Table → List (List ℕ)
+files_told tables = map (λ t. t.1) (tables_told tables)
 
 -- ---- what is missing
 

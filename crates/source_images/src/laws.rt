@@ -14,17 +14,17 @@ ghost use Rattle.std.specs.Prelude.{◌≡◌, ℕ, false, List as Seq, Option, 
 pub fn answers_are_one()
     ensures { (m : Contents) (root : Seq ℕ) (source : Tree) (flat : Flat) (a b : Result Images Refusal)
         → yields a ≡ false → yields b ≡ false
-        → AreImagesRead (Some m) root source flat a → AreImagesRead (Some m) root source flat b → a ≡ b }
+        → AreImagesRead m root source flat a → AreImagesRead m root source flat b → a ≡ b }
 {}
 
 /// Each section of each image is sound.
 pub fn images_are_sound()
-    ensures { (contents : Option Contents) (root : Seq ℕ) (source : Tree) (flat : Flat) (images : Images)
+    ensures { (contents : Contents) (root : Seq ℕ) (source : Tree) (flat : Flat) (images : Images)
         → AreImagesOf contents root source flat images → AreSound images }
 {}
 
 /// Images have numbers of 32 bits, each image that a leaf runs is one of the images, and each has few sections.
 pub fn images_are_numbered()
-    ensures { (contents : Option Contents) (root : Seq ℕ) (source : Tree) (flat : Flat) (images : Images)
+    ensures { (contents : Contents) (root : Seq ℕ) (source : Tree) (flat : Flat) (images : Images)
         → AreImagesOf contents root source flat images → IsWithin source flat → AreNumbered flat images }
 {}

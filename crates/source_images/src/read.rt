@@ -1,7 +1,8 @@
 //! The images of a source.
 
 ghost use Rattle.cam_io.specs.Causes.{Rose};
-ghost use Rattle.cam_io.specs.Reading.{KeepsFiles};
+ghost use Rattle.cam_io.specs.Reading.{InAll, KeepsFiles, LearnsOnly};
+ghost use Rattle.source_images.specs.Found.{AlikeInTables, table_names};
 ghost use Rattle.source_images.specs.ImagesRead.{AreImagesRead};
 ghost use Rattle.source_images.specs.Told.{IsAnswer, first_of, file_name, tables_told};
 ghost use Rattle.source_images.specs.Types.{types};
@@ -99,10 +100,11 @@ pub fn read_images<F: Files>(
     flat: &Flat,
 ) -> Result<Images, ImagesError>
     requires { length source.now.files + length flat.now.leaves < 2 ^ 32 }
-    ensures kept { KeepsFiles F.contents F.faults files.old files.new }
+    ensures kept { KeepsFiles F.told F.faults files.old files.new }
     ensures rose { (read : Items ℕ) → result ≡ Err (ImagesError.ReadFault read)
         → Rose (F.faults files.old read) (F.faults files.new read) }
-    ensures read { AreImagesRead (F.contents files.old) root.now source.now flat.now result }
+    ensures learned { LearnsOnly F.told (AlikeInTables (table_names root.now source.now flat.now)) files.old files.new }
+    ensures read { InAll (F.told files.new) (λ m. AreImagesRead m root.now source.now flat.now result) }
 {
     let types = types_of(alloc, source, flat)?;
     let tables = tables_of(alloc, folder_of(root), types.names.as_slice())?;

@@ -1,10 +1,12 @@
 //! What is read of one table.
 
 ghost use Rattle.cam_io.specs.Causes.{Rose};
-ghost use Rattle.cam_io.specs.Reading.{KeepsFiles};
-ghost use Rattle.source_images.specs.Found.{table as given};
-ghost use Rattle.source_images.specs.Told.{AreTablesRead, IsTableRead, first_place, reading_of, table_told, tables_told};
-ghost use Rattle.std.specs.Prelude.{◌≡◌, ◌+◌, ◌<◌, ◌^◌, ℕ, length, List as Items, Err, IfOk};
+ghost use Rattle.cam_io.specs.Reading.{InAll, KeepsFiles, LearnsOnly};
+ghost use Rattle.cam_io.specs.Whole.{IsWhole};
+ghost use Rattle.source_images.specs.Found.{AlikeAsRead, AlikeInTables, table_limit, table as given};
+ghost use Rattle.source_images.specs.Told.{AreTablesRead, IsTableRead, files_told, first_place, reading_of, table_told, tables_told};
+ghost use Rattle.std.specs.FinMap as map;
+ghost use Rattle.std.specs.Prelude.{◌≡◌, ◌+◌, ◌<◌, ◌≤◌, ◌^◌, ℕ, length, string_bytes, List as Items, Err, IfOk, IsErrOf};
 ghost use Rattle.text_lines.specs.Lines.{lines};
 
 use crate::ImagesError;
@@ -64,6 +66,22 @@ fn reading_of(
     }
 }
 
+/// The bytes of a table.
+fn read_bytes<F: Files>(
+    alloc: Global,
+    files: &mut F,
+    table: &Table<'_>,
+) -> Result<List<u8>, WholeError>
+    ensures kept { KeepsFiles F.told F.faults files.old files.new }
+    ensures read_fault { IsErrOf result WholeError.ReadFault
+        → Rose (F.faults files.old (string_bytes table.now.file)) (F.faults files.new (string_bytes table.now.file)) }
+    ensures limit { IfOk result (λ bytes. length bytes ≤ table_limit) }
+    ensures learned { LearnsOnly F.told (AlikeAsRead (string_bytes table.now.file)) files.old files.new }
+    ensures whole { InAll (F.told files.new) (λ m. IsWhole (map.get m (string_bytes table.now.file)) table_limit result) }
+{
+    read_whole(alloc, files, table.file.as_str(), TABLE_LIMIT)
+}
+
 /// Reads a table, whose file has this number.
 pub fn read_table<F: Files>(
     alloc: Global,
@@ -71,12 +89,13 @@ pub fn read_table<F: Files>(
     file: u32,
     table: &Table<'_>,
 ) -> Result<Reading, ImagesError>
-    ensures kept { KeepsFiles F.contents F.faults files.old files.new }
+    ensures kept { KeepsFiles F.told F.faults files.old files.new }
     ensures rose { (read : Items ℕ) → result ≡ Err (ImagesError.ReadFault read)
         → Rose (F.faults files.old read) (F.faults files.new read) }
-    ensures read { IsTableRead (F.contents files.old) file (table_told table.now) result }
+    ensures learned { LearnsOnly F.told (AlikeAsRead (string_bytes table.now.file)) files.old files.new }
+    ensures read { InAll (F.told files.new) (λ m. IsTableRead m file (table_told table.now) result) }
 {
-    match read_whole(alloc, files, table.file.as_str(), TABLE_LIMIT) {
+    match read_bytes(alloc, files, table) {
         Ok(bytes) => Ok(reading_of(alloc, file, table, bytes.as_slice())?),
         Err(WholeError::Absent) => Ok(Reading::Absent(Text::new(alloc, table.file.as_bytes())?)),
         Err(WholeError::TooLong) => Ok(Reading::TooLong),
@@ -96,10 +115,11 @@ pub fn read_tables<F: Files>(
     tables: &[Table<'_>],
 ) -> Result<List<Reading>, ImagesError>
     requires { file + length tables.now < 2 ^ 32 }
-    ensures kept { KeepsFiles F.contents F.faults files.old files.new }
+    ensures kept { KeepsFiles F.told F.faults files.old files.new }
     ensures rose { (read : Items ℕ) → result ≡ Err (ImagesError.ReadFault read)
         → Rose (F.faults files.old read) (F.faults files.new read) }
-    ensures read { AreTablesRead (F.contents files.old) file (tables_told tables.now) result }
+    ensures learned { LearnsOnly F.told (AlikeInTables (files_told tables.now)) files.old files.new }
+    ensures read { InAll (F.told files.new) (λ m. AreTablesRead m file (tables_told tables.now) result) }
 {
     let mut readings = List::new(alloc);
     for (number, table) in tables.iter().enumerate() {

@@ -1,4 +1,4 @@
-use Rattle.std.proofs.Common.{◌≡◌, ◌∙◌, sym, ap, ℕ, List}
+use Rattle.std.proofs.Common.{◌≡◌, ◌∙◌, ap, ℕ, List, codes}
 use Rattle.cam_base.specs.declared.code.Code.TheVariants.{NoFile, Limit}
 use Rattle.adl_import.specs.Turns.{fault_at}
 use Rattle.adl_import.specs.declared.error.LoadError.TheVariants as error
@@ -6,24 +6,20 @@ use Rattle.adl_import.proofs.Turning.{read_ok, read_absent, read_too_long}
 use Rattle.adl_import.proofs.turn.read_file.Goals as goal
 
 pub returns-in-Ok-clause-read : goal.returns-in-Ok-clause-read
-returns-in-Ok-clause-read g c =
-    let named = c.as_text.ensures ∙ c.as_bytes.ensures in
-    read_ok (g.F.Files.contents c.args.files.now) c.args.done.now c.args.name.now c.args.place c.in-Ok.bytes c.parsed.result (rw named at c.in-Ok.ensures.whole) c.in-Ok.ensures.limit c.parsed.ensures
+returns-in-Ok-clause-read g c m told =
+    read_ok m c.args.done.now c.args.name.now c.args.place c.in-Ok.bytes c.parsed.result (c.in-Ok.ensures.whole m told) c.in-Ok.ensures.limit c.parsed.ensures
 
 pub returns-in_ok-fault_where_met-in-Err-Absent-clause-read : goal.returns-in_ok-fault_where_met-in-Err-Absent-clause-read
-returns-in_ok-fault_where_met-in-Err-Absent-clause-read g c =
-    let named = c.as_text.ensures ∙ c.as_bytes.ensures in
-    let whole = rw c.in-Err-Absent.field-0-is at c.in-Err-Absent.ensures.whole in
-    read_absent (g.F.Files.contents c.args.files.now) c.args.done.now c.args.name.now c.args.place c.in_ok-fault_where_met-in-Err-Absent.field-0
+returns-in_ok-fault_where_met-in-Err-Absent-clause-read g c m told =
+    read_absent m c.args.done.now c.args.name.now c.args.place c.in_ok-fault_where_met-in-Err-Absent.field-0
     (c.in_ok-fault_where_met-in-Err-Absent.ensures
-    ∙ ap (λ (l : List ℕ). error.Fault (fault_at NoFile c.args.place l) c.met_in.result.now) c.as_bytes-in-Err-Absent.ensures
+    ∙ ap (λ (l : List ℕ). error.Fault (fault_at NoFile c.args.place l) c.met_in.result.now) c.as_bytes.ensures
     ∙ ap (λ (l : List ℕ). error.Fault (fault_at NoFile c.args.place c.args.name.now) l) c.met_in.ensures)
-    (rw named at whole)
+    (rw c.in-Err-Absent.field-0-is at (c.in-Err-Absent.ensures.whole m told))
 
 pub returns-in_ok-fault_where_met-in-Err-TooLong-clause-read : goal.returns-in_ok-fault_where_met-in-Err-TooLong-clause-read
-returns-in_ok-fault_where_met-in-Err-TooLong-clause-read g c =
-    let named = c.as_text.ensures ∙ c.as_bytes.ensures in
-    let whole = rw c.in-Err-TooLong.field-0-is at c.in-Err-TooLong.ensures.whole in
-    read_too_long (g.F.Files.contents c.args.files.now) c.args.done.now c.args.name.now c.args.place c.in_ok-fault_where_met-in-Err-TooLong.field-0
-    (c.in_ok-fault_where_met-in-Err-TooLong.ensures ∙ ap (λ (l : List ℕ). error.Fault (fault_at Limit c.args.place _) l) c.met_in-in-Err-TooLong.ensures)
-    (rw named at whole)
+returns-in_ok-fault_where_met-in-Err-TooLong-clause-read g c m told =
+    read_too_long m c.args.done.now c.args.name.now c.args.place c.in_ok-fault_where_met-in-Err-TooLong.field-0
+    (c.in_ok-fault_where_met-in-Err-TooLong.ensures
+    ∙ ap (λ (l : List ℕ). error.Fault (fault_at Limit c.args.place (codes "file size")) l) c.met_in-in-Err-TooLong.ensures)
+    (rw c.in-Err-TooLong.field-0-is at (c.in-Err-TooLong.ensures.whole m told))

@@ -12,7 +12,7 @@ invariant_of-self g c =
     let sent = c.flush.new.self in
     record {
       is_open = write_keeps_open (sink sent.outputs) (sink c.write.new.self) c.args.channel c.write.result c.args.piece.now sent.channel c.write.ensures.ok c.write.ensures.err sent.is_open;
-      within = omega (arith, c.in_ok-flush.ensures.sent);
+      within = omega (arith, c.in_ok-flush.ensures.none.none);
     }
 
 pub returns-clause-ok : goal.returns-clause-ok
@@ -20,5 +20,5 @@ returns-clause-ok g c =
     let sink = g.O.Outputs.sink in
     let sent = c.flush.new.self in
     let all = c.in_ok-flush.ensures in
-    let none = nothing_waits (sink c.write.new.self) sent.channel sent.sent sent.waiting.items all.waiting all.sent in
+    let none = nothing_waits (sink c.write.new.self) sent.channel sent.sent sent.waiting.items all.none.empty all.none.none in
     write_told (sink sent.outputs) (sink c.write.new.self) c.args.channel c.write.result c.args.piece.now _ _ none all.ok c.write.ensures.ok

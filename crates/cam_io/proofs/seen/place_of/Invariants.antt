@@ -1,0 +1,6 @@
+use Rattle.std.proofs.Common.{◌≡◌, take, None}
+use Rattle.cam_io.specs.Seen.{seen_of}
+use Rattle.cam_io.proofs.seen.place_of.Given as goal
+
+abbrev pub invariant-loop-i : goal.invariant-loop-i
+invariant-loop-i l = seen_of (take l.i l.seen) l.name ≡ None

@@ -1,0 +1,222 @@
+//! What the host has answered of a name, and reading on from there.
+
+ghost use Rattle.cam_io.specs.Reading.{TookAtMost, IsGot};
+ghost use Rattle.cam_io.specs.Seen.{seen_of, replaced, HasSeen, IsReached, Grows, Learns, wanted};
+ghost use Rattle.cam_io.specs.declared.seen.Seen.{Seen as Entry};
+ghost use Rattle.std.specs.Prelude.{List as Items, ◌≡◌, ◌<◌, ◌≤◌, ◌+◌, ◌⊎◌, ℕ, [], true, false, Option, IfNone, IfOk, IfSome, length, slice_get, slice_set};
+
+use crate::named_file::{copy_from, read_from, same};
+use crate::{Failed, Got};
+use cam_base::{NoMemory, Text};
+use std::alloc::Global;
+use std::fs::File;
+use std::io::{ErrorKind, Read, Seek, SeekFrom};
+use std::{fs, io};
+
+/// How many bytes are asked for at once.
+const CHUNK: usize = 4096;
+
+/// How much of a file was seen.
+#[derive(Clone, Copy)]
+pub(crate) enum Extent {
+    /// Nothing was asked.
+    Unasked,
+    /// There is no file.
+    Absent,
+    /// Its beginning.
+    Begun,
+    /// All of it.
+    Whole,
+}
+
+/// What the host has answered of a name, and the bytes that it gave. A file that was begun stays open.
+#[derive(Drop)]
+pub(crate) struct Seen {
+    pub(crate) name: Text,
+    pub(crate) extent: Extent,
+    pub(crate) bytes: Vec<u8>,
+    file: Option<File>,
+}
+
+/// Where the name's entry stands.
+pub(crate) fn place_of(seen: &[Seen], name: &[u8]) -> Option<usize>
+    ensures none { IfNone result (seen_of seen.now name.now ≡ None) }
+    ensures within { IfSome result (λ i. i < length seen.now) }
+    ensures found { IfSome result (λ i. seen_of seen.now name.now ≡ slice_get seen.now i) }
+    ensures replace { IfSome result (λ i. (s : Entry) → slice_set seen.now i s ≡ replaced seen.now name.now s) }
+{
+    for i in 0..seen.len() {
+        if same(name, seen[i].name.as_bytes()) {
+            return Some(i);
+        }
+    }
+    None
+}
+
+/// The bytes of a file from a place on, as many as one read gives.
+fn read_at(file: &mut File, at: u64, buf: &mut [u8]) -> io::Result<usize>
+    ensures { IfOk result (λ n. n ≤ length buf.old) }
+{
+    file.seek(SeekFrom::Start(at))?;
+    file.read(buf)
+}
+
+impl Seen {
+    /// Nothing was asked of the name.
+    pub(crate) fn new(alloc: Global, name: &[u8]) -> Result<Seen, NoMemory>
+        ensures name { IfOk result (λ s. s.name ≡ name.now) }
+        ensures unasked { IfOk result (λ s. s.extent ≡ Extent.Unasked) }
+    {
+        Ok(Seen {
+            name: Text::new(alloc, name)?,
+            extent: Extent::Unasked,
+            bytes: Vec::new(alloc),
+            file: None,
+        })
+    }
+
+    /// Takes memory for so many bytes more.
+    pub(crate) fn make_room(&mut self, bytes: usize) -> Result<(), NoMemory>
+        ensures name { self.new.name ≡ self.old.name }
+        ensures extent { self.new.extent ≡ self.old.extent }
+        ensures bytes { self.new.bytes.items ≡ self.old.bytes.items }
+    {
+        self.bytes.reserve(bytes)?;
+        Ok(())
+    }
+
+    /// Whether what was seen answers a read at this place.
+    fn is_reached(&self, at: u64) -> bool
+        ensures yes { result ≡ true → IsReached self.now.extent self.now.bytes.items at }
+        ensures no { result ≡ false → (self.now.extent ≡ Extent.Unasked)
+            ⊎ ((self.now.extent ≡ Extent.Begun) × (length self.now.bytes.items ≤ at)) }
+    {
+        match self.extent {
+            Extent::Unasked => false,
+            Extent::Absent | Extent::Whole => true,
+            Extent::Begun => at < self.bytes.len() as u64,
+        }
+    }
+
+    /// What was seen at this place.
+    fn answer(&self, at: u64, buf: &mut [u8]) -> Got
+        requires some { 0 < length buf.old }
+        requires reached { IsReached self.now.extent self.now.bytes.items at }
+        ensures some { TookAtMost (length buf.new) result }
+        ensures got { (file : Option (Items ℕ)) → HasSeen self.now.extent self.now.bytes.items file → IsGot file at buf.new result }
+    {
+        match self.extent {
+            Extent::Unasked | Extent::Absent => Got::Absent,
+            Extent::Begun => Got::Bytes(copy_from(self.bytes.as_slice(), at as usize, buf)),
+            Extent::Whole => read_from(self.bytes.as_slice(), at, buf),
+        }
+    }
+
+    /// Asks whether there is a file, and opens it.
+    fn open(&mut self, rt: &HostRuntime, name: &str) -> Result<(), Failed>
+        requires { self.old.extent ≡ Extent.Unasked }
+        ensures name { self.new.name ≡ self.old.name }
+        ensures grows { Grows self.old self.new }
+        ensures learns { (count : ℕ) → Learns self.old self.new count }
+        ensures more { (at : ℕ) → IfOk result (λ u. wanted self.new.extent (length self.new.bytes.items) at
+            < wanted self.old.extent (length self.old.bytes.items) at) }
+    {
+        match fs::open(rt, name) {
+            Ok(file) => {
+                self.bytes.clear();
+                self.file = Some(file);
+                self.extent = Extent::Begun;
+                Ok(())
+            }
+            Err(error) => {
+                if error.kind() != ErrorKind::NotFound {
+                    return Err(Failed);
+                }
+                self.extent = Extent::Absent;
+                Ok(())
+            }
+        }
+    }
+
+    /// Reads on in the file that was begun, no further than so many bytes behind a place.
+    fn read_on(&mut self, at: u64, room: usize) -> Result<(), Failed>
+        requires begun { self.old.extent ≡ Extent.Begun }
+        requires behind { length self.old.bytes.items ≤ at }
+        requires some { 0 < room }
+        ensures name { self.new.name ≡ self.old.name }
+        ensures grows { Grows self.old self.new }
+        ensures learns { Learns self.old self.new (at + room) }
+        ensures more { IfOk result (λ u. wanted self.new.extent (length self.new.bytes.items) at
+            < wanted self.old.extent (length self.old.bytes.items) at) }
+    {
+        let Some(file) = &mut self.file else {
+            return Err(Failed);
+        };
+        let seen = self.bytes.len() as u64;
+        let wanted = (at - seen).saturating_add(room as u64).min(CHUNK as u64) as usize;
+        let mut chunk = [0; CHUNK];
+        let Ok(count) = read_at(file, seen, &mut chunk[..wanted]) else {
+            return Err(Failed);
+        };
+        if count == 0 {
+            self.extent = Extent::Whole;
+            self.file = None;
+            return Ok(());
+        }
+        match self.bytes.extend_from_slice(&chunk[..count]) {
+            Ok(()) => Ok(()),
+            Err(_) => Err(Failed),
+        }
+    }
+
+    /// Asks whether there is a file, or reads on in it, no further than so many bytes behind a place.
+    fn ask(&mut self, rt: &HostRuntime, name: &str, at: u64, room: usize) -> Result<(), Failed>
+        requires some { 0 < room }
+        requires open { (self.old.extent ≡ Extent.Unasked)
+            ⊎ ((self.old.extent ≡ Extent.Begun) × (length self.old.bytes.items ≤ at)) }
+        ensures name { self.new.name ≡ self.old.name }
+        ensures grows { Grows self.old self.new }
+        ensures learns { Learns self.old self.new (at + room) }
+        ensures more { IfOk result (λ u. wanted self.new.extent (length self.new.bytes.items) at
+            < wanted self.old.extent (length self.old.bytes.items) at) }
+    {
+        match self.extent {
+            Extent::Unasked => self.open(rt, name),
+            _ => self.read_on(at, room),
+        }
+    }
+
+    /// Asks, or reads on, until what was seen answers a read at this place.
+    fn reach(&mut self, rt: &HostRuntime, name: &str, at: u64, room: usize) -> Result<(), Failed>
+        requires { 0 < room }
+        ensures name { self.new.name ≡ self.old.name }
+        ensures grows { Grows self.old self.new }
+        ensures learns { Learns self.old self.new (at + room) }
+        ensures reached { IfOk result (λ u. IsReached self.new.extent self.new.bytes.items at) }
+    {
+        while !self.is_reached(at) {
+            self.ask(rt, name, at, room)?;
+        }
+        Ok(())
+    }
+
+    /// Reads what was seen at this place, or asks the host and sees it.
+    pub(crate) fn read(
+        &mut self,
+        rt: &HostRuntime,
+        name: &str,
+        at: u64,
+        buf: &mut [u8],
+    ) -> Result<Got, Failed>
+        requires { 0 < length buf.old }
+        ensures name { self.new.name ≡ self.old.name }
+        ensures grows { Grows self.old self.new }
+        ensures learns { Learns self.old self.new (at + length buf.old) }
+        ensures some { IfOk result (TookAtMost (length buf.new)) }
+        ensures got { IfOk result (λ got. (file : Option (Items ℕ)) → HasSeen self.new.extent self.new.bytes.items file
+            → IsGot file at buf.new got) }
+    {
+        self.reach(rt, name, at, buf.len())?;
+        Ok(self.answer(at, buf))
+    }
+}
