@@ -36,8 +36,9 @@ use Rattle.program_sections.specs.Numbered.{AreNumbered}
 use Rattle.program_sections.specs.SpaceFaults.{first_space_fault}
 use Rattle.program_sections.specs.declared.images.Images.{Images}
 use Rattle.source_images.proofs.ImageNumbers.{images_numbered}
+use Rattle.source_images.proofs.TableReads.{found_count}
 use Rattle.source_images.proofs.Soundness.{images_sound}
-use Rattle.source_images.specs.Found.{AreFound, Found}
+use Rattle.source_images.specs.Found.{AreFound, Found, table_names}
 use Rattle.source_images.specs.ImagesRead.{AreImagesOf, AreImagesRead}
 use Rattle.source_images.specs.TableFaults.{first_table_fault, name_of_file as name_with_tables}
 use Rattle.source_images.specs.Types.{types}
@@ -117,14 +118,17 @@ module _ (m : Meaning) (images : Images) (meant : IsMeant m.source m.flat m.sett
 -- ---- of a meaning
 
 -- what was read of its tables, by the root's own name and the flat system that is meant
-read_of : (contents : Option Contents) (m : Meaning) (root : List ℕ) (r : Result Images ImagesError) → IsMeant m.source m.flat m.settled → root ≡ root_of m.source
+read_of : (contents : Contents) (m : Meaning) (root : List ℕ) (r : Result Images ImagesError) → IsMeant m.source m.flat m.settled → root ≡ root_of m.source
     → AreImagesRead contents root m.source m.flat r → AreImagesRead contents (root_of m.source) m.source (flat_of m.source) r
 read_of contents m root r meant e h =
     subst (λ z. AreImagesRead contents (root_of m.source) m.source z r) meant.is_flat (subst (λ z. AreImagesRead contents z m.source m.flat r) e h)
 
-pub images_imaged : (contents : Option Contents) (root : List ℕ) (m : Meaning) (images : Images) → AreImagesOf contents root m.source m.flat images → IsWithin m.source m.flat → IsImaged m.flat images
+pub tables_named : (m : Meaning) (root : List ℕ) → IsMeant m.source m.flat m.settled → root ≡ root_of m.source → table_names root m.source m.flat ≡ tables_beside m.source
+tables_named m root meant e = ap (λ z. table_names z m.source m.flat) e ∙ ap (λ z. table_names (root_of m.source) m.source z) meant.is_flat
+
+pub images_imaged : (contents : Contents) (root : List ℕ) (m : Meaning) (images : Images) → AreImagesOf contents root m.source m.flat images → IsWithin m.source m.flat → IsImaged m.flat images
 images_imaged contents root m images are within = record {
-  numbered = subst (AreNumbered m.flat) (sym are.images) (images_numbered root m.source m.flat are.found are.told.count are.clean within);
+  numbered = subst (AreNumbered m.flat) (sym are.images) (images_numbered root m.source m.flat are.found (found_count contents (table_names root m.source m.flat) are.found are.told) are.clean within);
   sound = λ n image at s in_it. images_sound (types m.source m.flat) are.found n image (sym (ap (λ z. slice_get z.images n) are.images) ∙ at) s in_it;
 }
 
@@ -138,7 +142,7 @@ in_source s found n none = ap (λ (o : Option Fault). if is_some o then name_wit
 in_tables : (s : Source) (found : List Found) (n : ℕ) (f : Fault) → first_table_fault (root_of s) s (flat_of s) found ≡ Some f → file_of s found n ≡ name_with_tables (root_of s) s (flat_of s) n
 in_tables s found n f some = ap (λ (o : Option Fault). if is_some o then name_with_tables (root_of s) s (flat_of s) n else name_of_file s n) some
 
-module _ (contents : Option Contents) (before now : List ℕ → ℕ) (m : Meaning) (images : Images) (is : AreImagesOf contents (root_of m.source) m.source (flat_of m.source) images) where
+module _ (contents : Contents) (before now : List ℕ → ℕ) (m : Meaning) (images : Images) (is : AreImagesOf contents (root_of m.source) m.source (flat_of m.source) images) where
   laid_builds : (r : Result Build BuildError) → Lays m images r → Builds m contents before now r
   laid_builds (Ok b) h = record {
     same = h.0;
@@ -156,11 +160,11 @@ module _ (contents : Option Contents) (before now : List ℕ → ℕ) (m : Meani
   laid_builds (Err (error.ReadFault file)) t = absurd t
   laid_builds (Err error.NoMemory) t = tt
 
-pub built_of_images : (contents : Option Contents) (before now : List ℕ → ℕ) (m : Meaning) (root : List ℕ) (images : Images) (r : Result Build BuildError) → IsMeant m.source m.flat m.settled → root ≡ root_of m.source
+pub built_of_images : (contents : Contents) (before now : List ℕ → ℕ) (m : Meaning) (root : List ℕ) (images : Images) (r : Result Build BuildError) → IsMeant m.source m.flat m.settled → root ≡ root_of m.source
     → AreImagesOf contents root m.source m.flat images → Lays m images r → Builds m contents before now r
 built_of_images contents before now m root images r meant e h lays = laid_builds contents before now m images (read_of contents m root (Ok images) meant e h) r lays
 
-unread_builds : (contents : Option Contents) (before now : List ℕ → ℕ) (m : Meaning) (e : ImagesError) → AreImagesRead contents (root_of m.source) m.source (flat_of m.source) (Err e)
+unread_builds : (contents : Contents) (before now : List ℕ → ℕ) (m : Meaning) (e : ImagesError) → AreImagesRead contents (root_of m.source) m.source (flat_of m.source) (Err e)
     → ((file : List ℕ) → ◌≡◌ {A = Result Images ImagesError} (Err e) (Err (imaging.ReadFault file)) → Rose (before file) (now file)) → Builds m contents before now (Err (not_imaged e))
 unread_builds contents before now m (imaging.Fault fault file) h rose = record {
   found = h.found;
@@ -171,7 +175,7 @@ unread_builds contents before now m (imaging.Fault fault file) h rose = record {
 unread_builds contents before now m (imaging.ReadFault file) h rose = (h, rose file refl)
 unread_builds contents before now m imaging.NoMemory h rose = tt
 
-pub built_unread : (contents : Option Contents) (before now : List ℕ → ℕ) (m : Meaning) (root : List ℕ) (e : ImagesError) (r : BuildError) → IsMeant m.source m.flat m.settled → root ≡ root_of m.source
+pub built_unread : (contents : Contents) (before now : List ℕ → ℕ) (m : Meaning) (root : List ℕ) (e : ImagesError) (r : BuildError) → IsMeant m.source m.flat m.settled → root ≡ root_of m.source
     → AreImagesRead contents root m.source m.flat (Err e) → ((file : List ℕ) → ◌≡◌ {A = Result Images ImagesError} (Err e) (Err (imaging.ReadFault file)) → Rose (before file) (now file))
     → r ≡ not_imaged e → Builds m contents before now (Err r)
 built_unread contents before now m root e r meant same h rose is =
@@ -182,7 +186,7 @@ built_unread contents before now m root e r meant same h rose is =
 first_is : (s : Source) (found : List Found) (o : Option Fault) → first_front_fault s ≡ None → first_layout_fault s found ≡ o → first_fault s found ≡ o
 first_is s found o none e = second_is (first_front_fault s) (first_layout_fault s found) o none e
 
-module _ (root : List ℕ) (contents : Option Contents) (old mid now : List ℕ → ℕ) (m : Meaning) (is : IsMeaningOf root contents m) where
+module _ (root : List ℕ) (contents : Contents) (old mid now : List ℕ → ℕ) (m : Meaning) (is : IsMeaningOf root contents m) where
   build_of : (b : Build) → IsBuiltOf m contents b → IsBuildOf root contents b
   build_of b h =
       let same : m ≡ b.meaning = sym h.same in
@@ -200,7 +204,7 @@ module _ (root : List ℕ) (contents : Option Contents) (old mid now : List ℕ 
   built_compiled (Err (error.ReadFault file)) later h = (inr (m.source, record { loaded = is.loaded; none = is.none }, h.0), rose_after (old file) (mid file) (now file) (later file) h.1)
   built_compiled (Err error.NoMemory) later h = tt
 
-pub refused_compiled : (root : List ℕ) (contents : Option Contents) (before now : List ℕ → ℕ) (e : BuildError) → Refuses first_front_fault root contents before now e → IsRefusal root contents before now e
+pub refused_compiled : (root : List ℕ) (contents : Contents) (before now : List ℕ → ℕ) (e : BuildError) → Refuses first_front_fault root contents before now e → IsRefusal root contents before now e
 refused_compiled root contents before now (error.Fault fault file) h = inl h
 refused_compiled root contents before now (error.ReadFault file) h = (inl h.0, h.1)
 refused_compiled root contents before now error.NoMemory h = tt

@@ -51,10 +51,10 @@ builds_one s images b c meaning x y =
 
 module _ (m : Contents) (root : List ℕ) where
   -- what is found is one
-  found_one : (s t : Source) (x y : List Found) → s ≡ t → AreFound (Some m) (tables_beside s) x → AreFound (Some m) (tables_beside t) y → x ≡ y
-  found_one s t x y same a b = a.told ∙ ap (λ (z : Source). found_in m (tables_beside z)) same ∙ sym b.told
+  found_one : (s t : Source) (x y : List Found) → s ≡ t → AreFound m (tables_beside s) x → AreFound m (tables_beside t) y → x ≡ y
+  found_one s t x y same a b = a ∙ ap (λ (z : Source). found_in m (tables_beside z)) same ∙ sym b
 
-  pub builds_same : (b c : Build) → IsBuildOf root (Some m) b → IsBuildOf root (Some m) c → b ≡ c
+  pub builds_same : (b c : Build) → IsBuildOf root m b → IsBuildOf root m c → b ≡ c
   builds_same b c x y =
       let meaning = meanings_same m root b.meaning c.meaning x.meant y.meant in
       let source : b.meaning.source ≡ c.meaning.source = ap (λ z. z.source) meaning in
@@ -67,7 +67,7 @@ module _ (m : Contents) (root : List ℕ) where
   -- ---- faults
 
   -- no fault is first where none stands
-  pub none_first : (s : Source) (x : List Found) (fault : Fault) (file : List ℕ) → IsLoaded (Some m) root (Ok s) → AreFound (Some m) (tables_beside s) x → first_fault s x ≡ None → IsFirstFault root (Some m) fault file → ⊥
+  pub none_first : (s : Source) (x : List Found) (fault : Fault) (file : List ℕ) → IsLoaded m root (Ok s) → AreFound m (tables_beside s) x → first_fault s x ≡ None → IsFirstFault root m fault file → ⊥
   none_first s x fault file loaded told none (inl f) =
       none_faulted first_front_fault m root s fault file loaded (no_first (first_front_fault s) (first_layout_fault s x) none) f
   none_first s x fault file loaded told none (inr f) =
@@ -78,10 +78,10 @@ module _ (m : Contents) (root : List ℕ) where
       sym clean ∙ ap (λ (z : Source). first_layout_fault z x) source ∙ ap (first_layout_fault f.0) found ∙ f.2.first in
       cc
 
-  pub build_first : (b : Build) (fault : Fault) (file : List ℕ) → IsBuildOf root (Some m) b → IsFirstFault root (Some m) fault file → ⊥
+  pub build_first : (b : Build) (fault : Fault) (file : List ℕ) → IsBuildOf root m b → IsFirstFault root m fault file → ⊥
   build_first b fault file x f = none_first b.meaning.source x.found fault file x.meant.loaded x.told x.clean f
 
-  pub one_first : (f g : Fault) (a b : List ℕ) → IsFirstFault root (Some m) f a → IsFirstFault root (Some m) g b → (f ≡ g) × (a ≡ b)
+  pub one_first : (f g : Fault) (a b : List ℕ) → IsFirstFault root m f a → IsFirstFault root m g b → (f ≡ g) × (a ≡ b)
   one_first f g a b (inl x) (inl y) = one_fault first_front_fault m root f g a b x y
   one_first f g a b (inl x) (inr y) = absurd (none_faulted first_front_fault m root y.0 f a y.1.loaded y.1.none x)
   one_first f g a b (inr x) (inl y) = absurd (none_faulted first_front_fault m root x.0 g b x.1.loaded x.1.none y)
@@ -99,7 +99,7 @@ module _ (m : Contents) (root : List ℕ) where
 -- ---- answers
 
 pub one_build : (m : Contents) (root : List ℕ) (old new later last : List ℕ → ℕ) (a b : Result Build BuildError) → yields a ≡ false → yields b ≡ false
-    → IsCompiled root (Some m) old new a → IsCompiled root (Some m) later last b → a ≡ b
+    → IsCompiled root m old new a → IsCompiled root m later last b → a ≡ b
 one_build m root old new later last (Ok f) (Ok g) p q x y = ap Ok (builds_same m root f g x y)
 one_build m root old new later last (Ok f) (Err (error.Fault g b)) p q x y = absurd (build_first m root f g b x y)
 one_build m root old new later last (Err (error.Fault f a)) (Ok g) p q x y = absurd (build_first m root g f a y x)

@@ -1,5 +1,5 @@
 -- What is made of a source without faults, and of its images.
-use Rattle.std.specs.Prelude.{◌≡◌, ℕ, List, [], ◌∷◌, Option, None}
+use Rattle.std.specs.Prelude.{◌≡◌, ℕ, List, [], ◌∷◌, None}
 use Rattle.adl_ast.specs.declared.source.Source.{Source}
 use Rattle.adl_meaning.specs.Flat.{flat_of}
 use Rattle.adl_settings.specs.Settled.{settled_of}
@@ -47,9 +47,9 @@ pub record IsMade (source : Source) (images : Images) (spec : Spec) (policy : Po
   pub cert_sorted : IsSorted cert
   pub map_is : map ≡ map_lines (system_tables source images)
 
--- The root's source is loaded, with what it means and what it assigns. Something is found under the name of each section table,
--- which is what the contents have, where they are told; in all of it no fault stands, and all is made from it.
-pub record IsBuildOf (root : List ℕ) (contents : Option Contents) (b : Build) : Type 0 where
+-- The root's source is loaded, with what it means and what it assigns. What is found under the names of its section tables is
+-- what the contents have; in all of it no fault stands, and all is made from it.
+pub record IsBuildOf (root : List ℕ) (contents : Contents) (b : Build) : Type 0 where
   pub meant : IsMeaningOf root contents b.meaning
   pub found : List Found
   pub told : AreFound contents (tables_beside b.meaning.source) found

@@ -109,14 +109,14 @@ Lays m images (Ok b) =
 Lays m images (Err e) = Tells m.source (first_imaged_fault m.source images) e
 
 -- of a meaning
-pub record IsBuiltOf (m : Meaning) (contents : Option Contents) (b : Build) : Type 0 where
+pub record IsBuiltOf (m : Meaning) (contents : Contents) (b : Build) : Type 0 where
   pub same : b.meaning ≡ m
   pub found : List Found
   pub told : AreFound contents (tables_beside m.source) found
   pub clean : first_layout_fault m.source found ≡ None
   pub made : IsMade m.source (images_from m.source found) b.spec b.policy b.cert b.map
 
-abbrev pub Builds : Meaning → Option Contents → (List ℕ → ℕ) → (List ℕ → ℕ) → Result Build BuildError → Type 0
+abbrev pub Builds : Meaning → Contents → (List ℕ → ℕ) → (List ℕ → ℕ) → Result Build BuildError → Type 0
 Builds m contents before now (Ok b) = IsBuiltOf m contents b
 Builds m contents before now (Err (error.Fault fault file)) = IsLayoutFault contents m.source fault file
 Builds m contents before now (Err (error.ReadFault file)) = IsIn file (tables_beside m.source) × Rose (before file) (now file)

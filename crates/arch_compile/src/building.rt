@@ -1,11 +1,13 @@
 //! All phases.
 
-ghost use Rattle.arch_compile.specs.Compiled.{IsCompiled};
+ghost use Rattle.arch_compile.specs.Compiled.{AlikeInBuild, IsCompiled};
+ghost use Rattle.arch_compile.specs.LayoutFaults.{tables_beside};
 ghost use Rattle.arch_compile.specs.Steps.{Builds, Completes, Finishes, IsImaged, IsLaid, Lays};
 ghost use Rattle.arch_policy.specs.Labels.{label_numbers};
-ghost use Rattle.cam_io.specs.Reading.{KeepsFiles};
+ghost use Rattle.cam_io.specs.Reading.{InAll, KeepsFiles, LearnsOnly};
 ghost use Rattle.front_end.specs.Fronts.{IsAssigned};
 ghost use Rattle.front_end.specs.Steps.{IsSound};
+ghost use Rattle.source_images.specs.Found.{AlikeInTables};
 ghost use Rattle.std.specs.Prelude.{◌≡◌};
 
 use crate::imaging::{not_imaged, root_of};
@@ -34,13 +36,17 @@ pub struct Build {
 
 /// The source of the root, with all that is made of it and of the section tables beside it.
 ///
+/// What is made has the slots, images, labels and map of its source by the law `builds_are_those_of_their_source` of
+/// `build_images`, and just the edges that its source assigns by the law `builds_are_sound` of `build_laws`.
+///
 /// # Errors
 ///
 /// The first fault of all phases, with the name of its file; a failed read, only where the count of the name that it gives
 /// rose; want of memory.
 pub fn compile<F: Files>(alloc: Global, files: &mut F, root: &str) -> Result<Build, BuildError>
-    ensures kept { KeepsFiles F.contents F.faults files.old files.new }
-    ensures compiled { IsCompiled root.now (F.contents files.old) (F.faults files.old) (F.faults files.new) result }
+    ensures kept { KeepsFiles F.told F.faults files.old files.new }
+    ensures learned { LearnsOnly F.told (AlikeInBuild root.now) files.old files.new }
+    ensures compiled { InAll (F.told files.new) (λ m. IsCompiled root.now m (F.faults files.old) (F.faults files.new) result) }
 {
     match meaning_of(alloc, files, root) {
         Ok(meaning) => with_images(alloc, files, meaning),
@@ -54,8 +60,9 @@ fn with_images<F: Files>(
     meaning: Meaning,
 ) -> Result<Build, BuildError>
     requires { IsSound meaning.source meaning.flat meaning.settled }
-    ensures kept { KeepsFiles F.contents F.faults files.old files.new }
-    ensures builds { Builds meaning (F.contents files.old) (F.faults files.old) (F.faults files.new) result }
+    ensures kept { KeepsFiles F.told F.faults files.old files.new }
+    ensures learned { LearnsOnly F.told (AlikeInTables (tables_beside meaning.source)) files.old files.new }
+    ensures builds { InAll (F.told files.new) (λ m. Builds meaning m (F.faults files.old) (F.faults files.new) result) }
 {
     let root = root_of(&meaning.source);
     match read_images(alloc, files, root, &meaning.source, &meaning.flat) {

@@ -11,5 +11,5 @@ ghost use Rattle.std.specs.Prelude.{◌≡◌, ℕ, false, List as Seq, Some, Re
 pub fn answers_are_one()
     ensures { (m : Contents) (root : Seq ℕ) (old new later last : Seq ℕ → ℕ) (a b : Result Build Refusal)
         → yields a ≡ false → yields b ≡ false
-        → IsCompiled root (Some m) old new a → IsCompiled root (Some m) later last b → a ≡ b }
+        → IsCompiled root m old new a → IsCompiled root m later last b → a ≡ b }
 {}

@@ -19,6 +19,7 @@ use Rattle.assigned_laws.proofs.Locks.{lock_at, lock_of}
 use Rattle.assigned_laws.proofs.Naming.{connection_named, number_is, path_is}
 use Rattle.auth_kinds.specs.Edges.{edge}
 use Rattle.auth_kinds.specs.declared.authority.Authority.{Authority}
+use Rattle.auth_kinds.specs.declared.edge.Edge.{Edge}
 use Rattle.conn_rules.specs.declared.rule.ObjectKind.{ObjectKind}
 use Rattle.conn_rules.specs.declared.rule.ObjectKind.TheVariants.{NoObject, OfEndpoint, OfNotification, OfFrames, OfDevice, OfIrq}
 use Rattle.arch_policy.specs.declared.numbers.LabelNumbers.{LabelNumbers}
@@ -157,12 +158,12 @@ module _ (s : Source) (sound : AreNamesSound s) (dotted : AreDotted (hierarchy_o
 
   -- ---- to reasons
 
-  record Reasoned (p : Path) (a : Authority) (q : Path) : Type 0 where
+  record Reasoned (R : Edge → Type 0) (p : Path) (a : Authority) (q : Path) : Type 0 where
     l : ℕ
     m : ℕ
     np : IsNamed t l p
     nq : IsNamed t m q
-    reason : Reason t (edge l a m)
+    reason : R (edge l a m)
 
   record Leading (x : EndAt (flat_of s)) (o : ObjectKind) (q : Path) : Type 0 where
     m : ℕ
@@ -176,7 +177,7 @@ module _ (s : Source) (sound : AreNamesSound s) (dotted : AreDotted (hierarchy_o
     nq : IsNamed t d q
     handles : FlatHandles t l d
 
-  reason_direct : (p : Path) (a : Authority) (q : Path) → Direct (hierarchy_of s) p a q → Reasoned p a q
+  reason_direct : (p : Path) (a : Authority) (q : Path) → Direct (hierarchy_of s) p a q → Reasoned (DirectReason t) p a q
   reason_direct p a q d =
       let h = hierarchy_of s in
       let g = strung_here s sound dotted numbers d.composition d.connection d.end in
@@ -191,14 +192,14 @@ module _ (s : Source) (sound : AreNamesSound s) (dotted : AreDotted (hierarchy_o
         m = lead.m;
         np = subst (λ z. IsNamed t l z) (sym d.from_is) w.named;
         nq = lead.nq;
-        reason = by_direct (record {
+        reason = record {
           at = x;
           object = d.object;
           given = given_to x.connection.connector d.connection.0 x.end.role d.end.role d.object a (sym (same_connector_as y x d.end w)) (sym w.role) d.given;
           left = access_left s sound dotted types numbers y x d.end w d.object a d.given ∙ d.allowed;
           from = refl;
           to = lead.to;
-        });
+        };
       }
     where
       leading : (y : Strung) (k : ℕ) → slice_get (connections (hierarchy_of s)) k ≡ Some y → (e : EndOf (hierarchy_of s) y.path y.wire) (x : EndAt (flat_of s)) → x.place ≡ k → Matches s sound dotted numbers y x e → (o : ObjectKind) → gives y.wire.0 e.role o a ≡ true
@@ -226,7 +227,7 @@ module _ (s : Source) (sound : AreNamesSound s) (dotted : AreDotted (hierarchy_o
   is_end : (c : Connector) (r : Role) (y : Strung) (x : EndAt (flat_of s)) (e : EndOf (hierarchy_of s) y.path y.wire) → Matches s sound dotted numbers y x e → y.wire.0 ≡ c → e.role ≡ r → IsEnd c r x
   is_end c r y x e w a b = record { connector = sym (same_connector_as y x e w) ∙ a; role = sym w.role ∙ b }
 
-  reason_called : (p : Path) (a : Authority) (q : Path) → Called (hierarchy_of s) p a q → Reasoned p a q
+  reason_called : (p : Path) (a : Authority) (q : Path) → Called (hierarchy_of s) p a q → Reasoned (Reason t) p a q
   reason_called p a q c =
       let g = strung_here s sound dotted numbers c.composition c.connection c.caller in
       let y : Strung = record { path = c.composition; inside = g.1; wire = c.connection } in
@@ -271,7 +272,7 @@ module _ (s : Source) (sound : AreNamesSound s) (dotted : AreDotted (hierarchy_o
         };
       }
 
-  reason_bound : ArePathsApart (flat_of s) → (p : Path) (a : Authority) (q : Path) → Bound (hierarchy_of s) p a q → Reasoned p a q
+  reason_bound : ArePathsApart (flat_of s) → (p : Path) (a : Authority) (q : Path) → Bound (hierarchy_of s) p a q → Reasoned (Reason t) p a q
   reason_bound paths p a q b =
       let h = hierarchy_of s in
       let k = reason_handles b.domain p b.handles in
@@ -295,7 +296,7 @@ module _ (s : Source) (sound : AreNamesSound s) (dotted : AreDotted (hierarchy_o
         });
       }
 
-  reason_locked : ArePathsApart (flat_of s) → (p : Path) (a : Authority) (q : Path) → Locked (hierarchy_of s) p a q → Reasoned p a q
+  reason_locked : ArePathsApart (flat_of s) → (p : Path) (a : Authority) (q : Path) → Locked (hierarchy_of s) p a q → Reasoned (Reason t) p a q
   reason_locked paths p a q b =
       let k = reason_handles q p b.handles in
       let o = lock_at s sound numbers b.lock in
@@ -312,8 +313,10 @@ module _ (s : Source) (sound : AreNamesSound s) (dotted : AreDotted (hierarchy_o
         });
       }
 
-  reasoned : ArePathsApart (flat_of s) → (p : Path) (a : Authority) (q : Path) → Cause (hierarchy_of s) p a q → Reasoned p a q
-  reasoned paths p a q (direct d) = reason_direct p a q d
+  reasoned : ArePathsApart (flat_of s) → (p : Path) (a : Authority) (q : Path) → Cause (hierarchy_of s) p a q → Reasoned (Reason t) p a q
+  reasoned paths p a q (direct d) =
+      let r = reason_direct p a q d in
+      record { l = r.l; m = r.m; np = r.np; nq = r.nq; reason = by_direct r.reason }
   reasoned paths p a q (called c) = reason_called p a q c
   reasoned paths p a q (bound b) = reason_bound paths p a q b
   reasoned paths p a q (locked b) = reason_locked paths p a q b
@@ -324,4 +327,10 @@ module _ (s : Source) (sound : AreNamesSound s) (dotted : AreDotted (hierarchy_o
         let r = reasoned paths p a q h.cause in
         (r.l, r.m, r.np, r.nq, record { differ = λ e. h.differ (path_is t apart r.l r.m p q e r.np r.nq); reason = r.reason }),
     λ r. record { differ = λ e. r.4.differ (number_is t paths r.0 r.1 p q e r.2 r.3); cause = cause r.0 a r.1 p q r.2 r.3 r.4.reason },
+  )
+
+  pub direct_reasoned : (p : Path) (a : Authority) (q : Path) → Direct (hierarchy_of s) p a q ↔ ((l m : ℕ) × IsNamed t l p × IsNamed t m q × DirectReason t (edge l a m))
+  direct_reasoned p a q = (
+    λ h. let r = reason_direct p a q h in (r.l, r.m, r.np, r.nq, r.reason),
+    λ r. cause_direct r.0 a r.1 p q r.2 r.3 r.4,
   )

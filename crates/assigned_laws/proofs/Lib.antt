@@ -4,8 +4,11 @@ pub mod Identifiers
 pub mod Joined
 pub mod LabelPaths
 pub mod LabelTexts
+pub mod LabelsStand
 pub mod Locks
 pub mod Naming
+pub mod PolicyTriples
 pub mod Ranked
+pub mod ReasonLabels
 pub mod TextReasons
 pub mod Undotted

@@ -1,6 +1,6 @@
 -- Locks of the flat system are locks of leaves by the hierarchy, and the other way round.
-use Rattle.std.proofs.Common.{◌≡◌, ◌∙◌, ℕ, Bool, true, false, cond, Some, None, refl, sym, ap, subst}
-use Rattle.adl_meaning.specs.Prelude.{AreNamesSound, Body, Component, Placed, Source, at, body, domain_number, domain_of, domains, flat_domain, flat_of, hierarchy_of, is_device, is_hardware, item_of, leaf_of, leaves, option_map_or}
+use Rattle.std.proofs.Common.{◌≡◌, ◌∙◌, ◌↔◌, ℕ, Bool, true, false, cond, Some, None, refl, sym, ap, subst}
+use Rattle.adl_meaning.specs.Prelude.{AreNamesSound, Body, Component, Path, Placed, Source, at, body, domain_number, domain_of, domains, flat_domain, flat_of, hierarchy_of, is_device, is_hardware, item_of, leaf_of, leaves, option_map_or}
 use Rattle.adl_meaning.specs.declared.flat.Leaf.{Leaf}
 use Rattle.adl_meaning.specs.declared.item_at.ItemAt.{ItemAt}
 use Rattle.adl_meaning.specs.Prelude.{slice_get, top_number}
@@ -14,12 +14,16 @@ use Rattle.numbering.proofs.Lists.{from_map, get_map, from_get_map}
 use Rattle.numbering.specs.Gather.{IsIn}
 use Rattle.arch_policy.specs.Ends.{LockAt}
 use Rattle.arch_policy.specs.declared.owner.Owner.TheVariants.{OfDomain}
-use Rattle.assigned_laws.specs.Assigned.{LockOf}
+use Rattle.assigned_laws.specs.Assigned.{LockOf, WithLock}
 use Rattle.assigned_laws.specs.Named.{IsNamed, tables_with}
+use Rattle.assigned_laws.proofs.Naming.{path_is}
+use Rattle.auth_kinds.specs.Edges.{edge}
+use Rattle.auth_kinds.specs.declared.authority.Authority.{Authority}
 use Rattle.leaf_ends.specs.Members.{members_at}
 use Rattle.flat_laws.proofs.FlatLeaves.{leaf_component, members_of_part}
 use Rattle.numbering.proofs.Gathered.{place_of}
-use Rattle.arch_policy.specs.Tables.{Tables, domain_label}
+use Rattle.arch_policy.specs.Policies.{IsLockEdge}
+use Rattle.arch_policy.specs.Tables.{AreApart, Tables, domain_label}
 use Rattle.arch_policy.specs.declared.numbers.LabelNumbers.{LabelNumbers}
 
 module _ (s : Source) (sound : AreNamesSound s) (numbers : LabelNumbers) where
@@ -111,3 +115,28 @@ module _ (s : Source) (sound : AreNamesSound s) (numbers : LabelNumbers) where
         },
         subst (λ z. IsNamed t (domain_label t d) (domain_of h z)) g.2 (domain_named x i soft),
       )
+
+  -- what there is to do with a lock, by paths and by numbers
+  pub lock_held : AreApart t → (p : Path) (a : Authority) (q : Path) → WithLock (hierarchy_of s) p a q ↔ ((l m : ℕ) × IsNamed t l p × IsNamed t m q × IsLockEdge t (edge l a m))
+  lock_held apart p a q = (
+    λ h.
+        let k = lock_at h.lock in
+        let label = domain_label t k.0.domain in (
+          label,
+          label,
+          subst (λ z. IsNamed t label z) (sym h.from_is) k.1,
+          subst (λ z. IsNamed t label z) (sym h.to_is) k.1,
+          record { lock = k.0; from = refl; conferred = h.conferred; to = refl },
+        ),
+    λ r.
+        let e = r.4 in
+        let k = lock_of e.lock in
+        let label = domain_label t e.lock.domain in
+        let domain = domain_of (hierarchy_of s) k.0.leaf in
+        record {
+          lock = k.0;
+          from_is = path_is t apart r.0 label p domain e.from r.2 k.1;
+          conferred = e.conferred;
+          to_is = path_is t apart r.1 label q domain e.to r.3 k.1;
+        },
+  )

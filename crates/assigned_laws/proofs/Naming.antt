@@ -23,7 +23,7 @@ option_label t n o = number_of t.numbers (option_map_or (λ x. owner_in n x.doma
 
 -- ---- numbers and paths tell each other
 
-has_there : (flat : Flat) (x : Owner) (p : Path) → HasPath flat x p → IsThere flat x
+pub has_there : (flat : Flat) (x : Owner) (p : Path) → HasPath flat x p → IsThere flat x
 has_there flat (OfDomain d) p h = (h.0, h.1)
 has_there flat (OfConnection k) p h = (h.0, h.1, h.2)
 has_there flat (OfLeaf l) p h = (h.0, h.1, h.2)

@@ -1,5 +1,5 @@
 -- Numbers of labels are the places of their texts, and tell the texts.
-use Rattle.std.proofs.Common.{◌≡◌, ◌↔◌, ◌∙◌, ◌+◌, ◌++◌, ℕ, zero, suc, Bool, true, false, cond, List, [], ◌∷◌, Some, None, Less, refl, sym, ap, subst, inl, inr, arith}
+use Rattle.std.proofs.Common.{◌≡◌, ◌↔◌, ◌∙◌, ◌+◌, ◌++◌, ◌<◌, ◌≤◌, ◌==◌, ℕ, zero, suc, Bool, true, false, cond, List, [], ◌∷◌, Some, None, Less, refl, sym, ap, subst, inl, inr, arith}
 use Rattle.std.specs.Cmp.Lexicographic.{slice_cmp}
 use Rattle.adl_meaning.specs.Prelude.{Path, count_by, joined, slice_get}
 use Rattle.adl_meaning.specs.declared.flat.Domain.{Domain}
@@ -7,6 +7,11 @@ use Rattle.adl_meaning.specs.declared.flat.Flat.{Flat}
 use Rattle.adl_meaning.specs.declared.flat.FlatConnection.{FlatConnection}
 use Rattle.adl_meaning.specs.declared.flat.Leaf.{Leaf}
 use Rattle.std.specs.Ordering.{is_lt, nat_cmp, ordering_reverse}
+use Rattle.std.proofs.lemmas.Bool.{eq-eqb, eqb-true, ltb-false, ltb-true}
+use Rattle.std.specs.List.{find}
+use Rattle.std.specs.Prelude.{nat_lt as ltb}
+use Rattle.std.specs.Option.{option_map}
+use Rattle.auth_kinds.specs.Policies.{label_name}
 use Rattle.std.proofs.lemmas.Cmp.{nat_list_cmp_total, tied_itself}
 use Rattle.std.proofs.lemmas.List.Sums.{sum_by-cons}
 use Rattle.std.proofs.lemmas.Option.{get_or_from_slice_get}
@@ -20,8 +25,24 @@ use Rattle.arch_policy.specs.declared.owner.Owner.TheVariants.{OfConnection, OfD
 use Rattle.arch_policy.proofs.Lists.{from_where, in_where}
 use Rattle.assigned_laws.specs.Named.{HasPath}
 use Rattle.assigned_laws.specs.Texts.{AreTextsApart, IsCalled}
-use Rattle.numbering.proofs.Gathered.{from_gather, get_ones, in_append, in_gather, in_left, in_place, in_right, place_of}
+use Rattle.numbering.proofs.Gathered.{from_gather, from_ones, get_ones, in_append, in_gather, in_left, in_place, in_right, place_of}
 use Rattle.numbering.specs.Gather.{IsIn}
+
+-- ---- lists
+
+-- the one element that passes is found
+pub find_only : {X : Type 0} (test : X → Bool) (xs : List X) (n : ℕ) (x : X) → slice_get xs n ≡ Some x → test x ≡ true
+    → ((m : ℕ) (y : X) → slice_get xs m ≡ Some y → test y ≡ true → m ≡ n) → find test xs ≡ Some x
+find_only test [] n x at passes only = cc
+find_only test (y ∷ ys) zero x at passes only =
+    let same : y ≡ x = cc in
+    let here : test y ≡ true = ap test same ∙ passes in rw here (ap (λ z. Some z) same)
+find_only {X} test (y ∷ ys) (suc n) x at passes only =
+    go (test y) refl (find_only test ys n x at passes (λ m z f t. let l = only (suc m) z f t in omega (arith, l)))
+  where
+    go : (b : Bool) → test y ≡ b → find test ys ≡ Some x → find test (y ∷ ys) ≡ Some x
+    go true e behind = let l = only 0 y refl e in absurd (omega (arith, l))
+    go false e behind = rw e behind
 
 -- ---- ranks in texts that rise
 
@@ -50,6 +71,12 @@ above_at : (t x : List ℕ) (ts : List (List ℕ)) (n : ℕ) → Above t ts → 
 above_at t x [] n a e = absurd cc
 above_at t x (s ∷ ss) zero a e = let same : s ≡ x = cc in ap (slice_cmp nat_cmp t) (sym same) ∙ a.0
 above_at t x (s ∷ ss) (suc n) a e = above_at t x ss n a.1 e
+
+rising_places : (ts : List (List ℕ)) (i j : ℕ) (x y : List ℕ) → Rises ts → slice_get ts i ≡ Some x → slice_get ts j ≡ Some y → i < j → slice_cmp nat_cmp x y ≡ Less
+rising_places [] i j x y r e f less = absurd cc
+rising_places (t ∷ ts) i zero x y r e f less = absurd (omega (arith, less))
+rising_places (t ∷ ts) zero (suc j) x y r e f less = let same : t ≡ x = cc in ap (λ z. slice_cmp nat_cmp z y) (sym same) ∙ above_at t y ts j r.0 f
+rising_places (t ∷ ts) (suc i) (suc j) x y r e f less = rising_places ts i j x y r.1 e f (omega (arith, less))
 
 -- in texts that rise, as many come before a text as stand in front of it
 rank_place : (ts : List (List ℕ)) (n : ℕ) (x : List ℕ) → Rises ts → slice_get ts n ≡ Some x → rank ts x ≡ n
@@ -162,7 +189,8 @@ numbers_apart t is apart x y a b e =
 
 -- ---- lines of labels
 
-line_place : (flat : Flat) (l : ℕ) (text : List ℕ) → IsIn {X = ℕ × List ℕ} (l, text) (label_lines flat) → slice_get (label_texts flat) l ≡ Some text
+-- a line stands at its number
+pub line_place : (flat : Flat) (l : ℕ) (text : List ℕ) → IsIn {X = ℕ × List ℕ} (l, text) (label_lines flat) → slice_get (label_texts flat) l ≡ Some text
 line_place flat l text i =
     let g = from_gather (λ n t. (n, t) ∷ []) (l, text) (label_texts flat) i in
     by_case g.0 g.1 g.2 g.3
@@ -200,3 +228,28 @@ lines_apart flat l m from to i j =
       λ same. let both : Some from ≡ Some to = sym e ∙ ap (slice_get ts) same ∙ f in let text : from ≡ to = cc in text,
       λ same. sym (rank_place ts l from rises e) ∙ ap (rank ts) same ∙ rank_place ts m to rises f,
     )
+
+-- what a label's number is called
+pub line_name : (flat : Flat) (l : ℕ) (text : List ℕ) → IsIn {X = ℕ × List ℕ} (l, text) (label_lines flat) → label_name (label_lines flat) l ≡ Some text
+line_name flat l text i =
+    let ts = label_texts flat in
+    let here : slice_get (label_lines flat) l ≡ Some (l, text) = get_ones (λ n y. (n, y)) ts l text (line_place flat l text i) in
+    let found : find (λ (o : ℕ × List ℕ). o.0 == l) (label_lines flat) ≡ Some (l, text) =
+    find_only (λ (o : ℕ × List ℕ). o.0 == l) (label_lines flat) l (l, text) here (eq-eqb l l refl)
+    (λ m o f h. let y = from_ones (λ n z. (n, z)) ts m o f in ap (λ (z : ℕ × List ℕ). z.0) y.2 ∙ eqb-true o.0 l h) in
+    ap (option_map (λ (o : ℕ × List ℕ). o.1)) found
+
+-- texts rise with the numbers of their lines
+pub lines_rise : (flat : Flat) (l m : ℕ) (from to : List ℕ) → IsIn {X = ℕ × List ℕ} (l, from) (label_lines flat) → IsIn {X = ℕ × List ℕ} (m, to) (label_lines flat) → l < m → comes_before from to ≡ true
+lines_rise flat l m from to i j less =
+    ap is_lt (rising_places (label_texts flat) l m from to (order_rises (texts flat)) (line_place flat l from i) (line_place flat m to j) less)
+
+pub lines_fall : (flat : Flat) (l m : ℕ) (from to : List ℕ) → IsIn {X = ℕ × List ℕ} (l, from) (label_lines flat) → IsIn {X = ℕ × List ℕ} (m, to) (label_lines flat) → l ≤ m → comes_before to from ≡ false
+lines_fall flat l m from to i j most = by_test (ltb l m) refl
+  where
+    by_test : (b : Bool) → ltb l m ≡ b → comes_before to from ≡ false
+    by_test true e = not_behind to from (rising_places (label_texts flat) l m from to (order_rises (texts flat)) (line_place flat l from i) (line_place flat m to j) (ltb-true l m e))
+    by_test false e =
+        let least = ltb-false l m e in
+        let same : l ≡ m = omega (arith, most, least) in
+        ap (λ z. comes_before z from) (sym ((lines_apart flat l m from to i j).0 same)) ∙ not_itself from

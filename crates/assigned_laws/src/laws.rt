@@ -7,16 +7,20 @@ ghost use Rattle.adl_hierarchy.specs.Spelled.{AreSpelled};
 ghost use Rattle.adl_settings.specs.Settled.{settled_of};
 ghost use Rattle.adl_types.specs.TypeFaults.{first_type_fault};
 ghost use Rattle.arch_policy.specs.Labels.{label_lines};
-ghost use Rattle.arch_policy.specs.Reasons.{IsReasoned};
+ghost use Rattle.arch_policy.specs.Policies.{IsLockEdge, IsPolicyOf};
+ghost use Rattle.arch_policy.specs.Reasons.{DirectReason, IsReasoned};
 ghost use Rattle.arch_policy.specs.Tables.{AreApart, tables_of};
 ghost use Rattle.arch_policy.specs.declared.numbers.LabelNumbers.{LabelNumbers};
 ghost use Rattle.assigned_laws.specs.Assigned.{IsAssigned};
 ghost use Rattle.assigned_laws.specs.Named.{ArePathsApart, IsNamed, tables_with};
-ghost use Rattle.assigned_laws.specs.Texts.{AreTextsApart, AreUndotted, IsAssignedText};
+ghost use Rattle.assigned_laws.specs.Texts.{AreTextsApart, AreUndotted, IsAssignedText, IsDirectText, IsLabelText, IsLockText, OfTexts};
+ghost use Rattle.assigned_laws.specs.Triples.{AreAll, triple};
 ghost use Rattle.auth_kinds.specs.Edges.{edge};
+ghost use Rattle.auth_kinds.specs.Tables.{IsSorted};
 ghost use Rattle.auth_kinds.specs.declared.authority.Authority.{Authority};
+ghost use Rattle.auth_kinds.specs.declared.edge.Edge.{Edge};
 ghost use Rattle.numbering.specs.Gather.{IsIn};
-ghost use Rattle.std.specs.Prelude.{◌≡◌, ◌≢◌, ◌↔◌, ℕ, List, None};
+ghost use Rattle.std.specs.Prelude.{◌≡◌, ◌≢◌, ◌↔◌, ℕ, List, None, map};
 
 /// What a source assigns between two paths has a reason between the numbers of their labels, and the other way round,
 /// however labels are numbered, as long as no two have one number.
@@ -48,13 +52,39 @@ pub fn label_lines_are_apart()
         → (l ≡ m) ↔ (from ≡ to) }
 {}
 
+/// The lines of labels are those of all labels of the hierarchy.
+pub fn label_lines_are_of_labels()
+    ensures { (s : Source) → AreNamesSound s → (text : List ℕ)
+        → ((l : ℕ) × IsIn (l, text) (label_lines (flat_of s))) ↔ IsLabelText s text }
+{}
+
 /// What a source assigns between the labels with two texts has a reason between the numbers that the lines of labels give
 /// these texts, and the other way round. The texts differ.
 pub fn assigned_texts_are_reasoned()
     ensures reasoned { (s : Source) → AreNamesSound s → AreSpelled s → first_type_fault s ≡ None
         → let t = tables_of s (flat_of s) (settled_of s) in (from : List ℕ) (a : Authority) (to : List ℕ)
-        → IsAssignedText s from a to ↔ ((l m : ℕ) × IsIn (l, from) (label_lines t.flat) × IsIn (m, to) (label_lines t.flat)
-        × IsReasoned t (edge l a m)) }
+        → IsAssignedText s from a to ↔ OfTexts (label_lines t.flat) (λ l m. IsReasoned t (edge l a m)) from to }
     ensures differ { (s : Source) → AreNamesSound s → AreSpelled s → first_type_fault s ≡ None
         → (from : List ℕ) (a : Authority) (to : List ℕ) → IsAssignedText s from a to → from ≢ to }
+{}
+
+/// The same of direct reasons alone.
+pub fn direct_texts_are_reasoned()
+    ensures { (s : Source) → AreNamesSound s → AreSpelled s → first_type_fault s ≡ None
+        → let t = tables_of s (flat_of s) (settled_of s) in (from : List ℕ) (a : Authority) (to : List ℕ)
+        → IsDirectText s from a to ↔ OfTexts (label_lines t.flat) (λ l m. DirectReason t (edge l a m)) from to }
+{}
+
+/// And of what domains may do with their locks.
+pub fn lock_texts_are_lock_edges()
+    ensures { (s : Source) → AreNamesSound s → AreSpelled s
+        → let t = tables_of s (flat_of s) (settled_of s) in (from : List ℕ) (a : Authority) (to : List ℕ)
+        → IsLockText s from a to ↔ OfTexts (label_lines t.flat) (λ l m. IsLockEdge t (edge l a m)) from to }
+{}
+
+/// The edges of a policy are, by the texts of their labels, all triples that its source assigns, in order and each once.
+pub fn policies_are_all_that_is_assigned()
+    ensures { (s : Source) → AreNamesSound s → AreSpelled s → first_type_fault s ≡ None
+        → (edges : List Edge) → IsPolicyOf (tables_of s (flat_of s) (settled_of s)) edges → IsSorted edges
+        → AreAll (IsAssignedText s) (map (triple (flat_of s)) edges) }
 {}

@@ -1,14 +1,16 @@
--- Which refusals the pages of devices make.
+-- Which refusals the pages of devices make, and which the want of room.
 use Rattle.std.proofs.Common.{◌≡◌, refl, subst, ℕ, ◌+◌, ◌++◌, Bool, true, false, List, [], ◌∷◌, Option, Some, None}
 use Rattle.std.specs.List.{list_any}
 use Rattle.boot_plan.specs.Devices.{device_refusal, has_page, is_needed}
 use Rattle.boot_plan.specs.Overlaps.{first_overlap, refused_overlap}
-use Rattle.boot_plan.specs.Plans.{Refuses}
+use Rattle.boot_plan.specs.Plans.{AreFree, Refuses}
+use Rattle.boot_plan.specs.Rooms.{IsRoomTold}
 use Rattle.boot_plan.specs.declared.need.Need.{Need}
 use Rattle.boot_plan.specs.declared.need.Need.TheVariants.{Nothing, DevicePage, Block}
 use Rattle.boot_plan.specs.declared.plan_refusal.PlanRefusal.{PlanRefusal}
 use Rattle.boot_plan.specs.declared.plan_refusal.PlanRefusal.TheVariants.{Overlap, NoDevice, SharedFrame, NoRoom, NoMemory}
 use Rattle.boot_plan.specs.declared.untyped.Untyped.{Untyped}
+use Rattle.boot_plan.proofs.Necessity.{none_where_lacking}
 
 IsOfPage : PlanRefusal → Type 0
 IsOfPage (NoDevice frame) = Unit {0}
@@ -33,7 +35,7 @@ of_page rs before k (DevicePage paddr ∷ ns) r e = there (list_any (has_page pa
     there true t ih = new (is_needed paddr before) t refl ih
     there false t ih = same (NoDevice k) tt (rw t at e)
 
-none_overlap : (o : Option (ℕ × ℕ)) → refused_overlap o ≡ None → o ≡ None
+pub none_overlap : (o : Option (ℕ × ℕ)) → refused_overlap o ≡ None → o ≡ None
 none_overlap None e = refl
 none_overlap (Some (first, second)) e = absurd cc
 
@@ -44,3 +46,10 @@ refuses_page ns rs (NoDevice frame) o e = (none_overlap (first_overlap rs) o, e)
 refuses_page ns rs (SharedFrame frame) o e = (none_overlap (first_overlap rs) o, e)
 refuses_page ns rs (NoRoom bits need have) o e = absurd (of_page rs [] 0 ns (NoRoom bits need have) e)
 refuses_page ns rs NoMemory o e = tt
+
+pub refuses_room : (ns : List Need) (rs : List Untyped) (r : PlanRefusal) → AreFree ns rs → IsRoomTold ns rs (Some r) → Refuses ns rs r
+refuses_room ns rs (Overlap first second) free l = absurd l
+refuses_room ns rs (NoDevice frame) free l = absurd l
+refuses_room ns rs (SharedFrame frame) free l = absurd l
+refuses_room ns rs (NoRoom bits need have) free l = (free, l, λ places placed. none_where_lacking ns rs places bits need have l placed)
+refuses_room ns rs NoMemory free l = absurd l

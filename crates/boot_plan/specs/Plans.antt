@@ -18,12 +18,16 @@ pub record AreFree (ns : List Need) (rs : List Untyped) : Type 0 where
   pub regions : first_overlap rs ≡ None
   pub devices : device_refusal rs [] 0 ns ≡ None
 
+-- no places are a placement
+abbrev pub CannotPlace : List Need → List Untyped → Type 0
+CannotPlace ns rs = (places : List (Option ℕ)) → Placed ns rs places → ⊥
+
 -- a refusal is the first that comes
 abbrev pub Refuses : List Need → List Untyped → PlanRefusal → Type 0
 Refuses ns rs (Overlap first second) = first_overlap rs ≡ Some (first, second)
 Refuses ns rs (NoDevice frame) = (first_overlap rs ≡ None) × (device_refusal rs [] 0 ns ≡ Some (NoDevice frame))
 Refuses ns rs (SharedFrame frame) = (first_overlap rs ≡ None) × (device_refusal rs [] 0 ns ≡ Some (SharedFrame frame))
-Refuses ns rs (NoRoom bits need have) = AreFree ns rs × LacksRoom ns rs bits need have
+Refuses ns rs (NoRoom bits need have) = AreFree ns rs × LacksRoom ns rs bits need have × CannotPlace ns rs
 Refuses ns rs NoMemory = Unit {0}
 
 pub record Places (ns : List Need) (rs : List Untyped) (places : List (Option ℕ)) : Type 0 where

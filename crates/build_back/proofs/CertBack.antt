@@ -1,5 +1,5 @@
 -- Certificates of builds are read back under their policies.
-use Rattle.std.proofs.Common.{◌≡◌, ◌∙◌, ◌<◌, ◌≤◌, ℕ, true, List, Option, length, get_or, is_some, refl, ap, arith, Result, Ok}
+use Rattle.std.proofs.Common.{◌≡◌, ◌∙◌, ◌<◌, ◌≤◌, ℕ, true, List, length, get_or, is_some, refl, ap, arith, Result, Ok}
 use Rattle.std.proofs.lemmas.Option.{slice_get-get_or}
 use Rattle.adl_ast.specs.declared.source.Source.{Source}
 use Rattle.adl_meaning.proofs.SoundNames.{one_assembly}
@@ -33,7 +33,7 @@ use Rattle.build_back.proofs.EdgeTexts.{cert_short}
 use Rattle.build_back.proofs.Labelled.{IsLabel, edge_labels, label_small, named_at}
 use Rattle.build_back.specs.ReadBack.{IsCertReadBack}
 
-module _ {contents : Option Contents} (s : Source) (images : Images) (facts : AreFacts contents s images) where
+module _ {contents : Contents} (s : Source) (images : Images) (facts : AreFacts contents s images) where
   abbrev t : Tables
   t = source_tables s
 
@@ -60,7 +60,7 @@ module _ {contents : Option Contents} (s : Source) (images : Images) (facts : Ar
         omega (arith, a, c, d)
 
     labels_in : (e : Edge) → IsIn e b.cert → IsLabel t e.from × IsLabel t e.to
-    labels_in e i = edge_labels t flat_is e ((made.certified e).0 (in_has e b.cert i))
+    labels_in e i = edge_labels s facts.faultless.names facts.spelled e ((made.certified e).0 (in_has e b.cert i))
 
     small_in : (e : Edge) → IsIn e b.cert → (e.from < 8192) × (e.to < 8192)
     small_in e i = let l = labels_in e i in (label_small t refl small_is e.from l.0, label_small t refl small_is e.to l.1)
@@ -89,7 +89,7 @@ same_answer e = Ok e
 one_inside : (d e : List Edge) → same_answer d ≡ same_answer e → d ≡ e
 one_inside d e h = cc
 
-pub cert_read : (root : List ℕ) (contents : Option Contents) (b : Build) → IsBuildOf root contents b → IsCertReadBack b
+pub cert_read : (root : List ℕ) (contents : Contents) (b : Build) → IsBuildOf root contents b → IsCertReadBack b
 cert_read root contents b is =
     let w = cert_writable b.meaning.source (images_from b.meaning.source is.found) (build_facts root contents b is) b is.made in
     let text = cert_back b.policy b.cert w in

@@ -1,5 +1,5 @@
 -- Objects whose names differ are given back the labels that stand beside their names.
-use Rattle.std.proofs.Common.{◌≡◌, ◌∙◌, ℕ, zero, suc, Bool, true, false, List, [], ◌∷◌, length, map, Some, refl, sym, ap, arith}
+use Rattle.std.proofs.Common.{◌≡◌, ◌∙◌, ℕ, zero, suc, List, [], ◌∷◌, map, Some, refl, sym, ap}
 use Rattle.std.proofs.lemmas.Option.{get_or_from_slice_get}
 use Rattle.std.proofs.lemmas.Simd.{map-map}
 use Rattle.std.proofs.lemmas.Slice.Eq.{bytes_eq-Decides}
@@ -7,36 +7,16 @@ use Rattle.std.specs.List.{find, slice_get}
 use Rattle.std.specs.Option.{option_map}
 use Rattle.std.specs.Str.{bytes_eq}
 use Rattle.arch_compile.specs.Built.{labelled}
+use Rattle.assigned_laws.proofs.Ranked.{find_only}
 use Rattle.auth_kinds.specs.ObjectLabels.{label_of}
 use Rattle.cap_model.specs.declared.spec.Entry.{Entry}
 use Rattle.numbering.proofs.Gathered.{from_ones, get_ones}
 use Rattle.numbering.proofs.Lists.{get_map}
 use Rattle.policy_text.specs.Labelled.{object_label}
 
--- the one element that passes is found
-pub find_only : {X : Type 0} (test : X → Bool) (xs : List X) (n : ℕ) (x : X) → slice_get xs n ≡ Some x → test x ≡ true
-    → ((m : ℕ) (y : X) → slice_get xs m ≡ Some y → test y ≡ true → m ≡ n) → find test xs ≡ Some x
-find_only test [] n x at passes only = cc
-find_only test (y ∷ ys) zero x at passes only =
-    let same : y ≡ x = cc in
-    let here : test y ≡ true = ap test same ∙ passes in rw here (ap (λ z. Some z) same)
-find_only {X} test (y ∷ ys) (suc n) x at passes only =
-    go (test y) refl (find_only test ys n x at passes (λ m z f t. let l = only (suc m) z f t in omega (arith, l)))
-  where
-    go : (b : Bool) → test y ≡ b → find test ys ≡ Some x → find test (y ∷ ys) ≡ Some x
-    go true e behind = let l = only 0 y refl e in absurd (omega (arith, l))
-    go false e behind = rw e behind
-
 pub map_same : {X Y : Type 0} (f g : X → Y) (xs : List X) → ((n : ℕ) (x : X) → slice_get xs n ≡ Some x → f x ≡ g x) → map f xs ≡ map g xs
 map_same f g [] h = refl
 map_same f g (x ∷ xs) h = ap (λ z. z ∷ map f xs) (h 0 x refl) ∙ ap (λ z. g x ∷ z) (map_same f g xs (λ n y e. h (suc n) y e))
-
--- the labels that stand beside names, in order
-pub labels_beside : (entries : List Entry) (labels : List ℕ) → length entries ≡ length labels → map (λ (o : List ℕ × ℕ). o.1) (labelled entries labels) ≡ labels
-labels_beside [] [] h = refl
-labels_beside [] (l ∷ ls) h = absurd (omega (arith, h))
-labels_beside (e ∷ es) [] h = absurd (omega (arith, h))
-labels_beside (e ∷ es) (l ∷ ls) h = ap (λ z. l ∷ z) (labels_beside es ls (omega (arith, h)))
 
 -- things that have entries and labels
 module _ {X : Type 0} (entry : X → Entry) (label : X → ℕ) (xs : List X)

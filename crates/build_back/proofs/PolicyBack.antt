@@ -1,5 +1,5 @@
 -- Policies of builds are read back: they keep each limit of their reader, and what every policy keeps.
-use Rattle.std.proofs.Common.{◌≡◌, ◌≢◌, ◌∙◌, ◌<◌, ◌≤◌, ℕ, true, not, List, Option, Some, length, map, get_or, is_some, refl, sym, ap, subst, inl, arith, Result, Ok}
+use Rattle.std.proofs.Common.{◌≡◌, ◌≢◌, ◌∙◌, ◌<◌, ◌≤◌, ℕ, true, not, List, Some, length, map, get_or, is_some, refl, sym, ap, subst, inl, arith, Result, Ok}
 use Rattle.std.proofs.lemmas.Bool.{and_parts}
 use Rattle.std.proofs.lemmas.Option.{get_or_from_slice_get, slice_get-get_or, slice_get_within}
 use Rattle.std.specs.List.{All, AllPairs, list_all, slice_get}
@@ -39,7 +39,7 @@ use Rattle.spec_kept.proofs.Telling.{names_tell}
 use Rattle.system_spec.specs.Made.{entry, labels_of, part_label, spec_of}
 use Rattle.system_spec.specs.Parts.{parts}
 use Rattle.system_spec.specs.Tables.{Tables}
-use Rattle.build_back.proofs.CertBack.{connected_is, flat_is, policy_few, small_is}
+use Rattle.build_back.proofs.CertBack.{connected_is, policy_few, small_is}
 use Rattle.assigned_laws.proofs.Identifiers.{identifiers}
 use Rattle.build_back.proofs.LabelNames.{IsShortName, name_part, path_named}
 use Rattle.build_back.proofs.Labelled.{IsLabel, edge_labels, few_labels, label_small, named_at}
@@ -154,7 +154,7 @@ one_inside p q h = cc
 
 -- ---- of a source
 
-module _ {contents : Option Contents} (s : Source) (images : Images) (facts : AreFacts contents s images) where
+module _ {contents : Contents} (s : Source) (images : Images) (facts : AreFacts contents s images) where
   abbrev t : Tables
   t = system_tables s images
 
@@ -193,7 +193,7 @@ module _ {contents : Option Contents} (s : Source) (images : Images) (facts : Ar
     label_there l w = ap (λ z. is_some (label_name z l)) made.labels ∙ named_at (source_tables s) refl l w
 
     leads : (e : Edge) → IsIn e b.policy.edges → IsLabel (source_tables s) e.from × IsLabel (source_tables s) e.to
-    leads e i = edge_labels (source_tables s) (flat_is s images facts) e (inl ((made.edges e).0 (in_has e b.policy.edges i)))
+    leads e i = edge_labels s facts.faultless.names facts.spelled e (inl ((made.edges e).0 (in_has e b.policy.edges i)))
 
     object_labelled : (o : List ℕ × ℕ) → IsIn o b.policy.objects → IsLabel (source_tables s) o.1
     object_labelled o i =
@@ -266,5 +266,5 @@ module _ {contents : Option Contents} (s : Source) (images : Images) (facts : Ar
           only = λ other u. one_inside other b.policy (policies_one (policy_text b.policy) (Ok other) (Ok b.policy) tt tt u text);
         }
 
-pub policy_read : (root : List ℕ) (contents : Option Contents) (b : Build) → IsBuildOf root contents b → IsPolicyReadBack b
+pub policy_read : (root : List ℕ) (contents : Contents) (b : Build) → IsBuildOf root contents b → IsPolicyReadBack b
 policy_read root contents b is = made_back b.meaning.source (images_from b.meaning.source is.found) (build_facts root contents b is) b is.made

@@ -24,12 +24,12 @@ use Rattle.spec_kept.specs.Fit.{IsFit}
 use Rattle.system_spec.specs.Made.{spec_of}
 use Rattle.build_back.specs.ReadBack.{IsSpecReadBack}
 
-pub made_fit : {contents : Option Contents} (s : Source) (images : Images) → AreFacts contents s images → IsFit (system_tables s images)
+pub made_fit : {contents : Contents} (s : Source) (images : Images) → AreFacts contents s images → IsFit (system_tables s images)
 made_fit s images facts =
     let f = facts.faultless in
     tables_are_fit s images facts.short f.names f.types f.flat f.settings facts.numbered facts.sound facts.space facts.slot facts.page
 
-pub made_writable : {contents : Option Contents} (s : Source) (images : Images) → AreFacts contents s images → IsWritable (spec_of (system_tables s images))
+pub made_writable : {contents : Contents} (s : Source) (images : Images) → AreFacts contents s images → IsWritable (spec_of (system_tables s images))
 made_writable {contents} s images facts =
     let f = facts.faultless in
     let t = system_tables s images in
@@ -41,7 +41,7 @@ made_writable {contents} s images facts =
     (tables_sized s (flat_of s) (settled_of s) images limited)
     (tables_written s (flat_of s) (settled_of s) images plain can limited.pages)
 
-pub spec_back : (root : List ℕ) (contents : Option Contents) (b : Build) → IsBuildOf root contents b → IsSpecReadBack b
+pub spec_back : (root : List ℕ) (contents : Contents) (b : Build) → IsBuildOf root contents b → IsSpecReadBack b
 spec_back root contents b is =
     let s = b.meaning.source in
     let images = images_from s is.found in

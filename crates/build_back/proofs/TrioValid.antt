@@ -1,15 +1,14 @@
 -- The spec, policy and certificate of a build keep the rules of the checker, by the labels that the policy gives to objects.
-use Rattle.std.proofs.Common.{◌≡◌, ◌∙◌, ℕ, List, Option, Some, Ok, map, refl, sym, ap, subst}
-use Rattle.std.proofs.lemmas.List.{length-map}
+use Rattle.std.proofs.Common.{◌≡◌, ◌∙◌, ℕ, List, Some, Ok, map, refl, sym, ap, subst}
 use Rattle.adl_ast.specs.declared.source.Source.{Source}
 use Rattle.arch_compile.specs.Built.{IsBuildOf, IsMade, labelled, system_tables}
 use Rattle.arch_compile.specs.LayoutFaults.{images_from}
 use Rattle.arch_compile.specs.declared.building.Build.{Build}
-use Rattle.arch_policy.specs.Tables.{AreApart}
-use Rattle.assigned_laws.proofs.TextReasons.{labels_apart}
 use Rattle.auth_kinds.specs.declared.edge.Edge.{Edge}
 use Rattle.auth_kinds.specs.declared.object_labels.Labels.{Labels}
 use Rattle.build_laws.proofs.Facts.{AreFacts, build_facts}
+use Rattle.build_laws.proofs.Soundness.{build_sound, labels_are}
+use Rattle.build_laws.specs.Sound.{IsSound}
 use Rattle.cam_io.specs.Contents.{Contents}
 use Rattle.cap_model.specs.declared.spec.Entry.{Entry}
 use Rattle.cap_model.specs.declared.spec.Spec.{Spec}
@@ -17,22 +16,16 @@ use Rattle.cert_check.specs.Valid.{Valid}
 use Rattle.cert_check.specs.Verdicts.{Judged}
 use Rattle.cert_check.specs.declared.verdict.Verdict.{Verdict}
 use Rattle.cert_check.specs.declared.verdict.Verdict.TheVariants.{Yes, No}
-use Rattle.front_end.specs.First.{source_tables}
 use Rattle.policy_text.specs.Labelled.{IsLabelling, object_label}
 use Rattle.program_sections.specs.declared.images.Images.{Images}
 use Rattle.reach_laws.proofs.ValidCertificates.{valid}
-use Rattle.reach_laws.specs.LaidOut.{IsLaidOut}
 use Rattle.source_images.specs.Found.{Found}
-use Rattle.spec_edges.proofs.Connections.{laid_out}
-use Rattle.spec_edges.specs.Connected.{IsConnected}
-use Rattle.spec_kept.proofs.Keeping.{spec_kept}
 use Rattle.spec_kept.specs.Fit.{IsFit}
 use Rattle.spec_kept.proofs.Telling.{names_tell}
 use Rattle.system_spec.specs.Made.{entry, labels_of, part_label, spec_of}
 use Rattle.system_spec.specs.Parts.{parts}
 use Rattle.system_spec.specs.Tables.{Tables}
-use Rattle.build_back.proofs.CertBack.{connected_is}
-use Rattle.build_back.proofs.LabelsBack.{labels_back, labels_beside, labels_one}
+use Rattle.build_back.proofs.LabelsBack.{labels_back, labels_one}
 use Rattle.build_back.proofs.SpecBack.{made_fit}
 use Rattle.build_back.specs.TriosValid.{IsTrioValid}
 
@@ -40,8 +33,8 @@ judged_yes : {spec : Spec} {labels : List ℕ} {policy cert : List Edge} (verdic
 judged_yes Yes v j = refl
 judged_yes (No number have lack) v j = absurd (j.3 v)
 
-module _ {contents : Option Contents} (b : Build) (found : List Found) (facts : AreFacts contents b.meaning.source (images_from b.meaning.source found))
-    (made : IsMade b.meaning.source (images_from b.meaning.source found) b.spec b.policy b.cert b.map) where
+module _ {contents : Contents} (b : Build) (found : List Found) (facts : AreFacts contents b.meaning.source (images_from b.meaning.source found))
+    (made : IsMade b.meaning.source (images_from b.meaning.source found) b.spec b.policy b.cert b.map) (sound : IsSound b) where
   abbrev s : Source
   s = b.meaning.source
 
@@ -57,44 +50,27 @@ module _ {contents : Option Contents} (b : Build) (found : List Found) (facts : 
   fit : IsFit t
   fit = made_fit s images facts
 
-  connected : IsConnected t
-  connected = connected_is s images facts
-
-  pub apart : AreApart (source_tables s)
-  apart = labels_apart s facts.faultless.names facts.spelled
-
-  pub laid : IsLaidOut (source_tables s) (spec_of t) labels
-  laid = laid_out t connected apart (spec_kept t fit)
-
-  made_valid : Valid (spec_of t) labels b.policy.edges b.cert
-  made_valid = valid (source_tables s) (spec_of t) labels b.policy.edges b.cert connected.flat apart laid made.edges made.certified
-
   gives_made : map (λ n. Some n) labels ≡ map (λ (e : Entry). object_label (labelled (spec_of t).entries labels) e.name) (spec_of t).entries
   gives_made = labels_back (entry t) (part_label t) (parts t) (λ m n p q e f same. names_tell t fit.connections fit.objects m n p q e f same)
 
-  pub gives : IsLabelling b.spec b.policy (Ok (record { by_object = labels }))
+  gives : IsLabelling b.spec b.policy (Ok (record { by_object = labels }))
   gives =
       gives_made
       ∙ ap (λ z. map (λ (e : Entry). object_label z e.name) (spec_of t).entries) (sym made.objects)
       ∙ ap (λ (z : Spec). map (λ (e : Entry). object_label b.policy.objects e.name) z.entries) (sym made.spec_is)
 
-  listed : map (λ (o : List ℕ × ℕ). o.1) b.policy.objects ≡ labels
-  listed = ap (λ z. map (λ (o : List ℕ × ℕ). o.1) z) made.objects
-      ∙ labels_beside (spec_of t).entries labels (length-map (parts t) (entry t) ∙ sym (length-map (parts t) (part_label t)))
-
   by_labels : (given : Labels) → IsLabelling b.spec b.policy (Ok given) → Valid b.spec given.by_object b.policy.edges b.cert
   by_labels given l =
-      subst (λ z. Valid b.spec z b.policy.edges b.cert) (labels_one labels given.by_object (gives ∙ sym l))
-      (subst (λ z. Valid z labels b.policy.edges b.cert) (sym made.spec_is) made_valid)
+      subst (λ z. Valid b.spec z b.policy.edges b.cert) (labels_are s images facts b made ∙ labels_one labels given.by_object (gives ∙ sym l)) sound.valid
 
   pub made_trio : IsTrioValid b
   made_trio = record {
     labels = record { by_object = labels };
     labelled = gives;
-    listed = listed;
+    listed = labels_are s images facts b made;
     valid = by_labels;
     yes = λ given verdict l j. judged_yes verdict (by_labels given l) j;
   }
 
-pub trio_valid : (root : List ℕ) (contents : Option Contents) (b : Build) → IsBuildOf root contents b → IsTrioValid b
-trio_valid root contents b is = made_trio b is.found (build_facts root contents b is) is.made
+pub trio_valid : (root : List ℕ) (contents : Contents) (b : Build) → IsBuildOf root contents b → IsTrioValid b
+trio_valid root contents b is = made_trio b is.found (build_facts root contents b is) is.made (build_sound root contents b is)

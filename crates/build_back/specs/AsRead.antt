@@ -1,11 +1,12 @@
 -- What holds of whatever is read of the three texts that are written of a build, whoever reads them.
 use Rattle.std.specs.Prelude.{◌≡◌, ◌≢◌, ◌↔◌, ℕ, List, Ok}
 use Rattle.arch_compile.specs.declared.building.Build.{Build}
-use Rattle.assigned_laws.specs.Texts.{IsAssignedText}
+use Rattle.assigned_laws.specs.Texts.{IsAssignedText, OfTexts}
 use Rattle.auth_kinds.specs.declared.authority.Authority.{Authority}
 use Rattle.auth_kinds.specs.declared.edge.Edge.{Edge}
 use Rattle.auth_kinds.specs.declared.object_labels.Labels.{Labels}
 use Rattle.auth_kinds.specs.declared.policy.Policy.{Policy}
+use Rattle.build_laws.specs.Sound.{object_labels}
 use Rattle.cap_machine.specs.Runs.{Reaches}
 use Rattle.cap_model.specs.Canonical.{canonical}
 use Rattle.cap_model.specs.declared.spec.Spec.{Spec}
@@ -13,7 +14,6 @@ use Rattle.capdl_text.specs.Texts.{Text}
 use Rattle.cert_check.specs.Verdicts.{Judged}
 use Rattle.cert_check.specs.declared.verdict.Verdict.{Verdict}
 use Rattle.cert_check.specs.declared.verdict.Verdict.TheVariants.{Yes}
-use Rattle.numbering.specs.Gather.{IsIn}
 use Rattle.policy_text.specs.Labelled.{IsLabelling}
 use Rattle.policy_text.specs.PolicyLines.{cert_text, policy_text}
 use Rattle.policy_text.specs.PolicyTexts.{IsCertText, IsPolicyText}
@@ -26,14 +26,13 @@ pub record IsReadAs (b : Build) (spec : Spec) (policy : Policy) (labels : Labels
 
 -- some run of the spec reaches the authority, from the label that has one text in the policy, over the label that has another
 abbrev pub ReachesText : Spec → Policy → Labels → List ℕ → Authority → List ℕ → Type 0
-ReachesText spec policy labels from a to =
-    (l m : ℕ) × IsIn (l, from) policy.labels × IsIn (m, to) policy.labels × Reaches spec labels.by_object l a m
+ReachesText spec policy labels from a to = OfTexts policy.labels (λ l m. Reaches spec labels.by_object l a m) from to
 
--- Something is read of them. Whatever it is, threads of the capDL reach between labels of the policy, over every interleaving
--- of steps, exactly what the connectors of the source assign; and whatever judges the three as the checker does says yes.
+-- They are read as what was written. Whatever is read of them, threads of the capDL reach between labels of the policy, over
+-- every interleaving of steps, exactly what the connectors of the source assign; and whatever judges the three as the checker
+-- does says yes.
 pub record HoldsAsRead (b : Build) : Type 0 where
-  pub labels : Labels
-  pub read : IsReadAs b b.spec b.policy labels
+  pub read : IsReadAs b b.spec b.policy (object_labels b)
   pub reaches : (spec : Spec) (policy : Policy) (labels : Labels) → IsReadAs b spec policy labels
       → (from : List ℕ) (a : Authority) (to : List ℕ) → from ≢ to
       → ReachesText spec policy labels from a to ↔ IsAssignedText b.meaning.source from a to

@@ -1,2 +1,2 @@
-mod OfSources
+pub mod OfSources
 mod Programs

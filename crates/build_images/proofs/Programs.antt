@@ -113,7 +113,7 @@ leaf_numbered s sound l d leaf at own =
     let r = place_of n.0 (types s (flat_of s)) listed in
     (r.0, ap (option_and_then (λ name. position (bytes_eq name) (types s (flat_of s)))) typed ∙ r.1)
 
-pub programs_have_images : (contents : Option Contents) (root : List ℕ) (s : Source) (images : Images) → AreNamesSound s → AreImagesOf contents root s (flat_of s) images → HaveImages (flat_of s) images
+pub programs_have_images : (contents : Contents) (root : List ℕ) (s : Source) (images : Images) → AreNamesSound s → AreImagesOf contents root s (flat_of s) images → HaveImages (flat_of s) images
 programs_have_images contents root s images sound read leaf d found at own =
     let r = leaf_numbered s sound leaf d found at own in (
       r.0,

@@ -10,15 +10,17 @@ ghost use Rattle.cam_io.specs.Contents.{Contents};
 ghost use Rattle.program_sections.specs.declared.images.Images.{Images};
 ghost use Rattle.source_images.specs.ImagesRead.{AreImagesOf};
 ghost use Rattle.source_mapped.specs.HaveImages.{HaveImages};
-ghost use Rattle.std.specs.Prelude.{ℕ, List, Option};
+ghost use Rattle.std.specs.Prelude.{ℕ, List};
 
 /// Where no fault of names stands in a source, each leaf of its software has one of the images that are read for it.
 pub fn programs_have_images()
-    ensures { (contents : Option Contents) (root : List ℕ) (s : Tree) (images : Images) → AreNamesSound s
+    ensures { (contents : Contents) (root : List ℕ) (s : Tree) (images : Images) → AreNamesSound s
         → AreImagesOf contents root s (flat_of s) images → HaveImages (flat_of s) images }
 {}
 
-/// The slots of every compiled system, its threads, regions, pages, page tables, frames, labels and map are those of its source.
+/// The slots of every compiled system, its threads, regions, pages, page tables, frames and map are those of its source, and the
+/// labels that its policy gives to all of these are those of their owners. They are the labels by which the laws of `build_laws`
+/// tell what its policy has and what its threads reach.
 pub fn builds_are_those_of_their_source()
-    ensures { (root : List ℕ) (contents : Option Contents) (b : Build) → IsBuildOf root contents b → IsOfSource contents b }
+    ensures { (root : List ℕ) (contents : Contents) (b : Build) → IsBuildOf root contents b → IsOfSource contents b }
 {}

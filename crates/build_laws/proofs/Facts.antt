@@ -1,5 +1,5 @@
 -- What is known of a build: that no fault of any phase stands in its source and its section tables.
-use Rattle.std.proofs.Common.{◌≡◌, List, ℕ, Option, None, refl}
+use Rattle.std.proofs.Common.{◌≡◌, List, ℕ, None, refl}
 use Rattle.std.specs.Option.{option_or}
 use Rattle.adl_ast.specs.declared.source.Source.{Source}
 use Rattle.adl_hierarchy.specs.Spelled.{AreSpelled}
@@ -22,14 +22,16 @@ use Rattle.front_end.specs.Steps.{IsWhole}
 use Rattle.program_sections.specs.Numbered.{AreNumbered, AreSound}
 use Rattle.program_sections.specs.SpaceFaults.{first_space_fault}
 use Rattle.program_sections.specs.declared.images.Images.{Images}
+use Rattle.source_images.specs.Found.{table_names}
 use Rattle.source_images.proofs.ImageNumbers.{images_numbered}
+use Rattle.source_images.proofs.TableReads.{found_count}
 use Rattle.source_images.proofs.Soundness.{images_sound}
 use Rattle.source_images.specs.ImagesRead.{AreImagesOf}
 use Rattle.source_images.specs.TableFaults.{first_table_fault}
 use Rattle.source_images.specs.Types.{types}
 use Rattle.vspace_layout.specs.PageLimits.{first_page_limit}
 
-pub record AreFacts (contents : Option Contents) (s : Source) (images : Images) : Type 0 where
+pub record AreFacts (contents : Contents) (s : Source) (images : Images) : Type 0 where
   pub short : AreFilesShort s
   pub spelled : AreSpelled s
   pub faultless : IsFaultless s
@@ -42,7 +44,7 @@ pub record AreFacts (contents : Option Contents) (s : Source) (images : Images) 
   pub edge : first_edge_fault (source_tables s) ≡ None
 
 -- the facts of a build, with its images
-pub build_facts : (root : List ℕ) (contents : Option Contents) (b : Build) (is : IsBuildOf root contents b) → AreFacts contents b.meaning.source (images_from b.meaning.source is.found)
+pub build_facts : (root : List ℕ) (contents : Contents) (b : Build) (is : IsBuildOf root contents b) → AreFacts contents b.meaning.source (images_from b.meaning.source is.found)
 build_facts root contents b is =
     let s = b.meaning.source in
     let found = is.found in
@@ -63,7 +65,7 @@ build_facts root contents b is =
       spelled = short_spelled s whole.short;
       faultless = faultless s front;
       read = record { found = found; told = is.told; clean = table; images = refl };
-      numbered = images_numbered (root_of s) s (flat_of s) found is.told.count table
+      numbered = images_numbered (root_of s) s (flat_of s) found (found_count _ (table_names (root_of s) s (flat_of s)) found is.told) table
           (sound_within s (flat_of s) (settled_of s) (record { whole = whole; none = front; meant = record { is_flat = refl; is_settled = refl } }));
       sound = λ n image at x i. images_sound (types s (flat_of s)) found n image at x i;
       space = no_first space (option_or slot (option_or page edges)) imaged;

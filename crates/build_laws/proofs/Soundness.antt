@@ -1,5 +1,6 @@
 -- Builds are sound: each part by the law of its own layer.
-use Rattle.std.proofs.Common.{◌≡◌, ◌≢◌, ◌∙◌, ℕ, List, Option, refl, sym, subst}
+use Rattle.std.proofs.Common.{◌≡◌, ◌≢◌, ◌⊎◌, ◌∙◌, ℕ, List, length, map, inl, inr, sym, ap, subst}
+use Rattle.std.proofs.lemmas.List.{length-map}
 use Rattle.std.specs.Prelude.{◌↔◌}
 use Rattle.adl_ast.specs.declared.source.Source.{Source}
 use Rattle.adl_meaning.specs.Flat.{flat_of}
@@ -7,18 +8,25 @@ use Rattle.arch_compile.specs.Built.{IsBuildOf, IsMade, labelled, system_tables}
 use Rattle.arch_compile.specs.LayoutFaults.{images_from}
 use Rattle.arch_compile.specs.declared.building.Build.{Build}
 use Rattle.arch_policy.specs.Labels.{label_lines}
-use Rattle.arch_policy.specs.Reasons.{IsReasoned}
+use Rattle.arch_policy.specs.Policies.{IsLockEdge}
+use Rattle.arch_policy.specs.Reasons.{DirectReason, IsReasoned}
 use Rattle.arch_policy.specs.Tables.{AreApart}
+use Rattle.assigned_laws.proofs.LabelsStand.{label_lines_stand}
+use Rattle.assigned_laws.proofs.PolicyTriples.{all_assigned}
 use Rattle.assigned_laws.proofs.Ranked.{lines_apart}
-use Rattle.assigned_laws.proofs.TextReasons.{assigned_texts, labels_apart}
-use Rattle.assigned_laws.specs.Texts.{IsAssignedText}
+use Rattle.assigned_laws.proofs.TextReasons.{assigned_texts, direct_texts, labels_apart, lock_texts}
+use Rattle.assigned_laws.specs.Texts.{IsAssignedText, IsDirectText, IsLabelText, IsLockText, OfTexts}
+use Rattle.assigned_laws.specs.Triples.{AreAll, Triple, triple}
 use Rattle.auth_kinds.specs.Edges.{edge}
 use Rattle.auth_kinds.specs.Tables.{Has}
 use Rattle.auth_kinds.specs.declared.authority.Authority.{Authority}
 use Rattle.auth_kinds.specs.declared.edge.Edge.{Edge}
 use Rattle.cam_io.specs.Contents.{Contents}
 use Rattle.cap_machine.specs.Runs.{Reaches}
+use Rattle.cap_model.specs.Auth.{Auth}
 use Rattle.cap_model.specs.Kept.{IsKept}
+use Rattle.cap_model.specs.State.{boot}
+use Rattle.cap_model.specs.declared.spec.Spec.{Spec}
 use Rattle.cert_check.specs.Valid.{Valid}
 use Rattle.front_end.specs.First.{source_tables}
 use Rattle.numbering.specs.Gather.{IsIn}
@@ -32,17 +40,23 @@ use Rattle.source_kept.proofs.Fits.{tables_are_fit}
 use Rattle.spec_edges.proofs.Connections.{laid_out}
 use Rattle.spec_edges.specs.Connected.{IsConnected}
 use Rattle.spec_kept.proofs.Keeping.{spec_kept}
-use Rattle.system_spec.specs.Made.{labels_of, spec_of}
+use Rattle.system_spec.specs.Made.{entry, labels_of, part_label, spec_of}
+use Rattle.system_spec.specs.Parts.{parts}
 use Rattle.system_spec.specs.Tables.{Tables}
 use Rattle.build_laws.proofs.Facts.{AreFacts, build_facts}
-use Rattle.build_laws.specs.Sound.{IsSound, ReachesText}
+use Rattle.build_laws.proofs.ObjectLabels.{labels_beside}
+use Rattle.build_laws.specs.Sound.{BootsText, HasText, IsSound, ReachesText, object_labels}
 
-module _ {contents : Option Contents} (s : Source) (images : Images) (facts : AreFacts contents s images) where
+-- what is the same as a third
+both : {A B C : Type 0} → (A ↔ C) → (B ↔ C) → A ↔ B
+both f g = (λ a. g.1 (f.0 a), λ b. f.1 (g.0 b))
+
+module _ {contents : Contents} (s : Source) (images : Images) (facts : AreFacts contents s images) where
   abbrev t : Tables
   t = system_tables s images
 
-  abbrev object_labels : List ℕ
-  object_labels = (labels_of (system_tables s images)).by_object
+  abbrev laid_labels : List ℕ
+  laid_labels = (labels_of (system_tables s images)).by_object
 
   apart : AreApart (source_tables s)
   apart = labels_apart s facts.faultless.names facts.spelled
@@ -57,66 +71,126 @@ module _ {contents : Option Contents} (s : Source) (images : Images) (facts : Ar
       let f = facts.faultless in
       tables_are_connected s images facts.short f.names f.types f.flat f.settings facts.numbered facts.sound facts.space facts.slot facts.page
 
-  laid : IsLaidOut (source_tables s) (spec_of t) object_labels
+  laid : IsLaidOut (source_tables s) (spec_of t) laid_labels
   laid = laid_out t connected apart kept_is
 
-  reached : (l : ℕ) (a : Authority) (m : ℕ) → l ≢ m → Reaches (spec_of t) object_labels l a m ↔ IsReasoned (source_tables s) (edge l a m)
-  reached = exactly_reached (source_tables s) (spec_of t) object_labels connected.flat apart laid
+  reached : (l : ℕ) (a : Authority) (m : ℕ) → l ≢ m → Reaches (spec_of t) laid_labels l a m ↔ IsReasoned (source_tables s) (edge l a m)
+  reached = exactly_reached (source_tables s) (spec_of t) laid_labels connected.flat apart laid
 
-  abbrev ReachesLine : List ℕ → Authority → List ℕ → Type 0
-  ReachesLine from a to =
-      (l m : ℕ) × IsIn (l, from) (label_lines (flat_of s)) × IsIn (m, to) (label_lines (flat_of s)) × Reaches (spec_of t) object_labels l a m
+  -- ---- of a build
 
-  reaches_line : (from : List ℕ) (a : Authority) (to : List ℕ) → from ≢ to → ReachesLine from a to ↔ IsAssignedText s from a to
-  reaches_line from a to differ =
-      let join = assigned_texts s facts.faultless.names facts.spelled facts.faultless.types from a to in (
-        λ r.
-            let other : r.0 ≢ r.1 = λ e. differ ((lines_apart (flat_of s) r.0 r.1 from to r.2 r.3).0 e) in
-            join.1 (r.0, r.1, r.2, r.3, (reached r.0 a r.1 other).0 r.4),
-        λ h. let r = join.0 h in (r.0, r.1, r.2, r.3, (reached r.0 a r.1 r.4.differ).1 r.4),
-      )
+  module _ (b : Build) (made : IsMade s images b.spec b.policy b.cert b.map) where
+    -- its policy gives its objects just these labels
+    pub labels_are : (object_labels b).by_object ≡ laid_labels
+    labels_are =
+        ap (λ (z : List (List ℕ × ℕ)). map (λ o. o.1) z) made.objects
+        ∙ labels_beside (spec_of t).entries laid_labels (length-map (parts t) (entry t) ∙ sym (length-map (parts t) (part_label t)))
 
-  module _ (b : Build) (source_is : b.meaning.source ≡ s) (made : IsMade s images b.spec b.policy b.cert b.map) where
-    same_valid : Valid b.spec object_labels b.policy.edges b.cert
-    same_valid = subst (λ z. Valid z object_labels b.policy.edges b.cert) (sym made.spec_is)
-        (valid (source_tables s) (spec_of t) object_labels b.policy.edges b.cert connected.flat apart laid made.edges made.certified)
+    of_build : (P : Spec → List ℕ → Type 0) → P (spec_of t) laid_labels → P b.spec (object_labels b).by_object
+    of_build P p = subst (λ z. P z (object_labels b).by_object) (sym made.spec_is) (subst (P (spec_of t)) (sym labels_are) p)
 
-    same_least : (policy other : List Edge) → Valid b.spec object_labels policy other → (l : ℕ) (a : Authority) (m : ℕ) → Has b.cert l a m → Has other l a m
-    same_least policy other v =
-        least (source_tables s) (spec_of t) object_labels b.cert connected.flat apart laid made.certified policy other (subst (λ z. Valid z object_labels policy other) made.spec_is v)
+    -- what is the same between numbers of labels is so between texts
+    by_lines : (R S : ℕ → ℕ → Type 0) (from to : List ℕ) → ((l m : ℕ) → IsIn (l, from) (label_lines (flat_of s)) → IsIn (m, to) (label_lines (flat_of s)) → R l m ↔ S l m)
+        → OfTexts b.policy.labels R from to ↔ OfTexts (label_lines (flat_of s)) S from to
+    by_lines R S from to same = (
+      λ r.
+          let i = subst (λ z. IsIn (r.0, from) z) made.labels r.2 in
+          let j = subst (λ z. IsIn (r.1, to) z) made.labels r.3 in
+          (r.0, r.1, i, j, (same r.0 r.1 i j).0 r.4),
+      λ r.
+          (r.0, r.1, subst (λ z. IsIn (r.0, from) z) (sym made.labels) r.2, subst (λ z. IsIn (r.1, to) z) (sym made.labels) r.3, (same r.0 r.1 r.2 r.3).1 r.4),
+    )
 
-    same_reaches : (from : List ℕ) (a : Authority) (to : List ℕ) → from ≢ to → ReachesText b object_labels from a to ↔ IsAssignedText b.meaning.source from a to
-    same_reaches from a to differ =
-        let join = reaches_line from a to differ in (
-          λ r.
-              subst (λ z. IsAssignedText z from a to) (sym source_is)
-              (join.0 (
-                r.0,
-                r.1,
-                subst (λ z. IsIn (r.0, from) z) made.labels r.2,
-                subst (λ z. IsIn (r.1, to) z) made.labels r.3,
-                subst (λ z. Reaches z object_labels r.0 a r.1) made.spec_is r.4,
-              )),
-          λ h.
-              let r = join.1 (subst (λ z. IsAssignedText z from a to) source_is h) in (
-                r.0,
-                r.1,
-                subst (λ z. IsIn (r.0, from) z) (sym made.labels) r.2,
-                subst (λ z. IsIn (r.1, to) z) (sym made.labels) r.3,
-                subst (λ z. Reaches z object_labels r.0 a r.1) (sym made.spec_is) r.4,
-              ),
+    -- the same where texts differ
+    apart_lines : (R S : ℕ → ℕ → Type 0) → ((l m : ℕ) → l ≢ m → R l m ↔ S l m) → (from to : List ℕ) → from ≢ to
+        → OfTexts b.policy.labels R from to ↔ OfTexts (label_lines (flat_of s)) S from to
+    apart_lines R S same from to differ = by_lines R S from to (λ l m i j. same l m (λ e. differ ((lines_apart (flat_of s) l m from to i j).0 e)))
+
+    -- ---- the policy and the certificate
+
+    policy_assigned : (from : List ℕ) (a : Authority) (to : List ℕ) → HasText b b.policy.edges from a to ↔ IsAssignedText s from a to
+    policy_assigned from a to =
+        both (by_lines (λ l m. Has b.policy.edges l a m) (λ l m. IsReasoned (source_tables s) (edge l a m)) from to (λ l m i j. made.edges (edge l a m)))
+        (assigned_texts s facts.faultless.names facts.spelled facts.faultless.types from a to)
+
+    abbrev Certified : ℕ → Authority → ℕ → Type 0
+    Certified l a m = IsReasoned (source_tables s) (edge l a m) ⊎ IsLockEdge (source_tables s) (edge l a m)
+
+    certified_texts : (from : List ℕ) (a : Authority) (to : List ℕ)
+        → (IsAssignedText s from a to ⊎ IsLockText s from a to) ↔ OfTexts (label_lines (flat_of s)) (λ l m. Certified l a m) from to
+    certified_texts from a to =
+        let f = assigned_texts s facts.faultless.names facts.spelled facts.faultless.types from a to in
+        let g = lock_texts s facts.faultless.names facts.spelled from a to in (
+          λ h. elim h [
+            | inl x ↦ let r = f.0 x in (r.0, r.1, r.2, r.3, inl r.4)
+            | inr x ↦ let r = g.0 x in (r.0, r.1, r.2, r.3, inr r.4)
+          ],
+          λ r. elim r.4 [
+            | inl x ↦ inl (f.1 (r.0, r.1, r.2, r.3, x))
+            | inr x ↦ inr (g.1 (r.0, r.1, r.2, r.3, x))
+          ],
         )
 
-    pub made_sound : IsSound b
-    made_sound = record {
-      labels = object_labels;
-      objects = subst (λ z. b.policy.objects ≡ labelled z.entries object_labels) (sym made.spec_is) made.objects;
-      kept = subst IsKept (sym made.spec_is) kept_is;
-      valid = same_valid;
-      least = same_least;
-      reaches = same_reaches;
+    cert_assigned : (from : List ℕ) (a : Authority) (to : List ℕ) → HasText b b.cert from a to ↔ (IsAssignedText s from a to ⊎ IsLockText s from a to)
+    cert_assigned from a to =
+        both (by_lines (λ l m. Has b.cert l a m) (λ l m. Certified l a m) from to (λ l m i j. made.certified (edge l a m))) (certified_texts from a to)
+
+    policy_counted : (all : List Triple) × AreAll (IsAssignedText s) all × (length all ≡ length b.policy.edges)
+    policy_counted = (
+      map (triple (flat_of s)) b.policy.edges,
+      all_assigned s facts.faultless.names facts.spelled facts.faultless.types b.policy.edges made.edges made.sorted,
+      length-map b.policy.edges (triple (flat_of s)),
+    )
+
+    own_valid : Valid b.spec (object_labels b).by_object b.policy.edges b.cert
+    own_valid =
+        of_build (λ spec labels. Valid spec labels b.policy.edges b.cert)
+        (valid (source_tables s) (spec_of t) laid_labels b.policy.edges b.cert connected.flat apart laid made.edges made.certified)
+
+    own_least : (policy other : List Edge) → Valid b.spec (object_labels b).by_object policy other → (l : ℕ) (a : Authority) (m : ℕ) → Has b.cert l a m → Has other l a m
+    own_least policy other =
+        of_build (λ spec labels. Valid spec labels policy other → (l : ℕ) (a : Authority) (m : ℕ) → Has b.cert l a m → Has other l a m)
+        (least (source_tables s) (spec_of t) laid_labels b.cert connected.flat apart laid made.certified policy other)
+
+    -- ---- threads
+
+    own_direct : (from : List ℕ) (a : Authority) (to : List ℕ) → from ≢ to → BootsText b from a to ↔ IsDirectText s from a to
+    own_direct from a to differ =
+        both (apart_lines (λ l m. Auth b.spec (object_labels b).by_object (boot b.spec) l a m) (λ l m. DirectReason (source_tables s) (edge l a m))
+        (of_build (λ spec labels. (l m : ℕ) → l ≢ m → Auth spec labels (boot spec) l a m ↔ DirectReason (source_tables s) (edge l a m)) (λ l m. laid.direct l a m)) from to differ)
+        (direct_texts s facts.faultless.names facts.spelled facts.faultless.types from a to)
+
+    own_reaches : (from : List ℕ) (a : Authority) (to : List ℕ) → from ≢ to → ReachesText b from a to ↔ IsAssignedText s from a to
+    own_reaches from a to differ =
+        both (apart_lines (λ l m. Reaches b.spec (object_labels b).by_object l a m) (λ l m. IsReasoned (source_tables s) (edge l a m))
+        (of_build (λ spec labels. (l m : ℕ) → l ≢ m → Reaches spec labels l a m ↔ IsReasoned (source_tables s) (edge l a m)) (λ l m. reached l a m)) from to differ)
+        (assigned_texts s facts.faultless.names facts.spelled facts.faultless.types from a to)
+
+    own_objects : b.policy.objects ≡ labelled b.spec.entries (object_labels b).by_object
+    own_objects = of_build (λ spec labels. b.policy.objects ≡ labelled spec.entries labels) made.objects
+
+    own_lines : (text : List ℕ) → ((l : ℕ) × IsIn (l, text) b.policy.labels) ↔ IsLabelText s text
+    own_lines text = subst (λ z. ((l : ℕ) × IsIn (l, text) z) ↔ IsLabelText s text) (sym made.labels) (label_lines_stand s facts.faultless.names text)
+
+    own_kept : IsKept b.spec
+    own_kept = subst IsKept (sym made.spec_is) kept_is
+
+made_sound : {contents : Contents} (b : Build) (images : Images) (facts : AreFacts contents b.meaning.source images) → IsMade b.meaning.source images b.spec b.policy b.cert b.map → IsSound b
+made_sound b images facts made =
+    let s = b.meaning.source in
+    record {
+      objects = own_objects s images facts b made;
+      kept = own_kept s images facts b made;
+      labels = own_lines s images facts b made;
+      assigned = policy_assigned s images facts b made;
+      counted = policy_counted s images facts b made;
+      certified = cert_assigned s images facts b made;
+      valid = own_valid s images facts b made;
+      least = own_least s images facts b made;
+      direct = own_direct s images facts b made;
+      reaches = own_reaches s images facts b made;
     }
 
-pub build_sound : (root : List ℕ) (contents : Option Contents) (b : Build) → IsBuildOf root contents b → IsSound b
+pub build_sound : (root : List ℕ) (contents : Contents) (b : Build) → IsBuildOf root contents b → IsSound b
 build_sound root contents b is =
-    made_sound b.meaning.source (images_from b.meaning.source is.found) (build_facts root contents b is) b refl is.made
+    made_sound b (images_from b.meaning.source is.found) (build_facts root contents b is) is.made

@@ -44,11 +44,11 @@ use Rattle.camkes_tool.specs.declared.answer.Answer.{Answer}
 module _ (m : Contents) (old new : List ℕ → ℕ) where
   -- ---- inputs
 
-  same_bytes : (name bytes other : List ℕ) → get m name ≡ Some other → Holds (Some m) name bytes → bytes ≡ other
+  same_bytes : (name bytes other : List ℕ) → get m name ≡ Some other → Holds m name bytes → bytes ≡ other
   same_bytes name bytes other is h = same_Some bytes other (sym h ∙ is)
 
   -- a file that is there and short is no fault
-  no_fault : (name bytes : List ℕ) → get m name ≡ Some bytes → length bytes ≤ 67108864 → (fault : InputFault) (file : List ℕ) → IsInput (Some m) old new name (Err (Fault fault file)) → ⊥
+  no_fault : (name bytes : List ℕ) → get m name ≡ Some bytes → length bytes ≤ 67108864 → (fault : InputFault) (file : List ℕ) → IsInput m old new name (Err (Fault fault file)) → ⊥
   no_fault name bytes is short fault file (named, inl (told, absent)) = let two : ◌≡◌ {A = Option (List ℕ)} None (Some bytes) = sym absent ∙ is in cc
   no_fault name bytes is short fault file (named, inr (told, (other, held, long))) =
       let same = ap (λ (z : List ℕ). length z) (same_Some other bytes (sym held ∙ is)) in
@@ -61,19 +61,19 @@ module _ (m : Contents) (old new : List ℕ → ℕ) where
 
     -- ---- what is read
 
-    spec_read : (spec : Spec) → IsSystem (Some m) old new cdl (Ok spec) → Text (canonical b.spec) spec
+    spec_read : (spec : Spec) → IsSystem m old new cdl (Ok spec) → Text (canonical b.spec) spec
     spec_read spec (inl (bytes, input, told)) = subst (λ z. Text z spec) (same_bytes cdl bytes (canonical b.spec) capdl_here input.1) told
     spec_read spec (inr (e, input, is)) = absurd cc
 
-    allowed_read : (allowed : Policy) → IsPolicy (Some m) old new policy (Ok allowed) → IsPolicyText (policy_text b.policy) allowed
+    allowed_read : (allowed : Policy) → IsPolicy m old new policy (Ok allowed) → IsPolicyText (policy_text b.policy) allowed
     allowed_read allowed (inl (bytes, input, told)) = subst (λ z. IsPolicyText z allowed) (same_bytes policy bytes (policy_text b.policy) policy_here input.1) told
     allowed_read allowed (inr (e, input, is)) = absurd cc
 
-    edges_read : (allowed : Policy) (edges : List Edge) → IsCert (Some m) old new allowed cert (Ok edges) → IsCertText allowed (cert_text b.cert) edges
+    edges_read : (allowed : Policy) (edges : List Edge) → IsCert m old new allowed cert (Ok edges) → IsCertText allowed (cert_text b.cert) edges
     edges_read allowed edges (inl (bytes, input, told)) = subst (λ z. IsCertText allowed z edges) (same_bytes cert bytes (cert_text b.cert) cert_here input.1) told
     edges_read allowed edges (inr (e, input, is)) = absurd cc
 
-    well : (outcome : Outcome) → IsChecked (Some m) old new cdl policy cert (Ok outcome) → is_well outcome ≡ true
+    well : (outcome : Outcome) → IsChecked m old new cdl policy cert (Ok outcome) → is_well outcome ≡ true
     well outcome (inl (spec, system, inl (allowed, text, inl (edges, read, inl (labels, labelled, said))))) =
         let asked : IsReadAs b spec allowed labels = record { capdl = spec_read spec system; policy_is = allowed_read allowed text; labelled = labelled } in
         let yes = held.yes spec allowed labels edges said.0 asked (edges_read allowed edges read) said.2 in
@@ -85,7 +85,7 @@ module _ (m : Contents) (old new : List ℕ → ℕ) where
 
     -- ---- no fault is told
 
-    capdl_right : (fault : InputFault) (file : List ℕ) → IsSystem (Some m) old new cdl (Err (Fault fault file)) → ⊥
+    capdl_right : (fault : InputFault) (file : List ℕ) → IsSystem m old new cdl (Err (Fault fault file)) → ⊥
     capdl_right fault file (inl (bytes, input, told)) =
         let same = same_bytes cdl bytes (canonical b.spec) capdl_here input.1 in
         no_fault_of_text bytes b.spec told.1.0 (subst (λ z. Text z b.spec) (sym same) back.spec.text) told.1.1
@@ -93,7 +93,7 @@ module _ (m : Contents) (old new : List ℕ → ℕ) where
     capdl_right fault file (inr (ReadFault g, input, is)) = absurd cc
     capdl_right fault file (inr (NoMemory, input, is)) = absurd cc
 
-    policy_right : (fault : InputFault) (file : List ℕ) → IsPolicy (Some m) old new policy (Err (Fault fault file)) → ⊥
+    policy_right : (fault : InputFault) (file : List ℕ) → IsPolicy m old new policy (Err (Fault fault file)) → ⊥
     policy_right fault file (inl (bytes, input, told)) =
         let same = same_bytes policy bytes (policy_text b.policy) policy_here input.1 in
         let right : IsPolicyText bytes b.policy = subst (λ z. IsPolicyText z b.policy) (sym same) back.policy.text in
@@ -102,7 +102,7 @@ module _ (m : Contents) (old new : List ℕ → ℕ) where
     policy_right fault file (inr (ReadFault g, input, is)) = absurd cc
     policy_right fault file (inr (NoMemory, input, is)) = absurd cc
 
-    cert_right : (allowed : Policy) → IsPolicyText (policy_text b.policy) allowed → (fault : InputFault) (file : List ℕ) → IsCert (Some m) old new allowed cert (Err (Fault fault file)) → ⊥
+    cert_right : (allowed : Policy) → IsPolicyText (policy_text b.policy) allowed → (fault : InputFault) (file : List ℕ) → IsCert m old new allowed cert (Err (Fault fault file)) → ⊥
     cert_right allowed text fault file (inl (bytes, input, told)) =
         let same = same_bytes cert bytes (cert_text b.cert) cert_here input.1 in
         let right : IsCertText b.policy bytes b.cert = subst (λ z. IsCertText b.policy z b.cert) (sym same) back.cert.text in
@@ -118,7 +118,7 @@ module _ (m : Contents) (old new : List ℕ → ℕ) where
         (subst (λ z. IsLabelling z b.policy (Err (refused.Fault told.1.0))) (back.spec.only spec capdl)
         (subst (λ z. IsLabelling spec z (Err (refused.Fault told.1.0))) (back.policy.only allowed text) told.1.1))
 
-    all_right : (fault : InputFault) (file : List ℕ) → IsChecked (Some m) old new cdl policy cert (Err (Fault fault file)) → ⊥
+    all_right : (fault : InputFault) (file : List ℕ) → IsChecked m old new cdl policy cert (Err (Fault fault file)) → ⊥
     all_right fault file (inr (Fault f g, system, is)) = capdl_right f g system
     all_right fault file (inr (ReadFault g, system, is)) = absurd cc
     all_right fault file (inr (NoMemory, system, is)) = absurd cc
@@ -136,20 +136,19 @@ module _ (m : Contents) (old new : List ℕ → ℕ) where
 
     -- ---- the status
 
-    status_is : (status : ℕ) → IsStatusOfTexts (IsChecked (Some m) old new cdl policy cert) status → (status ≡ 0) ⊎ (status ≡ 6)
+    status_is : (status : ℕ) → IsStatusOfTexts (IsChecked m old new cdl policy cert) status → (status ≡ 0) ⊎ (status ≡ 6)
     status_is status (inl (outcome, asked, e)) = inl (e ∙ ap (λ z. cond z 0 3) (well outcome asked))
     status_is status (inr (inl (fault, file, asked, e))) = absurd (all_right fault file asked)
     status_is status (inr (inr six)) = inr six
 
-pub texts_accepted : (contents : Option Contents) (before now : List ℕ → ℕ) (cdl policy cert : List ℕ) (words : List (List ℕ)) (answer : Answer) (status : ℕ) (old new : Sink) (m n : ℕ)
+pub texts_accepted : (contents : Contents) (before now : List ℕ → ℕ) (cdl policy cert : List ℕ) (words : List (List ℕ)) (answer : Answer) (status : ℕ) (old new : Sink) (m n : ℕ)
     → read_words words ≡ Some (Check cdl policy cert) → HoldTexts contents cdl policy cert → NoneRose before now → ¬ Rose m n
     → Fits words contents before now answer → Tells answer status old new m n → (status ≡ 0) ⊎ (status ≡ 6)
 texts_accepted contents before now cdl policy cert words answer status old new m n asked holds none kept fits tells =
     let b = holds.build in
     let root = holds.root in
     let sources = holds.sources in
-    let told = holds.told in
     let back : AreReadBack b = record { spec = spec_back root sources b holds.made; policy = policy_read root sources b holds.made; cert = cert_read root sources b holds.made } in
-    let exact = exact_status told words before now answer status old new m n (subst (λ z. Fits words z before now answer) holds.are fits) tells none kept in
-    status_is told before now cdl policy cert b back (as_read root sources b holds.made) (trio_valid root sources b holds.made) holds.capdl holds.allowed holds.certificate status
-    (subst (λ z. IsStatus told before now z status) asked exact)
+    let exact = exact_status contents words before now answer status old new m n fits tells none kept in
+    status_is contents before now cdl policy cert b back (as_read root sources b holds.made) (trio_valid root sources b holds.made) holds.capdl holds.allowed holds.certificate status
+    (subst (λ z. IsStatus contents before now z status) asked exact)

@@ -1,6 +1,9 @@
 pub mod Accepted
+pub mod Asked
+pub mod Choices
 pub mod Leaving
 pub mod OneAnswer
+pub mod Printed
 pub mod Statuses
 pub mod ReadFaults
 pub mod Safe

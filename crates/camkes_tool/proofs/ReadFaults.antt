@@ -1,5 +1,5 @@
 -- A command over texts tells a failed read only where the count of its file rose.
-use Rattle.std.proofs.Common.{◌≡◌, ℕ, List, Option, Result, Ok, Err, codes, subst, sym, inl, inr}
+use Rattle.std.proofs.Common.{◌≡◌, ℕ, List, Result, Err, codes, subst, sym, inl, inr}
 use Rattle.cam_base.specs.declared.error.Refused.{Refused}
 use Rattle.cam_io.specs.Causes.{Rose}
 use Rattle.cam_io.specs.Contents.{Contents}
@@ -23,24 +23,24 @@ module _ {B : Type 0} (file : List ℕ) (e : InputError) (is : ◌≡◌ {A = Re
   untold : {A E : Type 0} (tell : E → InputFault) (reads : Result A (Refused E) → Type 0) (name : List ℕ) → IsTold tell name reads (Err e) → ⊥
   untold tell reads name h = let told : IsTold tell name reads (Err (ReadFault file)) = subst (λ x. IsTold tell name reads (Err x)) (sym same) h in told
 
-  module _ (contents : Option Contents) (before now : List ℕ → ℕ) where
+  module _ (contents : Contents) (before now : List ℕ → ℕ) where
     input_rose : (name : List ℕ) → IsInput contents before now name (Err e) → Rose (before file) (now file)
     input_rose name h =
         let read : IsInput contents before now name (Err (ReadFault file)) = subst (λ x. IsInput contents before now name (Err x)) (sym same) h in
         subst (λ f. Rose (before f) (now f)) (sym read.0) read.1
 
-turn_rose : {A E : Type 0} (contents : Option Contents) (before now : List ℕ → ℕ) (tell : E → InputFault) (reads : List ℕ → Result A (Refused E) → Type 0) (name file : List ℕ)
+turn_rose : {A E : Type 0} (contents : Contents) (before now : List ℕ → ℕ) (tell : E → InputFault) (reads : List ℕ → Result A (Refused E) → Type 0) (name file : List ℕ)
     → Turn contents before now tell reads name (Err (ReadFault file)) → Rose (before file) (now file)
 turn_rose contents before now tell reads name file (inl (bytes, input, told)) = absurd told
 turn_rose {A = A} contents before now tell reads name file (inr (e, input, is)) = input_rose {B = A} file e is contents before now name input
 
-turn_err : {A B E : Type 0} (contents : Option Contents) (before now : List ℕ → ℕ) (tell : E → InputFault) (reads : List ℕ → Result A (Refused E) → Type 0) (name file : List ℕ) (e : InputError)
+turn_err : {A B E : Type 0} (contents : Contents) (before now : List ℕ → ℕ) (tell : E → InputFault) (reads : List ℕ → Result A (Refused E) → Type 0) (name file : List ℕ) (e : InputError)
     → ◌≡◌ {A = Result B InputError} (Err (ReadFault file)) (Err e) → Turn contents before now tell reads name (Err e) → Rose (before file) (now file)
 turn_err contents before now tell reads name file e is h =
     let same : e ≡ ReadFault file = cc in
     turn_rose contents before now tell reads name file (subst (λ x. Turn contents before now tell reads name (Err x)) same h)
 
-module _ (contents : Option Contents) (before now : List ℕ → ℕ) where
+module _ (contents : Contents) (before now : List ℕ → ℕ) where
   pub check_rose : (cdl policy cert file : List ℕ) → IsChecked contents before now cdl policy cert (Err (ReadFault file)) → Rose (before file) (now file)
   check_rose cdl policy cert file (inr (e, h, is)) = turn_err contents before now tell_text capdl.IsRead cdl file e is h
   check_rose cdl policy cert file (inl (spec, h, inr (e, k, is))) = turn_err contents before now tell_text IsPolicyRead policy file e is k

@@ -1,5 +1,5 @@
 -- A yes of `check` is sound.
-use Rattle.std.proofs.Common.{◌≡◌, ℕ, Bool, true, false, cond, List, Option, Some, Ok, inl, inr, refl, subst}
+use Rattle.std.proofs.Common.{◌≡◌, ℕ, Bool, true, false, cond, List, Ok, inl, inr, refl, subst}
 use Rattle.auth_kinds.specs.declared.edge.Edge.{Edge}
 use Rattle.auth_kinds.specs.declared.policy.Policy.{Policy}
 use Rattle.cam_io.specs.Contents.{Contents}
@@ -24,12 +24,12 @@ yes_stays : (spec : Spec) (labels : List ℕ) (policy cert : List Edge) (verdict
 yes_stays spec labels policy cert Yes well judged = λ l a m reaches differ. runs_stay spec labels policy cert judged l a m reaches differ
 yes_stays spec labels policy cert (No rule have lack) well judged = absurd cc
 
-module _ (contents : Option Contents) (old new : List ℕ → ℕ) (cdl policy cert : List ℕ) where
-  system_read : (spec : Spec) → IsSystem contents old new cdl (Ok spec) → (bytes : List ℕ) × Holds contents cdl bytes × Text bytes spec
+module _ (contents : Contents) (old new : List ℕ → ℕ) (cdl policy cert : List ℕ) where
+  pub system_read : (spec : Spec) → IsSystem contents old new cdl (Ok spec) → (bytes : List ℕ) × Holds contents cdl bytes × Text bytes spec
   system_read spec (inl (bytes, input, told)) = (bytes, input.1, told)
   system_read spec (inr (e, input, is)) = absurd cc
 
-  policy_read : (allowed : Policy) → IsPolicy contents old new policy (Ok allowed) → (bytes : List ℕ) × Holds contents policy bytes × IsPolicyText bytes allowed
+  pub policy_read : (allowed : Policy) → IsPolicy contents old new policy (Ok allowed) → (bytes : List ℕ) × Holds contents policy bytes × IsPolicyText bytes allowed
   policy_read allowed (inl (bytes, input, told)) = (bytes, input.1, told)
   policy_read allowed (inr (e, input, is)) = absurd cc
 

@@ -1,7 +1,5 @@
 -- Statuses are exact where contents are told and nothing failed.
-use Rattle.std.proofs.Common.{◌≡◌, ◌∙◌, ℕ, Bool, true, false, cond, List, Option, Some, None, Result, Ok, Err, refl, sym, ap, inl, inr, arith}
-use Rattle.std.proofs.lemmas.List.{length-map}
-use Rattle.std.specs.FinMap.{get}
+use Rattle.std.proofs.Common.{◌≡◌, ◌∙◌, ◌⊎◌, ℕ, Bool, true, false, cond, List, Option, Some, None, Result, Ok, Err, refl, sym, ap, inl, inr, arith}
 use Rattle.cam_io.specs.Causes.{Rose}
 use Rattle.cam_io.specs.Contents.{Contents}
 use Rattle.cam_io.specs.Sinks.{Sink}
@@ -14,28 +12,33 @@ use Rattle.command_words.specs.declared.command.Command.{Command}
 use Rattle.command_words.specs.declared.command.Command.TheVariants.{Compile, Check, List as ListOf, Explain, Replay, Generate, Audit, Certify, Sections, Plan}
 use Rattle.front_end.specs.declared.error.BuildError.{BuildError}
 use Rattle.front_end.specs.declared.error.BuildError.TheVariants as build
+use Rattle.generate_command.proofs.OneAnswer.{one_generated}
 use Rattle.generate_command.specs.Generated.{IsGenerated}
 use Rattle.reason_lines.specs.Answers.{is_assigned}
 use Rattle.reason_lines.specs.declared.answer.Answer.{Answer as Reply}
+use Rattle.source_commands.proofs.OneAnswer.{one_explained, one_listing}
 use Rattle.source_commands.specs.Explained.{IsExplained}
 use Rattle.source_commands.specs.Listed.{IsListed}
 use Rattle.source_commands.specs.declared.listing.Listing.{Listing}
-use Rattle.source_images.specs.Found.{found_bytes, found_in}
+use Rattle.source_images.specs.Found.{found_in}
+use Rattle.text_commands.proofs.OneAnswer.{audited_one, certified_one, checked_one, planned_one, ran_one, tabled_one}
 use Rattle.text_commands.specs.Commands.{IsAudited, IsCertified, IsChecked, IsPlanned, IsRun, IsTabled}
+use Rattle.text_commands.specs.OneAnswer.{AreOneButChoice, but_choice}
 use Rattle.text_commands.specs.Outcomes.{is_well}
 use Rattle.text_commands.specs.declared.fault.InputError.{InputError}
 use Rattle.text_commands.specs.declared.fault.InputError.TheVariants as input
 use Rattle.text_commands.specs.declared.outcome.Outcome.{Outcome}
+use Rattle.camkes_tool.proofs.OneAnswer.{AreOneOf, but_choice_one, well_one}
 use Rattle.camkes_tool.proofs.ReadFaults.{audit_rose, certify_rose, check_rose, plan_rose, run_rose, table_rose}
 use Rattle.camkes_tool.specs.Answers.{Fits, FitsAsked, FitsExplained, FitsGenerated, FitsListed, FitsRoot, FitsTexts, Tells, status_of}
 use Rattle.camkes_tool.specs.Statuses.{HasFault, IsSound, IsStatus, IsStatusOf, IsStatusOfSource, IsStatusOfTexts, NoneRose}
 use Rattle.camkes_tool.specs.declared.answer.Answer.{Answer}
 use Rattle.camkes_tool.specs.declared.answer.Answer.TheVariants.{Compiled, Listed, Explained, Told, Generated, Faulted, Refused, Usage, ReadFault, NoMemory}
 
-built_sound : (m : Contents) (root : List ℕ) (b : Build) → IsBuildOf root (Some m) b → IsSound m root
-built_sound m root b is = (b.meaning.source, is.meant.loaded, ap (first_fault b.meaning.source) (sym is.told.told) ∙ is.clean)
+built_sound : (m : Contents) (root : List ℕ) (b : Build) → IsBuildOf root m b → IsSound m root
+built_sound m root b is = (b.meaning.source, is.meant.loaded, ap (first_fault b.meaning.source) (sym is.told) ∙ is.clean)
 
-of_root : (m : Contents) (root base : List ℕ) (old new : List ℕ → ℕ) (a : Answer) (status : ℕ) → FitsRoot root base (Some m) old new a → NoneRose old new → status ≡ status_of a → IsStatusOf m root status
+of_root : (m : Contents) (root base : List ℕ) (old new : List ℕ → ℕ) (a : Answer) (status : ℕ) → FitsRoot root base m old new a → NoneRose old new → status ≡ status_of a → IsStatusOf m root status
 of_root m root base old new (Compiled names b) status x none e = inl (e, built_sound m root b x.1)
 of_root m root base old new (Faulted file fault) status x none e = inr (inl (e, (fault, file, x)))
 of_root m root base old new (Listed o) status x none e = absurd x
@@ -47,7 +50,7 @@ of_root m root base old new Usage status x none e = absurd x
 of_root m root base old new (ReadFault file) status x none e = absurd (none file x.1)
 of_root m root base old new NoMemory status x none e = inr (inr e)
 
-of_usage : (m : Contents) (old new : List ℕ → ℕ) (a : Answer) (status : ℕ) → FitsAsked None (Some m) old new a → status ≡ status_of a → IsStatus m old new None status
+of_usage : (m : Contents) (old new : List ℕ → ℕ) (a : Answer) (status : ℕ) → FitsAsked None m old new a → status ≡ status_of a → IsStatus m old new None status
 of_usage m old new (Compiled names b) status x e = absurd x
 of_usage m old new (Listed o) status x e = absurd x
 of_usage m old new (Explained o) status x e = absurd x
@@ -109,29 +112,29 @@ of_generated count (Told outcome) status x e = absurd x
 of_generated count (Refused file fault) status x e = absurd x
 of_generated count Usage status x e = absurd x
 
-of_asked : (m : Contents) (asked : Option Command) (old new : List ℕ → ℕ) (a : Answer) (status : ℕ) → FitsAsked asked (Some m) old new a → NoneRose old new → status ≡ status_of a → IsStatus m old new asked status
+of_asked : (m : Contents) (asked : Option Command) (old new : List ℕ → ℕ) (a : Answer) (status : ℕ) → FitsAsked asked m old new a → NoneRose old new → status ≡ status_of a → IsStatus m old new asked status
 of_asked m None old new a status x none e = of_usage m old new a status x e
 of_asked m (Some (Compile root base)) old new a status x none e = of_root m root base old new a status x none e
 of_asked m (Some (Check cdl policy cert)) old new a status x none e =
-    of_texts (IsChecked (Some m) old new cdl policy cert) a status (λ file h. none file (check_rose (Some m) old new cdl policy cert file h)) x e
+    of_texts (IsChecked m old new cdl policy cert) a status (λ file h. none file (check_rose m old new cdl policy cert file h)) x e
 of_asked m (Some (ListOf root)) old new a status x none e =
-    of_listed (IsListed root (Some m) old new) a status (λ file h. none file h.1) x e
+    of_listed (IsListed root m old new) a status (λ file h. none file h.1) x e
 of_asked m (Some (Explain root from authority to)) old new a status x none e =
-    of_explained (IsExplained from authority to root (Some m) old new) a status (λ file h. none file h.1) x e
+    of_explained (IsExplained from authority to root m old new) a status (λ file h. none file h.1) x e
 of_asked m (Some (Replay cdl policy steps)) old new a status x none e =
-    of_texts (IsRun (Some m) old new cdl policy steps) a status (λ file h. none file (run_rose (Some m) old new cdl policy steps file h)) x e
+    of_texts (IsRun m old new cdl policy steps) a status (λ file h. none file (run_rose m old new cdl policy steps file h)) x e
 of_asked m (Some (Generate count)) old new a status x none e = of_generated count a status x e
 of_asked m (Some (Audit cdl policy)) old new a status x none e =
-    of_texts (IsAudited (Some m) old new cdl policy) a status (λ file h. none file (audit_rose (Some m) old new cdl policy file h)) x e
+    of_texts (IsAudited m old new cdl policy) a status (λ file h. none file (audit_rose m old new cdl policy file h)) x e
 of_asked m (Some (Certify cdl policy)) old new a status x none e =
-    of_texts (IsCertified (Some m) old new cdl policy) a status (λ file h. none file (certify_rose (Some m) old new cdl policy file h)) x e
+    of_texts (IsCertified m old new cdl policy) a status (λ file h. none file (certify_rose m old new cdl policy file h)) x e
 of_asked m (Some (Plan cdl untypeds)) old new a status x none e =
-    of_texts (IsPlanned (Some m) old new cdl untypeds) a status (λ file h. none file (plan_rose (Some m) old new cdl untypeds file h)) x e
+    of_texts (IsPlanned m old new cdl untypeds) a status (λ file h. none file (plan_rose m old new cdl untypeds file h)) x e
 of_asked m (Some (Sections elf)) old new a status x none e =
-    of_texts (IsTabled (Some m) old new elf) a status (λ file h. none file (table_rose (Some m) old new elf file h)) x e
+    of_texts (IsTabled m old new elf) a status (λ file h. none file (table_rose m old new elf file h)) x e
 
 pub exact_status : (m : Contents) (words : List (List ℕ)) (old new : List ℕ → ℕ) (answer : Answer) (status : ℕ) (sink left : Sink) (before now : ℕ)
-    → Fits words (Some m) old new answer → Tells answer status sink left before now → NoneRose old new → ¬ Rose before now → IsStatus m old new (read_words words) status
+    → Fits words m old new answer → Tells answer status sink left before now → NoneRose old new → ¬ Rose before now → IsStatus m old new (read_words words) status
 exact_status m words old new answer status sink left before now fits tells none kept = elim tells.told [
   | inl t ↦ of_asked m (read_words words) old new answer status fits none t.0
   | inr t ↦ absurd (kept t.1)
@@ -140,7 +143,7 @@ exact_status m words old new answer status sink left before now fits tells none 
 pub sound_or_faulty : (m : Contents) (root : List ℕ) → IsSound m root → ¬ HasFault m root
 sound_or_faulty m root sound fault =
     let s = sound.0 in
-    none_first m root s (found_in m (tables_beside s)) fault.0 fault.1 sound.1 (record { count = length-map (tables_beside s) (λ name. found_bytes (get m name)); told = refl }) sound.2 fault.2
+    none_first m root s (found_in m (tables_beside s)) fault.0 fault.1 sound.1 refl sound.2 fault.2
 
 -- ---- the usage line
 
@@ -196,7 +199,7 @@ generated_not_two count (Told outcome) x e = absurd x
 generated_not_two count (Refused file fault) x e = absurd x
 generated_not_two count Usage x e = absurd x
 
-unread : (m : Contents) (asked : Option Command) (old new : List ℕ → ℕ) (a : Answer) → FitsAsked asked (Some m) old new a → 2 ≡ status_of a → asked ≡ None
+unread : (m : Contents) (asked : Option Command) (old new : List ℕ → ℕ) (a : Answer) → FitsAsked asked m old new a → 2 ≡ status_of a → asked ≡ None
 unread m None old new a x e = refl
 unread m (Some (Compile root base)) old new (Compiled names b) x e = absurd cc
 unread m (Some (Compile root base)) old new (Faulted file fault) x e = absurd cc
@@ -206,15 +209,15 @@ unread m (Some (Compile root base)) old new (Told outcome) x e = absurd x
 unread m (Some (Compile root base)) old new (Generated o) x e = absurd x
 unread m (Some (Compile root base)) old new (Refused file fault) x e = absurd x
 unread m (Some (Compile root base)) old new Usage x e = absurd x
-unread m (Some (Check cdl policy cert)) old new a x e = absurd (texts_not_two (IsChecked (Some m) old new cdl policy cert) a x e)
-unread m (Some (ListOf root)) old new a x e = absurd (listed_not_two (IsListed root (Some m) old new) a x e)
-unread m (Some (Explain root from authority to)) old new a x e = absurd (explained_not_two (IsExplained from authority to root (Some m) old new) a x e)
-unread m (Some (Replay cdl policy steps)) old new a x e = absurd (texts_not_two (IsRun (Some m) old new cdl policy steps) a x e)
+unread m (Some (Check cdl policy cert)) old new a x e = absurd (texts_not_two (IsChecked m old new cdl policy cert) a x e)
+unread m (Some (ListOf root)) old new a x e = absurd (listed_not_two (IsListed root m old new) a x e)
+unread m (Some (Explain root from authority to)) old new a x e = absurd (explained_not_two (IsExplained from authority to root m old new) a x e)
+unread m (Some (Replay cdl policy steps)) old new a x e = absurd (texts_not_two (IsRun m old new cdl policy steps) a x e)
 unread m (Some (Generate count)) old new a x e = absurd (generated_not_two count a x e)
-unread m (Some (Audit cdl policy)) old new a x e = absurd (texts_not_two (IsAudited (Some m) old new cdl policy) a x e)
-unread m (Some (Certify cdl policy)) old new a x e = absurd (texts_not_two (IsCertified (Some m) old new cdl policy) a x e)
-unread m (Some (Plan cdl untypeds)) old new a x e = absurd (texts_not_two (IsPlanned (Some m) old new cdl untypeds) a x e)
-unread m (Some (Sections elf)) old new a x e = absurd (texts_not_two (IsTabled (Some m) old new elf) a x e)
+unread m (Some (Audit cdl policy)) old new a x e = absurd (texts_not_two (IsAudited m old new cdl policy) a x e)
+unread m (Some (Certify cdl policy)) old new a x e = absurd (texts_not_two (IsCertified m old new cdl policy) a x e)
+unread m (Some (Plan cdl untypeds)) old new a x e = absurd (texts_not_two (IsPlanned m old new cdl untypeds) a x e)
+unread m (Some (Sections elf)) old new a x e = absurd (texts_not_two (IsTabled m old new elf) a x e)
 unread m (Some (Compile root base)) old new (ReadFault file) x e = absurd cc
 unread m (Some (Compile root base)) old new NoMemory x e = absurd cc
 
@@ -222,8 +225,78 @@ not_five : ◌≡◌ {A = ℕ} 2 5 → ⊥
 not_five e = omega arith
 
 pub usage_alone : (m : Contents) (words : List (List ℕ)) (old new : List ℕ → ℕ) (answer : Answer) (sink left : Sink) (before now : ℕ)
-    → Fits words (Some m) old new answer → Tells answer 2 sink left before now → read_words words ≡ None
+    → Fits words m old new answer → Tells answer 2 sink left before now → read_words words ≡ None
 usage_alone m words old new answer sink left before now fits tells = elim tells.told [
   | inl t ↦ unread m (read_words words) old new answer fits t.0
   | inr t ↦ absurd (not_five t.0)
 ]
+
+-- ---- no two reasons stand together
+
+module _ (first second : ℕ) where
+  abbrev AreOneStatus : Type 0
+  AreOneStatus = (first ≡ second) ⊎ ((first ≡ 6) ⊎ (second ≡ 6))
+
+  usage_one : (first ≡ 2) ⊎ (first ≡ 6) → (second ≡ 2) ⊎ (second ≡ 6) → AreOneStatus
+  usage_one (inl e) (inl d) = inl (e ∙ sym d)
+  usage_one (inl e) (inr six) = inr (inr six)
+  usage_one (inr six) y = inr (inl six)
+
+  root_one : (m : Contents) (root : List ℕ) → IsStatusOf m root first → IsStatusOf m root second → AreOneStatus
+  root_one m root (inl (e, sound)) (inl (d, clean)) = inl (e ∙ sym d)
+  root_one m root (inl (e, sound)) (inr (inl (d, faulty))) = absurd (sound_or_faulty m root sound faulty)
+  root_one m root (inl (e, sound)) (inr (inr six)) = inr (inr six)
+  root_one m root (inr (inl (e, faulty))) (inl (d, sound)) = absurd (sound_or_faulty m root sound faulty)
+  root_one m root (inr (inl (e, faulty))) (inr (inl (d, also))) = inl (e ∙ sym d)
+  root_one m root (inr (inl (e, faulty))) (inr (inr six)) = inr (inr six)
+  root_one m root (inr (inr six)) y = inr (inl six)
+
+  texts_one : (Here There : Result Outcome InputError → Type 0) → AreOneButChoice Here There → IsStatusOfTexts Here first → IsStatusOfTexts There second → AreOneStatus
+  texts_one Here There one (inl (o, h, e)) (inl (p, k, d)) =
+      let same = one (Ok o) (Ok p) tt tt h k in
+      let found : but_choice o ≡ but_choice p = cc in
+      inl (e ∙ ap (λ z. cond z 0 3) (well_one o p found) ∙ sym d)
+  texts_one Here There one (inl (o, h, e)) (inr (inl (fault, file, k, d))) = let same = one (Ok o) (Err (input.Fault fault file)) tt tt h k in absurd cc
+  texts_one Here There one (inl (o, h, e)) (inr (inr six)) = inr (inr six)
+  texts_one Here There one (inr (inl (fault, file, h, e))) (inl (p, k, d)) = let same = one (Err (input.Fault fault file)) (Ok p) tt tt h k in absurd cc
+  texts_one Here There one (inr (inl (fault, file, h, e))) (inr (inl (other, name, k, d))) = inl (e ∙ sym d)
+  texts_one Here There one (inr (inl (fault, file, h, e))) (inr (inr six)) = inr (inr six)
+  texts_one Here There one (inr (inr six)) y = inr (inl six)
+
+  source_one : {A : Type 0} (well : A → Bool) (Here There : Result A BuildError → Type 0) → AreOneOf Here There → IsStatusOfSource Here well first → IsStatusOfSource There well second → AreOneStatus
+  source_one {A = A} well Here There one (inl (f, h, e)) (inl (g, k, d)) =
+      let same = one (Ok f) (Ok g) refl refl h k in
+      let found : f ≡ g = cc in
+      inl (e ∙ ap (λ (z : A). cond (well z) 0 3) found ∙ sym d)
+  source_one well Here There one (inl (f, h, e)) (inr (inl (fault, file, k, d))) = let same = one (Ok f) (Err (build.Fault fault file)) refl refl h k in absurd cc
+  source_one well Here There one (inl (f, h, e)) (inr (inr six)) = inr (inr six)
+  source_one well Here There one (inr (inl (fault, file, h, e))) (inl (g, k, d)) = let same = one (Err (build.Fault fault file)) (Ok g) refl refl h k in absurd cc
+  source_one well Here There one (inr (inl (fault, file, h, e))) (inr (inl (other, name, k, d))) = inl (e ∙ sym d)
+  source_one well Here There one (inr (inl (fault, file, h, e))) (inr (inr six)) = inr (inr six)
+  source_one well Here There one (inr (inr six)) y = inr (inl six)
+
+  asked_one : (m : Contents) (asked : Option Command) (old new later last : List ℕ → ℕ) → IsStatus m old new asked first → IsStatus m later last asked second → AreOneStatus
+  asked_one m None old new later last x y = usage_one x y
+  asked_one m (Some (Compile root base)) old new later last x y = root_one m root x y
+  asked_one m (Some (Check cdl policy cert)) old new later last x y =
+      texts_one _ _ (but_choice_one (IsChecked m old new cdl policy cert) (IsChecked m later last cdl policy cert) (checked_one m old new later last cdl policy cert)) x y
+  asked_one m (Some (ListOf root)) old new later last x y =
+      source_one (λ listing. true) (IsListed root m old new) (IsListed root m later last) (one_listing m root old new later last) x y
+  asked_one m (Some (Explain root from authority to)) old new later last x y =
+      source_one is_assigned (IsExplained from authority to root m old new) (IsExplained from authority to root m later last) (one_explained m root from authority to old new later last) x y
+  asked_one m (Some (Replay cdl policy steps)) old new later last x y =
+      texts_one _ _ (but_choice_one (IsRun m old new cdl policy steps) (IsRun m later last cdl policy steps) (ran_one m old new later last cdl policy steps)) x y
+  asked_one m (Some (Generate count)) old new later last x y =
+      source_one (λ summary. true) (IsGenerated count) (IsGenerated count) (one_generated count) x y
+  asked_one m (Some (Audit cdl policy)) old new later last x y =
+      texts_one (IsAudited m old new cdl policy) (IsAudited m later last cdl policy) (audited_one m old new later last cdl policy) x y
+  asked_one m (Some (Certify cdl policy)) old new later last x y =
+      texts_one _ _ (but_choice_one (IsCertified m old new cdl policy) (IsCertified m later last cdl policy) (certified_one m old new later last cdl policy)) x y
+  asked_one m (Some (Sections elf)) old new later last x y =
+      texts_one _ _ (but_choice_one (IsTabled m old new elf) (IsTabled m later last elf) (tabled_one m old new later last elf)) x y
+  asked_one m (Some (Plan cdl untypeds)) old new later last x y =
+      texts_one (IsPlanned m old new cdl untypeds) (IsPlanned m later last cdl untypeds) (planned_one m old new later last cdl untypeds) x y
+
+pub one_status : (m : Contents) (asked : Option Command) (old new later last : List ℕ → ℕ) (first second : ℕ) → IsStatus m old new asked first → IsStatus m later last asked second
+    → (first ≡ second) ⊎ ((first ≡ 6) ⊎ (second ≡ 6))
+one_status m asked old new later last first second x y = asked_one first second m asked old new later last x y

@@ -19,7 +19,7 @@ fits_told asked (Err (Fault fault file)) h = h
 fits_told asked (Err (ReadFault file)) h = h
 fits_told asked (Err NoMemory) h = tt
 
-pub no_memory_fits : (asked : Option Command) (contents : Option Contents) (before now : List ℕ → ℕ) → FitsAsked asked contents before now answers.NoMemory
+pub no_memory_fits : (asked : Option Command) (contents : Contents) (before now : List ℕ → ℕ) → FitsAsked asked contents before now answers.NoMemory
 no_memory_fits None contents before now = tt
 no_memory_fits (Some (Compile root base)) contents before now = tt
 no_memory_fits (Some (Check cdl policy cert)) contents before now = tt
@@ -34,7 +34,7 @@ no_memory_fits (Some (Plan cdl untypeds)) contents before now = tt
 
 -- ---- commands and their words, known by equations
 
-module _ (contents : Option Contents) (before now : List ℕ → ℕ) (command : Command) (answer : Answer) where
+module _ (contents : Contents) (before now : List ℕ → ℕ) (command : Command) (answer : Answer) where
   asked_as : (known : Command) → command ≡ known → FitsAsked (Some known) contents before now answer → FitsAsked (Some command) contents before now answer
   asked_as known is = subst (λ x. FitsAsked (Some x) contents before now answer) (sym is)
 

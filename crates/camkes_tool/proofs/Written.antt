@@ -4,8 +4,10 @@ use Rattle.build_back.proofs.CertBack.{cert_read}
 use Rattle.build_back.proofs.HeldAsRead.{as_read}
 use Rattle.build_back.proofs.PolicyBack.{policy_read}
 use Rattle.build_back.proofs.SpecBack.{spec_back}
+use Rattle.build_images.proofs.OfSources.{build_of_source}
 use Rattle.build_laws.proofs.Soundness.{build_sound}
 use Rattle.cam_io.specs.Contents.{Contents}
+use Rattle.cam_io.specs.Reading.{InAll}
 use Rattle.cam_io.specs.Sinks.{Sink}
 use Rattle.command_words.specs.declared.command.Command.{Command}
 use Rattle.command_words.specs.declared.command.Command.TheVariants.{Check, Compile}
@@ -19,42 +21,43 @@ pub zero_not_five : (n : ℕ) → n ≡ 0 → n ≡ 5 → ⊥
 zero_not_five n e h = omega arith
 
 -- with status 0 the answer was told whole
-whole_status : (answer : Answer) (status : ℕ) (old new : Sink) (m n : ℕ) → Tells answer status old new m n → status ≡ 0 → 0 ≡ status_of answer
+pub whole_status : (answer : Answer) (status : ℕ) (old new : Sink) (m n : ℕ) → Tells answer status old new m n → status ≡ 0 → 0 ≡ status_of answer
 whole_status answer status old new m n tells zero = elim tells.told [
   | inl t ↦ sym zero ∙ t.0
   | inr t ↦ absurd (zero_not_five status zero t.0)
 ]
 
-module _ (contents : Option Contents) (before now : List ℕ → ℕ) (root base : List ℕ) (status : ℕ) (old new : Sink) (m n : ℕ) (zero : status ≡ 0) where
-  root_written : (answer : Answer) → FitsRoot root base contents before now answer → Tells answer status old new m n → IsWritten contents root base old new
+module _ (told : Contents → Type 0) (some : (c : Contents) × told c) (before now : List ℕ → ℕ) (root base : List ℕ) (status : ℕ) (old new : Sink) (m n : ℕ) (zero : status ≡ 0) where
+  root_written : (answer : Answer) → InAll told (λ c. FitsRoot root base c before now answer) → Tells answer status old new m n → IsWritten told root base old new
   root_written (Compiled names b) fits tells = elim tells.told [
     | inl t ↦ record {
       build = b;
       names = names;
-      made = fits.1;
-      named = fits.0;
+      made = λ c is. (fits c is).1;
+      named = (fits some.0 some.1).0;
       whole = t.1;
-      read_back = record { spec = spec_back root contents b fits.1; policy = policy_read root contents b fits.1; cert = cert_read root contents b fits.1 };
-      as_read = as_read root contents b fits.1;
-      sound = build_sound root contents b fits.1;
+      read_back = record { spec = spec_back root some.0 b (fits some.0 some.1).1; policy = policy_read root some.0 b (fits some.0 some.1).1; cert = cert_read root some.0 b (fits some.0 some.1).1 };
+      as_read = as_read root some.0 b (fits some.0 some.1).1;
+      of_source = λ c is. build_of_source root c b (fits c is).1;
+      sound = build_sound root some.0 b (fits some.0 some.1).1;
     }
     | inr t ↦ absurd (zero_not_five status zero t.0)
   ]
   root_written (Faulted file fault) fits tells = let e = whole_status (Faulted file fault) status old new m n tells zero in absurd cc
-  root_written (Listed o) fits tells = absurd fits
-  root_written (Explained o) fits tells = absurd fits
-  root_written (Told o) fits tells = absurd fits
-  root_written (Generated o) fits tells = absurd fits
-  root_written (Refused file fault) fits tells = absurd fits
-  root_written Usage fits tells = absurd fits
+  root_written (Listed o) fits tells = absurd (fits some.0 some.1)
+  root_written (Explained o) fits tells = absurd (fits some.0 some.1)
+  root_written (Told o) fits tells = absurd (fits some.0 some.1)
+  root_written (Generated o) fits tells = absurd (fits some.0 some.1)
+  root_written (Refused file fault) fits tells = absurd (fits some.0 some.1)
+  root_written Usage fits tells = absurd (fits some.0 some.1)
   root_written (ReadFault file) fits tells = let e = whole_status (ReadFault file) status old new m n tells zero in absurd cc
   root_written NoMemory fits tells = let e = whole_status NoMemory status old new m n tells zero in absurd cc
 
-  pub compiled_written : (asked : Option Command) (answer : Answer) → asked ≡ Some (Compile root base) → FitsAsked asked contents before now answer → Tells answer status old new m n
-      → IsWritten contents root base old new
-  compiled_written asked answer is fits tells = root_written answer (subst (λ z. FitsAsked z contents before now answer) is fits) tells
+  pub compiled_written : (asked : Option Command) (answer : Answer) → asked ≡ Some (Compile root base) → InAll told (λ c. FitsAsked asked c before now answer) → Tells answer status old new m n
+      → IsWritten told root base old new
+  compiled_written asked answer is fits tells = root_written answer (λ c t. subst (λ z. FitsAsked z c before now answer) is (fits c t)) tells
 
-pub checked_safe : (contents : Option Contents) (before now : List ℕ → ℕ) (cdl policy cert : List ℕ) (status : ℕ) (old new : Sink) (m n : ℕ) → status ≡ 0 → (asked : Option Command) (answer : Answer)
+pub checked_safe : (contents : Contents) (before now : List ℕ → ℕ) (cdl policy cert : List ℕ) (status : ℕ) (old new : Sink) (m n : ℕ) → status ≡ 0 → (asked : Option Command) (answer : Answer)
     → asked ≡ Some (Check cdl policy cert) → FitsAsked asked contents before now answer → Tells answer status old new m n → IsSafe contents cdl policy
 checked_safe contents before now cdl policy cert status old new m n zero asked answer is fits tells =
     answered_safe contents before now cdl policy cert answer (subst (λ z. FitsAsked z contents before now answer) is fits) (whole_status answer status old new m n tells zero)

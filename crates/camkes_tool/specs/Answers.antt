@@ -24,19 +24,19 @@ use Rattle.source_commands.specs.Listed.{IsListed, listing_text}
 use Rattle.source_commands.specs.declared.listing.Listing.{Listing}
 use Rattle.text_commands.specs.Commands.{IsAudited, IsCertified, IsChecked, IsPlanned, IsRun, IsTabled}
 use Rattle.text_commands.specs.Lines as texts
+use Rattle.text_commands.specs.OneAnswer.{but_choice}
 use Rattle.text_commands.specs.Outcomes.{is_well, text_of}
 use Rattle.text_commands.specs.declared.fault.InputError.{InputError}
 use Rattle.text_commands.specs.declared.fault.InputError.TheVariants as input
 use Rattle.text_commands.specs.declared.fault.InputFault.{InputFault}
 use Rattle.text_commands.specs.declared.outcome.Outcome.{Outcome}
+use Rattle.text_commands.specs.declared.outcome.Outcome.TheVariants.{Audited, Certified, Checked, Planned, Ran, Tabled}
 use Rattle.camkes_tool.specs.Lines.{fault_line, read_fault_line, no_memory_line}
 use Rattle.camkes_tool.specs.declared.answer.Answer.{Answer}
 use Rattle.camkes_tool.specs.declared.answer.Answer.TheVariants.{Compiled, Listed, Explained, Told, Generated, Faulted, Refused, Usage, ReadFault, NoMemory}
 
--- The answer is right for this root and base, these files, and these counts of read faults before and now. In given contents
--- there is one such answer, aside from read faults and want of memory (`answers_are_one` in src/laws.rt), so each comes
--- exactly where it says.
-abbrev pub FitsRoot : List ℕ → List ℕ → Option Contents → (List ℕ → ℕ) → (List ℕ → ℕ) → Answer → Type 0
+-- The answer is right for this root and base, these files, and these counts of read faults before and now.
+abbrev pub FitsRoot : List ℕ → List ℕ → Contents → (List ℕ → ℕ) → (List ℕ → ℕ) → Answer → Type 0
 FitsRoot root base contents before now (Compiled names b) = AreNamedBy base names × IsBuildOf root contents b
 FitsRoot root base contents before now (Faulted file fault) = IsFirstFault root contents fault file
 FitsRoot root base contents before now (Listed listing) = ⊥
@@ -100,7 +100,7 @@ abbrev pub FitsGenerated : (Result Summary BuildError → Type 0) → Answer →
 FitsGenerated asked (Generated summary) = asked (Ok summary)
 FitsGenerated asked answer = FitsRefused (λ e. asked (Err e)) answer
 
-abbrev pub FitsAsked : Option Command → Option Contents → (List ℕ → ℕ) → (List ℕ → ℕ) → Answer → Type 0
+abbrev pub FitsAsked : Option Command → Contents → (List ℕ → ℕ) → (List ℕ → ℕ) → Answer → Type 0
 FitsAsked None contents before now answer = IsUsage answer
 FitsAsked (Some (Compile root base)) contents before now answer = FitsRoot root base contents before now answer
 FitsAsked (Some (Check cdl policy cert)) contents before now answer = FitsTexts (IsChecked contents before now cdl policy cert) answer
@@ -114,22 +114,23 @@ FitsAsked (Some (Certify cdl policy)) contents before now answer = FitsTexts (Is
 FitsAsked (Some (Sections elf)) contents before now answer = FitsTexts (IsTabled contents before now elf) answer
 FitsAsked (Some (Plan cdl untypeds)) contents before now answer = FitsTexts (IsPlanned contents before now cdl untypeds) answer
 
--- no command, or compiling
-abbrev pub IsCompiling : Option Command → Type 0
-IsCompiling None = Unit {0}
-IsCompiling (Some (Compile root base)) = Unit {0}
-IsCompiling (Some (Check cdl policy cert)) = ⊥
-IsCompiling (Some (ListOf root)) = ⊥
-IsCompiling (Some (Explain root from authority to)) = ⊥
-IsCompiling (Some (Replay cdl policy steps)) = ⊥
-IsCompiling (Some (Generate count)) = ⊥
-IsCompiling (Some (Audit cdl policy)) = ⊥
-IsCompiling (Some (Certify cdl policy)) = ⊥
-IsCompiling (Some (Sections elf)) = ⊥
-IsCompiling (Some (Plan cdl untypeds)) = ⊥
+-- the commands that may choose
+abbrev pub MayChoose : Option Command → Type 0
+MayChoose None = ⊥
+MayChoose (Some (Compile root base)) = ⊥
+MayChoose (Some (Check cdl policy cert)) = ⊥
+MayChoose (Some (ListOf root)) = ⊥
+MayChoose (Some (Explain root from authority to)) = ⊥
+MayChoose (Some (Replay cdl policy steps)) = ⊥
+MayChoose (Some (Generate count)) = ⊥
+MayChoose (Some (Audit cdl policy)) = Unit {0}
+MayChoose (Some (Certify cdl policy)) = ⊥
+MayChoose (Some (Sections elf)) = ⊥
+MayChoose (Some (Plan cdl untypeds)) = Unit {0}
 
--- the answer is right for these words
-abbrev pub Fits : List (List ℕ) → Option Contents → (List ℕ → ℕ) → (List ℕ → ℕ) → Answer → Type 0
+-- The answer is right for these words. In given contents there is one such answer, aside from read faults and want of memory
+-- (`answers_are_one` in src/laws.rt), so each comes exactly where it says.
+abbrev pub Fits : List (List ℕ) → Contents → (List ℕ → ℕ) → (List ℕ → ℕ) → Answer → Type 0
 Fits words = FitsAsked (read_words words)
 
 -- the status, which is 5 where an output failed
@@ -163,6 +164,29 @@ abbrev pub faulted_as : Answer → Option (List ℕ × Fault)
 faulted_as (Faulted file fault) = Some (file, fault)
 faulted_as _ = None
 
+-- the fault of an input of an answer that names one, and its file
+abbrev pub refused_as : Answer → Option (List ℕ × InputFault)
+refused_as (Refused file fault) = Some (file, fault)
+refused_as _ = None
+
+-- what a command over texts found, but for what it may choose: the steps of an audit, and the places of a plan
+abbrev pub found_as : Answer → Option Outcome
+found_as (Told outcome) = Some (but_choice outcome)
+found_as _ = None
+
+-- whether there is such a choice
+abbrev pub leaves_choice : Outcome → Bool
+leaves_choice (Checked verdict labels) = false
+leaves_choice (Ran replayed labels) = false
+leaves_choice (Tabled image) = false
+leaves_choice (Audited report spec labels) = true
+leaves_choice (Certified cert) = false
+leaves_choice (Planned plan spec) = true
+
+abbrev pub is_chosen : Answer → Bool
+is_chosen (Told outcome) = leaves_choice outcome
+is_chosen _ = false
+
 -- whether an answer may come in place of another: a read fault, or want of memory
 abbrev pub yields : Answer → Bool
 yields (Compiled names b) = false
@@ -189,12 +213,15 @@ script Usage = Write 1 usage_line ∷ []
 script (ReadFault file) = Write 1 (read_fault_line file) ∷ []
 script NoMemory = Write 1 no_memory_line ∷ []
 
--- Two answers are one: they have one status and one script, and write one build or name one fault.
+-- Two answers are one: they have one status and one script, and write one build or name one fault. A report of an audit or a
+-- plan is one but for its choice: of an audit the system, the labels and the edges are one, and of a plan the system.
 pub record AreOne (a b : Answer) : Type 0 where
   pub status : status_of a ≡ status_of b
-  pub script : script a ≡ script b
+  pub script : is_chosen a ≡ false → script a ≡ script b
   pub compiled : compiled_as a ≡ compiled_as b
   pub faulted : faulted_as a ≡ faulted_as b
+  pub refused : refused_as a ≡ refused_as b
+  pub found : found_as a ≡ found_as b
 
 -- The status is the answer's and all of its script is done; or it is 5, the outputs' count rose, and the script was cut
 -- short.

@@ -1,67 +1,198 @@
--- The theorem, in three parts.
+-- The theorem, in six parts.
 --
--- Of a source: where the call ends with status 0, there is a build of the root's source: no fault stands in it or in its
--- section tables; its four texts are written whole under the names of the base, then the summary, and nothing else; the capDL,
--- the policy and the certificate that are written are read back as the build's, and as nothing else; and of whatever is read of
--- them threads reach between labels, over every interleaving of steps, exactly what the connectors of the source assign.
+-- Of a source that is compiled: where the call ends with status 0, there is a build of the root's source in all contents that
+-- are told: no fault stands in it or in its section tables; its four texts are written whole under the names of the base, then
+-- the summary, and nothing else. Its slots, its images with their labels, and its map are those of the source. Its policy has
+-- just what the connectors of the source assign, and its certificate what locks allow besides; at boot its labels have over
+-- others what they are assigned directly, and its threads reach between labels, over every interleaving of steps, exactly what
+-- is assigned. The capDL, the policy and the certificate that are written are read back as the build's, and as nothing else; and
+-- so threads reach just this in whatever is read of them.
+--
+-- Of a source that is listed: with status 0 a line is written for each triple that it assigns, and nothing else. Of one that is
+-- explained: a reason is written where the words name such a triple, and else that it isn't assigned.
 --
 -- Of any texts, whoever wrote them: where `check` ends with status 0, every edge that any run of the capDL's system reaches
 -- between different labels is in the policy.
 --
 -- Of the texts that are written of a build: of files that hold them `check` says yes.
+--
+-- Of what other commands print with status 0: of `certify` the least certificate, which is read back, and to which `check` says
+-- yes where it does to any; of `sections` a table, which is read back as the file's image; of `audit` just the edges that runs
+-- reach, and steps for which `replay` shows them.
 use Rattle.std.specs.FinMap.{get}
-use Rattle.std.specs.Prelude.{◌≡◌, ℕ, List, Option, Some, Ok}
+use Rattle.std.specs.Prelude.{◌≡◌, ◌≤◌, ◌⊎◌, ◌↔◌, ◌++◌, ℕ, if◌then◌else◌, List, codes, length, Some, Result, Ok, Err}
 use Rattle.arch_compile.specs.Built.{IsBuildOf}
 use Rattle.arch_compile.specs.declared.building.Build.{Build}
+use Rattle.auth_kinds.specs.Tables.{Has}
+use Rattle.auth_kinds.specs.declared.authority.Authority.{Authority}
+use Rattle.auth_kinds.specs.declared.edge.Edge.{Edge}
 use Rattle.auth_kinds.specs.declared.object_labels.Labels.{Labels}
 use Rattle.auth_kinds.specs.declared.policy.Policy.{Policy}
 use Rattle.build_back.specs.AsRead.{HoldsAsRead}
 use Rattle.build_back.specs.ReadBack.{AreReadBack}
+use Rattle.build_images.specs.OfSource.{IsOfSource}
 use Rattle.build_laws.specs.Sound.{IsSound}
 use Rattle.build_texts.specs.BuildTexts.{AreNamedBy, texts_script}
 use Rattle.build_texts.specs.declared.names.TextNames.{TextNames}
+use Rattle.cam_base.specs.declared.error.Refused.{Refused}
+use Rattle.cam_base.specs.declared.error.Refused.TheVariants as refused
+use Rattle.cam_base.specs.declared.place.Fault.{Fault}
 use Rattle.cam_io.specs.Contents.{Contents}
+use Rattle.cam_io.specs.Reading.{InAll}
 use Rattle.cam_io.specs.Scripts.{after}
-use Rattle.cam_io.specs.Sinks.{Sink}
+use Rattle.cam_io.specs.Sinks.{Sink, appended}
+use Rattle.cap_audit.specs.Reports.{IsReport}
+use Rattle.cap_audit.specs.declared.report.AuditReport.{AuditReport}
+use Rattle.cap_machine.specs.declared.step.Step.{Step}
 use Rattle.cap_model.specs.Canonical.{canonical}
 use Rattle.cap_model.specs.declared.spec.Spec.{Spec}
 use Rattle.capdl_text.specs.Texts.{Text}
 use Rattle.cert_check.specs.Valid.{Stays}
+use Rattle.cert_check.specs.declared.verdict.Verdict.TheVariants.{Yes}
+use Rattle.edge_lines.specs.Lines.{Labels as Names}
+use Rattle.elf_back.specs.Tables.{AreBytes}
+use Rattle.elf_images.specs.Elf.{Elf}
+use Rattle.elf_images.specs.Texts.{table_text}
+use Rattle.least_cert.specs.LeastCertificate.{IsLeast}
 use Rattle.policy_text.specs.Labelled.{IsLabelling}
 use Rattle.policy_text.specs.PolicyLines.{cert_text, policy_text}
-use Rattle.policy_text.specs.PolicyTexts.{IsPolicyText}
+use Rattle.policy_text.specs.PolicyTexts.{IsCertText, IsPolicyText}
+use Rattle.reason_lines.specs.Answers.{answer_text, is_assigned}
+use Rattle.reason_lines.specs.declared.answer.Answer.{Answer}
+use Rattle.sect_table.specs.Tables as tables
+use Rattle.sect_table.specs.declared.image.Image.{Image}
+use Rattle.source_commands.specs.Assigned.{AnswersWhether, ListsAssigned}
+use Rattle.step_write.specs.StepLines.{steps_text}
+use Rattle.text_commands.specs.Commands.{IsChecked, IsRun}
 use Rattle.text_commands.specs.Inputs.{Holds}
+use Rattle.text_commands.specs.Lines.{report_text}
+use Rattle.text_commands.specs.OneAnswer.{IsAnswer}
+use Rattle.text_commands.specs.declared.fault.InputError.{InputError}
+use Rattle.text_commands.specs.declared.outcome.Outcome.{Outcome}
+use Rattle.text_commands.specs.declared.outcome.Outcome.TheVariants.{Checked, Ran}
+use Rattle.text_commands.specs.declared.replay.Replayed.TheVariants.{Done}
 
--- `whole` says which bytes are written; `read_back` and `as_read` speak of these bytes.
-pub record IsWritten (contents : Option Contents) (root base : List ℕ) (old new : Sink) : Type 0 where
+-- `whole` says which bytes are written; `read_back` and `as_read` speak of these bytes. By the labels that the policy gives to
+-- objects, `of_source`, `as_read` and `sound` speak of the same ones.
+pub record IsWritten (told : Contents → Type 0) (root base : List ℕ) (old new : Sink) : Type 0 where
   pub build : Build
   pub names : TextNames
-  pub made : IsBuildOf root contents build
+  pub made : InAll told (λ m. IsBuildOf root m build)
   pub named : AreNamedBy base names
   pub whole : new ≡ after old (texts_script names build)
+  pub of_source : InAll told (λ m. IsOfSource m build)
+  pub sound : IsSound build
   pub read_back : AreReadBack build
   pub as_read : HoldsAsRead build
-  pub sound : IsSound build
 
--- The two files hold, where contents are told, a system's capDL and a policy that labels its objects, and every edge that any
+-- A line is written for each triple that the root's source assigns, in order, each once, and nothing else.
+pub record IsListWritten (told : Contents → Type 0) (root : List ℕ) (old new : Sink) : Type 0 where
+  pub text : List ℕ
+  pub whole : new ≡ appended old 0 text
+  pub assigned : InAll told (λ m. ListsAssigned root m text)
+
+-- An answer is written, and nothing else. With status 0 it is a reason, and with status 3 that the words name nothing that the
+-- root's source assigns.
+pub record IsAnswerWritten (told : Contents → Type 0) (root from authority to : List ℕ) (status : ℕ) (old new : Sink)
+    : Type 0 where
+  pub answer : Answer
+  pub status_is : status ≡ (if is_assigned answer then 0 else 3)
+  pub whole : new ≡ appended old 0 (answer_text answer)
+  pub assigned : InAll told (λ m. AnswersWhether root m from authority to (is_assigned answer))
+
+-- The two files hold a system's capDL and a policy that labels its objects, and every edge that any
 -- run of the system reaches between different labels is in the policy.
-pub record IsSafe (contents : Option Contents) (cdl policy : List ℕ) : Type 0 where
+pub record IsSafe (m : Contents) (cdl policy : List ℕ) : Type 0 where
   pub spec : Spec
   pub allowed : Policy
   pub labels : Labels
-  pub capdl : (bytes : List ℕ) × Holds contents cdl bytes × Text bytes spec
-  pub text : (bytes : List ℕ) × Holds contents policy bytes × IsPolicyText bytes allowed
+  pub capdl : (bytes : List ℕ) × Holds m cdl bytes × Text bytes spec
+  pub text : (bytes : List ℕ) × Holds m policy bytes × IsPolicyText bytes allowed
   pub labelled : IsLabelling spec allowed (Ok labels)
   pub stays : Stays spec labels.by_object allowed.edges
 
--- Contents are told, and the three files hold the texts that are written of a build of some source.
-pub record HoldTexts (contents : Option Contents) (cdl policy cert : List ℕ) : Type 0 where
-  pub told : Contents
-  pub are : contents ≡ Some told
+-- The three files hold the texts that are written of a build of some source.
+pub record HoldTexts (m : Contents) (cdl policy cert : List ℕ) : Type 0 where
   pub root : List ℕ
-  pub sources : Option Contents
+  pub sources : Contents
   pub build : Build
   pub made : IsBuildOf root sources build
-  pub capdl : get told cdl ≡ Some (canonical build.spec)
-  pub allowed : get told policy ≡ Some (policy_text build.policy)
-  pub certificate : get told cert ≡ Some (cert_text build.cert)
+  pub capdl : get m cdl ≡ Some (canonical build.spec)
+  pub allowed : get m policy ≡ Some (policy_text build.policy)
+  pub certificate : get m cert ≡ Some (cert_text build.cert)
+
+-- ---- what other commands print
+
+-- `check` of these files says yes, where no read fails
+abbrev pub SaysYes : Contents → List ℕ → List ℕ → List ℕ → Type 0
+SaysYes m cdl policy cert = (names : Names) × IsChecked m (λ file. 0) (λ file. 0) cdl policy cert (Ok (Checked Yes names))
+
+-- The two files hold a system's capDL and a policy that labels its objects, and the edges are the system's least certificate.
+-- Their text is read, under this policy, as just them; and `check` says yes to a file that holds it exactly where it says yes to
+-- some file.
+pub record IsLeastOf (m : Contents) (cdl policy : List ℕ) (edges : List Edge) : Type 0 where
+  pub spec : Spec
+  pub allowed : Policy
+  pub labels : Labels
+  pub capdl : (bytes : List ℕ) × Holds m cdl bytes × Text bytes spec
+  pub text : (bytes : List ℕ) × Holds m policy bytes × IsPolicyText bytes allowed
+  pub labelled : IsLabelling spec allowed (Ok labels)
+  pub least : IsLeast spec labels.by_object edges
+  pub read_back : IsCertText allowed (cert_text edges) edges
+  pub decides : (cert : List ℕ) → Holds m cert (cert_text edges)
+      → SaysYes m cdl policy cert ↔ ((other : List ℕ) × SaysYes m cdl policy other)
+
+-- The least certificate is written, and nothing else.
+pub record IsCertificateWritten (told : Contents → Type 0) (cdl policy : List ℕ) (old new : Sink) : Type 0 where
+  pub edges : List Edge
+  pub whole : new ≡ appended old 0 (cert_text edges)
+  pub least : InAll told (λ m. IsLeastOf m cdl policy edges)
+
+-- The image is the file's, and its table is read back as this image, under the name that it is read for.
+pub record IsTableOf (m : Contents) (elf : List ℕ) (image : Image) : Type 0 where
+  pub bytes : List ℕ
+  pub held : Holds m elf bytes
+  pub image_is : Elf (codes "image") bytes image
+  pub read_back : AreBytes bytes → (file : ℕ) (name : List ℕ) (answer : Result Image (Refused Fault))
+      → tables.IsRead file name (table_text image) answer
+      → (answer ≡ Ok (record image { name = name })) ⊎ (answer ≡ Err refused.NoMemory)
+
+-- The table of the file's image is written, and nothing else.
+pub record IsTableWritten (told : Contents → Type 0) (elf : List ℕ) (old new : Sink) : Type 0 where
+  pub image : Image
+  pub whole : new ≡ appended old 0 (table_text image)
+  pub of_file : InAll told (λ m. IsTableOf m elf image)
+
+-- `replay` of any file that holds the text of these steps says that all of them were made, and its edges are such, but for
+-- failed reads and want of memory.
+abbrev pub Replays : Contents → (List ℕ → ℕ) → (List ℕ → ℕ) → List ℕ → List ℕ → Spec → Names → List Step
+    → (List Edge → Type 0) → Type 0
+Replays m before now cdl policy spec names steps AreSuch =
+    (file : List ℕ) (answer : Result Outcome InputError) → Holds m file (steps_text spec steps) → IsAnswer answer
+    → IsRun m before now cdl policy file answer
+    → (edges : List Edge) × (answer ≡ Ok (Ran (Done (length steps) edges) names)) × AreSuch edges
+
+-- The two files hold a system's capDL and a policy that labels its objects. The report has just the edges between different
+-- labels that runs of the system reach. Where its steps are at most 100,000, `replay` makes all of them, and shows each edge
+-- behind some front of them.
+pub record IsReportOf (m : Contents) (cdl policy : List ℕ) (report : AuditReport) (spec : Spec) (names : Names) : Type 0 where
+  pub allowed : Policy
+  pub labels : Labels
+  pub capdl : (bytes : List ℕ) × Holds m cdl bytes × Text bytes spec
+  pub text : (bytes : List ℕ) × Holds m policy bytes × IsPolicyText bytes allowed
+  pub labelled : IsLabelling spec allowed (Ok labels)
+  pub named : names ≡ allowed.labels
+  pub reached : IsReport spec labels.by_object report.edges report.steps
+  pub replayed : length report.steps ≤ 100000 → (before now : List ℕ → ℕ)
+      → Replays m before now cdl policy spec names report.steps (λ edges. Unit {0})
+  pub shown : length report.steps ≤ 100000 → (before now : List ℕ → ℕ) (l : ℕ) (a : Authority) (x : ℕ) → Has report.edges l a x
+      → (front back : List Step) × (report.steps ≡ front ++ back)
+      × Replays m before now cdl policy spec names front (λ edges. Has edges l a x)
+
+-- The edges of a report and its steps are written, and nothing else.
+pub record IsReportWritten (told : Contents → Type 0) (cdl policy : List ℕ) (old new : Sink) : Type 0 where
+  pub report : AuditReport
+  pub spec : Spec
+  pub names : Names
+  pub whole : new ≡ appended old 0 (report_text names spec report)
+  pub of_files : InAll told (λ m. IsReportOf m cdl policy report spec names)

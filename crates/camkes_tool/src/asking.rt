@@ -1,6 +1,6 @@
 //! The commands that only print: what is asked for is found, and what was found is the answer.
 
-ghost use Rattle.cam_io.specs.Reading.{KeepsFiles};
+ghost use Rattle.cam_io.specs.Reading.{InAll, KeepsFiles};
 ghost use Rattle.camkes_tool.specs.Answers.{FitsExplained, FitsGenerated, FitsListed, FitsTexts};
 ghost use Rattle.camkes_tool.specs.Deciding.{refused, told};
 ghost use Rattle.generate_command.specs.Generated.{IsGenerated};
@@ -23,8 +23,8 @@ use text_commands::{
 
 /// What the source of the root assigns.
 pub fn listed<F: Files>(alloc: Global, root: &str, files: &mut F) -> Answer
-    ensures kept { KeepsFiles F.contents F.faults files.old files.new }
-    ensures fits { FitsListed (IsListed root.now (F.contents files.old) (F.faults files.old) (F.faults files.new)) result }
+    ensures kept { KeepsFiles F.told F.faults files.old files.new }
+    ensures fits { InAll (F.told files.new) (λ m. FitsListed (IsListed root.now m (F.faults files.old) (F.faults files.new)) result) }
 {
     match list(alloc, files, root) {
         Ok(listing) => Answer::Listed { listing },
@@ -39,10 +39,10 @@ pub fn explained<F: Files>(
     question: &Question<'_>,
     files: &mut F,
 ) -> Answer
-    ensures kept { KeepsFiles F.contents F.faults files.old files.new }
-    ensures fits { FitsExplained
+    ensures kept { KeepsFiles F.told F.faults files.old files.new }
+    ensures fits { InAll (F.told files.new) (λ m. FitsExplained
         (IsExplained question.now.from.now question.now.authority.now question.now.to.now root.now
-        (F.contents files.old) (F.faults files.old) (F.faults files.new)) result }
+        m (F.faults files.old) (F.faults files.new)) result) }
 {
     match explain(alloc, files, root, question) {
         Ok(answer) => Answer::Explained { answer },
@@ -79,9 +79,9 @@ pub fn checked<F: Files>(
     cert: &str,
     files: &mut F,
 ) -> Answer
-    ensures kept { KeepsFiles F.contents F.faults files.old files.new }
-    ensures fits { FitsTexts (IsChecked (F.contents files.old) (F.faults files.old) (F.faults files.new) cdl.now policy.now
-        cert.now) result }
+    ensures kept { KeepsFiles F.told F.faults files.old files.new }
+    ensures fits { InAll (F.told files.new) (λ m. FitsTexts (IsChecked m (F.faults files.old) (F.faults files.new) cdl.now policy.now
+        cert.now) result) }
 {
     told(check_texts(alloc, files, cdl, policy, cert))
 }
@@ -94,44 +94,44 @@ pub fn replayed<F: Files>(
     steps: &str,
     files: &mut F,
 ) -> Answer
-    ensures kept { KeepsFiles F.contents F.faults files.old files.new }
-    ensures fits { FitsTexts (IsRun (F.contents files.old) (F.faults files.old) (F.faults files.new) cdl.now policy.now
-        steps.now) result }
+    ensures kept { KeepsFiles F.told F.faults files.old files.new }
+    ensures fits { InAll (F.told files.new) (λ m. FitsTexts (IsRun m (F.faults files.old) (F.faults files.new) cdl.now policy.now
+        steps.now) result) }
 {
     told(replay_texts(alloc, files, cdl, policy, steps))
 }
 
 /// What runs reach.
 pub fn audited<F: Files>(alloc: Global, cdl: &str, policy: &str, files: &mut F) -> Answer
-    ensures kept { KeepsFiles F.contents F.faults files.old files.new }
-    ensures fits { FitsTexts (IsAudited (F.contents files.old) (F.faults files.old) (F.faults files.new) cdl.now policy.now)
-        result }
+    ensures kept { KeepsFiles F.told F.faults files.old files.new }
+    ensures fits { InAll (F.told files.new) (λ m. FitsTexts (IsAudited m (F.faults files.old) (F.faults files.new) cdl.now policy.now)
+        result) }
 {
     told(audit_texts(alloc, files, cdl, policy))
 }
 
 /// The least certificate.
 pub fn certified<F: Files>(alloc: Global, cdl: &str, policy: &str, files: &mut F) -> Answer
-    ensures kept { KeepsFiles F.contents F.faults files.old files.new }
-    ensures fits { FitsTexts (IsCertified (F.contents files.old) (F.faults files.old) (F.faults files.new) cdl.now policy.now)
-        result }
+    ensures kept { KeepsFiles F.told F.faults files.old files.new }
+    ensures fits { InAll (F.told files.new) (λ m. FitsTexts (IsCertified m (F.faults files.old) (F.faults files.new) cdl.now policy.now)
+        result) }
 {
     told(certify_texts(alloc, files, cdl, policy))
 }
 
 /// The section table of an ELF file.
 pub fn tabled<F: Files>(alloc: Global, elf: &str, files: &mut F) -> Answer
-    ensures kept { KeepsFiles F.contents F.faults files.old files.new }
-    ensures fits { FitsTexts (IsTabled (F.contents files.old) (F.faults files.old) (F.faults files.new) elf.now) result }
+    ensures kept { KeepsFiles F.told F.faults files.old files.new }
+    ensures fits { InAll (F.told files.new) (λ m. FitsTexts (IsTabled m (F.faults files.old) (F.faults files.new) elf.now) result) }
 {
     told(table_of_elf(alloc, files, elf))
 }
 
 /// Where objects go in memory.
 pub fn planned<F: Files>(alloc: Global, cdl: &str, untypeds: &str, files: &mut F) -> Answer
-    ensures kept { KeepsFiles F.contents F.faults files.old files.new }
-    ensures fits { FitsTexts (IsPlanned (F.contents files.old) (F.faults files.old) (F.faults files.new) cdl.now untypeds.now)
-        result }
+    ensures kept { KeepsFiles F.told F.faults files.old files.new }
+    ensures fits { InAll (F.told files.new) (λ m. FitsTexts (IsPlanned m (F.faults files.old) (F.faults files.new) cdl.now untypeds.now)
+        result) }
 {
     told(plan_texts(alloc, files, cdl, untypeds))
 }

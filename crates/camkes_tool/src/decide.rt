@@ -1,4 +1,4 @@
-ghost use Rattle.cam_io.specs.Reading.{KeepsFiles};
+ghost use Rattle.cam_io.specs.Reading.{InAll, KeepsFiles};
 ghost use Rattle.camkes_tool.specs.Answers.{Fits, FitsAsked, FitsRoot};
 ghost use Rattle.camkes_tool.specs.Deciding.{IsWrittenAs};
 ghost use Rattle.command_words.specs.Words.{AreUtf8};
@@ -18,8 +18,8 @@ use std::alloc::Global;
 
 /// Reads the words and the files, and says nothing yet.
 pub fn decide<F: Files>(alloc: Global, words: &[String], files: &mut F) -> Answer
-    ensures kept { KeepsFiles F.contents F.faults files.old files.new }
-    ensures fits { Fits (map string_bytes words.now) (F.contents files.old) (F.faults files.old) (F.faults files.new) result }
+    ensures kept { KeepsFiles F.told F.faults files.old files.new }
+    ensures fits { InAll (F.told files.new) (λ m. Fits (map string_bytes words.now) m (F.faults files.old) (F.faults files.new) result) }
 {
     match read_words(alloc, words) {
         Ok(command) => follow(alloc, &command, files),
@@ -31,8 +31,8 @@ pub fn decide<F: Files>(alloc: Global, words: &[String], files: &mut F) -> Answe
 /// Does what a command asks for, but for writing.
 fn follow<F: Files>(alloc: Global, command: &Command, files: &mut F) -> Answer
     requires { AreUtf8 command.now }
-    ensures kept { KeepsFiles F.contents F.faults files.old files.new }
-    ensures fits { FitsAsked (Some command.now) (F.contents files.old) (F.faults files.old) (F.faults files.new) result }
+    ensures kept { KeepsFiles F.told F.faults files.old files.new }
+    ensures fits { InAll (F.told files.new) (λ m. FitsAsked (Some command.now) m (F.faults files.old) (F.faults files.new) result) }
 {
     match command {
         Command::Compile { root, base } => answer(alloc, as_name(root), as_name(base), files),
@@ -76,8 +76,8 @@ fn follow<F: Files>(alloc: Global, command: &Command, files: &mut F) -> Answer
 
 /// Compiles the source of the root, and answers what is to be written under the base or what stands in the way.
 fn answer<F: Files>(alloc: Global, root: &str, base: &str, files: &mut F) -> Answer
-    ensures kept { KeepsFiles F.contents F.faults files.old files.new }
-    ensures fits { FitsRoot root.now base.now (F.contents files.old) (F.faults files.old) (F.faults files.new) result }
+    ensures kept { KeepsFiles F.told F.faults files.old files.new }
+    ensures fits { InAll (F.told files.new) (λ m. FitsRoot root.now base.now m (F.faults files.old) (F.faults files.new) result) }
 {
     match compile(alloc, files, root) {
         Ok(build) => written_as(alloc, base, build),

@@ -1,12 +1,15 @@
 ghost use Rattle.build_texts.specs.BuildTexts.{AreUnbegun};
 ghost use Rattle.cam_io.specs.Causes.{Rose};
-ghost use Rattle.cam_io.specs.Reading.{KeepsFiles};
+ghost use Rattle.cam_io.specs.Contents.{Contents};
+ghost use Rattle.cam_io.specs.Reading.{InAll, KeepsFiles};
 ghost use Rattle.camkes_tool.specs.Answers.{Fits, Tells, status_of};
 ghost use Rattle.camkes_tool.specs.Statuses.{NoneRose};
-ghost use Rattle.camkes_tool.specs.Theorem.{HoldTexts, IsSafe, IsWritten};
+ghost use Rattle.camkes_tool.specs.Theorem.{HoldTexts, IsAnswerWritten, IsListWritten, IsSafe, IsWritten};
+ghost use Rattle.camkes_tool.specs.Theorem.{IsCertificateWritten, IsReportWritten, IsTableWritten};
 ghost use Rattle.camkes_tool.specs.declared.answer.Answer.{Answer};
 ghost use Rattle.command_words.specs.Words.{read_words};
-ghost use Rattle.command_words.specs.declared.command.Command.TheVariants.{Check, Compile};
+ghost use Rattle.command_words.specs.declared.command.Command.TheVariants.{Audit, Certify, Check, Compile, Explain, Sections};
+ghost use Rattle.command_words.specs.declared.command.Command.TheVariants.{List as ListOf};
 ghost use Rattle.std.specs.Prelude.{◌≡◌, ◌⊎◌, ℕ, List, Some, if◌then◌else◌, map, string_bytes};
 
 use crate::Answer;
@@ -41,22 +44,35 @@ fn status_of(answer: &Answer) -> u8
 /// Does what the words behind the program's name say, and answers the program's status. None of the channels 2 to 5 may
 /// be begun. Takes no memory from the first begin on.
 ///
-/// There is an answer that fits the words and the files, and either it was told whole, or the status is 5 and it was
-/// cut short: `specs/Answers.antt`. What is compiled is read back, and lets threads reach exactly what the source assigns; a
-/// yes of the checker holds over every interleaving of steps; and of what was compiled it says yes: `specs/Theorem.antt`.
+/// There is one answer that fits the words and all contents that the files tell, and there are such contents; and either the
+/// answer was told whole, or the status is 5 and it was cut short: `specs/Answers.antt`. What is compiled is what the source
+/// says, is read back, and lets threads reach exactly what the source assigns; just that is listed and explained; a yes of the
+/// checker holds over every interleaving of steps; and of what was compiled it says yes. The least certificate and a table are
+/// read back, and the steps of an audit are replayed: `specs/Theorem.antt`.
 pub fn run<F: Files, O: Outputs>(alloc: Global, words: &[String], files: &mut F, out: &mut O) -> u8
     requires { AreUnbegun (O.sink out.old) }
-    ensures kept { KeepsFiles F.contents F.faults files.old files.new }
+    ensures kept { KeepsFiles F.told F.faults files.old files.new }
     ensures told { (answer : Answer)
-        × Fits (map string_bytes words.now) (F.contents files.old) (F.faults files.old) (F.faults files.new) answer
+        × InAll (F.told files.new) (λ m. Fits (map string_bytes words.now) m (F.faults files.old) (F.faults files.new) answer)
         × Tells answer result (O.sink out.old) (O.sink out.new) (O.faults out.old) (O.faults out.new) }
     ensures compiled { (root base : List ℕ) → read_words (map string_bytes words.now) ≡ Some (Compile root base) → result ≡ 0
-        → IsWritten (F.contents files.old) root base (O.sink out.old) (O.sink out.new) }
+        → IsWritten (F.told files.new) root base (O.sink out.old) (O.sink out.new) }
+    ensures listed { (root : List ℕ) → read_words (map string_bytes words.now) ≡ Some (ListOf root) → result ≡ 0
+        → IsListWritten (F.told files.new) root (O.sink out.old) (O.sink out.new) }
+    ensures explained { (root from authority to : List ℕ)
+        → read_words (map string_bytes words.now) ≡ Some (Explain root from authority to) → (result ≡ 0) ⊎ (result ≡ 3)
+        → IsAnswerWritten (F.told files.new) root from authority to result (O.sink out.old) (O.sink out.new) }
     ensures checked { (cdl policy cert : List ℕ) → read_words (map string_bytes words.now) ≡ Some (Check cdl policy cert)
-        → result ≡ 0 → IsSafe (F.contents files.old) cdl policy }
+        → result ≡ 0 → InAll (F.told files.new) (λ m. IsSafe m cdl policy) }
     ensures accepted { (cdl policy cert : List ℕ) → read_words (map string_bytes words.now) ≡ Some (Check cdl policy cert)
-        → HoldTexts (F.contents files.old) cdl policy cert → NoneRose (F.faults files.old) (F.faults files.new)
+        → (m : Contents) → F.told files.new m → HoldTexts m cdl policy cert → NoneRose (F.faults files.old) (F.faults files.new)
         → ¬ Rose (O.faults out.old) (O.faults out.new) → (result ≡ 0) ⊎ (result ≡ 6) }
+    ensures certified { (cdl policy : List ℕ) → read_words (map string_bytes words.now) ≡ Some (Certify cdl policy) → result ≡ 0
+        → IsCertificateWritten (F.told files.new) cdl policy (O.sink out.old) (O.sink out.new) }
+    ensures tabled { (elf : List ℕ) → read_words (map string_bytes words.now) ≡ Some (Sections elf) → result ≡ 0
+        → IsTableWritten (F.told files.new) elf (O.sink out.old) (O.sink out.new) }
+    ensures audited { (cdl policy : List ℕ) → read_words (map string_bytes words.now) ≡ Some (Audit cdl policy) → result ≡ 0
+        → IsReportWritten (F.told files.new) cdl policy (O.sink out.old) (O.sink out.new) }
 {
     let answer = decide(alloc, words, files);
     tell(&answer, out)

@@ -1,6 +1,6 @@
 -- What generating answers: the generated files are compiled as any root's are, what is compiled keeps the rules of the checker,
 -- and the answer is its summary. There is no failed read of them.
-use Rattle.std.specs.Prelude.{◌≡◌, ℕ, List, Some, Result, Ok, Err, codes}
+use Rattle.std.specs.Prelude.{◌≡◌, ℕ, List, Result, Ok, Err, codes}
 use Rattle.arch_compile.specs.Built.{IsBuildOf}
 use Rattle.arch_compile.specs.Compiled.{IsFirstFault}
 use Rattle.arch_compile.specs.declared.building.Build.{Build}
@@ -23,8 +23,8 @@ pub record IsAccepted (b : Build) (summary : Summary) : Type 0 where
   pub summed : summary ≡ summary_of b.meaning.flat b.spec b.policy.edges
 
 abbrev pub IsGenerated : ℕ → Result Summary BuildError → Type 0
-IsGenerated count (Ok summary) = (b : Build) × IsBuildOf root_name (Some (generated count)) b × IsAccepted b summary
-IsGenerated count (Err (error.Fault fault file)) = IsFirstFault root_name (Some (generated count)) fault file
+IsGenerated count (Ok summary) = (b : Build) × IsBuildOf root_name (generated count) b × IsAccepted b summary
+IsGenerated count (Err (error.Fault fault file)) = IsFirstFault root_name (generated count) fault file
 IsGenerated count (Err (error.ReadFault file)) = ⊥
 IsGenerated count (Err error.NoMemory) = Unit {0}
 

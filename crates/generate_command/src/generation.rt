@@ -1,7 +1,9 @@
 //! The generated source, compiled and checked.
 
+ghost use Rattle.arch_compile.specs.Compiled.{IsCompiled};
 ghost use Rattle.build_back.specs.TriosValid.{IsTrioValid};
 ghost use Rattle.generate_command.specs.Generated.{IsAccepted, IsGenerated};
+ghost use Rattle.generated_files.specs.GeneratedFiles.{generated, root_name};
 ghost use Rattle.policy_text.specs.Labelled.{IsLabelling};
 ghost use Rattle.std.specs.Prelude.{◌≡◌, length, map, IfOk, Ok};
 
@@ -22,16 +24,23 @@ use std::alloc::Global;
 pub fn generate(alloc: Global, count: u64) -> Result<Summary, BuildError>
     ensures { IsGenerated count result }
 {
-    let Ok(mut files) = generated(alloc, count) else {
-        return Err(BuildError::NoMemory);
-    };
-    match compile(alloc, &mut files, ROOT) {
+    match compiled(alloc, count) {
         Ok(build) => match accepted(alloc, &build) {
             Ok(summary) => Ok(summary),
             Err(NoMemory) => Err(BuildError::NoMemory),
         },
         Err(error) => Err(error),
     }
+}
+
+/// The source that is generated for so many clients, compiled from memory, where no read fails.
+fn compiled(alloc: Global, count: u64) -> Result<Build, BuildError>
+    ensures { IsCompiled root_name (generated count) (λ name. 0) (λ name. 0) result }
+{
+    let Ok(mut files) = generated(alloc, count) else {
+        return Err(BuildError::NoMemory);
+    };
+    compile(alloc, &mut files, ROOT)
 }
 
 /// What a build has, in numbers, once the checker has accepted its certificate.

@@ -6,7 +6,9 @@
 #![tactic(auto)]
 
 mod generation;
+mod laws;
 mod write;
 
 pub use generation::generate;
+pub use laws::answers_are_one;
 pub use write::write_generated;

@@ -139,7 +139,7 @@ right_label knows before line n name h = go (list_any (λ t. gives n t.1) before
     go false false false p q r = (q, r)
 
 -- an object
-right_object : (knows : Number → Bool) (before : List Told) (line : Line) (word n : List ℕ) → wrong_entry knows before line (object word n) ≡ None
+pub right_object : (knows : Number → Bool) (before : List Told) (line : Line) (word n : List ℕ) → wrong_entry knows before line (object word n) ≡ None
     → (knows n ≡ true) × (list_any (λ t. labels_object word t.1) before ≡ false) × (nat_lt 127 (length word) ≡ false)
 right_object knows before line word n h = go (knows n) (list_any (λ t. labels_object word t.1) before) (nat_lt 127 (length word)) refl refl refl
   where
@@ -170,7 +170,7 @@ pub small_label : (n : Number) → is_past n ≡ false → narrow n ≡ label_va
 small_label n h = small_value (value n) h
 
 -- a number that a label line gives
-gives_small : (knows : Number → Bool) (before ts : List Told) (n : Number) → Clean knows before ts → list_any (λ t. gives n t.1) ts ≡ true → is_past n ≡ false
+pub gives_small : (knows : Number → Bool) (before ts : List Told) (n : Number) → Clean knows before ts → list_any (λ t. gives n t.1) ts ≡ true → is_past n ≡ false
 gives_small knows before [] n c h = absurd (true≢false (sym h))
 gives_small knows before ((line, label m name) ∷ ts) n c h = go (bytes_eq m n) refl (λ k. gives_small knows (before ++ (line, label m name) ∷ []) ts n c.2 k)
   where

@@ -1,6 +1,7 @@
 pub mod Before
 pub mod Building
 pub mod Cutting
+pub mod EdgeLengths
 pub mod Inserting
 pub mod Judging
 pub mod Kept
@@ -12,6 +13,7 @@ pub mod Reading
 pub mod Rendering
 pub mod Rows
 pub mod Taking
+pub mod TextsKept
 pub mod WordsAdded
 pub mod WrittenMeans
 pub mod WrittenRight

@@ -1,5 +1,5 @@
 -- What is found out of a source is what explaining answers.
-use Rattle.std.proofs.Common.{◌≡◌, ℕ, List, Option, Result, Ok, Err, sym, subst}
+use Rattle.std.proofs.Common.{◌≡◌, ℕ, List, Result, Ok, Err, sym, subst}
 use Rattle.std.specs.Prelude.{IfOk}
 use Rattle.arch_policy.specs.Tables.{Tables, tables_of}
 use Rattle.cam_base.specs.declared.error.NoMemory.{NoMemory}
@@ -12,7 +12,7 @@ use Rattle.reason_lines.specs.Answers.{IsAnswer}
 use Rattle.reason_lines.specs.declared.answer.Answer.{Answer}
 use Rattle.source_commands.specs.Explained.{IsExplained, told}
 
-module _ (from authority to root : List ℕ) (contents : Option Contents) (before now : List ℕ → ℕ) where
+module _ (from authority to root : List ℕ) (contents : Contents) (before now : List ℕ → ℕ) where
   told_explained : (f : FrontEnd) (r : Result Answer NoMemory) → IsFrontOf root contents f
       → IfOk r (λ answer. IsAnswer (tables_of f.source f.flat f.settled) from authority to answer) → IsExplained from authority to root contents before now (told r)
   told_explained f (Ok answer) front h = record {

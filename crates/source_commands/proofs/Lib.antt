@@ -1,2 +1,4 @@
 pub mod Explaining
 pub mod Listed
+pub mod OneAnswer
+pub mod OverTree

@@ -1,5 +1,5 @@
 -- What a source is assigned is what listing answers.
-use Rattle.std.proofs.Common.{◌≡◌, ◌∙◌, ◌<◌, ℕ, List, [], ◌∷◌, length, get_or, Option, sym, ap, subst, arith}
+use Rattle.std.proofs.Common.{◌≡◌, ◌∙◌, ◌<◌, ℕ, List, [], ◌∷◌, length, get_or, sym, ap, subst, arith}
 use Rattle.std.proofs.lemmas.Option.{slice_get-get_or}
 use Rattle.adl_ast.specs.declared.source.Source.{Source}
 use Rattle.adl_meaning.specs.Flat.{flat_of}
@@ -41,7 +41,7 @@ lists s p l is names edges = record {
   sorted = subst IsSorted (sym edges) is.sorted;
 }
 
-pub front_listed : (root : List ℕ) (contents : Option Contents) (f : FrontEnd) (l : Listing) → IsFrontOf root contents f → l.names ≡ f.policy.labels → l.edges ≡ f.policy.edges → IsListing root contents l
+pub front_listed : (root : List ℕ) (contents : Contents) (f : FrontEnd) (l : Listing) → IsFrontOf root contents f → l.names ≡ f.policy.labels → l.edges ≡ f.policy.edges → IsListing root contents l
 front_listed root contents f l front names edges = record {
   source = f.source;
   loaded = front.loaded;

@@ -1,3 +1,4 @@
+pub mod Assigned
 pub mod Explained
 pub mod Listed
 pub use Rattle.arch_policy.specs.Policies

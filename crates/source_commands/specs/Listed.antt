@@ -1,5 +1,5 @@
 -- What listing answers: the labels of the root's system and the edges that are assigned.
-use Rattle.std.specs.Prelude.{◌≡◌, ℕ, List, Option, None, Result, Ok, Err}
+use Rattle.std.specs.Prelude.{◌≡◌, ℕ, List, None, Result, Ok, Err}
 use Rattle.adl_ast.specs.declared.source.Source.{Source}
 use Rattle.adl_import.specs.Loaded.{IsLoaded}
 use Rattle.adl_meaning.specs.Flat.{flat_of}
@@ -20,13 +20,13 @@ pub record IsListingOf (source : Source) (listing : Listing) : Type 0 where
   pub sorted : IsSorted listing.edges
 
 -- the root's source is loaded, none of the faults stands, and the listing is its own
-pub record IsListing (root : List ℕ) (contents : Option Contents) (listing : Listing) : Type 0 where
+pub record IsListing (root : List ℕ) (contents : Contents) (listing : Listing) : Type 0 where
   pub source : Source
   pub loaded : IsLoaded contents root (Ok source)
   pub none : first_list_fault source ≡ None
   pub listed : IsListingOf source listing
 
-abbrev pub IsListed : List ℕ → Option Contents → (List ℕ → ℕ) → (List ℕ → ℕ) → Result Listing BuildError → Type 0
+abbrev pub IsListed : List ℕ → Contents → (List ℕ → ℕ) → (List ℕ → ℕ) → Result Listing BuildError → Type 0
 IsListed root contents before now (Ok listing) = IsListing root contents listing
 IsListed root contents before now (Err e) = Refuses first_list_fault root contents before now e
 

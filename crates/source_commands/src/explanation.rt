@@ -1,6 +1,7 @@
 //! Whether an authority is assigned in a source, and why.
 
-ghost use Rattle.cam_io.specs.Reading.{KeepsFiles};
+ghost use Rattle.adl_import.specs.Loaded.{AlikeInSource};
+ghost use Rattle.cam_io.specs.Reading.{InAll, KeepsFiles, LearnsOnly};
 ghost use Rattle.source_commands.specs.Explained.{IsExplained, told};
 ghost use Rattle.std.specs.Prelude.{◌≡◌};
 
@@ -22,9 +23,10 @@ pub fn explain<F: Files>(
     root: &str,
     question: &Question<'_>,
 ) -> Result<Answer, BuildError>
-    ensures kept { KeepsFiles F.contents F.faults files.old files.new }
-    ensures explained { IsExplained question.now.from.now question.now.authority.now question.now.to.now root.now
-        (F.contents files.old) (F.faults files.old) (F.faults files.new) result }
+    ensures kept { KeepsFiles F.told F.faults files.old files.new }
+    ensures learned { LearnsOnly F.told (AlikeInSource root.now) files.old files.new }
+    ensures explained { InAll (F.told files.new) (λ m. IsExplained question.now.from.now question.now.authority.now
+        question.now.to.now root.now m (F.faults files.old) (F.faults files.new) result) }
 {
     match front(alloc, files, root) {
         Ok(front) => {

@@ -1,7 +1,8 @@
 //! The assigned edges of a source.
 
+ghost use Rattle.adl_import.specs.Loaded.{AlikeInSource};
 ghost use Rattle.auth_kinds.specs.Policies.{NumbersDiffer};
-ghost use Rattle.cam_io.specs.Reading.{KeepsFiles};
+ghost use Rattle.cam_io.specs.Reading.{InAll, KeepsFiles, LearnsOnly};
 ghost use Rattle.cam_io.specs.Sinks.{IsOpen, Writes};
 ghost use Rattle.source_commands.specs.Listed.{IsListed, listing_text};
 ghost use Rattle.std.specs.Prelude.{◌≡◌};
@@ -47,8 +48,9 @@ impl Listing {
 /// The first fault of the phases up to the settings, and where there is none the limit on edges, with the name of its file; a
 /// failed read; want of memory.
 pub fn list<F: Files>(alloc: Global, files: &mut F, root: &str) -> Result<Listing, BuildError>
-    ensures kept { KeepsFiles F.contents F.faults files.old files.new }
-    ensures listed { IsListed root.now (F.contents files.old) (F.faults files.old) (F.faults files.new) result }
+    ensures kept { KeepsFiles F.told F.faults files.old files.new }
+    ensures learned { LearnsOnly F.told (AlikeInSource root.now) files.old files.new }
+    ensures listed { InAll (F.told files.new) (λ m. IsListed root.now m (F.faults files.old) (F.faults files.new) result) }
 {
     match front(alloc, files, root) {
         Ok(front) => Ok(Listing::of(alloc, front.policy)),

@@ -152,7 +152,7 @@ image_plain s short all m i e =
       sections = λ z within. images_sound names all m i e z within;
     }
 
-pub read_images_are_plain : (contents : Option Contents) (root : List ℕ) (s : Source) (images : Images) → AreFilesShort s → AreImagesOf contents root s (flat_of s) images
+pub read_images_are_plain : (contents : Contents) (root : List ℕ) (s : Source) (images : Images) → AreFilesShort s → AreImagesOf contents root s (flat_of s) images
     → (m : ℕ) (i : Image) → slice_get images.images m ≡ Some i → IsImagePlain i
 read_images_are_plain contents root s images short read m i e =
     image_plain s short read.found m i (ap (λ (z : Images). slice_get z.images m) (sym read.images) ∙ e)

@@ -53,7 +53,7 @@ pub fn layouts_are_plain()
 /// The images that are read for a source are plain: programs have names, which are those of components, begin at numbers of
 /// 64 bits, and have sound sections.
 pub fn read_images_are_plain()
-    ensures { (contents : Option Contents) (root : Seq ℕ) (s : Source) (images : Images) → AreFilesShort s
+    ensures { (contents : Contents) (root : Seq ℕ) (s : Source) (images : Images) → AreFilesShort s
         → AreImagesOf contents root s (flat_of s) images
         → (m : ℕ) (image : Image) → slice_get images.images m ≡ Some image → IsImagePlain image }
 {}

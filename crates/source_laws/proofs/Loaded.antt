@@ -10,7 +10,7 @@ use Rattle.adl_import.specs.Loaded.{IsLoaded, IsLoadedBy}
 use Rattle.cam_io.specs.Contents.{Contents}
 use Rattle.numbering.proofs.Lists.{split_in}
 
-pub loaded_spelled : (contents : Option Contents) (root : List ℕ) (s : Source) → IsLoaded contents root (Ok s) → AreSpelled s
+pub loaded_spelled : (contents : Contents) (root : List ℕ) (s : Source) → IsLoaded contents root (Ok s) → AreSpelled s
 loaded_spelled contents root s loaded f i = by_name (root_name root) loaded
   where
     by_name : (name : Option (List ℕ)) → IsLoadedBy contents root name (Ok s) → (ts : List Seen) × IsFileSpelled f.tree ts

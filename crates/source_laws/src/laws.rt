@@ -11,7 +11,7 @@ ghost use Rattle.std.specs.Prelude.{◌≡◌, ℕ, List, None, Ok, Option};
 
 /// Tokens spell the tree of each file of a source that is loaded.
 pub fn loaded_sources_are_spelled()
-    ensures { (contents : Option Contents) (root : List ℕ) (s : Source) → IsLoaded contents root (Ok s) → AreSpelled s }
+    ensures { (contents : Contents) (root : List ℕ) (s : Source) → IsLoaded contents root (Ok s) → AreSpelled s }
 {}
 
 /// Where dotted names have two words or three, and no fault of types stands, ends join members of leaves, which are devices

@@ -9,7 +9,8 @@ mod laws;
 
 pub use laws::{
     all_frames_are_mapped, domains_have_their_lines, domains_have_their_roots,
-    labels_are_of_owners, other_frames_are_mapped_once, pages_stand_where_they_are_mapped,
-    regions_stand_where_they_are_laid, slots_are_those_of_the_system,
-    tables_stand_where_pages_are_mapped, threads_are_those_of_the_system, windows_show_one_memory,
+    images_are_those_of_the_system, labels_are_of_owners, other_frames_are_mapped_once,
+    pages_stand_where_they_are_mapped, regions_stand_where_they_are_laid,
+    slots_are_those_of_the_system, tables_stand_where_pages_are_mapped,
+    threads_are_those_of_the_system, windows_show_one_memory,
 };

@@ -3,4 +3,4 @@
 
 mod laws;
 
-pub use laws::written_steps_are_read_back;
+pub use laws::{runs_are_readable, written_steps_are_read_back};

@@ -1,3 +1,13 @@
 pub mod Turning
 pub mod FewSteps
 pub mod Running
+pub mod TableLengths
+pub mod OneTurn
+pub mod OneVerdict
+pub mod OneReplay
+pub mod OneDecision
+pub mod OneAnswer
+pub mod CertEnds
+pub mod CertBack
+pub mod TableBack
+pub mod AuditBack

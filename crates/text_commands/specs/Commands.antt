@@ -25,7 +25,7 @@ use Rattle.text_commands.specs.declared.outcome.Outcome.{Outcome}
 use Rattle.text_commands.specs.declared.outcome.Outcome.TheVariants.{Checked, Ran, Tabled}
 use Rattle.text_commands.specs.declared.replay.Replayed.{Replayed}
 
-module _ (contents : Option Contents) (before now : List ℕ → ℕ) where
+module _ (contents : Contents) (before now : List ℕ → ℕ) where
   -- ---- the turns of inputs
 
   abbrev pub IsSystem : List ℕ → Result Spec InputError → Type 0

@@ -1,8 +1,8 @@
 -- Inputs of a command, and what is read of them, one after another.
 --
--- Each input has its turn: that it is absent or too long, then its own first fault. The first turn with a fault decides. Where
--- contents are told, they say which bytes are read, and what is absent or too long.
-use Rattle.std.specs.Prelude.{◌≡◌, ◌<◌, ◌≤◌, ◌⊎◌, ℕ, List, length, Option, Some, None, IfSome, Result, Ok, Err}
+-- Each input has its turn: that it is absent or too long, then its own first fault. The first turn with a fault decides. The
+-- contents say which bytes are read, and what is absent or too long.
+use Rattle.std.specs.Prelude.{◌≡◌, ◌<◌, ◌≤◌, ◌⊎◌, ℕ, List, length, Option, Some, None, Result, Ok, Err}
 use Rattle.std.specs.FinMap as map
 use Rattle.cam_base.specs.declared.error.Refused.{Refused}
 use Rattle.cam_base.specs.declared.error.Refused.TheVariants as refused
@@ -23,21 +23,21 @@ most_bytes = 67108864
 abbrev pub of_file : TextCode → List ℕ → InputFault
 of_file code name = record { code = Text code; first = 0; end = 0; name = name }
 
--- the contents, where they are told, have no such file
-abbrev pub IsAbsent : Option Contents → List ℕ → Type 0
-IsAbsent contents name = IfSome contents (λ m. map.get m name ≡ None)
+-- the contents have no such file
+abbrev pub IsAbsent : Contents → List ℕ → Type 0
+IsAbsent contents name = map.get contents name ≡ None
 
--- the contents, where they are told, have these bytes under the name
-abbrev pub Holds : Option Contents → List ℕ → List ℕ → Type 0
-Holds contents name bytes = IfSome contents (λ m. map.get m name ≡ Some bytes)
+-- the contents have these bytes under the name
+abbrev pub Holds : Contents → List ℕ → List ℕ → Type 0
+Holds contents name bytes = map.get contents name ≡ Some bytes
 
--- the contents, where they are told, have more bytes under the name than an input may have
-abbrev pub IsTooLong : Option Contents → List ℕ → Type 0
-IsTooLong contents name = IfSome contents (λ m. (bytes : List ℕ) × (map.get m name ≡ Some bytes) × (most_bytes < length bytes))
+-- the contents have more bytes under the name than an input may have
+abbrev pub IsTooLong : Contents → List ℕ → Type 0
+IsTooLong contents name = (bytes : List ℕ) × (map.get contents name ≡ Some bytes) × (most_bytes < length bytes)
 
 -- The bytes of an input of this name, or why there are none. A read fault comes only where the count of this name rose from
 -- the one count to the other.
-abbrev pub IsInput : Option Contents → (List ℕ → ℕ) → (List ℕ → ℕ) → List ℕ → Result (List ℕ) InputError → Type 0
+abbrev pub IsInput : Contents → (List ℕ → ℕ) → (List ℕ → ℕ) → List ℕ → Result (List ℕ) InputError → Type 0
 IsInput contents before now name (Ok bytes) = (length bytes ≤ most_bytes) × Holds contents name bytes
 IsInput contents before now name (Err (Fault fault file)) =
     (file ≡ name) × (((fault ≡ of_file NoFile name) × IsAbsent contents name) ⊎ ((fault ≡ of_file TooLong name) × IsTooLong contents name))
@@ -56,7 +56,7 @@ abbrev pub Then : {A B : Type 0} → (Result A InputError → Type 0) → (A →
 Then {A} first rest result = ((x : A) × first (Ok x) × rest x result) ⊎ ((e : InputError) × first (Err e) × (result ≡ Err e))
 
 -- the turn of an input: its bytes, and then what a reader makes of them
-abbrev pub Turn : {A E : Type 0} → Option Contents → (List ℕ → ℕ) → (List ℕ → ℕ) → (E → InputFault)
+abbrev pub Turn : {A E : Type 0} → Contents → (List ℕ → ℕ) → (List ℕ → ℕ) → (E → InputFault)
     → (List ℕ → Result A (Refused E) → Type 0) → List ℕ → Result A InputError → Type 0
 Turn contents before now tell reads file = Then (IsInput contents before now file) (λ bytes. IsTold tell file (reads bytes))
 

@@ -3,6 +3,7 @@ pub mod Commands
 pub mod Decisions
 pub mod Inputs
 pub mod Lines
+pub mod OneAnswer
 pub mod Outcomes
 pub mod Replays
 pub use Rattle.cam_io.specs.Contents

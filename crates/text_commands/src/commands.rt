@@ -1,6 +1,6 @@
 //! The commands: inputs are read in written order, then objects are labelled, then the question is answered.
 
-ghost use Rattle.cam_io.specs.Reading.{KeepsFiles};
+ghost use Rattle.cam_io.specs.Reading.{InAll, KeepsFiles};
 ghost use Rattle.text_commands.specs.Commands.{IsAudited, IsCertified, IsChecked, IsPlanned, IsRun, IsTabled};
 
 use crate::decisions::{audit_system, certify_system, plan_system};
@@ -22,9 +22,9 @@ pub fn check_texts<F: Files>(
     policy: &str,
     cert: &str,
 ) -> Result<Outcome, InputError>
-    ensures kept { KeepsFiles F.contents F.faults files.old files.new }
-    ensures checked { IsChecked (F.contents files.old) (F.faults files.old) (F.faults files.new) cdl.now policy.now
-        cert.now result }
+    ensures kept { KeepsFiles F.told F.faults files.old files.new }
+    ensures checked { InAll (F.told files.new) (λ m. IsChecked m (F.faults files.old) (F.faults files.new) cdl.now policy.now
+        cert.now result) }
 {
     let spec = read_system(alloc, files, cdl)?;
     let allowed = read_labels(alloc, files, policy)?;
@@ -45,8 +45,8 @@ pub fn replay_texts<F: Files>(
     policy: &str,
     steps: &str,
 ) -> Result<Outcome, InputError>
-    ensures kept { KeepsFiles F.contents F.faults files.old files.new }
-    ensures ran { IsRun (F.contents files.old) (F.faults files.old) (F.faults files.new) cdl.now policy.now steps.now result }
+    ensures kept { KeepsFiles F.told F.faults files.old files.new }
+    ensures ran { InAll (F.told files.new) (λ m. IsRun m (F.faults files.old) (F.faults files.new) cdl.now policy.now steps.now result) }
 {
     let spec = read_system(alloc, files, cdl)?;
     let allowed = read_labels(alloc, files, policy)?;
@@ -65,8 +65,8 @@ pub fn table_of_elf<F: Files>(
     files: &mut F,
     elf: &str,
 ) -> Result<Outcome, InputError>
-    ensures kept { KeepsFiles F.contents F.faults files.old files.new }
-    ensures tabled { IsTabled (F.contents files.old) (F.faults files.old) (F.faults files.new) elf.now result }
+    ensures kept { KeepsFiles F.told F.faults files.old files.new }
+    ensures tabled { InAll (F.told files.new) (λ m. IsTabled m (F.faults files.old) (F.faults files.new) elf.now result) }
 {
     let image = read_image(alloc, files, elf)?;
     Ok(Outcome::Tabled { image })
@@ -79,8 +79,8 @@ pub fn audit_texts<F: Files>(
     cdl: &str,
     policy: &str,
 ) -> Result<Outcome, InputError>
-    ensures kept { KeepsFiles F.contents F.faults files.old files.new }
-    ensures audited { IsAudited (F.contents files.old) (F.faults files.old) (F.faults files.new) cdl.now policy.now result }
+    ensures kept { KeepsFiles F.told F.faults files.old files.new }
+    ensures audited { InAll (F.told files.new) (λ m. IsAudited m (F.faults files.old) (F.faults files.new) cdl.now policy.now result) }
 {
     let spec = read_system(alloc, files, cdl)?;
     let allowed = read_labels(alloc, files, policy)?;
@@ -95,8 +95,8 @@ pub fn certify_texts<F: Files>(
     cdl: &str,
     policy: &str,
 ) -> Result<Outcome, InputError>
-    ensures kept { KeepsFiles F.contents F.faults files.old files.new }
-    ensures certified { IsCertified (F.contents files.old) (F.faults files.old) (F.faults files.new) cdl.now policy.now result }
+    ensures kept { KeepsFiles F.told F.faults files.old files.new }
+    ensures certified { InAll (F.told files.new) (λ m. IsCertified m (F.faults files.old) (F.faults files.new) cdl.now policy.now result) }
 {
     let spec = read_system(alloc, files, cdl)?;
     let allowed = read_labels(alloc, files, policy)?;
@@ -111,8 +111,8 @@ pub fn plan_texts<F: Files>(
     cdl: &str,
     untypeds: &str,
 ) -> Result<Outcome, InputError>
-    ensures kept { KeepsFiles F.contents F.faults files.old files.new }
-    ensures planned { IsPlanned (F.contents files.old) (F.faults files.old) (F.faults files.new) cdl.now untypeds.now result }
+    ensures kept { KeepsFiles F.told F.faults files.old files.new }
+    ensures planned { InAll (F.told files.new) (λ m. IsPlanned m (F.faults files.old) (F.faults files.new) cdl.now untypeds.now result) }
 {
     let spec = read_system(alloc, files, cdl)?;
     let regions = read_regions(alloc, files, untypeds)?;

@@ -1,4 +1,4 @@
-ghost use Rattle.cam_io.specs.Reading.{KeepsFiles};
+ghost use Rattle.cam_io.specs.Reading.{InAll, KeepsFiles};
 ghost use Rattle.text_commands.specs.Codes.{tell_elf, tell_text, tell_untyped};
 ghost use Rattle.text_commands.specs.Inputs.{IsErrorOf, IsInput, IsReadFaultOf, IsRefusalOf, of_file};
 
@@ -22,8 +22,8 @@ pub fn read_input<F: Files>(
     files: &mut F,
     name: &str,
 ) -> Result<List<u8>, InputError>
-    ensures kept { KeepsFiles F.contents F.faults files.old files.new }
-    ensures input { IsInput (F.contents files.old) (F.faults files.old) (F.faults files.new) name.now result }
+    ensures kept { KeepsFiles F.told F.faults files.old files.new }
+    ensures input { InAll (F.told files.new) (λ m. IsInput m (F.faults files.old) (F.faults files.new) name.now result) }
 {
     match read_whole(alloc, files, name, MOST_BYTES) {
         Ok(bytes) => Ok(bytes),

@@ -12,6 +12,7 @@ mod fault;
 mod hindered;
 mod input;
 mod kept;
+mod laws;
 mod lines;
 mod outcome;
 mod replay;
@@ -23,6 +24,9 @@ pub use commands::{
 };
 pub use fault::{InputError, InputFault};
 pub use kept::KeptSpec;
+pub use laws::{
+    answers_are_one, audits_are_replayed, certificates_are_read_back, tables_are_read_back,
+};
 pub use lines::{write_code, write_fault, write_place};
 pub use outcome::Outcome;
 pub use replay::Replayed;

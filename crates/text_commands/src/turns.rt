@@ -2,7 +2,7 @@
 
 ghost use Rattle.auth_kinds.specs.Policies.{NumbersDiffer};
 ghost use Rattle.boot_plan.specs.Regions.{are_regions};
-ghost use Rattle.cam_io.specs.Reading.{KeepsFiles};
+ghost use Rattle.cam_io.specs.Reading.{InAll, KeepsFiles};
 ghost use Rattle.cap_model.specs.Kept.{IsKept};
 ghost use Rattle.policy_text.specs.Labelled.{IsLabelling};
 ghost use Rattle.std.specs.Prelude.{◌≡◌, ◌<◌, ◌≤◌, ◌^◌, IfOk, length, true};
@@ -27,8 +27,8 @@ use step_text::read_steps;
 
 /// The system of a capDL file.
 pub fn read_system<F: Files>(alloc: Global, files: &mut F, file: &str) -> Result<Spec, InputError>
-    ensures kept { KeepsFiles F.contents F.faults files.old files.new }
-    ensures system { IsSystem (F.contents files.old) (F.faults files.old) (F.faults files.new) file.now result }
+    ensures kept { KeepsFiles F.told F.faults files.old files.new }
+    ensures system { InAll (F.told files.new) (λ m. IsSystem m (F.faults files.old) (F.faults files.new) file.now result) }
     ensures kept_spec { IfOk result IsKept }
 {
     let bytes = read_input(alloc, files, file)?;
@@ -40,8 +40,8 @@ pub fn read_system<F: Files>(alloc: Global, files: &mut F, file: &str) -> Result
 
 /// The policy of a file.
 pub fn read_labels<F: Files>(alloc: Global, files: &mut F, file: &str) -> Result<Policy, InputError>
-    ensures kept { KeepsFiles F.contents F.faults files.old files.new }
-    ensures policy { IsPolicy (F.contents files.old) (F.faults files.old) (F.faults files.new) file.now result }
+    ensures kept { KeepsFiles F.told F.faults files.old files.new }
+    ensures policy { InAll (F.told files.new) (λ m. IsPolicy m (F.faults files.old) (F.faults files.new) file.now result) }
     ensures apart { IfOk result (λ policy. NumbersDiffer policy.labels) }
 {
     let bytes = read_input(alloc, files, file)?;
@@ -58,8 +58,8 @@ pub fn read_edges<F: Files>(
     file: &str,
     policy: &Policy,
 ) -> Result<EdgeTable, InputError>
-    ensures kept { KeepsFiles F.contents F.faults files.old files.new }
-    ensures edges { IsCert (F.contents files.old) (F.faults files.old) (F.faults files.new) policy.now file.now result }
+    ensures kept { KeepsFiles F.told F.faults files.old files.new }
+    ensures edges { InAll (F.told files.new) (λ m. IsCert m (F.faults files.old) (F.faults files.new) policy.now file.now result) }
 {
     let bytes = read_input(alloc, files, file)?;
     match read_cert(alloc, bytes.as_slice(), policy) {
@@ -76,8 +76,8 @@ pub fn read_run<F: Files>(
     spec: &Spec,
 ) -> Result<List<Step>, InputError>
     requires { length spec.now.entries < 2 ^ 32 }
-    ensures kept { KeepsFiles F.contents F.faults files.old files.new }
-    ensures steps { AreSteps (F.contents files.old) (F.faults files.old) (F.faults files.new) spec.now file.now result }
+    ensures kept { KeepsFiles F.told F.faults files.old files.new }
+    ensures steps { InAll (F.told files.new) (λ m. AreSteps m (F.faults files.old) (F.faults files.new) spec.now file.now result) }
     ensures few { IfOk result (λ steps. length steps ≤ 100000) }
 {
     let bytes = read_input(alloc, files, file)?;
@@ -89,8 +89,8 @@ pub fn read_run<F: Files>(
 
 /// The image of an ELF file.
 pub fn read_image<F: Files>(alloc: Global, files: &mut F, file: &str) -> Result<Image, InputError>
-    ensures kept { KeepsFiles F.contents F.faults files.old files.new }
-    ensures image { IsImage (F.contents files.old) (F.faults files.old) (F.faults files.new) file.now result }
+    ensures kept { KeepsFiles F.told F.faults files.old files.new }
+    ensures image { InAll (F.told files.new) (λ m. IsImage m (F.faults files.old) (F.faults files.new) file.now result) }
 {
     let bytes = read_input(alloc, files, file)?;
     let name = match Name::new(alloc, b"image") {
@@ -109,8 +109,8 @@ pub fn read_regions<F: Files>(
     files: &mut F,
     file: &str,
 ) -> Result<List<Untyped>, InputError>
-    ensures kept { KeepsFiles F.contents F.faults files.old files.new }
-    ensures regions { AreRegions (F.contents files.old) (F.faults files.old) (F.faults files.new) file.now result }
+    ensures kept { KeepsFiles F.told F.faults files.old files.new }
+    ensures regions { InAll (F.told files.new) (λ m. AreRegions m (F.faults files.old) (F.faults files.new) file.now result) }
     ensures few { IfOk result (λ regions. length regions ≤ 4096) }
     ensures sound { IfOk result (λ regions. are_regions regions ≡ true) }
 {

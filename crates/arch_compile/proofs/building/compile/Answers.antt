@@ -1,18 +1,28 @@
-use Rattle.std.proofs.Common.{subst}
 use Rattle.arch_compile.proofs.Compiling.{built_compiled, refused_compiled}
-use Rattle.arch_compile.specs.Steps.{Builds}
 use Rattle.front_end.proofs.Refusing.{meaning_sound}
+use Rattle.front_end.specs.Fronts.{IsMeaningOf}
 use Rattle.arch_compile.proofs.building.compile.Goals as goal
 
 pub with_images-requires : goal.with_images-requires
-with_images-requires g c = meaning_sound c.args.root.now (g.F.Files.contents c.args.files.now) c.in-Ok.meaning c.in-Ok.ensures.meaning
+with_images-requires g c =
+    let some = g.met.F.Files.some c.meaning_of.new.files in
+    meaning_sound c.args.root.now some.0 c.in-Ok.meaning (c.in-Ok.ensures.meaning some.0 some.1)
 
 pub returns-in-Ok-clause-compiled : goal.returns-in-Ok-clause-compiled
-returns-in-Ok-clause-compiled g c =
-    let kept = c.in-Ok.ensures.kept in
-    built_compiled c.args.root.now (g.F.Files.contents c.args.files.now) (g.F.Files.faults c.args.files.now) (g.F.Files.faults c.meaning_of.new.files) (g.F.Files.faults c.with_images.new.files) c.in-Ok.meaning c.in-Ok.ensures.meaning c.with_images.result kept.later
-    (subst (λ z. Builds c.in-Ok.meaning z (g.F.Files.faults c.meaning_of.new.files) (g.F.Files.faults c.with_images.new.files) c.with_images.result) kept.same c.with_images.ensures.builds)
+returns-in-Ok-clause-compiled g c m told =
+    built_compiled c.args.root.now m (g.F.Files.faults c.args.files.now) (g.F.Files.faults c.meaning_of.new.files) (g.F.Files.faults c.with_images.new.files) c.in-Ok.meaning (c.in-Ok.ensures.meaning m (c.with_images.ensures.kept.told_still m told)) c.with_images.result c.in-Ok.ensures.kept.later
+    (c.with_images.ensures.builds m told)
 
 pub returns-in-Err-clause-compiled : goal.returns-in-Err-clause-compiled
-returns-in-Err-clause-compiled g c =
-    refused_compiled c.args.root.now (g.F.Files.contents c.args.files.now) (g.F.Files.faults c.args.files.now) (g.F.Files.faults c.meaning_of.new.files) c.in-Err.error c.in-Err.ensures.meaning
+returns-in-Err-clause-compiled g c m told =
+    refused_compiled c.args.root.now m (g.F.Files.faults c.args.files.now) (g.F.Files.faults c.meaning_of.new.files) c.in-Err.error (c.in-Err.ensures.meaning m told)
+
+pub returns-in-Ok-clause-learned : goal.returns-in-Ok-clause-learned
+returns-in-Ok-clause-learned g c m n now old alike =
+    let held = c.with_images.ensures.kept.told_still m now in
+    let meaning : IsMeaningOf c.args.root.now m c.in-Ok.meaning = c.in-Ok.ensures.meaning m held in
+    c.with_images.ensures.learned m n now (c.in-Ok.ensures.learned m n held old alike.source)
+    (alike.tables c.in-Ok.meaning.source (record { loaded = meaning.loaded; none = meaning.none }))
+
+pub returns-in-Err-clause-learned : goal.returns-in-Err-clause-learned
+returns-in-Err-clause-learned g c m n now old alike = c.in-Err.ensures.learned m n now old alike.source

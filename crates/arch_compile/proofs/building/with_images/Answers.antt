@@ -1,5 +1,6 @@
-use Rattle.std.proofs.Common.{arith}
-use Rattle.arch_compile.proofs.Compiling.{built_of_images, built_unread, images_imaged}
+use Rattle.std.proofs.Common.{arith, subst, sym}
+use Rattle.source_images.specs.Found.{AlikeInTables}
+use Rattle.arch_compile.proofs.Compiling.{built_of_images, built_unread, images_imaged, tables_named}
 use Rattle.front_end.proofs.Within.{sound_small, sound_within}
 use Rattle.arch_compile.proofs.building.with_images.Goals as goal
 
@@ -16,12 +17,23 @@ read_images-requires g c =
 pub with_layout-requires-clause-imaged : goal.with_layout-requires-clause-imaged
 with_layout-requires-clause-imaged g c =
     let m = c.args.meaning in
-    images_imaged (g.F.Files.contents c.args.files.now) c.root_of-root.result.now m c.in-Ok.images c.in-Ok.ensures.read (sound_within m.source m.flat m.settled c.requires)
+    let some = g.met.F.Files.some c.read_images.new.files in
+    images_imaged some.0 c.root_of-root.result.now m c.in-Ok.images (c.in-Ok.ensures.read some.0 some.1) (sound_within m.source m.flat m.settled c.requires)
 
 pub returns-in-Ok-clause-builds : goal.returns-in-Ok-clause-builds
-returns-in-Ok-clause-builds g c =
-    built_of_images (g.F.Files.contents c.args.files.now) (g.F.Files.faults c.args.files.now) (g.F.Files.faults c.read_images.new.files) c.args.meaning c.root_of-root.result.now c.in-Ok.images c.with_layout.result c.requires.meant c.root_of-root.ensures c.in-Ok.ensures.read c.with_layout.ensures
+returns-in-Ok-clause-builds g c contents told =
+    built_of_images contents (g.F.Files.faults c.args.files.now) (g.F.Files.faults c.read_images.new.files) c.args.meaning c.root_of-root.result.now c.in-Ok.images c.with_layout.result c.requires.meant c.root_of-root.ensures (c.in-Ok.ensures.read contents told) c.with_layout.ensures
 
 pub returns-in-Err-clause-builds : goal.returns-in-Err-clause-builds
-returns-in-Err-clause-builds g c =
-    built_unread (g.F.Files.contents c.args.files.now) (g.F.Files.faults c.args.files.now) (g.F.Files.faults c.read_images.new.files) c.args.meaning c.root_of-root.result.now c.in-Err.error c.not_imaged.result c.requires.meant c.root_of-root.ensures c.in-Err.ensures.read c.in-Err.ensures.rose c.not_imaged.ensures
+returns-in-Err-clause-builds g c contents told =
+    built_unread contents (g.F.Files.faults c.args.files.now) (g.F.Files.faults c.read_images.new.files) c.args.meaning c.root_of-root.result.now c.in-Err.error c.not_imaged.result c.requires.meant c.root_of-root.ensures (c.in-Err.ensures.read contents told) c.in-Err.ensures.rose c.not_imaged.ensures
+
+pub returns-in-Ok-clause-learned : goal.returns-in-Ok-clause-learned
+returns-in-Ok-clause-learned g c m n now old alike =
+    let named = tables_named c.args.meaning c.root_of-root.result.now c.requires.meant c.root_of-root.ensures in
+    c.in-Ok.ensures.learned m n now old (subst (λ names. AlikeInTables names m n) (sym named) alike)
+
+pub returns-in-Err-clause-learned : goal.returns-in-Err-clause-learned
+returns-in-Err-clause-learned g c m n now old alike =
+    let named = tables_named c.args.meaning c.root_of-root.result.now c.requires.meant c.root_of-root.ensures in
+    c.in-Err.ensures.learned m n now old (subst (λ names. AlikeInTables names m n) (sym named) alike)

@@ -5,5 +5,5 @@ use Rattle.camkes_tool.proofs.Telling.{no_memory_fits}
 use Rattle.camkes_tool.proofs.decide.decide.Goals as goal
 
 pub returns-in-Err-NoMemory-clause-fits : goal.returns-in-Err-NoMemory-clause-fits
-returns-in-Err-NoMemory-clause-fits g c =
-    no_memory_fits (read_words (map string_bytes c.args.words.now)) (g.F.Files.contents c.args.files.now) (g.F.Files.faults c.args.files.now) (g.F.Files.faults c.args.files.now)
+returns-in-Err-NoMemory-clause-fits g c m told =
+    no_memory_fits (read_words (map string_bytes c.args.words.now)) m (g.F.Files.faults c.args.files.now) (g.F.Files.faults c.args.files.now)

@@ -2,31 +2,31 @@ use Rattle.camkes_tool.proofs.Telling.{audit_fits, certify_fits, check_fits, pla
 use Rattle.camkes_tool.proofs.decide.follow.Goals as goal
 
 pub returns-in-Check-clause-fits : goal.returns-in-Check-clause-fits
-returns-in-Check-clause-fits g c =
-    check_fits (g.F.Files.contents c.args.files.now) (g.F.Files.faults c.args.files.now) (g.F.Files.faults c.checked.new.files) c.args.command.now c.checked.result
-    _ _ _ _ _ _ c.in-Check.is c.as_name-in-Check.ensures c.as_name-in-Check-2.ensures c.as_name-in-Check-3.ensures c.checked.ensures.fits
+returns-in-Check-clause-fits g c m told =
+    check_fits m (g.F.Files.faults c.args.files.now) (g.F.Files.faults c.checked.new.files) c.args.command.now c.checked.result
+    _ _ _ _ _ _ c.in-Check.is c.as_name-in-Check.ensures c.as_name-in-Check-2.ensures c.as_name-in-Check-3.ensures (c.checked.ensures.fits m told)
 
 pub returns-in-Replay-clause-fits : goal.returns-in-Replay-clause-fits
-returns-in-Replay-clause-fits g c =
-    replay_fits (g.F.Files.contents c.args.files.now) (g.F.Files.faults c.args.files.now) (g.F.Files.faults c.replayed.new.files) c.args.command.now c.replayed.result
-    _ _ _ _ _ _ c.in-Replay.is c.as_name-in-Replay.ensures c.as_name-in-Replay-2.ensures c.as_name-in-Replay-3.ensures c.replayed.ensures.fits
+returns-in-Replay-clause-fits g c m told =
+    replay_fits m (g.F.Files.faults c.args.files.now) (g.F.Files.faults c.replayed.new.files) c.args.command.now c.replayed.result
+    _ _ _ _ _ _ c.in-Replay.is c.as_name-in-Replay.ensures c.as_name-in-Replay-2.ensures c.as_name-in-Replay-3.ensures (c.replayed.ensures.fits m told)
 
 pub returns-in-Audit-clause-fits : goal.returns-in-Audit-clause-fits
-returns-in-Audit-clause-fits g c =
-    audit_fits (g.F.Files.contents c.args.files.now) (g.F.Files.faults c.args.files.now) (g.F.Files.faults c.audited.new.files) c.args.command.now c.audited.result
-    _ _ _ _ c.in-Audit.is c.as_name-in-Audit.ensures c.as_name-in-Audit-2.ensures c.audited.ensures.fits
+returns-in-Audit-clause-fits g c m told =
+    audit_fits m (g.F.Files.faults c.args.files.now) (g.F.Files.faults c.audited.new.files) c.args.command.now c.audited.result
+    _ _ _ _ c.in-Audit.is c.as_name-in-Audit.ensures c.as_name-in-Audit-2.ensures (c.audited.ensures.fits m told)
 
 pub returns-in-Certify-clause-fits : goal.returns-in-Certify-clause-fits
-returns-in-Certify-clause-fits g c =
-    certify_fits (g.F.Files.contents c.args.files.now) (g.F.Files.faults c.args.files.now) (g.F.Files.faults c.certified.new.files) c.args.command.now c.certified.result
-    _ _ _ _ c.in-Certify.is c.as_name-in-Certify.ensures c.as_name-in-Certify-2.ensures c.certified.ensures.fits
+returns-in-Certify-clause-fits g c m told =
+    certify_fits m (g.F.Files.faults c.args.files.now) (g.F.Files.faults c.certified.new.files) c.args.command.now c.certified.result
+    _ _ _ _ c.in-Certify.is c.as_name-in-Certify.ensures c.as_name-in-Certify-2.ensures (c.certified.ensures.fits m told)
 
 pub returns-in-Sections-clause-fits : goal.returns-in-Sections-clause-fits
-returns-in-Sections-clause-fits g c =
-    table_fits (g.F.Files.contents c.args.files.now) (g.F.Files.faults c.args.files.now) (g.F.Files.faults c.tabled.new.files) c.args.command.now c.tabled.result
-    _ _ c.in-Sections.is c.as_name-in-Sections.ensures c.tabled.ensures.fits
+returns-in-Sections-clause-fits g c m told =
+    table_fits m (g.F.Files.faults c.args.files.now) (g.F.Files.faults c.tabled.new.files) c.args.command.now c.tabled.result
+    _ _ c.in-Sections.is c.as_name-in-Sections.ensures (c.tabled.ensures.fits m told)
 
 pub returns-in-Plan-clause-fits : goal.returns-in-Plan-clause-fits
-returns-in-Plan-clause-fits g c =
-    plan_fits (g.F.Files.contents c.args.files.now) (g.F.Files.faults c.args.files.now) (g.F.Files.faults c.planned.new.files) c.args.command.now c.planned.result
-    _ _ _ _ c.in-Plan.is c.as_name-in-Plan.ensures c.as_name-in-Plan-2.ensures c.planned.ensures.fits
+returns-in-Plan-clause-fits g c m told =
+    plan_fits m (g.F.Files.faults c.args.files.now) (g.F.Files.faults c.planned.new.files) c.args.command.now c.planned.result
+    _ _ _ _ c.in-Plan.is c.as_name-in-Plan.ensures c.as_name-in-Plan-2.ensures (c.planned.ensures.fits m told)

@@ -1,0 +1,67 @@
+-- The labels of edges that have a reason, or that locks confer, are those of paths.
+use Rattle.std.proofs.Common.{◌≡◌, ◌∙◌, ℕ, true, sym, ap, subst}
+use Rattle.adl_meaning.specs.Prelude.{AreNamesSound, Path, Source, domain_of, flat_of, hierarchy_of}
+use Rattle.adl_meaning.specs.declared.flat.FlatConnection.{FlatConnection}
+use Rattle.adl_hierarchy.specs.Leads.{AreDotted}
+use Rattle.arch_policy.proofs.Given.{labelled_endpoint, labelled_frames, labelled_notification}
+use Rattle.arch_policy.specs.Ends.{EndAt, LockAt}
+use Rattle.arch_policy.specs.Gives.{gives}
+use Rattle.arch_policy.specs.Owners.{has_label}
+use Rattle.arch_policy.specs.Policies.{IsLockEdge}
+use Rattle.arch_policy.specs.Reasons.{LeadsTo, Reason, by_bind, by_call, by_direct, by_lock}
+use Rattle.arch_policy.specs.Tables.{Tables, connection_label, domain_label, leaf_label}
+use Rattle.arch_policy.specs.declared.numbers.LabelNumbers.{LabelNumbers}
+use Rattle.assigned_laws.proofs.Joined.{met, strung_at}
+use Rattle.assigned_laws.proofs.Locks.{lock_of}
+use Rattle.assigned_laws.proofs.Naming.{connection_named}
+use Rattle.assigned_laws.specs.Assigned.{connection_path, owner}
+use Rattle.assigned_laws.specs.Named.{IsNamed, tables_with}
+use Rattle.auth_kinds.specs.declared.authority.Authority.{Authority}
+use Rattle.auth_kinds.specs.declared.edge.Edge.{Edge}
+use Rattle.conn_rules.specs.declared.rule.ObjectKind.{ObjectKind}
+use Rattle.conn_rules.specs.declared.rule.ObjectKind.TheVariants.{NoObject, OfDevice, OfEndpoint, OfFrames, OfIrq, OfNotification}
+
+module _ (s : Source) (sound : AreNamesSound s) (dotted : AreDotted (hierarchy_of s)) (numbers : LabelNumbers) where
+  abbrev t : Tables
+  t = tables_with s numbers
+
+  abbrev IsPath : ℕ → Type 0
+  IsPath l = (p : Path) × IsNamed t l p
+
+  same_path : (l m : ℕ) → l ≡ m → IsPath m → IsPath l
+  same_path l m e w = subst IsPath (sym e) w
+
+  leaf_path : (x : EndAt (flat_of s)) → IsPath (leaf_label t x.end.leaf)
+  leaf_path x =
+      let g = strung_at s sound dotted numbers x.place x.connection x.here in
+      let f = met s sound dotted numbers x g.0 g.1 in
+      (owner (hierarchy_of s) f.0.leaf, f.1.named)
+
+  joint_path : (x : EndAt (flat_of s)) (l : ℕ) → has_label x.connection.connector ≡ true → l ≡ connection_label t x.place → IsPath l
+  joint_path x l labelled e =
+      let g = strung_at s sound dotted numbers x.place x.connection x.here in
+      let named = connection_named s numbers g.0 x.place g.1 (ap (λ (c : FlatConnection). has_label c.connector) g.2 ∙ labelled) in
+      same_path l (connection_label t x.place) e (connection_path g.0.path g.0.wire, named)
+
+  lock_path : (k : LockAt s (flat_of s)) → IsPath (domain_label t k.domain)
+  lock_path k = let o = lock_of s sound numbers k in (domain_of (hierarchy_of s) o.0.leaf, o.1)
+
+  target_path : (x : EndAt (flat_of s)) (o : ObjectKind) (a : Authority) (l : ℕ) → gives x.connection.connector x.end.role o a ≡ true → LeadsTo t x o l → IsPath l
+  target_path x OfEndpoint a l g h = joint_path x l (labelled_endpoint x.connection.connector x.end.role a g) h
+  target_path x OfNotification a l g h = joint_path x l (labelled_notification x.connection.connector x.end.role a g) h
+  target_path x OfFrames a l g h = joint_path x l (labelled_frames x.connection.connector x.end.role a g) h
+  target_path x OfDevice a l g h = same_path l (leaf_label t h.at.end.leaf) h.label_is (leaf_path h.at)
+  target_path x OfIrq a l g h = same_path l (leaf_label t h.at.end.leaf) h.label_is (leaf_path h.at)
+  target_path x NoObject a l g h = absurd h
+
+  pub reason_paths : (e : Edge) → Reason t e → IsPath e.from × IsPath e.to
+  reason_paths e (by_direct r) = (same_path e.from _ r.from (leaf_path r.at), target_path r.at r.object e.authority e.to r.given r.to)
+  reason_paths e (by_call r) = (same_path e.from _ r.from (leaf_path r.server), same_path e.to _ r.to (leaf_path r.caller))
+  reason_paths e (by_bind r) = (
+    same_path e.from _ r.handles.device_is (leaf_path r.handles.source),
+    joint_path r.signaller e.to (ap has_label r.signals.connector) r.to,
+  )
+  reason_paths e (by_lock r) = (same_path e.from _ r.handles.device_is (leaf_path r.handles.source), same_path e.to _ r.has (lock_path r.lock))
+
+  pub lock_paths : (e : Edge) → IsLockEdge t e → IsPath e.from × IsPath e.to
+  lock_paths e k = (same_path e.from _ k.from (lock_path k.lock), same_path e.to _ k.to (lock_path k.lock))

@@ -1,0 +1,66 @@
+-- What `list` and `explain` leave is what the source assigns over its hierarchy.
+use Rattle.std.proofs.Common.{◌≡◌, ◌≢◌, ◌⊎◌, ◌∙◌, ℕ, List, Option, Some, refl, inl, inr, sym, subst}
+use Rattle.cam_io.specs.Contents.{Contents}
+use Rattle.cam_io.specs.Reading.{InAll}
+use Rattle.cam_io.specs.Sinks.{Sink}
+use Rattle.command_words.specs.declared.command.Command.{Command}
+use Rattle.command_words.specs.declared.command.Command.TheVariants.{Explain, List as ListOf}
+use Rattle.source_commands.proofs.OverTree.{answers_whether, lists_assigned}
+use Rattle.source_commands.specs.Explained.{IsExplained}
+use Rattle.source_commands.specs.Listed.{IsListed, listing_text}
+use Rattle.camkes_tool.proofs.Written.{whole_status, zero_not_five}
+use Rattle.camkes_tool.specs.Answers.{FitsAsked, FitsExplained, FitsListed, Tells, status_of}
+use Rattle.camkes_tool.specs.Theorem.{IsAnswerWritten, IsListWritten}
+use Rattle.camkes_tool.specs.declared.answer.Answer.{Answer}
+use Rattle.camkes_tool.specs.declared.answer.Answer.TheVariants.{Compiled, Listed, Explained, Told, Generated, Faulted, Refused, Usage, ReadFault, NoMemory}
+
+module _ (told : Contents → Type 0) (some : (c : Contents) × told c) (before now : List ℕ → ℕ) (status : ℕ) (old new : Sink) (m n : ℕ) where
+  module _ (root : List ℕ) (zero : status ≡ 0) where
+    list_written : (answer : Answer) → InAll told (λ c. FitsListed (IsListed root c before now) answer) → Tells answer status old new m n → IsListWritten told root old new
+    list_written (Listed listing) fits tells = elim tells.told [
+      | inl t ↦ record { text = listing_text listing; whole = t.1; assigned = λ c is. lists_assigned root c listing (fits c is) }
+      | inr t ↦ absurd (zero_not_five status zero t.0)
+    ]
+    list_written (Faulted file fault) fits tells = let e = whole_status (Faulted file fault) status old new m n tells zero in absurd cc
+    list_written (ReadFault file) fits tells = let e = whole_status (ReadFault file) status old new m n tells zero in absurd cc
+    list_written NoMemory fits tells = let e = whole_status NoMemory status old new m n tells zero in absurd cc
+    list_written (Compiled names b) fits tells = absurd (fits some.0 some.1)
+    list_written (Explained o) fits tells = absurd (fits some.0 some.1)
+    list_written (Told o) fits tells = absurd (fits some.0 some.1)
+    list_written (Generated o) fits tells = absurd (fits some.0 some.1)
+    list_written (Refused file fault) fits tells = absurd (fits some.0 some.1)
+    list_written Usage fits tells = absurd (fits some.0 some.1)
+
+    pub listed_written : (asked : Option Command) (answer : Answer) → asked ≡ Some (ListOf root) → InAll told (λ c. FitsAsked asked c before now answer) → Tells answer status old new m n
+        → IsListWritten told root old new
+    listed_written asked answer is fits tells = list_written answer (λ c t. subst (λ z. FitsAsked z c before now answer) is (fits c t)) tells
+
+  module _ (root from authority to : List ℕ) (ends : (status ≡ 0) ⊎ (status ≡ 3)) where
+    not_five : status ≡ 5 → ⊥
+    not_five five = elim ends [ inl e ↦ zero_not_five status e five | inr e ↦ let no : ◌≡◌ {A = ℕ} 3 5 = sym e ∙ five in cc ]
+
+    -- no answer with another status is told
+    no_other : (answer : Answer) (k : ℕ) → status_of answer ≡ k → k ≢ 0 → k ≢ 3 → Tells answer status old new m n → ⊥
+    no_other answer k is a b tells = elim tells.told [
+      | inl t ↦ elim ends [ inl e ↦ a (sym is ∙ sym t.0 ∙ e) | inr e ↦ b (sym is ∙ sym t.0 ∙ e) ]
+      | inr t ↦ not_five t.0
+    ]
+
+    answer_written : (answer : Answer) → InAll told (λ c. FitsExplained (IsExplained from authority to root c before now) answer) → Tells answer status old new m n → IsAnswerWritten told root from authority to status old new
+    answer_written (Explained answer) fits tells = elim tells.told [
+      | inl t ↦ record { answer = answer; status_is = t.0; whole = t.1; assigned = λ c is. answers_whether from authority to root c answer (fits c is) }
+      | inr t ↦ absurd (not_five t.0)
+    ]
+    answer_written (Faulted file fault) fits tells = absurd (no_other (Faulted file fault) 1 refl (λ e. cc) (λ e. cc) tells)
+    answer_written (ReadFault file) fits tells = absurd (no_other (ReadFault file) 4 refl (λ e. cc) (λ e. cc) tells)
+    answer_written NoMemory fits tells = absurd (no_other NoMemory 6 refl (λ e. cc) (λ e. cc) tells)
+    answer_written (Compiled names b) fits tells = absurd (fits some.0 some.1)
+    answer_written (Listed o) fits tells = absurd (fits some.0 some.1)
+    answer_written (Told o) fits tells = absurd (fits some.0 some.1)
+    answer_written (Generated o) fits tells = absurd (fits some.0 some.1)
+    answer_written (Refused file fault) fits tells = absurd (fits some.0 some.1)
+    answer_written Usage fits tells = absurd (fits some.0 some.1)
+
+    pub explained_written : (asked : Option Command) (answer : Answer) → asked ≡ Some (Explain root from authority to) → InAll told (λ c. FitsAsked asked c before now answer) → Tells answer status old new m n
+        → IsAnswerWritten told root from authority to status old new
+    explained_written asked answer is fits tells = answer_written answer (λ c t. subst (λ z. FitsAsked z c before now answer) is (fits c t)) tells

@@ -1,0 +1,73 @@
+-- How long the lines of edges and the text of a certificate are, where its labels are below the limit.
+use Rattle.std.proofs.Common.{◌≡◌, ◌∙◌, ◌<◌, ◌≤◌, ◌+◌, ◌*◌, ◌||◌, ℕ, Bool, true, false, List, [], ◌∷◌, length, ap, refl, arith}
+use Rattle.std.proofs.Math.Nat.{mul-suc}
+use Rattle.std.proofs.lemmas.Fmt.{length-decimal-le}
+use Rattle.std.proofs.lemmas.List.{length-append}
+use Rattle.std.specs.List.{flat_map, list_any}
+use Rattle.std.specs.Prelude.{codes, decimal}
+use Rattle.auth_kinds.proofs.EdgeOrder.{same_edge_self}
+use Rattle.auth_kinds.specs.Authorities.{text_of}
+use Rattle.auth_kinds.specs.Edges.{same_edge}
+use Rattle.auth_kinds.specs.Tables.{has}
+use Rattle.auth_kinds.specs.declared.authority.Authority.{Authority}
+use Rattle.auth_kinds.specs.declared.authority.Authority.TheVariants.{Receive, SyncSend, AsyncSend, Reset, Grant, Read, Write, Control, Call, Reply, GrantBack, Handle}
+use Rattle.auth_kinds.specs.declared.edge.Edge.{Edge}
+use Rattle.cam_base.specs.Texts.{◌⊹◌, together}
+use Rattle.policy_text.specs.PolicyLines.{cert_text, edge_line}
+use Rattle.policy_text.proofs.Inserting.{or_right}
+
+together_length : (x : List ℕ) (xs : List (List ℕ)) → length (together (x ∷ xs)) ≡ length x + length (together xs)
+unfolding together
+together_length x xs = length-append x (flat_map (λ y. y) xs)
+
+nothing_together : length (together []) ≡ 0
+unfolding together
+nothing_together = refl
+
+pub number_short : (n : ℕ) → n < 8192 → length (decimal n) ≤ 4
+number_short n l = length-decimal-le 4 n (omega arith) (omega (arith, l)) (omega (arith, l))
+
+word_short : (a : Authority) → length (text_of a) ≤ 9
+word_short Receive = omega arith
+word_short SyncSend = omega arith
+word_short AsyncSend = omega arith
+word_short Reset = omega arith
+word_short Grant = omega arith
+word_short Read = omega arith
+word_short Write = omega arith
+word_short Control = omega arith
+word_short Call = omega arith
+word_short Reply = omega arith
+word_short GrantBack = omega arith
+word_short Handle = omega arith
+
+pub edge_short : (e : Edge) → e.from < 8192 → e.to < 8192 → length (edge_line e) ≤ 25
+edge_short e f t =
+    let g = together_length (codes "\n") [] in
+    let m = together_length (decimal e.to) (codes "\n" ∷ []) in
+    let s = together_length (codes " ") (decimal e.to ∷ codes "\n" ∷ []) in
+    let a = together_length (text_of e.authority) (codes " " ∷ decimal e.to ∷ codes "\n" ∷ []) in
+    let r = together_length (codes " ") (text_of e.authority ∷ codes " " ∷ decimal e.to ∷ codes "\n" ∷ []) in
+    let l = together_length (decimal e.from) (codes " " ∷ text_of e.authority ∷ codes " " ∷ decimal e.to ∷ codes "\n" ∷ []) in
+    let w = together_length (codes "edge ") (decimal e.from ∷ codes " " ∷ text_of e.authority ∷ codes " " ∷ decimal e.to ∷ codes "\n" ∷ []) in
+    let from = number_short e.from f in
+    let to = number_short e.to t in
+    let word = word_short e.authority in
+    omega (arith, g, m, s, a, r, l, w, from, to, word, nothing_together)
+
+lines_short : (cert : List Edge) → ((e : Edge) → has cert e ≡ true → (e.from < 8192) × (e.to < 8192)) → length (flat_map edge_line cert) ≤ 25 * length cert
+lines_short [] small = omega arith
+lines_short (e ∷ cert) small =
+    let here = small e (ap (λ b. b || has cert e) (same_edge_self e)) in
+    let line = edge_short e here.0 here.1 in
+    let rest = lines_short cert (λ d h. small d (or_right (same_edge e d) h)) in
+    let all = length-append (edge_line e) (flat_map edge_line cert) in
+    let more = mul-suc 25 (length cert) in
+    omega (arith, line, rest, all, more)
+
+pub cert_short : (cert : List Edge) → ((e : Edge) → has cert e ≡ true → (e.from < 8192) × (e.to < 8192)) → length cert ≤ 262144 → length (cert_text cert) ≤ 67108864
+unfolding cert_text ◌⊹◌
+cert_short cert small few =
+    let lines = lines_short cert small in
+    let whole = length-append (codes "certificate 1\n") (flat_map edge_line cert) in
+    omega (arith, whole, lines, few)

@@ -1,0 +1,33 @@
+-- A table has no more edges than a list that has each of them.
+use Rattle.std.proofs.Common.{◌≡◌, ◌∙◌, ◌≤◌, ◌||◌, Bool, true, false, List, [], ◌∷◌, length, refl, sym, ap, subst, arith, get_or}
+use Rattle.std.specs.Cmp.{IsEquivalence}
+use Rattle.std.specs.List.{IsDistinct, list_any}
+use Rattle.std.specs.Set.{is_member}
+use Rattle.std.proofs.lemmas.Map.Made.{length-le_from_is_member}
+use Rattle.std.proofs.lemmas.Map.Keys.{IsDistinct-from_apart}
+use Rattle.std.proofs.lemmas.Option.{slice_get-get_or}
+use Rattle.auth_kinds.proofs.EdgeOrder.{not_before_self, same_edge_self, same_edge_true, same_edge-sym}
+use Rattle.auth_kinds.specs.Edges.{Before, same_edge}
+use Rattle.auth_kinds.specs.Tables.{IsSorted, has}
+use Rattle.auth_kinds.specs.declared.edge.Edge.{Edge}
+
+same_laws : IsEquivalence same_edge
+same_laws = record { refl = same_edge_self; symm = same_edge-sym; congr = λ x y z h. ap (λ v. same_edge v z) (same_edge_true x y h) }
+
+member_has : (es : List Edge) (e : Edge) → is_member same_edge es e ≡ has es e
+member_has [] e = refl
+member_has (d ∷ es) e = ap (λ b. b || list_any (same_edge e) es) (same_edge-sym e d) ∙ ap (λ b. same_edge d e || b) (member_has es e)
+
+differs : (d e : Edge) → Before d e → same_edge d e ≡ false
+differs d e b = go (same_edge d e) refl where
+  go : (v : Bool) → same_edge d e ≡ v → v ≡ false
+  go true h = absurd (not_before_self d (subst (λ (z : Edge). Before d z) (sym (same_edge_true d e h)) b))
+  go false h = refl
+
+distinct : (es : List Edge) → IsSorted es → IsDistinct same_edge es
+distinct es s =
+    IsDistinct-from_apart same_edge es (λ i j d l m.
+    differs (get_or es i d) (get_or es j d) (s.by_place i j (get_or es i d) (get_or es j d) l (slice_get-get_or es i d (omega (arith, l, m))) (slice_get-get_or es j d m)))
+
+pub no_more : (xs ys : List Edge) → IsSorted xs → ((e : Edge) → has xs e ≡ true → has ys e ≡ true) → length xs ≤ length ys
+no_more xs ys s h = length-le_from_is_member same_laws xs ys (distinct xs s) (λ e i. member_has ys e ∙ h e (sym (member_has xs e) ∙ i))
