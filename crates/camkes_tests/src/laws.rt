@@ -31,10 +31,15 @@ use cert_check::valid_certificates_are_sound;
 use component_graph::{acyclic_is_unheld, held_is_held, walks_are_short};
 use conn_rules::{rights_confer_just_the_authorities, sets_are_their_lists};
 use flat_laws::{ends_are_typed, flat_systems_are_within, short_files_have_few_members};
+use flow_laws::{others_change_nothing, own_acts_decide, turns_decide};
+use flow_model::{acts_are_possible, acts_lead_to_one_world, each_way_passes};
+use integrity_laws::{acts_keep_to_the_policy, less_is_valid, policies_stay_kept};
+use label_flow::chains_are_flows;
 use page_tables::{
     counts_are_of_addresses, root_is_one, runs_are_tables, shapes_are_levels, slots_rise,
     tables_are_kept, tables_hold_what_is_mapped,
 };
+use static_memory::plain_memory_is_static;
 
 #[test]
 fn laws_of_the_grammar(_rt: HostRuntime) {
@@ -127,4 +132,19 @@ fn laws_of_the_machine(_rt: HostRuntime) {
     states_keep_fitting();
     answers_are_told();
     valid_certificates_are_sound();
+}
+
+#[test]
+fn laws_of_flows(_rt: HostRuntime) {
+    acts_lead_to_one_world();
+    acts_are_possible();
+    each_way_passes();
+    others_change_nothing();
+    own_acts_decide();
+    turns_decide();
+    acts_keep_to_the_policy();
+    policies_stay_kept();
+    less_is_valid();
+    chains_are_flows();
+    plain_memory_is_static();
 }

@@ -2,9 +2,11 @@
 --
 --   fault LINE          the bytes of a fault's line, in their file
 --   graph POLICY        the graph of a policy
+--   flow POLICY FROM TO a shortest chain of its edges by which one label can come to influence another
+--   flows POLICY        for each of its labels those that can come to influence it
 --   reasons ROOT        the graph of what a source assigns, with the reason of each edge
 --   table ROOT LABEL    the tables of a domain of a compiled source
-use Rattle.std.specs.Prelude.{◌≡◌, ◌≤◌, ℕ, Bool, true, false, if◌then◌else◌, List, [], ◌∷◌, codes, length, Option, Some, None, IfSome, IfOk, Result, Ok, Err}
+use Rattle.std.specs.Prelude.{◌≡◌, ◌≤◌, ℕ, Bool, true, false, if◌then◌else◌, List, [], ◌∷◌, codes, length, Option, Some, None, IfOk, Result, Ok, Err}
 use Rattle.std.specs.FinMap as map
 use Rattle.std.specs.Str.{bytes_eq}
 use Rattle.arch_compile.specs.Compiled.{IsCompiled}
@@ -19,6 +21,10 @@ use Rattle.cam_io.specs.Whole.{IsWhole}
 use Rattle.cam_io.specs.declared.whole.WholeError.{WholeError}
 use Rattle.cam_io.specs.declared.whole.WholeError.TheVariants as whole
 use Rattle.domain_table.specs.Tables.{domain_called, tables_of}
+use Rattle.cam_base.specs.declared.error.NoMemory.{NoMemory as Want}
+use Rattle.flow_text.specs.Told.{AreLines, IsTold}
+use Rattle.flow_text.specs.declared.told.Told.{Told}
+use Rattle.flow_text.specs.declared.told.Told.TheVariants as told
 use Rattle.front_end.specs.Fronts.{IsFront}
 use Rattle.front_end.specs.declared.error.BuildError.{BuildError}
 use Rattle.front_end.specs.declared.error.BuildError.TheVariants as error
@@ -31,15 +37,15 @@ use Rattle.camkes_view.specs.Lines.{fault_line, no_line, read_fault, refusal, te
 use Rattle.camkes_view.specs.Notes.{AreNotes}
 use Rattle.camkes_view.specs.Words.{Gives}
 use Rattle.camkes_view.specs.declared.answer.Answer.{Answer}
-use Rattle.camkes_view.specs.declared.answer.Answer.TheVariants.{Shown, Refused, Usage, ReadFault, NoMemory}
+use Rattle.camkes_view.specs.declared.answer.Answer.TheVariants.{Shown, Refused, NoFlow, Usage, ReadFault, NoMemory}
 
 -- ---- of a file
 
 -- the bytes of a file, or why there are none
-pub record IsRead (contents : Option Contents) (before now : List ℕ → ℕ) (file : List ℕ) (r : Result (List ℕ) WholeError) : Type 0 where
+pub record IsRead (contents : Contents) (before now : List ℕ → ℕ) (file : List ℕ) (r : Result (List ℕ) WholeError) : Type 0 where
   pub limited : IfOk r (λ bytes. length bytes ≤ limit)
   pub rose : r ≡ Err whole.ReadFault → Rose (before file) (now file)
-  pub whole_is : IfSome contents (λ m. IsWhole (map.get m file) limit r)
+  pub whole_is : IsWhole (map.get contents file) limit r
 
 -- why there are none, by its line
 abbrev pub Hinders : List ℕ → WholeError → Answer → Type 0
@@ -53,7 +59,7 @@ abbrev pub AnswersFile : List ℕ → (List ℕ → Answer → Type 0) → Resul
 AnswersFile file says (Ok bytes) answer = says bytes answer
 AnswersFile file says (Err e) answer = Hinders file e answer
 
-abbrev pub OfFile : Option Contents → (List ℕ → ℕ) → (List ℕ → ℕ) → List ℕ → (List ℕ → Answer → Type 0) → Answer → Type 0
+abbrev pub OfFile : Contents → (List ℕ → ℕ) → (List ℕ → ℕ) → List ℕ → (List ℕ → Answer → Type 0) → Answer → Type 0
 OfFile contents before now file says answer =
     (r : Result (List ℕ) WholeError) × IsRead contents before now file r × AnswersFile file says r answer
 
@@ -64,7 +70,7 @@ IsView file range rest bytes answer =
     (if stands_in range bytes then Shown (view_of file range rest bytes) else Refused (refusal file (codes "no such place")))
     answer
 
-abbrev pub FitsFault : Option Contents → (List ℕ → ℕ) → (List ℕ → ℕ) → Option (List ℕ × ((ℕ × ℕ) × List ℕ)) → Answer → Type 0
+abbrev pub FitsFault : Contents → (List ℕ → ℕ) → (List ℕ → ℕ) → Option (List ℕ × ((ℕ × ℕ) × List ℕ)) → Answer → Type 0
 FitsFault contents before now None answer = Gives (Refused no_line) answer
 FitsFault contents before now (Some x) answer = OfFile contents before now x.0 (IsView x.0 x.1.0 x.1.1) answer
 
@@ -76,6 +82,42 @@ Draws file (Err refused.NoMemory) answer = answer ≡ NoMemory
 
 abbrev pub IsDrawn : List ℕ → List ℕ → Answer → Type 0
 IsDrawn file bytes answer = (r : Result Policy (Refusal TextFault)) × IsPolicyRead bytes r × Draws file r answer
+
+-- what flows from one label to another is shown, or why it can't be
+abbrev pub ShowsFlow : List ℕ → List ℕ → Told → Answer → Type 0
+ShowsFlow from to (told.Flows text) answer = answer ≡ Shown text
+ShowsFlow from to told.NoFlow answer = answer ≡ NoFlow
+ShowsFlow from to told.NoFrom answer = Gives (Refused (refusal from (codes "no such label"))) answer
+ShowsFlow from to told.NoTo answer = Gives (Refused (refusal to (codes "no such label"))) answer
+
+abbrev pub OfFlow : List ℕ → List ℕ → Result Told Want → Answer → Type 0
+OfFlow from to (Ok what) answer = ShowsFlow from to what answer
+OfFlow from to (Err want) answer = answer ≡ NoMemory
+
+abbrev pub AnswersFlow : Policy → List ℕ → List ℕ → Answer → Type 0
+AnswersFlow policy from to answer = (r : Result Told Want) × IfOk r (IsTold policy from to) × OfFlow from to r answer
+
+-- a line for each label is shown
+abbrev pub ShowsText : Result (List ℕ) Want → Answer → Type 0
+ShowsText (Ok text) answer = answer ≡ Shown text
+ShowsText (Err want) answer = answer ≡ NoMemory
+
+abbrev pub AnswersFlows : Policy → Answer → Type 0
+AnswersFlows policy answer =
+    (r : Result (List ℕ) Want) × IfOk r (AreLines policy.edges policy.labels policy.labels) × ShowsText r answer
+
+-- a policy is answered as is said, and its text's first fault is told
+abbrev pub OfPolicy : List ℕ → (Policy → Answer → Type 0) → Result Policy (Refusal TextFault) → Answer → Type 0
+OfPolicy file says (Ok policy) answer = says policy answer
+OfPolicy file says (Err (refused.Fault f)) answer = Gives (Refused (text_fault_line file f)) answer
+OfPolicy file says (Err refused.NoMemory) answer = answer ≡ NoMemory
+
+abbrev pub IsFlow : List ℕ → List ℕ → List ℕ → List ℕ → Answer → Type 0
+IsFlow file from to bytes answer =
+    (r : Result Policy (Refusal TextFault)) × IsPolicyRead bytes r × OfPolicy file (λ policy. AnswersFlow policy from to) r answer
+
+abbrev pub IsFlows : List ℕ → List ℕ → Answer → Type 0
+IsFlows file bytes answer = (r : Result Policy (Refusal TextFault)) × IsPolicyRead bytes r × OfPolicy file AnswersFlows r answer
 
 -- ---- of a source
 
@@ -89,6 +131,7 @@ Refuses error.NoMemory answer = answer ≡ NoMemory
 abbrev pub Explains : FrontEnd → Answer → Type 0
 Explains f (Shown text) = (notes : List (List ℕ)) × AreNotes f f.policy.edges notes × (text ≡ graph_of f.policy notes)
 Explains f (Refused text) = ⊥
+Explains f NoFlow = ⊥
 Explains f Usage = ⊥
 Explains f (ReadFault text) = ⊥
 Explains f NoMemory = Unit {0}
@@ -97,7 +140,7 @@ abbrev pub AnswersFront : Result FrontEnd BuildError → Answer → Type 0
 AnswersFront (Ok f) answer = Explains f answer
 AnswersFront (Err e) answer = Refuses e answer
 
-abbrev pub FitsReasons : Option Contents → (List ℕ → ℕ) → (List ℕ → ℕ) → List ℕ → Answer → Type 0
+abbrev pub FitsReasons : Contents → (List ℕ → ℕ) → (List ℕ → ℕ) → List ℕ → Answer → Type 0
 FitsReasons contents before now root answer =
     (r : Result FrontEnd BuildError) × IsFront root contents before now r × AnswersFront r answer
 
@@ -114,31 +157,39 @@ abbrev pub AnswersBuild : List ℕ → Result Build BuildError → Answer → Ty
 AnswersBuild label (Ok b) answer = Tabled b label (domain_called b.meaning.flat label) answer
 AnswersBuild label (Err e) answer = Refuses e answer
 
-abbrev pub FitsTable : Option Contents → (List ℕ → ℕ) → (List ℕ → ℕ) → List ℕ → List ℕ → Answer → Type 0
+abbrev pub FitsTable : Contents → (List ℕ → ℕ) → (List ℕ → ℕ) → List ℕ → List ℕ → Answer → Type 0
 FitsTable contents before now root label answer =
     (r : Result Build BuildError) × IsCompiled root contents before now r × AnswersBuild label r answer
 
 -- ---- of words
 
 -- of two words, by which command the first is
-abbrev pub FitsWord : Bool → Bool → Bool → Option Contents → (List ℕ → ℕ) → (List ℕ → ℕ) → List ℕ → Answer → Type 0
-FitsWord true is_graph is_reasons contents before now line answer = FitsFault contents before now (spot_of line) answer
-FitsWord false true is_reasons contents before now file answer = OfFile contents before now file (IsDrawn file) answer
-FitsWord false false true contents before now root answer = FitsReasons contents before now root answer
-FitsWord false false false contents before now what answer = answer ≡ Usage
+abbrev pub FitsWord : Bool → Bool → Bool → Bool → Contents → (List ℕ → ℕ) → (List ℕ → ℕ) → List ℕ → Answer → Type 0
+FitsWord true is_graph is_reasons is_flows contents before now line answer = FitsFault contents before now (spot_of line) answer
+FitsWord false true is_reasons is_flows contents before now file answer = OfFile contents before now file (IsDrawn file) answer
+FitsWord false false true is_flows contents before now root answer = FitsReasons contents before now root answer
+FitsWord false false false true contents before now file answer = OfFile contents before now file (IsFlows file) answer
+FitsWord false false false false contents before now what answer = answer ≡ Usage
 
 -- of three words, by whether the first is the command
-abbrev pub FitsWords : Bool → Option Contents → (List ℕ → ℕ) → (List ℕ → ℕ) → List ℕ → List ℕ → Answer → Type 0
+abbrev pub FitsWords : Bool → Contents → (List ℕ → ℕ) → (List ℕ → ℕ) → List ℕ → List ℕ → Answer → Type 0
 FitsWords true contents before now root label answer = FitsTable contents before now root label answer
 FitsWords false contents before now root label answer = answer ≡ Usage
 
+-- of four words, by whether the first is the command
+abbrev pub FitsFlow : Bool → Contents → (List ℕ → ℕ) → (List ℕ → ℕ) → List ℕ → List ℕ → List ℕ → Answer → Type 0
+FitsFlow true contents before now file from to answer = OfFile contents before now file (IsFlow file from to) answer
+FitsFlow false contents before now file from to answer = answer ≡ Usage
+
 -- the answer fits the words, the files, and the counts of failed reads before and now; no other words ask for anything
-abbrev pub Fits : List (List ℕ) → Option Contents → (List ℕ → ℕ) → (List ℕ → ℕ) → Answer → Type 0
+abbrev pub Fits : List (List ℕ) → Contents → (List ℕ → ℕ) → (List ℕ → ℕ) → Answer → Type 0
 Fits [] contents before now answer = answer ≡ Usage
 Fits (word ∷ []) contents before now answer = answer ≡ Usage
 Fits (word ∷ what ∷ []) contents before now answer =
-    FitsWord (bytes_eq word (codes "fault")) (bytes_eq word (codes "graph")) (bytes_eq word (codes "reasons")) contents before now
-    what answer
+    FitsWord (bytes_eq word (codes "fault")) (bytes_eq word (codes "graph")) (bytes_eq word (codes "reasons"))
+    (bytes_eq word (codes "flows")) contents before now what answer
 Fits (word ∷ root ∷ label ∷ []) contents before now answer =
     FitsWords (bytes_eq word (codes "table")) contents before now root label answer
-Fits (word ∷ root ∷ label ∷ more ∷ rest) contents before now answer = answer ≡ Usage
+Fits (word ∷ file ∷ from ∷ to ∷ []) contents before now answer =
+    FitsFlow (bytes_eq word (codes "flow")) contents before now file from to answer
+Fits (word ∷ file ∷ from ∷ to ∷ more ∷ rest) contents before now answer = answer ≡ Usage

@@ -7,7 +7,11 @@ use Rattle.cam_base.specs.declared.place.Fault.{Fault}
 use Rattle.cam_base.specs.declared.text_fault.TextFault.{TextFault}
 
 abbrev pub usage : List ℕ
-usage = codes "usage: camkes_view fault LINE | graph POLICY | reasons ROOT | table ROOT LABEL\n"
+usage =
+    codes "usage: camkes_view fault LINE | graph POLICY | reasons ROOT | table ROOT LABEL | flow POLICY FROM TO | flows POLICY\n"
+
+abbrev pub no_flow : List ℕ
+no_flow = codes "no flow\n"
 
 abbrev pub no_memory : List ℕ
 no_memory = codes "no memory\n"

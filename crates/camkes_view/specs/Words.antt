@@ -1,13 +1,14 @@
 -- What is found, and what is written of it.
 use Rattle.std.specs.Prelude.{◌≡◌, ℕ, List}
-use Rattle.camkes_view.specs.Lines.{no_memory, usage}
+use Rattle.camkes_view.specs.Lines.{no_flow, no_memory, usage}
 use Rattle.camkes_view.specs.declared.answer.Answer.{Answer}
-use Rattle.camkes_view.specs.declared.answer.Answer.TheVariants.{Shown, Refused, Usage, ReadFault, NoMemory}
+use Rattle.camkes_view.specs.declared.answer.Answer.TheVariants.{Shown, Refused, NoFlow, Usage, ReadFault, NoMemory}
 
 abbrev pub status_of : Answer → ℕ
 status_of (Shown text) = 0
 status_of (Refused text) = 1
 status_of Usage = 2
+status_of NoFlow = 3
 status_of (ReadFault text) = 4
 status_of NoMemory = 6
 
@@ -15,12 +16,14 @@ abbrev pub text_of : Answer → List ℕ
 text_of (Shown text) = text
 text_of (Refused text) = text
 text_of Usage = usage
+text_of NoFlow = no_flow
 text_of (ReadFault text) = text
 text_of NoMemory = no_memory
 
 -- what is shown stands on standard output, and all else on standard error
 abbrev pub channel_of : Answer → ℕ
 channel_of (Shown text) = 0
+channel_of NoFlow = 0
 channel_of (Refused text) = 1
 channel_of Usage = 1
 channel_of (ReadFault text) = 1
@@ -30,6 +33,7 @@ channel_of NoMemory = 1
 abbrev pub Gives : Answer → Answer → Type 0
 Gives wanted (Shown text) = wanted ≡ Shown text
 Gives wanted (Refused text) = wanted ≡ Refused text
+Gives wanted NoFlow = wanted ≡ NoFlow
 Gives wanted Usage = wanted ≡ Usage
 Gives wanted (ReadFault text) = wanted ≡ ReadFault text
 Gives wanted NoMemory = Unit {0}

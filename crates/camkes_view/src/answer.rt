@@ -13,6 +13,8 @@ pub enum Answer {
     Shown(List<u8>),
     /// What stands in the way.
     Refused(List<u8>),
+    /// Nothing flows.
+    NoFlow,
     /// The words ask for nothing.
     Usage,
     /// A read failed; the line that says so.
@@ -63,6 +65,7 @@ impl Answer {
             Answer::Shown(_) => 0,
             Answer::Refused(_) => 1,
             Answer::Usage => 2,
+            Answer::NoFlow => 3,
             Answer::ReadFault(_) => 4,
             Answer::NoMemory => 6,
         }
@@ -76,10 +79,11 @@ impl Answer {
         match self {
             Answer::Shown(text) => write_all(out, 0, text.as_slice()),
             Answer::Refused(text) | Answer::ReadFault(text) => write_all(out, 1, text.as_slice()),
+            Answer::NoFlow => write_all(out, 0, b"no flow\n"),
             Answer::Usage => write_all(
                 out,
                 1,
-                b"usage: camkes_view fault LINE | graph POLICY | reasons ROOT | table ROOT LABEL\n",
+                b"usage: camkes_view fault LINE | graph POLICY | reasons ROOT | table ROOT LABEL | flow POLICY FROM TO | flows POLICY\n",
             ),
             Answer::NoMemory => write_all(out, 1, b"no memory\n"),
         }

@@ -1,6 +1,6 @@
 //! The graph of a policy.
 
-ghost use Rattle.cam_io.specs.Reading.{KeepsFiles};
+ghost use Rattle.cam_io.specs.Reading.{InAll, KeepsFiles};
 ghost use Rattle.camkes_view.specs.Answers.{IsDrawn, OfFile};
 
 use crate::answer::Answer;
@@ -25,8 +25,8 @@ fn draw(alloc: Global, file: &str, bytes: &[u8]) -> Answer
 
 /// What is answered to the file of a policy.
 pub fn view_graph<F: Files>(alloc: Global, file: &str, files: &mut F) -> Answer
-    ensures kept { KeepsFiles F.contents F.faults files.old files.new }
-    ensures fits { OfFile (F.contents files.old) (F.faults files.old) (F.faults files.new) file.now (IsDrawn file.now) result }
+    ensures kept { KeepsFiles F.told F.faults files.old files.new }
+    ensures fits { InAll (F.told files.new) (λ m. OfFile m (F.faults files.old) (F.faults files.new) file.now (IsDrawn file.now) result) }
 {
     match read_whole(alloc, files, file, LIMIT) {
         Ok(bytes) => draw(alloc, file, bytes.as_slice()),

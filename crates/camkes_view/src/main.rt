@@ -1,4 +1,5 @@
-//! What `camkes` says, shown: a fault's bytes in their file, a policy as a graph, and the tables of a domain.
+//! What `camkes` says, shown: a fault's bytes in their file, a policy as a graph, what flows by it, and the tables of a
+//! domain.
 //!
 //! What is answered when is in `specs/Answers.antt`, what is written of it in `specs/Words.antt` and `specs/Lines.antt`.
 #![tactic(auto)]
@@ -6,6 +7,7 @@
 mod answer;
 mod decide;
 mod fault;
+mod flow;
 mod graph;
 mod lines;
 mod reasons;

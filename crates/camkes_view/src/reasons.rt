@@ -1,6 +1,6 @@
 //! The graph of what a source assigns, with the reason of each edge.
 
-ghost use Rattle.cam_io.specs.Reading.{KeepsFiles};
+ghost use Rattle.cam_io.specs.Reading.{InAll, KeepsFiles};
 ghost use Rattle.camkes_view.specs.Answers.{Explains, FitsReasons};
 ghost use Rattle.camkes_view.specs.Notes.{AreNotes, IsNote, Tells, label_at};
 ghost use Rattle.front_end.specs.Steps.{IsSound};
@@ -90,8 +90,8 @@ fn draw(alloc: Global, front: &FrontEnd) -> Answer
 
 /// What is answered to the root of a source.
 pub fn view_reasons<F: Files>(alloc: Global, root: &str, files: &mut F) -> Answer
-    ensures kept { KeepsFiles F.contents F.faults files.old files.new }
-    ensures fits { FitsReasons (F.contents files.old) (F.faults files.old) (F.faults files.new) root.now result }
+    ensures kept { KeepsFiles F.told F.faults files.old files.new }
+    ensures fits { InAll (F.told files.new) (λ m. FitsReasons m (F.faults files.old) (F.faults files.new) root.now result) }
 {
     match front(alloc, files, root) {
         Ok(front) => draw(alloc, &front),

@@ -1,6 +1,6 @@
 //! The tables of a domain of a source.
 
-ghost use Rattle.cam_io.specs.Reading.{KeepsFiles};
+ghost use Rattle.cam_io.specs.Reading.{InAll, KeepsFiles};
 ghost use Rattle.camkes_view.specs.Answers.{FitsTable, Tabled, named};
 ghost use Rattle.camkes_view.specs.Words.{Gives};
 ghost use Rattle.camkes_view.specs.declared.answer.Answer.TheVariants as answers;
@@ -47,8 +47,8 @@ fn show(alloc: Global, build: &Build, label: &str) -> Answer
 
 /// What is answered to the root of a source and the label of a domain.
 pub fn view_table<F: Files>(alloc: Global, root: &str, label: &str, files: &mut F) -> Answer
-    ensures kept { KeepsFiles F.contents F.faults files.old files.new }
-    ensures fits { FitsTable (F.contents files.old) (F.faults files.old) (F.faults files.new) root.now label.now result }
+    ensures kept { KeepsFiles F.told F.faults files.old files.new }
+    ensures fits { InAll (F.told files.new) (λ m. FitsTable m (F.faults files.old) (F.faults files.new) root.now label.now result) }
 {
     match compile(alloc, files, root) {
         Ok(build) => show(alloc, &build, label),

@@ -1,0 +1,10 @@
+pub mod Alike
+pub mod Contents
+pub mod Obeying
+pub mod OtherActs
+pub mod OtherSteps
+pub mod OwnActs
+pub mod OwnSteps
+pub mod Replying
+pub mod Separated
+pub mod Sides

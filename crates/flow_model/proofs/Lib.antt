@@ -1,0 +1,4 @@
+pub mod OneWorld
+pub mod Possible
+pub mod Reached
+pub mod StateEdges

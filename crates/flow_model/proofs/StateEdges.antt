@@ -1,0 +1,78 @@
+-- The edges that a state has by what it has where.
+use Rattle.std.proofs.Common.{◌≡◌, ℕ, ◌==◌, Bool, true, List, [], ◌∷◌, Option, Some, None, refl, sym, subst, inl, inr, arith}
+use Rattle.std.proofs.lemmas.Map.Views.{Contains-from_lookup}
+use Rattle.std.specs.List.{Contains}
+use Rattle.auth_kinds.specs.ObjectLabels.{label_of}
+use Rattle.auth_kinds.specs.declared.authority.Authority.{Authority}
+use Rattle.auth_kinds.specs.declared.authority.Authority.TheVariants.{Control}
+use Rattle.cap_machine.specs.StepTable.{Own}
+use Rattle.cap_model.proofs.Kept.{kind_is}
+use Rattle.cap_model.specs.Auth.{Auth, table_of, of_buffer, of_table, of_mapped}
+use Rattle.cap_model.specs.Confers.{confers, kind_confers}
+use Rattle.cap_model.specs.Kinds.{is_at, is_space_root, is_root_object, kind_at}
+use Rattle.cap_model.specs.Lookup.{object_at}
+use Rattle.cap_model.specs.State.{State, node_at, content_in}
+use Rattle.cap_model.specs.declared.cap.Cap.{Cap}
+use Rattle.cap_model.specs.declared.kind.Kind.{Kind}
+use Rattle.cap_model.specs.declared.object.Object.{Object}
+use Rattle.cap_model.specs.declared.object.Object.TheVariants as objects
+use Rattle.cap_model.specs.declared.spec.Spec.{Spec}
+use Rattle.cap_model.specs.declared.state.Content.{Content}
+use Rattle.cap_model.specs.declared.state.Content.TheVariants.{Capability}
+use Rattle.flow_model.specs.Access.{BySlot, ByAdded, ByBuffer, LeadsDown}
+
+-- what controls: a capability to a space root, and one to a page table with a slot
+root_controls : (spec : Spec) (cap : Cap) → is_space_root spec cap.object ≡ true → confers spec cap Control ≡ true
+root_controls spec cap is = go (object_at spec cap.object) refl where
+  go : (o : Option Object) → object_at spec cap.object ≡ o → confers spec cap Control ≡ true
+  go None here = absurd (let w : is_root_object spec.arch None ≡ true = rw here at is in cc)
+  go (Some (objects.Pages level slots)) here = rw here refl
+  go (Some _) here = absurd (let w = rw here at is in cc)
+
+-- the object has a slot of a page table
+abbrev pub HasSlot : Spec → ℕ → Type 0
+HasSlot spec p = (i : ℕ) × (cap : Cap) × Contains (table_of (object_at spec p)) (i, cap)
+
+pub table_controls : (spec : Spec) (cap : Cap) → HasSlot spec cap.object → confers spec cap Control ≡ true
+table_controls spec cap slot = go (object_at spec cap.object) refl where
+  none : (o : Option Object) → object_at spec cap.object ≡ o → Contains (table_of o) (slot.0, slot.1)
+  none o here = subst (λ (x : Option Object). Contains (table_of x) (slot.0, slot.1)) here slot.2
+
+  go : (o : Option Object) → object_at spec cap.object ≡ o → confers spec cap Control ≡ true
+  go (Some (objects.Pages level slots)) here = rw here refl
+  go None here = absurd (let w = (none None here).1 in omega arith)
+  go (Some objects.Endpoint) here = absurd (let w = (none (Some objects.Endpoint) here).1 in omega arith)
+  go (Some objects.Notification) here = absurd (let w = (none (Some objects.Notification) here).1 in omega arith)
+  go (Some (objects.CNode bits slots)) here = absurd (let w = (none (Some (objects.CNode bits slots)) here).1 in omega arith)
+  go (Some (objects.Thread tcb)) here = absurd (let w = (none (Some (objects.Thread tcb)) here).1 in omega arith)
+  go (Some (objects.Frame paddr fill)) here = absurd (let w = (none (Some (objects.Frame paddr fill)) here).1 in omega arith)
+  go (Some (objects.Irq bound)) here = absurd (let w = (none (Some (objects.Irq bound)) here).1 in omega arith)
+
+pub leads_slot : (spec : Spec) (p q : ℕ) (path : List ℕ) → LeadsDown spec p path q → HasSlot spec q → HasSlot spec p
+leads_slot spec p q [] same slot = subst (λ (n : ℕ). HasSlot spec n) (sym same) slot
+leads_slot spec p q (i ∷ path) (cap, there, rest) slot = (i, cap, there)
+
+module _ (spec : Spec) (labels : List ℕ) (s : State) where
+  pub contained : (c i : ℕ) (content : Content) → content_in s c i ≡ Some content → Contains (node_at s c).slots (i, content)
+  contained c i content there = Contains-from_lookup {eq = λ q n. n == q} (λ x y h. grind arith) i content (node_at s c).slots there
+
+  -- what a capability of a CNode confers
+  held : (c i : ℕ) (cap : Cap) (a : Authority) → content_in s c i ≡ Some (Capability cap) → confers spec cap a ≡ true → Auth spec labels s (label_of labels c) a (label_of labels cap.object)
+  held c i cap a there gives = inl (c, i, cap, contained c i (Capability cap) there, gives, refl, refl)
+
+  pub own_edge : (c i : ℕ) (kind : Kind) (cap : Cap) (a : Authority) → Own (is_at spec kind) s c i cap → kind_confers kind cap.rights a ≡ true
+      → Auth spec labels s (label_of labels c) a (label_of labels cap.object)
+  own_edge c i kind cap a own gives = held c i cap a own.there (let k : kind_at spec cap.object ≡ Some kind = kind_is spec kind cap.object own.is in rw k gives)
+
+  pub own_space_edge : (c i : ℕ) (cap : Cap) → Own (is_space_root spec) s c i cap → Auth spec labels s (label_of labels c) Control (label_of labels cap.object)
+  own_space_edge c i cap own = held c i cap Control own.there (root_controls spec cap own.is)
+
+  -- what gives access to frames
+  pub table_edge : (t f : ℕ) (a : Authority) (by : BySlot spec s t a f) → Auth spec labels s (label_of labels by.table) a (label_of labels f)
+  table_edge t f a by = subst (λ (n : ℕ). Auth spec labels s (label_of labels by.table) a (label_of labels n)) by.frame (inr (of_table (by.table, by.number, by.cap, by.there, by.gives, refl, refl)))
+
+  pub added_edge : (t f : ℕ) (a : Authority) (by : ByAdded s t a f) → Auth spec labels s (label_of labels by.root) a (label_of labels f)
+  added_edge t f a by = inr (of_mapped (record { space = by.root; frame = f; rights = by.rights }, by.there, by.gives, refl, refl))
+
+  pub buffer_edge : (t f : ℕ) (a : Authority) (by : ByBuffer spec t a f) → Auth spec labels s (label_of labels t) a (label_of labels f)
+  buffer_edge t f a by = subst (λ (n : ℕ). Auth spec labels s (label_of labels t) a (label_of labels n)) by.frame (inr (of_buffer (t, by.cap, by.buffer, by.gives, refl, refl)))

@@ -1,0 +1,5 @@
+pub mod ActsLet
+pub mod Commanding
+pub mod Lessening
+pub mod StepsLet
+pub mod Writes

@@ -1,0 +1,3 @@
+pub mod Less
+pub mod Lets
+pub mod Touched

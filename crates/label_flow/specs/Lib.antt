@@ -1,0 +1,5 @@
+pub mod Chain
+pub mod Edges
+pub mod Exits
+pub mod Search
+pub use Rattle.flow_model.specs.Flow

@@ -1,0 +1,17 @@
+//! By which edges of a policy one label can come to influence another, and which labels can: searches, nearest labels first.
+//!
+//! What flows by an edge stands in `flow_model/specs/Flow.antt`, chains of edges and what is answered in
+//! `specs/Chain.antt`. That others change nothing where the answer is none is the law of `flow_laws`.
+#![tactic(auto)]
+
+mod chain;
+mod edges;
+mod exits;
+mod laws;
+mod passing;
+mod search;
+mod sources;
+
+pub use chain::flow;
+pub use laws::chains_are_flows;
+pub use sources::{Sources, Upstream};
