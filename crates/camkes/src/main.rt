@@ -1,11 +1,11 @@
 //! The program: it hands its words, the host's files and the host's outputs to the top call, and ends with its status.
 //!
-//! Nothing here decides anything but what to say of words that can't be read: words that aren't UTF-8 are no command,
-//! want of memory is status 6, and outputs that can't hold what was written are status 5.
+//! Nothing here decides anything but what to say of words that can't be read: words that aren't UTF-8 are no command, and
+//! want of memory is status 6. `finish` answers status 5 where the outputs can't hold what was written.
 #![tactic(auto)]
 
 use cam_io::{Buffered, HostFiles, HostOutputs, write_all};
-use camkes_tool::run;
+use camkes_tool::{finish, run};
 use std::io::ErrorKind;
 use std::process::ExitCode;
 use std::{env, io};
@@ -18,11 +18,7 @@ fn main(rt: HostRuntime) -> io::Result<ExitCode> {
         Err(error) if error.kind() == ErrorKind::OutOfMemory => no_memory(&mut out),
         Err(_) => run(rt.alloc(), &[], &mut files, &mut out),
     };
-    let status = match out.flush() {
-        Ok(()) => status,
-        Err(_) => 5,
-    };
-    Ok(ExitCode::from(status))
+    Ok(ExitCode::from(finish(status, &mut out)))
 }
 
 /// The words behind the program's name.
