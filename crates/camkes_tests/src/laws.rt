@@ -25,6 +25,7 @@ use adl_settings::{
 use auth_kinds::{
     edges_are_ordered, has_is_membership, sets_are_their_members, tables_are_their_edges,
 };
+use build_flow::{builds_are_separated, checked_texts_are_separated, memory_of_builds_is_static};
 use cap_machine::{answers_are_told, states_keep_fitting, steps_follow_the_table};
 use cap_model::examples_are_written;
 use cert_check::valid_certificates_are_sound;
@@ -147,4 +148,7 @@ fn laws_of_flows(_rt: HostRuntime) {
     less_is_valid();
     chains_are_flows();
     plain_memory_is_static();
+    builds_are_separated();
+    checked_texts_are_separated();
+    memory_of_builds_is_static();
 }
