@@ -2,8 +2,9 @@
 //!
 //! `Files` tells what its files hold and how often reads of a name have failed; `Outputs` tells which channels are
 //! begun, under which names, and what each holds. `read_whole`, `write_all` and `write_parts` are the loops over them.
-//! There are files and outputs in memory, whose faults are stated beforehand, and those of the host, which tell nothing
-//! of what they read or write and are the trusted edge.
+//! There are files and outputs in memory, whose faults are stated beforehand, and those of the host: its files keep what
+//! they have answered, and tell the contents that have it; its outputs tell only which channels are begun. That a read of
+//! the host gives a file's bytes, and that a write puts them there, is trusted.
 //!
 //! Nothing here knows what a file means, and nothing that writes takes memory. The definitions that the contracts cite
 //! stand in `specs/`; the lemmas for writers in a row and for scripts stand in `proofs/Sequence.antt` and

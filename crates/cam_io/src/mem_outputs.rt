@@ -141,7 +141,8 @@ impl Outputs for MemOutputs {
         ensures err { OnErr result (mem_sink self.new ≡ mem_sink self.old) }
         ensures later { mem_faults self.old ≤ mem_faults self.new }
         ensures failed { OnErr result (Rose (mem_faults self.old) (mem_faults self.new)) }
-        ensures exactly { IsErr result ↔ (Contains (failing self.old) (next_call (calls self.old)) ⊎ (name_room < length name.now)) }
+        ensures exactly { IsErr result
+            ↔ (Contains (failing self.old) (next_call (calls self.old)) ⊎ (name_room < length name.now)) }
         ensures rooms { (k : ℕ) → rooms self.new k ≡ rooms self.old k }
         ensures calls { calls self.new ≡ next_call (calls self.old) }
         ensures failing { failing self.new ≡ failing self.old }

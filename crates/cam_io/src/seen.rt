@@ -9,12 +9,9 @@ use crate::named_file::{copy_from, read_from, same};
 use crate::{Failed, Got};
 use cam_base::{NoMemory, Text};
 use std::alloc::Global;
+use std::fs;
 use std::fs::File;
-use std::io::{ErrorKind, Read, Seek, SeekFrom};
-use std::{fs, io};
-
-/// How many bytes are asked for at once.
-const CHUNK: usize = 4096;
+use std::io::{ErrorKind, Read};
 
 /// How much of a file was seen.
 #[derive(Clone, Copy)]
@@ -29,7 +26,7 @@ pub(crate) enum Extent {
     Whole,
 }
 
-/// What the host has answered of a name, and the bytes that it gave. A file that was begun stays open.
+/// What the host has answered of a name, and the bytes that it gave. A file that was begun stays open, behind these bytes.
 #[derive(Drop)]
 pub(crate) struct Seen {
     pub(crate) name: Text,
@@ -51,14 +48,6 @@ pub(crate) fn place_of(seen: &[Seen], name: &[u8]) -> Option<usize>
         }
     }
     None
-}
-
-/// The bytes of a file from a place on, as many as one read gives.
-fn read_at(file: &mut File, at: u64, buf: &mut [u8]) -> io::Result<usize>
-    ensures { IfOk result (λ n. n ≤ length buf.old) }
-{
-    file.seek(SeekFrom::Start(at))?;
-    file.read(buf)
 }
 
 impl Seen {
@@ -103,7 +92,8 @@ impl Seen {
         requires some { 0 < length buf.old }
         requires reached { IsReached self.now.extent self.now.bytes.items at }
         ensures some { TookAtMost (length buf.new) result }
-        ensures got { (file : Option (Items ℕ)) → HasSeen self.now.extent self.now.bytes.items file → IsGot file at buf.new result }
+        ensures got { (file : Option (Items ℕ)) → HasSeen self.now.extent self.now.bytes.items file
+            → IsGot file at buf.new result }
     {
         match self.extent {
             Extent::Unasked | Extent::Absent => Got::Absent,
@@ -138,24 +128,21 @@ impl Seen {
         }
     }
 
-    /// Reads on in the file that was begun, no further than so many bytes behind a place.
-    fn read_on(&mut self, at: u64, room: usize) -> Result<(), Failed>
+    /// Reads on in the file that was begun, as much as has room in the buffer.
+    fn read_on(&mut self, buf: &mut [u8]) -> Result<(), Failed>
         requires begun { self.old.extent ≡ Extent.Begun }
-        requires behind { length self.old.bytes.items ≤ at }
-        requires some { 0 < room }
+        requires some { 0 < length buf.old }
         ensures name { self.new.name ≡ self.old.name }
         ensures grows { Grows self.old self.new }
-        ensures learns { Learns self.old self.new (at + room) }
-        ensures more { IfOk result (λ u. wanted self.new.extent (length self.new.bytes.items) at
-            < wanted self.old.extent (length self.old.bytes.items) at) }
+        ensures learns { (at : ℕ) → length self.old.bytes.items ≤ at → Learns self.old self.new (at + length buf.old) }
+        ensures more { (at : ℕ) → length self.old.bytes.items ≤ at → IfOk result (λ u.
+            wanted self.new.extent (length self.new.bytes.items) at < wanted self.old.extent (length self.old.bytes.items) at) }
     {
         let Some(file) = &mut self.file else {
             return Err(Failed);
         };
-        let seen = self.bytes.len() as u64;
-        let wanted = (at - seen).saturating_add(room as u64).min(CHUNK as u64) as usize;
-        let mut chunk = [0; CHUNK];
-        let Ok(count) = read_at(file, seen, &mut chunk[..wanted]) else {
+        let Ok(count) = file.read(buf) else {
+            self.file = None;
             return Err(Failed);
         };
         if count == 0 {
@@ -163,39 +150,42 @@ impl Seen {
             self.file = None;
             return Ok(());
         }
-        match self.bytes.extend_from_slice(&chunk[..count]) {
+        match self.bytes.extend_from_slice(&buf[..count]) {
             Ok(()) => Ok(()),
-            Err(_) => Err(Failed),
+            Err(_) => {
+                self.file = None;
+                Err(Failed)
+            }
         }
     }
 
-    /// Asks whether there is a file, or reads on in it, no further than so many bytes behind a place.
-    fn ask(&mut self, rt: &HostRuntime, name: &str, at: u64, room: usize) -> Result<(), Failed>
-        requires some { 0 < room }
+    /// Asks whether there is a file, or reads on in it, as much as has room in the buffer.
+    fn ask(&mut self, rt: &HostRuntime, name: &str, at: u64, buf: &mut [u8]) -> Result<(), Failed>
+        requires some { 0 < length buf.old }
         requires open { (self.old.extent ≡ Extent.Unasked)
             ⊎ ((self.old.extent ≡ Extent.Begun) × (length self.old.bytes.items ≤ at)) }
         ensures name { self.new.name ≡ self.old.name }
         ensures grows { Grows self.old self.new }
-        ensures learns { Learns self.old self.new (at + room) }
+        ensures learns { Learns self.old self.new (at + length buf.old) }
         ensures more { IfOk result (λ u. wanted self.new.extent (length self.new.bytes.items) at
             < wanted self.old.extent (length self.old.bytes.items) at) }
     {
         match self.extent {
             Extent::Unasked => self.open(rt, name),
-            _ => self.read_on(at, room),
+            _ => self.read_on(buf),
         }
     }
 
     /// Asks, or reads on, until what was seen answers a read at this place.
-    fn reach(&mut self, rt: &HostRuntime, name: &str, at: u64, room: usize) -> Result<(), Failed>
-        requires { 0 < room }
+    fn reach(&mut self, rt: &HostRuntime, name: &str, at: u64, buf: &mut [u8]) -> Result<(), Failed>
+        requires { 0 < length buf.old }
         ensures name { self.new.name ≡ self.old.name }
         ensures grows { Grows self.old self.new }
-        ensures learns { Learns self.old self.new (at + room) }
+        ensures learns { Learns self.old self.new (at + length buf.old) }
         ensures reached { IfOk result (λ u. IsReached self.new.extent self.new.bytes.items at) }
     {
         while !self.is_reached(at) {
-            self.ask(rt, name, at, room)?;
+            self.ask(rt, name, at, buf)?;
         }
         Ok(())
     }
@@ -216,7 +206,7 @@ impl Seen {
         ensures got { IfOk result (λ got. (file : Option (Items ℕ)) → HasSeen self.new.extent self.new.bytes.items file
             → IsGot file at buf.new got) }
     {
-        self.reach(rt, name, at, buf.len())?;
+        self.reach(rt, name, at, buf)?;
         Ok(self.answer(at, buf))
     }
 }

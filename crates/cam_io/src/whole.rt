@@ -9,7 +9,8 @@ use cam_base::{List, NoMemory};
 use std::alloc::Global;
 use thiserror::Error;
 
-const CHUNK: usize = 4096;
+/// How many bytes are asked for at once.
+const CHUNK: usize = 65536;
 
 /// Why a file wasn't read whole.
 #[derive(Clone, Copy, Debug, Error)]
@@ -52,7 +53,7 @@ impl From<Failed> for WholeError {
 
 /// How many bytes to ask for, where so many may still come: one more, to see whether the file is too long.
 fn lent_room(left: u64) -> usize
-    ensures { result ≡ min 4096 (left + 1) }
+    ensures { result ≡ min 65536 (left + 1) }
 {
     left.saturating_add(1).min(CHUNK as u64) as usize
 }

@@ -1,6 +1,6 @@
-use Rattle.std.proofs.Common.{◌≡◌, ◌≤◌, ◌∙◌, refl, sym, subst, List, length, Some, slice_set, arith}
+use Rattle.std.proofs.Common.{◌≡◌, ◌∙◌, refl, sym, subst, List, length, Some, arith}
 use Rattle.std.proofs.lemmas.Option.{slice_get_read}
-use Rattle.cam_io.specs.Seen.{Agrees, seen_of, replaced}
+use Rattle.cam_io.specs.Seen.{Agrees, seen_of}
 use Rattle.cam_io.specs.declared.seen.Seen.{Seen}
 use Rattle.cam_io.proofs.Seeing.{replaced_same, replaced_told, same_seen}
 use Rattle.cam_io.proofs.host_files.HostFilesFiles.make_room.Goals as goal
