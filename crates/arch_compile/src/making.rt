@@ -15,7 +15,7 @@ use auth_kinds::{EdgeTable, Policy};
 use cam_base::{List, NoMemory};
 use cap_model::Spec;
 use std::alloc::Global;
-use system_spec::{MapLine, System, Tables, build, map_lines};
+use system_spec::{MapLine, System, Tables, build_with_map};
 
 /// The spec of a system, its policy with the labels of objects, its certificate and its map.
 #[derive(Drop)]
@@ -49,8 +49,7 @@ pub fn made_of(alloc: Global, tables: &Tables<'_>, policy: Policy) -> Result<Mad
     ensures { IfOk result (IsMadeOf (told tables.now) policy) }
 {
     let cert = certificate(alloc, tables, &policy.edges)?;
-    let map = map_lines(alloc, tables)?;
-    let System { spec, labels } = build(alloc, tables)?;
+    let (System { spec, labels }, map) = build_with_map(alloc, tables)?;
     let policy = with_objects(alloc, policy, &spec, &labels)?;
     Ok(Made {
         spec,

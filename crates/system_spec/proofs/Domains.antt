@@ -5,7 +5,7 @@ use Rattle.std.specs.Option.{option_map_or}
 use Rattle.adl_meaning.specs.declared.flat.Domain.{Domain}
 use Rattle.cap_model.specs.declared.object.Object.{Object}
 use Rattle.cspace_layout.specs.declared.plan.SlotUse.{SlotUse}
-use Rattle.std.proofs.lemmas.List.{take_all}
+use Rattle.std.proofs.lemmas.List.{map-append, take_all}
 use Rattle.numbering.specs.Gather.{gather}
 use Rattle.numbering.proofs.Gathered.{gather_more, gather_ones, get_ones, length_append}
 use Rattle.numbering.proofs.Lists.{at_place, taken_le, length-gather}
@@ -160,5 +160,10 @@ pub first_whole : {X : Type 0} (xs : List (List X)) (i n number : ℕ) → lengt
 first_whole {X} xs i n number l e =
     e ∙ ap (λ z. length (gather (λ k (y : List X). y) z)) (take_all i (take number xs) l) ∙ sym (ap (λ (z : List X). length z) (together_gather (take number xs)))
 
-pub together_whole : {X : Type 0} (xs : List (List X)) (i : ℕ) (made : List X) → length xs ≤ i → made ≡ gather (λ k (z : List X). z) (take i xs) → made ≡ flat_map (λ z. z) xs
-together_whole {X} xs i made l e = e ∙ ap (gather (λ k (y : List X). y)) (take_all i xs l) ∙ sym (together_gather xs)
+mapped_gather : {X Y : Type 0} (f : X → Y) (xs : List (List X)) → map f (flat_map (λ x. x) xs) ≡ gather (λ k (x : List X). map f x) xs
+mapped_gather f [] = refl
+mapped_gather f (x ∷ xs) = map-append f x (flat_map (λ z. z) xs) ∙ ap (λ z. map f x ++ z) (mapped_gather f xs)
+
+-- what was made of section after section is made of them all
+pub mapped_whole : {X Y : Type 0} (f : X → Y) (xs : List (List X)) (i : ℕ) (made : List Y) → length xs ≤ i → made ≡ gather (λ k (z : List X). map f z) (take i xs) → made ≡ map f (flat_map (λ z. z) xs)
+mapped_whole {X} f xs i made l e = e ∙ ap (gather (λ k (y : List X). map f y)) (take_all i xs l) ∙ sym (mapped_gather f xs)

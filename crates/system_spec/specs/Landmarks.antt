@@ -3,12 +3,14 @@ use Rattle.std.specs.Prelude.{◌≡◌, ◌<◌, ℕ, List, [], ◌∷◌, leng
 use Rattle.std.specs.Option.{option_map_or}
 use Rattle.cap_model.specs.declared.object.Object.{Object}
 use Rattle.cap_model.specs.declared.object.Object.TheVariants.{Endpoint, Pages}
-use Rattle.numbering.specs.Gather.{gather}
+use Rattle.numbering.specs.Gather.{IsIn, gather}
 use Rattle.system_spec.specs.declared.landmarks.Landmarks.{Landmarks}
+use Rattle.system_spec.specs.declared.landmarks.Plan.{Plan}
 use Rattle.system_spec.specs.declared.landmarks.SpaceTables.{SpaceTables}
+use Rattle.system_spec.specs.declared.part.Part.{Part}
 use Rattle.system_spec.specs.declared.part.What.{What}
 use Rattle.system_spec.specs.declared.part.What.TheVariants.{CNodeOf, ThreadOf, EndpointOf, NotificationOf, LockOf, IrqOf, TableOf, FrameOf}
-use Rattle.system_spec.specs.Parts.{place, tables_at}
+use Rattle.system_spec.specs.Parts.{place, sections as all_sections, tables_at}
 use Rattle.system_spec.specs.Places.{ArePlaces}
 use Rattle.system_spec.specs.Tables.{Tables}
 
@@ -29,6 +31,10 @@ pub record AreLandmarks (t : Tables) (m : Landmarks) : Type 0 where
   pub spaces : m.spaces ≡ all_spaces t
   pub frames : m.first_frame ≡ place t (FrameOf 0)
 
+pub record IsPlan (t : Tables) (p : Plan) : Type 0 where
+  pub sections : p.sections ≡ all_sections t
+  pub marks : AreLandmarks t p.marks
+
 -- of a list of them by domain
 abbrev pub root_in : List SpaceTables → ℕ → ℕ
 root_in spaces d = option_map_or (λ s. s.first) (slice_get spaces d) 0
@@ -46,6 +52,9 @@ IsThere t (LockOf d n) = Unit {0}
 IsThere t (IrqOf k) = k < length t.flat.connections
 IsThere t (TableOf d j) = d < length t.flat.domains
 IsThere t (FrameOf f) = Unit {0}
+
+abbrev pub AreThere : Tables → List Part → Type 0
+AreThere t ps = (p : Part) → IsIn p ps → IsThere t p.what
 
 -- a page table, or the object that stands for none
 abbrev pub copied : Object → Object

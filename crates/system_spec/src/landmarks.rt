@@ -3,14 +3,14 @@
 ghost use Rattle.numbering.specs.Gather.{gather};
 ghost use Rattle.std.specs.Prelude.{◌≡◌, ◌<◌, ◌≤◌, ◌^◌, length, take, IfOk};
 ghost use Rattle.system_spec.specs.Buildable.{IsBuildable};
-ghost use Rattle.system_spec.specs.Landmarks.{AreLandmarks, all_spaces, first_locks};
+ghost use Rattle.system_spec.specs.Landmarks.{AreLandmarks, IsPlan, all_spaces, first_locks};
 ghost use Rattle.system_spec.specs.Parts.{first_of, lock, sections as all_sections, together};
 ghost use Rattle.system_spec.specs.Told.{told};
 
 use crate::Part;
 use crate::caps::lock_number;
 use crate::levels::tables_at;
-use crate::listing::first_of;
+use crate::listing::{first_of, sections};
 use crate::places::{Firsts, Places, places_of};
 use crate::tables::{Tables, uses_at};
 use cam_base::{List, NoMemory};
@@ -33,6 +33,13 @@ pub struct Landmarks {
     pub locks: List<u32>,
     pub spaces: List<SpaceTables>,
     pub first_frame: u32,
+}
+
+/// The parts of a system by section, and where the objects stand that others name.
+#[derive(Drop)]
+pub struct Plan {
+    pub sections: List<List<Part>>,
+    pub marks: Landmarks,
 }
 
 /// How many of these uses are locks.
@@ -89,7 +96,7 @@ fn all_spaces(
 }
 
 /// Where the sections of the objects of connections begin.
-pub fn firsts(sections: &[List<Part>]) -> Firsts
+fn firsts(sections: &[List<Part>]) -> Firsts
     requires few { length (together sections.now) < 2 ^ 32 }
     requires all { 8 ≤ length sections.now }
     ensures endpoint { result.endpoint ≡ length (together (take 2 sections.now)) }
@@ -104,7 +111,7 @@ pub fn firsts(sections: &[List<Part>]) -> Firsts
 }
 
 /// Where the objects of a system with these sections stand.
-pub fn landmarks_of(
+fn landmarks_of(
     alloc: Global,
     tables: &Tables<'_>,
     sections: &[List<Part>],
@@ -120,4 +127,14 @@ pub fn landmarks_of(
         spaces: all_spaces(alloc, tables, first_of(sections, 6), first_frame)?,
         first_frame,
     })
+}
+
+/// The plan of a system, of which its spec, its labels and its map are made.
+pub fn plan_of(alloc: Global, tables: &Tables<'_>) -> Result<Plan, NoMemory>
+    requires { IsBuildable (told tables.now) }
+    ensures { IfOk result (λ plan. IsPlan (told tables.now) plan) }
+{
+    let sections = sections(alloc, tables)?;
+    let marks = landmarks_of(alloc, tables, sections.as_slice())?;
+    Ok(Plan { sections, marks })
 }

@@ -7,6 +7,7 @@ ghost use Rattle.system_spec.specs.Grouped.{holders, joints, memory};
 ghost use Rattle.system_spec.specs.Parts.{cnodes, tcbs, threads_of, lock, locks, endpoint, endpoint_by, endpoints};
 ghost use Rattle.system_spec.specs.Parts.{notification, notification_by, notifications, irq, irq_by, irqs};
 ghost use Rattle.system_spec.specs.Parts.{frame_parts, numbered, sections as all_sections, together};
+ghost use Rattle.system_spec.specs.declared.series.Series.TheVariants.{Frame};
 ghost use Rattle.system_spec.specs.Told.{told};
 
 use crate::levels::{all_tables, table_parts};
@@ -210,18 +211,20 @@ fn irqs(alloc: Global, connections: &[FlatConnection]) -> Result<List<Owned>, No
 }
 
 /// The frames.
-fn frame_parts(alloc: Global, frames: &[FrameInfo]) -> Result<List<Owned>, NoMemory>
+fn frames(alloc: Global, frames: &[FrameInfo]) -> Result<List<Part>, NoMemory>
     requires { length frames.now < 2 ^ 32 }
-    ensures { IfOk result (λ items. items ≡ frame_parts frames.now) }
+    ensures { IfOk result (λ parts. parts ≡ numbered Frame (frame_parts frames.now)) }
 {
-    let mut items = List::from_vec(Vec::with_capacity(alloc, frames.len())?);
+    let mut parts = List::from_vec(Vec::with_capacity(alloc, frames.len())?);
     for (number, frame) in frames.iter().enumerate() {
-        items.push(Owned {
+        parts.push(Part {
+            series: Series::Frame,
+            number: number as u32,
             owner: frame_owner(frame.owner),
             what: What::FrameOf(number as u32),
         })?;
     }
-    Ok(items)
+    Ok(parts)
 }
 
 /// Puts the sections of CNodes and threads behind the others.
@@ -268,8 +271,7 @@ fn push_memory(
 {
     let all = all_tables(alloc, tables)?;
     sections.push(table_parts(alloc, all.as_slice())?)?;
-    let frames = frame_parts(alloc, tables.spaces.frames.as_slice())?;
-    sections.push(numbered(alloc, Series::Frame, frames.as_slice())?)
+    sections.push(frames(alloc, tables.spaces.frames.as_slice())?)
 }
 
 /// The sections of the parts of a system, in order: `specs/Parts.antt`. Takes time linear in what the tables list.
@@ -282,17 +284,6 @@ pub fn sections(alloc: Global, tables: &Tables<'_>) -> Result<List<List<Part>>, 
     push_joints(alloc, tables, &mut sections)?;
     push_memory(alloc, tables, &mut sections)?;
     Ok(sections)
-}
-
-/// The parts of sections, one section behind another.
-pub fn together(alloc: Global, sections: &[List<Part>]) -> Result<List<Part>, NoMemory>
-    ensures { IfOk result (λ list. list ≡ together sections.now) }
-{
-    let mut parts = List::new(alloc);
-    for section in sections {
-        parts.extend(section.as_slice())?;
-    }
-    Ok(parts)
 }
 
 /// Where the section of this number begins. Takes no memory.

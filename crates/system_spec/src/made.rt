@@ -1,18 +1,19 @@
-//! The spec of a system and the labels of its objects.
+//! The spec of a system, the labels of its objects, and its map.
 
-ghost use Rattle.std.specs.Prelude.{◌≡◌, map, IfOk};
+ghost use Rattle.std.specs.Prelude.{◌≡◌, ◌++◌, map, IfOk, OnOk};
 ghost use Rattle.system_spec.specs.Buildable.{IsBuildable};
-ghost use Rattle.system_spec.specs.Landmarks.{AreLandmarks, IsThere};
-ghost use Rattle.system_spec.specs.Made.{entry, labels_of, spec_of};
-ghost use Rattle.system_spec.specs.Parts.{parts as all_parts, sections as all_sections};
+ghost use Rattle.system_spec.specs.Landmarks.{AreLandmarks, AreThere, IsPlan};
+ghost use Rattle.system_spec.specs.Made.{entry, labels_of, part_label, spec_of};
+ghost use Rattle.system_spec.specs.MapLines.{map_lines};
 ghost use Rattle.system_spec.specs.Told.{told};
+ghost use Rattle.system_spec.specs.Windowed.{IsWindowed};
 
 use crate::irq_lines::irq_lines;
-use crate::labels::part_labels;
-use crate::landmarks::{Landmarks, landmarks_of};
-use crate::listing::{first_of, sections, together};
+use crate::landmarks::{Landmarks, Plan, plan_of};
+use crate::listing::first_of;
+use crate::map_listing::lines_of;
 use crate::object::object;
-use crate::{Part, Tables};
+use crate::{MapLine, Part, Tables};
 use auth_kinds::Labels;
 use cam_base::{List, NoMemory};
 use cap_model::{Entry, Spec};
@@ -25,59 +26,61 @@ pub struct System {
     pub labels: Labels,
 }
 
-fn entry(
-    alloc: Global,
-    tables: &Tables<'_>,
-    marks: &Landmarks,
-    part: Part,
-) -> Result<Entry, NoMemory>
-    requires buildable { IsBuildable (told tables.now) }
-    requires marks { AreLandmarks (told tables.now) marks.now }
-    requires there { IsThere (told tables.now) part.what }
-    ensures { IfOk result (λ made. made ≡ entry (told tables.now) part) }
-{
-    Ok(Entry {
-        name: part.series.name(alloc, part.number as u64)?,
-        object: object(alloc, tables, marks, part.what)?,
-    })
-}
-
-/// The parts' objects under their names.
-fn entries(
+/// Puts the objects of parts under their names behind the others, and their labels.
+fn push_objects(
     alloc: Global,
     tables: &Tables<'_>,
     marks: &Landmarks,
     parts: &[Part],
-) -> Result<List<Entry>, NoMemory>
+    entries: &mut List<Entry>,
+    labels: &mut List<u32>,
+) -> Result<(), NoMemory>
     requires buildable { IsBuildable (told tables.now) }
     requires marks { AreLandmarks (told tables.now) marks.now }
-    requires parts { parts.now ≡ all_parts (told tables.now) }
-    ensures { IfOk result (λ made. made ≡ map (entry (told tables.now)) (all_parts (told tables.now))) }
+    requires there { AreThere (told tables.now) parts.now }
+    ensures entries { OnOk result (entries.new ≡ entries.old ++ map (entry (told tables.now)) parts.now) }
+    ensures labels { OnOk result (labels.new ≡ labels.old ++ map (part_label (told tables.now)) parts.now) }
 {
-    let mut entries = List::from_vec(Vec::with_capacity(alloc, parts.len())?);
     for part in parts {
-        entries.push(entry(alloc, tables, marks, *part)?)?;
+        entries.push(Entry {
+            name: part.series.name(alloc, part.number as u64)?,
+            object: object(alloc, tables, marks, part.what)?,
+        })?;
+        labels.push(tables.numbers.of(part.owner))?;
     }
-    Ok(entries)
+    Ok(())
 }
 
-/// The spec of a system with these sections, which has these parts.
-fn spec(
-    alloc: Global,
-    tables: &Tables<'_>,
-    sections: &[List<Part>],
-    parts: &[Part],
-) -> Result<Spec, NoMemory>
+/// The spec of a system with this plan, and the labels of its objects.
+fn system_of(alloc: Global, tables: &Tables<'_>, plan: &Plan) -> Result<System, NoMemory>
     requires buildable { IsBuildable (told tables.now) }
-    requires sections { sections.now ≡ all_sections (told tables.now) }
-    requires parts { parts.now ≡ all_parts (told tables.now) }
-    ensures { IfOk result (λ spec. spec ≡ spec_of (told tables.now)) }
+    requires plan { IsPlan (told tables.now) plan.now }
+    ensures spec { IfOk result (λ system. system.spec ≡ spec_of (told tables.now)) }
+    ensures labels { IfOk result (λ system. system.labels ≡ labels_of (told tables.now)) }
 {
-    let marks = landmarks_of(alloc, tables, sections)?;
-    Ok(Spec {
-        arch: tables.images.arch(),
-        entries: entries(alloc, tables, &marks, parts)?,
-        irqs: irq_lines(alloc, tables, first_of(sections, 5))?,
+    let sections = plan.sections.as_slice();
+    let count = first_of(sections, sections.len()) as usize;
+    let mut entries = List::from_vec(Vec::with_capacity(alloc, count)?);
+    let mut by_object = List::from_vec(Vec::with_capacity(alloc, count)?);
+    for section in sections {
+        let parts = section.as_slice();
+        push_objects(
+            alloc,
+            tables,
+            &plan.marks,
+            parts,
+            &mut entries,
+            &mut by_object,
+        )?;
+    }
+    let irqs = irq_lines(alloc, tables, first_of(sections, 5))?;
+    Ok(System {
+        spec: Spec {
+            arch: tables.images.arch(),
+            entries,
+            irqs,
+        },
+        labels: Labels { by_object },
     })
 }
 
@@ -92,12 +95,42 @@ pub fn build(alloc: Global, tables: &Tables<'_>) -> Result<System, NoMemory>
     ensures spec { IfOk result (λ system. system.spec ≡ spec_of (told tables.now)) }
     ensures labels { IfOk result (λ system. system.labels ≡ labels_of (told tables.now)) }
 {
-    let sections = sections(alloc, tables)?;
-    let parts = together(alloc, sections.as_slice())?;
-    let spec = spec(alloc, tables, sections.as_slice(), parts.as_slice())?;
-    let by_object = part_labels(alloc, tables, parts.as_slice())?;
-    Ok(System {
-        spec,
-        labels: Labels { by_object },
-    })
+    let plan = plan_of(alloc, tables)?;
+    system_of(alloc, tables, &plan)
+}
+
+/// The lines of the map: `specs/MapLines.antt`. Takes time linear in what the tables list.
+///
+/// # Errors
+///
+/// Want of memory.
+pub fn map_lines(alloc: Global, tables: &Tables<'_>) -> Result<List<MapLine>, NoMemory>
+    requires buildable { IsBuildable (told tables.now) }
+    requires windows { IsWindowed (told tables.now) }
+    ensures { IfOk result (λ lines. lines ≡ map_lines (told tables.now)) }
+{
+    let plan = plan_of(alloc, tables)?;
+    lines_of(alloc, tables, &plan)
+}
+
+/// What `build` and `map_lines` answer, both of one plan.
+///
+/// # Errors
+///
+/// Want of memory.
+pub fn build_with_map(
+    alloc: Global,
+    tables: &Tables<'_>,
+) -> Result<(System, List<MapLine>), NoMemory>
+    requires buildable { IsBuildable (told tables.now) }
+    requires windows { IsWindowed (told tables.now) }
+    ensures spec { IfOk result (λ made. made.0.spec ≡ spec_of (told tables.now)) }
+    ensures labels { IfOk result (λ made. made.0.labels ≡ labels_of (told tables.now)) }
+    ensures lines { IfOk result (λ made. made.1 ≡ map_lines (told tables.now)) }
+{
+    let plan = plan_of(alloc, tables)?;
+    Ok((
+        system_of(alloc, tables, &plan)?,
+        lines_of(alloc, tables, &plan)?,
+    ))
 }

@@ -4,6 +4,7 @@ ghost use Rattle.numbering.specs.Gather.{gather};
 ghost use Rattle.std.specs.Prelude.{◌≡◌, ◌+◌, ◌<◌, ◌^◌, ◌++◌, ◌∷◌, [], length, IfOk, OnOk};
 ghost use Rattle.system_spec.specs.Buildable.{IsBuildable};
 ghost use Rattle.system_spec.specs.Few.{AreFew};
+ghost use Rattle.system_spec.specs.Landmarks.{IsPlan};
 ghost use Rattle.system_spec.specs.MapLines.{domain_lines, domain_slots, map_lines, slot_line, slot_lines, thread_lines, thread_lines_from, window_line, window_lines};
 ghost use Rattle.system_spec.specs.Parts.{first_of, lock, place};
 ghost use Rattle.system_spec.specs.Places.{ArePlaces};
@@ -14,9 +15,9 @@ ghost use Rattle.system_spec.specs.Told.{told};
 
 use crate::MapLine;
 use crate::caps::{lock_number, use_cap};
-use crate::landmarks::firsts;
-use crate::listing::{first_of, sections};
-use crate::places::{Places, places_of};
+use crate::landmarks::Plan;
+use crate::listing::first_of;
+use crate::places::Places;
 use crate::tables::{Tables, threads_at, uses_at, windows_at};
 use cam_base::{List, NoMemory};
 use cspace_layout::SlotUse;
@@ -165,45 +166,23 @@ fn push_windows(tables: &Tables<'_>, lines: &mut List<MapLine>) -> Result<(), No
     Ok(())
 }
 
-/// The lines of the map, where the objects of connections stand at these places, and the first thread and the first lock at
-/// these.
-fn lines_at(
-    alloc: Global,
-    tables: &Tables<'_>,
-    places: &Places,
-    first_thread: u32,
-    first_lock: u32,
-) -> Result<List<MapLine>, NoMemory>
+/// The lines of the map of a system with this plan.
+pub fn lines_of(alloc: Global, tables: &Tables<'_>, plan: &Plan) -> Result<List<MapLine>, NoMemory>
     requires buildable { IsBuildable (told tables.now) }
     requires windows { IsWindowed (told tables.now) }
-    requires places { ArePlaces (told tables.now) places.now }
-    requires thread { first_thread ≡ first_of (told tables.now) 1 }
-    requires first_lock { first_lock ≡ first_of (told tables.now) 4 }
+    requires plan { IsPlan (told tables.now) plan.now }
     ensures { IfOk result (λ lines. lines ≡ map_lines (told tables.now)) }
 {
+    let sections = plan.sections.as_slice();
     let mut lines = List::new(alloc);
     push_domains(tables, &mut lines)?;
-    push_threads(tables, first_thread, &mut lines)?;
-    push_slots(tables, places, first_lock, &mut lines)?;
+    push_threads(tables, first_of(sections, 1), &mut lines)?;
+    push_slots(
+        tables,
+        &plan.marks.connections,
+        first_of(sections, 4),
+        &mut lines,
+    )?;
     push_windows(tables, &mut lines)?;
     Ok(lines)
-}
-
-/// The lines of the map: `specs/MapLines.antt`. Takes time linear in what the tables list.
-///
-/// # Errors
-///
-/// Want of memory.
-pub fn map_lines(alloc: Global, tables: &Tables<'_>) -> Result<List<MapLine>, NoMemory>
-    requires buildable { IsBuildable (told tables.now) }
-    requires windows { IsWindowed (told tables.now) }
-    ensures { IfOk result (λ lines. lines ≡ map_lines (told tables.now)) }
-{
-    let list = sections(alloc, tables)?;
-    let sections = list.as_slice();
-    let joints = firsts(sections);
-    let places = places_of(alloc, tables, joints)?;
-    let first_thread = first_of(sections, 1);
-    let first_lock = first_of(sections, 4);
-    lines_at(alloc, tables, &places, first_thread, first_lock)
 }

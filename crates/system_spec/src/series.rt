@@ -2,9 +2,10 @@ ghost use Rattle.cam_base.specs.Names.{is_name};
 ghost use Rattle.std.specs.Prelude.{◌≡◌, ◌≤◌, true, length, IfOk};
 ghost use Rattle.system_spec.specs.Names.{level_series, name_of, prefix};
 
-use cam_base::{List, Name, NoMemory};
+use cam_base::{Name, NoMemory};
 use cap_model::Level;
 use itoa::Buffer;
+use smallvec::SmallVec;
 use std::alloc::Global;
 
 /// A series of objects that are named alike, each by its number.
@@ -62,9 +63,9 @@ impl Series {
     pub fn name(self, alloc: Global, number: u64) -> Result<Name, NoMemory>
         ensures { IfOk result (λ name. name ≡ name_of self number) }
     {
-        let mut buffer = Buffer::new();
-        let mut bytes = List::from_slice(alloc, self.prefix())?;
-        bytes.extend(buffer.format(number).as_bytes())?;
+        let mut digits = Buffer::new();
+        let mut bytes: SmallVec<u8, 26> = SmallVec::from_slice(alloc, self.prefix())?;
+        bytes.extend_from_slice(digits.format(number).as_bytes())?;
         Name::of_identifier(alloc, bytes.as_slice())
     }
 }

@@ -1,17 +1,18 @@
 -- Spaces and frames, put together
-use Rattle.std.proofs.Common.{◌≡◌, ◌<◌, ◌≤◌, ◌+◌, ◌^◌, ◌∙◌, ℕ, List, [], ◌∷◌, Option, Some, length, get_or, sym, ap, subst, arith}
+use Rattle.std.proofs.Common.{◌≡◌, ◌<◌, ◌≤◌, ◌+◌, ◌^◌, ◌∙◌, ℕ, List, [], ◌∷◌, Option, Some, length, get_or, refl, sym, ap, subst, arith}
 use Rattle.std.specs.Prelude.{sum}
 use Rattle.std.specs.List.{slice_get}
 use Rattle.std.specs.Option.{option_map_or}
+use Rattle.std.proofs.lemmas.List.{length-map}
 use Rattle.std.proofs.lemmas.Option.{get_or_from_slice_get}
 use Rattle.adl_meaning.specs.declared.flat.Domain.{Domain}
 use Rattle.adl_meaning.specs.declared.flat.Flat.{Flat}
 use Rattle.adl_meaning.specs.declared.settled.Settled.{Settled}
-use Rattle.leaf_ends.specs.declared.end_at.EndAt.{EndAt}
 use Rattle.numbering.specs.Gather.{IsIn, before, gather}
 use Rattle.numbering.proofs.Gathered.{gather_ones, gather_same, get_ones, place_of}
-use Rattle.numbering.proofs.Lists.{at_place, below}
+use Rattle.numbering.proofs.Lists.{at_place, below, from_map}
 use Rattle.vspace_layout.specs.declared.mapped.MappedPage.{MappedPage}
+use Rattle.vspace_layout.specs.declared.outline.Outline.{Outline}
 use Rattle.vspace_layout.specs.declared.spaces.FrameInfo.{FrameInfo}
 use Rattle.vspace_layout.specs.declared.spaces.Page.{Page}
 use Rattle.vspace_layout.specs.declared.spaces.Space.{Space}
@@ -20,8 +21,9 @@ use Rattle.vspace_layout.specs.CanLay.{CanLay}
 use Rattle.vspace_layout.specs.Counted.{capped}
 use Rattle.vspace_layout.specs.FrameNumbers.{all_numbered, all_own, memory_firsts, own_added, pages_numbered}
 use Rattle.vspace_layout.specs.Given.{Given, ends}
-use Rattle.vspace_layout.specs.Outlines.{AreFew, outline, regions_at, space_at, space_in, spaces_with}
+use Rattle.vspace_layout.specs.Outlines.{AreFew, AreOutlined, outline, outlines, regions_at, space_at, space_in, spaces_with}
 use Rattle.vspace_layout.specs.PageLimits.{page_counts}
+use Rattle.vspace_layout.specs.Regions.{regions_in}
 use Rattle.vspace_layout.proofs.Few.{few_at}
 
 abbrev pub both : List Space → List FrameInfo → Spaces
@@ -38,12 +40,12 @@ numbered_here firsts mapped d l =
     ∙ ap (λ n. pages_numbered d firsts n p.0) none
     ∙ ap (λ (z : List MappedPage). pages_numbered d firsts (before own_added mapped d) z) (sym (get_or_from_slice_get mapped d p.0 [] p.1))
 
-pub spaces_same : (flat : Flat) (settled : Settled) (es : List (List EndAt)) (base : ℕ) (mapped : List (List MappedPage)) → length mapped ≡ length flat.domains
-    → spaces_with flat settled es base (all_numbered (memory_firsts (all_own mapped) flat settled) 0 mapped) ≡ gather (λ d (x : Domain). space_at flat settled es base mapped d x ∷ []) flat.domains
-spaces_same flat settled es base mapped many =
+pub spaces_same : (flat : Flat) (settled : Settled) (base : ℕ) (os : List Outline) (mapped : List (List MappedPage)) → length mapped ≡ length os
+    → spaces_with flat settled base os (all_numbered (memory_firsts (all_own mapped) flat settled) 0 mapped) ≡ gather (λ d (o : Outline). space_at flat settled base mapped d o ∷ []) os
+spaces_same flat settled base os mapped many =
     let firsts = memory_firsts (all_own mapped) flat settled in
-    gather_same (λ d (x : Domain). space_in flat settled base (outline flat settled es x.leaves) (get_or (all_numbered firsts 0 mapped) d []) ∷ []) (λ d (x : Domain). space_at flat settled es base mapped d x ∷ []) flat.domains
-    (λ d x e. let l = below flat.domains d x e in ap (λ (z : List Page). space_in flat settled base (outline flat settled es x.leaves) z ∷ []) (numbered_here firsts mapped d (omega (arith, many, l))))
+    gather_same (λ d (o : Outline). space_in flat settled base o (get_or (all_numbered firsts 0 mapped) d []) ∷ []) (λ d (o : Outline). space_at flat settled base mapped d o ∷ []) os
+    (λ d o e. let l = below os d o e in ap (λ (z : List Page). space_in flat settled base o z ∷ []) (numbered_here firsts mapped d (omega (arith, many, l))))
 
 pub capped_own : (n m : ℕ) → n + m < 2 ^ 64 → capped n ≡ n
 capped_own n m l = omega arith
@@ -53,3 +55,13 @@ pub few_in : (t : Given) → CanLay t → sum (page_counts t) ≤ 65536 → (x :
 few_in t can few x i =
     let d : (n : ℕ) × (slice_get t.flat.domains n ≡ Some x) = place_of x t.flat.domains i in
     subst (λ (ls : List ℕ). AreFew (regions_at t.flat t.settled (ends t) ls)) (ap (λ (o : Option Domain). option_map_or (λ y. y.leaves) o []) d.1) (few_at t can few d.0 x d.1)
+
+-- the outlines of a system whose pages are few
+pub outlined : (t : Given) → CanLay t → sum (page_counts t) ≤ 65536 → AreOutlined t.flat t.settled (outlines t.flat t.settled (ends t))
+outlined t can few =
+    let of : Domain → Outline = λ x. outline t.flat t.settled (ends t) x.leaves in
+    record {
+      each = length-map t.flat.domains of;
+      few = λ o i. let m = from_map of o t.flat.domains i in subst (λ (z : Outline). AreFew z.regions) m.2 (few_in t can few m.0 m.1);
+      regions = λ o i. let m = from_map of o t.flat.domains i in subst (λ (z : Outline). z.regions ≡ regions_in t.flat t.settled z.threads z.windows) m.2 refl;
+    }

@@ -1,24 +1,30 @@
 -- What is counted and listed domain by domain is what the definitions say of all
-use Rattle.std.proofs.Common.{◌≡◌, ℕ, zero, suc, cond, List, [], ◌∷◌, ◌++◌, length, map, take, Option, Some, refl, sym, ◌∙◌, ap, arith}
+use Rattle.std.proofs.Common.{◌≡◌, ℕ, ◌+◌, zero, suc, cond, get_or, List, [], ◌∷◌, ◌++◌, length, map, take, Option, Some, refl, sym, ◌∙◌, ap, arith}
 use Rattle.std.specs.Prelude.{sum}
 use Rattle.std.specs.List.{count_by, slice_get}
 use Rattle.std.specs.Option.{option_map_or}
 use Rattle.std.proofs.lemmas.List.Sums.{sum_by-cons}
+use Rattle.std.proofs.lemmas.Option.{get_or_from_slice_get}
 use Rattle.std.proofs.lemmas.Simd.{map-map}
 use Rattle.adl_meaning.specs.declared.flat.Domain.{Domain}
 use Rattle.numbering.specs.Gather.{before, gather}
 use Rattle.numbering.proofs.Gathered.{gather_map, gather_same, length_append}
+use Rattle.numbering.proofs.Lists.{get_map}
+use Rattle.program_sections.specs.ByAddress.{section_page_count}
 use Rattle.vspace_layout.specs.declared.mapped.MappedPage.{MappedPage}
 use Rattle.vspace_layout.specs.declared.mapped.Shown.{Shown}
 use Rattle.vspace_layout.specs.declared.mapped.Shown.TheVariants.{Own, Memory}
+use Rattle.vspace_layout.specs.declared.outline.Outline.{Outline}
 use Rattle.vspace_layout.specs.declared.spaces.FrameInfo.{FrameInfo}
 use Rattle.vspace_layout.specs.Counted.{tables_of}
 use Rattle.vspace_layout.specs.FrameNumbers.{all_own, is_own, is_own_frame, own_added}
 use Rattle.vspace_layout.specs.Frames.{own_frame, own_frames, own_part}
 use Rattle.vspace_layout.specs.Given.{Given, arch, ends}
 use Rattle.vspace_layout.specs.MappedPages.{mapped_pages}
-use Rattle.vspace_layout.specs.Outlines.{all_counted, all_mapped, domain_counted, domain_mapped, regions_at}
+use Rattle.vspace_layout.specs.Outlines.{all_counted, all_mapped, counted_by, domain_counted, domain_mapped}
+use Rattle.vspace_layout.specs.Outlines.{mapped_by, mapped_of, no_outline, outline, outlines, regions_at}
 use Rattle.vspace_layout.specs.PageLimits.{page_counts, table_counts, tables_needed}
+use Rattle.vspace_layout.specs.Regions.{pages_in}
 use Rattle.vspace_layout.proofs.Counting.{counted}
 
 abbrev pub here : Given → List ℕ → List MappedPage
@@ -50,6 +56,28 @@ tables_counted t =
     ∙ gather_map (λ (x : Domain). tables_of (arch t) (here t x.leaves)) t.flat.domains
     ∙ sym (map-map (tables_of (arch t)) (λ (x : Domain). here t x.leaves) t.flat.domains)
     )
+
+-- ---- where the outline of each domain is given
+
+apart : (f : Domain → ℕ) (g : Outline → ℕ) (h : Domain → Outline) (ds : List Domain) → sum (map f ds) + sum (map g (map h ds)) ≡ sum (map (λ d. f d + g (h d)) ds)
+apart f g h [] = refl
+apart f g h (d ∷ ds) =
+    let ih = apart f g h ds in
+    let a = sum_by-cons (λ (n : ℕ). n) (f d) (map f ds) in
+    let b = sum_by-cons (λ (n : ℕ). n) (g (h d)) (map g (map h ds)) in
+    let e = sum_by-cons (λ (n : ℕ). n) (f d + g (h d)) (map (λ x. f x + g (h x)) ds) in
+    omega (arith, ih, a, b, e)
+
+pub counted_same : (t : Given) → counted_by t.flat t.images (outlines t.flat t.settled (ends t)) ≡ sum (page_counts t)
+counted_same t =
+    apart (λ x. section_page_count t.images x.leaves) (λ o. pages_in o.regions) (λ x. outline t.flat t.settled (ends t) x.leaves) t.flat.domains ∙ sym (pages_counted t)
+
+pub mapped_same : (t : Given) → mapped_by t.flat t.settled t.images (outlines t.flat t.settled (ends t)) ≡ all_mapped t.flat t.settled (ends t) t.images
+mapped_same t =
+    let of : Domain → Outline = λ x. outline t.flat t.settled (ends t) x.leaves in
+    gather_same (λ n (x : Domain). mapped_of t.settled t.images x.leaves (get_or (map of t.flat.domains) n no_outline).regions ∷ []) (λ n (x : Domain). here t x.leaves ∷ []) t.flat.domains
+    (λ n x e. ap (λ (o : Outline). mapped_of t.settled t.images x.leaves o.regions ∷ []) (get_or_from_slice_get (map of t.flat.domains) n (of x) no_outline (get_map of t.flat.domains n x e)))
+    ∙ gather_map (λ (x : Domain). here t x.leaves) t.flat.domains
 
 -- ---- frames
 

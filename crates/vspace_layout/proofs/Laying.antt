@@ -14,6 +14,7 @@ use Rattle.numbering.proofs.Lists.{at_place, below, get_map}
 use Rattle.vspace_layout.specs.declared.mapped.MappedPage.{MappedPage}
 use Rattle.vspace_layout.specs.declared.mapped.Shown.{Shown}
 use Rattle.vspace_layout.specs.declared.mapped.Shown.TheVariants.{Own, Memory}
+use Rattle.vspace_layout.specs.declared.outline.Outline.{Outline}
 use Rattle.vspace_layout.specs.declared.region.Region.{Region}
 use Rattle.vspace_layout.specs.declared.spaces.Page.{Page}
 use Rattle.vspace_layout.specs.declared.spaces.Space.{Space}
@@ -25,9 +26,9 @@ use Rattle.vspace_layout.specs.Frames.{memory_first, memory_part, number_shown, 
 use Rattle.vspace_layout.specs.Given.{Given, base, ends, leaves_of}
 use Rattle.vspace_layout.specs.Laid.{page, space, spaces_of, thread_place, window_at}
 use Rattle.vspace_layout.specs.MappedPages.{mapped_pages}
-use Rattle.vspace_layout.specs.Outlines.{all_mapped, domain_mapped, outline, pages_at, space_at, space_in, spaces_in, start_at, starts_in, thread_at, thread_places, window_place, window_places}
+use Rattle.vspace_layout.specs.Outlines.{all_mapped, domain_mapped, outline, outlines, pages_at, space_at, space_in, spaces_in, start_at, starts_in, thread_at, thread_places, window_place, window_places}
 use Rattle.vspace_layout.specs.Regions.{region_start, regions, regions_in, stack_pages, start, thread_regions, threads_of, window_pages, window_region, windows_of}
-use Rattle.vspace_layout.proofs.Joining.{own_before, own_gathered, own_number_of}
+use Rattle.vspace_layout.proofs.Joining.{gather_mapped, own_before, own_gathered, own_number_of}
 use Rattle.vspace_layout.proofs.Joined.{both}
 
 -- ---- lists
@@ -127,7 +128,7 @@ abbrev made : List Page → List ThreadPlace → List Window → Space
 made pages threads windows = record { pages = pages; threads = threads; windows = windows }
 
 space_same : (t : Given) (d : ℕ) (x : Domain) → slice_get t.flat.domains d ≡ Some x
-    → space_at t.flat t.settled (ends t) (base t) (all_mapped t.flat t.settled (ends t) t.images) d x ≡ space t d x
+    → space_at t.flat t.settled (base t) (all_mapped t.flat t.settled (ends t) t.images) d (outline t.flat t.settled (ends t) x.leaves) ≡ space t d x
 space_same t d x e =
     let pages = pages_at t.flat t.settled (all_mapped t.flat t.settled (ends t) t.images) d in
     let leaves : x.leaves ≡ leaves_of t.flat d = sym (ap (λ (o : Option Domain). option_map_or (λ y. y.leaves) o []) e) in
@@ -137,9 +138,11 @@ space_same t d x e =
     ∙ ap (λ ws. made (gather (λ n p. page t d n p ∷ []) (mapped_pages t d)) (gather (λ i y. thread_place t d i y ∷ []) (threads_of t d)) ws) (windows_same t d)
 
 -- what is laid domain by domain is what the definition says
-pub laid : (t : Given) → spaces_in t.flat t.settled (ends t) (base t) (all_mapped t.flat t.settled (ends t) t.images) ≡ spaces_of t
+pub laid : (t : Given) → spaces_in t.flat t.settled (base t) (outlines t.flat t.settled (ends t)) (all_mapped t.flat t.settled (ends t) t.images) ≡ spaces_of t
 laid t =
     let mapped = all_mapped t.flat t.settled (ends t) t.images in
+    let of : Domain → Outline = λ x. outline t.flat t.settled (ends t) x.leaves in
     ap (λ ss. both ss (gather own_added mapped ++ memory_part t.flat t.settled))
-    (gather_same (λ d (x : Domain). space_at t.flat t.settled (ends t) (base t) mapped d x ∷ []) (λ d (x : Domain). space t d x ∷ []) t.flat.domains (λ k x e. ap (λ s. s ∷ []) (space_same t k x e)))
+    (gather_mapped (λ d (o : Outline). space_at t.flat t.settled (base t) mapped d o ∷ []) of t.flat.domains
+    ∙ gather_same (λ d (x : Domain). space_at t.flat t.settled (base t) mapped d (of x) ∷ []) (λ d (x : Domain). space t d x ∷ []) t.flat.domains (λ k x e. ap (λ s. s ∷ []) (space_same t k x e)))
     ∙ ap (λ fs. both (gather (λ d (x : Domain). space t d x ∷ []) t.flat.domains) (fs ++ memory_part t.flat t.settled)) (own_gathered t)

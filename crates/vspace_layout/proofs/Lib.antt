@@ -4,6 +4,7 @@ pub mod Few
 pub mod Fitting
 pub mod Joining
 pub mod Laying
+pub mod Low
 pub mod Limits
 pub mod Rising
 pub mod Sections

@@ -128,7 +128,7 @@ mapped_twice {X} {Y} {Z} g f h e (x ∷ xs) = ap (λ z. z ∷ map g (map f xs)) 
 abbrev region_blocks : (ℕ → ℕ) → List Region → List Block
 region_blocks f rs = gather (λ n r. block (f n) r.pages ∷ []) rs
 
-region_at : (settled : Settled) (c : Content) (at j : ℕ) → at_of (region_page settled c at j) ≡ at
+pub region_at : (settled : Settled) (c : Content) (at j : ℕ) → at_of (region_page settled c at j) ≡ at
 region_at settled Stack at j = refl
 region_at settled Buffer at j = refl
 region_at settled (Window e) at j = refl

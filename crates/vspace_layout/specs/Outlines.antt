@@ -31,6 +31,13 @@ outline flat settled ends leaves = record {
   regions = regions_in flat settled (domain_threads flat ends leaves) (domain_windows flat ends leaves);
 }
 
+-- of each domain
+abbrev pub outlines : Flat → Settled → List (List EndAt) → List Outline
+outlines flat settled ends = map (λ d. outline flat settled ends d.leaves) flat.domains
+
+abbrev pub no_outline : Outline
+no_outline = record { threads = []; windows = []; regions = [] }
+
 abbrev pub regions_at : Flat → Settled → List (List EndAt) → List ℕ → List Region
 regions_at flat settled ends leaves = (outline flat settled ends leaves).regions
 
@@ -49,6 +56,10 @@ domain_mapped flat settled ends images leaves = mapped_of settled images leaves 
 abbrev pub all_mapped : Flat → Settled → List (List EndAt) → Images → List (List MappedPage)
 all_mapped flat settled ends images = map (λ d. domain_mapped flat settled ends images d.leaves) flat.domains
 
+-- the same, where the outline of each domain is given
+abbrev pub mapped_by : Flat → Settled → Images → List Outline → List (List MappedPage)
+mapped_by flat settled images os = gather (λ n d. mapped_of settled images d.leaves (slice_index_or os n no_outline).regions ∷ []) flat.domains
+
 -- ---- how many there are
 
 abbrev pub page_count_of : Images → List ℕ → List Region → ℕ
@@ -60,12 +71,19 @@ domain_counted flat settled ends images leaves = page_count_of images leaves (re
 abbrev pub all_counted : Flat → Settled → List (List EndAt) → Images → ℕ
 all_counted flat settled ends images = sum (map (λ d. domain_counted flat settled ends images d.leaves) flat.domains)
 
+-- the same, where the outline of each domain is given: the pages of all sections and of all regions
+abbrev pub counted_by : Flat → Images → List Outline → ℕ
+counted_by flat images os = sum (map (λ d. section_page_count images d.leaves) flat.domains) + sum (map (λ o. pages_in o.regions) os)
+
 -- regions and their pages are few enough for addresses of 64 bits
 abbrev pub AreFew : List Region → Type 0
 AreFew rs = length rs + pages_in rs ≤ 2 ^ 18
 
-abbrev pub AreAllFew : Flat → Settled → List (List EndAt) → Type 0
-AreAllFew flat settled ends = (domain : Domain) → IsIn domain flat.domains → AreFew (regions_at flat settled ends domain.leaves)
+-- an outline for each domain, with few regions, which are those of its threads and windows
+pub record AreOutlined (flat : Flat) (settled : Settled) (os : List Outline) : Type 0 where
+  pub each : length os ≡ length flat.domains
+  pub few : (o : Outline) → IsIn o os → AreFew o.regions
+  pub regions : (o : Outline) → IsIn o os → o.regions ≡ regions_in flat settled o.threads o.windows
 
 -- the sections of each domain are sound and apart
 abbrev pub AreAllApart : Flat → Images → Type 0
@@ -112,18 +130,17 @@ space_in flat settled base o pages = record {
 abbrev pub pages_at : Flat → Settled → List (List MappedPage) → ℕ → List Page
 pages_at flat settled mapped d = pages_numbered d (memory_firsts (all_own mapped) flat settled) (before own_added mapped d) (slice_index_or mapped d [])
 
-abbrev pub space_at : Flat → Settled → List (List EndAt) → ℕ → List (List MappedPage) → ℕ → Domain → Space
-space_at flat settled ends base mapped d x = space_in flat settled base (outline flat settled ends x.leaves) (pages_at flat settled mapped d)
+abbrev pub space_at : Flat → Settled → ℕ → List (List MappedPage) → ℕ → Outline → Space
+space_at flat settled base mapped d o = space_in flat settled base o (pages_at flat settled mapped d)
 
--- the spaces of all domains, where the pages of each with their frames are given
-abbrev pub spaces_with : Flat → Settled → List (List EndAt) → ℕ → List (List Page) → List Space
-spaces_with flat settled ends base all =
-    gather (λ d x. space_in flat settled base (outline flat settled ends x.leaves) (slice_index_or all d []) ∷ []) flat.domains
+-- the spaces of all domains, where the outline of each is given, and its pages with their frames
+abbrev pub spaces_with : Flat → Settled → ℕ → List Outline → List (List Page) → List Space
+spaces_with flat settled base os all = gather (λ d o. space_in flat settled base o (slice_index_or all d []) ∷ []) os
 
--- the spaces of all domains, and all frames, where the pages of each domain are given
-abbrev pub spaces_in : Flat → Settled → List (List EndAt) → ℕ → List (List MappedPage) → Spaces
-spaces_in flat settled ends base mapped = record {
-  spaces = gather (λ d x. space_at flat settled ends base mapped d x ∷ []) flat.domains;
+-- the spaces of all domains, and all frames, where the outline and the pages of each domain are given
+abbrev pub spaces_in : Flat → Settled → ℕ → List Outline → List (List MappedPage) → Spaces
+spaces_in flat settled base os mapped = record {
+  spaces = gather (λ d o. space_at flat settled base mapped d o ∷ []) os;
   frames = gather own_added mapped ++ memory_part flat settled;
 }
 

@@ -4,6 +4,8 @@ use Rattle.std.specs.List.{All, AllPairs}
 use Rattle.numbering.specs.Gather.{IsIn}
 use Rattle.adl_meaning.specs.declared.flat.FlatConnection.{FlatConnection}
 use Rattle.adl_meaning.specs.declared.flat.FlatEnd.{FlatEnd}
+use Rattle.cap_model.specs.declared.level.Arch.{Arch}
+use Rattle.cap_model.specs.declared.level.Arch.TheVariants.{Arm11, Aarch64}
 use Rattle.cap_model.specs.declared.object.Fill.{Fill}
 use Rattle.page_tables.specs.Runs.{Rises}
 use Rattle.program_sections.specs.ByAddress.{section_pages}
@@ -12,7 +14,7 @@ use Rattle.vspace_layout.specs.declared.mapped.Shown.TheVariants.{Own}
 use Rattle.vspace_layout.specs.declared.owner.Owner.TheVariants.{OfConnection, OfDomain}
 use Rattle.vspace_layout.specs.declared.region.Region.{Region}
 use Rattle.vspace_layout.specs.Frames.{frame, frames, memory_number, number_shown, register_frame}
-use Rattle.vspace_layout.specs.Given.{Given, base, leaves_of}
+use Rattle.vspace_layout.specs.Given.{Given, arch, base, leaves_of}
 use Rattle.vspace_layout.specs.MappedPages.{mapped_pages}
 use Rattle.vspace_layout.specs.Memory.{first_to, is_shared, memory_pages, registers}
 use Rattle.vspace_layout.specs.Regions.{regions, start}
@@ -28,6 +30,16 @@ pub record SectionsStand (t : Given) (d : ℕ) : Type 0 where
   pub aligned : All (λ p. p.vaddr % 4096 ≡ 0) (section_pages t.images (leaves_of t.flat d))
   pub apart : AllPairs (λ p q. p.vaddr + 4096 ≤ q.vaddr) (section_pages t.images (leaves_of t.flat d))
   pub below : All (λ p. p.vaddr + 4096 ≤ base t) (section_pages t.images (leaves_of t.flat d))
+
+-- no address of a layout reaches this one
+abbrev pub address_limit : Arch → ℕ
+address_limit Arm11 = 0xC0000000
+address_limit Aarch64 = 0x10000000000
+
+-- pages that are mapped begin below the limit, and so do stacks, buffers and windows end
+pub record AddressesAreLow (t : Given) (d : ℕ) : Type 0 where
+  pub pages : (p : MappedPage) → IsIn p (mapped_pages t d) → p.at < address_limit (arch t)
+  pub ends : (n : ℕ) (r : Region) → slice_get (regions t d) n ≡ Some r → start t d n + 4096 * r.pages < address_limit (arch t)
 
 -- pages stand at whole pages, and rise
 pub record PagesRise (t : Given) (d : ℕ) : Type 0 where

@@ -53,7 +53,7 @@ fn number_pages(
     ensures pages { IfOk result (λ pages. pages ≡ pages_numbered domain firsts.now (length frames.old) mapped) }
     ensures frames { OnOk result (frames.new ≡ frames.old ++ own_added domain mapped) }
 {
-    let mut pages = List::new(alloc);
+    let mut pages = List::from_vec(Vec::with_capacity(alloc, mapped.len())?);
     for page in mapped.into_vec() {
         let frame = frame_of(domain, page.shown, firsts, frames)?;
         pages.push(Page {
@@ -79,7 +79,7 @@ pub fn number_all(
     ensures pages { IfOk result (λ all. all.items ≡ all_numbered firsts.now (length frames.old) mapped.items) }
     ensures frames { OnOk result (frames.new ≡ frames.old ++ gather own_added mapped.items) }
 {
-    let mut all = Vec::new(alloc);
+    let mut all = Vec::with_capacity(alloc, mapped.len())?;
     let mut domain: u32 = 0;
     for pages in mapped {
         all.push(number_pages(alloc, domain, pages, firsts, frames)?)?;

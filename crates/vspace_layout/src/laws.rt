@@ -15,9 +15,9 @@ ghost use Rattle.vspace_layout.specs.Given.{Given as Laid, arch, base, ends};
 ghost use Rattle.vspace_layout.specs.Frames.{frames};
 ghost use Rattle.vspace_layout.specs.Laid.{spaces_of};
 ghost use Rattle.vspace_layout.specs.Regions.{regions};
-ghost use Rattle.vspace_layout.specs.Outlines.{AreFew, all_counted, all_mapped, spaces_in};
+ghost use Rattle.vspace_layout.specs.Outlines.{AreFew, all_counted, all_mapped, outlines, spaces_in};
 ghost use Rattle.vspace_layout.specs.PageLimits.{limits_passed, page_counts, table_counts};
-ghost use Rattle.vspace_layout.specs.SpaceLaws.{FramesStand, PagesRise, RegionsAreApart, SectionsStand};
+ghost use Rattle.vspace_layout.specs.SpaceLaws.{AddressesAreLow, FramesStand, PagesRise, RegionsAreApart, SectionsStand};
 
 /// Regions stand apart, a free page between them, each at a whole page above the base.
 pub fn regions_are_apart()
@@ -59,8 +59,8 @@ pub fn limits_are_told_in_order()
 
 /// What is laid domain by domain is the spaces and frames of the definition.
 pub fn spaces_are_laid_by_domain()
-    ensures { (t : Laid) → spaces_in t.flat t.settled (ends t) (base t) (all_mapped t.flat t.settled (ends t) t.images)
-        ≡ spaces_of t }
+    ensures { (t : Laid) → spaces_in t.flat t.settled (base t) (outlines t.flat t.settled (ends t))
+        (all_mapped t.flat t.settled (ends t) t.images) ≡ spaces_of t }
 {}
 
 /// Where the limit on pages isn't passed, regions have addresses of 64 bits, and frames numbers of 32.
@@ -68,4 +68,11 @@ pub fn regions_and_frames_are_few()
     ensures regions { (t : Laid) → CanLay t → sum (page_counts t) ≤ 65536 → (d : ℕ) (x : Domain) → slice_get t.flat.domains d
         ≡ Some x → AreFew (regions t d) }
     ensures frames { (t : Laid) → CanLay t → sum (page_counts t) ≤ 65536 → length (frames t) < 2 ^ 32 }
+{}
+
+/// Where sections stand below the base and the limit on pages isn't passed, every address is low: below 0xC0000000 on 32-bit ARM,
+/// and below 0x10000000000 on AArch64.
+pub fn addresses_are_low()
+    ensures { (t : Laid) → CanLay t → sum (page_counts t) ≤ 65536 → (d : ℕ) (x : Domain) → slice_get t.flat.domains d ≡ Some x
+        → SectionsStand t d → AddressesAreLow t d }
 {}

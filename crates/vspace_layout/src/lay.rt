@@ -3,7 +3,7 @@
 ghost use Rattle.adl_meaning.specs.Faults.{Refuses};
 ghost use Rattle.leaf_ends.specs.LeafEnds.{ends_of};
 ghost use Rattle.leaf_ends.specs.Within.{IsWithin};
-ghost use Rattle.program_sections.specs.Numbered.{AreApart, AreCounted, AreNumbered, AreSound};
+ghost use Rattle.program_sections.specs.Numbered.{AreApart, AreNumbered, AreSound};
 ghost use Rattle.program_sections.specs.SpaceFaults.{first_space_fault};
 ghost use Rattle.std.specs.Option.{option_or};
 ghost use Rattle.std.specs.Prelude.{◌≡◌, ◌≤◌, ◌^◌, ◌++◌, length, sum, None, IfOk};
@@ -11,8 +11,8 @@ ghost use Rattle.vspace_layout.specs.Counted.{limit_over};
 ghost use Rattle.vspace_layout.specs.CanLay.{AddressesFit, CanLay};
 ghost use Rattle.vspace_layout.specs.Given.{given};
 ghost use Rattle.vspace_layout.specs.Laid.{spaces_of};
-ghost use Rattle.vspace_layout.specs.Outlines.{AreAllApart, AreAllFew, AreFew, AreFit};
-ghost use Rattle.vspace_layout.specs.Outlines.{all_mapped, mapped_of, space_in, spaces_in, spaces_with};
+ghost use Rattle.vspace_layout.specs.Outlines.{AreAllApart, AreFew, AreFit, AreOutlined};
+ghost use Rattle.vspace_layout.specs.Outlines.{mapped_by, mapped_of, outlines as all_outlines, space_in, spaces_in, spaces_with};
 ghost use Rattle.vspace_layout.specs.PageLimits.{first_page_limit, page_counts};
 ghost use Rattle.vspace_layout.specs.Regions.{regions_in};
 
@@ -20,14 +20,14 @@ use crate::counts::{all_own, all_pages, all_tables};
 use crate::frames::number_all;
 use crate::mapped::{MappedPage, push_regions, push_sections};
 use crate::memory_frames::memory_frames;
-use crate::outline::{Outline, outline_of};
+use crate::outline::{Outline, outlines_of};
 use crate::region::Region;
 use crate::spaces::{FrameInfo, Page, Space, Spaces};
 use crate::starts::{starts_of, thread_places, window_places};
 use adl_ast::Source;
 use adl_meaning::{Flat, Settled};
 use cam_base::{Fault, List, NoMemory, Refused};
-use leaf_ends::{EndAt, leaf_ends, limit_fault};
+use leaf_ends::{leaf_ends, limit_fault};
 use program_sections::{Images, first_space_fault, sections_end};
 use std::alloc::Global;
 
@@ -54,24 +54,22 @@ fn mapped_of(
     Ok(pages)
 }
 
-/// The pages of each domain, where the ends of each leaf are given.
+/// The pages of each domain, whose outlines these are.
 fn all_mapped(
     alloc: Global,
     flat: &Flat,
     settled: &Settled,
-    ends: &[List<EndAt>],
     images: &Images,
+    outlines: &[Outline],
 ) -> Result<Vec<List<MappedPage>>, NoMemory>
     requires apart { AreAllApart flat.now images.now }
-    requires few { AreAllFew flat.now settled.now ends.now }
-    ensures { IfOk result (λ all. all.items ≡ all_mapped flat.now settled.now ends.now images.now) }
+    requires outlined { AreOutlined flat.now settled.now outlines.now }
+    ensures { IfOk result (λ all. all.items ≡ mapped_by flat.now settled.now images.now outlines.now) }
 {
-    let mut all = Vec::new(alloc);
-    for domain in flat.domains.as_slice() {
-        let leaves = domain.leaves.as_slice();
-        let outline = outline_of(alloc, flat, settled, ends, leaves)?;
-        let regions = outline.regions.as_slice();
-        all.push(mapped_of(alloc, settled, images, leaves, regions)?)?;
+    let mut all = Vec::with_capacity(alloc, outlines.len())?;
+    for (number, domain) in flat.domains.as_slice().iter().enumerate() {
+        let regions = outlines[number].regions.as_slice();
+        all.push(mapped_of(alloc, settled, images, domain.leaves.as_slice(), regions)?)?;
     }
     Ok(all)
 }
@@ -101,26 +99,24 @@ fn space_of(
     })
 }
 
-/// The spaces of all domains with these pages.
+/// The spaces of all domains with these pages, whose outlines these are.
 fn spaces_with(
     alloc: Global,
     flat: &Flat,
     settled: &Settled,
-    ends: &[List<EndAt>],
     base: u64,
+    outlines: &[Outline],
     all: Vec<List<Page>>,
 ) -> Result<List<Space>, NoMemory>
     requires base { base ≤ 2 ^ 40 }
-    requires domains { length all.items ≡ length flat.now.domains }
-    requires few { AreAllFew flat.now settled.now ends.now }
-    ensures { IfOk result (λ spaces. spaces ≡ spaces_with flat.now settled.now ends.now base all.items) }
+    requires outlined { AreOutlined flat.now settled.now outlines.now }
+    requires each { length all.items ≡ length outlines.now }
+    ensures { IfOk result (λ spaces. spaces ≡ spaces_with flat.now settled.now base outlines.now all.items) }
 {
-    let mut spaces = List::new(alloc);
+    let mut spaces = List::from_vec(Vec::with_capacity(alloc, outlines.len())?);
     let mut domain: usize = 0;
     for pages in all {
-        let leaves = flat.domains.as_slice()[domain].leaves.as_slice();
-        let outline = outline_of(alloc, flat, settled, ends, leaves)?;
-        spaces.push(space_of(alloc, flat, settled, base, &outline, pages)?)?;
+        spaces.push(space_of(alloc, flat, settled, base, &outlines[domain], pages)?)?;
         domain += 1;
     }
     Ok(spaces)
@@ -139,21 +135,21 @@ fn lay(
     alloc: Global,
     flat: &Flat,
     settled: &Settled,
-    ends: &[List<EndAt>],
     base: u64,
+    outlines: &[Outline],
     mapped: Vec<List<MappedPage>>,
 ) -> Result<Spaces, NoMemory>
     requires base { base ≤ 2 ^ 40 }
     requires mapped { AreFit flat.now settled.now mapped.items }
-    requires few { AreAllFew flat.now settled.now ends.now }
+    requires outlined { AreOutlined flat.now settled.now outlines.now }
     requires connections { length flat.now.connections ≤ 4096 }
     requires addresses { AddressesFit flat.now settled.now }
-    ensures { IfOk result (λ spaces. spaces ≡ spaces_in flat.now settled.now ends.now base mapped.items) }
+    ensures { IfOk result (λ spaces. spaces ≡ spaces_in flat.now settled.now base outlines.now mapped.items) }
 {
     let memory = memory_frames(alloc, all_own(&mapped), flat, settled)?;
     let mut own = List::new(alloc);
     let pages = number_all(alloc, mapped, &memory.firsts, &mut own)?;
-    let spaces = spaces_with(alloc, flat, settled, ends, base, pages)?;
+    let spaces = spaces_with(alloc, flat, settled, base, outlines, pages)?;
     let frames = joined(own, memory.frames)?;
     Ok(Spaces { spaces, frames })
 }
@@ -174,54 +170,30 @@ fn limit_over(
     }
 }
 
-/// The spaces of all domains, where no fault of sections stands, the ends of each leaf are given, and pages are few.
+/// The spaces of all domains, whose outlines these are, where no fault of sections stands and pages are few.
 fn lay_few(
     alloc: Global,
     source: &Source,
     flat: &Flat,
     settled: &Settled,
-    ends: &[List<EndAt>],
     images: &Images,
+    outlines: &[Outline],
 ) -> Result<Spaces, Refused<Fault>>
     requires within { IsWithin source.now flat.now }
-    requires ends { ends.now ≡ ends_of source.now flat.now }
+    requires outlines { outlines.now ≡ all_outlines flat.now settled.now (ends_of source.now flat.now) }
     requires apart { AreAllApart flat.now images.now }
     requires settled { CanLay (given source.now flat.now settled.now images.now) }
     requires few { sum (page_counts (given source.now flat.now settled.now images.now)) ≤ 65536 }
     ensures faults { Refuses result (first_page_limit (given source.now flat.now settled.now images.now)) }
     ensures spaces { IfOk result (λ spaces. spaces ≡ spaces_of (given source.now flat.now settled.now images.now)) }
 {
-    let mapped = all_mapped(alloc, flat, settled, ends, images)?;
+    let mapped = all_mapped(alloc, flat, settled, images, outlines)?;
     let tables = all_tables(alloc, images.arch(), &mapped)?;
     if let Some(fault) = limit_over(alloc, source, tables, b"tables")? {
         return Err(Refused::Fault(fault));
     }
     let base = sections_end(images.arch());
-    Ok(lay(alloc, flat, settled, ends, base, mapped)?)
-}
-
-/// The spaces of all domains, where no fault of sections stands and the ends of each leaf are given.
-fn lay_ends(
-    alloc: Global,
-    source: &Source,
-    flat: &Flat,
-    settled: &Settled,
-    ends: &[List<EndAt>],
-    images: &Images,
-) -> Result<Spaces, Refused<Fault>>
-    requires within { IsWithin source.now flat.now }
-    requires ends { ends.now ≡ ends_of source.now flat.now }
-    requires counted { AreCounted images.now }
-    requires apart { AreAllApart flat.now images.now }
-    requires settled { CanLay (given source.now flat.now settled.now images.now) }
-    ensures faults { Refuses result (first_page_limit (given source.now flat.now settled.now images.now)) }
-    ensures spaces { IfOk result (λ spaces. spaces ≡ spaces_of (given source.now flat.now settled.now images.now)) }
-{
-    let pages = all_pages(alloc, flat, settled, ends, images)?;
-    if let Some(fault) = limit_over(alloc, source, pages, b"pages")? {
-        return Err(Refused::Fault(fault));
-    }
-    lay_few(alloc, source, flat, settled, ends, images)
+    Ok(lay(alloc, flat, settled, base, outlines, mapped)?)
 }
 
 /// The spaces of all domains and all frames, where no fault of sections stands: `specs/Laid.antt`. Whoever tells other faults
@@ -246,7 +218,12 @@ pub fn lay_apart(
     ensures spaces { IfOk result (λ spaces. spaces ≡ spaces_of (given source.now flat.now settled.now images.now)) }
 {
     let ends = leaf_ends(alloc, source, flat)?;
-    lay_ends(alloc, source, flat, settled, ends.as_slice(), images)
+    let outlines = outlines_of(alloc, flat, settled, ends.as_slice())?;
+    let pages = all_pages(alloc, flat, images, &outlines)?;
+    if let Some(fault) = limit_over(alloc, source, pages, b"pages")? {
+        return Err(Refused::Fault(fault));
+    }
+    lay_few(alloc, source, flat, settled, images, &outlines)
 }
 
 /// The spaces of all domains and all frames: `specs/Laid.antt`.

@@ -23,10 +23,11 @@ mod starts;
 mod thread;
 
 pub use laws::{
-    frames_stand_at_their_numbers, limits_are_told_in_order, pages_are_counted, pages_rise,
-    regions_and_frames_are_few, regions_are_apart, sections_stand_apart, spaces_are_laid_by_domain,
+    addresses_are_low, frames_stand_at_their_numbers, limits_are_told_in_order, pages_are_counted,
+    pages_rise, regions_and_frames_are_few, regions_are_apart, sections_stand_apart,
+    spaces_are_laid_by_domain,
 };
 pub use lay::{lay_apart, lay_spaces};
 pub use owner::Owner;
-pub use program_sections::first_space_fault;
+pub use program_sections::{Images, first_space_fault};
 pub use spaces::{FrameInfo, Page, Space, Spaces, ThreadPlace, Window};

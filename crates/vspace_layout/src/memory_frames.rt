@@ -66,7 +66,7 @@ fn push_all_shared(
     ensures frames { OnOk result (frames.new ≡ frames.old ++ gather (shared_frames settled.now) connections.now) }
     ensures places { IfOk result (λ v. v.items ≡ places_of (length frames.old) (shared_frames settled.now) connections.now) }
 {
-    let mut places = Vec::new(alloc);
+    let mut places = Vec::with_capacity(alloc, connections.len())?;
     for (number, connection) in connections.iter().enumerate() {
         places.push(frames.len() as u64)?;
         push_shared(settled, number as u32, connection, frames)?;
@@ -141,7 +141,7 @@ fn push_all_registers(
     ensures places { IfOk result (λ v. v.items
         ≡ places_of (length frames.old) (register_frames flat.now settled.now) flat.now.connections) }
 {
-    let mut places = Vec::new(alloc);
+    let mut places = Vec::with_capacity(alloc, firsts.len())?;
     for (number, connection) in flat.connections.as_slice().iter().enumerate() {
         places.push(frames.len() as u64)?;
         push_registers(settled, firsts[number], number as u32, connection, frames)?;
@@ -174,7 +174,7 @@ fn firsts_from(
     requires { AreFirsts own shared.now registered.now numbers.now }
     ensures { IfOk result (λ firsts. firsts.items ≡ firsts_from own shared.now registered.now numbers.now) }
 {
-    let mut firsts = Vec::new(alloc);
+    let mut firsts = Vec::with_capacity(alloc, numbers.len())?;
     for (number, first) in numbers.iter().enumerate() {
         firsts.push(own + first_of(shared, registered, *first, number))?;
     }

@@ -1,7 +1,7 @@
 //! The threads, windows and regions of a domain, before any page is listed.
 
 ghost use Rattle.std.specs.Prelude.{◌≡◌, IfOk};
-ghost use Rattle.vspace_layout.specs.Outlines.{outline};
+ghost use Rattle.vspace_layout.specs.Outlines.{outline, outlines};
 
 use crate::region::{Region, regions_of, windows_of};
 use crate::thread::{ThreadOf, threads_of};
@@ -19,7 +19,7 @@ pub struct Outline {
 }
 
 /// The outline of a domain with these leaves, where the ends of each leaf are given.
-pub fn outline_of(
+fn outline_of(
     alloc: Global,
     flat: &Flat,
     settled: &Settled,
@@ -36,4 +36,20 @@ pub fn outline_of(
         windows,
         regions,
     })
+}
+
+/// The outlines of all domains, where the ends of each leaf are given.
+pub fn outlines_of(
+    alloc: Global,
+    flat: &Flat,
+    settled: &Settled,
+    ends: &[List<EndAt>],
+) -> Result<Vec<Outline>, NoMemory>
+    ensures { IfOk result (λ all. all.items ≡ outlines flat.now settled.now ends.now) }
+{
+    let mut all = Vec::with_capacity(alloc, flat.domains.len())?;
+    for domain in flat.domains.as_slice() {
+        all.push(outline_of(alloc, flat, settled, ends, domain.leaves.as_slice())?)?;
+    }
+    Ok(all)
 }

@@ -75,7 +75,7 @@ pub fn first_numbers(
     ensures { IfOk result (λ firsts. firsts.items ≡ first_numbers connections.now) }
 {
     let mut ports = Ports::new(alloc);
-    let mut firsts = Vec::new(alloc);
+    let mut firsts = Vec::with_capacity(alloc, connections.len())?;
     for (number, connection) in connections.iter().enumerate() {
         firsts.push(ports.note(connection, number as u32)?)?;
     }

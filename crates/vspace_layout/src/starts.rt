@@ -17,7 +17,7 @@ pub fn starts_of(alloc: Global, base: u64, regions: &[Region]) -> Result<List<u6
     requires { base + 4096 * (length regions.now + pages_in regions.now) < 2 ^ 64 }
     ensures { IfOk result (λ starts. starts ≡ starts_in base regions.now) }
 {
-    let mut starts = List::new(alloc);
+    let mut starts = List::from_vec(Vec::with_capacity(alloc, regions.len())?);
     let mut end = base;
     for region in regions {
         let start = end + 4096;
@@ -38,7 +38,7 @@ pub fn thread_places(
     requires fit { StacksFit settled.now starts.now threads.now }
     ensures { IfOk result (λ places. places ≡ thread_places settled.now starts.now threads.now) }
 {
-    let mut places = List::new(alloc);
+    let mut places = List::from_vec(Vec::with_capacity(alloc, threads.len())?);
     for (number, thread) in threads.iter().enumerate() {
         places.push(ThreadPlace {
             leaf: thread.leaf,
@@ -62,7 +62,7 @@ pub fn window_places(
     requires { first + length windows.now ≤ length starts.now }
     ensures { IfOk result (λ places. places ≡ window_places flat.now settled.now starts.now first windows.now) }
 {
-    let mut places = List::new(alloc);
+    let mut places = List::from_vec(Vec::with_capacity(alloc, windows.len())?);
     for (number, end) in windows.iter().enumerate() {
         places.push(Window {
             end: *end,

@@ -4,17 +4,14 @@ use Rattle.system_spec.proofs.Bounds.{bounds}
 use Rattle.numbering.proofs.Gathered.{gather_ones}
 use Rattle.vspace_layout.specs.declared.spaces.FrameInfo.{FrameInfo}
 use Rattle.system_spec.specs.declared.part.What.TheVariants.{FrameOf}
-use Rattle.system_spec.specs.Parts.{frame_parts, owned}
+use Rattle.system_spec.specs.Parts.{owned}
 use Rattle.system_spec.specs.Tables.{frame_owner}
 use Rattle.system_spec.proofs.listing.push_memory.Goals as goal
 
 pub table_parts-requires : goal.table_parts-requires
 table_parts-requires c = omega (arith, ap length (c.as_slice.ensures ∙ c.in_ok-all.ensures), (bounds (told c.args.tables.now) c.requires).tables)
 
-pub numbered-requires : goal.numbered-requires
-numbered-requires c = omega (arith, ap length (c.as_slice-3.ensures ∙ c.in_ok-frames.ensures ∙ ap frame_parts c.as_slice-2.ensures), (bounds (told c.args.tables.now) c.requires).frames)
-
-pub frame_parts-requires : goal.frame_parts-requires
-frame_parts-requires c =
+pub frames-requires : goal.frames-requires
+frames-requires c =
     let frames = c.args.tables.now.spaces.now.frames in
     omega (arith, ap length c.as_slice-2.ensures, (bounds (told c.args.tables.now) c.requires).frames, gather_ones (λ f (x : FrameInfo). owned (frame_owner x.owner) (FrameOf f)) frames)

@@ -1,7 +1,9 @@
-use Rattle.std.proofs.Common.{◌≡◌, ◌++◌, drop, map}
+use Rattle.std.proofs.Common.{◌≡◌, ◌∷◌, [], take}
+use Rattle.std.specs.Prelude.{slice_index_or}
 use Rattle.adl_meaning.specs.declared.flat.Domain.{Domain}
-use Rattle.vspace_layout.specs.Outlines.{all_mapped, domain_mapped}
+use Rattle.numbering.specs.Gather.{gather}
+use Rattle.vspace_layout.specs.Outlines.{mapped_of, no_outline}
 use Rattle.vspace_layout.proofs.lay.all_mapped.Given as goal
 
-abbrev pub invariant-loop-domain : goal.invariant-loop-domain
-invariant-loop-domain l = l.all.items ++ map (λ (d : Domain). domain_mapped l.flat l.settled l.ends l.images d.leaves) (drop l.domain-index l.flat.domains) ≡ all_mapped l.flat l.settled l.ends l.images
+abbrev pub invariant-loop-number : goal.invariant-loop-number
+invariant-loop-number l = l.all.items ≡ gather (λ n (d : Domain). mapped_of l.settled l.images d.leaves (slice_index_or l.outlines n no_outline).regions ∷ []) (take l.number l.flat.domains)

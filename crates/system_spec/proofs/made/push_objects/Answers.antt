@@ -1,0 +1,14 @@
+use Rattle.std.proofs.Common.{get_or}
+use Rattle.arch_policy.specs.declared.owner.Owner.TheVariants.{OfDomain}
+use Rattle.numbering.proofs.Lists.{read_in}
+use Rattle.system_spec.specs.declared.part.Part.{Part}
+use Rattle.system_spec.specs.declared.part.What.TheVariants.{CNodeOf}
+use Rattle.system_spec.specs.declared.series.Series.TheVariants.{CNode}
+use Rattle.system_spec.proofs.made.push_objects.Goals as goal
+
+pub object-requires-clause-there : goal.object-requires-clause-there
+object-requires-clause-there c =
+    let first : Part = record { series = CNode; number = 0; owner = OfDomain 0; what = CNodeOf 0 } in
+    let ps = c.args.parts.now in
+    let i = c.loop-part.part-index in
+    c.requires.there (get_or ps i first) (read_in ps i first c.loop-part-test.true)
