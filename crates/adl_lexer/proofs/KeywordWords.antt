@@ -65,10 +65,6 @@ no_keyword word = (λ e k w. some_keyword (keyword_is word k) e w, λ h. go (key
     go None e h = refl
     go (Some k) e h = absurd (h k ((keyword_is word k).0 e))
 
-pub found_in_all : (word : List ℕ) → named_by all_keywords word ≡ keyword_of word
-unfolding keyword_of
-found_in_all word = refl
-
 -- ---- the look-up by one candidate
 
 own_candidate : (k : Keyword) → candidate (spelling k) ≡ Some k

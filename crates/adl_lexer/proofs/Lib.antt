@@ -7,6 +7,7 @@ pub mod Gaps
 pub mod Steps
 pub mod Unique
 pub mod KeywordWords
+pub mod KeywordRows
 pub mod LeftOutWords
 pub mod ClassBytes
 pub mod TokenTexts

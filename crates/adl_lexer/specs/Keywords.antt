@@ -1,5 +1,6 @@
 -- The 29 words that can't be names, each with its keyword.
-use Rattle.std.specs.Prelude.{ℕ, if◌then◌else◌, List, [], ◌∷◌, Option, Some, None, codes}
+use Rattle.std.specs.List.{All, Contains}
+use Rattle.std.specs.Prelude.{◌≡◌, ◌≢◌, ℕ, if◌then◌else◌, List, [], ◌∷◌, Option, Some, None, codes}
 use Rattle.std.specs.Str.{bytes_eq}
 use Rattle.cam_base.specs.declared.token.Keyword.{Keyword}
 use Rattle.cam_base.specs.declared.token.Keyword.TheVariants as keys
@@ -77,3 +78,8 @@ named_by (k ∷ ks) word = if bytes_eq (spelling k) word then Some k else named_
 -- the keyword that a word is
 unfoldable pub keyword_of : List ℕ → Option Keyword
 keyword_of word = named_by all_keywords word
+
+-- what a table of these rows answers to a word: the row that has it, and none exactly where no row has it
+abbrev pub IsRowOf : List Keyword → List ℕ → Option Keyword → Type 0
+IsRowOf rows word None = All (λ k. word ≢ spelling k) rows
+IsRowOf rows word (Some k) = Contains rows k × (word ≡ spelling k)

@@ -1,16 +1,27 @@
 //! The words that can't be names.
 
 ghost use Rattle.adl_lexer.specs.Candidates.{by_front, by_late_front, by_middle_front, candidate, on_c, on_i};
-ghost use Rattle.adl_lexer.specs.Keywords.{all_keywords, keyword_of, named_by, spelling};
-ghost use Rattle.std.specs.Prelude.{◌≡◌, ℕ, List as Seq};
+ghost use Rattle.adl_lexer.specs.Keywords.{IsRowOf, all_keywords, keyword_of, spelling};
+ghost use Rattle.std.specs.List.{list_any};
+ghost use Rattle.std.specs.Prelude.{◌≡◌};
 ghost use Rattle.std.specs.Str.{bytes_eq};
 
 use cam_base::Keyword;
+use std::marker::Model;
 
-/// Keywords, one a row, to be found by their words.
-#[derive(Clone, Copy)]
+/// Keywords, one a row, to be found by their words. Contracts see it as the list of its rows.
+#[derive(Drop)]
 pub struct KeywordTable<const N: usize> {
     rows: [Keyword; N],
+}
+
+impl<const N: usize> Model for KeywordTable<N> {
+    ghost use Rattle.cam_base.specs.declared.token.Keyword.{Keyword};
+    ghost use Rattle.std.specs.Prelude.{List};
+
+    ghost Value = { List Keyword };
+
+    ghost view = { λ t. t.rows };
 }
 
 macro_rules! rows {
@@ -19,8 +30,7 @@ macro_rules! rows {
 
 /// The table of all keywords. Takes no memory.
 pub fn keywords() -> KeywordTable<29>
-    ensures rows { result.rows ≡ all_keywords }
-    ensures finds { (word : Seq ℕ) → named_by result.rows word ≡ keyword_of word }
+    ensures { result ≡ all_keywords }
 {
     KeywordTable {
         rows: rows![
@@ -58,16 +68,22 @@ pub fn keywords() -> KeywordTable<29>
 }
 
 impl<const N: usize> KeywordTable<N> {
-    /// The keyword of the first row that has this word; none exactly where no row has it. Takes no memory.
+    /// The keyword in a row that has this word, looked up as the lexer does; none exactly where no row has it. Takes no memory.
+    #[tactic(auto, using(crate::proofs::KeywordRows::is_no_row, crate::proofs::KeywordRows::is_no_keyword))]
     pub fn find(&self, word: &[u8]) -> Option<Keyword>
-        ensures { result ≡ named_by self.now.rows word.now }
+        ensures { IsRowOf self.now word.now result }
     {
-        for keyword in self.rows {
-            if spelling(keyword) == word {
-                return Some(keyword);
-            }
-        }
-        None
+        let keyword = keyword_of(word)?;
+        if self.has(word) { Some(keyword) } else { None }
+    }
+
+    /// Whether a row has this word.
+    fn has(&self, word: &[u8]) -> bool
+        ensures { result ≡ list_any (λ k. bytes_eq (spelling k) word.now) self.now }
+    {
+        self.rows
+            .iter()
+            .any(|keyword| is_same(spelling(*keyword), word))
     }
 }
 

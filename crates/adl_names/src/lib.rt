@@ -13,4 +13,5 @@ mod repeats;
 mod tables;
 mod unknown;
 
+pub use adl_items::Names;
 pub use names::{check_names, resolve};

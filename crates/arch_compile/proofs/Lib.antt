@@ -1,4 +1,6 @@
-mod Compiling
+pub mod Compiling
+pub mod Facts
 mod FromTables
-mod Layouts
+pub mod KeptSpecs
+pub mod Layouts
 pub mod OneAnswer

@@ -1,6 +1,7 @@
 pub mod Built
 pub mod Compiled
 pub mod LayoutFaults
+pub mod Maps
 pub mod Steps
 pub use Rattle.cam_io.specs.Contents
 pub use Rattle.cam_io.specs.Reading

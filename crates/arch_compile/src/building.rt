@@ -5,10 +5,11 @@ ghost use Rattle.arch_compile.specs.LayoutFaults.{tables_beside};
 ghost use Rattle.arch_compile.specs.Steps.{Builds, Completes, Finishes, IsImaged, IsLaid, Lays};
 ghost use Rattle.arch_policy.specs.Labels.{label_numbers};
 ghost use Rattle.cam_io.specs.Reading.{InAll, KeepsFiles, LearnsOnly};
+ghost use Rattle.cap_model.specs.Kept.{IsKept};
 ghost use Rattle.front_end.specs.Fronts.{IsAssigned};
 ghost use Rattle.front_end.specs.Steps.{IsSound};
 ghost use Rattle.source_images.specs.Found.{AlikeInTables};
-ghost use Rattle.std.specs.Prelude.{◌≡◌};
+ghost use Rattle.std.specs.Prelude.{◌≡◌, IfOk};
 
 use crate::imaging::{not_imaged, root_of};
 use crate::laying::{Layout, lay_out};
@@ -36,8 +37,9 @@ pub struct Build {
 
 /// The source of the root, with all that is made of it and of the section tables beside it.
 ///
-/// What is made has the slots, images, labels and map of its source by the law `builds_are_those_of_their_source` of
-/// `build_images`, and just the edges that its source assigns by the law `builds_are_sound` of `build_laws`.
+/// Its spec keeps what every spec keeps. What is made has the slots, images, labels and map of its source by the law
+/// `builds_are_those_of_their_source` of `build_images`, and just the edges that its source assigns by the law `builds_are_sound`
+/// of `build_laws`.
 ///
 /// # Errors
 ///
@@ -47,6 +49,7 @@ pub fn compile<F: Files>(alloc: Global, files: &mut F, root: &str) -> Result<Bui
     ensures kept { KeepsFiles F.told F.faults files.old files.new }
     ensures learned { LearnsOnly F.told (AlikeInBuild root.now) files.old files.new }
     ensures compiled { InAll (F.told files.new) (λ m. IsCompiled root.now m (F.faults files.old) (F.faults files.new) result) }
+    ensures kept_spec { IfOk result (λ b. IsKept b.spec) }
 {
     match meaning_of(alloc, files, root) {
         Ok(meaning) => with_images(alloc, files, meaning),

@@ -5,7 +5,7 @@ use Rattle.arch_compile.specs.Built.{IsBuildOf, system_tables}
 use Rattle.arch_compile.specs.LayoutFaults.{images_from}
 use Rattle.arch_compile.specs.declared.building.Build.{Build}
 use Rattle.auth_kinds.specs.declared.object_labels.Labels.{Labels}
-use Rattle.build_laws.proofs.Facts.{AreFacts, build_facts}
+use Rattle.arch_compile.proofs.Facts.{AreFacts, build_facts}
 use Rattle.build_laws.proofs.Soundness.{labels_are}
 use Rattle.build_laws.specs.Sound.{object_labels}
 use Rattle.cam_io.specs.Contents.{Contents}

@@ -30,7 +30,7 @@ use Rattle.program_sections.specs.Images.{image_number}
 use Rattle.program_sections.specs.declared.images.Images.{Images}
 use Rattle.source_images.specs.ImagesRead.{AreImagesOf}
 use Rattle.source_images.specs.Types.{Name, component_name, component_of, type_number, type_of, types}
-use Rattle.source_kept.proofs.Stacks.{soft_leaf}
+use Rattle.source_bounds.proofs.Stacks.{soft_leaf}
 use Rattle.source_mapped.specs.HaveImages.{HaveImages}
 
 -- ---- the component of a leaf has a name

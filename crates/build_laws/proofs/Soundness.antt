@@ -4,6 +4,8 @@ use Rattle.std.proofs.lemmas.List.{length-map}
 use Rattle.std.specs.Prelude.{◌↔◌}
 use Rattle.adl_ast.specs.declared.source.Source.{Source}
 use Rattle.adl_meaning.specs.Flat.{flat_of}
+use Rattle.arch_compile.proofs.Facts.{AreFacts, build_facts}
+use Rattle.arch_compile.proofs.KeptSpecs.{tables_kept}
 use Rattle.arch_compile.specs.Built.{IsBuildOf, IsMade, labelled, system_tables}
 use Rattle.arch_compile.specs.LayoutFaults.{images_from}
 use Rattle.arch_compile.specs.declared.building.Build.{Build}
@@ -36,14 +38,11 @@ use Rattle.reach_laws.proofs.Reached.{exactly_reached}
 use Rattle.reach_laws.proofs.ValidCertificates.{valid}
 use Rattle.reach_laws.specs.LaidOut.{IsLaidOut}
 use Rattle.source_connected.proofs.Connected.{tables_are_connected}
-use Rattle.source_kept.proofs.Fits.{tables_are_fit}
 use Rattle.spec_edges.proofs.Connections.{laid_out}
 use Rattle.spec_edges.specs.Connected.{IsConnected}
-use Rattle.spec_kept.proofs.Keeping.{spec_kept}
 use Rattle.system_spec.specs.Made.{entry, labels_of, part_label, spec_of}
 use Rattle.system_spec.specs.Parts.{parts}
 use Rattle.system_spec.specs.Tables.{Tables}
-use Rattle.build_laws.proofs.Facts.{AreFacts, build_facts}
 use Rattle.build_laws.proofs.ObjectLabels.{labels_beside}
 use Rattle.build_laws.specs.Sound.{BootsText, HasText, IsSound, ReachesText, object_labels}
 
@@ -61,10 +60,8 @@ module _ {contents : Contents} (s : Source) (images : Images) (facts : AreFacts 
   apart : AreApart (source_tables s)
   apart = labels_apart s facts.faultless.names facts.spelled
 
-  pub kept_is : IsKept (spec_of t)
-  kept_is =
-      let f = facts.faultless in
-      spec_kept t (tables_are_fit s images facts.short f.names f.types f.flat f.settings facts.numbered facts.sound facts.space facts.slot facts.page)
+  kept_is : IsKept (spec_of t)
+  kept_is = tables_kept s images facts
 
   connected : IsConnected t
   connected =

@@ -2,6 +2,7 @@
 use Rattle.std.specs.Prelude.{◌≡◌, ◌≤◌, ℕ, Bool, false, List, [], ◌∷◌, ◌++◌, codes, string_bytes}
 use Rattle.auth_kinds.specs.declared.policy.Policy.{Policy}
 use Rattle.auth_kinds.specs.declared.edge.Edge.{Edge}
+use Rattle.arch_compile.specs.Maps.{build_map}
 use Rattle.arch_compile.specs.declared.building.Build.{Build}
 use Rattle.build_summary.specs.Summary.{summary_line, summary_of}
 use Rattle.cam_io.specs.Scripts.{Act, Begin, Write}
@@ -9,7 +10,6 @@ use Rattle.cam_io.specs.Sinks.{Sink}
 use Rattle.cap_model.specs.Canonical.{canonical}
 use Rattle.cap_model.specs.declared.spec.Spec.{Spec}
 use Rattle.policy_text.specs.PolicyLines.{cert_text, policy_text}
-use Rattle.system_spec.specs.MapText.{Named, map_text}
 use Rattle.build_texts.specs.declared.names.TextNames.{TextNames}
 
 -- the names of the files that are written for a base
@@ -20,10 +20,6 @@ pub record AreNamedBy (base : List ℕ) (names : TextNames) : Type 0 where
   pub map : string_bytes names.map ≡ base ++ codes ".map"
 
 -- ---- texts
-
--- the map of a build, by the names of its source
-abbrev pub build_map : Build → List ℕ
-build_map b = map_text (record { source = b.meaning.source; flat = b.meaning.flat; spec = b.spec }) b.map
 
 abbrev pub build_summary : Build → List ℕ
 build_summary b = summary_line (summary_of b.meaning.flat b.spec b.policy.edges)

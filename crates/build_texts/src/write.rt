@@ -3,14 +3,13 @@ ghost use Rattle.cam_io.specs.Scripts.{Acts};
 ghost use Rattle.std.specs.Prelude.{◌≡◌, false};
 
 use crate::TextNames;
-use arch_compile::Build;
+use arch_compile::{Build, write_map};
 use auth_kinds::{EdgeTable, Policy};
 use build_summary::{Summary, write_summary};
 use cam_io::{Failed, Outputs};
 use cap_model::Spec;
 use capdl_write::write_spec;
 use policy_text::{write_cert, write_policy};
-use system_spec::{MapNames, write_map};
 
 /// Writes the texts of a build under these names, on channels 2 to 5, and then the summary on standard output. None of the
 /// channels 2 to 5 may be begun. Takes no memory.
@@ -59,11 +58,6 @@ fn write_places<O: Outputs>(name: &str, build: &Build, out: &mut O) -> Result<()
     requires { (O.sink out.old).begun 5 ≡ false }
     ensures { Acts (map_acts name.now build.now) result (O.sink out.old) (O.sink out.new) (O.faults out.old) (O.faults out.new) }
 {
-    let names = MapNames {
-        source: &build.meaning.source,
-        flat: &build.meaning.flat,
-        spec: &build.spec,
-    };
     out.begin(5, name)?;
-    write_map(&names, build.map.as_slice(), out, 5)
+    write_map(build, out, 5)
 }

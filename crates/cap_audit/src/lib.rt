@@ -9,4 +9,6 @@ mod making;
 mod picks;
 mod report;
 
+pub use least_cert::{CloseError, close_cert};
 pub use report::{AuditRefusal, AuditReport, audit};
+pub use step_write::write_steps;

@@ -8,6 +8,10 @@ pub use Rattle.cspace_layout.specs.SlotFaults
 pub use Rattle.flat_laws.specs.ShortFiles
 pub use Rattle.program_sections.specs.Numbered
 pub use Rattle.program_sections.specs.SpaceFaults
+pub use Rattle.source_images.specs.ImagesRead
+pub use Rattle.spec_kept.specs.Fit
+pub use Rattle.spec_kept.specs.Limited
+pub use Rattle.spec_kept.specs.Plain
 pub use Rattle.system_spec.specs.Buildable
 pub use Rattle.system_spec.specs.TablesFrom
 pub use Rattle.system_spec.specs.Windowed

@@ -8,12 +8,18 @@ ghost use Rattle.adl_meaning.specs.NameFaults.{AreNamesSound};
 ghost use Rattle.adl_settings.specs.SettingFaults.{first_setting_fault};
 ghost use Rattle.adl_settings.specs.Settled.{settled_of};
 ghost use Rattle.adl_types.specs.TypeFaults.{first_type_fault};
+ghost use Rattle.cam_io.specs.Contents.{Contents};
 ghost use Rattle.cspace_layout.specs.SlotFaults.{first_slot_fault};
 ghost use Rattle.flat_laws.specs.ShortFiles.{AreFilesShort};
 ghost use Rattle.program_sections.specs.Numbered.{AreNumbered, AreSound};
 ghost use Rattle.program_sections.specs.SpaceFaults.{first_space_fault};
 ghost use Rattle.program_sections.specs.declared.images.Images.{Images};
-ghost use Rattle.std.specs.Prelude.{◌≡◌, None};
+ghost use Rattle.sect_table.specs.declared.image.Image.{Image};
+ghost use Rattle.source_images.specs.ImagesRead.{AreImagesOf};
+ghost use Rattle.spec_kept.specs.Fit.{IsFit};
+ghost use Rattle.spec_kept.specs.Limited.{IsLimited};
+ghost use Rattle.spec_kept.specs.Plain.{IsImagePlain, IsPlain};
+ghost use Rattle.std.specs.Prelude.{◌≡◌, ℕ, List as Seq, None, Option, Some, slice_get};
 ghost use Rattle.system_spec.specs.Buildable.{IsBuildable};
 ghost use Rattle.system_spec.specs.TablesFrom.{tables_from};
 ghost use Rattle.system_spec.specs.Windowed.{IsWindowed};
@@ -42,4 +48,38 @@ pub fn maps_can_be_listed()
     ensures { (s : Source) (images : Images) → AreFilesShort s → AreNamesSound s → first_type_fault s ≡ None
         → first_flat_fault s ≡ None → first_setting_fault s ≡ None
         → IsWindowed (tables_from s (flat_of s) (settled_of s) images) }
+{}
+
+/// Where the images of a source without faults are sound and numbered, no fault of spaces stands and no limit on slots, pages
+/// or page tables is passed, the spec that is made of it is kept.
+pub fn tables_are_fit()
+    ensures { (s : Source) (images : Images) → AreFilesShort s → AreNamesSound s → first_type_fault s ≡ None
+        → first_flat_fault s ≡ None → first_setting_fault s ≡ None → AreNumbered (flat_of s) images → AreSound images
+        → first_space_fault (flat_of s) images ≡ None → first_slot_fault s (flat_of s) ≡ None
+        → first_page_limit (given s (flat_of s) (settled_of s) images) ≡ None
+        → IsFit (tables_from s (flat_of s) (settled_of s) images) }
+{}
+
+/// Where no limit on slots, pages or page tables is passed, its layouts are within the limits of specs: each stack has a page,
+/// and memory is seen in some domain.
+pub fn layouts_are_limited()
+    ensures { (s : Source) (images : Images) → AreFilesShort s → AreNamesSound s → first_type_fault s ≡ None
+        → first_flat_fault s ≡ None → first_setting_fault s ≡ None → first_slot_fault s (flat_of s) ≡ None
+        → first_page_limit (given s (flat_of s) (settled_of s) images) ≡ None
+        → IsLimited (given s (flat_of s) (settled_of s) images) }
+{}
+
+/// Where its images are plain, so are its layouts: settings are numbers of 64 bits, and threads run programs that have names.
+pub fn layouts_are_plain()
+    ensures { (s : Source) (images : Images) → AreFilesShort s → AreNamesSound s → first_flat_fault s ≡ None
+        → ((m : ℕ) (image : Image) → slice_get images.images m ≡ Some image → IsImagePlain image)
+        → IsPlain (given s (flat_of s) (settled_of s) images) }
+{}
+
+/// The images that are read for a source are plain: programs have names, which are those of components, begin at numbers of
+/// 64 bits, and have sound sections.
+pub fn read_images_are_plain()
+    ensures { (contents : Contents) (root : Seq ℕ) (s : Source) (images : Images) → AreFilesShort s
+        → AreImagesOf contents root s (flat_of s) images
+        → (m : ℕ) (image : Image) → slice_get images.images m ≡ Some image → IsImagePlain image }
 {}

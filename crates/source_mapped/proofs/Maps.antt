@@ -31,7 +31,7 @@ use Rattle.program_sections.specs.declared.images.Images.{Images}
 use Rattle.source_bounds.proofs.Bounds.{can_lay, dotted, registers_there}
 use Rattle.source_bounds.proofs.PageCounts.{few_pages}
 use Rattle.source_bounds.proofs.SettledEnds.{end_found}
-use Rattle.source_kept.proofs.SeenMemory.{has_domain, memory_seen}
+use Rattle.source_bounds.proofs.SeenMemory.{has_domain, memory_seen}
 use Rattle.source_mapped.proofs.Groups.{leaves_once, leaves_some}
 use Rattle.source_mapped.proofs.Registers.{same_paddr}
 use Rattle.source_mapped.proofs.Stacks.{stacks_whole}

@@ -19,7 +19,7 @@ use Rattle.source_bounds.proofs.SlotBounds as slots
 use Rattle.program_sections.specs.declared.images.Images.{Images}
 use Rattle.source_bounds.proofs.Bounds.{dotted, few_uses}
 use Rattle.source_bounds.proofs.SettledEnds.{end_found}
-use Rattle.source_kept.proofs.Interrupts.{device_there}
+use Rattle.source_bounds.proofs.Interrupts.{device_there}
 use Rattle.spec_laws.specs.Slotted.{CanSlot}
 use Rattle.system_spec.specs.TablesFrom.{tables_from}
 

@@ -1,4 +1,5 @@
 use Rattle.arch_compile.proofs.Compiling.{built_compiled, refused_compiled}
+use Rattle.arch_compile.proofs.KeptSpecs.{compiled_kept}
 use Rattle.front_end.proofs.Refusing.{meaning_sound}
 use Rattle.front_end.specs.Fronts.{IsMeaningOf}
 use Rattle.arch_compile.proofs.building.compile.Goals as goal
@@ -12,6 +13,13 @@ pub returns-in-Ok-clause-compiled : goal.returns-in-Ok-clause-compiled
 returns-in-Ok-clause-compiled g c m told =
     built_compiled c.args.root.now m (g.F.Files.faults c.args.files.now) (g.F.Files.faults c.meaning_of.new.files) (g.F.Files.faults c.with_images.new.files) c.in-Ok.meaning (c.in-Ok.ensures.meaning m (c.with_images.ensures.kept.told_still m told)) c.with_images.result c.in-Ok.ensures.kept.later
     (c.with_images.ensures.builds m told)
+
+pub returns-in-Ok-clause-kept_spec : goal.returns-in-Ok-clause-kept_spec
+returns-in-Ok-clause-kept_spec g c =
+    let some = g.met.F.Files.some c.with_images.new.files in
+    compiled_kept c.args.root.now some.0 (g.F.Files.faults c.args.files.now) (g.F.Files.faults c.with_images.new.files) c.with_images.result
+    (built_compiled c.args.root.now some.0 (g.F.Files.faults c.args.files.now) (g.F.Files.faults c.meaning_of.new.files) (g.F.Files.faults c.with_images.new.files) c.in-Ok.meaning (c.in-Ok.ensures.meaning some.0 (c.with_images.ensures.kept.told_still some.0 some.1)) c.with_images.result c.in-Ok.ensures.kept.later
+    (c.with_images.ensures.builds some.0 some.1))
 
 pub returns-in-Err-clause-compiled : goal.returns-in-Err-clause-compiled
 returns-in-Err-clause-compiled g c m told =

@@ -1,7 +1,7 @@
 use Rattle.std.proofs.Common.{sym, subst}
 use Rattle.arch_compile.specs.Built.{system_tables}
 use Rattle.arch_compile.specs.LayoutFaults.{images_from}
-use Rattle.build_laws.proofs.Facts.{build_facts}
+use Rattle.arch_compile.proofs.Facts.{build_facts}
 use Rattle.cap_model.specs.declared.spec.Spec.{Spec}
 use Rattle.reach_steps.specs.Plain.{HoldsPlain}
 use Rattle.source_connected.proofs.Connected.{tables_are_connected}

@@ -5,4 +5,4 @@ pub write_map-requires : goal.write_map-requires
 write_map-requires g c = open_begun _ _ 5 _ c.in_ok-begin.ensures.ok
 
 pub returns : goal.returns
-returns g c = acts_begin_then c.in_ok-begin.ensures.ok c.in_ok-begin.ensures.later (acts_one (rw c.as_slice.ensures at c.write_map.ensures))
+returns g c = acts_begin_then c.in_ok-begin.ensures.ok c.in_ok-begin.ensures.later (acts_one c.write_map.ensures)
