@@ -7,11 +7,11 @@ use Rattle.adl_meaning.specs.Flat.{flat_of}
 use Rattle.arch_compile.specs.Built.{IsBuildOf, IsMade, system_tables}
 use Rattle.arch_compile.specs.LayoutFaults.{images_from}
 use Rattle.arch_compile.specs.declared.building.Build.{Build}
-use Rattle.arch_policy.proofs.Lists.{in_has}
+use Rattle.arch_policy.proofs.Lists.{has_in, in_has}
 use Rattle.arch_policy.specs.Tables.{Tables}
 use Rattle.auth_kinds.specs.Policies.{label_name}
 use Rattle.auth_kinds.specs.declared.edge.Edge.{Edge}
-use Rattle.build_laws.proofs.Facts.{AreFacts, build_facts}
+use Rattle.arch_compile.proofs.Facts.{AreFacts, build_facts}
 use Rattle.cam_base.specs.declared.error.Refused.{Refused}
 use Rattle.cam_base.specs.declared.text_fault.TextFault.{TextFault}
 use Rattle.cam_io.specs.Contents.{Contents}
@@ -20,6 +20,7 @@ use Rattle.flat_laws.specs.Small.{IsSmall}
 use Rattle.front_end.specs.First.{source_tables}
 use Rattle.numbering.proofs.Gathered.{in_place}
 use Rattle.numbering.specs.Gather.{IsIn}
+use Rattle.policy_text.proofs.EdgeLengths.{cert_short}
 use Rattle.policy_text.proofs.OneMeaning.{certs_one}
 use Rattle.policy_text.proofs.ReadBack.{cert_back}
 use Rattle.policy_text.specs.PolicyLines.{cert_text}
@@ -29,7 +30,6 @@ use Rattle.reach_laws.specs.Flat.{IsFlat}
 use Rattle.source_connected.proofs.Connected.{tables_are_connected}
 use Rattle.spec_edges.specs.Connected.{IsConnected}
 use Rattle.build_back.proofs.EdgeCounts.{few_certified, few_edges}
-use Rattle.build_back.proofs.EdgeTexts.{cert_short}
 use Rattle.build_back.proofs.Labelled.{IsLabel, edge_labels, label_small, named_at}
 use Rattle.build_back.specs.ReadBack.{IsCertReadBack}
 
@@ -80,7 +80,7 @@ module _ {contents : Contents} (s : Source) (images : Images) (facts : AreFacts 
       small = λ k e l. let x = small_in (get_or b.cert k e) (at_in k e l) in let f = x.0 in let g = x.1 in (omega (arith, f), omega (arith, g));
       order = made.cert_sorted;
       edges = cert_few;
-      bytes = cert_short b.cert small_in cert_few;
+      bytes = cert_short b.cert (λ e h. small_in e (has_in e b.cert h)) cert_few;
     }
 
 abbrev same_answer : List Edge → Result (List Edge) (Refused TextFault)

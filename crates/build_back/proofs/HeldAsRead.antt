@@ -33,8 +33,8 @@ module _ (b : Build) (sound : IsSound b) (spec_is : IsSpecReadBack b) (policy_is
       subst (λ z. IsLabelling z b.policy (Ok given)) (spec_is.only spec r.capdl)
       (subst (λ z. IsLabelling spec z (Ok given)) (policy_is.only policy r.policy_is) r.labelled)
 
-  same_labels : (spec : Spec) (policy : Policy) (given : Labels) → IsReadAs b spec policy given → (object_labels b).by_object ≡ given.by_object
-  same_labels spec policy given r = trio.listed ∙ labels_one trio.labels.by_object given.by_object (trio.labelled ∙ sym (own_labels spec policy given r))
+  pub same_labels : (spec : Spec) (policy : Policy) (given : Labels) → IsReadAs b spec policy given → (object_labels b).by_object ≡ given.by_object
+  same_labels spec policy given r = labels_one (object_labels b).by_object given.by_object (trio.labelled ∙ sym (own_labels spec policy given r))
 
   read_reaches : (spec : Spec) (policy : Policy) (given : Labels) → IsReadAs b spec policy given → (from : List ℕ) (a : Authority) (to : List ℕ) → from ≢ to
       → ReachesText spec policy given from a to ↔ IsAssignedText b.meaning.source from a to
@@ -55,11 +55,7 @@ module _ (b : Build) (sound : IsSound b) (spec_is : IsSpecReadBack b) (policy_is
       (subst (λ z. Judged spec given.by_object policy.edges z verdict) cert_same judged)))
 
   own_read : IsReadAs b b.spec b.policy (object_labels b)
-  own_read = record {
-    capdl = spec_is.text;
-    policy_is = policy_is.text;
-    labelled = subst (λ z. IsLabelling b.spec b.policy (Ok (record { by_object = z }))) (sym trio.listed) trio.labelled;
-  }
+  own_read = record { capdl = spec_is.text; policy_is = policy_is.text; labelled = trio.labelled }
 
   held : HoldsAsRead b
   held = record { read = own_read; reaches = read_reaches; yes = read_yes }
@@ -67,3 +63,10 @@ module _ (b : Build) (sound : IsSound b) (spec_is : IsSpecReadBack b) (policy_is
 pub as_read : (root : List ℕ) (contents : Contents) (b : Build) → IsBuildOf root contents b → HoldsAsRead b
 as_read root contents b is =
     held b (build_sound root contents b is) (spec_back root contents b is) (policy_read root contents b is) (cert_read root contents b is) (trio_valid root contents b is)
+
+-- objects have the labels of the build, by whatever is read
+pub read_labels : (root : List ℕ) (contents : Contents) (b : Build) → IsBuildOf root contents b → (spec : Spec) (policy : Policy) (given : Labels)
+    → IsReadAs b spec policy given → (object_labels b).by_object ≡ given.by_object
+read_labels root contents b is =
+    same_labels b (build_sound root contents b is) (spec_back root contents b is) (policy_read root contents b is) (cert_read root contents b is)
+    (trio_valid root contents b is)

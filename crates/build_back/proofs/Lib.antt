@@ -1,13 +1,14 @@
 pub mod CertBack
 pub mod EdgeCounts
-pub mod EdgeTexts
 pub mod HeldAsRead
 pub mod LabelNames
 pub mod Labelled
 pub mod LabelsBack
+pub mod ListFaults
 pub mod OwnersThere
 pub mod PathLengths
 pub mod PolicyBack
 pub mod PolicyLengths
+pub mod PolicyReached
 pub mod SpecBack
 pub mod TrioValid

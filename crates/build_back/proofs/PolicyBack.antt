@@ -17,7 +17,7 @@ use Rattle.auth_kinds.specs.ObjectLabels.{label_of}
 use Rattle.auth_kinds.specs.Policies.{IsPolicy, label_name}
 use Rattle.auth_kinds.specs.declared.edge.Edge.{Edge}
 use Rattle.auth_kinds.specs.declared.policy.Policy.{Policy}
-use Rattle.build_laws.proofs.Facts.{AreFacts, build_facts}
+use Rattle.arch_compile.proofs.Facts.{AreFacts, build_facts}
 use Rattle.cam_base.specs.Names.{is_name}
 use Rattle.cam_base.specs.declared.error.Refused.{Refused}
 use Rattle.cam_base.specs.declared.text_fault.TextFault.{TextFault}

@@ -1,14 +1,16 @@
 -- How long the text of a policy is.
-use Rattle.std.proofs.Common.{◌<◌, ◌≤◌, ◌+◌, ◌*◌, ℕ, List, [], ◌∷◌, length, arith}
+use Rattle.std.proofs.Common.{◌<◌, ◌≤◌, ◌+◌, ◌*◌, ℕ, List, [], ◌∷◌, length, refl, inl, inr, arith}
+use Rattle.std.proofs.Math.Nat.{mul-suc}
+use Rattle.std.proofs.lemmas.List.{length-append}
 use Rattle.std.specs.List.{flat_map}
 use Rattle.std.specs.Prelude.{codes, decimal}
 use Rattle.auth_kinds.specs.declared.edge.Edge.{Edge}
 use Rattle.auth_kinds.specs.declared.policy.Policy.{Policy}
 use Rattle.cam_base.specs.Texts.{◌⊹◌}
 use Rattle.numbering.specs.Gather.{IsIn}
+use Rattle.policy_text.proofs.EdgeLengths.{edge_short, number_short}
 use Rattle.policy_text.specs.PolicyLines.{edge_line, label_line, object_line, policy_text}
 use Rattle.spec_kept.proofs.Lengths.{all_short, joined}
-use Rattle.build_back.proofs.EdgeTexts.{edge_short, lines_short, number_short}
 
 abbrev pub IsLabelShort : ℕ × List ℕ → Type 0
 IsLabelShort l = (l.0 < 8192) × (length l.1 ≤ 2047)
@@ -18,6 +20,15 @@ IsObjectShort o = (length o.0 ≤ 127) × (o.1 < 8192)
 
 abbrev pub IsEdgeShort : Edge → Type 0
 IsEdgeShort e = (e.from < 8192) × (e.to < 8192)
+
+lines_short : {X : Type 0} (f : X → List ℕ) (n : ℕ) (xs : List X) → ((x : X) → IsIn x xs → length (f x) ≤ n) → length (flat_map f xs) ≤ n * length xs
+lines_short f n [] h = omega arith
+lines_short f n (x ∷ xs) h =
+    let a = length-append (f x) (flat_map f xs) in
+    let b = lines_short f n xs (λ y i. h y (inr i)) in
+    let c = h x (inl refl) in
+    let d = mul-suc n (length xs) in
+    omega (arith, a, b, c, d)
 
 label_short : (l : ℕ × List ℕ) → IsLabelShort l → length (label_line l) ≤ 2059
 label_short l h =

@@ -6,7 +6,7 @@ use Rattle.adl_settings.specs.Settled.{settled_of}
 use Rattle.arch_compile.specs.Built.{IsBuildOf, system_tables}
 use Rattle.arch_compile.specs.LayoutFaults.{images_from}
 use Rattle.arch_compile.specs.declared.building.Build.{Build}
-use Rattle.build_laws.proofs.Facts.{AreFacts, build_facts}
+use Rattle.arch_compile.proofs.Facts.{AreFacts, build_facts}
 use Rattle.cam_io.specs.Contents.{Contents}
 use Rattle.cap_model.specs.Canonical.{canonical}
 use Rattle.capdl_back.proofs.Whole.{canonical_text}
@@ -14,9 +14,9 @@ use Rattle.capdl_back.specs.Writable.{IsWritable}
 use Rattle.capdl_text.proofs.Unique.{one_spec}
 use Rattle.program_sections.specs.declared.images.Images.{Images}
 use Rattle.source_bounds.proofs.Bounds.{can_lay}
-use Rattle.source_kept.proofs.Fits.{layouts_are_limited, tables_are_fit}
-use Rattle.source_kept.proofs.Plain.{layouts_are_plain}
-use Rattle.source_kept.proofs.ReadImages.{read_images_are_plain}
+use Rattle.source_bounds.proofs.Fits.{layouts_are_limited, tables_are_fit}
+use Rattle.source_bounds.proofs.Plain.{layouts_are_plain}
+use Rattle.source_bounds.proofs.ReadImages.{read_images_are_plain}
 use Rattle.spec_kept.proofs.Plainly.{tables_written}
 use Rattle.spec_kept.proofs.Sizing.{tables_sized}
 use Rattle.spec_kept.proofs.Writing.{spec_writable}

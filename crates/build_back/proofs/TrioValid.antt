@@ -6,7 +6,7 @@ use Rattle.arch_compile.specs.LayoutFaults.{images_from}
 use Rattle.arch_compile.specs.declared.building.Build.{Build}
 use Rattle.auth_kinds.specs.declared.edge.Edge.{Edge}
 use Rattle.auth_kinds.specs.declared.object_labels.Labels.{Labels}
-use Rattle.build_laws.proofs.Facts.{AreFacts, build_facts}
+use Rattle.arch_compile.proofs.Facts.{AreFacts, build_facts}
 use Rattle.build_laws.proofs.Soundness.{build_sound, labels_are}
 use Rattle.build_laws.specs.Sound.{IsSound}
 use Rattle.cam_io.specs.Contents.{Contents}
@@ -65,9 +65,7 @@ module _ {contents : Contents} (b : Build) (found : List Found) (facts : AreFact
 
   pub made_trio : IsTrioValid b
   made_trio = record {
-    labels = record { by_object = labels };
-    labelled = gives;
-    listed = labels_are s images facts b made;
+    labelled = subst (λ z. IsLabelling b.spec b.policy (Ok (record { by_object = z }))) (sym (labels_are s images facts b made)) gives;
     valid = by_labels;
     yes = λ given verdict l j. judged_yes verdict (by_labels given l) j;
   }

@@ -148,7 +148,7 @@ texts_accepted contents before now cdl policy cert words answer status old new m
     let b = holds.build in
     let root = holds.root in
     let sources = holds.sources in
-    let back : AreReadBack b = record { spec = spec_back root sources b holds.made; policy = policy_read root sources b holds.made; cert = cert_read root sources b holds.made } in
+    let back : AreReadBack b = record { spec = spec_back root sources b holds.system.made; policy = policy_read root sources b holds.system.made; cert = cert_read root sources b holds.system.made } in
     let exact = exact_status contents words before now answer status old new m n fits tells none kept in
-    status_is contents before now cdl policy cert b back (as_read root sources b holds.made) (trio_valid root sources b holds.made) holds.capdl holds.allowed holds.certificate status
+    status_is contents before now cdl policy cert b back (as_read root sources b holds.system.made) (trio_valid root sources b holds.system.made) holds.system.capdl holds.system.allowed holds.certificate status
     (subst (λ z. IsStatus contents before now z status) asked exact)

@@ -1,7 +1,9 @@
 pub mod Accepted
 pub mod Asked
 pub mod Choices
+pub mod Learns
 pub mod Leaving
+pub mod OfBuild
 pub mod OneAnswer
 pub mod Printed
 pub mod Statuses

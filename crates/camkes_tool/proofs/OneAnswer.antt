@@ -6,7 +6,8 @@ use Rattle.cam_io.specs.Scripts.{Begin, Write, after}
 use Rattle.cam_io.specs.Sinks.{Sink}
 use Rattle.arch_compile.proofs.OneAnswer.{build_first, builds_same, one_first}
 use Rattle.arch_compile.specs.declared.building.Build.{Build}
-use Rattle.build_texts.specs.BuildTexts.{AreNamedBy, build_map, build_summary, texts_script}
+use Rattle.arch_compile.specs.Maps.{build_map}
+use Rattle.build_texts.specs.BuildTexts.{AreNamedBy, build_summary, texts_script}
 use Rattle.build_texts.specs.declared.names.TextNames.{TextNames}
 use Rattle.cap_model.specs.Canonical.{canonical}
 use Rattle.policy_text.specs.PolicyLines.{cert_text, policy_text}

@@ -25,6 +25,7 @@ use Rattle.text_commands.specs.Outcomes.{text_of}
 use Rattle.text_commands.specs.declared.fault.InputError.{InputError}
 use Rattle.text_commands.specs.declared.outcome.Outcome.{Outcome}
 use Rattle.text_commands.specs.declared.outcome.Outcome.TheVariants as found
+use Rattle.camkes_tool.proofs.OfBuild.{least_own, report_listed}
 use Rattle.camkes_tool.proofs.Safe.{policy_read, system_read}
 use Rattle.camkes_tool.proofs.Written.{whole_status, zero_not_five}
 use Rattle.camkes_tool.specs.Answers.{FitsAsked, FitsTexts, Tells}
@@ -63,6 +64,7 @@ module _ (m : Contents) (before now : List ℕ → ℕ) where
           labelled = labelled;
           least = least.least;
           read_back = text_back capdl.0 text.0 spec allowed labels capdl.2 text.2 labelled edges least;
+          of_build = λ root sources b holds. least_own m cdl policy root sources b holds spec allowed labels capdl text labelled edges least.sorted least.least;
           decides = λ cert held. (
             λ yes. (cert, yes),
             λ some. other_says cert held some,
@@ -114,14 +116,18 @@ module _ (m : Contents) (before now : List ℕ → ℕ) where
         let named : names ≡ allowed.labels = cc in
         let mine : HasReport spec labels.by_object report = subst (λ z. HasReport z labels.by_object report) specs (subst (λ z. HasReport read_as labels.by_object z) reports has) in
         let labelled_so : IsLabelling spec allowed (Ok labels) = subst (λ z. IsLabelling z allowed (Ok labels)) specs labelled in
+        let capdl : HasText m cdl spec = subst (λ z. HasText m cdl z) specs (system_read m before now cdl policy [] read_as system) in
+        let text = policy_read m before now cdl policy [] allowed read in
         record {
           allowed = allowed;
           labels = labels;
-          capdl = subst (λ z. HasText m cdl z) specs (system_read m before now cdl policy [] read_as system);
-          text = policy_read m before now cdl policy [] allowed read;
+          capdl = capdl;
+          text = text;
           labelled = labelled_so;
           named = named;
           reached = mine.shown;
+          of_build = λ root sources b holds.
+              report_listed m cdl policy root sources b holds spec allowed labels capdl text labelled_so report.edges report.steps names named mine.sorted mine.shown;
           replayed = λ few first last file answer held is run.
               let made = audit_replayed m before now first last cdl policy report spec names audited file answer few held is run in
               (made.0, made.1, tt);

@@ -103,11 +103,13 @@ FitsGenerated asked answer = FitsRefused (λ e. asked (Err e)) answer
 abbrev pub FitsAsked : Option Command → Contents → (List ℕ → ℕ) → (List ℕ → ℕ) → Answer → Type 0
 FitsAsked None contents before now answer = IsUsage answer
 FitsAsked (Some (Compile root base)) contents before now answer = FitsRoot root base contents before now answer
-FitsAsked (Some (Check cdl policy cert)) contents before now answer = FitsTexts (IsChecked contents before now cdl policy cert) answer
+FitsAsked (Some (Check cdl policy cert)) contents before now answer =
+    FitsTexts (IsChecked contents before now cdl policy cert) answer
 FitsAsked (Some (ListOf root)) contents before now answer = FitsListed (IsListed root contents before now) answer
 FitsAsked (Some (Explain root from authority to)) contents before now answer =
     FitsExplained (IsExplained from authority to root contents before now) answer
-FitsAsked (Some (Replay cdl policy steps)) contents before now answer = FitsTexts (IsRun contents before now cdl policy steps) answer
+FitsAsked (Some (Replay cdl policy steps)) contents before now answer =
+    FitsTexts (IsRun contents before now cdl policy steps) answer
 FitsAsked (Some (Generate count)) contents before now answer = FitsGenerated (IsGenerated count) answer
 FitsAsked (Some (Audit cdl policy)) contents before now answer = FitsTexts (IsAudited contents before now cdl policy) answer
 FitsAsked (Some (Certify cdl policy)) contents before now answer = FitsTexts (IsCertified contents before now cdl policy) answer

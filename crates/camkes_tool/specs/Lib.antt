@@ -1,6 +1,7 @@
 pub mod Answers
 pub mod Channels
 pub mod Deciding
+pub mod Learning
 pub mod Lines
 pub mod Statuses
 pub mod Theorem

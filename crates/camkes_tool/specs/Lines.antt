@@ -8,7 +8,8 @@ use Rattle.text_commands.specs.Lines.{code_text, place_text}
 -- `r.camkes:155-160: E10 Unknown Sever`
 abbrev pub fault_line : List ℕ → Fault → List ℕ
 fault_line file fault =
-    place_text file fault.place.first fault.place.end ⊹ (codes "E" ⊹ code_text (decimal (number_of fault.code)) (title_of fault.code) fault.name)
+    place_text file fault.place.first fault.place.end
+    ⊹ (codes "E" ⊹ code_text (decimal (number_of fault.code)) (title_of fault.code) fault.name)
 
 abbrev pub read_fault_line : List ℕ → List ℕ
 read_fault_line file = together (codes "read fault " ∷ file ∷ codes "\n" ∷ [])

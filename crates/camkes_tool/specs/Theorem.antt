@@ -18,7 +18,8 @@
 --
 -- Of what other commands print with status 0: of `certify` the least certificate, which is read back, and to which `check` says
 -- yes where it does to any; of `sections` a table, which is read back as the file's image; of `audit` just the edges that runs
--- reach, and steps for which `replay` shows them.
+-- reach, and steps for which `replay` shows them. Of what is written of a build `certify` prints the certificate that is written,
+-- and `audit` the edges that `list` prints.
 use Rattle.std.specs.FinMap.{get}
 use Rattle.std.specs.Prelude.{◌≡◌, ◌≤◌, ◌⊎◌, ◌↔◌, ◌++◌, ℕ, if◌then◌else◌, List, codes, length, Some, Result, Ok, Err}
 use Rattle.arch_compile.specs.Built.{IsBuildOf}
@@ -49,7 +50,7 @@ use Rattle.cap_model.specs.declared.spec.Spec.{Spec}
 use Rattle.capdl_text.specs.Texts.{Text}
 use Rattle.cert_check.specs.Valid.{Stays}
 use Rattle.cert_check.specs.declared.verdict.Verdict.TheVariants.{Yes}
-use Rattle.edge_lines.specs.Lines.{Labels as Names}
+use Rattle.edge_lines.specs.Lines.{Labels as Names, apart_lines}
 use Rattle.elf_back.specs.Tables.{AreBytes}
 use Rattle.elf_images.specs.Elf.{Elf}
 use Rattle.elf_images.specs.Texts.{table_text}
@@ -62,6 +63,8 @@ use Rattle.reason_lines.specs.declared.answer.Answer.{Answer}
 use Rattle.sect_table.specs.Tables as tables
 use Rattle.sect_table.specs.declared.image.Image.{Image}
 use Rattle.source_commands.specs.Assigned.{AnswersWhether, ListsAssigned}
+use Rattle.source_commands.specs.Listed.{IsListing, listing_text}
+use Rattle.source_commands.specs.declared.listing.Listing.{Listing}
 use Rattle.step_write.specs.StepLines.{steps_text}
 use Rattle.text_commands.specs.Commands.{IsChecked, IsRun}
 use Rattle.text_commands.specs.Inputs.{Holds}
@@ -111,15 +114,23 @@ pub record IsSafe (m : Contents) (cdl policy : List ℕ) : Type 0 where
   pub labelled : IsLabelling spec allowed (Ok labels)
   pub stays : Stays spec labels.by_object allowed.edges
 
+-- The two files hold the capDL and the policy that are written of this build, which is one of the root's source.
+pub record HoldBuild (m : Contents) (cdl policy root : List ℕ) (sources : Contents) (b : Build) : Type 0 where
+  pub made : IsBuildOf root sources b
+  pub capdl : get m cdl ≡ Some (canonical b.spec)
+  pub allowed : get m policy ≡ Some (policy_text b.policy)
+
 -- The three files hold the texts that are written of a build of some source.
 pub record HoldTexts (m : Contents) (cdl policy cert : List ℕ) : Type 0 where
   pub root : List ℕ
   pub sources : Contents
   pub build : Build
-  pub made : IsBuildOf root sources build
-  pub capdl : get m cdl ≡ Some (canonical build.spec)
-  pub allowed : get m policy ≡ Some (policy_text build.policy)
+  pub system : HoldBuild m cdl policy root sources build
   pub certificate : get m cert ≡ Some (cert_text build.cert)
+
+-- the text is what `list` prints of the root's source
+abbrev pub IsListText : List ℕ → Contents → List ℕ → Type 0
+IsListText root sources text = (listing : Listing) × IsListing root sources listing × (text ≡ listing_text listing)
 
 -- ---- what other commands print
 
@@ -129,7 +140,7 @@ SaysYes m cdl policy cert = (names : Names) × IsChecked m (λ file. 0) (λ file
 
 -- The two files hold a system's capDL and a policy that labels its objects, and the edges are the system's least certificate.
 -- Their text is read, under this policy, as just them; and `check` says yes to a file that holds it exactly where it says yes to
--- some file.
+-- some file. Where the two files are written of a build, the edges are those of its certificate.
 pub record IsLeastOf (m : Contents) (cdl policy : List ℕ) (edges : List Edge) : Type 0 where
   pub spec : Spec
   pub allowed : Policy
@@ -141,6 +152,7 @@ pub record IsLeastOf (m : Contents) (cdl policy : List ℕ) (edges : List Edge) 
   pub read_back : IsCertText allowed (cert_text edges) edges
   pub decides : (cert : List ℕ) → Holds m cert (cert_text edges)
       → SaysYes m cdl policy cert ↔ ((other : List ℕ) × SaysYes m cdl policy other)
+  pub of_build : (root : List ℕ) (sources : Contents) (b : Build) → HoldBuild m cdl policy root sources b → edges ≡ b.cert
 
 -- The least certificate is written, and nothing else.
 pub record IsCertificateWritten (told : Contents → Type 0) (cdl policy : List ℕ) (old new : Sink) : Type 0 where
@@ -174,7 +186,8 @@ Replays m before now cdl policy spec names steps AreSuch =
 
 -- The two files hold a system's capDL and a policy that labels its objects. The report has just the edges between different
 -- labels that runs of the system reach. Where its steps are at most 100,000, `replay` makes all of them, and shows each edge
--- behind some front of them.
+-- behind some front of them. Where the two files are written of a build, the lines of its edges are what `list` prints of the
+-- source.
 pub record IsReportOf (m : Contents) (cdl policy : List ℕ) (report : AuditReport) (spec : Spec) (names : Names) : Type 0 where
   pub allowed : Policy
   pub labels : Labels
@@ -183,6 +196,8 @@ pub record IsReportOf (m : Contents) (cdl policy : List ℕ) (report : AuditRepo
   pub labelled : IsLabelling spec allowed (Ok labels)
   pub named : names ≡ allowed.labels
   pub reached : IsReport spec labels.by_object report.edges report.steps
+  pub of_build : (root : List ℕ) (sources : Contents) (b : Build) → HoldBuild m cdl policy root sources b
+      → IsListText root sources (apart_lines names report.edges)
   pub replayed : length report.steps ≤ 100000 → (before now : List ℕ → ℕ)
       → Replays m before now cdl policy spec names report.steps (λ edges. Unit {0})
   pub shown : length report.steps ≤ 100000 → (before now : List ℕ → ℕ) (l : ℕ) (a : Authority) (x : ℕ) → Has report.edges l a x

@@ -1,13 +1,15 @@
 //! The commands that only print: what is asked for is found, and what was found is the answer.
 
-ghost use Rattle.cam_io.specs.Reading.{InAll, KeepsFiles};
+ghost use Rattle.adl_import.specs.Loaded.{AlikeInSource};
+ghost use Rattle.cam_io.specs.Reading.{InAll, KeepsFiles, LearnsOnly};
 ghost use Rattle.camkes_tool.specs.Answers.{FitsExplained, FitsGenerated, FitsListed, FitsTexts};
 ghost use Rattle.camkes_tool.specs.Deciding.{refused, told};
 ghost use Rattle.generate_command.specs.Generated.{IsGenerated};
 ghost use Rattle.source_commands.specs.Explained.{IsExplained};
 ghost use Rattle.source_commands.specs.Listed.{IsListed};
-ghost use Rattle.std.specs.Prelude.{◌≡◌};
+ghost use Rattle.std.specs.Prelude.{◌≡◌, [], ◌∷◌};
 ghost use Rattle.text_commands.specs.Commands.{IsAudited, IsCertified, IsChecked, IsPlanned, IsRun, IsTabled};
+ghost use Rattle.text_commands.specs.Inputs.{AlikeAsRead, AlikeInInputs};
 
 use crate::Answer;
 use cam_io::Files;
@@ -24,7 +26,9 @@ use text_commands::{
 /// What the source of the root assigns.
 pub fn listed<F: Files>(alloc: Global, root: &str, files: &mut F) -> Answer
     ensures kept { KeepsFiles F.told F.faults files.old files.new }
-    ensures fits { InAll (F.told files.new) (λ m. FitsListed (IsListed root.now m (F.faults files.old) (F.faults files.new)) result) }
+    ensures learned { LearnsOnly F.told (AlikeInSource root.now) files.old files.new }
+    ensures fits { InAll (F.told files.new) (λ m. FitsListed
+        (IsListed root.now m (F.faults files.old) (F.faults files.new)) result) }
 {
     match list(alloc, files, root) {
         Ok(listing) => Answer::Listed { listing },
@@ -40,6 +44,7 @@ pub fn explained<F: Files>(
     files: &mut F,
 ) -> Answer
     ensures kept { KeepsFiles F.told F.faults files.old files.new }
+    ensures learned { LearnsOnly F.told (AlikeInSource root.now) files.old files.new }
     ensures fits { InAll (F.told files.new) (λ m. FitsExplained
         (IsExplained question.now.from.now question.now.authority.now question.now.to.now root.now
         m (F.faults files.old) (F.faults files.new)) result) }
@@ -80,8 +85,9 @@ pub fn checked<F: Files>(
     files: &mut F,
 ) -> Answer
     ensures kept { KeepsFiles F.told F.faults files.old files.new }
-    ensures fits { InAll (F.told files.new) (λ m. FitsTexts (IsChecked m (F.faults files.old) (F.faults files.new) cdl.now policy.now
-        cert.now) result) }
+    ensures learned { LearnsOnly F.told (AlikeInInputs (cdl.now ∷ policy.now ∷ cert.now ∷ [])) files.old files.new }
+    ensures fits { InAll (F.told files.new) (λ m. FitsTexts
+        (IsChecked m (F.faults files.old) (F.faults files.new) cdl.now policy.now cert.now) result) }
 {
     told(check_texts(alloc, files, cdl, policy, cert))
 }
@@ -95,8 +101,9 @@ pub fn replayed<F: Files>(
     files: &mut F,
 ) -> Answer
     ensures kept { KeepsFiles F.told F.faults files.old files.new }
-    ensures fits { InAll (F.told files.new) (λ m. FitsTexts (IsRun m (F.faults files.old) (F.faults files.new) cdl.now policy.now
-        steps.now) result) }
+    ensures learned { LearnsOnly F.told (AlikeInInputs (cdl.now ∷ policy.now ∷ steps.now ∷ [])) files.old files.new }
+    ensures fits { InAll (F.told files.new) (λ m. FitsTexts
+        (IsRun m (F.faults files.old) (F.faults files.new) cdl.now policy.now steps.now) result) }
 {
     told(replay_texts(alloc, files, cdl, policy, steps))
 }
@@ -104,8 +111,9 @@ pub fn replayed<F: Files>(
 /// What runs reach.
 pub fn audited<F: Files>(alloc: Global, cdl: &str, policy: &str, files: &mut F) -> Answer
     ensures kept { KeepsFiles F.told F.faults files.old files.new }
-    ensures fits { InAll (F.told files.new) (λ m. FitsTexts (IsAudited m (F.faults files.old) (F.faults files.new) cdl.now policy.now)
-        result) }
+    ensures learned { LearnsOnly F.told (AlikeInInputs (cdl.now ∷ policy.now ∷ [])) files.old files.new }
+    ensures fits { InAll (F.told files.new) (λ m. FitsTexts
+        (IsAudited m (F.faults files.old) (F.faults files.new) cdl.now policy.now) result) }
 {
     told(audit_texts(alloc, files, cdl, policy))
 }
@@ -113,8 +121,9 @@ pub fn audited<F: Files>(alloc: Global, cdl: &str, policy: &str, files: &mut F) 
 /// The least certificate.
 pub fn certified<F: Files>(alloc: Global, cdl: &str, policy: &str, files: &mut F) -> Answer
     ensures kept { KeepsFiles F.told F.faults files.old files.new }
-    ensures fits { InAll (F.told files.new) (λ m. FitsTexts (IsCertified m (F.faults files.old) (F.faults files.new) cdl.now policy.now)
-        result) }
+    ensures learned { LearnsOnly F.told (AlikeInInputs (cdl.now ∷ policy.now ∷ [])) files.old files.new }
+    ensures fits { InAll (F.told files.new) (λ m. FitsTexts
+        (IsCertified m (F.faults files.old) (F.faults files.new) cdl.now policy.now) result) }
 {
     told(certify_texts(alloc, files, cdl, policy))
 }
@@ -122,7 +131,9 @@ pub fn certified<F: Files>(alloc: Global, cdl: &str, policy: &str, files: &mut F
 /// The section table of an ELF file.
 pub fn tabled<F: Files>(alloc: Global, elf: &str, files: &mut F) -> Answer
     ensures kept { KeepsFiles F.told F.faults files.old files.new }
-    ensures fits { InAll (F.told files.new) (λ m. FitsTexts (IsTabled m (F.faults files.old) (F.faults files.new) elf.now) result) }
+    ensures learned { LearnsOnly F.told (AlikeAsRead elf.now) files.old files.new }
+    ensures fits { InAll (F.told files.new) (λ m. FitsTexts
+        (IsTabled m (F.faults files.old) (F.faults files.new) elf.now) result) }
 {
     told(table_of_elf(alloc, files, elf))
 }
@@ -130,8 +141,9 @@ pub fn tabled<F: Files>(alloc: Global, elf: &str, files: &mut F) -> Answer
 /// Where objects go in memory.
 pub fn planned<F: Files>(alloc: Global, cdl: &str, untypeds: &str, files: &mut F) -> Answer
     ensures kept { KeepsFiles F.told F.faults files.old files.new }
-    ensures fits { InAll (F.told files.new) (λ m. FitsTexts (IsPlanned m (F.faults files.old) (F.faults files.new) cdl.now untypeds.now)
-        result) }
+    ensures learned { LearnsOnly F.told (AlikeInInputs (cdl.now ∷ untypeds.now ∷ [])) files.old files.new }
+    ensures fits { InAll (F.told files.new) (λ m. FitsTexts
+        (IsPlanned m (F.faults files.old) (F.faults files.new) cdl.now untypeds.now) result) }
 {
     told(plan_texts(alloc, files, cdl, untypeds))
 }

@@ -1,7 +1,9 @@
-ghost use Rattle.cam_io.specs.Reading.{InAll, KeepsFiles};
+ghost use Rattle.arch_compile.specs.Compiled.{AlikeInBuild};
+ghost use Rattle.cam_io.specs.Reading.{InAll, KeepsFiles, LearnsOnly};
 ghost use Rattle.camkes_tool.specs.Answers.{Fits, FitsAsked, FitsRoot};
 ghost use Rattle.camkes_tool.specs.Deciding.{IsWrittenAs};
-ghost use Rattle.command_words.specs.Words.{AreUtf8};
+ghost use Rattle.camkes_tool.specs.Learning.{AlikeInCommand};
+ghost use Rattle.command_words.specs.Words.{AreUtf8, read_words};
 ghost use Rattle.std.specs.Prelude.{Some, map, string_bytes};
 
 use crate::Answer;
@@ -19,7 +21,9 @@ use std::alloc::Global;
 /// Reads the words and the files, and says nothing yet.
 pub fn decide<F: Files>(alloc: Global, words: &[String], files: &mut F) -> Answer
     ensures kept { KeepsFiles F.told F.faults files.old files.new }
-    ensures fits { InAll (F.told files.new) (λ m. Fits (map string_bytes words.now) m (F.faults files.old) (F.faults files.new) result) }
+    ensures learned { LearnsOnly F.told (AlikeInCommand (read_words (map string_bytes words.now))) files.old files.new }
+    ensures fits { InAll (F.told files.new) (λ m. Fits (map string_bytes words.now)
+        m (F.faults files.old) (F.faults files.new) result) }
 {
     match read_words(alloc, words) {
         Ok(command) => follow(alloc, &command, files),
@@ -32,7 +36,9 @@ pub fn decide<F: Files>(alloc: Global, words: &[String], files: &mut F) -> Answe
 fn follow<F: Files>(alloc: Global, command: &Command, files: &mut F) -> Answer
     requires { AreUtf8 command.now }
     ensures kept { KeepsFiles F.told F.faults files.old files.new }
-    ensures fits { InAll (F.told files.new) (λ m. FitsAsked (Some command.now) m (F.faults files.old) (F.faults files.new) result) }
+    ensures learned { LearnsOnly F.told (AlikeInCommand (Some command.now)) files.old files.new }
+    ensures fits { InAll (F.told files.new) (λ m. FitsAsked (Some command.now)
+        m (F.faults files.old) (F.faults files.new) result) }
 {
     match command {
         Command::Compile { root, base } => answer(alloc, as_name(root), as_name(base), files),
@@ -77,7 +83,9 @@ fn follow<F: Files>(alloc: Global, command: &Command, files: &mut F) -> Answer
 /// Compiles the source of the root, and answers what is to be written under the base or what stands in the way.
 fn answer<F: Files>(alloc: Global, root: &str, base: &str, files: &mut F) -> Answer
     ensures kept { KeepsFiles F.told F.faults files.old files.new }
-    ensures fits { InAll (F.told files.new) (λ m. FitsRoot root.now base.now m (F.faults files.old) (F.faults files.new) result) }
+    ensures learned { LearnsOnly F.told (AlikeInBuild root.now) files.old files.new }
+    ensures fits { InAll (F.told files.new) (λ m. FitsRoot root.now base.now
+        m (F.faults files.old) (F.faults files.new) result) }
 {
     match compile(alloc, files, root) {
         Ok(build) => written_as(alloc, base, build),

@@ -1,8 +1,9 @@
 ghost use Rattle.build_texts.specs.BuildTexts.{AreUnbegun};
 ghost use Rattle.cam_io.specs.Causes.{Rose};
 ghost use Rattle.cam_io.specs.Contents.{Contents};
-ghost use Rattle.cam_io.specs.Reading.{InAll, KeepsFiles};
+ghost use Rattle.cam_io.specs.Reading.{InAll, KeepsFiles, LearnsOnly};
 ghost use Rattle.camkes_tool.specs.Answers.{Fits, Tells, status_of};
+ghost use Rattle.camkes_tool.specs.Learning.{AlikeInCommand};
 ghost use Rattle.camkes_tool.specs.Statuses.{NoneRose};
 ghost use Rattle.camkes_tool.specs.Theorem.{HoldTexts, IsAnswerWritten, IsListWritten, IsSafe, IsWritten};
 ghost use Rattle.camkes_tool.specs.Theorem.{IsCertificateWritten, IsReportWritten, IsTableWritten};
@@ -48,10 +49,13 @@ fn status_of(answer: &Answer) -> u8
 /// answer was told whole, or the status is 5 and it was cut short: `specs/Answers.antt`. What is compiled is what the source
 /// says, is read back, and lets threads reach exactly what the source assigns; just that is listed and explained; a yes of the
 /// checker holds over every interleaving of steps; and of what was compiled it says yes. The least certificate and a table are
-/// read back, and the steps of an audit are replayed: `specs/Theorem.antt`.
+/// read back, and the steps of an audit are replayed; of what was compiled an audit has the edges that are listed, and the least
+/// certificate is the one that was written: `specs/Theorem.antt`. No more is learned of the files than those that the command
+/// names or meets, up to their limits and a byte more: `specs/Learning.antt`.
 pub fn run<F: Files, O: Outputs>(alloc: Global, words: &[String], files: &mut F, out: &mut O) -> u8
     requires { AreUnbegun (O.sink out.old) }
     ensures kept { KeepsFiles F.told F.faults files.old files.new }
+    ensures learned { LearnsOnly F.told (AlikeInCommand (read_words (map string_bytes words.now))) files.old files.new }
     ensures told { (answer : Answer)
         × InAll (F.told files.new) (λ m. Fits (map string_bytes words.now) m (F.faults files.old) (F.faults files.new) answer)
         × Tells answer result (O.sink out.old) (O.sink out.new) (O.faults out.old) (O.faults out.new) }

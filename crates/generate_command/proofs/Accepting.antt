@@ -21,4 +21,4 @@ none_some o fault none some = cc
 pub labels_stand : (b : Build) (fault : TextFault) → IsTrioValid b → IsLabelling b.spec b.policy (Err (refused.Fault fault)) → ⊥
 labels_stand b fault trio h =
     none_some (first_unlabelled (object_label b.policy.objects) b.spec.entries) fault
-    (none_unlabelled (object_label b.policy.objects) b.spec.entries trio.labels.by_object trio.labelled) h
+    (none_unlabelled (object_label b.policy.objects) b.spec.entries (map (λ (o : List ℕ × ℕ). o.1) b.policy.objects) trio.labelled) h

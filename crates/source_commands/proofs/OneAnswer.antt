@@ -1,5 +1,6 @@
 -- In given contents there is one listing and one explanation, aside from failed reads and want of memory.
 use Rattle.std.proofs.Common.{◌≡◌, ◌∙◌, ℕ, false, List, Option, Some, None, Result, Ok, Err, refl, sym, ap, subst, arith}
+use Rattle.std.proofs.lemmas.Option.{same_Some}
 use Rattle.adl_ast.specs.declared.source.Source.{Source}
 use Rattle.arch_policy.specs.Labels.{label_texts}
 use Rattle.arch_policy.specs.Reasons.{IsReasoned, Reason, by_bind, by_call, by_direct, by_lock}
@@ -77,13 +78,10 @@ module _ (t : Tables) (e : Edge) where
 
 -- ---- explanations
 
-some_one : {X : Type 0} (o : Option X) (x y : X) → o ≡ Some x → o ≡ Some y → x ≡ y
-some_one o x y p q = cc
-
 edges_asked : (labels : List (List ℕ)) (from : List ℕ) (a : Authority) (to : List ℕ) (d e : Edge) → IsAsked labels from a to d → IsAsked labels from a to e → d ≡ e
 edges_asked labels from a to d e x y =
-    let from_one : d.from ≡ e.from = some_one _ d.from e.from x.from_is y.from_is in
-    let to_one : d.to ≡ e.to = some_one _ d.to e.to x.to_is y.to_is in
+    let from_one : d.from ≡ e.from = same_Some d.from e.from (sym x.from_is ∙ y.from_is) in
+    let to_one : d.to ≡ e.to = same_Some d.to e.to (sym x.to_is ∙ y.to_is) in
     ap (λ z. let r : Edge = record { from = z; authority = d.authority; to = d.to } in r) from_one
     ∙ ap (λ z. let r : Edge = record { from = e.from; authority = z; to = d.to } in r) (x.authority_is ∙ sym y.authority_is)
     ∙ ap (λ z. let r : Edge = record { from = e.from; authority = e.authority; to = z } in r) to_one
@@ -108,7 +106,7 @@ module _ (t : Tables) (from authority to : List ℕ) where
 
   answers_one : (a b : Answer) → IsAnswer t from authority to a → IsAnswer t from authority to b → a ≡ b
   answers_one (Assigned x) (Assigned y) (a, r, word, told, is) (b, q, words, tells, be) =
-      let same : b ≡ a = some_one (authority_of authority) b a words word in
+      let same : b ≡ a = same_Some b a (sym words ∙ word) in
       let reason = told_one a r q told (subst (λ z. Explains t from z to (Ok q)) same tells) in
       ap (λ z. Assigned z) (is ∙ ap (λ z. explanation t.source t.flat from authority to z) reason ∙ sym be)
   answers_one (Assigned x) NotAssigned (a, r, word, (e, asked, first), is) none = absurd (none a word e asked first.0)

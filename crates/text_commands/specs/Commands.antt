@@ -54,7 +54,8 @@ module _ (contents : Contents) (before now : List ℕ → ℕ) where
   IsChecked cdl policy cert =
       Then (IsSystem cdl) (λ spec. Then (IsPolicy policy) (λ allowed. Then (IsCert allowed cert) (λ edges.
       Then (IsTold tell_text policy (IsLabelling spec allowed)) (λ labels. Answers (λ outcome.
-      (verdict : Verdict) × (outcome ≡ Checked verdict allowed.labels) × Judged spec labels.by_object allowed.edges edges verdict)))))
+      (verdict : Verdict) × (outcome ≡ Checked verdict allowed.labels)
+      × Judged spec labels.by_object allowed.edges edges verdict)))))
 
   -- what the steps lead to
   abbrev pub IsRun : List ℕ → List ℕ → List ℕ → Result Outcome InputError → Type 0

@@ -42,8 +42,10 @@ hindered hindrance name = record { code = Hindered hindrance; first = 0; end = 0
 
 -- `c 0x1`, `2001 2001`
 abbrev pub tell_audit : List ℕ → Spec → AuditRefusal → Option (InputFault × List ℕ)
-tell_audit cdl spec (auditing.HoldsTcb cnode slot) = Some (hindered hindrances.HoldsTcb (words (name_at spec cnode) (hex_text slot)), cdl)
-tell_audit cdl spec (auditing.Limit cnodes caps) = Some (hindered hindrances.AuditLimit (words (decimal cnodes) (decimal caps)), cdl)
+tell_audit cdl spec (auditing.HoldsTcb cnode slot) =
+    Some (hindered hindrances.HoldsTcb (words (name_at spec cnode) (hex_text slot)), cdl)
+tell_audit cdl spec (auditing.Limit cnodes caps) =
+    Some (hindered hindrances.AuditLimit (words (decimal cnodes) (decimal caps)), cdl)
 tell_audit cdl spec auditing.NoMemory = None
 
 -- an audit is allowed where no CNode holds a capability to a thread, and there aren't too many CNodes and capabilities
@@ -89,7 +91,8 @@ IsCertificateOf cdl spec labels =
 abbrev pub tell_plan : List ℕ → List ℕ → Spec → PlanRefusal → Option (InputFault × List ℕ)
 tell_plan cdl untypeds spec (planning.NoRoom bits need have) =
     Some (hindered hindrances.NoRoom (words (decimal bits) (words (decimal need) (decimal have))), untypeds)
-tell_plan cdl untypeds spec (planning.Overlap first second) = Some (hindered hindrances.Overlap (words (decimal first) (decimal second)), untypeds)
+tell_plan cdl untypeds spec (planning.Overlap first second) =
+    Some (hindered hindrances.Overlap (words (decimal first) (decimal second)), untypeds)
 tell_plan cdl untypeds spec (planning.NoDevice frame) = Some (hindered hindrances.NoDevice (name_at spec frame), cdl)
 tell_plan cdl untypeds spec (planning.SharedFrame frame) = Some (hindered hindrances.SharedFrame (name_at spec frame), cdl)
 tell_plan cdl untypeds spec planning.NoMemory = None

@@ -2,7 +2,7 @@
 --
 -- Each input has its turn: that it is absent or too long, then its own first fault. The first turn with a fault decides. The
 -- contents say which bytes are read, and what is absent or too long.
-use Rattle.std.specs.Prelude.{◌≡◌, ◌<◌, ◌≤◌, ◌⊎◌, ℕ, List, length, Option, Some, None, Result, Ok, Err}
+use Rattle.std.specs.Prelude.{◌≡◌, ◌<◌, ◌≤◌, ◌⊎◌, ◌+◌, ℕ, List, length, Option, Some, None, Result, Ok, Err}
 use Rattle.std.specs.FinMap as map
 use Rattle.cam_base.specs.declared.error.Refused.{Refused}
 use Rattle.cam_base.specs.declared.error.Refused.TheVariants as refused
@@ -10,6 +10,8 @@ use Rattle.cam_base.specs.declared.text_fault.TextCode.{TextCode}
 use Rattle.cam_base.specs.declared.text_fault.TextCode.TheVariants.{NoFile, TooLong}
 use Rattle.cam_io.specs.Causes.{Rose}
 use Rattle.cam_io.specs.Contents.{Contents}
+use Rattle.cam_io.specs.Reading.{HaveSameFront}
+use Rattle.numbering.specs.Gather.{IsIn}
 use Rattle.text_commands.specs.declared.code.InputCode.TheVariants.{Text}
 use Rattle.text_commands.specs.declared.fault.InputFault.{InputFault}
 use Rattle.text_commands.specs.declared.fault.InputError.{InputError}
@@ -35,12 +37,21 @@ Holds contents name bytes = map.get contents name ≡ Some bytes
 abbrev pub IsTooLong : Contents → List ℕ → Type 0
 IsTooLong contents name = (bytes : List ℕ) × (map.get contents name ≡ Some bytes) × (most_bytes < length bytes)
 
+-- both contents have the same input of this name, as far as it is read: up to the limit, and a byte more
+abbrev pub AlikeAsRead : List ℕ → Contents → Contents → Type 0
+AlikeAsRead name = HaveSameFront name (most_bytes + 1)
+
+-- the same of each of these names
+abbrev pub AlikeInInputs : List (List ℕ) → Contents → Contents → Type 0
+AlikeInInputs names m n = (name : List ℕ) → IsIn name names → AlikeAsRead name m n
+
 -- The bytes of an input of this name, or why there are none. A read fault comes only where the count of this name rose from
 -- the one count to the other.
 abbrev pub IsInput : Contents → (List ℕ → ℕ) → (List ℕ → ℕ) → List ℕ → Result (List ℕ) InputError → Type 0
 IsInput contents before now name (Ok bytes) = (length bytes ≤ most_bytes) × Holds contents name bytes
 IsInput contents before now name (Err (Fault fault file)) =
-    (file ≡ name) × (((fault ≡ of_file NoFile name) × IsAbsent contents name) ⊎ ((fault ≡ of_file TooLong name) × IsTooLong contents name))
+    (file ≡ name)
+    × (((fault ≡ of_file NoFile name) × IsAbsent contents name) ⊎ ((fault ≡ of_file TooLong name) × IsTooLong contents name))
 IsInput contents before now name (Err (ReadFault file)) = (file ≡ name) × Rose (before name) (now name)
 IsInput contents before now name (Err NoMemory) = Unit {0}
 
@@ -52,7 +63,8 @@ IsTold tell file reads (Err (ReadFault f)) = ⊥
 IsTold tell file reads (Err NoMemory) = Unit {0}
 
 -- first one thing, and then, if it is there, the rest
-abbrev pub Then : {A B : Type 0} → (Result A InputError → Type 0) → (A → Result B InputError → Type 0) → Result B InputError → Type 0
+abbrev pub Then : {A B : Type 0} → (Result A InputError → Type 0) → (A → Result B InputError → Type 0)
+    → Result B InputError → Type 0
 Then {A} first rest result = ((x : A) × first (Ok x) × rest x result) ⊎ ((e : InputError) × first (Err e) × (result ≡ Err e))
 
 -- the turn of an input: its bytes, and then what a reader makes of them
@@ -95,7 +107,8 @@ IsErrorFor tell refusal (ReadFault file) = ⊥
 IsErrorFor tell refusal NoMemory = Unit {0}
 
 -- an answer is accepted, and an error tells a refusal that comes, unless memory ran out
-abbrev pub Decided : {A R : Type 0} → (R → Option (InputFault × List ℕ)) → (A → Type 0) → (R → Type 0) → Result A InputError → Type 0
+abbrev pub Decided : {A R : Type 0} → (R → Option (InputFault × List ℕ)) → (A → Type 0) → (R → Type 0)
+    → Result A InputError → Type 0
 Decided {R = R} tell accepts refuses (Ok x) = accepts x
 Decided {R = R} tell accepts refuses (Err (Fault fault file)) = (r : R) × refuses r × (tell r ≡ Some (fault, file))
 Decided tell accepts refuses (Err (ReadFault file)) = ⊥

@@ -82,4 +82,5 @@ reach_line edges steps = together (codes "reach " ∷ decimal edges ∷ codes " 
 
 -- `reach 5 edges 6 steps`, the edges, and the steps
 abbrev pub report_text : Labels → Spec → AuditReport → List ℕ
-report_text labels spec report = reach_line (length report.edges) (length report.steps) ⊹ apart_lines labels report.edges ⊹ steps_text spec report.steps
+report_text labels spec report =
+    reach_line (length report.edges) (length report.steps) ⊹ apart_lines labels report.edges ⊹ steps_text spec report.steps

@@ -33,4 +33,5 @@ answer_but_choice (Err error) = Err error
 -- an answer that fits here is each that fits there, but for the choice
 abbrev pub AreOneButChoice : (Result Outcome InputError → Type 0) → (Result Outcome InputError → Type 0) → Type 0
 AreOneButChoice FitsHere FitsThere =
-    (a b : Result Outcome InputError) → IsAnswer a → IsAnswer b → FitsHere a → FitsThere b → answer_but_choice a ≡ answer_but_choice b
+    (a b : Result Outcome InputError) → IsAnswer a → IsAnswer b → FitsHere a → FitsThere b
+    → answer_but_choice a ≡ answer_but_choice b

@@ -1,7 +1,9 @@
 //! The commands: inputs are read in written order, then objects are labelled, then the question is answered.
 
-ghost use Rattle.cam_io.specs.Reading.{InAll, KeepsFiles};
+ghost use Rattle.cam_io.specs.Reading.{InAll, KeepsFiles, LearnsOnly};
+ghost use Rattle.std.specs.Prelude.{[], ◌∷◌};
 ghost use Rattle.text_commands.specs.Commands.{IsAudited, IsCertified, IsChecked, IsPlanned, IsRun, IsTabled};
+ghost use Rattle.text_commands.specs.Inputs.{AlikeAsRead, AlikeInInputs};
 
 use crate::decisions::{audit_system, certify_system, plan_system};
 use crate::replay::replay;
@@ -23,6 +25,7 @@ pub fn check_texts<F: Files>(
     cert: &str,
 ) -> Result<Outcome, InputError>
     ensures kept { KeepsFiles F.told F.faults files.old files.new }
+    ensures learned { LearnsOnly F.told (AlikeInInputs (cdl.now ∷ policy.now ∷ cert.now ∷ [])) files.old files.new }
     ensures checked { InAll (F.told files.new) (λ m. IsChecked m (F.faults files.old) (F.faults files.new) cdl.now policy.now
         cert.now result) }
 {
@@ -46,7 +49,9 @@ pub fn replay_texts<F: Files>(
     steps: &str,
 ) -> Result<Outcome, InputError>
     ensures kept { KeepsFiles F.told F.faults files.old files.new }
-    ensures ran { InAll (F.told files.new) (λ m. IsRun m (F.faults files.old) (F.faults files.new) cdl.now policy.now steps.now result) }
+    ensures learned { LearnsOnly F.told (AlikeInInputs (cdl.now ∷ policy.now ∷ steps.now ∷ [])) files.old files.new }
+    ensures ran { InAll (F.told files.new) (λ m. IsRun m (F.faults files.old) (F.faults files.new) cdl.now policy.now
+        steps.now result) }
 {
     let spec = read_system(alloc, files, cdl)?;
     let allowed = read_labels(alloc, files, policy)?;
@@ -66,6 +71,7 @@ pub fn table_of_elf<F: Files>(
     elf: &str,
 ) -> Result<Outcome, InputError>
     ensures kept { KeepsFiles F.told F.faults files.old files.new }
+    ensures learned { LearnsOnly F.told (AlikeAsRead elf.now) files.old files.new }
     ensures tabled { InAll (F.told files.new) (λ m. IsTabled m (F.faults files.old) (F.faults files.new) elf.now result) }
 {
     let image = read_image(alloc, files, elf)?;
@@ -80,7 +86,9 @@ pub fn audit_texts<F: Files>(
     policy: &str,
 ) -> Result<Outcome, InputError>
     ensures kept { KeepsFiles F.told F.faults files.old files.new }
-    ensures audited { InAll (F.told files.new) (λ m. IsAudited m (F.faults files.old) (F.faults files.new) cdl.now policy.now result) }
+    ensures learned { LearnsOnly F.told (AlikeInInputs (cdl.now ∷ policy.now ∷ [])) files.old files.new }
+    ensures audited { InAll (F.told files.new) (λ m. IsAudited m (F.faults files.old) (F.faults files.new) cdl.now policy.now
+        result) }
 {
     let spec = read_system(alloc, files, cdl)?;
     let allowed = read_labels(alloc, files, policy)?;
@@ -96,7 +104,9 @@ pub fn certify_texts<F: Files>(
     policy: &str,
 ) -> Result<Outcome, InputError>
     ensures kept { KeepsFiles F.told F.faults files.old files.new }
-    ensures certified { InAll (F.told files.new) (λ m. IsCertified m (F.faults files.old) (F.faults files.new) cdl.now policy.now result) }
+    ensures learned { LearnsOnly F.told (AlikeInInputs (cdl.now ∷ policy.now ∷ [])) files.old files.new }
+    ensures certified { InAll (F.told files.new) (λ m. IsCertified m (F.faults files.old) (F.faults files.new) cdl.now policy.now
+        result) }
 {
     let spec = read_system(alloc, files, cdl)?;
     let allowed = read_labels(alloc, files, policy)?;
@@ -112,7 +122,9 @@ pub fn plan_texts<F: Files>(
     untypeds: &str,
 ) -> Result<Outcome, InputError>
     ensures kept { KeepsFiles F.told F.faults files.old files.new }
-    ensures planned { InAll (F.told files.new) (λ m. IsPlanned m (F.faults files.old) (F.faults files.new) cdl.now untypeds.now result) }
+    ensures learned { LearnsOnly F.told (AlikeInInputs (cdl.now ∷ untypeds.now ∷ [])) files.old files.new }
+    ensures planned { InAll (F.told files.new) (λ m. IsPlanned m (F.faults files.old) (F.faults files.new) cdl.now untypeds.now
+        result) }
 {
     let spec = read_system(alloc, files, cdl)?;
     let regions = read_regions(alloc, files, untypeds)?;

@@ -1,6 +1,6 @@
-ghost use Rattle.cam_io.specs.Reading.{InAll, KeepsFiles};
+ghost use Rattle.cam_io.specs.Reading.{InAll, KeepsFiles, LearnsOnly};
 ghost use Rattle.text_commands.specs.Codes.{tell_elf, tell_text, tell_untyped};
-ghost use Rattle.text_commands.specs.Inputs.{IsErrorOf, IsInput, IsReadFaultOf, IsRefusalOf, of_file};
+ghost use Rattle.text_commands.specs.Inputs.{AlikeAsRead, IsErrorOf, IsInput, IsReadFaultOf, IsRefusalOf, of_file};
 
 use crate::{InputCode, InputError, InputFault};
 use boot_plan::UntypedFault;
@@ -23,6 +23,7 @@ pub fn read_input<F: Files>(
     name: &str,
 ) -> Result<List<u8>, InputError>
     ensures kept { KeepsFiles F.told F.faults files.old files.new }
+    ensures learned { LearnsOnly F.told (AlikeAsRead name.now) files.old files.new }
     ensures input { InAll (F.told files.new) (λ m. IsInput m (F.faults files.old) (F.faults files.new) name.now result) }
 {
     match read_whole(alloc, files, name, MOST_BYTES) {

@@ -49,11 +49,11 @@ pub fn answers_are_one()
 /// Where contents hold what `certify` prints of a capDL and a policy, it is read, under that policy, as the least certificate,
 /// and `check` says yes to it where it says yes to any certificate.
 pub fn certificates_are_read_back()
-    ensures back { (m : Contents) (old new later last : List ℕ → ℕ) (cdl policy cert : List ℕ) (least : List Edge) (allowed : Allowed)
-        → IsCertified m old new cdl policy (Found (Certified least)) → Holds m cert (text_of (Certified least))
+    ensures back { (m : Contents) (old new later last : List ℕ → ℕ) (cdl policy cert : List ℕ) (least : List Edge)
+        (allowed : Allowed) → IsCertified m old new cdl policy (Found (Certified least)) → Holds m cert (text_of (Certified least))
         → IsPolicy m later last policy (Found allowed) → IsCert m later last allowed cert (Found least) }
-    ensures decides { (m : Contents) (old new later last : List ℕ → ℕ) (cdl policy cert other : List ℕ) (least : List Edge) (names : Names)
-        → IsCertified m old new cdl policy (Found (Certified least)) → Holds m cert (text_of (Certified least))
+    ensures decides { (m : Contents) (old new later last : List ℕ → ℕ) (cdl policy cert other : List ℕ) (least : List Edge)
+        (names : Names) → IsCertified m old new cdl policy (Found (Certified least)) → Holds m cert (text_of (Certified least))
         → IsChecked m later last cdl policy other (Found (Checked Yes names))
         → IsChecked m later last cdl policy cert (Found (Checked Yes names)) }
 {}
@@ -63,15 +63,15 @@ pub fn certificates_are_read_back()
 pub fn tables_are_read_back()
     ensures { (m : Contents) (old new : List ℕ → ℕ) (elf bytes : List ℕ) (image : Image)
         → IsTabled m old new elf (Found (Tabled image)) → Holds m elf bytes → AreBytes bytes
-        → (file : ℕ) (name : List ℕ) (answer : Answer Image (Refused Wrong)) → tables.IsRead file name (text_of (Tabled image)) answer
-        → (answer ≡ Found (record image { name = name })) ⊎ (answer ≡ Refusal refused.NoMemory) }
+        → (file : ℕ) (name : List ℕ) (answer : Answer Image (Refused Wrong))
+        → tables.IsRead file name (text_of (Tabled image)) answer → (answer ≡ Found (record image { name = name })) ⊎ (answer ≡ Refusal refused.NoMemory) }
 {}
 
 /// The steps that `audit` prints can be read back. Where contents hold them, and they are at most 100,000, `replay` says that
 /// all of them were made; and each edge that `audit` prints is one that `replay` prints for some front of the steps.
 pub fn audits_are_replayed()
-    ensures readable { (m : Contents) (old new : List ℕ → ℕ) (cdl policy : List ℕ) (report : AuditReport) (spec : Spec) (names : Names)
-        → IsAudited m old new cdl policy (Found (Audited report spec names)) → length report.steps < 2 ^ 63
+    ensures readable { (m : Contents) (old new : List ℕ → ℕ) (cdl policy : List ℕ) (report : AuditReport) (spec : Spec)
+        (names : Names) → IsAudited m old new cdl policy (Found (Audited report spec names)) → length report.steps < 2 ^ 63
         → All (IsReadable spec) report.steps }
     ensures replayed { (m : Contents) (old new later last : List ℕ → ℕ) (cdl policy : List ℕ) (report : AuditReport) (spec : Spec)
         (names : Names) → IsAudited m old new cdl policy (Found (Audited report spec names)) → length report.steps ≤ 100000

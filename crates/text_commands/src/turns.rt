@@ -2,13 +2,13 @@
 
 ghost use Rattle.auth_kinds.specs.Policies.{NumbersDiffer};
 ghost use Rattle.boot_plan.specs.Regions.{are_regions};
-ghost use Rattle.cam_io.specs.Reading.{InAll, KeepsFiles};
+ghost use Rattle.cam_io.specs.Reading.{InAll, KeepsFiles, LearnsOnly};
 ghost use Rattle.cap_model.specs.Kept.{IsKept};
 ghost use Rattle.policy_text.specs.Labelled.{IsLabelling};
 ghost use Rattle.std.specs.Prelude.{◌≡◌, ◌<◌, ◌≤◌, ◌^◌, IfOk, length, true};
 ghost use Rattle.text_commands.specs.Codes.{tell_text};
 ghost use Rattle.text_commands.specs.Commands.{AreRegions, AreSteps, IsCert, IsImage, IsPolicy, IsSystem};
-ghost use Rattle.text_commands.specs.Inputs.{IsTold};
+ghost use Rattle.text_commands.specs.Inputs.{AlikeAsRead, IsTold};
 
 use crate::InputError;
 use crate::input::{read_input, refuse_elf, refuse_text, refuse_untyped};
@@ -28,6 +28,7 @@ use step_text::read_steps;
 /// The system of a capDL file.
 pub fn read_system<F: Files>(alloc: Global, files: &mut F, file: &str) -> Result<Spec, InputError>
     ensures kept { KeepsFiles F.told F.faults files.old files.new }
+    ensures learned { LearnsOnly F.told (AlikeAsRead file.now) files.old files.new }
     ensures system { InAll (F.told files.new) (λ m. IsSystem m (F.faults files.old) (F.faults files.new) file.now result) }
     ensures kept_spec { IfOk result IsKept }
 {
@@ -41,6 +42,7 @@ pub fn read_system<F: Files>(alloc: Global, files: &mut F, file: &str) -> Result
 /// The policy of a file.
 pub fn read_labels<F: Files>(alloc: Global, files: &mut F, file: &str) -> Result<Policy, InputError>
     ensures kept { KeepsFiles F.told F.faults files.old files.new }
+    ensures learned { LearnsOnly F.told (AlikeAsRead file.now) files.old files.new }
     ensures policy { InAll (F.told files.new) (λ m. IsPolicy m (F.faults files.old) (F.faults files.new) file.now result) }
     ensures apart { IfOk result (λ policy. NumbersDiffer policy.labels) }
 {
@@ -59,7 +61,9 @@ pub fn read_edges<F: Files>(
     policy: &Policy,
 ) -> Result<EdgeTable, InputError>
     ensures kept { KeepsFiles F.told F.faults files.old files.new }
-    ensures edges { InAll (F.told files.new) (λ m. IsCert m (F.faults files.old) (F.faults files.new) policy.now file.now result) }
+    ensures learned { LearnsOnly F.told (AlikeAsRead file.now) files.old files.new }
+    ensures edges { InAll (F.told files.new) (λ m. IsCert m (F.faults files.old) (F.faults files.new) policy.now file.now
+        result) }
 {
     let bytes = read_input(alloc, files, file)?;
     match read_cert(alloc, bytes.as_slice(), policy) {
@@ -77,7 +81,9 @@ pub fn read_run<F: Files>(
 ) -> Result<List<Step>, InputError>
     requires { length spec.now.entries < 2 ^ 32 }
     ensures kept { KeepsFiles F.told F.faults files.old files.new }
-    ensures steps { InAll (F.told files.new) (λ m. AreSteps m (F.faults files.old) (F.faults files.new) spec.now file.now result) }
+    ensures learned { LearnsOnly F.told (AlikeAsRead file.now) files.old files.new }
+    ensures steps { InAll (F.told files.new) (λ m. AreSteps m (F.faults files.old) (F.faults files.new) spec.now file.now
+        result) }
     ensures few { IfOk result (λ steps. length steps ≤ 100000) }
 {
     let bytes = read_input(alloc, files, file)?;
@@ -90,6 +96,7 @@ pub fn read_run<F: Files>(
 /// The image of an ELF file.
 pub fn read_image<F: Files>(alloc: Global, files: &mut F, file: &str) -> Result<Image, InputError>
     ensures kept { KeepsFiles F.told F.faults files.old files.new }
+    ensures learned { LearnsOnly F.told (AlikeAsRead file.now) files.old files.new }
     ensures image { InAll (F.told files.new) (λ m. IsImage m (F.faults files.old) (F.faults files.new) file.now result) }
 {
     let bytes = read_input(alloc, files, file)?;
@@ -110,6 +117,7 @@ pub fn read_regions<F: Files>(
     file: &str,
 ) -> Result<List<Untyped>, InputError>
     ensures kept { KeepsFiles F.told F.faults files.old files.new }
+    ensures learned { LearnsOnly F.told (AlikeAsRead file.now) files.old files.new }
     ensures regions { InAll (F.told files.new) (λ m. AreRegions m (F.faults files.old) (F.faults files.new) file.now result) }
     ensures few { IfOk result (λ regions. length regions ≤ 4096) }
     ensures sound { IfOk result (λ regions. are_regions regions ≡ true) }

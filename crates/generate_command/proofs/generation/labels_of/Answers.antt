@@ -3,6 +3,5 @@ use Rattle.generate_command.proofs.generation.labels_of.Goals as goal
 
 pub returns-clause-labels : goal.returns-clause-labels
 returns-clause-labels c =
-    let trio = c.requires in
-    let beside = c.from_vec.ensures ∙ c.in_ok-labels.ensures ∙ ap (λ os. map (λ o. o.1) os) c.as_slice.ensures ∙ trio.listed in
-    ap (λ ls. map (λ n. Some n) ls) beside ∙ trio.labelled
+    let beside = c.from_vec.ensures ∙ c.in_ok-labels.ensures ∙ ap (λ os. map (λ o. o.1) os) c.as_slice.ensures in
+    ap (λ ls. map (λ n. Some n) ls) beside ∙ c.requires.labelled

@@ -44,3 +44,25 @@ returns-clause-audited g c m told =
         inl (c.in_ok-labels.labels, c.in_ok-labels.ensures.labels, subst (λ names. IsAudit c.args.cdl.now c.in_ok-spec.spec c.in_ok-labels.labels.by_object names c.audit_system.result) c.of.ensures c.audit_system.ensures),
       ),
     )
+
+pub returns-in_err-spec-clause-learned : goal.returns-in_err-spec-clause-learned
+returns-in_err-spec-clause-learned g c m n now old alike =
+    c.in_err-spec.ensures.learned m n now old (alike c.args.cdl.now (inl refl))
+
+pub returns-in_err-allowed-clause-learned : goal.returns-in_err-allowed-clause-learned
+returns-in_err-allowed-clause-learned g c m n now old alike =
+    let held = c.in_err-allowed.ensures.kept.told_still m now in
+    let one = c.in_ok-spec.ensures.learned m n held old (alike c.args.cdl.now (inl refl)) in
+    c.in_err-allowed.ensures.learned m n now one (alike c.args.policy.now (inr (inl refl)))
+
+pub returns-in_err-labels-clause-learned : goal.returns-in_err-labels-clause-learned
+returns-in_err-labels-clause-learned g c m n now old alike =
+    let held = c.in_ok-allowed.ensures.kept.told_still m now in
+    let one = c.in_ok-spec.ensures.learned m n held old (alike c.args.cdl.now (inl refl)) in
+    c.in_ok-allowed.ensures.learned m n now one (alike c.args.policy.now (inr (inl refl)))
+
+pub returns-clause-learned : goal.returns-clause-learned
+returns-clause-learned g c m n now old alike =
+    let held = c.in_ok-allowed.ensures.kept.told_still m now in
+    let one = c.in_ok-spec.ensures.learned m n held old (alike c.args.cdl.now (inl refl)) in
+    c.in_ok-allowed.ensures.learned m n now one (alike c.args.policy.now (inr (inl refl)))

@@ -72,3 +72,37 @@ returns-clause-checked g c m told =
         ),
       ),
     )
+
+pub returns-in_err-spec-clause-learned : goal.returns-in_err-spec-clause-learned
+returns-in_err-spec-clause-learned g c m n now old alike =
+    c.in_err-spec.ensures.learned m n now old (alike c.args.cdl.now (inl refl))
+
+pub returns-in_err-allowed-clause-learned : goal.returns-in_err-allowed-clause-learned
+returns-in_err-allowed-clause-learned g c m n now old alike =
+    let held = c.in_err-allowed.ensures.kept.told_still m now in
+    let one = c.in_ok-spec.ensures.learned m n held old (alike c.args.cdl.now (inl refl)) in
+    c.in_err-allowed.ensures.learned m n now one (alike c.args.policy.now (inr (inl refl)))
+
+pub returns-in_err-edges-clause-learned : goal.returns-in_err-edges-clause-learned
+returns-in_err-edges-clause-learned g c m n now old alike =
+    let held = c.in_err-edges.ensures.kept.told_still m now in
+    let first = c.in_ok-allowed.ensures.kept.told_still m held in
+    let one = c.in_ok-spec.ensures.learned m n first old (alike c.args.cdl.now (inl refl)) in
+    let two = c.in_ok-allowed.ensures.learned m n held one (alike c.args.policy.now (inr (inl refl))) in
+    c.in_err-edges.ensures.learned m n now two (alike c.args.cert.now (inr (inr (inl refl))))
+
+pub returns-in_err-labels-clause-learned : goal.returns-in_err-labels-clause-learned
+returns-in_err-labels-clause-learned g c m n now old alike =
+    let held = c.in_ok-edges.ensures.kept.told_still m now in
+    let first = c.in_ok-allowed.ensures.kept.told_still m held in
+    let one = c.in_ok-spec.ensures.learned m n first old (alike c.args.cdl.now (inl refl)) in
+    let two = c.in_ok-allowed.ensures.learned m n held one (alike c.args.policy.now (inr (inl refl))) in
+    c.in_ok-edges.ensures.learned m n now two (alike c.args.cert.now (inr (inr (inl refl))))
+
+pub returns-clause-learned : goal.returns-clause-learned
+returns-clause-learned g c m n now old alike =
+    let held = c.in_ok-edges.ensures.kept.told_still m now in
+    let first = c.in_ok-allowed.ensures.kept.told_still m held in
+    let one = c.in_ok-spec.ensures.learned m n first old (alike c.args.cdl.now (inl refl)) in
+    let two = c.in_ok-allowed.ensures.learned m n held one (alike c.args.policy.now (inr (inl refl))) in
+    c.in_ok-edges.ensures.learned m n now two (alike c.args.cert.now (inr (inr (inl refl))))

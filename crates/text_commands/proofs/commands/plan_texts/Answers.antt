@@ -31,3 +31,19 @@ returns-clause-planned g c m told =
         decided,
       ),
     )
+
+pub returns-in_err-spec-clause-learned : goal.returns-in_err-spec-clause-learned
+returns-in_err-spec-clause-learned g c m n now old alike =
+    c.in_err-spec.ensures.learned m n now old (alike c.args.cdl.now (inl refl))
+
+pub returns-in_err-regions-clause-learned : goal.returns-in_err-regions-clause-learned
+returns-in_err-regions-clause-learned g c m n now old alike =
+    let held = c.in_err-regions.ensures.kept.told_still m now in
+    let one = c.in_ok-spec.ensures.learned m n held old (alike c.args.cdl.now (inl refl)) in
+    c.in_err-regions.ensures.learned m n now one (alike c.args.untypeds.now (inr (inl refl)))
+
+pub returns-clause-learned : goal.returns-clause-learned
+returns-clause-learned g c m n now old alike =
+    let held = c.in_ok-regions.ensures.kept.told_still m now in
+    let one = c.in_ok-spec.ensures.learned m n held old (alike c.args.cdl.now (inl refl)) in
+    c.in_ok-regions.ensures.learned m n now one (alike c.args.untypeds.now (inr (inl refl)))
