@@ -34,6 +34,12 @@ use conn_rules::{rights_confer_just_the_authorities, sets_are_their_lists};
 use flat_laws::{ends_are_typed, flat_systems_are_within, short_files_have_few_members};
 use flow_laws::{others_change_nothing, own_acts_decide, turns_decide};
 use flow_model::{acts_are_possible, acts_lead_to_one_world, each_way_passes};
+use front_laws::{
+    duplicates_are_names_again, files_are_those_that_imports_reach,
+    flat_systems_are_by_the_hierarchy, misfits_are_at_fault, refused_imports_are_the_first,
+    settings_twice_are_set_again, told_faults_stand, types_are_by_the_hierarchy,
+    unknown_names_stand_for_nothing, unknown_words_lead_nowhere,
+};
 use integrity_laws::{acts_keep_to_the_policy, less_is_valid, policies_stay_kept};
 use label_flow::chains_are_flows;
 use page_tables::{
@@ -41,6 +47,10 @@ use page_tables::{
     tables_are_kept, tables_hold_what_is_mapped,
 };
 use static_memory::plain_memory_is_static;
+use text_laws::{
+    devices_serve_one_object, elf_faults_are_the_first, overlaps_share_addresses,
+    placed_objects_are_apart, region_faults_are_the_first, step_faults_are_the_first,
+};
 
 #[test]
 fn laws_of_the_grammar(_rt: HostRuntime) {
@@ -103,6 +113,30 @@ fn laws_of_settings(_rt: HostRuntime) {
     outer_settings_come_first();
     references_are_values();
     settings_are_those_of_joins();
+}
+
+#[test]
+fn laws_of_faults_in_words(_rt: HostRuntime) {
+    duplicates_are_names_again();
+    unknown_names_stand_for_nothing();
+    unknown_words_lead_nowhere();
+    misfits_are_at_fault();
+    settings_twice_are_set_again();
+    types_are_by_the_hierarchy();
+    flat_systems_are_by_the_hierarchy();
+    files_are_those_that_imports_reach();
+    refused_imports_are_the_first();
+    told_faults_stand();
+}
+
+#[test]
+fn laws_of_texts_in_words(_rt: HostRuntime) {
+    step_faults_are_the_first();
+    region_faults_are_the_first();
+    elf_faults_are_the_first();
+    overlaps_share_addresses();
+    devices_serve_one_object();
+    placed_objects_are_apart();
 }
 
 #[test]

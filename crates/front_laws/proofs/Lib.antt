@@ -1,0 +1,16 @@
+pub mod ByHierarchy
+pub mod DomainOrder
+pub mod Importing
+pub mod LeafOrder
+pub mod MisfitExports
+pub mod OneFlat
+pub mod OneOrder
+pub mod Ordered
+pub mod RefusedImports
+pub mod Repeating
+pub mod SetAgain
+pub mod Tested
+pub mod ToldFaults
+pub mod TypesByHierarchy
+pub mod UnknownNames
+pub mod UnknownWords

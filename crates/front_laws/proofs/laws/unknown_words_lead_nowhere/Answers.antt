@@ -1,0 +1,12 @@
+use Rattle.std.proofs.Common.{subst, sym}
+use Rattle.adl_meaning.specs.Prelude.{Fault, IsIn}
+use Rattle.adl_meaning.specs.Unknown.{scope_of_held, unknown_in_setting}
+use Rattle.front_laws.proofs.UnknownWords.{from_setting, in_setting}
+use Rattle.front_laws.proofs.laws.unknown_words_lead_nowhere.Goals as goal
+
+pub returns : goal.returns
+returns c = λ types holds words f. (
+  from_setting types holds words f,
+  λ x. let P : Fault → Type 0 = λ g. IsIn g (unknown_in_setting types (scope_of_held holds) words) in
+      subst P (sym x.2) (in_setting types holds words x.0 x.1),
+)

@@ -1,0 +1,12 @@
+pub mod ByHierarchy
+pub mod Importing
+pub mod InOrder
+pub mod MisfitExports
+pub mod RefusedImports
+pub mod Repeated
+pub mod SetAgain
+pub mod Standing
+pub mod ToldFaults
+pub mod TypesByHierarchy
+pub mod UnknownNames
+pub mod UnknownWords

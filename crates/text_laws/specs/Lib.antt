@@ -1,0 +1,4 @@
+pub mod ElfFaults
+pub mod PlannedMemory
+pub mod ReadTexts
+pub mod StepFaults
