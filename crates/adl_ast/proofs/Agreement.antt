@@ -1,11 +1,11 @@
 -- Two rules that spell the same token lists begin the same ones, where each part of them has a spelling.
 use Rattle.std.proofs.Common.{◌≡◌, true, List}
 use Rattle.std.specs.Prelude.{◌↔◌}
-use Rattle.grammar.specs.Spelling.{Meaning, Spells}
-use Rattle.grammar.specs.Depth.{deep}
-use Rattle.grammar.specs.Spellable.{parts_have_spellings}
-use Rattle.grammar.proofs.Fronts.{spelling_front}
-use Rattle.grammar.proofs.Completed.{begun_goes_on}
+use Rattle.cam_base.specs.Spelling.{Meaning, Spells}
+use Rattle.cam_base.specs.Depth.{deep}
+use Rattle.cam_base.specs.Spellable.{parts_have_spellings}
+use Rattle.cam_base.proofs.GrammarFronts.{spelling_front}
+use Rattle.cam_base.proofs.Completed.{begun_goes_on}
 use Rattle.adl_ast.specs.declared.seen.Seen.{Seen}
 use Rattle.adl_ast.specs.declared.value.Value.{Value}
 use Rattle.adl_ast.specs.Codes.{token_code}

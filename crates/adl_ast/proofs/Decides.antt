@@ -3,9 +3,9 @@
 use Rattle.std.proofs.Common.{◌≡◌, ℕ, true, [], ◌∷◌, refl, ◌⊎◌, inl, inr}
 use Rattle.std.specs.Prelude.{◌==◌}
 use Rattle.std.proofs.lemmas.Bool.{cases_Bool}
-use Rattle.grammar.specs.Form.{among, behind}
-use Rattle.grammar.specs.Deciding.{decides, further}
-use Rattle.grammar.proofs.Depth.{IsLine}
+use Rattle.cam_base.specs.Form.{among, behind}
+use Rattle.cam_base.specs.Deciding.{decides, further}
+use Rattle.cam_base.proofs.Depth.{IsLine}
 use Rattle.cam_base.specs.declared.token.Mark.TheVariants as marks
 use Rattle.adl_ast.specs.Codes.{token_code, mark_code}
 use Rattle.adl_ast.specs.Spelling.{opens}

@@ -1,8 +1,8 @@
 -- What is repeated takes a token at least.
 use Rattle.std.proofs.Common.{ℕ, refl}
 use Rattle.cam_base.specs.declared.token.Mark.TheVariants as marks
-use Rattle.grammar.specs.Form.{behind}
-use Rattle.grammar.proofs.Loops.{Eats, eats}
+use Rattle.cam_base.specs.Form.{behind}
+use Rattle.cam_base.proofs.Loops.{Eats, eats}
 use Rattle.adl_ast.specs.Codes.{token_code, mark_code}
 use Rattle.adl_ast.specs.Forms.{value_form, entry_form, nested_line, instance_form, end_form, dot_word, composition_member_form, setting_form, param_form, proc_member_form, member_form, ended_form}
 use Rattle.adl_ast.specs.Spelling.{opens, nests, reads, limit}

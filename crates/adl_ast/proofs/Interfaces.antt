@@ -2,9 +2,9 @@
 use Rattle.std.proofs.Common.{◌≡◌, ℕ, true, List, [], ◌∷◌, ◌++◌, Option, Some, None, refl, sym, ap, ◌∙◌, append_assoc, ◌⊎◌, inl, inr}
 use Rattle.std.specs.Prelude.{◌==◌}
 use Rattle.std.proofs.lemmas.Bool.{cases_Bool}
-use Rattle.grammar.specs.Form.{among}
-use Rattle.grammar.specs.Spelling.{Meaning, Spells}
-use Rattle.grammar.proofs.Codes.{true_is_not_false}
+use Rattle.cam_base.specs.Form.{among}
+use Rattle.cam_base.specs.Spelling.{Meaning, Spells}
+use Rattle.cam_base.proofs.TerminalCodes.{true_is_not_false}
 use Rattle.adl_ast.specs.declared.seen.Seen.{Seen}
 use Rattle.adl_ast.specs.declared.value.Value.{Value}
 use Rattle.adl_ast.specs.declared.id.Id.{Id}

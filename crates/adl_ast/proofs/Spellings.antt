@@ -5,8 +5,8 @@ use Rattle.cam_base.specs.declared.token.Kind.{Kind}
 use Rattle.cam_base.specs.declared.token.Kind.TheVariants as kinds
 use Rattle.cam_base.specs.declared.token.Keyword.TheVariants as keys
 use Rattle.cam_base.specs.declared.token.Mark.TheVariants as marks
-use Rattle.grammar.specs.Spellable.{parts_have_spellings}
-use Rattle.grammar.proofs.Completed.{IsSpellable}
+use Rattle.cam_base.specs.Spellable.{parts_have_spellings}
+use Rattle.cam_base.proofs.Completed.{IsSpellable}
 use Rattle.adl_ast.specs.declared.seen.Seen.{Seen}
 use Rattle.adl_ast.specs.Codes.{token_code}
 use Rattle.adl_ast.specs.Written.{typed_written, params_written, interface_written}

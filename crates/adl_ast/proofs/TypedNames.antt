@@ -1,7 +1,7 @@
 -- A type and a name, written plainly and so that the next token decides.
 use Rattle.std.proofs.Common.{◌≡◌, ℕ, List, [], ◌++◌, Some, None, refl, sym, ap, subst, ◌∙◌, append_assoc, inl, inr}
 use Rattle.std.proofs.lemmas.List.{append-nil}
-use Rattle.grammar.specs.Spelling.{Meaning, Spells}
+use Rattle.cam_base.specs.Spelling.{Meaning, Spells}
 use Rattle.adl_ast.specs.declared.seen.Seen.{Seen}
 use Rattle.adl_ast.specs.declared.value.Value.{Value}
 use Rattle.adl_ast.specs.declared.id.Id.{Id}

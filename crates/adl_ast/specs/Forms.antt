@@ -6,7 +6,7 @@ use Rattle.cam_base.specs.declared.token.Keyword.{Keyword}
 use Rattle.cam_base.specs.declared.token.Keyword.TheVariants as keys
 use Rattle.cam_base.specs.declared.token.Mark.{Mark}
 use Rattle.cam_base.specs.declared.token.Mark.TheVariants as marks
-use Rattle.grammar.specs.Form.{Form, Give, One, Then, Or, Many, As, Starts, Nested, token, maybe, behind, separated}
+use Rattle.cam_base.specs.Form.{Form, Give, One, Then, Or, Many, As, Starts, Nested, token, maybe, behind, separated}
 use Rattle.adl_ast.specs.Codes.{word_codes, not_void_codes, not_buf_codes, void_code, buf_code, number_code, text_code, angle_code, mark_code, key_code}
 use Rattle.adl_ast.specs.Seeing.{id_of, number_of, inner, span}
 use Rattle.adl_ast.specs.declared.seen.Seen.{Seen}

@@ -2,9 +2,9 @@
 -- at any depth.
 use Rattle.std.specs.Prelude.{ℕ, List, [], ◌∷◌}
 use Rattle.cam_base.specs.declared.token.Mark.TheVariants as marks
-use Rattle.grammar.specs.Spelling.{Spells, Begins}
-use Rattle.grammar.specs.Depth.{deep, Spelled, Begun}
-use Rattle.grammar.specs.Reading.{Reader, read, read_deep}
+use Rattle.cam_base.specs.Spelling.{Spells, Begins}
+use Rattle.cam_base.specs.Depth.{deep, Spelled, Begun}
+use Rattle.cam_base.specs.Reading.{Reader, read, read_deep}
 use Rattle.adl_ast.specs.declared.seen.Seen.{Seen}
 use Rattle.adl_ast.specs.declared.value.Value.{Value}
 use Rattle.adl_ast.specs.declared.file.File.{File}

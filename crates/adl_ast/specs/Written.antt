@@ -3,7 +3,7 @@
 use Rattle.std.specs.Prelude.{ℕ, true, false, List, [], ◌∷◌, Some, None}
 use Rattle.cam_base.specs.declared.token.Keyword.TheVariants as keys
 use Rattle.cam_base.specs.declared.token.Mark.TheVariants as marks
-use Rattle.grammar.specs.Form.{Give, Then, Or, As, token}
+use Rattle.cam_base.specs.Form.{Give, Then, Or, As, token}
 use Rattle.adl_ast.specs.declared.id.Id.{Id}
 use Rattle.adl_ast.specs.declared.component.Interface.{Interface}
 use Rattle.adl_ast.specs.declared.component.InterfaceKind.TheVariants as interfaces

@@ -14,7 +14,7 @@ pub use Rattle.adl_meaning.specs.declared.flat.Domain.{Domain}
 pub use Rattle.adl_meaning.specs.declared.flat.Leaf.{Leaf}
 pub use Rattle.adl_meaning.specs.declared.item_at.ItemAt.{ItemAt}
 pub use Rattle.adl_program.proofs.Filling.{IsFilled, all_filled, filled_more, inner_filled, order_below}
-pub use Rattle.adl_templates.proofs.Filling.{kinds_in}
-pub use Rattle.adl_templates.specs.AreTemplates.{IsReady}
-pub use Rattle.adl_templates.specs.Templates.{Connected, Homed, Joined, connection_in, end_in, ends_in, homed, template_connections, template_leaves}
+pub use Rattle.adl_flatten.proofs.Filling.{kinds_in}
+pub use Rattle.adl_flatten.specs.AreTemplates.{IsReady}
+pub use Rattle.adl_flatten.specs.Templates.{Connected, Homed, Joined, connection_in, end_in, ends_in, homed, template_connections, template_leaves}
 pub use Rattle.std.proofs.Common.{set}

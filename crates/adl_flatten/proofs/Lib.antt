@@ -5,3 +5,9 @@ pub mod PassedLimits
 pub mod SoundReady
 pub mod Templates
 pub mod Totals
+pub mod TemplateCommon
+pub mod Bounds
+pub mod Filling
+pub mod Holding
+pub mod Placing
+pub mod Standing

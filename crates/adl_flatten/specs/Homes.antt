@@ -3,7 +3,7 @@ use Rattle.adl_meaning.specs.Prelude.{Hierarchy, Path, is_hardware, item_of, pla
 use Rattle.std.specs.Prelude.{List, None, Option, Some, [], if◌then◌else◌, option_map, slice_index_or, slice_set, unwrap_or, ℕ, ◌++◌, ◌+◌, ◌∷◌}
 use Rattle.adl_meaning.specs.declared.flat.Domain.{Domain}
 use Rattle.adl_meaning.specs.declared.flat.Leaf.{Leaf}
-use Rattle.adl_templates.specs.Templates.{Homed}
+use Rattle.adl_flatten.specs.Templates.{Homed}
 
 -- the domain path of a leaf; a device has none
 abbrev pub home : Hierarchy → Homed → Option Path

@@ -1,6 +1,8 @@
 pub mod Homes
 pub mod TemplateJoins
 pub mod TotalsOf
+pub mod AreTemplates
+pub mod Templates
 pub use Rattle.adl_meaning.specs.CompositeBody
 pub use Rattle.adl_meaning.specs.Faults
 pub use Rattle.adl_meaning.specs.FewMembers

@@ -4,7 +4,7 @@ use Rattle.std.specs.Prelude.{Bool, List, Option, [], is_some, map, nat_eq, not,
 use Rattle.adl_meaning.specs.declared.flat.FlatConnection.{FlatConnection}
 use Rattle.adl_meaning.specs.declared.flat.FlatEnd.{FlatEnd}
 use Rattle.adl_meaning.specs.declared.flat.Leaf.{Leaf}
-use Rattle.adl_templates.specs.Templates.{Connected, Homed, Joined}
+use Rattle.adl_flatten.specs.Templates.{Connected, Homed, Joined}
 use Rattle.adl_flatten.specs.declared.end_counts.EndKey.{EndKey}
 use Rattle.cam_base.specs.declared.code.Code.TheVariants as code
 

@@ -5,7 +5,7 @@ ghost use Rattle.adl_flatten.specs.TemplateJoins.{all_joined, count_at, is_count
 ghost use Rattle.adl_meaning.specs.UsedTwice.{clashes};
 ghost use Rattle.std.specs.Prelude.{IfOk, OnOk, if◌then◌else◌, ◌+◌, ◌<◌, ◌^◌, ◌≡◌};
 
-use adl_templates::{PlacedConnection, PlacedEnd};
+use crate::{PlacedConnection, PlacedEnd};
 use cam_base::NoMemory;
 use indexmap::IndexMap;
 use std::alloc::Global;

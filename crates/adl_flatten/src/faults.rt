@@ -3,15 +3,15 @@
 ghost use Rattle.adl_meaning.specs.Prelude.{Refuses, enumerate_from, flat_map, flattened, is_direct, join_faults_in, least, noted, same_domain, top_number, unjoined_at, used_twice};
 ghost use Rattle.adl_flatten.specs.TemplateJoins.{all_in, domain_in, in_one, misplaced_call, misplaced_leaf};
 ghost use Rattle.adl_meaning.specs.Unconnected.{may_stay};
-ghost use Rattle.adl_templates.specs.AreTemplates.{IsTemplate};
+ghost use Rattle.adl_flatten.specs.AreTemplates.{IsTemplate};
 ghost use Rattle.std.specs.Prelude.{map, ◌≡◌};
 
 use crate::end_counts::CountedEnds;
+use crate::{PlacedConnection, PlacedEnd, PlacedLeaf, Template};
 use adl_ast::{Interface, InterfaceKind, Member};
 use adl_items::last_name;
 use adl_meaning::{Connector, Earliest, Leaf};
 use adl_program::Program;
-use adl_templates::{PlacedConnection, PlacedEnd, PlacedLeaf, Template};
 use cam_base::{Code, Fault, Refused};
 use std::alloc::Global;
 

@@ -3,12 +3,12 @@
 ghost use Rattle.adl_meaning.specs.Prelude.{domains, place_by, same_path, top_number};
 ghost use Rattle.adl_flatten.specs.Homes.{filled, home, leaf_in, put_into};
 ghost use Rattle.adl_items.specs.Pointed.{pointed};
-ghost use Rattle.adl_templates.specs.Templates.{template_leaves};
+ghost use Rattle.adl_flatten.specs.Templates.{template_leaves};
 ghost use Rattle.std.specs.Prelude.{IfOk, OnOk, [], length, map, option_map, ◌<◌, ◌^◌, ◌≡◌, ◌≤◌};
 
+use crate::PlacedLeaf;
 use adl_meaning::{Domain, ItemAt, Leaf};
 use adl_program::Program;
-use adl_templates::PlacedLeaf;
 use cam_base::{List, Name, NoMemory, Path};
 use indexmap::IndexSet;
 use std::alloc::Global;

@@ -4,7 +4,7 @@
 ghost use Rattle.adl_meaning.specs.Prelude.{AreFew, AreNamesSound, Refuses, body, first_size_fault, flat_map, hierarchy_of, noted, top_number};
 ghost use Rattle.adl_flatten.specs.TotalsOf.{body_total, both, limits_in, outer, own_total, part_total, saturated, totals_in};
 ghost use Rattle.adl_items.specs.Located.{located};
-ghost use Rattle.adl_templates.specs.AreTemplates.{IsReady};
+ghost use Rattle.adl_flatten.specs.AreTemplates.{IsReady};
 ghost use Rattle.std.specs.Prelude.{All, IfOk, length, ◌<◌, ◌≡◌};
 
 use adl_ast::{Assembly, Source};

@@ -6,9 +6,9 @@ use Rattle.adl_meaning.specs.Prelude.{instances_in, is_composite, kind_named, pa
 use Rattle.std.proofs.lemmas.Option.{get_or_from_slice_get, slice_get_within}
 use Rattle.std.proofs.lemmas.List.{length-map}
 use Rattle.adl_ast.specs.declared.composition.Line.TheVariants as lines
-use Rattle.numbering.specs.Gather.{IsIn}
+use Rattle.cam_base.specs.Gather.{IsIn}
 use Rattle.adl_meaning.proofs.SoundNames.{one_assembly}
-use Rattle.numbering.proofs.Lists.{in_flat_map, from_flat_map, from_filter_map, get_map, get_or_map, get_or_last, map_some}
+use Rattle.cam_base.proofs.NumberedLists.{in_flat_map, from_flat_map, from_filter_map, get_map, get_or_map, get_or_last, map_some}
 
 -- ---- instances
 

@@ -4,12 +4,12 @@ use Rattle.adl_meaning.specs.Prelude.{AreNamesSound, Climbs, Composition, Export
 use Rattle.adl_meaning.specs.Prelude.{misfits_in_composition, name_of, option_and_then, option_map_or, part_named, port_in, reached, reached_by, reached_within}
 use Rattle.std.proofs.lemmas.Option.{option_and_then_some}
 use Rattle.std.proofs.lemmas.Slice.Eq.{bytes_eq-Decides}
-use Rattle.numbering.specs.Gather.{IsIn}
+use Rattle.cam_base.specs.Gather.{IsIn}
 use Rattle.adl_hierarchy.specs.Once.{IsOnce}
 use Rattle.adl_hierarchy.proofs.Exports.{no_misfit, targets_once}
 use Rattle.adl_hierarchy.proofs.Finite.{sound_is_finite}
 use Rattle.adl_hierarchy.proofs.Leaves.{StandsIn}
-use Rattle.numbering.proofs.Lists.{found, map_some}
+use Rattle.cam_base.proofs.NumberedLists.{found, map_some}
 use Rattle.adl_hierarchy.proofs.PartsAt.{named_in, part_behind, first_on, path_short}
 use Rattle.adl_hierarchy.proofs.Repeats.{find_once}
 

@@ -4,9 +4,9 @@ use Rattle.adl_meaning.specs.Prelude.{AreNamesSound, Hierarchy, Path, Placed, So
 use Rattle.std.proofs.lemmas.Bool.{and_parts, and_from, not-true}
 use Rattle.std.proofs.Common.{◌+◌, map-id}
 use Rattle.std.proofs.lemmas.Slice.Eq.{bytes_eq-Decides, slice_eq-Decides}
-use Rattle.numbering.specs.Gather.{IsIn}
+use Rattle.cam_base.specs.Gather.{IsIn}
 use Rattle.adl_hierarchy.specs.Once.{IsOnce}
-use Rattle.numbering.proofs.Lists.{in_map, from_map, from_enumerate, in_enumerate}
+use Rattle.cam_base.proofs.NumberedLists.{in_map, from_map, from_enumerate, in_enumerate}
 use Rattle.adl_hierarchy.proofs.Once.{leaf_paths_once}
 use Rattle.adl_hierarchy.proofs.Places.{place_is, at_place, in_filter, from_filter, once_filter, numbers_once, firsts_are, once_firsts}
 

@@ -5,10 +5,10 @@ use Rattle.adl_meaning.specs.Prelude.{known_of, misfits_in_composition, port_of,
 use Rattle.std.proofs.lemmas.Bool.{or_left, or_right, or_parts}
 use Rattle.std.proofs.lemmas.Slice.Eq.{bytes_eq-Decides}
 use Rattle.adl_meaning.specs.Export.{inner_of, is_port, export_fault, is_misfit, misfits_after, unled_end, unled_ends, misfits_in_item}
-use Rattle.numbering.specs.Gather.{IsIn}
+use Rattle.cam_base.specs.Gather.{IsIn}
 use Rattle.adl_hierarchy.specs.Once.{IsOnce}
-use Rattle.component_graph.proofs.Lists.{in_get}
-use Rattle.numbering.proofs.Lists.{none_in, none_left, none_right}
+use Rattle.adl_hierarchy.proofs.Lists.{in_get}
+use Rattle.cam_base.proofs.NumberedLists.{none_in, none_left, none_right}
 use Rattle.adl_hierarchy.proofs.Sources.{composed, none_in_component, none_in_assembly}
 
 -- no export of this composition is at fault

@@ -3,12 +3,12 @@ use Rattle.std.proofs.Common.{◌≡◌, ◌<◌, ◌≤◌, ℕ, zero, suc, tru
 use Rattle.adl_meaning.specs.Prelude.{AreNamesSound, Body, Component, Hierarchy, Part, Source, Walk, body, body_of, components, graph, has, hierarchy_of, inner_of, kind_named, slice_get}
 use Rattle.adl_meaning.specs.declared.item_at.ItemAt.{ItemAt}
 use Rattle.std.proofs.lemmas.List.{length-map}
-use Rattle.numbering.specs.Gather.{IsIn}
+use Rattle.cam_base.specs.Gather.{IsIn}
 use Rattle.adl_meaning.specs.Recursive.{instances_of, graph_of}
-use Rattle.component_graph.proofs.ComponentNumbers.{numbers_below, composed_instance, listed, graph_in_range, acyclic_from_none}
-use Rattle.component_graph.proofs.Lists.{in_has}
-use Rattle.numbering.proofs.Lists.{get_map, from_map}
-use Rattle.component_graph.proofs.Walks.{walk_in_range}
+use Rattle.adl_hierarchy.proofs.ComponentNumbers.{numbers_below, composed_instance, listed, graph_in_range, acyclic_from_none}
+use Rattle.adl_hierarchy.proofs.Lists.{in_has}
+use Rattle.cam_base.proofs.NumberedLists.{get_map, from_map}
+use Rattle.adl_hierarchy.proofs.Walks.{walk_in_range}
 use Rattle.adl_hierarchy.specs.Finite.{IsFinite}
 use Rattle.adl_hierarchy.proofs.Bodies.{body_at, part_of_body, inner_of_body}
 

@@ -4,7 +4,7 @@ use Rattle.adl_meaning.specs.Prelude.{Hierarchy, Name, Part, Path, body, group_a
 use Rattle.std.proofs.lemmas.Option.{option_and_then_some}
 use Rattle.adl_hierarchy.specs.OutermostGroup.{IsOutermostGroup}
 use Rattle.adl_hierarchy.specs.PartAt.{part_at}
-use Rattle.numbering.proofs.Lists.{map_some}
+use Rattle.cam_base.proofs.NumberedLists.{map_some}
 use Rattle.adl_hierarchy.proofs.PartsAt.{part_behind}
 use Rattle.adl_hierarchy.proofs.Repeats.{head_of, tail_of}
 

@@ -4,8 +4,8 @@ use Rattle.adl_meaning.specs.Prelude.{Composition, Held, Id, Instance, Line, Nam
 use Rattle.std.proofs.lemmas.Slice.Eq.{bytes_eq-Decides}
 use Rattle.adl_ast.specs.declared.composition.Line.TheVariants as lines
 use Rattle.adl_meaning.specs.Export.{instance_held, member_held}
-use Rattle.numbering.specs.Gather.{IsIn}
-use Rattle.numbering.proofs.Lists.{in_flat_map, from_flat_map, from_map, found, map_some}
+use Rattle.cam_base.specs.Gather.{IsIn}
+use Rattle.cam_base.proofs.NumberedLists.{in_flat_map, from_flat_map, from_map, found, map_some}
 
 held_found : (k : Composition) (n : Name) (x : Held) → held_as k n ≡ Some x → (l : Line) × IsIn l k.lines × (h : Id × Held) × IsIn h (held_by l) × (h.0.name ≡ n) × (h.1 ≡ x)
 held_found k n x e =

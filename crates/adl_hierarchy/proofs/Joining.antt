@@ -4,7 +4,7 @@ use Rattle.adl_meaning.specs.Prelude.{AreNamesSound, Climbs, End, Joins, Name, P
 use Rattle.adl_meaning.specs.declared.flat.FlatEnd.{FlatEnd}
 use Rattle.adl_meaning.specs.Prelude.{port_in, reached, slice_get, top_number}
 use Rattle.std.proofs.lemmas.Option.{option_and_then_some}
-use Rattle.numbering.specs.Gather.{IsIn}
+use Rattle.cam_base.specs.Gather.{IsIn}
 use Rattle.adl_hierarchy.specs.Leads.{AreDotted}
 use Rattle.adl_hierarchy.proofs.Climbing.{found_climbs, climbs_reached}
 use Rattle.adl_hierarchy.proofs.Connections.{connections_stand}

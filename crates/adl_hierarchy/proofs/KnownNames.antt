@@ -9,11 +9,11 @@ use Rattle.adl_ast.specs.declared.component.Member.TheVariants as members
 use Rattle.adl_ast.specs.declared.composition.Line.TheVariants as lines
 use Rattle.adl_meaning.specs.Export.{instance_held, member_held}
 use Rattle.adl_meaning.specs.Items.{component_named}
-use Rattle.numbering.specs.Gather.{IsIn}
+use Rattle.cam_base.specs.Gather.{IsIn}
 use Rattle.adl_meaning.specs.Unknown.{unknown_type, unknown_connector, unknown_in_two, unknown_in_group, unknown_in_three, unknown_in_dotted, unknown_target, unknown_in_line, unknown_in_member, unknown_in_item, is_procedure}
-use Rattle.component_graph.proofs.ComponentNumbers.{number_found}
-use Rattle.component_graph.proofs.Lists.{in_get}
-use Rattle.numbering.proofs.Lists.{from_flat_map, from_filter_map, none_in, none_left, none_right, map_some}
+use Rattle.adl_hierarchy.proofs.ComponentNumbers.{number_found}
+use Rattle.adl_hierarchy.proofs.Lists.{in_get}
+use Rattle.cam_base.proofs.NumberedLists.{from_flat_map, from_filter_map, none_in, none_left, none_right, map_some}
 use Rattle.adl_hierarchy.specs.Leads.{IsDotted}
 use Rattle.adl_hierarchy.proofs.HeldInstances.{instance_in, member_in}
 use Rattle.adl_hierarchy.proofs.Sources.{composed, none_in_component, none_in_assembly}

@@ -8,14 +8,14 @@ use Rattle.adl_meaning.specs.Prelude.{wires_of}
 use Rattle.adl_ast.specs.declared.composition.Line.TheVariants as lines
 use Rattle.adl_meaning.specs.Export.{ends_in}
 use Rattle.adl_meaning.specs.Known.{is_target, is_exported}
-use Rattle.numbering.specs.Gather.{IsIn}
+use Rattle.cam_base.specs.Gather.{IsIn}
 use Rattle.adl_hierarchy.specs.Finite.{IsFinite}
 use Rattle.adl_hierarchy.specs.Leads.{PortLeads, Leads, AllLead, AreDotted}
 use Rattle.adl_hierarchy.proofs.Bodies.{body_number, parts_of}
 use Rattle.adl_hierarchy.proofs.Exports.{no_misfit, export_leads, end_leads}
 use Rattle.adl_hierarchy.proofs.KnownNames.{IsTyped, typed, no_unknown, instance_typed, export_known, end_known, IsKnown, dotted_known}
 use Rattle.adl_hierarchy.proofs.Finite.{sound_is_finite}
-use Rattle.numbering.proofs.Lists.{in_flat_map, from_flat_map, in_filter_map, from_filter_map, found, map_some}
+use Rattle.cam_base.proofs.NumberedLists.{in_flat_map, from_flat_map, in_filter_map, from_filter_map, found, map_some}
 use Rattle.adl_hierarchy.proofs.PartNames.{names_once}
 use Rattle.adl_hierarchy.proofs.Repeats.{find_once}
 use Rattle.adl_hierarchy.proofs.Steps.{IsShallow, kind_in, shallow, below, no_parts, part_in}

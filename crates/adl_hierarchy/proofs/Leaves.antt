@@ -2,12 +2,12 @@
 use Rattle.std.proofs.Common.{◌≡◌, ◌≤◌, ◌↔◌, ℕ, zero, suc, Bool, true, false, cond, List, length, [], ◌∷◌, map, Some, refl, sym, ◌∙◌, ap, subst, arith, inl, inr, true≢false}
 use Rattle.std.proofs.lemmas.Option.{option_and_then_some}
 use Rattle.adl_meaning.specs.Prelude.{AreNamesSound, Hierarchy, IsLeaf, Name, Part, Path, Placed, Source, body, hierarchy_of, is_composite, leaves, leaves_within, name_of, outside, part_named, placed_by, top_number}
-use Rattle.numbering.specs.Gather.{IsIn}
+use Rattle.cam_base.specs.Gather.{IsIn}
 use Rattle.adl_hierarchy.specs.Once.{IsOnce}
 use Rattle.adl_hierarchy.specs.PartAt.{part_at}
 use Rattle.adl_hierarchy.proofs.Bodies.{top_composed}
 use Rattle.adl_hierarchy.proofs.Finite.{sound_is_finite}
-use Rattle.numbering.proofs.Lists.{in_map, from_map, in_flat_map, from_flat_map}
+use Rattle.cam_base.proofs.NumberedLists.{in_map, from_map, in_flat_map, from_flat_map}
 use Rattle.adl_hierarchy.proofs.PartNames.{names_once}
 use Rattle.adl_hierarchy.proofs.PartsAt.{named_in, part_behind, at_part, part_from_at, path_short, AreComposed, are_composed, is_outer}
 use Rattle.adl_hierarchy.proofs.Repeats.{find_once}

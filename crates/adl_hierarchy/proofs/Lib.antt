@@ -1,3 +1,4 @@
+-- Lemmas on walks, orders and sets of components, on components by number, and on what stands in lists.
 pub mod Bodies
 pub mod Climbing
 pub mod Connections
@@ -20,3 +21,12 @@ pub mod Sources
 pub mod Spelled
 pub mod Steps
 pub mod Whole
+pub mod ComponentNumbers
+pub mod CycleSearch
+pub mod Cycling
+pub mod Lists
+pub mod Marks
+pub mod Reach
+pub mod Through
+pub mod Waiting
+pub mod Walks

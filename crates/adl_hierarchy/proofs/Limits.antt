@@ -5,8 +5,8 @@ use Rattle.std.proofs.lemmas.Bool.{ltb-false}
 use Rattle.adl_meaning.specs.Prelude.{AreNamesSound, Assembly, Name, Source, assemblies, connections, depth, first_size_fault, hierarchy_of, leaves, limits_passed}
 use Rattle.adl_meaning.specs.declared.item_at.ItemAt.{ItemAt}
 use Rattle.adl_hierarchy.proofs.Exports.{not_so}
-use Rattle.numbering.proofs.Lists.{none_in, none_left, none_right}
-use Rattle.numbering.specs.Gather.{IsIn}
+use Rattle.cam_base.proofs.NumberedLists.{none_in, none_left, none_right}
+use Rattle.cam_base.specs.Gather.{IsIn}
 use Rattle.adl_meaning.specs.SizeFaults.{all_ends, limit_passed, size_faults}
 use Rattle.adl_meaning.proofs.Least.{least-empty}
 use Rattle.adl_meaning.proofs.SoundNames.{one_assembly}

@@ -1,9 +1,9 @@
 -- No leaf is met twice.
 use Rattle.std.proofs.Common.{◌≡◌, ℕ, zero, suc, Bool, true, false, cond, List, length, [], ◌∷◌, map, refl, sym, ap, subst, inl, inr}
 use Rattle.adl_meaning.specs.Prelude.{AreNamesSound, Hierarchy, Name, Part, Path, Placed, Source, body, hierarchy_of, is_composite, leaves, leaves_within, name_of, outside, placed_by, top_number}
-use Rattle.numbering.specs.Gather.{IsIn}
+use Rattle.cam_base.specs.Gather.{IsIn}
 use Rattle.adl_hierarchy.specs.Once.{IsOnce}
-use Rattle.numbering.proofs.Lists.{from_map}
+use Rattle.cam_base.proofs.NumberedLists.{from_map}
 use Rattle.adl_hierarchy.proofs.PartNames.{names_once}
 use Rattle.adl_hierarchy.proofs.Repeats.{once_map, head_of, tail_of, once_by_head}
 

@@ -5,11 +5,11 @@ use Rattle.adl_meaning.specs.declared.connector.Connector.{Connector}
 use Rattle.adl_meaning.specs.Prelude.{held_by, held_in, hierarchy_of, items_of, kind_named, name_of, option_map_or, part_of, parts_by, parts_in, wire_of, wires_of}
 use Rattle.adl_ast.specs.declared.composition.Line.TheVariants as lines
 use Rattle.adl_meaning.specs.Duplicate.{duplicates_in_composition, duplicates_in_item}
-use Rattle.numbering.specs.Gather.{IsIn}
+use Rattle.cam_base.specs.Gather.{IsIn}
 use Rattle.adl_hierarchy.specs.Once.{IsOnce}
 use Rattle.adl_hierarchy.proofs.Bodies.{parts_of}
-use Rattle.component_graph.proofs.Lists.{in_get}
-use Rattle.numbering.proofs.Lists.{none_in, none_right, map_some}
+use Rattle.adl_hierarchy.proofs.Lists.{in_get}
+use Rattle.cam_base.proofs.NumberedLists.{none_in, none_right, map_some}
 use Rattle.adl_hierarchy.proofs.Repeats.{filtered_in, once_filtered, once_flat_map, unrepeated_once}
 use Rattle.adl_hierarchy.proofs.Sources.{composed, none_in_component, none_in_assembly}
 

@@ -3,11 +3,11 @@ use Rattle.std.proofs.Common.{◌≡◌, ◌≤◌, ℕ, Bool, true, false, List
 use Rattle.adl_meaning.specs.Prelude.{Composition, Hierarchy, Name, Part, Path, Source, Walk, at, body, bytes_eq, graph, hierarchy_of, is_composite, kind_named, name_of, option_and_then, part_named, parts_in}
 use Rattle.std.proofs.lemmas.Option.{option_and_then_some}
 use Rattle.std.proofs.lemmas.Slice.Eq.{bytes_eq-Decides}
-use Rattle.numbering.specs.Gather.{IsIn}
+use Rattle.cam_base.specs.Gather.{IsIn}
 use Rattle.adl_hierarchy.specs.Finite.{IsFinite}
 use Rattle.adl_hierarchy.specs.PartAt.{part_at}
 use Rattle.adl_hierarchy.proofs.Bodies.{parts_of}
-use Rattle.numbering.proofs.Lists.{found}
+use Rattle.cam_base.proofs.NumberedLists.{found}
 use Rattle.adl_hierarchy.proofs.Steps.{listed, kind_in, shallow}
 
 -- an instance found by name is one of the name

@@ -3,10 +3,10 @@ use Rattle.std.proofs.Common.{◌≡◌, ◌↔◌, ◌⊎◌, ◌+◌, ℕ, zer
 use Rattle.adl_meaning.specs.Prelude.{enumerate_from, filter, firsts_after, place_by, slice_get}
 use Rattle.std.proofs.lemmas.Bool.{or_parts, or_from, both_ways, false_from_ne_true}
 use Rattle.adl_meaning.specs.Lists.{firsts}
-use Rattle.numbering.specs.Gather.{IsIn}
+use Rattle.cam_base.specs.Gather.{IsIn}
 use Rattle.adl_hierarchy.specs.Once.{IsOnce}
-use Rattle.component_graph.proofs.Lists.{in_get}
-use Rattle.numbering.proofs.Lists.{in_map, from_map, from_enumerate}
+use Rattle.adl_hierarchy.proofs.Lists.{in_get}
+use Rattle.cam_base.proofs.NumberedLists.{in_map, from_map, from_enumerate}
 
 -- where keys stand once, the place of the first that has a key is the place of the one that has it
 pub place_is : {X K : Type 0} (same : K → K → Bool) → ((a b : K) → Decides (same a b) (a ≡ b)) → (key : X → K) (xs : List X) (n : ℕ) (x : X) → IsOnce (map key xs) → slice_get xs n ≡ Some x → place_by (λ y. same (key x) (key y)) xs ≡ n

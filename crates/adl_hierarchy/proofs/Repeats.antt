@@ -5,10 +5,10 @@ use Rattle.std.proofs.lemmas.Bool.{or_left, or_right}
 use Rattle.std.proofs.lemmas.List.{map-append}
 use Rattle.std.proofs.lemmas.Slice.Eq.{bytes_eq-Decides}
 use Rattle.adl_meaning.specs.Duplicate.{repeats_after, repeats}
-use Rattle.numbering.specs.Gather.{IsIn}
+use Rattle.cam_base.specs.Gather.{IsIn}
 use Rattle.adl_hierarchy.specs.Once.{IsOnce}
-use Rattle.numbering.proofs.Gathered.{in_left, in_right, in_append}
-use Rattle.numbering.proofs.Lists.{in_map, from_map, from_flat_map, from_filter_map, none_right}
+use Rattle.cam_base.proofs.Gathered.{in_left, in_right, in_append}
+use Rattle.cam_base.proofs.NumberedLists.{in_map, from_map, from_flat_map, from_filter_map, none_right}
 
 -- ---- lists made of others
 

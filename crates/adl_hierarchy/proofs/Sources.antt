@@ -3,10 +3,10 @@ use Rattle.std.proofs.Common.{◌≡◌, ℕ, List, [], Option, Some, None, refl
 use Rattle.adl_meaning.specs.Prelude.{Assembly, Body, Component, Composition, Item, Source, as_assembly, as_component, assemblies, body, components, composition_of, flat_map, hierarchy_of, items_of, kind_named, slice_get, top_of}
 use Rattle.adl_meaning.specs.declared.item_at.ItemAt.{ItemAt}
 use Rattle.adl_ast.specs.declared.file.Item.TheVariants as items
-use Rattle.numbering.specs.Gather.{IsIn}
+use Rattle.cam_base.specs.Gather.{IsIn}
 use Rattle.adl_hierarchy.proofs.Bodies.{body_at}
-use Rattle.component_graph.proofs.Lists.{in_get}
-use Rattle.numbering.proofs.Lists.{from_filter_map, none_in}
+use Rattle.adl_hierarchy.proofs.Lists.{in_get}
+use Rattle.cam_base.proofs.NumberedLists.{from_filter_map, none_in}
 
 -- a component is an item
 pub component_item : (s : Source) (c : ItemAt × Component) → IsIn c (components s) → (x : ItemAt × Item) × IsIn x (items_of s) × (x.1 ≡ items.Component c.1)

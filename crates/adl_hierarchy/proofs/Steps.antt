@@ -3,14 +3,14 @@ use Rattle.std.proofs.Common.{◌≡◌, ◌<◌, ◌≤◌, ℕ, zero, suc, Boo
 use Rattle.adl_meaning.specs.Prelude.{Hierarchy, Name, Part, Placed, Reached, Strung, Walk, behind, body, bytes_eq, export_named, exports_of, flat_map, further, graph, has, inner_of, is_composite, leaves_in, leaves_within, name_of, option_and_then}
 use Rattle.adl_meaning.specs.Prelude.{outside, part_named, placed_by, port_in, reached, reached_by, reached_within, strung, strung_by, wires_of}
 use Rattle.adl_meaning.specs.Joins.{connections_within, connections_in}
-use Rattle.numbering.specs.Gather.{IsIn}
-use Rattle.component_graph.proofs.Walks.{walks_short}
+use Rattle.cam_base.specs.Gather.{IsIn}
+use Rattle.adl_hierarchy.proofs.Walks.{walks_short}
 use Rattle.adl_hierarchy.specs.Finite.{IsFinite}
 use Rattle.adl_hierarchy.proofs.Bodies.{inner_of_body}
 use Rattle.adl_hierarchy.proofs.Finite.{graph_size}
-use Rattle.component_graph.proofs.Lists.{has_in}
-use Rattle.numbering.proofs.Gathered.{in_right}
-use Rattle.numbering.proofs.Lists.{in_map, from_map, in_flat_map, from_flat_map, found, empty, flat_map_same}
+use Rattle.adl_hierarchy.proofs.Lists.{has_in}
+use Rattle.cam_base.proofs.Gathered.{in_right}
+use Rattle.cam_base.proofs.NumberedLists.{in_map, from_map, in_flat_map, from_flat_map, found, empty, flat_map_same}
 
 -- ---- depth
 

@@ -5,10 +5,10 @@ use Rattle.adl_meaning.specs.declared.connector.Connector.{Connector}
 use Rattle.adl_meaning.specs.Prelude.{known_in, option_map_or, part_of, parts_by, parts_in, unknown_in_composition, wire_of, wires_of}
 use Rattle.std.proofs.lemmas.List.{map-append}
 use Rattle.adl_ast.specs.declared.composition.Line.TheVariants as lines
-use Rattle.numbering.specs.Gather.{IsIn}
+use Rattle.cam_base.specs.Gather.{IsIn}
 use Rattle.adl_hierarchy.proofs.Bodies.{parts_of}
 use Rattle.adl_hierarchy.proofs.KnownNames.{typed, no_unknown, instance_typed, connector_known}
-use Rattle.numbering.proofs.Lists.{in_flat_map, map_some}
+use Rattle.cam_base.proofs.NumberedLists.{in_flat_map, map_some}
 
 -- where f gives something at each, and back leads from it, nothing is left out
 whole : {X Y : Type 0} (f : X → Option Y) (back : Y → X) → ((x : X) (y : Y) → f x ≡ Some y → back y ≡ x) → (xs : List X) → ((x : X) → IsIn x xs → (y : Y) × (f x ≡ Some y)) → map back (filter_map f xs) ≡ xs

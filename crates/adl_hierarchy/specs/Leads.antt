@@ -2,7 +2,7 @@
 -- composition has an export under the name of the interface. So a search downwards never ends before a leaf.
 use Rattle.std.specs.Prelude.{◌≡◌, ◌≤◌, ℕ, true, List, length, Some}
 use Rattle.adl_meaning.specs.Prelude.{End, Export, Hierarchy, Id, Name, Part, Wire, body, export_named, exports_of, is_composite, part_named, port_in, wires_of}
-use Rattle.numbering.specs.Gather.{IsIn}
+use Rattle.cam_base.specs.Gather.{IsIn}
 
 -- an instance of body k by name, with the name of an interface
 pub record PortLeads (h : Hierarchy) (k : ℕ) (port : Name × Name) : Type 0 where

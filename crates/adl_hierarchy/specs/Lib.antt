@@ -4,6 +4,10 @@ pub mod Once
 pub mod OutermostGroup
 pub mod PartAt
 pub mod Spelled
+pub mod Cycles
+pub mod Numbers
+pub mod Placing
+pub mod Sets
 pub use Rattle.adl_meaning.specs.Domains
 pub use Rattle.adl_meaning.specs.Flat
 pub use Rattle.adl_meaning.specs.Hierarchy
@@ -13,3 +17,4 @@ pub use Rattle.adl_meaning.specs.Joins
 pub use Rattle.adl_meaning.specs.Lists
 pub use Rattle.adl_meaning.specs.NameFaults
 pub use Rattle.adl_meaning.specs.Paths
+pub use Rattle.adl_meaning.specs.Graph

@@ -1,6 +1,6 @@
 -- Nothing stands twice in a list.
 use Rattle.std.specs.Prelude.{List, [], ◌∷◌}
-use Rattle.numbering.specs.Gather.{IsIn}
+use Rattle.cam_base.specs.Gather.{IsIn}
 
 abbrev pub IsOnce : {X : Type 0} → List X → Type 0
 IsOnce [] = Unit {0}

@@ -8,7 +8,7 @@ ghost use Rattle.adl_hierarchy.specs.Once.{IsOnce};
 ghost use Rattle.adl_hierarchy.specs.OutermostGroup.{IsOutermostGroup};
 ghost use Rattle.adl_hierarchy.specs.PartAt.{part_at};
 ghost use Rattle.adl_hierarchy.specs.Spelled.{AreSpelled};
-ghost use Rattle.numbering.specs.Gather.{IsIn};
+ghost use Rattle.cam_base.specs.Gather.{IsIn};
 ghost use Rattle.std.specs.Prelude.{◌≡◌, ◌≤◌, ◌↔◌, ℕ, false, [], ◌∷◌, ◌++◌, map, length, Some};
 
 /// No component holds itself, and nothing is left out: each instance of a composition has a

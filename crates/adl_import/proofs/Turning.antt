@@ -19,7 +19,7 @@ use Rattle.adl_ast.specs.declared.source.SourceFile.{SourceFile}
 use Rattle.adl_ast.specs.Seeing.{see}
 use Rattle.adl_ast.specs.Spelling.{IsFileSpelled}
 use Rattle.adl_lexer.specs.Lexes.{Lexes, IsFirstFault}
-use Rattle.adl_parse_decl.specs.Files.{IsFileIn}
+use Rattle.adl_parse.specs.Files.{IsFileIn}
 use Rattle.adl_import.specs.Imports.{imports_of, is_built_in, name_given}
 use Rattle.adl_import.specs.Sources.{Meeting, IsFileOf, is_known, root_place, file_limit, files_limit}
 use Rattle.adl_import.specs.Taking.{AlikeInNext, Each, AreUtf8, IsParsed, IsRead, IsTakenIn, IsTurn}

@@ -14,13 +14,13 @@ use Rattle.cam_base.specs.declared.place.Place.{Place}
 use Rattle.cam_base.specs.declared.token.Token.{Token}
 use Rattle.cam_base.proofs.Lists.{snoc_same}
 use Rattle.cam_io.specs.Contents.{Contents}
-use Rattle.grammar.specs.declared.error.Why.{Why}
-use Rattle.grammar.specs.declared.error.Why.TheVariants.{Unexpected, TooDeep}
-use Rattle.grammar.specs.Depth.{deep}
-use Rattle.grammar.specs.Parsed.{FileStops}
-use Rattle.grammar.specs.Spelling.{Begins}
-use Rattle.grammar.proofs.Fronts.{deep_begun, deep_front}
-use Rattle.grammar.proofs.Unique.{file_stops_once}
+use Rattle.cam_base.specs.declared.grammar_error.Why.{Why}
+use Rattle.cam_base.specs.declared.grammar_error.Why.TheVariants.{Unexpected, TooDeep}
+use Rattle.cam_base.specs.Depth.{deep}
+use Rattle.cam_base.specs.Parsed.{FileStops}
+use Rattle.cam_base.specs.Spelling.{Begins}
+use Rattle.cam_base.proofs.GrammarFronts.{deep_begun, deep_front}
+use Rattle.cam_base.proofs.Unique.{file_stops_once}
 use Rattle.adl_ast.specs.declared.file.File.{File}
 use Rattle.adl_ast.specs.declared.seen.Seen.{Seen}
 use Rattle.adl_ast.specs.declared.source.Source.{Source}
@@ -33,7 +33,7 @@ use Rattle.adl_ast.proofs.Decides.{nested_is, file_decides}
 use Rattle.adl_ast.proofs.Trees.{one_tree}
 use Rattle.adl_lexer.specs.Lexes.{Lexes, IsFirstFault}
 use Rattle.adl_lexer.proofs.Unique.{one_list, one_fault, no_fault_reached}
-use Rattle.adl_parse_decl.specs.Files.{IsFileIn}
+use Rattle.adl_parse.specs.Files.{IsFileIn}
 use Rattle.adl_import.specs.Folding.{root_name}
 use Rattle.adl_import.specs.Imports.{imports_of}
 use Rattle.adl_import.specs.Loaded.{IsClean, IsTurnOf, IsFirst, IsLoadedFrom, IsRefusedRoot, IsLoadedBy, IsLoaded, yields}

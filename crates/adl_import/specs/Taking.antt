@@ -12,7 +12,7 @@ use Rattle.adl_ast.specs.declared.source.SourceFile.{SourceFile}
 use Rattle.adl_ast.specs.Seeing.{see}
 use Rattle.adl_ast.specs.Spelling.{IsFileSpelled}
 use Rattle.adl_lexer.specs.Lexes.{Lexes, IsFirstFault}
-use Rattle.adl_parse_decl.specs.Files.{IsFileIn}
+use Rattle.adl_parse.specs.Files.{IsFileIn}
 use Rattle.adl_import.specs.Imports.{imports_of}
 use Rattle.adl_import.specs.Sources.{Meeting, AlikeAsRead, IsFileOf}
 use Rattle.adl_import.specs.Turns.{take_imports, IsReadFault, IsTurnFault}

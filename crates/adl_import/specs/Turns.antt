@@ -13,7 +13,7 @@ use Rattle.cam_io.specs.Contents.{Contents}
 use Rattle.adl_ast.specs.declared.file.Import.{Import}
 use Rattle.adl_ast.specs.declared.source.SourceFile.{SourceFile}
 use Rattle.adl_lexer.specs.Lexes.{Lexes, IsFirstFault}
-use Rattle.adl_parse_decl.specs.Files.{IsFileIn}
+use Rattle.adl_parse.specs.Files.{IsFileIn}
 use Rattle.adl_import.specs.Imports.{imports_of, is_built_in, name_given}
 use Rattle.adl_import.specs.Sources.{Meeting, IsFileOf, is_known, root_place, file_limit, files_limit}
 

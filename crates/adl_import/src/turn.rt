@@ -15,7 +15,7 @@ use crate::LoadError;
 use crate::imports::{fault_at, take_imports};
 use adl_ast::{File, SourceFile};
 use adl_lexer::lex_within;
-use adl_parse_decl::parse_file;
+use adl_parse::parse_file;
 use cam_base::{Code, Fault, List, NoMemory, Place, Refused, Text, Token};
 use cam_io::{Files, WholeError, read_whole};
 use indexmap::IndexMap;

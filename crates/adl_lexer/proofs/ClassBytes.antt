@@ -6,8 +6,8 @@ use Rattle.std.proofs.lemmas.Bool.{eqb-true, leb-true, le-leb, and_parts, not-tr
 use Rattle.std.proofs.lemmas.Bool.Decides.{Decides-eqb}
 use Rattle.cam_base.specs.Names.{is_letter, is_word_byte}
 use Rattle.cam_base.specs.Numbers.{is_digit, is_hex_digit}
-use Rattle.grammar.specs.Form.{among}
-use Rattle.grammar.proofs.Codes.{among-left, true_is_not_false, if_true, if_false}
+use Rattle.cam_base.specs.Form.{among}
+use Rattle.cam_base.proofs.TerminalCodes.{among-left, true_is_not_false, if_true, if_false}
 use Rattle.adl_lexer.specs.Classes.{class_of, class_in, sign_class, sign_rows, mark_class, mark_rows, left_out_class, left_out_rows, letters, digits, word_bytes}
 use Rattle.adl_lexer.proofs.Classes.{if_has, sign_has}
 

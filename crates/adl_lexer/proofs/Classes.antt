@@ -6,8 +6,8 @@ use Rattle.std.specs.List.{list_all, range_with_len}
 use Rattle.std.proofs.lemmas.Bool.{eqb-true, and_parts, not-true, cases_Bool}
 use Rattle.cam_base.specs.Names.{is_letter}
 use Rattle.cam_base.specs.Numbers.{is_digit, is_hex_digit}
-use Rattle.grammar.specs.Form.{among}
-use Rattle.grammar.proofs.Codes.{true_is_not_false, if_true, if_false}
+use Rattle.cam_base.specs.Form.{among}
+use Rattle.cam_base.proofs.TerminalCodes.{true_is_not_false, if_true, if_false}
 use Rattle.adl_lexer.specs.Classes.{class_of, class_in, sign_class, sign_rows, mark_class, mark_rows, left_out_class, left_out_rows, blanks, letters, digits, hex_digits, line_bytes}
 
 -- the class of each byte, as the code has it

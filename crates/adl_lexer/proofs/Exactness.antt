@@ -1,9 +1,9 @@
 -- Forms of tokens are read exactly.
 use Rattle.std.proofs.Common.{◌≡◌, true, false, List, [], ◌∷◌, ℕ, refl}
-use Rattle.grammar.specs.Deciding.{can_be_empty, decides, first}
-use Rattle.grammar.specs.Reading.{too_deep}
-use Rattle.grammar.proofs.Depth.{IsRead-none}
-use Rattle.grammar.proofs.Whole.{Exact, exact}
+use Rattle.cam_base.specs.Deciding.{can_be_empty, decides, first}
+use Rattle.cam_base.specs.Reading.{too_deep}
+use Rattle.cam_base.proofs.Depth.{IsRead-none}
+use Rattle.cam_base.proofs.Whole.{Exact, exact}
 use Rattle.adl_lexer.specs.Classes.{class_of, mark_bytes}
 use Rattle.adl_lexer.specs.TokenKinds.{Bytes, flat, word_line, number_line, hex_line, text_item, text_line, less_line, arrow_line, mark_line, token_form}
 

@@ -3,8 +3,8 @@ use Rattle.std.proofs.Common.{◌≡◌, ℕ, ◌<◌, ◌≤◌, Bool, true, fa
 use Rattle.std.specs.Prelude.{◌==◌, ◌&&◌}
 use Rattle.std.proofs.lemmas.Bool.{eqb-true, cases_Bool}
 use Rattle.cam_base.specs.declared.code.Code.{Code}
-use Rattle.grammar.specs.Form.{among}
-use Rattle.grammar.proofs.Codes.{if_true, if_false}
+use Rattle.cam_base.specs.Form.{among}
+use Rattle.cam_base.proofs.TerminalCodes.{if_true, if_false}
 use Rattle.adl_lexer.specs.Classes.{class_of, blanks, slash}
 use Rattle.adl_lexer.specs.Gaps.{after_close, after_line, after_comment, one_gap, IsGap, none, more}
 use Rattle.adl_lexer.specs.LexFaults.{fault_at, slash_fault}

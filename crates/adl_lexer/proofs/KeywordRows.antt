@@ -7,7 +7,7 @@ use Rattle.std.specs.Str.{bytes_eq}
 use Rattle.std.proofs.lemmas.Slice.Eq.{bytes_eq-Decides}
 use Rattle.std.proofs.lemmas.Bool.{cases_Bool}
 use Rattle.cam_base.specs.declared.token.Keyword.{Keyword}
-use Rattle.grammar.proofs.Codes.{true_is_not_false}
+use Rattle.cam_base.proofs.TerminalCodes.{true_is_not_false}
 use Rattle.adl_lexer.specs.Keywords.{IsRowOf, keyword_of, spelling}
 use Rattle.adl_lexer.proofs.KeywordWords.{is_found, keyword_is, no_keyword}
 

@@ -6,7 +6,7 @@ use Rattle.std.proofs.lemmas.Slice.Eq.{bytes_eq-Decides}
 use Rattle.std.proofs.lemmas.Bool.{cases_Bool}
 use Rattle.cam_base.specs.declared.token.Keyword.{Keyword}
 use Rattle.cam_base.specs.declared.token.Keyword.TheVariants as keys
-use Rattle.grammar.proofs.Codes.{if_true, if_false, true_is_not_false}
+use Rattle.cam_base.proofs.TerminalCodes.{if_true, if_false, true_is_not_false}
 use Rattle.adl_lexer.specs.Candidates.{candidate}
 use Rattle.adl_lexer.specs.Keywords.{spelling, all_keywords, named_by, keyword_of}
 

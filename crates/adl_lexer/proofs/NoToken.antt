@@ -7,15 +7,15 @@ use Rattle.cam_base.specs.declared.code.Code.{Code}
 use Rattle.cam_base.specs.declared.code.Code.TheVariants as code
 use Rattle.cam_base.specs.declared.token.Kind.{Kind}
 use Rattle.cam_base.specs.Numbers.{is_digit, number_value}
-use Rattle.grammar.specs.declared.error.Stop.{Stop}
-use Rattle.grammar.specs.Deciding.{can_be_empty, further}
-use Rattle.grammar.specs.Form.{among}
-use Rattle.grammar.specs.Reading.{starts, too_deep}
-use Rattle.grammar.specs.Spelling.{Spells}
-use Rattle.grammar.proofs.Codes.{apart_none, true_is_not_false, if_true}
-use Rattle.grammar.proofs.Laws.{spelled_starts}
-use Rattle.grammar.proofs.Theorems.{starts_none}
-use Rattle.grammar.proofs.Whole.{Exact}
+use Rattle.cam_base.specs.declared.grammar_error.Stop.{Stop}
+use Rattle.cam_base.specs.Deciding.{can_be_empty, further}
+use Rattle.cam_base.specs.Form.{among}
+use Rattle.cam_base.specs.Reading.{starts, too_deep}
+use Rattle.cam_base.specs.Spelling.{Spells}
+use Rattle.cam_base.proofs.TerminalCodes.{apart_none, true_is_not_false, if_true}
+use Rattle.cam_base.proofs.Laws.{spelled_starts}
+use Rattle.cam_base.proofs.Theorems.{starts_none}
+use Rattle.cam_base.proofs.Whole.{Exact}
 use Rattle.adl_lexer.specs.Classes.{class_of, run, after_run, letters, digits, blanks, mark_bytes, angle_first, angle_bytes, word_bytes, line_bytes, left_out, quote, less, minus, greater, slash}
 use Rattle.adl_lexer.specs.LexFaults.{Found, unless, or_else, after_text, after_byte, after_angle, number_fault_by, is_fraction, is_left_out_word, word_fault, fault_at, text_fault, less_fault, minus_fault, sign_fault}
 use Rattle.adl_lexer.specs.TokenKinds.{reads, flat, token_form, word_line, number_line, hex_line, text_item, text_line, less_line, arrow_line, mark_line}

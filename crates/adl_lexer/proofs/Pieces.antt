@@ -3,9 +3,9 @@ use Rattle.std.proofs.Common.{◌≡◌, ℕ, true, false, List, ◌∷◌, Opti
 use Rattle.std.specs.Prelude.{◌==◌}
 use Rattle.std.proofs.lemmas.Bool.{ne_eqb}
 use Rattle.cam_base.specs.declared.token.Kind.{Kind}
-use Rattle.grammar.specs.declared.error.Stop.{Stop}
-use Rattle.grammar.specs.Form.{among}
-use Rattle.grammar.proofs.Codes.{if_true}
+use Rattle.cam_base.specs.declared.grammar_error.Stop.{Stop}
+use Rattle.cam_base.specs.Form.{among}
+use Rattle.cam_base.proofs.TerminalCodes.{if_true}
 use Rattle.adl_lexer.specs.declared.piece.Piece.{Piece}
 use Rattle.adl_lexer.specs.declared.piece.Piece.TheVariants as pieces
 use Rattle.adl_lexer.specs.Classes.{class_of, run, after_run, letters, digits, blanks, word_bytes, quote, less, minus, slash}

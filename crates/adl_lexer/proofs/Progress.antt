@@ -8,8 +8,8 @@ use Rattle.cam_base.specs.declared.token.Kind.{Kind}
 use Rattle.cam_base.specs.declared.token.Kind.TheVariants as kinds
 use Rattle.cam_base.specs.declared.token.Mark.TheVariants as marks
 use Rattle.cam_base.specs.Numbers.{number_value}
-use Rattle.grammar.specs.Form.{among}
-use Rattle.grammar.proofs.Codes.{if_true, if_false}
+use Rattle.cam_base.specs.Form.{among}
+use Rattle.cam_base.proofs.TerminalCodes.{if_true, if_false}
 use Rattle.adl_lexer.specs.Classes.{class_of, run, after_run, letters, digits, blanks, mark_bytes, word_bytes, line_bytes, left_out, quote, less, minus, greater, slash}
 use Rattle.adl_lexer.specs.Gaps.{after_comment, one_gap}
 use Rattle.adl_lexer.specs.LexFaults.{Found, unless, or_else, after_text, after_byte, after_angle, is_star, number_fault_by, fault_at, text_fault, less_fault, minus_fault, slash_fault, sign_fault}

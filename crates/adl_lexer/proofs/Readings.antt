@@ -6,17 +6,17 @@ use Rattle.std.proofs.lemmas.Bool.{eqb-true, and_parts, cases_Bool}
 use Rattle.cam_base.specs.declared.token.Kind.TheVariants as kinds
 use Rattle.cam_base.specs.declared.token.Mark.TheVariants as marks
 use Rattle.cam_base.specs.Numbers.{is_digit, is_hex_digit, is_decimal, is_hexadecimal, fits, number_value}
-use Rattle.grammar.specs.Form.{among}
-use Rattle.grammar.specs.Reading.{◌>>=◌, Reader, many, starts, too_deep}
-use Rattle.grammar.specs.Deciding.{can_be_empty}
-use Rattle.grammar.proofs.Codes.{if_true, if_false, among-left, among-right}
+use Rattle.cam_base.specs.Form.{among}
+use Rattle.cam_base.specs.Reading.{◌>>=◌, Reader, many, starts, too_deep}
+use Rattle.cam_base.specs.Deciding.{can_be_empty}
+use Rattle.cam_base.proofs.TerminalCodes.{if_true, if_false, among-left, among-right}
 use Rattle.adl_lexer.specs.Classes.{class_of, run, after_run, letters, digits, hex_digits, word_bytes, plain_bytes, line_bytes, angle_first, angle_bytes, cross, line_feed, quote, less, minus, greater, backslash}
 use Rattle.adl_lexer.specs.LexFaults.{after_text, after_byte, after_angle}
 use Rattle.adl_lexer.specs.TokenKinds.{reads, flat, word_kind, number_kind, kind_of_value, word_line, hex_line, number_line, text_item, text_line, less_line, arrow_line}
-use Rattle.grammar.proofs.Fronts.{head_is, tail_is}
-use Rattle.grammar.proofs.Laws.{no_nil, consumes}
-use Rattle.grammar.proofs.Repeats.{and_more, many_more, many_none}
-use Rattle.grammar.proofs.Whole.{Exact}
+use Rattle.cam_base.proofs.GrammarFronts.{head_is, tail_is}
+use Rattle.cam_base.proofs.Laws.{no_nil, consumes}
+use Rattle.cam_base.proofs.Repeats.{and_more, many_more, many_none}
+use Rattle.cam_base.proofs.Whole.{Exact}
 use Rattle.std.specs.Str.Parse.{digits_value}
 use Rattle.adl_lexer.proofs.Classes.{digit_class, hex_class, zero_class, not_zero_class, cross_class, digit_cases, within, not_within}
 use Rattle.adl_lexer.proofs.Exactness.{read_exact}

@@ -4,10 +4,10 @@ use Rattle.std.specs.Prelude.{◌==◌, not}
 use Rattle.std.proofs.lemmas.List.{length-append}
 use Rattle.std.proofs.lemmas.Bool.{cases_Bool}
 use Rattle.cam_base.proofs.Lists.{take-front}
-use Rattle.grammar.specs.Form.{among}
-use Rattle.grammar.specs.Reading.{one, many, starts}
-use Rattle.grammar.proofs.Laws.{IsRead-one, consumes}
-use Rattle.grammar.proofs.Repeats.{and_more, many_more, many_none}
+use Rattle.cam_base.specs.Form.{among}
+use Rattle.cam_base.specs.Reading.{one, many, starts}
+use Rattle.cam_base.proofs.Laws.{IsRead-one, consumes}
+use Rattle.cam_base.proofs.Repeats.{and_more, many_more, many_none}
 use Rattle.adl_lexer.specs.Classes.{class_of, run, after_run, line_bytes}
 use Rattle.adl_lexer.proofs.Classes.{line_byte}
 

@@ -5,12 +5,12 @@ use Rattle.std.proofs.lemmas.List.{append-nil, length-append}
 use Rattle.cam_base.specs.declared.token.Kind.{Kind}
 use Rattle.cam_base.specs.declared.token.Token.{Token}
 use Rattle.cam_base.proofs.Lists.{longer_front}
-use Rattle.grammar.specs.Deciding.{can_be_empty}
-use Rattle.grammar.specs.Form.{among}
-use Rattle.grammar.specs.Reading.{left}
-use Rattle.grammar.specs.Spelling.{Spells}
-use Rattle.grammar.proofs.Codes.{true_is_not_false, if_true}
-use Rattle.grammar.proofs.Laws.{ok_is, spelled_starts}
+use Rattle.cam_base.specs.Deciding.{can_be_empty}
+use Rattle.cam_base.specs.Form.{among}
+use Rattle.cam_base.specs.Reading.{left}
+use Rattle.cam_base.specs.Spelling.{Spells}
+use Rattle.cam_base.proofs.TerminalCodes.{true_is_not_false, if_true}
+use Rattle.cam_base.proofs.Laws.{ok_is, spelled_starts}
 use Rattle.adl_lexer.specs.Classes.{class_of, after_run, blanks}
 use Rattle.adl_lexer.specs.Gaps.{one_gap, IsGap, none, more}
 use Rattle.adl_lexer.specs.LexFaults.{fault_at}

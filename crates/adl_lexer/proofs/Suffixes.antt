@@ -7,8 +7,8 @@ use Rattle.std.proofs.lemmas.List.{length-append}
 use Rattle.std.proofs.lemmas.List.Elements.{All-cons, All-nil}
 use Rattle.std.proofs.lemmas.Bool.{cases_Bool}
 use Rattle.cam_base.specs.declared.token.Token.{Token}
-use Rattle.grammar.specs.Form.{among}
-use Rattle.grammar.proofs.Codes.{if_true, if_false}
+use Rattle.cam_base.specs.Form.{among}
+use Rattle.cam_base.proofs.TerminalCodes.{if_true, if_false}
 use Rattle.adl_lexer.specs.Classes.{class_of, blanks, slash}
 use Rattle.adl_lexer.specs.Gaps.{after_close, after_line, after_comment, one_gap, IsGap, none, more}
 use Rattle.adl_lexer.specs.Lexes.{place_of, LexesFrom}

@@ -10,15 +10,15 @@ use Rattle.cam_base.specs.declared.token.Kind.{Kind}
 use Rattle.cam_base.specs.declared.token.Kind.TheVariants as kinds
 use Rattle.cam_base.specs.declared.token.Mark.{Mark}
 use Rattle.cam_base.specs.declared.token.Mark.TheVariants as marks
-use Rattle.grammar.specs.Deciding.{can_be_empty}
-use Rattle.grammar.proofs.Laws.{spelled_starts}
+use Rattle.cam_base.specs.Deciding.{can_be_empty}
+use Rattle.cam_base.proofs.Laws.{spelled_starts}
 use Rattle.adl_lexer.proofs.Exactness.{number_exact, number_full}
 use Rattle.cam_base.specs.Names.{is_word_byte, is_name}
 use Rattle.cam_base.specs.Numbers.{number_value}
-use Rattle.grammar.specs.Form.{among}
-use Rattle.grammar.specs.Reading.{starts}
-use Rattle.grammar.specs.Spelling.{Each, Spells}
-use Rattle.grammar.proofs.Codes.{true_is_not_false, if_true}
+use Rattle.cam_base.specs.Form.{among}
+use Rattle.cam_base.specs.Reading.{starts}
+use Rattle.cam_base.specs.Spelling.{Each, Spells}
+use Rattle.cam_base.proofs.TerminalCodes.{true_is_not_false, if_true}
 use Rattle.adl_lexer.specs.Classes.{class_of, run, after_run, letters, digits, word_bytes, angle_first, angle_bytes, plain_bytes, line_bytes, line_feed, backslash, quote, less, minus, greater}
 use Rattle.adl_lexer.specs.Keywords.{keyword_of}
 use Rattle.adl_lexer.specs.LexFaults.{after_angle, after_byte, after_text, fault_at, word_fault, number_fault, number_fault_by, is_left_out_word}

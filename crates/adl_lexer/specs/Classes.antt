@@ -2,7 +2,7 @@
 use Rattle.std.specs.Prelude.{ℕ, ◌==◌, ◌||◌, if◌then◌else◌, List, [], ◌∷◌}
 use Rattle.cam_base.specs.Names.{is_letter}
 use Rattle.cam_base.specs.Numbers.{is_digit, is_hex_digit}
-use Rattle.grammar.specs.Form.{among}
+use Rattle.cam_base.specs.Form.{among}
 
 -- a letter that is no hexadecimal digit and isn't x or X, or an underscore
 abbrev pub letter : ℕ

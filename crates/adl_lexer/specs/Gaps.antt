@@ -1,6 +1,6 @@
 -- What stands between tokens: blanks and whole comments.
 use Rattle.std.specs.Prelude.{◌≡◌, ℕ, List, [], ◌∷◌, Option, Some, None, ◌==◌, ◌&&◌, if◌then◌else◌}
-use Rattle.grammar.specs.Form.{among}
+use Rattle.cam_base.specs.Form.{among}
 use Rattle.adl_lexer.specs.Classes.{class_of, blanks, slash}
 
 -- the rest behind the next */

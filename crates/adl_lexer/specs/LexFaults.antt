@@ -10,7 +10,7 @@ use Rattle.std.specs.Str.{bytes_eq}
 use Rattle.cam_base.specs.declared.code.Code.{Code}
 use Rattle.cam_base.specs.declared.code.Code.TheVariants as code
 use Rattle.cam_base.specs.Numbers.{is_digit, number_value}
-use Rattle.grammar.specs.Form.{among}
+use Rattle.cam_base.specs.Form.{among}
 use Rattle.adl_lexer.specs.Classes.{class_of, run, after_run, letters, digits, word_bytes, angle_first, angle_bytes, mark_bytes, line_bytes, blanks, line_feed, slash, less, minus, greater, quote, backslash, left_out}
 use Rattle.adl_lexer.specs.Gaps.{after_comment}
 

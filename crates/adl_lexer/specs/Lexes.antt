@@ -7,7 +7,7 @@ use Rattle.cam_base.specs.declared.place.Place.{Place}
 use Rattle.cam_base.specs.declared.token.Kind.{Kind}
 use Rattle.cam_base.specs.declared.token.Token.{Token}
 use Rattle.cam_base.specs.declared.token.Tokens.{Tokens}
-use Rattle.grammar.specs.Spelling.{Spells}
+use Rattle.cam_base.specs.Spelling.{Spells}
 use Rattle.adl_lexer.specs.Classes.{class_of}
 use Rattle.adl_lexer.specs.Gaps.{IsGap}
 use Rattle.adl_lexer.specs.LexFaults.{fault_at, name_in}

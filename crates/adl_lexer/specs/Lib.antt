@@ -8,4 +8,4 @@ pub mod Lexes
 pub mod Places
 pub mod Pieces
 pub mod TokenTexts
-pub use Rattle.grammar.specs.Spelling
+pub use Rattle.cam_base.specs.Spelling

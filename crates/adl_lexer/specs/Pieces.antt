@@ -3,7 +3,7 @@ use Rattle.std.specs.Prelude.{◌≡◌, ℕ, List, [], Option, Some, None, Resu
 use Rattle.cam_base.specs.declared.token.Kind.{Kind}
 use Rattle.cam_base.specs.declared.token.Kind.TheVariants as kinds
 use Rattle.cam_base.specs.declared.token.Mark.{Mark}
-use Rattle.grammar.specs.declared.error.Stop.{Stop}
+use Rattle.cam_base.specs.declared.grammar_error.Stop.{Stop}
 use Rattle.adl_lexer.specs.declared.piece.Piece.{Piece}
 use Rattle.adl_lexer.specs.declared.piece.Piece.TheVariants as pieces
 use Rattle.adl_lexer.specs.Gaps.{one_gap}

@@ -6,9 +6,9 @@ use Rattle.cam_base.specs.declared.token.Kind.TheVariants as kinds
 use Rattle.cam_base.specs.declared.token.Mark.{Mark}
 use Rattle.cam_base.specs.declared.token.Mark.TheVariants as marks
 use Rattle.cam_base.specs.Numbers.{number_value}
-use Rattle.grammar.specs.Form.{Form, Give, One, Then, Or, Many, As, Starts, token}
-use Rattle.grammar.specs.Spelling.{Meaning}
-use Rattle.grammar.specs.Reading.{Reader, read, too_deep}
+use Rattle.cam_base.specs.Form.{Form, Give, One, Then, Or, Many, As, Starts, token}
+use Rattle.cam_base.specs.Spelling.{Meaning}
+use Rattle.cam_base.specs.Reading.{Reader, read, too_deep}
 use Rattle.adl_lexer.specs.Classes.{letters, digits, hex_digits, word_bytes, angle_first, angle_bytes, mark_bytes, plain_bytes, line_bytes, cross, zero_digit, digit, less, minus, greater, quote, backslash, dot, brace_l, brace_r, paren_l, paren_r, square_l, square_r, semi, comma, equals, colon, class_of}
 use Rattle.adl_lexer.specs.Keywords.{keyword_of}
 

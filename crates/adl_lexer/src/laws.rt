@@ -14,7 +14,7 @@ ghost use Rattle.cam_base.specs.declared.place.Fault.{Fault as SourceFault};
 ghost use Rattle.cam_base.specs.declared.token.Keyword.{Keyword as Key};
 ghost use Rattle.cam_base.specs.declared.token.Kind.{Kind as TokenKind};
 ghost use Rattle.cam_base.specs.declared.token.Token.{Token as Tok};
-ghost use Rattle.grammar.specs.Spelling.{Spells};
+ghost use Rattle.cam_base.specs.Spelling.{Spells};
 ghost use Rattle.std.specs.List.{All};
 ghost use Rattle.std.specs.Prelude.{◌≡◌, ◌↔◌, ℕ, ◌∷◌, ◌++◌, List as Seq, None, Some, length};
 

@@ -5,7 +5,7 @@ ghost use Rattle.adl_lexer.specs.LexFaults.{is_fraction, number_fault};
 ghost use Rattle.adl_lexer.specs.Pieces.{Fits};
 ghost use Rattle.adl_lexer.specs.TokenKinds.{reads, number_line};
 ghost use Rattle.cam_base.specs.Numbers.{is_digit};
-ghost use Rattle.grammar.specs.Reading.{starts};
+ghost use Rattle.cam_base.specs.Reading.{starts};
 ghost use Rattle.std.specs.List.{list_all};
 ghost use Rattle.std.specs.Prelude.{◌≡◌, true, None};
 

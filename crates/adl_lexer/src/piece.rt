@@ -7,7 +7,7 @@ ghost use Rattle.adl_lexer.specs.Pieces.{Fits, IsMark, IsNext, IsPiece};
 ghost use Rattle.adl_lexer.specs.TokenKinds.{reads, arrow_line, mark_line, token_form};
 ghost use Rattle.adl_lexer.specs.declared.piece.Piece.TheVariants as pieces;
 ghost use Rattle.cam_base.specs.declared.token.Kind.TheVariants as kinds;
-ghost use Rattle.grammar.specs.Form.{among};
+ghost use Rattle.cam_base.specs.Form.{among};
 ghost use Rattle.std.specs.Prelude.{◌≡◌, ◌∷◌, None};
 
 use crate::class::{

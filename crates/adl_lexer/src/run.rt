@@ -1,7 +1,7 @@
 //! Runs of bytes.
 
 ghost use Rattle.adl_lexer.specs.Classes.{after_run, class_of, run, blanks, word_bytes, angle_bytes, line_bytes};
-ghost use Rattle.grammar.specs.Form.{among};
+ghost use Rattle.cam_base.specs.Form.{among};
 ghost use Rattle.std.specs.Prelude.{◌≡◌};
 
 use crate::class::{BLANK, DIGIT, DOT, LINE_FEED, MINUS, SLASH, class};

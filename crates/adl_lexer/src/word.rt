@@ -4,7 +4,7 @@ ghost use Rattle.adl_lexer.specs.Classes.{letters, class_of, run, word_bytes};
 ghost use Rattle.adl_lexer.specs.LexFaults.{is_left_out_word, word_fault};
 ghost use Rattle.adl_lexer.specs.Pieces.{Fits};
 ghost use Rattle.adl_lexer.specs.TokenKinds.{reads, word_line, word_kind};
-ghost use Rattle.grammar.specs.Reading.{starts};
+ghost use Rattle.cam_base.specs.Reading.{starts};
 ghost use Rattle.std.specs.Prelude.{◌≡◌, true, None};
 
 use crate::keyword::keyword_of;

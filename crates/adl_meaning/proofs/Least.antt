@@ -4,7 +4,7 @@ use Rattle.std.proofs.lemmas.Bool.Decides.{nat_tests}
 use Rattle.cam_base.specs.Codes.{number_of}
 use Rattle.cam_base.specs.declared.place.Fault.{Fault}
 use Rattle.adl_meaning.specs.Faults.{precedes, earlier, least, noted}
-use Rattle.numbering.specs.Gather.{IsIn}
+use Rattle.cam_base.specs.Gather.{IsIn}
 
 -- precedes, on numbers
 abbrev pub lex : (a b c x y z : ℕ) → Bool

@@ -11,7 +11,7 @@ use Rattle.adl_ast.specs.declared.composition.Export.{Export}
 use Rattle.adl_ast.specs.declared.composition.Role.{Role}
 use Rattle.adl_meaning.specs.Hierarchy.{Hierarchy, Part, Body, Wire, top_number, body, is_composite, part_named, export_named, exports_of, wires_of, port_in}
 use Rattle.adl_meaning.specs.Items.{Name}
-use Rattle.numbering.specs.Gather.{IsIn}
+use Rattle.cam_base.specs.Gather.{IsIn}
 use Rattle.adl_meaning.specs.Paths.{Path, at, IsLeaf, name_of}
 
 -- ---- as relations

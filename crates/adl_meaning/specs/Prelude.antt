@@ -58,7 +58,7 @@ pub use Rattle.cam_base.specs.declared.code.Code.{Code}
 pub use Rattle.cam_base.specs.declared.error.Refused.{Refused}
 pub use Rattle.cam_base.specs.declared.place.Fault.{Fault}
 pub use Rattle.cam_base.specs.declared.place.Place.{Place}
-pub use Rattle.numbering.specs.Gather.{IsIn}
+pub use Rattle.cam_base.specs.Gather.{IsIn}
 pub use Rattle.std.specs.Borrow.{Bor}
 pub use Rattle.std.specs.List.{All, cons_option, count_by, enumerate_from, filter, filter_map, find, flat_map, list_all, list_any, slice_get}
 pub use Rattle.std.specs.Map.{lookup}

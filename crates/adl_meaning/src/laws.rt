@@ -2,7 +2,7 @@
 
 ghost use Rattle.adl_meaning.specs.Connectors.{text_of, connector_of};
 ghost use Rattle.adl_meaning.specs.Faults.{precedes, least, noted};
-ghost use Rattle.numbering.specs.Gather.{IsIn};
+ghost use Rattle.cam_base.specs.Gather.{IsIn};
 ghost use Rattle.adl_ast.specs.declared.source.Source.{Source as Tree};
 ghost use Rattle.adl_meaning.specs.NameFaults.{first_name_fault, AreNamesSound};
 ghost use Rattle.adl_meaning.specs.declared.connector.Connector.{Connector as Kind};

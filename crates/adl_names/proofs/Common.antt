@@ -12,7 +12,7 @@ pub use Rattle.adl_names.specs.Places.{first_place, table_places}
 pub use Rattle.adl_names.specs.Ports.{as_port, is_port_among, misfits_from}
 pub use Rattle.adl_names.specs.Scopes.{scope_told}
 pub use Rattle.adl_names.specs.Tables.{has_name, holding_told, members_told, naming}
-pub use Rattle.component_graph.proofs.ComponentNumbers.{graph_in_range, listed, numbers_below}
+pub use Rattle.adl_hierarchy.proofs.ComponentNumbers.{graph_in_range, listed, numbers_below}
 pub use Rattle.indexmap.proofs.CallerLemmas.{insert_entry-new}
 pub use Rattle.indexmap.specs.IndexMap.{get, insert_entry}
 pub use Rattle.name_tables.proofs.NameLookups.{found_put}

@@ -5,10 +5,10 @@ ghost use Rattle.adl_names.specs.Words.{found, pointed, trees};
 ghost use Rattle.std.specs.Prelude.{IfOk, OnOk, ◌≡◌};
 
 use adl_ast::{Component, Instance, Member};
+use adl_hierarchy::Cycles;
 use adl_items::{Located, SourceItems, component_numbers, instances_by};
 use adl_meaning::Earliest;
 use cam_base::{Code, List, NoMemory};
-use component_graph::Cycles;
 use name_tables::NameTable;
 use std::alloc::Global;
 

@@ -1,6 +1,6 @@
 -- A table filled in an order in which inner bodies stand first: what holds of each body that was filled in.
 use Rattle.adl_program.proofs.Common.{Hierarchy, IsIn, IsInnerFirst, List, Part, arith, body, cases_eq, get_or, get_or-set_other, get_or-set_same, graph, graph_size, has, inl, inr, length, length-set, list_any_more, listed, nat_eq, nat_tests, set, suc, take, take_all, true, ℕ, ◌+◌, ◌<◌, ◌∙◌, ◌≡◌, ◌≤◌}
-use Rattle.component_graph.proofs.Marks.{has_at}
+use Rattle.adl_hierarchy.proofs.Marks.{has_at}
 
 -- P holds of the entries of those of the order that were filled in
 pub record IsFilled {T : Type 0} (P : ℕ → T → Type 0) (h : Hierarchy) (order : List ℕ) (all : List T) (i : ℕ) : Type 0 where

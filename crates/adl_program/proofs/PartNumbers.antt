@@ -1,6 +1,6 @@
 -- The instance of a name, by its number and that of its component.
 use Rattle.adl_program.proofs.Common.{Bool, Hierarchy, IsIn, List, Name, None, Part, PartAt, Some, [], ap, arith, body, bytes_eq, common_steps, enumerate_from, find, from_enumerate, in_place, map_some, option_map, part_from, part_named, refl, slice_get, sym, ℕ, ◌+◌, ◌∙◌, ◌∷◌, ◌≡◌}
-use Rattle.numbering.proofs.Lists.{found}
+use Rattle.cam_base.proofs.NumberedLists.{found}
 
 -- a search that tells numbers too finds the same
 finds_same : {X : Type 0} (p : X → Bool) (a : ℕ) (xs : List X) → option_map (λ (x : ℕ × X). x.1) (find (λ (x : ℕ × X). p x.1) (enumerate_from a xs)) ≡ find p xs

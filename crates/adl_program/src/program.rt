@@ -8,9 +8,8 @@ use crate::bodies::{Bodies, bodies_of, graph};
 use crate::body::{Body, Leaf};
 use crate::leads::{Leads, all_leads, lead};
 use adl_ast::{Id, Source};
-use adl_hierarchy::sound_hierarchies_are_finite;
+use adl_hierarchy::{inner_first, sound_hierarchies_are_finite};
 use cam_base::{List, NoMemory};
-use component_graph::inner_first;
 use std::alloc::Global;
 use std::marker::Model;
 

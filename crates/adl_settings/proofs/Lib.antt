@@ -2,3 +2,7 @@ pub mod Common
 pub mod EndNumbers
 pub mod Noted
 pub mod ValueSearch
+mod SettleCommon
+pub mod SettingKeys
+pub mod TableSteps
+pub mod ValueSteps

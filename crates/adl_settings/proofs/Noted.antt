@@ -1,7 +1,7 @@
 -- Noting what the elements of lists give.
 use Rattle.adl_settings.proofs.Common.{Found, Given, IsPermutation, List, None, Option, Some, Value, [], ap, append_assoc, bad_unless, bad_value, filter_map, filter_map-append, flat_map, irq_at, is_some, list_any, list_any-IsPermutation, meant, noted-append, refl, sym, ◌++◌, ◌∙◌, ◌∷◌, ◌≡◌}
-use Rattle.page_index.specs.Sharing.{shares}
-use Rattle.page_index.specs.declared.region.Region.{Region}
+use Rattle.name_tables.specs.Sharing.{shares}
+use Rattle.name_tables.specs.declared.region.Region.{Region}
 
 -- a value is at fault where the setting means nothing
 pub bad_meant : {X : Type 0} (allowed : Value → Option X) (default : X) (o : Option Given) → bad_unless (is_some (meant allowed default o)) o ≡ bad_value allowed o

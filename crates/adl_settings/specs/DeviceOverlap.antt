@@ -6,8 +6,8 @@ use Rattle.std.specs.Prelude.{List, Option, map, option_map, ℕ}
 use Rattle.adl_settings.specs.declared.overlaps.DeviceRegion.{DeviceRegion}
 use Rattle.adl_settings.specs.EndMeaning.{bytes_of, paddr_of}
 use Rattle.adl_settings.specs.Joints.{Found}
-use Rattle.page_index.specs.declared.region.Region.{Region}
-use Rattle.page_index.specs.Sharing.{shares}
+use Rattle.name_tables.specs.declared.region.Region.{Region}
+use Rattle.name_tables.specs.Sharing.{shares}
 use Rattle.cam_base.specs.declared.code.Code.TheVariants as code
 
 -- the pages from an address on, by the numbers of the leaf and of the interface

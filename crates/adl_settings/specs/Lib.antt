@@ -14,6 +14,7 @@ pub mod SettingFaults
 pub mod SettingTwice
 pub mod Settled
 pub mod Words
+pub mod Lookups
 pub use Rattle.adl_meaning.specs.Faults
 pub use Rattle.adl_meaning.specs.FewMembers
 pub use Rattle.adl_meaning.specs.Flat

@@ -1,15 +1,19 @@
-//! Settings: what the values of leaves and ends mean, and the faults of values.
+//! Settings: their values, found from the outermost body inwards, what these mean, and the faults of values.
 //!
-//! Nothing here looks for a value: the crate that does so is above. The settings of a source stand in `specs/Settled.antt`,
-//! and its faults in `specs/SettingFaults.antt`.
+//! Which value a setting has stands in `adl_meaning/specs/Values.antt`, the settings of a source in `specs/Settled.antt`, and
+//! its faults in `specs/SettingFaults.antt`.
 #![tactic(auto)]
 
 mod access;
 mod allowed;
+mod finding;
 mod found;
 mod laws;
 mod meaning;
 mod overlaps;
+mod search;
+mod settling;
+mod tables;
 mod twice;
 mod value_faults;
 
@@ -19,4 +23,5 @@ pub use laws::{
     badges_count_from_one, outer_settings_come_first, references_are_values,
     settings_are_those_of_joins,
 };
+pub use settling::{settle, settle_program};
 pub use value_faults::settled;

@@ -7,7 +7,7 @@ ghost use Rattle.adl_settings.specs.DeviceOverlap.{overlaps, region_of, regions}
 use crate::Found;
 use adl_meaning::Earliest;
 use cam_base::{Code, List, NoMemory, Place};
-use page_index::{PageIndex, Region};
+use name_tables::{PageIndex, Region};
 use std::alloc::Global;
 
 /// The pages of a device, with the place of the literal that gives their address. The key of the pages is the number of the

@@ -31,10 +31,10 @@ use Rattle.front_end.specs.declared.error.BuildError.{BuildError}
 use Rattle.front_end.specs.declared.error.BuildError.TheVariants as error
 use Rattle.front_end.specs.declared.phases.FrontEnd.{FrontEnd}
 use Rattle.front_end.specs.declared.phases.Meaning.{Meaning}
-use Rattle.leaf_ends.specs.Within.{IsWithin}
-use Rattle.program_sections.specs.Numbered.{AreNumbered}
-use Rattle.program_sections.specs.SpaceFaults.{first_space_fault}
-use Rattle.program_sections.specs.declared.images.Images.{Images}
+use Rattle.cspace_layout.specs.Within.{IsWithin}
+use Rattle.source_images.specs.Numbered.{AreNumbered}
+use Rattle.source_images.specs.SpaceFaults.{first_space_fault}
+use Rattle.source_images.specs.declared.images.Images.{Images}
 use Rattle.source_images.proofs.ImageNumbers.{images_numbered}
 use Rattle.source_images.proofs.TableReads.{found_count}
 use Rattle.source_images.proofs.Soundness.{images_sound}

@@ -19,9 +19,9 @@ use Rattle.front_end.proofs.Sound.{IsFaultless, faultless, no_second}
 use Rattle.front_end.proofs.Within.{sound_within}
 use Rattle.front_end.specs.First.{first_front_fault, source_tables}
 use Rattle.front_end.specs.Steps.{IsWhole}
-use Rattle.program_sections.specs.Numbered.{AreNumbered, AreSound}
-use Rattle.program_sections.specs.SpaceFaults.{first_space_fault}
-use Rattle.program_sections.specs.declared.images.Images.{Images}
+use Rattle.source_images.specs.Numbered.{AreNumbered, AreSound}
+use Rattle.source_images.specs.SpaceFaults.{first_space_fault}
+use Rattle.source_images.specs.declared.images.Images.{Images}
 use Rattle.source_images.specs.Found.{table_names}
 use Rattle.source_images.proofs.ImageNumbers.{images_numbered}
 use Rattle.source_images.proofs.TableReads.{found_count}

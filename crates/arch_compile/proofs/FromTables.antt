@@ -12,14 +12,14 @@ use Rattle.arch_compile.specs.declared.making.Made.{Made}
 use Rattle.arch_policy.specs.Labels.{label_numbers}
 use Rattle.arch_policy.specs.Policies.{IsPolicyOf}
 use Rattle.arch_policy.specs.declared.numbers.LabelNumbers.{LabelNumbers}
-use Rattle.auth_kinds.specs.Tables.{IsSorted}
-use Rattle.auth_kinds.specs.declared.policy.Policy.{Policy}
+use Rattle.cap_model.specs.Tables.{IsSorted}
+use Rattle.cap_model.specs.declared.policy.Policy.{Policy}
 use Rattle.cap_model.specs.declared.spec.Spec.{Spec}
 use Rattle.cspace_layout.specs.Uses.{slots_of}
 use Rattle.cspace_layout.specs.declared.plan.Slots.{Slots}
 use Rattle.front_end.specs.First.{source_tables}
 use Rattle.front_end.specs.Fronts.{IsAssigned, IsMeant}
-use Rattle.program_sections.specs.declared.images.Images.{Images}
+use Rattle.source_images.specs.declared.images.Images.{Images}
 use Rattle.system_spec.specs.Buildable.{IsBuildable}
 use Rattle.system_spec.specs.Made.{entry, labels_of, spec_of}
 use Rattle.system_spec.specs.Parts.{parts}

@@ -9,8 +9,8 @@ use Rattle.arch_compile.specs.declared.building.Build.{Build}
 use Rattle.cam_io.specs.Contents.{Contents}
 use Rattle.cap_model.specs.Kept.{IsKept}
 use Rattle.front_end.specs.declared.error.BuildError.{BuildError}
-use Rattle.program_sections.specs.declared.images.Images.{Images}
-use Rattle.source_bounds.proofs.Fits.{tables_are_fit}
+use Rattle.source_images.specs.declared.images.Images.{Images}
+use Rattle.spec_kept.proofs.Fits.{tables_are_fit}
 use Rattle.spec_kept.proofs.Keeping.{spec_kept}
 use Rattle.system_spec.specs.Made.{spec_of}
 use Rattle.arch_compile.proofs.Facts.{AreFacts, build_facts}

@@ -4,3 +4,4 @@ mod FromTables
 pub mod KeptSpecs
 pub mod Layouts
 pub mod OneAnswer
+pub mod Scripts

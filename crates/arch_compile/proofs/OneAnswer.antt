@@ -7,10 +7,10 @@ use Rattle.arch_compile.specs.Built.{IsBuildOf, IsMade}
 use Rattle.arch_compile.specs.Compiled.{IsCompiled, IsFirstFault}
 use Rattle.arch_compile.specs.LayoutFaults.{file_of, first_fault, first_layout_fault, images_from, tables_beside}
 use Rattle.arch_compile.specs.declared.building.Build.{Build}
-use Rattle.auth_kinds.proofs.TableMembers.{one_table}
-use Rattle.auth_kinds.specs.Tables.{IsSorted, has}
-use Rattle.auth_kinds.specs.declared.edge.Edge.{Edge}
-use Rattle.auth_kinds.specs.declared.policy.Policy.{Policy}
+use Rattle.cap_model.proofs.TableMembers.{one_table}
+use Rattle.cap_model.specs.Tables.{IsSorted, has}
+use Rattle.cap_model.specs.declared.edge.Edge.{Edge}
+use Rattle.cap_model.specs.declared.policy.Policy.{Policy}
 use Rattle.cam_base.specs.declared.place.Fault.{Fault}
 use Rattle.cam_io.specs.Contents.{Contents}
 use Rattle.cap_model.specs.declared.spec.Spec.{Spec}
@@ -21,7 +21,7 @@ use Rattle.front_end.specs.First.{first_front_fault}
 use Rattle.front_end.specs.Refusals.{yields}
 use Rattle.front_end.specs.declared.error.BuildError.{BuildError}
 use Rattle.front_end.specs.declared.error.BuildError.TheVariants as error
-use Rattle.program_sections.specs.declared.images.Images.{Images}
+use Rattle.source_images.specs.declared.images.Images.{Images}
 use Rattle.source_images.specs.Found.{AreFound, Found, found_in}
 use Rattle.system_spec.specs.declared.map_line.MapLine.{MapLine}
 

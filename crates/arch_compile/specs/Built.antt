@@ -7,17 +7,17 @@ use Rattle.arch_compile.specs.LayoutFaults.{first_fault, images_from, tables_bes
 use Rattle.arch_compile.specs.declared.building.Build.{Build}
 use Rattle.arch_policy.specs.Labels.{label_lines}
 use Rattle.arch_policy.specs.Policies.{IsCertificateOf, IsPolicyOf}
-use Rattle.auth_kinds.specs.ObjectLabels.{label_of}
-use Rattle.auth_kinds.specs.Tables.{IsSorted}
-use Rattle.auth_kinds.specs.declared.edge.Edge.{Edge}
-use Rattle.auth_kinds.specs.declared.policy.Policy.{Policy}
+use Rattle.cap_model.specs.ObjectLabels.{label_of}
+use Rattle.cap_model.specs.Tables.{IsSorted}
+use Rattle.cap_model.specs.declared.edge.Edge.{Edge}
+use Rattle.cap_model.specs.declared.policy.Policy.{Policy}
 use Rattle.cam_io.specs.Contents.{Contents}
 use Rattle.cap_model.specs.declared.spec.Entry.{Entry}
 use Rattle.cap_model.specs.declared.spec.Spec.{Spec}
 use Rattle.front_end.specs.First.{source_tables}
 use Rattle.front_end.specs.Fronts.{IsMeaningOf}
-use Rattle.numbering.specs.Gather.{gather}
-use Rattle.program_sections.specs.declared.images.Images.{Images}
+use Rattle.cam_base.specs.Gather.{gather}
+use Rattle.source_images.specs.declared.images.Images.{Images}
 use Rattle.source_images.specs.Found.{AreFound, Found}
 use Rattle.system_spec.specs.Made.{labels_of, spec_of}
 use Rattle.system_spec.specs.MapLines.{map_lines}

@@ -14,7 +14,7 @@ use Rattle.front_end.specs.First.{first_front_fault}
 use Rattle.front_end.specs.Refusals.{IsFaulted}
 use Rattle.front_end.specs.declared.error.BuildError.{BuildError}
 use Rattle.front_end.specs.declared.error.BuildError.TheVariants as error
-use Rattle.numbering.specs.Gather.{IsIn}
+use Rattle.cam_base.specs.Gather.{IsIn}
 use Rattle.source_images.specs.Found.{AlikeInTables, AreFound, Found}
 
 -- something is found under the name of each section table of the source, and with it this fault is the first behind the

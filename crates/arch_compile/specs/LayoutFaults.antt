@@ -14,8 +14,8 @@ use Rattle.arch_policy.specs.Policies.{first_edge_fault}
 use Rattle.cam_base.specs.declared.place.Fault.{Fault}
 use Rattle.cspace_layout.specs.SlotFaults.{first_slot_fault}
 use Rattle.front_end.specs.First.{first_front_fault, name_of_file, source_tables}
-use Rattle.program_sections.specs.SpaceFaults.{first_space_fault}
-use Rattle.program_sections.specs.declared.images.Images.{Images}
+use Rattle.source_images.specs.SpaceFaults.{first_space_fault}
+use Rattle.source_images.specs.declared.images.Images.{Images}
 use Rattle.source_images.specs.Found.{Found, table_names}
 use Rattle.source_images.specs.TableFaults.{first_table_fault, name_of_file as name_with_tables}
 use Rattle.source_images.specs.TableImages.{images_of}

@@ -3,8 +3,12 @@ pub mod Compiled
 pub mod LayoutFaults
 pub mod Maps
 pub mod Steps
+pub mod Summary
+pub mod BuildTexts
 pub use Rattle.cam_io.specs.Contents
 pub use Rattle.cam_io.specs.Reading
 pub use Rattle.front_end.specs.First
 pub use Rattle.front_end.specs.Fronts
 pub use Rattle.front_end.specs.Refusals
+pub use Rattle.cam_io.specs.Sinks
+pub use Rattle.cam_io.specs.Scripts

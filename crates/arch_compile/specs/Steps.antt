@@ -12,9 +12,9 @@ use Rattle.arch_compile.specs.declared.laying.Layout.{Layout}
 use Rattle.arch_compile.specs.declared.making.Made.{Made}
 use Rattle.arch_policy.specs.Policies.{IsCertificateOf, first_edge_fault}
 use Rattle.arch_policy.specs.Tables.{Tables as PolicyTables}
-use Rattle.auth_kinds.specs.Tables.{IsSorted}
-use Rattle.auth_kinds.specs.declared.object_labels.Labels.{Labels}
-use Rattle.auth_kinds.specs.declared.policy.Policy.{Policy}
+use Rattle.cap_model.specs.Tables.{IsSorted}
+use Rattle.cap_model.specs.declared.object_labels.Labels.{Labels}
+use Rattle.cap_model.specs.declared.policy.Policy.{Policy}
 use Rattle.cam_base.specs.declared.place.Fault.{Fault}
 use Rattle.cam_io.specs.Causes.{Rose}
 use Rattle.cam_io.specs.Contents.{Contents}
@@ -27,10 +27,10 @@ use Rattle.front_end.specs.declared.error.BuildError.{BuildError}
 use Rattle.front_end.specs.declared.error.BuildError.TheVariants as error
 use Rattle.front_end.specs.declared.phases.FrontEnd.{FrontEnd}
 use Rattle.front_end.specs.declared.phases.Meaning.{Meaning}
-use Rattle.numbering.specs.Gather.{IsIn}
-use Rattle.program_sections.specs.Numbered.{AreNumbered, AreSound}
-use Rattle.program_sections.specs.SpaceFaults.{first_space_fault}
-use Rattle.program_sections.specs.declared.images.Images.{Images}
+use Rattle.cam_base.specs.Gather.{IsIn}
+use Rattle.source_images.specs.Numbered.{AreNumbered, AreSound}
+use Rattle.source_images.specs.SpaceFaults.{first_space_fault}
+use Rattle.source_images.specs.declared.images.Images.{Images}
 use Rattle.source_images.specs.Found.{AreFound, Found}
 use Rattle.source_images.specs.declared.error.ImagesError.{ImagesError}
 use Rattle.source_images.specs.declared.error.ImagesError.TheVariants as imaging

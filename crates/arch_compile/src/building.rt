@@ -14,13 +14,11 @@ ghost use Rattle.std.specs.Prelude.{◌≡◌, IfOk};
 use crate::imaging::{not_imaged, root_of};
 use crate::laying::{Layout, lay_out};
 use crate::making::{Made, made_of};
-use auth_kinds::{EdgeTable, Policy};
 use cam_base::{List, NoMemory};
 use cam_io::Files;
-use cap_model::Spec;
+use cap_model::{EdgeTable, Policy, Spec};
 use front_end::{BuildError, FrontEnd, Meaning, in_file, meaning_of, with_policy};
-use program_sections::Images;
-use source_images::read_images;
+use source_images::{Images, read_images};
 use std::alloc::Global;
 use system_spec::{MapLine, Tables};
 
@@ -38,7 +36,7 @@ pub struct Build {
 /// The source of the root, with all that is made of it and of the section tables beside it.
 ///
 /// Its spec keeps what every spec keeps. What is made has the slots, images, labels and map of its source by the law
-/// `builds_are_those_of_their_source` of `build_images`, and just the edges that its source assigns by the law `builds_are_sound`
+/// `builds_are_those_of_their_source` of `build_laws`, and just the edges that its source assigns by the law `builds_are_sound`
 /// of `build_laws`.
 ///
 /// # Errors

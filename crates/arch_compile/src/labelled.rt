@@ -4,9 +4,8 @@ ghost use Rattle.arch_compile.specs.Built.{labelled};
 ghost use Rattle.arch_compile.specs.Steps.{with_objects};
 ghost use Rattle.std.specs.Prelude.{◌≡◌, ◌<◌, ◌^◌, length, IfOk};
 
-use auth_kinds::{Labels, Policy};
 use cam_base::{List, Name, NoMemory};
-use cap_model::{Entry, Spec};
+use cap_model::{Entry, Labels, Policy, Spec};
 use std::alloc::Global;
 
 /// The name of each object with its label.

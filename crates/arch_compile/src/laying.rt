@@ -3,8 +3,8 @@
 ghost use Rattle.adl_meaning.specs.Faults.{Refuses};
 ghost use Rattle.arch_compile.specs.Steps.{IsImaged, IsLaid, first_laid_fault};
 ghost use Rattle.front_end.specs.Steps.{IsSound};
-ghost use Rattle.program_sections.specs.Numbered.{AreNumbered};
-ghost use Rattle.program_sections.specs.SpaceFaults.{first_space_fault};
+ghost use Rattle.source_images.specs.Numbered.{AreNumbered};
+ghost use Rattle.source_images.specs.SpaceFaults.{first_space_fault};
 ghost use Rattle.std.specs.Prelude.{IfOk};
 ghost use Rattle.vspace_layout.specs.Given.{given};
 
@@ -12,7 +12,7 @@ use adl_meaning::Flat;
 use cam_base::{Fault, Refused};
 use cspace_layout::{Slots, lay_caps};
 use front_end::Meaning;
-use program_sections::{Images, first_space_fault};
+use source_images::{Images, first_space_fault};
 use std::alloc::Global;
 use vspace_layout::{Spaces, lay_apart};
 

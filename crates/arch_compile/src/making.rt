@@ -2,18 +2,16 @@
 
 ghost use Rattle.arch_compile.specs.Steps.{IsMadeOf, policy_tables};
 ghost use Rattle.arch_policy.specs.Policies.{IsCertificateOf, IsPolicyOf};
-ghost use Rattle.auth_kinds.specs.Tables.{IsSorted};
+ghost use Rattle.cap_model.specs.Tables.{IsSorted};
 ghost use Rattle.std.specs.Prelude.{IfOk};
 ghost use Rattle.system_spec.specs.Buildable.{IsBuildable};
 ghost use Rattle.system_spec.specs.Told.{told};
 ghost use Rattle.system_spec.specs.Windowed.{IsWindowed};
 
 use crate::labelled::with_objects;
-use arch_cert::certificate_of;
-use arch_policy::Tables as PolicyTables;
-use auth_kinds::{EdgeTable, Policy};
+use arch_policy::{Tables as PolicyTables, certificate_of};
 use cam_base::{List, NoMemory};
-use cap_model::Spec;
+use cap_model::{EdgeTable, Policy, Spec};
 use std::alloc::Global;
 use system_spec::{MapLine, System, Tables, build_with_map};
 

@@ -3,16 +3,16 @@ use Rattle.std.proofs.Common.{◌≡◌, ◌⊎◌, ◌<◌, ◌≤◌, ◌+◌,
 use Rattle.std.specs.List.{slice_get}
 use Rattle.std.proofs.lemmas.Bool.{cases_lt}
 use Rattle.std.proofs.lemmas.Option.{slice_get_within}
-use Rattle.auth_kinds.specs.Adds.{Adds}
-use Rattle.auth_kinds.specs.Edges.{edge}
-use Rattle.auth_kinds.specs.Tables.{IsFirstFrom}
-use Rattle.auth_kinds.specs.declared.authority.Authority.TheVariants.{AsyncSend}
-use Rattle.auth_kinds.specs.declared.edge.Edge.{Edge}
-use Rattle.auth_kinds.proofs.EdgeGrowth.{adds_none, adds_same, adds_then}
+use Rattle.cap_model.specs.Adds.{Adds}
+use Rattle.cap_model.specs.Edges.{edge}
+use Rattle.cap_model.specs.Tables.{IsFirstFrom}
+use Rattle.cap_model.specs.declared.authority.Authority.TheVariants.{AsyncSend}
+use Rattle.cap_model.specs.declared.edge.Edge.{Edge}
+use Rattle.cap_model.proofs.EdgeGrowth.{adds_none, adds_same, adds_then}
 use Rattle.arch_policy.specs.Bound.{IsBound, IsBoundAt, IsBoundBy, bound_to}
 use Rattle.arch_policy.proofs.Lists.{has_in, in_has}
-use Rattle.numbering.specs.Gather.{IsIn}
-use Rattle.numbering.proofs.Gathered.{in_append, in_left, in_place, in_right, place_of}
+use Rattle.cam_base.specs.Gather.{IsIn}
+use Rattle.cam_base.proofs.Gathered.{in_append, in_left, in_place, in_right, place_of}
 
 -- a list behind another adds what stands in it
 pub adds_list : (xs b c : List Edge) → c ≡ b ++ xs → Adds (λ e. IsIn e xs) b c

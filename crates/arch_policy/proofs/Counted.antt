@@ -7,19 +7,19 @@ use Rattle.std.specs.Set.{is_member}
 use Rattle.std.proofs.lemmas.Map.Made.{length-from_keys}
 use Rattle.std.proofs.lemmas.Map.Keys.{IsDistinct-from_apart}
 use Rattle.std.proofs.lemmas.Option.{slice_get-get_or}
-use Rattle.auth_kinds.specs.Adds.{Adds}
-use Rattle.auth_kinds.specs.Edges.{Before, same_edge}
-use Rattle.auth_kinds.specs.Tables.{IsSorted, has}
-use Rattle.auth_kinds.specs.declared.edge.Edge.{Edge}
-use Rattle.auth_kinds.proofs.EdgeOrder.{not_before_self, same_edge_self, same_edge_true, same_edge-sym}
+use Rattle.cap_model.specs.Adds.{Adds}
+use Rattle.cap_model.specs.Edges.{Before, same_edge}
+use Rattle.cap_model.specs.Tables.{IsSorted, has}
+use Rattle.cap_model.specs.declared.edge.Edge.{Edge}
+use Rattle.cap_model.proofs.EdgeOrder.{not_before_self, same_edge_self, same_edge_true, same_edge-sym}
 use Rattle.arch_policy.specs.Bound.{IsBound}
 use Rattle.arch_policy.specs.Policies.{IsPolicyOf, edge_count}
 use Rattle.arch_policy.specs.Tables.{Tables}
 use Rattle.arch_policy.specs.Triples.{bound_edges, triples}
 use Rattle.arch_policy.proofs.Listed.{from_bound, in_bound, triples_are_policy}
 use Rattle.arch_policy.proofs.Lists.{from_filter, has_in, in_filter, in_has}
-use Rattle.numbering.specs.Gather.{IsIn}
-use Rattle.numbering.proofs.Gathered.{in_append, in_left, in_right}
+use Rattle.cam_base.specs.Gather.{IsIn}
+use Rattle.cam_base.proofs.Gathered.{in_append, in_left, in_right}
 
 same_back : (d e : Edge) → same_edge d e ≡ true → same_edge e d ≡ true
 same_back d e h = ap (λ z. same_edge z d) (sym (same_edge_true d e h)) ∙ same_edge_self d

@@ -8,12 +8,12 @@ use Rattle.adl_meaning.specs.declared.connector.Connector.{Connector}
 use Rattle.adl_meaning.specs.declared.connector.Connector.TheVariants.{Rpc, Notification, SharedMemory, Mmio, Interrupt, Direct}
 use Rattle.arch_policy.specs.Gives.{gives}
 use Rattle.arch_policy.specs.Owners.{has_label}
-use Rattle.auth_kinds.specs.Authorities.{authorities}
-use Rattle.auth_kinds.specs.declared.authority.Authority.{Authority}
-use Rattle.auth_kinds.specs.declared.authority.Authority.TheVariants.{AsyncSend, Call, Control, Grant, GrantBack, Handle, Read, Receive, Reply, Reset, SyncSend, Write}
+use Rattle.cap_model.specs.Authorities.{authorities}
+use Rattle.cap_model.specs.declared.authority.Authority.{Authority}
+use Rattle.cap_model.specs.declared.authority.Authority.TheVariants.{AsyncSend, Call, Control, Grant, GrantBack, Handle, Read, Receive, Reply, Reset, SyncSend, Write}
 use Rattle.conn_rules.specs.declared.rule.ObjectKind.{ObjectKind}
 use Rattle.conn_rules.specs.declared.rule.ObjectKind.TheVariants.{NoObject, OfEndpoint, OfNotification, OfFrames, OfDevice, OfIrq}
-use Rattle.numbering.specs.Gather.{IsIn}
+use Rattle.cam_base.specs.Gather.{IsIn}
 
 in_all : {X : Type 0} (p : X → Bool) (x : X) (xs : List X) → IsIn x xs → list_all p xs ≡ true → p x ≡ true
 in_all p x [] i h = absurd i

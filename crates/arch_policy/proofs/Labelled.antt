@@ -10,8 +10,8 @@ use Rattle.arch_policy.specs.Owners.{connection_texts, device_texts, domain_text
 use Rattle.arch_policy.specs.Where.{where_true}
 use Rattle.arch_policy.proofs.Ordering.{order_short}
 use Rattle.cam_base.specs.Paths.{joined}
-use Rattle.numbering.proofs.Gathered.{length_append}
-use Rattle.numbering.proofs.Lists.{length-gather}
+use Rattle.cam_base.proofs.Gathered.{length_append}
+use Rattle.cam_base.proofs.NumberedLists.{length-gather}
 
 pub numbers_are : (flat : Flat) (ts : List (List ℕ)) (ds : List Domain) (cs : List FlatConnection) (ls : List Leaf) (n : LabelNumbers)
     → ts ≡ label_texts flat → ds ≡ flat.domains → cs ≡ flat.connections → ls ≡ flat.leaves

@@ -6,3 +6,4 @@ pub mod Listed
 pub mod Lists
 pub mod Ordering
 pub mod Same
+pub mod Locking

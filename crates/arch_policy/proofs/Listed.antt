@@ -12,20 +12,20 @@ use Rattle.adl_meaning.specs.declared.connector.Connector.TheVariants.{Rpc, Noti
 use Rattle.adl_meaning.specs.declared.flat.FlatConnection.{FlatConnection}
 use Rattle.adl_meaning.specs.declared.flat.FlatEnd.{FlatEnd}
 use Rattle.adl_meaning.specs.declared.flat.Leaf.{Leaf}
-use Rattle.auth_kinds.specs.Authorities.{authorities}
-use Rattle.auth_kinds.specs.AuthoritySets.{set_has}
-use Rattle.auth_kinds.specs.Edges.{edge}
-use Rattle.auth_kinds.specs.declared.authority.Authority.{Authority}
-use Rattle.auth_kinds.specs.declared.authority.Authority.TheVariants.{AsyncSend, Control, Reply, Handle}
-use Rattle.auth_kinds.specs.declared.edge.Edge.{Edge}
+use Rattle.cap_model.specs.Authorities.{authorities}
+use Rattle.cap_model.specs.AuthoritySets.{set_has}
+use Rattle.cap_model.specs.Edges.{edge}
+use Rattle.cap_model.specs.declared.authority.Authority.{Authority}
+use Rattle.cap_model.specs.declared.authority.Authority.TheVariants.{AsyncSend, Control, Reply, Handle}
+use Rattle.cap_model.specs.declared.edge.Edge.{Edge}
 use Rattle.conn_rules.specs.Row.{rows_of, same_connector, same_role}
 use Rattle.conn_rules.specs.declared.rule.ObjectKind.{ObjectKind}
 use Rattle.conn_rules.specs.declared.rule.ObjectKind.TheVariants.{NoObject, OfEndpoint, OfNotification, OfFrames, OfDevice, OfIrq}
 use Rattle.conn_rules.specs.declared.rule.RuleRow.{RuleRow}
-use Rattle.leaf_ends.specs.Lookups.{setting_of}
-use Rattle.leaf_ends.specs.Members.{is_lock, members_at}
-use Rattle.numbering.specs.Gather.{IsIn, gather}
-use Rattle.numbering.proofs.Gathered.{from_gather, in_append, in_gather, in_left, in_place, in_right, place_of}
+use Rattle.cspace_layout.specs.Lookups.{setting_of}
+use Rattle.cspace_layout.specs.Members.{is_lock, members_at}
+use Rattle.cam_base.specs.Gather.{IsIn, gather}
+use Rattle.cam_base.proofs.Gathered.{from_gather, in_append, in_gather, in_left, in_place, in_right, place_of}
 use Rattle.arch_policy.specs.Ends.{EndAt, IsEnd, LockAt}
 use Rattle.arch_policy.specs.Gives.{gives, leaves, opposite, same_object}
 use Rattle.arch_policy.specs.Policies.{IsPolicyOf}
@@ -37,7 +37,7 @@ use Rattle.arch_policy.specs.Where.{where_true}
 use Rattle.arch_policy.proofs.Lists.{from_filter, from_where, has_in, in_any, in_filter, in_has, in_where, leads, led_out}
 use Rattle.arch_policy.proofs.Same.{is_connector, is_object, same_connector_self, same_object_self, same_role_self}
 use Rattle.arch_policy.proofs.Given.{an_authority}
-use Rattle.numbering.proofs.Lists.{from_any}
+use Rattle.cam_base.proofs.NumberedLists.{from_any}
 use Rattle.conn_rules.proofs.Roles.{is_role}
 
 pub is_same_role : (r q : Role) → r ≡ q → same_role r q ≡ true

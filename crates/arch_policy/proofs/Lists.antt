@@ -2,14 +2,14 @@
 use Rattle.std.proofs.Common.{◌≡◌, ◌≢◌, ◌∙◌, ◌||◌, ◌==◌, Bool, true, false, cond, not, List, [], ◌∷◌, refl, sym, ap, subst, inl, inr, true≢false}
 use Rattle.std.specs.List.{filter, list_any}
 use Rattle.std.proofs.lemmas.Bool.{eq-eqb, eqb-true}
-use Rattle.auth_kinds.specs.Edges.{same_edge}
-use Rattle.auth_kinds.specs.Tables.{has}
-use Rattle.auth_kinds.specs.declared.edge.Edge.{Edge}
-use Rattle.auth_kinds.proofs.EdgeOrder.{same_edge_self, same_edge_true}
+use Rattle.cap_model.specs.Edges.{same_edge}
+use Rattle.cap_model.specs.Tables.{has}
+use Rattle.cap_model.specs.declared.edge.Edge.{Edge}
+use Rattle.cap_model.proofs.EdgeOrder.{same_edge_self, same_edge_true}
 use Rattle.arch_policy.specs.Triples.{leads_out}
 use Rattle.arch_policy.specs.Where.{where_true}
-use Rattle.numbering.specs.Gather.{IsIn}
-use Rattle.numbering.proofs.Lists.{from_any}
+use Rattle.cam_base.specs.Gather.{IsIn}
+use Rattle.cam_base.proofs.NumberedLists.{from_any}
 
 pub from_where : {X : Type 0} (b : Bool) (x y : X) → IsIn y (where_true b x) → (b ≡ true) × (x ≡ y)
 from_where true x y (inl e) = (refl, e)

@@ -14,7 +14,7 @@ use Rattle.adl_meaning.specs.declared.flat.Leaf.{Leaf}
 use Rattle.arch_policy.specs.declared.numbers.LabelNumbers.{LabelNumbers}
 use Rattle.arch_policy.specs.Owners.{texts}
 use Rattle.cam_base.specs.Paths.{joined}
-use Rattle.numbering.specs.Gather.{gather}
+use Rattle.cam_base.specs.Gather.{gather}
 
 abbrev pub put_before : Ordering → List ℕ → List ℕ → List (List ℕ) → List (List ℕ) → List (List ℕ)
 put_before Less t s ss more = t ∷ s ∷ ss

@@ -8,6 +8,7 @@ pub mod Reasons
 pub mod Tables
 pub mod Triples
 pub mod Where
+pub mod LockEdges
 pub use Rattle.adl_meaning.specs.Faults
-pub use Rattle.auth_kinds.specs.Tables as EdgeTables
-pub use Rattle.leaf_ends.specs.Within
+pub use Rattle.cap_model.specs.Tables as EdgeTables
+pub use Rattle.cspace_layout.specs.Within

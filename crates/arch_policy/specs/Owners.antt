@@ -12,7 +12,7 @@ use Rattle.arch_policy.specs.declared.owner.Owner.{Owner}
 use Rattle.arch_policy.specs.declared.owner.Owner.TheVariants.{OfDomain, OfLeaf}
 use Rattle.arch_policy.specs.Where.{where_true}
 use Rattle.cam_base.specs.Paths.{joined}
-use Rattle.numbering.specs.Gather.{gather}
+use Rattle.cam_base.specs.Gather.{gather}
 
 abbrev pub has_label : Connector → Bool
 has_label Rpc = true

@@ -10,12 +10,12 @@
 use Rattle.std.specs.Prelude.{◌≡◌, ◌≢◌, ℕ, true}
 use Rattle.adl_ast.specs.declared.composition.Role.TheVariants.{From, To}
 use Rattle.adl_meaning.specs.declared.connector.Connector.TheVariants.{Rpc, Notification, Interrupt}
-use Rattle.auth_kinds.specs.declared.authority.Authority.TheVariants.{AsyncSend, Reply}
-use Rattle.auth_kinds.specs.declared.edge.Edge.{Edge}
+use Rattle.cap_model.specs.declared.authority.Authority.TheVariants.{AsyncSend, Reply}
+use Rattle.cap_model.specs.declared.edge.Edge.{Edge}
 use Rattle.conn_rules.specs.declared.rule.ObjectKind.{ObjectKind}
 use Rattle.conn_rules.specs.declared.rule.ObjectKind.TheVariants.{NoObject, OfEndpoint, OfNotification, OfFrames, OfDevice, OfIrq}
 use Rattle.arch_policy.specs.Tables.{Tables, connection_label, domain_label, leaf_label}
-use Rattle.leaf_ends.specs.Lookups.{setting_of}
+use Rattle.cspace_layout.specs.Lookups.{setting_of}
 use Rattle.arch_policy.specs.Ends.{EndAt, IsEnd, LockAt}
 use Rattle.arch_policy.specs.Gives.{gives, leaves, opposite}
 

@@ -9,19 +9,19 @@ use Rattle.adl_meaning.specs.declared.connector.Connector.{Connector}
 use Rattle.adl_meaning.specs.declared.connector.Connector.TheVariants.{Rpc, Notification, Interrupt}
 use Rattle.adl_meaning.specs.declared.flat.FlatConnection.{FlatConnection}
 use Rattle.adl_meaning.specs.declared.flat.FlatEnd.{FlatEnd}
-use Rattle.auth_kinds.specs.Authorities.{authorities}
-use Rattle.auth_kinds.specs.AuthoritySets.{set_has}
-use Rattle.auth_kinds.specs.Edges.{edge}
-use Rattle.auth_kinds.specs.declared.authority.Authority.{Authority}
-use Rattle.auth_kinds.specs.declared.authority.Authority.TheVariants.{AsyncSend, Reply, Handle}
-use Rattle.auth_kinds.specs.declared.edge.Edge.{Edge}
+use Rattle.cap_model.specs.Authorities.{authorities}
+use Rattle.cap_model.specs.AuthoritySets.{set_has}
+use Rattle.cap_model.specs.Edges.{edge}
+use Rattle.cap_model.specs.declared.authority.Authority.{Authority}
+use Rattle.cap_model.specs.declared.authority.Authority.TheVariants.{AsyncSend, Reply, Handle}
+use Rattle.cap_model.specs.declared.edge.Edge.{Edge}
 use Rattle.conn_rules.specs.Row.{rows_of, same_connector, same_role}
 use Rattle.conn_rules.specs.declared.rule.ObjectKind.{ObjectKind}
 use Rattle.conn_rules.specs.declared.rule.ObjectKind.TheVariants.{NoObject, OfEndpoint, OfNotification, OfFrames, OfDevice, OfIrq}
 use Rattle.conn_rules.specs.declared.rule.RuleRow.{RuleRow}
-use Rattle.leaf_ends.specs.Lookups.{setting_of}
-use Rattle.leaf_ends.specs.Members.{is_lock, members_at}
-use Rattle.numbering.specs.Gather.{gather}
+use Rattle.cspace_layout.specs.Lookups.{setting_of}
+use Rattle.cspace_layout.specs.Members.{is_lock, members_at}
+use Rattle.cam_base.specs.Gather.{gather}
 use Rattle.arch_policy.specs.Gives.{leaves, opposite}
 use Rattle.arch_policy.specs.Tables.{Tables, connection_label, domain_label, leaf_label}
 use Rattle.arch_policy.specs.Where.{where_true}

@@ -1,11 +1,11 @@
 //! What bound interrupts give devices.
 
 ghost use Rattle.arch_policy.specs.Bound.{IsBound, IsBoundAt, IsBoundBy, bound_to};
-ghost use Rattle.auth_kinds.specs.Adds.{Adds};
+ghost use Rattle.cap_model.specs.Adds.{Adds};
 ghost use Rattle.std.specs.Prelude.{◌≡◌, ◌++◌, OnOk};
 
-use auth_kinds::{Authority, Edge, EdgeTable};
 use cam_base::{List, NoMemory};
+use cap_model::{Authority, Edge, EdgeTable};
 
 fn push_bound_to(handle: Edge, signal: Option<Edge>, edges: &mut List<Edge>) -> Result<(), NoMemory>
     ensures { OnOk result (edges.new ≡ edges.old ++ bound_to handle signal) }

@@ -7,12 +7,12 @@ ghost use Rattle.adl_meaning.specs.declared.flat.FlatConnection.{FlatConnection 
 ghost use Rattle.arch_policy.specs.Tables.{leaf_label, told};
 ghost use Rattle.arch_policy.specs.Triples.{crossed, crossed_at, crossed_edges, direct_edges, end_edges, given_edges, labels_in_role, lock_edge, lock_edges, row_edges, row_gives, signal_edges, signals_at, targets};
 ghost use Rattle.arch_policy.specs.Where.{where_true};
-ghost use Rattle.auth_kinds.specs.Edges.{edge};
-ghost use Rattle.auth_kinds.specs.Tables.{has};
-ghost use Rattle.auth_kinds.specs.declared.edge.Edge.{Edge as Triple};
+ghost use Rattle.cap_model.specs.Edges.{edge};
+ghost use Rattle.cap_model.specs.Tables.{has};
+ghost use Rattle.cap_model.specs.declared.edge.Edge.{Edge as Triple};
 ghost use Rattle.conn_rules.specs.Row.{same_connector, same_role};
-ghost use Rattle.leaf_ends.specs.Members.{is_lock, members_at};
-ghost use Rattle.numbering.specs.Gather.{gather};
+ghost use Rattle.cspace_layout.specs.Members.{is_lock, members_at};
+ghost use Rattle.cam_base.specs.Gather.{gather};
 ghost use Rattle.std.specs.List.{list_any};
 ghost use Rattle.std.specs.Prelude.{◌≡◌, ◌<◌, ◌^◌, ◌++◌, ◌∷◌, ◌&&◌, [], length, slice_get, IfOk, OnOk, Some, ℕ};
 
@@ -20,10 +20,10 @@ use crate::Tables;
 use crate::tables::{connection_label, domain_label, leaf_label};
 use adl_ast::{Member, Role};
 use adl_meaning::{Connector, EndSetting, FlatConnection, FlatEnd, Leaf};
-use auth_kinds::{Authority, Edge, EdgeTable};
 use cam_base::{List, NoMemory};
+use cap_model::{Authority, Edge, EdgeTable};
 use conn_rules::{ObjectKind, RuleRow, row};
-use leaf_ends::{is_lock, members_at, setting_of};
+use cspace_layout::{is_lock, members_at, setting_of};
 use std::alloc::Global;
 
 /// All authorities, by number.

@@ -4,7 +4,7 @@ ghost use Rattle.arch_policy.specs.Labels.{IsOrdered, connection_numbers, device
 ghost use Rattle.arch_policy.specs.Owners.{connection_texts, device_texts, domain_texts, has_label, is_device, texts};
 ghost use Rattle.arch_policy.specs.Where.{where_true};
 ghost use Rattle.cam_base.specs.Paths.{joined};
-ghost use Rattle.numbering.specs.Gather.{gather};
+ghost use Rattle.cam_base.specs.Gather.{gather};
 ghost use Rattle.std.specs.Prelude.{◌≡◌, ◌+◌, ◌<◌, ◌^◌, ◌++◌, ◌∷◌, [], length, IfOk, OnOk};
 
 use crate::LabelNumbers;

@@ -4,10 +4,10 @@ ghost use Rattle.arch_policy.specs.Labels.{label_lines, label_numbers};
 ghost use Rattle.arch_policy.specs.Policies.{IsPolicyOf, edge_count, first_edge_fault};
 ghost use Rattle.arch_policy.specs.Tables.{tables_of, told};
 ghost use Rattle.arch_policy.specs.Triples.{handle_edges, leads_out, lock_edges, reasoned_edges, signal_edges, triples};
-ghost use Rattle.auth_kinds.specs.Tables.{IsSorted, has};
-ghost use Rattle.auth_kinds.specs.declared.edge.Edge.{Edge as Triple};
-ghost use Rattle.leaf_ends.specs.Limit.{limit_fault};
-ghost use Rattle.leaf_ends.specs.Within.{IsWithin};
+ghost use Rattle.cap_model.specs.Tables.{IsSorted, has};
+ghost use Rattle.cap_model.specs.declared.edge.Edge.{Edge as Triple};
+ghost use Rattle.cspace_layout.specs.Limit.{limit_fault};
+ghost use Rattle.cspace_layout.specs.Within.{IsWithin};
 ghost use Rattle.std.specs.List.{filter};
 ghost use Rattle.std.specs.Prelude.{◌≡◌, ◌+◌, ◌<◌, ◌^◌, ◌++◌, [], if◌then◌else◌, nat_lt, codes, length, slice_get, IfOk, None, Some, ℕ};
 
@@ -17,9 +17,9 @@ use crate::labels::{Labelling, label_lines, labels_of};
 use crate::{LabelNumbers, Tables};
 use adl_ast::Source;
 use adl_meaning::{Connector, Flat, Settled};
-use auth_kinds::{Authority, Edge, EdgeTable, Policy};
 use cam_base::{Fault, List, NoMemory, Refused};
-use leaf_ends::limit_fault;
+use cap_model::{Authority, Edge, EdgeTable, Policy};
+use cspace_layout::limit_fault;
 use std::alloc::Global;
 
 /// Who handles the interrupt of which device.

@@ -19,7 +19,7 @@ use Rattle.adl_ast.specs.declared.file.Item.TheVariants as items
 use Rattle.adl_hierarchy.proofs.Bodies.{body_number}
 use Rattle.adl_hierarchy.proofs.DomainNames.{leaf_number_is}
 use Rattle.adl_hierarchy.specs.Leads.{AreDotted}
-use Rattle.numbering.proofs.Lists.{get_map}
+use Rattle.cam_base.proofs.NumberedLists.{get_map}
 use Rattle.adl_meaning.specs.Paths.{leaves as tree_leaves}
 use Rattle.adl_settings.specs.Allowed.{access_in, no_access, read_and_write}
 use Rattle.adl_settings.specs.EndMeaning.{access_at, end_setting}
@@ -37,16 +37,16 @@ use Rattle.arch_policy.proofs.Given.{implied, implies, over_object}
 use Rattle.assigned_laws.specs.Assigned.{EndOf, access_of, allows}
 use Rattle.assigned_laws.specs.Named.{tables_with}
 use Rattle.assigned_laws.proofs.Joined.{Matches}
-use Rattle.auth_kinds.specs.declared.authority.Authority.{Authority}
-use Rattle.auth_kinds.specs.declared.authority.Authority.TheVariants.{Read, Write}
+use Rattle.cap_model.specs.declared.authority.Authority.{Authority}
+use Rattle.cap_model.specs.declared.authority.Authority.TheVariants.{Read, Write}
 use Rattle.conn_rules.specs.Ends.{end_rule}
 use Rattle.conn_rules.specs.declared.rule.ObjectKind.{ObjectKind}
-use Rattle.leaf_ends.specs.Members.{items_of_file, members_at, members_in, members_of}
+use Rattle.cspace_layout.specs.Members.{items_of_file, members_at, members_in, members_of}
 use Rattle.flat_laws.specs.Typed.{IsTypedEnd}
 use Rattle.flat_laws.proofs.AreTyped.{ends_typed}
 use Rattle.flat_laws.proofs.FlatLeaves.{leaf_component, members_of_part}
-use Rattle.numbering.proofs.Gathered.{place_of}
-use Rattle.leaf_ends.specs.Lookups.{setting_of}
+use Rattle.cam_base.proofs.Gathered.{place_of}
+use Rattle.cspace_layout.specs.Lookups.{setting_of}
 use Rattle.arch_policy.specs.declared.numbers.LabelNumbers.{LabelNumbers}
 
 -- ---- lists

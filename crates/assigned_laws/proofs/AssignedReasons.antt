@@ -17,9 +17,9 @@ use Rattle.assigned_laws.proofs.Accesses.{access_left}
 use Rattle.assigned_laws.proofs.Joined.{Matches, met, put, strung_at, strung_here}
 use Rattle.assigned_laws.proofs.Locks.{lock_at, lock_of}
 use Rattle.assigned_laws.proofs.Naming.{connection_named, number_is, path_is}
-use Rattle.auth_kinds.specs.Edges.{edge}
-use Rattle.auth_kinds.specs.declared.authority.Authority.{Authority}
-use Rattle.auth_kinds.specs.declared.edge.Edge.{Edge}
+use Rattle.cap_model.specs.Edges.{edge}
+use Rattle.cap_model.specs.declared.authority.Authority.{Authority}
+use Rattle.cap_model.specs.declared.edge.Edge.{Edge}
 use Rattle.conn_rules.specs.declared.rule.ObjectKind.{ObjectKind}
 use Rattle.conn_rules.specs.declared.rule.ObjectKind.TheVariants.{NoObject, OfEndpoint, OfNotification, OfFrames, OfDevice, OfIrq}
 use Rattle.arch_policy.specs.declared.numbers.LabelNumbers.{LabelNumbers}

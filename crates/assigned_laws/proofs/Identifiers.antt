@@ -12,9 +12,9 @@ use Rattle.arch_policy.specs.declared.owner.Owner.{Owner}
 use Rattle.assigned_laws.proofs.LabelPaths.{Ends, held_instance, label_ends}
 use Rattle.assigned_laws.specs.Named.{HasPath}
 use Rattle.cam_base.specs.Names.{is_name}
-use Rattle.numbering.proofs.Gathered.{in_append}
-use Rattle.numbering.proofs.Lists.{from_flat_map, from_map}
-use Rattle.numbering.specs.Gather.{IsIn}
+use Rattle.cam_base.proofs.Gathered.{in_append}
+use Rattle.cam_base.proofs.NumberedLists.{from_flat_map, from_map}
+use Rattle.cam_base.specs.Gather.{IsIn}
 
 abbrev pub IsIdentifier : Name → Type 0
 IsIdentifier n = is_name n ≡ true

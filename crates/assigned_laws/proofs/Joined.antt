@@ -8,16 +8,16 @@ use Rattle.adl_hierarchy.proofs.Connections.{connections_stand}
 use Rattle.adl_hierarchy.proofs.DomainNames.{leaf_number_is}
 use Rattle.adl_hierarchy.proofs.Joining.{all_joined, end_numbers_kept, ends_kept, joined, joins_joined}
 use Rattle.adl_hierarchy.specs.Leads.{AreDotted}
-use Rattle.component_graph.proofs.Lists.{in_get}
-use Rattle.numbering.proofs.Lists.{get_map, at_place, from_get_map}
-use Rattle.numbering.specs.Gather.{IsIn}
+use Rattle.adl_hierarchy.proofs.Lists.{in_get}
+use Rattle.cam_base.proofs.NumberedLists.{get_map, at_place, from_get_map}
+use Rattle.cam_base.specs.Gather.{IsIn}
 use Rattle.arch_policy.specs.Ends.{EndAt}
 use Rattle.assigned_laws.specs.Assigned.{EndOf, owner}
 use Rattle.assigned_laws.specs.Named.{IsNamed, tables_with}
 use Rattle.assigned_laws.proofs.Naming.{leaf_named}
 use Rattle.arch_policy.specs.Tables.{Tables, leaf_label}
 use Rattle.arch_policy.specs.declared.numbers.LabelNumbers.{LabelNumbers}
-use Rattle.numbering.proofs.Gathered.{place_of}
+use Rattle.cam_base.proofs.Gathered.{place_of}
 
 module _ (s : Source) (sound : AreNamesSound s) (dotted : AreDotted (hierarchy_of s)) (numbers : LabelNumbers) where
   abbrev t : Tables

@@ -21,14 +21,14 @@ use Rattle.adl_hierarchy.proofs.Leaves.{leaves_stand}
 use Rattle.adl_hierarchy.proofs.PartNames.{held_name, held_once, no_duplicates}
 use Rattle.adl_hierarchy.proofs.PartsAt.{last_of, named_in}
 use Rattle.adl_hierarchy.proofs.Repeats.{find_once}
-use Rattle.component_graph.proofs.Lists.{in_get}
-use Rattle.numbering.proofs.Lists.{from_filter_map, from_flat_map, get_map, in_flat_map, in_map, map_some, from_get_map}
+use Rattle.adl_hierarchy.proofs.Lists.{in_get}
+use Rattle.cam_base.proofs.NumberedLists.{from_filter_map, from_flat_map, get_map, in_flat_map, in_map, map_some, from_get_map}
 use Rattle.adl_meaning.specs.Holding.{a_connection as held_connection}
-use Rattle.numbering.specs.Gather.{IsIn}
+use Rattle.cam_base.specs.Gather.{IsIn}
 use Rattle.arch_policy.specs.declared.owner.Owner.{Owner}
 use Rattle.arch_policy.specs.declared.owner.Owner.TheVariants.{OfConnection, OfDomain, OfLeaf}
 use Rattle.assigned_laws.specs.Named.{ArePathsApart, HasPath}
-use Rattle.numbering.proofs.Gathered.{place_of}
+use Rattle.cam_base.proofs.Gathered.{place_of}
 
 -- ---- lists
 

@@ -19,10 +19,10 @@ use Rattle.assigned_laws.proofs.Ranked.{called_line, line_called}
 use Rattle.assigned_laws.specs.Assigned.{HasLabel, owner}
 use Rattle.assigned_laws.specs.Named.{HasPath, IsNamed, tables_with}
 use Rattle.assigned_laws.specs.Texts.{IsLabelText}
-use Rattle.component_graph.proofs.Lists.{in_get}
-use Rattle.numbering.proofs.Gathered.{place_of}
-use Rattle.numbering.proofs.Lists.{from_get_map, from_map, in_map}
-use Rattle.numbering.specs.Gather.{IsIn}
+use Rattle.adl_hierarchy.proofs.Lists.{in_get}
+use Rattle.cam_base.proofs.Gathered.{place_of}
+use Rattle.cam_base.proofs.NumberedLists.{from_get_map, from_map, in_map}
+use Rattle.cam_base.specs.Gather.{IsIn}
 
 module _ (s : Source) (sound : AreNamesSound s) where
   -- ---- of leaves

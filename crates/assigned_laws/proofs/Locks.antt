@@ -9,19 +9,19 @@ use Rattle.adl_hierarchy.proofs.Bodies.{body_number}
 use Rattle.adl_hierarchy.proofs.DomainNames.{domain_found, domains_are}
 use Rattle.adl_hierarchy.proofs.Leaves.{leaves_stand, paths_are_leaves}
 use Rattle.adl_hierarchy.proofs.PartsAt.{at_part}
-use Rattle.component_graph.proofs.Lists.{in_get}
-use Rattle.numbering.proofs.Lists.{from_map, get_map, from_get_map}
-use Rattle.numbering.specs.Gather.{IsIn}
+use Rattle.adl_hierarchy.proofs.Lists.{in_get}
+use Rattle.cam_base.proofs.NumberedLists.{from_map, get_map, from_get_map}
+use Rattle.cam_base.specs.Gather.{IsIn}
 use Rattle.arch_policy.specs.Ends.{LockAt}
 use Rattle.arch_policy.specs.declared.owner.Owner.TheVariants.{OfDomain}
 use Rattle.assigned_laws.specs.Assigned.{LockOf, WithLock}
 use Rattle.assigned_laws.specs.Named.{IsNamed, tables_with}
 use Rattle.assigned_laws.proofs.Naming.{path_is}
-use Rattle.auth_kinds.specs.Edges.{edge}
-use Rattle.auth_kinds.specs.declared.authority.Authority.{Authority}
-use Rattle.leaf_ends.specs.Members.{members_at}
+use Rattle.cap_model.specs.Edges.{edge}
+use Rattle.cap_model.specs.declared.authority.Authority.{Authority}
+use Rattle.cspace_layout.specs.Members.{members_at}
 use Rattle.flat_laws.proofs.FlatLeaves.{leaf_component, members_of_part}
-use Rattle.numbering.proofs.Gathered.{place_of}
+use Rattle.cam_base.proofs.Gathered.{place_of}
 use Rattle.arch_policy.specs.Policies.{IsLockEdge}
 use Rattle.arch_policy.specs.Tables.{AreApart, Tables, domain_label}
 use Rattle.arch_policy.specs.declared.numbers.LabelNumbers.{LabelNumbers}

@@ -7,8 +7,8 @@ use Rattle.adl_meaning.specs.Prelude.{option_map_or, slice_get, top_number}
 use Rattle.adl_hierarchy.proofs.DomainNames.{domain_found, domains_are}
 use Rattle.adl_hierarchy.proofs.Leaves.{leaves_stand}
 use Rattle.adl_hierarchy.proofs.PartsAt.{at_part}
-use Rattle.component_graph.proofs.Lists.{in_get}
-use Rattle.numbering.proofs.Lists.{get_map}
+use Rattle.adl_hierarchy.proofs.Lists.{in_get}
+use Rattle.cam_base.proofs.NumberedLists.{get_map}
 use Rattle.arch_policy.specs.declared.owner.Owner.{Owner}
 use Rattle.arch_policy.specs.Owners.{has_label, owner_in}
 use Rattle.arch_policy.specs.declared.owner.Owner.TheVariants.{OfConnection, OfDomain, OfLeaf}

@@ -18,13 +18,13 @@ use Rattle.assigned_laws.proofs.TextReasons.{assigned_texts}
 use Rattle.assigned_laws.specs.Named.{IsNamed}
 use Rattle.assigned_laws.specs.Texts.{IsAssignedText}
 use Rattle.assigned_laws.specs.Triples.{AreAll, Precedes, Triple, name_at, triple}
-use Rattle.auth_kinds.specs.Edges.{Before, edge}
-use Rattle.auth_kinds.specs.Tables.{IsSorted}
-use Rattle.auth_kinds.specs.declared.authority.Authority.{Authority}
-use Rattle.auth_kinds.specs.declared.edge.Edge.{Edge}
-use Rattle.numbering.proofs.Gathered.{in_place}
-use Rattle.numbering.proofs.Lists.{from_get_map, from_map, in_map}
-use Rattle.numbering.specs.Gather.{IsIn}
+use Rattle.cap_model.specs.Edges.{Before, edge}
+use Rattle.cap_model.specs.Tables.{IsSorted}
+use Rattle.cap_model.specs.declared.authority.Authority.{Authority}
+use Rattle.cap_model.specs.declared.edge.Edge.{Edge}
+use Rattle.cam_base.proofs.Gathered.{in_place}
+use Rattle.cam_base.proofs.NumberedLists.{from_get_map, from_map, in_map}
+use Rattle.cam_base.specs.Gather.{IsIn}
 
 module _ (s : Source) (names : AreNamesSound s) (spelled : AreSpelled s) (types : first_type_fault s ≡ None)
     (edges : List Edge) (policy : IsPolicyOf (tables_of s (flat_of s) (settled_of s)) edges) (sorted : IsSorted edges) where

@@ -11,7 +11,7 @@ use Rattle.std.proofs.lemmas.Bool.{eq-eqb, eqb-true, ltb-false, ltb-true}
 use Rattle.std.specs.List.{find}
 use Rattle.std.specs.Prelude.{nat_lt as ltb}
 use Rattle.std.specs.Option.{option_map}
-use Rattle.auth_kinds.specs.Policies.{label_name}
+use Rattle.cap_model.specs.Policies.{label_name}
 use Rattle.std.proofs.lemmas.Cmp.{nat_list_cmp_total, tied_itself}
 use Rattle.std.proofs.lemmas.List.Sums.{sum_by-cons}
 use Rattle.std.proofs.lemmas.Option.{get_or_from_slice_get}
@@ -25,8 +25,8 @@ use Rattle.arch_policy.specs.declared.owner.Owner.TheVariants.{OfConnection, OfD
 use Rattle.arch_policy.proofs.Lists.{from_where, in_where}
 use Rattle.assigned_laws.specs.Named.{HasPath}
 use Rattle.assigned_laws.specs.Texts.{AreTextsApart, IsCalled}
-use Rattle.numbering.proofs.Gathered.{from_gather, from_ones, get_ones, in_append, in_gather, in_left, in_place, in_right, place_of}
-use Rattle.numbering.specs.Gather.{IsIn}
+use Rattle.cam_base.proofs.Gathered.{from_gather, from_ones, get_ones, in_append, in_gather, in_left, in_place, in_right, place_of}
+use Rattle.cam_base.specs.Gather.{IsIn}
 
 -- ---- lists
 

@@ -16,8 +16,8 @@ use Rattle.assigned_laws.proofs.Locks.{lock_of}
 use Rattle.assigned_laws.proofs.Naming.{connection_named}
 use Rattle.assigned_laws.specs.Assigned.{connection_path, owner}
 use Rattle.assigned_laws.specs.Named.{IsNamed, tables_with}
-use Rattle.auth_kinds.specs.declared.authority.Authority.{Authority}
-use Rattle.auth_kinds.specs.declared.edge.Edge.{Edge}
+use Rattle.cap_model.specs.declared.authority.Authority.{Authority}
+use Rattle.cap_model.specs.declared.edge.Edge.{Edge}
 use Rattle.conn_rules.specs.declared.rule.ObjectKind.{ObjectKind}
 use Rattle.conn_rules.specs.declared.rule.ObjectKind.TheVariants.{NoObject, OfDevice, OfEndpoint, OfFrames, OfIrq, OfNotification}
 

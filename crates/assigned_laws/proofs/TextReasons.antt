@@ -18,8 +18,8 @@ use Rattle.assigned_laws.proofs.Undotted.{undotted}
 use Rattle.assigned_laws.specs.Assigned.{Direct, IsAssigned, WithLock}
 use Rattle.assigned_laws.specs.Named.{IsNamed}
 use Rattle.assigned_laws.specs.Texts.{IsAssignedText, IsDirectText, IsLockText, OfTexts}
-use Rattle.auth_kinds.specs.Edges.{edge}
-use Rattle.auth_kinds.specs.declared.authority.Authority.{Authority}
+use Rattle.cap_model.specs.Edges.{edge}
+use Rattle.cap_model.specs.declared.authority.Authority.{Authority}
 
 module _ (s : Source) (sound : AreNamesSound s) (spelled : AreSpelled s) where
   abbrev t : Tables

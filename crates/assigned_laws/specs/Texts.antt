@@ -2,11 +2,11 @@
 use Rattle.std.specs.Prelude.{◌≡◌, ◌≢◌, ℕ, List}
 use Rattle.adl_meaning.specs.Prelude.{Name, Path, Source, hierarchy_of, joined}
 use Rattle.adl_meaning.specs.declared.flat.Flat.{Flat}
-use Rattle.numbering.specs.Gather.{IsIn}
+use Rattle.cam_base.specs.Gather.{IsIn}
 use Rattle.arch_policy.specs.declared.owner.Owner.{Owner}
 use Rattle.assigned_laws.specs.Assigned.{Direct, HasLabel, IsAssigned, WithLock}
 use Rattle.assigned_laws.specs.Named.{HasPath, IsNamed}
-use Rattle.auth_kinds.specs.declared.authority.Authority.{Authority}
+use Rattle.cap_model.specs.declared.authority.Authority.{Authority}
 use Rattle.arch_policy.specs.Tables.{Tables}
 
 -- the number of the label with this text

@@ -2,10 +2,10 @@
 use Rattle.std.specs.Prelude.{◌≡◌, ◌≤◌, ◌↔◌, ℕ, false, true, List, [], AllPairs, slice_index_or}
 use Rattle.adl_meaning.specs.declared.flat.Flat.{Flat}
 use Rattle.arch_policy.specs.Labels.{comes_before, label_texts}
-use Rattle.auth_kinds.specs.Authorities.{number_of}
-use Rattle.auth_kinds.specs.declared.authority.Authority.{Authority}
-use Rattle.auth_kinds.specs.declared.edge.Edge.{Edge}
-use Rattle.numbering.specs.Gather.{IsIn}
+use Rattle.cap_model.specs.Authorities.{number_of}
+use Rattle.cap_model.specs.declared.authority.Authority.{Authority}
+use Rattle.cap_model.specs.declared.edge.Edge.{Edge}
+use Rattle.cam_base.specs.Gather.{IsIn}
 
 abbrev pub Triple : Type 0
 Triple = List ℕ × Authority × List ℕ

@@ -15,11 +15,11 @@ ghost use Rattle.assigned_laws.specs.Assigned.{IsAssigned};
 ghost use Rattle.assigned_laws.specs.Named.{ArePathsApart, IsNamed, tables_with};
 ghost use Rattle.assigned_laws.specs.Texts.{AreTextsApart, AreUndotted, IsAssignedText, IsDirectText, IsLabelText, IsLockText, OfTexts};
 ghost use Rattle.assigned_laws.specs.Triples.{AreAll, triple};
-ghost use Rattle.auth_kinds.specs.Edges.{edge};
-ghost use Rattle.auth_kinds.specs.Tables.{IsSorted};
-ghost use Rattle.auth_kinds.specs.declared.authority.Authority.{Authority};
-ghost use Rattle.auth_kinds.specs.declared.edge.Edge.{Edge};
-ghost use Rattle.numbering.specs.Gather.{IsIn};
+ghost use Rattle.cap_model.specs.Edges.{edge};
+ghost use Rattle.cap_model.specs.Tables.{IsSorted};
+ghost use Rattle.cap_model.specs.declared.authority.Authority.{Authority};
+ghost use Rattle.cap_model.specs.declared.edge.Edge.{Edge};
+ghost use Rattle.cam_base.specs.Gather.{IsIn};
 ghost use Rattle.std.specs.Prelude.{◌≡◌, ◌≢◌, ◌↔◌, ℕ, List, None, map};
 
 /// What a source assigns between two paths has a reason between the numbers of their labels, and the other way round,

@@ -24,8 +24,8 @@ use Rattle.boot_plan.proofs.Multiples.{Multiple, multiple_add, multiple_coarse, 
 use Rattle.boot_plan.proofs.Powers.{pow_le}
 use Rattle.boot_plan.specs.Needs.{are_usual, is_usual}
 use Rattle.boot_plan.proofs.Usual.{region_parts, usual_got}
-use Rattle.page_index.specs.Sharing.{shares}
-use Rattle.page_index.specs.declared.region.Region.{Region}
+use Rattle.name_tables.specs.Sharing.{shares}
+use Rattle.name_tables.specs.declared.region.Region.{Region}
 
 no_le : (n m : ℕ) → m < n → leb n m ≡ false
 no_le n m h = grind (arith, nat_tests)

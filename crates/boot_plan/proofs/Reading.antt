@@ -8,9 +8,9 @@ use Rattle.boot_plan.specs.Regions.{are_regions, is_region}
 use Rattle.boot_plan.specs.UntypedTexts.{device_of, first_bad, judged, line_given, numbers_of, region_at, region_in, region_of, regions_in, regions_limit, unless_bad}
 use Rattle.boot_plan.specs.declared.untyped.Untyped.{Untyped}
 use Rattle.boot_plan.specs.declared.untyped.UntypedFault.{UntypedFault}
-use Rattle.text_lines.specs.Fields.{fields}
-use Rattle.text_lines.specs.Lines.{Line}
-use Rattle.text_lines.specs.Texts.{texts}
+use Rattle.cam_base.specs.Fields.{fields}
+use Rattle.cam_base.specs.Lines.{Line}
+use Rattle.cam_base.specs.LineTexts.{texts}
 
 -- fields too few or too many
 pub no_region : (fields : List (Bor (List ℕ))) → (length fields ≡ 3 → ⊥) → region_of (texts fields) ≡ None

@@ -5,8 +5,8 @@ use Rattle.std.specs.List.{list_any}
 use Rattle.std.specs.Ordering.{nat_cmp}
 use Rattle.boot_plan.specs.Devices.{has_page, is_needed}
 use Rattle.boot_plan.specs.declared.untyped.Untyped.{Untyped}
-use Rattle.page_index.specs.Sharing.{shares}
-use Rattle.page_index.specs.declared.region.Region.{Region}
+use Rattle.name_tables.specs.Sharing.{shares}
+use Rattle.name_tables.specs.declared.region.Region.{Region}
 
 abbrev pub page : ℕ → Region
 page paddr = record { key = (1, 0); first = paddr; count = 4096 }

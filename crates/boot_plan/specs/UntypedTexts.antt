@@ -10,9 +10,9 @@ use Rattle.boot_plan.specs.declared.untyped.Untyped.{Untyped}
 use Rattle.boot_plan.specs.declared.untyped.UntypedCode.{UntypedCode}
 use Rattle.boot_plan.specs.declared.untyped.UntypedCode.TheVariants.{Syntax, Limit}
 use Rattle.boot_plan.specs.declared.untyped.UntypedFault.{UntypedFault}
-use Rattle.text_lines.specs.AllThere.{of_two}
-use Rattle.text_lines.specs.Fields.{fields}
-use Rattle.text_lines.specs.Lines.{Line, lines, end_of}
+use Rattle.cam_base.specs.AllThere.{of_two}
+use Rattle.cam_base.specs.Fields.{fields}
+use Rattle.cam_base.specs.Lines.{Line, lines, end_of}
 
 -- the most regions of a text
 abbrev pub regions_limit : ℕ

@@ -10,7 +10,7 @@ use crate::need::Need;
 use crate::plan_refusal::PlanRefusal;
 use crate::untyped::Untyped;
 use cam_base::NoMemory;
-use page_index::{PageIndex, Region};
+use name_tables::{PageIndex, Region};
 use std::alloc::Global;
 use std::collections::BTreeSet;
 

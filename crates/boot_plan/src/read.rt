@@ -4,13 +4,12 @@ ghost use Rattle.boot_plan.specs.Regions.{are_regions, is_region};
 ghost use Rattle.boot_plan.specs.UntypedTexts.{AreRead, IsLineRead, IsRead, device_of, fault_at, numbers_of, region_at, region_of};
 ghost use Rattle.std.specs.Prelude.{◌≡◌, ◌≤◌, IfOk, codes, length, true};
 ghost use Rattle.std.specs.Str.{bytes_eq};
-ghost use Rattle.text_lines.specs.LinesLeft.{line_of, lines_left};
-ghost use Rattle.text_lines.specs.Texts.{texts};
+ghost use Rattle.cam_base.specs.LinesLeft.{line_of, lines_left};
+ghost use Rattle.cam_base.specs.LineTexts.{texts};
 
 use crate::untyped::{Untyped, UntypedCode, UntypedFault};
-use cam_base::{List, Refused, read_number};
+use cam_base::{Line, Lines, List, Refused, fields, read_number};
 use std::alloc::Global;
-use text_lines::{Line, Lines, fields};
 
 /// The most regions of a text.
 pub const MAX_REGIONS: usize = 4096;

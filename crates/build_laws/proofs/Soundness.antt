@@ -19,10 +19,10 @@ use Rattle.assigned_laws.proofs.Ranked.{lines_apart}
 use Rattle.assigned_laws.proofs.TextReasons.{assigned_texts, direct_texts, labels_apart, lock_texts}
 use Rattle.assigned_laws.specs.Texts.{IsAssignedText, IsDirectText, IsLabelText, IsLockText, OfTexts}
 use Rattle.assigned_laws.specs.Triples.{AreAll, Triple, triple}
-use Rattle.auth_kinds.specs.Edges.{edge}
-use Rattle.auth_kinds.specs.Tables.{Has}
-use Rattle.auth_kinds.specs.declared.authority.Authority.{Authority}
-use Rattle.auth_kinds.specs.declared.edge.Edge.{Edge}
+use Rattle.cap_model.specs.Edges.{edge}
+use Rattle.cap_model.specs.Tables.{Has}
+use Rattle.cap_model.specs.declared.authority.Authority.{Authority}
+use Rattle.cap_model.specs.declared.edge.Edge.{Edge}
 use Rattle.cam_io.specs.Contents.{Contents}
 use Rattle.cap_machine.specs.Runs.{Reaches}
 use Rattle.cap_model.specs.Auth.{Auth}
@@ -31,15 +31,15 @@ use Rattle.cap_model.specs.State.{boot}
 use Rattle.cap_model.specs.declared.spec.Spec.{Spec}
 use Rattle.cert_check.specs.Valid.{Valid}
 use Rattle.front_end.specs.First.{source_tables}
-use Rattle.numbering.specs.Gather.{IsIn}
-use Rattle.program_sections.specs.declared.images.Images.{Images}
+use Rattle.cam_base.specs.Gather.{IsIn}
+use Rattle.source_images.specs.declared.images.Images.{Images}
 use Rattle.reach_laws.proofs.LeastCertificates.{least}
 use Rattle.reach_laws.proofs.Reached.{exactly_reached}
 use Rattle.reach_laws.proofs.ValidCertificates.{valid}
 use Rattle.reach_laws.specs.LaidOut.{IsLaidOut}
-use Rattle.source_connected.proofs.Connected.{tables_are_connected}
-use Rattle.spec_edges.proofs.Connections.{laid_out}
-use Rattle.spec_edges.specs.Connected.{IsConnected}
+use Rattle.spec_laws.proofs.SourceConnected.{tables_are_connected}
+use Rattle.spec_laws.proofs.Connections.{laid_out}
+use Rattle.spec_laws.specs.Connected.{IsConnected}
 use Rattle.system_spec.specs.Made.{entry, labels_of, part_label, spec_of}
 use Rattle.system_spec.specs.Parts.{parts}
 use Rattle.system_spec.specs.Tables.{Tables}

@@ -2,7 +2,7 @@
 
 use adl_ast::Role;
 use adl_meaning::Connector;
-use auth_kinds::{Authority, AuthoritySet};
+use cap_model::{Authority, AuthoritySet};
 use conn_rules::{ObjectKind, RuleRow, row, rules};
 
 fn is_row(row: &RuleRow, object: ObjectKind, letters: &[u8], authorities: AuthoritySet) -> bool {

@@ -1,9 +1,9 @@
 //! Authorities, and tables of edges.
 
-ghost use Rattle.auth_kinds.specs.Shared.{PairBefore};
+ghost use Rattle.cap_model.specs.Shared.{PairBefore};
 ghost use Rattle.std.specs.Prelude.{◌≡◌, ◌≢◌, ◌<◌, length, All, AllPairs, IfOk, IsTrue};
 
-use auth_kinds::{Authority, AuthoritySet, Edge, EdgeTable, with_edge, with_set};
+use cap_model::{Authority, AuthoritySet, Edge, EdgeTable, with_edge, with_set};
 use std::alloc::Global;
 use std::test::Fail;
 

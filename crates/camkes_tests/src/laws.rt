@@ -6,9 +6,9 @@ use adl_ast::{
     typed_names_agree, values_stand_alone,
 };
 use adl_hierarchy::{
-    climbing_is_looking_down, connections_are_the_connections, domains_are_the_domains,
-    ends_are_what_joins, leaf_numbers_are_places, leaves_are_the_leaves,
-    sound_hierarchies_are_finite, spelled_names_are_dotted,
+    acyclic_is_unheld, climbing_is_looking_down, connections_are_the_connections,
+    domains_are_the_domains, ends_are_what_joins, held_is_held, leaf_numbers_are_places,
+    leaves_are_the_leaves, sound_hierarchies_are_finite, spelled_names_are_dotted, walks_are_short,
 };
 use adl_import::{answers_are_one, loaded_sources_are_whole, sources_are_one};
 use adl_lexer::{
@@ -22,34 +22,32 @@ use adl_settings::{
     badges_count_from_one, outer_settings_come_first, references_are_values,
     settings_are_those_of_joins,
 };
-use auth_kinds::{
-    edges_are_ordered, has_is_membership, sets_are_their_members, tables_are_their_edges,
-};
-use build_flow::{builds_are_separated, checked_texts_are_separated, memory_of_builds_is_static};
+use camkes_tool::{builds_are_separated, checked_texts_are_separated, memory_of_builds_is_static};
 use cap_machine::{answers_are_told, states_keep_fitting, steps_follow_the_table};
-use cap_model::examples_are_written;
+use cap_model::{
+    edges_are_ordered, examples_are_written, has_is_membership, sets_are_their_members,
+    tables_are_their_edges,
+};
 use cert_check::valid_certificates_are_sound;
-use component_graph::{acyclic_is_unheld, held_is_held, walks_are_short};
 use conn_rules::{rights_confer_just_the_authorities, sets_are_their_lists};
 use flat_laws::{ends_are_typed, flat_systems_are_within, short_files_have_few_members};
-use flow_laws::{others_change_nothing, own_acts_decide, turns_decide};
+use flow_laws::{
+    acts_keep_to_the_policy, less_is_valid, others_change_nothing, own_acts_decide,
+    plain_memory_is_static, policies_stay_kept, turns_decide,
+};
 use flow_model::{acts_are_possible, acts_lead_to_one_world, each_way_passes};
 use front_laws::{
-    duplicates_are_names_again, files_are_those_that_imports_reach,
-    flat_systems_are_by_the_hierarchy, misfits_are_at_fault, refused_imports_are_the_first,
-    settings_twice_are_set_again, told_faults_stand, types_are_by_the_hierarchy,
-    unknown_names_stand_for_nothing, unknown_words_lead_nowhere,
+    devices_serve_one_object, duplicates_are_names_again, elf_faults_are_the_first,
+    files_are_those_that_imports_reach, flat_systems_are_by_the_hierarchy, misfits_are_at_fault,
+    overlaps_share_addresses, placed_objects_are_apart, refused_imports_are_the_first,
+    region_faults_are_the_first, settings_twice_are_set_again, step_faults_are_the_first,
+    told_faults_stand, types_are_by_the_hierarchy, unknown_names_stand_for_nothing,
+    unknown_words_lead_nowhere,
 };
-use integrity_laws::{acts_keep_to_the_policy, less_is_valid, policies_stay_kept};
 use label_flow::chains_are_flows;
 use page_tables::{
     counts_are_of_addresses, root_is_one, runs_are_tables, shapes_are_levels, slots_rise,
     tables_are_kept, tables_hold_what_is_mapped,
-};
-use static_memory::plain_memory_is_static;
-use text_laws::{
-    devices_serve_one_object, elf_faults_are_the_first, overlaps_share_addresses,
-    placed_objects_are_apart, region_faults_are_the_first, step_faults_are_the_first,
 };
 
 #[test]

@@ -4,16 +4,16 @@ use Rattle.std.proofs.lemmas.Option.{same_Some}
 use Rattle.std.proofs.lemmas.Bool.{ltb-false}
 use Rattle.std.specs.FinMap.{get}
 use Rattle.arch_compile.specs.declared.building.Build.{Build}
-use Rattle.auth_kinds.specs.declared.edge.Edge.{Edge}
-use Rattle.auth_kinds.specs.declared.policy.Policy.{Policy}
-use Rattle.build_back.proofs.CertBack.{cert_read}
-use Rattle.build_back.proofs.HeldAsRead.{as_read}
-use Rattle.build_back.proofs.PolicyBack.{policy_read}
-use Rattle.build_back.proofs.SpecBack.{spec_back}
-use Rattle.build_back.proofs.TrioValid.{trio_valid}
-use Rattle.build_back.specs.AsRead.{HoldsAsRead, IsReadAs}
-use Rattle.build_back.specs.ReadBack.{AreReadBack}
-use Rattle.build_back.specs.TriosValid.{IsTrioValid}
+use Rattle.cap_model.specs.declared.edge.Edge.{Edge}
+use Rattle.cap_model.specs.declared.policy.Policy.{Policy}
+use Rattle.build_laws.proofs.CertBack.{cert_read}
+use Rattle.build_laws.proofs.HeldAsRead.{as_read}
+use Rattle.build_laws.proofs.PolicyBack.{policy_read}
+use Rattle.build_laws.proofs.SpecBack.{spec_back}
+use Rattle.build_laws.proofs.TrioValid.{trio_valid}
+use Rattle.build_laws.specs.AsRead.{HoldsAsRead, IsReadAs}
+use Rattle.build_laws.specs.ReadBack.{AreReadBack}
+use Rattle.build_laws.specs.TriosValid.{IsTrioValid}
 use Rattle.cam_base.specs.declared.error.Refused.TheVariants as refused
 use Rattle.cam_io.specs.Causes.{Rose}
 use Rattle.cam_io.specs.Contents.{Contents}
@@ -24,7 +24,7 @@ use Rattle.capdl_text.proofs.Unique.{no_fault_of_text}
 use Rattle.capdl_text.specs.Texts.{Text}
 use Rattle.command_words.specs.Words.{read_words}
 use Rattle.command_words.specs.declared.command.Command.TheVariants.{Check}
-use Rattle.generate_command.proofs.Accepting.{labels_stand, none_some}
+use Rattle.camkes_tool.proofs.Accepting.{labels_stand, none_some}
 use Rattle.policy_text.specs.Labelled.{IsLabelling}
 use Rattle.policy_text.specs.PolicyLines.{cert_text, policy_text}
 use Rattle.policy_text.specs.PolicyTexts.{IsCertText, IsPolicyText, first_cert_fault}

@@ -4,7 +4,7 @@ use Rattle.cam_io.specs.Contents.{Contents}
 use Rattle.command_words.specs.Words.{read_words}
 use Rattle.command_words.specs.declared.command.Command.{Command}
 use Rattle.command_words.specs.declared.command.Command.TheVariants.{Compile, Check, List as ListOf, Explain, Replay, Generate, Audit, Certify, Sections, Plan}
-use Rattle.generate_command.specs.Generated.{IsGenerated}
+use Rattle.camkes_tool.specs.Generated.{IsGenerated}
 use Rattle.source_commands.specs.Explained.{IsExplained}
 use Rattle.source_commands.specs.Listed.{IsListed}
 use Rattle.text_commands.specs.Commands.{IsCertified, IsChecked, IsRun, IsTabled}

@@ -11,3 +11,6 @@ pub mod ReadFaults
 pub mod Safe
 pub mod Telling
 pub mod Written
+pub mod Accepting
+pub mod OneGenerated
+pub mod Numbered

@@ -4,17 +4,17 @@ use Rattle.std.proofs.Common.{◌≡◌, ◌∙◌, ℕ, List, Ok, sym, ap, subs
 use Rattle.std.proofs.lemmas.Option.{same_Some}
 use Rattle.std.specs.Cmp.Derive.{one_truth}
 use Rattle.arch_compile.specs.declared.building.Build.{Build}
-use Rattle.auth_kinds.proofs.TableMembers.{one_table}
-use Rattle.auth_kinds.specs.Tables.{IsSorted, has}
-use Rattle.auth_kinds.specs.declared.edge.Edge.{Edge}
-use Rattle.auth_kinds.specs.declared.object_labels.Labels.{Labels}
-use Rattle.auth_kinds.specs.declared.policy.Policy.{Policy}
-use Rattle.build_back.proofs.HeldAsRead.{read_labels}
-use Rattle.build_back.proofs.ListFaults.{none_listed}
-use Rattle.build_back.proofs.PolicyBack.{policy_read}
-use Rattle.build_back.proofs.PolicyReached.{policy_reached}
-use Rattle.build_back.proofs.SpecBack.{spec_back}
-use Rattle.build_back.specs.AsRead.{IsReadAs}
+use Rattle.cap_model.proofs.TableMembers.{one_table}
+use Rattle.cap_model.specs.Tables.{IsSorted, has}
+use Rattle.cap_model.specs.declared.edge.Edge.{Edge}
+use Rattle.cap_model.specs.declared.object_labels.Labels.{Labels}
+use Rattle.cap_model.specs.declared.policy.Policy.{Policy}
+use Rattle.build_laws.proofs.HeldAsRead.{read_labels}
+use Rattle.build_laws.proofs.ListFaults.{none_listed}
+use Rattle.build_laws.proofs.PolicyBack.{policy_read}
+use Rattle.build_laws.proofs.PolicyReached.{policy_reached}
+use Rattle.build_laws.proofs.SpecBack.{spec_back}
+use Rattle.build_laws.specs.AsRead.{IsReadAs}
 use Rattle.build_laws.proofs.Soundness.{build_sound}
 use Rattle.build_laws.specs.Sound.{object_labels}
 use Rattle.cam_io.specs.Contents.{Contents}
@@ -23,7 +23,7 @@ use Rattle.cap_machine.specs.declared.step.Step.{Step}
 use Rattle.cap_model.specs.Canonical.{canonical}
 use Rattle.cap_model.specs.declared.spec.Spec.{Spec}
 use Rattle.capdl_text.specs.Texts.{Text}
-use Rattle.edge_lines.specs.Lines.{Labels as Names, apart_lines}
+use Rattle.policy_text.specs.Lines.{Labels as Names, apart_lines}
 use Rattle.least_cert.proofs.LeastKeeps.{least_valid, valid_keeps}
 use Rattle.least_cert.specs.LeastCertificate.{IsLeast}
 use Rattle.policy_text.specs.Labelled.{IsLabelling}

@@ -7,20 +7,20 @@ use Rattle.cam_io.specs.Sinks.{Sink}
 use Rattle.arch_compile.proofs.OneAnswer.{build_first, builds_same, one_first}
 use Rattle.arch_compile.specs.declared.building.Build.{Build}
 use Rattle.arch_compile.specs.Maps.{build_map}
-use Rattle.build_texts.specs.BuildTexts.{AreNamedBy, build_summary, texts_script}
-use Rattle.build_texts.specs.declared.names.TextNames.{TextNames}
+use Rattle.arch_compile.specs.BuildTexts.{AreNamedBy, build_summary, texts_script}
+use Rattle.arch_compile.specs.declared.names.TextNames.{TextNames}
 use Rattle.cap_model.specs.Canonical.{canonical}
 use Rattle.policy_text.specs.PolicyLines.{cert_text, policy_text}
-use Rattle.build_summary.specs.declared.summary.Summary.{Summary}
+use Rattle.arch_compile.specs.declared.summary.Summary.{Summary}
 use Rattle.command_words.specs.Words.{read_words}
 use Rattle.command_words.specs.declared.command.Command.{Command}
 use Rattle.command_words.specs.declared.command.Command.TheVariants.{Compile, Check, List as ListOf, Explain, Replay, Generate, Audit, Certify, Sections, Plan}
 use Rattle.front_end.specs.Refusals as refusals
 use Rattle.front_end.specs.declared.error.BuildError.{BuildError}
 use Rattle.front_end.specs.declared.error.BuildError.TheVariants as build
-use Rattle.generate_command.proofs.OneAnswer.{one_generated}
-use Rattle.generate_command.specs.Generated.{IsGenerated}
-use Rattle.reason_lines.specs.declared.answer.Answer.{Answer as Reply}
+use Rattle.camkes_tool.proofs.OneGenerated.{one_generated}
+use Rattle.camkes_tool.specs.Generated.{IsGenerated}
+use Rattle.explain.specs.declared.answer.Answer.{Answer as Reply}
 use Rattle.source_commands.proofs.OneAnswer.{one_explained, one_listing}
 use Rattle.source_commands.specs.Explained.{IsExplained}
 use Rattle.source_commands.specs.Listed.{IsListed}

@@ -1,6 +1,6 @@
 -- What `certify`, `sections` and `audit` leave with status 0.
 use Rattle.std.proofs.Common.{◌≡◌, ℕ, List, [], Option, Some, Result, Ok, inl, inr, subst}
-use Rattle.auth_kinds.specs.declared.edge.Edge.{Edge}
+use Rattle.cap_model.specs.declared.edge.Edge.{Edge}
 use Rattle.cam_io.specs.Contents.{Contents}
 use Rattle.cam_io.specs.Reading.{InAll}
 use Rattle.cam_io.specs.Sinks.{Sink, appended}
@@ -9,8 +9,8 @@ use Rattle.cap_model.specs.declared.spec.Spec.{Spec}
 use Rattle.capdl_text.specs.Texts.{Text}
 use Rattle.command_words.specs.declared.command.Command.{Command}
 use Rattle.command_words.specs.declared.command.Command.TheVariants.{Audit, Certify, Sections}
-use Rattle.edge_lines.specs.Lines.{Labels as Names}
-use Rattle.elf_images.specs.Elf.{Elf}
+use Rattle.policy_text.specs.Lines.{Labels as Names}
+use Rattle.sect_table.specs.Elf.{Elf}
 use Rattle.std.specs.Prelude.{codes}
 use Rattle.policy_text.specs.Labelled.{IsLabelling}
 use Rattle.policy_text.specs.PolicyLines.{cert_text}

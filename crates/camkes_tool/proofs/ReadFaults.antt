@@ -5,7 +5,7 @@ use Rattle.cam_io.specs.Causes.{Rose}
 use Rattle.cam_io.specs.Contents.{Contents}
 use Rattle.boot_plan.specs.UntypedTexts as untyped
 use Rattle.capdl_text.specs.Texts as capdl
-use Rattle.elf_images.specs.Elf as elves
+use Rattle.sect_table.specs.Elf as elves
 use Rattle.policy_text.specs.Labelled.{IsLabelling}
 use Rattle.policy_text.specs.PolicyTexts.{IsCertRead, IsPolicyRead}
 use Rattle.step_text.specs.StepTexts as step_texts

@@ -1,7 +1,7 @@
 -- A yes of `check` is sound.
 use Rattle.std.proofs.Common.{◌≡◌, ℕ, Bool, true, false, cond, List, Ok, inl, inr, refl, subst}
-use Rattle.auth_kinds.specs.declared.edge.Edge.{Edge}
-use Rattle.auth_kinds.specs.declared.policy.Policy.{Policy}
+use Rattle.cap_model.specs.declared.edge.Edge.{Edge}
+use Rattle.cap_model.specs.declared.policy.Policy.{Policy}
 use Rattle.cam_io.specs.Contents.{Contents}
 use Rattle.cap_model.specs.declared.spec.Spec.{Spec}
 use Rattle.capdl_text.specs.Texts.{Text}

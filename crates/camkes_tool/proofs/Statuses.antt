@@ -12,10 +12,10 @@ use Rattle.command_words.specs.declared.command.Command.{Command}
 use Rattle.command_words.specs.declared.command.Command.TheVariants.{Compile, Check, List as ListOf, Explain, Replay, Generate, Audit, Certify, Sections, Plan}
 use Rattle.front_end.specs.declared.error.BuildError.{BuildError}
 use Rattle.front_end.specs.declared.error.BuildError.TheVariants as build
-use Rattle.generate_command.proofs.OneAnswer.{one_generated}
-use Rattle.generate_command.specs.Generated.{IsGenerated}
-use Rattle.reason_lines.specs.Answers.{is_assigned}
-use Rattle.reason_lines.specs.declared.answer.Answer.{Answer as Reply}
+use Rattle.camkes_tool.proofs.OneGenerated.{one_generated}
+use Rattle.camkes_tool.specs.Generated.{IsGenerated}
+use Rattle.explain.specs.Answers.{is_assigned}
+use Rattle.explain.specs.declared.answer.Answer.{Answer as Reply}
 use Rattle.source_commands.proofs.OneAnswer.{one_explained, one_listing}
 use Rattle.source_commands.specs.Explained.{IsExplained}
 use Rattle.source_commands.specs.Listed.{IsListed}

@@ -1,10 +1,10 @@
 -- What `compile` leaves with status 0 is a sound build, written whole, whose texts are read back.
 use Rattle.std.proofs.Common.{◌≡◌, ◌∙◌, ℕ, List, Option, Some, inl, inr, sym, subst, arith}
-use Rattle.build_back.proofs.CertBack.{cert_read}
-use Rattle.build_back.proofs.HeldAsRead.{as_read}
-use Rattle.build_back.proofs.PolicyBack.{policy_read}
-use Rattle.build_back.proofs.SpecBack.{spec_back}
-use Rattle.build_images.proofs.OfSources.{build_of_source}
+use Rattle.build_laws.proofs.CertBack.{cert_read}
+use Rattle.build_laws.proofs.HeldAsRead.{as_read}
+use Rattle.build_laws.proofs.PolicyBack.{policy_read}
+use Rattle.build_laws.proofs.SpecBack.{spec_back}
+use Rattle.build_laws.proofs.OfSources.{build_of_source}
 use Rattle.build_laws.proofs.Soundness.{build_sound}
 use Rattle.cam_io.specs.Contents.{Contents}
 use Rattle.cam_io.specs.Reading.{InAll}

@@ -8,18 +8,18 @@ use Rattle.cam_io.specs.Scripts.{Act, Write, after, CutShort}
 use Rattle.arch_compile.specs.Built.{IsBuildOf}
 use Rattle.arch_compile.specs.Compiled.{IsFirstFault, IsUnread}
 use Rattle.arch_compile.specs.declared.building.Build.{Build}
-use Rattle.build_summary.specs.declared.summary.Summary.{Summary}
-use Rattle.build_texts.specs.BuildTexts.{AreNamedBy, texts_script}
+use Rattle.arch_compile.specs.declared.summary.Summary.{Summary}
+use Rattle.arch_compile.specs.BuildTexts.{AreNamedBy, texts_script}
 use Rattle.command_words.specs.Lines.{usage_line}
 use Rattle.command_words.specs.Words.{read_words}
 use Rattle.command_words.specs.declared.command.Command.{Command}
 use Rattle.command_words.specs.declared.command.Command.TheVariants.{Compile, Check, List as ListOf, Explain, Replay, Generate, Audit, Certify, Sections, Plan}
 use Rattle.front_end.specs.declared.error.BuildError.{BuildError}
 use Rattle.front_end.specs.declared.error.BuildError.TheVariants as build
-use Rattle.generate_command.specs.Generated.{IsGenerated, generated_text}
-use Rattle.reason_lines.specs.Answers.{answer_text, is_assigned}
+use Rattle.camkes_tool.specs.Generated.{IsGenerated, generated_text}
+use Rattle.explain.specs.Answers.{answer_text, is_assigned}
 use Rattle.source_commands.specs.Explained.{IsExplained}
-use Rattle.reason_lines.specs.declared.answer.Answer.{Answer as Reply}
+use Rattle.explain.specs.declared.answer.Answer.{Answer as Reply}
 use Rattle.source_commands.specs.Listed.{IsListed, listing_text}
 use Rattle.source_commands.specs.declared.listing.Listing.{Listing}
 use Rattle.text_commands.specs.Commands.{IsAudited, IsCertified, IsChecked, IsPlanned, IsRun, IsTabled}

@@ -1,7 +1,7 @@
 -- The answer that a build gives under a base, that of a command over texts, and that of a refusal.
 use Rattle.std.specs.Prelude.{◌≡◌, ℕ, List, Result, Ok, Err}
 use Rattle.arch_compile.specs.declared.building.Build.{Build}
-use Rattle.build_texts.specs.BuildTexts.{AreNamedBy}
+use Rattle.arch_compile.specs.BuildTexts.{AreNamedBy}
 use Rattle.front_end.specs.declared.error.BuildError.{BuildError}
 use Rattle.front_end.specs.declared.error.BuildError.TheVariants as build
 use Rattle.text_commands.specs.declared.fault.InputError.{InputError}

@@ -5,9 +5,12 @@ pub mod Learning
 pub mod Lines
 pub mod Statuses
 pub mod Theorem
+pub mod Generated
+pub mod GeneratedFiles
 pub use Rattle.cam_io.specs.Causes
 pub use Rattle.cam_io.specs.Contents
 pub use Rattle.cam_io.specs.Reading
 pub use Rattle.cam_io.specs.Sinks
 pub use Rattle.cap_model.specs.Canonical
 pub use Rattle.command_words.specs.Words
+pub use Rattle.arch_compile.specs.Summary

@@ -24,17 +24,17 @@ use Rattle.std.specs.FinMap.{get}
 use Rattle.std.specs.Prelude.{◌≡◌, ◌≤◌, ◌⊎◌, ◌↔◌, ◌++◌, ℕ, if◌then◌else◌, List, codes, length, Some, Result, Ok, Err}
 use Rattle.arch_compile.specs.Built.{IsBuildOf}
 use Rattle.arch_compile.specs.declared.building.Build.{Build}
-use Rattle.auth_kinds.specs.Tables.{Has}
-use Rattle.auth_kinds.specs.declared.authority.Authority.{Authority}
-use Rattle.auth_kinds.specs.declared.edge.Edge.{Edge}
-use Rattle.auth_kinds.specs.declared.object_labels.Labels.{Labels}
-use Rattle.auth_kinds.specs.declared.policy.Policy.{Policy}
-use Rattle.build_back.specs.AsRead.{HoldsAsRead}
-use Rattle.build_back.specs.ReadBack.{AreReadBack}
-use Rattle.build_images.specs.OfSource.{IsOfSource}
+use Rattle.cap_model.specs.Tables.{Has}
+use Rattle.cap_model.specs.declared.authority.Authority.{Authority}
+use Rattle.cap_model.specs.declared.edge.Edge.{Edge}
+use Rattle.cap_model.specs.declared.object_labels.Labels.{Labels}
+use Rattle.cap_model.specs.declared.policy.Policy.{Policy}
+use Rattle.build_laws.specs.AsRead.{HoldsAsRead}
+use Rattle.build_laws.specs.ReadBack.{AreReadBack}
+use Rattle.build_laws.specs.OfSource.{IsOfSource}
 use Rattle.build_laws.specs.Sound.{IsSound}
-use Rattle.build_texts.specs.BuildTexts.{AreNamedBy, texts_script}
-use Rattle.build_texts.specs.declared.names.TextNames.{TextNames}
+use Rattle.arch_compile.specs.BuildTexts.{AreNamedBy, texts_script}
+use Rattle.arch_compile.specs.declared.names.TextNames.{TextNames}
 use Rattle.cam_base.specs.declared.error.Refused.{Refused}
 use Rattle.cam_base.specs.declared.error.Refused.TheVariants as refused
 use Rattle.cam_base.specs.declared.place.Fault.{Fault}
@@ -50,22 +50,22 @@ use Rattle.cap_model.specs.declared.spec.Spec.{Spec}
 use Rattle.capdl_text.specs.Texts.{Text}
 use Rattle.cert_check.specs.Valid.{Stays}
 use Rattle.cert_check.specs.declared.verdict.Verdict.TheVariants.{Yes}
-use Rattle.edge_lines.specs.Lines.{Labels as Names, apart_lines}
-use Rattle.elf_back.specs.Tables.{AreBytes}
-use Rattle.elf_images.specs.Elf.{Elf}
-use Rattle.elf_images.specs.Texts.{table_text}
+use Rattle.policy_text.specs.Lines.{Labels as Names, apart_lines}
+use Rattle.sect_table.specs.TablesBack.{AreBytes}
+use Rattle.sect_table.specs.Elf.{Elf}
+use Rattle.sect_table.specs.Texts.{table_text}
 use Rattle.least_cert.specs.LeastCertificate.{IsLeast}
 use Rattle.policy_text.specs.Labelled.{IsLabelling}
 use Rattle.policy_text.specs.PolicyLines.{cert_text, policy_text}
 use Rattle.policy_text.specs.PolicyTexts.{IsCertText, IsPolicyText}
-use Rattle.reason_lines.specs.Answers.{answer_text, is_assigned}
-use Rattle.reason_lines.specs.declared.answer.Answer.{Answer}
+use Rattle.explain.specs.Answers.{answer_text, is_assigned}
+use Rattle.explain.specs.declared.answer.Answer.{Answer}
 use Rattle.sect_table.specs.Tables as tables
 use Rattle.sect_table.specs.declared.image.Image.{Image}
 use Rattle.source_commands.specs.Assigned.{AnswersWhether, ListsAssigned}
 use Rattle.source_commands.specs.Listed.{IsListing, listing_text}
 use Rattle.source_commands.specs.declared.listing.Listing.{Listing}
-use Rattle.step_write.specs.StepLines.{steps_text}
+use Rattle.step_text.specs.StepLines.{steps_text}
 use Rattle.text_commands.specs.Commands.{IsChecked, IsRun}
 use Rattle.text_commands.specs.Inputs.{Holds}
 use Rattle.text_commands.specs.Lines.{report_text}

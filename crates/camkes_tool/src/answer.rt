@@ -1,8 +1,6 @@
-use arch_compile::Build;
-use build_summary::Summary;
-use build_texts::TextNames;
+use arch_compile::{Build, Summary, TextNames};
 use cam_base::{Fault, Text};
-use reason_lines::Answer as Reply;
+use explain::Answer as Reply;
 use source_commands::Listing;
 use text_commands::{InputFault, Outcome};
 

@@ -4,18 +4,17 @@ ghost use Rattle.adl_import.specs.Loaded.{AlikeInSource};
 ghost use Rattle.cam_io.specs.Reading.{InAll, KeepsFiles, LearnsOnly};
 ghost use Rattle.camkes_tool.specs.Answers.{FitsExplained, FitsGenerated, FitsListed, FitsTexts};
 ghost use Rattle.camkes_tool.specs.Deciding.{refused, told};
-ghost use Rattle.generate_command.specs.Generated.{IsGenerated};
+ghost use Rattle.camkes_tool.specs.Generated.{IsGenerated};
 ghost use Rattle.source_commands.specs.Explained.{IsExplained};
 ghost use Rattle.source_commands.specs.Listed.{IsListed};
 ghost use Rattle.std.specs.Prelude.{◌≡◌, [], ◌∷◌};
 ghost use Rattle.text_commands.specs.Commands.{IsAudited, IsCertified, IsChecked, IsPlanned, IsRun, IsTabled};
 ghost use Rattle.text_commands.specs.Inputs.{AlikeAsRead, AlikeInInputs};
 
-use crate::Answer;
+use crate::{Answer, generate};
 use cam_io::Files;
+use explain::Question;
 use front_end::BuildError;
-use generate_command::generate;
-use reason_lines::Question;
 use source_commands::{explain, list};
 use std::alloc::Global;
 use text_commands::{

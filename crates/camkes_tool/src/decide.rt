@@ -10,12 +10,11 @@ use crate::Answer;
 use crate::asking::{
     audited, certified, checked, explained, generated, listed, planned, refused, replayed, tabled,
 };
-use arch_compile::{Build, compile};
-use build_texts::TextNames;
+use arch_compile::{Build, TextNames, compile};
 use cam_base::NoMemory;
 use cam_io::Files;
 use command_words::{Command, WordsError, as_name, read_words};
-use reason_lines::Question;
+use explain::Question;
 use std::alloc::Global;
 
 /// Reads the words and the files, and says nothing yet.

@@ -1,8 +1,8 @@
 //! What follows from when answers come and how they are told.
 
 ghost use Rattle.arch_compile.specs.declared.building.Build.{Build};
-ghost use Rattle.build_texts.specs.BuildTexts.{texts_script};
-ghost use Rattle.build_texts.specs.declared.names.TextNames.{TextNames};
+ghost use Rattle.arch_compile.specs.BuildTexts.{texts_script};
+ghost use Rattle.arch_compile.specs.declared.names.TextNames.{TextNames};
 ghost use Rattle.cam_io.specs.Causes.{Rose};
 ghost use Rattle.cam_io.specs.Contents.{Contents};
 ghost use Rattle.cam_io.specs.Scripts.{CutShort, after};

@@ -4,21 +4,36 @@
 //! performing does what that answer's script says and takes no memory. `finish` sends what waits behind a buffer at the end.
 //! `specs/Answers.antt` says when each answer comes and what it does, `specs/Learning.antt` which files it may look at; the words
 //! stand in `command_words`, and what is compiled in `arch_compile`.
+//!
+//! `generate` compiles a source from memory, as many clients as asked for and one server (`specs/GeneratedFiles.antt`), and asks
+//! the checker whether what is compiled keeps the rules (`specs/Generated.antt`). What can't influence what, of whatever is
+//! compiled and of whatever is checked, and that the memory of what is compiled is static, are the laws of `build_flow.rt`.
 #![tactic(auto)]
 
 mod answer;
 mod asking;
+mod build_flow;
 mod decide;
+mod files;
 mod finishing;
+mod generate_laws;
+mod generation;
 mod laws;
 mod perform;
 mod top;
+mod write;
 
 pub use answer::Answer;
+pub use build_flow::{
+    builds_are_separated, checked_texts_are_separated, memory_of_builds_is_static,
+};
+pub use files::{ROOT, generated};
 pub use finishing::finish;
-pub use generated_files::generated;
+pub use generate_laws::generated_answers_are_one;
+pub use generation::generate;
 pub use laws::{
     answers_are_one, failures_have_a_cause, refusals_touch_one_channel_alone, statuses_are_exact,
     success_writes_a_whole_text,
 };
 pub use top::run;
+pub use write::write_generated;

@@ -1,15 +1,14 @@
-ghost use Rattle.build_texts.specs.BuildTexts.{AreUnbegun};
+ghost use Rattle.arch_compile.specs.BuildTexts.{AreUnbegun};
 ghost use Rattle.cam_io.specs.Scripts.{Acts};
 ghost use Rattle.cam_io.specs.Sinks.{Writes};
 ghost use Rattle.camkes_tool.specs.Answers.{script};
 ghost use Rattle.camkes_tool.specs.Lines.{fault_line, read_fault_line};
 
-use crate::Answer;
-use build_texts::write_texts;
+use crate::{Answer, write_generated};
+use arch_compile::write_texts;
 use cam_base::Fault;
 use cam_io::{Failed, Outputs, write_all, write_parts};
 use command_words::usage_line;
-use generate_command::write_generated;
 use itoa::Buffer;
 use source_commands::write_listing;
 use text_commands::{write_code, write_fault as write_refusal, write_place};

@@ -1,4 +1,4 @@
-ghost use Rattle.build_texts.specs.BuildTexts.{AreUnbegun};
+ghost use Rattle.arch_compile.specs.BuildTexts.{AreUnbegun};
 ghost use Rattle.cam_io.specs.Causes.{Rose};
 ghost use Rattle.cam_io.specs.Contents.{Contents};
 ghost use Rattle.cam_io.specs.Reading.{InAll, KeepsFiles, LearnsOnly};

@@ -3,7 +3,7 @@ use Rattle.std.proofs.Common.{◌≡◌, ◌∙◌, ◌<◌, ◌≤◌, ◌+◌,
 use Rattle.std.proofs.lemmas.List.{take_more}
 use Rattle.std.specs.Prelude.{IfOk, OnErr}
 use Rattle.arch_policy.specs.Tables.{tables_of}
-use Rattle.auth_kinds.specs.declared.edge.Edge.{Edge}
+use Rattle.cap_model.specs.declared.edge.Edge.{Edge}
 use Rattle.cam_base.specs.declared.error.NoMemory.{NoMemory}
 use Rattle.explain.specs.Explained.{Explains}
 use Rattle.explain.specs.declared.reason.ExplainError.{ExplainError}

@@ -11,7 +11,7 @@ use Rattle.std.specs.FinMap as map
 use Rattle.std.specs.Str.{bytes_eq}
 use Rattle.arch_compile.specs.Compiled.{IsCompiled}
 use Rattle.arch_compile.specs.declared.building.Build.{Build}
-use Rattle.auth_kinds.specs.declared.policy.Policy.{Policy}
+use Rattle.cap_model.specs.declared.policy.Policy.{Policy}
 use Rattle.cam_base.specs.declared.error.Refused.{Refused as Refusal}
 use Rattle.cam_base.specs.declared.error.Refused.TheVariants as refused
 use Rattle.cam_base.specs.declared.text_fault.TextFault.{TextFault}
@@ -22,9 +22,9 @@ use Rattle.cam_io.specs.declared.whole.WholeError.{WholeError}
 use Rattle.cam_io.specs.declared.whole.WholeError.TheVariants as whole
 use Rattle.domain_table.specs.Tables.{domain_called, tables_of}
 use Rattle.cam_base.specs.declared.error.NoMemory.{NoMemory as Want}
-use Rattle.flow_text.specs.Told.{AreLines, IsTold}
-use Rattle.flow_text.specs.declared.told.Told.{Told}
-use Rattle.flow_text.specs.declared.told.Told.TheVariants as told
+use Rattle.label_flow.specs.Told.{AreLines, IsTold}
+use Rattle.label_flow.specs.declared.told.Told.{Told}
+use Rattle.label_flow.specs.declared.told.Told.TheVariants as told
 use Rattle.front_end.specs.Fronts.{IsFront}
 use Rattle.front_end.specs.declared.error.BuildError.{BuildError}
 use Rattle.front_end.specs.declared.error.BuildError.TheVariants as error

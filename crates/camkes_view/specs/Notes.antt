@@ -2,13 +2,13 @@
 use Rattle.std.specs.Prelude.{◌≡◌, ℕ, List, [], ◌∷◌, codes, slice_get, Result, Ok, Err}
 use Rattle.std.specs.Option.{option_map_or}
 use Rattle.arch_policy.specs.Tables.{tables_of}
-use Rattle.auth_kinds.specs.declared.edge.Edge.{Edge}
+use Rattle.cap_model.specs.declared.edge.Edge.{Edge}
 use Rattle.explain.specs.Explained.{Explains}
 use Rattle.explain.specs.declared.reason.ExplainError.{ExplainError}
 use Rattle.explain.specs.declared.reason.ExplainError.TheVariants as error
 use Rattle.explain.specs.declared.reason.Reason.{Reason}
 use Rattle.front_end.specs.declared.phases.FrontEnd.{FrontEnd}
-use Rattle.reason_lines.specs.Lines.{reason_text}
+use Rattle.explain.specs.Lines.{reason_text}
 
 -- the text of the label at this place; the labels of a source have their places as numbers
 abbrev pub label_at : List (ℕ × List ℕ) → ℕ → List ℕ

@@ -1,16 +1,16 @@
 //! What a policy lets flow.
 
-ghost use Rattle.auth_kinds.specs.Policies.{NumbersDiffer};
+ghost use Rattle.cap_model.specs.Policies.{NumbersDiffer};
 ghost use Rattle.cam_io.specs.Reading.{InAll, KeepsFiles};
 ghost use Rattle.camkes_view.specs.Answers.{AnswersFlow, AnswersFlows, IsFlow, IsFlows, OfFile};
 
 use crate::answer::Answer;
 use crate::fault::hindered;
 use crate::lines::{refuse, text_fault_line};
-use auth_kinds::Policy;
 use cam_base::{NoMemory, Refused};
 use cam_io::{Files, read_whole};
-use flow_text::{Told, flows_text, tell_flow};
+use cap_model::Policy;
+use label_flow::{Told, flows_text, tell_flow};
 use policy_text::read_policy;
 use std::alloc::Global;
 use view_text::LIMIT;

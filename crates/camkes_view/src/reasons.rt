@@ -8,12 +8,11 @@ ghost use Rattle.std.specs.Prelude.{◌≡◌, IfOk};
 
 use crate::answer::Answer;
 use crate::lines::refuse_source;
-use auth_kinds::Edge;
 use cam_base::{List, NoMemory, Text};
 use cam_io::Files;
-use explain::{ExplainError, Reason, explain};
+use cap_model::Edge;
+use explain::{ExplainError, Reason, explain, reason_text};
 use front_end::{FrontEnd, front};
-use reason_lines::reason_text;
 use std::alloc::Global;
 use view_text::graph_of;
 

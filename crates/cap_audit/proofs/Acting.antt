@@ -2,11 +2,11 @@
 use Rattle.std.proofs.Common.{◌≡◌, ◌↔◌, ◌∙◌, ◌<◌, ℕ, ◌+◌, true, List, [], ◌∷◌, ◌++◌, length, slice_index, slice_set, refl, sym, ap, subst, inl, inr, arith}
 use Rattle.std.proofs.lemmas.Bool.{and_parts}
 use Rattle.std.proofs.lemmas.List.{length-set}
-use Rattle.auth_graph.specs.Sources.{OfCap}
-use Rattle.auth_kinds.specs.ObjectLabels.{label_of}
-use Rattle.auth_kinds.specs.Tables.{Has, has}
-use Rattle.auth_kinds.specs.declared.authority.Authority.{Authority}
-use Rattle.auth_kinds.specs.declared.edge.Edge.{Edge}
+use Rattle.cap_machine.specs.Sources.{OfCap}
+use Rattle.cap_model.specs.ObjectLabels.{label_of}
+use Rattle.cap_model.specs.Tables.{Has, has}
+use Rattle.cap_model.specs.declared.authority.Authority.{Authority}
+use Rattle.cap_model.specs.declared.edge.Edge.{Edge}
 use Rattle.cap_machine.specs.declared.step.Step.{Step}
 use Rattle.cap_machine.specs.declared.step.Step.TheVariants as moves
 use Rattle.cap_model.specs.Auth.{Auth}
@@ -14,9 +14,9 @@ use Rattle.cap_model.specs.Kinds.{is_at}
 use Rattle.cap_model.specs.State.{boot}
 use Rattle.cap_model.specs.declared.kind.Kind.TheVariants as kinds
 use Rattle.cap_model.proofs.Kept.{is_at_below}
-use Rattle.cap_spread.specs.Search.{HoldsAt}
-use Rattle.cap_spread.specs.Shows.{Shows}
-use Rattle.cap_spread.proofs.Quiet.{quiet_cnode}
+use Rattle.cap_audit.specs.Search.{HoldsAt}
+use Rattle.cap_audit.specs.Shows.{Shows}
+use Rattle.cap_audit.proofs.Quiet.{quiet_cnode}
 use Rattle.cap_audit.specs.Gains.{Gains, IsMade, IsSoFar, Made, Notes}
 use Rattle.cap_audit.specs.Gates.{AreParties, OfParties, call_steps}
 use Rattle.cap_audit.specs.Picks.{OfDeed, OwnsBoth, deed_step}

@@ -3,12 +3,12 @@ use Rattle.std.proofs.Common.{◌≡◌, ◌∙◌, ◌⊎◌, ◌<◌, ◌&&◌
 use Rattle.std.specs.List.{Contains}
 use Rattle.std.proofs.lemmas.Bool.{and_parts}
 use Rattle.std.proofs.lemmas.Option.{slice_get_within}
-use Rattle.auth_graph.specs.Sources.{OfCap}
-use Rattle.auth_kinds.specs.Edges.{edge}
-use Rattle.auth_kinds.specs.ObjectLabels.{label_of}
-use Rattle.auth_kinds.specs.Tables.{has}
-use Rattle.auth_kinds.specs.declared.authority.Authority.TheVariants.{AsyncSend, Reply}
-use Rattle.auth_kinds.specs.declared.edge.Edge.{Edge}
+use Rattle.cap_machine.specs.Sources.{OfCap}
+use Rattle.cap_model.specs.Edges.{edge}
+use Rattle.cap_model.specs.ObjectLabels.{label_of}
+use Rattle.cap_model.specs.Tables.{has}
+use Rattle.cap_model.specs.declared.authority.Authority.TheVariants.{AsyncSend, Reply}
+use Rattle.cap_model.specs.declared.edge.Edge.{Edge}
 use Rattle.cap_machine.specs.declared.step.Step.{Step}
 use Rattle.cap_model.specs.Kinds.{is_at}
 use Rattle.cap_model.specs.Kept.{IsKept}
@@ -16,12 +16,12 @@ use Rattle.cap_model.specs.declared.cap.Cap.{Cap}
 use Rattle.cap_model.specs.declared.kind.Kind.TheVariants as kinds
 use Rattle.cap_model.specs.declared.spec.Spec.{Spec}
 use Rattle.cap_model.proofs.BootPlaces.{contains_at}
-use Rattle.cap_spread.specs.Audited.{Audited, at_boot, of_spread, of_map, of_bind, of_call, of_save}
-use Rattle.cap_spread.specs.Covering.{IsFoundAt}
-use Rattle.cap_spread.specs.Search.{Found, IsFound, bare, held_by}
-use Rattle.cap_spread.specs.declared.found.Pair.{Pair}
-use Rattle.cap_spread.specs.Spread.{HasRoot, HoldsNoThread, IsClosed, Spread}
-use Rattle.cap_spread.proofs.SpreadLeast.{spread_least}
+use Rattle.cap_audit.specs.Audited.{Audited, at_boot, of_spread, of_map, of_bind, of_call, of_save}
+use Rattle.cap_audit.specs.Covering.{IsFoundAt}
+use Rattle.cap_audit.specs.Search.{Found, IsFound, bare, held_by}
+use Rattle.cap_audit.specs.declared.found.Pair.{Pair}
+use Rattle.cap_audit.specs.Spread.{HasRoot, HoldsNoThread, IsClosed, Spread}
+use Rattle.cap_audit.proofs.SpreadLeast.{spread_least}
 use Rattle.cap_audit.specs.Gains.{Gains, IsAll, IsMade, Made, OfFace, OfPair, OfSome}
 use Rattle.cap_audit.specs.Gates.{AreGates, AreReady, Between, MeetBy, OfCall, OfKinds, OfListening}
 use Rattle.cap_audit.specs.Kinds.{AreHeadRoots, AreStandIns, IsQueued, stand_in}
@@ -32,10 +32,10 @@ use Rattle.cap_audit.specs.Showing.{AreKinds, IsBegun, OfAllCalls, OfAllDeeds, O
 use Rattle.cap_audit.specs.declared.making.Deed.{Deed}
 use Rattle.cap_audit.specs.declared.making.Deed.TheVariants as deeds
 use Rattle.cap_audit.specs.declared.picks.Wanted.TheVariants as wants
-use Rattle.auth_kinds.proofs.EdgeOrder.{edges_same}
+use Rattle.cap_model.proofs.EdgeOrder.{edges_same}
 use Rattle.cap_audit.proofs.Gaining.{gains_by, gains_then}
 use Rattle.cap_audit.proofs.Growing.{report_exact}
-use Rattle.cap_spread.proofs.Beginning.{root_inside, thread_inside}
+use Rattle.cap_audit.proofs.Beginning.{root_inside, thread_inside}
 
 -- the search found all of the Spread
 pub all_found : (spec : Spec) (f : Found) → IsFound spec f → IsClosed spec (IsFoundAt f) → IsAll spec (bare f)

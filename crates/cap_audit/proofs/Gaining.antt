@@ -2,18 +2,18 @@
 use Rattle.std.proofs.Common.{◌≡◌, ◌≢◌, ◌↔◌, ◌⊎◌, ◌∙◌, ◌<◌, ◌≤◌, ℕ, ◌+◌, true, List, [], length, slice_get, Some, refl, sym, ap, subst, inl, inr, arith}
 use Rattle.std.proofs.lemmas.Bool.{cases_lt}
 use Rattle.std.proofs.lemmas.Option.{slice_get_within, same_Some}
-use Rattle.auth_graph.specs.Sources.{OfLink}
-use Rattle.auth_kinds.specs.Adds.{Adds, Is}
-use Rattle.auth_kinds.specs.ObjectLabels.{label_of}
-use Rattle.auth_kinds.specs.declared.authority.Authority.{Authority}
-use Rattle.auth_kinds.proofs.EdgeOrder.{edges_same}
-use Rattle.auth_kinds.proofs.TableMembers.{at_has, has_at}
-use Rattle.auth_kinds.specs.Edges.{edge}
-use Rattle.auth_kinds.specs.Tables.{has}
-use Rattle.auth_kinds.specs.declared.edge.Edge.{Edge}
+use Rattle.cap_machine.specs.Sources.{OfLink}
+use Rattle.cap_model.specs.Adds.{Adds, Is}
+use Rattle.cap_model.specs.ObjectLabels.{label_of}
+use Rattle.cap_model.specs.declared.authority.Authority.{Authority}
+use Rattle.cap_model.proofs.EdgeOrder.{edges_same}
+use Rattle.cap_model.proofs.TableMembers.{at_has, has_at}
+use Rattle.cap_model.specs.Edges.{edge}
+use Rattle.cap_model.specs.Tables.{has}
+use Rattle.cap_model.specs.declared.edge.Edge.{Edge}
 use Rattle.cap_machine.specs.declared.step.Step.{Step}
 use Rattle.cap_model.specs.State.{boot}
-use Rattle.cap_spread.specs.Shows.{Shows}
+use Rattle.cap_audit.specs.Shows.{Shows}
 use Rattle.cap_audit.specs.Gains.{AtPlace, Below, Gains, IsMade, IsSoFar, Made, Notes, OfSome}
 use Rattle.cap_audit.proofs.Growing.{made_more}
 

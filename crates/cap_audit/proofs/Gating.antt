@@ -9,12 +9,12 @@ use Rattle.cap_model.specs.Lookup.{object_at}
 use Rattle.cap_model.specs.declared.cap.Cap.{Cap}
 use Rattle.cap_model.specs.declared.kind.Kind.TheVariants as kinds
 use Rattle.cap_model.specs.declared.spec.Spec.{Spec}
-use Rattle.cap_spread.specs.Search.{Found}
-use Rattle.cap_spread.specs.Spread.{root_of}
-use Rattle.cap_spread.specs.Start.{repeated}
-use Rattle.cap_spread.specs.declared.found.Pair.{Pair}
-use Rattle.cap_spread.proofs.Beginning.{repeated_at, repeated_length}
-use Rattle.cap_spread.proofs.Bringing.{at_pushed, pushed_cases}
+use Rattle.cap_audit.specs.Search.{Found}
+use Rattle.cap_audit.specs.Spread.{root_of}
+use Rattle.cap_audit.specs.Start.{repeated}
+use Rattle.cap_audit.specs.declared.found.Pair.{Pair}
+use Rattle.cap_audit.proofs.Beginning.{repeated_at, repeated_length}
+use Rattle.cap_audit.proofs.Bringing.{at_pushed, pushed_cases}
 use Rattle.cap_audit.specs.Gates.{AreGates, AreRosters, MayCallAt, caller_of, enrolled, gated, with_more}
 use Rattle.cap_audit.specs.Kinds.{stand_in}
 use Rattle.cap_audit.specs.Picks.{pick_of}
@@ -22,7 +22,7 @@ use Rattle.cap_audit.specs.Rows.{row_at}
 use Rattle.cap_audit.specs.declared.picks.Pick.{Pick}
 use Rattle.cap_audit.specs.declared.picks.Wanted.TheVariants as wants
 use Rattle.cap_audit.proofs.Picking.{picked, picked_from}
-use Rattle.auth_kinds.proofs.MadeRows.{pushed_last}
+use Rattle.cap_model.proofs.MadeRows.{pushed_last}
 
 module _ {A : Type 0} (rows : List (List A)) (o : ℕ) (x : A) (inside : o < length rows) where
   row_new : row_at (with_more rows o x) o ≡ row_at rows o ++ x ∷ []

@@ -2,11 +2,11 @@
 use Rattle.std.proofs.Common.{◌≡◌, ◌≢◌, ◌<◌, ◌⊎◌, ℕ, ◌+◌, true, List, [], ◌∷◌, ◌++◌, None, refl, sym, ap, subst, inl, inr, arith, get_or, set, length, append_assoc, ◌∙◌}
 use Rattle.std.proofs.lemmas.Bool.{cases_eq}
 use Rattle.std.proofs.lemmas.List.{append-nil, get_or-set_same, get_or-set_other, length-set}
-use Rattle.auth_kinds.specs.ObjectLabels.{label_of}
-use Rattle.auth_kinds.specs.Tables.{Has}
-use Rattle.auth_kinds.specs.declared.authority.Authority.{Authority}
-use Rattle.auth_kinds.specs.declared.authority.Authority.TheVariants as authorities
-use Rattle.auth_kinds.specs.declared.edge.Edge.{Edge}
+use Rattle.cap_model.specs.ObjectLabels.{label_of}
+use Rattle.cap_model.specs.Tables.{Has}
+use Rattle.cap_model.specs.declared.authority.Authority.{Authority}
+use Rattle.cap_model.specs.declared.authority.Authority.TheVariants as authorities
+use Rattle.cap_model.specs.declared.edge.Edge.{Edge}
 use Rattle.cap_model.specs.Auth.{Auth}
 use Rattle.cap_model.specs.Confers.{confers}
 use Rattle.cap_model.specs.Kinds.{is_at, is_space_root}
@@ -20,17 +20,17 @@ use Rattle.cap_machine.specs.Effects.{grown, grown_at, without, without_at}
 use Rattle.cap_machine.specs.Runs.{Reaches, Run}
 use Rattle.cap_machine.specs.declared.step.Step.{Step}
 use Rattle.cap_machine.specs.declared.step.Step.TheVariants as moves
-use Rattle.cap_spread.specs.Audited.{Audited}
-use Rattle.cap_spread.specs.Covering.{IsFoundAt}
+use Rattle.cap_audit.specs.Audited.{Audited}
+use Rattle.cap_audit.specs.Covering.{IsFoundAt}
 use Rattle.cap_audit.specs.Gains.{IsMade}
 use Rattle.cap_audit.specs.Reports.{IsReport}
-use Rattle.cap_spread.specs.Search.{Found, HoldsAt, IsFound, whole}
-use Rattle.cap_spread.specs.Shows.{Shows}
-use Rattle.cap_spread.specs.Spread.{HasRoot, HaveRoots, Meet, MayCall, HoldsNoThread, Spread, IsClosed}
-use Rattle.cap_spread.proofs.AuditedEdges.{reached_audited}
-use Rattle.cap_spread.proofs.Quiet.{run_append, kept_at, there_by_lookup, quiet_node, quiet_cnode, Onward}
-use Rattle.cap_spread.proofs.Sequences.{map_on, bind_on, save_on}
-use Rattle.cap_spread.proofs.SpreadLeast.{spread_least}
+use Rattle.cap_audit.specs.Search.{Found, HoldsAt, IsFound, whole}
+use Rattle.cap_audit.specs.Shows.{Shows}
+use Rattle.cap_audit.specs.Spread.{HasRoot, HaveRoots, Meet, MayCall, HoldsNoThread, Spread, IsClosed}
+use Rattle.cap_audit.proofs.AuditedEdges.{reached_audited}
+use Rattle.cap_audit.proofs.Quiet.{run_append, kept_at, there_by_lookup, quiet_node, quiet_cnode, Onward}
+use Rattle.cap_audit.proofs.Sequences.{map_on, bind_on, save_on}
+use Rattle.cap_audit.proofs.SpreadLeast.{spread_least}
 
 -- a longer list of steps shows what the shorter one does
 pub shows_more : (spec : Spec) (labels : List ℕ) (s : State) (steps more : List Step) (l : ℕ) (a : Authority) (m : ℕ) → Shows spec labels s steps l a m → Shows spec labels s (steps ++ more) l a m

@@ -6,16 +6,16 @@ use Rattle.std.proofs.lemmas.Bool.{cases_eq, cases_lt, eqb-true, eqb-false}
 use Rattle.std.proofs.lemmas.List.{get_or_past, get_or-set_other, get_or-set_same, get_or_append_left, length-set, set_past}
 use Rattle.cap_model.specs.Kept.{IsKept}
 use Rattle.cap_model.specs.declared.spec.Spec.{Spec}
-use Rattle.cap_spread.specs.Covering.{AreAlike, AreRoots}
-use Rattle.cap_spread.specs.Search.{Found, IsFound, bare, is_known}
-use Rattle.cap_spread.specs.Spread.{HasRoot}
-use Rattle.cap_spread.specs.Start.{repeated}
-use Rattle.cap_spread.proofs.Beginning.{repeated_length, root_inside}
+use Rattle.cap_audit.specs.Covering.{AreAlike, AreRoots}
+use Rattle.cap_audit.specs.Search.{Found, IsFound, bare, is_known}
+use Rattle.cap_audit.specs.Spread.{HasRoot}
+use Rattle.cap_audit.specs.Start.{repeated}
+use Rattle.cap_audit.proofs.Beginning.{repeated_length, root_inside}
 use Rattle.cap_audit.specs.Gates.{with_more}
 use Rattle.cap_audit.specs.Kinds.{AreFirsts, AreHeadRoots, AreHeads, AreLeft, AreMembers, AreRootMarks, AreRows, AreStandIns, IsLike, IsQueued, StandsFor, root_mark, stand_in}
 use Rattle.cap_audit.specs.Rows.{row_at}
 use Rattle.cap_audit.specs.Showing.{AreKinds}
-use Rattle.auth_kinds.specs.ObjectLabels.{label_of}
+use Rattle.cap_model.specs.ObjectLabels.{label_of}
 use Rattle.cap_audit.proofs.Gating.{more_cases, more_kept, more_last, none_in_blank}
 
 -- the first of each kind, one object after the other

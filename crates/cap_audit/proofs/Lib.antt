@@ -8,3 +8,17 @@ pub mod Growing
 pub mod Kinding
 pub mod Meeting
 pub mod Picking
+pub mod BootParts
+pub mod AuditedEdges
+pub mod Bringing
+pub mod Covering
+pub mod Beginning
+pub mod Looking
+pub mod WaysMeeting
+pub mod Paths
+pub mod Quiet
+pub mod Reached
+pub mod Refusing
+pub mod RunsWithin
+pub mod Sequences
+pub mod SpreadLeast

@@ -2,12 +2,12 @@
 use Rattle.std.proofs.Common.{◌≡◌, ◌≢◌, ◌∙◌, ◌==◌, ℕ, true, false, List, Option, Some, None, slice_get, sym, subst}
 use Rattle.std.proofs.lemmas.Bool.{eqb-false}
 use Rattle.std.proofs.lemmas.Option.{same_Some}
-use Rattle.auth_graph.specs.Sources.{OfCap}
-use Rattle.auth_kinds.specs.ObjectLabels.{label_of}
+use Rattle.cap_machine.specs.Sources.{OfCap}
+use Rattle.cap_model.specs.ObjectLabels.{label_of}
 use Rattle.cap_model.specs.declared.cap.Cap.{Cap}
-use Rattle.cap_spread.specs.declared.found.Pair.{Pair}
-use Rattle.auth_kinds.specs.Tables.{has}
-use Rattle.auth_kinds.specs.declared.edge.Edge.{Edge}
+use Rattle.cap_audit.specs.declared.found.Pair.{Pair}
+use Rattle.cap_model.specs.Tables.{has}
+use Rattle.cap_model.specs.declared.edge.Edge.{Edge}
 use Rattle.cap_audit.specs.Gains.{Gains, IsSoFar, Made, OfFace, OfPair}
 use Rattle.cap_audit.specs.Gates.{OfKinds, OfListening}
 use Rattle.cap_audit.specs.Kinds.{stand_in}

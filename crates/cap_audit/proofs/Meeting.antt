@@ -4,14 +4,14 @@ use Rattle.std.specs.List.{Contains, filter_map}
 use Rattle.std.proofs.lemmas.Bool.{eqb-false, eqb-true}
 use Rattle.std.proofs.lemmas.Option.{slice_get_within}
 use Rattle.cam_base.proofs.Lists.{from_filter_map, to_filter_map}
-use Rattle.auth_kinds.specs.Tables.{has}
-use Rattle.auth_kinds.specs.declared.edge.Edge.{Edge}
+use Rattle.cap_model.specs.Tables.{has}
+use Rattle.cap_model.specs.declared.edge.Edge.{Edge}
 use Rattle.cap_model.proofs.BootPlaces.{at_contains, contains_at}
 use Rattle.cap_model.specs.declared.spec.Spec.{Spec}
-use Rattle.cap_spread.specs.Search.{Found, held_by}
-use Rattle.cap_spread.specs.Start.{repeated}
-use Rattle.cap_spread.specs.declared.found.Held.{Held}
-use Rattle.cap_spread.specs.declared.found.Pair.{Pair}
+use Rattle.cap_audit.specs.Search.{Found, held_by}
+use Rattle.cap_audit.specs.Start.{repeated}
+use Rattle.cap_audit.specs.declared.found.Held.{Held}
+use Rattle.cap_audit.specs.declared.found.Pair.{Pair}
 use Rattle.cap_audit.specs.Gains.{AtPlace, Below, Gains, IsSoFar, Made, OfSome}
 use Rattle.cap_audit.specs.Gates.{AreMet, ArePlaces, AreReady, Between, Greets, MeetBy, Meets, OfKinds, with_more}
 use Rattle.cap_audit.specs.Kinds.{IsQueued}

@@ -3,13 +3,13 @@ use Rattle.std.proofs.Common.{◌≡◌, ◌∙◌, ℕ, Bool, true, false, List
 use Rattle.std.specs.List.{Contains, filter_map}
 use Rattle.std.proofs.lemmas.Option.{slice_get_within}
 use Rattle.cam_base.proofs.Lists.{from_filter_map, to_filter_map}
-use Rattle.auth_kinds.specs.declared.edge.Edge.{Edge}
+use Rattle.cap_model.specs.declared.edge.Edge.{Edge}
 use Rattle.cap_model.proofs.BootPlaces.{at_contains}
 use Rattle.cap_model.specs.declared.cap.Cap.{Cap}
 use Rattle.cap_model.specs.declared.spec.Spec.{Spec}
-use Rattle.cap_spread.specs.Search.{Found, HoldsAt, held_by}
-use Rattle.cap_spread.specs.Spread.{HasRoot}
-use Rattle.cap_spread.specs.declared.found.Held.{Held}
+use Rattle.cap_audit.specs.Search.{Found, HoldsAt, held_by}
+use Rattle.cap_audit.specs.Spread.{HasRoot}
+use Rattle.cap_audit.specs.declared.found.Held.{Held}
 use Rattle.cap_audit.specs.Gains.{OfSome}
 use Rattle.cap_audit.specs.Picks.{IsHeld, OfDeed, OfDeeds, OwnsAll, is_wanted, pick_of, wanted_from, wanted_to}
 use Rattle.cap_audit.specs.declared.making.Deed.{Deed}

@@ -5,7 +5,7 @@ use Rattle.cap_model.specs.declared.object.Object.{Object}
 use Rattle.cap_model.specs.declared.object.Object.TheVariants as objects
 use Rattle.cap_model.specs.declared.spec.Entry.{Entry}
 use Rattle.cap_model.specs.declared.spec.Spec.{Spec}
-use Rattle.cap_spread.specs.Spread.{slots_of}
+use Rattle.cap_audit.specs.Spread.{slots_of}
 
 -- 1 for a CNode, 0 for another object
 abbrev pub cnode_count : Object → ℕ

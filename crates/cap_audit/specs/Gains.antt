@@ -1,22 +1,22 @@
 -- Words for the contracts of private functions alone: a report in the making, and how it grows.
 use Rattle.std.specs.Prelude.{◌≡◌, ◌≢◌, ◌<◌, ◌⊎◌, ℕ, true, List, length, slice_get, slice_index, slice_index_or, Some}
 use Rattle.std.specs.List.{Contains}
-use Rattle.auth_graph.specs.Sources.{OfCap}
-use Rattle.auth_kinds.specs.ObjectLabels.{label_of}
-use Rattle.auth_kinds.specs.Tables.{has, Has}
-use Rattle.auth_kinds.specs.declared.authority.Authority.{Authority}
-use Rattle.auth_kinds.specs.declared.edge.Edge.{Edge}
+use Rattle.cap_machine.specs.Sources.{OfCap}
+use Rattle.cap_model.specs.ObjectLabels.{label_of}
+use Rattle.cap_model.specs.Tables.{has, Has}
+use Rattle.cap_model.specs.declared.authority.Authority.{Authority}
+use Rattle.cap_model.specs.declared.edge.Edge.{Edge}
 use Rattle.cap_machine.specs.Runs.{Run}
 use Rattle.cap_machine.specs.declared.step.Step.{Step}
 use Rattle.cap_model.specs.State.{State, boot, node_at, content_in}
 use Rattle.cap_model.specs.declared.cap.Cap.{Cap}
 use Rattle.cap_model.specs.declared.spec.Spec.{Spec}
 use Rattle.cap_model.specs.declared.state.Content.TheVariants.{Capability}
-use Rattle.cap_spread.specs.Quiet.{Quiet}
-use Rattle.cap_spread.specs.Search.{Found, HoldsAt, held_by}
-use Rattle.cap_spread.specs.Shows.{Shows}
-use Rattle.cap_spread.specs.Spread.{Spread}
-use Rattle.cap_spread.specs.declared.found.Pair.{Pair}
+use Rattle.cap_audit.specs.Quiet.{Quiet}
+use Rattle.cap_audit.specs.Search.{Found, HoldsAt, held_by}
+use Rattle.cap_audit.specs.Shows.{Shows}
+use Rattle.cap_audit.specs.Spread.{Spread}
+use Rattle.cap_audit.specs.declared.found.Pair.{Pair}
 
 -- the steps lead to a state that has all that was found, and show these edges
 pub record IsMade (spec : Spec) (labels : List ℕ) (f : Found) (edges : List Edge) (steps : List Step) (nexts : List ℕ) : Type 0 where

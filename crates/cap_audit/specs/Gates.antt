@@ -1,20 +1,20 @@
 -- Words for the contracts of private functions alone: who may call at an endpoint, and which threads have a root.
 use Rattle.std.specs.Prelude.{◌≡◌, ◌≢◌, ◌<◌, ◌⊎◌, ◌∷◌, ◌++◌, ◌==◌, if◌then◌else◌, ℕ, true, List, [], Option, Some, None, length, slice_get, slice_index, slice_index_or, slice_set}
 use Rattle.std.specs.List.{Contains}
-use Rattle.auth_kinds.specs.Edges.{edge}
-use Rattle.auth_kinds.specs.ObjectLabels.{label_of}
-use Rattle.auth_kinds.specs.Tables.{has}
-use Rattle.auth_kinds.specs.declared.authority.Authority.TheVariants.{Reply}
-use Rattle.auth_kinds.specs.declared.edge.Edge.{Edge}
+use Rattle.cap_model.specs.Edges.{edge}
+use Rattle.cap_model.specs.ObjectLabels.{label_of}
+use Rattle.cap_model.specs.Tables.{has}
+use Rattle.cap_model.specs.declared.authority.Authority.TheVariants.{Reply}
+use Rattle.cap_model.specs.declared.edge.Edge.{Edge}
 use Rattle.cap_machine.specs.declared.step.Step.{Step}
 use Rattle.cap_machine.specs.declared.step.Step.TheVariants as steps
 use Rattle.cap_model.specs.Kept.{IsKept}
 use Rattle.cap_model.specs.declared.cap.Cap.{Cap}
 use Rattle.cap_model.specs.declared.spec.Spec.{Spec}
-use Rattle.cap_spread.specs.Search.{Found, HoldsAt, held_by}
-use Rattle.cap_spread.specs.Spread.{HasRoot, HaveRoots, Meet, MayCall}
-use Rattle.cap_spread.specs.declared.found.Held.{Held}
-use Rattle.cap_spread.specs.declared.found.Pair.{Pair}
+use Rattle.cap_audit.specs.Search.{Found, HoldsAt, held_by}
+use Rattle.cap_audit.specs.Spread.{HasRoot, HaveRoots, Meet, MayCall}
+use Rattle.cap_audit.specs.declared.found.Held.{Held}
+use Rattle.cap_audit.specs.declared.found.Pair.{Pair}
 use Rattle.cap_audit.specs.Gains.{Gains, IsAll, Made, OfSome}
 use Rattle.cap_audit.specs.Kinds.{AreMembers, AreStandIns}
 use Rattle.cap_audit.specs.Rows.{row_at}

@@ -1,9 +1,9 @@
 -- Words for the contracts of private functions alone: which objects stand for others that hold the same.
 use Rattle.std.specs.Prelude.{◌≡◌, ◌<◌, ◌⊎◌, ℕ, List, Option, None, Some, length, slice_get, slice_index, slice_index_or}
 use Rattle.cap_model.specs.declared.spec.Spec.{Spec}
-use Rattle.cap_spread.specs.Search.{Found}
-use Rattle.cap_spread.specs.Spread.{HasRoot}
-use Rattle.cap_spread.specs.declared.found.Pair.{Pair}
+use Rattle.cap_audit.specs.Search.{Found}
+use Rattle.cap_audit.specs.Spread.{HasRoot}
+use Rattle.cap_audit.specs.declared.found.Pair.{Pair}
 use Rattle.cap_audit.specs.Rows.{row_at}
 
 -- who stands for an object

@@ -6,3 +6,14 @@ pub mod Picks
 pub mod Reports
 pub mod Rows
 pub mod Showing
+pub mod Audited
+pub mod Covering
+pub mod Hubs
+pub mod Quiet
+pub mod Refusals
+pub mod Search
+pub mod Shows
+pub mod Spread
+pub mod Start
+pub mod Ways
+pub mod Within

@@ -1,11 +1,11 @@
 -- What `audit` answers.
 use Rattle.std.specs.Prelude.{◌≡◌, ◌≢◌, ◌<◌, ◌*◌, ◌↔◌, ℕ, List}
-use Rattle.auth_kinds.specs.Tables.{Has}
-use Rattle.auth_kinds.specs.declared.authority.Authority.{Authority}
-use Rattle.auth_kinds.specs.declared.edge.Edge.{Edge}
-use Rattle.cap_spread.specs.Refusals.{IsFirstThread}
-use Rattle.cap_spread.specs.Shows.{IsRun, Shows}
-use Rattle.cap_spread.specs.Spread.{HoldsNoThread}
+use Rattle.cap_model.specs.Tables.{Has}
+use Rattle.cap_model.specs.declared.authority.Authority.{Authority}
+use Rattle.cap_model.specs.declared.edge.Edge.{Edge}
+use Rattle.cap_audit.specs.Refusals.{IsFirstThread}
+use Rattle.cap_audit.specs.Shows.{IsRun, Shows}
+use Rattle.cap_audit.specs.Spread.{HoldsNoThread}
 use Rattle.cap_audit.specs.Counts.{caps_of, cnodes_of}
 use Rattle.cap_audit.specs.declared.report.AuditRefusal.{AuditRefusal}
 use Rattle.cap_audit.specs.declared.report.AuditRefusal.TheVariants.{HoldsTcb, Limit, NoMemory}

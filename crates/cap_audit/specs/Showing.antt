@@ -1,16 +1,16 @@
 -- Words for the contracts of private functions alone: what the parts of an audit show.
 use Rattle.std.specs.Prelude.{◌≡◌, ◌⊎◌, ℕ, List, length}
-use Rattle.auth_kinds.specs.Edges.{edge}
-use Rattle.auth_kinds.specs.ObjectLabels.{label_of}
-use Rattle.auth_kinds.specs.declared.authority.Authority.TheVariants.{Reply}
-use Rattle.auth_kinds.specs.declared.edge.Edge.{Edge}
+use Rattle.cap_model.specs.Edges.{edge}
+use Rattle.cap_model.specs.ObjectLabels.{label_of}
+use Rattle.cap_model.specs.declared.authority.Authority.TheVariants.{Reply}
+use Rattle.cap_model.specs.declared.edge.Edge.{Edge}
 use Rattle.cap_model.specs.Auth.{Auth}
 use Rattle.cap_model.specs.Kept.{IsKept}
 use Rattle.cap_model.specs.State.{boot}
 use Rattle.cap_model.specs.declared.cap.Cap.{Cap}
 use Rattle.cap_model.specs.declared.spec.Spec.{Spec}
-use Rattle.cap_spread.specs.Search.{Found}
-use Rattle.cap_spread.specs.Spread.{HasRoot, HaveRoots, Meet, MayCall, Spread}
+use Rattle.cap_audit.specs.Search.{Found}
+use Rattle.cap_audit.specs.Spread.{HasRoot, HaveRoots, Meet, MayCall, Spread}
 use Rattle.cap_audit.specs.Gains.{IsAll, IsSoFar, Made}
 use Rattle.cap_audit.specs.Kinds.{AreStandIns, stand_in}
 use Rattle.cap_audit.specs.Picks.{OfDeeds}

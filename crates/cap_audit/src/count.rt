@@ -4,8 +4,8 @@ ghost use Rattle.cap_audit.specs.Counts.{cap_count, caps_of, cnode_count, cnodes
 ghost use Rattle.cap_model.specs.Kept.{IsKept};
 ghost use Rattle.std.specs.Prelude.{◌≡◌, ◌<◌, ◌*◌, IsTrue, ◌↔◌};
 
+use crate::slots_of;
 use cap_model::{Object, Spec};
-use cap_spread::slots_of;
 
 /// The most CNodes times capabilities that an audit takes.
 const LIMIT: u64 = 4_000_000;

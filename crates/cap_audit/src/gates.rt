@@ -4,15 +4,15 @@ ghost use Rattle.cap_audit.specs.Gains.{IsAll};
 ghost use Rattle.cap_audit.specs.Gates.{AreGates, AreRosters, caller_of, enrolled, gated, with_more};
 ghost use Rattle.cap_audit.specs.Rows.{row_at};
 ghost use Rattle.cap_model.specs.Kept.{IsKept};
-ghost use Rattle.cap_spread.specs.Spread.{root_of};
-ghost use Rattle.cap_spread.specs.Start.{repeated};
+ghost use Rattle.cap_audit.specs.Spread.{root_of};
+ghost use Rattle.cap_audit.specs.Start.{repeated};
 ghost use Rattle.std.specs.Prelude.{◌≡◌, ◌++◌, ◌∷◌, [], IfOk, OnOk, Some, length};
 
 use crate::kinds::stand_in;
 use crate::picks::{Pick, Wanted, picked};
+use crate::{Findings, Pair};
 use cam_base::NoMemory;
 use cap_model::{Object, Spec};
-use cap_spread::{Findings, Pair};
 use std::alloc::Global;
 use std::marker::Model;
 
@@ -68,7 +68,7 @@ pub struct Gate {
 }
 
 impl Model for Gate {
-    ghost use Rattle.cap_spread.specs.declared.found.Pair.{Pair};
+    ghost use Rattle.cap_audit.specs.declared.found.Pair.{Pair};
     ghost use Rattle.std.specs.Prelude.{List};
 
     ghost Value = { List Pair };

@@ -3,15 +3,14 @@
 ghost use Rattle.cap_audit.specs.Gates.{with_more};
 ghost use Rattle.cap_audit.specs.Kinds.{AreFirsts, AreHeadRoots, AreHeads, AreMembers, AreRootMarks, IsLike, root_mark, stand_in};
 ghost use Rattle.cap_model.specs.Kept.{IsKept};
-ghost use Rattle.cap_spread.specs.Covering.{AreRoots};
-ghost use Rattle.cap_spread.specs.Start.{repeated};
+ghost use Rattle.cap_audit.specs.Covering.{AreRoots};
+ghost use Rattle.cap_audit.specs.Start.{repeated};
 ghost use Rattle.std.specs.Prelude.{◌≡◌, ◌<◌, ◌^◌, ◌==◌, if◌then◌else◌, [], IfOk, OnOk, length, map, slice_index, slice_set};
 
 use crate::gates::{Roster, no_rosters, put_thread, threads_of};
-use auth_kinds::Labels;
+use crate::roots;
 use cam_base::NoMemory;
-use cap_model::Spec;
-use cap_spread::roots;
+use cap_model::{Labels, Spec};
 use std::alloc::Global;
 
 /// By objects, who stands for each: a face for those that hold the same and have the same label, a head for those that

@@ -6,17 +6,17 @@ ghost use Rattle.cap_audit.specs.Kinds.{AreHeadRoots, IsQueued};
 ghost use Rattle.cap_audit.specs.declared.gates.Place.{Place};
 ghost use Rattle.cap_audit.specs.Picks.{OfDeed, OfDeeds, OfRoot, OfRoots, OwnsAll, OwnsFrom};
 ghost use Rattle.cap_model.specs.Kept.{IsKept};
-ghost use Rattle.cap_spread.specs.Search.{held_by};
-ghost use Rattle.cap_spread.specs.Spread.{HasRoot};
-ghost use Rattle.cap_spread.specs.declared.found.Pair.{Pair};
+ghost use Rattle.cap_audit.specs.Search.{held_by};
+ghost use Rattle.cap_audit.specs.Spread.{HasRoot};
+ghost use Rattle.cap_audit.specs.declared.found.Pair.{Pair};
 ghost use Rattle.std.specs.List.{Contains};
 ghost use Rattle.std.specs.Prelude.{◌≡◌, ℕ, None, Some, IsTrue, OnOk, length, slice_get, slice_index_or};
 
+use crate::Pair;
 use crate::gates::{Company, Party, Place, Roster, doors_at, put_thread, threads_of};
 use crate::making::{Deed, Making};
 use crate::picks::{Pick, Wanted};
 use cam_base::NoMemory;
-use cap_spread::Pair;
 
 /// Shows what the capability of a pair confers, where its CNode is a face.
 fn hold_pair(making: &mut Making<'_>, pair: Pair) -> Result<(), NoMemory>

@@ -1,13 +1,13 @@
 //! A report in the making: edges, and steps that show them.
 
-ghost use Rattle.auth_graph.specs.Sources.{OfCap};
-ghost use Rattle.auth_kinds.specs.Adds.{Is};
-ghost use Rattle.auth_kinds.specs.Edges.{edge};
-ghost use Rattle.auth_kinds.specs.ObjectLabels.{label_of};
-ghost use Rattle.auth_kinds.specs.Tables.{Has, has};
-ghost use Rattle.auth_kinds.specs.declared.authority.Authority.TheVariants.{AsyncSend};
-ghost use Rattle.auth_kinds.specs.declared.authority.Authority.{Authority};
-ghost use Rattle.auth_kinds.specs.declared.edge.Edge.{Edge};
+ghost use Rattle.cap_machine.specs.Sources.{OfCap};
+ghost use Rattle.cap_model.specs.Adds.{Is};
+ghost use Rattle.cap_model.specs.Edges.{edge};
+ghost use Rattle.cap_model.specs.ObjectLabels.{label_of};
+ghost use Rattle.cap_model.specs.Tables.{Has, has};
+ghost use Rattle.cap_model.specs.declared.authority.Authority.TheVariants.{AsyncSend};
+ghost use Rattle.cap_model.specs.declared.authority.Authority.{Authority};
+ghost use Rattle.cap_model.specs.declared.edge.Edge.{Edge};
 ghost use Rattle.cap_audit.specs.Gains.{Gains, IsAll, IsSoFar, Notes};
 ghost use Rattle.cap_audit.specs.Gates.{AreGates, AreParties, ArePlaces, AreRosters, OfParties, call_steps};
 ghost use Rattle.cap_audit.specs.Kinds.{AreHeadRoots, AreMembers, stand_in};
@@ -15,21 +15,18 @@ ghost use Rattle.cap_audit.specs.Picks.{OfDeed, OwnsBoth, deed_step, pick_of, wa
 ghost use Rattle.cap_model.specs.Auth.{Auth};
 ghost use Rattle.cap_model.specs.Kept.{IsKept};
 ghost use Rattle.cap_model.specs.State.{boot};
-ghost use Rattle.cap_spread.specs.Search.{HoldsAt, held_by};
-ghost use Rattle.cap_spread.specs.Start.{repeated};
+ghost use Rattle.cap_audit.specs.Search.{HoldsAt, held_by};
+ghost use Rattle.cap_audit.specs.Start.{repeated};
 ghost use Rattle.std.specs.List.{filter_map};
 ghost use Rattle.std.specs.Prelude.{Some, ◌≡◌, ◌==◌, ◌≢◌, ◌<◌, ◌+◌, ℕ, length, slice_get, ◌++◌, ◌∷◌, ◌↔◌, [], true, IfOk, IsTrue, OnOk, slice_set, slice_index};
 
 use crate::gates::{Company, Party, Place, Roster, gates, no_rosters, rosters};
 use crate::kinds::{Kinds, head_roots, members, stand_in};
 use crate::picks::{Pick, Wanted, picked, picks, places};
-use auth_graph::{direct, with_cap, with_link};
-use auth_kinds::{Authority, Edge, EdgeTable, Labels};
+use crate::{Findings, Held, Pair, whole};
 use cam_base::NoMemory;
-use cap_machine::Step;
-use cap_model::{Cap, Spec};
-use cap_spread::{Findings, Held, Pair, whole};
-use edge_sets::EdgeSet;
+use cap_machine::{Step, direct, with_cap, with_link};
+use cap_model::{Authority, Cap, Edge, EdgeSet, EdgeTable, Labels, Spec};
 use std::alloc::Global;
 use std::marker::Model;
 

@@ -2,14 +2,14 @@
 
 ghost use Rattle.cap_audit.specs.Picks.{is_wanted, pick_of, place_in, place_of};
 ghost use Rattle.cap_model.specs.Kinds.{is_space_root};
-ghost use Rattle.cap_spread.specs.Search.{held_by};
+ghost use Rattle.cap_audit.specs.Search.{held_by};
 ghost use Rattle.std.specs.List.{filter_map};
 ghost use Rattle.std.specs.Prelude.{◌≡◌, IfOk};
 
 use crate::gates::Place;
+use crate::{Findings, Held, is_kind};
 use cam_base::NoMemory;
 use cap_model::{Cap, Kind, Spec, is_root};
-use cap_spread::{Findings, Held, is_kind};
 use std::alloc::Global;
 
 /// What a CNode is looked through for.

@@ -5,19 +5,18 @@ ghost use Rattle.cap_audit.specs.Gains.{Gains};
 ghost use Rattle.cap_audit.specs.Reports.{AuditRefused, IsReport};
 ghost use Rattle.cap_audit.specs.Showing.{IsBegun, OfAllCalls, OfAllDeeds, OfBoot};
 ghost use Rattle.cap_model.specs.Kept.{IsKept};
-ghost use Rattle.cap_spread.specs.Audited.{Audited};
-ghost use Rattle.cap_spread.specs.Spread.{HoldsNoThread};
+ghost use Rattle.cap_audit.specs.Audited.{Audited};
+ghost use Rattle.cap_audit.specs.Spread.{HoldsNoThread};
 ghost use Rattle.std.specs.Prelude.{◌≡◌, ◌≤◌, ◌*◌, IfErr, IfOk, OnOk, length};
 
 use crate::count::Counts;
 use crate::kinds::Kinds;
 use crate::loops::{act_at_all, hold_all, listen_all};
 use crate::making::{Deed, Making, Trail};
-use auth_kinds::{EdgeTable, Labels};
+use crate::{Classed, first_thread, spread};
 use cam_base::{List, NoMemory};
 use cap_machine::Step;
-use cap_model::Spec;
-use cap_spread::{Classed, first_thread, spread};
+use cap_model::{EdgeTable, Labels, Spec};
 use std::alloc::Global;
 
 /// The edges between different labels that runs reach, and steps that show each.

@@ -5,3 +5,5 @@ pub mod NodeSlots
 pub mod Order
 pub mod StateEdges
 pub mod Table
+pub mod BootSources
+pub mod Gathering

@@ -8,8 +8,10 @@ pub mod Runs
 pub mod Sample
 pub mod StateSources
 pub mod StepTable
-pub use Rattle.auth_kinds.specs.Tables
+pub mod Sources
+pub use Rattle.cap_model.specs.Tables
 pub use Rattle.cap_model.specs.Auth
 pub use Rattle.cap_model.specs.FitsSpec
 pub use Rattle.cap_model.specs.Kept
 pub use Rattle.cap_model.specs.State
+pub use Rattle.cap_model.specs.Adds

@@ -1,10 +1,10 @@
 -- The edges of a state by what they come from. These words say the same as the definition of a state's authorities,
 -- source by source.
 use Rattle.std.specs.Prelude.{◌≡◌, ◌⊎◌, ℕ, true, List, Option}
-use Rattle.auth_graph.specs.Sources.{OfEach, OfOption, OfLink, OfCap, OfSlots}
-use Rattle.auth_kinds.specs.ObjectLabels.{label_of}
-use Rattle.auth_kinds.specs.declared.authority.Authority.TheVariants.{Control, AsyncSend, Reply}
-use Rattle.auth_kinds.specs.declared.edge.Edge.{Edge}
+use Rattle.cap_machine.specs.Sources.{OfEach, OfOption, OfLink, OfCap, OfSlots}
+use Rattle.cap_model.specs.ObjectLabels.{label_of}
+use Rattle.cap_model.specs.declared.authority.Authority.TheVariants.{Control, AsyncSend, Reply}
+use Rattle.cap_model.specs.declared.edge.Edge.{Edge}
 use Rattle.cap_model.specs.Confers.{kind_confers}
 use Rattle.cap_model.specs.State.{Node, State}
 use Rattle.cap_model.specs.declared.kind.Kind.TheVariants as kinds

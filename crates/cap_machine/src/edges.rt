@@ -1,9 +1,9 @@
 //! The authorities of a state.
 
-ghost use Rattle.auth_graph.specs.Sources.{OfLink, OfOption};
-ghost use Rattle.auth_kinds.specs.Adds.{Adds};
-ghost use Rattle.auth_kinds.specs.Tables.{Has};
-ghost use Rattle.auth_kinds.specs.declared.authority.Authority.{Authority};
+ghost use Rattle.cap_machine.specs.Sources.{OfLink, OfOption};
+ghost use Rattle.cap_model.specs.Adds.{Adds};
+ghost use Rattle.cap_model.specs.Tables.{Has};
+ghost use Rattle.cap_model.specs.declared.authority.Authority.{Authority};
 ghost use Rattle.cap_machine.specs.StateSources.{OfContent, OfNodes, OfThread, OfThreads, OfIrqs, OfAdded, OfMapped, OfFixed, OfSpecParts, OfState};
 ghost use Rattle.cap_model.specs.Auth.{Auth};
 ghost use Rattle.cap_model.specs.FitsSpec.{FitsSpec};
@@ -11,10 +11,12 @@ ghost use Rattle.std.specs.Prelude.{◌≡◌, ◌↔◌, ℕ, length, IfOk};
 
 use crate::node::Node;
 use crate::state::State;
-use auth_graph::{with_cap, with_each_slot, with_link, with_optional_cap, with_optional_link};
-use auth_kinds::{Authority, Edge, EdgeTable, Labels, with_set};
+use crate::{with_cap, with_each_slot, with_link, with_optional_cap, with_optional_link};
 use cam_base::NoMemory;
-use cap_model::{Content, Mapped, Object, Pending, Spec, ThreadState, frame_conferred};
+use cap_model::{
+    Authority, Content, Edge, EdgeTable, Labels, Mapped, Object, Pending, Spec, ThreadState,
+    frame_conferred, with_set,
+};
 use std::alloc::Global;
 
 /// The table of the authorities of a state under a labelling.

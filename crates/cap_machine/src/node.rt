@@ -1,4 +1,4 @@
-ghost use Rattle.auth_kinds.specs.Adds.{Adds};
+ghost use Rattle.cap_model.specs.Adds.{Adds};
 ghost use Rattle.cap_machine.specs.Effects.{grown, without};
 ghost use Rattle.cap_machine.specs.StateSources.{OfNode};
 ghost use Rattle.cap_model.specs.State.{boot_slot, content_at, no_node};
@@ -9,9 +9,8 @@ ghost use Rattle.std.specs.Ordering.{nat_cmp};
 ghost use Rattle.std.specs.Prelude.{◌≡◌, ◌<◌, ◌≤◌, ◌-◌, ◌^◌, map, true, nat_lt, OnOk, OnErr, IfOk};
 
 use crate::edges::with_content;
-use auth_kinds::{Edge, Labels};
 use cam_base::NoMemory;
-use cap_model::{Cap, Content, Spec};
+use cap_model::{Cap, Content, Edge, Labels, Spec};
 use std::alloc::Global;
 use std::collections::BTreeMap;
 use std::marker::Model;

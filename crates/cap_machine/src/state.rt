@@ -1,6 +1,6 @@
 ghost use Rattle.cap_machine.specs.Progress.{NextsFit};
 ghost use Rattle.cap_machine.specs.Refused.{Refused};
-ghost use Rattle.auth_kinds.specs.Adds.{Adds};
+ghost use Rattle.cap_model.specs.Adds.{Adds};
 ghost use Rattle.cap_machine.specs.StateSources.{OfState};
 ghost use Rattle.cap_machine.specs.StepTable.{StepTo};
 ghost use Rattle.cap_model.specs.FitsSpec.{FitsSpec};
@@ -11,9 +11,8 @@ use crate::edges::{with_irqs, with_mapped, with_nodes, with_spec_parts, with_thr
 use crate::node::Node;
 use crate::perform::perform;
 use crate::step::{Step, Why};
-use auth_kinds::{Edge, Labels};
 use cam_base::NoMemory;
-use cap_model::{Content, Mapped, Spec, ThreadState};
+use cap_model::{Content, Edge, Labels, Mapped, Spec, ThreadState};
 use std::alloc::Global;
 use std::marker::Model;
 

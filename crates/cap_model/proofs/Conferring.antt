@@ -4,8 +4,8 @@ use Rattle.std.proofs.Common.{subst}
 use Rattle.cap_model.specs.declared.rights.Rights.{Rights}
 use Rattle.cap_model.specs.declared.cap.Cap.{Cap}
 use Rattle.cap_model.specs.declared.spec.Spec.{Spec}
-use Rattle.auth_kinds.specs.declared.authority.Authority.{Authority}
-use Rattle.auth_kinds.specs.declared.authority.Authority.TheVariants.{Receive, SyncSend, AsyncSend, Reset, Grant, Read, Write, Call, Reply, GrantBack}
+use Rattle.cap_model.specs.declared.authority.Authority.{Authority}
+use Rattle.cap_model.specs.declared.authority.Authority.TheVariants.{Receive, SyncSend, AsyncSend, Reset, Grant, Read, Write, Call, Reply, GrantBack}
 use Rattle.cap_model.specs.declared.kind.Kind.{Kind}
 use Rattle.cap_model.specs.declared.kind.Kind.TheVariants.{Endpoint, Notification, Frame}
 use Rattle.cap_model.specs.Confers.{kind_confers, option_confers, confers}

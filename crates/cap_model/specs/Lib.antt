@@ -11,5 +11,15 @@ pub mod Levels
 pub mod Lookup
 pub mod RightsWord
 pub mod State
-pub use Rattle.auth_kinds.specs.Authorities
-pub use Rattle.auth_kinds.specs.AuthoritySets
+pub mod Adds
+pub mod Authorities
+pub mod AuthoritySets
+pub mod Classes
+pub mod Edges
+pub mod Making
+pub mod ObjectLabels
+pub mod Policies
+pub mod Rows
+pub mod Shared
+pub mod Tables
+pub mod Between

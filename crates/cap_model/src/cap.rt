@@ -1,5 +1,5 @@
 ghost use Rattle.cap_model.specs.Lessened.{lessened};
-ghost use Rattle.std.specs.Prelude.{◌≡◌, ◌==◌, not};
+ghost use Rattle.std.specs.Prelude.{◌≡◌};
 
 use crate::Rights;
 
@@ -12,13 +12,6 @@ pub struct Cap {
 }
 
 impl Cap {
-    /// Whether there is a badge.
-    pub fn is_badged(self) -> bool
-        ensures { result ≡ not (self.badge == 0) }
-    {
-        self.badge != 0
-    }
-
     /// The capability with those of its rights that are among these. Object and badge stay.
     pub fn lessened(self, rights: Rights) -> Cap
         ensures { result ≡ lessened self rights }

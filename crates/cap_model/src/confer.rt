@@ -1,11 +1,10 @@
-ghost use Rattle.auth_kinds.specs.Authorities.{number_of};
-ghost use Rattle.auth_kinds.specs.AuthoritySets.{IsSetOf};
+ghost use Rattle.cap_model.specs.Authorities.{number_of};
+ghost use Rattle.cap_model.specs.AuthoritySets.{IsSetOf};
 ghost use Rattle.cap_model.specs.Confers.{confers, kind_confers};
 ghost use Rattle.cap_model.specs.Kinds.{is_space_root};
 ghost use Rattle.std.specs.Prelude.{◌≡◌, ◌==◌, ◌<◌, length};
 
-use crate::{Cap, Kind, Object, Rights, Spec};
-use auth_kinds::{Authority, AuthoritySet};
+use crate::{Authority, AuthoritySet, Cap, Kind, Object, Rights, Spec};
 
 /// The authorities that a capability confers. Takes no memory.
 pub fn conferred(spec: &Spec, cap: &Cap) -> AuthoritySet

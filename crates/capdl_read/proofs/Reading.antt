@@ -4,7 +4,7 @@ use Rattle.cam_base.specs.declared.error.Refused.{Refused}
 use Rattle.cam_base.specs.declared.error.Refused.TheVariants as refused
 use Rattle.cam_base.specs.declared.text_fault.TextFault.{TextFault}
 use Rattle.cap_model.specs.declared.spec.Spec.{Spec}
-use Rattle.capdl_parse.specs.Parsing.{IsTreeRead}
+use Rattle.capdl_read.specs.Parsing.{IsTreeRead}
 use Rattle.capdl_read.specs.Checking.{IsMeant}
 use Rattle.capdl_text.specs.declared.tree.SpecTree.{SpecTree}
 use Rattle.capdl_text.specs.Texts.{of_tree, IsRead, is_long}

@@ -3,7 +3,7 @@
 ghost use Rattle.capdl_read.specs.Building.{AreBitsFew, all_named, entry_of, first_numbered, numbered_from, object_of, slots_told};
 ghost use Rattle.capdl_text.specs.Meaning.{fields_from, fill_of, fill_or, fill_said, no_tcb, numbered_or, paddr_or, paddr_said, put_field, put_named, put_slot};
 ghost use Rattle.capdl_text.specs.declared.tree.ObjectLine.{ObjectLine as ObjectTree};
-ghost use Rattle.spread_names.specs.Naming.{spread_found};
+ghost use Rattle.name_tables.specs.Naming.{spread_found};
 ghost use Rattle.std.specs.Option.{option_copied, option_map};
 ghost use Rattle.std.specs.Prelude.{◌≡◌, ℕ, [], map, slice_get, Some as Present, OnOk, IfOk, IfSome};
 
@@ -14,7 +14,7 @@ use cap_model::{Cap, Entry, Fill, Object, Tcb};
 use capdl_text::{
     FillLine, FrameField, FrameValue, KindLine, ObjectLine, SlotKey, ThreadField, ThreadValue,
 };
-use spread_names::SpreadNames;
+use name_tables::SpreadNames;
 use std::alloc::Global;
 use std::collections::BTreeMap;
 

@@ -2,7 +2,7 @@
 //! what it holds.
 
 ghost use Rattle.capdl_read.specs.Building.{slot_said, slots_or, slots_told};
-ghost use Rattle.spread_names.specs.Naming.{spread_found};
+ghost use Rattle.name_tables.specs.Naming.{spread_found};
 ghost use Rattle.capdl_text.specs.Faults.{noted};
 ghost use Rattle.capdl_text.specs.KindField.{irq_off, kind_fields, off_in, slot_off};
 ghost use Rattle.capdl_text.specs.Meaning.{badge_said, cap_said, held, lines_from, place_or, rights_said};
@@ -19,7 +19,7 @@ use crate::unknown::note_unknown;
 use cam_base::{List, NoMemory};
 use cap_model::{Arch, Cap, Rights};
 use capdl_text::{Holder, Id, IrqLine, Known, Param, SlotKey, SlotLine, SpecTree};
-use spread_names::SpreadNames;
+use name_tables::SpreadNames;
 use std::alloc::Global;
 use std::collections::BTreeMap;
 

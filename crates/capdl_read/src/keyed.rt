@@ -4,9 +4,8 @@ ghost use Rattle.capdl_read.specs.Rising.{is_above, rises};
 ghost use Rattle.capdl_text.specs.Twice.{Keyed as KeyedAt, frame_key, frame_keyed, irq_keyed, param_keyed, slot_key, slot_keyed, thread_key, thread_keyed};
 ghost use Rattle.std.specs.Prelude.{◌≡◌, None as Absent};
 
-use capdl_lexer::Span;
 use capdl_text::{
-    FrameField, FrameValue, IrqLine, Param, SlotKey, SlotLine, ThreadField, ThreadValue,
+    FrameField, FrameValue, IrqLine, Param, SlotKey, SlotLine, Span, ThreadField, ThreadValue,
 };
 
 /// What is told from others of its kind by a key.

@@ -12,10 +12,9 @@ use crate::first::First;
 use crate::known::are_bits;
 use cam_base::{NoMemory, TextCode};
 use cap_model::{Arch, Kind, Rights};
-use capdl_lexer::Span;
 use capdl_text::{
     FillLine, FrameField, FrameValue, Id, KindLine, Known, ObjectLine, Param, SlotKey, SlotLine,
-    ThreadField, ThreadValue,
+    Span, ThreadField, ThreadValue,
 };
 use std::alloc::Global;
 

@@ -5,7 +5,7 @@ ghost use Rattle.capdl_text.specs.Twice.{fields_twice, keys_twice, names_twice, 
 ghost use Rattle.cam_base.specs.declared.text_fault.TextCode.TheVariants as code;
 ghost use Rattle.name_tables.specs.ByName.{found};
 ghost use Rattle.name_tables.specs.Keys.{Key as Pair, has_key, same_key};
-ghost use Rattle.spread_names.specs.Naming.{spread_found};
+ghost use Rattle.name_tables.specs.Naming.{spread_found};
 ghost use Rattle.std.specs.List.{flat_map};
 ghost use Rattle.std.specs.Option.{option_or};
 ghost use Rattle.std.specs.Prelude.{◌≡◌, ◌||◌, ◌∷◌, ℕ, [], None, List as Seq, is_some, map, OnOk};
@@ -13,10 +13,8 @@ ghost use Rattle.std.specs.Prelude.{◌≡◌, ◌||◌, ◌∷◌, ℕ, [], Non
 use crate::first::First;
 use crate::keyed::{Keyed, rise};
 use cam_base::{NoMemory, TextCode};
-use capdl_lexer::Span;
-use capdl_text::{Holder, Id, IrqLine, KindLine, ObjectLine, SlotLine, SpecTree};
-use name_tables::KeySet;
-use spread_names::SpreadNames;
+use capdl_text::{Holder, Id, IrqLine, KindLine, ObjectLine, SlotLine, Span, SpecTree};
+use name_tables::{KeySet, SpreadNames};
 use std::alloc::Global;
 
 /// Takes the next name with its value, or notes that it was met before.

@@ -6,3 +6,10 @@ pub mod Noting
 pub mod Few
 pub mod Answered
 pub mod Below
+pub mod Runs
+pub mod Tokens
+pub mod Gaps
+pub mod Steps
+pub mod OneLexeme
+pub mod Lexemes
+pub mod NumberedWords

@@ -1,9 +1,9 @@
 //! The tree of a text, which borrows the names and texts that stand there.
 
+use crate::Span;
 use crate::borrowed::{NameAt, TextAt};
 use cam_base::List;
 use cap_model::{Arch, Level, Rights};
-use capdl_lexer::Span;
 
 /// A word that names an object.
 #[derive(Drop)]

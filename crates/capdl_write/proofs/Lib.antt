@@ -1,2 +1,16 @@
 pub mod Items
 pub mod Nothing
+pub mod Laying
+pub mod Shown
+pub mod Lines
+pub mod Numbers
+pub mod Fitting
+pub mod ReadBack
+pub mod ReadHolders
+pub mod Named
+pub mod FineText
+pub mod ReadText
+pub mod Known
+pub mod Sound
+pub mod Says
+pub mod Whole

@@ -1,10 +1,10 @@
 -- Labels of one class: neither lacks an edge other than Reply that the other has.
 use Rattle.std.proofs.Common.{◌≡◌, ◌∙◌, ℕ, true, false, List, None, inl, inr, refl, sym, subst}
-use Rattle.auth_kinds.specs.Classes.{OutAlike}
-use Rattle.auth_kinds.specs.Edges.{edge}
-use Rattle.auth_kinds.specs.Tables.{has}
-use Rattle.auth_kinds.specs.declared.edge.Edge.{Edge}
-use Rattle.auth_kinds.proofs.EdgeOrder.{edges_same}
+use Rattle.cap_model.specs.Classes.{OutAlike}
+use Rattle.cap_model.specs.Edges.{edge}
+use Rattle.cap_model.specs.Tables.{has}
+use Rattle.cap_model.specs.declared.edge.Edge.{Edge}
+use Rattle.cap_model.proofs.EdgeOrder.{edges_same}
 use Rattle.cert_check.specs.Least.{FindsLeast}
 use Rattle.cert_check.specs.Parts.{BreaksPair}
 use Rattle.cert_check.specs.Violations.{Missing}

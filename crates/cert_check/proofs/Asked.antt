@@ -2,19 +2,19 @@
 use Rattle.std.specs.Prelude.{◌≡◌, ◌≢◌, ◌⊎◌, ℕ, List, map, slice_get, Option, Some, None, refl}
 use Rattle.std.specs.List.{Contains}
 use Rattle.std.proofs.Common.{inl, inr, arith, subst}
-use Rattle.auth_kinds.specs.declared.edge.Edge.{Edge}
-use Rattle.auth_kinds.specs.declared.authority.Authority.{Authority}
+use Rattle.cap_model.specs.declared.edge.Edge.{Edge}
+use Rattle.cap_model.specs.declared.authority.Authority.{Authority}
 use Rattle.cap_model.specs.declared.object.Object.{Object}
 use Rattle.cap_model.specs.declared.object.Object.TheVariants.{Endpoint, Notification, CNode, Thread, Frame, Pages, Irq}
 use Rattle.cap_model.specs.declared.spec.Entry.{Entry}
 use Rattle.cap_model.specs.declared.cap.Cap.{Cap}
 use Rattle.cap_model.specs.declared.spec.Spec.{Spec}
 use Rattle.cap_model.specs.State.{Node, node_at, thread_at, irq_at, boot, boot_node, boot_thread, boot_irq, no_node, no_thread}
-use Rattle.auth_kinds.specs.ObjectLabels.{label_of}
+use Rattle.cap_model.specs.ObjectLabels.{label_of}
 use Rattle.cap_model.specs.Auth.{Held, Structural, of_buffer, of_table, of_root, of_space, of_reply, of_saved, of_mapped, of_irq, buffer_of, table_of}
 use Rattle.cap_model.specs.declared.state.ThreadState.{ThreadState}
 use Rattle.cert_check.specs.Parts.{OfCap, OfLink, OfBound, Asked}
-use Rattle.auth_kinds.specs.Edges.{edge}
+use Rattle.cap_model.specs.Edges.{edge}
 use Rattle.cap_model.specs.Lookup.{entry_object}
 use Rattle.cap_model.specs.State.{boot_slot}
 use Rattle.cap_model.specs.declared.state.Content.TheVariants.{Capability}

@@ -1,12 +1,12 @@
 -- What a walk through the edges finds first is least.
 use Rattle.std.proofs.Common.{◌≡◌, ◌≢◌, ◌<◌, ◌≤◌, ℕ, true, false, List, slice_get, Some, None, length, refl, sym, subst, ap, inl, inr, arith}
 use Rattle.std.proofs.lemmas.Bool.{cases_lt}
-use Rattle.auth_kinds.specs.Authorities.{number_of}
-use Rattle.auth_kinds.specs.Edges.{edge, AtMost, Before}
-use Rattle.auth_kinds.specs.Tables.{has, IsSorted, Finds}
-use Rattle.auth_kinds.specs.declared.authority.Authority.TheVariants.{AsyncSend, Reset, Handle}
-use Rattle.auth_kinds.specs.declared.edge.Edge.{Edge}
-use Rattle.auth_kinds.proofs.TableMembers.{at_has, has_at}
+use Rattle.cap_model.specs.Authorities.{number_of}
+use Rattle.cap_model.specs.Edges.{edge, AtMost, Before}
+use Rattle.cap_model.specs.Tables.{has, IsSorted, Finds}
+use Rattle.cap_model.specs.declared.authority.Authority.TheVariants.{AsyncSend, Reset, Handle}
+use Rattle.cap_model.specs.declared.edge.Edge.{Edge}
+use Rattle.cap_model.proofs.TableMembers.{at_has, has_at}
 use Rattle.cert_check.specs.Least.{FindsLeast}
 use Rattle.cert_check.specs.Meetings.{IsFirstNotBefore}
 use Rattle.cert_check.specs.Parts.{FindsLeastAt}

@@ -1,11 +1,11 @@
 -- Halving a table: what stands before a place, and what stands from one on.
 use Rattle.std.proofs.Common.{◌≡◌, ◌<◌, ◌≤◌, ℕ, ◌+◌, List, slice_get, Some, length, arith}
 use Rattle.std.proofs.lemmas.Option.{slice_get_within}
-use Rattle.auth_kinds.specs.Edges.{AtMost, Before}
-use Rattle.auth_kinds.specs.Tables.{IsSorted}
-use Rattle.auth_kinds.specs.declared.edge.Edge.{Edge}
-use Rattle.auth_kinds.proofs.EdgeOrder.{at_most_trans, at_most_before}
-use Rattle.auth_kinds.proofs.TableMembers.{later_at_most}
+use Rattle.cap_model.specs.Edges.{AtMost, Before}
+use Rattle.cap_model.specs.Tables.{IsSorted}
+use Rattle.cap_model.specs.declared.edge.Edge.{Edge}
+use Rattle.cap_model.proofs.EdgeOrder.{at_most_trans, at_most_before}
+use Rattle.cap_model.proofs.TableMembers.{later_at_most}
 use Rattle.cert_check.specs.Meetings.{Halved, IsFirstNotBefore}
 
 module _ (edges : List Edge) (e : Edge) where

@@ -2,17 +2,17 @@
 use Rattle.std.specs.Prelude.{◌≡◌, ◌≢◌, ◌⊎◌, ◌<◌, ◌≤◌, ℕ, ◌+◌, Bool, true, false, List, slice_get, Option, Some, None, refl}
 use Rattle.std.proofs.Common.{inl, inr, arith, subst}
 use Rattle.std.proofs.lemmas.Bool.{cases_lt}
-use Rattle.auth_kinds.specs.declared.edge.Edge.{Edge}
-use Rattle.auth_kinds.specs.declared.authority.Authority.{Authority}
-use Rattle.auth_kinds.specs.Tables.{has, Finds}
-use Rattle.auth_kinds.specs.Edges.{edge}
-use Rattle.auth_kinds.specs.Authorities.{number_of}
-use Rattle.auth_kinds.proofs.EdgeOrder.{at_most_trans, before_at_most, same_number, edges_same}
+use Rattle.cap_model.specs.declared.edge.Edge.{Edge}
+use Rattle.cap_model.specs.declared.authority.Authority.{Authority}
+use Rattle.cap_model.specs.Tables.{has, Finds}
+use Rattle.cap_model.specs.Edges.{edge}
+use Rattle.cap_model.specs.Authorities.{number_of}
+use Rattle.cap_model.proofs.EdgeOrder.{at_most_trans, before_at_most, same_number, edges_same}
 use Rattle.cap_model.specs.declared.cap.Cap.{Cap}
 use Rattle.cap_model.specs.declared.spec.Spec.{Spec}
 use Rattle.cap_model.specs.Confers.{confers}
-use Rattle.auth_kinds.specs.ObjectLabels.{label_of}
-use Rattle.auth_kinds.proofs.AuthorityBits.{number_of-lt}
+use Rattle.cap_model.specs.ObjectLabels.{label_of}
+use Rattle.cap_model.proofs.AuthorityBits.{number_of-lt}
 use Rattle.cert_check.specs.Parts.{CapLack, SlotsLack, LesserEdge}
 
 module _ (P Q : Edge → Type 0) where

@@ -2,11 +2,11 @@
 use Rattle.std.specs.Prelude.{◌≤◌, ◌≡◌, ◌≢◌, ◌<◌, ℕ, ◌+◌, true, false, List, slice_get, Some, refl}
 use Rattle.std.proofs.Common.{sym, ap, inl, inr, arith}
 use Rattle.std.proofs.lemmas.Bool.{cases_lt}
-use Rattle.auth_kinds.specs.declared.edge.Edge.{Edge}
-use Rattle.auth_kinds.specs.declared.authority.Authority.TheVariants.{Reply}
-use Rattle.auth_kinds.specs.Tables.{has, IsSorted, Finds, IsFirstFrom}
-use Rattle.auth_kinds.specs.Edges.{AtMost, edge}
-use Rattle.auth_kinds.proofs.TableMembers.{at_has, has_at, later_at_most}
+use Rattle.cap_model.specs.declared.edge.Edge.{Edge}
+use Rattle.cap_model.specs.declared.authority.Authority.TheVariants.{Reply}
+use Rattle.cap_model.specs.Tables.{has, IsSorted, Finds, IsFirstFrom}
+use Rattle.cap_model.specs.Edges.{AtMost, edge}
+use Rattle.cap_model.proofs.TableMembers.{at_has, has_at, later_at_most}
 use Rattle.cert_check.specs.Violations.{Missing}
 
 -- the edge of d out of s

@@ -1,11 +1,11 @@
 -- The least violation with one edge of a partner.
 use Rattle.std.proofs.Common.{◌≡◌, ◌≢◌, ◌⊎◌, ℕ, true, false, List, Some, None, refl, sym, ap, subst, inl, inr, ◌∙◌}
-use Rattle.auth_kinds.specs.Edges.{edge}
-use Rattle.auth_kinds.specs.Tables.{has, Finds}
-use Rattle.auth_kinds.specs.declared.authority.Authority.{Authority}
-use Rattle.auth_kinds.specs.declared.authority.Authority.TheVariants as authorities
-use Rattle.auth_kinds.specs.declared.edge.Edge.{Edge}
-use Rattle.auth_kinds.proofs.EdgeOrder.{edges_same}
+use Rattle.cap_model.specs.Edges.{edge}
+use Rattle.cap_model.specs.Tables.{has, Finds}
+use Rattle.cap_model.specs.declared.authority.Authority.{Authority}
+use Rattle.cap_model.specs.declared.authority.Authority.TheVariants as authorities
+use Rattle.cap_model.specs.declared.edge.Edge.{Edge}
+use Rattle.cap_model.proofs.EdgeOrder.{edges_same}
 use Rattle.cert_check.specs.Least.{FindsLeast}
 use Rattle.cert_check.specs.Meetings.{Breaks, With, first_authority, partner_authority, partner_of}
 use Rattle.cert_check.specs.Violations.{Missing}

@@ -3,11 +3,11 @@
 use Rattle.std.proofs.Common.{◌≡◌, ◌≢◌, ℕ, Bool, true, List, Option, Some, refl, sym, inl, inr}
 use Rattle.std.specs.List.{All, Contains}
 use Rattle.std.proofs.lemmas.List.Elements.{All-contains, All-nil, Contains-get_or}
-use Rattle.auth_kinds.specs.ObjectLabels.{label_of}
-use Rattle.auth_kinds.specs.Tables.{Has}
-use Rattle.auth_kinds.specs.declared.authority.Authority.{Authority}
-use Rattle.auth_kinds.specs.declared.authority.Authority.TheVariants.{Receive, AsyncSend, Control, Call, Reply, GrantBack}
-use Rattle.auth_kinds.specs.declared.edge.Edge.{Edge}
+use Rattle.cap_model.specs.ObjectLabels.{label_of}
+use Rattle.cap_model.specs.Tables.{Has}
+use Rattle.cap_model.specs.declared.authority.Authority.{Authority}
+use Rattle.cap_model.specs.declared.authority.Authority.TheVariants.{Receive, AsyncSend, Control, Call, Reply, GrantBack}
+use Rattle.cap_model.specs.declared.edge.Edge.{Edge}
 use Rattle.cap_model.specs.Auth.{Held, Structural, of_buffer, of_table, of_root, of_space, of_reply, of_saved, of_mapped, of_irq, Auth}
 use Rattle.cap_model.specs.Confers.{confers, kind_confers}
 use Rattle.cap_model.specs.State.{Node, State, node_at, thread_at, irq_at, boot}

@@ -3,12 +3,12 @@ use Rattle.std.specs.Prelude.{◌≡◌, ◌<◌, ◌≤◌, ℕ, ◌+◌, true,
 use Rattle.std.proofs.Common.{inl, inr, arith}
 use Rattle.std.proofs.lemmas.Bool.{cases_lt}
 use Rattle.std.proofs.lemmas.Option.{slice_get_within}
-use Rattle.auth_kinds.specs.declared.authority.Authority.{Authority}
-use Rattle.auth_kinds.specs.declared.edge.Edge.{Edge}
-use Rattle.auth_kinds.specs.Tables.{has, IsSorted}
-use Rattle.auth_kinds.specs.Edges.{AtMost}
+use Rattle.cap_model.specs.declared.authority.Authority.{Authority}
+use Rattle.cap_model.specs.declared.edge.Edge.{Edge}
+use Rattle.cap_model.specs.Tables.{has, IsSorted}
+use Rattle.cap_model.specs.Edges.{AtMost}
 use Rattle.cert_check.specs.Parts.{AreOthers}
-use Rattle.auth_kinds.proofs.TableMembers.{at_has, later_at_most}
+use Rattle.cap_model.proofs.TableMembers.{at_has, later_at_most}
 
 -- nothing with the property names an edge before this place
 pub record NoneUpTo {X : Type 0} (P : X → Type 0) (w : X → Edge) (table : List Edge) (i : ℕ) : Type 0 where

@@ -1,12 +1,12 @@
 -- Edges that a walk passes over, since they have another authority.
 use Rattle.std.proofs.Common.{◌≡◌, ◌<◌, ◌+◌, ℕ, ap, List, slice_get, Some, refl, inl, inr, arith}
 use Rattle.std.proofs.lemmas.Bool.{cases_lt}
-use Rattle.auth_kinds.specs.Authorities.{number_of}
-use Rattle.auth_kinds.specs.Edges.{edge, AtMost, Before}
-use Rattle.auth_kinds.specs.Tables.{IsFirstFrom, IsSorted}
-use Rattle.auth_kinds.specs.declared.authority.Authority.{Authority}
-use Rattle.auth_kinds.specs.declared.edge.Edge.{Edge}
-use Rattle.auth_kinds.proofs.TableMembers.{later_at_most}
+use Rattle.cap_model.specs.Authorities.{number_of}
+use Rattle.cap_model.specs.Edges.{edge, AtMost, Before}
+use Rattle.cap_model.specs.Tables.{IsFirstFrom, IsSorted}
+use Rattle.cap_model.specs.declared.authority.Authority.{Authority}
+use Rattle.cap_model.specs.declared.edge.Edge.{Edge}
+use Rattle.cap_model.proofs.TableMembers.{later_at_most}
 use Rattle.cert_check.specs.Meetings.{Halved, IsFirstNotBefore}
 use Rattle.cert_check.specs.Parts.{AreOthers}
 

@@ -1,12 +1,12 @@
 -- A violation of a rule over two labels that meet has a twin at any labels that may stand for the two, and where they meet too.
 use Rattle.std.proofs.Common.{◌≡◌, ◌≢◌, ◌≤◌, ℕ, true, false, List, refl, sym, subst, arith, ◌∙◌}
-use Rattle.auth_kinds.specs.Classes.{OutAlike}
-use Rattle.auth_kinds.specs.Edges.{edge, AtMost}
-use Rattle.auth_kinds.specs.Tables.{has}
-use Rattle.auth_kinds.specs.declared.authority.Authority.{Authority}
-use Rattle.auth_kinds.specs.declared.authority.Authority.TheVariants as authorities
-use Rattle.auth_kinds.specs.declared.edge.Edge.{Edge}
-use Rattle.auth_kinds.proofs.EdgeOrder.{edges_same}
+use Rattle.cap_model.specs.Classes.{OutAlike}
+use Rattle.cap_model.specs.Edges.{edge, AtMost}
+use Rattle.cap_model.specs.Tables.{has}
+use Rattle.cap_model.specs.declared.authority.Authority.{Authority}
+use Rattle.cap_model.specs.declared.authority.Authority.TheVariants as authorities
+use Rattle.cap_model.specs.declared.edge.Edge.{Edge}
+use Rattle.cap_model.proofs.EdgeOrder.{edges_same}
 use Rattle.cert_check.specs.Least.{NotAfter}
 use Rattle.cert_check.specs.Meetings.{Alike, Breaks, first_authority, partner_authority, partner_of}
 use Rattle.cert_check.specs.Violations.{Missing}

@@ -3,16 +3,16 @@ use Rattle.std.specs.Prelude.{◌≡◌, ◌≢◌, ◌⊎◌, ◌<◌, ◌≤�
 use Rattle.std.proofs.Common.{inl, inr, arith, subst}
 use Rattle.std.proofs.lemmas.Bool.{cases_lt}
 use Rattle.std.proofs.lemmas.Option.{slice_get_within}
-use Rattle.auth_kinds.specs.declared.edge.Edge.{Edge}
-use Rattle.auth_kinds.specs.declared.authority.Authority.TheVariants.{AsyncSend}
-use Rattle.auth_kinds.specs.Tables.{has, Finds}
+use Rattle.cap_model.specs.declared.edge.Edge.{Edge}
+use Rattle.cap_model.specs.declared.authority.Authority.TheVariants.{AsyncSend}
+use Rattle.cap_model.specs.Tables.{has, Finds}
 use Rattle.cap_model.specs.declared.spec.Entry.{Entry}
 use Rattle.cap_model.specs.declared.cap.Cap.{Cap}
 use Rattle.cap_model.specs.declared.object.Tcb.{Tcb}
 use Rattle.cap_model.specs.declared.level.Level.{Level}
 use Rattle.cap_model.specs.declared.object.Object.TheVariants.{CNode, Thread, Pages, Irq}
 use Rattle.cap_model.specs.declared.spec.Spec.{Spec}
-use Rattle.auth_kinds.specs.ObjectLabels.{label_of}
+use Rattle.cap_model.specs.ObjectLabels.{label_of}
 use Rattle.cert_check.specs.Violations.{BreaksBoot}
 use Rattle.cert_check.specs.Parts.{OfTcb, SlotsLack, LinkLack, ThreadLack, ObjectLack, LesserEdge}
 use Rattle.cert_check.proofs.LeastEdges.{finds_same, finds_either}

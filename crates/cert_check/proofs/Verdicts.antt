@@ -1,11 +1,11 @@
 -- No edge is lacking exactly where the rules hold.
 use Rattle.std.specs.Prelude.{◌≡◌, ◌≢◌, ℕ, Bool, true, false, List, Option, refl}
 use Rattle.std.proofs.Common.{inl, inr, sym, subst}
-use Rattle.auth_kinds.specs.declared.edge.Edge.{Edge}
-use Rattle.auth_kinds.specs.declared.authority.Authority.{Authority}
-use Rattle.auth_kinds.specs.declared.authority.Authority.TheVariants.{Receive, AsyncSend, Grant, Control, Call, Reply, GrantBack, Handle}
-use Rattle.auth_kinds.specs.Tables.{has, Has}
-use Rattle.auth_kinds.specs.Edges.{edge}
+use Rattle.cap_model.specs.declared.edge.Edge.{Edge}
+use Rattle.cap_model.specs.declared.authority.Authority.{Authority}
+use Rattle.cap_model.specs.declared.authority.Authority.TheVariants.{Receive, AsyncSend, Grant, Control, Call, Reply, GrantBack, Handle}
+use Rattle.cap_model.specs.Tables.{has, Has}
+use Rattle.cap_model.specs.Edges.{edge}
 use Rattle.cap_model.specs.declared.spec.Spec.{Spec}
 use Rattle.cap_model.specs.State.{boot}
 use Rattle.cap_model.specs.Auth.{Held, Structural}

@@ -1,8 +1,8 @@
 -- The order of violations, and which of two is kept.
 use Rattle.std.proofs.Common.{◌≡◌, ◌⊎◌, Option, Some, None, refl, sym, subst, inl, inr, ◌∙◌}
-use Rattle.auth_kinds.specs.Edges.{AtMost, Before}
-use Rattle.auth_kinds.specs.declared.edge.Edge.{Edge}
-use Rattle.auth_kinds.proofs.EdgeOrder.{at_most_self, at_most_trans, at_most_both, not_before_self}
+use Rattle.cap_model.specs.Edges.{AtMost, Before}
+use Rattle.cap_model.specs.declared.edge.Edge.{Edge}
+use Rattle.cap_model.proofs.EdgeOrder.{at_most_self, at_most_trans, at_most_both, not_before_self}
 use Rattle.cert_check.specs.Least.{FindsLeast, NotAfter}
 use Rattle.cert_check.specs.Parts.{LesserOf}
 use Rattle.cert_check.specs.declared.violation.Violation.{Violation}

@@ -9,11 +9,11 @@ use Rattle.std.proofs.lemmas.Bool.{cases_lt, eqb-false, leb-false, leb-true, ltb
 use Rattle.std.proofs.lemmas.List.Elements.{Contains-append_left, Contains-push, Contains-push_cases}
 use Rattle.std.proofs.lemmas.List.Sorted.{Contains-permutation, IsNonDecreasingBy-from_sort, IsPermutation-sym}
 use Rattle.std.proofs.lemmas.Option.{slice_get_within, slice_get-get_or, get_or_from_slice_get}
-use Rattle.auth_kinds.specs.Classes.{IsLeastAlike}
-use Rattle.auth_kinds.specs.Edges.{edge, AtMost}
-use Rattle.auth_kinds.specs.Tables.{has, IsSorted}
-use Rattle.auth_kinds.specs.declared.edge.Edge.{Edge}
-use Rattle.auth_kinds.proofs.TableMembers.{at_has, has_at, later_at_most}
+use Rattle.cap_model.specs.Classes.{IsLeastAlike}
+use Rattle.cap_model.specs.Edges.{edge, AtMost}
+use Rattle.cap_model.specs.Tables.{has, IsSorted}
+use Rattle.cap_model.specs.declared.edge.Edge.{Edge}
+use Rattle.cap_model.proofs.TableMembers.{at_has, has_at, later_at_most}
 use Rattle.cap_model.proofs.BootPlaces.{at_contains, contains_at}
 use Rattle.cert_check.specs.Least.{FindsLeast}
 use Rattle.cert_check.specs.Meetings.{Alike, AreMet, Breaks, GoesLike, HasPartners, IsLed, IsReach, MeetToo, OfPartners, With, end_of, first_authority, partner_authority, partner_of}

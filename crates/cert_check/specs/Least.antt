@@ -1,9 +1,9 @@
 -- The least violation: the least rule that fails, and of its violations the least by (first edge, lacking edge, second
 -- edge) in the order of edges.
 use Rattle.std.specs.Prelude.{◌≡◌, ◌<◌, ℕ, List, [], ◌∷◌, Option, Some, None}
-use Rattle.auth_kinds.specs.Edges.{AtMost}
-use Rattle.auth_kinds.specs.Tables.{Finds}
-use Rattle.auth_kinds.specs.declared.edge.Edge.{Edge}
+use Rattle.cap_model.specs.Edges.{AtMost}
+use Rattle.cap_model.specs.Tables.{Finds}
+use Rattle.cap_model.specs.declared.edge.Edge.{Edge}
 use Rattle.cap_model.specs.declared.spec.Spec.{Spec}
 use Rattle.cert_check.specs.declared.rule.Rule.{Rule}
 use Rattle.cert_check.specs.declared.rule.Rule.TheVariants as rules

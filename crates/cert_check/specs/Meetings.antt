@@ -2,12 +2,12 @@
 -- first edge of the rule and its partner by another. No public call cites them.
 use Rattle.std.specs.Prelude.{◌≡◌, ◌⊎◌, ◌<◌, ◌≤◌, ℕ, true, List, length, slice_get, Option, Some, None}
 use Rattle.std.specs.List.{Contains}
-use Rattle.auth_kinds.specs.Classes.{OutAlike}
-use Rattle.auth_kinds.specs.Edges.{edge, AtMost, Before}
-use Rattle.auth_kinds.specs.Tables.{has}
-use Rattle.auth_kinds.specs.declared.authority.Authority.{Authority}
-use Rattle.auth_kinds.specs.declared.authority.Authority.TheVariants as authorities
-use Rattle.auth_kinds.specs.declared.edge.Edge.{Edge}
+use Rattle.cap_model.specs.Classes.{OutAlike}
+use Rattle.cap_model.specs.Edges.{edge, AtMost, Before}
+use Rattle.cap_model.specs.Tables.{has}
+use Rattle.cap_model.specs.declared.authority.Authority.{Authority}
+use Rattle.cap_model.specs.declared.authority.Authority.TheVariants as authorities
+use Rattle.cap_model.specs.declared.edge.Edge.{Edge}
 use Rattle.cert_check.specs.Violations.{BreaksGrant, BreaksCall, BreaksGrantBack}
 use Rattle.cert_check.specs.declared.meetings.Meeting.{Meeting}
 use Rattle.cert_check.specs.declared.meetings.Meeting.TheVariants.{Grant, Call, GrantBack}

@@ -1,11 +1,11 @@
 -- Words for the contracts of private functions alone: what each part of the search looks for. No public call cites them.
 use Rattle.std.specs.Prelude.{◌≡◌, ◌≢◌, ◌<◌, ◌≤◌, ◌⊎◌, ℕ, Bool, true, false, List, slice_get, Option, Some, None}
-use Rattle.auth_kinds.specs.Edges.{AtMost, Before}
-use Rattle.auth_kinds.specs.ObjectLabels.{label_of}
-use Rattle.auth_kinds.specs.Tables.{has}
-use Rattle.auth_kinds.specs.declared.authority.Authority.{Authority}
-use Rattle.auth_kinds.specs.declared.authority.Authority.TheVariants.{AsyncSend, Control}
-use Rattle.auth_kinds.specs.declared.edge.Edge.{Edge}
+use Rattle.cap_model.specs.Edges.{AtMost, Before}
+use Rattle.cap_model.specs.ObjectLabels.{label_of}
+use Rattle.cap_model.specs.Tables.{has}
+use Rattle.cap_model.specs.declared.authority.Authority.{Authority}
+use Rattle.cap_model.specs.declared.authority.Authority.TheVariants.{AsyncSend, Control}
+use Rattle.cap_model.specs.declared.edge.Edge.{Edge}
 use Rattle.cap_model.specs.Confers.{confers}
 use Rattle.cap_model.specs.declared.cap.Cap.{Cap}
 use Rattle.cap_model.specs.declared.object.Object.{Object}

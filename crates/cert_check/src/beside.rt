@@ -1,9 +1,9 @@
 //! A walk through a table beside another one.
 
-ghost use Rattle.auth_kinds.specs.Tables.{has};
+ghost use Rattle.cap_model.specs.Tables.{has};
 ghost use Rattle.std.specs.Prelude.{◌≡◌};
 
-use auth_kinds::{Edge, EdgeTable, Hint};
+use cap_model::{Edge, EdgeTable, Hint};
 
 /// Looks for edges that come in order: each where the last one stood and a little behind, before it is searched for.
 #[derive(Drop)]

@@ -1,15 +1,16 @@
 //! The first rule: the edges of the boot state.
 
-ghost use Rattle.auth_kinds.specs.AuthoritySets.{set_has};
-ghost use Rattle.auth_kinds.specs.Tables.{has, Finds};
-ghost use Rattle.auth_kinds.specs.declared.authority.Authority.{Authority};
+ghost use Rattle.cap_model.specs.AuthoritySets.{set_has};
+ghost use Rattle.cap_model.specs.Tables.{has, Finds};
+ghost use Rattle.cap_model.specs.declared.authority.Authority.{Authority};
 ghost use Rattle.cap_model.specs.Confers.{confers};
 ghost use Rattle.cert_check.specs.Parts.{CapLack, SlotsLack, LinkLack, ObjectLack, ThreadLack, BufferLack, LesserEdge};
 ghost use Rattle.cert_check.specs.Violations.{BreaksBoot};
 ghost use Rattle.std.specs.Prelude.{◌≡◌, ◌<◌, ℕ, length, false};
 
-use auth_kinds::{Authority, AuthoritySet, Edge, EdgeTable, Labels};
-use cap_model::{Cap, Object, Spec, Tcb, conferred};
+use cap_model::{
+    Authority, AuthoritySet, Cap, Edge, EdgeTable, Labels, Object, Spec, Tcb, conferred,
+};
 
 /// The least edge of the boot state that the certificate lacks; of structural edges those between different labels
 /// count.

@@ -1,7 +1,7 @@
 //! The control and the bind rule, edge by edge.
 
-ghost use Rattle.auth_kinds.specs.Classes.{OutAlike};
-ghost use Rattle.auth_kinds.specs.Tables.{has};
+ghost use Rattle.cap_model.specs.Classes.{OutAlike};
+ghost use Rattle.cap_model.specs.Tables.{has};
 ghost use Rattle.cert_check.specs.Least.{FindsLeast};
 ghost use Rattle.cert_check.specs.Parts.{BreaksPair, FindsLeastAt};
 ghost use Rattle.cert_check.specs.Violations.{BreaksBind, BreaksControl};
@@ -10,7 +10,7 @@ ghost use Rattle.std.specs.Prelude.{◌≡◌, ◌<◌, true};
 use crate::missing::missing_copy;
 use crate::places::{first_not_before, is_of, least_of, next_of};
 use crate::violation::{Violation, uncopied};
-use auth_kinds::{Authority, Edge, EdgeTable, Hint};
+use cap_model::{Authority, Edge, EdgeTable, Hint};
 
 /// The least violation of the control rule.
 pub fn find_control(cert: &EdgeTable) -> Option<Violation>

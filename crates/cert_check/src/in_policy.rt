@@ -1,10 +1,10 @@
 //! The last rule: the certificate's edges between labels are in the policy.
 
-ghost use Rattle.auth_kinds.specs.Tables.{Finds};
+ghost use Rattle.cap_model.specs.Tables.{Finds};
 ghost use Rattle.cert_check.specs.Violations.{BreaksPolicy};
 
 use crate::beside::Beside;
-use auth_kinds::{Edge, EdgeTable, Hint};
+use cap_model::{Edge, EdgeTable, Hint};
 
 /// The least edge of the certificate between different labels that the policy lacks. The edges of both are walked side by
 /// side.

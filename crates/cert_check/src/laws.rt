@@ -1,6 +1,6 @@
 //! The claim over every run. This function does nothing: what it ensures is the law.
 
-ghost use Rattle.auth_kinds.specs.declared.edge.Edge.{Edge};
+ghost use Rattle.cap_model.specs.declared.edge.Edge.{Edge};
 ghost use Rattle.cap_model.specs.declared.spec.Spec.{Spec};
 ghost use Rattle.cert_check.specs.Valid.{Stays, Valid};
 ghost use Rattle.std.specs.Prelude.{ℕ, List};

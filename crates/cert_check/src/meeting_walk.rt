@@ -1,6 +1,6 @@
 //! A walk through the first edges of a rule, each with the partners that meet it.
 
-ghost use Rattle.auth_kinds.specs.Tables.{has};
+ghost use Rattle.cap_model.specs.Tables.{has};
 ghost use Rattle.cert_check.specs.Least.{FindsLeast};
 ghost use Rattle.cert_check.specs.Meetings.{first_authority, AreMet, Breaks, GoesLike, IsReach, MeetToo, OfPartners};
 ghost use Rattle.cert_check.specs.Parts.{FindsLeastAt};
@@ -11,7 +11,7 @@ use crate::meetings::{Meeting, leads, meeting_at};
 use crate::partners::{Met, Partners};
 use crate::places::next_of;
 use crate::violation::{Violation, lesser};
-use auth_kinds::{Edge, EdgeTable, Hint};
+use cap_model::{Edge, EdgeTable, Hint};
 
 /// The least violation of one of the three rules. Each walk takes the first edges past as many partners as there is room
 /// for.

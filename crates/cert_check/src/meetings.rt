@@ -1,13 +1,13 @@
 //! The grant, call and grant back rules: two labels meet at a third.
 
-ghost use Rattle.auth_kinds.specs.Tables.{has};
+ghost use Rattle.cap_model.specs.Tables.{has};
 ghost use Rattle.cert_check.specs.Least.{FindsLeast};
 ghost use Rattle.cert_check.specs.Meetings.{IsLed, With, first_authority, partner_authority};
 ghost use Rattle.std.specs.Prelude.{◌≡◌, true, false};
 
 use crate::missing::missing_copy;
 use crate::violation::{Violation, uncopied};
-use auth_kinds::{Authority, Edge, EdgeTable, Hint};
+use cap_model::{Authority, Edge, EdgeTable, Hint};
 
 /// The three rules over two labels that meet at a third.
 #[derive(Clone, Copy)]

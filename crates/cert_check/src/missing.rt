@@ -1,11 +1,11 @@
 //! Edges that one label has and another lacks.
 
-ghost use Rattle.auth_kinds.specs.Tables.{Finds};
+ghost use Rattle.cap_model.specs.Tables.{Finds};
 ghost use Rattle.cert_check.specs.Violations.{Missing};
 
 use crate::beside::Beside;
 use crate::places::is_of;
-use auth_kinds::{Authority, Edge, EdgeTable, Hint};
+use cap_model::{Authority, Edge, EdgeTable, Hint};
 
 /// The least edge other than Reply that `to` lacks while `from` has it. The edges of both are walked side by side.
 pub fn missing_copy(cert: &EdgeTable, from: u32, to: u32) -> Option<Edge>

@@ -7,7 +7,7 @@ ghost use Rattle.std.specs.Prelude.{◌≡◌, ◌<◌, [], length};
 use crate::meetings::{Meeting, leads};
 use crate::places::next_of;
 use arrayvec::ArrayVec;
-use auth_kinds::{Edge, EdgeTable, Hint};
+use cap_model::{Edge, EdgeTable, Hint};
 
 /// The most edges that are held at once.
 const ROOM: usize = 16_384;

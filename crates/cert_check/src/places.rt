@@ -1,12 +1,12 @@
 //! Edges by their authority, and places of a table.
 
-ghost use Rattle.auth_kinds.specs.Edges.{edge};
-ghost use Rattle.auth_kinds.specs.Tables.{IsSorted};
+ghost use Rattle.cap_model.specs.Edges.{edge};
+ghost use Rattle.cap_model.specs.Tables.{IsSorted};
 ghost use Rattle.cert_check.specs.Meetings.{Halved, IsFirstNotBefore};
 ghost use Rattle.cert_check.specs.Parts.{AreOthers, IsNextOf};
 ghost use Rattle.std.specs.Prelude.{◌≡◌, ◌≢◌, ◌↔◌, ◌<◌, ◌^◌, ◌+◌, length, slice_get, IsTrue, IfSome, IfNone, Some};
 
-use auth_kinds::{Authority, Edge, EdgeTable, Hint};
+use cap_model::{Authority, Edge, EdgeTable, Hint};
 
 /// Whether the edge has this authority.
 pub fn is_of(edge: &Edge, authority: Authority) -> bool

@@ -10,8 +10,7 @@ use crate::meeting_walk::find_meeting;
 use crate::meetings::Meeting;
 use crate::rule::Rule;
 use crate::violation::Violation;
-use auth_kinds::{Edge, EdgeTable, Labels};
-use cap_model::Spec;
+use cap_model::{Edge, EdgeTable, Labels, Spec};
 
 /// The answer of the checker: the rules hold, or the number of the least rule that fails, the two edges of the
 /// certificate that its least violation rests on (none for the first and the last rule), and the edge that is lacking.

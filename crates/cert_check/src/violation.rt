@@ -2,7 +2,7 @@ ghost use Rattle.cert_check.specs.Least.{NotAfter};
 ghost use Rattle.cert_check.specs.Parts.{LesserOf};
 ghost use Rattle.std.specs.Prelude.{◌≡◌, true, false};
 
-use auth_kinds::Edge;
+use cap_model::Edge;
 
 /// How a rule fails that rests on two edges of the certificate: these two, and the edge that is lacking.
 #[derive(Clone, Copy)]

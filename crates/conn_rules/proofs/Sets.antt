@@ -3,10 +3,10 @@ use Rattle.std.proofs.Common.{◌≡◌, ◌∙◌, ◌<◌, ◌^◌, ◌*◌, �
 use Rattle.std.specs.Int.{bit_at}
 use Rattle.std.proofs.lemmas.Nat.{one_shl, or_lt, pow_below}
 use Rattle.std.proofs.lemmas.Nat.Bits.{bit_at-zero}
-use Rattle.auth_kinds.proofs.AuthorityBits.{bit_at-added, number_of-lt}
-use Rattle.auth_kinds.specs.Authorities.{number_of}
-use Rattle.auth_kinds.specs.AuthoritySets.{IsSetOf, set_has}
-use Rattle.auth_kinds.specs.declared.authority.Authority.{Authority}
+use Rattle.cap_model.proofs.AuthorityBits.{bit_at-added, number_of-lt}
+use Rattle.cap_model.specs.Authorities.{number_of}
+use Rattle.cap_model.specs.AuthoritySets.{IsSetOf, set_has}
+use Rattle.cap_model.specs.declared.authority.Authority.{Authority}
 use Rattle.conn_rules.specs.Row.{among, bits_of}
 
 or_comm : (a b : Bool) → (a || b) ≡ (b || a)

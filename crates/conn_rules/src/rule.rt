@@ -1,7 +1,6 @@
 use adl_ast::Role;
 use adl_meaning::Connector;
-use auth_kinds::AuthoritySet;
-use cap_model::Rights;
+use cap_model::{AuthoritySet, Rights};
 
 /// What the capabilities of a row lead to.
 #[derive(Clone, Copy)]

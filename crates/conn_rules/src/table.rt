@@ -4,8 +4,7 @@ ghost use Rattle.std.specs.Prelude.{◌≡◌};
 use crate::{ObjectKind, RuleRow};
 use adl_ast::Role;
 use adl_meaning::Connector;
-use auth_kinds::{Authority, AuthoritySet};
-use cap_model::Rights;
+use cap_model::{Authority, AuthoritySet, Rights};
 use std::marker::Model;
 
 /// Rows of the connector table. Contracts see it as the list of its rows.

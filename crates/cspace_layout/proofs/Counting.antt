@@ -11,11 +11,11 @@ use Rattle.adl_ast.specs.declared.source.Source.{Source}
 use Rattle.adl_meaning.specs.declared.flat.Flat.{Flat}
 use Rattle.adl_meaning.specs.declared.flat.FlatConnection.{FlatConnection}
 use Rattle.adl_meaning.specs.declared.flat.Leaf.{Leaf}
-use Rattle.numbering.specs.Gather.{gather, IsIn}
-use Rattle.numbering.proofs.Gathered.{length_append, gather_ones, get_ones}
-use Rattle.numbering.proofs.Lists.{at_place}
-use Rattle.leaf_ends.specs.LeafEnds.{leaf_ends}
-use Rattle.leaf_ends.specs.Members.{is_lock, members_at, members_of_leaf, leaf_members}
+use Rattle.cam_base.specs.Gather.{gather, IsIn}
+use Rattle.cam_base.proofs.Gathered.{length_append, gather_ones, get_ones}
+use Rattle.cam_base.proofs.NumberedLists.{at_place}
+use Rattle.cspace_layout.specs.LeafEnds.{leaf_ends}
+use Rattle.cspace_layout.specs.Members.{is_lock, members_at, members_of_leaf, leaf_members}
 use Rattle.cspace_layout.specs.declared.plan.SlotUse.{SlotUse}
 use Rattle.cspace_layout.specs.declared.plan.SlotUse.TheVariants.{OwnLock}
 use Rattle.cspace_layout.specs.Counted.{capped, leaf_count, leaf_counts, sum_at}

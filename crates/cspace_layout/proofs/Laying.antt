@@ -9,13 +9,13 @@ use Rattle.adl_ast.specs.declared.source.Source.{Source}
 use Rattle.adl_meaning.specs.declared.flat.Domain.{Domain}
 use Rattle.adl_meaning.specs.declared.flat.Flat.{Flat}
 use Rattle.adl_meaning.specs.declared.flat.Leaf.{Leaf}
-use Rattle.numbering.specs.Gather.{gather, IsIn}
-use Rattle.numbering.proofs.Gathered.{gather_turn, gather_map, gather_ones, get_ones}
-use Rattle.numbering.proofs.Lists.{at_place, read_place}
-use Rattle.leaf_ends.specs.declared.end_at.EndAt.{EndAt}
-use Rattle.leaf_ends.specs.LeafEnds.{leaf_ends, ends_of}
-use Rattle.leaf_ends.specs.Members.{members_at, members_of_leaf, leaf_members}
-use Rattle.leaf_ends.specs.Within.{IsWithin}
+use Rattle.cam_base.specs.Gather.{gather, IsIn}
+use Rattle.cam_base.proofs.Gathered.{gather_turn, gather_map, gather_ones, get_ones}
+use Rattle.cam_base.proofs.NumberedLists.{at_place, read_place}
+use Rattle.cspace_layout.specs.declared.end_at.EndAt.{EndAt}
+use Rattle.cspace_layout.specs.LeafEnds.{leaf_ends, ends_of}
+use Rattle.cspace_layout.specs.Members.{members_at, members_of_leaf, leaf_members}
+use Rattle.cspace_layout.specs.Within.{IsWithin}
 use Rattle.cspace_layout.specs.declared.plan.SlotPlan.{SlotPlan}
 use Rattle.cspace_layout.specs.declared.plan.SlotUse.{SlotUse}
 use Rattle.cspace_layout.specs.Counted.{capped, leaf_count, leaf_counts, sum_at}

@@ -14,8 +14,8 @@ use Rattle.adl_meaning.specs.declared.flat.Flat.{Flat}
 use Rattle.adl_meaning.specs.declared.item_at.ItemAt.{ItemAt}
 use Rattle.adl_meaning.specs.Faults.{least}
 use Rattle.adl_meaning.specs.Items.{assemblies}
-use Rattle.leaf_ends.specs.Limit.{fault_at, keyword, limit_fault, place_in}
-use Rattle.leaf_ends.specs.Within.{IsWithin}
+use Rattle.cspace_layout.specs.Limit.{fault_at, keyword, limit_fault, place_in}
+use Rattle.cspace_layout.specs.Within.{IsWithin}
 use Rattle.cspace_layout.specs.declared.count.Limit.{Limit}
 use Rattle.cspace_layout.specs.declared.count.Limit.TheVariants.{Slots, AllSlots}
 use Rattle.cspace_layout.specs.Counted.{capped, first_limit, name_of}
@@ -23,7 +23,7 @@ use Rattle.cspace_layout.specs.SlotFaults.{counts, greatest, limits_passed, firs
 use Rattle.cspace_layout.specs.Uses.{slots_of}
 use Rattle.cspace_layout.proofs.Counting.{any_over, sum_capped}
 use Rattle.adl_meaning.proofs.Least.{lex_self}
-use Rattle.leaf_ends.proofs.Keyword.{has_place}
+use Rattle.cspace_layout.proofs.Keyword.{has_place}
 
 abbrev fault_of : Place → Limit → Fault
 fault_of place limit = fault_at place (name_of limit)

@@ -5,9 +5,9 @@ use Rattle.adl_ast.specs.declared.component.Member.{Member}
 use Rattle.adl_ast.specs.declared.source.Source.{Source}
 use Rattle.adl_meaning.specs.declared.flat.Flat.{Flat}
 use Rattle.adl_meaning.specs.declared.flat.FlatConnection.{FlatConnection}
-use Rattle.numbering.specs.Gather.{gather}
-use Rattle.leaf_ends.specs.declared.end_at.EndAt.{EndAt}
-use Rattle.leaf_ends.specs.Members.{members_at, is_lock}
+use Rattle.cam_base.specs.Gather.{gather}
+use Rattle.cspace_layout.specs.declared.end_at.EndAt.{EndAt}
+use Rattle.cspace_layout.specs.Members.{members_at, is_lock}
 use Rattle.cspace_layout.specs.declared.count.Limit.{Limit}
 use Rattle.cspace_layout.specs.declared.count.Limit.TheVariants.{Slots, AllSlots}
 use Rattle.cspace_layout.specs.Laid.{uses_at}

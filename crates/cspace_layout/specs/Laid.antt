@@ -5,8 +5,8 @@ use Rattle.adl_ast.specs.declared.component.Member.{Member}
 use Rattle.adl_ast.specs.declared.composition.Role.{Role}
 use Rattle.adl_meaning.specs.declared.connector.Connector.{Connector}
 use Rattle.adl_meaning.specs.declared.flat.FlatConnection.{FlatConnection}
-use Rattle.numbering.specs.Gather.{gather}
-use Rattle.leaf_ends.specs.declared.end_at.EndAt.{EndAt}
+use Rattle.cam_base.specs.Gather.{gather}
+use Rattle.cspace_layout.specs.declared.end_at.EndAt.{EndAt}
 use Rattle.cspace_layout.specs.declared.plan.SlotUse.{SlotUse}
 use Rattle.cspace_layout.specs.Uses.{end_uses, lock_uses}
 

@@ -2,5 +2,12 @@ pub mod Counted
 pub mod Laid
 pub mod SlotFaults
 pub mod Uses
+pub mod LeafEnds
+pub mod Limit
+pub mod Lookups
+pub mod Members
+pub mod Passes
+pub mod Spread
+pub mod Within
 pub use Rattle.adl_meaning.specs.Faults
-pub use Rattle.leaf_ends.specs.Within
+pub use Rattle.cam_base.specs.Gather

@@ -11,9 +11,9 @@ use Rattle.adl_meaning.specs.declared.connector.Connector.TheVariants.{Rpc, Noti
 use Rattle.adl_meaning.specs.declared.flat.Flat.{Flat}
 use Rattle.adl_meaning.specs.declared.flat.FlatConnection.{FlatConnection}
 use Rattle.adl_meaning.specs.declared.flat.FlatEnd.{FlatEnd}
-use Rattle.numbering.specs.Gather.{gather}
-use Rattle.leaf_ends.specs.LeafEnds.{joins}
-use Rattle.leaf_ends.specs.Members.{leaf_members, is_lock}
+use Rattle.cam_base.specs.Gather.{gather}
+use Rattle.cspace_layout.specs.LeafEnds.{joins}
+use Rattle.cspace_layout.specs.Members.{leaf_members, is_lock}
 use Rattle.cspace_layout.specs.declared.plan.SlotUse.{SlotUse}
 use Rattle.cspace_layout.specs.declared.plan.SlotUse.TheVariants.{OfEnd, Handler, OwnLock}
 use Rattle.cspace_layout.specs.declared.plan.SlotPlan.{SlotPlan}

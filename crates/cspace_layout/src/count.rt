@@ -4,17 +4,17 @@ ghost use Rattle.cspace_layout.specs.Counted.{capped, leaf_count, sum_at, leaf_c
 ghost use Rattle.cspace_layout.specs.Laid.{uses_at};
 ghost use Rattle.cspace_layout.specs.SlotFaults.{counts, first_slot_fault};
 ghost use Rattle.cspace_layout.specs.Uses.{slots_of};
-ghost use Rattle.leaf_ends.specs.LeafEnds.{ends_of};
-ghost use Rattle.leaf_ends.specs.Within.{IsWithin};
-ghost use Rattle.numbering.specs.Gather.{IsIn};
+ghost use Rattle.cspace_layout.specs.LeafEnds.{ends_of};
+ghost use Rattle.cspace_layout.specs.Within.{IsWithin};
+ghost use Rattle.cam_base.specs.Gather.{IsIn};
 ghost use Rattle.std.specs.List.{flat_map, list_any};
 ghost use Rattle.std.specs.Prelude.{◌≡◌, ◌<◌, nat_lt, length, map, sum, IfOk, ℕ};
 
 use crate::kind::kind_at;
+use crate::{EndAt, is_lock, limit_fault, members_at};
 use adl_ast::{Member, Role, Source};
 use adl_meaning::{Connector, Flat};
 use cam_base::{Fault, List, NoMemory};
-use leaf_ends::{EndAt, is_lock, limit_fault, members_at};
 use std::alloc::Global;
 
 /// A limit on slots.

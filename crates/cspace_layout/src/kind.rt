@@ -1,9 +1,9 @@
 ghost use Rattle.cspace_layout.specs.Laid.{kind_at};
 ghost use Rattle.std.specs.Prelude.{◌≡◌};
 
+use crate::EndAt;
 use adl_ast::Role;
 use adl_meaning::{Connector, Flat};
-use leaf_ends::EndAt;
 
 /// The connector that an end is of, and its role; none where no such end is. Takes no memory.
 pub fn kind_at(flat: &Flat, at: EndAt) -> Option<(Connector, Role)>

@@ -4,20 +4,19 @@ ghost use Rattle.adl_meaning.specs.Faults.{Refuses};
 ghost use Rattle.cspace_layout.specs.Laid.{uses_at, laid_leaf};
 ghost use Rattle.cspace_layout.specs.SlotFaults.{first_slot_fault};
 ghost use Rattle.cspace_layout.specs.Uses.{lock_uses, domain_uses, plan_of, slots_of};
-ghost use Rattle.leaf_ends.specs.LeafEnds.{ends_of};
-ghost use Rattle.leaf_ends.specs.Members.{leaf_members};
-ghost use Rattle.leaf_ends.specs.Within.{IsWithin};
-ghost use Rattle.numbering.specs.Gather.{gather, IsIn};
+ghost use Rattle.cspace_layout.specs.LeafEnds.{ends_of};
+ghost use Rattle.cspace_layout.specs.Members.{leaf_members};
+ghost use Rattle.cspace_layout.specs.Within.{IsWithin};
+ghost use Rattle.cam_base.specs.Gather.{gather, IsIn};
 ghost use Rattle.std.specs.List.{flat_map};
 ghost use Rattle.std.specs.Prelude.{◌≡◌, ◌<◌, ◌^◌, ◌++◌, length, map, IfOk, OnOk, ℕ};
 
 use crate::count::slot_limit;
 use crate::kind::kind_at;
-use crate::{SlotPlan, SlotUse, Slots};
+use crate::{EndAt, SlotPlan, SlotUse, Slots, is_lock, leaf_ends, members_at};
 use adl_ast::{Member, Role, Source};
 use adl_meaning::{Connector, Flat, Settled};
 use cam_base::{Fault, List, NoMemory, Refused};
-use leaf_ends::{EndAt, is_lock, leaf_ends, members_at};
 use std::alloc::Global;
 
 fn add_end(flat: &Flat, at: EndAt, uses: &mut List<SlotUse>) -> Result<(), NoMemory>

@@ -32,8 +32,8 @@ use Rattle.cap_model.specs.declared.object.Object.TheVariants.{Endpoint, Notific
 use Rattle.cap_model.specs.declared.spec.Spec.{Spec}
 use Rattle.cap_model.specs.Lookup.{name_at, object_at}
 use Rattle.cap_model.specs.RightsWord.{rights_word}
-use Rattle.leaf_ends.specs.declared.end_at.EndAt.{EndAt}
-use Rattle.leaf_ends.specs.Lookups.{end_of}
+use Rattle.cspace_layout.specs.declared.end_at.EndAt.{EndAt}
+use Rattle.cspace_layout.specs.Lookups.{end_of}
 use Rattle.system_spec.specs.MapText.{Named, connection_path, leaf_path, member_name}
 use Rattle.system_spec.specs.Names.{name_of, root_series}
 use Rattle.system_spec.specs.declared.map_line.MapLine.{MapLine}

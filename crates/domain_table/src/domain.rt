@@ -7,7 +7,7 @@ ghost use Rattle.std.specs.Str.{bytes_eq};
 
 use adl_meaning::Flat;
 use cam_base::{List, NoMemory, Text};
-use leaf_ends::end_of;
+use cspace_layout::end_of;
 use std::alloc::Global;
 
 /// Whether the domain has the leaf.

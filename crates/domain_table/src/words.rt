@@ -1,7 +1,7 @@
 //! What lines of a map are of.
 
 ghost use Rattle.domain_table.specs.Tables.{end_text, joined_text, leaf_text, lock_text, thread_text};
-ghost use Rattle.leaf_ends.specs.Members.{leaf_members};
+ghost use Rattle.cspace_layout.specs.Members.{leaf_members};
 ghost use Rattle.std.specs.Prelude.{◌≡◌, IfOk};
 ghost use Rattle.cam_base.specs.Paths.{joined};
 ghost use Rattle.system_spec.specs.MapText.{connection_path, member_name, name_in, named};
@@ -9,7 +9,7 @@ ghost use Rattle.system_spec.specs.MapText.{connection_path, member_name, name_i
 use adl_ast::Member;
 use adl_meaning::{Flat, FlatEnd};
 use cam_base::{List, NoMemory, Text};
-use leaf_ends::{EndAt, end_of, members_at};
+use cspace_layout::{EndAt, end_of, members_at};
 use std::alloc::Global;
 use system_spec::MapNames;
 use view_text::join;

@@ -1,2 +1,4 @@
 pub mod Searching
 pub mod Stages
+pub mod Asking
+pub mod Joined

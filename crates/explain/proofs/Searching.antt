@@ -9,8 +9,8 @@ use Rattle.adl_meaning.specs.declared.flat.Leaf.{Leaf}
 use Rattle.arch_policy.specs.Ends.{EndAt, LockAt}
 use Rattle.arch_policy.specs.Tables.{Tables, domain_label}
 use Rattle.arch_policy.proofs.Listed.{lock_of_member}
-use Rattle.auth_kinds.specs.declared.edge.Edge.{Edge}
-use Rattle.leaf_ends.specs.Members.{members_at}
+use Rattle.cap_model.specs.declared.edge.Edge.{Edge}
+use Rattle.cspace_layout.specs.Members.{members_at}
 use Rattle.explain.specs.declared.search.Found.{Found}
 use Rattle.explain.specs.declared.search.Sought.{Sought}
 use Rattle.explain.specs.Sought.{IsFirstAt, IsFirstEnd, IsFirstOfLeaf, IsLeastEnd, IsLeastLock, IsSought, fits, opens}

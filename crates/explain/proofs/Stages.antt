@@ -14,21 +14,21 @@ use Rattle.arch_policy.specs.Triples.{end_edges, signal_edges}
 use Rattle.arch_policy.proofs.Listed.{from_end, from_end_at, from_signal, in_end, in_signal, is_same_connector, is_same_role, same_place}
 use Rattle.arch_policy.proofs.Lists.{has_in, in_any, in_has}
 use Rattle.arch_policy.proofs.Same.{is_connector}
-use Rattle.auth_kinds.specs.Edges.{edge}
-use Rattle.auth_kinds.specs.Tables.{has}
-use Rattle.auth_kinds.specs.declared.authority.Authority.{Authority}
-use Rattle.auth_kinds.specs.declared.authority.Authority.TheVariants.{AsyncSend, Reply}
-use Rattle.auth_kinds.specs.declared.edge.Edge.{Edge}
+use Rattle.cap_model.specs.Edges.{edge}
+use Rattle.cap_model.specs.Tables.{has}
+use Rattle.cap_model.specs.declared.authority.Authority.{Authority}
+use Rattle.cap_model.specs.declared.authority.Authority.TheVariants.{AsyncSend, Reply}
+use Rattle.cap_model.specs.declared.edge.Edge.{Edge}
 use Rattle.conn_rules.specs.Row.{same_connector, same_role}
-use Rattle.numbering.specs.Gather.{IsIn}
-use Rattle.numbering.proofs.Gathered.{in_place, place_of}
+use Rattle.cam_base.specs.Gather.{IsIn}
+use Rattle.cam_base.proofs.Gathered.{in_place, place_of}
 use Rattle.explain.specs.declared.reason.Reason.{Reason as Told}
 use Rattle.explain.specs.declared.reason.Rule.TheVariants.{Direct, ByCall, ByBind}
 use Rattle.explain.specs.declared.search.Found.{Found}
 use Rattle.explain.specs.declared.search.Sought.TheVariants.{Given, Caller, Server, Handler, Signaller, LockHandler}
 use Rattle.explain.specs.Explained.{AtMost, ComesFirst, IsFirstOf, IsFirstReason, numbers, stage, tell, told_of}
 use Rattle.explain.specs.Sought.{IsFirstEnd, IsFirstLock, IsLeastEnd, IsLeastLock, IsSought, has_side, is_async, is_reply, is_side}
-use Rattle.numbering.proofs.Lists.{from_any}
+use Rattle.cam_base.proofs.NumberedLists.{from_any}
 use Rattle.conn_rules.proofs.Roles.{is_role}
 
 reply_is : (a : Authority) → is_reply a ≡ true → a ≡ Reply

@@ -1,3 +1,5 @@
 pub mod Explained
 pub mod Sought
-pub use Rattle.leaf_ends.specs.Within
+pub mod Answers
+pub mod Lines
+pub use Rattle.cspace_layout.specs.Within

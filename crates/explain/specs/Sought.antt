@@ -11,13 +11,13 @@ use Rattle.adl_meaning.specs.declared.flat.Leaf.{Leaf}
 use Rattle.arch_policy.specs.Ends.{EndAt, LockAt}
 use Rattle.arch_policy.specs.Tables.{Tables, connection_label, domain_label, leaf_label}
 use Rattle.arch_policy.specs.Triples.{end_edges, signal_edges}
-use Rattle.auth_kinds.specs.Edges.{edge}
-use Rattle.auth_kinds.specs.Tables.{has}
-use Rattle.auth_kinds.specs.declared.authority.Authority.{Authority}
-use Rattle.auth_kinds.specs.declared.authority.Authority.TheVariants.{AsyncSend, Reply}
-use Rattle.auth_kinds.specs.declared.edge.Edge.{Edge}
+use Rattle.cap_model.specs.Edges.{edge}
+use Rattle.cap_model.specs.Tables.{has}
+use Rattle.cap_model.specs.declared.authority.Authority.{Authority}
+use Rattle.cap_model.specs.declared.authority.Authority.TheVariants.{AsyncSend, Reply}
+use Rattle.cap_model.specs.declared.edge.Edge.{Edge}
 use Rattle.conn_rules.specs.Row.{same_connector, same_role}
-use Rattle.leaf_ends.specs.Members.{is_lock, members_at}
+use Rattle.cspace_layout.specs.Members.{is_lock, members_at}
 use Rattle.explain.specs.declared.search.Found.{Found}
 use Rattle.explain.specs.declared.search.Sought.{Sought}
 use Rattle.explain.specs.declared.search.Sought.TheVariants.{Given, Caller, Server, Handler, Signaller, LockHandler}

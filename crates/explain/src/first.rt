@@ -2,7 +2,7 @@ ghost use Rattle.arch_policy.specs.Reasons.{BindReason, CallReason, DirectReason
 ghost use Rattle.arch_policy.specs.Tables.{tables_of, told};
 ghost use Rattle.explain.specs.Explained.{Explains, IsAskedFor, IsFirstOf, IsFirstReason, told_of};
 ghost use Rattle.explain.specs.Sought.{CanSearch};
-ghost use Rattle.leaf_ends.specs.Within.{IsWithin};
+ghost use Rattle.cspace_layout.specs.Within.{IsWithin};
 ghost use Rattle.std.specs.Prelude.{◌+◌, ◌<◌, ◌^◌, ◌≡◌, length, position, IfOk};
 ghost use Rattle.std.specs.Str.{bytes_eq};
 
@@ -11,8 +11,8 @@ use crate::{ExplainError, Reason, Rule};
 use adl_ast::Source;
 use adl_meaning::{Flat, Settled};
 use arch_policy::{Labelling, Tables, labels_of, signal_table};
-use auth_kinds::{Authority, Edge};
 use cam_base::{NoMemory, Text};
+use cap_model::{Authority, Edge};
 use std::alloc::Global;
 
 fn numbers(found: Found) -> (u32, u32)

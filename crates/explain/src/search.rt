@@ -3,17 +3,17 @@
 ghost use Rattle.adl_meaning.specs.declared.flat.Leaf.{Leaf as Place};
 ghost use Rattle.arch_policy.specs.Tables.{told};
 ghost use Rattle.arch_policy.specs.Triples.{signal_edges};
-ghost use Rattle.auth_kinds.specs.Tables.{has};
+ghost use Rattle.cap_model.specs.Tables.{has};
 ghost use Rattle.explain.specs.Sought.{CanSearch, IsFirstAt, IsFirstEnd, IsFirstLock, IsFirstMember, IsFirstOfLeaf, IsFirstOn, fits, found, has_side, is_async, is_reply, is_side, opens};
-ghost use Rattle.leaf_ends.specs.Members.{members_at};
+ghost use Rattle.cspace_layout.specs.Members.{members_at};
 ghost use Rattle.std.specs.Prelude.{◌≡◌, ◌<◌, ◌^◌, length, slice_get, IfOk, Some, ℕ};
 
 use adl_ast::{Member, Role};
 use adl_meaning::{Connector, FlatConnection, FlatEnd, Leaf};
 use arch_policy::{EndHere, Tables, connection_label, domain_label, end_gives, leaf_label};
-use auth_kinds::{Authority, Edge, EdgeTable};
 use cam_base::NoMemory;
-use leaf_ends::{is_lock, members_at};
+use cap_model::{Authority, Edge, EdgeTable};
+use cspace_layout::{is_lock, members_at};
 use std::alloc::Global;
 
 /// An end that was found, by the numbers of its connection and of itself, with the label of its leaf.

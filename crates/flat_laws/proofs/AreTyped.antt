@@ -12,7 +12,7 @@ use Rattle.adl_program.proofs.Joined.{joined_leaf}
 use Rattle.adl_types.specs.TypeFaults.{is_kind_of, first_type_fault}
 use Rattle.adl_types.proofs.Typed.{well_typed}
 use Rattle.conn_rules.specs.Ends.{end_rule}
-use Rattle.leaf_ends.specs.Members.{members_at}
+use Rattle.cspace_layout.specs.Members.{members_at}
 use Rattle.flat_laws.specs.Typed.{AreTyped}
 use Rattle.flat_laws.proofs.Declared.{end_declared}
 use Rattle.flat_laws.proofs.EndMembers.{interface_placed}

@@ -5,7 +5,7 @@ use Rattle.std.proofs.lemmas.Option.{slice_get_within}
 use Rattle.adl_meaning.specs.Prelude.{AreNamesSound, HaveFewMembers, Source, connections, first_flat_fault, flat_connection, flat_of, hierarchy_of, leaf_of, leaves}
 use Rattle.adl_meaning.specs.declared.flat.FlatConnection.{FlatConnection}
 use Rattle.adl_meaning.proofs.SoundNames.{one_assembly}
-use Rattle.leaf_ends.specs.Within.{IsWithin}
+use Rattle.cspace_layout.specs.Within.{IsWithin}
 use Rattle.flat_laws.proofs.FlatEnds.{strung_of, end_of}
 use Rattle.flat_laws.proofs.FlatLeaves.{few_members, leaf_owned}
 use Rattle.flat_laws.proofs.FewEnds.{flat_in_limits, few_ends}

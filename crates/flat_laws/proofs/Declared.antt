@@ -12,8 +12,8 @@ use Rattle.adl_hierarchy.proofs.Leading.{interface_known, own_export, own_connec
 use Rattle.adl_hierarchy.proofs.PartNames.{names_once}
 use Rattle.adl_hierarchy.proofs.Repeats.{find_once}
 use Rattle.adl_hierarchy.proofs.Whole.{parts_whole}
-use Rattle.numbering.specs.Gather.{IsIn}
-use Rattle.numbering.proofs.Lists.{from_map, found, map_some}
+use Rattle.cam_base.specs.Gather.{IsIn}
+use Rattle.cam_base.proofs.NumberedLists.{from_map, found, map_some}
 
 -- c.j in body k: an instance, and an interface that its component declares
 record IsKnownPort (s : Source) (k : ℕ) (port : Name × Name) : Type 0 where

@@ -4,7 +4,7 @@ use Rattle.adl_meaning.specs.Prelude.{AreNamesSound, End, Source, Strung, connec
 use Rattle.std.proofs.lemmas.List.{length-append}
 use Rattle.cam_base.proofs.Lists.{length-filter_map}
 use Rattle.adl_hierarchy.proofs.Limits.{AreInLimits, in_limits}
-use Rattle.numbering.specs.Gather.{IsIn}
+use Rattle.cam_base.specs.Gather.{IsIn}
 
 pub no_first : {X : Type 0} (a b : Option X) → option_or a b ≡ None → a ≡ None
 no_first None b e = refl

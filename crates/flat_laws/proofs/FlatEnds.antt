@@ -5,9 +5,9 @@ use Rattle.adl_meaning.specs.declared.flat.FlatConnection.{FlatConnection}
 use Rattle.adl_meaning.specs.declared.flat.FlatEnd.{FlatEnd}
 use Rattle.adl_hierarchy.proofs.DomainNames.{leaf_number_is}
 use Rattle.adl_hierarchy.proofs.Joining.{joined}
-use Rattle.component_graph.proofs.Lists.{in_get}
-use Rattle.numbering.proofs.Lists.{get_map, from_filter_map, map_some, from_get_map}
-use Rattle.numbering.specs.Gather.{IsIn}
+use Rattle.adl_hierarchy.proofs.Lists.{in_get}
+use Rattle.cam_base.proofs.NumberedLists.{get_map, from_filter_map, map_some, from_get_map}
+use Rattle.cam_base.specs.Gather.{IsIn}
 
 pub place_in : {X : Type 0} (xs : List X) (x : X) → IsIn x xs → (n : ℕ) × (slice_get xs n ≡ Some x)
 place_in [] x i = absurd i

@@ -11,12 +11,12 @@ use Rattle.adl_hierarchy.specs.PartAt.{part_at}
 use Rattle.adl_hierarchy.proofs.Bodies.{body_number, part_of_body}
 use Rattle.adl_hierarchy.proofs.DomainNames.{domains_are, leaves_of_domain, domain_number_is, domain_found}
 use Rattle.adl_hierarchy.proofs.Leaves.{leaves_stand}
-use Rattle.component_graph.proofs.ComponentNumbers.{numbers_below}
-use Rattle.component_graph.proofs.Lists.{in_get}
-use Rattle.numbering.proofs.Lists.{get_map, at_place, from_get_map, all_in}
+use Rattle.adl_hierarchy.proofs.ComponentNumbers.{numbers_below}
+use Rattle.adl_hierarchy.proofs.Lists.{in_get}
+use Rattle.cam_base.proofs.NumberedLists.{get_map, at_place, from_get_map, all_in}
 use Rattle.adl_hierarchy.proofs.Steps.{part_in}
-use Rattle.numbering.specs.Gather.{IsIn}
-use Rattle.leaf_ends.specs.Members.{members_at, leaf_members, members_of_leaf}
+use Rattle.cam_base.specs.Gather.{IsIn}
+use Rattle.cspace_layout.specs.Members.{members_at, leaf_members, members_of_leaf}
 use Rattle.flat_laws.proofs.MembersAt.{members_there}
 
 -- ---- places

@@ -3,9 +3,9 @@ use Rattle.std.proofs.Common.{◌≡◌, ℕ, Some, refl, ap, subst, ◌∙◌, 
 use Rattle.adl_meaning.specs.Prelude.{Component, Ended, Item, Source, as_component, components, enumerate_from, items_in, items_of, slice_get}
 use Rattle.adl_meaning.specs.declared.item_at.ItemAt.{ItemAt}
 use Rattle.adl_ast.specs.declared.file.Item.TheVariants as items
-use Rattle.numbering.proofs.Lists.{from_map, from_flat_map, from_filter_map, from_enumerate}
-use Rattle.numbering.specs.Gather.{IsIn}
-use Rattle.leaf_ends.specs.Members.{members_of, members_in, items_of_file, members_at}
+use Rattle.cam_base.proofs.NumberedLists.{from_map, from_flat_map, from_filter_map, from_enumerate}
+use Rattle.cam_base.specs.Gather.{IsIn}
+use Rattle.cspace_layout.specs.Members.{members_of, members_in, items_of_file, members_at}
 
 -- an item stands at its place
 pub item_at : (s : Source) (x : ItemAt × Item) → IsIn x (items_of s) → (e : Ended) × (slice_get (items_of_file (slice_get s.files x.0.file)) x.0.item ≡ Some e) × (e.item ≡ x.1)

@@ -7,14 +7,14 @@ use Rattle.adl_meaning.specs.declared.flat.Leaf.{Leaf}
 use Rattle.std.proofs.lemmas.List.{length-map}
 use Rattle.adl_ast.specs.declared.component.Member.TheVariants as members
 use Rattle.adl_ast.specs.declared.file.Item.TheVariants as items
-use Rattle.numbering.specs.Gather.{IsIn}
+use Rattle.cam_base.specs.Gather.{IsIn}
 use Rattle.adl_settings.specs.EndMeaning.{end_setting}
 use Rattle.adl_settings.specs.Joints.{Joint, as_component, as_interface, behind, interface_at, found_at, found_of, found_on, founds_in, joint_at, positioned, positioned_after}
 use Rattle.adl_settings.specs.declared.found.Found.{Found}
 use Rattle.adl_settings.specs.Settled.{end_settings, settled_of}
-use Rattle.component_graph.proofs.Lists.{in_get}
-use Rattle.numbering.proofs.Lists.{get_map}
-use Rattle.leaf_ends.specs.Members.{items_of_file, members_at, members_in, members_of}
+use Rattle.adl_hierarchy.proofs.Lists.{in_get}
+use Rattle.cam_base.proofs.NumberedLists.{get_map}
+use Rattle.cspace_layout.specs.Members.{items_of_file, members_at, members_in, members_of}
 use Rattle.flat_laws.specs.EndSettings.{AreEndsSettled}
 use Rattle.flat_laws.specs.Typed.{AreTyped, IsTypedEnd}
 use Rattle.adl_hierarchy.proofs.Joining.{kept}

@@ -5,17 +5,17 @@ use Rattle.adl_meaning.specs.declared.item_at.ItemAt.{ItemAt}
 use Rattle.std.proofs.lemmas.Bool.{and_parts, or_cases}
 use Rattle.std.proofs.lemmas.List.{length-append}
 use Rattle.std.proofs.lemmas.List.Elements.{All-cons, All-nil}
-use Rattle.grammar.specs.Depth.{deep}
-use Rattle.grammar.specs.Form.{Form, Give, One, Then, Or, Many, As, Starts, Nested}
-use Rattle.grammar.specs.Spelling.{Meaning, Each, Spells}
+use Rattle.cam_base.specs.Depth.{deep}
+use Rattle.cam_base.specs.Form.{Form, Give, One, Then, Or, Many, As, Starts, Nested}
+use Rattle.cam_base.specs.Spelling.{Meaning, Each, Spells}
 use Rattle.adl_ast.specs.Codes.{token_code}
 use Rattle.adl_ast.specs.Forms.{Rule, nested_line, flag_line, import_line, plain_port_line, buf_line, data_line, dataport_line, interface_line, attribute_line, lock_line, composition_line, configuration_line, member_line, member_form, component_line, procedure_line, assembly_line, item_line, ended_line, ended_form, file_line}
 use Rattle.adl_ast.specs.Spelling.{limit, IsSpelledBy}
 use Rattle.adl_ast.specs.declared.file.Item.TheVariants as items
-use Rattle.component_graph.proofs.Lists.{in_get}
-use Rattle.numbering.proofs.Lists.{from_map, from_flat_map, from_enumerate}
+use Rattle.adl_hierarchy.proofs.Lists.{in_get}
+use Rattle.cam_base.proofs.NumberedLists.{from_map, from_flat_map, from_enumerate}
 use Rattle.adl_hierarchy.proofs.Sources.{component_item}
-use Rattle.numbering.specs.Gather.{IsIn}
+use Rattle.cam_base.specs.Gather.{IsIn}
 use Rattle.flat_laws.specs.ShortFiles.{AreFilesShort}
 
 -- ---- forms

@@ -11,7 +11,7 @@ use Rattle.adl_hierarchy.specs.Leads.{AreDotted}
 use Rattle.adl_hierarchy.proofs.Joining.{all_joined, end_numbers_kept}
 use Rattle.adl_types.specs.TypeFaults.{count_of, may_have, first_type_fault}
 use Rattle.adl_types.proofs.Typed.{well_typed}
-use Rattle.component_graph.proofs.Lists.{in_get}
+use Rattle.adl_hierarchy.proofs.Lists.{in_get}
 use Rattle.conn_rules.specs.Ends.{allows, at_most, end_rule}
 use Rattle.conn_rules.specs.Row.{same_role}
 use Rattle.flat_laws.proofs.Counts.{first_counted}

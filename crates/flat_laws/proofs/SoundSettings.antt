@@ -12,7 +12,7 @@ use Rattle.adl_settings.specs.Missing.{missing_values}
 use Rattle.adl_settings.specs.SettingFaults.{first_setting_fault, setting_faults, value_faults}
 use Rattle.adl_settings.specs.SettingTwice.{settings_twice}
 use Rattle.adl_settings.specs.Settled.{leaves_found}
-use Rattle.numbering.proofs.Lists.{none_left, none_right}
+use Rattle.cam_base.proofs.NumberedLists.{none_left, none_right}
 
 pub record AreSettingsSound (s : Source) : Type 0 where
   pub allowed : flat_map bad_in_connection (founds_in (hierarchy_of s) s (flat_of s)) ≡ []

@@ -10,8 +10,8 @@ use Rattle.adl_meaning.specs.declared.settled.EndSettings.{EndSettings}
 use Rattle.adl_settings.specs.EndMeaning.{end_setting}
 use Rattle.adl_settings.specs.Joints.{Joint, found_at, positioned}
 use Rattle.adl_settings.specs.Settled.{settled_of}
-use Rattle.leaf_ends.specs.Lookups.{setting_of}
-use Rattle.leaf_ends.specs.Members.{members_at}
+use Rattle.cspace_layout.specs.Lookups.{setting_of}
+use Rattle.cspace_layout.specs.Members.{members_at}
 
 -- end n of connection k, with all that its settings are found at
 pub record IsSettledEnd (s : Source) (k n : ℕ) (c : FlatConnection) (e : FlatEnd) : Type 0 where

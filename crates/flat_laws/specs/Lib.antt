@@ -9,4 +9,4 @@ pub use Rattle.adl_meaning.specs.Hierarchy
 pub use Rattle.adl_meaning.specs.JoinFaults
 pub use Rattle.adl_meaning.specs.NameFaults
 pub use Rattle.adl_types.specs.TypeFaults
-pub use Rattle.leaf_ends.specs.Within
+pub use Rattle.cspace_layout.specs.Within

@@ -2,7 +2,7 @@
 use Rattle.std.specs.Prelude.{◌≤◌, List, length}
 use Rattle.adl_ast.specs.Spelling.{IsFileSpelled}
 use Rattle.adl_meaning.specs.Prelude.{Seen, Source, SourceFile}
-use Rattle.numbering.specs.Gather.{IsIn}
+use Rattle.cam_base.specs.Gather.{IsIn}
 
 abbrev pub AreFilesShort : Source → Type 0
 AreFilesShort s = (f : SourceFile) → IsIn f s.files → (ts : List Seen) × IsFileSpelled f.tree ts × (length ts ≤ 1048576)

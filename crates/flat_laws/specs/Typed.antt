@@ -9,7 +9,7 @@ use Rattle.adl_meaning.specs.declared.flat.Leaf.{Leaf}
 use Rattle.adl_ast.specs.declared.component.Member.TheVariants as members
 use Rattle.adl_types.specs.TypeFaults.{is_kind_of}
 use Rattle.conn_rules.specs.Ends.{end_rule}
-use Rattle.leaf_ends.specs.Members.{members_at}
+use Rattle.cspace_layout.specs.Members.{members_at}
 
 pub record IsTypedEnd (s : Source) (flat : Flat) (c : FlatConnection) (e : FlatEnd) : Type 0 where
   pub leaf : Leaf

@@ -8,7 +8,7 @@ ghost use Rattle.flat_laws.specs.EndSettings.{AreEndsSettled};
 ghost use Rattle.flat_laws.specs.ShortFiles.{AreFilesShort};
 ghost use Rattle.flat_laws.specs.Small.{IsSmall};
 ghost use Rattle.flat_laws.specs.Typed.{AreTyped};
-ghost use Rattle.leaf_ends.specs.Within.{IsWithin};
+ghost use Rattle.cspace_layout.specs.Within.{IsWithin};
 ghost use Rattle.std.specs.Prelude.{◌≡◌, None};
 
 /// Where no limit of the hierarchy is passed, and no component has too many members, all numbers of

@@ -8,3 +8,9 @@ pub mod OwnSteps
 pub mod Replying
 pub mod Separated
 pub mod Sides
+pub mod Staying
+pub mod ActsLet
+pub mod Commanding
+pub mod Lessening
+pub mod StepsLet
+pub mod Writes

@@ -1,7 +1,7 @@
 -- An act by an object that is not of the set changes no object of the set.
 use Rattle.std.proofs.Common.{◌≡◌, ◌∷◌, ℕ, Bool, false, List, [], refl, sym, ◌∙◌, inr}
-use Rattle.auth_kinds.specs.declared.authority.Authority.TheVariants.{Receive, SyncSend, AsyncSend}
-use Rattle.auth_kinds.specs.declared.edge.Edge.{Edge}
+use Rattle.cap_model.specs.declared.authority.Authority.TheVariants.{Receive, SyncSend, AsyncSend}
+use Rattle.cap_model.specs.declared.edge.Edge.{Edge}
 use Rattle.cap_model.specs.Auth.{of_irq}
 use Rattle.cap_model.specs.declared.kind.Kind.TheVariants as kinds
 use Rattle.cap_model.specs.declared.spec.Spec.{Spec}

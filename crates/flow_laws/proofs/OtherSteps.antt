@@ -1,7 +1,7 @@
 -- A step of a thread that is not of the set changes no object of the set.
 use Rattle.std.proofs.Common.{◌≡◌, ℕ, Bool, true, false, List, Option, Some, None, refl, sym, ◌∙◌}
-use Rattle.auth_kinds.specs.declared.authority.Authority.TheVariants.{Control, Handle}
-use Rattle.auth_kinds.specs.declared.edge.Edge.{Edge}
+use Rattle.cap_model.specs.declared.authority.Authority.TheVariants.{Control, Handle}
+use Rattle.cap_model.specs.declared.edge.Edge.{Edge}
 use Rattle.cap_machine.specs.Effects.{grown, without, grown_at, waiting, with_pending, added, dropped, replied, released}
 use Rattle.cap_machine.specs.StepTable.{StepTo}
 use Rattle.cap_machine.specs.declared.step.Step.{Step}

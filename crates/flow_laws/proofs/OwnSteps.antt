@@ -1,8 +1,8 @@
 -- A step of a thread of the set looks only at objects of the set, so it can be done in a state that is alike there, and
 -- leads to states that are alike there.
 use Rattle.std.proofs.Common.{◌≡◌, ℕ, Bool, true, false, List, [], ◌∷◌, ◌++◌, Some, None, refl, sym, ◌∙◌, set}
-use Rattle.auth_kinds.specs.declared.authority.Authority.TheVariants.{Control}
-use Rattle.auth_kinds.specs.declared.edge.Edge.{Edge}
+use Rattle.cap_model.specs.declared.authority.Authority.TheVariants.{Control}
+use Rattle.cap_model.specs.declared.edge.Edge.{Edge}
 use Rattle.cap_machine.specs.Effects.{grown_at, with_pending, with_root, with_space, read_write, added, dropped, called, replied, saved, released}
 use Rattle.cap_machine.specs.StepTable.{Peer, StepTo}
 use Rattle.cap_machine.specs.declared.step.Step.{Step}

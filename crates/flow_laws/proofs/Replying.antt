@@ -4,7 +4,7 @@ use Rattle.std.proofs.Common.{◌≡◌, ℕ, ◌==◌, Bool, true, false, not, 
 use Rattle.std.proofs.lemmas.List.{length-map, length-set}
 use Rattle.std.proofs.lemmas.List.Elements.{All-contains, All-filter, All-push, Contains-get_or}
 use Rattle.std.specs.List.{All, Contains}
-use Rattle.auth_kinds.specs.declared.edge.Edge.{Edge}
+use Rattle.cap_model.specs.declared.edge.Edge.{Edge}
 use Rattle.cap_machine.proofs.Applied.{read_written}
 use Rattle.cap_machine.specs.Effects.{grown, without, grown_at, waiting, with_pending, added, dropped, called, replied, released}
 use Rattle.cap_machine.specs.Runs.{Run}

@@ -1,6 +1,6 @@
 -- Acts one after the other: those of the set can be done alone, and lead to a world that agrees on the set.
 use Rattle.std.proofs.Common.{◌≡◌, ℕ, Bool, true, false, List, [], ◌∷◌, refl, sym, subst}
-use Rattle.auth_kinds.specs.declared.edge.Edge.{Edge}
+use Rattle.cap_model.specs.declared.edge.Edge.{Edge}
 use Rattle.cap_model.specs.declared.spec.Spec.{Spec}
 use Rattle.cert_check.specs.Valid.{Stays}
 use Rattle.flow_model.proofs.OneWorld.{one_world}

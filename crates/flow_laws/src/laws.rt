@@ -1,6 +1,6 @@
 //! The claims over every run of acts. These functions do nothing: what they ensure is the law.
 
-ghost use Rattle.auth_kinds.specs.declared.edge.Edge.{Edge};
+ghost use Rattle.cap_model.specs.declared.edge.Edge.{Edge};
 ghost use Rattle.cap_model.specs.declared.spec.Spec.{Spec};
 ghost use Rattle.cert_check.specs.Valid.{Stays, Valid};
 ghost use Rattle.flow_laws.specs.Separates.{Separates};

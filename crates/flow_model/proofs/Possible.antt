@@ -1,7 +1,7 @@
 -- The acts of the example, one by one.
 use Rattle.std.proofs.Common.{◌≡◌, ℕ, Bool, true, false, List, [], ◌∷◌, Option, Some, None, refl, sym, subst, inl, inr, arith}
 use Rattle.std.proofs.lemmas.List.Elements.{Contains-push}
-use Rattle.auth_kinds.specs.declared.authority.Authority.TheVariants.{Read, Write}
+use Rattle.cap_model.specs.declared.authority.Authority.TheVariants.{Read, Write}
 use Rattle.cap_machine.specs.Effects.{with_space, read_write, added, called, dropped}
 use Rattle.cap_machine.specs.Sample.{sample, all}
 use Rattle.cap_machine.specs.StepTable.{Acts, Peer}

@@ -1,11 +1,11 @@
 //! Runs in memory: `flow POLICY FROM TO` and `flows POLICY`, with the statuses and lines of `docs/views.md`.
 
-ghost use Rattle.auth_kinds.specs.Policies.{NumbersDiffer};
+ghost use Rattle.cap_model.specs.Policies.{NumbersDiffer};
 
-use auth_kinds::Policy;
 use cam_base::{List, NoMemory, Refused, TextFault};
-use flow_text::{Told, flows_text, tell_flow};
+use cap_model::Policy;
 use itoa::Buffer;
+use label_flow::{Told, flows_text, tell_flow};
 use policy_text::read_policy;
 use row_texts::NamedText;
 use std::alloc::Global;

@@ -11,7 +11,7 @@ use Rattle.adl_import.specs.Sources.{AreFilesOf}
 use Rattle.front_end.proofs.LoadedFew.{tokens_within}
 use Rattle.cam_io.specs.Contents.{Contents}
 use Rattle.flat_laws.specs.ShortFiles.{AreFilesShort}
-use Rattle.numbering.proofs.Lists.{split_in}
+use Rattle.cam_base.proofs.NumberedLists.{split_in}
 
 each_short : (contents : Contents) (s : Source) → AreFilesOf contents s.files → AreFilesShort s
 each_short contents s each f i =

@@ -9,9 +9,9 @@ use Rattle.adl_import.specs.declared.error.LoadError.TheVariants as load
 use Rattle.adl_import.proofs.Unique.{loaded_one}
 use Rattle.adl_settings.specs.Settled.{settled_of}
 use Rattle.arch_policy.specs.Labels.{label_numbers}
-use Rattle.auth_kinds.specs.Tables.{has}
-use Rattle.auth_kinds.specs.declared.policy.Policy.{Policy}
-use Rattle.auth_kinds.proofs.TableMembers.{one_table}
+use Rattle.cap_model.specs.Tables.{has}
+use Rattle.cap_model.specs.declared.policy.Policy.{Policy}
+use Rattle.cap_model.proofs.TableMembers.{one_table}
 use Rattle.front_end.specs.First.{first_front_fault, first_list_fault, name_of_file}
 use Rattle.front_end.specs.Fronts.{IsAssigned, IsFront, IsFrontOf, IsMeaning, IsMeaningOf, IsMeant}
 use Rattle.front_end.specs.Refusals.{IsFaulted, yields}

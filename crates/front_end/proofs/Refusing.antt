@@ -15,8 +15,8 @@ use Rattle.arch_policy.specs.Labels.{label_lines, label_numbers}
 use Rattle.arch_policy.specs.Policies.{IsPolicyOf, first_edge_fault}
 use Rattle.arch_policy.specs.Tables.{Tables, tables_of}
 use Rattle.arch_policy.specs.declared.policy.Assigned.{Assigned}
-use Rattle.auth_kinds.specs.declared.policy.Policy.{Policy}
-use Rattle.auth_kinds.specs.Tables.{IsSorted}
+use Rattle.cap_model.specs.declared.policy.Policy.{Policy}
+use Rattle.cap_model.specs.Tables.{IsSorted}
 use Rattle.front_end.specs.First.{first_front_fault, first_list_fault, name_of_file, source_tables}
 use Rattle.flat_laws.proofs.FewEnds.{no_first}
 use Rattle.front_end.specs.Fronts.{IsAssigned, IsFront, IsFrontOf, IsMeaning, IsMeaningOf, IsMeant}

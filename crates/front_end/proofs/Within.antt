@@ -10,7 +10,7 @@ use Rattle.flat_laws.proofs.Small.{small}
 use Rattle.flat_laws.specs.Small.{IsSmall}
 use Rattle.front_end.proofs.Sound.{faultless}
 use Rattle.front_end.specs.Steps.{IsSound}
-use Rattle.leaf_ends.specs.Within.{IsWithin}
+use Rattle.cspace_layout.specs.Within.{IsWithin}
 
 module _ (s : Source) (flat : Flat) (settled : Settled) (sound : IsSound s flat settled) where
   pub sound_within : IsWithin s flat

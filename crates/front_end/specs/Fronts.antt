@@ -8,8 +8,8 @@ use Rattle.adl_import.specs.Loaded.{IsLoaded}
 use Rattle.adl_settings.specs.Settled.{settled_of}
 use Rattle.arch_policy.specs.Labels.{label_lines, label_numbers}
 use Rattle.arch_policy.specs.Policies.{IsPolicyOf}
-use Rattle.auth_kinds.specs.Tables.{IsSorted}
-use Rattle.auth_kinds.specs.declared.policy.Policy.{Policy}
+use Rattle.cap_model.specs.Tables.{IsSorted}
+use Rattle.cap_model.specs.declared.policy.Policy.{Policy}
 use Rattle.cam_io.specs.Contents.{Contents}
 use Rattle.front_end.specs.First.{first_front_fault, first_list_fault, source_tables}
 use Rattle.front_end.specs.Refusals.{Refuses}

@@ -11,7 +11,7 @@ ghost use Rattle.front_end.specs.Steps.{IsSound, IsWhole};
 ghost use Rattle.front_end.specs.declared.error.BuildError.{BuildError as Refusal};
 ghost use Rattle.front_end.specs.declared.phases.FrontEnd.{FrontEnd as Assigned};
 ghost use Rattle.front_end.specs.declared.phases.Meaning.{Meaning as Meant};
-ghost use Rattle.leaf_ends.specs.Within.{IsWithin};
+ghost use Rattle.cspace_layout.specs.Within.{IsWithin};
 ghost use Rattle.std.specs.Prelude.{◌≡◌, ◌+◌, ◌<◌, ◌^◌, ℕ, false, length, List as Seq, Option, Some, Result, Ok};
 
 /// In given contents there is one answer of `meaning_of` and one of `front`, aside from failed reads and want of memory.

@@ -19,12 +19,12 @@ use adl_import::load;
 use adl_meaning::{Flat, Settled};
 use adl_names::check_names;
 use adl_program::{Program, program_of};
-use adl_settle::settle_program;
+use adl_settings::settle_program;
 use adl_types::type_fault;
 use arch_policy::{LabelNumbers, policy_of};
-use auth_kinds::Policy;
 use cam_base::{Fault, NoMemory, Refused, Text};
 use cam_io::Files;
+use cap_model::Policy;
 use std::alloc::Global;
 
 /// A source and what it means: its flat system, and the settings of that.

@@ -18,8 +18,8 @@ use Rattle.adl_hierarchy.proofs.Joining.{all_joined, end_numbers_kept, ends_kept
 use Rattle.adl_hierarchy.proofs.Leading.{is_there}
 use Rattle.adl_hierarchy.proofs.Leaves.{leaves_stand, paths_are_leaves}
 use Rattle.adl_hierarchy.proofs.Once.{leaf_paths_once}
-use Rattle.numbering.proofs.Gathered.{in_place, place_of}
-use Rattle.numbering.proofs.Lists.{at_place, below, from_get_map, from_map, get_map, in_map}
+use Rattle.cam_base.proofs.Gathered.{in_place, place_of}
+use Rattle.cam_base.proofs.NumberedLists.{at_place, below, from_get_map, from_map, get_map, in_map}
 use Rattle.front_laws.specs.ByHierarchy.{AreConnections, AreDomains, AreLeaves, IsByHierarchy, IsConnectionBefore, IsDomainBefore, IsDomainOf, IsEndOf, IsInside, IsLeafOf, IsPathBefore, IsWireOf}
 use Rattle.front_laws.specs.InOrder.{InOrder}
 use Rattle.front_laws.proofs.DomainOrder.{IsKeyBefore, domain_leaves_rise, domains_in_order}

@@ -5,8 +5,8 @@ use Rattle.adl_meaning.specs.Lists.{firsts_after}
 use Rattle.adl_meaning.specs.Prelude.{Hierarchy, IsIn, Path, domain_of, domains, enumerate_from, filter, flat_domain, is_hardware, is_inside, leaves, same_path, slice_get}
 use Rattle.adl_hierarchy.proofs.DomainNames.{same_path-Decides}
 use Rattle.adl_hierarchy.proofs.Places.{from_filter}
-use Rattle.numbering.proofs.Gathered.{get_behind, split_get}
-use Rattle.numbering.proofs.Lists.{from_enumerate}
+use Rattle.cam_base.proofs.Gathered.{get_behind, split_get}
+use Rattle.cam_base.proofs.NumberedLists.{from_enumerate}
 use Rattle.front_laws.specs.InOrder.{InOrder}
 use Rattle.front_laws.proofs.Ordered.{order_map}
 

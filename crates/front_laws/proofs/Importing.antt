@@ -9,8 +9,8 @@ use Rattle.adl_hierarchy.specs.Once.{IsOnce}
 use Rattle.adl_hierarchy.proofs.Places.{from_filter, in_filter, once_filter}
 use Rattle.adl_import.specs.Imports.{imports_of, is_built_in, name_given}
 use Rattle.adl_import.specs.Sources.{IsSource, Meeting, firsts, meeting_at, meeting_of, meetings_of, met, root_place}
-use Rattle.numbering.specs.Gather.{IsIn}
-use Rattle.numbering.proofs.Lists.{from_any, from_flat_map, from_map, in_flat_map, in_map, split_in}
+use Rattle.cam_base.specs.Gather.{IsIn}
+use Rattle.cam_base.proofs.NumberedLists.{from_any, from_flat_map, from_map, in_flat_map, in_map, split_in}
 use Rattle.front_laws.specs.Importing.{AreReached, ImportsName, IsMetBefore, IsReached, by_import, names_met, the_root}
 use Rattle.front_laws.specs.InOrder.{InOrder}
 use Rattle.front_laws.proofs.Ordered.{order_map, order_weaken}

@@ -5,7 +5,7 @@ use Rattle.adl_meaning.specs.Prelude.{AreNamesSound, Hierarchy, IsIn, Part, Path
 use Rattle.adl_hierarchy.specs.Once.{IsOnce}
 use Rattle.adl_hierarchy.proofs.PartNames.{names_once}
 use Rattle.adl_hierarchy.proofs.Repeats.{find_once}
-use Rattle.numbering.proofs.Lists.{from_flat_map, from_map}
+use Rattle.cam_base.proofs.NumberedLists.{from_flat_map, from_map}
 use Rattle.front_laws.specs.ByHierarchy.{IsPathBefore, IsWireBefore, at_names, by_instances, deeper, in_one, outer_first, within_one}
 use Rattle.front_laws.specs.InOrder.{InOrder, IsBefore}
 use Rattle.front_laws.proofs.Ordered.{all_before, before_map, order_append, order_flat_map, order_map, order_weaken}

@@ -14,3 +14,11 @@ pub mod ToldFaults
 pub mod TypesByHierarchy
 pub mod UnknownNames
 pub mod UnknownWords
+pub mod Devices
+pub mod ElfFaults
+pub mod First
+pub mod Overlaps
+pub mod Places
+pub mod Placing
+pub mod RegionTexts
+pub mod StepFaults

@@ -7,8 +7,8 @@ use Rattle.adl_ast.specs.declared.file.Item.TheVariants as items
 use Rattle.adl_meaning.specs.declared.item_at.ItemAt.{ItemAt}
 use Rattle.adl_meaning.specs.Export.{ends_in, inner_of, is_misfit, same_interface, same_port, unled_end, unled_ends}
 use Rattle.adl_meaning.specs.Prelude.{Composition, End, Export, Fault, IsIn, Item, Known, Name, Port, Source, bytes_eq, compositions, connections_in, differs, export_fault, exports_in, flat_map, held_as, interface_at, is_none, is_port, is_unled, items_of, known_in, known_of, misfit_exports, misfits_after, misfits_in_composition, misfits_in_item, option_and_then, option_map_or, port_of, where_true}
-use Rattle.numbering.proofs.Gathered.{in_append, in_left, in_right}
-use Rattle.numbering.proofs.Lists.{from_flat_map, in_flat_map}
+use Rattle.cam_base.proofs.Gathered.{in_append, in_left, in_right}
+use Rattle.cam_base.proofs.NumberedLists.{from_flat_map, in_flat_map}
 use Rattle.front_laws.specs.MisfitExports.{IsMisfit, IsMisfitIn, IsSamePort, IsUnled, an_end, an_export, in_an_assembly, port_again, target_again, unled, unlike_target}
 use Rattle.front_laws.specs.Standing.{HasComposition, HasItem, of_assembly, of_component}
 use Rattle.front_laws.specs.UnknownWords.{Holding, Types}

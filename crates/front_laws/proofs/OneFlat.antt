@@ -16,8 +16,8 @@ use Rattle.adl_hierarchy.specs.PartAt.{part_at}
 use Rattle.adl_hierarchy.proofs.Connections.{connections_stand}
 use Rattle.adl_hierarchy.proofs.Joining.{joins_joined}
 use Rattle.adl_hierarchy.proofs.PartNames.{names_once, wires_once}
-use Rattle.numbering.proofs.Gathered.{in_place}
-use Rattle.numbering.proofs.Lists.{from_get_map, from_map, get_map, in_map}
+use Rattle.cam_base.proofs.Gathered.{in_place}
+use Rattle.cam_base.proofs.NumberedLists.{from_get_map, from_map, get_map, in_map}
 use Rattle.front_laws.specs.ByHierarchy.{AreConnections, AreDomains, AreLeaves, IsByHierarchy, IsConnectionBefore, IsDomainBefore, IsDomainOf, IsEndOf, IsInside, IsLeafOf, IsPathBefore, IsWireBefore, IsWireOf}
 use Rattle.front_laws.proofs.ByHierarchy.{domain_of_is}
 use Rattle.front_laws.proofs.OneOrder.{once_place, paths_one_way, same_order, wires_one_way}

@@ -2,7 +2,7 @@
 use Rattle.std.proofs.Common.{◌≡◌, ◌≤◌, ◌+◌, ◌⊎◌, ℕ, zero, suc, List, [], ◌∷◌, ◌++◌, length, map, Some, refl, sym, ◌∙◌, ap, subst, arith, inl, inr}
 use Rattle.adl_meaning.specs.Prelude.{Hierarchy, IsIn, Name, Part, Path, body, name_of, part_named, slice_get, wires_of}
 use Rattle.adl_hierarchy.specs.Once.{IsOnce}
-use Rattle.numbering.proofs.Gathered.{get_behind, in_place}
+use Rattle.cam_base.proofs.Gathered.{get_behind, in_place}
 use Rattle.front_laws.specs.ByHierarchy.{IsPathBefore, IsWireBefore, at_names, by_instances, deeper, in_one, outer_first, within_one}
 use Rattle.front_laws.specs.InOrder.{InOrder, IsBefore}
 

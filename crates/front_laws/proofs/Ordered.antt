@@ -2,9 +2,9 @@
 use Rattle.std.proofs.Common.{◌≡◌, List, [], ◌∷◌, ◌++◌, map, refl, sym, ◌∙◌, ap, subst, append_assoc, inl, inr}
 use Rattle.std.proofs.lemmas.List.{map-append}
 use Rattle.std.specs.List.{flat_map}
-use Rattle.numbering.specs.Gather.{IsIn}
-use Rattle.numbering.proofs.Gathered.{in_append}
-use Rattle.numbering.proofs.Lists.{from_flat_map, from_map, split_in}
+use Rattle.cam_base.specs.Gather.{IsIn}
+use Rattle.cam_base.proofs.Gathered.{in_append}
+use Rattle.cam_base.proofs.NumberedLists.{from_flat_map, from_map, split_in}
 use Rattle.front_laws.specs.InOrder.{InOrder, IsBefore}
 
 pub order_append : {X : Type 0} (R : X → X → Type 0) (xs ys : List X) → InOrder R xs → InOrder R ys → ((x y : X) → IsIn x xs → IsIn y ys → R x y) → InOrder R (xs ++ ys)

@@ -15,8 +15,8 @@ use Rattle.cam_base.specs.declared.code.Code.TheVariants.{BadPath, Limit}
 use Rattle.cam_base.specs.declared.place.Fault.{Fault}
 use Rattle.cam_base.specs.declared.place.Place.{Place}
 use Rattle.cam_io.specs.Contents.{Contents}
-use Rattle.numbering.specs.Gather.{IsIn}
-use Rattle.numbering.proofs.Lists.{from_any, in_map}
+use Rattle.cam_base.specs.Gather.{IsIn}
+use Rattle.cam_base.proofs.NumberedLists.{from_any, in_map}
 use Rattle.front_laws.specs.RefusedImports.{IsOneMore, IsRefusedImport, IsTaken, met_before, of_built_in_name, of_met_name, of_new_name}
 use Rattle.front_laws.proofs.Importing.{from_firsts, in_firsts}
 

@@ -9,8 +9,8 @@ use Rattle.cam_base.specs.declared.code.Code.TheVariants as code
 use Rattle.adl_meaning.specs.declared.item_at.ItemAt.{ItemAt}
 use Rattle.adl_meaning.specs.Duplicate.{methods, repeated_params}
 use Rattle.adl_meaning.specs.Prelude.{Component, Composition, Fault, Id, IsIn, Item, Known, Name, Place, Source, again, at_keyword, at_word, bytes_eq, components, compositions, configurations, declared_in, duplicates, duplicates_in_component, duplicates_in_composition, duplicates_in_item, duplicates_in_procedure, flat_map, held_in, items_of, known_of, procedures, repeats, repeats_after, where_true}
-use Rattle.numbering.proofs.Gathered.{in_append, in_left, in_right}
-use Rattle.numbering.proofs.Lists.{from_flat_map, from_map, in_flat_map, in_map}
+use Rattle.cam_base.proofs.Gathered.{in_append, in_left, in_right}
+use Rattle.cam_base.proofs.NumberedLists.{from_flat_map, from_map, in_flat_map, in_map}
 use Rattle.front_laws.specs.Repeated.{IsAgain, IsDuplicate, MustDiffer, a_composition, a_configuration, a_name, of_components, of_composition, of_members, of_methods, of_params, of_procedures}
 use Rattle.front_laws.specs.Standing.{HasComposition, HasItem, IsLater, of_assembly, of_component}
 use Rattle.front_laws.proofs.Tested.{from_true, in_true}

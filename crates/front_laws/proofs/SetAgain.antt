@@ -4,8 +4,8 @@ use Rattle.std.proofs.lemmas.Bool.{and_parts, or_cases, or_left, or_right}
 use Rattle.std.proofs.lemmas.Slice.Eq.{bytes_eq-Decides}
 use Rattle.adl_meaning.specs.Prelude.{Body, Fault, Hierarchy, IsIn, Setting, body, bytes_eq, enumerate_from, last_name, path_of, same_path, settings_of, slice_get, where_true}
 use Rattle.adl_hierarchy.proofs.DomainNames.{same_path-Decides}
-use Rattle.numbering.proofs.Gathered.{in_append, in_left, in_right}
-use Rattle.numbering.proofs.Lists.{from_enumerate, from_flat_map, in_enumerate, in_flat_map}
+use Rattle.cam_base.proofs.Gathered.{in_append, in_left, in_right}
+use Rattle.cam_base.proofs.NumberedLists.{from_enumerate, from_flat_map, in_enumerate, in_flat_map}
 use Rattle.front_laws.specs.SetAgain.{IsSetAgain, IsSettingTwice}
 use Rattle.adl_settings.specs.SettingTwice.{Met, repeated_after, repeated_in, setting_twice, settings_twice}
 use Rattle.front_laws.proofs.Tested.{from_true, in_true}

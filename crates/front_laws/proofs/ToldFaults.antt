@@ -7,7 +7,7 @@ use Rattle.adl_meaning.specs.SecondAssembly.{second_assemblies}
 use Rattle.adl_meaning.specs.Prelude.{AreNamesSound, Fault, IsIn, Source, duplicates, hierarchy_of, misfit_exports, recursive_types, unknown_names}
 use Rattle.adl_meaning.proofs.Least.{first_of, none_stands}
 use Rattle.adl_types.specs.TypeFaults.{first_type_fault, type_faults}
-use Rattle.numbering.proofs.Gathered.{in_append, in_left, in_right}
+use Rattle.cam_base.proofs.Gathered.{in_append, in_left, in_right}
 use Rattle.front_laws.specs.ToldFaults.{IsNameFault, IsTold, composite_body, holds_itself, misfit_export, name_again, second_assembly, unknown_name, without_assembly}
 use Rattle.front_laws.specs.TypesByHierarchy.{IsTypeFault}
 use Rattle.front_laws.proofs.MisfitExports.{from_misfits, in_misfits}

@@ -13,8 +13,8 @@ use Rattle.adl_hierarchy.proofs.PartsAt.{at_part}
 use Rattle.adl_program.specs.LeafInterfaces.{LeafInterface, leaf_at, leaf_by, leaf_in, leaf_of}
 use Rattle.adl_types.specs.TypeFaults.{agree, at_end, body_faults, end_faults, faults_below, first_leaf, has_one_type, is_kind_of, is_size, may_have, same_type, size_faults, type_faults, wire_faults}
 use Rattle.conn_rules.specs.Ends.{end_rule}
-use Rattle.numbering.proofs.Gathered.{in_append, in_left, in_right}
-use Rattle.numbering.proofs.Lists.{from_flat_map, in_flat_map}
+use Rattle.cam_base.proofs.Gathered.{in_append, in_left, in_right}
+use Rattle.cam_base.proofs.NumberedLists.{from_flat_map, in_flat_map}
 use Rattle.front_laws.specs.TypesByHierarchy.{HasWire, IsTypeFault, Means, another_count, another_kind, another_type, no_size}
 use Rattle.front_laws.proofs.Tested.{from_true, in_true}
 

@@ -2,7 +2,7 @@
 use Rattle.std.proofs.Common.{◌≡◌, ◌<◌, false, List, [], ◌∷◌, ◌++◌, length, Option, Some, None, is_some, refl, sym, ◌∙◌, ap, subst, append_assoc, arith, inl, inr}
 use Rattle.adl_meaning.specs.Unknown.{Scope, behind, inside, scope_behind, scope_in_composition, scope_in_group, scope_of_held, scope_of_known, unknown, unknown_group, unknown_in_setting, unknown_inner, unknown_last, unknown_word, untold, within}
 use Rattle.adl_meaning.specs.Prelude.{Fault, Held, Id, Instance, IsIn, Known, Name, a_connection, a_group, an_instance}
-use Rattle.numbering.proofs.Gathered.{in_append, in_left, in_right}
+use Rattle.cam_base.proofs.Gathered.{in_append, in_left, in_right}
 use Rattle.front_laws.specs.UnknownWords.{Ends, Holding, IsInFront, IsUnknownIn, IsUnknownWord, Leads, NamesInstance, Types, a_group_alone, alone, at_connection, at_leaf, behind_an_end, here, in_a_group, inwards, unheld, unheld_in_group}
 use Rattle.front_laws.proofs.Tested.{from_false, in_false}
 

@@ -8,7 +8,7 @@ use Rattle.adl_ast.specs.declared.source.SourceFile.{SourceFile}
 use Rattle.adl_hierarchy.specs.Once.{IsOnce}
 use Rattle.adl_import.specs.Imports.{imports_of, is_built_in, name_given}
 use Rattle.adl_import.specs.Sources.{meetings_of}
-use Rattle.numbering.specs.Gather.{IsIn}
+use Rattle.cam_base.specs.Gather.{IsIn}
 use Rattle.front_laws.specs.InOrder.{InOrder}
 
 -- the file has an import that gives the name

@@ -1,6 +1,6 @@
 -- Lists in order.
 use Rattle.std.specs.Prelude.{◌≡◌, List, [], ◌∷◌, ◌++◌}
-use Rattle.numbering.specs.Gather.{IsIn}
+use Rattle.cam_base.specs.Gather.{IsIn}
 
 -- each element stands so to each behind it
 abbrev pub InOrder : {X : Type 0} → (X → X → Type 0) → List X → Type 0

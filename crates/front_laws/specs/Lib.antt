@@ -10,3 +10,7 @@ pub mod ToldFaults
 pub mod TypesByHierarchy
 pub mod UnknownNames
 pub mod UnknownWords
+pub mod ElfFaults
+pub mod PlannedMemory
+pub mod ReadTexts
+pub mod StepFaults

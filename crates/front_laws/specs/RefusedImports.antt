@@ -9,7 +9,7 @@ use Rattle.adl_import.specs.Sources.{Meeting, files_limit, firsts, meeting_of}
 use Rattle.adl_import.specs.Turns.{fault_at}
 use Rattle.cam_base.specs.declared.code.Code.TheVariants.{BadPath, Limit}
 use Rattle.cam_base.specs.declared.place.Fault.{Fault}
-use Rattle.numbering.specs.Gather.{IsIn}
+use Rattle.cam_base.specs.Gather.{IsIn}
 
 -- what is met in front of an import
 abbrev pub met_before : List ℕ → List ℕ → List Meeting → List Import → List Meeting

@@ -6,3 +6,4 @@ pub mod Meeting
 pub mod Passed
 pub mod Searching
 pub mod Turning
+pub mod Growing

@@ -4,7 +4,7 @@ use Rattle.std.proofs.lemmas.List.{map-append, take_more}
 use Rattle.std.proofs.lemmas.List.Elements.{Contains-push_cases}
 use Rattle.std.proofs.lemmas.Option.{get_or_from_slice_get, slice_get_within}
 use Rattle.std.specs.List.{Contains}
-use Rattle.auth_kinds.specs.declared.edge.Edge.{Edge}
+use Rattle.cap_model.specs.declared.edge.Edge.{Edge}
 use Rattle.label_flow.specs.Edges.{AreBelow, turned}
 
 taken : (table : List Edge) (at : ℕ) (e : Edge) → slice_get table at ≡ Some e → take (at + 1) table ≡ take at table ++ e ∷ []

@@ -6,7 +6,7 @@ use Rattle.std.proofs.lemmas.List.Sums.{sum_by-cons}
 use Rattle.std.proofs.lemmas.Option.{slice_get_within, slice_get_read, get_or_from_slice_get}
 use Rattle.std.specs.List.{Contains, count_by}
 use Rattle.std.specs.Option.{is_some, is_none}
-use Rattle.auth_kinds.specs.declared.edge.Edge.{Edge}
+use Rattle.cap_model.specs.declared.edge.Edge.{Edge}
 use Rattle.flow_model.specs.Flow.{Flows}
 use Rattle.label_flow.proofs.Meeting.{got_left, one_at, placed_set, stays_placed, count_less, met_more}
 use Rattle.label_flow.proofs.Passed.{at_contains, passed_is, passes_only, flows_pass}

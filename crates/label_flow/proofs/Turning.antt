@@ -3,7 +3,7 @@ use Rattle.std.proofs.Common.{◌≡◌, ◌<◌, ◌≤◌, ◌⊎◌, ◌↔�
 use Rattle.std.proofs.lemmas.Option.{slice_get-map}
 use Rattle.std.specs.List.{Contains}
 use Rattle.std.specs.Option.{is_some, option_map}
-use Rattle.auth_kinds.specs.declared.edge.Edge.{Edge}
+use Rattle.cap_model.specs.declared.edge.Edge.{Edge}
 use Rattle.flow_model.specs.Flow.{Flows, IsClosed}
 use Rattle.label_flow.proofs.Passed.{at_contains, chain_more, flows_pass, none_apart}
 use Rattle.label_flow.proofs.Searching.{contains_at, ends_apart}

@@ -3,7 +3,7 @@
 -- to influence a label.
 use Rattle.std.specs.Prelude.{◌≡◌, ◌≤◌, ◌↔◌, ℕ, Bool, true, false, List, [], ◌∷◌, length, Option, Some, None}
 use Rattle.std.specs.List.{Contains}
-use Rattle.auth_kinds.specs.declared.edge.Edge.{Edge}
+use Rattle.cap_model.specs.declared.edge.Edge.{Edge}
 use Rattle.flow_model.specs.Flow.{goes_along, goes_against, IsClosed}
 
 -- by this edge something passes from l to m

@@ -1,7 +1,7 @@
 -- Edges turned round, and edges whose labels are all below a number.
 use Rattle.std.specs.Prelude.{◌<◌, ℕ, List}
 use Rattle.std.specs.List.{Contains}
-use Rattle.auth_kinds.specs.declared.edge.Edge.{Edge}
+use Rattle.cap_model.specs.declared.edge.Edge.{Edge}
 
 -- the same authority, from the label that the edge goes to: what passes by the edge from l to m passes by this one from m to l
 abbrev pub turned : Edge → Edge

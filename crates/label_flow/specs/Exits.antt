@@ -1,7 +1,7 @@
 -- Words for the contracts of private functions alone: the edges at each label, by their places among all edges.
 use Rattle.std.specs.Prelude.{◌≡◌, ◌<◌, ℕ, List, [], ◌∷◌, ◌++◌, length, slice_get, slice_set, slice_index_or, Some, suc, zero}
 use Rattle.std.specs.List.{Contains}
-use Rattle.auth_kinds.specs.declared.edge.Edge.{Edge}
+use Rattle.cap_model.specs.declared.edge.Edge.{Edge}
 
 abbrev pub exits_of : List (List ℕ) → ℕ → List ℕ
 exits_of exits l = slice_index_or exits l []

@@ -9,8 +9,8 @@ ghost use Rattle.std.specs.Prelude.{◌≡◌, ◌<◌, length, IfOk};
 use crate::edges::{count_of, listed};
 use crate::exits::all_exits;
 use crate::search::{Found, Search, find_all};
-use auth_kinds::{Edge, EdgeTable};
 use cam_base::{List, NoMemory};
+use cap_model::{Edge, EdgeTable};
 use std::alloc::Global;
 
 /// The chain by which a label was found.

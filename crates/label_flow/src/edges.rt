@@ -3,8 +3,8 @@
 ghost use Rattle.label_flow.specs.Edges.{AreBelow, turned};
 ghost use Rattle.std.specs.Prelude.{◌≡◌, ◌<◌, ◌≤◌, map, IfOk};
 
-use auth_kinds::{Edge, EdgeTable, Hint};
 use cam_base::NoMemory;
+use cap_model::{Edge, EdgeTable, Hint};
 use std::alloc::Global;
 
 /// The edges of a table, in order.

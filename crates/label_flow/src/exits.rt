@@ -4,8 +4,8 @@ ghost use Rattle.label_flow.specs.Edges.{AreBelow};
 ghost use Rattle.label_flow.specs.Exits.{more_exits, no_exits, AreExits};
 ghost use Rattle.std.specs.Prelude.{◌≡◌, ◌++◌, ◌∷◌, [], length, IfOk, OnOk};
 
-use auth_kinds::Edge;
 use cam_base::NoMemory;
+use cap_model::Edge;
 use std::alloc::Global;
 use std::marker::Model;
 

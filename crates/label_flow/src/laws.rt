@@ -1,6 +1,6 @@
 //! Laws of the definitions. This function does nothing: what it ensures is the law.
 
-ghost use Rattle.auth_kinds.specs.declared.edge.Edge.{Edge};
+ghost use Rattle.cap_model.specs.declared.edge.Edge.{Edge};
 ghost use Rattle.flow_model.specs.Flow.{Flows, IsClosed};
 ghost use Rattle.label_flow.specs.Chain.{AreSources, Chain, IsApart, Passes};
 ghost use Rattle.std.specs.List.{Contains};

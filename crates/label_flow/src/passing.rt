@@ -4,7 +4,7 @@ ghost use Rattle.flow_model.specs.Flow.{goes_along, goes_against};
 ghost use Rattle.label_flow.specs.Search.{passed_to};
 ghost use Rattle.std.specs.Prelude.{◌≡◌};
 
-use auth_kinds::{Authority, Edge};
+use cap_model::{Authority, Edge};
 
 fn goes_along(authority: Authority) -> bool
     ensures { result ≡ goes_along authority }

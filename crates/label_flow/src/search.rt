@@ -7,8 +7,8 @@ ghost use Rattle.std.specs.Prelude.{◌≡◌, ◌<◌, ◌+◌, length, slice_g
 
 use crate::exits::Exits;
 use crate::passing::passed_to;
-use auth_kinds::Edge;
 use cam_base::NoMemory;
+use cap_model::Edge;
 use std::alloc::Global;
 
 /// A label that was found, by the edge at a place, from what stands at a place before it, and by how many edges in all.

@@ -9,8 +9,8 @@ ghost use Rattle.std.specs.Prelude.{◌≡◌, map, length, IfOk};
 use crate::edges::{all_turned, count_of};
 use crate::exits::{Exits, all_exits};
 use crate::search::find_all;
-use auth_kinds::{Edge, EdgeTable};
 use cam_base::NoMemory;
+use cap_model::{Edge, EdgeTable};
 use std::alloc::Global;
 use std::marker::Model;
 
@@ -46,7 +46,7 @@ pub struct Upstream {
 
 impl Model for Upstream {
     ghost use Rattle.std.specs.Prelude.{List, length, map};
-    ghost use Rattle.auth_kinds.specs.declared.edge.Edge.{Edge};
+    ghost use Rattle.cap_model.specs.declared.edge.Edge.{Edge};
     ghost use Rattle.label_flow.specs.Edges.{turned, AreBelow};
     ghost use Rattle.label_flow.specs.Exits.{AreExits};
 

@@ -1,11 +1,11 @@
 -- What one edge asks for is of the least certificate, and all of it is made.
 use Rattle.std.proofs.Common.{◌≡◌, ◌∙◌, ℕ, true, List, refl, sym, subst}
 use Rattle.std.specs.List.{filter_map}
-use Rattle.auth_kinds.specs.Edges.{edge}
-use Rattle.auth_kinds.specs.Tables.{Has, has}
-use Rattle.auth_kinds.specs.declared.authority.Authority.{Authority}
-use Rattle.auth_kinds.specs.declared.authority.Authority.TheVariants.{Receive, AsyncSend, Grant, Control, Call, GrantBack, Handle}
-use Rattle.auth_kinds.specs.declared.edge.Edge.{Edge}
+use Rattle.cap_model.specs.Edges.{edge}
+use Rattle.cap_model.specs.Tables.{Has, has}
+use Rattle.cap_model.specs.declared.authority.Authority.{Authority}
+use Rattle.cap_model.specs.declared.authority.Authority.TheVariants.{Receive, AsyncSend, Grant, Control, Call, GrantBack, Handle}
+use Rattle.cap_model.specs.declared.edge.Edge.{Edge}
 use Rattle.least_cert.specs.Closing.{AddsAll, AreAsked, AreGifts, AreOut, ArePassed, AreTo, Closure, Flows, GivesAll, Grows, IsGift, IsSound, JoinsEnds, Looks, OfLeast, from_other, passed_to, to_other}
 use Rattle.least_cert.specs.LeastCertificate.{InLeast, KeepsRules}
 use Rattle.least_cert.proofs.Growth.{gifted_grows, grows_then, knows_grows}

@@ -2,12 +2,12 @@
 use Rattle.std.proofs.Common.{◌≡◌, ◌≢◌, ◌∙◌, ◌⊎◌, ◌++◌, ◌||◌, ◌==◌, ◌<◌, ◌≤◌, ◌+◌, ℕ, Bool, true, false, List, [], ◌∷◌, Some, length, slice_get, take, refl, sym, ap, subst, inl, inr, arith, add-one, zero, suc, length-append}
 use Rattle.std.proofs.lemmas.Bool.{eqb-true, or_cases, or_left, or_right}
 use Rattle.std.proofs.lemmas.List.{take-append-le, take_all}
-use Rattle.auth_kinds.specs.Edges.{edge, same_edge}
-use Rattle.auth_kinds.specs.Tables.{Has, has}
-use Rattle.auth_kinds.specs.declared.authority.Authority.{Authority}
-use Rattle.auth_kinds.specs.declared.authority.Authority.TheVariants.{Receive, AsyncSend, Grant, Control, Call, Reply, GrantBack, Handle}
-use Rattle.auth_kinds.specs.declared.edge.Edge.{Edge}
-use Rattle.auth_kinds.proofs.TableMembers.{has_at}
+use Rattle.cap_model.specs.Edges.{edge, same_edge}
+use Rattle.cap_model.specs.Tables.{Has, has}
+use Rattle.cap_model.specs.declared.authority.Authority.{Authority}
+use Rattle.cap_model.specs.declared.authority.Authority.TheVariants.{Receive, AsyncSend, Grant, Control, Call, Reply, GrantBack, Handle}
+use Rattle.cap_model.specs.declared.edge.Edge.{Edge}
+use Rattle.cap_model.proofs.TableMembers.{has_at}
 use Rattle.cap_model.specs.declared.spec.Spec.{Spec}
 use Rattle.least_cert.specs.Closing.{Begins, Closes, Closure, Gifted, Grows, HasBoot, IsCertificate, IsClosedFor, IsSound, Knows, Looks, LooksAt, leader_at}
 use Rattle.least_cert.specs.LeastCertificate.{IsLeast, KeepsRules}

@@ -3,13 +3,13 @@ use Rattle.std.proofs.Common.{◌≡◌, ◌∙◌, ◌⊎◌, ◌||◌, ◌&&�
 use Rattle.std.specs.List.{filter_map}
 use Rattle.std.proofs.lemmas.Bool.{cases_lt}
 use Rattle.std.proofs.lemmas.Option.{slice_get_within}
-use Rattle.auth_kinds.proofs.TableMembers.{at_has, has_at}
-use Rattle.auth_kinds.specs.Authorities.{number_of}
-use Rattle.auth_kinds.specs.Edges.{edge, same_edge}
-use Rattle.auth_kinds.specs.Tables.{Has, has, IsSorted}
-use Rattle.auth_kinds.specs.declared.authority.Authority.TheVariants.{Grant, Receive}
-use Rattle.auth_kinds.specs.declared.edge.Edge.{Edge}
-use Rattle.auth_kinds.proofs.EdgeOrder.{edges_same}
+use Rattle.cap_model.proofs.TableMembers.{at_has, has_at}
+use Rattle.cap_model.specs.Authorities.{number_of}
+use Rattle.cap_model.specs.Edges.{edge, same_edge}
+use Rattle.cap_model.specs.Tables.{Has, has, IsSorted}
+use Rattle.cap_model.specs.declared.authority.Authority.TheVariants.{Grant, Receive}
+use Rattle.cap_model.specs.declared.edge.Edge.{Edge}
+use Rattle.cap_model.proofs.EdgeOrder.{edges_same}
 use Rattle.least_cert.specs.Closing.{Adds, AddsAll, AddsSome, AreCopies, Closure, Copies, Flows, Gifted, Gives, GivesAll, GivesSome, Grows, IsCopy, IsGift, IsLess, IsSound, Joins, Knows, OfLeast, Puts, PutsGift, Relabels, lead, leader_at, led_by, passed_to, turn}
 use Rattle.least_cert.specs.LeastCertificate.{HasMoreThan}
 use Rattle.least_cert.proofs.Leading.{flows_then, knows_led, lead_other, lead_reply, lead_then, led_cases, led_from, led_to, least_led, number_other, other_number, reply_or_not}

@@ -2,15 +2,15 @@
 use Rattle.std.proofs.Common.{◌≡◌, ◌≢◌, ◌∙◌, ◌⊎◌, ℕ, true, List, [], map, slice_get, Some, refl, sym, subst, inl, inr, arith}
 use Rattle.std.specs.List.{Contains, filter_map}
 use Rattle.std.proofs.lemmas.Option.{slice_get-map}
-use Rattle.auth_graph.specs.Sources.{OfCap, OfObject}
-use Rattle.auth_graph.proofs.BootSources.{auth_source, source_auth}
-use Rattle.auth_kinds.specs.Adds.{Adds}
-use Rattle.auth_kinds.specs.Edges.{edge}
-use Rattle.auth_kinds.specs.ObjectLabels.{label_of}
-use Rattle.auth_kinds.specs.Tables.{has}
-use Rattle.auth_kinds.specs.declared.authority.Authority.{Authority}
-use Rattle.auth_kinds.specs.declared.authority.Authority.TheVariants.{Grant}
-use Rattle.auth_kinds.specs.declared.edge.Edge.{Edge}
+use Rattle.cap_machine.specs.Sources.{OfCap, OfObject}
+use Rattle.cap_machine.proofs.BootSources.{auth_source, source_auth}
+use Rattle.cap_model.specs.Adds.{Adds}
+use Rattle.cap_model.specs.Edges.{edge}
+use Rattle.cap_model.specs.ObjectLabels.{label_of}
+use Rattle.cap_model.specs.Tables.{has}
+use Rattle.cap_model.specs.declared.authority.Authority.{Authority}
+use Rattle.cap_model.specs.declared.authority.Authority.TheVariants.{Grant}
+use Rattle.cap_model.specs.declared.edge.Edge.{Edge}
 use Rattle.cap_model.specs.Auth.{Auth, Held, Structural}
 use Rattle.cap_model.specs.State.{Node, boot, boot_node, boot_slot, no_node, node_at}
 use Rattle.cap_model.specs.declared.cap.Cap.{Cap}

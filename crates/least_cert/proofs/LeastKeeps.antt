@@ -1,9 +1,9 @@
 -- The rules hold for the least certificate, and it decides whether any certificate will do.
 use Rattle.std.proofs.Common.{◌≢◌, ℕ, List}
-use Rattle.auth_kinds.specs.Tables.{Has}
-use Rattle.auth_kinds.specs.declared.authority.Authority.{Authority}
-use Rattle.auth_kinds.specs.declared.authority.Authority.TheVariants.{Receive, AsyncSend, Grant, Control, Call, Reply, GrantBack, Handle}
-use Rattle.auth_kinds.specs.declared.edge.Edge.{Edge}
+use Rattle.cap_model.specs.Tables.{Has}
+use Rattle.cap_model.specs.declared.authority.Authority.{Authority}
+use Rattle.cap_model.specs.declared.authority.Authority.TheVariants.{Receive, AsyncSend, Grant, Control, Call, Reply, GrantBack, Handle}
+use Rattle.cap_model.specs.declared.edge.Edge.{Edge}
 use Rattle.cap_machine.specs.Runs.{Reaches}
 use Rattle.cap_model.specs.declared.spec.Spec.{Spec}
 use Rattle.cert_check.specs.Valid.{Valid}

@@ -3,11 +3,11 @@ use Rattle.std.proofs.Common.{◌≡◌, ◌∙◌, ◌⊎◌, ◌||◌, ◌++�
 use Rattle.std.specs.List.{filter_map}
 use Rattle.std.proofs.lemmas.Bool.{or_cases, or_left, or_right}
 use Rattle.cam_base.proofs.Lists.{from_filter_map, to_filter_map}
-use Rattle.auth_kinds.specs.Edges.{same_edge}
-use Rattle.auth_kinds.specs.Tables.{has}
-use Rattle.auth_kinds.specs.declared.edge.Edge.{Edge}
-use Rattle.auth_kinds.proofs.EdgeOrder.{same_edge_self, same_edge_true}
-use Rattle.auth_kinds.proofs.TableMembers.{at_has, has_at}
+use Rattle.cap_model.specs.Edges.{same_edge}
+use Rattle.cap_model.specs.Tables.{has}
+use Rattle.cap_model.specs.declared.edge.Edge.{Edge}
+use Rattle.cap_model.proofs.EdgeOrder.{same_edge_self, same_edge_true}
+use Rattle.cap_model.proofs.TableMembers.{at_has, has_at}
 
 pub or_assoc : (a b c : Bool) → (a || (b || c)) ≡ ((a || b) || c)
 or_assoc true b c = refl

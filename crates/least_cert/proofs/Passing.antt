@@ -2,12 +2,12 @@
 use Rattle.std.proofs.Common.{◌≡◌, ◌≢◌, ◌==◌, ℕ, Bool, true, false, Some, None, if◌then◌else◌, refl}
 use Rattle.std.proofs.lemmas.Bool.{eq-eqb, ne_eqb}
 use Rattle.cam_base.proofs.Orders.{same_itself}
-use Rattle.auth_kinds.specs.Authorities.{number_of}
-use Rattle.auth_kinds.specs.Edges.{edge}
-use Rattle.auth_kinds.specs.declared.authority.Authority.{Authority}
-use Rattle.auth_kinds.specs.declared.authority.Authority.TheVariants.{Reply}
-use Rattle.auth_kinds.specs.declared.edge.Edge.{Edge}
-use Rattle.auth_kinds.proofs.EdgeOrder.{same_number}
+use Rattle.cap_model.specs.Authorities.{number_of}
+use Rattle.cap_model.specs.Edges.{edge}
+use Rattle.cap_model.specs.declared.authority.Authority.{Authority}
+use Rattle.cap_model.specs.declared.authority.Authority.TheVariants.{Reply}
+use Rattle.cap_model.specs.declared.edge.Edge.{Edge}
+use Rattle.cap_model.proofs.EdgeOrder.{same_number}
 use Rattle.least_cert.specs.BootEdges.{between_labels}
 use Rattle.least_cert.specs.Closing.{from_other, passed_to, to_other}
 

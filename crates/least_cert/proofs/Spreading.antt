@@ -4,17 +4,17 @@ use Rattle.std.specs.List.{filter_map}
 use Rattle.std.proofs.lemmas.Bool.{cases_lt, eqb-true, le-ltb, or_cases, or_left, or_right}
 use Rattle.std.proofs.lemmas.List.{get_or_past, take_all, take_more}
 use Rattle.std.proofs.lemmas.Option.{get_or_from_slice_get, slice_get-get_or, slice_get_within}
-use Rattle.auth_graph.specs.Sources.{OfEach}
-use Rattle.auth_graph.proofs.Gathering.{OfFirst, first_more_at}
-use Rattle.auth_kinds.specs.Adds.{Adds}
-use Rattle.auth_kinds.specs.Authorities.{number_of}
-use Rattle.auth_kinds.specs.Edges.{edge, same_edge}
-use Rattle.auth_kinds.specs.Tables.{Has, has, IsSorted}
-use Rattle.auth_kinds.specs.declared.authority.Authority.{Authority}
-use Rattle.auth_kinds.specs.declared.authority.Authority.TheVariants.{Call, Receive, Reply}
-use Rattle.auth_kinds.specs.declared.edge.Edge.{Edge}
-use Rattle.auth_kinds.proofs.EdgeOrder.{edges_same, same_number}
-use Rattle.auth_kinds.proofs.TableMembers.{at_has, has_at}
+use Rattle.cap_machine.specs.Sources.{OfEach}
+use Rattle.cap_machine.proofs.Gathering.{OfFirst, first_more_at}
+use Rattle.cap_model.specs.Adds.{Adds}
+use Rattle.cap_model.specs.Authorities.{number_of}
+use Rattle.cap_model.specs.Edges.{edge, same_edge}
+use Rattle.cap_model.specs.Tables.{Has, has, IsSorted}
+use Rattle.cap_model.specs.declared.authority.Authority.{Authority}
+use Rattle.cap_model.specs.declared.authority.Authority.TheVariants.{Call, Receive, Reply}
+use Rattle.cap_model.specs.declared.edge.Edge.{Edge}
+use Rattle.cap_model.proofs.EdgeOrder.{edges_same, same_number}
+use Rattle.cap_model.proofs.TableMembers.{at_has, has_at}
 use Rattle.least_cert.specs.Closing.{AreReceivers, AreReplies, Closure, IsAnswer, IsCertificate, IsCopy, IsLess, IsSound, IsSpread, Knows, OfLeast, from_other, lead, leader_at, receiver, stays, turn}
 use Rattle.least_cert.specs.LeastCertificate.{HasMoreThan, InLeast}
 use Rattle.least_cert.proofs.Growth.{no_edge}

@@ -1,10 +1,10 @@
 -- Words for the contracts of private functions alone: the edges that the boot state asks for.
 use Rattle.std.specs.Prelude.{◌≡◌, ◌≢◌, ◌==◌, ◌⊎◌, ℕ, true, List, Option, None, Some, if◌then◌else◌}
-use Rattle.auth_graph.specs.Sources.{OfEach, OfObject, OfSlots}
-use Rattle.auth_kinds.specs.ObjectLabels.{label_of}
-use Rattle.auth_kinds.specs.Tables.{Has, has}
-use Rattle.auth_kinds.specs.declared.authority.Authority.{Authority}
-use Rattle.auth_kinds.specs.declared.edge.Edge.{Edge}
+use Rattle.cap_machine.specs.Sources.{OfEach, OfObject, OfSlots}
+use Rattle.cap_model.specs.ObjectLabels.{label_of}
+use Rattle.cap_model.specs.Tables.{Has, has}
+use Rattle.cap_model.specs.declared.authority.Authority.{Authority}
+use Rattle.cap_model.specs.declared.edge.Edge.{Edge}
 use Rattle.cap_model.specs.Auth.{Auth, Held, Structural}
 use Rattle.cap_model.specs.State.{boot}
 use Rattle.cap_model.specs.declared.object.Object.{Object}

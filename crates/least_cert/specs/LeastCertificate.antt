@@ -1,10 +1,10 @@
 -- The least certificate: the edges that lie in every set of edges for which the certificate rules hold, all but the one
 -- that compares it with a policy.
 use Rattle.std.specs.Prelude.{◌≢◌, ◌<◌, ℕ, List, length}
-use Rattle.auth_kinds.specs.Tables.{Has, IsSorted}
-use Rattle.auth_kinds.specs.declared.authority.Authority.{Authority}
-use Rattle.auth_kinds.specs.declared.authority.Authority.TheVariants.{Receive, AsyncSend, Grant, Control, Call, Reply, GrantBack, Handle}
-use Rattle.auth_kinds.specs.declared.edge.Edge.{Edge}
+use Rattle.cap_model.specs.Tables.{Has, IsSorted}
+use Rattle.cap_model.specs.declared.authority.Authority.{Authority}
+use Rattle.cap_model.specs.declared.authority.Authority.TheVariants.{Receive, AsyncSend, Grant, Control, Call, Reply, GrantBack, Handle}
+use Rattle.cap_model.specs.declared.edge.Edge.{Edge}
 use Rattle.cap_model.specs.Auth.{Held, Structural}
 use Rattle.cap_model.specs.State.{boot}
 use Rattle.cap_model.specs.declared.spec.Spec.{Spec}

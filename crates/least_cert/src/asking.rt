@@ -1,15 +1,15 @@
 //! What the rules ask for because of one edge.
 
-ghost use Rattle.auth_kinds.specs.Tables.{has};
-ghost use Rattle.auth_kinds.specs.declared.edge.Edge.{Edge};
+ghost use Rattle.cap_model.specs.Tables.{has};
+ghost use Rattle.cap_model.specs.declared.edge.Edge.{Edge};
 ghost use Rattle.least_cert.specs.Closing.{AreAsked, AreGifts, ArePassed, IsSound, JoinsEnds, Looks, OfLeast, from_other, passed_to, to_other};
 ghost use Rattle.least_cert.specs.LeastCertificate.{CloseRefused};
 ghost use Rattle.std.specs.List.{filter_map};
 ghost use Rattle.std.specs.Prelude.{◌≡◌, true, IfErr, IfOk, OnOk};
 
 use crate::closing::{CloseError, Closing, passed_to};
-use auth_kinds::{Authority, Edge};
 use cam_base::NoMemory;
+use cap_model::{Authority, Edge};
 use std::alloc::Global;
 
 /// An edge from where another goes to the label, where these are two.

@@ -1,14 +1,13 @@
 //! The edges that the boot state asks for.
 
-ghost use Rattle.auth_kinds.specs.Adds.{Adds};
+ghost use Rattle.cap_model.specs.Adds.{Adds};
 ghost use Rattle.least_cert.specs.BootEdges.{OfHolder, OfHolders, OfOther, OfOthers, between_labels};
 ghost use Rattle.std.specs.List.{filter_map};
 ghost use Rattle.std.specs.Prelude.{◌≡◌, [], IfOk, length};
 
-use auth_graph::{with_each_slot, with_object};
-use auth_kinds::{Edge, Labels};
 use cam_base::NoMemory;
-use cap_model::{Object, Spec};
+use cap_machine::{with_each_slot, with_object};
+use cap_model::{Edge, Labels, Object, Spec};
 use std::alloc::Global;
 
 /// The edges of the boot state by what they come from: CNodes, and other objects.

@@ -8,8 +8,7 @@ use crate::asking::look;
 use crate::boot::{gathered, links_of};
 use crate::closing::{CloseError, Closing};
 use crate::replies::certificate;
-use auth_kinds::{EdgeTable, Labels};
-use cap_model::Spec;
+use cap_model::{EdgeTable, Labels, Spec};
 use std::alloc::Global;
 
 /// The least certificate: the edges that lie in every set of edges for which the rules of certificates hold, all but the

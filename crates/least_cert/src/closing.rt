@@ -1,19 +1,17 @@
 //! Edges in the making of a certificate, with look-ups by both ends, and which label gives all that it has to which.
 
-ghost use Rattle.auth_kinds.specs.Adds.{Adds as AddsEdges};
-ghost use Rattle.auth_kinds.specs.Edges.{edge};
-ghost use Rattle.auth_kinds.specs.Tables.{has, IsSorted};
-ghost use Rattle.auth_kinds.specs.declared.authority.Authority.TheVariants.{Grant};
-ghost use Rattle.auth_kinds.specs.declared.edge.Edge.{Edge};
+ghost use Rattle.cap_model.specs.Adds.{Adds as AddsEdges};
+ghost use Rattle.cap_model.specs.Edges.{edge};
+ghost use Rattle.cap_model.specs.Tables.{has, IsSorted};
+ghost use Rattle.cap_model.specs.declared.authority.Authority.TheVariants.{Grant};
+ghost use Rattle.cap_model.specs.declared.edge.Edge.{Edge};
 ghost use Rattle.least_cert.specs.Closing.{Adds, AddsAll, AreCopies, AreOut, AreTo, Copies, Gives, Flows, GivesAll, IsCopy, IsEmpty, IsGift, IsLess, IsRelabeled, IsSound, IsSpread, Joins, OfLeast, Puts, PutsGift, Relabels, Widens, lead, leader_at, led_by, passed_to, stays, turn};
 ghost use Rattle.least_cert.specs.LeastCertificate.{CloseRefused};
 ghost use Rattle.std.specs.List.{filter_map};
 ghost use Rattle.std.specs.Prelude.{◌≡◌, ◌<◌, ◌≤◌, ◌^◌, ◌↔◌, ◌++◌, ℕ, map, true, IsTrue, IfErr, IfOk, OnOk, length, slice_get, Some};
 
-use auth_kinds::{Authority, Edge, EdgeTable, Labels};
 use cam_base::NoMemory;
-use cap_model::Spec;
-use edge_sets::EdgeSet;
+use cap_model::{Authority, Edge, EdgeSet, EdgeTable, Labels, Spec};
 use std::alloc::Global;
 use std::marker::Model;
 

@@ -1,8 +1,8 @@
 //! The replies that calls ask for, and the certificate with them.
 
-ghost use Rattle.auth_kinds.specs.Adds.{Adds};
-ghost use Rattle.auth_kinds.specs.Tables.{has, IsSorted};
-ghost use Rattle.auth_kinds.specs.declared.edge.Edge.{Edge};
+ghost use Rattle.cap_model.specs.Adds.{Adds};
+ghost use Rattle.cap_model.specs.Tables.{has, IsSorted};
+ghost use Rattle.cap_model.specs.declared.edge.Edge.{Edge};
 ghost use Rattle.least_cert.specs.Closing.{AreReceivers, AreReplies, IsAnswer, IsCertificate, IsLess, IsSound, IsSpread, receiver};
 ghost use Rattle.least_cert.specs.LeastCertificate.{CloseRefused};
 ghost use Rattle.std.specs.List.{filter_map};
@@ -10,9 +10,8 @@ ghost use Rattle.std.specs.Prelude.{◌≡◌, ◌≤◌, ◌<◌, ◌↔◌, �
 
 use crate::asking::from_others;
 use crate::closing::{CloseError, Closing, LIMIT, turned, with_more};
-use auth_kinds::{Authority, Edge, EdgeTable};
 use cam_base::NoMemory;
-use edge_sets::EdgeSet;
+use cap_model::{Authority, Edge, EdgeSet, EdgeTable};
 use std::alloc::Global;
 
 /// The certificate that edges in the making come to, once nothing more is asked for.

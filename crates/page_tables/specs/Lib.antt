@@ -6,4 +6,4 @@ pub mod Shapes
 pub mod Walks
 pub use Rattle.cap_model.specs.Auth
 pub use Rattle.cap_model.specs.Kept
-pub use Rattle.numbering.specs.Gather
+pub use Rattle.cam_base.specs.Gather

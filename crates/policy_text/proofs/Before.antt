@@ -12,7 +12,7 @@ use Rattle.policy_text.specs.declared.kind.Kind.{Kind}
 use Rattle.policy_text.specs.Entries.{Number, Entry}
 use Rattle.policy_text.specs.PolicyFaults.{Told, fault_at, first_wrong, is_new_edge, new_edges}
 use Rattle.policy_text.specs.PolicyTexts.{said, told_of, told, form_fault, has_label}
-use Rattle.text_lines.specs.Lines.{Line}
+use Rattle.cam_base.specs.Lines.{Line}
 
 -- ---- one more
 

@@ -7,8 +7,8 @@ use Rattle.std.proofs.lemmas.List.Elements.{filter_map-append}
 use Rattle.std.proofs.lemmas.List.Sums.{fold-append}
 use Rattle.std.specs.Result.{OnOk}
 use Rattle.std.proofs.lemmas.List.{append-nil}
-use Rattle.auth_kinds.specs.declared.authority.Authority.{Authority}
-use Rattle.auth_kinds.specs.declared.edge.Edge.{Edge}
+use Rattle.cap_model.specs.declared.authority.Authority.{Authority}
+use Rattle.cap_model.specs.declared.edge.Edge.{Edge}
 use Rattle.cam_base.specs.declared.error.NoMemory.{NoMemory}
 use Rattle.cam_base.specs.Names.{is_name}
 use Rattle.policy_text.specs.declared.parts.Parts.{Parts}
@@ -17,7 +17,7 @@ use Rattle.policy_text.specs.Numbers.{narrow}
 use Rattle.policy_text.specs.PartsBuilt.{IsBuilt, Builds, built_label, built_object, built_edge}
 use Rattle.policy_text.specs.PolicyFaults.{Told}
 use Rattle.policy_text.specs.PolicyTexts.{by_number}
-use Rattle.text_lines.specs.Lines.{Line}
+use Rattle.cam_base.specs.Lines.{Line}
 
 one_more : {Y : Type 0} (h : Told → Option Y) (before : List Told) (t : Told) (y : Y) → h t ≡ Some y → filter_map h (before ++ t ∷ []) ≡ filter_map h before ++ y ∷ []
 one_more h before t y is = filter_map-append h before (t ∷ []) ∙ rw is refl

@@ -8,7 +8,7 @@ use Rattle.std.proofs.lemmas.List.Splits.{slice_split_first, slice_split_none, l
 use Rattle.std.proofs.lemmas.List.Sums.{fails_before_first}
 use Rattle.policy_text.specs.declared.kind.Kind.{Kind}
 use Rattle.policy_text.specs.Entries.{entry_of}
-use Rattle.text_lines.specs.Fields.{fields}
+use Rattle.cam_base.specs.Fields.{fields}
 
 pub cut_some : (text : List ℕ) (n : ℕ) → position (λ b. b == 32) text ≡ Some n → fields text ≡ take n text ∷ fields (take (length text - (n + 1)) (drop (n + 1) text))
 cut_some text n e = go (nat_lt (position_or_len (λ b. b == 32) text) (length text)) refl

@@ -5,13 +5,13 @@ use Rattle.std.proofs.lemmas.Fmt.{length-decimal-le}
 use Rattle.std.proofs.lemmas.List.{length-append}
 use Rattle.std.specs.List.{flat_map, list_any}
 use Rattle.std.specs.Prelude.{codes, decimal}
-use Rattle.auth_kinds.proofs.EdgeOrder.{same_edge_self}
-use Rattle.auth_kinds.specs.Authorities.{text_of}
-use Rattle.auth_kinds.specs.Edges.{same_edge}
-use Rattle.auth_kinds.specs.Tables.{has}
-use Rattle.auth_kinds.specs.declared.authority.Authority.{Authority}
-use Rattle.auth_kinds.specs.declared.authority.Authority.TheVariants.{Receive, SyncSend, AsyncSend, Reset, Grant, Read, Write, Control, Call, Reply, GrantBack, Handle}
-use Rattle.auth_kinds.specs.declared.edge.Edge.{Edge}
+use Rattle.cap_model.proofs.EdgeOrder.{same_edge_self}
+use Rattle.cap_model.specs.Authorities.{text_of}
+use Rattle.cap_model.specs.Edges.{same_edge}
+use Rattle.cap_model.specs.Tables.{has}
+use Rattle.cap_model.specs.declared.authority.Authority.{Authority}
+use Rattle.cap_model.specs.declared.authority.Authority.TheVariants.{Receive, SyncSend, AsyncSend, Reset, Grant, Read, Write, Control, Call, Reply, GrantBack, Handle}
+use Rattle.cap_model.specs.declared.edge.Edge.{Edge}
 use Rattle.cam_base.specs.Texts.{◌⊹◌, together}
 use Rattle.policy_text.specs.PolicyLines.{cert_text, edge_line}
 use Rattle.policy_text.proofs.Inserting.{or_right}

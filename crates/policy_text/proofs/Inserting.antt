@@ -11,7 +11,7 @@ use Rattle.std.proofs.lemmas.List.Elements.{All-nil, All-cons}
 use Rattle.std.proofs.lemmas.List.Kept.{AllPairs-cons}
 use Rattle.std.proofs.lemmas.Slice.Eq.{bytes_eq-Decides}
 use Rattle.cam_base.proofs.Bytes.{bytes_eq-sym}
-use Rattle.auth_kinds.specs.Policies.{NumbersDiffer, label_name, is_label_name}
+use Rattle.cap_model.specs.Policies.{NumbersDiffer, label_name, is_label_name}
 
 abbrev pub Pairs : Type 0
 Pairs = List (ℕ × List ℕ)

@@ -6,7 +6,7 @@ use Rattle.std.specs.Str.{bytes_eq}
 use Rattle.std.proofs.Math.Bool.{or_comm, or_assoc, or-false}
 use Rattle.std.proofs.lemmas.List.{drop_more, map_more, map_push, take-map}
 use Rattle.std.proofs.lemmas.List.Sums.{sum_by-append, sum_by-take-le}
-use Rattle.auth_kinds.specs.declared.authority.Authority.{Authority}
+use Rattle.cap_model.specs.declared.authority.Authority.{Authority}
 use Rattle.cam_base.specs.declared.error.NoMemory.{NoMemory}
 use Rattle.cam_base.specs.declared.error.Refused.{Refused}
 use Rattle.cam_base.specs.declared.error.Refused.TheVariants as refused
@@ -26,8 +26,8 @@ use Rattle.policy_text.specs.PolicyTexts.{said, told, form_fault, has_label, IsF
 use Rattle.policy_text.specs.TextsRead.{FindsFault, AreNoted, Notes}
 use Rattle.policy_text.specs.WordSets.{has, IsAdded}
 use Rattle.policy_text.proofs.Before.{told-cons, form-cons, has_label-append, one_if, told_one}
-use Rattle.text_lines.specs.LineFaults.{at_line, IsRefusal}
-use Rattle.text_lines.specs.Lines.{Line}
+use Rattle.cam_base.specs.LineFaults.{at_line, IsRefusal}
+use Rattle.cam_base.specs.Lines.{Line}
 
 -- ---- faults of texts in parts
 

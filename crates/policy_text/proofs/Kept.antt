@@ -11,16 +11,16 @@ use Rattle.std.proofs.lemmas.List.Elements.{All-nil, All-cons, All-from_get_or}
 use Rattle.std.proofs.lemmas.List.Kept.{AllPairs-cons}
 use Rattle.std.proofs.lemmas.Option.{slice_get-get_or}
 use Rattle.std.proofs.lemmas.Slice.Eq.{bytes_eq-Decides}
-use Rattle.auth_kinds.specs.Authorities.{authority_of}
-use Rattle.auth_kinds.specs.declared.authority.Authority.{Authority}
-use Rattle.auth_kinds.specs.declared.authority.Authority.TheVariants.{Receive}
-use Rattle.auth_kinds.specs.declared.edge.Edge.{Edge}
-use Rattle.auth_kinds.specs.declared.policy.Policy.{Policy}
-use Rattle.auth_kinds.specs.Edges.{same_edge}
-use Rattle.auth_kinds.specs.Policies.{label_name, is_label_name, IsPolicy, NumbersDiffer}
-use Rattle.auth_kinds.specs.Tables.{has}
-use Rattle.auth_kinds.proofs.EdgeOrder.{same_edge_true}
-use Rattle.auth_kinds.proofs.TableMembers.{has_at}
+use Rattle.cap_model.specs.Authorities.{authority_of}
+use Rattle.cap_model.specs.declared.authority.Authority.{Authority}
+use Rattle.cap_model.specs.declared.authority.Authority.TheVariants.{Receive}
+use Rattle.cap_model.specs.declared.edge.Edge.{Edge}
+use Rattle.cap_model.specs.declared.policy.Policy.{Policy}
+use Rattle.cap_model.specs.Edges.{same_edge}
+use Rattle.cap_model.specs.Policies.{label_name, is_label_name, IsPolicy, NumbersDiffer}
+use Rattle.cap_model.specs.Tables.{has}
+use Rattle.cap_model.proofs.EdgeOrder.{same_edge_true}
+use Rattle.cap_model.proofs.TableMembers.{has_at}
 use Rattle.cam_base.specs.declared.text_fault.TextFault.{TextFault}
 use Rattle.cam_base.specs.Names.{is_letter, is_word_byte, is_name, is_word}
 use Rattle.cam_base.specs.Numbers.{is_decimal}
@@ -35,9 +35,9 @@ use Rattle.policy_text.specs.PolicyFaults.{Told, gives, names_label, labels_obje
 use Rattle.policy_text.specs.PolicyTexts.{said, told, has_label, label_value, label_of, object_of, edge_of, by_number, Says}
 use Rattle.policy_text.proofs.Before.{any_more}
 use Rattle.policy_text.proofs.Inserting.{Pairs, or_left, or_right, named, Differ, named_insert, differ_insert, none_pair, names_differ, Valid, valid_insert, all_valid, Rising, rising_insert, numbers_differ, inserted, keyed_in, has_name}
-use Rattle.text_lines.specs.Fields.{fields}
-use Rattle.text_lines.specs.LineFaults.{Wrong, at_line}
-use Rattle.text_lines.specs.Lines.{Line}
+use Rattle.cam_base.specs.Fields.{fields}
+use Rattle.cam_base.specs.LineFaults.{Wrong, at_line}
+use Rattle.cam_base.specs.Lines.{Line}
 
 -- ---- what the form of a line gives
 

@@ -9,7 +9,7 @@ use Rattle.std.proofs.lemmas.Bool.Decides.{nat_tests}
 use Rattle.std.proofs.lemmas.List.Folds.{list_any_more}
 use Rattle.std.proofs.Math.Bool.{or_comm}
 use Rattle.cam_base.proofs.Orders.{is_eq-nat_cmp}
-use Rattle.auth_kinds.specs.Policies.{label_name}
+use Rattle.cap_model.specs.Policies.{label_name}
 use Rattle.policy_text.specs.KnownNumbers.{IsSmall}
 
 is_named : (labels : List (ℕ × List ℕ)) (n : ℕ) → is_some (label_name labels n) ≡ list_any (λ l. l.0 == n) labels

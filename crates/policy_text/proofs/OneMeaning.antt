@@ -1,8 +1,8 @@
 -- Lines mean at most one policy, and one table of edges; bytes have one answer.
 use Rattle.std.proofs.Common.{◌≡◌, ◌∙◌, ap, sym, refl, ℕ, List, Option, None, Result, Ok, Err}
-use Rattle.auth_kinds.specs.declared.edge.Edge.{Edge}
-use Rattle.auth_kinds.specs.declared.policy.Policy.{Policy}
-use Rattle.auth_kinds.proofs.TableMembers.{one_table}
+use Rattle.cap_model.specs.declared.edge.Edge.{Edge}
+use Rattle.cap_model.specs.declared.policy.Policy.{Policy}
+use Rattle.cap_model.proofs.TableMembers.{one_table}
 use Rattle.cam_base.specs.declared.error.Refused.{Refused}
 use Rattle.cam_base.specs.declared.error.Refused.TheVariants as refused
 use Rattle.cam_base.specs.declared.text_fault.TextFault.{TextFault}

@@ -7,10 +7,10 @@ use Rattle.std.proofs.lemmas.Bool.Decides.{nat_tests}
 use Rattle.std.proofs.lemmas.List.{append-nil}
 use Rattle.std.proofs.lemmas.List.Elements.{All-head, All-tail, filter_map-append}
 use Rattle.std.proofs.lemmas.List.Sums.{sum_by-append}
-use Rattle.auth_kinds.specs.declared.edge.Edge.{Edge}
-use Rattle.auth_kinds.specs.declared.policy.Policy.{Policy}
-use Rattle.auth_kinds.specs.Policies.{IsPolicy, label_name, is_label_name}
-use Rattle.auth_kinds.specs.Tables.{has}
+use Rattle.cap_model.specs.declared.edge.Edge.{Edge}
+use Rattle.cap_model.specs.declared.policy.Policy.{Policy}
+use Rattle.cap_model.specs.Policies.{IsPolicy, label_name, is_label_name}
+use Rattle.cap_model.specs.Tables.{has}
 use Rattle.cam_base.specs.declared.text_fault.TextCode.TheVariants.{PolicySyntax, PolicyLimit}
 use Rattle.cam_base.specs.declared.text_fault.TextFault.{TextFault}
 use Rattle.cam_base.specs.Names.{is_name}
@@ -31,8 +31,8 @@ use Rattle.policy_text.proofs.Rendering.{two_unfed, label_item, object_item, edg
 use Rattle.policy_text.proofs.Rows.{ended, IsRow, AreRows, lines-ended, Item, rows_of, told_at, Spells, told-rows, form-rows, after, told_at-append, spells-append, rows-append}
 use Rattle.policy_text.proofs.WrittenMeans.{nothing_meant, labels_meant, objects_meant, edges_meant, by_number-rising}
 use Rattle.policy_text.proofs.WrittenRight.{labels_right, objects_right, edges_right, any_apart, count_apart, has_label-told}
-use Rattle.text_lines.specs.Fields.{fields}
-use Rattle.text_lines.specs.Lines.{lines, placed}
+use Rattle.cam_base.specs.Fields.{fields}
+use Rattle.cam_base.specs.Lines.{lines, placed}
 
 -- ---- one text out of rows
 

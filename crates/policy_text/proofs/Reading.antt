@@ -6,10 +6,10 @@ use Rattle.std.specs.Option.{is_some, option_map_or, option_or, unwrap_or}
 use Rattle.std.specs.Ordering.{nat_cmp}
 use Rattle.std.specs.Result.{IsErrAnd}
 use Rattle.std.proofs.lemmas.Bool.Decides.{nat_tests}
-use Rattle.auth_kinds.specs.declared.edge.Edge.{Edge}
-use Rattle.auth_kinds.specs.declared.policy.Policy.{Policy}
-use Rattle.auth_kinds.specs.Policies.{label_name, IsPolicy}
-use Rattle.auth_kinds.specs.Tables.{has, IsSorted}
+use Rattle.cap_model.specs.declared.edge.Edge.{Edge}
+use Rattle.cap_model.specs.declared.policy.Policy.{Policy}
+use Rattle.cap_model.specs.Policies.{label_name, IsPolicy}
+use Rattle.cap_model.specs.Tables.{has, IsSorted}
 use Rattle.cam_base.specs.declared.error.Refused.{Refused}
 use Rattle.cam_base.specs.declared.text_fault.TextFault.{TextFault}
 use Rattle.policy_text.specs.declared.kind.Kind.{Kind}

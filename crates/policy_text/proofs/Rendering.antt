@@ -5,11 +5,11 @@ use Rattle.std.proofs.lemmas.Bool.{and_parts}
 use Rattle.std.proofs.lemmas.Bool.Decides.{nat_tests}
 use Rattle.std.proofs.lemmas.List.Elements.{All-nil, All-cons, All-append, All-weaker}
 use Rattle.std.proofs.lemmas.List.Splits.{slice_split_at, slice_split_none}
-use Rattle.auth_kinds.specs.Authorities.{text_of}
-use Rattle.auth_kinds.specs.Policies.{is_label_byte, is_label_name}
-use Rattle.auth_kinds.specs.declared.authority.Authority.{Authority}
-use Rattle.auth_kinds.specs.declared.authority.Authority.TheVariants.{Receive, SyncSend, AsyncSend, Reset, Grant, Read, Write, Control, Call, Reply, GrantBack, Handle}
-use Rattle.auth_kinds.specs.declared.edge.Edge.{Edge}
+use Rattle.cap_model.specs.Authorities.{text_of}
+use Rattle.cap_model.specs.Policies.{is_label_byte, is_label_name}
+use Rattle.cap_model.specs.declared.authority.Authority.{Authority}
+use Rattle.cap_model.specs.declared.authority.Authority.TheVariants.{Receive, SyncSend, AsyncSend, Reset, Grant, Read, Write, Control, Call, Reply, GrantBack, Handle}
+use Rattle.cap_model.specs.declared.edge.Edge.{Edge}
 use Rattle.cam_base.specs.Names.{is_letter, is_word_byte, is_name, is_word}
 use Rattle.cam_base.specs.Numbers.{is_digit}
 use Rattle.cam_base.specs.Texts.{together}
@@ -19,8 +19,8 @@ use Rattle.policy_text.specs.Entries.{label, object, edge, entry_of}
 use Rattle.policy_text.specs.PolicyLines.{label_line, object_line, edge_line}
 use Rattle.cam_base.proofs.Decimals.{is_decimal-decimal, digits-decimal}
 use Rattle.policy_text.proofs.Rows.{IsRow, Item}
-use Rattle.text_lines.specs.Fields.{fields}
-use Rattle.auth_kinds.proofs.Words.{its_word}
+use Rattle.cam_base.specs.Fields.{fields}
+use Rattle.cap_model.proofs.Words.{its_word}
 
 -- ---- fields
 

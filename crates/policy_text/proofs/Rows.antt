@@ -9,8 +9,8 @@ use Rattle.policy_text.specs.PolicyFaults.{Told}
 use Rattle.policy_text.specs.PolicyTexts.{told, form_fault}
 use Rattle.policy_text.proofs.Before.{told-cons, form-cons, told_one}
 use Rattle.policy_text.proofs.Judging.{form_some}
-use Rattle.text_lines.specs.Fields.{fields}
-use Rattle.text_lines.specs.Lines.{Line, lines, placed, telling, is_silent}
+use Rattle.cam_base.specs.Fields.{fields}
+use Rattle.cam_base.specs.Lines.{Line, lines, placed, telling, is_silent}
 
 -- ---- rows
 

@@ -4,7 +4,7 @@ use Rattle.std.specs.List.{list_any}
 use Rattle.std.specs.Str.{bytes_eq}
 use Rattle.std.proofs.lemmas.List.Sums.{sum_by-append}
 use Rattle.std.specs.Result.{OnOk}
-use Rattle.auth_kinds.specs.declared.authority.Authority.{Authority}
+use Rattle.cap_model.specs.declared.authority.Authority.{Authority}
 use Rattle.cam_base.specs.declared.error.NoMemory.{NoMemory}
 use Rattle.policy_text.specs.Entries.{Number, Entry, label, object, edge}
 use Rattle.policy_text.specs.LinesSeen.{HasEdges, HasFewEdges, HasRoom, IsSeen, Takes}
@@ -13,7 +13,7 @@ use Rattle.policy_text.specs.WordSets.{has, IsAdded}
 use Rattle.policy_text.specs.declared.seen.Seen.{Seen}
 use Rattle.policy_text.specs.declared.words.Words.{Words}
 use Rattle.policy_text.proofs.Before.{any_more, count_more, edges_more, one_if}
-use Rattle.text_lines.specs.Lines.{Line}
+use Rattle.cam_base.specs.Lines.{Line}
 
 -- a label that isn't wrong has a number that no line in front of it has
 fresh_label : (knows : Number → Bool) (before : List Told) (line : Line) (n name : List ℕ) → wrong_entry knows before line (label n name) ≡ None → list_any (λ t. gives n t.1) before ≡ false

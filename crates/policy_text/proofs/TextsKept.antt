@@ -4,8 +4,8 @@ use Rattle.std.proofs.lemmas.Bool.Decides.{nat_tests}
 use Rattle.std.proofs.lemmas.List.Elements.{All-nil, All-cons}
 use Rattle.std.specs.List.{All, filter_map}
 use Rattle.std.specs.Option.{option_map_or, option_or, unwrap_or}
-use Rattle.auth_kinds.specs.Policies.{IsPolicy}
-use Rattle.auth_kinds.specs.declared.policy.Policy.{Policy}
+use Rattle.cap_model.specs.Policies.{IsPolicy}
+use Rattle.cap_model.specs.declared.policy.Policy.{Policy}
 use Rattle.cam_base.proofs.Options.{neither}
 use Rattle.policy_text.specs.Entries.{Number, value, label, object, edge}
 use Rattle.policy_text.specs.PolicyFaults.{Told, first_wrong}

@@ -6,14 +6,14 @@ use Rattle.std.specs.Option.{unwrap_or}
 use Rattle.std.specs.Ordering.{nat_cmp}
 use Rattle.std.proofs.lemmas.List.{append-nil}
 use Rattle.std.proofs.lemmas.List.Elements.{All-nil, All-head, All-tail, All-push, All-weaker}
-use Rattle.auth_kinds.specs.declared.edge.Edge.{Edge}
+use Rattle.cap_model.specs.declared.edge.Edge.{Edge}
 use Rattle.policy_text.specs.PolicyFaults.{Told}
 use Rattle.policy_text.specs.PolicyTexts.{label_value, label_of, object_of, edge_of, by_number}
 use Rattle.cam_base.proofs.Decimals.{number_value-decimal}
 use Rattle.policy_text.proofs.Inserting.{Pairs, insert_by}
 use Rattle.policy_text.proofs.Rendering.{label_item, object_item, edge_item}
 use Rattle.policy_text.proofs.Rows.{Item, line_at, told_at}
-use Rattle.text_lines.specs.Lines.{Line}
+use Rattle.cam_base.specs.Lines.{Line}
 
 label_value-decimal : (n : ℕ) → n < 2 ^ 64 → label_value (decimal n) ≡ n
 label_value-decimal n h = ap (λ (o : Option ℕ). unwrap_or o 0) (number_value-decimal n h)

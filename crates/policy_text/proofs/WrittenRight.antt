@@ -8,9 +8,9 @@ use Rattle.std.proofs.lemmas.Bool.Decides.{nat_tests}
 use Rattle.std.proofs.lemmas.List.Elements.{All-head, All-tail}
 use Rattle.std.proofs.lemmas.List.Sums.{sum_by-cons}
 use Rattle.std.proofs.lemmas.Slice.Eq.{bytes_eq-Decides}
-use Rattle.auth_kinds.specs.declared.authority.Authority.{Authority}
-use Rattle.auth_kinds.specs.declared.edge.Edge.{Edge}
-use Rattle.auth_kinds.specs.Policies.{label_name}
+use Rattle.cap_model.specs.declared.authority.Authority.{Authority}
+use Rattle.cap_model.specs.declared.edge.Edge.{Edge}
+use Rattle.cap_model.specs.Policies.{label_name}
 use Rattle.cam_base.specs.Numbers.{number_value}
 use Rattle.cam_base.specs.Names.{is_name}
 use Rattle.policy_text.specs.Entries.{Number, Entry, label, object, edge}
@@ -21,8 +21,8 @@ use Rattle.cam_base.proofs.Decimals.{number_value-decimal}
 use Rattle.policy_text.proofs.Inserting.{Pairs, neither, or_left, or_right}
 use Rattle.policy_text.proofs.Rendering.{label_item, object_item, edge_item}
 use Rattle.policy_text.proofs.Rows.{Item, line_at, told_at}
-use Rattle.text_lines.specs.LineFaults.{Wrong, at_line}
-use Rattle.text_lines.specs.Lines.{Line}
+use Rattle.cam_base.specs.LineFaults.{Wrong, at_line}
+use Rattle.cam_base.specs.Lines.{Line}
 use Rattle.policy_text.proofs.Taking.{new_edges_most}
 
 -- ---- numbers and words that differ

@@ -6,8 +6,8 @@ use Rattle.policy_text.specs.PolicyFaults.{Told}
 use Rattle.policy_text.specs.declared.entry.Entry.{Entry}
 use Rattle.policy_text.specs.declared.entry.Entry.TheVariants.{Label, Object, Edge}
 use Rattle.policy_text.specs.declared.entry.EntryLine.{EntryLine}
-use Rattle.text_lines.specs.Fields.{fields}
-use Rattle.text_lines.specs.LinesLeft.{line_of}
+use Rattle.cam_base.specs.Fields.{fields}
+use Rattle.cam_base.specs.LinesLeft.{line_of}
 
 abbrev pub meant : Entry → spec.Entry
 meant (Label number name) = spec.label number.text.now name.now

@@ -11,4 +11,6 @@ pub mod PolicyTexts
 pub mod TextsRead
 pub mod WordSets
 pub mod Writable
-pub use Rattle.text_lines.specs.Lines
+pub mod Lines
+pub use Rattle.cam_base.specs.Lines
+pub use Rattle.cap_model.specs.Policies

@@ -12,8 +12,8 @@ use Rattle.policy_text.specs.PolicyTexts.{IsFault}
 use Rattle.policy_text.specs.WordSets.{has}
 use Rattle.policy_text.specs.declared.seen.Seen.{Seen}
 use Rattle.policy_text.specs.declared.words.Words.{Words}
-use Rattle.text_lines.specs.LineFaults.{Wrong}
-use Rattle.text_lines.specs.Lines.{Line}
+use Rattle.cam_base.specs.LineFaults.{Wrong}
+use Rattle.cam_base.specs.Lines.{Line}
 
 -- no more of these lines say an edge than a text may have edges
 abbrev pub HasFewEdges : List Told → Type 0

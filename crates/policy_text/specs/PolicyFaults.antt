@@ -6,8 +6,8 @@ use Rattle.std.specs.Str.{bytes_eq}
 use Rattle.cam_base.specs.declared.text_fault.TextFault.{TextFault}
 use Rattle.cam_base.specs.declared.text_fault.TextCode.TheVariants.{LabelTwice, UnknownLabel, ObjectTwice, PolicyLimit}
 use Rattle.policy_text.specs.Entries.{Number, value, Entry, label, object, edge}
-use Rattle.text_lines.specs.LineFaults.{Wrong, at_line}
-use Rattle.text_lines.specs.Lines.{Line}
+use Rattle.cam_base.specs.LineFaults.{Wrong, at_line}
+use Rattle.cam_base.specs.Lines.{Line}
 
 -- ---- limits
 

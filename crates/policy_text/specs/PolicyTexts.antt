@@ -7,10 +7,10 @@ use Rattle.std.specs.List.{filter_map, list_any}
 use Rattle.std.specs.Option.{option_map, option_map_or, option_or, is_some, is_none, unwrap_or}
 use Rattle.std.specs.Ordering.{nat_cmp}
 use Rattle.std.specs.Str.{bytes_eq}
-use Rattle.auth_kinds.specs.Policies.{label_name}
-use Rattle.auth_kinds.specs.Tables.{has, IsSorted}
-use Rattle.auth_kinds.specs.declared.edge.Edge.{Edge}
-use Rattle.auth_kinds.specs.declared.policy.Policy.{Policy}
+use Rattle.cap_model.specs.Policies.{label_name}
+use Rattle.cap_model.specs.Tables.{has, IsSorted}
+use Rattle.cap_model.specs.declared.edge.Edge.{Edge}
+use Rattle.cap_model.specs.declared.policy.Policy.{Policy}
 use Rattle.cam_base.specs.declared.error.Refused.{Refused}
 use Rattle.cam_base.specs.declared.error.Refused.TheVariants as refused
 use Rattle.cam_base.specs.declared.text_fault.TextCode.{TextCode}
@@ -21,9 +21,9 @@ use Rattle.policy_text.specs.declared.kind.Kind.TheVariants as kinds
 use Rattle.policy_text.specs.Entries.{Number, value, Entry, label, object, edge, entry_of}
 use Rattle.policy_text.specs.PolicyFaults.{Told, gives, first_wrong}
 use Rattle.policy_text.specs.PolicyLines.{policy_header, cert_header}
-use Rattle.text_lines.specs.Fields.{fields}
-use Rattle.text_lines.specs.LineFaults.{at_line}
-use Rattle.text_lines.specs.Lines.{Line, lines}
+use Rattle.cam_base.specs.Fields.{fields}
+use Rattle.cam_base.specs.LineFaults.{at_line}
+use Rattle.cam_base.specs.Lines.{Line, lines}
 
 abbrev pub bytes_limit : ℕ
 bytes_limit = 67108864

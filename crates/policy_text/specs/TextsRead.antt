@@ -10,7 +10,7 @@ use Rattle.policy_text.specs.PolicyTexts.{said, told, form_fault, has_label, IsF
 use Rattle.policy_text.specs.WordSets.{has}
 use Rattle.policy_text.specs.declared.kind.Kind.{Kind}
 use Rattle.policy_text.specs.declared.read.Noted.{Noted}
-use Rattle.text_lines.specs.Lines.{Line}
+use Rattle.cam_base.specs.Lines.{Line}
 
 -- there is no fault, or this one, unless memory ran out
 abbrev pub FindsFault : Option TextFault → Result (Unit {0}) (Refused TextFault) → Type 0

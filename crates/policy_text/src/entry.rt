@@ -5,13 +5,12 @@ ghost use Rattle.policy_text.specs.EntriesRead.{meant, fields_behind};
 ghost use Rattle.std.specs.List.{position};
 ghost use Rattle.std.specs.Option.{option_map};
 ghost use Rattle.std.specs.Prelude.{◌≡◌, ◌==◌, ◌<◌, ◌∷◌, length, IfSome};
-ghost use Rattle.text_lines.specs.Fields.{fields};
+ghost use Rattle.cam_base.specs.Fields.{fields};
 
 use crate::kind::Kind;
 use crate::number::Digits;
-use auth_kinds::{Authority, is_label_name};
-use cam_base::is_word;
-use text_lines::Line;
+use cam_base::{Line, is_word};
+use cap_model::{Authority, is_label_name};
 
 /// What a line says, by its fields. Numbers stand as they are written.
 #[derive(Clone, Copy)]

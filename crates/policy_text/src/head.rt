@@ -3,13 +3,12 @@
 ghost use Rattle.policy_text.specs.PolicyTexts.{header, is_headed, head_fault, at_start, body};
 ghost use Rattle.policy_text.specs.TextsRead.{FindsFault};
 ghost use Rattle.std.specs.Prelude.{◌≡◌};
-ghost use Rattle.text_lines.specs.Lines.{lines};
-ghost use Rattle.text_lines.specs.LinesLeft.{lines_left};
+ghost use Rattle.cam_base.specs.Lines.{lines};
+ghost use Rattle.cam_base.specs.LinesLeft.{lines_left};
 
 use crate::kind::Kind;
-use cam_base::{Refused, Text, TextCode, TextFault};
+use cam_base::{Lines, Refused, Text, TextCode, TextFault};
 use std::alloc::Global;
-use text_lines::Lines;
 
 /// The most bytes of a text.
 pub const MAX_BYTES: usize = 67_108_864;

@@ -2,7 +2,7 @@
 
 ghost use Rattle.policy_text.specs.KnownNumbers.{knows, IfLow, IsRight, IsSmall};
 ghost use Rattle.policy_text.specs.Entries.{value};
-ghost use Rattle.auth_kinds.specs.Policies.{label_name};
+ghost use Rattle.cap_model.specs.Policies.{label_name};
 ghost use Rattle.std.specs.BTreeSet.{contains};
 ghost use Rattle.std.specs.List.{list_any};
 ghost use Rattle.std.specs.Option.{is_some, option_map_or};

@@ -2,13 +2,12 @@
 
 ghost use Rattle.policy_text.specs.Labelled.{first_unlabelled, object_label, unlabelled, IsLabelOf, IsLabelling};
 ghost use Rattle.policy_text.specs.PolicyTexts.{IsFault};
-ghost use Rattle.spread_names.specs.Naming.{spread_found};
+ghost use Rattle.name_tables.specs.Naming.{spread_found};
 ghost use Rattle.std.specs.Prelude.{◌≡◌, List as Items, ℕ, Some, length, map, IfErr, IfOk};
 
-use auth_kinds::{Labels, Policy};
 use cam_base::{List, Name, NoMemory, Refused, Text, TextCode, TextFault};
-use cap_model::{Entry, Spec};
-use spread_names::SpreadNames;
+use cap_model::{Entry, Labels, Policy, Spec};
+use name_tables::SpreadNames;
 use std::alloc::Global;
 
 /// The labels that object lines give, by name. The first line of an object counts.

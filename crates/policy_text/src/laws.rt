@@ -1,8 +1,8 @@
 //! Laws of the definitions. These functions do nothing: what they ensure is the law.
 
-ghost use Rattle.auth_kinds.specs.declared.edge.Edge.{Edge};
-ghost use Rattle.auth_kinds.specs.declared.policy.Policy.{Policy};
-ghost use Rattle.auth_kinds.specs.Policies.{IsPolicy};
+ghost use Rattle.cap_model.specs.declared.edge.Edge.{Edge};
+ghost use Rattle.cap_model.specs.declared.policy.Policy.{Policy};
+ghost use Rattle.cap_model.specs.Policies.{IsPolicy};
 ghost use Rattle.cam_base.specs.declared.error.Refused.{Refused};
 ghost use Rattle.cam_base.specs.declared.text_fault.TextFault.{TextFault};
 ghost use Rattle.policy_text.specs.PolicyLines.{policy_text, cert_text};

@@ -7,8 +7,8 @@ ghost use Rattle.std.specs.Prelude.{[], IfOk, OnOk};
 
 use crate::entry::{Entry, EntryLine};
 use crate::number::Digits;
-use auth_kinds::{Authority, Edge, EdgeTable, Policy};
 use cam_base::{List, Name, NoMemory, Text, is_name};
+use cap_model::{Authority, Edge, EdgeTable, Policy};
 use std::alloc::Global;
 use std::collections::BTreeMap;
 

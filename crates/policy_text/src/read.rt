@@ -1,6 +1,6 @@
 //! The readers.
 
-ghost use Rattle.auth_kinds.specs.Policies.{IsPolicy};
+ghost use Rattle.cap_model.specs.Policies.{IsPolicy};
 ghost use Rattle.policy_text.specs.KnownNumbers.{knows, IsNear, IsRight};
 ghost use Rattle.policy_text.specs.PolicyFaults.{first_wrong};
 ghost use Rattle.policy_text.specs.PolicyTexts.{body, IsPolicyRead, IsCertRead, AreLabelled};
@@ -9,7 +9,7 @@ ghost use Rattle.policy_text.specs.LinesSeen.{HasFewEdges};
 ghost use Rattle.policy_text.specs.TextsRead.{FindsFault, IsNoted, AreNoted, Notes};
 ghost use Rattle.policy_text.specs.WordSets.{IsAdded};
 ghost use Rattle.std.specs.Prelude.{◌≡◌, [], true, IfOk, OnOk};
-ghost use Rattle.text_lines.specs.LinesLeft.{line_of};
+ghost use Rattle.cam_base.specs.LinesLeft.{line_of};
 
 use crate::entry::{Entry, EntryLine, read_entry};
 use crate::head::{body, check_head};
@@ -19,10 +19,9 @@ use crate::number::Digits;
 use crate::parts::Parts;
 use crate::seen::{Expected, MAX_EDGES, Seen};
 use crate::words::Words;
-use auth_kinds::{EdgeTable, Policy};
-use cam_base::{NoMemory, Refused, TextCode, TextFault};
+use cam_base::{Line, NoMemory, Refused, TextCode, TextFault, refusal};
+use cap_model::{EdgeTable, Policy};
 use std::alloc::Global;
-use text_lines::{Line, refusal};
 
 /// The policy of a text, or the first fault that stands in it, Q1 to Q5: `specs/PolicyTexts.antt`.
 pub fn read_policy(alloc: Global, bytes: &[u8]) -> Result<Policy, Refused<TextFault>>

@@ -1,6 +1,6 @@
 //! What the lines in front of a line have said.
 
-ghost use Rattle.auth_kinds.specs.declared.authority.Authority.{Authority};
+ghost use Rattle.cap_model.specs.declared.authority.Authority.{Authority};
 ghost use Rattle.policy_text.specs.Entries.{Number, label, object, edge};
 ghost use Rattle.policy_text.specs.EntriesRead.{meant, told_line};
 ghost use Rattle.policy_text.specs.KnownNumbers.{knows, IsRight};
@@ -9,15 +9,14 @@ ghost use Rattle.policy_text.specs.PolicyFaults.{Told, edges_limit, new_edges, s
 ghost use Rattle.std.specs.List.{list_any};
 ghost use Rattle.std.specs.Option.{is_none};
 ghost use Rattle.std.specs.Prelude.{◌≡◌, [], ◌∷◌, ◌++◌, ◌&&◌, List, Bool, nat_le, not, true, IfOk, OnOk, IfNone, IfSome};
-ghost use Rattle.text_lines.specs.Lines.{Line as SpecLine};
+ghost use Rattle.cam_base.specs.Lines.{Line as SpecLine};
 
 use crate::entry::{Entry, EntryLine};
 use crate::known::Known;
 use crate::number::{Digits, is_past};
 use crate::words::Words;
-use cam_base::{NoMemory, Refused, TextCode, TextFault};
+use cam_base::{NoMemory, Refused, TextCode, TextFault, refusal};
 use std::alloc::Global;
-use text_lines::refusal;
 
 /// The most labels of a text.
 pub const MAX_LABELS: usize = 8192;

@@ -4,7 +4,7 @@ ghost use Rattle.policy_text.specs.WordSets.{has, IsAdded};
 ghost use Rattle.std.specs.Prelude.{◌≡◌, ◌+◌, ◌||◌, false, List, ℕ, IfOk, OnOk};
 
 use cam_base::NoMemory;
-use spread_names::SpreadNames;
+use name_tables::SpreadNames;
 use std::alloc::Global;
 
 /// Words of a text, each once, and how many there are.

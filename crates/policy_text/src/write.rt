@@ -5,9 +5,9 @@ ghost use Rattle.policy_text.specs.PolicyLines.{label_line, object_line, edge_li
 ghost use Rattle.std.specs.List.{flat_map};
 ghost use Rattle.std.specs.Prelude.{◌≡◌};
 
-use auth_kinds::{Edge, EdgeTable, Policy};
 use cam_base::{Name, Text};
 use cam_io::{Failed, Outputs, write_all, write_parts};
+use cap_model::{Edge, EdgeTable, Policy};
 use itoa::Buffer;
 
 /// Writes the text of a policy to an open channel: `specs/PolicyLines.antt`.

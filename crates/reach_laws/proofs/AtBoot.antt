@@ -4,9 +4,9 @@ use Rattle.std.specs.List.{Contains, list_all}
 use Rattle.std.proofs.lemmas.Bool.{and_parts}
 use Rattle.std.proofs.lemmas.List.Sums.{AllPass-from_list_all}
 use Rattle.std.proofs.lemmas.Option.{slice_get_within, get_or_from_slice_get}
-use Rattle.auth_kinds.specs.ObjectLabels.{label_of}
-use Rattle.auth_kinds.specs.declared.authority.Authority.{Authority}
-use Rattle.auth_kinds.specs.declared.authority.Authority.TheVariants.{AsyncSend, Read, Write, Control}
+use Rattle.cap_model.specs.ObjectLabels.{label_of}
+use Rattle.cap_model.specs.declared.authority.Authority.{Authority}
+use Rattle.cap_model.specs.declared.authority.Authority.TheVariants.{AsyncSend, Read, Write, Control}
 use Rattle.cap_model.specs.Auth.{Auth, Held, Structural, buffer_of, of_buffer, of_irq, of_mapped, of_reply, of_root, of_saved, of_space, of_table, table_of}
 use Rattle.cap_model.specs.Confers.{confers, kind_confers, option_confers}
 use Rattle.cap_model.specs.Kept.{IsKept, fits, fits_as, if_any, keeps, keeps_table, rise}

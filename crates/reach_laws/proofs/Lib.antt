@@ -7,3 +7,5 @@ pub mod PieceEdges
 pub mod Reached
 pub mod ValidCertificates
 pub mod WindowEdges
+pub mod FirstSteps
+pub mod PlainSteps

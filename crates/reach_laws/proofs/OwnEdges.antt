@@ -3,17 +3,17 @@ use Rattle.std.proofs.Common.{◌≡◌, ◌∙◌, ℕ, true, List, ◌++◌, O
 use Rattle.std.specs.List.{list_any, slice_get}
 use Rattle.adl_ast.specs.declared.component.Member.TheVariants as members
 use Rattle.adl_meaning.specs.declared.flat.Leaf.{Leaf}
-use Rattle.auth_kinds.specs.Authorities.{authorities}
-use Rattle.auth_kinds.specs.Edges.{edge}
-use Rattle.auth_kinds.specs.declared.authority.Authority.{Authority}
-use Rattle.auth_kinds.specs.declared.authority.Authority.TheVariants.{AsyncSend}
-use Rattle.auth_kinds.specs.declared.edge.Edge.{Edge}
+use Rattle.cap_model.specs.Authorities.{authorities}
+use Rattle.cap_model.specs.Edges.{edge}
+use Rattle.cap_model.specs.declared.authority.Authority.{Authority}
+use Rattle.cap_model.specs.declared.authority.Authority.TheVariants.{AsyncSend}
+use Rattle.cap_model.specs.declared.edge.Edge.{Edge}
 use Rattle.cap_model.specs.Confers.{kind_confers}
 use Rattle.cap_model.specs.declared.kind.Kind.TheVariants.{Notification}
 use Rattle.conn_rules.specs.Row.{RW}
-use Rattle.leaf_ends.specs.Members.{is_lock, members_at}
-use Rattle.numbering.specs.Gather.{IsIn, gather}
-use Rattle.numbering.proofs.Gathered.{from_gather, in_append, in_gather, in_left, in_place, in_right, place_of}
+use Rattle.cspace_layout.specs.Members.{is_lock, members_at}
+use Rattle.cam_base.specs.Gather.{IsIn, gather}
+use Rattle.cam_base.proofs.Gathered.{from_gather, in_append, in_gather, in_left, in_place, in_right, place_of}
 use Rattle.arch_policy.specs.Ends.{LockAt}
 use Rattle.arch_policy.specs.Policies.{IsCertificateOf, IsLockEdge}
 use Rattle.arch_policy.specs.Tables.{Tables, domain_label}
@@ -22,7 +22,7 @@ use Rattle.arch_policy.specs.Where.{where_true}
 use Rattle.arch_policy.proofs.Listed.{listed, lock_of_member}
 use Rattle.arch_policy.proofs.Lists.{from_where, has_in, in_any, in_has, in_where}
 use Rattle.arch_policy.proofs.Given.{an_authority}
-use Rattle.numbering.proofs.Lists.{from_any}
+use Rattle.cam_base.proofs.NumberedLists.{from_any}
 
 -- what RW on a notification confers, from one label to itself
 abbrev own_at : ℕ → List Edge

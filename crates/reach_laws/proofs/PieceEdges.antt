@@ -1,7 +1,7 @@
 -- The boot edges between different labels, put together from their pieces.
 use Rattle.std.proofs.Common.{◌≢◌, ◌↔◌, ℕ, List, inl, inr, arith}
-use Rattle.auth_kinds.specs.Edges.{edge}
-use Rattle.auth_kinds.specs.declared.authority.Authority.{Authority}
+use Rattle.cap_model.specs.Edges.{edge}
+use Rattle.cap_model.specs.declared.authority.Authority.{Authority}
 use Rattle.cap_model.specs.Auth.{Auth, of_buffer, of_irq, of_mapped, of_reply, of_root, of_saved, of_space, of_table}
 use Rattle.cap_model.specs.State.{boot}
 use Rattle.cap_model.specs.declared.spec.Spec.{Spec}

@@ -4,9 +4,9 @@ use Rattle.adl_ast.specs.declared.composition.Role.{Role}
 use Rattle.adl_ast.specs.declared.composition.Role.TheVariants.{From, To}
 use Rattle.adl_meaning.specs.declared.connector.Connector.{Connector}
 use Rattle.adl_meaning.specs.declared.connector.Connector.TheVariants.{Rpc, Notification, Interrupt}
-use Rattle.auth_kinds.specs.Edges.{edge}
-use Rattle.auth_kinds.specs.declared.authority.Authority.{Authority}
-use Rattle.auth_kinds.specs.declared.authority.Authority.TheVariants.{Receive, AsyncSend, Call, Reply, Handle}
+use Rattle.cap_model.specs.Edges.{edge}
+use Rattle.cap_model.specs.declared.authority.Authority.{Authority}
+use Rattle.cap_model.specs.declared.authority.Authority.TheVariants.{Receive, AsyncSend, Call, Reply, Handle}
 use Rattle.cap_machine.specs.Runs.{Reaches}
 use Rattle.cap_model.specs.Auth.{Held}
 use Rattle.cap_model.specs.State.{boot}
@@ -20,7 +20,7 @@ use Rattle.arch_policy.specs.Tables.{AreApart, Tables, connection_label, leaf_la
 use Rattle.arch_policy.specs.Reasons.{DirectReason, Handles, IsReasoned, Reason, by_bind, by_call, by_direct, by_lock}
 use Rattle.arch_policy.specs.Triples.{triples}
 use Rattle.arch_policy.proofs.Listed.{triples_are_policy}
-use Rattle.reach_steps.proofs.FirstSteps.{bind_reached, call_reached}
+use Rattle.reach_laws.proofs.FirstSteps.{bind_reached, call_reached}
 use Rattle.reach_laws.specs.Flat.{IsFlat}
 use Rattle.reach_laws.specs.LaidOut.{IsLaidOut}
 use Rattle.reach_laws.proofs.AtBoot.{Signals, held, held_signal}

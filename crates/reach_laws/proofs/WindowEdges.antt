@@ -3,16 +3,16 @@ use Rattle.std.proofs.Common.{◌≡◌, ◌≢◌, ◌⊎◌, ◌∙◌, ℕ, t
 use Rattle.adl_ast.specs.declared.composition.Role.{Role}
 use Rattle.adl_meaning.specs.declared.connector.Connector.{Connector}
 use Rattle.adl_meaning.specs.declared.settled.EndSetting.{EndSetting}
-use Rattle.auth_kinds.specs.Edges.{edge}
-use Rattle.auth_kinds.specs.declared.authority.Authority.{Authority}
-use Rattle.auth_kinds.specs.declared.authority.Authority.TheVariants.{Read, Write}
+use Rattle.cap_model.specs.Edges.{edge}
+use Rattle.cap_model.specs.declared.authority.Authority.{Authority}
+use Rattle.cap_model.specs.declared.authority.Authority.TheVariants.{Read, Write}
 use Rattle.cap_model.specs.Auth.{OfTable}
 use Rattle.cap_model.specs.Confers.{confers, kind_confers, option_confers}
 use Rattle.cap_model.specs.declared.cap.Cap.{Cap}
 use Rattle.cap_model.specs.declared.kind.Kind.TheVariants.{Frame}
 use Rattle.cap_model.specs.declared.spec.Spec.{Spec}
 use Rattle.conn_rules.specs.declared.rule.ObjectKind.{ObjectKind}
-use Rattle.leaf_ends.specs.Lookups.{setting_of}
+use Rattle.cspace_layout.specs.Lookups.{setting_of}
 use Rattle.arch_policy.specs.Tables.{Tables, leaf_label}
 use Rattle.arch_policy.specs.Ends.{EndAt}
 use Rattle.arch_policy.specs.Gives.{gives, leaves}

@@ -11,8 +11,8 @@ use Rattle.adl_meaning.specs.declared.flat.FlatConnection.{FlatConnection}
 use Rattle.adl_meaning.specs.declared.flat.Leaf.{Leaf}
 use Rattle.arch_policy.specs.Ends.{EndAt}
 use Rattle.conn_rules.specs.Ends.{end_rule}
-use Rattle.leaf_ends.specs.Members.{members_at}
-use Rattle.numbering.specs.Gather.{IsIn}
+use Rattle.cspace_layout.specs.Members.{members_at}
+use Rattle.cam_base.specs.Gather.{IsIn}
 
 -- the leaf, and the member of it that the end joins
 pub record IsJoined (source : Source) (flat : Flat) (x : EndAt flat) : Type 0 where

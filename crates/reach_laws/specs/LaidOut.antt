@@ -3,9 +3,9 @@
 -- assigned directly; of what CNodes hold, what stays within a label is what the domain may do with its locks; and no
 -- interrupt has the label of a CNode that holds a capability.
 use Rattle.std.specs.Prelude.{◌≡◌, ◌≢◌, ◌↔◌, ℕ, List, Some}
-use Rattle.auth_kinds.specs.Edges.{edge}
-use Rattle.auth_kinds.specs.ObjectLabels.{label_of}
-use Rattle.auth_kinds.specs.declared.authority.Authority.{Authority}
+use Rattle.cap_model.specs.Edges.{edge}
+use Rattle.cap_model.specs.ObjectLabels.{label_of}
+use Rattle.cap_model.specs.declared.authority.Authority.{Authority}
 use Rattle.cap_model.specs.Auth.{Auth, Held}
 use Rattle.cap_model.specs.State.{boot, irq_at}
 use Rattle.cap_model.specs.declared.cap.Cap.{Cap}
@@ -13,7 +13,7 @@ use Rattle.cap_model.specs.declared.spec.Spec.{Spec}
 use Rattle.arch_policy.specs.Tables.{Tables}
 use Rattle.arch_policy.specs.Policies.{IsLockEdge}
 use Rattle.arch_policy.specs.Reasons.{DirectReason}
-use Rattle.reach_steps.specs.Arranged.{Holds, IsArranged}
+use Rattle.reach_laws.specs.Arranged.{Holds, IsArranged}
 
 pub record IsLaidOut (t : Tables) (spec : Spec) (labels : List ℕ) : Type 0 where
   pub arranged : IsArranged spec labels

@@ -2,3 +2,5 @@ pub mod Flat
 pub mod LaidOut
 pub mod Pieces
 pub mod Windows
+pub mod Arranged
+pub mod Plain

@@ -2,9 +2,9 @@
 -- but Read and Write is theirs; page tables have windows; and what threads have, their roots, spaces and IPC buffers, stays
 -- within their labels.
 use Rattle.std.specs.Prelude.{◌≡◌, ◌≢◌, ◌⊎◌, ℕ, List}
-use Rattle.auth_kinds.specs.Edges.{edge}
-use Rattle.auth_kinds.specs.declared.authority.Authority.{Authority}
-use Rattle.auth_kinds.specs.declared.authority.Authority.TheVariants.{Read, Write}
+use Rattle.cap_model.specs.Edges.{edge}
+use Rattle.cap_model.specs.declared.authority.Authority.{Authority}
+use Rattle.cap_model.specs.declared.authority.Authority.TheVariants.{Read, Write}
 use Rattle.cap_model.specs.Auth.{Held, OfBuffer, OfIrq, OfRoot, OfSpace}
 use Rattle.cap_model.specs.State.{boot}
 use Rattle.cap_model.specs.declared.spec.Spec.{Spec}

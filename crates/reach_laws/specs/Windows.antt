@@ -3,8 +3,8 @@
 use Rattle.std.specs.Prelude.{◌≡◌, ◌≢◌, ℕ, true, false, List, Option, Some}
 use Rattle.std.specs.List.{Contains}
 use Rattle.adl_meaning.specs.declared.settled.EndSetting.{EndSetting}
-use Rattle.auth_kinds.specs.ObjectLabels.{label_of}
-use Rattle.auth_kinds.specs.declared.authority.Authority.TheVariants.{Read, Write}
+use Rattle.cap_model.specs.ObjectLabels.{label_of}
+use Rattle.cap_model.specs.declared.authority.Authority.TheVariants.{Read, Write}
 use Rattle.cap_model.specs.Auth.{table_of}
 use Rattle.cap_model.specs.Kinds.{kind_at}
 use Rattle.cap_model.specs.Lookup.{object_at}
@@ -13,7 +13,7 @@ use Rattle.cap_model.specs.declared.kind.Kind.TheVariants.{Frame}
 use Rattle.cap_model.specs.declared.rights.Rights.{Rights}
 use Rattle.cap_model.specs.declared.spec.Spec.{Spec}
 use Rattle.conn_rules.specs.declared.rule.ObjectKind.{ObjectKind}
-use Rattle.leaf_ends.specs.Lookups.{setting_of}
+use Rattle.cspace_layout.specs.Lookups.{setting_of}
 use Rattle.arch_policy.specs.Tables.{Tables, leaf_label}
 use Rattle.arch_policy.specs.Ends.{EndAt}
 use Rattle.arch_policy.specs.Gives.{gives, leaves}

@@ -3,11 +3,11 @@
 ghost use Rattle.arch_policy.specs.Policies.{IsCertificateOf, IsPolicyOf};
 ghost use Rattle.arch_policy.specs.Reasons.{DirectReason, IsReasoned};
 ghost use Rattle.arch_policy.specs.Tables.{AreApart, Tables};
-ghost use Rattle.auth_kinds.specs.Edges.{edge};
-ghost use Rattle.auth_kinds.specs.Tables.{Has};
-ghost use Rattle.auth_kinds.specs.declared.authority.Authority.TheVariants.{Read, Write};
-ghost use Rattle.auth_kinds.specs.declared.authority.Authority.{Authority};
-ghost use Rattle.auth_kinds.specs.declared.edge.Edge.{Edge};
+ghost use Rattle.cap_model.specs.Edges.{edge};
+ghost use Rattle.cap_model.specs.Tables.{Has};
+ghost use Rattle.cap_model.specs.declared.authority.Authority.TheVariants.{Read, Write};
+ghost use Rattle.cap_model.specs.declared.authority.Authority.{Authority};
+ghost use Rattle.cap_model.specs.declared.edge.Edge.{Edge};
 ghost use Rattle.cap_machine.specs.Runs.{Reaches};
 ghost use Rattle.cap_model.specs.Auth.{Auth, OfTable};
 ghost use Rattle.cap_model.specs.State.{boot};

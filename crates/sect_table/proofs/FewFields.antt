@@ -3,7 +3,7 @@ use Rattle.std.proofs.Common.{◌≡◌, refl, ◌<◌, List, [], ◌∷◌, ℕ
 use Rattle.std.specs.Borrow.{Bor}
 use Rattle.sect_table.specs.Headers.{header_of}
 use Rattle.sect_table.specs.Sections.{spelled}
-use Rattle.text_lines.specs.Texts.{texts}
+use Rattle.cam_base.specs.LineTexts.{texts}
 
 pub no_header : (fields : List (Bor (List ℕ))) → length fields < 2 → header_of (texts fields) ≡ None
 no_header [] few = refl

@@ -1,1 +1,11 @@
 pub mod FewFields
+pub mod Heads
+pub mod Reading
+pub mod ElfTables
+pub mod Values
+pub mod Fields
+pub mod Lines
+pub mod Numbers
+pub mod Rows
+pub mod Sound
+pub mod Words

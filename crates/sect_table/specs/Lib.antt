@@ -2,3 +2,14 @@ pub mod Headers
 pub mod Sections
 pub mod Tables
 pub mod TablesRead
+pub mod Classes
+pub mod Codes
+pub mod Elf
+pub mod Faults
+pub mod Fields
+pub mod ElfHeaders
+pub mod HeadersLeft
+pub mod ElfSections
+pub mod SectionsRead
+pub mod Texts
+pub mod TablesBack

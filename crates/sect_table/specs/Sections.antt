@@ -5,7 +5,7 @@ use Rattle.std.specs.Str.{bytes_eq}
 use Rattle.cam_base.specs.Names.{is_name}
 use Rattle.cam_base.specs.Numbers.{number_value}
 use Rattle.sect_table.specs.declared.image.Section.{Section}
-use Rattle.text_lines.specs.AllThere.{of_four}
+use Rattle.cam_base.specs.AllThere.{of_four}
 
 -- whether rights let the program write
 abbrev pub writes_of : List ℕ → Option Bool

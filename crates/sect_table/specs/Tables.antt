@@ -11,8 +11,8 @@ use Rattle.sect_table.specs.Sections.{section_of}
 use Rattle.sect_table.specs.declared.image.Header.{Header}
 use Rattle.sect_table.specs.declared.image.Image.{Image}
 use Rattle.sect_table.specs.declared.image.Section.{Section}
-use Rattle.text_lines.specs.Fields.{spaced_fields}
-use Rattle.text_lines.specs.Lines.{Line, lines, end_of}
+use Rattle.cam_base.specs.Fields.{spaced_fields}
+use Rattle.cam_base.specs.Lines.{Line, lines, end_of}
 
 -- the most sections of a table
 abbrev pub sections_limit : ℕ

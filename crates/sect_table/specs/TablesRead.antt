@@ -6,7 +6,7 @@ use Rattle.cam_base.specs.declared.error.Refused.TheVariants as refused
 use Rattle.cam_base.specs.declared.place.Fault.{Fault}
 use Rattle.sect_table.specs.Tables.{bad_line, first_bad, sections_of}
 use Rattle.sect_table.specs.declared.image.Section.{Section}
-use Rattle.text_lines.specs.Lines.{Line}
+use Rattle.cam_base.specs.Lines.{Line}
 
 -- the sections of lines where none is at fault, or the first fault, unless memory ran out
 abbrev pub AreSectionsRead : ℕ → List Line → Result (List Section) (Refused Fault) → Type 0

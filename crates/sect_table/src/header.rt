@@ -5,7 +5,7 @@ ghost use Rattle.cam_base.specs.Numbers.{number_value};
 ghost use Rattle.std.specs.Option.{option_map};
 ghost use Rattle.std.specs.Prelude.{◌≡◌, codes};
 ghost use Rattle.std.specs.Str.{bytes_eq};
-ghost use Rattle.text_lines.specs.Texts.{texts};
+ghost use Rattle.cam_base.specs.LineTexts.{texts};
 
 use crate::image::Header;
 use cam_base::read_number;

@@ -4,15 +4,16 @@ ghost use Rattle.sect_table.specs.Headers.{header_of};
 ghost use Rattle.sect_table.specs.Tables.{IsRead, bad_between, bad_line, section_at};
 ghost use Rattle.sect_table.specs.TablesRead.{AreSectionsRead};
 ghost use Rattle.std.specs.Prelude.{◌≡◌, IfOk};
-ghost use Rattle.text_lines.specs.Fields.{spaced_fields};
-ghost use Rattle.text_lines.specs.LinesLeft.{line_of, lines_left};
+ghost use Rattle.cam_base.specs.Fields.{spaced_fields};
+ghost use Rattle.cam_base.specs.LinesLeft.{line_of, lines_left};
 
 use crate::header::read_header;
 use crate::image::{Header, Image, Section};
 use crate::section::read_section;
-use cam_base::{Code, Fault, List, Name, NoMemory, Place, Refused, Text};
+use cam_base::{
+    Code, Fault, Line, Lines, List, Name, NoMemory, Place, Refused, Text, spaced_fields,
+};
 use std::alloc::Global;
-use text_lines::{Line, Lines, spaced_fields};
 
 /// The most sections of a table.
 pub const MAX_SECTIONS: usize = 256;

@@ -3,7 +3,7 @@
 ghost use Rattle.sect_table.specs.Sections.{ends_within, is_placed, is_sound, numbers_of, place_of, section, section_of, spelled, writes_of};
 ghost use Rattle.cam_base.specs.Names.{is_name};
 ghost use Rattle.std.specs.Prelude.{◌≡◌, ◌∷◌, [], IfOk, IsTrue};
-ghost use Rattle.text_lines.specs.Texts.{texts};
+ghost use Rattle.cam_base.specs.LineTexts.{texts};
 
 use crate::image::Section;
 use cam_base::{Name, NoMemory, is_name, read_number};

@@ -8,8 +8,8 @@ use Rattle.front_end.specs.Fronts.{IsFrontOf}
 use Rattle.front_end.specs.declared.error.BuildError.{BuildError}
 use Rattle.front_end.specs.declared.phases.FrontEnd.{FrontEnd}
 use Rattle.front_end.proofs.Refusing.{tables_are}
-use Rattle.reason_lines.specs.Answers.{IsAnswer}
-use Rattle.reason_lines.specs.declared.answer.Answer.{Answer}
+use Rattle.explain.specs.Answers.{IsAnswer}
+use Rattle.explain.specs.declared.answer.Answer.{Answer}
 use Rattle.source_commands.specs.Explained.{IsExplained, told}
 
 module _ (from authority to root : List ℕ) (contents : Contents) (before now : List ℕ → ℕ) where

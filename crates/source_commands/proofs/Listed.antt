@@ -5,16 +5,16 @@ use Rattle.adl_ast.specs.declared.source.Source.{Source}
 use Rattle.adl_meaning.specs.Flat.{flat_of}
 use Rattle.arch_policy.specs.Labels.{label_lines, label_texts}
 use Rattle.arch_policy.specs.Policies.{IsPolicyOf}
-use Rattle.auth_kinds.specs.Policies.{NumbersDiffer}
-use Rattle.auth_kinds.specs.Tables.{IsSorted}
-use Rattle.auth_kinds.specs.declared.edge.Edge.{Edge}
-use Rattle.auth_kinds.specs.declared.policy.Policy.{Policy}
+use Rattle.cap_model.specs.Policies.{NumbersDiffer}
+use Rattle.cap_model.specs.Tables.{IsSorted}
+use Rattle.cap_model.specs.declared.edge.Edge.{Edge}
+use Rattle.cap_model.specs.declared.policy.Policy.{Policy}
 use Rattle.cam_io.specs.Contents.{Contents}
 use Rattle.front_end.specs.First.{source_tables}
 use Rattle.front_end.specs.Fronts.{IsAssigned, IsFrontOf}
 use Rattle.front_end.specs.declared.phases.FrontEnd.{FrontEnd}
-use Rattle.numbering.specs.Gather.{gather}
-use Rattle.numbering.proofs.Gathered.{from_ones}
+use Rattle.cam_base.specs.Gather.{gather}
+use Rattle.cam_base.proofs.Gathered.{from_ones}
 use Rattle.source_commands.specs.Listed.{IsListing, IsListingOf}
 use Rattle.source_commands.specs.declared.listing.Listing.{Listing}
 

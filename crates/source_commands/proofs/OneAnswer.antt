@@ -5,11 +5,11 @@ use Rattle.adl_ast.specs.declared.source.Source.{Source}
 use Rattle.arch_policy.specs.Labels.{label_texts}
 use Rattle.arch_policy.specs.Reasons.{IsReasoned, Reason, by_bind, by_call, by_direct, by_lock}
 use Rattle.arch_policy.specs.Tables.{Tables}
-use Rattle.auth_kinds.proofs.TableMembers.{one_table}
-use Rattle.auth_kinds.specs.Authorities.{authority_of}
-use Rattle.auth_kinds.specs.Tables.{has}
-use Rattle.auth_kinds.specs.declared.authority.Authority.{Authority}
-use Rattle.auth_kinds.specs.declared.edge.Edge.{Edge}
+use Rattle.cap_model.proofs.TableMembers.{one_table}
+use Rattle.cap_model.specs.Authorities.{authority_of}
+use Rattle.cap_model.specs.Tables.{has}
+use Rattle.cap_model.specs.declared.authority.Authority.{Authority}
+use Rattle.cap_model.specs.declared.edge.Edge.{Edge}
 use Rattle.cam_io.specs.Contents.{Contents}
 use Rattle.explain.specs.Explained.{AtMost, ComesFirst, Explains, IsAsked, numbers, tell, told_of}
 use Rattle.explain.specs.declared.reason.Reason.{Reason as Told}
@@ -19,9 +19,9 @@ use Rattle.front_end.specs.First.{first_list_fault, source_tables}
 use Rattle.front_end.specs.Refusals.{yields}
 use Rattle.front_end.specs.declared.error.BuildError.{BuildError}
 use Rattle.front_end.specs.declared.error.BuildError.TheVariants as error
-use Rattle.reason_lines.specs.Answers.{IsAnswer, explanation}
-use Rattle.reason_lines.specs.declared.answer.Answer.{Answer}
-use Rattle.reason_lines.specs.declared.answer.Answer.TheVariants.{Assigned, NotAssigned}
+use Rattle.explain.specs.Answers.{IsAnswer, explanation}
+use Rattle.explain.specs.declared.answer.Answer.{Answer}
+use Rattle.explain.specs.declared.answer.Answer.TheVariants.{Assigned, NotAssigned}
 use Rattle.source_commands.specs.Explained.{IsAnswered, IsExplained}
 use Rattle.source_commands.specs.Listed.{IsListed, IsListing, IsListingOf}
 use Rattle.source_commands.specs.declared.listing.Listing.{Listing}

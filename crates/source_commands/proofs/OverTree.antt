@@ -21,22 +21,22 @@ use Rattle.assigned_laws.proofs.Ranked.{line_name, line_place, lines_apart}
 use Rattle.assigned_laws.proofs.TextReasons.{assigned_texts}
 use Rattle.assigned_laws.specs.Texts.{IsAssignedText}
 use Rattle.assigned_laws.specs.Triples.{name_at, triple}
-use Rattle.auth_kinds.specs.Authorities.{authority_of, text_of}
-use Rattle.auth_kinds.specs.Edges.{edge}
-use Rattle.auth_kinds.specs.declared.authority.Authority.{Authority}
-use Rattle.auth_kinds.specs.declared.edge.Edge.{Edge}
+use Rattle.cap_model.specs.Authorities.{authority_of, text_of}
+use Rattle.cap_model.specs.Edges.{edge}
+use Rattle.cap_model.specs.declared.authority.Authority.{Authority}
+use Rattle.cap_model.specs.declared.edge.Edge.{Edge}
 use Rattle.cam_io.specs.Contents.{Contents}
-use Rattle.edge_lines.specs.Lines.{Labels, apart_line, edge_line, name_of, words_line}
+use Rattle.policy_text.specs.Lines.{Labels, apart_line, edge_line, name_of, words_line}
 use Rattle.explain.specs.Explained.{IsAsked}
 use Rattle.flat_laws.proofs.FewEnds.{no_first}
 use Rattle.front_end.proofs.LoadedShort.{loaded_short, short_spelled}
 use Rattle.front_end.proofs.Sound.{IsFaultless, faultless}
 use Rattle.front_end.specs.First.{first_front_fault, first_list_fault, source_tables}
-use Rattle.numbering.proofs.Gathered.{in_gather, in_place}
-use Rattle.numbering.specs.Gather.{IsIn}
-use Rattle.reason_lines.specs.Answers.{IsAnswer, is_assigned}
-use Rattle.reason_lines.specs.declared.answer.Answer.{Answer}
-use Rattle.reason_lines.specs.declared.answer.Answer.TheVariants.{Assigned, NotAssigned}
+use Rattle.cam_base.proofs.Gathered.{in_gather, in_place}
+use Rattle.cam_base.specs.Gather.{IsIn}
+use Rattle.explain.specs.Answers.{IsAnswer, is_assigned}
+use Rattle.explain.specs.declared.answer.Answer.{Answer}
+use Rattle.explain.specs.declared.answer.Answer.TheVariants.{Assigned, NotAssigned}
 use Rattle.source_commands.specs.Assigned.{AnswersWhether, ListsAssigned, triple_line}
 use Rattle.source_commands.specs.Explained.{IsAnswered}
 use Rattle.source_commands.specs.Listed.{IsListing, listing_text}

@@ -5,10 +5,10 @@ use Rattle.adl_ast.specs.declared.source.Source.{Source}
 use Rattle.adl_import.specs.Loaded.{IsLoaded}
 use Rattle.assigned_laws.specs.Texts.{IsAssignedText}
 use Rattle.assigned_laws.specs.Triples.{AreAll, Triple}
-use Rattle.auth_kinds.specs.Authorities.{authority_of, text_of}
-use Rattle.auth_kinds.specs.declared.authority.Authority.{Authority}
+use Rattle.cap_model.specs.Authorities.{authority_of, text_of}
+use Rattle.cap_model.specs.declared.authority.Authority.{Authority}
 use Rattle.cam_io.specs.Contents.{Contents}
-use Rattle.edge_lines.specs.Lines.{words_line}
+use Rattle.policy_text.specs.Lines.{words_line}
 
 -- `drv Read buf`
 abbrev pub triple_line : Triple → List ℕ

@@ -9,8 +9,8 @@ use Rattle.front_end.specs.First.{first_list_fault, source_tables}
 use Rattle.front_end.specs.Refusals.{Refuses}
 use Rattle.front_end.specs.declared.error.BuildError.{BuildError}
 use Rattle.front_end.specs.declared.error.BuildError.TheVariants as error
-use Rattle.reason_lines.specs.Answers.{IsAnswer}
-use Rattle.reason_lines.specs.declared.answer.Answer.{Answer}
+use Rattle.explain.specs.Answers.{IsAnswer}
+use Rattle.explain.specs.declared.answer.Answer.{Answer}
 
 abbrev pub told : Result Answer NoMemory → Result Answer BuildError
 told (Ok answer) = Ok answer

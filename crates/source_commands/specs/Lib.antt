@@ -6,4 +6,4 @@ pub use Rattle.cam_io.specs.Contents
 pub use Rattle.cam_io.specs.Reading
 pub use Rattle.front_end.specs.First
 pub use Rattle.front_end.specs.Refusals
-pub use Rattle.reason_lines.specs.Answers
+pub use Rattle.explain.specs.Answers

@@ -5,9 +5,9 @@ use Rattle.adl_import.specs.Loaded.{IsLoaded}
 use Rattle.adl_meaning.specs.Flat.{flat_of}
 use Rattle.arch_policy.specs.Labels.{label_lines}
 use Rattle.arch_policy.specs.Policies.{IsPolicyOf}
-use Rattle.auth_kinds.specs.Tables.{IsSorted}
+use Rattle.cap_model.specs.Tables.{IsSorted}
 use Rattle.cam_io.specs.Contents.{Contents}
-use Rattle.edge_lines.specs.Lines.{apart_lines}
+use Rattle.policy_text.specs.Lines.{apart_lines}
 use Rattle.front_end.specs.First.{first_list_fault, source_tables}
 use Rattle.front_end.specs.Refusals.{Refuses}
 use Rattle.front_end.specs.declared.error.BuildError.{BuildError}

@@ -7,8 +7,8 @@ ghost use Rattle.std.specs.Prelude.{◌≡◌};
 
 use cam_base::NoMemory;
 use cam_io::Files;
+use explain::{Answer, Question, answer_of};
 use front_end::{BuildError, front};
-use reason_lines::{Answer, Question, answer_of};
 use std::alloc::Global;
 
 /// Whether the authority is assigned in the root's source, and the first reason.

@@ -3,8 +3,8 @@
 ghost use Rattle.cam_io.specs.Contents.{Contents};
 ghost use Rattle.front_end.specs.Refusals.{yields};
 ghost use Rattle.front_end.specs.declared.error.BuildError.{BuildError as Refusal};
-ghost use Rattle.reason_lines.specs.Answers.{is_assigned};
-ghost use Rattle.reason_lines.specs.declared.answer.Answer.{Answer};
+ghost use Rattle.explain.specs.Answers.{is_assigned};
+ghost use Rattle.explain.specs.declared.answer.Answer.{Answer};
 ghost use Rattle.source_commands.specs.Assigned.{AnswersWhether, ListsAssigned};
 ghost use Rattle.source_commands.specs.Explained.{IsAnswered, IsExplained};
 ghost use Rattle.source_commands.specs.Listed.{IsListed, IsListing, listing_text};

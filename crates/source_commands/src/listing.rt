@@ -1,16 +1,16 @@
 //! The assigned edges of a source.
 
 ghost use Rattle.adl_import.specs.Loaded.{AlikeInSource};
-ghost use Rattle.auth_kinds.specs.Policies.{NumbersDiffer};
+ghost use Rattle.cap_model.specs.Policies.{NumbersDiffer};
 ghost use Rattle.cam_io.specs.Reading.{InAll, KeepsFiles, LearnsOnly};
 ghost use Rattle.cam_io.specs.Sinks.{IsOpen, Writes};
 ghost use Rattle.source_commands.specs.Listed.{IsListed, listing_text};
 ghost use Rattle.std.specs.Prelude.{◌≡◌};
 
-use auth_kinds::{EdgeTable, Policy};
 use cam_io::{Failed, Files, Outputs};
-use edge_lines::{Names, write_edges};
+use cap_model::{EdgeTable, Policy};
 use front_end::{BuildError, front};
+use policy_text::{Names, write_edges};
 use std::alloc::Global;
 
 /// The labels of a system and its assigned edges.

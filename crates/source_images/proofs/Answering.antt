@@ -16,8 +16,8 @@ use Rattle.cam_base.specs.declared.place.Fault.{Fault}
 use Rattle.cam_base.specs.declared.place.Place.{Place}
 use Rattle.cam_io.specs.Contents.{Contents}
 use Rattle.source_images.proofs.TableReads.{found_count}
-use Rattle.numbering.specs.Gather.{IsIn}
-use Rattle.program_sections.specs.declared.images.Images.{Images}
+use Rattle.cam_base.specs.Gather.{IsIn}
+use Rattle.source_images.specs.declared.images.Images.{Images}
 use Rattle.sect_table.specs.Tables.{first_fault, image_of}
 use Rattle.sect_table.specs.declared.image.Image.{Image}
 use Rattle.source_images.proofs.Lines.{first_line_fault, least-append, least-line_faults}
@@ -33,7 +33,7 @@ use Rattle.source_images.specs.declared.error.ImagesError.{ImagesError}
 use Rattle.source_images.specs.declared.error.ImagesError.TheVariants as error
 use Rattle.source_images.specs.declared.tables.Table.{Table}
 use Rattle.source_images.specs.declared.reading.Reading.{Reading}
-use Rattle.text_lines.specs.Lines.{Line, lines}
+use Rattle.cam_base.specs.Lines.{Line, lines}
 
 names_are : (folder : List ℕ) (ns : List Name) → map (λ (t : Name × List ℕ). t.0) (map (table_at folder) ns) ≡ ns
 names_are folder [] = refl

@@ -13,15 +13,15 @@ use Rattle.adl_ast.specs.declared.source.Source.{Source}
 use Rattle.adl_meaning.proofs.Least.{least-empty}
 use Rattle.adl_meaning.specs.Lists.{firsts}
 use Rattle.adl_meaning.specs.declared.flat.Flat.{Flat}
-use Rattle.leaf_ends.specs.Within.{IsWithin}
-use Rattle.program_sections.specs.Numbered.{AreNumbered}
+use Rattle.cspace_layout.specs.Within.{IsWithin}
+use Rattle.source_images.specs.Numbered.{AreNumbered}
 use Rattle.cam_base.specs.declared.place.Fault.{Fault}
 use Rattle.cam_base.specs.declared.place.Place.{Place}
 use Rattle.cam_base.proofs.Lists.{nil_append, length-filter_map}
 use Rattle.cap_model.specs.declared.level.Arch.{Arch}
-use Rattle.numbering.specs.Gather.{IsIn}
-use Rattle.numbering.proofs.Lists.{none_in}
-use Rattle.numbering.proofs.Gathered.{place_of}
+use Rattle.cam_base.specs.Gather.{IsIn}
+use Rattle.cam_base.proofs.NumberedLists.{none_in}
+use Rattle.cam_base.proofs.Gathered.{place_of}
 use Rattle.sect_table.specs.Headers.{header_of}
 use Rattle.sect_table.specs.Sections.{section_of}
 use Rattle.sect_table.specs.Tables.{bad_line, fault_in, first_bad, first_fault, image, image_in, image_of, section_at, sections_of}
@@ -34,8 +34,8 @@ use Rattle.source_images.specs.TableImages.{images_in, images_of}
 use Rattle.source_images.specs.Types.{Name, type_number, type_of, types}
 use Rattle.source_images.proofs.Soundness.{in_cons}
 use Rattle.source_images.proofs.Typing.{behind, firsts-behind, has, position-push}
-use Rattle.text_lines.specs.Fields.{spaced_fields}
-use Rattle.text_lines.specs.Lines.{Line, lines}
+use Rattle.cam_base.specs.Fields.{spaced_fields}
+use Rattle.cam_base.specs.Lines.{Line, lines}
 
 -- ---- counts
 

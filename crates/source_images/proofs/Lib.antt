@@ -7,3 +7,11 @@ pub mod Answering
 pub mod OneAnswer
 pub mod Soundness
 pub mod ImageNumbers
+pub mod Apart
+pub mod Clashing
+pub mod Free
+pub mod InOrder
+pub mod Leaves
+pub mod Rising
+pub mod SectionsTold
+pub mod Sorting

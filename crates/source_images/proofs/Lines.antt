@@ -13,8 +13,8 @@ use Rattle.sect_table.specs.declared.image.Header.{Header}
 use Rattle.source_images.specs.Archs.{at_first_line, other_arch}
 use Rattle.source_images.specs.Found.{Found, absent, too_long, table}
 use Rattle.source_images.specs.TableFaults.{line_fault, line_faults, listed}
-use Rattle.text_lines.specs.Fields.{spaced_fields}
-use Rattle.text_lines.specs.Lines.{Line, lines}
+use Rattle.cam_base.specs.Fields.{spaced_fields}
+use Rattle.cam_base.specs.Lines.{Line, lines}
 
 -- the first fault of two lists
 pub least-append : (xs ys : List Fault) → least (xs ++ ys) ≡ earlier (least xs) (least ys)

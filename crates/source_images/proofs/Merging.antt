@@ -18,8 +18,8 @@ use Rattle.source_images.specs.Types.{Name}
 use Rattle.source_images.specs.declared.merge.Merged.{Merged}
 use Rattle.source_images.specs.declared.reading.Reading.{Reading}
 use Rattle.source_images.proofs.Lines.{first_line_fault}
-use Rattle.text_lines.specs.Fields.{spaced_fields}
-use Rattle.text_lines.specs.Lines.{Line, lines}
+use Rattle.cam_base.specs.Fields.{spaced_fields}
+use Rattle.cam_base.specs.Lines.{Line, lines}
 
 -- a fault that was found stays
 kept : (m : Merged) (rs : List Reading) → is_some m.fault ≡ true → fold merged_with m rs ≡ m

@@ -4,7 +4,7 @@ use Rattle.adl_ast.specs.declared.source.Source.{Source}
 use Rattle.adl_meaning.specs.declared.flat.Flat.{Flat}
 use Rattle.cam_base.specs.declared.place.Fault.{Fault}
 use Rattle.cam_io.specs.Contents.{Contents}
-use Rattle.program_sections.specs.declared.images.Images.{Images}
+use Rattle.source_images.specs.declared.images.Images.{Images}
 use Rattle.source_images.specs.ImagesRead.{AreImagesRead, yields}
 use Rattle.source_images.specs.TableFaults.{first_table_fault, name_of_file}
 use Rattle.source_images.specs.TableImages.{images_of}

@@ -3,7 +3,7 @@ use Rattle.std.proofs.Common.{◌≡◌, ◌∙◌, refl, sym, ap, subst, inl, i
 use Rattle.std.proofs.lemmas.Option.{same_Some}
 use Rattle.std.specs.List.{cons_option, slice_get}
 use Rattle.std.specs.Option.{option_map}
-use Rattle.numbering.specs.Gather.{IsIn}
+use Rattle.cam_base.specs.Gather.{IsIn}
 use Rattle.sect_table.specs.Headers.{header_of}
 use Rattle.sect_table.specs.Sections.{is_sound, section_of, spelled, where_sound}
 use Rattle.sect_table.specs.Tables.{image, image_in, image_of, sections_of}
@@ -13,8 +13,8 @@ use Rattle.sect_table.specs.declared.image.Section.{Section}
 use Rattle.source_images.specs.Found.{Found, absent, too_long, table}
 use Rattle.source_images.specs.TableImages.{images_in}
 use Rattle.source_images.specs.Types.{Name}
-use Rattle.text_lines.specs.Fields.{spaced_fields}
-use Rattle.text_lines.specs.Lines.{Line, lines}
+use Rattle.cam_base.specs.Fields.{spaced_fields}
+use Rattle.cam_base.specs.Lines.{Line, lines}
 
 pub in_cons : {X : Type 0} (o : Option X) (xs : List X) (x : X) → IsIn x (cons_option o xs) → (o ≡ Some x) ⊎ IsIn x xs
 in_cons None xs x i = inr i

@@ -10,9 +10,9 @@ use Rattle.std.specs.List.{slice_get}
 use Rattle.std.specs.Prelude.{IsErrAnd, string_bytes}
 use Rattle.cam_io.specs.Contents.{Contents}
 use Rattle.cam_io.specs.Reading.{InAll, LearnsOnly}
-use Rattle.numbering.specs.Gather.{IsIn}
-use Rattle.numbering.proofs.Gathered.{in_place}
-use Rattle.numbering.proofs.Lists.{get_map}
+use Rattle.cam_base.specs.Gather.{IsIn}
+use Rattle.cam_base.proofs.Gathered.{in_place}
+use Rattle.cam_base.proofs.NumberedLists.{get_map}
 use Rattle.source_images.specs.Found.{AlikeAsRead, AlikeInTables, AreFound, Found, too_long, table, found_bytes, found_in}
 use Rattle.source_images.specs.Told.{AreTablesRead, IsFound, IsTableRead, files_told, reading_of, names_told, readings_of, table_at, table_told, tables_told}
 use Rattle.source_images.specs.Types.{Name}

@@ -9,8 +9,8 @@ use Rattle.sect_table.specs.Headers.{header_of}
 use Rattle.sect_table.specs.Tables.{bad_line}
 use Rattle.sect_table.specs.declared.image.Header.{Header}
 use Rattle.source_images.specs.Found.{Found, absent, too_long, table}
-use Rattle.text_lines.specs.Fields.{spaced_fields}
-use Rattle.text_lines.specs.Lines.{Line, lines}
+use Rattle.cam_base.specs.Fields.{spaced_fields}
+use Rattle.cam_base.specs.Lines.{Line, lines}
 
 abbrev pub header_in : List Line → Option Header
 header_in [] = None

@@ -7,7 +7,7 @@ use Rattle.adl_ast.specs.declared.source.Source.{Source}
 use Rattle.adl_meaning.specs.declared.flat.Flat.{Flat}
 use Rattle.cam_io.specs.Contents.{Contents}
 use Rattle.cam_io.specs.Reading.{HaveSameFront}
-use Rattle.numbering.specs.Gather.{IsIn}
+use Rattle.cam_base.specs.Gather.{IsIn}
 use Rattle.source_images.specs.Types.{Name, types}
 
 -- the greatest length of a table, in bytes

@@ -5,9 +5,14 @@ pub mod TableFaults
 pub mod TableImages
 pub mod ImagesRead
 pub mod Told
-pub use Rattle.numbering.specs.Gather
+pub mod ByAddress
+pub mod Images
+pub mod Numbered
+pub mod SectionPages
+pub mod SpaceFaults
+pub mod ProgramsTold
+pub use Rattle.cam_base.specs.Gather
 pub use Rattle.cam_io.specs.Causes
 pub use Rattle.cam_io.specs.Contents
 pub use Rattle.cam_io.specs.Reading
-pub use Rattle.leaf_ends.specs.Within
-pub use Rattle.program_sections.specs.Numbered
+pub use Rattle.cspace_layout.specs.Within

@@ -3,7 +3,7 @@ use Rattle.std.specs.Prelude.{List, map, Option, None}
 use Rattle.std.specs.List.{filter_map, zip}
 use Rattle.adl_ast.specs.declared.source.Source.{Source}
 use Rattle.adl_meaning.specs.declared.flat.Flat.{Flat}
-use Rattle.program_sections.specs.declared.images.Images.{Images}
+use Rattle.source_images.specs.declared.images.Images.{Images}
 use Rattle.sect_table.specs.Tables.{image_of}
 use Rattle.sect_table.specs.declared.image.Image.{Image}
 use Rattle.source_images.specs.Found.{Found, absent, too_long, table}

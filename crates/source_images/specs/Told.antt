@@ -12,8 +12,8 @@ use Rattle.cam_base.specs.declared.code.Code.TheVariants.{Limit, NoSections}
 use Rattle.cam_base.specs.declared.place.Fault.{Fault}
 use Rattle.cam_base.specs.declared.place.Place.{Place}
 use Rattle.cam_io.specs.Contents.{Contents}
-use Rattle.numbering.specs.Gather.{IsIn}
-use Rattle.program_sections.specs.declared.images.Images.{Images}
+use Rattle.cam_base.specs.Gather.{IsIn}
+use Rattle.source_images.specs.declared.images.Images.{Images}
 use Rattle.sect_table.specs.Tables.{bad_between, first_fault, image_of}
 use Rattle.sect_table.specs.declared.image.Image.{Image}
 use Rattle.source_images.specs.Archs.{is_other}
@@ -26,7 +26,7 @@ use Rattle.source_images.specs.declared.merge.Merged.{Merged}
 use Rattle.source_images.specs.declared.reading.Reading.{Reading}
 use Rattle.source_images.specs.declared.reading.Reading.TheVariants.{Absent, TooLong, Faulty, Sound}
 use Rattle.source_images.specs.declared.tables.Table.{Table}
-use Rattle.text_lines.specs.Lines.{Line, lines, end_of}
+use Rattle.cam_base.specs.Lines.{Line, lines, end_of}
 
 -- names that are borrowed
 abbrev pub names_told : List (Bor Name) → List Name

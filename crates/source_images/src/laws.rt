@@ -3,9 +3,9 @@
 ghost use Rattle.adl_ast.specs.declared.source.Source.{Source as Tree};
 ghost use Rattle.adl_meaning.specs.declared.flat.Flat.{Flat};
 ghost use Rattle.cam_io.specs.Contents.{Contents};
-ghost use Rattle.leaf_ends.specs.Within.{IsWithin};
-ghost use Rattle.program_sections.specs.Numbered.{AreNumbered, AreSound};
-ghost use Rattle.program_sections.specs.declared.images.Images.{Images};
+ghost use Rattle.cspace_layout.specs.Within.{IsWithin};
+ghost use Rattle.source_images.specs.Numbered.{AreNumbered, AreSound};
+ghost use Rattle.source_images.specs.declared.images.Images.{Images};
 ghost use Rattle.source_images.specs.ImagesRead.{AreImagesOf, AreImagesRead, yields};
 ghost use Rattle.source_images.specs.declared.error.ImagesError.{ImagesError as Refusal};
 ghost use Rattle.std.specs.Prelude.{◌≡◌, ℕ, false, List as Seq, Option, Some, Result};

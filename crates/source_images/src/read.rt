@@ -10,18 +10,17 @@ ghost use Rattle.name_tables.specs.ByName.{found};
 ghost use Rattle.std.specs.Prelude.{◌≡◌, ◌+◌, ◌<◌, ◌^◌, ℕ, length, position, List as Items, Err, IfOk};
 ghost use Rattle.std.specs.Str.{bytes_eq};
 
-use crate::ImagesError;
 use crate::merge::{Merged, merge};
 use crate::missing::first_missing;
 use crate::reading::{Reading, read_tables};
 use crate::tables::{Table, folder_of, tables_of};
 use crate::types::{numbers_of, types_of};
+use crate::{Images, ImagesError};
 use adl_ast::Source;
 use adl_meaning::{First, Flat};
 use cam_base::{Fault, List, NoMemory, Text};
 use cam_io::Files;
 use name_tables::NameTable;
-use program_sections::Images;
 use std::alloc::Global;
 
 /// The first fault, where these are the first of tables that are missing and of lines.

@@ -7,15 +7,14 @@ ghost use Rattle.source_images.specs.Found.{AlikeAsRead, AlikeInTables, table_li
 ghost use Rattle.source_images.specs.Told.{AreTablesRead, IsTableRead, files_told, first_place, reading_of, table_told, tables_told};
 ghost use Rattle.std.specs.FinMap as map;
 ghost use Rattle.std.specs.Prelude.{◌≡◌, ◌+◌, ◌<◌, ◌≤◌, ◌^◌, ℕ, length, string_bytes, List as Items, Err, IfOk, IsErrOf};
-ghost use Rattle.text_lines.specs.Lines.{lines};
+ghost use Rattle.cam_base.specs.Lines.{lines};
 
 use crate::ImagesError;
 use crate::tables::Table;
-use cam_base::{Fault, List, NoMemory, Place, Refused, Text};
+use cam_base::{Fault, Lines, List, NoMemory, Place, Refused, Text};
 use cam_io::{Files, WholeError, read_whole};
 use sect_table::{Image, read_sections};
 use std::alloc::Global;
-use text_lines::Lines;
 
 /// The greatest length of a table, in bytes.
 const TABLE_LIMIT: u64 = 1_048_576;

@@ -2,8 +2,8 @@
 use Rattle.std.proofs.Common.{◌≡◌, ◌≤◌, ◌+◌, ℕ, Bool, true, false, cond, List, [], ◌∷◌, length, map, refl, ◌∙◌, ap, arith}
 use Rattle.std.specs.List.{slice_index_or}
 use Rattle.std.proofs.lemmas.List.{length-map}
-use Rattle.capdl_back.specs.Writable.{caps_of}
-use Rattle.numbering.proofs.Gathered.{gather_ones}
+use Rattle.capdl_write.specs.Writable.{caps_of}
+use Rattle.cam_base.proofs.Gathered.{gather_ones}
 use Rattle.page_tables.specs.declared.mapping.Mapping.{Mapping}
 use Rattle.page_tables.specs.declared.shape.Shape.{Shape}
 use Rattle.page_tables.specs.Levels.{layers, numbered, sizes, slot_of, table_of, upper, uppers}

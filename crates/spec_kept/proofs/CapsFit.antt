@@ -21,9 +21,9 @@ use Rattle.cap_model.specs.declared.rights.Rights.{Rights}
 use Rattle.conn_rules.specs.Row.{NONE, RW}
 use Rattle.cspace_layout.specs.declared.plan.SlotUse.{SlotUse}
 use Rattle.cspace_layout.specs.declared.plan.SlotUse.TheVariants.{OfEnd, Handler, OwnLock}
-use Rattle.leaf_ends.specs.Lookups.{end_in, end_of}
-use Rattle.numbering.specs.Gather.{IsIn, gather}
-use Rattle.numbering.proofs.Gathered.{from_gather}
+use Rattle.cspace_layout.specs.Lookups.{end_in, end_of}
+use Rattle.cam_base.specs.Gather.{IsIn, gather}
+use Rattle.cam_base.proofs.Gathered.{from_gather}
 use Rattle.system_spec.proofs.LeastBits.{least}
 use Rattle.system_spec.specs.declared.part.What.{What}
 use Rattle.system_spec.specs.declared.part.What.TheVariants.{CNodeOf, EndpointOf, NotificationOf, LockOf, IrqOf}

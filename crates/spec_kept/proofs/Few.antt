@@ -8,9 +8,9 @@ use Rattle.cap_model.specs.declared.cap.Cap.{Cap}
 use Rattle.cap_model.specs.declared.object.Object.{Object}
 use Rattle.cap_model.specs.declared.object.Object.TheVariants as objects
 use Rattle.cap_model.specs.declared.spec.Entry.{Entry}
-use Rattle.capdl_back.specs.Writable.{caps_of, some}
+use Rattle.capdl_write.specs.Writable.{caps_of, some}
 use Rattle.cspace_layout.specs.declared.plan.SlotUse.{SlotUse}
-use Rattle.numbering.proofs.Gathered.{gather_ones}
+use Rattle.cam_base.proofs.Gathered.{gather_ones}
 use Rattle.page_tables.proofs.Leveled.{as_many}
 use Rattle.page_tables.specs.declared.mapping.Mapping.{Mapping}
 use Rattle.page_tables.specs.Levels.{layers}

@@ -20,15 +20,15 @@ use Rattle.cap_model.specs.declared.object.Fill.{Fill}
 use Rattle.cap_model.specs.declared.object.Object.{Object}
 use Rattle.cap_model.specs.declared.object.Object.TheVariants as objects
 use Rattle.cap_model.specs.Kept.{if_any}
-use Rattle.capdl_back.specs.Writable.{are_slots, is_fill, is_laid, is_number, is_plain, is_tcb, is_word}
-use Rattle.capdl_lexer.specs.TokenFaults.{is_left_out_word}
+use Rattle.capdl_write.specs.Writable.{are_slots, is_fill, is_laid, is_number, is_plain, is_tcb, is_word}
+use Rattle.capdl_text.specs.TokenFaults.{is_left_out_word}
 use Rattle.conn_rules.specs.Row.{RW}
 use Rattle.cspace_layout.specs.declared.plan.SlotUse.{SlotUse}
 use Rattle.cspace_layout.specs.declared.plan.SlotUse.TheVariants.{OfEnd, Handler, OwnLock}
-use Rattle.leaf_ends.specs.Lookups.{end_of}
-use Rattle.numbering.specs.Gather.{IsIn}
-use Rattle.numbering.proofs.Gathered.{from_gather, in_place}
-use Rattle.numbering.proofs.Lists.{from_map}
+use Rattle.cspace_layout.specs.Lookups.{end_of}
+use Rattle.cam_base.specs.Gather.{IsIn}
+use Rattle.cam_base.proofs.Gathered.{from_gather, in_place}
+use Rattle.cam_base.proofs.NumberedLists.{from_map}
 use Rattle.page_tables.proofs.Children.{slots_lead}
 use Rattle.page_tables.proofs.Rising.{slots_below, shape_of_layer}
 use Rattle.page_tables.specs.declared.layer.Layer.{Layer}
@@ -55,7 +55,7 @@ use Rattle.spec_kept.proofs.CapsFit.{all_pass}
 use Rattle.spec_kept.proofs.Lengths.{AreShort}
 use Rattle.spec_kept.proofs.TablesKept.{from_tables, mappings, moved, object_is, standing}
 use Rattle.system_spec.proofs.There.{IsThere}
-use Rattle.capdl_lexer.proofs.Tokens.{word_or}
+use Rattle.capdl_text.proofs.Tokens.{word_or}
 
 -- ---- names
 

@@ -21,9 +21,9 @@ use Rattle.cap_model.specs.declared.spec.Spec.{Spec}
 use Rattle.cap_model.specs.Kept.{if_any, keeps, keeps_fill}
 use Rattle.cap_model.specs.Lookup.{name_at}
 use Rattle.cap_model.specs.RightsWord.{grant_letter, has_rights, letter, read_letter, reply_letter, rights_word, write_letter}
-use Rattle.capdl_back.specs.Writable.{are_slots, caps_of, is_laid, is_number, is_tcb, some}
-use Rattle.numbering.specs.Gather.{IsIn}
-use Rattle.numbering.proofs.Gathered.{length_append}
+use Rattle.capdl_write.specs.Writable.{are_slots, caps_of, is_laid, is_number, is_tcb, some}
+use Rattle.cam_base.specs.Gather.{IsIn}
+use Rattle.cam_base.proofs.Gathered.{length_append}
 use Rattle.spec_kept.proofs.Totals.{length_flat_map, total, total_each}
 
 -- ---- texts in parts

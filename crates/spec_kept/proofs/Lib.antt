@@ -16,3 +16,24 @@ pub mod Writing
 mod Seen
 pub mod Sizing
 pub mod Plainly
+pub mod Bounds
+pub mod ComponentNames
+pub mod Fits
+pub mod FrameFits
+pub mod Interrupts
+pub mod Lists
+pub mod MemorySizes
+pub mod NamedUses
+pub mod PageCounts
+pub mod PageFits
+pub mod PartBounds
+pub mod SourcePlain
+pub mod ReadImages
+pub mod SeenMemory
+pub mod SettledEnds
+pub mod SettledNumbers
+pub mod Sizes
+pub mod SlotBounds
+pub mod SpaceBounds
+pub mod Stacks
+pub mod Windows

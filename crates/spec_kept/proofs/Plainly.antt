@@ -15,14 +15,14 @@ use Rattle.adl_meaning.specs.declared.flat.Leaf.{Leaf}
 use Rattle.adl_meaning.specs.declared.settled.Settled.{Settled}
 use Rattle.cam_base.specs.Names.{is_name}
 use Rattle.cap_model.specs.declared.object.Fill.{Fill}
-use Rattle.numbering.specs.Gather.{IsIn, gather}
-use Rattle.numbering.proofs.Gathered.{from_gather, from_ones, in_append, in_place}
-use Rattle.numbering.proofs.Lists.{from_flat_map, from_map, below_count}
-use Rattle.program_sections.specs.ByAddress.{by_address, name_of, page_at, pages_of, put_section, section_pages}
-use Rattle.program_sections.specs.Images.{Placed, arch_of, image_number, is_run, placed, sections_if, sections_of}
-use Rattle.program_sections.specs.SectionPages.{fill_from, fill_of, page_count}
-use Rattle.program_sections.specs.declared.images.Images.{Images}
-use Rattle.program_sections.specs.declared.pages.SectionPage.{SectionPage}
+use Rattle.cam_base.specs.Gather.{IsIn, gather}
+use Rattle.cam_base.proofs.Gathered.{from_gather, from_ones, in_append, in_place}
+use Rattle.cam_base.proofs.NumberedLists.{from_flat_map, from_map, below_count}
+use Rattle.source_images.specs.ByAddress.{by_address, name_of, page_at, pages_of, put_section, section_pages}
+use Rattle.source_images.specs.Images.{Placed, arch_of, image_number, is_run, placed, sections_if, sections_of}
+use Rattle.source_images.specs.SectionPages.{fill_from, fill_of, page_count}
+use Rattle.source_images.specs.declared.images.Images.{Images}
+use Rattle.source_images.specs.declared.pages.SectionPage.{SectionPage}
 use Rattle.sect_table.specs.Sections.{ends_within, is_placed, is_sound}
 use Rattle.sect_table.specs.declared.image.Image.{Image}
 use Rattle.sect_table.specs.declared.image.Section.{Section}

@@ -11,9 +11,9 @@ use Rattle.adl_meaning.specs.declared.connector.Connector.TheVariants.{Rpc, Noti
 use Rattle.arch_policy.specs.declared.owner.Owner.TheVariants.{OfConnection}
 use Rattle.cap_model.specs.declared.level.Level.{Level}
 use Rattle.cap_model.specs.declared.level.Level.TheVariants.{Global, Upper, Directory, Table}
-use Rattle.numbering.specs.Gather.{before}
-use Rattle.numbering.proofs.Gathered.{from_ones, from_place, gather_ones, length_append, split_get}
-use Rattle.numbering.proofs.Lists.{single}
+use Rattle.cam_base.specs.Gather.{before}
+use Rattle.cam_base.proofs.Gathered.{from_ones, from_place, gather_ones, length_append, split_get}
+use Rattle.cam_base.proofs.NumberedLists.{single}
 use Rattle.system_spec.specs.declared.part.Owned.{Owned}
 use Rattle.system_spec.specs.declared.part.PageTable.{PageTable}
 use Rattle.system_spec.specs.declared.part.Part.{Part}

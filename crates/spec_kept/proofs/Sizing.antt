@@ -10,12 +10,12 @@ use Rattle.adl_meaning.specs.declared.settled.Settled.{Settled}
 use Rattle.cspace_layout.specs.declared.plan.SlotPlan.{SlotPlan}
 use Rattle.cspace_layout.specs.SlotFaults.{counts}
 use Rattle.cspace_layout.specs.Uses.{domain_uses, plan_of, slots_of}
-use Rattle.numbering.specs.Gather.{IsIn, gather}
-use Rattle.numbering.proofs.Gathered.{gather_ones, get_ones, length_append}
-use Rattle.numbering.proofs.Lists.{map_ones}
+use Rattle.cam_base.specs.Gather.{IsIn, gather}
+use Rattle.cam_base.proofs.Gathered.{gather_ones, get_ones, length_append}
+use Rattle.cam_base.proofs.NumberedLists.{map_ones}
 use Rattle.page_tables.specs.Counts.{table_count}
 use Rattle.page_tables.specs.Shapes.{shapes}
-use Rattle.program_sections.specs.declared.images.Images.{Images}
+use Rattle.source_images.specs.declared.images.Images.{Images}
 use Rattle.system_spec.specs.Parts.{all_tables, tables_at}
 use Rattle.system_spec.specs.Tables.{Tables, arch, pages_at, threads_at, uses_at}
 use Rattle.system_spec.specs.TablesFrom.{tables_from}

@@ -20,9 +20,9 @@ use Rattle.cap_model.specs.Kept.{fits_as, keeps, keeps_table, rise, within}
 use Rattle.cap_model.specs.Kinds.{is_root_object, is_space_root, kind_number, kind_of_object, kind_rights}
 use Rattle.cap_model.specs.Levels.{child, size}
 use Rattle.conn_rules.specs.Row.{NONE}
-use Rattle.numbering.specs.Gather.{IsIn}
-use Rattle.numbering.proofs.Gathered.{in_append, in_place}
-use Rattle.numbering.proofs.Lists.{at_place, from_map}
+use Rattle.cam_base.specs.Gather.{IsIn}
+use Rattle.cam_base.proofs.Gathered.{in_append, in_place}
+use Rattle.cam_base.proofs.NumberedLists.{at_place, from_map}
 use Rattle.page_tables.proofs.Children.{slots_lead}
 use Rattle.page_tables.proofs.Fitting.{shapes_are_sized}
 use Rattle.page_tables.proofs.Rising.{kept_rise, slots_below, shape_of_layer}

@@ -7,8 +7,8 @@ use Rattle.std.proofs.lemmas.Bool.{and_from, or_from, not_from_false, false_from
 use Rattle.std.proofs.lemmas.Slice.Eq.{bytes_eq-Decides}
 use Rattle.cap_model.specs.declared.spec.Entry.{Entry}
 use Rattle.cap_model.specs.Kept.{differ, names_differ}
-use Rattle.numbering.specs.Gather.{IsIn}
-use Rattle.numbering.proofs.Gathered.{place_of}
+use Rattle.cam_base.specs.Gather.{IsIn}
+use Rattle.cam_base.proofs.Gathered.{place_of}
 use Rattle.system_spec.specs.declared.part.Part.{Part}
 use Rattle.system_spec.specs.Made.{entry, part_name, spec_of}
 use Rattle.system_spec.specs.Parts.{parts, sections}

@@ -16,11 +16,11 @@ use Rattle.cspace_layout.specs.declared.plan.SlotPlan.{SlotPlan}
 use Rattle.cspace_layout.specs.declared.plan.SlotUse.{SlotUse}
 use Rattle.cspace_layout.specs.declared.plan.SlotUse.TheVariants.{OfEnd, Handler, OwnLock}
 use Rattle.cspace_layout.specs.Uses.{end_uses, joined_uses, member_uses, lock_uses, leaf_uses, domain_uses, plan_of, slots_of}
-use Rattle.leaf_ends.specs.LeafEnds.{joins}
-use Rattle.leaf_ends.specs.Members.{is_lock, leaf_members}
-use Rattle.numbering.specs.Gather.{IsIn, gather}
-use Rattle.numbering.proofs.Gathered.{from_gather, in_append, in_place}
-use Rattle.numbering.proofs.Lists.{get_map}
+use Rattle.cspace_layout.specs.LeafEnds.{joins}
+use Rattle.cspace_layout.specs.Members.{is_lock, leaf_members}
+use Rattle.cam_base.specs.Gather.{IsIn, gather}
+use Rattle.cam_base.proofs.Gathered.{from_gather, in_append, in_place}
+use Rattle.cam_base.proofs.NumberedLists.{get_map}
 use Rattle.system_spec.specs.Tables.{Tables, uses_at}
 
 -- ends of this connector and role have a slot of their own

@@ -15,10 +15,10 @@ use Rattle.cap_model.specs.declared.object.Object.{Object}
 use Rattle.cap_model.specs.declared.object.Object.TheVariants as objects
 use Rattle.cap_model.specs.declared.spec.Entry.{Entry}
 use Rattle.cap_model.specs.Lookup.{entry_name, name_at}
-use Rattle.capdl_back.specs.Writable.{IsWritable, caps_of, is_laid, is_number, is_word}
+use Rattle.capdl_write.specs.Writable.{IsWritable, caps_of, is_laid, is_number, is_word}
 use Rattle.capdl_text.specs.Texts.{is_long, most_bytes}
-use Rattle.numbering.specs.Gather.{IsIn, gather}
-use Rattle.numbering.proofs.Gathered.{in_place}
+use Rattle.cam_base.specs.Gather.{IsIn, gather}
+use Rattle.cam_base.proofs.Gathered.{in_place}
 use Rattle.page_tables.specs.Levels.{layers, table_of}
 use Rattle.page_tables.specs.Shapes.{shapes}
 use Rattle.system_spec.specs.declared.part.Part.{Part}

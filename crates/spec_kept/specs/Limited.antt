@@ -7,8 +7,8 @@ use Rattle.adl_meaning.specs.declared.flat.Domain.{Domain}
 use Rattle.adl_meaning.specs.declared.flat.FlatConnection.{FlatConnection}
 use Rattle.cspace_layout.specs.SlotFaults.{counts}
 use Rattle.cspace_layout.specs.Uses.{slots_of}
-use Rattle.leaf_ends.specs.declared.end_at.EndAt.{EndAt}
-use Rattle.numbering.specs.Gather.{IsIn}
+use Rattle.cspace_layout.specs.declared.end_at.EndAt.{EndAt}
+use Rattle.cam_base.specs.Gather.{IsIn}
 use Rattle.vspace_layout.specs.declared.thread.ThreadOf.{ThreadOf}
 use Rattle.vspace_layout.specs.Given.{Given}
 use Rattle.vspace_layout.specs.PageLimits.{page_counts, table_counts}

@@ -2,8 +2,8 @@
 -- tables and frames over all domains together. A thread has two pages at least, so threads are half as many as pages may be.
 use Rattle.std.specs.Prelude.{◌≤◌, ℕ, ◌+◌, ◌*◌, [], ◌∷◌, length, map, sum}
 use Rattle.cap_model.specs.declared.spec.Spec.{Spec}
-use Rattle.capdl_back.specs.Writable.{caps_of}
-use Rattle.numbering.specs.Gather.{gather}
+use Rattle.capdl_write.specs.Writable.{caps_of}
+use Rattle.cam_base.specs.Gather.{gather}
 use Rattle.system_spec.specs.Parts.{all_tables}
 use Rattle.system_spec.specs.Tables.{Tables, pages_at, threads_at, uses_at}
 

@@ -4,7 +4,7 @@ use Rattle.std.specs.Prelude.{◌≡◌, ◌<◌, ◌^◌, ℕ, true, Some, slic
 use Rattle.adl_meaning.specs.declared.flat.FlatConnection.{FlatConnection}
 use Rattle.cam_base.specs.Names.{is_name}
 use Rattle.cap_model.specs.declared.object.Fill.{Fill}
-use Rattle.numbering.specs.Gather.{IsIn}
+use Rattle.cam_base.specs.Gather.{IsIn}
 use Rattle.system_spec.specs.Objects.{settled_badge}
 use Rattle.system_spec.specs.Tables.{Tables, irq_number, leaf_entry, leaf_name, threads_at}
 use Rattle.vspace_layout.specs.declared.spaces.FrameInfo.{FrameInfo}

@@ -11,9 +11,9 @@ use Rattle.adl_meaning.specs.declared.flat.FlatConnection.{FlatConnection}
 use Rattle.adl_meaning.specs.declared.flat.FlatEnd.{FlatEnd}
 use Rattle.cap_model.specs.declared.cap.Cap.{Cap}
 use Rattle.cap_model.specs.declared.object.Object.TheVariants as objects
-use Rattle.numbering.specs.Gather.{before}
-use Rattle.numbering.proofs.Gathered.{from_place, in_right, place_of, split_get}
-use Rattle.numbering.proofs.Lists.{below, in_map}
+use Rattle.cam_base.specs.Gather.{before}
+use Rattle.cam_base.proofs.Gathered.{from_place, in_right, place_of, split_get}
+use Rattle.cam_base.proofs.NumberedLists.{below, in_map}
 use Rattle.system_spec.specs.declared.part.What.TheVariants.{FrameOf}
 use Rattle.system_spec.specs.Made.{spec_of}
 use Rattle.system_spec.specs.Parts.{place}

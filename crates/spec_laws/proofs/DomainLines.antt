@@ -4,8 +4,8 @@ use Rattle.std.specs.List.{slice_get}
 use Rattle.adl_meaning.specs.declared.flat.Domain.{Domain}
 use Rattle.cspace_layout.specs.declared.plan.SlotUse.{SlotUse}
 use Rattle.cspace_layout.specs.declared.plan.SlotUse.TheVariants.{OfEnd, Handler, OwnLock}
-use Rattle.numbering.specs.Gather.{IsIn}
-use Rattle.numbering.proofs.Gathered.{from_gather, in_append, in_gather, in_left}
+use Rattle.cam_base.specs.Gather.{IsIn}
+use Rattle.cam_base.proofs.Gathered.{from_gather, in_append, in_gather, in_left}
 use Rattle.system_spec.specs.declared.map_line.MapLine.{MapLine}
 use Rattle.system_spec.specs.declared.map_line.MapLine.TheVariants.{DomainLine}
 use Rattle.system_spec.specs.MapLines.{domain_lines, domain_slots, domain_threads, domain_windows, map_lines, slot_line, slot_lines, thread_line, thread_lines, window_line, window_lines}

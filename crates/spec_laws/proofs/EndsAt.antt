@@ -7,12 +7,12 @@ use Rattle.adl_ast.specs.declared.component.Member.{Member}
 use Rattle.adl_meaning.specs.declared.flat.FlatConnection.{FlatConnection}
 use Rattle.adl_meaning.specs.declared.flat.FlatEnd.{FlatEnd}
 use Rattle.adl_meaning.specs.declared.flat.Leaf.{Leaf}
-use Rattle.leaf_ends.specs.declared.end_at.EndAt.{EndAt}
-use Rattle.leaf_ends.specs.LeafEnds.{end_here, joins, leaf_ends, member_ends}
-use Rattle.leaf_ends.specs.Members.{leaf_members, members_at, members_of_leaf}
-use Rattle.numbering.specs.Gather.{IsIn, gather}
-use Rattle.numbering.proofs.Gathered.{from_gather, get_ones, in_gather}
-use Rattle.numbering.proofs.Lists.{at_place}
+use Rattle.cspace_layout.specs.declared.end_at.EndAt.{EndAt}
+use Rattle.cspace_layout.specs.LeafEnds.{end_here, joins, leaf_ends, member_ends}
+use Rattle.cspace_layout.specs.Members.{leaf_members, members_at, members_of_leaf}
+use Rattle.cam_base.specs.Gather.{IsIn, gather}
+use Rattle.cam_base.proofs.Gathered.{from_gather, get_ones, in_gather}
+use Rattle.cam_base.proofs.NumberedLists.{at_place}
 use Rattle.system_spec.specs.Tables.{Tables}
 use Rattle.vspace_layout.specs.Given.{ends}
 use Rattle.vspace_layout.specs.Threads.{ends_at, ends_in}

@@ -7,15 +7,15 @@ use Rattle.cap_model.specs.declared.cap.Cap.{Cap}
 use Rattle.cap_model.specs.declared.level.Arch.{Arch}
 use Rattle.cap_model.specs.declared.level.Arch.TheVariants.{Arm11, Aarch64}
 use Rattle.cap_model.specs.declared.object.Object.{Object}
-use Rattle.numbering.specs.Gather.{IsIn, gather}
-use Rattle.numbering.proofs.Gathered.{from_gather, get_ones, in_append, in_gather, in_place, place_of}
-use Rattle.numbering.proofs.Lists.{below, from_map, in_map, below_count}
+use Rattle.cam_base.specs.Gather.{IsIn, gather}
+use Rattle.cam_base.proofs.Gathered.{from_gather, get_ones, in_append, in_gather, in_place, place_of}
+use Rattle.cam_base.proofs.NumberedLists.{below, from_map, in_map, below_count}
 use Rattle.page_tables.specs.declared.mapping.Mapping.{Mapping}
 use Rattle.page_tables.specs.Shapes.{shapes}
 use Rattle.page_tables.specs.Walks.{Walk, root_span}
 use Rattle.page_tables.proofs.Walking.{found_before}
-use Rattle.program_sections.specs.ByAddress.{section_pages}
-use Rattle.program_sections.specs.declared.pages.SectionPage.{SectionPage}
+use Rattle.source_images.specs.ByAddress.{section_pages}
+use Rattle.source_images.specs.declared.pages.SectionPage.{SectionPage}
 use Rattle.system_spec.specs.Made.{spec_of}
 use Rattle.system_spec.specs.Parts.{page_mapping}
 use Rattle.system_spec.specs.Tables.{Tables, arch, pages_at}

@@ -14,12 +14,12 @@ use Rattle.adl_meaning.specs.declared.flat.FlatEnd.{FlatEnd}
 use Rattle.adl_meaning.specs.declared.settled.EndSetting.{EndSetting}
 use Rattle.cap_model.specs.declared.object.Object.TheVariants.{Endpoint}
 use Rattle.cap_model.specs.Lookup.{object_at}
-use Rattle.leaf_ends.specs.declared.end_at.EndAt.{EndAt}
-use Rattle.leaf_ends.specs.Lookups.{setting_of}
-use Rattle.numbering.specs.Gather.{IsIn}
-use Rattle.numbering.proofs.Gathered.{from_gather, get_ones, in_append, in_gather, in_place}
-use Rattle.numbering.proofs.Lists.{below, from_map, below_count}
-use Rattle.program_sections.specs.ByAddress.{section_pages}
+use Rattle.cspace_layout.specs.declared.end_at.EndAt.{EndAt}
+use Rattle.cspace_layout.specs.Lookups.{setting_of}
+use Rattle.cam_base.specs.Gather.{IsIn}
+use Rattle.cam_base.proofs.Gathered.{from_gather, get_ones, in_append, in_gather, in_place}
+use Rattle.cam_base.proofs.NumberedLists.{below, from_map, below_count}
+use Rattle.source_images.specs.ByAddress.{section_pages}
 use Rattle.system_spec.specs.declared.part.Owned.{Owned}
 use Rattle.system_spec.specs.declared.part.Part.{Part}
 use Rattle.system_spec.specs.declared.part.What.TheVariants.{FrameOf}

@@ -11,9 +11,9 @@ use Rattle.cap_model.specs.declared.level.Level.{Level}
 use Rattle.cap_model.specs.declared.level.Level.TheVariants.{Global, Upper, Directory, Table}
 use Rattle.cap_model.specs.declared.spec.Entry.{Entry}
 use Rattle.cap_model.specs.Lookup.{entry_name}
-use Rattle.numbering.specs.Gather.{IsIn}
-use Rattle.numbering.proofs.Gathered.{from_gather, in_place}
-use Rattle.numbering.proofs.Lists.{below, from_flat_map, from_get_map}
+use Rattle.cam_base.specs.Gather.{IsIn}
+use Rattle.cam_base.proofs.Gathered.{from_gather, in_place}
+use Rattle.cam_base.proofs.NumberedLists.{below, from_flat_map, from_get_map}
 use Rattle.system_spec.specs.declared.part.Owned.{Owned}
 use Rattle.system_spec.specs.declared.part.PageTable.{PageTable}
 use Rattle.system_spec.specs.declared.part.Part.{Part}

@@ -11,10 +11,10 @@ use Rattle.arch_policy.specs.declared.owner.Owner.TheVariants as owners
 use Rattle.cap_model.specs.declared.cap.Cap.{Cap}
 use Rattle.cap_model.specs.declared.object.Object.TheVariants as objects
 use Rattle.cap_model.specs.Lookup.{object_at}
-use Rattle.leaf_ends.specs.declared.end_at.EndAt.{EndAt}
-use Rattle.numbering.specs.Gather.{IsIn}
-use Rattle.numbering.proofs.Gathered.{get_ones, in_gather}
-use Rattle.numbering.proofs.Lists.{below, get_map}
+use Rattle.cspace_layout.specs.declared.end_at.EndAt.{EndAt}
+use Rattle.cam_base.specs.Gather.{IsIn}
+use Rattle.cam_base.proofs.Gathered.{get_ones, in_gather}
+use Rattle.cam_base.proofs.NumberedLists.{below, get_map}
 use Rattle.page_tables.specs.Shapes.{shapes}
 use Rattle.page_tables.specs.Walks.{root_span}
 use Rattle.system_spec.specs.declared.map_line.MapLine.TheVariants.{ThreadLine}

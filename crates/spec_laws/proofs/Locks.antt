@@ -19,8 +19,8 @@ use Rattle.cspace_layout.specs.declared.plan.SlotUse.{SlotUse}
 use Rattle.cspace_layout.specs.declared.plan.SlotUse.TheVariants.{OfEnd, Handler, OwnLock}
 use Rattle.cspace_layout.specs.declared.plan.Slots.{Slots}
 use Rattle.cspace_layout.specs.Uses.{domain_uses, plan_of}
-use Rattle.numbering.specs.Gather.{IsIn, gather}
-use Rattle.numbering.proofs.Gathered.{from_gather, in_gather, in_place, place_of}
+use Rattle.cam_base.specs.Gather.{IsIn, gather}
+use Rattle.cam_base.proofs.Gathered.{from_gather, in_gather, in_place, place_of}
 use Rattle.page_tables.specs.declared.layer.Layer.{Layer}
 use Rattle.page_tables.specs.Levels.{layers, numbered as in_levels, sizes, table_of}
 use Rattle.page_tables.specs.Shapes.{shapes}
@@ -41,7 +41,7 @@ use Rattle.system_spec.proofs.There.{single}
 use Rattle.spec_laws.specs.Slotted.{CanSlot, IsJoint, IsNamed, OwnLocks}
 use Rattle.spec_laws.proofs.SlotLists.{some}
 use Rattle.spec_laws.proofs.Slotting.{cap_is, has_irq, of_handler, of_use as from_use, uses_are}
-use Rattle.numbering.proofs.Lists.{from_get_map}
+use Rattle.cam_base.proofs.NumberedLists.{from_get_map}
 use Rattle.cap_model.proofs.Eaches.{Each}
 
 -- ---- what is a CNode

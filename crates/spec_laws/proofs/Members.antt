@@ -2,8 +2,8 @@
 use Rattle.std.proofs.Common.{◌≡◌, ◌<◌, ◌+◌, ◌*◌, ◌/◌, ℕ, zero, suc, List, [], ◌∷◌, ◌++◌, Some, ◌∙◌, subst, arith}
 use Rattle.std.specs.List.{range_with_len, slice_get}
 use Rattle.std.specs.Prelude.{slice_index_or}
-use Rattle.numbering.specs.Gather.{IsIn}
-use Rattle.numbering.proofs.Lists as lists
+use Rattle.cam_base.specs.Gather.{IsIn}
+use Rattle.cam_base.proofs.NumberedLists as lists
 
 pub in_range : (n i : ℕ) → i < n → IsIn i (range_with_len 0 n)
 in_range n i l =

@@ -1,9 +1,9 @@
 -- Lists in which nothing stands twice
 use Rattle.std.proofs.Common.{◌≡◌, ℕ, zero, suc, List, [], ◌∷◌, ◌++◌, Some, refl, sym, subst, inl, inr, arith}
 use Rattle.std.specs.List.{flat_map, slice_get}
-use Rattle.numbering.specs.Gather.{IsIn, gather}
-use Rattle.numbering.proofs.Gathered.{from_gather, in_place, place_of, split_get}
-use Rattle.numbering.proofs.Lists.{from_flat_map}
+use Rattle.cam_base.specs.Gather.{IsIn, gather}
+use Rattle.cam_base.proofs.Gathered.{from_gather, in_place, place_of, split_get}
+use Rattle.cam_base.proofs.NumberedLists.{from_flat_map}
 
 abbrev pub Once : {X : Type 0} → List X → Type 0
 Once {X} xs = (i j : ℕ) (x : X) → slice_get xs i ≡ Some x → slice_get xs j ≡ Some x → i ≡ j

@@ -7,13 +7,13 @@ use Rattle.cap_model.specs.declared.cap.Cap.{Cap}
 use Rattle.cap_model.specs.declared.object.Fill.{Fill}
 use Rattle.cap_model.specs.declared.object.Object.TheVariants.{Frame}
 use Rattle.cap_model.specs.Lookup.{object_at}
-use Rattle.leaf_ends.specs.declared.end_at.EndAt.{EndAt}
-use Rattle.numbering.specs.Gather.{IsIn, before}
-use Rattle.numbering.proofs.Gathered.{in_left, in_place, place_of}
-use Rattle.numbering.proofs.Lists.{below, in_map}
+use Rattle.cspace_layout.specs.declared.end_at.EndAt.{EndAt}
+use Rattle.cam_base.specs.Gather.{IsIn, before}
+use Rattle.cam_base.proofs.Gathered.{in_left, in_place, place_of}
+use Rattle.cam_base.proofs.NumberedLists.{below, in_map}
 use Rattle.page_tables.specs.Shapes.{shapes}
 use Rattle.page_tables.specs.Walks.{root_span}
-use Rattle.program_sections.specs.ByAddress.{section_pages}
+use Rattle.source_images.specs.ByAddress.{section_pages}
 use Rattle.system_spec.specs.declared.part.What.TheVariants.{FrameOf}
 use Rattle.system_spec.specs.Made.{spec_of}
 use Rattle.system_spec.specs.Parts.{place}

@@ -10,19 +10,19 @@ use Rattle.adl_meaning.specs.declared.flat.FlatConnection.{FlatConnection}
 use Rattle.adl_meaning.specs.declared.flat.FlatEnd.{FlatEnd}
 use Rattle.adl_meaning.specs.declared.settled.EndSetting.{EndSetting}
 use Rattle.cap_model.specs.declared.object.Fill.{Fill}
-use Rattle.leaf_ends.specs.declared.end_at.EndAt.{EndAt}
-use Rattle.leaf_ends.specs.Lookups.{end_in, setting_of}
-use Rattle.numbering.specs.Gather.{IsIn}
-use Rattle.numbering.proofs.Gathered.{from_gather, in_append, in_gather, in_left, in_place, in_right, place_of}
-use Rattle.numbering.proofs.Lists.{from_flat_map, from_map, in_flat_map, in_map, below_count}
-use Rattle.program_sections.specs.ByAddress.{by_address, name_of, page_at, pages_of, section_pages}
-use Rattle.program_sections.specs.Images.{Placed, image_number, is_run, placed, runs, sections_if, sections_of}
-use Rattle.program_sections.specs.SectionPages.{fill_of, page_count}
-use Rattle.program_sections.specs.declared.pages.SectionPage.{SectionPage}
-use Rattle.program_sections.proofs.Apart.{any_in, run_by}
-use Rattle.program_sections.proofs.InOrder.{name_is, order_moves}
-use Rattle.program_sections.proofs.SectionsTold.{comes_from}
-use Rattle.program_sections.proofs.Sorting.{in_permutation}
+use Rattle.cspace_layout.specs.declared.end_at.EndAt.{EndAt}
+use Rattle.cspace_layout.specs.Lookups.{end_in, setting_of}
+use Rattle.cam_base.specs.Gather.{IsIn}
+use Rattle.cam_base.proofs.Gathered.{from_gather, in_append, in_gather, in_left, in_place, in_right, place_of}
+use Rattle.cam_base.proofs.NumberedLists.{from_flat_map, from_map, in_flat_map, in_map, below_count}
+use Rattle.source_images.specs.ByAddress.{by_address, name_of, page_at, pages_of, section_pages}
+use Rattle.source_images.specs.Images.{Placed, image_number, is_run, placed, runs, sections_if, sections_of}
+use Rattle.source_images.specs.SectionPages.{fill_of, page_count}
+use Rattle.source_images.specs.declared.pages.SectionPage.{SectionPage}
+use Rattle.source_images.proofs.Apart.{any_in, run_by}
+use Rattle.source_images.proofs.InOrder.{name_is, order_moves}
+use Rattle.source_images.proofs.SectionsTold.{comes_from}
+use Rattle.source_images.proofs.Sorting.{in_permutation}
 use Rattle.sect_table.specs.declared.image.Image.{Image}
 use Rattle.sect_table.specs.declared.image.Section.{Section}
 use Rattle.system_spec.specs.Tables.{Tables}

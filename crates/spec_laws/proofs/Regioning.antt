@@ -15,10 +15,10 @@ use Rattle.cap_model.specs.Lookup.{object_at}
 use Rattle.conn_rules.specs.Row.{RW}
 use Rattle.cspace_layout.specs.declared.plan.SlotUse.{SlotUse}
 use Rattle.cspace_layout.specs.declared.plan.SlotUse.TheVariants.{OfEnd, Handler, OwnLock}
-use Rattle.leaf_ends.specs.declared.end_at.EndAt.{EndAt}
-use Rattle.numbering.specs.Gather.{IsIn, gather}
-use Rattle.numbering.proofs.Gathered.{from_gather, from_ones, get_ones, in_append, in_gather, in_place, in_right, place_of}
-use Rattle.numbering.proofs.Lists.{get_map}
+use Rattle.cspace_layout.specs.declared.end_at.EndAt.{EndAt}
+use Rattle.cam_base.specs.Gather.{IsIn, gather}
+use Rattle.cam_base.proofs.Gathered.{from_gather, from_ones, get_ones, in_append, in_gather, in_place, in_right, place_of}
+use Rattle.cam_base.proofs.NumberedLists.{get_map}
 use Rattle.system_spec.specs.declared.map_line.MapLine.{MapLine}
 use Rattle.system_spec.specs.declared.map_line.MapLine.TheVariants.{DomainLine, ThreadLine, WindowLine}
 use Rattle.system_spec.specs.declared.part.What.TheVariants.{FrameOf, ThreadOf as OfThread}

@@ -11,8 +11,8 @@ use Rattle.cap_model.specs.declared.level.Level.TheVariants.{Global, Upper, Dire
 use Rattle.cap_model.specs.declared.object.Object.{Object}
 use Rattle.cap_model.specs.declared.object.Object.TheVariants.{Pages}
 use Rattle.cap_model.specs.Levels.{is_root_level}
-use Rattle.numbering.specs.Gather.{IsIn, before, gather}
-use Rattle.numbering.proofs.Gathered.{length_append}
+use Rattle.cam_base.specs.Gather.{IsIn, before, gather}
+use Rattle.cam_base.proofs.Gathered.{length_append}
 use Rattle.page_tables.specs.declared.layer.Layer.{Layer}
 use Rattle.page_tables.specs.declared.mapping.Mapping.{Mapping}
 use Rattle.page_tables.specs.declared.shape.Shape.{Shape}

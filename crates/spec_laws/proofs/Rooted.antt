@@ -5,9 +5,9 @@ use Rattle.adl_meaning.specs.declared.flat.Domain.{Domain}
 use Rattle.cap_model.specs.declared.object.Object.{Object}
 use Rattle.cap_model.specs.declared.object.Object.TheVariants.{Endpoint}
 use Rattle.cap_model.specs.declared.spec.Entry.{Entry}
-use Rattle.numbering.specs.Gather.{IsIn, before}
-use Rattle.numbering.proofs.Gathered.{gathered, get_ones, in_gather}
-use Rattle.numbering.proofs.Lists.{at_place, begins_with, below, get_drop, get_map}
+use Rattle.cam_base.specs.Gather.{IsIn, before}
+use Rattle.cam_base.proofs.Gathered.{gathered, get_ones, in_gather}
+use Rattle.cam_base.proofs.NumberedLists.{at_place, begins_with, below, get_drop, get_map}
 use Rattle.system_spec.specs.declared.part.PageTable.{PageTable}
 use Rattle.system_spec.specs.declared.part.Part.{Part}
 use Rattle.system_spec.specs.declared.part.What.TheVariants.{FrameOf, TableOf}

@@ -6,8 +6,8 @@ use Rattle.arch_policy.specs.declared.owner.Owner.TheVariants.{OfDomain}
 use Rattle.cap_model.specs.declared.object.Object.{Object}
 use Rattle.cap_model.specs.declared.object.Object.TheVariants.{Endpoint, Pages}
 use Rattle.cap_model.specs.Lookup.{name_at, object_at}
-use Rattle.numbering.specs.Gather.{IsIn, before}
-use Rattle.numbering.proofs.Lists.{below, from_map, in_map}
+use Rattle.cam_base.specs.Gather.{IsIn, before}
+use Rattle.cam_base.proofs.NumberedLists.{below, from_map, in_map}
 use Rattle.page_tables.specs.declared.mapping.Mapping.{Mapping}
 use Rattle.page_tables.specs.Shapes.{shapes}
 use Rattle.page_tables.specs.Walks.{root_span}

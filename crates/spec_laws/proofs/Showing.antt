@@ -12,8 +12,8 @@ use Rattle.adl_meaning.specs.declared.flat.FlatEnd.{FlatEnd}
 use Rattle.cap_model.specs.declared.cap.Cap.{Cap}
 use Rattle.cap_model.specs.declared.object.Object.TheVariants.{Frame}
 use Rattle.cap_model.specs.Lookup.{object_at}
-use Rattle.numbering.specs.Gather.{before}
-use Rattle.numbering.proofs.Gathered.{in_place, place_of}
+use Rattle.cam_base.specs.Gather.{before}
+use Rattle.cam_base.proofs.Gathered.{in_place, place_of}
 use Rattle.system_spec.specs.declared.part.What.TheVariants.{FrameOf}
 use Rattle.system_spec.specs.Made.{spec_of}
 use Rattle.system_spec.specs.Objects.{frame_object}

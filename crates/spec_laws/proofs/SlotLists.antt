@@ -1,7 +1,7 @@
 -- Interrupt lines by number have what they are made of
 use Rattle.std.proofs.Common.{◌≡◌, ℕ, Bool, true, false, cond, List, [], ◌∷◌, Option, Some, inl, inr}
 use Rattle.std.specs.Prelude.{leb}
-use Rattle.numbering.specs.Gather.{IsIn}
+use Rattle.cam_base.specs.Gather.{IsIn}
 use Rattle.system_spec.specs.Objects.{by_number, put_line}
 
 put_has : (x y : ℕ × ℕ) (xs : List (ℕ × ℕ)) → IsIn y (x ∷ xs) → IsIn y (put_line x xs)

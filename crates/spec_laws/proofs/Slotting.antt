@@ -24,12 +24,12 @@ use Rattle.cspace_layout.specs.declared.plan.SlotUse.{SlotUse}
 use Rattle.cspace_layout.specs.declared.plan.SlotUse.TheVariants.{OfEnd, Handler, OwnLock}
 use Rattle.cspace_layout.specs.declared.plan.Slots.{Slots}
 use Rattle.cspace_layout.specs.Uses.{domain_uses, end_uses, joined_uses, leaf_uses, lock_uses, member_uses, plan_of}
-use Rattle.leaf_ends.specs.LeafEnds.{joins}
-use Rattle.leaf_ends.specs.Lookups.{end_in, end_of, setting_of}
-use Rattle.leaf_ends.specs.Members.{is_lock, leaf_members}
-use Rattle.numbering.specs.Gather.{IsIn, gather}
-use Rattle.numbering.proofs.Gathered.{from_gather, gather_ones, in_append, in_gather, in_place, place_of}
-use Rattle.numbering.proofs.Lists.{get_map}
+use Rattle.cspace_layout.specs.LeafEnds.{joins}
+use Rattle.cspace_layout.specs.Lookups.{end_in, end_of, setting_of}
+use Rattle.cspace_layout.specs.Members.{is_lock, leaf_members}
+use Rattle.cam_base.specs.Gather.{IsIn, gather}
+use Rattle.cam_base.proofs.Gathered.{from_gather, gather_ones, in_append, in_gather, in_place, place_of}
+use Rattle.cam_base.proofs.NumberedLists.{get_map}
 use Rattle.system_spec.specs.declared.part.Owned.{Owned}
 use Rattle.system_spec.specs.declared.part.Part.{Part}
 use Rattle.system_spec.specs.declared.part.What.TheVariants.{CNodeOf, EndpointOf, IrqOf, LockOf, NotificationOf}

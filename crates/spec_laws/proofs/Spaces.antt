@@ -3,10 +3,10 @@ use Rattle.std.proofs.Common.{◌≡◌, ◌<◌, ◌+◌, ◌*◌, ◌/◌, ℕ
 use Rattle.std.specs.List.{slice_get}
 use Rattle.adl_meaning.specs.declared.flat.Domain.{Domain}
 use Rattle.cap_model.specs.declared.cap.Cap.{Cap}
-use Rattle.numbering.proofs.Gathered.{in_place, place_of}
+use Rattle.cam_base.proofs.Gathered.{in_place, place_of}
 use Rattle.page_tables.specs.Runs.{Rises}
 use Rattle.cap_model.specs.Lookup.{object_at}
-use Rattle.numbering.proofs.Lists.{get_map}
+use Rattle.cam_base.proofs.NumberedLists.{get_map}
 use Rattle.system_spec.specs.declared.part.What.TheVariants.{FrameOf}
 use Rattle.system_spec.specs.Made.{spec_of}
 use Rattle.system_spec.specs.Parts.{place}

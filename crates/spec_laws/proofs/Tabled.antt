@@ -5,9 +5,9 @@ use Rattle.std.specs.List.{slice_get}
 use Rattle.adl_meaning.specs.declared.flat.Domain.{Domain}
 use Rattle.arch_policy.specs.declared.owner.Owner.TheVariants as owners
 use Rattle.cap_model.specs.declared.object.Object.{Object}
-use Rattle.numbering.specs.Gather.{IsIn, before}
-use Rattle.numbering.proofs.Gathered.{from_gather, in_gather, in_place, place_of}
-use Rattle.numbering.proofs.Lists.{at_place, below, from_map, in_map}
+use Rattle.cam_base.specs.Gather.{IsIn, before}
+use Rattle.cam_base.proofs.Gathered.{from_gather, in_gather, in_place, place_of}
+use Rattle.cam_base.proofs.NumberedLists.{at_place, below, from_map, in_map}
 use Rattle.page_tables.specs.declared.mapping.Mapping.{Mapping}
 use Rattle.page_tables.specs.declared.shape.Shape.{Shape}
 use Rattle.page_tables.specs.Fits.{AreShapes}

@@ -9,10 +9,10 @@ use Rattle.arch_policy.specs.declared.owner.Owner.TheVariants.{OfDomain}
 use Rattle.cap_model.specs.declared.object.Object.TheVariants as objects
 use Rattle.cap_model.specs.declared.object.Tcb.{Tcb}
 use Rattle.cap_model.specs.Lookup.{object_at}
-use Rattle.leaf_ends.specs.declared.end_at.EndAt.{EndAt}
-use Rattle.numbering.specs.Gather.{IsIn}
-use Rattle.numbering.proofs.Gathered.{from_ones, in_place, place_of}
-use Rattle.numbering.proofs.Lists.{at_place}
+use Rattle.cspace_layout.specs.declared.end_at.EndAt.{EndAt}
+use Rattle.cam_base.specs.Gather.{IsIn}
+use Rattle.cam_base.proofs.Gathered.{from_ones, in_place, place_of}
+use Rattle.cam_base.proofs.NumberedLists.{at_place}
 use Rattle.sect_table.specs.declared.image.Image.{Image}
 use Rattle.system_spec.specs.declared.map_line.MapLine.TheVariants.{ThreadLine}
 use Rattle.system_spec.specs.declared.part.Part.{Part}

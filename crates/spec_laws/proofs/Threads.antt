@@ -17,12 +17,12 @@ use Rattle.cap_model.specs.Lookup.{object_at}
 use Rattle.conn_rules.specs.Ends.{end_rule}
 use Rattle.cspace_layout.specs.declared.plan.SlotUse.{SlotUse}
 use Rattle.cspace_layout.specs.declared.plan.SlotUse.TheVariants.{OfEnd, Handler, OwnLock}
-use Rattle.leaf_ends.specs.declared.end_at.EndAt.{EndAt}
-use Rattle.leaf_ends.specs.Lookups.{end_in, end_of}
-use Rattle.leaf_ends.specs.Members.{leaf_members}
-use Rattle.numbering.specs.Gather.{IsIn, gather}
-use Rattle.numbering.proofs.Gathered.{from_gather, from_ones, get_ones, in_append, in_gather, in_left, in_right, place_of}
-use Rattle.numbering.proofs.Lists.{from_flat_map, in_flat_map}
+use Rattle.cspace_layout.specs.declared.end_at.EndAt.{EndAt}
+use Rattle.cspace_layout.specs.Lookups.{end_in, end_of}
+use Rattle.cspace_layout.specs.Members.{leaf_members}
+use Rattle.cam_base.specs.Gather.{IsIn, gather}
+use Rattle.cam_base.proofs.Gathered.{from_gather, from_ones, get_ones, in_append, in_gather, in_left, in_right, place_of}
+use Rattle.cam_base.proofs.NumberedLists.{from_flat_map, in_flat_map}
 use Rattle.system_spec.specs.declared.map_line.MapLine.{MapLine}
 use Rattle.system_spec.specs.declared.map_line.MapLine.TheVariants.{DomainLine, ThreadLine}
 use Rattle.system_spec.specs.declared.part.Owned.{Owned}

@@ -9,13 +9,13 @@ use Rattle.adl_meaning.specs.declared.flat.Leaf.{Leaf}
 use Rattle.adl_meaning.specs.declared.settled.EndSetting.{EndSetting}
 use Rattle.adl_meaning.specs.declared.settled.LeafSetting.{LeafSetting}
 use Rattle.conn_rules.specs.Ends.{end_rule}
-use Rattle.leaf_ends.specs.declared.end_at.EndAt.{EndAt}
-use Rattle.leaf_ends.specs.Lookups.{setting_of}
-use Rattle.leaf_ends.specs.Members.{leaf_members}
-use Rattle.numbering.specs.Gather.{IsIn}
-use Rattle.program_sections.specs.Images.{image_number}
-use Rattle.program_sections.specs.Numbered.{AreNumbered, AreSound}
-use Rattle.program_sections.specs.SpaceFaults.{first_space_fault}
+use Rattle.cspace_layout.specs.declared.end_at.EndAt.{EndAt}
+use Rattle.cspace_layout.specs.Lookups.{setting_of}
+use Rattle.cspace_layout.specs.Members.{leaf_members}
+use Rattle.cam_base.specs.Gather.{IsIn}
+use Rattle.source_images.specs.Images.{image_number}
+use Rattle.source_images.specs.Numbered.{AreNumbered, AreSound}
+use Rattle.source_images.specs.SpaceFaults.{first_space_fault}
 use Rattle.system_spec.specs.Tables.{Tables}
 use Rattle.vspace_layout.specs.CanLay.{CanLay}
 use Rattle.vspace_layout.specs.Laid.{spaces_of}

@@ -11,7 +11,7 @@ use Rattle.cap_model.specs.declared.object.Fill.{Fill}
 use Rattle.cap_model.specs.declared.object.Object.TheVariants.{Frame}
 use Rattle.cap_model.specs.declared.spec.Spec.{Spec}
 use Rattle.cap_model.specs.Lookup.{object_at}
-use Rattle.leaf_ends.specs.declared.end_at.EndAt.{EndAt}
+use Rattle.cspace_layout.specs.declared.end_at.EndAt.{EndAt}
 use Rattle.page_tables.specs.Shapes.{shapes}
 use Rattle.page_tables.specs.Walks.{root_span}
 use Rattle.system_spec.specs.Tables.{Tables}

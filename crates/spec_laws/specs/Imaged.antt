@@ -3,9 +3,9 @@
 -- is mapped is a set.
 use Rattle.std.specs.Prelude.{◌≡◌, ◌↔◌, ℕ, List, map, Some, slice_get}
 use Rattle.adl_meaning.specs.declared.flat.Domain.{Domain}
-use Rattle.auth_kinds.specs.declared.object_labels.Labels.{Labels}
+use Rattle.cap_model.specs.declared.object_labels.Labels.{Labels}
 use Rattle.cap_model.specs.declared.spec.Spec.{Spec}
-use Rattle.numbering.specs.Gather.{IsIn}
+use Rattle.cam_base.specs.Gather.{IsIn}
 use Rattle.system_spec.specs.declared.map_line.MapLine.{MapLine}
 use Rattle.system_spec.specs.declared.map_line.MapLine.TheVariants.{DomainLine}
 use Rattle.system_spec.specs.Made.{part_name}

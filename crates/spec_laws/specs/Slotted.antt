@@ -21,8 +21,8 @@ use Rattle.conn_rules.specs.Row.{NONE, RW, rows_of}
 use Rattle.cspace_layout.specs.declared.plan.SlotUse.{SlotUse}
 use Rattle.cspace_layout.specs.declared.plan.SlotUse.TheVariants.{OfEnd, Handler, OwnLock}
 use Rattle.cspace_layout.specs.Uses.{domain_uses, slots_of}
-use Rattle.leaf_ends.specs.Lookups.{setting_of}
-use Rattle.numbering.specs.Gather.{IsIn}
+use Rattle.cspace_layout.specs.Lookups.{setting_of}
+use Rattle.cam_base.specs.Gather.{IsIn}
 use Rattle.system_spec.specs.declared.map_line.MapLine.{MapLine}
 use Rattle.system_spec.specs.declared.map_line.MapLine.TheVariants.{SlotLine, OwnLine}
 use Rattle.system_spec.specs.declared.series.Series.{Series}

@@ -10,14 +10,14 @@ use Rattle.cap_model.specs.declared.rights.Rights.{Rights}
 use Rattle.cap_model.specs.declared.spec.Spec.{Spec}
 use Rattle.cap_model.specs.Levels.{is_root_level}
 use Rattle.cap_model.specs.Lookup.{name_at, object_at}
-use Rattle.leaf_ends.specs.declared.end_at.EndAt.{EndAt}
-use Rattle.leaf_ends.specs.Lookups.{setting_of}
-use Rattle.numbering.specs.Gather.{IsIn}
+use Rattle.cspace_layout.specs.declared.end_at.EndAt.{EndAt}
+use Rattle.cspace_layout.specs.Lookups.{setting_of}
+use Rattle.cam_base.specs.Gather.{IsIn}
 use Rattle.page_tables.specs.declared.shape.Shape.{Shape}
 use Rattle.page_tables.specs.Shapes.{shapes, span}
 use Rattle.page_tables.specs.Walks.{Arrives, Walk, root_span}
-use Rattle.program_sections.specs.Images.{image_number}
-use Rattle.program_sections.specs.SectionPages.{fill_of, page_count}
+use Rattle.source_images.specs.Images.{image_number}
+use Rattle.source_images.specs.SectionPages.{fill_of, page_count}
 use Rattle.sect_table.specs.declared.image.Image.{Image}
 use Rattle.sect_table.specs.declared.image.Section.{Section}
 use Rattle.system_spec.specs.declared.part.What.TheVariants.{TableOf}

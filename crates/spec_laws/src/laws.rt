@@ -10,7 +10,7 @@ ghost use Rattle.spec_laws.specs.Labelled.{AreDomainLabels, AreFrameLabels, AreJ
 ghost use Rattle.spec_laws.specs.Regioned.{AreRegions};
 ghost use Rattle.spec_laws.specs.Slotted.{AreSlots, CanSlot};
 ghost use Rattle.spec_laws.specs.Threaded.{AreThreads};
-ghost use Rattle.numbering.specs.Gather.{IsIn};
+ghost use Rattle.cam_base.specs.Gather.{IsIn};
 ghost use Rattle.system_spec.specs.declared.map_line.MapLine.TheVariants.{DomainLine};
 ghost use Rattle.system_spec.specs.MapLines.{map_lines};
 ghost use Rattle.system_spec.specs.Made.{labels_of, spec_of};

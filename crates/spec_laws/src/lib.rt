@@ -3,10 +3,23 @@
 //! There is no code here. The slots of a system are told in `specs/Slotted.antt`, and its images in `specs/Imaged.antt`:
 //! its spaces in `specs/Spaced.antt`, threads in `specs/Threaded.antt`, regions in `specs/Regioned.antt`, frames in
 //! `specs/Framed.antt` and labels in `specs/Labelled.antt`. What they ask of a system is in `specs/CanMap.antt`.
+//!
+//! The boot edges between different labels are just those that ends of connections are given (`edge_laws.rt`, over
+//! `specs/Connected.antt`): so the certificate of such a system is valid, and what its threads can reach is what has a reason.
+//! The last three files promise what these laws ask of each source in which no fault stands and no limit is passed.
 #![tactic(auto)]
 
+mod connected_laws;
+mod edge_laws;
 mod laws;
+mod mapped_laws;
+mod source_laws;
 
+pub use connected_laws::tables_are_connected;
+pub use edge_laws::{
+    certificates_are_least, certificates_are_valid, laid_out_specs_hold_plain,
+    laid_out_specs_take_plain_steps, reached_edges_are_reasoned, specs_are_laid_out,
+};
 pub use laws::{
     all_frames_are_mapped, domains_have_their_lines, domains_have_their_roots,
     images_are_those_of_the_system, labels_are_of_owners, other_frames_are_mapped_once,
@@ -14,3 +27,5 @@ pub use laws::{
     slots_are_those_of_the_system, tables_stand_where_pages_are_mapped,
     threads_are_those_of_the_system, windows_show_one_memory,
 };
+pub use mapped_laws::{tables_can_map, tables_have_slots};
+pub use source_laws::{flat_systems_have_their_devices, loaded_sources_are_spelled};

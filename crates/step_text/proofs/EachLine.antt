@@ -4,9 +4,9 @@ use Rattle.std.specs.List.{filter_map}
 use Rattle.cam_base.proofs.Options.{neither}
 use Rattle.cap_machine.specs.declared.step.Step.{Step}
 use Rattle.cap_model.specs.declared.spec.Spec.{Spec}
-use Rattle.text_lines.specs.LineFaults.{at_line}
-use Rattle.text_lines.specs.Fields.{fields}
-use Rattle.text_lines.specs.Lines.{Line, lines}
+use Rattle.cam_base.specs.LineFaults.{at_line}
+use Rattle.cam_base.specs.Fields.{fields}
+use Rattle.cam_base.specs.Lines.{Line, lines}
 use Rattle.step_text.specs.Spelling.{spelled}
 use Rattle.step_text.specs.StepTexts.{bytes_limit, fault_of, step_of, misspelled, first_fault_of, first_fault, steps_of}
 use Rattle.step_text.specs.Threads.{thread_named}

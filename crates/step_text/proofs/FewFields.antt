@@ -5,7 +5,7 @@ use Rattle.step_text.specs.declared.verb.Verb.{Verb}
 use Rattle.step_text.specs.declared.verb.Verb.TheVariants.{Take, Put, Grant, Call, Reply, SetCspace, SetVspace, Map, Bind, Drop, Save, ReplyTo}
 use Rattle.step_text.specs.Spelling.{spelled_behind, spelled_by, spelled, any_word, names_behind, names}
 use Rattle.step_text.specs.StepTexts.{wrong}
-use Rattle.text_lines.specs.Texts.{texts}
+use Rattle.cam_base.specs.LineTexts.{texts}
 use Rattle.step_text.specs.Verbs.{verb_of}
 
 too_many : (place : List ℕ → Option ℕ) (verb : Verb) (a b c d e f g : List ℕ) (more : List (List ℕ)) → spelled_behind place verb (a ∷ b ∷ c ∷ d ∷ e ∷ f ∷ g ∷ more) ≡ None

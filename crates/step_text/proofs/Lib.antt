@@ -3,3 +3,8 @@ pub mod EachLine
 pub mod FewFields
 pub mod Naming
 pub mod Reading
+pub mod Fields
+pub mod SpelledBack
+pub mod Written
+pub mod Runs
+pub mod Lengths

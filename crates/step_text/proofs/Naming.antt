@@ -9,7 +9,7 @@ use Rattle.cap_machine.specs.declared.step.Step.TheVariants as steps
 use Rattle.step_text.specs.declared.verb.Verb.{Verb}
 use Rattle.step_text.specs.declared.verb.Verb.TheVariants.{Take, Put, Grant, Call, Reply, SetCspace, SetVspace, Map, Bind, Drop, Save, ReplyTo}
 use Rattle.step_text.specs.RightsFields.{rights_value}
-use Rattle.text_lines.specs.AllThere.{of_two, of_three, of_four, of_six}
+use Rattle.cam_base.specs.AllThere.{of_two, of_three, of_four, of_six}
 use Rattle.step_text.specs.Spelling.{copy_value, spelled_behind, spelled_by, spelled, any_word, names_behind, names}
 use Rattle.step_text.specs.StepTexts.{first_unknown}
 use Rattle.step_text.specs.Verbs.{verb_of}

@@ -9,10 +9,10 @@ use Rattle.cam_base.specs.declared.error.Refused.TheVariants as refused
 use Rattle.cam_base.specs.declared.text_fault.TextFault.{TextFault}
 use Rattle.cap_machine.specs.declared.step.Step.{Step}
 use Rattle.cap_model.specs.declared.spec.Spec.{Spec}
-use Rattle.text_lines.specs.Lines.{Line, lines}
+use Rattle.cam_base.specs.Lines.{Line, lines}
 use Rattle.step_text.specs.Threads.{thread_named}
-use Rattle.text_lines.specs.Fields.{fields}
-use Rattle.text_lines.specs.LineFaults.{Wrong, at_line, IsRefusal}
+use Rattle.cam_base.specs.Fields.{fields}
+use Rattle.cam_base.specs.LineFaults.{Wrong, at_line, IsRefusal}
 use Rattle.step_text.specs.LinesRead.{IsLineRead}
 use Rattle.step_text.specs.Spelling.{spelled}
 use Rattle.step_text.specs.StepTexts.{bytes_limit, wrong, fault_of, step_of, first_fault_of, IsRead}

@@ -5,4 +5,6 @@ pub mod Spelling
 pub mod StepTexts
 pub mod Threads
 pub mod Verbs
-pub use Rattle.text_lines.specs.Lines
+pub mod StepLines
+pub mod Readable
+pub use Rattle.cam_base.specs.Lines

@@ -10,7 +10,7 @@ use Rattle.step_text.specs.RightsFields.{rights_value}
 use Rattle.step_text.specs.declared.verb.Verb.{Verb}
 use Rattle.step_text.specs.declared.verb.Verb.TheVariants.{Take, Put, Grant, Call, Reply, SetCspace, SetVspace, Map, Bind, Drop, Save, ReplyTo}
 use Rattle.step_text.specs.Verbs.{verb_of}
-use Rattle.text_lines.specs.AllThere.{of_two, of_three, of_four, of_six}
+use Rattle.cam_base.specs.AllThere.{of_two, of_three, of_four, of_six}
 
 -- the number and the rights of a copy
 abbrev pub copy_value : List ℕ → List ℕ → Option (ℕ × Rights)

@@ -8,9 +8,9 @@ use Rattle.cam_base.specs.declared.text_fault.TextCode.TheVariants.{StepSyntax, 
 use Rattle.cam_base.specs.declared.text_fault.TextFault.{TextFault}
 use Rattle.cap_machine.specs.declared.step.Step.{Step}
 use Rattle.cap_model.specs.declared.spec.Spec.{Spec}
-use Rattle.text_lines.specs.Fields.{fields}
-use Rattle.text_lines.specs.LineFaults.{Wrong, at_line}
-use Rattle.text_lines.specs.Lines.{Line, lines}
+use Rattle.cam_base.specs.Fields.{fields}
+use Rattle.cam_base.specs.LineFaults.{Wrong, at_line}
+use Rattle.cam_base.specs.Lines.{Line, lines}
 use Rattle.step_text.specs.Spelling.{spelled, any_word, names}
 use Rattle.step_text.specs.Threads.{thread_named}
 

@@ -3,7 +3,7 @@
 ghost use Rattle.cap_model.specs.declared.spec.Spec.{Spec};
 ghost use Rattle.std.specs.Option.{is_some};
 ghost use Rattle.std.specs.Prelude.{◌≡◌, ℕ, List, Option, None, true, length};
-ghost use Rattle.text_lines.specs.Lines.{lines};
+ghost use Rattle.cam_base.specs.Lines.{lines};
 ghost use Rattle.step_text.specs.Spelling.{spelled, any_word, names};
 ghost use Rattle.step_text.specs.StepTexts.{first_unknown, first_fault, steps_of};
 

@@ -2,18 +2,17 @@
 
 ghost use Rattle.std.specs.Prelude.{◌≡◌, ◌<◌, ◌^◌, length};
 ghost use Rattle.step_text.specs.Found.{found_in};
-ghost use Rattle.text_lines.specs.LinesLeft.{line_of};
+ghost use Rattle.cam_base.specs.LinesLeft.{line_of};
 ghost use Rattle.step_text.specs.LinesRead.{AreJudged, IsLineRead};
 ghost use Rattle.step_text.specs.StepTexts.{IsRead};
-ghost use Rattle.text_lines.specs.Texts.{texts};
+ghost use Rattle.cam_base.specs.LineTexts.{texts};
 
 use crate::spelled::{misspelled, spelled};
 use crate::threads::Threads;
-use cam_base::{List, Refused, Text, TextCode, TextFault};
+use cam_base::{Line, Lines, List, Refused, Text, TextCode, TextFault, fields, refusal};
 use cap_machine::Step;
 use cap_model::Spec;
 use std::alloc::Global;
-use text_lines::{Line, Lines, fields, refusal};
 
 /// The most steps of a text.
 pub const MAX_STEPS: usize = 100_000;

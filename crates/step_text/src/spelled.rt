@@ -4,7 +4,7 @@ ghost use Rattle.std.specs.Prelude.{◌≡◌, [], ◌∷◌};
 ghost use Rattle.step_text.specs.Found.{found_in, place_among};
 ghost use Rattle.step_text.specs.Spelling.{copy_value, spelled_behind, spelled, names, names_behind};
 ghost use Rattle.step_text.specs.StepTexts.{misspelled, first_unknown};
-ghost use Rattle.text_lines.specs.Texts.{texts};
+ghost use Rattle.cam_base.specs.LineTexts.{texts};
 
 use crate::rights::read_rights;
 use crate::threads::Threads;

@@ -5,11 +5,9 @@ ghost use Rattle.cap_model.specs.Kept.{IsKept};
 ghost use Rattle.std.specs.Prelude.{◌≡◌};
 
 use arch_compile::compile;
-use auth_graph::direct;
-use auth_kinds::Policy;
 use cam_io::Files;
-use cap_machine::{State, Step, boot};
-use cap_model::Spec;
+use cap_machine::{State, Step, boot, direct};
+use cap_model::{Policy, Spec};
 use policy_text::label_objects;
 use std::io;
 use step_text::read_steps;

@@ -4,7 +4,7 @@ ghost use Rattle.std.specs.Prelude.{◌≡◌, ◌≤◌, length};
 
 use crate::refused::show_refused;
 use adl_lexer::lex;
-use adl_parse_asm::{parse_assembly, parse_composition, parse_configuration, parse_value};
+use adl_parse::{parse_assembly, parse_composition, parse_configuration, parse_value};
 use cam_base::Tokens;
 use std::io;
 

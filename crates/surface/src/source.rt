@@ -9,7 +9,7 @@ use adl_flatten::flatten;
 use adl_import::load;
 use adl_meaning::{Flat, is_prefix, same_end};
 use adl_names::{Names, resolve};
-use adl_settle::settle;
+use adl_settings::settle;
 use adl_types::check_types;
 use cam_io::Files;
 use std::io;

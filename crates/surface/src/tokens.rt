@@ -3,7 +3,7 @@
 use crate::refused::show_refused;
 use adl_ast::File;
 use adl_lexer::{keywords, lex};
-use adl_parse_decl::parse_file;
+use adl_parse::parse_file;
 use cam_base::{Keyword, Tokens};
 use std::io;
 

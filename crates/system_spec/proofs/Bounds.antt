@@ -1,6 +1,6 @@
 -- Sections are no longer than the whole
 use Rattle.std.proofs.Common.{◌≡◌, ◌<◌, ◌+◌, ◌^◌, List, [], ◌++◌, length, arith}
-use Rattle.numbering.proofs.Gathered.{gather_ones, length_append}
+use Rattle.cam_base.proofs.Gathered.{gather_ones, length_append}
 use Rattle.system_spec.specs.declared.part.Owned.{Owned}
 use Rattle.system_spec.specs.declared.part.PageTable.{PageTable}
 use Rattle.system_spec.specs.declared.series.Series.{Series}

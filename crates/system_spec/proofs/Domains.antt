@@ -6,9 +6,9 @@ use Rattle.adl_meaning.specs.declared.flat.Domain.{Domain}
 use Rattle.cap_model.specs.declared.object.Object.{Object}
 use Rattle.cspace_layout.specs.declared.plan.SlotUse.{SlotUse}
 use Rattle.std.proofs.lemmas.List.{map-append, take_all}
-use Rattle.numbering.specs.Gather.{gather}
-use Rattle.numbering.proofs.Gathered.{gather_more, gather_ones, get_ones, length_append}
-use Rattle.numbering.proofs.Lists.{at_place, taken_le, length-gather}
+use Rattle.cam_base.specs.Gather.{gather}
+use Rattle.cam_base.proofs.Gathered.{gather_more, gather_ones, get_ones, length_append}
+use Rattle.cam_base.proofs.NumberedLists.{at_place, taken_le, length-gather}
 use Rattle.page_tables.specs.Levels.{layers}
 use Rattle.page_tables.specs.Shapes.{shapes}
 use Rattle.page_tables.specs.Counts.{table_count as count_of}

@@ -5,9 +5,9 @@ use Rattle.std.proofs.lemmas.List.{take_all}
 use Rattle.adl_meaning.specs.declared.flat.Domain.{Domain}
 use Rattle.arch_policy.specs.declared.owner.Owner.TheVariants.{OfDomain}
 use Rattle.cspace_layout.specs.declared.plan.SlotUse.{SlotUse}
-use Rattle.numbering.specs.Gather.{gather, before}
-use Rattle.numbering.proofs.Gathered.{gather_more, gather_ones, length_append}
-use Rattle.numbering.proofs.Lists.{at_place, taken_le}
+use Rattle.cam_base.specs.Gather.{gather, before}
+use Rattle.cam_base.proofs.Gathered.{gather_more, gather_ones, length_append}
+use Rattle.cam_base.proofs.NumberedLists.{at_place, taken_le}
 use Rattle.vspace_layout.specs.declared.spaces.ThreadPlace.{ThreadPlace}
 use Rattle.system_spec.specs.declared.part.Owned.{Owned}
 use Rattle.system_spec.specs.declared.part.Part.{Part}

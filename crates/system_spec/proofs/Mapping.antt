@@ -5,7 +5,7 @@ use Rattle.std.specs.Option.{option_map_or}
 use Rattle.cam_base.specs.Paths.{joined}
 use Rattle.cam_base.specs.Texts.{◌⊹◌, together}
 use Rattle.cam_io.specs.Sinks.{Sink, Writes}
-use Rattle.leaf_ends.specs.Lookups.{end_of}
+use Rattle.cspace_layout.specs.Lookups.{end_of}
 use Rattle.system_spec.specs.MapText.{Named, end_text, joined_text}
 
 dot_name : (n : List ℕ) → together (codes "." ∷ n ∷ []) ≡ 46 ∷ n

@@ -7,9 +7,9 @@ use Rattle.adl_meaning.specs.declared.flat.Domain.{Domain}
 use Rattle.adl_meaning.specs.declared.flat.FlatConnection.{FlatConnection}
 use Rattle.arch_policy.specs.declared.owner.Owner.TheVariants.{OfDomain, OfConnection}
 use Rattle.cap_model.specs.Lookup.{entry_name, entry_object}
-use Rattle.numbering.specs.Gather.{IsIn, gather}
-use Rattle.numbering.proofs.Lists.{get_map}
-use Rattle.numbering.proofs.Gathered.{get_ones, in_gather, in_left, in_right}
+use Rattle.cam_base.specs.Gather.{IsIn, gather}
+use Rattle.cam_base.proofs.NumberedLists.{get_map}
+use Rattle.cam_base.proofs.Gathered.{get_ones, in_gather, in_left, in_right}
 use Rattle.system_spec.specs.declared.series.Series.TheVariants as series
 use Rattle.system_spec.specs.Made.{entry}
 use Rattle.system_spec.specs.declared.part.Owned.{Owned}

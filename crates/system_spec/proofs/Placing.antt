@@ -10,9 +10,9 @@ use Rattle.adl_meaning.specs.declared.flat.FlatConnection.{FlatConnection}
 use Rattle.arch_policy.specs.declared.owner.Owner.{Owner}
 use Rattle.cspace_layout.specs.declared.plan.SlotUse.{SlotUse}
 use Rattle.cspace_layout.specs.declared.plan.SlotUse.TheVariants.{OfEnd, Handler, OwnLock}
-use Rattle.numbering.specs.Gather.{gather, before}
-use Rattle.numbering.proofs.Gathered.{gather_more, gather_same, gather_turn, get_ones, length_append}
-use Rattle.numbering.proofs.Lists.{at_place, taken_le}
+use Rattle.cam_base.specs.Gather.{gather, before}
+use Rattle.cam_base.proofs.Gathered.{gather_more, gather_same, gather_turn, get_ones, length_append}
+use Rattle.cam_base.proofs.NumberedLists.{at_place, taken_le}
 use Rattle.system_spec.specs.declared.part.What.TheVariants.{EndpointOf, NotificationOf, LockOf, IrqOf}
 use Rattle.system_spec.specs.declared.places.Standing.{Standing}
 use Rattle.system_spec.specs.declared.places.Standing.TheVariants as standings

@@ -9,9 +9,9 @@ use Rattle.arch_policy.specs.declared.owner.Owner.TheVariants.{OfDomain, OfConne
 use Rattle.cap_model.specs.declared.object.Object.{Object}
 use Rattle.cspace_layout.specs.declared.plan.SlotUse.{SlotUse}
 use Rattle.cspace_layout.specs.declared.plan.SlotUse.TheVariants.{OfEnd, Handler, OwnLock}
-use Rattle.numbering.specs.Gather.{IsIn, before}
-use Rattle.numbering.proofs.Gathered.{from_ones, from_place, get_behind, get_front, length_append, place_of, split_get}
-use Rattle.numbering.proofs.Lists.{single}
+use Rattle.cam_base.specs.Gather.{IsIn, before}
+use Rattle.cam_base.proofs.Gathered.{from_ones, from_place, get_behind, get_front, length_append, place_of, split_get}
+use Rattle.cam_base.proofs.NumberedLists.{single}
 use Rattle.vspace_layout.specs.declared.spaces.FrameInfo.{FrameInfo}
 use Rattle.vspace_layout.specs.declared.spaces.ThreadPlace.{ThreadPlace}
 use Rattle.system_spec.specs.declared.part.Owned.{Owned}

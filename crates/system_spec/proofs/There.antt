@@ -14,8 +14,8 @@ use Rattle.cap_model.specs.Kinds.{kind_at, kind_of_object}
 use Rattle.cap_model.specs.Lookup.{object_at}
 use Rattle.cspace_layout.specs.declared.plan.SlotUse.{SlotUse}
 use Rattle.cspace_layout.specs.declared.plan.SlotUse.TheVariants.{OfEnd, Handler, OwnLock}
-use Rattle.numbering.specs.Gather.{IsIn, gather}
-use Rattle.numbering.proofs.Gathered.{from_gather, from_ones, in_append, in_gather, in_place, place_of}
+use Rattle.cam_base.specs.Gather.{IsIn, gather}
+use Rattle.cam_base.proofs.Gathered.{from_gather, from_ones, in_append, in_gather, in_place, place_of}
 use Rattle.system_spec.proofs.Objects.{in_together, objects_stand}
 use Rattle.system_spec.specs.declared.part.Owned.{Owned}
 use Rattle.system_spec.specs.declared.part.PageTable.{PageTable}

@@ -1,9 +1,9 @@
 -- Turns of loops over places
 use Rattle.std.proofs.Common.{◌≡◌, ◌<◌, ◌+◌, ℕ, suc, List, [], ◌∷◌, ◌++◌, length, take, refl, sym, ◌∙◌, ap, Some, append_assoc, add-one}
 use Rattle.std.specs.List.{slice_get}
-use Rattle.numbering.specs.Gather.{gather}
-use Rattle.numbering.proofs.Gathered.{gather_more}
-use Rattle.numbering.proofs.Lists.{at_place}
+use Rattle.cam_base.specs.Gather.{gather}
+use Rattle.cam_base.proofs.Gathered.{gather_more}
+use Rattle.cam_base.proofs.NumberedLists.{at_place}
 
 -- where what comes from an element depends on its place alone
 pub place_turn : {X Y : Type 0} (f : ℕ → X → List Y) (xs : List X) (i : ℕ) (old mid new : List Y) → i < length xs → mid ≡ old ++ gather f (take i xs) → ((x : X) → new ≡ mid ++ f i x) → new ≡ old ++ gather f (take (i + 1) xs)

@@ -1,7 +1,7 @@
 -- What the making of a spec asks of the tables. Slots and spaces that were laid out for a system without faults, within its
 -- limits, keep it.
 use Rattle.std.specs.Prelude.{◌<◌, ℕ, map, length}
-use Rattle.numbering.specs.Gather.{IsIn}
+use Rattle.cam_base.specs.Gather.{IsIn}
 use Rattle.page_tables.specs.Runs.{Rises}
 use Rattle.vspace_layout.specs.declared.spaces.Page.{Page}
 use Rattle.system_spec.specs.Few.{AreFew}

@@ -1,7 +1,7 @@
 -- What the listing of parts asks of the tables: all numbers are below 2^32. Slots and spaces that were laid out for a system
 -- within its limits keep it.
 use Rattle.std.specs.Prelude.{◌≡◌, ◌<◌, ◌+◌, ◌^◌, ◌⊎◌, ℕ, List, map, length}
-use Rattle.numbering.specs.Gather.{IsIn}
+use Rattle.cam_base.specs.Gather.{IsIn}
 use Rattle.page_tables.specs.Levels.{layers, sizes}
 use Rattle.page_tables.specs.Shapes.{shapes}
 use Rattle.vspace_layout.specs.declared.spaces.Page.{Page}

@@ -3,7 +3,7 @@ use Rattle.std.specs.Prelude.{◌≡◌, ◌<◌, ℕ, List, [], ◌∷◌, leng
 use Rattle.std.specs.Option.{option_map_or}
 use Rattle.cap_model.specs.declared.object.Object.{Object}
 use Rattle.cap_model.specs.declared.object.Object.TheVariants.{Endpoint, Pages}
-use Rattle.numbering.specs.Gather.{IsIn, gather}
+use Rattle.cam_base.specs.Gather.{IsIn, gather}
 use Rattle.system_spec.specs.declared.landmarks.Landmarks.{Landmarks}
 use Rattle.system_spec.specs.declared.landmarks.Plan.{Plan}
 use Rattle.system_spec.specs.declared.landmarks.SpaceTables.{SpaceTables}

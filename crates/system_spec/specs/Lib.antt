@@ -17,5 +17,5 @@ pub mod Tables
 pub mod TablesFrom
 pub mod Told
 pub mod Windowed
-pub use Rattle.numbering.specs.Gather
+pub use Rattle.cam_base.specs.Gather
 pub use Rattle.cam_io.specs.Sinks

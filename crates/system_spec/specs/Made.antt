@@ -2,7 +2,7 @@
 -- apart.
 use Rattle.std.specs.Prelude.{ℕ, List, map}
 use Rattle.arch_policy.specs.Tables.{number_of}
-use Rattle.auth_kinds.specs.declared.object_labels.Labels.{Labels}
+use Rattle.cap_model.specs.declared.object_labels.Labels.{Labels}
 use Rattle.cap_model.specs.declared.spec.Entry.{Entry}
 use Rattle.cap_model.specs.declared.spec.Spec.{Spec}
 use Rattle.system_spec.specs.declared.part.Part.{Part}

@@ -19,9 +19,9 @@ use Rattle.cam_base.specs.Paths.{joined}
 use Rattle.cam_base.specs.Texts.{◌⊹◌, together}
 use Rattle.cap_model.specs.declared.spec.Spec.{Spec}
 use Rattle.cap_model.specs.Lookup.{name_at}
-use Rattle.leaf_ends.specs.declared.end_at.EndAt.{EndAt}
-use Rattle.leaf_ends.specs.Lookups.{end_of}
-use Rattle.leaf_ends.specs.Members.{leaf_members}
+use Rattle.cspace_layout.specs.declared.end_at.EndAt.{EndAt}
+use Rattle.cspace_layout.specs.Lookups.{end_of}
+use Rattle.cspace_layout.specs.Members.{leaf_members}
 use Rattle.system_spec.specs.declared.map_line.MapLine.{MapLine}
 use Rattle.system_spec.specs.declared.map_line.MapLine.TheVariants.{DomainLine, ThreadLine, SlotLine, OwnLine, WindowLine}
 use Rattle.system_spec.specs.declared.map_text.MapNames.{MapNames}

@@ -27,8 +27,8 @@ use Rattle.conn_rules.specs.declared.rule.RuleRow.{RuleRow}
 use Rattle.conn_rules.specs.Row.{NONE, RW, rows_of}
 use Rattle.cspace_layout.specs.declared.plan.SlotUse.{SlotUse}
 use Rattle.cspace_layout.specs.declared.plan.SlotUse.TheVariants.{OfEnd, Handler, OwnLock}
-use Rattle.leaf_ends.specs.Lookups.{end_of, setting_of}
-use Rattle.numbering.specs.Gather.{gather}
+use Rattle.cspace_layout.specs.Lookups.{end_of, setting_of}
+use Rattle.cam_base.specs.Gather.{gather}
 use Rattle.vspace_layout.specs.declared.spaces.FrameInfo.{FrameInfo}
 use Rattle.vspace_layout.specs.declared.spaces.Page.{Page}
 use Rattle.vspace_layout.specs.declared.spaces.ThreadPlace.{ThreadPlace}

@@ -26,7 +26,7 @@ use Rattle.cap_model.specs.declared.object.Object.{Object}
 use Rattle.cap_model.specs.declared.rights.Rights.{Rights}
 use Rattle.cspace_layout.specs.declared.plan.SlotUse.{SlotUse}
 use Rattle.cspace_layout.specs.declared.plan.SlotUse.TheVariants.{OfEnd, Handler, OwnLock}
-use Rattle.numbering.specs.Gather.{before, gather}
+use Rattle.cam_base.specs.Gather.{before, gather}
 use Rattle.page_tables.specs.declared.mapping.Mapping.{Mapping}
 pub use Rattle.page_tables.specs.Levels.{level_of}
 use Rattle.page_tables.specs.Levels.{tables_of}

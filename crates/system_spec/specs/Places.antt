@@ -5,7 +5,7 @@ use Rattle.adl_meaning.specs.declared.connector.Connector.TheVariants.{Rpc, Noti
 use Rattle.adl_meaning.specs.declared.flat.FlatConnection.{FlatConnection}
 use Rattle.cspace_layout.specs.declared.plan.SlotUse.{SlotUse}
 use Rattle.cspace_layout.specs.declared.plan.SlotUse.TheVariants.{OfEnd, Handler, OwnLock}
-use Rattle.numbering.specs.Gather.{gather, before}
+use Rattle.cam_base.specs.Gather.{gather, before}
 use Rattle.system_spec.specs.declared.part.What.TheVariants.{EndpointOf, NotificationOf, IrqOf}
 use Rattle.system_spec.specs.declared.places.Places.{Places}
 use Rattle.system_spec.specs.declared.places.Standing.{Standing}

@@ -5,7 +5,7 @@ use Rattle.adl_meaning.specs.declared.flat.Domain.{Domain}
 use Rattle.adl_meaning.specs.declared.flat.FlatConnection.{FlatConnection}
 use Rattle.arch_policy.specs.declared.owner.Owner.TheVariants.{OfConnection, OfDomain}
 use Rattle.cap_model.specs.Lookup.{name_at, object_at}
-use Rattle.numbering.specs.Gather.{IsIn}
+use Rattle.cam_base.specs.Gather.{IsIn}
 use Rattle.system_spec.specs.declared.part.Part.{Part}
 use Rattle.system_spec.specs.declared.part.What.TheVariants.{CNodeOf, EndpointOf}
 use Rattle.system_spec.specs.declared.series.Series.TheVariants as series

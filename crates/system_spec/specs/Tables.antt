@@ -19,10 +19,10 @@ use Rattle.cap_model.specs.declared.level.Arch.{Arch}
 use Rattle.conn_rules.specs.Ends.{end_rule}
 use Rattle.cspace_layout.specs.declared.plan.SlotUse.{SlotUse}
 use Rattle.cspace_layout.specs.declared.plan.Slots.{Slots}
-use Rattle.leaf_ends.specs.Lookups.{setting_of}
-use Rattle.leaf_ends.specs.Members.{items_of_file}
-use Rattle.program_sections.specs.declared.images.Images.{Images}
-use Rattle.program_sections.specs.Images.{arch_of, image_number}
+use Rattle.cspace_layout.specs.Lookups.{setting_of}
+use Rattle.cspace_layout.specs.Members.{items_of_file}
+use Rattle.source_images.specs.declared.images.Images.{Images}
+use Rattle.source_images.specs.Images.{arch_of, image_number}
 use Rattle.vspace_layout.specs.declared.owner.Owner.{Owner as FrameOwner}
 use Rattle.vspace_layout.specs.declared.owner.Owner.TheVariants.{OfDomain, OfConnection, OfLeaf}
 use Rattle.vspace_layout.specs.declared.spaces.Page.{Page}

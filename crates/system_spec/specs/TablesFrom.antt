@@ -4,7 +4,7 @@ use Rattle.adl_meaning.specs.declared.flat.Flat.{Flat}
 use Rattle.adl_meaning.specs.declared.settled.Settled.{Settled}
 use Rattle.arch_policy.specs.Labels.{label_numbers}
 use Rattle.cspace_layout.specs.Uses.{slots_of}
-use Rattle.program_sections.specs.declared.images.Images.{Images}
+use Rattle.source_images.specs.declared.images.Images.{Images}
 use Rattle.vspace_layout.specs.Given.{given}
 use Rattle.vspace_layout.specs.Laid.{spaces_of}
 use Rattle.system_spec.specs.Tables.{Tables}

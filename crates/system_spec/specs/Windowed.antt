@@ -1,6 +1,6 @@
 -- What the map asks of windows: the bytes of each are a number of 64 bits.
 use Rattle.std.specs.Prelude.{◌<◌, ◌*◌, ◌^◌, ℕ, List}
-use Rattle.numbering.specs.Gather.{IsIn}
+use Rattle.cam_base.specs.Gather.{IsIn}
 use Rattle.vspace_layout.specs.declared.spaces.Window.{Window}
 use Rattle.system_spec.specs.Tables.{Tables, windows_at}
 

@@ -1,7 +1,7 @@
 //! The capabilities of CNodes.
 
 ghost use Rattle.conn_rules.specs.Row.{RW};
-ghost use Rattle.numbering.specs.Gather.{gather};
+ghost use Rattle.cam_base.specs.Gather.{gather};
 ghost use Rattle.std.specs.Prelude.{◌≡◌, ◌+◌, ◌<◌, ◌^◌, length, slice_index, IfOk};
 ghost use Rattle.system_spec.specs.Objects.{joint, slots_at, use_cap_at};
 ghost use Rattle.system_spec.specs.Parts.{lock, place};

@@ -9,7 +9,7 @@ use adl_ast::Role;
 use adl_meaning::{Connector, Settled};
 use cap_model::Rights;
 use conn_rules::row;
-use leaf_ends::{end_of, setting_of};
+use cspace_layout::{end_of, setting_of};
 
 /// The rights that the connector table gives an end of this role.
 fn end_rights(connector: Connector, role: Role) -> Rights

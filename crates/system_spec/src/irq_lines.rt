@@ -1,7 +1,7 @@
 //! The interrupt lines.
 
-ghost use Rattle.leaf_ends.specs.Lookups.{setting_of};
-ghost use Rattle.numbering.specs.Gather.{gather};
+ghost use Rattle.cspace_layout.specs.Lookups.{setting_of};
+ghost use Rattle.cam_base.specs.Gather.{gather};
 ghost use Rattle.std.specs.Prelude.{◌≡◌, ◌++◌, IfOk, OnOk};
 ghost use Rattle.system_spec.specs.Few.{AreFew};
 ghost use Rattle.system_spec.specs.Objects.{line, line_by, lines};

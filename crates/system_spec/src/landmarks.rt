@@ -1,6 +1,6 @@
 //! Where the objects stand that others name.
 
-ghost use Rattle.numbering.specs.Gather.{gather};
+ghost use Rattle.cam_base.specs.Gather.{gather};
 ghost use Rattle.std.specs.Prelude.{◌≡◌, ◌<◌, ◌≤◌, ◌^◌, length, take, IfOk};
 ghost use Rattle.system_spec.specs.Buildable.{IsBuildable};
 ghost use Rattle.system_spec.specs.Landmarks.{AreLandmarks, IsPlan, all_spaces, first_locks};

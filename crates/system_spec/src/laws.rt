@@ -1,6 +1,6 @@
 //! Laws of the spec. These functions do nothing: what they ensure is the law.
 
-ghost use Rattle.numbering.specs.Gather.{IsIn};
+ghost use Rattle.cam_base.specs.Gather.{IsIn};
 ghost use Rattle.std.specs.Prelude.{◌≡◌, ◌<◌, ◌^◌, ℕ, Some, slice_get};
 ghost use Rattle.system_spec.specs.Bits.{IsLeastBits, bits_for};
 ghost use Rattle.system_spec.specs.Parts.{parts, place};

@@ -1,6 +1,6 @@
 //! The page tables of all domains, and their numbers.
 
-ghost use Rattle.numbering.specs.Gather.{gather};
+ghost use Rattle.cam_base.specs.Gather.{gather};
 ghost use Rattle.page_tables.specs.Levels.{level_of};
 ghost use Rattle.std.specs.Prelude.{◌≡◌, ◌<◌, ◌+◌, ◌^◌, ◌++◌, ◌∷◌, [], map, length, IfOk, OnOk};
 ghost use Rattle.system_spec.specs.Few.{AreFew, AreShown, IsShown, table_count};

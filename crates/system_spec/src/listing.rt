@@ -1,6 +1,6 @@
 //! The parts of a system, section by section.
 
-ghost use Rattle.numbering.specs.Gather.{gather};
+ghost use Rattle.cam_base.specs.Gather.{gather};
 ghost use Rattle.std.specs.Prelude.{◌≡◌, ◌≤◌, ◌<◌, ◌^◌, ◌++◌, ◌∷◌, [], length, take, IfOk, OnOk};
 ghost use Rattle.system_spec.specs.Few.{AreFew};
 ghost use Rattle.system_spec.specs.Grouped.{holders, joints, memory};

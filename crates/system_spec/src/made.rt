@@ -14,9 +14,8 @@ use crate::listing::first_of;
 use crate::map_listing::lines_of;
 use crate::object::object;
 use crate::{MapLine, Part, Tables};
-use auth_kinds::Labels;
 use cam_base::{List, NoMemory};
-use cap_model::{Entry, Spec};
+use cap_model::{Entry, Labels, Spec};
 use std::alloc::Global;
 
 /// The spec of a system and the labels of its objects.

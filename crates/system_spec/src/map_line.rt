@@ -1,4 +1,4 @@
-use leaf_ends::EndAt;
+use cspace_layout::EndAt;
 
 /// A line of the map. `tcb` and `object` are places in the spec.
 #[derive(Clone, Copy)]

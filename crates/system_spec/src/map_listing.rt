@@ -1,6 +1,6 @@
 //! The lines of the map.
 
-ghost use Rattle.numbering.specs.Gather.{gather};
+ghost use Rattle.cam_base.specs.Gather.{gather};
 ghost use Rattle.std.specs.Prelude.{◌≡◌, ◌+◌, ◌<◌, ◌^◌, ◌++◌, ◌∷◌, [], length, IfOk, OnOk};
 ghost use Rattle.system_spec.specs.Buildable.{IsBuildable};
 ghost use Rattle.system_spec.specs.Few.{AreFew};

@@ -4,7 +4,7 @@ ghost use Rattle.cam_base.specs.Hex.{hex_text};
 ghost use Rattle.cam_base.specs.Paths.{joined};
 ghost use Rattle.cam_base.specs.Texts.{◌⊹◌, together};
 ghost use Rattle.cam_io.specs.Sinks.{IsOpen, Writes};
-ghost use Rattle.leaf_ends.specs.Members.{leaf_members};
+ghost use Rattle.cspace_layout.specs.Members.{leaf_members};
 ghost use Rattle.std.specs.List.{flat_map};
 ghost use Rattle.std.specs.Prelude.{◌≡◌, ◌∷◌, map};
 ghost use Rattle.system_spec.specs.MapText.{connection_path, domain_line, domain_path, end_text, joined_text};
@@ -18,8 +18,8 @@ use adl_meaning::Flat;
 use cam_base::{Name, hex};
 use cam_io::{Failed, Outputs, write_all, write_parts};
 use cap_model::{Arch, Spec};
+use cspace_layout::{EndAt, end_of, members_at};
 use itoa::Buffer;
-use leaf_ends::{EndAt, end_of, members_at};
 
 /// What gives names to what the lines of a map say by number.
 #[derive(Clone, Copy)]

@@ -1,6 +1,6 @@
 //! Where the objects of connections stand.
 
-ghost use Rattle.numbering.specs.Gather.{before, gather};
+ghost use Rattle.cam_base.specs.Gather.{before, gather};
 ghost use Rattle.std.specs.Prelude.{◌≡◌, ◌+◌, ◌<◌, ◌^◌, ◌∷◌, [], length, IfOk};
 ghost use Rattle.system_spec.specs.Few.{AreFew};
 ghost use Rattle.system_spec.specs.Parts.{first_of};

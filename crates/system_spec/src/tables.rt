@@ -9,7 +9,7 @@ use adl_meaning::{Connector, Flat, FlatConnection, FlatEnd, ItemAt, Settled};
 use arch_policy::{LabelNumbers, Owner};
 use conn_rules::EndRule;
 use cspace_layout::{SlotUse, Slots};
-use program_sections::Images;
+use source_images::Images;
 use vspace_layout::{Owner as FrameOwner, Page, Spaces, ThreadPlace, Window};
 
 /// What the objects of a system are made from: the source, its flat, settled system, the images of its programs, the slots

@@ -1,7 +1,7 @@
 //! The threads.
 
 ghost use Rattle.conn_rules.specs.Row.{RW};
-ghost use Rattle.numbering.specs.Gather.{IsIn};
+ghost use Rattle.cam_base.specs.Gather.{IsIn};
 ghost use Rattle.page_tables.specs.Runs.{Rises};
 ghost use Rattle.std.specs.Option.{option_map};
 ghost use Rattle.std.specs.Prelude.{◌≡◌, ◌<◌, ◌+◌, ◌^◌, length, map, IfOk};

@@ -2,11 +2,11 @@
 use Rattle.std.proofs.Common.{◌≡◌, ◌∙◌, ◌<◌, ◌≤◌, ◌^◌, ◌++◌, ℕ, true, List, length, None, Some, Result, Ok, Err, refl, sym, ap, subst, inl, inr, arith}
 use Rattle.std.proofs.lemmas.List.{length-append}
 use Rattle.std.specs.List.{All, list_all}
-use Rattle.auth_kinds.specs.Tables.{Has}
-use Rattle.auth_kinds.specs.declared.authority.Authority.{Authority}
-use Rattle.auth_kinds.specs.declared.edge.Edge.{Edge}
-use Rattle.auth_kinds.specs.declared.object_labels.Labels.{Labels}
-use Rattle.auth_kinds.specs.declared.policy.Policy.{Policy}
+use Rattle.cap_model.specs.Tables.{Has}
+use Rattle.cap_model.specs.declared.authority.Authority.{Authority}
+use Rattle.cap_model.specs.declared.edge.Edge.{Edge}
+use Rattle.cap_model.specs.declared.object_labels.Labels.{Labels}
+use Rattle.cap_model.specs.declared.policy.Policy.{Policy}
 use Rattle.cam_base.specs.Names.{is_name}
 use Rattle.cam_io.specs.Contents.{Contents}
 use Rattle.cap_audit.specs.declared.report.AuditReport.{AuditReport}
@@ -14,17 +14,17 @@ use Rattle.cap_machine.specs.Runs.{Run}
 use Rattle.cap_machine.specs.declared.step.Step.{Step}
 use Rattle.cap_model.specs.State.{State, boot}
 use Rattle.cap_model.specs.declared.spec.Spec.{Spec}
-use Rattle.capdl_kept.proofs.Kept.{kept_text}
-use Rattle.capdl_kept.proofs.Names.{text_named}
+use Rattle.capdl_read.proofs.Kept.{kept_text}
+use Rattle.capdl_read.proofs.Names.{text_named}
 use Rattle.capdl_text.specs.Texts as capdl
-use Rattle.edge_lines.specs.Lines as lines
+use Rattle.policy_text.specs.Lines as lines
 use Rattle.policy_text.specs.Labelled.{IsLabelling}
-use Rattle.step_back.proofs.Lengths.{steps_short}
-use Rattle.step_back.proofs.Runs.{run_readable}
-use Rattle.step_back.proofs.Written.{no_fault, read_back}
-use Rattle.step_back.specs.Readable.{IsReadable}
+use Rattle.step_text.proofs.Lengths.{steps_short}
+use Rattle.step_text.proofs.Runs.{run_readable}
+use Rattle.step_text.proofs.Written.{no_fault, read_back}
+use Rattle.step_text.specs.Readable.{IsReadable}
 use Rattle.step_text.specs.StepTexts as steps
-use Rattle.step_write.specs.StepLines.{steps_text}
+use Rattle.step_text.specs.StepLines.{steps_text}
 use Rattle.text_commands.specs.Codes.{tell_text}
 use Rattle.text_commands.specs.Commands.{AreSteps, IsAudited, IsPolicy, IsRun, IsSystem}
 use Rattle.text_commands.specs.Decisions.{HasReport}

@@ -7,23 +7,23 @@ use Rattle.std.specs.List.{All}
 use Rattle.std.specs.Option.{is_some, option_map}
 use Rattle.std.specs.Prelude.{◌==◌}
 use Rattle.std.specs.Str.{bytes_eq}
-use Rattle.auth_kinds.specs.Edges.{edge}
-use Rattle.auth_kinds.specs.Policies.{label_name}
-use Rattle.auth_kinds.specs.Policies as policies
-use Rattle.auth_kinds.specs.Tables.{IsSorted, has}
-use Rattle.auth_kinds.specs.declared.edge.Edge.{Edge}
-use Rattle.auth_kinds.specs.declared.object_labels.Labels.{Labels}
-use Rattle.auth_kinds.specs.declared.policy.Policy.{Policy}
+use Rattle.cap_model.specs.Edges.{edge}
+use Rattle.cap_model.specs.Policies.{label_name}
+use Rattle.cap_model.specs.Policies as policies
+use Rattle.cap_model.specs.Tables.{IsSorted, has}
+use Rattle.cap_model.specs.declared.edge.Edge.{Edge}
+use Rattle.cap_model.specs.declared.object_labels.Labels.{Labels}
+use Rattle.cap_model.specs.declared.policy.Policy.{Policy}
 use Rattle.cam_io.specs.Contents.{Contents}
 use Rattle.cap_model.specs.declared.spec.Entry.{Entry}
 use Rattle.cap_model.specs.declared.spec.Spec.{Spec}
-use Rattle.capdl_kept.proofs.Kept.{kept_text}
+use Rattle.capdl_read.proofs.Kept.{kept_text}
 use Rattle.capdl_text.specs.Texts as capdl
 use Rattle.cert_check.specs.Valid.{Valid}
 use Rattle.cert_check.specs.Verdicts.{Judged}
 use Rattle.cert_check.specs.declared.verdict.Verdict.{Verdict}
 use Rattle.cert_check.specs.declared.verdict.Verdict.TheVariants.{Yes, No}
-use Rattle.edge_lines.specs.Lines as names
+use Rattle.policy_text.specs.Lines as names
 use Rattle.least_cert.proofs.LeastKeeps.{least_valid}
 use Rattle.policy_text.proofs.EdgeLengths.{cert_short}
 use Rattle.policy_text.proofs.Kept.{all_edges}

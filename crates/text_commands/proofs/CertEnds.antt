@@ -5,13 +5,13 @@ use Rattle.std.proofs.lemmas.Bool.Decides.{nat_tests}
 use Rattle.std.proofs.lemmas.Map.Views.{any-filter_same}
 use Rattle.std.specs.List.{Contains, filter, list_any}
 use Rattle.std.specs.Prelude.{◌==◌, slice_index}
-use Rattle.auth_kinds.proofs.EdgeOrder.{same_edge_true}
-use Rattle.auth_kinds.specs.Edges.{edge, same_edge}
-use Rattle.auth_kinds.specs.ObjectLabels.{label_of}
-use Rattle.auth_kinds.specs.Tables.{Has, has}
-use Rattle.auth_kinds.specs.declared.authority.Authority.{Authority}
-use Rattle.auth_kinds.specs.declared.authority.Authority.TheVariants.{Receive, AsyncSend, Grant, Control, Call, Reply, GrantBack, Handle}
-use Rattle.auth_kinds.specs.declared.edge.Edge.{Edge}
+use Rattle.cap_model.proofs.EdgeOrder.{same_edge_true}
+use Rattle.cap_model.specs.Edges.{edge, same_edge}
+use Rattle.cap_model.specs.ObjectLabels.{label_of}
+use Rattle.cap_model.specs.Tables.{Has, has}
+use Rattle.cap_model.specs.declared.authority.Authority.{Authority}
+use Rattle.cap_model.specs.declared.authority.Authority.TheVariants.{Receive, AsyncSend, Grant, Control, Call, Reply, GrantBack, Handle}
+use Rattle.cap_model.specs.declared.edge.Edge.{Edge}
 use Rattle.cap_machine.proofs.Booting.{boot_fits}
 use Rattle.cap_model.proofs.BootPlaces.{contains_at}
 use Rattle.cap_model.proofs.Kept.{fits_below, is_at_below, object_below, object_kept, root_below, slot_kept}

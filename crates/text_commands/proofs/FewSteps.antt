@@ -4,9 +4,9 @@ use Rattle.std.proofs.lemmas.Bool.Decides.{nat_tests}
 use Rattle.std.specs.List.{filter_map}
 use Rattle.cap_machine.specs.declared.step.Step.{Step}
 use Rattle.cap_model.specs.declared.spec.Spec.{Spec}
-use Rattle.text_lines.specs.LineFaults.{at_line}
-use Rattle.text_lines.specs.Fields.{fields}
-use Rattle.text_lines.specs.Lines.{Line, lines}
+use Rattle.cam_base.specs.LineFaults.{at_line}
+use Rattle.cam_base.specs.Fields.{fields}
+use Rattle.cam_base.specs.Lines.{Line, lines}
 use Rattle.step_text.specs.Spelling.{spelled}
 use Rattle.step_text.specs.StepTexts.{bytes_limit, fault_of, first_fault, first_fault_of, misspelled, step_of, steps_of}
 use Rattle.step_text.specs.Threads.{thread_named}

@@ -1,8 +1,8 @@
 -- For the same contents each command has one answer.
 use Rattle.std.proofs.Common.{◌≡◌, ◌∙◌, ◌⊎◌, ℕ, List, [], ◌∷◌, map, find, Option, Some, None, Result, Ok, Err, inl, inr, refl, sym, ap, subst}
-use Rattle.auth_kinds.specs.declared.edge.Edge.{Edge}
-use Rattle.auth_kinds.specs.declared.object_labels.Labels.{Labels}
-use Rattle.auth_kinds.specs.declared.policy.Policy.{Policy}
+use Rattle.cap_model.specs.declared.edge.Edge.{Edge}
+use Rattle.cap_model.specs.declared.object_labels.Labels.{Labels}
+use Rattle.cap_model.specs.declared.policy.Policy.{Policy}
 use Rattle.boot_plan.specs.UntypedTexts as untypeds
 use Rattle.boot_plan.specs.declared.untyped.Untyped.{Untyped}
 use Rattle.cam_base.specs.declared.error.Refused.{Refused}
@@ -17,8 +17,8 @@ use Rattle.capdl_text.proofs.Unique.{one_first_fault, one_spec}
 use Rattle.capdl_text.specs.Texts as capdl
 use Rattle.cert_check.specs.Verdicts.{Judged}
 use Rattle.cert_check.specs.declared.verdict.Verdict.{Verdict}
-use Rattle.elf_images.specs.Elf as elf
-use Rattle.elf_images.specs.Faults.{class_in, first_fault}
+use Rattle.sect_table.specs.Elf as elf
+use Rattle.sect_table.specs.Faults.{class_in, first_fault}
 use Rattle.policy_text.proofs.OneMeaning.{certs_one, policies_one}
 use Rattle.policy_text.specs.Labelled.{IsLabelling, object_label, unlabelled}
 use Rattle.policy_text.specs.PolicyTexts.{IsCertRead, IsPolicyRead}

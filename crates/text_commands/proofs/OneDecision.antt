@@ -2,9 +2,9 @@
 use Rattle.std.proofs.Common.{◌≡◌, ◌∙◌, ◌<◌, ◌≤◌, ◌*◌, ◌⊎◌, ℕ, true, List, [], length, Option, Some, None, Result, Ok, Err, refl, sym, ap, subst, inl, inr, arith}
 use Rattle.std.specs.Cmp.Derive.{one_truth}
 use Rattle.std.proofs.lemmas.Bool.{cases_lt}
-use Rattle.auth_kinds.proofs.TableMembers.{one_table}
-use Rattle.auth_kinds.specs.Tables.{has}
-use Rattle.auth_kinds.specs.declared.edge.Edge.{Edge}
+use Rattle.cap_model.proofs.TableMembers.{one_table}
+use Rattle.cap_model.specs.Tables.{has}
+use Rattle.cap_model.specs.declared.edge.Edge.{Edge}
 use Rattle.boot_plan.specs.Devices.{device_refusal}
 use Rattle.boot_plan.specs.Needs.{needs}
 use Rattle.boot_plan.specs.Overlaps.{first_overlap}
@@ -21,8 +21,8 @@ use Rattle.cap_audit.specs.declared.report.AuditRefusal.{AuditRefusal}
 use Rattle.cap_audit.specs.declared.report.AuditRefusal.TheVariants as auditing
 use Rattle.cap_audit.specs.declared.report.AuditReport.{AuditReport}
 use Rattle.cap_model.specs.declared.spec.Spec.{Spec}
-use Rattle.cap_spread.specs.Refusals.{IsFirstThread}
-use Rattle.edge_lines.specs.Lines.{Labels}
+use Rattle.cap_audit.specs.Refusals.{IsFirstThread}
+use Rattle.policy_text.specs.Lines.{Labels}
 use Rattle.least_cert.specs.LeastCertificate.{CloseRefused, HasMoreThan}
 use Rattle.least_cert.specs.declared.closing.CloseError.{CloseError}
 use Rattle.least_cert.specs.declared.closing.CloseError.TheVariants as closing

@@ -2,9 +2,9 @@
 use Rattle.std.proofs.Common.{◌≡◌, ◌∙◌, ◌<◌, ◌≤◌, ◌⊎◌, ◌+◌, ◌∷◌, [], ℕ, zero, suc, true, List, length, take, slice_get, Some, None, refl, sym, ap, subst, inl, inr, arith}
 use Rattle.std.specs.Cmp.Derive.{one_truth}
 use Rattle.std.proofs.lemmas.Bool.{cases_lt}
-use Rattle.auth_kinds.proofs.TableMembers.{one_table}
-use Rattle.auth_kinds.specs.Tables.{has}
-use Rattle.auth_kinds.specs.declared.edge.Edge.{Edge}
+use Rattle.cap_model.proofs.TableMembers.{one_table}
+use Rattle.cap_model.specs.Tables.{has}
+use Rattle.cap_model.specs.declared.edge.Edge.{Edge}
 use Rattle.cap_machine.proofs.Table.{next_passes, one_next}
 use Rattle.cap_machine.specs.Checks.{checks, first_failing}
 use Rattle.cap_machine.specs.Runs.{Run}

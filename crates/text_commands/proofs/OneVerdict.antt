@@ -1,10 +1,10 @@
 -- A certificate has one verdict.
 use Rattle.std.proofs.Common.{◌≡◌, ◌∙◌, ◌<◌, ◌≤◌, ◌⊎◌, ◌∷◌, [], ℕ, zero, suc, List, Option, Some, None, refl, sym, ap, subst, inl, inr, arith}
 use Rattle.std.proofs.lemmas.Bool.{cases_lt}
-use Rattle.auth_kinds.proofs.EdgeOrder.{at_most_both}
-use Rattle.auth_kinds.specs.Edges.{AtMost}
-use Rattle.auth_kinds.specs.Tables.{Finds}
-use Rattle.auth_kinds.specs.declared.edge.Edge.{Edge}
+use Rattle.cap_model.proofs.EdgeOrder.{at_most_both}
+use Rattle.cap_model.specs.Edges.{AtMost}
+use Rattle.cap_model.specs.Tables.{Finds}
+use Rattle.cap_model.specs.declared.edge.Edge.{Edge}
 use Rattle.cap_model.specs.declared.spec.Spec.{Spec}
 use Rattle.cert_check.specs.Least.{FindsLeast, Holds, Least, LeastAlone, LeastOf, LeastPair}
 use Rattle.cert_check.specs.Rules.{rule_number}

@@ -6,11 +6,11 @@ use Rattle.cam_base.specs.declared.error.Refused.{Refused}
 use Rattle.cam_base.specs.declared.error.Refused.TheVariants as refused
 use Rattle.cam_base.specs.declared.place.Fault.{Fault}
 use Rattle.cam_io.specs.Contents.{Contents}
-use Rattle.elf_back.proofs.Rows.{answered}
-use Rattle.elf_back.proofs.Sound.{has_table}
-use Rattle.elf_back.specs.Tables.{AreBytes}
-use Rattle.elf_images.specs.Elf.{Elf}
-use Rattle.elf_images.specs.Texts.{table_text}
+use Rattle.sect_table.proofs.Rows.{answered}
+use Rattle.sect_table.proofs.Sound.{has_table}
+use Rattle.sect_table.specs.TablesBack.{AreBytes}
+use Rattle.sect_table.specs.Elf.{Elf}
+use Rattle.sect_table.specs.Texts.{table_text}
 use Rattle.sect_table.specs.Tables as tables
 use Rattle.sect_table.specs.declared.image.Image.{Image}
 use Rattle.text_commands.specs.Commands.{IsTabled}

@@ -6,10 +6,10 @@ use Rattle.std.specs.Set.{is_member}
 use Rattle.std.proofs.lemmas.Map.Made.{length-le_from_is_member}
 use Rattle.std.proofs.lemmas.Map.Keys.{IsDistinct-from_apart}
 use Rattle.std.proofs.lemmas.Option.{slice_get-get_or}
-use Rattle.auth_kinds.proofs.EdgeOrder.{not_before_self, same_edge_self, same_edge_true, same_edge-sym}
-use Rattle.auth_kinds.specs.Edges.{Before, same_edge}
-use Rattle.auth_kinds.specs.Tables.{IsSorted, has}
-use Rattle.auth_kinds.specs.declared.edge.Edge.{Edge}
+use Rattle.cap_model.proofs.EdgeOrder.{not_before_self, same_edge_self, same_edge_true, same_edge-sym}
+use Rattle.cap_model.specs.Edges.{Before, same_edge}
+use Rattle.cap_model.specs.Tables.{IsSorted, has}
+use Rattle.cap_model.specs.declared.edge.Edge.{Edge}
 
 same_laws : IsEquivalence same_edge
 same_laws = record { refl = same_edge_self; symm = same_edge-sym; congr = λ x y z h. ap (λ v. same_edge v z) (same_edge_true x y h) }

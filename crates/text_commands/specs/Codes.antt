@@ -4,8 +4,8 @@ use Rattle.boot_plan.specs.UntypedTexts as untypeds
 use Rattle.boot_plan.specs.declared.untyped.UntypedFault.{UntypedFault}
 use Rattle.cam_base.specs.TextCodes as texts
 use Rattle.cam_base.specs.declared.text_fault.TextFault.{TextFault}
-use Rattle.elf_images.specs.Codes as elves
-use Rattle.elf_images.specs.declared.fault.ElfFault.{ElfFault}
+use Rattle.sect_table.specs.Codes as elves
+use Rattle.sect_table.specs.declared.fault.ElfFault.{ElfFault}
 use Rattle.text_commands.specs.declared.code.Hindrance.{Hindrance}
 use Rattle.text_commands.specs.declared.code.Hindrance.TheVariants as hindrances
 use Rattle.text_commands.specs.declared.code.InputCode.{InputCode}

@@ -1,8 +1,8 @@
 -- What each command over texts answers, with the contents and the counts of the files: its inputs are read in written order, and
 -- then objects are labelled.
 use Rattle.std.specs.Prelude.{◌≡◌, ℕ, List, Option, Result, codes}
-use Rattle.auth_kinds.specs.declared.edge.Edge.{Edge}
-use Rattle.auth_kinds.specs.declared.policy.Policy.{Policy}
+use Rattle.cap_model.specs.declared.edge.Edge.{Edge}
+use Rattle.cap_model.specs.declared.policy.Policy.{Policy}
 use Rattle.boot_plan.specs.UntypedTexts as untypeds
 use Rattle.boot_plan.specs.declared.untyped.Untyped.{Untyped}
 use Rattle.cam_io.specs.Contents.{Contents}
@@ -11,7 +11,7 @@ use Rattle.cap_model.specs.declared.spec.Spec.{Spec}
 use Rattle.capdl_text.specs.Texts as capdl
 use Rattle.cert_check.specs.Verdicts.{Judged}
 use Rattle.cert_check.specs.declared.verdict.Verdict.{Verdict}
-use Rattle.elf_images.specs.Elf as elf
+use Rattle.sect_table.specs.Elf as elf
 use Rattle.policy_text.specs.Labelled.{IsLabelling}
 use Rattle.policy_text.specs.PolicyTexts.{IsCertRead, IsPolicyRead}
 use Rattle.sect_table.specs.declared.image.Image.{Image}

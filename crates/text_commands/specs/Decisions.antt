@@ -1,8 +1,8 @@
 -- What is decided of systems that are read, and how a refusal is told: as a fault of a whole file, with a name that says what is
 -- refused.
 use Rattle.std.specs.Prelude.{◌≡◌, ◌≤◌, ◌*◌, ℕ, List, [], ◌++◌, codes, decimal, length, Option, Some, None, Result, Ok, Err}
-use Rattle.auth_kinds.specs.Tables.{IsSorted}
-use Rattle.auth_kinds.specs.declared.edge.Edge.{Edge}
+use Rattle.cap_model.specs.Tables.{IsSorted}
+use Rattle.cap_model.specs.declared.edge.Edge.{Edge}
 use Rattle.boot_plan.specs.Plans as plans
 use Rattle.boot_plan.specs.declared.plan_refusal.BootPlan.{BootPlan}
 use Rattle.boot_plan.specs.declared.plan_refusal.PlanRefusal.{PlanRefusal}
@@ -16,8 +16,8 @@ use Rattle.cap_audit.specs.declared.report.AuditRefusal.TheVariants as auditing
 use Rattle.cap_audit.specs.declared.report.AuditReport.{AuditReport}
 use Rattle.cap_model.specs.Lookup.{name_at}
 use Rattle.cap_model.specs.declared.spec.Spec.{Spec}
-use Rattle.cap_spread.specs.Spread.{HoldsNoThread}
-use Rattle.edge_lines.specs.Lines.{Labels}
+use Rattle.cap_audit.specs.Spread.{HoldsNoThread}
+use Rattle.policy_text.specs.Lines.{Labels}
 use Rattle.least_cert.specs.LeastCertificate.{CloseRefused, IsLeast}
 use Rattle.least_cert.specs.declared.closing.CloseError.{CloseError}
 use Rattle.least_cert.specs.declared.closing.CloseError.TheVariants as closing

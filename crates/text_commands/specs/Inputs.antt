@@ -11,7 +11,7 @@ use Rattle.cam_base.specs.declared.text_fault.TextCode.TheVariants.{NoFile, TooL
 use Rattle.cam_io.specs.Causes.{Rose}
 use Rattle.cam_io.specs.Contents.{Contents}
 use Rattle.cam_io.specs.Reading.{HaveSameFront}
-use Rattle.numbering.specs.Gather.{IsIn}
+use Rattle.cam_base.specs.Gather.{IsIn}
 use Rattle.text_commands.specs.declared.code.InputCode.TheVariants.{Text}
 use Rattle.text_commands.specs.declared.fault.InputFault.{InputFault}
 use Rattle.text_commands.specs.declared.fault.InputError.{InputError}

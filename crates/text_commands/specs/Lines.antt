@@ -1,14 +1,14 @@
 -- The lines that commands over texts print.
 use Rattle.std.specs.Prelude.{ℕ, List, [], ◌∷◌, codes, decimal, length, Option, Some, None}
 use Rattle.std.specs.List.{flat_map}
-use Rattle.auth_kinds.specs.declared.edge.Edge.{Edge}
+use Rattle.cap_model.specs.declared.edge.Edge.{Edge}
 use Rattle.cam_base.specs.Texts.{◌⊹◌, together}
 use Rattle.cap_audit.specs.declared.report.AuditReport.{AuditReport}
 use Rattle.cap_machine.specs.declared.step.Why.{Why}
 use Rattle.cap_machine.specs.declared.step.Why.TheVariants as why
 use Rattle.cap_model.specs.declared.spec.Spec.{Spec}
-use Rattle.edge_lines.specs.Lines.{Labels, apart_lines, edge_line}
-use Rattle.step_write.specs.StepLines.{steps_text}
+use Rattle.policy_text.specs.Lines.{Labels, apart_lines, edge_line}
+use Rattle.step_text.specs.StepLines.{steps_text}
 use Rattle.text_commands.specs.Codes.{word_of, title_of}
 use Rattle.text_commands.specs.declared.fault.InputFault.{InputFault}
 

@@ -3,8 +3,8 @@ use Rattle.std.specs.Prelude.{ℕ, Bool, true, false, List, codes}
 use Rattle.boot_plan.specs.Texts.{plan_text}
 use Rattle.cert_check.specs.declared.verdict.Verdict.{Verdict}
 use Rattle.cert_check.specs.declared.verdict.Verdict.TheVariants.{Yes, No}
-use Rattle.elf_images.specs.Texts.{table_text}
-use Rattle.edge_lines.specs.Lines.{Labels}
+use Rattle.sect_table.specs.Texts.{table_text}
+use Rattle.policy_text.specs.Lines.{Labels}
 use Rattle.policy_text.specs.PolicyLines.{cert_text}
 use Rattle.text_commands.specs.Lines.{illegal_text, refusal_text, report_text, run_text}
 use Rattle.text_commands.specs.declared.outcome.Outcome.{Outcome}

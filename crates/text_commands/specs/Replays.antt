@@ -1,9 +1,9 @@
 -- What replaying steps answers: the edges of the state that they lead to, or the number of the first step that the table
 -- refuses, counted from 1, and why.
 use Rattle.std.specs.Prelude.{◌≡◌, ◌+◌, ◌↔◌, ℕ, List, length, take, slice_get, Some}
-use Rattle.auth_kinds.specs.Tables.{Has, IsSorted}
-use Rattle.auth_kinds.specs.declared.authority.Authority.{Authority}
-use Rattle.auth_kinds.specs.declared.edge.Edge.{Edge}
+use Rattle.cap_model.specs.Tables.{Has, IsSorted}
+use Rattle.cap_model.specs.declared.authority.Authority.{Authority}
+use Rattle.cap_model.specs.declared.edge.Edge.{Edge}
 use Rattle.cap_machine.specs.Checks.{checks, first_failing}
 use Rattle.cap_machine.specs.Runs.{Run}
 use Rattle.cap_machine.specs.declared.step.Step.{Step}

@@ -3,7 +3,7 @@ ghost use Rattle.text_commands.specs.Codes.{hindrance_title, hindrance_word, tit
 
 use boot_plan::UntypedCode;
 use cam_base::TextCode;
-use elf_images::ElfCode;
+use sect_table::ElfCode;
 
 /// What hinders an answer about a system that is read.
 #[derive(Clone, Copy)]

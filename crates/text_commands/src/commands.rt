@@ -13,7 +13,7 @@ use crate::turns::{
 use crate::{InputError, Outcome};
 use cam_io::Files;
 use cert_check::check;
-use edge_lines::Names;
+use policy_text::Names;
 use std::alloc::Global;
 
 /// Whether the certificate keeps the rules for the capDL and the policy.

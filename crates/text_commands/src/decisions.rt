@@ -7,12 +7,11 @@ ghost use Rattle.text_commands.specs.Decisions.{IsAudit, IsCertificateOf, IsPlan
 
 use crate::hindered::{refuse_audit, refuse_close, refuse_plan};
 use crate::{InputError, KeptSpec, Outcome};
-use auth_kinds::Labels;
 use boot_plan::{Untyped, plan};
 use cap_audit::audit;
-use cap_model::Spec;
-use edge_lines::Names;
+use cap_model::{Labels, Spec};
 use least_cert::close_cert;
+use policy_text::Names;
 use std::alloc::Global;
 
 /// The edges that runs of a system reach, with steps that show each, or the refusal, told of the capDL's file.

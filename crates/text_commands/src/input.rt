@@ -6,7 +6,7 @@ use crate::{InputCode, InputError, InputFault};
 use boot_plan::UntypedFault;
 use cam_base::{List, NoMemory, Refused, Text, TextCode, TextFault};
 use cam_io::{Files, WholeError, read_whole};
-use elf_images::ElfFault;
+use sect_table::ElfFault;
 use std::alloc::Global;
 
 /// The most bytes of an input.

@@ -1,9 +1,9 @@
 //! Laws of the commands. These functions do nothing: what they ensure is the law.
 
-ghost use Rattle.auth_kinds.specs.Tables.{Has};
-ghost use Rattle.auth_kinds.specs.declared.authority.Authority.{Authority};
-ghost use Rattle.auth_kinds.specs.declared.edge.Edge.{Edge};
-ghost use Rattle.auth_kinds.specs.declared.policy.Policy.{Policy as Allowed};
+ghost use Rattle.cap_model.specs.Tables.{Has};
+ghost use Rattle.cap_model.specs.declared.authority.Authority.{Authority};
+ghost use Rattle.cap_model.specs.declared.edge.Edge.{Edge};
+ghost use Rattle.cap_model.specs.declared.policy.Policy.{Policy as Allowed};
 ghost use Rattle.cam_base.specs.declared.error.Refused.{Refused};
 ghost use Rattle.cam_base.specs.declared.error.Refused.TheVariants as refused;
 ghost use Rattle.cam_base.specs.declared.place.Fault.{Fault as Wrong};
@@ -12,14 +12,14 @@ ghost use Rattle.cap_audit.specs.declared.report.AuditReport.{AuditReport};
 ghost use Rattle.cap_machine.specs.declared.step.Step.{Step};
 ghost use Rattle.cap_model.specs.declared.spec.Spec.{Spec};
 ghost use Rattle.cert_check.specs.declared.verdict.Verdict.TheVariants.{Yes};
-ghost use Rattle.edge_lines.specs.Lines.{Labels as Names};
-ghost use Rattle.elf_back.specs.Tables.{AreBytes};
+ghost use Rattle.policy_text.specs.Lines.{Labels as Names};
+ghost use Rattle.sect_table.specs.TablesBack.{AreBytes};
 ghost use Rattle.sect_table.specs.Tables as tables;
 ghost use Rattle.sect_table.specs.declared.image.Image.{Image};
 ghost use Rattle.std.specs.List.{All};
 ghost use Rattle.std.specs.Prelude.{◌≡◌, ◌<◌, ◌≤◌, ◌⊎◌, ◌^◌, ◌++◌, ℕ, List, length, Result as Answer, Ok as Found, Err as Refusal};
-ghost use Rattle.step_back.specs.Readable.{IsReadable};
-ghost use Rattle.step_write.specs.StepLines.{steps_text};
+ghost use Rattle.step_text.specs.Readable.{IsReadable};
+ghost use Rattle.step_text.specs.StepLines.{steps_text};
 ghost use Rattle.text_commands.specs.Commands.{IsAudited, IsCert, IsCertified, IsChecked, IsPlanned, IsPolicy, IsRun, IsTabled};
 ghost use Rattle.text_commands.specs.Inputs.{Holds};
 ghost use Rattle.text_commands.specs.OneAnswer.{AreOne, AreOneButChoice, IsAnswer};

@@ -6,14 +6,13 @@ ghost use Rattle.std.specs.List.{flat_map};
 ghost use Rattle.text_commands.specs.Lines.{code_text, count_line, fault_line, have_line, illegal_text, number_text, place_text, reach_line, refusal_text, report_text, rule_line, run_text, space_before, why_of};
 
 use crate::InputFault;
-use auth_kinds::{Edge, EdgeTable};
 use cam_io::{Failed, Outputs, write_all, write_parts};
 use cap_audit::AuditReport;
 use cap_machine::Why;
-use cap_model::Spec;
-use edge_lines::{Names, write_edge, write_edges};
+use cap_model::{Edge, EdgeTable, Spec};
 use itoa::Buffer;
-use step_write::write_steps;
+use policy_text::{Names, write_edge, write_edges};
+use step_text::write_steps;
 
 fn space_before(name: &[u8]) -> &[u8]
     ensures { result.now ≡ space_before name.now }

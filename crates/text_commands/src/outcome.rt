@@ -5,16 +5,13 @@ ghost use Rattle.text_commands.specs.Outcomes.{is_well, text_of, replay_text, ve
 use crate::Replayed;
 use crate::kept::KeptSpec;
 use crate::lines::{write_illegal, write_refusal, write_report, write_run};
-use auth_kinds::EdgeTable;
 use boot_plan::{BootPlan, write_plan};
 use cam_io::{Failed, Outputs, write_all};
 use cap_audit::AuditReport;
-use cap_model::Spec;
+use cap_model::{EdgeTable, Spec};
 use cert_check::Verdict;
-use edge_lines::Names;
-use elf_images::write_sections;
-use policy_text::write_cert;
-use sect_table::Image;
+use policy_text::{Names, write_cert};
+use sect_table::{Image, write_sections};
 
 /// What a command over texts has to say. Edges are told by the names of labels.
 #[derive(Drop)]

@@ -5,10 +5,9 @@ ghost use Rattle.cap_model.specs.Kept.{IsKept};
 ghost use Rattle.std.specs.Prelude.{◌≡◌, ◌<◌, ◌-◌, ◌^◌, IfOk, length};
 ghost use Rattle.text_commands.specs.Replays.{AreEdgesOf, IsReplayed};
 
-use auth_kinds::{EdgeTable, Labels};
 use cam_base::NoMemory;
 use cap_machine::{State, Step, StepError, Why, authorities, boot};
-use cap_model::Spec;
+use cap_model::{EdgeTable, Labels, Spec};
 use std::alloc::Global;
 
 /// What steps lead to.

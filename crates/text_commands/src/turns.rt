@@ -1,6 +1,6 @@
 //! The turns of inputs: each is read whole, and then read as a text of its kind.
 
-ghost use Rattle.auth_kinds.specs.Policies.{NumbersDiffer};
+ghost use Rattle.cap_model.specs.Policies.{NumbersDiffer};
 ghost use Rattle.boot_plan.specs.Regions.{are_regions};
 ghost use Rattle.cam_io.specs.Reading.{InAll, KeepsFiles, LearnsOnly};
 ghost use Rattle.cap_model.specs.Kept.{IsKept};
@@ -12,16 +12,14 @@ ghost use Rattle.text_commands.specs.Inputs.{AlikeAsRead, IsTold};
 
 use crate::InputError;
 use crate::input::{read_input, refuse_elf, refuse_text, refuse_untyped};
-use auth_kinds::{EdgeTable, Labels, Policy};
 use boot_plan::{Untyped, read_untypeds};
 use cam_base::{List, Name};
 use cam_io::Files;
 use cap_machine::Step;
-use cap_model::Spec;
+use cap_model::{EdgeTable, Labels, Policy, Spec};
 use capdl_read::read_spec;
-use elf_images::read_elf;
 use policy_text::{label_objects, read_cert, read_policy};
-use sect_table::Image;
+use sect_table::{Image, read_elf};
 use std::alloc::Global;
 use step_text::read_steps;
 

@@ -9,11 +9,11 @@
 use Rattle.std.specs.Prelude.{ℕ, ◌==◌, if◌then◌else◌, List, [], ◌∷◌, ◌++◌, codes, decimal, slice_get}
 use Rattle.std.specs.List.{flat_map}
 use Rattle.std.specs.Option.{unwrap_or}
-use Rattle.auth_kinds.specs.Authorities.{text_of}
-use Rattle.auth_kinds.specs.declared.edge.Edge.{Edge}
-use Rattle.auth_kinds.specs.declared.policy.Policy.{Policy}
+use Rattle.cap_model.specs.Authorities.{text_of}
+use Rattle.cap_model.specs.declared.edge.Edge.{Edge}
+use Rattle.cap_model.specs.declared.policy.Policy.{Policy}
 use Rattle.cam_base.specs.Texts.{together}
-use Rattle.numbering.specs.Gather.{gather}
+use Rattle.cam_base.specs.Gather.{gather}
 
 -- a byte between quotes: a quote and a backslash have a backslash before them, and a line feed ends a line that stands at the left
 abbrev pub quoted_byte : ℕ → List ℕ

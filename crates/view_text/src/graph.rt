@@ -1,11 +1,11 @@
-ghost use Rattle.numbering.specs.Gather.{gather};
+ghost use Rattle.cam_base.specs.Gather.{gather};
 ghost use Rattle.std.specs.List.{flat_map};
 ghost use Rattle.std.specs.Prelude.{◌≡◌, ◌++◌, IfOk, OnOk};
 ghost use Rattle.view_text.specs.Graphs.{arrow_line, arrow_lines, graph_of, node_line, note_at, quoted, quoted_byte};
 
 use crate::texts::add;
-use auth_kinds::{Edge, EdgeTable, Policy};
 use cam_base::{List, NoMemory, Text};
+use cap_model::{Edge, EdgeTable, Policy};
 use itoa::Buffer;
 use std::alloc::Global;
 

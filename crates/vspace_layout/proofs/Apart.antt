@@ -4,7 +4,7 @@ use Rattle.std.specs.Prelude.{◌%◌}
 use Rattle.std.specs.List.{slice_get}
 use Rattle.cap_model.specs.declared.level.Arch.{Arch}
 use Rattle.cap_model.specs.declared.level.Arch.TheVariants.{Arm11, Aarch64}
-use Rattle.program_sections.specs.Images.{sections_end}
+use Rattle.source_images.specs.Images.{sections_end}
 use Rattle.vspace_layout.specs.declared.region.Region.{Region}
 use Rattle.vspace_layout.specs.Given.{Given, arch}
 use Rattle.vspace_layout.specs.Regions.{pages_in, regions}

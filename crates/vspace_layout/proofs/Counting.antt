@@ -6,12 +6,12 @@ use Rattle.std.proofs.lemmas.List.{length-map}
 use Rattle.std.proofs.lemmas.List.FromFn.{length-map-range_with_len}
 use Rattle.std.proofs.lemmas.List.Sums.{sum_by-cons}
 use Rattle.adl_meaning.specs.declared.settled.Settled.{Settled}
-use Rattle.numbering.specs.Gather.{gather}
-use Rattle.numbering.proofs.Gathered.{length_append}
-use Rattle.program_sections.specs.ByAddress.{by_address, name_of, page_at, pages_of, put_section, section_page_count, section_pages}
-use Rattle.program_sections.specs.Images.{Placed, arch_of, sections_end, sections_of}
-use Rattle.program_sections.specs.SectionPages.{page_count}
-use Rattle.program_sections.specs.declared.images.Images.{Images}
+use Rattle.cam_base.specs.Gather.{gather}
+use Rattle.cam_base.proofs.Gathered.{length_append}
+use Rattle.source_images.specs.ByAddress.{by_address, name_of, page_at, pages_of, put_section, section_page_count, section_pages}
+use Rattle.source_images.specs.Images.{Placed, arch_of, sections_end, sections_of}
+use Rattle.source_images.specs.SectionPages.{page_count}
+use Rattle.source_images.specs.declared.images.Images.{Images}
 use Rattle.vspace_layout.specs.declared.region.Region.{Region}
 use Rattle.vspace_layout.specs.MappedPages.{page_of, pages_from, region_part, section_page, section_part}
 use Rattle.vspace_layout.specs.Outlines.{mapped_of, page_count_of}

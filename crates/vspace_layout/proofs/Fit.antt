@@ -9,14 +9,14 @@ use Rattle.adl_meaning.specs.declared.flat.Domain.{Domain}
 use Rattle.adl_meaning.specs.declared.flat.Flat.{Flat}
 use Rattle.adl_meaning.specs.declared.flat.FlatConnection.{FlatConnection}
 use Rattle.adl_meaning.specs.declared.settled.Settled.{Settled}
-use Rattle.leaf_ends.specs.declared.end_at.EndAt.{EndAt}
-use Rattle.numbering.specs.Gather.{IsIn}
-use Rattle.numbering.proofs.Gathered.{from_gather, gather_map, gather_ones, gather_same, in_append, in_place, length_append}
-use Rattle.numbering.proofs.Lists.{below, from_map, from_range, from_get_map}
-use Rattle.program_sections.specs.declared.images.Images.{Images}
-use Rattle.program_sections.specs.declared.pages.SectionPage.{SectionPage}
-use Rattle.program_sections.specs.ByAddress.{section_pages}
-use Rattle.program_sections.specs.Images.{arch_of, sections_end}
+use Rattle.cspace_layout.specs.declared.end_at.EndAt.{EndAt}
+use Rattle.cam_base.specs.Gather.{IsIn}
+use Rattle.cam_base.proofs.Gathered.{from_gather, gather_map, gather_ones, gather_same, in_append, in_place, length_append}
+use Rattle.cam_base.proofs.NumberedLists.{below, from_map, from_range, from_get_map}
+use Rattle.source_images.specs.declared.images.Images.{Images}
+use Rattle.source_images.specs.declared.pages.SectionPage.{SectionPage}
+use Rattle.source_images.specs.ByAddress.{section_pages}
+use Rattle.source_images.specs.Images.{arch_of, sections_end}
 use Rattle.vspace_layout.specs.declared.mapped.MappedPage.{MappedPage}
 use Rattle.vspace_layout.specs.declared.region.Region.{Region}
 use Rattle.vspace_layout.specs.declared.thread.ThreadOf.{ThreadOf}

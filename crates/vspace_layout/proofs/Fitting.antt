@@ -3,9 +3,9 @@ use Rattle.std.proofs.Common.{◌≡◌, ◌<◌, ◌≤◌, ◌+◌, ◌*◌, �
 use Rattle.std.specs.List.{flat_map, slice_get}
 use Rattle.adl_meaning.specs.declared.flat.Flat.{Flat}
 use Rattle.adl_meaning.specs.declared.settled.Settled.{Settled}
-use Rattle.leaf_ends.specs.declared.end_at.EndAt.{EndAt}
-use Rattle.numbering.specs.Gather.{IsIn}
-use Rattle.numbering.proofs.Gathered.{length_append}
+use Rattle.cspace_layout.specs.declared.end_at.EndAt.{EndAt}
+use Rattle.cam_base.specs.Gather.{IsIn}
+use Rattle.cam_base.proofs.Gathered.{length_append}
 use Rattle.vspace_layout.specs.declared.region.Region.{Region}
 use Rattle.vspace_layout.specs.declared.thread.ThreadOf.{ThreadOf}
 use Rattle.vspace_layout.specs.Regions.{pages_in, regions_in, thread_regions, window_pages, window_region}

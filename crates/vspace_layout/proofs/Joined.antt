@@ -8,9 +8,9 @@ use Rattle.std.proofs.lemmas.Option.{get_or_from_slice_get}
 use Rattle.adl_meaning.specs.declared.flat.Domain.{Domain}
 use Rattle.adl_meaning.specs.declared.flat.Flat.{Flat}
 use Rattle.adl_meaning.specs.declared.settled.Settled.{Settled}
-use Rattle.numbering.specs.Gather.{IsIn, before, gather}
-use Rattle.numbering.proofs.Gathered.{gather_ones, gather_same, get_ones, place_of}
-use Rattle.numbering.proofs.Lists.{at_place, below, from_map}
+use Rattle.cam_base.specs.Gather.{IsIn, before, gather}
+use Rattle.cam_base.proofs.Gathered.{gather_ones, gather_same, get_ones, place_of}
+use Rattle.cam_base.proofs.NumberedLists.{at_place, below, from_map}
 use Rattle.vspace_layout.specs.declared.mapped.MappedPage.{MappedPage}
 use Rattle.vspace_layout.specs.declared.outline.Outline.{Outline}
 use Rattle.vspace_layout.specs.declared.spaces.FrameInfo.{FrameInfo}

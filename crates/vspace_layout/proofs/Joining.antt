@@ -7,10 +7,10 @@ use Rattle.std.proofs.lemmas.List.Sums.{sum_by-cons}
 use Rattle.std.proofs.lemmas.Option.{get_or_from_slice_get}
 use Rattle.std.proofs.lemmas.Simd.{map-map}
 use Rattle.adl_meaning.specs.declared.flat.Domain.{Domain}
-use Rattle.numbering.specs.Gather.{before, gather}
-use Rattle.numbering.proofs.Gathered.{gather_map, gather_same, length_append}
-use Rattle.numbering.proofs.Lists.{get_map}
-use Rattle.program_sections.specs.ByAddress.{section_page_count}
+use Rattle.cam_base.specs.Gather.{before, gather}
+use Rattle.cam_base.proofs.Gathered.{gather_map, gather_same, length_append}
+use Rattle.cam_base.proofs.NumberedLists.{get_map}
+use Rattle.source_images.specs.ByAddress.{section_page_count}
 use Rattle.vspace_layout.specs.declared.mapped.MappedPage.{MappedPage}
 use Rattle.vspace_layout.specs.declared.mapped.Shown.{Shown}
 use Rattle.vspace_layout.specs.declared.mapped.Shown.TheVariants.{Own, Memory}

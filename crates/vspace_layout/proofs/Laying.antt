@@ -7,10 +7,10 @@ use Rattle.std.proofs.lemmas.Option.{get_or_from_slice_get}
 use Rattle.adl_meaning.specs.declared.flat.Domain.{Domain}
 use Rattle.adl_meaning.specs.declared.flat.Flat.{Flat}
 use Rattle.adl_meaning.specs.declared.settled.Settled.{Settled}
-use Rattle.leaf_ends.specs.declared.end_at.EndAt.{EndAt}
-use Rattle.numbering.specs.Gather.{before, gather}
-use Rattle.numbering.proofs.Gathered.{gather_same, length_append}
-use Rattle.numbering.proofs.Lists.{at_place, below, get_map}
+use Rattle.cspace_layout.specs.declared.end_at.EndAt.{EndAt}
+use Rattle.cam_base.specs.Gather.{before, gather}
+use Rattle.cam_base.proofs.Gathered.{gather_same, length_append}
+use Rattle.cam_base.proofs.NumberedLists.{at_place, below, get_map}
 use Rattle.vspace_layout.specs.declared.mapped.MappedPage.{MappedPage}
 use Rattle.vspace_layout.specs.declared.mapped.Shown.{Shown}
 use Rattle.vspace_layout.specs.declared.mapped.Shown.TheVariants.{Own, Memory}

@@ -13,11 +13,11 @@ use Rattle.adl_ast.specs.declared.source.Source.{Source}
 use Rattle.adl_meaning.specs.declared.item_at.ItemAt.{ItemAt}
 use Rattle.adl_meaning.specs.Faults.{least}
 use Rattle.adl_meaning.specs.Items.{assemblies}
-use Rattle.leaf_ends.specs.Limit.{fault_at, keyword, limit_fault, place_in}
+use Rattle.cspace_layout.specs.Limit.{fault_at, keyword, limit_fault, place_in}
 use Rattle.vspace_layout.specs.Counted.{capped, limit_over}
 use Rattle.vspace_layout.specs.PageLimits.{limits_passed}
 use Rattle.adl_meaning.proofs.Least.{lex_self}
-use Rattle.leaf_ends.proofs.Keyword.{has_place}
+use Rattle.cspace_layout.proofs.Keyword.{has_place}
 
 abbrev pub faults_of : Source → ℕ → ℕ → Option Fault
 faults_of source pages tables = least (flat_map (limits_passed pages tables) (assemblies source))

@@ -5,12 +5,12 @@ use Rattle.std.specs.List.{range_with_len, slice_get}
 use Rattle.adl_meaning.specs.declared.flat.Domain.{Domain}
 use Rattle.cap_model.specs.declared.level.Arch.{Arch}
 use Rattle.cap_model.specs.declared.level.Arch.TheVariants.{Arm11, Aarch64}
-use Rattle.numbering.specs.Gather.{IsIn}
-use Rattle.numbering.proofs.Gathered.{from_gather, in_append}
-use Rattle.numbering.proofs.Lists.{below, from_map, from_range}
-use Rattle.program_sections.specs.ByAddress.{section_pages}
-use Rattle.program_sections.specs.Images.{sections_end}
-use Rattle.program_sections.specs.declared.pages.SectionPage.{SectionPage}
+use Rattle.cam_base.specs.Gather.{IsIn}
+use Rattle.cam_base.proofs.Gathered.{from_gather, in_append}
+use Rattle.cam_base.proofs.NumberedLists.{below, from_map, from_range}
+use Rattle.source_images.specs.ByAddress.{section_pages}
+use Rattle.source_images.specs.Images.{sections_end}
+use Rattle.source_images.specs.declared.pages.SectionPage.{SectionPage}
 use Rattle.vspace_layout.specs.declared.mapped.MappedPage.{MappedPage}
 use Rattle.vspace_layout.specs.declared.region.Region.{Region}
 use Rattle.vspace_layout.specs.CanLay.{CanLay}

@@ -10,9 +10,9 @@ use Rattle.adl_meaning.specs.declared.flat.Flat.{Flat}
 use Rattle.adl_meaning.specs.declared.flat.FlatConnection.{FlatConnection}
 use Rattle.adl_meaning.specs.declared.flat.FlatEnd.{FlatEnd}
 use Rattle.adl_meaning.specs.declared.settled.Settled.{Settled}
-use Rattle.numbering.specs.Gather.{before, gather}
-use Rattle.numbering.proofs.Gathered.{gather_ones, gather_same, gather_turn, length_append}
-use Rattle.numbering.proofs.Lists.{at_place, get_map, from_get_map}
+use Rattle.cam_base.specs.Gather.{before, gather}
+use Rattle.cam_base.proofs.Gathered.{gather_ones, gather_same, gather_turn, length_append}
+use Rattle.cam_base.proofs.NumberedLists.{at_place, get_map, from_get_map}
 use Rattle.vspace_layout.specs.FrameNumbers.{AreFirsts, first_of, firsts_from, frames_by, frames_where, is_that, memory_first, memory_firsts, places_of}
 use Rattle.vspace_layout.specs.Frames.{frames_at, memory_before, memory_part, register_frames, register_part, registers_before, shared_frames, shared_part}
 use Rattle.vspace_layout.specs.Memory.{first_to, leads_to, registers}

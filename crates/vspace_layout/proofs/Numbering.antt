@@ -8,15 +8,15 @@ use Rattle.std.proofs.lemmas.Iterator.Adapters.{YieldsList-from_vec}
 use Rattle.std.proofs.lemmas.Iterator.Consumers.{YieldsList-so_far, YieldsList-turn}
 use Rattle.std.proofs.lemmas.List.Sums.{sum_by-cons}
 use Rattle.std.proofs.lemmas.Option.{slice_get_read}
-use Rattle.numbering.specs.Gather.{before, gather}
-use Rattle.numbering.proofs.Gathered.{length_append}
+use Rattle.cam_base.specs.Gather.{before, gather}
+use Rattle.cam_base.proofs.Gathered.{length_append}
 use Rattle.vspace_layout.specs.declared.mapped.MappedPage.{MappedPage}
 use Rattle.vspace_layout.specs.declared.spaces.FrameInfo.{FrameInfo}
 use Rattle.vspace_layout.specs.FrameNumbers.{own_added}
 use Rattle.vspace_layout.specs.Frames.{own_frame}
 use Rattle.vspace_layout.proofs.Few.{own_one}
 use Rattle.vspace_layout.proofs.MemoryNumbers.{gather_push}
-use Rattle.numbering.proofs.Lists.{length-gather}
+use Rattle.cam_base.proofs.NumberedLists.{length-gather}
 
 pub map_same : {X : Type 0} (xs : List X) → map (λ x. x) xs ≡ xs
 map_same [] = refl

@@ -4,11 +4,11 @@ use Rattle.std.specs.Prelude.{◌%◌}
 use Rattle.std.specs.List.{All, AllPairs, flat_map, range_with_len, slice_get}
 use Rattle.std.proofs.lemmas.List.{map-append}
 use Rattle.adl_meaning.specs.declared.settled.Settled.{Settled}
-use Rattle.numbering.specs.Gather.{IsIn, gather}
-use Rattle.numbering.proofs.Lists.{in_map}
+use Rattle.cam_base.specs.Gather.{IsIn, gather}
+use Rattle.cam_base.proofs.NumberedLists.{in_map}
 use Rattle.page_tables.specs.Runs.{Rises}
-use Rattle.program_sections.specs.ByAddress.{section_pages}
-use Rattle.program_sections.specs.declared.pages.SectionPage.{SectionPage}
+use Rattle.source_images.specs.ByAddress.{section_pages}
+use Rattle.source_images.specs.declared.pages.SectionPage.{SectionPage}
 use Rattle.vspace_layout.specs.declared.mapped.MappedPage.{MappedPage}
 use Rattle.vspace_layout.specs.declared.region.Content.{Content}
 use Rattle.vspace_layout.specs.declared.region.Content.TheVariants.{Stack, Buffer, Window}
@@ -19,7 +19,7 @@ use Rattle.vspace_layout.specs.Regions.{regions, start}
 use Rattle.vspace_layout.specs.SpaceLaws.{PagesRise, SectionsStand}
 use Rattle.vspace_layout.proofs.Apart.{apart}
 use Rattle.cap_model.proofs.Eaches.{each_then, Each}
-use Rattle.program_sections.proofs.Sorting.{Later}
+use Rattle.source_images.proofs.Sorting.{Later}
 
 -- ---- each of a list, and each with each later one
 

@@ -4,21 +4,21 @@ use Rattle.std.specs.Prelude.{◌%◌}
 use Rattle.std.specs.List.{All, AllPairs, range_with_len, slice_get}
 use Rattle.std.specs.Option.{option_map_or}
 use Rattle.adl_meaning.specs.declared.flat.Domain.{Domain}
-use Rattle.numbering.specs.Gather.{IsIn}
-use Rattle.numbering.proofs.Gathered.{in_place}
-use Rattle.numbering.proofs.Lists.{from_flat_map, from_map}
-use Rattle.program_sections.specs.ByAddress.{by_address, name_of, page_at, pages_of, section_pages}
-use Rattle.program_sections.specs.Images.{Placed, sections_of}
-use Rattle.program_sections.specs.Numbered.{AreApart, AreCounted, AreNumbered, AreSound}
-use Rattle.program_sections.specs.SectionPages.{is_inside, page_count}
-use Rattle.program_sections.specs.SpaceFaults.{first_space_fault}
-use Rattle.program_sections.specs.declared.images.Images.{Images}
-use Rattle.program_sections.proofs.Apart.{sound_numbers}
-use Rattle.program_sections.proofs.Free.{free_apart, free_inside}
-use Rattle.program_sections.proofs.InOrder.{order_moves}
-use Rattle.program_sections.proofs.Rising.{Precedes, pages_inside, pages_rise, pairs_from_later}
-use Rattle.program_sections.proofs.SectionsTold.{comes_from}
-use Rattle.program_sections.proofs.Sorting.{in_permutation, own_all}
+use Rattle.cam_base.specs.Gather.{IsIn}
+use Rattle.cam_base.proofs.Gathered.{in_place}
+use Rattle.cam_base.proofs.NumberedLists.{from_flat_map, from_map}
+use Rattle.source_images.specs.ByAddress.{by_address, name_of, page_at, pages_of, section_pages}
+use Rattle.source_images.specs.Images.{Placed, sections_of}
+use Rattle.source_images.specs.Numbered.{AreApart, AreCounted, AreNumbered, AreSound}
+use Rattle.source_images.specs.SectionPages.{is_inside, page_count}
+use Rattle.source_images.specs.SpaceFaults.{first_space_fault}
+use Rattle.source_images.specs.declared.images.Images.{Images}
+use Rattle.source_images.proofs.Apart.{sound_numbers}
+use Rattle.source_images.proofs.Free.{free_apart, free_inside}
+use Rattle.source_images.proofs.InOrder.{order_moves}
+use Rattle.source_images.proofs.Rising.{Precedes, pages_inside, pages_rise, pairs_from_later}
+use Rattle.source_images.proofs.SectionsTold.{comes_from}
+use Rattle.source_images.proofs.Sorting.{in_permutation, own_all}
 use Rattle.vspace_layout.specs.Given.{Given, arch, base, leaves_of}
 use Rattle.vspace_layout.specs.SpaceLaws.{SectionsStand}
 

@@ -4,7 +4,7 @@ use Rattle.cap_model.specs.declared.level.Arch.{Arch}
 use Rattle.cap_model.specs.declared.level.Arch.TheVariants.{Arm11, Aarch64}
 use Rattle.page_tables.specs.Shapes.{shapes}
 use Rattle.page_tables.specs.Walks.{root_span}
-use Rattle.program_sections.specs.Images.{sections_end}
+use Rattle.source_images.specs.Images.{sections_end}
 
 pub root_spans : (a : Arch) (at : ℕ) → at < sections_end a + 1073741824 → at < root_span (shapes a)
 root_spans Arm11 at l = omega (arith, l)

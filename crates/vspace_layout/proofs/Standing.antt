@@ -12,9 +12,9 @@ use Rattle.adl_meaning.specs.declared.flat.Flat.{Flat}
 use Rattle.adl_meaning.specs.declared.flat.FlatConnection.{FlatConnection}
 use Rattle.adl_meaning.specs.declared.flat.FlatEnd.{FlatEnd}
 use Rattle.cap_model.specs.declared.object.Fill.{Fill}
-use Rattle.numbering.specs.Gather.{before}
-use Rattle.numbering.proofs.Gathered.{gathered, get_behind, get_front}
-use Rattle.numbering.proofs.Lists.{at_place}
+use Rattle.cam_base.specs.Gather.{before}
+use Rattle.cam_base.proofs.Gathered.{gathered, get_behind, get_front}
+use Rattle.cam_base.proofs.NumberedLists.{at_place}
 use Rattle.vspace_layout.specs.declared.mapped.MappedPage.{MappedPage}
 use Rattle.vspace_layout.specs.declared.mapped.Shown.TheVariants.{Own}
 use Rattle.vspace_layout.specs.declared.owner.Owner.TheVariants.{OfConnection, OfDomain}

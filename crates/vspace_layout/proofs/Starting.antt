@@ -7,11 +7,11 @@ use Rattle.adl_meaning.specs.declared.flat.Flat.{Flat}
 use Rattle.adl_meaning.specs.declared.settled.Settled.{Settled}
 use Rattle.cap_model.specs.declared.level.Arch.{Arch}
 use Rattle.cap_model.specs.declared.level.Arch.TheVariants.{Aarch64, Arm11}
-use Rattle.leaf_ends.specs.declared.end_at.EndAt.{EndAt}
-use Rattle.numbering.specs.Gather.{gather}
-use Rattle.numbering.proofs.Gathered.{gather_ones, gather_same, gather_turn}
-use Rattle.numbering.proofs.Lists.{below}
-use Rattle.program_sections.specs.Images.{sections_end}
+use Rattle.cspace_layout.specs.declared.end_at.EndAt.{EndAt}
+use Rattle.cam_base.specs.Gather.{gather}
+use Rattle.cam_base.proofs.Gathered.{gather_ones, gather_same, gather_turn}
+use Rattle.cam_base.proofs.NumberedLists.{below}
+use Rattle.source_images.specs.Images.{sections_end}
 use Rattle.vspace_layout.specs.declared.region.Content.TheVariants.{Stack}
 use Rattle.vspace_layout.specs.declared.region.Region.{Region}
 use Rattle.vspace_layout.specs.declared.thread.ThreadOf.{ThreadOf}

@@ -3,7 +3,7 @@ use Rattle.std.specs.Prelude.{ℕ, ◌-◌, ◌^◌, nat_lt, if◌then◌else◌
 use Rattle.adl_ast.specs.declared.source.Source.{Source}
 use Rattle.cam_base.specs.declared.place.Fault.{Fault}
 use Rattle.cap_model.specs.declared.level.Arch.{Arch}
-use Rattle.leaf_ends.specs.Limit.{limit_fault}
+use Rattle.cspace_layout.specs.Limit.{limit_fault}
 use Rattle.page_tables.specs.Counts.{table_count}
 use Rattle.page_tables.specs.Shapes.{shapes}
 use Rattle.vspace_layout.specs.declared.mapped.MappedPage.{MappedPage}

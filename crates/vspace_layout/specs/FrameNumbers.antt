@@ -7,7 +7,7 @@ use Rattle.adl_meaning.specs.declared.flat.Flat.{Flat}
 use Rattle.adl_meaning.specs.declared.flat.FlatConnection.{FlatConnection}
 use Rattle.adl_meaning.specs.declared.flat.FlatEnd.{FlatEnd}
 use Rattle.adl_meaning.specs.declared.settled.Settled.{Settled}
-use Rattle.numbering.specs.Gather.{before, gather}
+use Rattle.cam_base.specs.Gather.{before, gather}
 use Rattle.vspace_layout.specs.declared.mapped.MappedPage.{MappedPage}
 use Rattle.vspace_layout.specs.declared.mapped.Shown.{Shown}
 use Rattle.vspace_layout.specs.declared.mapped.Shown.TheVariants.{Own, Memory}

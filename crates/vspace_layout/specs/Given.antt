@@ -5,10 +5,10 @@ use Rattle.adl_ast.specs.declared.source.Source.{Source}
 use Rattle.adl_meaning.specs.declared.flat.Flat.{Flat}
 use Rattle.adl_meaning.specs.declared.settled.Settled.{Settled}
 use Rattle.cap_model.specs.declared.level.Arch.{Arch}
-use Rattle.leaf_ends.specs.declared.end_at.EndAt.{EndAt}
-use Rattle.leaf_ends.specs.LeafEnds as order
-use Rattle.program_sections.specs.Images.{arch_of, sections_end}
-use Rattle.program_sections.specs.declared.images.Images.{Images}
+use Rattle.cspace_layout.specs.declared.end_at.EndAt.{EndAt}
+use Rattle.cspace_layout.specs.LeafEnds as order
+use Rattle.source_images.specs.Images.{arch_of, sections_end}
+use Rattle.source_images.specs.declared.images.Images.{Images}
 
 pub record Given : Type 0 where
   pub source : Source

@@ -13,7 +13,7 @@ pub mod Regions
 pub mod SpaceLaws
 pub mod Threads
 pub use Rattle.adl_meaning.specs.Faults
-pub use Rattle.leaf_ends.specs.Within
-pub use Rattle.numbering.specs.Gather
-pub use Rattle.program_sections.specs.Numbered
-pub use Rattle.program_sections.specs.SpaceFaults
+pub use Rattle.cspace_layout.specs.Within
+pub use Rattle.cam_base.specs.Gather
+pub use Rattle.source_images.specs.Numbered
+pub use Rattle.source_images.specs.SpaceFaults

@@ -7,11 +7,11 @@ use Rattle.std.specs.List.{range_with_len}
 use Rattle.std.specs.Option.{option_map_or}
 use Rattle.adl_meaning.specs.declared.settled.EndSetting.{EndSetting}
 use Rattle.adl_meaning.specs.declared.settled.Settled.{Settled}
-use Rattle.leaf_ends.specs.Lookups.{setting_of}
-use Rattle.numbering.specs.Gather.{gather}
-use Rattle.program_sections.specs.ByAddress.{section_pages}
-use Rattle.program_sections.specs.declared.images.Images.{Images}
-use Rattle.program_sections.specs.declared.pages.SectionPage.{SectionPage}
+use Rattle.cspace_layout.specs.Lookups.{setting_of}
+use Rattle.cam_base.specs.Gather.{gather}
+use Rattle.source_images.specs.ByAddress.{section_pages}
+use Rattle.source_images.specs.declared.images.Images.{Images}
+use Rattle.source_images.specs.declared.pages.SectionPage.{SectionPage}
 use Rattle.vspace_layout.specs.declared.mapped.MappedPage.{MappedPage}
 use Rattle.vspace_layout.specs.declared.mapped.Shown.{Shown}
 use Rattle.vspace_layout.specs.declared.mapped.Shown.TheVariants.{Own, Memory}

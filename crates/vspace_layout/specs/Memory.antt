@@ -13,7 +13,7 @@ use Rattle.adl_meaning.specs.declared.flat.FlatConnection.{FlatConnection}
 use Rattle.adl_meaning.specs.declared.flat.FlatEnd.{FlatEnd}
 use Rattle.adl_meaning.specs.declared.settled.EndSetting.{EndSetting}
 use Rattle.adl_meaning.specs.declared.settled.Settled.{Settled}
-use Rattle.leaf_ends.specs.Lookups.{setting_of}
+use Rattle.cspace_layout.specs.Lookups.{setting_of}
 
 abbrev pub is_to : Role → Bool
 is_to From = false

@@ -3,12 +3,12 @@ use Rattle.std.specs.Prelude.{◌≡◌, ◌<◌, ℕ, ◌+◌, ◌*◌, ◌≤�
 use Rattle.adl_meaning.specs.declared.flat.Domain.{Domain}
 use Rattle.adl_meaning.specs.declared.flat.Flat.{Flat}
 use Rattle.adl_meaning.specs.declared.settled.Settled.{Settled}
-use Rattle.leaf_ends.specs.declared.end_at.EndAt.{EndAt}
-use Rattle.numbering.specs.Gather.{IsIn, before, gather}
-use Rattle.program_sections.specs.ByAddress.{section_page_count}
-use Rattle.program_sections.specs.Images.{arch_of, sections_end}
-use Rattle.program_sections.specs.Numbered.{AreApart}
-use Rattle.program_sections.specs.declared.images.Images.{Images}
+use Rattle.cspace_layout.specs.declared.end_at.EndAt.{EndAt}
+use Rattle.cam_base.specs.Gather.{IsIn, before, gather}
+use Rattle.source_images.specs.ByAddress.{section_page_count}
+use Rattle.source_images.specs.Images.{arch_of, sections_end}
+use Rattle.source_images.specs.Numbered.{AreApart}
+use Rattle.source_images.specs.declared.images.Images.{Images}
 use Rattle.vspace_layout.specs.declared.mapped.MappedPage.{MappedPage}
 use Rattle.vspace_layout.specs.declared.outline.Outline.{Outline}
 use Rattle.vspace_layout.specs.declared.region.Region.{Region}

@@ -9,7 +9,7 @@ use Rattle.adl_meaning.specs.Faults.{least}
 use Rattle.adl_meaning.specs.Items.{assemblies}
 use Rattle.adl_meaning.specs.SizeFaults.{limit_passed}
 use Rattle.cam_base.specs.declared.place.Fault.{Fault}
-use Rattle.numbering.specs.Gather.{gather}
+use Rattle.cam_base.specs.Gather.{gather}
 use Rattle.page_tables.specs.Counts.{table_count}
 use Rattle.page_tables.specs.Shapes.{shapes}
 use Rattle.vspace_layout.specs.Given.{Given, arch}

@@ -14,8 +14,8 @@ use Rattle.adl_meaning.specs.declared.connector.Connector.{Connector}
 use Rattle.adl_meaning.specs.declared.connector.Connector.TheVariants.{SharedMemory, Mmio}
 use Rattle.adl_meaning.specs.declared.flat.Flat.{Flat}
 use Rattle.adl_meaning.specs.declared.settled.Settled.{Settled}
-use Rattle.leaf_ends.specs.declared.end_at.EndAt.{EndAt}
-use Rattle.leaf_ends.specs.Lookups.{end_of}
+use Rattle.cspace_layout.specs.declared.end_at.EndAt.{EndAt}
+use Rattle.cspace_layout.specs.Lookups.{end_of}
 use Rattle.vspace_layout.specs.declared.region.Content.{Content}
 use Rattle.vspace_layout.specs.declared.region.Content.TheVariants.{Stack, Buffer, Window}
 use Rattle.vspace_layout.specs.declared.region.Region.{Region}

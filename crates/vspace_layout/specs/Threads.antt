@@ -8,8 +8,8 @@ use Rattle.adl_ast.specs.declared.composition.Role.TheVariants.{To}
 use Rattle.adl_meaning.specs.declared.connector.Connector.{Connector}
 use Rattle.adl_meaning.specs.declared.connector.Connector.TheVariants.{Rpc}
 use Rattle.adl_meaning.specs.declared.flat.Flat.{Flat}
-use Rattle.leaf_ends.specs.declared.end_at.EndAt.{EndAt}
-use Rattle.leaf_ends.specs.Lookups.{end_of}
+use Rattle.cspace_layout.specs.declared.end_at.EndAt.{EndAt}
+use Rattle.cspace_layout.specs.Lookups.{end_of}
 use Rattle.vspace_layout.specs.declared.thread.ThreadOf.{ThreadOf}
 
 abbrev pub ends_in : Option (List EndAt) → List EndAt

@@ -1,6 +1,6 @@
 //! How many pages, page tables and own frames there are. Pages are counted before any is listed.
 
-ghost use Rattle.program_sections.specs.Numbered.{AreCounted};
+ghost use Rattle.source_images.specs.Numbered.{AreCounted};
 ghost use Rattle.std.specs.Prelude.{◌≡◌, map, sum, IfOk};
 ghost use Rattle.vspace_layout.specs.Counted.{capped, tables_of};
 ghost use Rattle.vspace_layout.specs.FrameNumbers.{all_own, is_own};
@@ -14,7 +14,7 @@ use adl_meaning::Flat;
 use cam_base::{List, NoMemory};
 use cap_model::Arch;
 use page_tables::table_count;
-use program_sections::{Images, section_page_count};
+use source_images::{Images, section_page_count};
 use std::alloc::Global;
 
 fn region_pages(regions: &[Region]) -> u64

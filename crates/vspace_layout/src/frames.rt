@@ -1,6 +1,6 @@
 //! The pages of spaces with the numbers of their frames, and the frames of domains' own.
 
-ghost use Rattle.numbering.specs.Gather.{gather};
+ghost use Rattle.cam_base.specs.Gather.{gather};
 ghost use Rattle.std.specs.Prelude.{◌≡◌, ◌<◌, ◌+◌, ◌^◌, ◌++◌, ℕ, length, map, slice_get, sum, Some, IfOk, OnOk};
 ghost use Rattle.vspace_layout.specs.FrameNumbers.{AreAllNumbered, IsNumbered};
 ghost use Rattle.vspace_layout.specs.FrameNumbers.{all_numbered, number_of, own_added, pages_numbered};

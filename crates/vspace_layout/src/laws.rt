@@ -1,11 +1,11 @@
 //! What the definitions promise together, as functions that do nothing.
 
-ghost use Rattle.program_sections.specs.Numbered.{AreNumbered, AreSound};
-ghost use Rattle.program_sections.specs.SpaceFaults.{first_space_fault};
+ghost use Rattle.source_images.specs.Numbered.{AreNumbered, AreSound};
+ghost use Rattle.source_images.specs.SpaceFaults.{first_space_fault};
 ghost use Rattle.adl_ast.specs.declared.source.Source.{Source};
 ghost use Rattle.adl_meaning.specs.Faults.{least};
 ghost use Rattle.adl_meaning.specs.Items.{assemblies};
-ghost use Rattle.leaf_ends.specs.Limit.{limit_fault};
+ghost use Rattle.cspace_layout.specs.Limit.{limit_fault};
 ghost use Rattle.adl_meaning.specs.declared.flat.Domain.{Domain};
 ghost use Rattle.std.specs.List.{flat_map};
 ghost use Rattle.std.specs.Prelude.{◌≡◌, ◌<◌, ◌≤◌, ◌^◌, ℕ, None, Some, codes, length, map, slice_get, sum};

@@ -1,10 +1,10 @@
 //! Spaces, laid out.
 
 ghost use Rattle.adl_meaning.specs.Faults.{Refuses};
-ghost use Rattle.leaf_ends.specs.LeafEnds.{ends_of};
-ghost use Rattle.leaf_ends.specs.Within.{IsWithin};
-ghost use Rattle.program_sections.specs.Numbered.{AreApart, AreNumbered, AreSound};
-ghost use Rattle.program_sections.specs.SpaceFaults.{first_space_fault};
+ghost use Rattle.cspace_layout.specs.LeafEnds.{ends_of};
+ghost use Rattle.cspace_layout.specs.Within.{IsWithin};
+ghost use Rattle.source_images.specs.Numbered.{AreApart, AreNumbered, AreSound};
+ghost use Rattle.source_images.specs.SpaceFaults.{first_space_fault};
 ghost use Rattle.std.specs.Option.{option_or};
 ghost use Rattle.std.specs.Prelude.{◌≡◌, ◌≤◌, ◌^◌, ◌++◌, length, sum, None, IfOk};
 ghost use Rattle.vspace_layout.specs.Counted.{limit_over};
@@ -27,8 +27,8 @@ use crate::starts::{starts_of, thread_places, window_places};
 use adl_ast::Source;
 use adl_meaning::{Flat, Settled};
 use cam_base::{Fault, List, NoMemory, Refused};
-use leaf_ends::{leaf_ends, limit_fault};
-use program_sections::{Images, first_space_fault, sections_end};
+use cspace_layout::{leaf_ends, limit_fault};
+use source_images::{Images, first_space_fault, sections_end};
 use std::alloc::Global;
 
 /// The most pages of all domains, and the most page tables.

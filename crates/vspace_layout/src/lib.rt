@@ -4,7 +4,7 @@
 //! `lay_spaces` counts all pages before it lists any, and takes time near linear in pages, ends and connections. Nothing
 //! here makes an object or a capability. Threads stand in `specs/Threads.antt`, regions in `specs/Regions.antt`, the
 //! memory of connections in `specs/Memory.antt`, pages in `specs/MappedPages.antt`, frames in `specs/Frames.antt`, the whole
-//! in `specs/Laid.antt`, the limits in `specs/PageLimits.antt`; the faults of sections are those of `program_sections`.
+//! in `specs/Laid.antt`, the limits in `specs/PageLimits.antt`; the faults of sections are those of `source_images`.
 #![tactic(auto)]
 
 mod counts;
@@ -29,5 +29,5 @@ pub use laws::{
 };
 pub use lay::{lay_apart, lay_spaces};
 pub use owner::Owner;
-pub use program_sections::{Images, first_space_fault};
+pub use source_images::{Images, first_space_fault};
 pub use spaces::{FrameInfo, Page, Space, Spaces, ThreadPlace, Window};

@@ -1,7 +1,7 @@
 //! The pages of domains, before their frames have numbers.
 
-ghost use Rattle.program_sections.specs.Numbered.{AreApart};
-ghost use Rattle.numbering.specs.Gather.{gather};
+ghost use Rattle.source_images.specs.Numbered.{AreApart};
+ghost use Rattle.cam_base.specs.Gather.{gather};
 ghost use Rattle.std.specs.Prelude.{◌≡◌, ◌<◌, ◌+◌, ◌*◌, ◌^◌, ◌++◌, length, OnOk};
 ghost use Rattle.vspace_layout.specs.MappedPages.{may_read, may_write, window_page, zero_page};
 ghost use Rattle.vspace_layout.specs.MappedPages.{pages_from, region_page, section_page, section_part};
@@ -11,8 +11,8 @@ use crate::region::{Content, Region};
 use adl_meaning::{EndSetting, Settled};
 use cam_base::{List, NoMemory};
 use cap_model::Fill;
-use leaf_ends::setting_of;
-use program_sections::{Images, SectionPage, section_pages};
+use cspace_layout::setting_of;
+use source_images::{Images, SectionPage, section_pages};
 use std::alloc::Global;
 
 /// What a page shows: a frame of the domain's own, or a page of a connection's memory.

@@ -3,7 +3,7 @@
 ghost use Rattle.std.specs.Prelude.{◌≡◌};
 ghost use Rattle.vspace_layout.specs.Memory.{first_to_end, is_shared, registers, to_place};
 ghost use Rattle.vspace_layout.specs.Memory.{memory_paddr, memory_pages, memory_place, memory_setting};
-ghost use Rattle.leaf_ends.specs.Lookups.{setting_of};
+ghost use Rattle.cspace_layout.specs.Lookups.{setting_of};
 
 use adl_ast::Role;
 use adl_meaning::{Connector, EndSetting, FlatConnection, FlatEnd, Settled};

@@ -7,7 +7,7 @@ use crate::region::{Region, regions_of, windows_of};
 use crate::thread::{ThreadOf, threads_of};
 use adl_meaning::{Flat, Settled};
 use cam_base::{List, NoMemory};
-use leaf_ends::EndAt;
+use cspace_layout::EndAt;
 use std::alloc::Global;
 
 /// The threads of a domain, its ends that see memory, and the regions of both.

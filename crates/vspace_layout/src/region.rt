@@ -10,7 +10,7 @@ use crate::thread::{ThreadOf, ends_at};
 use adl_ast::Role;
 use adl_meaning::{Connector, Flat, Settled};
 use cam_base::{List, NoMemory};
-use leaf_ends::{EndAt, end_of};
+use cspace_layout::{EndAt, end_of};
 use std::alloc::Global;
 
 /// What a region of a space is for.

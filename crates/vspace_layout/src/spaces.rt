@@ -1,7 +1,7 @@
 use crate::owner::Owner;
 use cam_base::List;
 use cap_model::Fill;
-use leaf_ends::EndAt;
+use cspace_layout::EndAt;
 
 /// A page that is mapped in a space.
 #[derive(Clone, Copy)]

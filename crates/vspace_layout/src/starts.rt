@@ -9,7 +9,7 @@ use crate::spaces::{ThreadPlace, Window};
 use crate::thread::ThreadOf;
 use adl_meaning::{Flat, Settled};
 use cam_base::{List, NoMemory};
-use leaf_ends::EndAt;
+use cspace_layout::EndAt;
 use std::alloc::Global;
 
 /// Where each region begins, if the first page behind the base stays free.

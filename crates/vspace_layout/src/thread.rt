@@ -7,7 +7,7 @@ ghost use Rattle.vspace_layout.specs.Threads.{domain_threads, ends_at, is_called
 use adl_ast::Role;
 use adl_meaning::{Connector, Flat};
 use cam_base::{List, NoMemory};
-use leaf_ends::{EndAt, end_of};
+use cspace_layout::{EndAt, end_of};
 use std::alloc::Global;
 
 /// A thread: its leaf, and the end at which it serves calls. The control thread of a leaf has none.

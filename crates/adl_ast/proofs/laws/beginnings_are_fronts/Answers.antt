@@ -1,5 +1,5 @@
 use Rattle.std.proofs.Common.{true}
-use Rattle.grammar.proofs.Completed.{begun_is_front}
+use Rattle.cam_base.proofs.Completed.{begun_is_front}
 use Rattle.adl_ast.specs.Codes.{token_code}
 use Rattle.adl_ast.specs.Forms.{nested_line, file_line, value_line, composition_line, configuration_line, assembly_line}
 use Rattle.adl_ast.proofs.Spellings.{samples, nested_spellable, file_parts, value_parts, composition_parts, configuration_parts, assembly_parts}

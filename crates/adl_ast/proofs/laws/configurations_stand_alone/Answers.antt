@@ -1,4 +1,4 @@
-use Rattle.grammar.proofs.Theorems.{one_form}
+use Rattle.cam_base.proofs.Theorems.{one_form}
 use Rattle.adl_ast.specs.Codes.{token_code}
 use Rattle.adl_ast.specs.Forms.{nested_line, configuration_line}
 use Rattle.adl_ast.specs.Spelling.{opens}

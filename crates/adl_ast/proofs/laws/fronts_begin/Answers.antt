@@ -1,4 +1,4 @@
-use Rattle.grammar.proofs.Fronts.{begun_front}
+use Rattle.cam_base.proofs.GrammarFronts.{begun_front}
 use Rattle.adl_ast.specs.Codes.{token_code}
 use Rattle.adl_ast.specs.Forms.{nested_line, file_line, value_line, composition_line, configuration_line, assembly_line}
 use Rattle.adl_ast.proofs.laws.fronts_begin.Goals as goal

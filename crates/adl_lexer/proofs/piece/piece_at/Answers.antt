@@ -1,5 +1,5 @@
 use Rattle.std.proofs.Common.{sym, ap, ◌∙◌}
-use Rattle.grammar.specs.Form.{among}
+use Rattle.cam_base.specs.Form.{among}
 use Rattle.adl_lexer.specs.Classes.{blanks, digits, letters}
 use Rattle.adl_lexer.proofs.Pieces.{word_piece, number_piece, blank_piece, less_piece, minus_piece, text_piece, sign_piece}
 use Rattle.adl_lexer.proofs.piece.piece_at.Goals as goal

@@ -1,7 +1,7 @@
 use Rattle.std.proofs.Common.{◌≡◌, ◌∙◌, ℕ, List, [], ◌∷◌, ◌++◌, refl, ap}
-use Rattle.auth_kinds.specs.ObjectLabels.{label_of}
+use Rattle.cap_model.specs.ObjectLabels.{label_of}
 use Rattle.cap_model.specs.declared.spec.Entry.{Entry}
-use Rattle.numbering.proofs.Gathered.{gather_turn}
+use Rattle.cam_base.proofs.Gathered.{gather_turn}
 use Rattle.arch_compile.proofs.labelled.labelled_objects.Goals as goal
 
 line_is : (before after : List (List ℕ × ℕ)) (name copy : List ℕ) (label given : ℕ) → copy ≡ name → given ≡ label → after ≡ before ++ (copy, given) ∷ [] → after ≡ before ++ (name, label) ∷ []

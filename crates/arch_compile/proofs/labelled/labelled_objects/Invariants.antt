@@ -1,6 +1,6 @@
 use Rattle.std.proofs.Common.{◌≡◌, ◌∷◌, [], take}
-use Rattle.auth_kinds.specs.ObjectLabels.{label_of}
-use Rattle.numbering.specs.Gather.{gather}
+use Rattle.cap_model.specs.ObjectLabels.{label_of}
+use Rattle.cam_base.specs.Gather.{gather}
 use Rattle.arch_compile.proofs.labelled.labelled_objects.Given as goal
 
 abbrev pub invariant-loop-number : goal.invariant-loop-number

@@ -1,5 +1,5 @@
 use Rattle.std.proofs.Common.{◌≡◌, subst, arith}
-use Rattle.auth_kinds.specs.Adds.{Adds}
+use Rattle.cap_model.specs.Adds.{Adds}
 use Rattle.arch_policy.proofs.Bounding.{Until, until_all, until_more, until_none}
 use Rattle.arch_policy.proofs.bound.push_bound_by.Goals as goal
 

@@ -3,8 +3,8 @@ use Rattle.adl_meaning.specs.declared.flat.FlatConnection.{FlatConnection}
 use Rattle.adl_meaning.specs.declared.flat.FlatEnd.{FlatEnd}
 use Rattle.arch_policy.specs.Tables.{told}
 use Rattle.arch_policy.specs.Triples.{end_edges}
-use Rattle.numbering.specs.Gather.{gather}
-use Rattle.numbering.proofs.Gathered.{gather_turn}
+use Rattle.cam_base.specs.Gather.{gather}
+use Rattle.cam_base.proofs.Gathered.{gather_turn}
 use Rattle.arch_policy.proofs.edges.direct_edges.Goals as goal
 
 pub loop-place-preserved : goal.loop-place-preserved

@@ -4,7 +4,7 @@ use Rattle.adl_meaning.specs.declared.flat.FlatEnd.{FlatEnd}
 use Rattle.conn_rules.specs.Row.{same_role}
 use Rattle.arch_policy.specs.Tables.{leaf_label, told}
 use Rattle.arch_policy.specs.Where.{where_true}
-use Rattle.numbering.proofs.Gathered.{gather_turn}
+use Rattle.cam_base.proofs.Gathered.{gather_turn}
 use Rattle.arch_policy.proofs.edges.labels_in_role.Goals as goal
 
 pub loop-end-preserved : goal.loop-end-preserved

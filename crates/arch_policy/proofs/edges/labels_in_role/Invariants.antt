@@ -2,7 +2,7 @@ use Rattle.std.proofs.Common.{◌≡◌, take}
 use Rattle.conn_rules.specs.Row.{same_role}
 use Rattle.arch_policy.specs.Tables.{leaf_label, told}
 use Rattle.arch_policy.specs.Where.{where_true}
-use Rattle.numbering.specs.Gather.{gather}
+use Rattle.cam_base.specs.Gather.{gather}
 use Rattle.arch_policy.proofs.edges.labels_in_role.Given as goal
 
 abbrev pub invariant-loop-end : goal.invariant-loop-end

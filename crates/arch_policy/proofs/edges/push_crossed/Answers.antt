@@ -1,8 +1,8 @@
 use Rattle.std.proofs.Common.{◌∷◌, [], refl}
 use Rattle.std.proofs.lemmas.List.{get_or_default}
-use Rattle.auth_kinds.specs.Edges.{edge}
-use Rattle.numbering.specs.Gather.{gather}
-use Rattle.numbering.proofs.Gathered.{gather_turn}
+use Rattle.cap_model.specs.Edges.{edge}
+use Rattle.cam_base.specs.Gather.{gather}
+use Rattle.cam_base.proofs.Gathered.{gather_turn}
 use Rattle.arch_policy.proofs.edges.push_crossed.Goals as goal
 
 pub loop-from-preserved : goal.loop-from-preserved

@@ -1,6 +1,6 @@
 use Rattle.std.proofs.Common.{◌≡◌, ◌++◌, ◌∷◌, [], take}
-use Rattle.auth_kinds.specs.Edges.{edge}
-use Rattle.numbering.specs.Gather.{gather}
+use Rattle.cap_model.specs.Edges.{edge}
+use Rattle.cam_base.specs.Gather.{gather}
 use Rattle.arch_policy.proofs.edges.push_crossed.Given as goal
 
 abbrev pub invariant-loop-from : goal.invariant-loop-from

@@ -1,11 +1,11 @@
 use Rattle.std.proofs.Common.{refl}
 use Rattle.std.proofs.lemmas.List.{get_or_default}
-use Rattle.auth_kinds.specs.Edges.{edge}
-use Rattle.auth_kinds.specs.declared.authority.Authority.{Authority}
+use Rattle.cap_model.specs.Edges.{edge}
+use Rattle.cap_model.specs.declared.authority.Authority.{Authority}
 use Rattle.arch_policy.specs.Tables.{told}
 use Rattle.arch_policy.specs.Triples.{row_gives}
 use Rattle.arch_policy.specs.Where.{where_true}
-use Rattle.numbering.proofs.Gathered.{gather_turn}
+use Rattle.cam_base.proofs.Gathered.{gather_turn}
 use Rattle.arch_policy.proofs.edges.push_given.Goals as goal
 
 pub loop-authority-preserved : goal.loop-authority-preserved

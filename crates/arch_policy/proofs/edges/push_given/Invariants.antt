@@ -1,9 +1,9 @@
 use Rattle.std.proofs.Common.{◌≡◌, ◌++◌, take}
-use Rattle.auth_kinds.specs.Edges.{edge}
+use Rattle.cap_model.specs.Edges.{edge}
 use Rattle.arch_policy.specs.Tables.{told}
 use Rattle.arch_policy.specs.Triples.{row_gives}
 use Rattle.arch_policy.specs.Where.{where_true}
-use Rattle.numbering.specs.Gather.{gather}
+use Rattle.cam_base.specs.Gather.{gather}
 use Rattle.arch_policy.proofs.edges.push_given.Given as goal
 
 abbrev pub invariant-loop-authority : goal.invariant-loop-authority

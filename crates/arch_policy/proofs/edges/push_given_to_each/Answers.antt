@@ -2,7 +2,7 @@ use Rattle.std.proofs.Common.{refl}
 use Rattle.std.proofs.lemmas.List.{get_or_default}
 use Rattle.arch_policy.specs.Tables.{told}
 use Rattle.arch_policy.specs.Triples.{given_edges}
-use Rattle.numbering.proofs.Gathered.{gather_turn}
+use Rattle.cam_base.proofs.Gathered.{gather_turn}
 use Rattle.arch_policy.proofs.edges.push_given_to_each.Goals as goal
 
 pub loop-to-preserved : goal.loop-to-preserved

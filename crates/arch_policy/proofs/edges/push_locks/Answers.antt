@@ -1,9 +1,9 @@
 use Rattle.std.specs.List.{list_any}
 use Rattle.adl_meaning.specs.declared.flat.Leaf.{Leaf}
-use Rattle.leaf_ends.specs.Members.{is_lock, members_at}
+use Rattle.cspace_layout.specs.Members.{is_lock, members_at}
 use Rattle.arch_policy.specs.Tables.{told}
 use Rattle.arch_policy.specs.Triples.{lock_edge}
-use Rattle.numbering.proofs.Gathered.{gather_turn}
+use Rattle.cam_base.proofs.Gathered.{gather_turn}
 use Rattle.arch_policy.proofs.edges.push_locks.Goals as goal
 
 pub loop-leaf-preserved : goal.loop-leaf-preserved

@@ -1,9 +1,9 @@
 use Rattle.std.proofs.Common.{◌≡◌, ◌++◌, take}
 use Rattle.std.specs.List.{list_any}
-use Rattle.leaf_ends.specs.Members.{is_lock, members_at}
+use Rattle.cspace_layout.specs.Members.{is_lock, members_at}
 use Rattle.arch_policy.specs.Tables.{told}
 use Rattle.arch_policy.specs.Triples.{lock_edge}
-use Rattle.numbering.specs.Gather.{gather}
+use Rattle.cam_base.specs.Gather.{gather}
 use Rattle.arch_policy.proofs.edges.push_locks.Given as goal
 
 abbrev pub invariant-loop-leaf : goal.invariant-loop-leaf

@@ -1,7 +1,7 @@
 use Rattle.std.proofs.Common.{◌≡◌, ◌++◌, take}
 use Rattle.arch_policy.specs.Tables.{told}
 use Rattle.arch_policy.specs.Triples.{signals_at}
-use Rattle.numbering.specs.Gather.{gather}
+use Rattle.cam_base.specs.Gather.{gather}
 use Rattle.arch_policy.proofs.edges.push_signals.Given as goal
 
 abbrev pub invariant-loop-place : goal.invariant-loop-place

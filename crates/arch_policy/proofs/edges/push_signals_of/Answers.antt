@@ -2,7 +2,7 @@ use Rattle.adl_meaning.specs.declared.flat.FlatEnd.{FlatEnd}
 use Rattle.std.proofs.lemmas.List.{get_or_default}
 use Rattle.arch_policy.specs.Tables.{told}
 use Rattle.arch_policy.specs.Triples.{signals_at}
-use Rattle.numbering.proofs.Gathered.{gather_turn}
+use Rattle.cam_base.proofs.Gathered.{gather_turn}
 use Rattle.arch_policy.proofs.edges.push_signals_of.Goals as goal
 
 pub loop-end-preserved : goal.loop-end-preserved

@@ -1,7 +1,7 @@
 use Rattle.std.proofs.Common.{◌∷◌, [], refl}
 use Rattle.std.proofs.lemmas.List.{get_or_default}
-use Rattle.auth_kinds.specs.Edges.{edge}
-use Rattle.numbering.proofs.Gathered.{gather_turn}
+use Rattle.cap_model.specs.Edges.{edge}
+use Rattle.cam_base.proofs.Gathered.{gather_turn}
 use Rattle.arch_policy.proofs.edges.push_to_each.Goals as goal
 
 pub loop-to-preserved : goal.loop-to-preserved

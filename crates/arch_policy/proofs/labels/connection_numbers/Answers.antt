@@ -2,7 +2,7 @@ use Rattle.std.proofs.Common.{◌∷◌, [], refl}
 use Rattle.adl_meaning.specs.declared.flat.FlatConnection.{FlatConnection}
 use Rattle.arch_policy.specs.Labels.{rank}
 use Rattle.cam_base.specs.Paths.{joined}
-use Rattle.numbering.proofs.Gathered.{gather_turn}
+use Rattle.cam_base.proofs.Gathered.{gather_turn}
 use Rattle.arch_policy.proofs.labels.connection_numbers.Goals as goal
 
 pub loop-connection-preserved : goal.loop-connection-preserved

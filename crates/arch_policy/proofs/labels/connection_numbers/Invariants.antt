@@ -1,7 +1,7 @@
 use Rattle.std.proofs.Common.{◌≡◌, ◌∷◌, [], take}
 use Rattle.arch_policy.specs.Labels.{rank}
 use Rattle.cam_base.specs.Paths.{joined}
-use Rattle.numbering.specs.Gather.{gather}
+use Rattle.cam_base.specs.Gather.{gather}
 use Rattle.arch_policy.proofs.labels.connection_numbers.Given as goal
 
 abbrev pub invariant-loop-connection : goal.invariant-loop-connection

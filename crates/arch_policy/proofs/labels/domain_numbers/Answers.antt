@@ -2,7 +2,7 @@ use Rattle.std.proofs.Common.{◌∷◌, [], refl}
 use Rattle.adl_meaning.specs.declared.flat.Domain.{Domain}
 use Rattle.arch_policy.specs.Labels.{rank}
 use Rattle.cam_base.specs.Paths.{joined}
-use Rattle.numbering.proofs.Gathered.{gather_turn}
+use Rattle.cam_base.proofs.Gathered.{gather_turn}
 use Rattle.arch_policy.proofs.labels.domain_numbers.Goals as goal
 
 pub loop-domain-preserved : goal.loop-domain-preserved

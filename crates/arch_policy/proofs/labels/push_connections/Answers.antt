@@ -3,7 +3,7 @@ use Rattle.adl_meaning.specs.declared.flat.FlatConnection.{FlatConnection}
 use Rattle.arch_policy.specs.Owners.{has_label}
 use Rattle.arch_policy.specs.Where.{where_true}
 use Rattle.cam_base.specs.Paths.{joined}
-use Rattle.numbering.proofs.Gathered.{gather_turn}
+use Rattle.cam_base.proofs.Gathered.{gather_turn}
 use Rattle.arch_policy.proofs.labels.push_connections.Goals as goal
 
 pub loop-connection-preserved : goal.loop-connection-preserved

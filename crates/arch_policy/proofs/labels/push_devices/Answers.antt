@@ -3,7 +3,7 @@ use Rattle.adl_meaning.specs.declared.flat.Leaf.{Leaf}
 use Rattle.arch_policy.specs.Owners.{is_device}
 use Rattle.arch_policy.specs.Where.{where_true}
 use Rattle.cam_base.specs.Paths.{joined}
-use Rattle.numbering.proofs.Gathered.{gather_turn}
+use Rattle.cam_base.proofs.Gathered.{gather_turn}
 use Rattle.arch_policy.proofs.labels.push_devices.Goals as goal
 
 pub loop-leaf-preserved : goal.loop-leaf-preserved

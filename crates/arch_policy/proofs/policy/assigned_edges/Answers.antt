@@ -3,7 +3,7 @@ use Rattle.std.specs.List.{filter}
 use Rattle.arch_policy.specs.Tables.{told}
 use Rattle.arch_policy.specs.Triples.{leads_out, reasoned_edges}
 use Rattle.arch_policy.proofs.Counted.{has_filter}
-use Rattle.auth_kinds.specs.Tables.{has}
+use Rattle.cap_model.specs.Tables.{has}
 use Rattle.arch_policy.proofs.policy.assigned_edges.Goals as goal
 
 pub returns-clause-same : goal.returns-clause-same

@@ -1,4 +1,4 @@
-use Rattle.text_lines.specs.LinesLeft.{line_of, lines_left}
+use Rattle.cam_base.specs.LinesLeft.{line_of, lines_left}
 use Rattle.boot_plan.proofs.Reading.{region_step, sound_more}
 use Rattle.boot_plan.proofs.read.read_regions.Goals as goal
 

@@ -1,12 +1,12 @@
 use Rattle.std.proofs.Common.{◌≡◌, ◌≢◌, ◌<◌, ◌≤◌, ℕ, Bool, true, false, cond, List, [], ◌∷◌, Some, inl, inr, subst, arith}
 use Rattle.std.proofs.lemmas.Option.{same_Some}
 use Rattle.arch_compile.specs.declared.building.Build.{Build}
-use Rattle.build_texts.specs.BuildTexts.{texts_script}
-use Rattle.build_texts.specs.declared.names.TextNames.{TextNames}
+use Rattle.arch_compile.specs.BuildTexts.{texts_script}
+use Rattle.arch_compile.specs.declared.names.TextNames.{TextNames}
 use Rattle.cam_io.specs.Scripts.{CutShort, Write}
 use Rattle.cam_io.specs.Sinks.{IsCut, Sink}
-use Rattle.generate_command.specs.Generated.{generated_text}
-use Rattle.reason_lines.specs.Answers.{answer_text, is_assigned}
+use Rattle.camkes_tool.specs.Generated.{generated_text}
+use Rattle.explain.specs.Answers.{answer_text, is_assigned}
 use Rattle.source_commands.specs.Listed.{listing_text}
 use Rattle.text_commands.specs.Outcomes.{is_well, text_of}
 use Rattle.camkes_tool.specs.Answers.{script, status_of, said_as}

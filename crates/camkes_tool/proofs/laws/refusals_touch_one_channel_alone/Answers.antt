@@ -1,5 +1,5 @@
 use Rattle.std.proofs.Common.{◌≡◌, ◌≢◌, ◌∙◌, ◌⊎◌, refl, sym, subst, ℕ, Bool, true, false, cond, inl, inr, ⊎_elim, arith}
-use Rattle.reason_lines.specs.Answers.{is_assigned}
+use Rattle.explain.specs.Answers.{is_assigned}
 use Rattle.text_commands.specs.Outcomes.{is_well}
 use Rattle.camkes_tool.specs.Answers.{script, status_of}
 use Rattle.camkes_tool.specs.Channels.{IsAsBefore}

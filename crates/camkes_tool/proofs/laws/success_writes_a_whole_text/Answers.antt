@@ -1,12 +1,12 @@
 use Rattle.std.proofs.Common.{◌≡◌, ◌⊎◌, refl, ℕ, List, Some, inl, inr}
 use Rattle.arch_compile.specs.declared.building.Build.{Build}
-use Rattle.build_texts.specs.BuildTexts.{texts_script}
-use Rattle.build_texts.specs.declared.names.TextNames.{TextNames}
+use Rattle.arch_compile.specs.BuildTexts.{texts_script}
+use Rattle.arch_compile.specs.declared.names.TextNames.{TextNames}
 use Rattle.cam_io.specs.Scripts.{after}
 use Rattle.cam_io.specs.Sinks.{Sink, appended}
-use Rattle.generate_command.specs.Generated.{generated_text}
+use Rattle.camkes_tool.specs.Generated.{generated_text}
 use Rattle.text_commands.specs.Outcomes.{text_of}
-use Rattle.reason_lines.specs.Answers.{answer_text}
+use Rattle.explain.specs.Answers.{answer_text}
 use Rattle.source_commands.specs.Listed.{listing_text}
 use Rattle.camkes_tool.specs.Answers.{script, status_of, said_as}
 use Rattle.camkes_tool.specs.declared.answer.Answer.{Answer}

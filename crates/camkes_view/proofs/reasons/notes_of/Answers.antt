@@ -1,6 +1,6 @@
 use Rattle.std.proofs.Common.{◌∙◌, sym, arith}
 use Rattle.std.proofs.lemmas.Option.{get_or_from_slice_get, slice_get-get_or}
-use Rattle.auth_kinds.specs.declared.authority.Authority.TheVariants.{Receive}
+use Rattle.cap_model.specs.declared.authority.Authority.TheVariants.{Receive}
 use Rattle.camkes_view.proofs.Noting.{notes_all, notes_turn}
 use Rattle.camkes_view.proofs.reasons.notes_of.Goals as goal
 use Rattle.camkes_view.proofs.reasons.notes_of.Goals.{in-Some+in_ok-note+in_ok-push, in_default}

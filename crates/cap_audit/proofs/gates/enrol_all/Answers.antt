@@ -1,7 +1,7 @@
 use Rattle.std.proofs.Common.{◌≡◌, ◌<◌, ℕ, List, Some, length, get_or, sym, ap, subst, arith, ◌∙◌}
 use Rattle.cap_model.specs.declared.spec.Entry.{Entry}
-use Rattle.cap_spread.specs.Spread.{root_of}
-use Rattle.cap_spread.proofs.Beginning.{root_item, root_inside}
+use Rattle.cap_audit.specs.Spread.{root_of}
+use Rattle.cap_audit.proofs.Beginning.{root_item, root_inside}
 use Rattle.cap_audit.specs.Gates.{AreRosters}
 use Rattle.cap_audit.proofs.Gating.{rosters_more, rosters_none}
 use Rattle.cap_audit.proofs.gates.enrol_all.Goals as goal

@@ -1,6 +1,6 @@
 use Rattle.std.proofs.Common.{List, []}
-use Rattle.cap_spread.specs.declared.found.Pair.{Pair}
-use Rattle.cap_spread.proofs.Beginning.{repeated_more}
+use Rattle.cap_audit.specs.declared.found.Pair.{Pair}
+use Rattle.cap_audit.proofs.Beginning.{repeated_more}
 use Rattle.cap_audit.proofs.gates.no_gates.Goals as goal
 
 pub loop-preserved : goal.loop-preserved

@@ -1,5 +1,5 @@
 use Rattle.std.proofs.Common.{List, [], ℕ}
-use Rattle.cap_spread.proofs.Beginning.{repeated_more}
+use Rattle.cap_audit.proofs.Beginning.{repeated_more}
 use Rattle.cap_audit.proofs.gates.no_rosters.Goals as goal
 
 pub loop-preserved : goal.loop-preserved

@@ -1,5 +1,5 @@
 use Rattle.std.proofs.Common.{List, Option, ℕ, subst, sym}
-use Rattle.cap_spread.specs.Covering.{AreRoots}
+use Rattle.cap_audit.specs.Covering.{AreRoots}
 use Rattle.cap_audit.proofs.kinds.head_roots.Goals as goal
 
 pub leave_out-requires-clause-roots : goal.leave_out-requires-clause-roots

@@ -1,6 +1,6 @@
 use Rattle.std.proofs.Common.{ap, ◌∙◌}
 use Rattle.std.specs.List.{filter_map}
-use Rattle.cap_spread.specs.Search.{held_by}
+use Rattle.cap_audit.specs.Search.{held_by}
 use Rattle.cap_audit.specs.Gains.{Made, OfSome}
 use Rattle.cap_audit.specs.Picks.{OfDeed, OfDeeds, pick_of}
 use Rattle.cap_audit.specs.declared.picks.Pick.{Pick}

@@ -1,5 +1,5 @@
 use Rattle.std.proofs.Common.{◌≡◌, ℕ, Option, None, length, get_or, sym, subst, arith, ◌∙◌}
-use Rattle.cap_spread.specs.Spread.{HasRoot}
+use Rattle.cap_audit.specs.Spread.{HasRoot}
 use Rattle.cap_audit.specs.Gains.{Below, Gains, Made}
 use Rattle.cap_audit.specs.Picks.{OfRoot}
 use Rattle.cap_audit.proofs.Gaining.{below_more, below_none}

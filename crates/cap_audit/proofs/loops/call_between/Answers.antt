@@ -1,6 +1,6 @@
 use Rattle.std.proofs.Common.{◌≡◌, ℕ, List, Some, slice_get, get_or, sym, subst, arith}
 use Rattle.std.proofs.lemmas.Option.{slice_get-get_or}
-use Rattle.cap_spread.specs.Spread.{HasRoot}
+use Rattle.cap_audit.specs.Spread.{HasRoot}
 use Rattle.cap_audit.specs.Gains.{AtPlace, Gains, Made, OfSome}
 use Rattle.cap_audit.specs.Gates.{Meets, OfCall}
 use Rattle.cap_audit.specs.Rows.{row_at}

@@ -1,6 +1,6 @@
 use Rattle.std.proofs.Common.{◌≡◌, Some, length, slice_get, sym, ap, subst, arith}
 use Rattle.std.specs.List.{Contains}
-use Rattle.cap_spread.specs.Search.{Found, held_by}
+use Rattle.cap_audit.specs.Search.{Found, held_by}
 use Rattle.cap_audit.specs.Gains.{AtPlace, Gains, Made, OfFace}
 use Rattle.cap_audit.proofs.Gaining.{below_none, some_all, some_more}
 use Rattle.cap_audit.proofs.loops.hold_all.Goals as goal

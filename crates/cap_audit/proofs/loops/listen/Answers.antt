@@ -4,7 +4,7 @@ use Rattle.cap_audit.specs.Gates.{Greets, OfKinds, OfListening}
 use Rattle.cap_audit.specs.Kinds.{stand_in}
 use Rattle.cap_audit.specs.Rows.{row_at}
 use Rattle.cap_audit.specs.declared.picks.Wanted.TheVariants as wants
-use Rattle.cap_spread.specs.declared.found.Pair.{Pair}
+use Rattle.cap_audit.specs.declared.found.Pair.{Pair}
 use Rattle.cap_audit.proofs.Assembling.{gate_meets}
 use Rattle.cap_audit.proofs.Looping.{listen_by, listen_none, no_head}
 use Rattle.cap_audit.proofs.Meeting.{greets_by, greets_none}

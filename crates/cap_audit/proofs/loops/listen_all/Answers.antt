@@ -1,5 +1,5 @@
 use Rattle.std.proofs.Common.{◌≡◌, Some, length, slice_get, refl, sym, ap, subst, arith}
-use Rattle.cap_spread.specs.Search.{Found}
+use Rattle.cap_audit.specs.Search.{Found}
 use Rattle.cap_audit.specs.Gains.{AtPlace, Made}
 use Rattle.cap_audit.specs.Gates.{AreMet, AreReady, Greets, OfListening}
 use Rattle.cap_audit.proofs.Meeting.{greets_all, greets_begin, greets_more}

@@ -3,7 +3,7 @@ use Rattle.std.proofs.lemmas.Option.{slice_get-get_or}
 use Rattle.cap_audit.specs.Gains.{AtPlace, Made}
 use Rattle.cap_audit.specs.Gates.{AreMet, AreReady, Greets, MeetBy, OfKinds}
 use Rattle.cap_audit.specs.Kinds.{IsQueued}
-use Rattle.cap_spread.specs.declared.found.Pair.{Pair}
+use Rattle.cap_audit.specs.declared.found.Pair.{Pair}
 use Rattle.cap_audit.proofs.Meeting.{greets_all, greets_begin, greets_more}
 use Rattle.cap_audit.proofs.loops.meet_all.Goals as goal
 

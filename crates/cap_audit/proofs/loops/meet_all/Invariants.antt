@@ -1,6 +1,6 @@
 use Rattle.cap_audit.specs.Gains.{AtPlace, Below}
 use Rattle.cap_audit.specs.Gates.{Greets, OfKinds}
-use Rattle.cap_spread.specs.declared.found.Pair.{Pair}
+use Rattle.cap_audit.specs.declared.found.Pair.{Pair}
 use Rattle.cap_audit.proofs.loops.meet_all.Given as goal
 
 abbrev pub invariant-loop-door : goal.invariant-loop-door

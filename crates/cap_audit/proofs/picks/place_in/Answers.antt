@@ -2,7 +2,7 @@ use Rattle.std.proofs.Common.{◌≡◌, ◌∙◌, None, get_or, drop, length, 
 use Rattle.std.proofs.Math.Seq.{drop-length}
 use Rattle.std.proofs.lemmas.Bool.{eq-eqb, ne_eqb}
 use Rattle.cap_audit.specs.Picks.{place_in}
-use Rattle.cap_spread.specs.declared.found.Held.{Held}
+use Rattle.cap_audit.specs.declared.found.Held.{Held}
 use Rattle.cap_audit.proofs.Meeting.{place_here, place_past}
 use Rattle.cap_audit.proofs.picks.place_in.Goals as goal
 

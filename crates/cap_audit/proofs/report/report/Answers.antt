@@ -1,6 +1,6 @@
 use Rattle.std.proofs.Common.{◌≡◌, ◌∙◌, ℕ, List, [], ap, length, subst, sym}
-use Rattle.cap_spread.specs.Search.{bare}
-use Rattle.cap_spread.specs.Spread.{HoldsNoThread}
+use Rattle.cap_audit.specs.Search.{bare}
+use Rattle.cap_audit.specs.Spread.{HoldsNoThread}
 use Rattle.cap_audit.specs.Gains.{Made}
 use Rattle.cap_audit.specs.Kinds.{AreFirsts, AreHeads}
 use Rattle.cap_audit.proofs.Assembling.{begun}

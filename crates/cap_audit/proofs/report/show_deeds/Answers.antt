@@ -1,5 +1,5 @@
 use Rattle.std.proofs.Common.{List, Option, ℕ, subst, sym}
-use Rattle.auth_kinds.specs.declared.edge.Edge.{Edge}
+use Rattle.cap_model.specs.declared.edge.Edge.{Edge}
 use Rattle.cap_model.specs.Kept.{IsKept}
 use Rattle.cap_audit.specs.Kinds.{AreHeadRoots}
 use Rattle.cap_audit.specs.Gains.{Gains, Made}

@@ -1,8 +1,8 @@
 use Rattle.std.proofs.Common.{ℕ, Option}
-use Rattle.auth_kinds.specs.ObjectLabels.{label_of}
-use Rattle.auth_kinds.specs.declared.authority.Authority.TheVariants.{AsyncSend}
-use Rattle.auth_graph.specs.Sources.{OfOption, OfLink}
-use Rattle.auth_graph.proofs.Gathering.{first_more_at, all_first}
+use Rattle.cap_model.specs.ObjectLabels.{label_of}
+use Rattle.cap_model.specs.declared.authority.Authority.TheVariants.{AsyncSend}
+use Rattle.cap_machine.specs.Sources.{OfOption, OfLink}
+use Rattle.cap_machine.proofs.Gathering.{first_more_at, all_first}
 use Rattle.cap_machine.proofs.edges.with_irqs.Goals as goal
 
 pub loop-place-preserved : goal.loop-place-preserved

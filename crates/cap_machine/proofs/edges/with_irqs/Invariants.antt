@@ -1,9 +1,9 @@
-use Rattle.auth_kinds.specs.Adds.{Adds}
-use Rattle.auth_graph.proofs.Gathering.{OfFirst}
-use Rattle.auth_kinds.specs.ObjectLabels.{label_of}
+use Rattle.cap_model.specs.Adds.{Adds}
+use Rattle.cap_machine.proofs.Gathering.{OfFirst}
+use Rattle.cap_model.specs.ObjectLabels.{label_of}
 use Rattle.std.proofs.Common.{ℕ, Option}
-use Rattle.auth_kinds.specs.declared.authority.Authority.TheVariants.{AsyncSend}
-use Rattle.auth_graph.specs.Sources.{OfOption, OfLink}
+use Rattle.cap_model.specs.declared.authority.Authority.TheVariants.{AsyncSend}
+use Rattle.cap_machine.specs.Sources.{OfOption, OfLink}
 use Rattle.cap_machine.proofs.edges.with_irqs.Given as goal
 
 abbrev pub invariant-loop-place : goal.invariant-loop-place

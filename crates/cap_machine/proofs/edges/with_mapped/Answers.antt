@@ -1,7 +1,7 @@
 use Rattle.std.proofs.Common.{arith}
 use Rattle.cap_model.specs.declared.state.Mapped.{Mapped}
 use Rattle.cap_machine.specs.StateSources.{OfAdded}
-use Rattle.auth_graph.proofs.Gathering.{first_more_at, all_first}
+use Rattle.cap_machine.proofs.Gathering.{first_more_at, all_first}
 use Rattle.cap_machine.proofs.edges.with_mapped.Goals as goal
 
 pub loop-added-preserved : goal.loop-added-preserved

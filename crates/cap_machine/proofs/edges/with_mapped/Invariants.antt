@@ -1,5 +1,5 @@
-use Rattle.auth_kinds.specs.Adds.{Adds}
-use Rattle.auth_graph.proofs.Gathering.{OfFirst}
+use Rattle.cap_model.specs.Adds.{Adds}
+use Rattle.cap_machine.proofs.Gathering.{OfFirst}
 use Rattle.cap_model.specs.declared.state.Mapped.{Mapped}
 use Rattle.cap_machine.specs.StateSources.{OfAdded}
 use Rattle.cap_machine.proofs.edges.with_mapped.Given as goal

@@ -1,6 +1,6 @@
-use Rattle.auth_kinds.specs.Adds.{Adds}
-use Rattle.auth_graph.proofs.Gathering.{OfFirst}
-use Rattle.auth_kinds.specs.ObjectLabels.{label_of}
+use Rattle.cap_model.specs.Adds.{Adds}
+use Rattle.cap_machine.proofs.Gathering.{OfFirst}
+use Rattle.cap_model.specs.ObjectLabels.{label_of}
 use Rattle.cap_model.specs.State.{Node}
 use Rattle.cap_machine.specs.StateSources.{OfNode}
 use Rattle.cap_machine.proofs.edges.with_nodes.Given as goal

@@ -1,9 +1,9 @@
 use Rattle.std.proofs.Common.{refl}
 use Rattle.std.proofs.lemmas.Option.{slice_get_read}
-use Rattle.auth_kinds.specs.ObjectLabels.{label_of}
+use Rattle.cap_model.specs.ObjectLabels.{label_of}
 use Rattle.cap_model.specs.declared.spec.Entry.{Entry}
 use Rattle.cap_machine.specs.StateSources.{OfFixed}
-use Rattle.auth_graph.proofs.Gathering.{first_more, all_first}
+use Rattle.cap_machine.proofs.Gathering.{first_more, all_first}
 use Rattle.cap_machine.proofs.edges.with_spec_parts.Goals as goal
 
 pub loop-place-preserved : goal.loop-place-preserved

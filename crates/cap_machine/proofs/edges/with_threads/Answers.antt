@@ -1,7 +1,7 @@
-use Rattle.auth_kinds.specs.ObjectLabels.{label_of}
+use Rattle.cap_model.specs.ObjectLabels.{label_of}
 use Rattle.cap_model.specs.declared.state.ThreadState.{ThreadState}
 use Rattle.cap_machine.specs.StateSources.{OfThread}
-use Rattle.auth_graph.proofs.Gathering.{first_more_at, all_first}
+use Rattle.cap_machine.proofs.Gathering.{first_more_at, all_first}
 use Rattle.cap_machine.proofs.edges.with_threads.Goals as goal
 
 pub loop-place-preserved : goal.loop-place-preserved

@@ -1,5 +1,5 @@
 use Rattle.std.proofs.Common.{◌≡◌, drop, map, ◌++◌, List, ℕ}
-use Rattle.spread_names.specs.Naming.{spread_found}
+use Rattle.name_tables.specs.Naming.{spread_found}
 use Rattle.capdl_read.specs.Building.{entry_of, slots_told}
 use Rattle.capdl_read.proofs.build.entries_of.Given as goal
 

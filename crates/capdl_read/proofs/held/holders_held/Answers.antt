@@ -6,7 +6,7 @@ use Rattle.capdl_read.specs.Building.{slot_said}
 use Rattle.capdl_text.specs.declared.tree.Holder.{Holder}
 use Rattle.capdl_read.proofs.Repeating.{names_more}
 use Rattle.capdl_read.proofs.Tables.{slots_put}
-use Rattle.spread_names.specs.Naming.{spread_found}
+use Rattle.name_tables.specs.Naming.{spread_found}
 use Rattle.capdl_read.proofs.held.holders_held.Goals as goal
 
 pub loop-holder-preserved : goal.loop-holder-preserved

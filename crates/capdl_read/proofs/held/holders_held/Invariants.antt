@@ -7,7 +7,7 @@ use Rattle.capdl_text.specs.Twice.{names_after, names_twice}
 use Rattle.capdl_text.specs.Unknown.{unknown_in}
 use Rattle.capdl_text.specs.declared.tree.Holder.{Holder}
 use Rattle.capdl_read.specs.Building.{slot_said, slots_or}
-use Rattle.spread_names.specs.Naming.{spread_found}
+use Rattle.name_tables.specs.Naming.{spread_found}
 use Rattle.capdl_read.proofs.held.holders_held.Given as goal
 
 abbrev pub invariant-loop-holder : goal.invariant-loop-holder

@@ -4,7 +4,7 @@ use Rattle.capdl_text.specs.Unknown.{unknown}
 use Rattle.capdl_text.specs.declared.tree.IrqLine.{IrqLine}
 use Rattle.capdl_text.proofs.Noting.{noted_each}
 use Rattle.capdl_read.proofs.Tables.{line_put}
-use Rattle.spread_names.specs.Naming.{spread_found}
+use Rattle.name_tables.specs.Naming.{spread_found}
 use Rattle.capdl_read.proofs.held.lines_held.Goals as goal
 
 pub loop-line-preserved : goal.loop-line-preserved

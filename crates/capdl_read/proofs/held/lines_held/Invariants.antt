@@ -5,7 +5,7 @@ use Rattle.capdl_text.specs.KindField.{irq_off}
 use Rattle.capdl_text.specs.Meaning.{lines_from}
 use Rattle.capdl_text.specs.Unknown.{unknown}
 use Rattle.capdl_text.specs.declared.tree.IrqLine.{IrqLine}
-use Rattle.spread_names.specs.Naming.{spread_found}
+use Rattle.name_tables.specs.Naming.{spread_found}
 use Rattle.capdl_read.proofs.held.lines_held.Given as goal
 
 abbrev pub invariant-loop-line : goal.invariant-loop-line

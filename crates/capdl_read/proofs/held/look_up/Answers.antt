@@ -4,7 +4,7 @@ use Rattle.capdl_text.specs.declared.tree.IrqLine.{IrqLine}
 use Rattle.capdl_text.specs.declared.tree.ObjectLine.{ObjectLine}
 use Rattle.capdl_text.proofs.Noting.{noted_then}
 use Rattle.std.proofs.Common.{◌++◌}
-use Rattle.spread_names.specs.Naming.{spread_found}
+use Rattle.name_tables.specs.Naming.{spread_found}
 use Rattle.capdl_read.proofs.held.look_up.Goals as goal
 
 pub returns-clause-kind : goal.returns-clause-kind

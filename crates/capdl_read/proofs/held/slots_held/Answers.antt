@@ -5,7 +5,7 @@ use Rattle.capdl_text.specs.declared.tree.SlotLine.{SlotLine}
 use Rattle.capdl_text.proofs.Noting.{noted_each}
 use Rattle.capdl_read.specs.Building.{slot_said}
 use Rattle.capdl_read.proofs.Tables.{said_each}
-use Rattle.spread_names.specs.Naming.{spread_found}
+use Rattle.name_tables.specs.Naming.{spread_found}
 use Rattle.capdl_read.proofs.held.slots_held.Goals as goal
 
 pub loop-slot-preserved : goal.loop-slot-preserved

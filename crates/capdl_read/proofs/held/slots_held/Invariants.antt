@@ -5,7 +5,7 @@ use Rattle.capdl_text.specs.KindField.{slot_off}
 use Rattle.capdl_text.specs.Unknown.{unknown}
 use Rattle.capdl_text.specs.declared.tree.SlotLine.{SlotLine}
 use Rattle.capdl_read.specs.Building.{slot_said}
-use Rattle.spread_names.specs.Naming.{spread_found}
+use Rattle.name_tables.specs.Naming.{spread_found}
 use Rattle.capdl_read.proofs.held.slots_held.Given as goal
 
 abbrev pub invariant-loop-slot : goal.invariant-loop-slot

@@ -1,5 +1,5 @@
 use Rattle.cert_check.proofs.boot_edges.slots_lack.Given as goal
-use Rattle.auth_kinds.specs.Tables.{Finds}
+use Rattle.cap_model.specs.Tables.{Finds}
 use Rattle.cert_check.specs.Parts.{SlotsLack}
 
 abbrev pub invariant-loop-slot : goal.invariant-loop-slot

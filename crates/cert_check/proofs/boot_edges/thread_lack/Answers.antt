@@ -1,6 +1,6 @@
 use Rattle.std.proofs.Common.{◌⊎◌}
 use Rattle.cert_check.proofs.boot_edges.thread_lack.Goals as goal
-use Rattle.auth_kinds.specs.declared.authority.Authority.TheVariants.{Control}
+use Rattle.cap_model.specs.declared.authority.Authority.TheVariants.{Control}
 use Rattle.cert_check.specs.Parts.{LinkLack, BufferLack}
 use Rattle.cert_check.proofs.LeastEdges.{finds_either}
 

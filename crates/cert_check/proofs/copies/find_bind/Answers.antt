@@ -1,6 +1,6 @@
 use Rattle.std.proofs.Common.{arith, length}
-use Rattle.auth_kinds.specs.declared.authority.Authority.TheVariants.{Handle}
-use Rattle.auth_kinds.proofs.TableMembers.{has_at}
+use Rattle.cap_model.specs.declared.authority.Authority.TheVariants.{Handle}
+use Rattle.cap_model.proofs.TableMembers.{has_at}
 use Rattle.cert_check.specs.Violations.{BreaksBind}
 use Rattle.cert_check.proofs.FirstFound.{edge_found, edge_none}
 use Rattle.cert_check.proofs.Search.{none_more, none_on}

@@ -1,8 +1,8 @@
 use Rattle.std.proofs.Common.{◌≡◌, ◌∙◌, ◌==◌, ℕ, true, Option, Some, None, refl, sym, ap, subst}
 use Rattle.std.specs.Option.{option_eq}
 use Rattle.std.proofs.lemmas.Bool.{eqb-true}
-use Rattle.auth_kinds.specs.Classes.{IsClassOf}
-use Rattle.auth_kinds.proofs.ClassNumbers.{class_alike}
+use Rattle.cap_model.specs.Classes.{IsClassOf}
+use Rattle.cap_model.proofs.ClassNumbers.{class_alike}
 use Rattle.cert_check.proofs.copies.same_class.Goals as goal
 
 same_option : (m n : Option ℕ) → option_eq (λ a b. a == b) m n ≡ true → m ≡ n

@@ -1,5 +1,5 @@
 use Rattle.std.proofs.Common.{◌∙◌, arith, length}
-use Rattle.auth_kinds.proofs.TableMembers.{has_at}
+use Rattle.cap_model.proofs.TableMembers.{has_at}
 use Rattle.cert_check.specs.Meetings.{OfPartners, first_authority}
 use Rattle.cert_check.proofs.FirstFound.{edge_none, edge_found}
 use Rattle.cert_check.proofs.Pairs.{first_has, first_is}

@@ -1,5 +1,5 @@
 use Rattle.std.proofs.Common.{arith}
-use Rattle.numbering.proofs.Gathered.{listed_at}
+use Rattle.cam_base.proofs.Gathered.{listed_at}
 use Rattle.cspace_layout.proofs.count.count_domain.Goals as goal
 
 pub bounds-counts-leaf : goal.bounds-counts-leaf

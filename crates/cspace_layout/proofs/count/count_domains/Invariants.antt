@@ -1,5 +1,5 @@
 use Rattle.std.proofs.Common.{◌≡◌, ◌∷◌, [], length, take}
-use Rattle.numbering.specs.Gather.{gather}
+use Rattle.cam_base.specs.Gather.{gather}
 use Rattle.cspace_layout.specs.Counted.{capped}
 use Rattle.cspace_layout.specs.Uses.{domain_uses}
 use Rattle.cspace_layout.proofs.count.count_domains.Given as goal

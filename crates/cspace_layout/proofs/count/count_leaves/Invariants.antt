@@ -1,6 +1,6 @@
 use Rattle.std.proofs.Common.{◌≡◌, ◌∷◌, [], length, take}
-use Rattle.numbering.specs.Gather.{gather}
-use Rattle.leaf_ends.specs.Members.{members_at}
+use Rattle.cam_base.specs.Gather.{gather}
+use Rattle.cspace_layout.specs.Members.{members_at}
 use Rattle.cspace_layout.specs.Counted.{capped}
 use Rattle.cspace_layout.specs.Uses.{leaf_uses}
 use Rattle.cspace_layout.proofs.count.count_leaves.Given as goal

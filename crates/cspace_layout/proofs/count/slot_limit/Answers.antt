@@ -1,6 +1,6 @@
 use Rattle.std.proofs.Common.{◌≡◌, ◌∙◌, ap, sym, subst}
 use Rattle.std.specs.Prelude.{IfOk}
-use Rattle.leaf_ends.specs.Limit.{limit_fault}
+use Rattle.cspace_layout.specs.Limit.{limit_fault}
 use Rattle.cspace_layout.proofs.Limits.{limit_told}
 use Rattle.cspace_layout.proofs.count.slot_limit.Goals as goal
 

@@ -1,5 +1,5 @@
 use Rattle.std.proofs.Common.{refl}
-use Rattle.numbering.proofs.Gathered.{gather_turn}
+use Rattle.cam_base.proofs.Gathered.{gather_turn}
 use Rattle.cspace_layout.specs.Uses.{lock_uses}
 use Rattle.cspace_layout.proofs.lay.add_locks.Goals as goal
 

@@ -1,6 +1,6 @@
 use Rattle.std.proofs.Common.{List, length, get_or, ap, arith}
 use Rattle.std.proofs.lemmas.List.{get_or_default}
-use Rattle.numbering.proofs.Gathered.{listed_at}
+use Rattle.cam_base.proofs.Gathered.{listed_at}
 use Rattle.cspace_layout.proofs.Laying.{length-ends_of, members_here, uses_turn}
 use Rattle.cspace_layout.proofs.lay.lay_domain.Goals as goal
 

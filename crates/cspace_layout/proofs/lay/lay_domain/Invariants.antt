@@ -1,6 +1,6 @@
 use Rattle.std.proofs.Common.{◌≡◌, take}
-use Rattle.numbering.specs.Gather.{gather}
-use Rattle.leaf_ends.specs.Members.{leaf_members}
+use Rattle.cam_base.specs.Gather.{gather}
+use Rattle.cspace_layout.specs.Members.{leaf_members}
 use Rattle.cspace_layout.specs.Uses.{leaf_uses}
 use Rattle.cspace_layout.proofs.lay.lay_domain.Given as goal
 

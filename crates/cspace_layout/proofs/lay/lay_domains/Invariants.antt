@@ -1,5 +1,5 @@
 use Rattle.std.proofs.Common.{◌≡◌, ◌∷◌, [], take}
-use Rattle.numbering.specs.Gather.{gather}
+use Rattle.cam_base.specs.Gather.{gather}
 use Rattle.cspace_layout.specs.Uses.{domain_uses, plan_of}
 use Rattle.cspace_layout.proofs.lay.lay_domains.Given as goal
 

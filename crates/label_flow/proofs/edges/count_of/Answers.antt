@@ -1,6 +1,6 @@
 use Rattle.std.proofs.Common.{arith}
-use Rattle.auth_kinds.specs.declared.authority.Authority.TheVariants.{Receive}
-use Rattle.auth_kinds.specs.declared.edge.Edge.{Edge}
+use Rattle.cap_model.specs.declared.authority.Authority.TheVariants.{Receive}
+use Rattle.cap_model.specs.declared.edge.Edge.{Edge}
 use Rattle.label_flow.proofs.Listing.{below_more}
 use Rattle.label_flow.proofs.edges.count_of.Goals as goal
 

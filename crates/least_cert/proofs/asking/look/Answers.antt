@@ -1,6 +1,6 @@
 use Rattle.std.proofs.Common.{◌≡◌, ◌∙◌, true, List, subst}
-use Rattle.auth_kinds.specs.Tables.{has}
-use Rattle.auth_kinds.specs.declared.edge.Edge.{Edge}
+use Rattle.cap_model.specs.Tables.{has}
+use Rattle.cap_model.specs.declared.edge.Edge.{Edge}
 use Rattle.least_cert.specs.Closing.{AddsAll, GivesAll}
 use Rattle.least_cert.proofs.Asks.{looks_at}
 use Rattle.least_cert.proofs.Growth.{gift_moves, least_moves}

@@ -1,7 +1,7 @@
 use Rattle.std.proofs.Common.{◌≡◌, Some, slice_get, refl}
 use Rattle.std.proofs.lemmas.Option.{slice_get_read}
-use Rattle.auth_graph.proofs.Gathering.{first_more, all_first}
-use Rattle.auth_kinds.specs.ObjectLabels.{label_of}
+use Rattle.cap_machine.proofs.Gathering.{first_more, all_first}
+use Rattle.cap_model.specs.ObjectLabels.{label_of}
 use Rattle.cap_model.specs.declared.spec.Entry.{Entry}
 use Rattle.least_cert.specs.BootEdges.{OfHolder, OfOther}
 use Rattle.least_cert.proofs.boot.gathered.Goals as goal

@@ -1,7 +1,7 @@
 use Rattle.std.proofs.Common.{[]}
-use Rattle.auth_kinds.specs.Adds.{Adds}
-use Rattle.auth_kinds.specs.ObjectLabels.{label_of}
-use Rattle.auth_graph.proofs.Gathering.{OfFirst}
+use Rattle.cap_model.specs.Adds.{Adds}
+use Rattle.cap_model.specs.ObjectLabels.{label_of}
+use Rattle.cap_machine.proofs.Gathering.{OfFirst}
 use Rattle.cap_model.specs.declared.spec.Entry.{Entry}
 use Rattle.least_cert.specs.BootEdges.{OfHolder, OfOther}
 use Rattle.least_cert.proofs.boot.gathered.Given as goal

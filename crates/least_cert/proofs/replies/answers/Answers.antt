@@ -1,7 +1,7 @@
 use Rattle.std.proofs.Common.{[], List, arith, subst, sym}
-use Rattle.auth_graph.proofs.Gathering.{OfFirst, all_first, first_more_at, none_first}
-use Rattle.auth_kinds.specs.Adds.{Adds}
-use Rattle.auth_kinds.specs.declared.edge.Edge.{Edge}
+use Rattle.cap_machine.proofs.Gathering.{OfFirst, all_first, first_more_at, none_first}
+use Rattle.cap_model.specs.Adds.{Adds}
+use Rattle.cap_model.specs.declared.edge.Edge.{Edge}
 use Rattle.least_cert.specs.Closing.{IsAnswer}
 use Rattle.least_cert.proofs.Growth.{no_edge}
 use Rattle.least_cert.proofs.Spreading.{are_replies, first_answers, receivers_less}

@@ -1,7 +1,7 @@
 use Rattle.std.proofs.Common.{[]}
-use Rattle.auth_graph.proofs.Gathering.{OfFirst}
-use Rattle.auth_kinds.specs.Adds.{Adds}
-use Rattle.auth_kinds.specs.declared.edge.Edge.{Edge}
+use Rattle.cap_machine.proofs.Gathering.{OfFirst}
+use Rattle.cap_model.specs.Adds.{Adds}
+use Rattle.cap_model.specs.declared.edge.Edge.{Edge}
 use Rattle.least_cert.specs.Closing.{IsAnswer}
 use Rattle.least_cert.proofs.replies.answers.Given as goal
 

@@ -1,6 +1,6 @@
 use Rattle.std.proofs.Common.{◌≡◌, ◌∙◌, List, ap, subst, sym, true}
-use Rattle.auth_kinds.specs.Tables.{has}
-use Rattle.auth_kinds.specs.declared.edge.Edge.{Edge}
+use Rattle.cap_model.specs.Tables.{has}
+use Rattle.cap_model.specs.declared.edge.Edge.{Edge}
 use Rattle.least_cert.specs.Closing.{AreReplies, IsSpread}
 use Rattle.least_cert.proofs.Spreading.{all_least, made}
 use Rattle.least_cert.proofs.replies.certificate.Goals as goal

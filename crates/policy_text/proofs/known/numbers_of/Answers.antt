@@ -1,5 +1,5 @@
 use Rattle.std.proofs.Common.{◌∙◌, ap, sym, ℕ, Bool, ◌==◌, ◌||◌, ◌<◌, ◌^◌, take, is_some, arith}
-use Rattle.auth_kinds.specs.Policies.{label_name}
+use Rattle.cap_model.specs.Policies.{label_name}
 use Rattle.policy_text.proofs.KnownLabels.{named_more, has_more, small_more}
 use Rattle.policy_text.proofs.known.numbers_of.Goals as goal
 

@@ -1,7 +1,7 @@
 use Rattle.std.proofs.Common.{◌≡◌, ℕ, take, is_some}
 use Rattle.std.specs.BTreeSet.{contains}
 use Rattle.std.specs.Ordering.{nat_cmp}
-use Rattle.auth_kinds.specs.Policies.{label_name}
+use Rattle.cap_model.specs.Policies.{label_name}
 use Rattle.policy_text.specs.KnownNumbers.{IsSmall}
 use Rattle.policy_text.proofs.known.numbers_of.Given as goal
 

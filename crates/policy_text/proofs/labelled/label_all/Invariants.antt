@@ -1,6 +1,6 @@
 use Rattle.std.proofs.Common.{◌≡◌, ℕ, map, take, drop, Some}
 use Rattle.cap_model.specs.declared.spec.Entry.{Entry}
-use Rattle.spread_names.specs.Naming.{spread_found}
+use Rattle.name_tables.specs.Naming.{spread_found}
 use Rattle.policy_text.specs.Labelled.{first_unlabelled}
 use Rattle.policy_text.proofs.labelled.label_all.Given as goal
 

@@ -4,7 +4,7 @@ use Rattle.std.specs.Option.{option_or}
 use Rattle.std.specs.Str.{bytes_eq}
 use Rattle.cam_base.proofs.Bytes.{bytes_eq-sym}
 use Rattle.cam_base.proofs.Options.{option_or-none}
-use Rattle.spread_names.specs.Naming.{spread_found}
+use Rattle.name_tables.specs.Naming.{spread_found}
 use Rattle.policy_text.specs.Labelled.{object_label}
 use Rattle.policy_text.proofs.Labelling.{label_more}
 use Rattle.policy_text.proofs.labelled.labels_of.Goals as goal

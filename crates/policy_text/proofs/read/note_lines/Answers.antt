@@ -4,7 +4,7 @@ use Rattle.policy_text.specs.PolicyFaults.{is_edge}
 use Rattle.policy_text.specs.PolicyTexts.{body, told, form_fault, has_label}
 use Rattle.policy_text.proofs.Judging.{edges_step, form_some, forms_step, forms_fail, noted_edges, noted_numbers, numbers_step, notes_refused, told_on}
 use Rattle.policy_text.proofs.read.note_lines.Goals as goal
-use Rattle.text_lines.specs.LinesLeft.{line_of, lines_left}
+use Rattle.cam_base.specs.LinesLeft.{line_of, lines_left}
 
 pub loop-line-preserved : goal.loop-line-preserved
 loop-line-preserved c =

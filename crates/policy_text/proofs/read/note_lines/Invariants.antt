@@ -5,7 +5,7 @@ use Rattle.policy_text.specs.PolicyFaults.{edges_limit, is_edge}
 use Rattle.policy_text.specs.PolicyTexts.{body, told, form_fault, has_label}
 use Rattle.policy_text.specs.WordSets.{has}
 use Rattle.policy_text.proofs.read.note_lines.Given as goal
-use Rattle.text_lines.specs.LinesLeft.{lines_left}
+use Rattle.cam_base.specs.LinesLeft.{lines_left}
 
 abbrev pub invariant-loop-line : goal.invariant-loop-line
 invariant-loop-line l = record {

@@ -1,6 +1,6 @@
 use Rattle.std.proofs.Common.{◌∙◌, sym, arith}
 use Rattle.std.proofs.lemmas.Option.{get_or_from_slice_get, slice_get-get_or}
-use Rattle.auth_kinds.specs.declared.authority.Authority.TheVariants.{Receive}
+use Rattle.cap_model.specs.declared.authority.Authority.TheVariants.{Receive}
 use Rattle.cam_io.proofs.Lines.{lines_begin, lines_end, lines_fail, lines_step}
 use Rattle.cam_io.proofs.Sequence.{writes_exit}
 use Rattle.policy_text.specs.PolicyLines.{edge_line}

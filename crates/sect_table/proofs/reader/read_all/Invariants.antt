@@ -1,6 +1,6 @@
 use Rattle.std.proofs.Common.{◌≡◌, ◌++◌, length}
 use Rattle.sect_table.specs.Tables.{first_bad, sections_of}
-use Rattle.text_lines.specs.LinesLeft.{lines_left}
+use Rattle.cam_base.specs.LinesLeft.{lines_left}
 use Rattle.sect_table.proofs.reader.read_all.Given as goal
 
 abbrev pub invariant-loop-line : goal.invariant-loop-line

@@ -1,5 +1,5 @@
 use Rattle.std.proofs.Common.{sym, subst}
-use Rattle.program_sections.specs.Numbered.{AreNumbered}
+use Rattle.source_images.specs.Numbered.{AreNumbered}
 use Rattle.source_images.specs.Found.{table_names}
 use Rattle.source_images.proofs.ImageNumbers.{images_numbered}
 use Rattle.source_images.proofs.TableReads.{found_count}

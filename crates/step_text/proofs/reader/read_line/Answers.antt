@@ -1,7 +1,7 @@
 use Rattle.std.proofs.Common.{◌∙◌, ap}
 use Rattle.step_text.specs.Found.{found_in}
-use Rattle.text_lines.specs.LinesLeft.{line_of}
-use Rattle.text_lines.specs.Texts.{texts}
+use Rattle.cam_base.specs.LinesLeft.{line_of}
+use Rattle.cam_base.specs.LineTexts.{texts}
 use Rattle.step_text.proofs.Reading.{line_step, line_fault}
 use Rattle.step_text.proofs.reader.read_line.Goals as goal
 

@@ -1,6 +1,6 @@
 use Rattle.std.proofs.Common.{◌∙◌, ap, arith}
 use Rattle.step_text.specs.Found.{found_in}
-use Rattle.text_lines.specs.LinesLeft.{line_of, lines_left}
+use Rattle.cam_base.specs.LinesLeft.{line_of, lines_left}
 use Rattle.step_text.specs.StepTexts.{first_fault_of}
 use Rattle.step_text.proofs.Reading.{text_refused, passed_on}
 use Rattle.step_text.proofs.reader.read_steps.Goals as goal

@@ -1,8 +1,8 @@
 use Rattle.std.proofs.Common.{◌≡◌, ◌++◌, length}
 use Rattle.std.specs.List.{filter_map}
 use Rattle.step_text.specs.Found.{found_in}
-use Rattle.text_lines.specs.Lines.{lines}
-use Rattle.text_lines.specs.LinesLeft.{lines_left}
+use Rattle.cam_base.specs.Lines.{lines}
+use Rattle.cam_base.specs.LinesLeft.{lines_left}
 use Rattle.step_text.specs.StepTexts.{first_fault_of, step_of}
 use Rattle.step_text.proofs.reader.read_steps.Given as goal
 

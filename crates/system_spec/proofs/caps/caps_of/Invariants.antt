@@ -1,6 +1,6 @@
 use Rattle.std.proofs.Common.{◌≡◌, ◌+◌, ◌∷◌, [], take}
 use Rattle.cspace_layout.specs.declared.plan.SlotUse.{SlotUse}
-use Rattle.numbering.specs.Gather.{gather}
+use Rattle.cam_base.specs.Gather.{gather}
 use Rattle.system_spec.specs.declared.part.What.TheVariants.{LockOf}
 use Rattle.system_spec.specs.Objects.{use_cap}
 use Rattle.system_spec.specs.Parts.{place}

@@ -3,9 +3,9 @@ use Rattle.adl_meaning.specs.declared.connector.Connector.{Connector}
 use Rattle.adl_meaning.specs.declared.connector.Connector.TheVariants.{Rpc, Notification, SharedMemory, Mmio, Interrupt, Direct}
 use Rattle.adl_meaning.specs.declared.flat.FlatConnection.{FlatConnection}
 use Rattle.arch_policy.specs.declared.owner.Owner.{Owner}
-use Rattle.numbering.proofs.Gathered.{gather_turn}
-use Rattle.numbering.specs.Gather.{gather, before}
-use Rattle.numbering.proofs.Lists.{taken_le}
+use Rattle.cam_base.proofs.Gathered.{gather_turn}
+use Rattle.cam_base.specs.Gather.{gather, before}
+use Rattle.cam_base.proofs.NumberedLists.{taken_le}
 use Rattle.system_spec.specs.Few.{AreFew}
 use Rattle.system_spec.specs.Objects.{line, line_by}
 use Rattle.system_spec.specs.Parts.{first_of, irq, irq_by}

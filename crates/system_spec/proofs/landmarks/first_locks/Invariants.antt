@@ -1,6 +1,6 @@
 use Rattle.std.proofs.Common.{◌≡◌, ◌+◌, ◌∷◌, [], length, take}
 use Rattle.adl_meaning.specs.declared.flat.Domain.{Domain}
-use Rattle.numbering.specs.Gather.{gather}
+use Rattle.cam_base.specs.Gather.{gather}
 use Rattle.system_spec.specs.declared.part.What.TheVariants.{LockOf}
 use Rattle.system_spec.specs.Parts.{domain_locks, first_of, place}
 use Rattle.system_spec.specs.Told.{told}

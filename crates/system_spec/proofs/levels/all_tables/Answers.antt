@@ -7,7 +7,7 @@ use Rattle.page_tables.specs.Levels.{layers, level_of}
 use Rattle.page_tables.specs.Shapes.{shapes}
 use Rattle.system_spec.specs.Tables.{arch, pages_at}
 use Rattle.page_tables.proofs.Leveled.{as_many}
-use Rattle.numbering.specs.Gather.{gather}
+use Rattle.cam_base.specs.Gather.{gather}
 use Rattle.vspace_layout.proofs.Joining.{gather_mapped}
 use Rattle.system_spec.proofs.Turning.{place_turn}
 use Rattle.system_spec.proofs.levels.all_tables.Goals as goal

@@ -2,7 +2,7 @@ use Rattle.std.proofs.Common.{◌∷◌, [], get_or, refl}
 use Rattle.std.proofs.lemmas.List.{get_or_default}
 use Rattle.cap_model.specs.declared.level.Level.{Level}
 use Rattle.cap_model.specs.declared.level.Level.TheVariants.{Global}
-use Rattle.numbering.proofs.Gathered.{gather_turn}
+use Rattle.cam_base.proofs.Gathered.{gather_turn}
 use Rattle.system_spec.specs.Parts.{page_table}
 use Rattle.system_spec.proofs.levels.push_page_tables.Goals as goal
 

@@ -1,6 +1,6 @@
 use Rattle.std.proofs.Common.{◌≡◌, ◌∷◌, [], ◌++◌, take}
 use Rattle.cap_model.specs.declared.level.Level.{Level}
-use Rattle.numbering.specs.Gather.{gather}
+use Rattle.cam_base.specs.Gather.{gather}
 use Rattle.system_spec.specs.Parts.{page_table}
 use Rattle.system_spec.proofs.levels.push_page_tables.Given as goal
 

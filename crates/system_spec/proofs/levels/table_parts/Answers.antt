@@ -2,7 +2,7 @@ use Rattle.std.proofs.Common.{◌∷◌, [], ◌++◌, ◌∙◌, get_or, take, 
 use Rattle.std.proofs.lemmas.List.{get_or_default}
 use Rattle.arch_policy.specs.declared.owner.Owner.TheVariants.{OfDomain}
 use Rattle.cap_model.specs.declared.level.Level.TheVariants.{Global}
-use Rattle.numbering.proofs.Gathered.{gather_turn}
+use Rattle.cam_base.proofs.Gathered.{gather_turn}
 use Rattle.system_spec.specs.declared.part.PageTable.{PageTable}
 use Rattle.system_spec.specs.declared.part.What.TheVariants.{TableOf}
 use Rattle.system_spec.specs.LevelNumbers.{counted, one_more}

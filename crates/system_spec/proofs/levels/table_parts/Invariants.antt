@@ -1,5 +1,5 @@
 use Rattle.std.proofs.Common.{◌≡◌, ◌∷◌, [], take}
-use Rattle.numbering.specs.Gather.{gather}
+use Rattle.cam_base.specs.Gather.{gather}
 use Rattle.system_spec.specs.declared.part.PageTable.{PageTable}
 use Rattle.system_spec.specs.LevelNumbers.{counts_in}
 use Rattle.system_spec.specs.Parts.{table_part}

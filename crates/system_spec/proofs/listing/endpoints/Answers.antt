@@ -1,5 +1,5 @@
 use Rattle.std.proofs.Common.{[], refl}
-use Rattle.numbering.proofs.Gathered.{gather_turn}
+use Rattle.cam_base.proofs.Gathered.{gather_turn}
 use Rattle.system_spec.specs.Parts.{endpoint}
 use Rattle.system_spec.proofs.listing.endpoints.Goals as goal
 

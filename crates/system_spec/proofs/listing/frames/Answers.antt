@@ -1,7 +1,7 @@
 use Rattle.std.proofs.Common.{◌∷◌, [], ◌++◌, ◌∙◌, refl, ap, sym}
 use Rattle.std.proofs.lemmas.List.{take_all}
-use Rattle.numbering.specs.Gather.{gather}
-use Rattle.numbering.proofs.Gathered.{gather_turn}
+use Rattle.cam_base.specs.Gather.{gather}
+use Rattle.cam_base.proofs.Gathered.{gather_turn}
 use Rattle.vspace_layout.specs.declared.spaces.FrameInfo.{FrameInfo}
 use Rattle.system_spec.specs.declared.part.Owned.{Owned}
 use Rattle.system_spec.specs.declared.part.What.TheVariants.{FrameOf}

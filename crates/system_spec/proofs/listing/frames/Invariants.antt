@@ -1,5 +1,5 @@
 use Rattle.std.proofs.Common.{◌≡◌, ◌∷◌, [], take}
-use Rattle.numbering.specs.Gather.{gather}
+use Rattle.cam_base.specs.Gather.{gather}
 use Rattle.vspace_layout.specs.declared.spaces.FrameInfo.{FrameInfo}
 use Rattle.system_spec.specs.declared.part.What.TheVariants.{FrameOf}
 use Rattle.system_spec.specs.declared.series.Series.TheVariants.{Frame}

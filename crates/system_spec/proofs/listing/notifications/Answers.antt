@@ -1,5 +1,5 @@
 use Rattle.std.proofs.Common.{[], refl}
-use Rattle.numbering.proofs.Gathered.{gather_turn}
+use Rattle.cam_base.proofs.Gathered.{gather_turn}
 use Rattle.system_spec.specs.Parts.{notification}
 use Rattle.system_spec.proofs.listing.notifications.Goals as goal
 

@@ -1,5 +1,5 @@
 use Rattle.std.proofs.Common.{length, ap, ◌∙◌, arith}
-use Rattle.numbering.specs.Gather.{gather}
+use Rattle.cam_base.specs.Gather.{gather}
 use Rattle.system_spec.specs.Parts.{irq}
 use Rattle.system_spec.specs.Told.{told}
 use Rattle.system_spec.proofs.Bounds.{bounds}

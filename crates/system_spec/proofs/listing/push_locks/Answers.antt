@@ -1,6 +1,6 @@
 use Rattle.std.proofs.Common.{get_or, refl}
 use Rattle.std.proofs.lemmas.List.{get_or_default}
-use Rattle.numbering.proofs.Gathered.{gather_turn}
+use Rattle.cam_base.proofs.Gathered.{gather_turn}
 use Rattle.cspace_layout.specs.declared.plan.SlotUse.TheVariants.{OfEnd}
 use Rattle.system_spec.specs.Parts.{lock}
 use Rattle.system_spec.proofs.listing.push_locks.Goals as goal

@@ -1,7 +1,7 @@
 use Rattle.std.proofs.Common.{length, ap, ◌∙◌, arith}
 use Rattle.system_spec.specs.Told.{told}
 use Rattle.system_spec.proofs.Bounds.{bounds}
-use Rattle.numbering.proofs.Gathered.{gather_ones}
+use Rattle.cam_base.proofs.Gathered.{gather_ones}
 use Rattle.vspace_layout.specs.declared.spaces.FrameInfo.{FrameInfo}
 use Rattle.system_spec.specs.declared.part.What.TheVariants.{FrameOf}
 use Rattle.system_spec.specs.Parts.{owned}

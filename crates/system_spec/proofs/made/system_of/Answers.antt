@@ -1,11 +1,11 @@
 use Rattle.std.proofs.Common.{◌∙◌, ◌++◌, ℕ, [], List, ap, map, refl, subst, arith}
-use Rattle.auth_kinds.specs.declared.object_labels.Labels.{Labels}
+use Rattle.cap_model.specs.declared.object_labels.Labels.{Labels}
 use Rattle.cap_model.specs.declared.level.Arch.{Arch}
 use Rattle.cap_model.specs.declared.spec.Entry.{Entry}
 use Rattle.cap_model.specs.declared.spec.Spec.{Spec}
-use Rattle.numbering.specs.Gather.{IsIn}
-use Rattle.numbering.proofs.Gathered.{gather_turn}
-use Rattle.numbering.proofs.Lists.{read_place}
+use Rattle.cam_base.specs.Gather.{IsIn}
+use Rattle.cam_base.proofs.Gathered.{gather_turn}
+use Rattle.cam_base.proofs.NumberedLists.{read_place}
 use Rattle.system_spec.specs.declared.part.Part.{Part}
 use Rattle.system_spec.specs.Made.{entry, part_label}
 use Rattle.system_spec.specs.Parts.{parts, sections, together}

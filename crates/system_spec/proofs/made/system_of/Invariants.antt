@@ -1,5 +1,5 @@
 use Rattle.std.proofs.Common.{◌≡◌, List, map, take}
-use Rattle.numbering.specs.Gather.{gather}
+use Rattle.cam_base.specs.Gather.{gather}
 use Rattle.system_spec.specs.declared.part.Part.{Part}
 use Rattle.system_spec.specs.Made.{entry, part_label}
 use Rattle.system_spec.specs.Told.{told}

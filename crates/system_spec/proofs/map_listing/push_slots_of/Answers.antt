@@ -5,7 +5,7 @@ use Rattle.std.proofs.lemmas.List.{get_or_default}
 use Rattle.cspace_layout.specs.declared.plan.SlotUse.{SlotUse}
 use Rattle.cspace_layout.specs.declared.plan.SlotUse.TheVariants.{OfEnd}
 use Rattle.cap_model.specs.declared.cap.Cap.{Cap}
-use Rattle.numbering.proofs.Gathered.{gather_turn}
+use Rattle.cam_base.proofs.Gathered.{gather_turn}
 use Rattle.system_spec.specs.MapLines.{slot_line}
 use Rattle.system_spec.specs.Objects.{use_cap, use_cap_at}
 use Rattle.system_spec.specs.Ready.{AreNamed}

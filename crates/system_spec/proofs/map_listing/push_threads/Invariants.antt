@@ -1,6 +1,6 @@
 use Rattle.std.proofs.Common.{◌≡◌, ◌+◌, ◌++◌, take}
 use Rattle.adl_meaning.specs.declared.flat.Domain.{Domain}
-use Rattle.numbering.specs.Gather.{gather, before}
+use Rattle.cam_base.specs.Gather.{gather, before}
 use Rattle.system_spec.specs.MapLines.{domain_threads}
 use Rattle.system_spec.specs.Parts.{domain_tcbs}
 use Rattle.system_spec.specs.Told.{told}

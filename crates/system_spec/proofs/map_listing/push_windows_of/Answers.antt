@@ -1,7 +1,7 @@
 use Rattle.std.proofs.Common.{◌∷◌, [], get_or, refl, arith}
 use Rattle.std.proofs.lemmas.List.{get_or_default}
-use Rattle.numbering.proofs.Gathered.{gather_turn}
-use Rattle.numbering.proofs.Lists.{read_in}
+use Rattle.cam_base.proofs.Gathered.{gather_turn}
+use Rattle.cam_base.proofs.NumberedLists.{read_in}
 use Rattle.vspace_layout.specs.declared.spaces.Window.{Window}
 use Rattle.system_spec.specs.MapLines.{window_line}
 use Rattle.system_spec.proofs.map_listing.push_windows_of.Goals as goal

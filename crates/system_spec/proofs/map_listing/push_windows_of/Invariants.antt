@@ -1,5 +1,5 @@
 use Rattle.std.proofs.Common.{◌≡◌, ◌∷◌, [], ◌++◌, take}
-use Rattle.numbering.specs.Gather.{gather}
+use Rattle.cam_base.specs.Gather.{gather}
 use Rattle.vspace_layout.specs.declared.spaces.Window.{Window}
 use Rattle.system_spec.specs.MapLines.{window_line}
 use Rattle.system_spec.proofs.map_listing.push_windows_of.Given as goal

@@ -1,5 +1,5 @@
 use Rattle.std.proofs.Common.{◌≡◌, ◌+◌, ◌∷◌, [], length, take}
-use Rattle.numbering.specs.Gather.{gather, before}
+use Rattle.cam_base.specs.Gather.{gather, before}
 use Rattle.system_spec.specs.Places.{mark}
 use Rattle.system_spec.proofs.places.places_from.Given as goal
 

@@ -1,6 +1,6 @@
 use Rattle.std.proofs.Common.{◌∙◌, List, length, ap, arith}
 use Rattle.adl_meaning.specs.declared.flat.FlatConnection.{FlatConnection}
-use Rattle.numbering.specs.Gather.{gather}
+use Rattle.cam_base.specs.Gather.{gather}
 use Rattle.system_spec.specs.declared.places.Standing.TheVariants as standings
 use Rattle.system_spec.specs.Places.{mark, places_from}
 use Rattle.system_spec.specs.Told.{told}

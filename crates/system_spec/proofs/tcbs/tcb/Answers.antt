@@ -1,7 +1,7 @@
 use Rattle.std.proofs.Common.{◌+◌, ◌∙◌, List, ap, map, arith, sym, subst}
 use Rattle.std.specs.Option.{option_map}
 use Rattle.conn_rules.specs.Row.{RW}
-use Rattle.numbering.specs.Gather.{IsIn}
+use Rattle.cam_base.specs.Gather.{IsIn}
 use Rattle.page_tables.specs.Runs.{Rises}
 use Rattle.vspace_layout.specs.declared.spaces.Page.{Page}
 use Rattle.system_spec.specs.Landmarks.{root_in}

@@ -1,8 +1,8 @@
 use Rattle.std.proofs.Common.{◌≡◌, ◌∙◌, sym, refl, ap, arith, take_all, ◌++◌}
 use Rattle.std.proofs.lemmas.Option.{get_or_from_slice_get, slice_get-get_or}
-use Rattle.auth_kinds.specs.declared.authority.Authority.TheVariants.{Receive}
-use Rattle.numbering.specs.Gather.{gather}
-use Rattle.numbering.proofs.Gathered.{gather_turn}
+use Rattle.cap_model.specs.declared.authority.Authority.TheVariants.{Receive}
+use Rattle.cam_base.specs.Gather.{gather}
+use Rattle.cam_base.proofs.Gathered.{gather_turn}
 use Rattle.view_text.specs.Graphs.{arrow_line, note_at}
 use Rattle.view_text.proofs.graph.add_arrows.Goals as goal
 use Rattle.view_text.proofs.graph.add_arrows.Goals.{in-Some+in_ok-add_arrow, in_default}

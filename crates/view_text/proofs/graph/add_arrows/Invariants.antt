@@ -1,5 +1,5 @@
 use Rattle.std.proofs.Common.{◌≡◌, ◌++◌, take}
-use Rattle.numbering.specs.Gather.{gather}
+use Rattle.cam_base.specs.Gather.{gather}
 use Rattle.view_text.specs.Graphs.{arrow_line, note_at}
 use Rattle.view_text.proofs.graph.add_arrows.Given as goal
 

@@ -1,7 +1,7 @@
 use Rattle.std.proofs.Common.{◌≡◌, ◌≤◌, ◌+◌, ◌-◌, ◌^◌, drop, map}
 use Rattle.std.specs.Prelude.{sum}
 use Rattle.adl_meaning.specs.declared.flat.Domain.{Domain}
-use Rattle.program_sections.specs.ByAddress.{section_page_count}
+use Rattle.source_images.specs.ByAddress.{section_page_count}
 use Rattle.vspace_layout.specs.declared.outline.Outline.{Outline}
 use Rattle.vspace_layout.specs.Counted.{capped}
 use Rattle.vspace_layout.specs.Outlines.{counted_by}

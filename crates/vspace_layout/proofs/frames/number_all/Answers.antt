@@ -1,7 +1,7 @@
 use Rattle.std.proofs.Common.{◌≡◌, ◌∙◌, ◌+◌, ◌++◌, ◌∷◌, [], ap, append_assoc, sym, length, List, ℕ, arith}
 use Rattle.std.specs.Vec.Iter.{into_iter_len}
-use Rattle.numbering.specs.Gather.{before, gather}
-use Rattle.numbering.proofs.Gathered.{length_append}
+use Rattle.cam_base.specs.Gather.{before, gather}
+use Rattle.cam_base.proofs.Gathered.{length_append}
 use Rattle.vspace_layout.specs.declared.mapped.MappedPage.{MappedPage}
 use Rattle.vspace_layout.specs.declared.spaces.Page.{Page}
 use Rattle.vspace_layout.specs.FrameNumbers.{own_added, pages_numbered}

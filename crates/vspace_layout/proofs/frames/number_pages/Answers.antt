@@ -1,8 +1,8 @@
 use Rattle.std.proofs.Common.{◌≡◌, ◌∙◌, ◌++◌, ◌∷◌, [], ap, sym, length, List, ℕ, arith}
 use Rattle.std.specs.Vec.Iter.{into_iter_len}
-use Rattle.numbering.specs.Gather.{gather}
-use Rattle.numbering.proofs.Gathered.{length_append}
-use Rattle.numbering.proofs.Lists.{below}
+use Rattle.cam_base.specs.Gather.{gather}
+use Rattle.cam_base.proofs.Gathered.{length_append}
+use Rattle.cam_base.proofs.NumberedLists.{below}
 use Rattle.vspace_layout.specs.declared.mapped.MappedPage.{MappedPage}
 use Rattle.vspace_layout.specs.declared.spaces.FrameInfo.{FrameInfo}
 use Rattle.vspace_layout.specs.declared.spaces.Page.{Page}

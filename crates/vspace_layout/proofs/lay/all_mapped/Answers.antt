@@ -1,9 +1,9 @@
 use Rattle.std.proofs.Common.{◌≡◌, ◌<◌, ◌∙◌, ◌++◌, ◌∷◌, [], ap, get_or, length, refl, subst, sym, List, arith}
 use Rattle.std.proofs.lemmas.Option.{get_or_from_slice_get}
 use Rattle.adl_meaning.specs.declared.flat.Domain.{Domain}
-use Rattle.numbering.proofs.Gathered.{gather_turn, in_place}
-use Rattle.numbering.proofs.Lists.{read_in, read_place}
-use Rattle.program_sections.specs.Numbered.{AreApart}
+use Rattle.cam_base.proofs.Gathered.{gather_turn, in_place}
+use Rattle.cam_base.proofs.NumberedLists.{read_in, read_place}
+use Rattle.source_images.specs.Numbered.{AreApart}
 use Rattle.vspace_layout.specs.declared.outline.Outline.{Outline}
 use Rattle.vspace_layout.specs.Outlines.{AreFew, mapped_of, no_outline}
 use Rattle.vspace_layout.proofs.lay.all_mapped.Goals as goal

@@ -1,6 +1,6 @@
 use Rattle.std.proofs.Common.{◌∙◌, ap, sym}
 use Rattle.std.specs.Prelude.{codes, sum}
-use Rattle.program_sections.proofs.Free.{free_apart}
+use Rattle.source_images.proofs.Free.{free_apart}
 use Rattle.vspace_layout.specs.Counted.{capped, limit_over}
 use Rattle.vspace_layout.specs.Given.{given}
 use Rattle.vspace_layout.specs.Outlines.{counted_by, outlines}

@@ -1,6 +1,6 @@
 use Rattle.std.proofs.Common.{◌∙◌, ap, map, sym, subst, List}
 use Rattle.std.specs.Prelude.{codes, sum}
-use Rattle.program_sections.specs.Images.{sections_end}
+use Rattle.source_images.specs.Images.{sections_end}
 use Rattle.vspace_layout.specs.declared.mapped.MappedPage.{MappedPage}
 use Rattle.vspace_layout.specs.Counted.{capped, limit_over, tables_of}
 use Rattle.vspace_layout.specs.Given.{arch, base, ends, given}

@@ -1,6 +1,6 @@
 use Rattle.std.proofs.Common.{◌∙◌, ◌++◌, ap, sym, subst, length, List, ℕ}
-use Rattle.numbering.specs.Gather.{gather}
-use Rattle.program_sections.specs.Images.{arch_of, sections_end}
+use Rattle.cam_base.specs.Gather.{gather}
+use Rattle.source_images.specs.Images.{arch_of, sections_end}
 use Rattle.vspace_layout.specs.MappedPages.{region_part, section_part}
 use Rattle.vspace_layout.specs.Outlines.{RegionsFit, starting, starts_in}
 use Rattle.vspace_layout.proofs.Starting.{low_base, regions_fit, starting_same, starts_length}

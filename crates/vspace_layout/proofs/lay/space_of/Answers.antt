@@ -1,5 +1,5 @@
 use Rattle.std.proofs.Common.{◌∙◌, ap, sym, subst, length, List, ℕ, arith}
-use Rattle.leaf_ends.specs.declared.end_at.EndAt.{EndAt}
+use Rattle.cspace_layout.specs.declared.end_at.EndAt.{EndAt}
 use Rattle.vspace_layout.specs.declared.thread.ThreadOf.{ThreadOf}
 use Rattle.vspace_layout.specs.Outlines.{AreFew, StacksFit, starts_in}
 use Rattle.vspace_layout.specs.Regions.{regions_in}

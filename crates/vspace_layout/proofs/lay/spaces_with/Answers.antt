@@ -2,8 +2,8 @@ use Rattle.std.proofs.Common.{◌≡◌, ◌<◌, ◌∙◌, ◌++◌, ◌∷◌
 use Rattle.std.specs.List.{slice_get}
 use Rattle.std.specs.Vec.Iter.{into_iter_len}
 use Rattle.std.proofs.lemmas.Option.{get_or_from_slice_get}
-use Rattle.numbering.proofs.Gathered.{gather_turn, in_place, length_append}
-use Rattle.numbering.proofs.Lists.{below, read_place}
+use Rattle.cam_base.proofs.Gathered.{gather_turn, in_place, length_append}
+use Rattle.cam_base.proofs.NumberedLists.{below, read_place}
 use Rattle.vspace_layout.specs.declared.outline.Outline.{Outline}
 use Rattle.vspace_layout.specs.declared.spaces.Page.{Page}
 use Rattle.vspace_layout.specs.Outlines.{space_in}

@@ -1,6 +1,6 @@
 use Rattle.std.proofs.Common.{◌≡◌, ◌∷◌, [], length, take}
 use Rattle.std.specs.Prelude.{slice_index_or}
-use Rattle.numbering.specs.Gather.{gather}
+use Rattle.cam_base.specs.Gather.{gather}
 use Rattle.vspace_layout.specs.declared.outline.Outline.{Outline}
 use Rattle.vspace_layout.specs.Outlines.{space_in}
 use Rattle.vspace_layout.proofs.lay.spaces_with.Given as goal

@@ -1,5 +1,5 @@
 use Rattle.std.proofs.Common.{◌≡◌, ◌++◌, take}
-use Rattle.numbering.specs.Gather.{gather}
+use Rattle.cam_base.specs.Gather.{gather}
 use Rattle.vspace_layout.specs.Outlines.{starting}
 use Rattle.vspace_layout.proofs.mapped.push_regions.Given as goal
 

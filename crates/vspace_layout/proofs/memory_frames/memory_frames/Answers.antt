@@ -1,5 +1,5 @@
 use Rattle.std.proofs.Common.{◌∙◌, ◌++◌, ap, sym, subst, length, List}
-use Rattle.numbering.specs.Gather.{gather}
+use Rattle.cam_base.specs.Gather.{gather}
 use Rattle.vspace_layout.specs.declared.spaces.FrameInfo.{FrameInfo}
 use Rattle.vspace_layout.specs.FrameNumbers.{AreFirsts, firsts_from, places_of}
 use Rattle.vspace_layout.specs.Frames.{register_frames, shared_frames}

@@ -1,8 +1,8 @@
 use Rattle.std.proofs.Common.{◌∙◌, ◌+◌, ◌++◌, ◌∷◌, [], ap, length}
 use Rattle.adl_meaning.specs.declared.flat.FlatConnection.{FlatConnection}
-use Rattle.numbering.specs.Gather.{before}
-use Rattle.numbering.proofs.Gathered.{gather_turn}
-use Rattle.numbering.proofs.Lists.{read_place}
+use Rattle.cam_base.specs.Gather.{before}
+use Rattle.cam_base.proofs.Gathered.{gather_turn}
+use Rattle.cam_base.proofs.NumberedLists.{read_place}
 use Rattle.vspace_layout.specs.FrameNumbers.{frames_by}
 use Rattle.vspace_layout.specs.Frames.{register_frames}
 use Rattle.vspace_layout.proofs.MemoryNumbers.{first_read, frames_by_first, places_more}

@@ -1,6 +1,6 @@
 use Rattle.std.proofs.Common.{◌≡◌, ◌+◌, ◌++◌, ◌∷◌, [], length, take}
 use Rattle.adl_meaning.specs.declared.flat.FlatConnection.{FlatConnection}
-use Rattle.numbering.specs.Gather.{before, gather}
+use Rattle.cam_base.specs.Gather.{before, gather}
 use Rattle.vspace_layout.specs.Frames.{register_frames}
 use Rattle.vspace_layout.proofs.memory_frames.push_all_registers.Given as goal
 

@@ -1,7 +1,7 @@
 use Rattle.std.proofs.Common.{◌∙◌, ◌+◌, ◌++◌, ◌∷◌, [], ap, length, refl}
 use Rattle.adl_meaning.specs.declared.flat.FlatConnection.{FlatConnection}
-use Rattle.numbering.specs.Gather.{before}
-use Rattle.numbering.proofs.Gathered.{gather_turn}
+use Rattle.cam_base.specs.Gather.{before}
+use Rattle.cam_base.proofs.Gathered.{gather_turn}
 use Rattle.vspace_layout.specs.Frames.{shared_frames}
 use Rattle.vspace_layout.proofs.MemoryNumbers.{places_more}
 use Rattle.vspace_layout.proofs.memory_frames.push_all_shared.Goals as goal

@@ -1,6 +1,6 @@
 use Rattle.std.proofs.Common.{◌∙◌, ◌+◌, ◌++◌, ◌∷◌, [], ap, drop, refl}
 use Rattle.std.specs.List.{position_from}
-use Rattle.numbering.proofs.Lists.{read_place}
+use Rattle.cam_base.proofs.NumberedLists.{read_place}
 use Rattle.vspace_layout.specs.Ports.{first_at, first_number, leads_by}
 use Rattle.vspace_layout.specs.declared.ports.PortKey.{PortKey}
 use Rattle.vspace_layout.proofs.FirstPorts.{first_is, firsts_more, ports_more}

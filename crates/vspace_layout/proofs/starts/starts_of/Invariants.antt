@@ -1,5 +1,5 @@
 use Rattle.std.proofs.Common.{◌≡◌, ◌+◌, ◌*◌, ◌∷◌, [], take}
-use Rattle.numbering.specs.Gather.{gather}
+use Rattle.cam_base.specs.Gather.{gather}
 use Rattle.vspace_layout.specs.declared.region.Region.{Region}
 use Rattle.vspace_layout.specs.Regions.{pages_in, region_start}
 use Rattle.vspace_layout.proofs.starts.starts_of.Given as goal

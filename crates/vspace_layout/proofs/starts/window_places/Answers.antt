@@ -1,5 +1,5 @@
 use Rattle.std.proofs.Common.{◌∙◌, ◌+◌, ◌++◌, ◌∷◌, [], ap, get_or}
-use Rattle.leaf_ends.specs.declared.end_at.EndAt.{EndAt}
+use Rattle.cspace_layout.specs.declared.end_at.EndAt.{EndAt}
 use Rattle.vspace_layout.specs.Outlines.{start_at, window_place}
 use Rattle.vspace_layout.proofs.Laying.{seen_at}
 use Rattle.vspace_layout.proofs.MemoryNumbers.{copy_turn}

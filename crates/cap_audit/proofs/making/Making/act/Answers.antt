@@ -1,6 +1,6 @@
 use Rattle.std.proofs.Common.{◌≡◌, ◌≢◌, List, subst, true}
-use Rattle.auth_kinds.specs.Tables.{has}
-use Rattle.auth_kinds.specs.declared.edge.Edge.{Edge}
+use Rattle.cap_model.specs.Tables.{has}
+use Rattle.cap_model.specs.declared.edge.Edge.{Edge}
 use Rattle.cap_audit.specs.Picks.{OfDeed}
 use Rattle.cap_audit.proofs.Acting.{act_gains}
 use Rattle.cap_audit.proofs.Gaining.{settled_gains}

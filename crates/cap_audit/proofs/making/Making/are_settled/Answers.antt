@@ -1,6 +1,6 @@
 use Rattle.std.proofs.Common.{arith}
 use Rattle.std.proofs.lemmas.Option.{slice_get_within}
-use Rattle.auth_kinds.proofs.TableMembers.{at_has}
+use Rattle.cap_model.proofs.TableMembers.{at_has}
 use Rattle.cap_audit.proofs.making.Making.are_settled.Goals as goal
 
 pub returns : goal.returns

@@ -1,7 +1,7 @@
 use Rattle.std.proofs.Common.{◌↔◌, ℕ, subst}
 use Rattle.std.specs.Prelude.{IfOk}
-use Rattle.auth_kinds.specs.Tables.{Has}
-use Rattle.auth_kinds.specs.declared.authority.Authority.{Authority}
+use Rattle.cap_model.specs.Tables.{Has}
+use Rattle.cap_model.specs.declared.authority.Authority.{Authority}
 use Rattle.cap_model.specs.Auth.{Auth}
 use Rattle.cap_model.specs.State.{boot}
 use Rattle.cap_audit.specs.Gains.{Made}

@@ -1,6 +1,6 @@
 use Rattle.std.proofs.Common.{subst}
-use Rattle.auth_graph.specs.Sources.{OfCap}
-use Rattle.auth_kinds.specs.Adds.{Adds}
+use Rattle.cap_machine.specs.Sources.{OfCap}
+use Rattle.cap_model.specs.Adds.{Adds}
 use Rattle.cap_audit.specs.Gains.{Made}
 use Rattle.cap_audit.proofs.Gaining.{adds_only}
 use Rattle.cap_audit.proofs.making.Making.cap_edges.Goals as goal

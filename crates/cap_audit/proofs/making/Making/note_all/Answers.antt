@@ -1,7 +1,7 @@
 use Rattle.std.proofs.Common.{get_or, arith}
 use Rattle.std.proofs.lemmas.Option.{slice_get-get_or}
-use Rattle.auth_kinds.specs.declared.authority.Authority.TheVariants.{Receive}
-use Rattle.auth_kinds.specs.declared.edge.Edge.{Edge}
+use Rattle.cap_model.specs.declared.authority.Authority.TheVariants.{Receive}
+use Rattle.cap_model.specs.declared.edge.Edge.{Edge}
 use Rattle.cap_audit.proofs.Gaining.{before_all, before_more, before_none, before_one}
 use Rattle.cap_audit.proofs.making.Making.note_all.Goals as goal
 

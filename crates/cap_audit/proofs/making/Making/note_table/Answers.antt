@@ -1,5 +1,5 @@
 use Rattle.std.proofs.Common.{◌≡◌, Option, Some, arith, subst}
-use Rattle.auth_kinds.specs.declared.edge.Edge.{Edge}
+use Rattle.cap_model.specs.declared.edge.Edge.{Edge}
 use Rattle.cap_audit.specs.Gains.{Notes}
 use Rattle.cap_audit.proofs.Gaining.{before_all, before_more, before_none}
 use Rattle.cap_audit.proofs.making.Making.note_table.Goals as goal

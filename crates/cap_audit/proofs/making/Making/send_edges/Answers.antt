@@ -1,7 +1,7 @@
 use Rattle.std.proofs.Common.{subst}
-use Rattle.auth_graph.specs.Sources.{OfLink}
-use Rattle.auth_kinds.specs.Adds.{Adds}
-use Rattle.auth_kinds.specs.declared.authority.Authority.TheVariants.{AsyncSend}
+use Rattle.cap_machine.specs.Sources.{OfLink}
+use Rattle.cap_model.specs.Adds.{Adds}
+use Rattle.cap_model.specs.declared.authority.Authority.TheVariants.{AsyncSend}
 use Rattle.cap_audit.specs.Gains.{Made}
 use Rattle.cap_audit.proofs.Gaining.{link_only}
 use Rattle.cap_audit.proofs.making.Making.send_edges.Goals as goal

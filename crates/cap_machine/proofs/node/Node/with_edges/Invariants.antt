@@ -1,6 +1,6 @@
 use Rattle.std.proofs.Common.{ℕ, length}
-use Rattle.auth_kinds.specs.Adds.{Adds}
-use Rattle.auth_graph.proofs.Gathering.{OfFirst}
+use Rattle.cap_model.specs.Adds.{Adds}
+use Rattle.cap_machine.proofs.Gathering.{OfFirst}
 use Rattle.cap_model.specs.declared.state.Content.{Content}
 use Rattle.cap_machine.specs.StateSources.{OfContent}
 use Rattle.cap_machine.proofs.node.Node.with_edges.Given as goal

@@ -1,5 +1,5 @@
 use Rattle.std.proofs.Common.{◌≡◌, ℕ, List, Option, length, map, sym, subst, arith}
-use Rattle.auth_kinds.specs.declared.edge.Edge.{Edge}
+use Rattle.cap_model.specs.declared.edge.Edge.{Edge}
 use Rattle.label_flow.proofs.Turning.{is_placed, far_sources, finds_sources}
 use Rattle.label_flow.specs.Chain.{AreSources}
 use Rattle.label_flow.specs.Edges.{turned}

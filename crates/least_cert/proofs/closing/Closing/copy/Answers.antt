@@ -1,6 +1,6 @@
 use Rattle.std.proofs.Common.{◌≡◌, List, subst, true}
-use Rattle.auth_kinds.specs.Tables.{has}
-use Rattle.auth_kinds.specs.declared.edge.Edge.{Edge}
+use Rattle.cap_model.specs.Tables.{has}
+use Rattle.cap_model.specs.declared.edge.Edge.{Edge}
 use Rattle.least_cert.specs.Closing.{AddsAll}
 use Rattle.least_cert.proofs.Growth.{copies_made, copy_least}
 use Rattle.least_cert.proofs.closing.Closing.copy.Goals as goal

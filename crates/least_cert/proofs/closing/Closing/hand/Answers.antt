@@ -1,5 +1,5 @@
 use Rattle.std.proofs.Common.{subst}
-use Rattle.auth_kinds.specs.declared.edge.Edge.{Edge}
+use Rattle.cap_model.specs.declared.edge.Edge.{Edge}
 use Rattle.least_cert.specs.Closing.{IsLess, PutsGift}
 use Rattle.least_cert.proofs.Growth.{gift_given}
 use Rattle.least_cert.proofs.closing.Closing.hand.Goals as goal

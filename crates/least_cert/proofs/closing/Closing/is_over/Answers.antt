@@ -1,5 +1,5 @@
 use Rattle.std.proofs.Common.{subst}
-use Rattle.auth_kinds.specs.Tables.{IsSorted}
+use Rattle.cap_model.specs.Tables.{IsSorted}
 use Rattle.least_cert.specs.Closing.{Closure}
 use Rattle.least_cert.proofs.closing.Closing.is_over.Goals as goal
 

@@ -1,9 +1,9 @@
-use Rattle.auth_graph.proofs.Gathering.{OfFirst, all_first, first_more_at, none_first}
+use Rattle.cap_machine.proofs.Gathering.{OfFirst, all_first, first_more_at, none_first}
 use Rattle.std.specs.List.{filter_map}
 use Rattle.std.proofs.Common.{◌≡◌, ◌+◌, true, List, arith, length, refl, subst, sym}
-use Rattle.auth_kinds.specs.Adds.{Adds}
-use Rattle.auth_kinds.specs.Tables.{has}
-use Rattle.auth_kinds.specs.declared.edge.Edge.{Edge}
+use Rattle.cap_model.specs.Adds.{Adds}
+use Rattle.cap_model.specs.Tables.{has}
+use Rattle.cap_model.specs.declared.edge.Edge.{Edge}
 use Rattle.least_cert.specs.Closing.{stays}
 use Rattle.least_cert.proofs.Spreading.{copy_at, each_knows, is_spread, some_knows, spread_least}
 use Rattle.least_cert.proofs.closing.Closing.spread.Goals as goal

@@ -1,7 +1,7 @@
 use Rattle.std.specs.List.{filter_map}
 use Rattle.std.proofs.Common.{length}
-use Rattle.auth_graph.proofs.Gathering.{OfFirst}
-use Rattle.auth_kinds.specs.Adds.{Adds}
+use Rattle.cap_machine.proofs.Gathering.{OfFirst}
+use Rattle.cap_model.specs.Adds.{Adds}
 use Rattle.least_cert.specs.Closing.{stays}
 use Rattle.least_cert.proofs.Spreading.{copy_at}
 use Rattle.least_cert.proofs.closing.Closing.spread.Given as goal

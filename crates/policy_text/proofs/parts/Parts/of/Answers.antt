@@ -3,7 +3,7 @@ use Rattle.policy_text.specs.EntriesRead.{told_lines}
 use Rattle.policy_text.specs.PartsBuilt.{IsBuilt}
 use Rattle.policy_text.proofs.Judging.{told_more}
 use Rattle.policy_text.proofs.parts.Parts.of.Goals as goal
-use Rattle.text_lines.specs.LinesLeft.{line_of}
+use Rattle.cam_base.specs.LinesLeft.{line_of}
 
 pub loop-line-preserved : goal.loop-line-preserved
 loop-line-preserved c =

@@ -4,7 +4,7 @@ use Rattle.policy_text.specs.KnownNumbers.{knows}
 use Rattle.policy_text.specs.LinesSeen.{what}
 use Rattle.policy_text.proofs.Judging.{judged_right}
 use Rattle.policy_text.proofs.seen.Seen.read_line.Goals as goal
-use Rattle.text_lines.specs.LinesLeft.{line_of}
+use Rattle.cam_base.specs.LinesLeft.{line_of}
 
 pub returns-clause-judged : goal.returns-clause-judged
 returns-clause-judged c = λ before seen few.

@@ -1,0 +1,6 @@
+use Rattle.std.proofs.Common.{◌≡◌, ◌<◌, ℕ, true}
+use Rattle.adl_meaning.specs.Graph.{has}
+use Rattle.adl_hierarchy.proofs.cycles.push_unseen.Given as goal
+
+abbrev pub invariant-loop-number : goal.invariant-loop-number
+invariant-loop-number l = (x : ℕ) → has l.waiting.items x ≡ true → x < l.seen.size

@@ -1,0 +1,5 @@
+use Rattle.adl_hierarchy.specs.Cycles.{AreRoots}
+use Rattle.adl_hierarchy.proofs.cycles.roots_from.Given as goal
+
+abbrev pub invariant-loop-start : goal.invariant-loop-start
+invariant-loop-start l = AreRoots l.graph l.roots.items

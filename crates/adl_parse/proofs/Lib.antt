@@ -1,0 +1,5 @@
+pub mod Parts
+pub mod Words
+pub mod Starts
+pub mod Whole
+pub mod Answering

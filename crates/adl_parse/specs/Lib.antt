@@ -1,0 +1,12 @@
+pub mod Faults
+pub mod Parts
+pub mod Words
+pub mod Files
+pub mod Members
+pub use Rattle.adl_ast.specs.Codes
+pub use Rattle.adl_ast.specs.Forms
+pub use Rattle.adl_ast.specs.Seeing
+pub use Rattle.adl_ast.specs.Spelling
+pub use Rattle.cam_base.specs.Form
+pub use Rattle.cam_base.specs.Gives
+pub use Rattle.cam_base.specs.Reading

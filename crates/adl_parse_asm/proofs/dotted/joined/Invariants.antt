@@ -1,5 +1,0 @@
-use Rattle.std.proofs.Common.{◌≡◌, ◌∷◌}
-use Rattle.adl_parse_asm.proofs.dotted.joined.Given as goal
-
-abbrev pub invariant-loop-id : goal.invariant-loop-id
-invariant-loop-id l = l.ids ≡ l.fn.first ∷ l.fn.second ∷ l.yielded

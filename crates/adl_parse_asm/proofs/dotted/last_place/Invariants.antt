@@ -1,9 +1,0 @@
-use Rattle.std.proofs.Common.{◌≡◌, length}
-use Rattle.adl_ast.specs.Forms.{last_place}
-use Rattle.adl_parse_asm.proofs.dotted.last_place.Given as goal
-
-abbrev pub invariant-loop-rest : goal.invariant-loop-rest
-invariant-loop-rest l = last_place l.last l.rest ≡ last_place l.fn.place l.ids
-
-abbrev pub decreases-loop-rest : goal.decreases-loop-rest
-decreases-loop-rest l = length l.rest

@@ -1,8 +1,0 @@
-use Rattle.adl_parse_decl.proofs.Whole.{file_ok, file_refused}
-use Rattle.adl_parse_decl.proofs.file.parse_file.Goals as goal
-
-pub returns-in-Ok : goal.returns-in-Ok
-returns-in-Ok c = file_ok c.args.bytes.now c.args.tokens.now.list c.as_slice-tokens.result.now c.as_slice-tokens.ensures c.in-Ok.file c.in-Ok.ensures
-
-pub returns-in-Err : goal.returns-in-Err
-returns-in-Err c = file_refused c.args.bytes.now c.args.tokens.now.list c.as_slice-tokens.result.now c.as_slice-tokens.ensures c.in-Err.error c.refusal_of.result c.in-Err.ensures c.refusal_of.ensures

@@ -1,0 +1,169 @@
+//! The search for the value of a setting.
+
+ghost use Rattle.adl_meaning.specs.Prelude.{Name as Bytes, body, default_in, option_and_then, option_copied, option_map_or, setting_of, value_at};
+ghost use Rattle.std.specs.Prelude.{IfOk, List as Seq, None, OnOk, Some, [], slice_get, ◌++◌, ◌∷◌, ◌≡◌};
+ghost use Rattle.adl_items.specs.Pointed.{pointed};
+ghost use Rattle.adl_settings.specs.Lookups.{IsRemembered, attribute_at, given_from, within};
+
+use crate::Given;
+use crate::tables::{SettingTables, within};
+use adl_ast::{Setter, Setting};
+use adl_items::last_name;
+use adl_program::Bodies;
+use cam_base::{Name, NoMemory};
+use indexmap::IndexMap;
+use std::alloc::Global;
+use std::marker::Model;
+
+/// The values of attributes that settings refer to, as far as they were looked for before, by the path of the instance. It may be
+/// that there is no value.
+#[derive(Drop)]
+pub struct Memo<'a> {
+    pub found: IndexMap<(&'a [Name], &'a [u8]), Option<Given<'a>>>,
+}
+
+/// What the search looks at. Contracts see it as the hierarchy of the source.
+#[derive(Drop)]
+pub struct Lookup<'t, 'a> {
+    pub alloc: Global,
+    pub bodies: &'t Bodies<'a>,
+    pub settings: SettingTables<'a>,
+}
+
+impl<'t, 'a> Model for Lookup<'t, 'a> {
+    ghost use Rattle.adl_meaning.specs.Prelude.{Hierarchy};
+
+    ghost Value = { Hierarchy };
+
+    ghost use Rattle.adl_ast.specs.contracts.value.ValueKind as values;
+    ghost use Rattle.std.specs.Coded.{codes};
+
+    ghost coded = { Prim.hlevel (codes, values.the_row.coded) };
+
+    ghost use Rattle.adl_settings.specs.Lookups.{AreTables};
+
+    ghost view = { λ l. l.bodies.now };
+
+    ghost invariant = { λ l. AreTables l.bodies.now l.settings };
+}
+
+impl<'t, 'a> Lookup<'t, 'a> {
+    /// The body behind the name at this place of a path; behind the whole path it stays.
+    fn behind(&self, number: Option<u32>, path: &[Name], at: usize) -> Option<u32>
+        ensures { result ≡ option_map_or (within self.now number) (slice_get path.now at) number }
+    {
+        match path.get(at) {
+            None => number,
+            Some(name) => within(self.bodies, number, name),
+        }
+    }
+
+    /// The setting of a path with a name behind it.
+    fn setting(&self, number: Option<u32>, key: &[&[u8]]) -> Option<&'a Setting>
+        ensures { (p : Seq Bytes) (x : Bytes) → pointed key.now ≡ p ++ x ∷ []
+            → option_copied result ≡ option_and_then (λ k. setting_of self.now k p x) number }
+    {
+        self.settings.of(number?).get(key)
+    }
+
+    /// The default of an attribute of a body.
+    fn default(&self, number: Option<u32>, name: &[u8]) -> Option<Given<'a>>
+        ensures { result ≡ option_and_then (λ k. default_in (body self.now k) name.now) number }
+    {
+        let attribute = self.bodies.body(number?).attribute(name)?;
+        let value = attribute.value.as_ref()?;
+        let name = attribute.id.name.as_bytes();
+        Some(Given { value, name })
+    }
+}
+
+fn again<'a>(found: &Option<Given<'a>>) -> Option<Given<'a>>
+    ensures { result ≡ found.now }
+{
+    found.as_ref().map(Given::again)
+}
+
+/// The names of a path with a name behind them.
+fn key_of<'q>(alloc: Global, path: &'q [Name], name: &'q [u8]) -> Result<Vec<&'q [u8]>, NoMemory>
+    ensures { IfOk result (λ v. pointed v.items ≡ path.now ++ name.now ∷ []) }
+{
+    let mut key = Vec::new(alloc);
+    for part in path {
+        key.push(part.as_bytes())?;
+    }
+    key.push(name)?;
+    Ok(key)
+}
+
+/// What a setting gives, of the body at the path. The assembly, at the empty path, has no attributes.
+#[cycle(value)]
+fn given_by<'a>(
+    lookup: &Lookup<'_, 'a>,
+    memo: &mut Memo<'a>,
+    setting: Option<&'a Setting>,
+    path: &'a [Name],
+) -> Result<Option<Given<'a>>, NoMemory>
+    requires { IsRemembered lookup.now memo.old }
+    ensures value { IfOk result (λ o. o ≡ given_from (attribute_at lookup.now path.now) (option_copied setting.entry)) }
+    ensures memo { OnOk result (IsRemembered lookup.now memo.new) }
+{
+    match setting {
+        None => Ok(None),
+        Some(setting) => match &setting.setter {
+            Setter::Literal(value) => Ok(Some(Given {
+                value,
+                name: last_name(setting.words.as_slice()),
+            })),
+            Setter::Reference(attribute) => {
+                if path.is_empty() {
+                    return Ok(None);
+                }
+                referred(lookup, memo, path, attribute.name.as_bytes())
+            }
+        },
+    }
+}
+
+/// The value of the setting at a path, searched for from the outermost body inwards.
+#[cycle(value)]
+pub fn search<'a>(
+    lookup: &Lookup<'_, 'a>,
+    memo: &mut Memo<'a>,
+    path: &'a [Name],
+    name: &[u8],
+) -> Result<Option<Given<'a>>, NoMemory>
+    requires { IsRemembered lookup.now memo.old }
+    ensures value { IfOk result (λ o. o ≡ value_at lookup.now path.now name.now) }
+    ensures memo { OnOk result (IsRemembered lookup.now memo.new) }
+{
+    let key = key_of(lookup.alloc, path, name)?;
+    let mut number = Some(lookup.bodies.top_number());
+    for at in 0..path.len().max(1) {
+        let setting = lookup.setting(number, &key[at..]);
+        match given_by(lookup, memo, setting, &path[..at])? {
+            Some(given) => return Ok(Some(given)),
+            None => number = lookup.behind(number, path, at),
+        }
+    }
+    Ok(lookup.default(number, name))
+}
+
+/// The value of an attribute of the instance at a path.
+#[cycle(value)]
+fn referred<'a>(
+    lookup: &Lookup<'_, 'a>,
+    memo: &mut Memo<'a>,
+    path: &'a [Name],
+    name: &'a [u8],
+) -> Result<Option<Given<'a>>, NoMemory>
+    requires { IsRemembered lookup.now memo.old }
+    ensures value { IfOk result (λ o. o ≡ value_at lookup.now path.now name.now) }
+    ensures memo { OnOk result (IsRemembered lookup.now memo.new) }
+{
+    if let Some(found) = memo.found.get(&(path, name)) {
+        return Ok(again(found));
+    }
+    let found = search(lookup, memo, path, name)?;
+    memo.found.insert((path, name), again(&found))?;
+    Ok(found)
+}

@@ -1,4 +1,0 @@
-mod Common
-pub mod SettingKeys
-pub mod TableSteps
-pub mod ValueSteps

@@ -1,2 +1,0 @@
-pub mod AreTemplates
-pub mod Templates

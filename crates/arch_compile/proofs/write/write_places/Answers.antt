@@ -1,0 +1,8 @@
+use Rattle.cam_io.proofs.Scripted.{acts_begin_then, acts_one, open_begun}
+use Rattle.arch_compile.proofs.write.write_places.Goals as goal
+
+pub write_map-requires : goal.write_map-requires
+write_map-requires g c = open_begun _ _ 5 _ c.in_ok-begin.ensures.ok
+
+pub returns : goal.returns
+returns g c = acts_begin_then c.in_ok-begin.ensures.ok c.in_ok-begin.ensures.later (acts_one c.write_map.ensures)

@@ -1,0 +1,102 @@
+ghost use Rattle.arch_policy.specs.LockEdges.{IsOfLeaf, IsWithLock};
+ghost use Rattle.arch_policy.specs.Policies.{IsCertificateOf, IsLockEdge, IsPolicyOf};
+ghost use Rattle.arch_policy.specs.Tables.{domain_label, told};
+ghost use Rattle.cap_model.specs.Adds.{Adds};
+ghost use Rattle.cap_model.specs.AuthoritySets.{IsSetOf};
+ghost use Rattle.cap_model.specs.Tables.{IsSorted, has};
+ghost use Rattle.cap_model.specs.declared.edge.Edge.{Edge as Triple};
+ghost use Rattle.cap_model.specs.Confers.{kind_confers};
+ghost use Rattle.cap_model.specs.declared.kind.Kind.TheVariants.{Notification};
+ghost use Rattle.conn_rules.specs.Row.{RW};
+ghost use Rattle.cspace_layout.specs.Members.{is_lock};
+ghost use Rattle.std.specs.List.{list_any};
+ghost use Rattle.std.specs.Prelude.{◌≡◌, ◌↔◌, ◌⊎◌, true, IfOk};
+
+use crate::{Tables, domain_label};
+use adl_ast::Member;
+use adl_meaning::Leaf;
+use cam_base::NoMemory;
+use cap_model::{Authority, AuthoritySet, Edge, EdgeTable, with_set};
+use cspace_layout::{is_lock, members_at};
+use std::alloc::Global;
+
+/// What rights to read and write a notification confer.
+fn lock_authorities() -> AuthoritySet
+    ensures { IsSetOf (kind_confers Notification RW) result.bits }
+{
+    AuthoritySet::empty()
+        .with(Authority::Reset)
+        .with(Authority::Receive)
+        .with(Authority::AsyncSend)
+}
+
+/// The edges, and what there is to do with a lock within this label.
+fn with_lock(edges: Vec<Edge>, label: u32) -> Result<Vec<Edge>, NoMemory>
+    ensures { IfOk result (λ new. Adds (IsWithLock label) edges.items new.items) }
+{
+    with_set(edges, label, lock_authorities(), label)
+}
+
+fn has_lock(members: &[Member]) -> bool
+    ensures { result ≡ list_any is_lock members.now }
+{
+    members.iter().any(|member| is_lock(member))
+}
+
+fn with_leaf(edges: Vec<Edge>, tables: &Tables<'_>, leaf: &Leaf) -> Result<Vec<Edge>, NoMemory>
+    ensures { IfOk result (λ new. Adds (IsOfLeaf (told tables.now) leaf.now) edges.items new.items) }
+{
+    let Some(domain) = leaf.domain else {
+        return Ok(edges);
+    };
+    if !has_lock(members_at(tables.source, leaf.component)) {
+        return Ok(edges);
+    }
+    with_lock(edges, domain_label(tables, domain))
+}
+
+/// The edges, and those of domains with a lock.
+fn with_locks(edges: Vec<Edge>, tables: &Tables<'_>) -> Result<Vec<Edge>, NoMemory>
+    ensures { IfOk result (λ new. Adds (IsLockEdge (told tables.now)) edges.items new.items) }
+{
+    let mut edges = edges;
+    for leaf in tables.flat.leaves.as_slice() {
+        edges = with_leaf(edges, tables, leaf)?;
+    }
+    Ok(edges)
+}
+
+/// The edges of a table.
+fn edges_of(alloc: Global, table: &EdgeTable) -> Result<Vec<Edge>, NoMemory>
+    ensures { IfOk result (λ edges. edges.items ≡ table.now) }
+{
+    let mut edges = Vec::new(alloc);
+    for at in 0..table.len() {
+        if let Some(edge) = table.get(at) {
+            edges.push(edge)?;
+        }
+    }
+    Ok(edges)
+}
+
+/// The certificate of a system with this policy: what the policy has, and within the label of each domain with a lock what
+/// the domain may do with a lock. An edge of several leaves stands once.
+///
+/// # Errors
+///
+/// Want of memory.
+pub fn certificate_of(
+    alloc: Global,
+    tables: &Tables<'_>,
+    policy: &EdgeTable,
+) -> Result<EdgeTable, NoMemory>
+    ensures sorted { IfOk result IsSorted }
+    ensures exact { IfOk result (λ cert. (e : Triple) → (has cert e ≡ true)
+        ↔ ((has policy.now e ≡ true) ⊎ IsLockEdge (told tables.now) e)) }
+    ensures cert { IsPolicyOf (told tables.now) policy.now → IfOk result (IsCertificateOf (told tables.now)) }
+{
+    let kept = edges_of(alloc, policy)?;
+    let edges = with_locks(kept, tables)?;
+    let cert = EdgeTable::from_list(alloc, edges.as_slice())?;
+    Ok(cert)
+}

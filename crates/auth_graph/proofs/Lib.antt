@@ -1,2 +1,0 @@
-pub mod BootSources
-pub mod Gathering

@@ -1,4 +1,0 @@
-use Rattle.auth_graph.proofs.boot_edges.with_object.Goals as goal
-
-pub returns-in-Thread : goal.returns-in-Thread
-returns-in-Thread c = rw c.in-Thread.is c.with_tcb.ensures

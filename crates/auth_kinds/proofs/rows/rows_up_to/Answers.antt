@@ -1,8 +1,0 @@
-use Rattle.std.proofs.lemmas.List.Sorted.{IsPartitionPoint-from_clause}
-use Rattle.std.proofs.Common.{nat_le, rules}
-use Rattle.auth_kinds.proofs.TableRows.{firsts_parted, row_past}
-use Rattle.auth_kinds.proofs.rows.rows_up_to.Goals as goal
-
-pub returns : goal.returns
-returns c = row_past c.args.rows.now c.args.place c.partition_point.result c.partition_point.ensures.bound
-    (IsPartitionPoint-from_clause (λ r. nat_le r.first c.args.place) c.args.rows.now c.partition_point.result c.partition_point.ensures.partitioned (firsts_parted c.args.rows.now c.args.place c.requires) (λ a r f k. search rules))

@@ -1,5 +1,0 @@
-use Rattle.flow_laws.proofs.Separated.{separated}
-use Rattle.build_flow.proofs.laws.checked_texts_are_separated.Goals as goal
-
-pub returns : goal.returns
-returns c = λ m cdl policy safe inside closed. separated safe.spec safe.labels.by_object safe.allowed.edges inside safe.stays closed

@@ -1,2 +1,0 @@
-pub mod OfSources
-mod Programs

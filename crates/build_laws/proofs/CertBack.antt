@@ -1,0 +1,96 @@
+-- Certificates of builds are read back under their policies.
+use Rattle.std.proofs.Common.{◌≡◌, ◌∙◌, ◌<◌, ◌≤◌, ℕ, true, List, length, get_or, is_some, refl, ap, arith, Result, Ok}
+use Rattle.std.proofs.lemmas.Option.{slice_get-get_or}
+use Rattle.adl_ast.specs.declared.source.Source.{Source}
+use Rattle.adl_meaning.proofs.SoundNames.{one_assembly}
+use Rattle.adl_meaning.specs.Flat.{flat_of}
+use Rattle.arch_compile.specs.Built.{IsBuildOf, IsMade, system_tables}
+use Rattle.arch_compile.specs.LayoutFaults.{images_from}
+use Rattle.arch_compile.specs.declared.building.Build.{Build}
+use Rattle.arch_policy.proofs.Lists.{has_in, in_has}
+use Rattle.arch_policy.specs.Tables.{Tables}
+use Rattle.cap_model.specs.Policies.{label_name}
+use Rattle.cap_model.specs.declared.edge.Edge.{Edge}
+use Rattle.arch_compile.proofs.Facts.{AreFacts, build_facts}
+use Rattle.cam_base.specs.declared.error.Refused.{Refused}
+use Rattle.cam_base.specs.declared.text_fault.TextFault.{TextFault}
+use Rattle.cam_io.specs.Contents.{Contents}
+use Rattle.flat_laws.proofs.Small.{flat_small}
+use Rattle.flat_laws.specs.Small.{IsSmall}
+use Rattle.front_end.specs.First.{source_tables}
+use Rattle.cam_base.proofs.Gathered.{in_place}
+use Rattle.cam_base.specs.Gather.{IsIn}
+use Rattle.policy_text.proofs.EdgeLengths.{cert_short}
+use Rattle.policy_text.proofs.OneMeaning.{certs_one}
+use Rattle.policy_text.proofs.ReadBack.{cert_back}
+use Rattle.policy_text.specs.PolicyLines.{cert_text}
+use Rattle.policy_text.specs.Writable.{IsWritableCert}
+use Rattle.source_images.specs.declared.images.Images.{Images}
+use Rattle.reach_laws.specs.Flat.{IsFlat}
+use Rattle.spec_laws.proofs.SourceConnected.{tables_are_connected}
+use Rattle.spec_laws.specs.Connected.{IsConnected}
+use Rattle.build_laws.proofs.EdgeCounts.{few_certified, few_edges}
+use Rattle.build_laws.proofs.Labelled.{IsLabel, edge_labels, label_small, named_at}
+use Rattle.build_laws.specs.ReadBack.{IsCertReadBack}
+
+module _ {contents : Contents} (s : Source) (images : Images) (facts : AreFacts contents s images) where
+  abbrev t : Tables
+  t = source_tables s
+
+  pub connected_is : IsConnected (system_tables s images)
+  connected_is =
+      let f = facts.faultless in
+      tables_are_connected s images facts.short f.names f.types f.flat f.settings facts.numbered facts.sound facts.space facts.slot facts.page
+
+  pub flat_is : IsFlat s (flat_of s)
+  flat_is = connected_is.flat
+
+  pub small_is : IsSmall (flat_of s)
+  small_is = flat_small s facts.faultless.names facts.faultless.flat
+
+  module _ (b : Build) (made : IsMade s images b.spec b.policy b.cert b.map) where
+    pub policy_few : length b.policy.edges ≤ 200000
+    policy_few = let one = one_assembly s facts.faultless.names in few_edges t one.0 b.policy.edges one.1 facts.edge made.edges made.sorted
+
+    cert_few : length b.cert ≤ 262144
+    cert_few =
+        let a = policy_few in
+        let c = few_certified t flat_is b.policy.edges b.cert made.edges made.certified made.cert_sorted in
+        let d = small_is.domains in
+        omega (arith, a, c, d)
+
+    labels_in : (e : Edge) → IsIn e b.cert → IsLabel t e.from × IsLabel t e.to
+    labels_in e i = edge_labels s facts.faultless.names facts.spelled e ((made.certified e).0 (in_has e b.cert i))
+
+    small_in : (e : Edge) → IsIn e b.cert → (e.from < 8192) × (e.to < 8192)
+    small_in e i = let l = labels_in e i in (label_small t refl small_is e.from l.0, label_small t refl small_is e.to l.1)
+
+    at_in : (k : ℕ) (e : Edge) → k < length b.cert → IsIn (get_or b.cert k e) b.cert
+    at_in k e l = in_place (get_or b.cert k e) b.cert k (slice_get-get_or b.cert k e l)
+
+    named : (l : ℕ) → IsLabel t l → is_some (label_name b.policy.labels l) ≡ true
+    named l w = ap (λ z. is_some (label_name z l)) made.labels ∙ named_at t refl l w
+
+    pub cert_writable : IsWritableCert b.policy b.cert
+    cert_writable = record {
+      labelled = record {
+        from = λ k e l. named (get_or b.cert k e).from (labels_in (get_or b.cert k e) (at_in k e l)).0;
+        to = λ k e l. named (get_or b.cert k e).to (labels_in (get_or b.cert k e) (at_in k e l)).1;
+      };
+      small = λ k e l. let x = small_in (get_or b.cert k e) (at_in k e l) in let f = x.0 in let g = x.1 in (omega (arith, f), omega (arith, g));
+      order = made.cert_sorted;
+      edges = cert_few;
+      bytes = cert_short b.cert (λ e h. small_in e (has_in e b.cert h)) cert_few;
+    }
+
+abbrev same_answer : List Edge → Result (List Edge) (Refused TextFault)
+same_answer e = Ok e
+
+one_inside : (d e : List Edge) → same_answer d ≡ same_answer e → d ≡ e
+one_inside d e h = cc
+
+pub cert_read : (root : List ℕ) (contents : Contents) (b : Build) → IsBuildOf root contents b → IsCertReadBack b
+cert_read root contents b is =
+    let w = cert_writable b.meaning.source (images_from b.meaning.source is.found) (build_facts root contents b is) b is.made in
+    let text = cert_back b.policy b.cert w in
+    record { writable = w; text = text; only = λ other t. one_inside other b.cert (certs_one b.policy (cert_text b.cert) (Ok other) (Ok b.cert) tt tt t text) }

@@ -1,0 +1,128 @@
+-- Paths of labels have at most 16 names. A device's is that of a leaf, and a domain's has no more names than one of its leaves.
+-- A connection joins an interface of a leaf below its composition.
+use Rattle.std.proofs.Common.{◌≡◌, ◌≤◌, ◌+◌, ◌++◌, ◌∙◌, ℕ, List, [], ◌∷◌, length, map, Option, Some, None, refl, sym, ap, subst, inl, inr, arith, unwrap_or}
+use Rattle.std.proofs.Math.Nat.{le-max_left, le-max_right}
+use Rattle.std.proofs.lemmas.List.{length-append}
+use Rattle.std.specs.Option.{option_map}
+use Rattle.adl_ast.specs.declared.composition.End.{End}
+use Rattle.adl_ast.specs.declared.composition.Role.TheVariants.{From}
+use Rattle.adl_ast.specs.declared.source.Source.{Source}
+use Rattle.adl_hierarchy.proofs.DomainNames.{domains_are}
+use Rattle.adl_hierarchy.proofs.Grouping.{above_outermost}
+use Rattle.adl_hierarchy.proofs.Joining.{joined}
+use Rattle.adl_hierarchy.proofs.Limits.{AreInLimits, in_limits}
+use Rattle.adl_hierarchy.specs.Leads.{AreDotted}
+use Rattle.adl_meaning.specs.Domains.{domain_of, domains, group_above}
+use Rattle.adl_meaning.specs.Flat.{flat_domain, flat_end, flat_ends, flat_of, leaf_of}
+use Rattle.adl_meaning.specs.Hierarchy.{Hierarchy, hierarchy_of, top_number}
+use Rattle.adl_meaning.specs.JoinFaults.{first_flat_fault, first_join_fault}
+use Rattle.adl_meaning.specs.Joins.{Strung, connections, joined_by}
+use Rattle.adl_meaning.specs.NameFaults.{AreNamesSound}
+use Rattle.adl_meaning.specs.Paths.{Path, Placed, leaves}
+use Rattle.adl_meaning.specs.SizeFaults.{first_size_fault, longest}
+use Rattle.adl_meaning.specs.declared.flat.Domain.{Domain}
+use Rattle.adl_meaning.specs.declared.flat.FlatConnection.{FlatConnection}
+use Rattle.adl_meaning.specs.declared.flat.FlatEnd.{FlatEnd}
+use Rattle.adl_meaning.specs.declared.flat.Leaf.{Leaf}
+use Rattle.adl_types.specs.TypeFaults.{first_type_fault}
+use Rattle.arch_policy.specs.declared.owner.Owner.{Owner}
+use Rattle.arch_policy.specs.declared.owner.Owner.TheVariants.{OfConnection, OfDomain, OfLeaf}
+use Rattle.assigned_laws.specs.Named.{HasPath}
+use Rattle.flat_laws.proofs.FewEnds.{no_first}
+use Rattle.flat_laws.proofs.FlatEnds.{strung_of}
+use Rattle.flat_laws.proofs.SomeEnds.{some_end}
+use Rattle.cam_base.proofs.Gathered.{in_place, place_of}
+use Rattle.cam_base.proofs.NumberedLists.{from_filter_map, in_map, map_some, from_get_map}
+use Rattle.cam_base.specs.Gather.{IsIn}
+
+longest_of : (ps : List Path) (p : Path) → IsIn p ps → length p ≤ longest ps
+longest_of [] p i = absurd i
+longest_of (q ∷ ps) p (inl e) =
+    let l = le-max_left (length q) (longest ps) in
+    let same = ap (λ (z : Path). length z) e in
+    omega (arith, l, same)
+longest_of (q ∷ ps) p (inr i) =
+    let l = le-max_right (length q) (longest ps) in
+    let below = longest_of ps p i in
+    omega (arith, l, below)
+
+-- a path that goes on below another is longer
+longer : (p q below : Path) (n : List ℕ) → p ≡ q ++ n ∷ below → length q + 1 ≤ length p
+longer p q below n e =
+    let all = ap (λ (z : Path). length z) e in
+    let parts = length-append q (n ∷ below) in
+    omega (arith, all, parts)
+
+one_more : (p q : Path) (n : List ℕ) → p ≡ q ++ n ∷ [] → length p ≡ length q + 1
+one_more p q n e =
+    let all = ap (λ (z : Path). length z) e in
+    let parts = length-append q (n ∷ []) in
+    omega (arith, all, parts)
+
+domain_short : (h : Hierarchy) (p : Path) → length (domain_of h p) ≤ length p
+domain_short h p = by_group (group_above h (top_number h) p) refl
+  where
+    by_group : (o : Option Path) → group_above h (top_number h) p ≡ o → length (unwrap_or o p) ≤ length p
+    by_group None e = omega arith
+    by_group (Some d) e =
+        let w = above_outermost h (top_number h) p d e in
+        let below = longer p w.above w.below w.name w.split in
+        let more = one_more d w.above w.group w.path in
+        omega (arith, below, more)
+
+module _ (s : Source) (sound : AreNamesSound s) (limits : AreInLimits s) where
+  leaf_short : (x : Placed) → IsIn x (leaves (hierarchy_of s)) → length x.path ≤ 16
+  leaf_short x i =
+      let paths = map (λ (z : Placed). z.path) (leaves (hierarchy_of s)) in
+      let l = longest_of paths x.path (in_map (λ (z : Placed). z.path) x (leaves (hierarchy_of s)) i) in
+      let d = limits.depth_is in
+      omega (arith, l, d)
+
+  device_path : (l : ℕ) (p : Path) → HasPath (flat_of s) (OfLeaf l) p → length p ≤ 16
+  device_path l p h =
+      let g = from_get_map (leaf_of (hierarchy_of s)) (leaves (hierarchy_of s)) l h.0 h.1 in
+      let short = leaf_short g.0 (in_place g.0 (leaves (hierarchy_of s)) l g.1) in
+      subst (λ (z : Path). length z ≤ 16) (ap (λ (z : Leaf). z.path) g.2 ∙ h.3) short
+
+  domain_path : (d : ℕ) (p : Path) → HasPath (flat_of s) (OfDomain d) p → length p ≤ 16
+  domain_path d p h =
+      let k = hierarchy_of s in
+      let g = from_get_map (flat_domain k) (domains k) d h.0 h.1 in
+      let w = (domains_are k g.0).0 (in_place g.0 (domains k) d g.1) in
+      let short = leaf_short w.0 w.1 in
+      let inside = domain_short k w.0.path in
+      let few : length (domain_of k w.0.path) ≤ 16 = omega (arith, short, inside) in
+      subst (λ (z : Path). length z ≤ 16) (w.3 ∙ ap (λ (z : Domain). z.path) g.2 ∙ h.2) few
+
+  -- a leaf stands below a composition in which a connection has an end
+  below_composition : (y : Strung) → IsIn y (connections (hierarchy_of s)) → (f : FlatEnd) → IsIn f (flat_ends (hierarchy_of s) y) → length y.path + 1 ≤ 16
+  below_composition y i f there =
+      let h = hierarchy_of s in
+      let e = from_filter_map (λ (e : End). option_map (flat_end h y.path e) (joined_by h y.inside e)) f y.wire.1.ends there in
+      let r = map_some (flat_end h y.path e.0) (joined_by h y.inside e.0) f e.2 in
+      let n = place_of e.0 y.wire.1.ends e.1 in
+      let j = joined s sound y n.0 e.0 r.0 i n.1 r.1 in
+      let w = j.0 in
+      let short = leaf_short (record { path = y.path ++ r.0.path; part = r.0.part }) j.1 in
+      let more = longer (y.path ++ r.0.path) y.path w.rest w.part w.path in
+      omega (arith, short, more)
+
+  connection_path : AreDotted (hierarchy_of s) → first_type_fault s ≡ None → (k : ℕ) (p : Path) → HasPath (flat_of s) (OfConnection k) p → length p ≤ 16
+  connection_path dotted types k p h =
+      let y = strung_of s k h.0 h.1 in
+      let e = some_end s sound dotted types k h.0 h.1 From in
+      let there : IsIn e.1 (flat_ends (hierarchy_of s) y.0) = subst (λ (z : FlatConnection). IsIn e.1 z.ends) (sym y.2) (in_place e.1 h.0.ends e.0 e.2) in
+      let below = below_composition y.0 y.1 e.1 there in
+      let more = one_more p y.0.path y.0.wire.1.id.name (sym (ap (λ (z : FlatConnection). z.path) y.2 ∙ h.3)) in
+      omega (arith, below, more)
+
+pub paths_short : (s : Source) → AreNamesSound s → AreDotted (hierarchy_of s) → first_type_fault s ≡ None → first_flat_fault s ≡ None → (x : Owner) (p : Path) → HasPath (flat_of s) x p → length p ≤ 16
+paths_short s sound dotted types flat x p h = by_owner x h
+  where
+    limits : AreInLimits s
+    limits = in_limits s sound (no_first (first_size_fault s) (first_join_fault s) flat)
+
+    by_owner : (x : Owner) → HasPath (flat_of s) x p → length p ≤ 16
+    by_owner (OfDomain d) h = domain_path s sound limits d p h
+    by_owner (OfConnection k) h = connection_path s sound limits dotted types k p h
+    by_owner (OfLeaf l) h = device_path s sound limits l p h

@@ -1,0 +1,53 @@
+-- Specs of builds are read back: each part by the law of its own layer.
+use Rattle.std.proofs.Common.{ℕ, List, Option, sym, subst}
+use Rattle.adl_ast.specs.declared.source.Source.{Source}
+use Rattle.adl_meaning.specs.Flat.{flat_of}
+use Rattle.adl_settings.specs.Settled.{settled_of}
+use Rattle.arch_compile.specs.Built.{IsBuildOf, system_tables}
+use Rattle.arch_compile.specs.LayoutFaults.{images_from}
+use Rattle.arch_compile.specs.declared.building.Build.{Build}
+use Rattle.arch_compile.proofs.Facts.{AreFacts, build_facts}
+use Rattle.cam_io.specs.Contents.{Contents}
+use Rattle.cap_model.specs.Canonical.{canonical}
+use Rattle.capdl_write.proofs.Whole.{canonical_text}
+use Rattle.capdl_write.specs.Writable.{IsWritable}
+use Rattle.capdl_text.proofs.Unique.{one_spec}
+use Rattle.source_images.specs.declared.images.Images.{Images}
+use Rattle.spec_kept.proofs.Bounds.{can_lay}
+use Rattle.spec_kept.proofs.Fits.{layouts_are_limited, tables_are_fit}
+use Rattle.spec_kept.proofs.SourcePlain.{layouts_are_plain}
+use Rattle.spec_kept.proofs.ReadImages.{read_images_are_plain}
+use Rattle.spec_kept.proofs.Plainly.{tables_written}
+use Rattle.spec_kept.proofs.Sizing.{tables_sized}
+use Rattle.spec_kept.proofs.Writing.{spec_writable}
+use Rattle.spec_kept.specs.Fit.{IsFit}
+use Rattle.system_spec.specs.Made.{spec_of}
+use Rattle.build_laws.specs.ReadBack.{IsSpecReadBack}
+
+pub made_fit : {contents : Contents} (s : Source) (images : Images) → AreFacts contents s images → IsFit (system_tables s images)
+made_fit s images facts =
+    let f = facts.faultless in
+    tables_are_fit s images facts.short f.names f.types f.flat f.settings facts.numbered facts.sound facts.space facts.slot facts.page
+
+pub made_writable : {contents : Contents} (s : Source) (images : Images) → AreFacts contents s images → IsWritable (spec_of (system_tables s images))
+made_writable {contents} s images facts =
+    let f = facts.faultless in
+    let t = system_tables s images in
+    let limited = layouts_are_limited s images facts.short f.names f.types f.flat f.settings facts.slot facts.page in
+    let plain = layouts_are_plain s images facts.short f.names f.flat (read_images_are_plain contents _ s images facts.short facts.read) in
+    let can = can_lay s images facts.short f.names f.types f.flat f.settings in
+    spec_writable t
+    (made_fit s images facts)
+    (tables_sized s (flat_of s) (settled_of s) images limited)
+    (tables_written s (flat_of s) (settled_of s) images plain can limited.pages)
+
+pub spec_back : (root : List ℕ) (contents : Contents) (b : Build) → IsBuildOf root contents b → IsSpecReadBack b
+spec_back root contents b is =
+    let s = b.meaning.source in
+    let images = images_from s is.found in
+    let w : IsWritable b.spec = subst IsWritable (sym is.made.spec_is) (made_writable s images (build_facts root contents b is)) in
+    record {
+      writable = w;
+      text = canonical_text b.spec w;
+      only = λ other t. one_spec (canonical b.spec) other b.spec t (canonical_text b.spec w);
+    }

@@ -1,2 +1,0 @@
-pub mod Summary
-pub use Rattle.cam_io.specs.Sinks

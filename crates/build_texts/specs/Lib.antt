@@ -1,2 +1,0 @@
-pub mod BuildTexts
-pub use Rattle.cam_io.specs.Scripts

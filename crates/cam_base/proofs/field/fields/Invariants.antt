@@ -1,0 +1,15 @@
+use Rattle.std.proofs.Common.{◌≡◌, length, ◌++◌, ◌+◌, ◌-◌, ◌≤◌, take, vec_len}
+use Rattle.cam_base.specs.Fields.{fields}
+use Rattle.cam_base.specs.Parts.{parts_from}
+use Rattle.cam_base.specs.LineTexts.{texts}
+use Rattle.cam_base.proofs.field.fields.Given as goal
+
+abbrev pub invariant-loop-at : goal.invariant-loop-at
+invariant-loop-at l = record {
+  within : l.at ≤ length l.line + 1;
+  few : vec_len l.fields ≤ l.most;
+  so_far : texts l.fields.items ++ take (l.most - vec_len l.fields) (parts_from 32 l.at l.line) ≡ take l.most (fields l.line);
+}
+
+abbrev pub decreases-loop-at : goal.decreases-loop-at
+decreases-loop-at l = length l.line + 1 - l.at

@@ -1,0 +1,10 @@
+use Rattle.cap_model.specs.Adds.{Adds}
+use Rattle.cap_model.specs.ObjectLabels.{label_of}
+use Rattle.cap_machine.specs.Sources.{OfObject}
+use Rattle.cap_machine.proofs.Gathering.{OfFirst}
+use Rattle.cap_model.specs.declared.spec.Entry.{Entry}
+use Rattle.cap_machine.proofs.boot_edges.with_each_object.Given as goal
+
+abbrev pub invariant-loop-place : goal.invariant-loop-place
+invariant-loop-place l =
+    Adds (OfFirst (λ place (entry : Entry). OfObject l.spec l.labels.by_object (label_of l.labels.by_object place) entry.object) l.spec.entries l.place) l.initial.edges.items l.edges.items

@@ -1,5 +1,0 @@
-use Rattle.capdl_back.proofs.Whole.{canonical_text}
-use Rattle.capdl_back.proofs.laws.canonical_is_text.Goals as goal
-
-pub returns : goal.returns
-returns c = canonical_text

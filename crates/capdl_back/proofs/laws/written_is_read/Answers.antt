@@ -1,7 +1,0 @@
-use Rattle.cap_model.specs.Canonical.{canonical}
-use Rattle.capdl_text.proofs.Answered.{read_text}
-use Rattle.capdl_back.proofs.Whole.{canonical_text}
-use Rattle.capdl_back.proofs.laws.written_is_read.Goals as goal
-
-pub returns : goal.returns
-returns c = λ spec r w h. read_text (canonical spec) spec r h (canonical_text spec w)

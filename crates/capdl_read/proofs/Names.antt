@@ -1,0 +1,52 @@
+-- The objects of a text have names.
+use Rattle.std.proofs.Common.{◌≡◌, ◌++◌, ℕ, Bool, true, false, List, [], ◌∷◌, map, refl, sym, ap, subst}
+use Rattle.std.proofs.lemmas.Bool.{and_parts}
+use Rattle.std.specs.List.{list_all}
+use Rattle.cam_base.specs.Names.{is_name}
+use Rattle.cap_model.specs.declared.spec.Entry.{Entry}
+use Rattle.cap_model.specs.declared.spec.Spec.{Spec}
+use Rattle.capdl_text.specs.declared.seen.Seen.{Seen}
+use Rattle.capdl_text.specs.Forms.{object_form, object_line, spec_line}
+use Rattle.capdl_text.specs.Knowing.{Knows, knows}
+use Rattle.capdl_text.specs.Meaning.{entry_said}
+use Rattle.capdl_text.specs.Seeing.{id_of, named}
+use Rattle.capdl_text.specs.Spelling.{IsSpecSpelled, IsSpelledBy}
+use Rattle.capdl_text.specs.Texts.{Text}
+use Rattle.capdl_text.specs.declared.tree.Holder.{Holder}
+use Rattle.capdl_text.specs.declared.tree.Id.{Id}
+use Rattle.capdl_text.specs.declared.tree.ObjectLine.{ObjectLine}
+use Rattle.capdl_text.specs.declared.tree.SpecTree.{SpecTree}
+use Rattle.cam_base.specs.Spelling.{Each}
+
+always_named : (text : List ℕ) → is_name (named text) ≡ true
+always_named text = go (is_name text) refl
+  where
+    go : (b : Bool) → is_name text ≡ b → is_name (named text) ≡ true
+    go true e = rw e e
+    go false e = rw e refl
+
+line_named : (o : ObjectLine) (ts : List Seen) → IsSpelledBy object_form o ts → is_name o.id.name ≡ true
+unfolding object_line
+line_named o ts (x, is, (a, b, parts, (s, id, one), rest)) =
+    subst (λ (z : ObjectLine). is_name z.id.name ≡ true) (sym is) (subst (λ (i : Id). is_name i.name ≡ true) (sym id) (always_named s.text))
+
+lines_named : (os : List ObjectLine) (ts : List Seen) → Each (IsSpelledBy object_form) os ts → list_all (λ o. is_name o.id.name) os ≡ true
+lines_named [] ts each = refl
+lines_named (o ∷ os) ts (a, b, parts, one, more) = rw (line_named o a one) (lines_named os b more)
+
+tree_named : (tree : SpecTree) (ts : List Seen) → IsSpecSpelled tree ts → list_all (λ o. is_name o.id.name) tree.objects ≡ true
+unfolding spec_line
+tree_named tree ts (x, is, (a, b, p, arch, (c, d, q, form, (e, f, r, objects, (g, h, u, (y, block, (i, j, v, begin, (k, l, w, many, end))), rest))))) =
+    subst (λ (t : SpecTree). list_all (λ o. is_name o.id.name) t.objects ≡ true) (sym is)
+    (subst (λ (os : List ObjectLine). list_all (λ o. is_name o.id.name) os ≡ true) (sym block) (lines_named y.1.0 k many))
+
+entries_named : (known : Knows) (holders : List Holder) (os : List ObjectLine) → list_all (λ o. is_name o.id.name) os ≡ true → list_all (λ (entry : Entry). is_name entry.name) (map (entry_said known holders) os) ≡ true
+entries_named known holders [] all = refl
+entries_named known holders (o ∷ os) all =
+    let both = and_parts (is_name o.id.name) (list_all (λ (p : ObjectLine). is_name p.id.name) os) all in
+    rw both.0 (entries_named known holders os both.1)
+
+pub text_named : (bytes : List ℕ) (s : Spec) → Text bytes s → list_all (λ entry. is_name entry.name) s.entries ≡ true
+text_named bytes s text =
+    subst (λ (z : Spec). list_all (λ entry. is_name entry.name) z.entries ≡ true) (sym text.means)
+    (entries_named (knows text.tree) text.tree.holders text.tree.objects (tree_named text.tree _ text.spelled))

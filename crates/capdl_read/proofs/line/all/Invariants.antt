@@ -1,0 +1,15 @@
+use Rattle.std.proofs.Common.{◌≡◌, length}
+use Rattle.capdl_text.specs.Codes.{token_code}
+use Rattle.capdl_text.specs.Lexemes.{sees}
+use Rattle.cam_base.specs.Reading.{many}
+use Rattle.cam_base.proofs.Loops.{with_front}
+use Rattle.capdl_read.proofs.line.all.Given as goal
+
+-- what is read so far, and what the rest gives, are what all tokens give
+abbrev pub invariant-more : goal.invariant-more
+invariant-more g l =
+    let reading = many token_code g.L.Line.codes g.L.Line.gives in
+    with_front l.items (reading (sees l.bytes l.rest)) ≡ reading (sees l.bytes l.tokens)
+
+abbrev pub decreases-more : goal.decreases-more
+decreases-more g l = length (sees l.bytes l.rest)

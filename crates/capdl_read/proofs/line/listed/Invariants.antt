@@ -1,0 +1,17 @@
+use Rattle.std.proofs.Common.{◌≡◌, ◌∷◌, [], length}
+use Rattle.capdl_text.specs.Codes.{mark_code, token_code}
+use Rattle.capdl_text.specs.Lexemes.{sees}
+use Rattle.capdl_text.specs.declared.token.Mark.TheVariants as marks
+use Rattle.cam_base.specs.Reading.{many, behind_one, list_of}
+use Rattle.cam_base.proofs.Loops.{with_front}
+use Rattle.capdl_read.proofs.line.listed.Given as goal
+
+-- what is read so far, and what the rest gives, are what all tokens give
+abbrev pub invariant-more : goal.invariant-more
+invariant-more g l =
+    let c = mark_code marks.Comma in
+    let r = g.L.Line.gives in
+    with_front l.items (many token_code (c ∷ []) (behind_one token_code (c ∷ []) r) (sees l.bytes l.rest)) ≡ list_of token_code c r (sees l.bytes l.fn.tokens)
+
+abbrev pub decreases-more : goal.decreases-more
+decreases-more g l = length (sees l.bytes l.rest)

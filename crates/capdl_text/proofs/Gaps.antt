@@ -1,0 +1,112 @@
+-- Where a gap stands, no token and no fault does.
+use Rattle.std.proofs.Common.{◌≡◌, ℕ, ◌<◌, ◌≤◌, Bool, true, false, cond, List, [], ◌∷◌, length, Option, Some, None, refl, sym, ◌∙◌, arith, inl, inr}
+use Rattle.std.specs.Prelude.{◌==◌, ◌&&◌, ◌||◌}
+use Rattle.std.proofs.lemmas.Bool.Decides.{nat_tests}
+use Rattle.std.proofs.lemmas.Option.{same_Some}
+use Rattle.std.proofs.lemmas.Bool.{cases_Bool}
+use Rattle.cam_base.specs.declared.text_fault.TextCode.{TextCode}
+use Rattle.cam_base.specs.Names.{is_letter}
+use Rattle.cam_base.specs.Numbers.{is_digit}
+use Rattle.capdl_text.specs.declared.token.Kind.{Kind}
+use Rattle.capdl_text.specs.Gaps.{is_blank, after_close, after_line, after_slash, after_dash, one_gap}
+use Rattle.capdl_text.specs.TokenFaults.{Found, unless, is_star, mark_fault, fault_at}
+use Rattle.capdl_text.specs.TokenKinds.{is_end, kind_of, mark_of}
+use Rattle.capdl_text.proofs.Tokens.{none_is_not}
+
+-- what the first byte of a gap is
+pub is_gap_byte : ℕ → Bool
+is_gap_byte b = is_blank b || (b == 47 || b == 45)
+
+pub gap_byte : (b : ℕ) (bs cs : List ℕ) → one_gap (b ∷ bs) ≡ Some cs → is_gap_byte b ≡ true
+unfolding one_gap is_gap_byte
+gap_byte b bs cs e = go (is_blank b) (b == 47) (b == 45) e
+  where
+    go : (x y z : Bool) → cond x (Some bs) (cond y (after_slash bs) (cond z (after_dash bs) None)) ≡ Some cs → (x || (y || z)) ≡ true
+    go true y z p = refl
+    go false true z p = refl
+    go false false true p = refl
+    go false false false p = none_is_not cs p
+
+not_letter : (b : ℕ) → is_gap_byte b ≡ true → is_letter b ≡ false
+unfolding is_gap_byte
+not_letter b h = grind (arith, nat_tests)
+
+not_digit : (b : ℕ) → is_gap_byte b ≡ true → is_digit b ≡ false
+unfolding is_gap_byte
+not_digit b h = grind (arith, nat_tests)
+
+not_quote : (b : ℕ) → is_gap_byte b ≡ true → (b == 34) ≡ false
+unfolding is_gap_byte
+not_quote b h = grind (arith, nat_tests)
+
+not_mark : (b : ℕ) → is_gap_byte b ≡ true → mark_of b ≡ None
+unfolding is_gap_byte mark_of
+not_mark b h = grind (arith, nat_tests)
+
+-- a token begins with no byte of a gap
+pub token_no_gap_byte : (b : ℕ) (text : List ℕ) (k : Kind) → kind_of (b ∷ text) ≡ Some k → is_gap_byte b ≡ true → ⊥
+unfolding kind_of
+token_no_gap_byte b text k e h = go (is_end text) (let p : kind_of (b ∷ text) ≡ cond (is_end text) None None = rw (not_letter b h, not_digit b h, not_quote b h, not_mark b h) refl in sym p ∙ e)
+  where
+    go : (t : Bool) → cond t None None ≡ Some k → ⊥
+    go true p = none_is_not k p
+    go false p = none_is_not k p
+
+after_line_le : (bs : List ℕ) → length (after_line bs) ≤ length bs
+after_line_le [] = omega arith
+after_line_le (b ∷ bs) = elim (cases_Bool (b == 10)) [ inl h ↦ rw h (omega arith) | inr h ↦ let le = after_line_le bs in rw h (omega arith) ]
+
+after_close_le : (bs cs : List ℕ) → after_close bs ≡ Some cs → length cs ≤ length bs
+after_close_le [] cs e = none_is_not cs e
+after_close_le (a ∷ []) cs e = none_is_not cs e
+after_close_le (a ∷ b ∷ bs) cs e = go (a == 42 && b == 47) (λ p. after_close_le (b ∷ bs) cs p) e
+  where
+    go : (t : Bool) → (after_close (b ∷ bs) ≡ Some cs → length cs ≤ length (b ∷ bs)) → cond t (Some bs) (after_close (b ∷ bs)) ≡ Some cs → length cs ≤ length (a ∷ b ∷ bs)
+    go true ih p = let same = same_Some bs cs p in rw (← same) (omega arith)
+    go false ih p = let le = ih p in omega arith
+
+after_slash_le : (bs cs : List ℕ) → after_slash bs ≡ Some cs → length cs ≤ length bs
+after_slash_le [] cs e = none_is_not cs e
+after_slash_le (b ∷ bs) cs e = go (b == 47) (b == 42) e
+  where
+    go : (x y : Bool) → cond x (Some (after_line bs)) (cond y (after_close bs) None) ≡ Some cs → length cs ≤ length (b ∷ bs)
+    go true y p = let same = same_Some (after_line bs) cs p in let le = after_line_le bs in rw (← same) (omega arith)
+    go false true p = let le = after_close_le bs cs p in omega arith
+    go false false p = none_is_not cs p
+
+after_dash_le : (bs cs : List ℕ) → after_dash bs ≡ Some cs → length cs ≤ length bs
+after_dash_le [] cs e = none_is_not cs e
+after_dash_le (b ∷ bs) cs e = go (b == 45) e
+  where
+    go : (x : Bool) → cond x (Some (after_line bs)) None ≡ Some cs → length cs ≤ length (b ∷ bs)
+    go true p = let same = same_Some (after_line bs) cs p in let le = after_line_le bs in rw (← same) (omega arith)
+    go false p = none_is_not cs p
+
+-- a gap has bytes
+pub gap_eats : (bs cs : List ℕ) → one_gap bs ≡ Some cs → length cs < length bs
+unfolding one_gap
+gap_eats [] cs e = none_is_not cs e
+gap_eats (b ∷ bs) cs e = go (is_blank b) (b == 47) (b == 45) e
+  where
+    go : (x y z : Bool) → cond x (Some bs) (cond y (after_slash bs) (cond z (after_dash bs) None)) ≡ Some cs → length cs < length (b ∷ bs)
+    go true y z p = let same = same_Some bs cs p in rw (← same) (omega arith)
+    go false true z p = let le = after_slash_le bs cs p in omega arith
+    go false false true p = let le = after_dash_le bs cs p in omega arith
+    go false false false p = none_is_not cs p
+
+-- where a fault stands, no gap does
+pub fault_no_gap : (bs cs : List ℕ) (f : TextCode × List ℕ) → fault_at bs ≡ Some f → one_gap bs ≡ Some cs → ⊥
+unfolding fault_at one_gap
+fault_no_gap [] cs f h e = none_is_not cs e
+fault_no_gap (b ∷ bs) cs f h e =
+    let g = gap_byte b bs cs e in
+    let p : fault_at (b ∷ bs) ≡ cond (is_blank b) None (cond (b == 47) (unless (after_slash bs) (cond (is_star bs) (b ∷ bs) (b ∷ []))) (cond (b == 45) (unless (after_dash bs) (b ∷ [])) (mark_fault b))) = rw (not_letter b g, not_digit b g, not_quote b g) refl in
+    go (is_blank b) (b == 47) (b == 45) (after_slash bs) (after_dash bs) (cond (is_star bs) (b ∷ bs) (b ∷ [])) (mark_fault b) (sym p ∙ h) e
+  where
+    go : (x y z : Bool) (s d : Option (List ℕ)) (t : List ℕ) (m : Found) → cond x None (cond y (unless s t) (cond z (unless d (b ∷ [])) m)) ≡ Some f → cond x (Some bs) (cond y s (cond z d None)) ≡ Some cs → ⊥
+    go true y z s d t m p q = none_is_not f p
+    go false true z None d t m p q = none_is_not cs q
+    go false true z (Some r) d t m p q = none_is_not f p
+    go false false true s None t m p q = none_is_not cs q
+    go false false true s (Some r) t m p q = none_is_not f p
+    go false false false s d t m p q = none_is_not cs q

@@ -1,0 +1,176 @@
+-- Tokens as readers keep them are the tokens.
+use Rattle.std.proofs.Common.{◌≡◌, ℕ, ◌-◌, ◌≤◌, Bool, true, false, cond, List, [], ◌∷◌, ◌++◌, length, get_or, take, drop, Option, Some, None, refl, sym, ap, subst, ◌∙◌, append_assoc, arith}
+use Rattle.std.specs.Prelude.{◌==◌, ◌&&◌, leb, codes, unwrap_or}
+use Rattle.std.specs.Option.{option_map}
+use Rattle.std.specs.Str.{bytes_eq}
+use Rattle.std.specs.List.{list_all}
+use Rattle.std.proofs.lemmas.List.{drop_at, take_at, length-append, length-map, drop-map}
+use Rattle.std.proofs.lemmas.Bool.Decides.{nat_tests}
+use Rattle.std.proofs.lemmas.Option.{same_Some}
+use Rattle.cam_base.specs.Names.{is_letter, is_word_byte}
+use Rattle.cam_base.specs.Numbers.{is_digit, number_value}
+use Rattle.capdl_text.specs.declared.token.Kind.{Kind}
+use Rattle.capdl_text.specs.declared.token.Kind.TheVariants as kinds
+use Rattle.capdl_text.specs.declared.token.Lexeme.{Lexeme}
+use Rattle.capdl_text.specs.declared.token.Mark.{Mark}
+use Rattle.capdl_text.specs.declared.token.Sort.{Sort}
+use Rattle.capdl_text.specs.declared.token.Sort.TheVariants as sorts
+use Rattle.capdl_text.specs.declared.token.Token.{Token}
+use Rattle.capdl_text.specs.declared.token.Word.{Word}
+use Rattle.cam_base.specs.Form.{among}
+use Rattle.cam_base.specs.Reading.{starts}
+use Rattle.capdl_text.specs.Codes.{kind_code, name_codes, token_code}
+use Rattle.capdl_text.specs.Gaps.{is_blank, after_close, after_line, after_slash, after_dash, one_gap}
+use Rattle.capdl_text.specs.Lexemes.{kind_with, sees, sort_code, sort_of, token_of, tokens_of, value_at}
+use Rattle.capdl_text.specs.Lexes.{IsTokenAt, place_of}
+use Rattle.capdl_text.specs.TokensSeen.{see, text_at}
+use Rattle.capdl_text.specs.TokenKinds.{digits_kind, ends_text, is_end, kind_of, mark_of}
+use Rattle.capdl_text.specs.Words.{word_of}
+use Rattle.capdl_text.proofs.Tokens.{none_is_not}
+
+-- ---- codes
+
+pub code_with : (s : Sort) (n : ℕ) → kind_code (kind_with s n) ≡ sort_code s
+code_with (sorts.Word word) n = refl
+code_with sorts.Number n = refl
+code_with sorts.Page n = refl
+code_with sorts.Text n = refl
+code_with (sorts.Mark mark) n = refl
+
+pub name_code : (c : ℕ) → leb c 31 ≡ among name_codes c
+name_code c = grind (arith, nat_tests)
+
+-- ---- lists of them
+
+pub sees_tokens : (bytes : List ℕ) (ls : List Lexeme) → sees bytes ls ≡ see bytes (tokens_of bytes ls)
+sees_tokens bytes [] = refl
+sees_tokens bytes (l ∷ ls) = rw (sees_tokens bytes ls) refl
+
+pub tokens_more : (bytes : List ℕ) (ls : List Lexeme) (l : Lexeme) (ts : List Token) → tokens_of bytes (ls ++ l ∷ []) ++ ts ≡ tokens_of bytes ls ++ token_of bytes l ∷ ts
+tokens_more bytes [] l ts = refl
+tokens_more bytes (x ∷ ls) l ts = ap (λ (v : List Token). token_of bytes x ∷ v) (tokens_more bytes ls l ts)
+
+-- those of which so many are left
+pub tokens_left : (bytes : List ℕ) (ls : List Lexeme) (left : ℕ) → drop (length (tokens_of bytes ls) - left) (tokens_of bytes ls) ≡ tokens_of bytes (drop (length ls - left) ls)
+tokens_left bytes ls left = ap (λ (n : ℕ). drop (n - left) (tokens_of bytes ls)) (length-map ls (token_of bytes)) ∙ drop-map (token_of bytes) (length ls - left) ls
+
+-- ---- a gap is the front of the bytes
+
+-- the rest is a tail of the bytes
+abbrev pub IsTail : List ℕ → List ℕ → Type 0
+IsTail bs rest = (front : List ℕ) × (bs ≡ front ++ rest)
+
+tail_of : (b : ℕ) (bs rest : List ℕ) → IsTail bs rest → IsTail (b ∷ bs) rest
+tail_of b bs rest t = (b ∷ t.0, ap (λ (w : List ℕ). b ∷ w) t.1)
+
+line_tail : (bs : List ℕ) → IsTail bs (after_line bs)
+line_tail [] = ([], refl)
+line_tail (b ∷ bs) = go (b == 10) (line_tail bs)
+  where
+    go : (t : Bool) → IsTail bs (after_line bs) → IsTail (b ∷ bs) (cond t (b ∷ bs) (after_line bs))
+    go true r = ([], refl)
+    go false r = tail_of b bs (after_line bs) r
+
+close_tail : (bs rest : List ℕ) → after_close bs ≡ Some rest → IsTail bs rest
+close_tail [] rest e = none_is_not rest e
+close_tail (a ∷ []) rest e = none_is_not rest e
+close_tail (a ∷ b ∷ bs) rest e = go (a == 42 && b == 47) (λ p. close_tail (b ∷ bs) rest p) e
+  where
+    go : (t : Bool) → (after_close (b ∷ bs) ≡ Some rest → IsTail (b ∷ bs) rest) → cond t (Some bs) (after_close (b ∷ bs)) ≡ Some rest → IsTail (a ∷ b ∷ bs) rest
+    go true r p = (a ∷ b ∷ [], ap (λ (w : List ℕ). a ∷ b ∷ w) (same_Some bs rest p))
+    go false r p = tail_of a (b ∷ bs) rest (r p)
+
+line_tail_of : (b : ℕ) (bs rest : List ℕ) → Some (after_line bs) ≡ Some rest → IsTail (b ∷ bs) rest
+line_tail_of b bs rest p = tail_of b bs rest (subst (λ (w : List ℕ). IsTail bs w) (same_Some (after_line bs) rest p) (line_tail bs))
+
+slash_tail : (bs rest : List ℕ) → after_slash bs ≡ Some rest → IsTail bs rest
+slash_tail [] rest e = none_is_not rest e
+slash_tail (b ∷ bs) rest e = go (b == 47) (b == 42) e
+  where
+    go : (x y : Bool) → cond x (Some (after_line bs)) (cond y (after_close bs) None) ≡ Some rest → IsTail (b ∷ bs) rest
+    go true y p = line_tail_of b bs rest p
+    go false true p = tail_of b bs rest (close_tail bs rest p)
+    go false false p = none_is_not rest p
+
+dash_tail : (bs rest : List ℕ) → after_dash bs ≡ Some rest → IsTail bs rest
+dash_tail [] rest e = none_is_not rest e
+dash_tail (b ∷ bs) rest e = go (b == 45) e
+  where
+    go : (x : Bool) → cond x (Some (after_line bs)) None ≡ Some rest → IsTail (b ∷ bs) rest
+    go true p = line_tail_of b bs rest p
+    go false p = none_is_not rest p
+
+gap_tail : (bs rest : List ℕ) → one_gap bs ≡ Some rest → IsTail bs rest
+unfolding one_gap
+gap_tail [] rest e = none_is_not rest e
+gap_tail (b ∷ bs) rest e = go (is_blank b) (b == 47) (b == 45) e
+  where
+    go : (x y z : Bool) → cond x (Some bs) (cond y (after_slash bs) (cond z (after_dash bs) None)) ≡ Some rest → IsTail (b ∷ bs) rest
+    go true y z p = (b ∷ [], ap (λ (w : List ℕ). b ∷ w) (same_Some bs rest p))
+    go false true z p = tail_of b bs rest (slash_tail bs rest p)
+    go false false true p = tail_of b bs rest (dash_tail bs rest p)
+    go false false false p = none_is_not rest p
+
+tail_on : (bs mid rest front : List ℕ) → IsTail bs mid → mid ≡ front ++ rest → IsTail bs rest
+tail_on bs mid rest front t e = (t.0 ++ front, t.1 ∙ ap (λ (w : List ℕ). t.0 ++ w) e ∙ sym (append_assoc t.0 front rest))
+
+pub tail_past_gap : (bytes bs rest : List ℕ) → IsTail bytes bs → one_gap bs ≡ Some rest → IsTail bytes rest
+tail_past_gap bytes bs rest t e = let g = gap_tail bs rest e in tail_on bytes bs rest g.0 t g.1
+
+-- ---- a token's bytes have its value
+
+digits_number : (w : List ℕ) (n : ℕ) → digits_kind w ≡ Some (kinds.Number n) → number_value w ≡ Some n
+digits_number w n e = go (bytes_eq w (codes "4k")) (number_value w) e
+  where
+    go : (t : Bool) (v : Option ℕ) → cond t (Some kinds.Page) (option_map kinds.Number v) ≡ Some (kinds.Number n) → v ≡ Some n
+    go true v p = absurd cc
+    go false None p = none_is_not (kinds.Number n) p
+    go false (Some m) p = let q : m ≡ n = cc in ap (λ (x : ℕ). Some x) q
+
+number_text : (text : List ℕ) (n : ℕ) → kind_of text ≡ Some (kinds.Number n) → number_value text ≡ Some n
+unfolding kind_of
+number_text [] n e = none_is_not (kinds.Number n) e
+number_text (b ∷ bs) n e = go (is_letter b) (list_all is_word_byte bs) (is_digit b) (b == 34) (ends_text bs) (is_end bs) (word_of (b ∷ bs)) (mark_of b) e
+  where
+    go : (x a y z t u : Bool) (w : Word) (m : Option Mark) → cond x (cond a (Some (kinds.Word w)) None) (cond y (digits_kind (b ∷ bs)) (cond z (cond t (Some kinds.Text) None) (cond u (option_map kinds.Mark m) None))) ≡ Some (kinds.Number n) → number_value (b ∷ bs) ≡ Some n
+    go true true y z t u w m p = absurd cc
+    go true false y z t u w m p = none_is_not (kinds.Number n) p
+    go false a true z t u w m p = digits_number (b ∷ bs) n p
+    go false a false true true u w m p = absurd cc
+    go false a false true false u w m p = none_is_not (kinds.Number n) p
+    go false a false false t true w None p = none_is_not (kinds.Number n) p
+    go false a false false t true w (Some x) p = absurd cc
+    go false a false false t false w m p = none_is_not (kinds.Number n) p
+
+value_kept : (k : Kind) (text : List ℕ) → kind_of text ≡ Some k → kind_with (sort_of k) (unwrap_or (number_value text) 0) ≡ k
+value_kept (kinds.Word word) text e = refl
+value_kept (kinds.Number n) text e = rw (number_text text n e) refl
+value_kept kinds.Page text e = refl
+value_kept kinds.Text text e = refl
+value_kept (kinds.Mark mark) text e = refl
+
+-- the bytes between two places
+pub text_there : (front text rest : List ℕ) (total : ℕ) → total ≡ length (front ++ (text ++ rest)) → text_at (front ++ (text ++ rest)) (record { first = total - length (text ++ rest); end = total - length rest }) ≡ text
+text_there front text rest total e =
+    let a : length front ≡ total - length (text ++ rest) = omega (arith, e, length-append front (text ++ rest)) in
+    let b : length text ≡ (total - length rest) - (total - length (text ++ rest)) = omega (arith, e, length-append front (text ++ rest), length-append text rest) in
+    ap (take ((total - length rest) - (total - length (text ++ rest)))) (drop_at front (text ++ rest) (total - length (text ++ rest)) a) ∙ take_at text rest ((total - length rest) - (total - length (text ++ rest))) b
+
+module _ (bytes bs rest : List ℕ) (k : Kind) (token : IsTokenAt bs k rest) (tail : IsTail bytes bs) where
+  pub tail_past_token : IsTail bytes rest
+  tail_past_token = tail_on bytes bs rest token.text tail token.parts
+
+  text_kept : text_at bytes (place_of (length bytes) bs rest) ≡ token.text
+  text_kept =
+      let whole : bytes ≡ tail.0 ++ (token.text ++ rest) = tail.1 ∙ ap (λ (w : List ℕ). tail.0 ++ w) token.parts in
+      subst (λ (w : List ℕ). text_at w (place_of (length bytes) bs rest) ≡ token.text) (sym whole)
+      (subst (λ (w : List ℕ). text_at (tail.0 ++ (token.text ++ rest)) (place_of (length bytes) w rest) ≡ token.text) (sym token.parts) (text_there tail.0 token.text rest (length bytes) (ap length whole)))
+
+  -- the token is that of the lexeme at its place
+  pub kind_kept : kind_with (sort_of k) (value_at bytes (place_of (length bytes) bs rest)) ≡ k
+  kind_kept = ap (λ (w : List ℕ). kind_with (sort_of k) (unwrap_or (number_value w) 0)) text_kept ∙ value_kept k token.text token.kind
+
+-- the first of them is a word, which may be a name
+pub name_starts : (bytes : List ℕ) (ls : List Lexeme) (d : Lexeme) (b : Bool) → 1 ≤ length ls → ((n : ℕ) → b ≡ among name_codes (kind_code (kind_with (get_or ls 0 d).sort n))) → b ≡ starts token_code name_codes (sees bytes ls)
+name_starts bytes [] d b e h = absurd (omega arith)
+name_starts bytes (l ∷ ls) d b e h = h (value_at bytes l.place)

@@ -1,0 +1,9 @@
+use Rattle.std.proofs.Common.{◌≡◌, length}
+use Rattle.capdl_text.specs.TokenFaults.{after_run, is_line_byte}
+use Rattle.capdl_text.proofs.run.line_end.Given as goal
+
+abbrev pub invariant-run : goal.invariant-run
+invariant-run l = after_run is_line_byte l.rest ≡ after_run is_line_byte l.bytes
+
+abbrev pub decreases-run : goal.decreases-run
+decreases-run l = length l.rest

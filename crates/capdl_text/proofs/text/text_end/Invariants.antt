@@ -1,0 +1,9 @@
+use Rattle.std.proofs.Common.{◌≡◌, length}
+use Rattle.capdl_text.specs.TokenFaults.{after_text}
+use Rattle.capdl_text.proofs.text.text_end.Given as goal
+
+abbrev pub invariant-text : goal.invariant-text
+invariant-text l = after_text l.rest ≡ after_text l.bytes
+
+abbrev pub decreases-text : goal.decreases-text
+decreases-text l = length l.rest

@@ -1,0 +1,55 @@
+//! Comments.
+
+ghost use Rattle.capdl_text.specs.Gaps.{after_close, after_dash, after_line, after_slash};
+ghost use Rattle.std.specs.Prelude.{◌≡◌, option_map};
+
+/// The bytes from the next line feed on.
+fn line_end(bytes: &[u8]) -> &[u8]
+    ensures { result.now ≡ after_line bytes.now }
+{
+    let mut rest = bytes;
+    'line: while let [byte, tail @ ..] = rest {
+        if *byte == b'\n' {
+            return rest;
+        }
+        rest = tail;
+    }
+    rest
+}
+
+/// What is behind the next `*/`.
+fn comment_end(bytes: &[u8]) -> Option<&[u8]>
+    ensures { option_map (λ r. r.now) result ≡ after_close bytes.now }
+{
+    let mut rest = bytes;
+    'comment: while let [byte, tail @ ..] = rest {
+        if *byte == b'*'
+            && let [b'/', after @ ..] = tail
+        {
+            return Some(after);
+        }
+        rest = tail;
+    }
+    None
+}
+
+/// What is behind a comment whose first slash stands before.
+pub(crate) fn slash_comment(bytes: &[u8]) -> Option<&[u8]>
+    ensures { option_map (λ r. r.now) result ≡ after_slash bytes.now }
+{
+    match bytes {
+        [b'/', rest @ ..] => Some(line_end(rest)),
+        [b'*', rest @ ..] => comment_end(rest),
+        _ => None,
+    }
+}
+
+/// What is behind a comment whose first dash stands before.
+pub(crate) fn dash_comment(bytes: &[u8]) -> Option<&[u8]>
+    ensures { option_map (λ r. r.now) result ≡ after_dash bytes.now }
+{
+    match bytes {
+        [b'-', rest @ ..] => Some(line_end(rest)),
+        _ => None,
+    }
+}

@@ -1,0 +1,165 @@
+-- Reading the holders, the interrupt lines and the whole of a canonical text.
+use Rattle.std.proofs.Common.{◌≡◌, ℕ, Bool, true, false, List, [], ◌∷◌, ◌++◌, Option, Some, None, Ok, refl, sym, ap, ◌∙◌}
+use Rattle.std.specs.Prelude.{codes, decimal, not, ◌==◌, ◌&&◌, ◌||◌}
+use Rattle.std.specs.List.{list_all, flat_map}
+use Rattle.std.proofs.lemmas.Bool.{and_parts}
+use Rattle.cam_base.specs.Names.{is_name}
+use Rattle.cam_base.specs.Deciding.{decides}
+use Rattle.cam_base.specs.Form.{behind}
+use Rattle.cam_base.specs.Reading.{starts, many, whole}
+use Rattle.cam_base.proofs.Loops.{Eats, eats}
+use Rattle.cam_base.proofs.Repeats.{many_none}
+use Rattle.cam_base.proofs.Theorems.{whole_found}
+use Rattle.cap_model.specs.Canonical.{arch_word, has_slot}
+use Rattle.cap_model.specs.Lookup.{name_at}
+use Rattle.cap_model.specs.RightsWord.{has_rights, letter, rights_word}
+use Rattle.cap_model.specs.declared.cap.Cap.{Cap}
+use Rattle.cap_model.specs.declared.level.Arch.{Arch}
+use Rattle.cap_model.specs.declared.level.Arch.TheVariants.{Arm11, Aarch64}
+use Rattle.cap_model.specs.declared.object.Object.{Object}
+use Rattle.cap_model.specs.declared.object.Object.TheVariants.{Endpoint, Notification, CNode, Thread, Frame, Pages, Irq}
+use Rattle.cap_model.specs.declared.object.Tcb.{Tcb}
+use Rattle.cap_model.specs.declared.rights.Rights.{Rights}
+use Rattle.cap_model.specs.declared.spec.Entry.{Entry}
+use Rattle.cap_model.specs.declared.spec.Spec.{Spec}
+use Rattle.capdl_text.specs.Codes.{token_code, name_codes, mark_code, number_code}
+use Rattle.capdl_text.specs.declared.seen.Seen.{Seen}
+use Rattle.capdl_text.specs.declared.token.Mark.TheVariants as marks
+use Rattle.capdl_text.specs.declared.token.Span.{Span}
+use Rattle.capdl_text.specs.declared.token.Word.TheVariants as words
+use Rattle.capdl_text.specs.Words.{word_of, field_of}
+use Rattle.capdl_text.specs.Forms.{Rule, left_out_line, badge_line, param_line, param_form, params_line, maybe_params, key_codes, key_line, slot_line, slot_form, holder_line, holder_form, irq_line, irq_form, irqs_line, maybe_irqs, arch_line, object_form, spec_line}
+use Rattle.capdl_text.specs.Seeing.{rights_of}
+use Rattle.capdl_text.specs.Spelling.{opens, reads, IsSpecSpelled}
+use Rattle.capdl_text.specs.declared.tree.Holder.{Holder}
+use Rattle.capdl_text.specs.declared.tree.Id.{Id}
+use Rattle.capdl_text.specs.declared.tree.IrqLine.{IrqLine}
+use Rattle.capdl_text.specs.declared.tree.Number.{Number}
+use Rattle.capdl_text.specs.declared.tree.Param.{Param}
+use Rattle.capdl_text.specs.declared.tree.Param.TheVariants as params
+use Rattle.capdl_text.specs.declared.tree.SlotKey.{SlotKey}
+use Rattle.capdl_text.specs.declared.tree.SlotKey.TheVariants as keys
+use Rattle.capdl_text.specs.declared.tree.SlotLine.{SlotLine}
+use Rattle.capdl_text.specs.declared.tree.SpecTree.{SpecTree}
+use Rattle.capdl_text.proofs.Decides.{left_out_is, param_decides, spec_decides}
+use Rattle.capdl_text.proofs.Eats.{slot_eats, holder_eats, irq_eats}
+use Rattle.capdl_write.specs.Canon.{word, dec, hex, colon, comma, paren_l, paren_r, brace_l, brace_r, target_pieces, cap_pieces, slots_pieces, holder_pieces, named_pieces, buffer_pieces, tcb_slots, held_slots, held_tcb, held_irq, held_pieces, holders_pieces, irqs_pieces, objects_pieces, last_pieces, caps_pieces, pieces}
+use Rattle.capdl_write.specs.Pieces.{Piece}
+use Rattle.capdl_write.proofs.ReadBack.{any, one_more, at_number, objects_at, read_objects, word-badge, word-cspace, word-vspace, word-buffer, word-irq, word-maps, word-arch, word-arm11, word-aarch64, word-objects, word-caps}
+use Rattle.capdl_write.proofs.Shown.{shown}
+
+-- a word of rights stands for rights, and says them
+rights_back : (r : Rights) → has_rights r ≡ true → (word_of (rights_word r) ≡ words.Rights) × (rights_of (rights_word r) ≡ r)
+unfolding word_of field_of
+rights_back r h = go r.read r.write r.grant r.reply h
+  where
+    go : (a b c d : Bool) → (a || (b || (c || d))) ≡ true → (word_of (letter a 82 (letter b 87 (letter c 71 (letter d 80 [])))) ≡ words.Rights) × (rights_of (letter a 82 (letter b 87 (letter c 71 (letter d 80 [])))) ≡ (let s : Rights = record { read = a; write = b; grant = c; reply = d } in s))
+    go true true true true e = (refl, refl)
+    go true true true false e = (refl, refl)
+    go true true false true e = (refl, refl)
+    go true true false false e = (refl, refl)
+    go true false true true e = (refl, refl)
+    go true false true false e = (refl, refl)
+    go true false false true e = (refl, refl)
+    go true false false false e = (refl, refl)
+    go false true true true e = (refl, refl)
+    go false true true false e = (refl, refl)
+    go false true false true e = (refl, refl)
+    go false true false false e = (refl, refl)
+    go false false true true e = (refl, refl)
+    go false false true false e = (refl, refl)
+    go false false false true e = (refl, refl)
+    go false false false false e = absurd cc
+
+next_param_decides : decides opens (behind (mark_code marks.Comma) param_form) ≡ true
+unfolding param_line badge_line
+next_param_decides = refl
+
+next_param_eats : Eats (reads (behind (mark_code marks.Comma) param_form))
+next_param_eats = eats token_code left_out_line opens left_out_is 0 (behind (mark_code marks.Comma) param_form) next_param_decides refl
+
+module _ (pl : List Piece → Span) where
+  abbrev paren_code : List ℕ
+  paren_code = mark_code marks.ParenL ∷ []
+
+  abbrev comma_code : List ℕ
+  comma_code = mark_code marks.Comma ∷ []
+
+  abbrev next_param : Rule Param
+  next_param = behind (mark_code marks.Comma) param_form
+
+  abbrev pub badge_at : ℕ → List Piece → Param
+  badge_at badge tail = params.Badge (pl (word (codes "badge") [] ∷ colon ∷ dec badge [] ∷ tail)) (at_number pl badge (dec badge [] ∷ tail))
+
+  abbrev pub rights_at : Rights → List Piece → Param
+  rights_at r tail = params.Rights r (pl (word (rights_word r) [] ∷ tail))
+
+  abbrev pub params_at : Bool → Bool → Rights → ℕ → List Piece → List Param
+  params_at false false r badge more = []
+  params_at true false r badge more = rights_at r (paren_r (codes "\n") ∷ more) ∷ []
+  params_at false true r badge more = badge_at badge (paren_r (codes "\n") ∷ more) ∷ []
+  params_at true true r badge more = rights_at r (comma ∷ word (codes "badge") [] ∷ colon ∷ dec badge [] ∷ paren_r (codes "\n") ∷ more) ∷ badge_at badge (paren_r (codes "\n") ∷ more) ∷ []
+
+  read_rights : (r : Rights) (tail : List Piece) → has_rights r ≡ true → reads param_form (shown pl (word (rights_word r) [] ∷ tail)) ≡ Ok (rights_at r tail, shown pl tail)
+  unfolding param_line
+  read_rights r tail h = let k = rights_back r h in rw (k.0) (rw (k.1) refl)
+
+  read_badge : (badge : ℕ) (tail : List Piece) → reads param_form (shown pl (word (codes "badge") [] ∷ colon ∷ dec badge [] ∷ tail)) ≡ Ok (badge_at badge tail, shown pl tail)
+  unfolding param_line badge_line
+  read_badge badge tail = rw word-badge refl
+
+  no_more : (more : List Piece) → many token_code comma_code (reads next_param) (shown pl (paren_r (codes "\n") ∷ more)) ≡ Ok ([], shown pl (paren_r (codes "\n") ∷ more))
+  no_more more = many_none token_code comma_code (reads next_param) (shown pl (paren_r (codes "\n") ∷ more)) refl
+
+  one_param : (ps : List Piece) (x : Param) (us : List Seen) (xs : List Param) (rest : List Seen) → reads param_form (shown pl ps) ≡ Ok (x, us)
+      → many token_code comma_code (reads next_param) us ≡ Ok (xs, rest) → many token_code comma_code (reads next_param) (shown pl (comma ∷ ps)) ≡ Ok (x ∷ xs, rest)
+  one_param ps x us xs rest e m = one_more comma_code next_param next_param_eats (shown pl (comma ∷ ps)) x us xs rest refl (rw e refl) m
+
+  last_param : (badge : ℕ) (more : List Piece) → many token_code comma_code (reads next_param) (shown pl (comma ∷ word (codes "badge") [] ∷ colon ∷ dec badge [] ∷ paren_r (codes "\n") ∷ more)) ≡ Ok (badge_at badge (paren_r (codes "\n") ∷ more) ∷ [], shown pl (paren_r (codes "\n") ∷ more))
+  last_param badge more =
+      one_param (word (codes "badge") [] ∷ colon ∷ dec badge [] ∷ paren_r (codes "\n") ∷ more) (badge_at badge (paren_r (codes "\n") ∷ more)) (shown pl (paren_r (codes "\n") ∷ more)) [] (shown pl (paren_r (codes "\n") ∷ more))
+      (read_badge badge (paren_r (codes "\n") ∷ more)) (no_more more)
+
+  -- a slot, by its key's piece
+  abbrev pub slot_at : SlotKey → Piece → List ℕ → Bool → Bool → Rights → ℕ → List Piece → SlotLine
+  slot_at key p name r b rights badge more = record {
+    key = key;
+    place = pl (p ∷ colon ∷ target_pieces name r b rights badge more);
+    object = record { name = name; place = pl (target_pieces name r b rights badge more) };
+    params = params_at r b rights badge more;
+  }
+
+  pub read_slot : (n : ℕ) (name : List ℕ) (r b : Bool) (rights : Rights) (badge : ℕ) (more : List Piece) → is_name name ≡ true → (r ≡ true → has_rights rights ≡ true) → starts token_code paren_code (shown pl more) ≡ false
+      → reads slot_form (shown pl (hex n [] ∷ colon ∷ target_pieces name r b rights badge more)) ≡ Ok (slot_at (keys.Number n) (hex n []) name r b rights badge more, shown pl more)
+  unfolding slot_line key_line maybe_params params_line
+  read_slot n name false false rights badge more w h s = rw (any (word_of name), w, s) refl
+  read_slot n name true false rights badge more w h s = rw (any (word_of name), w, read_rights rights (paren_r (codes "\n") ∷ more) (h refl), no_more more) refl
+  read_slot n name false true rights badge more w h s = rw (any (word_of name), w, read_badge badge (paren_r (codes "\n") ∷ more), no_more more) refl
+  read_slot n name true true rights badge more w h s =
+      rw (any (word_of name), w, read_rights rights (comma ∷ word (codes "badge") [] ∷ colon ∷ dec badge [] ∷ paren_r (codes "\n") ∷ more) (h refl), last_param badge more) refl
+
+  pub read_buffer : (name : List ℕ) (r b : Bool) (rights : Rights) (badge : ℕ) (more : List Piece) → is_name name ≡ true → (r ≡ true → has_rights rights ≡ true) → starts token_code paren_code (shown pl more) ≡ false
+      → reads slot_form (shown pl (word (codes "ipc_buffer_slot") [] ∷ colon ∷ target_pieces name r b rights badge more)) ≡ Ok (slot_at keys.Buffer (word (codes "ipc_buffer_slot") []) name r b rights badge more, shown pl more)
+  unfolding slot_line key_line maybe_params params_line
+  read_buffer name false false rights badge more w h s = rw (word-buffer, any (word_of name), w, s) refl
+  read_buffer name true false rights badge more w h s = rw (word-buffer, any (word_of name), w, read_rights rights (paren_r (codes "\n") ∷ more) (h refl), no_more more) refl
+  read_buffer name false true rights badge more w h s = rw (word-buffer, any (word_of name), w, read_badge badge (paren_r (codes "\n") ∷ more), no_more more) refl
+  read_buffer name true true rights badge more w h s =
+      rw (word-buffer, any (word_of name), w, read_rights rights (comma ∷ word (codes "badge") [] ∷ colon ∷ dec badge [] ∷ paren_r (codes "\n") ∷ more) (h refl), last_param badge more) refl
+
+  abbrev pub no_rights_at : Rights
+  no_rights_at = record { read = false; write = false; grant = false; reply = false }
+
+  -- a named slot without parameters
+  abbrev pub plain_at : SlotKey → List ℕ → List ℕ → List Piece → SlotLine
+  plain_at key text name more = slot_at key (word text []) name false false no_rights_at 0 more
+
+  pub read_cspace : (name : List ℕ) (more : List Piece) → is_name name ≡ true → starts token_code paren_code (shown pl more) ≡ false
+      → reads slot_form (shown pl (word (codes "cspace") [] ∷ colon ∷ word name (codes "\n") ∷ more)) ≡ Ok (plain_at keys.Cspace (codes "cspace") name more, shown pl more)
+  unfolding slot_line key_line maybe_params
+  read_cspace name more w s = rw (word-cspace, any (word_of name), w, s) refl
+
+  pub read_vspace : (name : List ℕ) (more : List Piece) → is_name name ≡ true → starts token_code paren_code (shown pl more) ≡ false
+      → reads slot_form (shown pl (word (codes "vspace") [] ∷ colon ∷ word name (codes "\n") ∷ more)) ≡ Ok (plain_at keys.Vspace (codes "vspace") name more, shown pl more)
+  unfolding slot_line key_line maybe_params
+  read_vspace name more w s = rw (word-vspace, any (word_of name), w, s) refl

@@ -1,6 +1,0 @@
-use Rattle.std.proofs.Common.{◌≡◌, ◌<◌, ℕ, true}
-use Rattle.adl_meaning.specs.Graph.{has}
-use Rattle.component_graph.proofs.cycles.all_below.Given as goal
-
-abbrev pub invariant-loop-number : goal.invariant-loop-number
-invariant-loop-number l = (x : ℕ) → has l.numbers.items x ≡ true → x < l.size

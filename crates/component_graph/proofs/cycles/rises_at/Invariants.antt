@@ -1,7 +1,0 @@
-use Rattle.std.proofs.Common.{◌≡◌, ◌<◌, ◌⊎◌, ℕ, true, take, get_or}
-use Rattle.adl_meaning.specs.Graph.{has}
-use Rattle.component_graph.proofs.cycles.rises_at.Given as goal
-
-abbrev pub invariant-loop-number : goal.invariant-loop-number
-invariant-loop-number l = (c : ℕ) → has (take l.number-index l.inner) c ≡ true
-    → (get_or l.roots c 0 ≡ l.root) ⊎ (get_or l.ranks l.root 0 < get_or l.ranks (get_or l.roots c 0) 0)

@@ -1,5 +1,0 @@
-use Rattle.component_graph.specs.Cycles.{AreRoots}
-use Rattle.component_graph.proofs.cycles.roots_from.Given as goal
-
-abbrev pub invariant-loop-start : goal.invariant-loop-start
-invariant-loop-start l = AreRoots l.graph l.roots.items

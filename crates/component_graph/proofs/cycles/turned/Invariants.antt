@@ -1,9 +1,0 @@
-use Rattle.std.proofs.Common.{◌≡◌, ◌<◌, ℕ, true, length}
-use Rattle.adl_meaning.specs.Graph.{has, inner_of}
-use Rattle.component_graph.proofs.cycles.turned.Given as goal
-
-abbrev pub invariant-loop-component : goal.invariant-loop-component
-invariant-loop-component l = record {
-  size : length l.outer.items ≡ length l.graph;
-  edges : (c a : ℕ) → has (inner_of l.outer.items c) a ≡ true → (a < l.component) × (has (inner_of l.graph a) c ≡ true);
-}

@@ -1,5 +1,0 @@
-use Rattle.component_graph.proofs.Marks.{marks_few}
-use Rattle.component_graph.proofs.number_set.NumberSet.list.Goals as goal
-
-pub returns-clause-few : goal.returns-clause-few
-returns-clause-few c = rw (← c.self.view_is) (marks_few c.self.inside.marks.items c.self.inside.list c.self.invariant)

@@ -1,9 +1,0 @@
-use Rattle.std.proofs.Common.{◌<◌}
-use Rattle.component_graph.specs.Placing.{IsPlacing, Settles}
-use Rattle.component_graph.proofs.placing.Placing.settle_all.Given as goal
-
-abbrev pub invariant-loop-component : goal.invariant-loop-component
-invariant-loop-component l = record {
-  placing : IsPlacing l.graph l.self;
-  settles : Settles l.graph l.fn.self l.self (λ x. x < l.component);
-}

@@ -1,9 +1,0 @@
-use Rattle.std.proofs.Common.{◌≡◌, ◌-◌, ℕ, true, length, take}
-use Rattle.adl_meaning.specs.Graph.{has}
-use Rattle.component_graph.proofs.placing.next_open.Given as goal
-
-abbrev pub invariant-loop-next : goal.invariant-loop-next
-invariant-loop-next l = (c : ℕ) → has (take l.next l.inner) c ≡ true → has l.placed.list c ≡ true
-
-abbrev pub decreases-loop-next : goal.decreases-loop-next
-decreases-loop-next l = length l.inner - l.next

@@ -1,2 +1,0 @@
-pub mod Lines
-pub use Rattle.auth_kinds.specs.Policies

@@ -1,4 +1,0 @@
-pub mod Heads
-pub mod Reading
-pub mod Tables
-pub mod Values

@@ -1,8 +1,0 @@
--- The program headers that are left to an iterator.
-use Rattle.std.specs.Prelude.{List}
-use Rattle.elf_images.specs.Headers.{headers_from}
-use Rattle.elf_images.specs.declared.program_header.ProgramHeader.{ProgramHeader}
-use Rattle.elf_images.specs.declared.program_headers.ProgramHeaders.{ProgramHeaders}
-
-abbrev pub headers_left : ProgramHeaders → List ProgramHeader
-headers_left h = headers_from h.class h.bytes.now h.number h.first h.left

@@ -1,9 +1,0 @@
-use Rattle.std.proofs.Common.{◌≡◌, ◌++◌, ◌∷◌, [], codes, decimal, length, take}
-use Rattle.std.specs.List.{flat_map}
-use Rattle.cam_base.specs.Texts.{together}
-use Rattle.edge_lines.specs.Lines.{edge_line}
-use Rattle.flow_text.proofs.chains.chain_text.Given as goal
-
-abbrev pub invariant-loop-edge : goal.invariant-loop-edge
-invariant-loop-edge l =
-    l.text ≡ together (codes "flow " ∷ decimal (length l.chain) ∷ codes " edges\n" ∷ []) ++ flat_map (edge_line [] l.policy.labels) (take l.edge-index l.chain)

@@ -1,6 +1,0 @@
-use Rattle.std.proofs.Common.{take}
-use Rattle.flow_text.specs.Told.{AreLines}
-use Rattle.flow_text.proofs.lines.flows_text.Given as goal
-
-abbrev pub invariant-loop-label : goal.invariant-loop-label
-invariant-loop-label l = AreLines l.policy.edges l.policy.labels (take l.label-index l.policy.labels) l.text

@@ -1,5 +1,0 @@
-use Rattle.label_flow.specs.Search.{is_source}
-use Rattle.flow_text.proofs.lines.line_of.Goals as goal
-
-pub returns : goal.returns
-returns c = (is_source c.in_ok-sources.sources, c.in_ok-sources.ensures, c.in_ok-line.ensures)

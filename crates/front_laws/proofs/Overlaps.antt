@@ -1,0 +1,160 @@
+-- The first two regions that have an address in common.
+use Rattle.std.proofs.Common.{◌≡◌, ◌<◌, ◌≤◌, ◌+◌, ◌^◌, ◌⊎◌, ℕ, true, false, ◌&&◌, nat_lt, List, length, [], ◌∷◌, ◌++◌, get_or, Option, Some, None, option_map, refl, sym, ◌∙◌, ap, subst, arith, inl, inr, true≢false}
+use Rattle.std.proofs.lemmas.Bool.{and_parts, cases_eq, cases_lt, lt-ltb, ltb-true}
+use Rattle.std.proofs.lemmas.List.Quantifiers.{position-Some}
+use Rattle.std.proofs.lemmas.Option.{get_or_from_slice_get, slice_get-get_or}
+use Rattle.std.specs.List.{position, slice_get}
+use Rattle.std.specs.Option.{option_or}
+use Rattle.boot_plan.specs.Overlaps.{first_overlap, overlap_at, overlap_behind}
+use Rattle.boot_plan.specs.Regions.{region_end, shares}
+use Rattle.boot_plan.specs.declared.untyped.Untyped.{Untyped}
+use Rattle.boot_plan.proofs.Powers.{pow_le}
+use Rattle.cam_base.proofs.Gathered.{get_behind, get_front}
+use Rattle.cam_base.proofs.NumberedLists.{map_some}
+use Rattle.front_laws.specs.PlannedMemory.{IsFirstOverlap, Overlap, ShareAddress}
+use Rattle.front_laws.proofs.First.{First, IsClean, first_of, from_first, from_none}
+use Rattle.front_laws.proofs.Places.{at_split, front_get, none_passes}
+
+-- ---- two regions
+
+pub has_bytes : (bits : ℕ) → 0 < 2 ^ bits
+has_bytes bits = let p : 2 ^ 0 ≤ 2 ^ bits = pow_le 0 bits (omega arith) in omega (arith, p)
+
+shared : (r q : Untyped) → shares r q ≡ true → ShareAddress q r
+shared r q t =
+    let parts = and_parts (nat_lt r.paddr (region_end q)) (nat_lt q.paddr (region_end r)) t in
+    let first : r.paddr < q.paddr + 2 ^ q.bits = ltb-true r.paddr (region_end q) parts.0 in
+    let second : q.paddr < r.paddr + 2 ^ r.bits = ltb-true q.paddr (region_end r) parts.1 in
+    let room = has_bytes q.bits in
+    let more = has_bytes r.bits in
+    elim (cases_lt r.paddr q.paddr) [
+      | inl l ↦ record { address = q.paddr; low = omega arith; high = omega (arith, room); other_low = omega (arith, l); other_high = second }
+      | inr l ↦ record { address = r.paddr; low = l; high = first; other_low = omega arith; other_high = omega (arith, more) }
+    ]
+
+sharing : (r q : Untyped) → ShareAddress q r → shares r q ≡ true
+sharing r q s =
+    let a = s.low in
+    let b = s.high in
+    let c = s.other_low in
+    let d = s.other_high in
+    let first : r.paddr < region_end q = omega (arith, b, c) in
+    let second : q.paddr < region_end r = omega (arith, a, d) in
+    ap (λ z. z && nat_lt q.paddr (region_end r)) (lt-ltb r.paddr (region_end q) first) ∙ lt-ltb q.paddr (region_end r) second
+
+-- ---- the walk
+
+as_first : (before rs : List Untyped) → overlap_behind before rs ≡ first_of overlap_at before rs
+as_first before [] = refl
+as_first before (r ∷ rs) = ap (λ o. option_or (overlap_at before r) o) (as_first (before ++ r ∷ []) rs)
+
+-- a number, with that of the region
+abbrev numbered : ℕ → ℕ → ℕ × ℕ
+numbered n k = (k, n)
+
+none_at : (o : Option ℕ) (n : ℕ) → option_map (numbered n) o ≡ None → o ≡ None
+none_at None n e = refl
+none_at (Some k) n e = cc
+
+-- where nothing is said of regions, none overlaps one in front of it
+none_overlaps : (rs : List Untyped) → IsClean overlap_at [] rs → (i j : ℕ) → Overlap rs i j → ⊥
+none_overlaps rs clean i j o =
+    let s = at_split rs j o.second o.at_second in
+    let l = o.order in
+    let n = s.3 in
+    let P : List Untyped → Type 0 = λ z. slice_get z i ≡ Some o.first in
+    let first = front_get s.0 (o.second ∷ s.1) i o.first (subst P s.2 o.at_first) (omega (arith, l, n)) in
+    none_passes (shares o.second) s.0 i o.first (none_at (position (shares o.second) s.0) (length s.0) (clean s.0 s.1 o.second s.2)) first (sharing o.second o.first o.shared)
+
+-- the overlaps of a front
+overlap_front : (p q : List Untyped) (i j : ℕ) → Overlap (p ++ q) i j → j < length p → Overlap p i j
+overlap_front p q i j o l =
+    let r = o.order in
+    record { first = o.first; second = o.second; at_first = front_get p q i o.first o.at_first (omega (arith, l, r)); at_second = front_get p q j o.second o.at_second l; order = o.order; shared = o.shared }
+
+from_overlap : (rs : List Untyped) (i j : ℕ) → first_overlap rs ≡ Some (i, j) → IsFirstOverlap rs i j
+from_overlap rs i j e =
+    let f = from_first overlap_at [] rs (i, j) (sym (as_first [] rs) ∙ e) in
+    let r = f.item in
+    let m = map_some (numbered (length f.front)) (position (shares r) f.front) (i, j) f.says in
+    let is_i : m.0 ≡ i = ap (λ (z : ℕ × ℕ). z.0) m.2 in
+    let is_j : length f.front ≡ j = ap (λ (z : ℕ × ℕ). z.1) m.2 in
+    let at : position (shares r) f.front ≡ Some i = m.1 ∙ ap Some is_i in
+    let p = position-Some (shares r) f.front i r at in
+    let low = p.0 in
+    let there : slice_get f.front i ≡ Some (get_or f.front i r) = slice_get-get_or f.front i r low in
+    let P : List Untyped → Type 0 = λ z. slice_get z i ≡ Some (get_or f.front i r) in
+    let Q : List Untyped → Type 0 = λ z. slice_get z j ≡ Some r in
+    record {
+      overlap = record {
+        first = get_or f.front i r;
+        second = r;
+        at_first = subst P (sym f.split) (get_front f.front (r ∷ f.rest) i (get_or f.front i r) there);
+        at_second = subst Q (sym f.split) (get_behind f.front (r ∷ f.rest) 0 j (omega (arith, is_j)));
+        order = omega (arith, low, is_j);
+        shared = shared r (get_or f.front i r) p.1;
+      };
+      first = λ k l o. earliest f k l o (get_or f.front i r) p.2 is_j;
+    }
+  where
+    earliest : (f : First overlap_at [] rs (i, j)) (k l : ℕ) → Overlap rs k l → Untyped → ((n : ℕ) → n < i → shares f.item (get_or f.front n f.item) ≡ false) → length f.front ≡ j
+        → (j < l) ⊎ ((l ≡ j) × (i ≤ k))
+    earliest f k l o x least is_j = elim (cases_lt j l) [
+      | inl more ↦ inl more
+      | inr most ↦ elim (cases_eq l j) [
+        | inl same ↦ inr (same, late same)
+        | inr other ↦
+            let P : List Untyped → Type 0 = λ z. Overlap z k l in
+            let less : l < length f.front = less_than other most in
+            absurd (none_overlaps f.front f.clean k l (overlap_front f.front (f.item ∷ f.rest) k l (subst P f.split o) less))
+      ]
+    ]
+      where
+        less_than : (l ≡ j → ⊥) → l ≤ j → l < length f.front
+        less_than n m = elim (cases_lt l j) [ inl y ↦ omega (arith, y, is_j) | inr y ↦ absurd (n (omega (arith, m, y))) ]
+
+        late : l ≡ j → i ≤ k
+        late same = elim (cases_lt k i) [
+          | inr y ↦ y
+          | inl y ↦
+              let P : List Untyped → Type 0 = λ z. slice_get z k ≡ Some o.first in
+              let Q : List Untyped → Type 0 = λ z. slice_get z l ≡ Some o.second in
+              let order = o.order in
+              let here : slice_get f.front k ≡ Some o.first = front_get f.front (f.item ∷ f.rest) k o.first (subst P f.split o.at_first) (omega (arith, order, same, is_j)) in
+              let item : slice_get (f.front ++ f.item ∷ f.rest) l ≡ Some f.item = get_behind f.front (f.item ∷ f.rest) 0 l (omega (arith, same, is_j)) in
+              let at_l = subst Q f.split o.at_second in
+              let second : o.second ≡ f.item = let a = sym at_l ∙ item in cc in
+              let is_first = get_or_from_slice_get f.front k o.first f.item here in
+              let R : Untyped → Type 0 = λ z. ShareAddress o.first z in
+              let t = sharing f.item o.first (subst R second o.shared) in
+              absurd (true≢false (sym t ∙ ap (shares f.item) (sym is_first) ∙ least k y))
+        ]
+
+pub none_from : (rs : List Untyped) → first_overlap rs ≡ None → (i j : ℕ) → Overlap rs i j → ⊥
+none_from rs e = none_overlaps rs (from_none overlap_at [] rs (sym (as_first [] rs) ∙ e))
+
+-- two that are both the first are the same
+same_first : (rs : List Untyped) (i j k l : ℕ) → IsFirstOverlap rs i j → IsFirstOverlap rs k l → (i ≡ k) × (j ≡ l)
+same_first rs i j k l a b = by_both (a.first k l b.overlap) (b.first i j a.overlap)
+  where
+    by_both : (j < l) ⊎ ((l ≡ j) × (i ≤ k)) → (l < j) ⊎ ((j ≡ l) × (k ≤ i)) → (i ≡ k) × (j ≡ l)
+    by_both (inl x) (inl y) = absurd (omega (arith, x, y))
+    by_both (inl x) (inr (y, z)) = absurd (omega (arith, x, y))
+    by_both (inr (x, z)) (inl y) = absurd (omega (arith, x, y))
+    by_both (inr (x, z)) (inr (y, w)) = (omega (arith, z, w), y)
+
+pub overlaps : (rs : List Untyped) (i j : ℕ) → (first_overlap rs ≡ Some (i, j) → IsFirstOverlap rs i j) × (IsFirstOverlap rs i j → first_overlap rs ≡ Some (i, j))
+overlaps rs i j = (from_overlap rs i j, λ f. by_case (first_overlap rs) refl f)
+  where
+    by_case : (o : Option (ℕ × ℕ)) → first_overlap rs ≡ o → IsFirstOverlap rs i j → first_overlap rs ≡ Some (i, j)
+    by_case None e f = absurd (none_from rs e i j f.overlap)
+    by_case (Some (k, l)) e f =
+        let same = same_first rs k l i j (from_overlap rs k l e) f in
+        e ∙ ap (λ z. Some (z, l)) same.0 ∙ ap (λ z. Some (i, z)) same.1
+
+pub in_none_overlaps : (rs : List Untyped) → ((i j : ℕ) → Overlap rs i j → ⊥) → first_overlap rs ≡ None
+in_none_overlaps rs none = by_case (first_overlap rs) refl
+  where
+    by_case : (o : Option (ℕ × ℕ)) → first_overlap rs ≡ o → first_overlap rs ≡ None
+    by_case None e = e
+    by_case (Some (k, l)) e = absurd (none k l (from_overlap rs k l e).overlap)

@@ -1,5 +1,0 @@
-pub mod ActsLet
-pub mod Commanding
-pub mod Lessening
-pub mod StepsLet
-pub mod Writes

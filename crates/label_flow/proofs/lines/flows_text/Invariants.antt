@@ -1,0 +1,6 @@
+use Rattle.std.proofs.Common.{take}
+use Rattle.label_flow.specs.Told.{AreLines}
+use Rattle.label_flow.proofs.lines.flows_text.Given as goal
+
+abbrev pub invariant-loop-label : goal.invariant-loop-label
+invariant-loop-label l = AreLines l.policy.edges l.policy.labels (take l.label-index l.policy.labels) l.text

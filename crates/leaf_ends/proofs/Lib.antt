@@ -1,4 +1,0 @@
-pub mod Keyword
-pub mod Ordering
-pub mod Picking
-pub mod Spreading

@@ -1,6 +1,0 @@
-use Rattle.std.proofs.Common.{◌≡◌, drop}
-use Rattle.leaf_ends.specs.Limit.{keyword_among}
-use Rattle.leaf_ends.proofs.limit.keyword_among.Given as goal
-
-abbrev pub invariant-loop-file : goal.invariant-loop-file
-invariant-loop-file l = keyword_among (drop l.file-index l.files) ≡ keyword_among l.files

@@ -1,0 +1,7 @@
+use Rattle.std.proofs.Common.{◌≡◌, drop, map}
+use Rattle.name_tables.specs.ByName.{found}
+use Rattle.name_tables.specs.Naming.{shown}
+use Rattle.name_tables.proofs.names.among.Given as goal
+
+abbrev pub invariant-loop-entry : goal.invariant-loop-entry
+invariant-loop-entry g l = found (map shown (drop l.entry-index l.entries)) l.name ≡ found (map shown l.entries) l.name

@@ -1,8 +1,0 @@
-pub mod Apart
-pub mod Clashing
-pub mod Free
-pub mod InOrder
-pub mod Leaves
-pub mod Rising
-pub mod SectionsTold
-pub mod Sorting

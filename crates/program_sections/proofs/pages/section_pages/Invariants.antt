@@ -1,8 +1,0 @@
-use Rattle.std.proofs.Common.{◌≡◌, ◌++◌, drop}
-use Rattle.std.specs.List.{flat_map}
-use Rattle.program_sections.specs.ByAddress.{pages_of, section_pages}
-use Rattle.program_sections.specs.Told.{sections_told}
-use Rattle.program_sections.proofs.pages.section_pages.Given as goal
-
-abbrev pub invariant-loop-placed : goal.invariant-loop-placed
-invariant-loop-placed l = l.pages ++ flat_map (pages_of l.images) (sections_told (drop l.placed-index l.placed-items)) ≡ section_pages l.images l.leaves

@@ -1,0 +1,5 @@
+use Rattle.cam_base.proofs.Gathered.{listed_at}
+use Rattle.source_images.proofs.faults.note_leaves.Goals as goal
+
+pub note_leaf-requires-clause-leaf : goal.note_leaf-requires-clause-leaf
+note_leaf-requires-clause-leaf c = c.requires.leaves _ (listed_at c.args.leaves.now c.loop-leaf.leaf-index c.loop-leaf-test.true)

@@ -1,7 +1,0 @@
-use Rattle.reach_steps.proofs.PlainSteps.{steps_plain}
-use Rattle.spec_edges.proofs.Connections.{holds_plain}
-use Rattle.system_spec.specs.Made.{spec_of}
-use Rattle.spec_edges.proofs.laws.laid_out_specs_take_plain_steps.Goals as goal
-
-pub returns : goal.returns
-returns c = λ t h. steps_plain (spec_of t) (holds_plain t h)

@@ -1,5 +1,0 @@
-use Rattle.spec_edges.proofs.Connections.{laid_out}
-use Rattle.spec_edges.proofs.laws.specs_are_laid_out.Goals as goal
-
-pub returns : goal.returns
-returns c = λ t h apart kept. laid_out t h apart kept

@@ -1,0 +1,85 @@
+-- The names of components are names, in files that tokens spell.
+use Rattle.std.proofs.Common.{◌≡◌, ◌∙◌, ℕ, Bool, true, false, cond, List, [], ◌∷◌, Option, Some, refl, sym, ap, subst, unwrap_or}
+use Rattle.std.specs.List.{slice_get}
+use Rattle.std.specs.Option.{option_map_or}
+use Rattle.adl_ast.specs.Forms.{component_line, item_line}
+use Rattle.adl_ast.specs.Seeing.{named}
+use Rattle.adl_ast.specs.declared.component.Component.{Component}
+use Rattle.adl_ast.specs.declared.file.Ended.{Ended}
+use Rattle.adl_ast.specs.declared.file.Item.{Item}
+use Rattle.adl_ast.specs.declared.file.Item.TheVariants as items
+use Rattle.adl_ast.specs.declared.id.Id.{Id}
+use Rattle.adl_ast.specs.declared.source.Source.{Source}
+use Rattle.adl_hierarchy.proofs.Bodies.{body_number}
+use Rattle.adl_hierarchy.proofs.Sources.{component_item}
+use Rattle.adl_meaning.specs.declared.flat.Leaf.{Leaf}
+use Rattle.adl_meaning.specs.declared.item_at.ItemAt.{ItemAt}
+use Rattle.adl_meaning.specs.Flat.{flat_of, leaf_of}
+use Rattle.adl_meaning.specs.Hierarchy.{Body, hierarchy_of}
+use Rattle.adl_meaning.specs.Items.{as_component, components, items_of}
+use Rattle.cam_base.specs.Gather.{IsIn}
+use Rattle.adl_meaning.specs.NameFaults.{AreNamesSound}
+use Rattle.adl_meaning.specs.Paths.{leaves}
+use Rattle.cam_base.specs.Names.{is_name}
+use Rattle.adl_hierarchy.proofs.Lists.{in_get}
+use Rattle.cam_base.proofs.NumberedLists.{from_filter_map, from_get_map}
+use Rattle.flat_laws.specs.ShortFiles.{AreFilesShort}
+use Rattle.flat_laws.proofs.FlatLeaves.{leaf_component}
+use Rattle.flat_laws.proofs.MembersAt.{item_at}
+use Rattle.system_spec.specs.Tables.{component_name, name_of_item}
+use Rattle.adl_hierarchy.proofs.Spelled.{item_component, IsOne, item_spelled}
+
+-- ---- names of spelled components
+
+named_is : (text : List ℕ) → is_name (named text) ≡ true
+named_is text = by_test (is_name text) refl
+  where
+    by_test : (b : Bool) → is_name text ≡ b → is_name (cond b text (95 ∷ [])) ≡ true
+    by_test true e = e
+    by_test false e = refl
+
+pub component_named : (c : Component) → IsOne component_line c → is_name c.id.name ≡ true
+unfolding component_line
+component_named c w =
+    let p = w.1 in
+    let word = p.2.4.3 in
+    let P : List ℕ → Type 0 = λ z. is_name z ≡ true in
+    let is : c.id.name ≡ named word.0.text = ap (λ (z : Component). z.id.name) p.1 ∙ ap (λ (z : Id). z.name) word.1 in
+    subst P (sym is) (named_is word.0.text)
+
+pub components_named : (s : Source) → AreFilesShort s → (c : ItemAt × Component) → IsIn c (components s) → is_name c.1.id.name ≡ true
+components_named s short c i =
+    let x = component_item s c i in
+    let P : Item → Type 0 = λ y. IsOne item_line y in
+    component_named c.1 (item_component c.1 (subst P x.2 (item_spelled s (λ f j. let w = short f j in (w.0, w.1)) x.0 x.1)))
+
+-- ---- the names of leaves' components
+
+name_there : (s : Source) (c : ItemAt × Component) → IsIn c (components s) → component_name s c.0 ≡ c.1.id.name
+name_there s c i =
+    let x = from_filter_map as_component c (items_of s) i in
+    let e = item_at s x.0 x.1 in
+    by_item x.0 x.2 (ap (λ (o : Option Ended). option_map_or (λ (z : Ended). name_of_item z.item) o []) e.1 ∙ ap name_of_item e.2)
+  where
+    by_item : (y : ItemAt × Item) → as_component y ≡ Some c → component_name s y.0 ≡ name_of_item y.1 → component_name s c.0 ≡ c.1.id.name
+    by_item (at, items.Import i) t m = cc
+    by_item (at, items.Procedure p) t m = cc
+    by_item (at, items.Component d) t m =
+        let same : (at, d) ≡ c = cc in
+        let P : ItemAt × Component → Type 0 = λ z. component_name s z.0 ≡ z.1.id.name in
+        subst P same m
+    by_item (at, items.Assembly a) t m = cc
+
+pub leaves_named : (s : Source) → AreFilesShort s → AreNamesSound s → (l : ℕ) (leaf : Leaf) → slice_get (flat_of s).leaves l ≡ Some leaf → is_name (component_name s leaf.component) ≡ true
+leaves_named s short sound l leaf at =
+    let h = hierarchy_of s in
+    let x = from_get_map (leaf_of h) (leaves h) l leaf at in
+    let c = leaf_component s sound x.0 (in_get (leaves h) l x.0 x.1) in
+    let k = x.0.part.kind in
+    let i = in_get (components s) k c.0 c.1 in
+    let P : List ℕ → Type 0 = λ z. is_name z ≡ true in
+    let is : component_name s leaf.component ≡ c.0.1.id.name =
+    ap (λ (z : Leaf). component_name s z.component) (sym x.2)
+    ∙ ap (λ (b : Body). component_name s (unwrap_or b.item (record { file = 0; item = 0 }))) (body_number s k c.0 c.1)
+    ∙ name_there s c.0 i in
+    subst P (sym is) (components_named s short c.0 i)

@@ -1,0 +1,32 @@
+-- How many pages and page tables there are, where no limit on them is passed.
+use Rattle.std.proofs.Common.{◌≡◌, ◌≤◌, ◌∙◌, [], ◌∷◌, ◌++◌, sym, ap, None}
+use Rattle.std.specs.Prelude.{sum, codes}
+use Rattle.std.specs.List.{flat_map}
+use Rattle.adl_ast.specs.declared.composition.Assembly.{Assembly}
+use Rattle.adl_meaning.specs.declared.item_at.ItemAt.{ItemAt}
+use Rattle.adl_meaning.specs.Items.{assemblies}
+use Rattle.adl_meaning.specs.SizeFaults.{limit_passed}
+use Rattle.adl_meaning.proofs.Least.{least-empty}
+use Rattle.adl_hierarchy.proofs.Limits.{not_passed}
+use Rattle.cam_base.proofs.NumberedLists.{none_left, none_right}
+use Rattle.vspace_layout.specs.Given.{Given}
+use Rattle.vspace_layout.specs.PageLimits.{first_page_limit, limits_passed, page_counts, page_faults, table_counts}
+
+-- all domains together have at most so many pages, and so many page tables
+pub record AreFewPages (g : Given) : Type 0 where
+  pub pages : sum (page_counts g) ≤ 65536
+  pub tables : sum (table_counts g) ≤ 65536
+
+pub few_pages : (g : Given) (a : ItemAt × Assembly) → assemblies g.source ≡ a ∷ [] → first_page_limit g ≡ None → AreFewPages g
+few_pages g a one none =
+    let n = sum (page_counts g) in
+    let m = sum (table_counts g) in
+    let empty = least-empty (page_faults g) none in
+    let here : limits_passed n m a ++ [] ≡ [] = sym (ap (λ xs. flat_map (limits_passed n m) xs) one) ∙ empty in
+    let both = none_left (limits_passed n m a) [] here in
+    let pages = limit_passed a (codes "pages") 65536 n in
+    let tables = limit_passed a (codes "tables") 65536 m in
+    record {
+      pages = not_passed a (codes "pages") 65536 n (none_left pages tables both);
+      tables = not_passed a (codes "tables") 65536 m (none_right pages tables both);
+    }

@@ -1,0 +1,80 @@
+-- The settings of an end by its numbers, with what they are found at: where no fault of types or settings stands, its values
+-- are allowed, none is missing, and interface and leaf are as the connector table has them.
+use Rattle.std.proofs.Common.{◌≡◌, ◌∙◌, ℕ, true, [], Option, Some, None, refl, ap}
+use Rattle.std.specs.List.{slice_get}
+use Rattle.std.specs.Option.{option_and_then}
+use Rattle.adl_ast.specs.declared.component.Member.TheVariants as members
+use Rattle.adl_ast.specs.declared.source.Source.{Source}
+use Rattle.adl_meaning.specs.declared.flat.FlatConnection.{FlatConnection}
+use Rattle.adl_meaning.specs.declared.flat.FlatEnd.{FlatEnd}
+use Rattle.adl_meaning.specs.declared.settled.EndSetting.{EndSetting}
+use Rattle.adl_meaning.specs.declared.settled.EndSettings.{EndSettings}
+use Rattle.adl_meaning.specs.Flat.{flat_of}
+use Rattle.adl_meaning.specs.Hierarchy.{hierarchy_of}
+use Rattle.cam_base.specs.Gather.{IsIn}
+use Rattle.adl_settings.specs.BadValue.{bad_at_end, bad_in_connection}
+use Rattle.adl_settings.specs.EndMeaning.{end_setting}
+use Rattle.adl_settings.specs.Joints.{Joint, found_at, found_on, founds_in}
+use Rattle.adl_settings.specs.declared.found.Found.{Found}
+use Rattle.adl_settings.specs.Missing.{missing_at, missing_in}
+use Rattle.adl_settings.specs.Settled.{end_settings, settled_of}
+use Rattle.adl_types.specs.TypeFaults.{is_kind_of}
+use Rattle.adl_hierarchy.proofs.Lists.{in_get}
+use Rattle.cam_base.proofs.NumberedLists.{get_map, none_in, from_get_map}
+use Rattle.conn_rules.specs.Ends.{end_rule}
+use Rattle.flat_laws.specs.Typed.{AreTyped}
+use Rattle.flat_laws.proofs.SoundSettings.{AreSettingsSound}
+use Rattle.flat_laws.proofs.SettledEnds.{found_there}
+use Rattle.cspace_layout.specs.Lookups.{setting_of}
+use Rattle.cspace_layout.specs.Members.{members_at}
+
+-- each settled setting is that of some end
+pub setting_from : (s : Source) (k n : ℕ) (e : EndSetting) → setting_of (settled_of s) k n ≡ Some e → (f : Found) × (end_setting f ≡ e)
+setting_from s k n e at = by_connection (slice_get (settled_of s).connections k) refl at
+  where
+    by_connection : (o : Option EndSettings) → slice_get (settled_of s).connections k ≡ o → option_and_then (λ z. slice_get z.ends n) o ≡ Some e → (f : Found) × (end_setting f ≡ e)
+    by_connection None is at = cc
+    by_connection (Some z) is at =
+        let x = from_get_map end_settings (founds_in (hierarchy_of s) s (flat_of s)) k z is in
+        let there : slice_get (end_settings x.0).ends n ≡ Some e = ap (λ (w : EndSettings). slice_get w.ends n) x.2 ∙ at in
+        let y = from_get_map end_setting x.0 n e there in
+        (y.0, y.2)
+
+-- end n of connection k, with its settings
+pub record IsEndFound (s : Source) (k n : ℕ) (c : FlatConnection) (e : FlatEnd) : Type 0 where
+  pub found : Found
+  pub connection : found.joint.connection ≡ c
+  pub end : found.joint.end ≡ e
+  pub leaf : slice_get (flat_of s).leaves e.leaf ≡ Some found.joint.leaf
+  pub interface : slice_get (members_at s found.joint.leaf.component) e.member ≡ Some (members.Interface found.joint.interface)
+  pub values : found ≡ found_at (hierarchy_of s) found.joint
+  pub setting : setting_of (settled_of s) k n ≡ Some (end_setting found)
+  pub among : IsIn found (found_on (hierarchy_of s) s (flat_of s) c)
+  pub good : bad_at_end found ≡ []
+  pub present : missing_at found ≡ []
+  pub kind : is_kind_of (end_rule c.connector e.role) (record { interface = found.joint.interface; hardware = found.joint.leaf.hardware }) ≡ true
+
+pub end_found : (s : Source) → AreTyped s (flat_of s) → AreSettingsSound s → (k n : ℕ) (c : FlatConnection) (e : FlatEnd) → slice_get (flat_of s).connections k ≡ Some c → slice_get c.ends n ≡ Some e → IsEndFound s k n c e
+end_found s typed sound k n c e at is =
+    let h = hierarchy_of s in
+    let there = found_there s typed k n c e at is in
+    let f = there.2 in
+    let joint : Joint = record { connection = c; position = there.0; end = e; leaf = f.joined.leaf; interface = f.joined.interface } in
+    let es = found_on h s (flat_of s) c in
+    let fs = founds_in h s (flat_of s) in
+    let listed : slice_get es n ≡ Some (found_at h joint) = there.3 ∙ ap (λ z. Some z) f.at in
+    let one : IsIn (found_at h joint) es = in_get es n (found_at h joint) listed in
+    let all : slice_get fs k ≡ Some es = get_map (found_on h s (flat_of s)) (flat_of s).connections k c at in
+    record {
+      found = found_at h joint;
+      connection = refl;
+      end = refl;
+      leaf = f.joined.here;
+      interface = f.joined.joined;
+      values = refl;
+      setting = ap (λ o. option_and_then (λ z. slice_get z.ends n) o) (get_map end_settings fs k es all) ∙ get_map end_setting es n (found_at h joint) listed;
+      among = one;
+      good = none_in bad_at_end es (found_at h joint) (none_in bad_in_connection fs es sound.allowed (in_get fs k es all)) one;
+      present = none_in missing_at es (found_at h joint) (none_in missing_in fs es sound.present (in_get fs k es all)) one;
+      kind = f.joined.kind;
+    }

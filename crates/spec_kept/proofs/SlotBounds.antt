@@ -1,0 +1,51 @@
+-- How many slots there are, where no limit on slots is passed.
+use Rattle.std.proofs.Common.{◌≡◌, ◌≤◌, ◌∙◌, ℕ, zero, suc, List, [], ◌∷◌, ◌++◌, length, map, sym, ap, Some, None, arith}
+use Rattle.std.proofs.Math.Nat.{le-max_left, le-max_right}
+use Rattle.std.specs.Prelude.{sum, codes}
+use Rattle.std.specs.List.{flat_map, slice_get}
+use Rattle.adl_ast.specs.declared.composition.Assembly.{Assembly}
+use Rattle.adl_ast.specs.declared.source.Source.{Source}
+use Rattle.adl_meaning.specs.declared.flat.Flat.{Flat}
+use Rattle.adl_meaning.specs.declared.item_at.ItemAt.{ItemAt}
+use Rattle.adl_meaning.specs.Items.{assemblies}
+use Rattle.adl_meaning.specs.SizeFaults.{limit_passed}
+use Rattle.adl_meaning.proofs.Least.{least-empty}
+use Rattle.adl_hierarchy.proofs.Limits.{not_passed}
+use Rattle.cam_base.proofs.NumberedLists.{none_left, none_right}
+use Rattle.cspace_layout.specs.declared.plan.SlotPlan.{SlotPlan}
+use Rattle.cspace_layout.specs.SlotFaults.{counts, first_slot_fault, greatest, limits_passed, slot_faults}
+use Rattle.cspace_layout.specs.Uses.{slots_of}
+
+-- a domain has slots for at most so many uses, and all together for so many
+pub record AreFewSlots (s : Source) (flat : Flat) : Type 0 where
+  pub each : greatest (counts (slots_of s flat)) ≤ 4095
+  pub all : sum (counts (slots_of s flat)) ≤ 65536
+
+pub few_slots : (s : Source) (flat : Flat) (a : ItemAt × Assembly) → assemblies s ≡ a ∷ [] → first_slot_fault s flat ≡ None → AreFewSlots s flat
+few_slots s flat a one none =
+    let ns = counts (slots_of s flat) in
+    let empty = least-empty (slot_faults s flat) none in
+    let here : limits_passed ns a ++ [] ≡ [] = sym (ap (λ xs. flat_map (limits_passed ns) xs) one) ∙ empty in
+    let both = none_left (limits_passed ns a) [] here in
+    let each = limit_passed a (codes "slots") 4095 (greatest ns) in
+    let all = limit_passed a (codes "all slots") 65536 (sum ns) in
+    record {
+      each = not_passed a (codes "slots") 4095 (greatest ns) (none_left each all both);
+      all = not_passed a (codes "all slots") 65536 (sum ns) (none_right each all both);
+    }
+
+below_greatest : (ns : List ℕ) (d n : ℕ) → slice_get ns d ≡ Some n → n ≤ greatest ns
+below_greatest [] d n e = cc
+below_greatest (m ∷ ns) zero n e = let same : m ≡ n = cc in let l = le-max_left m (greatest ns) in omega (arith, same, l)
+below_greatest (m ∷ ns) (suc d) n e = let l = le-max_right m (greatest ns) in let h = below_greatest ns d n e in omega (arith, l, h)
+
+count_at : (plans : List SlotPlan) (d : ℕ) (plan : SlotPlan) → slice_get plans d ≡ Some plan → slice_get (map (λ p. length p.uses) plans) d ≡ Some (length plan.uses)
+count_at [] d plan e = cc
+count_at (p ∷ plans) zero plan e = let same : p ≡ plan = cc in ap (λ (z : SlotPlan). Some (length z.uses)) same
+count_at (p ∷ plans) (suc d) plan e = count_at plans d plan e
+
+pub few_uses : (s : Source) (flat : Flat) → AreFewSlots s flat → (d : ℕ) (plan : SlotPlan) → slice_get (slots_of s flat).domains d ≡ Some plan → length plan.uses ≤ 4095
+few_uses s flat few d plan e =
+    let l = below_greatest (counts (slots_of s flat)) d (length plan.uses) (count_at (slots_of s flat).domains d plan e) in
+    let each = few.each in
+    omega (arith, l, each)

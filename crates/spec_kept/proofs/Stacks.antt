@@ -1,0 +1,143 @@
+-- Each thread's stack has a page, where no fault of settings stands.
+use Rattle.std.proofs.Common.{◌≡◌, ◌≤◌, ◌+◌, ◌*◌, ◌/◌, ℕ, Bool, true, false, ◌&&◌, cond, [], ◌∷◌, ◌++◌, Option, Some, None, option_map, unwrap_or, refl, sym, ◌∙◌, ap, subst, inl, inr, arith}
+use Rattle.std.specs.Prelude.{is_some, nat_le}
+use Rattle.std.specs.List.{flat_map, slice_get}
+use Rattle.std.specs.Option.{option_and_then, option_map_or}
+use Rattle.std.proofs.lemmas.Bool.{and_parts, leb-true}
+use Rattle.adl_ast.specs.declared.source.Source.{Source}
+use Rattle.adl_ast.specs.declared.value.Value.{Value}
+use Rattle.adl_hierarchy.proofs.Leading.{is_there}
+use Rattle.adl_meaning.specs.declared.flat.Domain.{Domain}
+use Rattle.adl_meaning.specs.declared.flat.Leaf.{Leaf}
+use Rattle.adl_meaning.specs.Domains.{domain_of, is_hardware}
+use Rattle.adl_meaning.specs.Flat.{domain_number, flat_of, leaf_of}
+use Rattle.adl_meaning.specs.Hierarchy.{hierarchy_of}
+use Rattle.adl_meaning.specs.Paths.{leaves}
+use Rattle.adl_meaning.specs.Values.{Given as Value_given}
+use Rattle.adl_meaning.proofs.Least.{least-empty}
+use Rattle.adl_settings.specs.Allowed.{number_in, priority_in, stack_in, whole_pages, within}
+use Rattle.adl_settings.specs.BadgeTwice.{badges_twice}
+use Rattle.adl_settings.specs.BadValue.{bad_in_connection, bad_in_leaf, bad_values}
+use Rattle.adl_settings.specs.DeviceOverlap.{overlaps}
+use Rattle.adl_settings.specs.IrqTwice.{irqs_twice}
+use Rattle.adl_settings.specs.Joints.{founds_in}
+use Rattle.adl_settings.specs.Meant.{bad_value, meant}
+use Rattle.adl_settings.specs.Missing.{missing_values}
+use Rattle.adl_settings.specs.SettingFaults.{first_setting_fault, setting_faults, value_faults}
+use Rattle.adl_settings.specs.SettingTwice.{settings_twice}
+use Rattle.adl_settings.specs.Settled.{LeafFound, leaf_found, leaf_setting, leaves_found, settled_of}
+use Rattle.adl_hierarchy.proofs.Lists.{in_get}
+use Rattle.cam_base.proofs.NumberedLists.{from_flat_map, get_map, none_in, none_left, none_right, from_get_map}
+use Rattle.flat_laws.proofs.FlatLeaves.{leaf_owned}
+use Rattle.flat_laws.proofs.TypedEnds.{so}
+use Rattle.cspace_layout.specs.declared.end_at.EndAt.{EndAt}
+use Rattle.cam_base.specs.Gather.{IsIn}
+use Rattle.source_images.specs.declared.images.Images.{Images}
+use Rattle.vspace_layout.specs.declared.thread.ThreadOf.{ThreadOf}
+use Rattle.vspace_layout.specs.Given.{Given, ends, given, leaves_of}
+use Rattle.vspace_layout.specs.Regions.{stack_pages, threads_of}
+use Rattle.vspace_layout.specs.Threads.{ends_at, leaf_threads, server, serves, thread}
+
+-- ---- threads are of leaves of their domain
+
+server_leaf : (g : Given) (leaf : ℕ) (e : EndAt) (x : ThreadOf) → IsIn x (server g.flat leaf e) → x.leaf ≡ leaf
+server_leaf g leaf e x i = by_test (serves g.flat e) i
+  where
+    by_test : (b : Bool) → IsIn x (cond b (thread leaf (Some e) ∷ []) []) → x.leaf ≡ leaf
+    by_test true (inl same) = ap (λ (z : ThreadOf). z.leaf) (sym same)
+    by_test true (inr j) = absurd j
+    by_test false j = absurd j
+
+pub thread_leaf : (g : Given) (leaf : ℕ) (x : ThreadOf) → IsIn x (leaf_threads g.flat (ends g) leaf) → x.leaf ≡ leaf
+thread_leaf g leaf x (inl same) = ap (λ (z : ThreadOf). z.leaf) (sym same)
+thread_leaf g leaf x (inr i) =
+    let e : (e : EndAt) × IsIn e (ends_at (ends g) leaf) × IsIn x (server g.flat leaf e) = from_flat_map (server g.flat leaf) x (ends_at (ends g) leaf) i in
+    server_leaf g leaf e.0 x e.2
+
+-- a domain with a leaf is there
+pub domain_there : (g : Given) (d l : ℕ) → IsIn l (leaves_of g.flat d) → (x : Domain) × (slice_get g.flat.domains d ≡ Some x) × IsIn l x.leaves
+domain_there g d l i = by_domain (slice_get g.flat.domains d) refl i
+  where
+    by_domain : (o : Option Domain) → slice_get g.flat.domains d ≡ o → IsIn l (option_map_or (λ (x : Domain). x.leaves) o []) → (x : Domain) × (slice_get g.flat.domains d ≡ Some x) × IsIn l x.leaves
+    by_domain None e i = absurd i
+    by_domain (Some x) e i = (x, e, i)
+
+-- ---- stacks
+
+stack_sized : (n b : ℕ) → option_map whole_pages (within 1 16777216 n) ≡ Some b → 4096 ≤ b
+stack_sized n b e = by_test (nat_le 1 n && nat_le n 16777216) refl e
+  where
+    by_test : (t : Bool) → (nat_le 1 n && nat_le n 16777216) ≡ t → option_map whole_pages (cond t (Some n) None) ≡ Some b → 4096 ≤ b
+    by_test true t e =
+        let low = leb-true 1 n (and_parts (nat_le 1 n) (nat_le n 16777216) t).0 in
+        let is : (n + 4095) / 4096 * 4096 ≡ b = cc in
+        omega (arith, low, is)
+    by_test false t e = cc
+
+stack_is : (v : Value) (b : ℕ) → stack_in v ≡ Some b → 4096 ≤ b
+stack_is v b e = by_number (number_in v.kind) e
+  where
+    by_number : (o : Option ℕ) → option_map whole_pages (option_and_then (within 1 16777216) o) ≡ Some b → 4096 ≤ b
+    by_number None e = cc
+    by_number (Some n) e = stack_sized n b e
+
+stack_meant : (o : Option Value_given) → bad_value stack_in o ≡ [] → 4096 ≤ unwrap_or (meant stack_in 16384 o) 0
+stack_meant None good = omega arith
+stack_meant (Some g) good =
+    let b = is_there (stack_in g.value) (so (is_some (stack_in g.value)) _ good) in
+    let l = stack_is g.value b.0 b.1 in
+    let is : unwrap_or (stack_in g.value) 0 ≡ b.0 = ap (λ o. unwrap_or o 0) b.1 in
+    omega (arith, l, is)
+
+leaves_sound : (s : Source) → first_setting_fault s ≡ None → flat_map bad_in_leaf (leaves_found (hierarchy_of s) (flat_of s)) ≡ []
+leaves_sound s none =
+    let h = hierarchy_of s in
+    let fs = founds_in h s (flat_of s) in
+    let ls = leaves_found h (flat_of s) in
+    let values = none_right (settings_twice h) (value_faults ls fs) (least-empty (setting_faults s) none) in
+    let a = bad_values ls fs in
+    let b = missing_values fs in
+    let c = overlaps fs in
+    let d = irqs_twice fs in
+    let four = none_left (a ++ b ++ c ++ d) (badges_twice fs) values in
+    let three = none_left (a ++ b ++ c) d four in
+    let two = none_left (a ++ b) c three in
+    none_left (flat_map bad_in_leaf ls) (flat_map bad_in_connection fs) (none_left a b two)
+
+leaf_stack : (f : LeafFound) → f.leaf.hardware ≡ false → bad_in_leaf f ≡ [] → 4096 ≤ (leaf_setting f).stack
+leaf_stack f soft good =
+    let is : (leaf_setting f).stack ≡ unwrap_or (meant stack_in 16384 f.stack) 0 = ap (λ b. cond b 0 (unwrap_or (meant stack_in 16384 f.stack) 0)) soft in
+    let l = stack_meant f.stack (none_right (bad_value priority_in f.priority) (bad_value stack_in f.stack) good) in
+    omega (arith, is, l)
+
+-- a leaf of a domain is software
+pub soft_leaf : (s : Source) (l d : ℕ) (leaf : Leaf) → slice_get (flat_of s).leaves l ≡ Some leaf → leaf.domain ≡ Some d → leaf.hardware ≡ false
+soft_leaf s l d leaf at is =
+    let h = hierarchy_of s in
+    let x = from_get_map (leaf_of h) (leaves h) l leaf at in
+    let own : (leaf_of h x.0).domain ≡ Some d = ap (λ (z : Leaf). z.domain) x.2 ∙ is in
+    ap (λ (z : Leaf). z.hardware) (sym x.2) ∙ by_test (is_hardware h x.0.part) (domain_number h (domain_of h x.0.path)) own
+  where
+    by_test : (b : Bool) (n : ℕ) → cond b None (Some n) ≡ Some d → b ≡ false
+    by_test true n e = cc
+    by_test false n e = refl
+
+stack_some : (s : Source) → first_setting_fault s ≡ None → (l d : ℕ) (leaf : Leaf) → slice_get (flat_of s).leaves l ≡ Some leaf → leaf.domain ≡ Some d → 1 ≤ stack_pages (settled_of s) l
+stack_some s none l d leaf at own =
+    let h = hierarchy_of s in
+    let fs = leaves_found h (flat_of s) in
+    let f = leaf_found h leaf in
+    let found : slice_get fs l ≡ Some f = get_map (leaf_found h) (flat_of s).leaves l leaf at in
+    let settled : slice_get (settled_of s).leaves l ≡ Some (leaf_setting f) = get_map leaf_setting fs l f found in
+    let good = none_in bad_in_leaf fs f (leaves_sound s none) (in_get fs l f found) in
+    let most = leaf_stack f (soft_leaf s l d leaf at own) good in
+    let is : stack_pages (settled_of s) l ≡ (leaf_setting f).stack / 4096 = ap (λ o. option_map_or (λ z. z.stack / 4096) o 0) settled in
+    omega (arith, most, is)
+
+pub stacks_some : (s : Source) (images : Images) → first_setting_fault s ≡ None → (d : ℕ) (x : ThreadOf) → IsIn x (threads_of (given s (flat_of s) (settled_of s) images) d) → 1 ≤ stack_pages (settled_of s) x.leaf
+stacks_some s images none d x i =
+    let g = given s (flat_of s) (settled_of s) images in
+    let t : (leaf : ℕ) × IsIn leaf (leaves_of g.flat d) × IsIn x (leaf_threads g.flat (ends g) leaf) = from_flat_map (leaf_threads g.flat (ends g)) x (leaves_of g.flat d) i in
+    let y = domain_there g d t.0 t.1 in
+    let own = leaf_owned (hierarchy_of s) d t.0 y.0 y.1 y.2 in
+    subst (λ n. 1 ≤ stack_pages (settled_of s) n) (sym (thread_leaf g t.0 x t.2)) (stack_some s none t.0 d own.0 own.1 own.2)

@@ -1,0 +1,38 @@
+-- Lists: what stands in them, and numbers that rise.
+use Rattle.std.proofs.Common.{◌≡◌, ◌<◌, ◌+◌, ◌∙◌, ℕ, zero, suc, List, [], ◌∷◌, map, Some, refl, ap, inl, arith}
+use Rattle.std.specs.List.{range_with_len, slice_get}
+use Rattle.cam_base.specs.Gather.{IsIn}
+use Rattle.page_tables.specs.Runs.{Rises}
+
+pub in_range : (a n : ℕ) → 0 < n → IsIn a (range_with_len a n)
+in_range a zero l = absurd (omega (arith, l))
+in_range a (suc n) l = inl refl
+
+-- ---- numbers that rise tell their places
+
+above : {X : Type 0} (f : X → ℕ) (x : X) (xs : List X) (k : ℕ) (y : X) → Rises (map f (x ∷ xs)) → slice_get xs k ≡ Some y → f x < f y
+above f x [] k y r e = cc
+above f x (z ∷ zs) zero y r e =
+    let same : z ≡ y = cc in
+    let number : f z ≡ f y = ap f same in
+    let less : f x < f z = r.0 in
+    omega (arith, less, number)
+above f x (z ∷ zs) (suc k) y r e =
+    let less : f x < f z = r.0 in
+    let more : f z < f y = above f z zs k y r.1 e in
+    omega (arith, less, more)
+
+pub rises_tell : {X : Type 0} (f : X → ℕ) (xs : List X) (i j : ℕ) (x y : X) → Rises (map f xs) → slice_get xs i ≡ Some x → slice_get xs j ≡ Some y → f x ≡ f y → x ≡ y
+rises_tell f [] i j x y r e g same = cc
+rises_tell f (z ∷ zs) zero zero x y r e g same = cc
+rises_tell {X} f (z ∷ zs) zero (suc j) x y r e g same =
+    let is : z ≡ x = cc in
+    let number : f z ≡ f x = ap f is in
+    let less : f z < f y = above f z zs j y r g in
+    absurd (omega (arith, less, number, same))
+rises_tell {X} f (z ∷ zs) (suc i) zero x y r e g same =
+    let is : z ≡ y = cc in
+    let number : f z ≡ f y = ap f is in
+    let less : f z < f x = above f z zs i x r e in
+    absurd (omega (arith, less, number, same))
+rises_tell f (z ∷ zs) (suc i) (suc j) x y r e g same = rises_tell f zs i j x y r.1 e g same

@@ -1,0 +1,311 @@
+-- What the pages of a domain show, and whose frames they are.
+use Rattle.std.proofs.Common.{◌≡◌, ◌<◌, ◌+◌, ◌⊎◌, ◌∙◌, ℕ, Bool, true, false, [], ◌∷◌, map, Option, Some, None, refl, sym, ap, subst, inl, inr, arith}
+use Rattle.std.specs.List.{flat_map, position_or_len, range_with_len, slice_get}
+use Rattle.std.specs.Option.{option_and_then, option_map_or}
+use Rattle.std.proofs.lemmas.Bool.{and_from, and_parts, eq-eqb, eqb-true}
+use Rattle.std.proofs.lemmas.Option.{slice_get_within}
+use lib.Dec.{eqb}
+use Rattle.adl_ast.specs.declared.composition.Role.{Role}
+use Rattle.adl_ast.specs.declared.composition.Role.TheVariants.{From, To}
+use Rattle.adl_meaning.specs.declared.connector.Connector.{Connector}
+use Rattle.adl_meaning.specs.declared.connector.Connector.TheVariants.{SharedMemory, Mmio}
+use Rattle.adl_meaning.specs.declared.flat.Domain.{Domain}
+use Rattle.adl_meaning.specs.declared.flat.FlatConnection.{FlatConnection}
+use Rattle.adl_meaning.specs.declared.flat.FlatEnd.{FlatEnd}
+use Rattle.arch_policy.specs.declared.owner.Owner.TheVariants as owners
+use Rattle.arch_policy.specs.Ends.{EndAt}
+use Rattle.arch_policy.specs.Gives.{gives, opposite}
+use Rattle.arch_policy.specs.Reasons.{AtOtherEnd, LeadsTo}
+use Rattle.arch_policy.specs.Tables.{leaf_label, number_of}
+use Rattle.cap_model.specs.declared.authority.Authority.TheVariants.{Read}
+use Rattle.cap_model.specs.declared.object.Fill.{Fill}
+use Rattle.conn_rules.specs.Ends.{end_rule}
+use Rattle.conn_rules.specs.declared.rule.ObjectKind.{ObjectKind}
+use Rattle.conn_rules.specs.declared.rule.ObjectKind.TheVariants.{OfFrames, OfDevice}
+use Rattle.cspace_layout.specs.declared.end_at.EndAt.{EndAt as Joined}
+use Rattle.cspace_layout.specs.Lookups.{setting_of}
+use Rattle.cam_base.specs.Gather.{IsIn, gather}
+use Rattle.cam_base.proofs.Gathered.{from_gather, from_ones, get_ones, in_append, in_gather, in_place, in_right, place_of}
+use Rattle.cam_base.proofs.NumberedLists.{from_flat_map, from_map, from_range, in_map}
+use Rattle.source_images.specs.ByAddress.{section_pages}
+use Rattle.source_images.specs.declared.pages.SectionPage.{SectionPage}
+use Rattle.reach_laws.specs.Flat.{is_at_device}
+use Rattle.reach_laws.proofs.EndLabels.{own_label}
+use Rattle.system_spec.proofs.There.{IsThere}
+use Rattle.system_spec.specs.declared.part.What.TheVariants.{FrameOf}
+use Rattle.system_spec.specs.Tables.{Tables, frame_owner, pages_at, threads_at}
+use Rattle.vspace_layout.specs.declared.mapped.MappedPage.{MappedPage}
+use Rattle.vspace_layout.specs.declared.mapped.Shown.TheVariants.{Own, Memory}
+use Rattle.vspace_layout.specs.declared.owner.Owner.TheVariants.{OfDomain, OfConnection}
+use Rattle.vspace_layout.specs.declared.region.Content.TheVariants.{Stack, Buffer}
+use Rattle.vspace_layout.specs.declared.region.Region.{Region}
+use Rattle.vspace_layout.specs.declared.spaces.FrameInfo.{FrameInfo}
+use Rattle.vspace_layout.specs.declared.spaces.Page.{Page}
+use Rattle.vspace_layout.specs.declared.spaces.Space.{Space}
+use Rattle.vspace_layout.specs.declared.spaces.ThreadPlace.{ThreadPlace}
+use Rattle.vspace_layout.specs.declared.thread.ThreadOf.{ThreadOf}
+use Rattle.vspace_layout.specs.Frames.{frame, frames, memory_number, number_shown, register_frame}
+use Rattle.vspace_layout.specs.Given.{Given, base, leaves_of}
+use Rattle.vspace_layout.specs.Laid.{page, space, thread_place}
+use Rattle.vspace_layout.specs.MappedPages.{mapped_pages, may_read, may_write, page_of, pages_of_region, region_part, section_page, section_part}
+use Rattle.vspace_layout.specs.Memory.{first_to, first_to_end, is_shared, is_to, leads_to, memory_pages, registers, registers_in, same_port}
+use Rattle.vspace_layout.specs.Regions.{region, region_start, regions, thread_regions, threads_of, window_pages, window_region, windows_of}
+use Rattle.vspace_layout.proofs.Standing.{frames_stand}
+use Rattle.spec_laws.specs.Connected.{IsConnected}
+use Rattle.spec_laws.specs.Policy.{given_tables, policy_tables}
+use Rattle.spec_laws.proofs.Devices.{first_found, position_found}
+use Rattle.spec_laws.proofs.Lists.{in_range}
+use Rattle.spec_laws.proofs.Rows.{device_role}
+use Rattle.spec_laws.proofs.Whose.{frame_owner_at, owner_of}
+
+-- ---- pages of a domain's space
+
+-- a page of a window, with the access of the window's end
+pub record OfWindow (g : Given) (d : ℕ) (p : MappedPage) : Type 0 where
+  pub end : Joined
+  pub there : IsIn end (windows_of g d)
+  pub number : ℕ
+  pub below : number < window_pages g.flat g.settled end
+  pub read : p.read ≡ may_read (setting_of g.settled end.connection end.end)
+  pub write : p.write ≡ may_write (setting_of g.settled end.connection end.end)
+  pub shown : p.shown ≡ Memory end.connection number
+
+abbrev pub IsOwn : MappedPage → Type 0
+IsOwn p = (fill : Option Fill) × (p.shown ≡ Own fill)
+
+module _ (g : Given) (d : ℕ) where
+  -- a region is of a thread, or a window
+  abbrev IsOfThread : Region → Type 0
+  IsOfThread r = (r.content ≡ Stack) ⊎ (r.content ≡ Buffer)
+
+  abbrev IsOfEnd : Region → Type 0
+  IsOfEnd r = (e : Joined) × IsIn e (windows_of g d) × (window_region g.flat g.settled e ≡ r)
+
+  from_thread : (x : ThreadOf) (r : Region) → IsIn r (thread_regions g.settled x) → IsOfThread r
+  from_thread x r (inl e) = inl (ap (λ (z : Region). z.content) (sym e))
+  from_thread x r (inr (inl e)) = inr (ap (λ (z : Region). z.content) (sym e))
+  from_thread x r (inr (inr i)) = absurd i
+
+  from_regions : (r : Region) → IsIn r (regions g d) → IsOfThread r ⊎ IsOfEnd r
+  from_regions r i =
+      elim (in_append r (flat_map (thread_regions g.settled) (threads_of g d)) (map (window_region g.flat g.settled) (windows_of g d)) i) [
+        | inl j ↦ (let x = from_flat_map (thread_regions g.settled) r (threads_of g d) j in inl (from_thread x.0 r x.2))
+        | inr j ↦ (let e = from_map (window_region g.flat g.settled) r (windows_of g d) j in inr (e.0, e.1, e.2))
+      ]
+
+  -- page j of a region of a thread is an own one
+  own_page : (start j : ℕ) (r : Region) (p : MappedPage) → IsOfThread r → page_of g.settled start r j ≡ p → IsOwn p
+  own_page start j r p (inl e) is = (None, ap (λ (z : MappedPage). z.shown) (sym is ∙ ap (λ c. page_of g.settled start (region c r.pages) j) e))
+  own_page start j r p (inr e) is = (None, ap (λ (z : MappedPage). z.shown) (sym is ∙ ap (λ c. page_of g.settled start (region c r.pages) j) e))
+
+  window_page_of : (start j : ℕ) (r : Region) (p : MappedPage) (o : IsOfEnd r) → j < r.pages → page_of g.settled start r j ≡ p → OfWindow g d p
+  window_page_of start j r p o below is =
+      let e = o.0 in
+      let here : page_of g.settled start (window_region g.flat g.settled e) j ≡ p = ap (λ z. page_of g.settled start z j) o.2 ∙ is in
+      record {
+        end = e;
+        there = o.1;
+        number = j;
+        below = subst (λ (z : Region). j < z.pages) (sym o.2) below;
+        read = ap (λ (z : MappedPage). z.read) (sym here);
+        write = ap (λ (z : MappedPage). z.write) (sym here);
+        shown = ap (λ (z : MappedPage). z.shown) (sym here);
+      }
+
+  pub from_mapped : (p : MappedPage) → IsIn p (mapped_pages g d) → IsOwn p ⊎ OfWindow g d p
+  from_mapped p i =
+      elim (in_append p (section_part g.images (leaves_of g.flat d)) (region_part g.settled (base g) (regions g d)) i) [
+        | inl j ↦
+            let s = from_map section_page p (section_pages g.images (leaves_of g.flat d)) j in
+            let q : SectionPage = s.0 in
+            inl (q.fill, ap (λ (z : MappedPage). z.shown) (sym s.2))
+        | inr j ↦
+            let r = from_gather (pages_of_region g.settled (base g) (regions g d)) p (regions g d) j in
+            let start = region_start (base g) (regions g d) r.0 in
+            let n = from_map (page_of g.settled start r.1) p (range_with_len 0 r.1.pages) r.3 in
+            let below : n.0 < 0 + r.1.pages = from_range 0 r.1.pages n.0 n.1 in
+            elim (from_regions r.1 (in_place r.1 (regions g d) r.0 r.2)) [
+              | inl x ↦ inl (own_page start n.0 r.1 p x n.2)
+              | inr x ↦ inr (window_page_of start n.0 r.1 p x (omega (arith, below)) n.2)
+            ]
+      ]
+
+  -- the first page of a region is mapped
+  pub first_page : (n : ℕ) (r : Region) → slice_get (regions g d) n ≡ Some r → 0 < r.pages → IsIn (page_of g.settled (region_start (base g) (regions g d) n) r 0) (mapped_pages g d)
+  first_page n r e l =
+      let p = page_of g.settled (region_start (base g) (regions g d) n) r 0 in
+      let inner : IsIn p (pages_of_region g.settled (base g) (regions g d) n r) =
+      in_map (page_of g.settled (region_start (base g) (regions g d) n) r) 0 (range_with_len 0 r.pages) (in_range 0 r.pages l) in
+      in_right p (section_part g.images (leaves_of g.flat d)) (region_part g.settled (base g) (regions g d))
+      (in_gather (pages_of_region g.settled (base g) (regions g d)) p (regions g d) n r e inner)
+
+  pub window_there : (e : Joined) → IsIn e (windows_of g d) → IsIn (window_region g.flat g.settled e) (regions g d)
+  window_there e i =
+      in_right (window_region g.flat g.settled e) (flat_map (thread_regions g.settled) (threads_of g d)) (map (window_region g.flat g.settled) (windows_of g d))
+      (in_map (window_region g.flat g.settled) e (windows_of g d) i)
+
+-- ---- pages and threads as they are laid
+
+module _ (t : Tables) (h : IsConnected t) where
+  abbrev pub laid : Given
+  laid = given_tables t
+
+  space_here : (d : ℕ) (x : Domain) → slice_get t.flat.domains d ≡ Some x → slice_get t.spaces.spaces d ≡ Some (space laid d x)
+  space_here d x e = ap (λ s. slice_get s.spaces d) h.spaces ∙ get_ones (space laid) t.flat.domains d x e
+
+  pages_are : (d : ℕ) (x : Domain) → slice_get t.flat.domains d ≡ Some x → pages_at t d ≡ gather (λ n p. page laid d n p ∷ []) (mapped_pages laid d)
+  pages_are d x e = ap (λ o. option_map_or (λ (s : Space). s.pages) o []) (space_here d x e)
+
+  threads_are : (d : ℕ) (x : Domain) → slice_get t.flat.domains d ≡ Some x → threads_at t d ≡ gather (λ i x. thread_place laid d i x ∷ []) (threads_of laid d)
+  threads_are d x e = ap (λ o. option_map_or (λ (s : Space). s.threads) o []) (space_here d x e)
+
+  pub record IsPage (d : ℕ) (p : Page) : Type 0 where
+    pub number : ℕ
+    pub mapped : MappedPage
+    pub here : slice_get (mapped_pages laid d) number ≡ Some mapped
+    pub is : page laid d number mapped ≡ p
+
+  pub from_pages : (d : ℕ) (x : Domain) (p : Page) → slice_get t.flat.domains d ≡ Some x → IsIn p (pages_at t d) → IsPage d p
+  from_pages d x p e i =
+      let n = place_of p (gather (λ n p. page laid d n p ∷ []) (mapped_pages laid d)) (subst (λ z. IsIn p z) (pages_are d x e) i) in
+      let o = from_ones (page laid d) (mapped_pages laid d) n.0 p n.1 in
+      record { number = n.0; mapped = o.0; here = o.1; is = o.2 }
+
+  pub in_pages : (d n : ℕ) (x : Domain) (p : MappedPage) → slice_get t.flat.domains d ≡ Some x → slice_get (mapped_pages laid d) n ≡ Some p → IsIn (page laid d n p) (pages_at t d)
+  in_pages d n x p e s = subst (λ z. IsIn (page laid d n p) z) (sym (pages_are d x e)) (in_gather (λ n p. page laid d n p ∷ []) (page laid d n p) (mapped_pages laid d) n p s (inl refl))
+
+  pub from_threads : (d i : ℕ) (x : Domain) (y : ThreadPlace) → slice_get t.flat.domains d ≡ Some x → slice_get (threads_at t d) i ≡ Some y
+      → (z : ThreadOf) × (slice_get (threads_of laid d) i ≡ Some z) × (thread_place laid d i z ≡ y)
+  from_threads d i x y e s = from_ones (thread_place laid d) (threads_of laid d) i y (subst (λ z. slice_get z i ≡ Some y) (threads_are d x e) s)
+
+  pub in_threads_at : (d i : ℕ) (x : Domain) (z : ThreadOf) → slice_get t.flat.domains d ≡ Some x → slice_get (threads_of laid d) i ≡ Some z → slice_get (threads_at t d) i ≡ Some (thread_place laid d i z)
+  in_threads_at d i x z e s = subst (λ w. slice_get w i ≡ Some (thread_place laid d i z)) (sym (threads_are d x e)) (get_ones (thread_place laid d) (threads_of laid d) i z s)
+
+  -- ---- frames
+
+  frame_there : (f : ℕ) (y : FrameInfo) → slice_get (frames laid) f ≡ Some y → slice_get t.spaces.frames f ≡ Some y
+  frame_there f y e = ap (λ s. slice_get s.frames f) h.spaces ∙ e
+
+  frame_is : (f : ℕ) (y : FrameInfo) → slice_get (frames laid) f ≡ Some y → frame_owner_at t f ≡ frame_owner y.owner
+  frame_is f y e = ap (λ z. option_map_or (λ (x : FrameInfo). frame_owner x.owner) z (owners.OfLeaf 0)) (frame_there f y e)
+
+  -- an own page shows a frame of its domain
+  pub own_frame : (d n : ℕ) (x : Domain) (p : MappedPage) → slice_get t.flat.domains d ≡ Some x → slice_get (mapped_pages laid d) n ≡ Some p → IsOwn p
+      → IsThere t (FrameOf (number_shown laid d n p.shown)) × (owner_of t (FrameOf (number_shown laid d n p.shown)) ≡ owners.OfDomain d)
+  own_frame d n x p e s own =
+      let f = number_shown laid d n p.shown in
+      let y = frame (OfDomain d) None own.0 in
+      let at : slice_get (frames laid) f ≡ Some y = (frames_stand laid).own d n p own.0 s own.1 (slice_get_within t.flat.domains d x e) in
+      ((y, frame_there f y at), frame_is f y at)
+
+  -- a frame of the memory that an end sees
+  pub record Sees (x : EndAt t.flat) (o : ObjectKind) (f : ℕ) : Type 0 where
+    pub there : IsThere t (FrameOf f)
+    pub memory : gives x.connection.connector x.end.role o Read ≡ true
+    pub leads : LeadsTo (policy_tables t) x o (number_of t.numbers (owner_of t (FrameOf f)))
+
+  pub sees_shared : (x : EndAt t.flat) (j : ℕ) → x.connection.connector ≡ SharedMemory → j < memory_pages t.settled x.place x.connection → Sees x OfFrames (memory_number laid x.place j)
+  sees_shared x j e l =
+      let f = memory_number laid x.place j in
+      let y = frame (OfConnection x.place) None None in
+      let at : slice_get (frames laid) f ≡ Some y = (frames_stand laid).shared x.place j x.connection x.here (ap is_shared e) l in
+      record {
+        there = (y, frame_there f y at);
+        memory = ap (λ c. gives c x.end.role OfFrames Read) e ∙ both x.end.role;
+        leads = ap (number_of t.numbers) (frame_is f y at);
+      }
+    where
+      both : (r : Role) → gives SharedMemory r OfFrames Read ≡ true
+      both From = refl
+      both To = refl
+
+  -- ---- registers
+
+  -- the end at the registers
+  pub record AtRegisters (k : ℕ) (c : FlatConnection) : Type 0 where
+    pub at : EndAt t.flat
+    pub place : at.place ≡ k
+    pub connection : at.connection ≡ c
+    pub device : is_at_device at ≡ true
+    pub role : at.end.role ≡ To
+    pub has : registers c ≡ Some at.end
+
+  to_is : (r : Role) → is_to r ≡ true → r ≡ To
+  to_is To e = refl
+  to_is From e = absurd cc
+
+  hard_to : (c : Connector) (r : Role) → c ≡ Mmio → r ≡ To → (end_rule c r).hardware ≡ true
+  hard_to c r e f = ap (λ z. (end_rule z r).hardware) e ∙ ap (λ z. (end_rule Mmio z).hardware) f
+
+  pub at_registers : (k : ℕ) (c : FlatConnection) → slice_get t.flat.connections k ≡ Some c → c.connector ≡ Mmio → AtRegisters k c
+  at_registers k c e m =
+      let v = h.flat.registers k c e m in
+      let x = v.at in
+      let same_some : Some x.connection ≡ Some c = sym x.here ∙ ap (λ z. slice_get t.flat.connections z) v.place ∙ e in
+      let same : x.connection ≡ c = cc in
+      let role : x.end.role ≡ To = elim (device_role x.connection.connector x.end.role v.device) [
+        | inl w ↦ absurd (let i = sym (ap (λ (z : FlatConnection). z.connector) same ∙ m) ∙ w.0 in cc)
+        | inr w ↦ w.1
+      ] in
+      let stands : slice_get c.ends x.number ≡ Some x.end = subst (λ (z : FlatConnection). slice_get z.ends x.number ≡ Some x.end) same x.stands in
+      let test : FlatEnd → Bool = λ e. is_to e.role in
+      let f = first_found test c.ends x.number x.end stands (ap is_to role) in
+      let first : first_to_end c.ends ≡ Some f.0 = ap (λ z. option_and_then (slice_get c.ends) z) (position_found test c.ends f.0 f.1) ∙ f.1 in
+      let to : f.0.role ≡ To = to_is f.0.role f.2 in
+      record {
+        at = record { place = k; connection = c; here = e; number = position_or_len test c.ends; end = f.0; stands = f.1 };
+        place = refl;
+        connection = refl;
+        device = hard_to c.connector f.0.role m to;
+        role = to;
+        has = ap (λ z. registers_in z c.ends) m ∙ first;
+      }
+
+  same_self : (e : FlatEnd) → same_port e e ≡ true
+  same_self e = and_from (eqb e.leaf e.leaf) (eqb e.member e.member) (eq-eqb e.leaf e.leaf refl) (eq-eqb e.member e.member refl)
+
+  -- the first connection to the same registers
+  record FirstTo (e : FlatEnd) : Type 0 where
+    number : ℕ
+    connection : FlatConnection
+    here : slice_get t.flat.connections number ≡ Some connection
+    first : first_to t.flat e ≡ Some number
+    end : FlatEnd
+    has : registers connection ≡ Some end
+    same : same_port e end ≡ true
+
+  led_to : (e : FlatEnd) (c : FlatConnection) → leads_to e c ≡ true → (f : FlatEnd) × (registers c ≡ Some f) × (same_port e f ≡ true)
+  led_to e c q = go (registers c) refl where
+    go : (o : Option FlatEnd) → registers c ≡ o → (f : FlatEnd) × (registers c ≡ Some f) × (same_port e f ≡ true)
+    go None r = absurd (let w : false ≡ true = sym (ap (λ z. option_map_or (same_port e) z false) r) ∙ q in cc)
+    go (Some f) r = (f, r, sym (ap (λ z. option_map_or (same_port e) z false) r) ∙ q)
+
+  first_here : (k : ℕ) (c : FlatConnection) (e : FlatEnd) → slice_get t.flat.connections k ≡ Some c → registers c ≡ Some e → FirstTo e
+  first_here k c e here has =
+      let passes : leads_to e c ≡ true = ap (λ z. option_map_or (same_port e) z false) has ∙ same_self e in
+      let f = first_found (leads_to e) t.flat.connections k c here passes in
+      let w = led_to e f.0 f.2 in
+      record {
+        number = position_or_len (leads_to e) t.flat.connections;
+        connection = f.0;
+        here = f.1;
+        first = position_found (leads_to e) t.flat.connections f.0 f.1;
+        end = w.0;
+        has = w.1;
+        same = w.2;
+      }
+
+  pub sees_device : (x : EndAt t.flat) (j : ℕ) → x.connection.connector ≡ Mmio → x.end.role ≡ From → j < memory_pages t.settled x.place x.connection → Sees x OfDevice (memory_number laid x.place j)
+  sees_device x j e r l =
+      let k = x.place in
+      let f = memory_number laid k j in
+      let v = at_registers k x.connection x.here e in
+      let b = first_here k x.connection v.at.end x.here v.has in
+      let y = register_frame t.settled b.number b.connection b.end j in
+      let as_many = h.registers k b.number x.connection b.connection v.at.end b.end x.here b.here v.has b.has b.same in
+      let at : slice_get (frames laid) f ≡ Some y = (frames_stand laid).registers k j b.number x.connection b.connection v.at.end b.end x.here v.has b.first b.here b.has (omega (arith, as_many, l)) in
+      let leaf : b.end.leaf ≡ v.at.end.leaf = eqb-true b.end.leaf v.at.end.leaf (and_parts (eqb b.end.leaf v.at.end.leaf) (eqb b.end.member v.at.end.member) b.same).0 in
+      let label : number_of t.numbers (owner_of t (FrameOf f)) ≡ leaf_label (policy_tables t) v.at.end.leaf =
+      ap (number_of t.numbers) (frame_is f y at ∙ ap owners.OfLeaf leaf) ∙ sym (own_label (policy_tables t) h.flat v.at v.device) in
+      let other : AtOtherEnd (policy_tables t) x (number_of t.numbers (owner_of t (FrameOf f))) = record { at = v.at; same = v.place; role = v.role ∙ ap opposite (sym r); label_is = label } in
+      record { there = (y, frame_there f y at); memory = ap (λ c. gives c x.end.role OfDevice Read) e ∙ ap (λ z. gives Mmio z OfDevice Read) r; leads = other }

@@ -1,0 +1,216 @@
+-- What ends are given over the objects of their connections, by the table and by the rights of their capabilities.
+use Rattle.std.proofs.Common.{◌≡◌, ◌⊎◌, ◌∙◌, ◌&&◌, ◌||◌, not, Bool, true, false, Option, refl, sym, inl, inr, true≢false}
+use Rattle.std.proofs.lemmas.Bool.{and_parts, or_cases}
+use Rattle.adl_ast.specs.declared.composition.Role.{Role}
+use Rattle.adl_ast.specs.declared.composition.Role.TheVariants.{From, To}
+use Rattle.adl_meaning.specs.declared.connector.Connector.{Connector}
+use Rattle.adl_meaning.specs.declared.connector.Connector.TheVariants.{Rpc, Notification, SharedMemory, Mmio, Interrupt, Direct}
+use Rattle.adl_meaning.specs.declared.settled.EndSetting.{EndSetting}
+use Rattle.cap_model.specs.Authorities.{number_of}
+use Rattle.cap_model.specs.declared.authority.Authority.{Authority}
+use Rattle.cap_model.specs.declared.authority.Authority.TheVariants.{AsyncSend, Read, Write, Handle}
+use Rattle.cap_model.specs.Confers.{kind_confers}
+use Rattle.cap_model.specs.declared.kind.Kind.{Kind}
+use Rattle.cap_model.specs.declared.kind.Kind.TheVariants as kinds
+use Rattle.conn_rules.specs.Ends.{end_rule}
+use Rattle.conn_rules.specs.Row.{NONE}
+use Rattle.conn_rules.specs.declared.rule.ObjectKind.{ObjectKind}
+use Rattle.conn_rules.specs.declared.rule.ObjectKind.TheVariants.{OfEndpoint, OfNotification, OfFrames, OfDevice, OfIrq}
+use Rattle.std.specs.Prelude.{◌==◌}
+use Rattle.arch_policy.specs.Gives.{gives, leaves, same_object}
+use Rattle.arch_policy.specs.Owners.{has_label}
+use Rattle.arch_policy.proofs.Same.{is_object}
+use Rattle.arch_policy.proofs.Given.{at_authority, at_end, implied, implies, over_all, over_object}
+use Rattle.reach_laws.proofs.Given.{fits, fitted}
+use Rattle.reach_laws.specs.Plain.{plain_kind}
+use Rattle.system_spec.specs.Objects.{end_rights}
+use Rattle.vspace_layout.specs.Regions.{is_window}
+use Rattle.spec_laws.proofs.Used.{has_slot}
+
+-- the object that the capability of an end leads to
+abbrev pub joint_kind : Connector → Kind
+joint_kind Rpc = kinds.Endpoint
+joint_kind Notification = kinds.Notification
+joint_kind SharedMemory = kinds.Notification
+joint_kind Mmio = kinds.Notification
+joint_kind Interrupt = kinds.Notification
+joint_kind Direct = kinds.Notification
+
+abbrev pub joint_object : Connector → ObjectKind
+joint_object Rpc = OfEndpoint
+joint_object Notification = OfNotification
+joint_object SharedMemory = OfNotification
+joint_object Mmio = OfNotification
+joint_object Interrupt = OfNotification
+joint_object Direct = OfNotification
+
+abbrev same_truth : Bool → Bool → Bool
+same_truth true b = b
+same_truth false b = not b
+
+truth_is : (a b : Bool) → same_truth a b ≡ true → a ≡ b
+truth_is true true h = refl
+truth_is true false h = absurd (true≢false (sym h))
+truth_is false true h = absurd (true≢false (sym h))
+truth_is false false h = refl
+
+-- the rights of an end's capability confer just what the table gives the end over its connection's object
+pub row_law : (c : Connector) (r : Role) (a : Authority) → has_slot c r ≡ true → kind_confers (joint_kind c) (end_rights c r) a ≡ gives c r (joint_object c) a
+row_law c r a s =
+    truth_is (kind_confers (joint_kind c) (end_rights c r) a) (gives c r (joint_object c) a)
+    (implied (has_slot c r) _ (at_authority (λ c r a. implies (has_slot c r) (same_truth (kind_confers (joint_kind c) (end_rights c r) a) (gives c r (joint_object c) a))) refl c r a) s)
+
+-- and none of them is G on an endpoint
+pub row_plain : (c : Connector) (r : Role) → has_slot c r ≡ true → plain_kind (joint_kind c) (end_rights c r) ≡ true
+row_plain c r s = implied (has_slot c r) _ (at_end (λ c r. implies (has_slot c r) (plain_kind (joint_kind c) (end_rights c r))) refl c r) s
+
+-- an end with a slot is of software, and its connection has a label
+pub slot_soft : (c : Connector) (r : Role) → has_slot c r ≡ true → (end_rule c r).hardware ≡ false
+slot_soft c r s = truth_is (end_rule c r).hardware false (implied (has_slot c r) _ (at_end (λ c r. implies (has_slot c r) (same_truth (end_rule c r).hardware false)) refl c r) s)
+
+pub slot_labelled : (c : Connector) (r : Role) → has_slot c r ≡ true → has_label c ≡ true
+slot_labelled c r s = implied (has_slot c r) _ (at_end (λ c r. implies (has_slot c r) (has_label c)) refl c r) s
+
+abbrev pub is_frames : ObjectKind → Bool
+is_frames o = same_object o OfFrames || same_object o OfDevice
+
+-- access takes nothing but what is given over frames
+pub joint_leaves : (c : Connector) (r : Role) (o : ObjectKind) (s : Option EndSetting) (a : Authority) → is_frames o ≡ false → gives c r o a ≡ true → leaves s a ≡ true
+joint_leaves c r o s Read f h = absurd (true≢false (sym (implied (gives c r o Read) (is_frames o) (over_object (λ c r o. implies (gives c r o Read) (is_frames o)) refl c r o) h) ∙ f))
+joint_leaves c r o s Write f h = absurd (true≢false (sym (implied (gives c r o Write) (is_frames o) (over_object (λ c r o. implies (gives c r o Write) (is_frames o)) refl c r o) h) ∙ f))
+joint_leaves c r o s _ f h = refl
+
+pub joint_no_frames : (c : Connector) → is_frames (joint_object c) ≡ false
+joint_no_frames Rpc = refl
+joint_no_frames Notification = refl
+joint_no_frames SharedMemory = refl
+joint_no_frames Mmio = refl
+joint_no_frames Interrupt = refl
+joint_no_frames Direct = refl
+
+-- ---- who is given what, over what
+
+abbrev is_access : Authority → Bool
+is_access Read = true
+is_access Write = true
+is_access _ = false
+
+access_is : (a : Authority) → is_access a ≡ true → (a ≡ Read) ⊎ (a ≡ Write)
+access_is Read h = inl refl
+access_is Write h = inr refl
+access_is _ h = absurd (true≢false (sym h))
+
+handle_is : (a : Authority) → (number_of a == number_of Handle) ≡ true → a ≡ Handle
+handle_is Handle h = refl
+handle_is _ h = absurd (true≢false (sym h))
+
+send_is : (a : Authority) → (number_of a == number_of AsyncSend) ≡ true → a ≡ AsyncSend
+send_is AsyncSend h = refl
+send_is _ h = absurd (true≢false (sym h))
+
+pub only_handle : (a : Authority) → kind_confers kinds.Irq NONE a ≡ true → a ≡ Handle
+only_handle Handle h = refl
+only_handle _ h = absurd (true≢false (sym h))
+
+pub record OfSlot (c : Connector) (r : Role) (o : ObjectKind) : Type 0 where
+  pub slot : has_slot c r ≡ true
+  pub object : o ≡ joint_object c
+
+pub record IsHandling (c : Connector) (r : Role) (o : ObjectKind) (a : Authority) : Type 0 where
+  pub connector : c ≡ Interrupt
+  pub role : r ≡ To
+  pub object : o ≡ OfIrq
+  pub authority : a ≡ Handle
+
+pub record IsSignalling (c : Connector) (r : Role) (o : ObjectKind) (a : Authority) : Type 0 where
+  pub connector : c ≡ Interrupt
+  pub role : r ≡ From
+  pub object : o ≡ OfNotification
+  pub authority : a ≡ AsyncSend
+
+abbrev by_slot : Connector → Role → ObjectKind → Bool
+by_slot c r o = has_slot c r && same_object o (joint_object c)
+
+abbrev by_handling : Connector → Role → ObjectKind → Authority → Bool
+by_handling c r o a = fits c r o Interrupt To OfIrq && (number_of a == number_of Handle)
+
+abbrev by_signalling : Connector → Role → ObjectKind → Authority → Bool
+by_signalling c r o a = fits c r o Interrupt From OfNotification && (number_of a == number_of AsyncSend)
+
+pub given_by : (c : Connector) (r : Role) (o : ObjectKind) (a : Authority) → gives c r o a ≡ true
+    → ((a ≡ Read) ⊎ (a ≡ Write)) ⊎ (OfSlot c r o ⊎ (IsHandling c r o a ⊎ IsSignalling c r o a))
+given_by c r o a h =
+    let w = implied (gives c r o a) _ (over_all (λ c r o a. implies (gives c r o a) (is_access a || (by_slot c r o || (by_handling c r o a || by_signalling c r o a)))) refl c r o a) h in
+    elim (or_cases (is_access a) _ w) [
+      | inl e ↦ inl (access_is a e)
+      | inr w ↦ elim (or_cases (by_slot c r o) _ w) [
+        | inl e ↦ (let q = and_parts (has_slot c r) (same_object o (joint_object c)) e in inr (inl (record { slot = q.0; object = is_object o (joint_object c) q.1 })))
+        | inr w ↦ elim (or_cases (by_handling c r o a) (by_signalling c r o a) w) [
+          | inl e ↦
+              let q = and_parts (fits c r o Interrupt To OfIrq) (number_of a == number_of Handle) e in
+              let f = fitted c r o Interrupt To OfIrq q.0 in
+              inr (inr (inl (record { connector = f.0; role = f.1; object = f.2; authority = handle_is a q.1 })))
+          | inr e ↦
+              let q = and_parts (fits c r o Interrupt From OfNotification) (number_of a == number_of AsyncSend) e in
+              let f = fitted c r o Interrupt From OfNotification q.0 in
+              inr (inr (inr (record { connector = f.0; role = f.1; object = f.2; authority = send_is a q.1 })))
+        ]
+      ]
+    ]
+
+-- ---- who sees memory
+
+-- over whose frames: the connection's, or the device's
+pub record SeesShared (c : Connector) (o : ObjectKind) : Type 0 where
+  pub connector : c ≡ SharedMemory
+  pub object : o ≡ OfFrames
+
+pub record SeesDevice (c : Connector) (r : Role) (o : ObjectKind) : Type 0 where
+  pub connector : c ≡ Mmio
+  pub role : r ≡ From
+  pub object : o ≡ OfDevice
+
+pub seen_by : (c : Connector) (r : Role) (o : ObjectKind) → gives c r o Read ≡ true → SeesShared c o ⊎ SeesDevice c r o
+seen_by c r o h =
+    let w = implied (gives c r o Read) _ (over_object (λ c r o. implies (gives c r o Read) (fits c r o SharedMemory r OfFrames || fits c r o Mmio From OfDevice)) refl c r o) h in
+    elim (or_cases (fits c r o SharedMemory r OfFrames) (fits c r o Mmio From OfDevice) w) [
+      | inl e ↦ (let f = fitted c r o SharedMemory r OfFrames e in inl (record { connector = f.0; object = f.2 }))
+      | inr e ↦ (let f = fitted c r o Mmio From OfDevice e in inr (record { connector = f.0; role = f.1; object = f.2 }))
+    ]
+
+-- it is the ends that have a window
+pub window_sees : (c : Connector) (r : Role) → is_window c r ≡ true → ((c ≡ SharedMemory) × (gives c r OfFrames Read ≡ true)) ⊎ ((c ≡ Mmio) × (r ≡ From) × (gives c r OfDevice Read ≡ true))
+window_sees SharedMemory From h = inl (refl, refl)
+window_sees SharedMemory To h = inl (refl, refl)
+window_sees Mmio From h = inr (refl, refl, refl)
+window_sees Mmio To h = absurd (true≢false (sym h))
+window_sees Rpc From h = absurd (true≢false (sym h))
+window_sees Rpc To h = absurd (true≢false (sym h))
+window_sees Notification From h = absurd (true≢false (sym h))
+window_sees Notification To h = absurd (true≢false (sym h))
+window_sees Interrupt From h = absurd (true≢false (sym h))
+window_sees Interrupt To h = absurd (true≢false (sym h))
+window_sees Direct From h = absurd (true≢false (sym h))
+window_sees Direct To h = absurd (true≢false (sym h))
+
+pub seen_window : (c : Connector) (r : Role) (o : ObjectKind) → gives c r o Read ≡ true → is_window c r ≡ true
+seen_window c r o h = implied (gives c r o Read) (is_window c r) (over_object (λ c r o. implies (gives c r o Read) (is_window c r)) refl c r o) h
+
+-- an end with a window is of software
+pub window_soft : (c : Connector) (r : Role) → is_window c r ≡ true → (end_rule c r).hardware ≡ false
+window_soft c r s = truth_is (end_rule c r).hardware false (implied (is_window c r) _ (at_end (λ c r. implies (is_window c r) (same_truth (end_rule c r).hardware false)) refl c r) s)
+
+-- the ends at devices
+pub device_role : (c : Connector) (r : Role) → (end_rule c r).hardware ≡ true → ((c ≡ Interrupt) × (r ≡ From)) ⊎ ((c ≡ Mmio) × (r ≡ To))
+device_role Interrupt From h = inl (refl, refl)
+device_role Mmio To h = inr (refl, refl)
+device_role Interrupt To h = absurd (true≢false (sym h))
+device_role Mmio From h = absurd (true≢false (sym h))
+device_role Rpc From h = absurd (true≢false (sym h))
+device_role Rpc To h = absurd (true≢false (sym h))
+device_role Notification From h = absurd (true≢false (sym h))
+device_role Notification To h = absurd (true≢false (sym h))
+device_role SharedMemory From h = absurd (true≢false (sym h))
+device_role SharedMemory To h = absurd (true≢false (sym h))
+device_role Direct From h = absurd (true≢false (sym h))
+device_role Direct To h = absurd (true≢false (sym h))

@@ -1,0 +1,158 @@
+-- The flat system of a source in which no fault of names or types stands has its devices where the connector table has them.
+use Rattle.std.proofs.Common.{◌≡◌, ◌<◌, ℕ, true, false, cond, length, Some, None, refl, sym, ◌∙◌, ap, subst, true≢false, arith}
+use Rattle.adl_meaning.specs.Prelude.{AreNamesSound, End, From, Role, Source, Strung, To, connections, domain_number, domain_of, flat_connection}
+use Rattle.adl_meaning.specs.declared.connector.Connector.{Connector}
+use Rattle.adl_meaning.specs.declared.connector.Connector.TheVariants.{Direct, Interrupt, Mmio, Notification, Rpc, SharedMemory}
+use Rattle.adl_meaning.specs.declared.flat.FlatConnection.{FlatConnection}
+use Rattle.adl_meaning.specs.declared.flat.FlatEnd.{FlatEnd}
+use Rattle.adl_meaning.specs.declared.flat.Leaf.{Leaf}
+use Rattle.adl_meaning.specs.Prelude.{flat_end, flat_ends, flat_of, hierarchy_of, is_hardware, leaf_of, leaves, slice_get}
+use Rattle.std.specs.Prelude.{nat_le}
+use Rattle.std.proofs.lemmas.Bool.{and_parts}
+use Rattle.std.proofs.lemmas.Bool.Decides.{leb_tells}
+use Rattle.std.proofs.lemmas.Option.{slice_get_within}
+use Rattle.adl_ast.specs.declared.component.Member.TheVariants as members
+use Rattle.adl_hierarchy.proofs.Joining.{all_joined, end_numbers_kept, ends_kept}
+use Rattle.adl_hierarchy.specs.Leads.{AreDotted}
+use Rattle.cam_base.specs.Gather.{IsIn}
+use Rattle.adl_types.specs.TypeFaults.{count_of, first_type_fault}
+use Rattle.adl_types.proofs.Typed.{well_typed}
+use Rattle.arch_policy.specs.Ends.{EndAt}
+use Rattle.arch_policy.proofs.Same.{same_role_self}
+use Rattle.adl_hierarchy.proofs.Lists.{in_get}
+use Rattle.conn_rules.specs.Ends.{allows, end_rule}
+use Rattle.conn_rules.specs.Row.{same_role}
+use Rattle.flat_laws.proofs.AreTyped.{ends_typed}
+use Rattle.flat_laws.proofs.Counts.{alone}
+use Rattle.flat_laws.proofs.FlatEnds.{strung_of}
+use Rattle.flat_laws.proofs.FlatLeaves.{leaf_listed, leaf_owned}
+use Rattle.flat_laws.proofs.SomeEnds.{allowed, some_end}
+use Rattle.flat_laws.proofs.TypedEnds.{hardware_fits}
+use Rattle.reach_laws.specs.Flat.{HasDevice, IsFlat, is_at_device}
+use Rattle.cam_base.proofs.NumberedLists.{at_place, from_get_map}
+
+-- ---- of the table
+
+-- a connector has devices at the ends of one role
+one_role : (c : Connector) (r q : Role) → (end_rule c r).hardware ≡ true → (end_rule c q).hardware ≡ true → r ≡ q
+one_role c From From h k = refl
+one_role c To To h k = refl
+one_role Rpc From To h k = absurd (true≢false (sym h))
+one_role Notification From To h k = absurd (true≢false (sym h))
+one_role SharedMemory From To h k = absurd (true≢false (sym h))
+one_role Mmio From To h k = absurd (true≢false (sym h))
+one_role Interrupt From To h k = absurd (true≢false (sym k))
+one_role Direct From To h k = absurd (true≢false (sym h))
+one_role Rpc To From h k = absurd (true≢false (sym h))
+one_role Notification To From h k = absurd (true≢false (sym h))
+one_role SharedMemory To From h k = absurd (true≢false (sym h))
+one_role Mmio To From h k = absurd (true≢false (sym k))
+one_role Interrupt To From h k = absurd (true≢false (sym h))
+one_role Direct To From h k = absurd (true≢false (sym h))
+
+just_one : (n : ℕ) → nat_le 1 n ≡ true → nat_le n 1 ≡ true → n ≡ 1
+just_one n low high = grind (arith, leb_tells 1 n, leb_tells n 1)
+
+-- and one of them
+one_allowed : (c : Connector) (r : Role) (n : ℕ) → (end_rule c r).hardware ≡ true → allows (end_rule c r) n ≡ true → n ≡ 1
+one_allowed Mmio To n h a = let w = and_parts (nat_le 1 n) (nat_le n 1) a in just_one n w.0 w.1
+one_allowed Interrupt From n h a = let w = and_parts (nat_le 1 n) (nat_le n 1) a in just_one n w.0 w.1
+one_allowed Rpc From n h a = absurd (true≢false (sym h))
+one_allowed Rpc To n h a = absurd (true≢false (sym h))
+one_allowed Notification From n h a = absurd (true≢false (sym h))
+one_allowed Notification To n h a = absurd (true≢false (sym h))
+one_allowed SharedMemory From n h a = absurd (true≢false (sym h))
+one_allowed SharedMemory To n h a = absurd (true≢false (sym h))
+one_allowed Mmio From n h a = absurd (true≢false (sym h))
+one_allowed Interrupt To n h a = absurd (true≢false (sym h))
+one_allowed Direct From n h a = absurd (true≢false (sym h))
+one_allowed Direct To n h a = absurd (true≢false (sym h))
+
+module _ (s : Source) (sound : AreNamesSound s) (dotted : AreDotted (hierarchy_of s)) (types : first_type_fault s ≡ None) where
+  -- ---- leaves
+
+  domain_of_software : (n : ℕ) (leaf : Leaf) → slice_get (flat_of s).leaves n ≡ Some leaf → leaf.hardware ≡ false → (d : ℕ) × (leaf.domain ≡ Some d)
+  domain_of_software n leaf e soft =
+      let h = hierarchy_of s in
+      let x = from_get_map (leaf_of h) (leaves h) n leaf e in
+      let d = domain_number h (domain_of h x.0.path) in
+      let hard : is_hardware h x.0.part ≡ false = ap (λ (z : Leaf). z.hardware) x.2 ∙ soft in
+      (d, ap (λ (z : Leaf). z.domain) (sym x.2) ∙ ap (λ b. cond b None (Some d)) hard)
+
+  domain_of_hardware : (n : ℕ) (leaf : Leaf) → slice_get (flat_of s).leaves n ≡ Some leaf → leaf.hardware ≡ true → leaf.domain ≡ None
+  domain_of_hardware n leaf e hard =
+      let h = hierarchy_of s in
+      let x = from_get_map (leaf_of h) (leaves h) n leaf e in
+      let is : is_hardware h x.0.part ≡ true = ap (λ (z : Leaf). z.hardware) x.2 ∙ hard in
+      ap (λ (z : Leaf). z.domain) (sym x.2) ∙ ap (λ b. cond b None (Some (domain_number h (domain_of h x.0.path)))) is
+
+  -- the leaf of an end is a device just where the table has it
+  leaf_hardware : (x : EndAt (flat_of s)) (leaf : Leaf) → slice_get (flat_of s).leaves x.end.leaf ≡ Some leaf → leaf.hardware ≡ is_at_device x
+  leaf_hardware x leaf e =
+      let t = ends_typed s sound dotted types x.place x.number x.connection x.end x.here x.stands in
+      let both : Some leaf ≡ Some t.leaf = sym e ∙ t.here in
+      let same : leaf ≡ t.leaf = cc in
+      ap (λ (z : Leaf). z.hardware) same ∙ hardware_fits (end_rule x.connection.connector x.end.role) (record { interface = t.interface; hardware = t.leaf.hardware }) t.kind
+
+  -- ---- ends of devices
+
+  -- a connection has one end in the role of its devices
+  one_end : (y : Strung) → IsIn y (connections (hierarchy_of s)) → (r : Role) → (end_rule y.wire.0 r).hardware ≡ true → count_of r y.wire.1.ends ≡ 1
+  one_end y i r hard = one_allowed y.wire.0 r (count_of r y.wire.1.ends) hard (allowed y.wire.0 r y.wire.1.ends ((well_typed s sound types y i).counts))
+
+  connector_is : (y : Strung) (c : FlatConnection) → flat_connection (hierarchy_of s) y ≡ c → y.wire.0 ≡ c.connector
+  connector_is y c e = ap (λ (z : FlatConnection). z.connector) e
+
+  has_device : (k : ℕ) (c : FlatConnection) → slice_get (flat_of s).connections k ≡ Some c → (r : Role) → (end_rule c.connector r).hardware ≡ true → HasDevice (flat_of s) k
+  has_device k c here r hard =
+      let d = some_end s sound dotted types k c here r in
+      record {
+        at = record { place = k; connection = c; here = here; number = d.0; end = d.1; stands = d.2 };
+        place = refl;
+        device = ap (λ r. (end_rule c.connector r).hardware) d.3 ∙ hard;
+      }
+
+  -- the end of the text under the number of an end
+  record EndOf (y : Strung) (x : EndAt (flat_of s)) : Type 0 where
+    end : End
+    stands : slice_get y.wire.1.ends x.number ≡ Some end
+    role : end.role ≡ x.end.role
+
+  end_of : (y : Strung) → IsIn y (connections (hierarchy_of s)) → (x : EndAt (flat_of s)) → flat_connection (hierarchy_of s) y ≡ x.connection → EndOf y x
+  end_of y i x same =
+      let h = hierarchy_of s in
+      let stands : slice_get (flat_ends h y) x.number ≡ Some x.end = ap (λ (c : FlatConnection). slice_get c.ends x.number) same ∙ x.stands in
+      let short : x.number < length y.wire.1.ends = subst (λ n. x.number < n) (ends_kept s sound dotted y i) (slice_get_within (flat_ends h y) x.number x.end stands) in
+      let end = at_place y.wire.1.ends x.number short in
+      let r = all_joined s sound dotted y end.0 i (in_get y.wire.1.ends x.number end.0 end.1) in
+      let both : Some (flat_end h y.path end.0 r.0) ≡ Some x.end = sym (end_numbers_kept s sound dotted y x.number end.0 r.0 i end.1 r.1) ∙ stands in
+      let is : flat_end h y.path end.0 r.0 ≡ x.end = cc in
+      record { end = end.0; stands = end.1; role = ap (λ (z : FlatEnd). z.role) is }
+
+  one_number : (x z : EndAt (flat_of s)) → z.place ≡ x.place → is_at_device x ≡ true → is_at_device z ≡ true → z.number ≡ x.number
+  one_number x z place a b =
+      let y = strung_of s x.place x.connection x.here in
+      let both : Some x.connection ≡ Some z.connection = sym x.here ∙ ap (slice_get (flat_of s).connections) (sym place) ∙ z.here in
+      let connection : x.connection ≡ z.connection = cc in
+      let e = end_of y.0 y.1 x y.2 in
+      let f = end_of y.0 y.1 z (y.2 ∙ connection) in
+      let role : z.end.role ≡ x.end.role = one_role x.connection.connector z.end.role x.end.role (ap (λ (c : FlatConnection). (end_rule c.connector z.end.role).hardware) connection ∙ b) a in
+      let one = one_end y.0 y.1 x.end.role (ap (λ c. (end_rule c x.end.role).hardware) (connector_is y.0 x.connection y.2) ∙ a) in
+      let is : (r : Role) → r ≡ x.end.role → same_role r x.end.role ≡ true = λ r e. ap (λ q. same_role q x.end.role) e ∙ same_role_self x.end.role in
+      alone (λ (e : End). same_role e.role x.end.role) y.0.wire.1.ends z.number x.number f.end e.end (omega (arith, one)) f.stands e.stands (is f.end.role (f.role ∙ role)) (is e.end.role e.role)
+
+  pub devices_flat : IsFlat s (flat_of s)
+  devices_flat =
+      let h = hierarchy_of s in
+      record {
+        listed = λ l d leaf e f. leaf_listed h l d leaf e f;
+        owned = λ d l domain e i. leaf_owned h d l domain e i;
+        joined = λ x.
+            let t = ends_typed s sound dotted types x.place x.number x.connection x.end x.here x.stands in
+            record { leaf = t.leaf; here = t.here; member = members.Interface t.interface; joins = t.joined };
+        software = λ x leaf soft e. domain_of_software x.end.leaf leaf e (leaf_hardware x leaf e ∙ soft);
+        hardware = λ x leaf hard e. domain_of_hardware x.end.leaf leaf e (leaf_hardware x leaf e ∙ hard);
+        interrupts = λ k c e is. has_device k c e From (ap (λ z. (end_rule z From).hardware) is);
+        registers = λ k c e is. has_device k c e To (ap (λ z. (end_rule z To).hardware) is);
+        one_device = λ x y place a b. one_number x y place a b;
+      }

@@ -1,0 +1,155 @@
+-- What the page tables of a domain hold: tables of the same domain, and its pages; and that each of its pages is held.
+use Rattle.std.proofs.Common.{◌≡◌, ◌+◌, ◌⊎◌, ◌∙◌, ◌^◌, ℕ, List, [], ◌∷◌, map, Option, Some, None, refl, sym, ap, subst, inl, inr, arith}
+use Rattle.std.specs.List.{Contains, slice_get}
+use Rattle.std.proofs.lemmas.Option.{slice_get_within}
+use Rattle.adl_meaning.specs.declared.flat.Domain.{Domain}
+use Rattle.arch_policy.specs.Tables.{domain_label}
+use Rattle.cap_model.specs.ObjectLabels.{label_of}
+use Rattle.cap_model.specs.Auth.{table_of as slots_of}
+use Rattle.cap_model.specs.Lookup.{object_at}
+use Rattle.cap_model.specs.declared.cap.Cap.{Cap}
+use Rattle.cap_model.specs.declared.level.Arch.{Arch}
+use Rattle.cap_model.specs.declared.level.Arch.TheVariants.{Arm11, Aarch64}
+use Rattle.cap_model.specs.declared.level.Level.{Level}
+use Rattle.cap_model.specs.declared.level.Level.TheVariants.{Global, Upper, Directory, Table}
+use Rattle.cap_model.specs.declared.object.Object.{Object}
+use Rattle.cap_model.specs.declared.object.Object.TheVariants as objects
+use Rattle.cap_model.proofs.BootPlaces.{at_contains, contains_at}
+use Rattle.cam_base.specs.Gather.{IsIn}
+use Rattle.cam_base.proofs.Gathered.{in_place, place_of}
+use Rattle.cam_base.proofs.NumberedLists.{at_place, from_map, in_map}
+use Rattle.page_tables.specs.declared.mapping.Mapping.{Mapping}
+use Rattle.page_tables.specs.declared.shape.Shape.{Shape}
+use Rattle.page_tables.specs.Levels.{slot_of, tables_of}
+use Rattle.page_tables.specs.Shapes.{shape, shapes}
+use Rattle.page_tables.proofs.Children.{linked_none, slots_lead}
+use Rattle.page_tables.proofs.Leveled.{in_tables}
+use Rattle.reach_laws.specs.Windows.{InTable}
+use Rattle.spec_kept.proofs.TablesKept.{moved, object_is, stands_there, standing}
+use Rattle.system_spec.proofs.There.{IsThere, object_there}
+use Rattle.system_spec.specs.declared.part.What.TheVariants.{FrameOf, TableOf}
+use Rattle.system_spec.specs.Made.{spec_of}
+use Rattle.system_spec.specs.Objects.{object}
+use Rattle.system_spec.specs.Parts.{page_mapping, page_rights, place, tables_at}
+use Rattle.system_spec.specs.Tables.{Tables, arch, pages_at}
+use Rattle.vspace_layout.specs.declared.spaces.Page.{Page}
+use Rattle.spec_laws.specs.Policy.{policy_tables}
+use Rattle.spec_laws.proofs.Whose.{IsAt, label_there, labels, object_stands, of_pages}
+
+module _ (t : Tables) where
+  abbrev frame_first : ℕ
+  frame_first = place t (FrameOf 0)
+
+  abbrev mappings : ℕ → List Mapping
+  mappings d = map (page_mapping frame_first) (pages_at t d)
+
+  -- the capability of a page of the domain
+  pub record IsPageCap (d : ℕ) (held : Cap) : Type 0 where
+    pub page : Page
+    pub there : IsIn page (pages_at t d)
+    pub object : held.object ≡ place t (FrameOf page.frame)
+    pub rights : held.rights ≡ page_rights page
+
+  -- the capability to another table of the domain
+  pub record IsTableCap (d : ℕ) (held : Cap) : Type 0 where
+    pub number : ℕ
+    pub there : IsThere t (TableOf d number)
+    pub object : held.object ≡ place t (TableOf d number)
+
+  -- what a page table has in a slot
+  pub record InDomain (o : ℕ) (held : Cap) : Type 0 where
+    pub domain : ℕ
+    pub found : Domain
+    pub here : slice_get t.flat.domains domain ≡ Some found
+    pub label : label_of (labels t) o ≡ domain_label (policy_tables t) domain
+    pub holds : IsPageCap domain held ⊎ IsTableCap domain held
+
+  page_cap_of : (d : ℕ) (m : Mapping) → IsIn m (mappings d) → IsPageCap d m.cap
+  page_cap_of d m i =
+      let p = from_map (page_mapping frame_first) m (pages_at t d) i in
+      let object : m.cap.object ≡ frame_first + p.0.frame = ap (λ (z : Mapping). z.cap.object) (sym p.2) in
+      record { page = p.0; there = p.1; object = omega (arith, object); rights = ap (λ (z : Mapping). z.cap.rights) (sym p.2) }
+
+  of_slot : (d : ℕ) (x : Domain) (level : Level) (slots : List (ℕ × Cap)) (slot : ℕ × Cap) → slice_get t.flat.domains d ≡ Some x → IsIn (objects.Pages level slots) (standing t d) → IsIn slot slots
+      → IsPageCap d slot.1 ⊎ IsTableCap d slot.1
+  of_slot d x level slots slot e there i =
+      let first = place t (TableOf d 0) in
+      elim (slots_lead (arch t) (mappings d) first level slots slot there i) [
+        | inl w ↦ inl (let m : Mapping = w.1.0 in subst (λ (z : Cap). IsPageCap d z) (sym w.1.2) (page_cap_of d m w.1.1))
+        | inr child ↦
+            let object : slot.1.object ≡ first + child.place = ap (λ (z : Cap). z.object) child.is in
+            inr (record {
+              number = child.place;
+              there = stands_there t d child.place x (objects.Pages child.below child.slots) e child.there;
+              object = omega (arith, object);
+            })
+      ]
+
+  from_pages : (o i : ℕ) (held : Cap) (level : Level) (slots : List (ℕ × Cap)) → IsAt t o (objects.Pages level slots) → Contains slots (i, held) → InDomain o held
+  from_pages o i held level slots at there =
+      let w = of_pages at.what at.sort in
+      let d = w.0 in
+      let j = w.1 in
+      let here : IsThere t (TableOf d j) = subst (λ z. IsThere t z) w.2 at.there in
+      let is : object t (TableOf d j) ≡ objects.Pages level slots = subst (λ z. object t z ≡ objects.Pages level slots) w.2 at.is in
+      let m = moved t 0 0 (place t (TableOf d 0)) (place t (FrameOf 0)) d j here.1.0 here.1.1 in
+      let same : m.0 ≡ objects.Pages level slots = sym (object_is t d j m.0 m.1) ∙ is in
+      let table : IsIn (objects.Pages level slots) (standing t d) = subst (λ z. IsIn z (standing t d)) same (in_place m.0 (standing t d) j m.1) in
+      let k = contains_at slots (i, held) there in
+      record {
+        domain = d;
+        found = here.0.0;
+        here = here.0.1;
+        label = sym (ap (label_of (labels t)) (subst (λ z. place t z ≡ o) w.2 at.stands)) ∙ label_there t (TableOf d j) here;
+        holds = of_slot d here.0.0 level slots (i, held) here.0.1 table (in_place (i, held) slots k.0 k.1);
+      }
+
+  pub in_table : (o i : ℕ) (held : Cap) → InTable (spec_of t) o i held → InDomain o held
+  in_table o i held there = go (object_at (spec_of t) o) refl there where
+    go : (x : Option Object) → object_at (spec_of t) o ≡ x → Contains (slots_of x) (i, held) → InDomain o held
+    go (Some (objects.Pages level slots)) h c = from_pages o i held level slots (object_stands t o (objects.Pages level slots) h) c
+    go None h c = absurd (let w = c.1 in omega arith)
+    go (Some objects.Endpoint) h c = absurd (let w = c.1 in omega arith)
+    go (Some objects.Notification) h c = absurd (let w = c.1 in omega arith)
+    go (Some (objects.CNode bits slots)) h c = absurd (let w = c.1 in omega arith)
+    go (Some (objects.Thread tcb)) h c = absurd (let w = c.1 in omega arith)
+    go (Some (objects.Frame paddr fill)) h c = absurd (let w = c.1 in omega arith)
+    go (Some (objects.Irq n)) h c = absurd (let w = c.1 in omega arith)
+
+  -- ---- each page is held
+
+  some_shapes : (a : Arch) → (l : Shape) × (ls : List Shape) × (shapes a ≡ l ∷ ls)
+  some_shapes Arm11 = (shape Table (2 ^ 12) 256, shape Directory (2 ^ 20) 4096 ∷ [], refl)
+  some_shapes Aarch64 = (shape Table (2 ^ 12) 512, shape Directory (2 ^ 21) 512 ∷ shape Upper (2 ^ 30) 512 ∷ shape Global (2 ^ 39) 512 ∷ [], refl)
+
+  -- the table that holds a page, and its slot
+  pub record HeldIn (d : ℕ) (p : Page) : Type 0 where
+    pub number : ℕ
+    pub there : IsThere t (TableOf d number)
+    pub slot : ℕ
+    pub held : InTable (spec_of t) (place t (TableOf d number)) slot (page_mapping (place t (FrameOf 0)) p).cap
+
+  pub page_held : (d : ℕ) (x : Domain) (p : Page) → slice_get t.flat.domains d ≡ Some x → IsIn p (pages_at t d) → HeldIn d p
+  page_held d x p e i =
+      let s = some_shapes (arch t) in
+      let first = place t (TableOf d 0) in
+      let m = page_mapping frame_first p in
+      let w = in_tables s.0 s.1 (mappings d) first 0 m (in_map (page_mapping frame_first) p (pages_at t d) i) in
+      let among : IsIn w.0 (standing t d) = subst (λ ls. IsIn w.0 (tables_of first ls (mappings d))) (sym s.2) w.1 in
+      let n = place_of w.0 (standing t d) among in
+      let there = stands_there t d n.0 x w.0 e n.1 in
+      let is : object_at (spec_of t) (place t (TableOf d n.0)) ≡ Some w.0 = object_there t (TableOf d n.0) there ∙ ap (λ z. Some z) (object_is t d n.0 w.0 n.1) in
+      let slot = slot_of s.0 0 m in
+      let k = place_of slot (slots_of (Some w.0)) w.2 in
+      let inside : Contains (slots_of (Some w.0)) slot = at_contains (slots_of (Some w.0)) slot k.0 k.1 in
+      let same : slot ≡ (slot.0, m.cap) = ap (λ z. (slot.0, z)) (linked_none m.cap) in
+      let exact : Contains (slots_of (Some w.0)) (slot.0, m.cap) = subst (λ z. Contains (slots_of (Some w.0)) z) same inside in
+      record { number = n.0; there = there; slot = slot.0; held = subst (λ z. Contains (slots_of z) (slot.0, m.cap)) (sym is) exact }
+
+  -- so where there is a page there is a root
+  pub root_there : (d : ℕ) (x : Domain) (p : Page) → slice_get t.flat.domains d ≡ Some x → IsIn p (pages_at t d) → IsThere t (TableOf d 0)
+  root_there d x p e i =
+      let w = page_held d x p e i in
+      let l = slice_get_within (tables_at t 0 0 d) w.number w.there.1.0 w.there.1.1 in
+      let o = at_place (tables_at t 0 0 d) 0 (omega (arith, l)) in
+      ((x, e), (o.0, o.1))

@@ -1,0 +1,10 @@
+-- Each leaf of software has an image, as the images have that are read for a source.
+use Rattle.std.specs.Prelude.{◌≡◌, ℕ, Some, slice_get}
+use Rattle.adl_meaning.specs.declared.flat.Flat.{Flat}
+use Rattle.adl_meaning.specs.declared.flat.Leaf.{Leaf}
+use Rattle.source_images.specs.Images.{image_number}
+use Rattle.source_images.specs.declared.images.Images.{Images}
+
+abbrev pub HaveImages : Flat → Images → Type 0
+HaveImages flat images =
+    (leaf d : ℕ) (found : Leaf) → slice_get flat.leaves leaf ≡ Some found → found.domain ≡ Some d → (m : ℕ) × (image_number images leaf ≡ Some m)

@@ -1,8 +1,0 @@
-use Rattle.std.proofs.Common.{◌∙◌, ap}
-use Rattle.name_tables.specs.ByName.{found}
-use Rattle.spread_names.proofs.Ordered.{fits, found_entry}
-use Rattle.spread_names.proofs.names.Names.find.Goals as goal
-
-pub returns : goal.returns
-returns g c =
-    c.get.ensures.value ∙ found_entry c.self.inside.entries.entries (c.args.number, c.args.name) c.self.invariant (fits c.args.number c.args.name.now c.requires) ∙ ap (λ s. found s c.args.name.now) c.self.view_is

@@ -1,4 +1,0 @@
-pub mod ElfFaults
-pub mod PlannedMemory
-pub mod ReadTexts
-pub mod StepFaults

@@ -1,7 +1,0 @@
-use Rattle.std.proofs.Common.{◌≡◌, ◌==◌, ◌++◌, not, length, filter, drop}
-use Rattle.text_lines.specs.Fields.{spaced_fields}
-use Rattle.text_lines.specs.Texts.{texts}
-use Rattle.text_lines.proofs.field.spaced_fields.Given as goal
-
-abbrev pub invariant-loop-field : goal.invariant-loop-field
-invariant-loop-field l = texts l.fields.items ++ filter (λ field. not (length field == 0)) (texts (drop l.field-index l.field-items)) ≡ spaced_fields l.line
