@@ -1,5 +1,5 @@
 -- What the parts of a compilation answer is what the whole answers.
-use Rattle.std.proofs.Common.{◌≡◌, ◌∙◌, ◌≤◌, ℕ, List, Option, Some, None, Result, Ok, Err, refl, sym, ap, subst, inl, inr, is_some, arith}
+use Rattle.std.proofs.Common.{◌≡◌, ◌∙◌, ℕ, List, Option, Some, None, Result, Ok, Err, refl, sym, ap, subst, inl, inr, is_some}
 use Rattle.std.specs.List.{slice_get}
 use Rattle.std.specs.Option.{option_or}
 use Rattle.std.specs.Prelude.{if◌then◌else◌}
@@ -10,7 +10,7 @@ use Rattle.adl_meaning.specs.declared.flat.Flat.{Flat}
 use Rattle.adl_meaning.specs.declared.settled.Settled.{Settled}
 use Rattle.arch_compile.specs.Built.{IsBuildOf, IsMade}
 use Rattle.arch_compile.specs.Compiled.{IsCompiled, IsRefusal}
-use Rattle.arch_compile.specs.LayoutFaults.{file_of, first_fault, first_imaged_fault, first_layout_fault, images_from, root_of, spaced, tables_beside}
+use Rattle.arch_compile.specs.LayoutFaults.{file_of, first_fault, first_imaged_fault, first_layout_fault, found_beside, images_beside, images_from, root_of, spaced, tables_beside}
 use Rattle.arch_compile.specs.Steps.{Builds, Completes, Finishes, IsBuiltOf, IsImaged, IsLaid, Lays, first_laid_fault, not_imaged}
 use Rattle.arch_compile.specs.declared.building.Build.{Build}
 use Rattle.arch_compile.specs.declared.laying.Layout.{Layout}
@@ -38,7 +38,7 @@ use Rattle.source_images.specs.declared.images.Images.{Images}
 use Rattle.source_images.proofs.ImageNumbers.{images_numbered}
 use Rattle.source_images.proofs.TableReads.{found_count}
 use Rattle.source_images.proofs.Soundness.{images_sound}
-use Rattle.source_images.specs.Found.{AreFound, Found, table_names}
+use Rattle.source_images.specs.Found.{Found, table_names}
 use Rattle.source_images.specs.ImagesRead.{AreImagesOf, AreImagesRead}
 use Rattle.source_images.specs.TableFaults.{first_table_fault, name_of_file as name_with_tables}
 use Rattle.source_images.specs.Types.{types}
@@ -143,19 +143,21 @@ in_tables : (s : Source) (found : List Found) (n : ℕ) (f : Fault) → first_ta
 in_tables s found n f some = ap (λ (o : Option Fault). if is_some o then name_with_tables (root_of s) s (flat_of s) n else name_of_file s n) some
 
 module _ (contents : Contents) (before now : List ℕ → ℕ) (m : Meaning) (images : Images) (is : AreImagesOf contents (root_of m.source) m.source (flat_of m.source) images) where
+  told_images : images ≡ images_beside contents m.source
+  told_images = is.images ∙ ap (images_from m.source) is.told
+
+  told_clean : first_table_fault (root_of m.source) m.source (flat_of m.source) (found_beside contents m.source) ≡ None
+  told_clean = ap (first_table_fault (root_of m.source) m.source (flat_of m.source)) (sym is.told) ∙ is.clean
+
   laid_builds : (r : Result Build BuildError) → Lays m images r → Builds m contents before now r
   laid_builds (Ok b) h = record {
     same = h.0;
-    found = is.found;
-    told = is.told;
-    clean = clean_is m.source is.found images None is.clean is.images h.1;
-    made = subst (λ z. IsMade m.source z b.spec b.policy b.cert b.map) is.images h.2;
+    clean = clean_is m.source (found_beside contents m.source) images None told_clean told_images h.1;
+    made = subst (λ z. IsMade m.source z b.spec b.policy b.cert b.map) told_images h.2;
   }
   laid_builds (Err (error.Fault fault file)) t = record {
-    found = is.found;
-    told = is.told;
-    first = clean_is m.source is.found images (Some fault) is.clean is.images t.0;
-    named = t.1.1 ∙ sym (in_source m.source is.found fault.place.file is.clean);
+    first = clean_is m.source (found_beside contents m.source) images (Some fault) told_clean told_images t.0;
+    named = t.1.1 ∙ sym (in_source m.source (found_beside contents m.source) fault.place.file told_clean);
   }
   laid_builds (Err (error.ReadFault file)) t = absurd t
   laid_builds (Err error.NoMemory) t = tt
@@ -166,12 +168,13 @@ built_of_images contents before now m root images r meant e h lays = laid_builds
 
 unread_builds : (contents : Contents) (before now : List ℕ → ℕ) (m : Meaning) (e : ImagesError) → AreImagesRead contents (root_of m.source) m.source (flat_of m.source) (Err e)
     → ((file : List ℕ) → ◌≡◌ {A = Result Images ImagesError} (Err e) (Err (imaging.ReadFault file)) → Rose (before file) (now file)) → Builds m contents before now (Err (not_imaged e))
-unread_builds contents before now m (imaging.Fault fault file) h rose = record {
-  found = h.found;
-  told = h.told;
-  first = ap (λ o. option_or o (first_imaged_fault m.source (images_from m.source h.found))) h.first;
-  named = h.named ∙ sym (in_tables m.source h.found fault.place.file fault h.first);
-}
+unread_builds contents before now m (imaging.Fault fault file) h rose =
+    let there : first_table_fault (root_of m.source) m.source (flat_of m.source) (found_beside contents m.source) ≡ Some fault =
+    ap (first_table_fault (root_of m.source) m.source (flat_of m.source)) (sym h.told) ∙ h.first in
+    record {
+      first = ap (λ o. option_or o (first_imaged_fault m.source (images_beside contents m.source))) there;
+      named = h.named ∙ sym (in_tables m.source (found_beside contents m.source) fault.place.file fault there);
+    }
 unread_builds contents before now m (imaging.ReadFault file) h rose = (h, rose file refl)
 unread_builds contents before now m imaging.NoMemory h rose = tt
 
@@ -192,10 +195,8 @@ module _ (root : List ℕ) (contents : Contents) (old mid now : List ℕ → ℕ
       let same : m ≡ b.meaning = sym h.same in
       record {
         meant = subst (IsMeaningOf root contents) same is;
-        found = h.found;
-        told = subst (λ (z : Meaning). AreFound contents (tables_beside z.source) h.found) same h.told;
-        clean = ap (λ (z : Meaning). first_fault z.source h.found) h.same ∙ first_is m.source h.found None is.none h.clean;
-        made = subst (λ (z : Meaning). IsMade z.source (images_from z.source h.found) b.spec b.policy b.cert b.map) same h.made;
+        clean = ap (λ (z : Meaning). first_fault z.source (found_beside contents z.source)) h.same ∙ first_is m.source (found_beside contents m.source) None is.none h.clean;
+        made = subst (λ (z : Meaning). IsMade z.source (images_beside contents z.source) b.spec b.policy b.cert b.map) same h.made;
       }
 
   pub built_compiled : (r : Result Build BuildError) → NoneFell old mid → Builds m contents mid now r → IsCompiled root contents old now r

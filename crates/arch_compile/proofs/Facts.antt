@@ -6,7 +6,7 @@ use Rattle.adl_hierarchy.specs.Spelled.{AreSpelled}
 use Rattle.adl_meaning.specs.Flat.{flat_of}
 use Rattle.adl_settings.specs.Settled.{settled_of}
 use Rattle.arch_compile.specs.Built.{IsBuildOf}
-use Rattle.arch_compile.specs.LayoutFaults.{first_imaged_fault, first_layout_fault, images_from, root_of, spaced}
+use Rattle.arch_compile.specs.LayoutFaults.{first_imaged_fault, first_layout_fault, found_beside, images_beside, root_of, spaced}
 use Rattle.arch_compile.specs.declared.building.Build.{Build}
 use Rattle.arch_policy.specs.Policies.{first_edge_fault}
 use Rattle.cam_io.specs.Contents.{Contents}
@@ -44,11 +44,11 @@ pub record AreFacts (contents : Contents) (s : Source) (images : Images) : Type 
   pub edge : first_edge_fault (source_tables s) ≡ None
 
 -- the facts of a build, with its images
-pub build_facts : (root : List ℕ) (contents : Contents) (b : Build) (is : IsBuildOf root contents b) → AreFacts contents b.meaning.source (images_from b.meaning.source is.found)
+pub build_facts : (root : List ℕ) (contents : Contents) (b : Build) → IsBuildOf root contents b → AreFacts contents b.meaning.source (images_beside contents b.meaning.source)
 build_facts root contents b is =
     let s = b.meaning.source in
-    let found = is.found in
-    let images = images_from s found in
+    let found = found_beside contents s in
+    let images = images_beside contents s in
     let whole : IsWhole s = loaded_whole contents root s is.meant.loaded in
     let front : first_front_fault s ≡ None = no_first (first_front_fault s) (first_layout_fault s found) is.clean in
     let layout : first_layout_fault s found ≡ None = no_second (first_front_fault s) (first_layout_fault s found) is.clean in
@@ -64,8 +64,8 @@ build_facts root contents b is =
       short = whole.short;
       spelled = short_spelled s whole.short;
       faultless = faultless s front;
-      read = record { found = found; told = is.told; clean = table; images = refl };
-      numbered = images_numbered (root_of s) s (flat_of s) found (found_count _ (table_names (root_of s) s (flat_of s)) found is.told) table
+      read = record { found = found; told = refl; clean = table; images = refl };
+      numbered = images_numbered (root_of s) s (flat_of s) found (found_count contents (table_names (root_of s) s (flat_of s)) found refl) table
           (sound_within s (flat_of s) (settled_of s) (record { whole = whole; none = front; meant = record { is_flat = refl; is_settled = refl } }));
       sound = λ n image at x i. images_sound (types s (flat_of s)) found n image at x i;
       space = no_first space (option_or slot (option_or page edges)) imaged;

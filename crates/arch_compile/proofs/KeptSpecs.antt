@@ -4,7 +4,7 @@ use Rattle.std.specs.Prelude.{IfOk}
 use Rattle.adl_ast.specs.declared.source.Source.{Source}
 use Rattle.arch_compile.specs.Built.{IsBuildOf, system_tables}
 use Rattle.arch_compile.specs.Compiled.{IsCompiled}
-use Rattle.arch_compile.specs.LayoutFaults.{images_from}
+use Rattle.arch_compile.specs.LayoutFaults.{images_beside}
 use Rattle.arch_compile.specs.declared.building.Build.{Build}
 use Rattle.cam_io.specs.Contents.{Contents}
 use Rattle.cap_model.specs.Kept.{IsKept}
@@ -23,7 +23,7 @@ tables_kept s images facts =
 
 pub build_kept : (root : List ℕ) (contents : Contents) (b : Build) → IsBuildOf root contents b → IsKept b.spec
 build_kept root contents b is =
-    subst IsKept (sym is.made.spec_is) (tables_kept b.meaning.source (images_from b.meaning.source is.found) (build_facts root contents b is))
+    subst IsKept (sym is.made.spec_is) (tables_kept b.meaning.source (images_beside contents b.meaning.source) (build_facts root contents b is))
 
 pub compiled_kept : (root : List ℕ) (contents : Contents) (before now : List ℕ → ℕ) (r : Result Build BuildError) → IsCompiled root contents before now r → IfOk r (λ b. IsKept b.spec)
 compiled_kept root contents before now (Ok b) is = build_kept root contents b is

@@ -5,7 +5,7 @@ use Rattle.adl_ast.specs.declared.source.Source.{Source}
 use Rattle.adl_import.specs.Loaded.{IsLoaded}
 use Rattle.arch_compile.specs.Built.{IsBuildOf, IsMade}
 use Rattle.arch_compile.specs.Compiled.{IsCompiled, IsFirstFault}
-use Rattle.arch_compile.specs.LayoutFaults.{file_of, first_fault, first_layout_fault, images_from, tables_beside}
+use Rattle.arch_compile.specs.LayoutFaults.{file_of, first_fault, first_layout_fault, found_beside, images_beside}
 use Rattle.arch_compile.specs.declared.building.Build.{Build}
 use Rattle.cap_model.proofs.TableMembers.{one_table}
 use Rattle.cap_model.specs.Tables.{IsSorted, has}
@@ -22,7 +22,6 @@ use Rattle.front_end.specs.Refusals.{yields}
 use Rattle.front_end.specs.declared.error.BuildError.{BuildError}
 use Rattle.front_end.specs.declared.error.BuildError.TheVariants as error
 use Rattle.source_images.specs.declared.images.Images.{Images}
-use Rattle.source_images.specs.Found.{AreFound, Found, found_in}
 use Rattle.system_spec.specs.declared.map_line.MapLine.{MapLine}
 
 -- ---- what is made is one
@@ -50,36 +49,29 @@ builds_one s images b c meaning x y =
     ∙ ap (λ z. let d : Build = record { meaning = c.meaning; spec = c.spec; policy = c.policy; cert = c.cert; map = z } in d) map
 
 module _ (m : Contents) (root : List ℕ) where
-  -- what is found is one
-  found_one : (s t : Source) (x y : List Found) → s ≡ t → AreFound m (tables_beside s) x → AreFound m (tables_beside t) y → x ≡ y
-  found_one s t x y same a b = a ∙ ap (λ (z : Source). found_in m (tables_beside z)) same ∙ sym b
-
   pub builds_same : (b c : Build) → IsBuildOf root m b → IsBuildOf root m c → b ≡ c
   builds_same b c x y =
       let meaning = meanings_same m root b.meaning c.meaning x.meant y.meant in
       let source : b.meaning.source ≡ c.meaning.source = ap (λ z. z.source) meaning in
-      let found = found_one b.meaning.source c.meaning.source x.found y.found source x.told y.told in
-      builds_one c.meaning.source (images_from c.meaning.source y.found) b c meaning
-      (subst (λ z. IsMade c.meaning.source (images_from c.meaning.source z) b.spec b.policy b.cert b.map) found
-      (subst (λ z. IsMade z (images_from z x.found) b.spec b.policy b.cert b.map) source x.made))
+      builds_one c.meaning.source (images_beside m c.meaning.source) b c meaning
+      (subst (λ z. IsMade z (images_beside m z) b.spec b.policy b.cert b.map) source x.made)
       y.made
 
   -- ---- faults
 
   -- no fault is first where none stands
-  pub none_first : (s : Source) (x : List Found) (fault : Fault) (file : List ℕ) → IsLoaded m root (Ok s) → AreFound m (tables_beside s) x → first_fault s x ≡ None → IsFirstFault root m fault file → ⊥
-  none_first s x fault file loaded told none (inl f) =
-      none_faulted first_front_fault m root s fault file loaded (no_first (first_front_fault s) (first_layout_fault s x) none) f
-  none_first s x fault file loaded told none (inr f) =
+  pub none_first : (s : Source) (fault : Fault) (file : List ℕ) → IsLoaded m root (Ok s) → first_fault s (found_beside m s) ≡ None → IsFirstFault root m fault file → ⊥
+  none_first s fault file loaded none (inl f) =
+      none_faulted first_front_fault m root s fault file loaded (no_first (first_front_fault s) (first_layout_fault s (found_beside m s)) none) f
+  none_first s fault file loaded none (inr f) =
       let source = one_loaded m root s f.0 loaded f.1.loaded in
-      let found = found_one s f.0 x f.2.found source told f.2.told in
-      let clean = no_second (first_front_fault s) (first_layout_fault s x) none in
+      let clean = no_second (first_front_fault s) (first_layout_fault s (found_beside m s)) none in
       let same : ◌≡◌ {A = Option Fault} None (Some fault) =
-      sym clean ∙ ap (λ (z : Source). first_layout_fault z x) source ∙ ap (first_layout_fault f.0) found ∙ f.2.first in
+      sym clean ∙ ap (λ (z : Source). first_layout_fault z (found_beside m z)) source ∙ f.2.first in
       cc
 
   pub build_first : (b : Build) (fault : Fault) (file : List ℕ) → IsBuildOf root m b → IsFirstFault root m fault file → ⊥
-  build_first b fault file x f = none_first b.meaning.source x.found fault file x.meant.loaded x.told x.clean f
+  build_first b fault file x f = none_first b.meaning.source fault file x.meant.loaded x.clean f
 
   pub one_first : (f g : Fault) (a b : List ℕ) → IsFirstFault root m f a → IsFirstFault root m g b → (f ≡ g) × (a ≡ b)
   one_first f g a b (inl x) (inl y) = one_fault first_front_fault m root f g a b x y
@@ -87,13 +79,12 @@ module _ (m : Contents) (root : List ℕ) where
   one_first f g a b (inr x) (inl y) = absurd (none_faulted first_front_fault m root x.0 g b x.1.loaded x.1.none y)
   one_first f g a b (inr x) (inr y) =
       let source = one_loaded m root x.0 y.0 x.1.loaded y.1.loaded in
-      let found = found_one x.0 y.0 x.2.found y.2.found source x.2.told y.2.told in
       let fault : ◌≡◌ {A = Option Fault} (Some f) (Some g) =
-      sym x.2.first ∙ ap (λ (z : Source). first_layout_fault z x.2.found) source ∙ ap (first_layout_fault y.0) found ∙ y.2.first in
+      sym x.2.first ∙ ap (λ (z : Source). first_layout_fault z (found_beside m z)) source ∙ y.2.first in
       let same : f ≡ g = cc in (
         same,
-        x.2.named ∙ ap (λ (z : Source). file_of z x.2.found f.place.file) source ∙ ap (λ z. file_of y.0 z f.place.file) found
-            ∙ ap (λ (z : Fault). file_of y.0 y.2.found z.place.file) same ∙ sym y.2.named,
+        x.2.named ∙ ap (λ (z : Source). file_of z (found_beside m z) f.place.file) source
+            ∙ ap (λ (z : Fault). file_of y.0 (found_beside m y.0) z.place.file) same ∙ sym y.2.named,
       )
 
 -- ---- answers

@@ -3,7 +3,7 @@ use Rattle.std.specs.Prelude.{◌≡◌, ℕ, List, [], ◌∷◌, None}
 use Rattle.adl_ast.specs.declared.source.Source.{Source}
 use Rattle.adl_meaning.specs.Flat.{flat_of}
 use Rattle.adl_settings.specs.Settled.{settled_of}
-use Rattle.arch_compile.specs.LayoutFaults.{first_fault, images_from, tables_beside}
+use Rattle.arch_compile.specs.LayoutFaults.{first_fault, found_beside, images_beside}
 use Rattle.arch_compile.specs.declared.building.Build.{Build}
 use Rattle.arch_policy.specs.Labels.{label_lines}
 use Rattle.arch_policy.specs.Policies.{IsCertificateOf, IsPolicyOf}
@@ -18,7 +18,6 @@ use Rattle.front_end.specs.First.{source_tables}
 use Rattle.front_end.specs.Fronts.{IsMeaningOf}
 use Rattle.cam_base.specs.Gather.{gather}
 use Rattle.source_images.specs.declared.images.Images.{Images}
-use Rattle.source_images.specs.Found.{AreFound, Found}
 use Rattle.system_spec.specs.Made.{labels_of, spec_of}
 use Rattle.system_spec.specs.MapLines.{map_lines}
 use Rattle.system_spec.specs.Tables.{Tables}
@@ -47,11 +46,9 @@ pub record IsMade (source : Source) (images : Images) (spec : Spec) (policy : Po
   pub cert_sorted : IsSorted cert
   pub map_is : map ≡ map_lines (system_tables source images)
 
--- The root's source is loaded, with what it means and what it assigns. What is found under the names of its section tables is
--- what the contents have; in all of it no fault stands, and all is made from it.
+-- The root's source is loaded, with what it means and what it assigns. In it and in what the contents have under the names of its
+-- section tables no fault stands, and all is made from both.
 pub record IsBuildOf (root : List ℕ) (contents : Contents) (b : Build) : Type 0 where
   pub meant : IsMeaningOf root contents b.meaning
-  pub found : List Found
-  pub told : AreFound contents (tables_beside b.meaning.source) found
-  pub clean : first_fault b.meaning.source found ≡ None
-  pub made : IsMade b.meaning.source (images_from b.meaning.source found) b.spec b.policy b.cert b.map
+  pub clean : first_fault b.meaning.source (found_beside contents b.meaning.source) ≡ None
+  pub made : IsMade b.meaning.source (images_beside contents b.meaning.source) b.spec b.policy b.cert b.map

@@ -5,7 +5,7 @@ use Rattle.adl_ast.specs.declared.source.Source.{Source}
 use Rattle.adl_import.specs.Loaded.{AlikeInSource, IsLoaded}
 use Rattle.adl_import.specs.declared.error.LoadError.TheVariants as load
 use Rattle.arch_compile.specs.Built.{IsBuildOf}
-use Rattle.arch_compile.specs.LayoutFaults.{file_of, first_layout_fault, tables_beside}
+use Rattle.arch_compile.specs.LayoutFaults.{file_of, first_layout_fault, found_beside, tables_beside}
 use Rattle.arch_compile.specs.declared.building.Build.{Build}
 use Rattle.cam_base.specs.declared.place.Fault.{Fault}
 use Rattle.cam_io.specs.Causes.{Rose}
@@ -15,15 +15,13 @@ use Rattle.front_end.specs.Refusals.{IsFaulted}
 use Rattle.front_end.specs.declared.error.BuildError.{BuildError}
 use Rattle.front_end.specs.declared.error.BuildError.TheVariants as error
 use Rattle.cam_base.specs.Gather.{IsIn}
-use Rattle.source_images.specs.Found.{AlikeInTables, AreFound, Found}
+use Rattle.source_images.specs.Found.{AlikeInTables}
 
--- something is found under the name of each section table of the source, and with it this fault is the first behind the
--- settings, in the file of this name
+-- with what the contents have under the names of the section tables of the source, this fault is the first behind the settings,
+-- in the file of this name
 pub record IsLayoutFault (contents : Contents) (source : Source) (fault : Fault) (file : List ℕ) : Type 0 where
-  pub found : List Found
-  pub told : AreFound contents (tables_beside source) found
-  pub first : first_layout_fault source found ≡ Some fault
-  pub named : file ≡ file_of source found fault.place.file
+  pub first : first_layout_fault source (found_beside contents source) ≡ Some fault
+  pub named : file ≡ file_of source (found_beside contents source) fault.place.file
 
 -- the root's source is loaded, without a fault up to the settings
 pub record IsClean (root : List ℕ) (contents : Contents) (source : Source) : Type 0 where

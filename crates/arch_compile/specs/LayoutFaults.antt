@@ -12,11 +12,12 @@ use Rattle.adl_meaning.specs.Flat.{flat_of}
 use Rattle.adl_settings.specs.Settled.{settled_of}
 use Rattle.arch_policy.specs.Policies.{first_edge_fault}
 use Rattle.cam_base.specs.declared.place.Fault.{Fault}
+use Rattle.cam_io.specs.Contents.{Contents}
 use Rattle.cspace_layout.specs.SlotFaults.{first_slot_fault}
 use Rattle.front_end.specs.First.{first_front_fault, name_of_file, source_tables}
 use Rattle.source_images.specs.SpaceFaults.{first_space_fault}
 use Rattle.source_images.specs.declared.images.Images.{Images}
-use Rattle.source_images.specs.Found.{Found, table_names}
+use Rattle.source_images.specs.Found.{Found, found_in, table_names}
 use Rattle.source_images.specs.TableFaults.{first_table_fault, name_of_file as name_with_tables}
 use Rattle.source_images.specs.TableImages.{images_of}
 use Rattle.vspace_layout.specs.Given.{Given, given}
@@ -30,9 +31,17 @@ root_of s = name_of_file s 0
 abbrev pub tables_beside : Source → List (List ℕ)
 tables_beside s = table_names (root_of s) s (flat_of s)
 
+-- what contents have under these names
+abbrev pub found_beside : Contents → Source → List Found
+found_beside contents s = found_in contents (tables_beside s)
+
 -- the images, where this is found under these names
 abbrev pub images_from : Source → List Found → Images
 images_from s found = images_of s (flat_of s) found
+
+-- the images that contents have
+abbrev pub images_beside : Contents → Source → Images
+images_beside contents s = images_from s (found_beside contents s)
 
 abbrev pub spaced : Source → Images → Given
 spaced s images = given s (flat_of s) (settled_of s) images
@@ -41,7 +50,8 @@ spaced s images = given s (flat_of s) (settled_of s) images
 abbrev pub first_imaged_fault : Source → Images → Option Fault
 first_imaged_fault s images =
     option_or (first_space_fault (flat_of s) images)
-    (option_or (first_slot_fault s (flat_of s)) (option_or (first_page_limit (spaced s images)) (first_edge_fault (source_tables s))))
+    (option_or (first_slot_fault s (flat_of s))
+    (option_or (first_page_limit (spaced s images)) (first_edge_fault (source_tables s))))
 
 abbrev pub first_layout_fault : Source → List Found → Option Fault
 first_layout_fault s found =

@@ -6,7 +6,7 @@ use Rattle.adl_meaning.specs.declared.flat.Flat.{Flat}
 use Rattle.adl_meaning.specs.declared.settled.Settled.{Settled}
 use Rattle.arch_compile.specs.Built.{IsMade, labelled}
 use Rattle.arch_compile.specs.Compiled.{IsLayoutFault}
-use Rattle.arch_compile.specs.LayoutFaults.{first_imaged_fault, first_layout_fault, images_from, tables_beside}
+use Rattle.arch_compile.specs.LayoutFaults.{first_imaged_fault, first_layout_fault, found_beside, images_beside, tables_beside}
 use Rattle.arch_compile.specs.declared.building.Build.{Build}
 use Rattle.arch_compile.specs.declared.laying.Layout.{Layout}
 use Rattle.arch_compile.specs.declared.making.Made.{Made}
@@ -31,7 +31,6 @@ use Rattle.cam_base.specs.Gather.{IsIn}
 use Rattle.source_images.specs.Numbered.{AreNumbered, AreSound}
 use Rattle.source_images.specs.SpaceFaults.{first_space_fault}
 use Rattle.source_images.specs.declared.images.Images.{Images}
-use Rattle.source_images.specs.Found.{AreFound, Found}
 use Rattle.source_images.specs.declared.error.ImagesError.{ImagesError}
 use Rattle.source_images.specs.declared.error.ImagesError.TheVariants as imaging
 use Rattle.system_spec.specs.Buildable.{IsBuildable}
@@ -73,7 +72,8 @@ pub record IsLaid (source : Source) (flat : Flat) (settled : Settled) (images : 
 
 -- the policy with the labels of objects
 abbrev pub with_objects : Policy → Spec → Labels → Policy
-with_objects policy spec labels = record { labels = policy.labels; objects = labelled spec.entries labels.by_object; edges = policy.edges }
+with_objects policy spec labels =
+    record { labels = policy.labels; objects = labelled spec.entries labels.by_object; edges = policy.edges }
 
 -- what the policy and the certificate are made from
 abbrev pub policy_tables : Tables → PolicyTables
@@ -91,7 +91,8 @@ pub record IsMadeOf (t : Tables) (policy : Policy) (m : Made) : Type 0 where
 -- of a front, with these images
 abbrev pub Finishes : FrontEnd → Images → Result Build BuildError → Type 0
 Finishes f images (Ok b) =
-    (b.meaning ≡ record { source = f.source; flat = f.flat; settled = f.settled }) × IsMade f.source images b.spec b.policy b.cert b.map
+    (b.meaning ≡ record { source = f.source; flat = f.flat; settled = f.settled })
+    × IsMade f.source images b.spec b.policy b.cert b.map
 Finishes f images (Err e) = e ≡ error.NoMemory
 
 -- of a meaning, with these images, whose layout is known
@@ -111,10 +112,8 @@ Lays m images (Err e) = Tells m.source (first_imaged_fault m.source images) e
 -- of a meaning
 pub record IsBuiltOf (m : Meaning) (contents : Contents) (b : Build) : Type 0 where
   pub same : b.meaning ≡ m
-  pub found : List Found
-  pub told : AreFound contents (tables_beside m.source) found
-  pub clean : first_layout_fault m.source found ≡ None
-  pub made : IsMade m.source (images_from m.source found) b.spec b.policy b.cert b.map
+  pub clean : first_layout_fault m.source (found_beside contents m.source) ≡ None
+  pub made : IsMade m.source (images_beside contents m.source) b.spec b.policy b.cert b.map
 
 abbrev pub Builds : Meaning → Contents → (List ℕ → ℕ) → (List ℕ → ℕ) → Result Build BuildError → Type 0
 Builds m contents before now (Ok b) = IsBuiltOf m contents b

@@ -15,7 +15,8 @@ use Rattle.arch_policy.specs.declared.numbers.LabelNumbers.{LabelNumbers}
 -- what has a label, with its path
 abbrev pub HasPath : Flat → Owner → Path → Type 0
 HasPath flat (OfDomain d) p = (domain : Domain) × (slice_get flat.domains d ≡ Some domain) × (domain.path ≡ p)
-HasPath flat (OfConnection k) p = (c : FlatConnection) × (slice_get flat.connections k ≡ Some c) × (has_label c.connector ≡ true) × (c.path ≡ p)
+HasPath flat (OfConnection k) p =
+    (c : FlatConnection) × (slice_get flat.connections k ≡ Some c) × (has_label c.connector ≡ true) × (c.path ≡ p)
 HasPath flat (OfLeaf l) p = (leaf : Leaf) × (slice_get flat.leaves l ≡ Some leaf) × (leaf.domain ≡ None) × (leaf.path ≡ p)
 
 -- the number of the label with this path

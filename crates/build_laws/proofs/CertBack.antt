@@ -5,7 +5,7 @@ use Rattle.adl_ast.specs.declared.source.Source.{Source}
 use Rattle.adl_meaning.proofs.SoundNames.{one_assembly}
 use Rattle.adl_meaning.specs.Flat.{flat_of}
 use Rattle.arch_compile.specs.Built.{IsBuildOf, IsMade, system_tables}
-use Rattle.arch_compile.specs.LayoutFaults.{images_from}
+use Rattle.arch_compile.specs.LayoutFaults.{images_beside}
 use Rattle.arch_compile.specs.declared.building.Build.{Build}
 use Rattle.arch_policy.proofs.Lists.{has_in, in_has}
 use Rattle.arch_policy.specs.Tables.{Tables}
@@ -91,6 +91,6 @@ one_inside d e h = cc
 
 pub cert_read : (root : List ℕ) (contents : Contents) (b : Build) → IsBuildOf root contents b → IsCertReadBack b
 cert_read root contents b is =
-    let w = cert_writable b.meaning.source (images_from b.meaning.source is.found) (build_facts root contents b is) b is.made in
+    let w = cert_writable b.meaning.source (images_beside contents b.meaning.source) (build_facts root contents b is) b is.made in
     let text = cert_back b.policy b.cert w in
     record { writable = w; text = text; only = λ other t. one_inside other b.cert (certs_one b.policy (cert_text b.cert) (Ok other) (Ok b.cert) tt tt t text) }

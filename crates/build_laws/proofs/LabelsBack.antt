@@ -1,5 +1,5 @@
 -- Objects whose names differ are given back the labels that stand beside their names.
-use Rattle.std.proofs.Common.{◌≡◌, ◌∙◌, ℕ, zero, suc, List, [], ◌∷◌, map, Some, refl, sym, ap}
+use Rattle.std.proofs.Common.{◌≡◌, ◌∙◌, ℕ, suc, List, [], ◌∷◌, map, Some, refl, sym, ap}
 use Rattle.std.proofs.lemmas.Option.{get_or_from_slice_get}
 use Rattle.std.proofs.lemmas.Simd.{map-map}
 use Rattle.std.proofs.lemmas.Slice.Eq.{bytes_eq-Decides}
@@ -11,7 +11,7 @@ use Rattle.assigned_laws.proofs.Ranked.{find_only}
 use Rattle.cap_model.specs.ObjectLabels.{label_of}
 use Rattle.cap_model.specs.declared.spec.Entry.{Entry}
 use Rattle.cam_base.proofs.Gathered.{from_ones, get_ones}
-use Rattle.cam_base.proofs.NumberedLists.{get_map}
+use Rattle.cam_base.proofs.NumberedLists.{from_get_map, get_map}
 use Rattle.policy_text.specs.Labelled.{object_label}
 
 pub map_same : {X Y : Type 0} (f g : X → Y) (xs : List X) → ((n : ℕ) (x : X) → slice_get xs n ≡ Some x → f x ≡ g x) → map f xs ≡ map g xs
@@ -31,12 +31,7 @@ module _ {X : Type 0} (entry : X → Entry) (label : X → ℕ) (xs : List X)
   pub line_at : (m : ℕ) (o : List ℕ × ℕ) → slice_get objects m ≡ Some o → (x : X) × (slice_get xs m ≡ Some x) × (o.0 ≡ (entry x).name)
   line_at m o e =
       let a = from_ones line (map entry xs) m o e in
-      let b = from_map_at entry xs m a.0 a.1 in (b.0, b.1, ap (λ (z : List ℕ × ℕ). z.0) (sym a.2) ∙ ap (λ (z : Entry). z.name) (sym b.2))
-    where
-      from_map_at : {A B : Type 0} (f : A → B) (ys : List A) (n : ℕ) (y : B) → slice_get (map f ys) n ≡ Some y → (z : A) × (slice_get ys n ≡ Some z) × (f z ≡ y)
-      from_map_at f [] n y e = cc
-      from_map_at f (z ∷ zs) zero y e = (z, refl, cc)
-      from_map_at f (z ∷ zs) (suc n) y e = from_map_at f zs n y e
+      let b = from_get_map entry xs m a.0 a.1 in (b.0, b.1, ap (λ (z : List ℕ × ℕ). z.0) (sym a.2) ∙ ap (λ (z : Entry). z.name) (sym b.2))
 
   label_back : (n : ℕ) (x : X) → slice_get xs n ≡ Some x → Some (label x) ≡ object_label objects (entry x).name
   label_back n x at =

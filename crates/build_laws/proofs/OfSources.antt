@@ -2,7 +2,7 @@
 use Rattle.std.proofs.Common.{◌≡◌, List, ℕ, sym, ap, subst}
 use Rattle.adl_ast.specs.declared.source.Source.{Source}
 use Rattle.arch_compile.specs.Built.{IsBuildOf, system_tables}
-use Rattle.arch_compile.specs.LayoutFaults.{images_from}
+use Rattle.arch_compile.specs.LayoutFaults.{images_beside}
 use Rattle.arch_compile.specs.declared.building.Build.{Build}
 use Rattle.cap_model.specs.declared.object_labels.Labels.{Labels}
 use Rattle.arch_compile.proofs.Facts.{AreFacts, build_facts}
@@ -37,7 +37,7 @@ module _ (contents : Contents) (s : Source) (images : Images) (facts : AreFacts 
 pub build_of_source : (root : List ℕ) (contents : Contents) (b : Build) → IsBuildOf root contents b → IsOfSource contents b
 build_of_source root contents b is =
     let s = b.meaning.source in
-    let images = images_from s is.found in
+    let images = images_beside contents s in
     let t = system_tables s images in
     let facts = build_facts root contents b is in
     let slot = can_slot contents s images facts in

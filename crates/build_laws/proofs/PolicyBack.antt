@@ -7,7 +7,7 @@ use Rattle.adl_ast.specs.declared.source.Source.{Source}
 use Rattle.adl_meaning.specs.Flat.{flat_of}
 use Rattle.adl_meaning.specs.declared.flat.Flat.{Flat}
 use Rattle.arch_compile.specs.Built.{IsBuildOf, IsMade, labelled, system_tables}
-use Rattle.arch_compile.specs.LayoutFaults.{images_from}
+use Rattle.arch_compile.specs.LayoutFaults.{images_beside}
 use Rattle.arch_compile.specs.declared.building.Build.{Build}
 use Rattle.arch_policy.proofs.Lists.{in_has}
 use Rattle.arch_policy.specs.Labels.{label_lines, label_texts}
@@ -267,4 +267,4 @@ module _ {contents : Contents} (s : Source) (images : Images) (facts : AreFacts 
         }
 
 pub policy_read : (root : List ℕ) (contents : Contents) (b : Build) → IsBuildOf root contents b → IsPolicyReadBack b
-policy_read root contents b is = made_back b.meaning.source (images_from b.meaning.source is.found) (build_facts root contents b is) b is.made
+policy_read root contents b is = made_back b.meaning.source (images_beside contents b.meaning.source) (build_facts root contents b is) b is.made

@@ -3,7 +3,7 @@ use Rattle.std.proofs.Common.{◌≡◌, ◌≢◌, ℕ, List, sym, subst}
 use Rattle.std.specs.Prelude.{◌↔◌}
 use Rattle.adl_ast.specs.declared.source.Source.{Source}
 use Rattle.arch_compile.specs.Built.{IsBuildOf, IsMade, system_tables}
-use Rattle.arch_compile.specs.LayoutFaults.{images_from}
+use Rattle.arch_compile.specs.LayoutFaults.{images_beside}
 use Rattle.arch_compile.specs.declared.building.Build.{Build}
 use Rattle.arch_policy.specs.Reasons.{IsReasoned}
 use Rattle.arch_policy.specs.Tables.{AreApart}
@@ -55,4 +55,4 @@ module _ {contents : Contents} (s : Source) (images : Images) (facts : AreFacts 
 pub policy_reached : (root : List ℕ) (contents : Contents) (b : Build) → IsBuildOf root contents b → (l : ℕ) (a : Authority) (m : ℕ)
     → Has b.policy.edges l a m ↔ (Reaches b.spec (object_labels b).by_object l a m × (l ≢ m))
 policy_reached root contents b is =
-    own_policy b.meaning.source (images_from b.meaning.source is.found) (build_facts root contents b is) b is.made
+    own_policy b.meaning.source (images_beside contents b.meaning.source) (build_facts root contents b is) b is.made

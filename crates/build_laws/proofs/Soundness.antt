@@ -7,7 +7,7 @@ use Rattle.adl_meaning.specs.Flat.{flat_of}
 use Rattle.arch_compile.proofs.Facts.{AreFacts, build_facts}
 use Rattle.arch_compile.proofs.KeptSpecs.{tables_kept}
 use Rattle.arch_compile.specs.Built.{IsBuildOf, IsMade, labelled, system_tables}
-use Rattle.arch_compile.specs.LayoutFaults.{images_from}
+use Rattle.arch_compile.specs.LayoutFaults.{images_beside}
 use Rattle.arch_compile.specs.declared.building.Build.{Build}
 use Rattle.arch_policy.specs.Labels.{label_lines}
 use Rattle.arch_policy.specs.Policies.{IsLockEdge}
@@ -190,4 +190,4 @@ made_sound b images facts made =
 
 pub build_sound : (root : List ℕ) (contents : Contents) (b : Build) → IsBuildOf root contents b → IsSound b
 build_sound root contents b is =
-    made_sound b (images_from b.meaning.source is.found) (build_facts root contents b is) is.made
+    made_sound b (images_beside contents b.meaning.source) (build_facts root contents b is) is.made

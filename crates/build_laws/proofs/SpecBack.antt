@@ -4,7 +4,7 @@ use Rattle.adl_ast.specs.declared.source.Source.{Source}
 use Rattle.adl_meaning.specs.Flat.{flat_of}
 use Rattle.adl_settings.specs.Settled.{settled_of}
 use Rattle.arch_compile.specs.Built.{IsBuildOf, system_tables}
-use Rattle.arch_compile.specs.LayoutFaults.{images_from}
+use Rattle.arch_compile.specs.LayoutFaults.{images_beside}
 use Rattle.arch_compile.specs.declared.building.Build.{Build}
 use Rattle.arch_compile.proofs.Facts.{AreFacts, build_facts}
 use Rattle.cam_io.specs.Contents.{Contents}
@@ -44,7 +44,7 @@ made_writable {contents} s images facts =
 pub spec_back : (root : List ℕ) (contents : Contents) (b : Build) → IsBuildOf root contents b → IsSpecReadBack b
 spec_back root contents b is =
     let s = b.meaning.source in
-    let images = images_from s is.found in
+    let images = images_beside contents s in
     let w : IsWritable b.spec = subst IsWritable (sym is.made.spec_is) (made_writable s images (build_facts root contents b is)) in
     record {
       writable = w;

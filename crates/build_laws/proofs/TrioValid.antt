@@ -2,7 +2,7 @@
 use Rattle.std.proofs.Common.{◌≡◌, ◌∙◌, ℕ, List, Some, Ok, map, refl, sym, ap, subst}
 use Rattle.adl_ast.specs.declared.source.Source.{Source}
 use Rattle.arch_compile.specs.Built.{IsBuildOf, IsMade, labelled, system_tables}
-use Rattle.arch_compile.specs.LayoutFaults.{images_from}
+use Rattle.arch_compile.specs.LayoutFaults.{images_beside}
 use Rattle.arch_compile.specs.declared.building.Build.{Build}
 use Rattle.cap_model.specs.declared.edge.Edge.{Edge}
 use Rattle.cap_model.specs.declared.object_labels.Labels.{Labels}
@@ -19,7 +19,6 @@ use Rattle.cert_check.specs.declared.verdict.Verdict.TheVariants.{Yes, No}
 use Rattle.policy_text.specs.Labelled.{IsLabelling, object_label}
 use Rattle.source_images.specs.declared.images.Images.{Images}
 use Rattle.reach_laws.proofs.ValidCertificates.{valid}
-use Rattle.source_images.specs.Found.{Found}
 use Rattle.spec_kept.specs.Fit.{IsFit}
 use Rattle.spec_kept.proofs.Telling.{names_tell}
 use Rattle.system_spec.specs.Made.{entry, labels_of, part_label, spec_of}
@@ -33,19 +32,19 @@ judged_yes : {spec : Spec} {labels : List ℕ} {policy cert : List Edge} (verdic
 judged_yes Yes v j = refl
 judged_yes (No number have lack) v j = absurd (j.3 v)
 
-module _ {contents : Contents} (b : Build) (found : List Found) (facts : AreFacts contents b.meaning.source (images_from b.meaning.source found))
-    (made : IsMade b.meaning.source (images_from b.meaning.source found) b.spec b.policy b.cert b.map) (sound : IsSound b) where
+module _ {contents : Contents} (b : Build) (facts : AreFacts contents b.meaning.source (images_beside contents b.meaning.source))
+    (made : IsMade b.meaning.source (images_beside contents b.meaning.source) b.spec b.policy b.cert b.map) (sound : IsSound b) where
   abbrev s : Source
   s = b.meaning.source
 
   abbrev images : Images
-  images = images_from b.meaning.source found
+  images = images_beside contents b.meaning.source
 
   abbrev t : Tables
-  t = system_tables b.meaning.source (images_from b.meaning.source found)
+  t = system_tables b.meaning.source (images_beside contents b.meaning.source)
 
   abbrev labels : List ℕ
-  labels = (labels_of (system_tables b.meaning.source (images_from b.meaning.source found))).by_object
+  labels = (labels_of (system_tables b.meaning.source (images_beside contents b.meaning.source))).by_object
 
   fit : IsFit t
   fit = made_fit s images facts
@@ -71,4 +70,4 @@ module _ {contents : Contents} (b : Build) (found : List Found) (facts : AreFact
   }
 
 pub trio_valid : (root : List ℕ) (contents : Contents) (b : Build) → IsBuildOf root contents b → IsTrioValid b
-trio_valid root contents b is = made_trio b is.found (build_facts root contents b is) is.made (build_sound root contents b is)
+trio_valid root contents b is = made_trio b (build_facts root contents b is) is.made (build_sound root contents b is)

@@ -9,8 +9,8 @@ use Rattle.cert_check.specs.declared.verdict.Verdict.{Verdict}
 use Rattle.cert_check.specs.declared.verdict.Verdict.TheVariants.{Yes}
 use Rattle.policy_text.specs.Labelled.{IsLabelling}
 
--- The policy gives each object of the spec the label of its line. By whatever labels it gives, the certificate keeps all rules, so
--- that whatever judges them says yes.
+-- The policy gives each object of the spec the label of its line. By whatever labels it gives, the certificate keeps all rules,
+-- so that whatever judges them says yes.
 pub record IsTrioValid (b : Build) : Type 0 where
   pub labelled : IsLabelling b.spec b.policy (Ok (object_labels b))
   pub valid : (given : Labels) → IsLabelling b.spec b.policy (Ok given) → Valid b.spec given.by_object b.policy.edges b.cert

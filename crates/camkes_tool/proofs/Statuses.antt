@@ -5,7 +5,6 @@ use Rattle.cam_io.specs.Contents.{Contents}
 use Rattle.cam_io.specs.Sinks.{Sink}
 use Rattle.arch_compile.proofs.OneAnswer.{none_first}
 use Rattle.arch_compile.specs.Built.{IsBuildOf}
-use Rattle.arch_compile.specs.LayoutFaults.{first_fault, tables_beside}
 use Rattle.arch_compile.specs.declared.building.Build.{Build}
 use Rattle.command_words.specs.Words.{read_words}
 use Rattle.command_words.specs.declared.command.Command.{Command}
@@ -20,7 +19,6 @@ use Rattle.source_commands.proofs.OneAnswer.{one_explained, one_listing}
 use Rattle.source_commands.specs.Explained.{IsExplained}
 use Rattle.source_commands.specs.Listed.{IsListed}
 use Rattle.source_commands.specs.declared.listing.Listing.{Listing}
-use Rattle.source_images.specs.Found.{found_in}
 use Rattle.text_commands.proofs.OneAnswer.{audited_one, certified_one, checked_one, planned_one, ran_one, tabled_one}
 use Rattle.text_commands.specs.Commands.{IsAudited, IsCertified, IsChecked, IsPlanned, IsRun, IsTabled}
 use Rattle.text_commands.specs.OneAnswer.{AreOneButChoice, but_choice}
@@ -36,7 +34,7 @@ use Rattle.camkes_tool.specs.declared.answer.Answer.{Answer}
 use Rattle.camkes_tool.specs.declared.answer.Answer.TheVariants.{Compiled, Listed, Explained, Told, Generated, Faulted, Refused, Usage, ReadFault, NoMemory}
 
 built_sound : (m : Contents) (root : List ℕ) (b : Build) → IsBuildOf root m b → IsSound m root
-built_sound m root b is = (b.meaning.source, is.meant.loaded, ap (first_fault b.meaning.source) (sym is.told) ∙ is.clean)
+built_sound m root b is = (b.meaning.source, is.meant.loaded, is.clean)
 
 of_root : (m : Contents) (root base : List ℕ) (old new : List ℕ → ℕ) (a : Answer) (status : ℕ) → FitsRoot root base m old new a → NoneRose old new → status ≡ status_of a → IsStatusOf m root status
 of_root m root base old new (Compiled names b) status x none e = inl (e, built_sound m root b x.1)
@@ -143,7 +141,7 @@ exact_status m words old new answer status sink left before now fits tells none 
 pub sound_or_faulty : (m : Contents) (root : List ℕ) → IsSound m root → ¬ HasFault m root
 sound_or_faulty m root sound fault =
     let s = sound.0 in
-    none_first m root s (found_in m (tables_beside s)) fault.0 fault.1 sound.1 refl sound.2 fault.2
+    none_first m root s fault.0 fault.1 sound.1 sound.2 fault.2
 
 -- ---- the usage line
 

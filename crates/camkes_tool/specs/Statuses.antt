@@ -18,7 +18,7 @@ use Rattle.cam_io.specs.Contents.{Contents}
 use Rattle.adl_ast.specs.declared.source.Source.{Source}
 use Rattle.adl_import.specs.Loaded.{IsLoaded}
 use Rattle.arch_compile.specs.Compiled.{IsFirstFault}
-use Rattle.arch_compile.specs.LayoutFaults.{first_fault, tables_beside}
+use Rattle.arch_compile.specs.LayoutFaults.{first_fault, found_beside}
 use Rattle.command_words.specs.declared.command.Command.{Command}
 use Rattle.command_words.specs.declared.command.Command.TheVariants.{Compile, Check, List as ListOf, Explain, Replay, Generate, Audit, Certify, Sections, Plan}
 use Rattle.front_end.specs.declared.error.BuildError.{BuildError}
@@ -27,7 +27,6 @@ use Rattle.camkes_tool.specs.Generated.{IsGenerated}
 use Rattle.explain.specs.Answers.{is_assigned}
 use Rattle.source_commands.specs.Explained.{IsExplained}
 use Rattle.source_commands.specs.Listed.{IsListed}
-use Rattle.source_images.specs.Found.{found_in}
 use Rattle.text_commands.specs.Commands.{IsAudited, IsCertified, IsChecked, IsPlanned, IsRun, IsTabled}
 use Rattle.text_commands.specs.Outcomes.{is_well}
 use Rattle.text_commands.specs.declared.fault.InputError.{InputError}
@@ -42,7 +41,7 @@ NoneRose before now = (file : List ℕ) → ¬ Rose (before file) (now file)
 -- the root's source is loaded, and no fault stands in it or in its section tables
 abbrev pub IsSound : Contents → List ℕ → Type 0
 IsSound m root =
-    (source : Source) × IsLoaded m root (Ok source) × (first_fault source (found_in m (tables_beside source)) ≡ None)
+    (source : Source) × IsLoaded m root (Ok source) × (first_fault source (found_beside m source) ≡ None)
 
 -- a fault stands in the root's source: in the turn of one of its files, or in the source that is loaded, or in its section tables
 abbrev pub HasFault : Contents → List ℕ → Type 0

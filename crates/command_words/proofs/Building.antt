@@ -14,7 +14,7 @@ use Rattle.command_words.specs.Clap.{bare, leaf, slot}
 pub rule_required : (a b : Arg) (id : Text) → b ≡ record a { required = true } → rule_of a ≡ new_rule id → rule_of b ≡ slot id
 rule_required a b id e is = ap rule_of e ∙ ap (λ (r : Rule). record r { required = true }) is
 
-abbrev texts : List (Bor Text) → List Text
+abbrev pub texts : List (Bor Text) → List Text
 texts = map (λ s. s.now)
 
 abbrev rules_to : List (Bor Text) → List Rule

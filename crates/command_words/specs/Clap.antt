@@ -56,7 +56,8 @@ abbrev pub with_three : (Text → Text → Text → Command) → Option Text →
 with_three make (Some a) b c = with_two (make a) b c
 with_three make None b c = None
 
-abbrev pub with_four : (Text → Text → Text → Text → Command) → Option Text → Option Text → Option Text → Option Text → Option Command
+abbrev pub with_four : (Text → Text → Text → Text → Command) → Option Text → Option Text → Option Text → Option Text
+    → Option Command
 with_four make (Some a) b c d = with_three (make a) b c d
 with_four make None b c d = None
 

@@ -24,7 +24,8 @@ abbrev pub IsAnswer : Tables → List ℕ → List ℕ → List ℕ → Answer �
 IsAnswer t from authority to (Assigned text) =
     (a : Authority) × (r : Reason) × (authority_of authority ≡ Some a) × Explains t from a to (Ok r)
     × (text ≡ explanation t.source t.flat from authority to r)
-IsAnswer t from authority to NotAssigned = (a : Authority) → authority_of authority ≡ Some a → Explains t from a to (Err error.NotAssigned)
+IsAnswer t from authority to NotAssigned =
+    (a : Authority) → authority_of authority ≡ Some a → Explains t from a to (Err error.NotAssigned)
 
 abbrev pub is_assigned : Answer → Bool
 is_assigned (Assigned text) = true

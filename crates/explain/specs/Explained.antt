@@ -84,5 +84,6 @@ IsAskedFor labels from authority to (Some e) = IsAsked labels from authority to 
 
 abbrev pub Explains : Tables → List ℕ → Authority → List ℕ → Result Told ExplainError → Type 0
 Explains t from authority to (Ok r) = (e : Edge) × IsAsked (label_texts t.flat) from authority to e × IsFirstReason t e (Some r)
-Explains t from authority to (Err error.NotAssigned) = (e : Edge) → IsAsked (label_texts t.flat) from authority to e → IsReasoned t e → ⊥
+Explains t from authority to (Err error.NotAssigned) =
+    (e : Edge) → IsAsked (label_texts t.flat) from authority to e → IsReasoned t e → ⊥
 Explains t from authority to (Err error.NoMemory) = Unit {0}

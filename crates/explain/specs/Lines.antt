@@ -27,7 +27,8 @@ role_word To = codes "to"
 -- `rule seL4RPCCall from`, for an end by the numbers of its connection and of itself
 abbrev pub rule_line : Flat → ℕ × ℕ → List ℕ
 rule_line flat end =
-    option_map_or (λ x. together (codes "rule " ∷ text_of x.0 ∷ codes " " ∷ role_word x.1.role ∷ codes "\n" ∷ [])) (end_of flat end.0 end.1) []
+    option_map_or (λ x. together (codes "rule " ∷ text_of x.0 ∷ codes " " ∷ role_word x.1.role ∷ codes "\n" ∷ []))
+    (end_of flat end.0 end.1) []
 
 -- the name of the file of this number
 abbrev pub file_name : Source → ℕ → List ℕ
@@ -70,7 +71,8 @@ line_of_end source flat connection end = together (
 -- `end c.e k app.camkes:227-230`, for an end by the numbers of its connection and of itself
 abbrev pub end_line : Source → Flat → ℕ × ℕ → List ℕ
 end_line source flat end =
-    option_map_or (λ c. option_map_or (line_of_end source flat c) (slice_get c.ends end.1) []) (slice_get flat.connections end.0) []
+    option_map_or (λ c. option_map_or (line_of_end source flat c) (slice_get c.ends end.1) [])
+    (slice_get flat.connections end.0) []
 
 abbrev pub line_of_lock : Source → Flat → ℕ × ℕ → Place → List ℕ
 line_of_lock source flat lock place =

@@ -66,7 +66,8 @@ found t k n x = record { place = k; number = n; label = leaf_label t x.leaf }
 -- the first that fits among the ends of a connection
 abbrev pub IsFirstOn : Tables → Edge → Sought → ℕ → FlatConnection → Option Found → Type 0
 IsFirstOn t e s k c None = (n : ℕ) (x : FlatEnd) → slice_get c.ends n ≡ Some x → fits t e s k c n x ≡ true → ⊥
-IsFirstOn t e s k c (Some f) = (n : ℕ) × (x : FlatEnd) × (slice_get c.ends n ≡ Some x) × (fits t e s k c n x ≡ true) × (f ≡ found t k n x)
+IsFirstOn t e s k c (Some f) =
+    (n : ℕ) × (x : FlatEnd) × (slice_get c.ends n ≡ Some x) × (fits t e s k c n x ≡ true) × (f ≡ found t k n x)
     × ((m : ℕ) (y : FlatEnd) → slice_get c.ends m ≡ Some y → fits t e s k c m y ≡ true → n ≤ m)
 
 -- the same, where the connection is one at which such an end may stand
@@ -99,12 +100,16 @@ IsFirstLock t label (Some p) = IsLeastLock t label p
 -- the first lock among members
 abbrev pub IsFirstMember : List Member → Option ℕ → Type 0
 IsFirstMember members None = (m : ℕ) (x : Member) → slice_get members m ≡ Some x → is_lock x ≡ true → ⊥
-IsFirstMember members (Some n) = (x : Member) × (slice_get members n ≡ Some x) × (is_lock x ≡ true) × ((m : ℕ) (y : Member) → slice_get members m ≡ Some y → is_lock y ≡ true → n ≤ m)
+IsFirstMember members (Some n) =
+    (x : Member) × (slice_get members n ≡ Some x) × (is_lock x ≡ true)
+    × ((m : ℕ) (y : Member) → slice_get members m ≡ Some y → is_lock y ≡ true → n ≤ m)
 
 -- the first lock of a leaf, where its domain has this label
 abbrev pub IsFirstOfLeaf : Tables → ℕ → Leaf → Option ℕ → Type 0
-IsFirstOfLeaf t label leaf None = (d : ℕ) → leaf.domain ≡ Some d → domain_label t d ≡ label → IsFirstMember (members_at t.source leaf.component) None
-IsFirstOfLeaf t label leaf (Some n) = (d : ℕ) × (leaf.domain ≡ Some d) × (domain_label t d ≡ label) × IsFirstMember (members_at t.source leaf.component) (Some n)
+IsFirstOfLeaf t label leaf None =
+    (d : ℕ) → leaf.domain ≡ Some d → domain_label t d ≡ label → IsFirstMember (members_at t.source leaf.component) None
+IsFirstOfLeaf t label leaf (Some n) =
+    (d : ℕ) × (leaf.domain ≡ Some d) × (domain_label t d ≡ label) × IsFirstMember (members_at t.source leaf.component) (Some n)
 
 -- what a search asks of the tables, and of the table of who signals on which notification
 pub record CanSearch (t : Tables) (signals : List Edge) : Type 0 where

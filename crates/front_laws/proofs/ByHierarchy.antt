@@ -1,6 +1,6 @@
 -- The flat system of a source is as the relations of its hierarchy have it.
 use Rattle.std.proofs.Common.{◌≡◌, ◌<◌, ◌↔◌, ℕ, zero, suc, Bool, true, false, not, cond, List, [], ◌∷◌, ◌++◌, map, Option, Some, None, unwrap_or, refl, sym, ◌∙◌, ap, subst, arith, inl, inr, true≢false}
-use Rattle.std.proofs.lemmas.Bool.{not-true}
+use Rattle.std.proofs.lemmas.Bool.{not-true, not_from_false}
 use Rattle.std.proofs.lemmas.Slice.Eq.{bytes_eq-Decides}
 use Rattle.adl_ast.specs.declared.component.Member.TheVariants as members
 use Rattle.adl_meaning.specs.declared.flat.Domain.{Domain}
@@ -142,16 +142,13 @@ are_domains s sound =
           subst R d.2 (domain_leaves_rise h d.0);
     }
   where
-    software : (b : Bool) → b ≡ false → not b ≡ true
-    software b e = ap not e
-
     before : (h : Hierarchy) (d e : Path) → IsKeyBefore (leaves h) (λ x. not (is_hardware h x.part)) (λ x. domain_of h x.path) d e → IsDomainBefore (flat_domain h d) (flat_domain h e)
     before h d e k =
         let x = k.stands.item in
         record {
           first = k.first;
           stands = (leaves_of_domain h d k.first).1 (x, k.stands.there, not-true (is_hardware h x.part) k.stands.passing, k.stands.key_is);
-          before = λ n i. let y = (leaves_of_domain h e n).0 i in k.before n (record { item = y.0; there = y.1; passing = software (is_hardware h y.0.part) y.2; key_is = y.3 });
+          before = λ n i. let y = (leaves_of_domain h e n).0 i in k.before n (record { item = y.0; there = y.1; passing = not_from_false (is_hardware h y.0.part) y.2; key_is = y.3 });
         }
 
 -- ---- ends

@@ -1,6 +1,6 @@
 -- Domains stand in the order of their first leaves, and the leaves of each in theirs.
 use Rattle.std.proofs.Common.{◌≡◌, ◌<◌, ◌+◌, ◌⊎◌, ℕ, zero, suc, Bool, true, false, ◌||◌, not, cond, List, length, [], ◌∷◌, ◌++◌, map, Some, refl, sym, ◌∙◌, ap, subst, append_assoc, arith, inl, inr, true≢false}
-use Rattle.std.proofs.lemmas.Bool.{or_left, or_right}
+use Rattle.std.proofs.lemmas.Bool.{or_left, or_parts, or_right}
 use Rattle.adl_meaning.specs.Lists.{firsts_after}
 use Rattle.adl_meaning.specs.Prelude.{Hierarchy, IsIn, Path, domain_of, domains, enumerate_from, filter, flat_domain, is_hardware, is_inside, leaves, same_path, slice_get}
 use Rattle.adl_hierarchy.proofs.DomainNames.{same_path-Decides}
@@ -47,10 +47,6 @@ pub record IsKeyBefore {X : Type 0} (whole : List X) (passes : X → Bool) (key 
   pub before : (n : ℕ) → HasKey whole passes key n e → first < n
 
 -- what is met stands nowhere among those that are left
-false_left : (a b : Bool) → (a || b) ≡ false → a ≡ false
-false_left true b f = cc
-false_left false b f = refl
-
 not_met : (met : Path → Bool) (ds : List Path) (d : Path) → IsIn d (firsts_after same_path met ds) → met d ≡ false
 not_met met [] d i = absurd i
 not_met met (e ∷ ds) d i = by_test (met e) refl i (not_met met ds d) (not_met (λ y. met y || same_path y e) ds d)
@@ -59,7 +55,7 @@ not_met met (e ∷ ds) d i = by_test (met e) refl i (not_met met ds d) (not_met 
         → (IsIn d (firsts_after same_path met ds) → met d ≡ false) → (IsIn d (firsts_after same_path (λ y. met y || same_path y e) ds) → (met d || same_path d e) ≡ false) → met d ≡ false
     by_test true t j old new = old j
     by_test false t (inl s) old new = ap met (sym s) ∙ t
-    by_test false t (inr j) old new = false_left (met d) (same_path d e) (new j)
+    by_test false t (inr j) old new = (or_parts (met d) (same_path d e) (new j)).0
 
 abbrev Keys : {X : Type 0} → (X → Bool) → (X → Path) → List X → List Path
 Keys passes key xs = map key (filter passes xs)

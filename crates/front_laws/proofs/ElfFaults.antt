@@ -1,7 +1,6 @@
 -- The first fault of an ELF file.
-use Rattle.std.proofs.Common.{◌≡◌, ◌≢◌, ◌<◌, ◌≤◌, ◌+◌, ◌*◌, ℕ, zero, suc, Bool, true, false, ◌==◌, ◌&&◌, not, nat_lt, nat_eq, List, [], ◌∷◌, ◌++◌, length, Option, Some, None, Result, Err, refl, sym, ◌∙◌, ap, subst, arith, inl, inr, cond, true≢false, append-nil, append_assoc, length-append}
-use Rattle.std.proofs.lemmas.Bool.{and_parts, cases_Bool, eq-eqb, eqb-true, lt-ltb, ltb-true}
-use Rattle.std.proofs.lemmas.Bool.Decides.{nat_tests}
+use Rattle.std.proofs.Common.{◌≡◌, ◌≢◌, ◌<◌, ◌≤◌, ◌+◌, ◌*◌, ℕ, zero, suc, Bool, true, false, ◌==◌, ◌&&◌, not, nat_lt, nat_eq, List, [], ◌∷◌, ◌++◌, length, Option, Some, None, Result, Err, refl, sym, ◌∙◌, ap, subst, arith, cond, true≢false, append-nil, append_assoc, length-append}
+use Rattle.std.proofs.lemmas.Bool.{and_from, and_parts, eq-eqb, eqb-true, le-ltb, lt-ltb, ltb-false, ltb-true, ne_eqb, not-false, not_from_false}
 use Rattle.std.specs.List.{slice_get, slice_index, starts_with}
 use Rattle.std.specs.Option.{ok_or, option_or}
 use Rattle.sect_table.specs.Classes.{class_of, fields_end, header_length, length_at}
@@ -119,17 +118,18 @@ all_sound bytes c e =
 
 -- ---- a file of a class
 
-not_zero : (n : ℕ) → not (n == 0) ≡ true → n ≢ 0
-not_zero n t e = let k : (n == 0) ≡ true = eq-eqb n 0 e in true≢false (sym t ∙ ap not k)
-
 not_equal : (n m : ℕ) → not (n == m) ≡ true → n ≢ m
 not_equal n m t e = let k : (n == m) ≡ true = eq-eqb n m e in true≢false (sym t ∙ ap not k)
 
 is_equal : (n m : ℕ) → not (n == m) ≡ false → n ≡ m
-is_equal n m t = elim (cases_Bool (n == m)) [ inl y ↦ eqb-true n m y | inr y ↦ absurd (true≢false (sym (ap not y) ∙ t)) ]
+is_equal n m t = eqb-true n m (not-false (n == m) t)
 
-at_most : (a b : ℕ) → nat_lt a b ≡ false → b ≤ a
-at_most a b t = grind (arith, nat_tests)
+is_unlike : (n m : ℕ) → n ≢ m → not (n == m) ≡ true
+is_unlike n m w = not_from_false (n == m) (ne_eqb n m w)
+
+second_false : (x y : Bool) → x ≡ true → (x && y) ≡ false → y ≡ false
+second_false true y p q = q
+second_false false y p q = cc
 
 -- what stands behind the table: the headers, and then the limit
 abbrev behind_table : List ℕ → Class → Option ElfFault
@@ -156,17 +156,10 @@ has_table bytes c kind a b d =
     let h = file_header c bytes in
     record {
       kind = kind;
-      fields = at_most (length bytes) (fields_end c) a;
-      size = λ n. is_equal h.length (header_length c) (second_false (not (h.count == 0)) (not (h.length == header_length c)) (is_not_zero h.count n) b);
-      whole = λ n. at_most (length bytes) (h.table + h.count * header_length c) (second_false (not (h.count == 0)) (nat_lt (length bytes) (h.table + h.count * header_length c)) (is_not_zero h.count n) d);
+      fields = ltb-false (length bytes) (fields_end c) a;
+      size = λ n. is_equal h.length (header_length c) (second_false (not (h.count == 0)) (not (h.length == header_length c)) (is_unlike h.count 0 n) b);
+      whole = λ n. ltb-false (length bytes) (h.table + h.count * header_length c) (second_false (not (h.count == 0)) (nat_lt (length bytes) (h.table + h.count * header_length c)) (is_unlike h.count 0 n) d);
     }
-  where
-    second_false : (x y : Bool) → x ≡ true → (x && y) ≡ false → y ≡ false
-    second_false true y p q = q
-    second_false false y p q = cc
-
-    is_not_zero : (n : ℕ) → n ≢ 0 → not (n == 0) ≡ true
-    is_not_zero n w = elim (cases_Bool (n == 0)) [ inl y ↦ absurd (w (eqb-true n 0 y)) | inr y ↦ ap not y ]
 
 from_class : (bytes : List ℕ) (c : Class) (f : ElfFault) → IsOfClass bytes c → fault_within bytes c ≡ Some f → IsElfFault bytes f
 from_class bytes c f kind e =
@@ -180,17 +173,13 @@ from_class bytes c f kind e =
         let h = file_header c bytes in
         let parts = and_parts (not (h.count == 0)) (not (h.length == header_length c)) q in
         let same : fault code.Size (length_at c) (length_at c + 2) ≡ f = cc in
-        another_length c kind (at_most (length bytes) (fields_end c) p) (not_zero h.count parts.0) (not_equal h.length (header_length c) parts.1) (sym same)
+        another_length c kind (ltb-false (length bytes) (fields_end c) p) (not_equal h.count 0 parts.0) (not_equal h.length (header_length c) parts.1) (sym same)
     by_fields false false true p q r e =
         let h = file_header c bytes in
         let parts = and_parts (not (h.count == 0)) (nat_lt (length bytes) (h.table + h.count * header_length c)) r in
         let same : short (length bytes) ≡ f = cc in
         let equal : h.length ≡ header_length c = is_equal h.length (header_length c) (second_false (not (h.count == 0)) (not (h.length == header_length c)) parts.0 q) in
-        no_table c kind (at_most (length bytes) (fields_end c) p) (not_zero h.count parts.0) equal (ltb-true (length bytes) (h.table + h.count * header_length c) parts.1) (sym same)
-      where
-        second_false : (x y : Bool) → x ≡ true → (x && y) ≡ false → y ≡ false
-        second_false true y p q = q
-        second_false false y p q = cc
+        no_table c kind (ltb-false (length bytes) (fields_end c) p) (not_equal h.count 0 parts.0) equal (ltb-true (length bytes) (h.table + h.count * header_length c) parts.1) (sym same)
     by_fields false false false p q r e = from_behind bytes c f (has_table bytes c kind p q r) e
 
 -- ---- a file
@@ -205,8 +194,8 @@ from_elf_fault bytes f e = by_tests (starts_with nat_eq bytes magic) (nat_lt (le
         → fault_behind bytes (behind_magic bytes a b o) ≡ Some f → IsElfFault bytes f
     by_tests false b o p q r e = let same : fault code.Magic 0 4 ≡ f = cc in no_magic p (sym same)
     by_tests true true o p q r e = let same : short (length bytes) ≡ f = cc in no_class_bytes p (ltb-true (length bytes) 6 q) (sym same)
-    by_tests true false None p q r e = let same : fault code.Class 4 6 ≡ f = cc in no_class p (at_most (length bytes) 6 q) r (sym same)
-    by_tests true false (Some c) p q r e = from_class bytes c f (record { begins = p; long = at_most (length bytes) 6 q; says = r }) e
+    by_tests true false None p q r e = let same : fault code.Class 4 6 ≡ f = cc in no_class p (ltb-false (length bytes) 6 q) r (sym same)
+    by_tests true false (Some c) p q r e = from_class bytes c f (record { begins = p; long = ltb-false (length bytes) 6 q; says = r }) e
 
 -- a file without a fault
 pub from_no_elf_fault : (bytes : List ℕ) → first_fault bytes ≡ None → IsSoundElf bytes
@@ -215,7 +204,7 @@ from_no_elf_fault bytes e = by_tests (starts_with nat_eq bytes magic) (nat_lt (l
     by_behind : (c : Class) → HasTable bytes c → (o : Option ElfFault) → headers_fault (length bytes) (headers c bytes) ≡ o → (b : Bool)
         → nat_lt sections_limit (length (sections_of_all (headers c bytes))) ≡ b → option_or o (fault_if b (fault code.Limit 0 0)) ≡ None → IsSoundElf bytes
     by_behind c table None s true t e = cc
-    by_behind c table None s false t e = record { class = c; table = table; sound = all_sound bytes c s; few = at_most sections_limit (length (sections_of_all (headers c bytes))) t }
+    by_behind c table None s false t e = record { class = c; table = table; sound = all_sound bytes c s; few = ltb-false sections_limit (length (sections_of_all (headers c bytes))) t }
     by_behind c table (Some g) s b t e = cc
 
     by_fields : (c : Class) → IsOfClass bytes c → (x y z : Bool) → nat_lt (length bytes) (fields_end c) ≡ x → is_of_another_length c (file_header c bytes) ≡ y → is_past (length bytes) c (file_header c bytes) ≡ z
@@ -233,7 +222,7 @@ from_no_elf_fault bytes e = by_tests (starts_with nat_eq bytes magic) (nat_lt (l
     by_tests true true o p q r e = cc
     by_tests true false None p q r e = cc
     by_tests true false (Some c) p q r e =
-        by_fields c (record { begins = p; long = at_most (length bytes) 6 q; says = r }) (nat_lt (length bytes) (fields_end c)) (is_of_another_length c (file_header c bytes)) (is_past (length bytes) c (file_header c bytes)) refl refl refl e
+        by_fields c (record { begins = p; long = ltb-false (length bytes) 6 q; says = r }) (nat_lt (length bytes) (fields_end c)) (is_of_another_length c (file_header c bytes)) (is_past (length bytes) c (file_header c bytes)) refl refl refl e
 
 -- ---- and back
 
@@ -293,23 +282,13 @@ table_told bytes c x y z = cond x (Some (short (length bytes))) (cond y (Some (f
 abbrev class_told : List ℕ → Class → Bool → Bool → Bool → Option ElfFault
 class_told bytes c x y z = option_or (table_told bytes c x y z) (behind_table bytes c)
 
--- a test of less that fails
-not_below : (a b : ℕ) → b ≤ a → nat_lt a b ≡ false
-not_below a b l = grind (arith, nat_tests)
-
 -- what is told of a file of a class, by the tests of its table
 of_class : (bytes : List ℕ) (c : Class) → IsOfClass bytes c → first_fault bytes ≡ fault_within bytes c
 of_class bytes c k =
-    let short_test : nat_lt (length bytes) 6 ≡ false = not_below (length bytes) 6 k.long in
+    let short_test : nat_lt (length bytes) 6 ≡ false = le-ltb (length bytes) 6 k.long in
     ap (λ a. fault_behind bytes (behind_magic bytes a (nat_lt (length bytes) 6) (class_of (slice_index bytes 4) (slice_index bytes 5)))) k.begins
     ∙ ap (λ b. fault_behind bytes (behind_magic bytes true b (class_of (slice_index bytes 4) (slice_index bytes 5)))) short_test
     ∙ ap (λ o. fault_behind bytes (behind_magic bytes true false o)) k.says
-
-is_counted : (n : ℕ) → n ≢ 0 → not (n == 0) ≡ true
-is_counted n w = elim (cases_Bool (n == 0)) [ inl y ↦ absurd (w (eqb-true n 0 y)) | inr y ↦ ap not y ]
-
-both : (x y : Bool) → x ≡ true → y ≡ true → (x && y) ≡ true
-both x y p q = ap (λ z. z && y) p ∙ q
 
 none_of_both : (x y : Bool) → ((x ≡ true) → y ≡ false) → (x && y) ≡ false
 none_of_both true y f = f refl
@@ -318,9 +297,9 @@ none_of_both false y f = refl
 with_table : (bytes : List ℕ) (c : Class) → HasTable bytes c → first_fault bytes ≡ behind_table bytes c
 with_table bytes c t =
     let h = file_header c bytes in
-    let a : nat_lt (length bytes) (fields_end c) ≡ false = not_below (length bytes) (fields_end c) t.fields in
-    let b : is_of_another_length c h ≡ false = none_of_both (not (h.count == 0)) (not (h.length == header_length c)) (λ n. ap not (eq-eqb h.length (header_length c) (t.size (not_zero h.count n)))) in
-    let d : is_past (length bytes) c h ≡ false = none_of_both (not (h.count == 0)) (nat_lt (length bytes) (h.table + h.count * header_length c)) (λ n. not_below (length bytes) (h.table + h.count * header_length c) (t.whole (not_zero h.count n))) in
+    let a : nat_lt (length bytes) (fields_end c) ≡ false = le-ltb (length bytes) (fields_end c) t.fields in
+    let b : is_of_another_length c h ≡ false = none_of_both (not (h.count == 0)) (not (h.length == header_length c)) (λ n. ap not (eq-eqb h.length (header_length c) (t.size (not_equal h.count 0 n)))) in
+    let d : is_past (length bytes) c h ≡ false = none_of_both (not (h.count == 0)) (nat_lt (length bytes) (h.table + h.count * header_length c)) (λ n. le-ltb (length bytes) (h.table + h.count * header_length c) (t.whole (not_equal h.count 0 n))) in
     of_class bytes c t.kind ∙ ap (λ x. class_told bytes c x (is_of_another_length c h) (is_past (length bytes) c h)) a
     ∙ ap (λ y. class_told bytes c false y (is_past (length bytes) c h)) b ∙ ap (λ z. class_told bytes c false false z) d
 
@@ -332,22 +311,22 @@ in_elf_fault bytes f (no_class_bytes a l e) =
     ∙ ap (λ b. fault_behind bytes (behind_magic bytes true b (class_of (slice_index bytes 4) (slice_index bytes 5)))) (lt-ltb (length bytes) 6 l) ∙ ap Some (sym e)
 in_elf_fault bytes f (no_class a l o e) =
     ap (λ a. fault_behind bytes (behind_magic bytes a (nat_lt (length bytes) 6) (class_of (slice_index bytes 4) (slice_index bytes 5)))) a
-    ∙ ap (λ b. fault_behind bytes (behind_magic bytes true b (class_of (slice_index bytes 4) (slice_index bytes 5)))) (not_below (length bytes) 6 l)
+    ∙ ap (λ b. fault_behind bytes (behind_magic bytes true b (class_of (slice_index bytes 4) (slice_index bytes 5)))) (le-ltb (length bytes) 6 l)
     ∙ ap (λ z. fault_behind bytes (behind_magic bytes true false z)) o ∙ ap Some (sym e)
 in_elf_fault bytes f (no_fields c k l e) =
     let h = file_header c bytes in
     of_class bytes c k ∙ ap (λ x. class_told bytes c x (is_of_another_length c h) (is_past (length bytes) c h)) (lt-ltb (length bytes) (fields_end c) l) ∙ ap Some (sym e)
 in_elf_fault bytes f (another_length c k l n w e) =
     let h = file_header c bytes in
-    let other : not (h.length == header_length c) ≡ true = elim (cases_Bool (h.length == header_length c)) [ inl y ↦ absurd (w (eqb-true h.length (header_length c) y)) | inr y ↦ ap not y ] in
-    of_class bytes c k ∙ ap (λ x. class_told bytes c x (is_of_another_length c h) (is_past (length bytes) c h)) (not_below (length bytes) (fields_end c) l)
-    ∙ ap (λ y. class_told bytes c false y (is_past (length bytes) c h)) (both (not (h.count == 0)) (not (h.length == header_length c)) (is_counted h.count n) other) ∙ ap Some (sym e)
+    let other : not (h.length == header_length c) ≡ true = is_unlike h.length (header_length c) w in
+    of_class bytes c k ∙ ap (λ x. class_told bytes c x (is_of_another_length c h) (is_past (length bytes) c h)) (le-ltb (length bytes) (fields_end c) l)
+    ∙ ap (λ y. class_told bytes c false y (is_past (length bytes) c h)) (and_from (not (h.count == 0)) (not (h.length == header_length c)) (is_unlike h.count 0 n) other) ∙ ap Some (sym e)
 in_elf_fault bytes f (no_table c k l n s p e) =
     let h = file_header c bytes in
     let b : is_of_another_length c h ≡ false = none_of_both (not (h.count == 0)) (not (h.length == header_length c)) (λ t. ap not (eq-eqb h.length (header_length c) s)) in
-    of_class bytes c k ∙ ap (λ x. class_told bytes c x (is_of_another_length c h) (is_past (length bytes) c h)) (not_below (length bytes) (fields_end c) l)
+    of_class bytes c k ∙ ap (λ x. class_told bytes c x (is_of_another_length c h) (is_past (length bytes) c h)) (le-ltb (length bytes) (fields_end c) l)
     ∙ ap (λ y. class_told bytes c false y (is_past (length bytes) c h)) b
-    ∙ ap (λ z. class_told bytes c false false z) (both (not (h.count == 0)) (nat_lt (length bytes) (h.table + h.count * header_length c)) (is_counted h.count n) (lt-ltb (length bytes) (h.table + h.count * header_length c) p))
+    ∙ ap (λ z. class_told bytes c false false z) (and_from (not (h.count == 0)) (nat_lt (length bytes) (h.table + h.count * header_length c)) (is_unlike h.count 0 n) (lt-ltb (length bytes) (h.table + h.count * header_length c) p))
     ∙ ap Some (sym e)
 in_elf_fault bytes f (in_header c k t low sound wrong) =
     with_table bytes c t ∙ ap (λ o. option_or o (limit_fault (headers c bytes))) (in_headers bytes c k f low sound wrong)
@@ -359,4 +338,4 @@ pub in_no_elf_fault : (bytes : List ℕ) → IsSoundElf bytes → first_fault by
 in_no_elf_fault bytes s =
     let c = s.class in
     with_table bytes c s.table ∙ ap (λ o. option_or o (limit_fault (headers c bytes))) (none_in_headers bytes c s.sound)
-    ∙ ap (λ b. fault_if b (fault code.Limit 0 0)) (not_below sections_limit (length (sections_of_all (headers c bytes))) s.few)
+    ∙ ap (λ b. fault_if b (fault code.Limit 0 0)) (le-ltb sections_limit (length (sections_of_all (headers c bytes))) s.few)

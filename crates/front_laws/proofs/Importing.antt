@@ -10,6 +10,7 @@ use Rattle.adl_hierarchy.proofs.Places.{from_filter, in_filter, once_filter}
 use Rattle.adl_import.specs.Imports.{imports_of, is_built_in, name_given}
 use Rattle.adl_import.specs.Sources.{IsSource, Meeting, firsts, meeting_at, meeting_of, meetings_of, met, root_place}
 use Rattle.cam_base.specs.Gather.{IsIn}
+use Rattle.cam_base.proofs.Gathered.{in_right}
 use Rattle.cam_base.proofs.NumberedLists.{from_any, from_flat_map, from_map, in_flat_map, in_map, split_in}
 use Rattle.front_laws.specs.Importing.{AreReached, ImportsName, IsMetBefore, IsReached, by_import, names_met, the_root}
 use Rattle.front_laws.specs.InOrder.{InOrder}
@@ -131,11 +132,7 @@ reached_at root files s (suc n) (b ∷ before) after file l e =
     let name : file.name ≡ m.0.0 = (bytes_eq-Decides file.name m.0.0).0 m.2 in
     let P : List ℕ → Type 0 = λ z. IsReached root files z in
     let Q : List SourceFile → Type 0 = λ z. IsIn g.0 z in
-    subst P (sym name) (by_import g.0 m.0.0 inner (subst Q (sym whole) (in_middle p.0 g.0 (p.1 ++ file ∷ after))) (from_meeting root g.0 m.0 g.2))
-  where
-    in_middle : (xs : List SourceFile) (x : SourceFile) (ys : List SourceFile) → IsIn x (xs ++ x ∷ ys)
-    in_middle [] x ys = inl refl
-    in_middle (y ∷ xs) x ys = inr (in_middle xs x ys)
+    subst P (sym name) (by_import g.0 m.0.0 inner (subst Q (sym whole) (in_right g.0 p.0 (g.0 ∷ (p.1 ++ file ∷ after)) (inl refl))) (from_meeting root g.0 m.0 g.2))
 
 names_are : (root : List ℕ) (files : List SourceFile) → IsSource root files → map (λ f. f.name) files ≡ map key (met root files)
 names_are root files s = s.equation

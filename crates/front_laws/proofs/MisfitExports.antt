@@ -1,12 +1,13 @@
 -- Exports that are at fault, by the exports in front of them.
 use Rattle.std.proofs.Common.{◌≡◌, ◌==◌, ◌⊎◌, Bool, true, false, ◌||◌, ◌&&◌, not, cond, List, [], ◌∷◌, ◌++◌, Option, Some, None, is_some, refl, sym, ◌∙◌, ap, subst, inl, inr}
-use Rattle.std.proofs.lemmas.Bool.{and_parts, eq-eqb, eqb-true, or_cases, or_left, or_right}
+use Rattle.std.proofs.lemmas.Bool.{and_from, and_parts, eq-eqb, eqb-true, not-true, not_from_false, or_cases, or_left, or_right}
 use Rattle.std.proofs.lemmas.Slice.Eq.{bytes_eq-Decides}
 use Rattle.adl_ast.specs.declared.component.Interface.{Interface}
 use Rattle.adl_ast.specs.declared.file.Item.TheVariants as items
 use Rattle.adl_meaning.specs.declared.item_at.ItemAt.{ItemAt}
 use Rattle.adl_meaning.specs.Export.{ends_in, inner_of, is_misfit, same_interface, same_port, unled_end, unled_ends}
 use Rattle.adl_meaning.specs.Prelude.{Composition, End, Export, Fault, IsIn, Item, Known, Name, Port, Source, bytes_eq, compositions, connections_in, differs, export_fault, exports_in, flat_map, held_as, interface_at, is_none, is_port, is_unled, items_of, known_in, known_of, misfit_exports, misfits_after, misfits_in_composition, misfits_in_item, option_and_then, option_map_or, port_of, where_true}
+use Rattle.adl_hierarchy.proofs.Leading.{is_there}
 use Rattle.cam_base.proofs.Gathered.{in_append, in_left, in_right}
 use Rattle.cam_base.proofs.NumberedLists.{from_flat_map, in_flat_map}
 use Rattle.front_laws.specs.MisfitExports.{IsMisfit, IsMisfitIn, IsSamePort, IsUnled, an_end, an_export, in_an_assembly, port_again, target_again, unled, unlike_target}
@@ -16,27 +17,13 @@ use Rattle.front_laws.proofs.Tested.{from_true, in_true}
 
 -- ---- tests
 
-not_false : (b : Bool) → not b ≡ true → b ≡ false
-not_false true e = cc
-not_false false e = refl
-
-not_true : (b : Bool) → b ≡ false → not b ≡ true
-not_true b e = ap not e
-
-some_there : {X : Type 0} (o : Option X) → is_some o ≡ true → (x : X) × (o ≡ Some x)
-some_there None e = cc
-some_there (Some x) e = (x, refl)
-
-both : (a b : Bool) → a ≡ true → b ≡ true → (a && b) ≡ true
-both a b p q = ap (λ z. z && b) p ∙ q
-
 from_same_port : (p q : Port) → same_port p q ≡ true → IsSamePort p q
 from_same_port p q e =
     let parts = and_parts (p.0.id.place.first == q.0.id.place.first) (bytes_eq p.1 q.1) e in
     record { instance = eqb-true p.0.id.place.first q.0.id.place.first parts.0; interface = (bytes_eq-Decides p.1 q.1).0 parts.1 }
 
 in_same_port : (p q : Port) → IsSamePort p q → same_port p q ≡ true
-in_same_port p q s = both (p.0.id.place.first == q.0.id.place.first) (bytes_eq p.1 q.1) (eq-eqb p.0.id.place.first q.0.id.place.first s.instance) ((bytes_eq-Decides p.1 q.1).1 s.interface)
+in_same_port p q s = and_from (p.0.id.place.first == q.0.id.place.first) (bytes_eq p.1 q.1) (eq-eqb p.0.id.place.first q.0.id.place.first s.instance) ((bytes_eq-Decides p.1 q.1).1 s.interface)
 
 turned : (p q : Port) → IsSamePort p q → IsSamePort q p
 turned p q s = record { instance = sym s.instance; interface = sym s.interface }
@@ -47,9 +34,9 @@ from_ends_in : (types : Types) (p : Port) (c : Known) → types p.0.component.na
 from_ends_in types p c t e =
     let first = and_parts (is_some (c.interface p.1)) (is_some c.holds && not (c.exports p.1)) e in
     let more = and_parts (is_some c.holds) (not (c.exports p.1)) first.1 in
-    let i = some_there (c.interface p.1) first.0 in
-    let h = some_there c.holds more.0 in
-    record { component = c; known = t; interface = i.0; declared = i.1; inner = h.0; composite = h.1; no_export = not_false (c.exports p.1) more.1 }
+    let i = is_there (c.interface p.1) first.0 in
+    let h = is_there c.holds more.0 in
+    record { component = c; known = t; interface = i.0; declared = i.1; inner = h.0; composite = h.1; no_export = not-true (c.exports p.1) more.1 }
 
 from_unled : (types : Types) (o : Option Port) → is_unled types o ≡ true → (p : Port) × (o ≡ Some p) × IsUnled types p
 from_unled types None e = cc
@@ -64,8 +51,8 @@ in_unled types o p e u =
     let P : Option Port → Type 0 = λ z. is_unled types z ≡ true in
     let Q : Option Known → Type 0 = λ t. option_map_or (λ c. ends_in c p.1) t false ≡ true in
     subst P (sym e) (subst Q (sym u.known)
-    (both (is_some (u.component.interface p.1)) (is_some u.component.holds && not (u.component.exports p.1)) (ap is_some u.declared)
-    (both (is_some u.component.holds) (not (u.component.exports p.1)) (ap is_some u.composite) (not_true (u.component.exports p.1) u.no_export))))
+    (and_from (is_some (u.component.interface p.1)) (is_some u.component.holds && not (u.component.exports p.1)) (ap is_some u.declared)
+    (and_from (is_some u.component.holds) (not (u.component.exports p.1)) (ap is_some u.composite) (not_from_false (u.component.exports p.1) u.no_export))))
 
 -- ---- ports whose interface is known
 
@@ -117,7 +104,7 @@ from_differs types (Some c) held x (Some p) e d = by_both (interface_at types p)
     by_both : (i j : Option Interface) → interface_at types p ≡ i → c.interface x.target.name ≡ j → differs i j ≡ true → IsMisfit types (Some c) held [] x
     by_both None j k l d = cc
     by_both (Some i) None k l d = cc
-    by_both (Some i) (Some j) k l d = unlike_target c p i j refl e k l (not_false (same_interface i j) d)
+    by_both (Some i) (Some j) k l d = unlike_target c p i j refl e k l (not-true (same_interface i j) d)
 
 from_misfit : (types : Types) (owner : Option Known) (held : Holding) (targets : Name → Bool) (inners : Port → Bool) (x : Export)
     → is_misfit types owner held targets inners x ≡ true → Why types owner held targets inners [] x
@@ -201,7 +188,7 @@ in_misfit types owner held targets inners x why = by_why why
         let Q : Option Port → Type 0 = λ z. differs (option_and_then (interface_at types) z) (c.interface x.target.name) ≡ true in
         let R : Option Interface → Type 0 = λ z. differs z (c.interface x.target.name) ≡ true in
         let S : Option Interface → Type 0 = λ z. differs (Some i) z ≡ true in
-        or_right (is_none owner) _ (or_left _ _ (subst P (sym o) (subst Q (sym e) (subst R (sym k) (subst S (sym l) (not_true (same_interface i j) d))))))
+        or_right (is_none owner) _ (or_left _ _ (subst P (sym o) (subst Q (sym e) (subst R (sym k) (subst S (sym l) (not_from_false (same_interface i j) d))))))
     by_why (inl (target_again y i e)) = absurd i
     by_why (inl (port_again y p q i j k a b c d s)) = absurd k
     by_why (inl (unled p e u)) =

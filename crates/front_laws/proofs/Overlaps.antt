@@ -8,7 +8,7 @@ use Rattle.std.specs.Option.{option_or}
 use Rattle.boot_plan.specs.Overlaps.{first_overlap, overlap_at, overlap_behind}
 use Rattle.boot_plan.specs.Regions.{region_end, shares}
 use Rattle.boot_plan.specs.declared.untyped.Untyped.{Untyped}
-use Rattle.boot_plan.proofs.Powers.{pow_le}
+use Rattle.boot_plan.proofs.Multiples.{power_pos}
 use Rattle.cam_base.proofs.Gathered.{get_behind, get_front}
 use Rattle.cam_base.proofs.NumberedLists.{map_some}
 use Rattle.front_laws.specs.PlannedMemory.{IsFirstOverlap, Overlap, ShareAddress}
@@ -17,16 +17,13 @@ use Rattle.front_laws.proofs.Places.{at_split, front_get, none_passes}
 
 -- ---- two regions
 
-pub has_bytes : (bits : ℕ) → 0 < 2 ^ bits
-has_bytes bits = let p : 2 ^ 0 ≤ 2 ^ bits = pow_le 0 bits (omega arith) in omega (arith, p)
-
 shared : (r q : Untyped) → shares r q ≡ true → ShareAddress q r
 shared r q t =
     let parts = and_parts (nat_lt r.paddr (region_end q)) (nat_lt q.paddr (region_end r)) t in
     let first : r.paddr < q.paddr + 2 ^ q.bits = ltb-true r.paddr (region_end q) parts.0 in
     let second : q.paddr < r.paddr + 2 ^ r.bits = ltb-true q.paddr (region_end r) parts.1 in
-    let room = has_bytes q.bits in
-    let more = has_bytes r.bits in
+    let room = power_pos q.bits in
+    let more = power_pos r.bits in
     elim (cases_lt r.paddr q.paddr) [
       | inl l ↦ record { address = q.paddr; low = omega arith; high = omega (arith, room); other_low = omega (arith, l); other_high = second }
       | inr l ↦ record { address = r.paddr; low = l; high = first; other_low = omega arith; other_high = omega (arith, more) }

@@ -10,6 +10,7 @@ use Rattle.boot_plan.specs.declared.untyped.Untyped.{Untyped}
 use Rattle.boot_plan.specs.declared.untyped.UntypedCode.TheVariants as untyped
 use Rattle.boot_plan.specs.declared.untyped.UntypedFault.{UntypedFault}
 use Rattle.cam_base.specs.Gather.{IsIn}
+use Rattle.cam_base.proofs.Gathered.{in_right}
 use Rattle.cam_base.proofs.NumberedLists.{split_in}
 use Rattle.cam_base.specs.Fields.{fields}
 use Rattle.cam_base.specs.Lines.{Line, lines}
@@ -74,11 +75,7 @@ all_clean : (front : List Line) → ((l : Line) → IsIn l front → SpellsRegio
 all_clean front read low p q y e =
     let P : List Line → Type 0 = λ z. IsIn y z in
     let many : length front ≡ length p + suc (length q) = ap length e ∙ length-append p (y ∷ q) in
-    clean_read p y (read y (subst P (sym e) (in_middle p))) (omega (arith, low, many))
-  where
-    in_middle : (p : List Line) → IsIn y (p ++ y ∷ q)
-    in_middle [] = inl refl
-    in_middle (x ∷ p) = inr (in_middle p)
+    clean_read p y (read y (subst P (sym e) (in_right y p (y ∷ q) (inl refl)))) (omega (arith, low, many))
 
 -- ---- a text
 

@@ -1,6 +1,6 @@
 -- Settings with one in front of them that sets the same.
-use Rattle.std.proofs.Common.{◌≡◌, ◌≤◌, ◌⊎◌, ℕ, zero, suc, ◌+◌, Bool, true, false, ◌||◌, ◌&&◌, List, [], ◌∷◌, ◌++◌, length, get_or, Some, refl, sym, ◌∙◌, ap, subst, arith, inl, inr}
-use Rattle.std.proofs.lemmas.Bool.{and_parts, or_cases, or_left, or_right}
+use Rattle.std.proofs.Common.{◌≡◌, ◌≤◌, ◌⊎◌, ℕ, zero, suc, ◌+◌, true, false, ◌||◌, ◌&&◌, List, [], ◌∷◌, ◌++◌, length, get_or, Some, refl, sym, ◌∙◌, ap, subst, arith, inl, inr}
+use Rattle.std.proofs.lemmas.Bool.{and_from, and_parts, or_cases, or_left, or_right}
 use Rattle.std.proofs.lemmas.Slice.Eq.{bytes_eq-Decides}
 use Rattle.adl_meaning.specs.Prelude.{Body, Fault, Hierarchy, IsIn, Setting, body, bytes_eq, enumerate_from, last_name, path_of, same_path, settings_of, slice_get, where_true}
 use Rattle.adl_hierarchy.proofs.DomainNames.{same_path-Decides}
@@ -63,9 +63,6 @@ from_after h k met (y ∷ xs) f i =
         ]
     wider x before (inr z) = inr (z.0, inr z.1, z.2)
 
-both : (a b : Bool) → a ≡ true → b ≡ true → (a && b) ≡ true
-both a b p q = ap (λ z. z && b) p ∙ q
-
 into_after : (h : Hierarchy) (k : ℕ) (met : Met) (before : List Setting) (x : Setting) (after : List Setting) → Why h k met before x
     → IsIn (setting_twice x) (repeated_after h k met (before ++ x ∷ after))
 into_after h k met [] x after (inl t) =
@@ -83,7 +80,7 @@ into_after h k met (y ∷ before) x after why =
     narrower (inr (z, inl e, (a, b))) =
         let path : path_of h k x.words ≡ path_of h k y.words = sym a ∙ ap (λ (u : Setting). path_of h k u.words) (sym e) in
         let name : last_name x.words ≡ last_name y.words = sym b ∙ ap (λ (u : Setting). last_name u.words) (sym e) in
-        let same = both (same_path (path_of h k x.words) (path_of h k y.words)) (bytes_eq (last_name x.words) (last_name y.words))
+        let same = and_from (same_path (path_of h k x.words) (path_of h k y.words)) (bytes_eq (last_name x.words) (last_name y.words))
         ((same_path-Decides (path_of h k x.words) (path_of h k y.words)).1 path) ((bytes_eq-Decides (last_name x.words) (last_name y.words)).1 name) in
         inl (or_right (met (path_of h k x.words) (last_name x.words)) (same_path (path_of h k x.words) (path_of h k y.words) && bytes_eq (last_name x.words) (last_name y.words)) same)
     narrower (inr (z, inr i, s)) = inr (z, i, s)

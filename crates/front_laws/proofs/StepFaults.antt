@@ -1,5 +1,5 @@
 -- The first line of a text of steps that is refused.
-use Rattle.std.proofs.Common.{◌≡◌, ◌<◌, ◌≤◌, ◌+◌, ℕ, suc, Bool, true, false, nat_lt, List, [], ◌∷◌, ◌++◌, length, Option, Some, None, is_some, option_map, refl, sym, ◌∙◌, ap, subst, arith, inl, inr, cond, length-append}
+use Rattle.std.proofs.Common.{◌≡◌, ◌<◌, ◌≤◌, ◌+◌, ℕ, suc, Bool, true, false, nat_lt, List, [], ◌∷◌, ◌++◌, length, Option, Some, None, is_some, option_map, refl, sym, ◌∙◌, ap, subst, arith, inl, cond, length-append}
 use Rattle.std.proofs.lemmas.Bool.{lt-ltb, ltb-true}
 use Rattle.std.proofs.lemmas.Bool.Decides.{nat_tests}
 use Rattle.std.specs.Option.{option_or}
@@ -8,6 +8,7 @@ use Rattle.cam_base.specs.declared.text_fault.TextFault.{TextFault}
 use Rattle.cap_machine.specs.declared.step.Step.{Step}
 use Rattle.cap_model.specs.declared.spec.Spec.{Spec}
 use Rattle.cam_base.specs.Gather.{IsIn}
+use Rattle.cam_base.proofs.Gathered.{in_right}
 use Rattle.cam_base.proofs.NumberedLists.{split_in}
 use Rattle.step_text.specs.Spelling.{any_word, names, spelled}
 use Rattle.step_text.specs.StepTexts.{bytes_limit, fault_of, first_fault, first_fault_of, first_unknown, misspelled, past_limit, step_of, steps_limit}
@@ -69,11 +70,7 @@ all_clean : (spec : Spec) (front : List Line) → ((l : Line) → IsIn l front �
 all_clean spec front read low p q y e =
     let P : List Line → Type 0 = λ z. IsIn y z in
     let many : length front ≡ length p + suc (length q) = ap length e ∙ length-append p (y ∷ q) in
-    clean_read spec p y (read y (subst P (sym e) (in_middle p))) (omega (arith, low, many))
-  where
-    in_middle : (p : List Line) → IsIn y (p ++ y ∷ q)
-    in_middle [] = inl refl
-    in_middle (x ∷ p) = inr (in_middle p)
+    clean_read spec p y (read y (subst P (sym e) (in_right y p (y ∷ q) (inl refl)))) (omega (arith, low, many))
 
 -- ---- a text
 

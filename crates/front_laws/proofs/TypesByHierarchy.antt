@@ -1,6 +1,6 @@
 -- Faults of types by the relations of a hierarchy.
-use Rattle.std.proofs.Common.{◌≡◌, ◌<◌, ◌≤◌, ◌+◌, ℕ, zero, suc, Bool, true, false, ◌&&◌, not, List, [], ◌∷◌, length, Option, Some, None, refl, sym, ◌∙◌, ap, subst, arith, inl, inr}
-use Rattle.std.proofs.lemmas.Bool.{and_parts, cases_lt}
+use Rattle.std.proofs.Common.{◌≡◌, ◌<◌, ◌≤◌, ◌+◌, ℕ, zero, suc, true, ◌&&◌, not, List, [], ◌∷◌, length, Option, Some, None, refl, sym, ◌∙◌, ap, subst, arith, inl, inr}
+use Rattle.std.proofs.lemmas.Bool.{and_parts, cases_lt, not-true}
 use Rattle.std.proofs.lemmas.Option.{option_and_then_some}
 use Rattle.adl_ast.specs.declared.component.Interface.{Interface}
 use Rattle.adl_ast.specs.declared.component.Member.{Member}
@@ -59,14 +59,10 @@ means s sound k words l low m =
 
 -- ---- one end
 
-not_true : (b : Bool) → not b ≡ true → b ≡ false
-not_true true e = cc
-not_true false e = refl
-
 from_kind : (h : Hierarchy) (k : ℕ) (w : Wire) (e : End) (f : Fault) → HasWire h k w → IsIn e w.1.ends → (o : Option LeafInterface) → leaf_of h k e.words ≡ o
     → not (option_map_or (is_kind_of (end_rule w.0 e.role)) o true) ≡ true → f ≡ at_end code.Kind e → IsTypeFault h f
 from_kind h k w e f has i None at t same = cc
-from_kind h k w e f has i (Some l) at t same = another_kind k w e l has i (meant h k e.words l at) (not_true (is_kind_of (end_rule w.0 e.role) l) t) same
+from_kind h k w e f has i (Some l) at t same = another_kind k w e l has i (meant h k e.words l at) (not-true (is_kind_of (end_rule w.0 e.role) l) t) same
 
 from_type : (h : Hierarchy) (k : ℕ) (w : Wire) (e : End) (f : Fault) → HasWire h k w → IsIn e w.1.ends → (ends : List End) → w.1.ends ≡ ends → (o : Option LeafInterface) → leaf_of h k e.words ≡ o
     → (has_one_type w.0 && not (agree (first_leaf h k ends) o)) ≡ true → f ≡ at_end code.TypeMismatch e → IsTypeFault h f
@@ -74,11 +70,11 @@ from_type h k w e f has i [] s o at t same = let P : List End → Type 0 = λ z.
 from_type h k w e f has i (first ∷ more) s o at t same = by_first (leaf_of h k first.words) refl o at t
   where
     by_first : (a : Option LeafInterface) → leaf_of h k first.words ≡ a → (o : Option LeafInterface) → leaf_of h k e.words ≡ o → (has_one_type w.0 && not (agree a o)) ≡ true → IsTypeFault h f
-    by_first None u o at t = let parts = and_parts (has_one_type w.0) (not (agree None o)) t in let n = not_true (agree None o) parts.1 in cc
-    by_first (Some m) u None at t = let parts = and_parts (has_one_type w.0) (not (agree (Some m) None)) t in let n = not_true (agree (Some m) None) parts.1 in cc
+    by_first None u o at t = let parts = and_parts (has_one_type w.0) (not (agree None o)) t in let n = not-true (agree None o) parts.1 in cc
+    by_first (Some m) u None at t = let parts = and_parts (has_one_type w.0) (not (agree (Some m) None)) t in let n = not-true (agree (Some m) None) parts.1 in cc
     by_first (Some m) u (Some l) at t =
         let parts = and_parts (has_one_type w.0) (not (same_type m l)) t in
-        another_type k w first e more m l has s i (meant h k first.words m u) (meant h k e.words l at) parts.0 (not_true (same_type m l) parts.1) same
+        another_type k w first e more m l has s i (meant h k first.words m u) (meant h k e.words l at) parts.0 (not-true (same_type m l) parts.1) same
 
 from_end : (h : Hierarchy) (k : ℕ) (w : Wire) (e : End) (f : Fault) → HasWire h k w → IsIn e w.1.ends → IsIn f (end_faults h k w.0 (first_leaf h k w.1.ends) e) → IsTypeFault h f
 from_end h k w e f has i j =
@@ -96,7 +92,7 @@ from_wire h k w f has i =
     let ends = flat_map (end_faults h k w.0 (first_leaf h k w.1.ends)) w.1.ends in
     elim (in_append f ends (where_true (not (may_have w.0 w.1.ends)) (at_word code.EndCount w.1.id)) i) [
       | inl j ↦ let e = from_flat_map (end_faults h k w.0 (first_leaf h k w.1.ends)) f w.1.ends j in from_end h k w e.0 f has e.1 e.2
-      | inr j ↦ let t = from_true (not (may_have w.0 w.1.ends)) (at_word code.EndCount w.1.id) f j in another_count k w has (not_true (may_have w.0 w.1.ends) t.0) (sym t.1)
+      | inr j ↦ let t = from_true (not (may_have w.0 w.1.ends)) (at_word code.EndCount w.1.id) f j in another_count k w has (not-true (may_have w.0 w.1.ends) t.0) (sym t.1)
     ]
 
 from_sizes : (h : Hierarchy) (k : ℕ) (f : Fault) → k ≤ top_number h → (o : Option Component) → (body h k).component ≡ o
@@ -106,7 +102,7 @@ from_sizes h k f low (Some c) own i = let m = from_flat_map size_faults f c.memb
   where
     by_size : (i : Interface) → IsIn (members.Interface i) c.members → (o : Option ℕ) → i.size ≡ o → not (option_map_or is_size o true) ≡ true → f ≡ at_word code.TypeMismatch i.id → IsTypeFault h f
     by_size i j None e t same = cc
-    by_size i j (Some n) e t same = no_size k c i n low own j e (not_true (is_size n) t) same
+    by_size i j (Some n) e t same = no_size k c i n low own j e (not-true (is_size n) t) same
 
     by_member : (m : Member) → IsIn m c.members → IsIn f (size_faults m) → IsTypeFault h f
     by_member (members.Interface i) j x = let t = from_true (not (option_map_or is_size i.size true)) (at_word code.TypeMismatch i.id) f x in by_size i j i.size refl t.0 (sym t.1)

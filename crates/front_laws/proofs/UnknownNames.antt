@@ -13,11 +13,12 @@ use Rattle.adl_meaning.specs.Unknown.{names_procedure, scope_of_held, unknown, u
 use Rattle.adl_meaning.specs.Prelude.{Assembly, Component, Composition, Connection, End, Export, Fault, Held, Id, Instance, IsIn, Item, Known, Line, Name, Setting, Source, a_connection, a_group, an_instance, as_composition, as_connection, as_export, compositions, configurations, connections_in, connector_of, exports_in, flat_map, held_as, instances_by, instances_in, is_procedure, items_of, known_in, known_of, option_and_then, procedure_named, unknown_attribute, unknown_in_composition, unknown_in_configuration, unknown_in_dotted, unknown_in_item, unknown_in_line, unknown_in_member, unknown_in_setting, unknown_interface, unknown_names}
 use Rattle.cam_base.proofs.Gathered.{in_append, in_left, in_right}
 use Rattle.cam_base.proofs.NumberedLists.{from_filter_map, from_flat_map, in_filter_map, in_flat_map}
+use Rattle.cam_base.proofs.Options.{is_none}
 use Rattle.front_laws.specs.Standing.{HasComposition, HasItem, of_assembly, of_component}
 use Rattle.front_laws.specs.UnknownNames.{HasSetting, IsUnknown, IsUnknownPart, LacksAttribute, LacksInterface, a_connector, a_procedure, a_target, a_type, an_attribute_referred, connection_named, group_named, in_a_setting, in_an_end, in_an_export, instance_in_front, no_interface, no_such_member, not_held, of_a_body, of_the_top}
 use Rattle.front_laws.specs.UnknownWords.{Holding, NamesInstance, Types, alone, in_a_group}
 use Rattle.front_laws.proofs.Tested.{from_false, in_false}
-use Rattle.front_laws.proofs.UnknownWords.{from_setting, in_setting, none_there}
+use Rattle.front_laws.proofs.UnknownWords.{from_setting, in_setting}
 
 -- ---- dotted names of two or three words
 
@@ -25,7 +26,7 @@ from_interface : (types : Types) (held : Holding) (ws : List Id) (j : Id) (o : O
     → IsIn f (unknown_interface o j) → (w : Id) × IsUnknownPart types held (ws ++ j ∷ []) w × (f ≡ unknown w)
 from_interface types held ws j None f n i = absurd i
 from_interface types held ws j (Some c) f n i =
-    let k = from_false (is_some (c.interface j.name)) (unknown j) f i in (j, no_interface ws j c refl (n c refl) (none_there (c.interface j.name) k.0), sym k.1)
+    let k = from_false (is_some (c.interface j.name)) (unknown j) f i in (j, no_interface ws j c refl (n c refl) (is_none (c.interface j.name) k.0), sym k.1)
 
 from_two : (types : Types) (held : Holding) (a j : Id) (f : Fault) (o : Option Held) → held a.name ≡ o → IsIn f (unknown_in_two types o a j)
     → (w : Id) × IsUnknownPart types held (a ∷ j ∷ []) w × (f ≡ unknown w)
@@ -34,7 +35,7 @@ from_two types held a j f None e (inr i) = absurd i
 from_two types held a j f (Some (an_instance i)) e x = from_interface types held (a ∷ []) j (types i.component.name) f (λ c t. alone a i c e t) x
 from_two types held a j f (Some (a_group members)) e (inl s) = (a, group_named a j members refl e, sym s)
 from_two types held a j f (Some (a_group members)) e (inr i) =
-    let k = from_false (is_some (members j.name)) (unknown j) f i in (j, no_such_member a j [] members refl (omega arith) e (none_there (members j.name) k.0), sym k.1)
+    let k = from_false (is_some (members j.name)) (unknown j) f i in (j, no_such_member a j [] members refl (omega arith) e (is_none (members j.name) k.0), sym k.1)
 from_two types held a j f (Some a_connection) e (inl s) = (a, connection_named a j [] refl (omega arith) e, sym s)
 from_two types held a j f (Some a_connection) e (inr i) = absurd i
 
@@ -118,16 +119,16 @@ from_line s owner k (lines.Instance i) f h j x = a_type_at i (in_flat_map instan
   where
     a_type_at : (i : Instance) → IsIn i (instances_in k) → IsIn f (unknown_type (known_in s) i) → IsUnknown s f
     a_type_at i n x = let t = from_false (is_some (known_in s i.component.name)) (unknown i.component) f x in
-        a_type owner k i h n (none_there (known_in s i.component.name) t.0) (sym t.1)
+        a_type owner k i h n (is_none (known_in s i.component.name) t.0) (sym t.1)
 from_line s owner k (lines.Group g) f h j x =
     let i = from_flat_map (unknown_type (known_in s)) f g.instances x in
     let t = from_false (is_some (known_in s i.0.component.name)) (unknown i.0.component) f i.2 in
-    a_type owner k i.0 h (in_flat_map instances_by (lines.Group g) i.0 k.lines j i.1) (none_there (known_in s i.0.component.name) t.0) (sym t.1)
+    a_type owner k i.0 h (in_flat_map instances_by (lines.Group g) i.0 k.lines j i.1) (is_none (known_in s i.0.component.name) t.0) (sym t.1)
 from_line s owner k (lines.Connection w) f h j x =
     let there = in_filter_map as_connection (lines.Connection w) w k.lines j refl in
     elim (in_append f (unknown_connector w) (flat_map (λ (e : End). unknown_in_dotted (known_in s) (held_as k) e.words) w.ends) x) [
       | inl y ↦ let t = from_false (is_some (connector_of w.connector.name)) (unknown w.connector) f y in
-          a_connector owner k w h there (none_there (connector_of w.connector.name) t.0) (sym t.1)
+          a_connector owner k w h there (is_none (connector_of w.connector.name) t.0) (sym t.1)
       | inr y ↦ let e = from_flat_map (λ (e : End). unknown_in_dotted (known_in s) (held_as k) e.words) f w.ends y in
           let d = from_dotted (known_in s) (held_as k) e.0.words f e.2 in
           in_an_end owner k w e.0 d.0 h there e.1 d.1 d.2
@@ -142,7 +143,7 @@ from_line s owner k (lines.Export e) f h j x =
   where
     lacks : (o : Option Known) → is_some (option_and_then (λ c. c.interface e.target.name) o) ≡ false → LacksInterface o e.target.name
     lacks None t = tt
-    lacks (Some c) t = none_there (c.interface e.target.name) t
+    lacks (Some c) t = is_none (c.interface e.target.name) t
 
 from_composition : (s : Source) (owner : Option Known) (k : Composition) (f : Fault) → HasComposition s owner k → IsIn f (unknown_in_composition (known_in s) owner k) → IsUnknown s f
 from_composition s owner k f h i =
@@ -152,7 +153,7 @@ from_composition s owner k f h i =
 
 lacks_attribute : (o : Option Known) (n : Name) → is_some (option_and_then (λ c. c.attribute n) o) ≡ false → LacksAttribute o n
 lacks_attribute None n t = tt
-lacks_attribute (Some c) n t = none_there (c.attribute n) t
+lacks_attribute (Some c) n t = is_none (c.attribute n) t
 
 from_setter : (s : Source) (owner : Option Known) (holds : Option Holding) (x : Setting) (r : Setter) (f : Fault) → HasSetting s owner holds x → x.setter ≡ r
     → IsIn f (unknown_attribute owner r) → IsUnknown s f
@@ -184,7 +185,7 @@ from_member s c (members.Include i) f h j x = absurd x
 from_member s c (members.Interface i) f h j x =
     let t = from_false (not (names_procedure i.kind) || is_procedure s i.word.name) (unknown i.word) f x in
     let both = neither (names_procedure i.kind) (is_procedure s i.word.name) t.0 in
-    a_procedure c i h j both.0 (none_there (procedure_named s i.word.name) both.1) (sym t.1)
+    a_procedure c i h j both.0 (is_none (procedure_named s i.word.name) both.1) (sym t.1)
   where
     neither : (a b : Bool) → (not a || b) ≡ false → (a ≡ true) × (b ≡ false)
     neither true b e = (refl, e)

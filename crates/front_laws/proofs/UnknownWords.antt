@@ -1,14 +1,11 @@
 -- The words of a setting that are unknown, by what the words in front of them lead to.
-use Rattle.std.proofs.Common.{◌≡◌, ◌<◌, false, List, [], ◌∷◌, ◌++◌, length, Option, Some, None, is_some, refl, sym, ◌∙◌, ap, subst, append_assoc, arith, inl, inr}
+use Rattle.std.proofs.Common.{◌≡◌, ◌<◌, List, [], ◌∷◌, ◌++◌, length, Option, Some, None, is_some, refl, sym, ◌∙◌, ap, subst, append_assoc, arith, inl, inr}
 use Rattle.adl_meaning.specs.Unknown.{Scope, behind, inside, scope_behind, scope_in_composition, scope_in_group, scope_of_held, scope_of_known, unknown, unknown_group, unknown_in_setting, unknown_inner, unknown_last, unknown_word, untold, within}
 use Rattle.adl_meaning.specs.Prelude.{Fault, Held, Id, Instance, IsIn, Known, Name, a_connection, a_group, an_instance}
 use Rattle.cam_base.proofs.Gathered.{in_append, in_left, in_right}
+use Rattle.cam_base.proofs.Options.{is_none}
 use Rattle.front_laws.specs.UnknownWords.{Ends, Holding, IsInFront, IsUnknownIn, IsUnknownWord, Leads, NamesInstance, Types, a_group_alone, alone, at_connection, at_leaf, behind_an_end, here, in_a_group, inwards, unheld, unheld_in_group}
 use Rattle.front_laws.proofs.Tested.{from_false, in_false}
-
-pub none_there : {X : Type 0} (o : Option X) → is_some o ≡ false → o ≡ None
-none_there None e = refl
-none_there (Some x) e = cc
 
 -- ---- what is found unknown, by the scope of the first word
 
@@ -93,15 +90,15 @@ Found types scope words f = (x : Id) × FromScope types scope words x × (f ≡ 
 from_last : (types : Types) (scope : Scope) (w : Id) (f : Fault) → IsIn f (unknown_last scope w) → Found types scope (w ∷ []) f
 from_last types (within held) w f i = absurd i
 from_last types (inside members) w f i =
-    let k = from_false (is_some (members w.name)) (unknown w) f i in (w, no_member w [] refl (none_there (members w.name) k.0), sym k.1)
+    let k = from_false (is_some (members w.name)) (unknown w) f i in (w, no_member w [] refl (is_none (members w.name) k.0), sym k.1)
 from_last types behind w f i = absurd i
 from_last types untold w f i = absurd i
 
 from_inner : (types : Types) (scope : Scope) (w : Id) (more : List Id) (f : Fault) → 0 < length more → IsIn f (unknown_inner scope w) → Found types scope (w ∷ more) f
 from_inner types (within held) w more f l i =
-    let k = from_false (is_some (held w.name)) (unknown w) f i in (w, unheld [] more w held refl l (here held) (none_there (held w.name) k.0), sym k.1)
+    let k = from_false (is_some (held w.name)) (unknown w) f i in (w, unheld [] more w held refl l (here held) (is_none (held w.name) k.0), sym k.1)
 from_inner types (inside members) w more f l i =
-    let k = from_false (is_some (members w.name)) (unknown w) f i in (w, no_member w more refl (none_there (members w.name) k.0), sym k.1)
+    let k = from_false (is_some (members w.name)) (unknown w) f i in (w, no_member w more refl (is_none (members w.name) k.0), sym k.1)
 from_inner types behind w more f l (inl e) = (w, record { before = []; after = more; split = refl; more = l }, sym e)
 from_inner types behind w more f l (inr i) = absurd i
 from_inner types untold w more f l i = absurd i

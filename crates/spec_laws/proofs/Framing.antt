@@ -1,10 +1,11 @@
 -- The frame of each page that is mapped
-use Rattle.std.proofs.Common.{◌≡◌, ◌<◌, ◌+◌, ◌*◌, ◌/◌, ◌⊎◌, ℕ, zero, suc, Bool, true, false, List, [], ◌∷◌, get_or, length, Option, Some, None, refl, sym, ◌∙◌, ap, subst, inl, inr, arith}
+use Rattle.std.proofs.Common.{◌≡◌, ◌<◌, ◌+◌, ◌*◌, ◌/◌, ◌⊎◌, ℕ, Bool, true, false, List, [], ◌∷◌, get_or, Option, Some, None, refl, sym, ◌∙◌, ap, subst, inl, inr, arith}
 use Rattle.std.specs.List.{position, range_with_len, slice_get}
 use Rattle.std.specs.Option.{option_and_then, option_map_or}
 use Rattle.std.specs.Prelude.{◌==◌}
 use Rattle.std.proofs.lemmas.Bool.{and_parts, eqb-true}
 use Rattle.std.proofs.lemmas.List.Quantifiers.{position-Some}
+use Rattle.std.proofs.lemmas.Option.{slice_get-get_or}
 use Rattle.adl_ast.specs.declared.composition.Role.{Role}
 use Rattle.adl_meaning.specs.declared.connector.Connector.{Connector}
 use Rattle.adl_meaning.specs.declared.connector.Connector.TheVariants.{Rpc, Notification, SharedMemory, Mmio, Interrupt, Direct}
@@ -78,11 +79,6 @@ of_port : (o : Option FlatEnd) (e : FlatEnd) → option_map_or (same_port e) o f
 of_port None e h = cc
 of_port (Some f) e h = let q = and_parts (f.leaf == e.leaf) (f.member == e.member) h in (f, refl, eqb-true f.leaf e.leaf q.0, eqb-true f.member e.member q.1)
 
-at_get : {X : Type 0} (xs : List X) (n : ℕ) (d : X) → n < length xs → slice_get xs n ≡ Some (get_or xs n d)
-at_get [] n d l = absurd (omega (arith, l))
-at_get (x ∷ xs) zero d l = refl
-at_get (x ∷ xs) (suc n) d l = at_get xs n d (omega (arith, l))
-
 pub first_is : (t : Tables) (k : ℕ) (c : FlatConnection) (e : FlatEnd) → slice_get t.flat.connections k ≡ Some c → registers c ≡ Some e → FirstTo t e
 first_is t k c e h r =
     let cs = t.flat.connections in
@@ -90,7 +86,7 @@ first_is t k c e h r =
     let s = position-Some (leads_to e) cs hit.0 c hit.1 in
     let d = get_or cs hit.0 c in
     let p = of_port (registers d) e s.1 in
-    record { number = hit.0; first = hit.1; connection = d; here = at_get cs hit.0 c s.0; end = p.0; leads = p.1; leaf = p.2; member = p.3 }
+    record { number = hit.0; first = hit.1; connection = d; here = slice_get-get_or cs hit.0 c s.0; end = p.0; leads = p.1; leaf = p.2; member = p.3 }
 
 -- ---- memory of connections
 
@@ -104,7 +100,7 @@ has_memory Direct r h = cc
 
 place_get : {X : Type 0} (p : X → Bool) (xs : List X) (n : ℕ) → position p xs ≡ Some n → (x : X) × (slice_get xs n ≡ Some x)
 place_get p [] n e = cc
-place_get p (x ∷ xs) n e = let s = position-Some p (x ∷ xs) n x e in (get_or (x ∷ xs) n x, at_get (x ∷ xs) n x s.0)
+place_get p (x ∷ xs) n e = let s = position-Some p (x ∷ xs) n x e in (get_or (x ∷ xs) n x, slice_get-get_or (x ∷ xs) n x s.0)
 
 abbrev pages_by : Option EndSetting → ℕ
 pages_by o = option_map_or (λ (s : EndSetting). s.bytes / 4096) o 0

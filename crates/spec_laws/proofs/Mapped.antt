@@ -2,7 +2,7 @@
 use Rattle.std.proofs.Common.{◌≡◌, ◌<◌, ◌+◌, ◌⊎◌, ◌∙◌, ℕ, Bool, true, false, [], ◌∷◌, map, Option, Some, None, refl, sym, ap, subst, inl, inr, arith}
 use Rattle.std.specs.List.{flat_map, position_or_len, range_with_len, slice_get}
 use Rattle.std.specs.Option.{option_and_then, option_map_or}
-use Rattle.std.proofs.lemmas.Bool.{and_from, and_parts, eq-eqb, eqb-true}
+use Rattle.std.proofs.lemmas.Bool.{and_parts, eqb-true}
 use Rattle.std.proofs.lemmas.Option.{slice_get_within}
 use lib.Dec.{eqb}
 use Rattle.adl_ast.specs.declared.composition.Role.{Role}
@@ -50,7 +50,7 @@ use Rattle.vspace_layout.specs.Laid.{page, space, thread_place}
 use Rattle.vspace_layout.specs.MappedPages.{mapped_pages, may_read, may_write, page_of, pages_of_region, region_part, section_page, section_part}
 use Rattle.vspace_layout.specs.Memory.{first_to, first_to_end, is_shared, is_to, leads_to, memory_pages, registers, registers_in, same_port}
 use Rattle.vspace_layout.specs.Regions.{region, region_start, regions, thread_regions, threads_of, window_pages, window_region, windows_of}
-use Rattle.vspace_layout.proofs.Standing.{frames_stand}
+use Rattle.vspace_layout.proofs.Standing.{frames_stand, own_port}
 use Rattle.spec_laws.specs.Connected.{IsConnected}
 use Rattle.spec_laws.specs.Policy.{given_tables, policy_tables}
 use Rattle.spec_laws.proofs.Devices.{first_found, position_found}
@@ -146,6 +146,9 @@ module _ (g : Given) (d : ℕ) where
 
 -- ---- pages and threads as they are laid
 
+pub hard_to : (c : Connector) (r : Role) → c ≡ Mmio → r ≡ To → (end_rule c r).hardware ≡ true
+hard_to c r e f = ap (λ z. (end_rule z r).hardware) e ∙ ap (λ z. (end_rule Mmio z).hardware) f
+
 module _ (t : Tables) (h : IsConnected t) where
   abbrev pub laid : Given
   laid = given_tables t
@@ -234,9 +237,6 @@ module _ (t : Tables) (h : IsConnected t) where
   to_is To e = refl
   to_is From e = absurd cc
 
-  hard_to : (c : Connector) (r : Role) → c ≡ Mmio → r ≡ To → (end_rule c r).hardware ≡ true
-  hard_to c r e f = ap (λ z. (end_rule z r).hardware) e ∙ ap (λ z. (end_rule Mmio z).hardware) f
-
   pub at_registers : (k : ℕ) (c : FlatConnection) → slice_get t.flat.connections k ≡ Some c → c.connector ≡ Mmio → AtRegisters k c
   at_registers k c e m =
       let v = h.flat.registers k c e m in
@@ -261,9 +261,6 @@ module _ (t : Tables) (h : IsConnected t) where
         has = ap (λ z. registers_in z c.ends) m ∙ first;
       }
 
-  same_self : (e : FlatEnd) → same_port e e ≡ true
-  same_self e = and_from (eqb e.leaf e.leaf) (eqb e.member e.member) (eq-eqb e.leaf e.leaf refl) (eq-eqb e.member e.member refl)
-
   -- the first connection to the same registers
   record FirstTo (e : FlatEnd) : Type 0 where
     number : ℕ
@@ -282,7 +279,7 @@ module _ (t : Tables) (h : IsConnected t) where
 
   first_here : (k : ℕ) (c : FlatConnection) (e : FlatEnd) → slice_get t.flat.connections k ≡ Some c → registers c ≡ Some e → FirstTo e
   first_here k c e here has =
-      let passes : leads_to e c ≡ true = ap (λ z. option_map_or (same_port e) z false) has ∙ same_self e in
+      let passes : leads_to e c ≡ true = ap (λ z. option_map_or (same_port e) z false) has ∙ own_port e in
       let f = first_found (leads_to e) t.flat.connections k c here passes in
       let w = led_to e f.0 f.2 in
       record {

@@ -1,7 +1,6 @@
 -- Frames that no window shows are mapped once, and filled as their pages say
-use Rattle.std.proofs.Common.{◌≡◌, ◌<◌, ◌+◌, ◌*◌, ◌/◌, ℕ, Bool, List, [], length, Option, Some, None, refl, sym, ◌∙◌, ap, subst, arith}
+use Rattle.std.proofs.Common.{◌≡◌, ◌<◌, ◌+◌, ◌*◌, ◌/◌, ℕ, Bool, List, length, Option, Some, None, refl, sym, ◌∙◌, ap, subst, arith}
 use Rattle.std.specs.List.{slice_get}
-use Rattle.std.specs.Option.{option_map_or}
 use Rattle.adl_meaning.specs.declared.flat.Domain.{Domain}
 use Rattle.cap_model.specs.declared.cap.Cap.{Cap}
 use Rattle.cap_model.specs.declared.object.Fill.{Fill}
@@ -38,7 +37,7 @@ use Rattle.spec_laws.proofs.Blocks.{apart, inside}
 use Rattle.spec_laws.proofs.Finding.{Found, found}
 use Rattle.spec_laws.proofs.Framing.{frame_there, shows_at}
 use Rattle.spec_laws.proofs.Members.{whole}
-use Rattle.spec_laws.proofs.Paging.{region_in, section_there}
+use Rattle.spec_laws.proofs.Paging.{has_domain, region_in, section_there}
 use Rattle.spec_laws.proofs.Rooted.{frames_from}
 use Rattle.spec_laws.proofs.Showing.{in_domain}
 use Rattle.spec_laws.proofs.SlotLists.{some}
@@ -46,14 +45,7 @@ use Rattle.spec_laws.proofs.Spaces.{cap_is, is_at}
 
 -- a leaf of a domain is one of a domain that there is
 leaf_domain : (t : Tables) (d leaf : ℕ) → IsIn leaf (leaves_of t.flat d) → (x : Domain) × (slice_get t.flat.domains d ≡ Some x)
-leaf_domain t d leaf i = by_domain (slice_get t.flat.domains d) refl
-  where
-    by_domain : (o : Option Domain) → slice_get t.flat.domains d ≡ o → (x : Domain) × (slice_get t.flat.domains d ≡ Some x)
-    by_domain (Some x) h = (x, h)
-    by_domain None h =
-        let leaves : leaves_of t.flat d ≡ [] = ap (λ o. option_map_or (λ (z : Domain). z.leaves) o []) h in
-        let P : List ℕ → Type 0 = λ z. IsIn leaf z in
-        absurd (subst P leaves i)
+leaf_domain t d leaf i = has_domain t d (λ none. let P : List ℕ → Type 0 = λ z. IsIn leaf z in subst P none i)
 
 -- the own frame that a page has
 abbrev pub own_of : ℕ → ℕ → MappedPage → List FrameInfo

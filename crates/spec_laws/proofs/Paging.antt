@@ -6,6 +6,7 @@ use Rattle.std.specs.Prelude.{nat_eq, option_map}
 use Rattle.std.proofs.lemmas.Bool.{eq-eqb}
 use Rattle.std.proofs.lemmas.List.Sorted.{IsPermutation-sym}
 use Rattle.adl_meaning.specs.declared.connector.Connector.{Connector}
+use Rattle.adl_meaning.specs.declared.flat.Domain.{Domain}
 use Rattle.adl_meaning.specs.declared.flat.FlatConnection.{FlatConnection}
 use Rattle.adl_meaning.specs.declared.flat.FlatEnd.{FlatEnd}
 use Rattle.adl_meaning.specs.declared.settled.EndSetting.{EndSetting}
@@ -37,6 +38,15 @@ use Rattle.vspace_layout.specs.Threads.{ends_at}
 use Rattle.spec_laws.specs.CanMap.{AreSettled}
 use Rattle.spec_laws.specs.Spaced.{IsRegionPage, IsSectionPage, MapsPage, begins, system}
 use Rattle.spec_laws.proofs.Members.{in_range}
+
+-- ---- a domain that has leaves is there
+
+pub has_domain : (t : Tables) (d : ℕ) → (leaves_of t.flat d ≡ [] → ⊥) → (x : Domain) × (slice_get t.flat.domains d ≡ Some x)
+has_domain t d some = by_domain (slice_get t.flat.domains d) refl
+  where
+    by_domain : (o : Option Domain) → slice_get t.flat.domains d ≡ o → (x : Domain) × (slice_get t.flat.domains d ≡ Some x)
+    by_domain (Some x) h = (x, h)
+    by_domain None h = absurd (some (ap (λ o. option_map_or (λ (z : Domain). z.leaves) o []) h))
 
 -- ---- windows are of ends that see memory
 

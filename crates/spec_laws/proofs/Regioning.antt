@@ -1,5 +1,5 @@
 -- The regions of spaces, and the lines of windows
-use Rattle.std.proofs.Common.{◌≡◌, ◌+◌, ◌*◌, ◌/◌, ◌%◌, ℕ, zero, suc, Bool, true, false, cond, List, [], ◌∷◌, ◌++◌, length, map, Option, Some, None, refl, sym, ◌∙◌, ap, subst, inl, inr, arith}
+use Rattle.std.proofs.Common.{◌≡◌, ◌+◌, ◌*◌, ◌/◌, ◌%◌, ℕ, zero, suc, Bool, true, false, cond, List, [], ◌∷◌, ◌++◌, length, map, Option, Some, refl, sym, ◌∙◌, ap, subst, inl, inr, arith}
 use Rattle.std.specs.List.{find, flat_map, slice_get}
 use Rattle.std.specs.Option.{option_map_or}
 use Rattle.std.specs.Prelude.{◌==◌, option_map}
@@ -48,7 +48,7 @@ use Rattle.spec_laws.specs.CanMap.{CanMap}
 use Rattle.spec_laws.specs.Regioned.{AreRegions, HasRegions, IsWindowLine, SaysWindow}
 use Rattle.spec_laws.specs.Spaced.{IsAt, IsRegionPage, begins, root_of, system}
 use Rattle.spec_laws.proofs.Finding.{pages_are, rise}
-use Rattle.spec_laws.proofs.Paging.{region_in, window_is}
+use Rattle.spec_laws.proofs.Paging.{has_domain, region_in, window_is}
 use Rattle.spec_laws.proofs.Rooted.{frames_from}
 use Rattle.spec_laws.proofs.SlotLists.{some}
 use Rattle.spec_laws.proofs.Spaces.{is_at, rises_tell}
@@ -88,26 +88,21 @@ same_thread : (a b : Tcb) (o : Option _) → o ≡ Some (objects.Thread a) → o
 same_thread a b o e f = cc
 
 module _ (t : Tables) (can : CanMap t) where
-  no_leaves : (d : ℕ) → slice_get t.flat.domains d ≡ None → leaves_of t.flat d ≡ []
-  no_leaves d h = ap (λ o. option_map_or (λ (z : Domain). z.leaves) o []) h
-
   thread_domain : (d i : ℕ) (y : ThreadOf) → slice_get (threads_of (system t) d) i ≡ Some y → (x : Domain) × (slice_get t.flat.domains d ≡ Some x)
-  thread_domain d i y e = by_domain (slice_get t.flat.domains d) refl
+  thread_domain d i y e = has_domain t d not_none
     where
-      by_domain : (o : Option Domain) → slice_get t.flat.domains d ≡ o → (x : Domain) × (slice_get t.flat.domains d ≡ Some x)
-      by_domain (Some x) h = (x, h)
-      by_domain None h =
-          let none : threads_of (system t) d ≡ [] = ap (λ ls. threads_in t.flat (ends (system t)) ls) (no_leaves d h) in
+      not_none : leaves_of t.flat d ≡ [] → ⊥
+      not_none leaves =
+          let none : threads_of (system t) d ≡ [] = ap (λ ls. threads_in t.flat (ends (system t)) ls) leaves in
           let P : List ThreadOf → Type 0 = λ z. slice_get z i ≡ Some y in
           let f = subst P none e in cc
 
   window_domain : (d i : ℕ) (y : EndAt) → slice_get (windows_of (system t) d) i ≡ Some y → (x : Domain) × (slice_get t.flat.domains d ≡ Some x)
-  window_domain d i y e = by_domain (slice_get t.flat.domains d) refl
+  window_domain d i y e = has_domain t d not_none
     where
-      by_domain : (o : Option Domain) → slice_get t.flat.domains d ≡ o → (x : Domain) × (slice_get t.flat.domains d ≡ Some x)
-      by_domain (Some x) h = (x, h)
-      by_domain None h =
-          let none : windows_of (system t) d ≡ [] = ap (λ ls. windows_in t.flat (ends (system t)) ls) (no_leaves d h) in
+      not_none : leaves_of t.flat d ≡ [] → ⊥
+      not_none leaves =
+          let none : windows_of (system t) d ≡ [] = ap (λ ls. windows_in t.flat (ends (system t)) ls) leaves in
           let P : List EndAt → Type 0 = λ z. slice_get z i ≡ Some y in
           let f = subst P none e in cc
 

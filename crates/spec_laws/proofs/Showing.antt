@@ -35,19 +35,17 @@ use Rattle.spec_laws.specs.Framed.{AreMemoryFrames, OneDevice, OneMemory, ShowsM
 use Rattle.spec_laws.specs.Spaced.{begins, root_of, system}
 use Rattle.spec_laws.proofs.Blocks.{apart, as_long, inside}
 use Rattle.spec_laws.proofs.Framing.{FirstTo, IsMemoryFrame, first_is, frame_there, memory_frame, memory_of, registers_there}
-use Rattle.spec_laws.proofs.Paging.{region_in}
+use Rattle.spec_laws.proofs.Paging.{has_domain, region_in}
 use Rattle.spec_laws.proofs.Rooted.{frames_from}
 use Rattle.spec_laws.proofs.SlotLists.{some}
 use Rattle.spec_laws.proofs.Spaces.{cap_is}
 
 -- a region is one of a domain that there is
 pub in_domain : (t : Tables) (d n : ℕ) (r : Region) → slice_get (regions (system t) d) n ≡ Some r → (x : Domain) × (slice_get t.flat.domains d ≡ Some x)
-in_domain t d n r e = by_domain (slice_get t.flat.domains d) refl
+in_domain t d n r e = has_domain t d not_none
   where
-    by_domain : (o : Option Domain) → slice_get t.flat.domains d ≡ o → (x : Domain) × (slice_get t.flat.domains d ≡ Some x)
-    by_domain (Some x) h = (x, h)
-    by_domain None h =
-        let leaves : leaves_of t.flat d ≡ [] = ap (λ o. option_map_or (λ (z : Domain). z.leaves) o []) h in
+    not_none : leaves_of t.flat d ≡ [] → ⊥
+    not_none leaves =
         let all = ends (system t) in
         let none : regions (system t) d ≡ [] = ap (λ ls. regions_in t.flat t.settled (domain_threads t.flat all ls) (domain_windows t.flat all ls)) leaves in
         let P : List Region → Type 0 = λ z. slice_get z n ≡ Some r in

@@ -5,9 +5,7 @@ use Rattle.std.specs.Option.{option_map_or}
 use Rattle.adl_meaning.specs.declared.connector.Connector.TheVariants.{Mmio}
 use Rattle.adl_meaning.specs.declared.flat.Domain.{Domain}
 use Rattle.adl_meaning.specs.declared.flat.FlatConnection.{FlatConnection}
-use Rattle.adl_ast.specs.declared.composition.Role.{Role}
-use Rattle.adl_ast.specs.declared.composition.Role.TheVariants.{From, To}
-use Rattle.adl_meaning.specs.declared.connector.Connector.{Connector}
+use Rattle.adl_ast.specs.declared.composition.Role.TheVariants.{From}
 use Rattle.arch_policy.specs.Ends.{EndAt}
 use Rattle.arch_policy.specs.Gives.{gives, opposite}
 use Rattle.arch_policy.specs.Reasons.{AtOtherEnd, LeadsTo}
@@ -18,7 +16,6 @@ use Rattle.cap_model.specs.Kinds.{kind_at, kind_of_object}
 use Rattle.cap_model.specs.declared.cap.Cap.{Cap}
 use Rattle.cap_model.specs.declared.kind.Kind.TheVariants as kinds
 use Rattle.cap_model.specs.declared.object.Object.TheVariants as objects
-use Rattle.conn_rules.specs.Ends.{end_rule}
 use Rattle.conn_rules.specs.declared.rule.ObjectKind.{ObjectKind}
 use Rattle.conn_rules.specs.declared.rule.ObjectKind.TheVariants.{OfFrames, OfDevice}
 use Rattle.cspace_layout.specs.declared.end_at.EndAt.{EndAt as Joined}
@@ -45,13 +42,10 @@ use Rattle.spec_laws.specs.Connected.{IsConnected}
 use Rattle.spec_laws.specs.Policy.{policy_tables}
 use Rattle.spec_laws.proofs.EndsHere.{from_windows, in_windows, joined, leaves_are}
 use Rattle.spec_laws.proofs.EdgeJoints.{in_its_domain, leaf_of_domain, one_end}
-use Rattle.spec_laws.proofs.Mapped.{IsPage, OfWindow, Sees, first_page, from_mapped, from_pages, in_pages, laid, own_frame, sees_device, sees_shared, window_there}
+use Rattle.spec_laws.proofs.Mapped.{IsPage, OfWindow, Sees, first_page, from_mapped, from_pages, hard_to, in_pages, laid, own_frame, sees_device, sees_shared, window_there}
 use Rattle.spec_laws.proofs.Rows.{seen_by, seen_window, window_sees, window_soft}
 use Rattle.spec_laws.proofs.TablesHere.{in_table, page_held}
 use Rattle.spec_laws.proofs.Whose.{label_there, labels, owner_of}
-
-rule_is : (c : Connector) (r : Role) → c ≡ Mmio → r ≡ To → (end_rule c r).hardware ≡ true
-rule_is c r e f = ap (λ z. (end_rule z r).hardware) e ∙ ap (λ z. (end_rule Mmio z).hardware) f
 
 module _ (t : Tables) (h : IsConnected t) where
   -- rights by access
@@ -153,7 +147,7 @@ module _ (t : Tables) (h : IsConnected t) where
       hard x o e f =
           let both : Some o.at.connection ≡ Some x.connection = sym o.at.here ∙ ap (λ z. slice_get t.flat.connections z) o.same ∙ x.here in
           let same : o.at.connection ≡ x.connection = cc in
-          rule_is o.at.connection.connector o.at.end.role (ap (λ (z : FlatConnection). z.connector) same ∙ e) (o.role ∙ ap opposite f)
+          hard_to o.at.connection.connector o.at.end.role (ap (λ (z : FlatConnection). z.connector) same ∙ e) (o.role ∙ ap opposite f)
 
   every : (x : EndAt t.flat) (o : ObjectKind) (label : ℕ) → gives x.connection.connector x.end.role o Read ≡ true → LeadsTo (policy_tables t) x o label → HasPage (policy_tables t) (spec_of t) (labels t) x o label
   every x o label given to =

@@ -27,5 +27,6 @@ pub record IsConnected (t : Tables) : Type 0 where
   pub slots : t.slots ≡ slots_of t.source t.flat
   pub spaces : t.spaces ≡ spaces_of (given_tables t)
   pub rise : (d : ℕ) → PagesRise (given_tables t) d
-  pub seen : (x : EndAt t.flat) → is_window x.connection.connector x.end.role ≡ true → 0 < memory_pages t.settled x.place x.connection
+  pub seen : (x : EndAt t.flat) → is_window x.connection.connector x.end.role ≡ true
+      → 0 < memory_pages t.settled x.place x.connection
   pub registers : SeeTheSame t

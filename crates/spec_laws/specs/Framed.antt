@@ -51,20 +51,32 @@ OneMemory k c l e = (k ≡ l) ⊎ OneDevice c e
 
 -- the frames that windows show
 pub record AreMemoryFrames (t : Tables) (spec : Spec) (root : ℕ → ℕ) : Type 0 where
-  pub shared : (d e k l i j m n : ℕ) (c f : FlatConnection) → slice_get t.flat.connections k ≡ Some c → slice_get t.flat.connections l ≡ Some f → ShowsMemory t spec root d k i m → ShowsMemory t spec root e l j n → (m ≡ n) ↔ (OneMemory k c l f × (i ≡ j))
-  pub registers : (d k j place : ℕ) (c : FlatConnection) → slice_get t.flat.connections k ≡ Some c → c.connector ≡ Mmio → ShowsMemory t spec root d k j place → object_at spec place ≡ Some (Frame (Some (memory_paddr t.settled k c + 4096 * j)) None)
-  pub plain : (d k j place : ℕ) (c : FlatConnection) → slice_get t.flat.connections k ≡ Some c → c.connector ≡ SharedMemory → ShowsMemory t spec root d k j place → object_at spec place ≡ Some (Frame None None)
+  pub shared : (d e k l i j m n : ℕ) (c f : FlatConnection) → slice_get t.flat.connections k ≡ Some c
+      → slice_get t.flat.connections l ≡ Some f → ShowsMemory t spec root d k i m → ShowsMemory t spec root e l j n
+      → (m ≡ n) ↔ (OneMemory k c l f × (i ≡ j))
+  pub registers : (d k j place : ℕ) (c : FlatConnection) → slice_get t.flat.connections k ≡ Some c → c.connector ≡ Mmio
+      → ShowsMemory t spec root d k j place
+      → object_at spec place ≡ Some (Frame (Some (memory_paddr t.settled k c + 4096 * j)) None)
+  pub plain : (d k j place : ℕ) (c : FlatConnection) → slice_get t.flat.connections k ≡ Some c → c.connector ≡ SharedMemory
+      → ShowsMemory t spec root d k j place → object_at spec place ≡ Some (Frame None None)
 
 -- all others: a page of a section has its fill, and any other page that is no window's has none
 pub record AreOwnFrames (t : Tables) (spec : Spec) (root : ℕ → ℕ) : Type 0 where
-  pub fills : (d v : ℕ) (cap : Cap) (write : Bool) (fill : Option Fill) → IsSectionPage t d (4096 * (v / 4096)) write fill → IsAt spec (root d) v cap → object_at spec cap.object ≡ Some (Frame None fill)
-  pub zeros : (d n v j : ℕ) (r : Region) (cap : Cap) → IsRegionPage t d n (4096 * (v / 4096)) j r → ((e : EndAt) → r.content ≡ Window e → ⊥) → IsAt spec (root d) v cap → object_at spec cap.object ≡ Some (Frame None None)
-  pub once : (d e v w : ℕ) (x y : Domain) (a b : Cap) → slice_get t.flat.domains d ≡ Some x → slice_get t.flat.domains e ≡ Some y → v < root_span (shapes spec.arch) → w < root_span (shapes spec.arch) → IsAt spec (root d) v a → IsAt spec (root e) w b → a.object ≡ b.object → IsOwn t spec root a.object → (d ≡ e) × (v / 4096 ≡ w / 4096)
+  pub fills : (d v : ℕ) (cap : Cap) (write : Bool) (fill : Option Fill) → IsSectionPage t d (4096 * (v / 4096)) write fill
+      → IsAt spec (root d) v cap → object_at spec cap.object ≡ Some (Frame None fill)
+  pub zeros : (d n v j : ℕ) (r : Region) (cap : Cap) → IsRegionPage t d n (4096 * (v / 4096)) j r
+      → ((e : EndAt) → r.content ≡ Window e → ⊥) → IsAt spec (root d) v cap → object_at spec cap.object ≡ Some (Frame None None)
+  pub once : (d e v w : ℕ) (x y : Domain) (a b : Cap) → slice_get t.flat.domains d ≡ Some x
+      → slice_get t.flat.domains e ≡ Some y → v < root_span (shapes spec.arch) → w < root_span (shapes spec.arch)
+      → IsAt spec (root d) v a → IsAt spec (root e) w b → a.object ≡ b.object → IsOwn t spec root a.object
+      → (d ≡ e) × (v / 4096 ≡ w / 4096)
 
 -- each frame is mapped in a space
 abbrev pub AreAllMapped : Tables → Spec → (ℕ → ℕ) → Type 0
 AreAllMapped t spec root =
-    (place : ℕ) (paddr : Option ℕ) (fill : Option Fill) → object_at spec place ≡ Some (Frame paddr fill) → (d v : ℕ) × (x : Domain) × (cap : Cap) × (slice_get t.flat.domains d ≡ Some x) × IsAt spec (root d) v cap × (cap.object ≡ place)
+    (place : ℕ) (paddr : Option ℕ) (fill : Option Fill) → object_at spec place ≡ Some (Frame paddr fill)
+    → (d v : ℕ) × (x : Domain) × (cap : Cap) × (slice_get t.flat.domains d ≡ Some x) × IsAt spec (root d) v cap
+    × (cap.object ≡ place)
 
 pub record AreFrames (t : Tables) (spec : Spec) (root : ℕ → ℕ) : Type 0 where
   pub memory : AreMemoryFrames t spec root

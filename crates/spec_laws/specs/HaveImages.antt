@@ -7,4 +7,5 @@ use Rattle.source_images.specs.declared.images.Images.{Images}
 
 abbrev pub HaveImages : Flat → Images → Type 0
 HaveImages flat images =
-    (leaf d : ℕ) (found : Leaf) → slice_get flat.leaves leaf ≡ Some found → found.domain ≡ Some d → (m : ℕ) × (image_number images leaf ≡ Some m)
+    (leaf d : ℕ) (found : Leaf) → slice_get flat.leaves leaf ≡ Some found → found.domain ≡ Some d
+    → (m : ℕ) × (image_number images leaf ≡ Some m)

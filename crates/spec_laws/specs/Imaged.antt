@@ -20,7 +20,8 @@ use Rattle.spec_laws.specs.Threaded.{AreThreads}
 -- each domain has a root of its own
 pub record AreRoots (t : Tables) (spec : Spec) (root : ℕ → ℕ) : Type 0 where
   pub each : (d : ℕ) (x : Domain) → slice_get t.flat.domains d ≡ Some x → IsRootOf spec d (root d)
-  pub apart : (d e : ℕ) (x y : Domain) → slice_get t.flat.domains d ≡ Some x → slice_get t.flat.domains e ≡ Some y → root d ≡ root e → d ≡ e
+  pub apart : (d e : ℕ) (x y : Domain) → slice_get t.flat.domains d ≡ Some x → slice_get t.flat.domains e ≡ Some y
+      → root d ≡ root e → d ≡ e
 
 -- page tables: of each level those under which a page is mapped, with their domain's label
 pub record AreTables (t : Tables) (spec : Spec) (root : ℕ → ℕ) (labels : Labels) : Type 0 where

@@ -38,13 +38,17 @@ pub record IsWindowLine (t : Tables) (line : MapLine) : Type 0 where
   pub here : slice_get (windows_of (system t) domain) number ≡ Some e
   pub connection : FlatConnection
   pub of_connection : slice_get t.flat.connections e.connection ≡ Some connection
-  pub is : line ≡ WindowLine e.connection e.end (begins t domain (2 * length (threads_of (system t) domain) + number)) (4096 * memory_pages t.settled e.connection connection)
+  pub is : line
+      ≡ WindowLine e.connection e.end (begins t domain (2 * length (threads_of (system t) domain) + number))
+      (4096 * memory_pages t.settled e.connection connection)
 
 abbrev pub SaysWindow : MapLine → Type 0
 SaysWindow (WindowLine k n vaddr bytes) = Unit {0}
 SaysWindow _ = ⊥
 
 pub record AreRegions (t : Tables) (spec : Spec) (root : ℕ → ℕ) (lines : List MapLine) : Type 0 where
-  pub threads : (d i place : ℕ) (x : ThreadOf) (tcb : Tcb) → slice_get (threads_of (system t) d) i ≡ Some x → IsIn (ThreadLine place x.leaf x.end) lines → object_at spec place ≡ Some (Thread tcb) → HasRegions t spec (root d) d i x tcb
+  pub threads : (d i place : ℕ) (x : ThreadOf) (tcb : Tcb) → slice_get (threads_of (system t) d) i ≡ Some x
+      → IsIn (ThreadLine place x.leaf x.end) lines → object_at spec place ≡ Some (Thread tcb)
+      → HasRegions t spec (root d) d i x tcb
   pub windows_only : (line : MapLine) → IsIn line lines → SaysWindow line → IsWindowLine t line
   pub windows_every : (line : MapLine) → IsWindowLine t line → IsIn line lines

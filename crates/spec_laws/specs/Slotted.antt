@@ -144,17 +144,23 @@ IsSlotLine _ = ⊥
 -- ---- all
 
 pub record HasSlots (t : Tables) (spec : Spec) (map : List MapLine) : Type 0 where
-  pub cnodes : (d : ℕ) (x : Domain) → slice_get t.flat.domains d ≡ Some x → IsCNodeOf t spec d (domain_uses t.source t.flat x.leaves)
-  pub irqs : (k : ℕ) (c : FlatConnection) → slice_get t.flat.connections k ≡ Some c → c.connector ≡ Interrupt → (place : ℕ) × IsIrqOf t spec k place
-  pub lines : (n place : ℕ) → IsIn (n, place) spec.irqs → (k : ℕ) × (c : FlatConnection) × (slice_get t.flat.connections k ≡ Some c) × (c.connector ≡ Interrupt) × IsIrqOf t spec k place
+  pub cnodes : (d : ℕ) (x : Domain) → slice_get t.flat.domains d ≡ Some x
+      → IsCNodeOf t spec d (domain_uses t.source t.flat x.leaves)
+  pub irqs : (k : ℕ) (c : FlatConnection) → slice_get t.flat.connections k ≡ Some c → c.connector ≡ Interrupt
+      → (place : ℕ) × IsIrqOf t spec k place
+  pub lines : (n place : ℕ) → IsIn (n, place) spec.irqs
+      → (k : ℕ) × (c : FlatConnection) × (slice_get t.flat.connections k ≡ Some c) × (c.connector ≡ Interrupt)
+      × IsIrqOf t spec k place
   pub map_only : (line : MapLine) → IsIn line map → IsSlotLine line → IsUsed t spec line
   pub map_every : (line : MapLine) → IsUsed t spec line → IsIn line map
 
 -- no two uses have one lock
 abbrev pub OwnLocks : Spec → Type 0
 OwnLocks spec =
-    (d m n : ℕ) (e : ℕ) (a b : Cap) (bits more : ℕ) (slots others : List (ℕ × Cap)) (r s : ℕ) → object_at spec d ≡ Some (CNode bits slots) → object_at spec e ≡ Some (CNode more others) → IsIn (m, a) slots
-    → IsIn (n, b) others → IsNamed spec a.object series.Lock r → IsNamed spec b.object series.Lock s → a.object ≡ b.object → (d ≡ e) × (m ≡ n)
+    (d m n : ℕ) (e : ℕ) (a b : Cap) (bits more : ℕ) (slots others : List (ℕ × Cap)) (r s : ℕ)
+    → object_at spec d ≡ Some (CNode bits slots) → object_at spec e ≡ Some (CNode more others) → IsIn (m, a) slots
+    → IsIn (n, b) others → IsNamed spec a.object series.Lock r → IsNamed spec b.object series.Lock s → a.object ≡ b.object
+    → (d ≡ e) × (m ≡ n)
 
 pub record AreSlots (t : Tables) (spec : Spec) (map : List MapLine) : Type 0 where
   pub has : HasSlots t spec map
@@ -165,5 +171,7 @@ pub record AreSlots (t : Tables) (spec : Spec) (map : List MapLine) : Type 0 whe
 pub record CanSlot (t : Tables) : Type 0 where
   pub slots : t.slots ≡ slots_of t.source t.flat
   pub few : (d : ℕ) (x : Domain) → slice_get t.flat.domains d ≡ Some x → length (domain_uses t.source t.flat x.leaves) < 2 ^ 16
-  pub settled : (k n : ℕ) (c : FlatConnection) (e : FlatEnd) → slice_get t.flat.connections k ≡ Some c → slice_get c.ends n ≡ Some e → (s : EndSetting) × (setting_of t.settled k n ≡ Some s)
-  pub devices : (k : ℕ) (c : FlatConnection) → slice_get t.flat.connections k ≡ Some c → c.connector ≡ Interrupt → (n : ℕ) × (e : FlatEnd) × (device_place c.connector c.ends ≡ Some n) × (slice_get c.ends n ≡ Some e)
+  pub settled : (k n : ℕ) (c : FlatConnection) (e : FlatEnd) → slice_get t.flat.connections k ≡ Some c
+      → slice_get c.ends n ≡ Some e → (s : EndSetting) × (setting_of t.settled k n ≡ Some s)
+  pub devices : (k : ℕ) (c : FlatConnection) → slice_get t.flat.connections k ≡ Some c → c.connector ≡ Interrupt
+      → (n : ℕ) × (e : FlatEnd) × (device_place c.connector c.ends ≡ Some n) × (slice_get c.ends n ≡ Some e)

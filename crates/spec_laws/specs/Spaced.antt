@@ -94,9 +94,13 @@ pub record IsRegionPage (t : Tables) (d n v j : ℕ) (r : Region) : Type 0 where
 -- section may; stacks and buffers may be read and written; windows as their ends' access says
 pub data MapsPage (t : Tables) (d v : ℕ) (read write : Bool) : Type 0 where
   of_section : (fill : Option Fill) → read ≡ true → IsSectionPage t d v write fill → MapsPage t d v read write
-  of_stack : (n j : ℕ) (r : Region) → r.content ≡ Stack → read ≡ true → write ≡ true → IsRegionPage t d n v j r → MapsPage t d v read write
-  of_buffer : (n j : ℕ) (r : Region) → r.content ≡ Buffer → read ≡ true → write ≡ true → IsRegionPage t d n v j r → MapsPage t d v read write
-  of_window : (n j : ℕ) (r : Region) (e : EndAt) (s : EndSetting) → r.content ≡ Window e → setting_of t.settled e.connection e.end ≡ Some s → read ≡ s.read → write ≡ s.write → IsRegionPage t d n v j r → MapsPage t d v read write
+  of_stack : (n j : ℕ) (r : Region) → r.content ≡ Stack → read ≡ true → write ≡ true → IsRegionPage t d n v j r
+      → MapsPage t d v read write
+  of_buffer : (n j : ℕ) (r : Region) → r.content ≡ Buffer → read ≡ true → write ≡ true → IsRegionPage t d n v j r
+      → MapsPage t d v read write
+  of_window : (n j : ℕ) (r : Region) (e : EndAt) (s : EndSetting) → r.content ≡ Window e
+      → setting_of t.settled e.connection e.end ≡ Some s → read ≡ s.read → write ≡ s.write → IsRegionPage t d n v j r
+      → MapsPage t d v read write
 
 abbrev pub memory_rights : Bool → Bool → Rights
 memory_rights read write = record { read = read; write = write; grant = false; reply = false }
@@ -105,15 +109,21 @@ memory_rights read write = record { read = read; write = write; grant = false; r
 
 pub record ArePagesOf (t : Tables) (spec : Spec) (d root : ℕ) : Type 0 where
   -- what stands at an address is a page that is mapped there, with its rights
-  pub only : (v : ℕ) (cap : Cap) → v < root_span (shapes spec.arch) → IsAt spec root v cap → (read write : Bool) × MapsPage t d (4096 * (v / 4096)) read write × (cap.rights ≡ memory_rights read write) × (cap.badge ≡ 0)
+  pub only : (v : ℕ) (cap : Cap) → v < root_span (shapes spec.arch) → IsAt spec root v cap
+      → (read write : Bool) × MapsPage t d (4096 * (v / 4096)) read write × (cap.rights ≡ memory_rights read write)
+      × (cap.badge ≡ 0)
   -- and each page that is mapped stands at its addresses
-  pub every : (v : ℕ) (read write : Bool) → MapsPage t d (4096 * (v / 4096)) read write → (v < root_span (shapes spec.arch)) × ((cap : Cap) × IsAt spec root v cap × (cap.rights ≡ memory_rights read write))
+  pub every : (v : ℕ) (read write : Bool) → MapsPage t d (4096 * (v / 4096)) read write
+      → (v < root_span (shapes spec.arch)) × ((cap : Cap) × IsAt spec root v cap × (cap.rights ≡ memory_rights read write))
   -- by one capability, which leads to a frame
-  pub one : (v : ℕ) (cap more : Cap) → v < root_span (shapes spec.arch) → IsAt spec root v cap → IsAt spec root v more → cap ≡ more
-  pub frames : (v : ℕ) (cap : Cap) → v < root_span (shapes spec.arch) → IsAt spec root v cap → (paddr : Option ℕ) × (fill : Option Fill) × (object_at spec cap.object ≡ Some (Frame paddr fill))
+  pub one : (v : ℕ) (cap more : Cap) → v < root_span (shapes spec.arch) → IsAt spec root v cap → IsAt spec root v more
+      → cap ≡ more
+  pub frames : (v : ℕ) (cap : Cap) → v < root_span (shapes spec.arch) → IsAt spec root v cap
+      → (paddr : Option ℕ) × (fill : Option Fill) × (object_at spec cap.object ≡ Some (Frame paddr fill))
 
 -- a level of tables has one for an address exactly where a page is mapped under it
 abbrev pub AreTablesOf : Tables → Spec → ℕ → ℕ → Type 0
 AreTablesOf t spec d root =
-    (j v : ℕ) (l : Shape) (ls : List Shape) → drop j (shapes spec.arch) ≡ l ∷ ls → v < root_span (shapes spec.arch) → ((n : ℕ) × IsTableFor spec root (l ∷ ls) v n)
+    (j v : ℕ) (l : Shape) (ls : List Shape) → drop j (shapes spec.arch) ≡ l ∷ ls → v < root_span (shapes spec.arch)
+    → ((n : ℕ) × IsTableFor spec root (l ∷ ls) v n)
     ↔ ((w : ℕ) × (read write : Bool) × MapsPage t d w read write × (w / span l ≡ v / span l))

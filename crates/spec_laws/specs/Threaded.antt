@@ -54,8 +54,12 @@ HasThread t leaf None = (found : Leaf) × (d : ℕ) × (slice_get t.flat.leaves 
 HasThread t leaf (Some e) = Serves t leaf e
 
 pub record AreThreads (t : Tables) (spec : Spec) (root : ℕ → ℕ) (lines : List MapLine) : Type 0 where
-  pub only : (tcb leaf : ℕ) (end : Option EndAt) → IsIn (ThreadLine tcb leaf end) lines → HasThread t leaf end × IsThreadOf t spec root leaf tcb
+  pub only : (tcb leaf : ℕ) (end : Option EndAt) → IsIn (ThreadLine tcb leaf end) lines
+      → HasThread t leaf end × IsThreadOf t spec root leaf tcb
   pub every : (leaf : ℕ) (end : Option EndAt) → HasThread t leaf end → (tcb : ℕ) × IsIn (ThreadLine tcb leaf end) lines
-  pub one : (tcb again leaf : ℕ) (end : Option EndAt) → IsIn (ThreadLine tcb leaf end) lines → IsIn (ThreadLine again leaf end) lines → tcb ≡ again
-  pub all : (place : ℕ) (tcb : Tcb) → object_at spec place ≡ Some (Thread tcb) → (leaf : ℕ) × (end : Option EndAt) × IsIn (ThreadLine place leaf end) lines
-  pub apart : (tcb leaf other : ℕ) (end more : Option EndAt) → IsIn (ThreadLine tcb leaf end) lines → IsIn (ThreadLine tcb other more) lines → (leaf ≡ other) × (end ≡ more)
+  pub one : (tcb again leaf : ℕ) (end : Option EndAt) → IsIn (ThreadLine tcb leaf end) lines
+      → IsIn (ThreadLine again leaf end) lines → tcb ≡ again
+  pub all : (place : ℕ) (tcb : Tcb) → object_at spec place ≡ Some (Thread tcb)
+      → (leaf : ℕ) × (end : Option EndAt) × IsIn (ThreadLine place leaf end) lines
+  pub apart : (tcb leaf other : ℕ) (end more : Option EndAt) → IsIn (ThreadLine tcb leaf end) lines
+      → IsIn (ThreadLine tcb other more) lines → (leaf ≡ other) × (end ≡ more)

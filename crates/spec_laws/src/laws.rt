@@ -35,7 +35,8 @@ pub fn tables_stand_where_pages_are_mapped()
     ensures { (t : Tables) → CanMap t → AreTables t (spec_of t) (root_of t) (labels_of t) }
 {}
 
-/// Page k of a shared connection is one frame in all its windows, and page k of a device's registers is one frame, at its address.
+/// Page k of a shared connection is one frame in all its windows, and page k of a device's registers is one frame, at its
+/// address.
 pub fn windows_show_one_memory()
     ensures { (t : Tables) → CanMap t → AreMemoryFrames t (spec_of t) (root_of t) }
 {}

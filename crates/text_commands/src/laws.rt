@@ -50,7 +50,8 @@ pub fn answers_are_one()
 /// and `check` says yes to it where it says yes to any certificate.
 pub fn certificates_are_read_back()
     ensures back { (m : Contents) (old new later last : List ℕ → ℕ) (cdl policy cert : List ℕ) (least : List Edge)
-        (allowed : Allowed) → IsCertified m old new cdl policy (Found (Certified least)) → Holds m cert (text_of (Certified least))
+        (allowed : Allowed)
+        → IsCertified m old new cdl policy (Found (Certified least)) → Holds m cert (text_of (Certified least))
         → IsPolicy m later last policy (Found allowed) → IsCert m later last allowed cert (Found least) }
     ensures decides { (m : Contents) (old new later last : List ℕ → ℕ) (cdl policy cert other : List ℕ) (least : List Edge)
         (names : Names) → IsCertified m old new cdl policy (Found (Certified least)) → Holds m cert (text_of (Certified least))
@@ -64,7 +65,8 @@ pub fn tables_are_read_back()
     ensures { (m : Contents) (old new : List ℕ → ℕ) (elf bytes : List ℕ) (image : Image)
         → IsTabled m old new elf (Found (Tabled image)) → Holds m elf bytes → AreBytes bytes
         → (file : ℕ) (name : List ℕ) (answer : Answer Image (Refused Wrong))
-        → tables.IsRead file name (text_of (Tabled image)) answer → (answer ≡ Found (record image { name = name })) ⊎ (answer ≡ Refusal refused.NoMemory) }
+        → tables.IsRead file name (text_of (Tabled image)) answer
+        → (answer ≡ Found (record image { name = name })) ⊎ (answer ≡ Refusal refused.NoMemory) }
 {}
 
 /// The steps that `audit` prints can be read back. Where contents hold them, and they are at most 100,000, `replay` says that

@@ -1,6 +1,6 @@
 use Rattle.std.proofs.Common.{sym, subst}
 use Rattle.arch_compile.specs.Built.{system_tables}
-use Rattle.arch_compile.specs.LayoutFaults.{images_from}
+use Rattle.arch_compile.specs.LayoutFaults.{images_beside}
 use Rattle.arch_compile.proofs.Facts.{build_facts}
 use Rattle.cap_model.specs.declared.spec.Spec.{Spec}
 use Rattle.reach_laws.specs.Plain.{HoldsPlain}
@@ -12,7 +12,7 @@ use Rattle.camkes_tool.proofs.build_flow.memory_of_builds_is_static.Goals as goa
 pub returns : goal.returns
 returns c = λ root contents b is steps s run.
     let source = b.meaning.source in
-    let images = images_from source is.found in
+    let images = images_beside contents source in
     let facts = build_facts root contents b is in
     let f = facts.faultless in
     let connected = tables_are_connected source images facts.short f.names f.types f.flat f.settings facts.numbered facts.sound facts.space facts.slot facts.page in

@@ -1,13 +1,11 @@
-use Rattle.std.proofs.Common.{◌≡◌, ◌∙◌, map, ap, ap₂, List, [], ◌∷◌, codes, Bor}
+use Rattle.std.proofs.Common.{◌≡◌, ◌∙◌, ap, ap₂, List, [], ◌∷◌, codes, Bor}
 use Rattle.std.proofs.lemmas.Result.{IfOk-weaker}
 use Rattle.clap.specs.Simple.{App}
 use Rattle.clap.specs.Walk.{Text}
 use Rattle.clap.specs.Words.{with_subcommand}
 use Rattle.command_words.specs.Clap.{leaf}
+use Rattle.command_words.proofs.Building.{texts}
 use Rattle.command_words.proofs.reader.program.Goals as goal
-
-abbrev texts : List (Bor Text) → List Text
-texts = map (λ s. s.now)
 
 -- one more command, where what stands before it is known
 more : (a b c : App) (name : Text) (slots : List (Bor Text)) (ids : List Text) → a ≡ b → texts slots ≡ ids → c ≡ with_subcommand a (leaf name (texts slots)) → c ≡ with_subcommand b (leaf name ids)
