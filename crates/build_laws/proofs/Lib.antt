@@ -9,6 +9,7 @@ pub mod LabelNames
 pub mod Labelled
 pub mod LabelsBack
 pub mod ListFaults
+mod OwnersLabels
 pub mod OwnersThere
 pub mod PathLengths
 pub mod PolicyBack

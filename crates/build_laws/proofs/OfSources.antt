@@ -21,7 +21,8 @@ use Rattle.spec_laws.specs.Slotted.{AreSlots, CanSlot}
 use Rattle.spec_laws.specs.Spaced.{root_of}
 use Rattle.system_spec.specs.MapLines.{map_lines}
 use Rattle.system_spec.specs.Made.{labels_of, spec_of}
-use Rattle.build_laws.proofs.Programs.{programs_have_images}
+use Rattle.build_laws.proofs.OwnersLabels.{has_label}
+use Rattle.build_laws.proofs.Programs.{program_is, programs_have_images}
 use Rattle.build_laws.specs.OfSource.{IsOfSource}
 
 module _ (contents : Contents) (s : Source) (images : Images) (facts : AreFacts contents s images) where
@@ -49,7 +50,9 @@ build_of_source root contents b is =
     record {
       images = images;
       read = facts.read;
+      programs = λ leaf found image at runs. program_is contents _ s images facts.read facts.numbered leaf runs.number found image at runs.numbered runs.listed;
       slots = subst (λ z. AreSlots t z b.map) spec_is (subst (AreSlots t (spec_of t)) map_is slots);
       imaged = subst (λ z. AreImages t b.spec (root_of t) z b.map) labels
           (subst (λ z. AreImages t z (root_of t) (labels_of t) b.map) spec_is (subst (AreImages t (spec_of t) (root_of t) (labels_of t)) map_is imaged));
+      labelled = λ at owner path has is_of. has_label s images b is.made at owner path has is_of;
     }

@@ -18,9 +18,9 @@ pub fn programs_have_images()
         → AreImagesOf contents root s (flat_of s) images → HaveImages (flat_of s) images }
 {}
 
-/// The slots of every compiled system, its threads, regions, pages, page tables, frames and map are those of its source, and the
-/// labels that its policy gives to all of these are those of their owners. They are the labels by which the laws of `build_laws`
-/// tell what its policy has and what its threads reach.
+/// The slots of every compiled system, its threads, regions, pages, page tables, frames and map are those of its source, each leaf
+/// runs the program of its component, and the labels that its policy gives to all of these are those of their owners, by their
+/// paths. They are the labels by which the laws of `build_laws` tell what its policy has and what its threads reach.
 pub fn builds_are_those_of_their_source()
     ensures { (root : List ℕ) (contents : Contents) (b : Build) → IsBuildOf root contents b → IsOfSource contents b }
 {}

@@ -23,7 +23,7 @@ use Rattle.cap_machine.specs.declared.step.Step.{Step}
 use Rattle.cap_model.specs.Canonical.{canonical}
 use Rattle.cap_model.specs.declared.spec.Spec.{Spec}
 use Rattle.capdl_text.specs.Texts.{Text}
-use Rattle.policy_text.specs.Lines.{Labels as Names, apart_lines}
+use Rattle.policy_text.specs.EdgeLines.{Labels as Names, apart_lines}
 use Rattle.least_cert.proofs.LeastKeeps.{least_valid, valid_keeps}
 use Rattle.least_cert.specs.LeastCertificate.{IsLeast}
 use Rattle.policy_text.specs.Labelled.{IsLabelling}

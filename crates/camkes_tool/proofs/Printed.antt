@@ -9,7 +9,7 @@ use Rattle.cap_model.specs.declared.spec.Spec.{Spec}
 use Rattle.capdl_text.specs.Texts.{Text}
 use Rattle.command_words.specs.declared.command.Command.{Command}
 use Rattle.command_words.specs.declared.command.Command.TheVariants.{Audit, Certify, Sections}
-use Rattle.policy_text.specs.Lines.{Labels as Names}
+use Rattle.policy_text.specs.EdgeLines.{Labels as Names}
 use Rattle.sect_table.specs.Elf.{Elf}
 use Rattle.std.specs.Prelude.{codes}
 use Rattle.policy_text.specs.Labelled.{IsLabelling}

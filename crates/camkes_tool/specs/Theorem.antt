@@ -50,7 +50,7 @@ use Rattle.cap_model.specs.declared.spec.Spec.{Spec}
 use Rattle.capdl_text.specs.Texts.{Text}
 use Rattle.cert_check.specs.Valid.{Stays}
 use Rattle.cert_check.specs.declared.verdict.Verdict.TheVariants.{Yes}
-use Rattle.policy_text.specs.Lines.{Labels as Names, apart_lines}
+use Rattle.policy_text.specs.EdgeLines.{Labels as Names, apart_lines}
 use Rattle.sect_table.specs.TablesBack.{AreBytes}
 use Rattle.sect_table.specs.Elf.{Elf}
 use Rattle.sect_table.specs.Texts.{table_text}

@@ -2,7 +2,7 @@
 use Rattle.std.proofs.Common.{◌≡◌, ◌<◌, ◌+◌, ℕ, List, [], ◌∷◌, ◌++◌, refl, sym, ◌∙◌, ap, subst, length, take, get_or}
 use Rattle.std.proofs.lemmas.List.{append-nil, append_assoc, take_more}
 use Rattle.cap_model.specs.declared.edge.Edge.{Edge}
-use Rattle.policy_text.specs.Lines.{Labels}
+use Rattle.policy_text.specs.EdgeLines.{Labels}
 use Rattle.label_flow.specs.Told.{AreLines, IsLine}
 
 pub one_more : (edges : List Edge) (labels ms : Labels) (m : ℕ × List ℕ) (text line : List ℕ) → AreLines edges labels ms text → IsLine edges labels m line → AreLines edges labels (ms ++ m ∷ []) (text ++ line)

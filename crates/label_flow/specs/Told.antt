@@ -10,7 +10,7 @@ use Rattle.cap_model.specs.Policies.{label_number}
 use Rattle.cap_model.specs.declared.edge.Edge.{Edge}
 use Rattle.cap_model.specs.declared.policy.Policy.{Policy}
 use Rattle.cam_base.specs.Texts.{together}
-use Rattle.policy_text.specs.Lines.{edge_line, Labels}
+use Rattle.policy_text.specs.EdgeLines.{edge_line, Labels}
 use Rattle.label_flow.specs.declared.told.Told.{Told}
 use Rattle.label_flow.specs.declared.told.Told.TheVariants.{Flows, NoFlow, NoFrom, NoTo}
 use Rattle.label_flow.specs.Chain.{AreSources, IsFlow}

@@ -1,7 +1,7 @@
 //! Chains of edges as lines.
 
 ghost use Rattle.cap_model.specs.Policies.{NumbersDiffer};
-ghost use Rattle.policy_text.specs.Lines.{edge_line, name_of, words_line};
+ghost use Rattle.policy_text.specs.EdgeLines.{edge_line, name_of, words_line};
 ghost use Rattle.label_flow.specs.Told.{chain_text};
 ghost use Rattle.std.specs.Prelude.{◌≡◌, ◌++◌, [], IfOk, OnOk};
 

@@ -11,6 +11,6 @@ pub mod PolicyTexts
 pub mod TextsRead
 pub mod WordSets
 pub mod Writable
-pub mod Lines
+pub mod EdgeLines
 pub use Rattle.cam_base.specs.Lines
 pub use Rattle.cap_model.specs.Policies

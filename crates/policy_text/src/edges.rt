@@ -1,7 +1,7 @@
 //! The writers. After a failure the channel has a front of the text. They take no memory.
 
 ghost use Rattle.cam_io.specs.Sinks.{IsOpen, Writes};
-ghost use Rattle.policy_text.specs.Lines.{apart_line, apart_lines, edge_line, words_line};
+ghost use Rattle.policy_text.specs.EdgeLines.{apart_line, apart_lines, edge_line, words_line};
 
 use crate::Names;
 use cam_io::{Failed, Outputs, write_all, write_parts};

@@ -2,7 +2,7 @@
 //!
 //! Nothing here asks what a policy allows or what confers an authority. What a text says, and which fault stands in it first,
 //! is in `specs/PolicyTexts.antt` and the files that it names; the one text that is written in `specs/PolicyLines.antt`; the
-//! labels of objects in `specs/Labelled.antt`; edges by the names of labels in `specs/Lines.antt`.
+//! labels of objects in `specs/Labelled.antt`; edges by the names of labels in `specs/EdgeLines.antt`.
 #![tactic(auto)]
 
 mod edges;

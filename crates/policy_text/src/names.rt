@@ -1,6 +1,6 @@
 ghost use Rattle.cap_model.specs.Policies.{NumbersDiffer};
 ghost use Rattle.std.specs.Prelude.{◌≡◌};
-ghost use Rattle.policy_text.specs.Lines.{name_of};
+ghost use Rattle.policy_text.specs.EdgeLines.{name_of};
 
 use cap_model::Policy;
 use std::marker::Model;

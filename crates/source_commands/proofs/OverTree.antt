@@ -26,7 +26,7 @@ use Rattle.cap_model.specs.Edges.{edge}
 use Rattle.cap_model.specs.declared.authority.Authority.{Authority}
 use Rattle.cap_model.specs.declared.edge.Edge.{Edge}
 use Rattle.cam_io.specs.Contents.{Contents}
-use Rattle.policy_text.specs.Lines.{Labels, apart_line, edge_line, name_of, words_line}
+use Rattle.policy_text.specs.EdgeLines.{Labels, apart_line, edge_line, name_of, words_line}
 use Rattle.explain.specs.Explained.{IsAsked}
 use Rattle.flat_laws.proofs.FewEnds.{no_first}
 use Rattle.front_end.proofs.LoadedShort.{loaded_short, short_spelled}

@@ -8,7 +8,7 @@ use Rattle.assigned_laws.specs.Triples.{AreAll, Triple}
 use Rattle.cap_model.specs.Authorities.{authority_of, text_of}
 use Rattle.cap_model.specs.declared.authority.Authority.{Authority}
 use Rattle.cam_io.specs.Contents.{Contents}
-use Rattle.policy_text.specs.Lines.{words_line}
+use Rattle.policy_text.specs.EdgeLines.{words_line}
 
 -- `drv Read buf`
 abbrev pub triple_line : Triple → List ℕ

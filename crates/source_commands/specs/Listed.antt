@@ -7,7 +7,7 @@ use Rattle.arch_policy.specs.Labels.{label_lines}
 use Rattle.arch_policy.specs.Policies.{IsPolicyOf}
 use Rattle.cap_model.specs.Tables.{IsSorted}
 use Rattle.cam_io.specs.Contents.{Contents}
-use Rattle.policy_text.specs.Lines.{apart_lines}
+use Rattle.policy_text.specs.EdgeLines.{apart_lines}
 use Rattle.front_end.specs.First.{first_list_fault, source_tables}
 use Rattle.front_end.specs.Refusals.{Refuses}
 use Rattle.front_end.specs.declared.error.BuildError.{BuildError}

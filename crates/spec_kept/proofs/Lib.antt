@@ -1,4 +1,4 @@
-mod Names
+pub mod Names
 mod Sections
 pub mod Telling
 pub mod Uses

@@ -5,7 +5,7 @@ use Rattle.std.proofs.lemmas.Bool.{cases_lt}
 use Rattle.cam_base.specs.Gather.{before, gather}
 use Rattle.cam_base.proofs.Gathered.{length_append}
 
-behind : {X Y : Type 0} (f : ℕ → X → List Y) (xs : List X) (a b : ℕ) (x : X) → slice_get xs a ≡ Some x → a < b → before f xs a + length (f a x) ≤ before f xs b
+pub behind : {X Y : Type 0} (f : ℕ → X → List Y) (xs : List X) (a b : ℕ) (x : X) → slice_get xs a ≡ Some x → a < b → before f xs a + length (f a x) ≤ before f xs b
 behind f [] a b x e l = cc
 behind f (y ∷ xs) a zero x e l = absurd (omega (arith, l))
 behind {X} f (y ∷ xs) zero (suc b) x e l =

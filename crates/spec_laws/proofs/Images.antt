@@ -12,8 +12,10 @@ use Rattle.spec_laws.specs.Slotted.{CanSlot}
 use Rattle.spec_laws.specs.Spaced.{root_of}
 use Rattle.spec_laws.proofs.AllFrames.{all_frames}
 use Rattle.spec_laws.proofs.DomainLines.{domains_are}
+use Rattle.spec_laws.proofs.FramesInOrder.{frames_in_order}
 use Rattle.spec_laws.proofs.Irqs.{irqs_are}
 use Rattle.spec_laws.proofs.Joints.{endpoints_are, notifications_are}
+use Rattle.spec_laws.proofs.Kinding.{kinds_are}
 use Rattle.spec_laws.proofs.Labels.{domain_labels, frame_labels}
 use Rattle.spec_laws.proofs.Owning.{own_frames_are}
 use Rattle.spec_laws.proofs.Regioning.{regions_are}
@@ -21,6 +23,7 @@ use Rattle.spec_laws.proofs.Roots.{roots_are}
 use Rattle.spec_laws.proofs.Showing.{memory_frames}
 use Rattle.spec_laws.proofs.Spaces.{pages_are}
 use Rattle.spec_laws.proofs.Tabled.{tables_are}
+use Rattle.spec_laws.proofs.TablesInOrder.{tables_in_order}
 use Rattle.spec_laws.proofs.Threading.{threads_hold}
 
 as_many : {X Y Z : Type 0} (f : X → Y) (g : X → Z) (xs : List X) → length (map f xs) ≡ length (map g xs)
@@ -34,6 +37,7 @@ named t (p ∷ ps) = ap (λ z. part_name p ∷ z) (named t ps)
 pub images_are : (t : Tables) → CanMap t → CanSlot t → AreImages t (spec_of t) (root_of t) (labels_of t) (map_lines t)
 images_are t can slotted = record {
   named = named t (parts t);
+  kinds = kinds_are t;
   domains = domains_are t;
   roots = roots_are t can;
   pages = λ d x h. pages_are t can d x h;
@@ -47,4 +51,6 @@ images_are t can slotted = record {
     of_joints = record { endpoints = endpoints_are t can; notifications = notifications_are t can; irqs = irqs_are t can };
     of_frames = frame_labels t can;
   };
+  tables_ordered = tables_in_order t can;
+  frames_ordered = frames_in_order t can;
 }

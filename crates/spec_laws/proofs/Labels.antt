@@ -47,7 +47,7 @@ use Rattle.spec_laws.proofs.Rooted.{frames_from}
 use Rattle.spec_laws.proofs.Showing.{memory_shown}
 use Rattle.spec_laws.proofs.SlotLists.{some}
 use Rattle.spec_laws.proofs.Threading.{domain_is, the_line}
-use Rattle.spec_laws.proofs.Threads.{thread_part}
+use Rattle.spec_laws.proofs.Threads.{thread_part, threads_before}
 
 -- a part has its owner's label
 pub label_is : (t : Tables) (p : Part) → IsIn p (parts t) → IsOf t (labels_of t) (place t p.what) p.owner
@@ -82,7 +82,7 @@ module _ (t : Tables) (can : CanMap t) where
       let same : l.domain ≡ d = cc in
       let a = thread_part t can l.domain l.number l.leaves l.y l.here l.stands in
       let P : ℕ → Type 0 = λ z. IsOf t (labels_of t) at (owners.OfDomain z) in
-      subst P same (moved t (place t (OfThread l.domain l.number)) at (owners.OfDomain l.domain) l.at_is (label_is t (part series.Tcb a.0 (owners.OfDomain l.domain) (OfThread l.domain l.number)) a.1))
+      subst P same (moved t (place t (OfThread l.domain l.number)) at (owners.OfDomain l.domain) l.at_is (label_is t (part series.Tcb (threads_before t can l.domain l.number) (owners.OfDomain l.domain) (OfThread l.domain l.number)) a))
 
   locks : CanSlot t → (d bits m number : ℕ) (slots : List (ℕ × Cap)) (cap : Cap) → object_at (spec_of t) d ≡ Some (objects.CNode bits slots) → IsIn (m, cap) slots → IsNamed (spec_of t) cap.object series.Lock number → IsOf t (labels_of t) cap.object (owners.OfDomain d)
   locks slotted d bits m number slots cap o i n =

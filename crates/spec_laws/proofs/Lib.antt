@@ -3,13 +3,16 @@ pub mod Blocks
 pub mod DomainLines
 pub mod EndsAt
 pub mod Finding
+pub mod FramesInOrder
 pub mod Framing
 pub mod Images
 pub mod Irqs
 pub mod Joints
+pub mod Kinding
 pub mod Labels
 pub mod Locks
 pub mod Members
+pub mod Numbering
 pub mod Once
 pub mod Owning
 pub mod Paging
@@ -23,6 +26,7 @@ pub mod Slots
 pub mod Slotting
 pub mod Spaces
 pub mod Tabled
+pub mod TablesInOrder
 pub mod Threading
 pub mod Threads
 pub mod Whats

@@ -1,5 +1,5 @@
 -- Lists: what stands in them, and numbers that rise.
-use Rattle.std.proofs.Common.{◌≡◌, ◌<◌, ◌+◌, ◌∙◌, ℕ, zero, suc, List, [], ◌∷◌, map, Some, refl, ap, inl, arith}
+use Rattle.std.proofs.Common.{◌≡◌, ◌<◌, ◌≤◌, ◌+◌, ◌∙◌, ℕ, zero, suc, List, [], ◌∷◌, map, Some, refl, sym, ap, inl, arith}
 use Rattle.std.specs.List.{range_with_len, slice_get}
 use Rattle.cam_base.specs.Gather.{IsIn}
 use Rattle.page_tables.specs.Runs.{Rises}
@@ -36,3 +36,19 @@ rises_tell {X} f (z ∷ zs) (suc i) zero x y r e g same =
     let less : f z < f x = above f z zs i x r e in
     absurd (omega (arith, less, number, same))
 rises_tell f (z ∷ zs) (suc i) (suc j) x y r e g same = rises_tell f zs i j x y r.1 e g same
+
+-- what stands no later is no more
+pub not_above : {X : Type 0} (f : X → ℕ) (xs : List X) (i j : ℕ) (x y : X) → Rises (map f xs) → slice_get xs i ≡ Some x → slice_get xs j ≡ Some y → i ≤ j → f x ≤ f y
+not_above f [] i j x y r e g l = cc
+not_above {X} f (z ∷ zs) zero zero x y r e g l =
+    let a : z ≡ x = cc in
+    let b : z ≡ y = cc in
+    let same : f x ≡ f y = ap f (sym a ∙ b) in
+    omega (arith, same)
+not_above {X} f (z ∷ zs) zero (suc j) x y r e g l =
+    let is : z ≡ x = cc in
+    let number : f z ≡ f x = ap f is in
+    let less : f z < f y = above f z zs j y r g in
+    omega (arith, less, number)
+not_above f (z ∷ zs) (suc i) zero x y r e g l = absurd (omega (arith, l))
+not_above f (z ∷ zs) (suc i) (suc j) x y r e g l = not_above f zs i j x y r.1 e g (omega (arith, l))

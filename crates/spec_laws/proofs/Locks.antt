@@ -19,7 +19,7 @@ use Rattle.cspace_layout.specs.declared.plan.SlotUse.{SlotUse}
 use Rattle.cspace_layout.specs.declared.plan.SlotUse.TheVariants.{OfEnd, Handler, OwnLock}
 use Rattle.cspace_layout.specs.declared.plan.Slots.{Slots}
 use Rattle.cspace_layout.specs.Uses.{domain_uses, plan_of}
-use Rattle.cam_base.specs.Gather.{IsIn, gather}
+use Rattle.cam_base.specs.Gather.{IsIn, before, gather}
 use Rattle.cam_base.proofs.Gathered.{from_gather, in_gather, in_place, place_of}
 use Rattle.page_tables.specs.declared.layer.Layer.{Layer}
 use Rattle.page_tables.specs.Levels.{layers, numbered as in_levels, sizes, table_of}
@@ -38,9 +38,10 @@ use Rattle.system_spec.specs.Tables.{Tables, arch, irq_owner, pages_at, threads_
 use Rattle.system_spec.proofs.Objects.{in_together, objects_stand}
 use Rattle.system_spec.proofs.Standing.{place_is, stands}
 use Rattle.system_spec.proofs.There.{single}
-use Rattle.spec_laws.specs.Slotted.{CanSlot, IsJoint, IsNamed, OwnLocks}
+use Rattle.spec_laws.specs.Slotted.{CanSlot, IsJoint, IsNamed, OwnLocks, interrupt}
 use Rattle.spec_laws.proofs.SlotLists.{some}
-use Rattle.spec_laws.proofs.Slotting.{cap_is, has_irq, of_handler, of_use as from_use, uses_are}
+use Rattle.spec_laws.proofs.Numbering.{irq_part}
+use Rattle.spec_laws.proofs.Slotting.{cap_is, of_handler, of_use as from_use, uses_are}
 use Rattle.cam_base.proofs.NumberedLists.{from_get_map}
 use Rattle.cap_model.proofs.Eaches.{Each}
 
@@ -165,8 +166,9 @@ module _ (t : Tables) (can : CanSlot t) where
   of_use d n r x (OfEnd k l) h e name = let c = cap_is t can d n x (OfEnd k l) h e in absurd (no_joint spec (use_cap t d n (OfEnd k l)).object k r c.connection.connector c.joint name)
   of_use d n r x (Handler k l) h e name =
       let c = handled d n k l x h e in
-      let j = has_irq t can k c.connection c.here c.is_interrupt in
-      absurd (no_irq j.0 r (sym ((objects_stand t).name (part series.Irq j.0 (irq_owner k c.connection) (IrqOf k)) j.1) ∙ ap (λ z. name_at spec z) (sym c.leads) ∙ name))
+      let n = before interrupt t.flat.connections k in
+      let j = irq_part t k c.connection c.here c.is_interrupt in
+      absurd (no_irq n r (sym ((objects_stand t).name (part series.Irq n (irq_owner k c.connection) (IrqOf k)) j) ∙ ap (λ z. name_at spec z) (sym c.leads) ∙ name))
   of_use d n r x (OwnLock leaf l) h e name = let j = lock_there d n leaf l x h e in record { number = n; slot = refl; named = j.0; there = j.1; leads = refl }
 
   no_uses : (d : ℕ) → slice_get t.flat.domains d ≡ None → uses_at t d ≡ []

@@ -51,7 +51,7 @@ leaf_domain t d leaf i = has_domain t d (λ none. let P : List ℕ → Type 0 = 
 abbrev pub own_of : ℕ → ℕ → MappedPage → List FrameInfo
 own_of d n p = own_frame d p.shown
 
-one_own : (d : ℕ) (p : MappedPage) (fill : Option Fill) → p.shown ≡ Own fill → length (own_frame d p.shown) ≡ 1
+pub one_own : (d : ℕ) (p : MappedPage) (fill : Option Fill) → p.shown ≡ Own fill → length (own_frame d p.shown) ≡ 1
 one_own d p fill e = ap (λ z. length (own_frame d z)) e
 
 module _ (t : Tables) (can : CanMap t) where
@@ -113,7 +113,7 @@ module _ (t : Tables) (can : CanMap t) where
             names = refl;
           }))
 
-  inside_own : (d n : ℕ) (x : Domain) (p : MappedPage) (fill : Option Fill) → slice_get (pages d) n ≡ Some p → p.shown ≡ Own fill → before (own_of d) (pages d) n < length (own_frames (system t) d x)
+  pub inside_own : (d n : ℕ) (x : Domain) (p : MappedPage) (fill : Option Fill) → slice_get (pages d) n ≡ Some p → p.shown ≡ Own fill → before (own_of d) (pages d) n < length (own_frames (system t) d x)
   inside_own d n x p fill e f =
       let a = inside (own_of d) (pages d) n p e in
       let b = one_own d p fill f in

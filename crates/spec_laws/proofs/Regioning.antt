@@ -43,7 +43,6 @@ use Rattle.vspace_layout.specs.Laid.{page, space, thread_place, window_at}
 use Rattle.vspace_layout.specs.MappedPages.{mapped_pages, region_page}
 use Rattle.vspace_layout.specs.Memory.{memory_pages}
 use Rattle.vspace_layout.specs.Regions.{domain_windows as windows_in, region, thread_regions, threads_of, window_region, windows_of}
-use Rattle.vspace_layout.specs.Threads.{domain_threads as threads_in}
 use Rattle.spec_laws.specs.CanMap.{CanMap}
 use Rattle.spec_laws.specs.Regioned.{AreRegions, HasRegions, IsWindowLine, SaysWindow}
 use Rattle.spec_laws.specs.Spaced.{IsAt, IsRegionPage, begins, root_of, system}
@@ -52,7 +51,7 @@ use Rattle.spec_laws.proofs.Paging.{has_domain, region_in, window_is}
 use Rattle.spec_laws.proofs.Rooted.{frames_from}
 use Rattle.spec_laws.proofs.SlotLists.{some}
 use Rattle.spec_laws.proofs.Spaces.{is_at, rises_tell}
-use Rattle.spec_laws.proofs.Threading.{one_line}
+use Rattle.spec_laws.proofs.Threading.{one_line, thread_domain}
 use Rattle.spec_laws.proofs.Threads.{has_thread, line_to, thread_object}
 
 -- ---- what is found by a test that single alone passes
@@ -88,15 +87,6 @@ same_thread : (a b : Tcb) (o : Option _) → o ≡ Some (objects.Thread a) → o
 same_thread a b o e f = cc
 
 module _ (t : Tables) (can : CanMap t) where
-  thread_domain : (d i : ℕ) (y : ThreadOf) → slice_get (threads_of (system t) d) i ≡ Some y → (x : Domain) × (slice_get t.flat.domains d ≡ Some x)
-  thread_domain d i y e = has_domain t d not_none
-    where
-      not_none : leaves_of t.flat d ≡ [] → ⊥
-      not_none leaves =
-          let none : threads_of (system t) d ≡ [] = ap (λ ls. threads_in t.flat (ends (system t)) ls) leaves in
-          let P : List ThreadOf → Type 0 = λ z. slice_get z i ≡ Some y in
-          let f = subst P none e in cc
-
   window_domain : (d i : ℕ) (y : EndAt) → slice_get (windows_of (system t) d) i ≡ Some y → (x : Domain) × (slice_get t.flat.domains d ≡ Some x)
   window_domain d i y e = has_domain t d not_none
     where
@@ -166,7 +156,7 @@ module _ (t : Tables) (can : CanMap t) where
 
   of_threads : (d i at : ℕ) (y : ThreadOf) (c : Tcb) → slice_get (threads_of (system t) d) i ≡ Some y → IsIn (ThreadLine at y.leaf y.end) (map_lines t) → object_at (spec_of t) at ≡ Some (objects.Thread c) → HasRegions t (spec_of t) (root_of t d) d i y c
   of_threads d i at y c e line o =
-      let x = thread_domain d i y e in
+      let x = thread_domain t can d i y e in
       let here = one_line t can at (place t (OfThread d i)) y.leaf y.end line (line_to t can d i x.0 y x.1 e) in
       let made = tcb t d (thread_place (system t) d i y) in
       let same : made ≡ c = same_thread made c (object_at (spec_of t) at) (ap (λ z. object_at (spec_of t) z) here ∙ thread_object t can d i x.0 y x.1 e) o in

@@ -38,13 +38,13 @@ root_named Aarch64 = refl
 
 -- ---- counts
 
-abbrev ones : {X : Type 0} → (X → Bool) → X → ℕ
+abbrev pub ones : {X : Type 0} → (X → Bool) → X → ℕ
 ones p x = cond (p x) 1 0
 
 count_append : {X : Type 0} (p : X → Bool) (xs ys : List X) → count_by p (xs ++ ys) ≡ count_by p xs + count_by p ys
 count_append p xs ys = sum_by-append (ones p) xs ys
 
-count_cons : {X : Type 0} (p : X → Bool) (x : X) (xs : List X) → count_by p (x ∷ xs) ≡ ones p x + count_by p xs
+pub count_cons : {X : Type 0} (p : X → Bool) (x : X) (xs : List X) → count_by p (x ∷ xs) ≡ ones p x + count_by p xs
 count_cons p x xs = sum_by-cons (ones p) x xs
 
 abbrev at_level : Level → Object → Bool

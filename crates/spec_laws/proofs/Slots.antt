@@ -1,14 +1,17 @@
 -- The slots of a system are those of its source
 use Rattle.std.proofs.Common.{◌≡◌, ◌+◌, ℕ, List, [], ◌∷◌, ◌++◌, length, Option, Some, refl, sym, ◌∙◌, ap, subst, inl, inr, arith}
 use Rattle.std.specs.List.{slice_get}
+use Rattle.std.specs.Option.{option_and_then, option_map_or}
 use Rattle.adl_meaning.specs.declared.connector.Connector.{Connector}
 use Rattle.adl_meaning.specs.declared.connector.Connector.TheVariants.{Rpc, Notification as Notifies, SharedMemory, Mmio, Interrupt, Direct}
 use Rattle.adl_meaning.specs.declared.flat.Domain.{Domain}
 use Rattle.adl_meaning.specs.declared.flat.FlatConnection.{FlatConnection}
+use Rattle.adl_meaning.specs.declared.settled.EndSetting.{EndSetting}
 use Rattle.cap_model.specs.declared.cap.Cap.{Cap}
 use Rattle.cap_model.specs.declared.object.Object.{Object}
 use Rattle.cap_model.specs.declared.object.Object.TheVariants as objects
 use Rattle.cap_model.specs.declared.spec.Spec.{Spec}
+use Rattle.cspace_layout.specs.Lookups.{setting_of}
 use Rattle.cspace_layout.specs.declared.plan.SlotUse.{SlotUse}
 use Rattle.cspace_layout.specs.declared.plan.SlotUse.TheVariants.{OfEnd, Handler, OwnLock}
 use Rattle.cam_base.specs.Gather.{IsIn, gather}
@@ -25,7 +28,7 @@ use Rattle.system_spec.specs.Objects.{line_by, lines, slots_at, use_cap}
 use Rattle.system_spec.specs.Parts.{place}
 use Rattle.system_spec.specs.Tables.{Tables, irq_number, threads_at, uses_at, windows_at}
 use Rattle.system_spec.proofs.There.{single}
-use Rattle.spec_laws.specs.Slotted.{CanSlot, HasSlots, IsIrqOf, IsLineOf, IsSlotLine, IsUsed}
+use Rattle.spec_laws.specs.Slotted.{CanSlot, HasSlots, IsIrqLine, IsIrqOf, IsLineOf, IsSlotLine, IsUsed}
 use Rattle.spec_laws.proofs.SlotLists.{from_order, some}
 use Rattle.spec_laws.proofs.Slotting.{cnode_object, irq_is, slotted, uses_are}
 
@@ -35,17 +38,26 @@ module _ (t : Tables) (can : CanSlot t) where
 
   -- ---- interrupt lines
 
-  lines_are : (n at : ℕ) → IsIn (n, at) (lines t) → (k : ℕ) × (c : FlatConnection) × (slice_get t.flat.connections k ≡ Some c) × (c.connector ≡ Interrupt) × IsIrqOf t spec k at
+  -- an interrupt's number is the settled one
+  set_number : (k at : ℕ) (c : FlatConnection) → slice_get t.flat.connections k ≡ Some c → (w : IsIrqOf t spec k at) → irq_number t.settled k c ≡ w.setting.irq
+  set_number k at c h w =
+      let same : w.connection ≡ c = some (slice_get t.flat.connections k) w.connection c w.here h in
+      ap (irq_number t.settled k) (sym same)
+      ∙ ap (λ o. option_map_or (λ (z : EndSetting). z.irq) (option_and_then (setting_of t.settled k) o) 0) w.device
+      ∙ ap (λ o. option_map_or (λ (z : EndSetting). z.irq) o 0) w.settled
+
+  lines_are : (n at : ℕ) → IsIn (n, at) (lines t) → IsIrqLine t spec n at
   lines_are n at i =
       let F : ℕ → FlatConnection → List (ℕ × ℕ) = λ k c. line_by t k c c.connector in
       let a = from_gather F (n, at) t.flat.connections (from_order (n, at) (gather F t.flat.connections) i) in
       by_kind a.0 a.1 a.2 a.1.connector refl a.3
     where
-      by_kind : (k : ℕ) (c : FlatConnection) → slice_get t.flat.connections k ≡ Some c → (m : Connector) → c.connector ≡ m → IsIn (n, at) (line_by t k c m) → (l : ℕ) × (d : FlatConnection) × (slice_get t.flat.connections l ≡ Some d) × (d.connector ≡ Interrupt) × IsIrqOf t spec l at
+      by_kind : (k : ℕ) (c : FlatConnection) → slice_get t.flat.connections k ≡ Some c → (m : Connector) → c.connector ≡ m → IsIn (n, at) (line_by t k c m) → IsIrqLine t spec n at
       by_kind k c h Interrupt e j =
           let line : ℕ × ℕ = (irq_number t.settled k c, place t (IrqOf k)) in
           let same : line ≡ (n, at) = single line (n, at) j in
-          (k, c, h, e, subst (IsIrqOf t spec k) (ap (λ (z : ℕ × ℕ). z.1) same) (irq_is t can k c h e))
+          let P : ℕ × ℕ → Type 0 = λ z. IsIrqLine t spec z.0 z.1 in
+          subst P same (record { k = k; connection = c; here = h; is_interrupt = e; irq = irq_is t can k c h e; number = set_number k (place t (IrqOf k)) c h (irq_is t can k c h e) })
       by_kind k c h Rpc e j = absurd j
       by_kind k c h Notifies e j = absurd j
       by_kind k c h SharedMemory e j = absurd j

@@ -27,21 +27,20 @@ use Rattle.cspace_layout.specs.Uses.{domain_uses, end_uses, joined_uses, leaf_us
 use Rattle.cspace_layout.specs.LeafEnds.{joins}
 use Rattle.cspace_layout.specs.Lookups.{end_in, end_of, setting_of}
 use Rattle.cspace_layout.specs.Members.{is_lock, leaf_members}
-use Rattle.cam_base.specs.Gather.{IsIn, gather}
-use Rattle.cam_base.proofs.Gathered.{from_gather, gather_ones, in_append, in_gather, in_place, place_of}
+use Rattle.cam_base.specs.Gather.{IsIn, before, gather}
+use Rattle.cam_base.proofs.Gathered.{from_gather, gather_ones, in_append, in_gather, in_place}
 use Rattle.cam_base.proofs.NumberedLists.{get_map}
-use Rattle.system_spec.specs.declared.part.Owned.{Owned}
-use Rattle.system_spec.specs.declared.part.Part.{Part}
 use Rattle.system_spec.specs.declared.part.What.TheVariants.{CNodeOf, EndpointOf, IrqOf, LockOf, NotificationOf}
 use Rattle.system_spec.specs.declared.series.Series.TheVariants as series
 use Rattle.system_spec.specs.Bits.{bits_for}
 use Rattle.system_spec.specs.Made.{spec_of}
 use Rattle.system_spec.specs.Objects.{badge_at, end_rights, first_rights, joint as joint_at, joint_by, line_by, lines, rights_at, role_badge, settled_badge, slots_at, use_cap}
-use Rattle.system_spec.specs.Parts.{domain_locks, irq, irq_by, irqs, lock, locks, notification_by, numbered, owned, part, parts, place, sections}
+use Rattle.system_spec.specs.Parts.{notification_by, part, place}
 use Rattle.system_spec.specs.Tables.{Tables, irq_number, irq_owner, uses_at}
 use Rattle.system_spec.proofs.LeastBits.{least}
-use Rattle.system_spec.proofs.Objects.{in_together, objects_stand, parts_are_there}
-use Rattle.spec_laws.specs.Slotted.{CanSlot, IsBadge, IsCNodeOf, IsCapOf, IsEndCap, IsHandlerCap, IsIrqOf, IsJoint, IsLockCap, IsNamed}
+use Rattle.system_spec.proofs.Objects.{objects_stand, parts_are_there}
+use Rattle.spec_laws.specs.Slotted.{CanSlot, IsBadge, IsCNodeOf, IsCapOf, IsEndCap, IsHandlerCap, IsIrqOf, IsJoint, IsLockCap, IsNamed, interrupt}
+use Rattle.spec_laws.proofs.Numbering.{irq_part, lock_part}
 use Rattle.spec_laws.proofs.SlotLists.{order_has}
 
 -- ---- where uses come from
@@ -218,20 +217,10 @@ module _ (t : Tables) (can : CanSlot t) where
         badge = badge k m o.connection o.end here stands;
       }
 
-  -- the interrupt of a connection is a part, under some number
-  pub has_irq : (k : ℕ) (c : FlatConnection) → slice_get t.flat.connections k ≡ Some c → c.connector ≡ Interrupt → (j : ℕ) × IsIn (part series.Irq j (irq_owner k c) (IrqOf k)) (parts t)
-  has_irq k c h e =
-      let x = owned (irq_owner k c) (IrqOf k) in
-      let P : Connector → Type 0 = λ n. IsIn x (irq_by k (irq_owner k c) n) in
-      let i = in_gather irq x t.flat.connections k c h (subst P (sym e) (inl refl)) in
-      let j = place_of x (irqs t) i in
-      let f : ℕ → Owned → List Part = λ n z. part series.Irq n z.owner z.what ∷ [] in
-      (j.0, in_together (sections t) 5 (numbered series.Irq (irqs t)) (part series.Irq j.0 (irq_owner k c) (IrqOf k)) refl (in_gather f (part series.Irq j.0 (irq_owner k c) (IrqOf k)) (irqs t) j.0 x j.1 (inl refl)))
-
   pub irq_is : (k : ℕ) (c : FlatConnection) → slice_get t.flat.connections k ≡ Some c → c.connector ≡ Interrupt → IsIrqOf t spec k (place t (IrqOf k))
   irq_is k c h e =
-      let j = has_irq k c h e in
-      let p = part series.Irq j.0 (irq_owner k c) (IrqOf k) in
+      let there = irq_part t k c h e in
+      let p = part series.Irq (before interrupt t.flat.connections k) (irq_owner k c) (IrqOf k) in
       let v = can.devices k c h e in
       let s = can.settled k v.0 c v.1 h v.3 in
       let P : Connector → Type 0 = λ n. IsIn (part series.Ntfn k (OfConnection k) (NotificationOf k)) (notification_by k n) in
@@ -240,19 +229,20 @@ module _ (t : Tables) (can : CanSlot t) where
       let line : ℕ × ℕ = (irq_number t.settled k c, place t (IrqOf k)) in
       let Q : Connector → Type 0 = λ n. IsIn line (line_by t k c n) in
       let F : ℕ → FlatConnection → List (ℕ × ℕ) = λ k c. line_by t k c c.connector in
-      let there = in_gather F line t.flat.connections k c h (subst Q (sym e) (inl refl)) in
+      let listed = in_gather F line t.flat.connections k c h (subst Q (sym e) (inl refl)) in
       let R : ℕ → Type 0 = λ z. (let p : ℕ × ℕ = (z, place t (IrqOf k)) in IsIn p (lines t)) in
       record {
         connection = c;
         here = h;
+        named = (objects_stand t).name p there;
         notification = place t (NotificationOf k);
-        is = (objects_stand t).object p j.1;
+        is = (objects_stand t).object p there;
         holds = notification_named k c h (subst P (sym e) (inl refl));
         number = v.0;
         device = v.2;
         setting = s.0;
         settled = s.1;
-        line = subst R set (order_has line (gather F t.flat.connections) there);
+        line = subst R set (order_has line (gather F t.flat.connections) listed);
       }
 
   handler_is : (d n k m : ℕ) → Origin t (Handler k m) → IsHandlerCap t spec k (use_cap t d n (Handler k m))
@@ -261,23 +251,18 @@ module _ (t : Tables) (can : CanSlot t) where
       let P : ℕ → Type 0 = λ z. slice_get t.flat.connections z ≡ Some o.connection in
       record { irq = irq_is k o.connection (subst P u.0 o.here) u.2; rights = refl; badge = refl }
 
-  lock_is : (d n leaf m : ℕ) (x : Domain) → slice_get t.flat.domains d ≡ Some x → slice_get (uses_at t d) n ≡ Some (OwnLock leaf m) → IsLockCap t spec (use_cap t d n (OwnLock leaf m))
-  lock_is d n leaf m x h e =
-      let y = owned (OfDomain d) (LockOf d n) in
-      let i = in_gather (lock d) y (uses_at t d) n (OwnLock leaf m) e (inl refl) in
-      let l = in_gather (domain_locks t) y t.flat.domains d x h i in
-      let j = place_of y (locks t) l in
-      let f : ℕ → Owned → List Part = λ n z. part series.Lock n z.owner z.what ∷ [] in
-      let p = part series.Lock j.0 (OfDomain d) (LockOf d n) in
-      let there = in_together (sections t) 4 (numbered series.Lock (locks t)) p refl (in_gather f p (locks t) j.0 y j.1 (inl refl)) in
-      record { number = j.0; named = (objects_stand t).name p there; is = (objects_stand t).object p there; rights = refl; badge = refl }
-
-  -- ---- all
-
   pub uses_are : (d : ℕ) (x : Domain) → slice_get t.flat.domains d ≡ Some x → uses_at t d ≡ domain_uses t.source t.flat x.leaves
   uses_are d x h =
       ap (λ (s : Slots). option_map_or (λ (plan : SlotPlan). plan.uses) (slice_get s.domains d) []) can.slots
       ∙ ap (λ o. option_map_or (λ (plan : SlotPlan). plan.uses) o []) (get_map (λ (z : Domain). plan_of (domain_uses t.source t.flat z.leaves)) t.flat.domains d x h)
+
+  lock_is : (d n leaf m : ℕ) (x : Domain) → slice_get t.flat.domains d ≡ Some x → slice_get (uses_at t d) n ≡ Some (OwnLock leaf m) → IsLockCap t spec leaf m (use_cap t d n (OwnLock leaf m))
+  lock_is d n leaf m x h e =
+      let w = lock_part t uses_are d n leaf m x h e in
+      let p = part series.Lock w.number (OfDomain d) (LockOf d n) in
+      record { number = w.number; numbered = w.numbered; named = (objects_stand t).name p w.there; is = (objects_stand t).object p w.there; rights = refl; badge = refl }
+
+  -- ---- all
 
   pub cap_is : (d n : ℕ) (x : Domain) (u : SlotUse) → slice_get t.flat.domains d ≡ Some x → slice_get (uses_at t d) n ≡ Some u → IsCapOf t spec u (use_cap t d n u)
   cap_is d n x u h e =

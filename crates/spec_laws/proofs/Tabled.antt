@@ -37,7 +37,7 @@ use Rattle.system_spec.proofs.Domains.{tables_counted}
 
 -- ---- levels above others
 
-no_level : (j : ℕ) (m : Shape) (ls : List Shape) → drop j [] ≡ m ∷ ls → ⊥
+pub no_level : (j : ℕ) (m : Shape) (ls : List Shape) → drop j [] ≡ m ∷ ls → ⊥
 no_level zero m ls e = cc
 no_level (suc j) m ls e = cc
 
@@ -60,7 +60,7 @@ starts_under s n m a pos e =
 
 -- ---- what is mapped above stands for what is mapped below
 
-upper_of : (l : Shape) (xs : List Mapping) (x : Mapping) → IsIn x xs → (u : Mapping) × IsIn u (uppers l (runs (span l) xs)) × (u.at ≡ x.at / span l * span l)
+pub upper_of : (l : Shape) (xs : List Mapping) (x : Mapping) → IsIn x xs → (u : Mapping) × IsIn u (uppers l (runs (span l) xs)) × (u.at ≡ x.at / span l * span l)
 upper_of l xs x i =
     let r = in_runs (span l) x xs i in
     let p = place_of r.0 (runs (span l) xs) r.1 in
@@ -82,7 +82,7 @@ lower_of l xs u i =
 -- ---- tables of a level
 
 -- of the lowest of these levels there is a table for v just where something is mapped under it, and all tables stand below `most`
-abbrev Tabled : ℕ → List Object → List Shape → List Mapping → ℕ → ℕ → Type 0
+abbrev pub Tabled : ℕ → List Object → List Shape → List Mapping → ℕ → ℕ → Type 0
 Tabled first T [] xs v most = ⊥
 Tabled first T (l ∷ ls) xs v most = (((n : ℕ) × Arrives first T (l ∷ ls) v n) ↔ ((x : Mapping) × IsIn x xs × (x.at / span l ≡ v / span l))) × ((n : ℕ) → Arrives first T (l ∷ ls) v n → n < most)
 
@@ -131,7 +131,7 @@ tabled (suc j) (k ∷ m ∷ ks) l ls xs y first link T back v e stacked fit i h 
 -- ---- in a spec
 
 module _ (t : Tables) (can : CanMap t) where
-  there : (d j v : ℕ) (x : Domain) (l : Shape) (ls : List Shape) (h : slice_get t.flat.domains d ≡ Some x) → drop j (shapes (arch t)) ≡ l ∷ ls → v < root_span (shapes (arch t))
+  pub there : (d j v : ℕ) (x : Domain) (l : Shape) (ls : List Shape) (h : slice_get t.flat.domains d ≡ Some x) → drop j (shapes (arch t)) ≡ l ∷ ls → v < root_span (shapes (arch t))
       → Tabled (root_of t d) (objects_from (spec_of t) (root_of t d)) (l ∷ ls) (maps t can d x h) v (sizes (layers (shapes (arch t)) (maps t can d x h)))
   there d j v x l ls h e b =
       let y = some_map t can d x h in

@@ -8,7 +8,7 @@ use Rattle.adl_meaning.specs.declared.settled.LeafSetting.{LeafSetting}
 use Rattle.arch_policy.specs.declared.owner.Owner.TheVariants.{OfDomain}
 use Rattle.cap_model.specs.declared.object.Object.TheVariants as objects
 use Rattle.cap_model.specs.declared.object.Tcb.{Tcb}
-use Rattle.cap_model.specs.Lookup.{object_at}
+use Rattle.cap_model.specs.Lookup.{name_at, object_at}
 use Rattle.cspace_layout.specs.declared.end_at.EndAt.{EndAt}
 use Rattle.cam_base.specs.Gather.{IsIn}
 use Rattle.cam_base.proofs.Gathered.{from_ones, in_place, place_of}
@@ -23,20 +23,23 @@ use Rattle.system_spec.specs.MapLines.{map_lines}
 use Rattle.system_spec.specs.Objects.{tcb}
 use Rattle.system_spec.specs.Parts.{part, parts, place}
 use Rattle.system_spec.specs.Tables.{Tables, component_name, entry_in, threads_at}
+use Rattle.system_spec.proofs.Objects.{objects_stand}
 use Rattle.system_spec.proofs.Standing.{place_is, stands}
 use Rattle.vspace_layout.specs.declared.spaces.Space.{Space}
 use Rattle.vspace_layout.specs.declared.spaces.Spaces.{Spaces}
 use Rattle.vspace_layout.specs.declared.spaces.ThreadPlace.{ThreadPlace}
 use Rattle.vspace_layout.specs.declared.thread.ThreadOf.{ThreadOf}
+use Rattle.vspace_layout.specs.Given.{ends, leaves_of}
 use Rattle.vspace_layout.specs.Laid.{space, thread_place}
 use Rattle.vspace_layout.specs.Regions.{threads_of}
-use Rattle.vspace_layout.specs.Threads.{thread}
+use Rattle.vspace_layout.specs.Threads.{domain_threads as threads_in, thread}
 use Rattle.spec_laws.specs.CanMap.{CanMap}
 use Rattle.spec_laws.specs.Spaced.{root_of, system}
-use Rattle.spec_laws.specs.Threaded.{AreThreads, HasThread, IsThreadOf}
+use Rattle.spec_laws.specs.Threaded.{AreThreads, AreThreadsNumbered, HasThread, IsThreadOf}
 use Rattle.spec_laws.proofs.Locks.{part_there}
+use Rattle.spec_laws.proofs.Paging.{has_domain}
 use Rattle.spec_laws.proofs.SlotLists.{some}
-use Rattle.spec_laws.proofs.Threads.{Line, at_home, has_thread, line_from, line_to, once_threads, thread_object, thread_part, threads_are}
+use Rattle.spec_laws.proofs.Threads.{Line, at_home, has_thread, line_from, line_to, once_threads, thread_object, thread_part, threads_are, threads_before}
 use Rattle.spec_laws.proofs.Whats.{thread_what}
 
 same_some : {X : Type 0} (a b : X) (o : Option X) → o ≡ Some a → o ≡ Some b → a ≡ b
@@ -124,16 +127,34 @@ module _ (t : Tables) (can : CanMap t) where
       let m = the_line at other more j in
       let a = thread_part t can l.domain l.number l.leaves l.y l.here l.stands in
       let b = thread_part t can m.domain m.number m.leaves m.y m.here m.stands in
-      let p = part series.Tcb a.0 (OfDomain l.domain) (OfThread l.domain l.number) in
-      let q = part series.Tcb b.0 (OfDomain m.domain) (OfThread m.domain m.number) in
+      let p = part series.Tcb (threads_before t can l.domain l.number) (OfDomain l.domain) (OfThread l.domain l.number) in
+      let q = part series.Tcb (threads_before t can m.domain m.number) (OfDomain m.domain) (OfThread m.domain m.number) in
       let place_same : place t (OfThread l.domain l.number) ≡ place t (OfThread m.domain m.number) = l.at_is ∙ sym m.at_is in
       let P : ℕ → Type 0 = λ z. slice_get (parts t) z ≡ Some p in
-      let same : p ≡ q = some (slice_get (parts t) (place t (OfThread m.domain m.number))) p q (subst P place_same (stands t p a.1)) (stands t q b.1) in
+      let same : p ≡ q = some (slice_get (parts t) (place t (OfThread m.domain m.number))) p q (subst P place_same (stands t p a)) (stands t q b) in
       let w = threads_same l.domain l.number m.domain m.number (ap (λ (z : Part). z.what) same) in
       let Q : ℕ → Type 0 = λ z. slice_get (threads_of (system t) z) l.number ≡ Some l.y in
       let R : ℕ → Type 0 = λ z. slice_get (threads_of (system t) m.domain) z ≡ Some l.y in
       let y : l.y ≡ m.y = some (slice_get (threads_of (system t) m.domain) m.number) l.y m.y (subst R w.1 (subst Q w.0 l.stands)) m.stands in
       (sym l.leaf_is ∙ ap (λ (z : ThreadOf). z.leaf) y ∙ m.leaf_is, sym l.end_is ∙ ap (λ (z : ThreadOf). z.end) y ∙ m.end_is)
+
+  -- ---- their numbers
+
+  pub thread_domain : (d i : ℕ) (y : ThreadOf) → slice_get (threads_of (system t) d) i ≡ Some y → (x : Domain) × (slice_get t.flat.domains d ≡ Some x)
+  thread_domain d i y e = has_domain t d not_none
+    where
+      not_none : leaves_of t.flat d ≡ [] → ⊥
+      not_none leaves =
+          let none : threads_of (system t) d ≡ [] = ap (λ ls. threads_in t.flat (ends (system t)) ls) leaves in
+          let P : List ThreadOf → Type 0 = λ z. slice_get z i ≡ Some y in
+          let f = subst P none e in cc
+
+  numbers_are : AreThreadsNumbered t (spec_of t) (map_lines t)
+  numbers_are = λ d i at y e j.
+      let x = thread_domain d i y e in
+      let same : at ≡ place t (OfThread d i) = one_line at (place t (OfThread d i)) y.leaf y.end j (line_to t can d i x.0 y x.1 e) in
+      ap (name_at (spec_of t)) same
+      ∙ (objects_stand t).name (part series.Tcb (threads_before t can d i) (OfDomain d) (OfThread d i)) (thread_part t can d i x.0 y x.1 e)
 
   -- ---- and each thread has one
 
@@ -159,4 +180,4 @@ module _ (t : Tables) (can : CanMap t) where
       (y.0.leaf, y.0.end, subst Q stand (line_to t can w.domain w.number x.0 y.0 x.1 y.1))
 
   pub threads_hold : AreThreads t (spec_of t) (root_of t) (map_lines t)
-  threads_hold = record { only = only; every = every; one = one_line; all = all; apart = apart }
+  threads_hold = record { only = only; every = every; one = one_line; all = all; numbered = numbers_are; apart = apart }

@@ -1,5 +1,5 @@
 -- Threads and their lines
-use Rattle.std.proofs.Common.{◌≡◌, ℕ, Bool, true, false, cond, List, [], ◌∷◌, ◌++◌, Option, Some, None, refl, sym, ◌∙◌, ap, subst, inl, inr}
+use Rattle.std.proofs.Common.{◌≡◌, ◌+◌, ℕ, Bool, true, false, cond, List, [], ◌∷◌, ◌++◌, length, Option, Some, None, refl, sym, ◌∙◌, ap, subst, inl, inr, arith}
 use Rattle.std.specs.List.{flat_map, slice_get}
 use Rattle.std.specs.Option.{option_and_then, option_map_or}
 use Rattle.std.specs.Prelude.{option_map}
@@ -20,8 +20,8 @@ use Rattle.cspace_layout.specs.declared.plan.SlotUse.TheVariants.{OfEnd, Handler
 use Rattle.cspace_layout.specs.declared.end_at.EndAt.{EndAt}
 use Rattle.cspace_layout.specs.Lookups.{end_in, end_of}
 use Rattle.cspace_layout.specs.Members.{leaf_members}
-use Rattle.cam_base.specs.Gather.{IsIn, gather}
-use Rattle.cam_base.proofs.Gathered.{from_gather, from_ones, get_ones, in_append, in_gather, in_left, in_right, place_of}
+use Rattle.cam_base.specs.Gather.{IsIn, before, gather}
+use Rattle.cam_base.proofs.Gathered.{from_gather, from_ones, gather_ones, gathered, get_ones, in_append, in_gather, in_left, in_right}
 use Rattle.cam_base.proofs.NumberedLists.{from_flat_map, in_flat_map}
 use Rattle.system_spec.specs.declared.map_line.MapLine.{MapLine}
 use Rattle.system_spec.specs.declared.map_line.MapLine.TheVariants.{DomainLine, ThreadLine}
@@ -48,6 +48,7 @@ use Rattle.vspace_layout.specs.Threads.{ends_at, is_called, leaf_threads, server
 use Rattle.spec_laws.specs.CanMap.{CanMap}
 use Rattle.spec_laws.specs.Spaced.{system}
 use Rattle.spec_laws.specs.Threaded.{HasThread, Serves}
+use Rattle.spec_laws.proofs.Numbering.{before_same}
 use Rattle.spec_laws.proofs.EndsAt.{end_of_leaf, ends_are, in_leaf_ends, once_leaf}
 use Rattle.spec_laws.proofs.Once.{Once, once_cons, once_flat, once_none, once_one}
 use Rattle.spec_laws.proofs.Paging.{shown_if}
@@ -260,19 +261,26 @@ module _ (t : Tables) (can : CanMap t) where
 
   -- ---- objects
 
-  pub thread_part : (d i : ℕ) (x : Domain) (y : ThreadOf) → slice_get t.flat.domains d ≡ Some x → slice_get (threads_of (system t) d) i ≡ Some y → (j : ℕ) × IsIn (part series.Tcb j (OfDomain d) (OfThread d i)) (parts t)
+  -- how many threads stand before thread i of a domain
+  abbrev pub threads_before : ℕ → ℕ → ℕ
+  threads_before d i = before (λ e y. threads_of (system t) e) t.flat.domains d + i
+
+  pub thread_part : (d i : ℕ) (x : Domain) (y : ThreadOf) → slice_get t.flat.domains d ≡ Some x → slice_get (threads_of (system t) d) i ≡ Some y → IsIn (part series.Tcb (threads_before d i) (OfDomain d) (OfThread d i)) (parts t)
   thread_part d i x y h e =
       let z = owned (OfDomain d) (OfThread d i) in
-      let f : ℕ → ThreadPlace → List Owned = λ n w. owned (OfDomain d) (OfThread d n) ∷ [] in
-      let inner = in_gather f z (threads_at t d) i (thread_place (system t) d i y) (thread_at d i x y h e) (inl refl) in
-      let j = place_of z (tcbs t) (in_gather (domain_tcbs t) z t.flat.domains d x h inner) in
+      let n = threads_before d i in
+      let f : ℕ → ThreadPlace → Owned = λ n w. owned (OfDomain d) (OfThread d n) in
+      let inner = get_ones f (threads_at t d) i (thread_place (system t) d i y) (thread_at d i x y h e) in
+      let many : (d : ℕ) (x : Domain) → slice_get t.flat.domains d ≡ Some x → length (domain_tcbs t d x) ≡ length (threads_of (system t) d) =
+      λ d x h. gather_ones (λ n (w : ThreadPlace). owned (OfDomain d) (OfThread d n)) (threads_at t d) ∙ ap length (threads_are d x h) ∙ gather_ones (λ i y. thread_place (system t) d i y) (threads_of (system t) d) in
+      let sums = before_same (domain_tcbs t) (λ e y. threads_of (system t) e) t.flat.domains d many in
+      let at : slice_get (tcbs t) n ≡ Some z = gathered (domain_tcbs t) t.flat.domains d x i z n h inner (omega (arith, sums)) in
       let g : ℕ → Owned → List Part = λ n w. part series.Tcb n w.owner w.what ∷ [] in
-      let p = part series.Tcb j.0 (OfDomain d) (OfThread d i) in
-      (j.0, in_together (sections t) 1 (numbered series.Tcb (tcbs t)) p refl (in_gather g p (tcbs t) j.0 z j.1 (inl refl)))
+      let p = part series.Tcb n (OfDomain d) (OfThread d i) in
+      in_together (sections t) 1 (numbered series.Tcb (tcbs t)) p refl (in_gather g p (tcbs t) n z at (inl refl))
 
   pub thread_object : (d i : ℕ) (x : Domain) (y : ThreadOf) → slice_get t.flat.domains d ≡ Some x → slice_get (threads_of (system t) d) i ≡ Some y
       → object_at (spec_of t) (place t (OfThread d i)) ≡ Some (objects.Thread (tcb t d (thread_place (system t) d i y)))
   thread_object d i x y h e =
-      let j = thread_part d i x y h e in
-      (objects_stand t).object (part series.Tcb j.0 (OfDomain d) (OfThread d i)) j.1
+      (objects_stand t).object (part series.Tcb (threads_before d i) (OfDomain d) (OfThread d i)) (thread_part d i x y h e)
       ∙ ap (λ o. Some (option_map_or (λ z. objects.Thread (tcb t d z)) o objects.Endpoint)) (thread_at d i x y h e)

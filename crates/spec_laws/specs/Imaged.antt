@@ -1,6 +1,6 @@
--- The images of a compiled system, told of its spec, the labels of its objects, and its map: its objects in their order, the
--- roots of its spaces, threads, regions, the pages that are mapped, page tables, frames, and labels. Addresses are sums, and what
--- is mapped is a set.
+-- The images of a compiled system, told of its spec, the labels of its objects, and its map: its objects in their order and of
+-- the kinds that their names say, the roots of its spaces, threads, regions, the pages that are mapped, page tables, frames, and
+-- labels. Addresses are sums, what is mapped is a set, and what stands before what is an order.
 use Rattle.std.specs.Prelude.{◌≡◌, ◌↔◌, ℕ, List, map, Some, slice_get}
 use Rattle.adl_meaning.specs.declared.flat.Domain.{Domain}
 use Rattle.cap_model.specs.declared.object_labels.Labels.{Labels}
@@ -12,7 +12,9 @@ use Rattle.system_spec.specs.Made.{part_name}
 use Rattle.system_spec.specs.Parts.{parts}
 use Rattle.system_spec.specs.Tables.{Tables}
 use Rattle.spec_laws.specs.Framed.{AreFrames}
+use Rattle.spec_laws.specs.Kinded.{SayKinds}
 use Rattle.spec_laws.specs.Labelled.{AreLabels, AreTableLabels}
+use Rattle.spec_laws.specs.Ordered.{AreFramesInOrder, AreTablesInOrder}
 use Rattle.spec_laws.specs.Regioned.{AreRegions}
 use Rattle.spec_laws.specs.Spaced.{ArePagesOf, AreTablesOf, IsRootOf}
 use Rattle.spec_laws.specs.Threaded.{AreThreads}
@@ -31,6 +33,7 @@ pub record AreTables (t : Tables) (spec : Spec) (root : ℕ → ℕ) (labels : L
 -- the spaces of the domains have these roots
 pub record AreImages (t : Tables) (spec : Spec) (root : ℕ → ℕ) (labels : Labels) (lines : List MapLine) : Type 0 where
   pub named : map (λ e. e.name) spec.entries ≡ map part_name (parts t)
+  pub kinds : SayKinds spec
   pub domains : (d : ℕ) → IsIn (DomainLine d) lines ↔ ((x : Domain) × (slice_get t.flat.domains d ≡ Some x))
   pub roots : AreRoots t spec root
   pub pages : (d : ℕ) (x : Domain) → slice_get t.flat.domains d ≡ Some x → ArePagesOf t spec d (root d)
@@ -39,3 +42,5 @@ pub record AreImages (t : Tables) (spec : Spec) (root : ℕ → ℕ) (labels : L
   pub tables : AreTables t spec root labels
   pub frames : AreFrames t spec root
   pub labels_are : AreLabels t spec root labels lines
+  pub tables_ordered : AreTablesInOrder t spec root
+  pub frames_ordered : AreFramesInOrder t spec root

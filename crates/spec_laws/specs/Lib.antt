@@ -1,7 +1,9 @@
 pub mod CanMap
 pub mod Framed
 pub mod Imaged
+pub mod Kinded
 pub mod Labelled
+pub mod Ordered
 pub mod Regioned
 pub mod Slotted
 pub mod Spaced

@@ -1,9 +1,11 @@
 -- The slots of a compiled system, told of its spec and its map. The capabilities of a domain stand in the order of its uses,
 -- and the one that has n before it stands in slot n + 1 of the domain's CNode; nothing else stands there. Each leads to the
--- object of its end, with the rights of the connector table and the settled badge; a lock's has reading and writing. The CNode
--- has the least size above the number of its capabilities. An interrupt holds its connection's notification, and has the
--- settled number. The map says these places and no others.
-use Rattle.std.specs.Prelude.{◌≡◌, ◌<◌, ◌^◌, ℕ, ◌+◌, List, length, Some, slice_get}
+-- object of its end, with the rights of the connector table and the settled badge; a lock's leads to this lock of this leaf,
+-- with reading and writing. The CNode has the least size above the number of its capabilities. An interrupt holds its
+-- connection's notification, and its line has the settled number. The map says these places and no others.
+--
+-- Locks are numbered by domain, leaf and member, and interrupts by connection: each by how many of its kind stand before it.
+use Rattle.std.specs.Prelude.{◌≡◌, ◌<◌, ◌^◌, ℕ, ◌+◌, if◌then◌else◌, List, [], ◌∷◌, length, Some, slice_get}
 use Rattle.adl_ast.specs.declared.composition.Role.{Role}
 use Rattle.adl_ast.specs.declared.composition.Role.TheVariants.{From, To}
 use Rattle.adl_meaning.specs.declared.connector.Connector.{Connector}
@@ -22,13 +24,15 @@ use Rattle.cspace_layout.specs.declared.plan.SlotUse.{SlotUse}
 use Rattle.cspace_layout.specs.declared.plan.SlotUse.TheVariants.{OfEnd, Handler, OwnLock}
 use Rattle.cspace_layout.specs.Uses.{domain_uses, slots_of}
 use Rattle.cspace_layout.specs.Lookups.{setting_of}
-use Rattle.cam_base.specs.Gather.{IsIn}
+use Rattle.cspace_layout.specs.Members.{is_lock, leaf_members}
+use Rattle.cam_base.specs.Gather.{IsIn, before, gather}
 use Rattle.system_spec.specs.declared.map_line.MapLine.{MapLine}
 use Rattle.system_spec.specs.declared.map_line.MapLine.TheVariants.{SlotLine, OwnLine}
 use Rattle.system_spec.specs.declared.series.Series.{Series}
 use Rattle.system_spec.specs.declared.series.Series.TheVariants as series
 use Rattle.system_spec.specs.Bits.{IsLeastBits}
 use Rattle.system_spec.specs.Names.{name_of}
+use Rattle.system_spec.specs.Places.{has_irq}
 use Rattle.system_spec.specs.Tables.{Tables, device_place}
 
 -- the object at the place has the name of its series and this number
@@ -44,10 +48,36 @@ IsJoint spec place SharedMemory k = ⊥
 IsJoint spec place Mmio k = ⊥
 IsJoint spec place Direct k = ⊥
 
--- the interrupt of connection k: it holds the connection's notification, and has the settled number
+-- ---- interrupts and locks by number
+
+-- the number of a connection that is an interrupt's
+abbrev pub interrupt : ℕ → FlatConnection → List ℕ
+interrupt k c = if has_irq c.connector then k ∷ [] else []
+
+-- the locks of a leaf, each with its member's number
+abbrev pub leaf_locks : Tables → ℕ → List (ℕ × ℕ)
+leaf_locks t leaf = gather (λ m x. if is_lock x then (leaf, m) ∷ [] else []) (leaf_members t.source t.flat leaf)
+
+-- those of a domain, leaf by leaf
+abbrev pub domain_locks : Tables → Domain → List (ℕ × ℕ)
+domain_locks t x = gather (λ i leaf. leaf_locks t leaf) x.leaves
+
+-- the lock that is member m of the leaf has this number: so many stand before it, those of the domains before its own, and those
+-- before it in its own
+pub record IsLockNumber (t : Tables) (leaf m number : ℕ) : Type 0 where
+  pub domain : ℕ
+  pub leaves : Domain
+  pub here : slice_get t.flat.domains domain ≡ Some leaves
+  pub place : ℕ
+  pub stands : slice_get (domain_locks t leaves) place ≡ Some (leaf, m)
+  pub is : number ≡ before (λ d x. domain_locks t x) t.flat.domains domain + place
+
+-- the interrupt of connection k: so many interrupts stand before it, it holds the connection's notification, and has the settled
+-- number
 pub record IsIrqOf (t : Tables) (spec : Spec) (k place : ℕ) : Type 0 where
   pub connection : FlatConnection
   pub here : slice_get t.flat.connections k ≡ Some connection
+  pub named : IsNamed spec place series.Irq (before interrupt t.flat.connections k)
   pub notification : ℕ
   pub is : object_at spec place ≡ Some (Irq (Some notification))
   pub holds : IsNamed spec notification series.Ntfn k
@@ -80,9 +110,10 @@ pub record IsHandlerCap (t : Tables) (spec : Spec) (k : ℕ) (cap : Cap) : Type 
   pub rights : cap.rights ≡ NONE
   pub badge : cap.badge ≡ 0
 
--- a lock is a notification that no other use of the system has
-pub record IsLockCap (t : Tables) (spec : Spec) (cap : Cap) : Type 0 where
+-- the lock that is member m of the leaf: a notification that no other use of the system has
+pub record IsLockCap (t : Tables) (spec : Spec) (leaf m : ℕ) (cap : Cap) : Type 0 where
   pub number : ℕ
+  pub numbered : IsLockNumber t leaf m number
   pub named : IsNamed spec cap.object series.Lock number
   pub is : object_at spec cap.object ≡ Some Notification
   pub rights : cap.rights ≡ RW
@@ -91,7 +122,7 @@ pub record IsLockCap (t : Tables) (spec : Spec) (cap : Cap) : Type 0 where
 abbrev pub IsCapOf : Tables → Spec → SlotUse → Cap → Type 0
 IsCapOf t spec (OfEnd k n) cap = IsEndCap t spec k n cap
 IsCapOf t spec (Handler k n) cap = IsHandlerCap t spec k cap
-IsCapOf t spec (OwnLock leaf m) cap = IsLockCap t spec cap
+IsCapOf t spec (OwnLock leaf m) cap = IsLockCap t spec leaf m cap
 
 -- ---- CNodes
 
@@ -143,14 +174,21 @@ IsSlotLine _ = ⊥
 
 -- ---- all
 
+-- interrupt line n is that of a connection's interrupt, which has this number
+pub record IsIrqLine (t : Tables) (spec : Spec) (n place : ℕ) : Type 0 where
+  pub k : ℕ
+  pub connection : FlatConnection
+  pub here : slice_get t.flat.connections k ≡ Some connection
+  pub is_interrupt : connection.connector ≡ Interrupt
+  pub irq : IsIrqOf t spec k place
+  pub number : n ≡ irq.setting.irq
+
 pub record HasSlots (t : Tables) (spec : Spec) (map : List MapLine) : Type 0 where
   pub cnodes : (d : ℕ) (x : Domain) → slice_get t.flat.domains d ≡ Some x
       → IsCNodeOf t spec d (domain_uses t.source t.flat x.leaves)
   pub irqs : (k : ℕ) (c : FlatConnection) → slice_get t.flat.connections k ≡ Some c → c.connector ≡ Interrupt
       → (place : ℕ) × IsIrqOf t spec k place
-  pub lines : (n place : ℕ) → IsIn (n, place) spec.irqs
-      → (k : ℕ) × (c : FlatConnection) × (slice_get t.flat.connections k ≡ Some c) × (c.connector ≡ Interrupt)
-      × IsIrqOf t spec k place
+  pub lines : (n place : ℕ) → IsIn (n, place) spec.irqs → IsIrqLine t spec n place
   pub map_only : (line : MapLine) → IsIn line map → IsSlotLine line → IsUsed t spec line
   pub map_every : (line : MapLine) → IsUsed t spec line → IsIn line map
 

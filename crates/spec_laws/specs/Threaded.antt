@@ -1,7 +1,7 @@
 -- The threads of a system, told of its spec and its map. Each leaf of software has a line for its control thread, and one for
 -- each of its ends that serves calls; lines and threads are one to one. A thread runs its leaf's program, has its leaf's
--- priority, and its domain's CNode and space.
-use Rattle.std.specs.Prelude.{◌≡◌, ℕ, List, Option, Some, None, slice_get}
+-- priority, and its domain's CNode and space. Threads are numbered by domain, and in a domain in its order of threads.
+use Rattle.std.specs.Prelude.{◌≡◌, ℕ, ◌+◌, List, Option, Some, None, slice_get}
 use Rattle.adl_ast.specs.declared.composition.Role.TheVariants.{To}
 use Rattle.adl_meaning.specs.declared.connector.Connector.TheVariants.{Rpc}
 use Rattle.adl_meaning.specs.declared.flat.FlatConnection.{FlatConnection}
@@ -13,12 +13,16 @@ use Rattle.cap_model.specs.declared.object.Tcb.{Tcb}
 use Rattle.cap_model.specs.declared.spec.Spec.{Spec}
 use Rattle.cap_model.specs.Lookup.{object_at}
 use Rattle.cspace_layout.specs.declared.end_at.EndAt.{EndAt}
-use Rattle.cam_base.specs.Gather.{IsIn}
+use Rattle.cam_base.specs.Gather.{IsIn, before}
 use Rattle.sect_table.specs.declared.image.Image.{Image}
 use Rattle.system_spec.specs.declared.map_line.MapLine.{MapLine}
 use Rattle.system_spec.specs.declared.map_line.MapLine.TheVariants.{ThreadLine}
+use Rattle.system_spec.specs.declared.series.Series.TheVariants as series
 use Rattle.system_spec.specs.Tables.{Tables, component_name}
-use Rattle.spec_laws.specs.Spaced.{Runs}
+use Rattle.vspace_layout.specs.declared.thread.ThreadOf.{ThreadOf}
+use Rattle.vspace_layout.specs.Regions.{threads_of}
+use Rattle.spec_laws.specs.Slotted.{IsNamed}
+use Rattle.spec_laws.specs.Spaced.{Runs, system}
 
 -- the thread at the place is one of this leaf, which is of domain d
 pub record IsThreadOf (t : Tables) (spec : Spec) (root : ℕ → ℕ) (leaf place : ℕ) : Type 0 where
@@ -53,6 +57,12 @@ abbrev pub HasThread : Tables → ℕ → Option EndAt → Type 0
 HasThread t leaf None = (found : Leaf) × (d : ℕ) × (slice_get t.flat.leaves leaf ≡ Some found) × (found.domain ≡ Some d)
 HasThread t leaf (Some e) = Serves t leaf e
 
+-- thread i of domain d has i before it in its own domain, and those of all domains before
+abbrev pub AreThreadsNumbered : Tables → Spec → List MapLine → Type 0
+AreThreadsNumbered t spec lines =
+    (d i place : ℕ) (x : ThreadOf) → slice_get (threads_of (system t) d) i ≡ Some x → IsIn (ThreadLine place x.leaf x.end) lines
+    → IsNamed spec place series.Tcb (before (λ e y. threads_of (system t) e) t.flat.domains d + i)
+
 pub record AreThreads (t : Tables) (spec : Spec) (root : ℕ → ℕ) (lines : List MapLine) : Type 0 where
   pub only : (tcb leaf : ℕ) (end : Option EndAt) → IsIn (ThreadLine tcb leaf end) lines
       → HasThread t leaf end × IsThreadOf t spec root leaf tcb
@@ -61,5 +71,6 @@ pub record AreThreads (t : Tables) (spec : Spec) (root : ℕ → ℕ) (lines : L
       → IsIn (ThreadLine again leaf end) lines → tcb ≡ again
   pub all : (place : ℕ) (tcb : Tcb) → object_at spec place ≡ Some (Thread tcb)
       → (leaf : ℕ) × (end : Option EndAt) × IsIn (ThreadLine place leaf end) lines
+  pub numbered : AreThreadsNumbered t spec lines
   pub apart : (tcb leaf other : ℕ) (end more : Option EndAt) → IsIn (ThreadLine tcb leaf end) lines
       → IsIn (ThreadLine tcb other more) lines → (leaf ≡ other) × (end ≡ more)

@@ -6,7 +6,9 @@ ghost use Rattle.spec_laws.specs.CanMap.{CanMap};
 ghost use Rattle.spec_laws.specs.Spaced.{ArePagesOf, root_of};
 ghost use Rattle.spec_laws.specs.Framed.{AreAllMapped, AreMemoryFrames, AreOwnFrames};
 ghost use Rattle.spec_laws.specs.Imaged.{AreImages, AreRoots, AreTables};
+ghost use Rattle.spec_laws.specs.Kinded.{SayKinds};
 ghost use Rattle.spec_laws.specs.Labelled.{AreDomainLabels, AreFrameLabels, AreJointLabels};
+ghost use Rattle.spec_laws.specs.Ordered.{AreFramesInOrder, AreTablesInOrder};
 ghost use Rattle.spec_laws.specs.Regioned.{AreRegions};
 ghost use Rattle.spec_laws.specs.Slotted.{AreSlots, CanSlot};
 ghost use Rattle.spec_laws.specs.Threaded.{AreThreads};
@@ -79,6 +81,21 @@ pub fn domains_have_their_roots()
 /// The map has a line for each domain, and no other.
 pub fn domains_have_their_lines()
     ensures { (t : Tables) (d : ℕ) → IsIn (DomainLine d) (map_lines t) ↔ ((x : Domain) × (slice_get t.flat.domains d ≡ Some x)) }
+{}
+
+/// Page tables of a level stand by domain and address, and none that no page needs.
+pub fn tables_stand_in_order()
+    ensures { (t : Tables) → CanMap t → AreTablesInOrder t (spec_of t) (root_of t) }
+{}
+
+/// The frames of domains stand by domain and address, behind them those of shared connections, and then registers of devices.
+pub fn frames_stand_in_order()
+    ensures { (t : Tables) → CanMap t → AreFramesInOrder t (spec_of t) (root_of t) }
+{}
+
+/// Each object is of the kind that its name says.
+pub fn names_say_kinds()
+    ensures { (t : Tables) → SayKinds (spec_of t) }
 {}
 
 /// All of this together: the objects in their order under their names, and what the laws above say of a system.

@@ -2,7 +2,8 @@
 //!
 //! There is no code here. The slots of a system are told in `specs/Slotted.antt`, and its images in `specs/Imaged.antt`:
 //! its spaces in `specs/Spaced.antt`, threads in `specs/Threaded.antt`, regions in `specs/Regioned.antt`, frames in
-//! `specs/Framed.antt` and labels in `specs/Labelled.antt`. What they ask of a system is in `specs/CanMap.antt`.
+//! `specs/Framed.antt` and labels in `specs/Labelled.antt`. That names say kinds is in `specs/Kinded.antt`, and what stands
+//! before what in `specs/Ordered.antt`. What they ask of a system is in `specs/CanMap.antt`.
 //!
 //! The boot edges between different labels are just those that ends of connections are given (`edge_laws.rt`, over
 //! `specs/Connected.antt`): so the certificate of such a system is valid, and what its threads can reach is what has a reason.
@@ -22,10 +23,10 @@ pub use edge_laws::{
 };
 pub use laws::{
     all_frames_are_mapped, domains_have_their_lines, domains_have_their_roots,
-    images_are_those_of_the_system, labels_are_of_owners, other_frames_are_mapped_once,
-    pages_stand_where_they_are_mapped, regions_stand_where_they_are_laid,
-    slots_are_those_of_the_system, tables_stand_where_pages_are_mapped,
-    threads_are_those_of_the_system, windows_show_one_memory,
+    frames_stand_in_order, images_are_those_of_the_system, labels_are_of_owners, names_say_kinds,
+    other_frames_are_mapped_once, pages_stand_where_they_are_mapped,
+    regions_stand_where_they_are_laid, slots_are_those_of_the_system, tables_stand_in_order,
+    tables_stand_where_pages_are_mapped, threads_are_those_of_the_system, windows_show_one_memory,
 };
 pub use mapped_laws::{tables_can_map, tables_have_slots};
 pub use source_laws::{flat_systems_have_their_devices, loaded_sources_are_spelled};

@@ -17,7 +17,7 @@ use Rattle.cap_model.specs.declared.spec.Spec.{Spec}
 use Rattle.capdl_read.proofs.Kept.{kept_text}
 use Rattle.capdl_read.proofs.Names.{text_named}
 use Rattle.capdl_text.specs.Texts as capdl
-use Rattle.policy_text.specs.Lines as lines
+use Rattle.policy_text.specs.EdgeLines as lines
 use Rattle.policy_text.specs.Labelled.{IsLabelling}
 use Rattle.step_text.proofs.Lengths.{steps_short}
 use Rattle.step_text.proofs.Runs.{run_readable}

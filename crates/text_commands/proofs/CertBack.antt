@@ -23,7 +23,7 @@ use Rattle.cert_check.specs.Valid.{Valid}
 use Rattle.cert_check.specs.Verdicts.{Judged}
 use Rattle.cert_check.specs.declared.verdict.Verdict.{Verdict}
 use Rattle.cert_check.specs.declared.verdict.Verdict.TheVariants.{Yes, No}
-use Rattle.policy_text.specs.Lines as names
+use Rattle.policy_text.specs.EdgeLines as names
 use Rattle.least_cert.proofs.LeastKeeps.{least_valid}
 use Rattle.policy_text.proofs.EdgeLengths.{cert_short}
 use Rattle.policy_text.proofs.Kept.{all_edges}

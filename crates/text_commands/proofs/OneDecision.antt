@@ -22,7 +22,7 @@ use Rattle.cap_audit.specs.declared.report.AuditRefusal.TheVariants as auditing
 use Rattle.cap_audit.specs.declared.report.AuditReport.{AuditReport}
 use Rattle.cap_model.specs.declared.spec.Spec.{Spec}
 use Rattle.cap_audit.specs.Refusals.{IsFirstThread}
-use Rattle.policy_text.specs.Lines.{Labels}
+use Rattle.policy_text.specs.EdgeLines.{Labels}
 use Rattle.least_cert.specs.LeastCertificate.{CloseRefused, HasMoreThan}
 use Rattle.least_cert.specs.declared.closing.CloseError.{CloseError}
 use Rattle.least_cert.specs.declared.closing.CloseError.TheVariants as closing

@@ -17,7 +17,7 @@ use Rattle.cap_audit.specs.declared.report.AuditReport.{AuditReport}
 use Rattle.cap_model.specs.Lookup.{name_at}
 use Rattle.cap_model.specs.declared.spec.Spec.{Spec}
 use Rattle.cap_audit.specs.Spread.{HoldsNoThread}
-use Rattle.policy_text.specs.Lines.{Labels}
+use Rattle.policy_text.specs.EdgeLines.{Labels}
 use Rattle.least_cert.specs.LeastCertificate.{CloseRefused, IsLeast}
 use Rattle.least_cert.specs.declared.closing.CloseError.{CloseError}
 use Rattle.least_cert.specs.declared.closing.CloseError.TheVariants as closing

@@ -7,7 +7,7 @@ use Rattle.cap_audit.specs.declared.report.AuditReport.{AuditReport}
 use Rattle.cap_machine.specs.declared.step.Why.{Why}
 use Rattle.cap_machine.specs.declared.step.Why.TheVariants as why
 use Rattle.cap_model.specs.declared.spec.Spec.{Spec}
-use Rattle.policy_text.specs.Lines.{Labels, apart_lines, edge_line}
+use Rattle.policy_text.specs.EdgeLines.{Labels, apart_lines, edge_line}
 use Rattle.step_text.specs.StepLines.{steps_text}
 use Rattle.text_commands.specs.Codes.{word_of, title_of}
 use Rattle.text_commands.specs.declared.fault.InputFault.{InputFault}

@@ -4,7 +4,7 @@ use Rattle.boot_plan.specs.Texts.{plan_text}
 use Rattle.cert_check.specs.declared.verdict.Verdict.{Verdict}
 use Rattle.cert_check.specs.declared.verdict.Verdict.TheVariants.{Yes, No}
 use Rattle.sect_table.specs.Texts.{table_text}
-use Rattle.policy_text.specs.Lines.{Labels}
+use Rattle.policy_text.specs.EdgeLines.{Labels}
 use Rattle.policy_text.specs.PolicyLines.{cert_text}
 use Rattle.text_commands.specs.Lines.{illegal_text, refusal_text, report_text, run_text}
 use Rattle.text_commands.specs.declared.outcome.Outcome.{Outcome}

@@ -12,7 +12,7 @@ ghost use Rattle.cap_audit.specs.declared.report.AuditReport.{AuditReport};
 ghost use Rattle.cap_machine.specs.declared.step.Step.{Step};
 ghost use Rattle.cap_model.specs.declared.spec.Spec.{Spec};
 ghost use Rattle.cert_check.specs.declared.verdict.Verdict.TheVariants.{Yes};
-ghost use Rattle.policy_text.specs.Lines.{Labels as Names};
+ghost use Rattle.policy_text.specs.EdgeLines.{Labels as Names};
 ghost use Rattle.sect_table.specs.TablesBack.{AreBytes};
 ghost use Rattle.sect_table.specs.Tables as tables;
 ghost use Rattle.sect_table.specs.declared.image.Image.{Image};

@@ -1,0 +1,267 @@
+-- Own frames of domains stand by domain and address, behind them shared frames, and then registers of devices
+use Rattle.std.proofs.Common.{◌≡◌, ◌<◌, ◌≤◌, ◌⊎◌, ◌+◌, ◌/◌, ◌∙◌, ℕ, cond, true, false, true≢false, List, [], ◌∷◌, length, Option, Some, None, refl, sym, ap, subst, inl, inr, arith}
+use Rattle.std.proofs.lemmas.Bool.{cases_lt}
+use Rattle.std.proofs.lemmas.List.Quantifiers.{position-Some}
+use Rattle.std.proofs.lemmas.Option.{get_or_from_slice_get}
+use Rattle.std.specs.List.{slice_get}
+use Rattle.std.specs.Option.{option_map_or}
+use Rattle.adl_meaning.specs.declared.connector.Connector.TheVariants.{Mmio, SharedMemory}
+use Rattle.adl_meaning.specs.declared.flat.Domain.{Domain}
+use Rattle.adl_meaning.specs.declared.flat.FlatConnection.{FlatConnection}
+use Rattle.adl_meaning.specs.declared.flat.FlatEnd.{FlatEnd}
+use Rattle.cap_model.specs.declared.cap.Cap.{Cap}
+use Rattle.cap_model.specs.declared.object.Fill.{Fill}
+use Rattle.cap_model.specs.declared.object.Object.TheVariants as objects
+use Rattle.cap_model.specs.Lookup.{name_at, object_at}
+use Rattle.cam_base.specs.Gather.{before}
+use Rattle.cam_base.proofs.Gathered.{get_ones, in_gather}
+use Rattle.cam_base.proofs.NumberedLists.{at_place, below}
+use Rattle.system_spec.specs.declared.part.Owned.{Owned}
+use Rattle.system_spec.specs.declared.part.Part.{Part}
+use Rattle.system_spec.specs.declared.part.What.TheVariants.{FrameOf}
+use Rattle.system_spec.specs.declared.series.Series.TheVariants as series
+use Rattle.system_spec.specs.Parts.{frame_parts, numbered, owned, part, place, sections}
+use Rattle.system_spec.proofs.Objects.{in_together, objects_stand}
+use Rattle.system_spec.proofs.Standing.{place_is}
+use Rattle.vspace_layout.specs.declared.spaces.FrameInfo.{FrameInfo}
+use Rattle.spec_laws.specs.Slotted.{IsNamed}
+use Rattle.spec_laws.proofs.Locks.{part_there}
+use Rattle.spec_laws.proofs.Whats.{frame_what}
+use Rattle.system_spec.specs.Made.{spec_of}
+use Rattle.system_spec.specs.Tables.{Tables, frame_owner}
+use Rattle.vspace_layout.specs.declared.mapped.MappedPage.{MappedPage}
+use Rattle.vspace_layout.specs.declared.mapped.Shown.TheVariants.{Own}
+use Rattle.vspace_layout.specs.Frames.{connection_frames, memory_number, number_shown, own_frames, own_number, own_part, register_frames, shared_frames, shared_part}
+use Rattle.vspace_layout.specs.MappedPages.{mapped_pages}
+use Rattle.vspace_layout.specs.Memory.{is_shared, leads_to, memory_pages, registers, registers_in, same_port}
+use Rattle.vspace_layout.proofs.Standing.{own_port}
+use Rattle.spec_laws.specs.CanMap.{CanMap}
+use Rattle.spec_laws.specs.Framed.{IsOwn, OneDevice}
+use Rattle.spec_laws.specs.Ordered.{AreFramesInOrder, IsBefore, IsOwnAt, IsRegisterAt, IsSharedAt}
+use Rattle.spec_laws.specs.Spaced.{root_of, system}
+use Rattle.spec_laws.proofs.Blocks.{behind, inside}
+use Rattle.spec_laws.proofs.Finding.{found, rise}
+use Rattle.spec_laws.proofs.Framing.{FirstTo}
+use Rattle.spec_laws.proofs.Lists.{not_above}
+use Rattle.spec_laws.proofs.Owning.{inside_own, no_memory, one_own, own_of}
+use Rattle.spec_laws.proofs.Rooted.{frames_from}
+use Rattle.spec_laws.proofs.Showing.{MemoryPlace, memory_at, memory_shown}
+use Rattle.spec_laws.proofs.SlotLists.{some}
+
+-- ---- the first connection to a device
+
+first_least : (t : Tables) (k : ℕ) (c : FlatConnection) (e : FlatEnd) → slice_get t.flat.connections k ≡ Some c → registers c ≡ Some e → (f : FirstTo t e) → f.number ≤ k
+first_least t k c e h r f =
+    let cs = t.flat.connections in
+    let s = position-Some (leads_to e) cs f.number c f.first in
+    elim (cases_lt k f.number) [
+      | inl l ↦
+          let yes : leads_to e c ≡ true = ap (λ o. option_map_or (same_port e) o false) r ∙ own_port e in
+          absurd (true≢false (sym yes ∙ ap (leads_to e) (sym (get_or_from_slice_get cs k c c h)) ∙ s.2 k l))
+      | inr l ↦ omega (arith, l)
+    ]
+
+module _ (t : Tables) (can : CanMap t) where
+  abbrev pages : ℕ → List MappedPage
+  pages d = mapped_pages (system t) d
+
+  abbrev own : ℕ
+  own = length (own_part (system t))
+
+  abbrev cs : List FlatConnection
+  cs = t.flat.connections
+
+  -- ---- own frames
+
+  record OwnNumber (d v at : ℕ) : Type 0 where
+    leaves : Domain
+    here : slice_get t.flat.domains d ≡ Some leaves
+    number : ℕ
+    page : MappedPage
+    stands : slice_get (pages d) number ≡ Some page
+    same : page.at / 4096 ≡ v / 4096
+    fill : Option Fill
+    shown : page.shown ≡ Own fill
+    is : at ≡ frames_from t + (before (own_frames (system t)) t.flat.domains d + before (own_of d) (pages d) number)
+    low : before (own_of d) (pages d) number < length (own_frames (system t) d leaves)
+
+  own_at : (d v at : ℕ) → IsOwnAt t (spec_of t) (root_of t) d v at → OwnNumber d v at
+  own_at d v at w =
+      let f = found t can d w.leaves w.here v w.cap w.within w.mapped in
+      let P : ℕ → Type 0 = λ z. IsOwn t (spec_of t) (root_of t) z in
+      let fill = no_memory t can d w.leaves w.here v w.cap f (subst P (sym w.names) w.own) in
+      let is : w.cap.object ≡ frames_from t + own_number (system t) d f.number =
+      ap (λ (z : Cap). z.object) f.is ∙ ap (λ z. frames_from t + number_shown (system t) d f.number z) fill.1 in
+      record {
+        leaves = w.leaves;
+        here = w.here;
+        number = f.number;
+        page = f.shown;
+        stands = f.here;
+        same = f.same;
+        fill = fill.0;
+        shown = fill.1;
+        is = sym w.names ∙ is;
+        low = inside_own t can d f.number w.leaves f.shown fill.0 f.here fill.1;
+      }
+
+  own_order : (d v m e w n : ℕ) → OwnNumber d v m → OwnNumber e w n → IsBefore d (v / 4096) e (w / 4096) → m < n
+  own_order d v m e w n a b (inl l) =
+      let next = behind (own_frames (system t)) t.flat.domains d e a.leaves a.here l in
+      let low = a.low in
+      let i = a.is in
+      let j = b.is in
+      omega (arith, next, low, i, j)
+  own_order d v m e w n a b (inr r) = in_domain (subst (λ z. OwnNumber z w n) (sym r.0) b)
+    where
+      in_domain : OwnNumber d w n → m < n
+      in_domain b =
+          let p = a.same in
+          let q = b.same in
+          let less = r.1 in
+          let i = a.is in
+          let j = b.is in
+          elim (cases_lt a.number b.number) [
+            | inl l ↦
+                let next = behind (own_of d) (pages d) a.number b.number a.page a.stands l in
+                let one = one_own d a.page a.fill a.shown in
+                omega (arith, next, one, i, j)
+            | inr l ↦
+                let le = not_above (λ (z : MappedPage). z.at) (pages d) b.number a.number b.page a.page (rise t can d a.leaves a.here).rise b.stands a.stands (omega (arith, l)) in
+                absurd (omega (arith, le, p, q, less))
+          ]
+
+  own_below : (d v m : ℕ) → OwnNumber d v m → m < frames_from t + own
+  own_below d v m a =
+      let all : before (own_frames (system t)) t.flat.domains d + length (own_frames (system t) d a.leaves) ≤ own = inside (own_frames (system t)) t.flat.domains d a.leaves a.here in
+      let low = a.low in
+      let i = a.is in
+      omega (arith, all, low, i)
+
+  -- ---- frames of memory
+
+  record SharedNumber (k j at : ℕ) : Type 0 where
+    connection : FlatConnection
+    here : slice_get cs k ≡ Some connection
+    is : at ≡ frames_from t + (own + before (shared_frames t.settled) cs k + j)
+    low : j < length (shared_frames t.settled k connection)
+
+  record RegisterNumber (k j at : ℕ) : Type 0 where
+    connection : FlatConnection
+    here : slice_get cs k ≡ Some connection
+    is : at ≡ frames_from t + (own + (length (shared_part t.flat t.settled) + before (register_frames t.flat t.settled) cs k) + j)
+    low : j < length (register_frames t.flat t.settled k connection)
+
+  shared_at : (k j at : ℕ) → IsSharedAt t (spec_of t) (root_of t) k j at → SharedNumber k j at
+  shared_at k j at w =
+      let s = memory_shown t can w.domain k j at w.connection w.here w.shows in
+      by_place s.is (memory_at t can k j w.connection w.here s.kind s.within)
+    where
+      by_place : at ≡ frames_from t + memory_number (system t) k j → MemoryPlace t k j w.connection → SharedNumber k j at
+      by_place is (MemoryPlace.at_shared n a) = record { connection = w.connection; here = w.here; is = is ∙ ap (λ z. frames_from t + z) n; low = a }
+      by_place is (MemoryPlace.at_device e r f n a) =
+          let none : registers w.connection ≡ None = ap (λ z. registers_in z w.connection.ends) w.is_shared in
+          let g = sym none ∙ r in absurd cc
+
+  register_at : (k j at : ℕ) → IsRegisterAt t (spec_of t) (root_of t) k j at → RegisterNumber k j at
+  register_at k j at w =
+      let s = memory_shown t can w.domain k j at w.connection w.here w.shows in
+      by_place s.is (elim s.kind [ inl m ↦ (let g : SharedMemory ≡ Mmio = sym m ∙ w.is_device in absurd cc) | inr m ↦ memory_at t can k j w.connection w.here (inr m) s.within ])
+    where
+      by_place : at ≡ frames_from t + memory_number (system t) k j → MemoryPlace t k j w.connection → RegisterNumber k j at
+      by_place is (MemoryPlace.at_shared n a) =
+          let none : length (shared_frames t.settled k w.connection) ≡ 0 = ap (λ z. length (cond (is_shared z) (connection_frames k (memory_pages t.settled k w.connection)) [])) w.is_device in
+          absurd (omega (arith, none, a))
+      by_place is (MemoryPlace.at_device e r f n a) =
+          let one : OneDevice w.connection f.connection = record { port = e; first = r; other = f.end; second = f.leads; leaf = sym f.leaf; member = sym f.member } in
+          let le = w.first f.number f.connection f.here one in
+          let ge = first_least t k w.connection e w.here r f in
+          let same : f.number ≡ k = omega (arith, le, ge) in
+          let P : ℕ → Type 0 = λ z. slice_get cs z ≡ Some f.connection in
+          let conn : f.connection ≡ w.connection = some (slice_get cs k) f.connection w.connection (subst P same f.here) w.here in
+          let F = register_frames t.flat t.settled in
+          let sum : before F cs f.number ≡ before F cs k = ap (λ z. before F cs z) same in
+          let long : length (F f.number f.connection) ≡ length (F k w.connection) = ap (λ z. length (F z f.connection)) same ∙ ap (λ z. length (F k z)) conn in
+          record {
+            connection = w.connection;
+            here = w.here;
+            is = is ∙ ap (λ z. frames_from t + z) n ∙ ap (λ z. frames_from t + (own + (length (shared_part t.flat t.settled) + z) + j)) sum;
+            low = omega (arith, long, a);
+          }
+
+  shared_order : (k i m l j n : ℕ) → SharedNumber k i m → SharedNumber l j n → IsBefore k i l j → m < n
+  shared_order k i m l j n a b (inl g) =
+      let next = behind (shared_frames t.settled) cs k l a.connection a.here g in
+      let low = a.low in
+      let p = a.is in
+      let q = b.is in
+      omega (arith, next, low, p, q)
+  shared_order k i m l j n a b (inr r) =
+      let same : before (shared_frames t.settled) cs k ≡ before (shared_frames t.settled) cs l = ap (λ z. before (shared_frames t.settled) cs z) r.0 in
+      let less = r.1 in
+      let p = a.is in
+      let q = b.is in
+      omega (arith, same, less, p, q)
+
+  shared_below : (k i m l j n : ℕ) → SharedNumber k i m → RegisterNumber l j n → m < n
+  shared_below k i m l j n a b =
+      let all : before (shared_frames t.settled) cs k + length (shared_frames t.settled k a.connection) ≤ length (shared_part t.flat t.settled) = inside (shared_frames t.settled) cs k a.connection a.here in
+      let low = a.low in
+      let p = a.is in
+      let q = b.is in
+      omega (arith, all, low, p, q)
+
+  register_order : (k i m l j n : ℕ) → RegisterNumber k i m → RegisterNumber l j n → IsBefore k i l j → m < n
+  register_order k i m l j n a b (inl g) =
+      let next = behind (register_frames t.flat t.settled) cs k l a.connection a.here g in
+      let low = a.low in
+      let p = a.is in
+      let q = b.is in
+      omega (arith, next, low, p, q)
+  register_order k i m l j n a b (inr r) =
+      let F = register_frames t.flat t.settled in
+      let same : before F cs k ≡ before F cs l = ap (λ z. before F cs z) r.0 in
+      let less = r.1 in
+      let p = a.is in
+      let q = b.is in
+      omega (arith, same, less, p, q)
+
+  behind_own : (d v m k j n : ℕ) → IsOwnAt t (spec_of t) (root_of t) d v m → IsSharedAt t (spec_of t) (root_of t) k j n ⊎ IsRegisterAt t (spec_of t) (root_of t) k j n → m < n
+  behind_own d v m k j n a (inl b) =
+      let low = own_below d v m (own_at d v m a) in
+      let is = (shared_at k j n b).is in
+      omega (arith, low, is)
+  behind_own d v m k j n a (inr b) =
+      let low = own_below d v m (own_at d v m a) in
+      let is = (register_at k j n b).is in
+      omega (arith, low, is)
+
+  -- ---- numbers
+
+  named : (n : ℕ) → n < length t.spaces.frames → IsNamed (spec_of t) (place t (FrameOf 0) + n) series.Frame n
+  named n l =
+      let x = at_place t.spaces.frames n l in
+      let y = owned (frame_owner x.0.owner) (FrameOf n) in
+      let g : ℕ → FrameInfo → Owned = λ n z. owned (frame_owner z.owner) (FrameOf n) in
+      let k : ℕ → Owned → List Part = λ n z. part series.Frame n z.owner z.what ∷ [] in
+      let p = part series.Frame n (frame_owner x.0.owner) (FrameOf n) in
+      let there = in_together (sections t) 7 (numbered series.Frame (frame_parts t.spaces.frames)) p refl (in_gather k p (frame_parts t.spaces.frames) n y (get_ones g t.spaces.frames n x.0 x.1) (inl refl)) in
+      let at : place t (FrameOf n) ≡ place t (FrameOf 0) + n = omega arith in
+      ap (name_at (spec_of t)) (sym at) ∙ (objects_stand t).name p there
+
+  all_numbered : (at : ℕ) (paddr : Option ℕ) (fill : Option Fill) → object_at (spec_of t) at ≡ Some (objects.Frame paddr fill) → (n : ℕ) × (n < length t.spaces.frames) × (at ≡ place t (FrameOf 0) + n)
+  all_numbered at paddr fill o =
+      let p = part_there t at (objects.Frame paddr fill) o in
+      let w = frame_what t p.0.what paddr fill p.2 in
+      let stands : place t (FrameOf w.number) ≡ place t (FrameOf 0) + w.number = omega arith in
+      (w.number, below t.spaces.frames w.number w.info w.there, sym (place_is t at p.0 p.1) ∙ ap (λ z. place t z) w.what ∙ stands)
+
+  pub frames_in_order : AreFramesInOrder t (spec_of t) (root_of t)
+  frames_in_order = record {
+    own = λ d v m e w n a b l. own_order d v m e w n (own_at d v m a) (own_at e w n b) l;
+    own_first = behind_own;
+    shared = λ k i m l j n a b h. shared_order k i m l j n (shared_at k i m a) (shared_at l j n b) h;
+    shared_first = λ k i m l j n a b. shared_below k i m l j n (shared_at k i m a) (register_at l j n b);
+    registers = λ k i m l j n a b h. register_order k i m l j n (register_at k i m a) (register_at l j n b) h;
+    numbered = record { first = place t (FrameOf 0); count = length t.spaces.frames; each = named; all = all_numbered };
+  }

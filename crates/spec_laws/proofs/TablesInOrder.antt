@@ -1,0 +1,422 @@
+-- Each page table is one that some page needs, and tables of a level stand by domain and address
+use Rattle.std.proofs.Common.{◌≡◌, ◌<◌, ◌≤◌, ◌+◌, ◌-◌, ◌/◌, ◌∙◌, ℕ, zero, suc, Bool, true, false, cond, take, List, [], ◌∷◌, ◌++◌, map, drop, length, Option, Some, None, refl, sym, ap, subst, inl, inr, append_assoc, arith}
+use Rattle.std.proofs.Math.Nat.{mul-le-mul_right}
+use Rattle.std.proofs.lemmas.Bool.{cases_lt, eq-eqb, eqb-true}
+use Rattle.std.specs.List.{count_by, slice_get}
+use Rattle.std.specs.Option.{option_map_or}
+use Rattle.adl_meaning.specs.declared.flat.Domain.{Domain}
+use Rattle.cap_model.specs.declared.cap.Cap.{Cap}
+use Rattle.cap_model.specs.declared.kind.Kind.TheVariants as kinds
+use Rattle.cap_model.specs.declared.level.Level.{Level}
+use Rattle.cap_model.specs.declared.level.Level.TheVariants.{Directory, Global, Table, Upper}
+use Rattle.cap_model.specs.declared.object.Object.{Object}
+use Rattle.cap_model.specs.declared.object.Object.TheVariants as objects
+use Rattle.cap_model.specs.Kinds.{kind_of_object}
+use Rattle.cap_model.specs.Lookup.{name_at, object_at}
+use Rattle.cam_base.specs.Gather.{IsIn, before, gather}
+use Rattle.cam_base.proofs.Gathered.{from_ones, from_place, gather_ones, gathered, get_ones, in_place}
+use Rattle.cam_base.proofs.NumberedLists.{at_place, below}
+use Rattle.page_tables.specs.declared.mapping.Mapping.{Mapping}
+use Rattle.page_tables.specs.declared.shape.Shape.{Shape}
+use Rattle.page_tables.specs.Fits.{AreShapes}
+use Rattle.page_tables.specs.Levels.{layers, numbered, sizes, table_of, upper, uppers}
+use Rattle.page_tables.specs.Runs.{Ascends, Rises, head_of, heads, runs}
+use Rattle.page_tables.specs.Shapes.{AreStacked, shapes, span}
+use Rattle.page_tables.specs.Walks.{Arrives, root_span}
+use Rattle.page_tables.proofs.Fitting.{shapes_fit, shapes_stack, span_some}
+use Rattle.page_tables.proofs.Leveled.{as_many}
+use Rattle.page_tables.proofs.Rooting.{upper_below}
+use Rattle.page_tables.proofs.Running.{from_runs, one_table, tables_rise}
+use Rattle.page_tables.proofs.Walking.{above, arrives}
+use Rattle.system_spec.specs.declared.part.PageTable.{PageTable}
+use Rattle.system_spec.specs.declared.part.What.{What}
+use Rattle.system_spec.specs.declared.part.What.TheVariants.{CNodeOf, EndpointOf, FrameOf, IrqOf, LockOf, NotificationOf, TableOf, ThreadOf}
+use Rattle.system_spec.specs.Made.{spec_of}
+use Rattle.system_spec.specs.Objects.{frame_object, object, tcb}
+use Rattle.system_spec.specs.Parts.{all_tables, domain_tables, first_of, is_of, level_number, level_of, of_level, page_mapping, page_table, parts, place, table_part, tables_at}
+use Rattle.system_spec.specs.Names.{level_series, name_of}
+use Rattle.system_spec.specs.Tables.{Tables, arch, threads_at}
+use Rattle.system_spec.proofs.Domains.{tables_counted}
+use Rattle.system_spec.proofs.Objects.{objects_stand}
+use Rattle.system_spec.proofs.Standing.{place_is}
+use Rattle.system_spec.proofs.There.{IsThere, object_there, there as part_is_there}
+use Rattle.vspace_layout.specs.declared.mapped.MappedPage.{MappedPage}
+use Rattle.vspace_layout.specs.declared.spaces.FrameInfo.{FrameInfo}
+use Rattle.vspace_layout.specs.declared.spaces.Page.{Page}
+use Rattle.vspace_layout.specs.declared.spaces.ThreadPlace.{ThreadPlace}
+use Rattle.vspace_layout.specs.MappedPages.{mapped_pages}
+use Rattle.spec_laws.specs.CanMap.{CanMap}
+use Rattle.spec_laws.specs.Ordered.{AreTablesInOrder, IsBefore, IsTableOfSpace}
+use Rattle.spec_laws.specs.Slotted.{IsNamed}
+use Rattle.spec_laws.specs.Spaced.{IsTableFor, objects_from, root_of, system}
+use Rattle.spec_laws.proofs.Blocks.{behind}
+use Rattle.spec_laws.proofs.Finding.{laid_page, maps, maps_below, pages_are, rise, some_map}
+use Rattle.spec_laws.proofs.Kinding.{series_kind, table_kind}
+use Rattle.spec_laws.proofs.Lists.{not_above}
+use Rattle.spec_laws.proofs.Locks.{part_there}
+use Rattle.spec_laws.proofs.RootLevels.{count_cons, ones}
+use Rattle.spec_laws.proofs.Rooted.{frames_from, from_root, table_in, tables_of_domain}
+use Rattle.spec_laws.proofs.Tabled.{no_level, there, upper_of}
+
+-- ---- each table is needed
+
+-- the table at place n of these levels is arrived at, of some level for some address
+pub record Reached (first : ℕ) (T : List Object) (ks : List Shape) (n : ℕ) : Type 0 where
+  pub level : ℕ
+  pub lowest : Shape
+  pub higher : List Shape
+  pub levels : drop level ks ≡ lowest ∷ higher
+  pub v : ℕ
+  pub within : v < root_span ks
+  pub table : Arrives first T (lowest ∷ higher) v n
+
+here : (k : Shape) (ks : List Shape) (xs : List Mapping) (y : Mapping) (first link : ℕ) (T back : List Object) (n : ℕ) → AreStacked (k ∷ ks) → AreShapes (k ∷ ks) → IsIn y xs
+    → ((x : Mapping) → IsIn x xs → x.at < root_span (k ∷ ks)) → T ≡ numbered first link (layers (k ∷ ks) xs) ++ back → above k ks xs ≤ n → n < sizes (layers (k ∷ ks) xs) → Reached first T (k ∷ ks) n
+here k ks xs y first link T back n stacked fit i h t low l =
+    let rs = runs (span k) xs in
+    let p = n - above k ks xs in
+    let r = at_place rs p (omega (arith, low, l)) in
+    let o = one_table (span k) xs r.0 (in_place r.0 rs p r.1) in
+    let x = o.some in
+    let there = from_runs (span k) x.0 xs r.0 (in_place r.0 rs p r.1) x.1 in
+    let is : n ≡ above k ks xs + p = omega (arith, low) in
+    record {
+      level = 0;
+      lowest = k;
+      higher = ks;
+      levels = refl;
+      v = x.0.at;
+      within = h x.0 there;
+      table = (arrives k ks xs y first link T back x.0.at stacked fit i h (h x.0 there) t n).1 (record { number = p; run = r.0; at = r.1; head = sym (o.same x.0 x.1); is = is });
+    }
+
+reached : (ks : List Shape) (xs : List Mapping) (y : Mapping) (first link : ℕ) (T back : List Object) (n : ℕ) → AreStacked ks → AreShapes ks → IsIn y xs
+    → ((x : Mapping) → IsIn x xs → x.at < root_span ks) → T ≡ numbered first link (layers ks xs) ++ back → n < sizes (layers ks xs) → Reached first T ks n
+reached [] xs y first link T back n stacked fit i h t l = absurd (omega (arith, l))
+reached (k ∷ []) xs y first link T back n stacked fit i h t l = here k [] xs y first link T back n stacked fit i h t (omega arith) l
+reached (k ∷ m ∷ ks) xs y first link T back n stacked fit i h t l =
+    let rs = runs (span k) xs in
+    let U = uppers k rs in
+    let next = first + sizes (layers (m ∷ ks) U) in
+    let mine = map (table_of k link) rs in
+    let split : T ≡ numbered first next (layers (m ∷ ks) U) ++ (mine ++ back) = t ∙ append_assoc (numbered first next (layers (m ∷ ks) U)) mine back in
+    let low = h y i in
+    let bound : 0 < root_span (m ∷ ks) = omega (arith, low) in
+    let up = upper_of k xs y i in
+    elim (cases_lt n (above k (m ∷ ks) xs)) [
+      | inl f ↦
+          let ih = reached (m ∷ ks) U up.0 first next T (mine ++ back) n stacked.1 (λ s q. fit s (inr q)) up.1 (upper_below k xs (root_span (m ∷ ks)) bound h) split f in
+          record { level = suc ih.level; lowest = ih.lowest; higher = ih.higher; levels = ih.levels; v = ih.v; within = ih.within; table = ih.table }
+      | inr f ↦ here k (m ∷ ks) xs y first link T back n stacked fit i h t (omega (arith, f)) l
+    ]
+
+-- ---- tables of a level stand by address
+
+ascends_up : (l : Shape) (g : ℕ → ℕ) (rs : List (List Mapping)) → Rises (heads (span l) rs) → Ascends (gather (λ j r. upper l (g j) r ∷ []) rs)
+ascends_up l g [] r = tt
+ascends_up l g (a ∷ []) r = (tt, tt)
+ascends_up l g (a ∷ b ∷ rs) r =
+    let less : head_of (span l) a < head_of (span l) b = r.0 in
+    (mul-le-mul_right (span l) (omega (arith, less)), ascends_up l (λ j. g (suc j)) (b ∷ rs) r.1)
+
+-- tables of the lowest of these levels stand in order of their addresses
+abbrev Sorted : ℕ → List Object → List Shape → ℕ → ℕ → ℕ → ℕ → Type 0
+Sorted first T [] v w m n = Unit {0}
+Sorted first T (l ∷ ls) v w m n = Arrives first T (l ∷ ls) v m → Arrives first T (l ∷ ls) w n → v / span l < w / span l → m < n
+
+lowest : (l : Shape) (ls : List Shape) (xs : List Mapping) (y : Mapping) (first link : ℕ) (T back : List Object) (v w m n : ℕ) → AreStacked (l ∷ ls) → AreShapes (l ∷ ls) → IsIn y xs → Ascends xs
+    → ((x : Mapping) → IsIn x xs → x.at < root_span (l ∷ ls)) → v < root_span (l ∷ ls) → w < root_span (l ∷ ls) → T ≡ numbered first link (layers (l ∷ ls) xs) ++ back → Sorted first T (l ∷ ls) v w m n
+lowest l ls xs y first link T back v w m n stacked fit i asc h b c t a e less =
+    let rs = runs (span l) xs in
+    let p = (arrives l ls xs y first link T back v stacked fit i h b t m).0 a in
+    let q = (arrives l ls xs y first link T back w stacked fit i h c t n).0 e in
+    let mine = p.head in
+    let other = q.head in
+    let at = p.is in
+    let to = q.is in
+    elim (cases_lt p.number q.number) [
+      | inl f ↦ omega (arith, f, at, to)
+      | inr f ↦
+          let le = not_above (head_of (span l)) rs q.number p.number q.run p.run (tables_rise (span l) (span_some l (fit l (inl refl))) xs asc) q.at p.at (omega (arith, f)) in
+          absurd (omega (arith, le, less, mine, other))
+    ]
+
+sorted : (j : ℕ) (ks : List Shape) (l : Shape) (ls : List Shape) (xs : List Mapping) (y : Mapping) (first link : ℕ) (T back : List Object) (v w m n : ℕ) → drop j ks ≡ l ∷ ls → AreStacked ks → AreShapes ks → IsIn y xs → Ascends xs
+    → ((x : Mapping) → IsIn x xs → x.at < root_span ks) → v < root_span ks → w < root_span ks → T ≡ numbered first link (layers ks xs) ++ back → Sorted first T (l ∷ ls) v w m n
+sorted zero [] l ls xs y first link T back v w m n e stacked fit i asc h b c t = absurd (no_level 0 l ls e)
+sorted zero (k ∷ ks) l ls xs y first link T back v w m n e stacked fit i asc h b c t =
+    subst (λ z. Sorted first T z v w m n) e (lowest k ks xs y first link T back v w m n stacked fit i asc h b c t)
+sorted (suc j) [] l ls xs y first link T back v w m n e stacked fit i asc h b c t = absurd (no_level (suc j) l ls e)
+sorted (suc j) (k ∷ []) l ls xs y first link T back v w m n e stacked fit i asc h b c t = absurd (no_level j l ls e)
+sorted (suc j) (k ∷ o ∷ ks) l ls xs y first link T back v w m n e stacked fit i asc h b c t =
+    let rs = runs (span k) xs in
+    let U = uppers k rs in
+    let next = first + sizes (layers (o ∷ ks) U) in
+    let mine = map (table_of k link) rs in
+    let split : T ≡ numbered first next (layers (o ∷ ks) U) ++ (mine ++ back) = t ∙ append_assoc (numbered first next (layers (o ∷ ks) U)) mine back in
+    let bound : 0 < root_span (o ∷ ks) = omega (arith, b) in
+    let up = upper_of k xs y i in
+    let rising = ascends_up k (λ j. j) rs (tables_rise (span k) (span_some k (fit k (inl refl))) xs asc) in
+    sorted j (o ∷ ks) l ls U up.0 first next T (mine ++ back) v w m n e stacked.1 (λ s q. fit s (inr q)) up.1 rising (upper_below k xs (root_span (o ∷ ks)) bound h) b c split
+
+-- ---- which objects are page tables
+
+pages_what : (t : Tables) (w : What) (level : Level) (slots : List (ℕ × Cap)) → object t w ≡ objects.Pages level slots → (d j : ℕ) × (w ≡ TableOf d j)
+pages_what t (CNodeOf d) level slots h = cc
+pages_what t (ThreadOf d i) level slots h = by_thread (slice_get (threads_at t d) i) h
+  where
+    by_thread : (o : Option ThreadPlace) → option_map_or (λ x. objects.Thread (tcb t d x)) o objects.Endpoint ≡ objects.Pages level slots → (e j : ℕ) × (ThreadOf d i ≡ TableOf e j)
+    by_thread (Some x) f = absurd cc
+    by_thread None f = absurd cc
+pages_what t (EndpointOf k) level slots h = cc
+pages_what t (NotificationOf k) level slots h = cc
+pages_what t (LockOf d n) level slots h = cc
+pages_what t (IrqOf k) level slots h = cc
+pages_what t (TableOf d j) level slots h = (d, j, refl)
+pages_what t (FrameOf f) level slots h = by_frame (slice_get t.spaces.frames f) h
+  where
+    by_frame : (o : Option FrameInfo) → option_map_or frame_object o objects.Endpoint ≡ objects.Pages level slots → (e j : ℕ) × (FrameOf f ≡ TableOf e j)
+    by_frame (Some x) e = absurd cc
+    by_frame None e = absurd cc
+
+pages_same : (l m : Level) → kinds.Pages l ≡ kinds.Pages m → l ≡ m
+pages_same l m e = cc
+
+-- more pass in front of what stands behind one that passes
+count_rises : (p : PageTable → Bool) (xs : List PageTable) (a b : ℕ) (x : PageTable) → slice_get xs a ≡ Some x → p x ≡ true → a < b → count_by p (take a xs) < count_by p (take b xs)
+count_rises p [] a b x e h l = cc
+count_rises p (y ∷ ys) zero zero x e h l = absurd (omega (arith, l))
+count_rises p (y ∷ ys) zero (suc b) x e h l =
+    let same : y ≡ x = cc in
+    let c = count_cons p y (take b ys) in
+    let one : ones p y ≡ 1 = ap (ones p) same ∙ ap (λ z. cond z 1 0) h in
+    omega (arith, c, one)
+count_rises p (y ∷ ys) (suc a) zero x e h l = absurd (omega (arith, l))
+count_rises p (y ∷ ys) (suc a) (suc b) x e h l =
+    let ih = count_rises p ys a b x e h (omega (arith, l)) in
+    let c = count_cons p y (take a ys) in
+    let d = count_cons p y (take b ys) in
+    omega (arith, ih, c, d)
+
+-- and each lesser count is that of one that passes
+attained : (p : PageTable → Bool) (xs : List PageTable) (a n : ℕ) → n < count_by p (take a xs) → (b : ℕ) × (x : PageTable) × (slice_get xs b ≡ Some x) × (p x ≡ true) × (count_by p (take b xs) ≡ n)
+attained p [] zero n l = absurd (omega (arith, l))
+attained p [] (suc a) n l = absurd (omega (arith, l))
+attained p (y ∷ ys) zero n l = absurd (omega (arith, l))
+attained p (y ∷ ys) (suc a) n l = by_test (p y) refl n l (λ m k. attained p ys a m k)
+  where
+    by_test : (b : Bool) → p y ≡ b → (n : ℕ) → n < count_by p (y ∷ take a ys) → ((m : ℕ) → m < count_by p (take a ys) → (b : ℕ) × (x : PageTable) × (slice_get ys b ≡ Some x) × (p x ≡ true) × (count_by p (take b ys) ≡ m))
+        → (b : ℕ) × (x : PageTable) × (slice_get (y ∷ ys) b ≡ Some x) × (p x ≡ true) × (count_by p (take b (y ∷ ys)) ≡ n)
+    by_test true e zero l more = (0, y, refl, e, refl)
+    by_test true e (suc n) l more =
+        let c = count_cons p y (take a ys) in
+        let one : ones p y ≡ 1 = ap (λ z. cond z 1 0) e in
+        let r = more n (omega (arith, l, c, one)) in
+        let d = count_cons p y (take r.0 ys) in
+        let is = r.4 in
+        (suc r.0, r.1, r.2, r.3, omega (arith, d, one, is))
+    by_test false e n l more =
+        let c = count_cons p y (take a ys) in
+        let no : ones p y ≡ 0 = ap (λ z. cond z 1 0) e in
+        let r = more n (omega (arith, l, c, no)) in
+        let d = count_cons p y (take r.0 ys) in
+        let is = r.4 in
+        (suc r.0, r.1, r.2, r.3, omega (arith, d, no, is))
+
+-- an object of a level's kind is a table of the level
+from_kind : (o : Object) (l : Level) → kind_of_object o ≡ kinds.Pages l → (slots : List (ℕ × Cap)) × (o ≡ objects.Pages l slots)
+from_kind (objects.Pages m slots) l e = (slots, ap (λ z. objects.Pages z slots) (pages_same m l e))
+from_kind objects.Endpoint l e = absurd cc
+from_kind objects.Notification l e = absurd cc
+from_kind (objects.CNode bits slots) l e = absurd cc
+from_kind (objects.Thread tcb) l e = absurd cc
+from_kind (objects.Frame paddr fill) l e = absurd cc
+from_kind (objects.Irq n) l e = absurd cc
+
+same_level : (l m : Level) → level_number l ≡ level_number m → l ≡ m
+same_level Global Global e = refl
+same_level Upper Upper e = refl
+same_level Directory Directory e = refl
+same_level Table Table e = refl
+same_level Global Upper e = absurd (omega (arith, e))
+same_level Global Directory e = absurd (omega (arith, e))
+same_level Global Table e = absurd (omega (arith, e))
+same_level Upper Global e = absurd (omega (arith, e))
+same_level Upper Directory e = absurd (omega (arith, e))
+same_level Upper Table e = absurd (omega (arith, e))
+same_level Directory Global e = absurd (omega (arith, e))
+same_level Directory Upper e = absurd (omega (arith, e))
+same_level Directory Table e = absurd (omega (arith, e))
+same_level Table Global e = absurd (omega (arith, e))
+same_level Table Upper e = absurd (omega (arith, e))
+same_level Table Directory e = absurd (omega (arith, e))
+
+ascends_map : (f : Page → Mapping) (g : ℕ → MappedPage → Page) → ((n : ℕ) (p : MappedPage) → (f (g n p)).at ≡ p.at) → (ps : List MappedPage) → Rises (map (λ p. p.at) ps) → Ascends (map f (gather (λ n p. g n p ∷ []) ps))
+ascends_map f g at [] r = tt
+ascends_map f g at (p ∷ []) r = (tt, tt)
+ascends_map f g at (p ∷ q ∷ ps) r =
+    let less : p.at < q.at = r.0 in
+    let a = at 0 p in
+    let b = at 1 q in
+    (omega (arith, less, a, b), ascends_map f (λ n. g (suc n)) (λ n. at (suc n)) (q ∷ ps) r.1)
+
+module _ (t : Tables) (can : CanMap t) where
+  -- what is mapped in a space stands in order
+  in_order : (d : ℕ) (x : Domain) (h : slice_get t.flat.domains d ≡ Some x) → Ascends (maps t can d x h)
+  in_order d x h =
+      subst (λ (z : List Page). Ascends (map (page_mapping (frames_from t)) z)) (sym (pages_are t can d x h))
+      (ascends_map (page_mapping (frames_from t)) (λ n p. laid_page t can d x h n p) (λ n p. refl) (mapped_pages (system t) d) (rise t can d x h).rise)
+
+  -- ---- each is needed
+
+  needed : (d n : ℕ) (x : Domain) (h : slice_get t.flat.domains d ≡ Some x) → n < length (tables_of_domain t d) → Reached (root_of t d) (objects_from (spec_of t) (root_of t d)) (shapes (arch t)) n
+  needed d n x h l =
+      let y = some_map t can d x h in
+      let many = as_many (root_of t d) 0 (layers (shapes (arch t)) (maps t can d x h)) in
+      reached (shapes (arch t)) (maps t can d x h) y.0 (root_of t d) 0 (objects_from (spec_of t) (root_of t d)) (drop (length (tables_of_domain t d)) (objects_from (spec_of t) (root_of t d))) n
+      (shapes_stack (arch t)) (shapes_fit (arch t)) y.1 (maps_below t can d x h) (from_root t d x h) (omega (arith, l, many))
+
+  as_long : (d : ℕ) → length (tables_of_domain t d) ≡ length (tables_at t 0 0 d)
+  as_long d = tables_counted t (root_of t d) (frames_from t) d ∙ sym (tables_counted t 0 0 d)
+
+  all : (at : ℕ) (level : Level) (slots : List (ℕ × Cap)) → object_at (spec_of t) at ≡ Some (objects.Pages level slots) → IsTableOfSpace t (spec_of t) (root_of t) at
+  all at level slots o =
+      let p = part_there t at (objects.Pages level slots) o in
+      let w = pages_what t p.0.what level slots p.2 in
+      let is : IsThere t (TableOf w.0 w.1) = subst (λ z. IsThere t z) w.2 (part_is_there t p.0 (in_place p.0 (parts t) at p.1)) in
+      let x = is.0 in
+      let long = as_long w.0 in
+      let l = below (tables_at t 0 0 w.0) w.1 is.1.0 is.1.1 in
+      let r = needed w.0 w.1 x.0 x.1 (omega (arith, long, l)) in
+      let stands : place t (TableOf w.0 w.1) ≡ root_of t w.0 + w.1 = omega arith in
+      record {
+        domain = w.0;
+        leaves = x.0;
+        here = x.1;
+        level = r.level;
+        lowest = r.lowest;
+        higher = r.higher;
+        levels = r.levels;
+        v = r.v;
+        within = r.within;
+        number = w.1;
+        table = r.table;
+        at = sym (place_is t at p.0 p.1) ∙ ap (λ z. place t z) w.2 ∙ stands;
+      }
+
+  -- ---- and they stand in order
+
+  -- the tables of a domain stand before those of the next ones
+  before_next : (d e : ℕ) (x : Domain) → slice_get t.flat.domains d ≡ Some x → d < e → root_of t d + length (tables_of_domain t d) ≤ root_of t e
+  before_next d e x h l =
+      let ones : length (domain_tables t d x) ≡ length (tables_at t 0 0 d) = gather_ones (λ j (o : Object). page_table d j (level_of o)) (tables_at t 0 0 d) in
+      let long = as_long d in
+      let next = behind (domain_tables t) t.flat.domains d e x h l in
+      let mine : root_of t d ≡ first_of t 6 + before (domain_tables t) t.flat.domains d = omega arith in
+      let other : root_of t e ≡ first_of t 6 + before (domain_tables t) t.flat.domains e = omega arith in
+      omega (arith, ones, long, next, mine, other)
+
+  order : (d e v w j m n : ℕ) (x y : Domain) (l : Shape) (ls : List Shape) → slice_get t.flat.domains d ≡ Some x → slice_get t.flat.domains e ≡ Some y → drop j (shapes (arch t)) ≡ l ∷ ls
+      → v < root_span (shapes (arch t)) → w < root_span (shapes (arch t)) → IsTableFor (spec_of t) (root_of t d) (l ∷ ls) v m → IsTableFor (spec_of t) (root_of t e) (l ∷ ls) w n
+      → IsBefore d (v / span l) e (w / span l) → root_of t d + m < root_of t e + n
+  order d e v w j m n x y l ls h g s b c a o (inl less) =
+      let low = (there t can d j v x l ls h s b).1 m a in
+      let many = as_many (root_of t d) 0 (layers (shapes (arch t)) (maps t can d x h)) in
+      let next = before_next d e x h less in
+      omega (arith, low, many, next)
+  order d e v w j m n x y l ls h g s b c a o (inr r) =
+      let z = some_map t can d x h in
+      let P : ℕ → Type 0 = λ k. IsTableFor (spec_of t) (root_of t k) (l ∷ ls) w n in
+      let less =
+      sorted j (shapes (arch t)) l ls (maps t can d x h) z.0 (root_of t d) 0 (objects_from (spec_of t) (root_of t d)) (drop (length (tables_of_domain t d)) (objects_from (spec_of t) (root_of t d))) v w m n s
+      (shapes_stack (arch t)) (shapes_fit (arch t)) z.1 (in_order d x h) (maps_below t can d x h) b c (from_root t d x h) a (subst P (sym r.0) o) r.1 in
+      let root : root_of t d ≡ root_of t e = ap (root_of t) r.0 in
+      omega (arith, less, root)
+
+  -- ---- numbers
+
+  -- where a page table stands among all, and its level
+  record Stands (at : ℕ) (l : Level) : Type 0 where
+    among : ℕ
+    is : at ≡ first_of t 6 + among
+    table : PageTable
+    listed : slice_get (all_tables t) among ≡ Some table
+    level : table.level ≡ l
+    part : IsIn (table_part (all_tables t) among table) (parts t)
+    stands : place t (TableOf table.domain table.place) ≡ at
+
+  stands_among : (at : ℕ) (l : Level) (slots : List (ℕ × Cap)) → object_at (spec_of t) at ≡ Some (objects.Pages l slots) → Stands at l
+  stands_among at l slots o =
+      let p = part_there t at (objects.Pages l slots) o in
+      let w = pages_what t p.0.what l slots p.2 in
+      let is : IsThere t (TableOf w.0 w.1) = subst (λ z. IsThere t z) w.2 (part_is_there t p.0 (in_place p.0 (parts t) at p.1)) in
+      let x = is.0 in
+      let e = is.1 in
+      let m = before (domain_tables t) t.flat.domains w.0 + w.1 in
+      let y = page_table w.0 w.1 (level_of e.0) in
+      let g : ℕ → Object → PageTable = λ n z. page_table w.0 n (level_of z) in
+      let stand : place t (TableOf w.0 w.1) ≡ first_of t 6 + m = omega arith in
+      let kind : kinds.Pages l ≡ kinds.Pages (level_of e.0) =
+      ap kind_of_object (sym p.2 ∙ ap (object t) w.2) ∙ table_kind t w.0 w.1 e.0 e.1 ∙ sym (series_kind (level_of e.0)) in
+      record {
+        among = m;
+        is = sym (place_is t at p.0 p.1) ∙ ap (λ z. place t z) w.2 ∙ stand;
+        table = y;
+        listed = gathered (domain_tables t) t.flat.domains w.0 x.0 w.1 y m x.1 (get_ones g (tables_at t 0 0 w.0) w.1 e.0 e.1) refl;
+        level = sym (pages_same l (level_of e.0) kind);
+        part = table_in t w.0 x.0 x.1 w.1 e.0 e.1;
+        stands = ap (λ z. place t z) (sym w.2) ∙ place_is t at p.0 p.1;
+      }
+
+  abbrev number_at : Level → ℕ → ℕ
+  number_at l at = of_level l (all_tables t) (at - first_of t 6)
+
+  named : (at : ℕ) (l : Level) (slots : List (ℕ × Cap)) → object_at (spec_of t) at ≡ Some (objects.Pages l slots) → IsNamed (spec_of t) at (level_series l) (number_at l at)
+  named at l slots o =
+      let s = stands_among at l slots o in
+      let p = table_part (all_tables t) s.among s.table in
+      let is = s.is in
+      let index : at - first_of t 6 ≡ s.among = omega (arith, is) in
+      let name = (objects_stand t).name p s.part in
+      let P : Level → Type 0 = λ z. name_at (spec_of t) at ≡ name_of (level_series z) (of_level z (all_tables t) s.among) in
+      let here : P s.table.level = ap (name_at (spec_of t)) (sym s.stands) ∙ name in
+      subst P s.level here ∙ ap (λ z. name_of (level_series l) (of_level l (all_tables t) z)) (sym index)
+
+  rising : (at to : ℕ) (l : Level) (slots more : List (ℕ × Cap)) → object_at (spec_of t) at ≡ Some (objects.Pages l slots) → object_at (spec_of t) to ≡ Some (objects.Pages l more) → at < to → number_at l at < number_at l to
+  rising at to l slots more o u less =
+      let a = stands_among at l slots o in
+      let b = stands_among to l more u in
+      let p = a.is in
+      let q = b.is in
+      let low : at - first_of t 6 ≡ a.among = omega (arith, p) in
+      let high : to - first_of t 6 ≡ b.among = omega (arith, q) in
+      let mine : number_at l at ≡ of_level l (all_tables t) a.among = ap (of_level l (all_tables t)) low in
+      let other : number_at l to ≡ of_level l (all_tables t) b.among = ap (of_level l (all_tables t)) high in
+      let passes : is_of l a.table ≡ true = eq-eqb (level_number a.table.level) (level_number l) (ap level_number a.level) in
+      let r = count_rises (is_of l) (all_tables t) a.among b.among a.table a.listed passes (omega (arith, p, q, less)) in
+      subst (λ z. z < number_at l to) (sym mine) (subst (λ z. of_level l (all_tables t) a.among < z) (sym other) r)
+
+  filled : (at n : ℕ) (l : Level) (slots : List (ℕ × Cap)) → object_at (spec_of t) at ≡ Some (objects.Pages l slots) → n < number_at l at
+      → (q : ℕ) × (more : List (ℕ × Cap)) × (object_at (spec_of t) q ≡ Some (objects.Pages l more)) × (number_at l q ≡ n)
+  filled at n l slots o less =
+      let b = attained (is_of l) (all_tables t) (at - first_of t 6) n less in
+      let f = from_place (domain_tables t) t.flat.domains b.0 b.1 b.2 in
+      let h : ℕ → Object → PageTable = λ i z. page_table f.place i (level_of z) in
+      let e = from_ones h (tables_at t 0 0 f.place) f.number b.1 f.stands in
+      let w = TableOf f.place f.number in
+      let sum : b.0 ≡ before (domain_tables t) t.flat.domains f.place + f.number = f.sum in
+      let q = first_of t 6 + b.0 in
+      let stand : place t w ≡ q = omega (arith, sum) in
+      let level : level_of e.0 ≡ l = ap (λ (z : PageTable). z.level) e.2 ∙ same_level b.1.level l (eqb-true (level_number b.1.level) (level_number l) b.3) in
+      let kind = table_kind t f.place f.number e.0 e.1 ∙ sym (series_kind (level_of e.0)) ∙ ap (λ z. kinds.Pages z) level in
+      let is = from_kind (object t w) l kind in
+      let there : IsThere t w = ((f.item, f.here), (e.0, e.1)) in
+      let index : q - first_of t 6 ≡ b.0 = omega arith in (
+        q,
+        is.0,
+        ap (object_at (spec_of t)) (sym stand) ∙ object_there t w there ∙ ap (λ z. Some z) is.1,
+        ap (of_level l (all_tables t)) index ∙ b.4,
+      )
+
+  pub tables_in_order : AreTablesInOrder t (spec_of t) (root_of t)
+  tables_in_order = record { all = all; order = order; numbered = record { number = number_at; named = named; rise = rising; from_0 = filled } }
