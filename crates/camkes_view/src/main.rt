@@ -1,24 +1,14 @@
-//! What `camkes` says, shown: a fault's bytes in their file, a policy as a graph, what flows by it, and the tables of a
-//! domain.
+//! What `camkes` says, shown: the program over the host's files and outputs.
 //!
-//! What is answered when is in `specs/Answers.antt`, what is written of it in `specs/Words.antt` and `specs/Lines.antt`.
+//! What is answered to which words, and what is written of it, is `view_tool`'s.
 #![tactic(auto)]
 
-mod answer;
-mod decide;
-mod fault;
-mod flow;
-mod graph;
-mod lines;
-mod reasons;
-mod table;
-
-use answer::Answer;
 use cam_io::{Buffered, HostFiles, HostOutputs};
-use decide::decide;
 use std::io::ErrorKind;
 use std::process::ExitCode;
 use std::{env, io};
+use view_text::read_spot;
+use view_tool::{Answer, decide};
 
 fn main(rt: HostRuntime) -> io::Result<ExitCode> {
     let mut files = HostFiles::new(rt.clone()?);
@@ -35,13 +25,39 @@ fn main(rt: HostRuntime) -> io::Result<ExitCode> {
     }
 }
 
-/// The words behind the program's name.
+/// The words behind the program's name; behind `fault` alone stands the line of a fault that standard input has.
 fn words(rt: &HostRuntime) -> io::Result<Vec<String>> {
     let mut words = Vec::new(rt.alloc());
     for word in env::args(rt)?.skip(1) {
-        if words.push(word).is_err() {
-            return Err(io::Error::from(ErrorKind::OutOfMemory));
-        }
+        push(&mut words, word)?;
+    }
+    if asks_for_input(&words) {
+        push(&mut words, fault_line(rt)?)?;
     }
     Ok(words)
+}
+
+fn push(words: &mut Vec<String>, word: String) -> io::Result<()> {
+    match words.push(word) {
+        Ok(()) => Ok(()),
+        Err(_) => Err(io::Error::from(ErrorKind::OutOfMemory)),
+    }
+}
+
+fn asks_for_input(words: &[String]) -> bool {
+    match words {
+        [word] => word.as_str() == "fault",
+        _ => false,
+    }
+}
+
+/// The first line of standard input that is a fault's, an empty one where none is.
+fn fault_line(rt: &HostRuntime) -> io::Result<String> {
+    for line in rt.lines(rt.alloc()) {
+        let line = line?;
+        if read_spot(line.as_str()).is_some() {
+            return Ok(line);
+        }
+    }
+    Ok(String::new(rt.alloc()))
 }

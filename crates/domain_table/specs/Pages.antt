@@ -16,7 +16,7 @@ use Rattle.cap_model.specs.declared.object.Object.TheVariants.{Endpoint, Notific
 use Rattle.cap_model.specs.declared.spec.Spec.{Spec}
 use Rattle.cap_model.specs.Lookup.{name_at, object_at}
 use Rattle.cap_model.specs.RightsWord.{rights_word}
-use Rattle.domain_table.specs.Rows.{row}
+use Rattle.domain_table.specs.Rows.{Row}
 
 -- what a slot of each level spans, from the root down
 abbrev pub steps : Arch → List ℕ
@@ -61,19 +61,19 @@ frame_text None = []
 
 -- ---- rows
 
--- `| 0x10000 | frame_0 | R | Client 0x1000 2048 |`
-abbrev pub page_row : Spec → ℕ → Cap → List ℕ
+-- its address, its frame, its rights, and what stands in it
+abbrev pub page_row : Spec → ℕ → Cap → Row
 page_row spec at cap =
-    row (hex_text at ∷ name_at spec cap.object ∷ rights_word cap.rights ∷ frame_text (object_at spec cap.object) ∷ [])
+    hex_text at ∷ name_at spec cap.object ∷ rights_word cap.rights ∷ frame_text (object_at spec cap.object) ∷ []
 
 -- of what a capability at an address leads to, over the levels below it
-abbrev pub page_rows : Spec → List ℕ → ℕ → Cap → List ℕ
-page_rows spec [] at cap = page_row spec at cap
+abbrev pub page_rows : Spec → List ℕ → ℕ → Cap → List Row
+page_rows spec [] at cap = page_row spec at cap ∷ []
 page_rows spec (step ∷ below) at cap =
     flat_map (λ s. page_rows spec below (address at s.0 step) s.1) (table_slots (object_at spec cap.object))
 
 -- of the slots of a root, over all levels
-abbrev pub space_rows : Spec → List ℕ → List (ℕ × Cap) → List ℕ
+abbrev pub space_rows : Spec → List ℕ → List (ℕ × Cap) → List Row
 space_rows spec [] slots = []
 space_rows spec (step ∷ below) slots = flat_map (λ s. page_rows spec below (address 0 s.0 step) s.1) slots
 
@@ -82,5 +82,5 @@ abbrev pub object_called : Spec → List ℕ → Option Object
 object_called spec name = option_map (λ e. e.object) (find (λ e. bytes_eq e.name name) spec.entries)
 
 -- of the space whose root has that name
-abbrev pub rows_of_space : Spec → List ℕ → List ℕ
+abbrev pub rows_of_space : Spec → List ℕ → List Row
 rows_of_space spec root = space_rows spec (steps spec.arch) (table_slots (object_called spec root))

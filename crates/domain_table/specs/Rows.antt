@@ -1,12 +1,16 @@
--- A row of a table: its cells between bars, as Markdown has it.
+-- Rows of a table: the texts of their cells, and a row between bars, as Markdown has it.
 use Rattle.std.specs.Prelude.{ℕ, List, [], ◌∷◌, ◌++◌, codes}
 use Rattle.std.specs.List.{flat_map}
 use Rattle.cam_base.specs.Texts.{together}
+
+-- the texts of its cells
+abbrev pub Row : Type 0
+Row = List (List ℕ)
 
 -- ` 0x1 |`
 abbrev pub cell : List ℕ → List ℕ
 cell text = together (codes " " ∷ text ∷ codes " |" ∷ [])
 
 -- `| 0x1 | ep_0 | WP | 1 | c e k |`
-abbrev pub row : List (List ℕ) → List ℕ
-row cells = (codes "|" ++ flat_map cell cells) ++ codes "\n"
+abbrev pub row_line : Row → List ℕ
+row_line cells = (codes "|" ++ flat_map cell cells) ++ codes "\n"

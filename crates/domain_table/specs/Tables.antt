@@ -40,7 +40,8 @@ use Rattle.system_spec.specs.declared.map_line.MapLine.{MapLine}
 use Rattle.system_spec.specs.declared.map_line.MapLine.TheVariants.{DomainLine, ThreadLine, SlotLine, OwnLine, WindowLine}
 use Rattle.system_spec.specs.declared.series.Series.TheVariants as series
 use Rattle.domain_table.specs.Pages.{rows_of_space}
-use Rattle.domain_table.specs.Rows.{row}
+use Rattle.domain_table.specs.Rows.{Row, row_line}
+use Rattle.domain_table.specs.declared.table.DomainTables.{DomainTables}
 
 -- ---- what is inside the domain
 
@@ -112,25 +113,26 @@ abbrev pub badge_of : Option (ℕ × Cap) → ℕ
 badge_of None = 0
 badge_of (Some x) = x.1.badge
 
--- `| 0x1 | ep_0 | WP | 1 | c.e k |`
-abbrev pub slot_row : Spec → ℕ → ℕ → ℕ → List ℕ → List ℕ
-slot_row spec d slot object text = row (
-    hex_text slot ∷ name_at spec object ∷ rights_of (cap_in spec d slot) ∷ decimal (badge_of (cap_in spec d slot)) ∷ text ∷ [])
+-- its number, its object, the rights and the badge of its capability, and what it is for
+abbrev pub slot_row : Spec → ℕ → ℕ → ℕ → List ℕ → Row
+slot_row spec d slot object text =
+    hex_text slot ∷ name_at spec object ∷ rights_of (cap_in spec d slot) ∷ decimal (badge_of (cap_in spec d slot)) ∷ text ∷ []
 
 -- of a line of the map, where it tells of a slot of the domain
-abbrev pub slot_line : Named → ℕ → MapLine → List ℕ
-slot_line n d (SlotLine k e slot object) = if has_end n.flat d k e then slot_row n.spec d slot object (end_text n k e) else []
+abbrev pub slot_line : Named → ℕ → MapLine → List Row
+slot_line n d (SlotLine k e slot object) =
+    if has_end n.flat d k e then slot_row n.spec d slot object (end_text n k e) ∷ [] else []
 slot_line n d (OwnLine leaf m slot object) =
-    if has_leaf n.flat d leaf then slot_row n.spec d slot object (lock_text n leaf m) else []
+    if has_leaf n.flat d leaf then slot_row n.spec d slot object (lock_text n leaf m) ∷ [] else []
 slot_line n d (DomainLine x) = []
 slot_line n d (ThreadLine tcb leaf end) = []
 slot_line n d (WindowLine k e vaddr bytes) = []
 
 -- ---- threads
 
--- `| c | tcb_0 | 0x10000 | 0x40002000 | 0x40003000 |`: the entry, the stack's end and the address of the IPC buffer of a thread
-abbrev pub registers_row : List ℕ → List ℕ → Option Object → List ℕ
-registers_row text name (Some (Thread tcb)) = row (text ∷ name ∷ hex_text tcb.ip ∷ hex_text tcb.sp ∷ hex_text tcb.addr ∷ [])
+-- whose it is, its object, its entry, its stack's end and the address of its IPC buffer
+abbrev pub registers_row : List ℕ → List ℕ → Option Object → List Row
+registers_row text name (Some (Thread tcb)) = (text ∷ name ∷ hex_text tcb.ip ∷ hex_text tcb.sp ∷ hex_text tcb.addr ∷ []) ∷ []
 registers_row text name (Some Endpoint) = []
 registers_row text name (Some Notification) = []
 registers_row text name (Some (CNode bits slots)) = []
@@ -139,10 +141,10 @@ registers_row text name (Some (Pages level slots)) = []
 registers_row text name (Some (Irq notification)) = []
 registers_row text name None = []
 
-abbrev pub thread_row : Named → ℕ → List ℕ → List ℕ
+abbrev pub thread_row : Named → ℕ → List ℕ → List Row
 thread_row n tcb text = registers_row text (name_at n.spec tcb) (object_at n.spec tcb)
 
-abbrev pub thread_line : Named → ℕ → MapLine → List ℕ
+abbrev pub thread_line : Named → ℕ → MapLine → List Row
 thread_line n d (ThreadLine tcb leaf end) = if has_leaf n.flat d leaf then thread_row n tcb (thread_text n leaf end) else []
 thread_line n d (DomainLine x) = []
 thread_line n d (SlotLine k e slot object) = []
@@ -151,10 +153,10 @@ thread_line n d (WindowLine k e vaddr bytes) = []
 
 -- ---- windows
 
--- `| c.d m | 0x40005000 | 4096 |`
-abbrev pub window_line : Named → ℕ → MapLine → List ℕ
+-- whose it is, its address, and how many bytes
+abbrev pub window_line : Named → ℕ → MapLine → List Row
 window_line n d (WindowLine k e vaddr bytes) =
-    if has_end n.flat d k e then row (end_text n k e ∷ hex_text vaddr ∷ decimal bytes ∷ []) else []
+    if has_end n.flat d k e then (end_text n k e ∷ hex_text vaddr ∷ decimal bytes ∷ []) ∷ [] else []
 window_line n d (DomainLine x) = []
 window_line n d (ThreadLine tcb leaf end) = []
 window_line n d (SlotLine k e slot object) = []
@@ -185,20 +187,24 @@ window_head = codes "\n| window | address | bytes |\n|---|---|---|\n"
 abbrev pub page_head : List ℕ
 page_head = codes "\n| page | frame | rights | holds |\n|---|---|---|---|\n"
 
--- a table below its head
-abbrev pub with_slots : Named → List MapLine → ℕ → List ℕ → List ℕ
-with_slots n lines d text = (text ++ slot_head) ++ flat_map (slot_line n d) lines
+-- what is inside the domain with this number, by the lines of the map
+abbrev pub tables_in : Named → List MapLine → ℕ → DomainTables
+tables_in n lines d = record {
+  slots = flat_map (slot_line n d) lines;
+  threads = flat_map (thread_line n d) lines;
+  windows = flat_map (window_line n d) lines;
+  pages = rows_of_space n.spec (root_name n.spec d);
+}
 
-abbrev pub with_threads : Named → List MapLine → ℕ → List ℕ → List ℕ
-with_threads n lines d text = (text ++ thread_head) ++ flat_map (thread_line n d) lines
+unfoldable pub table_text : List ℕ → List Row → List ℕ
+table_text head rows = head ++ flat_map row_line rows
 
-abbrev pub with_windows : Named → List MapLine → ℕ → List ℕ → List ℕ
-with_windows n lines d text = (text ++ window_head) ++ flat_map (window_line n d) lines
+-- the tables as text
+abbrev pub tables_text : DomainTables → List ℕ
+tables_text t =
+    ((table_text slot_head t.slots ++ table_text thread_head t.threads) ++ table_text window_head t.windows)
+    ++ table_text page_head t.pages
 
-abbrev pub with_pages : Named → ℕ → List ℕ → List ℕ
-with_pages n d text = (text ++ page_head) ++ rows_of_space n.spec (root_name n.spec d)
-
--- the tables of the domain with this number and this label
+-- those of the domain with this number and this label
 abbrev pub tables_of : Named → List MapLine → ℕ → List ℕ → List ℕ
-tables_of n lines d label =
-    with_pages n d (with_windows n lines d (with_threads n lines d (with_slots n lines d (heading n d label))))
+tables_of n lines d label = heading n d label ++ tables_text (tables_in n lines d)

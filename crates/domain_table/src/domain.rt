@@ -30,7 +30,8 @@ pub(crate) fn has_end(flat: &Flat, domain: u32, connection: u32, end: u32) -> bo
     }
 }
 
-fn domain_labels(alloc: Global, flat: &Flat) -> Result<List<Text>, NoMemory>
+/// The texts of the labels of all domains.
+pub fn domain_labels(alloc: Global, flat: &Flat) -> Result<List<Text>, NoMemory>
     ensures { IfOk result (λ labels. labels ≡ domain_labels flat.now) }
 {
     let mut labels = List::new(alloc);

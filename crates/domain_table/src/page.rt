@@ -4,10 +4,10 @@ ghost use Rattle.cam_base.specs.Hex.{hex_text};
 ghost use Rattle.cap_model.specs.RightsWord.{rights_word};
 ghost use Rattle.domain_table.specs.Pages.{address, fill_text, frame_text, object_called, paddr_text, page_row, page_rows, rows_of_space, space_rows, steps, table_slots};
 ghost use Rattle.std.specs.Option.{option_map};
-ghost use Rattle.std.specs.Prelude.{◌≡◌, ◌++◌, IfOk, OnOk};
+ghost use Rattle.std.specs.Prelude.{◌≡◌, ◌++◌, ◌∷◌, [], IfOk, OnOk};
 
-use crate::row::add_row;
-use cam_base::{List, NoMemory, hex};
+use crate::row::push_row;
+use cam_base::{List, NoMemory, Text, hex};
 use cap_model::{Arch, Cap, Fill, Object, Rights, Spec};
 use itoa::Buffer;
 use std::alloc::Global;
@@ -89,60 +89,60 @@ fn rights_word(rights: &Rights) -> &[u8]
     rights.word()
 }
 
-fn add_page(
+fn push_page(
     alloc: Global,
-    text: &mut List<u8>,
+    rows: &mut List<List<Text>>,
     spec: &Spec,
     at: u64,
     cap: &Cap,
 ) -> Result<(), NoMemory>
-    ensures { OnOk result (text.new ≡ text.old ++ page_row spec.now at cap.now) }
+    ensures { OnOk result (rows.new ≡ rows.old ++ page_row spec.now at cap.now ∷ []) }
 {
     let holds = frame_text(alloc, spec.object(cap.object))?;
     let mut digits = [0; 18];
     let at = hexadecimal(at, &mut digits);
     let name = spec.name(cap.object);
     let rights = rights_word(&cap.rights);
-    add_row(text, &[at, name, rights, holds.as_slice()])
+    push_row(alloc, rows, &[at, name, rights, holds.as_slice()])
 }
 
-/// Puts the pages that a capability at an address leads to behind a text, over the levels below it.
-fn add_pages(
+/// Puts the pages that a capability at an address leads to behind the others, over the levels below it.
+fn push_pages(
     alloc: Global,
-    text: &mut List<u8>,
+    rows: &mut List<List<Text>>,
     spec: &Spec,
     steps: &[u64],
     at: u64,
     cap: &Cap,
 ) -> Result<(), NoMemory>
-    ensures { OnOk result (text.new ≡ text.old ++ page_rows spec.now steps.now at cap.now) }
+    ensures { OnOk result (rows.new ≡ rows.old ++ page_rows spec.now steps.now at cap.now) }
 {
     match steps {
-        [] => add_page(alloc, text, spec, at, cap),
+        [] => push_page(alloc, rows, spec, at, cap),
         [step, below @ ..] => {
             for slot in table_slots(spec.object(cap.object)) {
                 let place = address(at, slot.0, *step);
-                add_pages(alloc, text, spec, below, place, &slot.1)?;
+                push_pages(alloc, rows, spec, below, place, &slot.1)?;
             }
             Ok(())
         }
     }
 }
 
-fn add_space(
+fn push_space(
     alloc: Global,
-    text: &mut List<u8>,
+    rows: &mut List<List<Text>>,
     spec: &Spec,
     steps: &[u64],
     slots: &[(u64, Cap)],
 ) -> Result<(), NoMemory>
-    ensures { OnOk result (text.new ≡ text.old ++ space_rows spec.now steps.now slots.now) }
+    ensures { OnOk result (rows.new ≡ rows.old ++ space_rows spec.now steps.now slots.now) }
 {
     let [step, below @ ..] = steps else {
         return Ok(());
     };
     for slot in slots {
-        add_pages(alloc, text, spec, below, address(0, slot.0, *step), &slot.1)?;
+        push_pages(alloc, rows, spec, below, address(0, slot.0, *step), &slot.1)?;
     }
     Ok(())
 }
@@ -158,15 +158,16 @@ fn object_called<'a>(spec: &'a Spec, name: &[u8]) -> Option<&'a Object>
         .map(|entry| &entry.object)
 }
 
-/// Puts the pages of the space whose root has that name behind a text.
-pub(crate) fn add_pages_of(
+/// The pages of the space whose root has that name.
+pub(crate) fn pages_of(
     alloc: Global,
-    text: &mut List<u8>,
     spec: &Spec,
     root: &[u8],
-) -> Result<(), NoMemory>
-    ensures { OnOk result (text.new ≡ text.old ++ rows_of_space spec.now root.now) }
+) -> Result<List<List<Text>>, NoMemory>
+    ensures { IfOk result (λ rows. rows ≡ rows_of_space spec.now root.now) }
 {
+    let mut rows = List::new(alloc);
     let slots = table_slots(object_called(spec, root));
-    add_space(alloc, text, spec, steps(spec.arch), slots)
+    push_space(alloc, &mut rows, spec, steps(spec.arch), slots)?;
+    Ok(rows)
 }

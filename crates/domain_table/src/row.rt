@@ -1,24 +1,51 @@
-ghost use Rattle.domain_table.specs.Rows.{cell, row};
+ghost use Rattle.domain_table.specs.Rows.{cell, row_line};
 ghost use Rattle.std.specs.List.{flat_map};
-ghost use Rattle.std.specs.Prelude.{◌≡◌, ◌++◌, map, OnOk};
+ghost use Rattle.std.specs.Prelude.{◌≡◌, ◌++◌, ◌∷◌, [], map, IfOk, OnOk};
 
-use cam_base::{List, NoMemory};
+use cam_base::{List, NoMemory, Text};
+use std::alloc::Global;
 use view_text::add;
 
-fn add_cells(text: &mut List<u8>, cells: &[&[u8]]) -> Result<(), NoMemory>
-    ensures { OnOk result (text.new ≡ text.old ++ flat_map cell (map (λ c. c.now) cells.now)) }
+fn row_of(alloc: Global, cells: &[&[u8]]) -> Result<List<Text>, NoMemory>
+    ensures { IfOk result (λ row. row ≡ map (λ c. c.now) cells.now) }
+{
+    let mut row = List::new(alloc);
+    for cell in cells {
+        row.push(Text::new(alloc, cell)?)?;
+    }
+    Ok(row)
+}
+
+/// Puts a row of a table behind the others.
+pub fn push_row(alloc: Global, rows: &mut List<List<Text>>, cells: &[&[u8]]) -> Result<(), NoMemory>
+    ensures { OnOk result (rows.new ≡ rows.old ++ (map (λ c. c.now) cells.now) ∷ []) }
+{
+    rows.push(row_of(alloc, cells)?)
+}
+
+fn add_cells(text: &mut List<u8>, cells: &[Text]) -> Result<(), NoMemory>
+    ensures { OnOk result (text.new ≡ text.old ++ flat_map cell cells.now) }
 {
     for cell in cells {
-        add(text, &[b" ", cell, b" |"])?;
+        add(text, &[b" ", cell.as_bytes(), b" |"])?;
     }
     Ok(())
 }
 
-/// Puts a row of a table behind a text.
-pub(crate) fn add_row(text: &mut List<u8>, cells: &[&[u8]]) -> Result<(), NoMemory>
-    ensures { OnOk result (text.new ≡ text.old ++ row (map (λ c. c.now) cells.now)) }
+fn add_row(text: &mut List<u8>, cells: &[Text]) -> Result<(), NoMemory>
+    ensures { OnOk result (text.new ≡ text.old ++ row_line cells.now) }
 {
     text.extend(b"|")?;
     add_cells(text, cells)?;
     text.extend(b"\n")
+}
+
+/// Puts rows behind a text, as Markdown has them.
+pub(crate) fn add_rows(text: &mut List<u8>, rows: &[List<Text>]) -> Result<(), NoMemory>
+    ensures { OnOk result (text.new ≡ text.old ++ flat_map row_line rows.now) }
+{
+    for row in rows {
+        add_row(text, row.as_slice())?;
+    }
+    Ok(())
 }

@@ -2,7 +2,6 @@
 
 ghost use Rattle.cam_base.specs.Hex.{hex_text};
 ghost use Rattle.cap_model.specs.Lookup.{name_at, object_at};
-ghost use Rattle.domain_table.specs.Rows.{row};
 ghost use Rattle.domain_table.specs.Tables.{badge_of, cap_in, cnode_slots, registers_row, rights_of, slot_line, slot_row, thread_line, thread_row, window_line};
 ghost use Rattle.std.specs.Option.{option_map};
 ghost use Rattle.std.specs.Prelude.{◌≡◌, ◌∷◌, ◌++◌, [], decimal, OnOk};
@@ -10,13 +9,21 @@ ghost use Rattle.system_spec.specs.MapText.{named};
 
 use crate::domain::{has_end, has_leaf};
 use crate::page::hexadecimal;
-use crate::row::add_row;
+use crate::row::push_row;
 use crate::words::{end_text, lock_text, thread_text};
-use cam_base::{List, NoMemory};
+use cam_base::{List, NoMemory, Text};
 use cap_model::{Cap, Object, Spec, Tcb};
 use itoa::Buffer;
 use std::alloc::Global;
 use system_spec::{MapLine, MapNames};
+
+/// A slot of a domain's CNode, and the object in it.
+#[derive(Clone, Copy)]
+struct SlotPlace {
+    domain: u32,
+    slot: u64,
+    object: u32,
+}
 
 fn cnode_slots(object: Option<&Object>) -> &[(u64, Cap)]
     ensures { result.now ≡ cnode_slots (option_map (λ o. o.now) object.entry) }
@@ -54,65 +61,84 @@ fn badge_of(slot: Option<&(u64, Cap)>) -> u64
     }
 }
 
-fn add_slot(
-    text: &mut List<u8>,
+fn push_slot(
+    alloc: Global,
+    rows: &mut List<List<Text>>,
     spec: &Spec,
-    domain: u32,
-    slot: u64,
-    object: u32,
+    place: SlotPlace,
     of: &[u8],
 ) -> Result<(), NoMemory>
-    ensures { OnOk result (text.new ≡ text.old ++ slot_row spec.now domain slot object of.now) }
+    ensures { OnOk result (rows.new ≡ rows.old ++ slot_row spec.now place.domain place.slot place.object of.now ∷ []) }
 {
-    let cap = cap_in(spec, domain, slot);
+    let cap = cap_in(spec, place.domain, place.slot);
     let mut digits = [0; 18];
     let mut number = Buffer::new();
-    let slot = hexadecimal(slot, &mut digits);
-    let name = spec.name(object);
+    let slot = hexadecimal(place.slot, &mut digits);
+    let name = spec.name(place.object);
     let rights = rights_of(cap);
     let badge = number.format(badge_of(cap)).as_bytes();
-    add_row(text, &[slot, name, rights, badge, of])
+    push_row(alloc, rows, &[slot, name, rights, badge, of])
 }
 
-fn add_registers(text: &mut List<u8>, what: &[u8], name: &[u8], tcb: &Tcb) -> Result<(), NoMemory>
-    ensures { OnOk result (text.new ≡ text.old ++ row (what.now ∷ name.now ∷ hex_text tcb.now.ip ∷ hex_text tcb.now.sp
-        ∷ hex_text tcb.now.addr ∷ [])) }
+fn push_registers(
+    alloc: Global,
+    rows: &mut List<List<Text>>,
+    what: &[u8],
+    name: &[u8],
+    tcb: &Tcb,
+) -> Result<(), NoMemory>
+    ensures { OnOk result (rows.new ≡ rows.old ++ (what.now ∷ name.now ∷ hex_text tcb.now.ip ∷ hex_text tcb.now.sp
+        ∷ hex_text tcb.now.addr ∷ []) ∷ []) }
 {
     let (mut entry, mut stack, mut buffer) = ([0; 18], [0; 18], [0; 18]);
     let entry = hexadecimal(tcb.ip, &mut entry);
     let stack = hexadecimal(tcb.sp, &mut stack);
     let buffer = hexadecimal(tcb.addr, &mut buffer);
-    add_row(text, &[what, name, entry, stack, buffer])
+    push_row(alloc, rows, &[what, name, entry, stack, buffer])
 }
 
-fn add_thread(text: &mut List<u8>, spec: &Spec, tcb: u32, what: &[u8]) -> Result<(), NoMemory>
-    ensures { OnOk result (text.new ≡ text.old ++ registers_row what.now (name_at spec.now tcb) (object_at spec.now tcb)) }
+fn push_thread(
+    alloc: Global,
+    rows: &mut List<List<Text>>,
+    spec: &Spec,
+    tcb: u32,
+    what: &[u8],
+) -> Result<(), NoMemory>
+    ensures { OnOk result (rows.new ≡ rows.old ++ registers_row what.now (name_at spec.now tcb) (object_at spec.now tcb)) }
 {
     match spec.object(tcb) {
-        Some(Object::Thread(registers)) => add_registers(text, what, spec.name(tcb), registers),
+        Some(Object::Thread(registers)) => {
+            push_registers(alloc, rows, what, spec.name(tcb), registers)
+        }
         _ => Ok(()),
     }
 }
 
-fn add_window(text: &mut List<u8>, of: &[u8], vaddr: u64, bytes: u64) -> Result<(), NoMemory>
-    ensures { OnOk result (text.new ≡ text.old ++ row (of.now ∷ hex_text vaddr ∷ decimal bytes ∷ [])) }
+fn push_window(
+    alloc: Global,
+    rows: &mut List<List<Text>>,
+    of: &[u8],
+    vaddr: u64,
+    bytes: u64,
+) -> Result<(), NoMemory>
+    ensures { OnOk result (rows.new ≡ rows.old ++ (of.now ∷ hex_text vaddr ∷ decimal bytes ∷ []) ∷ []) }
 {
     let mut digits = [0; 18];
     let mut number = Buffer::new();
     let vaddr = hexadecimal(vaddr, &mut digits);
     let bytes = number.format(bytes).as_bytes();
-    add_row(text, &[of, vaddr, bytes])
+    push_row(alloc, rows, &[of, vaddr, bytes])
 }
 
-/// Puts the row of a line behind a text, where the line tells of a slot of the domain.
-pub(crate) fn add_slot_line(
+/// Puts the row of a line behind the others, where the line tells of a slot of the domain.
+pub(crate) fn push_slot_line(
     alloc: Global,
-    text: &mut List<u8>,
+    rows: &mut List<List<Text>>,
     names: &MapNames<'_>,
     domain: u32,
     line: MapLine,
 ) -> Result<(), NoMemory>
-    ensures { OnOk result (text.new ≡ text.old ++ slot_line (named names.now) domain line) }
+    ensures { OnOk result (rows.new ≡ rows.old ++ slot_line (named names.now) domain line) }
 {
     match line {
         MapLine::SlotLine {
@@ -122,7 +148,12 @@ pub(crate) fn add_slot_line(
             object,
         } if has_end(names.flat, domain, connection, end) => {
             let of = end_text(alloc, names, connection, end)?;
-            add_slot(text, names.spec, domain, slot, object, of.as_slice())
+            let place = SlotPlace {
+                domain,
+                slot,
+                object,
+            };
+            push_slot(alloc, rows, names.spec, place, of.as_slice())
         }
         MapLine::OwnLine {
             leaf,
@@ -131,40 +162,45 @@ pub(crate) fn add_slot_line(
             object,
         } if has_leaf(names.flat, domain, leaf) => {
             let of = lock_text(alloc, names, leaf, member)?;
-            add_slot(text, names.spec, domain, slot, object, of.as_slice())
+            let place = SlotPlace {
+                domain,
+                slot,
+                object,
+            };
+            push_slot(alloc, rows, names.spec, place, of.as_slice())
         }
         _ => Ok(()),
     }
 }
 
-/// Puts the row of a line behind a text, where the line tells of a thread of the domain.
-pub(crate) fn add_thread_line(
+/// Puts the row of a line behind the others, where the line tells of a thread of the domain.
+pub(crate) fn push_thread_line(
     alloc: Global,
-    text: &mut List<u8>,
+    rows: &mut List<List<Text>>,
     names: &MapNames<'_>,
     domain: u32,
     line: MapLine,
 ) -> Result<(), NoMemory>
-    ensures { OnOk result (text.new ≡ text.old ++ thread_line (named names.now) domain line) }
+    ensures { OnOk result (rows.new ≡ rows.old ++ thread_line (named names.now) domain line) }
 {
     match line {
         MapLine::ThreadLine { tcb, leaf, end } if has_leaf(names.flat, domain, leaf) => {
             let what = thread_text(alloc, names, leaf, end)?;
-            add_thread(text, names.spec, tcb, what.as_slice())
+            push_thread(alloc, rows, names.spec, tcb, what.as_slice())
         }
         _ => Ok(()),
     }
 }
 
-/// Puts the row of a line behind a text, where the line tells of a window of the domain.
-pub(crate) fn add_window_line(
+/// Puts the row of a line behind the others, where the line tells of a window of the domain.
+pub(crate) fn push_window_line(
     alloc: Global,
-    text: &mut List<u8>,
+    rows: &mut List<List<Text>>,
     names: &MapNames<'_>,
     domain: u32,
     line: MapLine,
 ) -> Result<(), NoMemory>
-    ensures { OnOk result (text.new ≡ text.old ++ window_line (named names.now) domain line) }
+    ensures { OnOk result (rows.new ≡ rows.old ++ window_line (named names.now) domain line) }
 {
     match line {
         MapLine::WindowLine {
@@ -174,7 +210,7 @@ pub(crate) fn add_window_line(
             bytes,
         } if has_end(names.flat, domain, connection, end) => {
             let of = end_text(alloc, names, connection, end)?;
-            add_window(text, of.as_slice(), vaddr, bytes)
+            push_window(alloc, rows, of.as_slice(), vaddr, bytes)
         }
         _ => Ok(()),
     }

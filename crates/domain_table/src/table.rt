@@ -1,14 +1,16 @@
 //! The tables, one below another.
 
-ghost use Rattle.domain_table.specs.Tables.{heading, root_name, slot_line, tables_of, thread_line, window_line, with_pages, with_slots, with_threads, with_windows};
+ghost use Rattle.domain_table.specs.Tables.{heading, page_head, root_name, slot_head, slot_line, table_text, tables_in, tables_of, tables_text, thread_head, thread_line, window_head, window_line};
+ghost use Rattle.domain_table.specs.Pages.{rows_of_space};
 ghost use Rattle.std.specs.List.{flat_map};
 ghost use Rattle.std.specs.Prelude.{◌≡◌, ◌++◌, IfOk, OnOk};
 ghost use Rattle.system_spec.specs.MapText.{named};
 ghost use Rattle.system_spec.specs.Names.{root_series};
 
-use crate::page::add_pages_of;
-use crate::rows::{add_slot_line, add_thread_line, add_window_line};
-use cam_base::{List, Name, NoMemory};
+use crate::page::pages_of;
+use crate::row::add_rows;
+use crate::rows::{push_slot_line, push_thread_line, push_window_line};
+use cam_base::{List, Name, NoMemory, Text};
 use cap_model::{Arch, Spec};
 use std::alloc::Global;
 use system_spec::{MapLine, MapNames, Series};
@@ -30,7 +32,8 @@ fn root_name(alloc: Global, spec: &Spec, domain: u32) -> Result<Name, NoMemory>
     root_series(spec.arch).name(alloc, domain as u64)
 }
 
-fn heading(
+/// The line above the tables of a domain: its label, its CNode and the root of its space.
+pub fn heading(
     alloc: Global,
     names: &MapNames<'_>,
     domain: u32,
@@ -54,68 +57,142 @@ fn heading(
     )
 }
 
-fn add_slots(
+fn slots(
     alloc: Global,
-    text: &mut List<u8>,
     names: &MapNames<'_>,
     lines: &[MapLine],
     domain: u32,
-) -> Result<(), NoMemory>
-    ensures { OnOk result (text.new ≡ with_slots (named names.now) lines.now domain text.old) }
+) -> Result<List<List<Text>>, NoMemory>
+    ensures { IfOk result (λ rows. rows ≡ flat_map (slot_line (named names.now) domain) lines.now) }
 {
-    text.extend(b"\n| slot | object | rights | badge | of |\n|---|---|---|---|---|\n")?;
+    let mut rows = List::new(alloc);
     for line in lines {
-        add_slot_line(alloc, text, names, domain, *line)?;
+        push_slot_line(alloc, &mut rows, names, domain, *line)?;
     }
-    Ok(())
+    Ok(rows)
 }
 
-fn add_threads(
+fn threads(
     alloc: Global,
-    text: &mut List<u8>,
     names: &MapNames<'_>,
     lines: &[MapLine],
     domain: u32,
-) -> Result<(), NoMemory>
-    ensures { OnOk result (text.new ≡ with_threads (named names.now) lines.now domain text.old) }
+) -> Result<List<List<Text>>, NoMemory>
+    ensures { IfOk result (λ rows. rows ≡ flat_map (thread_line (named names.now) domain) lines.now) }
 {
-    text.extend(b"\n| thread | object | entry | stack | buffer |\n|---|---|---|---|---|\n")?;
+    let mut rows = List::new(alloc);
     for line in lines {
-        add_thread_line(alloc, text, names, domain, *line)?;
+        push_thread_line(alloc, &mut rows, names, domain, *line)?;
     }
-    Ok(())
+    Ok(rows)
 }
 
-fn add_windows(
+fn windows(
     alloc: Global,
-    text: &mut List<u8>,
     names: &MapNames<'_>,
     lines: &[MapLine],
     domain: u32,
-) -> Result<(), NoMemory>
-    ensures { OnOk result (text.new ≡ with_windows (named names.now) lines.now domain text.old) }
+) -> Result<List<List<Text>>, NoMemory>
+    ensures { IfOk result (λ rows. rows ≡ flat_map (window_line (named names.now) domain) lines.now) }
 {
-    text.extend(b"\n| window | address | bytes |\n|---|---|---|\n")?;
+    let mut rows = List::new(alloc);
     for line in lines {
-        add_window_line(alloc, text, names, domain, *line)?;
+        push_window_line(alloc, &mut rows, names, domain, *line)?;
     }
-    Ok(())
+    Ok(rows)
 }
 
-fn add_pages(
-    alloc: Global,
-    text: &mut List<u8>,
-    names: &MapNames<'_>,
-    domain: u32,
-) -> Result<(), NoMemory>
-    ensures { OnOk result (text.new ≡ with_pages (named names.now) domain text.old) }
+fn pages(alloc: Global, spec: &Spec, domain: u32) -> Result<List<List<Text>>, NoMemory>
+    ensures { IfOk result (λ rows. rows ≡ rows_of_space spec.now (root_name spec.now domain)) }
 {
-    text.extend(b"\n| page | frame | rights | holds |\n|---|---|---|---|\n")?;
-    let root = root_name(alloc, names.spec, domain)?;
-    add_pages_of(alloc, text, names.spec, root.as_bytes())
+    let root = root_name(alloc, spec, domain)?;
+    pages_of(alloc, spec, root.as_bytes())
 }
 
-/// The tables of the domain with this number and this label, by the lines of the map.
+/// What is inside a domain: the rows of its slots, threads, windows and pages.
+#[derive(Drop)]
+pub struct DomainTables {
+    pub slots: List<List<Text>>,
+    pub threads: List<List<Text>>,
+    pub windows: List<List<Text>>,
+    pub pages: List<List<Text>>,
+}
+
+/// What is inside the domain with this number, by the lines of the map.
+pub fn tables_in(
+    alloc: Global,
+    names: &MapNames<'_>,
+    lines: &[MapLine],
+    domain: u32,
+) -> Result<DomainTables, NoMemory>
+    ensures { IfOk result (λ tables. tables ≡ tables_in (named names.now) lines.now domain) }
+{
+    Ok(DomainTables {
+        slots: slots(alloc, names, lines, domain)?,
+        threads: threads(alloc, names, lines, domain)?,
+        windows: windows(alloc, names, lines, domain)?,
+        pages: pages(alloc, names.spec, domain)?,
+    })
+}
+
+#[tactic(auto, unfolding(crate::specs::Tables::table_text))]
+fn add_table(text: &mut List<u8>, head: &[u8], rows: &[List<Text>]) -> Result<(), NoMemory>
+    ensures { OnOk result (text.new ≡ text.old ++ table_text head.now rows.now) }
+{
+    text.extend(head)?;
+    add_rows(text, rows)
+}
+
+fn add_slots(text: &mut List<u8>, rows: &[List<Text>]) -> Result<(), NoMemory>
+    ensures { OnOk result (text.new ≡ text.old ++ table_text slot_head rows.now) }
+{
+    add_table(
+        text,
+        b"\n| slot | object | rights | badge | of |\n|---|---|---|---|---|\n",
+        rows,
+    )
+}
+
+fn add_threads(text: &mut List<u8>, rows: &[List<Text>]) -> Result<(), NoMemory>
+    ensures { OnOk result (text.new ≡ text.old ++ table_text thread_head rows.now) }
+{
+    add_table(
+        text,
+        b"\n| thread | object | entry | stack | buffer |\n|---|---|---|---|---|\n",
+        rows,
+    )
+}
+
+fn add_windows(text: &mut List<u8>, rows: &[List<Text>]) -> Result<(), NoMemory>
+    ensures { OnOk result (text.new ≡ text.old ++ table_text window_head rows.now) }
+{
+    add_table(
+        text,
+        b"\n| window | address | bytes |\n|---|---|---|\n",
+        rows,
+    )
+}
+
+fn add_pages(text: &mut List<u8>, rows: &[List<Text>]) -> Result<(), NoMemory>
+    ensures { OnOk result (text.new ≡ text.old ++ table_text page_head rows.now) }
+{
+    add_table(
+        text,
+        b"\n| page | frame | rights | holds |\n|---|---|---|---|\n",
+        rows,
+    )
+}
+
+fn add_tables(text: &mut List<u8>, tables: &DomainTables) -> Result<(), NoMemory>
+    ensures { OnOk result (text.new ≡ text.old ++ tables_text tables.now) }
+{
+    add_slots(text, tables.slots.as_slice())?;
+    add_threads(text, tables.threads.as_slice())?;
+    add_windows(text, tables.windows.as_slice())?;
+    add_pages(text, tables.pages.as_slice())
+}
+
+/// The tables of the domain with this number and this label, by the lines of the map, as text.
 pub fn tables_of(
     alloc: Global,
     names: &MapNames<'_>,
@@ -125,10 +202,8 @@ pub fn tables_of(
 ) -> Result<List<u8>, NoMemory>
     ensures { IfOk result (λ text. text ≡ tables_of (named names.now) lines.now domain label.now) }
 {
+    let tables = tables_in(alloc, names, lines, domain)?;
     let mut text = heading(alloc, names, domain, label)?;
-    add_slots(alloc, &mut text, names, lines, domain)?;
-    add_threads(alloc, &mut text, names, lines, domain)?;
-    add_windows(alloc, &mut text, names, lines, domain)?;
-    add_pages(alloc, &mut text, names, domain)?;
+    add_tables(&mut text, &tables)?;
     Ok(text)
 }

@@ -14,7 +14,8 @@ use std::alloc::Global;
 use system_spec::MapNames;
 use view_text::join;
 
-fn leaf_text(alloc: Global, flat: &Flat, leaf: u32) -> Result<Text, NoMemory>
+/// The text of the path of a leaf.
+pub fn leaf_text(alloc: Global, flat: &Flat, leaf: u32) -> Result<Text, NoMemory>
     ensures { IfOk result (λ text. text ≡ leaf_text flat.now leaf) }
 {
     match flat.leaves.as_slice().get(leaf as usize) {
@@ -51,7 +52,8 @@ fn leaf_members<'a>(names: &'a MapNames<'_>, leaf: u32) -> &'a [Member]
     }
 }
 
-fn member_name<'a>(names: &'a MapNames<'_>, leaf: u32, member: u32) -> &'a [u8]
+/// The name of a member of a leaf.
+pub fn member_name<'a>(names: &'a MapNames<'_>, leaf: u32, member: u32) -> &'a [u8]
     ensures { result.now ≡ member_name (named names.now) leaf member }
 {
     match leaf_members(names, leaf).get(member as usize) {

@@ -1,2 +1,4 @@
 pub mod Graphs
+pub mod Html
+pub mod Pictures
 pub mod Spots

@@ -81,3 +81,14 @@ view_of file range rest bytes =
 -- the bytes are some of the file's, or none at its end
 abbrev pub stands_in : (ℕ × ℕ) → List ℕ → Bool
 stands_in range bytes = leb range.0 range.1 && leb range.1 (length bytes)
+
+-- ---- as editors read it
+
+-- `FILE:LINE:COLUMN: error: REST`
+abbrev pub error_line : List ℕ → Place → List ℕ → List ℕ
+error_line file p rest = together (
+    file ∷ codes ":" ∷ decimal p.line ∷ codes ":" ∷ decimal p.column ∷ codes ": error: " ∷ rest ∷ codes "\n" ∷ [])
+
+-- of what stands at a byte of a file; what stands behind its end is told at its end
+abbrev pub lint_line : List ℕ → ℕ → List ℕ → List ℕ → List ℕ
+lint_line file first rest bytes = error_line file (place_behind (take first bytes)) rest

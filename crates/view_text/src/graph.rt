@@ -21,7 +21,7 @@ fn add_quoted_byte(text: &mut List<u8>, byte: u8) -> Result<(), NoMemory>
 }
 
 /// The text as it stands between quotes.
-fn quoted(alloc: Global, text: &[u8]) -> Result<List<u8>, NoMemory>
+pub(crate) fn quoted(alloc: Global, text: &[u8]) -> Result<List<u8>, NoMemory>
     ensures { IfOk result (λ q. q ≡ quoted text.now) }
 {
     let mut quoted = List::new(alloc);
@@ -73,7 +73,8 @@ fn add_nodes(alloc: Global, text: &mut List<u8>, labels: &[(u32, Text)]) -> Resu
     Ok(())
 }
 
-fn note_at(notes: &[Text], at: usize) -> &[u8]
+/// The note at this place, empty past the last one.
+pub fn note_at(notes: &[Text], at: usize) -> &[u8]
     ensures { result.now ≡ note_at notes.now at }
 {
     match notes.get(at) {

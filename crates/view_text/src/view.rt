@@ -63,7 +63,7 @@ fn head_line(alloc: Global, file: &str, place: Place, rest: &str) -> Result<List
 }
 
 /// So many of the first bytes, all of them where there are no more.
-fn front(bytes: &[u8], count: u64) -> &[u8]
+pub(crate) fn front(bytes: &[u8], count: u64) -> &[u8]
     ensures { result.now ≡ take count bytes.now }
 {
     if count < bytes.len() as u64 {

@@ -1,0 +1,20 @@
+-- The tables of a domain, put together.
+use Rattle.std.proofs.Common.{◌≡◌, ◌∙◌, ℕ, List, ap}
+use Rattle.std.specs.List.{flat_map}
+use Rattle.domain_table.specs.Pages.{rows_of_space}
+use Rattle.domain_table.specs.Rows.{Row}
+use Rattle.domain_table.specs.Tables.{root_name, slot_line, tables_in, thread_line, window_line}
+use Rattle.domain_table.specs.declared.table.DomainTables.{DomainTables}
+use Rattle.system_spec.specs.MapText.{Named}
+use Rattle.system_spec.specs.declared.map_line.MapLine.{MapLine}
+
+abbrev pub made : List Row → List Row → List Row → List Row → DomainTables
+made s t w p = record { slots = s; threads = t; windows = w; pages = p }
+
+pub tabled :
+    (n : Named) (lines : List MapLine) (d : ℕ) (s t w p : List Row) → s ≡ flat_map (slot_line n d) lines → t ≡ flat_map (thread_line n d) lines
+    → w ≡ flat_map (window_line n d) lines → p ≡ rows_of_space n.spec (root_name n.spec d) → made s t w p ≡ tables_in n lines d
+tabled n lines d s t w p e f g h =
+    ap (λ (x : List Row). made x t w p) e ∙ ap (λ (x : List Row). made (flat_map (slot_line n d) lines) x w p) f
+    ∙ ap (λ (x : List Row). made (flat_map (slot_line n d) lines) (flat_map (thread_line n d) lines) x p) g
+    ∙ ap (λ (x : List Row). made (flat_map (slot_line n d) lines) (flat_map (thread_line n d) lines) (flat_map (window_line n d) lines) x) h

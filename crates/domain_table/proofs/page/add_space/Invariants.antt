@@ -1,8 +1,0 @@
-use Rattle.std.proofs.Common.{◌≡◌, ◌++◌, take}
-use Rattle.std.specs.List.{flat_map}
-use Rattle.domain_table.specs.Pages.{address, page_rows}
-use Rattle.domain_table.proofs.page.add_space.Given as goal
-
-abbrev pub invariant-loop-slot : goal.invariant-loop-slot
-invariant-loop-slot l =
-    l.text ≡ l.fn.text ++ flat_map (λ s. page_rows l.spec l.below (address 0 s.0 l.step) s.1) (take l.slot-index l.slots)

@@ -1,0 +1,8 @@
+use Rattle.std.proofs.Common.{◌≡◌, ◌++◌, take}
+use Rattle.std.specs.List.{flat_map}
+use Rattle.domain_table.specs.Pages.{address, page_rows}
+use Rattle.domain_table.proofs.page.push_space.Given as goal
+
+abbrev pub invariant-loop-slot : goal.invariant-loop-slot
+invariant-loop-slot l =
+    l.rows ≡ l.fn.rows ++ flat_map (λ s. page_rows l.spec l.below (address 0 s.0 l.step) s.1) (take l.slot-index l.slots)

@@ -1,0 +1,10 @@
+use Rattle.std.proofs.Common.{◌∙◌, ◌++◌, ℕ, List, ap}
+use Rattle.domain_table.specs.Tables.{tables_in, tables_text}
+use Rattle.domain_table.specs.declared.table.DomainTables.{DomainTables}
+use Rattle.system_spec.specs.MapText.{named}
+use Rattle.domain_table.proofs.table.tables_of.Goals as goal
+
+pub returns : goal.returns
+returns c =
+    c.in_ok-add_tables.ensures ∙ ap (λ (t : DomainTables). c.in_ok-text.text ++ tables_text t) c.in_ok-tables.ensures
+    ∙ ap (λ (h : List ℕ). h ++ tables_text (tables_in (named c.args.names.now) c.args.lines.now c.args.domain)) c.in_ok-text.ensures

@@ -1,0 +1,7 @@
+use Rattle.std.proofs.Common.{◌≡◌, ◌++◌, codes, take}
+use Rattle.std.specs.List.{flat_map}
+use Rattle.source_views.specs.Matrix.{mark_in}
+use Rattle.source_views.proofs.matrix.add_cell.Given as goal
+
+abbrev pub invariant-loop-mark : goal.invariant-loop-mark
+invariant-loop-mark l = l.text ≡ (l.fn.text ++ codes "<td>") ++ flat_map (mark_in l.column.0) (take l.mark-index l.row)

@@ -1,0 +1,8 @@
+use Rattle.std.proofs.Common.{◌≡◌, take}
+use Rattle.std.specs.List.{flat_map}
+use Rattle.arch_policy.specs.Where.{where_true}
+use Rattle.source_views.specs.Matrix.{is_target}
+use Rattle.source_views.proofs.matrix.targets.Given as goal
+
+abbrev pub invariant-loop-label : goal.invariant-loop-label
+invariant-loop-label l = l.found ≡ flat_map (λ x. where_true (is_target l.marks x.0) x) (take l.label-index l.labels)

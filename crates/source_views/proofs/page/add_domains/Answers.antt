@@ -1,0 +1,10 @@
+use Rattle.std.proofs.Common.{refl}
+use Rattle.cam_base.proofs.Gathered.{gather_turn}
+use Rattle.source_views.specs.Pages.{domain_part}
+use Rattle.system_spec.specs.MapText.{named}
+use Rattle.source_views.proofs.page.add_domains.Goals as goal
+
+pub loop-number-preserved : goal.loop-number-preserved
+loop-number-preserved c =
+    gather_turn (domain_part (named c.args.names.now) c.args.lines.now) c.as_slice-domains.result.now _ c.loop-number.number _ c.args.text.now _ _ refl
+    c.loop-number-test.true c.index-domains-number.is c.loop-number.invariant c.in_ok-add_domain.ensures

@@ -1,0 +1,6 @@
+use Rattle.std.proofs.Common.{◌≡◌, map, take}
+use Rattle.source_views.specs.Pages.{file_row}
+use Rattle.source_views.proofs.page.file_rows.Given as goal
+
+abbrev pub invariant-loop-file : goal.invariant-loop-file
+invariant-loop-file l = l.rows ≡ map file_row (take l.file-index l.file-items)

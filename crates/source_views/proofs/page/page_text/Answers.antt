@@ -1,0 +1,6 @@
+use Rattle.std.proofs.Common.{◌∙◌, ◌++◌, ap}
+use Rattle.source_views.specs.Pages.{page_text, told}
+use Rattle.source_views.proofs.page.page_text.Goals as goal
+
+pub returns : goal.returns
+returns c = c.in_ok-add_parts.ensures ∙ ap (λ t. t ++ page_text (told c.args.page.now)) c.new-text.ensures

@@ -1,0 +1,7 @@
+use Rattle.std.proofs.Common.{◌≡◌, take}
+use Rattle.std.specs.List.{flat_map}
+use Rattle.source_views.specs.Shapes.{device_label}
+use Rattle.source_views.proofs.shapes.device_labels.Given as goal
+
+abbrev pub invariant-loop-leaf : goal.invariant-loop-leaf
+invariant-loop-leaf l = l.texts ≡ flat_map device_label (take l.leaf-index l.leaf-items)

@@ -1,0 +1,51 @@
+-- The devices of a source: where its memory stands, and which interrupts it raises, by the connections at its interfaces.
+use Rattle.std.specs.Prelude.{ℕ, Bool, false, if◌then◌else◌, List, [], ◌∷◌, codes, decimal, Option, Some, None, slice_get}
+use Rattle.std.specs.Option.{option_map_or}
+use Rattle.adl_meaning.specs.declared.connector.Connector.{Connector}
+use Rattle.adl_meaning.specs.declared.connector.Connector.TheVariants.{Rpc, Notification, SharedMemory, Mmio, Interrupt, Direct}
+use Rattle.adl_meaning.specs.declared.flat.Flat.{Flat}
+use Rattle.adl_meaning.specs.declared.flat.FlatConnection.{FlatConnection}
+use Rattle.adl_meaning.specs.declared.flat.FlatEnd.{FlatEnd}
+use Rattle.adl_meaning.specs.declared.settled.EndSetting.{EndSetting}
+use Rattle.adl_meaning.specs.declared.settled.Settled.{Settled}
+use Rattle.arch_policy.specs.Owners.{is_device}
+use Rattle.cam_base.specs.Hex.{hex_text}
+use Rattle.cam_base.specs.Paths.{joined}
+use Rattle.cam_base.specs.Texts.{together}
+use Rattle.domain_table.specs.Rows.{Row}
+use Rattle.domain_table.specs.Tables.{leaf_text}
+use Rattle.cam_base.specs.Gather.{gather}
+use Rattle.system_spec.specs.MapText.{Named, member_name}
+
+-- whether an end stands at a device
+abbrev pub is_at_device : Flat → FlatEnd → Bool
+is_at_device flat x = option_map_or (λ l. is_device l.domain) (slice_get flat.leaves x.leaf) false
+
+-- `uart.regs registers`: the interface of a device and its connection
+abbrev pub device_text : Named → FlatConnection → FlatEnd → List ℕ
+device_text n c x =
+    together (leaf_text n.flat x.leaf ∷ codes "." ∷ member_name n x.leaf x.member ∷ codes " " ∷ joined c.path ∷ [])
+
+-- the first address of its memory and how many bytes, or the number of its interrupt
+abbrev pub device_row : Connector → List ℕ → EndSetting → List Row
+device_row Mmio text s = (text ∷ hex_text s.paddr ∷ decimal s.bytes ∷ [] ∷ []) ∷ []
+device_row Interrupt text s = (text ∷ [] ∷ [] ∷ decimal s.irq ∷ []) ∷ []
+device_row Rpc text s = []
+device_row Notification text s = []
+device_row SharedMemory text s = []
+device_row Direct text s = []
+
+-- of an end with its settings
+abbrev pub end_rows : Named → FlatConnection → Option EndSetting → FlatEnd → List Row
+end_rows n c None x = []
+end_rows n c (Some s) x = if is_at_device n.flat x then device_row c.connector (device_text n c x) s else []
+
+-- the settings of the ends of connection k
+abbrev pub settings_in : Settled → ℕ → List EndSetting
+settings_in settled k = option_map_or (λ s. s.ends) (slice_get settled.connections k) []
+
+abbrev pub connection_rows : Named → List EndSetting → FlatConnection → List Row
+connection_rows n settings c = gather (λ e x. end_rows n c (slice_get settings e) x) c.ends
+
+abbrev pub device_rows : Named → Settled → List Row
+device_rows n settled = gather (λ k c. connection_rows n (settings_in settled k) c) n.flat.connections

@@ -1,0 +1,4 @@
+pub mod Devices
+pub mod Matrix
+pub mod Pages
+pub mod Shapes

@@ -1,0 +1,7 @@
+use Rattle.std.proofs.Common.{◌≡◌, ◌++◌, take}
+use Rattle.std.specs.List.{flat_map}
+use Rattle.view_text.specs.Pictures.{held_line}
+use Rattle.view_text.proofs.picture.add_held_lines.Given as goal
+
+abbrev pub invariant-loop-authority : goal.invariant-loop-authority
+invariant-loop-authority l = l.text ≡ l.fn.text ++ flat_map (held_line l.edges l.from l.to) (take l.authority-index l.authorities)

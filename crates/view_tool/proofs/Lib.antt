@@ -1,0 +1,3 @@
+mod Giving
+mod Noting
+mod Widening

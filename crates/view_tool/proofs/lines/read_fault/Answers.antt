@@ -1,0 +1,6 @@
+use Rattle.view_tool.specs.Lines.{read_fault}
+use Rattle.view_tool.proofs.Giving.{fault_given}
+use Rattle.view_tool.proofs.lines.read_fault.Goals as goal
+
+pub returns : goal.returns
+returns c = fault_given (read_fault c.args.file.now) c.join.result c.read_fault.result c.join.ensures c.read_fault.ensures.ok c.read_fault.ensures.none
