@@ -17,7 +17,8 @@ use std::alloc::Global;
 /// What is answered to the words behind the program's name: `specs/Answers.antt`.
 pub fn decide<F: Files>(alloc: Global, words: &[String], files: &mut F) -> Answer
     ensures kept { KeepsFiles F.told F.faults files.old files.new }
-    ensures fits { InAll (F.told files.new) (λ m. Fits (map string_bytes words.now) m (F.faults files.old) (F.faults files.new) result) }
+    ensures fits { InAll (F.told files.new) (λ m. Fits (map string_bytes words.now) m (F.faults files.old) (F.faults files.new)
+        result) }
 {
     match words {
         [word, what] => follow(alloc, word.as_str(), what.as_str(), files),
@@ -74,8 +75,8 @@ fn follow_both<F: Files>(
     files: &mut F,
 ) -> Answer
     ensures kept { KeepsFiles F.told F.faults files.old files.new }
-    ensures fits { InAll (F.told files.new) (λ m. FitsWords (bytes_eq word.now (codes "table")) m (F.faults files.old) (F.faults files.new)
-        root.now label.now result) }
+    ensures fits { InAll (F.told files.new) (λ m. FitsWords (bytes_eq word.now (codes "table")) m (F.faults files.old)
+        (F.faults files.new) root.now label.now result) }
 {
     match word {
         "table" => view_build(alloc, root, Asked::Table(label), files),

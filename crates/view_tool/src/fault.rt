@@ -39,7 +39,8 @@ fn view(alloc: Global, file: &str, range: Range, rest: &str, bytes: &[u8]) -> An
 /// What is answered to the line of a fault.
 pub fn view_fault<F: Files>(alloc: Global, line: &str, files: &mut F) -> Answer
     ensures kept { KeepsFiles F.told F.faults files.old files.new }
-    ensures fits { InAll (F.told files.new) (λ m. FitsFault m (F.faults files.old) (F.faults files.new) (spot_of line.now) result) }
+    ensures fits { InAll (F.told files.new) (λ m. FitsFault m (F.faults files.old) (F.faults files.new) (spot_of line.now)
+        result) }
 {
     let Some((file, range, rest)) = read_spot(line) else {
         return Answer::refused(List::from_slice(alloc, b"no line of a fault\n"));

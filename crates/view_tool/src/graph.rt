@@ -26,7 +26,8 @@ fn draw(alloc: Global, file: &str, bytes: &[u8]) -> Answer
 /// What is answered to the file of a policy.
 pub fn view_graph<F: Files>(alloc: Global, file: &str, files: &mut F) -> Answer
     ensures kept { KeepsFiles F.told F.faults files.old files.new }
-    ensures fits { InAll (F.told files.new) (λ m. OfFile m (F.faults files.old) (F.faults files.new) file.now (IsDrawn file.now) result) }
+    ensures fits { InAll (F.told files.new) (λ m. OfFile m (F.faults files.old) (F.faults files.new) file.now (IsDrawn file.now)
+        result) }
 {
     match read_whole(alloc, files, file, LIMIT) {
         Ok(bytes) => draw(alloc, file, bytes.as_slice()),
