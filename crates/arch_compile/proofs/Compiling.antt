@@ -2,7 +2,7 @@
 use Rattle.std.proofs.Common.{◌≡◌, ◌∙◌, ℕ, List, Option, Some, None, Result, Ok, Err, refl, sym, ap, subst, inl, inr, is_some}
 use Rattle.std.specs.List.{slice_get}
 use Rattle.std.specs.Option.{option_or}
-use Rattle.std.specs.Prelude.{if◌then◌else◌}
+use Rattle.std.specs.Prelude.{if◌then◌else◌, IfOk}
 use Rattle.adl_ast.specs.declared.source.Source.{Source}
 use Rattle.adl_meaning.specs.Faults.{Refuses as RefusesAs}
 use Rattle.adl_meaning.specs.Flat.{flat_of}
@@ -189,7 +189,7 @@ built_unread contents before now m root e r meant same h rose is =
 first_is : (s : Source) (found : List Found) (o : Option Fault) → first_front_fault s ≡ None → first_layout_fault s found ≡ o → first_fault s found ≡ o
 first_is s found o none e = second_is (first_front_fault s) (first_layout_fault s found) o none e
 
-module _ (root : List ℕ) (contents : Contents) (old mid now : List ℕ → ℕ) (m : Meaning) (is : IsMeaningOf root contents m) where
+module _ (root : List ℕ) (contents : Contents) (m : Meaning) (is : IsMeaningOf root contents m) where
   build_of : (b : Build) → IsBuiltOf m contents b → IsBuildOf root contents b
   build_of b h =
       let same : m ≡ b.meaning = sym h.same in
@@ -199,11 +199,17 @@ module _ (root : List ℕ) (contents : Contents) (old mid now : List ℕ → ℕ
         made = subst (λ (z : Meaning). IsMade z.source (images_beside contents z.source) b.spec b.policy b.cert b.map) same h.made;
       }
 
-  pub built_compiled : (r : Result Build BuildError) → NoneFell old mid → Builds m contents mid now r → IsCompiled root contents old now r
-  built_compiled (Ok b) later h = build_of b h
-  built_compiled (Err (error.Fault fault file)) later h = inr (m.source, record { loaded = is.loaded; none = is.none }, h)
-  built_compiled (Err (error.ReadFault file)) later h = (inr (m.source, record { loaded = is.loaded; none = is.none }, h.0), rose_after (old file) (mid file) (now file) (later file) h.1)
-  built_compiled (Err error.NoMemory) later h = tt
+  -- what every build has is so of what is built
+  pub built_so : (P : Build → Type 0) → ((b : Build) → IsBuildOf root contents b → P b) → (before now : List ℕ → ℕ) (r : Result Build BuildError) → Builds m contents before now r → IfOk r P
+  built_so P so before now (Ok b) h = so b (build_of b h)
+  built_so P so before now (Err e) h = tt
+
+  pub built_compiled : (old mid now : List ℕ → ℕ) (r : Result Build BuildError) → NoneFell old mid → Builds m contents mid now r → IsCompiled root contents old now r
+  built_compiled old mid now (Ok b) later h = build_of b h
+  built_compiled old mid now (Err (error.Fault fault file)) later h = inr (m.source, record { loaded = is.loaded; none = is.none }, h)
+  built_compiled old mid now (Err (error.ReadFault file)) later h =
+      (inr (m.source, record { loaded = is.loaded; none = is.none }, h.0), rose_after (old file) (mid file) (now file) (later file) h.1)
+  built_compiled old mid now (Err error.NoMemory) later h = tt
 
 pub refused_compiled : (root : List ℕ) (contents : Contents) (before now : List ℕ → ℕ) (e : BuildError) → Refuses first_front_fault root contents before now e → IsRefusal root contents before now e
 refused_compiled root contents before now (error.Fault fault file) h = inl h

@@ -14,7 +14,7 @@ use Rattle.front_end.specs.Fronts.{IsMeant}
 use Rattle.front_end.specs.Steps.{IsSound}
 use Rattle.source_images.specs.SpaceFaults.{first_space_fault}
 use Rattle.source_images.specs.declared.images.Images.{Images}
-use Rattle.spec_kept.proofs.Bounds.{can_build, can_lay, can_map}
+use Rattle.spec_laws.proofs.Bounds.{can_build, can_lay, can_map}
 use Rattle.system_spec.specs.Buildable.{IsBuildable}
 use Rattle.system_spec.specs.TablesFrom.{tables_from}
 use Rattle.system_spec.specs.Windowed.{IsWindowed}

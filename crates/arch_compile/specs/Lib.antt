@@ -2,6 +2,8 @@ pub mod Built
 pub mod Compiled
 pub mod LayoutFaults
 pub mod Maps
+pub mod OfSource
+pub mod Sound
 pub mod Steps
 pub mod Summary
 pub mod BuildTexts

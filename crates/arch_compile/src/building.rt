@@ -2,12 +2,13 @@
 
 ghost use Rattle.arch_compile.specs.Compiled.{AlikeInBuild, IsCompiled};
 ghost use Rattle.arch_compile.specs.LayoutFaults.{tables_beside};
+ghost use Rattle.arch_compile.specs.OfSource.{IsOfSource};
+ghost use Rattle.arch_compile.specs.Sound.{IsSound};
 ghost use Rattle.arch_compile.specs.Steps.{Builds, Completes, Finishes, IsImaged, IsLaid, Lays};
 ghost use Rattle.arch_policy.specs.Labels.{label_numbers};
 ghost use Rattle.cam_io.specs.Reading.{InAll, KeepsFiles, LearnsOnly};
-ghost use Rattle.cap_model.specs.Kept.{IsKept};
 ghost use Rattle.front_end.specs.Fronts.{IsAssigned};
-ghost use Rattle.front_end.specs.Steps.{IsSound};
+ghost use Rattle.front_end.specs.Steps.{IsSound as IsSoundMeaning};
 ghost use Rattle.source_images.specs.Found.{AlikeInTables};
 ghost use Rattle.std.specs.Prelude.{◌≡◌, IfOk};
 
@@ -35,9 +36,8 @@ pub struct Build {
 
 /// The source of the root, with all that is made of it and of the section tables beside it.
 ///
-/// Its spec keeps what every spec keeps. What is made has the slots, images, labels and map of its source by the law
-/// `builds_are_those_of_their_source` of `build_laws`, and just the edges that its source assigns by the law `builds_are_sound`
-/// of `build_laws`.
+/// What is made has the slots, images, labels and map of its source (`specs/OfSource.antt`). Its spec keeps what every spec
+/// keeps, its policy has just the edges that the source assigns, and threads reach just these (`specs/Sound.antt`).
 ///
 /// # Errors
 ///
@@ -47,7 +47,8 @@ pub fn compile<F: Files>(alloc: Global, files: &mut F, root: &str) -> Result<Bui
     ensures kept { KeepsFiles F.told F.faults files.old files.new }
     ensures learned { LearnsOnly F.told (AlikeInBuild root.now) files.old files.new }
     ensures compiled { InAll (F.told files.new) (λ m. IsCompiled root.now m (F.faults files.old) (F.faults files.new) result) }
-    ensures kept_spec { IfOk result (λ b. IsKept b.spec) }
+    ensures of_source { InAll (F.told files.new) (λ m. IfOk result (IsOfSource m)) }
+    ensures sound { IfOk result IsSound }
 {
     match meaning_of(alloc, files, root) {
         Ok(meaning) => with_images(alloc, files, meaning),
@@ -60,7 +61,7 @@ fn with_images<F: Files>(
     files: &mut F,
     meaning: Meaning,
 ) -> Result<Build, BuildError>
-    requires { IsSound meaning.source meaning.flat meaning.settled }
+    requires { IsSoundMeaning meaning.source meaning.flat meaning.settled }
     ensures kept { KeepsFiles F.told F.faults files.old files.new }
     ensures learned { LearnsOnly F.told (AlikeInTables (tables_beside meaning.source)) files.old files.new }
     ensures builds { InAll (F.told files.new) (λ m. Builds meaning m (F.faults files.old) (F.faults files.new) result) }
@@ -73,7 +74,7 @@ fn with_images<F: Files>(
 }
 
 fn with_layout(alloc: Global, meaning: Meaning, images: &Images) -> Result<Build, BuildError>
-    requires sound { IsSound meaning.source meaning.flat meaning.settled }
+    requires sound { IsSoundMeaning meaning.source meaning.flat meaning.settled }
     requires imaged { IsImaged meaning.flat images.now }
     ensures { Lays meaning images.now result }
 {
@@ -89,7 +90,7 @@ fn with_front(
     images: &Images,
     layout: &Layout,
 ) -> Result<Build, BuildError>
-    requires sound { IsSound meaning.source meaning.flat meaning.settled }
+    requires sound { IsSoundMeaning meaning.source meaning.flat meaning.settled }
     requires laid { IsLaid meaning.source meaning.flat meaning.settled images.now layout.now }
     ensures { Completes meaning images.now result }
 {
@@ -105,7 +106,7 @@ fn with_made(
     images: &Images,
     layout: &Layout,
 ) -> Result<Build, BuildError>
-    requires sound { IsSound front.source front.flat front.settled }
+    requires sound { IsSoundMeaning front.source front.flat front.settled }
     requires assigned { IsAssigned front.source front.policy }
     requires numbered { front.numbers ≡ label_numbers front.flat }
     requires laid { IsLaid front.source front.flat front.settled images.now layout.now }

@@ -3,8 +3,10 @@
 //!
 //! Which fault is the first stands in `specs/LayoutFaults.antt`, what is made of a source in `specs/Built.antt`, what
 //! `compile` answers in `specs/Compiled.antt`, and the text of the map in `specs/Maps.antt`: it begins no output, and nothing but
-//! the map is written. Which texts a build has, under which names and in which order, is in `specs/BuildTexts.antt`, the line
-//! of its numbers in `specs/Summary.antt`; writing them decides nothing and takes no memory.
+//! the map is written. That the slots, threads, regions, pages, frames and labels of what is made, and its map, are what the
+//! source says stands in `specs/OfSource.antt`, and that its policy, its certificate and its spec agree with the source and with
+//! each other, whatever the threads do, in `specs/Sound.antt`. Which texts a build has, under which names and in which order, is
+//! in `specs/BuildTexts.antt`, the line of its numbers in `specs/Summary.antt`; writing them decides nothing and takes no memory.
 #![tactic(auto)]
 
 mod building;

@@ -4,7 +4,7 @@ use Rattle.std.proofs.lemmas.Option.{slice_get-get_or}
 use Rattle.adl_ast.specs.declared.source.Source.{Source}
 use Rattle.adl_meaning.proofs.SoundNames.{one_assembly}
 use Rattle.adl_meaning.specs.Flat.{flat_of}
-use Rattle.arch_compile.specs.Built.{IsBuildOf, IsMade, system_tables}
+use Rattle.arch_compile.specs.Built.{IsBuildOf, IsMade}
 use Rattle.arch_compile.specs.LayoutFaults.{images_beside}
 use Rattle.arch_compile.specs.declared.building.Build.{Build}
 use Rattle.arch_policy.proofs.Lists.{has_in, in_has}
@@ -12,6 +12,7 @@ use Rattle.arch_policy.specs.Tables.{Tables}
 use Rattle.cap_model.specs.Policies.{label_name}
 use Rattle.cap_model.specs.declared.edge.Edge.{Edge}
 use Rattle.arch_compile.proofs.Facts.{AreFacts, build_facts}
+use Rattle.arch_compile.proofs.MadeTables.{made_connected}
 use Rattle.cam_base.specs.declared.error.Refused.{Refused}
 use Rattle.cam_base.specs.declared.text_fault.TextFault.{TextFault}
 use Rattle.cam_io.specs.Contents.{Contents}
@@ -27,8 +28,6 @@ use Rattle.policy_text.specs.PolicyLines.{cert_text}
 use Rattle.policy_text.specs.Writable.{IsWritableCert}
 use Rattle.source_images.specs.declared.images.Images.{Images}
 use Rattle.reach_laws.specs.Flat.{IsFlat}
-use Rattle.spec_laws.proofs.SourceConnected.{tables_are_connected}
-use Rattle.spec_laws.specs.Connected.{IsConnected}
 use Rattle.build_laws.proofs.EdgeCounts.{few_certified, few_edges}
 use Rattle.build_laws.proofs.Labelled.{IsLabel, edge_labels, label_small, named_at}
 use Rattle.build_laws.specs.ReadBack.{IsCertReadBack}
@@ -37,13 +36,8 @@ module _ {contents : Contents} (s : Source) (images : Images) (facts : AreFacts 
   abbrev t : Tables
   t = source_tables s
 
-  pub connected_is : IsConnected (system_tables s images)
-  connected_is =
-      let f = facts.faultless in
-      tables_are_connected s images facts.short f.names f.types f.flat f.settings facts.numbered facts.sound facts.space facts.slot facts.page
-
-  pub flat_is : IsFlat s (flat_of s)
-  flat_is = connected_is.flat
+  flat_is : IsFlat s (flat_of s)
+  flat_is = (made_connected s images facts).flat
 
   pub small_is : IsSmall (flat_of s)
   small_is = flat_small s facts.faultless.names facts.faultless.flat

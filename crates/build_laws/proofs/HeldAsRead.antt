@@ -8,8 +8,8 @@ use Rattle.cap_model.specs.declared.authority.Authority.{Authority}
 use Rattle.cap_model.specs.declared.edge.Edge.{Edge}
 use Rattle.cap_model.specs.declared.object_labels.Labels.{Labels}
 use Rattle.cap_model.specs.declared.policy.Policy.{Policy}
-use Rattle.build_laws.proofs.Soundness.{build_sound}
-use Rattle.build_laws.specs.Sound.{IsSound, object_labels}
+use Rattle.arch_compile.proofs.Soundness.{build_sound}
+use Rattle.arch_compile.specs.Sound.{IsSound, object_labels}
 use Rattle.cam_io.specs.Contents.{Contents}
 use Rattle.cap_model.specs.declared.spec.Spec.{Spec}
 use Rattle.cert_check.specs.Verdicts.{Judged}

@@ -1,7 +1,3 @@
-pub mod ObjectLabels
-pub mod Soundness
-pub mod OfSources
-mod Programs
 pub mod CertBack
 pub mod EdgeCounts
 pub mod HeldAsRead
@@ -9,7 +5,6 @@ pub mod LabelNames
 pub mod Labelled
 pub mod LabelsBack
 pub mod ListFaults
-mod OwnersLabels
 pub mod OwnersThere
 pub mod PathLengths
 pub mod PolicyBack

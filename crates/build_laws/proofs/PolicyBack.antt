@@ -18,6 +18,7 @@ use Rattle.cap_model.specs.Policies.{IsPolicy, label_name}
 use Rattle.cap_model.specs.declared.edge.Edge.{Edge}
 use Rattle.cap_model.specs.declared.policy.Policy.{Policy}
 use Rattle.arch_compile.proofs.Facts.{AreFacts, build_facts}
+use Rattle.arch_compile.proofs.MadeTables.{made_connected, made_fit}
 use Rattle.cam_base.specs.Names.{is_name}
 use Rattle.cam_base.specs.declared.error.Refused.{Refused}
 use Rattle.cam_base.specs.declared.text_fault.TextFault.{TextFault}
@@ -34,12 +35,12 @@ use Rattle.policy_text.proofs.ReadBack.{policy_back}
 use Rattle.policy_text.specs.PolicyLines.{policy_text}
 use Rattle.policy_text.specs.Writable.{IsWritable}
 use Rattle.source_images.specs.declared.images.Images.{Images}
-use Rattle.spec_kept.proofs.Bounds.{dotted}
-use Rattle.spec_kept.proofs.Telling.{names_tell}
+use Rattle.spec_laws.proofs.Bounds.{dotted}
+use Rattle.spec_laws.proofs.Telling.{names_tell}
 use Rattle.system_spec.specs.Made.{entry, labels_of, part_label, spec_of}
 use Rattle.system_spec.specs.Parts.{parts}
 use Rattle.system_spec.specs.Tables.{Tables}
-use Rattle.build_laws.proofs.CertBack.{connected_is, policy_few, small_is}
+use Rattle.build_laws.proofs.CertBack.{policy_few, small_is}
 use Rattle.assigned_laws.proofs.Identifiers.{identifiers}
 use Rattle.build_laws.proofs.LabelNames.{IsShortName, name_part, path_named}
 use Rattle.build_laws.proofs.Labelled.{IsLabel, edge_labels, few_labels, label_small, named_at}
@@ -47,7 +48,7 @@ use Rattle.build_laws.proofs.LabelsBack.{line_at}
 use Rattle.build_laws.proofs.OwnersThere.{object_owner}
 use Rattle.build_laws.proofs.PathLengths.{paths_short}
 use Rattle.build_laws.proofs.PolicyLengths.{IsEdgeShort, IsLabelShort, IsObjectShort, policy_short}
-use Rattle.build_laws.proofs.SpecBack.{made_fit, made_writable}
+use Rattle.build_laws.proofs.SpecBack.{made_writable}
 use Rattle.build_laws.specs.ReadBack.{IsPolicyReadBack}
 use Rattle.flat_laws.proofs.ShortTrees.{all_of}
 
@@ -181,7 +182,7 @@ module _ {contents : Contents} (s : Source) (images : Images) (facts : AreFacts 
 
   -- an object has the label of an owner
   object_is : (n : ℕ) (e : Entry) → slice_get (spec_of t).entries n ≡ Some e → IsLabel (source_tables s) (label_of (labels_of t).by_object n)
-  object_is n e at = let w = object_owner t (connected_is s images facts) n e at in record { owner = w.owner; there = w.there; is = w.is }
+  object_is n e at = let w = object_owner t (made_connected s images facts) n e at in record { owner = w.owner; there = w.there; is = w.is }
 
   small : (l : ℕ) → IsLabel (source_tables s) l → l < 8192
   small l w = label_small (source_tables s) refl (small_is s images facts) l w

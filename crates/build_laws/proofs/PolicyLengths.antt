@@ -10,7 +10,7 @@ use Rattle.cam_base.specs.Texts.{◌⊹◌}
 use Rattle.cam_base.specs.Gather.{IsIn}
 use Rattle.policy_text.proofs.EdgeLengths.{edge_short, number_short}
 use Rattle.policy_text.specs.PolicyLines.{edge_line, label_line, object_line, policy_text}
-use Rattle.spec_kept.proofs.Lengths.{all_short, joined}
+use Rattle.spec_laws.proofs.Lengths.{all_short, joined}
 
 abbrev pub IsLabelShort : ℕ × List ℕ → Type 0
 IsLabelShort l = (l.0 < 8192) × (length l.1 ≤ 2047)

@@ -7,27 +7,22 @@ use Rattle.arch_compile.specs.Built.{IsBuildOf, system_tables}
 use Rattle.arch_compile.specs.LayoutFaults.{images_beside}
 use Rattle.arch_compile.specs.declared.building.Build.{Build}
 use Rattle.arch_compile.proofs.Facts.{AreFacts, build_facts}
+use Rattle.arch_compile.proofs.MadeTables.{made_fit}
 use Rattle.cam_io.specs.Contents.{Contents}
 use Rattle.cap_model.specs.Canonical.{canonical}
 use Rattle.capdl_write.proofs.Whole.{canonical_text}
 use Rattle.capdl_write.specs.Writable.{IsWritable}
 use Rattle.capdl_text.proofs.Unique.{one_spec}
 use Rattle.source_images.specs.declared.images.Images.{Images}
-use Rattle.spec_kept.proofs.Bounds.{can_lay}
-use Rattle.spec_kept.proofs.Fits.{layouts_are_limited, tables_are_fit}
-use Rattle.spec_kept.proofs.SourcePlain.{layouts_are_plain}
-use Rattle.spec_kept.proofs.ReadImages.{read_images_are_plain}
-use Rattle.spec_kept.proofs.Plainly.{tables_written}
-use Rattle.spec_kept.proofs.Sizing.{tables_sized}
-use Rattle.spec_kept.proofs.Writing.{spec_writable}
-use Rattle.spec_kept.specs.Fit.{IsFit}
+use Rattle.spec_laws.proofs.Bounds.{can_lay}
+use Rattle.spec_laws.proofs.Fits.{layouts_are_limited}
+use Rattle.spec_laws.proofs.SourcePlain.{layouts_are_plain}
+use Rattle.spec_laws.proofs.ReadImages.{read_images_are_plain}
+use Rattle.spec_laws.proofs.Plainly.{tables_written}
+use Rattle.spec_laws.proofs.Sizing.{tables_sized}
+use Rattle.spec_laws.proofs.Writing.{spec_writable}
 use Rattle.system_spec.specs.Made.{spec_of}
 use Rattle.build_laws.specs.ReadBack.{IsSpecReadBack}
-
-pub made_fit : {contents : Contents} (s : Source) (images : Images) → AreFacts contents s images → IsFit (system_tables s images)
-made_fit s images facts =
-    let f = facts.faultless in
-    tables_are_fit s images facts.short f.names f.types f.flat f.settings facts.numbered facts.sound facts.space facts.slot facts.page
 
 pub made_writable : {contents : Contents} (s : Source) (images : Images) → AreFacts contents s images → IsWritable (spec_of (system_tables s images))
 made_writable {contents} s images facts =

@@ -7,8 +7,9 @@ use Rattle.arch_compile.specs.declared.building.Build.{Build}
 use Rattle.cap_model.specs.declared.edge.Edge.{Edge}
 use Rattle.cap_model.specs.declared.object_labels.Labels.{Labels}
 use Rattle.arch_compile.proofs.Facts.{AreFacts, build_facts}
-use Rattle.build_laws.proofs.Soundness.{build_sound, labels_are}
-use Rattle.build_laws.specs.Sound.{IsSound}
+use Rattle.arch_compile.proofs.MadeTables.{made_fit}
+use Rattle.arch_compile.proofs.Soundness.{build_sound, labels_are}
+use Rattle.arch_compile.specs.Sound.{IsSound}
 use Rattle.cam_io.specs.Contents.{Contents}
 use Rattle.cap_model.specs.declared.spec.Entry.{Entry}
 use Rattle.cap_model.specs.declared.spec.Spec.{Spec}
@@ -19,13 +20,12 @@ use Rattle.cert_check.specs.declared.verdict.Verdict.TheVariants.{Yes, No}
 use Rattle.policy_text.specs.Labelled.{IsLabelling, object_label}
 use Rattle.source_images.specs.declared.images.Images.{Images}
 use Rattle.reach_laws.proofs.ValidCertificates.{valid}
-use Rattle.spec_kept.specs.Fit.{IsFit}
-use Rattle.spec_kept.proofs.Telling.{names_tell}
+use Rattle.spec_laws.specs.Fit.{IsFit}
+use Rattle.spec_laws.proofs.Telling.{names_tell}
 use Rattle.system_spec.specs.Made.{entry, labels_of, part_label, spec_of}
 use Rattle.system_spec.specs.Parts.{parts}
 use Rattle.system_spec.specs.Tables.{Tables}
 use Rattle.build_laws.proofs.LabelsBack.{labels_back, labels_one}
-use Rattle.build_laws.proofs.SpecBack.{made_fit}
 use Rattle.build_laws.specs.TriosValid.{IsTrioValid}
 
 judged_yes : {spec : Spec} {labels : List ℕ} {policy cert : List Edge} (verdict : Verdict) → Valid spec labels policy cert → Judged spec labels policy cert verdict → verdict ≡ Yes

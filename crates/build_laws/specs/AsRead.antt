@@ -6,7 +6,7 @@ use Rattle.cap_model.specs.declared.authority.Authority.{Authority}
 use Rattle.cap_model.specs.declared.edge.Edge.{Edge}
 use Rattle.cap_model.specs.declared.object_labels.Labels.{Labels}
 use Rattle.cap_model.specs.declared.policy.Policy.{Policy}
-use Rattle.build_laws.specs.Sound.{object_labels}
+use Rattle.arch_compile.specs.Sound.{object_labels}
 use Rattle.cap_machine.specs.Runs.{Reaches}
 use Rattle.cap_model.specs.Canonical.{canonical}
 use Rattle.cap_model.specs.declared.spec.Spec.{Spec}

@@ -1,10 +1,4 @@
-pub mod Sound
-pub mod OfSource
 pub mod AsRead
 pub mod ReadBack
 pub mod TriosValid
 pub use Rattle.arch_compile.specs.Built
-pub use Rattle.adl_meaning.specs.Flat
-pub use Rattle.adl_meaning.specs.NameFaults
-pub use Rattle.source_images.specs.ImagesRead
-pub use Rattle.spec_laws.specs.HaveImages

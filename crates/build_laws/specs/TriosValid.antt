@@ -2,7 +2,7 @@
 use Rattle.std.specs.Prelude.{◌≡◌, Ok}
 use Rattle.arch_compile.specs.declared.building.Build.{Build}
 use Rattle.cap_model.specs.declared.object_labels.Labels.{Labels}
-use Rattle.build_laws.specs.Sound.{object_labels}
+use Rattle.arch_compile.specs.Sound.{object_labels}
 use Rattle.cert_check.specs.Valid.{Valid}
 use Rattle.cert_check.specs.Verdicts.{Judged}
 use Rattle.cert_check.specs.declared.verdict.Verdict.{Verdict}

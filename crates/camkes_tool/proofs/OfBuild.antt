@@ -15,8 +15,8 @@ use Rattle.build_laws.proofs.PolicyBack.{policy_read}
 use Rattle.build_laws.proofs.PolicyReached.{policy_reached}
 use Rattle.build_laws.proofs.SpecBack.{spec_back}
 use Rattle.build_laws.specs.AsRead.{IsReadAs}
-use Rattle.build_laws.proofs.Soundness.{build_sound}
-use Rattle.build_laws.specs.Sound.{object_labels}
+use Rattle.arch_compile.proofs.Soundness.{build_sound}
+use Rattle.arch_compile.specs.Sound.{object_labels}
 use Rattle.cam_io.specs.Contents.{Contents}
 use Rattle.cap_audit.specs.Reports.{IsReport}
 use Rattle.cap_machine.specs.declared.step.Step.{Step}

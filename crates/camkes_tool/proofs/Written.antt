@@ -4,8 +4,8 @@ use Rattle.build_laws.proofs.CertBack.{cert_read}
 use Rattle.build_laws.proofs.HeldAsRead.{as_read}
 use Rattle.build_laws.proofs.PolicyBack.{policy_read}
 use Rattle.build_laws.proofs.SpecBack.{spec_back}
-use Rattle.build_laws.proofs.OfSources.{build_of_source}
-use Rattle.build_laws.proofs.Soundness.{build_sound}
+use Rattle.arch_compile.proofs.OfSources.{build_of_source}
+use Rattle.arch_compile.proofs.Soundness.{build_sound}
 use Rattle.cam_io.specs.Contents.{Contents}
 use Rattle.cam_io.specs.Reading.{InAll}
 use Rattle.cam_io.specs.Sinks.{Sink}

@@ -31,8 +31,8 @@ use Rattle.cap_model.specs.declared.object_labels.Labels.{Labels}
 use Rattle.cap_model.specs.declared.policy.Policy.{Policy}
 use Rattle.build_laws.specs.AsRead.{HoldsAsRead}
 use Rattle.build_laws.specs.ReadBack.{AreReadBack}
-use Rattle.build_laws.specs.OfSource.{IsOfSource}
-use Rattle.build_laws.specs.Sound.{IsSound}
+use Rattle.arch_compile.specs.OfSource.{IsOfSource}
+use Rattle.arch_compile.specs.Sound.{IsSound}
 use Rattle.arch_compile.specs.BuildTexts.{AreNamedBy, texts_script}
 use Rattle.arch_compile.specs.declared.names.TextNames.{TextNames}
 use Rattle.cam_base.specs.declared.error.Refused.{Refused}

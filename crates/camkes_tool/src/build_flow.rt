@@ -2,7 +2,7 @@
 
 ghost use Rattle.arch_compile.specs.Built.{IsBuildOf};
 ghost use Rattle.arch_compile.specs.declared.building.Build.{Build};
-ghost use Rattle.build_laws.specs.Sound.{object_labels};
+ghost use Rattle.arch_compile.specs.Sound.{object_labels};
 ghost use Rattle.cam_io.specs.Contents.{Contents};
 ghost use Rattle.camkes_tool.specs.Theorem.{IsSafe};
 ghost use Rattle.cap_machine.specs.Runs.{Run};

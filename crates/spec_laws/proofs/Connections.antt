@@ -37,7 +37,7 @@ use Rattle.reach_laws.proofs.PieceEdges.{pieces_direct}
 use Rattle.reach_laws.specs.Arranged.{Holds, RootOf}
 use Rattle.reach_laws.specs.Plain.{HoldsPlain, is_plain, option_plain, plain_kind}
 use Rattle.system_spec.proofs.There.{IsThere, kind_there, object_there}
-use Rattle.spec_kept.proofs.Uses.{uses_are}
+use Rattle.spec_laws.proofs.Uses.{uses_are}
 use Rattle.system_spec.specs.declared.part.What.TheVariants.{CNodeOf, EndpointOf, IrqOf, LockOf, NotificationOf, ThreadOf}
 use Rattle.system_spec.specs.Made.{spec_of}
 use Rattle.system_spec.specs.Objects.{object, rights_at, tcb, use_cap}

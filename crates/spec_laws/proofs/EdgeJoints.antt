@@ -45,7 +45,7 @@ use Rattle.reach_laws.specs.Pieces.{IsAccess, OfJoints}
 use Rattle.reach_laws.proofs.EndLabels.{label_of_leaf}
 use Rattle.reach_laws.specs.Arranged.{Holds}
 use Rattle.system_spec.proofs.There.{IsThere, kind_there, object_there}
-use Rattle.spec_kept.proofs.Uses.{uses_are}
+use Rattle.spec_laws.proofs.Uses.{uses_are}
 use Rattle.system_spec.specs.declared.part.What.TheVariants.{CNodeOf, EndpointOf, NotificationOf, LockOf, IrqOf}
 use Rattle.system_spec.specs.Made.{spec_of}
 use Rattle.system_spec.specs.Objects.{end_rights, joint, joint_by, object, rights_at, slots_at, use_cap}

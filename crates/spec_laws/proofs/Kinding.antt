@@ -26,8 +26,8 @@ use Rattle.page_tables.specs.Counts.{levels_of}
 use Rattle.page_tables.specs.Levels.{layers, level_of, numbered as in_levels, sizes, table_of}
 use Rattle.page_tables.specs.Shapes.{shapes}
 use Rattle.page_tables.proofs.Counted.{levels_of_addresses}
-use Rattle.spec_kept.proofs.Names.{same_series}
-use Rattle.spec_kept.proofs.TablesKept.{moved, object_is, standing}
+use Rattle.spec_laws.proofs.Names.{same_series}
+use Rattle.spec_laws.proofs.TablesKept.{moved, object_is, standing}
 use Rattle.system_spec.specs.declared.part.Owned.{Owned}
 use Rattle.system_spec.specs.declared.part.PageTable.{PageTable}
 use Rattle.system_spec.specs.declared.part.Part.{Part}

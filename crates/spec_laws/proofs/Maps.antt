@@ -28,10 +28,10 @@ use Rattle.cspace_layout.specs.Members.{leaf_members, members_at, members_of_lea
 use Rattle.source_images.specs.Numbered.{AreNumbered, AreSound}
 use Rattle.source_images.specs.SpaceFaults.{first_space_fault}
 use Rattle.source_images.specs.declared.images.Images.{Images}
-use Rattle.spec_kept.proofs.Bounds.{can_lay, dotted, registers_there}
-use Rattle.spec_kept.proofs.PageCounts.{few_pages}
-use Rattle.spec_kept.proofs.SettledEnds.{end_found}
-use Rattle.spec_kept.proofs.SeenMemory.{has_domain, memory_seen}
+use Rattle.spec_laws.proofs.Bounds.{can_lay, dotted, registers_there}
+use Rattle.spec_laws.proofs.PageCounts.{few_pages}
+use Rattle.spec_laws.proofs.SettledEnds.{end_found}
+use Rattle.spec_laws.proofs.SeenMemory.{has_domain, memory_seen}
 use Rattle.spec_laws.proofs.Groups.{leaves_once, leaves_some}
 use Rattle.spec_laws.proofs.Registers.{same_paddr}
 use Rattle.spec_laws.proofs.Stacks.{stacks_whole}

@@ -27,8 +27,8 @@ use Rattle.flat_laws.specs.Typed.{AreTyped}
 use Rattle.flat_laws.proofs.SoundSettings.{AreSettingsSound}
 use Rattle.cspace_layout.specs.Lookups.{setting_of}
 use Rattle.cspace_layout.specs.Members.{members_at}
-use Rattle.spec_kept.proofs.SettledEnds.{IsEndFound, end_found}
-use Rattle.spec_kept.proofs.MemorySizes.{from_registers, interface_same}
+use Rattle.spec_laws.proofs.SettledEnds.{IsEndFound, end_found}
+use Rattle.spec_laws.proofs.MemorySizes.{from_registers, interface_same}
 use Rattle.vspace_layout.specs.Memory.{memory_paddr, memory_place, registers, to_place}
 
 paddr_by : (settled : Settled) (k n : ℕ) (c : FlatConnection) (e : EndSetting) → c.connector ≡ Mmio → to_place c.ends ≡ Some n → setting_of settled k n ≡ Some e → memory_paddr settled k c ≡ e.paddr

@@ -14,8 +14,8 @@ use Rattle.flat_laws.proofs.SoundSettings.{settings_sound}
 use Rattle.source_images.specs.Numbered.{AreNumbered, AreSound}
 use Rattle.source_images.specs.SpaceFaults.{first_space_fault}
 use Rattle.source_images.specs.declared.images.Images.{Images}
-use Rattle.spec_kept.proofs.Bounds.{dotted, registers_there}
-use Rattle.spec_kept.proofs.MemorySizes.{memory_some}
+use Rattle.spec_laws.proofs.Bounds.{dotted, registers_there}
+use Rattle.spec_laws.proofs.MemorySizes.{memory_some}
 use Rattle.spec_laws.proofs.SourceDevices.{devices_flat}
 use Rattle.spec_laws.specs.Connected.{IsConnected}
 use Rattle.system_spec.specs.TablesFrom.{tables_from}

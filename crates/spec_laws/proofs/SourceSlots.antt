@@ -15,11 +15,11 @@ use Rattle.cspace_layout.specs.Uses.{domain_uses, plan_of}
 use Rattle.flat_laws.specs.ShortFiles.{AreFilesShort}
 use Rattle.flat_laws.proofs.AreTyped.{ends_typed}
 use Rattle.flat_laws.proofs.SoundSettings.{settings_sound}
-use Rattle.spec_kept.proofs.SlotBounds as slots
+use Rattle.spec_laws.proofs.SlotBounds as slots
 use Rattle.source_images.specs.declared.images.Images.{Images}
-use Rattle.spec_kept.proofs.Bounds.{dotted, few_uses}
-use Rattle.spec_kept.proofs.SettledEnds.{end_found}
-use Rattle.spec_kept.proofs.Interrupts.{device_there}
+use Rattle.spec_laws.proofs.Bounds.{dotted, few_uses}
+use Rattle.spec_laws.proofs.SettledEnds.{end_found}
+use Rattle.spec_laws.proofs.Interrupts.{device_there}
 use Rattle.spec_laws.specs.Slotted.{CanSlot}
 use Rattle.system_spec.specs.TablesFrom.{tables_from}
 

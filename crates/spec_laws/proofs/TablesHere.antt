@@ -25,7 +25,7 @@ use Rattle.page_tables.specs.Shapes.{shape, shapes}
 use Rattle.page_tables.proofs.Children.{linked_none, slots_lead}
 use Rattle.page_tables.proofs.Leveled.{in_tables}
 use Rattle.reach_laws.specs.Windows.{InTable}
-use Rattle.spec_kept.proofs.TablesKept.{moved, object_is, stands_there, standing}
+use Rattle.spec_laws.proofs.TablesKept.{moved, object_is, stands_there, standing}
 use Rattle.system_spec.proofs.There.{IsThere, object_there}
 use Rattle.system_spec.specs.declared.part.What.TheVariants.{FrameOf, TableOf}
 use Rattle.system_spec.specs.Made.{spec_of}

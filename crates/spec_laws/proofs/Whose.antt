@@ -24,7 +24,7 @@ use Rattle.cam_base.proofs.NumberedLists.{from_map, from_get_map}
 use Rattle.page_tables.specs.declared.layer.Layer.{Layer}
 use Rattle.page_tables.specs.Levels.{layers, numbered as tables_numbered, sizes, table_of}
 use Rattle.page_tables.specs.Shapes.{shapes}
-use Rattle.spec_kept.proofs.TablesKept.{moved, object_is, standing}
+use Rattle.spec_laws.proofs.TablesKept.{moved, object_is, standing}
 use Rattle.system_spec.proofs.There.{IsThere, by_section, has_part, single, there}
 use Rattle.system_spec.proofs.Standing.{place_is, stands}
 use Rattle.system_spec.specs.declared.part.Owned.{Owned}

@@ -11,6 +11,11 @@ pub mod Threaded
 pub mod Connected
 pub mod Policy
 pub mod HaveImages
+pub mod Fit
+pub mod Limited
+pub mod Plain
+pub mod Sized
+pub mod Written
 pub use Rattle.adl_meaning.specs.Flat
 pub use Rattle.adl_meaning.specs.JoinFaults
 pub use Rattle.adl_meaning.specs.NameFaults
@@ -24,3 +29,7 @@ pub use Rattle.source_images.specs.SpaceFaults
 pub use Rattle.system_spec.specs.TablesFrom
 pub use Rattle.vspace_layout.specs.Given
 pub use Rattle.vspace_layout.specs.PageLimits
+pub use Rattle.source_images.specs.ImagesRead
+pub use Rattle.system_spec.specs.Buildable
+pub use Rattle.system_spec.specs.Windowed
+pub use Rattle.vspace_layout.specs.CanLay

@@ -1,5 +1,8 @@
-use Rattle.arch_compile.proofs.Compiling.{built_compiled, refused_compiled}
-use Rattle.arch_compile.proofs.KeptSpecs.{compiled_kept}
+use Rattle.arch_compile.proofs.Compiling.{built_compiled, built_so, refused_compiled}
+use Rattle.arch_compile.proofs.OfSources.{build_of_source}
+use Rattle.arch_compile.proofs.Soundness.{build_sound}
+use Rattle.arch_compile.specs.OfSource.{IsOfSource}
+use Rattle.arch_compile.specs.Sound.{IsSound}
 use Rattle.front_end.proofs.Refusing.{meaning_sound}
 use Rattle.front_end.specs.Fronts.{IsMeaningOf}
 use Rattle.arch_compile.proofs.building.compile.Goals as goal
@@ -11,15 +14,20 @@ with_images-requires g c =
 
 pub returns-in-Ok-clause-compiled : goal.returns-in-Ok-clause-compiled
 returns-in-Ok-clause-compiled g c m told =
-    built_compiled c.args.root.now m (g.F.Files.faults c.args.files.now) (g.F.Files.faults c.meaning_of.new.files) (g.F.Files.faults c.with_images.new.files) c.in-Ok.meaning (c.in-Ok.ensures.meaning m (c.with_images.ensures.kept.told_still m told)) c.with_images.result c.in-Ok.ensures.kept.later
-    (c.with_images.ensures.builds m told)
+    built_compiled c.args.root.now m c.in-Ok.meaning (c.in-Ok.ensures.meaning m (c.with_images.ensures.kept.told_still m told))
+    (g.F.Files.faults c.args.files.now) (g.F.Files.faults c.meaning_of.new.files) (g.F.Files.faults c.with_images.new.files) c.with_images.result
+    c.in-Ok.ensures.kept.later (c.with_images.ensures.builds m told)
 
-pub returns-in-Ok-clause-kept_spec : goal.returns-in-Ok-clause-kept_spec
-returns-in-Ok-clause-kept_spec g c =
+pub returns-in-Ok-clause-of_source : goal.returns-in-Ok-clause-of_source
+returns-in-Ok-clause-of_source g c m told =
+    built_so c.args.root.now m c.in-Ok.meaning (c.in-Ok.ensures.meaning m (c.with_images.ensures.kept.told_still m told))
+    (IsOfSource m) (build_of_source c.args.root.now m) _ _ c.with_images.result (c.with_images.ensures.builds m told)
+
+pub returns-in-Ok-clause-sound : goal.returns-in-Ok-clause-sound
+returns-in-Ok-clause-sound g c =
     let some = g.met.F.Files.some c.with_images.new.files in
-    compiled_kept c.args.root.now some.0 (g.F.Files.faults c.args.files.now) (g.F.Files.faults c.with_images.new.files) c.with_images.result
-    (built_compiled c.args.root.now some.0 (g.F.Files.faults c.args.files.now) (g.F.Files.faults c.meaning_of.new.files) (g.F.Files.faults c.with_images.new.files) c.in-Ok.meaning (c.in-Ok.ensures.meaning some.0 (c.with_images.ensures.kept.told_still some.0 some.1)) c.with_images.result c.in-Ok.ensures.kept.later
-    (c.with_images.ensures.builds some.0 some.1))
+    built_so c.args.root.now some.0 c.in-Ok.meaning (c.in-Ok.ensures.meaning some.0 (c.with_images.ensures.kept.told_still some.0 some.1))
+    IsSound (build_sound c.args.root.now some.0) _ _ c.with_images.result (c.with_images.ensures.builds some.0 some.1)
 
 pub returns-in-Err-clause-compiled : goal.returns-in-Err-clause-compiled
 returns-in-Err-clause-compiled g c m told =

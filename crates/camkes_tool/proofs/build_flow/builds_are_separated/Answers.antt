@@ -1,5 +1,5 @@
-use Rattle.build_laws.proofs.Soundness.{build_sound}
-use Rattle.build_laws.specs.Sound.{object_labels}
+use Rattle.arch_compile.proofs.Soundness.{build_sound}
+use Rattle.arch_compile.specs.Sound.{object_labels}
 use Rattle.cert_check.proofs.Keeps.{runs_stay}
 use Rattle.flow_laws.proofs.Separated.{separated}
 use Rattle.camkes_tool.proofs.build_flow.builds_are_separated.Goals as goal

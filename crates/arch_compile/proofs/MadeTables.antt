@@ -1,0 +1,28 @@
+-- What the tables of a source without faults, and of its images, are fit for.
+use Rattle.std.proofs.Common.{ℕ, List}
+use Rattle.adl_ast.specs.declared.source.Source.{Source}
+use Rattle.arch_compile.specs.Built.{system_tables}
+use Rattle.cam_io.specs.Contents.{Contents}
+use Rattle.cap_model.specs.Kept.{IsKept}
+use Rattle.source_images.specs.declared.images.Images.{Images}
+use Rattle.spec_laws.proofs.Fits.{tables_are_fit}
+use Rattle.spec_laws.proofs.Keeping.{spec_kept}
+use Rattle.spec_laws.proofs.SourceConnected.{tables_are_connected}
+use Rattle.spec_laws.specs.Connected.{IsConnected}
+use Rattle.spec_laws.specs.Fit.{IsFit}
+use Rattle.system_spec.specs.Made.{spec_of}
+use Rattle.arch_compile.proofs.Facts.{AreFacts}
+
+module _ {contents : Contents} (s : Source) (images : Images) (facts : AreFacts contents s images) where
+  pub made_fit : IsFit (system_tables s images)
+  made_fit =
+      let f = facts.faultless in
+      tables_are_fit s images facts.short f.names f.types f.flat f.settings facts.numbered facts.sound facts.space facts.slot facts.page
+
+  pub made_kept : IsKept (spec_of (system_tables s images))
+  made_kept = spec_kept (system_tables s images) made_fit
+
+  pub made_connected : IsConnected (system_tables s images)
+  made_connected =
+      let f = facts.faultless in
+      tables_are_connected s images facts.short f.names f.types f.flat f.settings facts.numbered facts.sound facts.space facts.slot facts.page

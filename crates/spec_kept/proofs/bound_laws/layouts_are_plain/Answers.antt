@@ -1,5 +1,0 @@
-use Rattle.spec_kept.proofs.SourcePlain.{layouts_are_plain}
-use Rattle.spec_kept.proofs.bound_laws.layouts_are_plain.Goals as goal
-
-pub returns : goal.returns
-returns c = layouts_are_plain

@@ -1,5 +1,0 @@
-use Rattle.spec_kept.proofs.ReadImages.{read_images_are_plain}
-use Rattle.spec_kept.proofs.bound_laws.read_images_are_plain.Goals as goal
-
-pub returns : goal.returns
-returns c = read_images_are_plain

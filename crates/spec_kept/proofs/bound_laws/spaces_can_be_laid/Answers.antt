@@ -1,5 +1,0 @@
-use Rattle.spec_kept.proofs.Bounds.{can_lay}
-use Rattle.spec_kept.proofs.bound_laws.spaces_can_be_laid.Goals as goal
-
-pub returns : goal.returns
-returns c = can_lay

@@ -1,5 +1,0 @@
-use Rattle.spec_kept.proofs.Fits.{tables_are_fit}
-use Rattle.spec_kept.proofs.bound_laws.tables_are_fit.Goals as goal
-
-pub returns : goal.returns
-returns c = tables_are_fit

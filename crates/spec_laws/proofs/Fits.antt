@@ -1,0 +1,76 @@
+-- The tables of a source without faults are fit, and its layouts are limited.
+use Rattle.std.proofs.Common.{◌≡◌, None, refl, arith}
+use Rattle.adl_ast.specs.declared.source.Source.{Source}
+use Rattle.adl_meaning.specs.Flat.{flat_of}
+use Rattle.adl_meaning.specs.JoinFaults.{first_flat_fault}
+use Rattle.adl_meaning.specs.NameFaults.{AreNamesSound}
+use Rattle.adl_meaning.proofs.SoundNames.{one_assembly}
+use Rattle.adl_settings.specs.Settled.{settled_of}
+use Rattle.adl_settings.specs.SettingFaults.{first_setting_fault}
+use Rattle.adl_types.specs.TypeFaults.{first_type_fault}
+use Rattle.cspace_layout.specs.SlotFaults.{first_slot_fault}
+use Rattle.flat_laws.specs.ShortFiles.{AreFilesShort}
+use Rattle.flat_laws.proofs.Small.{flat_small}
+use Rattle.flat_laws.proofs.SoundSettings.{settings_sound}
+use Rattle.source_images.specs.Numbered.{AreNumbered, AreSound}
+use Rattle.source_images.specs.SpaceFaults.{first_space_fault}
+use Rattle.source_images.specs.declared.images.Images.{Images}
+use Rattle.spec_laws.specs.Fit.{IsFit}
+use Rattle.spec_laws.specs.Limited.{IsLimited}
+use Rattle.system_spec.specs.TablesFrom.{tables_from}
+use Rattle.vspace_layout.specs.Given.{given}
+use Rattle.vspace_layout.specs.PageLimits.{first_page_limit}
+use Rattle.vspace_layout.proofs.Sections.{sections_stand}
+use Rattle.spec_laws.proofs.Bounds.{can_build, can_lay, dotted, few_uses}
+use Rattle.spec_laws.proofs.FrameFits.{frames_kept}
+use Rattle.spec_laws.proofs.Interrupts.{one_line}
+use Rattle.spec_laws.proofs.MemorySizes.{addresses_whole}
+use Rattle.spec_laws.proofs.PageCounts.{few_pages}
+use Rattle.spec_laws.proofs.PageFits.{pages_placed, threads_mapped}
+use Rattle.spec_laws.proofs.SeenMemory.{memory_seen}
+use Rattle.spec_laws.proofs.SettledNumbers.{priorities_fit}
+use Rattle.spec_laws.proofs.StackPages.{stacks_some}
+use Rattle.spec_laws.proofs.PartBounds.{uses_few}
+
+pub tables_are_fit : (s : Source) (images : Images) → AreFilesShort s → AreNamesSound s → first_type_fault s ≡ None → first_flat_fault s ≡ None → first_setting_fault s ≡ None
+    → AreNumbered (flat_of s) images → AreSound images → first_space_fault (flat_of s) images ≡ None → first_slot_fault s (flat_of s) ≡ None → first_page_limit (given s (flat_of s) (settled_of s) images) ≡ None
+    → IsFit (tables_from s (flat_of s) (settled_of s) images)
+tables_are_fit s images short sound types flat settings numbered sections space slots pages =
+    let g = given s (flat_of s) (settled_of s) images in
+    let t = tables_from s (flat_of s) (settled_of s) images in
+    let one = one_assembly s sound in
+    let can = can_lay s images short sound types flat settings in
+    let build = can_build s images short sound types flat settings numbered sections space slots pages in
+    let stand = sections_stand g numbered sections space in
+    let few = (few_pages g one.0 one.1 pages).pages in
+    record {
+      laid = refl;
+      connections = build.few.connections;
+      objects = build.few.objects;
+      domains = λ d x at. record {
+        slots = let l = uses_few t refl refl (flat_small s sound flat) (few_uses s sound slots) can few d in omega (arith, l);
+        pages = λ p i. let q = pages_placed g stand can few d p i in record { aligned = q.aligned; below = q.below; frame = build.shown d p i };
+        rise = build.rise d;
+        mapped = λ x i. threads_mapped g can d x i;
+      };
+      frames = frames_kept g (λ k c at. addresses_whole s k c);
+      priorities = priorities_fit s;
+      one_line = one_line s sound (dotted s short) types (settings_sound s settings);
+    }
+
+pub layouts_are_limited : (s : Source) (images : Images) → AreFilesShort s → AreNamesSound s → first_type_fault s ≡ None → first_flat_fault s ≡ None → first_setting_fault s ≡ None
+    → first_slot_fault s (flat_of s) ≡ None → first_page_limit (given s (flat_of s) (settled_of s) images) ≡ None → IsLimited (given s (flat_of s) (settled_of s) images)
+layouts_are_limited s images short sound types flat settings slots pages =
+    let g = given s (flat_of s) (settled_of s) images in
+    let one = one_assembly s sound in
+    let small = flat_small s sound flat in
+    let few = few_pages g one.0 one.1 pages in
+    record {
+      domains = small.domains;
+      connections = small.connections;
+      uses = (few_uses s sound slots).all;
+      pages = few.pages;
+      tables = few.tables;
+      stacks = stacks_some s images settings;
+      seen = memory_seen s images sound (dotted s short) types;
+    }

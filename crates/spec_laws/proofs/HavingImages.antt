@@ -1,0 +1,105 @@
+-- Each leaf of software has an image: its component stands in the source, and types list the component's name.
+use Rattle.std.proofs.Common.{◌≡◌, ◌∙◌, ℕ, Bool, cond, List, Option, Some, None, unwrap_or, refl, sym, ap, subst, arith}
+use Rattle.std.proofs.lemmas.Slice.Eq.{bytes_eq-Decides}
+use Rattle.std.specs.List.{enumerate_from, filter_map, position, slice_get}
+use Rattle.std.specs.Option.{option_and_then}
+use Rattle.std.specs.Str.{bytes_eq}
+use Rattle.adl_ast.specs.declared.component.Component.{Component}
+use Rattle.adl_ast.specs.declared.file.Ended.{Ended}
+use Rattle.adl_ast.specs.declared.file.Item.{Item}
+use Rattle.adl_ast.specs.declared.file.Item.TheVariants as items
+use Rattle.adl_ast.specs.declared.source.Source.{Source}
+use Rattle.adl_ast.specs.declared.source.SourceFile.{SourceFile}
+use Rattle.adl_hierarchy.proofs.Bodies.{body_number}
+use Rattle.adl_hierarchy.proofs.Places.{firsts_are}
+use Rattle.adl_meaning.specs.declared.flat.Leaf.{Leaf}
+use Rattle.adl_meaning.specs.declared.item_at.ItemAt.{ItemAt}
+use Rattle.adl_meaning.specs.Flat.{flat_of, leaf_of}
+use Rattle.adl_meaning.specs.Hierarchy.{Body, hierarchy_of}
+use Rattle.adl_meaning.specs.Items.{as_component, components, items_in, items_of}
+use Rattle.cam_base.specs.Gather.{IsIn}
+use Rattle.adl_meaning.specs.NameFaults.{AreNamesSound}
+use Rattle.adl_meaning.specs.Paths.{leaves}
+use Rattle.cam_io.specs.Contents.{Contents}
+use Rattle.adl_hierarchy.proofs.Lists.{in_get}
+use Rattle.cam_base.proofs.Gathered.{place_of as listed_at}
+use Rattle.cam_base.proofs.NumberedLists.{from_enumerate, from_filter_map, from_flat_map, from_map, get_map, in_filter_map, from_get_map}
+use Rattle.flat_laws.proofs.FlatLeaves.{leaf_component}
+use Rattle.source_images.specs.Images.{image_number}
+use Rattle.source_images.specs.declared.images.Images.{Images}
+use Rattle.source_images.specs.ImagesRead.{AreImagesOf}
+use Rattle.source_images.specs.Types.{Name, component_name, component_of, type_number, type_of, types}
+use Rattle.spec_laws.proofs.StackPages.{soft_leaf}
+use Rattle.spec_laws.specs.HaveImages.{HaveImages}
+use Rattle.vspace_layout.proofs.MemoryNumbers.{position_found}
+
+-- ---- the component of a leaf has a name
+
+-- where an item stands, its component is named
+item_there : (s : Source) (x : ItemAt × Item) → IsIn x (items_of s) → component_name s x.0 ≡ component_of x.1
+item_there s x i =
+    let f = from_flat_map items_in x (enumerate_from 0 s.files) i in
+    let file = from_enumerate 0 s.files f.0 f.1 in
+    let e = from_map (λ (e : ℕ × Ended). let y : ItemAt × Item = (record { file = f.0.0; item = e.0 }, e.1.item) in y) x (enumerate_from 0 f.0.1.tree.items) f.2 in
+    let item = from_enumerate 0 f.0.1.tree.items e.0 e.1 in
+    let of_item : Ended → Option Name = λ z. component_of z.item in
+    let of_file : ℕ → SourceFile → Option Name = λ n z. option_and_then of_item (slice_get z.tree.items n) in
+    let P : ItemAt × Item → Type 0 = λ y. component_name s y.0 ≡ component_of y.1 in
+    let a : f.0.0 ≡ file.0 = file.1 ∙ omega arith in
+    let b : e.0.0 ≡ item.0 = item.1 ∙ omega arith in
+    let here : component_name s (record { file = f.0.0; item = e.0.0 }) ≡ component_of e.0.1.item =
+    ap (λ n. option_and_then (of_file e.0.0) (slice_get s.files n)) a
+    ∙ ap (option_and_then (of_file e.0.0)) file.2
+    ∙ ap (λ n. option_and_then of_item (slice_get f.0.1.tree.items n)) b
+    ∙ ap (option_and_then of_item) item.2 in
+    subst P e.2 here
+
+name_there : (s : Source) (c : ItemAt × Component) → IsIn c (components s) → component_name s c.0 ≡ Some c.1.id.name
+name_there s c i =
+    let x = from_filter_map as_component c (items_of s) i in
+    by_item x.0 x.2 (item_there s x.0 x.1)
+  where
+    by_item : (y : ItemAt × Item) → as_component y ≡ Some c → component_name s y.0 ≡ component_of y.1 → component_name s c.0 ≡ Some c.1.id.name
+    by_item (at, items.Import i) t m = cc
+    by_item (at, items.Procedure p) t m = cc
+    by_item (at, items.Component d) t m =
+        let same : (at, d) ≡ c = cc in
+        let P : ItemAt × Component → Type 0 = λ z. component_name s z.0 ≡ Some z.1.id.name in
+        subst P same m
+    by_item (at, items.Assembly a) t m = cc
+
+leaf_named : (s : Source) → AreNamesSound s → (l : ℕ) (leaf : Leaf) → slice_get (flat_of s).leaves l ≡ Some leaf → (n : Name) × (component_name s leaf.component ≡ Some n)
+leaf_named s sound l leaf at =
+    let h = hierarchy_of s in
+    let x = from_get_map (leaf_of h) (leaves h) l leaf at in
+    let c = leaf_component s sound x.0 (in_get (leaves h) l x.0 x.1) in
+    let k = x.0.part.kind in (
+      c.0.1.id.name,
+      ap (λ (z : Leaf). component_name s z.component) (sym x.2)
+          ∙ ap (λ (b : Body). component_name s (unwrap_or b.item (record { file = 0; item = 0 }))) (body_number s k c.0 c.1)
+          ∙ name_there s c.0 (in_get (components s) k c.0 c.1),
+    )
+
+-- ---- types list its name
+
+place_of : (n : Name) (xs : List Name) → IsIn n xs → (m : ℕ) × (position (bytes_eq n) xs ≡ Some m)
+place_of n xs i = let k = listed_at n xs i in position_found (bytes_eq n) xs k.0 n k.1 ((bytes_eq-Decides n n).1 refl)
+
+-- a leaf of software has the number of its type
+leaf_numbered : (s : Source) → AreNamesSound s → (l d : ℕ) (leaf : Leaf) → slice_get (flat_of s).leaves l ≡ Some leaf → leaf.domain ≡ Some d → (m : ℕ) × (type_number s (flat_of s) leaf ≡ Some m)
+leaf_numbered s sound l d leaf at own =
+    let n = leaf_named s sound l leaf at in
+    let typed : type_of s leaf ≡ Some n.0 = ap (λ (b : Bool). cond b None (component_name s leaf.component)) (soft_leaf s l d leaf at own) ∙ n.1 in
+    let all = filter_map (type_of s) (flat_of s).leaves in
+    let listed : IsIn n.0 (types s (flat_of s)) = (firsts_are bytes_eq bytes_eq-Decides all n.0).1 (in_filter_map (type_of s) leaf n.0 (flat_of s).leaves (in_get (flat_of s).leaves l leaf at) typed) in
+    let r = place_of n.0 (types s (flat_of s)) listed in
+    (r.0, ap (option_and_then (λ name. position (bytes_eq name) (types s (flat_of s)))) typed ∙ r.1)
+
+pub programs_have_images : (contents : Contents) (root : List ℕ) (s : Source) (images : Images) → AreNamesSound s → AreImagesOf contents root s (flat_of s) images → HaveImages (flat_of s) images
+programs_have_images contents root s images sound read leaf d found at own =
+    let r = leaf_numbered s sound leaf d found at own in (
+      r.0,
+      ap (λ (z : Images). image_number z leaf) read.images
+          ∙ ap (option_and_then (λ o. o)) (get_map (type_number s (flat_of s)) (flat_of s).leaves leaf found at)
+          ∙ r.1,
+    )

@@ -1,0 +1,273 @@
+-- What is laid out is written in numbers of 64 bits and in plain texts.
+use Rattle.std.proofs.Common.{◌≡◌, ◌<◌, ◌≤◌, ◌+◌, ◌^◌, ℕ, true, false, ◌&&◌, not, List, [], ◌∷◌, ◌++◌, length, map, decimal, refl, sym, ◌∙◌, ap, subst, Option, Some, None, inl, inr, true≢false, arith}
+use Rattle.std.specs.Prelude.{◌==◌, leb}
+use Rattle.std.specs.List.{list_all, slice_get}
+use Rattle.std.specs.Option.{option_map, option_map_or}
+use Rattle.std.proofs.lemmas.Bool.{and_from, and_parts, eqb-true, false_from_ne_true, leb-true, lt-ltb, not_from_false}
+use Rattle.std.proofs.lemmas.Fmt.{length-decimal-le}
+use Rattle.std.proofs.lemmas.List.{length-append}
+use Rattle.std.proofs.lemmas.Option.{same_Some, slice_get_within}
+use Rattle.adl_ast.specs.declared.composition.Role.{Role}
+use Rattle.adl_ast.specs.declared.composition.Role.TheVariants.{From, To}
+use Rattle.adl_meaning.specs.declared.connector.Connector.{Connector}
+use Rattle.adl_meaning.specs.declared.flat.Domain.{Domain}
+use Rattle.adl_meaning.specs.declared.flat.FlatEnd.{FlatEnd}
+use Rattle.cam_base.specs.Names.{is_letter, is_name, is_word_byte}
+use Rattle.cap_model.specs.declared.cap.Cap.{Cap}
+use Rattle.cap_model.specs.declared.level.Arch.{Arch}
+use Rattle.cap_model.specs.declared.level.Arch.TheVariants.{Arm11, Aarch64}
+use Rattle.cap_model.specs.declared.object.Fill.{Fill}
+use Rattle.cap_model.specs.declared.object.Object.{Object}
+use Rattle.cap_model.specs.declared.object.Object.TheVariants as objects
+use Rattle.cap_model.specs.Kept.{if_any}
+use Rattle.capdl_write.specs.Writable.{are_slots, is_fill, is_laid, is_number, is_plain, is_tcb, is_word}
+use Rattle.capdl_text.specs.TokenFaults.{is_left_out_word}
+use Rattle.conn_rules.specs.Row.{RW}
+use Rattle.cspace_layout.specs.declared.plan.SlotUse.{SlotUse}
+use Rattle.cspace_layout.specs.declared.plan.SlotUse.TheVariants.{OfEnd, Handler, OwnLock}
+use Rattle.cspace_layout.specs.Lookups.{end_of}
+use Rattle.cam_base.specs.Gather.{IsIn}
+use Rattle.cam_base.proofs.Gathered.{from_gather, in_place}
+use Rattle.cam_base.proofs.NumberedLists.{from_map}
+use Rattle.page_tables.proofs.Children.{slots_lead}
+use Rattle.page_tables.proofs.Rising.{slots_below, shape_of_layer}
+use Rattle.page_tables.specs.declared.layer.Layer.{Layer}
+use Rattle.page_tables.specs.declared.mapping.Mapping.{Mapping}
+use Rattle.page_tables.specs.declared.shape.Shape.{Shape}
+use Rattle.page_tables.specs.Levels.{layers, slot_of, table_of}
+use Rattle.page_tables.specs.Shapes.{shapes}
+use Rattle.cam_base.proofs.Naming.{is_name-numbered}
+use Rattle.system_spec.specs.declared.part.Part.{Part}
+use Rattle.system_spec.specs.declared.part.What.{What}
+use Rattle.system_spec.specs.declared.part.What.TheVariants.{CNodeOf, ThreadOf, EndpointOf, NotificationOf, LockOf, IrqOf, TableOf, FrameOf}
+use Rattle.system_spec.specs.declared.series.Series.{Series}
+use Rattle.system_spec.specs.declared.series.Series.TheVariants as series
+use Rattle.system_spec.specs.Made.{part_name}
+use Rattle.system_spec.specs.Names.{prefix}
+use Rattle.system_spec.specs.Objects.{buffer_cap, cap, frame_at, frame_object, object, role_badge, settled_badge, slots_at, tcb, use_cap}
+use Rattle.system_spec.specs.Parts.{page_mapping, place}
+use Rattle.system_spec.specs.Tables.{Tables, arch, leaf_entry, leaf_name, pages_at, threads_at, uses_at}
+use Rattle.vspace_layout.specs.declared.spaces.FrameInfo.{FrameInfo}
+use Rattle.vspace_layout.specs.declared.spaces.ThreadPlace.{ThreadPlace}
+use Rattle.spec_laws.specs.Fit.{IsFit}
+use Rattle.spec_laws.specs.Written.{IsFillWritten, IsFrameWritten, IsThreadWritten, IsWritten}
+use Rattle.spec_laws.proofs.CapsFit.{all_pass}
+use Rattle.spec_laws.proofs.Lengths.{AreShort}
+use Rattle.spec_laws.proofs.TablesKept.{from_tables, mappings, moved, object_is, standing}
+use Rattle.system_spec.proofs.There.{IsThere}
+use Rattle.capdl_text.proofs.Tokens.{word_or}
+
+-- ---- names
+
+prefix_name : (s : Series) → is_name (prefix s) ≡ true
+prefix_name series.CNode = refl
+prefix_name series.Tcb = refl
+prefix_name series.Ep = refl
+prefix_name series.Ntfn = refl
+prefix_name series.Lock = refl
+prefix_name series.Irq = refl
+prefix_name series.Pgd = refl
+prefix_name series.Pud = refl
+prefix_name series.Pd = refl
+prefix_name series.Pt = refl
+prefix_name series.Frame = refl
+
+prefix_short : (s : Series) → length (prefix s) ≤ 6
+prefix_short series.CNode = omega arith
+prefix_short series.Tcb = omega arith
+prefix_short series.Ep = omega arith
+prefix_short series.Ntfn = omega arith
+prefix_short series.Lock = omega arith
+prefix_short series.Irq = omega arith
+prefix_short series.Pgd = omega arith
+prefix_short series.Pud = omega arith
+prefix_short series.Pd = omega arith
+prefix_short series.Pt = omega arith
+prefix_short series.Frame = omega arith
+
+-- no word that is left out begins as a name does
+left_in : (s : Series) (rest : List ℕ) → is_left_out_word (prefix s ++ rest) ≡ false
+unfolding is_left_out_word
+left_in series.CNode rest = refl
+left_in series.Tcb rest = refl
+left_in series.Ep rest = refl
+left_in series.Ntfn rest = refl
+left_in series.Lock rest = refl
+left_in series.Irq rest = refl
+left_in series.Pgd rest = refl
+left_in series.Pud rest = refl
+left_in series.Pd rest = refl
+left_in series.Pt rest = refl
+left_in series.Frame rest = refl
+
+pub part_word : (p : Part) → p.number < 2 ^ 32 → is_word (part_name p) ≡ true
+part_word p l =
+    and_from (is_name (part_name p)) (not (is_left_out_word (part_name p))) (is_name-numbered (prefix p.series) p.number (prefix_name p.series) (prefix_short p.series) (omega (arith, l)))
+    (not_from_false (is_left_out_word (part_name p)) (left_in p.series (decimal p.number)))
+
+pub part_short : (p : Part) → p.number < 2 ^ 32 → length (part_name p) ≤ 16
+part_short p l =
+    let d = length-decimal-le 10 p.number (omega arith) (omega (arith, l)) (omega (arith, l)) in
+    let a = length-append (prefix p.series) (decimal p.number) in
+    let s = prefix_short p.series in
+    omega (arith, d, a, s)
+
+-- ---- texts of programs' names
+
+not_byte : (c b : ℕ) → is_word_byte c ≡ false → is_word_byte b ≡ true → not (b == c) ≡ true
+not_byte c b n w = not_from_false (b == c) (false_from_ne_true (b == c) (λ e. true≢false (sym w ∙ ap is_word_byte (eqb-true b c e) ∙ n)))
+
+byte_plain : (b : ℕ) → is_word_byte b ≡ true → not (b == 34) && not (b == 10) ≡ true
+byte_plain b w = and_from (not (b == 34)) (not (b == 10)) (not_byte 34 b refl w) (not_byte 10 b refl w)
+
+bytes_plain : (bs : List ℕ) → list_all is_word_byte bs ≡ true → is_plain bs ≡ true
+bytes_plain [] h = refl
+bytes_plain (b ∷ bs) h =
+    let p = and_parts (is_word_byte b) (list_all is_word_byte bs) h in
+    and_from (not (b == 34) && not (b == 10)) (is_plain bs) (byte_plain b p.0) (bytes_plain bs p.1)
+
+pub name_plain : (text : List ℕ) → is_name text ≡ true → is_plain text ≡ true
+name_plain [] h = refl
+name_plain (b ∷ bs) h =
+    let p = and_parts (leb (length bs) 126) (is_letter b && list_all is_word_byte bs) h in
+    let q = and_parts (is_letter b) (list_all is_word_byte bs) p.1 in
+    and_from (not (b == 34) && not (b == 10)) (is_plain bs) (byte_plain b (word_or b q.0)) (bytes_plain bs q.1)
+
+pub name_short : (text : List ℕ) → is_name text ≡ true → length text ≤ 127
+name_short [] h = omega arith
+name_short (b ∷ bs) h =
+    let l = leb-true (length bs) 126 (and_parts (leb (length bs) 126) (is_letter b && list_all is_word_byte bs) h).0 in
+    omega (arith, l)
+
+-- ---- numbers
+
+pub number_is : (n : ℕ) → n < 2 ^ 64 → is_number n ≡ true
+number_is n l = lt-ltb n (2 ^ 64) l
+
+shape_small : (a : Arch) (l : Shape) → IsIn l (shapes a) → l.entries ≤ 4096
+shape_small Arm11 l (inl e) = let n = ap (λ (z : Shape). z.entries) e in omega (arith, n)
+shape_small Arm11 l (inr (inl e)) = let n = ap (λ (z : Shape). z.entries) e in omega (arith, n)
+shape_small Arm11 l (inr (inr i)) = absurd i
+shape_small Aarch64 l (inl e) = let n = ap (λ (z : Shape). z.entries) e in omega (arith, n)
+shape_small Aarch64 l (inr (inl e)) = let n = ap (λ (z : Shape). z.entries) e in omega (arith, n)
+shape_small Aarch64 l (inr (inr (inl e))) = let n = ap (λ (z : Shape). z.entries) e in omega (arith, n)
+shape_small Aarch64 l (inr (inr (inr (inl e)))) = let n = ap (λ (z : Shape). z.entries) e in omega (arith, n)
+shape_small Aarch64 l (inr (inr (inr (inr i)))) = absurd i
+
+slot_is : (s : ℕ × Cap) → s.0 < 2 ^ 64 → s.1.badge < 2 ^ 64 → is_number s.0 && is_number s.1.badge ≡ true
+slot_is s a b = and_from (is_number s.0) (is_number s.1.badge) (number_is s.0 a) (number_is s.1.badge b)
+
+-- ---- objects
+
+module _ (t : Tables) (fit : IsFit t) (written : IsWritten t) where
+  badge_few : (k m : ℕ) (o : Option (Connector × FlatEnd)) → option_map_or (λ (e : Connector × FlatEnd). role_badge e.1.role (settled_badge t.settled k m)) o 0 < 2 ^ 64
+  badge_few k m None = omega arith
+  badge_few k m (Some e) = by_role e.1.role
+    where
+      by_role : (r : Role) → role_badge r (settled_badge t.settled k m) < 2 ^ 64
+      by_role From = written.badges k m
+      by_role To = omega arith
+
+  use_badge : (d n : ℕ) (u : SlotUse) → (use_cap t d n u).badge < 2 ^ 64
+  use_badge d n (OfEnd k m) = badge_few k m (end_of t.flat k m)
+  use_badge d n (Handler k m) = omega arith
+  use_badge d n (OwnLock leaf m) = omega arith
+
+  cnode_laid : (d : ℕ) (x : Domain) → slice_get t.flat.domains d ≡ Some x → are_slots (slots_at t d) ≡ true
+  cnode_laid d x here = all_pass (λ (s : ℕ × Cap). is_number s.0 && is_number s.1.badge) (slots_at t d) each
+    where
+      each : (s : ℕ × Cap) → IsIn s (slots_at t d) → is_number s.0 && is_number s.1.badge ≡ true
+      each s i =
+          let f : ℕ → SlotUse → List (ℕ × Cap) = λ n u. (n + 1, use_cap t d n u) ∷ [] in
+          let g = from_gather f s (uses_at t d) i in
+          elim g.3 [
+            | inl same ↦
+                let below = slice_get_within (uses_at t d) g.0 g.1 g.2 in
+                let few = (fit.domains d x here).slots in
+                let at : ℕ × Cap = (g.0 + 1, use_cap t d g.0 g.1) in
+                subst (λ (z : ℕ × Cap). is_number z.0 && is_number z.1.badge ≡ true) {x = at} same (slot_is at (omega (arith, below, few)) (use_badge d g.0 g.1))
+            | inr none ↦ absurd none
+          ]
+
+  buffer_laid : (o : Option ℕ) → if_any (λ (c : Cap). is_number c.badge) (option_map (λ f. cap (place t (FrameOf f)) RW 0) o) ≡ true
+  buffer_laid None = refl
+  buffer_laid (Some f) = refl
+
+  tcb_laid : (d : ℕ) (y : ThreadPlace) → IsThreadWritten t y → is_tcb (tcb t d y) ≡ true
+  tcb_laid d y w =
+      let b = if_any (λ (c : Cap). is_number c.badge) (buffer_cap t d y.buffer) in
+      and_from (is_number y.buffer && is_number (leaf_entry t y.leaf)) (is_number y.sp && (is_plain (leaf_name t y.leaf) && b))
+      (and_from (is_number y.buffer) (is_number (leaf_entry t y.leaf)) (number_is y.buffer w.buffer) (number_is (leaf_entry t y.leaf) w.entry))
+      (and_from (is_number y.sp) (is_plain (leaf_name t y.leaf) && b) (number_is y.sp w.stack)
+      (and_from (is_plain (leaf_name t y.leaf)) b (name_plain (leaf_name t y.leaf) w.name) (buffer_laid (frame_at (pages_at t d) y.buffer))))
+
+  paddr_laid : (o : Option ℕ) → ((at : ℕ) → o ≡ Some at → at < 2 ^ 64) → if_any is_number o ≡ true
+  paddr_laid None h = refl
+  paddr_laid (Some at) h = number_is at (h at refl)
+
+  fill_laid : (o : Option Fill) → ((f : Fill) → o ≡ Some f → IsFillWritten f) → if_any is_fill o ≡ true
+  fill_laid None h = refl
+  fill_laid (Some f) h = let w = h f refl in and_from (is_plain f.file) (is_number f.at) (name_plain f.file w.file) (number_is f.at w.at)
+
+  frame_laid : (x : FrameInfo) → IsFrameWritten x → is_laid (frame_object x) ≡ true
+  frame_laid x w = and_from (if_any is_number x.paddr) (if_any is_fill x.fill) (paddr_laid x.paddr w.paddr) (fill_laid x.fill w.fill)
+
+  module _ (d : ℕ) (x : Domain) (here : slice_get t.flat.domains d ≡ Some x) where
+    abbrev first : ℕ
+    first = place t (TableOf d 0)
+
+    -- the badges of page tables' capabilities are none
+    no_badge : (o : Object) → IsIn o (standing t d) → (y : Layer) (r : List Mapping) (link : ℕ) → table_of y.shape link r ≡ o → (s : ℕ × Cap) → IsIn s (map (slot_of y.shape link) r) → s.1.badge ≡ 0
+    no_badge o i y r link e s j =
+        elim (slots_lead (arch t) (mappings t fit d x here) first y.shape.level (map (slot_of y.shape link) r) s (subst (λ z. IsIn z (standing t d)) (sym e) i) j) [
+          | inl h ↦
+              let m = from_map (page_mapping (place t (FrameOf 0))) h.1.0 (pages_at t d) h.1.1 in
+              ap (λ (z : Cap). z.badge) h.1.2 ∙ ap (λ (z : Mapping). z.cap.badge) (sym m.2)
+          | inr c ↦ ap (λ (z : Cap). z.badge) c.is
+        ]
+
+    table_laid : (o : Object) → IsIn o (standing t d) → (y : Layer) → IsIn y (layers (shapes (arch t)) (mappings t fit d x here)) → (r : List Mapping) (link : ℕ) → table_of y.shape link r ≡ o → is_laid (table_of y.shape link r) ≡ true
+    table_laid o i y j r link e =
+        all_pass (λ (s : ℕ × Cap). is_number s.0 && is_number s.1.badge) (map (slot_of y.shape link) r)
+        (λ s k.
+        let below = slots_below (arch t) (mappings t fit d x here) y j r link s k in
+        let small = shape_small (arch t) y.shape (shape_of_layer (shapes (arch t)) (mappings t fit d x here) y j) in
+        let none = no_badge o i y r link e s k in
+        slot_is s (omega (arith, below, small)) (omega (arith, none)))
+
+    pub standing_laid : (o : Object) → IsIn o (standing t d) → (is_laid o ≡ true) × AreShort o
+    standing_laid o i =
+        let r = from_tables first 0 (layers (shapes (arch t)) (mappings t fit d x here)) o i in
+        subst (λ z. (is_laid z ≡ true) × AreShort z) r.is (table_laid o i r.layer r.among r.run r.link r.is, tt)
+
+    table_there : (j : ℕ) → IsThere t (TableOf d j) → (is_laid (object t (TableOf d j)) ≡ true) × AreShort (object t (TableOf d j))
+    table_there j h =
+        let m = moved t 0 0 first (place t (FrameOf 0)) d j h.1.0 h.1.1 in
+        subst (λ z. (is_laid z ≡ true) × AreShort z) (sym (object_is t d j m.0 m.1)) (standing_laid m.0 (in_place m.0 (standing t d) j m.1))
+
+  -- ---- all
+
+  abbrev Fine : Object → Type 0
+  Fine o = (is_laid o ≡ true) × AreShort o
+
+  thread_there : (d i : ℕ) (o : Option ThreadPlace) → ((y : ThreadPlace) → o ≡ Some y → IsIn y (threads_at t d)) → Fine (option_map_or (λ (z : ThreadPlace). objects.Thread (tcb t d z)) o objects.Endpoint)
+  thread_there d i None h = (refl, tt)
+  thread_there d i (Some y) h =
+      let w = written.threads d y (h y refl) in
+      (tcb_laid d y w, λ elf e. subst (λ (z : List ℕ). length z ≤ 127) (same_Some (leaf_name t y.leaf) elf e) (name_short (leaf_name t y.leaf) w.name))
+
+  frame_there : (o : Option FrameInfo) → ((x : FrameInfo) → o ≡ Some x → IsIn x t.spaces.frames) → Fine (option_map_or frame_object o objects.Endpoint)
+  frame_there None h = (refl, tt)
+  frame_there (Some x) h =
+      let w = written.frames x (h x refl) in
+      (frame_laid x w, λ f e. name_short f.file (w.fill f e).file)
+
+  pub fine_there : (w : What) → IsThere t w → Fine (object t w)
+  fine_there (CNodeOf d) h = (cnode_laid d h.0 h.1, tt)
+  fine_there (ThreadOf d i) h = thread_there d i (slice_get (threads_at t d) i) (λ y e. in_place y (threads_at t d) i e)
+  fine_there (EndpointOf k) h = (refl, tt)
+  fine_there (NotificationOf k) h = (refl, tt)
+  fine_there (LockOf d n) h = (refl, tt)
+  fine_there (IrqOf k) h = (refl, tt)
+  fine_there (TableOf d j) h = table_there d h.0.0 h.0.1 j h
+  fine_there (FrameOf f) h = frame_there (slice_get t.spaces.frames f) (λ x e. in_place x t.spaces.frames f e)

@@ -1,0 +1,69 @@
+-- Pages lie below what the root spans, and where there is a thread there is a page.
+use Rattle.std.proofs.Common.{◌≡◌, ◌<◌, ◌≤◌, ◌*◌, ◌%◌, ℕ, List, [], ◌∷◌, length, map, Some, subst, arith}
+use Rattle.std.specs.Prelude.{sum}
+use Rattle.std.specs.List.{flat_map, slice_get}
+use Rattle.std.specs.Option.{option_map_or}
+use Rattle.cam_base.specs.Gather.{IsIn, gather}
+use Rattle.cam_base.proofs.Gathered.{from_ones, get_ones, in_place, length_append, place_of}
+use Rattle.cam_base.proofs.NumberedLists.{at_place, below}
+use Rattle.page_tables.specs.Shapes.{shapes}
+use Rattle.page_tables.specs.Walks.{root_span}
+use Rattle.vspace_layout.specs.declared.spaces.Page.{Page}
+use Rattle.vspace_layout.specs.declared.spaces.Space.{Space}
+use Rattle.vspace_layout.specs.declared.spaces.ThreadPlace.{ThreadPlace}
+use Rattle.vspace_layout.specs.declared.thread.ThreadOf.{ThreadOf}
+use Rattle.vspace_layout.specs.CanLay.{CanLay}
+use Rattle.vspace_layout.specs.Given.{Given, arch, base, leaves_of}
+use Rattle.vspace_layout.specs.Laid.{page, spaces_of, thread_place}
+use Rattle.vspace_layout.specs.MappedPages.{mapped_pages, region_part, section_part}
+use Rattle.vspace_layout.specs.PageLimits.{page_counts}
+use Rattle.vspace_layout.specs.Regions.{regions, thread_regions, threads_of, window_region, windows_of}
+use Rattle.vspace_layout.specs.SpaceLaws.{SectionsStand}
+use Rattle.vspace_layout.proofs.Counting.{length-region_part}
+use Rattle.vspace_layout.proofs.Few.{few_at}
+use Rattle.vspace_layout.proofs.Fitting.{few_regions}
+use Rattle.vspace_layout.proofs.Rising.{rising}
+use Rattle.vspace_layout.proofs.Laying.{length_threads}
+use Rattle.vspace_layout.proofs.Low.{page_low}
+use Rattle.spec_laws.proofs.SpaceBounds.{space_cases}
+use Rattle.vspace_layout.proofs.Spans.{root_spans}
+
+module _ (g : Given) (stand : (d : ℕ) → SectionsStand g d) where
+  -- a page of a space: at a whole page, and below what the root spans
+  pub record IsPlacedPage (p : Page) : Type 0 where
+    pub aligned : p.vaddr % 4096 ≡ 0
+    pub below : p.vaddr < root_span (shapes (arch g))
+
+  pub pages_placed : CanLay g → sum (page_counts g) ≤ 65536 → (d : ℕ) (p : Page) → IsIn p (option_map_or (λ (s : Space). s.pages) (slice_get (spaces_of g).spaces d) []) → IsPlacedPage p
+  pages_placed can few d p i =
+      space_cases g (λ o. IsIn p (option_map_or (λ (s : Space). s.pages) o []) → IsPlacedPage p) d (λ j. absurd j)
+      (λ x e j.
+      let n = place_of p (gather (λ n q. page g d n q ∷ []) (mapped_pages g d)) j in
+      let q = from_ones (page g d) (mapped_pages g d) n.0 p n.1 in
+      let there = in_place q.0 (mapped_pages g d) n.0 q.1 in
+      let low = page_low g d (stand d) (few_at g can few d x e) q.0 there in
+      subst IsPlacedPage q.2 (record { aligned = (rising g d (stand d)).aligned q.0 there; below = root_spans (arch g) q.0.at low }))
+      i
+
+-- ---- threads have pages
+
+some_page : (g : Given) → CanLay g → (d i : ℕ) (x : ThreadOf) → slice_get (threads_of g d) i ≡ Some x → 0 < length (mapped_pages g d)
+some_page g can d i x at =
+    let a = below (threads_of g d) i x at in
+    let b = length_threads g.settled (threads_of g d) in
+    let c = length_append (flat_map (thread_regions g.settled) (threads_of g d)) (map (window_region g.flat g.settled) (windows_of g d)) in
+    let d1 = few_regions g.flat g.settled (threads_of g d) (windows_of g d) (can.windows d) in
+    let e = length_append (section_part g.images (leaves_of g.flat d)) (region_part g.settled (base g) (regions g d)) in
+    let f = length-region_part g.settled (base g) (regions g d) in
+    omega (arith, a, b, c, d1, e, f)
+
+pub threads_mapped : (g : Given) → CanLay g → (d : ℕ) (x : ThreadPlace) → IsIn x (option_map_or (λ (s : Space). s.threads) (slice_get (spaces_of g).spaces d) [])
+    → (p : Page) × IsIn p (option_map_or (λ (s : Space). s.pages) (slice_get (spaces_of g).spaces d) [])
+threads_mapped g can d x i =
+    space_cases g (λ o. IsIn x (option_map_or (λ (s : Space). s.threads) o []) → (p : Page) × IsIn p (option_map_or (λ (s : Space). s.pages) o [])) d (λ j. absurd j)
+    (λ y e j.
+    let n = place_of x (gather (λ n q. thread_place g d n q ∷ []) (threads_of g d)) j in
+    let q = from_ones (thread_place g d) (threads_of g d) n.0 x n.1 in
+    let m = at_place (mapped_pages g d) 0 (some_page g can d n.0 q.0 q.1) in
+    (page g d 0 m.0, in_place (page g d 0 m.0) (gather (λ n p. page g d n p ∷ []) (mapped_pages g d)) 0 (get_ones (page g d) (mapped_pages g d) 0 m.0 m.1)))
+    i

@@ -1,0 +1,207 @@
+-- Where slots and spaces are within their limits, what is made of them can be built.
+use Rattle.std.proofs.Common.{◌≡◌, ◌<◌, ◌≤◌, ◌+◌, ◌*◌, ℕ, List, [], length, map, Option, Some, None, refl, sym, subst, arith}
+use Rattle.std.specs.Prelude.{sum}
+use Rattle.std.specs.List.{slice_get}
+use Rattle.std.specs.Option.{option_map_or}
+use Rattle.std.proofs.lemmas.List.{length-map}
+use Rattle.adl_meaning.specs.declared.connector.Connector.{Connector}
+use Rattle.adl_meaning.specs.declared.connector.Connector.TheVariants.{Rpc, Notification, SharedMemory, Mmio, Interrupt, Direct}
+use Rattle.adl_meaning.specs.declared.flat.Domain.{Domain}
+use Rattle.adl_meaning.specs.declared.flat.FlatConnection.{FlatConnection}
+use Rattle.arch_policy.specs.declared.owner.Owner.TheVariants.{OfDomain}
+use Rattle.cap_model.specs.declared.object.Object.{Object}
+use Rattle.cspace_layout.specs.declared.plan.SlotPlan.{SlotPlan}
+use Rattle.cspace_layout.specs.declared.plan.SlotUse.{SlotUse}
+use Rattle.cspace_layout.specs.declared.plan.SlotUse.TheVariants.{OfEnd, Handler, OwnLock}
+use Rattle.cspace_layout.specs.Uses.{slots_of}
+use Rattle.spec_laws.proofs.SlotBounds.{AreFewSlots, few_uses}
+use Rattle.flat_laws.specs.Small.{IsSmall}
+use Rattle.cam_base.specs.Gather.{IsIn, gather}
+use Rattle.cam_base.proofs.Gathered.{gather_ones}
+use Rattle.page_tables.specs.Levels.{layers}
+use Rattle.page_tables.specs.Runs.{Rises}
+use Rattle.page_tables.specs.Shapes.{shapes}
+use Rattle.page_tables.proofs.Counted.{few_tables}
+use Rattle.page_tables.proofs.Leveled.{as_many}
+use Rattle.vspace_layout.specs.declared.spaces.FrameInfo.{FrameInfo}
+use Rattle.vspace_layout.specs.declared.spaces.Page.{Page}
+use Rattle.vspace_layout.specs.declared.spaces.ThreadPlace.{ThreadPlace}
+use Rattle.vspace_layout.specs.CanLay.{CanLay}
+use Rattle.vspace_layout.specs.Given.{Given}
+use Rattle.vspace_layout.specs.Laid.{spaces_of}
+use Rattle.vspace_layout.specs.PageLimits.{page_counts}
+use Rattle.vspace_layout.specs.SpaceLaws.{SectionsStand}
+use Rattle.system_spec.specs.declared.part.PageTable.{PageTable}
+use Rattle.system_spec.specs.declared.part.What.TheVariants.{CNodeOf, FrameOf, ThreadOf}
+use Rattle.system_spec.specs.declared.series.Series.TheVariants as series
+use Rattle.system_spec.specs.Buildable.{IsBuildable}
+use Rattle.system_spec.specs.Few.{AreFew, table_count}
+use Rattle.system_spec.specs.Parts.{all_tables, cnodes, domain_locks, domain_tables, domain_tcbs, endpoint, endpoint_by, endpoints, frame_parts, irq, irq_by, irqs, level_of, lock, locks, notification, notification_by, notifications, numbered, owned, page_mapping, page_table, parts, table_part, table_parts, tables_at, tcbs}
+use Rattle.system_spec.specs.Ready.{AreNamed}
+use Rattle.system_spec.specs.Tables.{Tables, arch, irq_owner, frame_owner, pages_at, threads_at, uses_at}
+use Rattle.system_spec.proofs.Bounds.{length-eight, length-numbered}
+use Rattle.spec_laws.proofs.Gathers.{gather_most}
+use Rattle.spec_laws.proofs.NamedUses.{uses_named}
+use Rattle.spec_laws.proofs.SpaceBounds.{HaveRegisters, few_pages, few_threads, frames_most, frames_there, pages_rising}
+use Rattle.cam_base.proofs.NumberedLists.{length-gather}
+
+-- what the tables are laid out from
+abbrev from : Tables → Given
+from t = record { source = t.source; flat = t.flat; settled = t.settled; images = t.images }
+
+-- ---- connections have one part of a kind at most
+
+few_endpoints : (cs : List FlatConnection) → length (gather endpoint cs) ≤ length cs
+few_endpoints cs = length-gather endpoint cs (λ k c. one k c.connector)
+  where
+    one : (k : ℕ) (c : Connector) → length (endpoint_by k c) ≤ 1
+    one k Rpc = omega arith
+    one k Notification = omega arith
+    one k Interrupt = omega arith
+    one k SharedMemory = omega arith
+    one k Mmio = omega arith
+    one k Direct = omega arith
+
+few_notifications : (cs : List FlatConnection) → length (gather notification cs) ≤ length cs
+few_notifications cs = length-gather notification cs (λ k c. one k c.connector)
+  where
+    one : (k : ℕ) (c : Connector) → length (notification_by k c) ≤ 1
+    one k Rpc = omega arith
+    one k Notification = omega arith
+    one k Interrupt = omega arith
+    one k SharedMemory = omega arith
+    one k Mmio = omega arith
+    one k Direct = omega arith
+
+few_irqs : (cs : List FlatConnection) → length (gather irq cs) ≤ length cs
+few_irqs cs = length-gather irq cs (λ k c. one k (irq_owner k c) c.connector)
+  where
+    one : (k : ℕ) (o : _) (c : Connector) → length (irq_by k o c) ≤ 1
+    one k o Rpc = omega arith
+    one k o Notification = omega arith
+    one k o Interrupt = omega arith
+    one k o SharedMemory = omega arith
+    one k o Mmio = omega arith
+    one k o Direct = omega arith
+
+-- a use has one lock at most
+few_locks : (d : ℕ) (uses : List SlotUse) → length (gather (lock d) uses) ≤ length uses
+few_locks d uses = length-gather (lock d) uses (λ n u. one n u)
+  where
+    one : (n : ℕ) (u : SlotUse) → length (lock d n u) ≤ 1
+    one n (OfEnd k m) = omega arith
+    one n (Handler k m) = omega arith
+    one n (OwnLock leaf m) = omega arith
+
+module _ (t : Tables) (slots_are : t.slots ≡ slots_of t.source t.flat) (spaces_are : t.spaces ≡ spaces_of (from t)) (small : IsSmall t.flat) (slots : AreFewSlots t.source t.flat)
+    (can : CanLay (from t)) (pages : sum (page_counts (from t)) ≤ 65536) where
+  -- ---- by domain
+
+  threads_few : (d : ℕ) → length (threads_at t d) ≤ 262144
+  threads_few d = subst (λ z. length (option_map_or (λ s. s.threads) (slice_get z.spaces d) []) ≤ 262144) (sym spaces_are) (few_threads (from t) can pages d)
+
+  pages_few : (d : ℕ) → length (pages_at t d) ≤ 65536
+  pages_few d = subst (λ z. length (option_map_or (λ s. s.pages) (slice_get z.spaces d) []) ≤ 65536) (sym spaces_are) (few_pages (from t) can pages d)
+
+  frames_few : length t.spaces.frames ≤ 65536 + 2 * 268435456
+  frames_few = subst (λ z. length z.frames ≤ 65536 + 2 * 268435456) (sym spaces_are) (frames_most (from t) can pages)
+
+  pub uses_few : (d : ℕ) → length (uses_at t d) ≤ 4095
+  uses_few d = subst (λ z. length (option_map_or (λ (p : SlotPlan). p.uses) (slice_get z.domains d) []) ≤ 4095) (sym slots_are) (by_plan (slice_get (slots_of t.source t.flat).domains d) refl)
+    where
+      by_plan : (o : Option SlotPlan) → slice_get (slots_of t.source t.flat).domains d ≡ o → length (option_map_or (λ (p : SlotPlan). p.uses) o []) ≤ 4095
+      by_plan None e = omega arith
+      by_plan (Some plan) e = few_uses t.source t.flat slots d plan e
+
+  tables_few : (d frames : ℕ) → table_count t frames d ≤ 262144
+  tables_few d frames =
+      let a = few_tables (arch t) (map (page_mapping frames) (pages_at t d)) in
+      let b = length-map (pages_at t d) (page_mapping frames) in
+      let c = pages_few d in
+      omega (arith, a, b, c)
+
+  -- ---- sections
+
+  tcbs_few : length (tcbs t) ≤ 262144 * length t.flat.domains
+  tcbs_few =
+      gather_most (domain_tcbs t) t.flat.domains
+      (λ d x e.
+      let a = gather_ones (λ i (thread : ThreadPlace). owned (OfDomain d) (ThreadOf d i)) (threads_at t d) in
+      let b = threads_few d in
+      omega (arith, a, b))
+
+  locks_few : length (locks t) ≤ 262144 * length t.flat.domains
+  locks_few =
+      gather_most (domain_locks t) t.flat.domains
+      (λ d x e.
+      let a = few_locks d (uses_at t d) in
+      let b = uses_few d in
+      omega (arith, a, b))
+
+  all_tables_few : length (all_tables t) ≤ 262144 * length t.flat.domains
+  all_tables_few =
+      gather_most (domain_tables t) t.flat.domains
+      (λ d x e.
+      let a = gather_ones (λ j (o : Object). page_table d j (level_of o)) (tables_at t 0 0 d) in
+      let b = as_many 0 0 (layers (shapes (arch t)) (map (page_mapping 0) (pages_at t d))) in
+      let c = tables_few d 0 in
+      omega (arith, a, b, c))
+
+  pub parts_few : length (parts t) ≤ 2147483648
+  parts_few =
+      let a = numbered series.CNode (cnodes t.flat.domains) in
+      let b = numbered series.Tcb (tcbs t) in
+      let c = endpoints t in
+      let d = notifications t in
+      let e = numbered series.Lock (locks t) in
+      let f = numbered series.Irq (irqs t) in
+      let g = table_parts (all_tables t) in
+      let h = numbered series.Frame (frame_parts t.spaces.frames) in
+      let whole : length (parts t) ≡ length a + (length b + (length c + (length d + (length e + (length f + (length g + (length h + 0))))))) = length-eight a b c d e f g h in
+      let a1 = length-numbered series.CNode (cnodes t.flat.domains) in
+      let a2 : length (cnodes t.flat.domains) ≡ length t.flat.domains = gather_ones (λ n (x : Domain). owned (OfDomain n) (CNodeOf n)) t.flat.domains in
+      let b1 = length-numbered series.Tcb (tcbs t) in
+      let b2 = tcbs_few in
+      let c1 : length c ≤ length t.flat.connections = few_endpoints t.flat.connections in
+      let d1 : length d ≤ length t.flat.connections = few_notifications t.flat.connections in
+      let e1 = length-numbered series.Lock (locks t) in
+      let e2 = locks_few in
+      let f1 = length-numbered series.Irq (irqs t) in
+      let f2 : length (irqs t) ≤ length t.flat.connections = few_irqs t.flat.connections in
+      let g1 : length g ≡ length (all_tables t) = gather_ones (λ m (x : PageTable). table_part (all_tables t) m x) (all_tables t) in
+      let g2 = all_tables_few in
+      let h1 = length-numbered series.Frame (frame_parts t.spaces.frames) in
+      let h2 : length (frame_parts t.spaces.frames) ≡ length t.spaces.frames = gather_ones (λ n (x : FrameInfo). owned (frame_owner x.owner) (FrameOf n)) t.spaces.frames in
+      let h3 = frames_few in
+      let few_domains = small.domains in
+      let few_connections = small.connections in
+      omega (arith, whole, a1, a2, b1, b2, c1, d1, e1, e2, f1, f2, g1, g2, h1, h2, h3, few_domains, few_connections)
+
+  are_few : AreFew t
+  are_few = record {
+    domains = let l = small.domains in omega (arith, l);
+    connections = let l = small.connections in omega (arith, l);
+    threads = λ d. let l = threads_few d in omega (arith, l);
+    uses = λ d. let l = uses_few d in omega (arith, l);
+    tables = λ d. let l = tables_few d 0 in omega (arith, l);
+    objects = let l = parts_few in omega (arith, l);
+  }
+
+  -- ---- what the making of a spec asks
+
+  uses_there : (d : ℕ) → AreNamed (length t.flat.connections) (uses_at t d)
+  uses_there d = subst (λ z. AreNamed (length t.flat.connections) (option_map_or (λ (p : SlotPlan). p.uses) (slice_get z.domains d) [])) (sym slots_are) (by_plan (slice_get (slots_of t.source t.flat).domains d) refl)
+    where
+      by_plan : (o : Option SlotPlan) → slice_get (slots_of t.source t.flat).domains d ≡ o → AreNamed (length t.flat.connections) (option_map_or (λ (p : SlotPlan). p.uses) o [])
+      by_plan None e = λ n u at. cc
+      by_plan (Some plan) e = uses_named t.source t.flat d plan e
+
+  pub buildable : HaveRegisters t.flat t.settled → ((d : ℕ) → SectionsStand (from t) d) → IsBuildable t
+  buildable have stand = record {
+    few = are_few;
+    named = uses_there;
+    shown = λ d p i.
+        subst (λ z. p.frame < length z.frames) (sym spaces_are)
+        (frames_there (from t) have d p (subst (λ z. IsIn p (option_map_or (λ s. s.pages) (slice_get z.spaces d) [])) spaces_are i));
+    rise = λ d. subst (λ z. Rises (map (λ (p : Page). p.vaddr) (option_map_or (λ s. s.pages) (slice_get z.spaces d) []))) (sym spaces_are) (pages_rising (from t) stand d);
+  }

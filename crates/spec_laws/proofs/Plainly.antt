@@ -1,0 +1,263 @@
+-- What is laid out plainly can be written.
+use Rattle.std.proofs.Common.{◌≡◌, ◌<◌, ◌≤◌, ◌+◌, ◌*◌, ◌^◌, ℕ, Bool, true, false, cond, List, [], ◌∷◌, refl, sym, ◌∙◌, ap, subst, Option, Some, None, inl, inr, ◌⊎◌, arith}
+use Rattle.std.specs.Prelude.{◌%◌, ◌==◌, ◌&&◌, leb, not, sum, IsTrue}
+use Rattle.std.specs.List.{range_with_len, slice_get}
+use Rattle.std.specs.Option.{option_map, option_map_or}
+use Rattle.std.proofs.Math.Nat.{div-mul-le_self}
+use Rattle.std.proofs.lemmas.Bool.{and_parts, ltb-true}
+use Rattle.std.proofs.lemmas.Option.{same_Some, slice_get_within}
+use Rattle.adl_ast.specs.declared.source.Source.{Source}
+use Rattle.adl_meaning.specs.declared.flat.Domain.{Domain}
+use Rattle.adl_meaning.specs.declared.flat.Flat.{Flat}
+use Rattle.adl_meaning.specs.declared.flat.FlatConnection.{FlatConnection}
+use Rattle.adl_meaning.specs.declared.flat.FlatEnd.{FlatEnd}
+use Rattle.adl_meaning.specs.declared.flat.Leaf.{Leaf}
+use Rattle.adl_meaning.specs.declared.settled.Settled.{Settled}
+use Rattle.cam_base.specs.Names.{is_name}
+use Rattle.cap_model.specs.declared.object.Fill.{Fill}
+use Rattle.cam_base.specs.Gather.{IsIn, gather}
+use Rattle.cam_base.proofs.Gathered.{from_gather, from_ones, in_append, in_place}
+use Rattle.cam_base.proofs.NumberedLists.{from_flat_map, from_map, below_count}
+use Rattle.source_images.specs.ByAddress.{by_address, name_of, page_at, pages_of, put_section, section_pages}
+use Rattle.source_images.specs.Images.{Placed, arch_of, image_number, is_run, placed, sections_if, sections_of}
+use Rattle.source_images.specs.SectionPages.{fill_from, fill_of, page_count}
+use Rattle.source_images.specs.declared.images.Images.{Images}
+use Rattle.source_images.specs.declared.pages.SectionPage.{SectionPage}
+use Rattle.sect_table.specs.Sections.{ends_within, is_placed, is_sound}
+use Rattle.sect_table.specs.declared.image.Image.{Image}
+use Rattle.sect_table.specs.declared.image.Section.{Section}
+use Rattle.system_spec.specs.Tables.{Tables, component_name, entry_in, leaf_name, threads_at}
+use Rattle.system_spec.specs.TablesFrom.{tables_from}
+use Rattle.vspace_layout.proofs.Few.{few_at}
+use Rattle.vspace_layout.proofs.Fitting.{pages_upto}
+use Rattle.vspace_layout.proofs.Laying.{length_regions, start_same}
+use Rattle.vspace_layout.proofs.Starting.{low_base, stacks_fit}
+use Rattle.vspace_layout.specs.declared.mapped.MappedPage.{MappedPage}
+use Rattle.vspace_layout.specs.declared.mapped.Shown.{Shown}
+use Rattle.vspace_layout.specs.declared.mapped.Shown.TheVariants.{Own, Memory}
+use Rattle.vspace_layout.specs.declared.owner.Owner.TheVariants.{OfConnection, OfDomain}
+use Rattle.vspace_layout.specs.declared.region.Content.{Content}
+use Rattle.vspace_layout.specs.declared.region.Content.TheVariants.{Stack, Buffer, Window}
+use Rattle.vspace_layout.specs.declared.spaces.FrameInfo.{FrameInfo}
+use Rattle.vspace_layout.specs.declared.spaces.Space.{Space}
+use Rattle.vspace_layout.specs.declared.spaces.ThreadPlace.{ThreadPlace}
+use Rattle.vspace_layout.specs.declared.thread.ThreadOf.{ThreadOf}
+use Rattle.vspace_layout.specs.CanLay.{CanLay}
+use Rattle.vspace_layout.specs.Frames.{connection_frames, device_frame, device_frames, frame, frames, frames_at, is_first, memory_part, own_frame, own_frames, own_part, register_frames, register_part, shared_frames, shared_part}
+use Rattle.vspace_layout.specs.Given.{Given, base, given, leaves_of}
+use Rattle.vspace_layout.specs.Laid.{space, thread_place}
+use Rattle.vspace_layout.specs.MappedPages.{mapped_pages, page_of, pages_of_region, region_page, region_part, section_page, section_part}
+use Rattle.vspace_layout.specs.Memory.{is_shared, memory_paddr, memory_pages, registers}
+use Rattle.vspace_layout.specs.PageLimits.{page_counts}
+use Rattle.vspace_layout.specs.Regions.{region_start, regions, threads_of, windows_of}
+use Rattle.spec_laws.specs.Plain.{IsPlain}
+use Rattle.spec_laws.specs.Written.{IsFillWritten, IsFrameWritten, IsThreadWritten, IsWritten}
+
+-- ---- lists
+
+from_put : (x y : Placed) (ys : List Placed) → IsIn y (put_section x ys) → (x ≡ y) ⊎ IsIn y ys
+from_put x y [] (inl e) = inl e
+from_put x y [] (inr i) = absurd i
+from_put x y (z ∷ zs) i = by_test (leb x.section.vaddr z.section.vaddr) (from_put x y zs) i
+  where
+    by_test : (b : Bool) → (IsIn y (put_section x zs) → (x ≡ y) ⊎ IsIn y zs) → IsIn y (cond b (x ∷ z ∷ zs) (z ∷ put_section x zs)) → (x ≡ y) ⊎ IsIn y (z ∷ zs)
+    by_test true more (inl e) = inl e
+    by_test true more (inr i) = inr i
+    by_test false more (inl e) = inr (inl e)
+    by_test false more (inr i) = elim (more i) [ inl e ↦ inl e | inr j ↦ inr (inr j) ]
+
+from_sorted : (xs : List Placed) (y : Placed) → IsIn y (by_address xs) → IsIn y xs
+from_sorted [] y i = absurd i
+from_sorted (x ∷ xs) y i = elim (from_put x y (by_address xs) i) [ inl e ↦ inl e | inr j ↦ inr (from_sorted xs y j) ]
+
+-- ---- fills
+
+abbrev FillFine : Option Fill → Type 0
+FillFine fill = (f : Fill) → fill ≡ Some f → IsFillWritten f
+
+abbrev ShownFine : Shown → Type 0
+ShownFine (Own fill) = FillFine fill
+ShownFine (Memory k j) = Unit {0}
+
+-- page j of a section has a byte
+byte_there : (s : Section) (j : ℕ) → j < page_count s → 4096 * j < s.size
+byte_there s j l = let a = div-mul-le_self (s.size + 4095) 4096 in omega (arith, a, l)
+
+section_fine : (file : List ℕ) (s : Section) (j : ℕ) → is_name file ≡ true → IsTrue (is_sound s) → j < page_count s → FillFine (fill_of file s j)
+section_fine file s j named sound l f e = by_at s.at (sound_at s sound) e
+  where
+    sound_at : (s : Section) → is_sound s ≡ true → is_placed s.at s.size ≡ true
+    sound_at s h =
+        let a = and_parts (s.vaddr % 4096 == 0) (not (s.size == 0) && (ends_within s.vaddr s.size && is_placed s.at s.size)) h in
+        let b = and_parts (not (s.size == 0)) (ends_within s.vaddr s.size && is_placed s.at s.size) a.1 in
+        (and_parts (ends_within s.vaddr s.size) (is_placed s.at s.size) b.1).1
+
+    by_at : (o : Option ℕ) → is_placed o s.size ≡ true → option_map (fill_from file s j) o ≡ Some f → IsFillWritten f
+    by_at None h e = absurd cc
+    by_at (Some at) h e =
+        let within = ltb-true (at + s.size) (2 ^ 64) h in
+        let there = byte_there s j l in
+        subst IsFillWritten (same_Some (fill_from file s j at) f e) (record { file = named; at = omega (arith, within, there) })
+
+module _ (g : Given) (plain : IsPlain g) where
+  placed_fine : (leaves : List ℕ) (x : Placed) → IsIn x (sections_of g.images leaves) → (is_name (name_of g.images x.image) ≡ true) × IsTrue (is_sound x.section)
+  placed_fine leaves x i =
+      let f : ℕ → Image → List Placed = λ m image. sections_if (is_run g.images leaves m) m image in
+      let m = from_gather f x g.images.images i in
+      by_test (is_run g.images leaves m.0) m.0 m.1 m.2 m.3
+    where
+      by_test : (b : Bool) (m : ℕ) (image : Image) → slice_get g.images.images m ≡ Some image → IsIn x (sections_if b m image) → (is_name (name_of g.images x.image) ≡ true) × IsTrue (is_sound x.section)
+      by_test false m image h i = absurd i
+      by_test true m image h i =
+          let p = plain.images m image h in
+          let f : ℕ → Section → List Placed = λ n section. placed m n section ∷ [] in
+          let n = from_gather f x image.sections i in
+          let named : is_name (name_of g.images m) ≡ true = ap (λ o. is_name (option_map_or (λ (z : Image). z.name) o [])) h ∙ p.name in
+          elim n.3 [
+            | inl e ↦ subst (λ (z : Placed). (is_name (name_of g.images z.image) ≡ true) × IsTrue (is_sound z.section)) {x = placed m n.0 n.1} e (named, p.sections n.1 (in_place n.1 image.sections n.0 n.2))
+            | inr none ↦ absurd none
+          ]
+
+  section_pages_fine : (leaves : List ℕ) (q : SectionPage) → IsIn q (section_pages g.images leaves) → FillFine q.fill
+  section_pages_fine leaves q i =
+      let x = from_flat_map (pages_of g.images) q (by_address (sections_of g.images leaves)) i in
+      let p = placed_fine leaves x.0 (from_sorted (sections_of g.images leaves) x.0 x.1) in
+      let j = from_map (page_at (name_of g.images x.0.image) x.0.section) q (range_with_len 0 (page_count x.0.section)) x.2 in
+      subst (λ (z : SectionPage). FillFine z.fill) {x = page_at (name_of g.images x.0.image) x.0.section j.0} j.2
+      (section_fine (name_of g.images x.0.image) x.0.section j.0 p.0 p.1 (below_count (page_count x.0.section) j.0 j.1))
+
+  content_fine : (settled : Settled) (c : Content) (at j : ℕ) → ShownFine (region_page settled c at j).shown
+  content_fine settled Stack at j = λ f e. absurd cc
+  content_fine settled Buffer at j = λ f e. absurd cc
+  content_fine settled (Window w) at j = tt
+
+  page_fine : (d : ℕ) (p : MappedPage) → IsIn p (mapped_pages g d) → ShownFine p.shown
+  page_fine d p i = elim (in_append p (section_part g.images (leaves_of g.flat d)) (region_part g.settled (base g) (regions g d)) i) [
+    | inl j ↦
+        let q = from_map section_page p (section_pages g.images (leaves_of g.flat d)) j in
+        subst (λ (z : MappedPage). ShownFine z.shown) {x = section_page q.0} q.2 (section_pages_fine (leaves_of g.flat d) q.0 q.1)
+    | inr j ↦
+        let n = from_gather (pages_of_region g.settled (base g) (regions g d)) p (regions g d) j in
+        let start = region_start (base g) (regions g d) n.0 in
+        let k = from_map (page_of g.settled start n.1) p (range_with_len 0 n.1.pages) n.3 in
+        subst (λ (z : MappedPage). ShownFine z.shown) {x = page_of g.settled start n.1 k.0} k.2 (content_fine g.settled n.1.content (start + 4096 * k.0) k.0)
+  ]
+
+  -- ---- frames
+
+  own_written : (d : ℕ) (s : Shown) (f : FrameInfo) → ShownFine s → IsIn f (own_frame d s) → IsFrameWritten f
+  own_written d (Own fill) f h (inl e) = subst IsFrameWritten {x = frame (OfDomain d) None fill} e (record { paddr = λ at n. absurd cc; fill = h })
+  own_written d (Own fill) f h (inr i) = absurd i
+  own_written d (Memory k j) f h i = absurd i
+
+  own_part_written : (f : FrameInfo) → IsIn f (own_part g) → IsFrameWritten f
+  own_part_written f i =
+      let d = from_gather (own_frames g) f g.flat.domains i in
+      let n = from_gather (λ n (p : MappedPage). own_frame d.0 p.shown) f (mapped_pages g d.0) d.3 in
+      own_written d.0 n.1.shown f (page_fine d.0 n.1 (in_place n.1 (mapped_pages g d.0) n.0 n.2)) n.3
+
+  shared_written : (f : FrameInfo) → IsIn f (shared_part g.flat g.settled) → IsFrameWritten f
+  shared_written f i =
+      let k = from_gather (shared_frames g.settled) f g.flat.connections i in
+      by_test (is_shared k.1.connector) k.0 (memory_pages g.settled k.0 k.1) k.3
+    where
+      by_test : (b : Bool) (k n : ℕ) → IsIn f (cond b (connection_frames k n) []) → IsFrameWritten f
+      by_test true k n i =
+          let made : ℕ → FrameInfo = λ j. frame (OfConnection k) None None in
+          let j = from_map made f (range_with_len 0 n) i in
+          subst IsFrameWritten {x = made j.0} j.2 (record { paddr = λ at n. absurd cc; fill = λ z n. absurd cc })
+      by_test false k n i = absurd i
+
+  module _ (can : CanLay g) where
+    register_written : (f : FrameInfo) → IsIn f (register_part g.flat g.settled) → IsFrameWritten f
+    register_written f i =
+        let k = from_gather (register_frames g.flat g.settled) f g.flat.connections i in
+        by_end k.0 k.1 k.2 (registers k.1) k.3
+      where
+        by_test : (b : Bool) (k : ℕ) (c : FlatConnection) (e : FlatEnd) → slice_get g.flat.connections k ≡ Some c → IsIn f (cond b (device_frames e.leaf (memory_paddr g.settled k c) (memory_pages g.settled k c)) []) → IsFrameWritten f
+        by_test false k c e h i = absurd i
+        by_test true k c e h i =
+            let j = from_map (device_frame e.leaf (memory_paddr g.settled k c)) f (range_with_len 0 (memory_pages g.settled k c)) i in
+            let l = below_count (memory_pages g.settled k c) j.0 j.1 in
+            let room = can.addresses k c h in
+            let at : ℕ = memory_paddr g.settled k c + 4096 * j.0 in
+            let few : at < 2 ^ 64 = omega (arith, l, room) in
+            subst IsFrameWritten {x = device_frame e.leaf (memory_paddr g.settled k c) j.0} j.2 (record { paddr = λ n s. subst (λ z. z < 2 ^ 64) (same_Some at n s) few; fill = λ z n. absurd cc })
+
+        by_end : (k : ℕ) (c : FlatConnection) → slice_get g.flat.connections k ≡ Some c → (o : Option FlatEnd) → IsIn f (option_map_or (frames_at g.flat g.settled k c) o []) → IsFrameWritten f
+        by_end k c h None i = absurd i
+        by_end k c h (Some e) i = by_test (is_first g.flat k e) k c e h i
+
+    pub frame_written : (f : FrameInfo) → IsIn f (frames g) → IsFrameWritten f
+    frame_written f i = elim (in_append f (own_part g) (memory_part g.flat g.settled) i) [
+      | inl j ↦ own_part_written f j
+      | inr j ↦ elim (in_append f (shared_part g.flat g.settled) (register_part g.flat g.settled) j) [ inl k ↦ shared_written f k | inr k ↦ register_written f k ]
+    ]
+
+    -- ---- threads
+
+    entry_few : (m : Option ℕ) → entry_in g.images m < 2 ^ 64
+    entry_few None = omega arith
+    entry_few (Some m) = by_image (slice_get g.images.images m) refl
+      where
+        by_image : (o : Option Image) → slice_get g.images.images m ≡ o → option_map_or (λ (z : Image). z.entry) o 0 < 2 ^ 64
+        by_image None e = omega arith
+        by_image (Some image) e = (plain.images m image e).entry
+
+    module _ (pages : sum (page_counts g) ≤ 65536) (d : ℕ) (x : Domain) (here : slice_get g.flat.domains d ≡ Some x) where
+      stack_few : (i : ℕ) (y : ThreadOf) → slice_get (threads_of g d) i ≡ Some y → (thread_place g d i y).sp < 2 ^ 64
+      stack_few i y e =
+          let few = few_at g can pages d x here in
+          let l = slice_get_within (threads_of g d) i y e in
+          let many = length_regions g.flat g.settled (threads_of g d) (windows_of g d) in
+          let same = start_same (base g) (regions g d) (2 * i) (omega (arith, l, many)) in
+          let fits = stacks_fit g.flat g.settled (base g) (threads_of g d) (windows_of g d) (low_base (arch_of g.images.images)) few i y e in
+          omega (arith, same, fits)
+
+      buffer_few : (i : ℕ) (y : ThreadOf) → slice_get (threads_of g d) i ≡ Some y → (thread_place g d i y).buffer < 2 ^ 64
+      buffer_few i y e =
+          let few = few_at g can pages d x here in
+          let l = slice_get_within (threads_of g d) i y e in
+          let many = length_regions g.flat g.settled (threads_of g d) (windows_of g d) in
+          let upto = pages_upto (regions g d) (2 * i + 1) in
+          let low = low_base (arch_of g.images.images) in
+          omega (arith, few, l, many, upto, low)
+
+module _ (source : Source) (flat : Flat) (settled : Settled) (images : Images) where
+  abbrev g : Given
+  g = given source flat settled images
+
+  abbrev t : Tables
+  t = tables_from source flat settled images
+
+  module _ (plain : IsPlain g) (can : CanLay g) (pages : sum (page_counts g) ≤ 65536) where
+    thread_written : (d : ℕ) (y : ThreadPlace) → IsIn y (threads_at t d) → IsThreadWritten t y
+    thread_written d y i = by_space (slice_get t.spaces.spaces d) refl i
+      where
+        of_thread : (x : Domain) → slice_get flat.domains d ≡ Some x → IsIn y (gather (λ n z. thread_place g d n z ∷ []) (threads_of g d)) → IsThreadWritten t y
+        of_thread x here i =
+            let f : ℕ → ThreadOf → List ThreadPlace = λ n z. thread_place g d n z ∷ [] in
+            let n = from_gather f y (threads_of g d) i in
+            let p = plain.programs d n.1 (in_place n.1 (threads_of g d) n.0 n.2) in
+            let named : is_name (leaf_name t n.1.leaf) ≡ true = ap (λ o. is_name (option_map_or (λ (z : Leaf). component_name source z.component) o [])) p.here ∙ p.named in
+            let made : IsThreadWritten t (thread_place g d n.0 n.1) = record {
+              buffer = buffer_few g plain can pages d x here n.0 n.1 n.2;
+              stack = stack_few g plain can pages d x here n.0 n.1 n.2;
+              entry = entry_few g plain can (image_number images n.1.leaf);
+              name = named;
+            } in
+            elim n.3 [ inl e ↦ subst (IsThreadWritten t) e made | inr none ↦ absurd none ]
+
+        by_space : (o : Option Space) → slice_get t.spaces.spaces d ≡ o → IsIn y (option_map_or (λ (s : Space). s.threads) o []) → IsThreadWritten t y
+        by_space None e i = absurd i
+        by_space (Some s) e i =
+            let o = from_ones (space g) flat.domains d s e in
+            of_thread o.0 o.1 (subst (λ (z : Space). IsIn y z.threads) (sym o.2) i)
+
+    pub tables_written : IsWritten t
+    tables_written = record {
+      badges = plain.badges;
+      numbers = plain.numbers;
+      threads = thread_written;
+      frames = frame_written g plain can;
+    }

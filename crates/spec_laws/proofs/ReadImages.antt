@@ -1,0 +1,158 @@
+-- The images that are read for a source are plain.
+use Rattle.std.proofs.Common.{◌≡◌, ◌<◌, ◌^◌, ◌∙◌, ℕ, Bool, true, false, ◌&&◌, ◌||◌, cond, List, [], ◌∷◌, codes, Option, Some, None, option_map, refl, sym, ap, subst, inl, inr}
+use Rattle.std.specs.Prelude.{nat_lt, ◌==◌}
+use Rattle.std.specs.List.{filter_map, slice_get, zip}
+use Rattle.std.specs.Option.{option_and_then}
+use Rattle.std.specs.Str.{bytes_eq}
+use Rattle.std.specs.Str.Parse.{digits_value}
+use Rattle.std.proofs.lemmas.Bool.{and_parts, ltb-true}
+use Rattle.adl_ast.specs.Forms.{item_line}
+use Rattle.adl_ast.specs.declared.file.Ended.{Ended}
+use Rattle.adl_ast.specs.declared.file.Item.{Item}
+use Rattle.adl_ast.specs.declared.file.Item.TheVariants as items
+use Rattle.adl_ast.specs.declared.source.Source.{Source}
+use Rattle.adl_ast.specs.declared.source.SourceFile.{SourceFile}
+use Rattle.adl_meaning.specs.declared.flat.Leaf.{Leaf}
+use Rattle.adl_meaning.specs.declared.item_at.ItemAt.{ItemAt}
+use Rattle.adl_meaning.specs.Flat.{flat_of}
+use Rattle.adl_meaning.specs.Lists.{firsts_after}
+use Rattle.cam_base.specs.Gather.{IsIn}
+use Rattle.cam_base.specs.Names.{is_name}
+use Rattle.cam_base.specs.Numbers.{fits, is_decimal, is_hexadecimal, number_value}
+use Rattle.cam_io.specs.Contents.{Contents}
+use Rattle.cap_model.specs.declared.level.Arch.TheVariants.{Arm11, Aarch64}
+use Rattle.adl_hierarchy.proofs.Lists.{in_get}
+use Rattle.cam_base.proofs.NumberedLists.{from_filter_map, map_some}
+use Rattle.flat_laws.specs.ShortFiles.{AreFilesShort}
+use Rattle.source_images.specs.declared.images.Images.{Images}
+use Rattle.sect_table.specs.Headers.{header, header_of}
+use Rattle.sect_table.specs.Tables.{image, image_in}
+use Rattle.sect_table.specs.declared.image.Header.{Header}
+use Rattle.sect_table.specs.declared.image.Image.{Image}
+use Rattle.source_images.specs.Found.{Found, absent, table, too_long}
+use Rattle.source_images.specs.ImagesRead.{AreImagesOf}
+use Rattle.source_images.specs.TableImages as tables
+use Rattle.source_images.specs.TableImages.{images_in}
+use Rattle.source_images.specs.Types.{Name, component_name, component_of, type_of, types}
+use Rattle.source_images.proofs.Soundness.{images_sound}
+use Rattle.spec_laws.specs.Plain.{IsImagePlain}
+use Rattle.cam_base.specs.Fields.{spaced_fields}
+use Rattle.cam_base.specs.Lines.{Line, lines}
+use Rattle.spec_laws.proofs.ComponentNames.{component_named}
+use Rattle.adl_hierarchy.proofs.Spelled.{file_item, item_component, IsOne}
+
+-- ---- types are names
+
+component_spelled : (i : Item) (n : Name) → IsOne item_line i → component_of i ≡ Some n → is_name n ≡ true
+component_spelled (items.Import p) n w e = cc
+component_spelled (items.Procedure p) n w e = cc
+component_spelled (items.Component c) n w e =
+    let same : c.id.name ≡ n = cc in
+    subst (λ (z : Name). is_name z ≡ true) same (component_named c (item_component c w))
+component_spelled (items.Assembly a) n w e = cc
+
+type_named : (s : Source) → AreFilesShort s → (at : ItemAt) (n : Name) → component_name s at ≡ Some n → is_name n ≡ true
+type_named s short at n e = by_file (slice_get s.files at.file) refl e
+  where
+    by_item : (f : SourceFile) → IsIn f s.files → (o : Option Ended) → slice_get f.tree.items at.item ≡ o → option_and_then (λ (z : Ended). component_of z.item) o ≡ Some n → is_name n ≡ true
+    by_item f i None is e = cc
+    by_item f i (Some x) is e = let w = short f i in component_spelled x.item n (file_item f.tree (w.0, w.1) x (in_get f.tree.items at.item x is)) e
+
+    by_file : (o : Option SourceFile) → slice_get s.files at.file ≡ o → option_and_then (λ (f : SourceFile). option_and_then (λ (z : Ended). component_of z.item) (slice_get f.tree.items at.item)) o ≡ Some n → is_name n ≡ true
+    by_file None is e = cc
+    by_file (Some f) is e = by_item f (in_get s.files at.file f is) (slice_get f.tree.items at.item) refl e
+
+from_firsts : {X : Type 0} (same : X → X → Bool) (met : X → Bool) (xs : List X) (x : X) → IsIn x (firsts_after same met xs) → IsIn x xs
+from_firsts same met [] x i = absurd i
+from_firsts {X} same met (y ∷ xs) x i = by_test (met y) i (λ j. from_firsts same met xs x j) (λ j. from_firsts same (λ z. met z || same z y) xs x j)
+  where
+    by_test : (b : Bool) → IsIn x (cond b (firsts_after same met xs) (y ∷ firsts_after same (λ z. met z || same z y) xs)) → (IsIn x (firsts_after same met xs) → IsIn x xs) → (IsIn x (firsts_after same (λ z. met z || same z y) xs) → IsIn x xs) → IsIn x (y ∷ xs)
+    by_test true i a b = inr (a i)
+    by_test false (inl e) a b = inl e
+    by_test false (inr i) a b = inr (b i)
+
+types_named : (s : Source) → AreFilesShort s → (n : Name) → IsIn n (types s (flat_of s)) → is_name n ≡ true
+types_named s short n i =
+    let f = from_firsts bytes_eq _ (filter_map (type_of s) (flat_of s).leaves) n i in
+    let l = from_filter_map (type_of s) n (flat_of s).leaves f in
+    by_test l.0 l.0.hardware l.2
+  where
+    by_test : (leaf : Leaf) (b : Bool) → cond b None (component_name s leaf.component) ≡ Some n → is_name n ≡ true
+    by_test leaf true e = cc
+    by_test leaf false e = type_named s short leaf.component n e
+
+-- ---- programs begin at numbers of 64 bits
+
+fits_small : (b : Bool) (m n : ℕ) → fits b m ≡ Some n → n < 2 ^ 64
+fits_small b m n e = by_test (b && nat_lt m (2 ^ 64)) refl e
+  where
+    by_test : (t : Bool) → (b && nat_lt m (2 ^ 64)) ≡ t → cond t (Some m) None ≡ Some n → n < 2 ^ 64
+    by_test true t e = let same : m ≡ n = cc in subst (λ z. z < 2 ^ 64) same (ltb-true m (2 ^ 64) (and_parts b (nat_lt m (2 ^ 64)) t).1)
+    by_test false t e = cc
+
+number_small : (bs : List ℕ) (n : ℕ) → number_value bs ≡ Some n → n < 2 ^ 64
+number_small [] n e = fits_small (is_decimal []) (digits_value 10 []) n e
+number_small (z ∷ []) n e = fits_small (is_decimal (z ∷ [])) (digits_value 10 (z ∷ [])) n e
+number_small (z ∷ x ∷ ds) n e = by_test (z == 48 && (x == 120 || x == 88)) e
+  where
+    by_test : (b : Bool) → cond b (fits (is_hexadecimal ds) (digits_value 16 ds)) (fits (is_decimal (z ∷ x ∷ ds)) (digits_value 10 (z ∷ x ∷ ds))) ≡ Some n → n < 2 ^ 64
+    by_test true e = fits_small (is_hexadecimal ds) (digits_value 16 ds) n e
+    by_test false e = fits_small (is_decimal (z ∷ x ∷ ds)) (digits_value 10 (z ∷ x ∷ ds)) n e
+
+header_small : (fields : List (List ℕ)) (h : Header) → header_of fields ≡ Some h → h.entry < 2 ^ 64
+header_small [] h e = cc
+header_small (word ∷ []) h e = cc
+header_small (word ∷ entry ∷ []) h e = by_test (bytes_eq word (codes "entry")) e
+  where
+    by_test : (b : Bool) → cond b (option_map (header Arm11) (number_value entry)) None ≡ Some h → h.entry < 2 ^ 64
+    by_test true e =
+        let n = map_some (header Arm11) (number_value entry) h e in
+        subst (λ (z : Header). z.entry < 2 ^ 64) n.2 (number_small entry n.0 n.1)
+    by_test false e = cc
+header_small (word ∷ entry ∷ arch ∷ []) h e = by_test (bytes_eq word (codes "entry") && bytes_eq arch (codes "aarch64")) e
+  where
+    by_test : (b : Bool) → cond b (option_map (header Aarch64) (number_value entry)) None ≡ Some h → h.entry < 2 ^ 64
+    by_test true e =
+        let n = map_some (header Aarch64) (number_value entry) h e in
+        subst (λ (z : Header). z.entry < 2 ^ 64) n.2 (number_small entry n.0 n.1)
+    by_test false e = cc
+header_small (word ∷ entry ∷ arch ∷ more ∷ rest) h e = cc
+
+-- ---- images
+
+zipped : {X Y : Type 0} (xs : List X) (ys : List Y) (x : X × Y) → IsIn x (zip xs ys) → IsIn x.0 xs
+zipped [] ys x i = absurd i
+zipped (a ∷ xs) [] x i = absurd i
+zipped {X} {Y} (a ∷ xs) (b ∷ ys) x (inl e) = inl (ap (λ (z : X × Y). z.0) e)
+zipped (a ∷ xs) (b ∷ ys) x (inr i) = inr (zipped xs ys x i)
+
+record IsNamed (type : Name) (i : Image) : Type 0 where
+  name : i.name ≡ type
+  entry : i.entry < 2 ^ 64
+
+image_named : (name : Name) (ls : List Line) (i : Image) → image_in name ls ≡ Some i → IsNamed name i
+image_named name [] i e = cc
+image_named name (line ∷ more) i e =
+    let h = map_some (image name more) (header_of (spaced_fields line.text)) i e in
+    subst (IsNamed name) h.2 (record { name = refl; entry = header_small (spaced_fields line.text) h.0 h.1 })
+
+found_named : (x : Name × Found) (i : Image) → tables.image_in x ≡ Some i → IsNamed x.0 i
+found_named (name, absent) i e = cc
+found_named (name, too_long) i e = cc
+found_named (name, table bytes) i e = image_named name (lines bytes) i e
+
+image_plain : (s : Source) → AreFilesShort s → (all : List Found) (m : ℕ) (i : Image) → slice_get (images_in (types s (flat_of s)) all) m ≡ Some i → IsImagePlain i
+image_plain s short all m i e =
+    let names = types s (flat_of s) in
+    let x = from_filter_map tables.image_in i (zip names all) (in_get (images_in names all) m i e) in
+    let y = found_named x.0 i x.2 in
+    record {
+      entry = y.entry;
+      name = subst (λ (z : Name). is_name z ≡ true) (sym y.name) (types_named s short x.0.0 (zipped names all x.0 x.1));
+      sections = λ z within. images_sound names all m i e z within;
+    }
+
+pub read_images_are_plain : (contents : Contents) (root : List ℕ) (s : Source) (images : Images) → AreFilesShort s → AreImagesOf contents root s (flat_of s) images
+    → (m : ℕ) (i : Image) → slice_get images.images m ≡ Some i → IsImagePlain i
+read_images_are_plain contents root s images short read m i e =
+    image_plain s short read.found m i (ap (λ (z : Images). slice_get z.images m) (sym read.images) ∙ e)

@@ -1,0 +1,206 @@
+-- Frames are no more than pages: own frames are pages of their own, and memory is seen through a window.
+use Rattle.std.proofs.Common.{◌≡◌, ◌≤◌, ◌+◌, ◌*◌, ℕ, suc, Bool, true, false, cond, List, [], ◌∷◌, length, map, refl, sym, ◌∙◌, ap, Option, Some, None, inl, inr, arith}
+use Rattle.std.specs.Prelude.{◌==◌, sum}
+use Rattle.std.specs.List.{flat_map, range_with_len, slice_get}
+use Rattle.std.specs.Option.{option_map_or}
+use Rattle.std.proofs.lemmas.Bool.{eq-eqb, eqb-true, false_from_ne_true}
+use Rattle.std.proofs.lemmas.List.FromFn.{length-map-range_with_len}
+use Rattle.adl_meaning.specs.declared.connector.Connector.{Connector}
+use Rattle.adl_meaning.specs.declared.connector.Connector.TheVariants.{Rpc, Notification, SharedMemory, Mmio, Interrupt, Direct}
+use Rattle.adl_meaning.specs.declared.flat.Domain.{Domain}
+use Rattle.adl_meaning.specs.declared.flat.FlatConnection.{FlatConnection}
+use Rattle.adl_meaning.specs.declared.flat.FlatEnd.{FlatEnd}
+use Rattle.adl_meaning.specs.declared.settled.Settled.{Settled}
+use Rattle.cspace_layout.specs.declared.end_at.EndAt.{EndAt}
+use Rattle.cam_base.specs.Gather.{IsIn, gather}
+use Rattle.cam_base.proofs.Gathered.{in_gather, length_append}
+use Rattle.cam_base.proofs.NumberedLists.{from_map}
+use Rattle.vspace_layout.specs.declared.mapped.MappedPage.{MappedPage}
+use Rattle.vspace_layout.specs.declared.mapped.Shown.{Shown}
+use Rattle.vspace_layout.specs.declared.mapped.Shown.TheVariants.{Own, Memory}
+use Rattle.vspace_layout.specs.declared.owner.Owner.TheVariants.{OfConnection}
+use Rattle.vspace_layout.specs.declared.region.Content.{Content}
+use Rattle.vspace_layout.specs.declared.region.Content.TheVariants.{Stack, Buffer, Window}
+use Rattle.vspace_layout.specs.declared.region.Region.{Region}
+use Rattle.vspace_layout.specs.Frames.{connection_frames, device_frame, frame, frames, frames_at, is_first, memory_part, own_frame, own_frames, own_part, register_frames, register_part, shared_frames, shared_part}
+use Rattle.vspace_layout.specs.Given.{Given, base, leaves_of}
+use Rattle.vspace_layout.specs.MappedPages.{mapped_pages, page_of, pages_from, pages_of_region, region_page, region_part, section_part}
+use Rattle.vspace_layout.specs.Memory.{first_to_end, is_shared, memory_paddr, memory_pages, registers_in}
+use Rattle.vspace_layout.specs.PageLimits.{page_counts}
+use Rattle.vspace_layout.specs.Regions.{region_start, regions, thread_regions, threads_of, window_pages, window_region, windows_of}
+use Rattle.spec_laws.specs.Limited.{HasMemory, IsSeen}
+use Rattle.spec_laws.proofs.Totals.{length_gather, length_is, sum_ones, total, total_append, total_gather, total_map, total_most, total_one, totals, totals_add, totals_each, totals_flat, totals_most, totals_same, totals_swap}
+
+-- ---- pages
+
+abbrev is_own : Shown → ℕ
+is_own (Own fill) = 1
+is_own (Memory k j) = 0
+
+abbrev is_seen : Shown → ℕ
+is_seen (Own fill) = 0
+is_seen (Memory k j) = 1
+
+either : (s : Shown) → is_own s + is_seen s ≡ 1
+either (Own fill) = refl
+either (Memory k j) = refl
+
+all_pages : (ps : List MappedPage) → total (λ (p : MappedPage). is_own p.shown) ps + total (λ (p : MappedPage). is_seen p.shown) ps ≡ length ps
+all_pages [] = refl
+all_pages (p ∷ ps) = let e = either p.shown in let ih = all_pages ps in omega (arith, e, ih)
+
+own_length : (d : ℕ) (s : Shown) → length (own_frame d s) ≡ is_own s
+own_length d (Own fill) = refl
+own_length d (Memory k j) = refl
+
+-- ---- windows
+
+-- the pages of a region that are seen memory
+abbrev window_size : Content → ℕ → ℕ
+window_size Stack n = 0
+window_size Buffer n = 0
+window_size (Window e) n = n
+
+region_seen : (settled : Settled) (start : ℕ) (r : Region) (c : Content) → r.content ≡ c → window_size c r.pages ≤ total (λ (p : MappedPage). is_seen p.shown) (pages_from settled start r)
+region_seen settled start r Stack e = omega arith
+region_seen settled start r Buffer e = omega arith
+region_seen settled start r (Window w) e =
+    let ps = pages_from settled start r in
+    let n = length-map-range_with_len (page_of settled start r) 0 r.pages in
+    let a = length_is ps in
+    let b = total_most (λ (p : MappedPage). 1) (λ p. is_seen p.shown) ps (λ p i. one p i) in
+    omega (arith, n, a, b)
+  where
+    one : (p : MappedPage) → IsIn p (pages_from settled start r) → 1 ≤ is_seen p.shown
+    one p i =
+        let m = from_map (page_of settled start r) p (range_with_len 0 r.pages) i in
+        let s : is_seen (region_page settled (Window w) (start + 4096 * m.0) m.0).shown ≡ is_seen p.shown =
+        ap (λ c. is_seen (region_page settled c (start + 4096 * m.0) m.0).shown) (sym e) ∙ ap (λ (z : MappedPage). is_seen z.shown) m.2 in
+        omega (arith, s)
+
+-- ---- one hit at most
+
+none_hit : {X : Type 0} (w n : ℕ) (f : ℕ → ℕ) (xs : List X) → ((k : ℕ) → n ≡ f k → ⊥) → totals (λ k (x : X). cond (n == f k) w 0) xs ≤ 0
+none_hit w n f xs h =
+    let a = totals_each (λ k x. cond (n == f k) w 0) 0 xs (λ k x e. let z : cond (n == f k) w 0 ≡ 0 = ap (λ b. cond b w 0) (false_from_ne_true (n == f k) (λ t. h k (eqb-true n (f k) t))) in omega (arith, z)) in
+    omega (arith, a)
+
+once_hit : {X : Type 0} (w n : ℕ) (f : ℕ → ℕ) (xs : List X) → ((j k : ℕ) → f j ≡ f k → j ≡ k) → totals (λ k (x : X). cond (n == f k) w 0) xs ≤ w
+once_hit w n f [] h = omega arith
+once_hit {X} w n f (x ∷ xs) h = by_test (n == f 0) refl (once_hit w n (λ k. f (suc k)) xs (λ j k e. let s : suc j ≡ suc k = h (suc j) (suc k) e in omega (arith, s)))
+  where
+    by_test : (b : Bool) → (n == f 0) ≡ b → totals (λ k (y : X). cond (n == f (suc k)) w 0) xs ≤ w → cond b w 0 + totals (λ k (y : X). cond (n == f (suc k)) w 0) xs ≤ w
+    by_test true e more =
+        let none = none_hit w n (λ k. f (suc k)) xs (λ k s. let z : 0 ≡ suc k = h 0 (suc k) (sym (eqb-true n (f 0) e) ∙ s) in absurd (omega (arith, z))) in
+        omega (arith, none)
+    by_test false e more = omega (arith, more)
+
+module _ (g : Given) where
+  abbrev wide : EndAt → ℕ
+  wide e = window_pages g.flat g.settled e
+
+  abbrev seen_in : ℕ → ℕ
+  seen_in d = total (λ (p : MappedPage). is_seen p.shown) (mapped_pages g d)
+
+  domain_seen : (d : ℕ) → total wide (windows_of g d) ≤ seen_in d
+  domain_seen d =
+      let seen : MappedPage → ℕ = λ p. is_seen p.shown in
+      let size : Region → ℕ = λ r. window_size r.content r.pages in
+      let rs = regions g d in
+      let threads = flat_map (thread_regions g.settled) (threads_of g d) in
+      let a = total_append seen (section_part g.images (leaves_of g.flat d)) (region_part g.settled (base g) rs) in
+      let b = total_gather seen (pages_of_region g.settled (base g) rs) rs in
+      let c = totals_most (λ n (r : Region). size r) (λ n r. total seen (pages_of_region g.settled (base g) rs n r)) rs (λ n r e. region_seen g.settled (region_start (base g) rs n) r r.content refl) in
+      let d1 = totals_flat size rs in
+      let e = total_append size threads (map (window_region g.flat g.settled) (windows_of g d)) in
+      let f : total size (map (window_region g.flat g.settled) (windows_of g d)) ≡ total wide (windows_of g d) = total_map size (window_region g.flat g.settled) (windows_of g d) in
+      omega (arith, a, b, c, d1, e, f)
+
+  abbrev all_windows : List EndAt
+  all_windows = gather (λ d (x : Domain). windows_of g d) g.flat.domains
+
+  -- own frames and windows are no more than pages
+  own_and_seen : length (own_part g) + total wide all_windows ≤ sum (page_counts g)
+  own_and_seen =
+      let own : ℕ → Domain → ℕ = λ d x. total (λ (p : MappedPage). is_own p.shown) (mapped_pages g d) in
+      let seen : ℕ → Domain → ℕ = λ d x. seen_in d in
+      let a = length_gather (own_frames g) g.flat.domains in
+      let b = totals_same (λ d (x : Domain). length (own_frames g d x)) own g.flat.domains (λ d x e. own_is d x) in
+      let c = total_gather wide (λ d (x : Domain). windows_of g d) g.flat.domains in
+      let d = totals_most (λ d (x : Domain). total wide (windows_of g d)) seen g.flat.domains (λ d x e. domain_seen d) in
+      let e = totals_add own seen g.flat.domains in
+      let f = totals_same (λ d (x : Domain). own d x + seen d x) (λ d x. length (mapped_pages g d)) g.flat.domains (λ d x e. all_pages (mapped_pages g d)) in
+      let h = sum_ones (λ d (x : Domain). length (mapped_pages g d)) g.flat.domains in
+      omega (arith, a, b, c, d, e, f, h)
+    where
+      own_is : (d : ℕ) (x : Domain) → length (own_frames g d x) ≡ total (λ (p : MappedPage). is_own p.shown) (mapped_pages g d)
+      own_is d x =
+          length_gather (λ n (p : MappedPage). own_frame d p.shown) (mapped_pages g d)
+          ∙ totals_same (λ n (p : MappedPage). length (own_frame d p.shown)) (λ n p. is_own p.shown) (mapped_pages g d) (λ n p e. own_length d p.shown)
+          ∙ totals_flat (λ (p : MappedPage). is_own p.shown) (mapped_pages g d)
+
+  -- ---- memory
+
+  abbrev frames_of : ℕ → FlatConnection → ℕ
+  frames_of k c = length (shared_frames g.settled k c) + length (register_frames g.flat g.settled k c)
+
+  -- what a window counts towards the memory of connection k
+  abbrev hit : ℕ → EndAt → ℕ
+  hit k e = cond (e.connection == k) (wide e) 0
+
+  register_most : (k : ℕ) (c : FlatConnection) (o : Option FlatEnd) → length (option_map_or (frames_at g.flat g.settled k c) o []) ≤ memory_pages g.settled k c
+  register_most k c None = omega arith
+  register_most k c (Some f) = by_test (is_first g.flat k f)
+    where
+      by_test : (b : Bool) → length (cond b (map (device_frame f.leaf (memory_paddr g.settled k c)) (range_with_len 0 (memory_pages g.settled k c))) []) ≤ memory_pages g.settled k c
+      by_test true = let n = length-map-range_with_len (device_frame f.leaf (memory_paddr g.settled k c)) 0 (memory_pages g.settled k c) in omega (arith, n)
+      by_test false = omega arith
+
+  -- by connector
+  abbrev by_connector : ℕ → FlatConnection → Connector → ℕ
+  by_connector k c x = length (cond (is_shared x) (connection_frames k (memory_pages g.settled k c)) []) + length (option_map_or (frames_at g.flat g.settled k c) (registers_in x c.ends) [])
+
+  -- a connection has frames only where it has memory
+  frames_most : (k : ℕ) (c : FlatConnection) (n : ℕ) (x : Connector) → (HasMemory x → memory_pages g.settled k c ≤ n) → by_connector k c x ≤ n
+  frames_most k c n SharedMemory h =
+      let l = length-map-range_with_len (λ j. frame (OfConnection k) None None) 0 (memory_pages g.settled k c) in
+      let m = h (inl refl) in
+      omega (arith, l, m)
+  frames_most k c n Mmio h = let l = register_most k c (first_to_end c.ends) in let m = h (inr refl) in omega (arith, l, m)
+  frames_most k c n Rpc h = omega arith
+  frames_most k c n Notification h = omega arith
+  frames_most k c n Interrupt h = omega arith
+  frames_most k c n Direct h = omega arith
+
+  abbrev through : ℕ → ℕ
+  through k = total (hit k) all_windows
+
+  frames_through : (k : ℕ) (c : FlatConnection) → slice_get g.flat.connections k ≡ Some c → (HasMemory c.connector → IsSeen g k) → frames_of k c ≤ through k
+  frames_through k c h seen = frames_most k c (through k) c.connector (λ m. by_window (seen m))
+    where
+      by_window : IsSeen g k → memory_pages g.settled k c ≤ through k
+      by_window s =
+          let e = s.end in
+          let i = in_gather (λ d (x : Domain). windows_of g d) e g.flat.domains s.place s.domain s.here s.window in
+          let one = total_one (hit k) all_windows e i in
+          let here : hit k e ≡ wide e = ap (λ b. cond b (wide e) 0) (eq-eqb e.connection k s.joins) in
+          let size : wide e ≡ memory_pages g.settled k c = ap (λ j. option_map_or (memory_pages g.settled j) (slice_get g.flat.connections j) 0) s.joins ∙ ap (λ o. option_map_or (memory_pages g.settled k) o 0) h in
+          omega (arith, one, here, size)
+
+  memory_few : ((k : ℕ) (c : FlatConnection) → slice_get g.flat.connections k ≡ Some c → HasMemory c.connector → IsSeen g k) → length (memory_part g.flat g.settled) ≤ total wide all_windows
+  memory_few seen =
+      let cs = g.flat.connections in
+      let a = length_append (shared_part g.flat g.settled) (register_part g.flat g.settled) in
+      let b = length_gather (shared_frames g.settled) cs in
+      let c = length_gather (register_frames g.flat g.settled) cs in
+      let d = totals_add (λ k (c : FlatConnection). length (shared_frames g.settled k c)) (λ k c. length (register_frames g.flat g.settled k c)) cs in
+      let e = totals_most frames_of (λ k c. through k) cs (λ k c h. frames_through k c h (seen k c h)) in
+      let f = totals_swap (λ k (c : FlatConnection) (x : EndAt). hit k x) cs all_windows in
+      let m = total_most (λ x. totals (λ k (c : FlatConnection). hit k x) cs) wide all_windows (λ x i. once_hit (wide x) x.connection (λ k. k) cs (λ j k e. e)) in
+      omega (arith, a, b, c, d, e, f, m)
+
+  pub frames_few : ((k : ℕ) (c : FlatConnection) → slice_get g.flat.connections k ≡ Some c → HasMemory c.connector → IsSeen g k) → length (frames g) ≤ sum (page_counts g)
+  frames_few seen =
+      let a = length_append (own_part g) (memory_part g.flat g.settled) in
+      let b = memory_few seen in
+      omega (arith, a, b, own_and_seen)

@@ -1,0 +1,143 @@
+-- Settled priorities, badges and interrupts are small numbers.
+use Rattle.std.proofs.Common.{◌≡◌, ◌<◌, ◌≤◌, ◌+◌, ◌^◌, ◌∙◌, ℕ, suc, ◌&&◌, List, [], ◌∷◌, length, Option, Some, None, unwrap_or, refl, sym, ap, subst, inl, inr, arith}
+use Rattle.std.specs.Prelude.{nat_le}
+use Rattle.std.specs.List.{slice_get}
+use Rattle.std.specs.Option.{option_and_then, option_map_or}
+use Rattle.std.specs.Str.Parse.{digits_value}
+use Rattle.std.proofs.lemmas.Bool.{and_parts, cond_both, leb-true}
+use Rattle.adl_ast.specs.declared.component.Interface.{Interface}
+use Rattle.adl_ast.specs.declared.composition.Role.{Role}
+use Rattle.adl_ast.specs.declared.composition.Role.TheVariants.{From, To}
+use Rattle.adl_ast.specs.declared.source.Source.{Source}
+use Rattle.adl_ast.specs.declared.value.ValueKind.{ValueKind, Number, Text}
+use Rattle.adl_meaning.specs.declared.flat.FlatConnection.{FlatConnection}
+use Rattle.adl_meaning.specs.declared.flat.FlatEnd.{FlatEnd}
+use Rattle.adl_meaning.specs.declared.flat.Leaf.{Leaf}
+use Rattle.adl_meaning.specs.declared.settled.EndSetting.{EndSetting}
+use Rattle.adl_meaning.specs.declared.settled.EndSettings.{EndSettings}
+use Rattle.adl_meaning.specs.declared.settled.LeafSetting.{LeafSetting}
+use Rattle.adl_meaning.specs.Flat.{flat_of}
+use Rattle.adl_meaning.specs.Hierarchy.{hierarchy_of}
+use Rattle.cam_base.specs.Gather.{IsIn}
+use Rattle.adl_meaning.specs.Values.{Given}
+use Rattle.adl_settings.specs.Allowed.{badge_in, badge_kind, irq_in, is_badge_text, number_in, priority_in, within}
+use Rattle.adl_settings.specs.EndMeaning.{badge_at, badge_of, end_setting, irq_of}
+use Rattle.adl_settings.specs.Joints.{Joint, behind, found_at, found_of, found_on, founds_in, has_badge, interface_at, joint_at, joint_of, positioned, positioned_after}
+use Rattle.adl_settings.specs.declared.found.Found.{Found}
+use Rattle.adl_settings.specs.Meant.{meaning, meant}
+use Rattle.adl_settings.specs.Settled.{LeafFound, end_settings, leaf_setting, leaves_found, settled_of}
+use Rattle.adl_hierarchy.proofs.Lists.{in_get}
+use Rattle.cam_base.proofs.NumberedLists.{from_filter_map, map_some, from_get_map}
+use Rattle.cspace_layout.specs.Lookups.{setting_of}
+use Rattle.system_spec.specs.Objects.{settled_badge}
+use Rattle.system_spec.specs.Tables.{device_place, irq_number}
+use Rattle.spec_laws.proofs.SettledEnds.{setting_from}
+
+within_most : (greatest n : ℕ) → unwrap_or (within 0 greatest n) 0 ≤ greatest
+within_most greatest n = cond_both (nat_le 0 n && nat_le n greatest) (Some n) None (λ z. unwrap_or z 0 ≤ greatest) (λ e. leb-true n greatest (and_parts (nat_le 0 n) (nat_le n greatest) e).1) (λ e. omega arith)
+
+-- ---- priorities
+
+priority_most : (o : Option Given) → unwrap_or (meant priority_in 254 o) 0 ≤ 255
+priority_most None = omega arith
+priority_most (Some g) = by_number (number_in g.value.kind)
+  where
+    by_number : (o : Option ℕ) → unwrap_or (option_and_then (within 0 255) o) 0 ≤ 255
+    by_number None = omega arith
+    by_number (Some n) = within_most 255 n
+
+priority_fits : (f : LeafFound) → (leaf_setting f).priority ≤ 255
+priority_fits f = cond_both f.leaf.hardware 0 (unwrap_or (meant priority_in 254 f.priority) 0) (λ z. z ≤ 255) (λ e. omega arith) (λ e. priority_most f.priority)
+
+pub priorities_fit : (s : Source) (leaf : ℕ) → option_map_or (λ z. z.priority) (slice_get (settled_of s).leaves leaf) 0 ≤ 255
+priorities_fit s leaf = by_setting (slice_get (settled_of s).leaves leaf) refl
+  where
+    by_setting : (o : Option LeafSetting) → slice_get (settled_of s).leaves leaf ≡ o → option_map_or (λ z. z.priority) o 0 ≤ 255
+    by_setting None e = omega arith
+    by_setting (Some x) e =
+        let f = from_get_map leaf_setting (leaves_found (hierarchy_of s) (flat_of s)) leaf x e in
+        subst (λ (z : LeafSetting). z.priority ≤ 255) f.2 (priority_fits f.0)
+
+-- ---- interrupts
+
+irq_most : (o : Option Given) → unwrap_or (meaning irq_in o) 0 ≤ 1023
+irq_most None = omega arith
+irq_most (Some g) = by_number (number_in g.value.kind)
+  where
+    by_number : (o : Option ℕ) → unwrap_or (option_and_then (within 0 1023) o) 0 ≤ 1023
+    by_number None = omega arith
+    by_number (Some n) = within_most 1023 n
+
+pub numbers_small : (s : Source) (k : ℕ) (c : FlatConnection) → irq_number (settled_of s) k c < 2 ^ 64
+numbers_small s k c = by_place (device_place c.connector c.ends)
+  where
+    by_setting : (n : ℕ) (o : Option EndSetting) → setting_of (settled_of s) k n ≡ o → option_map_or (λ z. z.irq) o 0 < 2 ^ 64
+    by_setting n None e = omega arith
+    by_setting n (Some x) e =
+        let f = setting_from s k n x e in
+        let most = irq_most f.0.irq in
+        let is : x.irq ≡ unwrap_or (irq_of f.0) 0 = ap (λ (z : EndSetting). z.irq) (sym f.1) in
+        omega (arith, most, is)
+
+    by_place : (o : Option ℕ) → option_map_or (λ z. z.irq) (option_and_then (setting_of (settled_of s) k) o) 0 < 2 ^ 64
+    by_place None = omega arith
+    by_place (Some n) = by_setting n (setting_of (settled_of s) k n) refl
+
+-- ---- badges
+
+kind_most : (v : ValueKind) → unwrap_or (badge_kind v) 0 ≤ 268435455
+kind_most (Number n) = within_most 268435455 n
+kind_most (Text t) = cond_both (is_badge_text t) (within 0 268435455 (digits_value 10 t)) None (λ z. unwrap_or z 0 ≤ 268435455) (λ e. within_most 268435455 (digits_value 10 t)) (λ e. omega arith)
+kind_most _ = omega arith
+
+badge_most : (f : Found) → badge_at f ≤ f.joint.position + 268435455
+badge_most f = cond_both (has_badge f.joint) (unwrap_or (badge_of f) 0) 0 (λ z. z ≤ f.joint.position + 268435455) (λ e. by_given f.badge) (λ e. omega arith)
+  where
+    by_given : (o : Option Given) → unwrap_or (meant badge_in f.joint.position o) 0 ≤ f.joint.position + 268435455
+    by_given None = omega arith
+    by_given (Some g) = let l = kind_most g.value.kind in omega (arith, l)
+
+position_most : (p : ℕ) (es : List FlatEnd) (x : ℕ × FlatEnd) → IsIn x (positioned_after p es) → x.0 ≤ p + length es
+position_most p [] x i = absurd i
+position_most p (e ∷ es) x (inl same) = let is : p + 1 ≡ x.0 = ap (λ (z : ℕ × FlatEnd). z.0) same in omega (arith, is)
+position_most p (e ∷ es) x (inr i) = by_role e.role (position_most (behind p e.role) es x i)
+  where
+    by_role : (r : Role) → x.0 ≤ behind p r + length es → x.0 ≤ p + suc (length es)
+    by_role From l = omega (arith, l)
+    by_role To l = omega (arith, l)
+
+position_is : (s : Source) (c : FlatConnection) (x : ℕ × FlatEnd) (f : Found) → found_of (hierarchy_of s) s (flat_of s) c x ≡ Some f → f.joint.position ≡ x.0
+position_is s c x f e =
+    let j = map_some (found_at (hierarchy_of s)) (joint_of s (flat_of s) c x) f e in
+    ap (λ (z : Found). z.joint.position) (sym j.2) ∙ by_leaf j.0 (slice_get (flat_of s).leaves x.1.leaf) j.1
+  where
+    by_leaf : (j : Joint) (o : Option Leaf) → option_and_then (joint_at s c x) o ≡ Some j → j.position ≡ x.0
+    by_leaf j None e = cc
+    by_leaf j (Some leaf) e =
+        let i = map_some (λ (i : Interface). let z : Joint = record { connection = c; position = x.0; end = x.1; leaf = leaf; interface = i } in z) (interface_at s leaf x.1.member) j e in
+        ap (λ (z : Joint). z.position) (sym i.2)
+
+pub badges_small : (s : Source) → ((k : ℕ) (c : FlatConnection) → slice_get (flat_of s).connections k ≡ Some c → length c.ends < 2 ^ 32) → (k n : ℕ) → settled_badge (settled_of s) k n < 2 ^ 64
+badges_small s short k n = by_connection (slice_get (settled_of s).connections k) refl
+  where
+    by_found : (fs : List Found) (c : FlatConnection) → slice_get (flat_of s).connections k ≡ Some c → found_on (hierarchy_of s) s (flat_of s) c ≡ fs → (o : Option EndSetting) → slice_get (end_settings fs).ends n ≡ o → option_map_or (λ z. z.badge) o 0 < 2 ^ 64
+    by_found fs c at are None e = omega arith
+    by_found fs c at are (Some x) e =
+        let f = from_get_map end_setting fs n x e in
+        let P : List Found → Type 0 = λ z. IsIn f.0 z in
+        let y = from_filter_map (found_of (hierarchy_of s) s (flat_of s) c) f.0 (positioned c.ends) (subst P (sym are) (in_get fs n f.0 f.1)) in
+        let p = position_is s c y.0 f.0 y.2 in
+        let q = position_most 0 c.ends y.0 y.1 in
+        let b = badge_most f.0 in
+        let is : x.badge ≡ badge_at f.0 = ap (λ (z : EndSetting). z.badge) (sym f.2) in
+        let l = short k c at in
+        omega (arith, p, q, b, is, l)
+
+    by_connection : (o : Option EndSettings) → slice_get (settled_of s).connections k ≡ o → option_map_or (λ z. z.badge) (option_and_then (λ z. slice_get z.ends n) o) 0 < 2 ^ 64
+    by_connection None e = omega arith
+    by_connection (Some z) e =
+        let h = hierarchy_of s in
+        let x = from_get_map end_settings (founds_in h s (flat_of s)) k z e in
+        let c = from_get_map (found_on h s (flat_of s)) (flat_of s).connections k x.0 x.1 in
+        let P : EndSettings → Type 0 = λ w. option_map_or (λ y. y.badge) (slice_get w.ends n) 0 < 2 ^ 64 in
+        subst P x.2 (by_found x.0 c.0 c.1 c.2 (slice_get (end_settings x.0).ends n) refl)

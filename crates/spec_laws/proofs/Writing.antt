@@ -1,0 +1,203 @@
+-- The spec of laid-out tables can be written and read back.
+use Rattle.std.proofs.Common.{◌≡◌, ◌<◌, ◌≤◌, ◌+◌, ◌*◌, ◌^◌, ℕ, Bool, true, false, cond, List, [], ◌∷◌, length, map, refl, sym, ◌∙◌, ap, subst, Option, Some, None, arith}
+use Rattle.std.specs.Prelude.{leb}
+use Rattle.std.specs.List.{flat_map, slice_get}
+use Rattle.std.specs.Option.{option_map, option_map_or}
+use Rattle.std.proofs.lemmas.Bool.{le-ltb}
+use Rattle.std.proofs.lemmas.List.{length-map}
+use Rattle.std.proofs.lemmas.List.Folds.{list_all-map}
+use Rattle.std.proofs.lemmas.Option.{slice_get-map}
+use Rattle.adl_meaning.specs.declared.connector.Connector.{Connector}
+use Rattle.adl_meaning.specs.declared.connector.Connector.TheVariants.{Rpc, Notification, SharedMemory, Mmio, Interrupt, Direct}
+use Rattle.adl_meaning.specs.declared.flat.FlatConnection.{FlatConnection}
+use Rattle.cap_model.specs.Canonical.{canonical, entry_line, entry_text, irq_line}
+use Rattle.cap_model.specs.declared.object.Object.{Object}
+use Rattle.cap_model.specs.declared.object.Object.TheVariants as objects
+use Rattle.cap_model.specs.declared.spec.Entry.{Entry}
+use Rattle.cap_model.specs.Lookup.{entry_name, name_at}
+use Rattle.capdl_write.specs.Writable.{IsWritable, caps_of, is_laid, is_number, is_word}
+use Rattle.capdl_text.specs.Texts.{is_long, most_bytes}
+use Rattle.cam_base.specs.Gather.{IsIn, gather}
+use Rattle.cam_base.proofs.Gathered.{in_place}
+use Rattle.page_tables.specs.Levels.{layers, table_of}
+use Rattle.page_tables.specs.Shapes.{shapes}
+use Rattle.system_spec.specs.declared.part.Part.{Part}
+use Rattle.system_spec.specs.declared.part.What.{What}
+use Rattle.system_spec.specs.declared.part.What.TheVariants.{TableOf, FrameOf}
+use Rattle.system_spec.specs.Made.{entry, part_name, spec_of}
+use Rattle.system_spec.specs.Objects.{by_number, frame_object, line_by, lines, object, put_line, tcb}
+use Rattle.system_spec.specs.Parts.{page_mapping, parts, place, tables_at}
+use Rattle.system_spec.specs.Tables.{Tables, arch, irq_number, pages_at, threads_at}
+use Rattle.vspace_layout.specs.declared.spaces.FrameInfo.{FrameInfo}
+use Rattle.vspace_layout.specs.declared.spaces.ThreadPlace.{ThreadPlace}
+use Rattle.spec_laws.specs.Fit.{IsFit}
+use Rattle.spec_laws.specs.Sized.{IsSized, cap_count, thread_count}
+use Rattle.spec_laws.specs.Written.{IsWritten}
+use Rattle.spec_laws.proofs.CapsFit.{all_pass}
+use Rattle.spec_laws.proofs.Capping.{looked_up}
+use Rattle.spec_laws.proofs.Counting.{Most, parts_most}
+use Rattle.spec_laws.proofs.Few.{caps_within, objects_within}
+use Rattle.spec_laws.proofs.Keeping.{kept, spec_kept}
+use Rattle.spec_laws.proofs.Laid.{fine_there, number_is, part_short, part_word}
+use Rattle.spec_laws.proofs.Lengths.{canonical_short, extra, holder_short, irq_short, line_short}
+use Rattle.spec_laws.proofs.Lines.{lined}
+use Rattle.spec_laws.proofs.TablesKept.{as_long, from_tables, standing}
+use Rattle.spec_laws.proofs.Telling.{number_few}
+use Rattle.system_spec.proofs.There.{there}
+use Rattle.spec_laws.proofs.Totals.{length_flat_map, length_gather, sum_map, total, total_add, total_const, total_each, total_map, total_most, total_times, totals, totals_const, totals_each}
+
+-- ---- how many lines
+
+put_length : (x : ℕ × ℕ) (ls : List (ℕ × ℕ)) → length (put_line x ls) ≡ 1 + length ls
+put_length x [] = refl
+put_length x (y ∷ ys) = by_test (leb x.0 y.0) (put_length x ys)
+  where
+    by_test : (b : Bool) → length (put_line x ys) ≡ 1 + length ys → length (cond b (x ∷ y ∷ ys) (y ∷ put_line x ys)) ≡ 1 + length (y ∷ ys)
+    by_test true e = omega arith
+    by_test false e = omega (arith, e)
+
+sorted_length : (ls : List (ℕ × ℕ)) → length (by_number ls) ≡ length ls
+sorted_length [] = refl
+sorted_length (x ∷ xs) = let a = put_length x (by_number xs) in let ih = sorted_length xs in omega (arith, a, ih)
+
+lines_few : (t : Tables) → length (lines t) ≤ length t.flat.connections
+lines_few t =
+    let f : ℕ → FlatConnection → List (ℕ × ℕ) = λ k (c : FlatConnection). line_by t k c c.connector in
+    let a = sorted_length (gather f t.flat.connections) in
+    let b = length_gather f t.flat.connections in
+    let c = totals_each (λ k (c : FlatConnection). length (f k c)) 1 t.flat.connections (λ k c e. by_kind k c c.connector) in
+    omega (arith, a, b, c)
+  where
+    by_kind : (k : ℕ) (c : FlatConnection) (x : Connector) → length (line_by t k c x) ≤ 1
+    by_kind k c Interrupt = omega arith
+    by_kind k c Rpc = omega arith
+    by_kind k c Notification = omega arith
+    by_kind k c SharedMemory = omega arith
+    by_kind k c Mmio = omega arith
+    by_kind k c Direct = omega arith
+
+module _ (t : Tables) where
+  -- ---- how much longer the lines of threads and frames are
+
+  abbrev longer : What → ℕ
+  longer w = extra (object t w)
+
+  thread_longer : (d : ℕ) (o : Option ThreadPlace) → extra (option_map_or (λ (z : ThreadPlace). objects.Thread (tcb t d z)) o objects.Endpoint) ≤ 209
+  thread_longer d None = omega arith
+  thread_longer d (Some y) = omega arith
+
+  frame_longer : (o : Option FrameInfo) → extra (option_map_or frame_object o objects.Endpoint) ≤ 229
+  frame_longer None = omega arith
+  frame_longer (Some x) = omega arith
+
+  table_longer : (d : ℕ) → totals (λ j (o : Object). longer (TableOf d j)) (tables_at t 0 0 d) ≤ 0
+  table_longer d =
+      let first = place t (TableOf d 0) in
+      let frames = place t (FrameOf 0) in
+      let long = as_long t 0 0 first frames d in
+      let all : totals (λ j (o : Object). longer (TableOf d j)) (tables_at t 0 0 d) ≡ total extra (standing t d) = looked_up extra objects.Endpoint (tables_at t 0 0 d) (standing t d) long in
+      let none = total_each extra 0 (standing t d) (λ o i.
+      let r = from_tables first 0 (layers (shapes (arch t)) (map (page_mapping frames) (pages_at t d))) o i in
+      let e : extra (table_of r.layer.shape r.link r.run) ≡ extra o = ap extra r.is in
+      omega (arith, e)) in
+      omega (arith, all, none)
+
+  longer_most : Most t longer (λ d. 0) 209 0 0 0 (λ d. 0) 229
+  longer_most = record {
+    cnodes = λ d x e. omega arith;
+    threads = λ d i. thread_longer d (slice_get (threads_at t d) i);
+    endpoints = λ k. omega arith;
+    notifications = λ k. omega arith;
+    locks = λ d n. omega arith;
+    irqs = λ k. omega arith;
+    tables = λ d x e. table_longer d;
+    frames = λ f. frame_longer (slice_get t.spaces.frames f);
+  }
+
+  longer_few : total (λ (p : Part). longer p.what) (parts t) ≤ 209 * thread_count t + 229 * length t.spaces.frames
+  longer_few =
+      let a = parts_most t longer (λ d. 0) 209 0 0 0 (λ d. 0) 229 longer_most in
+      let b = totals_const 0 t.flat.domains in
+      omega (arith, a, b)
+
+  -- ---- the text
+
+  module _ (fit : IsFit t) (sized : IsSized t) (written : IsWritten t) where
+    number_of : (p : Part) → IsIn p (parts t) → p.number < 2 ^ 32
+    number_of p i = number_few t fit.connections fit.objects p i
+
+    short_at : (o : ℕ) → length (name_at (spec_of t) o) ≤ 16
+    short_at o = subst (λ (z : Option Entry). length (entry_name z) ≤ 16) (sym (slice_get-map (entry t) (parts t) o)) (by_part (slice_get (parts t) o) (λ p e. in_place p (parts t) o e))
+      where
+        by_part : (x : Option Part) → ((p : Part) → x ≡ Some p → IsIn p (parts t)) → length (entry_name (option_map (entry t) x)) ≤ 16
+        by_part None h = omega arith
+        by_part (Some p) h = part_short p (number_of p (h p refl))
+
+    line_of : (p : Part) → IsIn p (parts t) → length (entry_line (entry t p)) ≤ 53 + longer p.what
+    line_of p i =
+        let w = there t p i in
+        line_short (spec_of t) (part_name p) (object t p.what) (part_short p (number_of p i)) (kept t fit p.what w) (fine_there t fit written p.what w).1
+
+    text_of : (p : Part) → IsIn p (parts t) → length (entry_text (spec_of t) (entry t p)) ≤ 21 + 73 * caps_of (object t p.what)
+    text_of p i = holder_short (spec_of t) short_at (part_name p) (object t p.what) (part_short p (number_of p i)) (fine_there t fit written p.what (there t p i)).0
+
+    many : length (parts t) ≤ 238592
+    many = let l = objects_within t sized in let m = length-map (parts t) (entry t) in omega (arith, l, m)
+
+    lines_long : length (flat_map entry_line (spec_of t).entries) ≤ 34501632
+    lines_long =
+        let a = length_flat_map entry_line (spec_of t).entries in
+        let b = total_map (λ (e : Entry). length (entry_line e)) (entry t) (parts t) in
+        let c = total_most (λ (p : Part). length (entry_line (entry t p))) (λ p. 53 + longer p.what) (parts t) line_of in
+        let d = total_add (λ (p : Part). 53) (λ p. longer p.what) (parts t) in
+        let e = total_const 53 (parts t) in
+        let threads = sized.threads in
+        let frames = sized.frames in
+        omega (arith, a, b, c, d, e, longer_few, many, threads, frames)
+
+    texts_long : length (flat_map (entry_text (spec_of t)) (spec_of t).entries) ≤ 26838016
+    texts_long =
+        let text : Entry → ℕ = λ e. length (entry_text (spec_of t) e) in
+        let caps : Part → ℕ = λ p. caps_of (object t p.what) in
+        let a = length_flat_map (entry_text (spec_of t)) (spec_of t).entries in
+        let b = total_map text (entry t) (parts t) in
+        let c = total_most (λ p. text (entry t p)) (λ p. 21 + 73 * caps p) (parts t) text_of in
+        let d = total_add (λ (p : Part). 21) (λ p. 73 * caps p) (parts t) in
+        let e = total_const 21 (parts t) in
+        let f = total_times 73 caps (parts t) in
+        let g : cap_count (spec_of t) ≡ total caps (parts t) = sum_map (λ (e : Entry). caps_of e.object) (map (entry t) (parts t)) ∙ total_map (λ (e : Entry). caps_of e.object) (entry t) (parts t) in
+        let few = caps_within t sized in
+        omega (arith, a, b, c, d, e, f, g, few, many)
+
+    number_in : (l : ℕ × ℕ) → IsIn l (lines t) → l.0 < 2 ^ 64
+    number_in l i =
+        let a = lined t fit l i in
+        let n = written.numbers a.number a.there.0 a.there.1 in
+        let e : irq_number t.settled a.number a.there.0 ≡ l.0 = ap (λ (z : ℕ × ℕ). z.0) a.is in
+        omega (arith, n, e)
+
+    irqs_long : length (flat_map (irq_line (spec_of t)) (spec_of t).irqs) ≤ 159744
+    irqs_long =
+        let a = length_flat_map (irq_line (spec_of t)) (lines t) in
+        let b = total_each (λ l. length (irq_line (spec_of t) l)) 39 (lines t) (λ l i. irq_short (spec_of t) short_at l (number_in l i)) in
+        let c = lines_few t in
+        let d = sized.connections in
+        omega (arith, a, b, c, d)
+
+    text_few : is_long (canonical (spec_of t)) ≡ false
+    text_few =
+        let s = canonical_short (spec_of t) short_at 34501632 26838016 159744 lines_long texts_long irqs_long in
+        le-ltb most_bytes (length (canonical (spec_of t))) (omega (arith, s))
+
+    -- ---- names and objects
+
+    pub spec_writable : IsWritable (spec_of t)
+    spec_writable = record {
+      kept = spec_kept t fit;
+      names = list_all-map (λ (e : Entry). is_word e.name) (entry t) (parts t) ∙ all_pass (λ (p : Part). is_word (part_name p)) (parts t) (λ p i. part_word p (number_of p i));
+      objects = list_all-map (λ (e : Entry). is_laid e.object) (entry t) (parts t) ∙ all_pass (λ (p : Part). is_laid (object t p.what)) (parts t) (λ p i. (fine_there t fit written p.what (there t p i)).0);
+      lines = all_pass (λ (l : ℕ × ℕ). is_number l.0) (lines t) (λ l i. number_is l.0 (number_in l i));
+      short = text_few;
+      few_objects = (let l = objects_within t sized in omega (arith, l));
+      few_caps = (let l = caps_within t sized in omega (arith, l));
+    }
