@@ -38,7 +38,7 @@ use Rattle.source_images.specs.declared.images.Images.{Images}
 use Rattle.source_images.proofs.ImageNumbers.{images_numbered}
 use Rattle.source_images.proofs.TableReads.{found_count}
 use Rattle.source_images.proofs.Soundness.{images_sound}
-use Rattle.source_images.specs.Found.{Found, table_names}
+use Rattle.source_images.specs.Found.{Found, found_of, table_names}
 use Rattle.source_images.specs.ImagesRead.{AreImagesOf, AreImagesRead}
 use Rattle.source_images.specs.TableFaults.{first_table_fault, name_of_file as name_with_tables}
 use Rattle.source_images.specs.Types.{types}
@@ -127,10 +127,12 @@ pub tables_named : (m : Meaning) (root : List ℕ) → IsMeant m.source m.flat m
 tables_named m root meant e = ap (λ z. table_names z m.source m.flat) e ∙ ap (λ z. table_names (root_of m.source) m.source z) meant.is_flat
 
 pub images_imaged : (contents : Contents) (root : List ℕ) (m : Meaning) (images : Images) → AreImagesOf contents root m.source m.flat images → IsWithin m.source m.flat → IsImaged m.flat images
-images_imaged contents root m images are within = record {
-  numbered = subst (AreNumbered m.flat) (sym are.images) (images_numbered root m.source m.flat are.found (found_count contents (table_names root m.source m.flat) are.found are.told) are.clean within);
-  sound = λ n image at s in_it. images_sound (types m.source m.flat) are.found n image (sym (ap (λ z. slice_get z.images n) are.images) ∙ at) s in_it;
-}
+images_imaged contents root m images are within =
+    let found = found_of contents root m.source m.flat in
+    record {
+      numbered = subst (AreNumbered m.flat) (sym are.images) (images_numbered root m.source m.flat found (found_count contents (table_names root m.source m.flat) found refl) are.clean within);
+      sound = λ n image at s in_it. images_sound (types m.source m.flat) found n image (sym (ap (λ z. slice_get z.images n) are.images) ∙ at) s in_it;
+    }
 
 clean_is : (s : Source) (found : List Found) (images : Images) (o : Option Fault) → first_table_fault (root_of s) s (flat_of s) found ≡ None → images ≡ images_from s found → first_imaged_fault s images ≡ o → first_layout_fault s found ≡ o
 clean_is s found images o none same e =
@@ -143,21 +145,15 @@ in_tables : (s : Source) (found : List Found) (n : ℕ) (f : Fault) → first_ta
 in_tables s found n f some = ap (λ (o : Option Fault). if is_some o then name_with_tables (root_of s) s (flat_of s) n else name_of_file s n) some
 
 module _ (contents : Contents) (before now : List ℕ → ℕ) (m : Meaning) (images : Images) (is : AreImagesOf contents (root_of m.source) m.source (flat_of m.source) images) where
-  told_images : images ≡ images_beside contents m.source
-  told_images = is.images ∙ ap (images_from m.source) is.told
-
-  told_clean : first_table_fault (root_of m.source) m.source (flat_of m.source) (found_beside contents m.source) ≡ None
-  told_clean = ap (first_table_fault (root_of m.source) m.source (flat_of m.source)) (sym is.told) ∙ is.clean
-
   laid_builds : (r : Result Build BuildError) → Lays m images r → Builds m contents before now r
   laid_builds (Ok b) h = record {
     same = h.0;
-    clean = clean_is m.source (found_beside contents m.source) images None told_clean told_images h.1;
-    made = subst (λ z. IsMade m.source z b.spec b.policy b.cert b.map) told_images h.2;
+    clean = clean_is m.source (found_beside contents m.source) images None is.clean is.images h.1;
+    made = subst (λ z. IsMade m.source z b.spec b.policy b.cert b.map) is.images h.2;
   }
   laid_builds (Err (error.Fault fault file)) t = record {
-    first = clean_is m.source (found_beside contents m.source) images (Some fault) told_clean told_images t.0;
-    named = t.1.1 ∙ sym (in_source m.source (found_beside contents m.source) fault.place.file told_clean);
+    first = clean_is m.source (found_beside contents m.source) images (Some fault) is.clean is.images t.0;
+    named = t.1.1 ∙ sym (in_source m.source (found_beside contents m.source) fault.place.file is.clean);
   }
   laid_builds (Err (error.ReadFault file)) t = absurd t
   laid_builds (Err error.NoMemory) t = tt
@@ -168,13 +164,10 @@ built_of_images contents before now m root images r meant e h lays = laid_builds
 
 unread_builds : (contents : Contents) (before now : List ℕ → ℕ) (m : Meaning) (e : ImagesError) → AreImagesRead contents (root_of m.source) m.source (flat_of m.source) (Err e)
     → ((file : List ℕ) → ◌≡◌ {A = Result Images ImagesError} (Err e) (Err (imaging.ReadFault file)) → Rose (before file) (now file)) → Builds m contents before now (Err (not_imaged e))
-unread_builds contents before now m (imaging.Fault fault file) h rose =
-    let there : first_table_fault (root_of m.source) m.source (flat_of m.source) (found_beside contents m.source) ≡ Some fault =
-    ap (first_table_fault (root_of m.source) m.source (flat_of m.source)) (sym h.told) ∙ h.first in
-    record {
-      first = ap (λ o. option_or o (first_imaged_fault m.source (images_beside contents m.source))) there;
-      named = h.named ∙ sym (in_tables m.source (found_beside contents m.source) fault.place.file fault there);
-    }
+unread_builds contents before now m (imaging.Fault fault file) h rose = record {
+  first = ap (λ o. option_or o (first_imaged_fault m.source (images_beside contents m.source))) h.first;
+  named = h.named ∙ sym (in_tables m.source (found_beside contents m.source) fault.place.file fault h.first);
+}
 unread_builds contents before now m (imaging.ReadFault file) h rose = (h, rose file refl)
 unread_builds contents before now m imaging.NoMemory h rose = tt
 

@@ -64,7 +64,7 @@ build_facts root contents b is =
       short = whole.short;
       spelled = short_spelled s whole.short;
       faultless = faultless s front;
-      read = record { found = found; told = refl; clean = table; images = refl };
+      read = record { clean = table; images = refl };
       numbered = images_numbered (root_of s) s (flat_of s) found (found_count contents (table_names (root_of s) s (flat_of s)) found refl) table
           (sound_within s (flat_of s) (settled_of s) (record { whole = whole; none = front; meant = record { is_flat = refl; is_settled = refl } }));
       sound = λ n image at x i. images_sound (types s (flat_of s)) found n image at x i;

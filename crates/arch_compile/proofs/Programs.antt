@@ -25,7 +25,7 @@ use Rattle.cam_base.proofs.NumberedLists.{at_place, get_map, map_some}
 use Rattle.sect_table.specs.Tables.{image, image_in as image_from, image_of}
 use Rattle.sect_table.specs.declared.image.Image.{Image}
 use Rattle.source_images.proofs.ImageNumbers.{each_named, in_filter}
-use Rattle.source_images.specs.Found.{Found, too_long, table, folder_of, found_bytes, table_limit, table_name, table_names}
+use Rattle.source_images.specs.Found.{Found, too_long, table, folder_of, found_bytes, found_of, table_limit, table_name, table_names}
 use Rattle.source_images.specs.Images.{image_number}
 use Rattle.source_images.specs.Numbered.{AreNumbered}
 use Rattle.source_images.specs.TableImages.{image_in}
@@ -141,15 +141,16 @@ module _ (contents : Contents) (root : List ℕ) (s : Source) (images : Images) 
       let here = at_place names m p.0 in
       let same : name.0 ≡ here.0 = (bytes_eq-Decides name.0 _).0 p.1 ∙ get_or_from_slice_get names m here.0 [] here.1 in
       let long = all_read (length names) refl in
-      let few = zip_few names read.found in
-      let all = zip names read.found in
+      let found_all = found_of contents root s (flat_of s) in
+      let few = zip_few names found_all in
+      let all = zip names found_all in
       let images_are : images.images ≡ filter_map image_in all = ap (λ (z : Images). z.images) read.images in
       let count = ap length images_are in
       let k = kept_at image_in all m i (omega (arith, long, few, count)) (ap (λ z. slice_get z m) (sym images_are) ∙ listed) in
-      let z = zip_place names read.found m k.0 k.1 in
+      let z = zip_place names found_all m k.0 k.1 in
       let F : List ℕ → Found = λ name. found_bytes (get contents name) in
-      let stands : slice_get read.found m ≡ Some (F (table_name (folder_of root) here.0)) =
-      ap (λ z. slice_get z m) read.told ∙ get_map F (table_names root s (flat_of s)) m (table_name (folder_of root) here.0) (get_map (table_name (folder_of root)) names m here.0 here.1) in
+      let stands : slice_get found_all m ≡ Some (F (table_name (folder_of root) here.0)) =
+      get_map F (table_names root s (flat_of s)) m (table_name (folder_of root) here.0) (get_map (table_name (folder_of root)) names m here.0 here.1) in
       let type_is : k.0.0 ≡ here.0 = some_same k.0.0 here.0 (sym z.0 ∙ here.1) in
       let found_is : k.0.1 ≡ F (table_name (folder_of root) here.0) = some_same k.0.1 _ (sym z.1 ∙ stands) in
       let says : image_in (here.0, F (table_name (folder_of root) here.0)) ≡ Some i =

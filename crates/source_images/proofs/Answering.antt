@@ -26,7 +26,7 @@ use Rattle.source_images.specs.Archs.{first_arch}
 use Rattle.source_images.specs.Found.{AreFound, Found, absent, too_long, table, folder_of, table_name, table_names}
 use Rattle.source_images.specs.ImagesRead.{AreImagesRead}
 use Rattle.source_images.specs.TableFaults.{first_table_fault, line_faults, listed, missing, missing_at, name_of_file}
-use Rattle.source_images.specs.TableImages.{images_in}
+use Rattle.source_images.specs.TableImages.{images_in, images_of}
 use Rattle.source_images.specs.Told.{AreTablesRead, IsAnswer, file_name, files_told, first_missing, first_of, first_read, tables_told, merged, missing_by, missing_reading, names_told, reading_in, reading_of, readings_of, table_at}
 use Rattle.source_images.specs.Types.{Name, type_number, types}
 use Rattle.source_images.specs.declared.error.ImagesError.{ImagesError}
@@ -135,12 +135,14 @@ module _ (root : List ℕ) (source : Source) (flat : Flat) (all : List Found) wh
 
       by_result : (r : Result Images ImagesError) → IsAnswer source flat all_tables all_readings r → AreImagesRead contents root source flat r
       by_result (Ok images) a = record {
-        found = all;
-        told = told_names;
-        clean = sym (first_same count) ∙ a.0;
-        images = a.1 ∙ ap (λ z. record { images = z; of_leaf = map (type_number source flat) flat.leaves }) (images_same count a.0);
+        clean = ap (first_table_fault root source flat) (sym told_names) ∙ sym (first_same count) ∙ a.0;
+        images = a.1 ∙ ap (λ z. record { images = z; of_leaf = map (type_number source flat) flat.leaves }) (images_same count a.0)
+            ∙ ap (images_of source flat) told_names;
       }
-      by_result (Err (error.Fault fault file)) a = record { found = all; told = told_names; first = sym (first_same count) ∙ a.0; named = a.1 ∙ names_same fault.place.file }
+      by_result (Err (error.Fault fault file)) a = record {
+        first = ap (first_table_fault root source flat) (sym told_names) ∙ sym (first_same count) ∙ a.0;
+        named = a.1 ∙ names_same fault.place.file;
+      }
       by_result (Err (error.ReadFault file)) a = absurd a
       by_result (Err error.NoMemory) a = tt
 

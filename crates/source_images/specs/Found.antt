@@ -44,6 +44,10 @@ found_bytes (Some bytes) = if nat_lt table_limit (length bytes) then too_long el
 abbrev pub found_in : Contents → List (List ℕ) → List Found
 found_in m names = map (λ name. found_bytes (get m name)) names
 
+-- what they have under the names of a source's tables
+abbrev pub found_of : Contents → List ℕ → Source → Flat → List Found
+found_of m root source flat = found_in m (table_names root source flat)
+
 -- both contents have the same table of this name, as far as it is read: up to the limit, and a byte more
 abbrev pub AlikeAsRead : List ℕ → Contents → Contents → Type 0
 AlikeAsRead name = HaveSameFront name (table_limit + 1)

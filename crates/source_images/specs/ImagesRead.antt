@@ -7,26 +7,22 @@ use Rattle.cam_base.specs.declared.place.Fault.{Fault}
 use Rattle.cam_io.specs.Contents.{Contents}
 use Rattle.cam_base.specs.Gather.{IsIn}
 use Rattle.source_images.specs.declared.images.Images.{Images}
-use Rattle.source_images.specs.Found.{AreFound, Found, table_names}
+use Rattle.source_images.specs.Found.{found_of, table_names}
 use Rattle.source_images.specs.TableFaults.{first_table_fault, name_of_file}
 use Rattle.source_images.specs.TableImages.{images_of}
 use Rattle.source_images.specs.declared.error.ImagesError.{ImagesError}
 use Rattle.source_images.specs.declared.error.ImagesError.TheVariants as error
 
--- something is found under the name of each table, and in all of it no fault stands: these are the images
+-- in what the contents have under the names of the tables no fault stands: these are the images
 pub record AreImagesOf (contents : Contents) (root : List ℕ) (source : Source) (flat : Flat) (answer : Images)
     : Type 0 where
-  pub found : List Found
-  pub told : AreFound contents (table_names root source flat) found
-  pub clean : first_table_fault root source flat found ≡ None
-  pub images : answer ≡ images_of source flat found
+  pub clean : first_table_fault root source flat (found_of contents root source flat) ≡ None
+  pub images : answer ≡ images_of source flat (found_of contents root source flat)
 
--- something is found under the name of each table, and in all of it this fault is the first; with the name of its file
+-- this fault is the first in what the contents have under the names of the tables; with the name of its file
 pub record IsFaultOf (contents : Contents) (root : List ℕ) (source : Source) (flat : Flat) (fault : Fault) (file : List ℕ)
     : Type 0 where
-  pub found : List Found
-  pub told : AreFound contents (table_names root source flat) found
-  pub first : first_table_fault root source flat found ≡ Some fault
+  pub first : first_table_fault root source flat (found_of contents root source flat) ≡ Some fault
   pub named : file ≡ name_of_file root source flat fault.place.file
 
 -- the answer for a source whose root is the file of this name

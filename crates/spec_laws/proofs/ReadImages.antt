@@ -29,7 +29,7 @@ use Rattle.sect_table.specs.Headers.{header, header_of}
 use Rattle.sect_table.specs.Tables.{image, image_in}
 use Rattle.sect_table.specs.declared.image.Header.{Header}
 use Rattle.sect_table.specs.declared.image.Image.{Image}
-use Rattle.source_images.specs.Found.{Found, absent, table, too_long}
+use Rattle.source_images.specs.Found.{Found, absent, found_of, table, too_long}
 use Rattle.source_images.specs.ImagesRead.{AreImagesOf}
 use Rattle.source_images.specs.TableImages as tables
 use Rattle.source_images.specs.TableImages.{images_in}
@@ -155,4 +155,4 @@ image_plain s short all m i e =
 pub read_images_are_plain : (contents : Contents) (root : List ℕ) (s : Source) (images : Images) → AreFilesShort s → AreImagesOf contents root s (flat_of s) images
     → (m : ℕ) (i : Image) → slice_get images.images m ≡ Some i → IsImagePlain i
 read_images_are_plain contents root s images short read m i e =
-    image_plain s short read.found m i (ap (λ (z : Images). slice_get z.images m) (sym read.images) ∙ e)
+    image_plain s short (found_of contents root s (flat_of s)) m i (ap (λ (z : Images). slice_get z.images m) (sym read.images) ∙ e)

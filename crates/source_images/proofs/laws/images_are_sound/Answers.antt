@@ -1,8 +1,10 @@
 use Rattle.std.proofs.Common.{◌∙◌, sym, ap}
 use Rattle.std.specs.List.{slice_get}
+use Rattle.source_images.specs.Found.{found_of}
 use Rattle.source_images.specs.Types.{types}
 use Rattle.source_images.proofs.Soundness.{images_sound}
 use Rattle.source_images.proofs.laws.images_are_sound.Goals as goal
 
 pub returns : goal.returns
-returns c contents root source flat images are m image at s within = images_sound (types source flat) are.found m image (sym (ap (λ z. slice_get z.images m) are.images) ∙ at) s within
+returns c contents root source flat images are m image at s within =
+    images_sound (types source flat) (found_of contents root source flat) m image (sym (ap (λ z. slice_get z.images m) are.images) ∙ at) s within
