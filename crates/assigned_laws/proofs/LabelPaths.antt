@@ -1,25 +1,25 @@
 -- No two labels of a source in which no fault of names stands have one path. The last name of a label's path is that of an
 -- instance, of a group or of a connection of one composition, and these differ in name.
-use Rattle.std.proofs.Common.{◌≡◌, ◌∙◌, ◌++◌, ℕ, zero, suc, Bool, true, false, cond, List, [], ◌∷◌, map, Option, Some, None, refl, sym, ap, subst, inl, inr, true≢false, unwrap_or}
+use Rattle.std.proofs.Common.{◌≡◌, ◌∙◌, ◌++◌, ℕ, Bool, true, false, cond, List, [], ◌∷◌, map, Option, Some, None, refl, sym, ap, subst, inl, inr, true≢false, unwrap_or}
 use Rattle.adl_meaning.specs.Prelude.{AreNamesSound, Composition, Connection, Held, Hierarchy, Id, Instance, Line, Name, Part, Path, Placed, Source, Strung, a_group, an_instance, as_connection, as_held, at, body}
 use Rattle.adl_meaning.specs.declared.flat.Domain.{Domain}
 use Rattle.adl_meaning.specs.declared.flat.FlatConnection.{FlatConnection}
 use Rattle.adl_meaning.specs.declared.flat.Leaf.{Leaf}
 use Rattle.adl_meaning.specs.Prelude.{bytes_eq, connections, domain_number, domain_of, domains, filter_map, find, flat_connection, flat_domain, flat_map, flat_of, group_above, held_by, held_in, hierarchy_of, instances_by, is_hardware, kind_named}
-use Rattle.adl_meaning.specs.Prelude.{leaf_number, leaf_of, leaves, member_of, name_of, option_and_then, part_named, part_of, parts_by, parts_in, slice_get, top_number}
+use Rattle.adl_meaning.specs.Prelude.{leaf_number, leaf_of, leaves, member_of, name_of, option_and_then, part_named, part_of, parts_by, parts_in, place_by, same_path, slice_get, top_number}
 use Rattle.std.proofs.lemmas.Option.{option_and_then_some}
 use Rattle.cam_base.proofs.Lists.{snoc_same}
 use Rattle.adl_ast.specs.declared.composition.Line.TheVariants as lines
-use Rattle.adl_hierarchy.specs.Once.{IsOnce}
 use Rattle.adl_hierarchy.specs.PartAt.{part_at}
 use Rattle.adl_hierarchy.proofs.Bodies.{part_of_body, parts_of}
 use Rattle.adl_hierarchy.proofs.Connections.{connections_once, connections_stand}
-use Rattle.adl_hierarchy.proofs.DomainNames.{domain_number_is, domains_are, leaf_number_is}
+use Rattle.adl_hierarchy.proofs.DomainNames.{domain_number_is, domains_are, leaf_number_is, same_path-Decides}
 use Rattle.adl_hierarchy.proofs.Grouping.{above_outermost}
 use Rattle.adl_hierarchy.proofs.Leading.{own_connection}
 use Rattle.adl_hierarchy.proofs.Leaves.{leaves_stand}
 use Rattle.adl_hierarchy.proofs.PartNames.{held_name, held_once, no_duplicates}
 use Rattle.adl_hierarchy.proofs.PartsAt.{last_of, named_in}
+use Rattle.adl_hierarchy.proofs.Places.{place_is}
 use Rattle.adl_hierarchy.proofs.Repeats.{find_once}
 use Rattle.adl_hierarchy.proofs.Lists.{in_get}
 use Rattle.cam_base.proofs.NumberedLists.{from_filter_map, from_flat_map, get_map, in_flat_map, in_map, map_some, from_get_map}
@@ -38,14 +38,6 @@ not_last x y (z ∷ xs) e = cc
 
 some_is : {X : Type 0} (x y : X) → ◌≡◌ {A = Option X} (Some x) (Some y) → x ≡ y
 some_is x y e = cc
-
--- what stands once stands at one place
-once_place : {X : Type 0} (xs : List X) (i j : ℕ) (x : X) → IsOnce xs → slice_get xs i ≡ Some x → slice_get xs j ≡ Some x → i ≡ j
-once_place [] i j x a e f = absurd cc
-once_place (y ∷ ys) zero zero x a e f = refl
-once_place (y ∷ ys) zero (suc j) x a e f = let same : x ≡ y = cc in absurd (a.0 (subst (λ z. IsIn z ys) same (in_get ys j x f)))
-once_place (y ∷ ys) (suc i) zero x a e f = let same : x ≡ y = cc in absurd (a.0 (subst (λ z. IsIn z ys) same (in_get ys i x e)))
-once_place (y ∷ ys) (suc i) (suc j) x a e f = ap suc (once_place ys i j x a.1 e f)
 
 -- ---- what a composition holds
 
@@ -309,7 +301,10 @@ module _ (s : Source) (sound : AreNamesSound s) where
       let x = connection_path_of j p h in
       let y = connection_path_of k p g in
       let F : Strung → Path = λ z. z.path ++ z.wire.1.id.name ∷ [] in
-      ap OfConnection (once_place (map F (connections c)) j k p (connections_once s sound) (get_map F (connections c) j x.0 x.1 ∙ ap (λ z. Some z) x.2) (get_map F (connections c) k y.0 y.1 ∙ ap (λ z. Some z) y.2))
+      let once = connections_once s sound in
+      ap OfConnection (sym (place_is same_path same_path-Decides F (connections c) j x.0 once x.1)
+      ∙ ap (λ (q : Path). place_by (λ (z : Strung). same_path q (F z)) (connections c)) (x.2 ∙ sym y.2)
+      ∙ place_is same_path same_path-Decides F (connections c) k y.0 once y.1)
   paths_apart (OfDomain d) (OfConnection k) p h g = absurd (no_domain_connection d k p h g)
   paths_apart (OfConnection k) (OfDomain d) p h g = absurd (no_domain_connection d k p g h)
   paths_apart (OfDomain d) (OfLeaf l) p h g = absurd (no_domain_device d l p h g)

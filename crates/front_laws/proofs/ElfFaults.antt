@@ -1,6 +1,6 @@
 -- The first fault of an ELF file.
 use Rattle.std.proofs.Common.{◌≡◌, ◌≢◌, ◌<◌, ◌≤◌, ◌+◌, ◌*◌, ℕ, zero, suc, Bool, true, false, ◌==◌, ◌&&◌, not, nat_lt, nat_eq, List, [], ◌∷◌, ◌++◌, length, Option, Some, None, Result, Err, refl, sym, ◌∙◌, ap, subst, arith, cond, true≢false, append-nil, append_assoc, length-append}
-use Rattle.std.proofs.lemmas.Bool.{and_from, and_parts, eq-eqb, eqb-true, le-ltb, lt-ltb, ltb-false, ltb-true, ne_eqb, not-false, not_from_false}
+use Rattle.std.proofs.lemmas.Bool.{and_from, and_parts, eq-eqb, eqb-false, eqb-true, le-ltb, lt-ltb, ltb-false, ltb-true, ne_eqb, not-false, not-true, not_from_false}
 use Rattle.std.specs.List.{slice_get, slice_index, starts_with}
 use Rattle.std.specs.Option.{ok_or, option_or}
 use Rattle.sect_table.specs.Classes.{class_of, fields_end, header_length, length_at}
@@ -118,14 +118,8 @@ all_sound bytes c e =
 
 -- ---- a file of a class
 
-not_equal : (n m : ℕ) → not (n == m) ≡ true → n ≢ m
-not_equal n m t e = let k : (n == m) ≡ true = eq-eqb n m e in true≢false (sym t ∙ ap not k)
-
 is_equal : (n m : ℕ) → not (n == m) ≡ false → n ≡ m
 is_equal n m t = eqb-true n m (not-false (n == m) t)
-
-is_unlike : (n m : ℕ) → n ≢ m → not (n == m) ≡ true
-is_unlike n m w = not_from_false (n == m) (ne_eqb n m w)
 
 second_false : (x y : Bool) → x ≡ true → (x && y) ≡ false → y ≡ false
 second_false true y p q = q
@@ -157,8 +151,8 @@ has_table bytes c kind a b d =
     record {
       kind = kind;
       fields = ltb-false (length bytes) (fields_end c) a;
-      size = λ n. is_equal h.length (header_length c) (second_false (not (h.count == 0)) (not (h.length == header_length c)) (is_unlike h.count 0 n) b);
-      whole = λ n. ltb-false (length bytes) (h.table + h.count * header_length c) (second_false (not (h.count == 0)) (nat_lt (length bytes) (h.table + h.count * header_length c)) (is_unlike h.count 0 n) d);
+      size = λ n. is_equal h.length (header_length c) (second_false (not (h.count == 0)) (not (h.length == header_length c)) (not_from_false _ (ne_eqb h.count 0 n)) b);
+      whole = λ n. ltb-false (length bytes) (h.table + h.count * header_length c) (second_false (not (h.count == 0)) (nat_lt (length bytes) (h.table + h.count * header_length c)) (not_from_false _ (ne_eqb h.count 0 n)) d);
     }
 
 from_class : (bytes : List ℕ) (c : Class) (f : ElfFault) → IsOfClass bytes c → fault_within bytes c ≡ Some f → IsElfFault bytes f
@@ -173,13 +167,13 @@ from_class bytes c f kind e =
         let h = file_header c bytes in
         let parts = and_parts (not (h.count == 0)) (not (h.length == header_length c)) q in
         let same : fault code.Size (length_at c) (length_at c + 2) ≡ f = cc in
-        another_length c kind (ltb-false (length bytes) (fields_end c) p) (not_equal h.count 0 parts.0) (not_equal h.length (header_length c) parts.1) (sym same)
+        another_length c kind (ltb-false (length bytes) (fields_end c) p) (eqb-false h.count 0 (not-true _ parts.0)) (eqb-false h.length (header_length c) (not-true _ parts.1)) (sym same)
     by_fields false false true p q r e =
         let h = file_header c bytes in
         let parts = and_parts (not (h.count == 0)) (nat_lt (length bytes) (h.table + h.count * header_length c)) r in
         let same : short (length bytes) ≡ f = cc in
         let equal : h.length ≡ header_length c = is_equal h.length (header_length c) (second_false (not (h.count == 0)) (not (h.length == header_length c)) parts.0 q) in
-        no_table c kind (ltb-false (length bytes) (fields_end c) p) (not_equal h.count 0 parts.0) equal (ltb-true (length bytes) (h.table + h.count * header_length c) parts.1) (sym same)
+        no_table c kind (ltb-false (length bytes) (fields_end c) p) (eqb-false h.count 0 (not-true _ parts.0)) equal (ltb-true (length bytes) (h.table + h.count * header_length c) parts.1) (sym same)
     by_fields false false false p q r e = from_behind bytes c f (has_table bytes c kind p q r) e
 
 -- ---- a file
@@ -298,8 +292,8 @@ with_table : (bytes : List ℕ) (c : Class) → HasTable bytes c → first_fault
 with_table bytes c t =
     let h = file_header c bytes in
     let a : nat_lt (length bytes) (fields_end c) ≡ false = le-ltb (length bytes) (fields_end c) t.fields in
-    let b : is_of_another_length c h ≡ false = none_of_both (not (h.count == 0)) (not (h.length == header_length c)) (λ n. ap not (eq-eqb h.length (header_length c) (t.size (not_equal h.count 0 n)))) in
-    let d : is_past (length bytes) c h ≡ false = none_of_both (not (h.count == 0)) (nat_lt (length bytes) (h.table + h.count * header_length c)) (λ n. le-ltb (length bytes) (h.table + h.count * header_length c) (t.whole (not_equal h.count 0 n))) in
+    let b : is_of_another_length c h ≡ false = none_of_both (not (h.count == 0)) (not (h.length == header_length c)) (λ n. ap not (eq-eqb h.length (header_length c) (t.size (eqb-false h.count 0 (not-true _ n))))) in
+    let d : is_past (length bytes) c h ≡ false = none_of_both (not (h.count == 0)) (nat_lt (length bytes) (h.table + h.count * header_length c)) (λ n. le-ltb (length bytes) (h.table + h.count * header_length c) (t.whole (eqb-false h.count 0 (not-true _ n)))) in
     of_class bytes c t.kind ∙ ap (λ x. class_told bytes c x (is_of_another_length c h) (is_past (length bytes) c h)) a
     ∙ ap (λ y. class_told bytes c false y (is_past (length bytes) c h)) b ∙ ap (λ z. class_told bytes c false false z) d
 
@@ -318,15 +312,15 @@ in_elf_fault bytes f (no_fields c k l e) =
     of_class bytes c k ∙ ap (λ x. class_told bytes c x (is_of_another_length c h) (is_past (length bytes) c h)) (lt-ltb (length bytes) (fields_end c) l) ∙ ap Some (sym e)
 in_elf_fault bytes f (another_length c k l n w e) =
     let h = file_header c bytes in
-    let other : not (h.length == header_length c) ≡ true = is_unlike h.length (header_length c) w in
+    let other : not (h.length == header_length c) ≡ true = not_from_false _ (ne_eqb h.length (header_length c) w) in
     of_class bytes c k ∙ ap (λ x. class_told bytes c x (is_of_another_length c h) (is_past (length bytes) c h)) (le-ltb (length bytes) (fields_end c) l)
-    ∙ ap (λ y. class_told bytes c false y (is_past (length bytes) c h)) (and_from (not (h.count == 0)) (not (h.length == header_length c)) (is_unlike h.count 0 n) other) ∙ ap Some (sym e)
+    ∙ ap (λ y. class_told bytes c false y (is_past (length bytes) c h)) (and_from (not (h.count == 0)) (not (h.length == header_length c)) (not_from_false _ (ne_eqb h.count 0 n)) other) ∙ ap Some (sym e)
 in_elf_fault bytes f (no_table c k l n s p e) =
     let h = file_header c bytes in
     let b : is_of_another_length c h ≡ false = none_of_both (not (h.count == 0)) (not (h.length == header_length c)) (λ t. ap not (eq-eqb h.length (header_length c) s)) in
     of_class bytes c k ∙ ap (λ x. class_told bytes c x (is_of_another_length c h) (is_past (length bytes) c h)) (le-ltb (length bytes) (fields_end c) l)
     ∙ ap (λ y. class_told bytes c false y (is_past (length bytes) c h)) b
-    ∙ ap (λ z. class_told bytes c false false z) (and_from (not (h.count == 0)) (nat_lt (length bytes) (h.table + h.count * header_length c)) (is_unlike h.count 0 n) (lt-ltb (length bytes) (h.table + h.count * header_length c) p))
+    ∙ ap (λ z. class_told bytes c false false z) (and_from (not (h.count == 0)) (nat_lt (length bytes) (h.table + h.count * header_length c)) (not_from_false _ (ne_eqb h.count 0 n)) (lt-ltb (length bytes) (h.table + h.count * header_length c) p))
     ∙ ap Some (sym e)
 in_elf_fault bytes f (in_header c k t low sound wrong) =
     with_table bytes c t ∙ ap (λ o. option_or o (limit_fault (headers c bytes))) (in_headers bytes c k f low sound wrong)

@@ -1,9 +1,10 @@
-use Rattle.std.proofs.Common.{◌∙◌, Some, ap, sym, subst, refl, arith, take, take_all}
+use Rattle.std.proofs.Common.{◌∙◌, ◌∷◌, [], Some, ap, sym, subst, refl, arith, take, take_all}
 use Rattle.std.proofs.lemmas.List.{take_more}
 use Rattle.std.proofs.lemmas.Option.{slice_get-get_or}
+use Rattle.cap_audit.proofs.Quiet.{run_append}
 use Rattle.cap_machine.specs.Runs.{Run}
 use Rattle.cap_model.specs.State.{boot}
-use Rattle.text_commands.proofs.Running.{refused_is, run_more}
+use Rattle.text_commands.proofs.Running.{refused_is}
 use Rattle.text_commands.proofs.replay.replay.Goals as goal
 
 pub loop-place-init : goal.loop-place-init
@@ -28,7 +29,8 @@ returns-in-Err-Illegal c = (
 pub loop-place-preserved : goal.loop-place-preserved
 loop-place-preserved c = record {
   run = subst (λ zs. Run c.args.spec.now (boot c.args.spec.now) zs c.apply.new.self.state) (sym (take_more c.args.steps.now c.loop-place.place _ c.loop-place-test.true))
-      (run_more c.args.spec.now (take c.loop-place.place c.args.steps.now) (boot c.args.spec.now) c.loop-place.state.state c.apply.new.self.state _ c.loop-place.invariant.run c.in-Ok.ensures.ok);
+      (run_append c.args.spec.now (take c.loop-place.place c.args.steps.now) (_ ∷ []) (boot c.args.spec.now) c.loop-place.state.state c.apply.new.self.state c.loop-place.invariant.run
+      (c.apply.new.self.state, c.in-Ok.ensures.ok, refl));
   applied = let same = c.loop-place.invariant.applied in let more = c.in-Ok.ensures.counted in omega arith;
   fits = c.in-Ok.ensures.fits c.loop-place.invariant.fits;
 }
