@@ -10,7 +10,7 @@ use Rattle.source_commands.specs.Listed.{IsListed}
 use Rattle.text_commands.specs.Commands.{IsCertified, IsChecked, IsRun, IsTabled}
 use Rattle.text_commands.specs.declared.fault.InputError.{InputError}
 use Rattle.text_commands.specs.declared.outcome.Outcome.{Outcome}
-use Rattle.camkes_tool.specs.Answers.{Fits, FitsAsked, FitsExplained, FitsGenerated, FitsListed, FitsRoot, FitsTexts, IsUsage, MayChoose, is_chosen, leaves_choice}
+use Rattle.camkes_tool.specs.Answers.{Fits, FitsAsked, FitsExplained, FitsGenerated, FitsListed, FitsCompiled, FitsTexts, IsUsage, MayChoose, is_chosen, leaves_choice}
 use Rattle.camkes_tool.specs.declared.answer.Answer.{Answer}
 use Rattle.camkes_tool.specs.declared.answer.Answer.TheVariants.{Compiled, Listed, Explained, Told, Generated, Faulted, Refused, Usage, ReadFault, NoMemory}
 
@@ -58,8 +58,8 @@ module _ (m : Contents) (old new : List ℕ → ℕ) where
     of_usage : IsUsage a → is_chosen a ≡ false
     of_usage x = unchosen a (λ o e. let y : IsUsage (Told o) = subst (λ z. IsUsage z) e x in absurd y)
 
-    of_root : (root base : List ℕ) → FitsRoot root base m old new a → is_chosen a ≡ false
-    of_root root base x = unchosen a (λ o e. let y : FitsRoot root base m old new (Told o) = subst (λ z. FitsRoot root base m old new z) e x in absurd y)
+    of_root : (root base : List ℕ) → FitsCompiled root base m old new a → is_chosen a ≡ false
+    of_root root base x = unchosen a (λ o e. let y : FitsCompiled root base m old new (Told o) = subst (λ z. FitsCompiled root base m old new z) e x in absurd y)
 
     of_listed : (root : List ℕ) → FitsListed (IsListed root m old new) a → is_chosen a ≡ false
     of_listed root x = unchosen a (λ o e. let y : FitsListed (IsListed root m old new) (Told o) = subst (λ z. FitsListed (IsListed root m old new) z) e x in absurd y)

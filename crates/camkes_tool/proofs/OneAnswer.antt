@@ -34,7 +34,7 @@ use Rattle.text_commands.specs.declared.fault.InputError.{InputError}
 use Rattle.text_commands.specs.declared.fault.InputError.TheVariants as input
 use Rattle.text_commands.specs.declared.outcome.Outcome.{Outcome}
 use Rattle.text_commands.specs.declared.outcome.Outcome.TheVariants.{Audited, Certified, Checked, Planned, Ran, Tabled}
-use Rattle.camkes_tool.specs.Answers.{AreOne, Fits, FitsAsked, FitsExplained, FitsGenerated, FitsListed, FitsRoot, FitsTexts, Tells, is_chosen, leaves_choice, script, status_of, yields}
+use Rattle.camkes_tool.specs.Answers.{AreOne, Fits, FitsAsked, FitsExplained, FitsGenerated, FitsListed, FitsCompiled, FitsTexts, Tells, is_chosen, leaves_choice, script, status_of, yields}
 use Rattle.camkes_tool.specs.declared.answer.Answer.{Answer}
 use Rattle.camkes_tool.specs.declared.answer.Answer.TheVariants.{Compiled, Listed, Explained, Told, Generated, Faulted, Refused, Usage, ReadFault, NoMemory}
 
@@ -52,17 +52,17 @@ module _ (m : Contents) (root base : List ℕ) (old new later last : List ℕ �
       ∙ ap (λ n. Begin 2 (string_bytes b.capdl) ∷ Write 2 (canonical c.spec) ∷ Begin 3 (string_bytes b.policy) ∷ Write 3 (policy_text c.policy) ∷ Begin 4 n ∷ Write 4 (cert_text c.cert) ∷ Begin 5 (string_bytes a.map) ∷ Write 5 (build_map c) ∷ Write 0 (build_summary c) ∷ []) (x.certificate ∙ sym y.certificate)
       ∙ ap (λ n. Begin 2 (string_bytes b.capdl) ∷ Write 2 (canonical c.spec) ∷ Begin 3 (string_bytes b.policy) ∷ Write 3 (policy_text c.policy) ∷ Begin 4 (string_bytes b.certificate) ∷ Write 4 (cert_text c.cert) ∷ Begin 5 n ∷ Write 5 (build_map c) ∷ Write 0 (build_summary c) ∷ []) (x.map ∙ sym y.map)
 
-  compiled_same : (a b : TextNames) (c d : Build) → FitsRoot root base m old new (Compiled a c) → FitsRoot root base m later last (Compiled b d) → AreOne (Compiled a c) (Compiled b d)
+  compiled_same : (a b : TextNames) (c d : Build) → FitsCompiled root base m old new (Compiled a c) → FitsCompiled root base m later last (Compiled b d) → AreOne (Compiled a c) (Compiled b d)
   compiled_same a b c d x y =
       let same : c ≡ d = builds_same m root c d x.1 y.1 in
       record { status = refl; script = λ is. names_same a b c x.0 y.0 ∙ ap (texts_script b) same; compiled = ap (λ z. Some z) same; faulted = refl; refused = refl; found = refl }
 
-  faulted_same : (a b : List ℕ) (f g : Fault) → FitsRoot root base m old new (Faulted a f) → FitsRoot root base m later last (Faulted b g) → AreOne (Faulted a f) (Faulted b g)
+  faulted_same : (a b : List ℕ) (f g : Fault) → FitsCompiled root base m old new (Faulted a f) → FitsCompiled root base m later last (Faulted b g) → AreOne (Faulted a f) (Faulted b g)
   faulted_same a b f g x y =
       let same = one_first m root f g a b x y in
       equal_answers (Faulted a f) (Faulted b g) (ap (λ z. Faulted a z) same.0 ∙ ap (λ z. Faulted z g) same.1)
 
-  one_of_root : (a b : Answer) → yields a ≡ false → yields b ≡ false → FitsRoot root base m old new a → FitsRoot root base m later last b → AreOne a b
+  one_of_root : (a b : Answer) → yields a ≡ false → yields b ≡ false → FitsCompiled root base m old new a → FitsCompiled root base m later last b → AreOne a b
   one_of_root (Compiled a s) (Compiled b t) p q x y = compiled_same a b s t x y
   one_of_root (Compiled a s) (Faulted b g) p q x y = absurd (build_first m root s g b x.1 y)
   one_of_root (Faulted a f) (Compiled b t) p q x y = absurd (build_first m root t f a y.1 x)

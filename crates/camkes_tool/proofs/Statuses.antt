@@ -28,15 +28,15 @@ use Rattle.text_commands.specs.declared.fault.InputError.TheVariants as input
 use Rattle.text_commands.specs.declared.outcome.Outcome.{Outcome}
 use Rattle.camkes_tool.proofs.OneAnswer.{AreOneOf, but_choice_one, well_one}
 use Rattle.camkes_tool.proofs.ReadFaults.{audit_rose, certify_rose, check_rose, plan_rose, run_rose, table_rose}
-use Rattle.camkes_tool.specs.Answers.{Fits, FitsAsked, FitsExplained, FitsGenerated, FitsListed, FitsRoot, FitsTexts, Tells, status_of}
-use Rattle.camkes_tool.specs.Statuses.{HasFault, IsSound, IsStatus, IsStatusOf, IsStatusOfSource, IsStatusOfTexts, NoneRose}
+use Rattle.camkes_tool.specs.Answers.{Fits, FitsAsked, FitsExplained, FitsGenerated, FitsListed, FitsCompiled, FitsTexts, Tells, status_of}
+use Rattle.camkes_tool.specs.Statuses.{HasFault, HasNoFault, IsStatus, IsStatusOf, IsStatusOfSource, IsStatusOfTexts, NoneRose}
 use Rattle.camkes_tool.specs.declared.answer.Answer.{Answer}
 use Rattle.camkes_tool.specs.declared.answer.Answer.TheVariants.{Compiled, Listed, Explained, Told, Generated, Faulted, Refused, Usage, ReadFault, NoMemory}
 
-built_sound : (m : Contents) (root : List ℕ) (b : Build) → IsBuildOf root m b → IsSound m root
+built_sound : (m : Contents) (root : List ℕ) (b : Build) → IsBuildOf root m b → HasNoFault m root
 built_sound m root b is = (b.meaning.source, is.meant.loaded, is.clean)
 
-of_root : (m : Contents) (root base : List ℕ) (old new : List ℕ → ℕ) (a : Answer) (status : ℕ) → FitsRoot root base m old new a → NoneRose old new → status ≡ status_of a → IsStatusOf m root status
+of_root : (m : Contents) (root base : List ℕ) (old new : List ℕ → ℕ) (a : Answer) (status : ℕ) → FitsCompiled root base m old new a → NoneRose old new → status ≡ status_of a → IsStatusOf m root status
 of_root m root base old new (Compiled names b) status x none e = inl (e, built_sound m root b x.1)
 of_root m root base old new (Faulted file fault) status x none e = inr (inl (e, (fault, file, x)))
 of_root m root base old new (Listed o) status x none e = absurd x
@@ -138,7 +138,7 @@ exact_status m words old new answer status sink left before now fits tells none 
   | inr t ↦ absurd (kept t.1)
 ]
 
-pub sound_or_faulty : (m : Contents) (root : List ℕ) → IsSound m root → ¬ HasFault m root
+pub sound_or_faulty : (m : Contents) (root : List ℕ) → HasNoFault m root → ¬ HasFault m root
 sound_or_faulty m root sound fault =
     let s = sound.0 in
     none_first m root s fault.0 fault.1 sound.1 sound.2 fault.2

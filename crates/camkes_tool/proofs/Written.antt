@@ -12,7 +12,7 @@ use Rattle.cam_io.specs.Sinks.{Sink}
 use Rattle.command_words.specs.declared.command.Command.{Command}
 use Rattle.command_words.specs.declared.command.Command.TheVariants.{Check, Compile}
 use Rattle.camkes_tool.proofs.Safe.{answered_safe}
-use Rattle.camkes_tool.specs.Answers.{FitsAsked, FitsRoot, Tells, status_of}
+use Rattle.camkes_tool.specs.Answers.{FitsAsked, FitsCompiled, Tells, status_of}
 use Rattle.camkes_tool.specs.Theorem.{IsSafe, IsWritten}
 use Rattle.camkes_tool.specs.declared.answer.Answer.{Answer}
 use Rattle.camkes_tool.specs.declared.answer.Answer.TheVariants.{Compiled, Listed, Explained, Told, Generated, Faulted, Refused, Usage, ReadFault, NoMemory}
@@ -28,7 +28,7 @@ whole_status answer status old new m n tells zero = elim tells.told [
 ]
 
 module _ (told : Contents → Type 0) (some : (c : Contents) × told c) (before now : List ℕ → ℕ) (root base : List ℕ) (status : ℕ) (old new : Sink) (m n : ℕ) (zero : status ≡ 0) where
-  root_written : (answer : Answer) → InAll told (λ c. FitsRoot root base c before now answer) → Tells answer status old new m n → IsWritten told root base old new
+  root_written : (answer : Answer) → InAll told (λ c. FitsCompiled root base c before now answer) → Tells answer status old new m n → IsWritten told root base old new
   root_written (Compiled names b) fits tells = elim tells.told [
     | inl t ↦ record {
       build = b;

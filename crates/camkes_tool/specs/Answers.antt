@@ -1,5 +1,5 @@
 -- When each answer comes, and what it does to the outputs.
-use Rattle.std.specs.Prelude.{◌≡◌, ◌≤◌, ◌⊎◌, ℕ, Bool, true, false, if◌then◌else◌, List, [], ◌∷◌, Option, None, Some, Result, Ok, Err}
+use Rattle.std.specs.Prelude.{◌≡◌, ◌≤◌, ◌⊎◌, ℕ, Bool, true, false, if◌then◌else◌, List, [], ◌∷◌, map, Option, None, Some, Result, Ok, Err, String, string_bytes}
 use Rattle.cam_base.specs.declared.place.Fault.{Fault}
 use Rattle.cam_io.specs.Causes.{Rose}
 use Rattle.cam_io.specs.Contents.{Contents}
@@ -36,17 +36,17 @@ use Rattle.camkes_tool.specs.declared.answer.Answer.{Answer}
 use Rattle.camkes_tool.specs.declared.answer.Answer.TheVariants.{Compiled, Listed, Explained, Told, Generated, Faulted, Refused, Usage, ReadFault, NoMemory}
 
 -- The answer is right for this root and base, these files, and these counts of read faults before and now.
-abbrev pub FitsRoot : List ℕ → List ℕ → Contents → (List ℕ → ℕ) → (List ℕ → ℕ) → Answer → Type 0
-FitsRoot root base contents before now (Compiled names b) = AreNamedBy base names × IsBuildOf root contents b
-FitsRoot root base contents before now (Faulted file fault) = IsFirstFault root contents fault file
-FitsRoot root base contents before now (Listed listing) = ⊥
-FitsRoot root base contents before now (Explained answer) = ⊥
-FitsRoot root base contents before now (Told outcome) = ⊥
-FitsRoot root base contents before now (Generated summary) = ⊥
-FitsRoot root base contents before now (Refused file fault) = ⊥
-FitsRoot root base contents before now Usage = ⊥
-FitsRoot root base contents before now (ReadFault file) = IsUnread root contents file × Rose (before file) (now file)
-FitsRoot root base contents before now NoMemory = Unit {0}
+abbrev pub FitsCompiled : List ℕ → List ℕ → Contents → (List ℕ → ℕ) → (List ℕ → ℕ) → Answer → Type 0
+FitsCompiled root base contents before now (Compiled names b) = AreNamedBy base names × IsBuildOf root contents b
+FitsCompiled root base contents before now (Faulted file fault) = IsFirstFault root contents fault file
+FitsCompiled root base contents before now (Listed listing) = ⊥
+FitsCompiled root base contents before now (Explained answer) = ⊥
+FitsCompiled root base contents before now (Told outcome) = ⊥
+FitsCompiled root base contents before now (Generated summary) = ⊥
+FitsCompiled root base contents before now (Refused file fault) = ⊥
+FitsCompiled root base contents before now Usage = ⊥
+FitsCompiled root base contents before now (ReadFault file) = IsUnread root contents file × Rose (before file) (now file)
+FitsCompiled root base contents before now NoMemory = Unit {0}
 
 -- words that are no command are answered by the usage line, but for want of memory
 abbrev pub IsUsage : Answer → Type 0
@@ -102,7 +102,7 @@ FitsGenerated asked answer = FitsRefused (λ e. asked (Err e)) answer
 
 abbrev pub FitsAsked : Option Command → Contents → (List ℕ → ℕ) → (List ℕ → ℕ) → Answer → Type 0
 FitsAsked None contents before now answer = IsUsage answer
-FitsAsked (Some (Compile root base)) contents before now answer = FitsRoot root base contents before now answer
+FitsAsked (Some (Compile root base)) contents before now answer = FitsCompiled root base contents before now answer
 FitsAsked (Some (Check cdl policy cert)) contents before now answer =
     FitsTexts (IsChecked contents before now cdl policy cert) answer
 FitsAsked (Some (ListOf root)) contents before now answer = FitsListed (IsListed root contents before now) answer
@@ -129,6 +129,10 @@ MayChoose (Some (Audit cdl policy)) = Unit {0}
 MayChoose (Some (Certify cdl policy)) = ⊥
 MayChoose (Some (Sections elf)) = ⊥
 MayChoose (Some (Plan cdl untypeds)) = Unit {0}
+
+-- the command that the program's words ask for, if they are one
+abbrev pub command_of : {Z : Type 0} → List (String Z) → Option Command
+command_of words = read_words (map string_bytes words)
 
 -- The answer is right for these words. In given contents there is one such answer, aside from read faults and want of memory
 -- (`answers_are_one` in src/laws.rt), so each comes exactly where it says.

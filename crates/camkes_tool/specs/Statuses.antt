@@ -39,8 +39,8 @@ abbrev pub NoneRose : (List ℕ → ℕ) → (List ℕ → ℕ) → Type 0
 NoneRose before now = (file : List ℕ) → ¬ Rose (before file) (now file)
 
 -- the root's source is loaded, and no fault stands in it or in its section tables
-abbrev pub IsSound : Contents → List ℕ → Type 0
-IsSound m root =
+abbrev pub HasNoFault : Contents → List ℕ → Type 0
+HasNoFault m root =
     (source : Source) × IsLoaded m root (Ok source) × (first_fault source (found_beside m source) ≡ None)
 
 -- a fault stands in the root's source: in the turn of one of its files, or in the source that is loaded, or in its section tables
@@ -49,7 +49,7 @@ HasFault m root = (fault : Fault) × (file : List ℕ) × IsFirstFault root m fa
 
 -- the status, and why it is this one
 abbrev pub IsStatusOf : Contents → List ℕ → ℕ → Type 0
-IsStatusOf m root status = ((status ≡ 0) × IsSound m root) ⊎ (((status ≡ 1) × HasFault m root) ⊎ (status ≡ 6))
+IsStatusOf m root status = ((status ≡ 0) × HasNoFault m root) ⊎ (((status ≡ 1) × HasFault m root) ⊎ (status ≡ 6))
 
 abbrev pub IsStatusOfTexts : (Result Outcome InputError → Type 0) → ℕ → Type 0
 IsStatusOfTexts asked status =

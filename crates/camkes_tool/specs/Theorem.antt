@@ -1,25 +1,24 @@
--- The theorem, in six parts.
+-- The theorem: what the clauses of `run` promise, by their names.
 --
--- Of a source that is compiled: where the call ends with status 0, there is a build of the root's source in all contents that
--- are told: no fault stands in it or in its section tables; its four texts are written whole under the names of the base, then
--- the summary, and nothing else. Its slots, its images with their labels, and its map are those of the source. Its policy has
--- just what the connectors of the source assign, and its certificate what locks allow besides; at boot its labels have over
--- others what they are assigned directly, and its threads reach between labels, over every interleaving of steps, exactly what
--- is assigned. The capDL, the policy and the certificate that are written are read back as the build's, and as nothing else; and
--- so threads reach just this in whatever is read of them.
+-- `compiled`, of a source: where the call ends with status 0, there is a build of the root's source in all contents that are
+-- told: no fault stands in it or in its section tables; its four texts are written whole under the names of the base, then the
+-- summary, and nothing else. Its slots, its images with their labels, and its map are those of the source. Its policy has just
+-- what the connectors of the source assign, and its certificate what locks allow besides; at boot its labels have over others
+-- what they are assigned directly, and its threads reach between labels, over every interleaving of steps, exactly what is
+-- assigned. The capDL, the policy and the certificate that are written are read back as the build's, and as nothing else; and so
+-- threads reach just this in whatever is read of them.
 --
--- Of a source that is listed: with status 0 a line is written for each triple that it assigns, and nothing else. Of one that is
--- explained: a reason is written where the words name such a triple, and else that it isn't assigned.
+-- `listed`, of a source: with status 0 a line is written for each triple that it assigns, and nothing else. `explained`: a reason
+-- is written where the words name such a triple, and else that it isn't assigned.
 --
--- Of any texts, whoever wrote them: where `check` ends with status 0, every edge that any run of the capDL's system reaches
--- between different labels is in the policy.
+-- `checked`, of any texts, whoever wrote them: where `check` ends with status 0, every edge that any run of the capDL's system
+-- reaches between different labels is in the policy. `accepted`, of files that hold the texts that are written of a build:
+-- `check` says yes.
 --
--- Of the texts that are written of a build: of files that hold them `check` says yes.
---
--- Of what other commands print with status 0: of `certify` the least certificate, which is read back, and to which `check` says
--- yes where it does to any; of `sections` a table, which is read back as the file's image; of `audit` just the edges that runs
--- reach, and steps for which `replay` shows them. Of what is written of a build `certify` prints the certificate that is written,
--- and `audit` the edges that `list` prints.
+-- Of what other commands print with status 0: `certified`, the least certificate, which is read back, and to which `check` says
+-- yes where it does to any; `tabled`, a table, which is read back as the file's image; `audited`, just the edges that runs reach,
+-- and steps for which `replay` shows them. Of what is written of a build `certify` prints the certificate that is written, and
+-- `audit` the edges that `list` prints.
 use Rattle.std.specs.FinMap.{get}
 use Rattle.std.specs.Prelude.{◌≡◌, ◌≤◌, ◌⊎◌, ◌↔◌, ◌++◌, ℕ, if◌then◌else◌, List, codes, length, Some, Result, Ok, Err}
 use Rattle.arch_compile.specs.Built.{IsBuildOf}

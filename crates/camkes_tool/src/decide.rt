@@ -1,9 +1,9 @@
 ghost use Rattle.arch_compile.specs.Compiled.{AlikeInBuild};
 ghost use Rattle.cam_io.specs.Reading.{InAll, KeepsFiles, LearnsOnly};
-ghost use Rattle.camkes_tool.specs.Answers.{Fits, FitsAsked, FitsRoot};
+ghost use Rattle.camkes_tool.specs.Answers.{Fits, FitsAsked, FitsCompiled, command_of};
 ghost use Rattle.camkes_tool.specs.Deciding.{IsWrittenAs};
 ghost use Rattle.camkes_tool.specs.Learning.{AlikeInCommand};
-ghost use Rattle.command_words.specs.Words.{AreUtf8, read_words};
+ghost use Rattle.command_words.specs.Words.{AreUtf8};
 ghost use Rattle.std.specs.Prelude.{Some, map, string_bytes};
 
 use crate::Answer;
@@ -20,7 +20,7 @@ use std::alloc::Global;
 /// Reads the words and the files, and says nothing yet.
 pub fn decide<F: Files>(alloc: Global, words: &[String], files: &mut F) -> Answer
     ensures kept { KeepsFiles F.told F.faults files.old files.new }
-    ensures learned { LearnsOnly F.told (AlikeInCommand (read_words (map string_bytes words.now))) files.old files.new }
+    ensures learned { LearnsOnly F.told (AlikeInCommand (command_of words.now)) files.old files.new }
     ensures fits { InAll (F.told files.new) (λ m. Fits (map string_bytes words.now)
         m (F.faults files.old) (F.faults files.new) result) }
 {
@@ -83,7 +83,7 @@ fn follow<F: Files>(alloc: Global, command: &Command, files: &mut F) -> Answer
 fn answer<F: Files>(alloc: Global, root: &str, base: &str, files: &mut F) -> Answer
     ensures kept { KeepsFiles F.told F.faults files.old files.new }
     ensures learned { LearnsOnly F.told (AlikeInBuild root.now) files.old files.new }
-    ensures fits { InAll (F.told files.new) (λ m. FitsRoot root.now base.now
+    ensures fits { InAll (F.told files.new) (λ m. FitsCompiled root.now base.now
         m (F.faults files.old) (F.faults files.new) result) }
 {
     match compile(alloc, files, root) {

@@ -9,7 +9,7 @@ ghost use Rattle.cam_io.specs.Scripts.{CutShort, after};
 ghost use Rattle.cam_io.specs.Sinks.{IsCut, Sink, appended};
 ghost use Rattle.camkes_tool.specs.Answers.{AreOne, Fits, MayChoose, Tells, is_chosen, said_as, yields};
 ghost use Rattle.camkes_tool.specs.Channels.{IsAsBefore};
-ghost use Rattle.camkes_tool.specs.Statuses.{HasFault, IsSound, IsStatus, NoneRose};
+ghost use Rattle.camkes_tool.specs.Statuses.{HasFault, HasNoFault, IsStatus, NoneRose};
 ghost use Rattle.camkes_tool.specs.declared.answer.Answer.{Answer};
 ghost use Rattle.camkes_tool.specs.declared.answer.Answer.TheVariants.{Compiled};
 ghost use Rattle.command_words.specs.Words.{read_words};
@@ -44,7 +44,7 @@ pub fn statuses_are_exact()
     ensures one { (m : Contents) (asked : Option Command) (old new later last : List ℕ → ℕ) (first second : ℕ)
         → IsStatus m old new asked first → IsStatus m later last asked second
         → (first ≡ second) ⊎ ((first ≡ 6) ⊎ (second ≡ 6)) }
-    ensures apart { (m : Contents) (root : List ℕ) → IsSound m root → ¬ HasFault m root }
+    ensures apart { (m : Contents) (root : List ℕ) → HasNoFault m root → ¬ HasFault m root }
     ensures usage { (m : Contents) (words : List (List ℕ)) (old new : List ℕ → ℕ) (answer : Answer)
         (sink left : Sink) (before now : ℕ)
         → Fits words m old new answer → Tells answer 2 sink left before now → read_words words ≡ None }

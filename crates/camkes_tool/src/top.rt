@@ -2,13 +2,12 @@ ghost use Rattle.arch_compile.specs.BuildTexts.{AreUnbegun};
 ghost use Rattle.cam_io.specs.Causes.{Rose};
 ghost use Rattle.cam_io.specs.Contents.{Contents};
 ghost use Rattle.cam_io.specs.Reading.{InAll, KeepsFiles, LearnsOnly};
-ghost use Rattle.camkes_tool.specs.Answers.{Fits, Tells, status_of};
+ghost use Rattle.camkes_tool.specs.Answers.{Fits, Tells, command_of, status_of};
 ghost use Rattle.camkes_tool.specs.Learning.{AlikeInCommand};
 ghost use Rattle.camkes_tool.specs.Statuses.{NoneRose};
 ghost use Rattle.camkes_tool.specs.Theorem.{HoldTexts, IsAnswerWritten, IsListWritten, IsSafe, IsWritten};
 ghost use Rattle.camkes_tool.specs.Theorem.{IsCertificateWritten, IsReportWritten, IsTableWritten};
 ghost use Rattle.camkes_tool.specs.declared.answer.Answer.{Answer};
-ghost use Rattle.command_words.specs.Words.{read_words};
 ghost use Rattle.command_words.specs.declared.command.Command.TheVariants.{Audit, Certify, Check, Compile, Explain, Sections};
 ghost use Rattle.command_words.specs.declared.command.Command.TheVariants.{List as ListOf};
 ghost use Rattle.std.specs.Prelude.{◌≡◌, ◌⊎◌, ℕ, List, Some, if◌then◌else◌, map, string_bytes};
@@ -55,27 +54,27 @@ fn status_of(answer: &Answer) -> u8
 pub fn run<F: Files, O: Outputs>(alloc: Global, words: &[String], files: &mut F, out: &mut O) -> u8
     requires { AreUnbegun (O.sink out.old) }
     ensures kept { KeepsFiles F.told F.faults files.old files.new }
-    ensures learned { LearnsOnly F.told (AlikeInCommand (read_words (map string_bytes words.now))) files.old files.new }
+    ensures learned { LearnsOnly F.told (AlikeInCommand (command_of words.now)) files.old files.new }
     ensures told { (answer : Answer)
         × InAll (F.told files.new) (λ m. Fits (map string_bytes words.now) m (F.faults files.old) (F.faults files.new) answer)
         × Tells answer result (O.sink out.old) (O.sink out.new) (O.faults out.old) (O.faults out.new) }
-    ensures compiled { (root base : List ℕ) → read_words (map string_bytes words.now) ≡ Some (Compile root base) → result ≡ 0
+    ensures compiled { (root base : List ℕ) → command_of words.now ≡ Some (Compile root base) → result ≡ 0
         → IsWritten (F.told files.new) root base (O.sink out.old) (O.sink out.new) }
-    ensures listed { (root : List ℕ) → read_words (map string_bytes words.now) ≡ Some (ListOf root) → result ≡ 0
+    ensures listed { (root : List ℕ) → command_of words.now ≡ Some (ListOf root) → result ≡ 0
         → IsListWritten (F.told files.new) root (O.sink out.old) (O.sink out.new) }
-    ensures explained { (root from authority to : List ℕ)
-        → read_words (map string_bytes words.now) ≡ Some (Explain root from authority to) → (result ≡ 0) ⊎ (result ≡ 3)
+    ensures explained { (root from authority to : List ℕ) → command_of words.now ≡ Some (Explain root from authority to)
+        → (result ≡ 0) ⊎ (result ≡ 3)
         → IsAnswerWritten (F.told files.new) root from authority to result (O.sink out.old) (O.sink out.new) }
-    ensures checked { (cdl policy cert : List ℕ) → read_words (map string_bytes words.now) ≡ Some (Check cdl policy cert)
-        → result ≡ 0 → InAll (F.told files.new) (λ m. IsSafe m cdl policy) }
-    ensures accepted { (cdl policy cert : List ℕ) → read_words (map string_bytes words.now) ≡ Some (Check cdl policy cert)
+    ensures checked { (cdl policy cert : List ℕ) → command_of words.now ≡ Some (Check cdl policy cert) → result ≡ 0
+        → InAll (F.told files.new) (λ m. IsSafe m cdl policy) }
+    ensures accepted { (cdl policy cert : List ℕ) → command_of words.now ≡ Some (Check cdl policy cert)
         → (m : Contents) → F.told files.new m → HoldTexts m cdl policy cert → NoneRose (F.faults files.old) (F.faults files.new)
         → ¬ Rose (O.faults out.old) (O.faults out.new) → (result ≡ 0) ⊎ (result ≡ 6) }
-    ensures certified { (cdl policy : List ℕ) → read_words (map string_bytes words.now) ≡ Some (Certify cdl policy) → result ≡ 0
+    ensures certified { (cdl policy : List ℕ) → command_of words.now ≡ Some (Certify cdl policy) → result ≡ 0
         → IsCertificateWritten (F.told files.new) cdl policy (O.sink out.old) (O.sink out.new) }
-    ensures tabled { (elf : List ℕ) → read_words (map string_bytes words.now) ≡ Some (Sections elf) → result ≡ 0
+    ensures tabled { (elf : List ℕ) → command_of words.now ≡ Some (Sections elf) → result ≡ 0
         → IsTableWritten (F.told files.new) elf (O.sink out.old) (O.sink out.new) }
-    ensures audited { (cdl policy : List ℕ) → read_words (map string_bytes words.now) ≡ Some (Audit cdl policy) → result ≡ 0
+    ensures audited { (cdl policy : List ℕ) → command_of words.now ≡ Some (Audit cdl policy) → result ≡ 0
         → IsReportWritten (F.told files.new) cdl policy (O.sink out.old) (O.sink out.new) }
 {
     let answer = decide(alloc, words, files);

@@ -134,11 +134,13 @@ module _ (root : List ℕ) (source : Source) (flat : Flat) (all : List Found) wh
       count = sym (found_count contents (map (λ t. t.1) all_tables) all told ∙ length-map all_tables (λ t. t.1))
 
       by_result : (r : Result Images ImagesError) → IsAnswer source flat all_tables all_readings r → AreImagesRead contents root source flat r
-      by_result (Ok images) a = record {
-        clean = ap (first_table_fault root source flat) (sym told_names) ∙ sym (first_same count) ∙ a.0;
-        images = a.1 ∙ ap (λ z. record { images = z; of_leaf = map (type_number source flat) flat.leaves }) (images_same count a.0)
-            ∙ ap (images_of source flat) told_names;
-      }
+      by_result (Ok images) a =
+          let made : images ≡ images_of source flat all =
+          a.1 ∙ ap (λ z. record { images = z; of_leaf = map (type_number source flat) flat.leaves }) (images_same count a.0) in
+          record {
+            clean = ap (first_table_fault root source flat) (sym told_names) ∙ sym (first_same count) ∙ a.0;
+            images = made ∙ ap (images_of source flat) told_names;
+          }
       by_result (Err (error.Fault fault file)) a = record {
         first = ap (first_table_fault root source flat) (sym told_names) ∙ sym (first_same count) ∙ a.0;
         named = a.1 ∙ names_same fault.place.file;
