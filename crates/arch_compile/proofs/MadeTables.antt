@@ -1,5 +1,4 @@
 -- What the tables of a source without faults, and of its images, are fit for.
-use Rattle.std.proofs.Common.{ℕ, List}
 use Rattle.adl_ast.specs.declared.source.Source.{Source}
 use Rattle.arch_compile.specs.Built.{system_tables}
 use Rattle.cam_io.specs.Contents.{Contents}

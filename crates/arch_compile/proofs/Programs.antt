@@ -1,7 +1,7 @@
 -- What a leaf runs is what the section table of its component's name says.
 use Rattle.std.proofs.Common.{◌≡◌, ◌∙◌, ◌≤◌, ℕ, zero, suc, Bool, true, false, cond, List, [], ◌∷◌, length, Option, Some, None, refl, sym, ap, subst, arith}
 use Rattle.std.proofs.lemmas.List.Quantifiers.{position-Some}
-use Rattle.std.proofs.lemmas.Option.{get_or_from_slice_get}
+use Rattle.std.proofs.lemmas.Option.{get_or_from_slice_get, same_Some}
 use Rattle.std.proofs.lemmas.Slice.Eq.{bytes_eq-Decides}
 use Rattle.std.specs.FinMap.{get}
 use Rattle.std.specs.List.{cons_option, filter_map, position, slice_get, zip}
@@ -151,13 +151,10 @@ module _ (contents : Contents) (root : List ℕ) (s : Source) (images : Images) 
       let F : List ℕ → Found = λ name. found_bytes (get contents name) in
       let stands : slice_get found_all m ≡ Some (F (table_name (folder_of root) here.0)) =
       get_map F (table_names root s (flat_of s)) m (table_name (folder_of root) here.0) (get_map (table_name (folder_of root)) names m here.0 here.1) in
-      let type_is : k.0.0 ≡ here.0 = some_same k.0.0 here.0 (sym z.0 ∙ here.1) in
-      let found_is : k.0.1 ≡ F (table_name (folder_of root) here.0) = some_same k.0.1 _ (sym z.1 ∙ stands) in
+      let type_is : k.0.0 ≡ here.0 = same_Some k.0.0 here.0 (sym z.0 ∙ here.1) in
+      let found_is : k.0.1 ≡ F (table_name (folder_of root) here.0) = same_Some k.0.1 _ (sym z.1 ∙ stands) in
       let says : image_in (here.0, F (table_name (folder_of root) here.0)) ≡ Some i =
       ap (λ (n : Name). image_in (n, F (table_name (folder_of root) here.0))) (sym type_is) ∙ ap (λ (f : Found). image_in (k.0.0, f)) (sym found_is) ∙ in_parts k.0 ∙ k.2 in
       let b = from_found here.0 (get contents (table_name (folder_of root) here.0)) i says in
       let named : here.0 ≡ leaf_component_name s found.component = sym same ∙ sym (same_name s found.component name.0 name.1) in
       subst (λ z. IsProgramOf contents root z i) named (record { bytes = b.0; stands = b.1; says = b.2; named = image_name here.0 b.0 i b.2 })
-    where
-      some_same : {X : Type 0} (x y : X) → Some x ≡ Some y → x ≡ y
-      some_same x y e = cc

@@ -7,7 +7,7 @@ use Rattle.adl_meaning.specs.declared.flat.FlatConnection.{FlatConnection}
 use Rattle.adl_meaning.specs.declared.flat.Leaf.{Leaf}
 use Rattle.adl_meaning.specs.Prelude.{bytes_eq, connections, domain_number, domain_of, domains, filter_map, find, flat_connection, flat_domain, flat_map, flat_of, group_above, held_by, held_in, hierarchy_of, instances_by, is_hardware, kind_named}
 use Rattle.adl_meaning.specs.Prelude.{leaf_number, leaf_of, leaves, member_of, name_of, option_and_then, part_named, part_of, parts_by, parts_in, place_by, same_path, slice_get, top_number}
-use Rattle.std.proofs.lemmas.Option.{option_and_then_some}
+use Rattle.std.proofs.lemmas.Option.{option_and_then_some, same_Some}
 use Rattle.cam_base.proofs.Lists.{snoc_same}
 use Rattle.adl_ast.specs.declared.composition.Line.TheVariants as lines
 use Rattle.adl_hierarchy.specs.PartAt.{part_at}
@@ -35,9 +35,6 @@ use Rattle.cam_base.proofs.Gathered.{place_of}
 not_last : {X : Type 0} (x y : X) (xs : List X) → ◌≡◌ {A = List X} [] (xs ++ y ∷ []) → ⊥
 not_last x y [] e = cc
 not_last x y (z ∷ xs) e = cc
-
-some_is : {X : Type 0} (x y : X) → ◌≡◌ {A = Option X} (Some x) (Some y) → x ≡ y
-some_is x y e = cc
 
 -- ---- what a composition holds
 
@@ -118,7 +115,7 @@ one_held s sound k n a b x y =
     let f = find_once held_name (held_in x.composition) (y.id, b) once there in
     let names : x.id.name ≡ y.id.name = x.named ∙ sym y.named in
     let F : Name → Option (Id × Held) = λ n. find (λ h. bytes_eq n (held_name h)) (held_in x.composition) in
-    ap (λ (z : Id × Held). z.1) (some_is (x.id, a) (y.id, b) (sym e ∙ ap F names ∙ f))
+    ap (λ (z : Id × Held). z.1) (same_Some (x.id, a) (y.id, b) (sym e ∙ ap F names ∙ f))
 
 same_held : (s : Source) → AreNamesSound s → (p : Path) (a b : Held) → Ends s p a → Ends s p b → a ≡ b
 same_held s sound p a b x y =

@@ -81,13 +81,13 @@ module _ (t : Tables) where
   abbrev Fits : What → Rights → ℕ → Type 0
   Fits w r b = fits (spec_of t) (cap (place t w) r b) ≡ true
 
-  joint_is : (k : ℕ) (c : FlatConnection) → slice_get t.flat.connections k ≡ Some c → joint t k ≡ joint_by k c.connector
+  pub joint_is : (k : ℕ) (c : FlatConnection) → slice_get t.flat.connections k ≡ Some c → joint t k ≡ joint_by k c.connector
   joint_is k c h = ap (λ x. option_map_or (λ c. joint_by k c.connector) x (NotificationOf k)) h
 
-  end_is : (k n : ℕ) (c : FlatConnection) (e : FlatEnd) → slice_get t.flat.connections k ≡ Some c → slice_get c.ends n ≡ Some e → end_of t.flat k n ≡ Some (c.connector, e)
+  pub end_is : (k n : ℕ) (c : FlatConnection) (e : FlatEnd) → slice_get t.flat.connections k ≡ Some c → slice_get c.ends n ≡ Some e → end_of t.flat k n ≡ Some (c.connector, e)
   end_is k n c e h s = ap (λ x. option_and_then (end_in n) x) h ∙ ap (λ x. option_map (λ e. (c.connector, e)) x) s
 
-  rights_are : (k n : ℕ) (c : FlatConnection) (e : FlatEnd) → slice_get t.flat.connections k ≡ Some c → slice_get c.ends n ≡ Some e → rights_at t k n ≡ end_rights c.connector e.role
+  pub rights_are : (k n : ℕ) (c : FlatConnection) (e : FlatEnd) → slice_get t.flat.connections k ≡ Some c → slice_get c.ends n ≡ Some e → rights_at t k n ≡ end_rights c.connector e.role
   rights_are k n c e h s = ap (λ x. option_map_or (λ e. end_rights e.0 e.1.role) x NONE) (end_is k n c e h s)
 
   end_fits : (k n : ℕ) → IsEnd t.flat.connections k n → Fits (joint t k) (rights_at t k n) (badge_at t k n)

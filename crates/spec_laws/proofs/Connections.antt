@@ -49,7 +49,8 @@ use Rattle.vspace_layout.specs.Threads.{thread}
 use Rattle.spec_laws.specs.Connected.{IsConnected}
 use Rattle.spec_laws.specs.Policy.{policy_tables}
 use Rattle.spec_laws.proofs.EndsHere.{in_threads, leaves_are}
-use Rattle.spec_laws.proofs.EdgeJoints.{bound, device_here, given, holder, irq_label, joint_kind_at, joint_label, joints, node_label, rights_here, slot_holds, used_in}
+use Rattle.spec_laws.proofs.CapsFit.{rights_are}
+use Rattle.spec_laws.proofs.EdgeJoints.{bound, device_here, given, holder, irq_label, joint_kind_at, joint_label, joints, node_label, slot_holds, used_in}
 use Rattle.spec_laws.proofs.Mapped.{in_threads_at, laid}
 use Rattle.spec_laws.proofs.Rows.{joint_kind, row_plain, slot_labelled}
 use Rattle.spec_laws.proofs.ThreadsHere.{threads}
@@ -291,7 +292,7 @@ module _ (t : Tables) (h : IsConnected t) where
               | inl same ↦
                   let plain : is_plain (spec_of t) (use_cap t d b.number (OfEnd k o.number)) ≡ true =
                   ap (λ x. option_plain x (rights_at t k o.number)) (joint_kind_at t k o.connection o.end.role o.here w.0)
-                  ∙ ap (λ x. plain_kind (joint_kind o.connection.connector) x) (rights_here t k o.number o.connection o.end o.here o.stands)
+                  ∙ ap (λ x. plain_kind (joint_kind o.connection.connector) x) (rights_are t k o.number o.connection o.end o.here o.stands)
                   ∙ row_plain o.connection.connector o.end.role w.0 in
                   subst (λ z. is_plain (spec_of t) (use_cap t d b.number z) ≡ true) same plain
               | inr handler ↦

@@ -1,7 +1,6 @@
 -- What CNodes hold, and what interrupts may signal.
 use Rattle.std.proofs.Common.{◌≡◌, ◌≢◌, ◌⊎◌, ◌+◌, ◌∙◌, ℕ, true, false, map, Some, None, option_map, refl, sym, ap, subst, inl, inr, arith}
 use Rattle.std.specs.List.{Contains, slice_get}
-use Rattle.std.specs.Option.{option_and_then, option_map_or}
 use Rattle.std.proofs.lemmas.Option.{slice_get-map}
 use Rattle.adl_ast.specs.declared.composition.Role.{Role}
 use Rattle.adl_ast.specs.declared.composition.Role.TheVariants.{From, To}
@@ -48,13 +47,14 @@ use Rattle.system_spec.proofs.There.{IsThere, kind_there, object_there}
 use Rattle.spec_laws.proofs.Uses.{uses_are}
 use Rattle.system_spec.specs.declared.part.What.TheVariants.{CNodeOf, EndpointOf, NotificationOf, LockOf, IrqOf}
 use Rattle.system_spec.specs.Made.{spec_of}
-use Rattle.system_spec.specs.Objects.{end_rights, joint, joint_by, object, rights_at, slots_at, use_cap}
+use Rattle.system_spec.specs.Objects.{joint, joint_by, object, rights_at, slots_at, use_cap}
 use Rattle.system_spec.specs.Parts.{place}
 use Rattle.system_spec.specs.Tables.{Tables, uses_at}
 use Rattle.spec_laws.specs.Connected.{IsConnected}
 use Rattle.spec_laws.specs.Policy.{policy_tables}
 use Rattle.spec_laws.proofs.Devices.{DeviceOf, device_found, device_label}
 use Rattle.spec_laws.proofs.Rows.{OfSlot, IsHandling, IsSignalling, device_role, given_by, joint_kind, joint_leaves, joint_no_frames, joint_object, only_handle, row_law, slot_soft}
+use Rattle.spec_laws.proofs.CapsFit.{joint_is, rights_are}
 use Rattle.spec_laws.proofs.Used.{UseOf, end_in_uses, from_domain, from_end_uses, has_slot, in_domain}
 use Rattle.spec_laws.proofs.Whose.{IsAt, boots, entry_is, label_there, labels, of_interrupt, of_node}
 
@@ -150,28 +150,20 @@ module _ (t : Tables) where
   joint_label_by k Interrupt h = label_there t (NotificationOf k) h
   joint_label_by k Direct h = label_there t (NotificationOf k) h
 
-  joint_is : (k : ℕ) (c : FlatConnection) → slice_get t.flat.connections k ≡ Some c → joint t k ≡ joint_by k c.connector
-  joint_is k c h = ap (λ z. option_map_or (λ (c : FlatConnection). joint_by k c.connector) z (NotificationOf k)) h
-
   pub joint_kind_at : (k : ℕ) (c : FlatConnection) (r : Role) → slice_get t.flat.connections k ≡ Some c → has_slot c.connector r ≡ true → kind_at spec (place t (joint t k)) ≡ Some (joint_kind c.connector)
   joint_kind_at k c r h s =
-      ap (λ z. kind_at spec (place t z)) (joint_is k c h)
+      ap (λ z. kind_at spec (place t z)) (joint_is t k c h)
       ∙ kind_there t (joint_by k c.connector) (joint_there k c r h s)
       ∙ ap (λ z. Some z) (joint_kinds k c.connector)
 
   pub joint_label : (k : ℕ) (c : FlatConnection) (r : Role) → slice_get t.flat.connections k ≡ Some c → has_slot c.connector r ≡ true → label_of (labels t) (place t (joint t k)) ≡ connection_label (policy_tables t) k
-  joint_label k c r h s = ap (λ z. label_of (labels t) (place t z)) (joint_is k c h) ∙ joint_label_by k c.connector (joint_there k c r h s)
-
-  pub rights_here : (k n : ℕ) (c : FlatConnection) (e : FlatEnd) → slice_get t.flat.connections k ≡ Some c → slice_get c.ends n ≡ Some e → rights_at t k n ≡ end_rights c.connector e.role
-  rights_here k n c e h s =
-      ap (λ x. option_map_or (λ (y : Connector × FlatEnd). end_rights y.0 y.1.role) (option_and_then (λ (z : FlatConnection). option_map (λ (e : FlatEnd). (z.connector, e)) (slice_get z.ends n)) x) NONE) h
-      ∙ ap (λ x. option_map_or (λ (y : Connector × FlatEnd). end_rights y.0 y.1.role) (option_map (λ (z : FlatEnd). (c.connector, z)) x) NONE) s
+  joint_label k c r h s = ap (λ z. label_of (labels t) (place t z)) (joint_is t k c h) ∙ joint_label_by k c.connector (joint_there k c r h s)
 
   pub end_confers : (x : EndAt t.flat) (a : Authority) → has_slot x.connection.connector x.end.role ≡ true
       → option_confers (kind_at spec (place t (joint t x.place))) (rights_at t x.place x.number) a ≡ gives x.connection.connector x.end.role (joint_object x.connection.connector) a
   end_confers x a s =
       ap (λ z. option_confers z (rights_at t x.place x.number) a) (joint_kind_at x.place x.connection x.end.role x.here s)
-      ∙ ap (λ z. kind_confers (joint_kind x.connection.connector) z a) (rights_here x.place x.number x.connection x.end x.here x.stands)
+      ∙ ap (λ z. kind_confers (joint_kind x.connection.connector) z a) (rights_are t x.place x.number x.connection x.end x.here x.stands)
       ∙ row_law x.connection.connector x.end.role a s
 
   leads_joint : (x : EndAt t.flat) (y : Connector) (label : ℕ) → label ≡ connection_label (policy_tables t) x.place → LeadsTo (policy_tables t) x (joint_object y) label

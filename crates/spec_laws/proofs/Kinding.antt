@@ -2,6 +2,7 @@
 use Rattle.std.proofs.Common.{◌≡◌, ◌∙◌, ◌+◌, ℕ, zero, suc, List, [], ◌∷◌, map, Some, refl, sym, ap, subst}
 use Rattle.std.specs.List.{slice_get}
 use Rattle.std.specs.Option.{option_map_or}
+use Rattle.std.proofs.lemmas.Option.{same_Some}
 use Rattle.adl_meaning.specs.declared.connector.Connector.{Connector}
 use Rattle.adl_meaning.specs.declared.connector.Connector.TheVariants.{Rpc, Notification as Notifies, SharedMemory, Mmio, Interrupt, Direct}
 use Rattle.adl_meaning.specs.declared.flat.Domain.{Domain}
@@ -67,9 +68,6 @@ series_kind Upper = refl
 series_kind Directory = refl
 series_kind Table = refl
 
-some_same : {X : Type 0} (x y : X) → Some x ≡ Some y → x ≡ y
-some_same x y e = cc
-
 module _ (t : Tables) where
   -- levels are the same wherever tables and frames stand
   levels_same : (first frames a b d j : ℕ) (o p : Object) → slice_get (tables_at t first frames d) j ≡ Some o → slice_get (tables_at t a b d) j ≡ Some p → level_of o ≡ level_of p
@@ -79,7 +77,7 @@ module _ (t : Tables) where
       levels_of_addresses (arch t) first (ms frames)
       ∙ ap (λ z. levels_of (shapes (arch t)) z) (addresses_same frames (pages_at t d) ∙ sym (addresses_same b (pages_at t d)))
       ∙ sym (levels_of_addresses (arch t) a (ms b)) in
-      some_same (level_of o) (level_of p) (sym (get_map level_of (tables_at t first frames d) j o e) ∙ ap (λ z. slice_get z j) same ∙ get_map level_of (tables_at t a b d) j p f)
+      same_Some (level_of o) (level_of p) (sym (get_map level_of (tables_at t first frames d) j o e) ∙ ap (λ z. slice_get z j) same ∙ get_map level_of (tables_at t a b d) j p f)
 
   pub table_kind : (d j : ℕ) (o : Object) → slice_get (tables_at t 0 0 d) j ≡ Some o → kind_of_object (object t (TableOf d j)) ≡ kind_of (level_series (level_of o))
   table_kind d j o e =

@@ -43,7 +43,6 @@ pub mod Used
 pub mod Whose
 pub mod WindowsHere
 pub mod SourceDevices
-pub mod Loaded
 pub mod SourceConnected
 pub mod Groups
 pub mod HavingImages

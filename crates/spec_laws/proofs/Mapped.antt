@@ -53,6 +53,7 @@ use Rattle.vspace_layout.specs.Regions.{region, region_start, regions, thread_re
 use Rattle.vspace_layout.proofs.Standing.{frames_stand, own_port}
 use Rattle.spec_laws.specs.Connected.{IsConnected}
 use Rattle.spec_laws.specs.Policy.{given_tables, policy_tables}
+use Rattle.spec_laws.proofs.SpaceBounds.{led_to}
 use Rattle.spec_laws.proofs.Devices.{first_found, position_found}
 use Rattle.spec_laws.proofs.Lists.{in_range}
 use Rattle.spec_laws.proofs.Rows.{device_role}
@@ -270,12 +271,6 @@ module _ (t : Tables) (h : IsConnected t) where
     end : FlatEnd
     has : registers connection ≡ Some end
     same : same_port e end ≡ true
-
-  led_to : (e : FlatEnd) (c : FlatConnection) → leads_to e c ≡ true → (f : FlatEnd) × (registers c ≡ Some f) × (same_port e f ≡ true)
-  led_to e c q = go (registers c) refl where
-    go : (o : Option FlatEnd) → registers c ≡ o → (f : FlatEnd) × (registers c ≡ Some f) × (same_port e f ≡ true)
-    go None r = absurd (let w : false ≡ true = sym (ap (λ z. option_map_or (same_port e) z false) r) ∙ q in cc)
-    go (Some f) r = (f, r, sym (ap (λ z. option_map_or (same_port e) z false) r) ∙ q)
 
   first_here : (k : ℕ) (c : FlatConnection) (e : FlatEnd) → slice_get t.flat.connections k ≡ Some c → registers c ≡ Some e → FirstTo e
   first_here k c e here has =

@@ -2,7 +2,6 @@
 use Rattle.std.proofs.Common.{◌≡◌, ◌<◌, ◌+◌, ◌^◌, ℕ, Bool, true, false, cond, List, [], ◌∷◌, length, Some, refl, sym, ◌∙◌, ap, subst, inl, inr, ◌⊎◌, arith}
 use Rattle.std.specs.List.{slice_get}
 use Rattle.std.specs.Option.{option_and_then, option_map_or}
-use Rattle.std.specs.Prelude.{option_map}
 use Rattle.adl_ast.specs.declared.component.Member.{Member}
 use Rattle.adl_ast.specs.declared.composition.Role.{Role}
 use Rattle.adl_ast.specs.declared.composition.Role.TheVariants.{From, To}
@@ -25,7 +24,7 @@ use Rattle.cspace_layout.specs.declared.plan.SlotUse.TheVariants.{OfEnd, Handler
 use Rattle.cspace_layout.specs.declared.plan.Slots.{Slots}
 use Rattle.cspace_layout.specs.Uses.{domain_uses, end_uses, joined_uses, leaf_uses, lock_uses, member_uses, plan_of}
 use Rattle.cspace_layout.specs.LeafEnds.{joins}
-use Rattle.cspace_layout.specs.Lookups.{end_in, end_of, setting_of}
+use Rattle.cspace_layout.specs.Lookups.{setting_of}
 use Rattle.cspace_layout.specs.Members.{is_lock, leaf_members}
 use Rattle.cam_base.specs.Gather.{IsIn, before, gather}
 use Rattle.cam_base.proofs.Gathered.{from_gather, gather_ones, in_append, in_gather, in_place}
@@ -34,12 +33,13 @@ use Rattle.system_spec.specs.declared.part.What.TheVariants.{CNodeOf, EndpointOf
 use Rattle.system_spec.specs.declared.series.Series.TheVariants as series
 use Rattle.system_spec.specs.Bits.{bits_for}
 use Rattle.system_spec.specs.Made.{spec_of}
-use Rattle.system_spec.specs.Objects.{badge_at, end_rights, first_rights, joint as joint_at, joint_by, line_by, lines, rights_at, role_badge, settled_badge, slots_at, use_cap}
+use Rattle.system_spec.specs.Objects.{badge_at, end_rights, first_rights, joint_by, line_by, lines, rights_at, role_badge, settled_badge, slots_at, use_cap}
 use Rattle.system_spec.specs.Parts.{notification_by, part, place}
 use Rattle.system_spec.specs.Tables.{Tables, irq_number, irq_owner, uses_at}
 use Rattle.system_spec.proofs.LeastBits.{least}
 use Rattle.system_spec.proofs.Objects.{objects_stand, parts_are_there}
 use Rattle.spec_laws.specs.Slotted.{CanSlot, IsBadge, IsCNodeOf, IsCapOf, IsEndCap, IsHandlerCap, IsIrqOf, IsJoint, IsLockCap, IsNamed, interrupt}
+use Rattle.spec_laws.proofs.CapsFit.{end_is as end_there, joint_is}
 use Rattle.spec_laws.proofs.Numbering.{irq_part, lock_part}
 use Rattle.spec_laws.proofs.SlotLists.{order_has}
 
@@ -173,17 +173,9 @@ module _ (t : Tables) (can : CanSlot t) where
       by_kind Mmio e f = cc
       by_kind Direct e f = cc
 
-  pub end_found : (k n : ℕ) (c : FlatConnection) (e : FlatEnd) → slice_get t.flat.connections k ≡ Some c → slice_get c.ends n ≡ Some e → end_of t.flat k n ≡ Some (c.connector, e)
-  end_found k n c e h s =
-      let pair : FlatEnd → Connector × FlatEnd = λ z. (c.connector, z) in
-      ap (λ o. option_and_then (end_in n) o) h ∙ ap (λ o. option_map pair o) s
-
-  joint_is : (k : ℕ) (c : FlatConnection) → slice_get t.flat.connections k ≡ Some c → joint_by k c.connector ≡ joint_at t k
-  joint_is k c h = ap (λ o. option_map_or (λ (z : FlatConnection). joint_by k z.connector) o (NotificationOf k)) (sym h)
-
   badge : (k n : ℕ) (c : FlatConnection) (e : FlatEnd) → slice_get t.flat.connections k ≡ Some c → slice_get c.ends n ≡ Some e → IsBadge t k n e.role (badge_at t k n)
   badge k n c e h s =
-      let found : badge_at t k n ≡ role_badge e.role (settled_badge t.settled k n) = ap (λ o. option_map_or (λ (z : Connector × FlatEnd). role_badge z.1.role (settled_badge t.settled k n)) o 0) (end_found k n c e h s) in
+      let found : badge_at t k n ≡ role_badge e.role (settled_badge t.settled k n) = ap (λ o. option_map_or (λ (z : Connector × FlatEnd). role_badge z.1.role (settled_badge t.settled k n)) o 0) (end_there t k n c e h s) in
       subst (IsBadge t k n e.role) (sym found) (by_role e.role (can.settled k n c e h s))
     where
       by_role : (r : Role) → (x : EndSetting) × (setting_of t.settled k n ≡ Some x) → IsBadge t k n r (role_badge r (settled_badge t.settled k n))
@@ -191,7 +183,7 @@ module _ (t : Tables) (can : CanSlot t) where
       by_role To x = refl
 
   rights : (k n : ℕ) (c : FlatConnection) (e : FlatEnd) (row : RuleRow) → slice_get t.flat.connections k ≡ Some c → slice_get c.ends n ≡ Some e → slice_get (rows_of c.connector e.role) 0 ≡ Some row → rights_at t k n ≡ row.rights
-  rights k n c e row h s f = ap (λ o. option_map_or (λ (z : Connector × FlatEnd). end_rights z.0 z.1.role) o NONE) (end_found k n c e h s) ∙ first_of (rows_of c.connector e.role) row f
+  rights k n c e row h s f = ap (λ o. option_map_or (λ (z : Connector × FlatEnd). end_rights z.0 z.1.role) o NONE) (end_there t k n c e h s) ∙ first_of (rows_of c.connector e.role) row f
     where
       first_of : (rows : List RuleRow) (row : RuleRow) → slice_get rows 0 ≡ Some row → first_rights rows ≡ row.rights
       first_of [] row e = cc
@@ -212,7 +204,7 @@ module _ (t : Tables) (can : CanSlot t) where
         stands = stands;
         row = row.0;
         first = row.1;
-        joint = subst (λ w. IsJoint spec (place t w) o.connection.connector k) (joint_is k o.connection here) (joint k o.connection o.end.role here u.2);
+        joint = subst (λ w. IsJoint spec (place t w) o.connection.connector k) (sym (joint_is t k o.connection here)) (joint k o.connection o.end.role here u.2);
         rights = rights k m o.connection o.end row.0 here stands row.1;
         badge = badge k m o.connection o.end here stands;
       }

@@ -55,7 +55,7 @@ at_position is xs n d e =
     let x = at_place xs n p.0 in
     (x.0, x.1, ap is (sym (get_or_from_slice_get xs n x.0 d x.1)) ∙ p.1)
 
-led_to : (e : FlatEnd) (c : FlatConnection) → leads_to e c ≡ true → (f : FlatEnd) × (registers c ≡ Some f) × (same_port e f ≡ true)
+pub led_to : (e : FlatEnd) (c : FlatConnection) → leads_to e c ≡ true → (f : FlatEnd) × (registers c ≡ Some f) × (same_port e f ≡ true)
 led_to e c l = by_end (registers c) refl l
   where
     by_end : (o : Option FlatEnd) → registers c ≡ o → option_map_or (same_port e) o false ≡ true → (f : FlatEnd) × (registers c ≡ Some f) × (same_port e f ≡ true)

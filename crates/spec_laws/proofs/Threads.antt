@@ -1,8 +1,7 @@
 -- Threads and their lines
 use Rattle.std.proofs.Common.{◌≡◌, ◌+◌, ℕ, Bool, true, false, cond, List, [], ◌∷◌, ◌++◌, length, Option, Some, None, refl, sym, ◌∙◌, ap, subst, inl, inr, arith}
 use Rattle.std.specs.List.{flat_map, slice_get}
-use Rattle.std.specs.Option.{option_and_then, option_map_or}
-use Rattle.std.specs.Prelude.{option_map}
+use Rattle.std.specs.Option.{option_map_or}
 use Rattle.adl_ast.specs.declared.composition.Role.{Role}
 use Rattle.adl_ast.specs.declared.composition.Role.TheVariants.{From, To}
 use Rattle.adl_meaning.specs.declared.connector.Connector.{Connector}
@@ -18,7 +17,6 @@ use Rattle.conn_rules.specs.Ends.{end_rule}
 use Rattle.cspace_layout.specs.declared.plan.SlotUse.{SlotUse}
 use Rattle.cspace_layout.specs.declared.plan.SlotUse.TheVariants.{OfEnd, Handler, OwnLock}
 use Rattle.cspace_layout.specs.declared.end_at.EndAt.{EndAt}
-use Rattle.cspace_layout.specs.Lookups.{end_in, end_of}
 use Rattle.cspace_layout.specs.Members.{leaf_members}
 use Rattle.cam_base.specs.Gather.{IsIn, before, gather}
 use Rattle.cam_base.proofs.Gathered.{from_gather, from_ones, gather_ones, gathered, get_ones, in_append, in_gather, in_left, in_right}
@@ -48,6 +46,7 @@ use Rattle.vspace_layout.specs.Threads.{ends_at, is_called, leaf_threads, server
 use Rattle.spec_laws.specs.CanMap.{CanMap}
 use Rattle.spec_laws.specs.Spaced.{system}
 use Rattle.spec_laws.specs.Threaded.{HasThread, Serves}
+use Rattle.spec_laws.proofs.CapsFit.{end_is as end_there}
 use Rattle.spec_laws.proofs.Numbering.{before_same}
 use Rattle.spec_laws.proofs.EndsAt.{end_of_leaf, ends_are, in_leaf_ends, once_leaf}
 use Rattle.spec_laws.proofs.Once.{Once, once_cons, once_flat, once_none, once_one}
@@ -62,13 +61,8 @@ called Mmio r h = cc
 called Interrupt r h = cc
 called Direct r h = cc
 
-end_is : (t : Tables) (k n : ℕ) (c : FlatConnection) (e : FlatEnd) → slice_get t.flat.connections k ≡ Some c → slice_get c.ends n ≡ Some e → end_of t.flat k n ≡ Some (c.connector, e)
-end_is t k n c e h s =
-    let pair : FlatEnd → Connector × FlatEnd = λ z. (c.connector, z) in
-    ap (λ o. option_and_then (end_in n) o) h ∙ ap (λ o. option_map pair o) s
-
 serves_by : (t : Tables) (e : EndAt) (c : FlatConnection) (x : FlatEnd) → slice_get t.flat.connections e.connection ≡ Some c → slice_get c.ends e.end ≡ Some x → serves t.flat e ≡ is_called c.connector x.role
-serves_by t e c x h s = ap (λ o. option_map_or (λ (z : Connector × FlatEnd). is_called z.0 z.1.role) o false) (end_is t e.connection e.end c x h s)
+serves_by t e c x h s = ap (λ o. option_map_or (λ (z : Connector × FlatEnd). is_called z.0 z.1.role) o false) (end_there t e.connection e.end c x h s)
 
 module _ (t : Tables) (can : CanMap t) where
   abbrev all : List (List EndAt)

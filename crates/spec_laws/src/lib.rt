@@ -45,4 +45,4 @@ pub use laws::{
     tables_stand_where_pages_are_mapped, threads_are_those_of_the_system, windows_show_one_memory,
 };
 pub use mapped_laws::{tables_can_map, tables_have_slots};
-pub use source_laws::{flat_systems_have_their_devices, loaded_sources_are_spelled};
+pub use source_laws::flat_systems_have_their_devices;

@@ -1,18 +1,10 @@
-//! The laws, as functions that do nothing.
+//! A law, as a function that does nothing.
 
 ghost use Rattle.adl_meaning.specs.Prelude.{AreNamesSound, Source, flat_of, hierarchy_of};
 ghost use Rattle.adl_hierarchy.specs.Leads.{AreDotted};
-ghost use Rattle.adl_hierarchy.specs.Spelled.{AreSpelled};
-ghost use Rattle.adl_import.specs.Loaded.{IsLoaded};
 ghost use Rattle.adl_types.specs.TypeFaults.{first_type_fault};
-ghost use Rattle.cam_io.specs.Contents.{Contents};
 ghost use Rattle.reach_laws.specs.Flat.{IsFlat};
-ghost use Rattle.std.specs.Prelude.{◌≡◌, ℕ, List, None, Ok, Option};
-
-/// Tokens spell the tree of each file of a source that is loaded.
-pub fn loaded_sources_are_spelled()
-    ensures { (contents : Contents) (root : List ℕ) (s : Source) → IsLoaded contents root (Ok s) → AreSpelled s }
-{}
+ghost use Rattle.std.specs.Prelude.{◌≡◌, None};
 
 /// Where dotted names have two words or three, and no fault of types stands, ends join members of leaves, which are devices
 /// just where the connector table has it, and an interrupt, or a connection to a device's registers, has one end at a device.
