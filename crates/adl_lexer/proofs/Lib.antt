@@ -4,6 +4,7 @@ pub mod Runs
 pub mod Readings
 pub mod Pieces
 pub mod Gaps
+pub mod Skips
 pub mod Steps
 pub mod Unique
 pub mod KeywordWords

@@ -1,5 +1,5 @@
 -- One step of the lexer: what stands at the front of bytes.
-use Rattle.std.specs.Prelude.{◌≡◌, ℕ, List, [], Option, Some, None, Result, Ok}
+use Rattle.std.specs.Prelude.{◌≡◌, ℕ, ◌==◌, if◌then◌else◌, List, [], ◌∷◌, Option, Some, None, Result, Ok}
 use Rattle.cam_base.specs.declared.token.Kind.{Kind}
 use Rattle.cam_base.specs.declared.token.Kind.TheVariants as kinds
 use Rattle.cam_base.specs.declared.token.Mark.{Mark}
@@ -29,3 +29,13 @@ IsNext bs (Some piece) = IsPiece bs piece
 abbrev pub IsMark : Mark → List ℕ → Piece → Type 0
 IsMark m rest (pieces.Token k after) = (k ≡ kinds.Mark m) × (after.now ≡ rest)
 IsMark m rest _ = ⊥
+
+-- the rest behind the first byte of this value; none where there is none
+abbrev pub after_first : ℕ → List ℕ → Option (List ℕ)
+after_first wanted [] = None
+after_first wanted (b ∷ bs) = if b == wanted then Some bs else after_first wanted bs
+
+-- the rest behind a slash at the front
+abbrev pub after_slash : List ℕ → Option (List ℕ)
+after_slash [] = None
+after_slash (b ∷ bs) = if b == 47 then Some bs else None

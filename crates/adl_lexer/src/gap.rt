@@ -1,34 +1,54 @@
 //! Comments.
 
 ghost use Rattle.adl_lexer.specs.Gaps.{after_line, after_close, after_comment};
+ghost use Rattle.adl_lexer.specs.Pieces.{after_first, after_slash};
 ghost use Rattle.std.specs.Prelude.{◌≡◌, option_map};
 
+use memchr::memchr;
+
+/// What is behind the first byte of this value.
+#[tactic(auto, using(crate::proofs::Skips::first_absent))]
+fn behind(wanted: u8, bytes: &[u8]) -> Option<&[u8]>
+    ensures { option_map (λ r. r.now) result ≡ after_first wanted bytes.now }
+{
+    match memchr(wanted, bytes) {
+        Some(at) => Some(&bytes[at + 1..]),
+        None => None,
+    }
+}
+
 /// What is behind the next line feed.
+#[tactic(auto, using(crate::proofs::Skips::line_ends, crate::proofs::Skips::line_last))]
 fn line_end(bytes: &[u8]) -> &[u8]
     ensures { result.now ≡ after_line bytes.now }
 {
-    let mut rest = bytes;
-    'line: while let [byte, tail @ ..] = rest {
-        rest = tail;
-        if *byte == b'\n' {
-            return rest;
-        }
+    match behind(b'\n', bytes) {
+        Some(rest) => rest,
+        None => &[],
     }
-    rest
+}
+
+/// What is behind a slash at the front.
+fn after_slash(bytes: &[u8]) -> Option<&[u8]>
+    ensures { option_map (λ r. r.now) result ≡ after_slash bytes.now }
+{
+    match bytes {
+        [b'/', rest @ ..] => Some(rest),
+        _ => None,
+    }
 }
 
 /// What is behind the next `*/`.
+#[tactic(auto, using(crate::proofs::Skips::close_absent, crate::proofs::Skips::closes, crate::proofs::Skips::goes_on, crate::proofs::Skips::first_less))]
 fn comment_end(bytes: &[u8]) -> Option<&[u8]>
     ensures { option_map (λ r. r.now) result ≡ after_close bytes.now }
 {
     let mut rest = bytes;
-    'comment: while let [byte, tail @ ..] = rest {
-        if *byte == b'*'
-            && let [b'/', after @ ..] = tail
-        {
+    'comment: while let Some(behind) = behind(b'*', rest) {
+        if let Some(after) = after_slash(behind) {
             return Some(after);
         }
-        rest = tail;
+        rest = behind;
     }
     None
 }

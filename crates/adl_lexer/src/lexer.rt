@@ -26,8 +26,8 @@ pub fn lex_within(
     ensures { IsLexed file bytes.now result }
 {
     room.clear();
-    // a token, with the gap before it, has about four bytes
-    room.reserve(bytes.len() / 4)?;
+    // few files have more tokens than a third of their bytes
+    room.reserve(bytes.len() / 3)?;
     let mut tokens = List::from_vec(room);
     let mut rest = blanks_end(bytes);
     'scan: while let Some(piece) = next_piece(rest) {

@@ -1,9 +1,0 @@
-use Rattle.std.proofs.Common.{◌≡◌, length}
-use Rattle.adl_lexer.specs.Gaps.{after_line}
-use Rattle.adl_lexer.proofs.gap.line_end.Given as goal
-
-abbrev pub invariant-line : goal.invariant-line
-invariant-line l = after_line l.rest ≡ after_line l.bytes
-
-abbrev pub decreases-line : goal.decreases-line
-decreases-line l = length l.rest
