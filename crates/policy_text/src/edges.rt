@@ -5,7 +5,7 @@ ghost use Rattle.policy_text.specs.EdgeLines.{apart_line, apart_lines, edge_line
 
 use crate::Names;
 use cam_io::{Failed, Outputs, write_all, write_parts};
-use cap_model::{Edge, EdgeTable};
+use cap_model::{Edge, EdgeTable, Hint};
 
 /// Writes an edge behind a word.
 pub fn write_edge<O: Outputs>(
@@ -76,8 +76,9 @@ pub fn write_edges<O: Outputs>(
     ensures { Writes result channel (apart_lines names.now edges.now) (O.sink out.old) (O.sink out.new) (O.faults out.old)
         (O.faults out.new) }
 {
+    let mut hint = Hint::first();
     for at in 0..edges.len() {
-        if let Some(edge) = edges.get(at) {
+        if let Some(edge) = edges.get_near(at, &mut hint) {
             write_apart(&edge, names, out, channel)?;
         }
     }

@@ -7,7 +7,7 @@ ghost use Rattle.std.specs.Prelude.{◌≡◌};
 
 use cam_base::{Name, Text};
 use cam_io::{Failed, Outputs, write_all, write_parts};
-use cap_model::{Edge, EdgeTable, Policy};
+use cap_model::{Edge, EdgeTable, Hint, Policy};
 use itoa::Buffer;
 
 /// Writes the text of a policy to an open channel: `specs/PolicyLines.antt`.
@@ -90,8 +90,9 @@ fn write_edges<O: Outputs>(edges: &EdgeTable, out: &mut O, channel: u8) -> Resul
     ensures { Writes result channel (flat_map edge_line edges.now)
         (O.sink out.old) (O.sink out.new) (O.faults out.old) (O.faults out.new) }
 {
+    let mut hint = Hint::first();
     for at in 0..edges.len() {
-        if let Some(edge) = edges.get(at) {
+        if let Some(edge) = edges.get_near(at, &mut hint) {
             write_edge(edge, out, channel)?;
         }
     }
