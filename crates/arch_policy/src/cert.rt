@@ -16,7 +16,7 @@ use crate::{Tables, domain_label};
 use adl_ast::Member;
 use adl_meaning::Leaf;
 use cam_base::NoMemory;
-use cap_model::{Authority, AuthoritySet, Edge, EdgeTable, with_set};
+use cap_model::{Authority, AuthoritySet, Edge, EdgeTable, Hint, with_set};
 use cspace_layout::{is_lock, members_at};
 use std::alloc::Global;
 
@@ -70,9 +70,10 @@ fn with_locks(edges: Vec<Edge>, tables: &Tables<'_>) -> Result<Vec<Edge>, NoMemo
 fn edges_of(alloc: Global, table: &EdgeTable) -> Result<Vec<Edge>, NoMemory>
     ensures { IfOk result (λ edges. edges.items ≡ table.now) }
 {
-    let mut edges = Vec::new(alloc);
+    let mut edges = Vec::with_capacity(alloc, table.len())?;
+    let mut hint = Hint::first();
     for at in 0..table.len() {
-        if let Some(edge) = table.get(at) {
+        if let Some(edge) = table.get_near(at, &mut hint) {
             edges.push(edge)?;
         }
     }
