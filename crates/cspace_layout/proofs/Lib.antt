@@ -6,3 +6,5 @@ pub mod Keyword
 pub mod Ordering
 pub mod Picking
 pub mod Spreading
+pub mod Standing
+pub mod Taking
