@@ -1,9 +1,10 @@
 -- A table that has the listed edges has as many as there are different ones.
-use Rattle.std.proofs.Common.{◌≡◌, ◌||◌, Bool, true, false, List, [], ◌∷◌, ◌++◌, length, refl, sym, ◌∙◌, ap, subst, inl, inr, arith, get_or}
+use Rattle.std.proofs.Common.{◌≡◌, ◌<◌, ◌||◌, Bool, true, false, List, [], ◌∷◌, ◌++◌, length, refl, sym, ◌∙◌, ap, subst, inl, inr, arith, get_or, true≢false}
 use Rattle.std.specs.Cmp.{IsEquivalence}
 use Rattle.std.specs.Cmp.Derive.{one_truth}
 use Rattle.std.specs.List.{IsDistinct, filter, list_any}
 use Rattle.std.specs.Set.{is_member}
+use Rattle.std.proofs.lemmas.Bool.{cases_lt}
 use Rattle.std.proofs.lemmas.Map.Made.{length-from_keys}
 use Rattle.std.proofs.lemmas.Map.Keys.{IsDistinct-from_apart}
 use Rattle.std.proofs.lemmas.Option.{slice_get-get_or}
@@ -94,6 +95,24 @@ module _ (direct reply handles signals hs ss before edges : List Edge) (h : (e :
 
   pub collected : (e : Edge) → has edges e ≡ has all e
   collected e = one_truth (has edges e) (has all e) (collected_in e) (all_has e)
+
+none_handled : (hs handles : List Edge) → ((e : Edge) → has hs e ≡ has handles e) → length hs ≡ 0 → handles ≡ []
+none_handled [] [] h e = refl
+none_handled [] (d ∷ ds) h e = absurd (true≢false (sym (in_has d (d ∷ ds) (inl refl)) ∙ sym (h d)))
+none_handled (d ∷ ds) handles h e = absurd (omega arith)
+
+-- the signals are asked for only where something is handled
+pub collected_few : (direct reply handles signals hs ss before edges : List Edge) → ((e : Edge) → has hs e ≡ has handles e)
+    → (0 < length hs → (e : Edge) → has ss e ≡ has signals e) → before ≡ direct ++ reply → Adds (IsBound hs ss) before edges
+    → (e : Edge) → has edges e ≡ has (direct ++ (reply ++ bound_edges handles signals)) e
+collected_few direct reply handles signals hs ss before edges h s is grown e = elim (cases_lt 0 (length hs)) [
+  | inl some ↦ collected direct reply handles signals hs ss before edges h (s some) is grown e
+  | inr none ↦
+      let nothing : handles ≡ [] = none_handled hs handles h (omega (arith, none)) in
+      collected direct reply handles ss hs ss before edges h (λ d. refl) is grown e
+      ∙ ap (λ z. has (direct ++ (reply ++ bound_edges z ss)) e) nothing
+      ∙ sym (ap (λ z. has (direct ++ (reply ++ bound_edges z signals)) e) nothing)
+]
 
 pub has_filter : (xs ys : List Edge) (p : Edge → Bool) → ((e : Edge) → has xs e ≡ has ys e) → (e : Edge) → has (filter p xs) e ≡ has (filter p ys) e
 has_filter xs ys p same e = one_truth (has (filter p xs) e) (has (filter p ys) e)

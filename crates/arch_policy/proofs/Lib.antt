@@ -1,5 +1,6 @@
 pub mod Bounding
 pub mod Counted
+pub mod Crossing
 pub mod Given
 pub mod Labelled
 pub mod Listed

@@ -1,5 +1,5 @@
 -- The listed edges are those that have a reason.
-use Rattle.std.proofs.Common.{◌≡◌, ◌↔◌, ◌∙◌, ◌&&◌, ◌==◌, ℕ, Bool, true, false, cond, List, [], ◌∷◌, ◌++◌, Option, Some, None, refl, sym, ap, subst, inl, inr, true≢false}
+use Rattle.std.proofs.Common.{◌≡◌, ◌≢◌, ◌↔◌, ◌∙◌, ◌&&◌, ◌==◌, ℕ, Bool, true, false, cond, List, [], ◌∷◌, ◌++◌, Option, Some, None, refl, sym, ap, subst, inl, inr, true≢false}
 use Rattle.std.specs.List.{list_any, slice_get}
 use Rattle.std.proofs.lemmas.Bool.{and_from, and_parts, eq-eqb, eqb-true}
 use Rattle.adl_ast.specs.declared.component.Lock.{Lock}
@@ -15,6 +15,7 @@ use Rattle.adl_meaning.specs.declared.flat.Leaf.{Leaf}
 use Rattle.cap_model.specs.Authorities.{authorities}
 use Rattle.cap_model.specs.AuthoritySets.{set_has}
 use Rattle.cap_model.specs.Edges.{edge}
+use Rattle.cap_model.specs.Tables.{has}
 use Rattle.cap_model.specs.declared.authority.Authority.{Authority}
 use Rattle.cap_model.specs.declared.authority.Authority.TheVariants.{AsyncSend, Control, Reply, Handle}
 use Rattle.cap_model.specs.declared.edge.Edge.{Edge}
@@ -176,6 +177,20 @@ module _ (t : Tables) where
   in_given k n row l m a h =
       let p = place_of a authorities (an_authority a) in
       in_gather (λ i a. where_true (row_gives t k n row a) (edge l a m)) (edge l a m) authorities p.0 a p.1 (in_where (row_gives t k n row a) (edge l a m) h)
+
+  -- an edge that an end is given leads out of its label
+  out_of_own : (k n : ℕ) (c : FlatConnection) (f : FlatEnd) (e : Edge) → IsIn e (end_edges t k c n f) → e.from ≡ leaf_label t f.leaf
+  out_of_own k n c f e i =
+      let r = from_gather (λ i row. row_edges t k c n f row) e (rows_of c.connector f.role) i in
+      let m = from_gather (λ i m. given_edges t k n r.1 (leaf_label t f.leaf) m) e (targets t k c f.role r.1.object) r.3 in
+      let w = from_given k n r.1 (leaf_label t f.leaf) m.1 e m.3 in
+      ap (λ (z : Edge). z.from) (sym w.2)
+
+  pub none_of_another : (k n : ℕ) (c : FlatConnection) (f : FlatEnd) (e : Edge) → leaf_label t f.leaf ≢ e.from → has (end_edges t k c n f) e ≡ false
+  none_of_another k n c f e differ = go (has (end_edges t k c n f) e) refl where
+    go : (b : Bool) → has (end_edges t k c n f) e ≡ b → has (end_edges t k c n f) e ≡ false
+    go true h = absurd (differ (sym (out_of_own k n c f e (has_in e (end_edges t k c n f) h))))
+    go false h = h
 
   -- what an end is given
   pub from_end : (k n : ℕ) (c : FlatConnection) (f : FlatEnd) (h : slice_get t.flat.connections k ≡ Some c) (s : slice_get c.ends n ≡ Some f) (e : Edge) → IsIn e (end_edges t k c n f) → DirectReason t e

@@ -1,11 +1,11 @@
 //! The edges that ends are given, and those of each two ends of one connection.
 
 ghost use Rattle.arch_policy.specs.Gives.{leaves, opposite};
-ghost use Rattle.adl_ast.specs.declared.composition.Role.TheVariants.{From};
+ghost use Rattle.adl_ast.specs.declared.composition.Role.TheVariants.{From, To};
 ghost use Rattle.adl_meaning.specs.declared.connector.Connector.TheVariants.{Notification};
 ghost use Rattle.adl_meaning.specs.declared.flat.FlatConnection.{FlatConnection as Line};
 ghost use Rattle.arch_policy.specs.Tables.{leaf_label, told};
-ghost use Rattle.arch_policy.specs.Triples.{crossed, crossed_at, crossed_edges, direct_edges, end_edges, given_edges, labels_in_role, lock_edge, lock_edges, row_edges, row_gives, signal_edges, signals_at, targets};
+ghost use Rattle.arch_policy.specs.Triples.{crossed, crossed_at, crossed_edges, direct_edges, end_edges, given_edges, labels_in_role, lock_edge, lock_edges, row_edges, row_gives, signal_edges, signals_at};
 ghost use Rattle.arch_policy.specs.Where.{where_true};
 ghost use Rattle.cap_model.specs.Edges.{edge};
 ghost use Rattle.cap_model.specs.Tables.{has};
@@ -14,7 +14,7 @@ ghost use Rattle.conn_rules.specs.Row.{same_connector, same_role};
 ghost use Rattle.cspace_layout.specs.Members.{is_lock, members_at};
 ghost use Rattle.cam_base.specs.Gather.{gather};
 ghost use Rattle.std.specs.List.{list_any};
-ghost use Rattle.std.specs.Prelude.{◌≡◌, ◌<◌, ◌^◌, ◌++◌, ◌∷◌, ◌&&◌, [], length, slice_get, IfOk, OnOk, Some, ℕ};
+ghost use Rattle.std.specs.Prelude.{◌≡◌, ◌<◌, ◌^◌, ◌++◌, ◌∷◌, ◌&&◌, [], if◌then◌else◌, length, slice_get, IfOk, OnOk, Some, ℕ};
 
 use crate::Tables;
 use crate::tables::{connection_label, domain_label, leaf_label};
@@ -104,24 +104,6 @@ pub fn labels_in_role(
     Ok(labels)
 }
 
-/// The labels of the end's objects of this kind.
-fn targets(alloc: Global, here: EndHere<'_>, object: ObjectKind) -> Result<List<u32>, NoMemory>
-    ensures { IfOk result (λ labels. labels ≡ targets (told here.entry.tables) here.entry.place here.entry.connection.now
-        here.entry.end.role object) }
-{
-    match object {
-        ObjectKind::OfEndpoint | ObjectKind::OfNotification | ObjectKind::OfFrames => {
-            let label = connection_label(&here.tables, here.place);
-            List::from_slice(alloc, &[label])
-        }
-        ObjectKind::OfDevice | ObjectKind::OfIrq => {
-            let ends = here.connection.ends.as_slice();
-            labels_in_role(alloc, &here.tables, opposite(here.end.role), ends)
-        }
-        ObjectKind::NoObject => Ok(List::new(alloc)),
-    }
-}
-
 fn row_gives(here: EndHere<'_>, row: RuleRow, authority: Authority) -> bool
     ensures { result ≡ row_gives (told here.entry.tables) here.entry.place here.entry.number row authority }
 {
@@ -197,8 +179,18 @@ fn push_row(
         here.entry.connection.now here.entry.number here.entry.end row) }
 {
     let from = leaf_label(&here.tables, here.end.leaf);
-    let targets = targets(alloc, here, row.object)?;
-    push_given_to_each(here, row, from, targets.as_slice(), edges)
+    match row.object {
+        ObjectKind::OfEndpoint | ObjectKind::OfNotification | ObjectKind::OfFrames => {
+            let own = connection_label(&here.tables, here.place);
+            push_given_to_each(here, row, from, &[own], edges)
+        }
+        ObjectKind::OfDevice | ObjectKind::OfIrq => {
+            let ends = here.connection.ends.as_slice();
+            let others = labels_in_role(alloc, &here.tables, opposite(here.end.role), ends)?;
+            push_given_to_each(here, row, from, others.as_slice(), edges)
+        }
+        ObjectKind::NoObject => Ok(()),
+    }
 }
 
 fn push_end(alloc: Global, here: EndHere<'_>, edges: &mut List<Edge>) -> Result<(), NoMemory>
@@ -222,6 +214,9 @@ pub fn end_gives(alloc: Global, here: EndHere<'_>, edge: Edge) -> Result<bool, N
     ensures { IfOk result (λ given. given ≡ has (end_edges (told here.entry.tables) here.entry.place here.entry.connection.now
         here.entry.number here.entry.end) edge) }
 {
+    if leaf_label(&here.tables, here.end.leaf) != edge.from {
+        return Ok(false);
+    }
     let mut edges = List::new(alloc);
     push_end(alloc, here, &mut edges)?;
     let table = EdgeTable::from_list(alloc, edges.as_slice())?;
@@ -267,41 +262,79 @@ pub fn direct_edges(alloc: Global, tables: &Tables<'_>) -> Result<List<Edge>, No
 
 // ---- of two ends of one connection
 
-fn push_to_each(
+/// Puts an edge with the authority from a label to that of an end, where it is a `from` end, behind the others.
+fn push_to(
+    tables: &Tables<'_>,
     from: u32,
     authority: Authority,
-    targets: &[u32],
+    end: FlatEnd,
     edges: &mut List<Edge>,
 ) -> Result<(), NoMemory>
-    ensures { OnOk result (edges.new ≡ edges.old ++ gather (λ j m. edge from authority m ∷ []) targets.now) }
+    ensures { OnOk result (edges.new ≡ edges.old ++ where_true (same_role end.role From)
+        (edge from authority (leaf_label (told tables.now) end.leaf))) }
 {
-    for to in targets {
+    if end.role == Role::From {
         edges.push(Edge {
             from,
             authority,
-            to: *to,
+            to: leaf_label(tables, end.leaf),
         })?;
     }
     Ok(())
 }
 
-/// Puts an edge with the authority from each label to each other behind the others.
-fn push_crossed(
-    labels: &[u32],
+/// Puts an edge with the authority from a label to that of each `from` end behind the others.
+fn push_to_each(
+    tables: &Tables<'_>,
+    from: u32,
     authority: Authority,
-    targets: &[u32],
+    ends: &[FlatEnd],
     edges: &mut List<Edge>,
 ) -> Result<(), NoMemory>
-    ensures { OnOk result (edges.new ≡ edges.old ++ crossed labels.now authority targets.now) }
+    ensures { OnOk result (edges.new ≡ edges.old ++ gather (λ j m. edge from authority m ∷ [])
+        (labels_in_role (told tables.now) From ends.now)) }
 {
-    for from in labels {
-        push_to_each(*from, authority, targets, edges)?;
+    for end in ends {
+        push_to(tables, from, authority, *end, edges)?;
+    }
+    Ok(())
+}
+
+/// Puts an edge with the authority from the label of an end, where it is a `to` end, to that of each `from` end behind the
+/// others.
+fn push_from(
+    tables: &Tables<'_>,
+    authority: Authority,
+    ends: &[FlatEnd],
+    end: FlatEnd,
+    edges: &mut List<Edge>,
+) -> Result<(), NoMemory>
+    ensures { OnOk result (edges.new ≡ edges.old ++ (if same_role end.role To then gather (λ j m. edge (leaf_label
+        (told tables.now) end.leaf) authority m ∷ []) (labels_in_role (told tables.now) From ends.now) else [])) }
+{
+    if end.role == Role::To {
+        push_to_each(tables, leaf_label(tables, end.leaf), authority, ends, edges)?;
+    }
+    Ok(())
+}
+
+/// Puts an edge with the authority from the label of each `to` end to that of each `from` end behind the others.
+fn push_crossed(
+    tables: &Tables<'_>,
+    authority: Authority,
+    ends: &[FlatEnd],
+    edges: &mut List<Edge>,
+) -> Result<(), NoMemory>
+    ensures { OnOk result (edges.new ≡ edges.old ++ crossed (labels_in_role (told tables.now) To ends.now) authority
+        (labels_in_role (told tables.now) From ends.now)) }
+{
+    for end in ends {
+        push_from(tables, authority, ends, *end, edges)?;
     }
     Ok(())
 }
 
 fn push_crossed_at(
-    alloc: Global,
     tables: &Tables<'_>,
     connector: Connector,
     authority: Authority,
@@ -313,16 +346,12 @@ fn push_crossed_at(
     if connection.connector != connector {
         return Ok(());
     }
-    let ends = connection.ends.as_slice();
-    let labels = labels_in_role(alloc, tables, Role::To, ends)?;
-    let targets = labels_in_role(alloc, tables, Role::From, ends)?;
-    push_crossed(labels.as_slice(), authority, targets.as_slice(), edges)
+    push_crossed(tables, authority, connection.ends.as_slice(), edges)
 }
 
 /// Puts the edges with the authority from the `to` ends to the `from` ends of each connection of this connector behind
 /// the others.
 pub fn push_crossed_edges(
-    alloc: Global,
     tables: &Tables<'_>,
     connector: Connector,
     authority: Authority,
@@ -331,7 +360,7 @@ pub fn push_crossed_edges(
     ensures { OnOk result (edges.new ≡ edges.old ++ crossed_edges (told tables.now) connector authority) }
 {
     for connection in tables.flat.connections.as_slice() {
-        push_crossed_at(alloc, tables, connector, authority, connection, edges)?;
+        push_crossed_at(tables, connector, authority, connection, edges)?;
     }
     Ok(())
 }

@@ -1,6 +1,6 @@
 //! The labels of a system, in order, and their numbers.
 
-ghost use Rattle.arch_policy.specs.Labels.{IsOrdered, connection_numbers, device_numbers, domain_numbers, in_order, label_numbers, label_texts, rank};
+ghost use Rattle.arch_policy.specs.Labels.{IsOrdered, comes_before, connection_numbers, device_numbers, domain_numbers, in_order, label_numbers, label_texts, rank};
 ghost use Rattle.arch_policy.specs.Owners.{connection_texts, device_texts, domain_texts, has_label, is_device, texts};
 ghost use Rattle.arch_policy.specs.Where.{where_true};
 ghost use Rattle.cam_base.specs.Paths.{joined};
@@ -107,25 +107,63 @@ fn all_texts(alloc: Global, flat: &Flat) -> Result<List<Text>, NoMemory>
     Ok(texts)
 }
 
-/// In byte order, each text once.
-fn in_order(texts: List<Text>) -> List<Text>
-    ensures { result ≡ in_order texts }
+/// In byte order, each text once. Texts are often listed in few runs that are in order, so they are sorted by runs.
+fn in_order(texts: List<Text>) -> Result<List<Text>, NoMemory>
+    ensures { IfOk result (λ found. found ≡ in_order texts) }
 {
     let mut texts = texts.into_vec();
-    texts.sort_unstable();
+    texts.sort()?;
     texts.dedup();
-    List::from_vec(texts)
+    Ok(List::from_vec(texts))
+}
+
+fn comes_before(other: &Text, text: &[u8]) -> bool
+    ensures { result ≡ comes_before other.now text.now }
+{
+    other.as_bytes().cmp(text).is_lt()
 }
 
 /// How many of the texts, which are in order, come before this one.
-fn rank(texts: &[Text], text: &Text) -> usize
+fn rank(texts: &[Text], text: &[u8]) -> usize
     requires { IsOrdered texts.now }
     ensures { result ≡ rank texts.now text.now }
 {
-    texts.partition_point(|other| other < text)
+    texts.partition_point(|other| comes_before(other, text))
 }
 
-/// Puts the number that the path has behind the others.
+/// The same, looked for at a place first.
+fn rank_near(texts: &[Text], near: usize, text: &[u8]) -> usize
+    requires { IsOrdered texts.now }
+    ensures { result ≡ rank texts.now text.now }
+{
+    match texts.get(near) {
+        Some(other) if other.as_bytes() == text => near,
+        _ => rank(texts, text),
+    }
+}
+
+/// How many of the texts, which are in order, come before that of the path, looked for at a place first. A path of one name
+/// is its text.
+fn path_rank(alloc: Global, texts: &[Text], near: usize, path: &Path) -> Result<usize, NoMemory>
+    requires { IsOrdered texts.now }
+    ensures { IfOk result (λ n. n ≡ rank texts.now (joined path.now)) }
+{
+    if let [name] = path.names() {
+        return Ok(rank_near(texts, near, name.as_bytes()));
+    }
+    let text = path.text(alloc)?;
+    Ok(rank_near(texts, near, text.as_bytes()))
+}
+
+/// The number behind the last.
+fn next_number(numbers: &[u32]) -> usize {
+    match numbers.last() {
+        Some(last) => *last as usize + 1,
+        None => 0,
+    }
+}
+
+/// Puts the number that the path has behind the others. What is listed in order often is numbered in order.
 fn push_number(
     alloc: Global,
     texts: &[Text],
@@ -136,8 +174,9 @@ fn push_number(
     requires few { length texts.now < 2 ^ 32 }
     ensures { OnOk result (numbers.new ≡ numbers.old ++ rank texts.now (joined path.now) ∷ []) }
 {
-    let text = path.text(alloc)?;
-    numbers.push(rank(texts, &text) as u32)
+    let near = next_number(numbers.as_slice());
+    let number = path_rank(alloc, texts, near, path)?;
+    numbers.push(number as u32)
 }
 
 fn domain_numbers(alloc: Global, texts: &[Text], domains: &[Domain]) -> Result<List<u32>, NoMemory>
@@ -145,7 +184,7 @@ fn domain_numbers(alloc: Global, texts: &[Text], domains: &[Domain]) -> Result<L
     requires few { length texts.now < 2 ^ 32 }
     ensures { IfOk result (λ numbers. numbers ≡ domain_numbers texts.now domains.now) }
 {
-    let mut numbers = List::new(alloc);
+    let mut numbers = List::from_vec(Vec::with_capacity(alloc, domains.len())?);
     for domain in domains {
         push_number(alloc, texts, &domain.path, &mut numbers)?;
     }
@@ -161,7 +200,7 @@ fn connection_numbers(
     requires few { length texts.now < 2 ^ 32 }
     ensures { IfOk result (λ numbers. numbers ≡ connection_numbers texts.now connections.now) }
 {
-    let mut numbers = List::new(alloc);
+    let mut numbers = List::from_vec(Vec::with_capacity(alloc, connections.len())?);
     for connection in connections {
         push_number(alloc, texts, &connection.path, &mut numbers)?;
     }
@@ -173,7 +212,7 @@ fn device_numbers(alloc: Global, texts: &[Text], leaves: &[Leaf]) -> Result<List
     requires few { length texts.now < 2 ^ 32 }
     ensures { IfOk result (λ numbers. numbers ≡ device_numbers texts.now leaves.now) }
 {
-    let mut numbers = List::new(alloc);
+    let mut numbers = List::from_vec(Vec::with_capacity(alloc, leaves.len())?);
     for leaf in leaves {
         push_number(alloc, texts, &leaf.path, &mut numbers)?;
     }
@@ -203,30 +242,20 @@ pub fn labels_of(alloc: Global, flat: &Flat) -> Result<Labelling, NoMemory>
     ensures texts { IfOk result (λ labels. labels.texts ≡ label_texts flat.now) }
     ensures numbers { IfOk result (λ labels. labels.numbers ≡ label_numbers flat.now) }
 {
-    let texts = in_order(all_texts(alloc, flat)?);
+    let texts = in_order(all_texts(alloc, flat)?)?;
     let numbers = label_numbers(alloc, texts.as_slice(), flat)?;
     Ok(Labelling { texts, numbers })
 }
 
-fn push_line(
-    alloc: Global,
-    number: u32,
-    text: &Text,
-    lines: &mut List<(u32, Text)>,
-) -> Result<(), NoMemory>
-    ensures { OnOk result (lines.new ≡ lines.old ++ (number, text.now) ∷ []) }
-{
-    lines.push((number, text.copy(alloc)?))
-}
-
 /// The texts with their numbers.
-pub fn label_lines(alloc: Global, texts: &[Text]) -> Result<List<(u32, Text)>, NoMemory>
-    requires { length texts.now < 2 ^ 32 }
-    ensures { IfOk result (λ lines. lines ≡ gather (λ n t. (n, t) ∷ []) texts.now) }
+pub fn label_lines(alloc: Global, texts: List<Text>) -> Result<List<(u32, Text)>, NoMemory>
+    requires { length texts < 2 ^ 32 }
+    ensures { IfOk result (λ lines. lines ≡ gather (λ n t. (n, t) ∷ []) texts) }
 {
-    let mut lines = List::new(alloc);
-    for (number, text) in texts.iter().enumerate() {
-        push_line(alloc, number as u32, text, &mut lines)?;
+    let mut lines = List::from_vec(Vec::with_capacity(alloc, texts.len())?);
+    for text in texts.into_vec() {
+        let number = lines.len() as u32;
+        lines.push((number, text))?;
     }
     Ok(lines)
 }

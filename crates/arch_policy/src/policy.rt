@@ -27,22 +27,23 @@ fn handlers(alloc: Global, tables: &Tables<'_>) -> Result<EdgeTable, NoMemory>
     ensures { IfOk result (λ table. (e : Triple) → has table e ≡ has (handle_edges (told tables.now)) e) }
 {
     let mut edges = List::new(alloc);
-    push_crossed_edges(
-        alloc,
-        tables,
-        Connector::Interrupt,
-        Authority::Handle,
-        &mut edges,
-    )?;
+    push_crossed_edges(tables, Connector::Interrupt, Authority::Handle, &mut edges)?;
     EdgeTable::from_list(alloc, edges.as_slice())
 }
 
-/// By which edges labels signal.
-fn signallers(alloc: Global, tables: &Tables<'_>) -> Result<EdgeTable, NoMemory>
+/// By which edges labels signal. Where nothing is handled, none is bound, and none is listed.
+fn signallers(
+    alloc: Global,
+    tables: &Tables<'_>,
+    handlers: &EdgeTable,
+) -> Result<EdgeTable, NoMemory>
     requires { length tables.now.flat.now.connections < 2 ^ 32 }
-    ensures { IfOk result (λ table. (e : Triple)
+    ensures { IfOk result (λ table. 0 < length handlers.now → (e : Triple)
         → has table e ≡ has (signal_edges (told tables.now) ++ lock_edges (told tables.now)) e) }
 {
+    if handlers.is_empty() {
+        return Ok(EdgeTable::empty(alloc));
+    }
     let edges = signals_of(alloc, tables)?;
     EdgeTable::from_list(alloc, edges.as_slice())
 }
@@ -57,12 +58,12 @@ fn reasoned_with(
     requires few { length tables.now.flat.now.connections < 2 ^ 32 }
     requires short { (k : ℕ) (c : Line) → slice_get tables.now.flat.now.connections k ≡ Some c → length c.ends < 2 ^ 32 }
     requires handlers { (e : Triple) → has handlers.now e ≡ has (handle_edges (told tables.now)) e }
-    requires signallers { (e : Triple)
+    requires signallers { 0 < length handlers.now → (e : Triple)
         → has signallers.now e ≡ has (signal_edges (told tables.now) ++ lock_edges (told tables.now)) e }
     ensures { IfOk result (λ edges. (e : Triple) → has edges e ≡ has (reasoned_edges (told tables.now)) e) }
 {
     let mut edges = direct_edges(alloc, tables)?;
-    push_crossed_edges(alloc, tables, Connector::Rpc, Authority::Reply, &mut edges)?;
+    push_crossed_edges(tables, Connector::Rpc, Authority::Reply, &mut edges)?;
     push_bound(handlers, signallers, &mut edges)?;
     Ok(edges)
 }
@@ -73,7 +74,7 @@ fn reasoned_edges(alloc: Global, tables: &Tables<'_>) -> Result<List<Edge>, NoMe
     ensures { IfOk result (λ edges. (e : Triple) → has edges e ≡ has (reasoned_edges (told tables.now)) e) }
 {
     let handlers = handlers(alloc, tables)?;
-    let signallers = signallers(alloc, tables)?;
+    let signallers = signallers(alloc, tables, &handlers)?;
     reasoned_with(alloc, tables, &handlers, &signallers)
 }
 
@@ -169,7 +170,7 @@ pub fn policy_of(
         return Err(Refused::Fault(fault));
     }
     let policy = Policy {
-        labels: label_lines(alloc, texts.as_slice())?,
+        labels: label_lines(alloc, texts)?,
         objects: List::new(alloc),
         edges,
     };

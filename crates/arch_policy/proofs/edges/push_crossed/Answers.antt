@@ -1,11 +1,20 @@
-use Rattle.std.proofs.Common.{◌∷◌, [], refl}
-use Rattle.std.proofs.lemmas.List.{get_or_default}
-use Rattle.cap_model.specs.Edges.{edge}
+use Rattle.std.proofs.Common.{◌∙◌, ◌++◌, ap, refl}
+use Rattle.std.proofs.lemmas.List.{get_or_default, take_all}
+use Rattle.adl_meaning.specs.declared.flat.FlatEnd.{FlatEnd}
+use Rattle.arch_policy.specs.Tables.{told}
+use Rattle.arch_policy.proofs.Crossing.{from_end, from_ends}
 use Rattle.cam_base.specs.Gather.{gather}
 use Rattle.cam_base.proofs.Gathered.{gather_turn}
 use Rattle.arch_policy.proofs.edges.push_crossed.Goals as goal
 
-pub loop-from-preserved : goal.loop-from-preserved
-loop-from-preserved c =
-    gather_turn (λ i k. gather (λ j m. edge k c.args.authority m ∷ []) c.args.targets.now) c.args.labels.now _ c.loop-from.from-index _ c.args.edges.now _ _ refl
-    c.loop-from-test.true (get_or_default _ _ _ _ c.loop-from-test.true) c.loop-from.invariant c.in_ok-push_to_each.ensures
+pub loop-end-preserved : goal.loop-end-preserved
+loop-end-preserved c =
+    gather_turn (λ n (e : FlatEnd). from_end (told c.args.tables.now) c.args.authority c.args.ends.now e) c.args.ends.now _ c.loop-end.end-index _ c.args.edges.now _ _ refl
+    c.loop-end-test.true (get_or_default _ _ _ _ c.loop-end-test.true) c.loop-end.invariant c.in_ok-push_from.ensures
+
+pub returns : goal.returns
+returns c =
+    let t = told c.args.tables.now in
+    let old = c.args.edges.now in
+    c.loop-end.invariant ∙ ap (λ es. old ++ gather (λ n (e : FlatEnd). from_end t c.args.authority c.args.ends.now e) es) (take_all c.loop-end.end-index c.args.ends.now c.loop-end-test.false)
+    ∙ ap (λ z. old ++ z) (from_ends t c.args.authority c.args.ends.now)

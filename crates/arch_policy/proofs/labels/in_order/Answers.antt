@@ -6,4 +6,4 @@ use Rattle.arch_policy.proofs.labels.in_order.Goals as goal
 pub returns : goal.returns
 returns c =
     subst (λ z. c.from_vec.result ≡ in_order z) c.into_vec-texts.ensures
-    (c.from_vec.ensures ∙ sorted_once c.into_vec-texts.result.items c.sort_unstable.new.self.items c.dedup.new.self.items c.sort_unstable.ensures.permutation c.sort_unstable.ensures.sorted c.dedup.ensures.filtered)
+    (c.from_vec.ensures ∙ sorted_once c.into_vec-texts.result.items c.sort.new.self.items c.dedup.new.self.items c.sort.ensures.permutation c.in_ok-sort.ensures.sorted c.dedup.ensures.filtered)

@@ -5,5 +5,5 @@ use Rattle.arch_policy.proofs.policy.policy_of.Goals as goal
 
 pub label_lines-requires : goal.label_lines-requires
 label_lines-requires c =
-    let are : c.as_slice.result.now ≡ label_texts c.args.flat.now = c.as_slice.ensures ∙ c.in_ok-texts.ensures.texts in
+    let are : c.in_ok-texts.field-0.texts ≡ label_texts c.args.flat.now = c.in_ok-texts.ensures.texts in
     subst (λ z. length z < 2 ^ 32) (sym are) (few_texts c.args.flat.now c.requires.few)

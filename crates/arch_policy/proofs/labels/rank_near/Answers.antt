@@ -1,0 +1,15 @@
+use Rattle.std.proofs.Common.{◌≡◌, ◌∙◌, ap, subst, sym}
+use Rattle.std.specs.Str.{bytes_eq}
+use Rattle.std.proofs.lemmas.List.{get_or_default}
+use Rattle.arch_policy.proofs.Ordering.{Rises, order_rises, rank_here, same_text}
+use Rattle.arch_policy.proofs.labels.rank_near.Goals as goal
+
+pub returns-in-Some : goal.returns-in-Some
+returns-in-Some c =
+    let ts = c.args.texts.now in
+    let other = c.in-Some.other.now in
+    let text = c.args.text.now in
+    let there = c.in-Some.ensures.lookup in
+    let same : other ≡ text = same_text other text (ap (λ z. bytes_eq z text) (sym c.as_bytes.ensures) ∙ sym c.eq.ensures ∙ c.if-eq.true) in
+    let rises : Rises ts = subst Rises (sym c.requires.1) (order_rises c.requires.0) in
+    sym (rank_here ts c.args.near text rises there.3.0 (sym same ∙ there.1 ∙ get_or_default ts c.args.near other text there.3.0))
