@@ -1,9 +1,9 @@
 ghost use Rattle.cam_base.specs.Texts.{◌⊹◌, together};
 ghost use Rattle.cam_io.specs.Sinks.{IsOpen, Writes};
-ghost use Rattle.cap_model.specs.Canonical.{params, cap_end, slot_line, slots_text, named_line, buffer_line, has_slot, tcb_text, irq_text, entry_text};
-ghost use Rattle.cap_model.specs.RightsWord.{has_rights, rights_word};
+ghost use Rattle.cap_model.specs.Canonical.{cap_end, slot_line, slots_text, named_line, buffer_line, has_slot, tcb_text, irq_text, entry_text};
+ghost use Rattle.cap_model.specs.RightsWord.{rights_word};
 ghost use Rattle.std.specs.List.{flat_map};
-ghost use Rattle.std.specs.Prelude.{◌≡◌, ◌==◌, [], ◌∷◌, codes, not, true};
+ghost use Rattle.std.specs.Prelude.{◌≡◌, [], ◌∷◌, codes, true};
 
 use crate::digits::hexadecimal;
 use cam_io::{Failed, Outputs, write_all, write_parts};
@@ -106,37 +106,44 @@ fn write_slot<O: Outputs>(
     channel: u8,
 ) -> Result<(), Failed>
     requires { IsOpen (O.sink out.old) channel }
-    ensures { Writes result channel (slot_line spec.now slot.now) (O.sink out.old) (O.sink out.new) (O.faults out.old)
-        (O.faults out.new) }
+    ensures { Writes result channel (slot_line spec.now slot.now) (O.sink out.old) (O.sink out.new)
+        (O.faults out.old) (O.faults out.new) }
 {
     let mut digits = [0; 18];
-    write_parts(out, channel, &[hexadecimal(slot.0, &mut digits), b": "])?;
-    write_cap(spec, &slot.1, out, channel)
+    let number = hexadecimal(slot.0, &mut digits);
+    write_cap(spec, number, b": ", &slot.1, out, channel)
 }
 
-fn write_cap<O: Outputs>(spec: &Spec, cap: &Cap, out: &mut O, channel: u8) -> Result<(), Failed>
+/// Writes a capability behind a word and a mark, and the end of the line.
+fn write_cap<'a, O: Outputs>(
+    spec: &'a Spec,
+    word: &'a [u8],
+    mark: &'a [u8],
+    cap: &'a Cap,
+    out: &mut O,
+    channel: u8,
+) -> Result<(), Failed>
     requires { IsOpen (O.sink out.old) channel }
-    ensures { Writes result channel (cap_end spec.now cap.now) (O.sink out.old) (O.sink out.new) (O.faults out.old)
-        (O.faults out.new) }
+    ensures { Writes result channel (together (word.now ∷ mark.now ∷ []) ⊹ cap_end spec.now cap.now)
+        (O.sink out.old) (O.sink out.new) (O.faults out.old) (O.faults out.new) }
 {
-    write_all(out, channel, spec.name(cap.object))?;
-    write_params(cap, out, channel)?;
-    write_all(out, channel, b"\n")
-}
-
-fn write_params<O: Outputs>(cap: &Cap, out: &mut O, channel: u8) -> Result<(), Failed>
-    requires { IsOpen (O.sink out.old) channel }
-    ensures { Writes result channel (params (has_rights cap.now.rights) (not (cap.now.badge == 0)) cap.now.rights
-        cap.now.badge) (O.sink out.old) (O.sink out.new) (O.faults out.old) (O.faults out.new) }
-{
-    let word = rights_word(&cap.rights);
+    let name = spec.name(cap.object);
+    let rights = rights_word(&cap.rights);
     let mut digits = Buffer::new();
     let badge = digits.format(cap.badge).as_bytes();
     match (cap.rights.any(), cap.badge != 0) {
-        (false, false) => Ok(()),
-        (true, false) => write_parts(out, channel, &[b" (", word, b")"]),
-        (false, true) => write_parts(out, channel, &[b" (badge: ", badge, b")"]),
-        (true, true) => write_parts(out, channel, &[b" (", word, b", badge: ", badge, b")"]),
+        (false, false) => write_parts(out, channel, &[word, mark, name, b"\n"]),
+        (true, false) => write_parts(out, channel, &[word, mark, name, b" (", rights, b")\n"]),
+        (false, true) => write_parts(
+            out,
+            channel,
+            &[word, mark, name, b" (badge: ", badge, b")\n"],
+        ),
+        (true, true) => write_parts(
+            out,
+            channel,
+            &[word, mark, name, b" (", rights, b", badge: ", badge, b")\n"],
+        ),
     }
 }
 
@@ -217,22 +224,8 @@ fn write_buffer<O: Outputs>(
 {
     match buffer {
         None => Ok(()),
-        Some(cap) => write_some_buffer(spec, &cap, out, channel),
+        Some(cap) => write_cap(spec, b"ipc_buffer_slot", b": ", &cap, out, channel),
     }
-}
-
-fn write_some_buffer<O: Outputs>(
-    spec: &Spec,
-    cap: &Cap,
-    out: &mut O,
-    channel: u8,
-) -> Result<(), Failed>
-    requires { IsOpen (O.sink out.old) channel }
-    ensures { Writes result channel (codes "ipc_buffer_slot: " ⊹ cap_end spec.now cap.now) (O.sink out.old) (O.sink out.new)
-        (O.faults out.old) (O.faults out.new) }
-{
-    write_all(out, channel, b"ipc_buffer_slot: ")?;
-    write_cap(spec, cap, out, channel)
 }
 
 fn write_irq_slot<O: Outputs>(

@@ -3,7 +3,7 @@ ghost use Rattle.cam_base.specs.Texts.{together};
 ghost use Rattle.cam_io.specs.Sinks.{IsOpen, Writes};
 ghost use Rattle.cap_model.specs.Canonical.{level_word, elf_field, tcb_line, paddr_field, fill_field, frame_line, entry_line};
 ghost use Rattle.std.specs.List.{flat_map};
-ghost use Rattle.std.specs.Prelude.{◌≡◌, [], ◌∷◌, codes};
+ghost use Rattle.std.specs.Prelude.{◌≡◌, [], ◌∷◌, None, codes};
 
 use crate::digits::hexadecimal;
 use cam_base::Text;
@@ -116,6 +116,49 @@ fn write_elf<O: Outputs>(elf: &Option<Text>, out: &mut O, channel: u8) -> Result
 }
 
 fn write_frame<O: Outputs>(
+    name: &[u8],
+    paddr: Option<u64>,
+    fill: &Option<Fill>,
+    out: &mut O,
+    channel: u8,
+) -> Result<(), Failed>
+    requires { IsOpen (O.sink out.old) channel }
+    ensures { Writes result channel (frame_line name.now paddr fill.now) (O.sink out.old) (O.sink out.new) (O.faults out.old)
+        (O.faults out.new) }
+{
+    match fill {
+        None => write_zeros(name, paddr, out, channel),
+        Some(_) => write_filled(name, paddr, fill, out, channel),
+    }
+}
+
+fn write_zeros<O: Outputs>(
+    name: &[u8],
+    paddr: Option<u64>,
+    out: &mut O,
+    channel: u8,
+) -> Result<(), Failed>
+    requires { IsOpen (O.sink out.old) channel }
+    ensures { Writes result channel (frame_line name.now paddr None) (O.sink out.old) (O.sink out.new) (O.faults out.old)
+        (O.faults out.new) }
+{
+    let mut digits = [0; 18];
+    match paddr {
+        None => write_parts(out, channel, &[name, b" = frame (4k)\n"]),
+        Some(paddr) => write_parts(
+            out,
+            channel,
+            &[
+                name,
+                b" = frame (4k, paddr: ",
+                hexadecimal(paddr, &mut digits),
+                b")\n",
+            ],
+        ),
+    }
+}
+
+fn write_filled<O: Outputs>(
     name: &[u8],
     paddr: Option<u64>,
     fill: &Option<Fill>,

@@ -1,23 +1,27 @@
-use Rattle.cam_io.proofs.Sequence.{writes_after, writes_first, writes_exit, open_still}
+use Rattle.std.proofs.Common.{◌≡◌, ℕ, ◌==◌, not, true, sym, arith}
+use Rattle.std.proofs.lemmas.Bool.Decides.{nat_tests}
+use Rattle.capdl_write.proofs.CapEnds.{bare, with_badge, with_both, with_rights}
 use Rattle.capdl_write.proofs.holder.write_cap.Goals as goal
 
-pub returns-in_err-write_all : goal.returns-in_err-write_all
-returns-in_err-write_all g c =
-    let failed = rw c.name.ensures at c.in_err-write_all.ensures.writes in
-    writes_exit c.from_residual.ensures.0 (writes_first _ (writes_first _ failed))
+not_zero : (n : ℕ) → (n ≡ 0 → ⊥) → not (n == 0) ≡ true
+not_zero n h = grind (arith, nat_tests)
 
-pub write_params-requires : goal.write_params-requires
-write_params-requires g c = open_still c.in_ok-write_all.ensures.writes c.requires
+pub returns-in-true-true : goal.returns-in-true-true
+returns-in-true-true g c =
+    let h = rw (c.name-name.ensures, c.rights_word-rights.ensures, c.as_bytes-badge.ensures.value, c.format.ensures.text, with_both) at c.write_parts.ensures in
+    rw (sym c.in-true-true.ensures, not_zero c.args.cap.now.badge c.in-true-true.is-1) h
 
-pub returns-in_err-write_params : goal.returns-in_err-write_params
-returns-in_err-write_params g c =
-    let name = rw c.name.ensures at c.in_ok-write_all.ensures.writes in
-    writes_exit c.from_residual-in_err-write_params.ensures.0 (writes_first _ (writes_after c.in_err-write_params.ensures name))
+pub returns-in-false-true : goal.returns-in-false-true
+returns-in-false-true g c =
+    let h = rw (c.name-name.ensures, c.as_bytes-badge.ensures.value, c.format.ensures.text, with_badge) at c.write_parts-in-false-true.ensures in
+    rw (sym c.in-false-true.ensures, not_zero c.args.cap.now.badge c.in-false-true.is-1) h
 
-pub write_all-requires-2 : goal.write_all-requires-2
-write_all-requires-2 g c = open_still (writes_after c.in_ok-write_params.ensures c.in_ok-write_all.ensures.writes) c.requires
+pub returns-in-true-false : goal.returns-in-true-false
+returns-in-true-false g c =
+    let h = rw (c.name-name.ensures, c.rights_word-rights.ensures, with_rights) at c.write_parts-in-true-false.ensures in
+    rw (sym c.in-true-false.ensures, c.in-true-false.is-1) h
 
-pub returns : goal.returns
-returns g c =
-    let name = rw c.name.ensures at c.in_ok-write_all.ensures.writes in
-    writes_after c.write_all-2.ensures.writes (writes_after c.in_ok-write_params.ensures name)
+pub returns-in-false-false : goal.returns-in-false-false
+returns-in-false-false g c =
+    let h = rw (c.name-name.ensures, bare) at c.write_parts-in-false-false.ensures in
+    rw (sym c.in-false-false.ensures, c.in-false-false.is-1) h
