@@ -1,9 +1,9 @@
 -- Which images clash, section by section.
-use Rattle.std.proofs.Common.{◌≡◌, ◌∙◌, ◌<◌, ◌+◌, ◌&&◌, ◌||◌, ℕ, Bool, true, false, List, get_or, set, map, drop, length, refl, sym, ap, nat_eq, ⊎_elim}
+use Rattle.std.proofs.Common.{◌≡◌, ◌∙◌, ◌<◌, ◌≤◌, ◌+◌, ◌&&◌, ◌||◌, ℕ, zero, suc, Bool, true, false, not, arith, List, [], ◌∷◌, get_or, replicate, set, map, drop, length, refl, sym, ap, nat_eq, ⊎_elim}
 use Rattle.std.specs.List.{list_any}
 use Rattle.std.specs.List.Sorted.{IsPermutation}
 use Rattle.std.proofs.lemmas.Bool.{cases_eq, eq-eqb, ne_eqb}
-use Rattle.std.proofs.lemmas.List.{get_or-set_same, get_or-set_other}
+use Rattle.std.proofs.lemmas.List.{at_drop_all, get_or-set_same, get_or-set_other, length-map}
 use Rattle.std.proofs.lemmas.List.Sorted.{list_any-IsPermutation}
 use Rattle.std.proofs.Math.Bool.{and-false}
 use Rattle.cam_base.proofs.Lists.{drop_first, list_any-map}
@@ -11,6 +11,7 @@ use Rattle.name_tables.specs.Sharing.{shares}
 use Rattle.name_tables.specs.declared.region.Region.{Region}
 use Rattle.source_images.specs.Images.{Placed}
 use Rattle.source_images.specs.SpaceFaults.{clashes, clashes_with}
+use Rattle.source_images.specs.SectionPages.{share_page}
 use Rattle.source_images.specs.ProgramsTold.{placed_told, region_of, sections_told}
 use Rattle.source_images.specs.declared.sections.Placed.{Placed as Given}
 
@@ -21,6 +22,26 @@ clashes_among all xs m = list_any (λ x. nat_eq x.image m && list_any (clashes_w
 -- what the index of all pages says of a section
 pub any-shares : (all : List Placed) (x : Placed) (index : List Region) → IsPermutation (map region_of all) index → list_any (shares (region_of x)) index ≡ list_any (clashes_with x) all
 any-shares all x index h = sym (list_any-IsPermutation (shares (region_of x)) (map region_of all) index h) ∙ list_any-map (shares (region_of x)) region_of all
+
+-- a section alone clashes with none
+pub none_clash : (all : List Placed) → length all < 2 → (m : ℕ) → clashes all m ≡ false
+none_clash [] l m = refl
+none_clash (x ∷ []) l m =
+    let own : (nat_eq x.image x.image && nat_eq x.number x.number) ≡ true = ap (λ b. b && nat_eq x.number x.number) (eq-eqb x.image x.image refl) ∙ eq-eqb x.number x.number refl in
+    ap (λ b. (nat_eq x.image m && ((not b && share_page x.section x.section) || false)) || false) own ∙ ap (λ b. b || false) (and-false (nat_eq x.image m))
+none_clash (x ∷ y ∷ all) l m = absurd (omega arith)
+
+unmarked_all : (n m : ℕ) → get_or (replicate n false) m false ≡ false
+unmarked_all zero m = refl
+unmarked_all (suc n) zero = refl
+unmarked_all (suc n) (suc m) = unmarked_all n m
+
+pub alone : (ps : List Given) (marks : List Bool) (n m : ℕ) → length ps < 2 → marks ≡ replicate n false → get_or marks m false ≡ clashes (sections_told ps) m
+alone ps marks n m l e = ap (λ z. get_or z m false) e ∙ unmarked_all n m ∙ sym (none_clash (sections_told ps) (omega (arith, l, length-map ps placed_told)) m)
+
+or_false : (b : Bool) → b || false ≡ b
+or_false true = refl
+or_false false = refl
 
 step_true : (b e r : Bool) → e ≡ true → true || r ≡ b || ((e && true) || r)
 step_true true e r s = refl
@@ -53,3 +74,7 @@ module _ (all : List Placed) (ps : List Given) (i : ℕ) (p : Given) (marks : Li
 
   pub unmarked_turn : list_any (clashes_with (placed_told p)) all ≡ false → (m : ℕ) → get_or marks m false || clashes_among all (sections_told (drop (i + 1) ps)) m ≡ clashes all m
   unmarked_turn t m = unmarked (get_or marks m false) (nat_eq p.image m) (list_any (clashes_with (placed_told p)) all) (clashes_among all (sections_told (drop (i + 1) ps)) m) t ∙ next m
+
+-- where all sections have been looked at
+pub all_marked : (all : List Placed) (ps : List Given) (i m : ℕ) (b : Bool) → length ps ≤ i → b || clashes_among all (sections_told (drop i ps)) m ≡ clashes all m → b ≡ clashes all m
+all_marked all ps i m b l e = sym (or_false b) ∙ ap (λ z. b || z) (sym (at_drop_all (λ z. clashes_among all (sections_told z) m) ps i l)) ∙ e

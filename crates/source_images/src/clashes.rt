@@ -26,7 +26,7 @@ fn region_of(placed: &Placed<'_>) -> Region
 fn regions(alloc: Global, sections: &[Placed<'_>]) -> Result<Vec<Region>, NoMemory>
     ensures { IfOk result (λ v. v.items ≡ map region_of (sections_told sections.now)) }
 {
-    let mut regions = Vec::new(alloc);
+    let mut regions = Vec::with_capacity(alloc, sections.len())?;
     for placed in sections {
         regions.push(region_of(placed))?;
     }
@@ -50,8 +50,11 @@ pub fn clashing(
     ensures count { IfOk result (λ v. length v.items ≡ images) }
     ensures marks { IfOk result (λ v. (m : ℕ) → slice_index_or v.items m false ≡ clashes (sections_told sections.now) m) }
 {
-    let index = index_of(alloc, sections)?;
     let mut marks = vec![in alloc; false; images]?;
+    if sections.len() < 2 {
+        return Ok(marks);
+    }
+    let index = index_of(alloc, sections)?;
     for placed in sections {
         if index.shares_any(&region_of(placed)) {
             marks[placed.image as usize] = true;

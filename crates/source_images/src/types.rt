@@ -106,7 +106,7 @@ pub fn numbers_of(
     requires { (n : Items ℕ) → found numbers.now n ≡ position (bytes_eq n) (types source.now flat.now) }
     ensures { IfOk result (λ list. list ≡ map (type_number source.now flat.now) flat.now.leaves) }
 {
-    let mut list = List::new(alloc);
+    let mut list = List::from_vec(Vec::with_capacity(alloc, flat.leaves.len())?);
     for leaf in flat.leaves.as_slice() {
         list.push(number_of(source, leaf, numbers))?;
     }

@@ -1,10 +1,10 @@
-use Rattle.std.proofs.Common.{◌≡◌, ◌∙◌, true, sym, ap, arith}
+use Rattle.std.proofs.Common.{◌≡◌, ◌∙◌, rules, true, sym, ap, arith}
 use Rattle.std.specs.List.{list_any}
 use Rattle.std.proofs.lemmas.List.{length-set}
 use Rattle.name_tables.specs.Sharing.{shares}
 use Rattle.source_images.specs.SpaceFaults.{clashes_with}
 use Rattle.source_images.specs.ProgramsTold.{placed_told, sections_told}
-use Rattle.source_images.proofs.Clashing.{any-shares, marked_turn, unmarked_turn}
+use Rattle.source_images.proofs.Clashing.{all_marked, alone, any-shares, marked_turn, unmarked_turn}
 use Rattle.source_images.proofs.SectionsTold.{told_at}
 use Rattle.source_images.proofs.clashes.clashing.Goals as goal
 use Rattle.source_images.proofs.clashes.clashing.Goals.{then-shares_any, else-shares_any}
@@ -34,3 +34,9 @@ loop-placed-preserved c =
         rest = unmarked_turn all ps i p marks c.loop-placed-test.true c.placed-item.is c.loop-placed.invariant.rest (test ∙ w.if-shares_any.false);
       })
     ]
+
+pub returns-then-sections-lt2-clause-marks : goal.returns-then-sections-lt2-clause-marks
+returns-then-sections-lt2-clause-marks c = λ m. alone c.args.sections.now c.in_ok-marks.marks.items c.args.images m c.if-sections-lt2.true (c.in_ok-marks.ensures.items_if_clones_equal (λ y e. search rules))
+
+pub returns-clause-marks : goal.returns-clause-marks
+returns-clause-marks c = λ m. all_marked (sections_told c.args.sections.now) c.args.sections.now c.loop-placed.placed-index m _ c.loop-placed-test.false (c.loop-placed.invariant.rest m)
