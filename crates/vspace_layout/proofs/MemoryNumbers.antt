@@ -21,12 +21,6 @@ use Rattle.vspace_layout.proofs.FirstPorts.{same_key-refl}
 use Rattle.vspace_layout.proofs.Joining.{gather_mapped}
 use Rattle.vspace_layout.proofs.Laying.{ones_or}
 
--- ---- lists
-
-pub gather_push : {X Y : Type 0} (f : ℕ → X → List Y) (xs : List X) (x : X) → gather f (xs ++ x ∷ []) ≡ gather f xs ++ f (length xs) x
-gather_push f [] x = append-nil (f 0 x)
-gather_push f (z ∷ xs) x = ap (λ w. f 0 z ++ w) (gather_push (λ k y. f (suc k) y) xs x) ∙ sym (append_assoc (f 0 z) _ (f (suc (length xs)) x))
-
 -- the turn of a loop over a slice of copies
 pub copy_turn : {X Y : Type 0} (f : ℕ → X → List Y) (xs : List X) (i : ℕ) (d : X) (old mid new : List Y) → i < length xs → mid ≡ old ++ gather f (take i xs) → new ≡ mid ++ f i (get_or xs i d)
     → new ≡ old ++ gather f (take (i + 1) xs)

@@ -2,12 +2,7 @@
 use Rattle.std.proofs.Common.{◌≡◌, ◌≤◌, ◌+◌, ◌∙◌, ℕ, zero, suc, List, [], ◌∷◌, ◌++◌, Option, Some, length, map, take, append_assoc, refl, sym, ap, arith}
 use Rattle.std.specs.Prelude.{sum}
 use Rattle.std.specs.List.{slice_get}
-use Rattle.std.specs.Iterator.{Yields}
-use Rattle.std.specs.Vec.Iter.{into_iter_items, into_iter_len, into_iter_steps}
-use Rattle.std.proofs.lemmas.Iterator.Adapters.{YieldsList-from_vec}
-use Rattle.std.proofs.lemmas.Iterator.Consumers.{YieldsList-so_far, YieldsList-turn}
 use Rattle.std.proofs.lemmas.List.Sums.{sum_by-cons}
-use Rattle.std.proofs.lemmas.Option.{slice_get_read}
 use Rattle.cam_base.specs.Gather.{before, gather}
 use Rattle.cam_base.proofs.Gathered.{length_append}
 use Rattle.vspace_layout.specs.declared.mapped.MappedPage.{MappedPage}
@@ -15,12 +10,8 @@ use Rattle.vspace_layout.specs.declared.spaces.FrameInfo.{FrameInfo}
 use Rattle.vspace_layout.specs.FrameNumbers.{own_added}
 use Rattle.vspace_layout.specs.Frames.{own_frame}
 use Rattle.vspace_layout.proofs.Few.{own_one}
-use Rattle.vspace_layout.proofs.MemoryNumbers.{gather_push}
+use Rattle.cspace_layout.proofs.Taking.{gather_push}
 use Rattle.cam_base.proofs.NumberedLists.{length-gather}
-
-pub map_same : {X : Type 0} (xs : List X) → map (λ x. x) xs ≡ xs
-map_same [] = refl
-map_same (x ∷ xs) = ap (λ z. x ∷ z) (map_same xs)
 
 -- ---- pages of a domain
 
@@ -62,20 +53,6 @@ sum_from f (m ∷ ms) (suc k) ps h e =
 -- the own frames of the domains before one, and the pages of that
 pub few_so_far : (ms : List (List MappedPage)) (k : ℕ) (ps : List MappedPage) → slice_get ms k ≡ Some ps → before own_added ms k + length ps ≤ sum (map (λ (qs : List MappedPage). length qs) ms)
 few_so_far ms k ps e = sum_from own_added ms k ps (λ n qs. own_upto n qs) e
-
--- ---- loops that take a list
-
--- what was taken is a front of the list, and what is taken next stands behind it
-pub record Turned {A : Type 0} (all xs : List A) (x : A) : Type 0 where
-  pub front : xs ≡ take (length xs) all
-  pub here : slice_get all (length xs) ≡ Some x
-
-pub turned : {A Z : Type 0} (s t u : _) (all : List A) → into_iter_items s ≡ all → into_iter_len s ≡ length all → (xs : List A) → Yields (into_iter_steps {X = A} {Z = Z}) s xs t → (r : Option A) (x : A) → r ≡ Some x → into_iter_steps {X = A} {Z = Z} t r u
-    → Turned all xs x
-turned {A} {Z} s t u all e n xs y r x is step =
-    let road = YieldsList-from_vec {A = A} {Z = Z} {s = s} all e n in
-    let turn = YieldsList-turn road xs t y r u x is step in
-    record { front = sym (map_same xs) ∙ YieldsList-so_far road xs t y; here = slice_get_read all (length all) (length xs) x refl turn.0 turn.1 }
 
 -- how many frames there are before the own ones of a domain, when those of the domains before it were added
 pub own_so_far : (ms sofar : List (List MappedPage)) (old frames : List FrameInfo) → sofar ≡ take (length sofar) ms → frames ≡ old ++ gather own_added sofar → length frames ≡ length old + before own_added ms (length sofar)

@@ -17,7 +17,8 @@ use page_tables::table_count;
 use source_images::{Images, section_page_count};
 use std::alloc::Global;
 
-fn region_pages(regions: &[Region]) -> u64
+/// The pages of regions.
+pub fn region_pages(regions: &[Region]) -> u64
     ensures { result ≡ capped (pages_in regions.now) }
 {
     let mut count: u64 = 0;

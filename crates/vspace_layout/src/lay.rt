@@ -16,7 +16,7 @@ ghost use Rattle.vspace_layout.specs.Outlines.{mapped_by, mapped_of, outlines as
 ghost use Rattle.vspace_layout.specs.PageLimits.{first_page_limit, page_counts};
 ghost use Rattle.vspace_layout.specs.Regions.{regions_in};
 
-use crate::counts::{all_own, all_pages, all_tables};
+use crate::counts::{all_own, all_pages, all_tables, region_pages};
 use crate::frames::number_all;
 use crate::mapped::{MappedPage, push_regions, push_sections};
 use crate::memory_frames::memory_frames;
@@ -28,7 +28,7 @@ use adl_ast::Source;
 use adl_meaning::{Flat, Settled};
 use cam_base::{Fault, List, NoMemory, Refused};
 use cspace_layout::{leaf_ends, limit_fault};
-use source_images::{Images, first_space_fault, sections_end};
+use source_images::{Images, first_space_fault, section_pages, sections_end};
 use std::alloc::Global;
 
 /// The most pages of all domains, and the most page tables.
@@ -47,8 +47,10 @@ fn mapped_of(
     ensures { IfOk result (λ pages. pages ≡ mapped_of settled.now images.now leaves.now regions.now) }
 {
     let base = sections_end(images.arch());
-    let mut pages = List::new(alloc);
-    push_sections(alloc, images, leaves, &mut pages)?;
+    let sections = section_pages(alloc, images, leaves)?;
+    let count = region_pages(regions).saturating_add(sections.len() as u64);
+    let mut pages = List::from_vec(Vec::with_capacity(alloc, count as usize)?);
+    push_sections(alloc, sections, &mut pages)?;
     let starts = starts_of(alloc, base, regions)?;
     push_regions(settled, starts.as_slice(), regions, &mut pages)?;
     Ok(pages)
@@ -146,8 +148,10 @@ fn lay(
     requires addresses { AddressesFit flat.now settled.now }
     ensures { IfOk result (λ spaces. spaces ≡ spaces_in flat.now settled.now base outlines.now mapped.items) }
 {
-    let memory = memory_frames(alloc, all_own(&mapped), flat, settled)?;
-    let mut own = List::new(alloc);
+    let count = all_own(&mapped);
+    let memory = memory_frames(alloc, count, flat, settled)?;
+    let room = count.saturating_add(memory.frames.len() as u64);
+    let mut own = List::from_vec(Vec::with_capacity(alloc, room as usize)?);
     let pages = number_all(alloc, mapped, &memory.firsts, &mut own)?;
     let spaces = spaces_with(alloc, flat, settled, base, outlines, pages)?;
     let frames = joined(own, memory.frames)?;

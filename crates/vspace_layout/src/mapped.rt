@@ -1,24 +1,23 @@
 //! The pages of domains, before their frames have numbers.
 
-ghost use Rattle.source_images.specs.Numbered.{AreApart};
 ghost use Rattle.cam_base.specs.Gather.{gather};
-ghost use Rattle.std.specs.Prelude.{◌≡◌, ◌<◌, ◌+◌, ◌*◌, ◌^◌, ◌++◌, length, OnOk};
+ghost use Rattle.std.specs.Prelude.{◌≡◌, ◌<◌, ◌+◌, ◌*◌, ◌^◌, ◌++◌, length, map, IfOk, OnOk};
 ghost use Rattle.vspace_layout.specs.MappedPages.{may_read, may_write, window_page, zero_page};
-ghost use Rattle.vspace_layout.specs.MappedPages.{pages_from, region_page, section_page, section_part};
+ghost use Rattle.vspace_layout.specs.MappedPages.{pages_from, region_page, section_page};
 ghost use Rattle.vspace_layout.specs.Outlines.{RegionsFit, starting};
 
+use crate::filling::Filling;
 use crate::region::{Content, Region};
 use adl_meaning::{EndSetting, Settled};
 use cam_base::{List, NoMemory};
-use cap_model::Fill;
 use cspace_layout::setting_of;
-use source_images::{Images, SectionPage, section_pages};
+use source_images::SectionPage;
 use std::alloc::Global;
 
 /// What a page shows: a frame of the domain's own, or a page of a connection's memory.
 #[derive(Drop)]
 pub enum Shown {
-    Own(Option<Fill>),
+    Own(Filling),
     Memory { connection: u32, page: u64 },
 }
 
@@ -31,29 +30,28 @@ pub struct MappedPage {
     pub shown: Shown,
 }
 
-fn section_page(page: SectionPage) -> MappedPage
-    ensures { result ≡ section_page page }
+fn section_page(alloc: Global, page: SectionPage) -> Result<MappedPage, NoMemory>
+    ensures { IfOk result (λ mapped. mapped ≡ section_page page) }
 {
-    MappedPage {
-        at: page.vaddr,
+    let SectionPage { vaddr, write, fill } = page;
+    Ok(MappedPage {
+        at: vaddr,
         read: true,
-        write: page.write,
-        shown: Shown::Own(page.fill),
-    }
+        write,
+        shown: Shown::Own(Filling::of(alloc, fill)?),
+    })
 }
 
-/// Maps the pages of the sections of the programs that these leaves run.
+/// Maps the pages of sections.
 pub fn push_sections(
     alloc: Global,
-    images: &Images,
-    leaves: &[u32],
+    sections: List<SectionPage>,
     pages: &mut List<MappedPage>,
 ) -> Result<(), NoMemory>
-    requires { AreApart images.now leaves.now }
-    ensures { OnOk result (pages.new ≡ pages.old ++ section_part images.now leaves.now) }
+    ensures { OnOk result (pages.new ≡ pages.old ++ map section_page sections) }
 {
-    for page in section_pages(alloc, images, leaves)?.into_vec() {
-        pages.push(section_page(page))?;
+    for page in sections.into_vec() {
+        pages.push(section_page(alloc, page)?)?;
     }
     Ok(())
 }
@@ -96,7 +94,7 @@ fn zero_page(at: u64) -> MappedPage
         at,
         read: true,
         write: true,
-        shown: Shown::Own(None),
+        shown: Shown::Own(Filling::zeros()),
     }
 }
 

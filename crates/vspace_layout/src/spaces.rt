@@ -1,6 +1,6 @@
+use crate::filling::Filling;
 use crate::owner::Owner;
 use cam_base::List;
-use cap_model::Fill;
 use cspace_layout::EndAt;
 
 /// A page that is mapped in a space.
@@ -47,8 +47,8 @@ pub struct FrameInfo {
     pub owner: Owner,
     /// Its physical address, where it is a device's.
     pub paddr: Option<u64>,
-    /// What it is filled with; without it the frame is zeros.
-    pub fill: Option<Fill>,
+    /// What it is filled with.
+    pub fill: Filling,
 }
 
 /// The spaces of all domains, and all frames.

@@ -5,8 +5,8 @@ use Rattle.cam_base.proofs.Gathered.{length_append}
 use Rattle.vspace_layout.specs.declared.mapped.MappedPage.{MappedPage}
 use Rattle.vspace_layout.specs.declared.spaces.Page.{Page}
 use Rattle.vspace_layout.specs.FrameNumbers.{own_added, pages_numbered}
-use Rattle.vspace_layout.proofs.MemoryNumbers.{gather_push}
-use Rattle.vspace_layout.proofs.Numbering.{Turned, few_so_far, own_so_far, turned}
+use Rattle.cspace_layout.proofs.Taking.{Turned, gather_push, turned}
+use Rattle.vspace_layout.proofs.Numbering.{few_so_far, own_so_far}
 use Rattle.vspace_layout.proofs.frames.number_all.Goals as goal
 
 pub number_pages-requires-clause-few : goal.number_pages-requires-clause-few

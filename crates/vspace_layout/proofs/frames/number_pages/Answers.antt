@@ -8,8 +8,8 @@ use Rattle.vspace_layout.specs.declared.spaces.FrameInfo.{FrameInfo}
 use Rattle.vspace_layout.specs.declared.spaces.Page.{Page}
 use Rattle.vspace_layout.specs.FrameNumbers.{number_of, numbered_page, own_added}
 use Rattle.vspace_layout.proofs.Laying.{with_frame}
-use Rattle.vspace_layout.proofs.MemoryNumbers.{gather_push}
-use Rattle.vspace_layout.proofs.Numbering.{Turned, frames_more, frames_so_far, own_upto, turned}
+use Rattle.cspace_layout.proofs.Taking.{Turned, gather_push, turned}
+use Rattle.vspace_layout.proofs.Numbering.{frames_more, frames_so_far, own_upto}
 use Rattle.vspace_layout.proofs.frames.number_pages.Goals as goal
 
 pub frame_of-requires-clause-few : goal.frame_of-requires-clause-few

@@ -1,7 +1,7 @@
-use Rattle.std.proofs.Common.{◌∙◌, ◌++◌, ap, sym, subst, length, List, ℕ}
+use Rattle.std.proofs.Common.{◌≡◌, ◌∙◌, ◌++◌, [], ap, map, rules, sym, subst, length, List, ℕ}
 use Rattle.cam_base.specs.Gather.{gather}
 use Rattle.source_images.specs.Images.{arch_of, sections_end}
-use Rattle.vspace_layout.specs.MappedPages.{region_part, section_part}
+use Rattle.vspace_layout.specs.MappedPages.{region_part, section_page, section_part}
 use Rattle.vspace_layout.specs.Outlines.{RegionsFit, starting, starts_in}
 use Rattle.vspace_layout.proofs.Starting.{low_base, regions_fit, starting_same, starts_length}
 use Rattle.vspace_layout.proofs.lay.mapped_of.Goals as goal
@@ -21,7 +21,9 @@ returns c =
     let settled = c.args.settled.now in
     let end = sections_end (arch_of c.args.images.now.images) in
     let base = c.sections_end-base.ensures ∙ ap sections_end c.arch.ensures in
-    let front = c.in_ok-push_sections.ensures ∙ ap (λ z. z ++ section_part c.args.images.now c.args.leaves.now) c.new-pages.ensures in
+    let none : c.from_vec-pages.result ≡ [] = search rules in
+    let front : c.push_sections.new.pages ≡ section_part c.args.images.now c.args.leaves.now =
+    c.in_ok-push_sections.ensures ∙ ap (λ z. z ++ map section_page c.in_ok-sections.sections) none ∙ ap (map section_page) c.in_ok-sections.ensures in
     c.in_ok-push_regions.ensures
     ∙ ap (λ z. c.push_sections.new.pages ++ gather (starting settled z) rs) (c.as_slice.ensures ∙ c.in_ok-starts.ensures ∙ ap (λ b. starts_in b rs) base)
     ∙ ap (λ z. c.push_sections.new.pages ++ z) (starting_same settled end rs)

@@ -7,7 +7,7 @@ use Rattle.cam_base.proofs.NumberedLists.{below, read_place}
 use Rattle.vspace_layout.specs.declared.outline.Outline.{Outline}
 use Rattle.vspace_layout.specs.declared.spaces.Page.{Page}
 use Rattle.vspace_layout.specs.Outlines.{space_in}
-use Rattle.vspace_layout.proofs.Numbering.{Turned, turned}
+use Rattle.cspace_layout.proofs.Taking.{Turned, turned}
 use Rattle.vspace_layout.proofs.lay.spaces_with.Goals as goal
 
 pub space_of-requires-clause-few : goal.space_of-requires-clause-few
