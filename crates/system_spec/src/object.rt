@@ -17,7 +17,7 @@ use crate::tcbs::thread_object;
 use cam_base::{List, NoMemory};
 use cap_model::{Fill, Object};
 use std::alloc::Global;
-use vspace_layout::FrameInfo;
+use vspace_layout::{Filling, FrameInfo};
 
 fn cnode(
     alloc: Global,
@@ -84,10 +84,10 @@ fn page_table(
     }
 }
 
-fn copied_fill(alloc: Global, fill: &Option<Fill>) -> Result<Option<Fill>, NoMemory>
-    ensures { IfOk result (λ made. made ≡ fill.now) }
+fn copied_fill(alloc: Global, filling: &Filling) -> Result<Option<Fill>, NoMemory>
+    ensures { IfOk result (λ made. made ≡ filling.now) }
 {
-    match fill {
+    match filling.get() {
         Some(fill) => Ok(Some(Fill {
             offset: fill.offset,
             length: fill.length,
