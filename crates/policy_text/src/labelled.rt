@@ -59,7 +59,7 @@ fn label_all<'a>(
     ensures labels { IfOk result (λ labels. map (λ n. Some n) labels ≡ map (λ e. spread_found table.now e.name) entries.now) }
     ensures fault { IfErr result (IsFault (first_unlabelled (spread_found table.now) entries.now)) }
 {
-    let mut labels = List::new(alloc);
+    let mut labels = List::from_vec(Vec::with_capacity(alloc, entries.len())?);
     for entry in entries {
         let label = label_of(alloc, table, entry)?;
         labels.push(label)?;
