@@ -30,14 +30,18 @@ use Rattle.adl_import.specs.Loaded.{AlikeInTurns, IsClean, IsFirst, IsLoadedFrom
 use Rattle.adl_import.proofs.Firsts.{turns_within, turns_make}
 use Rattle.adl_import.proofs.Utf8Names.{name_given_utf8}
 
-fault_in : (m : Contents) (files : List SourceFile) (name in_file : List ℕ) (place : Place) (bytes : List ℕ) (f : Fault) → in_file ≡ name → length bytes ≤ file_limit
-    → (IsFirstFault (length files) bytes f ⊎ ((tokens : List Token) × Lexes (length files) bytes tokens × IsFileIn bytes tokens (Err (refused.Fault f))))
+fault_in : (m : Contents) (files : List SourceFile) (name in_file : List ℕ) (place : Place) (bytes : List ℕ) (f : Fault)
+    → in_file ≡ name → length bytes ≤ file_limit
+    → (IsFirstFault (length files) bytes f ⊎ ((tokens : List Token) × Lexes (length files) bytes tokens
+    × IsFileIn bytes tokens (Err (refused.Fault f))))
     → get m name ≡ Some bytes → IsReadFault m files name place f in_file
 fault_in m files name in_file place bytes f e l (inl s) h = subst (IsReadFault m files name place f) (sym e) (lexing h l s)
-fault_in m files name in_file place bytes f e l (inr s) h = subst (IsReadFault m files name place f) (sym e) (parsing s.0 h l s.1 s.2)
+fault_in m files name in_file place bytes f e l (inr s) h = subst (IsReadFault m files name place f) (sym e)
+    (parsing s.0 h l s.1 s.2)
 
 -- a file that is read and not too long
-pub read_ok : (m : Contents) (files : List SourceFile) (name : List ℕ) (place : Place) (bytes : List ℕ) (r : Result SourceFile LoadError)
+pub read_ok : (m : Contents) (files : List SourceFile) (name : List ℕ) (place : Place) (bytes : List ℕ)
+    (r : Result SourceFile LoadError)
     → get m name ≡ Some bytes → length bytes ≤ file_limit → IsParsed (length files) name bytes r → IsRead m files name place r
 read_ok m files name place bytes (Ok file) h l p = (
   p.0,
@@ -54,7 +58,8 @@ read_ok m files name place bytes (Err (error.ReadFault in_file)) h l p = absurd 
 read_ok m files name place bytes (Err error.NoMemory) h l p = tt
 
 pub read_absent : (m : Contents) (files : List SourceFile) (name : List ℕ) (place : Place) (e : LoadError)
-    → e ≡ error.Fault (fault_at NoFile place name) (met_in files name place) → get m name ≡ None → IsRead m files name place (Err e)
+    → e ≡ error.Fault (fault_at NoFile place name) (met_in files name place) → get m name ≡ None
+    → IsRead m files name place (Err e)
 read_absent m files name place e is h = subst (λ (x : LoadError). IsRead m files name place (Err x)) (sym is) (absent h)
 
 pub read_too_long : (m : Contents) (files : List SourceFile) (name : List ℕ) (place : Place) (e : LoadError)
@@ -68,29 +73,41 @@ err_is (Ok x) e is h = absurd h
 err_is (Err x) e is h = ap Err h
 
 -- a turn that stops at its reading
-pub turn_unread : (m : Contents) (root : List ℕ) (files : List SourceFile) (known : List Meeting) (name : List ℕ) (place : Place) (e : LoadError)
-    → slice_get known (length files) ≡ Some (name, place) → IsRead m files name place (Err e) → IsTurn m root files known known (Err e)
+pub turn_unread : (m : Contents) (root : List ℕ) (files : List SourceFile) (known : List Meeting) (name : List ℕ) (place : Place)
+    (e : LoadError)
+    → slice_get known (length files) ≡ Some (name, place) → IsRead m files name place (Err e)
+    → IsTurn m root files known known (Err e)
 turn_unread m root files known name place (error.Fault f in_file) n h = (name, place, n, reading h)
-turn_unread m root files known name place (error.ReadFault in_file) n h = (place, n ∙ ap (λ (l : List ℕ). Some (l, place)) (sym h))
+turn_unread m root files known name place (error.ReadFault in_file) n h =
+    (place, n ∙ ap (λ (l : List ℕ). Some (l, place)) (sym h))
 turn_unread m root files known name place error.NoMemory n h = tt
 
-named_next : (known : List Meeting) (i : ℕ) (name own : List ℕ) (place : Place) → slice_get known i ≡ Some (name, place) → own ≡ name → slice_get known i ≡ Some (own, place)
+named_next : (known : List Meeting) (i : ℕ) (name own : List ℕ) (place : Place) → slice_get known i ≡ Some (name, place)
+    → own ≡ name → slice_get known i ≡ Some (own, place)
 named_next known i name own place n e = n ∙ ap (λ (l : List ℕ). Some (l, place)) (sym e)
 
 -- a turn that stops at an import
-pub turn_stopped : (m : Contents) (root : List ℕ) (files : List SourceFile) (known after : List Meeting) (file : SourceFile) (name : List ℕ) (place : Place) (e : LoadError)
+pub turn_stopped : (m : Contents) (root : List ℕ) (files : List SourceFile) (known after : List Meeting) (file : SourceFile)
+    (name : List ℕ) (place : Place) (e : LoadError)
     → slice_get known (length files) ≡ Some (name, place) → IsRead m files name place (Ok file)
-    → IsTakenIn (take_imports root file.name known (imports_of file.tree)) file.name after (Err e) → IsTurn m root files known after (Err e)
-turn_stopped m root files known after file name place (error.Fault f in_file) n h t =
-    (file.name, place, named_next known (length files) name file.name place n h.0, subst (IsTurnFault m root files known file.name place f) (sym t.1) (importing {file = file} refl h.1 t.0))
+    → IsTakenIn (take_imports root file.name known (imports_of file.tree)) file.name after (Err e)
+    → IsTurn m root files known after (Err e)
+turn_stopped m root files known after file name place (error.Fault f in_file) n h t = (
+  file.name,
+  place,
+  named_next known (length files) name file.name place n h.0,
+  subst (IsTurnFault m root files known file.name place f) (sym t.1) (importing {file = file} refl h.1 t.0),
+)
 turn_stopped m root files known after file name place (error.ReadFault in_file) n h t = absurd t
 turn_stopped m root files known after file name place error.NoMemory n h t = tt
 
 -- a turn without a fault
-pub turn_done : (m : Contents) (root : List ℕ) (files : List SourceFile) (known after : List Meeting) (file : SourceFile) (name : List ℕ) (place : Place)
+pub turn_done : (m : Contents) (root : List ℕ) (files : List SourceFile) (known after : List Meeting) (file : SourceFile)
+    (name : List ℕ) (place : Place)
     → slice_get known (length files) ≡ Some (name, place) → IsRead m files name place (Ok file)
     → take_imports root file.name known (imports_of file.tree) ≡ Ok after → IsTurn m root files known after (Ok (Some file))
-turn_done m root files known after file name place n h t = (place, named_next known (length files) name file.name place n h.0, h.1, t)
+turn_done m root files known after file name place n h t =
+    (place, named_next known (length files) name file.name place n h.0, h.1, t)
 
 each_more : (known : List Meeting) (m : Meeting) → AreUtf8 known → IsUtf8 m.0 → AreUtf8 (known ++ m ∷ [])
 each_more [] m a u = (u, tt)
@@ -110,29 +127,39 @@ record Keeps (root own : List ℕ) (known after : List Meeting) : Type 0 where
 same_kept : (root own : List ℕ) (known after : List Meeting) → known ≡ after → Keeps root own known after
 same_kept root own known after e = subst (Keeps root own known) e (record { few = λ h. h; utf8 = λ r o h. h })
 
-meet_kept : (root own : List ℕ) (is room : Bool) (known after : List Meeting) (place : Place) (name : List ℕ) (f : Fault) → (IsUtf8 root → IsUtf8 own → IsUtf8 name)
-    → (room ≡ true → length known < files_limit) → cond is (Ok known) (cond room (Ok (known ++ (name, place) ∷ [])) (Err f)) ≡ Ok after → Keeps root own known after
+meet_kept : (root own : List ℕ) (is room : Bool) (known after : List Meeting) (place : Place) (name : List ℕ) (f : Fault)
+    → (IsUtf8 root → IsUtf8 own → IsUtf8 name)
+    → (room ≡ true → length known < files_limit) → cond is (Ok known) (cond room (Ok (known ++ (name, place) ∷ [])) (Err f)) ≡ Ok
+    after → Keeps root own known after
 meet_kept root own true room known after place name f u r e = let same : known ≡ after = cc in same_kept root own known after same
 meet_kept root own false true known after place name f u r e =
     let same : known ++ (name, place) ∷ [] ≡ after = cc in
     let lt = r refl in
-    subst (Keeps root own known) same (record { few = λ h. simp length-append (omega arith); utf8 = λ v w a. each_more known (name, place) a (u v w) })
+    subst (Keeps root own known) same (record {
+      few = λ h. simp length-append (omega arith);
+      utf8 = λ v w a. each_more known (name, place) a (u v w);
+    })
 meet_kept root own false false known after place name f u r e = absurd (cc)
 
-given_kept : (root own : List ℕ) (given : Option (List ℕ)) (known after : List Meeting) (place : Place) → ((name : List ℕ) → given ≡ Some name → IsUtf8 root → IsUtf8 own → IsUtf8 name)
+given_kept : (root own : List ℕ) (given : Option (List ℕ)) (known after : List Meeting) (place : Place)
+    → ((name : List ℕ) → given ≡ Some name → IsUtf8 root → IsUtf8 own → IsUtf8 name)
     → meet_given known place given ≡ Ok after → Keeps root own known after
 given_kept root own None known after place u e = absurd (cc)
 given_kept root own (Some name) known after place u e =
-    meet_kept root own (is_known known name) _ known after place name (fault_at Limit place (codes "files")) (u name refl) (λ h. ltb-true (length known) files_limit h) e
+    meet_kept root own (is_known known name) _ known after place name (fault_at Limit place (codes "files")) (u name refl)
+    (λ h. ltb-true (length known) files_limit h) e
 
 import_kept : (built_in : Bool) (root own : List ℕ) (known after : List Meeting) (import : Import)
-    → cond built_in (Ok known) (meet_given known import.place (name_given root own import)) ≡ Ok after → Keeps root own known after
+    → cond built_in (Ok known) (meet_given known import.place (name_given root own import)) ≡ Ok after
+    → Keeps root own known after
 import_kept true root own known after import e = let same : known ≡ after = cc in same_kept root own known after same
 import_kept false root own known after import e =
-    given_kept root own (name_given root own import) known after import.place (λ name h r o. name_given_utf8 root own import name r o h) e
+    given_kept root own (name_given root own import) known after import.place
+    (λ name h r o. name_given_utf8 root own import name r o h) e
 
 imports_step : (root own : List ℕ) (known after : List Meeting) (imports : List Import) (r : Result (List Meeting) Fault)
-    → ((k : List Meeting) → r ≡ Ok k → Keeps root own known k) → and_then (λ (k : List Meeting). take_imports root own k imports) r ≡ Ok after
+    → ((k : List Meeting) → r ≡ Ok k → Keeps root own known k)
+    → and_then (λ (k : List Meeting). take_imports root own k imports) r ≡ Ok after
     → ((k : List Meeting) → take_imports root own k imports ≡ Ok after → Keeps root own k after) → Keeps root own known after
 imports_step root own known after imports (Err f) a e more = absurd (cc)
 imports_step root own known after imports (Ok k) a e more =
@@ -140,23 +167,28 @@ imports_step root own known after imports (Ok k) a e more =
     let others = more k e in
     record { few = λ h. others.few (one.few h); utf8 = λ r o h. others.utf8 r o (one.utf8 r o h) }
 
-imports_kept : (root own : List ℕ) (known after : List Meeting) (imports : List Import) → take_imports root own known imports ≡ Ok after → Keeps root own known after
+imports_kept : (root own : List ℕ) (known after : List Meeting) (imports : List Import)
+    → take_imports root own known imports ≡ Ok after → Keeps root own known after
 imports_kept root own known after [] e = let same : known ≡ after = cc in same_kept root own known after same
 imports_kept root own known after (i ∷ is) e =
-    imports_step root own known after is (take_import root own known i) (λ k h. import_kept (is_built_in i) root own known k i h) e (λ k h. imports_kept root own k after is h)
+    imports_step root own known after is (take_import root own known i) (λ k h. import_kept (is_built_in i) root own known k i h)
+    e (λ k h. imports_kept root own k after is h)
 
 -- turns know no more names than the limit
-pub turns_few : (m : Contents) (root : List ℕ) (files : List SourceFile) (known : List Meeting) → Turns m root files known → length known ≤ files_limit
+pub turns_few : (m : Contents) (root : List ℕ) (files : List SourceFile) (known : List Meeting) → Turns m root files known
+    → length known ≤ files_limit
 turns_few m root _ _ first = omega arith
 turns_few m root _ _ (next {files = files} {known = known} {after = after} {file = file} turns at is taken) =
     (imports_kept root file.name known after (imports_of file.tree) taken).few (turns_few m root files known turns)
 
 -- and UTF-8 alone
-pub turns_utf8 : (m : Contents) (root : List ℕ) (files : List SourceFile) (known : List Meeting) → IsUtf8 root → Turns m root files known → AreUtf8 known
+pub turns_utf8 : (m : Contents) (root : List ℕ) (files : List SourceFile) (known : List Meeting) → IsUtf8 root
+    → Turns m root files known → AreUtf8 known
 turns_utf8 m root _ _ r first = (r, tt)
 turns_utf8 m root _ _ r (next {files = files} {known = known} {after = after} {file = file} {place = place} turns at is taken) =
     let before = turns_utf8 m root files known r turns in
-    (imports_kept root file.name known after (imports_of file.tree) taken).utf8 r (each_at known (length files) (file.name, place) at before) before
+    (imports_kept root file.name known after (imports_of file.tree) taken).utf8 r (each_at known (length files) (file.name, place)
+    at before) before
 
 slice_get_none : {A : Type 0} (xs : List A) (i : ℕ) → slice_get xs i ≡ None → length xs ≤ i
 slice_get_none [] i e = omega arith
@@ -164,58 +196,76 @@ slice_get_none (x ∷ xs) zero e = absurd (cc)
 slice_get_none (x ∷ xs) (suc i) e = let h = slice_get_none xs i e in omega arith
 
 -- when a turn finds no file left
-pub loaded_clean : (m : Contents) (root : List ℕ) (files : List SourceFile) (known : List Meeting) → Turns m root files known → slice_get known (length files) ≡ None → IsClean m root files
+pub loaded_clean : (m : Contents) (root : List ℕ) (files : List SourceFile) (known : List Meeting) → Turns m root files known
+    → slice_get known (length files) ≡ None → IsClean m root files
 loaded_clean m root files known turns e =
-    let all = omega_all (length known) (length files) (turns_within m root files known turns) (slice_get_none known (length files) e) in
+    let all = omega_all (length known) (length files) (turns_within m root files known turns)
+    (slice_get_none known (length files) e) in
     record { source = turns_make m root files known turns all; known = known; turns = turns; all = all }
   where
     omega_all : (m n : ℕ) → n ≤ m → m ≤ n → m ≡ n
     omega_all m n h k = omega arith
 
 -- when a turn stops
-pub loaded_err : (m : Contents) (root : List ℕ) (files : List SourceFile) (known after : List Meeting) (e : LoadError) → Turns m root files known
+pub loaded_err : (m : Contents) (root : List ℕ) (files : List SourceFile) (known after : List Meeting) (e : LoadError)
+    → Turns m root files known
     → IsTurn m root files known after (Err e) → IsLoadedFrom m root (Err e)
 loaded_err m root files known after (error.Fault f in_file) turns h =
     record { name = h.0; turn = record { files = files; known = known; place = h.1; turns = turns; next = h.2 }; stands = h.3 }
-loaded_err m root files known after (error.ReadFault name) turns h = record { files = files; known = known; place = h.0; turns = turns; next = h.1 }
+loaded_err m root files known after (error.ReadFault name) turns h = record {
+  files = files;
+  known = known;
+  place = h.0;
+  turns = turns;
+  next = h.1;
+}
 loaded_err m root files known after error.NoMemory turns h = tt
 
 -- the root alone is known first
-pub turns_first : (m : Contents) (root top : List ℕ) (files : List SourceFile) (known : List Meeting) → top ≡ root → files ≡ [] → known ≡ (root, root_place) ∷ []
+pub turns_first : (m : Contents) (root top : List ℕ) (files : List SourceFile) (known : List Meeting) → top ≡ root → files ≡ []
+    → known ≡ (root, root_place) ∷ []
     → Turns m top files known
 turns_first m root top files known e f k =
     subst (λ (l : List SourceFile). Turns m top l known) (sym f)
     (subst (λ (l : List Meeting). Turns m top [] l) (sym (k ∙ ap (λ (r : List ℕ). (r, root_place) ∷ []) (sym e))) first)
 
 -- a turn of the files that are done
-pub turn_of : (m : Contents) (root : List ℕ) (files seen : List SourceFile) (known after : List Meeting) (r : Result (Option SourceFile) LoadError) → seen ≡ files
+pub turn_of : (m : Contents) (root : List ℕ) (files seen : List SourceFile) (known after : List Meeting)
+    (r : Result (Option SourceFile) LoadError) → seen ≡ files
     → IsTurn m root seen known after r → IsTurn m root files known after r
 turn_of m root files seen known after r s h = subst (λ (l : List SourceFile). IsTurn m root l known after r) s h
 
 -- a turn more
-pub turns_next : (m : Contents) (root : List ℕ) (files pushed : List SourceFile) (known after : List Meeting) (file : SourceFile) (o : Option SourceFile)
-    → Turns m root files known → o ≡ Some file → IsTurn m root files known after (Ok o) → pushed ≡ files ++ file ∷ [] → Turns m root pushed after
+pub turns_next : (m : Contents) (root : List ℕ) (files pushed : List SourceFile) (known after : List Meeting) (file : SourceFile)
+    (o : Option SourceFile)
+    → Turns m root files known → o ≡ Some file → IsTurn m root files known after (Ok o) → pushed ≡ files ++ file ∷ []
+    → Turns m root pushed after
 turns_next m root files pushed known after file o turns e h p =
     let t = subst (λ (x : Option SourceFile). IsTurn m root files known after (Ok x)) e h in
     subst (λ (l : List SourceFile). Turns m root l after) (sym p) (next turns t.1 t.2 t.3)
 
-pub turns_smaller : (m : Contents) (root : List ℕ) (files pushed : List SourceFile) (known after : List Meeting) (file : SourceFile) (o : Option SourceFile)
-    → length known ≤ files_limit → o ≡ Some file → IsTurn m root files known after (Ok o) → pushed ≡ files ++ file ∷ [] → files_limit - length pushed < files_limit - length files
+pub turns_smaller : (m : Contents) (root : List ℕ) (files pushed : List SourceFile) (known after : List Meeting)
+    (file : SourceFile) (o : Option SourceFile)
+    → length known ≤ files_limit → o ≡ Some file → IsTurn m root files known after (Ok o) → pushed ≡ files ++ file ∷ []
+    → files_limit - length pushed < files_limit - length files
 turns_smaller m root files pushed known after file o few e h p =
     let t = subst (λ (x : Option SourceFile). IsTurn m root files known after (Ok x)) e h in
     let within = slice_get_within known (length files) (file.name, t.0) t.1 in
     let longer : length pushed ≡ length files + 1 = ap length p ∙ length-append files (file ∷ []) in
     omega arith
 
-pub loaded_none : (m : Contents) (root top : List ℕ) (files : List SourceFile) (known after : List Meeting) (o : Option SourceFile) → top ≡ root → Turns m top files known → o ≡ None
+pub loaded_none : (m : Contents) (root top : List ℕ) (files : List SourceFile) (known after : List Meeting)
+    (o : Option SourceFile) → top ≡ root → Turns m top files known → o ≡ None
     → IsTurn m top files known after (Ok o) → IsClean m root files
 loaded_none m root top files known after o r turns e h =
     let t = subst (λ (x : Option SourceFile). IsTurn m top files known after (Ok x)) e h in
     subst (λ (n : List ℕ). IsClean m n files) r (loaded_clean m top files known turns t.0)
 
 -- a turn more learns of the next file alone
-pub learns_next : {F : Type 0} (told : F → Contents → Type 0) (root top : List ℕ) (files seen : List SourceFile) (known : List Meeting) (a b c : F) → top ≡ root → seen ≡ files
-    → LearnsOnly told (AlikeInTurns root) a b → InAll (told b) (λ m. Turns m top files known) → InAll (told c) (told b) → LearnsOnly told (AlikeInNext seen known) b c
+pub learns_next : {F : Type 0} (told : F → Contents → Type 0) (root top : List ℕ) (files seen : List SourceFile)
+    (known : List Meeting) (a b c : F) → top ≡ root → seen ≡ files
+    → LearnsOnly told (AlikeInTurns root) a b → InAll (told b) (λ m. Turns m top files known) → InAll (told c) (told b)
+    → LearnsOnly told (AlikeInNext seen known) b c
     → LearnsOnly told (AlikeInTurns root) a c
 learns_next told root top files seen known a b c r s before turns still turn m n now old alike =
     let held = still m now in

@@ -9,8 +9,10 @@ use Rattle.adl_import.proofs.Firsts.{turns_meet}
 use Rattle.adl_import.proofs.Turning.{turns_few}
 use Rattle.adl_import.proofs.Unique.{turns_each}
 
-turns_some : (m : Contents) (root : List ℕ) (files : List SourceFile) (known : List Meeting) → Turns m root files known → length known ≡ length files → 0 < length files
-turns_some m root [] known turns e = let one : length known ≡ 1 = ap length (turns_meet m root [] known turns) in absurd (omega arith)
+turns_some : (m : Contents) (root : List ℕ) (files : List SourceFile) (known : List Meeting) → Turns m root files known
+    → length known ≡ length files → 0 < length files
+turns_some m root [] known turns e = let one : length known ≡ 1 = ap length (turns_meet m root [] known turns) in
+    absurd (omega arith)
 turns_some m root (f ∷ fs) known turns e = omega arith
 
 pub clean_some : (m : Contents) (root : List ℕ) (files : List SourceFile) → IsClean m root files → 0 < length files

@@ -71,11 +71,13 @@ pub record IsFileOf (m : Contents) (number : ℕ) (file : SourceFile) : Type 0 w
 
 -- each of these files is the one of its number
 abbrev pub AreFilesOf : Contents → List SourceFile → Type 0
-AreFilesOf m files = (before after : List SourceFile) (file : SourceFile) → files ≡ before ++ file ∷ after → IsFileOf m (length before) file
+AreFilesOf m files = (before after : List SourceFile) (file : SourceFile) → files ≡ before ++ file ∷ after
+    → IsFileOf m (length before) file
 
 -- The files are the source of a root: their names are the root's, followed by those that their imports give in source
 -- order, leaving out each name that is in the list already; and each but the first is given by an import of a file
 -- before it.
 pub record IsSource (root : List ℕ) (files : List SourceFile) : Type 0 where
   pub equation : map (λ f. f.name) files ≡ names (met root files)
-  pub reached : (before after : List SourceFile) (file : SourceFile) → files ≡ before ++ file ∷ after → 0 < length before → IsTrue (is_known (flat_map (meetings_of root) before) file.name)
+  pub reached : (before after : List SourceFile) (file : SourceFile) → files ≡ before ++ file ∷ after → 0 < length before
+      → IsTrue (is_known (flat_map (meetings_of root) before) file.name)

@@ -45,15 +45,18 @@ IsTakenIn want name known (Err error.NoMemory) = Unit {0}
 abbrev pub IsTreeOf : ℕ → List ℕ → Result File (Refused Fault) → Type 0
 IsTreeOf number bytes (Ok tree) = (tokens : List Token) × Lexes number bytes tokens × IsFileSpelled tree (see bytes tokens)
 IsTreeOf number bytes (Err (refused.Fault f)) =
-    IsFirstFault number bytes f ⊎ ((tokens : List Token) × Lexes number bytes tokens × IsFileIn bytes tokens (Err (refused.Fault f)))
+    IsFirstFault number bytes f ⊎ ((tokens : List Token) × Lexes number bytes tokens
+    × IsFileIn bytes tokens (Err (refused.Fault f)))
 IsTreeOf number bytes (Err refused.NoMemory) = Unit {0}
 
 -- the file of this name and these bytes, or a fault in it
 abbrev pub IsParsed : ℕ → List ℕ → List ℕ → Result SourceFile LoadError → Type 0
 IsParsed number name bytes (Ok file) =
-    (file.name ≡ name) × (file.bytes ≡ bytes) × ((tokens : List Token) × Lexes number bytes tokens × IsFileSpelled file.tree (see bytes tokens))
+    (file.name ≡ name) × (file.bytes ≡ bytes) × ((tokens : List Token) × Lexes number bytes tokens
+    × IsFileSpelled file.tree (see bytes tokens))
 IsParsed number name bytes (Err (error.Fault f in_file)) =
-    (in_file ≡ name) × (IsFirstFault number bytes f ⊎ ((tokens : List Token) × Lexes number bytes tokens × IsFileIn bytes tokens (Err (refused.Fault f))))
+    (in_file ≡ name) × (IsFirstFault number bytes f ⊎ ((tokens : List Token) × Lexes number bytes tokens
+    × IsFileIn bytes tokens (Err (refused.Fault f))))
 IsParsed number name bytes (Err (error.ReadFault in_file)) = ⊥
 IsParsed number name bytes (Err error.NoMemory) = Unit {0}
 
@@ -70,12 +73,15 @@ AlikeInNext files known m n =
     (name : List ℕ) (place : Place) → slice_get known (length files) ≡ Some (name, place) → AlikeAsRead name m n
 
 -- The turn after these files: none is left; or the next file, and what is known after its imports; or the turn's fault.
-abbrev pub IsTurn : Contents → List ℕ → List SourceFile → List Meeting → List Meeting → Result (Option SourceFile) LoadError → Type 0
+abbrev pub IsTurn : Contents → List ℕ → List SourceFile → List Meeting → List Meeting
+    → Result (Option SourceFile) LoadError → Type 0
 IsTurn m root files known after (Ok None) = (slice_get known (length files) ≡ None) × (after ≡ known)
 IsTurn m root files known after (Ok (Some file)) =
     (place : Place) × (slice_get known (length files) ≡ Some (file.name, place)) × IsFileOf m (length files) file
     × (take_imports root file.name known (imports_of file.tree) ≡ Ok after)
 IsTurn m root files known after (Err (error.Fault f in_file)) =
-    (name : List ℕ) × (place : Place) × (slice_get known (length files) ≡ Some (name, place)) × IsTurnFault m root files known name place f in_file
-IsTurn m root files known after (Err (error.ReadFault name)) = (place : Place) × (slice_get known (length files) ≡ Some (name, place))
+    (name : List ℕ) × (place : Place) × (slice_get known (length files) ≡ Some (name, place)) × IsTurnFault m root files known
+    name place f in_file
+IsTurn m root files known after (Err (error.ReadFault name)) = (place : Place)
+    × (slice_get known (length files) ≡ Some (name, place))
 IsTurn m root files known after (Err error.NoMemory) = Unit {0}

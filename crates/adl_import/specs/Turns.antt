@@ -29,7 +29,8 @@ and_then f (Err e) = Err e
 abbrev pub meet : List Meeting → Place → List ℕ → Result (List Meeting) Fault
 meet known place name =
     if is_known known name then Ok known
-    else (if nat_lt (length known) files_limit then Ok (known ++ (name, place) ∷ []) else Err (fault_at Limit place (codes "files")))
+    else (if nat_lt (length known) files_limit then Ok (known ++ (name, place) ∷ []) else Err
+    (fault_at Limit place (codes "files")))
 
 abbrev pub meet_given : List Meeting → Place → Option (List ℕ) → Result (List Meeting) Fault
 meet_given known place None = Err (fault_at BadPath place [])
@@ -37,12 +38,14 @@ meet_given known place (Some name) = meet known place name
 
 -- what is known after an import of the file `own`, or the import's fault
 abbrev pub take_import : List ℕ → List ℕ → List Meeting → Import → Result (List Meeting) Fault
-take_import root own known import = if is_built_in import then Ok known else meet_given known import.place (name_given root own import)
+take_import root own known import = if is_built_in import then Ok known else meet_given known import.place
+    (name_given root own import)
 
 -- what is known after all these imports, or the first fault
 abbrev pub take_imports : List ℕ → List ℕ → List Meeting → List Import → Result (List Meeting) Fault
 take_imports root own known [] = Ok known
-take_imports root own known (import ∷ imports) = and_then (λ more. take_imports root own more imports) (take_import root own known import)
+take_imports root own known (import ∷ imports) = and_then (λ more. take_imports root own more imports)
+    (take_import root own known import)
 
 -- After the root is met, and then after a turn without a fault of each of these files in order, this is known.
 pub data Turns (m : Contents) (root : List ℕ) : List SourceFile → List Meeting → Type 0 where
@@ -62,13 +65,16 @@ pub data IsReadFault (m : Contents) (files : List SourceFile) (name : List ℕ) 
   absent : get m name ≡ None → IsReadFault m files name place (fault_at NoFile place name) (met_in files name place)
   too_long : {bytes : List ℕ} → get m name ≡ Some bytes → file_limit < length bytes
       → IsReadFault m files name place (fault_at Limit place (codes "file size")) (met_in files name place)
-  lexing : {bytes : List ℕ} {f : Fault} → get m name ≡ Some bytes → length bytes ≤ file_limit → IsFirstFault (length files) bytes f
+  lexing : {bytes : List ℕ} {f : Fault} → get m name ≡ Some bytes → length bytes ≤ file_limit
+      → IsFirstFault (length files) bytes f
       → IsReadFault m files name place f name
   parsing : {bytes : List ℕ} (tokens : List Token) {f : Fault} → get m name ≡ Some bytes → length bytes ≤ file_limit
       → Lexes (length files) bytes tokens → IsFileIn bytes tokens (Err (refused.Fault f)) → IsReadFault m files name place f name
 
 -- The fault of a turn: of the reading, lexing and parsing, or else of the imports.
-pub data IsTurnFault (m : Contents) (root : List ℕ) (files : List SourceFile) (known : List Meeting) (name : List ℕ) (place : Place) : Fault → List ℕ → Type 0 where
-  reading : {f : Fault} {in_file : List ℕ} → IsReadFault m files name place f in_file → IsTurnFault m root files known name place f in_file
+pub data IsTurnFault (m : Contents) (root : List ℕ) (files : List SourceFile) (known : List Meeting) (name : List ℕ)
+    (place : Place) : Fault → List ℕ → Type 0 where
+  reading : {f : Fault} {in_file : List ℕ} → IsReadFault m files name place f in_file
+      → IsTurnFault m root files known name place f in_file
   importing : {file : SourceFile} {f : Fault} → file.name ≡ name → IsFileOf m (length files) file
       → take_imports root name known (imports_of file.tree) ≡ Err f → IsTurnFault m root files known name place f name

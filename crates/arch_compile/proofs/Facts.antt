@@ -44,7 +44,8 @@ pub record AreFacts (contents : Contents) (s : Source) (images : Images) : Type 
   pub edge : first_edge_fault (source_tables s) ≡ None
 
 -- the facts of a build, with its images
-pub build_facts : (root : List ℕ) (contents : Contents) (b : Build) → IsBuildOf root contents b → AreFacts contents b.meaning.source (images_beside contents b.meaning.source)
+pub build_facts : (root : List ℕ) (contents : Contents) (b : Build) → IsBuildOf root contents b
+    → AreFacts contents b.meaning.source (images_beside contents b.meaning.source)
 build_facts root contents b is =
     let s = b.meaning.source in
     let found = found_beside contents s in
@@ -52,8 +53,10 @@ build_facts root contents b is =
     let whole : IsWhole s = loaded_whole contents root s is.meant.loaded in
     let front : first_front_fault s ≡ None = no_first (first_front_fault s) (first_layout_fault s found) is.clean in
     let layout : first_layout_fault s found ≡ None = no_second (first_front_fault s) (first_layout_fault s found) is.clean in
-    let table : first_table_fault (root_of s) s (flat_of s) found ≡ None = no_first (first_table_fault (root_of s) s (flat_of s) found) (first_imaged_fault s images) layout in
-    let imaged : first_imaged_fault s images ≡ None = no_second (first_table_fault (root_of s) s (flat_of s) found) (first_imaged_fault s images) layout in
+    let table : first_table_fault (root_of s) s (flat_of s) found ≡ None =
+    no_first (first_table_fault (root_of s) s (flat_of s) found) (first_imaged_fault s images) layout in
+    let imaged : first_imaged_fault s images ≡ None = no_second (first_table_fault (root_of s) s (flat_of s) found)
+    (first_imaged_fault s images) layout in
     let space = first_space_fault (flat_of s) images in
     let slot = first_slot_fault s (flat_of s) in
     let page = first_page_limit (spaced s images) in
@@ -65,8 +68,13 @@ build_facts root contents b is =
       spelled = short_spelled s whole.short;
       faultless = faultless s front;
       read = record { clean = table; images = refl };
-      numbered = images_numbered (root_of s) s (flat_of s) found (found_count contents (table_names (root_of s) s (flat_of s)) found refl) table
-          (sound_within s (flat_of s) (settled_of s) (record { whole = whole; none = front; meant = record { is_flat = refl; is_settled = refl } }));
+      numbered = images_numbered (root_of s) s (flat_of s) found (found_count contents (table_names (root_of s) s (flat_of s))
+          found refl) table
+          (sound_within s (flat_of s) (settled_of s) (record {
+            whole = whole;
+            none = front;
+            meant = record { is_flat = refl; is_settled = refl };
+          }));
       sound = λ n image at x i. images_sound (types s (flat_of s)) found n image at x i;
       space = no_first space (option_or slot (option_or page edges)) imaged;
       slot = no_first slot (option_or page edges) behind;

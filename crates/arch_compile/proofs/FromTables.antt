@@ -31,9 +31,11 @@ use Rattle.vspace_layout.specs.Laid.{spaces_of}
 use Rattle.vspace_layout.specs.declared.spaces.Spaces.{Spaces}
 
 pub few_objects : (t : Tables) (spec : Spec) → IsBuildable t → spec ≡ spec_of t → length spec.entries < 2 ^ 32
-few_objects t spec is e = let few = is.few.objects in subst (λ (z : Spec). length z.entries < 2 ^ 32) (sym e) (omega (arith, few, length-map (parts t) (entry t)))
+few_objects t spec is e = let few = is.few.objects in
+    subst (λ (z : Spec). length z.entries < 2 ^ 32) (sym e) (omega (arith, few, length-map (parts t) (entry t)))
 
-made_is : (s : Source) (images : Images) (p : Policy) (m : Made) → IsAssigned s p → IsMadeOf (system_tables s images) p m → IsMade s images m.spec m.policy m.cert m.map
+made_is : (s : Source) (images : Images) (p : Policy) (m : Made) → IsAssigned s p → IsMadeOf (system_tables s images) p m
+    → IsMade s images m.spec m.policy m.cert m.map
 made_is s images p m assigned is = record {
   spec_is = is.spec;
   labels = ap (λ (z : Policy). z.labels) is.policy_is ∙ assigned.labels;
@@ -46,32 +48,84 @@ made_is s images p m assigned is = record {
 }
 
 -- the tables of a source whose parts these are
-tables_are : (s : Source) (flat : Flat) (settled : Settled) (images : Images) (slots : Slots) (spaces : Spaces) (numbers : LabelNumbers)
+tables_are : (s : Source) (flat : Flat) (settled : Settled) (images : Images) (slots : Slots) (spaces : Spaces)
+    (numbers : LabelNumbers)
     → slots ≡ slots_of s flat → spaces ≡ spaces_of (given s flat settled images) → numbers ≡ label_numbers flat
-    → (let t : Tables = record { source = s; flat = flat; settled = settled; images = images; slots = slots; spaces = spaces; numbers = numbers } in t ≡ tables_from s flat settled images)
+    → (let t : Tables = record {
+      source = s;
+      flat = flat;
+      settled = settled;
+      images = images;
+      slots = slots;
+      spaces = spaces;
+      numbers = numbers;
+    } in t ≡ tables_from s flat settled images)
 tables_are s flat settled images slots spaces numbers a b c =
-    ap (λ z. let t : Tables = record { source = s; flat = flat; settled = settled; images = images; slots = z; spaces = spaces; numbers = numbers } in t) a
-    ∙ ap (λ z. let t : Tables = record { source = s; flat = flat; settled = settled; images = images; slots = slots_of s flat; spaces = z; numbers = numbers } in t) b
-    ∙ ap (λ z. let t : Tables = record { source = s; flat = flat; settled = settled; images = images; slots = slots_of s flat; spaces = spaces_of (given s flat settled images); numbers = z } in t) c
+    ap (λ z. let t : Tables = record {
+      source = s;
+      flat = flat;
+      settled = settled;
+      images = images;
+      slots = z;
+      spaces = spaces;
+      numbers = numbers;
+    } in t) a
+    ∙ ap (λ z. let t : Tables = record {
+      source = s;
+      flat = flat;
+      settled = settled;
+      images = images;
+      slots = slots_of s flat;
+      spaces = z;
+      numbers = numbers;
+    } in t) b
+    ∙ ap (λ z. let t : Tables = record {
+      source = s;
+      flat = flat;
+      settled = settled;
+      images = images;
+      slots = slots_of s flat;
+      spaces = spaces_of (given s flat settled images);
+      numbers = z;
+    } in t) c
 
-system_is : (s : Source) (flat : Flat) (settled : Settled) (images : Images) → IsMeant s flat settled → tables_from s flat settled images ≡ system_tables s images
-system_is s flat settled images meant = ap (λ z. tables_from s z settled images) meant.is_flat ∙ ap (λ z. tables_from s (flat_of s) z images) meant.is_settled
+system_is : (s : Source) (flat : Flat) (settled : Settled) (images : Images) → IsMeant s flat settled
+    → tables_from s flat settled images ≡ system_tables s images
+system_is s flat settled images meant = ap (λ z. tables_from s z settled images) meant.is_flat
+    ∙ ap (λ z. tables_from s (flat_of s) z images) meant.is_settled
 
-module _ (s : Source) (flat : Flat) (settled : Settled) (images : Images) (l : Layout) (numbers : LabelNumbers) (laid : IsLaid s flat settled images l) (numbered : numbers ≡ label_numbers flat) where
+module _ (s : Source) (flat : Flat) (settled : Settled) (images : Images) (l : Layout) (numbers : LabelNumbers)
+    (laid : IsLaid s flat settled images l) (numbered : numbers ≡ label_numbers flat) where
   abbrev Here : Tables
-  Here = record { source = s; flat = flat; settled = settled; images = images; slots = l.slots; spaces = l.spaces; numbers = numbers }
+  Here = record {
+    source = s;
+    flat = flat;
+    settled = settled;
+    images = images;
+    slots = l.slots;
+    spaces = l.spaces;
+    numbers = numbers;
+  }
 
   pub here_builds : IsBuildable Here
-  here_builds = subst IsBuildable (sym (tables_are s flat settled images l.slots l.spaces numbers laid.slots laid.spaces numbered)) laid.buildable
+  here_builds =
+      subst IsBuildable (sym (tables_are s flat settled images l.slots l.spaces numbers laid.slots laid.spaces numbered))
+      laid.buildable
 
   pub here_windowed : IsWindowed Here
-  here_windowed = subst IsWindowed (sym (tables_are s flat settled images l.slots l.spaces numbers laid.slots laid.spaces numbered)) laid.windowed
+  here_windowed =
+      subst IsWindowed (sym (tables_are s flat settled images l.slots l.spaces numbers laid.slots laid.spaces numbered))
+      laid.windowed
 
   pub here_assigned : (p : Policy) → IsMeant s flat settled → IsAssigned s p → IsPolicyOf (policy_tables Here) p.edges
   here_assigned p meant assigned =
-      subst (λ t. IsPolicyOf (policy_tables t) p.edges) (sym (tables_are s flat settled images l.slots l.spaces numbers laid.slots laid.spaces numbered ∙ system_is s flat settled images meant)) assigned.edges
+      subst (λ t. IsPolicyOf (policy_tables t) p.edges)
+      (sym (tables_are s flat settled images l.slots l.spaces numbers laid.slots laid.spaces numbered
+      ∙ system_is s flat settled images meant)) assigned.edges
 
-  pub here_made : (p : Policy) (m : Made) → IsMeant s flat settled → IsAssigned s p → IsMadeOf Here p m → IsMade s images m.spec m.policy m.cert m.map
+  pub here_made : (p : Policy) (m : Made) → IsMeant s flat settled → IsAssigned s p → IsMadeOf Here p m
+      → IsMade s images m.spec m.policy m.cert m.map
   here_made p m meant assigned is =
       made_is s images p m assigned
-      (subst (λ t. IsMadeOf t p m) (tables_are s flat settled images l.slots l.spaces numbers laid.slots laid.spaces numbered ∙ system_is s flat settled images meant) is)
+      (subst (λ t. IsMadeOf t p m) (tables_are s flat settled images l.slots l.spaces numbers laid.slots laid.spaces numbered
+      ∙ system_is s flat settled images meant) is)

@@ -16,7 +16,8 @@ module _ {contents : Contents} (s : Source) (images : Images) (facts : AreFacts 
   pub made_fit : IsFit (system_tables s images)
   made_fit =
       let f = facts.faultless in
-      tables_are_fit s images facts.short f.names f.types f.flat f.settings facts.numbered facts.sound facts.space facts.slot facts.page
+      tables_are_fit s images facts.short f.names f.types f.flat f.settings facts.numbered facts.sound facts.space
+      facts.slot facts.page
 
   pub made_kept : IsKept (spec_of (system_tables s images))
   made_kept = spec_kept (system_tables s images) made_fit
@@ -24,4 +25,5 @@ module _ {contents : Contents} (s : Source) (images : Images) (facts : AreFacts 
   pub made_connected : IsConnected (system_tables s images)
   made_connected =
       let f = facts.faultless in
-      tables_are_connected s images facts.short f.names f.types f.flat f.settings facts.numbered facts.sound facts.space facts.slot facts.page
+      tables_are_connected s images facts.short f.names f.types f.flat f.settings facts.numbered facts.sound facts.space
+      facts.slot facts.page

@@ -4,7 +4,8 @@ use Rattle.arch_compile.specs.Built.{labelled}
 use Rattle.cap_model.specs.declared.spec.Entry.{Entry}
 
 -- the labels that stand beside names, in order
-pub labels_beside : (entries : List Entry) (labels : List ℕ) → length entries ≡ length labels → map (λ (o : List ℕ × ℕ). o.1) (labelled entries labels) ≡ labels
+pub labels_beside : (entries : List Entry) (labels : List ℕ) → length entries ≡ length labels
+    → map (λ (o : List ℕ × ℕ). o.1) (labelled entries labels) ≡ labels
 labels_beside [] [] h = refl
 labels_beside [] (l ∷ ls) h = absurd (omega (arith, h))
 labels_beside (e ∷ es) [] h = absurd (omega (arith, h))

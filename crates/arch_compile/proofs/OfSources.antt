@@ -33,7 +33,8 @@ module _ (contents : Contents) (s : Source) (images : Images) (facts : AreFacts 
   can_map : CanMap (system_tables s images)
   can_map =
       let f = facts.faultless in
-      tables_can_map s images facts.short f.names f.types f.flat f.settings facts.numbered facts.sound facts.space facts.slot facts.page
+      tables_can_map s images facts.short f.names f.types f.flat f.settings facts.numbered facts.sound facts.space
+      facts.slot facts.page
       (programs_have_images contents _ s images f.names facts.read)
 
 pub build_of_source : (root : List ℕ) (contents : Contents) (b : Build) → IsBuildOf root contents b → IsOfSource contents b
@@ -43,16 +44,20 @@ build_of_source root contents b is =
     let t = system_tables s images in
     let facts = build_facts root contents b is in
     let slot = can_slot contents s images facts in
-    let labels : labels_of t ≡ object_labels b = ap (λ (z : List ℕ). let l : Labels = record { by_object = z } in l) (sym (labels_are s images facts b is.made)) in
+    let labels : labels_of t ≡ object_labels b = ap (λ (z : List ℕ). let l : Labels = record { by_object = z } in
+    l) (sym (labels_are s images facts b is.made)) in
     let slots : AreSlots t (spec_of t) (map_lines t) = record { has = are_slots t slot; own_locks = own_locks t slot } in
-    let imaged : AreImages t (spec_of t) (root_of t) (labels_of t) (map_lines t) = images_are t (can_map contents s images facts) slot in
+    let imaged : AreImages t (spec_of t) (root_of t) (labels_of t) (map_lines t) =
+    images_are t (can_map contents s images facts) slot in
     let spec_is : spec_of t ≡ b.spec = sym is.made.spec_is in
     let map_is : map_lines t ≡ b.map = sym is.made.map_is in
     record {
       read = facts.read;
-      programs = λ leaf found image at runs. program_is contents _ s images facts.read facts.numbered leaf runs.number found image at runs.numbered runs.listed;
+      programs = λ leaf found image at runs. program_is contents _ s images facts.read facts.numbered leaf runs.number found image
+          at runs.numbered runs.listed;
       slots = subst (λ z. AreSlots t z b.map) spec_is (subst (AreSlots t (spec_of t)) map_is slots);
       imaged = subst (λ z. AreImages t b.spec (root_of t) z b.map) labels
-          (subst (λ z. AreImages t z (root_of t) (labels_of t) b.map) spec_is (subst (AreImages t (spec_of t) (root_of t) (labels_of t)) map_is imaged));
+          (subst (λ z. AreImages t z (root_of t) (labels_of t) b.map) spec_is
+          (subst (AreImages t (spec_of t) (root_of t) (labels_of t)) map_is imaged));
       labelled = λ at owner path has is_of. has_label s images b is.made at owner path has is_of;
     }

@@ -26,17 +26,20 @@ use Rattle.system_spec.specs.declared.map_line.MapLine.{MapLine}
 
 -- ---- what is made is one
 
-edges_one : (xs ys : List Edge) (P : Edge → Type 0) → IsSorted xs → IsSorted ys → ((e : Edge) → (has xs e ≡ true) ↔ P e) → ((e : Edge) → (has ys e ≡ true) ↔ P e) → xs ≡ ys
+edges_one : (xs ys : List Edge) (P : Edge → Type 0) → IsSorted xs → IsSorted ys → ((e : Edge) → (has xs e ≡ true) ↔ P e)
+    → ((e : Edge) → (has ys e ≡ true) ↔ P e) → xs ≡ ys
 edges_one xs ys P p q a b = one_table xs ys p q (λ e. both (has xs e) (has ys e) (a e) (b e))
 
-policies_one : (s : Source) (images : Images) (spec spec' : Spec) (p q : Policy) (cert cert' : List Edge) (map map' : List MapLine) → IsMade s images spec p cert map → IsMade s images spec' q cert' map' → p ≡ q
+policies_one : (s : Source) (images : Images) (spec spec' : Spec) (p q : Policy) (cert cert' : List Edge)
+    (map map' : List MapLine) → IsMade s images spec p cert map → IsMade s images spec' q cert' map' → p ≡ q
 policies_one s images spec spec' p q cert cert' map map' a b =
     let edges : p.edges ≡ q.edges = edges_one p.edges q.edges _ a.sorted b.sorted a.edges b.edges in
     ap (λ z. let r : Policy = record { labels = z; objects = p.objects; edges = p.edges } in r) (a.labels ∙ sym b.labels)
     ∙ ap (λ z. let r : Policy = record { labels = q.labels; objects = z; edges = p.edges } in r) (a.objects ∙ sym b.objects)
     ∙ ap (λ z. let r : Policy = record { labels = q.labels; objects = q.objects; edges = z } in r) edges
 
-builds_one : (s : Source) (images : Images) (b c : Build) → b.meaning ≡ c.meaning → IsMade s images b.spec b.policy b.cert b.map → IsMade s images c.spec c.policy c.cert c.map → b ≡ c
+builds_one : (s : Source) (images : Images) (b c : Build) → b.meaning ≡ c.meaning → IsMade s images b.spec b.policy b.cert b.map
+    → IsMade s images c.spec c.policy c.cert c.map → b ≡ c
 builds_one s images b c meaning x y =
     let spec : b.spec ≡ c.spec = x.spec_is ∙ sym y.spec_is in
     let policy = policies_one s images b.spec c.spec b.policy c.policy b.cert c.cert b.map c.map x y in
@@ -60,9 +63,11 @@ module _ (m : Contents) (root : List ℕ) where
   -- ---- faults
 
   -- no fault is first where none stands
-  pub none_first : (s : Source) (fault : Fault) (file : List ℕ) → IsLoaded m root (Ok s) → first_fault s (found_beside m s) ≡ None → IsFirstFault root m fault file → ⊥
+  pub none_first : (s : Source) (fault : Fault) (file : List ℕ) → IsLoaded m root (Ok s) → first_fault s (found_beside m s) ≡ None
+      → IsFirstFault root m fault file → ⊥
   none_first s fault file loaded none (inl f) =
-      none_faulted first_front_fault m root s fault file loaded (no_first (first_front_fault s) (first_layout_fault s (found_beside m s)) none) f
+      none_faulted first_front_fault m root s fault file loaded
+      (no_first (first_front_fault s) (first_layout_fault s (found_beside m s)) none) f
   none_first s fault file loaded none (inr f) =
       let source = one_loaded m root s f.0 loaded f.1.loaded in
       let clean = no_second (first_front_fault s) (first_layout_fault s (found_beside m s)) none in
@@ -89,12 +94,14 @@ module _ (m : Contents) (root : List ℕ) where
 
 -- ---- answers
 
-pub one_build : (m : Contents) (root : List ℕ) (old new later last : List ℕ → ℕ) (a b : Result Build BuildError) → yields a ≡ false → yields b ≡ false
+pub one_build : (m : Contents) (root : List ℕ) (old new later last : List ℕ → ℕ) (a b : Result Build BuildError)
+    → yields a ≡ false → yields b ≡ false
     → IsCompiled root m old new a → IsCompiled root m later last b → a ≡ b
 one_build m root old new later last (Ok f) (Ok g) p q x y = ap Ok (builds_same m root f g x y)
 one_build m root old new later last (Ok f) (Err (error.Fault g b)) p q x y = absurd (build_first m root f g b x y)
 one_build m root old new later last (Err (error.Fault f a)) (Ok g) p q x y = absurd (build_first m root g f a y x)
-one_build m root old new later last (Err (error.Fault f a)) (Err (error.Fault g b)) p q x y = faults_same f g a b (one_first m root f g a b x y)
+one_build m root old new later last (Err (error.Fault f a)) (Err (error.Fault g b)) p q x y =
+    faults_same f g a b (one_first m root f g a b x y)
 one_build m root old new later last (Err (error.ReadFault a)) b p q x y = cc
 one_build m root old new later last (Err error.NoMemory) b p q x y = cc
 one_build m root old new later last (Ok f) (Err (error.ReadFault b)) p q x y = cc

@@ -25,13 +25,25 @@ cut_behind (Begin c name ∷ xs) ys s t h = inr (cut_behind xs ys (with_begun s 
 cut_behind (Write c bytes ∷ xs) ys s t h = inr (cut_behind xs ys (appended s c bytes) t h)
 
 -- where the first script fails
-pub acts_failed : {E : Type 0} {e : E} {xs : List Act} {s t : Sink} {m n : ℕ} (ys : List Act) → Acts {E = E} xs (Err e) s t m n → Acts {E = E} (xs ++ ys) (Err e) s t m n
-acts_failed {xs = xs} {s = s} {t = t} ys a = record { ok = tt; err = cut_before xs ys s t a.err; later = a.later; failed = a.failed }
+pub acts_failed : {E : Type 0} {e : E} {xs : List Act} {s t : Sink} {m n : ℕ} (ys : List Act) → Acts {E = E} xs (Err e) s t m n
+    → Acts {E = E} (xs ++ ys) (Err e) s t m n
+acts_failed {xs = xs} {s = s} {t = t} ys a = record {
+  ok = tt;
+  err = cut_before xs ys s t a.err;
+  later = a.later;
+  failed = a.failed;
+}
 
 -- where the first script is done
-pub acts_then : {E : Type 0} {r : Result (Unit {0}) E} {xs ys : List Act} {s t u : Sink} {m n k : ℕ} → Acts {E = E} xs (Ok tt) s t m n → Acts ys r t u n k → Acts (xs ++ ys) r s u m k
+pub acts_then : {E : Type 0} {r : Result (Unit {0}) E} {xs ys : List Act} {s t u : Sink} {m n k : ℕ}
+    → Acts {E = E} xs (Ok tt) s t m n → Acts ys r t u n k → Acts (xs ++ ys) r s u m k
 acts_then {r = Ok x} {xs} {ys} {s} {t} {u} {m} {n} {k} a b =
-    record { ok = b.ok ∙ ap (λ z. after z ys) a.ok ∙ sym (after_both xs ys s); err = tt; later = omega (arith, a.later, b.later); failed = tt }
+    record {
+      ok = b.ok ∙ ap (λ z. after z ys) a.ok ∙ sym (after_both xs ys s);
+      err = tt;
+      later = omega (arith, a.later, b.later);
+      failed = tt;
+    }
 acts_then {r = Err x} {xs} {ys} {s} {t} {u} {m} {n} {k} a b = record {
   ok = tt;
   err = cut_behind xs ys s u (subst (λ z. CutShort z ys u) a.ok b.err);
@@ -40,7 +52,8 @@ acts_then {r = Err x} {xs} {ys} {s} {t} {u} {m} {n} {k} a b = record {
 }
 
 -- a channel that isn't begun stays so while another is begun and written
-pub still_fresh : (s t : Sink) (c d : ℕ) (name bytes : List ℕ) → t ≡ after s (Begin c name ∷ Write c bytes ∷ []) → (d == c) ≡ false → s.begun d ≡ false → t.begun d ≡ false
+pub still_fresh : (s t : Sink) (c d : ℕ) (name bytes : List ℕ) → t ≡ after s (Begin c name ∷ Write c bytes ∷ [])
+    → (d == c) ≡ false → s.begun d ≡ false → t.begun d ≡ false
 still_fresh s t c d name bytes e other h =
     subst (λ z. z.begun d ≡ false) (sym e)
     (ap (λ g. g d) (begun_appended (with_begun s c name) c bytes) ∙ fresh_begun s (with_begun s c name) c d name refl other h)

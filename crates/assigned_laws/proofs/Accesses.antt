@@ -55,15 +55,18 @@ use Rattle.arch_policy.specs.declared.numbers.LabelNumbers.{LabelNumbers}
 placed_passes : {X : Type 0} (p : X → Bool) (xs : List X) (x : X) → slice_get xs (place_by p xs) ≡ Some x → p x ≡ true
 placed_passes p [] x e = absurd cc
 placed_passes {X} p (y ∷ ys) x e = go (p y) refl (placed_passes p ys x) e where
-  go : (b : Bool) → p y ≡ b → (slice_get ys (place_by p ys) ≡ Some x → p x ≡ true) → slice_get (y ∷ ys) (cond b zero (suc (place_by p ys))) ≡ Some x → p x ≡ true
+  go : (b : Bool) → p y ≡ b → (slice_get ys (place_by p ys) ≡ Some x → p x ≡ true)
+      → slice_get (y ∷ ys) (cond b zero (suc (place_by p ys))) ≡ Some x → p x ≡ true
   go true h rest e = let same : y ≡ x = cc in ap p (sym same) ∙ h
   go false h rest e = rest e
 
 -- ---- interfaces by number
 
-item_interface : (e : Ended) (m : ℕ) (i : Interface) → slice_get (members_of e.item) m ≡ Some (members.Interface i) → option_and_then (λ c. option_and_then as_interface (slice_get c.members m)) (as_component e.item) ≡ Some i
+item_interface : (e : Ended) (m : ℕ) (i : Interface) → slice_get (members_of e.item) m ≡ Some (members.Interface i)
+    → option_and_then (λ c. option_and_then as_interface (slice_get c.members m)) (as_component e.item) ≡ Some i
 item_interface e m i h = go e.item h where
-  go : (x : Item) → slice_get (members_of x) m ≡ Some (members.Interface i) → option_and_then (λ c. option_and_then as_interface (slice_get c.members m)) (as_component x) ≡ Some i
+  go : (x : Item) → slice_get (members_of x) m ≡ Some (members.Interface i)
+      → option_and_then (λ c. option_and_then as_interface (slice_get c.members m)) (as_component x) ≡ Some i
   go (items.Component c) h = ap (option_and_then as_interface) h
   go (items.Import x) h = absurd cc
   go (items.Procedure x) h = absurd cc
@@ -72,12 +75,15 @@ item_interface e m i h = go e.item h where
 member_interface : (s : Source) (a : ItemAt) (m : ℕ) (i : Interface) → slice_get (members_at s a) m ≡ Some (members.Interface i)
     → option_and_then (λ c. option_and_then as_interface (slice_get c.members m)) (component_at s a) ≡ Some i
 member_interface s a m i h = by_file (slice_get s.files a.file) h where
-  by_item : (o : Option Ended) → slice_get (members_in o) m ≡ Some (members.Interface i) → option_and_then (λ c. option_and_then as_interface (slice_get c.members m)) (option_and_then (λ x. as_component x.item) o) ≡ Some i
+  by_item : (o : Option Ended) → slice_get (members_in o) m ≡ Some (members.Interface i)
+      → option_and_then (λ c. option_and_then as_interface (slice_get c.members m))
+      (option_and_then (λ x. as_component x.item) o) ≡ Some i
   by_item None h = absurd cc
   by_item (Some e) h = item_interface e m i h
 
   by_file : (o : Option SourceFile) → slice_get (members_in (slice_get (items_of_file o) a.item)) m ≡ Some (members.Interface i)
-      → option_and_then (λ c. option_and_then as_interface (slice_get c.members m)) (option_and_then (λ f. option_and_then (λ x. as_component x.item) (slice_get f.tree.items a.item)) o) ≡ Some i
+      → option_and_then (λ c. option_and_then as_interface (slice_get c.members m))
+      (option_and_then (λ f. option_and_then (λ x. as_component x.item) (slice_get f.tree.items a.item)) o) ≡ Some i
   by_file None h = absurd cc
   by_file (Some f) h = by_item (slice_get f.tree.items a.item) h
 
@@ -95,18 +101,28 @@ record AtMemory (c : Connector) (r : Role) : Type 0 where
   interface : (end_rule c r).interface ≡ Dataport
   software : (end_rule c r).hardware ≡ false
 
-memory_test : (c : Connector) (r : Role) → same_kind (end_rule c r).interface Dataport && not (end_rule c r).hardware ≡ true → AtMemory c r
+memory_test : (c : Connector) (r : Role) → same_kind (end_rule c r).interface Dataport && not (end_rule c r).hardware ≡ true
+    → AtMemory c r
 memory_test c r h =
     let w = and_parts (same_kind (end_rule c r).interface Dataport) (not (end_rule c r).hardware) h in
     record { interface = is_dataport_kind (end_rule c r).interface w.0; software = not-true (end_rule c r).hardware w.1 }
 
 reader : (c : Connector) (r : Role) (o : ObjectKind) → gives c r o Read ≡ true → AtMemory c r
-reader c r o h = memory_test c r (implied (gives c r o Read) _ (over_object (λ c r o. implies (gives c r o Read) (same_kind (end_rule c r).interface Dataport && not (end_rule c r).hardware)) refl c r o) h)
+reader c r o h =
+    memory_test c r
+    (implied (gives c r o Read) _
+    (over_object (λ c r o. implies (gives c r o Read) (same_kind (end_rule c r).interface Dataport
+    && not (end_rule c r).hardware)) refl c r o) h)
 
 writer : (c : Connector) (r : Role) (o : ObjectKind) → gives c r o Write ≡ true → AtMemory c r
-writer c r o h = memory_test c r (implied (gives c r o Write) _ (over_object (λ c r o. implies (gives c r o Write) (same_kind (end_rule c r).interface Dataport && not (end_rule c r).hardware)) refl c r o) h)
+writer c r o h =
+    memory_test c r
+    (implied (gives c r o Write) _
+    (over_object (λ c r o. implies (gives c r o Write) (same_kind (end_rule c r).interface Dataport
+    && not (end_rule c r).hardware)) refl c r o) h)
 
-module _ (s : Source) (sound : AreNamesSound s) (dotted : AreDotted (hierarchy_of s)) (types : first_type_fault s ≡ None) (numbers : LabelNumbers) where
+module _ (s : Source) (sound : AreNamesSound s) (dotted : AreDotted (hierarchy_of s)) (types : first_type_fault s ≡ None)
+    (numbers : LabelNumbers) where
   typed_at : (x : EndAt (flat_of s)) → IsTypedEnd s (flat_of s) x.connection x.end
   typed_at x = ends_typed s sound dotted types x.place x.number x.connection x.end x.here x.stands
 
@@ -116,10 +132,12 @@ module _ (s : Source) (sound : AreNamesSound s) (dotted : AreDotted (hierarchy_o
       ap is_some (ap F d.here ∙ member_interface s d.leaf.component e.member d.interface d.joined)
 
   all_join : (x : EndAt (flat_of s)) → list_all (joins_interface s (flat_of s)) x.connection.ends ≡ true
-  all_join x = list_all-places (joins_interface s (flat_of s)) x.connection.ends (λ n e at. typed_joins x.connection e (ends_typed s sound dotted types x.place n x.connection e x.here at))
+  all_join x = list_all-places (joins_interface s (flat_of s)) x.connection.ends
+      (λ n e at. typed_joins x.connection e (ends_typed s sound dotted types x.place n x.connection e x.here at))
 
   -- the leaf that the end joins
-  leaf_path : (y : Strung) (x : EndAt (flat_of s)) (e : EndOf (hierarchy_of s) y.path y.wire) (w : Matches s sound dotted numbers y x e) (leaf : Leaf) → slice_get (flat_of s).leaves x.end.leaf ≡ Some leaf
+  leaf_path : (y : Strung) (x : EndAt (flat_of s)) (e : EndOf (hierarchy_of s) y.path y.wire)
+      (w : Matches s sound dotted numbers y x e) (leaf : Leaf) → slice_get (flat_of s).leaves x.end.leaf ≡ Some leaf
       → leaf_of (hierarchy_of s) (record { path = y.path ++ w.reach.path; part = w.reach.part }) ≡ leaf
   leaf_path y x e w leaf h =
       let k = hierarchy_of s in
@@ -131,24 +149,32 @@ module _ (s : Source) (sound : AreNamesSound s) (dotted : AreDotted (hierarchy_o
       cc
 
   -- and the interface
-  interface_name : (y : Strung) (x : EndAt (flat_of s)) (e : EndOf (hierarchy_of s) y.path y.wire) (w : Matches s sound dotted numbers y x e) (d : IsTypedEnd s (flat_of s) x.connection x.end) → d.interface.id.name ≡ e.interface
+  interface_name : (y : Strung) (x : EndAt (flat_of s)) (e : EndOf (hierarchy_of s) y.path y.wire)
+      (w : Matches s sound dotted numbers y x e) (d : IsTypedEnd s (flat_of s) x.connection x.end)
+      → d.interface.id.name ≡ e.interface
   interface_name y x e w d =
       let k = hierarchy_of s in
       let p : Placed = record { path = y.path ++ w.reach.path; part = w.reach.part } in
       let leaf = leaf_path y x e w d.leaf d.here in
       let c = leaf_component s sound p w.placed in
       let b = body_number s w.reach.part.kind c.0 c.1 in
-      let ms : members_at s d.leaf.component ≡ c.0.1.members = ap (λ (z : Leaf). members_at s z.component) (sym leaf) ∙ members_of_part s w.reach.part c.0 c.1 in
+      let ms : members_at s d.leaf.component ≡ c.0.1.members = ap (λ (z : Leaf). members_at s z.component) (sym leaf)
+      ∙ members_of_part s w.reach.part c.0 c.1 in
       let number : x.end.member ≡ place_by (is_interface w.reach.interface) c.0.1.members =
-      ap (λ (z : FlatEnd). z.member) (sym w.flat) ∙ ap (λ (b : Body). option_map_or (λ c. place_by (is_interface w.reach.interface) c.members) b.component 0) b in
-      let at : slice_get c.0.1.members (place_by (is_interface w.reach.interface) c.0.1.members) ≡ Some (members.Interface d.interface) =
+      ap (λ (z : FlatEnd). z.member) (sym w.flat)
+      ∙ ap (λ (b : Body). option_map_or (λ c. place_by (is_interface w.reach.interface) c.members) b.component 0) b in
+      let at : slice_get c.0.1.members (place_by (is_interface w.reach.interface) c.0.1.members) ≡ Some
+      (members.Interface d.interface) =
       ap (slice_get c.0.1.members) (sym number) ∙ ap (λ ms. slice_get ms x.end.member) (sym ms) ∙ d.joined in
-      let is : bytes_eq w.reach.interface d.interface.id.name ≡ true = placed_passes (is_interface w.reach.interface) c.0.1.members (members.Interface d.interface) at in
+      let is : bytes_eq w.reach.interface d.interface.id.name ≡ true = placed_passes (is_interface w.reach.interface)
+      c.0.1.members (members.Interface d.interface) at in
       sym ((bytes_eq-Decides w.reach.interface d.interface.id.name).0 is) ∙ sym w.interface
 
   -- the settled access of an end at memory
-  settled_access : (y : Strung) (x : EndAt (flat_of s)) (e : EndOf (hierarchy_of s) y.path y.wire) → Matches s sound dotted numbers y x e → AtMemory x.connection.connector x.end.role
-      → (f : Found) × (setting_of (settled_of s) x.place x.number ≡ Some (end_setting f)) × (access_at f ≡ access_of (hierarchy_of s) e.leaf e.interface)
+  settled_access : (y : Strung) (x : EndAt (flat_of s)) (e : EndOf (hierarchy_of s) y.path y.wire)
+      → Matches s sound dotted numbers y x e → AtMemory x.connection.connector x.end.role
+      → (f : Found) × (setting_of (settled_of s) x.place x.number ≡ Some (end_setting f))
+      × (access_at f ≡ access_of (hierarchy_of s) e.leaf e.interface)
   settled_access y x e w memory =
       let h = hierarchy_of s in
       let d = typed_at x in
@@ -157,15 +183,23 @@ module _ (s : Source) (sound : AreNamesSound s) (dotted : AreDotted (hierarchy_o
       let at = g.1 in
       let leaves_same : Some f.joint.leaf ≡ Some d.leaf = sym at.leaf ∙ d.here in
       let leaf : f.joint.leaf ≡ d.leaf = cc in
-      let interfaces_same : Some f.joint.interface ≡ Some d.interface = sym at.interface ∙ ap (λ (z : Leaf). interface_at s z x.end.member) leaf ∙ member_interface s d.leaf.component x.end.member d.interface d.joined in
+      let interfaces_same : Some f.joint.interface ≡ Some d.interface = sym at.interface
+      ∙ ap (λ (z : Leaf). interface_at s z x.end.member) leaf ∙ member_interface s d.leaf.component x.end.member
+      d.interface d.joined in
       let interface : f.joint.interface ≡ d.interface = cc in
       let rule = end_rule x.connection.connector x.end.role in
-      let kinds = and_parts (same_kind d.interface.kind rule.interface) (cond rule.hardware d.leaf.hardware (not d.leaf.hardware)) d.kind in
-      let port : same_kind f.joint.interface.kind Dataport ≡ true = ap (λ (z : Interface). same_kind z.kind Dataport) interface ∙ ap (same_kind d.interface.kind) (sym memory.interface) ∙ kinds.0 in
-      let soft : not f.joint.leaf.hardware ≡ true = ap (λ (z : Leaf). not z.hardware) leaf ∙ ap (λ b. cond b d.leaf.hardware (not d.leaf.hardware)) (sym memory.software) ∙ kinds.1 in
-      let has : has_access f.joint ≡ true = and_from (same_kind f.joint.interface.kind Dataport) (not f.joint.leaf.hardware) port soft in
-      let path : f.joint.leaf.path ≡ e.leaf = ap (λ (z : Leaf). z.path) (leaf ∙ sym (leaf_path y x e w d.leaf d.here)) ∙ sym w.path in
-      let name : f.joint.interface.id.name ≡ e.interface = ap (λ (z : Interface). z.id.name) interface ∙ interface_name y x e w d in
+      let kinds = and_parts (same_kind d.interface.kind rule.interface) (cond rule.hardware d.leaf.hardware (not d.leaf.hardware))
+      d.kind in
+      let port : same_kind f.joint.interface.kind Dataport ≡ true = ap (λ (z : Interface). same_kind z.kind Dataport) interface
+      ∙ ap (same_kind d.interface.kind) (sym memory.interface) ∙ kinds.0 in
+      let soft : not f.joint.leaf.hardware ≡ true = ap (λ (z : Leaf). not z.hardware) leaf
+      ∙ ap (λ b. cond b d.leaf.hardware (not d.leaf.hardware)) (sym memory.software) ∙ kinds.1 in
+      let has : has_access f.joint ≡ true = and_from (same_kind f.joint.interface.kind Dataport)
+      (not f.joint.leaf.hardware) port soft in
+      let path : f.joint.leaf.path ≡ e.leaf = ap (λ (z : Leaf). z.path) (leaf ∙ sym (leaf_path y x e w d.leaf d.here))
+      ∙ sym w.path in
+      let name : f.joint.interface.id.name ≡ e.interface = ap (λ (z : Interface). z.id.name) interface
+      ∙ interface_name y x e w d in
       let V : Option Given → Access = λ o. unwrap_or (meant access_in read_and_write o) no_access in
       let value : f.access ≡ value_at h e.leaf (e.interface ++ codes "_access") =
       ap (λ (z : Found). z.access) at.values
@@ -174,11 +208,15 @@ module _ (s : Source) (sound : AreNamesSound s) (dotted : AreDotted (hierarchy_o
       ∙ ap (λ n. value_at h e.leaf (n ++ codes "_access")) name in
       (f, g.2, ap (λ b. cond b (V f.access) no_access) has ∙ ap V value)
 
-  memory_of : (y : Strung) (x : EndAt (flat_of s)) (e : EndOf (hierarchy_of s) y.path y.wire) → Matches s sound dotted numbers y x e → AtMemory y.wire.0 e.role → AtMemory x.connection.connector x.end.role
-  memory_of y x e w m = subst (λ c. AtMemory c x.end.role) (ap (λ (c : FlatConnection). c.connector) w.connection) (subst (λ r. AtMemory y.wire.0 r) w.role m)
+  memory_of : (y : Strung) (x : EndAt (flat_of s)) (e : EndOf (hierarchy_of s) y.path y.wire)
+      → Matches s sound dotted numbers y x e → AtMemory y.wire.0 e.role → AtMemory x.connection.connector x.end.role
+  memory_of y x e w m = subst (λ c. AtMemory c x.end.role) (ap (λ (c : FlatConnection). c.connector) w.connection)
+      (subst (λ r. AtMemory y.wire.0 r) w.role m)
 
-  pub access_left : (y : Strung) (x : EndAt (flat_of s)) (e : EndOf (hierarchy_of s) y.path y.wire) → Matches s sound dotted numbers y x e → (o : ObjectKind) (a : Authority) → gives y.wire.0 e.role o a ≡ true
-      → leaves (setting_of (tables_with s numbers).settled x.place x.number) a ≡ allows (access_of (hierarchy_of s) e.leaf e.interface) a
+  pub access_left : (y : Strung) (x : EndAt (flat_of s)) (e : EndOf (hierarchy_of s) y.path y.wire)
+      → Matches s sound dotted numbers y x e → (o : ObjectKind) (a : Authority) → gives y.wire.0 e.role o a ≡ true
+      → leaves (setting_of (tables_with s numbers).settled x.place x.number) a ≡ allows
+      (access_of (hierarchy_of s) e.leaf e.interface) a
   access_left y x e w o Read given =
       let m = memory_of y x e w (reader y.wire.0 e.role o given) in
       let g = settled_access y x e w m in

@@ -27,23 +27,28 @@ use Rattle.arch_policy.proofs.Given.{labelled_endpoint, labelled_frames, labelle
 
 -- ---- of the table
 
-given_to : (c d : Connector) (r q : Role) (o : ObjectKind) (a : Authority) → c ≡ d → r ≡ q → gives d q o a ≡ true → gives c r o a ≡ true
+given_to : (c d : Connector) (r q : Role) (o : ObjectKind) (a : Authority) → c ≡ d → r ≡ q → gives d q o a ≡ true
+    → gives c r o a ≡ true
 given_to c d r q o a e f h = ap (λ x. gives x r o a) e ∙ ap (λ x. gives d x o a) f ∙ h
 
-module _ (s : Source) (sound : AreNamesSound s) (dotted : AreDotted (hierarchy_of s)) (types : first_type_fault s ≡ None) (numbers : LabelNumbers) (apart : AreApart (tables_with s numbers)) where
+module _ (s : Source) (sound : AreNamesSound s) (dotted : AreDotted (hierarchy_of s)) (types : first_type_fault s ≡ None)
+    (numbers : LabelNumbers) (apart : AreApart (tables_with s numbers)) where
   abbrev t : Tables
   t = tables_with s numbers
 
   -- the connector of a matched end, and its role
-  same_connector_as : (y : Strung) (x : EndAt (flat_of s)) (e : EndOf (hierarchy_of s) y.path y.wire) → Matches s sound dotted numbers y x e → y.wire.0 ≡ x.connection.connector
+  same_connector_as : (y : Strung) (x : EndAt (flat_of s)) (e : EndOf (hierarchy_of s) y.path y.wire)
+      → Matches s sound dotted numbers y x e → y.wire.0 ≡ x.connection.connector
   same_connector_as y x e w = ap (λ (c : FlatConnection). c.connector) w.connection
 
-  at_place : (k j : ℕ) (y : Strung) → j ≡ k → slice_get (connections (hierarchy_of s)) k ≡ Some y → slice_get (connections (hierarchy_of s)) j ≡ Some y
+  at_place : (k j : ℕ) (y : Strung) → j ≡ k → slice_get (connections (hierarchy_of s)) k ≡ Some y
+      → slice_get (connections (hierarchy_of s)) j ≡ Some y
   at_place k j y e h = ap (slice_get (connections (hierarchy_of s))) e ∙ h
 
   -- ---- from reasons
 
-  cause_direct : (l : ℕ) (a : Authority) (m : ℕ) (p q : Path) → IsNamed t l p → IsNamed t m q → DirectReason t (edge l a m) → Direct (hierarchy_of s) p a q
+  cause_direct : (l : ℕ) (a : Authority) (m : ℕ) (p q : Path) → IsNamed t l p → IsNamed t m q → DirectReason t (edge l a m)
+      → Direct (hierarchy_of s) p a q
   cause_direct l a m p q np nq d =
       let h = hierarchy_of s in
       let g = strung_at s sound dotted numbers d.at.place d.at.connection d.at.here in
@@ -51,7 +56,8 @@ module _ (s : Source) (sound : AreNamesSound s) (dotted : AreDotted (hierarchy_o
       let f = met s sound dotted numbers d.at y g.1 in
       let e = f.0 in
       let w = f.1 in
-      let given = given_to y.wire.0 d.at.connection.connector e.role d.at.end.role d.object a (same_connector_as y d.at e w) w.role d.given in
+      let given = given_to y.wire.0 d.at.connection.connector e.role d.at.end.role d.object a (same_connector_as y d.at e w)
+      w.role d.given in
       record {
         composition = y.path;
         connection = y.wire;
@@ -63,23 +69,41 @@ module _ (s : Source) (sound : AreNamesSound s) (dotted : AreDotted (hierarchy_o
         to_is = lead y d.at g.1 e w d.object given d.to;
       }
     where
-      lead : (y : Strung) (x : EndAt (flat_of s)) → slice_get (connections (hierarchy_of s)) x.place ≡ Some y → (e : EndOf (hierarchy_of s) y.path y.wire) → Matches s sound dotted numbers y x e → (o : ObjectKind) → gives y.wire.0 e.role o a ≡ true → FlatLeads t x o m
+      lead : (y : Strung) (x : EndAt (flat_of s)) → slice_get (connections (hierarchy_of s)) x.place ≡ Some y
+          → (e : EndOf (hierarchy_of s) y.path y.wire) → Matches s sound dotted numbers y x e → (o : ObjectKind)
+          → gives y.wire.0 e.role o a ≡ true → FlatLeads t x o m
           → LeadsTo (hierarchy_of s) y.path y.wire e o q
-      lead y x here e w OfEndpoint given to = path_is t apart m (connection_label t x.place) q (connection_path y.path y.wire) to nq (connection_named s numbers y x.place here (labelled_endpoint y.wire.0 e.role a given))
-      lead y x here e w OfNotification given to = path_is t apart m (connection_label t x.place) q (connection_path y.path y.wire) to nq (connection_named s numbers y x.place here (labelled_notification y.wire.0 e.role a given))
-      lead y x here e w OfFrames given to = path_is t apart m (connection_label t x.place) q (connection_path y.path y.wire) to nq (connection_named s numbers y x.place here (labelled_frames y.wire.0 e.role a given))
+      lead y x here e w OfEndpoint given to = path_is t apart m (connection_label t x.place) q (connection_path y.path y.wire) to
+          nq (connection_named s numbers y x.place here (labelled_endpoint y.wire.0 e.role a given))
+      lead y x here e w OfNotification given to = path_is t apart m (connection_label t x.place) q (connection_path y.path y.wire)
+          to nq (connection_named s numbers y x.place here (labelled_notification y.wire.0 e.role a given))
+      lead y x here e w OfFrames given to = path_is t apart m (connection_label t x.place) q (connection_path y.path y.wire) to nq
+          (connection_named s numbers y x.place here (labelled_frames y.wire.0 e.role a given))
       lead y x here e w OfDevice given to = other y x here e w to
         where
-          other : (y : Strung) (x : EndAt (flat_of s)) → slice_get (connections (hierarchy_of s)) x.place ≡ Some y → (e : EndOf (hierarchy_of s) y.path y.wire) → Matches s sound dotted numbers y x e → FlatOther t x m → AtOtherEnd (hierarchy_of s) y.path y.wire e q
+          other : (y : Strung) (x : EndAt (flat_of s)) → slice_get (connections (hierarchy_of s)) x.place ≡ Some y
+              → (e : EndOf (hierarchy_of s) y.path y.wire) → Matches s sound dotted numbers y x e → FlatOther t x m
+              → AtOtherEnd (hierarchy_of s) y.path y.wire e q
           other y x here e w to =
               let v = met s sound dotted numbers to.at y (at_place x.place to.at.place y to.same here) in
-              record { other = v.0; role = v.1.role ∙ to.role ∙ ap opposite (sym w.role); label_is = path_is t apart m (leaf_label t to.at.end.leaf) q (owner (hierarchy_of s) v.0.leaf) to.label_is nq v.1.named }
+              record {
+                other = v.0;
+                role = v.1.role ∙ to.role ∙ ap opposite (sym w.role);
+                label_is = path_is t apart m (leaf_label t to.at.end.leaf) q (owner (hierarchy_of s) v.0.leaf) to.label_is
+                    nq v.1.named;
+              }
       lead y x here e w OfIrq given to =
           let v = met s sound dotted numbers to.at y (at_place x.place to.at.place y to.same here) in
-          record { other = v.0; role = v.1.role ∙ to.role ∙ ap opposite (sym w.role); label_is = path_is t apart m (leaf_label t to.at.end.leaf) q (owner (hierarchy_of s) v.0.leaf) to.label_is nq v.1.named }
+          record {
+            other = v.0;
+            role = v.1.role ∙ to.role ∙ ap opposite (sym w.role);
+            label_is = path_is t apart m (leaf_label t to.at.end.leaf) q (owner (hierarchy_of s) v.0.leaf) to.label_is
+                nq v.1.named;
+          }
       lead y x here e w NoObject given to = absurd to
 
-  cause_called : (l : ℕ) (a : Authority) (m : ℕ) (p q : Path) → IsNamed t l p → IsNamed t m q → CallReason t (edge l a m) → Called (hierarchy_of s) p a q
+  cause_called : (l : ℕ) (a : Authority) (m : ℕ) (p q : Path) → IsNamed t l p → IsNamed t m q → CallReason t (edge l a m)
+      → Called (hierarchy_of s) p a q
   cause_called l a m p q np nq c =
       let h = hierarchy_of s in
       let g = strung_at s sound dotted numbers c.caller.place c.caller.connection c.caller.here in
@@ -118,7 +142,8 @@ module _ (s : Source) (sound : AreNamesSound s) (dotted : AreDotted (hierarchy_o
         device_is = path_is t apart d (leaf_label t c.source.end.leaf) q (owner h v.0.leaf) c.device_is nq v.1.named;
       }
 
-  cause_bound : (l : ℕ) (a : Authority) (m : ℕ) (p q : Path) → IsNamed t l p → IsNamed t m q → BindReason t (edge l a m) → Bound (hierarchy_of s) p a q
+  cause_bound : (l : ℕ) (a : Authority) (m : ℕ) (p q : Path) → IsNamed t l p → IsNamed t m q → BindReason t (edge l a m)
+      → Bound (hierarchy_of s) p a q
   cause_bound l a m p q np nq b =
       let h = hierarchy_of s in
       let g = strung_at s sound dotted numbers b.signaller.place b.signaller.connection b.signaller.here in
@@ -137,10 +162,12 @@ module _ (s : Source) (sound : AreNamesSound s) (dotted : AreDotted (hierarchy_o
         signals = f.1.role ∙ b.signals.role;
         same = refl;
         authority = b.authority;
-        to_is = path_is t apart m (connection_label t b.signaller.place) q (connection_path y.path y.wire) b.to nq (connection_named s numbers y b.signaller.place g.1 (ap has_label notification));
+        to_is = path_is t apart m (connection_label t b.signaller.place) q (connection_path y.path y.wire) b.to nq
+            (connection_named s numbers y b.signaller.place g.1 (ap has_label notification));
       }
 
-  cause_locked : (l : ℕ) (a : Authority) (m : ℕ) (p q : Path) → IsNamed t l p → IsNamed t m q → LockReason t (edge l a m) → Locked (hierarchy_of s) p a q
+  cause_locked : (l : ℕ) (a : Authority) (m : ℕ) (p q : Path) → IsNamed t l p → IsNamed t m q → LockReason t (edge l a m)
+      → Locked (hierarchy_of s) p a q
   cause_locked l a m p q np nq b =
       let k = lock_of s sound numbers b.lock in
       record {
@@ -150,7 +177,8 @@ module _ (s : Source) (sound : AreNamesSound s) (dotted : AreDotted (hierarchy_o
         authority = b.authority;
       }
 
-  cause : (l : ℕ) (a : Authority) (m : ℕ) (p q : Path) → IsNamed t l p → IsNamed t m q → Reason t (edge l a m) → Cause (hierarchy_of s) p a q
+  cause : (l : ℕ) (a : Authority) (m : ℕ) (p q : Path) → IsNamed t l p → IsNamed t m q → Reason t (edge l a m)
+      → Cause (hierarchy_of s) p a q
   cause l a m p q np nq (by_direct d) = direct (cause_direct l a m p q np nq d)
   cause l a m p q np nq (by_call c) = called (cause_called l a m p q np nq c)
   cause l a m p q np nq (by_bind b) = bound (cause_bound l a m p q np nq b)
@@ -195,18 +223,36 @@ module _ (s : Source) (sound : AreNamesSound s) (dotted : AreDotted (hierarchy_o
         reason = record {
           at = x;
           object = d.object;
-          given = given_to x.connection.connector d.connection.0 x.end.role d.end.role d.object a (sym (same_connector_as y x d.end w)) (sym w.role) d.given;
+          given = given_to x.connection.connector d.connection.0 x.end.role d.end.role d.object a
+              (sym (same_connector_as y x d.end w)) (sym w.role) d.given;
           left = access_left s sound dotted types numbers y x d.end w d.object a d.given ∙ d.allowed;
           from = refl;
           to = lead.to;
         };
       }
     where
-      leading : (y : Strung) (k : ℕ) → slice_get (connections (hierarchy_of s)) k ≡ Some y → (e : EndOf (hierarchy_of s) y.path y.wire) (x : EndAt (flat_of s)) → x.place ≡ k → Matches s sound dotted numbers y x e → (o : ObjectKind) → gives y.wire.0 e.role o a ≡ true
+      leading : (y : Strung) (k : ℕ) → slice_get (connections (hierarchy_of s)) k ≡ Some y
+          → (e : EndOf (hierarchy_of s) y.path y.wire) (x : EndAt (flat_of s)) → x.place ≡ k
+          → Matches s sound dotted numbers y x e → (o : ObjectKind) → gives y.wire.0 e.role o a ≡ true
           → LeadsTo (hierarchy_of s) y.path y.wire e o q → Leading x o q
-      leading y k here e x at w OfEndpoint given to = record { m = connection_label t x.place; nq = subst (λ z. IsNamed t (connection_label t x.place) z) (sym to) (connection_named s numbers y x.place w.here (labelled_endpoint y.wire.0 e.role a given)); to = refl }
-      leading y k here e x at w OfNotification given to = record { m = connection_label t x.place; nq = subst (λ z. IsNamed t (connection_label t x.place) z) (sym to) (connection_named s numbers y x.place w.here (labelled_notification y.wire.0 e.role a given)); to = refl }
-      leading y k here e x at w OfFrames given to = record { m = connection_label t x.place; nq = subst (λ z. IsNamed t (connection_label t x.place) z) (sym to) (connection_named s numbers y x.place w.here (labelled_frames y.wire.0 e.role a given)); to = refl }
+      leading y k here e x at w OfEndpoint given to = record {
+        m = connection_label t x.place;
+        nq = subst (λ z. IsNamed t (connection_label t x.place) z) (sym to) (connection_named s numbers y x.place w.here
+            (labelled_endpoint y.wire.0 e.role a given));
+        to = refl;
+      }
+      leading y k here e x at w OfNotification given to = record {
+        m = connection_label t x.place;
+        nq = subst (λ z. IsNamed t (connection_label t x.place) z) (sym to) (connection_named s numbers y x.place w.here
+            (labelled_notification y.wire.0 e.role a given));
+        to = refl;
+      }
+      leading y k here e x at w OfFrames given to = record {
+        m = connection_label t x.place;
+        nq = subst (λ z. IsNamed t (connection_label t x.place) z) (sym to) (connection_named s numbers y x.place w.here
+            (labelled_frames y.wire.0 e.role a given));
+        to = refl;
+      }
       leading y k here e x at w OfDevice given to =
           let v = put s sound dotted numbers y k here to.other in
           record {
@@ -224,7 +270,8 @@ module _ (s : Source) (sound : AreNamesSound s) (dotted : AreDotted (hierarchy_o
       leading y k here e x at w NoObject given to = absurd to
 
   -- an end as it is asked for
-  is_end : (c : Connector) (r : Role) (y : Strung) (x : EndAt (flat_of s)) (e : EndOf (hierarchy_of s) y.path y.wire) → Matches s sound dotted numbers y x e → y.wire.0 ≡ c → e.role ≡ r → IsEnd c r x
+  is_end : (c : Connector) (r : Role) (y : Strung) (x : EndAt (flat_of s)) (e : EndOf (hierarchy_of s) y.path y.wire)
+      → Matches s sound dotted numbers y x e → y.wire.0 ≡ c → e.role ≡ r → IsEnd c r x
   is_end c r y x e w a b = record { connector = sym (same_connector_as y x e w) ∙ a; role = sym w.role ∙ b }
 
   reason_called : (p : Path) (a : Authority) (q : Path) → Called (hierarchy_of s) p a q → Reasoned (Reason t) p a q
@@ -272,7 +319,8 @@ module _ (s : Source) (sound : AreNamesSound s) (dotted : AreDotted (hierarchy_o
         };
       }
 
-  reason_bound : ArePathsApart (flat_of s) → (p : Path) (a : Authority) (q : Path) → Bound (hierarchy_of s) p a q → Reasoned (Reason t) p a q
+  reason_bound : ArePathsApart (flat_of s) → (p : Path) (a : Authority) (q : Path) → Bound (hierarchy_of s) p a q
+      → Reasoned (Reason t) p a q
   reason_bound paths p a q b =
       let h = hierarchy_of s in
       let k = reason_handles b.domain p b.handles in
@@ -284,7 +332,8 @@ module _ (s : Source) (sound : AreNamesSound s) (dotted : AreDotted (hierarchy_o
         l = k.d;
         m = connection_label t x.place;
         np = k.nq;
-        nq = subst (λ z. IsNamed t (connection_label t x.place) z) (sym b.to_is) (connection_named s numbers y x.place f.2.here (ap has_label b.notification));
+        nq = subst (λ z. IsNamed t (connection_label t x.place) z) (sym b.to_is) (connection_named s numbers y x.place f.2.here
+            (ap has_label b.notification));
         reason = by_bind (record {
           label = k.l;
           handles = k.handles;
@@ -296,7 +345,8 @@ module _ (s : Source) (sound : AreNamesSound s) (dotted : AreDotted (hierarchy_o
         });
       }
 
-  reason_locked : ArePathsApart (flat_of s) → (p : Path) (a : Authority) (q : Path) → Locked (hierarchy_of s) p a q → Reasoned (Reason t) p a q
+  reason_locked : ArePathsApart (flat_of s) → (p : Path) (a : Authority) (q : Path) → Locked (hierarchy_of s) p a q
+      → Reasoned (Reason t) p a q
   reason_locked paths p a q b =
       let k = reason_handles q p b.handles in
       let o = lock_at s sound numbers b.lock in
@@ -313,7 +363,8 @@ module _ (s : Source) (sound : AreNamesSound s) (dotted : AreDotted (hierarchy_o
         });
       }
 
-  reasoned : ArePathsApart (flat_of s) → (p : Path) (a : Authority) (q : Path) → Cause (hierarchy_of s) p a q → Reasoned (Reason t) p a q
+  reasoned : ArePathsApart (flat_of s) → (p : Path) (a : Authority) (q : Path) → Cause (hierarchy_of s) p a q
+      → Reasoned (Reason t) p a q
   reasoned paths p a q (direct d) =
       let r = reason_direct p a q d in
       record { l = r.l; m = r.m; np = r.np; nq = r.nq; reason = by_direct r.reason }
@@ -321,15 +372,20 @@ module _ (s : Source) (sound : AreNamesSound s) (dotted : AreDotted (hierarchy_o
   reasoned paths p a q (bound b) = reason_bound paths p a q b
   reasoned paths p a q (locked b) = reason_locked paths p a q b
 
-  pub assigned_reasoned : ArePathsApart (flat_of s) → (p : Path) (a : Authority) (q : Path) → IsAssigned s p a q ↔ ((l m : ℕ) × IsNamed t l p × IsNamed t m q × IsReasoned t (edge l a m))
+  pub assigned_reasoned : ArePathsApart (flat_of s) → (p : Path) (a : Authority) (q : Path) → IsAssigned s p a q
+      ↔ ((l m : ℕ) × IsNamed t l p × IsNamed t m q × IsReasoned t (edge l a m))
   assigned_reasoned paths p a q = (
     λ h.
         let r = reasoned paths p a q h.cause in
         (r.l, r.m, r.np, r.nq, record { differ = λ e. h.differ (path_is t apart r.l r.m p q e r.np r.nq); reason = r.reason }),
-    λ r. record { differ = λ e. r.4.differ (number_is t paths r.0 r.1 p q e r.2 r.3); cause = cause r.0 a r.1 p q r.2 r.3 r.4.reason },
+    λ r. record {
+      differ = λ e. r.4.differ (number_is t paths r.0 r.1 p q e r.2 r.3);
+      cause = cause r.0 a r.1 p q r.2 r.3 r.4.reason;
+    },
   )
 
-  pub direct_reasoned : (p : Path) (a : Authority) (q : Path) → Direct (hierarchy_of s) p a q ↔ ((l m : ℕ) × IsNamed t l p × IsNamed t m q × DirectReason t (edge l a m))
+  pub direct_reasoned : (p : Path) (a : Authority) (q : Path) → Direct (hierarchy_of s) p a q
+      ↔ ((l m : ℕ) × IsNamed t l p × IsNamed t m q × DirectReason t (edge l a m))
   direct_reasoned p a q = (
     λ h. let r = reason_direct p a q h in (r.l, r.m, r.np, r.nq, r.reason),
     λ r. cause_direct r.0 a r.1 p q r.2 r.3 r.4,

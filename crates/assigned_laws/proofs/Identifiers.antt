@@ -34,11 +34,13 @@ word_name i w = let p = w.1 in subst (λ (z : Id). IsIdentifier z.name) (sym p.1
 
 instance_name : (i : Instance) → IsOne instance_line i → IsIdentifier i.id.name
 unfolding instance_line
-instance_name i w = let p = w.1 in subst (λ (z : Instance). IsIdentifier z.id.name) (sym p.1) (word_name p.0.1.1.0 (p.2.4.4.0, p.2.4.4.3))
+instance_name i w = let p = w.1 in subst (λ (z : Instance). IsIdentifier z.id.name) (sym p.1)
+    (word_name p.0.1.1.0 (p.2.4.4.0, p.2.4.4.3))
 
 connection_name : (k : Connection) → IsOne connection_line k → IsIdentifier k.id.name
 unfolding connection_line
-connection_name k w = let p = w.1 in subst (λ (z : Connection). IsIdentifier z.id.name) (sym p.1) (word_name p.0.1.1.0 (p.2.4.4.0, p.2.4.4.3))
+connection_name k w = let p = w.1 in subst (λ (z : Connection). IsIdentifier z.id.name) (sym p.1)
+    (word_name p.0.1.1.0 (p.2.4.4.0, p.2.4.4.3))
 
 group_name : (g : Group) → IsOne group_line g → IsIdentifier g.id.name
 unfolding group_line
@@ -77,7 +79,8 @@ line_names l w x m = elim w.1 [
 -- ---- paths
 
 module _ (s : Source) (spelled : AreSpelled s) where
-  held_names : (k : ℕ) (c : Composition) → (body (hierarchy_of s) k).composition ≡ Some c → (x : Id × Held) → IsIn x (held_in c) → IsIdentifier x.0.name
+  held_names : (k : ℕ) (c : Composition) → (body (hierarchy_of s) k).composition ≡ Some c → (x : Id × Held) → IsIn x (held_in c)
+      → IsIdentifier x.0.name
   held_names k c e x i =
       let l = from_flat_map held_by x c.lines i in
       line_names l.0 (line_spelled s spelled k c e l.0 l.1) x l.2

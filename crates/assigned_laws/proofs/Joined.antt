@@ -37,11 +37,13 @@ module _ (s : Source) (sound : AreNamesSound s) (dotted : AreDotted (hierarchy_o
     pub placed : IsIn (record { path = y.path ++ reach.path; part = reach.part }) (leaves (hierarchy_of s))
     pub named : IsNamed t (leaf_label t x.end.leaf) (owner (hierarchy_of s) e.leaf)
 
-  pub strung_at : (k : ℕ) (c : FlatConnection) → slice_get (flat_of s).connections k ≡ Some c → (y : Strung) × (slice_get (connections (hierarchy_of s)) k ≡ Some y) × (flat_connection (hierarchy_of s) y ≡ c)
+  pub strung_at : (k : ℕ) (c : FlatConnection) → slice_get (flat_of s).connections k ≡ Some c
+      → (y : Strung) × (slice_get (connections (hierarchy_of s)) k ≡ Some y) × (flat_connection (hierarchy_of s) y ≡ c)
   strung_at k c e = let h = hierarchy_of s in from_get_map (flat_connection h) (connections h) k c e
 
   -- the label of a leaf at the path that is reached
-  reached_named : (q : Path) (r : Reached) → IsIn (record { path = q ++ r.path; part = r.part }) (leaves (hierarchy_of s)) → IsNamed t (leaf_label t (leaf_number (hierarchy_of s) (q ++ r.path))) (owner (hierarchy_of s) (q ++ r.path))
+  reached_named : (q : Path) (r : Reached) → IsIn (record { path = q ++ r.path; part = r.part }) (leaves (hierarchy_of s))
+      → IsNamed t (leaf_label t (leaf_number (hierarchy_of s) (q ++ r.path))) (owner (hierarchy_of s) (q ++ r.path))
   reached_named q r i =
       let h = hierarchy_of s in
       let x : Placed = record { path = q ++ r.path; part = r.part } in
@@ -50,22 +52,32 @@ module _ (s : Source) (sound : AreNamesSound s) (dotted : AreDotted (hierarchy_o
       subst (λ z. IsNamed t (leaf_label t z) (owner h x.path)) (sym is) (leaf_named s numbers sound x n.0 n.1)
 
   -- from the flat system
-  pub met : (x : EndAt (flat_of s)) (y : Strung) → slice_get (connections (hierarchy_of s)) x.place ≡ Some y → (e : EndOf (hierarchy_of s) y.path y.wire) × Matches y x e
+  pub met : (x : EndAt (flat_of s)) (y : Strung) → slice_get (connections (hierarchy_of s)) x.place ≡ Some y
+      → (e : EndOf (hierarchy_of s) y.path y.wire) × Matches y x e
   met x y here =
       let h = hierarchy_of s in
       let i : IsIn y (connections h) = in_get (connections h) x.place y here in
-      let there : slice_get (flat_of s).connections x.place ≡ Some (flat_connection h y) = get_map (flat_connection h) (connections h) x.place y here in
+      let there : slice_get (flat_of s).connections x.place ≡ Some (flat_connection h y) =
+      get_map (flat_connection h) (connections h) x.place y here in
       let both : Some (flat_connection h y) ≡ Some x.connection = sym there ∙ x.here in
       let same : flat_connection h y ≡ x.connection = cc in
-      let stands : slice_get (flat_ends h y) x.number ≡ Some x.end = ap (λ (c : FlatConnection). slice_get c.ends x.number) same ∙ x.stands in
-      let short : x.number < length y.wire.1.ends = subst (λ n. x.number < n) (ends_kept s sound dotted y i) (slice_get_within (flat_ends h y) x.number x.end stands) in
+      let stands : slice_get (flat_ends h y) x.number ≡ Some x.end = ap (λ (c : FlatConnection). slice_get c.ends x.number) same
+      ∙ x.stands in
+      let short : x.number < length y.wire.1.ends = subst (λ n. x.number < n) (ends_kept s sound dotted y i)
+      (slice_get_within (flat_ends h y) x.number x.end stands) in
       let end = at_place y.wire.1.ends x.number short in
       let r = all_joined s sound dotted y end.0 i (in_get y.wire.1.ends x.number end.0 end.1) in
       let flat = end_numbers_kept s sound dotted y x.number end.0 r.0 i end.1 r.1 in
       let ends : Some (flat_end h y.path end.0 r.0) ≡ Some x.end = sym flat ∙ stands in
       let is : flat_end h y.path end.0 r.0 ≡ x.end = cc in
       let j = joined s sound y x.number end.0 r.0 i end.1 r.1 in
-      let e : EndOf h y.path y.wire = record { number = x.number; role = end.0.role; leaf = y.path ++ r.0.path; interface = r.0.interface; joins = j.0 } in
+      let e : EndOf h y.path y.wire = record {
+        number = x.number;
+        role = end.0.role;
+        leaf = y.path ++ r.0.path;
+        interface = r.0.interface;
+        joins = j.0;
+      } in
       let named = reached_named y.path r.0 j.1 in (
         e,
         record {
@@ -84,7 +96,9 @@ module _ (s : Source) (sound : AreNamesSound s) (dotted : AreDotted (hierarchy_o
       )
 
   -- a connection of the hierarchy that has an end stands in the flat system
-  pub strung_here : (q : Path) (w : Wire) (e : EndOf (hierarchy_of s) q w) → (k : ℕ) × (inside : ℕ) × (slice_get (connections (hierarchy_of s)) k ≡ Some (record { path = q; inside = inside; wire = w }))
+  pub strung_here : (q : Path) (w : Wire) (e : EndOf (hierarchy_of s) q w)
+      → (k : ℕ) × (inside : ℕ)
+      × (slice_get (connections (hierarchy_of s)) k ≡ Some (record { path = q; inside = inside; wire = w }))
   strung_here q w e =
       let h = hierarchy_of s in
       let j = e.joins in
@@ -93,7 +107,8 @@ module _ (s : Source) (sound : AreNamesSound s) (dotted : AreDotted (hierarchy_o
       (n.0, j.inside, n.1)
 
   -- from the hierarchy
-  pub put : (y : Strung) (k : ℕ) → slice_get (connections (hierarchy_of s)) k ≡ Some y → (e : EndOf (hierarchy_of s) y.path y.wire) → (x : EndAt (flat_of s)) × (x.place ≡ k) × Matches y x e
+  pub put : (y : Strung) (k : ℕ) → slice_get (connections (hierarchy_of s)) k ≡ Some y
+      → (e : EndOf (hierarchy_of s) y.path y.wire) → (x : EndAt (flat_of s)) × (x.place ≡ k) × Matches y x e
   put y k here e =
       let h = hierarchy_of s in
       let i : IsIn y (connections h) = in_get (connections h) k y here in
@@ -123,6 +138,7 @@ module _ (s : Source) (sound : AreNamesSound s) (dotted : AreDotted (hierarchy_o
           end = end;
           flat = refl;
           placed = leaf;
-          named = subst (λ z. IsNamed t (leaf_label t (leaf_number h (y.path ++ r.path))) (owner h z)) j.5 (reached_named y.path r leaf);
+          named = subst (λ z. IsNamed t (leaf_label t (leaf_number h (y.path ++ r.path))) (owner h z)) j.5
+              (reached_named y.path r leaf);
         },
       )

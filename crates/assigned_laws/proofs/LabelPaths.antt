@@ -57,7 +57,8 @@ record GroupIn (ls : List Line) (name : Name) : Type 0 where
   stands : IsIn (id, a_group members) (flat_map held_by ls)
   named : id.name ≡ name
 
-held_group : (numbers : Name → Option ℕ) (ls : List Line) (x : Part) (g : Name) → IsIn x (flat_map (parts_by numbers) ls) → x.group ≡ Some g → GroupIn ls g
+held_group : (numbers : Name → Option ℕ) (ls : List Line) (x : Part) (g : Name) → IsIn x (flat_map (parts_by numbers) ls)
+    → x.group ≡ Some g → GroupIn ls g
 held_group numbers ls x g m e =
     let l = from_flat_map (parts_by numbers) x ls m in
     by_line l.0 l.1 l.2
@@ -65,18 +66,26 @@ held_group numbers ls x g m e =
     grouped : (o : Option Name) (is : List Instance) → IsIn x (filter_map (part_of numbers o) is) → x.group ≡ o
     grouped o is m =
         let i = from_filter_map (part_of numbers o) x is m in
-        let k = map_some (λ k. let part : Part = record { instance = i.0; group = o; kind = k } in part) (numbers i.0.component.name) x i.2 in
+        let k = map_some (λ k. let part : Part = record { instance = i.0; group = o; kind = k } in
+        part) (numbers i.0.component.name) x i.2 in
         ap (λ (z : Part). z.group) (sym k.2)
 
     by_line : (l : Line) → IsIn l ls → IsIn x (parts_by numbers l) → GroupIn ls g
     by_line (lines.Instance i) there m = absurd (let w = sym (grouped None (i ∷ []) m) ∙ e in cc)
     by_line (lines.Group h) there m =
         let w : Some h.id.name ≡ Some g = sym (grouped (Some h.id.name) h.instances m) ∙ e in
-        record { id = h.id; members = member_of h; stands = in_flat_map held_by (lines.Group h) (h.id, a_group (member_of h)) ls there (inl refl); named = cc }
+        record {
+          id = h.id;
+          members = member_of h;
+          stands = in_flat_map held_by (lines.Group h) (h.id, a_group (member_of h)) ls
+              there (inl refl);
+          named = cc;
+        }
     by_line (lines.Connection k) there m = absurd m
     by_line (lines.Export x) there m = absurd m
 
-held_wire : (k : Connection) (ls : List Line) → IsIn k (filter_map as_connection ls) → IsIn (k.id, held_connection) (flat_map held_by ls)
+held_wire : (k : Connection) (ls : List Line) → IsIn k (filter_map as_connection ls)
+    → IsIn (k.id, held_connection) (flat_map held_by ls)
 held_wire k ls m =
     let l = from_filter_map as_connection k ls m in
     in_flat_map held_by l.0 (k.id, held_connection) ls l.1 (by_line l.0 l.2)
@@ -84,7 +93,8 @@ held_wire k ls m =
     by_line : (l : Line) → as_connection l ≡ Some k → IsIn (k.id, held_connection) (held_by l)
     by_line (lines.Instance i) e = absurd cc
     by_line (lines.Group g) e = absurd cc
-    by_line (lines.Connection j) e = let same : j ≡ k = cc in inl (ap (λ (z : Connection). let held : Id × Held = (z.id, held_connection) in held) same)
+    by_line (lines.Connection j) e = let same : j ≡ k = cc in
+        inl (ap (λ (z : Connection). let held : Id × Held = (z.id, held_connection) in held) same)
     by_line (lines.Export x) e = absurd cc
 
 -- ---- the last name of a path
@@ -123,20 +133,24 @@ same_held s sound p a b x y =
     let last = snoc_same x.above y.above x.name y.name (sym x.path ∙ y.path) in
     let both : Some x.kind ≡ Some y.kind = sym x.there ∙ ap (at h (top_number h)) last.0 ∙ y.there in
     let kind : x.kind ≡ y.kind = cc in
-    one_held s sound y.kind y.name a b (subst (λ k. HoldsIn s k y.name a) kind (subst (λ n. HoldsIn s x.kind n a) last.1 x.holds)) y.holds
+    one_held s sound y.kind y.name a b (subst (λ k. HoldsIn s k y.name a) kind (subst (λ n. HoldsIn s x.kind n a) last.1 x.holds))
+    y.holds
 
 -- the body of the last instance on a path
-split_last : (h : Hierarchy) (k : ℕ) (q : Path) (n : Name) (x : Part) → part_at h k (q ++ n ∷ []) ≡ Some x → (m : ℕ) × (at h k q ≡ Some m) × (part_named (body h m).parts n ≡ Some x)
+split_last : (h : Hierarchy) (k : ℕ) (q : Path) (n : Name) (x : Part) → part_at h k (q ++ n ∷ []) ≡ Some x
+    → (m : ℕ) × (at h k q ≡ Some m) × (part_named (body h m).parts n ≡ Some x)
 split_last h k [] n x e = (k, refl, e)
 split_last h k (a ∷ []) n x e =
-    option_and_then_some (λ (y : Part). part_at h y.kind (n ∷ [])) (part_named (body h k).parts a) x e (λ y e1 e2. (y.kind, ap (option_and_then (λ (z : Part). Some z.kind)) e1, e2))
+    option_and_then_some (λ (y : Part). part_at h y.kind (n ∷ [])) (part_named (body h k).parts a) x e
+    (λ y e1 e2. (y.kind, ap (option_and_then (λ (z : Part). Some z.kind)) e1, e2))
 split_last h k (a ∷ b ∷ q) n x e =
     option_and_then_some (λ (y : Part). part_at h y.kind (b ∷ q ++ n ∷ [])) (part_named (body h k).parts a) x e (λ y e1 e2.
     let r = split_last h y.kind (b ∷ q) n x e2 in
     (r.0, ap (option_and_then (λ (z : Part). at h z.kind (b ∷ q))) e1 ∙ r.1, r.2))
 
 module _ (s : Source) (sound : AreNamesSound s) where
-  instance_ends : (q : Path) (n : Name) (x : Part) → part_at (hierarchy_of s) (top_number (hierarchy_of s)) (q ++ n ∷ []) ≡ Some x → Ends s (q ++ n ∷ []) (an_instance x.instance)
+  instance_ends : (q : Path) (n : Name) (x : Part) → part_at (hierarchy_of s) (top_number (hierarchy_of s)) (q ++ n ∷ []) ≡ Some x
+      → Ends s (q ++ n ∷ []) (an_instance x.instance)
   instance_ends q n x e =
       let h = hierarchy_of s in
       let r = split_last h (top_number h) q n x e in
@@ -148,28 +162,55 @@ module _ (s : Source) (sound : AreNamesSound s) where
         path = refl;
         kind = r.0;
         there = r.1;
-        holds = record { composition = p.composition; composed = p.composed; id = x.instance.id; stands = held_instance x.instance p.composition.lines p.stands; named = i.1 };
+        holds = record {
+          composition = p.composition;
+          composed = p.composed;
+          id = x.instance.id;
+          stands = held_instance x.instance p.composition.lines p.stands;
+          named = i.1;
+        };
       }
 
-  group_ends : (q : Path) (n g : Name) (x : Part) → part_at (hierarchy_of s) (top_number (hierarchy_of s)) (q ++ n ∷ []) ≡ Some x → x.group ≡ Some g → (f : Name → Option Instance) × Ends s (q ++ g ∷ []) (a_group f)
+  group_ends : (q : Path) (n g : Name) (x : Part) → part_at (hierarchy_of s) (top_number (hierarchy_of s)) (q ++ n ∷ []) ≡ Some x
+      → x.group ≡ Some g → (f : Name → Option Instance) × Ends s (q ++ g ∷ []) (a_group f)
   group_ends q n g x e grouped =
       let h = hierarchy_of s in
       let r = split_last h (top_number h) q n x e in
       let i = named_in (body h r.0).parts n x r.2 in
       let p = part_of_body s r.0 x i.0 in
       let parts : IsIn x (parts_in (kind_named s) (body h r.0).composition) = subst (λ xs. IsIn x xs) (parts_of s r.0) i.0 in
-      let inside : IsIn x (flat_map (parts_by (kind_named s)) p.composition.lines) = subst (λ o. IsIn x (parts_in (kind_named s) o)) p.composed parts in
-      let w = held_group (kind_named s) p.composition.lines x g inside grouped in
-      (w.members, record { above = q; name = g; path = refl; kind = r.0; there = r.1; holds = record { composition = p.composition; composed = p.composed; id = w.id; stands = w.stands; named = w.named } })
+      let inside : IsIn x (flat_map (parts_by (kind_named s)) p.composition.lines) =
+      subst (λ o. IsIn x (parts_in (kind_named s) o)) p.composed parts in
+      let w = held_group (kind_named s) p.composition.lines x g inside grouped in (
+        w.members,
+        record {
+          above = q;
+          name = g;
+          path = refl;
+          kind = r.0;
+          there = r.1;
+          holds = record {
+            composition = p.composition;
+            composed = p.composed;
+            id = w.id;
+            stands = w.stands;
+            named = w.named;
+          };
+        },
+      )
 
   leaf_ends : (x : Placed) → IsIn x (leaves (hierarchy_of s)) → (i : Instance) × Ends s x.path (an_instance i)
   leaf_ends x i =
       let h = hierarchy_of s in
       let stands = ((leaves_stand s sound x).0 i).0 in
-      let q = last_of h (top_number h) x.path x.part stands in
-      (x.part.instance, subst (λ p. Ends s p (an_instance x.part.instance)) (sym q.1) (instance_ends q.0 (name_of x.part) x.part (ap (part_at h (top_number h)) (sym q.1) ∙ stands)))
+      let q = last_of h (top_number h) x.path x.part stands in (
+        x.part.instance,
+        subst (λ p. Ends s p (an_instance x.part.instance)) (sym q.1) (instance_ends q.0 (name_of x.part) x.part
+            (ap (part_at h (top_number h)) (sym q.1) ∙ stands)),
+      )
 
-  connection_ends : (y : Strung) → IsIn y (connections (hierarchy_of s)) → Ends s (y.path ++ y.wire.1.id.name ∷ []) held_connection
+  connection_ends : (y : Strung) → IsIn y (connections (hierarchy_of s))
+      → Ends s (y.path ++ y.wire.1.id.name ∷ []) held_connection
   connection_ends y i =
       let h = hierarchy_of s in
       let stands = (connections_stand s sound y).0 i in
@@ -180,12 +221,19 @@ module _ (s : Source) (sound : AreNamesSound s) where
         path = refl;
         kind = y.inside;
         there = stands.0;
-        holds = record { composition = own.0; composed = own.1; id = y.wire.1.id; stands = held_wire y.wire.1 own.0.lines own.2; named = refl };
+        holds = record {
+          composition = own.0;
+          composed = own.1;
+          id = y.wire.1.id;
+          stands = held_wire y.wire.1 own.0.lines own.2;
+          named = refl;
+        };
       }
 
   -- a domain's path is that of a leaf that is no device, or of a group
   data DomainPath (p : Path) : Type 0 where
-    own_leaf : (x : Placed) → IsIn x (leaves (hierarchy_of s)) → is_hardware (hierarchy_of s) x.part ≡ false → x.path ≡ p → DomainPath p
+    own_leaf : (x : Placed) → IsIn x (leaves (hierarchy_of s)) → is_hardware (hierarchy_of s) x.part ≡ false → x.path ≡ p
+        → DomainPath p
     of_group : (f : Name → Option Instance) → Ends s p (a_group f) → DomainPath p
 
   of_domain : (p : Path) → IsIn p (domains (hierarchy_of s)) → DomainPath p
@@ -194,7 +242,9 @@ module _ (s : Source) (sound : AreNamesSound s) where
       let w = (domains_are h p).0 i in
       go w.0 (group_above h (top_number h) w.0.path) refl w.1 w.2 w.3
     where
-      go : (x : Placed) (o : Option Path) → group_above (hierarchy_of s) (top_number (hierarchy_of s)) x.path ≡ o → IsIn x (leaves (hierarchy_of s)) → is_hardware (hierarchy_of s) x.part ≡ false → domain_of (hierarchy_of s) x.path ≡ p → DomainPath p
+      go : (x : Placed) (o : Option Path) → group_above (hierarchy_of s) (top_number (hierarchy_of s)) x.path ≡ o
+          → IsIn x (leaves (hierarchy_of s)) → is_hardware (hierarchy_of s) x.part ≡ false → domain_of (hierarchy_of s) x.path ≡ p
+          → DomainPath p
       go x None above i soft is = own_leaf x i soft (sym (ap (λ o. unwrap_or o x.path) above) ∙ is)
       go x (Some d) above i soft is =
           let h = hierarchy_of s in
@@ -210,17 +260,25 @@ module _ (s : Source) (sound : AreNamesSound s) where
       let g = from_get_map (flat_domain (hierarchy_of s)) (domains (hierarchy_of s)) d h.0 h.1 in
       g.1 ∙ ap (λ z. Some z) (ap (λ (z : Domain). z.path) g.2 ∙ h.2)
 
-  device_path : (l : ℕ) (p : Path) → HasPath (flat_of s) (OfLeaf l) p → (x : Placed) × (slice_get (leaves (hierarchy_of s)) l ≡ Some x) × (x.path ≡ p) × (is_hardware (hierarchy_of s) x.part ≡ true)
+  device_path : (l : ℕ) (p : Path) → HasPath (flat_of s) (OfLeaf l) p
+      → (x : Placed) × (slice_get (leaves (hierarchy_of s)) l ≡ Some x) × (x.path ≡ p)
+      × (is_hardware (hierarchy_of s) x.part ≡ true)
   device_path l p h =
       let k = hierarchy_of s in
-      let g = from_get_map (leaf_of k) (leaves k) l h.0 h.1 in
-      (g.0, g.1, ap (λ (z : Leaf). z.path) g.2 ∙ h.3, by_test (domain_number k (domain_of k g.0.path)) (is_hardware k g.0.part) (ap (λ (z : Leaf). z.domain) g.2 ∙ h.2))
+      let g = from_get_map (leaf_of k) (leaves k) l h.0 h.1 in (
+        g.0,
+        g.1,
+        ap (λ (z : Leaf). z.path) g.2 ∙ h.3,
+        by_test (domain_number k (domain_of k g.0.path)) (is_hardware k g.0.part)
+            (ap (λ (z : Leaf). z.domain) g.2 ∙ h.2),
+      )
     where
       by_test : (n : ℕ) (b : Bool) → cond b None (Some n) ≡ None → b ≡ true
       by_test n true e = refl
       by_test n false e = cc
 
-  connection_path_of : (k : ℕ) (p : Path) → HasPath (flat_of s) (OfConnection k) p → (y : Strung) × (slice_get (connections (hierarchy_of s)) k ≡ Some y) × (y.path ++ y.wire.1.id.name ∷ [] ≡ p)
+  connection_path_of : (k : ℕ) (p : Path) → HasPath (flat_of s) (OfConnection k) p
+      → (y : Strung) × (slice_get (connections (hierarchy_of s)) k ≡ Some y) × (y.path ++ y.wire.1.id.name ∷ [] ≡ p)
   connection_path_of k p h =
       let g = from_get_map (flat_connection (hierarchy_of s)) (connections (hierarchy_of s)) k h.0 h.1 in
       (g.0, g.1, ap (λ (z : FlatConnection). z.path) g.2 ∙ h.3)
@@ -239,7 +297,8 @@ module _ (s : Source) (sound : AreNamesSound s) where
       by_case : DomainPath p → ⊥
       by_case (own_leaf x i soft e) =
           let w = leaf_ends x i in
-          let same = same_held s sound p (an_instance w.0) held_connection (subst (λ z. Ends s z (an_instance w.0)) e w.1) (connection_held k p g) in
+          let same = same_held s sound p (an_instance w.0) held_connection (subst (λ z. Ends s z (an_instance w.0)) e w.1)
+          (connection_held k p g) in
           cc
       by_case (of_group f e) = let same = same_held s sound p (a_group f) held_connection e (connection_held k p g) in cc
 
@@ -247,13 +306,15 @@ module _ (s : Source) (sound : AreNamesSound s) where
   no_device_connection l k p h g =
       let x = device_path l p h in
       let w = leaf_ends x.0 (in_get (leaves (hierarchy_of s)) l x.0 x.1) in
-      let same = same_held s sound p (an_instance w.0) held_connection (subst (λ z. Ends s z (an_instance w.0)) x.2 w.1) (connection_held k p g) in
+      let same = same_held s sound p (an_instance w.0) held_connection (subst (λ z. Ends s z (an_instance w.0)) x.2 w.1)
+      (connection_held k p g) in
       cc
 
   no_domain_device : (d l : ℕ) (p : Path) → HasPath (flat_of s) (OfDomain d) p → HasPath (flat_of s) (OfLeaf l) p → ⊥
   no_domain_device d l p h g = by_case (domain_ends d p h) (device_path l p g)
     where
-      by_case : DomainPath p → (x : Placed) × (slice_get (leaves (hierarchy_of s)) l ≡ Some x) × (x.path ≡ p) × (is_hardware (hierarchy_of s) x.part ≡ true) → ⊥
+      by_case : DomainPath p → (x : Placed) × (slice_get (leaves (hierarchy_of s)) l ≡ Some x) × (x.path ≡ p)
+          × (is_hardware (hierarchy_of s) x.part ≡ true) → ⊥
       by_case (own_leaf y i soft e) x =
           let k = hierarchy_of s in
           let n = place_of y (leaves k) i in

@@ -27,25 +27,31 @@ use Rattle.cam_base.specs.Gather.{IsIn}
 module _ (s : Source) (sound : AreNamesSound s) where
   -- ---- of leaves
 
-  leaf_at : (leaf : Path) → IsLeaf (hierarchy_of s) (top_number (hierarchy_of s)) leaf → (x : Placed) × (n : ℕ) × (slice_get (leaves (hierarchy_of s)) n ≡ Some x) × (x.path ≡ leaf)
+  leaf_at : (leaf : Path) → IsLeaf (hierarchy_of s) (top_number (hierarchy_of s)) leaf
+      → (x : Placed) × (n : ℕ) × (slice_get (leaves (hierarchy_of s)) n ≡ Some x) × (x.path ≡ leaf)
   leaf_at leaf is =
       let h = hierarchy_of s in
       let g = from_map (λ (x : Placed). x.path) leaf (leaves h) ((paths_are_leaves s sound leaf).1 is) in
       let n = place_of g.0 (leaves h) g.1 in
       (g.0, n.0, n.1, g.2)
 
-  at_leaf : (x : Placed) (n : ℕ) → slice_get (leaves (hierarchy_of s)) n ≡ Some x → IsLeaf (hierarchy_of s) (top_number (hierarchy_of s)) x.path
-  at_leaf x n e = let h = hierarchy_of s in (paths_are_leaves s sound x.path).0 (in_map (λ (x : Placed). x.path) x (leaves h) (in_get (leaves h) n x e))
+  at_leaf : (x : Placed) (n : ℕ) → slice_get (leaves (hierarchy_of s)) n ≡ Some x
+      → IsLeaf (hierarchy_of s) (top_number (hierarchy_of s)) x.path
+  at_leaf x n e = let h = hierarchy_of s in
+      (paths_are_leaves s sound x.path).0 (in_map (λ (x : Placed). x.path) x (leaves h) (in_get (leaves h) n x e))
 
   -- whose a leaf is, by whether it is a device
-  owner_is : (numbers : LabelNumbers) (x : Placed) (n : ℕ) (b : Bool) → slice_get (leaves (hierarchy_of s)) n ≡ Some x → is_hardware (hierarchy_of s) x.part ≡ b
+  owner_is : (numbers : LabelNumbers) (x : Placed) (n : ℕ) (b : Bool) → slice_get (leaves (hierarchy_of s)) n ≡ Some x
+      → is_hardware (hierarchy_of s) x.part ≡ b
       → owner (hierarchy_of s) x.path ≡ cond b x.path (domain_of (hierarchy_of s) x.path)
-  owner_is numbers x n b e hard = let h = hierarchy_of s in ap (λ b. cond b x.path (domain_of h x.path)) (device_is s numbers sound x n e ∙ hard)
+  owner_is numbers x n b e hard = let h = hierarchy_of s in
+      ap (λ b. cond b x.path (domain_of h x.path)) (device_is s numbers sound x n e ∙ hard)
 
   hardware_of : (x : Placed) → (leaf_of (hierarchy_of s) x).domain ≡ None → is_hardware (hierarchy_of s) x.part ≡ true
   hardware_of x e = by_test (is_hardware (hierarchy_of s) x.part) e
     where
-      by_test : (b : Bool) → cond b None (Some (domain_number (hierarchy_of s) (domain_of (hierarchy_of s) x.path))) ≡ None → b ≡ true
+      by_test : (b : Bool) → cond b None (Some (domain_number (hierarchy_of s) (domain_of (hierarchy_of s) x.path))) ≡ None
+          → b ≡ true
       by_test true e = refl
       by_test false e = cc
 
@@ -62,8 +68,11 @@ module _ (s : Source) (sound : AreNamesSound s) where
       let h = hierarchy_of s in
       let t = tables_with s numbers in
       let y : Strung = record { path = j.composition; inside = j.inside; wire = j.connection } in
-      let n = place_of y (connections h) ((connections_stand s sound y).1 (j.there, j.stands)) in
-      (connection_label t n.0, subst (IsNamed t (connection_label t n.0)) (sym j.path_is) (connection_named s numbers y n.0 n.1 j.labelled))
+      let n = place_of y (connections h) ((connections_stand s sound y).1 (j.there, j.stands)) in (
+        connection_label t n.0,
+        subst (IsNamed t (connection_label t n.0)) (sym j.path_is)
+            (connection_named s numbers y n.0 n.1 j.labelled),
+      )
 
   has_of : (numbers : LabelNumbers) (x : Owner) (p : Path) → HasPath (flat_of s) x p → HasLabel (hierarchy_of s) p
   has_of numbers (OfDomain d) p (domain, here, is) =
@@ -95,7 +104,8 @@ module _ (s : Source) (sound : AreNamesSound s) where
 
   -- ---- by texts
 
-  pub label_lines_stand : (text : List ℕ) → ((l : ℕ) × IsIn {X = ℕ × List ℕ} (l, text) (label_lines (flat_of s))) ↔ IsLabelText s text
+  pub label_lines_stand : (text : List ℕ) → ((l : ℕ) × IsIn {X = ℕ × List ℕ} (l, text) (label_lines (flat_of s)))
+      ↔ IsLabelText s text
   label_lines_stand text =
       let numbers = label_numbers (flat_of s) in
       let t : Tables = tables_of s (flat_of s) (settled_of s) in (

@@ -31,12 +31,18 @@ module _ (s : Source) (sound : AreNamesSound s) (numbers : LabelNumbers) where
   t = tables_with s numbers
 
   -- the domain of a leaf that is no device
-  domain_named : (x : Placed) → IsIn x (leaves (hierarchy_of s)) → is_hardware (hierarchy_of s) x.part ≡ false → IsNamed t (domain_label t (domain_number (hierarchy_of s) (domain_of (hierarchy_of s) x.path))) (domain_of (hierarchy_of s) x.path)
+  domain_named : (x : Placed) → IsIn x (leaves (hierarchy_of s)) → is_hardware (hierarchy_of s) x.part ≡ false
+      → IsNamed t (domain_label t (domain_number (hierarchy_of s) (domain_of (hierarchy_of s) x.path)))
+      (domain_of (hierarchy_of s) x.path)
   domain_named x i soft =
       let h = hierarchy_of s in
       let d = domain_of h x.path in
       let there = domain_found h d ((domains_are h d).1 (x, i, soft, refl)) in
-      record { labelled = OfDomain (domain_number h d); there = (flat_domain h d, get_map (flat_domain h) (domains h) (domain_number h d) d there, refl); is = refl }
+      record {
+        labelled = OfDomain (domain_number h d);
+        there = (flat_domain h d, get_map (flat_domain h) (domains h) (domain_number h d) d there, refl);
+        is = refl;
+      }
 
   -- the component of a leaf
   record Typed (x : Placed) : Type 0 where
@@ -51,16 +57,24 @@ module _ (s : Source) (sound : AreNamesSound s) (numbers : LabelNumbers) where
       let c = leaf_component s sound x i in
       let b = body_number s x.part.kind c.0 c.1 in
       let is : (body h x.part.kind).component ≡ Some c.0.1 = ap (λ (z : Body). z.component) b in
-      record { component = c.0; is = is; members_are = members_of_part s x.part c.0 c.1; device = ap (λ z. option_map_or is_device z false) is }
+      record {
+        component = c.0;
+        is = is;
+        members_are = members_of_part s x.part c.0 c.1;
+        device = ap (λ z. option_map_or is_device z false) is;
+      }
 
-  soft_of : (x : Placed) (d : ℕ) → (leaf_of (hierarchy_of s) x).domain ≡ Some d → (is_hardware (hierarchy_of s) x.part ≡ false) × (domain_number (hierarchy_of s) (domain_of (hierarchy_of s) x.path) ≡ d)
+  soft_of : (x : Placed) (d : ℕ) → (leaf_of (hierarchy_of s) x).domain ≡ Some d → (is_hardware (hierarchy_of s) x.part ≡ false)
+      × (domain_number (hierarchy_of s) (domain_of (hierarchy_of s) x.path) ≡ d)
   soft_of x d e = by_test (is_hardware (hierarchy_of s) x.part) e
     where
-      by_test : (b : Bool) → cond b None (Some (domain_number (hierarchy_of s) (domain_of (hierarchy_of s) x.path))) ≡ Some d → (b ≡ false) × (domain_number (hierarchy_of s) (domain_of (hierarchy_of s) x.path) ≡ d)
+      by_test : (b : Bool) → cond b None (Some (domain_number (hierarchy_of s) (domain_of (hierarchy_of s) x.path))) ≡ Some d
+          → (b ≡ false) × (domain_number (hierarchy_of s) (domain_of (hierarchy_of s) x.path) ≡ d)
       by_test true e = cc
       by_test false e = (refl, cc)
 
-  pub lock_of : (k : LockAt s (flat_of s)) → (o : LockOf (hierarchy_of s)) × IsNamed t (domain_label t k.domain) (domain_of (hierarchy_of s) o.leaf)
+  pub lock_of : (k : LockAt s (flat_of s)) → (o : LockOf (hierarchy_of s)) × IsNamed t (domain_label t k.domain)
+      (domain_of (hierarchy_of s) o.leaf)
   lock_of k =
       let h = hierarchy_of s in
       let g = from_get_map (leaf_of h) (leaves h) k.leaf k.found k.here in
@@ -70,7 +84,8 @@ module _ (s : Source) (sound : AreNamesSound s) (numbers : LabelNumbers) where
       let c = typed x i in
       let soft = soft_of x k.domain (ap (λ (z : Leaf). z.domain) g.2 ∙ k.inside) in
       let declared : slice_get c.component.1.members k.member ≡ Some (members.Lock k.lock) =
-      ap (λ ms. slice_get ms k.member) (sym c.members_are) ∙ ap (λ (z : Leaf). slice_get (members_at s z.component) k.member) g.2 ∙ k.declared in (
+      ap (λ ms. slice_get ms k.member) (sym c.members_are) ∙ ap (λ (z : Leaf). slice_get (members_at s z.component) k.member) g.2
+      ∙ k.declared in (
         record {
           leaf = x.path;
           kind = x.part.kind;
@@ -85,7 +100,8 @@ module _ (s : Source) (sound : AreNamesSound s) (numbers : LabelNumbers) where
         subst (λ z. IsNamed t (domain_label t z) (domain_of h x.path)) soft.1 (domain_named x i soft.0),
       )
 
-  pub lock_at : (o : LockOf (hierarchy_of s)) → (k : LockAt s (flat_of s)) × IsNamed t (domain_label t k.domain) (domain_of (hierarchy_of s) o.leaf)
+  pub lock_at : (o : LockOf (hierarchy_of s)) → (k : LockAt s (flat_of s)) × IsNamed t (domain_label t k.domain)
+      (domain_of (hierarchy_of s) o.leaf)
   lock_at o =
       let h = hierarchy_of s in
       let m = (paths_are_leaves s sound o.leaf).1 (o.kind, o.there, o.simple) in
@@ -94,7 +110,8 @@ module _ (s : Source) (sound : AreNamesSound s) (numbers : LabelNumbers) where
       let i = g.1 in
       let stands = (leaves_stand s sound x).0 i in
       let c = typed x i in
-      let there : at h (top_number h) o.leaf ≡ Some x.part.kind = ap (at h (top_number h)) (sym g.2) ∙ at_part h (top_number h) x.path x.part stands.0 in
+      let there : at h (top_number h) o.leaf ≡ Some x.part.kind = ap (at h (top_number h)) (sym g.2)
+      ∙ at_part h (top_number h) x.path x.part stands.0 in
       let kinds : Some o.kind ≡ Some x.part.kind = sym o.there ∙ there in
       let kind : o.kind ≡ x.part.kind = cc in
       let both : Some o.component ≡ Some c.component.1 = sym o.is ∙ ap (λ z. (body h z).component) kind ∙ c.is in
@@ -102,7 +119,8 @@ module _ (s : Source) (sound : AreNamesSound s) (numbers : LabelNumbers) where
       let soft : is_hardware h x.part ≡ false = c.device ∙ ap is_device (sym same) ∙ o.software in
       let n = place_of x (leaves h) i in
       let d = domain_number h (domain_of h x.path) in
-      let p = place_of (members.Lock o.lock) c.component.1.members (subst (λ (z : Component). IsIn (members.Lock o.lock) z.members) same o.declared) in (
+      let p = place_of (members.Lock o.lock) c.component.1.members
+      (subst (λ (z : Component). IsIn (members.Lock o.lock) z.members) same o.declared) in (
         record {
           leaf = n.0;
           found = leaf_of h x;
@@ -117,7 +135,8 @@ module _ (s : Source) (sound : AreNamesSound s) (numbers : LabelNumbers) where
       )
 
   -- what there is to do with a lock, by paths and by numbers
-  pub lock_held : AreApart t → (p : Path) (a : Authority) (q : Path) → WithLock (hierarchy_of s) p a q ↔ ((l m : ℕ) × IsNamed t l p × IsNamed t m q × IsLockEdge t (edge l a m))
+  pub lock_held : AreApart t → (p : Path) (a : Authority) (q : Path) → WithLock (hierarchy_of s) p a q
+      ↔ ((l m : ℕ) × IsNamed t l p × IsNamed t m q × IsLockEdge t (edge l a m))
   lock_held apart p a q = (
     λ h.
         let k = lock_at h.lock in

@@ -46,7 +46,8 @@ module _ (s : Source) (names : AreNamesSound s) (spelled : AreSpelled s) (types 
 
   pub lines_of : (e : Edge) → IsIn e edges → line_of e.from (name_at (flat_of s) e.from) × line_of e.to (name_at (flat_of s) e.to)
   lines_of e i =
-      let w = reason_paths s names (spelled_dotted s spelled) (label_numbers (flat_of s)) e ((policy e).0 (in_has e edges i)).reason in
+      let w = reason_paths s names (spelled_dotted s spelled) (label_numbers (flat_of s)) e
+      ((policy e).0 (in_has e edges i)).reason in
       (path_line e.from w.0, path_line e.to w.1)
 
   -- ---- triples and edges
@@ -54,9 +55,11 @@ module _ (s : Source) (names : AreNamesSound s) (spelled : AreSpelled s) (types 
   each_assigned : (e : Edge) → IsIn e edges → IsAssignedText s (name_at (flat_of s) e.from) e.authority (name_at (flat_of s) e.to)
   each_assigned e i =
       let w = lines_of e i in
-      (assigned_texts s names spelled types (name_at (flat_of s) e.from) e.authority (name_at (flat_of s) e.to)).1 (e.from, e.to, w.0, w.1, (policy e).0 (in_has e edges i))
+      (assigned_texts s names spelled types (name_at (flat_of s) e.from) e.authority (name_at (flat_of s) e.to)).1
+      (e.from, e.to, w.0, w.1, (policy e).0 (in_has e edges i))
 
-  each : (from : List ℕ) (a : Authority) (to : List ℕ) → IsIn {X = Triple} (from, a, to) (map (triple (flat_of s)) edges) ↔ IsAssignedText s from a to
+  each : (from : List ℕ) (a : Authority) (to : List ℕ) → IsIn {X = Triple} (from, a, to) (map (triple (flat_of s)) edges)
+      ↔ IsAssignedText s from a to
   each from a to = (
     λ i.
         let g = from_map (triple (flat_of s)) (from, a, to) edges i in
@@ -67,7 +70,8 @@ module _ (s : Source) (names : AreNamesSound s) (spelled : AreSpelled s) (types 
         let f = text_of r.0 from r.2 in
         let g = text_of r.1 to r.3 in
         let same : triple (flat_of s) e ≡ (from, a, to) = rw (f, g) refl in
-        subst (λ x. IsIn x (map (triple (flat_of s)) edges)) same (in_map (triple (flat_of s)) e edges (has_in e edges ((policy e).1 r.4))),
+        subst (λ x. IsIn x (map (triple (flat_of s)) edges)) same
+        (in_map (triple (flat_of s)) e edges (has_in e edges ((policy e).1 r.4))),
   )
 
   -- edges in order are triples in order
@@ -80,7 +84,8 @@ module _ (s : Source) (names : AreNamesSound s) (spelled : AreSpelled s) (types 
       record {
         by_from = lines_fall flat d.from e.from (name_at flat d.from) (name_at flat e.from) v.0 w.0 before.by_from;
         by_authority = λ same. before.by_authority (from.1 same);
-        by_to = λ same authority. lines_rise flat d.to e.to (name_at flat d.to) (name_at flat e.to) v.1 w.1 (before.by_to (from.1 same) authority);
+        by_to = λ same authority. lines_rise flat d.to e.to (name_at flat d.to) (name_at flat e.to) v.1 w.1
+            (before.by_to (from.1 same) authority);
       }
 
   rising : AllPairs Precedes (map (triple (flat_of s)) edges)
@@ -90,7 +95,8 @@ module _ (s : Source) (names : AreNamesSound s) (spelled : AreSpelled s) (types 
       let x = from_get_map tell edges i (get_or all i d) (slice_get-get_or all i d (omega (arith, l, m))) in
       let y = from_get_map tell edges j (get_or all j d) (slice_get-get_or all j d m) in
       subst (λ z. Precedes z (get_or all j d)) x.2
-      (subst (Precedes (tell x.0)) y.2 (precedes x.0 y.0 (in_place x.0 edges i x.1) (in_place y.0 edges j y.1) (sorted.by_place i j x.0 y.0 l x.1 y.1)))
+      (subst (Precedes (tell x.0)) y.2 (precedes x.0 y.0 (in_place x.0 edges i x.1) (in_place y.0 edges j y.1)
+      (sorted.by_place i j x.0 y.0 l x.1 y.1)))
 
   pub all_assigned : AreAll (IsAssignedText s) (map (triple (flat_of s)) edges)
   all_assigned = record { each = each; rising = rising }

@@ -72,10 +72,12 @@ above_at t x [] n a e = absurd cc
 above_at t x (s ∷ ss) zero a e = let same : s ≡ x = cc in ap (slice_cmp nat_cmp t) (sym same) ∙ a.0
 above_at t x (s ∷ ss) (suc n) a e = above_at t x ss n a.1 e
 
-rising_places : (ts : List (List ℕ)) (i j : ℕ) (x y : List ℕ) → Rises ts → slice_get ts i ≡ Some x → slice_get ts j ≡ Some y → i < j → slice_cmp nat_cmp x y ≡ Less
+rising_places : (ts : List (List ℕ)) (i j : ℕ) (x y : List ℕ) → Rises ts → slice_get ts i ≡ Some x → slice_get ts j ≡ Some y
+    → i < j → slice_cmp nat_cmp x y ≡ Less
 rising_places [] i j x y r e f less = absurd cc
 rising_places (t ∷ ts) i zero x y r e f less = absurd (omega (arith, less))
-rising_places (t ∷ ts) zero (suc j) x y r e f less = let same : t ≡ x = cc in ap (λ z. slice_cmp nat_cmp z y) (sym same) ∙ above_at t y ts j r.0 f
+rising_places (t ∷ ts) zero (suc j) x y r e f less = let same : t ≡ x = cc in ap (λ z. slice_cmp nat_cmp z y) (sym same)
+    ∙ above_at t y ts j r.0 f
 rising_places (t ∷ ts) (suc i) (suc j) x y r e f less = rising_places ts i j x y r.1 e f (omega (arith, less))
 
 -- in texts that rise, as many come before a text as stand in front of it
@@ -113,12 +115,15 @@ listed flat (OfLeaf l) p h =
     in_right (joined p) (domain_texts flat.domains) (device_texts flat.leaves ++ connection_texts flat.connections)
     (in_left (joined p) (device_texts flat.leaves) (connection_texts flat.connections)
     (in_gather (λ l (x : Leaf). where_true (is_device x.domain) (joined x.path)) (joined p) flat.leaves l h.0 h.1
-    (subst (λ z. IsIn (joined z) (where_true (is_device h.0.domain) (joined h.0.path))) h.3 (in_where (is_device h.0.domain) (joined h.0.path) (device_none h.0 h.2)))))
+    (subst (λ z. IsIn (joined z) (where_true (is_device h.0.domain) (joined h.0.path))) h.3
+    (in_where (is_device h.0.domain) (joined h.0.path) (device_none h.0 h.2)))))
 listed flat (OfConnection k) p h =
     in_right (joined p) (domain_texts flat.domains) (device_texts flat.leaves ++ connection_texts flat.connections)
     (in_right (joined p) (device_texts flat.leaves) (connection_texts flat.connections)
-    (in_gather (λ k (x : FlatConnection). where_true (has_label x.connector) (joined x.path)) (joined p) flat.connections k h.0 h.1
-    (subst (λ z. IsIn (joined z) (where_true (has_label h.0.connector) (joined h.0.path))) h.3 (in_where (has_label h.0.connector) (joined h.0.path) h.2))))
+    (in_gather (λ k (x : FlatConnection). where_true (has_label x.connector) (joined x.path)) (joined p)
+    flat.connections k h.0 h.1
+    (subst (λ z. IsIn (joined z) (where_true (has_label h.0.connector) (joined h.0.path))) h.3
+    (in_where (has_label h.0.connector) (joined h.0.path) h.2))))
 
 -- a device's leaf has no domain
 none_device : (leaf : Leaf) → is_device leaf.domain ≡ true → leaf.domain ≡ None
@@ -136,21 +141,23 @@ record Labels (flat : Flat) (text : List ℕ) : Type 0 where
   text_is : joined path ≡ text
 
 from_listed : (flat : Flat) (text : List ℕ) → IsIn text (texts flat) → Labels flat text
-from_listed flat text i = elim (in_append text (domain_texts flat.domains) (device_texts flat.leaves ++ connection_texts flat.connections) i) [
-  | inl d ↦
-      let g = from_gather (λ d (x : Domain). joined x.path ∷ []) text flat.domains d in
-      of_domain g.0 g.1 g.2 g.3
-  | inr r ↦ elim (in_append text (device_texts flat.leaves) (connection_texts flat.connections) r) [
-    | inl l ↦
-        let g = from_gather (λ l (x : Leaf). where_true (is_device x.domain) (joined x.path)) text flat.leaves l in
-        let w = from_where (is_device g.1.domain) (joined g.1.path) text g.3 in
-        record { owner = OfLeaf g.0; path = g.1.path; has = (g.1, g.2, none_device g.1 w.0, refl); text_is = w.1 }
-    | inr c ↦
-        let g = from_gather (λ k (x : FlatConnection). where_true (has_label x.connector) (joined x.path)) text flat.connections c in
-        let w = from_where (has_label g.1.connector) (joined g.1.path) text g.3 in
-        record { owner = OfConnection g.0; path = g.1.path; has = (g.1, g.2, w.0, refl); text_is = w.1 }
-  ]
-]
+from_listed flat text i =
+    elim (in_append text (domain_texts flat.domains) (device_texts flat.leaves ++ connection_texts flat.connections) i) [
+      | inl d ↦
+          let g = from_gather (λ d (x : Domain). joined x.path ∷ []) text flat.domains d in
+          of_domain g.0 g.1 g.2 g.3
+      | inr r ↦ elim (in_append text (device_texts flat.leaves) (connection_texts flat.connections) r) [
+        | inl l ↦
+            let g = from_gather (λ l (x : Leaf). where_true (is_device x.domain) (joined x.path)) text flat.leaves l in
+            let w = from_where (is_device g.1.domain) (joined g.1.path) text g.3 in
+            record { owner = OfLeaf g.0; path = g.1.path; has = (g.1, g.2, none_device g.1 w.0, refl); text_is = w.1 }
+        | inr c ↦
+            let g = from_gather (λ k (x : FlatConnection). where_true (has_label x.connector) (joined x.path)) text
+            flat.connections c in
+            let w = from_where (has_label g.1.connector) (joined g.1.path) text g.3 in
+            record { owner = OfConnection g.0; path = g.1.path; has = (g.1, g.2, w.0, refl); text_is = w.1 }
+      ]
+    ]
   where
     of_domain : (d : ℕ) (x : Domain) → slice_get flat.domains d ≡ Some x → IsIn text (joined x.path ∷ []) → Labels flat text
     of_domain d x e (inl same) = record { owner = OfDomain d; path = x.path; has = (x, e, refl); text_is = same }
@@ -159,19 +166,24 @@ from_listed flat text i = elim (in_append text (domain_texts flat.domains) (devi
 -- ---- numbers of labels
 
 -- the number of a label is how many texts come before its own
-number_rank : (flat : Flat) (x : Owner) (p : Path) → HasPath flat x p → number_of (label_numbers flat) x ≡ rank (label_texts flat) (joined p)
+number_rank : (flat : Flat) (x : Owner) (p : Path) → HasPath flat x p
+    → number_of (label_numbers flat) x ≡ rank (label_texts flat) (joined p)
 number_rank flat (OfDomain d) p h =
-    get_or_from_slice_get (domain_numbers (label_texts flat) flat.domains) d _ 0 (get_ones (λ d (x : Domain). rank (label_texts flat) (joined x.path)) flat.domains d h.0 h.1)
+    get_or_from_slice_get (domain_numbers (label_texts flat) flat.domains) d _ 0
+    (get_ones (λ d (x : Domain). rank (label_texts flat) (joined x.path)) flat.domains d h.0 h.1)
     ∙ ap (λ z. rank (label_texts flat) (joined z)) h.2
 number_rank flat (OfConnection k) p h =
-    get_or_from_slice_get (connection_numbers (label_texts flat) flat.connections) k _ 0 (get_ones (λ k (x : FlatConnection). rank (label_texts flat) (joined x.path)) flat.connections k h.0 h.1)
+    get_or_from_slice_get (connection_numbers (label_texts flat) flat.connections) k _ 0
+    (get_ones (λ k (x : FlatConnection). rank (label_texts flat) (joined x.path)) flat.connections k h.0 h.1)
     ∙ ap (λ z. rank (label_texts flat) (joined z)) h.3
 number_rank flat (OfLeaf l) p h =
-    get_or_from_slice_get (device_numbers (label_texts flat) flat.leaves) l _ 0 (get_ones (λ l (x : Leaf). rank (label_texts flat) (joined x.path)) flat.leaves l h.0 h.1)
+    get_or_from_slice_get (device_numbers (label_texts flat) flat.leaves) l _ 0
+    (get_ones (λ l (x : Leaf). rank (label_texts flat) (joined x.path)) flat.leaves l h.0 h.1)
     ∙ ap (λ z. rank (label_texts flat) (joined z)) h.3
 
 -- and the place of its text
-number_place : (flat : Flat) (x : Owner) (p : Path) → HasPath flat x p → slice_get (label_texts flat) (number_of (label_numbers flat) x) ≡ Some (joined p)
+number_place : (flat : Flat) (x : Owner) (p : Path) → HasPath flat x p
+    → slice_get (label_texts flat) (number_of (label_numbers flat) x) ≡ Some (joined p)
 number_place flat x p h =
     let n = place_of (joined p) (label_texts flat) (to_order (joined p) (texts flat) (listed flat x p h)) in
     let is = number_rank flat x p h ∙ rank_place (label_texts flat) n.0 (joined p) (order_rises (texts flat)) n.1 in
@@ -182,25 +194,31 @@ pub numbers_apart : (t : Tables) → t.numbers ≡ label_numbers t.flat → AreT
 numbers_apart t is apart x y a b e =
     let p = path_there t.flat x a in
     let q = path_there t.flat y b in
-    let same : number_of (label_numbers t.flat) x ≡ number_of (label_numbers t.flat) y = ap (λ z. number_of z x) (sym is) ∙ e ∙ ap (λ z. number_of z y) is in
-    let both : Some (joined p.0) ≡ Some (joined q.0) = sym (number_place t.flat x p.0 p.1) ∙ ap (slice_get (label_texts t.flat)) same ∙ number_place t.flat y q.0 q.1 in
+    let same : number_of (label_numbers t.flat) x ≡ number_of (label_numbers t.flat) y = ap (λ z. number_of z x) (sym is) ∙ e
+    ∙ ap (λ z. number_of z y) is in
+    let both : Some (joined p.0) ≡ Some (joined q.0) = sym (number_place t.flat x p.0 p.1) ∙ ap (slice_get (label_texts t.flat))
+    same ∙ number_place t.flat y q.0 q.1 in
     let one_text : joined p.0 ≡ joined q.0 = cc in
     apart x y p.0 q.0 p.1 q.1 one_text
 
 -- ---- lines of labels
 
 -- a line stands at its number
-pub line_place : (flat : Flat) (l : ℕ) (text : List ℕ) → IsIn {X = ℕ × List ℕ} (l, text) (label_lines flat) → slice_get (label_texts flat) l ≡ Some text
+pub line_place : (flat : Flat) (l : ℕ) (text : List ℕ) → IsIn {X = ℕ × List ℕ} (l, text) (label_lines flat)
+    → slice_get (label_texts flat) l ≡ Some text
 line_place flat l text i =
     let g = from_gather (λ n t. (n, t) ∷ []) (l, text) (label_texts flat) i in
     by_case g.0 g.1 g.2 g.3
   where
-    by_case : (n : ℕ) (t : List ℕ) → slice_get (label_texts flat) n ≡ Some t → IsIn {X = ℕ × List ℕ} (l, text) ((n, t) ∷ []) → slice_get (label_texts flat) l ≡ Some text
-    by_case n t e (inl same) = ap (λ (z : ℕ × List ℕ). slice_get (label_texts flat) z.0) (sym same) ∙ e ∙ ap (λ (z : ℕ × List ℕ). Some z.1) same
+    by_case : (n : ℕ) (t : List ℕ) → slice_get (label_texts flat) n ≡ Some t → IsIn {X = ℕ × List ℕ} (l, text) ((n, t) ∷ [])
+        → slice_get (label_texts flat) l ≡ Some text
+    by_case n t e (inl same) = ap (λ (z : ℕ × List ℕ). slice_get (label_texts flat) z.0) (sym same) ∙ e
+        ∙ ap (λ (z : ℕ × List ℕ). Some z.1) same
     by_case n t e (inr none) = absurd none
 
 -- a line of the labels has the number that is called by its text
-pub line_called : (t : Tables) → t.numbers ≡ label_numbers t.flat → (l : ℕ) (text : List ℕ) → IsIn {X = ℕ × List ℕ} (l, text) (label_lines t.flat) → IsCalled t l text
+pub line_called : (t : Tables) → t.numbers ≡ label_numbers t.flat → (l : ℕ) (text : List ℕ)
+    → IsIn {X = ℕ × List ℕ} (l, text) (label_lines t.flat) → IsCalled t l text
 line_called t is l text i =
     let e = line_place t.flat l text i in
     let w = from_listed t.flat text (from_order text (texts t.flat) (in_place text (label_texts t.flat) l e)) in
@@ -211,15 +229,18 @@ line_called t is l text i =
     ∙ rank_place (label_texts t.flat) l text (order_rises (texts t.flat)) e in
     (w.path, record { labelled = w.owner; there = w.has; is = sym number }, w.text_is)
 
-pub called_line : (t : Tables) → t.numbers ≡ label_numbers t.flat → (l : ℕ) (text : List ℕ) → IsCalled t l text → IsIn {X = ℕ × List ℕ} (l, text) (label_lines t.flat)
+pub called_line : (t : Tables) → t.numbers ≡ label_numbers t.flat → (l : ℕ) (text : List ℕ) → IsCalled t l text
+    → IsIn {X = ℕ × List ℕ} (l, text) (label_lines t.flat)
 called_line t is l text c =
     let w = c.1 in
     let number : l ≡ number_of (label_numbers t.flat) w.labelled = w.is ∙ ap (λ z. number_of z w.labelled) is in
-    let e : slice_get (label_texts t.flat) l ≡ Some text = ap (slice_get (label_texts t.flat)) number ∙ number_place t.flat w.labelled c.0 w.there ∙ ap (λ z. Some z) c.2 in
+    let e : slice_get (label_texts t.flat) l ≡ Some text = ap (slice_get (label_texts t.flat)) number
+    ∙ number_place t.flat w.labelled c.0 w.there ∙ ap (λ z. Some z) c.2 in
     in_gather (λ n t. (n, t) ∷ []) (l, text) (label_texts t.flat) l text e (inl refl)
 
 -- two lines have one number just where they have one text
-pub lines_apart : (flat : Flat) (l m : ℕ) (from to : List ℕ) → IsIn {X = ℕ × List ℕ} (l, from) (label_lines flat) → IsIn {X = ℕ × List ℕ} (m, to) (label_lines flat) → (l ≡ m) ↔ (from ≡ to)
+pub lines_apart : (flat : Flat) (l m : ℕ) (from to : List ℕ) → IsIn {X = ℕ × List ℕ} (l, from) (label_lines flat)
+    → IsIn {X = ℕ × List ℕ} (m, to) (label_lines flat) → (l ≡ m) ↔ (from ≡ to)
 lines_apart flat l m from to i j =
     let ts = label_texts flat in
     let rises = order_rises (texts flat) in
@@ -230,7 +251,8 @@ lines_apart flat l m from to i j =
     )
 
 -- what a label's number is called
-pub line_name : (flat : Flat) (l : ℕ) (text : List ℕ) → IsIn {X = ℕ × List ℕ} (l, text) (label_lines flat) → label_name (label_lines flat) l ≡ Some text
+pub line_name : (flat : Flat) (l : ℕ) (text : List ℕ) → IsIn {X = ℕ × List ℕ} (l, text) (label_lines flat)
+    → label_name (label_lines flat) l ≡ Some text
 line_name flat l text i =
     let ts = label_texts flat in
     let here : slice_get (label_lines flat) l ≡ Some (l, text) = get_ones (λ n y. (n, y)) ts l text (line_place flat l text i) in
@@ -240,15 +262,19 @@ line_name flat l text i =
     ap (option_map (λ (o : ℕ × List ℕ). o.1)) found
 
 -- texts rise with the numbers of their lines
-pub lines_rise : (flat : Flat) (l m : ℕ) (from to : List ℕ) → IsIn {X = ℕ × List ℕ} (l, from) (label_lines flat) → IsIn {X = ℕ × List ℕ} (m, to) (label_lines flat) → l < m → comes_before from to ≡ true
+pub lines_rise : (flat : Flat) (l m : ℕ) (from to : List ℕ) → IsIn {X = ℕ × List ℕ} (l, from) (label_lines flat)
+    → IsIn {X = ℕ × List ℕ} (m, to) (label_lines flat) → l < m → comes_before from to ≡ true
 lines_rise flat l m from to i j less =
-    ap is_lt (rising_places (label_texts flat) l m from to (order_rises (texts flat)) (line_place flat l from i) (line_place flat m to j) less)
+    ap is_lt (rising_places (label_texts flat) l m from to (order_rises (texts flat)) (line_place flat l from i)
+    (line_place flat m to j) less)
 
-pub lines_fall : (flat : Flat) (l m : ℕ) (from to : List ℕ) → IsIn {X = ℕ × List ℕ} (l, from) (label_lines flat) → IsIn {X = ℕ × List ℕ} (m, to) (label_lines flat) → l ≤ m → comes_before to from ≡ false
+pub lines_fall : (flat : Flat) (l m : ℕ) (from to : List ℕ) → IsIn {X = ℕ × List ℕ} (l, from) (label_lines flat)
+    → IsIn {X = ℕ × List ℕ} (m, to) (label_lines flat) → l ≤ m → comes_before to from ≡ false
 lines_fall flat l m from to i j most = by_test (ltb l m) refl
   where
     by_test : (b : Bool) → ltb l m ≡ b → comes_before to from ≡ false
-    by_test true e = not_behind to from (rising_places (label_texts flat) l m from to (order_rises (texts flat)) (line_place flat l from i) (line_place flat m to j) (ltb-true l m e))
+    by_test true e = not_behind to from (rising_places (label_texts flat) l m from to (order_rises (texts flat))
+        (line_place flat l from i) (line_place flat m to j) (ltb-true l m e))
     by_test false e =
         let least = ltb-false l m e in
         let same : l ≡ m = omega (arith, most, least) in

@@ -37,16 +37,19 @@ module _ (s : Source) (sound : AreNamesSound s) (dotted : AreDotted (hierarchy_o
       let f = met s sound dotted numbers x g.0 g.1 in
       (owner (hierarchy_of s) f.0.leaf, f.1.named)
 
-  joint_path : (x : EndAt (flat_of s)) (l : ℕ) → has_label x.connection.connector ≡ true → l ≡ connection_label t x.place → IsPath l
+  joint_path : (x : EndAt (flat_of s)) (l : ℕ) → has_label x.connection.connector ≡ true
+      → l ≡ connection_label t x.place → IsPath l
   joint_path x l labelled e =
       let g = strung_at s sound dotted numbers x.place x.connection x.here in
-      let named = connection_named s numbers g.0 x.place g.1 (ap (λ (c : FlatConnection). has_label c.connector) g.2 ∙ labelled) in
+      let named = connection_named s numbers g.0 x.place g.1 (ap (λ (c : FlatConnection). has_label c.connector) g.2
+      ∙ labelled) in
       same_path l (connection_label t x.place) e (connection_path g.0.path g.0.wire, named)
 
   lock_path : (k : LockAt s (flat_of s)) → IsPath (domain_label t k.domain)
   lock_path k = let o = lock_of s sound numbers k in (domain_of (hierarchy_of s) o.0.leaf, o.1)
 
-  target_path : (x : EndAt (flat_of s)) (o : ObjectKind) (a : Authority) (l : ℕ) → gives x.connection.connector x.end.role o a ≡ true → LeadsTo t x o l → IsPath l
+  target_path : (x : EndAt (flat_of s)) (o : ObjectKind) (a : Authority) (l : ℕ)
+      → gives x.connection.connector x.end.role o a ≡ true → LeadsTo t x o l → IsPath l
   target_path x OfEndpoint a l g h = joint_path x l (labelled_endpoint x.connection.connector x.end.role a g) h
   target_path x OfNotification a l g h = joint_path x l (labelled_notification x.connection.connector x.end.role a g) h
   target_path x OfFrames a l g h = joint_path x l (labelled_frames x.connection.connector x.end.role a g) h
@@ -55,13 +58,21 @@ module _ (s : Source) (sound : AreNamesSound s) (dotted : AreDotted (hierarchy_o
   target_path x NoObject a l g h = absurd h
 
   pub reason_paths : (e : Edge) → Reason t e → IsPath e.from × IsPath e.to
-  reason_paths e (by_direct r) = (same_path e.from _ r.from (leaf_path r.at), target_path r.at r.object e.authority e.to r.given r.to)
+  reason_paths e (by_direct r) = (
+    same_path e.from _ r.from (leaf_path r.at),
+    target_path r.at r.object e.authority e.to
+        r.given r.to,
+  )
   reason_paths e (by_call r) = (same_path e.from _ r.from (leaf_path r.server), same_path e.to _ r.to (leaf_path r.caller))
   reason_paths e (by_bind r) = (
     same_path e.from _ r.handles.device_is (leaf_path r.handles.source),
     joint_path r.signaller e.to (ap has_label r.signals.connector) r.to,
   )
-  reason_paths e (by_lock r) = (same_path e.from _ r.handles.device_is (leaf_path r.handles.source), same_path e.to _ r.has (lock_path r.lock))
+  reason_paths e (by_lock r) = (
+    same_path e.from _ r.handles.device_is (leaf_path r.handles.source),
+    same_path e.to _ r.has
+        (lock_path r.lock),
+  )
 
   pub lock_paths : (e : Edge) → IsLockEdge t e → IsPath e.from × IsPath e.to
   lock_paths e k = (same_path e.from _ k.from (lock_path k.lock), same_path e.to _ k.to (lock_path k.lock))

@@ -29,8 +29,10 @@ module _ (s : Source) (sound : AreNamesSound s) (spelled : AreSpelled s) where
   labels_apart = numbers_apart t refl (texts_apart s sound (undotted s spelled sound))
 
   -- what joins paths and numbers joins their texts and lines
-  by_texts : (P : Path → Path → Type 0) (R : ℕ → ℕ → Type 0) → ((p q : Path) → P p q ↔ ((l m : ℕ) × IsNamed t l p × IsNamed t m q × R l m))
-      → (from to : List ℕ) → ((p q : Path) × (joined p ≡ from) × (joined q ≡ to) × P p q) ↔ OfTexts (label_lines (flat_of s)) R from to
+  by_texts : (P : Path → Path → Type 0) (R : ℕ → ℕ → Type 0)
+      → ((p q : Path) → P p q ↔ ((l m : ℕ) × IsNamed t l p × IsNamed t m q × R l m))
+      → (from to : List ℕ) → ((p q : Path) × (joined p ≡ from) × (joined q ≡ to) × P p q)
+      ↔ OfTexts (label_lines (flat_of s)) R from to
   by_texts P R join from to = (
     λ h.
         let r = (join h.0 h.1).0 h.4 in
@@ -45,7 +47,8 @@ module _ (s : Source) (sound : AreNamesSound s) (spelled : AreSpelled s) where
       → IsAssignedText s from a to ↔ OfTexts (label_lines (flat_of s)) (λ l m. IsReasoned t (edge l a m)) from to
   assigned_texts types from a to =
       by_texts (λ p q. IsAssigned s p a q) (λ l m. IsReasoned t (edge l a m))
-      (λ p q. assigned_reasoned s sound (spelled_dotted s spelled) types (label_numbers (flat_of s)) labels_apart (paths_apart s sound) p a q) from to
+      (λ p q. assigned_reasoned s sound (spelled_dotted s spelled) types (label_numbers (flat_of s)) labels_apart
+      (paths_apart s sound) p a q) from to
 
   pub direct_texts : first_type_fault s ≡ None → (from : List ℕ) (a : Authority) (to : List ℕ)
       → IsDirectText s from a to ↔ OfTexts (label_lines (flat_of s)) (λ l m. DirectReason t (edge l a m)) from to
@@ -59,7 +62,8 @@ module _ (s : Source) (sound : AreNamesSound s) (spelled : AreSpelled s) where
       by_texts (λ p q. WithLock (hierarchy_of s) p a q) (λ l m. IsLockEdge t (edge l a m))
       (λ p q. lock_held s sound (label_numbers (flat_of s)) labels_apart p a q) from to
 
-  pub assigned_differ : first_type_fault s ≡ None → (from : List ℕ) (a : Authority) (to : List ℕ) → IsAssignedText s from a to → from ≢ to
+  pub assigned_differ : first_type_fault s ≡ None → (from : List ℕ) (a : Authority) (to : List ℕ)
+      → IsAssignedText s from a to → from ≢ to
   assigned_differ types from a to h e =
       let r = (assigned_texts types from a to).0 h in
       r.4.differ ((lines_apart (flat_of s) r.0 r.1 from to r.2 r.3).1 e)

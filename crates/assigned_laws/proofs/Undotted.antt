@@ -13,13 +13,15 @@ no_dot b h e = true≢false (sym h ∙ ap is_word_byte e)
 
 word_bytes : (n : Name) → list_all is_word_byte n ≡ true → IsUndotted n
 word_bytes [] h b i = absurd i
-word_bytes (c ∷ cs) h b (inl same) = no_dot b (ap is_word_byte (sym same) ∙ (and_parts (is_word_byte c) (list_all is_word_byte cs) h).0)
+word_bytes (c ∷ cs) h b (inl same) =
+    no_dot b (ap is_word_byte (sym same) ∙ (and_parts (is_word_byte c) (list_all is_word_byte cs) h).0)
 word_bytes (c ∷ cs) h b (inr i) = word_bytes cs (and_parts (is_word_byte c) (list_all is_word_byte cs) h).1 b i
 
 identifier : (n : Name) → is_name n ≡ true → IsUndotted n
 identifier [] h b i = absurd i
 identifier (c ∷ cs) h b i =
-    let p = and_parts (is_letter c) (list_all is_word_byte cs) (and_parts (leb (length cs) 126) (is_letter c && list_all is_word_byte cs) h).1 in
+    let p = and_parts (is_letter c) (list_all is_word_byte cs)
+    (and_parts (leb (length cs) 126) (is_letter c && list_all is_word_byte cs) h).1 in
     elim i [
       | inl same ↦ no_dot b (ap is_word_byte (sym same) ∙ or_left (is_letter c) _ p.0)
       | inr j ↦ word_bytes cs p.1 b j

@@ -44,7 +44,8 @@ module _ {contents : Contents} (s : Source) (images : Images) (facts : AreFacts 
 
   module _ (b : Build) (made : IsMade s images b.spec b.policy b.cert b.map) where
     pub policy_few : length b.policy.edges ≤ 200000
-    policy_few = let one = one_assembly s facts.faultless.names in few_edges t one.0 b.policy.edges one.1 facts.edge made.edges made.sorted
+    policy_few = let one = one_assembly s facts.faultless.names in
+        few_edges t one.0 b.policy.edges one.1 facts.edge made.edges made.sorted
 
     cert_few : length b.cert ≤ 262144
     cert_few =
@@ -71,7 +72,8 @@ module _ {contents : Contents} (s : Source) (images : Images) (facts : AreFacts 
         from = λ k e l. named (get_or b.cert k e).from (labels_in (get_or b.cert k e) (at_in k e l)).0;
         to = λ k e l. named (get_or b.cert k e).to (labels_in (get_or b.cert k e) (at_in k e l)).1;
       };
-      small = λ k e l. let x = small_in (get_or b.cert k e) (at_in k e l) in let f = x.0 in let g = x.1 in (omega (arith, f), omega (arith, g));
+      small = λ k e l. let x = small_in (get_or b.cert k e) (at_in k e l) in let f = x.0 in let g = x.1 in
+          (omega (arith, f), omega (arith, g));
       order = made.cert_sorted;
       edges = cert_few;
       bytes = cert_short b.cert (λ e h. small_in e (has_in e b.cert h)) cert_few;
@@ -87,4 +89,8 @@ pub cert_read : (root : List ℕ) (contents : Contents) (b : Build) → IsBuildO
 cert_read root contents b is =
     let w = cert_writable b.meaning.source (images_beside contents b.meaning.source) (build_facts root contents b is) b is.made in
     let text = cert_back b.policy b.cert w in
-    record { writable = w; text = text; only = λ other t. one_inside other b.cert (certs_one b.policy (cert_text b.cert) (Ok other) (Ok b.cert) tt tt t text) }
+    record {
+      writable = w;
+      text = text;
+      only = λ other t. one_inside other b.cert (certs_one b.policy (cert_text b.cert) (Ok other) (Ok b.cert) tt tt t text);
+    }

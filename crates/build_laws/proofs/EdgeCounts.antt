@@ -33,28 +33,33 @@ use Rattle.reach_laws.specs.Flat.{IsFlat}
 
 -- edges that stand in order and in a list are no more than the list
 pub no_more : (xs ys : List Edge) → IsSorted xs → ((e : Edge) → has xs e ≡ true → has ys e ≡ true) → length xs ≤ length ys
-no_more xs ys s h = length-le_from_is_member same_laws xs ys (distinct xs s) (λ e i. member_has ys e ∙ h e (sym (member_has xs e) ∙ i))
+no_more xs ys s h = length-le_from_is_member same_laws xs ys (distinct xs s) (λ e i. member_has ys e
+    ∙ h e (sym (member_has xs e) ∙ i))
 
 -- ---- the policy
 
 abbrev limit_fault_at : List (ItemAt × Assembly) → Option Fault
 limit_fault_at found = option_map (λ place. fault_at place (codes "edges")) (place_in (slice_get found 0))
 
-few_triples : (t : Tables) (a : ItemAt × Assembly) → assemblies t.source ≡ a ∷ [] → first_edge_fault t ≡ None → edge_count t ≤ 200000
+few_triples : (t : Tables) (a : ItemAt × Assembly) → assemblies t.source ≡ a ∷ [] → first_edge_fault t ≡ None
+    → edge_count t ≤ 200000
 few_triples t a one none = go (nat_lt 200000 (edge_count t)) refl none
   where
     told : limit_fault t.source (codes "edges") ≡ limit_fault_at (a ∷ [])
     told = ap limit_fault_at one
 
-    go : (b : Bool) → nat_lt 200000 (edge_count t) ≡ b → cond b (limit_fault t.source (codes "edges")) None ≡ None → edge_count t ≤ 200000
+    go : (b : Bool) → nat_lt 200000 (edge_count t) ≡ b → cond b (limit_fault t.source (codes "edges")) None ≡ None
+        → edge_count t ≤ 200000
     go true e h = let no : limit_fault_at (a ∷ []) ≡ None = sym told ∙ h in cc
     go false e h = ltb-false 200000 (edge_count t) e
 
-pub few_edges : (t : Tables) (a : ItemAt × Assembly) (policy : List Edge) → assemblies t.source ≡ a ∷ [] → first_edge_fault t ≡ None → IsPolicyOf t policy → IsSorted policy
+pub few_edges : (t : Tables) (a : ItemAt × Assembly) (policy : List Edge) → assemblies t.source ≡ a ∷ []
+    → first_edge_fault t ≡ None → IsPolicyOf t policy → IsSorted policy
     → length policy ≤ 200000
 few_edges t a policy one none is sorted =
     let n = few_triples t a one none in
-    let same = λ (e : Edge). one_truth (has policy e) (has (triples t) e) (λ h. (triples_are_policy t e).1 ((is e).0 h)) (λ h. (is e).1 ((triples_are_policy t e).0 h)) in
+    let same = λ (e : Edge). one_truth (has policy e) (has (triples t) e) (λ h. (triples_are_policy t e).1 ((is e).0 h))
+    (λ h. (is e).1 ((triples_are_policy t e).0 h)) in
     let c = table_counts t policy sorted same in
     omega (arith, n, c)
 
@@ -81,7 +86,8 @@ module _ (t : Tables) (flat : IsFlat t.source t.flat) where
       let l = domain_label t k.lock.domain in
       let same : edge l e.authority l ≡ e = edges_same (edge l e.authority l) e (sym k.from) refl (sym k.to) in
       let i = in_map (λ a. edge l a l) e.authority authorities (an_authority e.authority) in
-      in_has e (owns t) (in_gather (λ d (x : Domain). own (domain_label t d)) e t.flat.domains k.lock.domain d.0 d.1 (subst (λ z. IsIn z (own l)) same i))
+      in_has e (owns t) (in_gather (λ d (x : Domain). own (domain_label t d)) e t.flat.domains k.lock.domain d.0 d.1
+      (subst (λ z. IsIn z (own l)) same i))
 
   has_left : (e : Edge) (xs ys : List Edge) → has xs e ≡ true → has (xs ++ ys) e ≡ true
   has_left e xs ys h = in_has e (xs ++ ys) (in_left e xs ys (has_in e xs h))
@@ -89,7 +95,8 @@ module _ (t : Tables) (flat : IsFlat t.source t.flat) where
   has_right : (e : Edge) (xs ys : List Edge) → has ys e ≡ true → has (xs ++ ys) e ≡ true
   has_right e xs ys h = in_has e (xs ++ ys) (in_right e xs ys (has_in e ys h))
 
-  pub few_certified : (policy cert : List Edge) → IsPolicyOf t policy → IsCertificateOf t cert → IsSorted cert → length cert ≤ length policy + 12 * length t.flat.domains
+  pub few_certified : (policy cert : List Edge) → IsPolicyOf t policy → IsCertificateOf t cert → IsSorted cert
+      → length cert ≤ length policy + 12 * length t.flat.domains
   few_certified policy cert is certified sorted =
       let all = no_more cert (policy ++ owns t) sorted (λ e h. elim ((certified e).0 h) [
         | inl r ↦ has_left e policy (owns t) ((is e).1 r)

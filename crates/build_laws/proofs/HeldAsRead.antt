@@ -27,24 +27,31 @@ use Rattle.build_laws.specs.AsRead.{HoldsAsRead, IsReadAs, ReachesText}
 use Rattle.build_laws.specs.ReadBack.{IsCertReadBack, IsPolicyReadBack, IsSpecReadBack}
 use Rattle.build_laws.specs.TriosValid.{IsTrioValid}
 
-module _ (b : Build) (sound : IsSound b) (spec_is : IsSpecReadBack b) (policy_is : IsPolicyReadBack b) (cert_is : IsCertReadBack b) (trio : IsTrioValid b) where
-  own_labels : (spec : Spec) (policy : Policy) (given : Labels) → IsReadAs b spec policy given → IsLabelling b.spec b.policy (Ok given)
+module _ (b : Build) (sound : IsSound b) (spec_is : IsSpecReadBack b) (policy_is : IsPolicyReadBack b)
+    (cert_is : IsCertReadBack b) (trio : IsTrioValid b) where
+  own_labels : (spec : Spec) (policy : Policy) (given : Labels) → IsReadAs b spec policy given
+      → IsLabelling b.spec b.policy (Ok given)
   own_labels spec policy given r =
       subst (λ z. IsLabelling z b.policy (Ok given)) (spec_is.only spec r.capdl)
       (subst (λ z. IsLabelling spec z (Ok given)) (policy_is.only policy r.policy_is) r.labelled)
 
-  pub same_labels : (spec : Spec) (policy : Policy) (given : Labels) → IsReadAs b spec policy given → (object_labels b).by_object ≡ given.by_object
-  same_labels spec policy given r = labels_one (object_labels b).by_object given.by_object (trio.labelled ∙ sym (own_labels spec policy given r))
+  pub same_labels : (spec : Spec) (policy : Policy) (given : Labels) → IsReadAs b spec policy given
+      → (object_labels b).by_object ≡ given.by_object
+  same_labels spec policy given r = labels_one (object_labels b).by_object given.by_object (trio.labelled
+      ∙ sym (own_labels spec policy given r))
 
-  read_reaches : (spec : Spec) (policy : Policy) (given : Labels) → IsReadAs b spec policy given → (from : List ℕ) (a : Authority) (to : List ℕ) → from ≢ to
+  read_reaches : (spec : Spec) (policy : Policy) (given : Labels) → IsReadAs b spec policy given
+      → (from : List ℕ) (a : Authority) (to : List ℕ) → from ≢ to
       → ReachesText spec policy given from a to ↔ IsAssignedText b.meaning.source from a to
   read_reaches spec policy given r from a to differ =
       let s = b.meaning.source in
       subst (λ z. ReachesText z policy given from a to ↔ IsAssignedText s from a to) (sym (spec_is.only spec r.capdl))
       (subst (λ z. ReachesText b.spec z given from a to ↔ IsAssignedText s from a to) (sym (policy_is.only policy r.policy_is))
-      (subst (λ z. ReachesText b.spec b.policy (record { by_object = z }) from a to ↔ IsAssignedText s from a to) (same_labels spec policy given r) (sound.reaches from a to differ)))
+      (subst (λ z. ReachesText b.spec b.policy (record { by_object = z }) from a to ↔ IsAssignedText s from a to)
+      (same_labels spec policy given r) (sound.reaches from a to differ)))
 
-  read_yes : (spec : Spec) (policy : Policy) (given : Labels) (cert : List Edge) (verdict : Verdict) → IsReadAs b spec policy given → IsCertText policy (cert_text b.cert) cert
+  read_yes : (spec : Spec) (policy : Policy) (given : Labels) (cert : List Edge) (verdict : Verdict)
+      → IsReadAs b spec policy given → IsCertText policy (cert_text b.cert) cert
       → Judged spec given.by_object policy.edges cert verdict → verdict ≡ Yes
   read_yes spec policy given cert verdict r text judged =
       let same = policy_is.only policy r.policy_is in
@@ -62,11 +69,14 @@ module _ (b : Build) (sound : IsSound b) (spec_is : IsSpecReadBack b) (policy_is
 
 pub as_read : (root : List ℕ) (contents : Contents) (b : Build) → IsBuildOf root contents b → HoldsAsRead b
 as_read root contents b is =
-    held b (build_sound root contents b is) (spec_back root contents b is) (policy_read root contents b is) (cert_read root contents b is) (trio_valid root contents b is)
+    held b (build_sound root contents b is) (spec_back root contents b is) (policy_read root contents b is)
+    (cert_read root contents b is) (trio_valid root contents b is)
 
 -- objects have the labels of the build, by whatever is read
-pub read_labels : (root : List ℕ) (contents : Contents) (b : Build) → IsBuildOf root contents b → (spec : Spec) (policy : Policy) (given : Labels)
+pub read_labels : (root : List ℕ) (contents : Contents) (b : Build) → IsBuildOf root contents b
+    → (spec : Spec) (policy : Policy) (given : Labels)
     → IsReadAs b spec policy given → (object_labels b).by_object ≡ given.by_object
 read_labels root contents b is =
-    same_labels b (build_sound root contents b is) (spec_back root contents b is) (policy_read root contents b is) (cert_read root contents b is)
+    same_labels b (build_sound root contents b is) (spec_back root contents b is) (policy_read root contents b is)
+    (cert_read root contents b is)
     (trio_valid root contents b is)

@@ -37,7 +37,8 @@ name_part (b ∷ bs) h =
     record {
       some = omega arith;
       few = omega (arith, few);
-      bytes = and_from (is_label_byte b) (list_all is_label_byte bs) (or_left (is_word_byte b) (b == 46) (or_left (is_letter b) _ q.0)) (word_bytes bs q.1);
+      bytes = and_from (is_label_byte b) (list_all is_label_byte bs)
+          (or_left (is_word_byte b) (b == 46) (or_left (is_letter b) _ q.0)) (word_bytes bs q.1);
     }
 
 -- ---- texts of paths
@@ -82,8 +83,10 @@ path_named (n ∷ ns) some few h =
     list_all-append is_label_byte n (dotted ns)
     ∙ and_from (list_all is_label_byte n) (list_all is_label_byte (dotted ns)) first.bytes (dotted_bytes ns behind) in
     record {
-      name = and_from (nat_le 1 (length (joined (n ∷ ns)))) (nat_le (length (joined (n ∷ ns))) 4096 && list_all is_label_byte (joined (n ∷ ns)))
+      name = and_from (nat_le 1 (length (joined (n ∷ ns)))) (nat_le (length (joined (n ∷ ns))) 4096
+          && list_all is_label_byte (joined (n ∷ ns)))
           (le-leb 1 (length (joined (n ∷ ns))) low)
-          (and_from (nat_le (length (joined (n ∷ ns))) 4096) (list_all is_label_byte (joined (n ∷ ns))) (le-leb (length (joined (n ∷ ns))) 4096 (omega (arith, short))) bytes);
+          (and_from (nat_le (length (joined (n ∷ ns))) 4096) (list_all is_label_byte (joined (n ∷ ns)))
+          (le-leb (length (joined (n ∷ ns))) 4096 (omega (arith, short))) bytes);
       short = short;
     }

@@ -41,21 +41,26 @@ named_label t l p w = record { owner = w.labelled; there = has_there t.flat w.la
 both_labels : (t : Tables) (l m : ℕ) → ((p : Path) × IsNamed t l p) × ((p : Path) × IsNamed t m p) → IsLabel t l × IsLabel t m
 both_labels t l m w = (named_label t l w.0.0 w.0.1, named_label t m w.1.0 w.1.1)
 
-pub edge_labels : (s : Source) → AreNamesSound s → AreSpelled s → (e : Edge) → IsReasoned (source_tables s) e ⊎ IsLockEdge (source_tables s) e
+pub edge_labels : (s : Source) → AreNamesSound s → AreSpelled s → (e : Edge) → IsReasoned (source_tables s) e
+    ⊎ IsLockEdge (source_tables s) e
     → IsLabel (source_tables s) e.from × IsLabel (source_tables s) e.to
-edge_labels s sound spelled e (inl r) = both_labels (source_tables s) e.from e.to (reason_paths s sound (spelled_dotted s spelled) (label_numbers (flat_of s)) e r.reason)
-edge_labels s sound spelled e (inr k) = both_labels (source_tables s) e.from e.to (lock_paths s sound (spelled_dotted s spelled) (label_numbers (flat_of s)) e k)
+edge_labels s sound spelled e (inl r) = both_labels (source_tables s) e.from e.to (reason_paths s sound (spelled_dotted s spelled)
+    (label_numbers (flat_of s)) e r.reason)
+edge_labels s sound spelled e (inr k) = both_labels (source_tables s) e.from e.to (lock_paths s sound (spelled_dotted s spelled)
+    (label_numbers (flat_of s)) e k)
 
 -- ---- lines of labels
 
 -- a label has a line
-line_at : (t : Tables) → t.numbers ≡ label_numbers t.flat → (l : ℕ) → IsLabel t l → (text : List ℕ) × IsIn {X = ℕ × List ℕ} (l, text) (label_lines t.flat)
+line_at : (t : Tables) → t.numbers ≡ label_numbers t.flat → (l : ℕ) → IsLabel t l
+    → (text : List ℕ) × IsIn {X = ℕ × List ℕ} (l, text) (label_lines t.flat)
 line_at t is l w =
     let p = path_there t.flat w.owner w.there in
     (joined p.0, called_line t is l (joined p.0) (p.0, record { labelled = w.owner; there = p.1; is = w.is }, refl))
 
 -- so that it is named
-pub named_at : (t : Tables) → t.numbers ≡ label_numbers t.flat → (l : ℕ) → IsLabel t l → is_some (label_name (label_lines t.flat) l) ≡ true
+pub named_at : (t : Tables) → t.numbers ≡ label_numbers t.flat → (l : ℕ) → IsLabel t l
+    → is_some (label_name (label_lines t.flat) l) ≡ true
 named_at t is l w = let x = line_at t is l w in ap is_some (line_name t.flat l x.0 x.1)
 
 -- ---- how many there are

@@ -14,13 +14,15 @@ use Rattle.cam_base.proofs.Gathered.{from_ones, get_ones}
 use Rattle.cam_base.proofs.NumberedLists.{from_get_map, get_map}
 use Rattle.policy_text.specs.Labelled.{object_label}
 
-pub map_same : {X Y : Type 0} (f g : X → Y) (xs : List X) → ((n : ℕ) (x : X) → slice_get xs n ≡ Some x → f x ≡ g x) → map f xs ≡ map g xs
+pub map_same : {X Y : Type 0} (f g : X → Y) (xs : List X) → ((n : ℕ) (x : X) → slice_get xs n ≡ Some x → f x ≡ g x)
+    → map f xs ≡ map g xs
 map_same f g [] h = refl
 map_same f g (x ∷ xs) h = ap (λ z. z ∷ map f xs) (h 0 x refl) ∙ ap (λ z. g x ∷ z) (map_same f g xs (λ n y e. h (suc n) y e))
 
 -- things that have entries and labels
 module _ {X : Type 0} (entry : X → Entry) (label : X → ℕ) (xs : List X)
-    (differ : (m n : ℕ) (x y : X) → slice_get xs m ≡ Some x → slice_get xs n ≡ Some y → (entry x).name ≡ (entry y).name → m ≡ n) where
+    (differ : (m n : ℕ) (x y : X) → slice_get xs m ≡ Some x → slice_get xs n ≡ Some y → (entry x).name ≡ (entry y).name
+    → m ≡ n) where
   abbrev objects : List (List ℕ × ℕ)
   objects = labelled (map entry xs) (map label xs)
 
@@ -28,22 +30,28 @@ module _ {X : Type 0} (entry : X → Entry) (label : X → ℕ) (xs : List X)
   line n e = (e.name, label_of (map label xs) n)
 
   -- the object line at a place is of the thing there
-  pub line_at : (m : ℕ) (o : List ℕ × ℕ) → slice_get objects m ≡ Some o → (x : X) × (slice_get xs m ≡ Some x) × (o.0 ≡ (entry x).name)
+  pub line_at : (m : ℕ) (o : List ℕ × ℕ) → slice_get objects m ≡ Some o → (x : X) × (slice_get xs m ≡ Some x)
+      × (o.0 ≡ (entry x).name)
   line_at m o e =
       let a = from_ones line (map entry xs) m o e in
-      let b = from_get_map entry xs m a.0 a.1 in (b.0, b.1, ap (λ (z : List ℕ × ℕ). z.0) (sym a.2) ∙ ap (λ (z : Entry). z.name) (sym b.2))
+      let b = from_get_map entry xs m a.0 a.1 in
+      (b.0, b.1, ap (λ (z : List ℕ × ℕ). z.0) (sym a.2) ∙ ap (λ (z : Entry). z.name) (sym b.2))
 
   label_back : (n : ℕ) (x : X) → slice_get xs n ≡ Some x → Some (label x) ≡ object_label objects (entry x).name
   label_back n x at =
-      let number : label_of (map label xs) n ≡ label x = get_or_from_slice_get (map label xs) n (label x) 0 (get_map label xs n x at) in
-      let here : slice_get objects n ≡ Some (line n (entry x)) = get_ones line (map entry xs) n (entry x) (get_map entry xs n x at) in
+      let number : label_of (map label xs) n ≡ label x = get_or_from_slice_get (map label xs) n (label x) 0
+      (get_map label xs n x at) in
+      let here : slice_get objects n ≡ Some (line n (entry x)) =
+      get_ones line (map entry xs) n (entry x) (get_map entry xs n x at) in
       let found : find (λ o. bytes_eq o.0 (entry x).name) objects ≡ Some (line n (entry x)) =
-      find_only (λ (o : List ℕ × ℕ). bytes_eq o.0 (entry x).name) objects n (line n (entry x)) here ((bytes_eq-Decides (entry x).name (entry x).name).1 refl)
+      find_only (λ (o : List ℕ × ℕ). bytes_eq o.0 (entry x).name) objects n (line n (entry x)) here
+      ((bytes_eq-Decides (entry x).name (entry x).name).1 refl)
       (λ m o f t. let z = line_at m o f in differ m n z.0 x z.1 at (sym z.2 ∙ (bytes_eq-Decides o.0 (entry x).name).0 t)) in
       ap (λ z. Some z) (sym number) ∙ ap (option_map (λ (o : List ℕ × ℕ). o.1)) (sym found)
 
   pub labels_back : map (λ n. Some n) (map label xs) ≡ map (λ (e : Entry). object_label objects e.name) (map entry xs)
-  labels_back = map-map (λ n. Some n) label xs ∙ map_same (λ x. Some (label x)) (λ x. object_label objects (entry x).name) xs label_back ∙ sym (map-map (λ (e : Entry). object_label objects e.name) entry xs)
+  labels_back = map-map (λ n. Some n) label xs ∙ map_same (λ x. Some (label x)) (λ x. object_label objects (entry x).name) xs
+      label_back ∙ sym (map-map (λ (e : Entry). object_label objects e.name) entry xs)
 
 pub labels_one : (xs ys : List ℕ) → map (λ n. Some n) xs ≡ map (λ n. Some n) ys → xs ≡ ys
 labels_one [] [] e = refl

@@ -8,6 +8,8 @@ use Rattle.arch_compile.proofs.Facts.{build_facts}
 use Rattle.cam_io.specs.Contents.{Contents}
 use Rattle.front_end.specs.First.{first_list_fault, source_tables}
 
-pub none_listed : (root : List ℕ) (contents : Contents) (b : Build) → IsBuildOf root contents b → first_list_fault b.meaning.source ≡ None
+pub none_listed : (root : List ℕ) (contents : Contents) (b : Build) → IsBuildOf root contents b
+    → first_list_fault b.meaning.source ≡ None
 none_listed root contents b is =
-    ap (λ z. option_or z (first_edge_fault (source_tables b.meaning.source))) is.meant.none ∙ (build_facts root contents b is).edge
+    ap (λ z. option_or z (first_edge_fault (source_tables b.meaning.source))) is.meant.none
+    ∙ (build_facts root contents b is).edge

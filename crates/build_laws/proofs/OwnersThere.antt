@@ -78,7 +78,8 @@ module _ (t : Tables) (h : IsConnected t) where
       by_test k c at false s n = absurd n
 
   -- the leaf at registers is a device
-  at_device : (k : ℕ) (c : FlatConnection) (e : FlatEnd) → slice_get t.flat.connections k ≡ Some c → registers c ≡ Some e → HasLabel t.flat (OfLeaf e.leaf)
+  at_device : (k : ℕ) (c : FlatConnection) (e : FlatEnd) → slice_get t.flat.connections k ≡ Some c → registers c ≡ Some e
+      → HasLabel t.flat (OfLeaf e.leaf)
   at_device k c e at has =
       let v = at_registers t h k c at (registers_mmio c.connector c.ends e has) in
       let j = h.flat.joined v.at in
@@ -119,11 +120,13 @@ module _ (t : Tables) (h : IsConnected t) where
 
   -- ---- owners
 
-  notified : (k : ℕ) (c : FlatConnection) → slice_get t.flat.connections k ≡ Some c → Notifies c.connector → HasLabel t.flat (OfConnection k)
+  notified : (k : ℕ) (c : FlatConnection) → slice_get t.flat.connections k ≡ Some c → Notifies c.connector
+      → HasLabel t.flat (OfConnection k)
   notified k c at (inl e) = (c, at, ap has_label e)
   notified k c at (inr e) = (c, at, ap has_label e)
 
-  of_irq : (k : ℕ) (c : FlatConnection) → slice_get t.flat.connections k ≡ Some c → c.connector ≡ Interrupt → HasLabel t.flat (device_at t k)
+  of_irq : (k : ℕ) (c : FlatConnection) → slice_get t.flat.connections k ≡ Some c → c.connector ≡ Interrupt
+      → HasLabel t.flat (device_at t k)
   of_irq k c at e =
       let d = device_found t h.flat k c at (h.flat.interrupts k c at e) in
       let j = h.flat.joined d.at in

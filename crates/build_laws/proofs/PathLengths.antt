@@ -95,7 +95,8 @@ module _ (s : Source) (sound : AreNamesSound s) (limits : AreInLimits s) where
       subst (λ (z : Path). length z ≤ 16) (w.3 ∙ ap (λ (z : Domain). z.path) g.2 ∙ h.2) few
 
   -- a leaf stands below a composition in which a connection has an end
-  below_composition : (y : Strung) → IsIn y (connections (hierarchy_of s)) → (f : FlatEnd) → IsIn f (flat_ends (hierarchy_of s) y) → length y.path + 1 ≤ 16
+  below_composition : (y : Strung) → IsIn y (connections (hierarchy_of s)) → (f : FlatEnd) → IsIn f (flat_ends (hierarchy_of s) y)
+      → length y.path + 1 ≤ 16
   below_composition y i f there =
       let h = hierarchy_of s in
       let e = from_filter_map (λ (e : End). option_map (flat_end h y.path e) (joined_by h y.inside e)) f y.wire.1.ends there in
@@ -107,16 +108,19 @@ module _ (s : Source) (sound : AreNamesSound s) (limits : AreInLimits s) where
       let more = longer (y.path ++ r.0.path) y.path w.rest w.part w.path in
       omega (arith, short, more)
 
-  connection_path : AreDotted (hierarchy_of s) → first_type_fault s ≡ None → (k : ℕ) (p : Path) → HasPath (flat_of s) (OfConnection k) p → length p ≤ 16
+  connection_path : AreDotted (hierarchy_of s) → first_type_fault s ≡ None → (k : ℕ) (p : Path)
+      → HasPath (flat_of s) (OfConnection k) p → length p ≤ 16
   connection_path dotted types k p h =
       let y = strung_of s k h.0 h.1 in
       let e = some_end s sound dotted types k h.0 h.1 From in
-      let there : IsIn e.1 (flat_ends (hierarchy_of s) y.0) = subst (λ (z : FlatConnection). IsIn e.1 z.ends) (sym y.2) (in_place e.1 h.0.ends e.0 e.2) in
+      let there : IsIn e.1 (flat_ends (hierarchy_of s) y.0) = subst (λ (z : FlatConnection). IsIn e.1 z.ends) (sym y.2)
+      (in_place e.1 h.0.ends e.0 e.2) in
       let below = below_composition y.0 y.1 e.1 there in
       let more = one_more p y.0.path y.0.wire.1.id.name (sym (ap (λ (z : FlatConnection). z.path) y.2 ∙ h.3)) in
       omega (arith, below, more)
 
-pub paths_short : (s : Source) → AreNamesSound s → AreDotted (hierarchy_of s) → first_type_fault s ≡ None → first_flat_fault s ≡ None → (x : Owner) (p : Path) → HasPath (flat_of s) x p → length p ≤ 16
+pub paths_short : (s : Source) → AreNamesSound s → AreDotted (hierarchy_of s) → first_type_fault s ≡ None
+    → first_flat_fault s ≡ None → (x : Owner) (p : Path) → HasPath (flat_of s) x p → length p ≤ 16
 paths_short s sound dotted types flat x p h = by_owner x h
   where
     limits : AreInLimits s

@@ -83,7 +83,8 @@ module _ (flat : Flat) (few : length (label_texts flat) ≤ 6144) where
   line_there k d l = slice_get-get_or lines k d l
 
   number_is : (k : ℕ) (d : ℕ × List ℕ) → k < length lines → (get_or lines k d).0 ≡ k
-  number_is k d l = let x = from_ones (λ n y. (n, y)) (label_texts flat) k (get_or lines k d) (line_there k d l) in ap (λ (z : ℕ × List ℕ). z.0) (sym x.2)
+  number_is k d l = let x = from_ones (λ n y. (n, y)) (label_texts flat) k (get_or lines k d) (line_there k d l) in
+      ap (λ (z : ℕ × List ℕ). z.0) (sym x.2)
 
   rising_is : AllPairs (λ (l m : ℕ × List ℕ). l.0 < m.0) lines
   rising_is i j d l m =
@@ -109,7 +110,13 @@ module _ (flat : Flat) (few : length (label_texts flat) ≤ 6144) where
       absurd (omega (arith, a, b, one, l))
 
   labels_are : AreLabels (label_lines flat)
-  labels_are = record { rising = rising_is; numbers = numbers_are; texts = texts_are; few = let a = lines_count in omega (arith, a, few) }
+  labels_are = record {
+    rising = rising_is;
+    numbers = numbers_are;
+    texts = texts_are;
+    few = let a = lines_count in
+        omega (arith, a, few);
+  }
 
 -- ---- objects
 
@@ -163,7 +170,8 @@ module _ {contents : Contents} (s : Source) (images : Images) (facts : AreFacts 
   objects_of =
       let fit = made_fit s images facts in
       let w = made_writable s images facts in
-      objects_are (entry t) (part_label t) (parts t) (λ m n p q e f same. names_tell t fit.connections fit.objects m n p q e f same) w.names w.few_objects
+      objects_are (entry t) (part_label t) (parts t) (λ m n p q e f same. names_tell t fit.connections fit.objects m n p q e f
+      same) w.names w.few_objects
 
   labels_of_flat : AreLabels (label_lines (flat_of s))
   labels_of_flat = labels_are (flat_of s) (few_labels (flat_of s) (small_is s images facts))
@@ -181,8 +189,10 @@ module _ {contents : Contents} (s : Source) (images : Images) (facts : AreFacts 
       subst IsShortName c.2 named
 
   -- an object has the label of an owner
-  object_is : (n : ℕ) (e : Entry) → slice_get (spec_of t).entries n ≡ Some e → IsLabel (source_tables s) (label_of (labels_of t).by_object n)
-  object_is n e at = let w = object_owner t (made_connected s images facts) n e at in record { owner = w.owner; there = w.there; is = w.is }
+  object_is : (n : ℕ) (e : Entry) → slice_get (spec_of t).entries n ≡ Some e
+      → IsLabel (source_tables s) (label_of (labels_of t).by_object n)
+  object_is n e at = let w = object_owner t (made_connected s images facts) n e at in
+      record { owner = w.owner; there = w.there; is = w.is }
 
   small : (l : ℕ) → IsLabel (source_tables s) l → l < 8192
   small l w = label_small (source_tables s) refl (small_is s images facts) l w
@@ -268,4 +278,5 @@ module _ {contents : Contents} (s : Source) (images : Images) (facts : AreFacts 
         }
 
 pub policy_read : (root : List ℕ) (contents : Contents) (b : Build) → IsBuildOf root contents b → IsPolicyReadBack b
-policy_read root contents b is = made_back b.meaning.source (images_beside contents b.meaning.source) (build_facts root contents b is) b is.made
+policy_read root contents b is = made_back b.meaning.source (images_beside contents b.meaning.source)
+    (build_facts root contents b is) b is.made

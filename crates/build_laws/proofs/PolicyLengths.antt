@@ -21,7 +21,8 @@ IsObjectShort o = (length o.0 ≤ 127) × (o.1 < 8192)
 abbrev pub IsEdgeShort : Edge → Type 0
 IsEdgeShort e = (e.from < 8192) × (e.to < 8192)
 
-lines_short : {X : Type 0} (f : X → List ℕ) (n : ℕ) (xs : List X) → ((x : X) → IsIn x xs → length (f x) ≤ n) → length (flat_map f xs) ≤ n * length xs
+lines_short : {X : Type 0} (f : X → List ℕ) (n : ℕ) (xs : List X) → ((x : X) → IsIn x xs → length (f x) ≤ n)
+    → length (flat_map f xs) ≤ n * length xs
 lines_short f n [] h = omega arith
 lines_short f n (x ∷ xs) h =
     let a = length-append (f x) (flat_map f xs) in
@@ -42,8 +43,10 @@ object_short o h =
     (omega arith, (h.0, (omega arith, (number_short o.1 h.1, (omega arith, tt))))) in
     omega (arith, s)
 
-module _ (p : Policy) (labels : (l : ℕ × List ℕ) → IsIn l p.labels → IsLabelShort l) (objects : (o : List ℕ × ℕ) → IsIn o p.objects → IsObjectShort o)
-    (edges : (e : Edge) → IsIn e p.edges → IsEdgeShort e) (few_labels : length p.labels ≤ 8192) (few_objects : length p.objects ≤ 262144) (few_edges : length p.edges ≤ 262144) where
+module _ (p : Policy) (labels : (l : ℕ × List ℕ) → IsIn l p.labels → IsLabelShort l) (objects : (o : List ℕ × ℕ)
+    → IsIn o p.objects → IsObjectShort o)
+    (edges : (e : Edge) → IsIn e p.edges → IsEdgeShort e) (few_labels : length p.labels ≤ 8192)
+    (few_objects : length p.objects ≤ 262144) (few_edges : length p.edges ≤ 262144) where
   pub policy_short : length (policy_text p) ≤ 67108864
   unfolding policy_text
   policy_short =
@@ -51,6 +54,8 @@ module _ (p : Policy) (labels : (l : ℕ × List ℕ) → IsIn l p.labels → Is
       let b = lines_short object_line 140 p.objects (λ o i. object_short o (objects o i)) in
       let c = lines_short edge_line 25 p.edges (λ e i. edge_short e (edges e i).0 (edges e i).1) in
       let one = joined (codes "policy 1\n") (flat_map label_line p.labels) 9 (2059 * length p.labels) (omega arith) a in
-      let two = joined (codes "policy 1\n" ⊹ flat_map label_line p.labels) (flat_map object_line p.objects) (9 + 2059 * length p.labels) (140 * length p.objects) one b in
-      let all = joined (codes "policy 1\n" ⊹ flat_map label_line p.labels ⊹ flat_map object_line p.objects) (flat_map edge_line p.edges) (9 + 2059 * length p.labels + 140 * length p.objects) (25 * length p.edges) two c in
+      let two = joined (codes "policy 1\n" ⊹ flat_map label_line p.labels) (flat_map object_line p.objects)
+      (9 + 2059 * length p.labels) (140 * length p.objects) one b in
+      let all = joined (codes "policy 1\n" ⊹ flat_map label_line p.labels ⊹ flat_map object_line p.objects)
+      (flat_map edge_line p.edges) (9 + 2059 * length p.labels + 140 * length p.objects) (25 * length p.edges) two c in
       omega (arith, all, few_labels, few_objects, few_edges)

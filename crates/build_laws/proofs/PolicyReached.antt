@@ -13,7 +13,8 @@ use Rattle.arch_compile.specs.Sound.{object_labels}
 use Rattle.cam_io.specs.Contents.{Contents}
 use Rattle.cap_machine.specs.Runs.{Reaches}
 
-pub policy_reached : (root : List ℕ) (contents : Contents) (b : Build) → IsBuildOf root contents b → (l : ℕ) (a : Authority) (m : ℕ)
+pub policy_reached : (root : List ℕ) (contents : Contents) (b : Build) → IsBuildOf root contents b
+    → (l : ℕ) (a : Authority) (m : ℕ)
     → Has b.policy.edges l a m ↔ (Reaches b.spec (object_labels b).by_object l a m × (l ≢ m))
 policy_reached root contents b is l a m =
     let s = b.meaning.source in

@@ -24,12 +24,14 @@ use Rattle.spec_laws.proofs.Writing.{spec_writable}
 use Rattle.system_spec.specs.Made.{spec_of}
 use Rattle.build_laws.specs.ReadBack.{IsSpecReadBack}
 
-pub made_writable : {contents : Contents} (s : Source) (images : Images) → AreFacts contents s images → IsWritable (spec_of (system_tables s images))
+pub made_writable : {contents : Contents} (s : Source) (images : Images) → AreFacts contents s images
+    → IsWritable (spec_of (system_tables s images))
 made_writable {contents} s images facts =
     let f = facts.faultless in
     let t = system_tables s images in
     let limited = layouts_are_limited s images facts.short f.names f.types f.flat f.settings facts.slot facts.page in
-    let plain = layouts_are_plain s images facts.short f.names f.flat (read_images_are_plain contents _ s images facts.short facts.read) in
+    let plain = layouts_are_plain s images facts.short f.names f.flat (read_images_are_plain contents _ s images facts.short
+    facts.read) in
     let can = can_lay s images facts.short f.names f.types f.flat f.settings in
     spec_writable t
     (made_fit s images facts)
@@ -40,7 +42,8 @@ pub spec_back : (root : List ℕ) (contents : Contents) (b : Build) → IsBuildO
 spec_back root contents b is =
     let s = b.meaning.source in
     let images = images_beside contents s in
-    let w : IsWritable b.spec = subst IsWritable (sym is.made.spec_is) (made_writable s images (build_facts root contents b is)) in
+    let w : IsWritable b.spec =
+    subst IsWritable (sym is.made.spec_is) (made_writable s images (build_facts root contents b is)) in
     record {
       writable = w;
       text = canonical_text b.spec w;

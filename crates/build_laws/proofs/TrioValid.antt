@@ -28,12 +28,14 @@ use Rattle.system_spec.specs.Tables.{Tables}
 use Rattle.build_laws.proofs.LabelsBack.{labels_back, labels_one}
 use Rattle.build_laws.specs.TriosValid.{IsTrioValid}
 
-judged_yes : {spec : Spec} {labels : List ℕ} {policy cert : List Edge} (verdict : Verdict) → Valid spec labels policy cert → Judged spec labels policy cert verdict → verdict ≡ Yes
+judged_yes : {spec : Spec} {labels : List ℕ} {policy cert : List Edge} (verdict : Verdict) → Valid spec labels policy cert
+    → Judged spec labels policy cert verdict → verdict ≡ Yes
 judged_yes Yes v j = refl
 judged_yes (No number have lack) v j = absurd (j.3 v)
 
 module _ {contents : Contents} (b : Build) (facts : AreFacts contents b.meaning.source (images_beside contents b.meaning.source))
-    (made : IsMade b.meaning.source (images_beside contents b.meaning.source) b.spec b.policy b.cert b.map) (sound : IsSound b) where
+    (made : IsMade b.meaning.source (images_beside contents b.meaning.source) b.spec b.policy b.cert b.map)
+    (sound : IsSound b) where
   abbrev s : Source
   s = b.meaning.source
 
@@ -49,8 +51,10 @@ module _ {contents : Contents} (b : Build) (facts : AreFacts contents b.meaning.
   fit : IsFit t
   fit = made_fit s images facts
 
-  gives_made : map (λ n. Some n) labels ≡ map (λ (e : Entry). object_label (labelled (spec_of t).entries labels) e.name) (spec_of t).entries
-  gives_made = labels_back (entry t) (part_label t) (parts t) (λ m n p q e f same. names_tell t fit.connections fit.objects m n p q e f same)
+  gives_made : map (λ n. Some n) labels ≡ map (λ (e : Entry). object_label (labelled (spec_of t).entries labels) e.name)
+      (spec_of t).entries
+  gives_made = labels_back (entry t) (part_label t) (parts t) (λ m n p q e f same. names_tell t fit.connections fit.objects m n
+      p q e f same)
 
   gives : IsLabelling b.spec b.policy (Ok (record { by_object = labels }))
   gives =
@@ -60,11 +64,13 @@ module _ {contents : Contents} (b : Build) (facts : AreFacts contents b.meaning.
 
   by_labels : (given : Labels) → IsLabelling b.spec b.policy (Ok given) → Valid b.spec given.by_object b.policy.edges b.cert
   by_labels given l =
-      subst (λ z. Valid b.spec z b.policy.edges b.cert) (labels_are s images facts b made ∙ labels_one labels given.by_object (gives ∙ sym l)) sound.valid
+      subst (λ z. Valid b.spec z b.policy.edges b.cert) (labels_are s images facts b made ∙ labels_one labels given.by_object
+      (gives ∙ sym l)) sound.valid
 
   pub made_trio : IsTrioValid b
   made_trio = record {
-    labelled = subst (λ z. IsLabelling b.spec b.policy (Ok (record { by_object = z }))) (sym (labels_are s images facts b made)) gives;
+    labelled = subst (λ z. IsLabelling b.spec b.policy (Ok (record { by_object = z })))
+        (sym (labels_are s images facts b made)) gives;
     valid = by_labels;
     yes = λ given verdict l j. judged_yes verdict (by_labels given l) j;
   }

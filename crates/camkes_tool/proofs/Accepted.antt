@@ -48,34 +48,45 @@ module _ (m : Contents) (old new : List ℕ → ℕ) where
   same_bytes name bytes other is h = same_Some bytes other (sym h ∙ is)
 
   -- a file that is there and short is no fault
-  no_fault : (name bytes : List ℕ) → get m name ≡ Some bytes → length bytes ≤ 67108864 → (fault : InputFault) (file : List ℕ) → IsInput m old new name (Err (Fault fault file)) → ⊥
-  no_fault name bytes is short fault file (named, inl (told, absent)) = let two : ◌≡◌ {A = Option (List ℕ)} None (Some bytes) = sym absent ∙ is in cc
+  no_fault : (name bytes : List ℕ) → get m name ≡ Some bytes → length bytes ≤ 67108864 → (fault : InputFault) (file : List ℕ)
+      → IsInput m old new name (Err (Fault fault file)) → ⊥
+  no_fault name bytes is short fault file (named, inl (told, absent)) = let two : ◌≡◌ {A = Option (List ℕ)} None (Some bytes) =
+      sym absent ∙ is in cc
   no_fault name bytes is short fault file (named, inr (told, (other, held, long))) =
       let same = ap (λ (z : List ℕ). length z) (same_Some other bytes (sym held ∙ is)) in
       absurd (omega (arith, same, long, short))
 
   module _ (cdl policy cert : List ℕ) (b : Build) (back : AreReadBack b) (held : HoldsAsRead b) (trio : IsTrioValid b)
-      (capdl_here : get m cdl ≡ Some (canonical b.spec)) (policy_here : get m policy ≡ Some (policy_text b.policy)) (cert_here : get m cert ≡ Some (cert_text b.cert)) where
+      (capdl_here : get m cdl ≡ Some (canonical b.spec)) (policy_here : get m policy ≡ Some (policy_text b.policy))
+      (cert_here : get m cert ≡ Some (cert_text b.cert)) where
     short_capdl : length (canonical b.spec) ≤ 67108864
     short_capdl = ltb-false 67108864 (length (canonical b.spec)) back.spec.text.few
 
     -- ---- what is read
 
     spec_read : (spec : Spec) → IsSystem m old new cdl (Ok spec) → Text (canonical b.spec) spec
-    spec_read spec (inl (bytes, input, told)) = subst (λ z. Text z spec) (same_bytes cdl bytes (canonical b.spec) capdl_here input.1) told
+    spec_read spec (inl (bytes, input, told)) =
+        subst (λ z. Text z spec) (same_bytes cdl bytes (canonical b.spec) capdl_here input.1) told
     spec_read spec (inr (e, input, is)) = absurd cc
 
     allowed_read : (allowed : Policy) → IsPolicy m old new policy (Ok allowed) → IsPolicyText (policy_text b.policy) allowed
-    allowed_read allowed (inl (bytes, input, told)) = subst (λ z. IsPolicyText z allowed) (same_bytes policy bytes (policy_text b.policy) policy_here input.1) told
+    allowed_read allowed (inl (bytes, input, told)) =
+        subst (λ z. IsPolicyText z allowed) (same_bytes policy bytes (policy_text b.policy) policy_here input.1) told
     allowed_read allowed (inr (e, input, is)) = absurd cc
 
-    edges_read : (allowed : Policy) (edges : List Edge) → IsCert m old new allowed cert (Ok edges) → IsCertText allowed (cert_text b.cert) edges
-    edges_read allowed edges (inl (bytes, input, told)) = subst (λ z. IsCertText allowed z edges) (same_bytes cert bytes (cert_text b.cert) cert_here input.1) told
+    edges_read : (allowed : Policy) (edges : List Edge) → IsCert m old new allowed cert (Ok edges)
+        → IsCertText allowed (cert_text b.cert) edges
+    edges_read allowed edges (inl (bytes, input, told)) =
+        subst (λ z. IsCertText allowed z edges) (same_bytes cert bytes (cert_text b.cert) cert_here input.1) told
     edges_read allowed edges (inr (e, input, is)) = absurd cc
 
     well : (outcome : Outcome) → IsChecked m old new cdl policy cert (Ok outcome) → is_well outcome ≡ true
     well outcome (inl (spec, system, inl (allowed, text, inl (edges, read, inl (labels, labelled, said))))) =
-        let asked : IsReadAs b spec allowed labels = record { capdl = spec_read spec system; policy_is = allowed_read allowed text; labelled = labelled } in
+        let asked : IsReadAs b spec allowed labels = record {
+          capdl = spec_read spec system;
+          policy_is = allowed_read allowed text;
+          labelled = labelled;
+        } in
         let yes = held.yes spec allowed labels edges said.0 asked (edges_read allowed edges read) said.2 in
         ap is_well said.1 ∙ ap is_yes yes
     well outcome (inl (spec, system, inl (allowed, text, inl (edges, read, inr (e, labelled, is))))) = absurd cc
@@ -98,20 +109,25 @@ module _ (m : Contents) (old new : List ℕ → ℕ) where
         let same = same_bytes policy bytes (policy_text b.policy) policy_here input.1 in
         let right : IsPolicyText bytes b.policy = subst (λ z. IsPolicyText z b.policy) (sym same) back.policy.text in
         none_some _ told.1.0 right.0 told.1.1
-    policy_right fault file (inr (Fault f g, input, is)) = no_fault policy (policy_text b.policy) policy_here back.policy.writable.bytes f g input
+    policy_right fault file (inr (Fault f g, input, is)) = no_fault policy (policy_text b.policy) policy_here
+        back.policy.writable.bytes f g input
     policy_right fault file (inr (ReadFault g, input, is)) = absurd cc
     policy_right fault file (inr (NoMemory, input, is)) = absurd cc
 
-    cert_right : (allowed : Policy) → IsPolicyText (policy_text b.policy) allowed → (fault : InputFault) (file : List ℕ) → IsCert m old new allowed cert (Err (Fault fault file)) → ⊥
+    cert_right : (allowed : Policy) → IsPolicyText (policy_text b.policy) allowed → (fault : InputFault) (file : List ℕ)
+        → IsCert m old new allowed cert (Err (Fault fault file)) → ⊥
     cert_right allowed text fault file (inl (bytes, input, told)) =
         let same = same_bytes cert bytes (cert_text b.cert) cert_here input.1 in
         let right : IsCertText b.policy bytes b.cert = subst (λ z. IsCertText b.policy z b.cert) (sym same) back.cert.text in
-        none_some (first_cert_fault allowed bytes) told.1.0 (ap (λ z. first_cert_fault z bytes) (back.policy.only allowed text) ∙ right.0) told.1.1
-    cert_right allowed text fault file (inr (Fault f g, input, is)) = no_fault cert (cert_text b.cert) cert_here back.cert.writable.bytes f g input
+        none_some (first_cert_fault allowed bytes) told.1.0 (ap (λ z. first_cert_fault z bytes) (back.policy.only allowed text)
+        ∙ right.0) told.1.1
+    cert_right allowed text fault file (inr (Fault f g, input, is)) = no_fault cert (cert_text b.cert) cert_here
+        back.cert.writable.bytes f g input
     cert_right allowed text fault file (inr (ReadFault g, input, is)) = absurd cc
     cert_right allowed text fault file (inr (NoMemory, input, is)) = absurd cc
 
-    labels_right : (spec : Spec) (allowed : Policy) → Text (canonical b.spec) spec → IsPolicyText (policy_text b.policy) allowed → (fault : InputFault) (file : List ℕ)
+    labels_right : (spec : Spec) (allowed : Policy) → Text (canonical b.spec) spec → IsPolicyText (policy_text b.policy) allowed
+        → (fault : InputFault) (file : List ℕ)
         → IsTold tell_text policy (IsLabelling spec allowed) (Err (Fault fault file)) → ⊥
     labels_right spec allowed capdl text fault file told =
         labels_stand b told.1.0 trio
@@ -125,7 +141,8 @@ module _ (m : Contents) (old new : List ℕ → ℕ) where
     all_right fault file (inl (spec, system, inr (Fault f g, text, is))) = policy_right f g text
     all_right fault file (inl (spec, system, inr (ReadFault g, text, is))) = absurd cc
     all_right fault file (inl (spec, system, inr (NoMemory, text, is))) = absurd cc
-    all_right fault file (inl (spec, system, inl (allowed, text, inr (Fault f g, read, is)))) = cert_right allowed (allowed_read allowed text) f g read
+    all_right fault file (inl (spec, system, inl (allowed, text, inr (Fault f g, read, is)))) =
+        cert_right allowed (allowed_read allowed text) f g read
     all_right fault file (inl (spec, system, inl (allowed, text, inr (ReadFault g, read, is)))) = absurd cc
     all_right fault file (inl (spec, system, inl (allowed, text, inr (NoMemory, read, is)))) = absurd cc
     all_right fault file (inl (spec, system, inl (allowed, text, inl (edges, read, inr (Fault f g, labelled, is))))) =
@@ -141,14 +158,20 @@ module _ (m : Contents) (old new : List ℕ → ℕ) where
     status_is status (inr (inl (fault, file, asked, e))) = absurd (all_right fault file asked)
     status_is status (inr (inr six)) = inr six
 
-pub texts_accepted : (contents : Contents) (before now : List ℕ → ℕ) (cdl policy cert : List ℕ) (words : List (List ℕ)) (answer : Answer) (status : ℕ) (old new : Sink) (m n : ℕ)
+pub texts_accepted : (contents : Contents) (before now : List ℕ → ℕ) (cdl policy cert : List ℕ) (words : List (List ℕ))
+    (answer : Answer) (status : ℕ) (old new : Sink) (m n : ℕ)
     → read_words words ≡ Some (Check cdl policy cert) → HoldTexts contents cdl policy cert → NoneRose before now → ¬ Rose m n
     → Fits words contents before now answer → Tells answer status old new m n → (status ≡ 0) ⊎ (status ≡ 6)
 texts_accepted contents before now cdl policy cert words answer status old new m n asked holds none kept fits tells =
     let b = holds.build in
     let root = holds.root in
     let sources = holds.sources in
-    let back : AreReadBack b = record { spec = spec_back root sources b holds.system.made; policy = policy_read root sources b holds.system.made; cert = cert_read root sources b holds.system.made } in
+    let back : AreReadBack b = record {
+      spec = spec_back root sources b holds.system.made;
+      policy = policy_read root sources b holds.system.made;
+      cert = cert_read root sources b holds.system.made;
+    } in
     let exact = exact_status contents words before now answer status old new m n fits tells none kept in
-    status_is contents before now cdl policy cert b back (as_read root sources b holds.system.made) (trio_valid root sources b holds.system.made) holds.system.capdl holds.system.allowed holds.certificate status
+    status_is contents before now cdl policy cert b back (as_read root sources b holds.system.made)
+    (trio_valid root sources b holds.system.made) holds.system.capdl holds.system.allowed holds.certificate status
     (subst (λ z. IsStatus contents before now z status) asked exact)

@@ -7,7 +7,8 @@ use Rattle.cam_base.specs.declared.error.Refused.TheVariants as refused
 use Rattle.cap_model.specs.declared.spec.Entry.{Entry}
 use Rattle.policy_text.specs.Labelled.{IsLabelling, first_unlabelled, object_label}
 
-none_unlabelled : (label : List ℕ → Option ℕ) (entries : List Entry) (labels : List ℕ) → map (λ n. Some n) labels ≡ map (λ (e : Entry). label e.name) entries → first_unlabelled label entries ≡ None
+none_unlabelled : (label : List ℕ → Option ℕ) (entries : List Entry) (labels : List ℕ)
+    → map (λ n. Some n) labels ≡ map (λ (e : Entry). label e.name) entries → first_unlabelled label entries ≡ None
 none_unlabelled label [] labels e = refl
 none_unlabelled label (x ∷ xs) [] e = absurd cc
 none_unlabelled label (x ∷ xs) (n ∷ ns) e =
@@ -21,4 +22,5 @@ none_some o fault none some = cc
 pub labels_stand : (b : Build) (fault : TextFault) → IsTrioValid b → IsLabelling b.spec b.policy (Err (refused.Fault fault)) → ⊥
 labels_stand b fault trio h =
     none_some (first_unlabelled (object_label b.policy.objects) b.spec.entries) fault
-    (none_unlabelled (object_label b.policy.objects) b.spec.entries (map (λ (o : List ℕ × ℕ). o.1) b.policy.objects) trio.labelled) h
+    (none_unlabelled (object_label b.policy.objects) b.spec.entries (map (λ (o : List ℕ × ℕ). o.1) b.policy.objects)
+    trio.labelled) h

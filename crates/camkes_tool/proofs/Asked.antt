@@ -14,14 +14,17 @@ use Rattle.camkes_tool.specs.Theorem.{IsAnswerWritten, IsListWritten}
 use Rattle.camkes_tool.specs.declared.answer.Answer.{Answer}
 use Rattle.camkes_tool.specs.declared.answer.Answer.TheVariants.{Compiled, Listed, Explained, Told, Generated, Faulted, Refused, Usage, ReadFault, NoMemory}
 
-module _ (told : Contents → Type 0) (some : (c : Contents) × told c) (before now : List ℕ → ℕ) (status : ℕ) (old new : Sink) (m n : ℕ) where
+module _ (told : Contents → Type 0) (some : (c : Contents) × told c) (before now : List ℕ → ℕ) (status : ℕ) (old new : Sink)
+    (m n : ℕ) where
   module _ (root : List ℕ) (zero : status ≡ 0) where
-    list_written : (answer : Answer) → InAll told (λ c. FitsListed (IsListed root c before now) answer) → Tells answer status old new m n → IsListWritten told root old new
+    list_written : (answer : Answer) → InAll told (λ c. FitsListed (IsListed root c before now) answer)
+        → Tells answer status old new m n → IsListWritten told root old new
     list_written (Listed listing) fits tells = elim tells.told [
       | inl t ↦ record { text = listing_text listing; whole = t.1; assigned = λ c is. lists_assigned root c listing (fits c is) }
       | inr t ↦ absurd (zero_not_five status zero t.0)
     ]
-    list_written (Faulted file fault) fits tells = let e = whole_status (Faulted file fault) status old new m n tells zero in absurd cc
+    list_written (Faulted file fault) fits tells = let e = whole_status (Faulted file fault) status old new m n tells zero in
+        absurd cc
     list_written (ReadFault file) fits tells = let e = whole_status (ReadFault file) status old new m n tells zero in absurd cc
     list_written NoMemory fits tells = let e = whole_status NoMemory status old new m n tells zero in absurd cc
     list_written (Compiled names b) fits tells = absurd (fits some.0 some.1)
@@ -31,9 +34,11 @@ module _ (told : Contents → Type 0) (some : (c : Contents) × told c) (before 
     list_written (Refused file fault) fits tells = absurd (fits some.0 some.1)
     list_written Usage fits tells = absurd (fits some.0 some.1)
 
-    pub listed_written : (asked : Option Command) (answer : Answer) → asked ≡ Some (ListOf root) → InAll told (λ c. FitsAsked asked c before now answer) → Tells answer status old new m n
+    pub listed_written : (asked : Option Command) (answer : Answer) → asked ≡ Some (ListOf root)
+        → InAll told (λ c. FitsAsked asked c before now answer) → Tells answer status old new m n
         → IsListWritten told root old new
-    listed_written asked answer is fits tells = list_written answer (λ c t. subst (λ z. FitsAsked z c before now answer) is (fits c t)) tells
+    listed_written asked answer is fits tells =
+        list_written answer (λ c t. subst (λ z. FitsAsked z c before now answer) is (fits c t)) tells
 
   module _ (root from authority to : List ℕ) (ends : (status ≡ 0) ⊎ (status ≡ 3)) where
     not_five : status ≡ 5 → ⊥
@@ -46,9 +51,16 @@ module _ (told : Contents → Type 0) (some : (c : Contents) × told c) (before 
       | inr t ↦ not_five t.0
     ]
 
-    answer_written : (answer : Answer) → InAll told (λ c. FitsExplained (IsExplained from authority to root c before now) answer) → Tells answer status old new m n → IsAnswerWritten told root from authority to status old new
+    answer_written : (answer : Answer) → InAll told (λ c. FitsExplained (IsExplained from authority to root c before now) answer)
+        → Tells answer status old new m n → IsAnswerWritten told root from authority to status old new
     answer_written (Explained answer) fits tells = elim tells.told [
-      | inl t ↦ record { answer = answer; status_is = t.0; whole = t.1; assigned = λ c is. answers_whether from authority to root c answer (fits c is) }
+      | inl t ↦ record {
+        answer = answer;
+        status_is = t.0;
+        whole = t.1;
+        assigned = λ c is. answers_whether from authority to root
+            c answer (fits c is);
+      }
       | inr t ↦ absurd (not_five t.0)
     ]
     answer_written (Faulted file fault) fits tells = absurd (no_other (Faulted file fault) 1 refl (λ e. cc) (λ e. cc) tells)
@@ -61,6 +73,8 @@ module _ (told : Contents → Type 0) (some : (c : Contents) × told c) (before 
     answer_written (Refused file fault) fits tells = absurd (fits some.0 some.1)
     answer_written Usage fits tells = absurd (fits some.0 some.1)
 
-    pub explained_written : (asked : Option Command) (answer : Answer) → asked ≡ Some (Explain root from authority to) → InAll told (λ c. FitsAsked asked c before now answer) → Tells answer status old new m n
+    pub explained_written : (asked : Option Command) (answer : Answer) → asked ≡ Some (Explain root from authority to)
+        → InAll told (λ c. FitsAsked asked c before now answer) → Tells answer status old new m n
         → IsAnswerWritten told root from authority to status old new
-    explained_written asked answer is fits tells = answer_written answer (λ c t. subst (λ z. FitsAsked z c before now answer) is (fits c t)) tells
+    explained_written asked answer is fits tells =
+        answer_written answer (λ c t. subst (λ z. FitsAsked z c before now answer) is (fits c t)) tells

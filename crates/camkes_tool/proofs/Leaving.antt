@@ -41,12 +41,17 @@ Spares k (Write c bytes ∷ acts) = (k ≢ c) × Spares k acts
 
 pub after_spared : (k : ℕ) (acts : List Act) (s : Sink) → Spares k acts → IsAsBefore k s (after s acts)
 after_spared k [] s h = same_channel k s
-after_spared k (Begin c name ∷ acts) s h = then_same k s (with_begun s c name) _ (begun_elsewhere k c s name h.0) (after_spared k acts (with_begun s c name) h.1)
-after_spared k (Write c bytes ∷ acts) s h = then_same k s (appended s c bytes) _ (appended_elsewhere k c s bytes h.0) (after_spared k acts (appended s c bytes) h.1)
+after_spared k (Begin c name ∷ acts) s h = then_same k s (with_begun s c name) _ (begun_elsewhere k c s name h.0)
+    (after_spared k acts (with_begun s c name) h.1)
+after_spared k (Write c bytes ∷ acts) s h = then_same k s (appended s c bytes) _ (appended_elsewhere k c s bytes h.0)
+    (after_spared k acts (appended s c bytes) h.1)
 
 pub cut_spared : (k : ℕ) (acts : List Act) (s t : Sink) → Spares k acts → CutShort s acts t → IsAsBefore k s t
 cut_spared k [] s t h c = absurd c
 cut_spared k (Begin c name ∷ acts) s t h (inl e) = subst (λ z. IsAsBefore k s z) (sym e) (same_channel k s)
-cut_spared k (Begin c name ∷ acts) s t h (inr x) = then_same k s (with_begun s c name) t (begun_elsewhere k c s name h.0) (cut_spared k acts (with_begun s c name) t h.1 x)
-cut_spared k (Write c bytes ∷ acts) s t h (inl e) = subst (λ z. IsAsBefore k s z) (sym e.front) (appended_elsewhere k c s (take e.count bytes) h.0)
-cut_spared k (Write c bytes ∷ acts) s t h (inr x) = then_same k s (appended s c bytes) t (appended_elsewhere k c s bytes h.0) (cut_spared k acts (appended s c bytes) t h.1 x)
+cut_spared k (Begin c name ∷ acts) s t h (inr x) = then_same k s (with_begun s c name) t (begun_elsewhere k c s name h.0)
+    (cut_spared k acts (with_begun s c name) t h.1 x)
+cut_spared k (Write c bytes ∷ acts) s t h (inl e) = subst (λ z. IsAsBefore k s z) (sym e.front)
+    (appended_elsewhere k c s (take e.count bytes) h.0)
+cut_spared k (Write c bytes ∷ acts) s t h (inr x) = then_same k s (appended s c bytes) t (appended_elsewhere k c s bytes h.0)
+    (cut_spared k acts (appended s c bytes) t h.1 x)

@@ -32,9 +32,11 @@ use Rattle.policy_text.specs.PolicyTexts.{IsPolicyText}
 use Rattle.text_commands.specs.Inputs.{Holds}
 use Rattle.camkes_tool.specs.Theorem.{HoldBuild, IsListText}
 
-module _ (m : Contents) (cdl policy root : List ℕ) (sources : Contents) (b : Build) (holds : HoldBuild m cdl policy root sources b)
+module _ (m : Contents) (cdl policy root : List ℕ) (sources : Contents) (b : Build)
+    (holds : HoldBuild m cdl policy root sources b)
     (spec : Spec) (allowed : Policy) (labels : Labels) (capdl : (bytes : List ℕ) × Holds m cdl bytes × Text bytes spec)
-    (text : (bytes : List ℕ) × Holds m policy bytes × IsPolicyText bytes allowed) (labelled : IsLabelling spec allowed (Ok labels)) where
+    (text : (bytes : List ℕ) × Holds m policy bytes × IsPolicyText bytes allowed)
+    (labelled : IsLabelling spec allowed (Ok labels)) where
   read : IsReadAs b spec allowed labels
   read = record {
     capdl = subst (λ z. Text z spec) (same_Some capdl.0 (canonical b.spec) (sym capdl.1 ∙ holds.capdl)) capdl.2;
@@ -49,15 +51,19 @@ module _ (m : Contents) (cdl policy root : List ℕ) (sources : Contents) (b : B
 
   -- ---- audits
 
-  report_edges : (edges : List Edge) (steps : List Step) → IsSorted edges → IsReport spec labels.by_object edges steps → edges ≡ b.policy.edges
+  report_edges : (edges : List Edge) (steps : List Step) → IsSorted edges → IsReport spec labels.by_object edges steps
+      → edges ≡ b.policy.edges
   report_edges edges steps sorted report =
-      let mine : IsReport b.spec (object_labels b).by_object edges steps = of_own (λ spec labels. IsReport spec labels edges steps) report in
+      let mine : IsReport b.spec (object_labels b).by_object edges steps =
+      of_own (λ spec labels. IsReport spec labels edges steps) report in
       let own = policy_reached root sources b holds.made in
       one_table edges b.policy.edges sorted holds.made.made.sorted (λ e.
-      one_truth (has edges e) (has b.policy.edges e) (λ h. (own e.from e.authority e.to).1 ((mine.reached e.from e.authority e.to).0 h))
+      one_truth (has edges e) (has b.policy.edges e)
+      (λ h. (own e.from e.authority e.to).1 ((mine.reached e.from e.authority e.to).0 h))
       (λ h. (mine.reached e.from e.authority e.to).1 ((own e.from e.authority e.to).0 h)))
 
-  pub report_listed : (edges : List Edge) (steps : List Step) (names : Names) → names ≡ allowed.labels → IsSorted edges → IsReport spec labels.by_object edges steps
+  pub report_listed : (edges : List Edge) (steps : List Step) (names : Names) → names ≡ allowed.labels → IsSorted edges
+      → IsReport spec labels.by_object edges steps
       → IsListText root sources (apart_lines names edges)
   report_listed edges steps names named sorted report =
       let made = holds.made.made in
@@ -69,7 +75,8 @@ module _ (m : Contents) (cdl policy root : List ℕ) (sources : Contents) (b : B
           none = none_listed root sources b holds.made;
           listed = record { names = made.labels; edges = made.edges; sorted = made.sorted };
         },
-        ap (λ z. apart_lines z edges) (named ∙ ap (λ (p : Policy). p.labels) own) ∙ ap (λ z. apart_lines b.policy.labels z) (report_edges edges steps sorted report),
+        ap (λ z. apart_lines z edges) (named ∙ ap (λ (p : Policy). p.labels) own) ∙ ap (λ z. apart_lines b.policy.labels z)
+            (report_edges edges steps sorted report),
       )
 
   -- ---- certificates
@@ -80,5 +87,7 @@ module _ (m : Contents) (cdl policy root : List ℕ) (sources : Contents) (b : B
       let sound = build_sound root sources b holds.made in
       one_table edges b.cert sorted holds.made.made.cert_sorted (λ e.
       one_truth (has edges e) (has b.cert e)
-      (λ h. mine.only e.from e.authority e.to h b.cert (valid_keeps b.spec (object_labels b).by_object b.policy.edges b.cert sound.valid))
-      (λ h. sound.least b.policy.edges edges (least_valid b.spec (object_labels b).by_object edges mine b.policy.edges b.cert sound.valid) e.from e.authority e.to h))
+      (λ h. mine.only e.from e.authority e.to h b.cert (valid_keeps b.spec (object_labels b).by_object b.policy.edges b.cert
+      sound.valid))
+      (λ h. sound.least b.policy.edges edges (least_valid b.spec (object_labels b).by_object edges mine b.policy.edges b.cert
+      sound.valid) e.from e.authority e.to h))

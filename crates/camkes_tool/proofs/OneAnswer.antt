@@ -47,22 +47,40 @@ equal_answers a b e = subst (λ z. AreOne a z) e (same_answer a)
 module _ (m : Contents) (root base : List ℕ) (old new later last : List ℕ → ℕ) where
   names_same : (a b : TextNames) (c : Build) → AreNamedBy base a → AreNamedBy base b → texts_script a c ≡ texts_script b c
   names_same a b c x y =
-      ap (λ n. Begin 2 n ∷ Write 2 (canonical c.spec) ∷ Begin 3 (string_bytes a.policy) ∷ Write 3 (policy_text c.policy) ∷ Begin 4 (string_bytes a.certificate) ∷ Write 4 (cert_text c.cert) ∷ Begin 5 (string_bytes a.map) ∷ Write 5 (build_map c) ∷ Write 0 (build_summary c) ∷ []) (x.capdl ∙ sym y.capdl)
-      ∙ ap (λ n. Begin 2 (string_bytes b.capdl) ∷ Write 2 (canonical c.spec) ∷ Begin 3 n ∷ Write 3 (policy_text c.policy) ∷ Begin 4 (string_bytes a.certificate) ∷ Write 4 (cert_text c.cert) ∷ Begin 5 (string_bytes a.map) ∷ Write 5 (build_map c) ∷ Write 0 (build_summary c) ∷ []) (x.policy ∙ sym y.policy)
-      ∙ ap (λ n. Begin 2 (string_bytes b.capdl) ∷ Write 2 (canonical c.spec) ∷ Begin 3 (string_bytes b.policy) ∷ Write 3 (policy_text c.policy) ∷ Begin 4 n ∷ Write 4 (cert_text c.cert) ∷ Begin 5 (string_bytes a.map) ∷ Write 5 (build_map c) ∷ Write 0 (build_summary c) ∷ []) (x.certificate ∙ sym y.certificate)
-      ∙ ap (λ n. Begin 2 (string_bytes b.capdl) ∷ Write 2 (canonical c.spec) ∷ Begin 3 (string_bytes b.policy) ∷ Write 3 (policy_text c.policy) ∷ Begin 4 (string_bytes b.certificate) ∷ Write 4 (cert_text c.cert) ∷ Begin 5 n ∷ Write 5 (build_map c) ∷ Write 0 (build_summary c) ∷ []) (x.map ∙ sym y.map)
+      ap (λ n. Begin 2 n ∷ Write 2 (canonical c.spec) ∷ Begin 3 (string_bytes a.policy) ∷ Write 3 (policy_text c.policy)
+      ∷ Begin 4 (string_bytes a.certificate) ∷ Write 4 (cert_text c.cert) ∷ Begin 5 (string_bytes a.map)
+      ∷ Write 5 (build_map c) ∷ Write 0 (build_summary c) ∷ []) (x.capdl ∙ sym y.capdl)
+      ∙ ap (λ n. Begin 2 (string_bytes b.capdl) ∷ Write 2 (canonical c.spec) ∷ Begin 3 n ∷ Write 3 (policy_text c.policy)
+      ∷ Begin 4 (string_bytes a.certificate) ∷ Write 4 (cert_text c.cert) ∷ Begin 5 (string_bytes a.map)
+      ∷ Write 5 (build_map c) ∷ Write 0 (build_summary c) ∷ []) (x.policy ∙ sym y.policy)
+      ∙ ap (λ n. Begin 2 (string_bytes b.capdl) ∷ Write 2 (canonical c.spec) ∷ Begin 3 (string_bytes b.policy)
+      ∷ Write 3 (policy_text c.policy) ∷ Begin 4 n ∷ Write 4 (cert_text c.cert) ∷ Begin 5 (string_bytes a.map)
+      ∷ Write 5 (build_map c) ∷ Write 0 (build_summary c) ∷ []) (x.certificate ∙ sym y.certificate)
+      ∙ ap (λ n. Begin 2 (string_bytes b.capdl) ∷ Write 2 (canonical c.spec) ∷ Begin 3 (string_bytes b.policy)
+      ∷ Write 3 (policy_text c.policy) ∷ Begin 4 (string_bytes b.certificate) ∷ Write 4 (cert_text c.cert) ∷ Begin 5 n
+      ∷ Write 5 (build_map c) ∷ Write 0 (build_summary c) ∷ []) (x.map ∙ sym y.map)
 
-  compiled_same : (a b : TextNames) (c d : Build) → FitsCompiled root base m old new (Compiled a c) → FitsCompiled root base m later last (Compiled b d) → AreOne (Compiled a c) (Compiled b d)
+  compiled_same : (a b : TextNames) (c d : Build) → FitsCompiled root base m old new (Compiled a c)
+      → FitsCompiled root base m later last (Compiled b d) → AreOne (Compiled a c) (Compiled b d)
   compiled_same a b c d x y =
       let same : c ≡ d = builds_same m root c d x.1 y.1 in
-      record { status = refl; script = λ is. names_same a b c x.0 y.0 ∙ ap (texts_script b) same; compiled = ap (λ z. Some z) same; faulted = refl; refused = refl; found = refl }
+      record {
+        status = refl;
+        script = λ is. names_same a b c x.0 y.0 ∙ ap (texts_script b) same;
+        compiled = ap (λ z. Some z) same;
+        faulted = refl;
+        refused = refl;
+        found = refl;
+      }
 
-  faulted_same : (a b : List ℕ) (f g : Fault) → FitsCompiled root base m old new (Faulted a f) → FitsCompiled root base m later last (Faulted b g) → AreOne (Faulted a f) (Faulted b g)
+  faulted_same : (a b : List ℕ) (f g : Fault) → FitsCompiled root base m old new (Faulted a f)
+      → FitsCompiled root base m later last (Faulted b g) → AreOne (Faulted a f) (Faulted b g)
   faulted_same a b f g x y =
       let same = one_first m root f g a b x y in
       equal_answers (Faulted a f) (Faulted b g) (ap (λ z. Faulted a z) same.0 ∙ ap (λ z. Faulted z g) same.1)
 
-  one_of_root : (a b : Answer) → yields a ≡ false → yields b ≡ false → FitsCompiled root base m old new a → FitsCompiled root base m later last b → AreOne a b
+  one_of_root : (a b : Answer) → yields a ≡ false → yields b ≡ false → FitsCompiled root base m old new a
+      → FitsCompiled root base m later last b → AreOne a b
   one_of_root (Compiled a s) (Compiled b t) p q x y = compiled_same a b s t x y
   one_of_root (Compiled a s) (Faulted b g) p q x y = absurd (build_first m root s g b x.1 y)
   one_of_root (Faulted a f) (Compiled b t) p q x y = absurd (build_first m root t f a y.1 x)
@@ -92,7 +110,8 @@ module _ (m : Contents) (root base : List ℕ) (old new later last : List ℕ �
   one_of_root (Faulted a f) (ReadFault b) p q x y = absurd cc
   one_of_root (Faulted a f) NoMemory p q x y = absurd cc
 
-one_usage : (m : Contents) (old new later last : List ℕ → ℕ) (a b : Answer) → yields a ≡ false → yields b ≡ false → FitsAsked None m old new a → FitsAsked None m later last b → AreOne a b
+one_usage : (m : Contents) (old new later last : List ℕ → ℕ) (a b : Answer) → yields a ≡ false → yields b ≡ false
+    → FitsAsked None m old new a → FitsAsked None m later last b → AreOne a b
 one_usage m old new later last Usage Usage p q x y = same_answer Usage
 one_usage m old new later last Usage (Compiled b t) p q x y = absurd y
 one_usage m old new later last Usage (Listed o) p q x y = absurd y
@@ -158,7 +177,8 @@ told_same o p e = record {
   found = ap (λ z. Some z) e;
 }
 
-one_of_texts : (Here There : Result Outcome InputError → Type 0) → AreOneButChoice Here There → (a b : Answer) → yields a ≡ false → yields b ≡ false → FitsTexts Here a → FitsTexts There b → AreOne a b
+one_of_texts : (Here There : Result Outcome InputError → Type 0) → AreOneButChoice Here There → (a b : Answer) → yields a ≡ false
+    → yields b ≡ false → FitsTexts Here a → FitsTexts There b → AreOne a b
 one_of_texts Here There one (Told o) (Told r) p q x y =
     let h = one (Ok o) (Ok r) tt tt x y in
     let same : but_choice o ≡ but_choice r = cc in
@@ -202,15 +222,19 @@ but_choice_one Here There one a b s t x y = ap answer_but_choice (one a b s t x 
 
 -- the answer that a command over a source finds, or a fault
 abbrev pub AreOneOf : {A : Type 0} → (Result A BuildError → Type 0) → (Result A BuildError → Type 0) → Type 0
-AreOneOf {A} Here There = (a b : Result A BuildError) → refusals.yields a ≡ false → refusals.yields b ≡ false → Here a → There b → a ≡ b
+AreOneOf {A} Here There = (a b : Result A BuildError) → refusals.yields a ≡ false → refusals.yields b ≡ false → Here a
+    → There b → a ≡ b
 
-one_of_listed : (Here There : Result Listing BuildError → Type 0) → AreOneOf Here There → (a b : Answer) → yields a ≡ false → yields b ≡ false → FitsListed Here a → FitsListed There b → AreOne a b
+one_of_listed : (Here There : Result Listing BuildError → Type 0) → AreOneOf Here There → (a b : Answer) → yields a ≡ false
+    → yields b ≡ false → FitsListed Here a → FitsListed There b → AreOne a b
 one_of_listed Here There one (Listed o) (Listed r) p q x y =
     let h = one (Ok o) (Ok r) refl refl x y in
     let same : Listed o ≡ Listed r = cc in
     equal_answers (Listed o) (Listed r) same
-one_of_listed Here There one (Listed o) (Faulted b g) p q x y = let h = one (Ok o) (Err (build.Fault g b)) refl refl x y in absurd cc
-one_of_listed Here There one (Faulted a f) (Listed r) p q x y = let h = one (Err (build.Fault f a)) (Ok r) refl refl x y in absurd cc
+one_of_listed Here There one (Listed o) (Faulted b g) p q x y = let h = one (Ok o) (Err (build.Fault g b)) refl refl x y in
+    absurd cc
+one_of_listed Here There one (Faulted a f) (Listed r) p q x y = let h = one (Err (build.Fault f a)) (Ok r) refl refl x y in
+    absurd cc
 one_of_listed Here There one (Faulted a f) (Faulted b g) p q x y =
     let h = one (Err (build.Fault f a)) (Err (build.Fault g b)) refl refl x y in
     let same : Faulted a f ≡ Faulted b g = cc in
@@ -240,13 +264,16 @@ one_of_listed Here There one (Faulted a a') Usage p q x y = absurd y
 one_of_listed Here There one (Faulted a a') (ReadFault b) p q x y = absurd cc
 one_of_listed Here There one (Faulted a a') NoMemory p q x y = absurd cc
 
-one_of_explained : (Here There : Result Reply BuildError → Type 0) → AreOneOf Here There → (a b : Answer) → yields a ≡ false → yields b ≡ false → FitsExplained Here a → FitsExplained There b → AreOne a b
+one_of_explained : (Here There : Result Reply BuildError → Type 0) → AreOneOf Here There → (a b : Answer) → yields a ≡ false
+    → yields b ≡ false → FitsExplained Here a → FitsExplained There b → AreOne a b
 one_of_explained Here There one (Explained o) (Explained r) p q x y =
     let h = one (Ok o) (Ok r) refl refl x y in
     let same : Explained o ≡ Explained r = cc in
     equal_answers (Explained o) (Explained r) same
-one_of_explained Here There one (Explained o) (Faulted b g) p q x y = let h = one (Ok o) (Err (build.Fault g b)) refl refl x y in absurd cc
-one_of_explained Here There one (Faulted a f) (Explained r) p q x y = let h = one (Err (build.Fault f a)) (Ok r) refl refl x y in absurd cc
+one_of_explained Here There one (Explained o) (Faulted b g) p q x y = let h = one (Ok o) (Err (build.Fault g b)) refl refl x y in
+    absurd cc
+one_of_explained Here There one (Faulted a f) (Explained r) p q x y = let h = one (Err (build.Fault f a)) (Ok r) refl refl x y in
+    absurd cc
 one_of_explained Here There one (Faulted a f) (Faulted b g) p q x y =
     let h = one (Err (build.Fault f a)) (Err (build.Fault g b)) refl refl x y in
     let same : Faulted a f ≡ Faulted b g = cc in
@@ -276,13 +303,16 @@ one_of_explained Here There one (Faulted a a') Usage p q x y = absurd y
 one_of_explained Here There one (Faulted a a') (ReadFault b) p q x y = absurd cc
 one_of_explained Here There one (Faulted a a') NoMemory p q x y = absurd cc
 
-one_of_generated : (Here There : Result Summary BuildError → Type 0) → AreOneOf Here There → (a b : Answer) → yields a ≡ false → yields b ≡ false → FitsGenerated Here a → FitsGenerated There b → AreOne a b
+one_of_generated : (Here There : Result Summary BuildError → Type 0) → AreOneOf Here There → (a b : Answer) → yields a ≡ false
+    → yields b ≡ false → FitsGenerated Here a → FitsGenerated There b → AreOne a b
 one_of_generated Here There one (Generated o) (Generated r) p q x y =
     let h = one (Ok o) (Ok r) refl refl x y in
     let same : Generated o ≡ Generated r = cc in
     equal_answers (Generated o) (Generated r) same
-one_of_generated Here There one (Generated o) (Faulted b g) p q x y = let h = one (Ok o) (Err (build.Fault g b)) refl refl x y in absurd cc
-one_of_generated Here There one (Faulted a f) (Generated r) p q x y = let h = one (Err (build.Fault f a)) (Ok r) refl refl x y in absurd cc
+one_of_generated Here There one (Generated o) (Faulted b g) p q x y = let h = one (Ok o) (Err (build.Fault g b)) refl refl x y in
+    absurd cc
+one_of_generated Here There one (Faulted a f) (Generated r) p q x y = let h = one (Err (build.Fault f a)) (Ok r) refl refl x y in
+    absurd cc
 one_of_generated Here There one (Faulted a f) (Faulted b g) p q x y =
     let h = one (Err (build.Fault f a)) (Err (build.Fault g b)) refl refl x y in
     let same : Faulted a f ≡ Faulted b g = cc in
@@ -314,29 +344,38 @@ one_of_generated Here There one (Faulted a a') NoMemory p q x y = absurd cc
 
 -- ---- every command
 
-one_asked : (m : Contents) (asked : Option Command) (old new later last : List ℕ → ℕ) (a b : Answer) → yields a ≡ false → yields b ≡ false → FitsAsked asked m old new a → FitsAsked asked m later last b → AreOne a b
+one_asked : (m : Contents) (asked : Option Command) (old new later last : List ℕ → ℕ) (a b : Answer) → yields a ≡ false
+    → yields b ≡ false → FitsAsked asked m old new a → FitsAsked asked m later last b → AreOne a b
 one_asked m None old new later last a b p q x y = one_usage m old new later last a b p q x y
 one_asked m (Some (Compile root base)) old new later last a b p q x y = one_of_root m root base old new later last a b p q x y
 one_asked m (Some (Check cdl policy cert)) old new later last a b p q x y =
-    one_of_texts _ _ (but_choice_one (IsChecked m old new cdl policy cert) (IsChecked m later last cdl policy cert) (checked_one m old new later last cdl policy cert)) a b p q x y
+    one_of_texts _ _ (but_choice_one (IsChecked m old new cdl policy cert) (IsChecked m later last cdl policy cert)
+    (checked_one m old new later last cdl policy cert)) a b p q x y
 one_asked m (Some (ListOf root)) old new later last a b p q x y =
     one_of_listed (IsListed root m old new) (IsListed root m later last) (one_listing m root old new later last) a b p q x y
 one_asked m (Some (Explain root from authority to)) old new later last a b p q x y =
-    one_of_explained (IsExplained from authority to root m old new) (IsExplained from authority to root m later last) (one_explained m root from authority to old new later last) a b p q x y
+    one_of_explained (IsExplained from authority to root m old new) (IsExplained from authority to root m later last)
+    (one_explained m root from authority to old new later last) a b p q x y
 one_asked m (Some (Replay cdl policy steps)) old new later last a b p q x y =
-    one_of_texts _ _ (but_choice_one (IsRun m old new cdl policy steps) (IsRun m later last cdl policy steps) (ran_one m old new later last cdl policy steps)) a b p q x y
+    one_of_texts _ _ (but_choice_one (IsRun m old new cdl policy steps) (IsRun m later last cdl policy steps)
+    (ran_one m old new later last cdl policy steps)) a b p q x y
 one_asked m (Some (Generate count)) old new later last a b p q x y =
     one_of_generated (IsGenerated count) (IsGenerated count) (one_generated count) a b p q x y
 one_asked m (Some (Sections elf)) old new later last a b p q x y =
-    one_of_texts _ _ (but_choice_one (IsTabled m old new elf) (IsTabled m later last elf) (tabled_one m old new later last elf)) a b p q x y
+    one_of_texts _ _ (but_choice_one (IsTabled m old new elf) (IsTabled m later last elf) (tabled_one m old new later last elf)) a
+    b p q x y
 one_asked m (Some (Audit cdl policy)) old new later last a b p q x y =
-    one_of_texts (IsAudited m old new cdl policy) (IsAudited m later last cdl policy) (audited_one m old new later last cdl policy) a b p q x y
+    one_of_texts (IsAudited m old new cdl policy) (IsAudited m later last cdl policy)
+    (audited_one m old new later last cdl policy) a b p q x y
 one_asked m (Some (Certify cdl policy)) old new later last a b p q x y =
-    one_of_texts _ _ (but_choice_one (IsCertified m old new cdl policy) (IsCertified m later last cdl policy) (certified_one m old new later last cdl policy)) a b p q x y
+    one_of_texts _ _ (but_choice_one (IsCertified m old new cdl policy) (IsCertified m later last cdl policy)
+    (certified_one m old new later last cdl policy)) a b p q x y
 one_asked m (Some (Plan cdl untypeds)) old new later last a b p q x y =
-    one_of_texts (IsPlanned m old new cdl untypeds) (IsPlanned m later last cdl untypeds) (planned_one m old new later last cdl untypeds) a b p q x y
+    one_of_texts (IsPlanned m old new cdl untypeds) (IsPlanned m later last cdl untypeds)
+    (planned_one m old new later last cdl untypeds) a b p q x y
 
-pub one_answer : (m : Contents) (words : List (List ℕ)) (old new later last : List ℕ → ℕ) (a b : Answer) → yields a ≡ false → yields b ≡ false → Fits words m old new a → Fits words m later last b → AreOne a b
+pub one_answer : (m : Contents) (words : List (List ℕ)) (old new later last : List ℕ → ℕ) (a b : Answer) → yields a ≡ false
+    → yields b ≡ false → Fits words m old new a → Fits words m later last b → AreOne a b
 one_answer m words old new later last a b p q x y = one_asked m (read_words words) old new later last a b p q x y
 
 -- ---- calls
@@ -359,14 +398,17 @@ stays Usage l = refl
 stays (ReadFault a) l = absurd (omega arith)
 stays NoMemory l = absurd (omega arith)
 
-whole : (a : Answer) (status : ℕ) (old new : Sink) (before now : ℕ) → Tells a status old new before now → status ≤ 3 → IsWhole a status old new
+whole : (a : Answer) (status : ℕ) (old new : Sink) (before now : ℕ) → Tells a status old new before now → status ≤ 3
+    → IsWhole a status old new
 whole a status old new before now tells l = elim tells.told [
   | inl t ↦ let same = t.0 in record { stays = stays a (omega arith); status = same; done = t.1 }
   | inr t ↦ let five = t.0 in absurd (omega arith)
 ]
 
-pub one_call : (m : Contents) (words : List (List ℕ)) (old new later last : List ℕ → ℕ) (a b : Answer) (first second : ℕ) (sink left right : Sink) (before now before' now' : ℕ)
-    → Fits words m old new a → Tells a first sink left before now → first ≤ 3 → Fits words m later last b → Tells b second sink right before' now' → second ≤ 3
+pub one_call : (m : Contents) (words : List (List ℕ)) (old new later last : List ℕ → ℕ) (a b : Answer) (first second : ℕ)
+    (sink left right : Sink) (before now before' now' : ℕ)
+    → Fits words m old new a → Tells a first sink left before now → first ≤ 3 → Fits words m later last b
+    → Tells b second sink right before' now' → second ≤ 3
     → (first ≡ second) × (is_chosen a ≡ false → left ≡ right)
 one_call m words old new later last a b first second sink left right before now before' now' x t l y u k =
     let one = whole a first sink left before now t l in

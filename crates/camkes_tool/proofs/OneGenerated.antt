@@ -14,13 +14,16 @@ use Rattle.camkes_tool.specs.GeneratedFiles.{generated, root_name}
 module _ (count : ℕ) where
   summaries_same : (f g : Summary) → IsGenerated count (Ok f) → IsGenerated count (Ok g) → f ≡ g
   summaries_same f g (b, is, accepted) (c, be, accepts) =
-      accepted.summed ∙ ap (λ (z : Build). summary_of z.meaning.flat z.spec z.policy.edges) (builds_same (generated count) root_name b c is be) ∙ sym accepts.summed
+      accepted.summed ∙ ap (λ (z : Build). summary_of z.meaning.flat z.spec z.policy.edges)
+      (builds_same (generated count) root_name b c is be) ∙ sym accepts.summed
 
-  pub one_generated : (a b : Result Summary BuildError) → yields a ≡ false → yields b ≡ false → IsGenerated count a → IsGenerated count b → a ≡ b
+  pub one_generated : (a b : Result Summary BuildError) → yields a ≡ false → yields b ≡ false → IsGenerated count a
+      → IsGenerated count b → a ≡ b
   one_generated (Ok f) (Ok g) p q x y = ap Ok (summaries_same f g x y)
   one_generated (Ok f) (Err (error.Fault g b)) p q x y = absurd (build_first (generated count) root_name x.0 g b x.1 y)
   one_generated (Err (error.Fault f a)) (Ok g) p q x y = absurd (build_first (generated count) root_name y.0 f a y.1 x)
-  one_generated (Err (error.Fault f a)) (Err (error.Fault g b)) p q x y = faults_same f g a b (one_first (generated count) root_name f g a b x y)
+  one_generated (Err (error.Fault f a)) (Err (error.Fault g b)) p q x y =
+      faults_same f g a b (one_first (generated count) root_name f g a b x y)
   one_generated (Err (error.ReadFault a)) b p q x y = cc
   one_generated (Err error.NoMemory) b p q x y = cc
   one_generated (Ok f) (Err (error.ReadFault b)) p q x y = cc

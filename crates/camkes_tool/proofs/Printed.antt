@@ -39,20 +39,26 @@ HasText m cdl spec = (bytes : List ℕ) × Holds m cdl bytes × Text bytes spec
 module _ (m : Contents) (before now : List ℕ → ℕ) where
   -- ---- certificates
 
-  is_certified : (cdl policy : List ℕ) (o : Outcome) → IsCertified m before now cdl policy (Ok o) → (edges : List Edge) × (o ≡ found.Certified edges)
-  is_certified cdl policy o (inl (spec, system, inl (allowed, read, inl (labels, labelled, (edges, is, certificate))))) = (edges, is)
+  is_certified : (cdl policy : List ℕ) (o : Outcome) → IsCertified m before now cdl policy (Ok o)
+      → (edges : List Edge) × (o ≡ found.Certified edges)
+  is_certified cdl policy o (inl (spec, system, inl (allowed, read, inl (labels, labelled, (edges, is, certificate))))) =
+      (edges, is)
   is_certified cdl policy o (inl (spec, system, inl (allowed, read, inr (e, told, is)))) = absurd cc
   is_certified cdl policy o (inl (spec, system, inr (e, told, is))) = absurd cc
   is_certified cdl policy o (inr (e, told, is)) = absurd cc
 
-  module _ (cdl policy : List ℕ) (edges : List Edge) (certified : IsCertified m before now cdl policy (Ok (found.Certified edges))) where
-    other_says : (cert : List ℕ) → Holds m cert (cert_text edges) → ((other : List ℕ) × SaysYes m cdl policy other) → SaysYes m cdl policy cert
-    other_says cert held (other, (names, checked)) = (names, certificate_decides m before now (λ file. 0) (λ file. 0) cdl policy edges cert other names certified held checked)
+  module _ (cdl policy : List ℕ) (edges : List Edge) (certified : IsCertified m before now cdl policy
+      (Ok (found.Certified edges))) where
+    other_says : (cert : List ℕ) → Holds m cert (cert_text edges) → ((other : List ℕ) × SaysYes m cdl policy other)
+        → SaysYes m cdl policy cert
+    other_says cert held (other, (names, checked)) =
+        (names, certificate_decides m before now (λ file. 0) (λ file. 0) cdl policy edges cert other names certified held checked)
 
     least_by : IsCertified m before now cdl policy (Ok (found.Certified edges)) → IsLeastOf m cdl policy edges
     least_by (inl (spec, system, inl (allowed, read, inl (labels, labelled, (cert, is, certificate))))) =
         let same : cert ≡ edges = cc in
-        let least : IsCertificate spec labels.by_object edges = subst (λ z. IsCertificate spec labels.by_object z) same certificate in
+        let least : IsCertificate spec labels.by_object edges = subst (λ z. IsCertificate spec labels.by_object z) same
+        certificate in
         let capdl = system_read m before now cdl policy [] spec system in
         let text = policy_read m before now cdl policy [] allowed read in
         record {
@@ -64,7 +70,8 @@ module _ (m : Contents) (before now : List ℕ → ℕ) where
           labelled = labelled;
           least = least.least;
           read_back = text_back capdl.0 text.0 spec allowed labels capdl.2 text.2 labelled edges least;
-          of_build = λ root sources b holds. least_own m cdl policy root sources b holds spec allowed labels capdl text labelled edges least.sorted least.least;
+          of_build = λ root sources b holds. least_own m cdl policy root sources b holds spec allowed labels capdl text labelled
+              edges least.sorted least.least;
           decides = λ cert held. (
             λ yes. (cert, yes),
             λ some. other_says cert held some,
@@ -91,7 +98,8 @@ module _ (m : Contents) (before now : List ℕ → ℕ) where
           bytes = bytes;
           held = input.1;
           image_is = subst (λ z. Elf (codes "image") bytes z) same told;
-          read_back = λ are file name answer read. table_back m before now elf bytes image tabled input.1 are file name answer read;
+          read_back = λ are file name answer read. table_back m before now elf bytes image tabled input.1 are file
+              name answer read;
         }
     table_by (inl (made, inr (e, input, told), is)) = absurd cc
     table_by (inr (e, told, is)) = absurd cc
@@ -103,20 +111,25 @@ module _ (m : Contents) (before now : List ℕ → ℕ) where
 
   is_audited : (cdl policy : List ℕ) (o : Outcome) → IsAudited m before now cdl policy (Ok o)
       → (report : AuditReport) × (spec : Spec) × (names : Names) × (o ≡ found.Audited report spec names)
-  is_audited cdl policy o (inl (spec, system, inl (allowed, read, inl (labels, labelled, (report, is, has))))) = (report, spec, allowed.labels, is)
+  is_audited cdl policy o (inl (spec, system, inl (allowed, read, inl (labels, labelled, (report, is, has))))) =
+      (report, spec, allowed.labels, is)
   is_audited cdl policy o (inl (spec, system, inl (allowed, read, inr (e, told, is)))) = absurd cc
   is_audited cdl policy o (inl (spec, system, inr (e, told, is))) = absurd cc
   is_audited cdl policy o (inr (e, told, is)) = absurd cc
 
-  module _ (cdl policy : List ℕ) (report : AuditReport) (spec : Spec) (names : Names) (audited : IsAudited m before now cdl policy (Ok (found.Audited report spec names))) where
-    report_by : IsAudited m before now cdl policy (Ok (found.Audited report spec names)) → IsReportOf m cdl policy report spec names
+  module _ (cdl policy : List ℕ) (report : AuditReport) (spec : Spec) (names : Names) (audited : IsAudited m before now cdl policy
+      (Ok (found.Audited report spec names))) where
+    report_by : IsAudited m before now cdl policy (Ok (found.Audited report spec names))
+        → IsReportOf m cdl policy report spec names
     report_by (inl (read_as, system, inl (allowed, read, inl (labels, labelled, (shown, is, has))))) =
         let specs : read_as ≡ spec = cc in
         let reports : shown ≡ report = cc in
         let named : names ≡ allowed.labels = cc in
-        let mine : HasReport spec labels.by_object report = subst (λ z. HasReport z labels.by_object report) specs (subst (λ z. HasReport read_as labels.by_object z) reports has) in
+        let mine : HasReport spec labels.by_object report = subst (λ z. HasReport z labels.by_object report) specs
+        (subst (λ z. HasReport read_as labels.by_object z) reports has) in
         let labelled_so : IsLabelling spec allowed (Ok labels) = subst (λ z. IsLabelling z allowed (Ok labels)) specs labelled in
-        let capdl : HasText m cdl spec = subst (λ z. HasText m cdl z) specs (system_read m before now cdl policy [] read_as system) in
+        let capdl : HasText m cdl spec =
+        subst (λ z. HasText m cdl z) specs (system_read m before now cdl policy [] read_as system) in
         let text = policy_read m before now cdl policy [] allowed read in
         record {
           allowed = allowed;
@@ -127,11 +140,14 @@ module _ (m : Contents) (before now : List ℕ → ℕ) where
           named = named;
           reached = mine.shown;
           of_build = λ root sources b holds.
-              report_listed m cdl policy root sources b holds spec allowed labels capdl text labelled_so report.edges report.steps names named mine.sorted mine.shown;
+              report_listed m cdl policy root sources b holds spec allowed labels capdl text labelled_so report.edges report.steps
+              names named mine.sorted mine.shown;
           replayed = λ few first last file answer held is run.
-              let made = audit_replayed m before now first last cdl policy report spec names audited file answer few held is run in
+              let made = audit_replayed m before now first last cdl policy report spec names audited file answer few
+              held is run in
               (made.0, made.1, tt);
-          shown = λ few first last l a x has. audit_shown m before now first last cdl policy report spec names audited few l a x has;
+          shown = λ few first last l a x has. audit_shown m before now first last cdl policy report spec names audited
+              few l a x has;
         }
     report_by (inl (read_as, system, inl (allowed, read, inr (e, told, is)))) = absurd cc
     report_by (inl (read_as, system, inr (e, told, is))) = absurd cc
@@ -140,19 +156,22 @@ module _ (m : Contents) (before now : List ℕ → ℕ) where
     report_of : IsReportOf m cdl policy report spec names
     report_of = report_by audited
 
-module _ (told : Contents → Type 0) (some : (c : Contents) × told c) (before now : List ℕ → ℕ) (status : ℕ) (old new : Sink) (m n : ℕ) (zero : status ≡ 0) where
+module _ (told : Contents → Type 0) (some : (c : Contents) × told c) (before now : List ℕ → ℕ) (status : ℕ) (old new : Sink)
+    (m n : ℕ) (zero : status ≡ 0) where
   -- with status 0 a command over texts tells the whole of what it found
   record IsTold (Asked : Contents → Result Outcome InputError → Type 0) : Type 0 where
     outcome : Outcome
     fits : InAll told (λ c. Asked c (Ok outcome))
     whole : new ≡ appended old 0 (text_of outcome)
 
-  told_whole : (Asked : Contents → Result Outcome InputError → Type 0) (answer : Answer) → InAll told (λ c. FitsTexts (Asked c) answer) → Tells answer status old new m n → IsTold Asked
+  told_whole : (Asked : Contents → Result Outcome InputError → Type 0) (answer : Answer)
+      → InAll told (λ c. FitsTexts (Asked c) answer) → Tells answer status old new m n → IsTold Asked
   told_whole Asked (Told outcome) fits tells = elim tells.told [
     | inl t ↦ record { outcome = outcome; fits = fits; whole = t.1 }
     | inr t ↦ absurd (zero_not_five status zero t.0)
   ]
-  told_whole Asked (Refused file fault) fits tells = let e = whole_status (Refused file fault) status old new m n tells zero in absurd cc
+  told_whole Asked (Refused file fault) fits tells = let e = whole_status (Refused file fault) status old new m n tells zero in
+      absurd cc
   told_whole Asked (ReadFault file) fits tells = let e = whole_status (ReadFault file) status old new m n tells zero in absurd cc
   told_whole Asked NoMemory fits tells = let e = whole_status NoMemory status old new m n tells zero in absurd cc
   told_whole Asked (Compiled names b) fits tells = absurd (fits some.0 some.1)
@@ -162,21 +181,26 @@ module _ (told : Contents → Type 0) (some : (c : Contents) × told c) (before 
   told_whole Asked (Faulted file fault) fits tells = absurd (fits some.0 some.1)
   told_whole Asked Usage fits tells = absurd (fits some.0 some.1)
 
-  asked_as : (asked : Option Command) (command : Command) (answer : Answer) → asked ≡ Some command → InAll told (λ c. FitsAsked asked c before now answer) → InAll told (λ c. FitsAsked (Some command) c before now answer)
+  asked_as : (asked : Option Command) (command : Command) (answer : Answer) → asked ≡ Some command
+      → InAll told (λ c. FitsAsked asked c before now answer) → InAll told (λ c. FitsAsked (Some command) c before now answer)
   asked_as asked command answer is fits = λ c t. subst (λ z. FitsAsked z c before now answer) is (fits c t)
 
-  pub certificate_written : (cdl policy : List ℕ) (asked : Option Command) (answer : Answer) → asked ≡ Some (Certify cdl policy) → InAll told (λ c. FitsAsked asked c before now answer) → Tells answer status old new m n
+  pub certificate_written : (cdl policy : List ℕ) (asked : Option Command) (answer : Answer) → asked ≡ Some (Certify cdl policy)
+      → InAll told (λ c. FitsAsked asked c before now answer) → Tells answer status old new m n
       → IsCertificateWritten told cdl policy old new
   certificate_written cdl policy asked answer is fits tells =
-      let all = told_whole (λ c. IsCertified c before now cdl policy) answer (asked_as asked (Certify cdl policy) answer is fits) tells in
+      let all = told_whole (λ c. IsCertified c before now cdl policy) answer (asked_as asked (Certify cdl policy) answer is
+      fits) tells in
       let one = is_certified some.0 before now cdl policy all.outcome (all.fits some.0 some.1) in
       record {
         edges = one.0;
         whole = subst (λ o. new ≡ appended old 0 (text_of o)) one.1 all.whole;
-        least = λ c t. least_of c before now cdl policy one.0 (subst (λ o. IsCertified c before now cdl policy (Ok o)) one.1 (all.fits c t));
+        least = λ c t. least_of c before now cdl policy one.0 (subst (λ o. IsCertified c before now cdl policy (Ok o)) one.1
+            (all.fits c t));
       }
 
-  pub table_written : (elf : List ℕ) (asked : Option Command) (answer : Answer) → asked ≡ Some (Sections elf) → InAll told (λ c. FitsAsked asked c before now answer) → Tells answer status old new m n
+  pub table_written : (elf : List ℕ) (asked : Option Command) (answer : Answer) → asked ≡ Some (Sections elf)
+      → InAll told (λ c. FitsAsked asked c before now answer) → Tells answer status old new m n
       → IsTableWritten told elf old new
   table_written elf asked answer is fits tells =
       let all = told_whole (λ c. IsTabled c before now elf) answer (asked_as asked (Sections elf) answer is fits) tells in
@@ -187,15 +211,18 @@ module _ (told : Contents → Type 0) (some : (c : Contents) × told c) (before 
         of_file = λ c t. table_of c before now elf one.0 (subst (λ o. IsTabled c before now elf (Ok o)) one.1 (all.fits c t));
       }
 
-  pub report_written : (cdl policy : List ℕ) (asked : Option Command) (answer : Answer) → asked ≡ Some (Audit cdl policy) → InAll told (λ c. FitsAsked asked c before now answer) → Tells answer status old new m n
+  pub report_written : (cdl policy : List ℕ) (asked : Option Command) (answer : Answer) → asked ≡ Some (Audit cdl policy)
+      → InAll told (λ c. FitsAsked asked c before now answer) → Tells answer status old new m n
       → IsReportWritten told cdl policy old new
   report_written cdl policy asked answer is fits tells =
-      let all = told_whole (λ c. IsAudited c before now cdl policy) answer (asked_as asked (Audit cdl policy) answer is fits) tells in
+      let all = told_whole (λ c. IsAudited c before now cdl policy) answer (asked_as asked (Audit cdl policy) answer is
+      fits) tells in
       let one = is_audited some.0 before now cdl policy all.outcome (all.fits some.0 some.1) in
       record {
         report = one.0;
         spec = one.1;
         names = one.2;
         whole = subst (λ o. new ≡ appended old 0 (text_of o)) one.3 all.whole;
-        of_files = λ c t. report_of c before now cdl policy one.0 one.1 one.2 (subst (λ o. IsAudited c before now cdl policy (Ok o)) one.3 (all.fits c t));
+        of_files = λ c t. report_of c before now cdl policy one.0 one.1 one.2
+            (subst (λ o. IsAudited c before now cdl policy (Ok o)) one.3 (all.fits c t));
       }

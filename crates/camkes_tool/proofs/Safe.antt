@@ -20,20 +20,25 @@ use Rattle.camkes_tool.specs.declared.answer.Answer.{Answer}
 use Rattle.camkes_tool.specs.declared.answer.Answer.TheVariants as answers
 use Rattle.camkes_tool.specs.Theorem.{IsSafe}
 
-yes_stays : (spec : Spec) (labels : List ℕ) (policy cert : List Edge) (verdict : Verdict) → is_yes verdict ≡ true → Judged spec labels policy cert verdict → Stays spec labels policy
-yes_stays spec labels policy cert Yes well judged = λ l a m reaches differ. runs_stay spec labels policy cert judged l a m reaches differ
+yes_stays : (spec : Spec) (labels : List ℕ) (policy cert : List Edge) (verdict : Verdict) → is_yes verdict ≡ true
+    → Judged spec labels policy cert verdict → Stays spec labels policy
+yes_stays spec labels policy cert Yes well judged = λ l a m reaches differ. runs_stay spec labels policy cert judged l a m
+    reaches differ
 yes_stays spec labels policy cert (No rule have lack) well judged = absurd cc
 
 module _ (contents : Contents) (old new : List ℕ → ℕ) (cdl policy cert : List ℕ) where
-  pub system_read : (spec : Spec) → IsSystem contents old new cdl (Ok spec) → (bytes : List ℕ) × Holds contents cdl bytes × Text bytes spec
+  pub system_read : (spec : Spec) → IsSystem contents old new cdl (Ok spec) → (bytes : List ℕ) × Holds contents cdl bytes
+      × Text bytes spec
   system_read spec (inl (bytes, input, told)) = (bytes, input.1, told)
   system_read spec (inr (e, input, is)) = absurd cc
 
-  pub policy_read : (allowed : Policy) → IsPolicy contents old new policy (Ok allowed) → (bytes : List ℕ) × Holds contents policy bytes × IsPolicyText bytes allowed
+  pub policy_read : (allowed : Policy) → IsPolicy contents old new policy (Ok allowed)
+      → (bytes : List ℕ) × Holds contents policy bytes × IsPolicyText bytes allowed
   policy_read allowed (inl (bytes, input, told)) = (bytes, input.1, told)
   policy_read allowed (inr (e, input, is)) = absurd cc
 
-  checked_safe : (outcome : Outcome) → is_well outcome ≡ true → IsChecked contents old new cdl policy cert (Ok outcome) → IsSafe contents cdl policy
+  checked_safe : (outcome : Outcome) → is_well outcome ≡ true → IsChecked contents old new cdl policy cert (Ok outcome)
+      → IsSafe contents cdl policy
   checked_safe outcome well (inl (spec, system, inl (allowed, text, inl (edges, read, inl (labels, labelled, said))))) = record {
     spec = spec;
     allowed = allowed;
@@ -52,7 +57,8 @@ module _ (contents : Contents) (old new : List ℕ → ℕ) (cdl policy cert : L
   well_of true e = refl
   well_of false e = absurd cc
 
-  pub answered_safe : (answer : Answer) → FitsTexts (IsChecked contents old new cdl policy cert) answer → 0 ≡ status_of answer → IsSafe contents cdl policy
+  pub answered_safe : (answer : Answer) → FitsTexts (IsChecked contents old new cdl policy cert) answer → 0 ≡ status_of answer
+      → IsSafe contents cdl policy
   answered_safe (answers.Told outcome) fits e = checked_safe outcome (well_of (is_well outcome) e) fits
   answered_safe (answers.Refused file fault) fits e = absurd cc
   answered_safe (answers.ReadFault file) fits e = absurd cc

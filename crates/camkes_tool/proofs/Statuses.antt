@@ -36,7 +36,8 @@ use Rattle.camkes_tool.specs.declared.answer.Answer.TheVariants.{Compiled, Liste
 built_sound : (m : Contents) (root : List ℕ) (b : Build) → IsBuildOf root m b → HasNoFault m root
 built_sound m root b is = (b.meaning.source, is.meant.loaded, is.clean)
 
-of_root : (m : Contents) (root base : List ℕ) (old new : List ℕ → ℕ) (a : Answer) (status : ℕ) → FitsCompiled root base m old new a → NoneRose old new → status ≡ status_of a → IsStatusOf m root status
+of_root : (m : Contents) (root base : List ℕ) (old new : List ℕ → ℕ) (a : Answer) (status : ℕ)
+    → FitsCompiled root base m old new a → NoneRose old new → status ≡ status_of a → IsStatusOf m root status
 of_root m root base old new (Compiled names b) status x none e = inl (e, built_sound m root b x.1)
 of_root m root base old new (Faulted file fault) status x none e = inr (inl (e, (fault, file, x)))
 of_root m root base old new (Listed o) status x none e = absurd x
@@ -48,7 +49,8 @@ of_root m root base old new Usage status x none e = absurd x
 of_root m root base old new (ReadFault file) status x none e = absurd (none file x.1)
 of_root m root base old new NoMemory status x none e = inr (inr e)
 
-of_usage : (m : Contents) (old new : List ℕ → ℕ) (a : Answer) (status : ℕ) → FitsAsked None m old new a → status ≡ status_of a → IsStatus m old new None status
+of_usage : (m : Contents) (old new : List ℕ → ℕ) (a : Answer) (status : ℕ) → FitsAsked None m old new a → status ≡ status_of a
+    → IsStatus m old new None status
 of_usage m old new (Compiled names b) status x e = absurd x
 of_usage m old new (Listed o) status x e = absurd x
 of_usage m old new (Explained o) status x e = absurd x
@@ -60,7 +62,9 @@ of_usage m old new Usage status x e = inl e
 of_usage m old new (ReadFault file) status x e = absurd x
 of_usage m old new NoMemory status x e = inr e
 
-of_texts : (asked : Result Outcome InputError → Type 0) (a : Answer) (status : ℕ) → ((file : List ℕ) → asked (Err (input.ReadFault file)) → ⊥) → FitsTexts asked a → status ≡ status_of a → IsStatusOfTexts asked status
+of_texts : (asked : Result Outcome InputError → Type 0) (a : Answer) (status : ℕ)
+    → ((file : List ℕ) → asked (Err (input.ReadFault file)) → ⊥) → FitsTexts asked a → status ≡ status_of a
+    → IsStatusOfTexts asked status
 of_texts asked (Told outcome) status none x e = inl (outcome, x, e)
 of_texts asked (Refused file fault) status none x e = inr (inl (fault, file, x, e))
 of_texts asked (ReadFault file) status none x e = absurd (none file x)
@@ -72,7 +76,8 @@ of_texts asked (Generated o) status none x e = absurd x
 of_texts asked (Faulted file fault) status none x e = absurd x
 of_texts asked Usage status none x e = absurd x
 
-of_listed : (asked : Result Listing BuildError → Type 0) (a : Answer) (status : ℕ) → ((file : List ℕ) → asked (Err (build.ReadFault file)) → ⊥) → FitsListed asked a → status ≡ status_of a
+of_listed : (asked : Result Listing BuildError → Type 0) (a : Answer) (status : ℕ)
+    → ((file : List ℕ) → asked (Err (build.ReadFault file)) → ⊥) → FitsListed asked a → status ≡ status_of a
     → IsStatusOfSource asked (λ listing. true) status
 of_listed asked (Listed o) status none x e = inl (o, x, e)
 of_listed asked (Faulted file fault) status none x e = inr (inl (fault, file, x, e))
@@ -85,7 +90,8 @@ of_listed asked (Generated o) status none x e = absurd x
 of_listed asked (Refused file fault) status none x e = absurd x
 of_listed asked Usage status none x e = absurd x
 
-of_explained : (asked : Result Reply BuildError → Type 0) (a : Answer) (status : ℕ) → ((file : List ℕ) → asked (Err (build.ReadFault file)) → ⊥) → FitsExplained asked a → status ≡ status_of a
+of_explained : (asked : Result Reply BuildError → Type 0) (a : Answer) (status : ℕ)
+    → ((file : List ℕ) → asked (Err (build.ReadFault file)) → ⊥) → FitsExplained asked a → status ≡ status_of a
     → IsStatusOfSource asked is_assigned status
 of_explained asked (Explained o) status none x e = inl (o, x, e)
 of_explained asked (Faulted file fault) status none x e = inr (inl (fault, file, x, e))
@@ -98,7 +104,8 @@ of_explained asked (Generated o) status none x e = absurd x
 of_explained asked (Refused file fault) status none x e = absurd x
 of_explained asked Usage status none x e = absurd x
 
-of_generated : (count : ℕ) (a : Answer) (status : ℕ) → FitsGenerated (IsGenerated count) a → status ≡ status_of a → IsStatusOfSource (IsGenerated count) (λ summary. true) status
+of_generated : (count : ℕ) (a : Answer) (status : ℕ) → FitsGenerated (IsGenerated count) a → status ≡ status_of a
+    → IsStatusOfSource (IsGenerated count) (λ summary. true) status
 of_generated count (Generated summary) status x e = inl (summary, x, e)
 of_generated count (Faulted file fault) status x e = inr (inl (fault, file, x, e))
 of_generated count (ReadFault file) status x e = absurd x
@@ -110,11 +117,13 @@ of_generated count (Told outcome) status x e = absurd x
 of_generated count (Refused file fault) status x e = absurd x
 of_generated count Usage status x e = absurd x
 
-of_asked : (m : Contents) (asked : Option Command) (old new : List ℕ → ℕ) (a : Answer) (status : ℕ) → FitsAsked asked m old new a → NoneRose old new → status ≡ status_of a → IsStatus m old new asked status
+of_asked : (m : Contents) (asked : Option Command) (old new : List ℕ → ℕ) (a : Answer) (status : ℕ) → FitsAsked asked m old new a
+    → NoneRose old new → status ≡ status_of a → IsStatus m old new asked status
 of_asked m None old new a status x none e = of_usage m old new a status x e
 of_asked m (Some (Compile root base)) old new a status x none e = of_root m root base old new a status x none e
 of_asked m (Some (Check cdl policy cert)) old new a status x none e =
-    of_texts (IsChecked m old new cdl policy cert) a status (λ file h. none file (check_rose m old new cdl policy cert file h)) x e
+    of_texts (IsChecked m old new cdl policy cert) a status (λ file h. none file (check_rose m old new cdl policy cert file h)) x
+    e
 of_asked m (Some (ListOf root)) old new a status x none e =
     of_listed (IsListed root m old new) a status (λ file h. none file h.1) x e
 of_asked m (Some (Explain root from authority to)) old new a status x none e =
@@ -131,8 +140,10 @@ of_asked m (Some (Plan cdl untypeds)) old new a status x none e =
 of_asked m (Some (Sections elf)) old new a status x none e =
     of_texts (IsTabled m old new elf) a status (λ file h. none file (table_rose m old new elf file h)) x e
 
-pub exact_status : (m : Contents) (words : List (List ℕ)) (old new : List ℕ → ℕ) (answer : Answer) (status : ℕ) (sink left : Sink) (before now : ℕ)
-    → Fits words m old new answer → Tells answer status sink left before now → NoneRose old new → ¬ Rose before now → IsStatus m old new (read_words words) status
+pub exact_status : (m : Contents) (words : List (List ℕ)) (old new : List ℕ → ℕ) (answer : Answer) (status : ℕ) (sink left : Sink)
+    (before now : ℕ)
+    → Fits words m old new answer → Tells answer status sink left before now → NoneRose old new → ¬ Rose before now
+    → IsStatus m old new (read_words words) status
 exact_status m words old new answer status sink left before now fits tells none kept = elim tells.told [
   | inl t ↦ of_asked m (read_words words) old new answer status fits none t.0
   | inr t ↦ absurd (kept t.1)
@@ -197,7 +208,8 @@ generated_not_two count (Told outcome) x e = absurd x
 generated_not_two count (Refused file fault) x e = absurd x
 generated_not_two count Usage x e = absurd x
 
-unread : (m : Contents) (asked : Option Command) (old new : List ℕ → ℕ) (a : Answer) → FitsAsked asked m old new a → 2 ≡ status_of a → asked ≡ None
+unread : (m : Contents) (asked : Option Command) (old new : List ℕ → ℕ) (a : Answer) → FitsAsked asked m old new a
+    → 2 ≡ status_of a → asked ≡ None
 unread m None old new a x e = refl
 unread m (Some (Compile root base)) old new (Compiled names b) x e = absurd cc
 unread m (Some (Compile root base)) old new (Faulted file fault) x e = absurd cc
@@ -209,7 +221,8 @@ unread m (Some (Compile root base)) old new (Refused file fault) x e = absurd x
 unread m (Some (Compile root base)) old new Usage x e = absurd x
 unread m (Some (Check cdl policy cert)) old new a x e = absurd (texts_not_two (IsChecked m old new cdl policy cert) a x e)
 unread m (Some (ListOf root)) old new a x e = absurd (listed_not_two (IsListed root m old new) a x e)
-unread m (Some (Explain root from authority to)) old new a x e = absurd (explained_not_two (IsExplained from authority to root m old new) a x e)
+unread m (Some (Explain root from authority to)) old new a x e =
+    absurd (explained_not_two (IsExplained from authority to root m old new) a x e)
 unread m (Some (Replay cdl policy steps)) old new a x e = absurd (texts_not_two (IsRun m old new cdl policy steps) a x e)
 unread m (Some (Generate count)) old new a x e = absurd (generated_not_two count a x e)
 unread m (Some (Audit cdl policy)) old new a x e = absurd (texts_not_two (IsAudited m old new cdl policy) a x e)
@@ -222,7 +235,8 @@ unread m (Some (Compile root base)) old new NoMemory x e = absurd cc
 not_five : ◌≡◌ {A = ℕ} 2 5 → ⊥
 not_five e = omega arith
 
-pub usage_alone : (m : Contents) (words : List (List ℕ)) (old new : List ℕ → ℕ) (answer : Answer) (sink left : Sink) (before now : ℕ)
+pub usage_alone : (m : Contents) (words : List (List ℕ)) (old new : List ℕ → ℕ) (answer : Answer) (sink left : Sink)
+    (before now : ℕ)
     → Fits words m old new answer → Tells answer 2 sink left before now → read_words words ≡ None
 usage_alone m words old new answer sink left before now fits tells = elim tells.told [
   | inl t ↦ unread m (read_words words) old new answer fits t.0
@@ -249,52 +263,68 @@ module _ (first second : ℕ) where
   root_one m root (inr (inl (e, faulty))) (inr (inr six)) = inr (inr six)
   root_one m root (inr (inr six)) y = inr (inl six)
 
-  texts_one : (Here There : Result Outcome InputError → Type 0) → AreOneButChoice Here There → IsStatusOfTexts Here first → IsStatusOfTexts There second → AreOneStatus
+  texts_one : (Here There : Result Outcome InputError → Type 0) → AreOneButChoice Here There → IsStatusOfTexts Here first
+      → IsStatusOfTexts There second → AreOneStatus
   texts_one Here There one (inl (o, h, e)) (inl (p, k, d)) =
       let same = one (Ok o) (Ok p) tt tt h k in
       let found : but_choice o ≡ but_choice p = cc in
       inl (e ∙ ap (λ z. cond z 0 3) (well_one o p found) ∙ sym d)
-  texts_one Here There one (inl (o, h, e)) (inr (inl (fault, file, k, d))) = let same = one (Ok o) (Err (input.Fault fault file)) tt tt h k in absurd cc
+  texts_one Here There one (inl (o, h, e)) (inr (inl (fault, file, k, d))) = let same =
+      one (Ok o) (Err (input.Fault fault file)) tt tt h k in absurd cc
   texts_one Here There one (inl (o, h, e)) (inr (inr six)) = inr (inr six)
-  texts_one Here There one (inr (inl (fault, file, h, e))) (inl (p, k, d)) = let same = one (Err (input.Fault fault file)) (Ok p) tt tt h k in absurd cc
+  texts_one Here There one (inr (inl (fault, file, h, e))) (inl (p, k, d)) = let same =
+      one (Err (input.Fault fault file)) (Ok p) tt tt h k in absurd cc
   texts_one Here There one (inr (inl (fault, file, h, e))) (inr (inl (other, name, k, d))) = inl (e ∙ sym d)
   texts_one Here There one (inr (inl (fault, file, h, e))) (inr (inr six)) = inr (inr six)
   texts_one Here There one (inr (inr six)) y = inr (inl six)
 
-  source_one : {A : Type 0} (well : A → Bool) (Here There : Result A BuildError → Type 0) → AreOneOf Here There → IsStatusOfSource Here well first → IsStatusOfSource There well second → AreOneStatus
+  source_one : {A : Type 0} (well : A → Bool) (Here There : Result A BuildError → Type 0) → AreOneOf Here There
+      → IsStatusOfSource Here well first → IsStatusOfSource There well second → AreOneStatus
   source_one {A = A} well Here There one (inl (f, h, e)) (inl (g, k, d)) =
       let same = one (Ok f) (Ok g) refl refl h k in
       let found : f ≡ g = cc in
       inl (e ∙ ap (λ (z : A). cond (well z) 0 3) found ∙ sym d)
-  source_one well Here There one (inl (f, h, e)) (inr (inl (fault, file, k, d))) = let same = one (Ok f) (Err (build.Fault fault file)) refl refl h k in absurd cc
+  source_one well Here There one (inl (f, h, e)) (inr (inl (fault, file, k, d))) = let same =
+      one (Ok f) (Err (build.Fault fault file)) refl refl h k in absurd cc
   source_one well Here There one (inl (f, h, e)) (inr (inr six)) = inr (inr six)
-  source_one well Here There one (inr (inl (fault, file, h, e))) (inl (g, k, d)) = let same = one (Err (build.Fault fault file)) (Ok g) refl refl h k in absurd cc
+  source_one well Here There one (inr (inl (fault, file, h, e))) (inl (g, k, d)) = let same =
+      one (Err (build.Fault fault file)) (Ok g) refl refl h k in absurd cc
   source_one well Here There one (inr (inl (fault, file, h, e))) (inr (inl (other, name, k, d))) = inl (e ∙ sym d)
   source_one well Here There one (inr (inl (fault, file, h, e))) (inr (inr six)) = inr (inr six)
   source_one well Here There one (inr (inr six)) y = inr (inl six)
 
-  asked_one : (m : Contents) (asked : Option Command) (old new later last : List ℕ → ℕ) → IsStatus m old new asked first → IsStatus m later last asked second → AreOneStatus
+  asked_one : (m : Contents) (asked : Option Command) (old new later last : List ℕ → ℕ) → IsStatus m old new asked first
+      → IsStatus m later last asked second → AreOneStatus
   asked_one m None old new later last x y = usage_one x y
   asked_one m (Some (Compile root base)) old new later last x y = root_one m root x y
   asked_one m (Some (Check cdl policy cert)) old new later last x y =
-      texts_one _ _ (but_choice_one (IsChecked m old new cdl policy cert) (IsChecked m later last cdl policy cert) (checked_one m old new later last cdl policy cert)) x y
+      texts_one _ _ (but_choice_one (IsChecked m old new cdl policy cert) (IsChecked m later last cdl policy cert)
+      (checked_one m old new later last cdl policy cert)) x y
   asked_one m (Some (ListOf root)) old new later last x y =
-      source_one (λ listing. true) (IsListed root m old new) (IsListed root m later last) (one_listing m root old new later last) x y
+      source_one (λ listing. true) (IsListed root m old new) (IsListed root m later last)
+      (one_listing m root old new later last) x y
   asked_one m (Some (Explain root from authority to)) old new later last x y =
-      source_one is_assigned (IsExplained from authority to root m old new) (IsExplained from authority to root m later last) (one_explained m root from authority to old new later last) x y
+      source_one is_assigned (IsExplained from authority to root m old new) (IsExplained from authority to root m later last)
+      (one_explained m root from authority to old new later last) x y
   asked_one m (Some (Replay cdl policy steps)) old new later last x y =
-      texts_one _ _ (but_choice_one (IsRun m old new cdl policy steps) (IsRun m later last cdl policy steps) (ran_one m old new later last cdl policy steps)) x y
+      texts_one _ _ (but_choice_one (IsRun m old new cdl policy steps) (IsRun m later last cdl policy steps)
+      (ran_one m old new later last cdl policy steps)) x y
   asked_one m (Some (Generate count)) old new later last x y =
       source_one (λ summary. true) (IsGenerated count) (IsGenerated count) (one_generated count) x y
   asked_one m (Some (Audit cdl policy)) old new later last x y =
-      texts_one (IsAudited m old new cdl policy) (IsAudited m later last cdl policy) (audited_one m old new later last cdl policy) x y
+      texts_one (IsAudited m old new cdl policy) (IsAudited m later last cdl policy)
+      (audited_one m old new later last cdl policy) x y
   asked_one m (Some (Certify cdl policy)) old new later last x y =
-      texts_one _ _ (but_choice_one (IsCertified m old new cdl policy) (IsCertified m later last cdl policy) (certified_one m old new later last cdl policy)) x y
+      texts_one _ _ (but_choice_one (IsCertified m old new cdl policy) (IsCertified m later last cdl policy)
+      (certified_one m old new later last cdl policy)) x y
   asked_one m (Some (Sections elf)) old new later last x y =
-      texts_one _ _ (but_choice_one (IsTabled m old new elf) (IsTabled m later last elf) (tabled_one m old new later last elf)) x y
+      texts_one _ _ (but_choice_one (IsTabled m old new elf) (IsTabled m later last elf) (tabled_one m old new later last elf)) x
+      y
   asked_one m (Some (Plan cdl untypeds)) old new later last x y =
-      texts_one (IsPlanned m old new cdl untypeds) (IsPlanned m later last cdl untypeds) (planned_one m old new later last cdl untypeds) x y
+      texts_one (IsPlanned m old new cdl untypeds) (IsPlanned m later last cdl untypeds)
+      (planned_one m old new later last cdl untypeds) x y
 
-pub one_status : (m : Contents) (asked : Option Command) (old new later last : List ℕ → ℕ) (first second : ℕ) → IsStatus m old new asked first → IsStatus m later last asked second
+pub one_status : (m : Contents) (asked : Option Command) (old new later last : List ℕ → ℕ) (first second : ℕ)
+    → IsStatus m old new asked first → IsStatus m later last asked second
     → (first ≡ second) ⊎ ((first ≡ 6) ⊎ (second ≡ 6))
 one_status m asked old new later last first second x y = asked_one first second m asked old new later last x y

@@ -21,14 +21,17 @@ pub zero_not_five : (n : ℕ) → n ≡ 0 → n ≡ 5 → ⊥
 zero_not_five n e h = omega arith
 
 -- with status 0 the answer was told whole
-pub whole_status : (answer : Answer) (status : ℕ) (old new : Sink) (m n : ℕ) → Tells answer status old new m n → status ≡ 0 → 0 ≡ status_of answer
+pub whole_status : (answer : Answer) (status : ℕ) (old new : Sink) (m n : ℕ) → Tells answer status old new m n → status ≡ 0
+    → 0 ≡ status_of answer
 whole_status answer status old new m n tells zero = elim tells.told [
   | inl t ↦ sym zero ∙ t.0
   | inr t ↦ absurd (zero_not_five status zero t.0)
 ]
 
-module _ (told : Contents → Type 0) (some : (c : Contents) × told c) (before now : List ℕ → ℕ) (root base : List ℕ) (status : ℕ) (old new : Sink) (m n : ℕ) (zero : status ≡ 0) where
-  root_written : (answer : Answer) → InAll told (λ c. FitsCompiled root base c before now answer) → Tells answer status old new m n → IsWritten told root base old new
+module _ (told : Contents → Type 0) (some : (c : Contents) × told c) (before now : List ℕ → ℕ) (root base : List ℕ) (status : ℕ)
+    (old new : Sink) (m n : ℕ) (zero : status ≡ 0) where
+  root_written : (answer : Answer) → InAll told (λ c. FitsCompiled root base c before now answer)
+      → Tells answer status old new m n → IsWritten told root base old new
   root_written (Compiled names b) fits tells = elim tells.told [
     | inl t ↦ record {
       build = b;
@@ -36,14 +39,19 @@ module _ (told : Contents → Type 0) (some : (c : Contents) × told c) (before 
       made = λ c is. (fits c is).1;
       named = (fits some.0 some.1).0;
       whole = t.1;
-      read_back = record { spec = spec_back root some.0 b (fits some.0 some.1).1; policy = policy_read root some.0 b (fits some.0 some.1).1; cert = cert_read root some.0 b (fits some.0 some.1).1 };
+      read_back = record {
+        spec = spec_back root some.0 b (fits some.0 some.1).1;
+        policy = policy_read root some.0 b (fits some.0 some.1).1;
+        cert = cert_read root some.0 b (fits some.0 some.1).1;
+      };
       as_read = as_read root some.0 b (fits some.0 some.1).1;
       of_source = λ c is. build_of_source root c b (fits c is).1;
       sound = build_sound root some.0 b (fits some.0 some.1).1;
     }
     | inr t ↦ absurd (zero_not_five status zero t.0)
   ]
-  root_written (Faulted file fault) fits tells = let e = whole_status (Faulted file fault) status old new m n tells zero in absurd cc
+  root_written (Faulted file fault) fits tells = let e = whole_status (Faulted file fault) status old new m n tells zero in
+      absurd cc
   root_written (Listed o) fits tells = absurd (fits some.0 some.1)
   root_written (Explained o) fits tells = absurd (fits some.0 some.1)
   root_written (Told o) fits tells = absurd (fits some.0 some.1)
@@ -53,11 +61,16 @@ module _ (told : Contents → Type 0) (some : (c : Contents) × told c) (before 
   root_written (ReadFault file) fits tells = let e = whole_status (ReadFault file) status old new m n tells zero in absurd cc
   root_written NoMemory fits tells = let e = whole_status NoMemory status old new m n tells zero in absurd cc
 
-  pub compiled_written : (asked : Option Command) (answer : Answer) → asked ≡ Some (Compile root base) → InAll told (λ c. FitsAsked asked c before now answer) → Tells answer status old new m n
+  pub compiled_written : (asked : Option Command) (answer : Answer) → asked ≡ Some (Compile root base)
+      → InAll told (λ c. FitsAsked asked c before now answer) → Tells answer status old new m n
       → IsWritten told root base old new
-  compiled_written asked answer is fits tells = root_written answer (λ c t. subst (λ z. FitsAsked z c before now answer) is (fits c t)) tells
+  compiled_written asked answer is fits tells =
+      root_written answer (λ c t. subst (λ z. FitsAsked z c before now answer) is (fits c t)) tells
 
-pub checked_safe : (contents : Contents) (before now : List ℕ → ℕ) (cdl policy cert : List ℕ) (status : ℕ) (old new : Sink) (m n : ℕ) → status ≡ 0 → (asked : Option Command) (answer : Answer)
-    → asked ≡ Some (Check cdl policy cert) → FitsAsked asked contents before now answer → Tells answer status old new m n → IsSafe contents cdl policy
+pub checked_safe : (contents : Contents) (before now : List ℕ → ℕ) (cdl policy cert : List ℕ) (status : ℕ) (old new : Sink)
+    (m n : ℕ) → status ≡ 0 → (asked : Option Command) (answer : Answer)
+    → asked ≡ Some (Check cdl policy cert) → FitsAsked asked contents before now answer → Tells answer status old new m n
+    → IsSafe contents cdl policy
 checked_safe contents before now cdl policy cert status old new m n zero asked answer is fits tells =
-    answered_safe contents before now cdl policy cert answer (subst (λ z. FitsAsked z contents before now answer) is fits) (whole_status answer status old new m n tells zero)
+    answered_safe contents before now cdl policy cert answer (subst (λ z. FitsAsked z contents before now answer) is fits)
+    (whole_status answer status old new m n tells zero)

@@ -38,20 +38,25 @@ word_fine (b ∷ bs) h =
     let g = and_parts (leb (length bs) 126) (is_letter b && list_all is_word_byte bs) k.0 in
     let l = and_parts (is_letter b) (list_all is_word_byte bs) g.1 in
     let all : list_all is_word_byte (b ∷ bs) ≡ true = rw (word_or b l.0, l.1) refl in
-    let found : fault_at (b ∷ bs) ≡ word_fault (run is_word_byte (b ∷ bs)) = rw l.0 refl in
-    (rw (l.0, l.1) refl, found ∙ ap word_fault (run_all (b ∷ bs) all) ∙ rw (word_long b bs g.0, flip (is_left_out_word (b ∷ bs)) k.1) refl)
+    let found : fault_at (b ∷ bs) ≡ word_fault (run is_word_byte (b ∷ bs)) = rw l.0 refl in (
+      rw (l.0, l.1) refl,
+      found ∙ ap word_fault (run_all (b ∷ bs) all)
+          ∙ rw (word_long b bs g.0, flip (is_left_out_word (b ∷ bs)) k.1) refl,
+    )
   where
     flip : (b : Bool) → not b ≡ true → b ≡ false
     flip true e = absurd cc
     flip false e = refl
 
 -- a word piece in front of fine ones
-pub fine_word : (n blanks : List ℕ) (ps : List Piece) → is_word n ≡ true → all_blank blanks ≡ true → goes_on (blanks ++ laid ps) ≡ false → Fine ps → Fine (word n blanks ∷ ps)
+pub fine_word : (n blanks : List ℕ) (ps : List Piece) → is_word n ≡ true → all_blank blanks ≡ true
+    → goes_on (blanks ++ laid ps) ≡ false → Fine ps → Fine (word n blanks ∷ ps)
 fine_word n blanks ps h b g f = let k = word_fine n h in (k.0, k.1, b, rw g refl, f)
 
 -- ---- texts
 
-plain_ends : (text : List ℕ) → is_plain text ≡ true → (ends_text (text ++ 34 ∷ []) ≡ true) × (after_text (text ++ 34 ∷ []) ≡ Some [])
+plain_ends : (text : List ℕ) → is_plain text ≡ true → (ends_text (text ++ 34 ∷ []) ≡ true)
+    × (after_text (text ++ 34 ∷ []) ≡ Some [])
 plain_ends [] h = (refl, refl)
 plain_ends (b ∷ text) h =
     let k = and_parts (not (b == 34) && not (b == 10)) (is_plain text) h in
@@ -65,7 +70,8 @@ plain_ends (b ∷ text) h =
     flip true e = absurd cc
     flip false e = refl
 
-pub text_fine : (text : List ℕ) → is_plain text ≡ true → (kind_of (34 ∷ text ++ 34 ∷ []) ≡ Some kinds.Text) × (fault_at (34 ∷ text ++ 34 ∷ []) ≡ None)
+pub text_fine : (text : List ℕ) → is_plain text ≡ true → (kind_of (34 ∷ text ++ 34 ∷ []) ≡ Some kinds.Text)
+    × (fault_at (34 ∷ text ++ 34 ∷ []) ≡ None)
 unfolding kind_of fault_at
 text_fine text h = let r = plain_ends text h in (rw (r.0) refl, rw (r.1) refl)
 
@@ -76,7 +82,8 @@ pub rights_are : (r : Rights) → has_rights r ≡ true → is_word (rights_word
 unfolding is_left_out_word
 rights_are r h = go r.read r.write r.grant r.reply h
   where
-    go : (a b c d : Bool) → (a || (b || (c || d))) ≡ true → is_word (letter a 82 (letter b 87 (letter c 71 (letter d 80 [])))) ≡ true
+    go : (a b c d : Bool) → (a || (b || (c || d))) ≡ true
+        → is_word (letter a 82 (letter b 87 (letter c 71 (letter d 80 [])))) ≡ true
     go true true true true e = refl
     go true true true false e = refl
     go true true false true e = refl
@@ -97,9 +104,11 @@ rights_are r h = go r.read r.write r.grant r.reply h
 fine_elf : (elf : Option (List ℕ)) (more : List Piece) → if_any is_plain elf ≡ true → Fine more → Fine (elf_pieces elf more)
 unfolding kind_of fault_at mark_of is_left_out_word
 fine_elf None more h f = f
-fine_elf (Some elf) more h f = let t = text_fine elf h in (refl, refl, refl, refl, (refl, refl, refl, refl, (refl, refl, refl, refl, (t.0, t.1, refl, refl, f))))
+fine_elf (Some elf) more h f = let t = text_fine elf h in
+    (refl, refl, refl, refl, (refl, refl, refl, refl, (refl, refl, refl, refl, (t.0, t.1, refl, refl, f))))
 
-pub fine_tcb : (name : List ℕ) (tcb : Tcb) (more : List Piece) → is_word name ≡ true → is_tcb tcb ≡ true → tcb.prio < 2 ^ 64 → Fine more → Fine (tcb_pieces name tcb more)
+pub fine_tcb : (name : List ℕ) (tcb : Tcb) (more : List Piece) → is_word name ≡ true → is_tcb tcb ≡ true → tcb.prio < 2 ^ 64
+    → Fine more → Fine (tcb_pieces name tcb more)
 unfolding kind_of fault_at mark_of is_left_out_word
 fine_tcb name tcb more w h p f =
     let a = and_parts (is_number tcb.addr && is_number tcb.ip) _ h in
@@ -180,7 +189,19 @@ fine_tcb name tcb more w h p f =
                                 sp.1,
                                 refl,
                                 sp_ends tcb.elf,
-                                fine_elf tcb.elf _ d.0 (refl, refl, refl, refl, (refl, refl, refl, refl, (refl, refl, refl, refl, (prio.0, prio.1, refl, refl, (refl, refl, refl, refl, f))))),
+                                fine_elf tcb.elf _ d.0 (
+                                  refl,
+                                  refl,
+                                  refl,
+                                  refl,
+                                  (
+                                    refl,
+                                    refl,
+                                    refl,
+                                    refl,
+                                    (refl, refl, refl, refl, (prio.0, prio.1, refl, refl, (refl, refl, refl, refl, f))),
+                                  ),
+                                ),
                               ),
                             ),
                           ),
@@ -196,6 +217,10 @@ fine_tcb name tcb more w h p f =
       ),
     )
   where
-    sp_ends : (elf : Option (List ℕ)) → (false || not (goes_on (laid (elf_pieces elf (comma ∷ word (codes "prio") [] ∷ colon ∷ dec tcb.prio [] ∷ paren_r (codes "\n") ∷ more))))) ≡ true
+    sp_ends : (elf : Option (List ℕ))
+        → (false
+        || not
+        (goes_on (laid (elf_pieces elf (comma ∷ word (codes "prio") [] ∷ colon ∷ dec tcb.prio [] ∷ paren_r (codes "\n")
+        ∷ more))))) ≡ true
     sp_ends None = refl
     sp_ends (Some elf) = refl

@@ -35,7 +35,8 @@ run_ends (b ∷ a) rest h g = let k = and_parts (is_word_byte b) (list_all is_wo
 after_ends : (a rest : List ℕ) → list_all is_word_byte a ≡ true → goes_on rest ≡ false → after_run is_word_byte (a ++ rest) ≡ rest
 after_ends [] [] h g = refl
 after_ends [] (c ∷ rest) h g = rw g refl
-after_ends (b ∷ a) rest h g = let k = and_parts (is_word_byte b) (list_all is_word_byte a) h in rw (k.0, after_ends a rest k.1 g) refl
+after_ends (b ∷ a) rest h g = let k = and_parts (is_word_byte b) (list_all is_word_byte a) h in
+    rw (k.0, after_ends a rest k.1 g) refl
 
 pub run_all : (a : List ℕ) → list_all is_word_byte a ≡ true → run is_word_byte a ≡ a
 run_all [] h = refl
@@ -45,7 +46,9 @@ text_ends : (t rest : List ℕ) → ends_text t ≡ true → after_text (t ++ re
 text_ends [] rest h = true_is_not_false false h refl
 text_ends (b ∷ t) rest h = by_test (b == 34) (b == 10) t (λ g. text_ends t rest g) h
   where
-    by_test : (q l : Bool) (t : List ℕ) → (ends_text t ≡ true → after_text (t ++ rest) ≡ Some rest) → cond q (is_end t) (not l && ends_text t) ≡ true → cond q (Some (t ++ rest)) (cond l None (after_text (t ++ rest))) ≡ Some rest
+    by_test : (q l : Bool) (t : List ℕ) → (ends_text t ≡ true → after_text (t ++ rest) ≡ Some rest)
+        → cond q (is_end t) (not l && ends_text t) ≡ true
+        → cond q (Some (t ++ rest)) (cond l None (after_text (t ++ rest))) ≡ Some rest
     by_test true l [] ih g = refl
     by_test true l (c ∷ t) ih g = true_is_not_false false g refl
     by_test false true t ih g = true_is_not_false false g refl
@@ -55,11 +58,15 @@ text_ends (b ∷ t) rest h = by_test (b == 34) (b == 10) t (λ g. text_ends t re
 abbrev Read : List ℕ → Kind → List ℕ → Type 0
 Read bs k rest = (one_token bs ≡ Some (k, rest)) × (fault_at bs ≡ None)
 
-word_reads : (b : ℕ) (t rest : List ℕ) (k : Kind) → is_letter b ≡ true → kind_of (b ∷ t) ≡ Some k → fault_at (b ∷ t) ≡ None → (runs_on k ≡ true → goes_on rest ≡ false) → Read (b ∷ t ++ rest) k rest
+word_reads : (b : ℕ) (t rest : List ℕ) (k : Kind) → is_letter b ≡ true → kind_of (b ∷ t) ≡ Some k → fault_at (b ∷ t) ≡ None
+    → (runs_on k ≡ true → goes_on rest ≡ false) → Read (b ∷ t ++ rest) k rest
 unfolding kind_of one_token fault_at
-word_reads b t rest k l e f ends = by_test (list_all is_word_byte t) refl (let p : kind_of (b ∷ t) ≡ cond (list_all is_word_byte t) (Some (kinds.Word (word_of (b ∷ t)))) None = rw l refl in sym p ∙ e)
+word_reads b t rest k l e f ends =
+    by_test (list_all is_word_byte t) refl (let p : kind_of (b ∷ t) ≡ cond (list_all is_word_byte t)
+    (Some (kinds.Word (word_of (b ∷ t)))) None = rw l refl in sym p ∙ e)
   where
-    by_test : (a : Bool) → list_all is_word_byte t ≡ a → cond a (Some (kinds.Word (word_of (b ∷ t)))) None ≡ Some k → Read (b ∷ t ++ rest) k rest
+    by_test : (a : Bool) → list_all is_word_byte t ≡ a → cond a (Some (kinds.Word (word_of (b ∷ t)))) None ≡ Some k
+        → Read (b ∷ t ++ rest) k rest
     by_test false h q = none_is_not k q
     by_test true h q =
         let same : kinds.Word (word_of (b ∷ t)) ≡ k = same_Some (kinds.Word (word_of (b ∷ t))) k q in
@@ -70,7 +77,8 @@ word_reads b t rest k l e f ends = by_test (list_all is_word_byte t) refl (let p
         let taken : one_token (b ∷ t ++ rest) ≡ word_taken (b ∷ t ++ rest) = rw l refl in
         let found : fault_at (b ∷ t ++ rest) ≡ word_fault (run is_word_byte (b ∷ t ++ rest)) = rw l refl in
         let alone : fault_at (b ∷ t) ≡ word_fault (run is_word_byte (b ∷ t)) = rw l refl in (
-          taken ∙ ap (λ (w : List ℕ). let r : Taken = Some (kinds.Word (word_of w), after_run is_word_byte (b ∷ t ++ rest)) in r) front
+          taken ∙ ap (λ (w : List ℕ). let r : Taken = Some (kinds.Word (word_of w), after_run is_word_byte (b ∷ t ++ rest)) in
+              r) front
               ∙ ap (λ (w : List ℕ). let r : Taken = Some (kinds.Word (word_of (b ∷ t)), w) in r) back
               ∙ ap (λ (j : Kind). let r : Taken = Some (j, rest) in r) same,
           found ∙ ap word_fault front ∙ ap word_fault (sym (run_all (b ∷ t) all)) ∙ sym alone ∙ f,
@@ -84,7 +92,8 @@ digits_runs w k e = by_test (bytes_eq w (codes "4k")) (number_value w) e
     by_test false None q = none_is_not k q
     by_test false (Some n) q = ap runs_on (sym (same_Some (kinds.Number n) k q))
 
-digits_reads : (b : ℕ) (t rest : List ℕ) (k : Kind) → is_letter b ≡ false → is_digit b ≡ true → kind_of (b ∷ t) ≡ Some k → fault_at (b ∷ t) ≡ None → (runs_on k ≡ true → goes_on rest ≡ false) → Read (b ∷ t ++ rest) k rest
+digits_reads : (b : ℕ) (t rest : List ℕ) (k : Kind) → is_letter b ≡ false → is_digit b ≡ true → kind_of (b ∷ t) ≡ Some k
+    → fault_at (b ∷ t) ≡ None → (runs_on k ≡ true → goes_on rest ≡ false) → Read (b ∷ t ++ rest) k rest
 unfolding kind_of one_token fault_at
 digits_reads b t rest k l d e f ends =
     let kind : digits_kind (b ∷ t) ≡ Some k = (let p : kind_of (b ∷ t) ≡ digits_kind (b ∷ t) = rw (l, d) refl in sym p ∙ e) in
@@ -95,7 +104,8 @@ digits_reads b t rest k l d e f ends =
     let taken : one_token (b ∷ t ++ rest) ≡ digits_taken (b ∷ t ++ rest) = rw (l, d) refl in
     let found : fault_at (b ∷ t ++ rest) ≡ digits_fault (run is_word_byte (b ∷ t ++ rest)) = rw (l, d) refl in
     let alone : fault_at (b ∷ t) ≡ digits_fault (run is_word_byte (b ∷ t)) = rw (l, d) refl in (
-      taken ∙ ap (λ (w : List ℕ). option_map {U = Kind × List ℕ} (λ j. (j, after_run is_word_byte (b ∷ t ++ rest))) (digits_kind w)) front
+      taken ∙ ap (λ (w : List ℕ). option_map {U = Kind × List ℕ} (λ j. (j, after_run is_word_byte (b ∷ t ++ rest)))
+          (digits_kind w)) front
           ∙ ap (λ (w : List ℕ). option_map {U = Kind × List ℕ} (λ j. (j, w)) (digits_kind (b ∷ t))) back
           ∙ ap (option_map {U = Kind × List ℕ} (λ (j : Kind). (j, rest))) kind,
       found ∙ ap digits_fault front ∙ ap digits_fault (sym (run_all (b ∷ t) all)) ∙ sym alone ∙ f,
@@ -108,24 +118,35 @@ quote_reads t rest k e = by_test (ends_text t) refl e
     by_test : (a : Bool) → ends_text t ≡ a → cond a (Some kinds.Text) None ≡ Some k → Read (34 ∷ t ++ rest) k rest
     by_test false h q = none_is_not k q
     by_test true h q =
-        let end : after_text (t ++ rest) ≡ Some rest = text_ends t rest h in
-        (ap (option_map {U = Kind × List ℕ} (λ (r : List ℕ). (kinds.Text, r))) end ∙ ap (λ (j : Kind). let r : Taken = Some (j, rest) in r) (same_Some kinds.Text k q), ap (λ (o : Option (List ℕ)). unless o (run is_line_byte (34 ∷ t ++ rest))) end)
+        let end : after_text (t ++ rest) ≡ Some rest = text_ends t rest h in (
+          ap (option_map {U = Kind × List ℕ} (λ (r : List ℕ). (kinds.Text, r))) end
+              ∙ ap (λ (j : Kind). let r : Taken = Some (j, rest) in r) (same_Some kinds.Text k q),
+          ap (λ (o : Option (List ℕ)). unless o (run is_line_byte (34 ∷ t ++ rest))) end,
+        )
 
-mark_reads : (b : ℕ) (t rest : List ℕ) (k : Kind) → is_letter b ≡ false → is_digit b ≡ false → (b == 34) ≡ false → kind_of (b ∷ t) ≡ Some k → fault_at (b ∷ t) ≡ None → Read (b ∷ t ++ rest) k rest
+mark_reads : (b : ℕ) (t rest : List ℕ) (k : Kind) → is_letter b ≡ false → is_digit b ≡ false → (b == 34) ≡ false
+    → kind_of (b ∷ t) ≡ Some k → fault_at (b ∷ t) ≡ None → Read (b ∷ t ++ rest) k rest
 unfolding kind_of one_token fault_at
 mark_reads b [] rest k l d q e f =
-    let kind : option_map kinds.Mark (mark_of b) ≡ Some k = (let p : kind_of (b ∷ []) ≡ option_map kinds.Mark (mark_of b) = rw (l, d, q) refl in sym p ∙ e) in
+    let kind : option_map kinds.Mark (mark_of b) ≡ Some k =
+    (let p : kind_of (b ∷ []) ≡ option_map kinds.Mark (mark_of b) = rw (l, d, q) refl in sym p ∙ e) in
     let taken : one_token (b ∷ rest) ≡ mark_taken b rest = rw (l, d, q) refl in
-    let found : fault_at (b ∷ rest) ≡ cond (is_blank b) None (cond (b == 47) (unless (after_slash rest) (cond (is_star rest) (b ∷ rest) (b ∷ []))) (cond (b == 45) (unless (after_dash rest) (b ∷ [])) (mark_fault b))) = rw (l, d, q) refl in
-    let alone : fault_at (b ∷ []) ≡ cond (is_blank b) None (cond (b == 47) (Some (CapdlByte, b ∷ [])) (cond (b == 45) (Some (CapdlByte, b ∷ [])) (mark_fault b))) = rw (l, d, q) refl in
+    let found : fault_at (b ∷ rest) ≡ cond (is_blank b) None
+    (cond (b == 47) (unless (after_slash rest) (cond (is_star rest) (b ∷ rest) (b ∷ [])))
+    (cond (b == 45) (unless (after_dash rest) (b ∷ [])) (mark_fault b))) = rw (l, d, q) refl in
+    let alone : fault_at (b ∷ []) ≡ cond (is_blank b) None (cond (b == 47) (Some (CapdlByte, b ∷ []))
+    (cond (b == 45) (Some (CapdlByte, b ∷ [])) (mark_fault b))) = rw (l, d, q) refl in
     (taken ∙ by_mark (mark_of b) kind, found ∙ by_test (is_blank b) (b == 47) (b == 45) (mark_fault b) (sym alone ∙ f))
   where
-    by_mark : (m : Option Mark) → option_map kinds.Mark m ≡ Some k → option_map {U = Kind × List ℕ} (λ m. (kinds.Mark m, rest)) m ≡ Some (k, rest)
+    by_mark : (m : Option Mark) → option_map kinds.Mark m ≡ Some k → option_map {U = Kind × List ℕ} (λ m. (kinds.Mark m, rest))
+        m ≡ Some (k, rest)
     by_mark None p = none_is_not k p
     by_mark (Some m) p = ap (λ (j : Kind). let r : Taken = Some (j, rest) in r) (same_Some (kinds.Mark m) k p)
 
-    by_test : (x y z : Bool) (m : Found) → cond x None (cond y (Some (CapdlByte, b ∷ [])) (cond z (Some (CapdlByte, b ∷ [])) m)) ≡ None
-        → cond x None (cond y (unless (after_slash rest) (cond (is_star rest) (b ∷ rest) (b ∷ []))) (cond z (unless (after_dash rest) (b ∷ [])) m)) ≡ None
+    by_test : (x y z : Bool) (m : Found)
+        → cond x None (cond y (Some (CapdlByte, b ∷ [])) (cond z (Some (CapdlByte, b ∷ [])) m)) ≡ None
+        → cond x None (cond y (unless (after_slash rest) (cond (is_star rest) (b ∷ rest) (b ∷ [])))
+        (cond z (unless (after_dash rest) (b ∷ [])) m)) ≡ None
     by_test true y z m p = refl
     by_test false true z m p = absurd cc
     by_test false false true m p = absurd cc
@@ -140,14 +161,17 @@ ends_of k rest h r = by_test (runs_on k) (goes_on rest) r h
     by_test true false p q = refl
     by_test false y p q = true_is_not_false false p refl
 
-piece_reads : (text rest : List ℕ) (k : Kind) → kind_of text ≡ Some k → fault_at text ≡ None → (not (runs_on k) || not (goes_on rest)) ≡ true → Read (text ++ rest) k rest
+piece_reads : (text rest : List ℕ) (k : Kind) → kind_of text ≡ Some k → fault_at text ≡ None
+    → (not (runs_on k) || not (goes_on rest)) ≡ true → Read (text ++ rest) k rest
 piece_reads [] rest k e f h = no_kind k e
 piece_reads (b ∷ t) rest k e f h = elim (cases_Bool (is_letter b)) [
   | inl l ↦ word_reads b t rest k l e f (ends_of k rest h)
   | inr l ↦ elim (cases_Bool (is_digit b)) [
     | inl d ↦ digits_reads b t rest k l d e f (ends_of k rest h)
     | inr d ↦ elim (cases_Bool (b == 34)) [
-      | inl q ↦ let s : b ≡ 34 = eqb-true b 34 q in subst (λ (z : ℕ). Read (z ∷ t ++ rest) k rest) (sym s) (quote_reads t rest k (ap (λ (z : ℕ). kind_of (z ∷ t)) (sym s) ∙ e))
+      | inl q ↦ let s : b ≡ 34 = eqb-true b 34 q in
+          subst (λ (z : ℕ). Read (z ∷ t ++ rest) k rest) (sym s)
+          (quote_reads t rest k (ap (λ (z : ℕ). kind_of (z ∷ t)) (sym s) ∙ e))
       | inr q ↦ mark_reads b t rest k l d q e f
     ]
   ]
@@ -160,7 +184,8 @@ unfolding one_gap
 blank_gap b bs h = rw h refl
 
 -- blanks in front change no tokens
-blanks_before : (total : ℕ) (bs rest : List ℕ) (ts : List Token) → all_blank bs ≡ true → LexesFrom total rest ts → LexesFrom total (bs ++ rest) ts
+blanks_before : (total : ℕ) (bs rest : List ℕ) (ts : List Token) → all_blank bs ≡ true → LexesFrom total rest ts
+    → LexesFrom total (bs ++ rest) ts
 blanks_before total [] rest ts h l = l
 blanks_before total (b ∷ bs) rest ts h l =
     let k = and_parts (is_blank b) (all_blank bs) h in

@@ -47,14 +47,18 @@ elf_is : (elf : Option (List ℕ)) (more : List Piece) → laid (elf_pieces elf 
 unfolding chain
 elf_is None more = refl
 elf_is (Some elf) more =
-    ap (λ z. codes ", elf: \"" ++ z) (append_assoc elf (codes "\"") (laid more)) ∙ sym (parts (codes ", elf: \"" ∷ elf ∷ codes "\"" ∷ []) (laid more))
+    ap (λ z. codes ", elf: \"" ++ z) (append_assoc elf (codes "\"") (laid more))
+    ∙ sym (parts (codes ", elf: \"" ∷ elf ∷ codes "\"" ∷ []) (laid more))
 
-tcb_is : (name : List ℕ) (tcb : Tcb) (more : List Piece) → laid (object_pieces name (Thread tcb) more) ≡ tcb_line name tcb ++ laid more
+tcb_is : (name : List ℕ) (tcb : Tcb) (more : List Piece) → laid (object_pieces name (Thread tcb) more) ≡ tcb_line name
+    tcb ++ laid more
 unfolding chain
 tcb_is name tcb more =
-    let head = name ∷ codes " = tcb (addr: " ∷ hex_text tcb.addr ∷ codes ", ip: " ∷ hex_text tcb.ip ∷ codes ", sp: " ∷ hex_text tcb.sp ∷ [] in
+    let head = name ∷ codes " = tcb (addr: " ∷ hex_text tcb.addr ∷ codes ", ip: " ∷ hex_text tcb.ip ∷ codes ", sp: "
+    ∷ hex_text tcb.sp ∷ [] in
     let tail = codes ", prio: " ∷ decimal tcb.prio ∷ codes ")\n" ∷ [] in
-    ap (chain head) (elf_is tcb.elf _) ∙ ap (λ z. chain head (elf_field tcb.elf ++ z)) (sym (parts tail (laid more))) ∙ sym (parts head _) ∙ sym (three (together head) (elf_field tcb.elf) (together tail) (laid more))
+    ap (chain head) (elf_is tcb.elf _) ∙ ap (λ z. chain head (elf_field tcb.elf ++ z)) (sym (parts tail (laid more)))
+    ∙ sym (parts head _) ∙ sym (three (together head) (elf_field tcb.elf) (together tail) (laid more))
 
 paddr_is : (paddr : Option ℕ) (more : List Piece) → laid (paddr_pieces paddr more) ≡ paddr_field paddr ++ laid more
 unfolding chain
@@ -65,20 +69,26 @@ fill_is : (fill : Option Fill) (more : List Piece) → laid (fill_pieces fill mo
 unfolding chain
 fill_is None more = refl
 fill_is (Some fill) more =
-    ap (λ z. codes ", fill: [{" ++ (decimal fill.offset ++ (codes " " ++ (decimal fill.length ++ (codes " CDL_FrameFill_FileData \"" ++ z))))) (append_assoc fill.file (codes "\"") (codes " " ++ (hex_text fill.at ++ (codes "}]" ++ laid more))))
-    ∙ sym (parts (codes ", fill: [{" ∷ decimal fill.offset ∷ codes " " ∷ decimal fill.length ∷ codes " CDL_FrameFill_FileData \"" ∷ fill.file ∷ codes "\" " ∷ hex_text fill.at ∷ codes "}]" ∷ []) (laid more))
+    ap (λ z. codes ", fill: [{"
+    ++ (decimal fill.offset ++ (codes " " ++ (decimal fill.length ++ (codes " CDL_FrameFill_FileData \"" ++ z)))))
+    (append_assoc fill.file (codes "\"") (codes " " ++ (hex_text fill.at ++ (codes "}]" ++ laid more))))
+    ∙ sym (parts (codes ", fill: [{" ∷ decimal fill.offset ∷ codes " " ∷ decimal fill.length ∷ codes " CDL_FrameFill_FileData \""
+    ∷ fill.file ∷ codes "\" " ∷ hex_text fill.at ∷ codes "}]" ∷ []) (laid more))
 
-frame_is : (name : List ℕ) (paddr : Option ℕ) (fill : Option Fill) (more : List Piece) → laid (object_pieces name (Frame paddr fill) more) ≡ frame_line name paddr fill ++ laid more
+frame_is : (name : List ℕ) (paddr : Option ℕ) (fill : Option Fill) (more : List Piece)
+    → laid (object_pieces name (Frame paddr fill) more) ≡ frame_line name paddr fill ++ laid more
 unfolding chain
 frame_is name paddr fill more =
     let head = name ∷ codes " = frame (4k" ∷ [] in
-    ap (chain head) (paddr_is paddr _) ∙ ap (λ z. chain head (paddr_field paddr ++ z)) (fill_is fill _) ∙ sym (parts head _) ∙ sym (four (together head) (paddr_field paddr) (fill_field fill) (codes ")\n") (laid more))
+    ap (chain head) (paddr_is paddr _) ∙ ap (λ z. chain head (paddr_field paddr ++ z)) (fill_is fill _) ∙ sym (parts head _)
+    ∙ sym (four (together head) (paddr_field paddr) (fill_field fill) (codes ")\n") (laid more))
 
 object_is : (name : List ℕ) (o : Object) (more : List Piece) → laid (object_pieces name o more) ≡ object_line name o ++ laid more
 unfolding chain
 object_is name Endpoint more = sym (parts (name ∷ codes " = ep\n" ∷ []) (laid more))
 object_is name Notification more = sym (parts (name ∷ codes " = notification\n" ∷ []) (laid more))
-object_is name (CNode bits slots) more = sym (parts (name ∷ codes " = cnode (" ∷ decimal bits ∷ codes " bits)\n" ∷ []) (laid more))
+object_is name (CNode bits slots) more =
+    sym (parts (name ∷ codes " = cnode (" ∷ decimal bits ∷ codes " bits)\n" ∷ []) (laid more))
 object_is name (Thread tcb) more = tcb_is name tcb more
 object_is name (Frame paddr fill) more = frame_is name paddr fill more
 object_is name (Pages level slots) more = sym (parts (name ∷ codes " = " ∷ level_word level ∷ codes "\n" ∷ []) (laid more))
@@ -86,52 +96,69 @@ object_is name (Irq notification) more = sym (parts (name ∷ codes " = irq\n" �
 
 objects_are : (es : List Entry) (more : List Piece) → laid (objects_pieces es more) ≡ flat_map entry_line es ++ laid more
 objects_are [] more = refl
-objects_are (e ∷ es) more = object_is e.name e.object (objects_pieces es more) ∙ ap (λ z. entry_line e ++ z) (objects_are es more) ∙ sym (append_assoc (entry_line e) (flat_map entry_line es) (laid more))
+objects_are (e ∷ es) more = object_is e.name e.object (objects_pieces es more) ∙ ap (λ z. entry_line e ++ z) (objects_are es more)
+    ∙ sym (append_assoc (entry_line e) (flat_map entry_line es) (laid more))
 
 -- ---- holders
 
-target_is : (name : List ℕ) (r b : Bool) (rights : Rights) (badge : ℕ) (more : List Piece) → laid (target_pieces name r b rights badge more) ≡ name ++ (params r b rights badge ++ (codes "\n" ++ laid more))
+target_is : (name : List ℕ) (r b : Bool) (rights : Rights) (badge : ℕ) (more : List Piece)
+    → laid (target_pieces name r b rights badge more) ≡ name ++ (params r b rights badge ++ (codes "\n" ++ laid more))
 unfolding chain
 target_is name false false rights badge more = refl
-target_is name true false rights badge more = ap (λ z. name ++ z) (sym (parts (codes " (" ∷ rights_word rights ∷ codes ")" ∷ []) (codes "\n" ++ laid more)))
-target_is name false true rights badge more = ap (λ z. name ++ z) (sym (parts (codes " (badge: " ∷ decimal badge ∷ codes ")" ∷ []) (codes "\n" ++ laid more)))
-target_is name true true rights badge more = ap (λ z. name ++ z) (sym (parts (codes " (" ∷ rights_word rights ∷ codes ", badge: " ∷ decimal badge ∷ codes ")" ∷ []) (codes "\n" ++ laid more)))
+target_is name true false rights badge more =
+    ap (λ z. name ++ z) (sym (parts (codes " (" ∷ rights_word rights ∷ codes ")" ∷ []) (codes "\n" ++ laid more)))
+target_is name false true rights badge more =
+    ap (λ z. name ++ z) (sym (parts (codes " (badge: " ∷ decimal badge ∷ codes ")" ∷ []) (codes "\n" ++ laid more)))
+target_is name true true rights badge more =
+    ap (λ z. name ++ z) (sym (parts (codes " (" ∷ rights_word rights ∷ codes ", badge: " ∷ decimal badge ∷ codes ")" ∷ [])
+    (codes "\n" ++ laid more)))
 
 module _ (spec : Spec) where
   cap_is : (cap : Cap) (more : List Piece) → laid (cap_pieces spec cap more) ≡ cap_end spec cap ++ laid more
   cap_is cap more =
       target_is (name_at spec cap.object) (has_rights cap.rights) (not (cap.badge == 0)) cap.rights cap.badge more
-      ∙ sym (three (name_at spec cap.object) (params (has_rights cap.rights) (not (cap.badge == 0)) cap.rights cap.badge) (codes "\n") (laid more))
+      ∙ sym (three (name_at spec cap.object) (params (has_rights cap.rights) (not (cap.badge == 0)) cap.rights cap.badge)
+      (codes "\n") (laid more))
 
-  slot_is : (s : ℕ × Cap) (more : List Piece) → hex_text s.0 ++ (codes ": " ++ laid (cap_pieces spec s.1 more)) ≡ slot_line spec s ++ laid more
+  slot_is : (s : ℕ × Cap) (more : List Piece) → hex_text s.0 ++ (codes ": " ++ laid (cap_pieces spec s.1 more)) ≡ slot_line spec
+      s ++ laid more
   unfolding chain
   slot_is s more =
-      ap (λ z. hex_text s.0 ++ (codes ": " ++ z)) (cap_is s.1 more) ∙ sym (parts (hex_text s.0 ∷ codes ": " ∷ []) (cap_end spec s.1 ++ laid more))
+      ap (λ z. hex_text s.0 ++ (codes ": " ++ z)) (cap_is s.1 more)
+      ∙ sym (parts (hex_text s.0 ∷ codes ": " ∷ []) (cap_end spec s.1 ++ laid more))
       ∙ sym (behind (together (hex_text s.0 ∷ codes ": " ∷ [])) (cap_end spec s.1) (laid more))
 
-  slots_are : (ss : List (ℕ × Cap)) (more : List Piece) → laid (slots_pieces spec ss more) ≡ flat_map (slot_line spec) ss ++ laid more
+  slots_are : (ss : List (ℕ × Cap)) (more : List Piece) → laid (slots_pieces spec ss more) ≡ flat_map (slot_line spec)
+      ss ++ laid more
   slots_are [] more = refl
-  slots_are (s ∷ ss) more = slot_is s (slots_pieces spec ss more) ∙ ap (λ z. slot_line spec s ++ z) (slots_are ss more) ∙ sym (append_assoc (slot_line spec s) (flat_map (slot_line spec) ss) (laid more))
+  slots_are (s ∷ ss) more = slot_is s (slots_pieces spec ss more) ∙ ap (λ z. slot_line spec s ++ z) (slots_are ss more)
+      ∙ sym (append_assoc (slot_line spec s) (flat_map (slot_line spec) ss) (laid more))
 
-  held_slots_are : (name : List ℕ) (ss : List (ℕ × Cap)) (more : List Piece) → laid (held_slots spec name ss more) ≡ slots_text spec name ss ++ laid more
+  held_slots_are : (name : List ℕ) (ss : List (ℕ × Cap)) (more : List Piece)
+      → laid (held_slots spec name ss more) ≡ slots_text spec name ss ++ laid more
   unfolding chain
   held_slots_are name [] more = refl
   held_slots_are name (s ∷ ss) more =
       let head = name ∷ codes " {\n" ∷ [] in
-      ap (chain head) (slots_are (s ∷ ss) _) ∙ sym (parts head _) ∙ sym (three (together head) (flat_map (slot_line spec) (s ∷ ss)) (codes "}\n") (laid more))
+      ap (chain head) (slots_are (s ∷ ss) _) ∙ sym (parts head _)
+      ∙ sym (three (together head) (flat_map (slot_line spec) (s ∷ ss)) (codes "}\n") (laid more))
 
-  named_is : (key colon : List ℕ) (o : Option ℕ) (more : List Piece) → colon ≡ key ++ codes ": " → laid (named_pieces spec key o more) ≡ named_line spec colon o ++ laid more
+  named_is : (key colon : List ℕ) (o : Option ℕ) (more : List Piece) → colon ≡ key ++ codes ": "
+      → laid (named_pieces spec key o more) ≡ named_line spec colon o ++ laid more
   unfolding chain
   named_is key colon None more e = refl
   named_is key colon (Some object) more e =
-      sym (append_assoc key (codes ": ") (name_at spec object ++ (codes "\n" ++ laid more))) ∙ ap (λ z. z ++ (name_at spec object ++ (codes "\n" ++ laid more))) (sym e)
+      sym (append_assoc key (codes ": ") (name_at spec object ++ (codes "\n" ++ laid more)))
+      ∙ ap (λ z. z ++ (name_at spec object ++ (codes "\n" ++ laid more))) (sym e)
       ∙ sym (parts (colon ∷ name_at spec object ∷ codes "\n" ∷ []) (laid more))
 
   buffer_is : (b : Option Cap) (more : List Piece) → laid (buffer_pieces spec b more) ≡ buffer_line spec b ++ laid more
   buffer_is None more = refl
-  buffer_is (Some cap) more = ap (λ z. codes "ipc_buffer_slot: " ++ z) (cap_is cap more) ∙ sym (behind (codes "ipc_buffer_slot: ") (cap_end spec cap) (laid more))
+  buffer_is (Some cap) more = ap (λ z. codes "ipc_buffer_slot: " ++ z) (cap_is cap more)
+      ∙ sym (behind (codes "ipc_buffer_slot: ") (cap_end spec cap) (laid more))
 
-  held_tcb_is : (name : List ℕ) (tcb : Tcb) (some : Bool) (more : List Piece) → laid (held_tcb spec name tcb some more) ≡ tcb_text spec name tcb some ++ laid more
+  held_tcb_is : (name : List ℕ) (tcb : Tcb) (some : Bool) (more : List Piece)
+      → laid (held_tcb spec name tcb some more) ≡ tcb_text spec name tcb some ++ laid more
   unfolding chain
   held_tcb_is name tcb false more = refl
   held_tcb_is name tcb true more =
@@ -139,19 +166,24 @@ module _ (spec : Spec) where
       let c = named_line spec (codes "cspace: ") tcb.cspace in
       let v = named_line spec (codes "vspace: ") tcb.vspace in
       let b = buffer_line spec tcb.buffer in
-      ap (chain head) (named_is (codes "cspace") (codes "cspace: ") tcb.cspace _ refl) ∙ ap (λ z. chain head (c ++ z)) (named_is (codes "vspace") (codes "vspace: ") tcb.vspace _ refl)
+      ap (chain head) (named_is (codes "cspace") (codes "cspace: ") tcb.cspace _ refl) ∙ ap (λ z. chain head (c ++ z))
+      (named_is (codes "vspace") (codes "vspace: ") tcb.vspace _ refl)
       ∙ ap (λ z. chain head (c ++ (v ++ z))) (buffer_is tcb.buffer _) ∙ sym (parts head _)
       ∙ sym (behind (together head ⊹ c ⊹ v ⊹ b) (codes "}\n") (laid more) ∙ four (together head) c v b (codes "}\n" ++ laid more))
 
-  held_irq_is : (name : List ℕ) (n : Option ℕ) (more : List Piece) → laid (held_irq spec name n more) ≡ irq_text spec name n ++ laid more
+  held_irq_is : (name : List ℕ) (n : Option ℕ) (more : List Piece)
+      → laid (held_irq spec name n more) ≡ irq_text spec name n ++ laid more
   unfolding chain hex_text hex_digits
   held_irq_is name None more = refl
-  held_irq_is name (Some n) more = hex_zero ∙ sym (parts (name ∷ codes " {\n0x0: " ∷ name_at spec n ∷ codes "\n}\n" ∷ []) (laid more))
+  held_irq_is name (Some n) more =
+      hex_zero ∙ sym (parts (name ∷ codes " {\n0x0: " ∷ name_at spec n ∷ codes "\n}\n" ∷ []) (laid more))
     where
-      hex_zero : laid (held_irq spec name (Some n) more) ≡ chain (name ∷ codes " {\n0x0: " ∷ name_at spec n ∷ codes "\n}\n" ∷ []) (laid more)
+      hex_zero : laid (held_irq spec name (Some n) more) ≡ chain (name ∷ codes " {\n0x0: " ∷ name_at spec n ∷ codes "\n}\n"
+          ∷ []) (laid more)
       hex_zero = refl
 
-  held_is : (name : List ℕ) (o : Object) (more : List Piece) → laid (held_pieces spec name o more) ≡ holder_text spec name o ++ laid more
+  held_is : (name : List ℕ) (o : Object) (more : List Piece) → laid (held_pieces spec name o more) ≡ holder_text spec name
+      o ++ laid more
   held_is name Endpoint more = refl
   held_is name Notification more = refl
   held_is name (CNode bits slots) more = held_slots_are name slots more
@@ -160,9 +192,11 @@ module _ (spec : Spec) where
   held_is name (Pages level slots) more = held_slots_are name slots more
   held_is name (Irq notification) more = held_irq_is name notification more
 
-  holders_are : (es : List Entry) (more : List Piece) → laid (holders_pieces spec es more) ≡ flat_map (entry_text spec) es ++ laid more
+  holders_are : (es : List Entry) (more : List Piece) → laid (holders_pieces spec es more) ≡ flat_map (entry_text spec)
+      es ++ laid more
   holders_are [] more = refl
-  holders_are (e ∷ es) more = held_is e.name e.object (holders_pieces spec es more) ∙ ap (λ z. entry_text spec e ++ z) (holders_are es more) ∙ sym (append_assoc (entry_text spec e) (flat_map (entry_text spec) es) (laid more))
+  holders_are (e ∷ es) more = held_is e.name e.object (holders_pieces spec es more) ∙ ap (λ z. entry_text spec e ++ z)
+      (holders_are es more) ∙ sym (append_assoc (entry_text spec e) (flat_map (entry_text spec) es) (laid more))
 
   -- ---- the whole
 
@@ -170,7 +204,8 @@ module _ (spec : Spec) where
   unfolding chain
   lines_are [] more = refl
   lines_are (l ∷ ls) more =
-      sym (parts (decimal l.0 ∷ codes ": " ∷ name_at spec l.1 ∷ codes "\n" ∷ []) _) ∙ ap (λ z. irq_line spec l ++ z) (lines_are ls more) ∙ sym (append_assoc (irq_line spec l) (flat_map (irq_line spec) ls) (laid more))
+      sym (parts (decimal l.0 ∷ codes ": " ∷ name_at spec l.1 ∷ codes "\n" ∷ []) _) ∙ ap (λ z. irq_line spec l ++ z)
+      (lines_are ls more) ∙ sym (append_assoc (irq_line spec l) (flat_map (irq_line spec) ls) (laid more))
 
 pub all_laid : (spec : Spec) → canonical spec ≡ laid (pieces spec)
 unfolding canonical chain
@@ -183,9 +218,11 @@ all_laid spec =
     let last = codes "}\n\nirq maps {\n" in
     let end = codes "}\n" in
     let plain : canonical spec ≡ together head ++ (a ++ (mid ++ (b ++ (last ++ (c ++ end))))) =
-    sym (append-nil (canonical spec)) ∙ behind (together head ⊹ a ⊹ mid ⊹ b ⊹ last ⊹ c) end [] ∙ behind (together head ⊹ a ⊹ mid ⊹ b ⊹ last) c (end ++ []) ∙ behind (together head ⊹ a ⊹ mid ⊹ b) last (c ++ (end ++ []))
+    sym (append-nil (canonical spec)) ∙ behind (together head ⊹ a ⊹ mid ⊹ b ⊹ last ⊹ c) end []
+    ∙ behind (together head ⊹ a ⊹ mid ⊹ b ⊹ last) c (end ++ []) ∙ behind (together head ⊹ a ⊹ mid ⊹ b) last (c ++ (end ++ []))
     ∙ four (together head) a mid b (last ++ (c ++ (end ++ []))) in
     sym (
-    ap (chain head) (objects_are spec.entries (caps_pieces spec)) ∙ ap (λ z. chain head (a ++ (mid ++ z))) (holders_are spec spec.entries (last_pieces spec))
+    ap (chain head) (objects_are spec.entries (caps_pieces spec)) ∙ ap (λ z. chain head (a ++ (mid ++ z)))
+    (holders_are spec spec.entries (last_pieces spec))
     ∙ ap (λ z. chain head (a ++ (mid ++ (b ++ (last ++ z))))) (lines_are spec spec.irqs _) ∙ sym (parts head _) ∙ sym plain
     )

@@ -22,7 +22,8 @@ use Rattle.cap_model.proofs.Kept.{none_is_root}
 
 -- ---- tests of lists
 
-pub all_from : {A : Type 0} (p q r : A → Bool) (xs : List A) → ((x : A) → p x ≡ true → q x ≡ true → r x ≡ true) → list_all p xs ≡ true → list_all q xs ≡ true → list_all r xs ≡ true
+pub all_from : {A : Type 0} (p q r : A → Bool) (xs : List A) → ((x : A) → p x ≡ true → q x ≡ true → r x ≡ true)
+    → list_all p xs ≡ true → list_all q xs ≡ true → list_all r xs ≡ true
 all_from p q r [] step a b = refl
 all_from p q r (x ∷ xs) step a b =
     let k = and_parts (p x) (list_all p xs) a in
@@ -57,7 +58,8 @@ there_root spec place h = none_is_root spec.arch (object_at spec place) h
 abbrev pub are_words : List Entry → Bool
 are_words es = list_all (λ e. is_word e.name) es
 
-word_in : (es : List Entry) (place : ℕ) → are_words es ≡ true → is_some (entry_object (slice_get es place)) ≡ true → is_word (entry_name (slice_get es place)) ≡ true
+word_in : (es : List Entry) (place : ℕ) → are_words es ≡ true → is_some (entry_object (slice_get es place)) ≡ true
+    → is_word (entry_name (slice_get es place)) ≡ true
 word_in [] zero h s = absurd cc
 word_in [] (suc j) h s = absurd cc
 word_in (e ∷ es) zero h s = (and_parts (is_word e.name) (are_words es) h).0
@@ -67,7 +69,8 @@ word_in (e ∷ es) (suc j) h s = word_in es j (and_parts (is_word e.name) (are_w
 abbrev pub is_named : Spec → ℕ → Bool
 is_named spec place = is_word (name_at spec place)
 
-pub named_there : (spec : Spec) (place : ℕ) → are_words spec.entries ≡ true → is_some (object_at spec place) ≡ true → is_named spec place ≡ true
+pub named_there : (spec : Spec) (place : ℕ) → are_words spec.entries ≡ true → is_some (object_at spec place) ≡ true
+    → is_named spec place ≡ true
 named_there spec place h s = word_in spec.entries place h s
 
 -- a capability that can be written
@@ -82,53 +85,73 @@ abbrev pub has_named : Spec → Object → Bool
 has_named spec Endpoint = true
 has_named spec Notification = true
 has_named spec (CNode bits slots) = list_all (is_slot spec) slots
-has_named spec (Thread tcb) = if_any (is_named spec) tcb.cspace && (if_any (is_named spec) tcb.vspace && if_any (is_target spec) tcb.buffer)
+has_named spec (Thread tcb) = if_any (is_named spec) tcb.cspace
+    && (if_any (is_named spec) tcb.vspace && if_any (is_target spec) tcb.buffer)
 has_named spec (Frame paddr fill) = true
 has_named spec (Pages level slots) = list_all (is_slot spec) slots
 has_named spec (Irq notification) = if_any (is_named spec) notification
 
-named_slots : (spec : Spec) → are_words spec.entries ≡ true → (fit : Cap → Bool) → ((c : Cap) → fit c ≡ true → is_some (object_at spec c.object) ≡ true) → (size : ℕ) (slots : List (ℕ × Cap)) → keeps_slots fit size slots ≡ true → are_slots slots ≡ true
+named_slots : (spec : Spec) → are_words spec.entries ≡ true → (fit : Cap → Bool)
+    → ((c : Cap) → fit c ≡ true → is_some (object_at spec c.object) ≡ true) → (size : ℕ) (slots : List (ℕ × Cap))
+    → keeps_slots fit size slots ≡ true → are_slots slots ≡ true
     → list_all (is_slot spec) slots ≡ true
 named_slots spec w fit there size slots k a =
     all_from (λ s. nat_lt s.0 size && fit s.1) (λ s. is_number s.0 && is_number s.1.badge) (is_slot spec) slots
-    (λ s p q. let g = and_parts (nat_lt s.0 size) (fit s.1) p in let n = and_parts (is_number s.0) (is_number s.1.badge) q in and_from _ _ n.0 (and_from _ _ (named_there spec s.1.object w (there s.1 g.1)) n.1))
+    (λ s p q. let g = and_parts (nat_lt s.0 size) (fit s.1) p in let n = and_parts (is_number s.0) (is_number s.1.badge) q in
+    and_from _ _ n.0 (and_from _ _ (named_there spec s.1.object w (there s.1 g.1)) n.1))
     (and_parts (rise slots) (list_all (λ s. nat_lt s.0 size && fit s.1) slots) k).1 a
 
-named_any : {A : Type 0} (p q : A → Bool) (o : Option A) → ((x : A) → p x ≡ true → q x ≡ true) → if_any p o ≡ true → if_any q o ≡ true
+named_any : {A : Type 0} (p q : A → Bool) (o : Option A) → ((x : A) → p x ≡ true → q x ≡ true) → if_any p o ≡ true
+    → if_any q o ≡ true
 named_any p q None step h = refl
 named_any p q (Some x) step h = step x h
 
-named_table : (spec : Spec) → are_words spec.entries ≡ true → (level : Level) (n : Option ℕ) (slots : List (ℕ × Cap)) → keeps_table spec level n slots ≡ true → are_slots slots ≡ true → list_all (is_slot spec) slots ≡ true
+named_table : (spec : Spec) → are_words spec.entries ≡ true → (level : Level) (n : Option ℕ) (slots : List (ℕ × Cap))
+    → keeps_table spec level n slots ≡ true → are_slots slots ≡ true → list_all (is_slot spec) slots ≡ true
 named_table spec w level None slots k a = absurd cc
 named_table spec w level (Some n) slots k a =
-    named_slots spec w (fits_as spec (child level)) (λ c h. there_fits spec c (and_parts (is_at spec (child level) c.object) (fits spec c) h).1) n slots k a
+    named_slots spec w (fits_as spec (child level))
+    (λ c h. there_fits spec c (and_parts (is_at spec (child level) c.object) (fits spec c) h).1) n slots k a
 
-named_tcb : (spec : Spec) → are_words spec.entries ≡ true → (tcb : Tcb) → keeps_tcb spec tcb ≡ true → is_tcb tcb ≡ true → has_named spec (Thread tcb) ≡ true
+named_tcb : (spec : Spec) → are_words spec.entries ≡ true → (tcb : Tcb) → keeps_tcb spec tcb ≡ true → is_tcb tcb ≡ true
+    → has_named spec (Thread tcb) ≡ true
 named_tcb spec w tcb k l =
-    let a = and_parts (leb tcb.prio 255 && if_any (is_at spec kinds.CNode) tcb.cspace) (if_any (is_space_root spec) tcb.vspace && if_any (fits_as spec kinds.Frame) tcb.buffer) k in
+    let a = and_parts (leb tcb.prio 255 && if_any (is_at spec kinds.CNode) tcb.cspace) (if_any (is_space_root spec) tcb.vspace
+    && if_any (fits_as spec kinds.Frame) tcb.buffer) k in
     let b = and_parts (leb tcb.prio 255) (if_any (is_at spec kinds.CNode) tcb.cspace) a.0 in
     let c = and_parts (if_any (is_space_root spec) tcb.vspace) (if_any (fits_as spec kinds.Frame) tcb.buffer) a.1 in
-    let d = and_parts (is_number tcb.addr && is_number tcb.ip) (is_number tcb.sp && (if_any is_plain tcb.elf && if_any (λ c. is_number c.badge) tcb.buffer)) l in
+    let d = and_parts (is_number tcb.addr && is_number tcb.ip) (is_number tcb.sp
+    && (if_any is_plain tcb.elf && if_any (λ c. is_number c.badge) tcb.buffer)) l in
     let e = and_parts (is_number tcb.sp) (if_any is_plain tcb.elf && if_any (λ c. is_number c.badge) tcb.buffer) d.1 in
     let f = and_parts (if_any is_plain tcb.elf) (if_any (λ c. is_number c.badge) tcb.buffer) e.1 in
-    and_from _ _ (named_any (is_at spec kinds.CNode) (is_named spec) tcb.cspace (λ p h. named_there spec p w (there_is spec kinds.CNode p h)) b.1)
-    (and_from _ _ (named_any (is_space_root spec) (is_named spec) tcb.vspace (λ p h. named_there spec p w (there_root spec p h)) c.0) (buffer_named tcb.buffer c.1 f.1))
+    and_from _ _ (named_any (is_at spec kinds.CNode) (is_named spec) tcb.cspace
+    (λ p h. named_there spec p w (there_is spec kinds.CNode p h)) b.1)
+    (and_from _ _ (named_any (is_space_root spec) (is_named spec) tcb.vspace (λ p h. named_there spec p w (there_root spec p h))
+    c.0) (buffer_named tcb.buffer c.1 f.1))
   where
-    buffer_named : (o : Option Cap) → if_any (fits_as spec kinds.Frame) o ≡ true → if_any (λ c. is_number c.badge) o ≡ true → if_any (is_target spec) o ≡ true
+    buffer_named : (o : Option Cap) → if_any (fits_as spec kinds.Frame) o ≡ true → if_any (λ c. is_number c.badge) o ≡ true
+        → if_any (is_target spec) o ≡ true
     buffer_named None h n = refl
-    buffer_named (Some cap) h n = and_from _ _ (named_there spec cap.object w (there_fits spec cap (and_parts (is_at spec kinds.Frame cap.object) (fits spec cap) h).1)) n
+    buffer_named (Some cap) h n =
+        and_from _ _
+        (named_there spec cap.object w (there_fits spec cap (and_parts (is_at spec kinds.Frame cap.object) (fits spec cap) h).1))
+        n
 
-named_object : (spec : Spec) → are_words spec.entries ≡ true → (o : Object) → keeps spec o ≡ true → is_laid o ≡ true → has_named spec o ≡ true
+named_object : (spec : Spec) → are_words spec.entries ≡ true → (o : Object) → keeps spec o ≡ true → is_laid o ≡ true
+    → has_named spec o ≡ true
 named_object spec w Endpoint k l = refl
 named_object spec w Notification k l = refl
-named_object spec w (CNode bits slots) k l = named_slots spec w (fits spec) (λ c h. there_fits spec c h) (2 ^ bits) slots (and_parts _ _ k).1 l
+named_object spec w (CNode bits slots) k l = named_slots spec w (fits spec) (λ c h. there_fits spec c h) (2 ^ bits) slots
+    (and_parts _ _ k).1 l
 named_object spec w (Thread tcb) k l = named_tcb spec w tcb k l
 named_object spec w (Frame paddr fill) k l = refl
 named_object spec w (Pages level slots) k l = named_table spec w level (size spec.arch level) slots k l
-named_object spec w (Irq o) k l = named_any (is_at spec kinds.Notification) (is_named spec) o (λ p h. named_there spec p w (there_is spec kinds.Notification p h)) k
+named_object spec w (Irq o) k l = named_any (is_at spec kinds.Notification) (is_named spec) o
+    (λ p h. named_there spec p w (there_is spec kinds.Notification p h)) k
 
 pub all_named : (spec : Spec) → IsWritable spec → list_all (λ e. has_named spec e.object) spec.entries ≡ true
-all_named spec w = all_from (λ e. keeps spec e.object) (λ e. is_laid e.object) (λ e. has_named spec e.object) spec.entries (λ e k l. named_object spec w.names e.object k l) w.kept.objects w.objects
+all_named spec w = all_from (λ e. keeps spec e.object) (λ e. is_laid e.object) (λ e. has_named spec e.object) spec.entries
+    (λ e k l. named_object spec w.names e.object k l) w.kept.objects w.objects
 
 -- an interrupt line that can be written
 abbrev pub is_line : Spec → ℕ × ℕ → Bool
@@ -136,5 +159,7 @@ is_line spec l = is_number l.0 && is_named spec l.1
 
 pub lines_named : (spec : Spec) → IsWritable spec → list_all (is_line spec) spec.irqs ≡ true
 lines_named spec w =
-    let k = and_parts (rise spec.irqs && differ (λ a b. a == b) (map (λ l. l.1) spec.irqs)) (list_all (λ l. is_at spec kinds.Irq l.1) spec.irqs) w.kept.lines in
-    all_from (λ l. is_at spec kinds.Irq l.1) (λ l. is_number l.0) (is_line spec) spec.irqs (λ l p q. and_from _ _ q (named_there spec l.1 w.names (there_is spec kinds.Irq l.1 p))) k.1 w.lines
+    let k = and_parts (rise spec.irqs && differ (λ a b. a == b) (map (λ l. l.1) spec.irqs))
+    (list_all (λ l. is_at spec kinds.Irq l.1) spec.irqs) w.kept.lines in
+    all_from (λ l. is_at spec kinds.Irq l.1) (λ l. is_number l.0) (is_line spec) spec.irqs
+    (λ l p q. and_from _ _ q (named_there spec l.1 w.names (there_is spec kinds.Irq l.1 p))) k.1 w.lines

@@ -19,7 +19,8 @@ use Rattle.capdl_text.proofs.Tokens.{number_word}
 use Rattle.capdl_write.proofs.Laying.{run_all}
 
 -- a run that is a number is one token
-pub number_fine : (b : ℕ) (bs : List ℕ) (n : ℕ) → is_digit b ≡ true → number_value (b ∷ bs) ≡ Some n → bytes_eq (b ∷ bs) (codes "4k") ≡ false → (kind_of (b ∷ bs) ≡ Some (kinds.Number n)) × (fault_at (b ∷ bs) ≡ None)
+pub number_fine : (b : ℕ) (bs : List ℕ) (n : ℕ) → is_digit b ≡ true → number_value (b ∷ bs) ≡ Some n
+    → bytes_eq (b ∷ bs) (codes "4k") ≡ false → (kind_of (b ∷ bs) ≡ Some (kinds.Number n)) × (fault_at (b ∷ bs) ≡ None)
 unfolding kind_of fault_at
 number_fine b bs n d v k =
     let l : is_letter b ≡ false = digit_no_letter b d in
@@ -41,7 +42,8 @@ value_digit b [] n e = decimal_first b [] (fits_true (is_decimal (b ∷ [])) (di
     decimal_first : (b : ℕ) (bs : List ℕ) → is_decimal (b ∷ bs) ≡ true → is_digit b ≡ true
     decimal_first b bs h = by_test (b == 48) refl h
       where
-        by_test : (z : Bool) → (b == 48) ≡ z → cond z (length bs == 0) (is_digit b && list_all is_digit bs) ≡ true → is_digit b ≡ true
+        by_test : (z : Bool) → (b == 48) ≡ z → cond z (length bs == 0) (is_digit b && list_all is_digit bs) ≡ true
+            → is_digit b ≡ true
         by_test true e g = let s : b ≡ 48 = eqb-true b 48 e in rw s refl
         by_test false e g = (and_parts (is_digit b) (list_all is_digit bs) g).0
 value_digit b (x ∷ ds) n e = by_hex (b == 48 && (x == 120 || x == 88)) refl e
@@ -50,11 +52,13 @@ value_digit b (x ∷ ds) n e = by_hex (b == 48 && (x == 120 || x == 88)) refl e
     fits_true true v m q = refl
     fits_true false v m q = absurd cc
 
-    by_test : (z : Bool) → (b == 48) ≡ z → cond z (length (x ∷ ds) == 0) (is_digit b && list_all is_digit (x ∷ ds)) ≡ true → is_digit b ≡ true
+    by_test : (z : Bool) → (b == 48) ≡ z → cond z (length (x ∷ ds) == 0) (is_digit b && list_all is_digit (x ∷ ds)) ≡ true
+        → is_digit b ≡ true
     by_test true e g = let s : b ≡ 48 = eqb-true b 48 e in rw s refl
     by_test false e g = (and_parts (is_digit b) (list_all is_digit (x ∷ ds)) g).0
 
-    by_hex : (t : Bool) → (b == 48 && (x == 120 || x == 88)) ≡ t → cond t (fits (is_hexadecimal ds) (digits_value 16 ds)) (fits (is_decimal (b ∷ x ∷ ds)) (digits_value 10 (b ∷ x ∷ ds))) ≡ Some n → is_digit b ≡ true
+    by_hex : (t : Bool) → (b == 48 && (x == 120 || x == 88)) ≡ t → cond t (fits (is_hexadecimal ds) (digits_value 16 ds))
+        (fits (is_decimal (b ∷ x ∷ ds)) (digits_value 10 (b ∷ x ∷ ds))) ≡ Some n → is_digit b ≡ true
     by_hex true t q = let s : b ≡ 48 = eqb-true b 48 (and_parts (b == 48) (x == 120 || x == 88) t).0 in rw s refl
     by_hex false t q = by_test (b == 48) refl (fits_true (is_decimal (b ∷ x ∷ ds)) (digits_value 10 (b ∷ x ∷ ds)) n q)
 
@@ -65,7 +69,8 @@ not_size ds n v = by_test (bytes_eq ds (codes "4k")) refl
     none_value = refl
 
     by_test : (b : Bool) → bytes_eq ds (codes "4k") ≡ b → b ≡ false
-    by_test true e = absurd (let s : ds ≡ codes "4k" = (bytes_eq-Decides ds (codes "4k")).0 e in let p = sym none_value ∙ ap number_value (sym s) ∙ v in cc)
+    by_test true e = absurd (let s : ds ≡ codes "4k" = (bytes_eq-Decides ds (codes "4k")).0 e in
+        let p = sym none_value ∙ ap number_value (sym s) ∙ v in cc)
     by_test false e = refl
 
 -- a number is one token

@@ -53,7 +53,14 @@ rights_back : (r : Rights) → has_rights r ≡ true → (word_of (rights_word r
 unfolding word_of field_of
 rights_back r h = go r.read r.write r.grant r.reply h
   where
-    go : (a b c d : Bool) → (a || (b || (c || d))) ≡ true → (word_of (letter a 82 (letter b 87 (letter c 71 (letter d 80 [])))) ≡ words.Rights) × (rights_of (letter a 82 (letter b 87 (letter c 71 (letter d 80 [])))) ≡ (let s : Rights = record { read = a; write = b; grant = c; reply = d } in s))
+    go : (a b c d : Bool) → (a || (b || (c || d))) ≡ true
+        → (word_of (letter a 82 (letter b 87 (letter c 71 (letter d 80 [])))) ≡ words.Rights)
+        × (rights_of (letter a 82 (letter b 87 (letter c 71 (letter d 80 [])))) ≡ (let s : Rights = record {
+          read = a;
+          write = b;
+          grant = c;
+          reply = d;
+        } in s))
     go true true true true e = (refl, refl)
     go true true true false e = (refl, refl)
     go true true false true e = (refl, refl)
@@ -76,7 +83,8 @@ unfolding param_line badge_line
 next_param_decides = refl
 
 next_param_eats : Eats (reads (behind (mark_code marks.Comma) param_form))
-next_param_eats = eats token_code left_out_line opens left_out_is 0 (behind (mark_code marks.Comma) param_form) next_param_decides refl
+next_param_eats = eats token_code left_out_line opens left_out_is 0 (behind (mark_code marks.Comma) param_form)
+    next_param_decides refl
 
 module _ (pl : List Piece → Span) where
   abbrev paren_code : List ℕ
@@ -89,7 +97,8 @@ module _ (pl : List Piece → Span) where
   next_param = behind (mark_code marks.Comma) param_form
 
   abbrev pub badge_at : ℕ → List Piece → Param
-  badge_at badge tail = params.Badge (pl (word (codes "badge") [] ∷ colon ∷ dec badge [] ∷ tail)) (at_number pl badge (dec badge [] ∷ tail))
+  badge_at badge tail = params.Badge (pl (word (codes "badge") [] ∷ colon ∷ dec badge [] ∷ tail))
+      (at_number pl badge (dec badge [] ∷ tail))
 
   abbrev pub rights_at : Rights → List Piece → Param
   rights_at r tail = params.Rights r (pl (word (rights_word r) [] ∷ tail))
@@ -98,26 +107,44 @@ module _ (pl : List Piece → Span) where
   params_at false false r badge more = []
   params_at true false r badge more = rights_at r (paren_r (codes "\n") ∷ more) ∷ []
   params_at false true r badge more = badge_at badge (paren_r (codes "\n") ∷ more) ∷ []
-  params_at true true r badge more = rights_at r (comma ∷ word (codes "badge") [] ∷ colon ∷ dec badge [] ∷ paren_r (codes "\n") ∷ more) ∷ badge_at badge (paren_r (codes "\n") ∷ more) ∷ []
+  params_at true true r badge more = rights_at r (comma ∷ word (codes "badge") [] ∷ colon ∷ dec badge [] ∷ paren_r (codes "\n")
+      ∷ more) ∷ badge_at badge (paren_r (codes "\n") ∷ more) ∷ []
 
-  read_rights : (r : Rights) (tail : List Piece) → has_rights r ≡ true → reads param_form (shown pl (word (rights_word r) [] ∷ tail)) ≡ Ok (rights_at r tail, shown pl tail)
+  read_rights : (r : Rights) (tail : List Piece) → has_rights r ≡ true
+      → reads param_form (shown pl (word (rights_word r) [] ∷ tail)) ≡ Ok (rights_at r tail, shown pl tail)
   unfolding param_line
   read_rights r tail h = let k = rights_back r h in rw (k.0) (rw (k.1) refl)
 
-  read_badge : (badge : ℕ) (tail : List Piece) → reads param_form (shown pl (word (codes "badge") [] ∷ colon ∷ dec badge [] ∷ tail)) ≡ Ok (badge_at badge tail, shown pl tail)
+  read_badge : (badge : ℕ) (tail : List Piece)
+      → reads param_form (shown pl (word (codes "badge") [] ∷ colon ∷ dec badge [] ∷ tail)) ≡ Ok (
+        badge_at badge tail,
+        shown pl tail,
+      )
   unfolding param_line badge_line
   read_badge badge tail = rw word-badge refl
 
-  no_more : (more : List Piece) → many token_code comma_code (reads next_param) (shown pl (paren_r (codes "\n") ∷ more)) ≡ Ok ([], shown pl (paren_r (codes "\n") ∷ more))
+  no_more : (more : List Piece) → many token_code comma_code (reads next_param) (shown pl (paren_r (codes "\n") ∷ more)) ≡ Ok
+      ([], shown pl (paren_r (codes "\n") ∷ more))
   no_more more = many_none token_code comma_code (reads next_param) (shown pl (paren_r (codes "\n") ∷ more)) refl
 
-  one_param : (ps : List Piece) (x : Param) (us : List Seen) (xs : List Param) (rest : List Seen) → reads param_form (shown pl ps) ≡ Ok (x, us)
-      → many token_code comma_code (reads next_param) us ≡ Ok (xs, rest) → many token_code comma_code (reads next_param) (shown pl (comma ∷ ps)) ≡ Ok (x ∷ xs, rest)
-  one_param ps x us xs rest e m = one_more comma_code next_param next_param_eats (shown pl (comma ∷ ps)) x us xs rest refl (rw e refl) m
+  one_param : (ps : List Piece) (x : Param) (us : List Seen) (xs : List Param) (rest : List Seen)
+      → reads param_form (shown pl ps) ≡ Ok (x, us)
+      → many token_code comma_code (reads next_param) us ≡ Ok (xs, rest)
+      → many token_code comma_code (reads next_param) (shown pl (comma ∷ ps)) ≡ Ok (x ∷ xs, rest)
+  one_param ps x us xs rest e m = one_more comma_code next_param next_param_eats (shown pl (comma ∷ ps)) x us xs rest refl
+      (rw e refl) m
 
-  last_param : (badge : ℕ) (more : List Piece) → many token_code comma_code (reads next_param) (shown pl (comma ∷ word (codes "badge") [] ∷ colon ∷ dec badge [] ∷ paren_r (codes "\n") ∷ more)) ≡ Ok (badge_at badge (paren_r (codes "\n") ∷ more) ∷ [], shown pl (paren_r (codes "\n") ∷ more))
+  last_param : (badge : ℕ) (more : List Piece)
+      → many token_code comma_code (reads next_param) (shown pl (comma ∷ word (codes "badge") [] ∷ colon ∷ dec badge []
+      ∷ paren_r (codes "\n") ∷ more)) ≡ Ok (
+        badge_at badge (paren_r (codes "\n") ∷ more)
+            ∷ [],
+        shown pl (paren_r (codes "\n") ∷ more),
+      )
   last_param badge more =
-      one_param (word (codes "badge") [] ∷ colon ∷ dec badge [] ∷ paren_r (codes "\n") ∷ more) (badge_at badge (paren_r (codes "\n") ∷ more)) (shown pl (paren_r (codes "\n") ∷ more)) [] (shown pl (paren_r (codes "\n") ∷ more))
+      one_param (word (codes "badge") [] ∷ colon ∷ dec badge [] ∷ paren_r (codes "\n") ∷ more)
+      (badge_at badge (paren_r (codes "\n") ∷ more)) (shown pl (paren_r (codes "\n") ∷ more)) []
+      (shown pl (paren_r (codes "\n") ∷ more))
       (read_badge badge (paren_r (codes "\n") ∷ more)) (no_more more)
 
   -- a slot, by its key's piece
@@ -129,23 +156,48 @@ module _ (pl : List Piece → Span) where
     params = params_at r b rights badge more;
   }
 
-  pub read_slot : (n : ℕ) (name : List ℕ) (r b : Bool) (rights : Rights) (badge : ℕ) (more : List Piece) → is_name name ≡ true → (r ≡ true → has_rights rights ≡ true) → starts token_code paren_code (shown pl more) ≡ false
-      → reads slot_form (shown pl (hex n [] ∷ colon ∷ target_pieces name r b rights badge more)) ≡ Ok (slot_at (keys.Number n) (hex n []) name r b rights badge more, shown pl more)
+  pub read_slot : (n : ℕ) (name : List ℕ) (r b : Bool) (rights : Rights) (badge : ℕ) (more : List Piece) → is_name name ≡ true
+      → (r ≡ true → has_rights rights ≡ true) → starts token_code paren_code (shown pl more) ≡ false
+      → reads slot_form (shown pl (hex n [] ∷ colon ∷ target_pieces name r b rights badge more)) ≡ Ok
+      (slot_at (keys.Number n) (hex n []) name r b rights badge more, shown pl more)
   unfolding slot_line key_line maybe_params params_line
   read_slot n name false false rights badge more w h s = rw (any (word_of name), w, s) refl
-  read_slot n name true false rights badge more w h s = rw (any (word_of name), w, read_rights rights (paren_r (codes "\n") ∷ more) (h refl), no_more more) refl
-  read_slot n name false true rights badge more w h s = rw (any (word_of name), w, read_badge badge (paren_r (codes "\n") ∷ more), no_more more) refl
+  read_slot n name true false rights badge more w h s =
+      rw (any (word_of name), w, read_rights rights (paren_r (codes "\n") ∷ more) (h refl), no_more more) refl
+  read_slot n name false true rights badge more w h s = rw (
+    any (word_of name),
+    w,
+    read_badge badge (paren_r (codes "\n") ∷ more),
+    no_more more,
+  ) refl
   read_slot n name true true rights badge more w h s =
-      rw (any (word_of name), w, read_rights rights (comma ∷ word (codes "badge") [] ∷ colon ∷ dec badge [] ∷ paren_r (codes "\n") ∷ more) (h refl), last_param badge more) refl
+      rw (
+        any (word_of name),
+        w,
+        read_rights rights (comma ∷ word (codes "badge") [] ∷ colon ∷ dec badge [] ∷ paren_r (codes "\n")
+            ∷ more) (h refl),
+        last_param badge more,
+      ) refl
 
-  pub read_buffer : (name : List ℕ) (r b : Bool) (rights : Rights) (badge : ℕ) (more : List Piece) → is_name name ≡ true → (r ≡ true → has_rights rights ≡ true) → starts token_code paren_code (shown pl more) ≡ false
-      → reads slot_form (shown pl (word (codes "ipc_buffer_slot") [] ∷ colon ∷ target_pieces name r b rights badge more)) ≡ Ok (slot_at keys.Buffer (word (codes "ipc_buffer_slot") []) name r b rights badge more, shown pl more)
+  pub read_buffer : (name : List ℕ) (r b : Bool) (rights : Rights) (badge : ℕ) (more : List Piece) → is_name name ≡ true
+      → (r ≡ true → has_rights rights ≡ true) → starts token_code paren_code (shown pl more) ≡ false
+      → reads slot_form (shown pl (word (codes "ipc_buffer_slot") [] ∷ colon ∷ target_pieces name r b rights badge more)) ≡ Ok
+      (slot_at keys.Buffer (word (codes "ipc_buffer_slot") []) name r b rights badge more, shown pl more)
   unfolding slot_line key_line maybe_params params_line
   read_buffer name false false rights badge more w h s = rw (word-buffer, any (word_of name), w, s) refl
-  read_buffer name true false rights badge more w h s = rw (word-buffer, any (word_of name), w, read_rights rights (paren_r (codes "\n") ∷ more) (h refl), no_more more) refl
-  read_buffer name false true rights badge more w h s = rw (word-buffer, any (word_of name), w, read_badge badge (paren_r (codes "\n") ∷ more), no_more more) refl
+  read_buffer name true false rights badge more w h s =
+      rw (word-buffer, any (word_of name), w, read_rights rights (paren_r (codes "\n") ∷ more) (h refl), no_more more) refl
+  read_buffer name false true rights badge more w h s =
+      rw (word-buffer, any (word_of name), w, read_badge badge (paren_r (codes "\n") ∷ more), no_more more) refl
   read_buffer name true true rights badge more w h s =
-      rw (word-buffer, any (word_of name), w, read_rights rights (comma ∷ word (codes "badge") [] ∷ colon ∷ dec badge [] ∷ paren_r (codes "\n") ∷ more) (h refl), last_param badge more) refl
+      rw (
+        word-buffer,
+        any (word_of name),
+        w,
+        read_rights rights (comma ∷ word (codes "badge") [] ∷ colon ∷ dec badge []
+            ∷ paren_r (codes "\n") ∷ more) (h refl),
+        last_param badge more,
+      ) refl
 
   abbrev pub no_rights_at : Rights
   no_rights_at = record { read = false; write = false; grant = false; reply = false }
@@ -154,12 +206,16 @@ module _ (pl : List Piece → Span) where
   abbrev pub plain_at : SlotKey → List ℕ → List ℕ → List Piece → SlotLine
   plain_at key text name more = slot_at key (word text []) name false false no_rights_at 0 more
 
-  pub read_cspace : (name : List ℕ) (more : List Piece) → is_name name ≡ true → starts token_code paren_code (shown pl more) ≡ false
-      → reads slot_form (shown pl (word (codes "cspace") [] ∷ colon ∷ word name (codes "\n") ∷ more)) ≡ Ok (plain_at keys.Cspace (codes "cspace") name more, shown pl more)
+  pub read_cspace : (name : List ℕ) (more : List Piece) → is_name name ≡ true
+      → starts token_code paren_code (shown pl more) ≡ false
+      → reads slot_form (shown pl (word (codes "cspace") [] ∷ colon ∷ word name (codes "\n") ∷ more)) ≡ Ok
+      (plain_at keys.Cspace (codes "cspace") name more, shown pl more)
   unfolding slot_line key_line maybe_params
   read_cspace name more w s = rw (word-cspace, any (word_of name), w, s) refl
 
-  pub read_vspace : (name : List ℕ) (more : List Piece) → is_name name ≡ true → starts token_code paren_code (shown pl more) ≡ false
-      → reads slot_form (shown pl (word (codes "vspace") [] ∷ colon ∷ word name (codes "\n") ∷ more)) ≡ Ok (plain_at keys.Vspace (codes "vspace") name more, shown pl more)
+  pub read_vspace : (name : List ℕ) (more : List Piece) → is_name name ≡ true
+      → starts token_code paren_code (shown pl more) ≡ false
+      → reads slot_form (shown pl (word (codes "vspace") [] ∷ colon ∷ word name (codes "\n") ∷ more)) ≡ Ok
+      (plain_at keys.Vspace (codes "vspace") name more, shown pl more)
   unfolding slot_line key_line maybe_params
   read_vspace name more w s = rw (word-vspace, any (word_of name), w, s) refl

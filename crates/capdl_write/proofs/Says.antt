@@ -45,7 +45,8 @@ use Rattle.capdl_write.proofs.Sound.{fits_object, is_object, root_object}
 -- ---- putting in by number
 
 -- a number above all is put to the end
-insert_end : {A : Type 0} (xs : List (ℕ × A)) (n : ℕ) (v : A) → list_all (λ x. nat_lt x.0 n) xs ≡ true → insert_entry nat_cmp xs n v ≡ xs ++ (n, v) ∷ []
+insert_end : {A : Type 0} (xs : List (ℕ × A)) (n : ℕ) (v : A) → list_all (λ x. nat_lt x.0 n) xs ≡ true
+    → insert_entry nat_cmp xs n v ≡ xs ++ (n, v) ∷ []
 insert_end [] n v h = refl
 insert_end (x ∷ xs) n v h =
     let k = and_parts (nat_lt x.0 n) (list_all (λ x. nat_lt x.0 n) xs) h in
@@ -60,7 +61,8 @@ insert_end (x ∷ xs) n v h =
     not_same a b h = grind (arith, nat_tests)
 
 -- what stands before a number is below it
-rise_below : {A : Type 0} (xs : List (ℕ × A)) (y : ℕ × A) (ys : List (ℕ × A)) → rise (xs ++ y ∷ ys) ≡ true → list_all (λ x. nat_lt x.0 y.0) xs ≡ true
+rise_below : {A : Type 0} (xs : List (ℕ × A)) (y : ℕ × A) (ys : List (ℕ × A)) → rise (xs ++ y ∷ ys) ≡ true
+    → list_all (λ x. nat_lt x.0 y.0) xs ≡ true
 rise_below [] y ys r = refl
 rise_below (x ∷ []) y ys r = and_from _ _ (and_parts (nat_lt x.0 y.0) (rise (y ∷ ys)) r).0 refl
 rise_below (x ∷ z ∷ xs) y ys r =
@@ -76,20 +78,23 @@ rise_below (x ∷ z ∷ xs) y ys r =
 no_rights_is : (pl : List Piece → Span) (r : Rights) → has_rights r ≡ false → no_rights_at pl ≡ r
 no_rights_is pl r h = go r.read r.write r.grant r.reply h
   where
-    go : (a b c d : Bool) → (a || (b || (c || d))) ≡ false → no_rights_at pl ≡ (let s : Rights = record { read = a; write = b; grant = c; reply = d } in s)
+    go : (a b c d : Bool) → (a || (b || (c || d))) ≡ false
+        → no_rights_at pl ≡ (let s : Rights = record { read = a; write = b; grant = c; reply = d } in s)
     go true b c d e = absurd cc
     go false true c d e = absurd cc
     go false false true d e = absurd cc
     go false false false true e = absurd cc
     go false false false false e = refl
 
-rights_back : (pl : List Piece → Span) (r b : Bool) (rights : Rights) (badge : ℕ) (more : List Piece) → (r ≡ false → no_rights_at pl ≡ rights) → rights_said (params_at pl r b rights badge more) ≡ rights
+rights_back : (pl : List Piece → Span) (r b : Bool) (rights : Rights) (badge : ℕ) (more : List Piece)
+    → (r ≡ false → no_rights_at pl ≡ rights) → rights_said (params_at pl r b rights badge more) ≡ rights
 rights_back pl false false rights badge more h = h refl
 rights_back pl true false rights badge more h = refl
 rights_back pl false true rights badge more h = h refl
 rights_back pl true true rights badge more h = refl
 
-badge_back : (pl : List Piece → Span) (r b : Bool) (rights : Rights) (badge : ℕ) (more : List Piece) → (b ≡ false → 0 ≡ badge) → badge_said (params_at pl r b rights badge more) ≡ badge
+badge_back : (pl : List Piece → Span) (r b : Bool) (rights : Rights) (badge : ℕ) (more : List Piece) → (b ≡ false → 0 ≡ badge)
+    → badge_said (params_at pl r b rights badge more) ≡ badge
 badge_back pl false false rights badge more h = h refl
 badge_back pl true false rights badge more h = h refl
 badge_back pl false true rights badge more h = refl
@@ -102,26 +107,30 @@ zero_badge n h = sym (eqb-true n 0 (go (n == 0) h))
     go true e = refl
     go false e = absurd cc
 
-cap_of : (o : ℕ) (r : Rights) (n : ℕ) (c : Cap) → o ≡ c.object → r ≡ c.rights → n ≡ c.badge → (let d : Cap = record { object = o; rights = r; badge = n } in d) ≡ c
+cap_of : (o : ℕ) (r : Rights) (n : ℕ) (c : Cap) → o ≡ c.object → r ≡ c.rights → n ≡ c.badge
+    → (let d : Cap = record { object = o; rights = r; badge = n } in d) ≡ c
 cap_of o r n c p q s = rw (p, q, s) refl
 
 module _ (pl : List Piece → Span) (spec : Spec) (known : Knows) (all : KnowsAll spec known) where
   place_back : (place : ℕ) (o : Object) → object_at spec place ≡ Some o → place_or (known (name_at spec place)) ≡ place
   place_back place o h = let e = known_place spec known all place o h in rw e refl
 
-  cap_back : (key : SlotKey) (p : Piece) (cap : Cap) (more : List Piece) → fits spec cap ≡ true → cap_said known (cap_at pl spec key p cap more) ≡ cap
+  cap_back : (key : SlotKey) (p : Piece) (cap : Cap) (more : List Piece) → fits spec cap ≡ true
+      → cap_said known (cap_at pl spec key p cap more) ≡ cap
   cap_back key p cap more f =
       let o = fits_object spec cap f in
       cap_of _ _ _ cap (place_back cap.object o.0 o.1)
       (rights_back pl (has_rights cap.rights) (not (cap.badge == 0)) cap.rights cap.badge more (no_rights_is pl cap.rights))
       (badge_back pl (has_rights cap.rights) (not (cap.badge == 0)) cap.rights cap.badge more (zero_badge cap.badge))
 
-  slots_back : (done ss : List (ℕ × Cap)) (more : List Piece) → rise (done ++ ss) ≡ true → list_all (λ s. fits spec s.1) ss ≡ true → slots_from known done (slots_at pl spec ss more) ≡ done ++ ss
+  slots_back : (done ss : List (ℕ × Cap)) (more : List Piece) → rise (done ++ ss) ≡ true → list_all (λ s. fits spec s.1) ss ≡ true
+      → slots_from known done (slots_at pl spec ss more) ≡ done ++ ss
   slots_back done [] more r f = sym (append-nil done)
   slots_back done (s ∷ ss) more r f =
       let k = and_parts (fits spec s.1) (list_all (λ s. fits spec s.1) ss) f in
       let c = cap_back (keys.Number s.0) (hex s.0 []) s.1 (slots_pieces spec ss more) k.0 in
-      let put : insert_entry nat_cmp done s.0 (cap_said known (cap_at pl spec (keys.Number s.0) (hex s.0 []) s.1 (slots_pieces spec ss more))) ≡ done ++ s ∷ [] =
+      let put : insert_entry nat_cmp done s.0
+      (cap_said known (cap_at pl spec (keys.Number s.0) (hex s.0 []) s.1 (slots_pieces spec ss more))) ≡ done ++ s ∷ [] =
       ap (λ x. insert_entry nat_cmp done s.0 x) c ∙ insert_end done s.0 s.1 (rise_below done s ss r) in
       let same : (done ++ s ∷ []) ++ ss ≡ done ++ s ∷ ss = append_assoc done (s ∷ []) ss in
       ap (λ d. slots_from known d (slots_at pl spec ss more)) put ∙ slots_back (done ++ s ∷ []) ss more (rw same r) k.1 ∙ same
@@ -129,73 +138,103 @@ module _ (pl : List Piece → Span) (spec : Spec) (known : Knows) (all : KnowsAl
   -- ---- threads
 
   fields_back : (a i s : ℕ) (t u v : List Piece) (elf : Option (List ℕ)) (tail : List Piece) (prio : ℕ) (more : List Piece)
-      → fields_from no_tcb (field_at pl (codes "addr") thread.Addr a (hex a []) t ∷ field_at pl (codes "ip") thread.Ip i (hex i []) u ∷ field_at pl (codes "sp") thread.Sp s (hex s []) v ∷ with_elf pl elf tail (last_fields pl prio more))
-      ≡ (let r : Tcb = record { addr = a; ip = i; sp = s; prio = prio; elf = elf; cspace = None; vspace = None; buffer = None } in r)
+      → fields_from no_tcb (field_at pl (codes "addr") thread.Addr a (hex a []) t ∷ field_at pl (codes "ip") thread.Ip i
+      (hex i []) u ∷ field_at pl (codes "sp") thread.Sp s (hex s []) v ∷ with_elf pl elf tail (last_fields pl prio more))
+      ≡ (let r : Tcb = record { addr = a; ip = i; sp = s; prio = prio; elf = elf; cspace = None; vspace = None; buffer = None } in
+      r)
   fields_back a i s t u v None tail prio more = refl
   fields_back a i s t u v (Some elf) tail prio more = refl
 
-  tcb_back : (tcb : Tcb) (c v : Option ℕ) (b : Option Cap) (more : List Piece) → tcb.cspace ≡ None → tcb.vspace ≡ None → tcb.buffer ≡ None
-      → if_any (is_at spec kinds.CNode) c ≡ true → if_any (is_space_root spec) v ≡ true → if_any (fits_as spec kinds.Frame) b ≡ true
+  tcb_back : (tcb : Tcb) (c v : Option ℕ) (b : Option Cap) (more : List Piece) → tcb.cspace ≡ None → tcb.vspace ≡ None
+      → tcb.buffer ≡ None
+      → if_any (is_at spec kinds.CNode) c ≡ true → if_any (is_space_root spec) v ≡ true
+      → if_any (fits_as spec kinds.Frame) b ≡ true
       → named_from known tcb (cspace_at pl spec c v b more) ≡ record tcb { cspace = c; vspace = v; buffer = b }
   tcb_back tcb c v b more nc nv nb p q r = with_cspace c p
     where
-      with_buffer : (tcb : Tcb) (b : Option Cap) → tcb.buffer ≡ None → if_any (fits_as spec kinds.Frame) b ≡ true → named_from known tcb (buffer_at pl spec b more) ≡ record tcb { buffer = b }
+      with_buffer : (tcb : Tcb) (b : Option Cap) → tcb.buffer ≡ None → if_any (fits_as spec kinds.Frame) b ≡ true
+          → named_from known tcb (buffer_at pl spec b more) ≡ record tcb { buffer = b }
       with_buffer tcb None n r = ap (λ (x : Option Cap). record tcb { buffer = x }) n
-      with_buffer tcb (Some cap) n r = ap (λ (x : Cap). record tcb { buffer = Some x }) (cap_back keys.Buffer (word (codes "ipc_buffer_slot") []) cap more (and_parts (is_at spec kinds.Frame cap.object) (fits spec cap) r).1)
+      with_buffer tcb (Some cap) n r = ap (λ (x : Cap). record tcb { buffer = Some x })
+          (cap_back keys.Buffer (word (codes "ipc_buffer_slot") []) cap more (and_parts (is_at spec kinds.Frame cap.object)
+          (fits spec cap) r).1)
 
-      with_vspace : (tcb : Tcb) (v : Option ℕ) → tcb.vspace ≡ None → tcb.buffer ≡ None → if_any (is_space_root spec) v ≡ true → named_from known tcb (vspace_at pl spec v b more) ≡ record tcb { vspace = v; buffer = b }
+      with_vspace : (tcb : Tcb) (v : Option ℕ) → tcb.vspace ≡ None → tcb.buffer ≡ None → if_any (is_space_root spec) v ≡ true
+          → named_from known tcb (vspace_at pl spec v b more) ≡ record tcb { vspace = v; buffer = b }
       with_vspace tcb None n m q = with_buffer tcb b m r ∙ ap (λ (x : Option ℕ). record tcb { vspace = x; buffer = b }) n
       with_vspace tcb (Some p) n m q =
           let o = root_object spec p q in
-          with_buffer (record tcb { vspace = Some (place_or (known (name_at spec p))) }) b m r ∙ ap (λ (x : ℕ). record tcb { vspace = Some x; buffer = b }) (place_back p o.0 o.1)
+          with_buffer (record tcb { vspace = Some (place_or (known (name_at spec p))) }) b m r
+          ∙ ap (λ (x : ℕ). record tcb { vspace = Some x; buffer = b }) (place_back p o.0 o.1)
 
-      with_cspace : (c : Option ℕ) → if_any (is_at spec kinds.CNode) c ≡ true → named_from known tcb (cspace_at pl spec c v b more) ≡ record tcb { cspace = c; vspace = v; buffer = b }
+      with_cspace : (c : Option ℕ) → if_any (is_at spec kinds.CNode) c ≡ true
+          → named_from known tcb (cspace_at pl spec c v b more) ≡ record tcb { cspace = c; vspace = v; buffer = b }
       with_cspace None p = with_vspace tcb v nv nb q ∙ ap (λ (x : Option ℕ). record tcb { cspace = x; vspace = v; buffer = b }) nc
       with_cspace (Some n) p =
           let o = is_object spec kinds.CNode n p in
-          with_vspace (record tcb { cspace = Some (place_or (known (name_at spec n))) }) v nv nb q ∙ ap (λ (x : ℕ). record tcb { cspace = Some x; vspace = v; buffer = b }) (place_back n o.0 o.1)
+          with_vspace (record tcb { cspace = Some (place_or (known (name_at spec n))) }) v nv nb q
+          ∙ ap (λ (x : ℕ). record tcb { cspace = Some x; vspace = v; buffer = b }) (place_back n o.0 o.1)
 
-  thread_back : (tcb : Tcb) (fs : List ThreadField) (more : List Piece) → fields_from no_tcb fs ≡ record tcb { cspace = None; vspace = None; buffer = None } → keeps_tcb spec tcb ≡ true
+  thread_back : (tcb : Tcb) (fs : List ThreadField) (more : List Piece) → fields_from no_tcb fs ≡ record tcb {
+    cspace = None;
+    vspace = None;
+    buffer = None;
+  } → keeps_tcb spec tcb ≡ true
       → thread_said known fs (cspace_at pl spec tcb.cspace tcb.vspace tcb.buffer more) ≡ tcb
   thread_back tcb fs more e k =
-      let a = and_parts (leb tcb.prio 255 && if_any (is_at spec kinds.CNode) tcb.cspace) (if_any (is_space_root spec) tcb.vspace && if_any (fits_as spec kinds.Frame) tcb.buffer) k in
+      let a = and_parts (leb tcb.prio 255 && if_any (is_at spec kinds.CNode) tcb.cspace) (if_any (is_space_root spec) tcb.vspace
+      && if_any (fits_as spec kinds.Frame) tcb.buffer) k in
       let b = and_parts (leb tcb.prio 255) (if_any (is_at spec kinds.CNode) tcb.cspace) a.0 in
       let c = and_parts (if_any (is_space_root spec) tcb.vspace) (if_any (fits_as spec kinds.Frame) tcb.buffer) a.1 in
       ap (λ (t : Tcb). named_from known t (cspace_at pl spec tcb.cspace tcb.vspace tcb.buffer more)) e
-      ∙ tcb_back (record tcb { cspace = None; vspace = None; buffer = None }) tcb.cspace tcb.vspace tcb.buffer more refl refl refl b.1 c.0 c.1
+      ∙ tcb_back (record tcb { cspace = None; vspace = None; buffer = None }) tcb.cspace tcb.vspace tcb.buffer more refl refl
+      refl b.1 c.0 c.1
 
   -- ---- objects
 
-  frame_back : (paddr : Option ℕ) (fill : Option Fill) (more : List Piece) → (paddr_said (frame_fields pl paddr fill more) ≡ paddr) × (fill_said (frame_fields pl paddr fill more) ≡ fill)
+  frame_back : (paddr : Option ℕ) (fill : Option Fill) (more : List Piece)
+      → (paddr_said (frame_fields pl paddr fill more) ≡ paddr) × (fill_said (frame_fields pl paddr fill more) ≡ fill)
   frame_back None None more = (refl, refl)
   frame_back None (Some fill) more = (refl, refl)
   frame_back (Some p) None more = (refl, refl)
   frame_back (Some p) (Some fill) more = (refl, refl)
 
-  fit_slots : (fit : Cap → Bool) (n : ℕ) (slots : List (ℕ × Cap)) → ((c : Cap) → fit c ≡ true → fits spec c ≡ true) → keeps_slots fit n slots ≡ true → (rise slots ≡ true) × (list_all (λ s. fits spec s.1) slots ≡ true)
+  fit_slots : (fit : Cap → Bool) (n : ℕ) (slots : List (ℕ × Cap)) → ((c : Cap) → fit c ≡ true → fits spec c ≡ true)
+      → keeps_slots fit n slots ≡ true → (rise slots ≡ true) × (list_all (λ s. fits spec s.1) slots ≡ true)
   fit_slots fit n slots f k =
-      let a = and_parts (rise slots) (list_all (λ s. nat_lt s.0 n && fit s.1) slots) k in
-      (a.0, all_from (λ s. nat_lt s.0 n && fit s.1) (λ s. nat_lt s.0 n && fit s.1) (λ s. fits spec s.1) slots (λ s p q. f s.1 (and_parts (nat_lt s.0 n) (fit s.1) p).1) a.1 a.1)
+      let a = and_parts (rise slots) (list_all (λ s. nat_lt s.0 n && fit s.1) slots) k in (
+        a.0,
+        all_from (λ s. nat_lt s.0 n && fit s.1) (λ s. nat_lt s.0 n && fit s.1) (λ s. fits spec s.1) slots
+            (λ s p q. f s.1 (and_parts (nat_lt s.0 n) (fit s.1) p).1) a.1 a.1,
+      )
 
-  table_slots : (level : Level) (n : Option ℕ) (slots : List (ℕ × Cap)) → keeps_table spec level n slots ≡ true → (rise slots ≡ true) × (list_all (λ s. fits spec s.1) slots ≡ true)
+  table_slots : (level : Level) (n : Option ℕ) (slots : List (ℕ × Cap)) → keeps_table spec level n slots ≡ true
+      → (rise slots ≡ true) × (list_all (λ s. fits spec s.1) slots ≡ true)
   table_slots level None slots k = absurd cc
-  table_slots level (Some n) slots k = fit_slots (fits_as spec (child level)) n slots (λ c f. (and_parts (is_at spec (child level) c.object) (fits spec c) f).1) k
+  table_slots level (Some n) slots k = fit_slots (fits_as spec (child level)) n slots
+      (λ c f. (and_parts (is_at spec (child level) c.object) (fits spec c) f).1) k
 
-  irq_back : (n : Option ℕ) (more : List Piece) → if_any (is_at spec kinds.Notification) n ≡ true → notification_said known (irq_slot_at pl spec n more) ≡ n
+  irq_back : (n : Option ℕ) (more : List Piece) → if_any (is_at spec kinds.Notification) n ≡ true
+      → notification_said known (irq_slot_at pl spec n more) ≡ n
   irq_back None more k = refl
   irq_back (Some p) more k = let o = is_object spec kinds.Notification p k in ap (λ (x : ℕ). Some x) (place_back p o.0 o.1)
 
-  object_back : (o : Object) (more tail : List Piece) → keeps spec o ≡ true → object_said known (kind_line_at pl o more) (lines_at pl spec o tail) ≡ o
+  object_back : (o : Object) (more tail : List Piece) → keeps spec o ≡ true
+      → object_said known (kind_line_at pl o more) (lines_at pl spec o tail) ≡ o
   object_back Endpoint more tail k = refl
   object_back Notification more tail k = refl
   object_back (CNode bits slots) more tail k =
-      let f = fit_slots (fits spec) (2 ^ bits) slots (λ c f. f) (and_parts (nat_lt 0 bits && leb bits 16) (keeps_slots (fits spec) (2 ^ bits) slots) k).1 in
+      let f = fit_slots (fits spec) (2 ^ bits) slots (λ c f. f) (and_parts (nat_lt 0 bits && leb bits 16)
+      (keeps_slots (fits spec) (2 ^ bits) slots) k).1 in
       ap (λ (x : List (ℕ × Cap)). CNode bits x) (slots_back [] slots (brace_r (codes "\n") ∷ tail) f.0 f.1)
   object_back (Thread tcb) more tail k =
-      ap Thread (thread_back tcb (fields_at pl tcb more) (brace_r (codes "\n") ∷ tail) (fields_back tcb.addr tcb.ip tcb.sp (addr_tail pl tcb more) (ip_tail pl tcb more) (sp_tail pl tcb more) tcb.elf (prio_tail pl tcb.prio more) tcb.prio more) k)
+      ap Thread (thread_back tcb (fields_at pl tcb more) (brace_r (codes "\n") ∷ tail)
+      (fields_back tcb.addr tcb.ip tcb.sp (addr_tail pl tcb more) (ip_tail pl tcb more) (sp_tail pl tcb more) tcb.elf
+      (prio_tail pl tcb.prio more) tcb.prio more) k)
   object_back (Frame paddr fill) more tail k =
       let f = frame_back paddr fill (paren_r (codes "\n") ∷ more) in
-      ap (λ (x : Option ℕ). Frame x (fill_said (frame_fields pl paddr fill (paren_r (codes "\n") ∷ more)))) f.0 ∙ ap (λ (x : Option Fill). Frame paddr x) f.1
+      ap (λ (x : Option ℕ). Frame x (fill_said (frame_fields pl paddr fill (paren_r (codes "\n") ∷ more)))) f.0
+      ∙ ap (λ (x : Option Fill). Frame paddr x) f.1
   object_back (Pages level slots) more tail k =
       let f = table_slots level (size spec.arch level) slots k in
       ap (λ (x : List (ℕ × Cap)). Pages level x) (slots_back [] slots (brace_r (codes "\n") ∷ tail) f.0 f.1)
@@ -208,28 +247,35 @@ module _ (pl : List Piece → Span) (spec : Spec) (known : Knows) (all : KnowsAl
   IsHeld hs [] more = Unit {0}
   IsHeld hs (e ∷ es) more = (held hs e.name ≡ lines_at pl spec e.object (holders_pieces spec es more)) × IsHeld hs es more
 
-  held_none : (name : List ℕ) (es : List Entry) (more : List Piece) → is_other name es ≡ true → held (holders_at pl spec es more) name ≡ []
+  held_none : (name : List ℕ) (es : List Entry) (more : List Piece) → is_other name es ≡ true
+      → held (holders_at pl spec es more) name ≡ []
   held_none name [] more o = refl
   held_none name (e ∷ es) more o =
       let k = and_parts (not (bytes_eq e.name name)) (is_other name es) o in
-      step (lines_at pl spec e.object (holders_pieces spec es more)) (other name e.name (not-true _ k.0)) (held_none name es more k.1)
+      step (lines_at pl spec e.object (holders_pieces spec es more)) (other name e.name (not-true _ k.0))
+      (held_none name es more k.1)
     where
       other : (a b : List ℕ) → bytes_eq b a ≡ false → bytes_eq a b ≡ false
       other a b h = go (bytes_eq a b) refl
         where
           go : (t : Bool) → bytes_eq a b ≡ t → t ≡ false
-          go true e = let s : a ≡ b = (bytes_eq-Decides a b).0 e in let p : bytes_eq b a ≡ true = (bytes_eq-Decides b a).1 (sym s) in absurd (let q = sym p ∙ h in cc)
+          go true e = let s : a ≡ b = (bytes_eq-Decides a b).0 e in let p : bytes_eq b a ≡ true =
+              (bytes_eq-Decides b a).1 (sym s) in absurd (let q = sym p ∙ h in cc)
           go false e = refl
 
-      step : (lines : List SlotLine) → bytes_eq name e.name ≡ false → held (holders_at pl spec es more) name ≡ [] → held (held_at pl e.name (pl (held_pieces spec e.name e.object (holders_pieces spec es more))) lines (holders_at pl spec es more)) name ≡ []
+      step : (lines : List SlotLine) → bytes_eq name e.name ≡ false → held (holders_at pl spec es more) name ≡ []
+          → held (held_at pl e.name (pl (held_pieces spec e.name e.object (holders_pieces spec es more))) lines
+          (holders_at pl spec es more)) name ≡ []
       step [] q h = h
       step (s ∷ ss) q h = rw q h
 
-  held_first : (name : List ℕ) (place : Span) (lines : List SlotLine) (hs : List Holder) → held hs name ≡ [] → held (held_at pl name place lines hs) name ≡ lines
+  held_first : (name : List ℕ) (place : Span) (lines : List SlotLine) (hs : List Holder) → held hs name ≡ []
+      → held (held_at pl name place lines hs) name ≡ lines
   held_first name place [] hs h = h
   held_first name place (s ∷ ss) hs h = let t : bytes_eq name name ≡ true = (bytes_eq-Decides name name).1 refl in rw t refl
 
-  held_later : (name : List ℕ) (place : Span) (lines : List SlotLine) (hs : List Holder) (es : List Entry) (more : List Piece) → is_other name es ≡ true → IsHeld hs es more → IsHeld (held_at pl name place lines hs) es more
+  held_later : (name : List ℕ) (place : Span) (lines : List SlotLine) (hs : List Holder) (es : List Entry) (more : List Piece)
+      → is_other name es ≡ true → IsHeld hs es more → IsHeld (held_at pl name place lines hs) es more
   held_later name place [] hs es more o h = h
   held_later name place (s ∷ ss) hs [] more o h = tt
   held_later name place (s ∷ ss) hs (e ∷ es) more o h =
@@ -246,26 +292,34 @@ module _ (pl : List Piece → Span) (spec : Spec) (known : Knows) (all : KnowsAl
         held_later e.name _ (lines_at pl spec e.object rest) (holders_at pl spec es more) es more p.0 (all_held es more p.1),
       )
 
-  entries_from : (hs : List Holder) (es : List Entry) (more tail : List Piece) → IsHeld hs es tail → list_all (λ e. keeps spec e.object) es ≡ true → map (entry_said known hs) (objects_at pl es more) ≡ es
+  entries_from : (hs : List Holder) (es : List Entry) (more tail : List Piece) → IsHeld hs es tail
+      → list_all (λ e. keeps spec e.object) es ≡ true → map (entry_said known hs) (objects_at pl es more) ≡ es
   entries_from hs [] more tail h k = refl
   entries_from hs (e ∷ es) more tail h k =
       let p = and_parts (keeps spec e.object) (list_all (λ e. keeps spec e.object) es) k in
       let rest = objects_pieces es more in
       let said : object_said known (kind_line_at pl e.object rest) (held hs e.name) ≡ e.object =
-      ap (λ (ls : List SlotLine). object_said known (kind_line_at pl e.object rest) ls) h.0 ∙ object_back e.object rest (holders_pieces spec es tail) p.0 in
-      ap (λ (x : Object). let d : Entry = record { name = e.name; object = x } in d ∷ map (entry_said known hs) (objects_at pl es more)) said ∙ ap (λ (xs : List Entry). e ∷ xs) (entries_from hs es more tail h.1 p.1)
+      ap (λ (ls : List SlotLine). object_said known (kind_line_at pl e.object rest) ls) h.0 ∙ object_back e.object rest
+      (holders_pieces spec es tail) p.0 in
+      ap (λ (x : Object). let d : Entry = record { name = e.name; object = x } in
+      d ∷ map (entry_said known hs) (objects_at pl es more)) said ∙ ap (λ (xs : List Entry). e ∷ xs)
+      (entries_from hs es more tail h.1 p.1)
 
-  pub entries_back : (more tail : List Piece) → IsKept spec → map (entry_said known (holders_at pl spec spec.entries tail)) (objects_at pl spec.entries more) ≡ spec.entries
-  entries_back more tail kept = entries_from (holders_at pl spec spec.entries tail) spec.entries more tail (all_held spec.entries tail kept.names) kept.objects
+  pub entries_back : (more tail : List Piece) → IsKept spec → map (entry_said known (holders_at pl spec spec.entries tail))
+      (objects_at pl spec.entries more) ≡ spec.entries
+  entries_back more tail kept = entries_from (holders_at pl spec spec.entries tail) spec.entries more tail
+      (all_held spec.entries tail kept.names) kept.objects
 
   -- ---- interrupt lines
 
-  pub lines_back : (done ls : List (ℕ × ℕ)) (more : List Piece) → rise (done ++ ls) ≡ true → list_all (λ l. is_at spec kinds.Irq l.1) ls ≡ true → lines_from known done (irqs_at pl spec ls more) ≡ done ++ ls
+  pub lines_back : (done ls : List (ℕ × ℕ)) (more : List Piece) → rise (done ++ ls) ≡ true
+      → list_all (λ l. is_at spec kinds.Irq l.1) ls ≡ true → lines_from known done (irqs_at pl spec ls more) ≡ done ++ ls
   lines_back done [] more r k = sym (append-nil done)
   lines_back done (l ∷ ls) more r k =
       let p = and_parts (is_at spec kinds.Irq l.1) (list_all (λ l. is_at spec kinds.Irq l.1) ls) k in
       let o = is_object spec kinds.Irq l.1 p.0 in
       let put : insert_entry nat_cmp done l.0 (place_or (known (name_at spec l.1))) ≡ done ++ l ∷ [] =
-      ap (λ (x : ℕ). insert_entry nat_cmp done l.0 x) (place_back l.1 o.0 o.1) ∙ insert_end done l.0 l.1 (rise_below done l ls r) in
+      ap (λ (x : ℕ). insert_entry nat_cmp done l.0 x) (place_back l.1 o.0 o.1)
+      ∙ insert_end done l.0 l.1 (rise_below done l ls r) in
       let same : (done ++ l ∷ []) ++ ls ≡ done ++ l ∷ ls = append_assoc done (l ∷ []) ls in
       ap (λ d. lines_from known d (irqs_at pl spec ls more)) put ∙ lines_back (done ++ l ∷ []) ls more (rw same r) p.1 ∙ same

@@ -17,13 +17,16 @@ placed total [] = record { first = total; end = total }
 placed total (p ∷ ps) = record { first = total - length (laid (p ∷ ps)); end = total - length (p.blanks ++ laid ps) }
 
 -- what a lexer gives for a laid-out text is its pieces
-seen_from : (whole front : List ℕ) (ps : List Piece) → whole ≡ front ++ laid ps → see whole (tokens (length whole) ps) ≡ shown (placed (length whole)) ps
+seen_from : (whole front : List ℕ) (ps : List Piece) → whole ≡ front ++ laid ps
+    → see whole (tokens (length whole) ps) ≡ shown (placed (length whole)) ps
 seen_from whole front [] e = refl
 seen_from whole front (p ∷ ps) e =
     let rest = p.blanks ++ laid ps in
     let at : Span = record { first = length whole - length (p.text ++ rest); end = length whole - length rest } in
-    let t : text_at whole at ≡ p.text = subst (λ (w : List ℕ). text_at w at ≡ p.text) (sym e) (text_there front p.text rest (length whole) (ap length e)) in
-    let e' : whole ≡ ((front ++ p.text) ++ p.blanks) ++ laid ps = e ∙ sym (append_assoc front p.text rest) ∙ sym (append_assoc (front ++ p.text) p.blanks (laid ps)) in
+    let t : text_at whole at ≡ p.text = subst (λ (w : List ℕ). text_at w at ≡ p.text) (sym e)
+    (text_there front p.text rest (length whole) (ap length e)) in
+    let e' : whole ≡ ((front ++ p.text) ++ p.blanks) ++ laid ps = e ∙ sym (append_assoc front p.text rest)
+    ∙ sym (append_assoc (front ++ p.text) p.blanks (laid ps)) in
     rw (t, seen_from whole ((front ++ p.text) ++ p.blanks) ps e') refl
 
 pub seen_tokens : (ps : List Piece) → see (laid ps) (tokens (length (laid ps)) ps) ≡ shown (placed (length (laid ps))) ps

@@ -69,8 +69,10 @@ elf_pieces (Some elf) more = comma ∷ word (codes "elf") [] ∷ colon ∷ quote
 
 abbrev pub tcb_pieces : List ℕ → Tcb → List Piece → List Piece
 tcb_pieces name tcb more =
-    word name (codes " ") ∷ equals ∷ word (codes "tcb") (codes " ") ∷ paren_l ∷ word (codes "addr") [] ∷ colon ∷ hex tcb.addr [] ∷ comma ∷ word (codes "ip") [] ∷ colon ∷ hex tcb.ip []
-    ∷ comma ∷ word (codes "sp") [] ∷ colon ∷ hex tcb.sp [] ∷ elf_pieces tcb.elf (comma ∷ word (codes "prio") [] ∷ colon ∷ dec tcb.prio [] ∷ paren_r (codes "\n") ∷ more)
+    word name (codes " ") ∷ equals ∷ word (codes "tcb") (codes " ") ∷ paren_l ∷ word (codes "addr") [] ∷ colon ∷ hex tcb.addr []
+    ∷ comma ∷ word (codes "ip") [] ∷ colon ∷ hex tcb.ip []
+    ∷ comma ∷ word (codes "sp") [] ∷ colon ∷ hex tcb.sp [] ∷ elf_pieces tcb.elf (comma ∷ word (codes "prio") [] ∷ colon
+    ∷ dec tcb.prio [] ∷ paren_r (codes "\n") ∷ more)
 
 abbrev pub paddr_pieces : Option ℕ → List Piece → List Piece
 paddr_pieces None more = more
@@ -79,16 +81,19 @@ paddr_pieces (Some paddr) more = comma ∷ word (codes "paddr") [] ∷ colon ∷
 abbrev pub fill_pieces : Option Fill → List Piece → List Piece
 fill_pieces None more = more
 fill_pieces (Some fill) more =
-    comma ∷ word (codes "fill") [] ∷ colon ∷ square_l ∷ brace_l [] ∷ dec fill.offset (codes " ") ∷ dec fill.length (codes " ") ∷ word (codes "CDL_FrameFill_FileData") (codes " ")
+    comma ∷ word (codes "fill") [] ∷ colon ∷ square_l ∷ brace_l [] ∷ dec fill.offset (codes " ") ∷ dec fill.length (codes " ")
+    ∷ word (codes "CDL_FrameFill_FileData") (codes " ")
     ∷ quoted fill.file (codes " ") ∷ hex fill.at [] ∷ brace_r [] ∷ square_r ∷ more
 
 abbrev pub object_pieces : List ℕ → Object → List Piece → List Piece
 object_pieces name Endpoint more = word name (codes " ") ∷ equals ∷ word (codes "ep") (codes "\n") ∷ more
 object_pieces name Notification more = word name (codes " ") ∷ equals ∷ word (codes "notification") (codes "\n") ∷ more
-object_pieces name (CNode bits slots) more = word name (codes " ") ∷ equals ∷ word (codes "cnode") (codes " ") ∷ paren_l ∷ dec bits (codes " ") ∷ word (codes "bits") [] ∷ paren_r (codes "\n") ∷ more
+object_pieces name (CNode bits slots) more = word name (codes " ") ∷ equals ∷ word (codes "cnode") (codes " ") ∷ paren_l
+    ∷ dec bits (codes " ") ∷ word (codes "bits") [] ∷ paren_r (codes "\n") ∷ more
 object_pieces name (Thread tcb) more = tcb_pieces name tcb more
 object_pieces name (Frame paddr fill) more =
-    word name (codes " ") ∷ equals ∷ word (codes "frame") (codes " ") ∷ paren_l ∷ size_4k ∷ paddr_pieces paddr (fill_pieces fill (paren_r (codes "\n") ∷ more))
+    word name (codes " ") ∷ equals ∷ word (codes "frame") (codes " ") ∷ paren_l ∷ size_4k
+    ∷ paddr_pieces paddr (fill_pieces fill (paren_r (codes "\n") ∷ more))
 object_pieces name (Pages level slots) more = word name (codes " ") ∷ equals ∷ word (level_word level) (codes "\n") ∷ more
 object_pieces name (Irq notification) more = word name (codes " ") ∷ equals ∷ word (codes "irq") (codes "\n") ∷ more
 
@@ -101,13 +106,17 @@ objects_pieces (e ∷ es) more = object_pieces e.name e.object (objects_pieces e
 -- `ep_0 (WP, badge: 1)` and the end of the line: whether there are rights, and whether there is a badge
 abbrev pub target_pieces : List ℕ → Bool → Bool → Rights → ℕ → List Piece → List Piece
 target_pieces name false false rights badge more = word name (codes "\n") ∷ more
-target_pieces name true false rights badge more = word name (codes " ") ∷ paren_l ∷ word (rights_word rights) [] ∷ paren_r (codes "\n") ∷ more
-target_pieces name false true rights badge more = word name (codes " ") ∷ paren_l ∷ word (codes "badge") [] ∷ colon ∷ dec badge [] ∷ paren_r (codes "\n") ∷ more
+target_pieces name true false rights badge more = word name (codes " ") ∷ paren_l ∷ word (rights_word rights) []
+    ∷ paren_r (codes "\n") ∷ more
+target_pieces name false true rights badge more = word name (codes " ") ∷ paren_l ∷ word (codes "badge") [] ∷ colon ∷ dec badge []
+    ∷ paren_r (codes "\n") ∷ more
 target_pieces name true true rights badge more =
-    word name (codes " ") ∷ paren_l ∷ word (rights_word rights) [] ∷ comma ∷ word (codes "badge") [] ∷ colon ∷ dec badge [] ∷ paren_r (codes "\n") ∷ more
+    word name (codes " ") ∷ paren_l ∷ word (rights_word rights) [] ∷ comma ∷ word (codes "badge") [] ∷ colon ∷ dec badge []
+    ∷ paren_r (codes "\n") ∷ more
 
 abbrev pub cap_pieces : Spec → Cap → List Piece → List Piece
-cap_pieces spec cap more = target_pieces (name_at spec cap.object) (has_rights cap.rights) (not (cap.badge == 0)) cap.rights cap.badge more
+cap_pieces spec cap more = target_pieces (name_at spec cap.object) (has_rights cap.rights) (not (cap.badge == 0)) cap.rights
+    cap.badge more
 
 abbrev pub slots_pieces : Spec → List (ℕ × Cap) → List Piece → List Piece
 slots_pieces spec [] more = more
@@ -125,7 +134,8 @@ buffer_pieces spec None more = more
 buffer_pieces spec (Some cap) more = word (codes "ipc_buffer_slot") [] ∷ colon ∷ cap_pieces spec cap more
 
 abbrev pub tcb_slots : Spec → Tcb → List Piece → List Piece
-tcb_slots spec tcb more = named_pieces spec (codes "cspace") tcb.cspace (named_pieces spec (codes "vspace") tcb.vspace (buffer_pieces spec tcb.buffer more))
+tcb_slots spec tcb more = named_pieces spec (codes "cspace") tcb.cspace (named_pieces spec (codes "vspace") tcb.vspace
+    (buffer_pieces spec tcb.buffer more))
 
 abbrev pub held_slots : Spec → List ℕ → List (ℕ × Cap) → List Piece → List Piece
 held_slots spec name [] more = more
@@ -162,11 +172,14 @@ irqs_pieces spec (l ∷ ls) more = dec l.0 [] ∷ colon ∷ word (name_at spec l
 
 abbrev pub last_pieces : Spec → List Piece
 last_pieces spec =
-    brace_r (codes "\n\n") ∷ word (codes "irq") (codes " ") ∷ word (codes "maps") (codes " ") ∷ brace_l (codes "\n") ∷ irqs_pieces spec spec.irqs (brace_r (codes "\n") ∷ [])
+    brace_r (codes "\n\n") ∷ word (codes "irq") (codes " ") ∷ word (codes "maps") (codes " ") ∷ brace_l (codes "\n")
+    ∷ irqs_pieces spec spec.irqs (brace_r (codes "\n") ∷ [])
 
 abbrev pub caps_pieces : Spec → List Piece
-caps_pieces spec = brace_r (codes "\n\n") ∷ word (codes "caps") (codes " ") ∷ brace_l (codes "\n") ∷ holders_pieces spec spec.entries (last_pieces spec)
+caps_pieces spec = brace_r (codes "\n\n") ∷ word (codes "caps") (codes " ") ∷ brace_l (codes "\n")
+    ∷ holders_pieces spec spec.entries (last_pieces spec)
 
 abbrev pub pieces : Spec → List Piece
 pieces spec =
-    word (codes "arch") (codes " ") ∷ word (arch_word spec.arch) (codes "\n\n") ∷ word (codes "objects") (codes " ") ∷ brace_l (codes "\n") ∷ objects_pieces spec.entries (caps_pieces spec)
+    word (codes "arch") (codes " ") ∷ word (arch_word spec.arch) (codes "\n\n") ∷ word (codes "objects") (codes " ")
+    ∷ brace_l (codes "\n") ∷ objects_pieces spec.entries (caps_pieces spec)

@@ -38,9 +38,16 @@ goes_on (b ∷ bs) = is_word_byte b
 -- the bytes of each piece are a token of its kind without a fault, which does not run on into what is behind it
 abbrev pub Fine : List Piece → Type 0
 Fine [] = Unit {0}
-Fine (p ∷ ps) = (kind_of p.text ≡ Some p.kind) × (fault_at p.text ≡ None) × (all_blank p.blanks ≡ true) × ((not (runs_on p.kind) || not (goes_on (p.blanks ++ laid ps))) ≡ true) × Fine ps
+Fine (p ∷ ps) = (kind_of p.text ≡ Some p.kind) × (fault_at p.text ≡ None) × (all_blank p.blanks ≡ true)
+    × ((not (runs_on p.kind) || not (goes_on (p.blanks ++ laid ps))) ≡ true) × Fine ps
 
 -- its tokens, where so many bytes stand in all
 abbrev pub tokens : ℕ → List Piece → List Token
 tokens total [] = []
-tokens total (p ∷ ps) = record { kind = p.kind; place = record { first = total - length (laid (p ∷ ps)); end = total - length (p.blanks ++ laid ps) } } ∷ tokens total ps
+tokens total (p ∷ ps) = record {
+  kind = p.kind;
+  place = record {
+    first = total - length (laid (p ∷ ps));
+    end = total - length (p.blanks ++ laid ps);
+  };
+} ∷ tokens total ps

@@ -33,7 +33,8 @@ abbrev pub are_slots : List (ℕ × Cap) → Bool
 are_slots slots = list_all (λ s. is_number s.0 && is_number s.1.badge) slots
 
 abbrev pub is_tcb : Tcb → Bool
-is_tcb tcb = (is_number tcb.addr && is_number tcb.ip) && (is_number tcb.sp && (if_any is_plain tcb.elf && if_any (λ c. is_number c.badge) tcb.buffer))
+is_tcb tcb = (is_number tcb.addr && is_number tcb.ip)
+    && (is_number tcb.sp && (if_any is_plain tcb.elf && if_any (λ c. is_number c.badge) tcb.buffer))
 
 abbrev pub is_fill : Fill → Bool
 is_fill fill = is_plain fill.file && is_number fill.at

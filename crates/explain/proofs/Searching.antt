@@ -49,7 +49,8 @@ module _ (t : Tables) (e : Edge) (s : Sought) where
   abbrev pub NoneBefore : ℕ → Type 0
   NoneBefore i = (y : EndAt t.flat) → y.place < i → IsSought t e s y → ⊥
 
-  pub none_more : (i : ℕ) (c : FlatConnection) → slice_get t.flat.connections i ≡ Some c → IsFirstAt t e s i c None → NoneBefore i → NoneBefore (i + 1)
+  pub none_more : (i : ℕ) (c : FlatConnection) → slice_get t.flat.connections i ≡ Some c → IsFirstAt t e s i c None → NoneBefore i
+      → NoneBefore (i + 1)
   none_more i c here none before y l sought = elim (cases_lt y.place i) [
     | inl less ↦ before y less sought
     | inr ge ↦
@@ -63,7 +64,8 @@ module _ (t : Tables) (e : Edge) (s : Sought) where
         none opened y.number y.end (ap (λ (d : FlatConnection). slice_get d.ends y.number) (sym is) ∙ y.stands) fit
   ]
 
-  pub least_at : (i : ℕ) (c : FlatConnection) (f : Found) → slice_get t.flat.connections i ≡ Some c → IsFirstAt t e s i c (Some f) → NoneBefore i → IsLeastEnd t e s f
+  pub least_at : (i : ℕ) (c : FlatConnection) (f : Found) → slice_get t.flat.connections i ≡ Some c → IsFirstAt t e s i c (Some f)
+      → NoneBefore i → IsLeastEnd t e s f
   least_at i c f here first before =
       let on = first.1 in
       record {
@@ -82,7 +84,8 @@ module _ (t : Tables) (e : Edge) (s : Sought) where
       }
 
   pub none_all : (i : ℕ) → length t.flat.connections ≤ i → NoneBefore i → IsFirstEnd t e s None
-  none_all i le before y sought = let l = slice_get_within t.flat.connections y.place y.connection y.here in before y (omega (arith, l, le)) sought
+  none_all i le before y sought = let l = slice_get_within t.flat.connections y.place y.connection y.here in
+      before y (omega (arith, l, le)) sought
 
 -- ---- locks
 
@@ -90,7 +93,8 @@ module _ (t : Tables) (label : ℕ) where
   abbrev pub NoLock : ℕ → Type 0
   NoLock i = (y : LockAt t.source t.flat) → y.leaf < i → domain_label t y.domain ≡ label → ⊥
 
-  pub lock_more : (i : ℕ) (x : Leaf) → slice_get t.flat.leaves i ≡ Some x → IsFirstOfLeaf t label x None → NoLock i → NoLock (i + 1)
+  pub lock_more : (i : ℕ) (x : Leaf) → slice_get t.flat.leaves i ≡ Some x → IsFirstOfLeaf t label x None → NoLock i
+      → NoLock (i + 1)
   lock_more i x here none before y l own = elim (cases_lt y.leaf i) [
     | inl less ↦ before y less own
     | inr ge ↦
@@ -101,12 +105,22 @@ module _ (t : Tables) (label : ℕ) where
         (ap (λ (z : Leaf). slice_get (members_at t.source z.component) y.member) (sym is) ∙ y.declared) refl
   ]
 
-  pub lock_least : (i : ℕ) (x : Leaf) (n : ℕ) → slice_get t.flat.leaves i ≡ Some x → IsFirstOfLeaf t label x (Some n) → NoLock i → IsLeastLock t label (i, n)
+  pub lock_least : (i : ℕ) (x : Leaf) (n : ℕ) → slice_get t.flat.leaves i ≡ Some x → IsFirstOfLeaf t label x (Some n) → NoLock i
+      → IsLeastLock t label (i, n)
   lock_least i x n here first before =
       let m = first.3 in
       let k = lock_of_member m.0 m.2 in
       record {
-        lock = record { leaf = i; found = x; here = here; domain = first.0; inside = first.1; member = n; lock = k.0; declared = m.1 ∙ ap (λ z. Some z) k.1 };
+        lock = record {
+          leaf = i;
+          found = x;
+          here = here;
+          domain = first.0;
+          inside = first.1;
+          member = n;
+          lock = k.0;
+          declared = m.1 ∙ ap (λ z. Some z) k.1;
+        };
         is = refl;
         own = first.2;
         least = λ y own. record {
@@ -114,9 +128,12 @@ module _ (t : Tables) (label : ℕ) where
           by_second = λ same.
               let there : slice_get t.flat.leaves i ≡ Some y.found = ap (slice_get t.flat.leaves) same ∙ y.here in
               let is : y.found ≡ x = some_one (slice_get t.flat.leaves i) x y.found here there in
-              m.3 y.member (members.Lock y.lock) (ap (λ (z : Leaf). slice_get (members_at t.source z.component) y.member) (sym is) ∙ y.declared) refl;
+              m.3 y.member (members.Lock y.lock) (ap (λ (z : Leaf). slice_get (members_at t.source z.component) y.member) (sym is)
+              ∙ y.declared) refl;
         };
       }
 
-  pub lock_none : (i : ℕ) → length t.flat.leaves ≤ i → NoLock i → (y : LockAt t.source t.flat) → domain_label t y.domain ≡ label → ⊥
-  lock_none i le before y own = let l = slice_get_within t.flat.leaves y.leaf y.found y.here in before y (omega (arith, l, le)) own
+  pub lock_none : (i : ℕ) → length t.flat.leaves ≤ i → NoLock i → (y : LockAt t.source t.flat)
+      → domain_label t y.domain ≡ label → ⊥
+  lock_none i le before y own = let l = slice_get_within t.flat.leaves y.leaf y.found y.here in
+      before y (omega (arith, l, le)) own

@@ -30,12 +30,16 @@ ends_typed s sound dotted none k n c e f g =
     let ms = l.component.1.members in
     let i = is_there _ l.declared in
     let placed = interface_placed l.component.1 r.interface i.0 i.1 in
-    let there : members_at s (item_of h d.placed.part) ≡ ms = ap (λ (z : Part). members_at s (item_of h z)) d.is_part ∙ members_of_part s r.part l.component l.stands in
+    let there : members_at s (item_of h d.placed.part) ≡ ms = ap (λ (z : Part). members_at s (item_of h z)) d.is_part
+    ∙ members_of_part s r.part l.component l.stands in
     let number : e.member ≡ place_by (is_interface r.interface) ms =
-    ap (λ (z : FlatEnd). z.member) (sym d.flat) ∙ ap (λ (b : Body). option_map_or (λ (c : Component). place_by (is_interface r.interface) c.members) b.component 0) own in
+    ap (λ (z : FlatEnd). z.member) (sym d.flat)
+    ∙ ap (λ (b : Body). option_map_or (λ (c : Component). place_by (is_interface r.interface) c.members) b.component 0) own in
     let leaf = joined_leaf h x.0.inside d.end r l.component.1 i.0 d.joined (ap (λ (b : Body). b.component) own) placed in
-    let P : Connector → Role → Part → Type 0 = λ k r z. is_kind_of (end_rule k r) (record { interface = i.0; hardware = is_hardware h z }) ≡ true in
-    let kind : P x.0.wire.0 d.end.role r.part = ap (λ o. option_map_or (is_kind_of (end_rule x.0.wire.0 d.end.role)) o true) (sym leaf) ∙ (well_typed s sound none x.0 x.1).kinds d.end d.stands in
+    let P : Connector → Role → Part → Type 0 =
+    λ k r z. is_kind_of (end_rule k r) (record { interface = i.0; hardware = is_hardware h z }) ≡ true in
+    let kind : P x.0.wire.0 d.end.role r.part = ap (λ o. option_map_or (is_kind_of (end_rule x.0.wire.0 d.end.role)) o true)
+    (sym leaf) ∙ (well_typed s sound none x.0 x.1).kinds d.end d.stands in
     record {
       leaf = leaf_of h d.placed;
       here = d.leaf;

@@ -23,7 +23,8 @@ counted p (x ∷ xs) (suc n) a e t =
     omega (arith, step, rest)
 
 -- where at most one passes, it stands at one place
-pub alone : {X : Type 0} (p : X → Bool) (xs : List X) (n m : ℕ) (a b : X) → count_by p xs ≤ 1 → slice_get xs n ≡ Some a → slice_get xs m ≡ Some b → p a ≡ true → p b ≡ true → n ≡ m
+pub alone : {X : Type 0} (p : X → Bool) (xs : List X) (n m : ℕ) (a b : X) → count_by p xs ≤ 1 → slice_get xs n ≡ Some a
+    → slice_get xs m ≡ Some b → p a ≡ true → p b ≡ true → n ≡ m
 alone p [] n m a b l e f t u = absurd cc
 alone p (x ∷ xs) zero zero a b l e f t u = refl
 alone p (x ∷ xs) zero (suc m) a b l e f t u =
@@ -43,11 +44,14 @@ alone p (x ∷ xs) (suc n) (suc m) a b l e f t u =
     ap suc (alone p xs n m a b (omega (arith, l, step)) e f t u)
 
 -- where one counts, one passes
-pub first_counted : {X : Type 0} (p : X → Bool) (xs : List X) → 1 ≤ count_by p xs → (n : ℕ) × (x : X) × (slice_get xs n ≡ Some x) × (p x ≡ true)
+pub first_counted : {X : Type 0} (p : X → Bool) (xs : List X) → 1 ≤ count_by p xs → (n : ℕ) × (x : X) × (slice_get xs n ≡ Some x)
+    × (p x ≡ true)
 first_counted p [] l = absurd (omega arith)
 first_counted {X} p (x ∷ xs) l = by_test (p x) refl (omega (arith, l, count_step p x xs)) (first_counted p xs)
   where
-    by_test : (b : Bool) → p x ≡ b → 1 ≤ one (p x) + count_by p xs → (1 ≤ count_by p xs → (n : ℕ) × (y : X) × (slice_get xs n ≡ Some y) × (p y ≡ true)) → (n : ℕ) × (y : X) × (slice_get (x ∷ xs) n ≡ Some y) × (p y ≡ true)
+    by_test : (b : Bool) → p x ≡ b → 1 ≤ one (p x) + count_by p xs
+        → (1 ≤ count_by p xs → (n : ℕ) × (y : X) × (slice_get xs n ≡ Some y) × (p y ≡ true))
+        → (n : ℕ) × (y : X) × (slice_get (x ∷ xs) n ≡ Some y) × (p y ≡ true)
     by_test true t l ih = (0, x, refl, t)
     by_test false t l ih =
         let c : one (p x) ≡ 0 = ap one t in

@@ -20,7 +20,8 @@ part_shorter {X} {Y} f (y ∷ xs) x (inl e) =
     subst P e (omega (arith, length-append (f y) (flat_map f xs)))
 part_shorter f (y ∷ xs) x (inr i) = let l = part_shorter f xs x i in omega (arith, length-append (f y) (flat_map f xs))
 
-pub few_ends : (s : Source) → AreInLimits s → (x : Strung) → IsIn x (connections (hierarchy_of s)) → length (flat_ends (hierarchy_of s) x) ≤ 16384
+pub few_ends : (s : Source) → AreInLimits s → (x : Strung) → IsIn x (connections (hierarchy_of s))
+    → length (flat_ends (hierarchy_of s) x) ≤ 16384
 few_ends s limits x i =
     let h = hierarchy_of s in
     let a = length-filter_map (λ (e : End). option_map (flat_end h x.path e) (joined_by h x.inside e)) x.wire.1.ends in

@@ -15,7 +15,8 @@ place_in (y ∷ xs) x (inl e) = (0, ap Some e)
 place_in (y ∷ xs) x (inr i) = let k = place_in xs x i in (suc k.0, k.1)
 
 -- a flat connection is that of a connection of the hierarchy
-pub strung_of : (s : Source) (k : ℕ) (c : FlatConnection) → slice_get (flat_of s).connections k ≡ Some c → (x : Strung) × IsIn x (connections (hierarchy_of s)) × (flat_connection (hierarchy_of s) x ≡ c)
+pub strung_of : (s : Source) (k : ℕ) (c : FlatConnection) → slice_get (flat_of s).connections k ≡ Some c
+    → (x : Strung) × IsIn x (connections (hierarchy_of s)) × (flat_connection (hierarchy_of s) x ≡ c)
 strung_of s k c e =
     let h = hierarchy_of s in
     let x = from_get_map (flat_connection h) (connections h) k c e in
@@ -33,7 +34,8 @@ pub record IsEnd (s : Source) (x : Strung) (e : FlatEnd) : Type 0 where
   pub is_leaf : IsIn placed (leaves (hierarchy_of s))
   pub leaf : slice_get (flat_of s).leaves e.leaf ≡ Some (leaf_of (hierarchy_of s) placed)
 
-pub end_of : (s : Source) → AreNamesSound s → (n : ℕ) (c : FlatConnection) (e : FlatEnd) (x : Strung) → IsIn x (connections (hierarchy_of s)) → flat_connection (hierarchy_of s) x ≡ c → slice_get c.ends n ≡ Some e → IsEnd s x e
+pub end_of : (s : Source) → AreNamesSound s → (n : ℕ) (c : FlatConnection) (e : FlatEnd) (x : Strung)
+    → IsIn x (connections (hierarchy_of s)) → flat_connection (hierarchy_of s) x ≡ c → slice_get c.ends n ≡ Some e → IsEnd s x e
 end_of s sound n c e x i f g =
     let h = hierarchy_of s in
     let there = in_get (flat_connection h x).ends n e (ap (λ (z : FlatConnection). slice_get z.ends n) f ∙ g) in
@@ -54,5 +56,6 @@ end_of s sound n c e x i f g =
       placed = placed;
       is_part = refl;
       is_leaf = leaf;
-      leaf = ap (λ (z : FlatEnd). slice_get (map (leaf_of h) (leaves h)) z.leaf) (sym r.2) ∙ get_map (leaf_of h) (leaves h) (leaf_number h placed.path) placed at;
+      leaf = ap (λ (z : FlatEnd). slice_get (map (leaf_of h) (leaves h)) z.leaf) (sym r.2) ∙ get_map (leaf_of h) (leaves h)
+          (leaf_number h placed.path) placed at;
     }

@@ -8,18 +8,22 @@ use Rattle.cam_base.specs.Gather.{IsIn}
 use Rattle.cspace_layout.specs.Members.{members_of, members_in, items_of_file, members_at}
 
 -- an item stands at its place
-pub item_at : (s : Source) (x : ItemAt × Item) → IsIn x (items_of s) → (e : Ended) × (slice_get (items_of_file (slice_get s.files x.0.file)) x.0.item ≡ Some e) × (e.item ≡ x.1)
+pub item_at : (s : Source) (x : ItemAt × Item) → IsIn x (items_of s)
+    → (e : Ended) × (slice_get (items_of_file (slice_get s.files x.0.file)) x.0.item ≡ Some e) × (e.item ≡ x.1)
 item_at s x i =
     let f = from_flat_map items_in x (enumerate_from 0 s.files) i in
     let file = from_enumerate 0 s.files f.0 f.1 in
-    let e = from_map (λ (e : ℕ × Ended). let y : ItemAt × Item = (record { file = f.0.0; item = e.0 }, e.1.item) in y) x (enumerate_from 0 f.0.1.tree.items) f.2 in
+    let e = from_map (λ (e : ℕ × Ended). let y : ItemAt × Item = (record { file = f.0.0; item = e.0 }, e.1.item) in
+    y) x (enumerate_from 0 f.0.1.tree.items) f.2 in
     let item = from_enumerate 0 f.0.1.tree.items e.0 e.1 in
-    let P : ItemAt × Item → Type 0 = λ y. (e : Ended) × (slice_get (items_of_file (slice_get s.files y.0.file)) y.0.item ≡ Some e) × (e.item ≡ y.1) in
+    let P : ItemAt × Item → Type 0 = λ y. (e : Ended) × (slice_get (items_of_file (slice_get s.files y.0.file)) y.0.item ≡ Some e)
+    × (e.item ≡ y.1) in
     let a : f.0.0 ≡ file.0 = file.1 ∙ omega arith in
     let b : e.0.0 ≡ item.0 = item.1 ∙ omega arith in
     subst P e.2 (
       e.0.1,
-      ap (λ n. slice_get (items_of_file (slice_get s.files n)) e.0.0) a ∙ ap (λ o. slice_get (items_of_file o) e.0.0) file.2 ∙ ap (slice_get f.0.1.tree.items) b ∙ item.2,
+      ap (λ n. slice_get (items_of_file (slice_get s.files n)) e.0.0) a ∙ ap (λ o. slice_get (items_of_file o) e.0.0) file.2
+          ∙ ap (slice_get f.0.1.tree.items) b ∙ item.2,
       refl,
     )
 

@@ -24,13 +24,17 @@ use Rattle.flat_laws.proofs.FlatEnds.{place_in}
 -- ---- lists
 
 -- where each gives something, places stay
-pub all_kept_at : {X Y : Type 0} (f : X → Option Y) (xs : List X) → ((x : X) → IsIn x xs → (y : Y) × (f x ≡ Some y)) → (n : ℕ) (x : X) (y : Y) → slice_get xs n ≡ Some x → f x ≡ Some y → slice_get (filter_map f xs) n ≡ Some y
+pub all_kept_at : {X Y : Type 0} (f : X → Option Y) (xs : List X) → ((x : X) → IsIn x xs → (y : Y) × (f x ≡ Some y))
+    → (n : ℕ) (x : X) (y : Y) → slice_get xs n ≡ Some x → f x ≡ Some y → slice_get (filter_map f xs) n ≡ Some y
 all_kept_at f [] all n x y e g = cc
 all_kept_at {X} {Y} f (z ∷ xs) all n x y e g =
     let first = all z (inl refl) in
-    ap (λ o. slice_get (cons_option o (filter_map f xs)) n) first.1 ∙ at_place n e (λ n e. all_kept_at f xs (λ w i. all w (inr i)) n x y e g)
+    ap (λ o. slice_get (cons_option o (filter_map f xs)) n) first.1
+    ∙ at_place n e (λ n e. all_kept_at f xs (λ w i. all w (inr i)) n x y e g)
   where
-    at_place : (n : ℕ) → slice_get (z ∷ xs) n ≡ Some x → ((n : ℕ) → slice_get xs n ≡ Some x → slice_get (filter_map f xs) n ≡ Some y) → slice_get ((all z (inl refl)).0 ∷ filter_map f xs) n ≡ Some y
+    at_place : (n : ℕ) → slice_get (z ∷ xs) n ≡ Some x
+        → ((n : ℕ) → slice_get xs n ≡ Some x → slice_get (filter_map f xs) n ≡ Some y)
+        → slice_get ((all z (inl refl)).0 ∷ filter_map f xs) n ≡ Some y
     at_place zero e more = let same : z ≡ x = cc in sym (all z (inl refl)).1 ∙ ap f same ∙ g
     at_place (suc n) e more = more n e
 
@@ -48,23 +52,28 @@ as_many_positions p (e ∷ es) = ap (λ n. suc n) (as_many_positions (behind p e
 -- ---- interfaces
 
 -- an interface among the members of a leaf's component is the leaf's at its place
-interface_there : (s : Source) (leaf : Leaf) (m : ℕ) (i : Interface) → slice_get (members_at s leaf.component) m ≡ Some (members.Interface i) → interface_at s leaf m ≡ Some i
+interface_there : (s : Source) (leaf : Leaf) (m : ℕ) (i : Interface)
+    → slice_get (members_at s leaf.component) m ≡ Some (members.Interface i) → interface_at s leaf m ≡ Some i
 interface_there s leaf m i e = by_file (slice_get s.files leaf.component.file) e
   where
-    by_item : (x : Item) → slice_get (members_of x) m ≡ Some (members.Interface i) → option_and_then (λ (c : Component). option_and_then as_interface (slice_get c.members m)) (as_component x) ≡ Some i
+    by_item : (x : Item) → slice_get (members_of x) m ≡ Some (members.Interface i)
+        → option_and_then (λ (c : Component). option_and_then as_interface (slice_get c.members m)) (as_component x) ≡ Some i
     by_item (items.Import p) e = cc
     by_item (items.Procedure p) e = cc
     by_item (items.Component c) e = ap (λ o. option_and_then as_interface o) e
     by_item (items.Assembly a) e = cc
 
     by_ended : (o : Option Ended) → slice_get (members_in o) m ≡ Some (members.Interface i)
-        → option_and_then (λ (c : Component). option_and_then as_interface (slice_get c.members m)) (option_and_then (λ (x : Ended). as_component x.item) o) ≡ Some i
+        → option_and_then (λ (c : Component). option_and_then as_interface (slice_get c.members m))
+        (option_and_then (λ (x : Ended). as_component x.item) o) ≡ Some i
     by_ended None e = cc
     by_ended (Some x) e = by_item x.item e
 
-    by_file : (o : Option SourceFile) → slice_get (members_in (slice_get (items_of_file o) leaf.component.item)) m ≡ Some (members.Interface i)
+    by_file : (o : Option SourceFile) → slice_get (members_in (slice_get (items_of_file o) leaf.component.item)) m ≡ Some
+        (members.Interface i)
         → option_and_then (λ (c : Component). option_and_then as_interface (slice_get c.members m))
-        (option_and_then (λ (f : SourceFile). option_and_then (λ (x : Ended). as_component x.item) (slice_get f.tree.items leaf.component.item)) o)
+        (option_and_then (λ (f : SourceFile). option_and_then (λ (x : Ended). as_component x.item)
+        (slice_get f.tree.items leaf.component.item)) o)
         ≡ Some i
     by_file None e = cc
     by_file (Some f) e = by_ended (slice_get f.tree.items leaf.component.item) e
@@ -80,32 +89,49 @@ module _ (s : Source) (typed : AreTyped s (flat_of s)) where
     pub found : Found
     pub is : found_of (hierarchy_of s) s (flat_of s) c x ≡ Some found
     pub joined : IsTypedEnd s (flat_of s) c x.1
-    pub at : found ≡ found_at (hierarchy_of s) (record { connection = c; position = x.0; end = x.1; leaf = joined.leaf; interface = joined.interface })
+    pub at : found ≡ found_at (hierarchy_of s) (record {
+      connection = c;
+      position = x.0;
+      end = x.1;
+      leaf = joined.leaf;
+      interface = joined.interface;
+    })
 
-  pub end_found : (k : ℕ) (c : FlatConnection) (x : ℕ × FlatEnd) → slice_get (flat_of s).connections k ≡ Some c → IsIn x.1 c.ends → IsFoundEnd c x
+  pub end_found : (k : ℕ) (c : FlatConnection) (x : ℕ × FlatEnd) → slice_get (flat_of s).connections k ≡ Some c → IsIn x.1 c.ends
+      → IsFoundEnd c x
   end_found k c x at i =
       let p = place_in c.ends x.1 i in
       let t = typed k p.0 c x.1 at p.1 in
       record {
         found = found_at (hierarchy_of s) (joint_of c x t.leaf t.interface);
         is = ap (λ o. option_map (found_at (hierarchy_of s)) (option_and_then (joint_at s c x) o)) t.here
-            ∙ ap (λ o. option_map (found_at (hierarchy_of s)) (option_map (joint_of c x t.leaf) o)) (interface_there s t.leaf x.1.member t.interface t.joined);
+            ∙ ap (λ o. option_map (found_at (hierarchy_of s)) (option_map (joint_of c x t.leaf) o))
+            (interface_there s t.leaf x.1.member t.interface t.joined);
         joined = t;
         at = refl;
       }
 
   -- the values of the ends of connection k, in order
-  found_all : (k : ℕ) (c : FlatConnection) → slice_get (flat_of s).connections k ≡ Some c → (x : ℕ × FlatEnd) → IsIn x (positioned c.ends) → (f : Found) × (found_of (hierarchy_of s) s (flat_of s) c x ≡ Some f)
+  found_all : (k : ℕ) (c : FlatConnection) → slice_get (flat_of s).connections k ≡ Some c → (x : ℕ × FlatEnd)
+      → IsIn x (positioned c.ends) → (f : Found) × (found_of (hierarchy_of s) s (flat_of s) c x ≡ Some f)
   found_all k c at x i = let g = end_found k c x at (from_positioned 0 c.ends x i) in (g.found, g.is)
 
-  pub found_there : (k n : ℕ) (c : FlatConnection) (e : FlatEnd) → slice_get (flat_of s).connections k ≡ Some c → slice_get c.ends n ≡ Some e
-      → (p : ℕ) × (slice_get (positioned c.ends) n ≡ Some (p, e)) × (f : IsFoundEnd c (p, e)) × (slice_get (found_on (hierarchy_of s) s (flat_of s) c) n ≡ Some f.found)
+  pub found_there : (k n : ℕ) (c : FlatConnection) (e : FlatEnd) → slice_get (flat_of s).connections k ≡ Some c
+      → slice_get c.ends n ≡ Some e
+      → (p : ℕ) × (slice_get (positioned c.ends) n ≡ Some (p, e)) × (f : IsFoundEnd c (p, e))
+      × (slice_get (found_on (hierarchy_of s) s (flat_of s) c) n ≡ Some f.found)
   found_there k n c e at is =
       let p = position_of 0 c.ends n e is in
-      let f = end_found k c (p.0, e) at (in_get c.ends n e is) in
-      (p.0, p.1, f, all_kept_at (found_of (hierarchy_of s) s (flat_of s) c) (positioned c.ends) (found_all k c at) n (p.0, e) f.found p.1 f.is)
+      let f = end_found k c (p.0, e) at (in_get c.ends n e is) in (
+        p.0,
+        p.1,
+        f,
+        all_kept_at (found_of (hierarchy_of s) s (flat_of s) c) (positioned c.ends) (found_all k c at) n (p.0, e)
+            f.found p.1 f.is,
+      )
 
-  settled_there : (k : ℕ) (c : FlatConnection) → slice_get (flat_of s).connections k ≡ Some c → slice_get (settled_of s).connections k ≡ Some (end_settings (found_on (hierarchy_of s) s (flat_of s) c))
+  settled_there : (k : ℕ) (c : FlatConnection) → slice_get (flat_of s).connections k ≡ Some c
+      → slice_get (settled_of s).connections k ≡ Some (end_settings (found_on (hierarchy_of s) s (flat_of s) c))
   settled_there k c at =
       let h = hierarchy_of s in
       let fs = founds_in h s (flat_of s) in
@@ -115,13 +141,15 @@ module _ (s : Source) (typed : AreTyped s (flat_of s)) where
   ends_settled =
       let h = hierarchy_of s in
       record {
-        connections = length-map (founds_in h s (flat_of s)) end_settings ∙ length-map (flat_of s).connections (found_on h s (flat_of s));
+        connections = length-map (founds_in h s (flat_of s)) end_settings ∙ length-map (flat_of s).connections
+            (found_on h s (flat_of s));
         ends = λ k c at.
             let es = found_on h s (flat_of s) c in
             record {
               settings = end_settings es;
               there = settled_there k c at;
-              as_many = length-map es end_setting ∙ kept (found_of h s (flat_of s) c) (positioned c.ends) (found_all k c at) ∙ as_many_positions 0 c.ends;
+              as_many = length-map es end_setting ∙ kept (found_of h s (flat_of s) c) (positioned c.ends) (found_all k c at)
+                  ∙ as_many_positions 0 c.ends;
             };
         each = λ k n c e at is.
             let t = found_there k n c e at is in

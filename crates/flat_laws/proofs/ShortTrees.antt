@@ -31,7 +31,8 @@ has_token (As h f) = has_token f
 has_token (Starts cs f) = has_token f
 has_token Nested = false
 
-some_token : {T V A : Type 0} (code : T → ℕ) (m : Meaning T V) (f : Form T V A) (x : A) (ts : List T) → has_token f ≡ true → Spells code m f x ts → 1 ≤ length ts
+some_token : {T V A : Type 0} (code : T → ℕ) (m : Meaning T V) (f : Form T V A) (x : A) (ts : List T) → has_token f ≡ true
+    → Spells code m f x ts → 1 ≤ length ts
 unfolding has_token
 some_token code m (Give y) x ts h w = cc
 some_token code m (One cs) x ts h w = let e = ap length w.1 in omega arith
@@ -48,7 +49,8 @@ some_token code m (As k f) x ts h w = some_token code m f w.0 ts h w.2
 some_token code m (Starts cs f) x ts h w = some_token code m f x ts h w
 some_token code m Nested x ts h w = cc
 
-pub each_token : {A : Type 0} (f : Rule A) (xs : List A) (ts : List Seen) → has_token f ≡ true → Each (Spells token_code (deep token_code nested_line limit) f) xs ts → length xs ≤ length ts
+pub each_token : {A : Type 0} (f : Rule A) (xs : List A) (ts : List Seen) → has_token f ≡ true
+    → Each (Spells token_code (deep token_code nested_line limit) f) xs ts → length xs ≤ length ts
 each_token f [] ts h w = omega arith
 each_token f (x ∷ xs) ts h w =
     let e : length ts ≡ length w.0 + length w.1 = ap length w.2 ∙ length-append w.0 w.1 in
@@ -57,7 +59,8 @@ each_token f (x ∷ xs) ts h w =
     omega arith
 
 member_token : has_token member_form ≡ true
-unfolding has_token member_line flag_line import_line interface_line plain_port_line dataport_line buf_line data_line attribute_line lock_line composition_line configuration_line
+unfolding has_token member_line flag_line import_line interface_line plain_port_line dataport_line buf_line data_line
+    attribute_line lock_line composition_line configuration_line
 member_token = refl
 
 pub ended_token : has_token ended_form ≡ true
@@ -75,9 +78,11 @@ shorter n ts a b l e =
     let s : length ts ≡ length a + length b = ap length e ∙ length-append a b in
     (omega arith, omega arith)
 
-one_short : {A : Type 0} (n : ℕ) (f : Rule A) (xs : List A) (ts : List Seen) (x : A) → length ts ≤ n → Each (Spells token_code (deep token_code nested_line limit) f) xs ts → IsIn x xs → IsShort n f x
+one_short : {A : Type 0} (n : ℕ) (f : Rule A) (xs : List A) (ts : List Seen) (x : A) → length ts ≤ n
+    → Each (Spells token_code (deep token_code nested_line limit) f) xs ts → IsIn x xs → IsShort n f x
 one_short n f [] ts x l w i = absurd i
-one_short {A} n f (y ∷ xs) ts x l w (inl s) = let P : A → Type 0 = λ z. IsShort n f z in subst P s (w.0, w.3, (shorter n ts w.0 w.1 l w.2).0)
+one_short {A} n f (y ∷ xs) ts x l w (inl s) = let P : A → Type 0 = λ z. IsShort n f z in
+    subst P s (w.0, w.3, (shorter n ts w.0 w.1 l w.2).0)
 one_short n f (y ∷ xs) ts x l w (inr i) = one_short n f xs w.1 x (shorter n ts w.0 w.1 l w.2).1 w.4 i
 
 component_members : (n : ℕ) (c : Component) → IsShort n component_line c → length c.members ≤ n
@@ -98,7 +103,8 @@ unfolding item_line
 item_component n c w = elim w.1 [
   | inl a ↦ let u = a.1 in cc
   | inr (inl a) ↦ let u = a.1 in cc
-  | inr (inr (inl a)) ↦ let u = a.1 in let s : a.0 ≡ c = cc in let P : Component → Type 0 = λ z. IsShort n component_line z in subst P s (w.0, a.2, w.2)
+  | inr (inr (inl a)) ↦ let u = a.1 in let s : a.0 ≡ c = cc in let P : Component → Type 0 = λ z. IsShort n component_line z in
+      subst P s (w.0, a.2, w.2)
   | inr (inr (inr a)) ↦ let u = a.1 in cc
 ]
 
@@ -120,10 +126,12 @@ item_short : (s : Source) → AreFilesShort s → (x : ItemAt × Item) → IsIn 
 item_short s short x i =
     let f = from_flat_map items_in x (enumerate_from 0 s.files) i in
     let n = from_enumerate 0 s.files f.0 f.1 in
-    let e = from_map (λ (e : ℕ × Ended). let at : ItemAt = record { file = f.0.0; item = e.0 } in (at, e.1.item)) x (enumerate_from 0 f.0.1.tree.items) f.2 in
+    let e = from_map (λ (e : ℕ × Ended). let at : ItemAt = record { file = f.0.0; item = e.0 } in (at, e.1.item)) x
+    (enumerate_from 0 f.0.1.tree.items) f.2 in
     let m = from_enumerate 0 f.0.1.tree.items e.0 e.1 in
     let P : ItemAt × Item → Type 0 = λ z. IsShort 1048576 item_line z.1 in
-    subst P e.2 (file_item 1048576 f.0.1.tree (short f.0.1 (in_get s.files n.0 f.0.1 n.2)) e.0.1 (in_get f.0.1.tree.items m.0 e.0.1 m.2))
+    subst P e.2 (file_item 1048576 f.0.1.tree (short f.0.1 (in_get s.files n.0 f.0.1 n.2)) e.0.1
+    (in_get f.0.1.tree.items m.0 e.0.1 m.2))
 
 pub all_of : {X : Type 0} (P : X → Type 0) (xs : List X) → ((x : X) → IsIn x xs → P x) → All P xs
 all_of P [] h = All-nil P

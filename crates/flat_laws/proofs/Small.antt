@@ -14,8 +14,10 @@ use Rattle.flat_laws.proofs.FewEnds.{no_first}
 firsts_le : {X : Type 0} (same : X → X → Bool) (met : X → Bool) (xs : List X) → length (firsts_after same met xs) ≤ length xs
 firsts_le same met [] = omega arith
 firsts_le same met (x ∷ xs) =
-    cond_both (met x) (firsts_after same met xs) (x ∷ firsts_after same (λ y. met y || same y x) xs) (λ z. length z ≤ length (x ∷ xs))
-    (λ e. let l = firsts_le same met xs in omega (arith, l)) (λ e. let l = firsts_le same (λ y. met y || same y x) xs in omega (arith, l))
+    cond_both (met x) (firsts_after same met xs) (x ∷ firsts_after same (λ y. met y || same y x) xs)
+    (λ z. length z ≤ length (x ∷ xs))
+    (λ e. let l = firsts_le same met xs in omega (arith, l)) (λ e. let l = firsts_le same (λ y. met y || same y x) xs in
+    omega (arith, l))
 
 filter_le : {X : Type 0} (test : X → Bool) (xs : List X) → length (filter test xs) ≤ length xs
 filter_le test xs = omega (arith, length-filter test xs, count_by-le-length test xs)
@@ -25,15 +27,26 @@ module _ (h : Hierarchy) where
   few_domains =
       let soft = filter (λ (x : Placed). not (is_hardware h x.part)) (leaves h) in
       let paths : List Path = map (λ (x : Placed). domain_of h x.path) soft in
-      omega (arith, firsts_le same_path (λ y. false) paths, length-map soft (λ (x : Placed). domain_of h x.path), filter_le (λ (x : Placed). not (is_hardware h x.part)) (leaves h))
+      omega (
+        arith,
+        firsts_le same_path (λ y. false) paths,
+        length-map soft (λ (x : Placed). domain_of h x.path),
+        filter_le (λ (x : Placed). not (is_hardware h x.part)) (leaves h),
+      )
 
   few_inside : (d : Path) → length (flat_domain h d).leaves ≤ length (leaves h)
   few_inside d =
       let all : List (ℕ × Placed) = enumerate_from 0 (leaves h) in
       let inside = filter (λ (x : ℕ × Placed). is_inside h d x.1) all in
-      omega (arith, length-map inside (λ (x : ℕ × Placed). x.0), filter_le (λ (x : ℕ × Placed). is_inside h d x.1) all, length-enumerate_from 0 (leaves h))
+      omega (
+        arith,
+        length-map inside (λ (x : ℕ × Placed). x.0),
+        filter_le (λ (x : ℕ × Placed). is_inside h d x.1) all,
+        length-enumerate_from 0 (leaves h),
+      )
 
-  from_domains : (ds : List Path) (n : ℕ) (domain : Domain) → slice_get (map (flat_domain h) ds) n ≡ Some domain → (d : Path) × (flat_domain h d ≡ domain)
+  from_domains : (ds : List Path) (n : ℕ) (domain : Domain) → slice_get (map (flat_domain h) ds) n ≡ Some domain
+      → (d : Path) × (flat_domain h d ≡ domain)
   from_domains [] n domain e = cc
   from_domains (d ∷ ds) zero domain e = (d, cc)
   from_domains (d ∷ ds) (suc n) domain e = from_domains ds n domain e
@@ -47,7 +60,8 @@ small s sound none =
     record {
       leaves = omega (arith, ls, length-map (leaves h) (leaf_of h));
       domains = omega (arith, ls, few_domains h, length-map (domains h) (flat_domain h));
-      inside = λ d domain e. let p = from_domains h (domains h) d domain e in let l = few_inside h p.0 in subst (λ (z : Domain). length z.leaves ≤ 1024) p.1 (omega (arith, ls, l));
+      inside = λ d domain e. let p = from_domains h (domains h) d domain e in let l = few_inside h p.0 in
+          subst (λ (z : Domain). length z.leaves ≤ 1024) p.1 (omega (arith, ls, l));
       connections = omega (arith, cs, length-map (connections h) (flat_connection h));
     }
 

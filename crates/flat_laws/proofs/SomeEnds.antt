@@ -42,14 +42,16 @@ some_allowed c r n a =
     let least = (and_parts (nat_le (end_rule c r).least n) (at_most n (end_rule c r).most) a).0 in
     leb-true 1 n (ap (λ m. nat_le m n) (sym (least_one c r)) ∙ least)
 
-pub some_end : (s : Source) → AreNamesSound s → AreDotted (hierarchy_of s) → first_type_fault s ≡ None → (k : ℕ) (c : FlatConnection) → slice_get (flat_of s).connections k ≡ Some c
+pub some_end : (s : Source) → AreNamesSound s → AreDotted (hierarchy_of s) → first_type_fault s ≡ None
+    → (k : ℕ) (c : FlatConnection) → slice_get (flat_of s).connections k ≡ Some c
     → (r : Role) → (n : ℕ) × (e : FlatEnd) × (slice_get c.ends n ≡ Some e) × (e.role ≡ r)
 some_end s sound dotted types k c at r =
     let h = hierarchy_of s in
     let y = strung_of s k c at in
     let es = y.0.wire.1.ends in
     let fits = (well_typed s sound types y.0 y.1).counts in
-    let d = first_counted (λ (e : End). same_role e.role r) es (some_allowed y.0.wire.0 r (count_of r es) (allowed y.0.wire.0 r es fits)) in
+    let d = first_counted (λ (e : End). same_role e.role r) es (some_allowed y.0.wire.0 r (count_of r es)
+    (allowed y.0.wire.0 r es fits)) in
     let j = all_joined s sound dotted y.0 d.1 y.1 (in_get es d.0 d.1 d.2) in (
       d.0,
       flat_end h y.0.path d.1 j.0,

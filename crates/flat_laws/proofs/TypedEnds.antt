@@ -18,4 +18,5 @@ hardware_of false false e = refl
 
 -- a leaf of the rule's kind is hardware just where the rule has it
 pub hardware_fits : (rule : EndRule) (l : LeafInterface) → is_kind_of rule l ≡ true → l.hardware ≡ rule.hardware
-hardware_fits rule l fits = hardware_of rule.hardware l.hardware (and_parts (same_kind l.interface.kind rule.interface) (cond rule.hardware l.hardware (not l.hardware)) fits).1
+hardware_fits rule l fits = hardware_of rule.hardware l.hardware (and_parts (same_kind l.interface.kind rule.interface)
+    (cond rule.hardware l.hardware (not l.hardware)) fits).1

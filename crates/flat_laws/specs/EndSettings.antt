@@ -32,5 +32,6 @@ pub record HasAsManySettings (s : Source) (k : ℕ) (c : FlatConnection) : Type 
 pub record AreEndsSettled (s : Source) : Type 0 where
   pub connections : length (settled_of s).connections ≡ length (flat_of s).connections
   pub ends : (k : ℕ) (c : FlatConnection) → slice_get (flat_of s).connections k ≡ Some c → HasAsManySettings s k c
-  pub each : (k n : ℕ) (c : FlatConnection) (e : FlatEnd) → slice_get (flat_of s).connections k ≡ Some c → slice_get c.ends n ≡ Some e
+  pub each : (k n : ℕ) (c : FlatConnection) (e : FlatEnd) → slice_get (flat_of s).connections k ≡ Some c
+      → slice_get c.ends n ≡ Some e
       → IsSettledEnd s k n c e

@@ -33,7 +33,8 @@ near_back side w v near = record {
 }
 
 -- worlds that agree on a set are alike there, where their lists are as long
-pub near_agree : (spec : Spec) (labels : List ℕ) (inside : ℕ → Bool) (w v : World) → Joined spec (in_set labels inside) w.state → Joined spec (in_set labels inside) v.state → Agree labels inside w v
+pub near_agree : (spec : Spec) (labels : List ℕ) (inside : ℕ → Bool) (w v : World) → Joined spec (in_set labels inside) w.state
+    → Joined spec (in_set labels inside) v.state → Agree labels inside w v
     → Near (in_set labels inside) w v
 near_agree spec labels inside w v long also agree = record {
   state = record {
@@ -73,7 +74,8 @@ agree_self labels inside w = record {
 }
 
 -- two that agree with a third agree
-pub agree_meet : (labels : List ℕ) (inside : ℕ → Bool) (w v x : World) → Agree labels inside w x → Agree labels inside v x → Agree labels inside w v
+pub agree_meet : (labels : List ℕ) (inside : ℕ → Bool) (w v x : World) → Agree labels inside w x → Agree labels inside v x
+    → Agree labels inside w v
 agree_meet labels inside w v x a b = record {
   nodes = λ c here. a.nodes c here ∙ sym (b.nodes c here);
   threads = λ t here. a.threads t here ∙ sym (b.threads t here);
@@ -88,7 +90,8 @@ is_place : (k place : ℕ) → (k == place) ≡ true → k ≡ place
 is_place k place h = grind arith
 
 -- a write at an object that is not of the set
-pub put_other : {A : Type 0} (side : ℕ → Bool) (f : ℕ → A) (place : ℕ) (x : A) (k : ℕ) → side place ≡ false → side k ≡ true → put f place x k ≡ f k
+pub put_other : {A : Type 0} (side : ℕ → Bool) (f : ℕ → A) (place : ℕ) (x : A) (k : ℕ) → side place ≡ false → side k ≡ true
+    → put f place x k ≡ f k
 put_other {A} side f place x k out here = go (k == place) refl where
   go : (b : Bool) → (k == place) ≡ b → put f place x k ≡ f k
   go true h = absurd (let w : side place ≡ true = subst (λ (n : ℕ). side n ≡ true) (is_place k place h) here in cc)

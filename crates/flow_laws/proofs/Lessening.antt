@@ -20,8 +20,10 @@ module _ (less spec : Spec) (labels : List ℕ) (is : IsLess less spec) where
   -- part of a capability confers no more
   part_confers : (cap whole : Cap) (a : Authority) → IsPart cap whole → confers less cap a ≡ true → confers spec whole a ≡ true
   part_confers cap whole a part conf =
-      let kind : kind_at less cap.object ≡ kind_at spec whole.object = is.kinds cap.object ∙ ap (λ (o : ℕ). kind_at spec o) part.object in
-      let same : option_confers (kind_at spec whole.object) cap.rights a ≡ true = subst (λ (k : Option Kind). option_confers k cap.rights a ≡ true) kind conf in
+      let kind : kind_at less cap.object ≡ kind_at spec whole.object = is.kinds cap.object ∙ ap (λ (o : ℕ). kind_at spec o)
+      part.object in
+      let same : option_confers (kind_at spec whole.object) cap.rights a ≡ true =
+      subst (λ (k : Option Kind). option_confers k cap.rights a ≡ true) kind conf in
       lessened_option (kind_at spec whole.object) whole.rights part.among a
       (subst (λ (r : Rights). option_confers (kind_at spec whole.object) r a ≡ true) part.rights same)
 
@@ -33,7 +35,8 @@ module _ (less spec : Spec) (labels : List ℕ) (is : IsLess less spec) where
       let (j, whole, stands, part) = is.caps c i cap there in
       (c, j, whole, stands, part_confers cap whole a part conf, el, to_whole cap whole m part em)
 
-  structural_less : (l : ℕ) (a : Authority) (m : ℕ) → Structural less labels (boot less) l a m → Structural spec labels (boot spec) l a m
+  structural_less : (l : ℕ) (a : Authority) (m : ℕ) → Structural less labels (boot less) l a m
+      → Structural spec labels (boot spec) l a m
   structural_less l a m (of_buffer (t, cap, there, conf, el, em)) =
       let (whole, stands, part) = is.buffers t cap there in
       of_buffer (t, whole, stands, part_confers cap whole a part conf, el, to_whole cap whole m part em)
@@ -47,7 +50,8 @@ module _ (less spec : Spec) (labels : List ℕ) (is : IsLess less spec) where
   structural_less l a m (of_mapped (x, there, gives, el, em)) = absurd (let w = there.1 in omega arith)
   structural_less l a m (of_irq (d, n, there, ea, el, em)) = of_irq (d, n, is.irqs d n there, ea, el, em)
 
-pub less_valid : (less spec : Spec) (labels : List ℕ) (policy cert : List Edge) → IsLess less spec → Valid spec labels policy cert → Valid less labels policy cert
+pub less_valid : (less spec : Spec) (labels : List ℕ) (policy cert : List Edge) → IsLess less spec → Valid spec labels policy cert
+    → Valid less labels policy cert
 less_valid less spec labels policy cert is v = record {
   boot_held = λ l a m held. v.boot_held l a m (held_less less spec labels is l a m held);
   boot_structural = λ l a m edge differ. v.boot_structural l a m (structural_less less spec labels is l a m edge) differ;

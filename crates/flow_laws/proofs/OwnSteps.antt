@@ -30,50 +30,81 @@ pub record Follows (spec : Spec) (side : ℕ → Bool) (r : State) (step : Step)
   pub does : StepTo spec r step end
   pub alike : Alike side new end
 
-module _ (spec : Spec) (labels : List ℕ) (policy : List Edge) (inside : ℕ → Bool) (stays : Stays spec labels policy) (closed : IsClosed policy inside) where
-  pub peer_too : (s r : State) (t u j e d : ℕ) (cap : Cap) → Reached spec s → Alike (in_set labels inside) s r → in_set labels inside e ≡ true → Peer spec s t u j e d cap → Peer spec r t u j e d cap
+module _ (spec : Spec) (labels : List ℕ) (policy : List Edge) (inside : ℕ → Bool) (stays : Stays spec labels policy)
+    (closed : IsClosed policy inside) where
+  pub peer_too : (s r : State) (t u j e d : ℕ) (cap : Cap) → Reached spec s → Alike (in_set labels inside) s r
+      → in_set labels inside e ≡ true → Peer spec s t u j e d cap → Peer spec r t u j e d cap
   peer_too s r t u j e d cap reached alike here peer = record {
     other = peer.other;
-    acts = acts_too (in_set labels inside) s r alike u d (sym (side_peer spec labels policy inside stays closed s reached t u j e d cap peer) ∙ here) peer.acts;
-    own = own_too (in_set labels inside) s r alike (is_at spec kinds.Endpoint) d j cap (sym (side_listener spec labels policy inside stays closed s reached t u j e d cap peer) ∙ here) peer.own;
+    acts = acts_too (in_set labels inside) s r alike u d
+        (sym (side_peer spec labels policy inside stays closed s reached t u j e d cap peer) ∙ here) peer.acts;
+    own = own_too (in_set labels inside) s r alike (is_at spec kinds.Endpoint) d j cap
+        (sym (side_listener spec labels policy inside stays closed s reached t u j e d cap peer) ∙ here) peer.own;
     reads = peer.reads;
     same = peer.same;
   }
 
-  both_replied : (s r : State) (t caller : ℕ) → Alike (in_set labels inside) s r → in_set labels inside t ≡ true → in_set labels inside caller ≡ true
+  both_replied : (s r : State) (t caller : ℕ) → Alike (in_set labels inside) s r → in_set labels inside t ≡ true
+      → in_set labels inside caller ≡ true
       → Alike (in_set labels inside) (replied s t caller) (replied r t caller)
   both_replied s r t caller alike here there =
-      both_waiting (in_set labels inside) (record s { threads = with_pending s.threads t None }) (record r { threads = with_pending r.threads t None })
+      both_waiting (in_set labels inside) (record s { threads = with_pending s.threads t None })
+      (record r { threads = with_pending r.threads t None })
       (both_pending (in_set labels inside) s r alike t None here) caller false there
 
-  both_released : (s r : State) (c i caller : ℕ) → Alike (in_set labels inside) s r → in_set labels inside c ≡ true → in_set labels inside caller ≡ true
+  both_released : (s r : State) (c i caller : ℕ) → Alike (in_set labels inside) s r → in_set labels inside c ≡ true
+      → in_set labels inside caller ≡ true
       → Alike (in_set labels inside) (released s c i caller) (released r c i caller)
   both_released s r c i caller alike here there =
-      both_waiting (in_set labels inside) (dropped s c i) (dropped r c i) (both_without (in_set labels inside) s r alike c i here) caller false there
+      both_waiting (in_set labels inside) (dropped s c i) (dropped r c i) (both_without (in_set labels inside) s r alike c i here)
+      caller false there
 
-  both_called : (s r : State) (t u : ℕ) (grants : Bool) → Alike (in_set labels inside) s r → in_set labels inside t ≡ true → in_set labels inside u ≡ true
+  both_called : (s r : State) (t u : ℕ) (grants : Bool) → Alike (in_set labels inside) s r → in_set labels inside t ≡ true
+      → in_set labels inside u ≡ true
       → Alike (in_set labels inside) (called s t u grants) (called r t u grants)
   both_called s r t u grants alike here there =
       let p = Some (record { caller = t; grants = grants }) in
-      both_waiting (in_set labels inside) (record s { threads = with_pending s.threads u p }) (record r { threads = with_pending r.threads u p })
+      both_waiting (in_set labels inside) (record s { threads = with_pending s.threads u p })
+      (record r { threads = with_pending r.threads u p })
       (both_pending (in_set labels inside) s r alike u p there) t true here
 
   module _ (s : State) (reached : Reached spec s) (r : State) (alike : Alike (in_set labels inside) s r) where
-    pub own_step : (new : State) (step : Step) → in_set labels inside (thread_of step) ≡ true → StepTo spec s step new → Follows spec (in_set labels inside) r step new
+    pub own_step : (new : State) (step : Step) → in_set labels inside (thread_of step) ≡ true → StepTo spec s step new
+        → Follows spec (in_set labels inside) r step new
     own_step new (steps.Take t i j rights) here (c, to, x, acts, own, there, e) =
         let root = sym (side_root spec labels policy inside stays closed s reached t c acts.root) ∙ here in
-        let over = sym (side_own spec labels policy inside stays closed s reached c i kinds.CNode to Control refl refl own refl) ∙ root in
+        let over = sym (side_own spec labels policy inside stays closed s reached c i kinds.CNode to Control refl refl own refl)
+        ∙ root in
         record {
           end = added r c (lessened x rights);
-          does = (c, to, x, acts_too _ s r alike t c here acts, own_too _ s r alike _ c i to root own, content_too _ s r alike to.object j _ over there, refl);
+          does = (
+            c,
+            to,
+            x,
+            acts_too _ s r alike t c here acts,
+            own_too _ s r alike _ c i to root own,
+            content_too _ s r alike
+                to.object j _ over there,
+            refl,
+          );
           alike = rw e (both_grown _ s r alike c (Capability (lessened x rights)) root);
         }
     own_step new (steps.Put t i j rights) here (c, to, x, acts, own, there, e) =
         let root = sym (side_root spec labels policy inside stays closed s reached t c acts.root) ∙ here in
-        let over = sym (side_own spec labels policy inside stays closed s reached c i kinds.CNode to Control refl refl own refl) ∙ root in
+        let over = sym (side_own spec labels policy inside stays closed s reached c i kinds.CNode to Control refl refl own refl)
+        ∙ root in
         record {
           end = added r to.object (lessened x rights);
-          does = (c, to, x, acts_too _ s r alike t c here acts, own_too _ s r alike _ c i to root own, content_too _ s r alike c j _ root there, refl);
+          does = (
+            c,
+            to,
+            x,
+            acts_too _ s r alike t c here acts,
+            own_too _ s r alike _ c i to root own,
+            content_too _ s r alike c j
+                _ root there,
+            refl,
+          );
           alike = rw e (both_grown _ s r alike to.object (Capability (lessened x rights)) over);
         }
     own_step new (steps.Grant t i u j k rights) here (c, to, x, d, from, acts, own, may, there, peer, e) =
@@ -103,7 +134,17 @@ module _ (spec : Spec) (labels : List ℕ) (policy : List Edge) (inside : ℕ �
         let far = sym (side_peer spec labels policy inside stays closed s reached t u j to.object d from peer) ∙ over in
         record {
           end = called r t u from.rights.grant;
-          does = (c, to, d, from, acts_too _ s r alike t c here acts, own_too _ s r alike _ c i to root own, may, peer_too s r t u j to.object d from reached alike over peer, refl);
+          does = (
+            c,
+            to,
+            d,
+            from,
+            acts_too _ s r alike t c here acts,
+            own_too _ s r alike _ c i to root own,
+            may,
+            peer_too s r t u j to.object d from reached alike over peer,
+            refl,
+          );
           alike = rw e (both_called s r t u from.rights.grant alike here far);
         }
     own_step new (steps.Reply t None) here (c, p, acts, owes, e) =
@@ -131,37 +172,81 @@ module _ (spec : Spec) (labels : List ℕ) (policy : List Edge) (inside : ℕ �
             root_too _ s r alike p.caller (Some d) far root,
             refl,
           );
-          alike = rw e (both_grown _ (replied s t p.caller) (replied r t p.caller) (both_replied s r t p.caller alike here far) d (Capability (lessened x copy.1)) beyond);
+          alike = rw e (both_grown _ (replied s t p.caller) (replied r t p.caller) (both_replied s r t p.caller alike here far) d
+              (Capability (lessened x copy.1)) beyond);
         }
     own_step new (steps.SetCspace t i j) here (c, to, x, acts, own, of, e) =
         let root = sym (side_root spec labels policy inside stays closed s reached t c acts.root) ∙ here in
-        let over = sym (side_own spec labels policy inside stays closed s reached c i kinds.Thread to Control refl refl own refl) ∙ root in
+        let over = sym (side_own spec labels policy inside stays closed s reached c i kinds.Thread to Control refl refl own refl)
+        ∙ root in
         record {
           end = record r { threads = with_root r.threads to.object x.object };
-          does = (c, to, x, acts_too _ s r alike t c here acts, own_too _ s r alike _ c i to root own, own_too _ s r alike _ c j x root of, refl);
+          does = (
+            c,
+            to,
+            x,
+            acts_too _ s r alike t c here acts,
+            own_too _ s r alike _ c i to root own,
+            own_too _ s r alike _ c j x
+                root of,
+            refl,
+          );
           alike = rw e (both_root _ s r alike to.object x.object over);
         }
     own_step new (steps.SetVspace t i j) here (c, to, x, acts, own, of, e) =
         let root = sym (side_root spec labels policy inside stays closed s reached t c acts.root) ∙ here in
-        let over = sym (side_own spec labels policy inside stays closed s reached c i kinds.Thread to Control refl refl own refl) ∙ root in
+        let over = sym (side_own spec labels policy inside stays closed s reached c i kinds.Thread to Control refl refl own refl)
+        ∙ root in
         record {
           end = record r { threads = with_space r.threads to.object x.object };
-          does = (c, to, x, acts_too _ s r alike t c here acts, own_too _ s r alike _ c i to root own, own_too _ s r alike _ c j x root of, refl);
+          does = (
+            c,
+            to,
+            x,
+            acts_too _ s r alike t c here acts,
+            own_too _ s r alike _ c i to root own,
+            own_too _ s r alike _ c j x
+                root of,
+            refl,
+          );
           alike = rw e (both_space _ s r alike to.object x.object over);
         }
     own_step new (steps.Map t i j rights) here (c, frame, x, acts, own, of, e) =
         let root = sym (side_root spec labels policy inside stays closed s reached t c acts.root) ∙ here in
-        let m : Mapped = record { space = x.object; frame = frame.object; rights = both_rights frame.rights (read_write rights) } in
+        let m : Mapped = record {
+          space = x.object;
+          frame = frame.object;
+          rights = both_rights frame.rights (read_write rights);
+        } in
         record {
           end = record r { mapped = r.mapped ++ m ∷ [] };
-          does = (c, frame, x, acts_too _ s r alike t c here acts, own_too _ s r alike _ c i frame root own, own_too _ s r alike _ c j x root of, refl);
+          does = (
+            c,
+            frame,
+            x,
+            acts_too _ s r alike t c here acts,
+            own_too _ s r alike _ c i frame root own,
+            own_too _ s r alike _
+                c j x root of,
+            refl,
+          );
           alike = rw e (both_mapped _ s r alike m);
         }
     own_step new (steps.Bind t i j) here (c, irq, x, acts, own, of, writes, e) =
         let root = sym (side_root spec labels policy inside stays closed s reached t c acts.root) ∙ here in
         record {
           end = record r { irqs = set r.irqs irq.object (Some x.object) };
-          does = (c, irq, x, acts_too _ s r alike t c here acts, own_too _ s r alike _ c i irq root own, own_too _ s r alike _ c j x root of, writes, refl);
+          does = (
+            c,
+            irq,
+            x,
+            acts_too _ s r alike t c here acts,
+            own_too _ s r alike _ c i irq root own,
+            own_too _ s r alike _ c j
+                x root of,
+            writes,
+            refl,
+          );
           alike = rw e (both_irqs _ s r alike irq.object (Some x.object));
         }
     own_step new (steps.Drop t i) here (c, x, acts, there, e) =
@@ -178,7 +263,8 @@ module _ (spec : Spec) (labels : List ℕ) (policy : List Edge) (inside : ℕ �
           does = (c, p, acts_too _ s r alike t c here acts, owes_too _ s r alike t p here owes, refl);
           alike =
               rw e
-              (both_pending _ (record s { nodes = grown_at s.nodes c (SavedReply p) }) (record r { nodes = grown_at r.nodes c (SavedReply p) })
+              (both_pending _ (record s { nodes = grown_at s.nodes c (SavedReply p) })
+              (record r { nodes = grown_at r.nodes c (SavedReply p) })
               (both_grown _ s r alike c (SavedReply p) root) t None here);
         }
     own_step new (steps.ReplyTo t i None) here (c, p, acts, there, e) =
@@ -207,5 +293,6 @@ module _ (spec : Spec) (labels : List ℕ) (policy : List Edge) (inside : ℕ �
             root_too _ s r alike p.caller (Some d) far back,
             refl,
           );
-          alike = rw e (both_released (added s d (lessened x copy.1)) (added r d (lessened x copy.1)) c i p.caller (both_grown _ s r alike d (Capability (lessened x copy.1)) beyond) root far);
+          alike = rw e (both_released (added s d (lessened x copy.1)) (added r d (lessened x copy.1)) c i p.caller
+              (both_grown _ s r alike d (Capability (lessened x copy.1)) beyond) root far);
         }

@@ -32,22 +32,28 @@ unfolding file_line
 items_within file ts s = subst (λ (f : File). length f.items ≤ length ts) (sym s.1) (each_token ended_form s.0 ts ended_token s.2)
 
 -- no more items than bytes
-items_few : (number : ℕ) (file : File) (bytes : List ℕ) (tokens : List Token) → Lexes number bytes tokens → IsFileSpelled file (see bytes tokens) → length file.items ≤ length bytes
+items_few : (number : ℕ) (file : File) (bytes : List ℕ) (tokens : List Token) → Lexes number bytes tokens
+    → IsFileSpelled file (see bytes tokens) → length file.items ≤ length bytes
 items_few number file bytes tokens l s =
     let items = items_within file (see bytes tokens) s in
     let few = tokens_within number (length bytes) bytes tokens l in
     omega (arith, length-map tokens (seen_at bytes))
 
-few_in_file : (contents : Contents) (number : ℕ) (file : SourceFile) → IsFileOf contents number file → length file.tree.items ≤ 1048576
-few_in_file contents number file is = let few = items_few number file.tree file.bytes is.tokens is.lexed is.spelled in let size = is.size in omega arith
+few_in_file : (contents : Contents) (number : ℕ) (file : SourceFile) → IsFileOf contents number file
+    → length file.tree.items ≤ 1048576
+few_in_file contents number file is = let few = items_few number file.tree file.bytes is.tokens is.lexed is.spelled in
+    let size = is.size in omega arith
 
 each_few : (contents : Contents) (before files : List SourceFile)
-    → ((front after : List SourceFile) (file : SourceFile) → before ++ files ≡ front ++ file ∷ after → IsFileOf contents (length front) file)
+    → ((front after : List SourceFile) (file : SourceFile) → before ++ files ≡ front ++ file ∷ after
+    → IsFileOf contents (length front) file)
     → All (λ f. length f.tree.items ≤ 1048576) files
 each_few contents before [] each = All-nil (λ f. length f.tree.items ≤ 1048576)
 each_few contents before (file ∷ files) each =
-    All-cons (λ f. length f.tree.items ≤ 1048576) file files (few_in_file contents (length before) file (each before files file refl))
-    (each_few contents (before ++ file ∷ []) files (λ front after f e. each front after f (sym (append_assoc before (file ∷ []) files) ∙ e)))
+    All-cons (λ f. length f.tree.items ≤ 1048576) file files (few_in_file contents (length before) file
+    (each before files file refl))
+    (each_few contents (before ++ file ∷ []) files
+    (λ front after f e. each front after f (sym (append_assoc before (file ∷ []) files) ∙ e)))
 
 -- a source that is loaded
 pub loaded_few : (contents : Contents) (root : List ℕ) (source : Source) → IsLoaded contents root (Ok source) → AreFew source
@@ -55,4 +61,7 @@ loaded_few contents root source loaded = go (root_name root) loaded
   where
     go : (name : Option (List ℕ)) → IsLoadedBy contents root name (Ok source) → AreFew source
     go None l = absurd l
-    go (Some name) l = record { files = clean_few contents name source.files l; items = each_few contents [] source.files (clean_each contents name source.files l) }
+    go (Some name) l = record {
+      files = clean_few contents name source.files l;
+      items = each_few contents [] source.files (clean_each contents name source.files l);
+    }

@@ -19,7 +19,8 @@ no_head : {X : Type 0} (y : X) (ys : List X) → [] ≡ y ∷ ys → ⊥
 no_head y ys e = cc
 
 -- the first file of a source is its root
-root_first : (root : List ℕ) (files : List SourceFile) → IsSource root files → (let s : Source = record { files = files } in name_of_file s 0 ≡ root)
+root_first : (root : List ℕ) (files : List SourceFile) → IsSource root files → (let s : Source = record { files = files } in
+    name_of_file s 0 ≡ root)
 root_first root [] is = absurd (no_head root _ is.equation)
 root_first root (f ∷ fs) is = heads f.name root _ _ is.equation
 

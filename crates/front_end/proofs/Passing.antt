@@ -4,7 +4,8 @@ use Rattle.adl_meaning.specs.Prelude.{Fault, Refused, Refuses, option_or}
 use Rattle.std.specs.Prelude.{IsErr, IsErrAnd}
 use Rattle.cam_base.specs.declared.error.Refused.TheVariants as refused
 
-third : (X Y : Type 0) (e : Refused Fault) (a b c d : Option Fault) → a ≡ None → b ≡ None → Refuses {T = Y} (Err e) c → Refuses {T = X} (Err e) (option_or a (option_or b (option_or c d)))
+third : (X Y : Type 0) (e : Refused Fault) (a b c d : Option Fault) → a ≡ None → b ≡ None → Refuses {T = Y} (Err e) c
+    → Refuses {T = X} (Err e) (option_or a (option_or b (option_or c d)))
 third X Y refused.NoMemory a b c d p q m = tt
 third X Y (refused.Fault f) None None (Some g) d p q m = m
 third X Y (refused.Fault f) None None None d p q m = absurd cc
@@ -19,14 +20,18 @@ fourth X Y (refused.Fault f) None None (Some g) d p q r m = absurd cc
 fourth X Y (refused.Fault f) None (Some g) c d p q r m = absurd cc
 fourth X Y (refused.Fault f) (Some g) b c d p q r m = absurd cc
 
-passed : {X : Type 0} (r : Result X (Refused Fault)) (e : Refused Fault) (o : Option Fault) → IsErr r → IsErrAnd r (λ x. x ≡ e) → Refuses {T = X} (Err e) o → Refuses r o
+passed : {X : Type 0} (r : Result X (Refused Fault)) (e : Refused Fault) (o : Option Fault) → IsErr r → IsErrAnd r (λ x. x ≡ e)
+    → Refuses {T = X} (Err e) o → Refuses r o
 passed (Ok x) e o is h m = absurd h
 passed {X} (Err f) e o is h m = subst (λ z. Refuses {T = X} (Err z) o) (sym h) m
 
-pub third_told : {X : Type 0} (Y : Type 0) (r : Result X (Refused Fault)) (e : Refused Fault) (a b c d : Option Fault) → IsErr r → IsErrAnd r (λ x. x ≡ e) → a ≡ None → b ≡ None
+pub third_told : {X : Type 0} (Y : Type 0) (r : Result X (Refused Fault)) (e : Refused Fault) (a b c d : Option Fault) → IsErr r
+    → IsErrAnd r (λ x. x ≡ e) → a ≡ None → b ≡ None
     → Refuses {T = Y} (Err e) c → Refuses r (option_or a (option_or b (option_or c d)))
 third_told {X} Y r e a b c d is h p q m = passed r e (option_or a (option_or b (option_or c d))) is h (third X Y e a b c d p q m)
 
-pub fourth_told : {X : Type 0} (Y : Type 0) (r : Result X (Refused Fault)) (e : Refused Fault) (a b c d : Option Fault) → IsErr r → IsErrAnd r (λ x. x ≡ e) → a ≡ None → b ≡ None → c ≡ None
+pub fourth_told : {X : Type 0} (Y : Type 0) (r : Result X (Refused Fault)) (e : Refused Fault) (a b c d : Option Fault) → IsErr r
+    → IsErrAnd r (λ x. x ≡ e) → a ≡ None → b ≡ None → c ≡ None
     → Refuses {T = Y} (Err e) d → Refuses r (option_or a (option_or b (option_or c d)))
-fourth_told {X} Y r e a b c d is h p q n m = passed r e (option_or a (option_or b (option_or c d))) is h (fourth X Y e a b c d p q n m)
+fourth_told {X} Y r e a b c d is h p q n m = passed r e (option_or a (option_or b (option_or c d))) is h
+    (fourth X Y e a b c d p q n m)

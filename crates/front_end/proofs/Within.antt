@@ -24,4 +24,5 @@ module _ (s : Source) (flat : Flat) (settled : Settled) (sound : IsSound s flat 
       subst IsSmall (sym sound.meant.is_flat) (small s is.names (no_first (first_size_fault s) (first_join_fault s) is.flat))
 
   pub few_labels : length flat.domains + length flat.connections + length flat.leaves < 2 ^ 32
-  few_labels = let small = sound_small in let a = small.domains in let b = small.connections in let c = small.leaves in omega (arith, a, b, c)
+  few_labels = let small = sound_small in let a = small.domains in let b = small.connections in let c = small.leaves in
+      omega (arith, a, b, c)

@@ -52,7 +52,8 @@ leaf_paths : (h : Hierarchy) (xs : List Placed) → map (λ (l : Leaf). l.path) 
 leaf_paths h [] = refl
 leaf_paths h (x ∷ xs) = ap (λ z. x.path ∷ z) (leaf_paths h xs)
 
-a_leaf : (s : Source) → AreNamesSound s → (x : Placed) → IsIn x (leaves (hierarchy_of s)) → IsLeafOf (hierarchy_of s) (flat_of s) (leaf_of (hierarchy_of s) x)
+a_leaf : (s : Source) → AreNamesSound s → (x : Placed) → IsIn x (leaves (hierarchy_of s))
+    → IsLeafOf (hierarchy_of s) (flat_of s) (leaf_of (hierarchy_of s) x)
 a_leaf s sound x i =
     let h = hierarchy_of s in
     let stands = (leaves_stand s sound x).0 i in
@@ -72,7 +73,12 @@ a_leaf s sound x i =
         d,
         ap (λ b. cond b None (Some (domain_number h d))) e,
         is_domain_of h x.path d refl,
-        record { domain = flat_domain h d; there = get_map (flat_domain h) (domains h) (domain_number h d) d (domain_found h d ((domains_are h d).1 (x, i, e, refl))); path = refl },
+        record {
+          domain = flat_domain h d;
+          there = get_map (flat_domain h) (domains h) (domain_number h d) d
+              (domain_found h d ((domains_are h d).1 (x, i, e, refl)));
+          path = refl;
+        },
       );
     }
 
@@ -82,9 +88,11 @@ are_leaves s sound =
     let same = leaf_paths h (leaves h) in
     let P : List Path → Type 0 = λ ps. IsOnce ps in
     record {
-      paths = λ p. let Q : List Path → Type 0 = λ ps. IsIn p ps in (λ i. (paths_are_leaves s sound p).0 (subst Q same i), λ l. subst Q (sym same) ((paths_are_leaves s sound p).1 l));
+      paths = λ p. let Q : List Path → Type 0 = λ ps. IsIn p ps in
+          (λ i. (paths_are_leaves s sound p).0 (subst Q same i), λ l. subst Q (sym same) ((paths_are_leaves s sound p).1 l));
       once = subst P (sym same) (leaf_paths_once s sound);
-      order = order_map (λ (l m : Leaf). IsPathBefore h (top_number h) l.path m.path) (leaf_of h) (leaves h) (leaves_in_order s sound);
+      order = order_map (λ (l m : Leaf). IsPathBefore h (top_number h) l.path m.path) (leaf_of h) (leaves h)
+          (leaves_in_order s sound);
       each = λ l i.
           let x = from_map (leaf_of h) l (leaves h) i in
           let R : Leaf → Type 0 = λ z. IsLeafOf h (flat_of s) z in
@@ -98,14 +106,16 @@ domain_paths h [] = refl
 domain_paths h (d ∷ ds) = ap (λ z. d ∷ z) (domain_paths h ds)
 
 -- a leaf of the walk that has the domain, as a leaf of the flat system
-inside_from : (s : Source) (d : Path) (n : ℕ) (x : Placed) → slice_get (leaves (hierarchy_of s)) n ≡ Some x → is_hardware (hierarchy_of s) x.part ≡ false → domain_of (hierarchy_of s) x.path ≡ d
+inside_from : (s : Source) (d : Path) (n : ℕ) (x : Placed) → slice_get (leaves (hierarchy_of s)) n ≡ Some x
+    → is_hardware (hierarchy_of s) x.part ≡ false → domain_of (hierarchy_of s) x.path ≡ d
     → IsInside (hierarchy_of s) (flat_of s) d n
 inside_from s d n x g w e =
     let h = hierarchy_of s in
     record { leaf = leaf_of h x; there = get_map (leaf_of h) (leaves h) n x g; software = w; domain = is_domain_of h x.path d e }
 
 from_inside : (s : Source) (d : Path) (n : ℕ) → IsInside (hierarchy_of s) (flat_of s) d n
-    → (x : Placed) × (slice_get (leaves (hierarchy_of s)) n ≡ Some x) × (is_hardware (hierarchy_of s) x.part ≡ false) × (domain_of (hierarchy_of s) x.path ≡ d)
+    → (x : Placed) × (slice_get (leaves (hierarchy_of s)) n ≡ Some x) × (is_hardware (hierarchy_of s) x.part ≡ false)
+    × (domain_of (hierarchy_of s) x.path ≡ d)
 from_inside s d n k =
     let h = hierarchy_of s in
     let x = from_get_map (leaf_of h) (leaves h) n k.leaf k.there in
@@ -128,7 +138,10 @@ are_domains s sound =
             subst Q (sym same) ((domains_are h d).1 (x.0, in_place x.0 (leaves h) k.0 x.1, x.2, x.3)),
       );
       once = subst P (sym same) (domains_once h);
-      order = order_map IsDomainBefore (flat_domain h) (domains h) (order_weaken (IsKeyBefore (leaves h) (λ x. not (is_hardware h x.part)) (λ x. domain_of h x.path)) (λ d e. IsDomainBefore (flat_domain h d) (flat_domain h e)) (domains h) (λ d e i j k. before h d e k) (domains_in_order h));
+      order = order_map IsDomainBefore (flat_domain h) (domains h)
+          (order_weaken (IsKeyBefore (leaves h) (λ x. not (is_hardware h x.part)) (λ x. domain_of h x.path))
+          (λ d e. IsDomainBefore (flat_domain h d) (flat_domain h e)) (domains h) (λ d e i j k. before h d e k)
+          (domains_in_order h));
       leaves = λ x i n.
           let d = from_map (flat_domain h) x (domains h) i in
           let R : Domain → Type 0 = λ z. IsIn n z.leaves ↔ IsInside h (flat_of s) z.path n in
@@ -142,13 +155,25 @@ are_domains s sound =
           subst R d.2 (domain_leaves_rise h d.0);
     }
   where
-    before : (h : Hierarchy) (d e : Path) → IsKeyBefore (leaves h) (λ x. not (is_hardware h x.part)) (λ x. domain_of h x.path) d e → IsDomainBefore (flat_domain h d) (flat_domain h e)
+    before : (h : Hierarchy) (d e : Path) → IsKeyBefore (leaves h) (λ x. not (is_hardware h x.part)) (λ x. domain_of h x.path) d e
+        → IsDomainBefore (flat_domain h d) (flat_domain h e)
     before h d e k =
         let x = k.stands.item in
         record {
           first = k.first;
-          stands = (leaves_of_domain h d k.first).1 (x, k.stands.there, not-true (is_hardware h x.part) k.stands.passing, k.stands.key_is);
-          before = λ n i. let y = (leaves_of_domain h e n).0 i in k.before n (record { item = y.0; there = y.1; passing = not_from_false (is_hardware h y.0.part) y.2; key_is = y.3 });
+          stands = (leaves_of_domain h d k.first).1 (
+            x,
+            k.stands.there,
+            not-true (is_hardware h x.part) k.stands.passing,
+            k.stands.key_is,
+          );
+          before = λ n i. let y = (leaves_of_domain h e n).0 i in
+              k.before n (record {
+                item = y.0;
+                there = y.1;
+                passing = not_from_false (is_hardware h y.0.part) y.2;
+                key_is = y.3;
+              });
         }
 
 -- ---- ends
@@ -158,16 +183,19 @@ place_passes : {X : Type 0} (p : X → Bool) (xs : List X) (x : X) → slice_get
 place_passes p [] x e = cc
 place_passes {X} p (y ∷ xs) x e = by_test (p y) refl (place_passes p xs x) e
   where
-    by_test : (b : Bool) → p y ≡ b → (slice_get xs (place_by p xs) ≡ Some x → p x ≡ true) → slice_get (y ∷ xs) (cond b zero (suc (place_by p xs))) ≡ Some x → p x ≡ true
+    by_test : (b : Bool) → p y ≡ b → (slice_get xs (place_by p xs) ≡ Some x → p x ≡ true)
+        → slice_get (y ∷ xs) (cond b zero (suc (place_by p xs))) ≡ Some x → p x ≡ true
     by_test true t more e = let same : y ≡ x = cc in ap p (sym same) ∙ t
     by_test false t more e = more e
 
 -- what stands in front of that place doesn't
-earlier_fails : {X : Type 0} (p : X → Bool) (xs : List X) (k : ℕ) (x : X) → k < place_by p xs → slice_get xs k ≡ Some x → p x ≡ false
+earlier_fails : {X : Type 0} (p : X → Bool) (xs : List X) (k : ℕ) (x : X) → k < place_by p xs → slice_get xs k ≡ Some x
+    → p x ≡ false
 earlier_fails p [] k x l e = cc
 earlier_fails {X} p (y ∷ xs) k x l e = by_test (p y) refl (λ n m. earlier_fails p xs n x m) l e
   where
-    by_test : (b : Bool) → p y ≡ b → ((n : ℕ) → n < place_by p xs → slice_get xs n ≡ Some x → p x ≡ false) → k < cond b zero (suc (place_by p xs)) → slice_get (y ∷ xs) k ≡ Some x → p x ≡ false
+    by_test : (b : Bool) → p y ≡ b → ((n : ℕ) → n < place_by p xs → slice_get xs n ≡ Some x → p x ≡ false)
+        → k < cond b zero (suc (place_by p xs)) → slice_get (y ∷ xs) k ≡ Some x → p x ≡ false
     by_test true t more l e = absurd (omega (arith, l))
     by_test false t more l e = by_place k l e
       where
@@ -175,8 +203,10 @@ earlier_fails {X} p (y ∷ xs) k x l e = by_test (p y) refl (λ n m. earlier_fai
         by_place zero l e = let same : y ≡ x = cc in ap p (sym same) ∙ t
         by_place (suc n) l e = more n (omega (arith, l)) e
 
-an_end : (s : Source) → AreNamesSound s → AreDotted (hierarchy_of s) → (x : Strung) → IsIn x (connections (hierarchy_of s)) → (n : ℕ) (end : End) → slice_get x.wire.1.ends n ≡ Some end
-    → (r : Reached) → joined_by (hierarchy_of s) x.inside end ≡ Some r → IsEndOf (hierarchy_of s) (flat_of s) x.path x.wire n (flat_end (hierarchy_of s) x.path end r)
+an_end : (s : Source) → AreNamesSound s → AreDotted (hierarchy_of s) → (x : Strung) → IsIn x (connections (hierarchy_of s))
+    → (n : ℕ) (end : End) → slice_get x.wire.1.ends n ≡ Some end
+    → (r : Reached) → joined_by (hierarchy_of s) x.inside end ≡ Some r
+    → IsEndOf (hierarchy_of s) (flat_of s) x.path x.wire n (flat_end (hierarchy_of s) x.path end r)
 an_end s sound dotted x i n end g r j =
     let h = hierarchy_of s in
     let both = joined s sound x n end r i g j in
@@ -184,7 +214,8 @@ an_end s sound dotted x i n end g r j =
     let a = place_of placed (leaves h) both.1 in
     let number : leaf_number h placed.path ≡ a.0 = leaf_number_is s sound a.0 placed a.1 in
     let there : slice_get (leaves h) (leaf_number h placed.path) ≡ Some placed = ap (slice_get (leaves h)) number ∙ a.1 in
-    let d = end_declared s sound dotted x.inside x.wire end r ((connections_stand s sound x).0 i).1 (in_place end x.wire.1.ends n g) j in
+    let d = end_declared s sound dotted x.inside x.wire end r ((connections_stand s sound x).0 i).1
+    (in_place end x.wire.1.ends n g) j in
     let own = body_number s r.part.kind d.component d.stands in
     let m = is_there (interface_of d.component.1 r.interface) d.declared in
     let placed_there = interface_placed d.component.1 r.interface m.0 m.1 in
@@ -203,10 +234,13 @@ an_end s sound dotted x i n end g r j =
       component = d.component.1;
       of_leaf = ap (λ (b : Body). b.component) own;
       member = m.0;
-      named = sym ((bytes_eq-Decides r.interface m.0.id.name).0 (place_passes (is_interface r.interface) d.component.1.members (members.Interface m.0) placed_there));
+      named =
+          sym ((bytes_eq-Decides r.interface m.0.id.name).0 (place_passes (is_interface r.interface) d.component.1.members
+          (members.Interface m.0) placed_there));
       placed = ap (slice_get d.component.1.members) member ∙ placed_there;
       first = λ k i l e n.
-          let fails = earlier_fails (is_interface r.interface) d.component.1.members k (members.Interface i) (omega (arith, l, member)) e in
+          let fails = earlier_fails (is_interface r.interface) d.component.1.members k (members.Interface i)
+          (omega (arith, l, member)) e in
           true≢false (sym ((bytes_eq-Decides r.interface i.id.name).1 (sym n)) ∙ fails);
     }
 
@@ -217,9 +251,19 @@ a_wire : (s : Source) → AreNamesSound s → AreDotted (hierarchy_of s) → (x 
 a_wire s sound dotted x i =
     let h = hierarchy_of s in
     let stands = (connections_stand s sound x).0 i in
-    record { inside = x.inside; there = stands.0; stands = stands.1; path = refl; connector = refl; place = refl; as_many = ends_kept s sound dotted x i; ends = λ n e g. end_at n e g }
+    record {
+      inside = x.inside;
+      there = stands.0;
+      stands = stands.1;
+      path = refl;
+      connector = refl;
+      place = refl;
+      as_many = ends_kept s sound dotted x i;
+      ends = λ n e g. end_at n e g;
+    }
   where
-    end_at : (n : ℕ) (e : FlatEnd) → slice_get (flat_ends (hierarchy_of s) x) n ≡ Some e → IsEndOf (hierarchy_of s) (flat_of s) x.path x.wire n e
+    end_at : (n : ℕ) (e : FlatEnd) → slice_get (flat_ends (hierarchy_of s) x) n ≡ Some e
+        → IsEndOf (hierarchy_of s) (flat_of s) x.path x.wire n e
     end_at n e g =
         let h = hierarchy_of s in
         let many = ends_kept s sound dotted x i in
@@ -231,7 +275,8 @@ a_wire s sound dotted x i =
         let P : FlatEnd → Type 0 = λ z. IsEndOf h (flat_of s) x.path x.wire n z in
         subst P same (an_end s sound dotted x i n end.0 end.1 r.0 r.1)
 
-connection_paths : (h : Hierarchy) (xs : List Strung) → map (λ (c : FlatConnection). c.path) (map (flat_connection h) xs) ≡ map (λ x. x.path ++ x.wire.1.id.name ∷ []) xs
+connection_paths : (h : Hierarchy) (xs : List Strung) → map (λ (c : FlatConnection). c.path) (map (flat_connection h) xs) ≡ map
+    (λ x. x.path ++ x.wire.1.id.name ∷ []) xs
 connection_paths h [] = refl
 connection_paths h (x ∷ xs) = ap (λ z. (x.path ++ x.wire.1.id.name ∷ []) ∷ z) (connection_paths h xs)
 
@@ -249,16 +294,22 @@ are_connections s sound dotted =
           let there = (connections_stand s sound x).1 (e, i) in
           (flat_connection h x, in_map (flat_connection h) x (connections h) there, a_wire s sound dotted x there);
       once = subst P (sym (connection_paths h (connections h))) (connections_once s sound);
-      order = order_map (IsConnectionBefore h) (flat_connection h) (connections h) (order_weaken _ (λ x y. IsConnectionBefore h (flat_connection h x) (flat_connection h y)) (connections h) (λ x y i j r. record {
-        path = x.path;
-        name = x.wire.1.id.name;
-        first = refl;
-        other_path = y.path;
-        other_name = y.wire.1.id.name;
-        second = refl;
-        before = r;
-      }) (wires_in_order s sound));
+      order = order_map (IsConnectionBefore h) (flat_connection h) (connections h)
+          (order_weaken _ (λ x y. IsConnectionBefore h (flat_connection h x) (flat_connection h y)) (connections h)
+          (λ x y i j r. record {
+            path = x.path;
+            name = x.wire.1.id.name;
+            first = refl;
+            other_path = y.path;
+            other_name = y.wire.1.id.name;
+            second = refl;
+            before = r;
+          }) (wires_in_order s sound));
     }
 
 pub by_hierarchy : (s : Source) → AreNamesSound s → AreDotted (hierarchy_of s) → IsByHierarchy (hierarchy_of s) (flat_of s)
-by_hierarchy s sound dotted = record { leaves = are_leaves s sound; domains = are_domains s sound; connections = are_connections s sound dotted }
+by_hierarchy s sound dotted = record {
+  leaves = are_leaves s sound;
+  domains = are_domains s sound;
+  connections = are_connections s sound dotted;
+}

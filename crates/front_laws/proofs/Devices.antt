@@ -40,14 +40,23 @@ device_there rs paddr t =
     let q = r.0 in
     let parts = and_parts q.device (leb q.paddr paddr && leb (paddr + 4096) (region_end q)) r.2 in
     let more = and_parts (leb q.paddr paddr) (leb (paddr + 4096) (region_end q)) parts.1 in
-    record { region = q; one = r.1; lies = record { kind = parts.0; low = leb-true q.paddr paddr more.0; high = leb-true (paddr + 4096) (region_end q) more.1 } }
+    record {
+      region = q;
+      one = r.1;
+      lies = record {
+        kind = parts.0;
+        low = leb-true q.paddr paddr more.0;
+        high = leb-true (paddr + 4096) (region_end q) more.1;
+      };
+    }
 
 there_device : (rs : List Untyped) (paddr : ℕ) → HasDevice rs paddr → list_any (has_page paddr) rs ≡ true
 there_device rs paddr h =
     let q = h.region in
     in_any (has_page paddr) rs q h.one
     (ap (λ b. b && (leb q.paddr paddr && leb (paddr + 4096) (region_end q))) h.lies.kind
-    ∙ ap (λ b. b && leb (paddr + 4096) (region_end q)) (le-leb q.paddr paddr h.lies.low) ∙ le-leb (paddr + 4096) (region_end q) h.lies.high)
+    ∙ ap (λ b. b && leb (paddr + 4096) (region_end q)) (le-leb q.paddr paddr h.lies.low)
+    ∙ le-leb (paddr + 4096) (region_end q) h.lies.high)
 
 -- ---- the walk
 
@@ -65,31 +74,40 @@ abbrev said : List Untyped → List Need → Need → Option PlanRefusal
 said rs before Nothing = None
 said rs before (Block bits) = None
 said rs before (DevicePage paddr) =
-    cond (not (list_any (has_page paddr) rs)) (Some (NoDevice (length before))) (cond (is_needed paddr (pages before)) (Some (SharedFrame (length before))) None)
+    cond (not (list_any (has_page paddr) rs)) (Some (NoDevice (length before)))
+    (cond (is_needed paddr (pages before)) (Some (SharedFrame (length before))) None)
 
 pages_more : (before : List Need) (n : Need) → pages (before ++ n ∷ []) ≡ pages before ++ pages (n ∷ [])
 pages_more before n = filter_map-append as_page before (n ∷ [])
 
-as_first : (rs : List Untyped) (before ns : List Need) (k : ℕ) → k ≡ length before → device_refusal rs (pages before) k ns ≡ first_of (said rs) before ns
+as_first : (rs : List Untyped) (before ns : List Need) (k : ℕ) → k ≡ length before
+    → device_refusal rs (pages before) k ns ≡ first_of (said rs) before ns
 as_first rs before [] k e = refl
 as_first rs before (Nothing ∷ ns) k e =
-    ap (λ ps. device_refusal rs ps (k + 1) ns) (sym (append-nil (pages before)) ∙ sym (pages_more before Nothing)) ∙ as_first rs (before ++ Nothing ∷ []) ns (k + 1) (omega (arith, e, length-append {A = Need}))
+    ap (λ ps. device_refusal rs ps (k + 1) ns) (sym (append-nil (pages before)) ∙ sym (pages_more before Nothing))
+    ∙ as_first rs (before ++ Nothing ∷ []) ns (k + 1) (omega (arith, e, length-append {A = Need}))
 as_first rs before (Block bits ∷ ns) k e =
-    ap (λ ps. device_refusal rs ps (k + 1) ns) (sym (append-nil (pages before)) ∙ sym (pages_more before (Block bits))) ∙ as_first rs (before ++ Block bits ∷ []) ns (k + 1) (omega (arith, e, length-append {A = Need}))
+    ap (λ ps. device_refusal rs ps (k + 1) ns) (sym (append-nil (pages before)) ∙ sym (pages_more before (Block bits)))
+    ∙ as_first rs (before ++ Block bits ∷ []) ns (k + 1) (omega (arith, e, length-append {A = Need}))
 as_first rs before (DevicePage paddr ∷ ns) k e =
     by_tests (list_any (has_page paddr) rs) (is_needed paddr (pages before))
-    (ap (λ ps. device_refusal rs ps (k + 1) ns) (sym (pages_more before (DevicePage paddr))) ∙ as_first rs (before ++ DevicePage paddr ∷ []) ns (k + 1) (omega (arith, e, length-append {A = Need})))
+    (ap (λ ps. device_refusal rs ps (k + 1) ns) (sym (pages_more before (DevicePage paddr)))
+    ∙ as_first rs (before ++ DevicePage paddr ∷ []) ns (k + 1) (omega (arith, e, length-append {A = Need})))
   where
-    by_tests : (a b : Bool) → device_refusal rs (pages before ++ paddr ∷ []) (k + 1) ns ≡ first_of (said rs) (before ++ DevicePage paddr ∷ []) ns
-        → cond (not a) (Some (NoDevice k)) (cond b (Some (SharedFrame k)) (device_refusal rs (pages before ++ paddr ∷ []) (k + 1) ns))
-        ≡ option_or (cond (not a) (Some (NoDevice (length before))) (cond b (Some (SharedFrame (length before))) None)) (first_of (said rs) (before ++ DevicePage paddr ∷ []) ns)
+    by_tests : (a b : Bool) → device_refusal rs (pages before ++ paddr ∷ []) (k + 1) ns ≡ first_of (said rs)
+        (before ++ DevicePage paddr ∷ []) ns
+        → cond (not a) (Some (NoDevice k))
+        (cond b (Some (SharedFrame k)) (device_refusal rs (pages before ++ paddr ∷ []) (k + 1) ns))
+        ≡ option_or (cond (not a) (Some (NoDevice (length before))) (cond b (Some (SharedFrame (length before))) None))
+        (first_of (said rs) (before ++ DevicePage paddr ∷ []) ns)
     by_tests false b more = ap (λ n. Some (NoDevice n)) e
     by_tests true true more = ap (λ n. Some (SharedFrame n)) e
     by_tests true false more = more
 
 -- ---- pages that are taken
 
-taken_there : (ns before rest : List Need) (paddr : ℕ) (item : Need) → ns ≡ before ++ item ∷ rest → is_needed paddr (pages before) ≡ true → IsTaken ns (length before) paddr
+taken_there : (ns before rest : List Need) (paddr : ℕ) (item : Need) → ns ≡ before ++ item ∷ rest
+    → is_needed paddr (pages before) ≡ true → IsTaken ns (length before) paddr
 taken_there ns before rest paddr item e t =
     let p = from_any (λ p. p == paddr) (pages before) t in
     let n = from_filter_map as_page p.0 before p.1 in
@@ -97,103 +115,138 @@ taken_there ns before rest paddr item e t =
     let same : p.0 ≡ paddr = eqb-true p.0 paddr p.2 in
     let is : n.0 ≡ DevicePage paddr = the_page n.0 (n.2 ∙ ap Some same) in
     let P : List Need → Type 0 = λ z. slice_get z i.0 ≡ Some (DevicePage paddr) in
-    record { earlier = i.0; before = below before i.0 n.0 i.1; needs = subst P (sym e) (get_front before (item ∷ rest) i.0 (DevicePage paddr) (i.1 ∙ ap Some is)) }
+    record {
+      earlier = i.0;
+      before = below before i.0 n.0 i.1;
+      needs = subst P (sym e) (get_front before (item ∷ rest) i.0 (DevicePage paddr) (i.1 ∙ ap Some is));
+    }
   where
     the_page : (n : Need) → as_page n ≡ Some paddr → n ≡ DevicePage paddr
     the_page Nothing e = cc
     the_page (Block bits) e = cc
     the_page (DevicePage a) e = let s : a ≡ paddr = cc in ap (λ z. DevicePage z) s
 
-there_taken : (ns before rest : List Need) (paddr : ℕ) (item : Need) → ns ≡ before ++ item ∷ rest → IsTaken ns (length before) paddr → is_needed paddr (pages before) ≡ true
+there_taken : (ns before rest : List Need) (paddr : ℕ) (item : Need) → ns ≡ before ++ item ∷ rest
+    → IsTaken ns (length before) paddr → is_needed paddr (pages before) ≡ true
 there_taken ns before rest paddr item e t =
     let P : List Need → Type 0 = λ z. slice_get z t.earlier ≡ Some (DevicePage paddr) in
     let here = front_get before (item ∷ rest) t.earlier (DevicePage paddr) (subst P e t.needs) t.before in
-    in_any (λ p. p == paddr) (pages before) paddr (in_filter_map as_page (DevicePage paddr) paddr before (in_place (DevicePage paddr) before t.earlier here) refl) (eq-eqb paddr paddr refl)
+    in_any (λ p. p == paddr) (pages before) paddr (in_filter_map as_page (DevicePage paddr) paddr before
+    (in_place (DevicePage paddr) before t.earlier here) refl) (eq-eqb paddr paddr refl)
 
 -- ---- what is said, in words
 
 -- nothing is said of the objects of a front exactly where they are served
-served : (rs : List Untyped) (ns front rest : List Need) → ns ≡ front ++ rest → IsClean (said rs) [] front → AreServed rs ns (length front)
+served : (rs : List Untyped) (ns front rest : List Need) → ns ≡ front ++ rest → IsClean (said rs) [] front
+    → AreServed rs ns (length front)
 served rs ns front rest e clean i paddr l n =
     let P : List Need → Type 0 = λ z. slice_get z i ≡ Some (DevicePage paddr) in
     let here = front_get front rest i (DevicePage paddr) (subst P e n) l in
     let s = at_split front i (DevicePage paddr) here in
-    let whole : ns ≡ s.0 ++ DevicePage paddr ∷ (s.1 ++ rest) = e ∙ ap (λ z. z ++ rest) s.2 ∙ append_assoc s.0 (DevicePage paddr ∷ s.1) rest in
-    by_tests s.0 (s.1 ++ rest) whole s.3 (list_any (has_page paddr) rs) (is_needed paddr (pages s.0)) refl refl (clean s.0 s.1 (DevicePage paddr) s.2)
+    let whole : ns ≡ s.0 ++ DevicePage paddr ∷ (s.1 ++ rest) = e ∙ ap (λ z. z ++ rest) s.2
+    ∙ append_assoc s.0 (DevicePage paddr ∷ s.1) rest in
+    by_tests s.0 (s.1 ++ rest) whole s.3 (list_any (has_page paddr) rs) (is_needed paddr (pages s.0)) refl refl
+    (clean s.0 s.1 (DevicePage paddr) s.2)
   where
-    by_tests : (p q : List Need) → ns ≡ p ++ DevicePage paddr ∷ q → length p ≡ i → (a b : Bool) → list_any (has_page paddr) rs ≡ a → is_needed paddr (pages p) ≡ b
-        → cond (not a) (Some (NoDevice (length p))) (cond b (Some (SharedFrame (length p))) None) ≡ None → HasDevice rs paddr × (IsTaken ns i paddr → ⊥)
+    by_tests : (p q : List Need) → ns ≡ p ++ DevicePage paddr ∷ q → length p ≡ i → (a b : Bool) → list_any (has_page paddr) rs ≡ a
+        → is_needed paddr (pages p) ≡ b
+        → cond (not a) (Some (NoDevice (length p))) (cond b (Some (SharedFrame (length p))) None) ≡ None
+        → HasDevice rs paddr × (IsTaken ns i paddr → ⊥)
     by_tests p q w m false b s t none = cc
     by_tests p q w m true true s t none = cc
     by_tests p q w m true false s t none =
         let P : ℕ → Type 0 = λ z. IsTaken ns z paddr in
         (device_there rs paddr s, λ k. true≢false (sym (there_taken ns p q paddr (DevicePage paddr) w (subst P (sym m) k)) ∙ t))
 
-clean_served : (rs : List Untyped) (ns front rest : List Need) → ns ≡ front ++ rest → AreServed rs ns (length front) → IsClean (said rs) [] front
+clean_served : (rs : List Untyped) (ns front rest : List Need) → ns ≡ front ++ rest → AreServed rs ns (length front)
+    → IsClean (said rs) [] front
 clean_served rs ns front rest e a p q Nothing s = refl
 clean_served rs ns front rest e a p q (Block bits) s = refl
 clean_served rs ns front rest e a p q (DevicePage paddr) s =
-    let whole : ns ≡ p ++ DevicePage paddr ∷ (q ++ rest) = e ∙ ap (λ z. z ++ rest) s ∙ append_assoc p (DevicePage paddr ∷ q) rest in
+    let whole : ns ≡ p ++ DevicePage paddr ∷ (q ++ rest) = e ∙ ap (λ z. z ++ rest) s
+    ∙ append_assoc p (DevicePage paddr ∷ q) rest in
     let P : List Need → Type 0 = λ z. slice_get z (length p) ≡ Some (DevicePage paddr) in
     let many : length front ≡ length p + suc (length q) = ap length s ∙ length-append p (DevicePage paddr ∷ q) in
-    let k = a (length p) paddr (omega (arith, many)) (subst P (sym whole) (get_behind p (DevicePage paddr ∷ (q ++ rest)) 0 (length p) (omega arith))) in
+    let k =
+    a (length p) paddr (omega (arith, many))
+    (subst P (sym whole) (get_behind p (DevicePage paddr ∷ (q ++ rest)) 0 (length p) (omega arith))) in
     by_test whole (is_needed paddr (pages p)) refl k
   where
-    by_test : ns ≡ p ++ DevicePage paddr ∷ (q ++ rest) → (b : Bool) → is_needed paddr (pages p) ≡ b → HasDevice rs paddr × (IsTaken ns (length p) paddr → ⊥)
-        → cond (not (list_any (has_page paddr) rs)) (Some (NoDevice (length p))) (cond (is_needed paddr (pages p)) (Some (SharedFrame (length p))) None) ≡ None
+    by_test : ns ≡ p ++ DevicePage paddr ∷ (q ++ rest) → (b : Bool) → is_needed paddr (pages p) ≡ b
+        → HasDevice rs paddr × (IsTaken ns (length p) paddr → ⊥)
+        → cond (not (list_any (has_page paddr) rs)) (Some (NoDevice (length p)))
+        (cond (is_needed paddr (pages p)) (Some (SharedFrame (length p))) None) ≡ None
     by_test w true t k = absurd (k.1 (taken_there ns p (q ++ rest) paddr (DevicePage paddr) w t))
     by_test w false t k =
-        ap (λ z. cond (not z) (Some (NoDevice (length p))) (cond (is_needed paddr (pages p)) (Some (SharedFrame (length p))) None)) (there_device rs paddr k.0)
+        ap (λ z. cond (not z) (Some (NoDevice (length p))) (cond (is_needed paddr (pages p)) (Some (SharedFrame (length p)))
+        None)) (there_device rs paddr k.0)
         ∙ ap (λ z. cond z (Some (SharedFrame (length p))) None) t
 
-from_said : (rs : List Untyped) (ns front rest : List Need) (item : Need) (x : PlanRefusal) → ns ≡ front ++ item ∷ rest → said rs front item ≡ Some x → IsClean (said rs) [] front
+from_said : (rs : List Untyped) (ns front rest : List Need) (item : Need) (x : PlanRefusal) → ns ≡ front ++ item ∷ rest
+    → said rs front item ≡ Some x → IsClean (said rs) [] front
     → IsDeviceRefusal rs ns x
 from_said rs ns front rest Nothing x e s clean = cc
 from_said rs ns front rest (Block bits) x e s clean = cc
-from_said rs ns front rest (DevicePage paddr) x e s clean = by_tests (list_any (has_page paddr) rs) (is_needed paddr (pages front)) refl refl s
+from_said rs ns front rest (DevicePage paddr) x e s clean =
+    by_tests (list_any (has_page paddr) rs) (is_needed paddr (pages front)) refl refl s
   where
     here : NeedsPage ns (length front) paddr
     here = let P : List Need → Type 0 = λ z. slice_get z (length front) ≡ Some (DevicePage paddr) in
         subst P (sym e) (get_behind front (DevicePage paddr ∷ rest) 0 (length front) (omega arith))
 
     by_tests : (a b : Bool) → list_any (has_page paddr) rs ≡ a → is_needed paddr (pages front) ≡ b
-        → cond (not a) (Some (NoDevice (length front))) (cond b (Some (SharedFrame (length front))) None) ≡ Some x → IsDeviceRefusal rs ns x
+        → cond (not a) (Some (NoDevice (length front))) (cond b (Some (SharedFrame (length front))) None) ≡ Some x
+        → IsDeviceRefusal rs ns x
     by_tests false b t u says =
         let same : NoDevice (length front) ≡ x = cc in
         let P : PlanRefusal → Type 0 = λ z. IsDeviceRefusal rs ns z in
-        subst P same (no_device (length front) paddr here (λ h. true≢false (sym (there_device rs paddr h) ∙ t)) (served rs ns front (DevicePage paddr ∷ rest) e clean))
+        subst P same (no_device (length front) paddr here (λ h. true≢false (sym (there_device rs paddr h) ∙ t))
+        (served rs ns front (DevicePage paddr ∷ rest) e clean))
     by_tests true true t u says =
         let same : SharedFrame (length front) ≡ x = cc in
         let P : PlanRefusal → Type 0 = λ z. IsDeviceRefusal rs ns z in
-        subst P same (shared_frame (length front) paddr here (device_there rs paddr t) (taken_there ns front rest paddr (DevicePage paddr) e u) (served rs ns front (DevicePage paddr ∷ rest) e clean))
+        subst P same (shared_frame (length front) paddr here (device_there rs paddr t)
+        (taken_there ns front rest paddr (DevicePage paddr) e u) (served rs ns front (DevicePage paddr ∷ rest) e clean))
     by_tests true false t u says = cc
 
-pub from_refusal : (rs : List Untyped) (ns : List Need) (x : PlanRefusal) → device_refusal rs [] 0 ns ≡ Some x → IsDeviceRefusal rs ns x
+pub from_refusal : (rs : List Untyped) (ns : List Need) (x : PlanRefusal) → device_refusal rs [] 0 ns ≡ Some x
+    → IsDeviceRefusal rs ns x
 from_refusal rs ns x e =
     let f = from_first (said rs) [] ns x (sym (as_first rs [] ns 0 refl) ∙ e) in
     from_said rs ns f.front f.rest f.item x f.split f.says f.clean
 
 -- object k of the objects, with all in front of it
 says_at : (rs : List Untyped) (ns : List Need) (k paddr : ℕ) (x : PlanRefusal) → NeedsPage ns k paddr → AreServed rs ns k
-    → ((front rest : List Need) → ns ≡ front ++ DevicePage paddr ∷ rest → length front ≡ k → said rs front (DevicePage paddr) ≡ Some x) → device_refusal rs [] 0 ns ≡ Some x
+    → ((front rest : List Need) → ns ≡ front ++ DevicePage paddr ∷ rest → length front ≡ k
+    → said rs front (DevicePage paddr) ≡ Some x) → device_refusal rs [] 0 ns ≡ Some x
 says_at rs ns k paddr x n a says =
     let s = at_split ns k (DevicePage paddr) n in
     let P : ℕ → Type 0 = λ z. AreServed rs ns z in
     let Q : List Need → Type 0 = λ z. first_of (said rs) [] z ≡ Some x in
     as_first rs [] ns 0 refl
-    ∙ subst Q (sym s.2) (in_first (said rs) [] s.0 (DevicePage paddr) s.1 x (says s.0 s.1 s.2 s.3) (clean_served rs ns s.0 (DevicePage paddr ∷ s.1) s.2 (subst P (sym s.3) a)))
+    ∙ subst Q (sym s.2) (in_first (said rs) [] s.0 (DevicePage paddr) s.1 x (says s.0 s.1 s.2 s.3)
+    (clean_served rs ns s.0 (DevicePage paddr ∷ s.1) s.2 (subst P (sym s.3) a)))
 
-pub in_refusal : (rs : List Untyped) (ns : List Need) (x : PlanRefusal) → IsDeviceRefusal rs ns x → device_refusal rs [] 0 ns ≡ Some x
+pub in_refusal : (rs : List Untyped) (ns : List Need) (x : PlanRefusal) → IsDeviceRefusal rs ns x
+    → device_refusal rs [] 0 ns ≡ Some x
 in_refusal rs ns x (no_device k paddr n none a) = says_at rs ns k paddr (NoDevice k) n a (λ front rest e l.
-    let t : list_any (has_page paddr) rs ≡ false = elim (cases_Bool (list_any (has_page paddr) rs)) [ inl y ↦ absurd (none (device_there rs paddr y)) | inr y ↦ y ] in
-    ap (λ z. cond (not z) (Some (NoDevice (length front))) (cond (is_needed paddr (pages front)) (Some (SharedFrame (length front))) None)) t ∙ ap (λ z. Some (NoDevice z)) l)
+    let t : list_any (has_page paddr) rs ≡ false = elim (cases_Bool (list_any (has_page paddr) rs)) [
+      | inl y ↦
+          absurd (none (device_there rs paddr y))
+      | inr y ↦ y
+    ] in
+    ap (λ z. cond (not z) (Some (NoDevice (length front)))
+    (cond (is_needed paddr (pages front)) (Some (SharedFrame (length front))) None)) t ∙ ap (λ z. Some (NoDevice z)) l)
 in_refusal rs ns x (shared_frame k paddr n has taken a) = says_at rs ns k paddr (SharedFrame k) n a (λ front rest e l.
     let P : ℕ → Type 0 = λ z. IsTaken ns z paddr in
-    ap (λ z. cond (not z) (Some (NoDevice (length front))) (cond (is_needed paddr (pages front)) (Some (SharedFrame (length front))) None)) (there_device rs paddr has)
-    ∙ ap (λ z. cond z (Some (SharedFrame (length front))) None) (there_taken ns front rest paddr (DevicePage paddr) e (subst P (sym l) taken)) ∙ ap (λ z. Some (SharedFrame z)) l)
+    ap (λ z. cond (not z) (Some (NoDevice (length front)))
+    (cond (is_needed paddr (pages front)) (Some (SharedFrame (length front))) None)) (there_device rs paddr has)
+    ∙ ap (λ z. cond z (Some (SharedFrame (length front))) None) (there_taken ns front rest paddr (DevicePage paddr) e
+    (subst P (sym l) taken)) ∙ ap (λ z. Some (SharedFrame z)) l)
 
 pub from_no_refusal : (rs : List Untyped) (ns : List Need) → device_refusal rs [] 0 ns ≡ None → AreServed rs ns (length ns)
-from_no_refusal rs ns e = served rs ns ns [] (sym (append-nil ns)) (from_none (said rs) [] ns (sym (as_first rs [] ns 0 refl) ∙ e))
+from_no_refusal rs ns e =
+    served rs ns ns [] (sym (append-nil ns)) (from_none (said rs) [] ns (sym (as_first rs [] ns 0 refl) ∙ e))
 
 pub in_no_refusal : (rs : List Untyped) (ns : List Need) → AreServed rs ns (length ns) → device_refusal rs [] 0 ns ≡ None
 in_no_refusal rs ns a = as_first rs [] ns 0 refl ∙ in_none (said rs) [] ns (clean_served rs ns ns [] (sym (append-nil ns)) a)

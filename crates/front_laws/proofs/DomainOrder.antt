@@ -17,7 +17,9 @@ numbers_rise : {X : Type 0} (p : ℕ × X → Bool) (a : ℕ) (xs : List X) → 
 numbers_rise p a [] = tt
 numbers_rise {X} p a (x ∷ xs) = by_test (p (a, x)) (numbers_rise p (a + 1) xs)
   where
-    by_test : (b : Bool) → InOrder (λ x y. x.0 < y.0) (filter p (enumerate_from (a + 1) xs)) → InOrder (λ (x y : ℕ × X). x.0 < y.0) (cond b ((a, x) ∷ filter p (enumerate_from (a + 1) xs)) (filter p (enumerate_from (a + 1) xs)))
+    by_test : (b : Bool) → InOrder (λ x y. x.0 < y.0) (filter p (enumerate_from (a + 1) xs))
+        → InOrder (λ (x y : ℕ × X). x.0 < y.0) (cond b ((a, x) ∷ filter p (enumerate_from (a + 1) xs))
+        (filter p (enumerate_from (a + 1) xs)))
     by_test true more = (
       λ y i.
           let k = from_filter p (enumerate_from (a + 1) xs) y i in
@@ -29,7 +31,8 @@ numbers_rise {X} p a (x ∷ xs) = by_test (p (a, x)) (numbers_rise p (a + 1) xs)
     by_test false more = more
 
 pub domain_leaves_rise : (h : Hierarchy) (d : Path) → InOrder ◌<◌ (flat_domain h d).leaves
-domain_leaves_rise h d = order_map ◌<◌ (λ x. x.0) (filter (λ x. is_inside h d x.1) (enumerate_from 0 (leaves h))) (numbers_rise (λ x. is_inside h d x.1) 0 (leaves h))
+domain_leaves_rise h d = order_map ◌<◌ (λ x. x.0) (filter (λ x. is_inside h d x.1) (enumerate_from 0 (leaves h)))
+    (numbers_rise (λ x. is_inside h d x.1) 0 (leaves h))
 
 -- ---- the first of each
 
@@ -51,8 +54,11 @@ not_met : (met : Path → Bool) (ds : List Path) (d : Path) → IsIn d (firsts_a
 not_met met [] d i = absurd i
 not_met met (e ∷ ds) d i = by_test (met e) refl i (not_met met ds d) (not_met (λ y. met y || same_path y e) ds d)
   where
-    by_test : (b : Bool) → met e ≡ b → IsIn d (cond b (firsts_after same_path met ds) (e ∷ firsts_after same_path (λ y. met y || same_path y e) ds))
-        → (IsIn d (firsts_after same_path met ds) → met d ≡ false) → (IsIn d (firsts_after same_path (λ y. met y || same_path y e) ds) → (met d || same_path d e) ≡ false) → met d ≡ false
+    by_test : (b : Bool) → met e ≡ b
+        → IsIn d (cond b (firsts_after same_path met ds) (e ∷ firsts_after same_path (λ y. met y || same_path y e) ds))
+        → (IsIn d (firsts_after same_path met ds) → met d ≡ false)
+        → (IsIn d (firsts_after same_path (λ y. met y || same_path y e) ds) → (met d || same_path d e) ≡ false)
+        → met d ≡ false
     by_test true t j old new = old j
     by_test false t (inl s) old new = ap met (sym s) ∙ t
     by_test false t (inr j) old new = (or_parts (met d) (same_path d e) (new j)).0
@@ -65,7 +71,8 @@ abbrev IsMet : {X : Type 0} → (X → Bool) → (X → Path) → (Path → Bool
 IsMet {X} passes key met front = (n : ℕ) (x : X) → slice_get front n ≡ Some x → passes x ≡ true → met (key x) ≡ true
 
 -- with one element more
-met_more : {X : Type 0} (passes : X → Bool) (key : X → Path) (old new : Path → Bool) (front : List X) (x : X) → IsMet passes key old front
+met_more : {X : Type 0} (passes : X → Bool) (key : X → Path) (old new : Path → Bool) (front : List X) (x : X)
+    → IsMet passes key old front
     → ((d : Path) → old d ≡ true → new d ≡ true) → (passes x ≡ true → new (key x) ≡ true) → IsMet passes key new (front ++ x ∷ [])
 met_more {X} passes key old new front x met keep here n y e p = elim (split_get front (x ∷ []) n y e) [
   | inl i ↦ keep (key y) (met n y i p)
@@ -73,15 +80,19 @@ met_more {X} passes key old new front x met keep here n y e p = elim (split_get 
 ]
   where
     last : ((m : ℕ) × (n ≡ length front + m) × (slice_get (x ∷ []) m ≡ Some y)) → new (key y) ≡ true
-    last (zero, a, b) = let same : x ≡ y = cc in let P : X → Type 0 = λ z. passes z ≡ true in ap (λ z. new (key z)) (sym same) ∙ here (subst P (sym same) p)
+    last (zero, a, b) = let same : x ≡ y = cc in let P : X → Type 0 = λ z. passes z ≡ true in ap (λ z. new (key z)) (sym same)
+        ∙ here (subst P (sym same) p)
     last (suc m, a, b) = cc
 
 -- an element of a key that isn't met, and that isn't the key of x, stands behind x
-behind : {X : Type 0} (whole : List X) (passes : X → Bool) (key : X → Path) (met : Path → Bool) (front xs : List X) (x : X) → whole ≡ front ++ x ∷ xs → IsMet passes key met front
+behind : {X : Type 0} (whole : List X) (passes : X → Bool) (key : X → Path) (met : Path → Bool) (front xs : List X) (x : X)
+    → whole ≡ front ++ x ∷ xs → IsMet passes key met front
     → (d : Path) (n : ℕ) → HasKey whole passes key n d → (met d || same_path d (key x)) ≡ false → length front < n
-behind {X} whole passes key met front xs x e a d n k none = by_place (split_get front (x ∷ xs) n k.item (ap (λ z. slice_get z n) (sym e) ∙ k.there))
+behind {X} whole passes key met front xs x e a d n k none =
+    by_place (split_get front (x ∷ xs) n k.item (ap (λ z. slice_get z n) (sym e) ∙ k.there))
   where
-    by_place : (slice_get front n ≡ Some k.item) ⊎ ((m : ℕ) × (n ≡ length front + m) × (slice_get (x ∷ xs) m ≡ Some k.item)) → length front < n
+    by_place : (slice_get front n ≡ Some k.item) ⊎ ((m : ℕ) × (n ≡ length front + m) × (slice_get (x ∷ xs) m ≡ Some k.item))
+        → length front < n
     by_place (inl i) =
         let t : met d ≡ true = ap met (sym k.key_is) ∙ a n k.item i k.passing in
         absurd (true≢false (sym (or_left (met d) (same_path d (key x)) t) ∙ none))
@@ -94,7 +105,8 @@ behind {X} whole passes key met front xs x e a d n k none = by_place (split_get 
 abbrev AreOrdered : {X : Type 0} → List X → (X → Bool) → (X → Path) → (Path → Bool) → List X → Type 0
 AreOrdered whole passes key met xs = InOrder (IsKeyBefore whole passes key) (firsts_after same_path met (Keys passes key xs))
 
-keys_ordered : {X : Type 0} (whole : List X) (passes : X → Bool) (key : X → Path) (met : Path → Bool) (front xs : List X) → whole ≡ front ++ xs → IsMet passes key met front
+keys_ordered : {X : Type 0} (whole : List X) (passes : X → Bool) (key : X → Path) (met : Path → Bool) (front xs : List X)
+    → whole ≡ front ++ xs → IsMet passes key met front
     → AreOrdered whole passes key met xs
 keys_ordered whole passes key met front [] e a = tt
 keys_ordered {X} whole passes key met front (x ∷ xs) e a =
@@ -103,28 +115,36 @@ keys_ordered {X} whole passes key met front (x ∷ xs) e a =
     by_test (passes x) refl
     (λ k. keys_ordered whole passes key met (front ++ x ∷ []) xs further (met_more passes key met met front x a (λ d m. m) k))
     (keys_ordered whole passes key more (front ++ x ∷ []) xs further
-    (met_more passes key met more front x a (λ d k. or_left (met d) (same_path d (key x)) k) (λ p. or_right (met (key x)) (same_path (key x) (key x)) ((same_path-Decides (key x) (key x)).1 refl))))
+    (met_more passes key met more front x a (λ d k. or_left (met d) (same_path d (key x)) k)
+    (λ p. or_right (met (key x)) (same_path (key x) (key x)) ((same_path-Decides (key x) (key x)).1 refl))))
   where
     here : slice_get whole (length front) ≡ Some x
     here = ap (λ z. slice_get z (length front)) e ∙ get_behind front (x ∷ xs) 0 (length front) (omega arith)
 
-    by_met : (b : Bool) → passes x ≡ true → met (key x) ≡ b → ((passes x ≡ true → met (key x) ≡ true) → AreOrdered whole passes key met xs)
+    by_met : (b : Bool) → passes x ≡ true → met (key x) ≡ b → ((passes x ≡ true → met (key x) ≡ true)
+        → AreOrdered whole passes key met xs)
         → AreOrdered whole passes key (λ y. met y || same_path y (key x)) xs
-        → InOrder (IsKeyBefore whole passes key) (cond b (firsts_after same_path met (Keys passes key xs)) (key x ∷ firsts_after same_path (λ y. met y || same_path y (key x)) (Keys passes key xs)))
+        → InOrder (IsKeyBefore whole passes key) (cond b (firsts_after same_path met (Keys passes key xs))
+        (key x ∷ firsts_after same_path (λ y. met y || same_path y (key x)) (Keys passes key xs)))
     by_met true t m old new = old (λ p. m)
     by_met false t m old new = (
       λ d i. record {
         first = length front;
         stands = record { item = x; there = here; passing = t; key_is = refl };
-        before = λ n k. behind whole passes key met front xs x e a d n k (not_met (λ y. met y || same_path y (key x)) (Keys passes key xs) d i);
+        before = λ n k. behind whole passes key met front xs x e a d n k (not_met (λ y. met y || same_path y (key x))
+            (Keys passes key xs) d i);
       },
       new,
     )
 
-    by_test : (b : Bool) → passes x ≡ b → ((passes x ≡ true → met (key x) ≡ true) → AreOrdered whole passes key met xs) → AreOrdered whole passes key (λ y. met y || same_path y (key x)) xs
-        → InOrder (IsKeyBefore whole passes key) (firsts_after same_path met (map key (cond b (x ∷ filter passes xs) (filter passes xs))))
+    by_test : (b : Bool) → passes x ≡ b → ((passes x ≡ true → met (key x) ≡ true) → AreOrdered whole passes key met xs)
+        → AreOrdered whole passes key (λ y. met y || same_path y (key x)) xs
+        → InOrder (IsKeyBefore whole passes key)
+        (firsts_after same_path met (map key (cond b (x ∷ filter passes xs) (filter passes xs))))
     by_test false t old new = old (λ p. absurd (true≢false (sym p ∙ t)))
     by_test true t old new = by_met (met (key x)) t refl old new
 
-pub domains_in_order : (h : Hierarchy) → InOrder (IsKeyBefore (leaves h) (λ x. not (is_hardware h x.part)) (λ x. domain_of h x.path)) (domains h)
-domains_in_order h = keys_ordered (leaves h) (λ x. not (is_hardware h x.part)) (λ x. domain_of h x.path) (λ y. false) [] (leaves h) refl (λ n x e p. cc)
+pub domains_in_order : (h : Hierarchy)
+    → InOrder (IsKeyBefore (leaves h) (λ x. not (is_hardware h x.part)) (λ x. domain_of h x.path)) (domains h)
+domains_in_order h = keys_ordered (leaves h) (λ x. not (is_hardware h x.part)) (λ x. domain_of h x.path) (λ y. false) []
+    (leaves h) refl (λ n x e p. cc)

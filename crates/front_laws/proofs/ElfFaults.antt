@@ -34,7 +34,8 @@ headers_at : (c : Class) (bytes : List ℕ) (n first left k : ℕ) → k < left
 headers_at c bytes n first zero k l = absurd (omega (arith, l))
 headers_at c bytes n first (suc left) zero l =
     let number : n ≡ n + 0 = omega arith in
-    ap (λ z. Some (program_header c bytes z first)) number ∙ ap (λ z. Some (program_header c bytes (n + 0) z)) (this_place c first)
+    ap (λ z. Some (program_header c bytes z first)) number ∙ ap (λ z. Some (program_header c bytes (n + 0) z))
+    (this_place c first)
 headers_at c bytes n first (suc left) (suc k) l =
     let number : n + 1 + k ≡ n + suc k = omega arith in
     headers_at c bytes (n + 1) (first + header_length c) left k (omega (arith, l))
@@ -45,7 +46,8 @@ headers_many : (c : Class) (bytes : List ℕ) (n first left : ℕ) → length (h
 headers_many c bytes n first zero = refl
 headers_many c bytes n first (suc left) = let e = headers_many c bytes (n + 1) (first + header_length c) left in omega (arith, e)
 
-header_there : (c : Class) (bytes : List ℕ) (k : ℕ) → k < (file_header c bytes).count → slice_get (headers c bytes) k ≡ Some (header_at c bytes k)
+header_there : (c : Class) (bytes : List ℕ) (k : ℕ) → k < (file_header c bytes).count
+    → slice_get (headers c bytes) k ≡ Some (header_at c bytes k)
 header_there c bytes k l =
     let number : 0 + k ≡ k = omega arith in
     headers_at c bytes 0 (file_header c bytes).table (file_header c bytes).count k l
@@ -55,13 +57,19 @@ header_there c bytes k l =
 
 abbrev told : ProgramHeader → ℕ → Bool → Bool → Bool → Bool → Option ElfFault
 told h size used sized whole aligned =
-    cond used (cond (not sized) (Some (fault code.Size h.first h.end)) (cond (not whole) (Some (short size)) (fault_if (not aligned) (fault code.Align h.first h.end)))) None
+    cond used (cond (not sized) (Some (fault code.Size h.first h.end))
+    (cond (not whole) (Some (short size)) (fault_if (not aligned) (fault code.Align h.first h.end)))) None
 
 sound_from : (size : ℕ) (h : ProgramHeader) → header_fault size h ≡ None → IsSoundHeader size h
 sound_from size h e = by_tests (is_used h) (is_sized h) (is_whole size h) (is_aligned h) refl refl refl refl e
   where
-    by_tests : (a b c d : Bool) → is_used h ≡ a → is_sized h ≡ b → is_whole size h ≡ c → is_aligned h ≡ d → told h size a b c d ≡ None → IsSoundHeader size h
-    by_tests false b c d p q r s e = record { sized = λ u. absurd (true≢false (sym u ∙ p)); whole = λ u. absurd (true≢false (sym u ∙ p)); aligned = λ u. absurd (true≢false (sym u ∙ p)) }
+    by_tests : (a b c d : Bool) → is_used h ≡ a → is_sized h ≡ b → is_whole size h ≡ c → is_aligned h ≡ d
+        → told h size a b c d ≡ None → IsSoundHeader size h
+    by_tests false b c d p q r s e = record {
+      sized = λ u. absurd (true≢false (sym u ∙ p));
+      whole = λ u. absurd (true≢false (sym u ∙ p));
+      aligned = λ u. absurd (true≢false (sym u ∙ p));
+    }
     by_tests true false c d p q r s e = cc
     by_tests true true false d p q r s e = cc
     by_tests true true true false p q r s e = cc
@@ -70,7 +78,8 @@ sound_from size h e = by_tests (is_used h) (is_sized h) (is_whole size h) (is_al
 fault_from : (size : ℕ) (h : ProgramHeader) (f : ElfFault) → header_fault size h ≡ Some f → IsHeaderFault size h f
 fault_from size h f e = by_tests (is_used h) (is_sized h) (is_whole size h) (is_aligned h) refl refl refl refl e
   where
-    by_tests : (a b c d : Bool) → is_used h ≡ a → is_sized h ≡ b → is_whole size h ≡ c → is_aligned h ≡ d → told h size a b c d ≡ Some f → IsHeaderFault size h f
+    by_tests : (a b c d : Bool) → is_used h ≡ a → is_sized h ≡ b → is_whole size h ≡ c → is_aligned h ≡ d
+        → told h size a b c d ≡ Some f → IsHeaderFault size h f
     by_tests false b c d p q r s e = cc
     by_tests true false c d p q r s e = let same : fault code.Size h.first h.end ≡ f = cc in not_sized p q (sym same)
     by_tests true true false d p q r s e = let same : short size ≡ f = cc in not_whole p q r (sym same)
@@ -84,7 +93,8 @@ as_first size before [] = refl
 as_first size before (h ∷ hs) = ap (option_or (header_fault size h)) (as_first size (before ++ h ∷ []) hs)
 
 -- of a front of the headers in which no fault stands, each is sound
-front_sound : (bytes : List ℕ) (c : Class) (front rest : List ProgramHeader) → headers c bytes ≡ front ++ rest → IsClean (λ b h. header_fault (length bytes) h) [] front
+front_sound : (bytes : List ℕ) (c : Class) (front rest : List ProgramHeader) → headers c bytes ≡ front ++ rest
+    → IsClean (λ b h. header_fault (length bytes) h) [] front
     → (n : ℕ) → n ≤ length front → length front ≤ (file_header c bytes).count → AreSoundTo bytes c n
 front_sound bytes c front rest e clean n l m k low =
     let x = at_place front k (omega (arith, l, low)) in
@@ -95,25 +105,30 @@ front_sound bytes c front rest e clean n l m k low =
     let P : ProgramHeader → Type 0 = λ z. IsSoundHeader (length bytes) z in
     subst P same (sound_from (length bytes) x.0 (clean s.0 s.1 x.0 s.2))
 
-from_headers : (bytes : List ℕ) (c : Class) (f : ElfFault) → HasTable bytes c → headers_fault (length bytes) (headers c bytes) ≡ Some f → IsElfFault bytes f
+from_headers : (bytes : List ℕ) (c : Class) (f : ElfFault) → HasTable bytes c
+    → headers_fault (length bytes) (headers c bytes) ≡ Some f → IsElfFault bytes f
 from_headers bytes c f table e =
     let g : List ProgramHeader → ProgramHeader → Option ElfFault = λ b h. header_fault (length bytes) h in
     let r = from_first g [] (headers c bytes) f (sym (as_first (length bytes) [] (headers c bytes)) ∙ e) in
     let n = length r.front in
-    let there : slice_get (headers c bytes) n ≡ Some r.item = ap (λ z. slice_get z n) r.split ∙ get_behind r.front (r.item ∷ r.rest) 0 n (omega arith) in
+    let there : slice_get (headers c bytes) n ≡ Some r.item = ap (λ z. slice_get z n) r.split
+    ∙ get_behind r.front (r.item ∷ r.rest) 0 n (omega arith) in
     let many = headers_many c bytes 0 (file_header c bytes).table (file_header c bytes).count in
     let k = below (headers c bytes) n r.item there in
     let low : n < (file_header c bytes).count = omega (arith, many, k) in
     let own = header_there c bytes n low in
     let same : r.item ≡ header_at c bytes n = cc in
     let P : ProgramHeader → Type 0 = λ z. IsHeaderFault (length bytes) z f in
-    in_header c n table low (front_sound bytes c r.front (r.item ∷ r.rest) r.split r.clean n (omega arith) (omega (arith, low))) (subst P same (fault_from (length bytes) r.item f r.says))
+    in_header c n table low (front_sound bytes c r.front (r.item ∷ r.rest) r.split r.clean n (omega arith) (omega (arith, low)))
+    (subst P same (fault_from (length bytes) r.item f r.says))
 
-all_sound : (bytes : List ℕ) (c : Class) → headers_fault (length bytes) (headers c bytes) ≡ None → AreSoundTo bytes c (file_header c bytes).count
+all_sound : (bytes : List ℕ) (c : Class) → headers_fault (length bytes) (headers c bytes) ≡ None
+    → AreSoundTo bytes c (file_header c bytes).count
 all_sound bytes c e =
     let g : List ProgramHeader → ProgramHeader → Option ElfFault = λ b h. header_fault (length bytes) h in
     let many = headers_many c bytes 0 (file_header c bytes).table (file_header c bytes).count in
-    front_sound bytes c (headers c bytes) [] (sym (append-nil (headers c bytes))) (from_none g [] (headers c bytes) (sym (as_first (length bytes) [] (headers c bytes)) ∙ e))
+    front_sound bytes c (headers c bytes) [] (sym (append-nil (headers c bytes)))
+    (from_none g [] (headers c bytes) (sym (as_first (length bytes) [] (headers c bytes)) ∙ e))
     (file_header c bytes).count (omega (arith, many)) (omega (arith, many))
 
 -- ---- a file of a class
@@ -129,94 +144,132 @@ second_false false y p q = cc
 abbrev behind_table : List ℕ → Class → Option ElfFault
 behind_table bytes c = option_or (headers_fault (length bytes) (headers c bytes)) (limit_fault (headers c bytes))
 
-from_limit : (bytes : List ℕ) (c : Class) (f : ElfFault) → HasTable bytes c → AreSoundTo bytes c (file_header c bytes).count → limit_fault (headers c bytes) ≡ Some f → IsElfFault bytes f
+from_limit : (bytes : List ℕ) (c : Class) (f : ElfFault) → HasTable bytes c → AreSoundTo bytes c (file_header c bytes).count
+    → limit_fault (headers c bytes) ≡ Some f → IsElfFault bytes f
 from_limit bytes c f table sound e = by_test (nat_lt sections_limit (length (sections_of_all (headers c bytes)))) refl e
   where
-    by_test : (b : Bool) → nat_lt sections_limit (length (sections_of_all (headers c bytes))) ≡ b → fault_if b (fault code.Limit 0 0) ≡ Some f → IsElfFault bytes f
-    by_test true t e = let same : fault code.Limit 0 0 ≡ f = cc in many_sections c table sound (ltb-true sections_limit (length (sections_of_all (headers c bytes))) t) (sym same)
+    by_test : (b : Bool) → nat_lt sections_limit (length (sections_of_all (headers c bytes))) ≡ b
+        → fault_if b (fault code.Limit 0 0) ≡ Some f → IsElfFault bytes f
+    by_test true t e = let same : fault code.Limit 0 0 ≡ f = cc in
+        many_sections c table sound (ltb-true sections_limit (length (sections_of_all (headers c bytes))) t) (sym same)
     by_test false t e = cc
 
 from_behind : (bytes : List ℕ) (c : Class) (f : ElfFault) → HasTable bytes c → behind_table bytes c ≡ Some f → IsElfFault bytes f
 from_behind bytes c f table e = by_headers (headers_fault (length bytes) (headers c bytes)) refl e
   where
-    by_headers : (o : Option ElfFault) → headers_fault (length bytes) (headers c bytes) ≡ o → option_or o (limit_fault (headers c bytes)) ≡ Some f → IsElfFault bytes f
+    by_headers : (o : Option ElfFault) → headers_fault (length bytes) (headers c bytes) ≡ o
+        → option_or o (limit_fault (headers c bytes)) ≡ Some f → IsElfFault bytes f
     by_headers None s e = from_limit bytes c f table (all_sound bytes c s) e
     by_headers (Some g) s e = from_headers bytes c f table (s ∙ e)
 
 -- the table has what it must, where none of its tests fails
-has_table : (bytes : List ℕ) (c : Class) → IsOfClass bytes c → nat_lt (length bytes) (fields_end c) ≡ false → is_of_another_length c (file_header c bytes) ≡ false
+has_table : (bytes : List ℕ) (c : Class) → IsOfClass bytes c → nat_lt (length bytes) (fields_end c) ≡ false
+    → is_of_another_length c (file_header c bytes) ≡ false
     → is_past (length bytes) c (file_header c bytes) ≡ false → HasTable bytes c
 has_table bytes c kind a b d =
     let h = file_header c bytes in
     record {
       kind = kind;
       fields = ltb-false (length bytes) (fields_end c) a;
-      size = λ n. is_equal h.length (header_length c) (second_false (not (h.count == 0)) (not (h.length == header_length c)) (not_from_false _ (ne_eqb h.count 0 n)) b);
-      whole = λ n. ltb-false (length bytes) (h.table + h.count * header_length c) (second_false (not (h.count == 0)) (nat_lt (length bytes) (h.table + h.count * header_length c)) (not_from_false _ (ne_eqb h.count 0 n)) d);
+      size = λ n. is_equal h.length (header_length c) (second_false (not (h.count == 0)) (not (h.length == header_length c))
+          (not_from_false _ (ne_eqb h.count 0 n)) b);
+      whole = λ n. ltb-false (length bytes) (h.table + h.count * header_length c)
+          (second_false (not (h.count == 0)) (nat_lt (length bytes) (h.table + h.count * header_length c))
+          (not_from_false _ (ne_eqb h.count 0 n)) d);
     }
 
 from_class : (bytes : List ℕ) (c : Class) (f : ElfFault) → IsOfClass bytes c → fault_within bytes c ≡ Some f → IsElfFault bytes f
 from_class bytes c f kind e =
-    by_fields (nat_lt (length bytes) (fields_end c)) (is_of_another_length c (file_header c bytes)) (is_past (length bytes) c (file_header c bytes)) refl refl refl e
+    by_fields (nat_lt (length bytes) (fields_end c)) (is_of_another_length c (file_header c bytes))
+    (is_past (length bytes) c (file_header c bytes)) refl refl refl e
   where
-    by_fields : (x y z : Bool) → nat_lt (length bytes) (fields_end c) ≡ x → is_of_another_length c (file_header c bytes) ≡ y → is_past (length bytes) c (file_header c bytes) ≡ z
-        → option_or (cond x (Some (short (length bytes))) (cond y (Some (fault code.Size (length_at c) (length_at c + 2))) (fault_if z (short (length bytes))))) (behind_table bytes c) ≡ Some f
+    by_fields : (x y z : Bool) → nat_lt (length bytes) (fields_end c) ≡ x → is_of_another_length c (file_header c bytes) ≡ y
+        → is_past (length bytes) c (file_header c bytes) ≡ z
+        → option_or (cond x (Some (short (length bytes))) (cond y (Some (fault code.Size (length_at c) (length_at c + 2)))
+        (fault_if z (short (length bytes))))) (behind_table bytes c) ≡ Some f
         → IsElfFault bytes f
-    by_fields true y z p q r e = let same : short (length bytes) ≡ f = cc in no_fields c kind (ltb-true (length bytes) (fields_end c) p) (sym same)
+    by_fields true y z p q r e = let same : short (length bytes) ≡ f = cc in
+        no_fields c kind (ltb-true (length bytes) (fields_end c) p) (sym same)
     by_fields false true z p q r e =
         let h = file_header c bytes in
         let parts = and_parts (not (h.count == 0)) (not (h.length == header_length c)) q in
         let same : fault code.Size (length_at c) (length_at c + 2) ≡ f = cc in
-        another_length c kind (ltb-false (length bytes) (fields_end c) p) (eqb-false h.count 0 (not-true _ parts.0)) (eqb-false h.length (header_length c) (not-true _ parts.1)) (sym same)
+        another_length c kind (ltb-false (length bytes) (fields_end c) p) (eqb-false h.count 0 (not-true _ parts.0))
+        (eqb-false h.length (header_length c) (not-true _ parts.1)) (sym same)
     by_fields false false true p q r e =
         let h = file_header c bytes in
         let parts = and_parts (not (h.count == 0)) (nat_lt (length bytes) (h.table + h.count * header_length c)) r in
         let same : short (length bytes) ≡ f = cc in
-        let equal : h.length ≡ header_length c = is_equal h.length (header_length c) (second_false (not (h.count == 0)) (not (h.length == header_length c)) parts.0 q) in
-        no_table c kind (ltb-false (length bytes) (fields_end c) p) (eqb-false h.count 0 (not-true _ parts.0)) equal (ltb-true (length bytes) (h.table + h.count * header_length c) parts.1) (sym same)
+        let equal : h.length ≡ header_length c =
+        is_equal h.length (header_length c) (second_false (not (h.count == 0)) (not (h.length == header_length c))
+        parts.0 q) in
+        no_table c kind (ltb-false (length bytes) (fields_end c) p) (eqb-false h.count 0 (not-true _ parts.0)) equal
+        (ltb-true (length bytes) (h.table + h.count * header_length c) parts.1) (sym same)
     by_fields false false false p q r e = from_behind bytes c f (has_table bytes c kind p q r) e
 
 -- ---- a file
 
 abbrev behind_magic : List ℕ → Bool → Bool → Option Class → Result Class ElfFault
-behind_magic bytes a b o = cond (not a) (Err (fault code.Magic 0 4)) (cond b (Err (short (length bytes))) (ok_or o (fault code.Class 4 6)))
+behind_magic bytes a b o =
+    cond (not a) (Err (fault code.Magic 0 4)) (cond b (Err (short (length bytes))) (ok_or o (fault code.Class 4 6)))
 
 pub from_elf_fault : (bytes : List ℕ) (f : ElfFault) → first_fault bytes ≡ Some f → IsElfFault bytes f
-from_elf_fault bytes f e = by_tests (starts_with nat_eq bytes magic) (nat_lt (length bytes) 6) (class_of (slice_index bytes 4) (slice_index bytes 5)) refl refl refl e
+from_elf_fault bytes f e = by_tests (starts_with nat_eq bytes magic) (nat_lt (length bytes) 6)
+    (class_of (slice_index bytes 4) (slice_index bytes 5)) refl refl refl e
   where
-    by_tests : (a b : Bool) (o : Option Class) → starts_with nat_eq bytes magic ≡ a → nat_lt (length bytes) 6 ≡ b → class_of (slice_index bytes 4) (slice_index bytes 5) ≡ o
+    by_tests : (a b : Bool) (o : Option Class) → starts_with nat_eq bytes magic ≡ a → nat_lt (length bytes) 6 ≡ b
+        → class_of (slice_index bytes 4) (slice_index bytes 5) ≡ o
         → fault_behind bytes (behind_magic bytes a b o) ≡ Some f → IsElfFault bytes f
     by_tests false b o p q r e = let same : fault code.Magic 0 4 ≡ f = cc in no_magic p (sym same)
-    by_tests true true o p q r e = let same : short (length bytes) ≡ f = cc in no_class_bytes p (ltb-true (length bytes) 6 q) (sym same)
-    by_tests true false None p q r e = let same : fault code.Class 4 6 ≡ f = cc in no_class p (ltb-false (length bytes) 6 q) r (sym same)
-    by_tests true false (Some c) p q r e = from_class bytes c f (record { begins = p; long = ltb-false (length bytes) 6 q; says = r }) e
+    by_tests true true o p q r e = let same : short (length bytes) ≡ f = cc in
+        no_class_bytes p (ltb-true (length bytes) 6 q) (sym same)
+    by_tests true false None p q r e = let same : fault code.Class 4 6 ≡ f = cc in
+        no_class p (ltb-false (length bytes) 6 q) r (sym same)
+    by_tests true false (Some c) p q r e = from_class bytes c f (record {
+      begins = p;
+      long = ltb-false (length bytes) 6 q;
+      says = r;
+    }) e
 
 -- a file without a fault
 pub from_no_elf_fault : (bytes : List ℕ) → first_fault bytes ≡ None → IsSoundElf bytes
-from_no_elf_fault bytes e = by_tests (starts_with nat_eq bytes magic) (nat_lt (length bytes) 6) (class_of (slice_index bytes 4) (slice_index bytes 5)) refl refl refl e
+from_no_elf_fault bytes e = by_tests (starts_with nat_eq bytes magic) (nat_lt (length bytes) 6)
+    (class_of (slice_index bytes 4) (slice_index bytes 5)) refl refl refl e
   where
-    by_behind : (c : Class) → HasTable bytes c → (o : Option ElfFault) → headers_fault (length bytes) (headers c bytes) ≡ o → (b : Bool)
-        → nat_lt sections_limit (length (sections_of_all (headers c bytes))) ≡ b → option_or o (fault_if b (fault code.Limit 0 0)) ≡ None → IsSoundElf bytes
+    by_behind : (c : Class) → HasTable bytes c → (o : Option ElfFault)
+        → headers_fault (length bytes) (headers c bytes) ≡ o → (b : Bool)
+        → nat_lt sections_limit (length (sections_of_all (headers c bytes))) ≡ b
+        → option_or o (fault_if b (fault code.Limit 0 0)) ≡ None → IsSoundElf bytes
     by_behind c table None s true t e = cc
-    by_behind c table None s false t e = record { class = c; table = table; sound = all_sound bytes c s; few = ltb-false sections_limit (length (sections_of_all (headers c bytes))) t }
+    by_behind c table None s false t e = record {
+      class = c;
+      table = table;
+      sound = all_sound bytes c s;
+      few = ltb-false sections_limit (length (sections_of_all (headers c bytes))) t;
+    }
     by_behind c table (Some g) s b t e = cc
 
-    by_fields : (c : Class) → IsOfClass bytes c → (x y z : Bool) → nat_lt (length bytes) (fields_end c) ≡ x → is_of_another_length c (file_header c bytes) ≡ y → is_past (length bytes) c (file_header c bytes) ≡ z
-        → option_or (cond x (Some (short (length bytes))) (cond y (Some (fault code.Size (length_at c) (length_at c + 2))) (fault_if z (short (length bytes))))) (behind_table bytes c) ≡ None
+    by_fields : (c : Class) → IsOfClass bytes c → (x y z : Bool) → nat_lt (length bytes) (fields_end c) ≡ x
+        → is_of_another_length c (file_header c bytes) ≡ y → is_past (length bytes) c (file_header c bytes) ≡ z
+        → option_or (cond x (Some (short (length bytes))) (cond y (Some (fault code.Size (length_at c) (length_at c + 2)))
+        (fault_if z (short (length bytes))))) (behind_table bytes c) ≡ None
         → IsSoundElf bytes
     by_fields c kind true y z p q r e = cc
     by_fields c kind false true z p q r e = cc
     by_fields c kind false false true p q r e = cc
     by_fields c kind false false false p q r e =
-        by_behind c (has_table bytes c kind p q r) (headers_fault (length bytes) (headers c bytes)) refl (nat_lt sections_limit (length (sections_of_all (headers c bytes)))) refl e
+        by_behind c (has_table bytes c kind p q r) (headers_fault (length bytes) (headers c bytes)) refl
+        (nat_lt sections_limit (length (sections_of_all (headers c bytes)))) refl e
 
-    by_tests : (a b : Bool) (o : Option Class) → starts_with nat_eq bytes magic ≡ a → nat_lt (length bytes) 6 ≡ b → class_of (slice_index bytes 4) (slice_index bytes 5) ≡ o
+    by_tests : (a b : Bool) (o : Option Class) → starts_with nat_eq bytes magic ≡ a → nat_lt (length bytes) 6 ≡ b
+        → class_of (slice_index bytes 4) (slice_index bytes 5) ≡ o
         → fault_behind bytes (behind_magic bytes a b o) ≡ None → IsSoundElf bytes
     by_tests false b o p q r e = cc
     by_tests true true o p q r e = cc
     by_tests true false None p q r e = cc
     by_tests true false (Some c) p q r e =
-        by_fields c (record { begins = p; long = ltb-false (length bytes) 6 q; says = r }) (nat_lt (length bytes) (fields_end c)) (is_of_another_length c (file_header c bytes)) (is_past (length bytes) c (file_header c bytes)) refl refl refl e
+        by_fields c (record { begins = p; long = ltb-false (length bytes) 6 q; says = r }) (nat_lt (length bytes) (fields_end c))
+        (is_of_another_length c (file_header c bytes)) (is_past (length bytes) c (file_header c bytes)) refl refl refl e
 
 -- ---- and back
 
@@ -226,33 +279,40 @@ sound_header size h s = by_use (is_used h) refl
     by_use : (b : Bool) → is_used h ≡ b → told h size b (is_sized h) (is_whole size h) (is_aligned h) ≡ None
     by_use false u = refl
     by_use true u =
-        ap (λ z. told h size true z (is_whole size h) (is_aligned h)) (s.sized u) ∙ ap (λ z. told h size true true z (is_aligned h)) (s.whole u)
+        ap (λ z. told h size true z (is_whole size h) (is_aligned h)) (s.sized u)
+        ∙ ap (λ z. told h size true true z (is_aligned h)) (s.whole u)
         ∙ ap (λ z. told h size true true true z) (s.aligned u)
 
 header_refused : (size : ℕ) (h : ProgramHeader) (f : ElfFault) → IsHeaderFault size h f → header_fault size h ≡ Some f
-header_refused size h f (not_sized u a e) = ap (λ z. told h size z (is_sized h) (is_whole size h) (is_aligned h)) u ∙ ap (λ z. told h size true z (is_whole size h) (is_aligned h)) a ∙ ap Some (sym e)
+header_refused size h f (not_sized u a e) = ap (λ z. told h size z (is_sized h) (is_whole size h) (is_aligned h)) u
+    ∙ ap (λ z. told h size true z (is_whole size h) (is_aligned h)) a ∙ ap Some (sym e)
 header_refused size h f (not_whole u a b e) =
-    ap (λ z. told h size z (is_sized h) (is_whole size h) (is_aligned h)) u ∙ ap (λ z. told h size true z (is_whole size h) (is_aligned h)) a
+    ap (λ z. told h size z (is_sized h) (is_whole size h) (is_aligned h)) u
+    ∙ ap (λ z. told h size true z (is_whole size h) (is_aligned h)) a
     ∙ ap (λ z. told h size true true z (is_aligned h)) b ∙ ap Some (sym e)
 header_refused size h f (not_aligned u a b c e) =
-    ap (λ z. told h size z (is_sized h) (is_whole size h) (is_aligned h)) u ∙ ap (λ z. told h size true z (is_whole size h) (is_aligned h)) a
+    ap (λ z. told h size z (is_sized h) (is_whole size h) (is_aligned h)) u
+    ∙ ap (λ z. told h size true z (is_whole size h) (is_aligned h)) a
     ∙ ap (λ z. told h size true true z (is_aligned h)) b ∙ ap (λ z. told h size true true true z) c ∙ ap Some (sym e)
 
 -- a front of the headers, each of which is sound
-sound_front : (bytes : List ℕ) (c : Class) (front rest : List ProgramHeader) → headers c bytes ≡ front ++ rest → AreSoundTo bytes c (length front)
+sound_front : (bytes : List ℕ) (c : Class) (front rest : List ProgramHeader) → headers c bytes ≡ front ++ rest
+    → AreSoundTo bytes c (length front)
     → IsClean (λ b h. header_fault (length bytes) h) [] front
 sound_front bytes c front rest e sound p q y s =
     let k = length p in
     let many : length front ≡ k + suc (length q) = ap length s ∙ length-append p (y ∷ q) in
     let whole : headers c bytes ≡ p ++ y ∷ (q ++ rest) = e ∙ ap (λ z. z ++ rest) s ∙ append_assoc p (y ∷ q) rest in
-    let there : slice_get (headers c bytes) k ≡ Some y = ap (λ z. slice_get z k) whole ∙ get_behind p (y ∷ (q ++ rest)) 0 k (omega arith) in
+    let there : slice_get (headers c bytes) k ≡ Some y = ap (λ z. slice_get z k) whole ∙ get_behind p (y ∷ (q ++ rest)) 0 k
+    (omega arith) in
     let all = headers_many c bytes 0 (file_header c bytes).table (file_header c bytes).count in
     let low = below (headers c bytes) k y there in
     let own = header_there c bytes k (omega (arith, all, low)) in
     let same : y ≡ header_at c bytes k = cc in
     ap (header_fault (length bytes)) same ∙ sound_header (length bytes) (header_at c bytes k) (sound k (omega (arith, many)))
 
-in_headers : (bytes : List ℕ) (c : Class) (k : ℕ) (f : ElfFault) → k < (file_header c bytes).count → AreSoundTo bytes c k → IsHeaderFault (length bytes) (header_at c bytes k) f
+in_headers : (bytes : List ℕ) (c : Class) (k : ℕ) (f : ElfFault) → k < (file_header c bytes).count → AreSoundTo bytes c k
+    → IsHeaderFault (length bytes) (header_at c bytes k) f
     → headers_fault (length bytes) (headers c bytes) ≡ Some f
 in_headers bytes c k f low sound wrong =
     let g : List ProgramHeader → ProgramHeader → Option ElfFault = λ b h. header_fault (length bytes) h in
@@ -260,18 +320,22 @@ in_headers bytes c k f low sound wrong =
     let s = at_split (headers c bytes) k x (header_there c bytes k low) in
     let P : ℕ → Type 0 = λ z. AreSoundTo bytes c z in
     as_first (length bytes) [] (headers c bytes) ∙ ap (first_of g []) s.2
-    ∙ in_first g [] s.0 x s.1 f (header_refused (length bytes) x f wrong) (sound_front bytes c s.0 (x ∷ s.1) s.2 (subst P (sym s.3) sound))
+    ∙ in_first g [] s.0 x s.1 f (header_refused (length bytes) x f wrong)
+    (sound_front bytes c s.0 (x ∷ s.1) s.2 (subst P (sym s.3) sound))
 
-none_in_headers : (bytes : List ℕ) (c : Class) → AreSoundTo bytes c (file_header c bytes).count → headers_fault (length bytes) (headers c bytes) ≡ None
+none_in_headers : (bytes : List ℕ) (c : Class) → AreSoundTo bytes c (file_header c bytes).count
+    → headers_fault (length bytes) (headers c bytes) ≡ None
 none_in_headers bytes c sound =
     let g : List ProgramHeader → ProgramHeader → Option ElfFault = λ b h. header_fault (length bytes) h in
     let many = headers_many c bytes 0 (file_header c bytes).table (file_header c bytes).count in
     let P : ℕ → Type 0 = λ z. AreSoundTo bytes c z in
     as_first (length bytes) [] (headers c bytes)
-    ∙ in_none g [] (headers c bytes) (sound_front bytes c (headers c bytes) [] (sym (append-nil (headers c bytes))) (subst P (sym many) sound))
+    ∙ in_none g [] (headers c bytes) (sound_front bytes c (headers c bytes) [] (sym (append-nil (headers c bytes)))
+    (subst P (sym many) sound))
 
 abbrev table_told : List ℕ → Class → Bool → Bool → Bool → Option ElfFault
-table_told bytes c x y z = cond x (Some (short (length bytes))) (cond y (Some (fault code.Size (length_at c) (length_at c + 2))) (fault_if z (short (length bytes))))
+table_told bytes c x y z = cond x (Some (short (length bytes))) (cond y (Some (fault code.Size (length_at c) (length_at c + 2)))
+    (fault_if z (short (length bytes))))
 
 abbrev class_told : List ℕ → Class → Bool → Bool → Bool → Option ElfFault
 class_told bytes c x y z = option_or (table_told bytes c x y z) (behind_table bytes c)
@@ -280,7 +344,9 @@ class_told bytes c x y z = option_or (table_told bytes c x y z) (behind_table by
 of_class : (bytes : List ℕ) (c : Class) → IsOfClass bytes c → first_fault bytes ≡ fault_within bytes c
 of_class bytes c k =
     let short_test : nat_lt (length bytes) 6 ≡ false = le-ltb (length bytes) 6 k.long in
-    ap (λ a. fault_behind bytes (behind_magic bytes a (nat_lt (length bytes) 6) (class_of (slice_index bytes 4) (slice_index bytes 5)))) k.begins
+    ap
+    (λ a. fault_behind bytes (behind_magic bytes a (nat_lt (length bytes) 6)
+    (class_of (slice_index bytes 4) (slice_index bytes 5)))) k.begins
     ∙ ap (λ b. fault_behind bytes (behind_magic bytes true b (class_of (slice_index bytes 4) (slice_index bytes 5)))) short_test
     ∙ ap (λ o. fault_behind bytes (behind_magic bytes true false o)) k.says
 
@@ -292,41 +358,61 @@ with_table : (bytes : List ℕ) (c : Class) → HasTable bytes c → first_fault
 with_table bytes c t =
     let h = file_header c bytes in
     let a : nat_lt (length bytes) (fields_end c) ≡ false = le-ltb (length bytes) (fields_end c) t.fields in
-    let b : is_of_another_length c h ≡ false = none_of_both (not (h.count == 0)) (not (h.length == header_length c)) (λ n. ap not (eq-eqb h.length (header_length c) (t.size (eqb-false h.count 0 (not-true _ n))))) in
-    let d : is_past (length bytes) c h ≡ false = none_of_both (not (h.count == 0)) (nat_lt (length bytes) (h.table + h.count * header_length c)) (λ n. le-ltb (length bytes) (h.table + h.count * header_length c) (t.whole (eqb-false h.count 0 (not-true _ n)))) in
+    let b : is_of_another_length c h ≡ false = none_of_both (not (h.count == 0)) (not (h.length == header_length c))
+    (λ n. ap not (eq-eqb h.length (header_length c) (t.size (eqb-false h.count 0 (not-true _ n))))) in
+    let d : is_past (length bytes) c h ≡ false =
+    none_of_both (not (h.count == 0)) (nat_lt (length bytes) (h.table + h.count * header_length c))
+    (λ n. le-ltb (length bytes) (h.table + h.count * header_length c) (t.whole (eqb-false h.count 0 (not-true _ n)))) in
     of_class bytes c t.kind ∙ ap (λ x. class_told bytes c x (is_of_another_length c h) (is_past (length bytes) c h)) a
     ∙ ap (λ y. class_told bytes c false y (is_past (length bytes) c h)) b ∙ ap (λ z. class_told bytes c false false z) d
 
 pub in_elf_fault : (bytes : List ℕ) (f : ElfFault) → IsElfFault bytes f → first_fault bytes ≡ Some f
 in_elf_fault bytes f (no_magic a e) =
-    ap (λ a. fault_behind bytes (behind_magic bytes a (nat_lt (length bytes) 6) (class_of (slice_index bytes 4) (slice_index bytes 5)))) a ∙ ap Some (sym e)
+    ap
+    (λ a. fault_behind bytes (behind_magic bytes a (nat_lt (length bytes) 6)
+    (class_of (slice_index bytes 4) (slice_index bytes 5)))) a ∙ ap Some (sym e)
 in_elf_fault bytes f (no_class_bytes a l e) =
-    ap (λ a. fault_behind bytes (behind_magic bytes a (nat_lt (length bytes) 6) (class_of (slice_index bytes 4) (slice_index bytes 5)))) a
-    ∙ ap (λ b. fault_behind bytes (behind_magic bytes true b (class_of (slice_index bytes 4) (slice_index bytes 5)))) (lt-ltb (length bytes) 6 l) ∙ ap Some (sym e)
+    ap
+    (λ a. fault_behind bytes (behind_magic bytes a (nat_lt (length bytes) 6)
+    (class_of (slice_index bytes 4) (slice_index bytes 5)))) a
+    ∙ ap (λ b. fault_behind bytes (behind_magic bytes true b (class_of (slice_index bytes 4) (slice_index bytes 5))))
+    (lt-ltb (length bytes) 6 l) ∙ ap Some (sym e)
 in_elf_fault bytes f (no_class a l o e) =
-    ap (λ a. fault_behind bytes (behind_magic bytes a (nat_lt (length bytes) 6) (class_of (slice_index bytes 4) (slice_index bytes 5)))) a
-    ∙ ap (λ b. fault_behind bytes (behind_magic bytes true b (class_of (slice_index bytes 4) (slice_index bytes 5)))) (le-ltb (length bytes) 6 l)
+    ap
+    (λ a. fault_behind bytes (behind_magic bytes a (nat_lt (length bytes) 6)
+    (class_of (slice_index bytes 4) (slice_index bytes 5)))) a
+    ∙ ap (λ b. fault_behind bytes (behind_magic bytes true b (class_of (slice_index bytes 4) (slice_index bytes 5))))
+    (le-ltb (length bytes) 6 l)
     ∙ ap (λ z. fault_behind bytes (behind_magic bytes true false z)) o ∙ ap Some (sym e)
 in_elf_fault bytes f (no_fields c k l e) =
     let h = file_header c bytes in
-    of_class bytes c k ∙ ap (λ x. class_told bytes c x (is_of_another_length c h) (is_past (length bytes) c h)) (lt-ltb (length bytes) (fields_end c) l) ∙ ap Some (sym e)
+    of_class bytes c k ∙ ap (λ x. class_told bytes c x (is_of_another_length c h) (is_past (length bytes) c h))
+    (lt-ltb (length bytes) (fields_end c) l) ∙ ap Some (sym e)
 in_elf_fault bytes f (another_length c k l n w e) =
     let h = file_header c bytes in
     let other : not (h.length == header_length c) ≡ true = not_from_false _ (ne_eqb h.length (header_length c) w) in
-    of_class bytes c k ∙ ap (λ x. class_told bytes c x (is_of_another_length c h) (is_past (length bytes) c h)) (le-ltb (length bytes) (fields_end c) l)
-    ∙ ap (λ y. class_told bytes c false y (is_past (length bytes) c h)) (and_from (not (h.count == 0)) (not (h.length == header_length c)) (not_from_false _ (ne_eqb h.count 0 n)) other) ∙ ap Some (sym e)
+    of_class bytes c k ∙ ap (λ x. class_told bytes c x (is_of_another_length c h) (is_past (length bytes) c h))
+    (le-ltb (length bytes) (fields_end c) l)
+    ∙ ap (λ y. class_told bytes c false y (is_past (length bytes) c h))
+    (and_from (not (h.count == 0)) (not (h.length == header_length c)) (not_from_false _ (ne_eqb h.count 0 n)) other)
+    ∙ ap Some (sym e)
 in_elf_fault bytes f (no_table c k l n s p e) =
     let h = file_header c bytes in
-    let b : is_of_another_length c h ≡ false = none_of_both (not (h.count == 0)) (not (h.length == header_length c)) (λ t. ap not (eq-eqb h.length (header_length c) s)) in
-    of_class bytes c k ∙ ap (λ x. class_told bytes c x (is_of_another_length c h) (is_past (length bytes) c h)) (le-ltb (length bytes) (fields_end c) l)
+    let b : is_of_another_length c h ≡ false = none_of_both (not (h.count == 0)) (not (h.length == header_length c))
+    (λ t. ap not (eq-eqb h.length (header_length c) s)) in
+    of_class bytes c k ∙ ap (λ x. class_told bytes c x (is_of_another_length c h) (is_past (length bytes) c h))
+    (le-ltb (length bytes) (fields_end c) l)
     ∙ ap (λ y. class_told bytes c false y (is_past (length bytes) c h)) b
-    ∙ ap (λ z. class_told bytes c false false z) (and_from (not (h.count == 0)) (nat_lt (length bytes) (h.table + h.count * header_length c)) (not_from_false _ (ne_eqb h.count 0 n)) (lt-ltb (length bytes) (h.table + h.count * header_length c) p))
+    ∙ ap (λ z. class_told bytes c false false z)
+    (and_from (not (h.count == 0)) (nat_lt (length bytes) (h.table + h.count * header_length c))
+    (not_from_false _ (ne_eqb h.count 0 n)) (lt-ltb (length bytes) (h.table + h.count * header_length c) p))
     ∙ ap Some (sym e)
 in_elf_fault bytes f (in_header c k t low sound wrong) =
     with_table bytes c t ∙ ap (λ o. option_or o (limit_fault (headers c bytes))) (in_headers bytes c k f low sound wrong)
 in_elf_fault bytes f (many_sections c t sound l e) =
     with_table bytes c t ∙ ap (λ o. option_or o (limit_fault (headers c bytes))) (none_in_headers bytes c sound)
-    ∙ ap (λ b. fault_if b (fault code.Limit 0 0)) (lt-ltb sections_limit (length (sections_of_all (headers c bytes))) l) ∙ ap Some (sym e)
+    ∙ ap (λ b. fault_if b (fault code.Limit 0 0)) (lt-ltb sections_limit (length (sections_of_all (headers c bytes))) l)
+    ∙ ap Some (sym e)
 
 pub in_no_elf_fault : (bytes : List ℕ) → IsSoundElf bytes → first_fault bytes ≡ None
 in_no_elf_fault bytes s =

@@ -18,7 +18,8 @@ pub record First {X F : Type 0} (g : List X → X → Option F) (before xs : Lis
   pub says : g (before ++ front) item ≡ Some f
   pub clean : IsClean g before front
 
-clean_more : {X F : Type 0} (g : List X → X → Option F) (before : List X) (x : X) (xs : List X) → g before x ≡ None → IsClean g (before ++ x ∷ []) xs → IsClean g before (x ∷ xs)
+clean_more : {X F : Type 0} (g : List X → X → Option F) (before : List X) (x : X) (xs : List X) → g before x ≡ None
+    → IsClean g (before ++ x ∷ []) xs → IsClean g before (x ∷ xs)
 clean_more {X} g before x xs none clean [] q y e =
     let same : x ≡ y = cc in
     ap (λ z. g z y) (append-nil before) ∙ ap (g before) (sym same) ∙ none
@@ -27,17 +28,21 @@ clean_more {X} g before x xs none clean (z ∷ p) q y e =
     let more : xs ≡ p ++ y ∷ q = cc in
     ap (λ u. g (before ++ u ∷ p) y) (sym same) ∙ ap (λ u. g u y) (sym (append_assoc before (x ∷ []) p)) ∙ clean p q y more
 
-clean_head : {X F : Type 0} (g : List X → X → Option F) (before : List X) (x : X) (xs : List X) → IsClean g before (x ∷ xs) → g before x ≡ None
+clean_head : {X F : Type 0} (g : List X → X → Option F) (before : List X) (x : X) (xs : List X) → IsClean g before (x ∷ xs)
+    → g before x ≡ None
 clean_head g before x xs clean = ap (λ z. g z x) (sym (append-nil before)) ∙ clean [] xs x refl
 
-clean_tail : {X F : Type 0} (g : List X → X → Option F) (before : List X) (x : X) (xs : List X) → IsClean g before (x ∷ xs) → IsClean g (before ++ x ∷ []) xs
+clean_tail : {X F : Type 0} (g : List X → X → Option F) (before : List X) (x : X) (xs : List X) → IsClean g before (x ∷ xs)
+    → IsClean g (before ++ x ∷ []) xs
 clean_tail g before x xs clean p q y e = ap (λ u. g u y) (append_assoc before (x ∷ []) p) ∙ clean (x ∷ p) q y (ap (λ z. x ∷ z) e)
 
-pub from_first : {X F : Type 0} (g : List X → X → Option F) (before xs : List X) (f : F) → first_of g before xs ≡ Some f → First g before xs f
+pub from_first : {X F : Type 0} (g : List X → X → Option F) (before xs : List X) (f : F) → first_of g before xs ≡ Some f
+    → First g before xs f
 from_first g before [] f e = cc
 from_first {X} {F} g before (x ∷ xs) f e = by_case (g before x) refl (from_first g (before ++ x ∷ []) xs f) e
   where
-    by_case : (o : Option F) → g before x ≡ o → (first_of g (before ++ x ∷ []) xs ≡ Some f → First g (before ++ x ∷ []) xs f) → option_or o (first_of g (before ++ x ∷ []) xs) ≡ Some f
+    by_case : (o : Option F) → g before x ≡ o → (first_of g (before ++ x ∷ []) xs ≡ Some f → First g (before ++ x ∷ []) xs f)
+        → option_or o (first_of g (before ++ x ∷ []) xs) ≡ Some f
         → First g before (x ∷ xs) f
     by_case None none more t =
         let r = more t in
@@ -51,21 +56,31 @@ from_first {X} {F} g before (x ∷ xs) f e = by_case (g before x) refl (from_fir
         }
     by_case (Some h) says more t =
         let same : h ≡ f = cc in
-        record { front = []; item = x; rest = xs; split = refl; says = ap (λ u. g u x) (append-nil before) ∙ says ∙ ap Some same; clean = λ p q y e. empty p y q e }
+        record {
+          front = [];
+          item = x;
+          rest = xs;
+          split = refl;
+          says = ap (λ u. g u x) (append-nil before) ∙ says ∙ ap Some same;
+          clean = λ p q y e. empty p y q e;
+        }
       where
         empty : (p : List X) (y : X) (q : List X) → [] ≡ p ++ y ∷ q → g (before ++ p) y ≡ None
         empty [] y q e = cc
         empty (z ∷ p) y q e = cc
 
-pub in_first : {X F : Type 0} (g : List X → X → Option F) (before front : List X) (item : X) (rest : List X) (f : F) → g (before ++ front) item ≡ Some f → IsClean g before front
+pub in_first : {X F : Type 0} (g : List X → X → Option F) (before front : List X) (item : X) (rest : List X) (f : F)
+    → g (before ++ front) item ≡ Some f → IsClean g before front
     → first_of g before (front ++ item ∷ rest) ≡ Some f
 in_first g before [] item rest f says clean =
     ap (λ o. option_or o (first_of g (before ++ item ∷ []) rest)) (ap (λ u. g u item) (sym (append-nil before)) ∙ says)
 in_first g before (x ∷ front) item rest f says clean =
     ap (λ o. option_or o (first_of g (before ++ x ∷ []) (front ++ item ∷ rest))) (clean_head g before x front clean)
-    ∙ in_first g (before ++ x ∷ []) front item rest f (ap (λ u. g u item) (append_assoc before (x ∷ []) front) ∙ says) (clean_tail g before x front clean)
+    ∙ in_first g (before ++ x ∷ []) front item rest f (ap (λ u. g u item) (append_assoc before (x ∷ []) front) ∙ says)
+    (clean_tail g before x front clean)
 
-pub from_none : {X F : Type 0} (g : List X → X → Option F) (before xs : List X) → first_of g before xs ≡ None → IsClean g before xs
+pub from_none : {X F : Type 0} (g : List X → X → Option F) (before xs : List X) → first_of g before xs ≡ None
+    → IsClean g before xs
 from_none {X} {F} g before [] e = λ p q y s. empty p q y s
   where
     empty : (p q : List X) (y : X) → [] ≡ p ++ y ∷ q → g (before ++ p) y ≡ None
@@ -73,7 +88,8 @@ from_none {X} {F} g before [] e = λ p q y s. empty p q y s
     empty (z ∷ p) q y s = cc
 from_none {X} {F} g before (x ∷ xs) e = by_case (g before x) refl (from_none g (before ++ x ∷ []) xs) e
   where
-    by_case : (o : Option F) → g before x ≡ o → (first_of g (before ++ x ∷ []) xs ≡ None → IsClean g (before ++ x ∷ []) xs) → option_or o (first_of g (before ++ x ∷ []) xs) ≡ None
+    by_case : (o : Option F) → g before x ≡ o → (first_of g (before ++ x ∷ []) xs ≡ None → IsClean g (before ++ x ∷ []) xs)
+        → option_or o (first_of g (before ++ x ∷ []) xs) ≡ None
         → IsClean g before (x ∷ xs)
     by_case None none more t = clean_more g before x xs none (more t)
     by_case (Some h) says more t = cc
@@ -81,4 +97,5 @@ from_none {X} {F} g before (x ∷ xs) e = by_case (g before x) refl (from_none g
 pub in_none : {X F : Type 0} (g : List X → X → Option F) (before xs : List X) → IsClean g before xs → first_of g before xs ≡ None
 in_none g before [] clean = refl
 in_none g before (x ∷ xs) clean =
-    ap (λ o. option_or o (first_of g (before ++ x ∷ []) xs)) (clean_head g before x xs clean) ∙ in_none g (before ++ x ∷ []) xs (clean_tail g before x xs clean)
+    ap (λ o. option_or o (first_of g (before ++ x ∷ []) xs)) (clean_head g before x xs clean) ∙ in_none g (before ++ x ∷ []) xs
+    (clean_tail g before x xs clean)

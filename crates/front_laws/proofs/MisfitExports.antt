@@ -23,7 +23,8 @@ from_same_port p q e =
     record { instance = eqb-true p.0.id.place.first q.0.id.place.first parts.0; interface = (bytes_eq-Decides p.1 q.1).0 parts.1 }
 
 in_same_port : (p q : Port) → IsSamePort p q → same_port p q ≡ true
-in_same_port p q s = and_from (p.0.id.place.first == q.0.id.place.first) (bytes_eq p.1 q.1) (eq-eqb p.0.id.place.first q.0.id.place.first s.instance) ((bytes_eq-Decides p.1 q.1).1 s.interface)
+in_same_port p q s = and_from (p.0.id.place.first == q.0.id.place.first) (bytes_eq p.1 q.1)
+    (eq-eqb p.0.id.place.first q.0.id.place.first s.instance) ((bytes_eq-Decides p.1 q.1).1 s.interface)
 
 turned : (p q : Port) → IsSamePort p q → IsSamePort q p
 turned p q s = record { instance = sym s.instance; interface = sym s.interface }
@@ -36,13 +37,22 @@ from_ends_in types p c t e =
     let more = and_parts (is_some c.holds) (not (c.exports p.1)) first.1 in
     let i = is_there (c.interface p.1) first.0 in
     let h = is_there c.holds more.0 in
-    record { component = c; known = t; interface = i.0; declared = i.1; inner = h.0; composite = h.1; no_export = not-true (c.exports p.1) more.1 }
+    record {
+      component = c;
+      known = t;
+      interface = i.0;
+      declared = i.1;
+      inner = h.0;
+      composite = h.1;
+      no_export = not-true (c.exports p.1) more.1;
+    }
 
 from_unled : (types : Types) (o : Option Port) → is_unled types o ≡ true → (p : Port) × (o ≡ Some p) × IsUnled types p
 from_unled types None e = cc
 from_unled types (Some p) e = (p, refl, by_type (types p.0.component.name) refl e)
   where
-    by_type : (t : Option Known) → types p.0.component.name ≡ t → option_map_or (λ c. ends_in c p.1) t false ≡ true → IsUnled types p
+    by_type : (t : Option Known) → types p.0.component.name ≡ t → option_map_or (λ c. ends_in c p.1) t false ≡ true
+        → IsUnled types p
     by_type None k e = cc
     by_type (Some c) k e = from_ends_in types p c k e
 
@@ -51,8 +61,10 @@ in_unled types o p e u =
     let P : Option Port → Type 0 = λ z. is_unled types z ≡ true in
     let Q : Option Known → Type 0 = λ t. option_map_or (λ c. ends_in c p.1) t false ≡ true in
     subst P (sym e) (subst Q (sym u.known)
-    (and_from (is_some (u.component.interface p.1)) (is_some u.component.holds && not (u.component.exports p.1)) (ap is_some u.declared)
-    (and_from (is_some u.component.holds) (not (u.component.exports p.1)) (ap is_some u.composite) (not_from_false (u.component.exports p.1) u.no_export))))
+    (and_from (is_some (u.component.interface p.1)) (is_some u.component.holds && not (u.component.exports p.1))
+    (ap is_some u.declared)
+    (and_from (is_some u.component.holds) (not (u.component.exports p.1)) (ap is_some u.composite)
+    (not_from_false (u.component.exports p.1) u.no_export))))
 
 -- ---- ports whose interface is known
 
@@ -61,12 +73,14 @@ from_inner : (types : Types) (o : Option Port) (inners : Port → Bool) → opti
 from_inner types None inners e = cc
 from_inner types (Some p) inners e = by_interface (interface_at types p) refl e
   where
-    by_interface : (i : Option Interface) → interface_at types p ≡ i → option_map_or inners (cond (is_some i) (Some p) None) false ≡ true
+    by_interface : (i : Option Interface) → interface_at types p ≡ i
+        → option_map_or inners (cond (is_some i) (Some p) None) false ≡ true
         → (q : Port) × (Some p ≡ Some q) × ((i : Interface) × (interface_at types q ≡ Some i)) × (inners q ≡ true)
     by_interface None k e = cc
     by_interface (Some i) k e = (p, refl, (i, k), e)
 
-inner_there : (types : Types) (o : Option Port) (p : Port) (i : Interface) → o ≡ Some p → interface_at types p ≡ Some i → inner_of types o ≡ Some p
+inner_there : (types : Types) (o : Option Port) (p : Port) (i : Interface) → o ≡ Some p → interface_at types p ≡ Some i
+    → inner_of types o ≡ Some p
 inner_there types o p i e k =
     let P : Option Port → Type 0 = λ z. inner_of types z ≡ Some p in
     let Q : Option Interface → Type 0 = λ z. cond (is_some z) (Some p) None ≡ Some p in
@@ -77,31 +91,38 @@ from_port None q e = cc
 from_port (Some p) q e = (p, refl, turned q p (from_same_port q p e))
 
 -- a port that is known is that of the dotted name
-from_inner_of : (types : Types) (o : Option Port) (p : Port) → inner_of types o ≡ Some p → (o ≡ Some p) × ((i : Interface) × (interface_at types p ≡ Some i))
+from_inner_of : (types : Types) (o : Option Port) (p : Port) → inner_of types o ≡ Some p
+    → (o ≡ Some p) × ((i : Interface) × (interface_at types p ≡ Some i))
 from_inner_of types None p e = cc
 from_inner_of types (Some q) p e = by_interface (interface_at types q) refl e
   where
-    by_interface : (i : Option Interface) → interface_at types q ≡ i → cond (is_some i) (Some q) None ≡ Some p → (Some q ≡ Some p) × ((i : Interface) × (interface_at types p ≡ Some i))
+    by_interface : (i : Option Interface) → interface_at types q ≡ i → cond (is_some i) (Some q) None ≡ Some p
+        → (Some q ≡ Some p) × ((i : Interface) × (interface_at types p ≡ Some i))
     by_interface None k e = cc
-    by_interface (Some i) k e = let P : Port → Type 0 = λ z. (i : Interface) × (interface_at types z ≡ Some i) in let same : q ≡ p = cc in (e, subst P same (i, k))
+    by_interface (Some i) k e = let P : Port → Type 0 = λ z. (i : Interface) × (interface_at types z ≡ Some i) in
+        let same : q ≡ p = cc in (e, subst P same (i, k))
 
 -- ---- one export, by what is known of those in front of it
 
 abbrev Why : Types → Option Known → Holding → (Name → Bool) → (Port → Bool) → List Export → Export → Type 0
 Why types owner held targets inners before x =
-    IsMisfit types owner held before x ⊎ (targets x.target.name ≡ true) ⊎ (option_map_or inners (inner_of types (port_of held x.words)) false ≡ true)
+    IsMisfit types owner held before x ⊎ (targets x.target.name ≡ true)
+    ⊎ (option_map_or inners (inner_of types (port_of held x.words)) false ≡ true)
 
 none_owner : (owner : Option Known) → is_none owner ≡ true → owner ≡ None
 none_owner None e = refl
 none_owner (Some c) e = cc
 
-from_differs : (types : Types) (owner : Option Known) (held : Holding) (x : Export) (port : Option Port) → port_of held x.words ≡ port
-    → differs (option_and_then (interface_at types) port) (option_and_then (λ c. c.interface x.target.name) owner) ≡ true → IsMisfit types owner held [] x
+from_differs : (types : Types) (owner : Option Known) (held : Holding) (x : Export) (port : Option Port)
+    → port_of held x.words ≡ port
+    → differs (option_and_then (interface_at types) port) (option_and_then (λ c. c.interface x.target.name) owner) ≡ true
+    → IsMisfit types owner held [] x
 from_differs types owner held x None e d = cc
 from_differs types None held x (Some p) e d = in_an_assembly refl
 from_differs types (Some c) held x (Some p) e d = by_both (interface_at types p) (c.interface x.target.name) refl refl d
   where
-    by_both : (i j : Option Interface) → interface_at types p ≡ i → c.interface x.target.name ≡ j → differs i j ≡ true → IsMisfit types (Some c) held [] x
+    by_both : (i j : Option Interface) → interface_at types p ≡ i → c.interface x.target.name ≡ j → differs i j ≡ true
+        → IsMisfit types (Some c) held [] x
     by_both None j k l d = cc
     by_both (Some i) None k l d = cc
     by_both (Some i) (Some j) k l d = unlike_target c p i j refl e k l (not-true (same_interface i j) d)
@@ -128,14 +149,16 @@ from_misfit types owner held targets inners x t =
     ]
 
 -- an export in front more
-wider : (types : Types) (owner : Option Known) (held : Holding) (y : Export) (before : List Export) (x : Export) → IsMisfit types owner held before x → IsMisfit types owner held (y ∷ before) x
+wider : (types : Types) (owner : Option Known) (held : Holding) (y : Export) (before : List Export) (x : Export)
+    → IsMisfit types owner held before x → IsMisfit types owner held (y ∷ before) x
 wider types owner held y before x (in_an_assembly o) = in_an_assembly o
 wider types owner held y before x (unlike_target c p i j o e k l d) = unlike_target c p i j o e k l d
 wider types owner held y before x (target_again z i e) = target_again z (inr i) e
 wider types owner held y before x (port_again z p q i j k a b c d s) = port_again z p q i j (inr k) a b c d s
 wider types owner held y before x (unled p e u) = unled p e u
 
-record MisfitAfter (types : Types) (owner : Option Known) (held : Holding) (targets : Name → Bool) (inners : Port → Bool) (xs : List Export) (f : Fault) : Type 0 where
+record MisfitAfter (types : Types) (owner : Option Known) (held : Holding) (targets : Name → Bool) (inners : Port
+    → Bool) (xs : List Export) (f : Fault) : Type 0 where
   before : List Export
   export : Export
   after : List Export
@@ -143,20 +166,37 @@ record MisfitAfter (types : Types) (owner : Option Known) (held : Holding) (targ
   fault : f ≡ export_fault export.words export.place
   why : Why types owner held targets inners before export
 
-from_after : (types : Types) (owner : Option Known) (held : Holding) (targets : Name → Bool) (inners : Port → Bool) (xs : List Export) (f : Fault)
+from_after : (types : Types) (owner : Option Known) (held : Holding) (targets : Name → Bool) (inners : Port
+    → Bool) (xs : List Export) (f : Fault)
     → IsIn f (misfits_after types owner held targets inners xs) → MisfitAfter types owner held targets inners xs f
 from_after types owner held targets inners [] f i = absurd i
 from_after types owner held targets inners (y ∷ xs) f i =
     let more_targets : Name → Bool = λ n. targets n || bytes_eq n y.target.name in
     let more_inners : Port → Bool = λ p. inners p || is_port (inner_of types (port_of held y.words)) p in
-    elim (in_append f (where_true (is_misfit types owner held targets inners y) (export_fault y.words y.place)) (misfits_after types owner held more_targets more_inners xs) i) [
+    elim (in_append f (where_true (is_misfit types owner held targets inners y) (export_fault y.words y.place))
+    (misfits_after types owner held more_targets more_inners xs) i) [
       | inl j ↦ let k = from_true (is_misfit types owner held targets inners y) (export_fault y.words y.place) f j in
-          record { before = []; export = y; after = xs; split = refl; fault = sym k.1; why = from_misfit types owner held targets inners y k.0 }
+          record {
+            before = [];
+            export = y;
+            after = xs;
+            split = refl;
+            fault = sym k.1;
+            why = from_misfit types owner held targets inners y k.0;
+          }
       | inr j ↦ let r = from_after types owner held more_targets more_inners xs f j in
-          record { before = y ∷ r.before; export = r.export; after = r.after; split = ap (λ z. y ∷ z) r.split; fault = r.fault; why = narrower r.before r.export r.why }
+          record {
+            before = y ∷ r.before;
+            export = r.export;
+            after = r.after;
+            split = ap (λ z. y ∷ z) r.split;
+            fault = r.fault;
+            why = narrower r.before r.export r.why;
+          }
     ]
   where
-    narrower : (before : List Export) (x : Export) → Why types owner held (λ n. targets n || bytes_eq n y.target.name) (λ p. inners p || is_port (inner_of types (port_of held y.words)) p) before x
+    narrower : (before : List Export) (x : Export) → Why types owner held (λ n. targets n || bytes_eq n y.target.name)
+        (λ p. inners p || is_port (inner_of types (port_of held y.words)) p) before x
         → Why types owner held targets inners (y ∷ before) x
     narrower before x (inl m) = inl (wider types owner held y before x m)
     narrower before x (inr (inl t)) = elim (or_cases (targets x.target.name) (bytes_eq x.target.name y.target.name) t) [
@@ -166,7 +206,9 @@ from_after types owner held targets inners (y ∷ xs) f i =
     narrower before x (inr (inr t)) =
         let q = from_inner types (port_of held x.words) (λ p. inners p || is_port (inner_of types (port_of held y.words)) p) t in
         elim (or_cases (inners q.0) (is_port (inner_of types (port_of held y.words)) q.0) q.3) [
-          | inl k ↦ inr (inr (ap (λ z. option_map_or inners z false) (inner_there types (port_of held x.words) q.0 q.2.0 q.1 q.2.1) ∙ k))
+          | inl k ↦
+              inr (inr (ap (λ z. option_map_or inners z false) (inner_there types (port_of held x.words) q.0 q.2.0 q.1 q.2.1)
+              ∙ k))
           | inr k ↦ let p = from_port (inner_of types (port_of held y.words)) q.0 k in
               let there = from_inner_of types (port_of held y.words) p.0 p.1 in
               inl (port_again y p.0 q.0 there.1.0 q.2.0 (inl refl) there.0 there.1.1 q.1 q.2.1 p.2)
@@ -179,56 +221,82 @@ in_misfit : (types : Types) (owner : Option Known) (held : Holding) (targets : N
 in_misfit types owner held targets inners x why = by_why why
   where
     unlike : Bool
-    unlike = differs (option_and_then (interface_at types) (port_of held x.words)) (option_and_then (λ c. c.interface x.target.name) owner)
+    unlike = differs (option_and_then (interface_at types) (port_of held x.words))
+        (option_and_then (λ c. c.interface x.target.name) owner)
 
     by_why : Why types owner held targets inners [] x → is_misfit types owner held targets inners x ≡ true
     by_why (inl (in_an_assembly o)) = or_left (is_none owner) _ (ap is_none o)
     by_why (inl (unlike_target c p i j o e k l d)) =
-        let P : Option Known → Type 0 = λ z. differs (option_and_then (interface_at types) (port_of held x.words)) (option_and_then (λ c. c.interface x.target.name) z) ≡ true in
+        let P : Option Known → Type 0 = λ z. differs (option_and_then (interface_at types) (port_of held x.words))
+        (option_and_then (λ c. c.interface x.target.name) z) ≡ true in
         let Q : Option Port → Type 0 = λ z. differs (option_and_then (interface_at types) z) (c.interface x.target.name) ≡ true in
         let R : Option Interface → Type 0 = λ z. differs z (c.interface x.target.name) ≡ true in
         let S : Option Interface → Type 0 = λ z. differs (Some i) z ≡ true in
-        or_right (is_none owner) _ (or_left _ _ (subst P (sym o) (subst Q (sym e) (subst R (sym k) (subst S (sym l) (not_from_false (same_interface i j) d))))))
+        or_right (is_none owner) _
+        (or_left _ _
+        (subst P (sym o) (subst Q (sym e) (subst R (sym k) (subst S (sym l) (not_from_false (same_interface i j) d))))))
     by_why (inl (target_again y i e)) = absurd i
     by_why (inl (port_again y p q i j k a b c d s)) = absurd k
     by_why (inl (unled p e u)) =
-        or_right (is_none owner) _ (or_right _ _ (or_right (targets x.target.name) _ (or_right (option_map_or inners (inner_of types (port_of held x.words)) false) (is_unled types (port_of held x.words)) (in_unled types (port_of held x.words) p e u))))
+        or_right (is_none owner) _
+        (or_right _ _
+        (or_right (targets x.target.name) _ (or_right (option_map_or inners (inner_of types (port_of held x.words)) false)
+        (is_unled types (port_of held x.words)) (in_unled types (port_of held x.words) p e u))))
     by_why (inr (inl t)) = or_right (is_none owner) _ (or_right _ _ (or_left (targets x.target.name) _ t))
     by_why (inr (inr t)) =
-        or_right (is_none owner) _ (or_right _ _ (or_right (targets x.target.name) _ (or_left (option_map_or inners (inner_of types (port_of held x.words)) false) (is_unled types (port_of held x.words)) t)))
+        or_right (is_none owner) _
+        (or_right _ _
+        (or_right (targets x.target.name) _ (or_left (option_map_or inners (inner_of types (port_of held x.words)) false)
+        (is_unled types (port_of held x.words)) t)))
 
-into_after : (types : Types) (owner : Option Known) (held : Holding) (targets : Name → Bool) (inners : Port → Bool) (before : List Export) (x : Export) (after : List Export)
-    → Why types owner held targets inners before x → IsIn (export_fault x.words x.place) (misfits_after types owner held targets inners (before ++ x ∷ after))
+into_after : (types : Types) (owner : Option Known) (held : Holding) (targets : Name → Bool) (inners : Port
+    → Bool) (before : List Export) (x : Export) (after : List Export)
+    → Why types owner held targets inners before x
+    → IsIn (export_fault x.words x.place) (misfits_after types owner held targets inners (before ++ x ∷ after))
 into_after types owner held targets inners [] x after why =
-    in_left (export_fault x.words x.place) (where_true (is_misfit types owner held targets inners x) (export_fault x.words x.place))
-    (misfits_after types owner held (λ n. targets n || bytes_eq n x.target.name) (λ p. inners p || is_port (inner_of types (port_of held x.words)) p) after)
-    (in_true (is_misfit types owner held targets inners x) (export_fault x.words x.place) (in_misfit types owner held targets inners x why))
+    in_left (export_fault x.words x.place) (where_true (is_misfit types owner held targets inners x)
+    (export_fault x.words x.place))
+    (misfits_after types owner held (λ n. targets n || bytes_eq n x.target.name)
+    (λ p. inners p || is_port (inner_of types (port_of held x.words)) p) after)
+    (in_true (is_misfit types owner held targets inners x) (export_fault x.words x.place)
+    (in_misfit types owner held targets inners x why))
 into_after types owner held targets inners (y ∷ before) x after why =
     let more_targets : Name → Bool = λ n. targets n || bytes_eq n y.target.name in
     let more_inners : Port → Bool = λ p. inners p || is_port (inner_of types (port_of held y.words)) p in
-    in_right (export_fault x.words x.place) (where_true (is_misfit types owner held targets inners y) (export_fault y.words y.place)) (misfits_after types owner held more_targets more_inners (before ++ x ∷ after))
+    in_right (export_fault x.words x.place) (where_true (is_misfit types owner held targets inners y)
+    (export_fault y.words y.place)) (misfits_after types owner held more_targets more_inners (before ++ x ∷ after))
     (into_after types owner held more_targets more_inners before x after (known why))
   where
-    known_port : (q : Port) (j : Interface) → port_of held x.words ≡ Some q → interface_at types q ≡ Some j → (inners q || is_port (inner_of types (port_of held y.words)) q) ≡ true
-        → option_map_or (λ p. inners p || is_port (inner_of types (port_of held y.words)) p) (inner_of types (port_of held x.words)) false ≡ true
-    known_port q j a b t = ap (λ z. option_map_or (λ p. inners p || is_port (inner_of types (port_of held y.words)) p) z false) (inner_there types (port_of held x.words) q j a b) ∙ t
+    known_port : (q : Port) (j : Interface) → port_of held x.words ≡ Some q → interface_at types q ≡ Some j
+        → (inners q || is_port (inner_of types (port_of held y.words)) q) ≡ true
+        → option_map_or (λ p. inners p || is_port (inner_of types (port_of held y.words)) p)
+        (inner_of types (port_of held x.words)) false ≡ true
+    known_port q j a b t = ap (λ z. option_map_or (λ p. inners p || is_port (inner_of types (port_of held y.words)) p) z false)
+        (inner_there types (port_of held x.words) q j a b) ∙ t
 
-    known : Why types owner held targets inners (y ∷ before) x → Why types owner held (λ n. targets n || bytes_eq n y.target.name) (λ p. inners p || is_port (inner_of types (port_of held y.words)) p) before x
+    known : Why types owner held targets inners (y ∷ before) x → Why types owner held (λ n. targets n || bytes_eq n y.target.name)
+        (λ p. inners p || is_port (inner_of types (port_of held y.words)) p) before x
     known (inl (in_an_assembly o)) = inl (in_an_assembly o)
     known (inl (unlike_target c p i j o e k l d)) = inl (unlike_target c p i j o e k l d)
     known (inl (target_again z (inl e) same)) =
-        inr (inl (or_right (targets x.target.name) (bytes_eq x.target.name y.target.name) ((bytes_eq-Decides x.target.name y.target.name).1 (sym same ∙ ap (λ (u : Export). u.target.name) (sym e)))))
+        inr
+        (inl (or_right (targets x.target.name) (bytes_eq x.target.name y.target.name)
+        ((bytes_eq-Decides x.target.name y.target.name).1 (sym same ∙ ap (λ (u : Export). u.target.name) (sym e)))))
     known (inl (target_again z (inr i) same)) = inl (target_again z i same)
     known (inl (port_again z p q i j (inl e) a b c d s)) =
         let a' : port_of held y.words ≡ Some p = ap (λ (u : Export). port_of held u.words) e ∙ a in
         let P : Option Port → Type 0 = λ u. is_port u q ≡ true in
-        inr (inr (known_port q j c d (or_right (inners q) (is_port (inner_of types (port_of held y.words)) q) (subst P (sym (inner_there types (port_of held y.words) p i a' b)) (in_same_port q p (turned p q s))))))
+        inr
+        (inr (known_port q j c d (or_right (inners q) (is_port (inner_of types (port_of held y.words)) q)
+        (subst P (sym (inner_there types (port_of held y.words) p i a' b)) (in_same_port q p (turned p q s))))))
     known (inl (port_again z p q i j (inr k) a b c d s)) = inl (port_again z p q i j k a b c d s)
     known (inl (unled p e u)) = inl (unled p e u)
     known (inr (inl t)) = inr (inl (or_left (targets x.target.name) (bytes_eq x.target.name y.target.name) t))
     known (inr (inr t)) =
         let q = from_inner types (port_of held x.words) inners t in
-        inr (inr (known_port q.0 q.2.0 q.1 q.2.1 (or_left (inners q.0) (is_port (inner_of types (port_of held y.words)) q.0) q.3)))
+        inr
+        (inr
+        (known_port q.0 q.2.0 q.1 q.2.1 (or_left (inners q.0) (is_port (inner_of types (port_of held y.words)) q.0) q.3)))
 
 -- ---- in a source
 
@@ -238,10 +306,12 @@ from_end types held e f i =
     let k = from_true (is_unled types (port_of held e.words)) (export_fault e.words e.place) f i in
     let p = from_unled types (port_of held e.words) k.0 in (p.0, p.1, p.2, sym k.1)
 
-from_composition : (s : Source) (owner : Option Known) (k : Composition) (f : Fault) → HasComposition s owner k → IsIn f (misfits_in_composition (known_in s) owner k) → IsMisfitIn s f
+from_composition : (s : Source) (owner : Option Known) (k : Composition) (f : Fault) → HasComposition s owner k
+    → IsIn f (misfits_in_composition (known_in s) owner k) → IsMisfitIn s f
 from_composition s owner k f h i =
     let types = known_in s in
-    elim (in_append f (misfits_after types owner (held_as k) (λ n. false) (λ p. false) (exports_in k)) (flat_map (unled_ends types (held_as k)) (connections_in k)) i) [
+    elim (in_append f (misfits_after types owner (held_as k) (λ n. false) (λ p. false) (exports_in k))
+    (flat_map (unled_ends types (held_as k)) (connections_in k)) i) [
       | inl j ↦ let r = from_after types owner (held_as k) (λ n. false) (λ p. false) (exports_in k) f j in
           an_export owner k r.before r.after r.export h r.split (surely r.before r.export r.why) r.fault
       | inr j ↦ let w = from_flat_map (unled_ends types (held_as k)) f (connections_in k) j in
@@ -250,10 +320,12 @@ from_composition s owner k f h i =
           an_end owner k w.0 e.0 p.0 h w.1 e.1 p.1 p.2 p.3
     ]
   where
-    surely : (before : List Export) (x : Export) → Why (known_in s) owner (held_as k) (λ n. false) (λ p. false) before x → IsMisfit (known_in s) owner (held_as k) before x
+    surely : (before : List Export) (x : Export) → Why (known_in s) owner (held_as k) (λ n. false) (λ p. false) before x
+        → IsMisfit (known_in s) owner (held_as k) before x
     surely before x (inl m) = m
     surely before x (inr (inl t)) = cc
-    surely before x (inr (inr t)) = let q = from_inner (known_in s) (port_of (held_as k) x.words) (λ p. false) t in absurd (cc (q.3))
+    surely before x (inr (inr t)) = let q = from_inner (known_in s) (port_of (held_as k) x.words) (λ p. false) t in
+        absurd (cc (q.3))
 
 from_item : (s : Source) (x : Item) (f : Fault) → HasItem s x → IsIn f (misfits_in_item (known_in s) x) → IsMisfitIn s f
 from_item s (items.Import i) f h j = absurd j
@@ -271,8 +343,11 @@ from_misfits s f i =
 in_items : (s : Source) (x : Item) (f : Fault) → HasItem s x → IsIn f (misfits_in_item (known_in s) x) → IsIn f (misfit_exports s)
 in_items s x f h i = in_flat_map (λ (y : ItemAt × Item). misfits_in_item (known_in s) y.1) (h.at, x) f (items_of s) h.stands i
 
-in_owned : (s : Source) (owner : Option Known) (k : Composition) (f : Fault) → HasComposition s owner k → IsIn f (misfits_in_composition (known_in s) owner k) → IsIn f (misfit_exports s)
-in_owned s owner k f (of_component c k' h j) i = in_items s (items.Component c) f h (in_flat_map (misfits_in_composition (known_in s) (Some (known_of c))) k' f (compositions c) j i)
+in_owned : (s : Source) (owner : Option Known) (k : Composition) (f : Fault) → HasComposition s owner k
+    → IsIn f (misfits_in_composition (known_in s) owner k) → IsIn f (misfit_exports s)
+in_owned s owner k f (of_component c k' h j) i =
+    in_items s (items.Component c) f h (in_flat_map (misfits_in_composition (known_in s) (Some (known_of c))) k' f
+    (compositions c) j i)
 in_owned s owner k f (of_assembly a h) i = in_items s (items.Assembly a) f h i
 
 pub in_misfits : (s : Source) (f : Fault) → IsMisfitIn s f → IsIn f (misfit_exports s)
@@ -286,7 +361,9 @@ in_misfits s f (an_export owner k before after x h split m e) =
 in_misfits s f (an_end owner k w e p h i j port u same) =
     let types = known_in s in
     let Q : Fault → Type 0 = λ g. IsIn g (flat_map (unled_ends types (held_as k)) (connections_in k)) in
-    in_owned s owner k f h (in_right f (misfits_after types owner (held_as k) (λ n. false) (λ p. false) (exports_in k)) (flat_map (unled_ends types (held_as k)) (connections_in k))
+    in_owned s owner k f h (in_right f (misfits_after types owner (held_as k) (λ n. false) (λ p. false) (exports_in k))
+    (flat_map (unled_ends types (held_as k)) (connections_in k))
     (subst Q (sym same) (in_flat_map (unled_ends types (held_as k)) w (export_fault e.words e.place) (connections_in k) i
     (in_flat_map (unled_end types (held_as k)) e (export_fault e.words e.place) w.ends j
-    (in_true (is_unled types (port_of (held_as k) e.words)) (export_fault e.words e.place) (in_unled types (port_of (held_as k) e.words) p port u))))))
+    (in_true (is_unled types (port_of (held_as k) e.words)) (export_fault e.words e.place)
+    (in_unled types (port_of (held_as k) e.words) p port u))))))

@@ -8,7 +8,8 @@ use Rattle.front_laws.specs.InOrder.{InOrder, IsBefore}
 
 -- ---- lists
 
-pub same_order : {X : Type 0} (R : X → X → Type 0) → ((x y : X) → R x y → R y x → ⊥) → (xs ys : List X) → InOrder R xs → InOrder R ys
+pub same_order : {X : Type 0} (R : X → X → Type 0) → ((x y : X) → R x y → R y x → ⊥) → (xs ys : List X) → InOrder R xs
+    → InOrder R ys
     → ((x : X) → IsIn x xs → IsIn x ys) → ((x : X) → IsIn x ys → IsIn x xs) → xs ≡ ys
 same_order R one_way [] [] a b to from = refl
 same_order R one_way [] (y ∷ ys) a b to from = absurd (from y (inl refl))
@@ -28,11 +29,14 @@ same_order {X} R one_way (x ∷ xs) (y ∷ ys) a b to from =
       | inr i ↦ i
     ]))
 
-pub once_place : {X : Type 0} (xs : List X) (i j : ℕ) (x : X) → IsOnce xs → slice_get xs i ≡ Some x → slice_get xs j ≡ Some x → i ≡ j
+pub once_place : {X : Type 0} (xs : List X) (i j : ℕ) (x : X) → IsOnce xs → slice_get xs i ≡ Some x
+    → slice_get xs j ≡ Some x → i ≡ j
 once_place [] i j x a e f = cc
 once_place (y ∷ ys) zero zero x a e f = refl
-once_place {X} (y ∷ ys) zero (suc j) x a e f = let same : y ≡ x = cc in let P : X → Type 0 = λ z. IsIn z ys in absurd (a.0 (subst P (sym same) (in_place x ys j f)))
-once_place {X} (y ∷ ys) (suc i) zero x a e f = let same : y ≡ x = cc in let P : X → Type 0 = λ z. IsIn z ys in absurd (a.0 (subst P (sym same) (in_place x ys i e)))
+once_place {X} (y ∷ ys) zero (suc j) x a e f = let same : y ≡ x = cc in let P : X → Type 0 = λ z. IsIn z ys in
+    absurd (a.0 (subst P (sym same) (in_place x ys j f)))
+once_place {X} (y ∷ ys) (suc i) zero x a e f = let same : y ≡ x = cc in let P : X → Type 0 = λ z. IsIn z ys in
+    absurd (a.0 (subst P (sym same) (in_place x ys i e)))
 once_place (y ∷ ys) (suc i) (suc j) x a e f = ap suc (once_place ys i j x a.1 e f)
 
 -- in a list in which nothing stands twice
@@ -43,9 +47,13 @@ before_once {X} xs a b once s t =
     let R : List X → Type 0 = λ z. slice_get z (length t.front) ≡ Some b in
     let S : List X → Type 0 = λ z. slice_get z (length t.front + suc (length t.between)) ≡ Some a in
     let a1 = subst P (sym s.split) (get_behind s.front (a ∷ (s.between ++ b ∷ s.rest)) 0 (length s.front) (omega arith)) in
-    let b1 = subst Q (sym s.split) (get_behind s.front (a ∷ (s.between ++ b ∷ s.rest)) (suc (length s.between)) (length s.front + suc (length s.between)) refl ∙ get_behind s.between (b ∷ s.rest) 0 (length s.between) (omega arith)) in
+    let b1 = subst Q (sym s.split) (get_behind s.front (a ∷ (s.between ++ b ∷ s.rest)) (suc (length s.between))
+    (length s.front + suc (length s.between)) refl ∙ get_behind s.between (b ∷ s.rest) 0 (length s.between)
+    (omega arith)) in
     let b2 = subst R (sym t.split) (get_behind t.front (b ∷ (t.between ++ a ∷ t.rest)) 0 (length t.front) (omega arith)) in
-    let a2 = subst S (sym t.split) (get_behind t.front (b ∷ (t.between ++ a ∷ t.rest)) (suc (length t.between)) (length t.front + suc (length t.between)) refl ∙ get_behind t.between (a ∷ t.rest) 0 (length t.between) (omega arith)) in
+    let a2 = subst S (sym t.split) (get_behind t.front (b ∷ (t.between ++ a ∷ t.rest)) (suc (length t.between))
+    (length t.front + suc (length t.between)) refl ∙ get_behind t.between (a ∷ t.rest) 0 (length t.between)
+    (omega arith)) in
     let p = once_place xs (length s.front) (length t.front + suc (length t.between)) a once a1 a2 in
     let q = once_place xs (length t.front) (length s.front + suc (length s.between)) b once b2 b1 in
     omega (arith, p, q)
@@ -60,11 +68,20 @@ record PathStep (h : Hierarchy) (k : ℕ) (p q : Path) : Type 0 where
   q' : Path
   first : p ≡ n ∷ p'
   second : q ≡ m ∷ q'
-  why : IsBefore (map name_of (body h k).parts) n m ⊎ ((n ≡ m) × ((x : Part) × (part_named (body h k).parts n ≡ Some x) × IsPathBefore h x.kind p' q'))
+  why : IsBefore (map name_of (body h k).parts) n m
+      ⊎ ((n ≡ m) × ((x : Part) × (part_named (body h k).parts n ≡ Some x) × IsPathBefore h x.kind p' q'))
 
 path_step : (h : Hierarchy) (k : ℕ) (p q : Path) → IsPathBefore h k p q → PathStep h k p q
 path_step h k p q (at_names k' n m p' q' b) = record { n = n; m = m; p' = p'; q' = q'; first = refl; second = refl; why = inl b }
-path_step h k p q (within_one k' n x p' q' e r) = record { n = n; m = n; p' = p'; q' = q'; first = refl; second = refl; why = inr (refl, (x, e, r)) }
+path_step h k p q (within_one k' n x p' q' e r) = record {
+  n = n;
+  m = n;
+  p' = p';
+  q' = q';
+  first = refl;
+  second = refl;
+  why = inr (refl, (x, e, r));
+}
 
 abbrev AreNamedOnce : Hierarchy → Type 0
 AreNamedOnce h = (k : ℕ) → IsOnce (map name_of (body h k).parts)
@@ -79,8 +96,10 @@ steps_one_way h once l k p q low a b inner = by_why a.why b.why
     tails : (a.m ≡ b.n) × (a.q' ≡ b.p')
     tails = let e = a.second in let f = b.first in (cc, cc)
 
-    by_why : IsBefore (map name_of (body h k).parts) a.n a.m ⊎ ((a.n ≡ a.m) × ((x : Part) × (part_named (body h k).parts a.n ≡ Some x) × IsPathBefore h x.kind a.p' a.q'))
-        → IsBefore (map name_of (body h k).parts) b.n b.m ⊎ ((b.n ≡ b.m) × ((x : Part) × (part_named (body h k).parts b.n ≡ Some x) × IsPathBefore h x.kind b.p' b.q')) → ⊥
+    by_why : IsBefore (map name_of (body h k).parts) a.n a.m
+        ⊎ ((a.n ≡ a.m) × ((x : Part) × (part_named (body h k).parts a.n ≡ Some x) × IsPathBefore h x.kind a.p' a.q'))
+        → IsBefore (map name_of (body h k).parts) b.n b.m
+        ⊎ ((b.n ≡ b.m) × ((x : Part) × (part_named (body h k).parts b.n ≡ Some x) × IsPathBefore h x.kind b.p' b.q')) → ⊥
     by_why (inl r) (inl s) =
         let P : Name → Type 0 = λ z. IsBefore (map name_of (body h k).parts) z b.m in
         let Q : Name → Type 0 = λ z. IsBefore (map name_of (body h k).parts) a.m z in
@@ -96,17 +115,22 @@ steps_one_way h once l k p q low a b inner = by_why a.why b.why
     by_why (inr (e, x)) (inr (f, y)) =
         let u = x.1 in
         let v = y.1 in
-        let name : part_named (body h k).parts a.n ≡ part_named (body h k).parts b.n = ap (part_named (body h k).parts) (e ∙ tails.0) in
+        let name : part_named (body h k).parts a.n ≡ part_named (body h k).parts b.n =
+        ap (part_named (body h k).parts) (e ∙ tails.0) in
         let same : x.0 ≡ y.0 = cc in
         let P : Part → Type 0 = λ z. IsPathBefore h z.kind b.p' b.q' in
         let Q : Path → Type 0 = λ z. IsPathBefore h x.0.kind z b.q' in
         let R : Path → Type 0 = λ z. IsPathBefore h x.0.kind a.q' z in
         let short : length p ≡ suc (length a.p') = ap length a.first in
-        inner x.0.kind a.p' a.q' (omega (arith, low, short)) x.2 (subst R (sym heads.1) (subst Q (sym tails.1) (subst P (sym same) y.2)))
+        inner x.0.kind a.p' a.q' (omega (arith, low, short)) x.2
+        (subst R (sym heads.1) (subst Q (sym tails.1) (subst P (sym same) y.2)))
 
-pub paths_one_way : (h : Hierarchy) → AreNamedOnce h → (l k : ℕ) (p q : Path) → length p ≤ l → IsPathBefore h k p q → IsPathBefore h k q p → ⊥
-paths_one_way h once zero k p q low a b = let s = path_step h k p q a in let e : length p ≡ suc (length s.p') = ap length s.first in omega (arith, low, e)
-paths_one_way h once (suc l) k p q low a b = steps_one_way h once l k p q low (path_step h k p q a) (path_step h k q p b) (λ i s t m u v. paths_one_way h once l i s t m u v)
+pub paths_one_way : (h : Hierarchy) → AreNamedOnce h → (l k : ℕ) (p q : Path) → length p ≤ l → IsPathBefore h k p q
+    → IsPathBefore h k q p → ⊥
+paths_one_way h once zero k p q low a b = let s = path_step h k p q a in let e : length p ≡ suc (length s.p') =
+    ap length s.first in omega (arith, low, e)
+paths_one_way h once (suc l) k p q low a b = steps_one_way h once l k p q low (path_step h k p q a) (path_step h k q p b)
+    (λ i s t m u v. paths_one_way h once l i s t m u v)
 
 -- ---- connections
 
@@ -132,7 +156,8 @@ record ByInstances (h : Hierarchy) (k : ℕ) (p : Path) (a : Name) (q : Path) (b
   q' : Path
   first : p ≡ n ∷ p'
   second : q ≡ m ∷ q'
-  why : IsBefore (map name_of (body h k).parts) n m ⊎ ((n ≡ m) × ((x : Part) × (part_named (body h k).parts n ≡ Some x) × IsWireBefore h x.kind p' a q' b))
+  why : IsBefore (map name_of (body h k).parts) n m
+      ⊎ ((n ≡ m) × ((x : Part) × (part_named (body h k).parts n ≡ Some x) × IsWireBefore h x.kind p' a q' b))
 
 abbrev WireStep : Hierarchy → ℕ → Path → Name → Path → Name → Type 0
 WireStep h k p a q b = InOne h k p a q b ⊎ (IsOuter p q ⊎ ByInstances h k p a q b)
@@ -140,13 +165,16 @@ WireStep h k p a q b = InOne h k p a q b ⊎ (IsOuter p q ⊎ ByInstances h k p 
 wire_step : (h : Hierarchy) (k : ℕ) (p : Path) (a : Name) (q : Path) (b : Name) → IsWireBefore h k p a q b → WireStep h k p a q b
 wire_step h k p a q b (in_one k' a' b' r) = inl (record { first = refl; second = refl; before = r })
 wire_step h k p a q b (outer_first k' a' b' n q') = inr (inl (record { n = n; q' = q'; first = refl; second = refl }))
-wire_step h k p a q b (by_instances k' n m a' b' p' q' r) = inr (inr (record { n = n; m = m; p' = p'; q' = q'; first = refl; second = refl; why = inl r }))
-wire_step h k p a q b (deeper k' n a' b' x p' q' e r) = inr (inr (record { n = n; m = n; p' = p'; q' = q'; first = refl; second = refl; why = inr (refl, (x, e, r)) }))
+wire_step h k p a q b (by_instances k' n m a' b' p' q' r) =
+    inr (inr (record { n = n; m = m; p' = p'; q' = q'; first = refl; second = refl; why = inl r }))
+wire_step h k p a q b (deeper k' n a' b' x p' q' e r) =
+    inr (inr (record { n = n; m = n; p' = p'; q' = q'; first = refl; second = refl; why = inr (refl, (x, e, r)) }))
 
 empty_not : (p : Path) (n : Name) (q : Path) → p ≡ [] → p ≡ n ∷ q → ⊥
 empty_not p n q e f = cc
 
-instances_one_way : (h : Hierarchy) → AreNamedOnce h → (l k : ℕ) (p : Path) (a : Name) (q : Path) (b : Name) → length p ≤ suc l → ByInstances h k p a q b → ByInstances h k q b p a
+instances_one_way : (h : Hierarchy) → AreNamedOnce h → (l k : ℕ) (p : Path) (a : Name) (q : Path) (b : Name) → length p ≤ suc l
+    → ByInstances h k p a q b → ByInstances h k q b p a
     → ((i : ℕ) (s : Path) (t : Path) → length s ≤ l → IsWireBefore h i s a t b → IsWireBefore h i t b s a → ⊥) → ⊥
 instances_one_way h once l k p a q b low c d inner = by_why c.why d.why
   where
@@ -156,8 +184,10 @@ instances_one_way h once l k p a q b low c d inner = by_why c.why d.why
     tails : (c.m ≡ d.n) × (c.q' ≡ d.p')
     tails = let e = c.second in let f = d.first in (cc, cc)
 
-    by_why : IsBefore (map name_of (body h k).parts) c.n c.m ⊎ ((c.n ≡ c.m) × ((x : Part) × (part_named (body h k).parts c.n ≡ Some x) × IsWireBefore h x.kind c.p' a c.q' b))
-        → IsBefore (map name_of (body h k).parts) d.n d.m ⊎ ((d.n ≡ d.m) × ((x : Part) × (part_named (body h k).parts d.n ≡ Some x) × IsWireBefore h x.kind d.p' b d.q' a)) → ⊥
+    by_why : IsBefore (map name_of (body h k).parts) c.n c.m
+        ⊎ ((c.n ≡ c.m) × ((x : Part) × (part_named (body h k).parts c.n ≡ Some x) × IsWireBefore h x.kind c.p' a c.q' b))
+        → IsBefore (map name_of (body h k).parts) d.n d.m
+        ⊎ ((d.n ≡ d.m) × ((x : Part) × (part_named (body h k).parts d.n ≡ Some x) × IsWireBefore h x.kind d.p' b d.q' a)) → ⊥
     by_why (inl r) (inl s) =
         let P : Name → Type 0 = λ z. IsBefore (map name_of (body h k).parts) z d.m in
         let Q : Name → Type 0 = λ z. IsBefore (map name_of (body h k).parts) c.m z in
@@ -173,18 +203,23 @@ instances_one_way h once l k p a q b low c d inner = by_why c.why d.why
     by_why (inr (e, x)) (inr (f, y)) =
         let u = x.1 in
         let v = y.1 in
-        let name : part_named (body h k).parts c.n ≡ part_named (body h k).parts d.n = ap (part_named (body h k).parts) (e ∙ tails.0) in
+        let name : part_named (body h k).parts c.n ≡ part_named (body h k).parts d.n =
+        ap (part_named (body h k).parts) (e ∙ tails.0) in
         let same : x.0 ≡ y.0 = cc in
         let P : Part → Type 0 = λ z. IsWireBefore h z.kind d.p' b d.q' a in
         let Q : Path → Type 0 = λ z. IsWireBefore h x.0.kind z b d.q' a in
         let R : Path → Type 0 = λ z. IsWireBefore h x.0.kind c.q' b z a in
         let short : length p ≡ suc (length c.p') = ap length c.first in
-        inner x.0.kind c.p' c.q' (omega (arith, low, short)) x.2 (subst R (sym heads.1) (subst Q (sym tails.1) (subst P (sym same) y.2)))
+        inner x.0.kind c.p' c.q' (omega (arith, low, short)) x.2
+        (subst R (sym heads.1) (subst Q (sym tails.1) (subst P (sym same) y.2)))
 
-wire_steps_one_way : (h : Hierarchy) → AreNamedOnce h → ((k : ℕ) → IsOnce (wire_names h k)) → (l k : ℕ) (p : Path) (a : Name) (q : Path) (b : Name) → length p ≤ l
+wire_steps_one_way : (h : Hierarchy) → AreNamedOnce h → ((k : ℕ) → IsOnce (wire_names h k))
+    → (l k : ℕ) (p : Path) (a : Name) (q : Path) (b : Name) → length p ≤ l
     → WireStep h k p a q b → WireStep h k q b p a
-    → ((m : ℕ) → l ≡ suc m → (i : ℕ) (s : Path) (t : Path) → length s ≤ m → IsWireBefore h i s a t b → IsWireBefore h i t b s a → ⊥) → ⊥
-wire_steps_one_way h once wires l k p a q b low (inl c) (inl d) inner = before_once (wire_names h k) a b (wires k) c.before d.before
+    → ((m : ℕ) → l ≡ suc m → (i : ℕ) (s : Path) (t : Path) → length s ≤ m → IsWireBefore h i s a t b
+    → IsWireBefore h i t b s a → ⊥) → ⊥
+wire_steps_one_way h once wires l k p a q b low (inl c) (inl d) inner =
+    before_once (wire_names h k) a b (wires k) c.before d.before
 wire_steps_one_way h once wires l k p a q b low (inl c) (inr (inl d)) inner = empty_not p d.n d.q' c.first d.second
 wire_steps_one_way h once wires l k p a q b low (inl c) (inr (inr d)) inner = empty_not p d.m d.q' c.first d.second
 wire_steps_one_way h once wires l k p a q b low (inr (inl c)) (inl d) inner = empty_not q c.n c.q' d.first c.second
@@ -192,13 +227,18 @@ wire_steps_one_way h once wires l k p a q b low (inr (inl c)) (inr (inl d)) inne
 wire_steps_one_way h once wires l k p a q b low (inr (inl c)) (inr (inr d)) inner = empty_not p d.m d.q' c.first d.second
 wire_steps_one_way h once wires l k p a q b low (inr (inr c)) (inl d) inner = empty_not p c.n c.p' d.second c.first
 wire_steps_one_way h once wires l k p a q b low (inr (inr c)) (inr (inl d)) inner = empty_not q c.m c.q' d.first c.second
-wire_steps_one_way h once wires zero k p a q b low (inr (inr c)) (inr (inr d)) inner = let e : length p ≡ suc (length c.p') = ap length c.first in omega (arith, low, e)
-wire_steps_one_way h once wires (suc l) k p a q b low (inr (inr c)) (inr (inr d)) inner = instances_one_way h once l k p a q b low c d (inner l refl)
+wire_steps_one_way h once wires zero k p a q b low (inr (inr c)) (inr (inr d)) inner = let e : length p ≡ suc (length c.p') =
+    ap length c.first in omega (arith, low, e)
+wire_steps_one_way h once wires (suc l) k p a q b low (inr (inr c)) (inr (inr d)) inner =
+    instances_one_way h once l k p a q b low c d (inner l refl)
 
-pub wires_one_way : (h : Hierarchy) → AreNamedOnce h → ((k : ℕ) → IsOnce (wire_names h k)) → (l k : ℕ) (p : Path) (a : Name) (q : Path) (b : Name) → length p ≤ l
+pub wires_one_way : (h : Hierarchy) → AreNamedOnce h → ((k : ℕ) → IsOnce (wire_names h k))
+    → (l k : ℕ) (p : Path) (a : Name) (q : Path) (b : Name) → length p ≤ l
     → IsWireBefore h k p a q b → IsWireBefore h k q b p a → ⊥
 wires_one_way h once wires zero k p a q b low r s =
-    wire_steps_one_way h once wires zero k p a q b low (wire_step h k p a q b r) (wire_step h k q b p a s) (λ m e. absurd (omega (arith, e)))
+    wire_steps_one_way h once wires zero k p a q b low (wire_step h k p a q b r) (wire_step h k q b p a s)
+    (λ m e. absurd (omega (arith, e)))
 wires_one_way h once wires (suc l) k p a q b low r s =
     wire_steps_one_way h once wires (suc l) k p a q b low (wire_step h k p a q b r) (wire_step h k q b p a s)
-    (λ m e i t u less x y. let same : l ≡ m = omega (arith, e) in wires_one_way h once wires l i t a u b (omega (arith, less, same)) x y)
+    (λ m e i t u less x y. let same : l ≡ m = omega (arith, e) in
+    wires_one_way h once wires l i t a u b (omega (arith, less, same)) x y)

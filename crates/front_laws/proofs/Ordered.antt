@@ -7,14 +7,16 @@ use Rattle.cam_base.proofs.Gathered.{in_append}
 use Rattle.cam_base.proofs.NumberedLists.{from_flat_map, from_map, split_in}
 use Rattle.front_laws.specs.InOrder.{InOrder, IsBefore}
 
-pub order_append : {X : Type 0} (R : X → X → Type 0) (xs ys : List X) → InOrder R xs → InOrder R ys → ((x y : X) → IsIn x xs → IsIn y ys → R x y) → InOrder R (xs ++ ys)
+pub order_append : {X : Type 0} (R : X → X → Type 0) (xs ys : List X) → InOrder R xs → InOrder R ys
+    → ((x y : X) → IsIn x xs → IsIn y ys → R x y) → InOrder R (xs ++ ys)
 order_append R [] ys a b r = b
 order_append R (x ∷ xs) ys a b r = (
   λ y i. elim (in_append y xs ys i) [ inl j ↦ a.0 y j | inr j ↦ r x y (inl refl) j ],
   order_append R xs ys a.1 b (λ u v i j. r u v (inr i) j),
 )
 
-pub order_map : {X Y : Type 0} (R : Y → Y → Type 0) (f : X → Y) (xs : List X) → InOrder (λ x y. R (f x) (f y)) xs → InOrder R (map f xs)
+pub order_map : {X Y : Type 0} (R : Y → Y → Type 0) (f : X → Y) (xs : List X) → InOrder (λ x y. R (f x) (f y)) xs
+    → InOrder R (map f xs)
 order_map R f [] a = tt
 order_map {X} {Y} R f (x ∷ xs) a = (
   λ y i. let z = from_map f y xs i in let P : Y → Type 0 = λ u. R (f x) u in subst P z.2 (a.0 z.0 z.1),
@@ -22,9 +24,11 @@ order_map {X} {Y} R f (x ∷ xs) a = (
 )
 
 -- what is so of elements in order is so of what they are made into
-pub order_weaken : {X : Type 0} (R S : X → X → Type 0) (xs : List X) → ((x y : X) → IsIn x xs → IsIn y xs → R x y → S x y) → InOrder R xs → InOrder S xs
+pub order_weaken : {X : Type 0} (R S : X → X → Type 0) (xs : List X) → ((x y : X) → IsIn x xs → IsIn y xs → R x y → S x y)
+    → InOrder R xs → InOrder S xs
 order_weaken R S [] f a = tt
-order_weaken R S (x ∷ xs) f a = (λ y i. f x y (inl refl) (inr i) (a.0 y i), order_weaken R S xs (λ u v i j. f u v (inr i) (inr j)) a.1)
+order_weaken R S (x ∷ xs) f a =
+    (λ y i. f x y (inl refl) (inr i) (a.0 y i), order_weaken R S xs (λ u v i j. f u v (inr i) (inr j)) a.1)
 
 pub order_flat_map : {X Y : Type 0} (R : Y → Y → Type 0) (f : X → List Y) (xs : List X) → ((x : X) → IsIn x xs → InOrder R (f x))
     → InOrder (λ x y. (u v : Y) → IsIn u (f x) → IsIn v (f y) → R u v) xs → InOrder R (flat_map f xs)
@@ -49,5 +53,6 @@ before_map f xs a b s = record {
   front = map f s.front;
   between = map f s.between;
   rest = map f s.rest;
-  split = ap (map f) s.split ∙ map-append f s.front (a ∷ (s.between ++ b ∷ s.rest)) ∙ ap (λ z. map f s.front ++ f a ∷ z) (map-append f s.between (b ∷ s.rest));
+  split = ap (map f) s.split ∙ map-append f s.front (a ∷ (s.between ++ b ∷ s.rest)) ∙ ap (λ z. map f s.front ++ f a ∷ z)
+      (map-append f s.between (b ∷ s.rest));
 }

@@ -25,7 +25,13 @@ shared r q t =
     let room = power_pos q.bits in
     let more = power_pos r.bits in
     elim (cases_lt r.paddr q.paddr) [
-      | inl l ↦ record { address = q.paddr; low = omega arith; high = omega (arith, room); other_low = omega (arith, l); other_high = second }
+      | inl l ↦ record {
+        address = q.paddr;
+        low = omega arith;
+        high = omega (arith, room);
+        other_low = omega (arith, l);
+        other_high = second;
+      }
       | inr l ↦ record { address = r.paddr; low = l; high = first; other_low = omega arith; other_high = omega (arith, more) }
     ]
 
@@ -61,13 +67,21 @@ none_overlaps rs clean i j o =
     let n = s.3 in
     let P : List Untyped → Type 0 = λ z. slice_get z i ≡ Some o.first in
     let first = front_get s.0 (o.second ∷ s.1) i o.first (subst P s.2 o.at_first) (omega (arith, l, n)) in
-    none_passes (shares o.second) s.0 i o.first (none_at (position (shares o.second) s.0) (length s.0) (clean s.0 s.1 o.second s.2)) first (sharing o.second o.first o.shared)
+    none_passes (shares o.second) s.0 i o.first (none_at (position (shares o.second) s.0) (length s.0)
+    (clean s.0 s.1 o.second s.2)) first (sharing o.second o.first o.shared)
 
 -- the overlaps of a front
 overlap_front : (p q : List Untyped) (i j : ℕ) → Overlap (p ++ q) i j → j < length p → Overlap p i j
 overlap_front p q i j o l =
     let r = o.order in
-    record { first = o.first; second = o.second; at_first = front_get p q i o.first o.at_first (omega (arith, l, r)); at_second = front_get p q j o.second o.at_second l; order = o.order; shared = o.shared }
+    record {
+      first = o.first;
+      second = o.second;
+      at_first = front_get p q i o.first o.at_first (omega (arith, l, r));
+      at_second = front_get p q j o.second o.at_second l;
+      order = o.order;
+      shared = o.shared;
+    }
 
 from_overlap : (rs : List Untyped) (i j : ℕ) → first_overlap rs ≡ Some (i, j) → IsFirstOverlap rs i j
 from_overlap rs i j e =
@@ -94,7 +108,8 @@ from_overlap rs i j e =
       first = λ k l o. earliest f k l o (get_or f.front i r) p.2 is_j;
     }
   where
-    earliest : (f : First overlap_at [] rs (i, j)) (k l : ℕ) → Overlap rs k l → Untyped → ((n : ℕ) → n < i → shares f.item (get_or f.front n f.item) ≡ false) → length f.front ≡ j
+    earliest : (f : First overlap_at [] rs (i, j)) (k l : ℕ) → Overlap rs k l → Untyped
+        → ((n : ℕ) → n < i → shares f.item (get_or f.front n f.item) ≡ false) → length f.front ≡ j
         → (j < l) ⊎ ((l ≡ j) × (i ≤ k))
     earliest f k l o x least is_j = elim (cases_lt j l) [
       | inl more ↦ inl more
@@ -117,8 +132,10 @@ from_overlap rs i j e =
               let P : List Untyped → Type 0 = λ z. slice_get z k ≡ Some o.first in
               let Q : List Untyped → Type 0 = λ z. slice_get z l ≡ Some o.second in
               let order = o.order in
-              let here : slice_get f.front k ≡ Some o.first = front_get f.front (f.item ∷ f.rest) k o.first (subst P f.split o.at_first) (omega (arith, order, same, is_j)) in
-              let item : slice_get (f.front ++ f.item ∷ f.rest) l ≡ Some f.item = get_behind f.front (f.item ∷ f.rest) 0 l (omega (arith, same, is_j)) in
+              let here : slice_get f.front k ≡ Some o.first = front_get f.front (f.item ∷ f.rest) k o.first
+              (subst P f.split o.at_first) (omega (arith, order, same, is_j)) in
+              let item : slice_get (f.front ++ f.item ∷ f.rest) l ≡ Some f.item = get_behind f.front (f.item ∷ f.rest) 0 l
+              (omega (arith, same, is_j)) in
               let at_l = subst Q f.split o.at_second in
               let second : o.second ≡ f.item = let a = sym at_l ∙ item in cc in
               let is_first = get_or_from_slice_get f.front k o.first f.item here in
@@ -140,7 +157,8 @@ same_first rs i j k l a b = by_both (a.first k l b.overlap) (b.first i j a.overl
     by_both (inr (x, z)) (inl y) = absurd (omega (arith, x, y))
     by_both (inr (x, z)) (inr (y, w)) = (omega (arith, z, w), y)
 
-pub overlaps : (rs : List Untyped) (i j : ℕ) → (first_overlap rs ≡ Some (i, j) → IsFirstOverlap rs i j) × (IsFirstOverlap rs i j → first_overlap rs ≡ Some (i, j))
+pub overlaps : (rs : List Untyped) (i j : ℕ) → (first_overlap rs ≡ Some (i, j) → IsFirstOverlap rs i j) × (IsFirstOverlap rs i j
+    → first_overlap rs ≡ Some (i, j))
 overlaps rs i j = (from_overlap rs i j, λ f. by_case (first_overlap rs) refl f)
   where
     by_case : (o : Option (ℕ × ℕ)) → first_overlap rs ≡ o → IsFirstOverlap rs i j → first_overlap rs ≡ Some (i, j)

@@ -18,29 +18,36 @@ all_by P [] x a i = absurd i
 all_by {X} P (y ∷ xs) x a (inl e) = subst P e a.0
 all_by P (y ∷ xs) x a (inr i) = all_by P xs x a.1 i
 
-lies_in_one : (device : Bool) (b : Bytes) (rs : List Untyped) → LieInOne device b rs → (r : Untyped) × IsIn r rs × LieIn device b r
+lies_in_one : (device : Bool) (b : Bytes) (rs : List Untyped) → LieInOne device b rs
+    → (r : Untyped) × IsIn r rs × LieIn device b r
 lies_in_one device b [] l = absurd l
 lies_in_one device b (r ∷ rs) (inl l) = (r, inl refl, l)
 lies_in_one device b (r ∷ rs) (inr l) = let k = lies_in_one device b rs l in (k.0, inr k.1, k.2)
 
-suit_at : (rs : List Untyped) (ns : List Need) (places : List (Option ℕ)) (k : ℕ) (n : Need) → AllSuit rs ns places → slice_get ns k ≡ Some n
+suit_at : (rs : List Untyped) (ns : List Need) (places : List (Option ℕ)) (k : ℕ) (n : Need) → AllSuit rs ns places
+    → slice_get ns k ≡ Some n
     → (p : Option ℕ) × (slice_get places k ≡ Some p) × Suits rs n p
 suit_at rs [] places k n a e = cc
 suit_at rs (m ∷ ns) [] k n a e = absurd a
-suit_at rs (m ∷ ns) (p ∷ places) zero n a e = let same : m ≡ n = cc in let P : Need → Type 0 = λ z. Suits rs z p in (p, refl, subst P same a.0)
+suit_at rs (m ∷ ns) (p ∷ places) zero n a e = let same : m ≡ n = cc in let P : Need → Type 0 = λ z. Suits rs z p in
+    (p, refl, subst P same a.0)
 suit_at rs (m ∷ ns) (p ∷ places) (suc k) n a e = suit_at rs ns places k n a.1 e
 
-bytes_in : (ns : List Need) (places : List (Option ℕ)) (k : ℕ) (n : Need) (first : ℕ) → slice_get ns k ≡ Some n → slice_get places k ≡ Some (Some first)
+bytes_in : (ns : List Need) (places : List (Option ℕ)) (k : ℕ) (n : Need) (first : ℕ) → slice_get ns k ≡ Some n
+    → slice_get places k ≡ Some (Some first)
     → IsIn (bytes_of n first) (all_bytes ns places)
 bytes_in [] places k n first e f = cc
 bytes_in (m ∷ ns) [] k n first e f = cc
-bytes_in (m ∷ ns) (Some p ∷ places) zero n first e f = let a : m ≡ n = cc in let b : p ≡ first = cc in inl (ap (λ z. bytes_of z p) a ∙ ap (bytes_of n) b)
+bytes_in (m ∷ ns) (Some p ∷ places) zero n first e f = let a : m ≡ n = cc in let b : p ≡ first = cc in
+    inl (ap (λ z. bytes_of z p) a ∙ ap (bytes_of n) b)
 bytes_in (m ∷ ns) (None ∷ places) zero n first e f = cc
 bytes_in (m ∷ ns) (Some p ∷ places) (suc k) n first e f = inr (bytes_in ns places k n first e f)
 bytes_in (m ∷ ns) (None ∷ places) (suc k) n first e f = bytes_in ns places k n first e f
 
-apart_at : (ns : List Need) (places : List (Option ℕ)) (i j : ℕ) (n m : Need) (a b : ℕ) → AllApart (all_bytes ns places) → i < j → slice_get ns i ≡ Some n
-    → slice_get places i ≡ Some (Some a) → slice_get ns j ≡ Some m → slice_get places j ≡ Some (Some b) → Apart (bytes_of n a) (bytes_of m b)
+apart_at : (ns : List Need) (places : List (Option ℕ)) (i j : ℕ) (n m : Need) (a b : ℕ) → AllApart (all_bytes ns places) → i < j
+    → slice_get ns i ≡ Some n
+    → slice_get places i ≡ Some (Some a) → slice_get ns j ≡ Some m → slice_get places j ≡ Some (Some b)
+    → Apart (bytes_of n a) (bytes_of m b)
 apart_at [] places i j n m a b all l e f g h = cc
 apart_at (x ∷ ns) [] i j n m a b all l e f g h = cc
 apart_at (x ∷ ns) (p ∷ places) i zero n m a b all l e f g h = absurd (omega (arith, l))
@@ -49,35 +56,47 @@ apart_at (x ∷ ns) (Some p ∷ places) zero (suc j) n m a b all l e f g h =
     let t : p ≡ a = cc in
     let P : Need → Type 0 = λ z. Apart (bytes_of z p) (bytes_of m b) in
     let Q : ℕ → Type 0 = λ z. Apart (bytes_of n z) (bytes_of m b) in
-    subst Q t (subst P s (all_by (Apart (bytes_of x p)) (all_bytes ns places) (bytes_of m b) all.0 (bytes_in ns places j m b g h)))
+    subst Q t (subst P s (all_by (Apart (bytes_of x p)) (all_bytes ns places) (bytes_of m b) all.0
+    (bytes_in ns places j m b g h)))
 apart_at (x ∷ ns) (None ∷ places) zero (suc j) n m a b all l e f g h = cc
-apart_at (x ∷ ns) (Some p ∷ places) (suc i) (suc j) n m a b all l e f g h = apart_at ns places i j n m a b all.1 (omega (arith, l)) e f g h
-apart_at (x ∷ ns) (None ∷ places) (suc i) (suc j) n m a b all l e f g h = apart_at ns places i j n m a b all (omega (arith, l)) e f g h
+apart_at (x ∷ ns) (Some p ∷ places) (suc i) (suc j) n m a b all l e f g h =
+    apart_at ns places i j n m a b all.1 (omega (arith, l)) e f g h
+apart_at (x ∷ ns) (None ∷ places) (suc i) (suc j) n m a b all l e f g h =
+    apart_at ns places i j n m a b all (omega (arith, l)) e f g h
 
 -- bytes that are apart share no address
-no_address : (n m : Need) (a b address : ℕ) → Apart (bytes_of n a) (bytes_of m b) → a ≤ address → address < a + 2 ^ bits_of n → b ≤ address → address < b + 2 ^ bits_of m → ⊥
+no_address : (n m : Need) (a b address : ℕ) → Apart (bytes_of n a) (bytes_of m b) → a ≤ address → address < a + 2 ^ bits_of n
+    → b ≤ address → address < b + 2 ^ bits_of m → ⊥
 no_address n m a b address (inl l) p q r s = omega (arith, l, q, r)
 no_address n m a b address (inr l) p q r s = omega (arith, l, p, s)
 
 pub apart : (rs : List Untyped) (ns : List Need) (places : List (Option ℕ)) → Placed ns rs places → AreApart ns places
 apart rs ns places placed i j a b address x y p q = elim (cases_lt i j) [
-  | inl l ↦ absurd (no_address x.need y.need a b address (apart_at ns places i j x.need y.need a b placed.apart l x.needed x.placed y.needed y.placed) p.0 p.1 q.0 q.1)
+  | inl l ↦
+      absurd (no_address x.need y.need a b address (apart_at ns places i j x.need y.need a b placed.apart l x.needed x.placed
+      y.needed y.placed) p.0 p.1 q.0 q.1)
   | inr l ↦ elim (cases_lt j i) [
-    | inl k ↦ absurd (no_address y.need x.need b a address (apart_at ns places j i y.need x.need b a placed.apart k y.needed y.placed x.needed x.placed) q.0 q.1 p.0 p.1)
+    | inl k ↦
+        absurd (no_address y.need x.need b a address (apart_at ns places j i y.need x.need b a placed.apart k y.needed y.placed
+        x.needed x.placed) q.0 q.1 p.0 p.1)
     | inr k ↦ omega (arith, l, k)
   ]
 ]
 
-pub devices_placed : (rs : List Untyped) (ns : List Need) (places : List (Option ℕ)) → Placed ns rs places → AreDevicesPlaced rs ns places
+pub devices_placed : (rs : List Untyped) (ns : List Need) (places : List (Option ℕ)) → Placed ns rs places
+    → AreDevicesPlaced rs ns places
 devices_placed rs ns places placed k paddr e =
     let s = suit_at rs ns places k (DevicePage paddr) placed.suit e in
     let r = lies_in_one true (record { first = paddr; bits = 12 }) rs s.2.1 in
     (s.1 ∙ ap Some s.2.0, record { region = r.0; one = r.1; lies = r.2 })
 
-pub blocks_placed : (rs : List Untyped) (ns : List Need) (places : List (Option ℕ)) → Placed ns rs places → AreBlocksPlaced rs ns places
+pub blocks_placed : (rs : List Untyped) (ns : List Need) (places : List (Option ℕ)) → Placed ns rs places
+    → AreBlocksPlaced rs ns places
 blocks_placed rs ns places placed k bits e = let s = suit_at rs ns places k (Block bits) placed.suit e in by_place s.0 s.1 s.2
   where
     by_place : (p : Option ℕ) → slice_get places k ≡ Some p → Suits rs (Block bits) p
-        → (first : ℕ) × (r : Untyped) × (slice_get places k ≡ Some (Some first)) × IsIn r rs × LieIn false (record { first = first; bits = bits }) r
+        → (first : ℕ) × (r : Untyped) × (slice_get places k ≡ Some (Some first)) × IsIn r rs
+        × LieIn false (record { first = first; bits = bits }) r
     by_place None s t = absurd t
-    by_place (Some first) s t = let r = lies_in_one false (record { first = first; bits = bits }) rs t.1 in (first, r.0, s, r.1, r.2)
+    by_place (Some first) s t = let r = lies_in_one false (record { first = first; bits = bits }) rs t.1 in
+        (first, r.0, s, r.1, r.2)

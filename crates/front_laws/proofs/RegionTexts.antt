@@ -41,17 +41,20 @@ as_first before (l ∷ ls) n e =
 read_clean : (before : List Line) (l : Line) → said before l ≡ None → SpellsRegion l × (length before < regions_limit)
 read_clean before l e = by_region (region_of (fields l.text)) refl e
   where
-    by_region : (o : Option Untyped) → region_of (fields l.text) ≡ o → bad_of (judged (length before) l o) ≡ None → SpellsRegion l × (length before < regions_limit)
+    by_region : (o : Option Untyped) → region_of (fields l.text) ≡ o → bad_of (judged (length before) l o) ≡ None
+        → SpellsRegion l × (length before < regions_limit)
     by_region None s e = cc
     by_region (Some r) s e = by_room (nat_lt (length before) regions_limit) refl e
       where
-        by_room : (b : Bool) → nat_lt (length before) regions_limit ≡ b → bad_of (cond b (Ok r) (Err (fault_at untyped.Limit l))) ≡ None → SpellsRegion l × (length before < regions_limit)
+        by_room : (b : Bool) → nat_lt (length before) regions_limit ≡ b
+            → bad_of (cond b (Ok r) (Err (fault_at untyped.Limit l))) ≡ None → SpellsRegion l × (length before < regions_limit)
         by_room true t e = ((r, s), ltb-true (length before) regions_limit t)
         by_room false t e = cc
 
 clean_read : (before : List Line) (l : Line) → SpellsRegion l → length before < regions_limit → said before l ≡ None
 clean_read before l r m =
-    ap (λ o. bad_of (judged (length before) l o)) r.1 ∙ ap (λ b. bad_of (cond b (Ok r.0) (Err (fault_at untyped.Limit l)))) (lt-ltb (length before) regions_limit m)
+    ap (λ o. bad_of (judged (length before) l o)) r.1 ∙ ap (λ b. bad_of (cond b (Ok r.0) (Err (fault_at untyped.Limit l))))
+    (lt-ltb (length before) regions_limit m)
 
 -- ---- the lines in front
 
@@ -71,7 +74,8 @@ few (x ∷ xs) clean =
     let many : suc (length xs) ≡ length r.0 + 1 = ap length r.2 ∙ length-append r.0 (r.1 ∷ []) in
     omega (arith, k, many)
 
-all_clean : (front : List Line) → ((l : Line) → IsIn l front → SpellsRegion l) → length front ≤ regions_limit → IsClean said [] front
+all_clean : (front : List Line) → ((l : Line) → IsIn l front → SpellsRegion l) → length front ≤ regions_limit
+    → IsClean said [] front
 all_clean front read low p q y e =
     let P : List Line → Type 0 = λ z. IsIn y z in
     let many : length front ≡ length p + suc (length q) = ap length e ∙ length-append p (y ∷ q) in
@@ -81,19 +85,22 @@ all_clean front read low p q y e =
 
 -- what the first line says
 head_case : (ls : List Line) → ((l : Line) × (more : List Line) × (ls ≡ l ∷ more) × (bytes_eq l.text (codes "untypeds 1") ≡ true))
-    ⊎ (((l : Line) (more : List Line) → ls ≡ l ∷ more → l.text ≡ codes "untypeds 1" → ⊥) × (fault_in ls ≡ Some (fault untyped.Syntax 0 0)))
+    ⊎ (((l : Line) (more : List Line) → ls ≡ l ∷ more → l.text ≡ codes "untypeds 1" → ⊥)
+    × (fault_in ls ≡ Some (fault untyped.Syntax 0 0)))
 head_case [] = inr (λ l more e s. cc, refl)
 head_case (l ∷ more) = elim (cases_Bool (bytes_eq l.text (codes "untypeds 1"))) [
   | inl t ↦ inl (l, more, refl, t)
   | inr t ↦ inr (
-    λ k ks e s. let same : l ≡ k = cc in true≢false (sym ((bytes_eq-Decides l.text (codes "untypeds 1")).1 (ap (λ (z : Line). z.text) same ∙ s)) ∙ t),
+    λ k ks e s. let same : l ≡ k = cc in
+        true≢false (sym ((bytes_eq-Decides l.text (codes "untypeds 1")).1 (ap (λ (z : Line). z.text) same ∙ s)) ∙ t),
     ap (λ b. cond b (first_bad 0 more) (Some (fault untyped.Syntax 0 0))) t,
   )
 ]
 
 with_head : (bytes : List ℕ) (more : List Line) → HasHead bytes more → first_fault bytes ≡ first_bad 0 more
 with_head bytes more h =
-    ap fault_in h.all ∙ ap (λ b. cond b (first_bad 0 more) (Some (fault untyped.Syntax 0 0))) ((bytes_eq-Decides h.head.text (codes "untypeds 1")).1 h.says)
+    ap fault_in h.all ∙ ap (λ b. cond b (first_bad 0 more) (Some (fault untyped.Syntax 0 0)))
+    ((bytes_eq-Decides h.head.text (codes "untypeds 1")).1 h.says)
 
 -- a text without its first line
 headless : (bytes : List ℕ) → ((more : List Line) → HasHead bytes more → ⊥) → first_fault bytes ≡ Some (fault untyped.Syntax 0 0)
@@ -103,17 +110,20 @@ headless bytes none = elim (head_case (lines bytes)) [
 ]
 
 -- the fault at a line, by what the line spells
-at_line : (bytes : List ℕ) (f : UntypedFault) (more : List Line) → HasHead bytes more → First said [] more f → IsRegionFault bytes f
+at_line : (bytes : List ℕ) (f : UntypedFault) (more : List Line) → HasHead bytes more → First said [] more f
+    → IsRegionFault bytes f
 at_line bytes f more h r = by_region (region_of (fields r.item.text)) refl r.says
   where
     here : IsRegionLine more r.front r.item
     here = record { after = r.rest; split = r.split; read = all_read r.front r.clean; room = few r.front r.clean }
 
-    by_region : (o : Option Untyped) → region_of (fields r.item.text) ≡ o → bad_of (judged (length r.front) r.item o) ≡ Some f → IsRegionFault bytes f
+    by_region : (o : Option Untyped) → region_of (fields r.item.text) ≡ o → bad_of (judged (length r.front) r.item o) ≡ Some f
+        → IsRegionFault bytes f
     by_region None s e = let same : fault_at untyped.Syntax r.item ≡ f = cc in no_region more r.front r.item h here s (sym same)
     by_region (Some x) s e = by_room (nat_lt (length r.front) regions_limit) refl e
       where
-        by_room : (b : Bool) → nat_lt (length r.front) regions_limit ≡ b → bad_of (cond b (Ok x) (Err (fault_at untyped.Limit r.item))) ≡ Some f → IsRegionFault bytes f
+        by_room : (b : Bool) → nat_lt (length r.front) regions_limit ≡ b
+            → bad_of (cond b (Ok x) (Err (fault_at untyped.Limit r.item))) ≡ Some f → IsRegionFault bytes f
         by_room true t e = cc
         by_room false t e =
             let same : fault_at untyped.Limit r.item ≡ f = cc in
@@ -124,7 +134,11 @@ at_line bytes f more h r = by_region (region_of (fields r.item.text)) refl r.say
 pub from_region_fault : (bytes : List ℕ) (f : UntypedFault) → first_fault bytes ≡ Some f → IsRegionFault bytes f
 from_region_fault bytes f e = elim (head_case (lines bytes)) [
   | inl x ↦
-      let h : HasHead bytes x.1 = record { head = x.0; all = x.2; says = (bytes_eq-Decides x.0.text (codes "untypeds 1")).0 x.3 } in
+      let h : HasHead bytes x.1 = record {
+        head = x.0;
+        all = x.2;
+        says = (bytes_eq-Decides x.0.text (codes "untypeds 1")).0 x.3;
+      } in
       at_line bytes f x.1 h (from_first said [] x.1 f (sym (as_first [] x.1 0 refl) ∙ sym (with_head bytes x.1 h) ∙ e))
   | inr t ↦
       let says = t.1 in
@@ -136,21 +150,28 @@ pub in_region_fault : (bytes : List ℕ) (f : UntypedFault) → IsRegionFault by
 in_region_fault bytes f (no_head none e) = headless bytes none ∙ ap Some (sym e)
 in_region_fault bytes f (no_region more before line h r none e) =
     with_head bytes more h ∙ as_first [] more 0 refl ∙ ap (first_of said []) r.split
-    ∙ in_first said [] before line r.after f (ap (λ o. bad_of (judged (length before) line o)) none ∙ ap Some (sym e)) (all_clean before r.read r.room)
+    ∙ in_first said [] before line r.after f (ap (λ o. bad_of (judged (length before) line o)) none ∙ ap Some (sym e))
+    (all_clean before r.read r.room)
 in_region_fault bytes f (one_region_more more before line h r s full e) =
     let past : nat_lt (length before) regions_limit ≡ false = grind (arith, nat_tests) in
     with_head bytes more h ∙ as_first [] more 0 refl ∙ ap (first_of said []) r.split
     ∙ in_first said [] before line r.after f
-    (ap (λ o. bad_of (judged (length before) line o)) s.1 ∙ ap (λ b. bad_of (cond b (Ok s.0) (Err (fault_at untyped.Limit line)))) past ∙ ap Some (sym e)) (all_clean before r.read r.room)
+    (ap (λ o. bad_of (judged (length before) line o)) s.1 ∙ ap (λ b. bad_of (cond b (Ok s.0) (Err (fault_at untyped.Limit line))))
+    past ∙ ap Some (sym e)) (all_clean before r.read r.room)
 
 pub from_no_fault : (bytes : List ℕ) → first_fault bytes ≡ None → AreRegionsRead bytes
 from_no_fault bytes e = elim (head_case (lines bytes)) [
   | inl x ↦
-      let h : HasHead bytes x.1 = record { head = x.0; all = x.2; says = (bytes_eq-Decides x.0.text (codes "untypeds 1")).0 x.3 } in
+      let h : HasHead bytes x.1 = record {
+        head = x.0;
+        all = x.2;
+        says = (bytes_eq-Decides x.0.text (codes "untypeds 1")).0 x.3;
+      } in
       let clean = from_none said [] x.1 (sym (as_first [] x.1 0 refl) ∙ sym (with_head bytes x.1 h) ∙ e) in
       record { more = x.1; head = h; read = all_read x.1 clean; few = few x.1 clean }
   | inr t ↦ absurd (let says = t.1 in cc)
 ]
 
 pub in_no_fault : (bytes : List ℕ) → AreRegionsRead bytes → first_fault bytes ≡ None
-in_no_fault bytes a = with_head bytes a.more a.head ∙ as_first [] a.more 0 refl ∙ in_none said [] a.more (all_clean a.more a.read a.few)
+in_no_fault bytes a = with_head bytes a.more a.head ∙ as_first [] a.more 0 refl
+    ∙ in_none said [] a.more (all_clean a.more a.read a.few)

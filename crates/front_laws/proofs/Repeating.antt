@@ -34,10 +34,18 @@ from_after met (w ∷ ws) f i =
       | inl j ↦ let k = from_true (met w.name) (at_word code.Duplicate w) f j in
           record { before = []; word = w; after = ws; split = refl; fault = sym k.1; why = inl k.0 }
       | inr j ↦ let r = from_after more ws f j in
-          record { before = w ∷ r.before; word = r.word; after = r.after; split = ap (λ z. w ∷ z) r.split; fault = r.fault; why = wider r.word r.before r.why }
+          record {
+            before = w ∷ r.before;
+            word = r.word;
+            after = r.after;
+            split = ap (λ z. w ∷ z) r.split;
+            fault = r.fault;
+            why = wider r.word r.before r.why;
+          }
     ]
   where
-    wider : (v : Id) (before : List Id) → ((met v.name || bytes_eq v.name w.name) ≡ true) ⊎ ((e : Id) × IsIn e before × (e.name ≡ v.name))
+    wider : (v : Id) (before : List Id) → ((met v.name || bytes_eq v.name w.name) ≡ true)
+        ⊎ ((e : Id) × IsIn e before × (e.name ≡ v.name))
         → (met v.name ≡ true) ⊎ ((e : Id) × IsIn e (w ∷ before) × (e.name ≡ v.name))
     wider v before (inl t) = elim (or_cases (met v.name) (bytes_eq v.name w.name) t) [
       | inl m ↦ inl m
@@ -45,19 +53,24 @@ from_after met (w ∷ ws) f i =
     ]
     wider v before (inr x) = inr (x.0, inr x.1, x.2)
 
-into_after : (met : Name → Bool) (before : List Id) (w : Id) (after : List Id) → (met w.name ≡ true) ⊎ ((e : Id) × IsIn e before × (e.name ≡ w.name))
+into_after : (met : Name → Bool) (before : List Id) (w : Id) (after : List Id)
+    → (met w.name ≡ true) ⊎ ((e : Id) × IsIn e before × (e.name ≡ w.name))
     → IsIn (at_word code.Duplicate w) (repeats_after met (before ++ w ∷ after))
 into_after met [] w after (inl t) =
-    in_left (at_word code.Duplicate w) (where_true (met w.name) (at_word code.Duplicate w)) (repeats_after (λ n. met n || bytes_eq n w.name) after) (in_true (met w.name) (at_word code.Duplicate w) t)
+    in_left (at_word code.Duplicate w) (where_true (met w.name) (at_word code.Duplicate w))
+    (repeats_after (λ n. met n || bytes_eq n w.name) after) (in_true (met w.name) (at_word code.Duplicate w) t)
 into_after met [] w after (inr x) = absurd x.1
 into_after met (v ∷ before) w after why =
     let more : Name → Bool = λ n. met n || bytes_eq n v.name in
-    in_right (at_word code.Duplicate w) (where_true (met v.name) (at_word code.Duplicate v)) (repeats_after more (before ++ w ∷ after)) (into_after more before w after (narrower why))
+    in_right (at_word code.Duplicate w) (where_true (met v.name) (at_word code.Duplicate v))
+    (repeats_after more (before ++ w ∷ after)) (into_after more before w after (narrower why))
   where
     narrower : (met w.name ≡ true) ⊎ ((e : Id) × IsIn e (v ∷ before) × (e.name ≡ w.name))
         → ((met w.name || bytes_eq w.name v.name) ≡ true) ⊎ ((e : Id) × IsIn e before × (e.name ≡ w.name))
     narrower (inl t) = inl (or_left (met w.name) (bytes_eq w.name v.name) t)
-    narrower (inr (e, inl s, same)) = inl (or_right (met w.name) (bytes_eq w.name v.name) ((bytes_eq-Decides w.name v.name).1 (sym same ∙ ap (λ (x : Id). x.name) (sym s))))
+    narrower (inr (e, inl s, same)) =
+        inl (or_right (met w.name) (bytes_eq w.name v.name)
+        ((bytes_eq-Decides w.name v.name).1 (sym same ∙ ap (λ (x : Id). x.name) (sym s))))
     narrower (inr (e, inr i, same)) = inr (e, i, same)
 
 -- a word that repeats a name, with the fault at it
@@ -66,9 +79,17 @@ from_repeats ws f i =
     let r = from_after (λ n. false) ws f i in
     (r.word, again_of r.before r.word r.after r.split r.why, r.fault)
   where
-    again_of : (before : List Id) (w : Id) (after : List Id) → ws ≡ before ++ w ∷ after → (false ≡ true) ⊎ ((e : Id) × IsIn e before × (e.name ≡ w.name)) → IsAgain ws w
+    again_of : (before : List Id) (w : Id) (after : List Id) → ws ≡ before ++ w ∷ after
+        → (false ≡ true) ⊎ ((e : Id) × IsIn e before × (e.name ≡ w.name)) → IsAgain ws w
     again_of before w after e (inl never) = cc
-    again_of before w after e (inr x) = record { before = before; after = after; split = e; earlier = x.0; stands = x.1; alike = x.2 }
+    again_of before w after e (inr x) = record {
+      before = before;
+      after = after;
+      split = e;
+      earlier = x.0;
+      stands = x.1;
+      alike = x.2;
+    }
 
 in_repeats : (ws : List Id) (w : Id) → IsAgain ws w → IsIn (at_word code.Duplicate w) (repeats ws)
 in_repeats ws w a =
@@ -89,17 +110,20 @@ drop_map f [] = refl
 drop_map f (x ∷ xs) = refl
 
 -- what stands again, by its place
-from_again : {X : Type 0} (place : X → Place) (xs : List X) (f : Fault) → IsIn f (again (map place xs)) → (x : X) × IsLater xs x × (f ≡ at_keyword code.Duplicate (place x))
+from_again : {X : Type 0} (place : X → Place) (xs : List X) (f : Fault) → IsIn f (again (map place xs))
+    → (x : X) × IsLater xs x × (f ≡ at_keyword code.Duplicate (place x))
 from_again {X} place xs f i =
     let p = from_map (λ p. at_keyword code.Duplicate p) f (drop 1 (map place xs)) i in
     let P : List Place → Type 0 = λ ps. IsIn p.0 ps in
     let x = from_map place p.0 (drop 1 xs) (subst P (drop_map place xs) p.1) in
     (x.0, from_dropped xs x.0 x.1, sym p.2 ∙ ap (λ q. at_keyword code.Duplicate q) (sym x.2))
 
-in_again : {X : Type 0} (place : X → Place) (xs : List X) (x : X) → IsLater xs x → IsIn (at_keyword code.Duplicate (place x)) (again (map place xs))
+in_again : {X : Type 0} (place : X → Place) (xs : List X) (x : X) → IsLater xs x
+    → IsIn (at_keyword code.Duplicate (place x)) (again (map place xs))
 in_again {X} place xs x l =
     let P : List Place → Type 0 = λ ps. IsIn (place x) ps in
-    in_map (λ p. at_keyword code.Duplicate p) (place x) (drop 1 (map place xs)) (subst P (sym (drop_map place xs)) (in_map place x (drop 1 xs) (in_dropped xs x l)))
+    in_map (λ p. at_keyword code.Duplicate p) (place x) (drop 1 (map place xs))
+    (subst P (sym (drop_map place xs)) (in_map place x (drop 1 xs) (in_dropped xs x l)))
 
 -- ---- in a source
 
@@ -118,18 +142,23 @@ later_configurations c = again (map (λ f. f.place) (configurations c))
 a_word : (s : Source) (ws : List Id) (f : Fault) → MustDiffer s ws → IsIn f (repeats ws) → IsDuplicate s f
 a_word s ws f d i = let r = from_repeats ws f i in a_name ws r.0 d r.1 r.2
 
-from_composition : (s : Source) (owner : Option Known) (k : Composition) (f : Fault) → HasComposition s owner k → IsIn f (duplicates_in_composition k) → IsDuplicate s f
+from_composition : (s : Source) (owner : Option Known) (k : Composition) (f : Fault) → HasComposition s owner k
+    → IsIn f (duplicates_in_composition k) → IsDuplicate s f
 from_composition s owner k f h i = a_word s (map (λ x. x.0) (held_in k)) f (of_composition owner k h) i
 
-from_procedure : (s : Source) (p : Procedure) (f : Fault) → HasItem s (items.Procedure p) → IsIn f (duplicates_in_procedure p) → IsDuplicate s f
+from_procedure : (s : Source) (p : Procedure) (f : Fault) → HasItem s (items.Procedure p) → IsIn f (duplicates_in_procedure p)
+    → IsDuplicate s f
 from_procedure s p f h i = elim (in_append f (repeats (map (λ m. m.id) (methods p))) (flat_map repeated_params (methods p)) i) [
   | inl j ↦ a_word s (map (λ m. m.id) (methods p)) f (of_methods p h) j
-  | inr j ↦ let m = from_flat_map repeated_params f (methods p) j in a_word s (map (λ a. a.id) m.0.params) f (of_params p m.0 h m.1) m.2
+  | inr j ↦ let m = from_flat_map repeated_params f (methods p) j in
+      a_word s (map (λ a. a.id) m.0.params) f (of_params p m.0 h m.1) m.2
 ]
 
-from_component : (s : Source) (c : Component) (f : Fault) → HasItem s (items.Component c) → IsIn f (duplicates_in_component c) → IsDuplicate s f
+from_component : (s : Source) (c : Component) (f : Fault) → HasItem s (items.Component c) → IsIn f (duplicates_in_component c)
+    → IsDuplicate s f
 from_component s c f h i =
-    elim (in_append f (repeats (map (λ d. d.0) (declared_in c)) ++ later_compositions c ++ later_configurations c) (flat_map duplicates_in_composition (compositions c)) i) [
+    elim (in_append f (repeats (map (λ d. d.0) (declared_in c)) ++ later_compositions c ++ later_configurations c)
+    (flat_map duplicates_in_composition (compositions c)) i) [
       | inl j ↦ elim (in_append f (repeats (map (λ d. d.0) (declared_in c)) ++ later_compositions c) (later_configurations c) j) [
         | inl k ↦ elim (in_append f (repeats (map (λ d. d.0) (declared_in c))) (later_compositions c) k) [
           | inl l ↦ a_word s (map (λ d. d.0) (declared_in c)) f (of_members c h) l
@@ -137,7 +166,8 @@ from_component s c f h i =
         ]
         | inr k ↦ let x = from_again (λ (g : Configuration). g.place) (configurations c) f k in a_configuration c x.0 h x.1 x.2
       ]
-      | inr j ↦ let x = from_flat_map duplicates_in_composition f (compositions c) j in from_composition s (Some (known_of c)) x.0 f (of_component c x.0 h x.1) x.2
+      | inr j ↦ let x = from_flat_map duplicates_in_composition f (compositions c) j in
+          from_composition s (Some (known_of c)) x.0 f (of_component c x.0 h x.1) x.2
     ]
 
 from_item : (s : Source) (x : Item) (f : Fault) → HasItem s x → IsIn f (duplicates_in_item x) → IsDuplicate s f
@@ -147,13 +177,16 @@ from_item s (items.Component c) f h j = from_component s c f h j
 from_item s (items.Assembly a) f h j = from_composition s None a.composition f (of_assembly a h) j
 
 pub from_duplicates : (s : Source) (f : Fault) → IsIn f (duplicates s) → IsDuplicate s f
-from_duplicates s f i = elim (in_append f (repeats (procedure_names s) ++ repeats (component_names s)) (flat_map (λ x. duplicates_in_item x.1) (items_of s)) i) [
-  | inl j ↦ elim (in_append f (repeats (procedure_names s)) (repeats (component_names s)) j) [
-    | inl k ↦ a_word s (procedure_names s) f of_procedures k
-    | inr k ↦ a_word s (component_names s) f of_components k
-  ]
-  | inr j ↦ let x = from_flat_map (λ (y : ItemAt × Item). duplicates_in_item y.1) f (items_of s) j in from_item s x.0.1 f (record { at = x.0.0; stands = x.1 }) x.2
-]
+from_duplicates s f i =
+    elim (in_append f (repeats (procedure_names s) ++ repeats (component_names s))
+    (flat_map (λ x. duplicates_in_item x.1) (items_of s)) i) [
+      | inl j ↦ elim (in_append f (repeats (procedure_names s)) (repeats (component_names s)) j) [
+        | inl k ↦ a_word s (procedure_names s) f of_procedures k
+        | inr k ↦ a_word s (component_names s) f of_components k
+      ]
+      | inr j ↦ let x = from_flat_map (λ (y : ItemAt × Item). duplicates_in_item y.1) f (items_of s) j in
+          from_item s x.0.1 f (record { at = x.0.0; stands = x.1 }) x.2
+    ]
 
 -- ---- and back
 
@@ -181,15 +214,19 @@ in_configurations c f i =
     in_left f (names ++ later_compositions c ++ later_configurations c) (flat_map duplicates_in_composition (compositions c))
     (in_right f (names ++ later_compositions c) (later_configurations c) i)
 
-in_one_composition : (c : Component) (k : Composition) (f : Fault) → IsIn k (compositions c) → IsIn f (duplicates_in_composition k) → IsIn f (duplicates_in_component c)
+in_one_composition : (c : Component) (k : Composition) (f : Fault) → IsIn k (compositions c)
+    → IsIn f (duplicates_in_composition k) → IsIn f (duplicates_in_component c)
 in_one_composition c k f j i =
     let names = repeats (map (λ d. d.0) (declared_in c)) in
-    in_right f (names ++ later_compositions c ++ later_configurations c) (flat_map duplicates_in_composition (compositions c)) (in_flat_map duplicates_in_composition k f (compositions c) j i)
+    in_right f (names ++ later_compositions c ++ later_configurations c) (flat_map duplicates_in_composition (compositions c))
+    (in_flat_map duplicates_in_composition k f (compositions c) j i)
 
-in_component : (s : Source) (c : Component) (f : Fault) → HasItem s (items.Component c) → IsIn f (duplicates_in_component c) → IsIn f (duplicates s)
+in_component : (s : Source) (c : Component) (f : Fault) → HasItem s (items.Component c) → IsIn f (duplicates_in_component c)
+    → IsIn f (duplicates s)
 in_component s c f h i = in_items s (items.Component c) f h i
 
-in_composition : (s : Source) (owner : Option Known) (k : Composition) (f : Fault) → HasComposition s owner k → IsIn f (duplicates_in_composition k) → IsIn f (duplicates s)
+in_composition : (s : Source) (owner : Option Known) (k : Composition) (f : Fault) → HasComposition s owner k
+    → IsIn f (duplicates_in_composition k) → IsIn f (duplicates s)
 in_composition s owner k f (of_component c k' h j) i = in_component s c f h (in_one_composition c k' f j i)
 in_composition s owner k f (of_assembly a h) i = in_items s (items.Assembly a) f h i
 
@@ -200,9 +237,12 @@ word_stands s ws f of_procedures i =
 word_stands s ws f of_components i =
     in_left f (repeats (procedure_names s) ++ repeats (component_names s)) (flat_map (λ x. duplicates_in_item x.1) (items_of s))
     (in_right f (repeats (procedure_names s)) (repeats (component_names s)) i)
-word_stands s ws f (of_methods p h) i = in_items s (items.Procedure p) f h (in_left f (repeats (map (λ m. m.id) (methods p))) (flat_map repeated_params (methods p)) i)
+word_stands s ws f (of_methods p h) i =
+    in_items s (items.Procedure p) f h (in_left f (repeats (map (λ m. m.id) (methods p)))
+    (flat_map repeated_params (methods p)) i)
 word_stands s ws f (of_params p m h j) i =
-    in_items s (items.Procedure p) f h (in_right f (repeats (map (λ m. m.id) (methods p))) (flat_map repeated_params (methods p)) (in_flat_map repeated_params m f (methods p) j i))
+    in_items s (items.Procedure p) f h (in_right f (repeats (map (λ m. m.id) (methods p))) (flat_map repeated_params (methods p))
+    (in_flat_map repeated_params m f (methods p) j i))
 word_stands s ws f (of_members c h) i = in_component s c f h (in_members c f i)
 word_stands s ws f (of_composition owner k h) i = in_composition s owner k f h i
 
@@ -215,4 +255,5 @@ in_duplicates s f (a_composition c k h l e) =
     in_component s c f h (in_compositions c f (subst P (sym e) (in_again (λ (k : Composition). k.place) (compositions c) k l)))
 in_duplicates s f (a_configuration c g h l e) =
     let P : Fault → Type 0 = λ x. IsIn x (later_configurations c) in
-    in_component s c f h (in_configurations c f (subst P (sym e) (in_again (λ (g : Configuration). g.place) (configurations c) g l)))
+    in_component s c f h
+    (in_configurations c f (subst P (sym e) (in_again (λ (g : Configuration). g.place) (configurations c) g l)))

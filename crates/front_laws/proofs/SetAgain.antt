@@ -12,7 +12,8 @@ use Rattle.front_laws.proofs.Tested.{from_true, in_true}
 
 -- ---- bodies by number
 
-from_bodies : (bs : List Body) (top : Body) (k : ℕ) (b : Body) → slice_get (bs ++ top ∷ []) k ≡ Some b → (k ≤ length bs) × (get_or bs k top ≡ b)
+from_bodies : (bs : List Body) (top : Body) (k : ℕ) (b : Body) → slice_get (bs ++ top ∷ []) k ≡ Some b
+    → (k ≤ length bs) × (get_or bs k top ≡ b)
 from_bodies [] top zero b e = (omega arith, cc)
 from_bodies [] top (suc k) b e = cc
 from_bodies (x ∷ bs) top zero b e = (omega arith, cc)
@@ -41,29 +42,48 @@ record Again (h : Hierarchy) (k : ℕ) (met : Met) (xs : List Setting) (f : Faul
   fault : f ≡ setting_twice setting
   why : Why h k met before setting
 
-from_after : (h : Hierarchy) (k : ℕ) (met : Met) (xs : List Setting) (f : Fault) → IsIn f (repeated_after h k met xs) → Again h k met xs f
+from_after : (h : Hierarchy) (k : ℕ) (met : Met) (xs : List Setting) (f : Fault) → IsIn f (repeated_after h k met xs)
+    → Again h k met xs f
 from_after h k met [] f i = absurd i
 from_after h k met (y ∷ xs) f i =
     let more : Met = λ p n. met p n || (same_path p (path_of h k y.words) && bytes_eq n (last_name y.words)) in
-    elim (in_append f (where_true (met (path_of h k y.words) (last_name y.words)) (setting_twice y)) (repeated_after h k more xs) i) [
+    elim (in_append f (where_true (met (path_of h k y.words) (last_name y.words)) (setting_twice y))
+    (repeated_after h k more xs) i) [
       | inl j ↦ let t = from_true (met (path_of h k y.words) (last_name y.words)) (setting_twice y) f j in
           record { before = []; setting = y; after = xs; split = refl; fault = sym t.1; why = inl t.0 }
       | inr j ↦ let r = from_after h k more xs f j in
-          record { before = y ∷ r.before; setting = r.setting; after = r.after; split = ap (λ z. y ∷ z) r.split; fault = r.fault; why = wider r.setting r.before r.why }
+          record {
+            before = y ∷ r.before;
+            setting = r.setting;
+            after = r.after;
+            split = ap (λ z. y ∷ z) r.split;
+            fault = r.fault;
+            why = wider r.setting r.before r.why;
+          }
     ]
   where
-    wider : (x : Setting) (before : List Setting) → Why h k (λ p n. met p n || (same_path p (path_of h k y.words) && bytes_eq n (last_name y.words))) before x → Why h k met (y ∷ before) x
+    wider : (x : Setting) (before : List Setting)
+        → Why h k (λ p n. met p n || (same_path p (path_of h k y.words) && bytes_eq n (last_name y.words))) before x
+        → Why h k met (y ∷ before) x
     wider x before (inl t) =
         let p = path_of h k x.words in
         let q = path_of h k y.words in
         elim (or_cases (met p (last_name x.words)) (same_path p q && bytes_eq (last_name x.words) (last_name y.words)) t) [
           | inl m ↦ inl m
           | inr b ↦ let parts = and_parts (same_path p q) (bytes_eq (last_name x.words) (last_name y.words)) b in
-              inr (y, inl refl, (sym ((same_path-Decides p q).0 parts.0), sym ((bytes_eq-Decides (last_name x.words) (last_name y.words)).0 parts.1)))
+              inr (
+                y,
+                inl refl,
+                (
+                  sym ((same_path-Decides p q).0 parts.0),
+                  sym ((bytes_eq-Decides (last_name x.words) (last_name y.words)).0 parts.1),
+                ),
+              )
         ]
     wider x before (inr z) = inr (z.0, inr z.1, z.2)
 
-into_after : (h : Hierarchy) (k : ℕ) (met : Met) (before : List Setting) (x : Setting) (after : List Setting) → Why h k met before x
+into_after : (h : Hierarchy) (k : ℕ) (met : Met) (before : List Setting) (x : Setting) (after : List Setting)
+    → Why h k met before x
     → IsIn (setting_twice x) (repeated_after h k met (before ++ x ∷ after))
 into_after h k met [] x after (inl t) =
     in_left (setting_twice x) (where_true (met (path_of h k x.words) (last_name x.words)) (setting_twice x))
@@ -72,17 +92,24 @@ into_after h k met [] x after (inl t) =
 into_after h k met [] x after (inr z) = absurd z.1
 into_after h k met (y ∷ before) x after why =
     let more : Met = λ p n. met p n || (same_path p (path_of h k y.words) && bytes_eq n (last_name y.words)) in
-    in_right (setting_twice x) (where_true (met (path_of h k y.words) (last_name y.words)) (setting_twice y)) (repeated_after h k more (before ++ x ∷ after))
+    in_right (setting_twice x) (where_true (met (path_of h k y.words) (last_name y.words)) (setting_twice y))
+    (repeated_after h k more (before ++ x ∷ after))
     (into_after h k more before x after (narrower why))
   where
-    narrower : Why h k met (y ∷ before) x → Why h k (λ p n. met p n || (same_path p (path_of h k y.words) && bytes_eq n (last_name y.words))) before x
-    narrower (inl t) = inl (or_left (met (path_of h k x.words) (last_name x.words)) (same_path (path_of h k x.words) (path_of h k y.words) && bytes_eq (last_name x.words) (last_name y.words)) t)
+    narrower : Why h k met (y ∷ before) x
+        → Why h k (λ p n. met p n || (same_path p (path_of h k y.words) && bytes_eq n (last_name y.words))) before x
+    narrower (inl t) =
+        inl (or_left (met (path_of h k x.words) (last_name x.words)) (same_path (path_of h k x.words) (path_of h k y.words)
+        && bytes_eq (last_name x.words) (last_name y.words)) t)
     narrower (inr (z, inl e, (a, b))) =
         let path : path_of h k x.words ≡ path_of h k y.words = sym a ∙ ap (λ (u : Setting). path_of h k u.words) (sym e) in
         let name : last_name x.words ≡ last_name y.words = sym b ∙ ap (λ (u : Setting). last_name u.words) (sym e) in
-        let same = and_from (same_path (path_of h k x.words) (path_of h k y.words)) (bytes_eq (last_name x.words) (last_name y.words))
-        ((same_path-Decides (path_of h k x.words) (path_of h k y.words)).1 path) ((bytes_eq-Decides (last_name x.words) (last_name y.words)).1 name) in
-        inl (or_right (met (path_of h k x.words) (last_name x.words)) (same_path (path_of h k x.words) (path_of h k y.words) && bytes_eq (last_name x.words) (last_name y.words)) same)
+        let same = and_from (same_path (path_of h k x.words) (path_of h k y.words))
+        (bytes_eq (last_name x.words) (last_name y.words))
+        ((same_path-Decides (path_of h k x.words) (path_of h k y.words)).1 path)
+        ((bytes_eq-Decides (last_name x.words) (last_name y.words)).1 name) in
+        inl (or_right (met (path_of h k x.words) (last_name x.words)) (same_path (path_of h k x.words) (path_of h k y.words)
+        && bytes_eq (last_name x.words) (last_name y.words)) same)
     narrower (inr (z, inr i, s)) = inr (z, i, s)
 
 -- ---- all bodies
@@ -96,11 +123,26 @@ from_twice h f i =
     let r = from_after h b.0.0 (λ p n. false) (settings_of b.0.1) f b.2 in
     let l = k.0 in
     let own : b.0.1 ≡ body h b.0.0 = sym k.1 ∙ ap (body h) (sym e) in
-    record { inside = b.0.0; there = omega (arith, l, e); setting = r.setting; again = again_of b.0.0 r.before r.setting r.after (ap settings_of (sym own) ∙ r.split) r.why; fault = r.fault }
+    record {
+      inside = b.0.0;
+      there = omega (arith, l, e);
+      setting = r.setting;
+      again = again_of b.0.0 r.before r.setting r.after (ap settings_of (sym own) ∙ r.split) r.why;
+      fault = r.fault;
+    }
   where
-    again_of : (k : ℕ) (before : List Setting) (x : Setting) (after : List Setting) → settings_of (body h k) ≡ before ++ x ∷ after → (false ≡ true) ⊎ ((y : Setting) × IsIn y before × IsAlike h k y x) → IsSetAgain h k x
+    again_of : (k : ℕ) (before : List Setting) (x : Setting) (after : List Setting) → settings_of (body h k) ≡ before ++ x ∷ after
+        → (false ≡ true) ⊎ ((y : Setting) × IsIn y before × IsAlike h k y x) → IsSetAgain h k x
     again_of k before x after e (inl never) = cc
-    again_of k before x after e (inr y) = record { before = before; after = after; split = e; earlier = y.0; stands = y.1; path = y.2.0; name = y.2.1 }
+    again_of k before x after e (inr y) = record {
+      before = before;
+      after = after;
+      split = e;
+      earlier = y.0;
+      stands = y.1;
+      path = y.2.0;
+      name = y.2.1;
+    }
 
 pub in_twice : (h : Hierarchy) (f : Fault) → IsSettingTwice h f → IsIn f (settings_twice h)
 in_twice h f t =
@@ -114,4 +156,5 @@ in_twice h f t =
     (subst Q (sym a.split) (into_after h k (λ p n. false) a.before x a.after (inr (a.earlier, a.stands, (a.path, a.name))))))
   where
     in_numbered : (bs : List Body) (k : ℕ) (b : Body) → slice_get bs k ≡ Some b → IsIn (k, b) (enumerate_from 0 bs)
-    in_numbered bs k b e = let same : 0 + k ≡ k = omega arith in let P : ℕ → Type 0 = λ n. IsIn (n, b) (enumerate_from 0 bs) in subst P same (in_enumerate 0 bs k b e)
+    in_numbered bs k b e = let same : 0 + k ≡ k = omega arith in let P : ℕ → Type 0 = λ n. IsIn (n, b) (enumerate_from 0 bs) in
+        subst P same (in_enumerate 0 bs k b e)

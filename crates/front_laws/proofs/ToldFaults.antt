@@ -42,7 +42,11 @@ from_names s f i = elim (in_append f (six s) (misfit_exports s) i) [
         | inr m ↦ unknown_name (from_unknown s f m)
         | inl m ↦ elim (in_append f (two s) (duplicates s) m) [
           | inr n ↦ name_again (from_duplicates s f n)
-          | inl n ↦ elim (in_append f (second_assemblies s) (no_assembly s) n) [ inl o ↦ second_assembly o | inr o ↦ without_assembly o ]
+          | inl n ↦ elim (in_append f (second_assemblies s) (no_assembly s) n) [
+            | inl o ↦ second_assembly o
+            | inr o ↦
+                without_assembly o
+          ]
         ]
       ]
     ]
@@ -52,27 +56,40 @@ from_names s f i = elim (in_append f (six s) (misfit_exports s) i) [
 -- what is in the first so many lists is in all
 past_two : (s : Source) (f : Fault) → IsIn f (two s) → IsIn f (name_faults s)
 past_two s f i =
-    in_left f (six s) (misfit_exports s) (in_left f (five s) (composite_bodies s) (in_left f (four s) (recursive_types s) (in_left f (three s) (unknown_names s) (in_left f (two s) (duplicates s) i))))
+    in_left f (six s) (misfit_exports s)
+    (in_left f (five s) (composite_bodies s)
+    (in_left f (four s) (recursive_types s) (in_left f (three s) (unknown_names s) (in_left f (two s) (duplicates s) i))))
 
 in_names : (s : Source) (f : Fault) → IsNameFault s f → IsIn f (name_faults s)
 in_names s f (second_assembly i) = past_two s f (in_left f (second_assemblies s) (no_assembly s) i)
 in_names s f (without_assembly i) = past_two s f (in_right f (second_assemblies s) (no_assembly s) i)
 in_names s f (name_again d) =
-    in_left f (six s) (misfit_exports s) (in_left f (five s) (composite_bodies s) (in_left f (four s) (recursive_types s) (in_left f (three s) (unknown_names s) (in_right f (two s) (duplicates s) (in_duplicates s f d)))))
+    in_left f (six s) (misfit_exports s)
+    (in_left f (five s) (composite_bodies s)
+    (in_left f (four s) (recursive_types s)
+    (in_left f (three s) (unknown_names s) (in_right f (two s) (duplicates s) (in_duplicates s f d)))))
 in_names s f (unknown_name u) =
-    in_left f (six s) (misfit_exports s) (in_left f (five s) (composite_bodies s) (in_left f (four s) (recursive_types s) (in_right f (three s) (unknown_names s) (in_unknown s f u))))
-in_names s f (holds_itself i) = in_left f (six s) (misfit_exports s) (in_left f (five s) (composite_bodies s) (in_right f (four s) (recursive_types s) i))
+    in_left f (six s) (misfit_exports s)
+    (in_left f (five s) (composite_bodies s)
+    (in_left f (four s) (recursive_types s) (in_right f (three s) (unknown_names s) (in_unknown s f u))))
+in_names s f (holds_itself i) =
+    in_left f (six s) (misfit_exports s) (in_left f (five s) (composite_bodies s) (in_right f (four s) (recursive_types s) i))
 in_names s f (composite_body i) = in_left f (six s) (misfit_exports s) (in_right f (five s) (composite_bodies s) i)
 in_names s f (misfit_export m) = in_right f (six s) (misfit_exports s) (in_misfits s f m)
 
 pub told_name : (s : Source) (f : Fault) → first_name_fault s ≡ Some f → IsTold (IsNameFault s) f
-told_name s f e = let k = first_of (name_faults s) f e in record { stands = from_names s f k.0; first = λ g i. k.1 g (in_names s g i) }
+told_name s f e = let k = first_of (name_faults s) f e in
+    record { stands = from_names s f k.0; first = λ g i. k.1 g (in_names s g i) }
 
 pub no_name : (s : Source) → first_name_fault s ≡ None → (f : Fault) → IsNameFault s f → ⊥
 no_name s e f i = none_stands (name_faults s) e f (in_names s f i)
 
-pub told_type : (s : Source) → AreNamesSound s → (f : Fault) → first_type_fault s ≡ Some f → IsTold (IsTypeFault (hierarchy_of s)) f
-told_type s sound f e = let k = first_of (type_faults s) f e in record { stands = from_type_faults s f k.0; first = λ g i. k.1 g (in_type_faults s sound g i) }
+pub told_type : (s : Source) → AreNamesSound s → (f : Fault) → first_type_fault s ≡ Some f
+    → IsTold (IsTypeFault (hierarchy_of s)) f
+told_type s sound f e = let k = first_of (type_faults s) f e in record {
+  stands = from_type_faults s f k.0;
+  first = λ g i. k.1 g (in_type_faults s sound g i);
+}
 
 pub no_type : (s : Source) → AreNamesSound s → first_type_fault s ≡ None → (f : Fault) → IsTypeFault (hierarchy_of s) f → ⊥
 no_type s sound e f i = none_stands (type_faults s) e f (in_type_faults s sound f i)

@@ -43,7 +43,8 @@ meant h k words l e =
       declared = declared;
     })))
 
-means : (s : Source) → AreNamesSound s → (k : ℕ) (words : List Id) (l : LeafInterface) → k ≤ top_number (hierarchy_of s) → Means (hierarchy_of s) k words l → leaf_of (hierarchy_of s) k words ≡ Some l
+means : (s : Source) → AreNamesSound s → (k : ℕ) (words : List Id) (l : LeafInterface) → k ≤ top_number (hierarchy_of s)
+    → Means (hierarchy_of s) k words l → leaf_of (hierarchy_of s) k words ≡ Some l
 means s sound k words l low m =
     let h = hierarchy_of s in
     let r = climbs_reached s sound k m.instance m.rest m.interface m.outer low m.leaf m.climbs in
@@ -51,7 +52,8 @@ means s sound k words l low m =
     let stands : part_at h k (m.instance ∷ m.rest) ≡ Some r.0.part = ap (part_at h k) (sym r.2) ∙ f.stands.0 in
     let there = m.stands in
     let same : r.0.part ≡ m.part = cc in
-    let by_reach : option_and_then (λ (r : Reached). leaf_at (body h r.part.kind) r.interface) (reached h k (m.instance, m.outer)) ≡ leaf_at (body h r.0.part.kind) r.0.interface =
+    let by_reach : option_and_then (λ (r : Reached). leaf_at (body h r.part.kind) r.interface) (reached h k (m.instance, m.outer))
+    ≡ leaf_at (body h r.0.part.kind) r.0.interface =
     ap (option_and_then (λ (r : Reached). leaf_at (body h r.part.kind) r.interface)) r.1 in
     ap (option_and_then (leaf_by h k)) m.named ∙ by_reach
     ∙ ap (λ (x : Part). leaf_at (body h x.kind) r.0.interface) same ∙ ap (leaf_at (body h m.part.kind)) r.3
@@ -59,30 +61,40 @@ means s sound k words l low m =
 
 -- ---- one end
 
-from_kind : (h : Hierarchy) (k : ℕ) (w : Wire) (e : End) (f : Fault) → HasWire h k w → IsIn e w.1.ends → (o : Option LeafInterface) → leaf_of h k e.words ≡ o
+from_kind : (h : Hierarchy) (k : ℕ) (w : Wire) (e : End) (f : Fault) → HasWire h k w → IsIn e w.1.ends
+    → (o : Option LeafInterface) → leaf_of h k e.words ≡ o
     → not (option_map_or (is_kind_of (end_rule w.0 e.role)) o true) ≡ true → f ≡ at_end code.Kind e → IsTypeFault h f
 from_kind h k w e f has i None at t same = cc
-from_kind h k w e f has i (Some l) at t same = another_kind k w e l has i (meant h k e.words l at) (not-true (is_kind_of (end_rule w.0 e.role) l) t) same
+from_kind h k w e f has i (Some l) at t same = another_kind k w e l has i (meant h k e.words l at)
+    (not-true (is_kind_of (end_rule w.0 e.role) l) t) same
 
-from_type : (h : Hierarchy) (k : ℕ) (w : Wire) (e : End) (f : Fault) → HasWire h k w → IsIn e w.1.ends → (ends : List End) → w.1.ends ≡ ends → (o : Option LeafInterface) → leaf_of h k e.words ≡ o
+from_type : (h : Hierarchy) (k : ℕ) (w : Wire) (e : End) (f : Fault) → HasWire h k w → IsIn e w.1.ends → (ends : List End)
+    → w.1.ends ≡ ends → (o : Option LeafInterface) → leaf_of h k e.words ≡ o
     → (has_one_type w.0 && not (agree (first_leaf h k ends) o)) ≡ true → f ≡ at_end code.TypeMismatch e → IsTypeFault h f
 from_type h k w e f has i [] s o at t same = let P : List End → Type 0 = λ z. IsIn e z in absurd (subst P s i)
 from_type h k w e f has i (first ∷ more) s o at t same = by_first (leaf_of h k first.words) refl o at t
   where
-    by_first : (a : Option LeafInterface) → leaf_of h k first.words ≡ a → (o : Option LeafInterface) → leaf_of h k e.words ≡ o → (has_one_type w.0 && not (agree a o)) ≡ true → IsTypeFault h f
-    by_first None u o at t = let parts = and_parts (has_one_type w.0) (not (agree None o)) t in let n = not-true (agree None o) parts.1 in cc
-    by_first (Some m) u None at t = let parts = and_parts (has_one_type w.0) (not (agree (Some m) None)) t in let n = not-true (agree (Some m) None) parts.1 in cc
+    by_first : (a : Option LeafInterface) → leaf_of h k first.words ≡ a → (o : Option LeafInterface) → leaf_of h k e.words ≡ o
+        → (has_one_type w.0 && not (agree a o)) ≡ true → IsTypeFault h f
+    by_first None u o at t = let parts = and_parts (has_one_type w.0) (not (agree None o)) t in
+        let n = not-true (agree None o) parts.1 in cc
+    by_first (Some m) u None at t = let parts = and_parts (has_one_type w.0) (not (agree (Some m) None)) t in
+        let n = not-true (agree (Some m) None) parts.1 in cc
     by_first (Some m) u (Some l) at t =
         let parts = and_parts (has_one_type w.0) (not (same_type m l)) t in
-        another_type k w first e more m l has s i (meant h k first.words m u) (meant h k e.words l at) parts.0 (not-true (same_type m l) parts.1) same
+        another_type k w first e more m l has s i (meant h k first.words m u) (meant h k e.words l at) parts.0
+        (not-true (same_type m l) parts.1) same
 
-from_end : (h : Hierarchy) (k : ℕ) (w : Wire) (e : End) (f : Fault) → HasWire h k w → IsIn e w.1.ends → IsIn f (end_faults h k w.0 (first_leaf h k w.1.ends) e) → IsTypeFault h f
+from_end : (h : Hierarchy) (k : ℕ) (w : Wire) (e : End) (f : Fault) → HasWire h k w → IsIn e w.1.ends
+    → IsIn f (end_faults h k w.0 (first_leaf h k w.1.ends) e) → IsTypeFault h f
 from_end h k w e f has i j =
     let kind = not (option_map_or (is_kind_of (end_rule w.0 e.role)) (leaf_of h k e.words) true) in
     let type = has_one_type w.0 && not (agree (first_leaf h k w.1.ends) (leaf_of h k e.words)) in
     elim (in_append f (where_true kind (at_end code.Kind e)) (where_true type (at_end code.TypeMismatch e)) j) [
-      | inl x ↦ let t = from_true kind (at_end code.Kind e) f x in from_kind h k w e f has i (leaf_of h k e.words) refl t.0 (sym t.1)
-      | inr x ↦ let t = from_true type (at_end code.TypeMismatch e) f x in from_type h k w e f has i w.1.ends refl (leaf_of h k e.words) refl t.0 (sym t.1)
+      | inl x ↦ let t = from_true kind (at_end code.Kind e) f x in
+          from_kind h k w e f has i (leaf_of h k e.words) refl t.0 (sym t.1)
+      | inr x ↦ let t = from_true type (at_end code.TypeMismatch e) f x in
+          from_type h k w e f has i w.1.ends refl (leaf_of h k e.words) refl t.0 (sym t.1)
     ]
 
 -- ---- bodies
@@ -91,8 +103,10 @@ from_wire : (h : Hierarchy) (k : ℕ) (w : Wire) (f : Fault) → HasWire h k w �
 from_wire h k w f has i =
     let ends = flat_map (end_faults h k w.0 (first_leaf h k w.1.ends)) w.1.ends in
     elim (in_append f ends (where_true (not (may_have w.0 w.1.ends)) (at_word code.EndCount w.1.id)) i) [
-      | inl j ↦ let e = from_flat_map (end_faults h k w.0 (first_leaf h k w.1.ends)) f w.1.ends j in from_end h k w e.0 f has e.1 e.2
-      | inr j ↦ let t = from_true (not (may_have w.0 w.1.ends)) (at_word code.EndCount w.1.id) f j in another_count k w has (not-true (may_have w.0 w.1.ends) t.0) (sym t.1)
+      | inl j ↦ let e = from_flat_map (end_faults h k w.0 (first_leaf h k w.1.ends)) f w.1.ends j in
+          from_end h k w e.0 f has e.1 e.2
+      | inr j ↦ let t = from_true (not (may_have w.0 w.1.ends)) (at_word code.EndCount w.1.id) f j in
+          another_count k w has (not-true (may_have w.0 w.1.ends) t.0) (sym t.1)
     ]
 
 from_sizes : (h : Hierarchy) (k : ℕ) (f : Fault) → k ≤ top_number h → (o : Option Component) → (body h k).component ≡ o
@@ -100,12 +114,14 @@ from_sizes : (h : Hierarchy) (k : ℕ) (f : Fault) → k ≤ top_number h → (o
 from_sizes h k f low None own i = absurd i
 from_sizes h k f low (Some c) own i = let m = from_flat_map size_faults f c.members i in by_member m.0 m.1 m.2
   where
-    by_size : (i : Interface) → IsIn (members.Interface i) c.members → (o : Option ℕ) → i.size ≡ o → not (option_map_or is_size o true) ≡ true → f ≡ at_word code.TypeMismatch i.id → IsTypeFault h f
+    by_size : (i : Interface) → IsIn (members.Interface i) c.members → (o : Option ℕ) → i.size ≡ o
+        → not (option_map_or is_size o true) ≡ true → f ≡ at_word code.TypeMismatch i.id → IsTypeFault h f
     by_size i j None e t same = cc
     by_size i j (Some n) e t same = no_size k c i n low own j e (not-true (is_size n) t) same
 
     by_member : (m : Member) → IsIn m c.members → IsIn f (size_faults m) → IsTypeFault h f
-    by_member (members.Interface i) j x = let t = from_true (not (option_map_or is_size i.size true)) (at_word code.TypeMismatch i.id) f x in by_size i j i.size refl t.0 (sym t.1)
+    by_member (members.Interface i) j x = let t = from_true (not (option_map_or is_size i.size true))
+        (at_word code.TypeMismatch i.id) f x in by_size i j i.size refl t.0 (sym t.1)
     by_member (members.Control p) j x = absurd x
     by_member (members.Hardware p) j x = absurd x
     by_member (members.Include p) j x = absurd x
@@ -115,10 +131,13 @@ from_sizes h k f low (Some c) own i = let m = from_flat_map size_faults f c.memb
     by_member (members.Configuration p) j x = absurd x
 
 from_body : (h : Hierarchy) (k : ℕ) (f : Fault) → k ≤ top_number h → IsIn f (body_faults h k) → IsTypeFault h f
-from_body h k f low i = elim (in_append f (flat_map (wire_faults h k) (wires_of (body h k))) (option_map_or (λ c. flat_map size_faults c.members) (body h k).component []) i) [
-  | inl j ↦ let w = from_flat_map (wire_faults h k) f (wires_of (body h k)) j in from_wire h k w.0 f (record { there = low; stands = w.1 }) w.2
-  | inr j ↦ from_sizes h k f low (body h k).component refl j
-]
+from_body h k f low i =
+    elim (in_append f (flat_map (wire_faults h k) (wires_of (body h k))) (option_map_or (λ c. flat_map size_faults c.members)
+    (body h k).component []) i) [
+      | inl j ↦ let w = from_flat_map (wire_faults h k) f (wires_of (body h k)) j in
+          from_wire h k w.0 f (record { there = low; stands = w.1 }) w.2
+      | inr j ↦ from_sizes h k f low (body h k).component refl j
+    ]
 
 from_below : (h : Hierarchy) (n : ℕ) (f : Fault) → IsIn f (faults_below h n) → (k : ℕ) × (k < n) × IsIn f (body_faults h k)
 from_below h zero f i = absurd i
@@ -131,7 +150,8 @@ in_below : (h : Hierarchy) (n k : ℕ) (f : Fault) → k < n → IsIn f (body_fa
 in_below h zero k f l i = absurd (omega (arith, l))
 in_below h (suc n) k f l i = elim (cases_lt k n) [
   | inl m ↦ in_left f (faults_below h n) (body_faults h n) (in_below h n k f m i)
-  | inr m ↦ let same : k ≡ n = omega (arith, l, m) in let P : ℕ → Type 0 = λ z. IsIn f (body_faults h z) in in_right f (faults_below h n) (body_faults h n) (subst P same i)
+  | inr m ↦ let same : k ≡ n = omega (arith, l, m) in let P : ℕ → Type 0 = λ z. IsIn f (body_faults h z) in
+      in_right f (faults_below h n) (body_faults h n) (subst P same i)
 ]
 
 pub from_type_faults : (s : Source) (f : Fault) → IsIn f (type_faults s) → IsTypeFault (hierarchy_of s) f
@@ -143,20 +163,24 @@ from_type_faults s f i =
 
 -- ---- and back
 
-in_one_body : (s : Source) (k : ℕ) (f : Fault) → k ≤ top_number (hierarchy_of s) → IsIn f (body_faults (hierarchy_of s) k) → IsIn f (type_faults s)
+in_one_body : (s : Source) (k : ℕ) (f : Fault) → k ≤ top_number (hierarchy_of s) → IsIn f (body_faults (hierarchy_of s) k)
+    → IsIn f (type_faults s)
 in_one_body s k f low i = let h = hierarchy_of s in in_below h (top_number h + 1) k f (omega (arith, low)) i
 
-in_one_wire : (s : Source) (k : ℕ) (w : Wire) (f : Fault) → HasWire (hierarchy_of s) k w → IsIn f (wire_faults (hierarchy_of s) k w) → IsIn f (type_faults s)
+in_one_wire : (s : Source) (k : ℕ) (w : Wire) (f : Fault) → HasWire (hierarchy_of s) k w
+    → IsIn f (wire_faults (hierarchy_of s) k w) → IsIn f (type_faults s)
 in_one_wire s k w f has i =
     let h = hierarchy_of s in
-    in_one_body s k f has.there (in_left f (flat_map (wire_faults h k) (wires_of (body h k))) (option_map_or (λ c. flat_map size_faults c.members) (body h k).component [])
+    in_one_body s k f has.there (in_left f (flat_map (wire_faults h k) (wires_of (body h k)))
+    (option_map_or (λ c. flat_map size_faults c.members) (body h k).component [])
     (in_flat_map (wire_faults h k) w f (wires_of (body h k)) has.stands i))
 
 in_one_end : (s : Source) (k : ℕ) (w : Wire) (e : End) (f : Fault) → HasWire (hierarchy_of s) k w → IsIn e w.1.ends
     → IsIn f (end_faults (hierarchy_of s) k w.0 (first_leaf (hierarchy_of s) k w.1.ends) e) → IsIn f (type_faults s)
 in_one_end s k w e f has i j =
     let h = hierarchy_of s in
-    in_one_wire s k w f has (in_left f (flat_map (end_faults h k w.0 (first_leaf h k w.1.ends)) w.1.ends) (where_true (not (may_have w.0 w.1.ends)) (at_word code.EndCount w.1.id))
+    in_one_wire s k w f has (in_left f (flat_map (end_faults h k w.0 (first_leaf h k w.1.ends)) w.1.ends)
+    (where_true (not (may_have w.0 w.1.ends)) (at_word code.EndCount w.1.id))
     (in_flat_map (end_faults h k w.0 (first_leaf h k w.1.ends)) e f w.1.ends i j))
 
 there : (s : Source) (f g : Fault) → f ≡ g → IsIn g (type_faults s) → IsIn f (type_faults s)
@@ -167,9 +191,11 @@ in_type_faults s sound f (another_kind k w e l has i m t same) =
     let h = hierarchy_of s in
     let kind = not (option_map_or (is_kind_of (end_rule w.0 e.role)) (leaf_of h k e.words) true) in
     let type = has_one_type w.0 && not (agree (first_leaf h k w.1.ends) (leaf_of h k e.words)) in
-    let is : kind ≡ true = ap (λ o. not (option_map_or (is_kind_of (end_rule w.0 e.role)) o true)) (means s sound k e.words l has.there m) ∙ ap not t in
+    let is : kind ≡ true = ap (λ o. not (option_map_or (is_kind_of (end_rule w.0 e.role)) o true))
+    (means s sound k e.words l has.there m) ∙ ap not t in
     there s f (at_end code.Kind e) same (in_one_end s k w e (at_end code.Kind e) has i
-    (in_left (at_end code.Kind e) (where_true kind (at_end code.Kind e)) (where_true type (at_end code.TypeMismatch e)) (in_true kind (at_end code.Kind e) is)))
+    (in_left (at_end code.Kind e) (where_true kind (at_end code.Kind e)) (where_true type (at_end code.TypeMismatch e))
+    (in_true kind (at_end code.Kind e) is)))
 in_type_faults s sound f (another_type k w first e more m l has ends i a b one t same) =
     let h = hierarchy_of s in
     let kind = not (option_map_or (is_kind_of (end_rule w.0 e.role)) (leaf_of h k e.words) true) in
@@ -179,17 +205,21 @@ in_type_faults s sound f (another_type k w first e more m l has ends i a b one t
     ∙ ap (λ o. has_one_type w.0 && not (agree (Some m) o)) (means s sound k e.words l has.there b)
     ∙ ap (λ z. z && not (same_type m l)) one ∙ ap not t in
     there s f (at_end code.TypeMismatch e) same (in_one_end s k w e (at_end code.TypeMismatch e) has i
-    (in_right (at_end code.TypeMismatch e) (where_true kind (at_end code.Kind e)) (where_true type (at_end code.TypeMismatch e)) (in_true type (at_end code.TypeMismatch e) is)))
+    (in_right (at_end code.TypeMismatch e) (where_true kind (at_end code.Kind e)) (where_true type (at_end code.TypeMismatch e))
+    (in_true type (at_end code.TypeMismatch e) is)))
 in_type_faults s sound f (another_count k w has t same) =
     let h = hierarchy_of s in
     there s f (at_word code.EndCount w.1.id) same (in_one_wire s k w (at_word code.EndCount w.1.id) has
-    (in_right (at_word code.EndCount w.1.id) (flat_map (end_faults h k w.0 (first_leaf h k w.1.ends)) w.1.ends) (where_true (not (may_have w.0 w.1.ends)) (at_word code.EndCount w.1.id))
+    (in_right (at_word code.EndCount w.1.id) (flat_map (end_faults h k w.0 (first_leaf h k w.1.ends)) w.1.ends)
+    (where_true (not (may_have w.0 w.1.ends)) (at_word code.EndCount w.1.id))
     (in_true (not (may_have w.0 w.1.ends)) (at_word code.EndCount w.1.id) (ap not t))))
 in_type_faults s sound f (no_size k c i n low own j size t same) =
     let h = hierarchy_of s in
-    let P : Option Component → Type 0 = λ o. IsIn (at_word code.TypeMismatch i.id) (option_map_or (λ c. flat_map size_faults c.members) o []) in
+    let P : Option Component → Type 0 =
+    λ o. IsIn (at_word code.TypeMismatch i.id) (option_map_or (λ c. flat_map size_faults c.members) o []) in
     let bad = not (option_map_or is_size i.size true) in
     there s f (at_word code.TypeMismatch i.id) same (in_one_body s k (at_word code.TypeMismatch i.id) low
-    (in_right (at_word code.TypeMismatch i.id) (flat_map (wire_faults h k) (wires_of (body h k))) (option_map_or (λ c. flat_map size_faults c.members) (body h k).component [])
+    (in_right (at_word code.TypeMismatch i.id) (flat_map (wire_faults h k) (wires_of (body h k)))
+    (option_map_or (λ c. flat_map size_faults c.members) (body h k).component [])
     (subst P (sym own) (in_flat_map size_faults (members.Interface i) (at_word code.TypeMismatch i.id) c.members j
     (in_true bad (at_word code.TypeMismatch i.id) (ap (λ o. not (option_map_or is_size o true)) size ∙ ap not t))))))

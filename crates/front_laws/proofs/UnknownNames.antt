@@ -22,24 +22,30 @@ use Rattle.front_laws.proofs.UnknownWords.{from_setting, in_setting}
 
 -- ---- dotted names of two or three words
 
-from_interface : (types : Types) (held : Holding) (ws : List Id) (j : Id) (o : Option Known) (f : Fault) → ((c : Known) → o ≡ Some c → NamesInstance types held ws c)
+from_interface : (types : Types) (held : Holding) (ws : List Id) (j : Id) (o : Option Known) (f : Fault)
+    → ((c : Known) → o ≡ Some c → NamesInstance types held ws c)
     → IsIn f (unknown_interface o j) → (w : Id) × IsUnknownPart types held (ws ++ j ∷ []) w × (f ≡ unknown w)
 from_interface types held ws j None f n i = absurd i
 from_interface types held ws j (Some c) f n i =
-    let k = from_false (is_some (c.interface j.name)) (unknown j) f i in (j, no_interface ws j c refl (n c refl) (is_none (c.interface j.name) k.0), sym k.1)
+    let k = from_false (is_some (c.interface j.name)) (unknown j) f i in
+    (j, no_interface ws j c refl (n c refl) (is_none (c.interface j.name) k.0), sym k.1)
 
-from_two : (types : Types) (held : Holding) (a j : Id) (f : Fault) (o : Option Held) → held a.name ≡ o → IsIn f (unknown_in_two types o a j)
+from_two : (types : Types) (held : Holding) (a j : Id) (f : Fault) (o : Option Held) → held a.name ≡ o
+    → IsIn f (unknown_in_two types o a j)
     → (w : Id) × IsUnknownPart types held (a ∷ j ∷ []) w × (f ≡ unknown w)
 from_two types held a j f None e (inl s) = (a, not_held a j [] refl (omega arith) e, sym s)
 from_two types held a j f None e (inr i) = absurd i
-from_two types held a j f (Some (an_instance i)) e x = from_interface types held (a ∷ []) j (types i.component.name) f (λ c t. alone a i c e t) x
+from_two types held a j f (Some (an_instance i)) e x = from_interface types held (a ∷ []) j (types i.component.name) f
+    (λ c t. alone a i c e t) x
 from_two types held a j f (Some (a_group members)) e (inl s) = (a, group_named a j members refl e, sym s)
 from_two types held a j f (Some (a_group members)) e (inr i) =
-    let k = from_false (is_some (members j.name)) (unknown j) f i in (j, no_such_member a j [] members refl (omega arith) e (is_none (members j.name) k.0), sym k.1)
+    let k = from_false (is_some (members j.name)) (unknown j) f i in
+    (j, no_such_member a j [] members refl (omega arith) e (is_none (members j.name) k.0), sym k.1)
 from_two types held a j f (Some a_connection) e (inl s) = (a, connection_named a j [] refl (omega arith) e, sym s)
 from_two types held a j f (Some a_connection) e (inr i) = absurd i
 
-from_three : (types : Types) (held : Holding) (a b j : Id) (f : Fault) (o : Option Held) → held a.name ≡ o → IsIn f (unknown_in_three types o a b j)
+from_three : (types : Types) (held : Holding) (a b j : Id) (f : Fault) (o : Option Held) → held a.name ≡ o
+    → IsIn f (unknown_in_three types o a b j)
     → (w : Id) × IsUnknownPart types held (a ∷ b ∷ j ∷ []) w × (f ≡ unknown w)
 from_three types held a b j f None e (inl s) = (a, not_held a b (j ∷ []) refl (omega arith) e, sym s)
 from_three types held a b j f None e (inr i) = absurd i
@@ -47,10 +53,12 @@ from_three types held a b j f (Some (an_instance i)) e (inl s) = (a, instance_in
 from_three types held a b j f (Some (an_instance i)) e (inr x) = absurd x
 from_three types held a b j f (Some (a_group members)) e x = by_member (members b.name) refl x
   where
-    by_member : (o : Option Instance) → members b.name ≡ o → IsIn f (unknown_in_group types o b j) → (w : Id) × IsUnknownPart types held (a ∷ b ∷ j ∷ []) w × (f ≡ unknown w)
+    by_member : (o : Option Instance) → members b.name ≡ o → IsIn f (unknown_in_group types o b j)
+        → (w : Id) × IsUnknownPart types held (a ∷ b ∷ j ∷ []) w × (f ≡ unknown w)
     by_member None m (inl s) = (b, no_such_member a b (j ∷ []) members refl (omega arith) e m, sym s)
     by_member None m (inr i) = absurd i
-    by_member (Some i) m x = from_interface types held (a ∷ b ∷ []) j (types i.component.name) f (λ c t. in_a_group a b members i c e m t) x
+    by_member (Some i) m x = from_interface types held (a ∷ b ∷ []) j (types i.component.name) f
+        (λ c t. in_a_group a b members i c e m t) x
 from_three types held a b j f (Some a_connection) e (inl s) = (a, connection_named a b (j ∷ []) refl (omega arith) e, sym s)
 from_three types held a b j f (Some a_connection) e (inr i) = absurd i
 
@@ -63,18 +71,25 @@ from_dotted types held (a ∷ b ∷ j ∷ []) f i = from_three types held a b j 
 from_dotted types held (a ∷ b ∷ j ∷ x ∷ more) f i = absurd i
 
 -- the fault at the first word, where the composition holds it so
-at_first : (types : Types) (held : Holding) (a b : Id) (more : List Id) (o : Option Held) (w : Id) → length (a ∷ b ∷ more) ≤ 3 → held a.name ≡ o
-    → ((c : List Id) → IsIn (unknown w) (unknown_in_two types o a b)) → ((j : Id) → IsIn (unknown w) (unknown_in_three types o a b j))
+at_first : (types : Types) (held : Holding) (a b : Id) (more : List Id) (o : Option Held) (w : Id) → length (a ∷ b ∷ more) ≤ 3
+    → held a.name ≡ o
+    → ((c : List Id) → IsIn (unknown w) (unknown_in_two types o a b))
+    → ((j : Id) → IsIn (unknown w) (unknown_in_three types o a b j))
     → IsIn (unknown w) (unknown_in_dotted types held (a ∷ b ∷ more))
-at_first types held a b [] o w l e two three = let P : Option Held → Type 0 = λ z. IsIn (unknown w) (unknown_in_two types z a b) in subst P (sym e) (two [])
-at_first types held a b (j ∷ []) o w l e two three = let P : Option Held → Type 0 = λ z. IsIn (unknown w) (unknown_in_three types z a b j) in subst P (sym e) (three j)
+at_first types held a b [] o w l e two three = let P : Option Held → Type 0 =
+    λ z. IsIn (unknown w) (unknown_in_two types z a b) in subst P (sym e) (two [])
+at_first types held a b (j ∷ []) o w l e two three = let P : Option Held → Type 0 =
+    λ z. IsIn (unknown w) (unknown_in_three types z a b j) in subst P (sym e) (three j)
 at_first types held a b (j ∷ x ∷ more) o w l e two three = absurd (omega (arith, l))
 
-interface_there : (c : Known) (j : Id) (o : Option Known) → o ≡ Some c → c.interface j.name ≡ None → IsIn (unknown j) (unknown_interface o j)
+interface_there : (c : Known) (j : Id) (o : Option Known) → o ≡ Some c → c.interface j.name ≡ None
+    → IsIn (unknown j) (unknown_interface o j)
 interface_there c j o e none =
-    let P : Option Known → Type 0 = λ z. IsIn (unknown j) (unknown_interface z j) in subst P (sym e) (in_false (is_some (c.interface j.name)) (unknown j) (ap is_some none))
+    let P : Option Known → Type 0 = λ z. IsIn (unknown j) (unknown_interface z j) in
+    subst P (sym e) (in_false (is_some (c.interface j.name)) (unknown j) (ap is_some none))
 
-in_dotted : (types : Types) (held : Holding) (words : List Id) (w : Id) → IsUnknownPart types held words w → IsIn (unknown w) (unknown_in_dotted types held words)
+in_dotted : (types : Types) (held : Holding) (words : List Id) (w : Id) → IsUnknownPart types held words w
+    → IsIn (unknown w) (unknown_in_dotted types held words)
 in_dotted types held words w (not_held a b more e l h) =
     let P : List Id → Type 0 = λ z. IsIn (unknown w) (unknown_in_dotted types held z) in
     let Q : List Id → Type 0 = λ z. length z ≤ 3 in
@@ -113,9 +128,11 @@ in_dotted types held words w (no_interface ws j c e n none) =
 -- ---- lines
 
 -- what stands in a line of a kind stands in the composition
-from_line : (s : Source) (owner : Option Known) (k : Composition) (l : Line) (f : Fault) → HasComposition s owner k → IsIn l k.lines
+from_line : (s : Source) (owner : Option Known) (k : Composition) (l : Line) (f : Fault) → HasComposition s owner k
+    → IsIn l k.lines
     → IsIn f (unknown_in_line (known_in s) owner (held_as k) l) → IsUnknown s f
-from_line s owner k (lines.Instance i) f h j x = a_type_at i (in_flat_map instances_by (lines.Instance i) i k.lines j (inl refl)) x
+from_line s owner k (lines.Instance i) f h j x =
+    a_type_at i (in_flat_map instances_by (lines.Instance i) i k.lines j (inl refl)) x
   where
     a_type_at : (i : Instance) → IsIn i (instances_in k) → IsIn f (unknown_type (known_in s) i) → IsUnknown s f
     a_type_at i n x = let t = from_false (is_some (known_in s i.component.name)) (unknown i.component) f x in
@@ -123,7 +140,8 @@ from_line s owner k (lines.Instance i) f h j x = a_type_at i (in_flat_map instan
 from_line s owner k (lines.Group g) f h j x =
     let i = from_flat_map (unknown_type (known_in s)) f g.instances x in
     let t = from_false (is_some (known_in s i.0.component.name)) (unknown i.0.component) f i.2 in
-    a_type owner k i.0 h (in_flat_map instances_by (lines.Group g) i.0 k.lines j i.1) (is_none (known_in s i.0.component.name) t.0) (sym t.1)
+    a_type owner k i.0 h (in_flat_map instances_by (lines.Group g) i.0 k.lines j i.1)
+    (is_none (known_in s i.0.component.name) t.0) (sym t.1)
 from_line s owner k (lines.Connection w) f h j x =
     let there = in_filter_map as_connection (lines.Connection w) w k.lines j refl in
     elim (in_append f (unknown_connector w) (flat_map (λ (e : End). unknown_in_dotted (known_in s) (held_as k) e.words) w.ends) x) [
@@ -141,11 +159,13 @@ from_line s owner k (lines.Export e) f h j x =
           a_target owner k e h there (lacks owner t.0) (sym t.1)
     ]
   where
-    lacks : (o : Option Known) → is_some (option_and_then (λ c. c.interface e.target.name) o) ≡ false → LacksInterface o e.target.name
+    lacks : (o : Option Known) → is_some (option_and_then (λ c. c.interface e.target.name) o) ≡ false
+        → LacksInterface o e.target.name
     lacks None t = tt
     lacks (Some c) t = is_none (c.interface e.target.name) t
 
-from_composition : (s : Source) (owner : Option Known) (k : Composition) (f : Fault) → HasComposition s owner k → IsIn f (unknown_in_composition (known_in s) owner k) → IsUnknown s f
+from_composition : (s : Source) (owner : Option Known) (k : Composition) (f : Fault) → HasComposition s owner k
+    → IsIn f (unknown_in_composition (known_in s) owner k) → IsUnknown s f
 from_composition s owner k f h i =
     let l = from_flat_map (unknown_in_line (known_in s) owner (held_as k)) f k.lines i in from_line s owner k l.0 f h l.1 l.2
 
@@ -155,14 +175,16 @@ lacks_attribute : (o : Option Known) (n : Name) → is_some (option_and_then (λ
 lacks_attribute None n t = tt
 lacks_attribute (Some c) n t = is_none (c.attribute n) t
 
-from_setter : (s : Source) (owner : Option Known) (holds : Option Holding) (x : Setting) (r : Setter) (f : Fault) → HasSetting s owner holds x → x.setter ≡ r
+from_setter : (s : Source) (owner : Option Known) (holds : Option Holding) (x : Setting) (r : Setter) (f : Fault)
+    → HasSetting s owner holds x → x.setter ≡ r
     → IsIn f (unknown_attribute owner r) → IsUnknown s f
 from_setter s owner holds x (setters.Literal v) f h e i = absurd i
 from_setter s owner holds x (setters.Reference y) f h e i =
     let t = from_false (is_some (option_and_then (λ c. c.attribute y.name) owner)) (unknown y) f i in
     an_attribute_referred owner holds x y h e (lacks_attribute owner y.name t.0) (sym t.1)
 
-from_one_setting : (s : Source) (owner : Option Known) (holds : Option Holding) (x : Setting) (f : Fault) → HasSetting s owner holds x
+from_one_setting : (s : Source) (owner : Option Known) (holds : Option Holding) (x : Setting) (f : Fault)
+    → HasSetting s owner holds x
     → IsIn f (unknown_in_one_setting (known_in s) owner (scope_of_held holds) x) → IsUnknown s f
 from_one_setting s owner holds x f h i =
     elim (in_append f (unknown_in_setting (known_in s) (scope_of_held holds) x.words) (unknown_attribute owner x.setter) i) [
@@ -170,10 +192,12 @@ from_one_setting s owner holds x f h i =
       | inr j ↦ from_setter s owner holds x x.setter f h refl j
     ]
 
-from_configuration : (s : Source) (owner : Option Known) (holds : Option Holding) (g : Configuration) (f : Fault) → ((x : Setting) → IsIn x g.settings → HasSetting s owner holds x)
+from_configuration : (s : Source) (owner : Option Known) (holds : Option Holding) (g : Configuration) (f : Fault)
+    → ((x : Setting) → IsIn x g.settings → HasSetting s owner holds x)
     → IsIn f (unknown_in_configuration (known_in s) owner (scope_of_held holds) g) → IsUnknown s f
 from_configuration s owner holds g f h i =
-    let x = from_flat_map (unknown_in_one_setting (known_in s) owner (scope_of_held holds)) f g.settings i in from_one_setting s owner holds x.0 f (h x.0 x.1) x.2
+    let x = from_flat_map (unknown_in_one_setting (known_in s) owner (scope_of_held holds)) f g.settings i in
+    from_one_setting s owner holds x.0 f (h x.0 x.1) x.2
 
 -- ---- members and items
 
@@ -192,22 +216,28 @@ from_member s c (members.Interface i) f h j x =
     neither false b e = cc
 from_member s c (members.Attribute a) f h j x = absurd x
 from_member s c (members.Lock l) f h j x = absurd x
-from_member s c (members.Composition k) f h j x = from_composition s (Some (known_of c)) k f (of_component c k h (in_filter_map as_composition (members.Composition k) k c.members j refl)) x
+from_member s c (members.Composition k) f h j x =
+    from_composition s (Some (known_of c)) k f
+    (of_component c k h (in_filter_map as_composition (members.Composition k) k c.members j refl)) x
 from_member s c (members.Configuration g) f h j x =
-    from_configuration s (Some (known_of c)) (known_of c).holds g f (λ y i. of_a_body c g y h (in_filter_map as_configuration (members.Configuration g) g c.members j refl) i) x
+    from_configuration s (Some (known_of c)) (known_of c).holds g f
+    (λ y i. of_a_body c g y h (in_filter_map as_configuration (members.Configuration g) g c.members j refl) i) x
 
 from_top : (s : Source) (a : Assembly) (o : Option Configuration) (f : Fault) → HasItem s (items.Assembly a) → a.configuration ≡ o
     → IsIn f (unknown_if_configured (known_in s) (within (held_as a.composition)) o) → IsUnknown s f
 from_top s a None f h e i = absurd i
 from_top s a (Some g) f h e i = from_configuration s None (Some (held_as a.composition)) g f (λ y j. of_the_top a g y h e j) i
 
-from_item : (s : Source) (x : Item) (f : Fault) → HasItem s x → IsIn f (unknown_in_item (known_in s) (is_procedure s) x) → IsUnknown s f
+from_item : (s : Source) (x : Item) (f : Fault) → HasItem s x → IsIn f (unknown_in_item (known_in s) (is_procedure s) x)
+    → IsUnknown s f
 from_item s (items.Import i) f h j = absurd j
 from_item s (items.Procedure p) f h j = absurd j
 from_item s (items.Component c) f h j =
-    let m = from_flat_map (unknown_in_member (known_in s) (is_procedure s) (known_of c)) f c.members j in from_member s c m.0 f h m.1 m.2
+    let m = from_flat_map (unknown_in_member (known_in s) (is_procedure s) (known_of c)) f c.members j in
+    from_member s c m.0 f h m.1 m.2
 from_item s (items.Assembly a) f h j =
-    elim (in_append f (unknown_in_composition (known_in s) None a.composition) (unknown_if_configured (known_in s) (within (held_as a.composition)) a.configuration) j) [
+    elim (in_append f (unknown_in_composition (known_in s) None a.composition)
+    (unknown_if_configured (known_in s) (within (held_as a.composition)) a.configuration) j) [
       | inl x ↦ from_composition s None a.composition f (of_assembly a h) x
       | inr x ↦ from_top s a a.configuration f h refl x
     ]
@@ -219,17 +249,22 @@ from_unknown s f i =
 
 -- ---- and back
 
-in_items : (s : Source) (x : Item) (f : Fault) → HasItem s x → IsIn f (unknown_in_item (known_in s) (is_procedure s) x) → IsIn f (unknown_names s)
-in_items s x f h i = in_flat_map (λ (y : ItemAt × Item). unknown_in_item (known_in s) (is_procedure s) y.1) (h.at, x) f (items_of s) h.stands i
+in_items : (s : Source) (x : Item) (f : Fault) → HasItem s x → IsIn f (unknown_in_item (known_in s) (is_procedure s) x)
+    → IsIn f (unknown_names s)
+in_items s x f h i = in_flat_map (λ (y : ItemAt × Item). unknown_in_item (known_in s) (is_procedure s) y.1) (h.at, x) f
+    (items_of s) h.stands i
 
 in_members : (s : Source) (c : Component) (m : Member) (f : Fault) → HasItem s (items.Component c) → IsIn m c.members
     → IsIn f (unknown_in_member (known_in s) (is_procedure s) (known_of c) m) → IsIn f (unknown_names s)
-in_members s c m f h j i = in_items s (items.Component c) f h (in_flat_map (unknown_in_member (known_in s) (is_procedure s) (known_of c)) m f c.members j i)
+in_members s c m f h j i =
+    in_items s (items.Component c) f h (in_flat_map (unknown_in_member (known_in s) (is_procedure s) (known_of c)) m f
+    c.members j i)
 
 -- a member from what it is read as
 composition_there : (c : Component) (k : Composition) → IsIn k (compositions c) → IsIn (members.Composition k) c.members
 composition_there c k i =
-    let m = from_filter_map as_composition k c.members i in let P : Member → Type 0 = λ z. IsIn z c.members in subst P (the_member m.0 m.2) m.1
+    let m = from_filter_map as_composition k c.members i in let P : Member → Type 0 = λ z. IsIn z c.members in
+    subst P (the_member m.0 m.2) m.1
   where
     the_member : (m : Member) → as_composition m ≡ Some k → m ≡ members.Composition k
     the_member (members.Composition x) e = let same : x ≡ k = cc in ap (λ z. members.Composition z) same
@@ -243,7 +278,8 @@ composition_there c k i =
 
 configuration_there : (c : Component) (k : Configuration) → IsIn k (configurations c) → IsIn (members.Configuration k) c.members
 configuration_there c k i =
-    let m = from_filter_map as_configuration k c.members i in let P : Member → Type 0 = λ z. IsIn z c.members in subst P (the_member m.0 m.2) m.1
+    let m = from_filter_map as_configuration k c.members i in let P : Member → Type 0 = λ z. IsIn z c.members in
+    subst P (the_member m.0 m.2) m.1
   where
     the_member : (m : Member) → as_configuration m ≡ Some k → m ≡ members.Configuration k
     the_member (members.Configuration x) e = let same : x ≡ k = cc in ap (λ z. members.Configuration z) same
@@ -255,18 +291,23 @@ configuration_there c k i =
     the_member (members.Lock p) e = cc
     the_member (members.Composition p) e = cc
 
-in_owned : (s : Source) (owner : Option Known) (k : Composition) (f : Fault) → HasComposition s owner k → IsIn f (unknown_in_composition (known_in s) owner k) → IsIn f (unknown_names s)
+in_owned : (s : Source) (owner : Option Known) (k : Composition) (f : Fault) → HasComposition s owner k
+    → IsIn f (unknown_in_composition (known_in s) owner k) → IsIn f (unknown_names s)
 in_owned s owner k f (of_component c k' h j) i = in_members s c (members.Composition k') f h (composition_there c k' j) i
 in_owned s owner k f (of_assembly a h) i =
-    in_items s (items.Assembly a) f h (in_left f (unknown_in_composition (known_in s) None a.composition) (unknown_if_configured (known_in s) (within (held_as a.composition)) a.configuration) i)
+    in_items s (items.Assembly a) f h (in_left f (unknown_in_composition (known_in s) None a.composition)
+    (unknown_if_configured (known_in s) (within (held_as a.composition)) a.configuration) i)
 
-in_lines : (s : Source) (owner : Option Known) (k : Composition) (l : Line) (f : Fault) → HasComposition s owner k → IsIn l k.lines
+in_lines : (s : Source) (owner : Option Known) (k : Composition) (l : Line) (f : Fault) → HasComposition s owner k
+    → IsIn l k.lines
     → IsIn f (unknown_in_line (known_in s) owner (held_as k) l) → IsIn f (unknown_names s)
-in_lines s owner k l f h j i = in_owned s owner k f h (in_flat_map (unknown_in_line (known_in s) owner (held_as k)) l f k.lines j i)
+in_lines s owner k l f h j i = in_owned s owner k f h (in_flat_map (unknown_in_line (known_in s) owner (held_as k)) l
+    f k.lines j i)
 
 connection_there : (k : Composition) (w : Connection) → IsIn w (connections_in k) → IsIn (lines.Connection w) k.lines
 connection_there k w i =
-    let l = from_filter_map as_connection w k.lines i in let P : Line → Type 0 = λ z. IsIn z k.lines in subst P (the_line l.0 l.2) l.1
+    let l = from_filter_map as_connection w k.lines i in let P : Line → Type 0 = λ z. IsIn z k.lines in
+    subst P (the_line l.0 l.2) l.1
   where
     the_line : (l : Line) → as_connection l ≡ Some w → l ≡ lines.Connection w
     the_line (lines.Connection x) e = let same : x ≡ w = cc in ap (λ z. lines.Connection z) same
@@ -285,7 +326,8 @@ export_there k w i =
     the_line (lines.Connection x) e = cc
 
 -- an instance of a composition stands in a line
-in_instances : (s : Source) (owner : Option Known) (k : Composition) (i : Instance) → HasComposition s owner k → IsIn i (instances_in k) → known_in s i.component.name ≡ None
+in_instances : (s : Source) (owner : Option Known) (k : Composition) (i : Instance) → HasComposition s owner k
+    → IsIn i (instances_in k) → known_in s i.component.name ≡ None
     → IsIn (unknown i.component) (unknown_names s)
 in_instances s owner k i h j none =
     let l = from_flat_map instances_by i k.lines j in in_lines s owner k l.0 (unknown i.component) h l.1 (by_line l.0 l.2)
@@ -294,20 +336,26 @@ in_instances s owner k i h j none =
     here = in_false (is_some (known_in s i.component.name)) (unknown i.component) (ap is_some none)
 
     by_line : (l : Line) → IsIn i (instances_by l) → IsIn (unknown i.component) (unknown_in_line (known_in s) owner (held_as k) l)
-    by_line (lines.Instance x) (inl e) = let P : Instance → Type 0 = λ z. IsIn (unknown i.component) (unknown_type (known_in s) z) in subst P (sym e) here
+    by_line (lines.Instance x) (inl e) = let P : Instance → Type 0 =
+        λ z. IsIn (unknown i.component) (unknown_type (known_in s) z) in subst P (sym e) here
     by_line (lines.Instance x) (inr y) = absurd y
     by_line (lines.Group g) y = in_flat_map (unknown_type (known_in s)) i (unknown i.component) g.instances y here
     by_line (lines.Connection x) y = absurd y
     by_line (lines.Export x) y = absurd y
 
-in_one_setting : (s : Source) (owner : Option Known) (holds : Option Holding) (x : Setting) (f : Fault) → HasSetting s owner holds x
+in_one_setting : (s : Source) (owner : Option Known) (holds : Option Holding) (x : Setting) (f : Fault)
+    → HasSetting s owner holds x
     → IsIn f (unknown_in_one_setting (known_in s) owner (scope_of_held holds) x) → IsIn f (unknown_names s)
 in_one_setting s owner holds x f (of_a_body c g y h j i) u =
-    in_members s c (members.Configuration g) f h (configuration_there c g j) (in_flat_map (unknown_in_one_setting (known_in s) (Some (known_of c)) (scope_of_held (known_of c).holds)) y f g.settings i u)
+    in_members s c (members.Configuration g) f h (configuration_there c g j)
+    (in_flat_map (unknown_in_one_setting (known_in s) (Some (known_of c)) (scope_of_held (known_of c).holds)) y f
+    g.settings i u)
 in_one_setting s owner holds x f (of_the_top a g y h e i) u =
     let P : Option Configuration → Type 0 = λ z. IsIn f (unknown_if_configured (known_in s) (within (held_as a.composition)) z) in
-    in_items s (items.Assembly a) f h (in_right f (unknown_in_composition (known_in s) None a.composition) (unknown_if_configured (known_in s) (within (held_as a.composition)) a.configuration)
-    (subst P (sym e) (in_flat_map (unknown_in_one_setting (known_in s) None (within (held_as a.composition))) y f g.settings i u)))
+    in_items s (items.Assembly a) f h (in_right f (unknown_in_composition (known_in s) None a.composition)
+    (unknown_if_configured (known_in s) (within (held_as a.composition)) a.configuration)
+    (subst P (sym e) (in_flat_map (unknown_in_one_setting (known_in s) None (within (held_as a.composition))) y f
+    g.settings i u)))
 
 lacked : (o : Option Known) (n : Name) → LacksAttribute o n → is_some (option_and_then (λ c. c.attribute n) o) ≡ false
 lacked None n l = refl
@@ -323,7 +371,8 @@ there s f g e i = let P : Fault → Type 0 = λ z. IsIn z (unknown_names s) in s
 pub in_unknown : (s : Source) (f : Fault) → IsUnknown s f → IsIn f (unknown_names s)
 in_unknown s f (in_a_setting owner holds x w h u e) =
     there s f (unknown w) e (in_one_setting s owner holds x (unknown w) h
-    (in_left (unknown w) (unknown_in_setting (known_in s) (scope_of_held holds) x.words) (unknown_attribute owner x.setter) (in_setting (known_in s) holds x.words w u)))
+    (in_left (unknown w) (unknown_in_setting (known_in s) (scope_of_held holds) x.words) (unknown_attribute owner x.setter)
+    (in_setting (known_in s) holds x.words w u)))
 in_unknown s f (an_attribute_referred owner holds x y h r l e) =
     let P : Setter → Type 0 = λ z. IsIn (unknown y) (unknown_attribute owner z) in
     there s f (unknown y) e (in_one_setting s owner holds x (unknown y) h
@@ -331,20 +380,26 @@ in_unknown s f (an_attribute_referred owner holds x y h r l e) =
     (subst P (sym r) (in_false (is_some (option_and_then (λ c. c.attribute y.name) owner)) (unknown y) (lacked owner y.name l)))))
 in_unknown s f (a_procedure c i h j n none e) =
     there s f (unknown i.word) e (in_members s c (members.Interface i) (unknown i.word) h j
-    (in_false (not (names_procedure i.kind) || is_procedure s i.word.name) (unknown i.word) (ap (λ z. not z || is_procedure s i.word.name) n ∙ ap is_some none)))
+    (in_false (not (names_procedure i.kind) || is_procedure s i.word.name) (unknown i.word)
+    (ap (λ z. not z || is_procedure s i.word.name) n ∙ ap is_some none)))
 in_unknown s f (a_type owner k i h j none e) = there s f (unknown i.component) e (in_instances s owner k i h j none)
 in_unknown s f (a_connector owner k x h j none e) =
     there s f (unknown x.connector) e (in_lines s owner k (lines.Connection x) (unknown x.connector) h (connection_there k x j)
-    (in_left (unknown x.connector) (unknown_connector x) (flat_map (λ (e : End). unknown_in_dotted (known_in s) (held_as k) e.words) x.ends)
+    (in_left (unknown x.connector) (unknown_connector x)
+    (flat_map (λ (e : End). unknown_in_dotted (known_in s) (held_as k) e.words) x.ends)
     (in_false (is_some (connector_of x.connector.name)) (unknown x.connector) (ap is_some none))))
 in_unknown s f (in_an_end owner k x d w h j i u e) =
     there s f (unknown w) e (in_lines s owner k (lines.Connection x) (unknown w) h (connection_there k x j)
-    (in_right (unknown w) (unknown_connector x) (flat_map (λ (e : End). unknown_in_dotted (known_in s) (held_as k) e.words) x.ends)
-    (in_flat_map (λ (e : End). unknown_in_dotted (known_in s) (held_as k) e.words) d (unknown w) x.ends i (in_dotted (known_in s) (held_as k) d.words w u))))
+    (in_right (unknown w) (unknown_connector x)
+    (flat_map (λ (e : End). unknown_in_dotted (known_in s) (held_as k) e.words) x.ends)
+    (in_flat_map (λ (e : End). unknown_in_dotted (known_in s) (held_as k) e.words) d (unknown w) x.ends i
+    (in_dotted (known_in s) (held_as k) d.words w u))))
 in_unknown s f (in_an_export owner k x w h j u e) =
     there s f (unknown w) e (in_lines s owner k (lines.Export x) (unknown w) h (export_there k x j)
-    (in_left (unknown w) (unknown_in_dotted (known_in s) (held_as k) x.words) (unknown_target owner x.target) (in_dotted (known_in s) (held_as k) x.words w u)))
+    (in_left (unknown w) (unknown_in_dotted (known_in s) (held_as k) x.words) (unknown_target owner x.target)
+    (in_dotted (known_in s) (held_as k) x.words w u)))
 in_unknown s f (a_target owner k x h j l e) =
     there s f (unknown x.target) e (in_lines s owner k (lines.Export x) (unknown x.target) h (export_there k x j)
     (in_right (unknown x.target) (unknown_in_dotted (known_in s) (held_as k) x.words) (unknown_target owner x.target)
-    (in_false (is_some (option_and_then (λ c. c.interface x.target.name) owner)) (unknown x.target) (lacked_interface owner x.target.name l))))
+    (in_false (is_some (option_and_then (λ c. c.interface x.target.name) owner)) (unknown x.target)
+    (lacked_interface owner x.target.name l))))

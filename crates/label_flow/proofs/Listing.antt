@@ -8,20 +8,27 @@ use Rattle.cap_model.specs.declared.edge.Edge.{Edge}
 use Rattle.label_flow.specs.Edges.{AreBelow, turned}
 
 taken : (table : List Edge) (at : ℕ) (e : Edge) → slice_get table at ≡ Some e → take (at + 1) table ≡ take at table ++ e ∷ []
-taken table at e got = take_more table at e (slice_get_within table at e got) ∙ ap (λ (x : Edge). take at table ++ x ∷ []) (get_or_from_slice_get table at e e got)
+taken table at e got = take_more table at e (slice_get_within table at e got) ∙ ap (λ (x : Edge). take at table ++ x ∷ [])
+    (get_or_from_slice_get table at e e got)
 
-pub one_more : (table old new : List Edge) (at : ℕ) (e : Edge) → slice_get table at ≡ Some e → old ≡ take at table → new ≡ old ++ e ∷ [] → new ≡ take (at + 1) table
+pub one_more : (table old new : List Edge) (at : ℕ) (e : Edge) → slice_get table at ≡ Some e → old ≡ take at table
+    → new ≡ old ++ e ∷ [] → new ≡ take (at + 1) table
 one_more table old new at e got is more = more ∙ ap (λ (xs : List Edge). xs ++ e ∷ []) is ∙ sym (taken table at e got)
 
-pub one_turned : (table old new : List Edge) (at : ℕ) (e : Edge) → slice_get table at ≡ Some e → old ≡ map turned (take at table) → new ≡ old ++ turned e ∷ [] → new ≡ map turned (take (at + 1) table)
+pub one_turned : (table old new : List Edge) (at : ℕ) (e : Edge) → slice_get table at ≡ Some e → old ≡ map turned (take at table)
+    → new ≡ old ++ turned e ∷ [] → new ≡ map turned (take (at + 1) table)
 one_turned table old new at e got is more =
-    more ∙ ap (λ (xs : List Edge). xs ++ turned e ∷ []) is ∙ sym (ap (λ (xs : List Edge). map turned xs) (taken table at e got) ∙ map-append turned (take at table) (e ∷ []))
+    more ∙ ap (λ (xs : List Edge). xs ++ turned e ∷ []) is ∙ sym (ap (λ (xs : List Edge). map turned xs) (taken table at e got)
+    ∙ map-append turned (take at table) (e ∷ []))
 
-pub below_more : (edges : List Edge) (i count more : ℕ) (d : Edge) → i < length edges → AreBelow count (take i edges) → count ≤ more → (get_or edges i d).from < more → (get_or edges i d).to < more
+pub below_more : (edges : List Edge) (i count more : ℕ) (d : Edge) → i < length edges → AreBelow count (take i edges)
+    → count ≤ more → (get_or edges i d).from < more → (get_or edges i d).to < more
     → AreBelow more (take (i + 1) edges)
 below_more edges i count more d within below less first second = record {
-  ends = λ e there. elim (Contains-push_cases (take i edges) (get_or edges i d) e (subst (λ (xs : List Edge). Contains xs e) (take_more edges i d within) there)) [
-    | inl old ↦ (let ends = below.ends e old in (let f = ends.0 in omega arith, let t = ends.1 in omega arith))
-    | inr new ↦ (subst (λ (x : Edge). x.from < more) new first, subst (λ (x : Edge). x.to < more) new second)
-  ];
+  ends =
+      λ e there. elim (Contains-push_cases (take i edges) (get_or edges i d) e (subst (λ (xs : List Edge). Contains xs e)
+      (take_more edges i d within) there)) [
+        | inl old ↦ (let ends = below.ends e old in (let f = ends.0 in omega arith, let t = ends.1 in omega arith))
+        | inr new ↦ (subst (λ (x : Edge). x.from < more) new first, subst (λ (x : Edge). x.to < more) new second)
+      ];
 }

@@ -21,7 +21,8 @@ use Rattle.label_flow.specs.declared.search.Search.{Search}
 
 pub blank_more : (n : ℕ) → blank n ++ None ∷ [] ≡ blank (n + 1)
 blank_more zero = refl
-blank_more (suc n) = let e : suc n + 1 ≡ suc (n + 1) = omega arith in rw e (ap (λ (rest : List (Option ℕ)). None ∷ rest) (blank_more n))
+blank_more (suc n) = let e : suc n + 1 ≡ suc (n + 1) = omega arith in
+    rw e (ap (λ (rest : List (Option ℕ)). None ∷ rest) (blank_more n))
 
 pub blank_length : (n : ℕ) → length (blank n) ≡ n
 blank_length zero = refl
@@ -35,7 +36,8 @@ blank_none (suc n) (suc m) = blank_none n m
 blank_count : (n : ℕ) → count_by is_none (blank n) ≡ n
 blank_count zero = refl
 blank_count (suc n) =
-    let e : count_by is_none (None ∷ blank n) ≡ 1 + count_by is_none (blank n) = sum_by-cons (λ (o : Option ℕ). cond {A = ℕ} (is_none o) 1 0) None (blank n) in
+    let e : count_by is_none (None ∷ blank n) ≡ 1 + count_by is_none (blank n) =
+    sum_by-cons (λ (o : Option ℕ). cond {A = ℕ} (is_none o) 1 0) None (blank n) in
     let f = blank_count n in
     omega arith
 
@@ -44,24 +46,33 @@ one_found : (x : Found) (i : ℕ) (f : Found) → slice_get (x ∷ []) i ≡ Som
 one_found x zero f h = (refl, (let s : x ≡ f = cc in s))
 one_found x (suc i) f h = absurd cc
 
-pub begins : (edges : List Edge) (from count : ℕ) (x : Found) → from < count → x.label ≡ from → x.depth ≡ 0 → IsSearch edges from (x ∷ []) (set (blank count) from (Some 0)) 0
+pub begins : (edges : List Edge) (from count : ℕ) (x : Found) → from < count → x.label ≡ from → x.depth ≡ 0
+    → IsSearch edges from (x ∷ []) (set (blank count) from (Some 0)) 0
 begins edges from count x less label depth =
     let within : from < length (blank count) = rw (blank_length count) less in
     record {
-      met = λ i f got. inl (ap (λ (z : Found). z.label) (sym (one_found x i f got).1) ∙ label, ap (λ (z : Found). z.depth) (sym (one_found x i f got).1) ∙ depth);
+      met = λ i f got. inl (
+        ap (λ (z : Found). z.label) (sym (one_found x i f got).1) ∙ label,
+        ap (λ (z : Found). z.depth)
+            (sym (one_found x i f got).1) ∙ depth,
+      );
       shallow = λ i f got. let d : x.depth ≡ f.depth = ap (λ (z : Found). z.depth) (one_found x i f got).1 in omega arith;
       rising = λ i j f g order got also.
           let d : x.depth ≡ f.depth = ap (λ (z : Found). z.depth) (one_found x i f got).1 in
           let e : x.depth ≡ g.depth = ap (λ (z : Found). z.depth) (one_found x j g also).1 in
           omega arith;
-      least = λ i f got chain leads. let d : x.depth ≡ f.depth = ap (λ (z : Found). z.depth) (one_found x i f got).1 in omega arith;
+      least = λ i f got chain leads. let d : x.depth ≡ f.depth = ap (λ (z : Found). z.depth) (one_found x i f got).1 in
+          omega arith;
       placed = λ m i h. elim (placed_set (blank count) from 0 m i within h) [
         | inl old ↦ absurd (let w = blank_none count m in cc)
         | inr new ↦ (x, subst (λ (k : ℕ). slice_get (x ∷ []) k ≡ Some x) new.1 refl, label ∙ sym new.0)
       ];
       known = λ i f got.
-          let same : from ≡ f.label = sym label ∙ ap (λ (z : Found). z.label) (one_found x i f got).1 in
-          (0, subst (λ (k : ℕ). place_of (set (blank count) from (Some 0)) k ≡ Some 0) same (get_or-set_same (blank count) from (Some 0) None within));
+          let same : from ≡ f.label = sym label ∙ ap (λ (z : Found). z.label) (one_found x i f got).1 in (
+            0,
+            subst (λ (k : ℕ). place_of (set (blank count) from (Some 0)) k ≡ Some 0) same
+                (get_or-set_same (blank count) from (Some 0) None within),
+          );
       counted =
           let less = count_less (blank count) from 0 within (blank_none count from) in
           let all = blank_count count in
@@ -84,7 +95,8 @@ met_wide places found f = go (is_some (place_of places f.label)) refl where
   go true h = rw h refl
   go false h = rw h (length-set places f.label (Some (length found)))
 
-module _ (edges : List Edge) (from count : ℕ) (s : Search) (at : ℕ) (h : Found) (row : List ℕ) (i p : ℕ) (looks : Looks edges from count s at h row i) (here : slice_get row i ≡ Some p) (e : Edge)
+module _ (edges : List Edge) (from count : ℕ) (s : Search) (at : ℕ) (h : Found) (row : List ℕ) (i p : ℕ)
+    (looks : Looks edges from count s at h row i) (here : slice_get row i ≡ Some p) (e : Edge)
     (by : slice_get edges p ≡ Some e) where
   same_edge : (j q : ℕ) (d : Edge) → j ≡ i → slice_get row j ≡ Some q → slice_get edges q ≡ Some d → e ≡ d
   same_edge j q d same got is =
@@ -104,7 +116,8 @@ module _ (edges : List Edge) (from count : ℕ) (s : Search) (at : ℕ) (h : Fou
       part = λ j q d less got is m passes. elim (cases_lt j i) [
         | inl before ↦ looks.is.part j q d before got is m passes
         | inr last ↦ absurd (let one : e ≡ d = same_edge j q d (omega arith) got is in
-            let w : passed_to e h.label ≡ Some m = subst (λ (x : Edge). passed_to x h.label ≡ Some m) (sym one) (passes_only d h.label m passes) in cc)
+            let w : passed_to e h.label ≡ Some m = subst (λ (x : Edge). passed_to x h.label ≡ Some m) (sym one)
+            (passes_only d h.label m passes) in cc)
       ];
     };
   }
@@ -112,60 +125,102 @@ module _ (edges : List Edge) (from count : ℕ) (s : Search) (at : ℕ) (h : Fou
   -- by which something passes to a label
   module _ (label : ℕ) (passed : passed_to e h.label ≡ Some label) (found : List Found) (places : List (Option ℕ)) where
     -- the edge is done with once its label is placed
-    part_more : IsSearch edges from found places at → slice_get found at ≡ Some h → IsPlaced places label → ((m : ℕ) → IsPlaced s.places.items m → IsPlaced places m) → IsLooking edges from found places at h row (i + 1)
+    part_more : IsSearch edges from found places at → slice_get found at ≡ Some h → IsPlaced places label
+        → ((m : ℕ) → IsPlaced s.places.items m → IsPlaced places m) → IsLooking edges from found places at h row (i + 1)
     part_more search there placed stays = record {
       search = search;
       there = there;
       part = λ j q d less got is m passes. elim (cases_lt j i) [
         | inl before ↦ stays m (looks.is.part j q d before got is m passes)
         | inr last ↦ let one : e ≡ d = same_edge j q d (omega arith) got is in
-            let w : passed_to e h.label ≡ Some m = subst (λ (x : Edge). passed_to x h.label ≡ Some m) (sym one) (passes_only d h.label m passes) in
+            let w : passed_to e h.label ≡ Some m = subst (λ (x : Edge). passed_to x h.label ≡ Some m) (sym one)
+            (passes_only d h.label m passes) in
             let to : label ≡ m = cc in
             subst (λ (n : ℕ). IsPlaced places n) to placed
       ];
     }
 
-    looking_more : label < length s.places.items → found ≡ met_found s.places.items s.found.items (record { label = label; by = p; previous = at; depth = h.depth + 1 })
-        → places ≡ met_places s.places.items s.found.items (record { label = label; by = p; previous = at; depth = h.depth + 1 }) → IsLooking edges from found places at h row (i + 1)
+    looking_more : label < length s.places.items
+        → found ≡ met_found s.places.items s.found.items (record { label = label; by = p; previous = at; depth = h.depth + 1 })
+        → places ≡ met_places s.places.items s.found.items (record { label = label; by = p; previous = at; depth = h.depth + 1 })
+        → IsLooking edges from found places at h row (i + 1)
     looking_more within sames alsos = go (place_of s.places.items label) refl where
       go : (o : Option ℕ) → place_of s.places.items label ≡ o → IsLooking edges from found places at h row (i + 1)
       go (Some n) is =
           let f : found ≡ s.found.items = sames ∙ (rw is refl) in
           let g : places ≡ s.places.items = alsos ∙ (rw is refl) in
-          part_more (subst (λ (x : List Found). IsSearch edges from x places at) (sym f) (subst (λ (y : List (Option ℕ)). IsSearch edges from s.found.items y at) (sym g) looks.is.search))
+          part_more (subst (λ (x : List Found). IsSearch edges from x places at) (sym f)
+          (subst (λ (y : List (Option ℕ)). IsSearch edges from s.found.items y at) (sym g) looks.is.search))
           (subst (λ (x : List Found). slice_get x at ≡ Some h) (sym f) looks.is.there)
           (n, subst (λ (y : List (Option ℕ)). place_of y label ≡ Some n) (sym g) is)
           (λ m placed. subst (λ (y : List (Option ℕ)). IsPlaced y m) (sym g) placed)
       go None is =
-          let f : found ≡ s.found.items ++ record { label = label; by = p; previous = at; depth = h.depth + 1 } ∷ [] = sames ∙ (rw is refl) in
+          let f : found ≡ s.found.items ++ record { label = label; by = p; previous = at; depth = h.depth + 1 } ∷ [] =
+          sames ∙ (rw is refl) in
           let g : places ≡ set s.places.items label (Some (length s.found.items)) = alsos ∙ (rw is refl) in
-          let search : IsSearch edges from (s.found.items ++ record { label = label; by = p; previous = at; depth = h.depth + 1 } ∷ []) (set s.places.items label (Some (length s.found.items))) at =
-          met_more edges from s.found.items s.places.items at looks.is.search h looks.is.there (record { label = label; by = p; previous = at; depth = h.depth + 1 }) e is within by (passed_is e h.label label passed) refl refl in
-          part_more (subst (λ (x : List Found). IsSearch edges from x places at) (sym f) (subst (λ (y : List (Option ℕ)). IsSearch edges from (s.found.items ++ record { label = label; by = p; previous = at; depth = h.depth + 1 } ∷ []) y at) (sym g) search))
-          (subst (λ (x : List Found). slice_get x at ≡ Some h) (sym f) (got_left s.found.items (record { label = label; by = p; previous = at; depth = h.depth + 1 } ∷ []) at h looks.is.there))
-          (length s.found.items, subst (λ (y : List (Option ℕ)). place_of y label ≡ Some (length s.found.items)) (sym g) (get_or-set_same s.places.items label (Some (length s.found.items)) None within))
-          (λ m placed. subst (λ (y : List (Option ℕ)). IsPlaced y m) (sym g) (stays_placed s.places.items label (length s.found.items) m within placed))
+          let search : IsSearch edges from (s.found.items ++ record { label = label; by = p; previous = at; depth = h.depth + 1 }
+          ∷ []) (set s.places.items label (Some (length s.found.items))) at =
+          met_more edges from s.found.items s.places.items at looks.is.search h looks.is.there (record {
+            label = label;
+            by = p;
+            previous = at;
+            depth = h.depth + 1;
+          }) e is within by (passed_is e h.label label passed) refl refl in
+          part_more (subst (λ (x : List Found). IsSearch edges from x places at) (sym f)
+          (subst (λ (y : List (Option ℕ)). IsSearch edges from (s.found.items ++ record {
+            label = label;
+            by = p;
+            previous = at;
+            depth = h.depth + 1;
+          } ∷ []) y at) (sym g) search))
+          (subst (λ (x : List Found). slice_get x at ≡ Some h) (sym f)
+          (got_left s.found.items (record { label = label; by = p; previous = at; depth = h.depth + 1 } ∷ []) at h
+          looks.is.there)) (
+            length s.found.items,
+            subst (λ (y : List (Option ℕ)). place_of y label ≡ Some (length s.found.items)) (sym g)
+                (get_or-set_same s.places.items label (Some (length s.found.items)) None within),
+          )
+          (λ m placed. subst (λ (y : List (Option ℕ)). IsPlaced y m) (sym g)
+          (stays_placed s.places.items label (length s.found.items) m within placed))
 
-  pub passed_below : (label : ℕ) → AreBelow (length s.places.items) edges → passed_to e h.label ≡ Some label → label < length s.places.items
+  pub passed_below : (label : ℕ) → AreBelow (length s.places.items) edges → passed_to e h.label ≡ Some label
+      → label < length s.places.items
   passed_below label below passed =
       let ends = below.ends e (at_contains edges p e by) in
       go (passed_is e h.label label passed) ends.0 ends.1 where
-        go : Passes e h.label label → e.from < length s.places.items → e.to < length s.places.items → label < length s.places.items
+        go : Passes e h.label label → e.from < length s.places.items → e.to < length s.places.items
+            → label < length s.places.items
         go (from_holder goes same also) first second = subst (λ (n : ℕ). n < length s.places.items) (sym also) second
         go (to_holder goes same also) first second = subst (λ (n : ℕ). n < length s.places.items) (sym also) first
 
   pub looks_met : (label : ℕ) (new : Search) → passed_to e h.label ≡ Some label → label < length s.places.items
-      → new.found.items ≡ met_found s.places.items s.found.items (record { label = label; by = p; previous = at; depth = h.depth + 1 })
-      → new.places.items ≡ met_places s.places.items s.found.items (record { label = label; by = p; previous = at; depth = h.depth + 1 }) → new.from ≡ s.from → Looks edges from count new at h row (i + 1)
+      → new.found.items ≡ met_found s.places.items s.found.items (record {
+        label = label;
+        by = p;
+        previous = at;
+        depth = h.depth + 1;
+      })
+      → new.places.items ≡ met_places s.places.items s.found.items (record {
+        label = label;
+        by = p;
+        previous = at;
+        depth = h.depth + 1;
+      }) → new.from ≡ s.from → Looks edges from count new at h row (i + 1)
   looks_met label new passed within found places start = record {
     start = start ∙ looks.start;
-    wide = ap (λ (y : List (Option ℕ)). length y) places ∙ met_wide s.places.items s.found.items (record { label = label; by = p; previous = at; depth = h.depth + 1 }) ∙ looks.wide;
+    wide = ap (λ (y : List (Option ℕ)). length y) places ∙ met_wide s.places.items s.found.items (record {
+      label = label;
+      by = p;
+      previous = at;
+      depth = h.depth + 1;
+    }) ∙ looks.wide;
     is = looking_more label passed new.found.items new.places.items within found places;
   }
 
 -- ---- one label, and all
 
-pub looks_first : (edges : List Edge) (from count : ℕ) (s : Search) (at : ℕ) (h : Found) (row : List ℕ) → Searches edges from count s at → slice_get s.found.items at ≡ Some h → Looks edges from count s at h row 0
+pub looks_first : (edges : List Edge) (from count : ℕ) (s : Search) (at : ℕ) (h : Found) (row : List ℕ)
+    → Searches edges from count s at → slice_get s.found.items at ≡ Some h → Looks edges from count s at h row 0
 looks_first edges from count s at h row searches there = record {
   start = searches.start;
   wide = searches.wide;
@@ -176,13 +231,15 @@ pub contains_at : {A : Type 0} (xs : List A) (x : A) → Contains xs x → (j : 
 contains_at xs x c = (c.0, slice_get_read xs _ c.0 x refl c.1 (sym c.2))
 
 -- an edge by which something passes from a label stands in the label's row
-in_row : (edges : List Edge) (count : ℕ) (exits : List (List ℕ)) (k : ℕ) (e : Edge) (l m : ℕ) → AreExits edges count (length edges) exits → slice_get edges k ≡ Some e → Passes e l m → Contains (exits_of exits l) k
+in_row : (edges : List Edge) (count : ℕ) (exits : List (List ℕ)) (k : ℕ) (e : Edge) (l m : ℕ)
+    → AreExits edges count (length edges) exits → slice_get edges k ≡ Some e → Passes e l m → Contains (exits_of exits l) k
 in_row edges count exits k e l m are is (from_holder goes same also) =
     subst (λ (n : ℕ). Contains (exits_of exits n) k) (sym same) (are.all k e (slice_get_within edges k e is) is).0
 in_row edges count exits k e l m are is (to_holder goes same also) =
     subst (λ (n : ℕ). Contains (exits_of exits n) k) (sym same) (are.all k e (slice_get_within edges k e is) is).1
 
-pub looks_last : (edges : List Edge) (from count : ℕ) (s : Search) (at i : ℕ) (h : Found) (exits : List (List ℕ)) (row : List ℕ) → AreExits edges count (length edges) exits → row ≡ exits_of exits h.label → length row ≤ i
+pub looks_last : (edges : List Edge) (from count : ℕ) (s : Search) (at i : ℕ) (h : Found) (exits : List (List ℕ)) (row : List ℕ)
+    → AreExits edges count (length edges) exits → row ≡ exits_of exits h.label → length row ≤ i
     → Looks edges from count s at h row i → Searches edges from count s (at + 1)
 looks_last edges from count s at i h exits row are whole all looks = record {
   start = looks.start;
@@ -204,7 +261,8 @@ looks_last edges from count s at i h exits row are whole all looks = record {
           let one : h ≡ f = cc in
           let by : Passes e h.label m = subst (λ (x : Found). Passes e x.label m) (sym one) passes in
           let place = contains_at edges e has in
-          let stands : Contains row place.0 = subst (λ (ks : List ℕ). Contains ks place.0) (sym whole) (in_row edges count exits place.0 e h.label m are place.1 by) in
+          let stands : Contains row place.0 = subst (λ (ks : List ℕ). Contains ks place.0) (sym whole)
+          (in_row edges count exits place.0 e h.label m are place.1 by) in
           let index = contains_at row place.0 stands in
           let within = slice_get_within row index.0 place.0 index.1 in
           looks.is.part index.0 place.0 e (omega arith) index.1 place.1 m by
@@ -222,13 +280,15 @@ placed_below [] m i h = absurd cc
 placed_below (x ∷ xs) zero i h = omega arith
 placed_below (x ∷ xs) (suc m) i h = let l : m < length xs = placed_below xs m i h in omega arith
 
-pub found_few : (edges : List Edge) (from count : ℕ) (s : Search) (at : ℕ) → Searches edges from count s at → length s.found.items ≤ count
+pub found_few : (edges : List Edge) (from count : ℕ) (s : Search) (at : ℕ) → Searches edges from count s at
+    → length s.found.items ≤ count
 found_few edges from count s at searches = let c = searches.is.counted in let w = searches.wide in omega arith
 
 is_out : List (Option ℕ) → ℕ → Bool
 is_out places m = is_none (place_of places m)
 
-pub ends_apart : (edges : List Edge) (from to count : ℕ) (s : Search) → Searches edges from count s (length s.found.items) → place_of s.places.items to ≡ None → IsApart edges from to
+pub ends_apart : (edges : List Edge) (from to count : ℕ) (s : Search) → Searches edges from count s (length s.found.items)
+    → place_of s.places.items to ≡ None → IsApart edges from to
 unfolding is_out
 ends_apart edges from to count s searches none = record {
   inside = is_out s.places.items;
@@ -236,30 +296,36 @@ ends_apart edges from to count s searches none = record {
   has = rw none refl;
   lacks = rw searches.is.begun.1 refl;
 } where
-  go : (l m : ℕ) (o : Option ℕ) → place_of s.places.items l ≡ o → Flows edges l m → is_none (place_of s.places.items m) ≡ true → is_none (place_of s.places.items l) ≡ true
+  go : (l m : ℕ) (o : Option ℕ) → place_of s.places.items l ≡ o → Flows edges l m → is_none (place_of s.places.items m) ≡ true
+      → is_none (place_of s.places.items l) ≡ true
   go l m None is flows out = rw is refl
   go l m (Some i) is flows out = absurd (let f = searches.is.placed l i is in
       let p = (flows_pass edges l m).0 flows in
-      let placed = searches.is.looked i f.0 (slice_get_within s.found.items i f.0 f.1) f.1 p.0 m p.1 (subst (λ (n : ℕ). Passes p.0 n m) (sym f.2) p.2) in
+      let placed = searches.is.looked i f.0 (slice_get_within s.found.items i f.0 f.1) f.1 p.0 m p.1
+      (subst (λ (n : ℕ). Passes p.0 n m) (sym f.2) p.2) in
       let w : is_none (Some placed.0) ≡ true = rw placed.1 at out in cc)
 
 -- ---- what the functions ask
 
-pub begun_searches : (edges : List Edge) (from count : ℕ) (s : Search) (x : Found) → s.from ≡ from → s.found.items ≡ x ∷ [] → s.places.items ≡ set (blank count) from (Some 0) → from < count → x.label ≡ from
+pub begun_searches : (edges : List Edge) (from count : ℕ) (s : Search) (x : Found) → s.from ≡ from → s.found.items ≡ x ∷ []
+    → s.places.items ≡ set (blank count) from (Some 0) → from < count → x.label ≡ from
     → x.depth ≡ 0 → Searches edges from count s 0
 begun_searches edges from count s x start found places less label depth = record {
   start = start;
   wide = ap (λ (y : List (Option ℕ)). length y) places ∙ length-set (blank count) from (Some 0) ∙ blank_length count;
   is =
       subst (λ (xs : List Found). IsSearch edges from xs s.places.items 0) (sym found)
-      (subst (λ (ys : List (Option ℕ)). IsSearch edges from (x ∷ []) ys 0) (sym places) (begins edges from count x less label depth));
+      (subst (λ (ys : List (Option ℕ)). IsSearch edges from (x ∷ []) ys 0) (sym places)
+      (begins edges from count x less label depth));
 }
 
-pub searches_as : (edges : List Edge) (from count l n : ℕ) (s : Search) (at : ℕ) → l ≡ from → n ≡ count → Searches edges l n s at → Searches edges from count s at
+pub searches_as : (edges : List Edge) (from count l n : ℕ) (s : Search) (at : ℕ) → l ≡ from → n ≡ count → Searches edges l n s at
+    → Searches edges from count s at
 searches_as edges from count l n s at same also searches =
     subst (λ (k : ℕ). Searches edges from k s at) also (subst (λ (k : ℕ). Searches edges k n s at) same searches)
 
-pub searches_end : (edges : List Edge) (from count : ℕ) (s : Search) (at : ℕ) → length s.found.items ≤ at → Searches edges from count s at → Searches edges from count s (length s.found.items)
+pub searches_end : (edges : List Edge) (from count : ℕ) (s : Search) (at : ℕ) → length s.found.items ≤ at
+    → Searches edges from count s at → Searches edges from count s (length s.found.items)
 searches_end edges from count s at all searches = record {
   start = searches.start;
   wide = searches.wide;
@@ -277,35 +343,44 @@ searches_end edges from count s at all searches = record {
   });
 }
 
-pub place_read : (places : List (Option ℕ)) (m : ℕ) (o : Option ℕ) → m < length places → o ≡ get_or places m o → place_of places m ≡ o
+pub place_read : (places : List (Option ℕ)) (m : ℕ) (o : Option ℕ) → m < length places → o ≡ get_or places m o
+    → place_of places m ≡ o
 place_read places m o less h = get_or_from_slice_get places m o None (slice_get_read places _ m o refl less h)
 
-pub ends_shortest : (edges : List Edge) (from to count : ℕ) (s : Search) (place : ℕ) (f : Found) (chain : List Edge) → Searches edges from count s (length s.found.items) → place_of s.places.items to ≡ Some place
-    → slice_get s.found.items place ≡ Some f → Chain edges s.from chain f.label → length chain ≡ f.depth → IsShortest edges from to chain
+pub ends_shortest : (edges : List Edge) (from to count : ℕ) (s : Search) (place : ℕ) (f : Found) (chain : List Edge)
+    → Searches edges from count s (length s.found.items) → place_of s.places.items to ≡ Some place
+    → slice_get s.found.items place ≡ Some f → Chain edges s.from chain f.label → length chain ≡ f.depth
+    → IsShortest edges from to chain
 ends_shortest edges from to count s place f chain searches placed there leads long =
     let p = searches.is.placed to place placed in
     let same : p.0 ≡ f = one_at s.found.items place p.0 f p.1 there in
     let label : f.label ≡ to = sym (ap (λ (x : Found). x.label) same) ∙ p.2 in
     record {
-      leads = subst (λ (k : ℕ). Chain edges from chain k) label (subst (λ (k : ℕ). Chain edges k chain f.label) searches.start leads);
+      leads = subst (λ (k : ℕ). Chain edges from chain k) label (subst (λ (k : ℕ). Chain edges k chain f.label)
+          searches.start leads);
       least = λ other way.
-          let l : f.depth ≤ length other = searches.is.least place f there other (subst (λ (k : ℕ). Chain edges from other k) (sym label) way) in
+          let l : f.depth ≤ length other = searches.is.least place f there other (subst (λ (k : ℕ). Chain edges from other k)
+          (sym label) way) in
           omega arith;
     }
 
 -- the label looked at, and the row of its edges
-pub head_below : (edges : List Edge) (from count : ℕ) (s : Search) (at : ℕ) (h : Found) → Searches edges from count s at → at < length s.found.items → h ≡ get_or s.found.items at h → h.label < count
+pub head_below : (edges : List Edge) (from count : ℕ) (s : Search) (at : ℕ) (h : Found) → Searches edges from count s at
+    → at < length s.found.items → h ≡ get_or s.found.items at h → h.label < count
 head_below edges from count s at h searches within is =
     let placed = searches.is.known at h (slice_get_read s.found.items _ at h refl within is) in
     let below = placed_below s.places.items h.label placed.0 placed.1 in
     let wide = searches.wide in
     omega arith
 
-pub row_is : (edges : List Edge) (count done : ℕ) (exits : List (List ℕ)) (l : ℕ) (row r : List ℕ) → AreExits edges count done exits → l < count → row ≡ r → r ≡ get_or exits l r → row ≡ exits_of exits l
+pub row_is : (edges : List Edge) (count done : ℕ) (exits : List (List ℕ)) (l : ℕ) (row r : List ℕ)
+    → AreExits edges count done exits → l < count → row ≡ r → r ≡ get_or exits l r → row ≡ exits_of exits l
 row_is edges count done exits l row r are below same is =
     let wide = are.wide in
     let within : l < length exits = omega arith in
     same ∙ sym (get_or_from_slice_get exits l r [] (slice_get_read exits _ l r refl within is))
 
-pub row_inside : (edges : List Edge) (count done : ℕ) (exits : List (List ℕ)) (l i p : ℕ) (row : List ℕ) → AreExits edges count done exits → row ≡ exits_of exits l → slice_get row i ≡ Some p → p < length edges
-row_inside edges count done exits l i p row are whole here = are.inside l p (subst (λ (ks : List ℕ). Contains ks p) whole (at_contains row i p here))
+pub row_inside : (edges : List Edge) (count done : ℕ) (exits : List (List ℕ)) (l i p : ℕ) (row : List ℕ)
+    → AreExits edges count done exits → row ≡ exits_of exits l → slice_get row i ≡ Some p → p < length edges
+row_inside edges count done exits l i p row are whole here =
+    are.inside l p (subst (λ (ks : List ℕ). Contains ks p) whole (at_contains row i p here))

@@ -20,7 +20,8 @@ passes_back e l m (to_holder goes same also) = to_holder goes also same
 turned_there : (edges : List Edge) (e : Edge) → Contains edges e → Contains (map turned edges) (turned e)
 turned_there edges e there =
     let place = contains_at edges e there in
-    at_contains (map turned edges) place.0 (turned e) (slice_get-map turned edges place.0 ∙ ap (λ (o : Option Edge). option_map turned o) place.1)
+    at_contains (map turned edges) place.0 (turned e) (slice_get-map turned edges place.0
+    ∙ ap (λ (o : Option Edge). option_map turned o) place.1)
 
 pub turned_twice : (edges : List Edge) → map turned (map turned edges) ≡ edges
 turned_twice [] = refl
@@ -32,11 +33,15 @@ Leads edges l m = (chain : List Edge) × Chain edges l chain m
 chain_back : (edges : List Edge) (l m : ℕ) (chain : List Edge) → Chain edges l chain m → Leads (map turned edges) m l
 chain_back edges l m [] same = ([], sym same)
 chain_back edges l m (e ∷ chain) (mid, there, passes, rest) =
-    let back = chain_back edges mid m chain rest in
-    (back.0 ++ turned e ∷ [], chain_more (map turned edges) back.0 (turned e) m mid l back.1 (turned_there edges e there) (passes_back e l mid passes))
+    let back = chain_back edges mid m chain rest in (
+      back.0 ++ turned e ∷ [],
+      chain_more (map turned edges) back.0 (turned e) m mid l back.1 (turned_there edges e there)
+          (passes_back e l mid passes),
+    )
 
 -- what is found was led to
-found_chain : (edges : List Edge) (from : ℕ) (found : List Found) (places : List (Option ℕ)) (done : ℕ) → IsSearch edges from found places done → (n i : ℕ) (f : Found) → slice_get found i ≡ Some f → f.depth ≡ n
+found_chain : (edges : List Edge) (from : ℕ) (found : List Found) (places : List (Option ℕ)) (done : ℕ)
+    → IsSearch edges from found places done → (n i : ℕ) (f : Found) → slice_get found i ≡ Some f → f.depth ≡ n
     → Leads edges from f.label
 found_chain edges from found places done s zero i f got deep = elim (s.met i f got) [
   | inl root ↦ ([], sym root.0)
@@ -44,12 +49,17 @@ found_chain edges from found places done s zero i f got deep = elim (s.met i f g
 ]
 found_chain edges from found places done s (suc n) i f got deep = elim (s.met i f got) [
   | inl root ↦ ([], sym root.0)
-  | inr step ↦ (let before = found_chain edges from found places done s n f.previous step.before step.there (let d = step.deeper in omega arith) in
-      (before.0 ++ step.edge ∷ [], chain_more edges before.0 step.edge from step.before.label f.label before.1 (at_contains edges f.by step.edge step.by) step.passes))
+  | inr step ↦ (let before = found_chain edges from found places done s n f.previous step.before step.there
+      (let d = step.deeper in omega arith) in (
+        before.0 ++ step.edge ∷ [],
+        chain_more edges before.0 step.edge from step.before.label f.label before.1
+            (at_contains edges f.by step.edge step.by) step.passes,
+      ))
 ]
 
 -- a chain ends where it began or at an end of an edge
-chain_below : (edges : List Edge) (count : ℕ) → AreBelow count edges → (l m : ℕ) (chain : List Edge) → Chain edges l chain m → (l ≡ m) ⊎ (l < count)
+chain_below : (edges : List Edge) (count : ℕ) → AreBelow count edges → (l m : ℕ) (chain : List Edge) → Chain edges l chain m
+    → (l ≡ m) ⊎ (l < count)
 chain_below edges count below l m [] same = inl same
 chain_below edges count below l m (e ∷ chain) (mid, there, passes, rest) = inr (go passes (below.ends e there)) where
   go : Passes e l mid → (e.from < count) × (e.to < count) → l < count
@@ -69,11 +79,13 @@ module _ (edges : List Edge) (to count : ℕ) (s : Search) (searches : Searches 
     placed None is some = absurd cc
     placed (Some i) is some =
         let p = searches.is.placed l i is in
-        subst (λ (n : ℕ). Leads edges to n) p.2 (found_chain edges to s.found.items s.places.items (length s.found.items) searches.is p.0.depth i p.0 p.1 refl)
+        subst (λ (n : ℕ). Leads edges to n) p.2 (found_chain edges to s.found.items s.places.items (length s.found.items)
+        searches.is p.0.depth i p.0 p.1 refl)
 
     go : (b : Bool) → (l == to) ≡ b → Leads edges to l
     go true e = ([], sym (is_itself l to e))
-    go false e = placed (place_of s.places.items l) refl (let w : false || is_some (place_of s.places.items l) ≡ true = rw e at h in w)
+    go false e =
+        placed (place_of s.places.items l) refl (let w : false || is_some (place_of s.places.items l) ≡ true = rw e at h in w)
 
   to_found : (l : ℕ) → Leads edges to l → is_placed to s.places.items l ≡ true
   to_found l leads = go (place_of s.places.items l) refl where
@@ -86,7 +98,8 @@ module _ (edges : List Edge) (to count : ℕ) (s : Search) (searches : Searches 
     go None is = absurd (none_apart edges to l leads.0 (ends_apart edges to l count s searches is) leads.1)
 
 -- a search over turned edges finds the sources
-pub finds_sources : (edges : List Edge) (to count : ℕ) (s : Search) → Searches edges to count s (length s.found.items) → AreSources (map turned edges) to (is_placed to s.places.items)
+pub finds_sources : (edges : List Edge) (to count : ℕ) (s : Search) → Searches edges to count s (length s.found.items)
+    → AreSources (map turned edges) to (is_placed to s.places.items)
 finds_sources edges to count s searches l = (
   λ h. (let leads = from_found edges to count s searches l h in chain_back edges to l leads.0 leads.1),
   λ leads. (let back = chain_back (map turned edges) l to leads.0 leads.1 in
@@ -94,7 +107,8 @@ finds_sources edges to count s searches l = (
 )
 
 -- a label that no edge has is its only source
-pub far_sources : (edges : List Edge) (to count : ℕ) → AreBelow count edges → count ≤ to → AreSources (map turned edges) to (is_placed to [])
+pub far_sources : (edges : List Edge) (to count : ℕ) → AreBelow count edges → count ≤ to
+    → AreSources (map turned edges) to (is_placed to [])
 far_sources edges to count below far l = (
   λ h. (let same : l ≡ to = go (l == to) refl h in ([], same)),
   λ leads. (let back = chain_back (map turned edges) l to leads.0 leads.1 in

@@ -26,13 +26,17 @@ count_more p xs x = omega (arith, sum_by-append (λ y. cond (p y) 1 0) xs (x ∷
 abbrev pub one_if : Bool → ℕ
 one_if b = cond b 1 0
 
-pub edges_more : (before ts : List Told) (t : Told) → new_edges before (ts ++ t ∷ []) ≡ new_edges before ts + one_if (is_new_edge (before ++ ts) t)
+pub edges_more : (before ts : List Told) (t : Told) → new_edges before (ts ++ t ∷ []) ≡ new_edges before ts + one_if
+    (is_new_edge (before ++ ts) t)
 edges_more before [] t =
-    let same : one_if (is_new_edge (before ++ []) t) ≡ one_if (is_new_edge before t) = ap (λ (all : List Told). one_if (is_new_edge all t)) (append-nil before) in
+    let same : one_if (is_new_edge (before ++ []) t) ≡ one_if (is_new_edge before t) =
+    ap (λ (all : List Told). one_if (is_new_edge all t)) (append-nil before) in
     omega (arith, same)
 edges_more before (s ∷ ts) t =
-    let more : new_edges (before ++ s ∷ []) (ts ++ t ∷ []) ≡ new_edges (before ++ s ∷ []) ts + one_if (is_new_edge ((before ++ s ∷ []) ++ ts) t) = edges_more (before ++ s ∷ []) ts t in
-    let same : one_if (is_new_edge ((before ++ s ∷ []) ++ ts) t) ≡ one_if (is_new_edge (before ++ s ∷ ts) t) = ap (λ (all : List Told). one_if (is_new_edge all t)) (append_assoc before (s ∷ []) ts) in
+    let more : new_edges (before ++ s ∷ []) (ts ++ t ∷ []) ≡ new_edges (before ++ s ∷ []) ts + one_if
+    (is_new_edge ((before ++ s ∷ []) ++ ts) t) = edges_more (before ++ s ∷ []) ts t in
+    let same : one_if (is_new_edge ((before ++ s ∷ []) ++ ts) t) ≡ one_if (is_new_edge (before ++ s ∷ ts) t) =
+    ap (λ (all : List Told). one_if (is_new_edge all t)) (append_assoc before (s ∷ []) ts) in
     omega (arith, more, same)
 
 -- ---- two parts
@@ -42,16 +46,20 @@ pub first_wrong-append : (knows : Number → Bool) (before xs ys : List Told)
 first_wrong-append knows before [] ys = ap (λ all. first_wrong knows all ys) (sym (append-nil before))
 first_wrong-append knows before (x ∷ xs) ys =
     ap (option_or (fault_at knows before x)) (first_wrong-append knows (before ++ x ∷ []) xs ys
-    ∙ ap (λ all. option_or (first_wrong knows (before ++ x ∷ []) xs) (first_wrong knows all ys)) (append_assoc before (x ∷ []) xs))
-    ∙ sym (option_or-assoc (fault_at knows before x) (first_wrong knows (before ++ x ∷ []) xs) (first_wrong knows (before ++ x ∷ xs) ys))
+    ∙ ap (λ all. option_or (first_wrong knows (before ++ x ∷ []) xs) (first_wrong knows all ys))
+    (append_assoc before (x ∷ []) xs))
+    ∙ sym (option_or-assoc (fault_at knows before x) (first_wrong knows (before ++ x ∷ []) xs)
+    (first_wrong knows (before ++ x ∷ xs) ys))
 
 pub told-cons : (kind : Kind) (line : Line) (more : List Line) → told kind (line ∷ more) ≡ told kind (line ∷ []) ++ told kind more
 told-cons kind line more = filter_map-append (told_of kind) (line ∷ []) more
 
-pub form-cons : (kind : Kind) (line : Line) (more : List Line) → form_fault kind (line ∷ more) ≡ option_or (form_fault kind (line ∷ [])) (form_fault kind more)
+pub form-cons : (kind : Kind) (line : Line) (more : List Line)
+    → form_fault kind (line ∷ more) ≡ option_or (form_fault kind (line ∷ [])) (form_fault kind more)
 form-cons kind line more = go (is_none (said kind line)) refl
   where
-    go : (b : Bool) → is_none (said kind line) ≡ b → form_fault kind (line ∷ more) ≡ option_or (form_fault kind (line ∷ [])) (form_fault kind more)
+    go : (b : Bool) → is_none (said kind line) ≡ b → form_fault kind (line ∷ more) ≡ option_or (form_fault kind (line ∷ []))
+        (form_fault kind more)
     go true e = rw e refl
     go false e = rw e refl
 

@@ -10,16 +10,19 @@ use Rattle.policy_text.specs.declared.kind.Kind.{Kind}
 use Rattle.policy_text.specs.Entries.{entry_of}
 use Rattle.cam_base.specs.Fields.{fields}
 
-pub cut_some : (text : List ℕ) (n : ℕ) → position (λ b. b == 32) text ≡ Some n → fields text ≡ take n text ∷ fields (take (length text - (n + 1)) (drop (n + 1) text))
+pub cut_some : (text : List ℕ) (n : ℕ) → position (λ b. b == 32) text ≡ Some n
+    → fields text ≡ take n text ∷ fields (take (length text - (n + 1)) (drop (n + 1) text))
 cut_some text n e = go (nat_lt (position_or_len (λ b. b == 32) text) (length text)) refl
   where
-    go : (v : Bool) → nat_lt (position_or_len (λ b. b == 32) text) (length text) ≡ v → fields text ≡ take n text ∷ fields (take (length text - (n + 1)) (drop (n + 1) text))
+    go : (v : Bool) → nat_lt (position_or_len (λ b. b == 32) text) (length text) ≡ v → fields text ≡ take n text
+        ∷ fields (take (length text - (n + 1)) (drop (n + 1) text))
     go true t =
         let is : position (λ b. b == 32) text ≡ Some (position_or_len (λ b. b == 32) text) = rw t refl in
         let same : position_or_len (λ b. b == 32) text ≡ n = cc in
         slice_split_first (λ b. b == 32) text 0 (ltb-true (position_or_len (λ b. b == 32) text) (length text) t)
         ∙ ap (λ k. take k text ∷ fields (drop (k + 1) text)) same
-        ∙ ap (λ rest. take n text ∷ fields rest) (sym (take_all (length text - (n + 1)) (drop (n + 1) text) (omega (arith, length-drop (n + 1) text))))
+        ∙ ap (λ rest. take n text ∷ fields rest)
+        (sym (take_all (length text - (n + 1)) (drop (n + 1) text) (omega (arith, length-drop (n + 1) text))))
     go false t = let is : position (λ b. b == 32) text ≡ None = rw t refl in absurd cc
 
 pub cut_none : (text : List ℕ) → position (λ b. b == 32) text ≡ None → fields text ≡ text ∷ []
@@ -32,9 +35,11 @@ cut_none text e = go (nat_lt (position_or_len (λ b. b == 32) text) (length text
         slice_split_none (λ b. b == 32) text (λ k d lt. fails_before_first (λ b. b == 32) text k d (omega arith))
 
 -- five fields say nothing
-five_or_more : (kind : Kind) (word l a m : List ℕ) (fs : List (List ℕ)) → 0 < length fs → entry_of kind (word ∷ l ∷ a ∷ m ∷ fs) ≡ None
+five_or_more : (kind : Kind) (word l a m : List ℕ) (fs : List (List ℕ)) → 0 < length fs
+    → entry_of kind (word ∷ l ∷ a ∷ m ∷ fs) ≡ None
 five_or_more kind word l a m [] lt = absurd (omega arith)
 five_or_more kind word l a m (f ∷ fs) lt = refl
 
 pub five_fields : (kind : Kind) (word l a m rest : List ℕ) → entry_of kind (word ∷ l ∷ a ∷ m ∷ fields rest) ≡ None
-five_fields kind word l a m rest = five_or_more kind word l a m (fields rest) (omega (arith, length-slice_split (λ b. b == 32) rest))
+five_fields kind word l a m rest =
+    five_or_more kind word l a m (fields rest) (omega (arith, length-slice_split (λ b. b == 32) rest))

@@ -49,13 +49,15 @@ edge_short e f t =
     let a = together_length (text_of e.authority) (codes " " ∷ decimal e.to ∷ codes "\n" ∷ []) in
     let r = together_length (codes " ") (text_of e.authority ∷ codes " " ∷ decimal e.to ∷ codes "\n" ∷ []) in
     let l = together_length (decimal e.from) (codes " " ∷ text_of e.authority ∷ codes " " ∷ decimal e.to ∷ codes "\n" ∷ []) in
-    let w = together_length (codes "edge ") (decimal e.from ∷ codes " " ∷ text_of e.authority ∷ codes " " ∷ decimal e.to ∷ codes "\n" ∷ []) in
+    let w = together_length (codes "edge ") (decimal e.from ∷ codes " " ∷ text_of e.authority ∷ codes " " ∷ decimal e.to
+    ∷ codes "\n" ∷ []) in
     let from = number_short e.from f in
     let to = number_short e.to t in
     let word = word_short e.authority in
     omega (arith, g, m, s, a, r, l, w, from, to, word, nothing_together)
 
-lines_short : (cert : List Edge) → ((e : Edge) → has cert e ≡ true → (e.from < 8192) × (e.to < 8192)) → length (flat_map edge_line cert) ≤ 25 * length cert
+lines_short : (cert : List Edge) → ((e : Edge) → has cert e ≡ true → (e.from < 8192) × (e.to < 8192))
+    → length (flat_map edge_line cert) ≤ 25 * length cert
 lines_short [] small = omega arith
 lines_short (e ∷ cert) small =
     let here = small e (ap (λ b. b || has cert e) (same_edge_self e)) in
@@ -65,7 +67,8 @@ lines_short (e ∷ cert) small =
     let more = mul-suc 25 (length cert) in
     omega (arith, line, rest, all, more)
 
-pub cert_short : (cert : List Edge) → ((e : Edge) → has cert e ≡ true → (e.from < 8192) × (e.to < 8192)) → length cert ≤ 262144 → length (cert_text cert) ≤ 67108864
+pub cert_short : (cert : List Edge) → ((e : Edge) → has cert e ≡ true → (e.from < 8192) × (e.to < 8192)) → length cert ≤ 262144
+    → length (cert_text cert) ≤ 67108864
 unfolding cert_text ◌⊹◌
 cert_short cert small few =
     let lines = lines_short cert small in

@@ -34,7 +34,8 @@ or_map false h f = f h
 
 -- ---- where a label comes to stand
 
-pub insert_by : (k : ℕ) (v : List ℕ) (e : ℕ × List ℕ) (es : Pairs) (P : Pairs → Type 0) → (k < e.0 → P ((k, v) ∷ e ∷ es)) → (k ≡ e.0 → P ((e.0, v) ∷ es))
+pub insert_by : (k : ℕ) (v : List ℕ) (e : ℕ × List ℕ) (es : Pairs) (P : Pairs → Type 0) → (k < e.0 → P ((k, v) ∷ e ∷ es))
+    → (k ≡ e.0 → P ((e.0, v) ∷ es))
     → (e.0 < k → P (e ∷ insert_entry nat_cmp es k v)) → P (insert_entry nat_cmp (e ∷ es) k v)
 insert_by k v e es P less same more = go (nat_lt k e.0) (k == e.0) refl refl
   where
@@ -53,17 +54,20 @@ abbrev pub Differ : Pairs → Type 0
 Differ [] = Unit {0}
 Differ (e ∷ es) = (named e.1 es ≡ false) × Differ es
 
-pub named_insert : (x : List ℕ) (k : ℕ) (v : List ℕ) (es : Pairs) → bytes_eq v x ≡ false → named x es ≡ false → named x (insert_entry nat_cmp es k v) ≡ false
+pub named_insert : (x : List ℕ) (k : ℕ) (v : List ℕ) (es : Pairs) → bytes_eq v x ≡ false → named x es ≡ false
+    → named x (insert_entry nat_cmp es k v) ≡ false
 named_insert x k v [] h n = neither h refl
 named_insert x k v (e ∷ es) h n =
     let parts = or_parts (bytes_eq e.1 x) (named x es) n in
-    insert_by k v e es (λ l. named x l ≡ false) (λ lt. neither h n) (λ s. neither h parts.1) (λ g. neither parts.0 (named_insert x k v es h parts.1))
+    insert_by k v e es (λ l. named x l ≡ false) (λ lt. neither h n) (λ s. neither h parts.1)
+    (λ g. neither parts.0 (named_insert x k v es h parts.1))
 
 pub differ_insert : (k : ℕ) (v : List ℕ) (es : Pairs) → named v es ≡ false → Differ es → Differ (insert_entry nat_cmp es k v)
 differ_insert k v [] n d = (refl, tt)
 differ_insert k v (e ∷ es) n d =
     let parts = or_parts (bytes_eq e.1 v) (named v es) n in
-    insert_by k v e es Differ (λ lt. (n, d)) (λ s. (parts.1, d.1)) (λ g. (named_insert e.1 k v es (bytes_eq-sym v e.1 ∙ parts.0) d.0, differ_insert k v es parts.1 d.1))
+    insert_by k v e es Differ (λ lt. (n, d)) (λ s. (parts.1, d.1))
+    (λ g. (named_insert e.1 k v es (bytes_eq-sym v e.1 ∙ parts.0) d.0, differ_insert k v es parts.1 d.1))
 
 named_all : (x : List ℕ) (es : Pairs) → named x es ≡ false → All (λ m. x ≢ m.1) es
 named_all x [] n = All-nil (λ m. x ≢ m.1)
@@ -111,7 +115,8 @@ above_less k j (e ∷ es) lt a = let first = a.0 in (omega arith, above_less k j
 pub rising_insert : (k : ℕ) (v : List ℕ) (es : Pairs) → Rising es → Rising (insert_entry nat_cmp es k v)
 rising_insert k v [] r = (tt, tt)
 rising_insert k v (e ∷ es) r =
-    insert_by k v e es Rising (λ lt. ((lt, above_less k e.0 es lt r.0), r)) (λ s. r) (λ g. (above_insert e.0 k v es g r.0, rising_insert k v es r.1))
+    insert_by k v e es Rising (λ lt. ((lt, above_less k e.0 es lt r.0), r)) (λ s. r)
+    (λ g. (above_insert e.0 k v es g r.0, rising_insert k v es r.1))
 
 above_all : (k : ℕ) (es : Pairs) → Above k es → All (λ m. k ≢ m.0) es
 above_all k [] a = All-nil (λ m. k ≢ m.0)
@@ -129,12 +134,14 @@ keyed q es = list_any (λ l. l.0 == q) es
 keyed_insert_old : (q k : ℕ) (v : List ℕ) (es : Pairs) → keyed q es ≡ true → keyed q (insert_entry nat_cmp es k v) ≡ true
 keyed_insert_old q k v [] h = absurd (true≢false (sym h))
 keyed_insert_old q k v (e ∷ es) h =
-    insert_by k v e es (λ l. keyed q l ≡ true) (λ lt. or_right (k == q) h) (λ s. h) (λ g. or_map (e.0 == q) h (keyed_insert_old q k v es))
+    insert_by k v e es (λ l. keyed q l ≡ true) (λ lt. or_right (k == q) h) (λ s. h)
+    (λ g. or_map (e.0 == q) h (keyed_insert_old q k v es))
 
 keyed_insert_new : (q k : ℕ) (v : List ℕ) (es : Pairs) → k == q ≡ true → keyed q (insert_entry nat_cmp es k v) ≡ true
 keyed_insert_new q k v [] h = or_left false h
 keyed_insert_new q k v (e ∷ es) h =
-    insert_by k v e es (λ l. keyed q l ≡ true) (λ lt. or_left (keyed q (e ∷ es)) h) (λ s. or_left (keyed q es) (ap (λ n. n == q) (sym s) ∙ h)) (λ g. or_right (e.0 == q) (keyed_insert_new q k v es h))
+    insert_by k v e es (λ l. keyed q l ≡ true) (λ lt. or_left (keyed q (e ∷ es)) h)
+    (λ s. or_left (keyed q es) (ap (λ n. n == q) (sym s) ∙ h)) (λ g. or_right (e.0 == q) (keyed_insert_new q k v es h))
 
 abbrev pub inserted : Pairs → Pairs → Pairs
 inserted es pairs = fold (λ sorted l. insert_entry nat_cmp sorted l.0 l.1) es pairs
@@ -147,7 +154,9 @@ pub keyed_in : (q : ℕ) (es pairs : Pairs) → list_any (λ p. p.0 == q) pairs 
 keyed_in q es [] h = absurd (true≢false (sym h))
 keyed_in q es (p ∷ pairs) h = go (p.0 == q) refl (λ k. keyed_in q (insert_entry nat_cmp es p.0 p.1) pairs k)
   where
-    go : (b : Bool) → p.0 == q ≡ b → (list_any (λ p. p.0 == q) pairs ≡ true → keyed q (inserted (insert_entry nat_cmp es p.0 p.1) pairs) ≡ true) → keyed q (inserted es (p ∷ pairs)) ≡ true
+    go : (b : Bool) → p.0 == q ≡ b
+        → (list_any (λ p. p.0 == q) pairs ≡ true → keyed q (inserted (insert_entry nat_cmp es p.0 p.1) pairs) ≡ true)
+        → keyed q (inserted es (p ∷ pairs)) ≡ true
     go true e rest = keyed_kept q (insert_entry nat_cmp es p.0 p.1) pairs (keyed_insert_new q p.0 p.1 es e)
     go false e rest = rest (ap (λ b. b || list_any (λ p. p.0 == q) pairs) (sym e) ∙ h)
 
@@ -156,6 +165,7 @@ pub has_name : (q : ℕ) (es : Pairs) → keyed q es ≡ true → is_some (label
 has_name q [] h = absurd (true≢false (sym h))
 has_name q (e ∷ es) h = go (e.0 == q) refl (λ k. has_name q es k)
   where
-    go : (b : Bool) → e.0 == q ≡ b → (keyed q es ≡ true → is_some (label_name es q) ≡ true) → is_some (label_name (e ∷ es) q) ≡ true
+    go : (b : Bool) → e.0 == q ≡ b → (keyed q es ≡ true → is_some (label_name es q) ≡ true)
+        → is_some (label_name (e ∷ es) q) ≡ true
     go true s rest = rw s refl
     go false s rest = rw s (rest (ap (λ b. b || keyed q es) (sym s) ∙ h))

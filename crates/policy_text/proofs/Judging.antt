@@ -45,11 +45,13 @@ pub none_then : (a b : Option TextFault) → a ≡ None → b ≡ None → optio
 none_then a b none none' = ap (λ o. option_or o b) none ∙ none'
 
 -- a refusal that is passed on
-pub passed : (fault : Option TextFault) (answer : Result (Unit {0}) (Refused TextFault)) (r : Refused TextFault) → IsErrAnd answer (λ other. other ≡ r) → IsFault fault r → FindsFault fault answer
+pub passed : (fault : Option TextFault) (answer : Result (Unit {0}) (Refused TextFault)) (r : Refused TextFault)
+    → IsErrAnd answer (λ other. other ≡ r) → IsFault fault r → FindsFault fault answer
 passed fault (Ok x) r is h = absurd is
 passed fault (Err other) r is h = subst (λ (e : Refused TextFault). IsFault fault e) (sym is) h
 
-pub notes_refused : (kind : Kind) (lines : List Line) (answer : Result Noted (Refused TextFault)) (r : Refused TextFault) → IsErrAnd answer (λ other. other ≡ r) → IsFault (form_fault kind lines) r → AreNoted kind lines answer
+pub notes_refused : (kind : Kind) (lines : List Line) (answer : Result Noted (Refused TextFault)) (r : Refused TextFault)
+    → IsErrAnd answer (λ other. other ≡ r) → IsFault (form_fault kind lines) r → AreNoted kind lines answer
 notes_refused kind lines (Ok x) r is h = absurd is
 notes_refused kind lines (Err other) r is h = subst (λ (e : Refused TextFault). IsFault (form_fault kind lines) e) (sym is) h
 
@@ -61,27 +63,37 @@ judged_right knows before t seen none is = (ap (option_map (at_line t.0)) none, 
 
 -- ---- the lines behind it
 
-pub told_more : (lines : List EntryLine) (i : ℕ) (x : EntryLine) → i < length lines → x ≡ get_or lines i x → told_lines (take (i + 1) lines) ≡ told_lines (take i lines) ++ told_line x ∷ []
+pub told_more : (lines : List EntryLine) (i : ℕ) (x : EntryLine) → i < length lines → x ≡ get_or lines i x
+    → told_lines (take (i + 1) lines) ≡ told_lines (take i lines) ++ told_line x ∷ []
 told_more lines i x lt is = map_more told_line lines i x lt ∙ ap (λ y. told_lines (take i lines) ++ told_line y ∷ []) (sym is)
 
-module _ (knows : Number → Bool) (lines : List EntryLine) (i : ℕ) (x : EntryLine) (lt : i < length lines) (is : x ≡ get_or lines i x) where
+module _ (knows : Number → Bool) (lines : List EntryLine) (i : ℕ) (x : EntryLine) (lt : i < length lines)
+    (is : x ≡ get_or lines i x) where
   check_more : first_wrong knows (told_lines (take i lines)) (told_lines (drop i lines))
-      ≡ option_or (fault_at knows (told_lines (take i lines)) (told_line x)) (first_wrong knows (told_lines (take (i + 1) lines)) (told_lines (drop (i + 1) lines)))
+      ≡ option_or (fault_at knows (told_lines (take i lines)) (told_line x)) (first_wrong knows (told_lines (take (i + 1) lines))
+      (told_lines (drop (i + 1) lines)))
   check_more =
-      ap (λ ls. first_wrong knows (told_lines (take i lines)) (told_lines ls)) (drop_more lines i x lt ∙ ap (λ y. y ∷ drop (i + 1) lines) (sym is))
-      ∙ ap (λ ts. option_or (fault_at knows (told_lines (take i lines)) (told_line x)) (first_wrong knows ts (told_lines (drop (i + 1) lines)))) (sym (told_more lines i x lt is))
+      ap (λ ls. first_wrong knows (told_lines (take i lines)) (told_lines ls)) (drop_more lines i x lt
+      ∙ ap (λ y. y ∷ drop (i + 1) lines) (sym is))
+      ∙ ap (λ ts. option_or (fault_at knows (told_lines (take i lines)) (told_line x))
+      (first_wrong knows ts (told_lines (drop (i + 1) lines)))) (sym (told_more lines i x lt is))
 
   pub check_step : (all : Option TextFault) → first_wrong knows (told_lines (take i lines)) (told_lines (drop i lines)) ≡ all
-      → fault_at knows (told_lines (take i lines)) (told_line x) ≡ None → first_wrong knows (told_lines (take (i + 1) lines)) (told_lines (drop (i + 1) lines)) ≡ all
+      → fault_at knows (told_lines (take i lines)) (told_line x) ≡ None
+      → first_wrong knows (told_lines (take (i + 1) lines)) (told_lines (drop (i + 1) lines)) ≡ all
   check_step all so_far none =
-      ap (λ o. option_or o (first_wrong knows (told_lines (take (i + 1) lines)) (told_lines (drop (i + 1) lines)))) (sym none) ∙ sym check_more ∙ so_far
+      ap (λ o. option_or o (first_wrong knows (told_lines (take (i + 1) lines)) (told_lines (drop (i + 1) lines)))) (sym none)
+      ∙ sym check_more ∙ so_far
 
-  pub check_fails : (all : Option TextFault) (r : Refused TextFault) → first_wrong knows (told_lines (take i lines)) (told_lines (drop i lines)) ≡ all
+  pub check_fails : (all : Option TextFault) (r : Refused TextFault)
+      → first_wrong knows (told_lines (take i lines)) (told_lines (drop i lines)) ≡ all
       → IsFault (fault_at knows (told_lines (take i lines)) (told_line x)) r → IsFault all r
   check_fails all r so_far wrong =
-      fault_is _ all r (sym check_more ∙ so_far) (fault_first _ (first_wrong knows (told_lines (take (i + 1) lines)) (told_lines (drop (i + 1) lines))) r wrong)
+      fault_is _ all r (sym check_more ∙ so_far)
+      (fault_first _ (first_wrong knows (told_lines (take (i + 1) lines)) (told_lines (drop (i + 1) lines))) r wrong)
 
-pub few_front : (lines : List EntryLine) (i : ℕ) (x : EntryLine) → i < length lines → x ≡ get_or lines i x → HasFewEdges (told_lines lines) → HasFewEdges (told_lines (take i lines) ++ told_line x ∷ [])
+pub few_front : (lines : List EntryLine) (i : ℕ) (x : EntryLine) → i < length lines → x ≡ get_or lines i x
+    → HasFewEdges (told_lines lines) → HasFewEdges (told_lines (take i lines) ++ told_line x ∷ [])
 few_front lines i x lt is few =
     let whole = ap (count_by (λ t. is_edge t.1)) (sym (told_more lines i x lt is) ∙ sym (take-map told_line (i + 1) lines)) in
     let le = sum_by-take-le (λ t. cond (is_edge t.1) 1 0) (told_lines lines) (i + 1) in
@@ -93,8 +105,10 @@ few_front lines i x lt is few =
 pub form_some : (kind : Kind) (line : Line) (e : Entry) → said kind line ≡ Some e → form_fault kind (line ∷ []) ≡ None
 form_some kind line e says = rw says refl
 
-pub noted_none : (kind : Kind) (line : Line) (r : Refused TextFault) → said kind line ≡ None → IsRefusal line (PolicySyntax, []) r → IsFault (form_fault kind (line ∷ [])) r
-noted_none kind line (refused.Fault f) none fits = let is : form_fault kind (line ∷ []) ≡ Some (at_line line (PolicySyntax, [])) = rw none refl in is ∙ ap (λ f. Some f) (sym fits)
+pub noted_none : (kind : Kind) (line : Line) (r : Refused TextFault) → said kind line ≡ None → IsRefusal line (PolicySyntax, []) r
+    → IsFault (form_fault kind (line ∷ [])) r
+noted_none kind line (refused.Fault f) none fits = let is : form_fault kind (line ∷ []) ≡ Some (at_line line (PolicySyntax, [])) =
+    rw none refl in is ∙ ap (λ f. Some f) (sym fits)
 noted_none kind line refused.NoMemory none fits = tt
 
 no_edges : (e : Entry) (n : ℕ) → is_edge e ≡ false → n ≡ n + one_if (is_edge e)
@@ -104,11 +118,14 @@ no_edges e n apart = let none : one_if (is_edge e) ≡ 0 = ap one_if apart in om
 abbrev Pushed : Noted → EntryLine → Noted → Type 0
 Pushed old line new = new.lines.items ≡ old.lines.items ++ line ∷ []
 
-lines_more : (old new : Noted) (line : EntryLine) → Pushed old line new → told_lines new.lines.items ≡ told_lines old.lines.items ++ told_line line ∷ []
+lines_more : (old new : Noted) (line : EntryLine) → Pushed old line new → told_lines new.lines.items ≡ told_lines old.lines.items
+    ++ told_line line ∷ []
 lines_more old new line pushed = ap told_lines pushed ∙ map_push told_line old.lines.items line
 
-pub notes_label : (old new : Noted) (line : EntryLine) (n name : List ℕ) (r : Result (Unit {0}) NoMemory) → meant line.entry ≡ label n name → OnOk r (IsAdded n old.numbers new.numbers)
-    → OnOk r (IsNear old.near.items old.numbers → IsNear new.near.items new.numbers) → new.edges ≡ old.edges → Pushed old line new → OnOk r (Notes (told_line line) old new)
+pub notes_label : (old new : Noted) (line : EntryLine) (n name : List ℕ) (r : Result (Unit {0}) NoMemory)
+    → meant line.entry ≡ label n name → OnOk r (IsAdded n old.numbers new.numbers)
+    → OnOk r (IsNear old.near.items old.numbers → IsNear new.near.items new.numbers) → new.edges ≡ old.edges → Pushed old line new
+    → OnOk r (Notes (told_line line) old new)
 notes_label old new line n name (Ok x) is added near edges pushed = record {
   numbers = λ m. added.each m ∙ or_comm (bytes_eq n m) (has old.numbers m) ∙ ap (λ e. has old.numbers m || gives m e) (sym is);
   edges = λ le. edges ∙ no_edges (meant line.entry) old.edges (ap is_edge is);
@@ -118,8 +135,10 @@ notes_label old new line n name (Ok x) is added near edges pushed = record {
 notes_label old new line n name (Err e) is added near edges pushed = tt
 
 -- a line that gives no number
-notes_other : (old new : Noted) (line : EntryLine) → ((m : List ℕ) → gives m (meant line.entry) ≡ false) → new.numbers ≡ old.numbers → new.near ≡ old.near
-    → (new.edges ≤ edges_limit → new.edges ≡ old.edges + one_if (is_edge (meant line.entry))) → Pushed old line new → Notes (told_line line) old new
+notes_other : (old new : Noted) (line : EntryLine) → ((m : List ℕ) → gives m (meant line.entry) ≡ false)
+    → new.numbers ≡ old.numbers → new.near ≡ old.near
+    → (new.edges ≤ edges_limit → new.edges ≡ old.edges + one_if (is_edge (meant line.entry))) → Pushed old line new
+    → Notes (told_line line) old new
 notes_other old new line apart numbers near edges pushed = record {
   numbers = λ m. ap (λ set. has set m) numbers ∙ sym (ap (λ b. has old.numbers m || b) (apart m) ∙ or-false (has old.numbers m));
   edges = edges;
@@ -127,58 +146,76 @@ notes_other old new line apart numbers near edges pushed = record {
   lines = lines_more old new line pushed;
 }
 
-pub notes_object : (old new : Noted) (line : EntryLine) (word n : List ℕ) → meant line.entry ≡ object word n → new.numbers ≡ old.numbers → new.near ≡ old.near → new.edges ≡ old.edges
+pub notes_object : (old new : Noted) (line : EntryLine) (word n : List ℕ) → meant line.entry ≡ object word n
+    → new.numbers ≡ old.numbers → new.near ≡ old.near → new.edges ≡ old.edges
     → Pushed old line new → Notes (told_line line) old new
 notes_object old new line word n is numbers near edges pushed =
-    notes_other old new line (λ m. ap (gives m) is) numbers near (λ le. edges ∙ no_edges (meant line.entry) old.edges (ap is_edge is)) pushed
+    notes_other old new line (λ m. ap (gives m) is) numbers near (λ le. edges ∙ no_edges (meant line.entry) old.edges
+    (ap is_edge is)) pushed
 
 capped : (n m : ℕ) → n ≡ min (m + 1) 18446744073709551615 → n ≤ edges_limit → n ≡ m + 1
 capped n m is le = omega arith
 
-pub notes_edge : (old new : Noted) (line : EntryLine) (l : List ℕ) (a : Authority) (m : List ℕ) → meant line.entry ≡ edge l a m → new.numbers ≡ old.numbers → new.near ≡ old.near
+pub notes_edge : (old new : Noted) (line : EntryLine) (l : List ℕ) (a : Authority) (m : List ℕ) → meant line.entry ≡ edge l a m
+    → new.numbers ≡ old.numbers → new.near ≡ old.near
     → new.edges ≡ min (old.edges + 1) 18446744073709551615 → Pushed old line new → Notes (told_line line) old new
 notes_edge old new line l a m is numbers near edges pushed =
-    notes_other old new line (λ n. ap (gives n) is) numbers near (λ le. capped new.edges old.edges edges le ∙ ap (λ e. old.edges + one_if (is_edge e)) (sym is)) pushed
+    notes_other old new line (λ n. ap (gives n) is) numbers near (λ le. capped new.edges old.edges edges le
+    ∙ ap (λ e. old.edges + one_if (is_edge e)) (sym is)) pushed
 
-pub noted_numbers : (kind : Kind) (line : Line) (e : Entry) (old new : Noted) (n : List ℕ) → said kind line ≡ Some e → Notes (line, e) old new
+pub noted_numbers : (kind : Kind) (line : Line) (e : Entry) (old new : Noted) (n : List ℕ) → said kind line ≡ Some e
+    → Notes (line, e) old new
     → has new.numbers n ≡ (has old.numbers n || has_label (told kind (line ∷ [])) n)
 noted_numbers kind line e old new n says notes =
-    notes.numbers n ∙ ap (λ b. has old.numbers n || b) (sym (ap (λ ts. has_label ts n) (told_one kind line e says) ∙ or-false (gives n e)))
+    notes.numbers n ∙ ap (λ b. has old.numbers n || b) (sym (ap (λ ts. has_label ts n) (told_one kind line e says)
+    ∙ or-false (gives n e)))
 
 pub noted_edges : (kind : Kind) (line : Line) (e : Entry) (old new : Noted) → said kind line ≡ Some e → Notes (line, e) old new
     → new.edges ≤ edges_limit → new.edges ≡ old.edges + count_by (λ t. is_edge t.1) (told kind (line ∷ []))
 noted_edges kind line e old new says notes le =
-    let one : count_by (λ t. is_edge t.1) (told kind (line ∷ [])) ≡ 0 + one_if (is_edge e) = ap (count_by (λ t. is_edge t.1)) (told_one kind line e says) in
+    let one : count_by (λ t. is_edge t.1) (told kind (line ∷ [])) ≡ 0 + one_if (is_edge e) =
+    ap (count_by (λ t. is_edge t.1)) (told_one kind line e says) in
     let more = notes.edges le in
     omega (arith, one, more)
 
 -- ---- the lines behind it
 
-pub forms_step : (kind : Kind) (line : Line) (left more : List Line) (all : Option TextFault) → left ≡ line ∷ more → form_fault kind left ≡ all → form_fault kind (line ∷ []) ≡ None
+pub forms_step : (kind : Kind) (line : Line) (left more : List Line) (all : Option TextFault) → left ≡ line ∷ more
+    → form_fault kind left ≡ all → form_fault kind (line ∷ []) ≡ None
     → form_fault kind more ≡ all
 forms_step kind line left more all is so_far none =
     ap (λ o. option_or o (form_fault kind more)) (sym none) ∙ sym (ap (form_fault kind) is ∙ form-cons kind line more) ∙ so_far
 
-pub forms_fail : (kind : Kind) (line : Line) (left more : List Line) (all : Option TextFault) (r : Refused TextFault) → left ≡ line ∷ more → form_fault kind left ≡ all
+pub forms_fail : (kind : Kind) (line : Line) (left more : List Line) (all : Option TextFault) (r : Refused TextFault)
+    → left ≡ line ∷ more → form_fault kind left ≡ all
     → IsFault (form_fault kind (line ∷ [])) r → IsFault all r
 forms_fail kind line left more all r is so_far here =
-    fault_is _ all r (sym (ap (form_fault kind) is ∙ form-cons kind line more) ∙ so_far) (fault_first _ (form_fault kind more) r here)
+    fault_is _ all r (sym (ap (form_fault kind) is ∙ form-cons kind line more) ∙ so_far)
+    (fault_first _ (form_fault kind more) r here)
 
-pub numbers_step : (kind : Kind) (line : Line) (left more : List Line) (old new : Words) (n : List ℕ) (all : Bool) → left ≡ line ∷ more
-    → (has old n || has_label (told kind left) n) ≡ all → has new n ≡ (has old n || has_label (told kind (line ∷ [])) n) → (has new n || has_label (told kind more) n) ≡ all
+pub numbers_step : (kind : Kind) (line : Line) (left more : List Line) (old new : Words) (n : List ℕ) (all : Bool)
+    → left ≡ line ∷ more
+    → (has old n || has_label (told kind left) n) ≡ all → has new n ≡ (has old n || has_label (told kind (line ∷ [])) n)
+    → (has new n || has_label (told kind more) n) ≡ all
 numbers_step kind line left more old new n all is so_far noted =
-    ap (λ b. b || has_label (told kind more) n) noted ∙ or_assoc (has old n) (has_label (told kind (line ∷ [])) n) (has_label (told kind more) n)
-    ∙ ap (λ b. has old n || b) (sym (ap (λ ls. has_label (told kind ls) n) is ∙ ap (λ ts. has_label ts n) (told-cons kind line more) ∙ has_label-append (told kind (line ∷ [])) (told kind more) n))
+    ap (λ b. b || has_label (told kind more) n) noted ∙ or_assoc (has old n) (has_label (told kind (line ∷ [])) n)
+    (has_label (told kind more) n)
+    ∙ ap (λ b. has old n || b)
+    (sym (ap (λ ls. has_label (told kind ls) n) is ∙ ap (λ ts. has_label ts n) (told-cons kind line more)
+    ∙ has_label-append (told kind (line ∷ [])) (told kind more) n))
     ∙ so_far
 
 counts : (kind : Kind) (line : Line) (left more : List Line) → left ≡ line ∷ more
-    → count_by (λ t. is_edge t.1) (told kind left) ≡ count_by (λ t. is_edge t.1) (told kind (line ∷ [])) + count_by (λ t. is_edge t.1) (told kind more)
+    → count_by (λ t. is_edge t.1) (told kind left) ≡ count_by (λ t. is_edge t.1) (told kind (line ∷ [])) + count_by
+    (λ t. is_edge t.1) (told kind more)
 counts kind line left more is =
     ap (λ ls. count_by (λ t. is_edge t.1) (told kind ls)) is ∙ ap (count_by (λ t. is_edge t.1)) (told-cons kind line more)
     ∙ sum_by-append (λ t. cond (is_edge t.1) 1 0) (told kind (line ∷ [])) (told kind more)
 
-pub edges_step : (kind : Kind) (line : Line) (left more : List Line) (old new all : ℕ) → left ≡ line ∷ more → (old ≤ edges_limit → old + count_by (λ t. is_edge t.1) (told kind left) ≡ all)
-    → (new ≤ edges_limit → new ≡ old + count_by (λ t. is_edge t.1) (told kind (line ∷ []))) → new ≤ edges_limit → new + count_by (λ t. is_edge t.1) (told kind more) ≡ all
+pub edges_step : (kind : Kind) (line : Line) (left more : List Line) (old new all : ℕ) → left ≡ line ∷ more
+    → (old ≤ edges_limit → old + count_by (λ t. is_edge t.1) (told kind left) ≡ all)
+    → (new ≤ edges_limit → new ≡ old + count_by (λ t. is_edge t.1) (told kind (line ∷ []))) → new ≤ edges_limit
+    → new + count_by (λ t. is_edge t.1) (told kind more) ≡ all
 edges_step kind line left more old new all is so_far noted le =
     let both = counts kind line left more is in
     let step = noted le in
@@ -187,14 +224,17 @@ edges_step kind line left more old new all is so_far noted le =
     omega arith
 
 -- the lines told so far, and then those that are left
-pub told_on : (kind : Kind) (before : List Told) (line : Line) (e : Entry) (left more : List Line) (all : List Told) → left ≡ line ∷ more → before ++ told kind left ≡ all → said kind line ≡ Some e
+pub told_on : (kind : Kind) (before : List Told) (line : Line) (e : Entry) (left more : List Line) (all : List Told)
+    → left ≡ line ∷ more → before ++ told kind left ≡ all → said kind line ≡ Some e
     → (before ++ (line, e) ∷ []) ++ told kind more ≡ all
 told_on kind before line e left more all is so_far says =
-    append_assoc before ((line, e) ∷ []) (told kind more) ∙ ap (λ ts. before ++ (ts ++ told kind more)) (sym (told_one kind line e says))
+    append_assoc before ((line, e) ∷ []) (told kind more) ∙ ap (λ ts. before ++ (ts ++ told kind more))
+    (sym (told_one kind line e says))
     ∙ ap (λ ts. before ++ ts) (sym (ap (told kind) is ∙ told-cons kind line more)) ∙ so_far
 
 few_le : (n : ℕ) → nat_le n edges_limit ≡ true → n ≤ edges_limit
 few_le n test = grind arith
 
-pub few_noted : (ts : List Told) (n : ℕ) → (n ≤ edges_limit → count_by (λ t. is_edge t.1) ts ≡ n) → nat_le n edges_limit ≡ true → HasFewEdges ts
+pub few_noted : (ts : List Told) (n : ℕ) → (n ≤ edges_limit → count_by (λ t. is_edge t.1) ts ≡ n) → nat_le n edges_limit ≡ true
+    → HasFewEdges ts
 few_noted ts n counted test = let le = few_le n test in let same = counted le in omega arith

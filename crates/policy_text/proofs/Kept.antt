@@ -1,4 +1,5 @@
--- What lines without faults mean together: numbers fit, no name and no object stands twice, and each number that is used has a label.
+-- What lines without faults mean together: numbers fit, no name and no object stands twice, and each number that is used has a
+-- label.
 use Rattle.std.proofs.Common.{◌≡◌, ◌≢◌, ◌∙◌, ap, sym, refl, subst, ℕ, ◌==◌, nat_lt, nat_le, leb, length, Bool, true, false, ◌||◌, ◌&&◌, List, [], ◌∷◌, ◌++◌, Option, Some, None, true≢false, get_or, codes, arith}
 use Rattle.std.specs.BTreeMap.{insert_entry}
 use Rattle.std.specs.List.{list_any, list_all, filter_map, All, AllPairs}
@@ -52,7 +53,8 @@ label_formed n name e h = go (is_decimal n) (is_label_name name) refl refl
     go : (a b : Bool) → is_decimal n ≡ a → is_label_name name ≡ b → Formed e
     go false b d k = let is = rw d at h in absurd cc
     go true false d k = let is = rw (d, k) at h in absurd cc
-    go true true d k = let is : Some (label n name) ≡ Some e = rw (d, k) at h in let same : label n name ≡ e = cc in subst Formed same k
+    go true true d k = let is : Some (label n name) ≡ Some e = rw (d, k) at h in let same : label n name ≡ e = cc in
+        subst Formed same k
 
 object_formed : (word n : List ℕ) (e : Entry) → object_entry word n ≡ Some e → Formed e
 object_formed word n e h = go (is_word word) (is_decimal n) refl refl
@@ -60,7 +62,8 @@ object_formed word n e h = go (is_word word) (is_decimal n) refl refl
     go : (a b : Bool) → is_word word ≡ a → is_decimal n ≡ b → Formed e
     go false b d k = let is = rw d at h in absurd cc
     go true false d k = let is = rw (d, k) at h in absurd cc
-    go true true d k = let is : Some (object word n) ≡ Some e = rw (d, k) at h in let same : object word n ≡ e = cc in subst Formed same d
+    go true true d k = let is : Some (object word n) ≡ Some e = rw (d, k) at h in let same : object word n ≡ e = cc in
+        subst Formed same d
 
 edge_formed : (l a m : List ℕ) (e : Entry) → edge_entry l a m ≡ Some e → Formed e
 edge_formed l a m e h = go (is_decimal l && is_decimal m) (authority_of a) refl refl
@@ -68,7 +71,8 @@ edge_formed l a m e h = go (is_decimal l && is_decimal m) (authority_of a) refl 
     go : (b : Bool) (o : Option Authority) → (is_decimal l && is_decimal m) ≡ b → authority_of a ≡ o → Formed e
     go false o d k = let is = rw d at h in absurd cc
     go true None d k = let is = rw (d, k) at h in absurd cc
-    go true (Some x) d k = let is : Some (edge l x m) ≡ Some e = rw (d, k) at h in let same : edge l x m ≡ e = cc in subst Formed same tt
+    go true (Some x) d k = let is : Some (edge l x m) ≡ Some e = rw (d, k) at h in let same : edge l x m ≡ e = cc in
+        subst Formed same tt
 
 short_formed : (kind : Kind) (word a b : List ℕ) (e : Entry) → short_entry kind word a b ≡ Some e → Formed e
 short_formed kinds.Certificate word a b e h = absurd cc
@@ -120,16 +124,19 @@ no_fault : (line : Line) (w : Option Wrong) → option_map (at_line line) w ≡ 
 no_fault line None h = refl
 no_fault line (Some x) h = absurd cc
 
-pub clean : (knows : Number → Bool) (before ts : List Told) → first_wrong knows before ts ≡ None → FormedAll ts → Clean knows before ts
+pub clean : (knows : Number → Bool) (before ts : List Told) → first_wrong knows before ts ≡ None → FormedAll ts
+    → Clean knows before ts
 clean knows before [] h f = tt
 clean knows before (t ∷ ts) h f =
     let parts = or_none (fault_at knows before t) (first_wrong knows (before ++ t ∷ []) ts) h in
     (no_fault t.0 (wrong knows before t) parts.0, f.0, clean knows (before ++ t ∷ []) ts parts.1 f.1)
 
 -- a label
-right_label : (knows : Number → Bool) (before : List Told) (line : Line) (n name : List ℕ) → wrong_entry knows before line (label n name) ≡ None
+right_label : (knows : Number → Bool) (before : List Told) (line : Line) (n name : List ℕ)
+    → wrong_entry knows before line (label n name) ≡ None
     → (list_any (λ t. names_label name t.1) before ≡ false) × (is_past n ≡ false)
-right_label knows before line n name h = go (list_any (λ t. gives n t.1) before) (list_any (λ t. names_label name t.1) before) (is_past n) refl refl refl
+right_label knows before line n name h = go (list_any (λ t. gives n t.1) before) (list_any (λ t. names_label name t.1) before)
+    (is_past n) refl refl refl
   where
     go : (a b c : Bool) → list_any (λ t. gives n t.1) before ≡ a → list_any (λ t. names_label name t.1) before ≡ b → is_past n ≡ c
         → (list_any (λ t. names_label name t.1) before ≡ false) × (is_past n ≡ false)
@@ -139,9 +146,11 @@ right_label knows before line n name h = go (list_any (λ t. gives n t.1) before
     go false false false p q r = (q, r)
 
 -- an object
-pub right_object : (knows : Number → Bool) (before : List Told) (line : Line) (word n : List ℕ) → wrong_entry knows before line (object word n) ≡ None
+pub right_object : (knows : Number → Bool) (before : List Told) (line : Line) (word n : List ℕ)
+    → wrong_entry knows before line (object word n) ≡ None
     → (knows n ≡ true) × (list_any (λ t. labels_object word t.1) before ≡ false) × (nat_lt 127 (length word) ≡ false)
-right_object knows before line word n h = go (knows n) (list_any (λ t. labels_object word t.1) before) (nat_lt 127 (length word)) refl refl refl
+right_object knows before line word n h = go (knows n) (list_any (λ t. labels_object word t.1) before) (nat_lt 127 (length word))
+    refl refl refl
   where
     go : (a b c : Bool) → knows n ≡ a → list_any (λ t. labels_object word t.1) before ≡ b → nat_lt 127 (length word) ≡ c
         → (knows n ≡ true) × (list_any (λ t. labels_object word t.1) before ≡ false) × (nat_lt 127 (length word) ≡ false)
@@ -151,7 +160,8 @@ right_object knows before line word n h = go (knows n) (list_any (λ t. labels_o
     go true false false p q r = (p, q, r)
 
 -- an edge
-right_edge : (knows : Number → Bool) (before : List Told) (line : Line) (l : List ℕ) (a : Authority) (m : List ℕ) → wrong_entry knows before line (edge l a m) ≡ None
+right_edge : (knows : Number → Bool) (before : List Told) (line : Line) (l : List ℕ) (a : Authority) (m : List ℕ)
+    → wrong_entry knows before line (edge l a m) ≡ None
     → (knows l ≡ true) × (knows m ≡ true)
 right_edge knows before line l a m h = go (knows l) (knows m) refl refl
   where
@@ -170,12 +180,15 @@ pub small_label : (n : Number) → is_past n ≡ false → narrow n ≡ label_va
 small_label n h = small_value (value n) h
 
 -- a number that a label line gives
-pub gives_small : (knows : Number → Bool) (before ts : List Told) (n : Number) → Clean knows before ts → list_any (λ t. gives n t.1) ts ≡ true → is_past n ≡ false
+pub gives_small : (knows : Number → Bool) (before ts : List Told) (n : Number) → Clean knows before ts
+    → list_any (λ t. gives n t.1) ts ≡ true → is_past n ≡ false
 gives_small knows before [] n c h = absurd (true≢false (sym h))
-gives_small knows before ((line, label m name) ∷ ts) n c h = go (bytes_eq m n) refl (λ k. gives_small knows (before ++ (line, label m name) ∷ []) ts n c.2 k)
+gives_small knows before ((line, label m name) ∷ ts) n c h =
+    go (bytes_eq m n) refl (λ k. gives_small knows (before ++ (line, label m name) ∷ []) ts n c.2 k)
   where
     go : (b : Bool) → bytes_eq m n ≡ b → (list_any (λ t. gives n t.1) ts ≡ true → is_past n ≡ false) → is_past n ≡ false
-    go true e rest = subst (λ (k : List ℕ). is_past k ≡ false) ((bytes_eq-Decides m n).0 e) (right_label knows before line m name c.0).1
+    go true e rest = subst (λ (k : List ℕ). is_past k ≡ false) ((bytes_eq-Decides m n).0 e)
+        (right_label knows before line m name c.0).1
     go false e rest = rest (ap (λ b. b || list_any (λ t. gives n t.1) ts) (sym e) ∙ h)
 gives_small knows before ((line, object word m) ∷ ts) n c h = gives_small knows (before ++ (line, object word m) ∷ []) ts n c.2 h
 gives_small knows before ((line, edge l a m) ∷ ts) n c h = gives_small knows (before ++ (line, edge l a m) ∷ []) ts n c.2 h
@@ -183,7 +196,8 @@ gives_small knows before ((line, edge l a m) ∷ ts) n c h = gives_small knows (
 pub known_small : (ts : List Told) → Clean (has_label ts) [] ts → (n : Number) → has_label ts n ≡ true → narrow n ≡ label_value n
 known_small ts c n h = small_label n (gives_small (has_label ts) [] ts n c h)
 
-pub built_labels : (knows : Number → Bool) (before ts : List Told) → Clean knows before ts → filter_map built_label ts ≡ filter_map label_of ts
+pub built_labels : (knows : Number → Bool) (before ts : List Told) → Clean knows before ts
+    → filter_map built_label ts ≡ filter_map label_of ts
 built_labels knows before [] c = refl
 built_labels knows before ((line, label n name) ∷ ts) c =
     let here = small_label n (right_label knows before line n name c.0).1 in
@@ -194,31 +208,41 @@ built_labels knows before ((line, edge l a m) ∷ ts) c = built_labels knows (be
 
 name_of_word : (word : List ℕ) → is_word word ≡ true → nat_lt 127 (length word) ≡ false → is_name word ≡ true
 name_of_word [] h few = absurd (true≢false (sym h))
-name_of_word (b ∷ bs) h few = let short : leb (length bs) 126 ≡ true = grind (arith, nat_tests) in ap (λ (t : Bool). t && (is_letter b && list_all is_word_byte bs)) short ∙ h
+name_of_word (b ∷ bs) h few = let short : leb (length bs) 126 ≡ true = grind (arith, nat_tests) in
+    ap (λ (t : Bool). t && (is_letter b && list_all is_word_byte bs)) short ∙ h
 
-pub built_objects : (knows : Number → Bool) (before ts : List Told) → ((n : Number) → knows n ≡ true → narrow n ≡ label_value n) → Clean knows before ts
+pub built_objects : (knows : Number → Bool) (before ts : List Told) → ((n : Number) → knows n ≡ true → narrow n ≡ label_value n)
+    → Clean knows before ts
     → filter_map built_object ts ≡ filter_map object_of ts
 built_objects knows before [] small c = refl
-built_objects knows before ((line, label n name) ∷ ts) small c = built_objects knows (before ++ (line, label n name) ∷ []) ts small c.2
+built_objects knows before ((line, label n name) ∷ ts) small c =
+    built_objects knows (before ++ (line, label n name) ∷ []) ts small c.2
 built_objects knows before ((line, object word n) ∷ ts) small c =
     let right = right_object knows before line word n c.0 in
     let name = name_of_word word c.1 right.2 in
     let rest = built_objects knows (before ++ (line, object word n) ∷ []) ts small c.2 in
-    rw name (ap (λ (v : ℕ). (word, v) ∷ filter_map built_object ts) (small n right.0) ∙ ap (λ (os : List (List ℕ × ℕ)). (word, label_value n) ∷ os) rest)
-built_objects knows before ((line, edge l a m) ∷ ts) small c = built_objects knows (before ++ (line, edge l a m) ∷ []) ts small c.2
+    rw name (ap (λ (v : ℕ). (word, v) ∷ filter_map built_object ts) (small n right.0)
+    ∙ ap (λ (os : List (List ℕ × ℕ)). (word, label_value n) ∷ os) rest)
+built_objects knows before ((line, edge l a m) ∷ ts) small c =
+    built_objects knows (before ++ (line, edge l a m) ∷ []) ts small c.2
 
-edge_at : (l l' m m' : ℕ) (a : Authority) → l ≡ l' → m ≡ m' → ◌≡◌ {A = Edge} (record { from = l; authority = a; to = m }) (record { from = l'; authority = a; to = m' })
+edge_at : (l l' m m' : ℕ) (a : Authority) → l ≡ l' → m ≡ m' → ◌≡◌ {A = Edge} (record { from = l; authority = a; to = m })
+    (record { from = l'; authority = a; to = m' })
 edge_at l l' m m' a p q = rw (p, q) refl
 
-pub built_edges : (knows : Number → Bool) (before ts : List Told) → ((n : Number) → knows n ≡ true → narrow n ≡ label_value n) → Clean knows before ts
+pub built_edges : (knows : Number → Bool) (before ts : List Told) → ((n : Number) → knows n ≡ true → narrow n ≡ label_value n)
+    → Clean knows before ts
     → filter_map built_edge ts ≡ filter_map edge_of ts
 built_edges knows before [] small c = refl
-built_edges knows before ((line, label n name) ∷ ts) small c = built_edges knows (before ++ (line, label n name) ∷ []) ts small c.2
-built_edges knows before ((line, object word n) ∷ ts) small c = built_edges knows (before ++ (line, object word n) ∷ []) ts small c.2
+built_edges knows before ((line, label n name) ∷ ts) small c =
+    built_edges knows (before ++ (line, label n name) ∷ []) ts small c.2
+built_edges knows before ((line, object word n) ∷ ts) small c =
+    built_edges knows (before ++ (line, object word n) ∷ []) ts small c.2
 built_edges knows before ((line, edge l a m) ∷ ts) small c =
     let right = right_edge knows before line l a m c.0 in
     let rest = built_edges knows (before ++ (line, edge l a m) ∷ []) ts small c.2 in
-    ap (λ (e : Edge). e ∷ filter_map built_edge ts) (edge_at (narrow l) (label_value l) (narrow m) (label_value m) a (small l right.0) (small m right.1))
+    ap (λ (e : Edge). e ∷ filter_map built_edge ts) (edge_at (narrow l) (label_value l) (narrow m) (label_value m) a
+    (small l right.0) (small m right.1))
     ∙ ap (λ (es : List Edge). record { from = label_value l; authority = a; to = label_value m } ∷ es) rest
 
 -- ---- labels
@@ -229,23 +253,27 @@ pub record LabelsSo (before : List Told) (es : Pairs) : Type 0 where
   valid : Valid es
   rising : Rising es
 
-fresh_more : (before : List Told) (t : Told) (x : List ℕ) → list_any (λ u. names_label x u.1) (before ++ t ∷ []) ≡ false → (names_label x t.1 || list_any (λ u. names_label x u.1) before) ≡ false
+fresh_more : (before : List Told) (t : Told) (x : List ℕ) → list_any (λ u. names_label x u.1) (before ++ t ∷ []) ≡ false
+    → (names_label x t.1 || list_any (λ u. names_label x u.1) before) ≡ false
 fresh_more before t x h = sym (any_more (λ u. names_label x u.1) before t) ∙ h
 
-labels_so : (knows : Number → Bool) (before : List Told) (line : Line) (n name : List ℕ) (es : Pairs) → LabelsSo before es → wrong_entry knows before line (label n name) ≡ None → is_label_name name ≡ true
+labels_so : (knows : Number → Bool) (before : List Told) (line : Line) (n name : List ℕ) (es : Pairs) → LabelsSo before es
+    → wrong_entry knows before line (label n name) ≡ None → is_label_name name ≡ true
     → LabelsSo (before ++ (line, label n name) ∷ []) (insert_entry nat_cmp es (label_value n) name)
 labels_so knows before line n name es so none valid =
     let absent : named name es ≡ false = so.fresh name (right_label knows before line n name none).0 in
     record {
       fresh = λ x h.
-          let parts = or_parts (bytes_eq name x) (list_any (λ u. names_label x u.1) before) (fresh_more before (line, label n name) x h) in
+          let parts = or_parts (bytes_eq name x) (list_any (λ u. names_label x u.1) before)
+          (fresh_more before (line, label n name) x h) in
           named_insert x (label_value n) name es parts.0 (so.fresh x parts.1);
       differ = differ_insert (label_value n) name es absent so.differ;
       valid = valid_insert (label_value n) name es valid so.valid;
       rising = rising_insert (label_value n) name es so.rising;
     }
 
-others_so : (before : List Told) (t : Told) (es : Pairs) → LabelsSo before es → ((x : List ℕ) → names_label x t.1 ≡ false) → LabelsSo (before ++ t ∷ []) es
+others_so : (before : List Told) (t : Told) (es : Pairs) → LabelsSo before es → ((x : List ℕ) → names_label x t.1 ≡ false)
+    → LabelsSo (before ++ t ∷ []) es
 others_so before t es so apart = record {
   fresh = λ x h. so.fresh x (ap (λ b. b || list_any (λ u. names_label x u.1) before) (sym (apart x)) ∙ fresh_more before t x h);
   differ = so.differ;
@@ -254,10 +282,12 @@ others_so before t es so apart = record {
 }
 
 pub labels_kept : (knows : Number → Bool) (before ts : List Told) (es : Pairs) → LabelsSo before es → Clean knows before ts
-    → Differ (inserted es (filter_map label_of ts)) × Valid (inserted es (filter_map label_of ts)) × Rising (inserted es (filter_map label_of ts))
+    → Differ (inserted es (filter_map label_of ts)) × Valid (inserted es (filter_map label_of ts))
+    × Rising (inserted es (filter_map label_of ts))
 labels_kept knows before [] es so c = (so.differ, so.valid, so.rising)
 labels_kept knows before ((line, label n name) ∷ ts) es so c =
-    labels_kept knows (before ++ (line, label n name) ∷ []) ts (insert_entry nat_cmp es (label_value n) name) (labels_so knows before line n name es so c.0 c.1) c.2
+    labels_kept knows (before ++ (line, label n name) ∷ []) ts (insert_entry nat_cmp es (label_value n) name)
+    (labels_so knows before line n name es so c.0 c.1) c.2
 labels_kept knows before ((line, object word n) ∷ ts) es so c =
     labels_kept knows (before ++ (line, object word n) ∷ []) ts es (others_so before (line, object word n) es so (λ x. refl)) c.2
 labels_kept knows before ((line, edge l a m) ∷ ts) es so c =
@@ -266,62 +296,81 @@ labels_kept knows before ((line, edge l a m) ∷ ts) es so c =
 labels_none : LabelsSo [] []
 labels_none = record { fresh = λ x h. refl; differ = tt; valid = tt; rising = tt }
 
-gives_key : (ts : List Told) (n : Number) → has_label ts n ≡ true → list_any (λ p. p.0 == label_value n) (filter_map label_of ts) ≡ true
+gives_key : (ts : List Told) (n : Number) → has_label ts n ≡ true
+    → list_any (λ p. p.0 == label_value n) (filter_map label_of ts) ≡ true
 gives_key [] n h = absurd (true≢false (sym h))
 gives_key ((line, label m name) ∷ ts) n h = go (bytes_eq m n) refl (λ k. gives_key ts n k)
   where
-    go : (b : Bool) → bytes_eq m n ≡ b → (has_label ts n ≡ true → list_any (λ p. p.0 == label_value n) (filter_map label_of ts) ≡ true)
+    go : (b : Bool) → bytes_eq m n ≡ b
+        → (has_label ts n ≡ true → list_any (λ p. p.0 == label_value n) (filter_map label_of ts) ≡ true)
         → (label_value m == label_value n || list_any (λ p. p.0 == label_value n) (filter_map label_of ts)) ≡ true
-    go true e rest = or_left (list_any (λ p. p.0 == label_value n) (filter_map label_of ts)) ((Decides-eqb (label_value m) (label_value n)).1 (ap label_value ((bytes_eq-Decides m n).0 e)))
+    go true e rest = or_left (list_any (λ p. p.0 == label_value n) (filter_map label_of ts))
+        ((Decides-eqb (label_value m) (label_value n)).1 (ap label_value ((bytes_eq-Decides m n).0 e)))
     go false e rest = or_right (label_value m == label_value n) (rest (ap (λ b. b || has_label ts n) (sym e) ∙ h))
 gives_key ((line, object word m) ∷ ts) n h = gives_key ts n h
 gives_key ((line, edge l a m) ∷ ts) n h = gives_key ts n h
 
-pub known_named : (ts : List Told) (n : Number) → has_label ts n ≡ true → is_some (label_name (by_number (filter_map label_of ts)) (label_value n)) ≡ true
-known_named ts n h = has_name (label_value n) (by_number (filter_map label_of ts)) (keyed_in (label_value n) [] (filter_map label_of ts) (gives_key ts n h))
+pub known_named : (ts : List Told) (n : Number) → has_label ts n ≡ true
+    → is_some (label_name (by_number (filter_map label_of ts)) (label_value n)) ≡ true
+known_named ts n h = has_name (label_value n) (by_number (filter_map label_of ts))
+    (keyed_in (label_value n) [] (filter_map label_of ts) (gives_key ts n h))
 
 -- ---- objects
 
-object_apart : (knows : Number → Bool) (before ts : List Told) (word : List ℕ) → list_any (λ t. labels_object word t.1) before ≡ true → Clean knows before ts → All (λ o. word ≢ o.0) (filter_map object_of ts)
+object_apart : (knows : Number → Bool) (before ts : List Told) (word : List ℕ)
+    → list_any (λ t. labels_object word t.1) before ≡ true → Clean knows before ts
+    → All (λ o. word ≢ o.0) (filter_map object_of ts)
 object_apart knows before [] word h c = All-nil (λ o. word ≢ o.0)
 object_apart knows before ((line, object other n) ∷ ts) word h c =
     let right = right_object knows before line other n c.0 in
     All-cons (λ o. word ≢ o.0) (other, label_value n) (filter_map object_of ts)
     (λ same. true≢false (sym h ∙ ap (λ (w : List ℕ). list_any (λ t. labels_object w t.1) before) same ∙ right.1))
-    (object_apart knows (before ++ (line, object other n) ∷ []) ts word (any_more (λ t. labels_object word t.1) before (line, object other n) ∙ or_right (bytes_eq other word) h) c.2)
+    (object_apart knows (before ++ (line, object other n) ∷ []) ts word (any_more (λ t. labels_object word t.1) before
+    (line, object other n) ∙ or_right (bytes_eq other word) h) c.2)
 object_apart knows before ((line, label n name) ∷ ts) word h c =
-    object_apart knows (before ++ (line, label n name) ∷ []) ts word (any_more (λ t. labels_object word t.1) before (line, label n name) ∙ h) c.2
+    object_apart knows (before ++ (line, label n name) ∷ []) ts word (any_more (λ t. labels_object word t.1) before
+    (line, label n name) ∙ h) c.2
 object_apart knows before ((line, edge l a m) ∷ ts) word h c =
-    object_apart knows (before ++ (line, edge l a m) ∷ []) ts word (any_more (λ t. labels_object word t.1) before (line, edge l a m) ∙ h) c.2
+    object_apart knows (before ++ (line, edge l a m) ∷ []) ts word (any_more (λ t. labels_object word t.1) before
+    (line, edge l a m) ∙ h) c.2
 
-pub objects_differ : (knows : Number → Bool) (before ts : List Told) → Clean knows before ts → AllPairs (λ o p. o.0 ≢ p.0) (filter_map object_of ts)
+pub objects_differ : (knows : Number → Bool) (before ts : List Told) → Clean knows before ts
+    → AllPairs (λ o p. o.0 ≢ p.0) (filter_map object_of ts)
 objects_differ knows before [] c = none_pair (λ o p. o.0 ≢ p.0)
 objects_differ knows before ((line, object word n) ∷ ts) c =
     AllPairs-cons (λ o p. o.0 ≢ p.0) (word, label_value n) (filter_map object_of ts)
-    (object_apart knows (before ++ (line, object word n) ∷ []) ts word (any_more (λ t. labels_object word t.1) before (line, object word n) ∙ or_left (list_any (λ t. labels_object word t.1) before) (bytes_eq-refl word)) c.2)
+    (object_apart knows (before ++ (line, object word n) ∷ []) ts word (any_more (λ t. labels_object word t.1) before
+    (line, object word n) ∙ or_left (list_any (λ t. labels_object word t.1) before) (bytes_eq-refl word)) c.2)
     (objects_differ knows (before ++ (line, object word n) ∷ []) ts c.2)
 objects_differ knows before ((line, label n name) ∷ ts) c = objects_differ knows (before ++ (line, label n name) ∷ []) ts c.2
 objects_differ knows before ((line, edge l a m) ∷ ts) c = objects_differ knows (before ++ (line, edge l a m) ∷ []) ts c.2
 
-pub objects_labelled : (knows : Number → Bool) (before ts : List Told) (labels : Pairs) → ((n : Number) → knows n ≡ true → is_some (label_name labels (label_value n)) ≡ true) → Clean knows before ts
+pub objects_labelled : (knows : Number → Bool) (before ts : List Told) (labels : Pairs)
+    → ((n : Number) → knows n ≡ true → is_some (label_name labels (label_value n)) ≡ true) → Clean knows before ts
     → All (λ o. is_some (label_name labels o.1) ≡ true) (filter_map object_of ts)
 objects_labelled knows before [] labels named c = All-nil (λ o. is_some (label_name labels o.1) ≡ true)
 objects_labelled knows before ((line, object word n) ∷ ts) labels named c =
-    All-cons (λ o. is_some (label_name labels o.1) ≡ true) (word, label_value n) (filter_map object_of ts) (named n (right_object knows before line word n c.0).0)
+    All-cons (λ o. is_some (label_name labels o.1) ≡ true) (word, label_value n) (filter_map object_of ts)
+    (named n (right_object knows before line word n c.0).0)
     (objects_labelled knows (before ++ (line, object word n) ∷ []) ts labels named c.2)
-objects_labelled knows before ((line, label n name) ∷ ts) labels named c = objects_labelled knows (before ++ (line, label n name) ∷ []) ts labels named c.2
-objects_labelled knows before ((line, edge l a m) ∷ ts) labels named c = objects_labelled knows (before ++ (line, edge l a m) ∷ []) ts labels named c.2
+objects_labelled knows before ((line, label n name) ∷ ts) labels named c =
+    objects_labelled knows (before ++ (line, label n name) ∷ []) ts labels named c.2
+objects_labelled knows before ((line, edge l a m) ∷ ts) labels named c =
+    objects_labelled knows (before ++ (line, edge l a m) ∷ []) ts labels named c.2
 
 -- ---- edges
 
 abbrev pub IsLabelled : Pairs → Edge → Type 0
 IsLabelled labels e = (is_some (label_name labels e.from) ≡ true) × (is_some (label_name labels e.to) ≡ true)
 
-pub edges_labelled : (knows : Number → Bool) (before ts : List Told) (labels : Pairs) → ((n : Number) → knows n ≡ true → is_some (label_name labels (label_value n)) ≡ true) → Clean knows before ts
+pub edges_labelled : (knows : Number → Bool) (before ts : List Told) (labels : Pairs)
+    → ((n : Number) → knows n ≡ true → is_some (label_name labels (label_value n)) ≡ true) → Clean knows before ts
     → (e : Edge) → has (filter_map edge_of ts) e ≡ true → IsLabelled labels e
 edges_labelled knows before [] labels named c e h = absurd (true≢false (sym h))
-edges_labelled knows before ((line, label n name) ∷ ts) labels named c e h = edges_labelled knows (before ++ (line, label n name) ∷ []) ts labels named c.2 e h
-edges_labelled knows before ((line, object word n) ∷ ts) labels named c e h = edges_labelled knows (before ++ (line, object word n) ∷ []) ts labels named c.2 e h
+edges_labelled knows before ((line, label n name) ∷ ts) labels named c e h =
+    edges_labelled knows (before ++ (line, label n name) ∷ []) ts labels named c.2 e h
+edges_labelled knows before ((line, object word n) ∷ ts) labels named c e h =
+    edges_labelled knows (before ++ (line, object word n) ∷ []) ts labels named c.2 e h
 edges_labelled knows before ((line, edge l a m) ∷ ts) labels named c e h =
     go (same_edge here e) refl (λ k. edges_labelled knows (before ++ (line, edge l a m) ∷ []) ts labels named c.2 e k)
   where
@@ -329,7 +378,8 @@ edges_labelled knows before ((line, edge l a m) ∷ ts) labels named c e h =
     here = record { from = label_value l; authority = a; to = label_value m }
 
     go : (b : Bool) → same_edge here e ≡ b → (has (filter_map edge_of ts) e ≡ true → IsLabelled labels e) → IsLabelled labels e
-    go true s rest = let right = right_edge knows before line l a m c.0 in subst (IsLabelled labels) (same_edge_true here e s) (named l right.0, named m right.1)
+    go true s rest = let right = right_edge knows before line l a m c.0 in
+        subst (IsLabelled labels) (same_edge_true here e s) (named l right.0, named m right.1)
     go false s rest = rest (ap (λ b. b || has (filter_map edge_of ts) e) (sym s) ∙ h)
 
 no_edge : Edge
@@ -337,11 +387,14 @@ no_edge = record { from = 0; authority = Receive; to = 0 }
 
 -- what holds of each edge that a table has holds of all
 pub all_edges : (P : Edge → Type 0) (edges : List Edge) → ((e : Edge) → has edges e ≡ true → P e) → All P edges
-all_edges P edges each = All-from_get_or P edges no_edge (λ i lt. each (get_or edges i no_edge) (has_at edges i (get_or edges i no_edge) (slice_get-get_or edges i no_edge lt)))
+all_edges P edges each =
+    All-from_get_or P edges no_edge
+    (λ i lt. each (get_or edges i no_edge) (has_at edges i (get_or edges i no_edge) (slice_get-get_or edges i no_edge lt)))
 
 -- ---- the policy
 
-pub policy_says : (ts : List Told) (parts : Parts) (policy : Policy) → Clean (has_label ts) [] ts → IsBuilt parts ts → IsPolicyOf parts policy → Says ts policy
+pub policy_says : (ts : List Told) (parts : Parts) (policy : Policy) → Clean (has_label ts) [] ts → IsBuilt parts ts
+    → IsPolicyOf parts policy → Says ts policy
 policy_says ts parts policy c built is = record {
   labels = is.labels ∙ built.labels ∙ ap by_number (built_labels (has_label ts) [] ts c);
   objects = is.objects ∙ built.objects ∙ built_objects (has_label ts) [] ts (known_small ts c) c;
@@ -354,14 +407,20 @@ policy_says ts parts policy c built is = record {
 pub policy_kept : (ts : List Told) (policy : Policy) → Clean (has_label ts) [] ts → Says ts policy → IsPolicy policy
 policy_kept ts policy c says =
     let kept = labels_kept (has_label ts) [] ts [] labels_none c in
-    let labelled = λ (n : Number) (h : has_label ts n ≡ true). subst (λ (ls : Pairs). is_some (label_name ls (label_value n)) ≡ true) (sym says.labels) (known_named ts n h) in
-    let each = λ (e : Edge) (h : has policy.edges e ≡ true). edges_labelled (has_label ts) [] ts policy.labels labelled c e (sym (says.edges.same e) ∙ h) in
+    let labelled = λ (n : Number) (h : has_label ts n ≡ true).
+    subst (λ (ls : Pairs). is_some (label_name ls (label_value n)) ≡ true) (sym says.labels) (known_named ts n h) in
+    let each = λ (e : Edge) (h : has policy.edges e ≡ true). edges_labelled (has_label ts) [] ts policy.labels labelled c e
+    (sym (says.edges.same e) ∙ h) in
     record {
       numbers = subst NumbersDiffer (sym says.labels) (numbers_differ (by_number (filter_map label_of ts)) kept.2);
-      names = subst (λ (ls : Pairs). AllPairs (λ l m. l.1 ≢ m.1) ls) (sym says.labels) (names_differ (by_number (filter_map label_of ts)) kept.0);
-      named = subst (λ (ls : Pairs). All (λ l. is_label_name l.1 ≡ true) ls) (sym says.labels) (all_valid (by_number (filter_map label_of ts)) kept.1);
-      objects = subst (λ (os : List (List ℕ × ℕ)). AllPairs (λ o p. o.0 ≢ p.0) os) (sym says.objects) (objects_differ (has_label ts) [] ts c);
-      labelled = subst (λ (os : List (List ℕ × ℕ)). All (λ o. is_some (label_name policy.labels o.1) ≡ true) os) (sym says.objects) (objects_labelled (has_label ts) [] ts policy.labels labelled c);
+      names = subst (λ (ls : Pairs). AllPairs (λ l m. l.1 ≢ m.1) ls) (sym says.labels)
+          (names_differ (by_number (filter_map label_of ts)) kept.0);
+      named = subst (λ (ls : Pairs). All (λ l. is_label_name l.1 ≡ true) ls) (sym says.labels)
+          (all_valid (by_number (filter_map label_of ts)) kept.1);
+      objects = subst (λ (os : List (List ℕ × ℕ)). AllPairs (λ o p. o.0 ≢ p.0) os) (sym says.objects)
+          (objects_differ (has_label ts) [] ts c);
+      labelled = subst (λ (os : List (List ℕ × ℕ)). All (λ o. is_some (label_name policy.labels o.1) ≡ true) os)
+          (sym says.objects) (objects_labelled (has_label ts) [] ts policy.labels labelled c);
       from = all_edges (λ e. is_some (label_name policy.labels e.from) ≡ true) policy.edges (λ e h. (each e h).0);
       to = all_edges (λ e. is_some (label_name policy.labels e.to) ≡ true) policy.edges (λ e h. (each e h).1);
     }

@@ -16,11 +16,13 @@ is_named : (labels : List (ℕ × List ℕ)) (n : ℕ) → is_some (label_name l
 is_named [] n = refl
 is_named (l ∷ ls) n = go (l.0 == n) refl (is_named ls n)
   where
-    go : (b : Bool) → (l.0 == n) ≡ b → is_some (label_name ls n) ≡ list_any (λ l. l.0 == n) ls → is_some (label_name (l ∷ ls) n) ≡ list_any (λ l. l.0 == n) (l ∷ ls)
+    go : (b : Bool) → (l.0 == n) ≡ b → is_some (label_name ls n) ≡ list_any (λ l. l.0 == n) ls
+        → is_some (label_name (l ∷ ls) n) ≡ list_any (λ l. l.0 == n) (l ∷ ls)
     go true e rest = rw e refl
     go false e rest = rw e rest
 
-pub named_more : (labels : List (ℕ × List ℕ)) (i : ℕ) (l : ℕ × List ℕ) (n : ℕ) → i < length labels → l ≡ get_or labels i l → is_some (label_name (take (i + 1) labels) n) ≡ (l.0 == n || is_some (label_name (take i labels) n))
+pub named_more : (labels : List (ℕ × List ℕ)) (i : ℕ) (l : ℕ × List ℕ) (n : ℕ) → i < length labels → l ≡ get_or labels i l
+    → is_some (label_name (take (i + 1) labels) n) ≡ (l.0 == n || is_some (label_name (take i labels) n))
 named_more labels i l n lt is =
     is_named (take (i + 1) labels) n ∙ list_any_more (λ m. m.0 == n) labels i l lt
     ∙ or_comm (list_any (λ m. m.0 == n) (take i labels)) ((get_or labels i l).0 == n)
@@ -31,8 +33,10 @@ cond_or : (a b : Bool) → cond a true b ≡ (a || b)
 cond_or true b = refl
 cond_or false b = refl
 
-pub has_more : (old new : BTreeSet ℕ) (k n : ℕ) → Updates nat_cmp old new k true → contains nat_cmp new n ≡ (k == n || contains nat_cmp old n)
-has_more old new k n updates = updates.0 n ∙ cond_or (is_at (nat_cmp k) n) (contains nat_cmp old n) ∙ ap (λ (b : Bool). b || contains nat_cmp old n) (is_eq-nat_cmp k n)
+pub has_more : (old new : BTreeSet ℕ) (k n : ℕ) → Updates nat_cmp old new k true
+    → contains nat_cmp new n ≡ (k == n || contains nat_cmp old n)
+has_more old new k n updates = updates.0 n ∙ cond_or (is_at (nat_cmp k) n) (contains nat_cmp old n)
+    ∙ ap (λ (b : Bool). b || contains nat_cmp old n) (is_eq-nat_cmp k n)
 
 pub small_more : (old new : BTreeSet ℕ) (k : ℕ) → k < 2 ^ 32 → IsSmall old → Updates nat_cmp old new k true → IsSmall new
 small_more old new k few small updates n h = go (k == n) refl
@@ -45,13 +49,15 @@ small_more old new k few small updates n h = go (k == n) refl
 eqb-self : (a b : ℕ) → a ≡ b → (a == b) ≡ true
 eqb-self a b same = grind (arith, nat_tests)
 
-pub near_more : (old new : List (ℕ × List ℕ)) (near : ℕ) → ((n : ℕ) → is_some (label_name new n) ≡ (near == n || is_some (label_name old n)))
+pub near_more : (old new : List (ℕ × List ℕ)) (near : ℕ)
+    → ((n : ℕ) → is_some (label_name new n) ≡ (near == n || is_some (label_name old n)))
     → ((n : ℕ) → n < near → is_some (label_name old n) ≡ true) → (n : ℕ) → n < near + 1 → is_some (label_name new n) ≡ true
 near_more old new near more below n less = elim (cases_lt n near) [
   | inl before ↦ more n ∙ ap (λ b. near == n || b) (below n before) ∙ or_comm (near == n) true
   | inr ge ↦ let same : near ≡ n = omega arith in more n ∙ ap (λ b. b || is_some (label_name old n)) (eqb-self near n same)
 ]
 
-pub near_kept : (old new : List (ℕ × List ℕ)) (near k : ℕ) → ((n : ℕ) → is_some (label_name new n) ≡ (k == n || is_some (label_name old n)))
+pub near_kept : (old new : List (ℕ × List ℕ)) (near k : ℕ)
+    → ((n : ℕ) → is_some (label_name new n) ≡ (k == n || is_some (label_name old n)))
     → ((n : ℕ) → n < near → is_some (label_name old n) ≡ true) → (n : ℕ) → n < near → is_some (label_name new n) ≡ true
 near_kept old new near k more below n less = more n ∙ ap (λ b. k == n || b) (below n less) ∙ or_comm (k == n) true

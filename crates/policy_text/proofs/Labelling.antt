@@ -15,15 +15,18 @@ use Rattle.cap_model.specs.declared.spec.Spec.{Spec}
 use Rattle.policy_text.specs.Labelled.{object_label, unlabelled, first_unlabelled, IsLabelling}
 use Rattle.policy_text.specs.PolicyTexts.{IsFault}
 
-first_label : (o : List ℕ × ℕ) (more : List (List ℕ × ℕ)) (name : List ℕ) → object_label (o ∷ more) name ≡ cond (bytes_eq o.0 name) (Some o.1) (object_label more name)
+first_label : (o : List ℕ × ℕ) (more : List (List ℕ × ℕ)) (name : List ℕ)
+    → object_label (o ∷ more) name ≡ cond (bytes_eq o.0 name) (Some o.1) (object_label more name)
 first_label o more name = go (bytes_eq o.0 name) refl
   where
-    go : (b : Bool) → bytes_eq o.0 name ≡ b → object_label (o ∷ more) name ≡ cond (bytes_eq o.0 name) (Some o.1) (object_label more name)
+    go : (b : Bool) → bytes_eq o.0 name ≡ b → object_label (o ∷ more) name ≡ cond (bytes_eq o.0 name) (Some o.1)
+        (object_label more name)
     go true e = rw e refl
     go false e = rw e refl
 
 -- one object line more
-pub label_more : (name : List ℕ) (objects : List (List ℕ × ℕ)) (i : ℕ) (o : List ℕ × ℕ) (f g all : Option ℕ) → i < length objects → o ≡ get_or objects i o
+pub label_more : (name : List ℕ) (objects : List (List ℕ × ℕ)) (i : ℕ) (o : List ℕ × ℕ) (f g all : Option ℕ) → i < length objects
+    → o ≡ get_or objects i o
     → option_or f (object_label (drop i objects) name) ≡ all → g ≡ option_or f (cond (bytes_eq o.0 name) (Some o.1) None)
     → option_or g (object_label (drop (i + 1) objects) name) ≡ all
 label_more name objects i o f g all lt is before after =
@@ -35,19 +38,26 @@ label_more name objects i o f g all lt is before after =
     ∙ before
 
 -- an object without a label is the first one, where those in front of it have labels
-first_without : (label : List ℕ → Option ℕ) (entry : Entry) (more : List Entry) → label entry.name ≡ None → first_unlabelled label (entry ∷ more) ≡ Some (unlabelled entry)
+first_without : (label : List ℕ → Option ℕ) (entry : Entry) (more : List Entry) → label entry.name ≡ None
+    → first_unlabelled label (entry ∷ more) ≡ Some (unlabelled entry)
 first_without label entry more none = rw none refl
 
-pub unlabelled_at : (label : List ℕ → Option ℕ) (entries : List Entry) (i : ℕ) (entry : Entry) → i < length entries → entry ≡ get_or entries i entry → label entry.name ≡ None
-    → first_unlabelled label (drop i entries) ≡ first_unlabelled label entries → first_unlabelled label entries ≡ Some (unlabelled entry)
+pub unlabelled_at : (label : List ℕ → Option ℕ) (entries : List Entry) (i : ℕ) (entry : Entry) → i < length entries
+    → entry ≡ get_or entries i entry → label entry.name ≡ None
+    → first_unlabelled label (drop i entries) ≡ first_unlabelled label entries
+    → first_unlabelled label entries ≡ Some (unlabelled entry)
 unlabelled_at label entries i entry lt is none so_far =
     sym so_far ∙ at_drop_more (λ (es : List Entry). first_unlabelled label es) entries i entry lt
-    ∙ ap (λ (e : Entry). first_unlabelled label (e ∷ drop (i + 1) entries)) (sym is) ∙ first_without label entry (drop (i + 1) entries) none
+    ∙ ap (λ (e : Entry). first_unlabelled label (e ∷ drop (i + 1) entries)) (sym is) ∙ first_without label entry
+    (drop (i + 1) entries) none
 
 -- the refusal of the first object without a label
-pub labelling_fails : (spec : Spec) (policy : Policy) (label : List ℕ → Option ℕ) (answer : Result Labels (Refused TextFault)) (r : Refused TextFault)
-    → ((name : List ℕ) → label name ≡ object_label policy.objects name) → IsErrAnd answer (λ other. other ≡ r) → IsFault (first_unlabelled label spec.entries) r → IsLabelling spec policy answer
+pub labelling_fails : (spec : Spec) (policy : Policy) (label : List ℕ → Option ℕ) (answer : Result Labels (Refused TextFault))
+    (r : Refused TextFault)
+    → ((name : List ℕ) → label name ≡ object_label policy.objects name) → IsErrAnd answer (λ other. other ≡ r)
+    → IsFault (first_unlabelled label spec.entries) r → IsLabelling spec policy answer
 labelling_fails spec policy label (Ok x) r same is h = absurd is
 labelling_fails spec policy label (Err other) r same is h =
-    subst (λ (o : Option TextFault). IsFault o other) (ap (λ (f : List ℕ → Option ℕ). first_unlabelled f spec.entries) (fun_ext same))
+    subst (λ (o : Option TextFault). IsFault o other) (ap (λ (f : List ℕ → Option ℕ). first_unlabelled f spec.entries)
+    (fun_ext same))
     (subst (λ (e : Refused TextFault). IsFault (first_unlabelled label spec.entries) e) (sym is) h)

@@ -11,21 +11,27 @@ use Rattle.policy_text.specs.PolicyTexts.{Says, SaysEdges, IsAnswer, IsFault, Is
 
 policies_same : (p q : Policy) → p.labels ≡ q.labels → p.objects ≡ q.objects → p.edges ≡ q.edges → p ≡ q
 policies_same p q l o e =
-    let same : ◌≡◌ {A = Policy} (record { labels = p.labels; objects = p.objects; edges = p.edges }) (record { labels = q.labels; objects = q.objects; edges = q.edges }) = rw (l, o, e) refl in
+    let same : ◌≡◌ {A = Policy} (record { labels = p.labels; objects = p.objects; edges = p.edges }) (record {
+      labels = q.labels;
+      objects = q.objects;
+      edges = q.edges;
+    }) = rw (l, o, e) refl in
     same
 
 one_cert : (lines : List Told) (p q : List Edge) → SaysEdges lines p → SaysEdges lines q → p ≡ q
 one_cert lines p q a b = one_table p q a.order b.order (λ e. a.same e ∙ sym (b.same e))
 
 one_policy : (lines : List Told) (p q : Policy) → Says lines p → Says lines q → p ≡ q
-one_policy lines p q a b = policies_same p q (a.labels ∙ sym b.labels) (a.objects ∙ sym b.objects) (one_cert lines p.edges q.edges a.edges b.edges)
+one_policy lines p q a b = policies_same p q (a.labels ∙ sym b.labels) (a.objects ∙ sym b.objects)
+    (one_cert lines p.edges q.edges a.edges b.edges)
 
 abbrev Answers : {T : Type 0} → Option TextFault → (T → Type 0) → Result T (Refused TextFault) → Type 0
 Answers fault Means (Ok x) = (fault ≡ None) × Means x
 Answers fault Means (Err r) = IsFault fault r
 
 -- answers of a text with this first fault, where it has one meaning without a fault
-one_answer : {T : Type 0} (fault : Option TextFault) (Means : T → Type 0) → ((p q : T) → Means p → Means q → p ≡ q) → (a b : Result T (Refused TextFault)) → IsAnswer a → IsAnswer b
+one_answer : {T : Type 0} (fault : Option TextFault) (Means : T → Type 0) → ((p q : T) → Means p → Means q → p ≡ q)
+    → (a b : Result T (Refused TextFault)) → IsAnswer a → IsAnswer b
     → Answers fault Means a → Answers fault Means b → a ≡ b
 one_answer fault Means one (Ok p) (Ok q) s t h k = ap (λ x. Ok x) (one p q h.1 k.1)
 one_answer fault Means one (Ok p) (Err (refused.Fault f)) s t h k = let n = h.0 in absurd cc
@@ -35,18 +41,24 @@ one_answer fault Means one (Err refused.NoMemory) b s t h k = absurd s
 one_answer fault Means one (Ok p) (Err refused.NoMemory) s t h k = absurd t
 one_answer fault Means one (Err (refused.Fault f)) (Err refused.NoMemory) s t h k = absurd t
 
-policy_answers : (bytes : List ℕ) (a : Result Policy (Refused TextFault)) → IsPolicyRead bytes a → Answers (first_policy_fault bytes) (Says (policy_lines bytes)) a
+policy_answers : (bytes : List ℕ) (a : Result Policy (Refused TextFault)) → IsPolicyRead bytes a
+    → Answers (first_policy_fault bytes) (Says (policy_lines bytes)) a
 policy_answers bytes (Ok p) h = h
 policy_answers bytes (Err r) h = h
 
-pub policies_one : (bytes : List ℕ) (a b : Result Policy (Refused TextFault)) → IsAnswer a → IsAnswer b → IsPolicyRead bytes a → IsPolicyRead bytes b → a ≡ b
+pub policies_one : (bytes : List ℕ) (a b : Result Policy (Refused TextFault)) → IsAnswer a → IsAnswer b → IsPolicyRead bytes a
+    → IsPolicyRead bytes b → a ≡ b
 policies_one bytes a b s t h k =
-    one_answer (first_policy_fault bytes) (Says (policy_lines bytes)) (one_policy (policy_lines bytes)) a b s t (policy_answers bytes a h) (policy_answers bytes b k)
+    one_answer (first_policy_fault bytes) (Says (policy_lines bytes)) (one_policy (policy_lines bytes)) a b s t
+    (policy_answers bytes a h) (policy_answers bytes b k)
 
-cert_answers : (policy : Policy) (bytes : List ℕ) (a : Result (List Edge) (Refused TextFault)) → IsCertRead policy bytes a → Answers (first_cert_fault policy bytes) (SaysEdges (cert_lines bytes)) a
+cert_answers : (policy : Policy) (bytes : List ℕ) (a : Result (List Edge) (Refused TextFault)) → IsCertRead policy bytes a
+    → Answers (first_cert_fault policy bytes) (SaysEdges (cert_lines bytes)) a
 cert_answers policy bytes (Ok p) h = h
 cert_answers policy bytes (Err r) h = h
 
-pub certs_one : (policy : Policy) (bytes : List ℕ) (a b : Result (List Edge) (Refused TextFault)) → IsAnswer a → IsAnswer b → IsCertRead policy bytes a → IsCertRead policy bytes b → a ≡ b
+pub certs_one : (policy : Policy) (bytes : List ℕ) (a b : Result (List Edge) (Refused TextFault)) → IsAnswer a → IsAnswer b
+    → IsCertRead policy bytes a → IsCertRead policy bytes b → a ≡ b
 certs_one policy bytes a b s t h k =
-    one_answer (first_cert_fault policy bytes) (SaysEdges (cert_lines bytes)) (one_cert (cert_lines bytes)) a b s t (cert_answers policy bytes a h) (cert_answers policy bytes b k)
+    one_answer (first_cert_fault policy bytes) (SaysEdges (cert_lines bytes)) (one_cert (cert_lines bytes)) a b s t
+    (cert_answers policy bytes a h) (cert_answers policy bytes b k)

@@ -36,23 +36,29 @@ use Rattle.cam_base.specs.Lines.{lines, placed}
 
 -- ---- one text out of rows
 
-flat-ended : {X : Type 0} (line : X → List ℕ) (f : X → Item) → ((x : X) → line x ≡ (f x).0 ++ 10 ∷ []) → (xs : List X) → flat_map line xs ≡ ended (rows_of (map f xs))
+flat-ended : {X : Type 0} (line : X → List ℕ) (f : X → Item) → ((x : X) → line x ≡ (f x).0 ++ 10 ∷ []) → (xs : List X)
+    → flat_map line xs ≡ ended (rows_of (map f xs))
 flat-ended line f each [] = refl
-flat-ended line f each (x ∷ xs) = ap (λ (t : List ℕ). t ++ flat_map line xs) (each x) ∙ ap (λ (t : List ℕ). ((f x).0 ++ 10 ∷ []) ++ t) (flat-ended line f each xs)
+flat-ended line f each (x ∷ xs) = ap (λ (t : List ℕ). t ++ flat_map line xs) (each x)
+    ∙ ap (λ (t : List ℕ). ((f x).0 ++ 10 ∷ []) ++ t) (flat-ended line f each xs)
 
 ended-append : (xs ys : List Item) → ended (rows_of (xs ++ ys)) ≡ ended (rows_of xs) ++ ended (rows_of ys)
 ended-append [] ys = refl
-ended-append (x ∷ xs) ys = ap (λ (t : List ℕ). (x.0 ++ 10 ∷ []) ++ t) (ended-append xs ys) ∙ sym (append_assoc (x.0 ++ 10 ∷ []) (ended (rows_of xs)) (ended (rows_of ys)))
+ended-append (x ∷ xs) ys = ap (λ (t : List ℕ). (x.0 ++ 10 ∷ []) ++ t) (ended-append xs ys)
+    ∙ sym (append_assoc (x.0 ++ 10 ∷ []) (ended (rows_of xs)) (ended (rows_of ys)))
 
 -- each item's row is one, and says what stands beside it
 all_rows : {X : Type 0} (f : X → Item) (xs : List X) → All (λ x. IsRow (f x).0) xs → AreRows (rows_of (map f xs))
 all_rows f [] h = tt
 all_rows f (x ∷ xs) h = (All-head (λ y. IsRow (f y).0) x xs h, all_rows f xs (All-tail (λ y. IsRow (f y).0) x xs h))
 
-all_say : {X : Type 0} (kind : Kind) (f : X → Item) (xs : List X) → All (λ x. entry_of kind (fields (f x).0) ≡ Some (f x).1) xs → Spells kind (map f xs)
+all_say : {X : Type 0} (kind : Kind) (f : X → Item) (xs : List X) → All (λ x. entry_of kind (fields (f x).0) ≡ Some (f x).1) xs
+    → Spells kind (map f xs)
 all_say kind f [] h = tt
-all_say kind f (x ∷ xs) h =
-    (All-head (λ y. entry_of kind (fields (f y).0) ≡ Some (f y).1) x xs h, all_say kind f xs (All-tail (λ y. entry_of kind (fields (f y).0) ≡ Some (f y).1) x xs h))
+all_say kind f (x ∷ xs) h = (
+  All-head (λ y. entry_of kind (fields (f y).0) ≡ Some (f y).1) x xs h,
+  all_say kind f xs (All-tail (λ y. entry_of kind (fields (f y).0) ≡ Some (f y).1) x xs h),
+)
 
 -- ---- the text of items behind a header
 
@@ -73,28 +79,36 @@ start kind = 0 + (length (header kind) + 1)
 abbrev pub text : Kind → List Item → List ℕ
 text kind items = ended (header kind ∷ rows_of items)
 
-the_lines : (kind : Kind) (items : List Item) → AreRows (rows_of items) → lines (text kind items) ≡ placed 0 (header kind ∷ rows_of items)
+the_lines : (kind : Kind) (items : List Item) → AreRows (rows_of items)
+    → lines (text kind items) ≡ placed 0 (header kind ∷ rows_of items)
 the_lines kind items rows = lines-ended (header kind ∷ rows_of items) (header_row kind, rows)
 
-the_body : (kind : Kind) (items : List Item) → AreRows (rows_of items) → body (text kind items) ≡ placed (start kind) (rows_of items)
+the_body : (kind : Kind) (items : List Item) → AreRows (rows_of items)
+    → body (text kind items) ≡ placed (start kind) (rows_of items)
 the_body kind items rows = ap (drop 1) (the_lines kind items rows)
 
-the_told : (kind : Kind) (items : List Item) → AreRows (rows_of items) → Spells kind items → told kind (body (text kind items)) ≡ told_at (start kind) items
+the_told : (kind : Kind) (items : List Item) → AreRows (rows_of items) → Spells kind items
+    → told kind (body (text kind items)) ≡ told_at (start kind) items
 the_told kind items rows says = ap (told kind) (the_body kind items rows) ∙ told-rows kind (start kind) items says
 
-the_form : (kind : Kind) (items : List Item) → AreRows (rows_of items) → Spells kind items → form_fault kind (body (text kind items)) ≡ None
+the_form : (kind : Kind) (items : List Item) → AreRows (rows_of items) → Spells kind items
+    → form_fault kind (body (text kind items)) ≡ None
 the_form kind items rows says = ap (form_fault kind) (the_body kind items rows) ∙ form-rows kind (start kind) items says
 
-the_head : (kind : Kind) (items : List Item) → AreRows (rows_of items) → length (text kind items) ≤ bytes_limit → head_fault kind (text kind items) ≡ None
+the_head : (kind : Kind) (items : List Item) → AreRows (rows_of items) → length (text kind items) ≤ bytes_limit
+    → head_fault kind (text kind items) ≡ None
 the_head kind items rows few =
     let short : nat_lt bytes_limit (length (text kind items)) ≡ false = grind (arith, nat_tests) in
-    head_none (nat_lt bytes_limit (length (text kind items))) (is_headed kind (lines (text kind items))) (Some (at_start PolicyLimit)) (Some (at_start PolicySyntax)) short
+    head_none (nat_lt bytes_limit (length (text kind items))) (is_headed kind (lines (text kind items)))
+    (Some (at_start PolicyLimit)) (Some (at_start PolicySyntax)) short
     (ap (is_headed kind) (the_lines kind items rows) ∙ headed kind (rows_of items))
 
 -- ---- certificates
 
-edges_known : (policy : Policy) (n : ℕ) → n < 2 ^ 64 → is_some (label_name policy.labels n) ≡ true → is_labelled policy (decimal n) ≡ true
-edges_known policy n few h = ap (λ (o : Option ℕ). option_map_or (λ v. is_some (label_name policy.labels v)) o false) (number_value-decimal n few) ∙ h
+edges_known : (policy : Policy) (n : ℕ) → n < 2 ^ 64 → is_some (label_name policy.labels n) ≡ true
+    → is_labelled policy (decimal n) ≡ true
+edges_known policy n few h = ap (λ (o : Option ℕ). option_map_or (λ v. is_some (label_name policy.labels v)) o false)
+    (number_value-decimal n few) ∙ h
 
 cert_is : (cert : List Edge) → cert_text cert ≡ text kinds.Certificate (map edge_item cert)
 unfolding cert_text ◌⊹◌
@@ -117,12 +131,22 @@ cert_back policy cert w =
     let says = edges_say kinds.Certificate cert small in
     let is = the_told kinds.Certificate items rows says in
     let known : All (λ e. (is_labelled policy (decimal e.from) ≡ true) × (is_labelled policy (decimal e.to) ≡ true)) cert =
-    λ k d lt. (edges_known policy _ (small k d lt).0 (w.labelled.from k d lt), edges_known policy _ (small k d lt).1 (w.labelled.to k d lt)) in
-    let right = ap (first_wrong (is_labelled policy) []) is ∙ edges_right (is_labelled policy) [] (start kinds.Certificate) cert known (omega (arith, w.edges)) in
-    let few : length (text kinds.Certificate items) ≤ bytes_limit = subst (λ (t : List ℕ). length t ≤ bytes_limit) (cert_is cert) w.bytes in
+    λ k d lt. (
+      edges_known policy _ (small k d lt).0 (w.labelled.from k d lt),
+      edges_known policy _ (small k d lt).1
+          (w.labelled.to k d lt),
+    ) in
+    let right = ap (first_wrong (is_labelled policy) []) is ∙ edges_right (is_labelled policy) [] (start kinds.Certificate) cert
+    known (omega (arith, w.edges)) in
+    let few : length (text kinds.Certificate items) ≤ bytes_limit = subst (λ (t : List ℕ). length t ≤ bytes_limit)
+    (cert_is cert) w.bytes in
     let back : IsCertText policy (text kinds.Certificate items) cert = (
-      fault_none kinds.Certificate (is_labelled policy) (text kinds.Certificate items) (the_head kinds.Certificate items rows few) (the_form kinds.Certificate items rows says) right,
-      record { order = w.order; same = λ e. ap (λ es. has es e) (sym (ap (filter_map edge_of) is ∙ edges_meant (start kinds.Certificate) cert small)) },
+      fault_none kinds.Certificate (is_labelled policy) (text kinds.Certificate items) (the_head kinds.Certificate items rows few)
+          (the_form kinds.Certificate items rows says) right,
+      record {
+        order = w.order;
+        same = λ e. ap (λ es. has es e) (sym (ap (filter_map edge_of) is ∙ edges_meant (start kinds.Certificate) cert small));
+      },
     ) in
     subst (λ (t : List ℕ). IsCertText policy t cert) (sym (cert_is cert)) back
 
@@ -131,19 +155,26 @@ cert_back policy cert w =
 abbrev policy_items : Policy → List Item
 policy_items p = map label_item p.labels ++ (map object_item p.objects ++ map edge_item p.edges)
 
-three-ended : (p : Policy) → flat_map label_line p.labels ++ (flat_map object_line p.objects ++ flat_map edge_line p.edges) ≡ ended (rows_of (policy_items p))
+three-ended : (p : Policy) → flat_map label_line p.labels ++ (flat_map object_line p.objects ++ flat_map edge_line p.edges)
+    ≡ ended (rows_of (policy_items p))
 three-ended p =
-    ap (λ (t : List ℕ). t ++ (flat_map object_line p.objects ++ flat_map edge_line p.edges)) (flat-ended label_line label_item label_line-ended p.labels)
-    ∙ ap (λ (t : List ℕ). ended (rows_of (map label_item p.labels)) ++ (t ++ flat_map edge_line p.edges)) (flat-ended object_line object_item object_line-ended p.objects)
-    ∙ ap (λ (t : List ℕ). ended (rows_of (map label_item p.labels)) ++ (ended (rows_of (map object_item p.objects)) ++ t)) (flat-ended edge_line edge_item edge_line-ended p.edges)
-    ∙ ap (λ (t : List ℕ). ended (rows_of (map label_item p.labels)) ++ t) (sym (ended-append (map object_item p.objects) (map edge_item p.edges)))
+    ap (λ (t : List ℕ). t ++ (flat_map object_line p.objects ++ flat_map edge_line p.edges))
+    (flat-ended label_line label_item label_line-ended p.labels)
+    ∙ ap (λ (t : List ℕ). ended (rows_of (map label_item p.labels)) ++ (t ++ flat_map edge_line p.edges))
+    (flat-ended object_line object_item object_line-ended p.objects)
+    ∙ ap (λ (t : List ℕ). ended (rows_of (map label_item p.labels)) ++ (ended (rows_of (map object_item p.objects)) ++ t))
+    (flat-ended edge_line edge_item edge_line-ended p.edges)
+    ∙ ap (λ (t : List ℕ). ended (rows_of (map label_item p.labels)) ++ t)
+    (sym (ended-append (map object_item p.objects) (map edge_item p.edges)))
     ∙ sym (ended-append (map label_item p.labels) (map object_item p.objects ++ map edge_item p.edges))
 
 policy_is : (p : Policy) → policy_text p ≡ text kinds.Policy (policy_items p)
 unfolding policy_text ◌⊹◌
 policy_is p =
-    append_assoc (codes "policy 1\n" ++ flat_map label_line p.labels) (flat_map object_line p.objects) (flat_map edge_line p.edges)
-    ∙ append_assoc (codes "policy 1\n") (flat_map label_line p.labels) (flat_map object_line p.objects ++ flat_map edge_line p.edges)
+    append_assoc (codes "policy 1\n" ++ flat_map label_line p.labels) (flat_map object_line p.objects)
+    (flat_map edge_line p.edges)
+    ∙ append_assoc (codes "policy 1\n") (flat_map label_line p.labels) (flat_map object_line p.objects
+    ++ flat_map edge_line p.edges)
     ∙ ap (λ (t : List ℕ). codes "policy 1\n" ++ t) (three-ended p)
 
 -- numbers that labels have are small
@@ -155,13 +186,15 @@ named_small (l ∷ ls) n few h = go (l.0 == n) refl (λ k. named_small ls n (All
     go true e rest = let here = All-head (λ m. m.0 < 8192) l ls few in let same : l.0 ≡ n = eqb-true l.0 n e in omega arith
     go false e rest = rest (rw e at h)
 
-three_right : (knows : Number → Bool) (xs ys zs : List Told) → first_wrong knows [] xs ≡ None → first_wrong knows xs ys ≡ None → first_wrong knows (xs ++ ys) zs ≡ None → first_wrong knows [] (xs ++ (ys ++ zs)) ≡ None
+three_right : (knows : Number → Bool) (xs ys zs : List Told) → first_wrong knows [] xs ≡ None → first_wrong knows xs ys ≡ None
+    → first_wrong knows (xs ++ ys) zs ≡ None → first_wrong knows [] (xs ++ (ys ++ zs)) ≡ None
 three_right knows xs ys zs a b c =
     first_wrong-append knows [] xs (ys ++ zs)
     ∙ none_then (first_wrong knows [] xs) (first_wrong knows xs (ys ++ zs)) a
     (first_wrong-append knows xs ys zs ∙ none_then (first_wrong knows xs ys) (first_wrong knows (xs ++ ys) zs) b c)
 
-three_meant : {Y : Type 0} (h : Told → Option Y) (xs ys zs : List Told) → filter_map h (xs ++ (ys ++ zs)) ≡ filter_map h xs ++ (filter_map h ys ++ filter_map h zs)
+three_meant : {Y : Type 0} (h : Told → Option Y) (xs ys zs : List Told) → filter_map h (xs ++ (ys ++ zs)) ≡ filter_map h xs
+    ++ (filter_map h ys ++ filter_map h zs)
 three_meant h xs ys zs = filter_map-append h xs (ys ++ zs) ∙ ap (λ t. filter_map h xs ++ t) (filter_map-append h ys zs)
 
 -- one of three lists is all
@@ -181,13 +214,24 @@ record Laid (p : Policy) : Type 0 where
   to : All (λ e. is_some (label_name p.labels e.to) ≡ true) p.edges
 
 laid : (p : Policy) → IsPolicy p → IsWritable p → Laid p
-laid p kept w = record { few = w.numbers; labels = kept.named; names = w.names; objects = kept.labelled; from = kept.from; to = kept.to }
+laid p kept w = record {
+  few = w.numbers;
+  labels = kept.named;
+  names = w.names;
+  objects = kept.labelled;
+  from = kept.from;
+  to = kept.to;
+}
 
 small_of : (p : Policy) (n : ℕ) → Laid p → is_some (label_name p.labels n) ≡ true → n < 2 ^ 64
 small_of p n h named = let few = named_small p.labels n h.few named in omega arith
 
 small_edges : (p : Policy) → Laid p → Small p.edges
-small_edges p h = λ k d lt. (small_of p (get_or p.edges k d).from h (h.from k d lt), small_of p (get_or p.edges k d).to h (h.to k d lt))
+small_edges p h = λ k d lt. (
+  small_of p (get_or p.edges k d).from h (h.from k d lt),
+  small_of p (get_or p.edges k d).to h
+      (h.to k d lt),
+)
 
 small_objects : (p : Policy) → Laid p → All (λ o. o.1 < 2 ^ 64) p.objects
 small_objects p h = λ k d lt. small_of p (get_or p.objects k d).1 h (h.objects k d lt)
@@ -200,14 +244,17 @@ policy_rows p h =
     rows-append (map label_item p.labels) (map object_item p.objects ++ map edge_item p.edges)
     (all_rows label_item p.labels (λ k d lt. label_row (get_or p.labels k d) (small_labels p h k d lt) (h.labels k d lt)))
     (rows-append (map object_item p.objects) (map edge_item p.edges)
-    (all_rows object_item p.objects (λ k d lt. object_row (get_or p.objects k d) (small_objects p h k d lt) (h.names k d lt))) (edge_rows p.edges (small_edges p h)))
+    (all_rows object_item p.objects (λ k d lt. object_row (get_or p.objects k d) (small_objects p h k d lt) (h.names k d lt)))
+    (edge_rows p.edges (small_edges p h)))
 
 policy_spells : (p : Policy) → Laid p → Spells kinds.Policy (policy_items p)
 policy_spells p h =
     spells-append kinds.Policy (map label_item p.labels) (map object_item p.objects ++ map edge_item p.edges)
-    (all_say kinds.Policy label_item p.labels (λ k d lt. label_says (get_or p.labels k d) (small_labels p h k d lt) (h.labels k d lt)))
+    (all_say kinds.Policy label_item p.labels (λ k d lt. label_says (get_or p.labels k d) (small_labels p h k d lt)
+    (h.labels k d lt)))
     (spells-append kinds.Policy (map object_item p.objects) (map edge_item p.edges)
-    (all_say kinds.Policy object_item p.objects (λ k d lt. object_says (get_or p.objects k d) (small_objects p h k d lt) (h.names k d lt))) (edges_say kinds.Policy p.edges (small_edges p h)))
+    (all_say kinds.Policy object_item p.objects (λ k d lt. object_says (get_or p.objects k d) (small_objects p h k d lt)
+    (h.names k d lt))) (edges_say kinds.Policy p.edges (small_edges p h)))
 
 -- the lines of labels, of objects, and of edges
 module _ (p : Policy) where
@@ -239,7 +286,8 @@ module _ (p : Policy) where
       ∙ ap (λ (ts : List Told). label_lines ++ ts) (told_at-append at_objects (map object_item p.objects) (map edge_item p.edges))
 
   known : (n : ℕ) → is_some (label_name p.labels n) ≡ true → has_label all_lines (decimal n) ≡ true
-  known n h = has_label-append label_lines (object_lines ++ edge_lines) (decimal n) ∙ or_left (has_label (object_lines ++ edge_lines) (decimal n)) (has_label-told (start kinds.Policy) p.labels n h)
+  known n h = has_label-append label_lines (object_lines ++ edge_lines) (decimal n)
+      ∙ or_left (has_label (object_lines ++ edge_lines) (decimal n)) (has_label-told (start kinds.Policy) p.labels n h)
 
   all_right : IsPolicy p → IsWritable p → first_wrong (has_label all_lines) [] all_lines ≡ None
   all_right kept w =
@@ -247,36 +295,48 @@ module _ (p : Policy) where
       let no_objects = count_apart is_object label_item (λ l. refl) (start kinds.Policy) p.labels in
       let no_edges = count_apart is_edge label_item (λ l. refl) (start kinds.Policy) p.labels in
       let no_edges' = count_apart is_edge object_item (λ o. refl) at_objects p.objects in
-      let both : count_by (λ (t : Told). is_edge t.1) (label_lines ++ object_lines) ≡ count_by (λ (t : Told). is_edge t.1) label_lines + count_by (λ (t : Told). is_edge t.1) object_lines =
+      let both : count_by (λ (t : Told). is_edge t.1) (label_lines ++ object_lines) ≡ count_by (λ (t : Told). is_edge t.1)
+      label_lines + count_by (λ (t : Told). is_edge t.1) object_lines =
       sum_by-append (λ (t : Told). cond (is_edge t.1) 1 0) label_lines object_lines in
       three_right (has_label all_lines) label_lines object_lines edge_lines
-      (labels_right (has_label all_lines) [] (start kinds.Policy) p.labels w.rising w.numbers kept.names (λ k d lt. record { number = refl; name = refl }) (omega (arith, w.labels)))
-      (objects_right (has_label all_lines) label_lines at_objects p.objects (λ k d lt. known (get_or p.objects k d).1 (h.objects k d lt)) w.names kept.objects
-      (λ k d lt. any_apart (labels_object (get_or p.objects k d).0) label_item (λ l. refl) (start kinds.Policy) p.labels) (omega (arith, no_objects, w.objects)))
+      (labels_right (has_label all_lines) [] (start kinds.Policy) p.labels w.rising w.numbers kept.names
+      (λ k d lt. record { number = refl; name = refl }) (omega (arith, w.labels)))
+      (objects_right (has_label all_lines) label_lines at_objects p.objects
+      (λ k d lt. known (get_or p.objects k d).1 (h.objects k d lt)) w.names kept.objects
+      (λ k d lt. any_apart (labels_object (get_or p.objects k d).0) label_item (λ l. refl) (start kinds.Policy) p.labels)
+      (omega (arith, no_objects, w.objects)))
       (edges_right (has_label all_lines) (label_lines ++ object_lines) at_edges p.edges
-      (λ k d lt. (known (get_or p.edges k d).from (h.from k d lt), known (get_or p.edges k d).to (h.to k d lt))) (omega (arith, no_edges, no_edges', both, w.edges)))
+      (λ k d lt. (known (get_or p.edges k d).from (h.from k d lt), known (get_or p.edges k d).to (h.to k d lt)))
+      (omega (arith, no_edges, no_edges', both, w.edges)))
 
   labels_back : Laid p → filter_map label_of all_lines ≡ p.labels
   labels_back h =
       three_meant label_of label_lines object_lines edge_lines
-      ∙ ap (λ (ls : Pairs). ls ++ (filter_map label_of object_lines ++ filter_map label_of edge_lines)) (labels_meant (start kinds.Policy) p.labels (small_labels p h))
-      ∙ ap (λ (ls : Pairs). p.labels ++ (ls ++ filter_map label_of edge_lines)) (nothing_meant label_of object_item (λ line o. refl) at_objects p.objects)
+      ∙ ap (λ (ls : Pairs). ls ++ (filter_map label_of object_lines ++ filter_map label_of edge_lines))
+      (labels_meant (start kinds.Policy) p.labels (small_labels p h))
+      ∙ ap (λ (ls : Pairs). p.labels ++ (ls ++ filter_map label_of edge_lines)) (nothing_meant label_of object_item
+      (λ line o. refl) at_objects p.objects)
       ∙ ap (λ (ls : Pairs). p.labels ++ ([] ++ ls)) (nothing_meant label_of edge_item (λ line e. refl) at_edges p.edges)
       ∙ first_of p.labels
 
   objects_back : Laid p → filter_map object_of all_lines ≡ p.objects
   objects_back h =
       three_meant object_of label_lines object_lines edge_lines
-      ∙ ap (λ (os : List (List ℕ × ℕ)). os ++ (filter_map object_of object_lines ++ filter_map object_of edge_lines)) (nothing_meant object_of label_item (λ line l. refl) (start kinds.Policy) p.labels)
-      ∙ ap (λ (os : List (List ℕ × ℕ)). [] ++ (os ++ filter_map object_of edge_lines)) (objects_meant at_objects p.objects (small_objects p h))
-      ∙ ap (λ (os : List (List ℕ × ℕ)). [] ++ (p.objects ++ os)) (nothing_meant object_of edge_item (λ line e. refl) at_edges p.edges)
+      ∙ ap (λ (os : List (List ℕ × ℕ)). os ++ (filter_map object_of object_lines ++ filter_map object_of edge_lines))
+      (nothing_meant object_of label_item (λ line l. refl) (start kinds.Policy) p.labels)
+      ∙ ap (λ (os : List (List ℕ × ℕ)). [] ++ (os ++ filter_map object_of edge_lines))
+      (objects_meant at_objects p.objects (small_objects p h))
+      ∙ ap (λ (os : List (List ℕ × ℕ)). [] ++ (p.objects ++ os)) (nothing_meant object_of edge_item (λ line e. refl)
+      at_edges p.edges)
       ∙ second_of p.objects
 
   edges_back : Laid p → filter_map edge_of all_lines ≡ p.edges
   edges_back h =
       three_meant edge_of label_lines object_lines edge_lines
-      ∙ ap (λ (es : List Edge). es ++ (filter_map edge_of object_lines ++ filter_map edge_of edge_lines)) (nothing_meant edge_of label_item (λ line l. refl) (start kinds.Policy) p.labels)
-      ∙ ap (λ (es : List Edge). [] ++ (es ++ filter_map edge_of edge_lines)) (nothing_meant edge_of object_item (λ line o. refl) at_objects p.objects)
+      ∙ ap (λ (es : List Edge). es ++ (filter_map edge_of object_lines ++ filter_map edge_of edge_lines))
+      (nothing_meant edge_of label_item (λ line l. refl) (start kinds.Policy) p.labels)
+      ∙ ap (λ (es : List Edge). [] ++ (es ++ filter_map edge_of edge_lines)) (nothing_meant edge_of object_item (λ line o. refl)
+      at_objects p.objects)
       ∙ ap (λ (es : List Edge). [] ++ ([] ++ es)) (edges_meant at_edges p.edges (small_edges p h))
 
   says_back : IsPolicy p → IsWritable p → Says all_lines p
@@ -295,10 +355,12 @@ policy_back p kept w =
     let rows = policy_rows p h in
     let says = policy_spells p h in
     let is = the_told kinds.Policy items rows says ∙ told_in_parts p in
-    let few : length (text kinds.Policy items) ≤ bytes_limit = subst (λ (t : List ℕ). length t ≤ bytes_limit) (policy_is p) w.bytes in
+    let few : length (text kinds.Policy items) ≤ bytes_limit = subst (λ (t : List ℕ). length t ≤ bytes_limit)
+    (policy_is p) w.bytes in
     let right = subst (λ (ts : List Told). first_wrong (has_label ts) [] ts ≡ None) (sym is) (all_right p kept w) in
     let back : IsPolicyText (text kinds.Policy items) p = (
-      fault_none kinds.Policy (has_label (policy_lines (text kinds.Policy items))) (text kinds.Policy items) (the_head kinds.Policy items rows few) (the_form kinds.Policy items rows says) right,
+      fault_none kinds.Policy (has_label (policy_lines (text kinds.Policy items))) (text kinds.Policy items)
+          (the_head kinds.Policy items rows few) (the_form kinds.Policy items rows says) right,
       subst (λ (ts : List Told). Says ts p) (sym is) (says_back p kept w),
     ) in
     subst (λ (t : List ℕ). IsPolicyText t p) (sym (policy_is p)) back

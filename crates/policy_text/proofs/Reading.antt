@@ -28,39 +28,51 @@ use Rattle.policy_text.proofs.Kept.{Clean, clean, formed_all, built_edges, edges
 
 module _ (kind : Kind) (knows : Number → Bool) (bytes : List ℕ) where
   pub fault_head : (r : Refused TextFault) → IsFault (head_fault kind bytes) r → IsFault (first_fault kind knows bytes) r
-  fault_head r h = fault_first (head_fault kind bytes) (option_or (form_fault kind (body bytes)) (first_wrong knows [] (told kind (body bytes)))) r h
+  fault_head r h =
+      fault_first (head_fault kind bytes) (option_or (form_fault kind (body bytes))
+      (first_wrong knows [] (told kind (body bytes)))) r h
 
-  pub fault_form : (r : Refused TextFault) → head_fault kind bytes ≡ None → IsFault (form_fault kind (body bytes)) r → IsFault (first_fault kind knows bytes) r
+  pub fault_form : (r : Refused TextFault) → head_fault kind bytes ≡ None → IsFault (form_fault kind (body bytes)) r
+      → IsFault (first_fault kind knows bytes) r
   fault_form r head h =
-      fault_then (head_fault kind bytes) (option_or (form_fault kind (body bytes)) (first_wrong knows [] (told kind (body bytes)))) r head
+      fault_then (head_fault kind bytes) (option_or (form_fault kind (body bytes))
+      (first_wrong knows [] (told kind (body bytes)))) r head
       (fault_first (form_fault kind (body bytes)) (first_wrong knows [] (told kind (body bytes))) r h)
 
-  pub fault_wrong : (r : Refused TextFault) → head_fault kind bytes ≡ None → form_fault kind (body bytes) ≡ None → IsFault (first_wrong knows [] (told kind (body bytes))) r
+  pub fault_wrong : (r : Refused TextFault) → head_fault kind bytes ≡ None → form_fault kind (body bytes) ≡ None
+      → IsFault (first_wrong knows [] (told kind (body bytes))) r
       → IsFault (first_fault kind knows bytes) r
   fault_wrong r head form h =
-      fault_then (head_fault kind bytes) (option_or (form_fault kind (body bytes)) (first_wrong knows [] (told kind (body bytes)))) r head
+      fault_then (head_fault kind bytes) (option_or (form_fault kind (body bytes))
+      (first_wrong knows [] (told kind (body bytes)))) r head
       (fault_then (form_fault kind (body bytes)) (first_wrong knows [] (told kind (body bytes))) r form h)
 
-  pub fault_none : head_fault kind bytes ≡ None → form_fault kind (body bytes) ≡ None → first_wrong knows [] (told kind (body bytes)) ≡ None → first_fault kind knows bytes ≡ None
+  pub fault_none : head_fault kind bytes ≡ None → form_fault kind (body bytes) ≡ None
+      → first_wrong knows [] (told kind (body bytes)) ≡ None → first_fault kind knows bytes ≡ None
   fault_none head form wrong =
-      none_then (head_fault kind bytes) (option_or (form_fault kind (body bytes)) (first_wrong knows [] (told kind (body bytes)))) head
+      none_then (head_fault kind bytes) (option_or (form_fault kind (body bytes)) (first_wrong knows [] (told kind (body bytes))))
+      head
       (none_then (form_fault kind (body bytes)) (first_wrong knows [] (told kind (body bytes))) form wrong)
 
   pub clean_lines : first_wrong knows [] (told kind (body bytes)) ≡ None → Clean knows [] (told kind (body bytes))
   clean_lines h = clean knows [] (told kind (body bytes)) h (formed_all kind (body bytes))
 
 -- a refusal that is passed on
-pub policy_refused : (bytes : List ℕ) (answer : Result Policy (Refused TextFault)) (r : Refused TextFault) → IsErrAnd answer (λ other. other ≡ r) → IsFault (first_policy_fault bytes) r → IsPolicyRead bytes answer
+pub policy_refused : (bytes : List ℕ) (answer : Result Policy (Refused TextFault)) (r : Refused TextFault)
+    → IsErrAnd answer (λ other. other ≡ r) → IsFault (first_policy_fault bytes) r → IsPolicyRead bytes answer
 policy_refused bytes (Ok x) r is h = absurd is
 policy_refused bytes (Err other) r is h = subst (λ (e : Refused TextFault). IsFault (first_policy_fault bytes) e) (sym is) h
 
-pub cert_refused : (policy : Policy) (bytes : List ℕ) (answer : Result (List Edge) (Refused TextFault)) (r : Refused TextFault) → IsErrAnd answer (λ other. other ≡ r)
+pub cert_refused : (policy : Policy) (bytes : List ℕ) (answer : Result (List Edge) (Refused TextFault)) (r : Refused TextFault)
+    → IsErrAnd answer (λ other. other ≡ r)
     → IsFault (first_cert_fault policy bytes) r → IsCertRead policy bytes answer
 cert_refused policy bytes (Ok x) r is h = absurd is
-cert_refused policy bytes (Err other) r is h = subst (λ (e : Refused TextFault). IsFault (first_cert_fault policy bytes) e) (sym is) h
+cert_refused policy bytes (Err other) r is h =
+    subst (λ (e : Refused TextFault). IsFault (first_cert_fault policy bytes) e) (sym is) h
 
 -- the numbers of label lines
-pub lines_known : (numbers : Words) (ts : List Told) → ((n : List ℕ) → words.has numbers n ≡ has_label ts n) → words.has numbers ≡ has_label ts
+pub lines_known : (numbers : Words) (ts : List Told) → ((n : List ℕ) → words.has numbers n ≡ has_label ts n)
+    → words.has numbers ≡ has_label ts
 lines_known numbers ts each = fun_ext each
 
 -- the numbers of a policy's labels
@@ -68,11 +80,14 @@ same_or : (f g : ℕ → Bool) (o : Option ℕ) → ((v : ℕ) → f v ≡ g v) 
 same_or f g None each = refl
 same_or f g (Some v) each = each v
 
-pub labels_known : (numbers : BTreeSet ℕ) (policy : Policy) → ((n : ℕ) → contains nat_cmp numbers n ≡ is_some (label_name policy.labels n))
+pub labels_known : (numbers : BTreeSet ℕ) (policy : Policy)
+    → ((n : ℕ) → contains nat_cmp numbers n ≡ is_some (label_name policy.labels n))
     → (λ (n : Number). option_map_or (λ v. contains nat_cmp numbers v) (value n) false) ≡ is_labelled policy
-labels_known numbers policy each = fun_ext (λ n. same_or (λ v. contains nat_cmp numbers v) (λ v. is_some (label_name policy.labels v)) (value n) each)
+labels_known numbers policy each =
+    fun_ext (λ n. same_or (λ v. contains nat_cmp numbers v) (λ v. is_some (label_name policy.labels v)) (value n) each)
 
-small_of : (numbers : BTreeSet ℕ) (policy : Policy) (o : Option ℕ) → ((n : ℕ) → contains nat_cmp numbers n ≡ is_some (label_name policy.labels n)) → IsSmall numbers
+small_of : (numbers : BTreeSet ℕ) (policy : Policy) (o : Option ℕ)
+    → ((n : ℕ) → contains nat_cmp numbers n ≡ is_some (label_name policy.labels n)) → IsSmall numbers
     → option_map_or (λ v. is_some (label_name policy.labels v)) o false ≡ true → within o ≡ unwrap_or o 0
 small_of numbers policy None each small h = absurd (true≢false (sym h))
 small_of numbers policy (Some v) each small h =
@@ -80,23 +95,29 @@ small_of numbers policy (Some v) each small h =
     let lt : nat_lt v 4294967296 ≡ true = grind (arith, nat_tests) in
     rw lt refl
 
-pub cert_says : (numbers : BTreeSet ℕ) (policy : Policy) (bytes : List ℕ) (parts : Parts) (cert : List Edge) → ((n : ℕ) → contains nat_cmp numbers n ≡ is_some (label_name policy.labels n)) → IsSmall numbers
-    → first_wrong (is_labelled policy) [] (cert_lines bytes) ≡ None → IsBuilt parts (cert_lines bytes) → IsSorted cert → ((e : Edge) → has cert e ≡ has parts.edges.items e) → SaysEdges (cert_lines bytes) cert
+pub cert_says : (numbers : BTreeSet ℕ) (policy : Policy) (bytes : List ℕ) (parts : Parts) (cert : List Edge)
+    → ((n : ℕ) → contains nat_cmp numbers n ≡ is_some (label_name policy.labels n)) → IsSmall numbers
+    → first_wrong (is_labelled policy) [] (cert_lines bytes) ≡ None → IsBuilt parts (cert_lines bytes) → IsSorted cert
+    → ((e : Edge) → has cert e ≡ has parts.edges.items e) → SaysEdges (cert_lines bytes) cert
 cert_says numbers policy bytes parts cert each small right built sorted table =
     let known = λ (n : Number) (h : is_labelled policy n ≡ true). small_of numbers policy (value n) each small h in
-    let edges = built_edges (is_labelled policy) [] (cert_lines bytes) known (clean_lines kinds.Certificate (is_labelled policy) bytes right) in
+    let edges = built_edges (is_labelled policy) [] (cert_lines bytes) known (clean_lines kinds.Certificate (is_labelled policy)
+    bytes right) in
     record { order = sorted; same = λ e. table e ∙ ap (λ es. has es e) (built.edges ∙ edges) }
 
 -- each number that a certificate uses is a label of the policy
-labelled_value : (policy : Policy) (o : Option ℕ) → option_map_or (λ v. is_some (label_name policy.labels v)) o false ≡ true → is_some (label_name policy.labels (unwrap_or o 0)) ≡ true
+labelled_value : (policy : Policy) (o : Option ℕ) → option_map_or (λ v. is_some (label_name policy.labels v)) o false ≡ true
+    → is_some (label_name policy.labels (unwrap_or o 0)) ≡ true
 labelled_value policy None h = absurd (true≢false (sym h))
 labelled_value policy (Some v) h = h
 
-pub cert_labelled : (policy : Policy) (bytes : List ℕ) (cert : List Edge) → first_wrong (is_labelled policy) [] (cert_lines bytes) ≡ None → SaysEdges (cert_lines bytes) cert → AreLabelled policy cert
+pub cert_labelled : (policy : Policy) (bytes : List ℕ) (cert : List Edge)
+    → first_wrong (is_labelled policy) [] (cert_lines bytes) ≡ None → SaysEdges (cert_lines bytes) cert → AreLabelled policy cert
 cert_labelled policy bytes cert right says =
     let named = λ (n : Number) (h : is_labelled policy n ≡ true). labelled_value policy (value n) h in
     let clean = clean_lines kinds.Certificate (is_labelled policy) bytes right in
-    let each = λ (e : Edge) (h : has cert e ≡ true). edges_labelled (is_labelled policy) [] (cert_lines bytes) policy.labels named clean e (sym (says.same e) ∙ h) in
+    let each = λ (e : Edge) (h : has cert e ≡ true). edges_labelled (is_labelled policy) [] (cert_lines bytes) policy.labels named
+    clean e (sym (says.same e) ∙ h) in
     record {
       from = all_edges (λ e. is_some (label_name policy.labels e.from) ≡ true) cert (λ e h. (each e h).0);
       to = all_edges (λ e. is_some (label_name policy.labels e.to) ≡ true) cert (λ e h. (each e h).1);
@@ -104,33 +125,49 @@ cert_labelled policy bytes cert right says =
 
 -- ---- the readers' answers
 
-pub policy_wrong : (numbers : Words) (bytes : List ℕ) (answer : Result Policy (Refused TextFault)) (r : Refused TextFault) → head_fault kinds.Policy bytes ≡ None → form_fault kinds.Policy (body bytes) ≡ None
-    → ((n : List ℕ) → words.has numbers n ≡ has_label (policy_lines bytes) n) → IsFault (first_wrong (words.has numbers) [] (policy_lines bytes)) r → IsErrAnd answer (λ other. other ≡ r) → IsPolicyRead bytes answer
+pub policy_wrong : (numbers : Words) (bytes : List ℕ) (answer : Result Policy (Refused TextFault)) (r : Refused TextFault)
+    → head_fault kinds.Policy bytes ≡ None → form_fault kinds.Policy (body bytes) ≡ None
+    → ((n : List ℕ) → words.has numbers n ≡ has_label (policy_lines bytes) n)
+    → IsFault (first_wrong (words.has numbers) [] (policy_lines bytes)) r → IsErrAnd answer (λ other. other ≡ r)
+    → IsPolicyRead bytes answer
 policy_wrong numbers bytes answer r head form each h is =
     policy_refused bytes answer r is
     (fault_wrong kinds.Policy (has_label (policy_lines bytes)) bytes r head form
-    (subst (λ (k : Number → Bool). IsFault (first_wrong k [] (policy_lines bytes)) r) (lines_known numbers (policy_lines bytes) each) h))
+    (subst (λ (k : Number → Bool). IsFault (first_wrong k [] (policy_lines bytes)) r)
+    (lines_known numbers (policy_lines bytes) each) h))
 
-pub policy_read : (numbers : Words) (bytes : List ℕ) (parts : Parts) (policy : Policy) → head_fault kinds.Policy bytes ≡ None → form_fault kinds.Policy (body bytes) ≡ None
-    → ((n : List ℕ) → words.has numbers n ≡ has_label (policy_lines bytes) n) → first_wrong (words.has numbers) [] (policy_lines bytes) ≡ None → IsBuilt parts (policy_lines bytes) → IsPolicyOf parts policy
+pub policy_read : (numbers : Words) (bytes : List ℕ) (parts : Parts) (policy : Policy) → head_fault kinds.Policy bytes ≡ None
+    → form_fault kinds.Policy (body bytes) ≡ None
+    → ((n : List ℕ) → words.has numbers n ≡ has_label (policy_lines bytes) n)
+    → first_wrong (words.has numbers) [] (policy_lines bytes) ≡ None → IsBuilt parts (policy_lines bytes)
+    → IsPolicyOf parts policy
     → IsPolicyText bytes policy × IsPolicy policy
 policy_read numbers bytes parts policy head form each h built is =
-    let right = ap (λ (k : Number → Bool). first_wrong k [] (policy_lines bytes)) (sym (lines_known numbers (policy_lines bytes) each)) ∙ h in
+    let right = ap (λ (k : Number → Bool). first_wrong k [] (policy_lines bytes))
+    (sym (lines_known numbers (policy_lines bytes) each)) ∙ h in
     let clean = clean_lines kinds.Policy (has_label (policy_lines bytes)) bytes right in
-    let says = policy_says (policy_lines bytes) parts policy clean built is in
-    ((fault_none kinds.Policy (has_label (policy_lines bytes)) bytes head form right, says), policy_kept (policy_lines bytes) policy clean says)
+    let says = policy_says (policy_lines bytes) parts policy clean built is in (
+      (fault_none kinds.Policy (has_label (policy_lines bytes)) bytes head form right, says),
+      policy_kept (policy_lines bytes)
+          policy clean says,
+    )
 
-pub cert_wrong : (numbers : BTreeSet ℕ) (policy : Policy) (bytes : List ℕ) (answer : Result (List Edge) (Refused TextFault)) (r : Refused TextFault) → head_fault kinds.Certificate bytes ≡ None
-    → form_fault kinds.Certificate (body bytes) ≡ None → ((n : ℕ) → contains nat_cmp numbers n ≡ is_some (label_name policy.labels n))
-    → IsFault (first_wrong (λ n. option_map_or (λ v. contains nat_cmp numbers v) (value n) false) [] (cert_lines bytes)) r → IsErrAnd answer (λ other. other ≡ r) → IsCertRead policy bytes answer
+pub cert_wrong : (numbers : BTreeSet ℕ) (policy : Policy) (bytes : List ℕ) (answer : Result (List Edge) (Refused TextFault))
+    (r : Refused TextFault) → head_fault kinds.Certificate bytes ≡ None
+    → form_fault kinds.Certificate (body bytes) ≡ None
+    → ((n : ℕ) → contains nat_cmp numbers n ≡ is_some (label_name policy.labels n))
+    → IsFault (first_wrong (λ n. option_map_or (λ v. contains nat_cmp numbers v) (value n) false) [] (cert_lines bytes)) r
+    → IsErrAnd answer (λ other. other ≡ r) → IsCertRead policy bytes answer
 cert_wrong numbers policy bytes answer r head form each h is =
     cert_refused policy bytes answer r is
     (fault_wrong kinds.Certificate (is_labelled policy) bytes r head form
     (subst (λ (k : Number → Bool). IsFault (first_wrong k [] (cert_lines bytes)) r) (labels_known numbers policy each) h))
 
-pub cert_read : (numbers : BTreeSet ℕ) (policy : Policy) (bytes : List ℕ) (parts : Parts) (cert : List Edge) → head_fault kinds.Certificate bytes ≡ None → form_fault kinds.Certificate (body bytes) ≡ None
+pub cert_read : (numbers : BTreeSet ℕ) (policy : Policy) (bytes : List ℕ) (parts : Parts) (cert : List Edge)
+    → head_fault kinds.Certificate bytes ≡ None → form_fault kinds.Certificate (body bytes) ≡ None
     → ((n : ℕ) → contains nat_cmp numbers n ≡ is_some (label_name policy.labels n)) → IsSmall numbers
-    → first_wrong (λ n. option_map_or (λ v. contains nat_cmp numbers v) (value n) false) [] (cert_lines bytes) ≡ None → IsBuilt parts (cert_lines bytes) → IsSorted cert
+    → first_wrong (λ n. option_map_or (λ v. contains nat_cmp numbers v) (value n) false) [] (cert_lines bytes) ≡ None
+    → IsBuilt parts (cert_lines bytes) → IsSorted cert
     → ((e : Edge) → has cert e ≡ has parts.edges.items e) → IsCertText policy bytes cert × AreLabelled policy cert
 cert_read numbers policy bytes parts cert head form each small h built sorted table =
     let right = ap (λ (k : Number → Bool). first_wrong k [] (cert_lines bytes)) (sym (labels_known numbers policy each)) ∙ h in

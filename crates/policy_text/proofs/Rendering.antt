@@ -30,7 +30,8 @@ IsField bs = All (λ b. 32 < b) bs
 
 field_of : (p : ℕ → Bool) → ((b : ℕ) → p b ≡ true → 32 < b) → (bs : List ℕ) → list_all p bs ≡ true → IsField bs
 field_of p over [] h = All-nil (λ b. 32 < b)
-field_of p over (b ∷ bs) h = let parts = and_parts (p b) (list_all p bs) h in All-cons (λ b. 32 < b) b bs (over b parts.0) (field_of p over bs parts.1)
+field_of p over (b ∷ bs) h = let parts = and_parts (p b) (list_all p bs) h in
+    All-cons (λ b. 32 < b) b bs (over b parts.0) (field_of p over bs parts.1)
 
 past_digit : (b : ℕ) → is_digit b ≡ true → 32 < b
 past_digit b h = grind (arith, nat_tests)
@@ -96,9 +97,11 @@ unfed bs h = All-weaker (λ b. 32 < b) (λ b. (b == 10) ≡ false) no_feed bs h
 
 -- a field in front of others
 behind_space : (a bs : List ℕ) → IsField a → All (λ b. (b == 10) ≡ false) bs → All (λ b. (b == 10) ≡ false) (a ++ 32 ∷ bs)
-behind_space a bs f g = All-append (λ b. (b == 10) ≡ false) a (32 ∷ bs) (unfed a f) (All-cons (λ b. (b == 10) ≡ false) 32 bs refl g)
+behind_space a bs f g = All-append (λ b. (b == 10) ≡ false) a (32 ∷ bs) (unfed a f)
+    (All-cons (λ b. (b == 10) ≡ false) 32 bs refl g)
 
-pub two_unfed : (a b : List ℕ) → list_all (λ c. nat_lt 32 c) a ≡ true → list_all (λ c. nat_lt 32 c) b ≡ true → All (λ c. (c == 10) ≡ false) (a ++ 32 ∷ b)
+pub two_unfed : (a b : List ℕ) → list_all (λ c. nat_lt 32 c) a ≡ true → list_all (λ c. nat_lt 32 c) b ≡ true
+    → All (λ c. (c == 10) ≡ false) (a ++ 32 ∷ b)
 two_unfed a b f g = behind_space a b (literal_field a f) (unfed b (literal_field b g))
 
 fields_more : (a bs : List ℕ) → IsField a → fields (a ++ 32 ∷ bs) ≡ a ∷ fields bs
@@ -112,9 +115,11 @@ three a b c = a ++ 32 ∷ (b ++ 32 ∷ c)
 
 fields-three : (a b c : List ℕ) → IsField a → IsField b → IsField c → fields (three a b c) ≡ a ∷ b ∷ c ∷ []
 fields-three a b c f g h =
-    fields_more a (b ++ 32 ∷ c) f ∙ ap (λ (fs : List (List ℕ)). a ∷ fs) (fields_more b c g ∙ ap (λ (fs : List (List ℕ)). b ∷ fs) (fields_last c h))
+    fields_more a (b ++ 32 ∷ c) f ∙ ap (λ (fs : List (List ℕ)). a ∷ fs) (fields_more b c g ∙ ap (λ (fs : List (List ℕ)). b ∷ fs)
+    (fields_last c h))
 
-fields-four : (a b c d : List ℕ) → IsField a → IsField b → IsField c → IsField d → fields (a ++ 32 ∷ three b c d) ≡ a ∷ b ∷ c ∷ d ∷ []
+fields-four : (a b c d : List ℕ) → IsField a → IsField b → IsField c → IsField d → fields (a ++ 32 ∷ three b c d) ≡ a
+    ∷ b ∷ c ∷ d ∷ []
 fields-four a b c d f g h k = fields_more a (three b c d) f ∙ ap (λ (fs : List (List ℕ)). a ∷ fs) (fields-three b c d g h k)
 
 unfed-three : (a b c : List ℕ) → IsField a → IsField b → IsField c → All (λ b. (b == 10) ≡ false) (three a b c)
@@ -129,7 +134,11 @@ abbrev pub object_item : List ℕ × ℕ → Item
 object_item o = (codes "object" ++ 32 ∷ (o.0 ++ 32 ∷ decimal o.1), object o.0 (decimal o.1))
 
 abbrev pub edge_item : Edge → Item
-edge_item e = (codes "edge" ++ 32 ∷ (decimal e.from ++ 32 ∷ (text_of e.authority ++ 32 ∷ decimal e.to)), edge (decimal e.from) e.authority (decimal e.to))
+edge_item e = (
+  codes "edge" ++ 32 ∷ (decimal e.from ++ 32 ∷ (text_of e.authority ++ 32 ∷ decimal e.to)),
+  edge (decimal e.from)
+      e.authority (decimal e.to),
+)
 
 pub label_line-ended : (l : ℕ × List ℕ) → label_line l ≡ (label_item l).0 ++ 10 ∷ []
 unfolding together
@@ -145,37 +154,47 @@ edge_line-ended e = simp append_assoc
 
 pub label_row : (l : ℕ × List ℕ) → l.0 < 2 ^ 64 → is_label_name l.1 ≡ true → IsRow (label_item l).0
 label_row l small name = record {
-  whole = unfed-three (codes "label") (decimal l.0) l.1 (literal_field (codes "label") refl) (number_field l.0 small) (label_field l.1 name);
+  whole = unfed-three (codes "label") (decimal l.0) l.1 (literal_field (codes "label") refl) (number_field l.0 small)
+      (label_field l.1 name);
   tells = refl;
 }
 
 pub object_row : (o : List ℕ × ℕ) → o.1 < 2 ^ 64 → is_name o.0 ≡ true → IsRow (object_item o).0
 object_row o small name = record {
-  whole = unfed-three (codes "object") o.0 (decimal o.1) (literal_field (codes "object") refl) (word_field o.0 (name_word o.0 name)) (number_field o.1 small);
+  whole = unfed-three (codes "object") o.0 (decimal o.1) (literal_field (codes "object") refl)
+      (word_field o.0 (name_word o.0 name)) (number_field o.1 small);
   tells = refl;
 }
 
 pub edge_row : (e : Edge) → e.from < 2 ^ 64 → e.to < 2 ^ 64 → IsRow (edge_item e).0
 edge_row e small small' = record {
-  whole = behind_space (codes "edge") (three (decimal e.from) (text_of e.authority) (decimal e.to)) (literal_field (codes "edge") refl)
-      (unfed-three (decimal e.from) (text_of e.authority) (decimal e.to) (number_field e.from small) (literal_field (text_of e.authority) (text_past e.authority)) (number_field e.to small'));
+  whole = behind_space (codes "edge") (three (decimal e.from) (text_of e.authority) (decimal e.to))
+      (literal_field (codes "edge") refl)
+      (unfed-three (decimal e.from) (text_of e.authority) (decimal e.to) (number_field e.from small)
+      (literal_field (text_of e.authority) (text_past e.authority)) (number_field e.to small'));
   tells = refl;
 }
 
-pub label_says : (l : ℕ × List ℕ) → l.0 < 2 ^ 64 → is_label_name l.1 ≡ true → entry_of kinds.Policy (fields (label_item l).0) ≡ Some (label_item l).1
+pub label_says : (l : ℕ × List ℕ) → l.0 < 2 ^ 64 → is_label_name l.1 ≡ true
+    → entry_of kinds.Policy (fields (label_item l).0) ≡ Some (label_item l).1
 label_says l small name =
-    ap (entry_of kinds.Policy) (fields-three (codes "label") (decimal l.0) l.1 (literal_field (codes "label") refl) (number_field l.0 small) (label_field l.1 name))
+    ap (entry_of kinds.Policy) (fields-three (codes "label") (decimal l.0) l.1 (literal_field (codes "label") refl)
+    (number_field l.0 small) (label_field l.1 name))
     ∙ rw (is_decimal-decimal l.0 small, name) refl
 
-pub object_says : (o : List ℕ × ℕ) → o.1 < 2 ^ 64 → is_name o.0 ≡ true → entry_of kinds.Policy (fields (object_item o).0) ≡ Some (object_item o).1
+pub object_says : (o : List ℕ × ℕ) → o.1 < 2 ^ 64 → is_name o.0 ≡ true → entry_of kinds.Policy (fields (object_item o).0) ≡ Some
+    (object_item o).1
 object_says o small name =
     let word = name_word o.0 name in
-    ap (entry_of kinds.Policy) (fields-three (codes "object") o.0 (decimal o.1) (literal_field (codes "object") refl) (word_field o.0 word) (number_field o.1 small))
+    ap (entry_of kinds.Policy) (fields-three (codes "object") o.0 (decimal o.1) (literal_field (codes "object") refl)
+    (word_field o.0 word) (number_field o.1 small))
     ∙ rw (word, is_decimal-decimal o.1 small) refl
 
-pub edge_says : (kind : Kind) (e : Edge) → e.from < 2 ^ 64 → e.to < 2 ^ 64 → entry_of kind (fields (edge_item e).0) ≡ Some (edge_item e).1
+pub edge_says : (kind : Kind) (e : Edge) → e.from < 2 ^ 64 → e.to < 2 ^ 64
+    → entry_of kind (fields (edge_item e).0) ≡ Some (edge_item e).1
 edge_says kind e small small' =
     ap (entry_of kind)
-    (fields-four (codes "edge") (decimal e.from) (text_of e.authority) (decimal e.to) (literal_field (codes "edge") refl) (number_field e.from small)
+    (fields-four (codes "edge") (decimal e.from) (text_of e.authority) (decimal e.to) (literal_field (codes "edge") refl)
+    (number_field e.from small)
     (literal_field (text_of e.authority) (text_past e.authority)) (number_field e.to small'))
     ∙ rw (is_decimal-decimal e.from small, is_decimal-decimal e.to small', its_word e.authority) refl

@@ -29,11 +29,13 @@ AreRows (r ∷ rs) = IsRow r × AreRows rs
 parts-ended : (rows : List (List ℕ)) → AreRows rows → slice_split (λ b. b == 10) (ended rows) ≡ rows ++ [] ∷ []
 parts-ended [] h = refl
 parts-ended (r ∷ rs) h =
-    ap (slice_split (λ b. b == 10)) (append_assoc r (10 ∷ []) (ended rs)) ∙ slice_split_at (λ b. b == 10) r 10 (ended rs) h.0.whole refl ∙ ap (λ ps. r ∷ ps) (parts-ended rs h.1)
+    ap (slice_split (λ b. b == 10)) (append_assoc r (10 ∷ []) (ended rs)) ∙ slice_split_at (λ b. b == 10) r 10 (ended rs)
+    h.0.whole refl ∙ ap (λ ps. r ∷ ps) (parts-ended rs h.1)
 
 telling-placed : (at : ℕ) (rows : List (List ℕ)) → AreRows rows → telling (placed at (rows ++ [] ∷ [])) ≡ placed at rows
 telling-placed at [] h = refl
-telling-placed at (r ∷ rs) h = rw h.0.tells (ap (λ (ls : List Line). record { first = at; text = r } ∷ ls) (telling-placed (at + (length r + 1)) rs h.1))
+telling-placed at (r ∷ rs) h =
+    rw h.0.tells (ap (λ (ls : List Line). record { first = at; text = r } ∷ ls) (telling-placed (at + (length r + 1)) rs h.1))
 
 pub lines-ended : (rows : List (List ℕ)) → AreRows rows → lines (ended rows) ≡ placed 0 rows
 lines-ended rows h = ap (λ ps. telling (placed 0 ps)) (parts-ended rows h) ∙ telling-placed 0 rows h
@@ -57,18 +59,21 @@ abbrev pub Spells : Kind → List Item → Type 0
 Spells kind [] = Unit {0}
 Spells kind (i ∷ is) = (entry_of kind (fields i.0) ≡ Some i.1) × Spells kind is
 
-pub told-rows : (kind : Kind) (at : ℕ) (items : List Item) → Spells kind items → told kind (placed at (rows_of items)) ≡ told_at at items
+pub told-rows : (kind : Kind) (at : ℕ) (items : List Item) → Spells kind items
+    → told kind (placed at (rows_of items)) ≡ told_at at items
 told-rows kind at [] s = refl
 told-rows kind at (i ∷ is) s =
     told-cons kind (line_at at i.0) (placed (at + (length i.0 + 1)) (rows_of is))
     ∙ ap (λ ts. ts ++ told kind (placed (at + (length i.0 + 1)) (rows_of is))) (told_one kind (line_at at i.0) i.1 s.0)
     ∙ ap (λ (ts : List Told). (line_at at i.0, i.1) ∷ ts) (told-rows kind (at + (length i.0 + 1)) is s.1)
 
-pub form-rows : (kind : Kind) (at : ℕ) (items : List Item) → Spells kind items → form_fault kind (placed at (rows_of items)) ≡ None
+pub form-rows : (kind : Kind) (at : ℕ) (items : List Item) → Spells kind items
+    → form_fault kind (placed at (rows_of items)) ≡ None
 form-rows kind at [] s = refl
 form-rows kind at (i ∷ is) s =
     form-cons kind (line_at at i.0) (placed (at + (length i.0 + 1)) (rows_of is))
-    ∙ ap (λ o. option_or o (form_fault kind (placed (at + (length i.0 + 1)) (rows_of is)))) (form_some kind (line_at at i.0) i.1 s.0)
+    ∙ ap (λ o. option_or o (form_fault kind (placed (at + (length i.0 + 1)) (rows_of is))))
+    (form_some kind (line_at at i.0) i.1 s.0)
     ∙ form-rows kind (at + (length i.0 + 1)) is s.1
 
 -- ---- items one behind another

@@ -13,14 +13,16 @@ use Rattle.policy_text.specs.PolicyTexts.{IsPolicyText, body, first_policy_fault
 use Rattle.policy_text.specs.declared.kind.Kind.TheVariants as kinds
 use Rattle.policy_text.proofs.Kept.{Clean, clean, formed_all, gives_small, policy_kept, right_object}
 
-none_wrong : (bytes : List ℕ) → first_policy_fault bytes ≡ None → first_wrong (has_label (policy_lines bytes)) [] (policy_lines bytes) ≡ None
+none_wrong : (bytes : List ℕ) → first_policy_fault bytes ≡ None
+    → first_wrong (has_label (policy_lines bytes)) [] (policy_lines bytes) ≡ None
 none_wrong bytes none =
     let wrong = first_wrong (has_label (policy_lines bytes)) [] (policy_lines bytes) in
     let form = form_fault kinds.Policy (body bytes) in
     (neither form wrong (neither (head_fault kinds.Policy bytes) (option_or form wrong) none).1).1
 
 all_clean : (bytes : List ℕ) → first_policy_fault bytes ≡ None → Clean (has_label (policy_lines bytes)) [] (policy_lines bytes)
-all_clean bytes none = clean (has_label (policy_lines bytes)) [] (policy_lines bytes) (none_wrong bytes none) (formed_all kinds.Policy (body bytes))
+all_clean bytes none = clean (has_label (policy_lines bytes)) [] (policy_lines bytes) (none_wrong bytes none)
+    (formed_all kinds.Policy (body bytes))
 
 pub text_kept : (bytes : List ℕ) (policy : Policy) → IsPolicyText bytes policy → IsPolicy policy
 text_kept bytes policy text = policy_kept (policy_lines bytes) policy (all_clean bytes text.0) text.1
@@ -29,14 +31,18 @@ below_value : (o : Option ℕ) → option_map_or (λ v. nat_le 8192 v) o true �
 below_value None h = absurd cc
 below_value (Some v) h = grind (arith, nat_tests)
 
-objects_below : (knows : Number → Bool) (before ts : List Told) → ((n : Number) → knows n ≡ true → label_value n < 8192) → Clean knows before ts
+objects_below : (knows : Number → Bool) (before ts : List Told) → ((n : Number) → knows n ≡ true → label_value n < 8192)
+    → Clean knows before ts
     → All (λ o. o.1 < 8192) (filter_map object_of ts)
 objects_below knows before [] below c = All-nil (λ o. o.1 < 8192)
 objects_below knows before ((line, object word n) ∷ ts) below c =
-    All-cons (λ o. o.1 < 8192) (word, label_value n) (filter_map object_of ts) (below n (right_object knows before line word n c.0).0)
+    All-cons (λ o. o.1 < 8192) (word, label_value n) (filter_map object_of ts)
+    (below n (right_object knows before line word n c.0).0)
     (objects_below knows (before ++ (line, object word n) ∷ []) ts below c.2)
-objects_below knows before ((line, label n name) ∷ ts) below c = objects_below knows (before ++ (line, label n name) ∷ []) ts below c.2
-objects_below knows before ((line, edge l a m) ∷ ts) below c = objects_below knows (before ++ (line, edge l a m) ∷ []) ts below c.2
+objects_below knows before ((line, label n name) ∷ ts) below c =
+    objects_below knows (before ++ (line, label n name) ∷ []) ts below c.2
+objects_below knows before ((line, edge l a m) ∷ ts) below c =
+    objects_below knows (before ++ (line, edge l a m) ∷ []) ts below c.2
 
 pub labels_below : (bytes : List ℕ) (policy : Policy) → IsPolicyText bytes policy → All (λ o. o.1 < 8192) policy.objects
 labels_below bytes policy text =

@@ -10,13 +10,17 @@ use Rattle.policy_text.specs.declared.words.Words.{Words}
 use Rattle.policy_text.proofs.Before.{any_more}
 
 -- the words that are found by their place stay in the set
-pub still_near : (near : List (Bor (List ℕ))) (old new : Words) (word : List ℕ) → IsAdded word old new → IsNear near old → IsNear near new
-still_near near old new word added before n h = added.each n ∙ ap (λ (b : Bool). bytes_eq word n || b) (before n h) ∙ or_comm (bytes_eq word n) true
+pub still_near : (near : List (Bor (List ℕ))) (old new : Words) (word : List ℕ) → IsAdded word old new → IsNear near old
+    → IsNear near new
+still_near near old new word added before n h = added.each n ∙ ap (λ (b : Bool). bytes_eq word n || b) (before n h)
+    ∙ or_comm (bytes_eq word n) true
 
-pub near_pushed : (near : List (Bor (List ℕ))) (old new : Words) (w : Bor (List ℕ)) → IsAdded w.now old new → IsNear near old → IsNear (near ++ w ∷ []) new
+pub near_pushed : (near : List (Bor (List ℕ))) (old new : Words) (w : Bor (List ℕ)) → IsAdded w.now old new → IsNear near old
+    → IsNear (near ++ w ∷ []) new
 near_pushed near old new w added before n h = go (bytes_eq w.now n) refl
   where
     go : (b : Bool) → bytes_eq w.now n ≡ b → has new n ≡ true
     go true e = added.each n ∙ ap (λ (b : Bool). b || has old n) e
     go false e = still_near near old new w.now added before n
-        (ap (λ (b : Bool). b || list_any (λ v. bytes_eq v.now n) near) (sym e) ∙ sym (any_more (λ v. bytes_eq v.now n) near w) ∙ h)
+        (ap (λ (b : Bool). b || list_any (λ v. bytes_eq v.now n) near) (sym e)
+        ∙ sym (any_more (λ v. bytes_eq v.now n) near w) ∙ h)

@@ -17,7 +17,8 @@ object_line o = together (codes "object " ∷ o.0 ∷ codes " " ∷ decimal o.1 
 
 -- `edge 0 SyncSend 1`
 abbrev pub edge_line : Edge → List ℕ
-edge_line e = together (codes "edge " ∷ decimal e.from ∷ codes " " ∷ text_of e.authority ∷ codes " " ∷ decimal e.to ∷ codes "\n" ∷ [])
+edge_line e = together (codes "edge " ∷ decimal e.from ∷ codes " " ∷ text_of e.authority ∷ codes " " ∷ decimal e.to
+    ∷ codes "\n" ∷ [])
 
 abbrev pub policy_header : List ℕ
 policy_header = codes "policy 1"

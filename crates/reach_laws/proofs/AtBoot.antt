@@ -95,7 +95,8 @@ same_memory kinds.Irq level h = absurd (no level h)
     no Table h = true≢false (sym h)
 
 -- a capability to an object of such a kind
-option_memory : (o : Option Kind) (r : Rights) (level : Level) (a : Authority) → is_kind o (child level) ≡ true → option_confers o r a ≡ true → is_of_memory a ≡ true
+option_memory : (o : Option Kind) (r : Rights) (level : Level) (a : Authority) → is_kind o (child level) ≡ true
+    → option_confers o r a ≡ true → is_of_memory a ≡ true
 option_memory None r level a h c = absurd (true≢false (sym h))
 option_memory (Some k) r level a h c = by_memory k r a (same_memory k level h) c
 
@@ -109,19 +110,24 @@ module _ (spec : Spec) (labels : List ℕ) (kept : IsKept spec) where
         let same : entry.object ≡ object = cc in
         subst (λ (x : Object). keeps spec x ≡ true) same
         (subst (λ (e : Entry). keeps spec e.object ≡ true) (get_or_from_slice_get spec.entries o entry entry there)
-        (AllPass-from_list_all (λ (e : Entry). keeps spec e.object) spec.entries kept.objects o entry (slice_get_within spec.entries o entry there)))
+        (AllPass-from_list_all (λ (e : Entry). keeps spec e.object) spec.entries kept.objects o entry
+        (slice_get_within spec.entries o entry there)))
 
-  cap_memory : (cap : Cap) (level : Level) (a : Authority) → fits_as spec (child level) cap ≡ true → confers spec cap a ≡ true → is_of_memory a ≡ true
+  cap_memory : (cap : Cap) (level : Level) (a : Authority) → fits_as spec (child level) cap ≡ true → confers spec cap a ≡ true
+      → is_of_memory a ≡ true
   cap_memory cap level a h c =
-      option_memory (kind_at spec cap.object) cap.rights level a (and_parts (is_at spec (child level) cap.object) (fits spec cap) h).0 c
+      option_memory (kind_at spec cap.object) cap.rights level a (and_parts (is_at spec (child level) cap.object)
+      (fits spec cap) h).0 c
 
   -- IPC buffers are frames
-  buffer_memory : (o : Option Object) (t : ℕ) (cap : Cap) (a : Authority) → object_at spec t ≡ o → buffer_of o ≡ Some cap → confers spec cap a ≡ true → is_of_memory a ≡ true
+  buffer_memory : (o : Option Object) (t : ℕ) (cap : Cap) (a : Authority) → object_at spec t ≡ o → buffer_of o ≡ Some cap
+      → confers spec cap a ≡ true → is_of_memory a ≡ true
   buffer_memory None t cap a there is c = absurd cc
   buffer_memory (Some (objects.Thread tcb)) t cap a there is c =
       let k = object_kept t (objects.Thread tcb) there in
       let parts = and_parts _ (if_any (is_space_root spec) tcb.vspace && if_any (fits_as spec kinds.Frame) tcb.buffer) k in
-      let buffer : if_any (fits_as spec kinds.Frame) tcb.buffer ≡ true = (and_parts (if_any (is_space_root spec) tcb.vspace) (if_any (fits_as spec kinds.Frame) tcb.buffer) parts.1).1 in
+      let buffer : if_any (fits_as spec kinds.Frame) tcb.buffer ≡ true =
+      (and_parts (if_any (is_space_root spec) tcb.vspace) (if_any (fits_as spec kinds.Frame) tcb.buffer) parts.1).1 in
       let frame : fits_as spec kinds.Frame cap ≡ true = subst (λ z. if_any (fits_as spec kinds.Frame) z ≡ true) is buffer in
       cap_memory cap Table a frame c
   buffer_memory (Some objects.Endpoint) t cap a there is c = absurd cc
@@ -132,18 +138,25 @@ module _ (spec : Spec) (labels : List ℕ) (kept : IsKept spec) where
   buffer_memory (Some (objects.Irq n)) t cap a there is c = absurd cc
 
   -- page tables name page tables and frames
-  slot_memory : (level : Level) (slots : List (ℕ × Cap)) (n : Option ℕ) (i : ℕ) (cap : Cap) (a : Authority) → keeps_table spec level n slots ≡ true → Contains slots (i, cap) → confers spec cap a ≡ true → is_of_memory a ≡ true
+  slot_memory : (level : Level) (slots : List (ℕ × Cap)) (n : Option ℕ) (i : ℕ) (cap : Cap) (a : Authority)
+      → keeps_table spec level n slots ≡ true → Contains slots (i, cap) → confers spec cap a ≡ true → is_of_memory a ≡ true
   slot_memory level slots None i cap a k there c = absurd (true≢false (sym k))
   slot_memory level slots (Some n) i cap a k there c =
-      let all = (and_parts (rise slots) (list_all (λ (slot : ℕ × Cap). nat_lt slot.0 n && fits_as spec (child level) slot.1) slots) k).1 in
+      let all =
+      (and_parts (rise slots) (list_all (λ (slot : ℕ × Cap). nat_lt slot.0 n && fits_as spec (child level) slot.1)
+      slots) k).1 in
       let at = contains_at slots (i, cap) there in
       let each : nat_lt i n && fits_as spec (child level) cap ≡ true =
-      subst (λ (x : ℕ × Cap). nat_lt x.0 n && fits_as spec (child level) x.1 ≡ true) (get_or_from_slice_get slots at.0 (i, cap) (i, cap) at.1)
-      (AllPass-from_list_all (λ (slot : ℕ × Cap). nat_lt slot.0 n && fits_as spec (child level) slot.1) slots all at.0 (i, cap) (slice_get_within slots at.0 (i, cap) at.1)) in
+      subst (λ (x : ℕ × Cap). nat_lt x.0 n && fits_as spec (child level) x.1 ≡ true) (get_or_from_slice_get slots at.0 (i, cap)
+      (i, cap) at.1)
+      (AllPass-from_list_all (λ (slot : ℕ × Cap). nat_lt slot.0 n && fits_as spec (child level) slot.1) slots all at.0 (i, cap)
+      (slice_get_within slots at.0 (i, cap) at.1)) in
       cap_memory cap level a (and_parts (nat_lt i n) (fits_as spec (child level) cap) each).1 c
 
-  table_memory : (o : Option Object) (p i : ℕ) (cap : Cap) (a : Authority) → object_at spec p ≡ o → Contains (table_of o) (i, cap) → confers spec cap a ≡ true → is_of_memory a ≡ true
-  table_memory (Some (objects.Pages level slots)) p i cap a there is c = slot_memory level slots (size spec.arch level) i cap a (object_kept p (objects.Pages level slots) there) is c
+  table_memory : (o : Option Object) (p i : ℕ) (cap : Cap) (a : Authority) → object_at spec p ≡ o → Contains (table_of o) (i, cap)
+      → confers spec cap a ≡ true → is_of_memory a ≡ true
+  table_memory (Some (objects.Pages level slots)) p i cap a there is c = slot_memory level slots (size spec.arch level) i cap a
+      (object_kept p (objects.Pages level slots) there) is c
   table_memory None p i cap a there is c = absurd (let w = is.1 in omega arith)
   table_memory (Some objects.Endpoint) p i cap a there is c = absurd (let w = is.1 in omega arith)
   table_memory (Some objects.Notification) p i cap a there is c = absurd (let w = is.1 in omega arith)
@@ -160,7 +173,8 @@ module _ (spec : Spec) (labels : List ℕ) (kept : IsKept spec) where
     pub is : l ≡ label_of labels irq
 
   -- the structural edges at boot
-  structural_kinds : (l : ℕ) (a : Authority) (m : ℕ) → Structural spec labels (boot spec) l a m → (is_of_memory a ≡ true) ⊎ ((a ≡ AsyncSend) × Signals l)
+  structural_kinds : (l : ℕ) (a : Authority) (m : ℕ) → Structural spec labels (boot spec) l a m
+      → (is_of_memory a ≡ true) ⊎ ((a ≡ AsyncSend) × Signals l)
   structural_kinds l a m (of_buffer (t, cap, there, c, from, to)) = inl (buffer_memory (object_at spec t) t cap a refl there c)
   structural_kinds l a m (of_table (p, i, cap, there, c, from, to)) = inl (table_memory (object_at spec p) p i cap a refl there c)
   structural_kinds l a m (of_root (t, d, there, is, from, to)) = inl (ap is_of_memory is)
@@ -168,10 +182,12 @@ module _ (spec : Spec) (labels : List ℕ) (kept : IsKept spec) where
   structural_kinds l a m (of_reply (t, reply, there, is, from, to)) = absurd (let none = nothing_pending spec t in cc)
   structural_kinds l a m (of_saved (c, i, reply, there, is, from, to)) = absurd (none_saved spec c i reply there)
   structural_kinds l a m (of_mapped (x, there, c, from, to)) = absurd (let w = there.1 in omega arith)
-  structural_kinds l a m (of_irq (d, n, there, is, from, to)) = inr (is, record { irq = d; notification = n; bound = there; is = from })
+  structural_kinds l a m (of_irq (d, n, there, is, from, to)) =
+      inr (is, record { irq = d; notification = n; bound = there; is = from })
 
   -- what isn't of memory and no signal is held
-  pub held : (l : ℕ) (a : Authority) (m : ℕ) → is_of_memory a ≡ false → a ≢ AsyncSend → Auth spec labels (boot spec) l a m → Held spec labels (boot spec) l a m
+  pub held : (l : ℕ) (a : Authority) (m : ℕ) → is_of_memory a ≡ false → a ≢ AsyncSend → Auth spec labels (boot spec) l a m
+      → Held spec labels (boot spec) l a m
   held l a m no_memory no_signal (inl h) = h
   held l a m no_memory no_signal (inr s) = elim (structural_kinds l a m s) [
     | inl memory ↦ absurd (true≢false (sym memory ∙ no_memory))
@@ -179,7 +195,8 @@ module _ (spec : Spec) (labels : List ℕ) (kept : IsKept spec) where
   ]
 
   -- and so is a signal of a label that is no interrupt's
-  pub held_signal : (l m : ℕ) → (Signals l → ⊥) → Auth spec labels (boot spec) l AsyncSend m → Held spec labels (boot spec) l AsyncSend m
+  pub held_signal : (l m : ℕ) → (Signals l → ⊥) → Auth spec labels (boot spec) l AsyncSend m
+      → Held spec labels (boot spec) l AsyncSend m
   held_signal l m none (inl h) = h
   held_signal l m none (inr s) = elim (structural_kinds l AsyncSend m s) [
     | inl memory ↦ absurd (true≢false (sym memory))

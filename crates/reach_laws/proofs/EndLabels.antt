@@ -26,7 +26,8 @@ pub record IsDevices (t : Tables) (label : ℕ) : Type 0 where
   pub there : IsThere t.flat (OfLeaf device)
   pub is : label ≡ number_of t.numbers (OfLeaf device)
 
-rule_of_end : (c : Connector) (r : Role) (d : Connector) (q : Role) (b : Bool) → c ≡ d → r ≡ q → (end_rule d q).hardware ≡ b → (end_rule c r).hardware ≡ b
+rule_of_end : (c : Connector) (r : Role) (d : Connector) (q : Role) (b : Bool) → c ≡ d → r ≡ q → (end_rule d q).hardware ≡ b
+    → (end_rule c r).hardware ≡ b
 rule_of_end c r d q b e f h = ap (λ x. (end_rule x r).hardware) e ∙ ap (λ x. (end_rule d x).hardware) f ∙ h
 
 module _ (t : Tables) where
@@ -36,7 +37,8 @@ module _ (t : Tables) where
       cc
 
   -- the label of a leaf that is found
-  pub label_of_leaf : (l : ℕ) (leaf : Leaf) → slice_get t.flat.leaves l ≡ Some leaf → leaf_label t l ≡ number_of t.numbers (owner_in l leaf.domain)
+  pub label_of_leaf : (l : ℕ) (leaf : Leaf) → slice_get t.flat.leaves l ≡ Some leaf
+      → leaf_label t l ≡ number_of t.numbers (owner_in l leaf.domain)
   label_of_leaf l leaf e = ap (λ z. number_of t.numbers (option_map_or (λ (y : Leaf). owner_in l y.domain) z (OfLeaf l))) e
 
 module _ (t : Tables) (flat : IsFlat t.source t.flat) where
@@ -46,9 +48,15 @@ module _ (t : Tables) (flat : IsFlat t.source t.flat) where
       let j = flat.joined x in
       let d = flat.software x j.leaf soft j.here in
       let l = flat.listed x.end.leaf d.0 j.leaf j.here d.1 in
-      record { domain = d.0; there = (l.0, l.1); is = label_of_leaf t x.end.leaf j.leaf j.here ∙ ap (λ z. number_of t.numbers (owner_in x.end.leaf z)) d.1 }
+      record {
+        domain = d.0;
+        there = (l.0, l.1);
+        is = label_of_leaf t x.end.leaf j.leaf j.here
+            ∙ ap (λ z. number_of t.numbers (owner_in x.end.leaf z)) d.1;
+      }
 
-  pub end_domain : (c : Connector) (r : Role) (x : EndAt t.flat) → IsEnd c r x → (end_rule c r).hardware ≡ false → IsDomains t (leaf_label t x.end.leaf)
+  pub end_domain : (c : Connector) (r : Role) (x : EndAt t.flat) → IsEnd c r x → (end_rule c r).hardware ≡ false
+      → IsDomains t (leaf_label t x.end.leaf)
   end_domain c r x is soft = domain_end x (rule_of_end x.connection.connector x.end.role c r false is.connector is.role soft)
 
   -- an end at a device has the label of its leaf
@@ -93,12 +101,14 @@ module _ (t : Tables) (apart : AreApart t) where
       let same = apart (OfDomain d.domain) (OfConnection k) d.there there (sym d.is ∙ e) in
       cc
 
-  pub one_connection : (j k : ℕ) → IsThere t.flat (OfConnection j) → IsThere t.flat (OfConnection k) → connection_label t j ≡ connection_label t k → j ≡ k
+  pub one_connection : (j k : ℕ) → IsThere t.flat (OfConnection j) → IsThere t.flat (OfConnection k)
+      → connection_label t j ≡ connection_label t k → j ≡ k
   one_connection j k here there e =
       let same = apart (OfConnection j) (OfConnection k) here there e in
       cc
 
-  pub one_domain : (j k : ℕ) → IsThere t.flat (OfDomain j) → IsThere t.flat (OfDomain k) → domain_label t j ≡ domain_label t k → j ≡ k
+  pub one_domain : (j k : ℕ) → IsThere t.flat (OfDomain j) → IsThere t.flat (OfDomain k)
+      → domain_label t j ≡ domain_label t k → j ≡ k
   one_domain j k here there e =
       let same = apart (OfDomain j) (OfDomain k) here there e in
       cc
@@ -107,5 +117,6 @@ module _ (t : Tables) where
   pub there_connection : (x : EndAt t.flat) → has_label x.connection.connector ≡ true → IsThere t.flat (OfConnection x.place)
   there_connection x h = (x.connection, x.here, h)
 
-  pub there_end : (c : Connector) (r : Role) (x : EndAt t.flat) → IsEnd c r x → has_label c ≡ true → IsThere t.flat (OfConnection x.place)
+  pub there_end : (c : Connector) (r : Role) (x : EndAt t.flat) → IsEnd c r x → has_label c ≡ true
+      → IsThere t.flat (OfConnection x.place)
   there_end c r x is h = (x.connection, x.here, ap has_label is.connector ∙ h)

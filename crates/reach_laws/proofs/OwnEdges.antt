@@ -43,7 +43,8 @@ from_own l e i =
 in_own : (l : ℕ) (a : Authority) → kind_confers Notification RW a ≡ true → IsIn (edge l a l) (own_at l)
 in_own l a h =
     let p = place_of a authorities (an_authority a) in
-    in_gather (λ i a. where_true (kind_confers Notification RW a) (edge l a l)) (edge l a l) authorities p.0 a p.1 (in_where (kind_confers Notification RW a) (edge l a l) h)
+    in_gather (λ i a. where_true (kind_confers Notification RW a) (edge l a l)) (edge l a l) authorities p.0 a p.1
+    (in_where (kind_confers Notification RW a) (edge l a l) h)
 
 module _ (t : Tables) where
   record Locked (l : ℕ) : Type 0 where
@@ -52,27 +53,41 @@ module _ (t : Tables) where
 
   from_lock : (s : Edge) → IsIn s (lock_edges t) → Locked s.from
   from_lock s i =
-      let g = from_gather (λ l (leaf : Leaf). lock_edge t leaf.domain (list_any is_lock (members_at t.source leaf.component))) s t.flat.leaves i in
+      let g = from_gather (λ l (leaf : Leaf). lock_edge t leaf.domain (list_any is_lock (members_at t.source leaf.component))) s
+      t.flat.leaves i in
       go g.0 g.1 g.2 g.1.domain refl g.3
     where
-      go : (k : ℕ) (leaf : Leaf) → slice_get t.flat.leaves k ≡ Some leaf → (o : Option ℕ) → leaf.domain ≡ o → IsIn s (lock_edge t o (list_any is_lock (members_at t.source leaf.component))) → Locked s.from
+      go : (k : ℕ) (leaf : Leaf) → slice_get t.flat.leaves k ≡ Some leaf → (o : Option ℕ) → leaf.domain ≡ o
+          → IsIn s (lock_edge t o (list_any is_lock (members_at t.source leaf.component))) → Locked s.from
       go k leaf h None e i = absurd i
       go k leaf h (Some d) e i =
-          let w = from_where (list_any is_lock (members_at t.source leaf.component)) (edge (domain_label t d) AsyncSend (domain_label t d)) s i in
+          let w = from_where (list_any is_lock (members_at t.source leaf.component))
+          (edge (domain_label t d) AsyncSend (domain_label t d)) s i in
           let x = from_any is_lock (members_at t.source leaf.component) w.0 in
           let p = place_of x.0 (members_at t.source leaf.component) x.1 in
           let y = lock_of_member x.0 x.2 in
           record {
-            lock = record { leaf = k; found = leaf; here = h; domain = d; inside = e; member = p.0; lock = y.0; declared = p.1 ∙ ap (λ z. Some z) y.1 };
+            lock = record {
+              leaf = k;
+              found = leaf;
+              here = h;
+              domain = d;
+              inside = e;
+              member = p.0;
+              lock = y.0;
+              declared = p.1 ∙ ap (λ z. Some z) y.1;
+            };
             is = ap (λ (z : Edge). z.from) (sym w.1);
           }
 
-  in_lock : (k : LockAt t.source t.flat) → IsIn (edge (domain_label t k.domain) AsyncSend (domain_label t k.domain)) (lock_edges t)
+  in_lock : (k : LockAt t.source t.flat) → IsIn (edge (domain_label t k.domain) AsyncSend (domain_label t k.domain))
+      (lock_edges t)
   in_lock k =
       let own = edge (domain_label t k.domain) AsyncSend (domain_label t k.domain) in
       let ms = members_at t.source k.found.component in
       let any = in_any is_lock (members.Lock k.lock) ms (in_place (members.Lock k.lock) ms k.member k.declared) refl in
-      in_gather (λ l (leaf : Leaf). lock_edge t leaf.domain (list_any is_lock (members_at t.source leaf.component))) own t.flat.leaves k.leaf k.found k.here
+      in_gather (λ l (leaf : Leaf). lock_edge t leaf.domain (list_any is_lock (members_at t.source leaf.component))) own
+      t.flat.leaves k.leaf k.found k.here
       (subst (λ o. IsIn own (lock_edge t o (list_any is_lock ms))) (sym k.inside) (in_where (list_any is_lock ms) own any))
 
   own_listed : (e : Edge) → IsIn e (own_edges t) → IsLockEdge t e
@@ -87,8 +102,10 @@ module _ (t : Tables) where
   own_there e k =
       let l = domain_label t k.lock.domain in
       let p = place_of (edge l AsyncSend l) (lock_edges t) (in_lock k.lock) in
-      let E : IsIn (edge l e.authority l) (own_edges t) = in_gather (λ i (s : Edge). own_at s.from) (edge l e.authority l) (lock_edges t) p.0 (edge l AsyncSend l) p.1 (in_own l e.authority k.conferred) in
-      subst (λ z. IsIn (edge z e.authority e.to) (own_edges t)) (sym k.from) (subst (λ z. IsIn (edge l e.authority z) (own_edges t)) (sym k.to) E)
+      let E : IsIn (edge l e.authority l) (own_edges t) = in_gather (λ i (s : Edge). own_at s.from) (edge l e.authority l)
+      (lock_edges t) p.0 (edge l AsyncSend l) p.1 (in_own l e.authority k.conferred) in
+      subst (λ z. IsIn (edge z e.authority e.to) (own_edges t)) (sym k.from)
+      (subst (λ z. IsIn (edge l e.authority z) (own_edges t)) (sym k.to) E)
 
 pub certificate_is : (t : Tables) → IsCertificateOf t (certificate t)
 certificate_is t e = (

@@ -30,5 +30,7 @@ module _ (t : Tables) (spec : Spec) (labels : List ℕ) (p : HasPieces t spec la
     | inr (inr irq) ↦ inr (of_irq irq)
   ]
 
-pub pieces_direct : (t : Tables) (spec : Spec) (labels : List ℕ) → HasPieces t spec labels → (l : ℕ) (a : Authority) (m : ℕ) → l ≢ m → Auth spec labels (boot spec) l a m ↔ DirectReason t (edge l a m)
-pieces_direct t spec labels p l a m differ = (λ h. edge_direct t spec labels p l a m differ h, λ d. direct_edge t spec labels p l a m differ d)
+pub pieces_direct : (t : Tables) (spec : Spec) (labels : List ℕ) → HasPieces t spec labels → (l : ℕ) (a : Authority) (m : ℕ)
+    → l ≢ m → Auth spec labels (boot spec) l a m ↔ DirectReason t (edge l a m)
+pieces_direct t spec labels p l a m differ =
+    (λ h. edge_direct t spec labels p l a m differ h, λ d. direct_edge t spec labels p l a m differ d)

@@ -34,27 +34,34 @@ use Rattle.reach_laws.proofs.EndLabels.{IsDomains, domain_no_connection, domain_
 -- ---- what a direct reason says
 
 -- a receiver's edge leads to its connection
-pub receiver_leads : (t : Tables) (x : EndAt t.flat) (o : ObjectKind) (label : ℕ) → (o ≡ OfEndpoint) ⊎ (o ≡ OfNotification) → LeadsTo t x o label → label ≡ connection_label t x.place
+pub receiver_leads : (t : Tables) (x : EndAt t.flat) (o : ObjectKind) (label : ℕ) → (o ≡ OfEndpoint) ⊎ (o ≡ OfNotification)
+    → LeadsTo t x o label → label ≡ connection_label t x.place
 receiver_leads t x o label (inl e) h = subst (λ z. LeadsTo t x z label) e h
 receiver_leads t x o label (inr e) h = subst (λ z. LeadsTo t x z label) e h
 
 -- a handler's edge leads to the device at the other end
 pub handler_leads : (t : Tables) (e : Edge) → e.authority ≡ Handle → DirectReason t e → Handles t e.from e.to
 handler_leads t e a d =
-    let w = who_handles d.at.connection.connector d.at.end.role d.object (subst (λ z. gives d.at.connection.connector d.at.end.role d.object z ≡ true) a d.given) in
+    let w = who_handles d.at.connection.connector d.at.end.role d.object
+    (subst (λ z. gives d.at.connection.connector d.at.end.role d.object z ≡ true) a d.given) in
     let other : AtOtherEnd t d.at e.to = subst (λ z. LeadsTo t d.at z e.to) w.2 d.to in
     let same = same_connection t d.at other.at other.same in
     record {
       handler = d.at;
       handles = record { connector = w.0; role = w.1 };
       source = other.at;
-      interrupts = record { connector = ap (λ (c : FlatConnection). c.connector) same ∙ w.0; role = other.role ∙ ap opposite w.1 };
+      interrupts = record {
+        connector = ap (λ (c : FlatConnection). c.connector) same ∙ w.0;
+        role = other.role ∙ ap opposite w.1;
+      };
       same = other.same;
       label_is = d.from;
       device_is = other.label_is;
     }
 
-module _ (t : Tables) (spec : Spec) (labels : List ℕ) (policy : List Edge) (cert : List Edge) (flat : IsFlat t.source t.flat) (apart : AreApart t) (laid : IsLaidOut t spec labels) (is_policy : IsPolicyOf t policy) (is_cert : IsCertificateOf t cert) where
+module _ (t : Tables) (spec : Spec) (labels : List ℕ) (policy : List Edge) (cert : List Edge) (flat : IsFlat t.source t.flat)
+    (apart : AreApart t) (laid : IsLaidOut t spec labels) (is_policy : IsPolicyOf t policy)
+    (is_cert : IsCertificateOf t cert) where
   have : (l : ℕ) (a : Authority) (m : ℕ) → Has cert l a m → IsReasoned t (edge l a m) ⊎ IsLockEdge t (edge l a m)
   have l a m h = (is_cert (edge l a m)).0 h
 
@@ -65,7 +72,8 @@ module _ (t : Tables) (spec : Spec) (labels : List ℕ) (policy : List Edge) (ce
   reasoned l a m differ r = put l a m (inl (record { differ = differ; reason = r }))
 
   -- an authority that no end is given, and none comes to
-  never : (l : ℕ) (a : Authority) (m : ℕ) → ((c : Connector) (r : Role) (o : ObjectKind) → gives c r o a ≡ true → ⊥) → a ≢ Reply → a ≢ AsyncSend → kind_confers kinds.Notification RW a ≢ true → Has cert l a m → ⊥
+  never : (l : ℕ) (a : Authority) (m : ℕ) → ((c : Connector) (r : Role) (o : ObjectKind) → gives c r o a ≡ true → ⊥) → a ≢ Reply
+      → a ≢ AsyncSend → kind_confers kinds.Notification RW a ≢ true → Has cert l a m → ⊥
   never l a m none no_reply no_signal no_lock h = elim (have l a m h) [
     | inl r ↦ by_reason r.reason
     | inr k ↦ no_lock k.conferred
@@ -113,7 +121,12 @@ module _ (t : Tables) (spec : Spec) (labels : List ℕ) (policy : List Edge) (ce
     | inl r ↦
         let d = direct_of s Call e (λ e. cc) (λ e. cc) r.reason in
         let w = who_calls d.at.connection.connector d.at.end.role d.object d.given in
-        record { at = d.at; is = record { connector = w.0; role = w.1 }; from = d.from; to = receiver_leads t d.at d.object e (inl w.2) d.to }
+        record {
+          at = d.at;
+          is = record { connector = w.0; role = w.1 };
+          from = d.from;
+          to = receiver_leads t d.at d.object e (inl w.2) d.to;
+        }
     | inr k ↦ absurd (true≢false (sym k.conferred))
   ]
 
@@ -126,7 +139,8 @@ module _ (t : Tables) (spec : Spec) (labels : List ℕ) (policy : List Edge) (ce
             let d = direct_of r Receive e (λ e. cc) (λ e. cc) q.reason in
             let w = who_receives d.at.connection.connector d.at.end.role d.object d.given in
             let there = there_connection t d.at w.labelled in
-            let place : d.at.place ≡ c.at.place = one_connection t apart d.at.place c.at.place there called (sym (receiver_leads t d.at d.object e w.object d.to) ∙ c.to) in
+            let place : d.at.place ≡ c.at.place = one_connection t apart d.at.place c.at.place there called
+            (sym (receiver_leads t d.at d.object e w.object d.to) ∙ c.to) in
             let same = same_connection t c.at d.at place in
             reasoned r Reply s (λ e. differ (sym e)) (by_call (record {
               caller = c.at;
@@ -138,7 +152,12 @@ module _ (t : Tables) (spec : Spec) (labels : List ℕ) (policy : List Edge) (ce
               authority = refl;
               to = c.from;
             }))
-        | inr lock ↦ absurd (domain_no_connection t apart c.at.place (record { domain = lock.lock.domain; there = lock_domain t flat lock.lock; is = lock.to }) called c.to)
+        | inr lock ↦
+            absurd (domain_no_connection t apart c.at.place (record {
+              domain = lock.lock.domain;
+              there = lock_domain t flat lock.lock;
+              is = lock.to;
+            }) called c.to)
       ]
 
   -- ---- bindings
@@ -157,7 +176,12 @@ module _ (t : Tables) (spec : Spec) (labels : List ℕ) (policy : List Edge) (ce
         | inl r ↦ by_reason g mine r.reason
         | inr lock ↦
             let own : n ≡ s = lock.to ∙ sym lock.from in
-            reasoned d AsyncSend n differ (by_lock (record { handles = subst (λ z. Handles t z d) (sym own) g; lock = lock.lock; has = lock.to; authority = refl }))
+            reasoned d AsyncSend n differ (by_lock (record {
+              handles = subst (λ z. Handles t z d) (sym own) g;
+              lock = lock.lock;
+              has = lock.to;
+              authority = refl;
+            }))
       ]
     where
       by_reason : Handles t s d → IsDomains t s → Reason t (edge s AsyncSend n) → Has cert d AsyncSend n
@@ -175,7 +199,11 @@ module _ (t : Tables) (spec : Spec) (labels : List ℕ) (policy : List Edge) (ce
             }))
             | inr interrupt ↦
                 let device = end_device t flat f.at (record { connector = interrupt; role = w.1 }) in
-                absurd (domain_no_device t apart mine (record { device = device.device; there = device.there; is = f.from ∙ device.is }))
+                absurd (domain_no_device t apart mine (record {
+                  device = device.device;
+                  there = device.there;
+                  is = f.from ∙ device.is;
+                }))
           ]
       by_reason g mine (by_call c) = absurd (let w = c.authority in cc)
       by_reason g mine (by_bind b) = absurd (domain_no_device t apart mine (source_device t flat b.handles))

@@ -31,4 +31,5 @@ pub record IsArranged (spec : Spec) (labels : List ℕ) : Type 0 where
   pub kept : IsKept spec
   pub rooted : (c i : ℕ) (cap : Cap) → Holds spec c i cap → RootOf spec labels c
   pub one_node : (c d i j : ℕ) (a b : Cap) → Holds spec c i a → Holds spec d j b → label_of labels c ≡ label_of labels d → c ≡ d
-  pub one_endpoint : (o p : ℕ) → is_at spec Endpoint o ≡ true → (is_at spec Endpoint p ≡ true) ⊎ (is_at spec Notification p ≡ true) → label_of labels o ≡ label_of labels p → o ≡ p
+  pub one_endpoint : (o p : ℕ) → is_at spec Endpoint o ≡ true → (is_at spec Endpoint p ≡ true)
+      ⊎ (is_at spec Notification p ≡ true) → label_of labels o ≡ label_of labels p → o ≡ p

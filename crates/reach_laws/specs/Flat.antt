@@ -39,7 +39,9 @@ pub record IsFlat (source : Source) (flat : Flat) : Type 0 where
   pub joined : (x : EndAt flat) → IsJoined source flat x
   pub software : (x : EndAt flat) (leaf : Leaf) → is_at_device x ≡ false → slice_get flat.leaves x.end.leaf ≡ Some leaf
       → (d : ℕ) × (leaf.domain ≡ Some d)
-  pub hardware : (x : EndAt flat) (leaf : Leaf) → is_at_device x ≡ true → slice_get flat.leaves x.end.leaf ≡ Some leaf → leaf.domain ≡ None
-  pub interrupts : (k : ℕ) (c : FlatConnection) → slice_get flat.connections k ≡ Some c → c.connector ≡ Interrupt → HasDevice flat k
+  pub hardware : (x : EndAt flat) (leaf : Leaf) → is_at_device x ≡ true → slice_get flat.leaves x.end.leaf ≡ Some leaf
+      → leaf.domain ≡ None
+  pub interrupts : (k : ℕ) (c : FlatConnection) → slice_get flat.connections k ≡ Some c → c.connector ≡ Interrupt
+      → HasDevice flat k
   pub registers : (k : ℕ) (c : FlatConnection) → slice_get flat.connections k ≡ Some c → c.connector ≡ Mmio → HasDevice flat k
   pub one_device : (x y : EndAt flat) → y.place ≡ x.place → is_at_device x ≡ true → is_at_device y ≡ true → y.number ≡ x.number

@@ -19,4 +19,5 @@ pub record IsLaidOut (t : Tables) (spec : Spec) (labels : List ℕ) : Type 0 whe
   pub arranged : IsArranged spec labels
   pub direct : (l : ℕ) (a : Authority) (m : ℕ) → l ≢ m → Auth spec labels (boot spec) l a m ↔ DirectReason t (edge l a m)
   pub own : (l : ℕ) (a : Authority) → Held spec labels (boot spec) l a l ↔ IsLockEdge t (edge l a l)
-  pub signals : (c i d n : ℕ) (cap : Cap) → Holds spec c i cap → irq_at (boot spec) d ≡ Some n → label_of labels c ≢ label_of labels d
+  pub signals : (c i d n : ℕ) (cap : Cap) → Holds spec c i cap → irq_at (boot spec) d ≡ Some n
+      → label_of labels c ≢ label_of labels d

@@ -14,7 +14,8 @@ use Rattle.source_commands.specs.Explained.{IsExplained, told}
 
 module _ (from authority to root : List ℕ) (contents : Contents) (before now : List ℕ → ℕ) where
   told_explained : (f : FrontEnd) (r : Result Answer NoMemory) → IsFrontOf root contents f
-      → IfOk r (λ answer. IsAnswer (tables_of f.source f.flat f.settled) from authority to answer) → IsExplained from authority to root contents before now (told r)
+      → IfOk r (λ answer. IsAnswer (tables_of f.source f.flat f.settled) from authority to answer)
+      → IsExplained from authority to root contents before now (told r)
   told_explained f (Ok answer) front h = record {
     source = f.source;
     loaded = front.loaded;
@@ -23,6 +24,9 @@ module _ (from authority to root : List ℕ) (contents : Contents) (before now :
   }
   told_explained f (Err e) front h = tt
 
-  pub front_explained : (f : FrontEnd) (r : Result Answer NoMemory) (result : Result Answer BuildError) → IsFrontOf root contents f
-      → IfOk r (λ answer. IsAnswer (tables_of f.source f.flat f.settled) from authority to answer) → result ≡ told r → IsExplained from authority to root contents before now result
-  front_explained f r result front h e = subst (λ z. IsExplained from authority to root contents before now z) (sym e) (told_explained f r front h)
+  pub front_explained : (f : FrontEnd) (r : Result Answer NoMemory) (result : Result Answer BuildError)
+      → IsFrontOf root contents f
+      → IfOk r (λ answer. IsAnswer (tables_of f.source f.flat f.settled) from authority to answer) → result ≡ told r
+      → IsExplained from authority to root contents before now result
+  front_explained f r result front h e = subst (λ z. IsExplained from authority to root contents before now z) (sym e)
+      (told_explained f r front h)

@@ -41,7 +41,8 @@ lists s p l is names edges = record {
   sorted = subst IsSorted (sym edges) is.sorted;
 }
 
-pub front_listed : (root : List ℕ) (contents : Contents) (f : FrontEnd) (l : Listing) → IsFrontOf root contents f → l.names ≡ f.policy.labels → l.edges ≡ f.policy.edges → IsListing root contents l
+pub front_listed : (root : List ℕ) (contents : Contents) (f : FrontEnd) (l : Listing) → IsFrontOf root contents f
+    → l.names ≡ f.policy.labels → l.edges ≡ f.policy.edges → IsListing root contents l
 front_listed root contents f l front names edges = record {
   source = f.source;
   loaded = front.loaded;

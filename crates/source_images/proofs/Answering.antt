@@ -39,30 +39,35 @@ names_are : (folder : List ℕ) (ns : List Name) → map (λ (t : Name × List �
 names_are folder [] = refl
 names_are folder (n ∷ ns) = ap (λ z. n ∷ z) (names_are folder ns)
 
-files_are : (folder : List ℕ) (ns : List Name) → map (λ (t : Name × List ℕ). t.1) (map (table_at folder) ns) ≡ map (table_name folder) ns
+files_are : (folder : List ℕ) (ns : List Name) → map (λ (t : Name × List ℕ). t.1) (map (table_at folder) ns) ≡ map
+    (table_name folder) ns
 files_are folder [] = refl
 files_are folder (n ∷ ns) = ap (λ z. table_name folder n ∷ z) (files_are folder ns)
 
 -- ---- what is missing
 
-nothing_missing : (place : Place) (n : ℕ) (ls : List Line) (f : Option Fault) (i : Option Image) → missing_reading place (reading_in n ls f i) ≡ []
+nothing_missing : (place : Place) (n : ℕ) (ls : List Line) (f : Option Fault) (i : Option Image)
+    → missing_reading place (reading_in n ls f i) ≡ []
 nothing_missing place n ls (Some f) i = refl
 nothing_missing place n ls None None = refl
 nothing_missing place n ls None (Some i) = refl
 
-missing_one : (place : Place) (n : ℕ) (t : Name × List ℕ) (x : Found) → missing_reading place (reading_of n t x) ≡ missing place (t.1, x)
+missing_one : (place : Place) (n : ℕ) (t : Name × List ℕ) (x : Found)
+    → missing_reading place (reading_of n t x) ≡ missing place (t.1, x)
 missing_one place n t absent = refl
 missing_one place n t too_long = refl
 missing_one place n t (table bytes) = nothing_missing place n (lines bytes) (first_fault n bytes) (image_of t.0 bytes)
 
 missing_at_number : (place : Place) (n : ℕ) (ts : List (Name × List ℕ)) (all : List Found) (k : ℕ)
-    → option_map_or (missing_reading place) (slice_get (readings_of n ts all) k) [] ≡ option_map_or (missing place) (slice_get (zip (map (λ t. t.1) ts) all) k) []
+    → option_map_or (missing_reading place) (slice_get (readings_of n ts all) k) [] ≡ option_map_or (missing place)
+    (slice_get (zip (map (λ t. t.1) ts) all) k) []
 missing_at_number place n [] all k = refl
 missing_at_number place n (t ∷ ts) [] k = refl
 missing_at_number place n (t ∷ ts) (x ∷ all) zero = missing_one place n t x
 missing_at_number place n (t ∷ ts) (x ∷ all) (suc k) = missing_at_number place (n + 1) ts all k
 
-missing_same : (place : Place) (n : ℕ) (ts : List (Name × List ℕ)) (all : List Found) (number : Option ℕ) → missing_by (readings_of n ts all) place number ≡ missing_at (zip (map (λ t. t.1) ts) all) place number
+missing_same : (place : Place) (n : ℕ) (ts : List (Name × List ℕ)) (all : List Found) (number : Option ℕ)
+    → missing_by (readings_of n ts all) place number ≡ missing_at (zip (map (λ t. t.1) ts) all) place number
 missing_same place n ts all None = refl
 missing_same place n ts all (Some k) = missing_at_number place n ts all k
 
@@ -77,7 +82,8 @@ least_listed None = refl
 least_listed (Some f) = refl
 
 read_first : (ms : List Fault) (line : Option Fault) → noted (noted None ms) (listed line) ≡ earlier (least ms) line
-read_first ms line = sym (noted-append None ms (listed line)) ∙ noted-none (ms ++ listed line) ∙ least-append ms (listed line) ∙ ap (earlier (least ms)) (least_listed line)
+read_first ms line = sym (noted-append None ms (listed line)) ∙ noted-none (ms ++ listed line) ∙ least-append ms (listed line)
+    ∙ ap (earlier (least ms)) (least_listed line)
 
 no_right : (a b : Option Fault) → earlier a b ≡ None → b ≡ None
 no_right None b e = e
@@ -99,14 +105,20 @@ module _ (root : List ℕ) (source : Source) (flat : Flat) (all : List Found) wh
   missed = flat_map (λ (leaf : Leaf). missing_by all_readings leaf.place (type_number source flat leaf)) flat.leaves
 
   abbrev missed_told : List Fault
-  missed_told = flat_map (λ (leaf : Leaf). missing_at (zip (table_names root source flat) all) leaf.place (type_number source flat leaf)) flat.leaves
+  missed_told = flat_map (λ (leaf : Leaf). missing_at (zip (table_names root source flat) all) leaf.place
+      (type_number source flat leaf)) flat.leaves
 
-  missed_same : missed ≡ flat_map (λ (leaf : Leaf). missing_at (zip (table_names root source flat) all) leaf.place (type_number source flat leaf)) flat.leaves
+  missed_same : missed ≡ flat_map (λ (leaf : Leaf). missing_at (zip (table_names root source flat) all) leaf.place
+      (type_number source flat leaf)) flat.leaves
   missed_same =
-      each_same _ _ flat.leaves (λ leaf. missing_same leaf.place (length source.files) all_tables all (type_number source flat leaf)
-      ∙ ap (λ z. missing_at (zip z all) leaf.place (type_number source flat leaf)) (files_are (folder_of root) (types source flat)))
+      each_same _ _ flat.leaves (λ leaf. missing_same leaf.place (length source.files) all_tables all
+      (type_number source flat leaf)
+      ∙ ap (λ z. missing_at (zip z all) leaf.place (type_number source flat leaf))
+      (files_are (folder_of root) (types source flat)))
 
-  merged_here : length all_tables ≡ length all → IsMerged (merged all_readings) (first_line_fault (first_arch all) (length source.files) all) (images_in (map (λ (t : Name × List ℕ). t.0) all_tables) all)
+  merged_here : length all_tables ≡ length all
+      → IsMerged (merged all_readings) (first_line_fault (first_arch all) (length source.files) all)
+      (images_in (map (λ (t : Name × List ℕ). t.0) all_tables) all)
   merged_here e = merged_tables (length source.files) all_tables all e
 
   first_same : length all_tables ≡ length all → first_read source flat all_readings ≡ first_table_fault root source flat all
@@ -116,15 +128,21 @@ module _ (root : List ℕ) (source : Source) (flat : Flat) (all : List Found) wh
       ∙ ap (λ z. earlier (least z) (least (line_faults (first_arch all) (length source.files) all))) missed_same
       ∙ sym (least-append missed_told (line_faults (first_arch all) (length source.files) all))
 
-  images_same : length all_tables ≡ length all → first_read source flat all_readings ≡ None → (merged all_readings).images ≡ images_in (types source flat) all
+  images_same : length all_tables ≡ length all → first_read source flat all_readings ≡ None
+      → (merged all_readings).images ≡ images_in (types source flat) all
   images_same e none =
-      let line : (merged all_readings).fault ≡ None = no_right (least missed) (merged all_readings).fault (sym (read_first missed (merged all_readings).fault) ∙ none) in
-      (merged_here e).sound (sym (merged_here e).faulty ∙ line) ∙ ap (λ z. images_in z all) (names_are (folder_of root) (types source flat))
+      let line : (merged all_readings).fault ≡ None = no_right (least missed) (merged all_readings).fault
+      (sym (read_first missed (merged all_readings).fault) ∙ none) in
+      (merged_here e).sound (sym (merged_here e).faulty ∙ line) ∙ ap (λ z. images_in z all)
+      (names_are (folder_of root) (types source flat))
 
-  names_same : (n : ℕ) → unwrap_or (slice_get (map (λ f. f.name) source.files ++ map (λ t. t.1) all_tables) n) [] ≡ name_of_file root source flat n
-  names_same n = ap (λ z. unwrap_or (slice_get (map (λ f. f.name) source.files ++ z) n) []) (files_are (folder_of root) (types source flat))
+  names_same : (n : ℕ) → unwrap_or (slice_get (map (λ f. f.name) source.files ++ map (λ t. t.1) all_tables) n) [] ≡ name_of_file
+      root source flat n
+  names_same n = ap (λ z. unwrap_or (slice_get (map (λ f. f.name) source.files ++ z) n) [])
+      (files_are (folder_of root) (types source flat))
 
-  answer_told : (contents : Contents) (result : Result Images ImagesError) → AreFound contents (map (λ t. t.1) all_tables) all → IsAnswer source flat all_tables all_readings result → AreImagesRead contents root source flat result
+  answer_told : (contents : Contents) (result : Result Images ImagesError) → AreFound contents (map (λ t. t.1) all_tables) all
+      → IsAnswer source flat all_tables all_readings result → AreImagesRead contents root source flat result
   answer_told contents result told answer = by_result result answer
     where
       told_names : AreFound contents (table_names root source flat) all
@@ -133,7 +151,8 @@ module _ (root : List ℕ) (source : Source) (flat : Flat) (all : List Found) wh
       count : length all_tables ≡ length all
       count = sym (found_count contents (map (λ t. t.1) all_tables) all told ∙ length-map all_tables (λ t. t.1))
 
-      by_result : (r : Result Images ImagesError) → IsAnswer source flat all_tables all_readings r → AreImagesRead contents root source flat r
+      by_result : (r : Result Images ImagesError) → IsAnswer source flat all_tables all_readings r
+          → AreImagesRead contents root source flat r
       by_result (Ok images) a =
           let made : images ≡ images_of source flat all =
           a.1 ∙ ap (λ z. record { images = z; of_leaf = map (type_number source flat) flat.leaves }) (images_same count a.0) in
@@ -149,33 +168,44 @@ module _ (root : List ℕ) (source : Source) (flat : Flat) (all : List Found) wh
       by_result (Err error.NoMemory) a = tt
 
 -- the answer, where all tables are read
-pub answered : (contents : Contents) (root : List ℕ) (source : Source) (flat : Flat) (tables : List (Name × List ℕ)) (readings : List Reading) (result : Result Images ImagesError)
+pub answered : (contents : Contents) (root : List ℕ) (source : Source) (flat : Flat) (tables : List (Name × List ℕ))
+    (readings : List Reading) (result : Result Images ImagesError)
     → tables ≡ map (table_at (folder_of root)) (types source flat)
-    → (all : List Found) × AreFound contents (map (λ t. t.1) tables) all × (readings ≡ readings_of (length source.files) tables all)
+    → (all : List Found) × AreFound contents (map (λ t. t.1) tables) all
+    × (readings ≡ readings_of (length source.files) tables all)
     → IsAnswer source flat tables readings result → AreImagesRead contents root source flat result
 answered contents root source flat tables readings result is (all, told, read) answer =
     answer_told root source flat all contents result (subst (λ z. AreFound contents (map (λ t. t.1) z) all) is told)
-    (subst (λ z. IsAnswer source flat z (readings_of (length source.files) z all) result) is (subst (λ z. IsAnswer source flat tables z result) read answer))
+    (subst (λ z. IsAnswer source flat z (readings_of (length source.files) z all) result) is
+    (subst (λ z. IsAnswer source flat tables z result) read answer))
 
 -- the answer, where a table isn't read
-pub failed : (contents : Contents) (root : List ℕ) (source : Source) (flat : Flat) (tables : List (Name × List ℕ)) (file : List ℕ) → tables ≡ map (table_at (folder_of root)) (types source flat)
+pub failed : (contents : Contents) (root : List ℕ) (source : Source) (flat : Flat) (tables : List (Name × List ℕ)) (file : List ℕ)
+    → tables ≡ map (table_at (folder_of root)) (types source flat)
     → IsIn file (map (λ t. t.1) tables) → AreImagesRead contents root source flat (Err (error.ReadFault file))
-failed contents root source flat tables file is among = subst (IsIn file) (ap (map (λ t. t.1)) is ∙ files_are (folder_of root) (types source flat)) among
+failed contents root source flat tables file is among =
+    subst (IsIn file) (ap (map (λ t. t.1)) is ∙ files_are (folder_of root) (types source flat)) among
 
 -- the answer, where reading failed
-pub err_answered : (contents : Contents) (root : List ℕ) (source : Source) (flat : Flat) (tables : List (Name × List ℕ)) (e : ImagesError) (result : Result Images ImagesError)
-    → tables ≡ map (table_at (folder_of root)) (types source flat) → AreTablesRead contents (length source.files) tables (Err e) → result ≡ Err e → AreImagesRead contents root source flat result
-err_answered contents root source flat tables e result is read same = subst (AreImagesRead contents root source flat) (sym same) (by_error e read)
+pub err_answered : (contents : Contents) (root : List ℕ) (source : Source) (flat : Flat) (tables : List (Name × List ℕ))
+    (e : ImagesError) (result : Result Images ImagesError)
+    → tables ≡ map (table_at (folder_of root)) (types source flat) → AreTablesRead contents (length source.files) tables (Err e)
+    → result ≡ Err e → AreImagesRead contents root source flat result
+err_answered contents root source flat tables e result is read same = subst (AreImagesRead contents root source flat) (sym same)
+    (by_error e read)
   where
-    by_error : (z : ImagesError) → AreTablesRead contents (length source.files) tables (Err z) → AreImagesRead contents root source flat (Err z)
+    by_error : (z : ImagesError) → AreTablesRead contents (length source.files) tables (Err z)
+        → AreImagesRead contents root source flat (Err z)
     by_error (error.Fault fault f) r = absurd r
     by_error (error.ReadFault f) r = failed contents root source flat tables f is r
     by_error error.NoMemory r = tt
 
-pub first_answer : (source : Source) (flat : Flat) (readings slice : List Reading) (missing line first : Option Fault) (fault : Fault) → slice ≡ readings → missing ≡ first_missing source flat slice → line ≡ (merged readings).fault
+pub first_answer : (source : Source) (flat : Flat) (readings slice : List Reading) (missing line first : Option Fault)
+    (fault : Fault) → slice ≡ readings → missing ≡ first_missing source flat slice → line ≡ (merged readings).fault
     → first ≡ first_of missing line → first ≡ Some fault → first_read source flat readings ≡ Some fault
 first_answer source flat readings slice missing line first fault same a b c d =
-    ap (λ s. first_of (first_missing source flat s) (merged readings).fault) (sym same) ∙ ap (λ z. first_of z (merged readings).fault) (sym a) ∙ ap (first_of missing) (sym b) ∙ sym c ∙ d
+    ap (λ s. first_of (first_missing source flat s) (merged readings).fault) (sym same)
+    ∙ ap (λ z. first_of z (merged readings).fault) (sym a) ∙ ap (first_of missing) (sym b) ∙ sym c ∙ d
 
 -- ---- names of files
 
@@ -184,30 +214,40 @@ get_behind [] ys n h = ap (slice_get ys) (omega arith)
 get_behind (x ∷ xs) ys zero h = absurd (omega arith)
 get_behind (x ∷ xs) ys (suc n) h = get_behind xs ys n (omega arith) ∙ ap (slice_get ys) (omega arith)
 
-told_at : (tables : List Table) (k : ℕ) → slice_get (map (λ (t : Name × List ℕ). t.1) (tables_told tables)) k ≡ option_map (λ (t : Table). string_bytes t.file) (slice_get tables k)
+told_at : (tables : List Table) (k : ℕ) → slice_get (map (λ (t : Name × List ℕ). t.1) (tables_told tables)) k ≡ option_map
+    (λ (t : Table). string_bytes t.file) (slice_get tables k)
 told_at [] k = refl
 told_at (t ∷ tables) zero = refl
 told_at (t ∷ tables) (suc k) = told_at tables k
 
 -- behind the files of the source
 pub name_behind : (source : Source) (tables : List Table) (n : ℕ) → length source.files ≤ n
-    → file_name source (tables_told tables) n ≡ unwrap_or (option_map (λ (t : Table). string_bytes t.file) (slice_get tables (n - length source.files))) []
+    → file_name source (tables_told tables) n ≡ unwrap_or (option_map (λ (t : Table). string_bytes t.file)
+    (slice_get tables (n - length source.files))) []
 name_behind source tables n h =
-    let count : length (map (λ (f : SourceFile). f.name) source.files) ≡ length source.files = length-map source.files (λ f. f.name) in
-    ap (λ o. unwrap_or o []) (get_behind (map (λ (f : SourceFile). f.name) source.files) (map (λ t. t.1) (tables_told tables)) n (omega (arith, count))
-    ∙ ap (λ k. slice_get (map (λ (t : Name × List ℕ). t.1) (tables_told tables)) (n - k)) count ∙ told_at tables (n - length source.files))
+    let count : length (map (λ (f : SourceFile). f.name) source.files) ≡ length source.files =
+    length-map source.files (λ f. f.name) in
+    ap (λ o. unwrap_or o []) (get_behind (map (λ (f : SourceFile). f.name) source.files) (map (λ t. t.1) (tables_told tables)) n
+    (omega (arith, count))
+    ∙ ap (λ k. slice_get (map (λ (t : Name × List ℕ). t.1) (tables_told tables)) (n - k)) count
+    ∙ told_at tables (n - length source.files))
 
 -- of a table
-pub name_at_table : (source : Source) (tables : List Table) (n k : ℕ) (t : Table) → length source.files ≤ n → k ≡ n - length source.files → k < length tables → t ≡ get_or tables k t
+pub name_at_table : (source : Source) (tables : List Table) (n k : ℕ) (t : Table) → length source.files ≤ n
+    → k ≡ n - length source.files → k < length tables → t ≡ get_or tables k t
     → string_bytes t.file ≡ file_name source (tables_told tables) n
 name_at_table source tables n k t h is lt at =
-    sym (name_behind source tables n h ∙ ap (λ j. unwrap_or (option_map (λ (u : Table). string_bytes u.file) (slice_get tables j)) []) (sym is)
-    ∙ ap (λ o. unwrap_or (option_map (λ (u : Table). string_bytes u.file) o) []) (slice_get-get_or tables k t lt ∙ ap (λ z. Some z) (sym at)))
+    sym (name_behind source tables n h
+    ∙ ap (λ j. unwrap_or (option_map (λ (u : Table). string_bytes u.file) (slice_get tables j)) []) (sym is)
+    ∙ ap (λ o. unwrap_or (option_map (λ (u : Table). string_bytes u.file) o) []) (slice_get-get_or tables k t lt
+    ∙ ap (λ z. Some z) (sym at)))
 
 -- past all tables
-pub name_past : (source : Source) (tables : List Table) (n k : ℕ) → length source.files ≤ n → k ≡ n - length source.files → length tables ≤ k → [] ≡ file_name source (tables_told tables) n
+pub name_past : (source : Source) (tables : List Table) (n k : ℕ) → length source.files ≤ n → k ≡ n - length source.files
+    → length tables ≤ k → [] ≡ file_name source (tables_told tables) n
 name_past source tables n k h is past =
-    sym (name_behind source tables n h ∙ ap (λ j. unwrap_or (option_map (λ (u : Table). string_bytes u.file) (slice_get tables j)) []) (sym is)
+    sym (name_behind source tables n h
+    ∙ ap (λ j. unwrap_or (option_map (λ (u : Table). string_bytes u.file) (slice_get tables j)) []) (sym is)
     ∙ ap (λ o. unwrap_or (option_map (λ (u : Table). string_bytes u.file) o) []) (slice_get_past tables k past))
 
 pub ok_as : {E : Type 0} (r : Result (List ℕ) E) (x y : List ℕ) → x ≡ y → IfOk r (λ z. z ≡ x) → IfOk r (λ z. z ≡ y)
@@ -215,12 +255,16 @@ ok_as (Ok z) x y e h = h ∙ e
 ok_as (Err z) x y e h = tt
 
 -- the tables of all types
-pub tables_are : (root : List ℕ) (source : Source) (flat : Flat) (slice tables : List Table) (names borrowed : List (Bor Name)) (folder : List ℕ) → slice ≡ tables → tables_told tables ≡ map (table_at folder) (names_told borrowed)
-    → folder ≡ folder_of root → borrowed ≡ names → names_told names ≡ types source flat → tables_told slice ≡ map (table_at (folder_of root)) (types source flat)
+pub tables_are : (root : List ℕ) (source : Source) (flat : Flat) (slice tables : List Table) (names borrowed : List (Bor Name))
+    (folder : List ℕ) → slice ≡ tables → tables_told tables ≡ map (table_at folder) (names_told borrowed)
+    → folder ≡ folder_of root → borrowed ≡ names → names_told names ≡ types source flat
+    → tables_told slice ≡ map (table_at (folder_of root)) (types source flat)
 tables_are root source flat slice tables names borrowed folder a b c d e =
-    ap tables_told a ∙ b ∙ ap (λ f. map (table_at f) (names_told borrowed)) c ∙ ap (λ z. map (table_at (folder_of root)) (names_told z)) d ∙ ap (map (table_at (folder_of root))) e
+    ap tables_told a ∙ b ∙ ap (λ f. map (table_at f) (names_told borrowed)) c
+    ∙ ap (λ z. map (table_at (folder_of root)) (names_told z)) d ∙ ap (map (table_at (folder_of root))) e
 
 -- the names of their files
-pub files_named : (root : List ℕ) (source : Source) (flat : Flat) (tables : List Table) → tables_told tables ≡ map (table_at (folder_of root)) (types source flat)
+pub files_named : (root : List ℕ) (source : Source) (flat : Flat) (tables : List Table)
+    → tables_told tables ≡ map (table_at (folder_of root)) (types source flat)
     → files_told tables ≡ table_names root source flat
 files_named root source flat tables is = ap (map (λ t. t.1)) is ∙ files_are (folder_of root) (types source flat)

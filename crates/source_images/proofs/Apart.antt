@@ -46,13 +46,15 @@ number_of m n section x (inr j) = absurd j
 two_if : (b : Bool) (m : ℕ) (image : Image) → Later AreTwo (sections_if b m image)
 two_if false m image = tt
 two_if true m image =
-    later_gather AreTwo (λ n section. placed m n section ∷ []) (λ x. x.number) 0 image.sections (λ n section x i. number_of m n section x i) (λ n section. ((λ y i. absurd i), tt))
+    later_gather AreTwo (λ n section. placed m n section ∷ []) (λ x. x.number) 0 image.sections
+    (λ n section x i. number_of m n section x i) (λ n section. ((λ y i. absurd i), tt))
     (λ x y d. and_right (nat_eq x.image y.image) (nat_eq x.number y.number) (ne_eqb x.number y.number d))
 
 pub all_two : (images : Images) (leaves : List ℕ) → Later AreTwo (sections_of images leaves)
 all_two images leaves =
     later_gather AreTwo (λ m image. sections_if (is_run images leaves m) m image) (λ x. x.image) 0 images.images
-    (λ m image x i. image_if (is_run images leaves m) m image x i ∙ omega arith) (λ m image. two_if (is_run images leaves m) m image)
+    (λ m image x i. image_if (is_run images leaves m) m image x i ∙ omega arith)
+    (λ m image. two_if (is_run images leaves m) m image)
     (λ x y d. and_left (nat_eq x.image y.image) (nat_eq x.number y.number) (ne_eqb x.image y.image d))
 
 -- ---- none of them has a page of another one
@@ -62,18 +64,23 @@ number_some None m e = cc
 number_some (Some k) m e = ap (λ z. Some z) (eqb-true k m e)
 
 -- a leaf that runs the image of a section
-pub run_by : (images : Images) (leaves : List ℕ) (x : Placed) → IsIn x (sections_of images leaves) → (leaf : ℕ) × IsIn leaf leaves × (image_number images leaf ≡ Some x.image)
+pub run_by : (images : Images) (leaves : List ℕ) (x : Placed) → IsIn x (sections_of images leaves) → (leaf : ℕ) × IsIn leaf leaves
+    × (image_number images leaf ≡ Some x.image)
 run_by images leaves x i =
-    let leaf = from_any (runs images x.image) leaves (comes_from images leaves x i).run in (leaf.0, leaf.1, number_some (image_number images leaf.0) x.image leaf.2)
+    let leaf = from_any (runs images x.image) leaves (comes_from images leaves x i).run in
+    (leaf.0, leaf.1, number_some (image_number images leaf.0) x.image leaf.2)
 
-pub no_clash : (images : Images) (leaves : List ℕ) (x y : Placed) → AreApart images leaves → IsIn x (sections_of images leaves) → IsIn y (sections_of images leaves) → clashes_with x y ≡ false
+pub no_clash : (images : Images) (leaves : List ℕ) (x y : Placed) → AreApart images leaves → IsIn x (sections_of images leaves)
+    → IsIn y (sections_of images leaves) → clashes_with x y ≡ false
 no_clash images leaves x y h i j =
     let all = sections_of images leaves in
     let leaf = run_by images leaves x i in
     let none : clashes all x.image ≡ false = h.apart leaf.0 x.image leaf.1 leaf.2 in
     ⊎_elim
     (λ t. absurd (both_ways (clashes all x.image) none
-    (any_in (λ z. nat_eq z.image x.image && list_any (clashes_with z) all) all x i (and_from (nat_eq x.image x.image) (list_any (clashes_with x) all) (eq-eqb x.image x.image refl) (any_in (clashes_with x) all y j t)))))
+    (any_in (λ z. nat_eq z.image x.image && list_any (clashes_with z) all) all x i
+    (and_from (nat_eq x.image x.image) (list_any (clashes_with x) all) (eq-eqb x.image x.image refl)
+    (any_in (clashes_with x) all y j t)))))
     (λ f. f)
     (cases_Bool (clashes_with x y))
 
@@ -104,7 +111,8 @@ behind_first : (v w n : ℕ) → v ≡ w → 0 < n → v / 4096 < w / 4096 + (n 
 behind_first v w n e l = let same = ap (λ z. z / 4096) e in omega arith
 
 share_at_one : (a b : Section) → a.vaddr ≡ b.vaddr → 0 < a.size → 0 < b.size → share_page a b ≡ true
-share_at_one a b e l k = and_from _ _ (lt-ltb _ _ (behind_first a.vaddr b.vaddr b.size e k)) (lt-ltb _ _ (behind_first b.vaddr a.vaddr a.size (sym e) l))
+share_at_one a b e l k = and_from _ _ (lt-ltb _ _ (behind_first a.vaddr b.vaddr b.size e k))
+    (lt-ltb _ _ (behind_first b.vaddr a.vaddr a.size (sym e) l))
 
 abbrev pub address : Placed → ℕ
 address x = x.section.vaddr
@@ -114,5 +122,6 @@ addresses_differ images leaves h =
     later_within AreTwo (λ x y. address x ≡ address y → ⊥) (sections_of images leaves)
     (λ x y i j two e. both_ways (clashes_with x y) (no_clash images leaves x y h i j)
     (and_from (not (same_numbers x y)) (share_page x.section y.section) (ap (λ z. not z) two)
-    (share_at_one x.section y.section e (sound_numbers x.section (h.sound x i)).some (sound_numbers y.section (h.sound y j)).some)))
+    (share_at_one x.section y.section e (sound_numbers x.section (h.sound x i)).some
+    (sound_numbers y.section (h.sound y j)).some)))
     (all_two images leaves)

@@ -20,15 +20,19 @@ abbrev pub clashes_among : List Placed → List Placed → ℕ → Bool
 clashes_among all xs m = list_any (λ x. nat_eq x.image m && list_any (clashes_with x) all) xs
 
 -- what the index of all pages says of a section
-pub any-shares : (all : List Placed) (x : Placed) (index : List Region) → IsPermutation (map region_of all) index → list_any (shares (region_of x)) index ≡ list_any (clashes_with x) all
-any-shares all x index h = sym (list_any-IsPermutation (shares (region_of x)) (map region_of all) index h) ∙ list_any-map (shares (region_of x)) region_of all
+pub any-shares : (all : List Placed) (x : Placed) (index : List Region) → IsPermutation (map region_of all) index
+    → list_any (shares (region_of x)) index ≡ list_any (clashes_with x) all
+any-shares all x index h = sym (list_any-IsPermutation (shares (region_of x)) (map region_of all) index h)
+    ∙ list_any-map (shares (region_of x)) region_of all
 
 -- a section alone clashes with none
 pub none_clash : (all : List Placed) → length all < 2 → (m : ℕ) → clashes all m ≡ false
 none_clash [] l m = refl
 none_clash (x ∷ []) l m =
-    let own : (nat_eq x.image x.image && nat_eq x.number x.number) ≡ true = ap (λ b. b && nat_eq x.number x.number) (eq-eqb x.image x.image refl) ∙ eq-eqb x.number x.number refl in
-    ap (λ b. (nat_eq x.image m && ((not b && share_page x.section x.section) || false)) || false) own ∙ ap (λ b. b || false) (and-false (nat_eq x.image m))
+    let own : (nat_eq x.image x.image && nat_eq x.number x.number) ≡ true =
+    ap (λ b. b && nat_eq x.number x.number) (eq-eqb x.image x.image refl) ∙ eq-eqb x.number x.number refl in
+    ap (λ b. (nat_eq x.image m && ((not b && share_page x.section x.section) || false)) || false) own
+    ∙ ap (λ b. b || false) (and-false (nat_eq x.image m))
 none_clash (x ∷ y ∷ all) l m = absurd (omega arith)
 
 unmarked_all : (n m : ℕ) → get_or (replicate n false) m false ≡ false
@@ -36,8 +40,10 @@ unmarked_all zero m = refl
 unmarked_all (suc n) zero = refl
 unmarked_all (suc n) (suc m) = unmarked_all n m
 
-pub alone : (ps : List Given) (marks : List Bool) (n m : ℕ) → length ps < 2 → marks ≡ replicate n false → get_or marks m false ≡ clashes (sections_told ps) m
-alone ps marks n m l e = ap (λ z. get_or z m false) e ∙ unmarked_all n m ∙ sym (none_clash (sections_told ps) (omega (arith, l, length-map ps placed_told)) m)
+pub alone : (ps : List Given) (marks : List Bool) (n m : ℕ) → length ps < 2 → marks ≡ replicate n false
+    → get_or marks m false ≡ clashes (sections_told ps) m
+alone ps marks n m l e = ap (λ z. get_or z m false) e ∙ unmarked_all n m
+    ∙ sym (none_clash (sections_told ps) (omega (arith, l, length-map ps placed_told)) m)
 
 or_false : (b : Bool) → b || false ≡ b
 or_false true = refl
@@ -52,11 +58,14 @@ step_false true e r s = refl
 step_false false e r s = sym (ap (λ z. (z && true) || r) s)
 
 -- the mark of an image, where image k is marked for a section that clashes
-marked : (marks : List Bool) (k m : ℕ) (t r : Bool) → t ≡ true → k < length marks → get_or (set marks k true) m false || r ≡ get_or marks m false || ((nat_eq k m && t) || r)
+marked : (marks : List Bool) (k m : ℕ) (t r : Bool) → t ≡ true → k < length marks → get_or (set marks k true) m false
+    || r ≡ get_or marks m false || ((nat_eq k m && t) || r)
 marked marks k m t r s l =
     ⊎_elim
-    (λ e. ap (λ z. z || r) (ap (λ j. get_or (set marks k true) j false) (sym e) ∙ get_or-set_same marks k true false l) ∙ step_true (get_or marks m false) (nat_eq k m) r (eq-eqb k m e))
-    (λ n. ap (λ z. z || r) (get_or-set_other marks k m true false (λ e. n (sym e))) ∙ step_false (get_or marks m false) (nat_eq k m) r (ne_eqb k m n))
+    (λ e. ap (λ z. z || r) (ap (λ j. get_or (set marks k true) j false) (sym e) ∙ get_or-set_same marks k true false l)
+    ∙ step_true (get_or marks m false) (nat_eq k m) r (eq-eqb k m e))
+    (λ n. ap (λ z. z || r) (get_or-set_other marks k m true false (λ e. n (sym e))) ∙ step_false (get_or marks m false)
+    (nat_eq k m) r (ne_eqb k m n))
     (cases_eq k m) ∙ ap (λ z. get_or marks m false || ((nat_eq k m && z) || r)) (sym s)
 
 -- and where it is not
@@ -64,17 +73,24 @@ unmarked : (b e t r : Bool) → t ≡ false → b || r ≡ b || ((e && t) || r)
 unmarked b e t r s = sym (ap (λ z. b || ((e && z) || r)) s ∙ ap (λ z. b || (z || r)) (and-false e))
 
 -- the turn of a loop over sections, of which those before place i are marked
-module _ (all : List Placed) (ps : List Given) (i : ℕ) (p : Given) (marks : List Bool) (l : i < length ps) (e : p ≡ get_or ps i p) (done : (m : ℕ) → get_or marks m false || clashes_among all (sections_told (drop i ps)) m ≡ clashes all m) where
-  next : (m : ℕ) → get_or marks m false || ((nat_eq p.image m && list_any (clashes_with (placed_told p)) all) || clashes_among all (sections_told (drop (i + 1) ps)) m) ≡ clashes all m
+module _ (all : List Placed) (ps : List Given) (i : ℕ) (p : Given) (marks : List Bool) (l : i < length ps) (e : p ≡ get_or ps i p)
+    (done : (m : ℕ) → get_or marks m false || clashes_among all (sections_told (drop i ps)) m ≡ clashes all m) where
+  next : (m : ℕ) → get_or marks m false || ((nat_eq p.image m && list_any (clashes_with (placed_told p)) all)
+      || clashes_among all (sections_told (drop (i + 1) ps)) m) ≡ clashes all m
   next m = ap (λ z. get_or marks m false || clashes_among all (sections_told z) m) (sym (drop_first ps i p l e)) ∙ done m
 
   pub marked_turn : list_any (clashes_with (placed_told p)) all ≡ true → p.image < length marks
       → (m : ℕ) → get_or (set marks p.image true) m false || clashes_among all (sections_told (drop (i + 1) ps)) m ≡ clashes all m
-  marked_turn t k m = marked marks p.image m (list_any (clashes_with (placed_told p)) all) (clashes_among all (sections_told (drop (i + 1) ps)) m) t k ∙ next m
+  marked_turn t k m = marked marks p.image m (list_any (clashes_with (placed_told p)) all)
+      (clashes_among all (sections_told (drop (i + 1) ps)) m) t k ∙ next m
 
-  pub unmarked_turn : list_any (clashes_with (placed_told p)) all ≡ false → (m : ℕ) → get_or marks m false || clashes_among all (sections_told (drop (i + 1) ps)) m ≡ clashes all m
-  unmarked_turn t m = unmarked (get_or marks m false) (nat_eq p.image m) (list_any (clashes_with (placed_told p)) all) (clashes_among all (sections_told (drop (i + 1) ps)) m) t ∙ next m
+  pub unmarked_turn : list_any (clashes_with (placed_told p)) all ≡ false → (m : ℕ)
+      → get_or marks m false || clashes_among all (sections_told (drop (i + 1) ps)) m ≡ clashes all m
+  unmarked_turn t m = unmarked (get_or marks m false) (nat_eq p.image m) (list_any (clashes_with (placed_told p)) all)
+      (clashes_among all (sections_told (drop (i + 1) ps)) m) t ∙ next m
 
 -- where all sections have been looked at
-pub all_marked : (all : List Placed) (ps : List Given) (i m : ℕ) (b : Bool) → length ps ≤ i → b || clashes_among all (sections_told (drop i ps)) m ≡ clashes all m → b ≡ clashes all m
-all_marked all ps i m b l e = sym (or_false b) ∙ ap (λ z. b || z) (sym (at_drop_all (λ z. clashes_among all (sections_told z) m) ps i l)) ∙ e
+pub all_marked : (all : List Placed) (ps : List Given) (i m : ℕ) (b : Bool) → length ps ≤ i
+    → b || clashes_among all (sections_told (drop i ps)) m ≡ clashes all m → b ≡ clashes all m
+all_marked all ps i m b l e = sym (or_false b)
+    ∙ ap (λ z. b || z) (sym (at_drop_all (λ z. clashes_among all (sections_told z) m) ps i l)) ∙ e

@@ -38,7 +38,9 @@ fault_stands_in : (file n : ℕ) (ls : List Line) → StandsIn file (fault_in fi
 fault_stands_in file n [] = refl
 fault_stands_in file n (line ∷ more) = by_header (header_of (spaced_fields line.text))
   where
-    by_header : (h : Option Header) → StandsIn file (cond (elim h [ None ↦ false | Some x ↦ true ]) (option_map (bad_line file) (first_bad 0 more)) (Some (bad_line file line)))
+    by_header : (h : Option Header)
+        → StandsIn file (cond (elim h [ None ↦ false | Some x ↦ true ]) (option_map (bad_line file) (first_bad 0 more))
+        (Some (bad_line file line)))
     by_header None = refl
     by_header (Some h) = bad_stands file (first_bad 0 more)
 
@@ -68,12 +70,14 @@ later file n (Some f) h s = omega arith
 -- a fault in an earlier file comes first
 stays : (file : ℕ) (f : Fault) (o : Option Fault) → f.place.file ≡ file → StandsFrom (file + 1) o → earlier (Some f) o ≡ Some f
 stays file f None e s = refl
-stays file f (Some g) e s = ap (λ b. cond b (Some g) (Some f)) (not_before g.place.file g.place.first (number_of g.code) f.place.file f.place.first (number_of f.code) (omega arith))
+stays file f (Some g) e s = ap (λ b. cond b (Some g) (Some f)) (not_before g.place.file g.place.first (number_of g.code)
+    f.place.file f.place.first (number_of f.code) (omega arith))
   where
     not_before : (a b c x y z : ℕ) → x < a → cond (nat_eq a x) (cond (nat_eq b y) (nat_lt c z) (nat_lt b y)) (nat_lt a x) ≡ false
     not_before a b c x y z h = grind (arith, nat_tests)
 
-joined : (file : ℕ) (a o : Option Fault) → StandsIn file a → StandsFrom (file + 1) o → earlier (least (listed a)) o ≡ option_or a o
+joined : (file : ℕ) (a o : Option Fault) → StandsIn file a → StandsFrom (file + 1) o
+    → earlier (least (listed a)) o ≡ option_or a o
 joined file None o s t = refl
 joined file (Some f) o s t = stays file f o s t
 
@@ -88,11 +92,14 @@ first_line_fault first file (x ∷ more) = option_or (line_fault first file x) (
 
 stand_from : (first : Option Arch) (file : ℕ) (all : List Found) → StandsFrom file (first_line_fault first file all)
 stand_from first file [] = tt
-stand_from first file (x ∷ more) = from_or file (line_fault first file x) (first_line_fault first (file + 1) more) (line_stands first file x) (stand_from first (file + 1) more)
+stand_from first file (x ∷ more) = from_or file (line_fault first file x) (first_line_fault first (file + 1) more)
+    (line_stands first file x) (stand_from first (file + 1) more)
 
-pub least-line_faults : (first : Option Arch) (file : ℕ) (all : List Found) → least (line_faults first file all) ≡ first_line_fault first file all
+pub least-line_faults : (first : Option Arch) (file : ℕ) (all : List Found)
+    → least (line_faults first file all) ≡ first_line_fault first file all
 least-line_faults first file [] = refl
 least-line_faults first file (x ∷ more) =
     least-append (listed (line_fault first file x)) (line_faults first (file + 1) more)
     ∙ ap (earlier (least (listed (line_fault first file x)))) (least-line_faults first (file + 1) more)
-    ∙ joined file (line_fault first file x) (first_line_fault first (file + 1) more) (line_stands first file x) (stand_from first (file + 1) more)
+    ∙ joined file (line_fault first file x) (first_line_fault first (file + 1) more) (line_stands first file x)
+    (stand_from first (file + 1) more)

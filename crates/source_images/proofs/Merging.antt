@@ -37,9 +37,11 @@ pub record IsMerged (m : Merged) (fault : Option Fault) (images : List Image) : 
   pub sound : fault ≡ None → m.images ≡ images
 
 -- at a fault
-stopped : (first : Option Arch) (before images : List Image) (f : Fault) (more : Option Fault) (rs : List Reading) → IsMerged (fold merged_with (with_fault (clean first before) f) rs) (option_or (Some f) more) images
+stopped : (first : Option Arch) (before images : List Image) (f : Fault) (more : Option Fault) (rs : List Reading)
+    → IsMerged (fold merged_with (with_fault (clean first before) f) rs) (option_or (Some f) more) images
 stopped first before images f more rs =
-    let same : fold merged_with (with_fault (clean first before) f) rs ≡ with_fault (clean first before) f = kept (with_fault (clean first before) f) rs refl in
+    let same : fold merged_with (with_fault (clean first before) f) rs ≡ with_fault (clean first before) f =
+    kept (with_fault (clean first before) f) rs refl in
     record { faulty = ap (λ m. m.fault) same; sound = λ e. absurd (cc) }
 
 same_arch : (a b : Arch) → differs a b ≡ false → a ≡ b
@@ -73,45 +75,64 @@ module _ (tables : List (Name × List ℕ)) (more : List Found) (next : ℕ) whe
 
   -- what is shown of all tables behind
   abbrev Behind : Type 0
-  Behind = (first : Option Arch) (before : List Image) → IsMerged (fold merged_with (clean first before) rest) (first_line_fault (option_or first (first_arch more)) next more) (before ++ images_in names more)
+  Behind = (first : Option Arch) (before : List Image)
+      → IsMerged (fold merged_with (clean first before) rest) (first_line_fault (option_or first (first_arch more)) next more)
+      (before ++ images_in names more)
 
   abbrev AtLine : ℕ → Name → Option Arch → List Image → Line → List Line → Option Header → Option Line → Type 0
   AtLine n name first before line lines header bad =
       let fault = cond (is_some header) (option_map (bad_line n) bad) (Some (bad_line n line)) in
       let all = option_or first (option_or (option_map (λ (h : Header). h.arch) header) (first_arch more)) in
-      let here = option_or fault (cond (option_map_or (is_other all) (option_map (λ (h : Header). h.arch) header) false) (Some (bad_line n line)) None) in
-      IsMerged (fold merged_with (merged_with (clean first before) (reading_in n (line ∷ lines) fault (option_map (image name lines) header))) rest)
-      (option_or here (first_line_fault all next more)) (before ++ cons_option (option_map (image name lines) header) (images_in names more))
+      let here = option_or fault (cond (option_map_or (is_other all) (option_map (λ (h : Header). h.arch) header) false)
+      (Some (bad_line n line)) None) in
+      IsMerged
+      (fold merged_with
+      (merged_with (clean first before) (reading_in n (line ∷ lines) fault (option_map (image name lines) header))) rest)
+      (option_or here (first_line_fault all next more)) (before ++ cons_option (option_map (image name lines) header)
+      (images_in names more))
 
-  sound_line : Behind → (n : ℕ) (name : Name) (first : Option Arch) (before : List Image) (line : Line) (lines : List Line) (h : Header) (b : Bool) → is_other first h.arch ≡ b → AtLine n name first before line lines (Some h) None
+  sound_line : Behind → (n : ℕ) (name : Name) (first : Option Arch) (before : List Image) (line : Line) (lines : List Line)
+      (h : Header) (b : Bool) → is_other first h.arch ≡ b → AtLine n name first before line lines (Some h) None
   sound_line behind n name first before line lines h true e =
       let was : is_other (arch_with first h.arch more) h.arch ≡ true = other_same first h.arch more ∙ e in
-      rw (e, was) (stopped first before (before ++ image name lines h ∷ images_in names more) (bad_line n line) (first_line_fault (arch_with first h.arch more) next more) rest)
+      rw (e, was) (stopped first before (before ++ image name lines h ∷ images_in names more) (bad_line n line)
+      (first_line_fault (arch_with first h.arch more) next more) rest)
   sound_line behind n name first before line lines h false e =
       let was : is_other (arch_with first h.arch more) h.arch ≡ false = other_same first h.arch more ∙ e in
       let is : arch_with first h.arch more ≡ Some h.arch = arch_same first h.arch more e in
       let after = behind (Some h.arch) (before ++ image name lines h ∷ []) in
       rw (e, was, is) (rw append_assoc at after)
 
-  at_line : Behind → (n : ℕ) (name : Name) (first : Option Arch) (before : List Image) (line : Line) (lines : List Line) (header : Option Header) (bad : Option Line) → AtLine n name first before line lines header bad
-  at_line behind n name first before line lines None bad = stopped first before (before ++ images_in names more) (bad_line n line) None rest
-  at_line behind n name first before line lines (Some h) (Some l) = stopped first before (before ++ image name lines h ∷ images_in names more) (bad_line n l) None rest
-  at_line behind n name first before line lines (Some h) None = sound_line behind n name first before line lines h (is_other first h.arch) refl
+  at_line : Behind → (n : ℕ) (name : Name) (first : Option Arch) (before : List Image) (line : Line) (lines : List Line)
+      (header : Option Header) (bad : Option Line) → AtLine n name first before line lines header bad
+  at_line behind n name first before line lines None bad = stopped first before (before ++ images_in names more)
+      (bad_line n line) None rest
+  at_line behind n name first before line lines (Some h) (Some l) =
+      stopped first before (before ++ image name lines h ∷ images_in names more) (bad_line n l) None rest
+  at_line behind n name first before line lines (Some h) None = sound_line behind n name first before line lines h
+      (is_other first h.arch) refl
 
   abbrev AtLines : ℕ → Name → Option Arch → List Image → ℕ → List Line → Type 0
   AtLines n name first before len lines =
       let fault = fault_in n len lines in
       let all = option_or first (option_or (option_map (λ (h : Header). h.arch) (header_in lines)) (first_arch more)) in
-      let here = option_or fault (cond (option_map_or (is_other all) (option_map (λ (h : Header). h.arch) (header_in lines)) false) (at_first_line n lines) None) in
+      let here =
+      option_or fault (cond (option_map_or (is_other all) (option_map (λ (h : Header). h.arch) (header_in lines)) false)
+      (at_first_line n lines) None) in
       IsMerged (fold merged_with (merged_with (clean first before) (reading_in n lines fault (image_in name lines))) rest)
       (option_or here (first_line_fault all next more)) (before ++ cons_option (image_in name lines) (images_in names more))
 
-  at_lines : Behind → (n : ℕ) (name : Name) (first : Option Arch) (before : List Image) (len : ℕ) (lines : List Line) → AtLines n name first before len lines
-  at_lines behind n name first before len [] = stopped first before (before ++ images_in names more) (bad_between n len len) None rest
-  at_lines behind n name first before len (line ∷ lines) = at_line behind n name first before line lines (header_of (spaced_fields line.text)) (first_bad 0 lines)
+  at_lines : Behind → (n : ℕ) (name : Name) (first : Option Arch) (before : List Image) (len : ℕ) (lines : List Line)
+      → AtLines n name first before len lines
+  at_lines behind n name first before len [] = stopped first before (before ++ images_in names more)
+      (bad_between n len len) None rest
+  at_lines behind n name first before len (line ∷ lines) = at_line behind n name first before line lines
+      (header_of (spaced_fields line.text)) (first_bad 0 lines)
 
-merged_from : (n : ℕ) (tables : List (Name × List ℕ)) (all : List Found) → length tables ≡ length all → (first : Option Arch) (before : List Image)
-    → IsMerged (fold merged_with (clean first before) (readings_of n tables all)) (first_line_fault (option_or first (first_arch all)) n all) (before ++ images_in (map (λ t. t.0) tables) all)
+merged_from : (n : ℕ) (tables : List (Name × List ℕ)) (all : List Found) → length tables ≡ length all
+    → (first : Option Arch) (before : List Image)
+    → IsMerged (fold merged_with (clean first before) (readings_of n tables all))
+    (first_line_fault (option_or first (first_arch all)) n all) (before ++ images_in (map (λ t. t.0) tables) all)
 merged_from n [] [] e first before = record { faulty = refl; sound = λ h. sym (append-nil before) }
 merged_from n [] (x ∷ all) e first before = absurd (omega arith)
 merged_from n (t ∷ tables) [] e first before = absurd (omega arith)
@@ -122,5 +143,6 @@ merged_from n (t ∷ tables) (table bytes ∷ all) e first before =
 
 -- what comes of the readings of all tables
 pub merged_tables : (n : ℕ) (tables : List (Name × List ℕ)) (all : List Found) → length tables ≡ length all
-    → IsMerged (merged (readings_of n tables all)) (first_line_fault (first_arch all) n all) (images_in (map (λ t. t.0) tables) all)
+    → IsMerged (merged (readings_of n tables all)) (first_line_fault (first_arch all) n all)
+    (images_in (map (λ t. t.0) tables) all)
 merged_tables n tables all e = merged_from n tables all e None []

@@ -32,7 +32,8 @@ name_utf8 name e = IsUtf8-from_ascii name (name_small name e)
 
 no_slash : (xs : List ℕ) → ((i : ℕ) → i < length xs → get_or xs i 0 ≢ 47) → list_any is_slash xs ≡ false
 no_slash [] h = refl
-no_slash (x ∷ xs) h = ap (λ b. b || list_any is_slash xs) (ne_eqb x 47 (h 0 (omega arith))) ∙ no_slash xs (λ i lt. h (suc i) (omega arith))
+no_slash (x ∷ xs) h = ap (λ b. b || list_any is_slash xs) (ne_eqb x 47 (h 0 (omega arith)))
+    ∙ no_slash xs (λ i lt. h (suc i) (omega arith))
 
 -- of a name without a slash
 pub folder_of-none : (xs : List ℕ) → ((i : ℕ) → i < length xs → get_or xs i 0 ≢ 47) → folder_of xs ≡ []
@@ -49,10 +50,12 @@ some_slash (x ∷ xs) (suc k) lt e = ap (λ b. is_slash x || b) (some_slash xs k
     or_true false = refl
 
 -- of a name whose last slash stands there
-pub folder_of-last : (xs : List ℕ) (k : ℕ) → k < length xs → get_or xs k 0 ≡ 47 → ((i : ℕ) → k < i → i < length xs → get_or xs i 0 ≢ 47) → folder_of xs ≡ take (suc k) xs
+pub folder_of-last : (xs : List ℕ) (k : ℕ) → k < length xs → get_or xs k 0 ≡ 47
+    → ((i : ℕ) → k < i → i < length xs → get_or xs i 0 ≢ 47) → folder_of xs ≡ take (suc k) xs
 folder_of-last [] k lt e last = absurd (omega arith)
 folder_of-last (x ∷ xs) zero lt e last =
-    ap (λ b. cond b (x ∷ folder_of xs) []) (some_slash (x ∷ xs) 0 lt e) ∙ ap (λ l. x ∷ l) (folder_of-none xs (λ i h. last (suc i) (omega arith) (omega arith)))
+    ap (λ b. cond b (x ∷ folder_of xs) []) (some_slash (x ∷ xs) 0 lt e)
+    ∙ ap (λ l. x ∷ l) (folder_of-none xs (λ i h. last (suc i) (omega arith) (omega arith)))
 folder_of-last (x ∷ xs) (suc k) lt e last =
     ap (λ b. cond b (x ∷ folder_of xs) []) (some_slash (x ∷ xs) (suc k) lt e)
     ∙ ap (λ l. x ∷ l) (folder_of-last xs k (omega arith) e (λ i h j. last (suc i) (omega arith) (omega arith)))
@@ -61,5 +64,6 @@ front_is : (xs : List ℕ) (k : ℕ) → slice_range xs 0 (k + 1) ≡ take (suc 
 front_is xs k = grind (arith, common_steps)
 
 -- the front of a name up to its last slash
-pub folder_found : (xs out : List ℕ) (k : ℕ) → out ≡ slice_range xs 0 (k + 1) → (k < length xs) × (get_or xs k 0 ≡ 47) × ((i : ℕ) → k < i → i < length xs → get_or xs i 0 ≢ 47) → out ≡ folder_of xs
+pub folder_found : (xs out : List ℕ) (k : ℕ) → out ≡ slice_range xs 0 (k + 1) → (k < length xs) × (get_or xs k 0 ≡ 47)
+    × ((i : ℕ) → k < i → i < length xs → get_or xs i 0 ≢ 47) → out ≡ folder_of xs
 folder_found xs out k e (lt, is, last) = e ∙ front_is xs k ∙ sym (folder_of-last xs k lt is last)

@@ -17,7 +17,8 @@ some_other o f none some = absurd (let e : None ≡ Some f = sym none ∙ some i
 one_some : (f g : Fault) → Some f ≡ Some g → f ≡ g
 one_some f g e = cc
 
-pub one_answer : (m : Contents) (root : List ℕ) (source : Source) (flat : Flat) (a b : Result Images ImagesError) → yields a ≡ false → yields b ≡ false
+pub one_answer : (m : Contents) (root : List ℕ) (source : Source) (flat : Flat) (a b : Result Images ImagesError)
+    → yields a ≡ false → yields b ≡ false
     → AreImagesRead m root source flat a → AreImagesRead m root source flat b → a ≡ b
 one_answer m root source flat (Ok a) (Ok b) p q x y = ap (λ z. Ok z) (x.images ∙ sym y.images)
 one_answer m root source flat (Ok a) (Err (error.Fault f file)) p q x y =

@@ -25,7 +25,8 @@ later_flat : {X Y : Type 0} (R : Y → Y → Type 0) (f : X → List Y) (xs : Li
     → Later (λ x y. (p q : Y) → IsIn p (f x) → IsIn q (f y) → R p q) xs → Later R (flat_map f xs)
 later_flat R f [] h k = tt
 later_flat R f (x ∷ xs) h k =
-    later_append R (f x) (flat_map f xs) (h x (inl refl)) (later_flat R f xs (λ y i. h y (inr i)) k.1) (λ p q i j. let s = from_flat_map f q xs j in k.0 s.0 s.1 p q i s.2)
+    later_append R (f x) (flat_map f xs) (h x (inl refl)) (later_flat R f xs (λ y i. h y (inr i)) k.1)
+    (λ p q i j. let s = from_flat_map f q xs j in k.0 s.0 s.1 p q i s.2)
 
 pub pairs_from_later : {X : Type 0} (R : X → X → Type 0) (xs : List X) → Later R xs → AllPairs R xs
 pairs_from_later R [] h i j d l k = absurd (omega arith)
@@ -49,7 +50,8 @@ range_later a (suc n) = ((λ j i. omega (arith, (in_range (a + 1) n j i).0)), ra
 abbrev pub Precedes : SectionPage → SectionPage → Type 0
 Precedes p q = p.vaddr + 4096 ≤ q.vaddr
 
-from_page : (images : Images) (x : Placed) (p : SectionPage) → IsIn p (pages_of images x) → (j : ℕ) × (j < page_count x.section) × (p.vaddr ≡ x.section.vaddr + 4096 * j)
+from_page : (images : Images) (x : Placed) (p : SectionPage) → IsIn p (pages_of images x) → (j : ℕ) × (j < page_count x.section)
+    × (p.vaddr ≡ x.section.vaddr + 4096 * j)
 from_page images x p i =
     let k = from_map (page_at (name_of images x.image) x.section) p (range_with_len 0 (page_count x.section)) i in
     (k.0, omega (arith, (in_range 0 (page_count x.section) k.0 k.1).1), ap (λ q. q.vaddr) (sym k.2))
@@ -58,11 +60,13 @@ pages_later : (images : Images) (x : Placed) → Later Precedes (pages_of images
 pages_later images x =
     let all = range_with_len 0 (page_count x.section) in
     later_map (page_at (name_of images x.image) x.section) Precedes all
-    (later_within (λ i j. i < j) (λ i j. (x.section.vaddr + 4096 * i) + 4096 ≤ x.section.vaddr + 4096 * j) all (λ i j m n l. omega arith) (range_later 0 (page_count x.section)))
+    (later_within (λ i j. i < j) (λ i j. (x.section.vaddr + 4096 * i) + 4096 ≤ x.section.vaddr + 4096 * j) all
+    (λ i j m n l. omega arith) (range_later 0 (page_count x.section)))
 
 -- ---- the pages of two sections
 
-apart_pages : (v w n m : ℕ) → v % 4096 ≡ 0 → w % 4096 ≡ 0 → v < w → 0 < m → (nat_lt (v / 4096) (w / 4096 + (m + 4095) / 4096) && nat_lt (w / 4096) (v / 4096 + (n + 4095) / 4096)) ≡ false
+apart_pages : (v w n m : ℕ) → v % 4096 ≡ 0 → w % 4096 ≡ 0 → v < w → 0 < m
+    → (nat_lt (v / 4096) (w / 4096 + (m + 4095) / 4096) && nat_lt (w / 4096) (v / 4096 + (n + 4095) / 4096)) ≡ false
     → v + 4096 * ((n + 4095) / 4096) ≤ w
 apart_pages v w n m a b l k e =
     ⊎_elim
@@ -70,7 +74,8 @@ apart_pages v w n m a b l k e =
     (λ f. let h = ltb-false (w / 4096) (v / 4096 + (n + 4095) / 4096) f in omega arith)
     (and_cases (nat_lt (v / 4096) (w / 4096 + (m + 4095) / 4096)) (nat_lt (w / 4096) (v / 4096 + (n + 4095) / 4096)) e)
 
-one_section : (images : Images) (leaves : List ℕ) (x y : Placed) → IsIn x (sections_of images leaves) → IsIn y (sections_of images leaves) → same_numbers x y ≡ true → x.section ≡ y.section
+one_section : (images : Images) (leaves : List ℕ) (x y : Placed) → IsIn x (sections_of images leaves)
+    → IsIn y (sections_of images leaves) → same_numbers x y ≡ true → x.section ≡ y.section
 one_section images leaves x y i j e =
     let both = and_parts (nat_eq x.image y.image) (nat_eq x.number y.number) e in
     let image : x.image ≡ y.image = eqb-true x.image y.image both.0 in
@@ -78,40 +83,47 @@ one_section images leaves x y i j e =
     let from = comes_from images leaves x i in
     let to = comes_from images leaves y j in
     let same : from.image ≡ to.image = some_same (sym from.at ∙ ap (λ m. slice_get images.images m) image ∙ to.at) in
-    some_same (sym from.section ∙ ap (λ z. slice_get z.sections x.number) same ∙ ap (λ n. slice_get to.image.sections n) number ∙ to.section)
+    some_same (sym from.section ∙ ap (λ z. slice_get z.sections x.number) same ∙ ap (λ n. slice_get to.image.sections n) number
+    ∙ to.section)
   where
     some_same : {X : Type 0} {a b : X} → Some a ≡ Some b → a ≡ b
     some_same q = cc
 
 module _ (images : Images) (leaves : List ℕ) (h : AreApart images leaves) where
-  behind : (x y : Placed) → IsIn x (sections_of images leaves) → IsIn y (sections_of images leaves) → address x < address y → address x + 4096 * page_count x.section ≤ address y
+  behind : (x y : Placed) → IsIn x (sections_of images leaves) → IsIn y (sections_of images leaves) → address x < address y
+      → address x + 4096 * page_count x.section ≤ address y
   behind x y i j l =
       let s = sound_numbers x.section (h.sound x i) in
       let t = sound_numbers y.section (h.sound y j) in
       let clash = no_clash images leaves x y h i j in
       let two : same_numbers x y ≡ false =
-      ⊎_elim (λ e. absurd (omega (arith, l, ap (λ z. z.vaddr) (one_section images leaves x y i j e)))) (λ f. f) (cases_Bool (same_numbers x y)) in
+      ⊎_elim (λ e. absurd (omega (arith, l, ap (λ z. z.vaddr) (one_section images leaves x y i j e)))) (λ f. f)
+      (cases_Bool (same_numbers x y)) in
       let share : share_page x.section y.section ≡ false =
       ⊎_elim
-      (λ e. absurd (both_ways (clashes_with x y) clash (and_from (not (same_numbers x y)) (share_page x.section y.section) (ap (λ z. not z) two) e)))
+      (λ e. absurd (both_ways (clashes_with x y) clash (and_from (not (same_numbers x y)) (share_page x.section y.section)
+      (ap (λ z. not z) two) e)))
       (λ f. f)
       (cases_Bool (share_page x.section y.section)) in
       apart_pages x.section.vaddr y.section.vaddr x.section.size y.section.size s.page t.page l t.some share
 
-  across : (x y : Placed) (p q : SectionPage) → IsIn x (sections_of images leaves) → IsIn y (sections_of images leaves) → address x < address y → IsIn p (pages_of images x) → IsIn q (pages_of images y) → Precedes p q
+  across : (x y : Placed) (p q : SectionPage) → IsIn x (sections_of images leaves) → IsIn y (sections_of images leaves)
+      → address x < address y → IsIn p (pages_of images x) → IsIn q (pages_of images y) → Precedes p q
   across x y p q i j l m n =
       let a = from_page images x p m in
       let b = from_page images y q n in
       omega (arith, a.1, a.2, b.2, behind x y i j l)
 
   listed : (x : Placed) → IsIn x (by_address (sections_of images leaves)) → IsIn x (sections_of images leaves)
-  listed x i = in_permutation (sections_of images leaves) (by_address (sections_of images leaves)) x (order_moves (sections_of images leaves)) i
+  listed x i = in_permutation (sections_of images leaves) (by_address (sections_of images leaves)) x
+      (order_moves (sections_of images leaves)) i
 
   pub pages_rise : Later Precedes (section_pages images leaves)
   pages_rise =
       let all = sections_of images leaves in
       later_flat Precedes (pages_of images) (by_address all) (λ x i. pages_later images x)
-      (later_within (λ x y. address x < address y) (λ x y. (p q : SectionPage) → IsIn p (pages_of images x) → IsIn q (pages_of images y) → Precedes p q) (by_address all)
+      (later_within (λ x y. address x < address y) (λ x y. (p q : SectionPage) → IsIn p (pages_of images x)
+      → IsIn q (pages_of images y) → Precedes p q) (by_address all)
       (λ x y i j l p q m n. across x y p q (listed x i) (listed y j) l m n)
       (rises_in_order address all (by_address all) (addresses_differ images leaves h) (order_moves all) (order_climbs all)))
 
@@ -124,15 +136,24 @@ module _ (images : Images) (leaves : List ℕ) (h : AreApart images leaves) wher
   whole Arm11 = refl
   whole Aarch64 = refl
 
-  pub pages_inside : (arch : Arch) → ((x : Placed) → IsIn x (sections_of images leaves) → is_inside (sections_end arch) x.section ≡ true)
+  pub pages_inside : (arch : Arch) → ((x : Placed) → IsIn x (sections_of images leaves)
+      → is_inside (sections_end arch) x.section ≡ true)
       → All (λ p. (4096 ≤ p.vaddr) × (p.vaddr + 4096 ≤ sections_end arch)) (section_pages images leaves)
   pages_inside arch inside k d l =
       let pages = section_pages images leaves in
       let x = from_flat_map (pages_of images) (get_or pages k d) (by_address (sections_of images leaves)) (own_all pages k d l) in
       let i = listed x.0 x.1 in
       let s = sound_numbers x.0.section (h.sound x.0 i) in
-      let within = and_parts (leb 4096 x.0.section.vaddr) (leb (x.0.section.vaddr + x.0.section.size) (sections_end arch)) (inside x.0 i) in
+      let within = and_parts (leb 4096 x.0.section.vaddr) (leb (x.0.section.vaddr + x.0.section.size) (sections_end arch))
+      (inside x.0 i) in
       let low = leb-true 4096 x.0.section.vaddr within.0 in
       let high = leb-true (x.0.section.vaddr + x.0.section.size) (sections_end arch) within.1 in
-      let p = from_page images x.0 (get_or pages k d) x.2 in
-      (omega (arith, p.2, low), omega (arith, p.2, last_page x.0.section.vaddr x.0.section.size p.0 (sections_end arch) s.page (whole arch) high p.1))
+      let p = from_page images x.0 (get_or pages k d) x.2 in (
+        omega (arith, p.2, low),
+        omega (
+          arith,
+          p.2,
+          last_page x.0.section.vaddr x.0.section.size p.0 (sections_end arch) s.page
+              (whole arch) high p.1,
+        ),
+      )

@@ -12,7 +12,8 @@ use Rattle.source_images.specs.declared.images.Images.{Images}
 use Rattle.source_images.specs.declared.sections.Placed.{Placed as Given}
 use Rattle.sect_table.specs.declared.image.Image.{Image}
 
-pub told_push : (new old : List Given) (x : Given) → new ≡ old ++ x ∷ [] → sections_told new ≡ sections_told old ++ placed_told x ∷ []
+pub told_push : (new old : List Given) (x : Given) → new ≡ old ++ x ∷ [] → sections_told new ≡ sections_told old
+    ++ placed_told x ∷ []
 told_push new old x e = ap sections_told e ∙ map_push placed_told old x
 
 in_told : (x : Given) (xs : List Given) → IsIn x xs → IsIn (placed_told x) (sections_told xs)
@@ -31,14 +32,16 @@ pub record ComesFrom (images : Images) (leaves : List ℕ) (x : Placed) : Type 0
   pub at : slice_get images.images x.image ≡ Some image
   pub section : slice_get image.sections x.number ≡ Some x.section
 
-comes_if : (images : Images) (leaves : List ℕ) (x : Placed) (m : ℕ) (image : Image) (b : Bool) → is_run images leaves m ≡ b → slice_get images.images m ≡ Some image
+comes_if : (images : Images) (leaves : List ℕ) (x : Placed) (m : ℕ) (image : Image) (b : Bool) → is_run images leaves m ≡ b
+    → slice_get images.images m ≡ Some image
     → IsIn x (sections_if b m image) → ComesFrom images leaves x
 comes_if images leaves x m image false r e i = absurd i
 comes_if images leaves x m image true r e i =
     let k = from_gather (λ n section. placed m n section ∷ []) x image.sections i in
     by_hit k.0 k.1 k.2 k.3
   where
-    by_hit : (n : ℕ) (section : _) → slice_get image.sections n ≡ Some section → IsIn x (placed m n section ∷ []) → ComesFrom images leaves x
+    by_hit : (n : ℕ) (section : _) → slice_get image.sections n ≡ Some section → IsIn x (placed m n section ∷ [])
+        → ComesFrom images leaves x
     by_hit n section s (inl q) = subst (ComesFrom images leaves) q (record { run = r; image = image; at = e; section = s })
     by_hit n section s (inr q) = absurd q
 
@@ -50,8 +53,10 @@ comes_from images leaves x i =
 -- ---- elements that a slice gives
 
 -- the turn of a loop that appends what each section gives
-pub told_turn : {Y : Type 0} (f : Placed → List Y) (ps : List Given) (i : ℕ) (p : Given) (old new : List Y) → i < length ps → p ≡ get_or ps i p → new ≡ old ++ f (placed_told p)
+pub told_turn : {Y : Type 0} (f : Placed → List Y) (ps : List Given) (i : ℕ) (p : Given) (old new : List Y) → i < length ps
+    → p ≡ get_or ps i p → new ≡ old ++ f (placed_told p)
     → new ++ flat_map f (sections_told (drop (i + 1) ps)) ≡ old ++ flat_map f (sections_told (drop i ps))
 told_turn f ps i p old new l e n =
     let rest = flat_map f (sections_told (drop (i + 1) ps)) in
-    ap (λ z. z ++ rest) n ∙ append_assoc old (f (placed_told p)) rest ∙ ap (λ z. old ++ flat_map f (sections_told z)) (sym (drop_first ps i p l e))
+    ap (λ z. z ++ rest) n ∙ append_assoc old (f (placed_told p)) rest ∙ ap (λ z. old ++ flat_map f (sections_told z))
+    (sym (drop_first ps i p l e))

@@ -25,23 +25,28 @@ abbrev pub Later : {X : Type 0} → (X → X → Type 0) → List X → Type 0
 Later R [] = Unit {0}
 Later {X} R (x ∷ xs) = ((y : X) → IsIn y xs → R x y) × Later R xs
 
-pub later_within : {X : Type 0} (R S : X → X → Type 0) (xs : List X) → ((x y : X) → IsIn x xs → IsIn y xs → R x y → S x y) → Later R xs → Later S xs
+pub later_within : {X : Type 0} (R S : X → X → Type 0) (xs : List X) → ((x y : X) → IsIn x xs → IsIn y xs → R x y → S x y)
+    → Later R xs → Later S xs
 later_within R S [] h l = tt
-later_within R S (x ∷ xs) h l = ((λ y i. h x y (inl refl) (inr i) (l.0 y i)), later_within R S xs (λ y z i j. h y z (inr i) (inr j)) l.1)
+later_within R S (x ∷ xs) h l =
+    ((λ y i. h x y (inl refl) (inr i) (l.0 y i)), later_within R S xs (λ y z i j. h y z (inr i) (inr j)) l.1)
 
-pub later_append : {X : Type 0} (R : X → X → Type 0) (xs ys : List X) → Later R xs → Later R ys → ((x y : X) → IsIn x xs → IsIn y ys → R x y) → Later R (xs ++ ys)
+pub later_append : {X : Type 0} (R : X → X → Type 0) (xs ys : List X) → Later R xs → Later R ys
+    → ((x y : X) → IsIn x xs → IsIn y ys → R x y) → Later R (xs ++ ys)
 later_append R [] ys h k c = k
 later_append R (x ∷ xs) ys h k c = (
   λ y i. ⊎_elim (λ j. h.0 y j) (λ j. c x y (inl refl) j) (in_append y xs ys i),
   later_append R xs ys h.1 k (λ z y i j. c z y (inr i) j),
 )
 
-pub later_map : {X Y : Type 0} (f : X → Y) (R : Y → Y → Type 0) (xs : List X) → Later (λ x y. R (f x) (f y)) xs → Later R (map f xs)
+pub later_map : {X Y : Type 0} (f : X → Y) (R : Y → Y → Type 0) (xs : List X) → Later (λ x y. R (f x) (f y)) xs
+    → Later R (map f xs)
 later_map f R [] h = tt
 later_map f R (x ∷ xs) h = ((λ y i. let k = from_map f y xs i in subst (R (f x)) k.2 (h.0 k.0 k.1)), later_map f R xs h.1)
 
 -- where a tag tells which element of a list something was gathered from
-pub later_gather : {X Y : Type 0} (R : Y → Y → Type 0) (f : ℕ → X → List Y) (tag : Y → ℕ) (a : ℕ) (xs : List X) → ((k : ℕ) (x : X) (y : Y) → IsIn y (f k x) → tag y ≡ a + k)
+pub later_gather : {X Y : Type 0} (R : Y → Y → Type 0) (f : ℕ → X → List Y) (tag : Y → ℕ) (a : ℕ) (xs : List X)
+    → ((k : ℕ) (x : X) (y : Y) → IsIn y (f k x) → tag y ≡ a + k)
     → ((k : ℕ) (x : X) → Later R (f k x)) → ((y z : Y) → (tag y ≡ tag z → ⊥) → R y z) → Later R (gather f xs)
 later_gather R f tag a [] at each other = tt
 later_gather {X} {Y} R f tag a (x ∷ xs) at each other =
@@ -77,7 +82,12 @@ module _ {X : Type 0} (n : X → ℕ) where
 
   none_hit : (a : ℕ) (xs : List X) → ((y : X) → IsIn y xs → n y ≡ a → ⊥) → sum_by (hit a) xs ≡ 0
   none_hit a [] h = refl
-  none_hit a (x ∷ xs) h = omega (arith, sum_by-cons (hit a) x xs, hit_not a x (h x (inl refl)), none_hit a xs (λ y i. h y (inr i)))
+  none_hit a (x ∷ xs) h = omega (
+    arith,
+    sum_by-cons (hit a) x xs,
+    hit_not a x (h x (inl refl)),
+    none_hit a xs (λ y i. h y (inr i)),
+  )
 
   one_hit : (a : ℕ) (xs : List X) (y : X) → IsIn y xs → n y ≡ a → 1 ≤ sum_by (hit a) xs
   one_hit a [] y i e = absurd i
@@ -113,7 +123,10 @@ module _ {X : Type 0} (n : X → ℕ) where
 
   rises : (xs : List X) → Climbs xs → Differ xs → Rises xs
   rises [] h d = tt
-  rises (x ∷ xs) h d = ((λ y i. ⊎_elim (λ e. absurd (d.0 y i e)) (λ ne. below (h.0 y i) ne) (cases_eq (n x) (n y))), rises xs h.1 d.1)
+  rises (x ∷ xs) h d = (
+    (λ y i. ⊎_elim (λ e. absurd (d.0 y i e)) (λ ne. below (h.0 y i) ne) (cases_eq (n x) (n y))),
+    rises xs h.1 d.1,
+  )
     where
       below : {a b : ℕ} → a ≤ b → (a ≡ b → ⊥) → a < b
       below le ne = omega arith
@@ -128,7 +141,8 @@ module _ {X : Type 0} (n : X → ℕ) where
   heads x y xs ys r s (inr i) (inr j) = absurd (omega (arith, s.0 x i, r.0 y j))
 
   -- two that rise and have the same members are the same
-  same_rise : (xs ys : List X) → Rises xs → Rises ys → ((z : X) → IsIn z xs → IsIn z ys) → ((z : X) → IsIn z ys → IsIn z xs) → xs ≡ ys
+  same_rise : (xs ys : List X) → Rises xs → Rises ys → ((z : X) → IsIn z xs → IsIn z ys)
+      → ((z : X) → IsIn z ys → IsIn z xs) → xs ≡ ys
   same_rise [] [] r s to back = refl
   same_rise [] (y ∷ ys) r s to back = absurd (back y (inl refl))
   same_rise (x ∷ xs) [] r s to back = absurd (to x (inl refl))
@@ -140,7 +154,8 @@ module _ {X : Type 0} (n : X → ℕ) where
       (λ z i. ⊎_elim (λ e. absurd (omega (arith, s.0 z i, ap n first, ap n e))) (λ j. j) (back z (inr i))))
 
   -- two permutations of a list whose keys differ, each in the order of the keys, are the same
-  pub same_order : (all xs ys : List X) → Differ all → IsPermutation all xs → IsPermutation all ys → Climbs xs → Climbs ys → xs ≡ ys
+  pub same_order : (all xs ys : List X) → Differ all → IsPermutation all xs → IsPermutation all ys → Climbs xs
+      → Climbs ys → xs ≡ ys
   same_order all xs ys d p q c e =
       same_rise xs ys (rises_in_order all xs d p c) (rises_in_order all ys d q e)
       (λ z i. in_permutation ys all z (IsPermutation-sym all ys q) (in_permutation all xs z p i))

@@ -25,7 +25,8 @@ pub record AreNumbered (flat : Flat) (images : Images) : Type 0 where
 
 -- each section of each image is sound
 abbrev pub AreSound : Images → Type 0
-AreSound images = (m : ℕ) (image : Image) → slice_get images.images m ≡ Some image → (s : Section) → IsIn s image.sections → IsTrue (is_sound s)
+AreSound images = (m : ℕ) (image : Image) → slice_get images.images m ≡ Some image → (s : Section) → IsIn s image.sections
+    → IsTrue (is_sound s)
 
 -- the sections of the programs that leaves run are sound, and no program that one of them runs has a section that clashes
 pub record AreApart (images : Images) (leaves : List ℕ) : Type 0 where

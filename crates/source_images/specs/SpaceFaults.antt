@@ -33,7 +33,8 @@ fault_at c place name = record { code = c; place = place; name = name }
 -- of an image that a leaf at this place runs, where it is known whether it clashes
 abbrev pub image_faults : ℕ → Place → Bool → Image → List Fault
 image_faults end place clashing image =
-    where_true clashing (fault_at code.SectionOverlap place image.name) ++ where_true (is_outside end image) (fault_at code.Window place image.name)
+    where_true clashing (fault_at code.SectionOverlap place image.name) ++ where_true (is_outside end image)
+    (fault_at code.Window place image.name)
 
 abbrev pub numbered_faults : Images → (ℕ → Bool) → Place → Option ℕ → List Fault
 numbered_faults images clashing place None = []

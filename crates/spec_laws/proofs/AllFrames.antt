@@ -54,7 +54,8 @@ shared_is Interrupt h = cc
 shared_is Direct h = cc
 
 -- what is given if a test passes
-given_if : {X : Type 0} (b : Bool) (xs : List X) (j : ℕ) (x : X) → slice_get (cond b xs []) j ≡ Some x → (b ≡ true) × (slice_get xs j ≡ Some x)
+given_if : {X : Type 0} (b : Bool) (xs : List X) (j : ℕ) (x : X) → slice_get (cond b xs []) j ≡ Some x
+    → (b ≡ true) × (slice_get xs j ≡ Some x)
 given_if true xs j x e = (refl, e)
 given_if false xs j x e = cc
 
@@ -62,7 +63,8 @@ given_if false xs j x e = cc
 shared_of : (t : Tables) (k j : ℕ) (c : FlatConnection) → j < length (shared_frames t.settled k c) → c.connector ≡ SharedMemory
 shared_of t k j c l = by_test (is_shared c.connector) refl l
   where
-    by_test : (b : Bool) → is_shared c.connector ≡ b → j < length (cond b (connection_frames k (memory_pages t.settled k c)) []) → c.connector ≡ SharedMemory
+    by_test : (b : Bool) → is_shared c.connector ≡ b → j < length (cond b (connection_frames k (memory_pages t.settled k c)) [])
+        → c.connector ≡ SharedMemory
     by_test true e l = shared_is c.connector e
     by_test false e l = absurd (omega (arith, l))
 
@@ -81,8 +83,17 @@ module _ (t : Tables) (can : CanMap t) where
     at : IsAt (spec_of t) (root_of t domain) v cap
     is : cap.object ≡ frames_from t + f
 
-  of_page : (f d n : ℕ) (x : Domain) (p : MappedPage) → slice_get t.flat.domains d ≡ Some x → slice_get (mapped_pages (system t) d) n ≡ Some p → number_shown (system t) d n p.shown ≡ f → IsMapped f
-  of_page f d n x p h e same = record { domain = d; v = p.at; leaves = x; cap = page_cap t can d x h n p; here = h; at = is_at t can d x h p.at n p e refl; is = ap (λ z. frames_from t + z) same }
+  of_page : (f d n : ℕ) (x : Domain) (p : MappedPage) → slice_get t.flat.domains d ≡ Some x
+      → slice_get (mapped_pages (system t) d) n ≡ Some p → number_shown (system t) d n p.shown ≡ f → IsMapped f
+  of_page f d n x p h e same = record {
+    domain = d;
+    v = p.at;
+    leaves = x;
+    cap = page_cap t can d x h n p;
+    here = h;
+    at = is_at t can d x h p.at n p e refl;
+    is = ap (λ z. frames_from t + z) same;
+  }
 
   -- ---- own frames
 
@@ -93,8 +104,11 @@ module _ (t : Tables) (can : CanMap t) where
       let b = from_place (own_of a.place) (mapped_pages s a.place) a.number info a.stands in
       by_shown a.place a.item a.here b.place b.item b.here b.item.shown refl a.number b.number b.stands a.sum b.sum
     where
-      by_shown : (d : ℕ) (x : Domain) → slice_get t.flat.domains d ≡ Some x → (n : ℕ) (p : MappedPage) → slice_get (mapped_pages (system t) d) n ≡ Some p → (w : Shown) → p.shown ≡ w → (i j : ℕ) → slice_get (own_frame d p.shown) j ≡ Some info
-          → f ≡ before (own_frames (system t)) t.flat.domains d + i → i ≡ before (own_of d) (mapped_pages (system t) d) n + j → IsMapped f
+      by_shown : (d : ℕ) (x : Domain) → slice_get t.flat.domains d ≡ Some x → (n : ℕ) (p : MappedPage)
+          → slice_get (mapped_pages (system t) d) n ≡ Some p → (w : Shown) → p.shown ≡ w → (i j : ℕ)
+          → slice_get (own_frame d p.shown) j ≡ Some info
+          → f ≡ before (own_frames (system t)) t.flat.domains d + i → i ≡ before (own_of d) (mapped_pages (system t) d) n + j
+          → IsMapped f
       by_shown d x h n p g (Own fill) w i j k u v =
           let l = below (own_frame d p.shown) j info k in
           let long : length (own_frame d p.shown) ≡ 1 = ap (λ z. length (own_frame d z)) w in
@@ -108,16 +122,20 @@ module _ (t : Tables) (can : CanMap t) where
 
   -- ---- memory
 
-  of_memory : (k j : ℕ) (c : FlatConnection) → slice_get t.flat.connections k ≡ Some c → (c.connector ≡ Mmio) ⊎ (c.connector ≡ SharedMemory) → j < memory_pages t.settled k c → IsMapped (memory_number (system t) k j)
+  of_memory : (k j : ℕ) (c : FlatConnection) → slice_get t.flat.connections k ≡ Some c
+      → (c.connector ≡ Mmio) ⊎ (c.connector ≡ SharedMemory) → j < memory_pages t.settled k c
+      → IsMapped (memory_number (system t) k j)
   of_memory k j c h kind l =
       let s = system t in
       let w = can.memory.seen k c h kind in
       let r = window_region t.flat t.settled w.1 in
-      let n = place_of r (regions s w.0) (in_right r _ (map (window_region t.flat t.settled) (windows_of s w.0)) (in_map (window_region t.flat t.settled) w.1 (windows_of s w.0) w.2)) in
+      let n = place_of r (regions s w.0) (in_right r _ (map (window_region t.flat t.settled) (windows_of s w.0))
+      (in_map (window_region t.flat t.settled) w.1 (windows_of s w.0) w.2)) in
       let x = in_domain t w.0 n.0 r n.1 in
       let P : ℕ → Type 0 = λ z. slice_get t.flat.connections z ≡ Some c in
       let here = subst P (sym w.3) h in
-      let pages : r.pages ≡ memory_pages t.settled k c = ap (λ o. option_map_or (memory_pages t.settled w.1.connection) o 0) here ∙ ap (λ z. memory_pages t.settled z c) w.3 in
+      let pages : r.pages ≡ memory_pages t.settled k c = ap (λ o. option_map_or (memory_pages t.settled w.1.connection) o 0) here
+      ∙ ap (λ z. memory_pages t.settled z c) w.3 in
       let at = begins t w.0 n.0 + 4096 * j in
       let p : IsRegionPage t w.0 n.0 at j r = record { here = n.1; within = omega (arith, pages, l); at = refl } in
       let q = region_page t.settled (Window w.1) at j in
@@ -127,7 +145,8 @@ module _ (t : Tables) (can : CanMap t) where
   number_is : (f g : ℕ) → IsMapped f → f ≡ g → IsMapped g
   number_is f g m e = subst IsMapped e m
 
-  of_shared : (f m : ℕ) (info : FrameInfo) → f ≡ length (own_part (system t)) + m → slice_get (shared_part t.flat t.settled) m ≡ Some info → IsMapped f
+  of_shared : (f m : ℕ) (info : FrameInfo) → f ≡ length (own_part (system t)) + m
+      → slice_get (shared_part t.flat t.settled) m ≡ Some info → IsMapped f
   of_shared f m info u e =
       let a = from_place (shared_frames t.settled) t.flat.connections m info e in
       let k = a.place in
@@ -140,38 +159,50 @@ module _ (t : Tables) (can : CanMap t) where
       let within : a.number < memory_pages t.settled k c = omega (arith, l, long) in
       by_place k a.number c a.here kind within (memory_at t can k a.number c a.here (inl kind) within) a.sum
     where
-      by_place : (k j : ℕ) (c : FlatConnection) → slice_get t.flat.connections k ≡ Some c → c.connector ≡ SharedMemory → j < memory_pages t.settled k c → MemoryPlace t k j c → m ≡ before (shared_frames t.settled) t.flat.connections k + j → IsMapped f
-      by_place k j c h kind l (MemoryPlace.at_shared n b) s = number_is (memory_number (system t) k j) f (of_memory k j c h (inr kind) l) (omega (arith, n, s, u))
+      by_place : (k j : ℕ) (c : FlatConnection) → slice_get t.flat.connections k ≡ Some c → c.connector ≡ SharedMemory
+          → j < memory_pages t.settled k c → MemoryPlace t k j c → m ≡ before (shared_frames t.settled) t.flat.connections k + j
+          → IsMapped f
+      by_place k j c h kind l (MemoryPlace.at_shared n b) s = number_is (memory_number (system t) k j) f
+          (of_memory k j c h (inr kind) l) (omega (arith, n, s, u))
       by_place k j c h kind l (MemoryPlace.at_device p r q n b) s =
           let none : registers c ≡ None = ap (λ z. registers_in z c.ends) kind in
           let no = sym none ∙ r in
           cc
 
-  of_registers : (f m : ℕ) (info : FrameInfo) → f ≡ length (own_part (system t)) + (length (shared_part t.flat t.settled) + m) → slice_get (register_part t.flat t.settled) m ≡ Some info → IsMapped f
+  of_registers : (f m : ℕ) (info : FrameInfo) → f ≡ length (own_part (system t)) + (length (shared_part t.flat t.settled) + m)
+      → slice_get (register_part t.flat t.settled) m ≡ Some info → IsMapped f
   of_registers f m info u e =
       let a = from_place (register_frames t.flat t.settled) t.flat.connections m info e in
       by_registers a.place a.number a.item a.here (registers a.item) refl a.stands a.sum
     where
-      by_place : (k j : ℕ) (c : FlatConnection) (p : FlatEnd) → slice_get t.flat.connections k ≡ Some c → c.connector ≡ Mmio → registers c ≡ Some p → first_to t.flat p ≡ Some k → j < memory_pages t.settled k c → MemoryPlace t k j c
+      by_place : (k j : ℕ) (c : FlatConnection) (p : FlatEnd) → slice_get t.flat.connections k ≡ Some c → c.connector ≡ Mmio
+          → registers c ≡ Some p → first_to t.flat p ≡ Some k → j < memory_pages t.settled k c → MemoryPlace t k j c
           → m ≡ before (register_frames t.flat t.settled) t.flat.connections k + j → IsMapped f
-      by_place k j c p h kind r first l (MemoryPlace.at_shared n b) s = let no : SharedMemory ≡ Mmio = sym (shared_of t k j c b) ∙ kind in cc
+      by_place k j c p h kind r first l (MemoryPlace.at_shared n b) s = let no : SharedMemory ≡ Mmio =
+          sym (shared_of t k j c b) ∙ kind in cc
       by_place k j c p h kind r first l (MemoryPlace.at_device x q y n b) s =
           let port : x ≡ p = some (registers c) x p q r in
-          let number : y.number ≡ k = some (first_to t.flat p) y.number k (ap (λ z. first_to t.flat z) (sym port) ∙ y.first) first in
-          let front : before (register_frames t.flat t.settled) t.flat.connections y.number ≡ before (register_frames t.flat t.settled) t.flat.connections k = ap (λ z. before (register_frames t.flat t.settled) t.flat.connections z) number in
+          let number : y.number ≡ k = some (first_to t.flat p) y.number k (ap (λ z. first_to t.flat z) (sym port)
+          ∙ y.first) first in
+          let front : before (register_frames t.flat t.settled) t.flat.connections y.number ≡ before
+          (register_frames t.flat t.settled) t.flat.connections k =
+          ap (λ z. before (register_frames t.flat t.settled) t.flat.connections z) number in
           number_is (memory_number (system t) k j) f (of_memory k j c h (inl kind) l) (omega (arith, n, s, u, front))
 
-      by_registers : (k j : ℕ) (c : FlatConnection) → slice_get t.flat.connections k ≡ Some c → (o : Option FlatEnd) → registers c ≡ o → slice_get (register_frames t.flat t.settled k c) j ≡ Some info
+      by_registers : (k j : ℕ) (c : FlatConnection) → slice_get t.flat.connections k ≡ Some c → (o : Option FlatEnd)
+          → registers c ≡ o → slice_get (register_frames t.flat t.settled k c) j ≡ Some info
           → m ≡ before (register_frames t.flat t.settled) t.flat.connections k + j → IsMapped f
       by_registers k j c h None r g s =
           let P : List FrameInfo → Type 0 = λ z. slice_get z j ≡ Some info in
-          let none : register_frames t.flat t.settled k c ≡ [] = ap (λ o. option_map_or (frames_at t.flat t.settled k c) o []) r in
+          let none : register_frames t.flat t.settled k c ≡ [] =
+          ap (λ o. option_map_or (frames_at t.flat t.settled k c) o []) r in
           let no = subst P none g in
           cc
       by_registers k j c h (Some p) r g s =
           let P : List FrameInfo → Type 0 = λ z. slice_get z j ≡ Some info in
           let list = map (register_frame t.settled k c p) (range_with_len 0 (memory_pages t.settled k c)) in
-          let have : register_frames t.flat t.settled k c ≡ cond (is_first t.flat k p) list [] = ap (λ o. option_map_or (frames_at t.flat t.settled k c) o []) r in
+          let have : register_frames t.flat t.settled k c ≡ cond (is_first t.flat k p) list [] =
+          ap (λ o. option_map_or (frames_at t.flat t.settled k c) o []) r in
           let q = given_if (is_first t.flat k p) list j info (subst P have g) in
           let l = below list j info q.1 in
           let long = as_long (register_frame t.settled k c p) 0 (memory_pages t.settled k c) in

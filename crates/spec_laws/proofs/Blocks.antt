@@ -5,7 +5,8 @@ use Rattle.std.proofs.lemmas.Bool.{cases_lt}
 use Rattle.cam_base.specs.Gather.{before, gather}
 use Rattle.cam_base.proofs.Gathered.{length_append}
 
-pub behind : {X Y : Type 0} (f : ℕ → X → List Y) (xs : List X) (a b : ℕ) (x : X) → slice_get xs a ≡ Some x → a < b → before f xs a + length (f a x) ≤ before f xs b
+pub behind : {X Y : Type 0} (f : ℕ → X → List Y) (xs : List X) (a b : ℕ) (x : X) → slice_get xs a ≡ Some x → a < b
+    → before f xs a + length (f a x) ≤ before f xs b
 behind f [] a b x e l = cc
 behind f (y ∷ xs) a zero x e l = absurd (omega (arith, l))
 behind {X} f (y ∷ xs) zero (suc b) x e l =
@@ -20,7 +21,8 @@ behind {X} f (y ∷ xs) (suc a) (suc b) x e l =
     let high = length_append (f 0 y) (gather g (take b xs)) in
     omega (arith, ih, low, high)
 
-pub inside : {X Y : Type 0} (f : ℕ → X → List Y) (xs : List X) (a : ℕ) (x : X) → slice_get xs a ≡ Some x → before f xs a + length (f a x) ≤ length (gather f xs)
+pub inside : {X Y : Type 0} (f : ℕ → X → List Y) (xs : List X) (a : ℕ) (x : X) → slice_get xs a ≡ Some x
+    → before f xs a + length (f a x) ≤ length (gather f xs)
 inside f [] a x e = cc
 inside f (y ∷ xs) zero x e =
     let same : x ≡ y = cc in
@@ -34,7 +36,9 @@ inside {X} f (y ∷ xs) (suc a) x e =
     let high = length_append (f 0 y) (gather g xs) in
     omega (arith, ih, low, high)
 
-pub apart : {X Y : Type 0} (f : ℕ → X → List Y) (xs : List X) (a b i j : ℕ) (x y : X) → slice_get xs a ≡ Some x → slice_get xs b ≡ Some y → i < length (f a x) → j < length (f b y) → before f xs a + i ≡ before f xs b + j → (a ≡ b) × (i ≡ j)
+pub apart : {X Y : Type 0} (f : ℕ → X → List Y) (xs : List X) (a b i j : ℕ) (x y : X) → slice_get xs a ≡ Some x
+    → slice_get xs b ≡ Some y → i < length (f a x) → j < length (f b y) → before f xs a + i ≡ before f xs b + j
+    → (a ≡ b) × (i ≡ j)
 apart f xs a b i j x y d e k l same = elim (cases_lt a b) [
   | inl h ↦ let m = behind f xs a b x d h in absurd (omega (arith, m, k, same))
   | inr h ↦ elim (cases_lt b a) [

@@ -12,11 +12,13 @@ use Rattle.page_tables.specs.Shapes.{span}
 use Rattle.spec_laws.proofs.Totals.{total, total_append, totals}
 
 -- each mapping is in one run
-in_front : (s : ℕ) (x : Mapping) (rs : List (List Mapping)) → total (λ (r : List Mapping). length r) (put_front s x rs) ≡ 1 + total (λ (r : List Mapping). length r) rs
+in_front : (s : ℕ) (x : Mapping) (rs : List (List Mapping))
+    → total (λ (r : List Mapping). length r) (put_front s x rs) ≡ 1 + total (λ (r : List Mapping). length r) rs
 in_front s x [] = refl
 in_front s x (r ∷ rs) = by_test (under s x r)
   where
-    by_test : (b : Bool) → total (λ (r : List Mapping). length r) (cond b ((x ∷ r) ∷ rs) ((x ∷ []) ∷ r ∷ rs)) ≡ 1 + total (λ (r : List Mapping). length r) (r ∷ rs)
+    by_test : (b : Bool) → total (λ (r : List Mapping). length r) (cond b ((x ∷ r) ∷ rs) ((x ∷ []) ∷ r ∷ rs)) ≡ 1 + total
+        (λ (r : List Mapping). length r) (r ∷ rs)
     by_test true = omega arith
     by_test false = omega arith
 
@@ -24,11 +26,13 @@ in_runs : (s : ℕ) (xs : List Mapping) → total (λ (r : List Mapping). length
 in_runs s [] = refl
 in_runs s (x ∷ xs) = let a = in_front s x (runs s xs) in let ih = in_runs s xs in omega (arith, a, ih)
 
-of_tables : (l : Shape) (link : ℕ) (rs : List (List Mapping)) → total caps_of (map (table_of l link) rs) ≡ total (λ (r : List Mapping). length r) rs
+of_tables : (l : Shape) (link : ℕ) (rs : List (List Mapping)) → total caps_of (map (table_of l link) rs) ≡ total
+    (λ (r : List Mapping). length r) rs
 of_tables l link [] = refl
 of_tables l link (r ∷ rs) = let ih = of_tables l link rs in let m = length-map r (slot_of l link) in omega (arith, ih, m)
 
-pub of_levels : (ls : List Shape) (xs : List Mapping) (first link : ℕ) → total caps_of (numbered first link (layers ls xs)) ≤ length xs + sizes (layers ls xs)
+pub of_levels : (ls : List Shape) (xs : List Mapping) (first link : ℕ)
+    → total caps_of (numbered first link (layers ls xs)) ≤ length xs + sizes (layers ls xs)
 of_levels [] xs first link = omega arith
 of_levels (l ∷ ls) xs first link =
     let rs = runs (span l) xs in
@@ -42,7 +46,8 @@ of_levels (l ∷ ls) xs first link =
     omega (arith, ih, ones, here, both)
 
 -- looked up one behind another, all are counted
-pub looked_up : {X Y : Type 0} (g : X → ℕ) (d : X) (ys : List Y) (xs : List X) → length ys ≡ length xs → totals (λ j (y : Y). g (slice_index_or xs j d)) ys ≡ total g xs
+pub looked_up : {X Y : Type 0} (g : X → ℕ) (d : X) (ys : List Y) (xs : List X) → length ys ≡ length xs
+    → totals (λ j (y : Y). g (slice_index_or xs j d)) ys ≡ total g xs
 looked_up g d [] [] h = refl
 looked_up g d [] (x ∷ xs) h = absurd (omega (arith, h))
 looked_up g d (y ∷ ys) [] h = absurd (omega (arith, h))

@@ -40,7 +40,8 @@ use Rattle.spec_laws.proofs.Uses.{HasSlot, IsEnd, IsUse, is_use}
 
 high_bits : (n b m : ℕ) → bits_from n b m ≤ b + m
 high_bits n b zero = omega arith
-high_bits n b (suc m) = cond_both (nat_lt n (2 ^ b)) b (bits_from n (b + 1) m) (λ r. r ≤ b + suc m) (λ e. omega arith) (λ e. let l : bits_from n (b + 1) m ≤ (b + 1) + m = high_bits n (b + 1) m in omega arith)
+high_bits n b (suc m) = cond_both (nat_lt n (2 ^ b)) b (bits_from n (b + 1) m) (λ r. r ≤ b + suc m) (λ e. omega arith)
+    (λ e. let l : bits_from n (b + 1) m ≤ (b + 1) + m = high_bits n (b + 1) m in omega arith)
 
 bits_few : (n : ℕ) → bits_for n ≤ 16
 unfolding bits_for
@@ -48,11 +49,13 @@ bits_few n = high_bits n 1 15
 
 -- ---- slots
 
-slots_rise : {A : Type 0} (g : ℕ → ℕ) (f : ℕ → SlotUse → A) (us : List SlotUse) → ((n : ℕ) → g n < g (suc n)) → rise (gather (λ n u. (g n, f n u) ∷ []) us) ≡ true
+slots_rise : {A : Type 0} (g : ℕ → ℕ) (f : ℕ → SlotUse → A) (us : List SlotUse) → ((n : ℕ) → g n < g (suc n))
+    → rise (gather (λ n u. (g n, f n u) ∷ []) us) ≡ true
 slots_rise g f [] h = refl
 slots_rise g f (u ∷ []) h = refl
 slots_rise g f (u ∷ v ∷ us) h =
-    and_from (nat_lt (g 0) (g 1)) _ (lt-ltb (g 0) (g 1) (h 0)) (slots_rise (λ n. g (suc n)) (λ n x. f (suc n) x) (v ∷ us) (λ n. h (suc n)))
+    and_from (nat_lt (g 0) (g 1)) _ (lt-ltb (g 0) (g 1) (h 0)) (slots_rise (λ n. g (suc n)) (λ n x. f (suc n) x) (v ∷ us)
+    (λ n. h (suc n)))
 
 pub all_pass : {A : Type 0} (test : A → Bool) (xs : List A) → ((x : A) → IsIn x xs → test x ≡ true) → list_all test xs ≡ true
 all_pass test [] h = refl
@@ -64,18 +67,24 @@ all_pass test (x ∷ xs) h = and_from (test x) (list_all test xs) (h x (inl refl
 abbrev pub Suits : Kind → Rights → ℕ → Type 0
 Suits kind r b = (within r (kind_rights kind) ≡ true) × (has_badge kind || b == 0 ≡ true)
 
-pub is_at_of : (t : Tables) (w : What) (kind like : Kind) → IsThere t w → kind_of_object (object t w) ≡ kind → is_kind (Some kind) like ≡ true → is_at (spec_of t) like (place t w) ≡ true
+pub is_at_of : (t : Tables) (w : What) (kind like : Kind) → IsThere t w → kind_of_object (object t w) ≡ kind
+    → is_kind (Some kind) like ≡ true → is_at (spec_of t) like (place t w) ≡ true
 is_at_of t w kind like h k same = ap (λ x. is_kind x like) (kind_there t w h ∙ ap (λ z. Some z) k) ∙ same
 
 -- by the kind of the object
-pub fits_of : (t : Tables) (w : What) (kind : Kind) (r : Rights) (b : ℕ) → IsThere t w → kind_of_object (object t w) ≡ kind → Suits kind r b → fits (spec_of t) (cap (place t w) r b) ≡ true
+pub fits_of : (t : Tables) (w : What) (kind : Kind) (r : Rights) (b : ℕ) → IsThere t w → kind_of_object (object t w) ≡ kind
+    → Suits kind r b → fits (spec_of t) (cap (place t w) r b) ≡ true
 fits_of t w kind r b h k s =
-    ap (λ x. fits_kind x (cap (place t w) r b)) (kind_there t w h ∙ ap (λ z. Some z) k) ∙ and_from (within r (kind_rights kind)) (has_badge kind || b == 0) s.0 s.1
+    ap (λ x. fits_kind x (cap (place t w) r b)) (kind_there t w h ∙ ap (λ z. Some z) k) ∙ and_from (within r (kind_rights kind))
+    (has_badge kind || b == 0) s.0 s.1
 
 -- also as a capability to an object of a kind
-pub fits_as_of : (t : Tables) (w : What) (kind like : Kind) (r : Rights) (b : ℕ) → IsThere t w → kind_of_object (object t w) ≡ kind → is_kind (Some kind) like ≡ true → Suits kind r b → fits_as (spec_of t) like (cap (place t w) r b) ≡ true
+pub fits_as_of : (t : Tables) (w : What) (kind like : Kind) (r : Rights) (b : ℕ) → IsThere t w
+    → kind_of_object (object t w) ≡ kind → is_kind (Some kind) like ≡ true → Suits kind r b
+    → fits_as (spec_of t) like (cap (place t w) r b) ≡ true
 fits_as_of t w kind like r b h k same s =
-    and_from (is_at (spec_of t) like (place t w)) (fits (spec_of t) (cap (place t w) r b)) (is_at_of t w kind like h k same) (fits_of t w kind r b h k s)
+    and_from (is_at (spec_of t) like (place t w)) (fits (spec_of t) (cap (place t w) r b)) (is_at_of t w kind like h k same)
+    (fits_of t w kind r b h k s)
 
 module _ (t : Tables) where
   abbrev Fits : What → Rights → ℕ → Type 0
@@ -84,24 +93,36 @@ module _ (t : Tables) where
   pub joint_is : (k : ℕ) (c : FlatConnection) → slice_get t.flat.connections k ≡ Some c → joint t k ≡ joint_by k c.connector
   joint_is k c h = ap (λ x. option_map_or (λ c. joint_by k c.connector) x (NotificationOf k)) h
 
-  pub end_is : (k n : ℕ) (c : FlatConnection) (e : FlatEnd) → slice_get t.flat.connections k ≡ Some c → slice_get c.ends n ≡ Some e → end_of t.flat k n ≡ Some (c.connector, e)
+  pub end_is : (k n : ℕ) (c : FlatConnection) (e : FlatEnd) → slice_get t.flat.connections k ≡ Some c
+      → slice_get c.ends n ≡ Some e → end_of t.flat k n ≡ Some (c.connector, e)
   end_is k n c e h s = ap (λ x. option_and_then (end_in n) x) h ∙ ap (λ x. option_map (λ e. (c.connector, e)) x) s
 
-  pub rights_are : (k n : ℕ) (c : FlatConnection) (e : FlatEnd) → slice_get t.flat.connections k ≡ Some c → slice_get c.ends n ≡ Some e → rights_at t k n ≡ end_rights c.connector e.role
+  pub rights_are : (k n : ℕ) (c : FlatConnection) (e : FlatEnd) → slice_get t.flat.connections k ≡ Some c
+      → slice_get c.ends n ≡ Some e → rights_at t k n ≡ end_rights c.connector e.role
   rights_are k n c e h s = ap (λ x. option_map_or (λ e. end_rights e.0 e.1.role) x NONE) (end_is k n c e h s)
 
   end_fits : (k n : ℕ) → IsEnd t.flat.connections k n → Fits (joint t k) (rights_at t k n) (badge_at t k n)
   end_fits k n i =
       subst (λ w. Fits w (rights_at t k n) (badge_at t k n)) (sym (joint_is k i.connection i.here))
-      (subst (λ r. Fits (joint_by k i.connection.connector) r (badge_at t k n)) (sym (rights_are k n i.connection i.end i.here i.stands))
+      (subst (λ r. Fits (joint_by k i.connection.connector) r (badge_at t k n))
+      (sym (rights_are k n i.connection i.end i.here i.stands))
       (by_kind i.connection.connector i.end.role refl i.slot))
     where
-      by_kind : (x : Connector) (r : Role) → i.connection.connector ≡ x → HasSlot x r → Fits (joint_by k x) (end_rights x r) (badge_at t k n)
-      by_kind Rpc From q s = fits_of t (EndpointOf k) kinds.Endpoint (end_rights Rpc From) (badge_at t k n) (i.connection, i.here, q) refl (refl, refl)
-      by_kind Rpc To q s = fits_of t (EndpointOf k) kinds.Endpoint (end_rights Rpc To) (badge_at t k n) (i.connection, i.here, q) refl (refl, refl)
-      by_kind Notification From q s = fits_of t (NotificationOf k) kinds.Notification (end_rights Notification From) (badge_at t k n) (i.connection, i.here, inl q) refl (refl, refl)
-      by_kind Notification To q s = fits_of t (NotificationOf k) kinds.Notification (end_rights Notification To) (badge_at t k n) (i.connection, i.here, inl q) refl (refl, refl)
-      by_kind Interrupt To q s = fits_of t (NotificationOf k) kinds.Notification (end_rights Interrupt To) (badge_at t k n) (i.connection, i.here, inr q) refl (refl, refl)
+      by_kind : (x : Connector) (r : Role) → i.connection.connector ≡ x → HasSlot x r
+          → Fits (joint_by k x) (end_rights x r) (badge_at t k n)
+      by_kind Rpc From q s = fits_of t (EndpointOf k) kinds.Endpoint (end_rights Rpc From) (badge_at t k n) (
+        i.connection,
+        i.here,
+        q,
+      ) refl (refl, refl)
+      by_kind Rpc To q s = fits_of t (EndpointOf k) kinds.Endpoint (end_rights Rpc To) (badge_at t k n) (i.connection, i.here, q)
+          refl (refl, refl)
+      by_kind Notification From q s = fits_of t (NotificationOf k) kinds.Notification (end_rights Notification From)
+          (badge_at t k n) (i.connection, i.here, inl q) refl (refl, refl)
+      by_kind Notification To q s = fits_of t (NotificationOf k) kinds.Notification (end_rights Notification To) (badge_at t k n)
+          (i.connection, i.here, inl q) refl (refl, refl)
+      by_kind Interrupt To q s = fits_of t (NotificationOf k) kinds.Notification (end_rights Interrupt To) (badge_at t k n)
+          (i.connection, i.here, inr q) refl (refl, refl)
       by_kind Interrupt From q s = absurd s
       by_kind SharedMemory r q s = absurd s
       by_kind Mmio r q s = absurd s
@@ -111,7 +132,8 @@ module _ (t : Tables) where
     use_fits : (n : ℕ) (u : SlotUse) → slice_get (uses_at t d) n ≡ Some u → fits (spec_of t) (use_cap t d n u) ≡ true
     use_fits n u s = by_use u s (is_use t fit.laid d x here n u s)
       where
-        by_use : (u : SlotUse) → slice_get (uses_at t d) n ≡ Some u → IsUse t.flat.connections u → fits (spec_of t) (use_cap t d n u) ≡ true
+        by_use : (u : SlotUse) → slice_get (uses_at t d) n ≡ Some u → IsUse t.flat.connections u
+            → fits (spec_of t) (use_cap t d n u) ≡ true
         by_use (OfEnd k m) s i = end_fits k m i
         by_use (Handler k m) s i = fits_of t (IrqOf k) kinds.Irq NONE 0 i refl (refl, refl)
         by_use (OwnLock leaf m) s i = fits_of t (LockOf d n) kinds.Notification RW 0 ((x, here), (leaf, m, s)) refl (refl, refl)
@@ -134,7 +156,8 @@ module _ (t : Tables) where
               let below = slice_get_within (uses_at t d) g.0 g.1 g.2 in
               let enough = (least (length (uses_at t d)) (fit.domains d x here).slots).above in
               let few : g.0 + 1 < 2 ^ bits = omega (arith, below, enough) in
-              subst (λ (z : Slot). test z ≡ true) same (and_from (nat_lt (g.0 + 1) (2 ^ bits)) (fits (spec_of t) (use_cap t d g.0 g.1)) (lt-ltb (g.0 + 1) (2 ^ bits) few) (use_fits g.0 g.1 g.2))
+              subst (λ (z : Slot). test z ≡ true) same (and_from (nat_lt (g.0 + 1) (2 ^ bits))
+              (fits (spec_of t) (use_cap t d g.0 g.1)) (lt-ltb (g.0 + 1) (2 ^ bits) few) (use_fits g.0 g.1 g.2))
           | inr none ↦ absurd none
         ]
 
@@ -143,5 +166,7 @@ module _ (t : Tables) where
         let slots = slots_at t d in
         let some = (least (length (uses_at t d)) (fit.domains d x here).slots).some in
         and_from (nat_lt 0 bits && leb bits 16) (keeps_slots (fits (spec_of t)) (2 ^ bits) slots)
-        (and_from (nat_lt 0 bits) (leb bits 16) (lt-ltb 0 bits (omega (arith, some))) (le-leb bits 16 (bits_few (length (uses_at t d)))))
-        (and_from (rise slots) (list_all test slots) (slots_rise (λ n. n + 1) (λ n u. use_cap t d n u) (uses_at t d) (λ n. omega arith)) (all_pass test slots slot_fits))
+        (and_from (nat_lt 0 bits) (leb bits 16) (lt-ltb 0 bits (omega (arith, some)))
+        (le-leb bits 16 (bits_few (length (uses_at t d)))))
+        (and_from (rise slots) (list_all test slots) (slots_rise (λ n. n + 1) (λ n u. use_cap t d n u) (uses_at t d)
+        (λ n. omega arith)) (all_pass test slots slot_fits))

@@ -47,7 +47,8 @@ component_named c w =
     let is : c.id.name ≡ named word.0.text = ap (λ (z : Component). z.id.name) p.1 ∙ ap (λ (z : Id). z.name) word.1 in
     subst P (sym is) (named_is word.0.text)
 
-pub components_named : (s : Source) → AreFilesShort s → (c : ItemAt × Component) → IsIn c (components s) → is_name c.1.id.name ≡ true
+pub components_named : (s : Source) → AreFilesShort s → (c : ItemAt × Component) → IsIn c (components s)
+    → is_name c.1.id.name ≡ true
 components_named s short c i =
     let x = component_item s c i in
     let P : Item → Type 0 = λ y. IsOne item_line y in
@@ -61,7 +62,8 @@ name_there s c i =
     let e = item_at s x.0 x.1 in
     by_item x.0 x.2 (ap (λ (o : Option Ended). option_map_or (λ (z : Ended). name_of_item z.item) o []) e.1 ∙ ap name_of_item e.2)
   where
-    by_item : (y : ItemAt × Item) → as_component y ≡ Some c → component_name s y.0 ≡ name_of_item y.1 → component_name s c.0 ≡ c.1.id.name
+    by_item : (y : ItemAt × Item) → as_component y ≡ Some c → component_name s y.0 ≡ name_of_item y.1
+        → component_name s c.0 ≡ c.1.id.name
     by_item (at, items.Import i) t m = cc
     by_item (at, items.Procedure p) t m = cc
     by_item (at, items.Component d) t m =
@@ -70,7 +72,8 @@ name_there s c i =
         subst P same m
     by_item (at, items.Assembly a) t m = cc
 
-pub leaves_named : (s : Source) → AreFilesShort s → AreNamesSound s → (l : ℕ) (leaf : Leaf) → slice_get (flat_of s).leaves l ≡ Some leaf → is_name (component_name s leaf.component) ≡ true
+pub leaves_named : (s : Source) → AreFilesShort s → AreNamesSound s → (l : ℕ) (leaf : Leaf)
+    → slice_get (flat_of s).leaves l ≡ Some leaf → is_name (component_name s leaf.component) ≡ true
 leaves_named s short sound l leaf at =
     let h = hierarchy_of s in
     let x = from_get_map (leaf_of h) (leaves h) l leaf at in

@@ -87,34 +87,45 @@ module _ (t : Tables) (h : IsConnected t) where
       let n = place_of x (threads_of g d) (in_threads g d f.0 listed) in
       let at = in_threads_at t h d n.0 b.found x b.here n.1 in
       let there : IsThere t (ThreadOf d n.0) = ((b.found, b.here), (thread_place g d n.0 x, at)) in
-      let is : object t (ThreadOf d n.0) ≡ objects.Thread (tcb t d (thread_place g d n.0 x)) = ap (λ z. option_map_or (λ y. objects.Thread (tcb t d y)) z objects.Endpoint) at in
+      let is : object t (ThreadOf d n.0) ≡ objects.Thread (tcb t d (thread_place g d n.0 x)) =
+      ap (λ z. option_map_or (λ y. objects.Thread (tcb t d y)) z objects.Endpoint) at in
       record {
         thread = place t (ThreadOf d n.0);
         tcb = tcb t d (thread_place g d n.0 x);
         stands = object_there t (ThreadOf d n.0) there ∙ ap (λ z. Some z) is;
         root = ap (λ z. Some z) b.node;
-        label = label_there t (ThreadOf d n.0) there ∙ sym (sym (ap (label_of (labels t)) b.node) ∙ node_label t h d b.found b.here);
+        label = label_there t (ThreadOf d n.0) there ∙ sym (sym (ap (label_of (labels t)) b.node)
+            ∙ node_label t h d b.found b.here);
       }
 
   -- the label of a CNode that holds something is its domain's
   holder_label : (c i : ℕ) (held : Cap) → Holds (spec_of t) c i held → IsDomains (policy_tables t) (label_of (labels t) c)
   holder_label c i held there =
       let b = holder t c i held there in
-      record { domain = b.domain; there = (b.found, b.here); is = sym (ap (label_of (labels t)) b.node) ∙ node_label t h b.domain b.found b.here }
+      record {
+        domain = b.domain;
+        there = (b.found, b.here);
+        is = sym (ap (label_of (labels t)) b.node)
+            ∙ node_label t h b.domain b.found b.here;
+      }
 
-  one_node : AreApart (policy_tables t) → (c d i j : ℕ) (a b : Cap) → Holds (spec_of t) c i a → Holds (spec_of t) d j b → label_of (labels t) c ≡ label_of (labels t) d → c ≡ d
+  one_node : AreApart (policy_tables t) → (c d i j : ℕ) (a b : Cap) → Holds (spec_of t) c i a → Holds (spec_of t) d j b
+      → label_of (labels t) c ≡ label_of (labels t) d → c ≡ d
   one_node apart c d i j a b here there e =
       let x = holder t c i a here in
       let y = holder t d j b there in
       let left = sym (ap (label_of (labels t)) x.node) ∙ node_label t h x.domain x.found x.here in
       let right = sym (ap (label_of (labels t)) y.node) ∙ node_label t h y.domain y.found y.here in
-      let same = one_domain (policy_tables t) apart x.domain y.domain (x.found, x.here) (y.found, y.here) (sym left ∙ e ∙ right) in
+      let same = one_domain (policy_tables t) apart x.domain y.domain (x.found, x.here) (y.found, y.here)
+      (sym left ∙ e ∙ right) in
       sym x.node ∙ ap (λ z. place t (CNodeOf z)) same ∙ y.node
 
   -- an object of a kind
-  kinded : (o : ℕ) (k : Kind) (n : ℕ) → ((x : Object) → same_kind (kind_of_object x) k ≡ true → class_of x ≡ n) → is_at (spec_of t) k o ≡ true → (x : Object) × IsAt t o x × (class_of x ≡ n)
+  kinded : (o : ℕ) (k : Kind) (n : ℕ) → ((x : Object) → same_kind (kind_of_object x) k ≡ true → class_of x ≡ n)
+      → is_at (spec_of t) k o ≡ true → (x : Object) × IsAt t o x × (class_of x ≡ n)
   kinded o k n sort is = go (object_at (spec_of t) o) refl is where
-    go : (x : Option Object) → object_at (spec_of t) o ≡ x → is_kind (option_map kind_of_object x) k ≡ true → (x : Object) × IsAt t o x × (class_of x ≡ n)
+    go : (x : Option Object) → object_at (spec_of t) o ≡ x → is_kind (option_map kind_of_object x) k ≡ true
+        → (x : Object) × IsAt t o x × (class_of x ≡ n)
     go None q e = absurd (true≢false (sym e))
     go (Some x) q e = (x, object_stands t o x q, sort x e)
 
@@ -137,7 +148,8 @@ module _ (t : Tables) (h : IsConnected t) where
   notices_sort (objects.Pages level slots) e = absurd (no_notice level e)
 
   -- where calls come in, and where signals do
-  pub endpoint_here : (o : ℕ) → is_at (spec_of t) kinds.Endpoint o ≡ true → (k : ℕ) × IsThere t (EndpointOf k) × (place t (EndpointOf k) ≡ o)
+  pub endpoint_here : (o : ℕ) → is_at (spec_of t) kinds.Endpoint o ≡ true → (k : ℕ) × IsThere t (EndpointOf k)
+      × (place t (EndpointOf k) ≡ o)
   endpoint_here o is =
       let x = kinded o kinds.Endpoint 0 calls_sort is in
       let at = x.1 in
@@ -166,14 +178,16 @@ module _ (t : Tables) (h : IsConnected t) where
   signal_label : (k : ℕ) → IsThere t (NotificationOf k) → HasLabel t.flat (owners.OfConnection k)
   signal_label k e = (e.0, e.1, elim e.2 [ inl i ↦ ap has_label i | inr i ↦ ap has_label i ])
 
-  one_endpoint : AreApart (policy_tables t) → (o p : ℕ) → is_at (spec_of t) kinds.Endpoint o ≡ true → (is_at (spec_of t) kinds.Endpoint p ≡ true) ⊎ (is_at (spec_of t) kinds.Notification p ≡ true)
+  one_endpoint : AreApart (policy_tables t) → (o p : ℕ) → is_at (spec_of t) kinds.Endpoint o ≡ true
+      → (is_at (spec_of t) kinds.Endpoint p ≡ true) ⊎ (is_at (spec_of t) kinds.Notification p ≡ true)
       → label_of (labels t) o ≡ label_of (labels t) p → o ≡ p
   one_endpoint apart o p is (inl other) e =
       let x = endpoint_here o is in
       let y = endpoint_here p other in
       let left = sym (ap (label_of (labels t)) x.2) ∙ label_there t (EndpointOf x.0) x.1 in
       let right = sym (ap (label_of (labels t)) y.2) ∙ label_there t (EndpointOf y.0) y.1 in
-      let same = one_connection (policy_tables t) apart x.0 y.0 (calls_label x.0 x.1) (calls_label y.0 y.1) (sym left ∙ e ∙ right) in
+      let same = one_connection (policy_tables t) apart x.0 y.0 (calls_label x.0 x.1) (calls_label y.0 y.1)
+      (sym left ∙ e ∙ right) in
       sym x.2 ∙ ap (λ z. place t (EndpointOf z)) same ∙ y.2
   one_endpoint apart o p is (inr other) e =
       let x = endpoint_here o is in
@@ -181,11 +195,13 @@ module _ (t : Tables) (h : IsConnected t) where
       elim (notification_here p other) [
         | inl y ↦
             let right = sym (ap (label_of (labels t)) y.2) ∙ label_there t (NotificationOf y.0) y.1 in
-            let same = one_connection (policy_tables t) apart x.0 y.0 (calls_label x.0 x.1) (signal_label y.0 y.1) (sym left ∙ e ∙ right) in
+            let same = one_connection (policy_tables t) apart x.0 y.0 (calls_label x.0 x.1) (signal_label y.0 y.1)
+            (sym left ∙ e ∙ right) in
             absurd (no_both x.0 y.0 same x.1 y.1)
         | inr y ↦
             let right = sym (ap (label_of (labels t)) y.3) ∙ label_there t (LockOf y.0 y.1) y.2 in
-            absurd (domain_no_connection (policy_tables t) apart x.0 (record { domain = y.0; there = y.2.0; is = right }) (calls_label x.0 x.1) (sym e ∙ left))
+            absurd (domain_no_connection (policy_tables t) apart x.0 (record { domain = y.0; there = y.2.0; is = right })
+            (calls_label x.0 x.1) (sym e ∙ left))
       ]
     where
       no_both : (j k : ℕ) → j ≡ k → IsThere t (EndpointOf j) → IsThere t (NotificationOf k) → ⊥
@@ -200,14 +216,17 @@ module _ (t : Tables) (h : IsConnected t) where
 
   -- ---- what stays within a label
 
-  own_out : AreApart (policy_tables t) → (l : ℕ) (a : Authority) → Held (spec_of t) (labels t) (boot (spec_of t)) l a l → IsLockEdge (policy_tables t) (edge l a l)
+  own_out : AreApart (policy_tables t) → (l : ℕ) (a : Authority) → Held (spec_of t) (labels t) (boot (spec_of t)) l a l
+      → IsLockEdge (policy_tables t) (edge l a l)
   own_out apart l a (c, i, held, there, conf, from, to) =
       let b = holder t c i held there in
       let d = b.domain in
       let f = from_domain t.source t.flat b.found.leaves b.used (used_in t h d b.number b.found b.used b.here b.at) in
-      let is : l ≡ domain_label (policy_tables t) d = from ∙ sym (ap (label_of (labels t)) b.node) ∙ node_label t h d b.found b.here in
+      let is : l ≡ domain_label (policy_tables t) d = from ∙ sym (ap (label_of (labels t)) b.node)
+      ∙ node_label t h d b.found b.here in
       let mine : IsDomains (policy_tables t) l = record { domain = d; there = (b.found, b.here); is = is } in
-      let leads : l ≡ label_of (labels t) (use_cap t d b.number b.used).object = to ∙ ap (λ (z : Cap). label_of (labels t) z.object) (sym b.is) in
+      let leads : l ≡ label_of (labels t) (use_cap t d b.number b.used).object =
+      to ∙ ap (λ (z : Cap). label_of (labels t) z.object) (sym b.is) in
       elim f.2 [
         | inl o ↦
             let k = o.place in
@@ -215,14 +234,24 @@ module _ (t : Tables) (h : IsConnected t) where
             elim w.1 [
               | inl same ↦
                   let label : l ≡ connection_label (policy_tables t) k =
-                  subst (λ z. l ≡ label_of (labels t) (use_cap t d b.number z).object) (sym same) leads ∙ joint_label t k o.connection o.end.role o.here w.0 in
-                  absurd (domain_no_connection (policy_tables t) apart k mine (o.connection, o.here, slot_labelled o.connection.connector o.end.role w.0) label)
+                  subst (λ z. l ≡ label_of (labels t) (use_cap t d b.number z).object) (sym same) leads
+                  ∙ joint_label t k o.connection o.end.role o.here w.0 in
+                  absurd (domain_no_connection (policy_tables t) apart k mine (
+                    o.connection,
+                    o.here,
+                    slot_labelled o.connection.connector o.end.role w.0,
+                  ) label)
               | inr handler ↦
-                  let label : l ≡ label_of (labels t) (place t (IrqOf k)) = subst (λ z. l ≡ label_of (labels t) (use_cap t d b.number z).object) (sym handler.is) leads in
+                  let label : l ≡ label_of (labels t) (place t (IrqOf k)) =
+                  subst (λ z. l ≡ label_of (labels t) (use_cap t d b.number z).object) (sym handler.is) leads in
                   let v = device_here t h k o.connection o.here handler.interrupt in
                   let device = device_end (policy_tables t) h.flat v.at v.device in
                   let other = label ∙ irq_label t h k o.connection o.here handler.interrupt ∙ device.is in
-                  absurd (domain_no_device (policy_tables t) apart mine (record { device = device.device; there = device.there; is = other }))
+                  absurd (domain_no_device (policy_tables t) apart mine (record {
+                    device = device.device;
+                    there = device.there;
+                    is = other;
+                  }))
             ]
         | inr lock ↦
             let leaf = f.0 in
@@ -231,7 +260,8 @@ module _ (t : Tables) (h : IsConnected t) where
             let u : b.used ≡ OwnLock leaf m = lock.1 in
             let there : IsThere t (LockOf d b.number) = ((b.found, b.here), (leaf, m, b.at ∙ ap (λ z. Some z) u)) in
             let conferred : confers (spec_of t) (use_cap t d b.number (OwnLock leaf m)) a ≡ true =
-            subst (λ z. confers (spec_of t) (use_cap t d b.number z) a ≡ true) u (subst (λ z. confers (spec_of t) z a ≡ true) (sym b.is) conf) in
+            subst (λ z. confers (spec_of t) (use_cap t d b.number z) a ≡ true) u (subst (λ z. confers (spec_of t) z a ≡ true)
+            (sym b.is) conf) in
             record {
               lock = record {
                 leaf = leaf;
@@ -249,7 +279,8 @@ module _ (t : Tables) (h : IsConnected t) where
             }
       ]
 
-  own_in : (l : ℕ) (a : Authority) → IsLockEdge (policy_tables t) (edge l a l) → Held (spec_of t) (labels t) (boot (spec_of t)) l a l
+  own_in : (l : ℕ) (a : Authority) → IsLockEdge (policy_tables t) (edge l a l)
+      → Held (spec_of t) (labels t) (boot (spec_of t)) l a l
   own_in l a k =
       let x = k.lock in
       let d = x.domain in
@@ -269,13 +300,18 @@ module _ (t : Tables) (h : IsConnected t) where
 
   -- ---- interrupts
 
-  signals : AreApart (policy_tables t) → (c i d n : ℕ) (held : Cap) → Holds (spec_of t) c i held → irq_at (boot (spec_of t)) d ≡ Some n → label_of (labels t) c ≢ label_of (labels t) d
+  signals : AreApart (policy_tables t) → (c i d n : ℕ) (held : Cap) → Holds (spec_of t) c i held
+      → irq_at (boot (spec_of t)) d ≡ Some n → label_of (labels t) c ≢ label_of (labels t) d
   signals apart c i d n held there is e =
       let b = bound t h d n is in
       let v = device_here t h b.connection b.found b.here b.interrupt in
       let device = device_end (policy_tables t) h.flat v.at v.device in
       let label = e ∙ sym (ap (label_of (labels t)) b.irq) ∙ irq_label t h b.connection b.found b.here b.interrupt ∙ device.is in
-      domain_no_device (policy_tables t) apart (holder_label c i held there) (record { device = device.device; there = device.there; is = label })
+      domain_no_device (policy_tables t) apart (holder_label c i held there) (record {
+        device = device.device;
+        there = device.there;
+        is = label;
+      })
 
   -- ---- what is held is plain
 
@@ -292,7 +328,8 @@ module _ (t : Tables) (h : IsConnected t) where
               | inl same ↦
                   let plain : is_plain (spec_of t) (use_cap t d b.number (OfEnd k o.number)) ≡ true =
                   ap (λ x. option_plain x (rights_at t k o.number)) (joint_kind_at t k o.connection o.end.role o.here w.0)
-                  ∙ ap (λ x. plain_kind (joint_kind o.connection.connector) x) (rights_are t k o.number o.connection o.end o.here o.stands)
+                  ∙ ap (λ x. plain_kind (joint_kind o.connection.connector) x) (rights_are t k o.number o.connection o.end
+                  o.here o.stands)
                   ∙ row_plain o.connection.connector o.end.role w.0 in
                   subst (λ z. is_plain (spec_of t) (use_cap t d b.number z) ≡ true) same plain
               | inr handler ↦
@@ -303,7 +340,8 @@ module _ (t : Tables) (h : IsConnected t) where
         | inr lock ↦
             let u : b.used ≡ OwnLock f.0 lock.0 = lock.1 in
             let own : IsThere t (LockOf d b.number) = ((b.found, b.here), (f.0, lock.0, b.at ∙ ap (λ z. Some z) u)) in
-            let plain : is_plain (spec_of t) (use_cap t d b.number (OwnLock f.0 lock.0)) ≡ true = ap (λ x. option_plain x RW) (kind_there t (LockOf d b.number) own) in
+            let plain : is_plain (spec_of t) (use_cap t d b.number (OwnLock f.0 lock.0)) ≡ true =
+            ap (λ x. option_plain x RW) (kind_there t (LockOf d b.number) own) in
             subst (λ z. is_plain (spec_of t) (use_cap t d b.number z) ≡ true) (sym u) plain
       ])
 

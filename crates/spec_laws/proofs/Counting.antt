@@ -64,12 +64,14 @@ module _ (t : Tables) (w : What → ℕ) where
   of_frames = totals (λ f (x : FrameInfo). w (FrameOf f)) t.spaces.frames
 
   cnodes_are : total of_part (numbered series.CNode (cnodes t.flat.domains)) ≡ of_cnodes
-  cnodes_are = of_numbered series.CNode (cnodes t.flat.domains) ∙ total_ones of_owned (λ d (x : Domain). owned (OfDomain d) (CNodeOf d)) t.flat.domains
+  cnodes_are = of_numbered series.CNode (cnodes t.flat.domains) ∙ total_ones of_owned
+      (λ d (x : Domain). owned (OfDomain d) (CNodeOf d)) t.flat.domains
 
   threads_are : total of_part (numbered series.Tcb (tcbs t)) ≡ of_threads
   threads_are =
       of_numbered series.Tcb (tcbs t) ∙ total_gather of_owned (domain_tcbs t) t.flat.domains
-      ∙ totals_same (λ d (x : Domain). total of_owned (domain_tcbs t d x)) (λ d x. totals (λ i (y : ThreadPlace). w (ThreadOf d i)) (threads_at t d)) t.flat.domains
+      ∙ totals_same (λ d (x : Domain). total of_owned (domain_tcbs t d x))
+      (λ d x. totals (λ i (y : ThreadPlace). w (ThreadOf d i)) (threads_at t d)) t.flat.domains
       (λ d x e. total_ones of_owned (λ i (y : ThreadPlace). owned (OfDomain d) (ThreadOf d i)) (threads_at t d))
 
   endpoints_are : total of_part (endpoints t) ≡ of_endpoints
@@ -81,7 +83,8 @@ module _ (t : Tables) (w : What → ℕ) where
   locks_are : total of_part (numbered series.Lock (locks t)) ≡ of_locks
   locks_are =
       of_numbered series.Lock (locks t) ∙ total_gather of_owned (domain_locks t) t.flat.domains
-      ∙ totals_same (λ d (x : Domain). total of_owned (domain_locks t d x)) (λ d x. totals (λ n (u : SlotUse). total of_owned (lock_of d n u)) (uses_at t d)) t.flat.domains
+      ∙ totals_same (λ d (x : Domain). total of_owned (domain_locks t d x))
+      (λ d x. totals (λ n (u : SlotUse). total of_owned (lock_of d n u)) (uses_at t d)) t.flat.domains
       (λ d x e. total_gather of_owned (lock_of d) (uses_at t d))
 
   irqs_are : total of_part (numbered series.Irq (irqs t)) ≡ of_irqs
@@ -92,18 +95,24 @@ module _ (t : Tables) (w : What → ℕ) where
       let of_table : PageTable → ℕ = λ x. w (TableOf x.domain x.place) in
       total_ones of_part (λ m (x : PageTable). table_part (all_tables t) m x) (all_tables t) ∙ places (all_tables t)
       ∙ total_gather of_table (domain_tables t) t.flat.domains
-      ∙ totals_same (λ d (x : Domain). total of_table (domain_tables t d x)) (λ d x. totals (λ j (o : Object). w (TableOf d j)) (tables_at t 0 0 d)) t.flat.domains
+      ∙ totals_same (λ d (x : Domain). total of_table (domain_tables t d x)) (λ d x. totals (λ j (o : Object). w (TableOf d j))
+      (tables_at t 0 0 d)) t.flat.domains
       (λ d x e. total_ones of_table (λ j (o : Object). page_table d j (level_of o)) (tables_at t 0 0 d))
     where
-      places : (xs : List PageTable) → totals (λ (n : ℕ) (x : PageTable). w (TableOf x.domain x.place)) xs ≡ total (λ (x : PageTable). w (TableOf x.domain x.place)) xs
+      places : (xs : List PageTable) → totals (λ (n : ℕ) (x : PageTable). w (TableOf x.domain x.place)) xs ≡ total
+          (λ (x : PageTable). w (TableOf x.domain x.place)) xs
       places [] = refl
       places (x ∷ xs) = ap (λ n. w (TableOf x.domain x.place) + n) (places xs)
 
   frames_are : total of_part (numbered series.Frame (frame_parts t.spaces.frames)) ≡ of_frames
-  frames_are = of_numbered series.Frame (frame_parts t.spaces.frames) ∙ total_ones of_owned (λ f (x : FrameInfo). owned (frame_owner x.owner) (FrameOf f)) t.spaces.frames
+  frames_are = of_numbered series.Frame (frame_parts t.spaces.frames) ∙ total_ones of_owned
+      (λ f (x : FrameInfo). owned (frame_owner x.owner) (FrameOf f)) t.spaces.frames
 
   total_eight : (a b c d e f g h : List Part) → total of_part (a ++ (b ++ (c ++ (d ++ (e ++ (f ++ (g ++ (h ++ []))))))))
-      ≡ total of_part a + (total of_part b + (total of_part c + (total of_part d + (total of_part e + (total of_part f + (total of_part g + (total of_part h + 0)))))))
+      ≡ total of_part
+      a + (total of_part
+      b + (total of_part
+      c + (total of_part d + (total of_part e + (total of_part f + (total of_part g + (total of_part h + 0)))))))
   total_eight a b c d e f g h =
       omega (
         arith,
@@ -118,9 +127,13 @@ module _ (t : Tables) (w : What → ℕ) where
       )
 
   -- what all parts count
-  pub parts_count : total of_part (parts t) ≡ of_cnodes + (of_threads + (of_endpoints + (of_notifications + (of_locks + (of_irqs + (of_tables + (of_frames + 0)))))))
+  pub parts_count : total of_part
+      (parts t) ≡ of_cnodes
+      + (of_threads + (of_endpoints + (of_notifications + (of_locks + (of_irqs + (of_tables + (of_frames + 0)))))))
   parts_count =
-      let whole = total_eight (numbered series.CNode (cnodes t.flat.domains)) (numbered series.Tcb (tcbs t)) (endpoints t) (notifications t) (numbered series.Lock (locks t)) (numbered series.Irq (irqs t)) (table_parts (all_tables t)) (numbered series.Frame (frame_parts t.spaces.frames)) in
+      let whole = total_eight (numbered series.CNode (cnodes t.flat.domains)) (numbered series.Tcb (tcbs t)) (endpoints t)
+      (notifications t) (numbered series.Lock (locks t)) (numbered series.Irq (irqs t)) (table_parts (all_tables t))
+      (numbered series.Frame (frame_parts t.spaces.frames)) in
       omega (arith, whole, cnodes_are, threads_are, endpoints_are, notifications_are, locks_are, irqs_are, tables_are, frames_are)
 
   -- ---- bounds
@@ -133,16 +146,21 @@ module _ (t : Tables) (w : What → ℕ) where
     pub notifications : (k : ℕ) → w (NotificationOf k) ≤ joint
     pub locks : (d n : ℕ) → w (LockOf d n) ≤ lock
     pub irqs : (k : ℕ) → w (IrqOf k) ≤ irq
-    pub tables : (d : ℕ) (x : Domain) → slice_get t.flat.domains d ≡ Some x → totals (λ j (o : Object). w (TableOf d j)) (tables_at t 0 0 d) ≤ table d
+    pub tables : (d : ℕ) (x : Domain) → slice_get t.flat.domains d ≡ Some x
+        → totals (λ j (o : Object). w (TableOf d j)) (tables_at t 0 0 d) ≤ table d
     pub frames : (f : ℕ) → w (FrameOf f) ≤ frame
 
-  module _ (cnode : ℕ → ℕ) (thread joint lock irq : ℕ) (table : ℕ → ℕ) (frame : ℕ) (most : Most cnode thread joint lock irq table frame) where
+  module _ (cnode : ℕ → ℕ) (thread joint lock irq : ℕ) (table : ℕ → ℕ) (frame : ℕ)
+      (most : Most cnode thread joint lock irq table frame) where
     threads_most : of_threads ≤ thread * thread_count t
     threads_most =
         let each : ℕ → Domain → ℕ = λ d x. thread * length (threads_at t d) in
-        let a = totals_most (λ d (x : Domain). totals (λ i (y : ThreadPlace). w (ThreadOf d i)) (threads_at t d)) each t.flat.domains
+        let a = totals_most (λ d (x : Domain). totals (λ i (y : ThreadPlace). w (ThreadOf d i)) (threads_at t d)) each
+        t.flat.domains
         (λ d x e. totals_each (λ i (y : ThreadPlace). w (ThreadOf d i)) thread (threads_at t d) (λ i y h. most.threads d i)) in
-        let b : totals each t.flat.domains ≡ thread * thread_count t = totals_times thread (λ d (x : Domain). length (threads_at t d)) t.flat.domains ∙ ap (λ n. thread * n) (sym (sum_ones (λ d (x : Domain). length (threads_at t d)) t.flat.domains)) in
+        let b : totals each t.flat.domains ≡ thread * thread_count t =
+        totals_times thread (λ d (x : Domain). length (threads_at t d)) t.flat.domains
+        ∙ ap (λ n. thread * n) (sym (sum_ones (λ d (x : Domain). length (threads_at t d)) t.flat.domains)) in
         omega (arith, a, b)
 
     joints_most : of_endpoints + of_notifications ≤ joint * length t.flat.connections
@@ -164,9 +182,11 @@ module _ (t : Tables) (w : What → ℕ) where
     locks_most : of_locks ≤ lock * use_count t
     locks_most =
         let each : ℕ → Domain → ℕ = λ d x. lock * length (uses_at t d) in
-        let a = totals_most (λ d (x : Domain). totals (λ n (u : SlotUse). total of_owned (lock_of d n u)) (uses_at t d)) each t.flat.domains
+        let a = totals_most (λ d (x : Domain). totals (λ n (u : SlotUse). total of_owned (lock_of d n u)) (uses_at t d)) each
+        t.flat.domains
         (λ d x e. totals_each (λ n (u : SlotUse). total of_owned (lock_of d n u)) lock (uses_at t d) (λ n u h. by_use u d n)) in
-        let b : totals each t.flat.domains ≡ lock * use_count t = totals_times lock (λ d (x : Domain). length (uses_at t d)) t.flat.domains ∙ ap (λ n. lock * n) (sym (sum_ones (λ d (x : Domain). length (uses_at t d)) t.flat.domains)) in
+        let b : totals each t.flat.domains ≡ lock * use_count t = totals_times lock (λ d (x : Domain). length (uses_at t d))
+        t.flat.domains ∙ ap (λ n. lock * n) (sym (sum_ones (λ d (x : Domain). length (uses_at t d)) t.flat.domains)) in
         omega (arith, a, b)
       where
         by_use : (u : SlotUse) (d n : ℕ) → total of_owned (lock_of d n u) ≤ lock
@@ -175,7 +195,8 @@ module _ (t : Tables) (w : What → ℕ) where
         by_use (OwnLock leaf m) d n = let l = most.locks d n in omega (arith, l)
 
     irqs_most : of_irqs ≤ irq * length t.flat.connections
-    irqs_most = totals_each (λ k (c : FlatConnection). total of_owned (irq_of k c)) irq t.flat.connections (λ k c e. by_kind c.connector k (irq_owner k c))
+    irqs_most = totals_each (λ k (c : FlatConnection). total of_owned (irq_of k c)) irq t.flat.connections
+        (λ k c e. by_kind c.connector k (irq_owner k c))
       where
         by_kind : (c : Connector) (k : ℕ) (o : Owner) → total of_owned (irq_by k o c) ≤ irq
         by_kind Interrupt k o = let l = most.irqs k in omega (arith, l)
@@ -186,10 +207,13 @@ module _ (t : Tables) (w : What → ℕ) where
         by_kind Direct k o = omega arith
 
     pub parts_most : total of_part (parts t)
-        ≤ totals (λ d (x : Domain). cnode d) t.flat.domains + (thread * thread_count t + (joint * length t.flat.connections + (lock * use_count t + (irq * length t.flat.connections
+        ≤ totals (λ d (x : Domain). cnode d)
+        t.flat.domains + (thread * thread_count
+        t + (joint * length t.flat.connections + (lock * use_count t + (irq * length t.flat.connections
         + (totals (λ d (x : Domain). table d) t.flat.domains + frame * length t.spaces.frames)))))
     parts_most =
         let a = totals_most (λ d (x : Domain). w (CNodeOf d)) (λ d x. cnode d) t.flat.domains most.cnodes in
-        let b = totals_most (λ d (x : Domain). totals (λ j (o : Object). w (TableOf d j)) (tables_at t 0 0 d)) (λ d x. table d) t.flat.domains most.tables in
+        let b = totals_most (λ d (x : Domain). totals (λ j (o : Object). w (TableOf d j)) (tables_at t 0 0 d)) (λ d x. table d)
+        t.flat.domains most.tables in
         let c = totals_each (λ f (x : FrameInfo). w (FrameOf f)) frame t.spaces.frames (λ f x e. most.frames f) in
         omega (arith, parts_count, a, b, c, threads_most, joints_most, locks_most, irqs_most)

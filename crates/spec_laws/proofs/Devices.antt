@@ -17,7 +17,8 @@ use Rattle.spec_laws.specs.Policy.{policy_tables}
 use Rattle.spec_laws.proofs.Whose.{device_at}
 
 -- the first that passes
-pub first_found : {X : Type 0} (p : X → Bool) (xs : List X) (n : ℕ) (x : X) → slice_get xs n ≡ Some x → p x ≡ true → (y : X) × (slice_get xs (position_or_len p xs) ≡ Some y) × (p y ≡ true)
+pub first_found : {X : Type 0} (p : X → Bool) (xs : List X) (n : ℕ) (x : X) → slice_get xs n ≡ Some x → p x ≡ true
+    → (y : X) × (slice_get xs (position_or_len p xs) ≡ Some y) × (p y ≡ true)
 first_found p [] n x e h = cc
 first_found {X} p (z ∷ zs) zero x e h =
     let same : x ≡ z = cc in
@@ -32,9 +33,11 @@ first_found {X} p (z ∷ zs) (suc n) x e h = by_test (p z) refl (first_found p z
         let next : 1 + position_or_len p zs ≡ suc (position_or_len p zs) = omega arith in
         (r.0, ap (λ k. slice_get (z ∷ zs) k) next ∙ r.1, r.2)
 
-pub position_found : {X : Type 0} (p : X → Bool) (xs : List X) (y : X) → slice_get xs (position_or_len p xs) ≡ Some y → position p xs ≡ Some (position_or_len p xs)
+pub position_found : {X : Type 0} (p : X → Bool) (xs : List X) (y : X) → slice_get xs (position_or_len p xs) ≡ Some y
+    → position p xs ≡ Some (position_or_len p xs)
 position_found p xs y e =
-    let less : nat_lt (position_or_len p xs) (length xs) ≡ true = lt-ltb (position_or_len p xs) (length xs) (slice_get_within xs (position_or_len p xs) y e) in
+    let less : nat_lt (position_or_len p xs) (length xs) ≡ true =
+    lt-ltb (position_or_len p xs) (length xs) (slice_get_within xs (position_or_len p xs) y e) in
     ap (λ b. cond b (Some (position_or_len p xs)) None) less
 
 module _ (t : Tables) (flat : IsFlat t.source t.flat) where
@@ -51,8 +54,10 @@ module _ (t : Tables) (flat : IsFlat t.source t.flat) where
       let x = h.at in
       let both : Some x.connection ≡ Some c = sym x.here ∙ ap (λ z. slice_get t.flat.connections z) h.place ∙ here in
       let same : x.connection ≡ c = cc in
-      let stands : slice_get c.ends x.number ≡ Some x.end = subst (λ (z : FlatConnection). slice_get z.ends x.number ≡ Some x.end) same x.stands in
-      let hard : is_hardware c.connector x.end ≡ true = subst (λ (z : FlatConnection). (end_rule z.connector x.end.role).hardware ≡ true) same h.device in
+      let stands : slice_get c.ends x.number ≡ Some x.end = subst (λ (z : FlatConnection). slice_get z.ends x.number ≡ Some x.end)
+      same x.stands in
+      let hard : is_hardware c.connector x.end ≡ true =
+      subst (λ (z : FlatConnection). (end_rule z.connector x.end.role).hardware ≡ true) same h.device in
       let test : FlatEnd → Bool = is_hardware c.connector in
       let f = first_found test c.ends x.number x.end stands hard in
       let n = position_or_len test c.ends in
@@ -68,7 +73,8 @@ module _ (t : Tables) (flat : IsFlat t.source t.flat) where
       }
 
   -- its label is the device's
-  pub device_label : (k : ℕ) (c : FlatConnection) → slice_get t.flat.connections k ≡ Some c → (d : DeviceOf k c) → number_of t.numbers (device_at t k) ≡ leaf_label (policy_tables t) d.at.end.leaf
+  pub device_label : (k : ℕ) (c : FlatConnection) → slice_get t.flat.connections k ≡ Some c → (d : DeviceOf k c)
+      → number_of t.numbers (device_at t k) ≡ leaf_label (policy_tables t) d.at.end.leaf
   device_label k c here d =
       let own : device_at t k ≡ OfLeaf d.at.end.leaf = ap (λ z. option_map_or (irq_owner k) z (OfConnection k)) here ∙ d.owner in
       ap (number_of t.numbers) own ∙ sym (own_label (policy_tables t) flat d.at d.device)

@@ -43,7 +43,8 @@ from_lines t l i s = elim (in_append l (domain_lines t) (thread_lines t ++ (slot
           let a = from_gather f l t.flat.domains j in
           let h : ℕ → SlotUse → List MapLine = λ n u. slot_line (use_cap t a.0 n u).object n u ∷ [] in
           let b = from_gather h l (uses_at t a.0) a.3 in
-          absurd (no_slot (use_cap t a.0 b.0 b.1).object b.0 b.1 (subst SaysDomain (sym (single (slot_line (use_cap t a.0 b.0 b.1).object b.0 b.1) l b.3)) s))
+          absurd (no_slot (use_cap t a.0 b.0 b.1).object b.0 b.1
+          (subst SaysDomain (sym (single (slot_line (use_cap t a.0 b.0 b.1).object b.0 b.1) l b.3)) s))
       | inr j ↦
           let f : ℕ → Domain → List MapLine = λ d x. domain_windows t d in
           let a = from_gather f l t.flat.domains j in
@@ -54,7 +55,8 @@ from_lines t l i s = elim (in_append l (domain_lines t) (thread_lines t ++ (slot
   ]
 ]
 
-pub domains_are : (t : Tables) (d : ℕ) → IsIn (DomainLine d) (map_lines t) ↔ ((x : Domain) × (slice_get t.flat.domains d ≡ Some x))
+pub domains_are : (t : Tables) (d : ℕ) → IsIn (DomainLine d) (map_lines t)
+    ↔ ((x : Domain) × (slice_get t.flat.domains d ≡ Some x))
 domains_are t d = (
   λ i. (
       let a = from_gather line (DomainLine d) t.flat.domains (from_lines t (DomainLine d) i tt) in
@@ -62,5 +64,6 @@ domains_are t d = (
       let at : a.0 ≡ d = cc in
       let P : ℕ → Type 0 = λ z. (x : Domain) × (slice_get t.flat.domains z ≡ Some x) in
       subst P at (a.1, a.2)),
-  λ h. in_left (DomainLine d) (domain_lines t) (thread_lines t ++ (slot_lines t ++ window_lines t)) (in_gather line (DomainLine d) t.flat.domains d h.0 h.1 (inl refl)),
+  λ h. in_left (DomainLine d) (domain_lines t) (thread_lines t ++ (slot_lines t ++ window_lines t))
+      (in_gather line (DomainLine d) t.flat.domains d h.0 h.1 (inl refl)),
 )

@@ -82,7 +82,8 @@ module _ (t : Tables) where
       let here : IsThere t (CNodeOf d) = subst (λ z. IsThere t z) w.1 at.there in
       let is : object t (CNodeOf d) ≡ objects.CNode bits slots = subst (λ z. object t z ≡ objects.CNode bits slots) w.1 at.is in
       let same : slots ≡ slots_at t d = cc in
-      let inside : Contains (map boot_slot (slots_at t d)) (i, Capability held) = subst (λ z. Contains (map boot_slot z) (i, Capability held)) same there in
+      let inside : Contains (map boot_slot (slots_at t d)) (i, Capability held) =
+      subst (λ z. Contains (map boot_slot z) (i, Capability held)) same there in
       let k = contains_at (map boot_slot (slots_at t d)) (i, Capability held) inside in
       let s = slot_of (slots_at t d) k.0 i (Capability held) k.1 in
       let u = from_ones (λ n u. (n + 1, use_cap t d n u)) (uses_at t d) k.0 s.0 s.1 in
@@ -108,23 +109,31 @@ module _ (t : Tables) where
 
   pub holder : (c i : ℕ) (held : Cap) → Holds spec c i held → HeldBy c held
   holder c i held there = elim (at_entry boot_node spec.entries c no_node) [
-    | inl found ↦ of_object c i held found.0.object (entry_is t c found.0 found.1) (subst (λ (n : Node). Contains n.slots (i, Capability held)) found.2 there)
-    | inr none ↦ absurd (let here : Contains no_node.slots (i, Capability held) = subst (λ (n : Node). Contains n.slots (i, Capability held)) none there in let w = here.1 in omega arith)
+    | inl found ↦ of_object c i held found.0.object (entry_is t c found.0 found.1)
+        (subst (λ (n : Node). Contains n.slots (i, Capability held)) found.2 there)
+    | inr none ↦
+        absurd (let here : Contains no_node.slots (i, Capability held) = subst
+        (λ (n : Node). Contains n.slots (i, Capability held)) none there in let w = here.1 in omega arith)
   ]
 
-  pub slot_holds : (d n : ℕ) (x : Domain) (u : SlotUse) → slice_get t.flat.domains d ≡ Some x → slice_get (uses_at t d) n ≡ Some u → Holds spec (place t (CNodeOf d)) (n + 1) (use_cap t d n u)
+  pub slot_holds : (d n : ℕ) (x : Domain) (u : SlotUse) → slice_get t.flat.domains d ≡ Some x → slice_get (uses_at t d) n ≡ Some u
+      → Holds spec (place t (CNodeOf d)) (n + 1) (use_cap t d n u)
   slot_holds d n x u e s =
       let c = place t (CNodeOf d) in
       let held = use_cap t d n u in
-      let there : node_at (boot spec) c ≡ boot_node (object t (CNodeOf d)) = boots spec boot_node c (object t (CNodeOf d)) no_node (object_there t (CNodeOf d) (x, e)) in
-      let slot : slice_get (slots_at t d) n ≡ Some (n + 1, held) = get_ones (λ n u. (n + 1, use_cap t d n u)) (uses_at t d) n u s in
+      let there : node_at (boot spec) c ≡ boot_node (object t (CNodeOf d)) = boots spec boot_node c (object t (CNodeOf d)) no_node
+      (object_there t (CNodeOf d) (x, e)) in
+      let slot : slice_get (slots_at t d) n ≡ Some (n + 1, held) = get_ones (λ n u. (n + 1, use_cap t d n u))
+      (uses_at t d) n u s in
       let inside : Contains (map boot_slot (slots_at t d)) (n + 1, Capability held) =
-      at_contains (map boot_slot (slots_at t d)) (n + 1, Capability held) n (slice_get-map boot_slot (slots_at t d) n ∙ ap (option_map boot_slot) slot) in
+      at_contains (map boot_slot (slots_at t d)) (n + 1, Capability held) n (slice_get-map boot_slot (slots_at t d) n
+      ∙ ap (option_map boot_slot) slot) in
       subst (λ (z : Node). Contains z.slots (n + 1, Capability held)) (sym there) inside
 
   -- ---- the objects of connections
 
-  pub joint_there : (k : ℕ) (c : FlatConnection) (r : Role) → slice_get t.flat.connections k ≡ Some c → has_slot c.connector r ≡ true → IsThere t (joint_by k c.connector)
+  pub joint_there : (k : ℕ) (c : FlatConnection) (r : Role) → slice_get t.flat.connections k ≡ Some c
+      → has_slot c.connector r ≡ true → IsThere t (joint_by k c.connector)
   joint_there k c r h s = go c.connector r refl s where
     go : (y : Connector) (r : Role) → c.connector ≡ y → has_slot y r ≡ true → IsThere t (joint_by k y)
     go Rpc r e s = (c, h, e)
@@ -142,7 +151,8 @@ module _ (t : Tables) where
   joint_kinds k Interrupt = refl
   joint_kinds k Direct = refl
 
-  joint_label_by : (k : ℕ) (y : Connector) → IsThere t (joint_by k y) → label_of (labels t) (place t (joint_by k y)) ≡ connection_label (policy_tables t) k
+  joint_label_by : (k : ℕ) (y : Connector) → IsThere t (joint_by k y)
+      → label_of (labels t) (place t (joint_by k y)) ≡ connection_label (policy_tables t) k
   joint_label_by k Rpc h = label_there t (EndpointOf k) h
   joint_label_by k Notification h = label_there t (NotificationOf k) h
   joint_label_by k SharedMemory h = label_there t (NotificationOf k) h
@@ -150,23 +160,29 @@ module _ (t : Tables) where
   joint_label_by k Interrupt h = label_there t (NotificationOf k) h
   joint_label_by k Direct h = label_there t (NotificationOf k) h
 
-  pub joint_kind_at : (k : ℕ) (c : FlatConnection) (r : Role) → slice_get t.flat.connections k ≡ Some c → has_slot c.connector r ≡ true → kind_at spec (place t (joint t k)) ≡ Some (joint_kind c.connector)
+  pub joint_kind_at : (k : ℕ) (c : FlatConnection) (r : Role) → slice_get t.flat.connections k ≡ Some c
+      → has_slot c.connector r ≡ true → kind_at spec (place t (joint t k)) ≡ Some (joint_kind c.connector)
   joint_kind_at k c r h s =
       ap (λ z. kind_at spec (place t z)) (joint_is t k c h)
       ∙ kind_there t (joint_by k c.connector) (joint_there k c r h s)
       ∙ ap (λ z. Some z) (joint_kinds k c.connector)
 
-  pub joint_label : (k : ℕ) (c : FlatConnection) (r : Role) → slice_get t.flat.connections k ≡ Some c → has_slot c.connector r ≡ true → label_of (labels t) (place t (joint t k)) ≡ connection_label (policy_tables t) k
-  joint_label k c r h s = ap (λ z. label_of (labels t) (place t z)) (joint_is t k c h) ∙ joint_label_by k c.connector (joint_there k c r h s)
+  pub joint_label : (k : ℕ) (c : FlatConnection) (r : Role) → slice_get t.flat.connections k ≡ Some c
+      → has_slot c.connector r ≡ true → label_of (labels t) (place t (joint t k)) ≡ connection_label (policy_tables t) k
+  joint_label k c r h s = ap (λ z. label_of (labels t) (place t z)) (joint_is t k c h) ∙ joint_label_by k c.connector
+      (joint_there k c r h s)
 
   pub end_confers : (x : EndAt t.flat) (a : Authority) → has_slot x.connection.connector x.end.role ≡ true
-      → option_confers (kind_at spec (place t (joint t x.place))) (rights_at t x.place x.number) a ≡ gives x.connection.connector x.end.role (joint_object x.connection.connector) a
+      → option_confers (kind_at spec (place t (joint t x.place))) (rights_at t x.place x.number) a ≡ gives x.connection.connector
+      x.end.role (joint_object x.connection.connector) a
   end_confers x a s =
       ap (λ z. option_confers z (rights_at t x.place x.number) a) (joint_kind_at x.place x.connection x.end.role x.here s)
-      ∙ ap (λ z. kind_confers (joint_kind x.connection.connector) z a) (rights_are t x.place x.number x.connection x.end x.here x.stands)
+      ∙ ap (λ z. kind_confers (joint_kind x.connection.connector) z a) (rights_are t x.place x.number x.connection x.end
+      x.here x.stands)
       ∙ row_law x.connection.connector x.end.role a s
 
-  leads_joint : (x : EndAt t.flat) (y : Connector) (label : ℕ) → label ≡ connection_label (policy_tables t) x.place → LeadsTo (policy_tables t) x (joint_object y) label
+  leads_joint : (x : EndAt t.flat) (y : Connector) (label : ℕ) → label ≡ connection_label (policy_tables t) x.place
+      → LeadsTo (policy_tables t) x (joint_object y) label
   leads_joint x Rpc label h = h
   leads_joint x Notification label h = h
   leads_joint x SharedMemory label h = h
@@ -174,7 +190,8 @@ module _ (t : Tables) where
   leads_joint x Interrupt label h = h
   leads_joint x Direct label h = h
 
-  from_joint : (x : EndAt t.flat) (y : Connector) (label : ℕ) → LeadsTo (policy_tables t) x (joint_object y) label → label ≡ connection_label (policy_tables t) x.place
+  from_joint : (x : EndAt t.flat) (y : Connector) (label : ℕ) → LeadsTo (policy_tables t) x (joint_object y) label
+      → label ≡ connection_label (policy_tables t) x.place
   from_joint x Rpc label h = h
   from_joint x Notification label h = h
   from_joint x SharedMemory label h = h
@@ -186,22 +203,33 @@ module _ (t : Tables) where
     abbrev pub policy : Policy
     policy = policy_tables t
 
-    pub node_label : (d : ℕ) (x : Domain) → slice_get t.flat.domains d ≡ Some x → label_of (labels t) (place t (CNodeOf d)) ≡ domain_label policy d
+    pub node_label : (d : ℕ) (x : Domain) → slice_get t.flat.domains d ≡ Some x
+        → label_of (labels t) (place t (CNodeOf d)) ≡ domain_label policy d
     node_label d x e = label_there t (CNodeOf d) (x, e)
 
     -- the label of a leaf of a domain
-    pub leaf_of_domain : (d l : ℕ) (x : Domain) → slice_get t.flat.domains d ≡ Some x → IsIn l x.leaves → leaf_label policy l ≡ domain_label policy d
+    pub leaf_of_domain : (d l : ℕ) (x : Domain) → slice_get t.flat.domains d ≡ Some x → IsIn l x.leaves
+        → leaf_label policy l ≡ domain_label policy d
     leaf_of_domain d l x e i =
         let o = h.flat.owned d l x e i in
         label_of_leaf policy l o.0 o.1 ∙ ap (λ z. number_of t.numbers (owner_in l z)) o.2
 
-    pub used_in : (d n : ℕ) (x : Domain) (u : SlotUse) → slice_get t.flat.domains d ≡ Some x → slice_get (uses_at t d) n ≡ Some u → IsIn u (domain_uses t.source t.flat x.leaves)
+    pub used_in : (d n : ℕ) (x : Domain) (u : SlotUse) → slice_get t.flat.domains d ≡ Some x → slice_get (uses_at t d) n ≡ Some u
+        → IsIn u (domain_uses t.source t.flat x.leaves)
     used_in d n x u e s = subst (λ z. IsIn u z) (uses_are t h.slots d x e) (in_place u (uses_at t d) n s)
 
     abbrev pub end_used : {leaf : ℕ} {u : SlotUse} → UseOf t.flat.connections leaf u → EndAt t.flat
-    end_used o = record { place = o.place; connection = o.connection; here = o.here; number = o.number; end = o.end; stands = o.stands }
+    end_used o = record {
+      place = o.place;
+      connection = o.connection;
+      here = o.here;
+      number = o.number;
+      end = o.end;
+      stands = o.stands;
+    }
 
-    pub device_here : (k : ℕ) (c : FlatConnection) → slice_get t.flat.connections k ≡ Some c → c.connector ≡ Interrupt → DeviceOf t h.flat k c
+    pub device_here : (k : ℕ) (c : FlatConnection) → slice_get t.flat.connections k ≡ Some c → c.connector ≡ Interrupt
+        → DeviceOf t h.flat k c
     device_here k c e i = device_found t h.flat k c e (h.flat.interrupts k c e i)
 
     -- the device's end of an interrupt is its `from` end
@@ -211,53 +239,70 @@ module _ (t : Tables) where
       | inr w ↦ absurd (let e = sym (ap (λ (z : FlatConnection). z.connector) d.connection ∙ i) ∙ w.0 in cc)
     ]
 
-    pub irq_label : (k : ℕ) (c : FlatConnection) (e : slice_get t.flat.connections k ≡ Some c) (i : c.connector ≡ Interrupt) → label_of (labels t) (place t (IrqOf k)) ≡ leaf_label policy (device_here k c e i).at.end.leaf
+    pub irq_label : (k : ℕ) (c : FlatConnection) (e : slice_get t.flat.connections k ≡ Some c) (i : c.connector ≡ Interrupt)
+        → label_of (labels t) (place t (IrqOf k)) ≡ leaf_label policy (device_here k c e i).at.end.leaf
     irq_label k c e i = label_there t (IrqOf k) (c, e, i) ∙ device_label t h.flat k c e (device_here k c e i)
 
-    given_as : (c d : Connector) (r q : Role) (o : ObjectKind) (a b : Authority) → c ≡ d → r ≡ q → a ≡ b → gives d q o b ≡ true → gives c r o a ≡ true
+    given_as : (c d : Connector) (r q : Role) (o : ObjectKind) (a b : Authority) → c ≡ d → r ≡ q → a ≡ b → gives d q o b ≡ true
+        → gives c r o a ≡ true
     given_as c d r q o a b e f g k = ap (λ z. gives z r o a) e ∙ ap (λ z. gives d z o a) f ∙ ap (λ z. gives d q o z) g ∙ k
 
     -- ---- what is held is given directly
 
-    held_direct : (l : ℕ) (a : Authority) (m : ℕ) → l ≢ m → Held spec (labels t) (boot spec) l a m → DirectReason policy (edge l a m)
+    held_direct : (l : ℕ) (a : Authority) (m : ℕ) → l ≢ m → Held spec (labels t) (boot spec) l a m
+        → DirectReason policy (edge l a m)
     held_direct l a m differ (c, i, held, there, conf, from, to) =
         let b = holder c i held there in
         let d = b.domain in
         let f = from_domain t.source t.flat b.found.leaves b.used (used_in d b.number b.found b.used b.here b.at) in
         let mine : l ≡ domain_label policy d = from ∙ ap (label_of (labels t)) (sym b.node) ∙ node_label d b.found b.here in
-        let conferred : confers spec (use_cap t d b.number b.used) a ≡ true = subst (λ z. confers spec z a ≡ true) (sym b.is) conf in
-        let leads : m ≡ label_of (labels t) (use_cap t d b.number b.used).object = to ∙ ap (λ (z : Cap). label_of (labels t) z.object) (sym b.is) in
+        let conferred : confers spec (use_cap t d b.number b.used) a ≡ true =
+        subst (λ z. confers spec z a ≡ true) (sym b.is) conf in
+        let leads : m ≡ label_of (labels t) (use_cap t d b.number b.used).object =
+        to ∙ ap (λ (z : Cap). label_of (labels t) z.object) (sym b.is) in
         elim f.2 [
           | inl o ↦
               let x = end_used o in
-              let owned : l ≡ leaf_label policy o.end.leaf = mine ∙ sym (ap (leaf_label policy) o.joins ∙ leaf_of_domain d f.0 b.found b.here f.1) in
+              let owned : l ≡ leaf_label policy o.end.leaf =
+              mine ∙ sym (ap (leaf_label policy) o.joins ∙ leaf_of_domain d f.0 b.found b.here f.1) in
               let w = from_end_uses o.connection.connector o.end.role o.place o.number b.used o.use_is in
               elim w.1 [
                 | inl same ↦
                     let given : gives o.connection.connector o.end.role (joint_object o.connection.connector) a ≡ true =
-                    sym (end_confers x a w.0) ∙ subst (λ z. confers spec (use_cap t d b.number z) a ≡ true) (sym same) conferred in
+                    sym (end_confers x a w.0) ∙ subst (λ z. confers spec (use_cap t d b.number z) a ≡ true)
+                    (sym same) conferred in
                     let label : m ≡ connection_label policy o.place =
-                    subst (λ z. m ≡ label_of (labels t) (use_cap t d b.number z).object) (sym same) leads ∙ joint_label o.place o.connection o.end.role o.here w.0 in
+                    subst (λ z. m ≡ label_of (labels t) (use_cap t d b.number z).object) (sym same) leads
+                    ∙ joint_label o.place o.connection o.end.role o.here w.0 in
                     record {
                       at = x;
                       object = joint_object o.connection.connector;
                       given = given;
-                      left = joint_leaves o.connection.connector o.end.role (joint_object o.connection.connector) (setting_of t.settled o.place o.number) a (joint_no_frames o.connection.connector) given;
+                      left = joint_leaves o.connection.connector o.end.role (joint_object o.connection.connector)
+                          (setting_of t.settled o.place o.number) a (joint_no_frames o.connection.connector) given;
                       from = owned;
                       to = leads_joint x o.connection.connector m label;
                     }
                 | inr handler ↦
                     let k = o.place in
-                    let is : confers spec (use_cap t d b.number (Handler k o.number)) a ≡ true = subst (λ z. confers spec (use_cap t d b.number z) a ≡ true) (sym handler.is) conferred in
-                    let handle : a ≡ Handle = only_handle a (sym (ap (λ z. option_confers z NONE a) (kind_there t (IrqOf k) (o.connection, o.here, handler.interrupt))) ∙ is) in
-                    let label : m ≡ label_of (labels t) (place t (IrqOf k)) = subst (λ z. m ≡ label_of (labels t) (use_cap t d b.number z).object) (sym handler.is) leads in
+                    let is : confers spec (use_cap t d b.number (Handler k o.number)) a ≡ true =
+                    subst (λ z. confers spec (use_cap t d b.number z) a ≡ true) (sym handler.is) conferred in
+                    let handle : a ≡ Handle =
+                    only_handle a
+                    (sym
+                    (ap (λ z. option_confers z NONE a) (kind_there t (IrqOf k) (o.connection, o.here, handler.interrupt)))
+                    ∙ is) in
+                    let label : m ≡ label_of (labels t) (place t (IrqOf k)) =
+                    subst (λ z. m ≡ label_of (labels t) (use_cap t d b.number z).object) (sym handler.is) leads in
                     let v = device_here k o.connection o.here handler.interrupt in
-                    let given : gives o.connection.connector o.end.role OfIrq a ≡ true = given_as o.connection.connector Interrupt o.end.role To OfIrq a Handle handler.interrupt handler.receives handle refl in
+                    let given : gives o.connection.connector o.end.role OfIrq a ≡ true = given_as o.connection.connector Interrupt
+                    o.end.role To OfIrq a Handle handler.interrupt handler.receives handle refl in
                     record {
                       at = x;
                       object = OfIrq;
                       given = given;
-                      left = joint_leaves o.connection.connector o.end.role OfIrq (setting_of t.settled o.place o.number) a refl given;
+                      left = joint_leaves o.connection.connector o.end.role OfIrq (setting_of t.settled o.place o.number)
+                          a refl given;
                       from = owned;
                       to = record {
                         at = v.at;
@@ -269,7 +314,8 @@ module _ (t : Tables) where
               ]
           | inr lock ↦
               let u : b.used ≡ OwnLock f.0 lock.0 = lock.1 in
-              let label : m ≡ label_of (labels t) (place t (LockOf d b.number)) = subst (λ z. m ≡ label_of (labels t) (use_cap t d b.number z).object) u leads in
+              let label : m ≡ label_of (labels t) (place t (LockOf d b.number)) =
+              subst (λ z. m ≡ label_of (labels t) (use_cap t d b.number z).object) u leads in
               let own = label_there t (LockOf d b.number) ((b.found, b.here), (f.0, lock.0, b.at ∙ ap (λ z. Some z) u)) in
               absurd (differ (mine ∙ sym (label ∙ own)))
         ]
@@ -292,7 +338,14 @@ module _ (t : Tables) where
         let is : object t (IrqOf w.0) ≡ objects.Irq notification = subst (λ z. object t z ≡ objects.Irq notification) w.1 at.is in
         let same : Some (place t (NotificationOf w.0)) ≡ notification = cc in
         let both : Some (place t (NotificationOf w.0)) ≡ Some n = same ∙ there in
-        record { connection = w.0; found = here.0; here = here.1; interrupt = here.2; irq = subst (λ z. place t z ≡ o) w.1 at.stands; notification = cc }
+        record {
+          connection = w.0;
+          found = here.0;
+          here = here.1;
+          interrupt = here.2;
+          irq = subst (λ z. place t z ≡ o) w.1 at.stands;
+          notification = cc;
+        }
     of_irq_object o n objects.Endpoint at there = absurd cc
     of_irq_object o n objects.Notification at there = absurd cc
     of_irq_object o n (objects.CNode bits slots) at there = absurd cc
@@ -313,14 +366,17 @@ module _ (t : Tables) where
         let v = device_here k b.found b.here b.interrupt in
         let r = device_from k b.found v b.interrupt in
         let i : v.at.connection.connector ≡ Interrupt = ap (λ (z : FlatConnection). z.connector) v.connection ∙ b.interrupt in
-        let given : gives v.at.connection.connector v.at.end.role OfNotification a ≡ true = given_as v.at.connection.connector Interrupt v.at.end.role From OfNotification a AsyncSend i r is refl in
+        let given : gives v.at.connection.connector v.at.end.role OfNotification a ≡ true =
+        given_as v.at.connection.connector Interrupt v.at.end.role From OfNotification a AsyncSend i r is refl in
         record {
           at = v.at;
           object = OfNotification;
           given = given;
-          left = joint_leaves v.at.connection.connector v.at.end.role OfNotification (setting_of t.settled v.at.place v.at.number) a refl given;
+          left = joint_leaves v.at.connection.connector v.at.end.role OfNotification (setting_of t.settled v.at.place v.at.number)
+              a refl given;
           from = from ∙ ap (label_of (labels t)) (sym b.irq) ∙ irq_label k b.found b.here b.interrupt;
-          to = to ∙ ap (label_of (labels t)) (sym b.notification) ∙ label_there t (NotificationOf k) (b.found, b.here, inr b.interrupt) ∙ ap (connection_label policy) (sym v.place);
+          to = to ∙ ap (label_of (labels t)) (sym b.notification) ∙ label_there t (NotificationOf k)
+              (b.found, b.here, inr b.interrupt) ∙ ap (connection_label policy) (sym v.place);
         }
 
     pub joints : (l : ℕ) (a : Authority) (m : ℕ) → l ≢ m → OfJoints spec (labels t) l a m → DirectReason policy (edge l a m)
@@ -345,16 +401,28 @@ module _ (t : Tables) where
         record { domain = d.0; found = l.0; here = l.1; listed = l.2; label = leaf_of_domain d.0 x.end.leaf l.0 l.1 l.2 }
 
     -- a use of an end, held by the CNode of its domain
-    pub use_held : (x : EndAt t.flat) (u : SlotUse) (i : InDomain x) → IsIn u (end_uses x.connection.connector x.end.role x.place x.number)
+    pub use_held : (x : EndAt t.flat) (u : SlotUse) (i : InDomain x)
+        → IsIn u (end_uses x.connection.connector x.end.role x.place x.number)
         → (n : ℕ) × Holds spec (place t (CNodeOf i.domain)) (n + 1) (use_cap t i.domain n u)
     use_held x u i e =
         let j = h.flat.joined x in
-        let o : UseOf t.flat.connections x.end.leaf u = record { place = x.place; connection = x.connection; here = x.here; number = x.number; end = x.end; stands = x.stands; joins = refl; use_is = e } in
+        let o : UseOf t.flat.connections x.end.leaf u = record {
+          place = x.place;
+          connection = x.connection;
+          here = x.here;
+          number = x.number;
+          end = x.end;
+          stands = x.stands;
+          joins = refl;
+          use_is = e;
+        } in
         let there = in_domain t.source t.flat i.found.leaves u x.end.leaf j.leaf o j.member i.listed j.here j.joins in
-        let n = place_of u (uses_at t i.domain) (subst (λ z. IsIn u z) (sym (uses_are t h.slots i.domain i.found i.here)) there) in
+        let n =
+        place_of u (uses_at t i.domain) (subst (λ z. IsIn u z) (sym (uses_are t h.slots i.domain i.found i.here)) there) in
         (n.0, slot_holds i.domain n.0 i.found u i.here n.1)
 
-    slot_given : (l : ℕ) (a : Authority) (m : ℕ) (d : DirectReason policy (edge l a m)) → OfSlot d.at.connection.connector d.at.end.role d.object → Held spec (labels t) (boot spec) l a m
+    slot_given : (l : ℕ) (a : Authority) (m : ℕ) (d : DirectReason policy (edge l a m))
+        → OfSlot d.at.connection.connector d.at.end.role d.object → Held spec (labels t) (boot spec) l a m
     slot_given l a m d s =
         let x = d.at in
         let c = x.connection.connector in
@@ -373,12 +441,14 @@ module _ (t : Tables) where
         )
 
     -- the two ends at the device are one
-    pub one_end : (x y : EndAt t.flat) → y.place ≡ x.place → is_at_device x ≡ true → is_at_device y ≡ true → y.end.leaf ≡ x.end.leaf
+    pub one_end : (x y : EndAt t.flat) → y.place ≡ x.place → is_at_device x ≡ true → is_at_device y ≡ true
+        → y.end.leaf ≡ x.end.leaf
     one_end x y e a b =
         let n = h.flat.one_device x y e a b in
         let both : Some y.connection ≡ Some x.connection = sym y.here ∙ ap (λ z. slice_get t.flat.connections z) e ∙ x.here in
         let same : y.connection ≡ x.connection = cc in
-        let ends : Some y.end ≡ Some x.end = sym y.stands ∙ ap (λ (z : FlatConnection). slice_get z.ends y.number) same ∙ ap (λ z. slice_get x.connection.ends z) n ∙ x.stands in
+        let ends : Some y.end ≡ Some x.end = sym y.stands ∙ ap (λ (z : FlatConnection). slice_get z.ends y.number) same
+        ∙ ap (λ z. slice_get x.connection.ends z) n ∙ x.stands in
         let end : y.end ≡ x.end = cc in
         ap (λ (z : FlatEnd). z.leaf) end
 
@@ -389,14 +459,16 @@ module _ (t : Tables) where
     soft_to c r e f = ap (λ z. (end_rule z r).hardware) e ∙ ap (λ z. (end_rule Interrupt z).hardware) f
 
     handler_use : (c : Connector) (r : Role) (k n : ℕ) → c ≡ Interrupt → r ≡ To → IsIn (Handler k n) (end_uses c r k n)
-    handler_use c r k n e f = subst (λ z. IsIn (Handler k n) (end_uses z r k n)) (sym e) (subst (λ z. IsIn (Handler k n) (end_uses Interrupt z k n)) (sym f) (inr (inl refl)))
+    handler_use c r k n e f = subst (λ z. IsIn (Handler k n) (end_uses z r k n)) (sym e)
+        (subst (λ z. IsIn (Handler k n) (end_uses Interrupt z k n)) (sym f) (inr (inl refl)))
 
     same_at : (x y : EndAt t.flat) → y.place ≡ x.place → y.connection ≡ x.connection
     same_at x y e =
         let both : Some y.connection ≡ Some x.connection = sym y.here ∙ ap (λ z. slice_get t.flat.connections z) e ∙ x.here in
         cc
 
-    handling_given : (l : ℕ) (a : Authority) (m : ℕ) (d : DirectReason policy (edge l a m)) → IsHandling d.at.connection.connector d.at.end.role d.object a → Held spec (labels t) (boot spec) l a m
+    handling_given : (l : ℕ) (a : Authority) (m : ℕ) (d : DirectReason policy (edge l a m))
+        → IsHandling d.at.connection.connector d.at.end.role d.object a → Held spec (labels t) (boot spec) l a m
     handling_given l a m d s =
         let x = d.at in
         let c = x.connection.connector in
@@ -407,18 +479,21 @@ module _ (t : Tables) where
         let other : AtOtherEnd policy x m = subst (λ z. LeadsTo policy x z m) s.object d.to in
         let v = device_here k x.connection x.here s.connector in
         let same = same_at x other.at other.same in
-        let hard : is_at_device other.at ≡ true = from_device other.at.connection.connector other.at.end.role (ap (λ (z : FlatConnection). z.connector) same ∙ s.connector) (other.role ∙ ap opposite s.role) in
+        let hard : is_at_device other.at ≡ true = from_device other.at.connection.connector other.at.end.role
+        (ap (λ (z : FlatConnection). z.connector) same ∙ s.connector) (other.role ∙ ap opposite s.role) in
         let leaf : other.at.end.leaf ≡ v.at.end.leaf = one_end v.at other.at (other.same ∙ sym v.place) v.device hard in (
           place t (CNodeOf i.domain),
           u.0 + 1,
           use_cap t i.domain u.0 (Handler k x.number),
           u.1,
-          ap (λ z. option_confers z NONE a) (kind_there t (IrqOf k) (x.connection, x.here, s.connector)) ∙ ap (λ z. kind_confers kinds.Irq NONE z) s.authority,
+          ap (λ z. option_confers z NONE a) (kind_there t (IrqOf k) (x.connection, x.here, s.connector))
+              ∙ ap (λ z. kind_confers kinds.Irq NONE z) s.authority,
           d.from ∙ i.label ∙ sym (node_label i.domain i.found i.here),
           other.label_is ∙ ap (leaf_label policy) leaf ∙ sym (irq_label k x.connection x.here s.connector),
         )
 
-    signalling_given : (l : ℕ) (a : Authority) (m : ℕ) (d : DirectReason policy (edge l a m)) → IsSignalling d.at.connection.connector d.at.end.role d.object a → OfSignal (labels t) (boot spec) l a m
+    signalling_given : (l : ℕ) (a : Authority) (m : ℕ) (d : DirectReason policy (edge l a m))
+        → IsSignalling d.at.connection.connector d.at.end.role d.object a → OfSignal (labels t) (boot spec) l a m
     signalling_given l a m d s =
         let x = d.at in
         let k = x.place in
@@ -428,13 +503,15 @@ module _ (t : Tables) where
         let leads : m ≡ connection_label policy k = subst (λ z. LeadsTo policy x z m) s.object d.to in (
           place t (IrqOf k),
           place t (NotificationOf k),
-          boots spec boot_irq (place t (IrqOf k)) (object t (IrqOf k)) None (object_there t (IrqOf k) (x.connection, x.here, s.connector)),
+          boots spec boot_irq (place t (IrqOf k)) (object t (IrqOf k)) None
+              (object_there t (IrqOf k) (x.connection, x.here, s.connector)),
           s.authority,
           d.from ∙ ap (leaf_label policy) leaf ∙ sym (irq_label k x.connection x.here s.connector),
           leads ∙ sym (label_there t (NotificationOf k) (x.connection, x.here, inr s.connector)),
         )
 
-    pub given : (l : ℕ) (a : Authority) (m : ℕ) → l ≢ m → DirectReason policy (edge l a m) → IsAccess a ⊎ OfJoints spec (labels t) l a m
+    pub given : (l : ℕ) (a : Authority) (m : ℕ) → l ≢ m → DirectReason policy (edge l a m)
+        → IsAccess a ⊎ OfJoints spec (labels t) l a m
     given l a m differ d = elim (given_by d.at.connection.connector d.at.end.role d.object a d.given) [
       | inl access ↦ inl access
       | inr (inl slot) ↦ inr (inl (slot_given l a m d slot))

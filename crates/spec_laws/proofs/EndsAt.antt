@@ -70,7 +70,8 @@ module _ (cs : List FlatConnection) (leaf : ℕ) where
         member_is = eqb-true b.1.member m q.1;
       }
 
-  pub in_member_ends : (m k n : ℕ) (c : FlatConnection) (x : FlatEnd) → slice_get cs k ≡ Some c → slice_get c.ends n ≡ Some x → x.leaf ≡ leaf → x.member ≡ m → IsIn (at k n) (member_ends cs leaf m)
+  pub in_member_ends : (m k n : ℕ) (c : FlatConnection) (x : FlatEnd) → slice_get cs k ≡ Some c → slice_get c.ends n ≡ Some x
+      → x.leaf ≡ leaf → x.member ≡ m → IsIn (at k n) (member_ends cs leaf m)
   in_member_ends m k n c x h g p q =
       let joined : joins leaf m x ≡ true = ap (λ b. b && (x.member == m)) (eq-eqb x.leaf leaf p) ∙ eq-eqb x.member m q in
       let P : Bool → Type 0 = λ b. IsIn (at k n) (cond b (at k n ∷ []) []) in
@@ -81,7 +82,8 @@ module _ (cs : List FlatConnection) (leaf : ℕ) where
   once_member m =
       let inner : (k : ℕ) (c : FlatConnection) → slice_get cs k ≡ Some c → Once (of_connection m k c) = λ k c h. (
       let f : ℕ → FlatEnd → List EndAt = λ n x. end_here leaf m k n x in
-      once_gather f c.ends (λ n x g. once_here leaf m k n x) (λ n l x z e i j. ap (λ (w : EndAt). w.end) ((here_is leaf m k n x e i).1 ∙ sym (here_is leaf m k l z e j).1))) in
+      once_gather f c.ends (λ n x g. once_here leaf m k n x)
+      (λ n l x z e i j. ap (λ (w : EndAt). w.end) ((here_is leaf m k n x e i).1 ∙ sym (here_is leaf m k l z e j).1))) in
       once_gather (of_connection m) cs inner (λ k l c d e i j. (
       let a = from_gather (λ n x. end_here leaf m k n x) e c.ends i in
       let b = from_gather (λ n x. end_here leaf m l n x) e d.ends j in
@@ -100,17 +102,21 @@ module _ (cs : List FlatConnection) (leaf : ℕ) where
 
 -- ---- of a leaf of the system
 
-pub ends_are : (t : Tables) (leaf : ℕ) (x : Leaf) → slice_get t.flat.leaves leaf ≡ Some x → ends_at (ends (system t)) leaf ≡ leaf_ends t.flat.connections leaf (leaf_members t.source t.flat leaf)
+pub ends_are : (t : Tables) (leaf : ℕ) (x : Leaf) → slice_get t.flat.leaves leaf ≡ Some x
+    → ends_at (ends (system t)) leaf ≡ leaf_ends t.flat.connections leaf (leaf_members t.source t.flat leaf)
 ends_are t leaf x h =
     let f : ℕ → Leaf → List EndAt = λ n z. leaf_ends t.flat.connections n (members_at t.source z.component) in
-    ap (λ o. ends_in o) (get_ones f t.flat.leaves leaf x h) ∙ ap (λ o. leaf_ends t.flat.connections leaf (members_of_leaf t.source o)) (sym h)
+    ap (λ o. ends_in o) (get_ones f t.flat.leaves leaf x h)
+    ∙ ap (λ o. leaf_ends t.flat.connections leaf (members_of_leaf t.source o)) (sym h)
 
-pub end_of_leaf : (t : Tables) (leaf : ℕ) (e : EndAt) (members : List Member) → IsIn e (leaf_ends t.flat.connections leaf members) → (m : ℕ) × JoinsLeaf t.flat.connections leaf m e
+pub end_of_leaf : (t : Tables) (leaf : ℕ) (e : EndAt) (members : List Member) → IsIn e (leaf_ends t.flat.connections leaf members)
+    → (m : ℕ) × JoinsLeaf t.flat.connections leaf m e
 end_of_leaf t leaf e members i =
     let f : ℕ → Member → List EndAt = λ m x. member_ends t.flat.connections leaf m in
     let a = from_gather f e members i in (a.0, member_end t.flat.connections leaf a.0 e a.3)
 
-pub in_leaf_ends : (t : Tables) (leaf k n : ℕ) (c : FlatConnection) (x : FlatEnd) (members : List Member) → slice_get t.flat.connections k ≡ Some c → slice_get c.ends n ≡ Some x → x.leaf ≡ leaf → x.member < length members
+pub in_leaf_ends : (t : Tables) (leaf k n : ℕ) (c : FlatConnection) (x : FlatEnd) (members : List Member)
+    → slice_get t.flat.connections k ≡ Some c → slice_get c.ends n ≡ Some x → x.leaf ≡ leaf → x.member < length members
     → IsIn (at k n) (leaf_ends t.flat.connections leaf members)
 in_leaf_ends t leaf k n c x members h g p l =
     let f : ℕ → Member → List EndAt = λ m x. member_ends t.flat.connections leaf m in

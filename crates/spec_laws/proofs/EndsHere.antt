@@ -34,11 +34,16 @@ module _ (g : Given) where
     pub is : joined at ≡ e
     pub leaf_is : at.end.leaf ≡ leaf
 
-  from_joins : (leaf m k n : ℕ) (c : FlatConnection) (f : FlatEnd) (e : Joined) → slice_get g.flat.connections k ≡ Some c → slice_get c.ends n ≡ Some f → IsIn e (end_here leaf m k n f) → IsHere leaf e
+  from_joins : (leaf m k n : ℕ) (c : FlatConnection) (f : FlatEnd) (e : Joined) → slice_get g.flat.connections k ≡ Some c
+      → slice_get c.ends n ≡ Some f → IsIn e (end_here leaf m k n f) → IsHere leaf e
   from_joins leaf m k n c f e h s i = by_test (joins leaf m f) refl i
     where
       by_test : (b : Bool) → joins leaf m f ≡ b → IsIn e (cond b (record { connection = k; end = n } ∷ []) []) → IsHere leaf e
-      by_test true q (inl same) = record { at = record { place = k; connection = c; here = h; number = n; end = f; stands = s }; is = same; leaf_is = eqb-true f.leaf leaf (and_parts (eqb f.leaf leaf) (eqb f.member m) q).0 }
+      by_test true q (inl same) = record {
+        at = record { place = k; connection = c; here = h; number = n; end = f; stands = s };
+        is = same;
+        leaf_is = eqb-true f.leaf leaf (and_parts (eqb f.leaf leaf) (eqb f.member m) q).0;
+      }
       by_test true q (inr i) = absurd i
       by_test false q i = absurd i
 
@@ -61,10 +66,12 @@ module _ (g : Given) where
         let o = from_ones of_leaf g.flat.leaves leaf es h in
         from_leaf leaf (members_at g.source o.0.component) e (subst (λ z. IsIn e z) (sym o.2) i)
 
-  in_joins : (leaf m k n : ℕ) (f : FlatEnd) → f.leaf ≡ leaf → f.member ≡ m → IsIn (record { connection = k; end = n }) (end_here leaf m k n f)
+  in_joins : (leaf m k n : ℕ) (f : FlatEnd) → f.leaf ≡ leaf → f.member ≡ m
+      → IsIn (record { connection = k; end = n }) (end_here leaf m k n f)
   in_joins leaf m k n f a b =
       let e : Joined = record { connection = k; end = n } in
-      let test : joins leaf m f ≡ true = and_from (eqb f.leaf leaf) (eqb f.member m) (eq-eqb f.leaf leaf a) (eq-eqb f.member m b) in
+      let test : joins leaf m f ≡ true = and_from (eqb f.leaf leaf) (eqb f.member m) (eq-eqb f.leaf leaf a)
+      (eq-eqb f.member m b) in
       let P : Bool → Type 0 = λ z. IsIn e (cond z (e ∷ []) []) in
       subst P (sym test) (inl refl)
 
@@ -77,8 +84,10 @@ module _ (g : Given) where
       let ms = members_at g.source j.leaf.component in
       let F : ℕ → Member → List Joined = λ m y. member_ends g.flat.connections leaf m in
       let inner : IsIn e (member_ends g.flat.connections leaf m) =
-      in_gather (λ k (c : FlatConnection). gather (λ n f. end_here leaf m k n f) c.ends) e g.flat.connections x.place x.connection x.here
-      (in_gather (λ n f. end_here leaf m x.place n f) e x.connection.ends x.number x.end x.stands (in_joins leaf m x.place x.number x.end refl refl)) in
+      in_gather (λ k (c : FlatConnection). gather (λ n f. end_here leaf m k n f) c.ends) e g.flat.connections x.place
+      x.connection x.here
+      (in_gather (λ n f. end_here leaf m x.place n f) e x.connection.ends x.number x.end x.stands
+      (in_joins leaf m x.place x.number x.end refl refl)) in
       let there : IsIn e (of_leaf leaf j.leaf) = in_gather F e ms m j.member j.joins inner in
       let at : slice_get (ends g) leaf ≡ Some (of_leaf leaf j.leaf) = get_ones of_leaf g.flat.leaves leaf j.leaf j.here in
       subst (λ z. IsIn e (ends_in z)) (sym at) there
@@ -87,7 +96,8 @@ module _ (g : Given) where
 
   end_is : (x : EndAt g.flat) → end_of g.flat x.place x.number ≡ Some (x.connection.connector, x.end)
   end_is x =
-      ap (λ z. option_and_then (λ (c : FlatConnection). option_map (λ (e : FlatEnd). (c.connector, e)) (slice_get c.ends x.number)) z) x.here
+      ap (λ z. option_and_then (λ (c : FlatConnection). option_map (λ (e : FlatEnd). (c.connector, e))
+      (slice_get c.ends x.number)) z) x.here
       ∙ ap (λ z. option_map (λ (e : FlatEnd). (x.connection.connector, e)) z) x.stands
 
   sees_is : (x : EndAt g.flat) → sees_memory g.flat (joined x) ≡ is_window x.connection.connector x.end.role
@@ -127,10 +137,12 @@ module _ (g : Given) where
         listed = subst (λ z. IsIn z (leaves_of g.flat d)) (sym h.leaf_is) l.1;
       }
 
-  pub in_windows : IsFlat g.source g.flat → (d : ℕ) (x : EndAt g.flat) → IsIn x.end.leaf (leaves_of g.flat d) → is_window x.connection.connector x.end.role ≡ true → IsIn (joined x) (windows_of g d)
+  pub in_windows : IsFlat g.source g.flat → (d : ℕ) (x : EndAt g.flat) → IsIn x.end.leaf (leaves_of g.flat d)
+      → is_window x.connection.connector x.end.role ≡ true → IsIn (joined x) (windows_of g d)
   in_windows flat d x i w =
       in_flat_map (leaf_windows g.flat (ends g)) x.end.leaf (joined x) (leaves_of g.flat d) i
-      (in_flat_map (end_window g.flat) (joined x) (joined x) (ends_at (ends g) x.end.leaf) (in_ends flat x) (in_end_window (joined x) (sees_is x ∙ w)))
+      (in_flat_map (end_window g.flat) (joined x) (joined x) (ends_at (ends g) x.end.leaf) (in_ends flat x)
+      (in_end_window (joined x) (sees_is x ∙ w)))
 
   -- ---- threads
 

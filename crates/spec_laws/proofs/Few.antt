@@ -39,7 +39,8 @@ module _ (t : Tables) where
   pub all_tables_are : totals (λ d (x : Domain). length (tables_at t 0 0 d)) t.flat.domains ≡ length (all_tables t)
   all_tables_are =
       sym (length_gather (domain_tables t) t.flat.domains
-      ∙ totals_same (λ d (x : Domain). length (domain_tables t d x)) (λ d x. length (tables_at t 0 0 d)) t.flat.domains (λ d x e. same d x))
+      ∙ totals_same (λ d (x : Domain). length (domain_tables t d x)) (λ d x. length (tables_at t 0 0 d)) t.flat.domains
+      (λ d x e. same d x))
     where
       same : (d : ℕ) (x : Domain) → length (domain_tables t d x) ≡ length (tables_at t 0 0 d)
       same d x = gather_ones (λ j o. page_table d j (level_of o)) (tables_at t 0 0 d)
@@ -75,7 +76,8 @@ module _ (t : Tables) where
   some_most None = omega arith
   some_most (Some x) = omega arith
 
-  thread_caps : (d : ℕ) (o : Option ThreadPlace) → caps_of (option_map_or (λ x. objects.Thread (tcb t d x)) o objects.Endpoint) ≤ 3
+  thread_caps : (d : ℕ) (o : Option ThreadPlace)
+      → caps_of (option_map_or (λ x. objects.Thread (tcb t d x)) o objects.Endpoint) ≤ 3
   thread_caps d None = omega arith
   thread_caps d (Some x) = let b = some_most (tcb t d x).buffer in omega (arith, b)
 
@@ -83,13 +85,15 @@ module _ (t : Tables) where
   frame_caps None = omega arith
   frame_caps (Some x) = omega arith
 
-  table_caps : (d : ℕ) → totals (λ j (o : Object). caps (TableOf d j)) (tables_at t 0 0 d) ≤ length (pages_at t d) + length (tables_at t 0 0 d)
+  table_caps : (d : ℕ) → totals (λ j (o : Object). caps (TableOf d j)) (tables_at t 0 0 d) ≤ length (pages_at t d) + length
+      (tables_at t 0 0 d)
   table_caps d =
       let first = place t (TableOf d 0) in
       let frames = place t (FrameOf 0) in
       let xs : List Mapping = map (page_mapping frames) (pages_at t d) in
       let long = as_long t 0 0 first frames d in
-      let all : totals (λ j (o : Object). caps (TableOf d j)) (tables_at t 0 0 d) ≡ total caps_of (standing t d) = looked_up caps_of objects.Endpoint (tables_at t 0 0 d) (standing t d) long in
+      let all : totals (λ j (o : Object). caps (TableOf d j)) (tables_at t 0 0 d) ≡ total caps_of (standing t d) =
+      looked_up caps_of objects.Endpoint (tables_at t 0 0 d) (standing t d) long in
       let most = of_levels (shapes (arch t)) xs first 0 in
       let size = as_many first 0 (layers (shapes (arch t)) xs) in
       let count = length-map (pages_at t d) (page_mapping frames) in
@@ -97,7 +101,8 @@ module _ (t : Tables) where
 
   caps_most : Most t caps (λ d. length (uses_at t d)) 3 0 0 1 (λ d. length (pages_at t d) + length (tables_at t 0 0 d)) 0
   caps_most = record {
-    cnodes = λ d x e. let f : ℕ → SlotUse → (ℕ × Cap) = λ n u. (n + 1, use_cap t d n u) in let o = gather_ones f (uses_at t d) in omega (arith, o);
+    cnodes = λ d x e. let f : ℕ → SlotUse → (ℕ × Cap) = λ n u. (n + 1, use_cap t d n u) in let o = gather_ones f (uses_at t d) in
+        omega (arith, o);
     threads = λ d i. thread_caps d (slice_get (threads_at t d) i);
     endpoints = λ k. omega arith;
     notifications = λ k. omega arith;
@@ -109,11 +114,13 @@ module _ (t : Tables) where
 
   pub caps_few : cap_count (spec_of t) ≤ cap_sum t
   caps_few =
-      let a = parts_most t caps (λ d. length (uses_at t d)) 3 0 0 1 (λ d. length (pages_at t d) + length (tables_at t 0 0 d)) 0 caps_most in
+      let a = parts_most t caps (λ d. length (uses_at t d)) 3 0 0 1 (λ d. length (pages_at t d) + length (tables_at t 0 0 d))
+      0 caps_most in
       let uses = sum_ones (λ d (x : Domain). length (uses_at t d)) t.flat.domains in
       let pages = sum_ones (λ d (x : Domain). length (pages_at t d)) t.flat.domains in
       let both = totals_add (λ d (x : Domain). length (pages_at t d)) (λ d x. length (tables_at t 0 0 d)) t.flat.domains in
-      let all : cap_count (spec_of t) ≡ total (λ (p : Part). caps p.what) (parts t) = sum_map (λ (e : Entry). caps_of e.object) (map (entry t) (parts t)) ∙ total_map (λ (e : Entry). caps_of e.object) (entry t) (parts t) in
+      let all : cap_count (spec_of t) ≡ total (λ (p : Part). caps p.what) (parts t) = sum_map (λ (e : Entry). caps_of e.object)
+      (map (entry t) (parts t)) ∙ total_map (λ (e : Entry). caps_of e.object) (entry t) (parts t) in
       omega (arith, a, uses, pages, both, all, all_tables_are)
 
   -- ---- within the limits

@@ -57,10 +57,12 @@ at_is s Stack at j = refl
 at_is s Buffer at j = refl
 at_is s (Window e) at j = refl
 
-some_thread : (t : Tables) (ls : List ℕ) → 0 < length ls → (y : ThreadOf) × (ys : List ThreadOf) × (domain_threads t.flat (ends (system t)) ls ≡ y ∷ ys)
+some_thread : (t : Tables) (ls : List ℕ) → 0 < length ls → (y : ThreadOf) × (ys : List ThreadOf)
+    × (domain_threads t.flat (ends (system t)) ls ≡ y ∷ ys)
 some_thread t [] l = absurd (omega (arith, l))
 some_thread t (n ∷ ls) l =
-    let all = ends (system t) in (thread n None, flat_map (server t.flat n) (ends_at all n) ++ flat_map (leaf_threads t.flat all) ls, refl)
+    let all = ends (system t) in
+    (thread n None, flat_map (server t.flat n) (ends_at all n) ++ flat_map (leaf_threads t.flat all) ls, refl)
 
 module _ (t : Tables) (can : CanMap t) (d : ℕ) (x : Domain) (h : slice_get t.flat.domains d ≡ Some x) where
   abbrev pub maps : List Mapping
@@ -83,7 +85,8 @@ module _ (t : Tables) (can : CanMap t) (d : ℕ) (x : Domain) (h : slice_get t.f
   in_maps n p e =
       let f : ℕ → MappedPage → List Page = λ n p. laid_page n p ∷ [] in
       let P : List Page → Type 0 = λ z. IsIn (laid_page n p) z in
-      in_map (page_mapping (frames_from t)) (laid_page n p) (pages_at t d) (subst P (sym pages_are) (in_gather f (laid_page n p) (mapped_pages (system t) d) n p e (inl refl)))
+      in_map (page_mapping (frames_from t)) (laid_page n p) (pages_at t d)
+      (subst P (sym pages_are) (in_gather f (laid_page n p) (mapped_pages (system t) d) n p e (inl refl)))
 
   pub record IsMapping (m : Mapping) : Type 0 where
     pub number : ℕ
@@ -110,7 +113,8 @@ module _ (t : Tables) (can : CanMap t) (d : ℕ) (x : Domain) (h : slice_get t.f
   pub rise : PagesRise (system t) d
   rise = rising (system t) d stand
 
-  region_below : (n j : ℕ) (r : Region) → slice_get (regions (system t) d) n ≡ Some r → j < r.pages → begins t d n + 4096 * j < root_span (shapes (arch t))
+  region_below : (n j : ℕ) (r : Region) → slice_get (regions (system t) d) n ≡ Some r → j < r.pages
+      → begins t d n + 4096 * j < root_span (shapes (arch t))
   region_below n j r e l =
       let rs = regions (system t) d in
       let few = few_at (system t) can.lay can.few d x h in
@@ -124,14 +128,17 @@ module _ (t : Tables) (can : CanMap t) (d : ℕ) (x : Domain) (h : slice_get t.f
       elim (in_append p (section_part t.images (leaves_of t.flat d)) (region_part t.settled (base s) (regions s d)) i) [
         | inl j ↦
             let q = from_map section_page p (section_pages t.images (leaves_of t.flat d)) j in
-            let l : q.0.vaddr + 4096 ≤ base s = each_in (λ (z : SectionPage). z.vaddr + 4096 ≤ base s) (section_pages t.images (leaves_of t.flat d)) q.0 (each_all (λ (z : SectionPage). z.vaddr + 4096 ≤ base s) (section_pages t.images (leaves_of t.flat d)) stand.below) q.1 in
+            let l : q.0.vaddr + 4096 ≤ base s = each_in (λ (z : SectionPage). z.vaddr + 4096 ≤ base s)
+            (section_pages t.images (leaves_of t.flat d)) q.0 (each_all (λ (z : SectionPage). z.vaddr + 4096 ≤ base s)
+            (section_pages t.images (leaves_of t.flat d)) stand.below) q.1 in
             let e : q.0.vaddr ≡ p.at = ap (λ (z : MappedPage). z.at) q.2 in
             root_spans (arch t) p.at (omega (arith, l, e))
         | inr j ↦
             let a = from_gather (pages_of_region t.settled (base s) (regions s d)) p (regions s d) j in
             let b = from_map (page_of t.settled (begins t d a.0) a.1) p (range_with_len 0 a.1.pages) a.3 in
             let l = region_below a.0 b.0 a.1 a.2 (below_count a.1.pages b.0 b.1) in
-            let e : begins t d a.0 + 4096 * b.0 ≡ p.at = sym (at_is t.settled a.1.content (begins t d a.0 + 4096 * b.0) b.0) ∙ ap (λ (z : MappedPage). z.at) b.2 in
+            let e : begins t d a.0 + 4096 * b.0 ≡ p.at = sym (at_is t.settled a.1.content (begins t d a.0 + 4096 * b.0) b.0)
+            ∙ ap (λ (z : MappedPage). z.at) b.2 in
             let P : ℕ → Type 0 = λ z. z < root_span (shapes (arch t)) in subst P e l
       ]
 
@@ -139,7 +146,8 @@ module _ (t : Tables) (can : CanMap t) (d : ℕ) (x : Domain) (h : slice_get t.f
   maps_below m i =
       let a = from_maps m i in
       let P : ℕ → Type 0 = λ z. z < root_span (shapes (arch t)) in
-      subst P (ap (λ (z : Mapping). z.at) a.is) (page_below a.shown (in_place a.shown (mapped_pages (system t) d) a.number a.here))
+      subst P (ap (λ (z : Mapping). z.at) a.is)
+      (page_below a.shown (in_place a.shown (mapped_pages (system t) d) a.number a.here))
 
   -- ---- some page is mapped: the buffer of the first thread
 
@@ -152,15 +160,24 @@ module _ (t : Tables) (can : CanMap t) (d : ℕ) (x : Domain) (h : slice_get t.f
 
   pub some_map : (m : Mapping) × IsIn m maps
   some_map =
-      let p : IsRegionPage t d 1 (begins t d 1 + 4096 * 0) 0 (region Buffer 1) = record { here = buffer_there; within = omega arith; at = refl } in
+      let p : IsRegionPage t d 1 (begins t d 1 + 4096 * 0) 0 (region Buffer 1) = record {
+        here = buffer_there;
+        within = omega arith;
+        at = refl;
+      } in
       let q = region_page t.settled Buffer (begins t d 1 + 4096 * 0) 0 in
-      let i = place_of q (mapped_pages (system t) d) (region_in t can.settled d 1 (begins t d 1 + 4096 * 0) 0 (region Buffer 1) Buffer p refl) in
+      let i = place_of q (mapped_pages (system t) d) (region_in t can.settled d 1 (begins t d 1 + 4096 * 0) 0 (region Buffer 1)
+      Buffer p refl) in
       (mapping i.0 q, in_maps i.0 q i.1)
 
   -- ---- what is found
 
   abbrev pub page_cap : ℕ → MappedPage → Cap
-  page_cap n p = record { object = frames_from t + number_shown (system t) d n p.shown; rights = memory_rights p.read p.write; badge = 0 }
+  page_cap n p = record {
+    object = frames_from t + number_shown (system t) d n p.shown;
+    rights = memory_rights p.read p.write;
+    badge = 0;
+  }
 
   pub record Found (v : ℕ) (cap : Cap) : Type 0 where
     pub number : ℕ
@@ -169,23 +186,33 @@ module _ (t : Tables) (can : CanMap t) (d : ℕ) (x : Domain) (h : slice_get t.f
     pub same : shown.at / 4096 ≡ v / 4096
     pub is : cap ≡ page_cap number shown
 
-  walk : (v : ℕ) (cap : Cap) → v < root_span (shapes (arch t)) → IsAt (spec_of t) (root_of t d) v cap ↔ ((m : Mapping) × IsIn m maps × ((m.at / 4096) ≡ (v / 4096)) × (cap ≡ m.cap))
+  walk : (v : ℕ) (cap : Cap) → v < root_span (shapes (arch t)) → IsAt (spec_of t) (root_of t d) v cap
+      ↔ ((m : Mapping) × IsIn m maps × ((m.at / 4096) ≡ (v / 4096)) × (cap ≡ m.cap))
   walk v cap l =
       let y = some_map in
-      let P : List Object → Type 0 = λ T. Walk (root_of t d) T (shapes (arch t)) v cap ↔ ((m : Mapping) × IsIn m maps × ((m.at / 4096) ≡ (v / 4096)) × (cap ≡ m.cap)) in
-      subst P (sym (from_root t d x h)) (found_before (arch t) (root_of t d) maps (drop (length (tables_of_domain t d)) (objects_from (spec_of t) (root_of t d))) y.0 v cap y.1 maps_below l)
+      let P : List Object → Type 0 = λ T. Walk (root_of t d) T (shapes (arch t)) v cap
+      ↔ ((m : Mapping) × IsIn m maps × ((m.at / 4096) ≡ (v / 4096)) × (cap ≡ m.cap)) in
+      subst P (sym (from_root t d x h)) (found_before (arch t) (root_of t d) maps
+      (drop (length (tables_of_domain t d)) (objects_from (spec_of t) (root_of t d))) y.0 v cap y.1 maps_below l)
 
   pub found : (v : ℕ) (cap : Cap) → v < root_span (shapes (arch t)) → IsAt (spec_of t) (root_of t d) v cap → Found v cap
   found v cap l i =
       let m = (walk v cap l).0 i in
       let a = from_maps m.0 m.1 in
-      record { number = a.number; shown = a.shown; here = a.here; same = ap (λ (z : Mapping). z.at / 4096) a.is ∙ m.2; is = m.3 ∙ ap (λ (z : Mapping). z.cap) (sym a.is) }
+      record {
+        number = a.number;
+        shown = a.shown;
+        here = a.here;
+        same = ap (λ (z : Mapping). z.at / 4096) a.is ∙ m.2;
+        is = m.3 ∙ ap (λ (z : Mapping). z.cap) (sym a.is);
+      }
 
   pub finds : (v : ℕ) (cap : Cap) → v < root_span (shapes (arch t)) → Found v cap → IsAt (spec_of t) (root_of t d) v cap
   finds v cap l f = (walk v cap l).1 (mapping f.number f.shown, in_maps f.number f.shown f.here, f.same, f.is)
 
   -- an address that is on a mapped page is below what the root spans
-  pub within : (v n : ℕ) (p : MappedPage) → slice_get (mapped_pages (system t) d) n ≡ Some p → p.at / 4096 ≡ v / 4096 → v < root_span (shapes (arch t))
+  pub within : (v n : ℕ) (p : MappedPage) → slice_get (mapped_pages (system t) d) n ≡ Some p → p.at / 4096 ≡ v / 4096
+      → v < root_span (shapes (arch t))
   within v n p e same =
       let i = in_place p (mapped_pages (system t) d) n e in
       let a = rise.aligned p i in

@@ -32,8 +32,10 @@ use Rattle.spec_laws.proofs.SettledNumbers.{priorities_fit}
 use Rattle.spec_laws.proofs.StackPages.{stacks_some}
 use Rattle.spec_laws.proofs.PartBounds.{uses_few}
 
-pub tables_are_fit : (s : Source) (images : Images) → AreFilesShort s → AreNamesSound s → first_type_fault s ≡ None → first_flat_fault s ≡ None → first_setting_fault s ≡ None
-    → AreNumbered (flat_of s) images → AreSound images → first_space_fault (flat_of s) images ≡ None → first_slot_fault s (flat_of s) ≡ None → first_page_limit (given s (flat_of s) (settled_of s) images) ≡ None
+pub tables_are_fit : (s : Source) (images : Images) → AreFilesShort s → AreNamesSound s → first_type_fault s ≡ None
+    → first_flat_fault s ≡ None → first_setting_fault s ≡ None
+    → AreNumbered (flat_of s) images → AreSound images → first_space_fault (flat_of s) images ≡ None
+    → first_slot_fault s (flat_of s) ≡ None → first_page_limit (given s (flat_of s) (settled_of s) images) ≡ None
     → IsFit (tables_from s (flat_of s) (settled_of s) images)
 tables_are_fit s images short sound types flat settings numbered sections space slots pages =
     let g = given s (flat_of s) (settled_of s) images in
@@ -49,7 +51,11 @@ tables_are_fit s images short sound types flat settings numbered sections space 
       objects = build.few.objects;
       domains = λ d x at. record {
         slots = let l = uses_few t refl refl (flat_small s sound flat) (few_uses s sound slots) can few d in omega (arith, l);
-        pages = λ p i. let q = pages_placed g stand can few d p i in record { aligned = q.aligned; below = q.below; frame = build.shown d p i };
+        pages = λ p i. let q = pages_placed g stand can few d p i in record {
+          aligned = q.aligned;
+          below = q.below;
+          frame = build.shown d p i;
+        };
         rise = build.rise d;
         mapped = λ x i. threads_mapped g can d x i;
       };
@@ -58,8 +64,10 @@ tables_are_fit s images short sound types flat settings numbered sections space 
       one_line = one_line s sound (dotted s short) types (settings_sound s settings);
     }
 
-pub layouts_are_limited : (s : Source) (images : Images) → AreFilesShort s → AreNamesSound s → first_type_fault s ≡ None → first_flat_fault s ≡ None → first_setting_fault s ≡ None
-    → first_slot_fault s (flat_of s) ≡ None → first_page_limit (given s (flat_of s) (settled_of s) images) ≡ None → IsLimited (given s (flat_of s) (settled_of s) images)
+pub layouts_are_limited : (s : Source) (images : Images) → AreFilesShort s → AreNamesSound s → first_type_fault s ≡ None
+    → first_flat_fault s ≡ None → first_setting_fault s ≡ None
+    → first_slot_fault s (flat_of s) ≡ None → first_page_limit (given s (flat_of s) (settled_of s) images) ≡ None
+    → IsLimited (given s (flat_of s) (settled_of s) images)
 layouts_are_limited s images short sound types flat settings slots pages =
     let g = given s (flat_of s) (settled_of s) images in
     let one = one_assembly s sound in

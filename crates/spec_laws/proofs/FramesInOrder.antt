@@ -50,7 +50,8 @@ use Rattle.spec_laws.proofs.SlotLists.{some}
 
 -- ---- the first connection to a device
 
-first_least : (t : Tables) (k : ℕ) (c : FlatConnection) (e : FlatEnd) → slice_get t.flat.connections k ≡ Some c → registers c ≡ Some e → (f : FirstTo t e) → f.number ≤ k
+first_least : (t : Tables) (k : ℕ) (c : FlatConnection) (e : FlatEnd) → slice_get t.flat.connections k ≡ Some c
+    → registers c ≡ Some e → (f : FirstTo t e) → f.number ≤ k
 first_least t k c e h r f =
     let cs = t.flat.connections in
     let s = position-Some (leads_to e) cs f.number c f.first in
@@ -127,13 +128,15 @@ module _ (t : Tables) (can : CanMap t) where
                 let one = one_own d a.page a.fill a.shown in
                 omega (arith, next, one, i, j)
             | inr l ↦
-                let le = not_above (λ (z : MappedPage). z.at) (pages d) b.number a.number b.page a.page (rise t can d a.leaves a.here).rise b.stands a.stands (omega (arith, l)) in
+                let le = not_above (λ (z : MappedPage). z.at) (pages d) b.number a.number b.page a.page
+                (rise t can d a.leaves a.here).rise b.stands a.stands (omega (arith, l)) in
                 absurd (omega (arith, le, p, q, less))
           ]
 
   own_below : (d v m : ℕ) → OwnNumber d v m → m < frames_from t + own
   own_below d v m a =
-      let all : before (own_frames (system t)) t.flat.domains d + length (own_frames (system t) d a.leaves) ≤ own = inside (own_frames (system t)) t.flat.domains d a.leaves a.here in
+      let all : before (own_frames (system t)) t.flat.domains d + length (own_frames (system t) d a.leaves) ≤ own =
+      inside (own_frames (system t)) t.flat.domains d a.leaves a.here in
       let low = a.low in
       let i = a.is in
       omega (arith, all, low, i)
@@ -158,7 +161,12 @@ module _ (t : Tables) (can : CanMap t) where
       by_place s.is (memory_at t can k j w.connection w.here s.kind s.within)
     where
       by_place : at ≡ frames_from t + memory_number (system t) k j → MemoryPlace t k j w.connection → SharedNumber k j at
-      by_place is (MemoryPlace.at_shared n a) = record { connection = w.connection; here = w.here; is = is ∙ ap (λ z. frames_from t + z) n; low = a }
+      by_place is (MemoryPlace.at_shared n a) = record {
+        connection = w.connection;
+        here = w.here;
+        is = is ∙ ap (λ z. frames_from t + z) n;
+        low = a;
+      }
       by_place is (MemoryPlace.at_device e r f n a) =
           let none : registers w.connection ≡ None = ap (λ z. registers_in z w.connection.ends) w.is_shared in
           let g = sym none ∙ r in absurd cc
@@ -166,14 +174,27 @@ module _ (t : Tables) (can : CanMap t) where
   register_at : (k j at : ℕ) → IsRegisterAt t (spec_of t) (root_of t) k j at → RegisterNumber k j at
   register_at k j at w =
       let s = memory_shown t can w.domain k j at w.connection w.here w.shows in
-      by_place s.is (elim s.kind [ inl m ↦ (let g : SharedMemory ≡ Mmio = sym m ∙ w.is_device in absurd cc) | inr m ↦ memory_at t can k j w.connection w.here (inr m) s.within ])
+      by_place s.is (elim s.kind [
+        | inl m ↦ (let g : SharedMemory ≡ Mmio = sym m ∙ w.is_device in absurd cc)
+        | inr m ↦
+            memory_at t can k j w.connection w.here (inr m) s.within
+      ])
     where
       by_place : at ≡ frames_from t + memory_number (system t) k j → MemoryPlace t k j w.connection → RegisterNumber k j at
       by_place is (MemoryPlace.at_shared n a) =
-          let none : length (shared_frames t.settled k w.connection) ≡ 0 = ap (λ z. length (cond (is_shared z) (connection_frames k (memory_pages t.settled k w.connection)) [])) w.is_device in
+          let none : length (shared_frames t.settled k w.connection) ≡ 0 =
+          ap (λ z. length (cond (is_shared z) (connection_frames k (memory_pages t.settled k w.connection)) []))
+          w.is_device in
           absurd (omega (arith, none, a))
       by_place is (MemoryPlace.at_device e r f n a) =
-          let one : OneDevice w.connection f.connection = record { port = e; first = r; other = f.end; second = f.leads; leaf = sym f.leaf; member = sym f.member } in
+          let one : OneDevice w.connection f.connection = record {
+            port = e;
+            first = r;
+            other = f.end;
+            second = f.leads;
+            leaf = sym f.leaf;
+            member = sym f.member;
+          } in
           let le = w.first f.number f.connection f.here one in
           let ge = first_least t k w.connection e w.here r f in
           let same : f.number ≡ k = omega (arith, le, ge) in
@@ -181,11 +202,13 @@ module _ (t : Tables) (can : CanMap t) where
           let conn : f.connection ≡ w.connection = some (slice_get cs k) f.connection w.connection (subst P same f.here) w.here in
           let F = register_frames t.flat t.settled in
           let sum : before F cs f.number ≡ before F cs k = ap (λ z. before F cs z) same in
-          let long : length (F f.number f.connection) ≡ length (F k w.connection) = ap (λ z. length (F z f.connection)) same ∙ ap (λ z. length (F k z)) conn in
+          let long : length (F f.number f.connection) ≡ length (F k w.connection) = ap (λ z. length (F z f.connection)) same
+          ∙ ap (λ z. length (F k z)) conn in
           record {
             connection = w.connection;
             here = w.here;
-            is = is ∙ ap (λ z. frames_from t + z) n ∙ ap (λ z. frames_from t + (own + (length (shared_part t.flat t.settled) + z) + j)) sum;
+            is = is ∙ ap (λ z. frames_from t + z) n
+                ∙ ap (λ z. frames_from t + (own + (length (shared_part t.flat t.settled) + z) + j)) sum;
             low = omega (arith, long, a);
           }
 
@@ -197,7 +220,8 @@ module _ (t : Tables) (can : CanMap t) where
       let q = b.is in
       omega (arith, next, low, p, q)
   shared_order k i m l j n a b (inr r) =
-      let same : before (shared_frames t.settled) cs k ≡ before (shared_frames t.settled) cs l = ap (λ z. before (shared_frames t.settled) cs z) r.0 in
+      let same : before (shared_frames t.settled) cs k ≡ before (shared_frames t.settled) cs l =
+      ap (λ z. before (shared_frames t.settled) cs z) r.0 in
       let less = r.1 in
       let p = a.is in
       let q = b.is in
@@ -205,7 +229,8 @@ module _ (t : Tables) (can : CanMap t) where
 
   shared_below : (k i m l j n : ℕ) → SharedNumber k i m → RegisterNumber l j n → m < n
   shared_below k i m l j n a b =
-      let all : before (shared_frames t.settled) cs k + length (shared_frames t.settled k a.connection) ≤ length (shared_part t.flat t.settled) = inside (shared_frames t.settled) cs k a.connection a.here in
+      let all : before (shared_frames t.settled) cs k + length (shared_frames t.settled k a.connection) ≤ length
+      (shared_part t.flat t.settled) = inside (shared_frames t.settled) cs k a.connection a.here in
       let low = a.low in
       let p = a.is in
       let q = b.is in
@@ -226,7 +251,8 @@ module _ (t : Tables) (can : CanMap t) where
       let q = b.is in
       omega (arith, same, less, p, q)
 
-  behind_own : (d v m k j n : ℕ) → IsOwnAt t (spec_of t) (root_of t) d v m → IsSharedAt t (spec_of t) (root_of t) k j n ⊎ IsRegisterAt t (spec_of t) (root_of t) k j n → m < n
+  behind_own : (d v m k j n : ℕ) → IsOwnAt t (spec_of t) (root_of t) d v m → IsSharedAt t (spec_of t) (root_of t) k j n
+      ⊎ IsRegisterAt t (spec_of t) (root_of t) k j n → m < n
   behind_own d v m k j n a (inl b) =
       let low = own_below d v m (own_at d v m a) in
       let is = (shared_at k j n b).is in
@@ -245,11 +271,13 @@ module _ (t : Tables) (can : CanMap t) where
       let g : ℕ → FrameInfo → Owned = λ n z. owned (frame_owner z.owner) (FrameOf n) in
       let k : ℕ → Owned → List Part = λ n z. part series.Frame n z.owner z.what ∷ [] in
       let p = part series.Frame n (frame_owner x.0.owner) (FrameOf n) in
-      let there = in_together (sections t) 7 (numbered series.Frame (frame_parts t.spaces.frames)) p refl (in_gather k p (frame_parts t.spaces.frames) n y (get_ones g t.spaces.frames n x.0 x.1) (inl refl)) in
+      let there = in_together (sections t) 7 (numbered series.Frame (frame_parts t.spaces.frames)) p refl
+      (in_gather k p (frame_parts t.spaces.frames) n y (get_ones g t.spaces.frames n x.0 x.1) (inl refl)) in
       let at : place t (FrameOf n) ≡ place t (FrameOf 0) + n = omega arith in
       ap (name_at (spec_of t)) (sym at) ∙ (objects_stand t).name p there
 
-  all_numbered : (at : ℕ) (paddr : Option ℕ) (fill : Option Fill) → object_at (spec_of t) at ≡ Some (objects.Frame paddr fill) → (n : ℕ) × (n < length t.spaces.frames) × (at ≡ place t (FrameOf 0) + n)
+  all_numbered : (at : ℕ) (paddr : Option ℕ) (fill : Option Fill) → object_at (spec_of t) at ≡ Some (objects.Frame paddr fill)
+      → (n : ℕ) × (n < length t.spaces.frames) × (at ≡ place t (FrameOf 0) + n)
   all_numbered at paddr fill o =
       let p = part_there t at (objects.Frame paddr fill) o in
       let w = frame_what t p.0.what paddr fill p.2 in

@@ -53,13 +53,15 @@ use Rattle.spec_laws.proofs.Paging.{window_is, window_of}
 
 -- ---- frames as objects
 
-pub frame_there : (t : Tables) (f : ℕ) (info : FrameInfo) → slice_get t.spaces.frames f ≡ Some info → object_at (spec_of t) (place t (FrameOf f)) ≡ Some (frame_object info)
+pub frame_there : (t : Tables) (f : ℕ) (info : FrameInfo) → slice_get t.spaces.frames f ≡ Some info
+    → object_at (spec_of t) (place t (FrameOf f)) ≡ Some (frame_object info)
 frame_there t f info e =
     let y = owned (frame_owner info.owner) (FrameOf f) in
     let g : ℕ → FrameInfo → Owned = λ n z. owned (frame_owner z.owner) (FrameOf n) in
     let p = part series.Frame f (frame_owner info.owner) (FrameOf f) in
     let k : ℕ → Owned → List Part = λ n z. part series.Frame n z.owner z.what ∷ [] in
-    let there = in_together (sections t) 7 (numbered series.Frame (frame_parts t.spaces.frames)) p refl (in_gather k p (frame_parts t.spaces.frames) f y (get_ones g t.spaces.frames f info e) (inl refl)) in
+    let there = in_together (sections t) 7 (numbered series.Frame (frame_parts t.spaces.frames)) p refl
+    (in_gather k p (frame_parts t.spaces.frames) f y (get_ones g t.spaces.frames f info e) (inl refl)) in
     (objects_stand t).object p there ∙ ap (λ o. Some (option_map_or frame_object o Endpoint)) e
 
 -- ---- the first connection to registers
@@ -75,18 +77,30 @@ pub record FirstTo (t : Tables) (e : FlatEnd) : Type 0 where
   pub leaf : end.leaf ≡ e.leaf
   pub member : end.member ≡ e.member
 
-of_port : (o : Option FlatEnd) (e : FlatEnd) → option_map_or (same_port e) o false ≡ true → (f : FlatEnd) × (o ≡ Some f) × (f.leaf ≡ e.leaf) × (f.member ≡ e.member)
+of_port : (o : Option FlatEnd) (e : FlatEnd) → option_map_or (same_port e) o false ≡ true → (f : FlatEnd) × (o ≡ Some f)
+    × (f.leaf ≡ e.leaf) × (f.member ≡ e.member)
 of_port None e h = cc
-of_port (Some f) e h = let q = and_parts (f.leaf == e.leaf) (f.member == e.member) h in (f, refl, eqb-true f.leaf e.leaf q.0, eqb-true f.member e.member q.1)
+of_port (Some f) e h = let q = and_parts (f.leaf == e.leaf) (f.member == e.member) h in
+    (f, refl, eqb-true f.leaf e.leaf q.0, eqb-true f.member e.member q.1)
 
-pub first_is : (t : Tables) (k : ℕ) (c : FlatConnection) (e : FlatEnd) → slice_get t.flat.connections k ≡ Some c → registers c ≡ Some e → FirstTo t e
+pub first_is : (t : Tables) (k : ℕ) (c : FlatConnection) (e : FlatEnd) → slice_get t.flat.connections k ≡ Some c
+    → registers c ≡ Some e → FirstTo t e
 first_is t k c e h r =
     let cs = t.flat.connections in
     let hit = position_found (leads_to e) cs k c h (ap (λ o. option_map_or (same_port e) o false) r ∙ own_port e) in
     let s = position-Some (leads_to e) cs hit.0 c hit.1 in
     let d = get_or cs hit.0 c in
     let p = of_port (registers d) e s.1 in
-    record { number = hit.0; first = hit.1; connection = d; here = slice_get-get_or cs hit.0 c s.0; end = p.0; leads = p.1; leaf = p.2; member = p.3 }
+    record {
+      number = hit.0;
+      first = hit.1;
+      connection = d;
+      here = slice_get-get_or cs hit.0 c s.0;
+      end = p.0;
+      leads = p.1;
+      leaf = p.2;
+      member = p.3;
+    }
 
 -- ---- memory of connections
 
@@ -106,13 +120,15 @@ abbrev pages_by : Option EndSetting → ℕ
 pages_by o = option_map_or (λ (s : EndSetting). s.bytes / 4096) o 0
 
 -- where registers have a page, there is their end
-pub registers_there : (t : Tables) (k j : ℕ) (c : FlatConnection) → c.connector ≡ Mmio → j < memory_pages t.settled k c → (e : FlatEnd) × (registers c ≡ Some e)
+pub registers_there : (t : Tables) (k j : ℕ) (c : FlatConnection) → c.connector ≡ Mmio → j < memory_pages t.settled k c
+    → (e : FlatEnd) × (registers c ≡ Some e)
 registers_there t k j c m l = by_place (to_place c.ends) refl
   where
     by_place : (o : Option ℕ) → to_place c.ends ≡ o → (e : FlatEnd) × (registers c ≡ Some e)
     by_place None g =
         let none : memory_pages t.settled k c ≡ 0 =
-        ap (λ z. pages_by (option_and_then (setting_of t.settled k) (memory_place z c.ends))) m ∙ ap (λ o. pages_by (option_and_then (setting_of t.settled k) o)) g in
+        ap (λ z. pages_by (option_and_then (setting_of t.settled k) (memory_place z c.ends))) m
+        ∙ ap (λ o. pages_by (option_and_then (setting_of t.settled k) o)) g in
         absurd (omega (arith, l, none))
     by_place (Some n) g =
         let x = place_get (λ (z : FlatEnd). is_to z.role) c.ends n g in
@@ -121,21 +137,37 @@ registers_there t k j c m l = by_place (to_place c.ends) refl
 -- the frame of page j of the memory of connection k
 pub data IsMemoryFrame (t : Tables) (k j : ℕ) (c : FlatConnection) (info : FrameInfo) : Type 0 where
   of_shared : c.connector ≡ SharedMemory → info ≡ frame (OfConnection k) None None → IsMemoryFrame t k j c info
-  of_device : (e : FlatEnd) → c.connector ≡ Mmio → registers c ≡ Some e → info ≡ frame (OfLeaf e.leaf) (Some (memory_paddr t.settled k c + 4096 * j)) None → IsMemoryFrame t k j c info
+  of_device : (e : FlatEnd) → c.connector ≡ Mmio → registers c ≡ Some e
+      → info ≡ frame (OfLeaf e.leaf) (Some (memory_paddr t.settled k c + 4096 * j)) None → IsMemoryFrame t k j c info
 
-pub memory_frame : (t : Tables) → CanMap t → (k j : ℕ) (c : FlatConnection) → slice_get t.flat.connections k ≡ Some c → (c.connector ≡ SharedMemory) ⊎ (c.connector ≡ Mmio) → j < memory_pages t.settled k c
+pub memory_frame : (t : Tables) → CanMap t → (k j : ℕ) (c : FlatConnection) → slice_get t.flat.connections k ≡ Some c
+    → (c.connector ≡ SharedMemory) ⊎ (c.connector ≡ Mmio) → j < memory_pages t.settled k c
     → (info : FrameInfo) × (slice_get (frames (system t)) (memory_number (system t) k j) ≡ Some info) × IsMemoryFrame t k j c info
-memory_frame t can k j c h (inl m) l = (frame (OfConnection k) None None, (frames_stand (system t)).shared k j c h (ap is_shared m) l, IsMemoryFrame.of_shared m refl)
+memory_frame t can k j c h (inl m) l = (
+  frame (OfConnection k) None None,
+  (frames_stand (system t)).shared k j c h (ap is_shared m) l,
+  IsMemoryFrame.of_shared m refl,
+)
 memory_frame t can k j c h (inr m) l =
     let r = registers_there t k j c m l in
     let f = first_is t k c r.0 h r.1 in
-    let one : OneDevice c f.connection = record { port = r.0; first = r.1; other = f.end; second = f.leads; leaf = sym f.leaf; member = sym f.member } in
+    let one : OneDevice c f.connection = record {
+      port = r.0;
+      first = r.1;
+      other = f.end;
+      second = f.leads;
+      leaf = sym f.leaf;
+      member = sym f.member;
+    } in
     let pages = can.memory.pages k f.number c f.connection h f.here one in
     let paddr = can.memory.paddr k f.number c f.connection h f.here one in
-    let got = (frames_stand (system t)).registers k j f.number c f.connection r.0 f.end h r.1 f.first f.here f.leads (omega (arith, l, pages)) in (
+    let got = (frames_stand (system t)).registers k j f.number c f.connection r.0 f.end h r.1 f.first f.here f.leads
+    (omega (arith, l, pages)) in (
       frame (OfLeaf f.end.leaf) (Some (memory_paddr t.settled f.number f.connection + 4096 * j)) None,
       got,
-      IsMemoryFrame.of_device r.0 m r.1 (ap (λ z. frame (OfLeaf z) (Some (memory_paddr t.settled f.number f.connection + 4096 * j)) None) f.leaf ∙ ap (λ z. frame (OfLeaf r.0.leaf) (Some (z + 4096 * j)) None) (sym paddr)),
+      IsMemoryFrame.of_device r.0 m r.1
+          (ap (λ z. frame (OfLeaf z) (Some (memory_paddr t.settled f.number f.connection + 4096 * j)) None) f.leaf
+          ∙ ap (λ z. frame (OfLeaf r.0.leaf) (Some (z + 4096 * j)) None) (sym paddr)),
     )
 
 -- ---- pages that show memory
@@ -147,7 +179,8 @@ pub record MemoryOf (t : Tables) (e : EndAt) (r : Region) : Type 0 where
   pub kind : (connection.connector ≡ SharedMemory) ⊎ (connection.connector ≡ Mmio)
   pub pages : r.pages ≡ memory_pages t.settled e.connection connection
 
-pub memory_of : (t : Tables) (d : ℕ) (r : Region) (e : EndAt) → IsIn r (regions (system t) d) → r.content ≡ Window e → MemoryOf t e r
+pub memory_of : (t : Tables) (d : ℕ) (r : Region) (e : EndAt) → IsIn r (regions (system t) d) → r.content ≡ Window e
+    → MemoryOf t e r
 memory_of t d r e i c =
     let w = window_of t d r e i c in
     let v = window_is t d e w.0 in
@@ -167,7 +200,8 @@ pub record ShowsAt (t : Tables) (d at k j : ℕ) : Type 0 where
   pub of_connection : e.connection ≡ k
   pub page : IsRegionPage t d number at j region
 
-pub shows_at : (t : Tables) (d k j : ℕ) (p : MappedPage) → p.shown ≡ Memory k j → IsIn p (mapped_pages (system t) d) → ShowsAt t d p.at k j
+pub shows_at : (t : Tables) (d k j : ℕ) (p : MappedPage) → p.shown ≡ Memory k j → IsIn p (mapped_pages (system t) d)
+    → ShowsAt t d p.at k j
 shows_at t d k j p e i =
     let s = system t in
     elim (in_append p (section_part t.images (leaves_of t.flat d)) (region_part t.settled (base s) (regions s d)) i) [
@@ -181,7 +215,8 @@ shows_at t d k j p e i =
           by_content a.0 a.1 b.0 a.1.content refl a.2 (below_count a.1.pages b.0 b.1) b.2
     ]
   where
-    by_content : (n : ℕ) (r : Region) (i : ℕ) (c : Content) → r.content ≡ c → slice_get (regions (system t) d) n ≡ Some r → i < r.pages → region_page t.settled c (begins t d n + 4096 * i) i ≡ p → ShowsAt t d p.at k j
+    by_content : (n : ℕ) (r : Region) (i : ℕ) (c : Content) → r.content ≡ c → slice_get (regions (system t) d) n ≡ Some r
+        → i < r.pages → region_page t.settled c (begins t d n + 4096 * i) i ≡ p → ShowsAt t d p.at k j
     by_content n r i Stack c h l q = let f : Own None ≡ Memory k j = ap (λ (z : MappedPage). z.shown) q ∙ e in cc
     by_content n r i Buffer c h l q = let f : Own None ≡ Memory k j = ap (λ (z : MappedPage). z.shown) q ∙ e in cc
     by_content n r i (Window w) c h l q =
@@ -195,25 +230,35 @@ shows_at t d k j p e i =
           e = w;
           content = c;
           of_connection = number;
-          page = record { here = h; within = subst P page l; at = ap (λ (z : MappedPage). z.at) (sym q) ∙ ap (λ z. begins t d n + 4096 * z) page };
+          page = record {
+            here = h;
+            within = subst P page l;
+            at = ap (λ (z : MappedPage). z.at) (sym q)
+                ∙ ap (λ z. begins t d n + 4096 * z) page;
+          };
         }
 
 -- ---- the frame of a page
 
-frame_by : (t : Tables) → CanMap t → (d : ℕ) (x : Domain) → slice_get t.flat.domains d ≡ Some x → (n : ℕ) (p : MappedPage) → slice_get (mapped_pages (system t) d) n ≡ Some p → (w : Shown) → p.shown ≡ w
+frame_by : (t : Tables) → CanMap t → (d : ℕ) (x : Domain) → slice_get t.flat.domains d ≡ Some x → (n : ℕ) (p : MappedPage)
+    → slice_get (mapped_pages (system t) d) n ≡ Some p → (w : Shown) → p.shown ≡ w
     → (info : FrameInfo) × (slice_get (frames (system t)) (number_shown (system t) d n p.shown) ≡ Some info)
-frame_by t can d x h n p e (Own fill) f = (frame (OfDomain d) None fill, (frames_stand (system t)).own d n p fill e f (below t.flat.domains d x h))
+frame_by t can d x h n p e (Own fill) f =
+    (frame (OfDomain d) None fill, (frames_stand (system t)).own d n p fill e f (below t.flat.domains d x h))
 frame_by t can d x h n p e (Memory k j) f =
     let s = shows_at t d k j p f (in_place p (mapped_pages (system t) d) n e) in
     let m = memory_of t d s.region s.e (in_place s.region (regions (system t) d) s.number s.page.here) s.content in
     let P : ℕ → Type 0 = λ z. slice_get t.flat.connections z ≡ Some m.connection in
-    let pages : s.region.pages ≡ memory_pages t.settled k m.connection = m.pages ∙ ap (λ z. memory_pages t.settled z m.connection) s.of_connection in
+    let pages : s.region.pages ≡ memory_pages t.settled k m.connection = m.pages ∙ ap (λ z. memory_pages t.settled z m.connection)
+    s.of_connection in
     let l = s.page.within in
     let g = memory_frame t can k j m.connection (subst P s.of_connection m.here) m.kind (omega (arith, pages, l)) in
     (g.0, ap (λ z. slice_get (frames (system t)) (number_shown (system t) d n z)) f ∙ g.1)
 
-pub frame_of_page : (t : Tables) → CanMap t → (d : ℕ) (x : Domain) → slice_get t.flat.domains d ≡ Some x → (n : ℕ) (p : MappedPage) → slice_get (mapped_pages (system t) d) n ≡ Some p
-    → (info : FrameInfo) × (object_at (spec_of t) (place t (FrameOf (number_shown (system t) d n p.shown))) ≡ Some (frame_object info))
+pub frame_of_page : (t : Tables) → CanMap t → (d : ℕ) (x : Domain) → slice_get t.flat.domains d ≡ Some x
+    → (n : ℕ) (p : MappedPage) → slice_get (mapped_pages (system t) d) n ≡ Some p
+    → (info : FrameInfo) × (object_at (spec_of t) (place t (FrameOf (number_shown (system t) d n p.shown))) ≡ Some
+    (frame_object info))
 frame_of_page t can d x h n p e =
     let i = frame_by t can d x h n p e p.shown refl in
     let f = number_shown (system t) d n p.shown in

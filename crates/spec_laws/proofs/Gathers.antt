@@ -7,7 +7,8 @@ use Rattle.cam_base.specs.Gather.{gather}
 use Rattle.cam_base.proofs.Gathered.{length_append}
 
 -- what is gathered, where each element gives at most so many
-pub gather_most : {X Y : Type 0} (f : ℕ → X → List Y) (xs : List X) → ((k : ℕ) (x : X) → slice_get xs k ≡ Some x → length (f k x) ≤ 262144) → length (gather f xs) ≤ 262144 * length xs
+pub gather_most : {X Y : Type 0} (f : ℕ → X → List Y) (xs : List X) → ((k : ℕ) (x : X) → slice_get xs k ≡ Some x
+    → length (f k x) ≤ 262144) → length (gather f xs) ≤ 262144 * length xs
 gather_most f [] h = omega arith
 gather_most f (x ∷ xs) h =
     let ih = gather_most (λ n z. f (suc n) z) xs (λ k z e. h (suc k) z e) in
@@ -16,12 +17,14 @@ gather_most f (x ∷ xs) h =
     omega (arith, ih, a, b)
 
 -- one thing for each element, by its place
-pub ones_at : {X Y : Type 0} (f : ℕ → X → Y) (xs : List X) (k : ℕ) → slice_get (gather (λ n x. f n x ∷ []) xs) k ≡ option_map (f k) (slice_get xs k)
+pub ones_at : {X Y : Type 0} (f : ℕ → X → Y) (xs : List X) (k : ℕ) → slice_get (gather (λ n x. f n x ∷ []) xs) k ≡ option_map
+    (f k) (slice_get xs k)
 ones_at f [] k = refl
 ones_at f (x ∷ xs) zero = refl
 ones_at f (x ∷ xs) (suc k) = ones_at (λ n z. f (suc n) z) xs k
 
-pub part_of_sum : {X : Type 0} (f : ℕ → X → ℕ) (xs : List X) (k : ℕ) (x : X) → slice_get xs k ≡ Some x → f k x ≤ sum (gather (λ n z. f n z ∷ []) xs)
+pub part_of_sum : {X : Type 0} (f : ℕ → X → ℕ) (xs : List X) (k : ℕ) (x : X) → slice_get xs k ≡ Some x
+    → f k x ≤ sum (gather (λ n z. f n z ∷ []) xs)
 part_of_sum f [] k x e = cc
 part_of_sum {X} f (y ∷ xs) zero x e = by_same y e
   where

@@ -21,19 +21,27 @@ no_less : {X : Type 0} (p : ℕ × X → Bool) (a : ℕ) (xs : List X) (i n : �
 no_less p a [] i n e = cc
 no_less {X} p a (x ∷ xs) i n e = by_test (p (a, x)) i e (λ i e. no_less p (a + 1) xs i n e)
   where
-    by_test : (b : Bool) (i : ℕ) → slice_get (map (λ (z : ℕ × X). z.0) (cond b ((a, x) ∷ filter p (enumerate_from (a + 1) xs)) (filter p (enumerate_from (a + 1) xs)))) i ≡ Some n
+    by_test : (b : Bool) (i : ℕ)
+        → slice_get (map (λ (z : ℕ × X). z.0) (cond b ((a, x) ∷ filter p (enumerate_from (a + 1) xs))
+        (filter p (enumerate_from (a + 1) xs)))) i ≡ Some n
         → ((i : ℕ) → slice_get (numbers p (a + 1) xs) i ≡ Some n → a + 1 ≤ n) → a ≤ n
     by_test true zero e more = let same : a ≡ n = cc in omega (arith, same)
     by_test true (suc i) e more = let l = more i e in omega (arith, l)
     by_test false i e more = let l = more i e in omega (arith, l)
 
-one_place : {X : Type 0} (p : ℕ × X → Bool) (a : ℕ) (xs : List X) (i j n : ℕ) → slice_get (numbers p a xs) i ≡ Some n → slice_get (numbers p a xs) j ≡ Some n → i ≡ j
+one_place : {X : Type 0} (p : ℕ × X → Bool) (a : ℕ) (xs : List X) (i j n : ℕ) → slice_get (numbers p a xs) i ≡ Some n
+    → slice_get (numbers p a xs) j ≡ Some n → i ≡ j
 one_place p a [] i j n e f = cc
-one_place {X} p a (x ∷ xs) i j n e f = by_test (p (a, x)) i j e f (λ i j e f. one_place p (a + 1) xs i j n e f) (λ i e. no_less p (a + 1) xs i n e)
+one_place {X} p a (x ∷ xs) i j n e f = by_test (p (a, x)) i j e f (λ i j e f. one_place p (a + 1) xs i j n e f)
+    (λ i e. no_less p (a + 1) xs i n e)
   where
-    by_test : (b : Bool) (i j : ℕ) → slice_get (map (λ (z : ℕ × X). z.0) (cond b ((a, x) ∷ filter p (enumerate_from (a + 1) xs)) (filter p (enumerate_from (a + 1) xs)))) i ≡ Some n
-        → slice_get (map (λ (z : ℕ × X). z.0) (cond b ((a, x) ∷ filter p (enumerate_from (a + 1) xs)) (filter p (enumerate_from (a + 1) xs)))) j ≡ Some n
-        → ((i j : ℕ) → slice_get (numbers p (a + 1) xs) i ≡ Some n → slice_get (numbers p (a + 1) xs) j ≡ Some n → i ≡ j) → ((i : ℕ) → slice_get (numbers p (a + 1) xs) i ≡ Some n → a + 1 ≤ n) → i ≡ j
+    by_test : (b : Bool) (i j : ℕ)
+        → slice_get (map (λ (z : ℕ × X). z.0) (cond b ((a, x) ∷ filter p (enumerate_from (a + 1) xs))
+        (filter p (enumerate_from (a + 1) xs)))) i ≡ Some n
+        → slice_get (map (λ (z : ℕ × X). z.0) (cond b ((a, x) ∷ filter p (enumerate_from (a + 1) xs))
+        (filter p (enumerate_from (a + 1) xs)))) j ≡ Some n
+        → ((i j : ℕ) → slice_get (numbers p (a + 1) xs) i ≡ Some n → slice_get (numbers p (a + 1) xs) j ≡ Some n → i ≡ j)
+        → ((i : ℕ) → slice_get (numbers p (a + 1) xs) i ≡ Some n → a + 1 ≤ n) → i ≡ j
     by_test true zero zero e f more low = refl
     by_test true zero (suc j) e f more low = let same : a ≡ n = cc in let l = low j f in absurd (omega (arith, same, l))
     by_test true (suc i) zero e f more low = let same : a ≡ n = cc in let l = low i e in absurd (omega (arith, same, l))
@@ -44,7 +52,8 @@ some_in : {X : Type 0} (xs : List X) (x : X) → IsIn x xs → 0 < length xs
 some_in [] x i = absurd i
 some_in (y ∷ xs) x i = omega arith
 
-pub leaves_once : (s : Source) (d i j leaf : ℕ) (x : Domain) → slice_get (flat_of s).domains d ≡ Some x → slice_get x.leaves i ≡ Some leaf → slice_get x.leaves j ≡ Some leaf → i ≡ j
+pub leaves_once : (s : Source) (d i j leaf : ℕ) (x : Domain) → slice_get (flat_of s).domains d ≡ Some x
+    → slice_get x.leaves i ≡ Some leaf → slice_get x.leaves j ≡ Some leaf → i ≡ j
 leaves_once s d i j leaf x at e f =
     let h = hierarchy_of s in
     let q = from_get_map (flat_domain h) (domains h) d x at in

@@ -40,7 +40,8 @@ item_there : (s : Source) (x : ItemAt × Item) → IsIn x (items_of s) → compo
 item_there s x i =
     let f = from_flat_map items_in x (enumerate_from 0 s.files) i in
     let file = from_enumerate 0 s.files f.0 f.1 in
-    let e = from_map (λ (e : ℕ × Ended). let y : ItemAt × Item = (record { file = f.0.0; item = e.0 }, e.1.item) in y) x (enumerate_from 0 f.0.1.tree.items) f.2 in
+    let e = from_map (λ (e : ℕ × Ended). let y : ItemAt × Item = (record { file = f.0.0; item = e.0 }, e.1.item) in
+    y) x (enumerate_from 0 f.0.1.tree.items) f.2 in
     let item = from_enumerate 0 f.0.1.tree.items e.0 e.1 in
     let of_item : Ended → Option Name = λ z. component_of z.item in
     let of_file : ℕ → SourceFile → Option Name = λ n z. option_and_then of_item (slice_get z.tree.items n) in
@@ -59,7 +60,8 @@ name_there s c i =
     let x = from_filter_map as_component c (items_of s) i in
     by_item x.0 x.2 (item_there s x.0 x.1)
   where
-    by_item : (y : ItemAt × Item) → as_component y ≡ Some c → component_name s y.0 ≡ component_of y.1 → component_name s c.0 ≡ Some c.1.id.name
+    by_item : (y : ItemAt × Item) → as_component y ≡ Some c → component_name s y.0 ≡ component_of y.1
+        → component_name s c.0 ≡ Some c.1.id.name
     by_item (at, items.Import i) t m = cc
     by_item (at, items.Procedure p) t m = cc
     by_item (at, items.Component d) t m =
@@ -68,7 +70,8 @@ name_there s c i =
         subst P same m
     by_item (at, items.Assembly a) t m = cc
 
-leaf_named : (s : Source) → AreNamesSound s → (l : ℕ) (leaf : Leaf) → slice_get (flat_of s).leaves l ≡ Some leaf → (n : Name) × (component_name s leaf.component ≡ Some n)
+leaf_named : (s : Source) → AreNamesSound s → (l : ℕ) (leaf : Leaf) → slice_get (flat_of s).leaves l ≡ Some leaf
+    → (n : Name) × (component_name s leaf.component ≡ Some n)
 leaf_named s sound l leaf at =
     let h = hierarchy_of s in
     let x = from_get_map (leaf_of h) (leaves h) l leaf at in
@@ -86,16 +89,20 @@ place_of : (n : Name) (xs : List Name) → IsIn n xs → (m : ℕ) × (position 
 place_of n xs i = let k = listed_at n xs i in position_found (bytes_eq n) xs k.0 n k.1 ((bytes_eq-Decides n n).1 refl)
 
 -- a leaf of software has the number of its type
-leaf_numbered : (s : Source) → AreNamesSound s → (l d : ℕ) (leaf : Leaf) → slice_get (flat_of s).leaves l ≡ Some leaf → leaf.domain ≡ Some d → (m : ℕ) × (type_number s (flat_of s) leaf ≡ Some m)
+leaf_numbered : (s : Source) → AreNamesSound s → (l d : ℕ) (leaf : Leaf) → slice_get (flat_of s).leaves l ≡ Some leaf
+    → leaf.domain ≡ Some d → (m : ℕ) × (type_number s (flat_of s) leaf ≡ Some m)
 leaf_numbered s sound l d leaf at own =
     let n = leaf_named s sound l leaf at in
-    let typed : type_of s leaf ≡ Some n.0 = ap (λ (b : Bool). cond b None (component_name s leaf.component)) (soft_leaf s l d leaf at own) ∙ n.1 in
+    let typed : type_of s leaf ≡ Some n.0 = ap (λ (b : Bool). cond b None (component_name s leaf.component))
+    (soft_leaf s l d leaf at own) ∙ n.1 in
     let all = filter_map (type_of s) (flat_of s).leaves in
-    let listed : IsIn n.0 (types s (flat_of s)) = (firsts_are bytes_eq bytes_eq-Decides all n.0).1 (in_filter_map (type_of s) leaf n.0 (flat_of s).leaves (in_get (flat_of s).leaves l leaf at) typed) in
+    let listed : IsIn n.0 (types s (flat_of s)) = (firsts_are bytes_eq bytes_eq-Decides all n.0).1
+    (in_filter_map (type_of s) leaf n.0 (flat_of s).leaves (in_get (flat_of s).leaves l leaf at) typed) in
     let r = place_of n.0 (types s (flat_of s)) listed in
     (r.0, ap (option_and_then (λ name. position (bytes_eq name) (types s (flat_of s)))) typed ∙ r.1)
 
-pub programs_have_images : (contents : Contents) (root : List ℕ) (s : Source) (images : Images) → AreNamesSound s → AreImagesOf contents root s (flat_of s) images → HaveImages (flat_of s) images
+pub programs_have_images : (contents : Contents) (root : List ℕ) (s : Source) (images : Images) → AreNamesSound s
+    → AreImagesOf contents root s (flat_of s) images → HaveImages (flat_of s) images
 programs_have_images contents root s images sound read leaf d found at own =
     let r = leaf_numbered s sound leaf d found at own in (
       r.0,

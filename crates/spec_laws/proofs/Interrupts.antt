@@ -52,10 +52,12 @@ use Rattle.vspace_layout.proofs.MemoryNumbers.{position_found}
 
 module _ (s : Source) (sound : AreNamesSound s) (dotted : AreDotted (hierarchy_of s)) (types : first_type_fault s ≡ None) where
   pub device_there : (k : ℕ) (c : FlatConnection) → slice_get (flat_of s).connections k ≡ Some c → c.connector ≡ Interrupt
-      → (n : ℕ) × (e : FlatEnd) × (device_place c.connector c.ends ≡ Some n) × (slice_get c.ends n ≡ Some e) × (is_hardware c.connector e ≡ true)
+      → (n : ℕ) × (e : FlatEnd) × (device_place c.connector c.ends ≡ Some n) × (slice_get c.ends n ≡ Some e)
+      × (is_hardware c.connector e ≡ true)
   device_there k c at int =
       let d = some_end s sound dotted types k c at From in
-      let hard : is_hardware c.connector d.1 ≡ true = ap (λ z. (end_rule z d.1.role).hardware) int ∙ ap (λ r. (end_rule Interrupt r).hardware) d.3 in
+      let hard : is_hardware c.connector d.1 ≡ true = ap (λ z. (end_rule z d.1.role).hardware) int
+      ∙ ap (λ r. (end_rule Interrupt r).hardware) d.3 in
       let n = position_found (is_hardware c.connector) c.ends d.0 d.1 d.2 hard in
       let e = at_position (is_hardware c.connector) c.ends n.0 d.1 n.1 in
       (n.0, e.0, n.1, e.1, e.2)
@@ -72,13 +74,15 @@ counted_once : (n : ℕ) (ns : List ℕ) → IsIn n ns → 1 ≤ count_of n ns
 counted_once n ns i = let p = place_of n ns i in counted (λ m. n == m) ns p.0 n p.1 (eq-eqb n n refl)
 
 -- as many lists have the number as it stands in all, at most
-holders_le : (n : ℕ) (fs : List (List Found)) → count_by (λ f. nat_le 1 (count_of n (numbers (irqs_in f)))) fs ≤ count_of n (numbers (irqs fs))
+holders_le : (n : ℕ) (fs : List (List Found)) → count_by (λ f. nat_le 1 (count_of n (numbers (irqs_in f)))) fs ≤ count_of n
+    (numbers (irqs fs))
 holders_le n [] = omega arith
 holders_le n (f ∷ fs) =
     let one : ℕ → ℕ = λ m. cond (n == m) 1 0 in
     let here = count_of n (numbers (irqs_in f)) in
     let split : count_of n (numbers (irqs (f ∷ fs))) ≡ here + count_of n (numbers (irqs fs)) =
-    ap (count_of n) (map-append (λ (a : Irq). a.number) (irqs_in f) (irqs fs)) ∙ sum_by-append one (numbers (irqs_in f)) (numbers (irqs fs)) in
+    ap (count_of n) (map-append (λ (a : Irq). a.number) (irqs_in f) (irqs fs)) ∙ sum_by-append one (numbers (irqs_in f))
+    (numbers (irqs fs)) in
     let step = sum_by-cons (λ f. cond (nat_le 1 (count_of n (numbers (irqs_in f)))) 1 0) f fs in
     omega (arith, split, step, at_most here, holders_le n fs)
   where
@@ -101,14 +105,17 @@ settled_irq f event good there = by_given f.irq refl
 
     by_given : (o : Option Given) → f.irq ≡ o → IsSettledIrq f
     by_given None e =
-        let lacks : lacks_value f ≡ true = or_right (is_device_memory f.joint && is_none f.paddr) (is_device_event f.joint && is_none f.irq) (and_from (is_device_event f.joint) (is_none f.irq) event (ap (λ o. is_none o) e)) in
+        let lacks : lacks_value f ≡ true = or_right (is_device_memory f.joint && is_none f.paddr) (is_device_event f.joint
+        && is_none f.irq) (and_from (is_device_event f.joint) (is_none f.irq) event (ap (λ o. is_none o) e)) in
         absurd (true≢false (sym lacks ∙ not_so (lacks_value f) _ there))
     by_given (Some g) e =
-        let some = so (is_some (meaning irq_in f.irq)) _ (sym (ap (λ o. bad_unless (is_some (meaning irq_in f.irq)) o) e) ∙ bad) in
+        let some =
+        so (is_some (meaning irq_in f.irq)) _ (sym (ap (λ o. bad_unless (is_some (meaning irq_in f.irq)) o) e) ∙ bad) in
         let n = is_there (irq_of f) some in
         record {
           irq = irq_from n.0 g;
-          is = ap (λ o. option_and_then (λ number. option_map (irq_from number) f.irq) o) n.1 ∙ ap (λ o. option_map (irq_from n.0) o) e;
+          is = ap (λ o. option_and_then (λ number. option_map (irq_from number) f.irq) o) n.1
+              ∙ ap (λ o. option_map (irq_from n.0) o) e;
           meant = n.1;
         }
 
@@ -116,7 +123,8 @@ from_role : (r : Role) → (end_rule Interrupt r).hardware ≡ true → r ≡ Fr
 from_role From e = refl
 from_role To e = cc
 
-module _ (s : Source) (sound : AreNamesSound s) (dotted : AreDotted (hierarchy_of s)) (types : first_type_fault s ≡ None) (settings : AreSettingsSound s) where
+module _ (s : Source) (sound : AreNamesSound s) (dotted : AreDotted (hierarchy_of s)) (types : first_type_fault s ≡ None)
+    (settings : AreSettingsSound s) where
   abbrev founds : List (List Found)
   founds = founds_in (hierarchy_of s) s (flat_of s)
 
@@ -135,8 +143,14 @@ module _ (s : Source) (sound : AreNamesSound s) (dotted : AreDotted (hierarchy_o
       let es = found_on (hierarchy_of s) s (flat_of s) c in
       let role = from_role d.1.role (ap (λ z. (end_rule z d.1.role).hardware) (sym int) ∙ d.4) in
       let event : is_device_event f.found.joint ≡ true =
-      subst (λ r. is_kind_of (end_rule Interrupt r) (record { interface = f.found.joint.interface; hardware = f.found.joint.leaf.hardware }) ≡ true) role
-      (subst (λ x. is_kind_of (end_rule x d.1.role) (record { interface = f.found.joint.interface; hardware = f.found.joint.leaf.hardware }) ≡ true) int f.kind) in
+      subst (λ r. is_kind_of (end_rule Interrupt r) (record {
+        interface = f.found.joint.interface;
+        hardware = f.found.joint.leaf.hardware;
+      }) ≡ true) role
+      (subst (λ x. is_kind_of (end_rule x d.1.role) (record {
+        interface = f.found.joint.interface;
+        hardware = f.found.joint.leaf.hardware;
+      }) ≡ true) int f.kind) in
       let n = settled_irq f.found event f.good f.present in
       let is : irq_number (settled_of s) k c ≡ n.irq.number =
       ap (λ o. option_map_or (λ z. z.irq) (option_and_then (setting_of (settled_of s) k) o) 0) d.2
@@ -152,10 +166,12 @@ module _ (s : Source) (sound : AreNamesSound s) (dotted : AreDotted (hierarchy_o
 
   once : (i : Irq) → IsIn i (irqs founds) → count_of i.number (numbers (irqs founds)) ≤ 1
   once i in_all =
-      let more = not_so (is_repeated (numbers (irqs founds)) i.number) _ (none_in (irq_twice_at (is_repeated (numbers (irqs founds)))) (irqs founds) i settings.apart in_all) in
+      let more = not_so (is_repeated (numbers (irqs founds)) i.number) _
+      (none_in (irq_twice_at (is_repeated (numbers (irqs founds)))) (irqs founds) i settings.apart in_all) in
       grind (arith, more, leb_tells 2 (count_of i.number (numbers (irqs founds))))
 
-  pub one_line : (j k : ℕ) (a b : FlatConnection) → slice_get (flat_of s).connections j ≡ Some a → slice_get (flat_of s).connections k ≡ Some b → a.connector ≡ Interrupt → b.connector ≡ Interrupt
+  pub one_line : (j k : ℕ) (a b : FlatConnection) → slice_get (flat_of s).connections j ≡ Some a
+      → slice_get (flat_of s).connections k ≡ Some b → a.connector ≡ Interrupt → b.connector ≡ Interrupt
       → irq_number (settled_of s) j a ≡ irq_number (settled_of s) k b → j ≡ k
   one_line j k a b p q x y same =
       let u = line_of j a p x in
@@ -163,7 +179,8 @@ module _ (s : Source) (sound : AreNamesSound s) (dotted : AreDotted (hierarchy_o
       let n = u.irq.number in
       let most = once u.irq (in_flat_map irqs_in u.ends u.irq founds (in_place u.ends founds j u.here) u.among) in
       let first = counted_once n (numbers (irqs_in u.ends)) (in_map (λ (a : Irq). a.number) u.irq (irqs_in u.ends) u.among) in
-      let second = counted_once n (numbers (irqs_in v.ends)) (subst (λ m. IsIn m (numbers (irqs_in v.ends))) (v.is ∙ sym same ∙ sym u.is) (in_map (λ (a : Irq). a.number) v.irq (irqs_in v.ends) v.among)) in
+      let second = counted_once n (numbers (irqs_in v.ends)) (subst (λ m. IsIn m (numbers (irqs_in v.ends))) (v.is ∙ sym same
+      ∙ sym u.is) (in_map (λ (a : Irq). a.number) v.irq (irqs_in v.ends) v.among)) in
       let few = holders_le n founds in
       alone (λ f. nat_le 1 (count_of n (numbers (irqs_in f)))) founds j k u.ends v.ends (omega (arith, few, most)) u.here v.here
       (le-leb 1 (count_of n (numbers (irqs_in u.ends))) first) (le-leb 1 (count_of n (numbers (irqs_in v.ends))) second)

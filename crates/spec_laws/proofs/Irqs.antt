@@ -51,7 +51,8 @@ irq_what : (t : Tables) (w : What) (n : ℕ) → object t w ≡ objects.Irq (Som
 irq_what t (CNodeOf d) n h = cc
 irq_what t (ThreadOf d i) n h = by_thread (slice_get (threads_at t d) i) h
   where
-    by_thread : (o : Option ThreadPlace) → option_map_or (λ x. objects.Thread (tcb t d x)) o objects.Endpoint ≡ objects.Irq (Some n) → IsIrq t (ThreadOf d i) n
+    by_thread : (o : Option ThreadPlace) → option_map_or (λ x. objects.Thread (tcb t d x)) o objects.Endpoint ≡ objects.Irq
+        (Some n) → IsIrq t (ThreadOf d i) n
     by_thread (Some x) f = cc
     by_thread None f = cc
 irq_what t (EndpointOf k) n h = cc
@@ -61,7 +62,8 @@ irq_what t (IrqOf k) n h = let e : place t (NotificationOf k) ≡ n = cc in reco
 irq_what t (TableOf d j) n h = absurd (subst IsTable h (table_is t d j))
 irq_what t (FrameOf f) n h = by_frame (slice_get t.spaces.frames f) h
   where
-    by_frame : (o : Option FrameInfo) → option_map_or frame_object o objects.Endpoint ≡ objects.Irq (Some n) → IsIrq t (FrameOf f) n
+    by_frame : (o : Option FrameInfo) → option_map_or frame_object o objects.Endpoint ≡ objects.Irq (Some n)
+        → IsIrq t (FrameOf f) n
     by_frame (Some x) e = cc
     by_frame None e = cc
 
@@ -78,7 +80,8 @@ module _ (t : Tables) where
   Fits owner (IrqOf k) = OfInterrupt owner k
   Fits owner _ = Unit {0}
 
-  in_numbered : (s : Series) (xs : List Owned) (p : Part) → ((x : Owned) → IsIn x xs → Fits x.owner x.what) → IsIn p (numbered s xs) → Fits p.owner p.what
+  in_numbered : (s : Series) (xs : List Owned) (p : Part) → ((x : Owned) → IsIn x xs → Fits x.owner x.what)
+      → IsIn p (numbered s xs) → Fits p.owner p.what
   in_numbered s xs p h i =
       let f : ℕ → Owned → List Part = λ n x. part s n x.owner x.what ∷ [] in
       let g = from_gather f p xs i in
@@ -113,8 +116,10 @@ module _ (t : Tables) where
       let g = from_gather irq x t.flat.connections i in
       by_kind g.0 g.1 g.2 g.1.connector refl g.3
     where
-      by_kind : (k : ℕ) (c : FlatConnection) → slice_get t.flat.connections k ≡ Some c → (m : Connector) → c.connector ≡ m → IsIn x (irq_by k (irq_owner k c) m) → Fits x.owner x.what
-      by_kind k c h Interrupt e j = subst (λ (z : Owned). Fits z.owner z.what) (single (owned (irq_owner k c) (IrqOf k)) x j) (record { connection = c; here = h; is = e; owner_is = refl })
+      by_kind : (k : ℕ) (c : FlatConnection) → slice_get t.flat.connections k ≡ Some c → (m : Connector) → c.connector ≡ m
+          → IsIn x (irq_by k (irq_owner k c) m) → Fits x.owner x.what
+      by_kind k c h Interrupt e j = subst (λ (z : Owned). Fits z.owner z.what) (single (owned (irq_owner k c) (IrqOf k)) x j)
+          (record { connection = c; here = h; is = e; owner_is = refl })
       by_kind k c h Rpc e j = absurd j
       by_kind k c h Notification e j = absurd j
       by_kind k c h SharedMemory e j = absurd j
@@ -137,7 +142,8 @@ module _ (t : Tables) where
   in_endpoints p i = let g = from_gather endpoint p t.flat.connections i in by_kind g.0 g.1.connector g.3
     where
       by_kind : (k : ℕ) (c : Connector) → IsIn p (endpoint_by k c) → Fits p.owner p.what
-      by_kind k Rpc i = subst (λ (z : Part). Fits z.owner z.what) (single (part series.Ep k (OfConnection k) (EndpointOf k)) p i) tt
+      by_kind k Rpc i = subst (λ (z : Part). Fits z.owner z.what) (single (part series.Ep k (OfConnection k) (EndpointOf k)) p i)
+          tt
       by_kind k Notification i = absurd i
       by_kind k SharedMemory i = absurd i
       by_kind k Mmio i = absurd i
@@ -148,8 +154,10 @@ module _ (t : Tables) where
   in_notifications p i = let g = from_gather notification p t.flat.connections i in by_kind g.0 g.1.connector g.3
     where
       by_kind : (k : ℕ) (c : Connector) → IsIn p (notification_by k c) → Fits p.owner p.what
-      by_kind k Notification i = subst (λ (z : Part). Fits z.owner z.what) (single (part series.Ntfn k (OfConnection k) (NotificationOf k)) p i) tt
-      by_kind k Interrupt i = subst (λ (z : Part). Fits z.owner z.what) (single (part series.Ntfn k (OfConnection k) (NotificationOf k)) p i) tt
+      by_kind k Notification i = subst (λ (z : Part). Fits z.owner z.what)
+          (single (part series.Ntfn k (OfConnection k) (NotificationOf k)) p i) tt
+      by_kind k Interrupt i = subst (λ (z : Part). Fits z.owner z.what)
+          (single (part series.Ntfn k (OfConnection k) (NotificationOf k)) p i) tt
       by_kind k Rpc i = absurd i
       by_kind k SharedMemory i = absurd i
       by_kind k Mmio i = absurd i
@@ -185,21 +193,26 @@ module _ (t : Tables) where
         ]
       ]
 
-  pub irqs_are : CanMap t → (k at : ℕ) (c : FlatConnection) → slice_get t.flat.connections k ≡ Some c → IsIrqOf t (spec_of t) k at → IsOf t (labels_of t) at (irq_owner k c)
+  pub irqs_are : CanMap t → (k at : ℕ) (c : FlatConnection) → slice_get t.flat.connections k ≡ Some c → IsIrqOf t (spec_of t) k at
+      → IsOf t (labels_of t) at (irq_owner k c)
   irqs_are can k at c h w =
       let p = part_there t at (objects.Irq (Some w.notification)) w.is in
       let i = in_place p.0 (parts t) at p.1 in
       let q = irq_what t p.0.what w.notification p.2 in
       let u : OfInterrupt p.0.owner q.connection = subst (λ z. Fits p.0.owner z) q.what (fits p.0 i) in
-      let P : Connector → Type 0 = λ m. IsIn (part series.Ntfn q.connection (OfConnection q.connection) (NotificationOf q.connection)) (notification_by q.connection m) in
+      let P : Connector → Type 0 =
+      λ m. IsIn (part series.Ntfn q.connection (OfConnection q.connection) (NotificationOf q.connection))
+      (notification_by q.connection m) in
       let n = part series.Ntfn q.connection (OfConnection q.connection) (NotificationOf q.connection) in
       let there = (parts_are_there t).notification q.connection u.connection u.here n (subst P (sym u.is) (inl refl)) in
       let few = can.lay.connections in
       let low = below t.flat.connections q.connection u.connection u.here in
       let mine = below t.flat.connections k c h in
-      let number : q.connection ≡ k = ntfn_number q.connection k (omega (arith, few, low)) (omega (arith, few, mine)) (sym ((objects_stand t).name n there) ∙ ap (λ z. name_at (spec_of t) z) (sym q.holds) ∙ w.holds) in
+      let number : q.connection ≡ k = ntfn_number q.connection k (omega (arith, few, low)) (omega (arith, few, mine))
+      (sym ((objects_stand t).name n there) ∙ ap (λ z. name_at (spec_of t) z) (sym q.holds) ∙ w.holds) in
       let Q : ℕ → Type 0 = λ z. slice_get t.flat.connections z ≡ Some u.connection in
       let conn : u.connection ≡ c = some (slice_get t.flat.connections k) u.connection c (subst Q number u.here) h in
       let R : ℕ → Type 0 = λ z. IsOf t (labels_of t) z p.0.owner in
       let S : Owner → Type 0 = λ z. IsOf t (labels_of t) at z in
-      subst S (u.owner_is ∙ ap (λ z. irq_owner z u.connection) number ∙ ap (irq_owner k) conn) (subst R (place_is t at p.0 p.1) (label_is t p.0 i))
+      subst S (u.owner_is ∙ ap (λ z. irq_owner z u.connection) number ∙ ap (irq_owner k) conn)
+      (subst R (place_is t at p.0 p.1) (label_is t p.0 i))

@@ -82,7 +82,8 @@ module _ (t : Tables) where
   other : (p : Part) (s : Series) → p.series ≡ s → (s ≡ series.Ep → ⊥) → (s ≡ series.Ntfn → ⊥) → Fits p
   other p s e a b = record { ep = λ f. absurd (a (sym e ∙ f)); ntfn = λ f. absurd (b (sym e ∙ f)) }
 
-  in_numbered : (s : Series) (xs : List Owned) (p : Part) → (s ≡ series.Ep → ⊥) → (s ≡ series.Ntfn → ⊥) → IsIn p (numbered s xs) → Fits p
+  in_numbered : (s : Series) (xs : List Owned) (p : Part) → (s ≡ series.Ep → ⊥) → (s ≡ series.Ntfn → ⊥)
+      → IsIn p (numbered s xs) → Fits p
   in_numbered s xs p a b i =
       let f : ℕ → Owned → List Part = λ n x. part s n x.owner x.what ∷ [] in
       let g = from_gather f p xs i in
@@ -99,7 +100,8 @@ module _ (t : Tables) where
       let f : ℕ → PageTable → List Part = λ m x. table_part (all_tables t) m x ∷ [] in
       let g = from_gather f p (all_tables t) i in
       let n = no_level g.1.level in
-      other p (level_series g.1.level) (ap (λ (z : Part). z.series) (sym (single (table_part (all_tables t) g.0 g.1) p g.3))) n.0 n.1
+      other p (level_series g.1.level) (ap (λ (z : Part). z.series) (sym (single (table_part (all_tables t) g.0 g.1) p g.3))) n.0
+      n.1
 
   in_endpoints : (p : Part) → IsIn p (endpoints t) → Fits p
   in_endpoints p i =
@@ -107,7 +109,8 @@ module _ (t : Tables) where
       by_kind g.0 (below t.flat.connections g.0 g.1 g.2) g.1.connector g.3
     where
       by_kind : (k : ℕ) → k < length t.flat.connections → (c : Connector) → IsIn p (endpoint_by k c) → Fits p
-      by_kind k l Rpc i = subst Fits (single (part series.Ep k (OfConnection k) (EndpointOf k)) p i) (record { ep = λ e. record { is = refl; low = l }; ntfn = λ e. record { is = refl; low = l } })
+      by_kind k l Rpc i = subst Fits (single (part series.Ep k (OfConnection k) (EndpointOf k)) p i)
+          (record { ep = λ e. record { is = refl; low = l }; ntfn = λ e. record { is = refl; low = l } })
       by_kind k l Notification i = absurd i
       by_kind k l SharedMemory i = absurd i
       by_kind k l Mmio i = absurd i
@@ -161,17 +164,21 @@ module _ (t : Tables) where
       ]
 
   -- the part of a name
-  named_part : (at n : ℕ) (s : Series) → (0 < first (name_of s n)) → IsNamed (spec_of t) at s n → (p : Part) × (slice_get (parts t) at ≡ Some p) × (part_name p ≡ name_of s n)
+  named_part : (at n : ℕ) (s : Series) → (0 < first (name_of s n)) → IsNamed (spec_of t) at s n
+      → (p : Part) × (slice_get (parts t) at ≡ Some p) × (part_name p ≡ name_of s n)
   named_part at n s l h = by_entry (slice_get (map (entry t) (parts t)) at) refl h
     where
-      by_entry : (o : Option Entry) → slice_get (map (entry t) (parts t)) at ≡ o → entry_name o ≡ name_of s n → (p : Part) × (slice_get (parts t) at ≡ Some p) × (part_name p ≡ name_of s n)
+      by_entry : (o : Option Entry) → slice_get (map (entry t) (parts t)) at ≡ o → entry_name o ≡ name_of s n
+          → (p : Part) × (slice_get (parts t) at ≡ Some p) × (part_name p ≡ name_of s n)
       by_entry None g k = let z : 0 ≡ first (name_of s n) = ap first k in absurd (omega (arith, l, z))
       by_entry (Some e) g k = let p = from_get_map (entry t) (parts t) at e g in (p.0, p.1, ap (λ (z : Entry). z.name) p.2 ∙ k)
 
   labelled : (at : ℕ) (p : Part) → slice_get (parts t) at ≡ Some p → IsOf t (labels_of t) at p.owner
-  labelled at p e = let P : ℕ → Type 0 = λ z. IsOf t (labels_of t) z p.owner in subst P (place_is t at p e) (label_is t p (in_place p (parts t) at e))
+  labelled at p e = let P : ℕ → Type 0 = λ z. IsOf t (labels_of t) z p.owner in
+      subst P (place_is t at p e) (label_is t p (in_place p (parts t) at e))
 
-  pub endpoints_are : CanMap t → (at k : ℕ) (c : FlatConnection) → slice_get t.flat.connections k ≡ Some c → c.connector ≡ Rpc → IsNamed (spec_of t) at series.Ep k → IsOf t (labels_of t) at (OfConnection k)
+  pub endpoints_are : CanMap t → (at k : ℕ) (c : FlatConnection) → slice_get t.flat.connections k ≡ Some c → c.connector ≡ Rpc
+      → IsNamed (spec_of t) at series.Ep k → IsOf t (labels_of t) at (OfConnection k)
   endpoints_are can at k c h m n =
       let p = named_part at k series.Ep (omega arith) n in
       let s = ep_series p.0.series p.0.number k p.2 in
@@ -179,11 +186,14 @@ module _ (t : Tables) where
       let few = can.lay.connections in
       let low = f.low in
       let here = below t.flat.connections k c h in
-      let number = ep_number p.0.number k (omega (arith, few, low)) (omega (arith, few, here)) (ap (λ z. name_of z p.0.number) (sym s) ∙ p.2) in
+      let number = ep_number p.0.number k (omega (arith, few, low)) (omega (arith, few, here))
+      (ap (λ z. name_of z p.0.number) (sym s) ∙ p.2) in
       let P : Owner → Type 0 = λ z. IsOf t (labels_of t) at z in
       subst P (f.is ∙ ap (λ z. OfConnection z) number) (labelled at p.0 p.1)
 
-  pub notifications_are : CanMap t → (at k : ℕ) (c : FlatConnection) → slice_get t.flat.connections k ≡ Some c → (c.connector ≡ Notification) ⊎ (c.connector ≡ Interrupt) → IsNamed (spec_of t) at series.Ntfn k → IsOf t (labels_of t) at (OfConnection k)
+  pub notifications_are : CanMap t → (at k : ℕ) (c : FlatConnection) → slice_get t.flat.connections k ≡ Some c
+      → (c.connector ≡ Notification) ⊎ (c.connector ≡ Interrupt) → IsNamed (spec_of t) at series.Ntfn k
+      → IsOf t (labels_of t) at (OfConnection k)
   notifications_are can at k c h m n =
       let p = named_part at k series.Ntfn (omega arith) n in
       let s = ntfn_series p.0.series p.0.number k p.2 in
@@ -191,6 +201,7 @@ module _ (t : Tables) where
       let few = can.lay.connections in
       let low = f.low in
       let here = below t.flat.connections k c h in
-      let number = ntfn_number p.0.number k (omega (arith, few, low)) (omega (arith, few, here)) (ap (λ z. name_of z p.0.number) (sym s) ∙ p.2) in
+      let number = ntfn_number p.0.number k (omega (arith, few, low)) (omega (arith, few, here))
+      (ap (λ z. name_of z p.0.number) (sym s) ∙ p.2) in
       let P : Owner → Type 0 = λ z. IsOf t (labels_of t) at z in
       subst P (f.is ∙ ap (λ z. OfConnection z) number) (labelled at p.0 p.1)

@@ -47,7 +47,8 @@ module _ (t : Tables) (fit : IsFit t) where
   module _ (d : ℕ) (x : Domain) (here : slice_get t.flat.domains d ≡ Some x) where
     -- the buffer's capability, where a page is found
     buffer_kept : (o : Option Page) → ((p : Page) → o ≡ Some p → IsIn p (pages_at t d))
-        → if_any (fits_as (spec_of t) kinds.Frame) (option_map (λ f. cap (place t (FrameOf f)) RW 0) (option_map (λ (p : Page). p.frame) o)) ≡ true
+        → if_any (fits_as (spec_of t) kinds.Frame) (option_map (λ f. cap (place t (FrameOf f)) RW 0)
+        (option_map (λ (p : Page). p.frame) o)) ≡ true
     buffer_kept None among = refl
     buffer_kept (Some p) among = frame_fits t fit d x here p.frame RW ((fit.domains d x here).pages p (among p refl)).frame refl
 
@@ -55,20 +56,27 @@ module _ (t : Tables) (fit : IsFit t) where
     tcb_kept y i =
         let m = (fit.domains d x here).mapped y i in
         let test : Page → Bool = λ p. p.vaddr == y.buffer in
-        let prio = and_from (leb (priority t y.leaf) 255) (is_at (spec_of t) kinds.CNode (place t (CNodeOf d))) (le-leb (priority t y.leaf) 255 (fit.priorities y.leaf)) (is_at_of t (CNodeOf d) kinds.CNode kinds.CNode (x, here) refl refl) in
-        let space = and_from (is_space_root (spec_of t) (place t (TableOf d 0))) (if_any (fits_as (spec_of t) kinds.Frame) (buffer_cap t d y.buffer)) (root_kept t fit d x here m.0 m.1)
+        let prio = and_from (leb (priority t y.leaf) 255) (is_at (spec_of t) kinds.CNode (place t (CNodeOf d)))
+        (le-leb (priority t y.leaf) 255 (fit.priorities y.leaf)) (is_at_of t (CNodeOf d) kinds.CNode kinds.CNode (x, here)
+        refl refl) in
+        let space = and_from (is_space_root (spec_of t) (place t (TableOf d 0))) (if_any (fits_as (spec_of t) kinds.Frame)
+        (buffer_cap t d y.buffer)) (root_kept t fit d x here m.0 m.1)
         (buffer_kept (find test (pages_at t d)) (λ p e. found_in test (pages_at t d) p e)) in
-        and_from (leb (priority t y.leaf) 255 && is_at (spec_of t) kinds.CNode (place t (CNodeOf d))) (is_space_root (spec_of t) (place t (TableOf d 0)) && if_any (fits_as (spec_of t) kinds.Frame) (buffer_cap t d y.buffer)) prio space
+        and_from (leb (priority t y.leaf) 255 && is_at (spec_of t) kinds.CNode (place t (CNodeOf d)))
+        (is_space_root (spec_of t) (place t (TableOf d 0)) && if_any (fits_as (spec_of t) kinds.Frame)
+        (buffer_cap t d y.buffer)) prio space
 
     thread_kept : (i : ℕ) (y : ThreadPlace) → slice_get (threads_at t d) i ≡ Some y → Kept (ThreadOf d i)
     thread_kept i y s =
-        ap (λ z. keeps (spec_of t) (option_map_or (λ (z : ThreadPlace). objects.Thread (tcb t d z)) z objects.Endpoint)) s ∙ tcb_kept y (in_place y (threads_at t d) i s)
+        ap (λ z. keeps (spec_of t) (option_map_or (λ (z : ThreadPlace). objects.Thread (tcb t d z)) z objects.Endpoint)) s
+        ∙ tcb_kept y (in_place y (threads_at t d) i s)
 
   irq_kept : (k : ℕ) → IsThere t (IrqOf k) → Kept (IrqOf k)
   irq_kept k h = is_at_of t (NotificationOf k) kinds.Notification kinds.Notification (h.0, h.1, inr h.2) refl refl
 
   frame_kept : (f : ℕ) → IsThere t (FrameOf f) → Kept (FrameOf f)
-  frame_kept f h = ap (λ z. keeps (spec_of t) (option_map_or frame_object z objects.Endpoint)) h.1 ∙ fit.frames h.0 (in_place h.0 t.spaces.frames f h.1)
+  frame_kept f h = ap (λ z. keeps (spec_of t) (option_map_or frame_object z objects.Endpoint)) h.1
+      ∙ fit.frames h.0 (in_place h.0 t.spaces.frames f h.1)
 
   pub kept : (w : What) → IsThere t w → keeps (spec_of t) (object t w) ≡ true
   kept (CNodeOf d) h = cnode_kept t fit d h.0 h.1

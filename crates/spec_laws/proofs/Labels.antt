@@ -57,13 +57,15 @@ pub moved : (t : Tables) (m n : ℕ) (o : Owner) → m ≡ n → IsOf t (labels_
 moved t m n o e h = subst (λ z. IsOf t (labels_of t) z o) e h
 
 -- the part of a frame
-frame_label : (t : Tables) (f : ℕ) (info : FrameInfo) → slice_get t.spaces.frames f ≡ Some info → IsOf t (labels_of t) (place t (FrameOf f)) (frame_owner info.owner)
+frame_label : (t : Tables) (f : ℕ) (info : FrameInfo) → slice_get t.spaces.frames f ≡ Some info
+    → IsOf t (labels_of t) (place t (FrameOf f)) (frame_owner info.owner)
 frame_label t f info e =
     let y = owned (frame_owner info.owner) (FrameOf f) in
     let g : ℕ → FrameInfo → Owned = λ n z. owned (frame_owner z.owner) (FrameOf n) in
     let p = part series.Frame f (frame_owner info.owner) (FrameOf f) in
     let k : ℕ → Owned → List Part = λ n z. part series.Frame n z.owner z.what ∷ [] in
-    label_is t p (in_together (sections t) 7 (numbered series.Frame (frame_parts t.spaces.frames)) p refl (in_gather k p (frame_parts t.spaces.frames) f y (get_ones g t.spaces.frames f info e) (inl refl)))
+    label_is t p (in_together (sections t) 7 (numbered series.Frame (frame_parts t.spaces.frames)) p refl
+    (in_gather k p (frame_parts t.spaces.frames) f y (get_ones g t.spaces.frames f info e) (inl refl)))
 
 module _ (t : Tables) (can : CanMap t) where
   -- ---- of domains
@@ -71,9 +73,11 @@ module _ (t : Tables) (can : CanMap t) where
   cnodes : (d : ℕ) (x : Domain) → slice_get t.flat.domains d ≡ Some x → IsOf t (labels_of t) d (owners.OfDomain d)
   cnodes d x h =
       let at : place t (CNodeOf d) ≡ d = omega arith in
-      moved t (place t (CNodeOf d)) d (owners.OfDomain d) at (label_is t (part series.CNode d (owners.OfDomain d) (CNodeOf d)) ((parts_are_there t).cnode d x h))
+      moved t (place t (CNodeOf d)) d (owners.OfDomain d) at (label_is t (part series.CNode d (owners.OfDomain d) (CNodeOf d))
+      ((parts_are_there t).cnode d x h))
 
-  threads : (at leaf d : ℕ) (end : Option EndAt) (x : Leaf) → IsIn (ThreadLine at leaf end) (map_lines t) → slice_get t.flat.leaves leaf ≡ Some x → x.domain ≡ Some d → IsOf t (labels_of t) at (owners.OfDomain d)
+  threads : (at leaf d : ℕ) (end : Option EndAt) (x : Leaf) → IsIn (ThreadLine at leaf end) (map_lines t)
+      → slice_get t.flat.leaves leaf ≡ Some x → x.domain ≡ Some d → IsOf t (labels_of t) at (owners.OfDomain d)
   threads at leaf d end x i h e =
       let l = the_line t can at leaf end i in
       let g = domain_is t can at leaf end l in
@@ -82,19 +86,26 @@ module _ (t : Tables) (can : CanMap t) where
       let same : l.domain ≡ d = cc in
       let a = thread_part t can l.domain l.number l.leaves l.y l.here l.stands in
       let P : ℕ → Type 0 = λ z. IsOf t (labels_of t) at (owners.OfDomain z) in
-      subst P same (moved t (place t (OfThread l.domain l.number)) at (owners.OfDomain l.domain) l.at_is (label_is t (part series.Tcb (threads_before t can l.domain l.number) (owners.OfDomain l.domain) (OfThread l.domain l.number)) a))
+      subst P same (moved t (place t (OfThread l.domain l.number)) at (owners.OfDomain l.domain) l.at_is
+      (label_is t (part series.Tcb (threads_before t can l.domain l.number) (owners.OfDomain l.domain)
+      (OfThread l.domain l.number)) a))
 
-  locks : CanSlot t → (d bits m number : ℕ) (slots : List (ℕ × Cap)) (cap : Cap) → object_at (spec_of t) d ≡ Some (objects.CNode bits slots) → IsIn (m, cap) slots → IsNamed (spec_of t) cap.object series.Lock number → IsOf t (labels_of t) cap.object (owners.OfDomain d)
+  locks : CanSlot t → (d bits m number : ℕ) (slots : List (ℕ × Cap)) (cap : Cap)
+      → object_at (spec_of t) d ≡ Some (objects.CNode bits slots) → IsIn (m, cap) slots
+      → IsNamed (spec_of t) cap.object series.Lock number → IsOf t (labels_of t) cap.object (owners.OfDomain d)
   locks slotted d bits m number slots cap o i n =
       let s = slot_is t slotted d m number bits slots cap o i n in
-      moved t (place t (LockOf d s.number)) cap.object (owners.OfDomain d) (sym s.leads) (label_is t (part series.Lock s.named (owners.OfDomain d) (LockOf d s.number)) s.there)
+      moved t (place t (LockOf d s.number)) cap.object (owners.OfDomain d) (sym s.leads)
+      (label_is t (part series.Lock s.named (owners.OfDomain d) (LockOf d s.number)) s.there)
 
   pub domain_labels : CanSlot t → AreDomainLabels t (spec_of t) (labels_of t) (map_lines t)
   domain_labels slotted = record { cnodes = cnodes; threads = threads; locks = locks slotted }
 
   -- ---- of frames
 
-  own : (d v : ℕ) (x : Domain) (cap : Cap) → slice_get t.flat.domains d ≡ Some x → v < root_span (shapes (arch t)) → IsAt (spec_of t) (root_of t d) v cap → IsOwn t (spec_of t) (root_of t) cap.object → IsOf t (labels_of t) cap.object (owners.OfDomain d)
+  own : (d v : ℕ) (x : Domain) (cap : Cap) → slice_get t.flat.domains d ≡ Some x → v < root_span (shapes (arch t))
+      → IsAt (spec_of t) (root_of t d) v cap → IsOwn t (spec_of t) (root_of t) cap.object
+      → IsOf t (labels_of t) cap.object (owners.OfDomain d)
   own d v x cap h l i o =
       let f = found t can d x h v cap l i in
       let fill = no_memory t can d x h v cap f o in
@@ -105,31 +116,42 @@ module _ (t : Tables) (can : CanMap t) where
       (frame_label t number (frame (OfDomain d) None fill.0) (ap (λ (z : Spaces). slice_get z.frames number) can.spaces ∙ got))
 
   -- the label of a frame that a window shows
-  memory_label : (d k j at : ℕ) (c : FlatConnection) → slice_get t.flat.connections k ≡ Some c → ShowsMemory t (spec_of t) (root_of t) d k j at → (info : FrameInfo) × IsMemoryFrame t k j c info × IsOf t (labels_of t) at (frame_owner info.owner)
+  memory_label : (d k j at : ℕ) (c : FlatConnection) → slice_get t.flat.connections k ≡ Some c
+      → ShowsMemory t (spec_of t) (root_of t) d k j at → (info : FrameInfo) × IsMemoryFrame t k j c info
+      × IsOf t (labels_of t) at (frame_owner info.owner)
   memory_label d k j at c h w =
       let m = memory_shown t can d k j at c h w in
       let g = memory_frame t can k j c h m.kind m.within in
       let f = memory_number (system t) k j in
-      let there : place t (FrameOf f) ≡ frames_from t + f = omega arith in
-      (g.0, g.2, moved t (place t (FrameOf f)) at (frame_owner g.0.owner) (there ∙ sym m.is) (frame_label t f g.0 (ap (λ (z : Spaces). slice_get z.frames f) can.spaces ∙ g.1)))
+      let there : place t (FrameOf f) ≡ frames_from t + f = omega arith in (
+        g.0,
+        g.2,
+        moved t (place t (FrameOf f)) at (frame_owner g.0.owner) (there ∙ sym m.is)
+            (frame_label t f g.0 (ap (λ (z : Spaces). slice_get z.frames f) can.spaces ∙ g.1)),
+      )
 
-  shared : (d k j at : ℕ) (c : FlatConnection) → slice_get t.flat.connections k ≡ Some c → c.connector ≡ SharedMemory → ShowsMemory t (spec_of t) (root_of t) d k j at → IsOf t (labels_of t) at (owners.OfConnection k)
+  shared : (d k j at : ℕ) (c : FlatConnection) → slice_get t.flat.connections k ≡ Some c → c.connector ≡ SharedMemory
+      → ShowsMemory t (spec_of t) (root_of t) d k j at → IsOf t (labels_of t) at (owners.OfConnection k)
   shared d k j at c h m w = let g = memory_label d k j at c h w in by_frame g.0 g.1 g.2
     where
-      by_frame : (info : FrameInfo) → IsMemoryFrame t k j c info → IsOf t (labels_of t) at (frame_owner info.owner) → IsOf t (labels_of t) at (owners.OfConnection k)
+      by_frame : (info : FrameInfo) → IsMemoryFrame t k j c info → IsOf t (labels_of t) at (frame_owner info.owner)
+          → IsOf t (labels_of t) at (owners.OfConnection k)
       by_frame info (IsMemoryFrame.of_shared e f) l = subst (λ (z : FrameInfo). IsOf t (labels_of t) at (frame_owner z.owner)) f l
       by_frame info (IsMemoryFrame.of_device e n r f) l = let g : Mmio ≡ SharedMemory = sym n ∙ m in cc
 
-  device : (d k j at : ℕ) (c : FlatConnection) (e : FlatEnd) → slice_get t.flat.connections k ≡ Some c → registers c ≡ Some e → ShowsMemory t (spec_of t) (root_of t) d k j at → IsOf t (labels_of t) at (owners.OfLeaf e.leaf)
+  device : (d k j at : ℕ) (c : FlatConnection) (e : FlatEnd) → slice_get t.flat.connections k ≡ Some c → registers c ≡ Some e
+      → ShowsMemory t (spec_of t) (root_of t) d k j at → IsOf t (labels_of t) at (owners.OfLeaf e.leaf)
   device d k j at c e h r w = let g = memory_label d k j at c h w in by_frame g.0 g.1 g.2
     where
-      by_frame : (info : FrameInfo) → IsMemoryFrame t k j c info → IsOf t (labels_of t) at (frame_owner info.owner) → IsOf t (labels_of t) at (owners.OfLeaf e.leaf)
+      by_frame : (info : FrameInfo) → IsMemoryFrame t k j c info → IsOf t (labels_of t) at (frame_owner info.owner)
+          → IsOf t (labels_of t) at (owners.OfLeaf e.leaf)
       by_frame info (IsMemoryFrame.of_shared n f) l =
           let none : registers c ≡ None = ap (λ z. registers_in z c.ends) n in
           let g = sym none ∙ r in cc
       by_frame info (IsMemoryFrame.of_device x n q f) l =
           let same : x ≡ e = some (registers c) x e q r in
-          subst (λ (z : FlatEnd). IsOf t (labels_of t) at (owners.OfLeaf z.leaf)) same (subst (λ (z : FrameInfo). IsOf t (labels_of t) at (frame_owner z.owner)) f l)
+          subst (λ (z : FlatEnd). IsOf t (labels_of t) at (owners.OfLeaf z.leaf)) same
+          (subst (λ (z : FrameInfo). IsOf t (labels_of t) at (frame_owner z.owner)) f l)
 
   pub frame_labels : AreFrameLabels t (spec_of t) (root_of t) (labels_of t)
   frame_labels = record { own = own; shared = shared; device = device }

@@ -102,7 +102,8 @@ left_in series.Frame rest = refl
 
 pub part_word : (p : Part) → p.number < 2 ^ 32 → is_word (part_name p) ≡ true
 part_word p l =
-    and_from (is_name (part_name p)) (not (is_left_out_word (part_name p))) (is_name-numbered (prefix p.series) p.number (prefix_name p.series) (prefix_short p.series) (omega (arith, l)))
+    and_from (is_name (part_name p)) (not (is_left_out_word (part_name p))) (is_name-numbered (prefix p.series) p.number
+    (prefix_name p.series) (prefix_short p.series) (omega (arith, l)))
     (not_from_false (is_left_out_word (part_name p)) (left_in p.series (decimal p.number)))
 
 pub part_short : (p : Part) → p.number < 2 ^ 32 → length (part_name p) ≤ 16
@@ -115,7 +116,8 @@ part_short p l =
 -- ---- texts of programs' names
 
 not_byte : (c b : ℕ) → is_word_byte c ≡ false → is_word_byte b ≡ true → not (b == c) ≡ true
-not_byte c b n w = not_from_false (b == c) (false_from_ne_true (b == c) (λ e. true≢false (sym w ∙ ap is_word_byte (eqb-true b c e) ∙ n)))
+not_byte c b n w =
+    not_from_false (b == c) (false_from_ne_true (b == c) (λ e. true≢false (sym w ∙ ap is_word_byte (eqb-true b c e) ∙ n)))
 
 byte_plain : (b : ℕ) → is_word_byte b ≡ true → not (b == 34) && not (b == 10) ≡ true
 byte_plain b w = and_from (not (b == 34)) (not (b == 10)) (not_byte 34 b refl w) (not_byte 10 b refl w)
@@ -160,7 +162,8 @@ slot_is s a b = and_from (is_number s.0) (is_number s.1.badge) (number_is s.0 a)
 -- ---- objects
 
 module _ (t : Tables) (fit : IsFit t) (written : IsWritten t) where
-  badge_few : (k m : ℕ) (o : Option (Connector × FlatEnd)) → option_map_or (λ (e : Connector × FlatEnd). role_badge e.1.role (settled_badge t.settled k m)) o 0 < 2 ^ 64
+  badge_few : (k m : ℕ) (o : Option (Connector × FlatEnd))
+      → option_map_or (λ (e : Connector × FlatEnd). role_badge e.1.role (settled_badge t.settled k m)) o 0 < 2 ^ 64
   badge_few k m None = omega arith
   badge_few k m (Some e) = by_role e.1.role
     where
@@ -185,11 +188,13 @@ module _ (t : Tables) (fit : IsFit t) (written : IsWritten t) where
                 let below = slice_get_within (uses_at t d) g.0 g.1 g.2 in
                 let few = (fit.domains d x here).slots in
                 let at : ℕ × Cap = (g.0 + 1, use_cap t d g.0 g.1) in
-                subst (λ (z : ℕ × Cap). is_number z.0 && is_number z.1.badge ≡ true) {x = at} same (slot_is at (omega (arith, below, few)) (use_badge d g.0 g.1))
+                subst (λ (z : ℕ × Cap). is_number z.0 && is_number z.1.badge ≡ true) {x = at} same
+                (slot_is at (omega (arith, below, few)) (use_badge d g.0 g.1))
             | inr none ↦ absurd none
           ]
 
-  buffer_laid : (o : Option ℕ) → if_any (λ (c : Cap). is_number c.badge) (option_map (λ f. cap (place t (FrameOf f)) RW 0) o) ≡ true
+  buffer_laid : (o : Option ℕ)
+      → if_any (λ (c : Cap). is_number c.badge) (option_map (λ f. cap (place t (FrameOf f)) RW 0) o) ≡ true
   buffer_laid None = refl
   buffer_laid (Some f) = refl
 
@@ -197,9 +202,11 @@ module _ (t : Tables) (fit : IsFit t) (written : IsWritten t) where
   tcb_laid d y w =
       let b = if_any (λ (c : Cap). is_number c.badge) (buffer_cap t d y.buffer) in
       and_from (is_number y.buffer && is_number (leaf_entry t y.leaf)) (is_number y.sp && (is_plain (leaf_name t y.leaf) && b))
-      (and_from (is_number y.buffer) (is_number (leaf_entry t y.leaf)) (number_is y.buffer w.buffer) (number_is (leaf_entry t y.leaf) w.entry))
+      (and_from (is_number y.buffer) (is_number (leaf_entry t y.leaf)) (number_is y.buffer w.buffer)
+      (number_is (leaf_entry t y.leaf) w.entry))
       (and_from (is_number y.sp) (is_plain (leaf_name t y.leaf) && b) (number_is y.sp w.stack)
-      (and_from (is_plain (leaf_name t y.leaf)) b (name_plain (leaf_name t y.leaf) w.name) (buffer_laid (frame_at (pages_at t d) y.buffer))))
+      (and_from (is_plain (leaf_name t y.leaf)) b (name_plain (leaf_name t y.leaf) w.name)
+      (buffer_laid (frame_at (pages_at t d) y.buffer))))
 
   paddr_laid : (o : Option ℕ) → ((at : ℕ) → o ≡ Some at → at < 2 ^ 64) → if_any is_number o ≡ true
   paddr_laid None h = refl
@@ -207,26 +214,31 @@ module _ (t : Tables) (fit : IsFit t) (written : IsWritten t) where
 
   fill_laid : (o : Option Fill) → ((f : Fill) → o ≡ Some f → IsFillWritten f) → if_any is_fill o ≡ true
   fill_laid None h = refl
-  fill_laid (Some f) h = let w = h f refl in and_from (is_plain f.file) (is_number f.at) (name_plain f.file w.file) (number_is f.at w.at)
+  fill_laid (Some f) h = let w = h f refl in and_from (is_plain f.file) (is_number f.at) (name_plain f.file w.file)
+      (number_is f.at w.at)
 
   frame_laid : (x : FrameInfo) → IsFrameWritten x → is_laid (frame_object x) ≡ true
-  frame_laid x w = and_from (if_any is_number x.paddr) (if_any is_fill x.fill) (paddr_laid x.paddr w.paddr) (fill_laid x.fill w.fill)
+  frame_laid x w = and_from (if_any is_number x.paddr) (if_any is_fill x.fill) (paddr_laid x.paddr w.paddr)
+      (fill_laid x.fill w.fill)
 
   module _ (d : ℕ) (x : Domain) (here : slice_get t.flat.domains d ≡ Some x) where
     abbrev first : ℕ
     first = place t (TableOf d 0)
 
     -- the badges of page tables' capabilities are none
-    no_badge : (o : Object) → IsIn o (standing t d) → (y : Layer) (r : List Mapping) (link : ℕ) → table_of y.shape link r ≡ o → (s : ℕ × Cap) → IsIn s (map (slot_of y.shape link) r) → s.1.badge ≡ 0
+    no_badge : (o : Object) → IsIn o (standing t d) → (y : Layer) (r : List Mapping) (link : ℕ) → table_of y.shape link r ≡ o
+        → (s : ℕ × Cap) → IsIn s (map (slot_of y.shape link) r) → s.1.badge ≡ 0
     no_badge o i y r link e s j =
-        elim (slots_lead (arch t) (mappings t fit d x here) first y.shape.level (map (slot_of y.shape link) r) s (subst (λ z. IsIn z (standing t d)) (sym e) i) j) [
+        elim (slots_lead (arch t) (mappings t fit d x here) first y.shape.level (map (slot_of y.shape link) r) s
+        (subst (λ z. IsIn z (standing t d)) (sym e) i) j) [
           | inl h ↦
               let m = from_map (page_mapping (place t (FrameOf 0))) h.1.0 (pages_at t d) h.1.1 in
               ap (λ (z : Cap). z.badge) h.1.2 ∙ ap (λ (z : Mapping). z.cap.badge) (sym m.2)
           | inr c ↦ ap (λ (z : Cap). z.badge) c.is
         ]
 
-    table_laid : (o : Object) → IsIn o (standing t d) → (y : Layer) → IsIn y (layers (shapes (arch t)) (mappings t fit d x here)) → (r : List Mapping) (link : ℕ) → table_of y.shape link r ≡ o → is_laid (table_of y.shape link r) ≡ true
+    table_laid : (o : Object) → IsIn o (standing t d) → (y : Layer) → IsIn y (layers (shapes (arch t)) (mappings t fit d x here))
+        → (r : List Mapping) (link : ℕ) → table_of y.shape link r ≡ o → is_laid (table_of y.shape link r) ≡ true
     table_laid o i y j r link e =
         all_pass (λ (s : ℕ × Cap). is_number s.0 && is_number s.1.badge) (map (slot_of y.shape link) r)
         (λ s k.
@@ -240,23 +252,30 @@ module _ (t : Tables) (fit : IsFit t) (written : IsWritten t) where
         let r = from_tables first 0 (layers (shapes (arch t)) (mappings t fit d x here)) o i in
         subst (λ z. (is_laid z ≡ true) × AreShort z) r.is (table_laid o i r.layer r.among r.run r.link r.is, tt)
 
-    table_there : (j : ℕ) → IsThere t (TableOf d j) → (is_laid (object t (TableOf d j)) ≡ true) × AreShort (object t (TableOf d j))
+    table_there : (j : ℕ) → IsThere t (TableOf d j) → (is_laid (object t (TableOf d j)) ≡ true)
+        × AreShort (object t (TableOf d j))
     table_there j h =
         let m = moved t 0 0 first (place t (FrameOf 0)) d j h.1.0 h.1.1 in
-        subst (λ z. (is_laid z ≡ true) × AreShort z) (sym (object_is t d j m.0 m.1)) (standing_laid m.0 (in_place m.0 (standing t d) j m.1))
+        subst (λ z. (is_laid z ≡ true) × AreShort z) (sym (object_is t d j m.0 m.1))
+        (standing_laid m.0 (in_place m.0 (standing t d) j m.1))
 
   -- ---- all
 
   abbrev Fine : Object → Type 0
   Fine o = (is_laid o ≡ true) × AreShort o
 
-  thread_there : (d i : ℕ) (o : Option ThreadPlace) → ((y : ThreadPlace) → o ≡ Some y → IsIn y (threads_at t d)) → Fine (option_map_or (λ (z : ThreadPlace). objects.Thread (tcb t d z)) o objects.Endpoint)
+  thread_there : (d i : ℕ) (o : Option ThreadPlace) → ((y : ThreadPlace) → o ≡ Some y → IsIn y (threads_at t d))
+      → Fine (option_map_or (λ (z : ThreadPlace). objects.Thread (tcb t d z)) o objects.Endpoint)
   thread_there d i None h = (refl, tt)
   thread_there d i (Some y) h =
-      let w = written.threads d y (h y refl) in
-      (tcb_laid d y w, λ elf e. subst (λ (z : List ℕ). length z ≤ 127) (same_Some (leaf_name t y.leaf) elf e) (name_short (leaf_name t y.leaf) w.name))
+      let w = written.threads d y (h y refl) in (
+        tcb_laid d y w,
+        λ elf e. subst (λ (z : List ℕ). length z ≤ 127) (same_Some (leaf_name t y.leaf) elf e)
+            (name_short (leaf_name t y.leaf) w.name),
+      )
 
-  frame_there : (o : Option FrameInfo) → ((x : FrameInfo) → o ≡ Some x → IsIn x t.spaces.frames) → Fine (option_map_or frame_object o objects.Endpoint)
+  frame_there : (o : Option FrameInfo) → ((x : FrameInfo) → o ≡ Some x → IsIn x t.spaces.frames)
+      → Fine (option_map_or frame_object o objects.Endpoint)
   frame_there None h = (refl, tt)
   frame_there (Some x) h =
       let w = written.frames x (h x refl) in

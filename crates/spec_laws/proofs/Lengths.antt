@@ -60,7 +60,8 @@ digits_short zero n = omega arith
 digits_short (suc room) n =
     let ih = digits_short room (n / 16) in
     let long = length_append (hex_digits room (n / 16)) (glyph (n % 16) ∷ []) in
-    cond_both (nat_lt n 16) (glyph n ∷ []) (hex_digits room (n / 16) ++ glyph (n % 16) ∷ []) (λ (z : List ℕ). length z ≤ suc room) (λ e. omega arith) (λ e. omega (arith, ih, long))
+    cond_both (nat_lt n 16) (glyph n ∷ []) (hex_digits room (n / 16) ++ glyph (n % 16) ∷ []) (λ (z : List ℕ). length z ≤ suc room)
+    (λ e. omega arith) (λ e. omega (arith, ih, long))
 
 hex_short : (n : ℕ) → length (hex_text n) ≤ 18
 unfolding hex_text
@@ -83,18 +84,22 @@ rights_short r =
     let a = letter_short r.reply reply_letter [] 0 (omega arith) in
     let b = letter_short r.grant grant_letter (letter r.reply reply_letter []) 1 a in
     let c = letter_short r.write write_letter (letter r.grant grant_letter (letter r.reply reply_letter [])) 2 b in
-    letter_short r.read read_letter (letter r.write write_letter (letter r.grant grant_letter (letter r.reply reply_letter []))) 3 c
+    letter_short r.read read_letter (letter r.write write_letter (letter r.grant grant_letter (letter r.reply reply_letter []))) 3
+    c
 
 params_short : (a b : Bool) (r : Rights) (badge : ℕ) → badge < 2 ^ 64 → length (params a b r badge) ≤ 36
 params_short false false r badge l = omega arith
 params_short true false r badge l =
-    let s = all_short (2 ∷ 4 ∷ 1 ∷ []) (codes " (" ∷ rights_word r ∷ codes ")" ∷ []) (omega arith, (rights_short r, (omega arith, tt))) in
+    let s = all_short (2 ∷ 4 ∷ 1 ∷ []) (codes " (" ∷ rights_word r ∷ codes ")" ∷ [])
+    (omega arith, (rights_short r, (omega arith, tt))) in
     more (params true false r badge) 7 36 s (omega arith)
 params_short false true r badge l =
-    let s = all_short (9 ∷ 20 ∷ 1 ∷ []) (codes " (badge: " ∷ decimal badge ∷ codes ")" ∷ []) (omega arith, (decimal_short badge l, (omega arith, tt))) in
+    let s = all_short (9 ∷ 20 ∷ 1 ∷ []) (codes " (badge: " ∷ decimal badge ∷ codes ")" ∷ [])
+    (omega arith, (decimal_short badge l, (omega arith, tt))) in
     more (params false true r badge) 30 36 s (omega arith)
 params_short true true r badge l =
-    all_short (2 ∷ 4 ∷ 9 ∷ 20 ∷ 1 ∷ []) (codes " (" ∷ rights_word r ∷ codes ", badge: " ∷ decimal badge ∷ codes ")" ∷ []) (omega arith, (rights_short r, (omega arith, (decimal_short badge l, (omega arith, tt)))))
+    all_short (2 ∷ 4 ∷ 9 ∷ 20 ∷ 1 ∷ []) (codes " (" ∷ rights_word r ∷ codes ", badge: " ∷ decimal badge ∷ codes ")" ∷ [])
+    (omega arith, (rights_short r, (omega arith, (decimal_short badge l, (omega arith, tt)))))
 
 -- ---- lines of objects
 
@@ -120,34 +125,54 @@ AreShort (Irq notification) = Unit {0}
 
 elf_short : (elf : Option (List ℕ)) → ((e : List ℕ) → elf ≡ Some e → length e ≤ 127) → length (elf_field elf) ≤ 136
 elf_short None h = omega arith
-elf_short (Some elf) h = all_short (8 ∷ 127 ∷ 1 ∷ []) (codes ", elf: \"" ∷ elf ∷ codes "\"" ∷ []) (omega arith, (h elf refl, (omega arith, tt)))
+elf_short (Some elf) h = all_short (8 ∷ 127 ∷ 1 ∷ []) (codes ", elf: \"" ∷ elf ∷ codes "\"" ∷ [])
+    (omega arith, (h elf refl, (omega arith, tt)))
 
-tcb_short : (name : List ℕ) (tcb : Tcb) → length name ≤ 16 → tcb.prio ≤ 255 → ((e : List ℕ) → tcb.elf ≡ Some e → length e ≤ 127) → length (tcb_line name tcb) ≤ 262
+tcb_short : (name : List ℕ) (tcb : Tcb) → length name ≤ 16 → tcb.prio ≤ 255 → ((e : List ℕ) → tcb.elf ≡ Some e → length e ≤ 127)
+    → length (tcb_line name tcb) ≤ 262
 tcb_short name tcb n p h =
-    let head = name ∷ codes " = tcb (addr: " ∷ hex_text tcb.addr ∷ codes ", ip: " ∷ hex_text tcb.ip ∷ codes ", sp: " ∷ hex_text tcb.sp ∷ [] in
+    let head = name ∷ codes " = tcb (addr: " ∷ hex_text tcb.addr ∷ codes ", ip: " ∷ hex_text tcb.ip ∷ codes ", sp: "
+    ∷ hex_text tcb.sp ∷ [] in
     let tail = codes ", prio: " ∷ decimal tcb.prio ∷ codes ")\n" ∷ [] in
-    let a = all_short (16 ∷ 14 ∷ 18 ∷ 6 ∷ 18 ∷ 6 ∷ 18 ∷ []) head (n, (omega arith, (hex_short tcb.addr, (omega arith, (hex_short tcb.ip, (omega arith, (hex_short tcb.sp, tt))))))) in
+    let a = all_short (16 ∷ 14 ∷ 18 ∷ 6 ∷ 18 ∷ 6 ∷ 18 ∷ []) head
+    (n, (omega arith, (hex_short tcb.addr, (omega arith, (hex_short tcb.ip, (omega arith, (hex_short tcb.sp, tt))))))) in
     let c = all_short (8 ∷ 20 ∷ 2 ∷ []) tail (omega arith, (decimal_short tcb.prio (omega (arith, p)), (omega arith, tt))) in
-    joined (together head ⊹ elf_field tcb.elf) (together tail) 232 30 (joined (together head) (elf_field tcb.elf) 96 136 a (elf_short tcb.elf h)) c
+    joined (together head ⊹ elf_field tcb.elf) (together tail) 232 30 (joined (together head) (elf_field tcb.elf) 96 136 a
+    (elf_short tcb.elf h)) c
 
 paddr_short : (paddr : Option ℕ) → length (paddr_field paddr) ≤ 27
 paddr_short None = omega arith
 paddr_short (Some paddr) = all_short (9 ∷ 18 ∷ []) (codes ", paddr: " ∷ hex_text paddr ∷ []) (omega arith, (hex_short paddr, tt))
 
-fill_short : (fill : Option Fill) → if_any keeps_fill fill ≡ true → ((f : Fill) → fill ≡ Some f → length f.file ≤ 127) → length (fill_field fill) ≤ 225
+fill_short : (fill : Option Fill) → if_any keeps_fill fill ≡ true → ((f : Fill) → fill ≡ Some f → length f.file ≤ 127)
+    → length (fill_field fill) ≤ 225
 fill_short None k h = omega arith
 fill_short (Some f) k h =
     let within = leb-true (f.offset + f.length) 4096 (and_parts (nat_lt 0 f.length) (leb (f.offset + f.length) 4096) k).1 in
     all_short (10 ∷ 20 ∷ 1 ∷ 20 ∷ 25 ∷ 127 ∷ 2 ∷ 18 ∷ 2 ∷ [])
-    (codes ", fill: [{" ∷ decimal f.offset ∷ codes " " ∷ decimal f.length ∷ codes " CDL_FrameFill_FileData \"" ∷ f.file ∷ codes "\" " ∷ hex_text f.at ∷ codes "}]" ∷ [])
-    (omega arith, (decimal_short f.offset (omega (arith, within)), (omega arith, (decimal_short f.length (omega (arith, within)), (omega arith, (h f refl, (omega arith, (hex_short f.at, (omega arith, tt)))))))))
+    (codes ", fill: [{" ∷ decimal f.offset ∷ codes " " ∷ decimal f.length ∷ codes " CDL_FrameFill_FileData \"" ∷ f.file
+    ∷ codes "\" " ∷ hex_text f.at ∷ codes "}]" ∷ []) (
+      omega arith,
+      (
+        decimal_short f.offset (omega (arith, within)),
+        (
+          omega arith,
+          (
+            decimal_short f.length (omega (arith, within)),
+            (omega arith, (h f refl, (omega arith, (hex_short f.at, (omega arith, tt))))),
+          ),
+        ),
+      ),
+    )
 
-frame_short : (name : List ℕ) (paddr : Option ℕ) (fill : Option Fill) → length name ≤ 16 → if_any keeps_fill fill ≡ true → ((f : Fill) → fill ≡ Some f → length f.file ≤ 127) → length (frame_line name paddr fill) ≤ 282
+frame_short : (name : List ℕ) (paddr : Option ℕ) (fill : Option Fill) → length name ≤ 16 → if_any keeps_fill fill ≡ true
+    → ((f : Fill) → fill ≡ Some f → length f.file ≤ 127) → length (frame_line name paddr fill) ≤ 282
 frame_short name paddr fill n k h =
     let head = name ∷ codes " = frame (4k" ∷ [] in
     let a = all_short (16 ∷ 12 ∷ []) head (n, (omega arith, tt)) in
     joined (together head ⊹ paddr_field paddr ⊹ fill_field fill) (codes ")\n") 280 2
-    (joined (together head ⊹ paddr_field paddr) (fill_field fill) 55 225 (joined (together head) (paddr_field paddr) 28 27 a (paddr_short paddr)) (fill_short fill k h)) (omega arith)
+    (joined (together head ⊹ paddr_field paddr) (fill_field fill) 55 225 (joined (together head) (paddr_field paddr) 28 27 a
+    (paddr_short paddr)) (fill_short fill k h)) (omega arith)
 
 level_short : (l : Level) → length (level_word l) ≤ 3
 level_short Global = omega arith
@@ -155,7 +180,8 @@ level_short Upper = omega arith
 level_short Directory = omega arith
 level_short Table = omega arith
 
-pub line_short : (spec : Spec) (name : List ℕ) (o : Object) → length name ≤ 16 → keeps spec o ≡ true → AreShort o → length (object_line name o) ≤ 53 + extra o
+pub line_short : (spec : Spec) (name : List ℕ) (o : Object) → length name ≤ 16 → keeps spec o ≡ true → AreShort o
+    → length (object_line name o) ≤ 53 + extra o
 line_short spec name Endpoint n k h =
     let s = all_short (16 ∷ 6 ∷ []) (name ∷ codes " = ep\n" ∷ []) (n, (omega arith, tt)) in
     more (object_line name Endpoint) 22 53 s (omega arith)
@@ -165,13 +191,15 @@ line_short spec name Notification n k h =
 line_short spec name (CNode bits slots) n k h =
     let sized = and_parts (nat_lt 0 bits && leb bits 16) _ k in
     let few = leb-true bits 16 (and_parts (nat_lt 0 bits) (leb bits 16) sized.0).1 in
-    all_short (16 ∷ 10 ∷ 20 ∷ 7 ∷ []) (name ∷ codes " = cnode (" ∷ decimal bits ∷ codes " bits)\n" ∷ []) (n, (omega arith, (decimal_short bits (omega (arith, few)), (omega arith, tt))))
+    all_short (16 ∷ 10 ∷ 20 ∷ 7 ∷ []) (name ∷ codes " = cnode (" ∷ decimal bits ∷ codes " bits)\n" ∷ [])
+    (n, (omega arith, (decimal_short bits (omega (arith, few)), (omega arith, tt))))
 line_short spec name (Thread tcb) n k h =
     let p = and_parts (leb tcb.prio 255 && _) _ k in
     tcb_short name tcb n (leb-true tcb.prio 255 (and_parts (leb tcb.prio 255) _ p.0).0) h
 line_short spec name (Frame paddr fill) n k h = frame_short name paddr fill n (and_parts _ (if_any keeps_fill fill) k).1 h
 line_short spec name (Pages level slots) n k h =
-    let s = all_short (16 ∷ 3 ∷ 3 ∷ 1 ∷ []) (name ∷ codes " = " ∷ level_word level ∷ codes "\n" ∷ []) (n, (omega arith, (level_short level, (omega arith, tt)))) in
+    let s = all_short (16 ∷ 3 ∷ 3 ∷ 1 ∷ []) (name ∷ codes " = " ∷ level_word level ∷ codes "\n" ∷ [])
+    (n, (omega arith, (level_short level, (omega arith, tt)))) in
     more (object_line name (Pages level slots)) 23 53 s (omega arith)
 line_short spec name (Irq notification) n k h =
     let s = all_short (16 ∷ 7 ∷ []) (name ∷ codes " = irq\n" ∷ []) (n, (omega arith, tt)) in
@@ -183,12 +211,14 @@ module _ (spec : Spec) (names : (o : ℕ) → length (name_at spec o) ≤ 16) wh
   cap_short : (c : Cap) → c.badge < 2 ^ 64 → length (cap_end spec c) ≤ 53
   cap_short c l =
       let p = params (has_rights c.rights) (not (c.badge == 0)) c.rights c.badge in
-      joined (name_at spec c.object ⊹ p) (codes "\n") 52 1 (joined (name_at spec c.object) p 16 36 (names c.object) (params_short (has_rights c.rights) (not (c.badge == 0)) c.rights c.badge l)) (omega arith)
+      joined (name_at spec c.object ⊹ p) (codes "\n") 52 1 (joined (name_at spec c.object) p 16 36 (names c.object)
+      (params_short (has_rights c.rights) (not (c.badge == 0)) c.rights c.badge l)) (omega arith)
 
   slot_short : (s : ℕ × Cap) → s.1.badge < 2 ^ 64 → length (slot_line spec s) ≤ 73
   slot_short s l =
       let head = hex_text s.0 ∷ codes ": " ∷ [] in
-      joined (together head) (cap_end spec s.1) 20 53 (all_short (18 ∷ 2 ∷ []) head (hex_short s.0, (omega arith, tt))) (cap_short s.1 l)
+      joined (together head) (cap_end spec s.1) 20 53 (all_short (18 ∷ 2 ∷ []) head (hex_short s.0, (omega arith, tt)))
+      (cap_short s.1 l)
 
   badge_of : (slots : List (ℕ × Cap)) (s : ℕ × Cap) → are_slots slots ≡ true → IsIn s slots → s.1.badge < 2 ^ 64
   badge_of [] s h i = absurd i
@@ -200,7 +230,8 @@ module _ (spec : Spec) (names : (o : ℕ) → length (name_at spec o) ≤ 16) wh
       omega (arith, n, l)
   badge_of (x ∷ xs) s h (inr i) = badge_of xs s (and_parts (is_number x.0 && is_number x.1.badge) (are_slots xs) h).1 i
 
-  slots_short : (name : List ℕ) (slots : List (ℕ × Cap)) → length name ≤ 16 → are_slots slots ≡ true → length (slots_text spec name slots) ≤ 21 + 73 * length slots
+  slots_short : (name : List ℕ) (slots : List (ℕ × Cap)) → length name ≤ 16 → are_slots slots ≡ true
+      → length (slots_text spec name slots) ≤ 21 + 73 * length slots
   slots_short name [] n h = omega arith
   slots_short name (s ∷ ss) n h =
       let head = name ∷ codes " {\n" ∷ [] in
@@ -209,7 +240,8 @@ module _ (spec : Spec) (names : (o : ℕ) → length (name_at spec o) ≤ 16) wh
       let a = length_flat_map (slot_line spec) (s ∷ ss) in
       let b = total_each (λ x. length (slot_line spec x)) 73 (s ∷ ss) (λ x i. slot_short x (badge_of (s ∷ ss) x h i)) in
       let c : length text ≤ m = omega (arith, a, b) in
-      let d = joined (together head ⊹ text) (codes "}\n") (19 + m) 2 (joined (together head) text 19 m (all_short (16 ∷ 3 ∷ []) head (n, (omega arith, tt))) c) (omega arith) in
+      let d = joined (together head ⊹ text) (codes "}\n") (19 + m) 2
+      (joined (together head) text 19 m (all_short (16 ∷ 3 ∷ []) head (n, (omega arith, tt))) c) (omega arith) in
       omega (arith, d)
 
   named_short : (word : List ℕ) (o : Option ℕ) → length word ≤ 8 → length (named_line spec word o) ≤ 73 * some o
@@ -224,7 +256,8 @@ module _ (spec : Spec) (names : (o : ℕ) → length (name_at spec o) ≤ 16) wh
       let s = joined (codes "ipc_buffer_slot: ") (cap_end spec c) 17 53 (omega arith) (cap_short c (number c.badge h)) in
       more (buffer_line spec (Some c)) 70 73 s (omega arith)
 
-  tcb_text_short : (name : List ℕ) (tcb : Tcb) (b : Bool) → length name ≤ 16 → is_tcb tcb ≡ true → length (tcb_text spec name tcb b) ≤ 21 + 73 * caps_of (Thread tcb)
+  tcb_text_short : (name : List ℕ) (tcb : Tcb) (b : Bool) → length name ≤ 16 → is_tcb tcb ≡ true
+      → length (tcb_text spec name tcb b) ≤ 21 + 73 * caps_of (Thread tcb)
   tcb_text_short name tcb false n h = omega arith
   tcb_text_short name tcb true n h =
       let head = name ∷ codes " {\n" ∷ [] in
@@ -239,17 +272,22 @@ module _ (spec : Spec) (names : (o : ℕ) → length (name_at spec o) ≤ 16) wh
       let badge = (and_parts _ (if_any (λ c. is_number c.badge) tcb.buffer) q.1).1 in
       let first = all_short (16 ∷ 3 ∷ []) head (n, (omega arith, tt)) in
       let s = joined (together head ⊹ x ⊹ y ⊹ z) (codes "}\n") (19 + a + b + c) 2
-      (joined (together head ⊹ x ⊹ y) z (19 + a + b) c (joined (together head ⊹ x) y (19 + a) b (joined (together head) x 19 a first (named_short (codes "cspace: ") tcb.cspace (omega arith))) (named_short (codes "vspace: ") tcb.vspace (omega arith)))
+      (joined (together head ⊹ x ⊹ y) z (19 + a + b) c
+      (joined (together head ⊹ x) y (19 + a) b
+      (joined (together head) x 19 a first (named_short (codes "cspace: ") tcb.cspace (omega arith)))
+      (named_short (codes "vspace: ") tcb.vspace (omega arith)))
       (buffer_short tcb.buffer badge)) (omega arith) in
       omega (arith, s)
 
   irq_text_short : (name : List ℕ) (o : Option ℕ) → length name ≤ 16 → length (irq_text spec name o) ≤ 21 + 73 * caps_of (Irq o)
   irq_text_short name None n = omega arith
   irq_text_short name (Some o) n =
-      let s = all_short (16 ∷ 8 ∷ 16 ∷ 3 ∷ []) (name ∷ codes " {\n0x0: " ∷ name_at spec o ∷ codes "\n}\n" ∷ []) (n, (omega arith, (names o, (omega arith, tt)))) in
+      let s = all_short (16 ∷ 8 ∷ 16 ∷ 3 ∷ []) (name ∷ codes " {\n0x0: " ∷ name_at spec o ∷ codes "\n}\n" ∷ [])
+      (n, (omega arith, (names o, (omega arith, tt)))) in
       more (irq_text spec name (Some o)) 43 94 s (omega arith)
 
-  pub holder_short : (name : List ℕ) (o : Object) → length name ≤ 16 → is_laid o ≡ true → length (holder_text spec name o) ≤ 21 + 73 * caps_of o
+  pub holder_short : (name : List ℕ) (o : Object) → length name ≤ 16 → is_laid o ≡ true
+      → length (holder_text spec name o) ≤ 21 + 73 * caps_of o
   holder_short name (CNode bits slots) n h = slots_short name slots n h
   holder_short name (Thread tcb) n h = tcb_text_short name tcb (has_slot tcb) n h
   holder_short name (Pages level slots) n h = slots_short name slots n h
@@ -262,13 +300,18 @@ module _ (spec : Spec) (names : (o : ℕ) → length (name_at spec o) ≤ 16) wh
 
   pub irq_short : (l : ℕ × ℕ) → l.0 < 2 ^ 64 → length (irq_line spec l) ≤ 39
   irq_short l h =
-      all_short (20 ∷ 2 ∷ 16 ∷ 1 ∷ []) (decimal l.0 ∷ codes ": " ∷ name_at spec l.1 ∷ codes "\n" ∷ []) (decimal_short l.0 h, (omega arith, (names l.1, (omega arith, tt))))
+      all_short (20 ∷ 2 ∷ 16 ∷ 1 ∷ []) (decimal l.0 ∷ codes ": " ∷ name_at spec l.1 ∷ codes "\n" ∷ []) (
+        decimal_short l.0 h,
+        (omega arith, (names l.1, (omega arith, tt))),
+      )
 
   arch_short : (a : Arch) → length (arch_word a) ≤ 7
   arch_short Arm11 = omega arith
   arch_short Aarch64 = omega arith
 
-  pub canonical_short : (a b c : ℕ) → length (flat_map entry_line spec.entries) ≤ a → length (flat_map (entry_text spec) spec.entries) ≤ b → length (flat_map (irq_line spec) spec.irqs) ≤ c → length (canonical spec) ≤ 50 + (a + b + c)
+  pub canonical_short : (a b c : ℕ) → length (flat_map entry_line spec.entries) ≤ a
+      → length (flat_map (entry_text spec) spec.entries) ≤ b → length (flat_map (irq_line spec) spec.irqs) ≤ c
+      → length (canonical spec) ≤ 50 + (a + b + c)
   unfolding canonical
   canonical_short a b c p q r =
       let head = codes "arch " ∷ arch_word spec.arch ∷ codes "\n\nobjects {\n" ∷ [] in
@@ -279,7 +322,10 @@ module _ (spec : Spec) (names : (o : ℕ) → length (name_at spec o) ≤ 16) wh
       let s1 = joined (together head) x 24 a first p in
       let s2 = joined (together head ⊹ x) (codes "}\n\ncaps {\n") (24 + a) 10 s1 (omega arith) in
       let s3 = joined (together head ⊹ x ⊹ codes "}\n\ncaps {\n") y (24 + a + 10) b s2 q in
-      let s4 = joined (together head ⊹ x ⊹ codes "}\n\ncaps {\n" ⊹ y) (codes "}\n\nirq maps {\n") (24 + a + 10 + b) 14 s3 (omega arith) in
-      let s5 = joined (together head ⊹ x ⊹ codes "}\n\ncaps {\n" ⊹ y ⊹ codes "}\n\nirq maps {\n") z (24 + a + 10 + b + 14) c s4 r in
-      let s6 = joined (together head ⊹ x ⊹ codes "}\n\ncaps {\n" ⊹ y ⊹ codes "}\n\nirq maps {\n" ⊹ z) (codes "}\n") (24 + a + 10 + b + 14 + c) 2 s5 (omega arith) in
+      let s4 = joined (together head ⊹ x ⊹ codes "}\n\ncaps {\n" ⊹ y) (codes "}\n\nirq maps {\n") (24 + a + 10 + b) 14 s3
+      (omega arith) in
+      let s5 = joined (together head ⊹ x ⊹ codes "}\n\ncaps {\n" ⊹ y ⊹ codes "}\n\nirq maps {\n") z
+      (24 + a + 10 + b + 14) c s4 r in
+      let s6 = joined (together head ⊹ x ⊹ codes "}\n\ncaps {\n" ⊹ y ⊹ codes "}\n\nirq maps {\n" ⊹ z) (codes "}\n")
+      (24 + a + 10 + b + 14 + c) 2 s5 (omega arith) in
       omega (arith, s6)

@@ -55,7 +55,8 @@ from_put x [] l (inl e) = inl e
 from_put x [] l (inr i) = absurd i
 from_put x (y ∷ ys) l i = by_test (leb x.0 y.0) (from_put x ys l) i
   where
-    by_test : (b : Bool) → (IsIn l (put_line x ys) → (x ≡ l) ⊎ IsIn l ys) → IsIn l (cond b (x ∷ y ∷ ys) (y ∷ put_line x ys)) → (x ≡ l) ⊎ IsIn l (y ∷ ys)
+    by_test : (b : Bool) → (IsIn l (put_line x ys) → (x ≡ l) ⊎ IsIn l ys) → IsIn l (cond b (x ∷ y ∷ ys) (y ∷ put_line x ys))
+        → (x ≡ l) ⊎ IsIn l (y ∷ ys)
     by_test true more (inl e) = inl e
     by_test true more (inr i) = inr i
     by_test false more (inl e) = inr (inl e)
@@ -88,15 +89,18 @@ from_sorted (x ∷ xs) l i = elim (from_put x (by_number xs) l i) [ inl e ↦ in
 
 -- lines of elements, each of which gives one at most, and no two of one number
 sorted_rise : {X : Type 0} (f : ℕ → X → List Line) (xs : List X) → ((k : ℕ) (x : X) → length (f k x) ≤ 1)
-    → ((j k : ℕ) (a b : X) (l m : Line) → slice_get xs j ≡ Some a → slice_get xs k ≡ Some b → IsIn l (f j a) → IsIn m (f k b) → l.0 ≡ m.0 → j ≡ k)
+    → ((j k : ℕ) (a b : X) (l m : Line) → slice_get xs j ≡ Some a → slice_get xs k ≡ Some b → IsIn l (f j a) → IsIn m (f k b)
+    → l.0 ≡ m.0 → j ≡ k)
     → rise (by_number (gather f xs)) ≡ true
 sorted_rise f [] few one = refl
 sorted_rise {X} f (x ∷ xs) few one =
     let g : ℕ → X → List Line = λ k y. f (suc k) y in
-    let behind : rise (by_number (gather g xs)) ≡ true = sorted_rise g xs (λ k y. few (suc k) y) (λ j k a b l m p q i o s. let e : suc j ≡ suc k = one (suc j) (suc k) a b l m p q i o s in omega (arith, e)) in
+    let behind : rise (by_number (gather g xs)) ≡ true = sorted_rise g xs (λ k y. few (suc k) y)
+    (λ j k a b l m p q i o s. let e : suc j ≡ suc k = one (suc j) (suc k) a b l m p q i o s in omega (arith, e)) in
     by_list (f 0 x) refl behind
   where
-    by_list : (ls : List Line) → f 0 x ≡ ls → rise (by_number (gather (λ k y. f (suc k) y) xs)) ≡ true → rise (by_number (ls ++ gather (λ k y. f (suc k) y) xs)) ≡ true
+    by_list : (ls : List Line) → f 0 x ≡ ls → rise (by_number (gather (λ k y. f (suc k) y) xs)) ≡ true
+        → rise (by_number (ls ++ gather (λ k y. f (suc k) y) xs)) ≡ true
     by_list [] e behind = behind
     by_list (l ∷ []) e behind =
         put_rises l (by_number (gather (λ k y. f (suc k) y) xs)) behind
@@ -104,17 +108,22 @@ sorted_rise {X} f (x ∷ xs) few one =
         let c = from_gather (λ k y. f (suc k) y) m xs (from_sorted (gather (λ k y. f (suc k) y) xs) m i) in
         let n : 0 ≡ suc c.0 = one 0 (suc c.0) x c.1 l m refl c.2 (subst (λ z. IsIn l z) (sym e) (inl refl)) c.3 s in
         absurd (omega (arith, n)))
-    by_list (l ∷ m ∷ ls) e behind = let long = few 0 x in let s : length (f 0 x) ≡ length (l ∷ m ∷ ls) = ap (λ z. length z) e in absurd (omega (arith, long, s))
+    by_list (l ∷ m ∷ ls) e behind = let long = few 0 x in let s : length (f 0 x) ≡ length (l ∷ m ∷ ls) = ap (λ z. length z) e in
+        absurd (omega (arith, long, s))
 
 -- where things that lead to one place have one number, no two of what rises lead to one place
-places_differ : (ls : List Line) → rise ls ≡ true → ((x y : Line) → IsIn x ls → IsIn y ls → x.1 ≡ y.1 → x.0 ≡ y.0) → differ (λ a b. a == b) (map (λ (l : Line). l.1) ls) ≡ true
+places_differ : (ls : List Line) → rise ls ≡ true → ((x y : Line) → IsIn x ls → IsIn y ls → x.1 ≡ y.1 → x.0 ≡ y.0)
+    → differ (λ a b. a == b) (map (λ (l : Line). l.1) ls) ≡ true
 places_differ [] r h = refl
-places_differ (x ∷ ls) r h = rw (none_at ls (λ y i. other y i)) (places_differ ls (rises_behind x ls r) (λ y z i j. h y z (inr i) (inr j)))
+places_differ (x ∷ ls) r h =
+    rw (none_at ls (λ y i. other y i)) (places_differ ls (rises_behind x ls r) (λ y z i j. h y z (inr i) (inr j)))
   where
     other : (y : Line) → IsIn y ls → y.1 == x.1 ≡ false
-    other y i = false_from_ne_true (y.1 == x.1) (λ e. let l : x.0 < y.0 = rises_over x ls y r i in let s : y.0 ≡ x.0 = h y x (inr i) (inl refl) (eqb-true y.1 x.1 e) in omega (arith, l, s))
+    other y i = false_from_ne_true (y.1 == x.1) (λ e. let l : x.0 < y.0 = rises_over x ls y r i in
+        let s : y.0 ≡ x.0 = h y x (inr i) (inl refl) (eqb-true y.1 x.1 e) in omega (arith, l, s))
 
-    none_at : (ms : List Line) → ((y : Line) → IsIn y ms → y.1 == x.1 ≡ false) → list_any (λ z. z == x.1) (map (λ (l : Line). l.1) ms) ≡ false
+    none_at : (ms : List Line) → ((y : Line) → IsIn y ms → y.1 == x.1 ≡ false)
+        → list_any (λ z. z == x.1) (map (λ (l : Line). l.1) ms) ≡ false
     none_at [] g = refl
     none_at (y ∷ ms) g = rw (g y (inl refl)) (none_at ms (λ z i. g z (inr i)))
 
@@ -129,7 +138,8 @@ module _ (t : Tables) (fit : IsFit t) where
   one_each k c Mmio = omega arith
   one_each k c Direct = omega arith
 
-  from_line : (l : Line) (k : ℕ) (c : FlatConnection) (x : Connector) → IsIn l (line_by t k c x) → (x ≡ Interrupt) × ((irq_number t.settled k c, place t (IrqOf k)) ≡ l)
+  from_line : (l : Line) (k : ℕ) (c : FlatConnection) (x : Connector) → IsIn l (line_by t k c x)
+      → (x ≡ Interrupt) × ((irq_number t.settled k c, place t (IrqOf k)) ≡ l)
   from_line l k c Interrupt (inl same) = (refl, same)
   from_line l k c Interrupt (inr i) = absurd i
   from_line l k c Rpc i = absurd i
@@ -164,8 +174,10 @@ module _ (t : Tables) (fit : IsFit t) where
   one_place j k a b same =
       let p = has_part t (IrqOf j) a in
       let q = has_part t (IrqOf k) b in
-      let e : slice_get (parts t) (place t (IrqOf j)) ≡ Some p.0 = ap (λ w. slice_get (parts t) (place t w)) (sym p.2) ∙ stands t p.0 p.1 in
-      let f : slice_get (parts t) (place t (IrqOf k)) ≡ Some q.0 = ap (λ w. slice_get (parts t) (place t w)) (sym q.2) ∙ stands t q.0 q.1 in
+      let e : slice_get (parts t) (place t (IrqOf j)) ≡ Some p.0 = ap (λ w. slice_get (parts t) (place t w)) (sym p.2)
+      ∙ stands t p.0 p.1 in
+      let f : slice_get (parts t) (place t (IrqOf k)) ≡ Some q.0 = ap (λ w. slice_get (parts t) (place t w)) (sym q.2)
+      ∙ stands t q.0 q.1 in
       let one : p.0 ≡ q.0 = same_Some _ _ (sym e ∙ ap (λ n. slice_get (parts t) n) same ∙ f) in
       ap of_irq (sym p.2 ∙ ap (λ (z : Part). z.what) one ∙ q.2)
     where
@@ -177,20 +189,24 @@ module _ (t : Tables) (fit : IsFit t) where
   one_target x y i j e =
       let a = lined x i in
       let b = lined y j in
-      let at : place t (IrqOf a.number) ≡ place t (IrqOf b.number) = ap (λ (z : Line). z.1) a.is ∙ e ∙ sym (ap (λ (z : Line). z.1) b.is) in
+      let at : place t (IrqOf a.number) ≡ place t (IrqOf b.number) = ap (λ (z : Line). z.1) a.is ∙ e
+      ∙ sym (ap (λ (z : Line). z.1) b.is) in
       let k : a.number ≡ b.number = one_place a.number b.number a.there b.there at in
       let c : a.there.0 ≡ b.there.0 = same_Some _ _ (sym a.there.1 ∙ ap (λ n. slice_get t.flat.connections n) k ∙ b.there.1) in
-      sym (ap (λ (z : Line). z.0) a.is) ∙ ap (λ n. irq_number t.settled n a.there.0) k ∙ ap (λ z. irq_number t.settled b.number z) c ∙ ap (λ (z : Line). z.0) b.is
+      sym (ap (λ (z : Line). z.0) a.is) ∙ ap (λ n. irq_number t.settled n a.there.0) k ∙ ap (λ z. irq_number t.settled b.number z)
+      c ∙ ap (λ (z : Line). z.0) b.is
 
   to_interrupt : (l : Line) → IsIn l (lines t) → is_at (spec_of t) kinds.Irq l.1 ≡ true
   to_interrupt l i =
       let a = lined l i in
-      subst (λ (z : Line). is_at (spec_of t) kinds.Irq z.1 ≡ true) a.is (is_at_of t (IrqOf a.number) kinds.Irq kinds.Irq a.there refl refl)
+      subst (λ (z : Line). is_at (spec_of t) kinds.Irq z.1 ≡ true) a.is (is_at_of t (IrqOf a.number) kinds.Irq kinds.Irq
+      a.there refl refl)
 
   pub lines_kept : keeps_lines (spec_of t) (lines t) ≡ true
   lines_kept =
       let ls = lines t in
       let test : Line → Bool = λ l. is_at (spec_of t) kinds.Irq l.1 in
       and_from (rise ls && differ (λ a b. a == b) (map (λ (l : Line). l.1) ls)) (list_all test ls)
-      (and_from (rise ls) (differ (λ a b. a == b) (map (λ (l : Line). l.1) ls)) lines_rise (places_differ ls lines_rise one_target))
+      (and_from (rise ls) (differ (λ a b. a == b) (map (λ (l : Line). l.1) ls)) lines_rise
+      (places_differ ls lines_rise one_target))
       (all_pass test ls to_interrupt)

@@ -10,7 +10,8 @@ in_range a (suc n) l = inl refl
 
 -- ---- numbers that rise tell their places
 
-above : {X : Type 0} (f : X → ℕ) (x : X) (xs : List X) (k : ℕ) (y : X) → Rises (map f (x ∷ xs)) → slice_get xs k ≡ Some y → f x < f y
+above : {X : Type 0} (f : X → ℕ) (x : X) (xs : List X) (k : ℕ) (y : X) → Rises (map f (x ∷ xs))
+    → slice_get xs k ≡ Some y → f x < f y
 above f x [] k y r e = cc
 above f x (z ∷ zs) zero y r e =
     let same : z ≡ y = cc in
@@ -22,7 +23,8 @@ above f x (z ∷ zs) (suc k) y r e =
     let more : f z < f y = above f z zs k y r.1 e in
     omega (arith, less, more)
 
-pub rises_tell : {X : Type 0} (f : X → ℕ) (xs : List X) (i j : ℕ) (x y : X) → Rises (map f xs) → slice_get xs i ≡ Some x → slice_get xs j ≡ Some y → f x ≡ f y → x ≡ y
+pub rises_tell : {X : Type 0} (f : X → ℕ) (xs : List X) (i j : ℕ) (x y : X) → Rises (map f xs) → slice_get xs i ≡ Some x
+    → slice_get xs j ≡ Some y → f x ≡ f y → x ≡ y
 rises_tell f [] i j x y r e g same = cc
 rises_tell f (z ∷ zs) zero zero x y r e g same = cc
 rises_tell {X} f (z ∷ zs) zero (suc j) x y r e g same =
@@ -38,7 +40,8 @@ rises_tell {X} f (z ∷ zs) (suc i) zero x y r e g same =
 rises_tell f (z ∷ zs) (suc i) (suc j) x y r e g same = rises_tell f zs i j x y r.1 e g same
 
 -- what stands no later is no more
-pub not_above : {X : Type 0} (f : X → ℕ) (xs : List X) (i j : ℕ) (x y : X) → Rises (map f xs) → slice_get xs i ≡ Some x → slice_get xs j ≡ Some y → i ≤ j → f x ≤ f y
+pub not_above : {X : Type 0} (f : X → ℕ) (xs : List X) (i j : ℕ) (x y : X) → Rises (map f xs) → slice_get xs i ≡ Some x
+    → slice_get xs j ≡ Some y → i ≤ j → f x ≤ f y
 not_above f [] i j x y r e g l = cc
 not_above {X} f (z ∷ zs) zero zero x y r e g l =
     let a : z ≡ x = cc in

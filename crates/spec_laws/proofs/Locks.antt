@@ -57,31 +57,41 @@ each_map P f (x ∷ xs) h = (h x, each_map P f xs h)
 
 no_table : (first link : ℕ) (ys : List Layer) → Each NoCNode (in_levels first link ys)
 no_table first link [] = tt
-no_table first link (y ∷ ys) = each_append NoCNode (in_levels first (first + sizes ys) ys) (map (table_of y.shape link) y.tables) (no_table first (first + sizes ys) ys) (each_map NoCNode (table_of y.shape link) y.tables (λ r. tt))
+no_table first link (y ∷ ys) = each_append NoCNode (in_levels first (first + sizes ys) ys) (map (table_of y.shape link) y.tables)
+    (no_table first (first + sizes ys) ys) (each_map NoCNode (table_of y.shape link) y.tables (λ r. tt))
 
 pub at_index : {X : Type 0} (P : X → Type 0) (xs : List X) (n : ℕ) (d : X) → Each P xs → P d → P (slice_index_or xs n d)
 at_index P [] n d h k = k
 at_index P (x ∷ xs) zero d h k = h.0
 at_index P (x ∷ xs) (suc n) d h k = at_index P xs n d h.1 k
 
-by_option : {X : Type 0} (P : Object → Type 0) (f : X → Object) (o : Option X) → ((x : X) → P (f x)) → P objects.Endpoint → P (option_map_or f o objects.Endpoint)
+by_option : {X : Type 0} (P : Object → Type 0) (f : X → Object) (o : Option X) → ((x : X) → P (f x)) → P objects.Endpoint
+    → P (option_map_or f o objects.Endpoint)
 by_option P f None h k = k
 by_option P f (Some x) h k = h x
 
-pub what_is : (t : Tables) (w : What) (bits : ℕ) (slots : List (ℕ × Cap)) → object t w ≡ objects.CNode bits slots → (e : ℕ) × (w ≡ CNodeOf e)
+pub what_is : (t : Tables) (w : What) (bits : ℕ) (slots : List (ℕ × Cap)) → object t w ≡ objects.CNode bits slots
+    → (e : ℕ) × (w ≡ CNodeOf e)
 what_is t (CNodeOf e) bits slots h = (e, refl)
-what_is t (ThreadOf d i) bits slots h = absurd (subst NoCNode h (by_option NoCNode (λ x. objects.Thread (tcb t d x)) (slice_get (threads_at t d) i) (λ x. tt) tt))
+what_is t (ThreadOf d i) bits slots h =
+    absurd (subst NoCNode h (by_option NoCNode (λ x. objects.Thread (tcb t d x)) (slice_get (threads_at t d) i) (λ x. tt) tt))
 what_is t (EndpointOf k) bits slots h = absurd (subst NoCNode h tt)
 what_is t (NotificationOf k) bits slots h = absurd (subst NoCNode h tt)
 what_is t (LockOf d n) bits slots h = absurd (subst NoCNode h tt)
 what_is t (IrqOf k) bits slots h = absurd (subst NoCNode h tt)
-what_is t (TableOf d j) bits slots h = absurd (subst NoCNode h (at_index NoCNode (tables_at t (place t (TableOf d 0)) (place t (FrameOf 0)) d) j objects.Endpoint (no_table (place t (TableOf d 0)) 0 (layers (shapes (arch t)) (map (page_mapping (place t (FrameOf 0))) (pages_at t d)))) tt))
-what_is t (FrameOf f) bits slots h = absurd (subst NoCNode h (by_option NoCNode frame_object (slice_get t.spaces.frames f) (λ x. tt) tt))
+what_is t (TableOf d j) bits slots h =
+    absurd (subst NoCNode h (at_index NoCNode (tables_at t (place t (TableOf d 0)) (place t (FrameOf 0)) d) j objects.Endpoint
+    (no_table (place t (TableOf d 0)) 0 (layers (shapes (arch t)) (map (page_mapping (place t (FrameOf 0))) (pages_at t d))))
+    tt))
+what_is t (FrameOf f) bits slots h =
+    absurd (subst NoCNode h (by_option NoCNode frame_object (slice_get t.spaces.frames f) (λ x. tt) tt))
 
-pub part_there : (t : Tables) (m : ℕ) (o : Object) → object_at (spec_of t) m ≡ Some o → (p : Part) × (slice_get (parts t) m ≡ Some p) × (object t p.what ≡ o)
+pub part_there : (t : Tables) (m : ℕ) (o : Object) → object_at (spec_of t) m ≡ Some o
+    → (p : Part) × (slice_get (parts t) m ≡ Some p) × (object t p.what ≡ o)
 part_there t m o h = by_entry (slice_get (map (entry t) (parts t)) m) refl h
   where
-    by_entry : (e : Option Entry) → slice_get (map (entry t) (parts t)) m ≡ e → entry_object e ≡ Some o → (p : Part) × (slice_get (parts t) m ≡ Some p) × (object t p.what ≡ o)
+    by_entry : (e : Option Entry) → slice_get (map (entry t) (parts t)) m ≡ e → entry_object e ≡ Some o
+        → (p : Part) × (slice_get (parts t) m ≡ Some p) × (object t p.what ≡ o)
     by_entry None f k = cc
     by_entry (Some e) f k =
         let p = from_get_map (entry t) (parts t) m e f in
@@ -135,7 +145,9 @@ module _ (t : Tables) (can : CanSlot t) where
   slots_of_cnode (objects.CNode bits slots) = slots
   slots_of_cnode _ = []
 
-  lock_there : (d n leaf l : ℕ) (x : Domain) → slice_get t.flat.domains d ≡ Some x → slice_get (uses_at t d) n ≡ Some (OwnLock leaf l) → (j : ℕ) × IsIn (part series.Lock j (OfDomain d) (LockOf d n)) (parts t)
+  lock_there : (d n leaf l : ℕ) (x : Domain) → slice_get t.flat.domains d ≡ Some x
+      → slice_get (uses_at t d) n ≡ Some (OwnLock leaf l)
+      → (j : ℕ) × IsIn (part series.Lock j (OfDomain d) (LockOf d n)) (parts t)
   lock_there d n leaf l x h e =
       let y = owned (OfDomain d) (LockOf d n) in
       let i = in_gather (lock d) y (uses_at t d) n (OwnLock leaf l) e (inl refl) in
@@ -151,7 +163,8 @@ module _ (t : Tables) (can : CanSlot t) where
     is_interrupt : connection.connector ≡ Interrupt
     leads : (use_cap t d n (Handler k l)).object ≡ place t (IrqOf k)
 
-  handled : (d n k l : ℕ) (x : Domain) → slice_get t.flat.domains d ≡ Some x → slice_get (uses_at t d) n ≡ Some (Handler k l) → IsHandled d n k l
+  handled : (d n k l : ℕ) (x : Domain) → slice_get t.flat.domains d ≡ Some x → slice_get (uses_at t d) n ≡ Some (Handler k l)
+      → IsHandled d n k l
   handled d n k l x h e =
       let P : List SlotUse → Type 0 = λ us. IsIn (Handler k l) us in
       elim (from_use t x.leaves (Handler k l) (subst P (uses_are t can d x h) (in_place (Handler k l) (uses_at t d) n e))) [
@@ -162,21 +175,32 @@ module _ (t : Tables) (can : CanSlot t) where
         | inr o ↦ let z = o.2 in cc
       ]
 
-  of_use : (d n r : ℕ) (x : Domain) (u : SlotUse) → slice_get t.flat.domains d ≡ Some x → slice_get (uses_at t d) n ≡ Some u → IsNamed spec (use_cap t d n u).object series.Lock r → IsLockSlot d (n + 1) (use_cap t d n u)
-  of_use d n r x (OfEnd k l) h e name = let c = cap_is t can d n x (OfEnd k l) h e in absurd (no_joint spec (use_cap t d n (OfEnd k l)).object k r c.connection.connector c.joint name)
+  of_use : (d n r : ℕ) (x : Domain) (u : SlotUse) → slice_get t.flat.domains d ≡ Some x → slice_get (uses_at t d) n ≡ Some u
+      → IsNamed spec (use_cap t d n u).object series.Lock r → IsLockSlot d (n + 1) (use_cap t d n u)
+  of_use d n r x (OfEnd k l) h e name = let c = cap_is t can d n x (OfEnd k l) h e in
+      absurd (no_joint spec (use_cap t d n (OfEnd k l)).object k r c.connection.connector c.joint name)
   of_use d n r x (Handler k l) h e name =
       let c = handled d n k l x h e in
       let n = before interrupt t.flat.connections k in
       let j = irq_part t k c.connection c.here c.is_interrupt in
-      absurd (no_irq n r (sym ((objects_stand t).name (part series.Irq n (irq_owner k c.connection) (IrqOf k)) j) ∙ ap (λ z. name_at spec z) (sym c.leads) ∙ name))
-  of_use d n r x (OwnLock leaf l) h e name = let j = lock_there d n leaf l x h e in record { number = n; slot = refl; named = j.0; there = j.1; leads = refl }
+      absurd (no_irq n r (sym ((objects_stand t).name (part series.Irq n (irq_owner k c.connection) (IrqOf k)) j)
+      ∙ ap (λ z. name_at spec z) (sym c.leads) ∙ name))
+  of_use d n r x (OwnLock leaf l) h e name = let j = lock_there d n leaf l x h e in record {
+    number = n;
+    slot = refl;
+    named = j.0;
+    there = j.1;
+    leads = refl;
+  }
 
   no_uses : (d : ℕ) → slice_get t.flat.domains d ≡ None → uses_at t d ≡ []
   no_uses d h =
       ap (λ (s : Slots). option_map_or (λ (plan : SlotPlan). plan.uses) (slice_get s.domains d) []) can.slots
-      ∙ ap (λ o. option_map_or (λ (plan : SlotPlan). plan.uses) o []) (none_map (λ (z : Domain). plan_of (domain_uses t.source t.flat z.leaves)) t.flat.domains d h)
+      ∙ ap (λ o. option_map_or (λ (plan : SlotPlan). plan.uses) o [])
+      (none_map (λ (z : Domain). plan_of (domain_uses t.source t.flat z.leaves)) t.flat.domains d h)
 
-  in_domain : (d m r : ℕ) (a : Cap) (q : Option Domain) → slice_get t.flat.domains d ≡ q → IsIn (m, a) (slots_at t d) → IsNamed spec a.object series.Lock r → IsLockSlot d m a
+  in_domain : (d m r : ℕ) (a : Cap) (q : Option Domain) → slice_get t.flat.domains d ≡ q → IsIn (m, a) (slots_at t d)
+      → IsNamed spec a.object series.Lock r → IsLockSlot d m a
   in_domain d m r a None h j name =
       let slot : ℕ × Cap = (m, a) in
       let f : ℕ → SlotUse → List (ℕ × Cap) = λ n u. (n + 1, use_cap t d n u) ∷ [] in
@@ -189,15 +213,23 @@ module _ (t : Tables) (can : CanSlot t) where
       let cap : use_cap t d b.0 b.1 ≡ a = ap (λ (z : ℕ × Cap). z.1) eq in
       let slot : b.0 + 1 ≡ m = ap (λ (z : ℕ × Cap). z.0) eq in
       let k = of_use d b.0 r x b.1 h b.2 (ap (λ (z : Cap). name_at spec z.object) cap ∙ name) in
-      record { number = k.number; slot = sym slot ∙ k.slot; named = k.named; there = k.there; leads = ap (λ (z : Cap). z.object) (sym cap) ∙ k.leads }
+      record {
+        number = k.number;
+        slot = sym slot ∙ k.slot;
+        named = k.named;
+        there = k.there;
+        leads = ap (λ (z : Cap). z.object) (sym cap) ∙ k.leads;
+      }
 
-  pub slot_is : (d m r bits : ℕ) (slots : List (ℕ × Cap)) (a : Cap) → object_at spec d ≡ Some (objects.CNode bits slots) → IsIn (m, a) slots → IsNamed spec a.object series.Lock r → IsLockSlot d m a
+  pub slot_is : (d m r bits : ℕ) (slots : List (ℕ × Cap)) (a : Cap) → object_at spec d ≡ Some (objects.CNode bits slots)
+      → IsIn (m, a) slots → IsNamed spec a.object series.Lock r → IsLockSlot d m a
   slot_is d m r bits slots a o i name =
       let p = part_there t d (objects.CNode bits slots) o in
       let w = what_is t p.0.what bits slots p.2 in
       let at : place t (CNodeOf w.0) ≡ d = ap (λ z. place t z) (sym w.1) ∙ place_is t d p.0 p.1 in
       let same : w.0 ≡ d = omega (arith, at) in
-      let filled : slots_at t d ≡ slots = ap (λ z. slots_at t z) (sym same) ∙ ap slots_of_cnode (ap (λ z. object t z) (sym w.1) ∙ p.2) in
+      let filled : slots_at t d ≡ slots = ap (λ z. slots_at t z) (sym same)
+      ∙ ap slots_of_cnode (ap (λ z. object t z) (sym w.1) ∙ p.2) in
       let P : List (ℕ × Cap) → Type 0 = λ z. IsIn (m, a) z in
       in_domain d m r a (slice_get t.flat.domains d) refl (subst P (sym filled) i) name
 
@@ -209,7 +241,8 @@ module _ (t : Tables) (can : CanSlot t) where
       let w = part series.Lock y.named (OfDomain e) (LockOf e y.number) in
       let at : place t (LockOf d x.number) ≡ place t (LockOf e y.number) = sym x.leads ∙ eq ∙ y.leads in
       let P : ℕ → Type 0 = λ z. slice_get (parts t) z ≡ Some p in
-      let parts_same : p ≡ w = some (slice_get (parts t) (place t (LockOf e y.number))) p w (subst P at (stands t p x.there)) (stands t w y.there) in
+      let parts_same : p ≡ w = some (slice_get (parts t) (place t (LockOf e y.number))) p w (subst P at (stands t p x.there))
+      (stands t w y.there) in
       let what : LockOf d x.number ≡ LockOf e y.number = ap (λ (z : Part). z.what) parts_same in
       let number : x.number ≡ y.number = (lock_same d x.number e y.number what).1 in
       ((lock_same d x.number e y.number what).0, x.slot ∙ ap (λ z. z + 1) number ∙ sym y.slot)

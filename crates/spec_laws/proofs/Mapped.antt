@@ -89,20 +89,25 @@ module _ (g : Given) (d : ℕ) where
 
   from_regions : (r : Region) → IsIn r (regions g d) → IsOfThread r ⊎ IsOfEnd r
   from_regions r i =
-      elim (in_append r (flat_map (thread_regions g.settled) (threads_of g d)) (map (window_region g.flat g.settled) (windows_of g d)) i) [
+      elim (in_append r (flat_map (thread_regions g.settled) (threads_of g d))
+      (map (window_region g.flat g.settled) (windows_of g d)) i) [
         | inl j ↦ (let x = from_flat_map (thread_regions g.settled) r (threads_of g d) j in inl (from_thread x.0 r x.2))
         | inr j ↦ (let e = from_map (window_region g.flat g.settled) r (windows_of g d) j in inr (e.0, e.1, e.2))
       ]
 
   -- page j of a region of a thread is an own one
   own_page : (start j : ℕ) (r : Region) (p : MappedPage) → IsOfThread r → page_of g.settled start r j ≡ p → IsOwn p
-  own_page start j r p (inl e) is = (None, ap (λ (z : MappedPage). z.shown) (sym is ∙ ap (λ c. page_of g.settled start (region c r.pages) j) e))
-  own_page start j r p (inr e) is = (None, ap (λ (z : MappedPage). z.shown) (sym is ∙ ap (λ c. page_of g.settled start (region c r.pages) j) e))
+  own_page start j r p (inl e) is =
+      (None, ap (λ (z : MappedPage). z.shown) (sym is ∙ ap (λ c. page_of g.settled start (region c r.pages) j) e))
+  own_page start j r p (inr e) is =
+      (None, ap (λ (z : MappedPage). z.shown) (sym is ∙ ap (λ c. page_of g.settled start (region c r.pages) j) e))
 
-  window_page_of : (start j : ℕ) (r : Region) (p : MappedPage) (o : IsOfEnd r) → j < r.pages → page_of g.settled start r j ≡ p → OfWindow g d p
+  window_page_of : (start j : ℕ) (r : Region) (p : MappedPage) (o : IsOfEnd r) → j < r.pages → page_of g.settled start r j ≡ p
+      → OfWindow g d p
   window_page_of start j r p o below is =
       let e = o.0 in
-      let here : page_of g.settled start (window_region g.flat g.settled e) j ≡ p = ap (λ z. page_of g.settled start z j) o.2 ∙ is in
+      let here : page_of g.settled start (window_region g.flat g.settled e) j ≡ p =
+      ap (λ z. page_of g.settled start z j) o.2 ∙ is in
       record {
         end = e;
         there = o.1;
@@ -132,7 +137,8 @@ module _ (g : Given) (d : ℕ) where
       ]
 
   -- the first page of a region is mapped
-  pub first_page : (n : ℕ) (r : Region) → slice_get (regions g d) n ≡ Some r → 0 < r.pages → IsIn (page_of g.settled (region_start (base g) (regions g d) n) r 0) (mapped_pages g d)
+  pub first_page : (n : ℕ) (r : Region) → slice_get (regions g d) n ≡ Some r → 0 < r.pages
+      → IsIn (page_of g.settled (region_start (base g) (regions g d) n) r 0) (mapped_pages g d)
   first_page n r e l =
       let p = page_of g.settled (region_start (base g) (regions g d) n) r 0 in
       let inner : IsIn p (pages_of_region g.settled (base g) (regions g d) n r) =
@@ -142,7 +148,8 @@ module _ (g : Given) (d : ℕ) where
 
   pub window_there : (e : Joined) → IsIn e (windows_of g d) → IsIn (window_region g.flat g.settled e) (regions g d)
   window_there e i =
-      in_right (window_region g.flat g.settled e) (flat_map (thread_regions g.settled) (threads_of g d)) (map (window_region g.flat g.settled) (windows_of g d))
+      in_right (window_region g.flat g.settled e) (flat_map (thread_regions g.settled) (threads_of g d))
+      (map (window_region g.flat g.settled) (windows_of g d))
       (in_map (window_region g.flat g.settled) e (windows_of g d) i)
 
 -- ---- pages and threads as they are laid
@@ -157,10 +164,12 @@ module _ (t : Tables) (h : IsConnected t) where
   space_here : (d : ℕ) (x : Domain) → slice_get t.flat.domains d ≡ Some x → slice_get t.spaces.spaces d ≡ Some (space laid d x)
   space_here d x e = ap (λ s. slice_get s.spaces d) h.spaces ∙ get_ones (space laid) t.flat.domains d x e
 
-  pages_are : (d : ℕ) (x : Domain) → slice_get t.flat.domains d ≡ Some x → pages_at t d ≡ gather (λ n p. page laid d n p ∷ []) (mapped_pages laid d)
+  pages_are : (d : ℕ) (x : Domain) → slice_get t.flat.domains d ≡ Some x
+      → pages_at t d ≡ gather (λ n p. page laid d n p ∷ []) (mapped_pages laid d)
   pages_are d x e = ap (λ o. option_map_or (λ (s : Space). s.pages) o []) (space_here d x e)
 
-  threads_are : (d : ℕ) (x : Domain) → slice_get t.flat.domains d ≡ Some x → threads_at t d ≡ gather (λ i x. thread_place laid d i x ∷ []) (threads_of laid d)
+  threads_are : (d : ℕ) (x : Domain) → slice_get t.flat.domains d ≡ Some x
+      → threads_at t d ≡ gather (λ i x. thread_place laid d i x ∷ []) (threads_of laid d)
   threads_are d x e = ap (λ o. option_map_or (λ (s : Space). s.threads) o []) (space_here d x e)
 
   pub record IsPage (d : ℕ) (p : Page) : Type 0 where
@@ -171,19 +180,26 @@ module _ (t : Tables) (h : IsConnected t) where
 
   pub from_pages : (d : ℕ) (x : Domain) (p : Page) → slice_get t.flat.domains d ≡ Some x → IsIn p (pages_at t d) → IsPage d p
   from_pages d x p e i =
-      let n = place_of p (gather (λ n p. page laid d n p ∷ []) (mapped_pages laid d)) (subst (λ z. IsIn p z) (pages_are d x e) i) in
+      let n = place_of p (gather (λ n p. page laid d n p ∷ []) (mapped_pages laid d))
+      (subst (λ z. IsIn p z) (pages_are d x e) i) in
       let o = from_ones (page laid d) (mapped_pages laid d) n.0 p n.1 in
       record { number = n.0; mapped = o.0; here = o.1; is = o.2 }
 
-  pub in_pages : (d n : ℕ) (x : Domain) (p : MappedPage) → slice_get t.flat.domains d ≡ Some x → slice_get (mapped_pages laid d) n ≡ Some p → IsIn (page laid d n p) (pages_at t d)
-  in_pages d n x p e s = subst (λ z. IsIn (page laid d n p) z) (sym (pages_are d x e)) (in_gather (λ n p. page laid d n p ∷ []) (page laid d n p) (mapped_pages laid d) n p s (inl refl))
+  pub in_pages : (d n : ℕ) (x : Domain) (p : MappedPage) → slice_get t.flat.domains d ≡ Some x
+      → slice_get (mapped_pages laid d) n ≡ Some p → IsIn (page laid d n p) (pages_at t d)
+  in_pages d n x p e s = subst (λ z. IsIn (page laid d n p) z) (sym (pages_are d x e))
+      (in_gather (λ n p. page laid d n p ∷ []) (page laid d n p) (mapped_pages laid d) n p s (inl refl))
 
-  pub from_threads : (d i : ℕ) (x : Domain) (y : ThreadPlace) → slice_get t.flat.domains d ≡ Some x → slice_get (threads_at t d) i ≡ Some y
+  pub from_threads : (d i : ℕ) (x : Domain) (y : ThreadPlace) → slice_get t.flat.domains d ≡ Some x
+      → slice_get (threads_at t d) i ≡ Some y
       → (z : ThreadOf) × (slice_get (threads_of laid d) i ≡ Some z) × (thread_place laid d i z ≡ y)
-  from_threads d i x y e s = from_ones (thread_place laid d) (threads_of laid d) i y (subst (λ z. slice_get z i ≡ Some y) (threads_are d x e) s)
+  from_threads d i x y e s = from_ones (thread_place laid d) (threads_of laid d) i y
+      (subst (λ z. slice_get z i ≡ Some y) (threads_are d x e) s)
 
-  pub in_threads_at : (d i : ℕ) (x : Domain) (z : ThreadOf) → slice_get t.flat.domains d ≡ Some x → slice_get (threads_of laid d) i ≡ Some z → slice_get (threads_at t d) i ≡ Some (thread_place laid d i z)
-  in_threads_at d i x z e s = subst (λ w. slice_get w i ≡ Some (thread_place laid d i z)) (sym (threads_are d x e)) (get_ones (thread_place laid d) (threads_of laid d) i z s)
+  pub in_threads_at : (d i : ℕ) (x : Domain) (z : ThreadOf) → slice_get t.flat.domains d ≡ Some x
+      → slice_get (threads_of laid d) i ≡ Some z → slice_get (threads_at t d) i ≡ Some (thread_place laid d i z)
+  in_threads_at d i x z e s = subst (λ w. slice_get w i ≡ Some (thread_place laid d i z)) (sym (threads_are d x e))
+      (get_ones (thread_place laid d) (threads_of laid d) i z s)
 
   -- ---- frames
 
@@ -194,12 +210,15 @@ module _ (t : Tables) (h : IsConnected t) where
   frame_is f y e = ap (λ z. option_map_or (λ (x : FrameInfo). frame_owner x.owner) z (owners.OfLeaf 0)) (frame_there f y e)
 
   -- an own page shows a frame of its domain
-  pub own_frame : (d n : ℕ) (x : Domain) (p : MappedPage) → slice_get t.flat.domains d ≡ Some x → slice_get (mapped_pages laid d) n ≡ Some p → IsOwn p
-      → IsThere t (FrameOf (number_shown laid d n p.shown)) × (owner_of t (FrameOf (number_shown laid d n p.shown)) ≡ owners.OfDomain d)
+  pub own_frame : (d n : ℕ) (x : Domain) (p : MappedPage) → slice_get t.flat.domains d ≡ Some x
+      → slice_get (mapped_pages laid d) n ≡ Some p → IsOwn p
+      → IsThere t (FrameOf (number_shown laid d n p.shown))
+      × (owner_of t (FrameOf (number_shown laid d n p.shown)) ≡ owners.OfDomain d)
   own_frame d n x p e s own =
       let f = number_shown laid d n p.shown in
       let y = frame (OfDomain d) None own.0 in
-      let at : slice_get (frames laid) f ≡ Some y = (frames_stand laid).own d n p own.0 s own.1 (slice_get_within t.flat.domains d x e) in
+      let at : slice_get (frames laid) f ≡ Some y = (frames_stand laid).own d n p own.0 s own.1
+      (slice_get_within t.flat.domains d x e) in
       ((y, frame_there f y at), frame_is f y at)
 
   -- a frame of the memory that an end sees
@@ -208,7 +227,8 @@ module _ (t : Tables) (h : IsConnected t) where
     pub memory : gives x.connection.connector x.end.role o Read ≡ true
     pub leads : LeadsTo (policy_tables t) x o (number_of t.numbers (owner_of t (FrameOf f)))
 
-  pub sees_shared : (x : EndAt t.flat) (j : ℕ) → x.connection.connector ≡ SharedMemory → j < memory_pages t.settled x.place x.connection → Sees x OfFrames (memory_number laid x.place j)
+  pub sees_shared : (x : EndAt t.flat) (j : ℕ) → x.connection.connector ≡ SharedMemory
+      → j < memory_pages t.settled x.place x.connection → Sees x OfFrames (memory_number laid x.place j)
   sees_shared x j e l =
       let f = memory_number laid x.place j in
       let y = frame (OfConnection x.place) None None in
@@ -248,10 +268,12 @@ module _ (t : Tables) (h : IsConnected t) where
         | inl w ↦ absurd (let i = sym (ap (λ (z : FlatConnection). z.connector) same ∙ m) ∙ w.0 in cc)
         | inr w ↦ w.1
       ] in
-      let stands : slice_get c.ends x.number ≡ Some x.end = subst (λ (z : FlatConnection). slice_get z.ends x.number ≡ Some x.end) same x.stands in
+      let stands : slice_get c.ends x.number ≡ Some x.end = subst (λ (z : FlatConnection). slice_get z.ends x.number ≡ Some x.end)
+      same x.stands in
       let test : FlatEnd → Bool = λ e. is_to e.role in
       let f = first_found test c.ends x.number x.end stands (ap is_to role) in
-      let first : first_to_end c.ends ≡ Some f.0 = ap (λ z. option_and_then (slice_get c.ends) z) (position_found test c.ends f.0 f.1) ∙ f.1 in
+      let first : first_to_end c.ends ≡ Some f.0 = ap (λ z. option_and_then (slice_get c.ends) z)
+      (position_found test c.ends f.0 f.1) ∙ f.1 in
       let to : f.0.role ≡ To = to_is f.0.role f.2 in
       record {
         at = record { place = k; connection = c; here = e; number = position_or_len test c.ends; end = f.0; stands = f.1 };
@@ -272,7 +294,8 @@ module _ (t : Tables) (h : IsConnected t) where
     has : registers connection ≡ Some end
     same : same_port e end ≡ true
 
-  first_here : (k : ℕ) (c : FlatConnection) (e : FlatEnd) → slice_get t.flat.connections k ≡ Some c → registers c ≡ Some e → FirstTo e
+  first_here : (k : ℕ) (c : FlatConnection) (e : FlatEnd) → slice_get t.flat.connections k ≡ Some c
+      → registers c ≡ Some e → FirstTo e
   first_here k c e here has =
       let passes : leads_to e c ≡ true = ap (λ z. option_map_or (same_port e) z false) has ∙ own_port e in
       let f = first_found (leads_to e) t.flat.connections k c here passes in
@@ -287,7 +310,8 @@ module _ (t : Tables) (h : IsConnected t) where
         same = w.2;
       }
 
-  pub sees_device : (x : EndAt t.flat) (j : ℕ) → x.connection.connector ≡ Mmio → x.end.role ≡ From → j < memory_pages t.settled x.place x.connection → Sees x OfDevice (memory_number laid x.place j)
+  pub sees_device : (x : EndAt t.flat) (j : ℕ) → x.connection.connector ≡ Mmio → x.end.role ≡ From
+      → j < memory_pages t.settled x.place x.connection → Sees x OfDevice (memory_number laid x.place j)
   sees_device x j e r l =
       let k = x.place in
       let f = memory_number laid k j in
@@ -295,9 +319,19 @@ module _ (t : Tables) (h : IsConnected t) where
       let b = first_here k x.connection v.at.end x.here v.has in
       let y = register_frame t.settled b.number b.connection b.end j in
       let as_many = h.registers k b.number x.connection b.connection v.at.end b.end x.here b.here v.has b.has b.same in
-      let at : slice_get (frames laid) f ≡ Some y = (frames_stand laid).registers k j b.number x.connection b.connection v.at.end b.end x.here v.has b.first b.here b.has (omega (arith, as_many, l)) in
-      let leaf : b.end.leaf ≡ v.at.end.leaf = eqb-true b.end.leaf v.at.end.leaf (and_parts (eqb b.end.leaf v.at.end.leaf) (eqb b.end.member v.at.end.member) b.same).0 in
+      let at : slice_get (frames laid) f ≡ Some y = (frames_stand laid).registers k j b.number x.connection b.connection v.at.end
+      b.end x.here v.has b.first b.here b.has (omega (arith, as_many, l)) in
+      let leaf : b.end.leaf ≡ v.at.end.leaf =
+      eqb-true b.end.leaf v.at.end.leaf (and_parts (eqb b.end.leaf v.at.end.leaf)
+      (eqb b.end.member v.at.end.member) b.same).0 in
       let label : number_of t.numbers (owner_of t (FrameOf f)) ≡ leaf_label (policy_tables t) v.at.end.leaf =
-      ap (number_of t.numbers) (frame_is f y at ∙ ap owners.OfLeaf leaf) ∙ sym (own_label (policy_tables t) h.flat v.at v.device) in
-      let other : AtOtherEnd (policy_tables t) x (number_of t.numbers (owner_of t (FrameOf f))) = record { at = v.at; same = v.place; role = v.role ∙ ap opposite (sym r); label_is = label } in
-      record { there = (y, frame_there f y at); memory = ap (λ c. gives c x.end.role OfDevice Read) e ∙ ap (λ z. gives Mmio z OfDevice Read) r; leads = other }
+      ap (number_of t.numbers) (frame_is f y at ∙ ap owners.OfLeaf leaf)
+      ∙ sym (own_label (policy_tables t) h.flat v.at v.device) in
+      let other : AtOtherEnd (policy_tables t) x (number_of t.numbers (owner_of t (FrameOf f))) =
+      record { at = v.at; same = v.place; role = v.role ∙ ap opposite (sym r); label_is = label } in
+      record {
+        there = (y, frame_there f y at);
+        memory = ap (λ c. gives c x.end.role OfDevice Read) e
+            ∙ ap (λ z. gives Mmio z OfDevice Read) r;
+        leads = other;
+      }

@@ -41,11 +41,15 @@ use Rattle.system_spec.specs.TablesFrom.{tables_from}
 use Rattle.vspace_layout.specs.Given.{given}
 use Rattle.vspace_layout.specs.PageLimits.{first_page_limit}
 
-member_below : (s : Source) (e : FlatEnd) (leaf : Leaf) (m : _) → slice_get (flat_of s).leaves e.leaf ≡ Some leaf → slice_get (members_at s leaf.component) e.member ≡ Some m → e.member < length (leaf_members s (flat_of s) e.leaf)
-member_below s e leaf m here there = subst (λ o. e.member < length (members_of_leaf s o)) (sym here) (below (members_at s leaf.component) e.member m there)
+member_below : (s : Source) (e : FlatEnd) (leaf : Leaf) (m : _) → slice_get (flat_of s).leaves e.leaf ≡ Some leaf
+    → slice_get (members_at s leaf.component) e.member ≡ Some m → e.member < length (leaf_members s (flat_of s) e.leaf)
+member_below s e leaf m here there = subst (λ o. e.member < length (members_of_leaf s o)) (sym here)
+    (below (members_at s leaf.component) e.member m there)
 
-pub tables_can_map : (s : Source) (images : Images) → AreFilesShort s → AreNamesSound s → first_type_fault s ≡ None → first_flat_fault s ≡ None → first_setting_fault s ≡ None
-    → AreNumbered (flat_of s) images → AreSound images → first_space_fault (flat_of s) images ≡ None → first_slot_fault s (flat_of s) ≡ None → first_page_limit (given s (flat_of s) (settled_of s) images) ≡ None
+pub tables_can_map : (s : Source) (images : Images) → AreFilesShort s → AreNamesSound s → first_type_fault s ≡ None
+    → first_flat_fault s ≡ None → first_setting_fault s ≡ None
+    → AreNumbered (flat_of s) images → AreSound images → first_space_fault (flat_of s) images ≡ None
+    → first_slot_fault s (flat_of s) ≡ None → first_page_limit (given s (flat_of s) (settled_of s) images) ≡ None
     → HaveImages (flat_of s) images → CanMap (tables_from s (flat_of s) (settled_of s) images)
 tables_can_map s images short sound types flat settings numbered sections space slots pages have =
     let h = hierarchy_of s in
@@ -68,22 +72,29 @@ tables_can_map s images short sound types flat settings numbered sections space 
         some = leaves_some s;
       };
       joined = record {
-        member = λ k n c e at there. let t = typed k n c e at there in member_below s e t.leaf (members.Interface t.interface) t.here t.joined;
+        member = λ k n c e at there. let t = typed k n c e at there in member_below s e t.leaf (members.Interface t.interface)
+            t.here t.joined;
         software = λ k n c e at there soft.
             let t = typed k n c e at there in
-            let d = has_domain s e.leaf t.leaf t.here (hardware_fits (end_rule c.connector e.role) (record { interface = t.interface; hardware = t.leaf.hardware }) t.kind ∙ soft) in
+            let d = has_domain s e.leaf t.leaf t.here (hardware_fits (end_rule c.connector e.role)
+            (record { interface = t.interface; hardware = t.leaf.hardware }) t.kind ∙ soft) in
             (t.leaf, d.0, t.here, d.1);
       };
       settled = record {
         image = have;
-        leaf = λ leaf found at. (leaf_setting (leaf_found h found), get_map leaf_setting (leaves_found h (flat_of s)) leaf (leaf_found h found) (get_map (leaf_found h) (flat_of s).leaves leaf found at));
+        leaf = λ leaf found at. (
+          leaf_setting (leaf_found h found),
+          get_map leaf_setting (leaves_found h (flat_of s)) leaf
+              (leaf_found h found) (get_map (leaf_found h) (flat_of s).leaves leaf found at),
+        );
         stack = stacks_whole s;
         end = λ k n c e at there. let f = end_found s typed right k n c e at there in (end_setting f.found, f.setting);
       };
       memory = record {
         pages = λ k l c e at there o.
             same k l c e o.port o.other at there o.first o.second
-            (and_from (o.other.leaf == o.port.leaf) (o.other.member == o.port.member) (eq-eqb o.other.leaf o.port.leaf (sym o.leaf)) (eq-eqb o.other.member o.port.member (sym o.member)));
+            (and_from (o.other.leaf == o.port.leaf) (o.other.member == o.port.member)
+            (eq-eqb o.other.leaf o.port.leaf (sym o.leaf)) (eq-eqb o.other.member o.port.member (sym o.member)));
         paddr = λ k l c e at there o. same_paddr s typed right k l c e o.port o.other at there o.first o.second o.leaf o.member;
         seen = λ k c at has.
             let m = memory_seen s images sound (dotted s short) types k c at (⊎_elim (λ x. inr x) (λ x. inl x) has) in

@@ -59,23 +59,27 @@ of_setting e m =
     let b = m.fits in
     record { most = omega (arith, a); fits = omega (arith, b); aligned = m.aligned }
 
-memory_is : (s : Source) (k : ℕ) (c : FlatConnection) → IsMemory (memory_pages (settled_of s) k c) (memory_paddr (settled_of s) k c)
+memory_is : (s : Source) (k : ℕ) (c : FlatConnection)
+    → IsMemory (memory_pages (settled_of s) k c) (memory_paddr (settled_of s) k c)
 memory_is s k c = by_place (memory_place c.connector c.ends)
   where
-    by_setting : (n : ℕ) (o : Option EndSetting) → setting_of (settled_of s) k n ≡ o → IsMemory (option_map_or (λ x. x.bytes / 4096) o 0) (option_map_or (λ x. x.paddr) o 0)
+    by_setting : (n : ℕ) (o : Option EndSetting) → setting_of (settled_of s) k n ≡ o
+        → IsMemory (option_map_or (λ x. x.bytes / 4096) o 0) (option_map_or (λ x. x.paddr) o 0)
     by_setting n None e = no_memory
     by_setting n (Some x) e =
         let f = setting_from s k n x e in
         of_setting x (subst IsMeasured f.1 (measured f.0))
 
-    by_place : (o : Option ℕ) → IsMemory (option_map_or (λ x. x.bytes / 4096) (option_and_then (setting_of (settled_of s) k) o) 0) (option_map_or (λ x. x.paddr) (option_and_then (setting_of (settled_of s) k) o) 0)
+    by_place : (o : Option ℕ) → IsMemory (option_map_or (λ x. x.bytes / 4096) (option_and_then (setting_of (settled_of s) k) o) 0)
+        (option_map_or (λ x. x.paddr) (option_and_then (setting_of (settled_of s) k) o) 0)
     by_place None = no_memory
     by_place (Some n) = by_setting n (setting_of (settled_of s) k n) refl
 
 pub pages_fit : (s : Source) (k : ℕ) (c : FlatConnection) → memory_pages (settled_of s) k c ≤ 65536
 pages_fit s k c = (memory_is s k c).most
 
-pub addresses_fit : (s : Source) (k : ℕ) (c : FlatConnection) → memory_paddr (settled_of s) k c + 4096 * memory_pages (settled_of s) k c ≤ 2 ^ 48
+pub addresses_fit : (s : Source) (k : ℕ) (c : FlatConnection)
+    → memory_paddr (settled_of s) k c + 4096 * memory_pages (settled_of s) k c ≤ 2 ^ 48
 addresses_fit s k c = (memory_is s k c).fits
 
 pub addresses_whole : (s : Source) (k : ℕ) (c : FlatConnection) → memory_paddr (settled_of s) k c % 4096 ≡ 0
@@ -105,14 +109,17 @@ registers_of : (c : FlatConnection) → c.connector ≡ Mmio → (l : IsLed c) �
 registers_of c t l = ap (λ z. registers_in z c.ends) t ∙ ap (λ o. option_and_then (slice_get c.ends) o) l.first ∙ l.there
 
 -- and only such a connection has one
-pub from_registers : (c : FlatConnection) (e : FlatEnd) → registers c ≡ Some e → (c.connector ≡ Mmio) × (n : ℕ) × (to_place c.ends ≡ Some n) × (slice_get c.ends n ≡ Some e)
+pub from_registers : (c : FlatConnection) (e : FlatEnd) → registers c ≡ Some e → (c.connector ≡ Mmio) × (n : ℕ)
+    × (to_place c.ends ≡ Some n) × (slice_get c.ends n ≡ Some e)
 from_registers c e r = by_connector c.connector refl r
   where
-    by_place : (o : Option ℕ) → to_place c.ends ≡ o → option_and_then (slice_get c.ends) o ≡ Some e → (n : ℕ) × (to_place c.ends ≡ Some n) × (slice_get c.ends n ≡ Some e)
+    by_place : (o : Option ℕ) → to_place c.ends ≡ o → option_and_then (slice_get c.ends) o ≡ Some e
+        → (n : ℕ) × (to_place c.ends ≡ Some n) × (slice_get c.ends n ≡ Some e)
     by_place None is r = cc
     by_place (Some n) is r = (n, is, r)
 
-    by_connector : (z : Connector) → c.connector ≡ z → registers_in z c.ends ≡ Some e → (c.connector ≡ Mmio) × (n : ℕ) × (to_place c.ends ≡ Some n) × (slice_get c.ends n ≡ Some e)
+    by_connector : (z : Connector) → c.connector ≡ z → registers_in z c.ends ≡ Some e → (c.connector ≡ Mmio) × (n : ℕ)
+        × (to_place c.ends ≡ Some n) × (slice_get c.ends n ≡ Some e)
     by_connector Mmio is r = let p = by_place (to_place c.ends) refl r in (is, p.0, p.1, p.2)
     by_connector Rpc is r = cc
     by_connector Notification is r = cc
@@ -122,12 +129,14 @@ from_registers c e r = by_connector c.connector refl r
 
 -- ---- pages by the settings of an end
 
-pages_by : (settled : Settled) (k n : ℕ) (c : FlatConnection) (e : EndSetting) → memory_place c.connector c.ends ≡ Some n → setting_of settled k n ≡ Some e → memory_pages settled k c ≡ e.bytes / 4096
+pages_by : (settled : Settled) (k n : ℕ) (c : FlatConnection) (e : EndSetting) → memory_place c.connector c.ends ≡ Some n
+    → setting_of settled k n ≡ Some e → memory_pages settled k c ≡ e.bytes / 4096
 pages_by settled k n c e at is =
     ap (λ o. option_map_or (λ (x : EndSetting). x.bytes / 4096) (option_and_then (setting_of settled k) o) 0) at
     ∙ ap (λ o. option_map_or (λ (x : EndSetting). x.bytes / 4096) o 0) is
 
-place_of_mmio : (c : FlatConnection) (n : ℕ) → c.connector ≡ Mmio → to_place c.ends ≡ Some n → memory_place c.connector c.ends ≡ Some n
+place_of_mmio : (c : FlatConnection) (n : ℕ) → c.connector ≡ Mmio → to_place c.ends ≡ Some n
+    → memory_place c.connector c.ends ≡ Some n
 place_of_mmio c n t e = ap (λ z. memory_place z c.ends) t ∙ e
 
 first_of : (es : List FlatEnd) (n : ℕ) (e : FlatEnd) → slice_get es n ≡ Some e → (f : FlatEnd) × (slice_get es 0 ≡ Some f)
@@ -138,43 +147,59 @@ first_of (f ∷ es) n e at = (f, refl)
 device_bytes : Hierarchy → Connector → Option Given → Leaf → Interface → ℕ
 device_bytes h c shared leaf i =
     let on = same_kind i.kind interfaces.Dataport && leaf.hardware in
-    cond (is_shared c || on) (unwrap_or (meant size_in (default_bytes i) (cond (is_shared c) shared (where_set on (value_at h leaf.path (i.id.name ++ codes "_size"))))) 0) 0
+    cond (is_shared c || on)
+    (unwrap_or
+    (meant size_in (default_bytes i)
+    (cond (is_shared c) shared (where_set on (value_at h leaf.path (i.id.name ++ codes "_size"))))) 0) 0
 
 pub interface_same : (i j : Interface) → Some (members.Interface i) ≡ Some (members.Interface j) → i ≡ j
 interface_same i j e = cc
 
-module _ (s : Source) (sound : AreNamesSound s) (dotted : AreDotted (hierarchy_of s)) (types : first_type_fault s ≡ None) (typed : AreTyped s (flat_of s)) (settings : AreSettingsSound s) where
+module _ (s : Source) (sound : AreNamesSound s) (dotted : AreDotted (hierarchy_of s)) (types : first_type_fault s ≡ None)
+    (typed : AreTyped s (flat_of s)) (settings : AreSettingsSound s) where
   -- the pages of shared memory, and of registers
-  shared_some : (k n : ℕ) (c : FlatConnection) (e : FlatEnd) → slice_get (flat_of s).connections k ≡ Some c → slice_get c.ends n ≡ Some e → c.connector ≡ SharedMemory → 0 < memory_pages (settled_of s) k c
+  shared_some : (k n : ℕ) (c : FlatConnection) (e : FlatEnd) → slice_get (flat_of s).connections k ≡ Some c
+      → slice_get c.ends n ≡ Some e → c.connector ≡ SharedMemory → 0 < memory_pages (settled_of s) k c
   shared_some k n c e at there is =
       let first = first_of c.ends n e there in
       let f = end_found s typed settings k 0 c first.0 at first.1 in
       let on : (is_shared f.found.joint.connection.connector || is_device_memory f.found.joint) ≡ true =
-      ap (λ (z : FlatConnection). is_shared z.connector || is_device_memory f.found.joint) f.connection ∙ ap (λ z. is_shared z || is_device_memory f.found.joint) is in
+      ap (λ (z : FlatConnection). is_shared z.connector || is_device_memory f.found.joint) f.connection
+      ∙ ap (λ z. is_shared z || is_device_memory f.found.joint) is in
       let size = size_of_end f.found f.good on in
       let pages = pages_by (settled_of s) k 0 c (end_setting f.found) (ap (λ z. memory_place z c.ends) is) f.setting in
       let some = size.some in
       omega (arith, pages, some)
 
-  device_memory : (k n : ℕ) (c : FlatConnection) (e : FlatEnd) (f : IsEndFound s k n c e) → c.connector ≡ Mmio → e.role ≡ To → is_device_memory f.found.joint ≡ true
+  device_memory : (k n : ℕ) (c : FlatConnection) (e : FlatEnd) (f : IsEndFound s k n c e) → c.connector ≡ Mmio → e.role ≡ To
+      → is_device_memory f.found.joint ≡ true
   device_memory k n c e f is to =
-      subst (λ r. is_kind_of (end_rule Mmio r) (record { interface = f.found.joint.interface; hardware = f.found.joint.leaf.hardware }) ≡ true) to
-      (subst (λ x. is_kind_of (end_rule x e.role) (record { interface = f.found.joint.interface; hardware = f.found.joint.leaf.hardware }) ≡ true) is f.kind)
+      subst (λ r. is_kind_of (end_rule Mmio r) (record {
+        interface = f.found.joint.interface;
+        hardware = f.found.joint.leaf.hardware;
+      }) ≡ true) to
+      (subst (λ x. is_kind_of (end_rule x e.role) (record {
+        interface = f.found.joint.interface;
+        hardware = f.found.joint.leaf.hardware;
+      }) ≡ true) is f.kind)
 
   led : (k : ℕ) (c : FlatConnection) → slice_get (flat_of s).connections k ≡ Some c → c.connector ≡ Mmio → IsLed c
   led k c at is = let t = some_end s sound dotted types k c at To in led_by c t.0 t.1 t.2 t.3
 
-  registers_some : (k : ℕ) (c : FlatConnection) → slice_get (flat_of s).connections k ≡ Some c → c.connector ≡ Mmio → 0 < memory_pages (settled_of s) k c
+  registers_some : (k : ℕ) (c : FlatConnection) → slice_get (flat_of s).connections k ≡ Some c → c.connector ≡ Mmio
+      → 0 < memory_pages (settled_of s) k c
   registers_some k c at is =
       let l = led k c at is in
       let f = end_found s typed settings k l.place c l.end at l.there in
       let device = device_memory k l.place c l.end f is l.role in
-      let size = size_of_end f.found f.good (or_right (is_shared f.found.joint.connection.connector) (is_device_memory f.found.joint) device) in
+      let size = size_of_end f.found f.good (or_right (is_shared f.found.joint.connection.connector)
+      (is_device_memory f.found.joint) device) in
       let pages = pages_by (settled_of s) k l.place c (end_setting f.found) (place_of_mmio c l.place is l.first) f.setting in
       let some = size.some in
       omega (arith, pages, some)
 
-  pub memory_some : (k n : ℕ) (c : FlatConnection) (e : FlatEnd) → slice_get (flat_of s).connections k ≡ Some c → slice_get c.ends n ≡ Some e → is_window c.connector e.role ≡ true → 0 < memory_pages (settled_of s) k c
+  pub memory_some : (k n : ℕ) (c : FlatConnection) (e : FlatEnd) → slice_get (flat_of s).connections k ≡ Some c
+      → slice_get c.ends n ≡ Some e → is_window c.connector e.role ≡ true → 0 < memory_pages (settled_of s) k c
   memory_some k n c e at there w = by_connector c.connector refl w
     where
       by_connector : (z : Connector) → c.connector ≡ z → is_window z e.role ≡ true → 0 < memory_pages (settled_of s) k c
@@ -186,16 +211,19 @@ module _ (s : Source) (sound : AreNamesSound s) (dotted : AreDotted (hierarchy_o
       by_connector Direct is w = cc
 
   -- the bytes at the registers are those of the device
-  bytes_here : (k n : ℕ) (c : FlatConnection) (e : FlatEnd) (f : IsEndFound s k n c e) → c.connector ≡ Mmio → (end_setting f.found).bytes ≡ device_bytes (hierarchy_of s) Mmio None f.found.joint.leaf f.found.joint.interface
+  bytes_here : (k n : ℕ) (c : FlatConnection) (e : FlatEnd) (f : IsEndFound s k n c e) → c.connector ≡ Mmio
+      → (end_setting f.found).bytes ≡ device_bytes (hierarchy_of s) Mmio None f.found.joint.leaf f.found.joint.interface
   unfolding device_bytes
   bytes_here k n c e f is =
       let h = hierarchy_of s in
       let j = f.found.joint in
       ap (λ z. (end_setting z).bytes) f.values
-      ∙ ap (λ (z : FlatConnection). device_bytes h z.connector (value_at h j.connection.path (codes "size")) j.leaf j.interface) f.connection
+      ∙ ap (λ (z : FlatConnection). device_bytes h z.connector (value_at h j.connection.path (codes "size")) j.leaf
+      j.interface) f.connection
       ∙ ap (λ z. device_bytes h z (value_at h j.connection.path (codes "size")) j.leaf j.interface) is
 
-  same_pages : (k n : ℕ) (c d : FlatConnection) (e f : FlatEnd) → slice_get (flat_of s).connections k ≡ Some c → slice_get (flat_of s).connections n ≡ Some d → registers c ≡ Some e → registers d ≡ Some f → same_port e f ≡ true
+  same_pages : (k n : ℕ) (c d : FlatConnection) (e f : FlatEnd) → slice_get (flat_of s).connections k ≡ Some c
+      → slice_get (flat_of s).connections n ≡ Some d → registers c ≡ Some e → registers d ≡ Some f → same_port e f ≡ true
       → memory_pages (settled_of s) k c ≡ memory_pages (settled_of s) n d
   same_pages k n c d e f at there has also same =
       let h = hierarchy_of s in
@@ -206,9 +234,11 @@ module _ (s : Source) (sound : AreNamesSound s) (dotted : AreDotted (hierarchy_o
       let port = and_parts (f.leaf == e.leaf) (f.member == e.member) same in
       let leaf_is : f.leaf ≡ e.leaf = eqb-true f.leaf e.leaf port.0 in
       let member_is : f.member ≡ e.member = eqb-true f.member e.member port.1 in
-      let leaf : x.found.joint.leaf ≡ y.found.joint.leaf = same_Some _ _ (sym x.leaf ∙ ap (slice_get (flat_of s).leaves) (sym leaf_is) ∙ y.leaf) in
+      let leaf : x.found.joint.leaf ≡ y.found.joint.leaf =
+      same_Some _ _ (sym x.leaf ∙ ap (slice_get (flat_of s).leaves) (sym leaf_is) ∙ y.leaf) in
       let interface : x.found.joint.interface ≡ y.found.joint.interface =
-      interface_same _ _ (sym x.interface ∙ ap (λ (z : Leaf). slice_get (members_at s z.component) e.member) leaf ∙ ap (slice_get (members_at s y.found.joint.leaf.component)) (sym member_is) ∙ y.interface) in
+      interface_same _ _ (sym x.interface ∙ ap (λ (z : Leaf). slice_get (members_at s z.component) e.member) leaf
+      ∙ ap (slice_get (members_at s y.found.joint.leaf.component)) (sym member_is) ∙ y.interface) in
       let bytes : (end_setting x.found).bytes ≡ (end_setting y.found).bytes =
       bytes_here k a.1 c e x a.0
       ∙ ap (λ z. device_bytes h Mmio None z x.found.joint.interface) leaf

@@ -11,7 +11,11 @@ abbrev by_second : ℕ → Series
 by_second b = cond (b == 103) Pgd (cond (b == 117) Pud (cond (b == 100) Pd Pt))
 
 abbrev by_letters : ℕ → ℕ → Series
-by_letters a b = cond (a == 99) CNode (cond (a == 116) Tcb (cond (a == 101) Ep (cond (a == 110) Ntfn (cond (a == 108) Lock (cond (a == 105) Irq (cond (a == 102) Frame (by_second b)))))))
+by_letters a b =
+    cond (a == 99) CNode
+    (cond (a == 116) Tcb
+    (cond (a == 101) Ep
+    (cond (a == 110) Ntfn (cond (a == 108) Lock (cond (a == 105) Irq (cond (a == 102) Frame (by_second b)))))))
 
 abbrev series_of : List ℕ → Series
 series_of [] = Irq

@@ -33,14 +33,21 @@ use Rattle.spec_laws.specs.Slotted.{IsLockNumber, domain_locks, interrupt, leaf_
 -- ---- sums
 
 -- what gives as much at each element has as much before each
-pub before_same : {X Y Z : Type 0} (f : ℕ → X → List Y) (g : ℕ → X → List Z) (xs : List X) (k : ℕ) → ((j : ℕ) (x : X) → slice_get xs j ≡ Some x → length (f j x) ≡ length (g j x)) → before f xs k ≡ before g xs k
+pub before_same : {X Y Z : Type 0} (f : ℕ → X → List Y) (g : ℕ → X → List Z) (xs : List X) (k : ℕ)
+    → ((j : ℕ) (x : X) → slice_get xs j ≡ Some x → length (f j x) ≡ length (g j x)) → before f xs k ≡ before g xs k
 before_same f g [] zero h = refl
 before_same f g [] (suc k) h = refl
 before_same f g (x ∷ xs) zero h = refl
 before_same {X} {Y} {Z} f g (x ∷ xs) (suc k) h =
     let f' : ℕ → X → List Y = λ j y. f (suc j) y in
     let g' : ℕ → X → List Z = λ j y. g (suc j) y in
-    omega (arith, h 0 x refl, before_same f' g' xs k (λ j y e. h (suc j) y e), length_append (f 0 x) (gather f' (take k xs)), length_append (g 0 x) (gather g' (take k xs)))
+    omega (
+      arith,
+      h 0 x refl,
+      before_same f' g' xs k (λ j y e. h (suc j) y e),
+      length_append (f 0 x) (gather f' (take k xs)),
+      length_append (g 0 x) (gather g' (take k xs)),
+    )
 
 as_gathered : {X Y : Type 0} (f : X → List Y) (xs : List X) → flat_map f xs ≡ gather (λ k x. f x) xs
 as_gathered f [] = refl
@@ -77,7 +84,8 @@ member_none cs leaf m =
     let f : ℕ → FlatConnection → List SlotUse = λ k c. gather (λ n e. joined_uses leaf m k c.connector n e) c.ends in
     let none : (k : ℕ) (c : FlatConnection) → flat_map lock_of (f k c) ≡ [] =
     λ k c. flat_map-gather lock_of (λ n e. joined_uses leaf m k c.connector n e) c.ends
-    ∙ none_gathered (λ n (e : FlatEnd). flat_map lock_of (joined_uses leaf m k c.connector n e)) c.ends (λ n e. none_if (joins leaf m e) (end_uses c.connector e.role k n) (end_none c.connector e.role k n)) in
+    ∙ none_gathered (λ n (e : FlatEnd). flat_map lock_of (joined_uses leaf m k c.connector n e)) c.ends
+    (λ n e. none_if (joins leaf m e) (end_uses c.connector e.role k n) (end_none c.connector e.role k n)) in
     flat_map-gather lock_of f cs ∙ none_gathered (λ k c. flat_map lock_of (f k c)) cs none
 
 lock_if : (b : Bool) (leaf m : ℕ) → flat_map lock_of (cond b (OwnLock leaf m ∷ []) []) ≡ cond b ((leaf, m) ∷ []) []
@@ -85,21 +93,24 @@ lock_if true leaf m = refl
 lock_if false leaf m = refl
 
 -- the locks among the uses of a leaf, and of a domain
-leaf_has : (t : Tables) (leaf : ℕ) → flat_map lock_of (leaf_uses t.flat.connections leaf (leaf_members t.source t.flat leaf)) ≡ leaf_locks t leaf
+leaf_has : (t : Tables) (leaf : ℕ) → flat_map lock_of (leaf_uses t.flat.connections leaf (leaf_members t.source t.flat leaf))
+    ≡ leaf_locks t leaf
 leaf_has t leaf =
     let members = leaf_members t.source t.flat leaf in
     let p : ℕ → Member → List SlotUse = λ m x. member_uses t.flat.connections leaf m in
     let q : ℕ → Member → List SlotUse = λ m x. lock_uses leaf m x in
     let l : ℕ → Member → List (ℕ × ℕ) = λ m x. cond (is_lock x) ((leaf, m) ∷ []) [] in
     flat_map-append lock_of (gather p members) (gather q members)
-    ∙ ap (λ z. z ++ flat_map lock_of (gather q members)) (flat_map-gather lock_of p members ∙ none_gathered (λ m x. flat_map lock_of (p m x)) members (λ m x. member_none t.flat.connections leaf m))
+    ∙ ap (λ z. z ++ flat_map lock_of (gather q members)) (flat_map-gather lock_of p members
+    ∙ none_gathered (λ m x. flat_map lock_of (p m x)) members (λ m x. member_none t.flat.connections leaf m))
     ∙ flat_map-gather lock_of q members
     ∙ gather_same (λ m x. flat_map lock_of (q m x)) l members (λ m x e. lock_if (is_lock x) leaf m)
 
 domain_has : (t : Tables) (x : Domain) → flat_map lock_of (domain_uses t.source t.flat x.leaves) ≡ domain_locks t x
 domain_has t x =
     let f : ℕ → ℕ → List SlotUse = λ i leaf. leaf_uses t.flat.connections leaf (leaf_members t.source t.flat leaf) in
-    flat_map-gather lock_of f x.leaves ∙ gather_same (λ i leaf. flat_map lock_of (f i leaf)) (λ i leaf. leaf_locks t leaf) x.leaves (λ i leaf e. leaf_has t leaf)
+    flat_map-gather lock_of f x.leaves ∙ gather_same (λ i leaf. flat_map lock_of (f i leaf)) (λ i leaf. leaf_locks t leaf)
+    x.leaves (λ i leaf e. leaf_has t leaf)
 
 as_many : (d n : ℕ) (u : SlotUse) → length (lock d n u) ≡ length (lock_of u)
 as_many d n (OfEnd k m) = refl
@@ -112,8 +123,10 @@ pub record LockPart (t : Tables) (d n leaf m : ℕ) : Type 0 where
   pub numbered : IsLockNumber t leaf m number
   pub there : IsIn (part series.Lock number (OfDomain d) (LockOf d n)) (parts t)
 
-pub lock_part : (t : Tables) → ((d : ℕ) (x : Domain) → slice_get t.flat.domains d ≡ Some x → uses_at t d ≡ domain_uses t.source t.flat x.leaves)
-    → (d n leaf m : ℕ) (x : Domain) → slice_get t.flat.domains d ≡ Some x → slice_get (uses_at t d) n ≡ Some (OwnLock leaf m) → LockPart t d n leaf m
+pub lock_part : (t : Tables) → ((d : ℕ) (x : Domain) → slice_get t.flat.domains d ≡ Some x
+    → uses_at t d ≡ domain_uses t.source t.flat x.leaves)
+    → (d n leaf m : ℕ) (x : Domain) → slice_get t.flat.domains d ≡ Some x → slice_get (uses_at t d) n ≡ Some (OwnLock leaf m)
+    → LockPart t d n leaf m
 lock_part t uses_are d n leaf m x h e =
     let y = owned (OfDomain d) (LockOf d n) in
     let us = uses_at t d in
@@ -123,14 +136,25 @@ lock_part t uses_are d n leaf m x h e =
     let at : slice_get (locks t) N ≡ Some y = gathered (parted_locks t) t.flat.domains d x i y N h inner refl in
     let f : ℕ → Owned → List Part = λ n z. part series.Lock n z.owner z.what ∷ [] in
     let p = part series.Lock N (OfDomain d) (LockOf d n) in
-    let listed : (e : ℕ) (z : Domain) → slice_get t.flat.domains e ≡ Some z → gather (λ k u. lock_of u) (uses_at t e) ≡ domain_locks t z =
+    let listed : (e : ℕ) (z : Domain) → slice_get t.flat.domains e ≡ Some z
+    → gather (λ k u. lock_of u) (uses_at t e) ≡ domain_locks t z =
     λ e z j. sym (as_gathered lock_of (uses_at t e)) ∙ ap (flat_map lock_of) (uses_are e z j) ∙ domain_has t z in
-    let sums = before_same (parted_locks t) (λ d z. domain_locks t z) t.flat.domains d (λ e z j. as_long (lock e) (λ k u. lock_of u) (uses_at t e) (as_many e) ∙ ap length (listed e z j)) in
+    let sums = before_same (parted_locks t) (λ d z. domain_locks t z) t.flat.domains d
+    (λ e z j. as_long (lock e) (λ k u. lock_of u) (uses_at t e) (as_many e) ∙ ap length (listed e z j)) in
     let own = before_same (lock d) (λ k u. lock_of u) us n (λ k u j. as_many d k u) in
-    let stands : slice_get (gather (λ k u. lock_of u) us) i ≡ Some (leaf, m) = gathered (λ k u. lock_of u) us n (OwnLock leaf m) 0 (leaf, m) i e refl (omega (arith, own)) in
+    let stands : slice_get (gather (λ k u. lock_of u) us) i ≡ Some (leaf, m) = gathered (λ k u. lock_of u) us n (OwnLock leaf m) 0
+    (leaf, m) i e refl (omega (arith, own)) in
     record {
       number = N;
-      numbered = record { domain = d; leaves = x; here = h; place = i; stands = ap (λ z. slice_get z i) (sym (listed d x h)) ∙ stands; is = omega (arith, sums) };
+      numbered = record {
+        domain = d;
+        leaves = x;
+        here = h;
+        place = i;
+        stands = ap (λ z. slice_get z i) (sym (listed d x h))
+            ∙ stands;
+        is = omega (arith, sums);
+      };
       there = in_together (sections t) 4 (numbered series.Lock (locks t)) p refl (in_gather f p (locks t) N y at (inl refl));
     }
 
@@ -144,13 +168,16 @@ as_interrupt k o SharedMemory = refl
 as_interrupt k o Mmio = refl
 as_interrupt k o Direct = refl
 
-pub irq_part : (t : Tables) (k : ℕ) (c : FlatConnection) → slice_get t.flat.connections k ≡ Some c → c.connector ≡ Interrupt → IsIn (part series.Irq (before interrupt t.flat.connections k) (irq_owner k c) (IrqOf k)) (parts t)
+pub irq_part : (t : Tables) (k : ℕ) (c : FlatConnection) → slice_get t.flat.connections k ≡ Some c → c.connector ≡ Interrupt
+    → IsIn (part series.Irq (before interrupt t.flat.connections k) (irq_owner k c) (IrqOf k)) (parts t)
 irq_part t k c h e =
     let y = owned (irq_owner k c) (IrqOf k) in
     let cs = t.flat.connections in
     let P : Connector → Type 0 = λ m. slice_get (irq_by k (irq_owner k c) m) 0 ≡ Some y in
     let sums = before_same irq interrupt cs k (λ j x i. as_interrupt j (irq_owner j x) x.connector) in
-    let at : slice_get (irqs t) (before interrupt cs k) ≡ Some y = gathered irq cs k c 0 y (before interrupt cs k) h (subst P (sym e) refl) (omega (arith, sums)) in
+    let at : slice_get (irqs t) (before interrupt cs k) ≡ Some y = gathered irq cs k c 0 y (before interrupt cs k) h
+    (subst P (sym e) refl) (omega (arith, sums)) in
     let f : ℕ → Owned → List Part = λ n z. part series.Irq n z.owner z.what ∷ [] in
     let p = part series.Irq (before interrupt cs k) (irq_owner k c) (IrqOf k) in
-    in_together (sections t) 5 (numbered series.Irq (irqs t)) p refl (in_gather f p (irqs t) (before interrupt cs k) y at (inl refl))
+    in_together (sections t) 5 (numbered series.Irq (irqs t)) p refl (in_gather f p (irqs t) (before interrupt cs k) y
+    at (inl refl))

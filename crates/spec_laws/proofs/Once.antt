@@ -31,11 +31,13 @@ once_one y zero zero x e f = refl
 once_one y zero (suc j) x e f = cc
 once_one y (suc i) j x e f = cc
 
-pub once_gather : {X Y : Type 0} (f : ℕ → X → List Y) (xs : List X) → ((k : ℕ) (x : X) → slice_get xs k ≡ Some x → Once (f k x)) → ((k l : ℕ) (x z : X) (y : Y) → IsIn y (f k x) → IsIn y (f l z) → k ≡ l) → Once (gather f xs)
+pub once_gather : {X Y : Type 0} (f : ℕ → X → List Y) (xs : List X) → ((k : ℕ) (x : X) → slice_get xs k ≡ Some x → Once (f k x))
+    → ((k l : ℕ) (x z : X) (y : Y) → IsIn y (f k x) → IsIn y (f l z) → k ≡ l) → Once (gather f xs)
 once_gather f [] a b = once_none
 once_gather {X} {Y} f (x ∷ xs) a b =
     let g : ℕ → X → List Y = λ k z. f (suc k) z in
-    let next : (k l : ℕ) (p q : X) (y : Y) → IsIn y (g k p) → IsIn y (g l q) → k ≡ l = λ k l p q y i j. let s = b (suc k) (suc l) p q y i j in omega (arith, s) in
+    let next : (k l : ℕ) (p q : X) (y : Y) → IsIn y (g k p) → IsIn y (g l q) → k ≡ l = λ k l p q y i j. let s =
+    b (suc k) (suc l) p q y i j in omega (arith, s) in
     once_append (f 0 x) (gather g xs) (a 0 x refl) (once_gather g xs (λ k z e. a (suc k) z e) next)
     (λ y i j. let k = from_gather g y xs j in let s = b 0 (suc k.0) x k.1 y i k.3 in absurd (omega (arith, s)))
 
@@ -46,7 +48,8 @@ not_behind x xs o i = let n = place_of x xs i in let s = o 0 (suc n.0) x refl n.
 once_rest : {X : Type 0} (x : X) (xs : List X) → Once (x ∷ xs) → Once xs
 once_rest x xs o i j z e f = let s = o (suc i) (suc j) z e f in omega (arith, s)
 
-pub once_flat : {X Y : Type 0} (f : X → List Y) (xs : List X) → Once xs → ((x : X) → IsIn x xs → Once (f x)) → ((x z : X) (y : Y) → IsIn y (f x) → IsIn y (f z) → x ≡ z) → Once (flat_map f xs)
+pub once_flat : {X Y : Type 0} (f : X → List Y) (xs : List X) → Once xs → ((x : X) → IsIn x xs → Once (f x))
+    → ((x z : X) (y : Y) → IsIn y (f x) → IsIn y (f z) → x ≡ z) → Once (flat_map f xs)
 once_flat f [] o a b = once_none
 once_flat {X} f (x ∷ xs) o a b =
     let P : X → Type 0 = λ z. IsIn z xs in

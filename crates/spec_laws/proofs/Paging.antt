@@ -72,11 +72,13 @@ with c e = (c, e)
 window_end : (t : Tables) (e : EndAt) → sees_memory t.flat e ≡ true → WindowEnd t e
 window_end t e h = by_connection (slice_get t.flat.connections e.connection) refl h
   where
-    by_end : (c : FlatConnection) → slice_get t.flat.connections e.connection ≡ Some c → (o : Option FlatEnd) → slice_get c.ends e.end ≡ o → option_map_or kind_sees (option_map (with c.connector) o) false ≡ true → WindowEnd t e
+    by_end : (c : FlatConnection) → slice_get t.flat.connections e.connection ≡ Some c → (o : Option FlatEnd)
+        → slice_get c.ends e.end ≡ o → option_map_or kind_sees (option_map (with c.connector) o) false ≡ true → WindowEnd t e
     by_end c g None f k = cc
     by_end c g (Some x) f k = record { connection = c; here = g; end = x; stands = f; sees = k }
 
-    by_connection : (o : Option FlatConnection) → slice_get t.flat.connections e.connection ≡ o → option_map_or kind_sees (option_and_then (end_in e.end) o) false ≡ true → WindowEnd t e
+    by_connection : (o : Option FlatConnection) → slice_get t.flat.connections e.connection ≡ o
+        → option_map_or kind_sees (option_and_then (end_in e.end) o) false ≡ true → WindowEnd t e
     by_connection None g k = cc
     by_connection (Some c) g k = by_end c g (slice_get c.ends e.end) refl k
 
@@ -89,7 +91,8 @@ window_is t d e i =
     window_end t e (subst P s.1 s.0)
 
 -- the region of a window
-pub window_of : (t : Tables) (d : ℕ) (r : Region) (e : EndAt) → IsIn r (regions (system t) d) → r.content ≡ Window e → IsIn e (windows_of (system t) d) × (window_region t.flat t.settled e ≡ r)
+pub window_of : (t : Tables) (d : ℕ) (r : Region) (e : EndAt) → IsIn r (regions (system t) d) → r.content ≡ Window e
+    → IsIn e (windows_of (system t) d) × (window_region t.flat t.settled e ≡ r)
 window_of t d r e i c = elim (in_append r _ (map (window_region t.flat t.settled) (windows_of (system t) d)) i) [
   | inl j ↦
       let a = from_flat_map (thread_regions t.settled) r (threads_of (system t) d) j in
@@ -111,7 +114,8 @@ window_of t d r e i c = elim (in_append r _ (map (window_region t.flat t.settled
 module _ (t : Tables) (set : AreSettled t) where
   -- ---- pages of sections
 
-  pub section_is : (d : ℕ) (q : SectionPage) → IsIn q (section_pages t.images (leaves_of t.flat d)) → IsSectionPage t d q.vaddr q.write q.fill
+  pub section_is : (d : ℕ) (q : SectionPage) → IsIn q (section_pages t.images (leaves_of t.flat d))
+      → IsSectionPage t d q.vaddr q.write q.fill
   section_is d q i =
       let all = sections_of t.images (leaves_of t.flat d) in
       let x = from_flat_map (pages_of t.images) q (by_address all) i in
@@ -130,13 +134,18 @@ module _ (t : Tables) (set : AreSettled t) where
         within = below_count (page_count x.0.section) m.0 m.1;
         at = ap (λ (z : SectionPage). z.vaddr) (sym m.2);
         may_write = ap (λ (z : SectionPage). z.write) (sym m.2);
-        filled = ap (λ (z : SectionPage). z.fill) (sym m.2) ∙ ap (λ z. fill_of z x.0.section m.0) (sym (name_is t.images x.0.image c.image c.at));
+        filled = ap (λ (z : SectionPage). z.fill) (sym m.2) ∙ ap (λ z. fill_of z x.0.section m.0)
+            (sym (name_is t.images x.0.image c.image c.at));
       }
 
-  is_run_by : (d m leaf : ℕ) → IsIn leaf (leaves_of t.flat d) → image_number t.images leaf ≡ Some m → is_run t.images (leaves_of t.flat d) m ≡ true
-  is_run_by d m leaf i e = any_in (runs t.images m) (leaves_of t.flat d) leaf i (ap (λ o. option_map_or (λ k. nat_eq k m) o false) e ∙ eq-eqb m m refl)
+  is_run_by : (d m leaf : ℕ) → IsIn leaf (leaves_of t.flat d) → image_number t.images leaf ≡ Some m
+      → is_run t.images (leaves_of t.flat d) m ≡ true
+  is_run_by d m leaf i e = any_in (runs t.images m) (leaves_of t.flat d) leaf i (ap (λ o. option_map_or (λ k. nat_eq k m) o false)
+      e ∙ eq-eqb m m refl)
 
-  pub section_there : (d v : ℕ) (write : Bool) (fill : Option Fill) → IsSectionPage t d v write fill → (q : SectionPage) × IsIn q (section_pages t.images (leaves_of t.flat d)) × (q.vaddr ≡ v) × (q.write ≡ write) × (q.fill ≡ fill)
+  pub section_there : (d v : ℕ) (write : Bool) (fill : Option Fill) → IsSectionPage t d v write fill
+      → (q : SectionPage) × IsIn q (section_pages t.images (leaves_of t.flat d)) × (q.vaddr ≡ v) × (q.write ≡ write)
+      × (q.fill ≡ fill)
   section_there d v write fill s =
       let leaves = leaves_of t.flat d in
       let all = sections_of t.images leaves in
@@ -145,17 +154,25 @@ module _ (t : Tables) (set : AreSettled t) where
       let x = placed m n.0 s.section in
       let f : ℕ → Section → List Placed = λ k z. placed m k z ∷ [] in
       let P : Bool → Type 0 = λ b. IsIn x (sections_if b m s.image) in
-      let mine = subst P (sym (is_run_by d m s.leaf s.inside s.runs.numbered)) (in_gather f x s.image.sections n.0 s.section n.1 (inl refl)) in
+      let mine = subst P (sym (is_run_by d m s.leaf s.inside s.runs.numbered)) (in_gather f x s.image.sections n.0 s.section n.1
+      (inl refl)) in
       let g : ℕ → Image → List Placed = λ k z. sections_if (is_run t.images leaves k) k z in
       let there = in_gather g x t.images.images m s.image s.runs.listed mine in
       let sorted = in_permutation (by_address all) all x (IsPermutation-sym all (by_address all) (order_moves all)) there in
       let q = page_at (name_of t.images m) s.section s.page in
-      let page = in_map (page_at (name_of t.images m) s.section) s.page (range_with_len 0 (page_count s.section)) (in_range (page_count s.section) s.page s.within) in
-      (q, in_flat_map (pages_of t.images) x q (by_address all) sorted page, sym s.at, sym s.may_write, ap (λ z. fill_of z s.section s.page) (sym (name_is t.images m s.image s.runs.listed)) ∙ sym s.filled)
+      let page = in_map (page_at (name_of t.images m) s.section) s.page (range_with_len 0 (page_count s.section))
+      (in_range (page_count s.section) s.page s.within) in (
+        q,
+        in_flat_map (pages_of t.images) x q (by_address all) sorted page,
+        sym s.at,
+        sym s.may_write,
+        ap (λ z. fill_of z s.section s.page) (sym (name_is t.images m s.image s.runs.listed)) ∙ sym s.filled,
+      )
 
   -- ---- pages of regions
 
-  pub region_in : (d n v j : ℕ) (r : Region) (c : Content) → IsRegionPage t d n v j r → r.content ≡ c → IsIn (region_page t.settled c (begins t d n + 4096 * j) j) (mapped_pages (system t) d)
+  pub region_in : (d n v j : ℕ) (r : Region) (c : Content) → IsRegionPage t d n v j r → r.content ≡ c
+      → IsIn (region_page t.settled c (begins t d n + 4096 * j) j) (mapped_pages (system t) d)
   region_in d n v j r c p e =
       let s = system t in
       let f : ℕ → MappedPage = page_of t.settled (begins t d n) r in
@@ -164,13 +181,15 @@ module _ (t : Tables) (set : AreSettled t) where
       let P : Content → Type 0 = λ z. IsIn (region_page t.settled z (begins t d n + 4096 * j) j) (mapped_pages s d) in
       subst P e (in_right (f j) (section_part t.images (leaves_of t.flat d)) (region_part t.settled (base s) (regions s d)) g)
 
-  pub window_set : (d : ℕ) (e : EndAt) → IsIn e (windows_of (system t) d) → (s : EndSetting) × (setting_of t.settled e.connection e.end ≡ Some s)
+  pub window_set : (d : ℕ) (e : EndAt) → IsIn e (windows_of (system t) d)
+      → (s : EndSetting) × (setting_of t.settled e.connection e.end ≡ Some s)
   window_set d e i = let w = window_is t d e i in set.end e.connection e.end w.connection w.end w.here w.stands
 
   abbrev Maps : ℕ → MappedPage → Type 0
   Maps d z = MapsPage t d z.at z.read z.write
 
-  by_content : (d n j : ℕ) (r : Region) (c : Content) → r.content ≡ c → IsRegionPage t d n (begins t d n + 4096 * j) j r → Maps d (region_page t.settled c (begins t d n + 4096 * j) j)
+  by_content : (d n j : ℕ) (r : Region) (c : Content) → r.content ≡ c → IsRegionPage t d n (begins t d n + 4096 * j) j r
+      → Maps d (region_page t.settled c (begins t d n + 4096 * j) j)
   by_content d n j r Stack e p = MapsPage.of_stack n j r e refl refl p
   by_content d n j r Buffer e p = MapsPage.of_buffer n j r e refl refl p
   by_content d n j r (Window w) e p =
@@ -187,7 +206,8 @@ module _ (t : Tables) (set : AreSettled t) where
         | inr j ↦
             let a = from_gather (pages_of_region t.settled (base s) (regions s d)) p (regions s d) j in
             let b = from_map (page_of t.settled (begins t d a.0) a.1) p (range_with_len 0 a.1.pages) a.3 in
-            subst (Maps d) b.2 (by_content d a.0 b.0 a.1 a.1.content refl (record { here = a.2; within = below_count a.1.pages b.0 b.1; at = refl }))
+            subst (Maps d) b.2 (by_content d a.0 b.0 a.1 a.1.content refl
+            (record { here = a.2; within = below_count a.1.pages b.0 b.1; at = refl }))
       ]
 
   pub record Mapped (d v : ℕ) (read write : Bool) : Type 0 where
@@ -202,11 +222,33 @@ module _ (t : Tables) (set : AreSettled t) where
       let q = section_there d v write fill s in
       record {
         page = section_page q.0;
-        there = in_left (section_page q.0) (section_part t.images (leaves_of t.flat d)) _ (in_map section_page q.0 (section_pages t.images (leaves_of t.flat d)) q.1);
+        there = in_left (section_page q.0) (section_part t.images (leaves_of t.flat d)) _
+            (in_map section_page q.0 (section_pages t.images (leaves_of t.flat d)) q.1);
         at = q.2;
         may_read = sym r;
         may_write = q.3;
       }
-  is_mapped d v read write (MapsPage.of_stack n j r c e f p) = record { page = region_page t.settled Stack (begins t d n + 4096 * j) j; there = region_in d n v j r Stack p c; at = sym p.at; may_read = sym e; may_write = sym f }
-  is_mapped d v read write (MapsPage.of_buffer n j r c e f p) = record { page = region_page t.settled Buffer (begins t d n + 4096 * j) j; there = region_in d n v j r Buffer p c; at = sym p.at; may_read = sym e; may_write = sym f }
-  is_mapped d v read write (MapsPage.of_window n j r w s c k e f p) = record { page = region_page t.settled (Window w) (begins t d n + 4096 * j) j; there = region_in d n v j r (Window w) p c; at = sym p.at; may_read = ap may_read k ∙ sym e; may_write = ap may_write k ∙ sym f }
+  is_mapped d v read write (MapsPage.of_stack n j r c e f p) =
+      record {
+        page = region_page t.settled Stack (begins t d n + 4096 * j) j;
+        there = region_in d n v j r Stack p c;
+        at = sym p.at;
+        may_read = sym e;
+        may_write = sym f;
+      }
+  is_mapped d v read write (MapsPage.of_buffer n j r c e f p) =
+      record {
+        page = region_page t.settled Buffer (begins t d n + 4096 * j) j;
+        there = region_in d n v j r Buffer p c;
+        at = sym p.at;
+        may_read = sym e;
+        may_write = sym f;
+      }
+  is_mapped d v read write (MapsPage.of_window n j r w s c k e f p) =
+      record {
+        page = region_page t.settled (Window w) (begins t d n + 4096 * j) j;
+        there = region_in d n v j r (Window w) p c;
+        at = sym p.at;
+        may_read = ap may_read k ∙ sym e;
+        may_write = ap may_write k ∙ sym f;
+      }

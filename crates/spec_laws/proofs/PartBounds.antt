@@ -93,23 +93,28 @@ few_locks d uses = length-gather (lock d) uses (λ n u. one n u)
     one n (Handler k m) = omega arith
     one n (OwnLock leaf m) = omega arith
 
-module _ (t : Tables) (slots_are : t.slots ≡ slots_of t.source t.flat) (spaces_are : t.spaces ≡ spaces_of (from t)) (small : IsSmall t.flat) (slots : AreFewSlots t.source t.flat)
+module _ (t : Tables) (slots_are : t.slots ≡ slots_of t.source t.flat) (spaces_are : t.spaces ≡ spaces_of (from t))
+    (small : IsSmall t.flat) (slots : AreFewSlots t.source t.flat)
     (can : CanLay (from t)) (pages : sum (page_counts (from t)) ≤ 65536) where
   -- ---- by domain
 
   threads_few : (d : ℕ) → length (threads_at t d) ≤ 262144
-  threads_few d = subst (λ z. length (option_map_or (λ s. s.threads) (slice_get z.spaces d) []) ≤ 262144) (sym spaces_are) (few_threads (from t) can pages d)
+  threads_few d = subst (λ z. length (option_map_or (λ s. s.threads) (slice_get z.spaces d) []) ≤ 262144) (sym spaces_are)
+      (few_threads (from t) can pages d)
 
   pages_few : (d : ℕ) → length (pages_at t d) ≤ 65536
-  pages_few d = subst (λ z. length (option_map_or (λ s. s.pages) (slice_get z.spaces d) []) ≤ 65536) (sym spaces_are) (few_pages (from t) can pages d)
+  pages_few d = subst (λ z. length (option_map_or (λ s. s.pages) (slice_get z.spaces d) []) ≤ 65536) (sym spaces_are)
+      (few_pages (from t) can pages d)
 
   frames_few : length t.spaces.frames ≤ 65536 + 2 * 268435456
   frames_few = subst (λ z. length z.frames ≤ 65536 + 2 * 268435456) (sym spaces_are) (frames_most (from t) can pages)
 
   pub uses_few : (d : ℕ) → length (uses_at t d) ≤ 4095
-  uses_few d = subst (λ z. length (option_map_or (λ (p : SlotPlan). p.uses) (slice_get z.domains d) []) ≤ 4095) (sym slots_are) (by_plan (slice_get (slots_of t.source t.flat).domains d) refl)
+  uses_few d = subst (λ z. length (option_map_or (λ (p : SlotPlan). p.uses) (slice_get z.domains d) []) ≤ 4095) (sym slots_are)
+      (by_plan (slice_get (slots_of t.source t.flat).domains d) refl)
     where
-      by_plan : (o : Option SlotPlan) → slice_get (slots_of t.source t.flat).domains d ≡ o → length (option_map_or (λ (p : SlotPlan). p.uses) o []) ≤ 4095
+      by_plan : (o : Option SlotPlan) → slice_get (slots_of t.source t.flat).domains d ≡ o
+          → length (option_map_or (λ (p : SlotPlan). p.uses) o []) ≤ 4095
       by_plan None e = omega arith
       by_plan (Some plan) e = few_uses t.source t.flat slots d plan e
 
@@ -157,9 +162,12 @@ module _ (t : Tables) (slots_are : t.slots ≡ slots_of t.source t.flat) (spaces
       let f = numbered series.Irq (irqs t) in
       let g = table_parts (all_tables t) in
       let h = numbered series.Frame (frame_parts t.spaces.frames) in
-      let whole : length (parts t) ≡ length a + (length b + (length c + (length d + (length e + (length f + (length g + (length h + 0))))))) = length-eight a b c d e f g h in
+      let whole : length (parts t) ≡ length
+      a + (length b + (length c + (length d + (length e + (length f + (length g + (length h + 0))))))) =
+      length-eight a b c d e f g h in
       let a1 = length-numbered series.CNode (cnodes t.flat.domains) in
-      let a2 : length (cnodes t.flat.domains) ≡ length t.flat.domains = gather_ones (λ n (x : Domain). owned (OfDomain n) (CNodeOf n)) t.flat.domains in
+      let a2 : length (cnodes t.flat.domains) ≡ length t.flat.domains =
+      gather_ones (λ n (x : Domain). owned (OfDomain n) (CNodeOf n)) t.flat.domains in
       let b1 = length-numbered series.Tcb (tcbs t) in
       let b2 = tcbs_few in
       let c1 : length c ≤ length t.flat.connections = few_endpoints t.flat.connections in
@@ -168,10 +176,12 @@ module _ (t : Tables) (slots_are : t.slots ≡ slots_of t.source t.flat) (spaces
       let e2 = locks_few in
       let f1 = length-numbered series.Irq (irqs t) in
       let f2 : length (irqs t) ≤ length t.flat.connections = few_irqs t.flat.connections in
-      let g1 : length g ≡ length (all_tables t) = gather_ones (λ m (x : PageTable). table_part (all_tables t) m x) (all_tables t) in
+      let g1 : length g ≡ length (all_tables t) = gather_ones (λ m (x : PageTable). table_part (all_tables t) m x)
+      (all_tables t) in
       let g2 = all_tables_few in
       let h1 = length-numbered series.Frame (frame_parts t.spaces.frames) in
-      let h2 : length (frame_parts t.spaces.frames) ≡ length t.spaces.frames = gather_ones (λ n (x : FrameInfo). owned (frame_owner x.owner) (FrameOf n)) t.spaces.frames in
+      let h2 : length (frame_parts t.spaces.frames) ≡ length t.spaces.frames =
+      gather_ones (λ n (x : FrameInfo). owned (frame_owner x.owner) (FrameOf n)) t.spaces.frames in
       let h3 = frames_few in
       let few_domains = small.domains in
       let few_connections = small.connections in
@@ -190,9 +200,12 @@ module _ (t : Tables) (slots_are : t.slots ≡ slots_of t.source t.flat) (spaces
   -- ---- what the making of a spec asks
 
   uses_there : (d : ℕ) → AreNamed (length t.flat.connections) (uses_at t d)
-  uses_there d = subst (λ z. AreNamed (length t.flat.connections) (option_map_or (λ (p : SlotPlan). p.uses) (slice_get z.domains d) [])) (sym slots_are) (by_plan (slice_get (slots_of t.source t.flat).domains d) refl)
+  uses_there d =
+      subst (λ z. AreNamed (length t.flat.connections) (option_map_or (λ (p : SlotPlan). p.uses) (slice_get z.domains d) []))
+      (sym slots_are) (by_plan (slice_get (slots_of t.source t.flat).domains d) refl)
     where
-      by_plan : (o : Option SlotPlan) → slice_get (slots_of t.source t.flat).domains d ≡ o → AreNamed (length t.flat.connections) (option_map_or (λ (p : SlotPlan). p.uses) o [])
+      by_plan : (o : Option SlotPlan) → slice_get (slots_of t.source t.flat).domains d ≡ o
+          → AreNamed (length t.flat.connections) (option_map_or (λ (p : SlotPlan). p.uses) o [])
       by_plan None e = λ n u at. cc
       by_plan (Some plan) e = uses_named t.source t.flat d plan e
 
@@ -202,6 +215,8 @@ module _ (t : Tables) (slots_are : t.slots ≡ slots_of t.source t.flat) (spaces
     named = uses_there;
     shown = λ d p i.
         subst (λ z. p.frame < length z.frames) (sym spaces_are)
-        (frames_there (from t) have d p (subst (λ z. IsIn p (option_map_or (λ s. s.pages) (slice_get z.spaces d) [])) spaces_are i));
-    rise = λ d. subst (λ z. Rises (map (λ (p : Page). p.vaddr) (option_map_or (λ s. s.pages) (slice_get z.spaces d) []))) (sym spaces_are) (pages_rising (from t) stand d);
+        (frames_there (from t) have d p (subst (λ z. IsIn p (option_map_or (λ s. s.pages) (slice_get z.spaces d) []))
+        spaces_are i));
+    rise = λ d. subst (λ z. Rises (map (λ (p : Page). p.vaddr) (option_map_or (λ s. s.pages) (slice_get z.spaces d) [])))
+        (sym spaces_are) (pages_rising (from t) stand d);
   }

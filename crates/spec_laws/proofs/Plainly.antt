@@ -60,7 +60,8 @@ from_put x y [] (inl e) = inl e
 from_put x y [] (inr i) = absurd i
 from_put x y (z ∷ zs) i = by_test (leb x.section.vaddr z.section.vaddr) (from_put x y zs) i
   where
-    by_test : (b : Bool) → (IsIn y (put_section x zs) → (x ≡ y) ⊎ IsIn y zs) → IsIn y (cond b (x ∷ z ∷ zs) (z ∷ put_section x zs)) → (x ≡ y) ⊎ IsIn y (z ∷ zs)
+    by_test : (b : Bool) → (IsIn y (put_section x zs) → (x ≡ y) ⊎ IsIn y zs) → IsIn y (cond b (x ∷ z ∷ zs) (z ∷ put_section x zs))
+        → (x ≡ y) ⊎ IsIn y (z ∷ zs)
     by_test true more (inl e) = inl e
     by_test true more (inr i) = inr i
     by_test false more (inl e) = inr (inl e)
@@ -83,7 +84,8 @@ ShownFine (Memory k j) = Unit {0}
 byte_there : (s : Section) (j : ℕ) → j < page_count s → 4096 * j < s.size
 byte_there s j l = let a = div-mul-le_self (s.size + 4095) 4096 in omega (arith, a, l)
 
-section_fine : (file : List ℕ) (s : Section) (j : ℕ) → is_name file ≡ true → IsTrue (is_sound s) → j < page_count s → FillFine (fill_of file s j)
+section_fine : (file : List ℕ) (s : Section) (j : ℕ) → is_name file ≡ true → IsTrue (is_sound s) → j < page_count s
+    → FillFine (fill_of file s j)
 section_fine file s j named sound l f e = by_at s.at (sound_at s sound) e
   where
     sound_at : (s : Section) → is_sound s ≡ true → is_placed s.at s.size ≡ true
@@ -100,21 +102,25 @@ section_fine file s j named sound l f e = by_at s.at (sound_at s sound) e
         subst IsFillWritten (same_Some (fill_from file s j at) f e) (record { file = named; at = omega (arith, within, there) })
 
 module _ (g : Given) (plain : IsPlain g) where
-  placed_fine : (leaves : List ℕ) (x : Placed) → IsIn x (sections_of g.images leaves) → (is_name (name_of g.images x.image) ≡ true) × IsTrue (is_sound x.section)
+  placed_fine : (leaves : List ℕ) (x : Placed) → IsIn x (sections_of g.images leaves)
+      → (is_name (name_of g.images x.image) ≡ true) × IsTrue (is_sound x.section)
   placed_fine leaves x i =
       let f : ℕ → Image → List Placed = λ m image. sections_if (is_run g.images leaves m) m image in
       let m = from_gather f x g.images.images i in
       by_test (is_run g.images leaves m.0) m.0 m.1 m.2 m.3
     where
-      by_test : (b : Bool) (m : ℕ) (image : Image) → slice_get g.images.images m ≡ Some image → IsIn x (sections_if b m image) → (is_name (name_of g.images x.image) ≡ true) × IsTrue (is_sound x.section)
+      by_test : (b : Bool) (m : ℕ) (image : Image) → slice_get g.images.images m ≡ Some image → IsIn x (sections_if b m image)
+          → (is_name (name_of g.images x.image) ≡ true) × IsTrue (is_sound x.section)
       by_test false m image h i = absurd i
       by_test true m image h i =
           let p = plain.images m image h in
           let f : ℕ → Section → List Placed = λ n section. placed m n section ∷ [] in
           let n = from_gather f x image.sections i in
-          let named : is_name (name_of g.images m) ≡ true = ap (λ o. is_name (option_map_or (λ (z : Image). z.name) o [])) h ∙ p.name in
+          let named : is_name (name_of g.images m) ≡ true = ap (λ o. is_name (option_map_or (λ (z : Image). z.name) o []))
+          h ∙ p.name in
           elim n.3 [
-            | inl e ↦ subst (λ (z : Placed). (is_name (name_of g.images z.image) ≡ true) × IsTrue (is_sound z.section)) {x = placed m n.0 n.1} e (named, p.sections n.1 (in_place n.1 image.sections n.0 n.2))
+            | inl e ↦ subst (λ (z : Placed). (is_name (name_of g.images z.image) ≡ true) × IsTrue (is_sound z.section))
+                {x = placed m n.0 n.1} e (named, p.sections n.1 (in_place n.1 image.sections n.0 n.2))
             | inr none ↦ absurd none
           ]
 
@@ -132,21 +138,24 @@ module _ (g : Given) (plain : IsPlain g) where
   content_fine settled (Window w) at j = tt
 
   page_fine : (d : ℕ) (p : MappedPage) → IsIn p (mapped_pages g d) → ShownFine p.shown
-  page_fine d p i = elim (in_append p (section_part g.images (leaves_of g.flat d)) (region_part g.settled (base g) (regions g d)) i) [
-    | inl j ↦
-        let q = from_map section_page p (section_pages g.images (leaves_of g.flat d)) j in
-        subst (λ (z : MappedPage). ShownFine z.shown) {x = section_page q.0} q.2 (section_pages_fine (leaves_of g.flat d) q.0 q.1)
-    | inr j ↦
-        let n = from_gather (pages_of_region g.settled (base g) (regions g d)) p (regions g d) j in
-        let start = region_start (base g) (regions g d) n.0 in
-        let k = from_map (page_of g.settled start n.1) p (range_with_len 0 n.1.pages) n.3 in
-        subst (λ (z : MappedPage). ShownFine z.shown) {x = page_of g.settled start n.1 k.0} k.2 (content_fine g.settled n.1.content (start + 4096 * k.0) k.0)
-  ]
+  page_fine d p i =
+      elim (in_append p (section_part g.images (leaves_of g.flat d)) (region_part g.settled (base g) (regions g d)) i) [
+        | inl j ↦
+            let q = from_map section_page p (section_pages g.images (leaves_of g.flat d)) j in
+            subst (λ (z : MappedPage). ShownFine z.shown) {x = section_page q.0} q.2 (section_pages_fine (leaves_of g.flat d) q.0 q.1)
+        | inr j ↦
+            let n = from_gather (pages_of_region g.settled (base g) (regions g d)) p (regions g d) j in
+            let start = region_start (base g) (regions g d) n.0 in
+            let k = from_map (page_of g.settled start n.1) p (range_with_len 0 n.1.pages) n.3 in
+            subst (λ (z : MappedPage). ShownFine z.shown) {x = page_of g.settled start n.1 k.0} k.2
+            (content_fine g.settled n.1.content (start + 4096 * k.0) k.0)
+      ]
 
   -- ---- frames
 
   own_written : (d : ℕ) (s : Shown) (f : FrameInfo) → ShownFine s → IsIn f (own_frame d s) → IsFrameWritten f
-  own_written d (Own fill) f h (inl e) = subst IsFrameWritten {x = frame (OfDomain d) None fill} e (record { paddr = λ at n. absurd cc; fill = h })
+  own_written d (Own fill) f h (inl e) = subst IsFrameWritten {x = frame (OfDomain d) None fill} e
+      (record { paddr = λ at n. absurd cc; fill = h })
   own_written d (Own fill) f h (inr i) = absurd i
   own_written d (Memory k j) f h i = absurd i
 
@@ -174,24 +183,32 @@ module _ (g : Given) (plain : IsPlain g) where
         let k = from_gather (register_frames g.flat g.settled) f g.flat.connections i in
         by_end k.0 k.1 k.2 (registers k.1) k.3
       where
-        by_test : (b : Bool) (k : ℕ) (c : FlatConnection) (e : FlatEnd) → slice_get g.flat.connections k ≡ Some c → IsIn f (cond b (device_frames e.leaf (memory_paddr g.settled k c) (memory_pages g.settled k c)) []) → IsFrameWritten f
+        by_test : (b : Bool) (k : ℕ) (c : FlatConnection) (e : FlatEnd) → slice_get g.flat.connections k ≡ Some c
+            → IsIn f (cond b (device_frames e.leaf (memory_paddr g.settled k c) (memory_pages g.settled k c)) [])
+            → IsFrameWritten f
         by_test false k c e h i = absurd i
         by_test true k c e h i =
-            let j = from_map (device_frame e.leaf (memory_paddr g.settled k c)) f (range_with_len 0 (memory_pages g.settled k c)) i in
+            let j = from_map (device_frame e.leaf (memory_paddr g.settled k c)) f
+            (range_with_len 0 (memory_pages g.settled k c)) i in
             let l = below_count (memory_pages g.settled k c) j.0 j.1 in
             let room = can.addresses k c h in
             let at : ℕ = memory_paddr g.settled k c + 4096 * j.0 in
             let few : at < 2 ^ 64 = omega (arith, l, room) in
-            subst IsFrameWritten {x = device_frame e.leaf (memory_paddr g.settled k c) j.0} j.2 (record { paddr = λ n s. subst (λ z. z < 2 ^ 64) (same_Some at n s) few; fill = λ z n. absurd cc })
+            subst IsFrameWritten {x = device_frame e.leaf (memory_paddr g.settled k c) j.0} j.2
+            (record { paddr = λ n s. subst (λ z. z < 2 ^ 64) (same_Some at n s) few; fill = λ z n. absurd cc })
 
-        by_end : (k : ℕ) (c : FlatConnection) → slice_get g.flat.connections k ≡ Some c → (o : Option FlatEnd) → IsIn f (option_map_or (frames_at g.flat g.settled k c) o []) → IsFrameWritten f
+        by_end : (k : ℕ) (c : FlatConnection) → slice_get g.flat.connections k ≡ Some c → (o : Option FlatEnd)
+            → IsIn f (option_map_or (frames_at g.flat g.settled k c) o []) → IsFrameWritten f
         by_end k c h None i = absurd i
         by_end k c h (Some e) i = by_test (is_first g.flat k e) k c e h i
 
     pub frame_written : (f : FrameInfo) → IsIn f (frames g) → IsFrameWritten f
     frame_written f i = elim (in_append f (own_part g) (memory_part g.flat g.settled) i) [
       | inl j ↦ own_part_written f j
-      | inr j ↦ elim (in_append f (shared_part g.flat g.settled) (register_part g.flat g.settled) j) [ inl k ↦ shared_written f k | inr k ↦ register_written f k ]
+      | inr j ↦ elim (in_append f (shared_part g.flat g.settled) (register_part g.flat g.settled) j) [
+        | inl k ↦ shared_written f k
+        | inr k ↦ register_written f k
+      ]
     ]
 
     -- ---- threads
@@ -211,7 +228,8 @@ module _ (g : Given) (plain : IsPlain g) where
           let l = slice_get_within (threads_of g d) i y e in
           let many = length_regions g.flat g.settled (threads_of g d) (windows_of g d) in
           let same = start_same (base g) (regions g d) (2 * i) (omega (arith, l, many)) in
-          let fits = stacks_fit g.flat g.settled (base g) (threads_of g d) (windows_of g d) (low_base (arch_of g.images.images)) few i y e in
+          let fits = stacks_fit g.flat g.settled (base g) (threads_of g d) (windows_of g d)
+          (low_base (arch_of g.images.images)) few i y e in
           omega (arith, same, fits)
 
       buffer_few : (i : ℕ) (y : ThreadOf) → slice_get (threads_of g d) i ≡ Some y → (thread_place g d i y).buffer < 2 ^ 64
@@ -234,12 +252,14 @@ module _ (source : Source) (flat : Flat) (settled : Settled) (images : Images) w
     thread_written : (d : ℕ) (y : ThreadPlace) → IsIn y (threads_at t d) → IsThreadWritten t y
     thread_written d y i = by_space (slice_get t.spaces.spaces d) refl i
       where
-        of_thread : (x : Domain) → slice_get flat.domains d ≡ Some x → IsIn y (gather (λ n z. thread_place g d n z ∷ []) (threads_of g d)) → IsThreadWritten t y
+        of_thread : (x : Domain) → slice_get flat.domains d ≡ Some x
+            → IsIn y (gather (λ n z. thread_place g d n z ∷ []) (threads_of g d)) → IsThreadWritten t y
         of_thread x here i =
             let f : ℕ → ThreadOf → List ThreadPlace = λ n z. thread_place g d n z ∷ [] in
             let n = from_gather f y (threads_of g d) i in
             let p = plain.programs d n.1 (in_place n.1 (threads_of g d) n.0 n.2) in
-            let named : is_name (leaf_name t n.1.leaf) ≡ true = ap (λ o. is_name (option_map_or (λ (z : Leaf). component_name source z.component) o [])) p.here ∙ p.named in
+            let named : is_name (leaf_name t n.1.leaf) ≡ true =
+            ap (λ o. is_name (option_map_or (λ (z : Leaf). component_name source z.component) o [])) p.here ∙ p.named in
             let made : IsThreadWritten t (thread_place g d n.0 n.1) = record {
               buffer = buffer_few g plain can pages d x here n.0 n.1 n.2;
               stack = stack_few g plain can pages d x here n.0 n.1 n.2;
@@ -248,7 +268,8 @@ module _ (source : Source) (flat : Flat) (settled : Settled) (images : Images) w
             } in
             elim n.3 [ inl e ↦ subst (IsThreadWritten t) e made | inr none ↦ absurd none ]
 
-        by_space : (o : Option Space) → slice_get t.spaces.spaces d ≡ o → IsIn y (option_map_or (λ (s : Space). s.threads) o []) → IsThreadWritten t y
+        by_space : (o : Option Space) → slice_get t.spaces.spaces d ≡ o → IsIn y (option_map_or (λ (s : Space). s.threads) o [])
+            → IsThreadWritten t y
         by_space None e i = absurd i
         by_space (Some s) e i =
             let o = from_ones (space g) flat.domains d s e in

@@ -54,19 +54,27 @@ component_spelled (items.Assembly a) n w e = cc
 type_named : (s : Source) → AreFilesShort s → (at : ItemAt) (n : Name) → component_name s at ≡ Some n → is_name n ≡ true
 type_named s short at n e = by_file (slice_get s.files at.file) refl e
   where
-    by_item : (f : SourceFile) → IsIn f s.files → (o : Option Ended) → slice_get f.tree.items at.item ≡ o → option_and_then (λ (z : Ended). component_of z.item) o ≡ Some n → is_name n ≡ true
+    by_item : (f : SourceFile) → IsIn f s.files → (o : Option Ended) → slice_get f.tree.items at.item ≡ o
+        → option_and_then (λ (z : Ended). component_of z.item) o ≡ Some n → is_name n ≡ true
     by_item f i None is e = cc
-    by_item f i (Some x) is e = let w = short f i in component_spelled x.item n (file_item f.tree (w.0, w.1) x (in_get f.tree.items at.item x is)) e
+    by_item f i (Some x) is e = let w = short f i in
+        component_spelled x.item n (file_item f.tree (w.0, w.1) x (in_get f.tree.items at.item x is)) e
 
-    by_file : (o : Option SourceFile) → slice_get s.files at.file ≡ o → option_and_then (λ (f : SourceFile). option_and_then (λ (z : Ended). component_of z.item) (slice_get f.tree.items at.item)) o ≡ Some n → is_name n ≡ true
+    by_file : (o : Option SourceFile) → slice_get s.files at.file ≡ o
+        → option_and_then (λ (f : SourceFile). option_and_then (λ (z : Ended). component_of z.item)
+        (slice_get f.tree.items at.item)) o ≡ Some n → is_name n ≡ true
     by_file None is e = cc
     by_file (Some f) is e = by_item f (in_get s.files at.file f is) (slice_get f.tree.items at.item) refl e
 
-from_firsts : {X : Type 0} (same : X → X → Bool) (met : X → Bool) (xs : List X) (x : X) → IsIn x (firsts_after same met xs) → IsIn x xs
+from_firsts : {X : Type 0} (same : X → X → Bool) (met : X → Bool) (xs : List X) (x : X)
+    → IsIn x (firsts_after same met xs) → IsIn x xs
 from_firsts same met [] x i = absurd i
-from_firsts {X} same met (y ∷ xs) x i = by_test (met y) i (λ j. from_firsts same met xs x j) (λ j. from_firsts same (λ z. met z || same z y) xs x j)
+from_firsts {X} same met (y ∷ xs) x i = by_test (met y) i (λ j. from_firsts same met xs x j)
+    (λ j. from_firsts same (λ z. met z || same z y) xs x j)
   where
-    by_test : (b : Bool) → IsIn x (cond b (firsts_after same met xs) (y ∷ firsts_after same (λ z. met z || same z y) xs)) → (IsIn x (firsts_after same met xs) → IsIn x xs) → (IsIn x (firsts_after same (λ z. met z || same z y) xs) → IsIn x xs) → IsIn x (y ∷ xs)
+    by_test : (b : Bool) → IsIn x (cond b (firsts_after same met xs) (y ∷ firsts_after same (λ z. met z || same z y) xs))
+        → (IsIn x (firsts_after same met xs) → IsIn x xs) → (IsIn x (firsts_after same (λ z. met z || same z y) xs) → IsIn x xs)
+        → IsIn x (y ∷ xs)
     by_test true i a b = inr (a i)
     by_test false (inl e) a b = inl e
     by_test false (inr i) a b = inr (b i)
@@ -87,7 +95,8 @@ fits_small : (b : Bool) (m n : ℕ) → fits b m ≡ Some n → n < 2 ^ 64
 fits_small b m n e = by_test (b && nat_lt m (2 ^ 64)) refl e
   where
     by_test : (t : Bool) → (b && nat_lt m (2 ^ 64)) ≡ t → cond t (Some m) None ≡ Some n → n < 2 ^ 64
-    by_test true t e = let same : m ≡ n = cc in subst (λ z. z < 2 ^ 64) same (ltb-true m (2 ^ 64) (and_parts b (nat_lt m (2 ^ 64)) t).1)
+    by_test true t e = let same : m ≡ n = cc in
+        subst (λ z. z < 2 ^ 64) same (ltb-true m (2 ^ 64) (and_parts b (nat_lt m (2 ^ 64)) t).1)
     by_test false t e = cc
 
 number_small : (bs : List ℕ) (n : ℕ) → number_value bs ≡ Some n → n < 2 ^ 64
@@ -95,7 +104,8 @@ number_small [] n e = fits_small (is_decimal []) (digits_value 10 []) n e
 number_small (z ∷ []) n e = fits_small (is_decimal (z ∷ [])) (digits_value 10 (z ∷ [])) n e
 number_small (z ∷ x ∷ ds) n e = by_test (z == 48 && (x == 120 || x == 88)) e
   where
-    by_test : (b : Bool) → cond b (fits (is_hexadecimal ds) (digits_value 16 ds)) (fits (is_decimal (z ∷ x ∷ ds)) (digits_value 10 (z ∷ x ∷ ds))) ≡ Some n → n < 2 ^ 64
+    by_test : (b : Bool) → cond b (fits (is_hexadecimal ds) (digits_value 16 ds))
+        (fits (is_decimal (z ∷ x ∷ ds)) (digits_value 10 (z ∷ x ∷ ds))) ≡ Some n → n < 2 ^ 64
     by_test true e = fits_small (is_hexadecimal ds) (digits_value 16 ds) n e
     by_test false e = fits_small (is_decimal (z ∷ x ∷ ds)) (digits_value 10 (z ∷ x ∷ ds)) n e
 
@@ -141,7 +151,8 @@ found_named (name, absent) i e = cc
 found_named (name, too_long) i e = cc
 found_named (name, table bytes) i e = image_named name (lines bytes) i e
 
-image_plain : (s : Source) → AreFilesShort s → (all : List Found) (m : ℕ) (i : Image) → slice_get (images_in (types s (flat_of s)) all) m ≡ Some i → IsImagePlain i
+image_plain : (s : Source) → AreFilesShort s → (all : List Found) (m : ℕ) (i : Image)
+    → slice_get (images_in (types s (flat_of s)) all) m ≡ Some i → IsImagePlain i
 image_plain s short all m i e =
     let names = types s (flat_of s) in
     let x = from_filter_map tables.image_in i (zip names all) (in_get (images_in names all) m i e) in
@@ -152,7 +163,9 @@ image_plain s short all m i e =
       sections = λ z within. images_sound names all m i e z within;
     }
 
-pub read_images_are_plain : (contents : Contents) (root : List ℕ) (s : Source) (images : Images) → AreFilesShort s → AreImagesOf contents root s (flat_of s) images
+pub read_images_are_plain : (contents : Contents) (root : List ℕ) (s : Source) (images : Images) → AreFilesShort s
+    → AreImagesOf contents root s (flat_of s) images
     → (m : ℕ) (i : Image) → slice_get images.images m ≡ Some i → IsImagePlain i
 read_images_are_plain contents root s images short read m i e =
-    image_plain s short (found_of contents root s (flat_of s)) m i (ap (λ (z : Images). slice_get z.images m) (sym read.images) ∙ e)
+    image_plain s short (found_of contents root s (flat_of s)) m i (ap (λ (z : Images). slice_get z.images m)
+    (sym read.images) ∙ e)

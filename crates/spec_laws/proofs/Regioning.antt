@@ -56,23 +56,27 @@ use Rattle.spec_laws.proofs.Threads.{has_thread, line_to, thread_object}
 
 -- ---- what is found by a test that single alone passes
 
-find_is : {X : Type 0} (p : X → Bool) (xs : List X) (n : ℕ) (x : X) → slice_get xs n ≡ Some x → p x ≡ true → ((m : ℕ) (y : X) → slice_get xs m ≡ Some y → p y ≡ true → y ≡ x) → find p xs ≡ Some x
+find_is : {X : Type 0} (p : X → Bool) (xs : List X) (n : ℕ) (x : X) → slice_get xs n ≡ Some x → p x ≡ true
+    → ((m : ℕ) (y : X) → slice_get xs m ≡ Some y → p y ≡ true → y ≡ x) → find p xs ≡ Some x
 find_is p [] n x e h u = cc
 find_is {X} p (z ∷ zs) n x e h u = by_test (p z) refl (λ k f. find_is p zs k x f h (λ m y g k. u (suc m) y g k))
   where
-    rest : (n : ℕ) → slice_get (z ∷ zs) n ≡ Some x → p z ≡ false → ((k : ℕ) → slice_get zs k ≡ Some x → find p zs ≡ Some x) → find p zs ≡ Some x
+    rest : (n : ℕ) → slice_get (z ∷ zs) n ≡ Some x → p z ≡ false → ((k : ℕ) → slice_get zs k ≡ Some x → find p zs ≡ Some x)
+        → find p zs ≡ Some x
     rest zero e f more =
         let same : z ≡ x = cc in
         let g : p z ≡ true = ap p same ∙ h in
         cc
     rest (suc n) e f more = more n e
 
-    by_test : (b : Bool) → p z ≡ b → ((k : ℕ) → slice_get zs k ≡ Some x → find p zs ≡ Some x) → cond b (Some z) (find p zs) ≡ Some x
+    by_test : (b : Bool) → p z ≡ b → ((k : ℕ) → slice_get zs k ≡ Some x → find p zs ≡ Some x)
+        → cond b (Some z) (find p zs) ≡ Some x
     by_test true f more = ap (λ w. Some w) (u 0 z refl f)
     by_test false f more = rest n e f more
 
 -- thread i has the regions 2 i and 2 i + 1
-buffer_at : (settled : Settled) (ts : List ThreadOf) (more : List Region) (i : ℕ) (x : ThreadOf) → slice_get ts i ≡ Some x → slice_get (flat_map (thread_regions settled) ts ++ more) (2 * i + 1) ≡ Some (region Buffer 1)
+buffer_at : (settled : Settled) (ts : List ThreadOf) (more : List Region) (i : ℕ) (x : ThreadOf) → slice_get ts i ≡ Some x
+    → slice_get (flat_map (thread_regions settled) ts ++ more) (2 * i + 1) ≡ Some (region Buffer 1)
 buffer_at settled [] more i x e = cc
 buffer_at settled (y ∷ ts) more zero x e =
     let n : 2 * zero + 1 ≡ 1 = omega arith in ap (λ z. slice_get (flat_map (thread_regions settled) (y ∷ ts) ++ more) z) n
@@ -87,7 +91,8 @@ same_thread : (a b : Tcb) (o : Option _) → o ≡ Some (objects.Thread a) → o
 same_thread a b o e f = cc
 
 module _ (t : Tables) (can : CanMap t) where
-  window_domain : (d i : ℕ) (y : EndAt) → slice_get (windows_of (system t) d) i ≡ Some y → (x : Domain) × (slice_get t.flat.domains d ≡ Some x)
+  window_domain : (d i : ℕ) (y : EndAt) → slice_get (windows_of (system t) d) i ≡ Some y
+      → (x : Domain) × (slice_get t.flat.domains d ≡ Some x)
   window_domain d i y e = has_domain t d not_none
     where
       not_none : leaves_of t.flat d ≡ [] → ⊥
@@ -98,7 +103,8 @@ module _ (t : Tables) (can : CanMap t) where
 
   -- ---- the buffer of a thread
 
-  module _ (d i : ℕ) (x : Domain) (y : ThreadOf) (h : slice_get t.flat.domains d ≡ Some x) (e : slice_get (threads_of (system t) d) i ≡ Some y) where
+  module _ (d i : ℕ) (x : Domain) (y : ThreadOf) (h : slice_get t.flat.domains d ≡ Some x)
+      (e : slice_get (threads_of (system t) d) i ≡ Some y) where
     abbrev start : ℕ
     start = begins t d (2 * i + 1)
 
@@ -107,9 +113,15 @@ module _ (t : Tables) (can : CanMap t) where
 
     there : (n : ℕ) × (slice_get (mapped_pages (system t) d) n ≡ Some q)
     there =
-        let b = buffer_at t.settled (threads_of (system t) d) (map (window_region t.flat t.settled) (windows_of (system t) d)) i y e in
-        let p : IsRegionPage t d (2 * i + 1) (start + 4096 * 0) 0 (region Buffer 1) = record { here = b; within = omega arith; at = refl } in
-        place_of q (mapped_pages (system t) d) (region_in t can.settled d (2 * i + 1) (start + 4096 * 0) 0 (region Buffer 1) Buffer p refl)
+        let b = buffer_at t.settled (threads_of (system t) d) (map (window_region t.flat t.settled) (windows_of (system t) d)) i y
+        e in
+        let p : IsRegionPage t d (2 * i + 1) (start + 4096 * 0) 0 (region Buffer 1) = record {
+          here = b;
+          within = omega arith;
+          at = refl;
+        } in
+        place_of q (mapped_pages (system t) d) (region_in t can.settled d (2 * i + 1) (start + 4096 * 0) 0 (region Buffer 1)
+        Buffer p refl)
 
     begin : start + 4096 * 0 ≡ start
     begin = omega arith
@@ -118,7 +130,8 @@ module _ (t : Tables) (can : CanMap t) where
     laid n p = page (system t) d n p
 
     page_there : slice_get (pages_at t d) there.0 ≡ Some (laid there.0 q)
-    page_there = ap (λ z. slice_get z there.0) (pages_are t can d x h) ∙ get_ones laid (mapped_pages (system t) d) there.0 q there.1
+    page_there = ap (λ z. slice_get z there.0) (pages_are t can d x h) ∙ get_ones laid (mapped_pages (system t) d)
+        there.0 q there.1
 
     one_page : (m : ℕ) (p : Page) → slice_get (pages_at t d) m ≡ Some p → (p.vaddr == start) ≡ true → p ≡ laid there.0 q
     one_page m p g k =
@@ -127,12 +140,14 @@ module _ (t : Tables) (can : CanMap t) where
         let at : u.0.at ≡ start + 4096 * 0 = ap (λ (z : Page). z.vaddr) u.2 ∙ eqb-true p.vaddr start k ∙ sym begin in
         let a = get_map (λ (z : MappedPage). z.at) pages m u.0 u.1 in
         let b = get_map (λ (z : MappedPage). z.at) pages there.0 q there.1 in
-        let number : m ≡ there.0 = rises_tell (map (λ (z : MappedPage). z.at) pages) m there.0 u.0.at (rise t can d x h).rise a (b ∙ ap (λ z. Some z) (sym at)) in
+        let number : m ≡ there.0 = rises_tell (map (λ (z : MappedPage). z.at) pages) m there.0 u.0.at (rise t can d x h).rise a
+        (b ∙ ap (λ z. Some z) (sym at)) in
         let shown : u.0 ≡ q = some (slice_get pages there.0) u.0 q (ap (λ z. slice_get pages z) (sym number) ∙ u.1) there.1 in
         sym u.2 ∙ ap (λ z. laid z u.0) number ∙ ap (λ z. laid there.0 z) shown
 
     frame_is : frame_at (pages_at t d) start ≡ Some (number_shown (system t) d there.0 q.shown)
-    frame_is = ap (λ o. option_map (λ (z : Page). z.frame) o) (find_is (λ (z : Page). z.vaddr == start) (pages_at t d) there.0 (laid there.0 q) page_there (eq-eqb (start + 4096 * 0) start begin) one_page)
+    frame_is = ap (λ o. option_map (λ (z : Page). z.frame) o) (find_is (λ (z : Page). z.vaddr == start) (pages_at t d) there.0
+        (laid there.0 q) page_there (eq-eqb (start + 4096 * 0) start begin) one_page)
 
     pub regions_hold : HasRegions t (spec_of t) (root_of t d) d i y (tcb t d (thread_place (system t) d i y))
     regions_hold =
@@ -146,7 +161,8 @@ module _ (t : Tables) (can : CanMap t) where
         record {
           setting = s.0;
           settled = s.1;
-          stack_ends = ap (λ o. begins t d (2 * i) + 4096 * option_map_or (λ (z : LeafSetting). z.stack / 4096) o 0) s.1 ∙ ap (λ z. begins t d (2 * i) + z) (whole_stack s.0.stack (can.settled.stack y.leaf s.0 s.1));
+          stack_ends = ap (λ o. begins t d (2 * i) + 4096 * option_map_or (λ (z : LeafSetting). z.stack / 4096) o 0) s.1
+              ∙ ap (λ z. begins t d (2 * i) + z) (whole_stack s.0.stack (can.settled.stack y.leaf s.0 s.1));
           buffer_at = refl;
           cap = c;
           buffer = ap (λ o. option_map (λ z. cap (place t (FrameOf z)) RW 0) o) frame_is;
@@ -154,17 +170,21 @@ module _ (t : Tables) (can : CanMap t) where
           mapped = subst P (ap (λ z. cap z RW 0) same) (is_at t can d x h start there.0 q there.1 (ap (λ z. z / 4096) begin));
         }
 
-  of_threads : (d i at : ℕ) (y : ThreadOf) (c : Tcb) → slice_get (threads_of (system t) d) i ≡ Some y → IsIn (ThreadLine at y.leaf y.end) (map_lines t) → object_at (spec_of t) at ≡ Some (objects.Thread c) → HasRegions t (spec_of t) (root_of t d) d i y c
+  of_threads : (d i at : ℕ) (y : ThreadOf) (c : Tcb) → slice_get (threads_of (system t) d) i ≡ Some y
+      → IsIn (ThreadLine at y.leaf y.end) (map_lines t) → object_at (spec_of t) at ≡ Some (objects.Thread c)
+      → HasRegions t (spec_of t) (root_of t d) d i y c
   of_threads d i at y c e line o =
       let x = thread_domain t can d i y e in
       let here = one_line t can at (place t (OfThread d i)) y.leaf y.end line (line_to t can d i x.0 y x.1 e) in
       let made = tcb t d (thread_place (system t) d i y) in
-      let same : made ≡ c = same_thread made c (object_at (spec_of t) at) (ap (λ z. object_at (spec_of t) z) here ∙ thread_object t can d i x.0 y x.1 e) o in
+      let same : made ≡ c = same_thread made c (object_at (spec_of t) at) (ap (λ z. object_at (spec_of t) z) here
+      ∙ thread_object t can d i x.0 y x.1 e) o in
       subst (HasRegions t (spec_of t) (root_of t d) d i y) same (regions_hold d i x.0 y x.1 e)
 
   -- ---- windows
 
-  windows_are : (d : ℕ) (x : Domain) → slice_get t.flat.domains d ≡ Some x → windows_at t d ≡ gather (λ j e. window_at (system t) d j e ∷ []) (windows_of (system t) d)
+  windows_are : (d : ℕ) (x : Domain) → slice_get t.flat.domains d ≡ Some x
+      → windows_at t d ≡ gather (λ j e. window_at (system t) d j e ∷ []) (windows_of (system t) d)
   windows_are d x h =
       let f : ℕ → Domain → Space = λ n z. space (system t) n z in
       ap (λ (z : Spaces). option_map_or (λ (w : Space). w.windows) (slice_get z.spaces d) []) can.spaces
@@ -172,8 +192,10 @@ module _ (t : Tables) (can : CanMap t) where
 
   -- what the line of a window says, by its end's connection
   said : (d j : ℕ) (e : EndAt) (c : FlatConnection) → slice_get t.flat.connections e.connection ≡ Some c
-      → window_line (window_at (system t) d j e) ≡ WindowLine e.connection e.end (begins t d (2 * length (threads_of (system t) d) + j)) (4096 * memory_pages t.settled e.connection c)
-  said d j e c h = ap (λ o. WindowLine e.connection e.end (begins t d (2 * length (threads_of (system t) d) + j)) (4096 * option_map_or (memory_pages t.settled e.connection) o 0)) h
+      → window_line (window_at (system t) d j e) ≡ WindowLine e.connection e.end
+      (begins t d (2 * length (threads_of (system t) d) + j)) (4096 * memory_pages t.settled e.connection c)
+  said d j e c h = ap (λ o. WindowLine e.connection e.end (begins t d (2 * length (threads_of (system t) d) + j))
+      (4096 * option_map_or (memory_pages t.settled e.connection) o 0)) h
 
   window_from : (line : MapLine) → IsIn line (window_lines t) → IsWindowLine t line
   window_from line i =
@@ -218,7 +240,8 @@ module _ (t : Tables) (can : CanMap t) where
             let a = from_gather f line t.flat.domains j in
             let h : ℕ → SlotUse → List MapLine = λ n u. slot_line (use_cap t a.0 n u).object n u ∷ [] in
             let b = from_gather h line (uses_at t a.0) a.3 in
-            absurd (no_slot (use_cap t a.0 b.0 b.1).object b.0 b.1 (subst SaysWindow (sym (single (slot_line (use_cap t a.0 b.0 b.1).object b.0 b.1) line b.3)) s))
+            absurd (no_slot (use_cap t a.0 b.0 b.1).object b.0 b.1
+            (subst SaysWindow (sym (single (slot_line (use_cap t a.0 b.0 b.1).object b.0 b.1) line b.3)) s))
         | inr j ↦ window_from line j
       ]
     ]
@@ -230,12 +253,19 @@ module _ (t : Tables) (can : CanMap t) where
       let x = window_domain d w.number w.e w.here in
       let made = window_at (system t) d w.number w.e in
       let k : ℕ → EndAt → Window = λ n z. window_at (system t) d n z in
-      let at = ap (λ z. slice_get z w.number) (windows_are d x.0 x.1) ∙ get_ones k (windows_of (system t) d) w.number w.e w.here in
+      let at = ap (λ z. slice_get z w.number) (windows_are d x.0 x.1) ∙ get_ones k (windows_of (system t) d) w.number
+      w.e w.here in
       let f : ℕ → Domain → List MapLine = λ d x. domain_windows t d in
       let g : ℕ → Window → List MapLine = λ n w. window_line w ∷ [] in
       let said_is = said d w.number w.e w.connection w.of_connection ∙ sym w.is in
       let inner = in_gather g line (windows_at t d) w.number made at (inl said_is) in
-      in_right line (domain_lines t) (thread_lines t ++ (slot_lines t ++ window_lines t)) (in_right line (thread_lines t) (slot_lines t ++ window_lines t) (in_right line (slot_lines t) (window_lines t) (in_gather f line t.flat.domains d x.0 x.1 inner)))
+      in_right line (domain_lines t) (thread_lines t ++ (slot_lines t ++ window_lines t))
+      (in_right line (thread_lines t) (slot_lines t ++ window_lines t) (in_right line (slot_lines t) (window_lines t)
+      (in_gather f line t.flat.domains d x.0 x.1 inner)))
 
   pub regions_are : AreRegions t (spec_of t) (root_of t) (map_lines t)
-  regions_are = record { threads = λ d i at y c e line o. of_threads d i at y c e line o; windows_only = only; windows_every = every }
+  regions_are = record {
+    threads = λ d i at y c e line o. of_threads d i at y c e line o;
+    windows_only = only;
+    windows_every = every;
+  }

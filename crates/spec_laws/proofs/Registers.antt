@@ -31,7 +31,8 @@ use Rattle.spec_laws.proofs.SettledEnds.{IsEndFound, end_found}
 use Rattle.spec_laws.proofs.MemorySizes.{from_registers, interface_same}
 use Rattle.vspace_layout.specs.Memory.{memory_paddr, memory_place, registers, to_place}
 
-paddr_by : (settled : Settled) (k n : ℕ) (c : FlatConnection) (e : EndSetting) → c.connector ≡ Mmio → to_place c.ends ≡ Some n → setting_of settled k n ≡ Some e → memory_paddr settled k c ≡ e.paddr
+paddr_by : (settled : Settled) (k n : ℕ) (c : FlatConnection) (e : EndSetting) → c.connector ≡ Mmio → to_place c.ends ≡ Some n
+    → setting_of settled k n ≡ Some e → memory_paddr settled k c ≡ e.paddr
 paddr_by settled k n c e t at is =
     ap (λ z. option_map_or (λ (x : EndSetting). x.paddr) (option_and_then (setting_of settled k) (memory_place z c.ends)) 0) t
     ∙ ap (λ o. option_map_or (λ (x : EndSetting). x.paddr) (option_and_then (setting_of settled k) o) 0) at
@@ -42,20 +43,27 @@ device_paddr : Hierarchy → Connector → Option Given → Leaf → Interface �
 device_paddr h c shared leaf i =
     let on = same_kind i.kind interfaces.Dataport && leaf.hardware in
     unwrap_or
-    (meaning (paddr_in (unwrap_or (meant size_in (default_bytes i) (cond (is_shared c) shared (where_set on (value_at h leaf.path (i.id.name ++ codes "_size"))))) 0))
+    (meaning
+    (paddr_in
+    (unwrap_or
+    (meant size_in (default_bytes i)
+    (cond (is_shared c) shared (where_set on (value_at h leaf.path (i.id.name ++ codes "_size"))))) 0))
     (where_set on (value_at h leaf.path (i.id.name ++ codes "_paddr")))) 0
 
 module _ (s : Source) (typed : AreTyped s (flat_of s)) (settings : AreSettingsSound s) where
-  paddr_here : (k n : ℕ) (c : FlatConnection) (e : FlatEnd) (f : IsEndFound s k n c e) → c.connector ≡ Mmio → (end_setting f.found).paddr ≡ device_paddr (hierarchy_of s) Mmio None f.found.joint.leaf f.found.joint.interface
+  paddr_here : (k n : ℕ) (c : FlatConnection) (e : FlatEnd) (f : IsEndFound s k n c e) → c.connector ≡ Mmio
+      → (end_setting f.found).paddr ≡ device_paddr (hierarchy_of s) Mmio None f.found.joint.leaf f.found.joint.interface
   unfolding device_paddr
   paddr_here k n c e f is =
       let h = hierarchy_of s in
       let j = f.found.joint in
       ap (λ z. (end_setting z).paddr) f.values
-      ∙ ap (λ (z : FlatConnection). device_paddr h z.connector (value_at h j.connection.path (codes "size")) j.leaf j.interface) f.connection
+      ∙ ap (λ (z : FlatConnection). device_paddr h z.connector (value_at h j.connection.path (codes "size")) j.leaf
+      j.interface) f.connection
       ∙ ap (λ z. device_paddr h z (value_at h j.connection.path (codes "size")) j.leaf j.interface) is
 
-  pub same_paddr : (k n : ℕ) (c d : FlatConnection) (e f : FlatEnd) → slice_get (flat_of s).connections k ≡ Some c → slice_get (flat_of s).connections n ≡ Some d → registers c ≡ Some e → registers d ≡ Some f
+  pub same_paddr : (k n : ℕ) (c d : FlatConnection) (e f : FlatEnd) → slice_get (flat_of s).connections k ≡ Some c
+      → slice_get (flat_of s).connections n ≡ Some d → registers c ≡ Some e → registers d ≡ Some f
       → e.leaf ≡ f.leaf → e.member ≡ f.member → memory_paddr (settled_of s) k c ≡ memory_paddr (settled_of s) n d
   same_paddr k n c d e f at there has also leaf_is member_is =
       let h = hierarchy_of s in
@@ -63,9 +71,11 @@ module _ (s : Source) (typed : AreTyped s (flat_of s)) (settings : AreSettingsSo
       let b = from_registers d f also in
       let x = end_found s typed settings k a.1 c e at a.3 in
       let y = end_found s typed settings n b.1 d f there b.3 in
-      let leaf : x.found.joint.leaf ≡ y.found.joint.leaf = same_Some _ _ (sym x.leaf ∙ ap (slice_get (flat_of s).leaves) leaf_is ∙ y.leaf) in
+      let leaf : x.found.joint.leaf ≡ y.found.joint.leaf =
+      same_Some _ _ (sym x.leaf ∙ ap (slice_get (flat_of s).leaves) leaf_is ∙ y.leaf) in
       let interface : x.found.joint.interface ≡ y.found.joint.interface =
-      interface_same _ _ (sym x.interface ∙ ap (λ (z : Leaf). slice_get (members_at s z.component) e.member) leaf ∙ ap (slice_get (members_at s y.found.joint.leaf.component)) member_is ∙ y.interface) in
+      interface_same _ _ (sym x.interface ∙ ap (λ (z : Leaf). slice_get (members_at s z.component) e.member) leaf
+      ∙ ap (slice_get (members_at s y.found.joint.leaf.component)) member_is ∙ y.interface) in
       paddr_by (settled_of s) k a.1 c (end_setting x.found) a.0 a.2 x.setting
       ∙ paddr_here k a.1 c e x a.0
       ∙ ap (λ z. device_paddr h Mmio None z x.found.joint.interface) leaf

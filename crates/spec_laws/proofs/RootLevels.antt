@@ -50,14 +50,16 @@ count_cons p x xs = sum_by-cons (ones p) x xs
 abbrev at_level : Level → Object → Bool
 at_level l o = level_number (level_of o) == level_number l
 
-count_tables : (l : Level) (d : ℕ) (g : ℕ → ℕ) (os : List Object) → count_by (is_of l) (gather (λ j o. page_table d (g j) (level_of o) ∷ []) os) ≡ count_by (at_level l) os
+count_tables : (l : Level) (d : ℕ) (g : ℕ → ℕ) (os : List Object)
+    → count_by (is_of l) (gather (λ j o. page_table d (g j) (level_of o) ∷ []) os) ≡ count_by (at_level l) os
 count_tables l d g [] = refl
 count_tables l d g (o ∷ os) =
     count_cons (is_of l) (page_table d (g 0) (level_of o)) (gather (λ j z. page_table d (g (suc j)) (level_of z) ∷ []) os)
     ∙ ap (λ z. ones (at_level l) o + z) (count_tables l d (λ j. g (suc j)) os)
     ∙ sym (count_cons (at_level l) o os)
 
-count_all : (l : Level) (s : Shape) (link : ℕ) (rs : List (List Mapping)) → (level_number s.level == level_number l) ≡ true → count_by (at_level l) (map (table_of s link) rs) ≡ length rs
+count_all : (l : Level) (s : Shape) (link : ℕ) (rs : List (List Mapping)) → (level_number s.level == level_number l) ≡ true
+    → count_by (at_level l) (map (table_of s link) rs) ≡ length rs
 count_all l s link [] h = refl
 count_all l s link (r ∷ rs) h =
     let ih = count_all l s link rs h in
@@ -65,7 +67,8 @@ count_all l s link (r ∷ rs) h =
     let one : ones (at_level l) (table_of s link r) ≡ 1 = ap (λ b. cond b 1 0) h in
     omega (arith, ih, c, one)
 
-count_none : (l : Level) (s : Shape) (link : ℕ) (rs : List (List Mapping)) → (level_number s.level == level_number l) ≡ false → count_by (at_level l) (map (table_of s link) rs) ≡ 0
+count_none : (l : Level) (s : Shape) (link : ℕ) (rs : List (List Mapping)) → (level_number s.level == level_number l) ≡ false
+    → count_by (at_level l) (map (table_of s link) rs) ≡ 0
 count_none l s link [] h = refl
 count_none l s link (r ∷ rs) h =
     let ih = count_none l s link rs h in
@@ -84,11 +87,13 @@ pub record Fine (bound : ℕ) (xs : List Mapping) : Type 0 where
 abbrev up : Shape → List Mapping → List Mapping
 up l xs = uppers l (runs (span l) xs)
 
-some_run : (sp : ℕ) (x : Mapping) (rs : List (List Mapping)) → (r : List Mapping) × (more : List (List Mapping)) × (put_front sp x rs ≡ r ∷ more)
+some_run : (sp : ℕ) (x : Mapping) (rs : List (List Mapping)) → (r : List Mapping) × (more : List (List Mapping))
+    × (put_front sp x rs ≡ r ∷ more)
 some_run sp x [] = (x ∷ [], [], refl)
 some_run sp x (r ∷ rs) = by_test (under sp x r)
   where
-    by_test : (b : Bool) → (q : List Mapping) × (more : List (List Mapping)) × (cond b ((x ∷ r) ∷ rs) ((x ∷ []) ∷ r ∷ rs) ≡ q ∷ more)
+    by_test : (b : Bool) → (q : List Mapping) × (more : List (List Mapping))
+        × (cond b ((x ∷ r) ∷ rs) ((x ∷ []) ∷ r ∷ rs) ≡ q ∷ more)
     by_test true = (x ∷ r, rs, refl)
     by_test false = (x ∷ [], r ∷ rs, refl)
 
@@ -96,7 +101,12 @@ fine_up : (l : Shape) (bound : ℕ) (xs : List Mapping) → 0 < bound → Fine b
 fine_up l bound xs some f =
     let r = some_run (span l) f.first (runs (span l) f.rest) in
     let is : up l xs ≡ uppers l (r.0 ∷ r.1) = ap (λ z. up l z) f.is ∙ ap (λ z. uppers l z) r.2 in
-    record { first = upper l 0 r.0; rest = gather (λ j z. upper l (suc j) z ∷ []) r.1; is = is; low = upper_below l xs bound some f.low }
+    record {
+      first = upper l 0 r.0;
+      rest = gather (λ j z. upper l (suc j) z ∷ []) r.1;
+      is = is;
+      low = upper_below l xs bound some f.low;
+    }
 
 fine_one : (l : Shape) (xs : List Mapping) → Fine (span l) xs → length (runs (span l) xs) ≡ 1
 fine_one l xs f =
@@ -105,7 +115,8 @@ fine_one l xs f =
 
 -- ---- the root
 
-pub first_table : (a : Arch) (first : ℕ) (xs : List Mapping) → Fine (root_span (shapes a)) xs → (slots : List (ℕ × Cap)) × (slice_get (tables_of first (shapes a) xs) 0 ≡ Some (Pages (root_level a) slots))
+pub first_table : (a : Arch) (first : ℕ) (xs : List Mapping) → Fine (root_span (shapes a)) xs
+    → (slots : List (ℕ × Cap)) × (slice_get (tables_of first (shapes a) xs) 0 ≡ Some (Pages (root_level a) slots))
 first_table Arm11 first xs f =
     let l = shape Directory (2 ^ 20) 4096 in
     let P : List Mapping → Type 0 = λ z. (y : Mapping) → IsIn y z → y.at < span l in
@@ -114,20 +125,24 @@ first_table Arm11 first xs f =
 first_table Aarch64 first xs f =
     let l = shape Global (2 ^ 39) 512 in
     let P : List Mapping → Type 0 = λ z. (y : Mapping) → IsIn y z → y.at < span l in
-    let r = root_first (shape Table (2 ^ 12) 512 ∷ shape Directory (2 ^ 21) 512 ∷ shape Upper (2 ^ 30) 512 ∷ []) l f.first f.rest first (subst P f.is f.low) in
+    let r = root_first (shape Table (2 ^ 12) 512 ∷ shape Directory (2 ^ 21) 512 ∷ shape Upper (2 ^ 30) 512 ∷ []) l f.first f.rest
+    first (subst P f.is f.low) in
     (r.0, ap (λ z. slice_get (tables_of first (shapes Aarch64) z) 0) f.is ∙ r.1)
 
 -- a lower level adds none
-lower : (l : Level) (first link : ℕ) (y : Layer) (ys : List Layer) → (level_number y.shape.level == level_number l) ≡ false → count_by (at_level l) (numbered first link (y ∷ ys)) ≡ count_by (at_level l) (numbered first (first + sizes ys) ys)
+lower : (l : Level) (first link : ℕ) (y : Layer) (ys : List Layer) → (level_number y.shape.level == level_number l) ≡ false
+    → count_by (at_level l) (numbered first link (y ∷ ys)) ≡ count_by (at_level l) (numbered first (first + sizes ys) ys)
 lower l first link y ys h =
     let c = count_append (at_level l) (numbered first (first + sizes ys) ys) (map (table_of y.shape link) y.tables) in
     let none = count_none l y.shape link y.tables h in
     omega (arith, c, none)
 
-last : (l : Level) (first link : ℕ) (y : Layer) → (level_number y.shape.level == level_number l) ≡ true → count_by (at_level l) (numbered first link (y ∷ [])) ≡ length y.tables
+last : (l : Level) (first link : ℕ) (y : Layer) → (level_number y.shape.level == level_number l) ≡ true
+    → count_by (at_level l) (numbered first link (y ∷ [])) ≡ length y.tables
 last l first link y h = count_all l y.shape link y.tables h
 
-pub one_of_level : (a : Arch) (xs : List Mapping) → Fine (root_span (shapes a)) xs → count_by (at_level (root_level a)) (tables_of 0 (shapes a) xs) ≡ 1
+pub one_of_level : (a : Arch) (xs : List Mapping) → Fine (root_span (shapes a)) xs
+    → count_by (at_level (root_level a)) (tables_of 0 (shapes a) xs) ≡ 1
 one_of_level Arm11 xs f =
     let s = shape Table (2 ^ 12) 256 in
     let r = shape Directory (2 ^ 20) 4096 in
@@ -164,7 +179,8 @@ take_more (x ∷ xs) ys n =
     let e : suc (length xs) + n ≡ suc (length xs + n) = omega arith in
     ap (λ z. take z (x ∷ (xs ++ ys))) e ∙ ap (λ z. x ∷ z) (take_more xs ys n)
 
-pub take_before : {X Y : Type 0} (f : ℕ → X → List Y) (xs : List X) (k : ℕ) → take (before f xs k) (gather f xs) ≡ gather f (take k xs)
+pub take_before : {X Y : Type 0} (f : ℕ → X → List Y) (xs : List X) (k : ℕ)
+    → take (before f xs k) (gather f xs) ≡ gather f (take k xs)
 take_before f xs zero = refl
 take_before f [] (suc k) = refl
 take_before {X} {Y} f (x ∷ xs) (suc k) =
@@ -173,7 +189,8 @@ take_before {X} {Y} f (x ∷ xs) (suc k) =
     ∙ take_more (f 0 x) (gather g xs) (before g xs k)
     ∙ ap (λ z. f 0 x ++ z) (take_before g xs k)
 
-pub count_each : {X Y : Type 0} (p : Y → Bool) (f : ℕ → X → List Y) (xs : List X) (k : ℕ) → ((n : ℕ) (x : X) → slice_get xs n ≡ Some x → count_by p (f n x) ≡ 1) → k ≤ length xs → count_by p (gather f (take k xs)) ≡ k
+pub count_each : {X Y : Type 0} (p : Y → Bool) (f : ℕ → X → List Y) (xs : List X) (k : ℕ)
+    → ((n : ℕ) (x : X) → slice_get xs n ≡ Some x → count_by p (f n x) ≡ 1) → k ≤ length xs → count_by p (gather f (take k xs)) ≡ k
 count_each p f xs zero h l = refl
 count_each p f [] (suc k) h l = absurd (omega (arith, l))
 count_each {X} {Y} p f (x ∷ xs) (suc k) h l =
@@ -183,5 +200,6 @@ count_each {X} {Y} p f (x ∷ xs) (suc k) h l =
     let one = h 0 x refl in
     omega (arith, ih, c, one)
 
-pub one_in_domain : (a : Arch) (d : ℕ) (xs : List Mapping) → Fine (root_span (shapes a)) xs → count_by (is_of (root_level a)) (page_tables d (tables_of 0 (shapes a) xs)) ≡ 1
+pub one_in_domain : (a : Arch) (d : ℕ) (xs : List Mapping) → Fine (root_span (shapes a)) xs
+    → count_by (is_of (root_level a)) (page_tables d (tables_of 0 (shapes a) xs)) ≡ 1
 one_in_domain a d xs f = count_tables (root_level a) d (λ j. j) (tables_of 0 (shapes a) xs) ∙ one_of_level a xs f

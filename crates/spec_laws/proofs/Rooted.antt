@@ -40,19 +40,24 @@ module _ (t : Tables) (d : ℕ) (x : Domain) (h : slice_get t.flat.domains d ≡
       let f : ℕ → PageTable → List Part = λ n z. table_part (all_tables t) n z ∷ [] in
       in_together (sections t) 6 (table_parts (all_tables t)) p refl (in_gather f p (all_tables t) m y at (inl refl))
 
-  object_there : (j : ℕ) (o : Object) → slice_get (tables_of_domain t d) j ≡ Some o → slice_get (map (λ (z : Entry). z.object) (spec_of t).entries) (root_of t d + j) ≡ Some o
+  object_there : (j : ℕ) (o : Object) → slice_get (tables_of_domain t d) j ≡ Some o
+      → slice_get (map (λ (z : Entry). z.object) (spec_of t).entries) (root_of t d + j) ≡ Some o
   object_there j o e =
-      let long : length (tables_of_domain t d) ≡ length (tables_at t 0 0 d) = tables_counted t (root_of t d) (frames_from t) d ∙ sym (tables_counted t 0 0 d) in
+      let long : length (tables_of_domain t d) ≡ length (tables_at t 0 0 d) = tables_counted t (root_of t d) (frames_from t) d
+      ∙ sym (tables_counted t 0 0 d) in
       let l = below (tables_of_domain t d) j o e in
       let q = at_place (tables_at t 0 0 d) j (omega (arith, long, l)) in
       let p = table_part (all_tables t) (before (domain_tables t) t.flat.domains d + j) (page_table d j (level_of q.0)) in
       let there = stands t p (table_in j q.0 q.1) in
       let at : place t (TableOf d j) ≡ root_of t d + j = omega arith in
       let f : Entry → Object = λ z. z.object in
-      let got = get_map f (map (entry t) (parts t)) (place t (TableOf d j)) (entry t p) (get_map (entry t) (parts t) (place t (TableOf d j)) p there) in
-      ap (λ z. slice_get (map f (spec_of t).entries) z) (sym at) ∙ got ∙ ap (λ z. Some z) (index_is (tables_of_domain t d) j Endpoint o e)
+      let got = get_map f (map (entry t) (parts t)) (place t (TableOf d j)) (entry t p)
+      (get_map (entry t) (parts t) (place t (TableOf d j)) p there) in
+      ap (λ z. slice_get (map f (spec_of t).entries) z) (sym at) ∙ got
+      ∙ ap (λ z. Some z) (index_is (tables_of_domain t d) j Endpoint o e)
 
-  pub from_root : objects_from (spec_of t) (root_of t d) ≡ tables_of_domain t d ++ drop (length (tables_of_domain t d)) (objects_from (spec_of t) (root_of t d))
+  pub from_root : objects_from (spec_of t) (root_of t d) ≡ tables_of_domain t d ++ drop (length (tables_of_domain t d))
+      (objects_from (spec_of t) (root_of t d))
   from_root =
       begins_with (objects_from (spec_of t) (root_of t d)) (tables_of_domain t d)
       (λ j o e. get_drop (map (λ (z : Entry). z.object) (spec_of t).entries) (root_of t d) j ∙ object_there j o e)

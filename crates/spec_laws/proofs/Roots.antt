@@ -35,13 +35,16 @@ fine_of bound (x ∷ xs) m i h = record { first = x; rest = xs; is = refl; low =
 
 module _ (t : Tables) (can : CanMap t) where
   -- the mappings of a domain, wherever frames stand
-  fine : (frames d : ℕ) (x : Domain) → slice_get t.flat.domains d ≡ Some x → Fine (root_span (shapes (arch t))) (map (page_mapping frames) (pages_at t d))
+  fine : (frames d : ℕ) (x : Domain) → slice_get t.flat.domains d ≡ Some x
+      → Fine (root_span (shapes (arch t))) (map (page_mapping frames) (pages_at t d))
   fine frames d x h =
       let m = some_map t can d x h in
       let p = from_map (page_mapping (frames_from t)) m.0 (pages_at t d) m.1 in
-      fine_of (root_span (shapes (arch t))) (map (page_mapping frames) (pages_at t d)) (page_mapping frames p.0) (in_map (page_mapping frames) p.0 (pages_at t d) p.1) (λ z i. (
+      fine_of (root_span (shapes (arch t))) (map (page_mapping frames) (pages_at t d)) (page_mapping frames p.0)
+      (in_map (page_mapping frames) p.0 (pages_at t d) p.1) (λ z i. (
       let q = from_map (page_mapping frames) z (pages_at t d) i in
-      let l = maps_below t can d x h (page_mapping (frames_from t) q.0) (in_map (page_mapping (frames_from t)) q.0 (pages_at t d) q.1) in
+      let l = maps_below t can d x h (page_mapping (frames_from t) q.0) (in_map (page_mapping (frames_from t)) q.0
+      (pages_at t d) q.1) in
       let P : ℕ → Type 0 = λ w. w < root_span (shapes (arch t)) in
       subst P (ap (λ (w : Mapping). w.at) q.2) l))
 
@@ -62,7 +65,9 @@ module _ (t : Tables) (can : CanMap t) where
       let m = before (domain_tables t) t.flat.domains d + 0 in
       let at : m ≡ before (domain_tables t) t.flat.domains d = omega arith in
       let long = below t.flat.domains d x h in
-      let each : (n : ℕ) (y : Domain) → slice_get t.flat.domains n ≡ Some y → count_by (is_of (root_level a)) (domain_tables t n y) ≡ 1 = λ n y g. one_in_domain a n (map (page_mapping 0) (pages_at t n)) (fine 0 n y g) in
+      let each : (n : ℕ) (y : Domain) → slice_get t.flat.domains n ≡ Some y
+      → count_by (is_of (root_level a)) (domain_tables t n y) ≡ 1 =
+      λ n y g. one_in_domain a n (map (page_mapping 0) (pages_at t n)) (fine 0 n y g) in
       let number : of_level (root_level a) (all_tables t) m ≡ d =
       ap (λ z. of_level (root_level a) (all_tables t) z) at
       ∙ ap (λ z. count_by (is_of (root_level a)) z) (take_before (domain_tables t) t.flat.domains d)
@@ -83,20 +88,24 @@ module _ (t : Tables) (can : CanMap t) where
       let o = first_table a (root_of t d) (map (page_mapping (frames_from t)) (pages_at t d)) (fine (frames_from t) d x h) in
       let at : place t r.part.what ≡ root_of t d = ap (λ z. place t z) r.what in
       record {
-        named = ap (λ z. name_at (spec_of t) z) (sym at) ∙ (objects_stand t).name r.part r.there ∙ ap (λ z. name_of z r.part.number) (r.series_is ∙ root_named a) ∙ ap (λ z. name_of (root_series a) z) r.number;
+        named = ap (λ z. name_at (spec_of t) z) (sym at) ∙ (objects_stand t).name r.part r.there
+            ∙ ap (λ z. name_of z r.part.number) (r.series_is ∙ root_named a) ∙ ap (λ z. name_of (root_series a) z) r.number;
         level = root_level a;
         slots = o.0;
-        is = ap (λ z. object_at (spec_of t) z) (sym at) ∙ (objects_stand t).object r.part r.there ∙ ap (λ z. Some (object t z)) r.what ∙ ap (λ z. Some z) (index_is (tables_of_domain t d) 0 Endpoint (Pages (root_level a) o.0) o.1);
+        is = ap (λ z. object_at (spec_of t) z) (sym at) ∙ (objects_stand t).object r.part r.there ∙ ap (λ z. Some (object t z))
+            r.what ∙ ap (λ z. Some z) (index_is (tables_of_domain t d) 0 Endpoint (Pages (root_level a) o.0) o.1);
         whole = root_whole a;
       }
 
-  apart : (d e : ℕ) (x y : Domain) → slice_get t.flat.domains d ≡ Some x → slice_get t.flat.domains e ≡ Some y → root_of t d ≡ root_of t e → d ≡ e
+  apart : (d e : ℕ) (x y : Domain) → slice_get t.flat.domains d ≡ Some x → slice_get t.flat.domains e ≡ Some y
+      → root_of t d ≡ root_of t e → d ≡ e
   apart d e x y h g same =
       let r = root_part d x h in
       let s = root_part e y g in
       let at : place t r.part.what ≡ place t s.part.what = ap (λ z. place t z) r.what ∙ same ∙ ap (λ z. place t z) (sym s.what) in
       let P : ℕ → Type 0 = λ z. slice_get (parts t) z ≡ Some r.part in
-      let parts_same : r.part ≡ s.part = some (slice_get (parts t) (place t s.part.what)) r.part s.part (subst P at (stands t r.part r.there)) (stands t s.part s.there) in
+      let parts_same : r.part ≡ s.part = some (slice_get (parts t) (place t s.part.what)) r.part s.part
+      (subst P at (stands t r.part r.there)) (stands t s.part s.there) in
       sym r.number ∙ ap (λ (z : Part). z.number) parts_same ∙ s.number
 
   pub roots_are : AreRoots t (spec_of t) (root_of t)

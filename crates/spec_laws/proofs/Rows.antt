@@ -55,18 +55,24 @@ truth_is false true h = absurd (true≢false (sym h))
 truth_is false false h = refl
 
 -- the rights of an end's capability confer just what the table gives the end over its connection's object
-pub row_law : (c : Connector) (r : Role) (a : Authority) → has_slot c r ≡ true → kind_confers (joint_kind c) (end_rights c r) a ≡ gives c r (joint_object c) a
+pub row_law : (c : Connector) (r : Role) (a : Authority) → has_slot c r ≡ true
+    → kind_confers (joint_kind c) (end_rights c r) a ≡ gives c r (joint_object c) a
 row_law c r a s =
     truth_is (kind_confers (joint_kind c) (end_rights c r) a) (gives c r (joint_object c) a)
-    (implied (has_slot c r) _ (at_authority (λ c r a. implies (has_slot c r) (same_truth (kind_confers (joint_kind c) (end_rights c r) a) (gives c r (joint_object c) a))) refl c r a) s)
+    (implied (has_slot c r) _
+    (at_authority (λ c r a. implies (has_slot c r) (same_truth (kind_confers (joint_kind c) (end_rights c r) a)
+    (gives c r (joint_object c) a))) refl c r a) s)
 
 -- and none of them is G on an endpoint
 pub row_plain : (c : Connector) (r : Role) → has_slot c r ≡ true → plain_kind (joint_kind c) (end_rights c r) ≡ true
-row_plain c r s = implied (has_slot c r) _ (at_end (λ c r. implies (has_slot c r) (plain_kind (joint_kind c) (end_rights c r))) refl c r) s
+row_plain c r s =
+    implied (has_slot c r) _ (at_end (λ c r. implies (has_slot c r) (plain_kind (joint_kind c) (end_rights c r))) refl c r) s
 
 -- an end with a slot is of software, and its connection has a label
 pub slot_soft : (c : Connector) (r : Role) → has_slot c r ≡ true → (end_rule c r).hardware ≡ false
-slot_soft c r s = truth_is (end_rule c r).hardware false (implied (has_slot c r) _ (at_end (λ c r. implies (has_slot c r) (same_truth (end_rule c r).hardware false)) refl c r) s)
+slot_soft c r s =
+    truth_is (end_rule c r).hardware false
+    (implied (has_slot c r) _ (at_end (λ c r. implies (has_slot c r) (same_truth (end_rule c r).hardware false)) refl c r) s)
 
 pub slot_labelled : (c : Connector) (r : Role) → has_slot c r ≡ true → has_label c ≡ true
 slot_labelled c r s = implied (has_slot c r) _ (at_end (λ c r. implies (has_slot c r) (has_label c)) refl c r) s
@@ -75,9 +81,18 @@ abbrev pub is_frames : ObjectKind → Bool
 is_frames o = same_object o OfFrames || same_object o OfDevice
 
 -- access takes nothing but what is given over frames
-pub joint_leaves : (c : Connector) (r : Role) (o : ObjectKind) (s : Option EndSetting) (a : Authority) → is_frames o ≡ false → gives c r o a ≡ true → leaves s a ≡ true
-joint_leaves c r o s Read f h = absurd (true≢false (sym (implied (gives c r o Read) (is_frames o) (over_object (λ c r o. implies (gives c r o Read) (is_frames o)) refl c r o) h) ∙ f))
-joint_leaves c r o s Write f h = absurd (true≢false (sym (implied (gives c r o Write) (is_frames o) (over_object (λ c r o. implies (gives c r o Write) (is_frames o)) refl c r o) h) ∙ f))
+pub joint_leaves : (c : Connector) (r : Role) (o : ObjectKind) (s : Option EndSetting) (a : Authority) → is_frames o ≡ false
+    → gives c r o a ≡ true → leaves s a ≡ true
+joint_leaves c r o s Read f h =
+    absurd
+    (true≢false
+    (sym (implied (gives c r o Read) (is_frames o) (over_object (λ c r o. implies (gives c r o Read) (is_frames o)) refl c
+    r o) h) ∙ f))
+joint_leaves c r o s Write f h =
+    absurd
+    (true≢false
+    (sym (implied (gives c r o Write) (is_frames o) (over_object (λ c r o. implies (gives c r o Write) (is_frames o)) refl c
+    r o) h) ∙ f))
 joint_leaves c r o s _ f h = refl
 
 pub joint_no_frames : (c : Connector) → is_frames (joint_object c) ≡ false
@@ -140,11 +155,16 @@ by_signalling c r o a = fits c r o Interrupt From OfNotification && (number_of a
 pub given_by : (c : Connector) (r : Role) (o : ObjectKind) (a : Authority) → gives c r o a ≡ true
     → ((a ≡ Read) ⊎ (a ≡ Write)) ⊎ (OfSlot c r o ⊎ (IsHandling c r o a ⊎ IsSignalling c r o a))
 given_by c r o a h =
-    let w = implied (gives c r o a) _ (over_all (λ c r o a. implies (gives c r o a) (is_access a || (by_slot c r o || (by_handling c r o a || by_signalling c r o a)))) refl c r o a) h in
+    let w =
+    implied (gives c r o a) _
+    (over_all
+    (λ c r o a. implies (gives c r o a) (is_access a || (by_slot c r o || (by_handling c r o a || by_signalling c r o a))))
+    refl c r o a) h in
     elim (or_cases (is_access a) _ w) [
       | inl e ↦ inl (access_is a e)
       | inr w ↦ elim (or_cases (by_slot c r o) _ w) [
-        | inl e ↦ (let q = and_parts (has_slot c r) (same_object o (joint_object c)) e in inr (inl (record { slot = q.0; object = is_object o (joint_object c) q.1 })))
+        | inl e ↦ (let q = and_parts (has_slot c r) (same_object o (joint_object c)) e in
+            inr (inl (record { slot = q.0; object = is_object o (joint_object c) q.1 })))
         | inr w ↦ elim (or_cases (by_handling c r o a) (by_signalling c r o a) w) [
           | inl e ↦
               let q = and_parts (fits c r o Interrupt To OfIrq) (number_of a == number_of Handle) e in
@@ -172,14 +192,18 @@ pub record SeesDevice (c : Connector) (r : Role) (o : ObjectKind) : Type 0 where
 
 pub seen_by : (c : Connector) (r : Role) (o : ObjectKind) → gives c r o Read ≡ true → SeesShared c o ⊎ SeesDevice c r o
 seen_by c r o h =
-    let w = implied (gives c r o Read) _ (over_object (λ c r o. implies (gives c r o Read) (fits c r o SharedMemory r OfFrames || fits c r o Mmio From OfDevice)) refl c r o) h in
+    let w =
+    implied (gives c r o Read) _
+    (over_object (λ c r o. implies (gives c r o Read) (fits c r o SharedMemory r OfFrames || fits c r o Mmio From OfDevice))
+    refl c r o) h in
     elim (or_cases (fits c r o SharedMemory r OfFrames) (fits c r o Mmio From OfDevice) w) [
       | inl e ↦ (let f = fitted c r o SharedMemory r OfFrames e in inl (record { connector = f.0; object = f.2 }))
       | inr e ↦ (let f = fitted c r o Mmio From OfDevice e in inr (record { connector = f.0; role = f.1; object = f.2 }))
     ]
 
 -- it is the ends that have a window
-pub window_sees : (c : Connector) (r : Role) → is_window c r ≡ true → ((c ≡ SharedMemory) × (gives c r OfFrames Read ≡ true)) ⊎ ((c ≡ Mmio) × (r ≡ From) × (gives c r OfDevice Read ≡ true))
+pub window_sees : (c : Connector) (r : Role) → is_window c r ≡ true → ((c ≡ SharedMemory) × (gives c r OfFrames Read ≡ true))
+    ⊎ ((c ≡ Mmio) × (r ≡ From) × (gives c r OfDevice Read ≡ true))
 window_sees SharedMemory From h = inl (refl, refl)
 window_sees SharedMemory To h = inl (refl, refl)
 window_sees Mmio From h = inr (refl, refl, refl)
@@ -194,14 +218,18 @@ window_sees Direct From h = absurd (true≢false (sym h))
 window_sees Direct To h = absurd (true≢false (sym h))
 
 pub seen_window : (c : Connector) (r : Role) (o : ObjectKind) → gives c r o Read ≡ true → is_window c r ≡ true
-seen_window c r o h = implied (gives c r o Read) (is_window c r) (over_object (λ c r o. implies (gives c r o Read) (is_window c r)) refl c r o) h
+seen_window c r o h =
+    implied (gives c r o Read) (is_window c r) (over_object (λ c r o. implies (gives c r o Read) (is_window c r)) refl c r o) h
 
 -- an end with a window is of software
 pub window_soft : (c : Connector) (r : Role) → is_window c r ≡ true → (end_rule c r).hardware ≡ false
-window_soft c r s = truth_is (end_rule c r).hardware false (implied (is_window c r) _ (at_end (λ c r. implies (is_window c r) (same_truth (end_rule c r).hardware false)) refl c r) s)
+window_soft c r s =
+    truth_is (end_rule c r).hardware false
+    (implied (is_window c r) _ (at_end (λ c r. implies (is_window c r) (same_truth (end_rule c r).hardware false)) refl c r) s)
 
 -- the ends at devices
-pub device_role : (c : Connector) (r : Role) → (end_rule c r).hardware ≡ true → ((c ≡ Interrupt) × (r ≡ From)) ⊎ ((c ≡ Mmio) × (r ≡ To))
+pub device_role : (c : Connector) (r : Role) → (end_rule c r).hardware ≡ true → ((c ≡ Interrupt) × (r ≡ From))
+    ⊎ ((c ≡ Mmio) × (r ≡ To))
 device_role Interrupt From h = inl (refl, refl)
 device_role Mmio To h = inr (refl, refl)
 device_role Interrupt To h = absurd (true≢false (sym h))

@@ -30,7 +30,8 @@ use Rattle.system_spec.specs.Tables.{Tables}
 pub record Told (s : List Part) (rank : Series → ℕ) (n : ℕ) (bound : ℕ) : Type 0 where
   pub series : (j : ℕ) (p : Part) → slice_get s j ≡ Some p → rank p.series ≡ n
   pub number : (j : ℕ) (p : Part) → slice_get s j ≡ Some p → p.number < bound
-  pub place : (i j : ℕ) (p q : Part) → slice_get s i ≡ Some p → slice_get s j ≡ Some q → p.series ≡ q.series → p.number ≡ q.number → i ≡ j
+  pub place : (i j : ℕ) (p q : Part) → slice_get s i ≡ Some p → slice_get s j ≡ Some q → p.series ≡ q.series
+      → p.number ≡ q.number → i ≡ j
 
 abbrev pub rank : Series → ℕ
 rank series.CNode = 0
@@ -48,11 +49,14 @@ rank series.Frame = 7
 told_numbered : (s : Series) (xs : List Owned) (bound : ℕ) → length xs ≤ bound → Told (numbered s xs) rank (rank s) bound
 told_numbered s xs bound few = record {
   series = λ j p e. ap (λ (z : Part). rank z.series) (sym (at j p e).2);
-  number = λ j p e. let o = at j p e in let l = slice_get_within xs j o.0 o.1 in let same : p.number ≡ j = ap (λ (z : Part). z.number) (sym o.2) in omega (arith, l, same, few);
-  place = λ i j p q e f same number. ap (λ (z : Part). z.number) (at i p e).2 ∙ number ∙ sym (ap (λ (z : Part). z.number) (at j q f).2);
+  number = λ j p e. let o = at j p e in let l = slice_get_within xs j o.0 o.1 in let same : p.number ≡ j =
+      ap (λ (z : Part). z.number) (sym o.2) in omega (arith, l, same, few);
+  place = λ i j p q e f same number. ap (λ (z : Part). z.number) (at i p e).2 ∙ number
+      ∙ sym (ap (λ (z : Part). z.number) (at j q f).2);
 }
   where
-    at : (j : ℕ) (p : Part) → slice_get (numbered s xs) j ≡ Some p → (x : Owned) × (slice_get xs j ≡ Some x) × (part s j x.owner x.what ≡ p)
+    at : (j : ℕ) (p : Part) → slice_get (numbered s xs) j ≡ Some p → (x : Owned) × (slice_get xs j ≡ Some x)
+        × (part s j x.owner x.what ≡ p)
     at j p e = from_ones (λ n (x : Owned). part s n x.owner x.what) xs j p e
 
 -- where the parts of connections stand, each of which has its connection's number
@@ -61,40 +65,53 @@ pub record OfConnections (s : List Part) (name : Series) (count : ℕ) (sum : �
   pub number : p.number < count
   pub place : j ≡ sum p.number
 
-endpoint_at : (t : Tables) (j : ℕ) (p : Part) → slice_get (endpoints t) j ≡ Some p → OfConnections (endpoints t) series.Ep (length t.flat.connections) (before endpoint t.flat.connections) j p
+endpoint_at : (t : Tables) (j : ℕ) (p : Part) → slice_get (endpoints t) j ≡ Some p
+    → OfConnections (endpoints t) series.Ep (length t.flat.connections) (before endpoint t.flat.connections) j p
 endpoint_at t j p e =
     let g = from_place endpoint t.flat.connections j p e in
     by_kind g.item.connector g.place g.number g.stands g.sum (slice_get_within t.flat.connections g.place g.item g.here)
   where
-    by_kind : (c : Connector) (k i : ℕ) → slice_get (endpoint_by k c) i ≡ Some p → j ≡ before endpoint t.flat.connections k + i → k < length t.flat.connections
+    by_kind : (c : Connector) (k i : ℕ) → slice_get (endpoint_by k c) i ≡ Some p → j ≡ before endpoint t.flat.connections k + i
+        → k < length t.flat.connections
         → OfConnections (endpoints t) series.Ep (length t.flat.connections) (before endpoint t.flat.connections) j p
     by_kind Rpc k i h a l =
         let s = single (part series.Ep k (OfConnection k) (EndpointOf k)) p i h in
         let z = s.0 in
         let n : k ≡ p.number = ap (λ (q : Part). q.number) s.1 in
         let at : j ≡ before endpoint t.flat.connections k = omega (arith, a, z) in
-        record { series = ap (λ (q : Part). q.series) s.1; number = omega (arith, l, n); place = at ∙ ap (before endpoint t.flat.connections) n }
+        record {
+          series = ap (λ (q : Part). q.series) s.1;
+          number = omega (arith, l, n);
+          place = at ∙ ap (before endpoint t.flat.connections) n;
+        }
     by_kind Notification k i h a l = cc
     by_kind SharedMemory k i h a l = cc
     by_kind Mmio k i h a l = cc
     by_kind Interrupt k i h a l = cc
     by_kind Direct k i h a l = cc
 
-notification_at : (t : Tables) (j : ℕ) (p : Part) → slice_get (notifications t) j ≡ Some p → OfConnections (notifications t) series.Ntfn (length t.flat.connections) (before notification t.flat.connections) j p
+notification_at : (t : Tables) (j : ℕ) (p : Part) → slice_get (notifications t) j ≡ Some p
+    → OfConnections (notifications t) series.Ntfn (length t.flat.connections) (before notification t.flat.connections) j p
 notification_at t j p e =
     let g = from_place notification t.flat.connections j p e in
     by_kind g.item.connector g.place g.number g.stands g.sum (slice_get_within t.flat.connections g.place g.item g.here)
   where
-    here : (k i : ℕ) → slice_get (part series.Ntfn k (OfConnection k) (NotificationOf k) ∷ []) i ≡ Some p → j ≡ before notification t.flat.connections k + i → k < length t.flat.connections
+    here : (k i : ℕ) → slice_get (part series.Ntfn k (OfConnection k) (NotificationOf k) ∷ []) i ≡ Some p
+        → j ≡ before notification t.flat.connections k + i → k < length t.flat.connections
         → OfConnections (notifications t) series.Ntfn (length t.flat.connections) (before notification t.flat.connections) j p
     here k i h a l =
         let s = single (part series.Ntfn k (OfConnection k) (NotificationOf k)) p i h in
         let z = s.0 in
         let n : k ≡ p.number = ap (λ (q : Part). q.number) s.1 in
         let at : j ≡ before notification t.flat.connections k = omega (arith, a, z) in
-        record { series = ap (λ (q : Part). q.series) s.1; number = omega (arith, l, n); place = at ∙ ap (before notification t.flat.connections) n }
+        record {
+          series = ap (λ (q : Part). q.series) s.1;
+          number = omega (arith, l, n);
+          place = at ∙ ap (before notification t.flat.connections) n;
+        }
 
-    by_kind : (c : Connector) (k i : ℕ) → slice_get (notification_by k c) i ≡ Some p → j ≡ before notification t.flat.connections k + i → k < length t.flat.connections
+    by_kind : (c : Connector) (k i : ℕ) → slice_get (notification_by k c) i ≡ Some p
+        → j ≡ before notification t.flat.connections k + i → k < length t.flat.connections
         → OfConnections (notifications t) series.Ntfn (length t.flat.connections) (before notification t.flat.connections) j p
     by_kind Notification k i h a l = here k i h a l
     by_kind Interrupt k i h a l = here k i h a l
@@ -103,7 +120,8 @@ notification_at t j p e =
     by_kind Mmio k i h a l = cc
     by_kind Direct k i h a l = cc
 
-told_connections : (s : List Part) (name : Series) (count : ℕ) (sum : ℕ → ℕ) (bound : ℕ) → count ≤ bound → ((j : ℕ) (p : Part) → slice_get s j ≡ Some p → OfConnections s name count sum j p) → Told s rank (rank name) bound
+told_connections : (s : List Part) (name : Series) (count : ℕ) (sum : ℕ → ℕ) (bound : ℕ) → count ≤ bound
+    → ((j : ℕ) (p : Part) → slice_get s j ≡ Some p → OfConnections s name count sum j p) → Told s rank (rank name) bound
 told_connections s name count sum bound few at = record {
   series = λ j p e. ap rank (sym (at j p e).series);
   number = λ j p e. let l = (at j p e).number in omega (arith, l, few);
@@ -132,7 +150,8 @@ table_rank Directory = refl
 table_rank Table = refl
 
 -- behind one that passes there are more that do
-count_rises : {X : Type 0} (test : X → Bool) (xs : List X) (i j : ℕ) (x : X) → slice_get xs i ≡ Some x → test x ≡ true → i < j → count_by test (take i xs) < count_by test (take j xs)
+count_rises : {X : Type 0} (test : X → Bool) (xs : List X) (i j : ℕ) (x : X) → slice_get xs i ≡ Some x → test x ≡ true → i < j
+    → count_by test (take i xs) < count_by test (take j xs)
 count_rises test [] i j x e p l = cc
 count_rises test (y ∷ xs) i zero x e p l = absurd (omega (arith, l))
 count_rises {X} test (y ∷ xs) zero (suc j) x e p l =
@@ -155,11 +174,13 @@ told_tables all bound few = record {
   number = λ j p e. let o = at j p e in number o.0 j p o.1 (ap (λ (z : Part). z.number) o.2);
   place = λ i j p q e f s n. let o = at i p e in let w = at j q f in
       place o.0 w.0 i j o.1 w.1
-      (sym (unfold_back o.0.level) ∙ ap level_back (ap (λ (z : Part). z.series) o.2 ∙ s ∙ sym (ap (λ (z : Part). z.series) w.2)) ∙ unfold_back w.0.level)
+      (sym (unfold_back o.0.level) ∙ ap level_back (ap (λ (z : Part). z.series) o.2 ∙ s ∙ sym (ap (λ (z : Part). z.series) w.2))
+      ∙ unfold_back w.0.level)
       (ap (λ (z : Part). z.number) o.2 ∙ n ∙ sym (ap (λ (z : Part). z.number) w.2));
 }
   where
-    at : (j : ℕ) (p : Part) → slice_get (table_parts all) j ≡ Some p → (x : PageTable) × (slice_get all j ≡ Some x) × (table_part all j x ≡ p)
+    at : (j : ℕ) (p : Part) → slice_get (table_parts all) j ≡ Some p → (x : PageTable) × (slice_get all j ≡ Some x)
+        × (table_part all j x ≡ p)
     at j p e = from_ones (λ n (x : PageTable). table_part all n x) all j p e
 
     number : (x : PageTable) (j : ℕ) (p : Part) → slice_get all j ≡ Some x → of_level x.level all j ≡ p.number → p.number < bound
@@ -169,13 +190,15 @@ told_tables all bound few = record {
         let k = length-take-le j all (omega (arith, l)) in
         omega (arith, l, c, k, n, few)
 
-    place : (x y : PageTable) (i j : ℕ) → slice_get all i ≡ Some x → slice_get all j ≡ Some y → level_number x.level ≡ level_number y.level → of_level x.level all i ≡ of_level y.level all j → i ≡ j
+    place : (x y : PageTable) (i j : ℕ) → slice_get all i ≡ Some x → slice_get all j ≡ Some y
+        → level_number x.level ≡ level_number y.level → of_level x.level all i ≡ of_level y.level all j → i ≡ j
     place x y i j e f level n =
         let test : ℕ → PageTable → Bool = λ k z. level_number z.level == k in
         let k = level_number x.level in
         let here : test k x ≡ true = eq-eqb (level_number x.level) k refl in
         let there : test k y ≡ true = eq-eqb (level_number y.level) k (sym level) in
-        let same : count_by (test k) (take i all) ≡ count_by (test k) (take j all) = n ∙ ap (λ m. count_by (test m) (take j all)) (sym level) in
+        let same : count_by (test k) (take i all) ≡ count_by (test k) (take j all) = n ∙ ap (λ m. count_by (test m) (take j all))
+        (sym level) in
         elim (cases_order i j) [
           | inl s ↦ s
           | inr (inl less) ↦ let c = count_rises (test k) all i j x e here less in absurd (omega (arith, c, same))
@@ -185,7 +208,8 @@ told_tables all bound few = record {
 -- ---- all sections
 
 -- a section is no longer than all of them
-section_within : {X : Type 0} (ss : List (List X)) (n : ℕ) (s : List X) → slice_get ss n ≡ Some s → length s ≤ length (flat_map (λ z. z) ss)
+section_within : {X : Type 0} (ss : List (List X)) (n : ℕ) (s : List X) → slice_get ss n ≡ Some s
+    → length s ≤ length (flat_map (λ z. z) ss)
 section_within [] n s e = cc
 section_within {X} (r ∷ ss) zero s e =
     let same : r ≡ s = cc in
@@ -197,7 +221,8 @@ section_within (r ∷ ss) (suc n) s e =
     let long = length_append r (flat_map (λ z. z) ss) in
     omega (arith, ih, long)
 
-few_owned : (t : Tables) (n : ℕ) (s : Series) (xs : List Owned) → length (parts t) < 2 ^ 32 → slice_get (sections t) n ≡ Some (numbered s xs) → length xs ≤ 2 ^ 32
+few_owned : (t : Tables) (n : ℕ) (s : Series) (xs : List Owned) → length (parts t) < 2 ^ 32
+    → slice_get (sections t) n ≡ Some (numbered s xs) → length xs ≤ 2 ^ 32
 few_owned t n s xs few e =
     let l = section_within (sections t) n (numbered s xs) e in
     let m : length (numbered s xs) ≡ length xs = gather_ones (λ k (x : Owned). part s k x.owner x.what) xs in
@@ -206,21 +231,35 @@ few_owned t n s xs few e =
 few_tables : (t : Tables) → length (parts t) < 2 ^ 32 → length (all_tables t) ≤ 2 ^ 32
 few_tables t few =
     let l = section_within (sections t) 6 (table_parts (all_tables t)) refl in
-    let m : length (table_parts (all_tables t)) ≡ length (all_tables t) = gather_ones (λ k (x : PageTable). table_part (all_tables t) k x) (all_tables t) in
+    let m : length (table_parts (all_tables t)) ≡ length (all_tables t) =
+    gather_ones (λ k (x : PageTable). table_part (all_tables t) k x) (all_tables t) in
     omega (arith, few, l, m)
 
 abbrev Tells : ℕ → List Part → Type 0
 Tells n s = Told s rank n (2 ^ 32)
 
-pub told : (t : Tables) → length t.flat.connections < 2 ^ 32 → length (parts t) < 2 ^ 32 → (n : ℕ) (s : List Part) → slice_get (sections t) n ≡ Some s → Tells n s
-told t few all zero s e = subst (Tells 0) (same_Some _ _ e) (told_numbered series.CNode (cnodes t.flat.domains) (2 ^ 32) (few_owned t 0 series.CNode (cnodes t.flat.domains) all refl))
-told t few all (suc zero) s e = subst (Tells 1) (same_Some _ _ e) (told_numbered series.Tcb (tcbs t) (2 ^ 32) (few_owned t 1 series.Tcb (tcbs t) all refl))
-told t few all (suc (suc zero)) s e = subst (Tells 2) (same_Some _ _ e) (told_connections (endpoints t) series.Ep (length t.flat.connections) (before endpoint t.flat.connections) (2 ^ 32) (omega (arith, few)) (endpoint_at t))
-told t few all (suc (suc (suc zero))) s e = subst (Tells 3) (same_Some _ _ e) (told_connections (notifications t) series.Ntfn (length t.flat.connections) (before notification t.flat.connections) (2 ^ 32) (omega (arith, few)) (notification_at t))
-told t few all (suc (suc (suc (suc zero)))) s e = subst (Tells 4) (same_Some _ _ e) (told_numbered series.Lock (locks t) (2 ^ 32) (few_owned t 4 series.Lock (locks t) all refl))
-told t few all (suc (suc (suc (suc (suc zero))))) s e = subst (Tells 5) (same_Some _ _ e) (told_numbered series.Irq (irqs t) (2 ^ 32) (few_owned t 5 series.Irq (irqs t) all refl))
-told t few all (suc (suc (suc (suc (suc (suc zero)))))) s e = subst (Tells 6) (same_Some _ _ e) (told_tables (all_tables t) (2 ^ 32) (few_tables t all))
-told t few all (suc (suc (suc (suc (suc (suc (suc zero))))))) s e = subst (Tells 7) (same_Some _ _ e) (told_numbered series.Frame (frame_parts t.spaces.frames) (2 ^ 32) (few_owned t 7 series.Frame (frame_parts t.spaces.frames) all refl))
+pub told : (t : Tables) → length t.flat.connections < 2 ^ 32 → length (parts t) < 2 ^ 32 → (n : ℕ) (s : List Part)
+    → slice_get (sections t) n ≡ Some s → Tells n s
+told t few all zero s e = subst (Tells 0) (same_Some _ _ e) (told_numbered series.CNode (cnodes t.flat.domains) (2 ^ 32)
+    (few_owned t 0 series.CNode (cnodes t.flat.domains) all refl))
+told t few all (suc zero) s e =
+    subst (Tells 1) (same_Some _ _ e) (told_numbered series.Tcb (tcbs t) (2 ^ 32) (few_owned t 1 series.Tcb (tcbs t) all refl))
+told t few all (suc (suc zero)) s e =
+    subst (Tells 2) (same_Some _ _ e) (told_connections (endpoints t) series.Ep (length t.flat.connections)
+    (before endpoint t.flat.connections) (2 ^ 32) (omega (arith, few)) (endpoint_at t))
+told t few all (suc (suc (suc zero))) s e =
+    subst (Tells 3) (same_Some _ _ e) (told_connections (notifications t) series.Ntfn (length t.flat.connections)
+    (before notification t.flat.connections) (2 ^ 32) (omega (arith, few)) (notification_at t))
+told t few all (suc (suc (suc (suc zero)))) s e =
+    subst (Tells 4) (same_Some _ _ e) (told_numbered series.Lock (locks t) (2 ^ 32)
+    (few_owned t 4 series.Lock (locks t) all refl))
+told t few all (suc (suc (suc (suc (suc zero))))) s e =
+    subst (Tells 5) (same_Some _ _ e) (told_numbered series.Irq (irqs t) (2 ^ 32) (few_owned t 5 series.Irq (irqs t) all refl))
+told t few all (suc (suc (suc (suc (suc (suc zero)))))) s e =
+    subst (Tells 6) (same_Some _ _ e) (told_tables (all_tables t) (2 ^ 32) (few_tables t all))
+told t few all (suc (suc (suc (suc (suc (suc (suc zero))))))) s e =
+    subst (Tells 7) (same_Some _ _ e) (told_numbered series.Frame (frame_parts t.spaces.frames) (2 ^ 32)
+    (few_owned t 7 series.Frame (frame_parts t.spaces.frames) all refl))
 told t few all (suc (suc (suc (suc (suc (suc (suc (suc n)))))))) s e = cc
 
 -- what stands at place m of all stands in a section, behind those before it
@@ -232,7 +271,8 @@ pub record InSection {X : Type 0} (ss : List (List X)) (m : ℕ) (y : X) : Type 
   pub stands : slice_get list place ≡ Some y
   pub sum : m ≡ length (flat_map (λ z. z) (take section ss)) + place
 
-pub in_section : {X : Type 0} (ss : List (List X)) (m : ℕ) (y : X) → slice_get (flat_map (λ z. z) ss) m ≡ Some y → InSection ss m y
+pub in_section : {X : Type 0} (ss : List (List X)) (m : ℕ) (y : X) → slice_get (flat_map (λ z. z) ss) m ≡ Some y
+    → InSection ss m y
 in_section [] m y e = cc
 in_section {X} (r ∷ ss) m y e = elim (split_get r (flat_map (λ z. z) ss) m y e) [
   | inl h ↦ record { section = 0; list = r; place = m; is = refl; stands = h; sum = omega arith }
@@ -241,5 +281,12 @@ in_section {X} (r ∷ ss) m y e = elim (split_get r (flat_map (λ z. z) ss) m y 
       let long = length_append r (flat_map (λ z. z) (take k.section ss)) in
       let p = h.1 in
       let q = k.sum in
-      record { section = suc k.section; list = k.list; place = k.place; is = k.is; stands = k.stands; sum = omega (arith, long, p, q) }
+      record {
+        section = suc k.section;
+        list = k.list;
+        place = k.place;
+        is = k.is;
+        stands = k.stands;
+        sum = omega (arith, long, p, q);
+      }
 ]

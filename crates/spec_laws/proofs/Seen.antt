@@ -45,7 +45,8 @@ either : (s : Shown) → is_own s + is_seen s ≡ 1
 either (Own fill) = refl
 either (Memory k j) = refl
 
-all_pages : (ps : List MappedPage) → total (λ (p : MappedPage). is_own p.shown) ps + total (λ (p : MappedPage). is_seen p.shown) ps ≡ length ps
+all_pages : (ps : List MappedPage) → total (λ (p : MappedPage). is_own p.shown) ps + total (λ (p : MappedPage). is_seen p.shown)
+    ps ≡ length ps
 all_pages [] = refl
 all_pages (p ∷ ps) = let e = either p.shown in let ih = all_pages ps in omega (arith, e, ih)
 
@@ -61,7 +62,8 @@ window_size Stack n = 0
 window_size Buffer n = 0
 window_size (Window e) n = n
 
-region_seen : (settled : Settled) (start : ℕ) (r : Region) (c : Content) → r.content ≡ c → window_size c r.pages ≤ total (λ (p : MappedPage). is_seen p.shown) (pages_from settled start r)
+region_seen : (settled : Settled) (start : ℕ) (r : Region) (c : Content) → r.content ≡ c
+    → window_size c r.pages ≤ total (λ (p : MappedPage). is_seen p.shown) (pages_from settled start r)
 region_seen settled start r Stack e = omega arith
 region_seen settled start r Buffer e = omega arith
 region_seen settled start r (Window w) e =
@@ -75,23 +77,31 @@ region_seen settled start r (Window w) e =
     one p i =
         let m = from_map (page_of settled start r) p (range_with_len 0 r.pages) i in
         let s : is_seen (region_page settled (Window w) (start + 4096 * m.0) m.0).shown ≡ is_seen p.shown =
-        ap (λ c. is_seen (region_page settled c (start + 4096 * m.0) m.0).shown) (sym e) ∙ ap (λ (z : MappedPage). is_seen z.shown) m.2 in
+        ap (λ c. is_seen (region_page settled c (start + 4096 * m.0) m.0).shown) (sym e)
+        ∙ ap (λ (z : MappedPage). is_seen z.shown) m.2 in
         omega (arith, s)
 
 -- ---- one hit at most
 
-none_hit : {X : Type 0} (w n : ℕ) (f : ℕ → ℕ) (xs : List X) → ((k : ℕ) → n ≡ f k → ⊥) → totals (λ k (x : X). cond (n == f k) w 0) xs ≤ 0
+none_hit : {X : Type 0} (w n : ℕ) (f : ℕ → ℕ) (xs : List X) → ((k : ℕ) → n ≡ f k → ⊥)
+    → totals (λ k (x : X). cond (n == f k) w 0) xs ≤ 0
 none_hit w n f xs h =
-    let a = totals_each (λ k x. cond (n == f k) w 0) 0 xs (λ k x e. let z : cond (n == f k) w 0 ≡ 0 = ap (λ b. cond b w 0) (false_from_ne_true (n == f k) (λ t. h k (eqb-true n (f k) t))) in omega (arith, z)) in
+    let a = totals_each (λ k x. cond (n == f k) w 0) 0 xs (λ k x e. let z : cond (n == f k) w 0 ≡ 0 = ap (λ b. cond b w 0)
+    (false_from_ne_true (n == f k) (λ t. h k (eqb-true n (f k) t))) in omega (arith, z)) in
     omega (arith, a)
 
-once_hit : {X : Type 0} (w n : ℕ) (f : ℕ → ℕ) (xs : List X) → ((j k : ℕ) → f j ≡ f k → j ≡ k) → totals (λ k (x : X). cond (n == f k) w 0) xs ≤ w
+once_hit : {X : Type 0} (w n : ℕ) (f : ℕ → ℕ) (xs : List X) → ((j k : ℕ) → f j ≡ f k → j ≡ k)
+    → totals (λ k (x : X). cond (n == f k) w 0) xs ≤ w
 once_hit w n f [] h = omega arith
-once_hit {X} w n f (x ∷ xs) h = by_test (n == f 0) refl (once_hit w n (λ k. f (suc k)) xs (λ j k e. let s : suc j ≡ suc k = h (suc j) (suc k) e in omega (arith, s)))
+once_hit {X} w n f (x ∷ xs) h =
+    by_test (n == f 0) refl (once_hit w n (λ k. f (suc k)) xs (λ j k e. let s : suc j ≡ suc k = h (suc j) (suc k) e in
+    omega (arith, s)))
   where
-    by_test : (b : Bool) → (n == f 0) ≡ b → totals (λ k (y : X). cond (n == f (suc k)) w 0) xs ≤ w → cond b w 0 + totals (λ k (y : X). cond (n == f (suc k)) w 0) xs ≤ w
+    by_test : (b : Bool) → (n == f 0) ≡ b → totals (λ k (y : X). cond (n == f (suc k)) w 0) xs ≤ w
+        → cond b w 0 + totals (λ k (y : X). cond (n == f (suc k)) w 0) xs ≤ w
     by_test true e more =
-        let none = none_hit w n (λ k. f (suc k)) xs (λ k s. let z : 0 ≡ suc k = h 0 (suc k) (sym (eqb-true n (f 0) e) ∙ s) in absurd (omega (arith, z))) in
+        let none = none_hit w n (λ k. f (suc k)) xs (λ k s. let z : 0 ≡ suc k = h 0 (suc k) (sym (eqb-true n (f 0) e) ∙ s) in
+        absurd (omega (arith, z))) in
         omega (arith, none)
     by_test false e more = omega (arith, more)
 
@@ -110,10 +120,12 @@ module _ (g : Given) where
       let threads = flat_map (thread_regions g.settled) (threads_of g d) in
       let a = total_append seen (section_part g.images (leaves_of g.flat d)) (region_part g.settled (base g) rs) in
       let b = total_gather seen (pages_of_region g.settled (base g) rs) rs in
-      let c = totals_most (λ n (r : Region). size r) (λ n r. total seen (pages_of_region g.settled (base g) rs n r)) rs (λ n r e. region_seen g.settled (region_start (base g) rs n) r r.content refl) in
+      let c = totals_most (λ n (r : Region). size r) (λ n r. total seen (pages_of_region g.settled (base g) rs n r)) rs
+      (λ n r e. region_seen g.settled (region_start (base g) rs n) r r.content refl) in
       let d1 = totals_flat size rs in
       let e = total_append size threads (map (window_region g.flat g.settled) (windows_of g d)) in
-      let f : total size (map (window_region g.flat g.settled) (windows_of g d)) ≡ total wide (windows_of g d) = total_map size (window_region g.flat g.settled) (windows_of g d) in
+      let f : total size (map (window_region g.flat g.settled) (windows_of g d)) ≡ total wide (windows_of g d) =
+      total_map size (window_region g.flat g.settled) (windows_of g d) in
       omega (arith, a, b, c, d1, e, f)
 
   abbrev all_windows : List EndAt
@@ -129,14 +141,16 @@ module _ (g : Given) where
       let c = total_gather wide (λ d (x : Domain). windows_of g d) g.flat.domains in
       let d = totals_most (λ d (x : Domain). total wide (windows_of g d)) seen g.flat.domains (λ d x e. domain_seen d) in
       let e = totals_add own seen g.flat.domains in
-      let f = totals_same (λ d (x : Domain). own d x + seen d x) (λ d x. length (mapped_pages g d)) g.flat.domains (λ d x e. all_pages (mapped_pages g d)) in
+      let f = totals_same (λ d (x : Domain). own d x + seen d x) (λ d x. length (mapped_pages g d)) g.flat.domains
+      (λ d x e. all_pages (mapped_pages g d)) in
       let h = sum_ones (λ d (x : Domain). length (mapped_pages g d)) g.flat.domains in
       omega (arith, a, b, c, d, e, f, h)
     where
       own_is : (d : ℕ) (x : Domain) → length (own_frames g d x) ≡ total (λ (p : MappedPage). is_own p.shown) (mapped_pages g d)
       own_is d x =
           length_gather (λ n (p : MappedPage). own_frame d p.shown) (mapped_pages g d)
-          ∙ totals_same (λ n (p : MappedPage). length (own_frame d p.shown)) (λ n p. is_own p.shown) (mapped_pages g d) (λ n p e. own_length d p.shown)
+          ∙ totals_same (λ n (p : MappedPage). length (own_frame d p.shown)) (λ n p. is_own p.shown) (mapped_pages g d)
+          (λ n p e. own_length d p.shown)
           ∙ totals_flat (λ (p : MappedPage). is_own p.shown) (mapped_pages g d)
 
   -- ---- memory
@@ -148,20 +162,27 @@ module _ (g : Given) where
   abbrev hit : ℕ → EndAt → ℕ
   hit k e = cond (e.connection == k) (wide e) 0
 
-  register_most : (k : ℕ) (c : FlatConnection) (o : Option FlatEnd) → length (option_map_or (frames_at g.flat g.settled k c) o []) ≤ memory_pages g.settled k c
+  register_most : (k : ℕ) (c : FlatConnection) (o : Option FlatEnd)
+      → length (option_map_or (frames_at g.flat g.settled k c) o []) ≤ memory_pages g.settled k c
   register_most k c None = omega arith
   register_most k c (Some f) = by_test (is_first g.flat k f)
     where
-      by_test : (b : Bool) → length (cond b (map (device_frame f.leaf (memory_paddr g.settled k c)) (range_with_len 0 (memory_pages g.settled k c))) []) ≤ memory_pages g.settled k c
-      by_test true = let n = length-map-range_with_len (device_frame f.leaf (memory_paddr g.settled k c)) 0 (memory_pages g.settled k c) in omega (arith, n)
+      by_test : (b : Bool)
+          → length
+          (cond b (map (device_frame f.leaf (memory_paddr g.settled k c)) (range_with_len 0 (memory_pages g.settled k c))) [])
+          ≤ memory_pages g.settled k c
+      by_test true = let n = length-map-range_with_len (device_frame f.leaf (memory_paddr g.settled k c)) 0
+          (memory_pages g.settled k c) in omega (arith, n)
       by_test false = omega arith
 
   -- by connector
   abbrev by_connector : ℕ → FlatConnection → Connector → ℕ
-  by_connector k c x = length (cond (is_shared x) (connection_frames k (memory_pages g.settled k c)) []) + length (option_map_or (frames_at g.flat g.settled k c) (registers_in x c.ends) [])
+  by_connector k c x = length (cond (is_shared x) (connection_frames k (memory_pages g.settled k c)) []) + length
+      (option_map_or (frames_at g.flat g.settled k c) (registers_in x c.ends) [])
 
   -- a connection has frames only where it has memory
-  frames_most : (k : ℕ) (c : FlatConnection) (n : ℕ) (x : Connector) → (HasMemory x → memory_pages g.settled k c ≤ n) → by_connector k c x ≤ n
+  frames_most : (k : ℕ) (c : FlatConnection) (n : ℕ) (x : Connector) → (HasMemory x → memory_pages g.settled k c ≤ n)
+      → by_connector k c x ≤ n
   frames_most k c n SharedMemory h =
       let l = length-map-range_with_len (λ j. frame (OfConnection k) None None) 0 (memory_pages g.settled k c) in
       let m = h (inl refl) in
@@ -175,7 +196,8 @@ module _ (g : Given) where
   abbrev through : ℕ → ℕ
   through k = total (hit k) all_windows
 
-  frames_through : (k : ℕ) (c : FlatConnection) → slice_get g.flat.connections k ≡ Some c → (HasMemory c.connector → IsSeen g k) → frames_of k c ≤ through k
+  frames_through : (k : ℕ) (c : FlatConnection) → slice_get g.flat.connections k ≡ Some c → (HasMemory c.connector → IsSeen g k)
+      → frames_of k c ≤ through k
   frames_through k c h seen = frames_most k c (through k) c.connector (λ m. by_window (seen m))
     where
       by_window : IsSeen g k → memory_pages g.settled k c ≤ through k
@@ -184,22 +206,28 @@ module _ (g : Given) where
           let i = in_gather (λ d (x : Domain). windows_of g d) e g.flat.domains s.place s.domain s.here s.window in
           let one = total_one (hit k) all_windows e i in
           let here : hit k e ≡ wide e = ap (λ b. cond b (wide e) 0) (eq-eqb e.connection k s.joins) in
-          let size : wide e ≡ memory_pages g.settled k c = ap (λ j. option_map_or (memory_pages g.settled j) (slice_get g.flat.connections j) 0) s.joins ∙ ap (λ o. option_map_or (memory_pages g.settled k) o 0) h in
+          let size : wide e ≡ memory_pages g.settled k c =
+          ap (λ j. option_map_or (memory_pages g.settled j) (slice_get g.flat.connections j) 0) s.joins
+          ∙ ap (λ o. option_map_or (memory_pages g.settled k) o 0) h in
           omega (arith, one, here, size)
 
-  memory_few : ((k : ℕ) (c : FlatConnection) → slice_get g.flat.connections k ≡ Some c → HasMemory c.connector → IsSeen g k) → length (memory_part g.flat g.settled) ≤ total wide all_windows
+  memory_few : ((k : ℕ) (c : FlatConnection) → slice_get g.flat.connections k ≡ Some c → HasMemory c.connector → IsSeen g k)
+      → length (memory_part g.flat g.settled) ≤ total wide all_windows
   memory_few seen =
       let cs = g.flat.connections in
       let a = length_append (shared_part g.flat g.settled) (register_part g.flat g.settled) in
       let b = length_gather (shared_frames g.settled) cs in
       let c = length_gather (register_frames g.flat g.settled) cs in
-      let d = totals_add (λ k (c : FlatConnection). length (shared_frames g.settled k c)) (λ k c. length (register_frames g.flat g.settled k c)) cs in
+      let d = totals_add (λ k (c : FlatConnection). length (shared_frames g.settled k c))
+      (λ k c. length (register_frames g.flat g.settled k c)) cs in
       let e = totals_most frames_of (λ k c. through k) cs (λ k c h. frames_through k c h (seen k c h)) in
       let f = totals_swap (λ k (c : FlatConnection) (x : EndAt). hit k x) cs all_windows in
-      let m = total_most (λ x. totals (λ k (c : FlatConnection). hit k x) cs) wide all_windows (λ x i. once_hit (wide x) x.connection (λ k. k) cs (λ j k e. e)) in
+      let m = total_most (λ x. totals (λ k (c : FlatConnection). hit k x) cs) wide all_windows
+      (λ x i. once_hit (wide x) x.connection (λ k. k) cs (λ j k e. e)) in
       omega (arith, a, b, c, d, e, f, m)
 
-  pub frames_few : ((k : ℕ) (c : FlatConnection) → slice_get g.flat.connections k ≡ Some c → HasMemory c.connector → IsSeen g k) → length (frames g) ≤ sum (page_counts g)
+  pub frames_few : ((k : ℕ) (c : FlatConnection) → slice_get g.flat.connections k ≡ Some c → HasMemory c.connector → IsSeen g k)
+      → length (frames g) ≤ sum (page_counts g)
   frames_few seen =
       let a = length_append (own_part g) (memory_part g.flat g.settled) in
       let b = memory_few seen in

@@ -50,7 +50,8 @@ window_from c (inl is) = ap (λ z. is_window z From) is
 window_from c (inr is) = ap (λ z. is_window z From) is
 
 -- a leaf of software has a domain
-pub has_domain : (s : Source) (l : ℕ) (leaf : Leaf) → slice_get (flat_of s).leaves l ≡ Some leaf → leaf.hardware ≡ false → (d : ℕ) × (leaf.domain ≡ Some d)
+pub has_domain : (s : Source) (l : ℕ) (leaf : Leaf) → slice_get (flat_of s).leaves l ≡ Some leaf → leaf.hardware ≡ false
+    → (d : ℕ) × (leaf.domain ≡ Some d)
 has_domain s l leaf at soft =
     let h = hierarchy_of s in
     let x = from_get_map (leaf_of h) (leaves h) l leaf at in
@@ -60,20 +61,28 @@ has_domain s l leaf at soft =
 
 -- ---- it stands among the ends of its leaf, and its window among those of the domain
 
-end_listed : (s : Source) (k n : ℕ) (c : FlatConnection) (e : FlatEnd) (leaf : Leaf) (m : Member) → slice_get (flat_of s).connections k ≡ Some c → slice_get c.ends n ≡ Some e → slice_get (flat_of s).leaves e.leaf ≡ Some leaf
-    → slice_get (members_at s leaf.component) e.member ≡ Some m → IsIn (record { connection = k; end = n }) (ends_at (ends_of s (flat_of s)) e.leaf)
+end_listed : (s : Source) (k n : ℕ) (c : FlatConnection) (e : FlatEnd) (leaf : Leaf) (m : Member)
+    → slice_get (flat_of s).connections k ≡ Some c → slice_get c.ends n ≡ Some e → slice_get (flat_of s).leaves e.leaf ≡ Some leaf
+    → slice_get (members_at s leaf.component) e.member ≡ Some m
+    → IsIn (record { connection = k; end = n }) (ends_at (ends_of s (flat_of s)) e.leaf)
 end_listed s k n c e leaf m at is here there =
     let cs = (flat_of s).connections in
     let x : EndAt = record { connection = k; end = n } in
-    let joined : joins e.leaf e.member e ≡ true = and_from (e.leaf == e.leaf) (e.member == e.member) (eq-eqb e.leaf e.leaf refl) (eq-eqb e.member e.member refl) in
+    let joined : joins e.leaf e.member e ≡ true = and_from (e.leaf == e.leaf) (e.member == e.member) (eq-eqb e.leaf e.leaf refl)
+    (eq-eqb e.member e.member refl) in
     let first : IsIn x (end_here e.leaf e.member k n e) = subst (λ b. IsIn x (cond b (x ∷ []) [])) (sym joined) (inl refl) in
-    let inner : IsIn x (gather (λ i f. end_here e.leaf e.member k i f) c.ends) = in_gather (λ i f. end_here e.leaf e.member k i f) x c.ends n e is first in
-    let member : IsIn x (member_ends cs e.leaf e.member) = in_gather (λ j (d : FlatConnection). gather (λ i f. end_here e.leaf e.member j i f) d.ends) x cs k c at inner in
-    let all : IsIn x (leaf_ends cs e.leaf (members_at s leaf.component)) = in_gather (λ i (z : Member). member_ends cs e.leaf i) x (members_at s leaf.component) e.member m there member in
-    let stands : slice_get (ends_of s (flat_of s)) e.leaf ≡ Some (leaf_ends cs e.leaf (members_at s leaf.component)) = get_ones (λ l (z : Leaf). leaf_ends cs l (members_at s z.component)) (flat_of s).leaves e.leaf leaf here in
+    let inner : IsIn x (gather (λ i f. end_here e.leaf e.member k i f) c.ends) = in_gather (λ i f. end_here e.leaf e.member k i f)
+    x c.ends n e is first in
+    let member : IsIn x (member_ends cs e.leaf e.member) =
+    in_gather (λ j (d : FlatConnection). gather (λ i f. end_here e.leaf e.member j i f) d.ends) x cs k c at inner in
+    let all : IsIn x (leaf_ends cs e.leaf (members_at s leaf.component)) = in_gather (λ i (z : Member). member_ends cs e.leaf i) x
+    (members_at s leaf.component) e.member m there member in
+    let stands : slice_get (ends_of s (flat_of s)) e.leaf ≡ Some (leaf_ends cs e.leaf (members_at s leaf.component)) =
+    get_ones (λ l (z : Leaf). leaf_ends cs l (members_at s z.component)) (flat_of s).leaves e.leaf leaf here in
     subst (λ o. IsIn x (ends_in o)) (sym stands) all
 
-pub memory_seen : (s : Source) (images : Images) → AreNamesSound s → AreDotted (hierarchy_of s) → first_type_fault s ≡ None → (k : ℕ) (c : FlatConnection) → slice_get (flat_of s).connections k ≡ Some c → HasMemory c.connector
+pub memory_seen : (s : Source) (images : Images) → AreNamesSound s → AreDotted (hierarchy_of s) → first_type_fault s ≡ None
+    → (k : ℕ) (c : FlatConnection) → slice_get (flat_of s).connections k ≡ Some c → HasMemory c.connector
     → IsSeen (given s (flat_of s) (settled_of s) images) k
 memory_seen s images sound dotted none k c at t =
     let g = given s (flat_of s) (settled_of s) images in
@@ -89,12 +98,15 @@ memory_seen s images sound dotted none k c at t =
     let x : EndAt = record { connection = k; end = f.0 } in
     let sees : sees_memory g.flat x ≡ true =
     ap (λ o. option_map_or (λ (z : Connector × FlatEnd). is_window z.0 z.1.role) (option_and_then (end_in f.0) o) false) at
-    ∙ ap (λ o. option_map_or (λ (z : Connector × FlatEnd). is_window z.0 z.1.role) (option_map (λ (i : FlatEnd). (c.connector, i)) o) false) f.2
+    ∙ ap (λ o. option_map_or (λ (z : Connector × FlatEnd). is_window z.0 z.1.role) (option_map (λ (i : FlatEnd). (c.connector, i))
+    o) false) f.2
     ∙ ap (λ r. is_window c.connector r) f.3
     ∙ window_from c.connector t in
     let window : IsIn x (end_window g.flat x) = subst (λ b. IsIn x (cond b (x ∷ []) [])) (sym sees) (inl refl) in
-    let among : IsIn x (leaf_windows g.flat (ends g) e.leaf) = in_flat_map (end_window g.flat) x x (ends_at (ends g) e.leaf) (end_listed s k f.0 c e y.leaf (members.Interface y.interface) at f.2 y.here y.joined) window in
-    let inside : IsIn e.leaf (leaves_of g.flat d.0) = subst (λ o. IsIn e.leaf (option_map_or (λ (z : Domain). z.leaves) o [])) (sym home.1) home.2 in
+    let among : IsIn x (leaf_windows g.flat (ends g) e.leaf) = in_flat_map (end_window g.flat) x x (ends_at (ends g) e.leaf)
+    (end_listed s k f.0 c e y.leaf (members.Interface y.interface) at f.2 y.here y.joined) window in
+    let inside : IsIn e.leaf (leaves_of g.flat d.0) = subst (λ o. IsIn e.leaf (option_map_or (λ (z : Domain). z.leaves) o []))
+    (sym home.1) home.2 in
     record {
       place = d.0;
       domain = home.0;

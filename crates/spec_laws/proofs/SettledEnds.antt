@@ -29,10 +29,12 @@ use Rattle.cspace_layout.specs.Lookups.{setting_of}
 use Rattle.cspace_layout.specs.Members.{members_at}
 
 -- each settled setting is that of some end
-pub setting_from : (s : Source) (k n : ℕ) (e : EndSetting) → setting_of (settled_of s) k n ≡ Some e → (f : Found) × (end_setting f ≡ e)
+pub setting_from : (s : Source) (k n : ℕ) (e : EndSetting) → setting_of (settled_of s) k n ≡ Some e
+    → (f : Found) × (end_setting f ≡ e)
 setting_from s k n e at = by_connection (slice_get (settled_of s).connections k) refl at
   where
-    by_connection : (o : Option EndSettings) → slice_get (settled_of s).connections k ≡ o → option_and_then (λ z. slice_get z.ends n) o ≡ Some e → (f : Found) × (end_setting f ≡ e)
+    by_connection : (o : Option EndSettings) → slice_get (settled_of s).connections k ≡ o
+        → option_and_then (λ z. slice_get z.ends n) o ≡ Some e → (f : Found) × (end_setting f ≡ e)
     by_connection None is at = cc
     by_connection (Some z) is at =
         let x = from_get_map end_settings (founds_in (hierarchy_of s) s (flat_of s)) k z is in
@@ -52,14 +54,24 @@ pub record IsEndFound (s : Source) (k n : ℕ) (c : FlatConnection) (e : FlatEnd
   pub among : IsIn found (found_on (hierarchy_of s) s (flat_of s) c)
   pub good : bad_at_end found ≡ []
   pub present : missing_at found ≡ []
-  pub kind : is_kind_of (end_rule c.connector e.role) (record { interface = found.joint.interface; hardware = found.joint.leaf.hardware }) ≡ true
+  pub kind : is_kind_of (end_rule c.connector e.role) (record {
+    interface = found.joint.interface;
+    hardware = found.joint.leaf.hardware;
+  }) ≡ true
 
-pub end_found : (s : Source) → AreTyped s (flat_of s) → AreSettingsSound s → (k n : ℕ) (c : FlatConnection) (e : FlatEnd) → slice_get (flat_of s).connections k ≡ Some c → slice_get c.ends n ≡ Some e → IsEndFound s k n c e
+pub end_found : (s : Source) → AreTyped s (flat_of s) → AreSettingsSound s → (k n : ℕ) (c : FlatConnection) (e : FlatEnd)
+    → slice_get (flat_of s).connections k ≡ Some c → slice_get c.ends n ≡ Some e → IsEndFound s k n c e
 end_found s typed sound k n c e at is =
     let h = hierarchy_of s in
     let there = found_there s typed k n c e at is in
     let f = there.2 in
-    let joint : Joint = record { connection = c; position = there.0; end = e; leaf = f.joined.leaf; interface = f.joined.interface } in
+    let joint : Joint = record {
+      connection = c;
+      position = there.0;
+      end = e;
+      leaf = f.joined.leaf;
+      interface = f.joined.interface;
+    } in
     let es = found_on h s (flat_of s) c in
     let fs = founds_in h s (flat_of s) in
     let listed : slice_get es n ≡ Some (found_at h joint) = there.3 ∙ ap (λ z. Some z) f.at in
@@ -72,7 +84,8 @@ end_found s typed sound k n c e at is =
       leaf = f.joined.here;
       interface = f.joined.joined;
       values = refl;
-      setting = ap (λ o. option_and_then (λ z. slice_get z.ends n) o) (get_map end_settings fs k es all) ∙ get_map end_setting es n (found_at h joint) listed;
+      setting = ap (λ o. option_and_then (λ z. slice_get z.ends n) o) (get_map end_settings fs k es all)
+          ∙ get_map end_setting es n (found_at h joint) listed;
       among = one;
       good = none_in bad_at_end es (found_at h joint) (none_in bad_in_connection fs es sound.allowed (in_get fs k es all)) one;
       present = none_in missing_at es (found_at h joint) (none_in missing_in fs es sound.present (in_get fs k es all)) one;

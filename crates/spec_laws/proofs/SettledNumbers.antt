@@ -34,7 +34,8 @@ use Rattle.system_spec.specs.Tables.{device_place, irq_number}
 use Rattle.spec_laws.proofs.SettledEnds.{setting_from}
 
 within_most : (greatest n : ℕ) → unwrap_or (within 0 greatest n) 0 ≤ greatest
-within_most greatest n = cond_both (nat_le 0 n && nat_le n greatest) (Some n) None (λ z. unwrap_or z 0 ≤ greatest) (λ e. leb-true n greatest (and_parts (nat_le 0 n) (nat_le n greatest) e).1) (λ e. omega arith)
+within_most greatest n = cond_both (nat_le 0 n && nat_le n greatest) (Some n) None (λ z. unwrap_or z 0 ≤ greatest)
+    (λ e. leb-true n greatest (and_parts (nat_le 0 n) (nat_le n greatest) e).1) (λ e. omega arith)
 
 -- ---- priorities
 
@@ -47,7 +48,8 @@ priority_most (Some g) = by_number (number_in g.value.kind)
     by_number (Some n) = within_most 255 n
 
 priority_fits : (f : LeafFound) → (leaf_setting f).priority ≤ 255
-priority_fits f = cond_both f.leaf.hardware 0 (unwrap_or (meant priority_in 254 f.priority) 0) (λ z. z ≤ 255) (λ e. omega arith) (λ e. priority_most f.priority)
+priority_fits f = cond_both f.leaf.hardware 0 (unwrap_or (meant priority_in 254 f.priority) 0) (λ z. z ≤ 255) (λ e. omega arith)
+    (λ e. priority_most f.priority)
 
 pub priorities_fit : (s : Source) (leaf : ℕ) → option_map_or (λ z. z.priority) (slice_get (settled_of s).leaves leaf) 0 ≤ 255
 priorities_fit s leaf = by_setting (slice_get (settled_of s).leaves leaf) refl
@@ -87,11 +89,13 @@ numbers_small s k c = by_place (device_place c.connector c.ends)
 
 kind_most : (v : ValueKind) → unwrap_or (badge_kind v) 0 ≤ 268435455
 kind_most (Number n) = within_most 268435455 n
-kind_most (Text t) = cond_both (is_badge_text t) (within 0 268435455 (digits_value 10 t)) None (λ z. unwrap_or z 0 ≤ 268435455) (λ e. within_most 268435455 (digits_value 10 t)) (λ e. omega arith)
+kind_most (Text t) = cond_both (is_badge_text t) (within 0 268435455 (digits_value 10 t)) None (λ z. unwrap_or z 0 ≤ 268435455)
+    (λ e. within_most 268435455 (digits_value 10 t)) (λ e. omega arith)
 kind_most _ = omega arith
 
 badge_most : (f : Found) → badge_at f ≤ f.joint.position + 268435455
-badge_most f = cond_both (has_badge f.joint) (unwrap_or (badge_of f) 0) 0 (λ z. z ≤ f.joint.position + 268435455) (λ e. by_given f.badge) (λ e. omega arith)
+badge_most f = cond_both (has_badge f.joint) (unwrap_or (badge_of f) 0) 0 (λ z. z ≤ f.joint.position + 268435455)
+    (λ e. by_given f.badge) (λ e. omega arith)
   where
     by_given : (o : Option Given) → unwrap_or (meant badge_in f.joint.position o) 0 ≤ f.joint.position + 268435455
     by_given None = omega arith
@@ -106,7 +110,8 @@ position_most p (e ∷ es) x (inr i) = by_role e.role (position_most (behind p e
     by_role From l = omega (arith, l)
     by_role To l = omega (arith, l)
 
-position_is : (s : Source) (c : FlatConnection) (x : ℕ × FlatEnd) (f : Found) → found_of (hierarchy_of s) s (flat_of s) c x ≡ Some f → f.joint.position ≡ x.0
+position_is : (s : Source) (c : FlatConnection) (x : ℕ × FlatEnd) (f : Found)
+    → found_of (hierarchy_of s) s (flat_of s) c x ≡ Some f → f.joint.position ≡ x.0
 position_is s c x f e =
     let j = map_some (found_at (hierarchy_of s)) (joint_of s (flat_of s) c x) f e in
     ap (λ (z : Found). z.joint.position) (sym j.2) ∙ by_leaf j.0 (slice_get (flat_of s).leaves x.1.leaf) j.1
@@ -114,18 +119,28 @@ position_is s c x f e =
     by_leaf : (j : Joint) (o : Option Leaf) → option_and_then (joint_at s c x) o ≡ Some j → j.position ≡ x.0
     by_leaf j None e = cc
     by_leaf j (Some leaf) e =
-        let i = map_some (λ (i : Interface). let z : Joint = record { connection = c; position = x.0; end = x.1; leaf = leaf; interface = i } in z) (interface_at s leaf x.1.member) j e in
+        let i = map_some (λ (i : Interface). let z : Joint = record {
+          connection = c;
+          position = x.0;
+          end = x.1;
+          leaf = leaf;
+          interface = i;
+        } in z) (interface_at s leaf x.1.member) j e in
         ap (λ (z : Joint). z.position) (sym i.2)
 
-pub badges_small : (s : Source) → ((k : ℕ) (c : FlatConnection) → slice_get (flat_of s).connections k ≡ Some c → length c.ends < 2 ^ 32) → (k n : ℕ) → settled_badge (settled_of s) k n < 2 ^ 64
+pub badges_small : (s : Source) → ((k : ℕ) (c : FlatConnection) → slice_get (flat_of s).connections k ≡ Some c
+    → length c.ends < 2 ^ 32) → (k n : ℕ) → settled_badge (settled_of s) k n < 2 ^ 64
 badges_small s short k n = by_connection (slice_get (settled_of s).connections k) refl
   where
-    by_found : (fs : List Found) (c : FlatConnection) → slice_get (flat_of s).connections k ≡ Some c → found_on (hierarchy_of s) s (flat_of s) c ≡ fs → (o : Option EndSetting) → slice_get (end_settings fs).ends n ≡ o → option_map_or (λ z. z.badge) o 0 < 2 ^ 64
+    by_found : (fs : List Found) (c : FlatConnection) → slice_get (flat_of s).connections k ≡ Some c
+        → found_on (hierarchy_of s) s (flat_of s) c ≡ fs → (o : Option EndSetting) → slice_get (end_settings fs).ends n ≡ o
+        → option_map_or (λ z. z.badge) o 0 < 2 ^ 64
     by_found fs c at are None e = omega arith
     by_found fs c at are (Some x) e =
         let f = from_get_map end_setting fs n x e in
         let P : List Found → Type 0 = λ z. IsIn f.0 z in
-        let y = from_filter_map (found_of (hierarchy_of s) s (flat_of s) c) f.0 (positioned c.ends) (subst P (sym are) (in_get fs n f.0 f.1)) in
+        let y = from_filter_map (found_of (hierarchy_of s) s (flat_of s) c) f.0 (positioned c.ends)
+        (subst P (sym are) (in_get fs n f.0 f.1)) in
         let p = position_is s c y.0 f.0 y.2 in
         let q = position_most 0 c.ends y.0 y.1 in
         let b = badge_most f.0 in
@@ -133,7 +148,8 @@ badges_small s short k n = by_connection (slice_get (settled_of s).connections k
         let l = short k c at in
         omega (arith, p, q, b, is, l)
 
-    by_connection : (o : Option EndSettings) → slice_get (settled_of s).connections k ≡ o → option_map_or (λ z. z.badge) (option_and_then (λ z. slice_get z.ends n) o) 0 < 2 ^ 64
+    by_connection : (o : Option EndSettings) → slice_get (settled_of s).connections k ≡ o
+        → option_map_or (λ z. z.badge) (option_and_then (λ z. slice_get z.ends n) o) 0 < 2 ^ 64
     by_connection None e = omega arith
     by_connection (Some z) e =
         let h = hierarchy_of s in

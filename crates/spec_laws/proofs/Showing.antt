@@ -41,13 +41,15 @@ use Rattle.spec_laws.proofs.SlotLists.{some}
 use Rattle.spec_laws.proofs.Spaces.{cap_is}
 
 -- a region is one of a domain that there is
-pub in_domain : (t : Tables) (d n : ℕ) (r : Region) → slice_get (regions (system t) d) n ≡ Some r → (x : Domain) × (slice_get t.flat.domains d ≡ Some x)
+pub in_domain : (t : Tables) (d n : ℕ) (r : Region) → slice_get (regions (system t) d) n ≡ Some r
+    → (x : Domain) × (slice_get t.flat.domains d ≡ Some x)
 in_domain t d n r e = has_domain t d not_none
   where
     not_none : leaves_of t.flat d ≡ [] → ⊥
     not_none leaves =
         let all = ends (system t) in
-        let none : regions (system t) d ≡ [] = ap (λ ls. regions_in t.flat t.settled (domain_threads t.flat all ls) (domain_windows t.flat all ls)) leaves in
+        let none : regions (system t) d ≡ [] =
+        ap (λ ls. regions_in t.flat t.settled (domain_threads t.flat all ls) (domain_windows t.flat all ls)) leaves in
         let P : List Region → Type 0 = λ z. slice_get z n ≡ Some r in
         let f = subst P none e in
         cc
@@ -55,7 +57,8 @@ in_domain t d n r e = has_domain t d not_none
 -- ---- where the frames of memory stand
 
 abbrev at_port : Flat → ℕ → ℕ → Option ℕ
-at_port flat l m = position (λ (c : FlatConnection). option_map_or (λ (f : FlatEnd). f.leaf == l && f.member == m) (registers c) false) flat.connections
+at_port flat l m = position (λ (c : FlatConnection). option_map_or (λ (f : FlatEnd). f.leaf == l && f.member == m) (registers c)
+    false) flat.connections
 
 pub first_same : (flat : Flat) (e f : FlatEnd) → f.leaf ≡ e.leaf → f.member ≡ e.member → first_to flat f ≡ first_to flat e
 first_same flat e f p q = ap (λ z. at_port flat z f.member) p ∙ ap (λ z. at_port flat e.leaf z) q
@@ -75,33 +78,48 @@ module _ (t : Tables) where
 
   pub data MemoryPlace (k j : ℕ) (c : FlatConnection) : Type 0 where
     at_shared : memory_number (system t) k j ≡ own + before shared_by cs k + j → j < length (shared_by k c) → MemoryPlace k j c
-    at_device : (e : FlatEnd) → registers c ≡ Some e → (f : FirstTo t e) → memory_number (system t) k j ≡ own + (length (shared_part t.flat t.settled) + before registers_by cs f.number) + j → j < length (registers_by f.number f.connection) → MemoryPlace k j c
+    at_device : (e : FlatEnd) → registers c ≡ Some e → (f : FirstTo t e)
+        → memory_number (system t) k j ≡ own + (length (shared_part t.flat t.settled) + before registers_by cs f.number) + j
+        → j < length (registers_by f.number f.connection) → MemoryPlace k j c
 
-  number_at : (k j : ℕ) (c : FlatConnection) → slice_get cs k ≡ Some c → memory_number (system t) k j ≡ own + memory_before t.flat t.settled k c + j
+  number_at : (k j : ℕ) (c : FlatConnection) → slice_get cs k ≡ Some c → memory_number (system t) k j ≡ own + memory_before t.flat
+      t.settled k c + j
   number_at k j c h = ap (λ o. option_map_or (λ (z : FlatConnection). own + memory_before t.flat t.settled k z) o 0 + j) h
 
   shared_long : (k : ℕ) (c : FlatConnection) → c.connector ≡ SharedMemory → length (shared_by k c) ≡ memory_pages t.settled k c
-  shared_long k c m = ap (λ z. length (cond (is_shared z) (connection_frames k (memory_pages t.settled k c)) [])) m ∙ as_long (λ j. frame (OfConnection k) None None) 0 (memory_pages t.settled k c)
+  shared_long k c m = ap (λ z. length (cond (is_shared z) (connection_frames k (memory_pages t.settled k c)) [])) m
+      ∙ as_long (λ j. frame (OfConnection k) None None) 0 (memory_pages t.settled k c)
 
-  registers_long : (e : FlatEnd) (f : FirstTo t e) → length (registers_by f.number f.connection) ≡ memory_pages t.settled f.number f.connection
+  registers_long : (e : FlatEnd) (f : FirstTo t e) → length (registers_by f.number f.connection) ≡ memory_pages t.settled
+      f.number f.connection
   registers_long e f =
-      let list = map (register_frame t.settled f.number f.connection f.end) (range_with_len 0 (memory_pages t.settled f.number f.connection)) in
+      let list = map (register_frame t.settled f.number f.connection f.end)
+      (range_with_len 0 (memory_pages t.settled f.number f.connection)) in
       let first : first_to t.flat f.end ≡ Some f.number = first_same t.flat e f.end f.leaf f.member ∙ f.first in
       ap (λ r. length (option_map_or (frames_at t.flat t.settled f.number f.connection) r [])) f.leads
       ∙ ap (λ o. length (cond (option_map_or (λ m. m == f.number) o false) list [])) first
       ∙ ap (λ b. length (cond b list [])) (eq-eqb f.number f.number refl)
       ∙ as_long (register_frame t.settled f.number f.connection f.end) 0 (memory_pages t.settled f.number f.connection)
 
-  pub memory_at : CanMap t → (k j : ℕ) (c : FlatConnection) → slice_get cs k ≡ Some c → (c.connector ≡ SharedMemory) ⊎ (c.connector ≡ Mmio) → j < memory_pages t.settled k c → MemoryPlace k j c
+  pub memory_at : CanMap t → (k j : ℕ) (c : FlatConnection) → slice_get cs k ≡ Some c → (c.connector ≡ SharedMemory)
+      ⊎ (c.connector ≡ Mmio) → j < memory_pages t.settled k c → MemoryPlace k j c
   memory_at can k j c h (inl m) l =
       let none : registers c ≡ None = ap (λ z. registers_in z c.ends) m in
-      let front : memory_before t.flat t.settled k c ≡ before shared_by cs k = ap (λ r. option_map_or (registers_before t.flat t.settled) r (before shared_by cs k)) none in
+      let front : memory_before t.flat t.settled k c ≡ before shared_by cs k =
+      ap (λ r. option_map_or (registers_before t.flat t.settled) r (before shared_by cs k)) none in
       let long = shared_long k c m in
       at_shared (number_at k j c h ∙ ap (λ z. own + z + j) front) (omega (arith, long, l))
   memory_at can k j c h (inr m) l =
       let r = registers_there t k j c m l in
       let f = first_is t k c r.0 h r.1 in
-      let one : OneDevice c f.connection = record { port = r.0; first = r.1; other = f.end; second = f.leads; leaf = sym f.leaf; member = sym f.member } in
+      let one : OneDevice c f.connection = record {
+        port = r.0;
+        first = r.1;
+        other = f.end;
+        second = f.leads;
+        leaf = sym f.leaf;
+        member = sym f.member;
+      } in
       let pages = can.memory.pages k f.number c f.connection h f.here one in
       let long = registers_long r.0 f in
       let front : memory_before t.flat t.settled k c ≡ length (shared_part t.flat t.settled) + before registers_by cs f.number =
@@ -109,30 +127,39 @@ module _ (t : Tables) where
       ∙ ap (λ o. length (shared_part t.flat t.settled) + option_map_or (before registers_by cs) o 0) f.first in
       at_device r.0 r.1 f (number_at k j c h ∙ ap (λ z. own + z + j) front) (omega (arith, long, pages, l))
 
-  one_memory : (k l i j : ℕ) (c e : FlatConnection) → slice_get cs k ≡ Some c → slice_get cs l ≡ Some e → MemoryPlace k i c → MemoryPlace l j e → memory_number (system t) k i ≡ memory_number (system t) l j → OneMemory k c l e × (i ≡ j)
+  one_memory : (k l i j : ℕ) (c e : FlatConnection) → slice_get cs k ≡ Some c → slice_get cs l ≡ Some e → MemoryPlace k i c
+      → MemoryPlace l j e → memory_number (system t) k i ≡ memory_number (system t) l j → OneMemory k c l e × (i ≡ j)
   one_memory k l i j c e h g (at_shared n a) (at_shared m b) same =
       let u = apart shared_by cs k l i j c e h g a b (omega (arith, n, m, same)) in (inl u.0, u.1)
-  one_memory k l i j c e h g (at_shared n a) (at_device p r f m b) same = let u = inside shared_by cs k c h in absurd (omega (arith, n, a, m, u, same))
-  one_memory k l i j c e h g (at_device p r f n a) (at_shared m b) same = let u = inside shared_by cs l e g in absurd (omega (arith, n, m, b, u, same))
+  one_memory k l i j c e h g (at_shared n a) (at_device p r f m b) same = let u = inside shared_by cs k c h in
+      absurd (omega (arith, n, a, m, u, same))
+  one_memory k l i j c e h g (at_device p r f n a) (at_shared m b) same = let u = inside shared_by cs l e g in
+      absurd (omega (arith, n, m, b, u, same))
   one_memory k l i j c e h g (at_device p r f n a) (at_device q v w m b) same =
-      let u = apart registers_by cs f.number w.number i j f.connection w.connection f.here w.here a b (omega (arith, n, m, same)) in
+      let u = apart registers_by cs f.number w.number i j f.connection w.connection f.here w.here a b
+      (omega (arith, n, m, same)) in
       let P : ℕ → Type 0 = λ z. slice_get cs z ≡ Some f.connection in
-      let conn : f.connection ≡ w.connection = some (slice_get cs w.number) f.connection w.connection (subst P u.0 f.here) w.here in
+      let conn : f.connection ≡ w.connection = some (slice_get cs w.number) f.connection w.connection
+      (subst P u.0 f.here) w.here in
       let end : f.end ≡ w.end = some (registers w.connection) f.end w.end (ap registers (sym conn) ∙ f.leads) w.leads in
       let leaf : p.leaf ≡ q.leaf = sym f.leaf ∙ ap (λ (z : FlatEnd). z.leaf) end ∙ w.leaf in
       let member : p.member ≡ q.member = sym f.member ∙ ap (λ (z : FlatEnd). z.member) end ∙ w.member in
       (inr (record { port = p; first = r; other = q; second = v; leaf = leaf; member = member }), u.1)
 
-  before_device : (k : ℕ) (c : FlatConnection) (e : FlatEnd) → registers c ≡ Some e → memory_before t.flat t.settled k c ≡ registers_before t.flat t.settled e
+  before_device : (k : ℕ) (c : FlatConnection) (e : FlatEnd) → registers c ≡ Some e
+      → memory_before t.flat t.settled k c ≡ registers_before t.flat t.settled e
   before_device k c e r = ap (λ o. option_map_or (registers_before t.flat t.settled) o (before shared_by cs k)) r
 
-  same_number : (k l i j : ℕ) (c e : FlatConnection) → slice_get cs k ≡ Some c → slice_get cs l ≡ Some e → OneMemory k c l e → i ≡ j → memory_number (system t) k i ≡ memory_number (system t) l j
+  same_number : (k l i j : ℕ) (c e : FlatConnection) → slice_get cs k ≡ Some c → slice_get cs l ≡ Some e → OneMemory k c l e
+      → i ≡ j → memory_number (system t) k i ≡ memory_number (system t) l j
   same_number k l i j c e h g (inl p) q = ap (λ z. memory_number (system t) z i) p ∙ ap (λ z. memory_number (system t) l z) q
   same_number k l i j c e h g (inr o) q =
       let first : first_to t.flat o.port ≡ first_to t.flat o.other = first_same t.flat o.other o.port o.leaf o.member in
       let same : memory_before t.flat t.settled k c ≡ memory_before t.flat t.settled l e =
-      before_device k c o.port o.first ∙ ap (λ z. length (shared_part t.flat t.settled) + option_map_or (before registers_by cs) z 0) first ∙ sym (before_device l e o.other o.second) in
-      number_at k i c h ∙ ap (λ z. own + z + i) same ∙ ap (λ z. own + memory_before t.flat t.settled l e + z) q ∙ sym (number_at l j e g)
+      before_device k c o.port o.first ∙ ap (λ z. length (shared_part t.flat t.settled) + option_map_or (before registers_by cs) z
+      0) first ∙ sym (before_device l e o.other o.second) in
+      number_at k i c h ∙ ap (λ z. own + z + i) same ∙ ap (λ z. own + memory_before t.flat t.settled l e + z) q
+      ∙ sym (number_at l j e g)
 
 -- ---- what a window shows
 
@@ -144,44 +171,58 @@ pub record MemoryShown (t : Tables) (d k j place : ℕ) (c : FlatConnection) : T
   pub is : place ≡ frames_from t + memory_number (system t) k j
 
 module _ (t : Tables) (can : CanMap t) where
-  pub memory_shown : (d k j at : ℕ) (c : FlatConnection) → slice_get t.flat.connections k ≡ Some c → ShowsMemory t (spec_of t) (root_of t) d k j at → MemoryShown t d k j at c
+  pub memory_shown : (d k j at : ℕ) (c : FlatConnection) → slice_get t.flat.connections k ≡ Some c
+      → ShowsMemory t (spec_of t) (root_of t) d k j at → MemoryShown t d k j at c
   memory_shown d k j at c h w =
       let x = in_domain t d w.number w.region w.page.here in
       let m = memory_of t d w.region w.e (in_place w.region (regions (system t) d) w.number w.page.here) w.content in
       let P : ℕ → Type 0 = λ z. slice_get t.flat.connections z ≡ Some m.connection in
       let same : m.connection ≡ c = some (slice_get t.flat.connections k) m.connection c (subst P w.of_connection m.here) h in
       let Q : FlatConnection → Type 0 = λ z. (z.connector ≡ SharedMemory) ⊎ (z.connector ≡ Mmio) in
-      let pages : w.region.pages ≡ memory_pages t.settled k c = m.pages ∙ ap (λ z. memory_pages t.settled z m.connection) w.of_connection ∙ ap (λ z. memory_pages t.settled k z) same in
+      let pages : w.region.pages ≡ memory_pages t.settled k c = m.pages ∙ ap (λ z. memory_pages t.settled z m.connection)
+      w.of_connection ∙ ap (λ z. memory_pages t.settled k z) same in
       let l = w.page.within in
       let q = region_page t.settled (Window w.e) (begins t d w.number + 4096 * j) j in
-      let n = place_of q (mapped_pages (system t) d) (region_in t can.settled d w.number w.v j w.region (Window w.e) w.page w.content) in
+      let n = place_of q (mapped_pages (system t) d) (region_in t can.settled d w.number w.v j w.region (Window w.e) w.page
+      w.content) in
       let cap = cap_is t can d x.0 x.1 w.v n.0 q w.cap n.1 (ap (λ z. z / 4096) (sym w.page.at)) w.mapped in
       record {
         domain = x.0;
         here = x.1;
         kind = subst Q same m.kind;
         within = omega (arith, pages, l);
-        is = sym w.names ∙ ap (λ (z : Cap). z.object) cap ∙ ap (λ z. frames_from t + memory_number (system t) z j) w.of_connection;
+        is = sym w.names ∙ ap (λ (z : Cap). z.object) cap ∙ ap (λ z. frames_from t + memory_number (system t) z j)
+            w.of_connection;
       }
 
-  pub memory_object : (d k j at : ℕ) (c : FlatConnection) → slice_get t.flat.connections k ≡ Some c → MemoryShown t d k j at c → (info : FrameInfo) × (object_at (spec_of t) at ≡ Some (frame_object info)) × IsMemoryFrame t k j c info
+  pub memory_object : (d k j at : ℕ) (c : FlatConnection) → slice_get t.flat.connections k ≡ Some c → MemoryShown t d k j at c
+      → (info : FrameInfo) × (object_at (spec_of t) at ≡ Some (frame_object info)) × IsMemoryFrame t k j c info
   memory_object d k j at c h m =
       let g = memory_frame t can k j c h m.kind m.within in
       let f = memory_number (system t) k j in
-      let there : place t (FrameOf f) ≡ frames_from t + f = omega arith in
-      (g.0, ap (λ z. object_at (spec_of t) z) (m.is ∙ sym there) ∙ frame_there t f g.0 (ap (λ (z : Spaces). slice_get z.frames f) can.spaces ∙ g.1), g.2)
+      let there : place t (FrameOf f) ≡ frames_from t + f = omega arith in (
+        g.0,
+        ap (λ z. object_at (spec_of t) z) (m.is ∙ sym there)
+            ∙ frame_there t f g.0 (ap (λ (z : Spaces). slice_get z.frames f) can.spaces ∙ g.1),
+        g.2,
+      )
 
-  registers_are : (d k j at : ℕ) (c : FlatConnection) → slice_get t.flat.connections k ≡ Some c → c.connector ≡ Mmio → ShowsMemory t (spec_of t) (root_of t) d k j at → object_at (spec_of t) at ≡ Some (Frame (Some (memory_paddr t.settled k c + 4096 * j)) None)
+  registers_are : (d k j at : ℕ) (c : FlatConnection) → slice_get t.flat.connections k ≡ Some c → c.connector ≡ Mmio
+      → ShowsMemory t (spec_of t) (root_of t) d k j at
+      → object_at (spec_of t) at ≡ Some (Frame (Some (memory_paddr t.settled k c + 4096 * j)) None)
   registers_are d k j at c h m w = let g = memory_object d k j at c h (memory_shown d k j at c h w) in by_frame g.0 g.1 g.2
     where
-      by_frame : (info : FrameInfo) → object_at (spec_of t) at ≡ Some (frame_object info) → IsMemoryFrame t k j c info → object_at (spec_of t) at ≡ Some (Frame (Some (memory_paddr t.settled k c + 4096 * j)) None)
+      by_frame : (info : FrameInfo) → object_at (spec_of t) at ≡ Some (frame_object info) → IsMemoryFrame t k j c info
+          → object_at (spec_of t) at ≡ Some (Frame (Some (memory_paddr t.settled k c + 4096 * j)) None)
       by_frame info o (IsMemoryFrame.of_shared e f) = let g : SharedMemory ≡ Mmio = sym e ∙ m in cc
       by_frame info o (IsMemoryFrame.of_device e n r f) = o ∙ ap (λ z. Some (frame_object z)) f
 
-  plain_are : (d k j at : ℕ) (c : FlatConnection) → slice_get t.flat.connections k ≡ Some c → c.connector ≡ SharedMemory → ShowsMemory t (spec_of t) (root_of t) d k j at → object_at (spec_of t) at ≡ Some (Frame None None)
+  plain_are : (d k j at : ℕ) (c : FlatConnection) → slice_get t.flat.connections k ≡ Some c → c.connector ≡ SharedMemory
+      → ShowsMemory t (spec_of t) (root_of t) d k j at → object_at (spec_of t) at ≡ Some (Frame None None)
   plain_are d k j at c h m w = let g = memory_object d k j at c h (memory_shown d k j at c h w) in by_frame g.0 g.1 g.2
     where
-      by_frame : (info : FrameInfo) → object_at (spec_of t) at ≡ Some (frame_object info) → IsMemoryFrame t k j c info → object_at (spec_of t) at ≡ Some (Frame None None)
+      by_frame : (info : FrameInfo) → object_at (spec_of t) at ≡ Some (frame_object info) → IsMemoryFrame t k j c info
+          → object_at (spec_of t) at ≡ Some (Frame None None)
       by_frame info o (IsMemoryFrame.of_shared e f) = o ∙ ap (λ z. Some (frame_object z)) f
       by_frame info o (IsMemoryFrame.of_device e n r f) = let g : Mmio ≡ SharedMemory = sym n ∙ m in cc
 
@@ -192,7 +233,8 @@ module _ (t : Tables) (can : CanMap t) where
         let b = memory_shown e l j n f g w in
         let p = a.is in
         let q = b.is in (
-          λ same. one_memory t k l i j c f h g (memory_at t can k i c h a.kind a.within) (memory_at t can l j f g b.kind b.within) (omega (arith, p, q, same)),
+          λ same. one_memory t k l i j c f h g (memory_at t can k i c h a.kind a.within) (memory_at t can l j f g b.kind b.within)
+              (omega (arith, p, q, same)),
           λ one. let u = same_number t k l i j c f h g one.0 one.1 in p ∙ ap (λ z. frames_from t + z) u ∙ sym q,
         ));
     registers = registers_are;

@@ -30,7 +30,8 @@ rounded n low high = record { some = omega (arith, low); most = omega (arith, hi
 sized_is : (n b : ℕ) → sized n ≡ Some b → IsSize b
 sized_is n b e = by_test (nat_le 1 n && nat_le n 268435456) refl e
   where
-    by_test : (t : Bool) → (nat_le 1 n && nat_le n 268435456) ≡ t → option_map whole_pages (cond t (Some n) None) ≡ Some b → IsSize b
+    by_test : (t : Bool) → (nat_le 1 n && nat_le n 268435456) ≡ t → option_map whole_pages (cond t (Some n) None) ≡ Some b
+        → IsSize b
     by_test true t e =
         let p = and_parts (nat_le 1 n) (nat_le n 268435456) t in
         let is : (n + 4095) / 4096 * 4096 ≡ b = cc in
@@ -62,14 +63,16 @@ bytes_are f b e = by_given f.size e
 bytes_there : (f : Found) → bad_value size_in f.size ≡ [] → (b : ℕ) × (bytes_of f ≡ Some b)
 bytes_there f good = by_given f.size good
   where
-    by_given : (o : Option Given) → bad_value size_in o ≡ [] → (b : ℕ) × (meant size_in (default_bytes f.joint.interface) o ≡ Some b)
+    by_given : (o : Option Given) → bad_value size_in o ≡ []
+        → (b : ℕ) × (meant size_in (default_bytes f.joint.interface) o ≡ Some b)
     by_given None e = (default_bytes f.joint.interface, refl)
     by_given (Some g) e = is_there (size_in g.value) (so (is_some (size_in g.value)) _ e)
 
 good_size : (f : Found) → bad_at_end f ≡ [] → bad_value size_in f.size ≡ []
 good_size f good = none_right _ (bad_value size_in f.size) (none_left _ _ (none_left _ _ good))
 
-pub size_of_end : (f : Found) → bad_at_end f ≡ [] → (is_shared f.joint.connection.connector || is_device_memory f.joint) ≡ true → IsSize (end_setting f).bytes
+pub size_of_end : (f : Found) → bad_at_end f ≡ [] → (is_shared f.joint.connection.connector || is_device_memory f.joint) ≡ true
+    → IsSize (end_setting f).bytes
 size_of_end f good on =
     let b = bytes_there f (good_size f good) in
     let is : (end_setting f).bytes ≡ b.0 = ap (λ t. cond t (unwrap_or (bytes_of f) 0) 0) on ∙ ap (λ o. unwrap_or o 0) b.1 in
@@ -93,8 +96,10 @@ at_zero bytes l = record { fits = omega (arith, l); aligned = omega arith }
 placed_is : (bytes n : ℕ) → bytes ≤ 268435456 → IsPlaced bytes (unwrap_or (placed bytes n) 0)
 placed_is bytes n l = by_test (n % 4096 == 0 && nat_le (n + bytes) (2 ^ 48)) refl
   where
-    by_test : (t : Bool) → (n % 4096 == 0 && nat_le (n + bytes) (2 ^ 48)) ≡ t → IsPlaced bytes (unwrap_or (cond t (Some n) None) 0)
-    by_test true t = let p = and_parts (n % 4096 == 0) (nat_le (n + bytes) (2 ^ 48)) t in record { fits = leb-true (n + bytes) (2 ^ 48) p.1; aligned = eqb-true (n % 4096) 0 p.0 }
+    by_test : (t : Bool) → (n % 4096 == 0 && nat_le (n + bytes) (2 ^ 48)) ≡ t
+        → IsPlaced bytes (unwrap_or (cond t (Some n) None) 0)
+    by_test true t = let p = and_parts (n % 4096 == 0) (nat_le (n + bytes) (2 ^ 48)) t in
+        record { fits = leb-true (n + bytes) (2 ^ 48) p.1; aligned = eqb-true (n % 4096) 0 p.0 }
     by_test false t = at_zero bytes l
 
 paddr_is : (bytes : ℕ) (o : Option Given) → bytes ≤ 268435456 → IsPlaced bytes (unwrap_or (meaning (paddr_in bytes) o) 0)
@@ -130,7 +135,8 @@ measured f =
     let at = unwrap_or (paddr_of f) 0 in
     let r = bytes_round f in
     let p = paddr_is bytes f.paddr r.most in
-    let s : IsSettled bytes at (end_setting f).bytes = cond_both (is_shared f.joint.connection.connector || is_device_memory f.joint) bytes 0 (IsSettled bytes at)
+    let s : IsSettled bytes at (end_setting f).bytes =
+    cond_both (is_shared f.joint.connection.connector || is_device_memory f.joint) bytes 0 (IsSettled bytes at)
     (λ e. record { most = r.most; whole = r.whole; fits = p.fits })
     (λ e. record { most = omega arith; whole = omega arith; fits = let l = p.fits in omega (arith, l) }) in
     record { most = s.most; whole = s.whole; fits = s.fits; aligned = p.aligned }

@@ -40,7 +40,8 @@ use Rattle.system_spec.proofs.Domains.{tables_counted}
 
 -- ---- stacks
 
-two_each : (settled : Settled) (ts : List ThreadOf) → ((x : ThreadOf) → IsIn x ts → 1 ≤ stack_pages settled x.leaf) → 2 * length ts ≤ pages_in (flat_map (thread_regions settled) ts)
+two_each : (settled : Settled) (ts : List ThreadOf) → ((x : ThreadOf) → IsIn x ts → 1 ≤ stack_pages settled x.leaf)
+    → 2 * length ts ≤ pages_in (flat_map (thread_regions settled) ts)
 two_each settled [] h = omega arith
 two_each settled (x ∷ ts) h =
     let ih = two_each settled ts (λ y i. h y (inr i)) in
@@ -58,14 +59,16 @@ module _ (source : Source) (flat : Flat) (settled : Settled) (images : Images) w
   space_is : (d : ℕ) (x : Domain) → slice_get flat.domains d ≡ Some x → slice_get t.spaces.spaces d ≡ Some (space g d x)
   space_is d x e = get_ones (space g) flat.domains d x e
 
-  pages_are : (d : ℕ) (x : Domain) → slice_get flat.domains d ≡ Some x → pages_at t d ≡ gather (λ n p. page g d n p ∷ []) (mapped_pages g d)
+  pages_are : (d : ℕ) (x : Domain) → slice_get flat.domains d ≡ Some x
+      → pages_at t d ≡ gather (λ n p. page g d n p ∷ []) (mapped_pages g d)
   pages_are d x e = ap (λ o. option_map_or (λ (s : Space). s.pages) o []) (space_is d x e)
 
   pages_same : (d : ℕ) (x : Domain) → slice_get flat.domains d ≡ Some x → length (pages_at t d) ≡ length (mapped_pages g d)
   pages_same d x e = ap (λ (z : List Page). length z) (pages_are d x e) ∙ gather_ones (page g d) (mapped_pages g d)
 
   threads_same : (d : ℕ) (x : Domain) → slice_get flat.domains d ≡ Some x → length (threads_at t d) ≡ length (threads_of g d)
-  threads_same d x e = ap (λ o. length (option_map_or (λ (s : Space). s.threads) o [])) (space_is d x e) ∙ gather_ones (thread_place g d) (threads_of g d)
+  threads_same d x e = ap (λ o. length (option_map_or (λ (s : Space). s.threads) o [])) (space_is d x e)
+      ∙ gather_ones (thread_place g d) (threads_of g d)
 
   page_sum : page_count t ≡ sum (page_counts g)
   page_sum =
@@ -76,25 +79,33 @@ module _ (source : Source) (flat : Flat) (settled : Settled) (images : Images) w
   table_sum : length (all_tables t) ≡ sum (table_counts g)
   table_sum =
       sym (all_tables_are t)
-      ∙ totals_same (λ d (x : Domain). length (tables_at t 0 0 d)) (λ d x. tables_needed g d) flat.domains (λ d x e. tables_counted t 0 0 d ∙ ap (λ z. table_count (shapes (arch t)) z) (addresses d x e))
+      ∙ totals_same (λ d (x : Domain). length (tables_at t 0 0 d)) (λ d x. tables_needed g d) flat.domains
+      (λ d x e. tables_counted t 0 0 d ∙ ap (λ z. table_count (shapes (arch t)) z) (addresses d x e))
       ∙ sym (sum_ones (λ d (x : Domain). tables_needed g d) flat.domains)
     where
-      addresses : (d : ℕ) (x : Domain) → slice_get flat.domains d ≡ Some x → map (λ (p : Page). p.vaddr) (pages_at t d) ≡ map (λ (p : MappedPage). p.at) (mapped_pages g d)
-      addresses d x e = ap (λ z. map (λ (p : Page). p.vaddr) z) (pages_are d x e) ∙ map_ones (λ (p : Page). p.vaddr) (page g d) (λ (p : MappedPage). p.at) (λ j p. refl) (mapped_pages g d)
+      addresses : (d : ℕ) (x : Domain) → slice_get flat.domains d ≡ Some x → map (λ (p : Page). p.vaddr) (pages_at t d) ≡ map
+          (λ (p : MappedPage). p.at) (mapped_pages g d)
+      addresses d x e = ap (λ z. map (λ (p : Page). p.vaddr) z) (pages_are d x e) ∙ map_ones (λ (p : Page). p.vaddr) (page g d)
+          (λ (p : MappedPage). p.at) (λ j p. refl) (mapped_pages g d)
 
   use_sum : use_count t ≡ sum (counts (slots_of source flat))
   use_sum =
       sum_ones (λ d (x : Domain). length (uses_at t d)) flat.domains
-      ∙ totals_same (λ d (x : Domain). length (uses_at t d)) (λ d x. length (domain_uses source flat x.leaves)) flat.domains (λ d x e. ap (λ z. length z) (uses_are t refl d x e))
+      ∙ totals_same (λ d (x : Domain). length (uses_at t d)) (λ d x. length (domain_uses source flat x.leaves)) flat.domains
+      (λ d x e. ap (λ z. length z) (uses_are t refl d x e))
       ∙ totals_flat (λ (x : Domain). length (domain_uses source flat x.leaves)) flat.domains
-      ∙ sym (sum_map (λ (p : SlotPlan). length p.uses) (map (λ (x : Domain). plan_of (domain_uses source flat x.leaves)) flat.domains) ∙ total_map (λ (p : SlotPlan). length p.uses) (λ (x : Domain). plan_of (domain_uses source flat x.leaves)) flat.domains)
+      ∙ sym (sum_map (λ (p : SlotPlan). length p.uses) (map (λ (x : Domain). plan_of (domain_uses source flat x.leaves))
+      flat.domains) ∙ total_map (λ (p : SlotPlan). length p.uses)
+      (λ (x : Domain). plan_of (domain_uses source flat x.leaves)) flat.domains)
 
   -- a thread has two pages at least
-  threads_few : ((d : ℕ) (x : ThreadOf) → IsIn x (threads_of g d) → 1 ≤ stack_pages settled x.leaf) → 2 * thread_count t ≤ sum (page_counts g)
+  threads_few : ((d : ℕ) (x : ThreadOf) → IsIn x (threads_of g d) → 1 ≤ stack_pages settled x.leaf)
+      → 2 * thread_count t ≤ sum (page_counts g)
   threads_few stacks =
       let a = sum_ones (λ d (x : Domain). length (threads_at t d)) flat.domains in
       let b = totals_times 2 (λ d (x : Domain). length (threads_at t d)) flat.domains in
-      let c = totals_most (λ d (x : Domain). 2 * length (threads_at t d)) (λ d x. length (mapped_pages g d)) flat.domains domain in
+      let c = totals_most (λ d (x : Domain). 2 * length (threads_at t d)) (λ d x. length (mapped_pages g d))
+      flat.domains domain in
       let d = sum_ones (λ d (x : Domain). length (mapped_pages g d)) flat.domains in
       omega (arith, a, b, c, d)
     where
@@ -102,7 +113,8 @@ module _ (source : Source) (flat : Flat) (settled : Settled) (images : Images) w
       domain d x e =
           let same = threads_same d x e in
           let two = two_each settled (threads_of g d) (stacks d) in
-          let parts = pages_append (flat_map (thread_regions settled) (threads_of g d)) (map (window_region flat settled) (windows_of g d)) in
+          let parts = pages_append (flat_map (thread_regions settled) (threads_of g d))
+          (map (window_region flat settled) (windows_of g d)) in
           let whole = length_append (section_part images (leaves_of flat d)) (region_part settled (base g) (regions g d)) in
           let region = length-region_part settled (base g) (regions g d) in
           omega (arith, same, two, parts, whole, region)

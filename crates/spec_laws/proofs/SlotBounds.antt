@@ -21,7 +21,8 @@ pub record AreFewSlots (s : Source) (flat : Flat) : Type 0 where
   pub each : greatest (counts (slots_of s flat)) ≤ 4095
   pub all : sum (counts (slots_of s flat)) ≤ 65536
 
-pub few_slots : (s : Source) (flat : Flat) (a : ItemAt × Assembly) → assemblies s ≡ a ∷ [] → first_slot_fault s flat ≡ None → AreFewSlots s flat
+pub few_slots : (s : Source) (flat : Flat) (a : ItemAt × Assembly) → assemblies s ≡ a ∷ [] → first_slot_fault s flat ≡ None
+    → AreFewSlots s flat
 few_slots s flat a one none =
     let ns = counts (slots_of s flat) in
     let empty = least-empty (slot_faults s flat) none in
@@ -37,14 +38,17 @@ few_slots s flat a one none =
 below_greatest : (ns : List ℕ) (d n : ℕ) → slice_get ns d ≡ Some n → n ≤ greatest ns
 below_greatest [] d n e = cc
 below_greatest (m ∷ ns) zero n e = let same : m ≡ n = cc in let l = le-max_left m (greatest ns) in omega (arith, same, l)
-below_greatest (m ∷ ns) (suc d) n e = let l = le-max_right m (greatest ns) in let h = below_greatest ns d n e in omega (arith, l, h)
+below_greatest (m ∷ ns) (suc d) n e = let l = le-max_right m (greatest ns) in let h = below_greatest ns d n e in
+    omega (arith, l, h)
 
-count_at : (plans : List SlotPlan) (d : ℕ) (plan : SlotPlan) → slice_get plans d ≡ Some plan → slice_get (map (λ p. length p.uses) plans) d ≡ Some (length plan.uses)
+count_at : (plans : List SlotPlan) (d : ℕ) (plan : SlotPlan) → slice_get plans d ≡ Some plan
+    → slice_get (map (λ p. length p.uses) plans) d ≡ Some (length plan.uses)
 count_at [] d plan e = cc
 count_at (p ∷ plans) zero plan e = let same : p ≡ plan = cc in ap (λ (z : SlotPlan). Some (length z.uses)) same
 count_at (p ∷ plans) (suc d) plan e = count_at plans d plan e
 
-pub few_uses : (s : Source) (flat : Flat) → AreFewSlots s flat → (d : ℕ) (plan : SlotPlan) → slice_get (slots_of s flat).domains d ≡ Some plan → length plan.uses ≤ 4095
+pub few_uses : (s : Source) (flat : Flat) → AreFewSlots s flat → (d : ℕ) (plan : SlotPlan)
+    → slice_get (slots_of s flat).domains d ≡ Some plan → length plan.uses ≤ 4095
 few_uses s flat few d plan e =
     let l = below_greatest (counts (slots_of s flat)) d (length plan.uses) (count_at (slots_of s flat).domains d plan e) in
     let each = few.each in

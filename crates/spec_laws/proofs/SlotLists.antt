@@ -8,7 +8,8 @@ put_has : (x y : ℕ × ℕ) (xs : List (ℕ × ℕ)) → IsIn y (x ∷ xs) → 
 put_has x y [] i = i
 put_has x y (z ∷ zs) i = by_test (leb x.0 z.0) i (λ j. put_has x y zs j)
   where
-    by_test : (b : Bool) → IsIn y (x ∷ z ∷ zs) → (IsIn y (x ∷ zs) → IsIn y (put_line x zs)) → IsIn y (cond b (x ∷ z ∷ zs) (z ∷ put_line x zs))
+    by_test : (b : Bool) → IsIn y (x ∷ z ∷ zs) → (IsIn y (x ∷ zs) → IsIn y (put_line x zs))
+        → IsIn y (cond b (x ∷ z ∷ zs) (z ∷ put_line x zs))
     by_test true i more = i
     by_test false (inl e) more = inr (more (inl e))
     by_test false (inr (inl e)) more = inl e
@@ -23,7 +24,8 @@ from_put : (x y : ℕ × ℕ) (xs : List (ℕ × ℕ)) → IsIn y (put_line x xs
 from_put x y [] i = i
 from_put x y (z ∷ zs) i = by_test (leb x.0 z.0) i (λ j. from_put x y zs j)
   where
-    by_test : (b : Bool) → IsIn y (cond b (x ∷ z ∷ zs) (z ∷ put_line x zs)) → (IsIn y (put_line x zs) → IsIn y (x ∷ zs)) → IsIn y (x ∷ z ∷ zs)
+    by_test : (b : Bool) → IsIn y (cond b (x ∷ z ∷ zs) (z ∷ put_line x zs)) → (IsIn y (put_line x zs) → IsIn y (x ∷ zs))
+        → IsIn y (x ∷ z ∷ zs)
     by_test true j more = j
     by_test false (inl e) more = inr (inl e)
     by_test false (inr j) more = elim (more j) [ inl e ↦ inl e | inr k ↦ inr (inr k) ]

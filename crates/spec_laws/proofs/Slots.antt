@@ -39,7 +39,8 @@ module _ (t : Tables) (can : CanSlot t) where
   -- ---- interrupt lines
 
   -- an interrupt's number is the settled one
-  set_number : (k at : ℕ) (c : FlatConnection) → slice_get t.flat.connections k ≡ Some c → (w : IsIrqOf t spec k at) → irq_number t.settled k c ≡ w.setting.irq
+  set_number : (k at : ℕ) (c : FlatConnection) → slice_get t.flat.connections k ≡ Some c → (w : IsIrqOf t spec k at)
+      → irq_number t.settled k c ≡ w.setting.irq
   set_number k at c h w =
       let same : w.connection ≡ c = some (slice_get t.flat.connections k) w.connection c w.here h in
       ap (irq_number t.settled k) (sym same)
@@ -52,12 +53,20 @@ module _ (t : Tables) (can : CanSlot t) where
       let a = from_gather F (n, at) t.flat.connections (from_order (n, at) (gather F t.flat.connections) i) in
       by_kind a.0 a.1 a.2 a.1.connector refl a.3
     where
-      by_kind : (k : ℕ) (c : FlatConnection) → slice_get t.flat.connections k ≡ Some c → (m : Connector) → c.connector ≡ m → IsIn (n, at) (line_by t k c m) → IsIrqLine t spec n at
+      by_kind : (k : ℕ) (c : FlatConnection) → slice_get t.flat.connections k ≡ Some c → (m : Connector) → c.connector ≡ m
+          → IsIn (n, at) (line_by t k c m) → IsIrqLine t spec n at
       by_kind k c h Interrupt e j =
           let line : ℕ × ℕ = (irq_number t.settled k c, place t (IrqOf k)) in
           let same : line ≡ (n, at) = single line (n, at) j in
           let P : ℕ × ℕ → Type 0 = λ z. IsIrqLine t spec z.0 z.1 in
-          subst P same (record { k = k; connection = c; here = h; is_interrupt = e; irq = irq_is t can k c h e; number = set_number k (place t (IrqOf k)) c h (irq_is t can k c h e) })
+          subst P same (record {
+            k = k;
+            connection = c;
+            here = h;
+            is_interrupt = e;
+            irq = irq_is t can k c h e;
+            number = set_number k (place t (IrqOf k)) c h (irq_is t can k c h e);
+          })
       by_kind k c h Rpc e j = absurd j
       by_kind k c h Notifies e j = absurd j
       by_kind k c h SharedMemory e j = absurd j
@@ -71,12 +80,14 @@ module _ (t : Tables) (can : CanSlot t) where
   said d n (Handler k m) = refl
   said d n (OwnLock leaf m) = refl
 
-  line_is : (d n : ℕ) (u : SlotUse) (line : MapLine) → IsLineOf u (n + 1) (use_cap t d n u) line → slot_line (use_cap t d n u).object n u ≡ line
+  line_is : (d n : ℕ) (u : SlotUse) (line : MapLine) → IsLineOf u (n + 1) (use_cap t d n u) line
+      → slot_line (use_cap t d n u).object n u ≡ line
   line_is d n (OfEnd k m) line e = sym e
   line_is d n (Handler k m) line e = sym e
   line_is d n (OwnLock leaf m) line e = sym e
 
-  used : (d : ℕ) (x : Domain) (n : ℕ) (u : SlotUse) → slice_get t.flat.domains d ≡ Some x → slice_get (uses_at t d) n ≡ Some u → IsUsed t spec (slot_line (use_cap t d n u).object n u)
+  used : (d : ℕ) (x : Domain) (n : ℕ) (u : SlotUse) → slice_get t.flat.domains d ≡ Some x → slice_get (uses_at t d) n ≡ Some u
+      → IsUsed t spec (slot_line (use_cap t d n u).object n u)
   used d x n u h e =
       let f : ℕ → SlotUse → List (ℕ × Cap) = λ n u. (n + 1, use_cap t d n u) ∷ [] in
       record {
@@ -127,7 +138,8 @@ module _ (t : Tables) (can : CanSlot t) where
             let a = from_gather f line t.flat.domains l in
             let h : ℕ → SlotUse → List MapLine = λ n u. slot_line (use_cap t a.0 n u).object n u ∷ [] in
             let b = from_gather h line (uses_at t a.0) a.3 in
-            subst (IsUsed t spec) (single (slot_line (use_cap t a.0 b.0 b.1).object b.0 b.1) line b.3) (used a.0 a.1 b.0 b.1 a.2 b.2)
+            subst (IsUsed t spec) (single (slot_line (use_cap t a.0 b.0 b.1).object b.0 b.1) line b.3)
+            (used a.0 a.1 b.0 b.1 a.2 b.2)
         | inr w ↦ absurd (no_window line w s)
       ]
     ]
@@ -148,16 +160,20 @@ module _ (t : Tables) (can : CanSlot t) where
       let eq : slot ≡ (w.before + 1, w.cap) = single slot (w.before + 1, w.cap) a.3 in
       let number : a.0 + 1 ≡ w.before + 1 = ap (λ (z : ℕ × Cap). z.0) eq in
       let at : a.0 ≡ w.before = omega (arith, number) in
-      let mine : slice_get (uses_at t d) w.before ≡ Some w.used = ap (λ z. slice_get z w.before) (uses_are t can d w.leaves w.here) ∙ w.at in
+      let mine : slice_get (uses_at t d) w.before ≡ Some w.used =
+      ap (λ z. slice_get z w.before) (uses_are t can d w.leaves w.here) ∙ w.at in
       let Q : ℕ → Type 0 = λ n. slice_get (uses_at t d) n ≡ Some a.1 in
       let use_same : a.1 ≡ w.used = some (slice_get (uses_at t d) w.before) a.1 w.used (subst Q at a.2) mine in
-      let cap : use_cap t d w.before w.used ≡ w.cap = ap (λ n. use_cap t d n w.used) (sym at) ∙ ap (λ u. use_cap t d a.0 u) (sym use_same) ∙ ap (λ (z : ℕ × Cap). z.1) eq in
+      let cap : use_cap t d w.before w.used ≡ w.cap = ap (λ n. use_cap t d n w.used) (sym at) ∙ ap (λ u. use_cap t d a.0 u)
+      (sym use_same) ∙ ap (λ (z : ℕ × Cap). z.1) eq in
       let R : Cap → Type 0 = λ z. IsLineOf w.used (w.before + 1) z line in
       let is = line_is d w.before w.used line (subst R (sym cap) w.said) in
       let h : ℕ → SlotUse → List MapLine = λ n u. slot_line (use_cap t d n u).object n u ∷ [] in
       let F : ℕ → Domain → List MapLine = λ d x. domain_slots t d in
       let inner = in_gather h line (uses_at t d) w.before w.used mine (inl is) in
-      in_right line (domain_lines t) (thread_lines t ++ (slot_lines t ++ window_lines t)) (in_right line (thread_lines t) (slot_lines t ++ window_lines t) (in_left line (slot_lines t) (window_lines t) (in_gather F line t.flat.domains d w.leaves w.here inner)))
+      in_right line (domain_lines t) (thread_lines t ++ (slot_lines t ++ window_lines t))
+      (in_right line (thread_lines t) (slot_lines t ++ window_lines t) (in_left line (slot_lines t) (window_lines t)
+      (in_gather F line t.flat.domains d w.leaves w.here inner)))
 
   has_slots : HasSlots t spec (map_lines t)
   has_slots = record {

@@ -85,7 +85,8 @@ of_member t leaf m u i =
     }
 
 -- a use is of an end, or a lock
-pub of_use : (t : Tables) (leaves : List ℕ) (u : SlotUse) → IsIn u (domain_uses t.source t.flat leaves) → Origin t u ⊎ ((leaf m : ℕ) × (u ≡ OwnLock leaf m))
+pub of_use : (t : Tables) (leaves : List ℕ) (u : SlotUse) → IsIn u (domain_uses t.source t.flat leaves)
+    → Origin t u ⊎ ((leaf m : ℕ) × (u ≡ OwnLock leaf m))
 of_use t leaves u i =
     let f : ℕ → ℕ → List SlotUse = λ i leaf. leaf_uses t.flat.connections leaf (leaf_members t.source t.flat leaf) in
     let a = from_gather f u leaves i in
@@ -102,7 +103,8 @@ of_use t leaves u i =
           ]
     ]
 
-of_joint : (c : Connector) (r : Role) (k n j m : ℕ) → IsIn (OfEnd j m) (end_uses c r k n) → (k ≡ j) × (n ≡ m) × (has_joint c r ≡ true)
+of_joint : (c : Connector) (r : Role) (k n j m : ℕ) → IsIn (OfEnd j m) (end_uses c r k n)
+    → (k ≡ j) × (n ≡ m) × (has_joint c r ≡ true)
 of_joint Rpc r k n j m (inl e) = (cc, cc, refl)
 of_joint Rpc r k n j m (inr i) = absurd i
 of_joint Notifies r k n j m (inl e) = (cc, cc, refl)
@@ -115,7 +117,8 @@ of_joint SharedMemory r k n j m i = absurd i
 of_joint Mmio r k n j m i = absurd i
 of_joint Direct r k n j m i = absurd i
 
-pub of_handler : (c : Connector) (r : Role) (k n j m : ℕ) → IsIn (Handler j m) (end_uses c r k n) → (k ≡ j) × (n ≡ m) × (c ≡ Interrupt) × (r ≡ To)
+pub of_handler : (c : Connector) (r : Role) (k n j m : ℕ) → IsIn (Handler j m) (end_uses c r k n)
+    → (k ≡ j) × (n ≡ m) × (c ≡ Interrupt) × (r ≡ To)
 of_handler Rpc r k n j m (inl e) = cc
 of_handler Rpc r k n j m (inr i) = absurd i
 of_handler Notifies r k n j m (inl e) = cc
@@ -159,31 +162,44 @@ module _ (t : Tables) (can : CanSlot t) where
   abbrev spec : Spec
   spec = spec_of t
 
-  notification_named : (k : ℕ) (c : FlatConnection) → slice_get t.flat.connections k ≡ Some c → IsIn (part series.Ntfn k (OfConnection k) (NotificationOf k)) (notification_by k c.connector) → IsNamed spec (place t (NotificationOf k)) series.Ntfn k
-  notification_named k c h i = (objects_stand t).name (part series.Ntfn k (OfConnection k) (NotificationOf k)) ((parts_are_there t).notification k c h (part series.Ntfn k (OfConnection k) (NotificationOf k)) i)
+  notification_named : (k : ℕ) (c : FlatConnection) → slice_get t.flat.connections k ≡ Some c
+      → IsIn (part series.Ntfn k (OfConnection k) (NotificationOf k)) (notification_by k c.connector)
+      → IsNamed spec (place t (NotificationOf k)) series.Ntfn k
+  notification_named k c h i = (objects_stand t).name (part series.Ntfn k (OfConnection k) (NotificationOf k))
+      ((parts_are_there t).notification k c h (part series.Ntfn k (OfConnection k) (NotificationOf k)) i)
 
-  joint : (k : ℕ) (c : FlatConnection) (r : Role) → slice_get t.flat.connections k ≡ Some c → has_joint c.connector r ≡ true → IsJoint spec (place t (joint_by k c.connector)) c.connector k
+  joint : (k : ℕ) (c : FlatConnection) (r : Role) → slice_get t.flat.connections k ≡ Some c → has_joint c.connector r ≡ true
+      → IsJoint spec (place t (joint_by k c.connector)) c.connector k
   joint k c r h j = by_kind c.connector refl j
     where
       by_kind : (n : Connector) → c.connector ≡ n → has_joint n r ≡ true → IsJoint spec (place t (joint_by k n)) n k
-      by_kind Rpc e f = (objects_stand t).name (part series.Ep k (OfConnection k) (EndpointOf k)) ((parts_are_there t).endpoint k c h e)
-      by_kind Notifies e f = let P : Connector → Type 0 = λ n. IsIn (part series.Ntfn k (OfConnection k) (NotificationOf k)) (notification_by k n) in notification_named k c h (subst P (sym e) (inl refl))
-      by_kind Interrupt e f = let P : Connector → Type 0 = λ n. IsIn (part series.Ntfn k (OfConnection k) (NotificationOf k)) (notification_by k n) in notification_named k c h (subst P (sym e) (inl refl))
+      by_kind Rpc e f = (objects_stand t).name (part series.Ep k (OfConnection k) (EndpointOf k))
+          ((parts_are_there t).endpoint k c h e)
+      by_kind Notifies e f = let P : Connector → Type 0 = λ n. IsIn (part series.Ntfn k (OfConnection k) (NotificationOf k))
+          (notification_by k n) in notification_named k c h (subst P (sym e) (inl refl))
+      by_kind Interrupt e f = let P : Connector → Type 0 = λ n. IsIn (part series.Ntfn k (OfConnection k) (NotificationOf k))
+          (notification_by k n) in notification_named k c h (subst P (sym e) (inl refl))
       by_kind SharedMemory e f = cc
       by_kind Mmio e f = cc
       by_kind Direct e f = cc
 
-  badge : (k n : ℕ) (c : FlatConnection) (e : FlatEnd) → slice_get t.flat.connections k ≡ Some c → slice_get c.ends n ≡ Some e → IsBadge t k n e.role (badge_at t k n)
+  badge : (k n : ℕ) (c : FlatConnection) (e : FlatEnd) → slice_get t.flat.connections k ≡ Some c → slice_get c.ends n ≡ Some e
+      → IsBadge t k n e.role (badge_at t k n)
   badge k n c e h s =
-      let found : badge_at t k n ≡ role_badge e.role (settled_badge t.settled k n) = ap (λ o. option_map_or (λ (z : Connector × FlatEnd). role_badge z.1.role (settled_badge t.settled k n)) o 0) (end_there t k n c e h s) in
+      let found : badge_at t k n ≡ role_badge e.role (settled_badge t.settled k n) =
+      ap (λ o. option_map_or (λ (z : Connector × FlatEnd). role_badge z.1.role (settled_badge t.settled k n)) o 0)
+      (end_there t k n c e h s) in
       subst (IsBadge t k n e.role) (sym found) (by_role e.role (can.settled k n c e h s))
     where
-      by_role : (r : Role) → (x : EndSetting) × (setting_of t.settled k n ≡ Some x) → IsBadge t k n r (role_badge r (settled_badge t.settled k n))
+      by_role : (r : Role) → (x : EndSetting) × (setting_of t.settled k n ≡ Some x)
+          → IsBadge t k n r (role_badge r (settled_badge t.settled k n))
       by_role From x = (x.0, x.1, ap (λ o. option_map_or (λ (z : EndSetting). z.badge) o 0) x.1)
       by_role To x = refl
 
-  rights : (k n : ℕ) (c : FlatConnection) (e : FlatEnd) (row : RuleRow) → slice_get t.flat.connections k ≡ Some c → slice_get c.ends n ≡ Some e → slice_get (rows_of c.connector e.role) 0 ≡ Some row → rights_at t k n ≡ row.rights
-  rights k n c e row h s f = ap (λ o. option_map_or (λ (z : Connector × FlatEnd). end_rights z.0 z.1.role) o NONE) (end_there t k n c e h s) ∙ first_of (rows_of c.connector e.role) row f
+  rights : (k n : ℕ) (c : FlatConnection) (e : FlatEnd) (row : RuleRow) → slice_get t.flat.connections k ≡ Some c
+      → slice_get c.ends n ≡ Some e → slice_get (rows_of c.connector e.role) 0 ≡ Some row → rights_at t k n ≡ row.rights
+  rights k n c e row h s f = ap (λ o. option_map_or (λ (z : Connector × FlatEnd). end_rights z.0 z.1.role) o NONE)
+      (end_there t k n c e h s) ∙ first_of (rows_of c.connector e.role) row f
     where
       first_of : (rows : List RuleRow) (row : RuleRow) → slice_get rows 0 ≡ Some row → first_rights rows ≡ row.rights
       first_of [] row e = cc
@@ -204,12 +220,14 @@ module _ (t : Tables) (can : CanSlot t) where
         stands = stands;
         row = row.0;
         first = row.1;
-        joint = subst (λ w. IsJoint spec (place t w) o.connection.connector k) (sym (joint_is t k o.connection here)) (joint k o.connection o.end.role here u.2);
+        joint = subst (λ w. IsJoint spec (place t w) o.connection.connector k) (sym (joint_is t k o.connection here))
+            (joint k o.connection o.end.role here u.2);
         rights = rights k m o.connection o.end row.0 here stands row.1;
         badge = badge k m o.connection o.end here stands;
       }
 
-  pub irq_is : (k : ℕ) (c : FlatConnection) → slice_get t.flat.connections k ≡ Some c → c.connector ≡ Interrupt → IsIrqOf t spec k (place t (IrqOf k))
+  pub irq_is : (k : ℕ) (c : FlatConnection) → slice_get t.flat.connections k ≡ Some c → c.connector ≡ Interrupt
+      → IsIrqOf t spec k (place t (IrqOf k))
   irq_is k c h e =
       let there = irq_part t k c h e in
       let p = part series.Irq (before interrupt t.flat.connections k) (irq_owner k c) (IrqOf k) in
@@ -217,7 +235,8 @@ module _ (t : Tables) (can : CanSlot t) where
       let s = can.settled k v.0 c v.1 h v.3 in
       let P : Connector → Type 0 = λ n. IsIn (part series.Ntfn k (OfConnection k) (NotificationOf k)) (notification_by k n) in
       let set : irq_number t.settled k c ≡ s.0.irq =
-      ap (λ o. option_map_or (λ (z : EndSetting). z.irq) (option_and_then (setting_of t.settled k) o) 0) v.2 ∙ ap (λ o. option_map_or (λ (z : EndSetting). z.irq) o 0) s.1 in
+      ap (λ o. option_map_or (λ (z : EndSetting). z.irq) (option_and_then (setting_of t.settled k) o) 0) v.2
+      ∙ ap (λ o. option_map_or (λ (z : EndSetting). z.irq) o 0) s.1 in
       let line : ℕ × ℕ = (irq_number t.settled k c, place t (IrqOf k)) in
       let Q : Connector → Type 0 = λ n. IsIn line (line_by t k c n) in
       let F : ℕ → FlatConnection → List (ℕ × ℕ) = λ k c. line_by t k c c.connector in
@@ -246,22 +265,33 @@ module _ (t : Tables) (can : CanSlot t) where
   pub uses_are : (d : ℕ) (x : Domain) → slice_get t.flat.domains d ≡ Some x → uses_at t d ≡ domain_uses t.source t.flat x.leaves
   uses_are d x h =
       ap (λ (s : Slots). option_map_or (λ (plan : SlotPlan). plan.uses) (slice_get s.domains d) []) can.slots
-      ∙ ap (λ o. option_map_or (λ (plan : SlotPlan). plan.uses) o []) (get_map (λ (z : Domain). plan_of (domain_uses t.source t.flat z.leaves)) t.flat.domains d x h)
+      ∙ ap (λ o. option_map_or (λ (plan : SlotPlan). plan.uses) o [])
+      (get_map (λ (z : Domain). plan_of (domain_uses t.source t.flat z.leaves)) t.flat.domains d x h)
 
-  lock_is : (d n leaf m : ℕ) (x : Domain) → slice_get t.flat.domains d ≡ Some x → slice_get (uses_at t d) n ≡ Some (OwnLock leaf m) → IsLockCap t spec leaf m (use_cap t d n (OwnLock leaf m))
+  lock_is : (d n leaf m : ℕ) (x : Domain) → slice_get t.flat.domains d ≡ Some x
+      → slice_get (uses_at t d) n ≡ Some (OwnLock leaf m) → IsLockCap t spec leaf m (use_cap t d n (OwnLock leaf m))
   lock_is d n leaf m x h e =
       let w = lock_part t uses_are d n leaf m x h e in
       let p = part series.Lock w.number (OfDomain d) (LockOf d n) in
-      record { number = w.number; numbered = w.numbered; named = (objects_stand t).name p w.there; is = (objects_stand t).object p w.there; rights = refl; badge = refl }
+      record {
+        number = w.number;
+        numbered = w.numbered;
+        named = (objects_stand t).name p w.there;
+        is = (objects_stand t).object p w.there;
+        rights = refl;
+        badge = refl;
+      }
 
   -- ---- all
 
-  pub cap_is : (d n : ℕ) (x : Domain) (u : SlotUse) → slice_get t.flat.domains d ≡ Some x → slice_get (uses_at t d) n ≡ Some u → IsCapOf t spec u (use_cap t d n u)
+  pub cap_is : (d n : ℕ) (x : Domain) (u : SlotUse) → slice_get t.flat.domains d ≡ Some x → slice_get (uses_at t d) n ≡ Some u
+      → IsCapOf t spec u (use_cap t d n u)
   cap_is d n x u h e =
       let P : List SlotUse → Type 0 = λ us. IsIn u us in
       by_use u e (of_use t x.leaves u (subst P (uses_are d x h) (in_place u (uses_at t d) n e)))
     where
-      by_use : (u : SlotUse) → slice_get (uses_at t d) n ≡ Some u → Origin t u ⊎ ((leaf m : ℕ) × (u ≡ OwnLock leaf m)) → IsCapOf t spec u (use_cap t d n u)
+      by_use : (u : SlotUse) → slice_get (uses_at t d) n ≡ Some u → Origin t u ⊎ ((leaf m : ℕ) × (u ≡ OwnLock leaf m))
+          → IsCapOf t spec u (use_cap t d n u)
       by_use (OfEnd k m) e (inl o) = end_is d n k m o
       by_use (OfEnd k m) e (inr o) = let z = o.2 in cc
       by_use (Handler k m) e (inl o) = handler_is d n k m o
@@ -269,7 +299,8 @@ module _ (t : Tables) (can : CanSlot t) where
       by_use (OwnLock leaf m) e o = lock_is d n leaf m x h e
 
   -- the CNode of a domain
-  pub cnode_object : (d : ℕ) (x : Domain) → slice_get t.flat.domains d ≡ Some x → object_at spec d ≡ Some (CNode (bits_for (length (uses_at t d))) (slots_at t d))
+  pub cnode_object : (d : ℕ) (x : Domain) → slice_get t.flat.domains d ≡ Some x
+      → object_at spec d ≡ Some (CNode (bits_for (length (uses_at t d))) (slots_at t d))
   cnode_object d x h =
       let p = part series.CNode d (OfDomain d) (CNodeOf d) in
       let at : place t (CNodeOf d) ≡ d = omega arith in
@@ -293,11 +324,18 @@ module _ (t : Tables) (can : CanSlot t) where
         only = λ slot i. (
             let a = from_gather F slot (uses_at t d) i in
             elim a.3 [
-              | inl e ↦ record { before = a.0; used = a.1; at = a.2; is = ap (λ (z : ℕ × Cap). z.0) (sym e); cap = subst (λ (z : ℕ × Cap). IsCapOf t spec a.1 z.1) e (cap_is d a.0 x a.1 h a.2) }
+              | inl e ↦ record {
+                before = a.0;
+                used = a.1;
+                at = a.2;
+                is = ap (λ (z : ℕ × Cap). z.0) (sym e);
+                cap = subst (λ (z : ℕ × Cap). IsCapOf t spec a.1 z.1) e (cap_is d a.0 x a.1 h a.2);
+              }
               | inr n ↦ absurd n
             ]);
         every = λ n u e. (use_cap t d n u, in_gather F (f n u) (uses_at t d) n u e (inl refl));
       }
 
-pub slotted : (t : Tables) → CanSlot t → (d : ℕ) (x : Domain) → slice_get t.flat.domains d ≡ Some x → IsCNodeOf t (spec_of t) d (domain_uses t.source t.flat x.leaves)
+pub slotted : (t : Tables) → CanSlot t → (d : ℕ) (x : Domain) → slice_get t.flat.domains d ≡ Some x
+    → IsCNodeOf t (spec_of t) d (domain_uses t.source t.flat x.leaves)
 slotted t can d x h = subst (λ (us : List SlotUse). IsCNodeOf t (spec_of t) d us) (uses_are t can d x h) (cnode_is t can d x h)

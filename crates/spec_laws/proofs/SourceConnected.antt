@@ -24,8 +24,10 @@ use Rattle.vspace_layout.specs.PageLimits.{first_page_limit}
 use Rattle.vspace_layout.proofs.Rising.{rising}
 use Rattle.vspace_layout.proofs.Sections.{sections_stand}
 
-pub tables_are_connected : (s : Source) (images : Images) → AreFilesShort s → AreNamesSound s → first_type_fault s ≡ None → first_flat_fault s ≡ None → first_setting_fault s ≡ None
-    → AreNumbered (flat_of s) images → AreSound images → first_space_fault (flat_of s) images ≡ None → first_slot_fault s (flat_of s) ≡ None → first_page_limit (given s (flat_of s) (settled_of s) images) ≡ None
+pub tables_are_connected : (s : Source) (images : Images) → AreFilesShort s → AreNamesSound s → first_type_fault s ≡ None
+    → first_flat_fault s ≡ None → first_setting_fault s ≡ None
+    → AreNumbered (flat_of s) images → AreSound images → first_space_fault (flat_of s) images ≡ None
+    → first_slot_fault s (flat_of s) ≡ None → first_page_limit (given s (flat_of s) (settled_of s) images) ≡ None
     → IsConnected (tables_from s (flat_of s) (settled_of s) images)
 tables_are_connected s images short sound types flat settings numbered sections space slots pages =
     let g = given s (flat_of s) (settled_of s) images in
@@ -34,6 +36,7 @@ tables_are_connected s images short sound types flat settings numbered sections 
       slots = refl;
       spaces = refl;
       rise = λ d. rising g d (sections_stand g numbered sections space d);
-      seen = λ x w. memory_some s sound (dotted s short) types (ends_typed s sound (dotted s short) types) (settings_sound s settings) x.place x.number x.connection x.end x.here x.stands w;
+      seen = λ x w. memory_some s sound (dotted s short) types (ends_typed s sound (dotted s short) types)
+          (settings_sound s settings) x.place x.number x.connection x.end x.here x.stands w;
       registers = (registers_there s short sound types settings).same;
     }

@@ -71,7 +71,8 @@ one_allowed Direct To n h a = absurd (true≢false (sym h))
 module _ (s : Source) (sound : AreNamesSound s) (dotted : AreDotted (hierarchy_of s)) (types : first_type_fault s ≡ None) where
   -- ---- leaves
 
-  domain_of_software : (n : ℕ) (leaf : Leaf) → slice_get (flat_of s).leaves n ≡ Some leaf → leaf.hardware ≡ false → (d : ℕ) × (leaf.domain ≡ Some d)
+  domain_of_software : (n : ℕ) (leaf : Leaf) → slice_get (flat_of s).leaves n ≡ Some leaf → leaf.hardware ≡ false
+      → (d : ℕ) × (leaf.domain ≡ Some d)
   domain_of_software n leaf e soft =
       let h = hierarchy_of s in
       let x = from_get_map (leaf_of h) (leaves h) n leaf e in
@@ -79,7 +80,8 @@ module _ (s : Source) (sound : AreNamesSound s) (dotted : AreDotted (hierarchy_o
       let hard : is_hardware h x.0.part ≡ false = ap (λ (z : Leaf). z.hardware) x.2 ∙ soft in
       (d, ap (λ (z : Leaf). z.domain) (sym x.2) ∙ ap (λ b. cond b None (Some d)) hard)
 
-  domain_of_hardware : (n : ℕ) (leaf : Leaf) → slice_get (flat_of s).leaves n ≡ Some leaf → leaf.hardware ≡ true → leaf.domain ≡ None
+  domain_of_hardware : (n : ℕ) (leaf : Leaf) → slice_get (flat_of s).leaves n ≡ Some leaf → leaf.hardware ≡ true
+      → leaf.domain ≡ None
   domain_of_hardware n leaf e hard =
       let h = hierarchy_of s in
       let x = from_get_map (leaf_of h) (leaves h) n leaf e in
@@ -87,23 +89,28 @@ module _ (s : Source) (sound : AreNamesSound s) (dotted : AreDotted (hierarchy_o
       ap (λ (z : Leaf). z.domain) (sym x.2) ∙ ap (λ b. cond b None (Some (domain_number h (domain_of h x.0.path)))) is
 
   -- the leaf of an end is a device just where the table has it
-  leaf_hardware : (x : EndAt (flat_of s)) (leaf : Leaf) → slice_get (flat_of s).leaves x.end.leaf ≡ Some leaf → leaf.hardware ≡ is_at_device x
+  leaf_hardware : (x : EndAt (flat_of s)) (leaf : Leaf) → slice_get (flat_of s).leaves x.end.leaf ≡ Some leaf
+      → leaf.hardware ≡ is_at_device x
   leaf_hardware x leaf e =
       let t = ends_typed s sound dotted types x.place x.number x.connection x.end x.here x.stands in
       let both : Some leaf ≡ Some t.leaf = sym e ∙ t.here in
       let same : leaf ≡ t.leaf = cc in
-      ap (λ (z : Leaf). z.hardware) same ∙ hardware_fits (end_rule x.connection.connector x.end.role) (record { interface = t.interface; hardware = t.leaf.hardware }) t.kind
+      ap (λ (z : Leaf). z.hardware) same ∙ hardware_fits (end_rule x.connection.connector x.end.role)
+      (record { interface = t.interface; hardware = t.leaf.hardware }) t.kind
 
   -- ---- ends of devices
 
   -- a connection has one end in the role of its devices
-  one_end : (y : Strung) → IsIn y (connections (hierarchy_of s)) → (r : Role) → (end_rule y.wire.0 r).hardware ≡ true → count_of r y.wire.1.ends ≡ 1
-  one_end y i r hard = one_allowed y.wire.0 r (count_of r y.wire.1.ends) hard (allowed y.wire.0 r y.wire.1.ends ((well_typed s sound types y i).counts))
+  one_end : (y : Strung) → IsIn y (connections (hierarchy_of s)) → (r : Role) → (end_rule y.wire.0 r).hardware ≡ true
+      → count_of r y.wire.1.ends ≡ 1
+  one_end y i r hard = one_allowed y.wire.0 r (count_of r y.wire.1.ends) hard
+      (allowed y.wire.0 r y.wire.1.ends ((well_typed s sound types y i).counts))
 
   connector_is : (y : Strung) (c : FlatConnection) → flat_connection (hierarchy_of s) y ≡ c → y.wire.0 ≡ c.connector
   connector_is y c e = ap (λ (z : FlatConnection). z.connector) e
 
-  has_device : (k : ℕ) (c : FlatConnection) → slice_get (flat_of s).connections k ≡ Some c → (r : Role) → (end_rule c.connector r).hardware ≡ true → HasDevice (flat_of s) k
+  has_device : (k : ℕ) (c : FlatConnection) → slice_get (flat_of s).connections k ≡ Some c → (r : Role)
+      → (end_rule c.connector r).hardware ≡ true → HasDevice (flat_of s) k
   has_device k c here r hard =
       let d = some_end s sound dotted types k c here r in
       record {
@@ -118,28 +125,36 @@ module _ (s : Source) (sound : AreNamesSound s) (dotted : AreDotted (hierarchy_o
     stands : slice_get y.wire.1.ends x.number ≡ Some end
     role : end.role ≡ x.end.role
 
-  end_of : (y : Strung) → IsIn y (connections (hierarchy_of s)) → (x : EndAt (flat_of s)) → flat_connection (hierarchy_of s) y ≡ x.connection → EndOf y x
+  end_of : (y : Strung) → IsIn y (connections (hierarchy_of s)) → (x : EndAt (flat_of s))
+      → flat_connection (hierarchy_of s) y ≡ x.connection → EndOf y x
   end_of y i x same =
       let h = hierarchy_of s in
-      let stands : slice_get (flat_ends h y) x.number ≡ Some x.end = ap (λ (c : FlatConnection). slice_get c.ends x.number) same ∙ x.stands in
-      let short : x.number < length y.wire.1.ends = subst (λ n. x.number < n) (ends_kept s sound dotted y i) (slice_get_within (flat_ends h y) x.number x.end stands) in
+      let stands : slice_get (flat_ends h y) x.number ≡ Some x.end = ap (λ (c : FlatConnection). slice_get c.ends x.number) same
+      ∙ x.stands in
+      let short : x.number < length y.wire.1.ends = subst (λ n. x.number < n) (ends_kept s sound dotted y i)
+      (slice_get_within (flat_ends h y) x.number x.end stands) in
       let end = at_place y.wire.1.ends x.number short in
       let r = all_joined s sound dotted y end.0 i (in_get y.wire.1.ends x.number end.0 end.1) in
-      let both : Some (flat_end h y.path end.0 r.0) ≡ Some x.end = sym (end_numbers_kept s sound dotted y x.number end.0 r.0 i end.1 r.1) ∙ stands in
+      let both : Some (flat_end h y.path end.0 r.0) ≡ Some x.end =
+      sym (end_numbers_kept s sound dotted y x.number end.0 r.0 i end.1 r.1) ∙ stands in
       let is : flat_end h y.path end.0 r.0 ≡ x.end = cc in
       record { end = end.0; stands = end.1; role = ap (λ (z : FlatEnd). z.role) is }
 
   one_number : (x z : EndAt (flat_of s)) → z.place ≡ x.place → is_at_device x ≡ true → is_at_device z ≡ true → z.number ≡ x.number
   one_number x z place a b =
       let y = strung_of s x.place x.connection x.here in
-      let both : Some x.connection ≡ Some z.connection = sym x.here ∙ ap (slice_get (flat_of s).connections) (sym place) ∙ z.here in
+      let both : Some x.connection ≡ Some z.connection = sym x.here ∙ ap (slice_get (flat_of s).connections)
+      (sym place) ∙ z.here in
       let connection : x.connection ≡ z.connection = cc in
       let e = end_of y.0 y.1 x y.2 in
       let f = end_of y.0 y.1 z (y.2 ∙ connection) in
-      let role : z.end.role ≡ x.end.role = one_role x.connection.connector z.end.role x.end.role (ap (λ (c : FlatConnection). (end_rule c.connector z.end.role).hardware) connection ∙ b) a in
+      let role : z.end.role ≡ x.end.role = one_role x.connection.connector z.end.role x.end.role
+      (ap (λ (c : FlatConnection). (end_rule c.connector z.end.role).hardware) connection ∙ b) a in
       let one = one_end y.0 y.1 x.end.role (ap (λ c. (end_rule c x.end.role).hardware) (connector_is y.0 x.connection y.2) ∙ a) in
-      let is : (r : Role) → r ≡ x.end.role → same_role r x.end.role ≡ true = λ r e. ap (λ q. same_role q x.end.role) e ∙ same_role_self x.end.role in
-      alone (λ (e : End). same_role e.role x.end.role) y.0.wire.1.ends z.number x.number f.end e.end (omega (arith, one)) f.stands e.stands (is f.end.role (f.role ∙ role)) (is e.end.role e.role)
+      let is : (r : Role) → r ≡ x.end.role → same_role r x.end.role ≡ true = λ r e. ap (λ q. same_role q x.end.role) e
+      ∙ same_role_self x.end.role in
+      alone (λ (e : End). same_role e.role x.end.role) y.0.wire.1.ends z.number x.number f.end e.end (omega (arith, one)) f.stands
+      e.stands (is f.end.role (f.role ∙ role)) (is e.end.role e.role)
 
   pub devices_flat : IsFlat s (flat_of s)
   devices_flat =

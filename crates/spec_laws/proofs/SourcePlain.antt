@@ -24,15 +24,23 @@ use Rattle.vspace_layout.specs.Given.{ends, given, leaves_of}
 use Rattle.vspace_layout.specs.Regions.{threads_of}
 use Rattle.vspace_layout.specs.Threads.{leaf_threads}
 
-programs_there : (s : Source) (images : Images) → AreFilesShort s → AreNamesSound s → (d : ℕ) (x : ThreadOf) → IsIn x (threads_of (given s (flat_of s) (settled_of s) images) d) → HasProgram (given s (flat_of s) (settled_of s) images) x.leaf
+programs_there : (s : Source) (images : Images) → AreFilesShort s → AreNamesSound s → (d : ℕ) (x : ThreadOf)
+    → IsIn x (threads_of (given s (flat_of s) (settled_of s) images) d)
+    → HasProgram (given s (flat_of s) (settled_of s) images) x.leaf
 programs_there s images short sound d x i =
     let g = given s (flat_of s) (settled_of s) images in
-    let t : (leaf : ℕ) × IsIn leaf (leaves_of g.flat d) × IsIn x (leaf_threads g.flat (ends g) leaf) = from_flat_map (leaf_threads g.flat (ends g)) x (leaves_of g.flat d) i in
+    let t : (leaf : ℕ) × IsIn leaf (leaves_of g.flat d) × IsIn x (leaf_threads g.flat (ends g) leaf) =
+    from_flat_map (leaf_threads g.flat (ends g)) x (leaves_of g.flat d) i in
     let y = domain_there g d t.0 t.1 in
     let own = leaf_owned (hierarchy_of s) d t.0 y.0 y.1 y.2 in
-    subst (HasProgram g) (sym (thread_leaf g t.0 x t.2)) (record { found = own.0; here = own.1; named = leaves_named s short sound t.0 own.0 own.1 })
+    subst (HasProgram g) (sym (thread_leaf g t.0 x t.2)) (record {
+      found = own.0;
+      here = own.1;
+      named = leaves_named s short sound t.0 own.0 own.1;
+    })
 
-pub layouts_are_plain : (s : Source) (images : Images) → AreFilesShort s → AreNamesSound s → first_flat_fault s ≡ None → ((m : ℕ) (image : Image) → slice_get images.images m ≡ Some image → IsImagePlain image)
+pub layouts_are_plain : (s : Source) (images : Images) → AreFilesShort s → AreNamesSound s → first_flat_fault s ≡ None
+    → ((m : ℕ) (image : Image) → slice_get images.images m ≡ Some image → IsImagePlain image)
     → IsPlain (given s (flat_of s) (settled_of s) images)
 layouts_are_plain s images short sound flat plain = record {
   badges = badges_small s (flat_is_within s sound flat (short_few s short)).ends;

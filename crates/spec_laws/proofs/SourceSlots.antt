@@ -23,12 +23,15 @@ use Rattle.spec_laws.proofs.Interrupts.{device_there}
 use Rattle.spec_laws.specs.Slotted.{CanSlot}
 use Rattle.system_spec.specs.TablesFrom.{tables_from}
 
-uses_few : (s : Source) → AreNamesSound s → first_slot_fault s (flat_of s) ≡ None → (d : ℕ) (x : Domain) → slice_get (flat_of s).domains d ≡ Some x → length (domain_uses s (flat_of s) x.leaves) < 2 ^ 16
+uses_few : (s : Source) → AreNamesSound s → first_slot_fault s (flat_of s) ≡ None → (d : ℕ) (x : Domain)
+    → slice_get (flat_of s).domains d ≡ Some x → length (domain_uses s (flat_of s) x.leaves) < 2 ^ 16
 uses_few s sound none d x at =
-    let l = slots.few_uses s (flat_of s) (few_uses s sound none) d (plan_of (domain_uses s (flat_of s) x.leaves)) (get_map (λ (y : Domain). plan_of (domain_uses s (flat_of s) y.leaves)) (flat_of s).domains d x at) in
+    let l = slots.few_uses s (flat_of s) (few_uses s sound none) d (plan_of (domain_uses s (flat_of s) x.leaves))
+    (get_map (λ (y : Domain). plan_of (domain_uses s (flat_of s) y.leaves)) (flat_of s).domains d x at) in
     omega (arith, l)
 
-pub tables_have_slots : (s : Source) (images : Images) → AreFilesShort s → AreNamesSound s → first_type_fault s ≡ None → first_setting_fault s ≡ None → first_slot_fault s (flat_of s) ≡ None
+pub tables_have_slots : (s : Source) (images : Images) → AreFilesShort s → AreNamesSound s → first_type_fault s ≡ None
+    → first_setting_fault s ≡ None → first_slot_fault s (flat_of s) ≡ None
     → CanSlot (tables_from s (flat_of s) (settled_of s) images)
 tables_have_slots s images short sound types settings none = record {
   slots = refl;

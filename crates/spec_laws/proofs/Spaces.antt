@@ -61,19 +61,29 @@ module _ (t : Tables) (can : CanMap t) (d : ℕ) (x : Domain) (h : slice_get t.f
       let same : f.shown.at ≡ g.shown.at = begins_page v cap f ∙ sym (begins_page v more g) in
       let a = get_map (λ (p : MappedPage). p.at) pages f.number f.shown f.here in
       let b = get_map (λ (p : MappedPage). p.at) pages g.number g.shown g.here in
-      let number : f.number ≡ g.number = rises_tell (map (λ (p : MappedPage). p.at) pages) f.number g.number f.shown.at (rise t can d x h).rise a (b ∙ ap (λ z. Some z) (sym same)) in
+      let number : f.number ≡ g.number = rises_tell (map (λ (p : MappedPage). p.at) pages) f.number g.number f.shown.at
+      (rise t can d x h).rise a (b ∙ ap (λ z. Some z) (sym same)) in
       let there : slice_get pages g.number ≡ Some f.shown = ap (λ n. slice_get pages n) (sym number) ∙ f.here in
       let shown : f.shown ≡ g.shown = some (slice_get pages g.number) f.shown g.shown there g.here in
       f.is ∙ ap (λ n. page_cap t can d x h n f.shown) number ∙ ap (λ p. page_cap t can d x h g.number p) shown ∙ sym g.is
 
   -- the capability at an address of a page is that of the page
-  pub cap_is : (v n : ℕ) (p : MappedPage) (cap : Cap) → slice_get (mapped_pages (system t) d) n ≡ Some p → p.at / 4096 ≡ v / 4096 → IsAt (spec_of t) (root_of t d) v cap → cap ≡ page_cap t can d x h n p
+  pub cap_is : (v n : ℕ) (p : MappedPage) (cap : Cap) → slice_get (mapped_pages (system t) d) n ≡ Some p → p.at / 4096 ≡ v / 4096
+      → IsAt (spec_of t) (root_of t d) v cap → cap ≡ page_cap t can d x h n p
   cap_is v n p cap e same i =
       let l = within t can d x h v n p e same in
-      one_is v cap (page_cap t can d x h n p) (found t can d x h v cap l i) (record { number = n; shown = p; here = e; same = same; is = refl })
+      one_is v cap (page_cap t can d x h n p) (found t can d x h v cap l i) (record {
+        number = n;
+        shown = p;
+        here = e;
+        same = same;
+        is = refl;
+      })
 
-  pub is_at : (v n : ℕ) (p : MappedPage) → slice_get (mapped_pages (system t) d) n ≡ Some p → p.at / 4096 ≡ v / 4096 → IsAt (spec_of t) (root_of t d) v (page_cap t can d x h n p)
-  is_at v n p e same = finds t can d x h v (page_cap t can d x h n p) (within t can d x h v n p e same) (record { number = n; shown = p; here = e; same = same; is = refl })
+  pub is_at : (v n : ℕ) (p : MappedPage) → slice_get (mapped_pages (system t) d) n ≡ Some p → p.at / 4096 ≡ v / 4096
+      → IsAt (spec_of t) (root_of t d) v (page_cap t can d x h n p)
+  is_at v n p e same = finds t can d x h v (page_cap t can d x h n p) (within t can d x h v n p e same)
+      (record { number = n; shown = p; here = e; same = same; is = refl })
 
   pub pages_are : ArePagesOf t (spec_of t) d (root_of t d)
   pages_are = record {
@@ -82,7 +92,8 @@ module _ (t : Tables) (can : CanMap t) (d : ℕ) (x : Domain) (h : slice_get t.f
         let P : ℕ → Type 0 = λ z. MapsPage t d z f.shown.read f.shown.write in (
           f.shown.read,
           f.shown.write,
-          subst P (begins_page v cap f) (mapped_is t can.settled d f.shown (in_place f.shown (mapped_pages (system t) d) f.number f.here)),
+          subst P (begins_page v cap f) (mapped_is t can.settled d f.shown (in_place f.shown (mapped_pages (system t) d)
+              f.number f.here)),
           ap (λ (z : Cap). z.rights) f.is,
           ap (λ (z : Cap). z.badge) f.is,
         ));
@@ -92,14 +103,25 @@ module _ (t : Tables) (can : CanMap t) (d : ℕ) (x : Domain) (h : slice_get t.f
         let e = p.at in
         let same : p.page.at / 4096 ≡ v / 4096 = ap (λ z. z / 4096) e ∙ whole v in
         let l = within t can d x h v n.0 p.page n.1 same in
-        let cap = page_cap t can d x h n.0 p.page in
-        (l, (cap, finds t can d x h v cap l (record { number = n.0; shown = p.page; here = n.1; same = same; is = refl }), rights p.may_read p.may_write)));
+        let cap = page_cap t can d x h n.0 p.page in (
+          l,
+          (
+            cap,
+            finds t can d x h v cap l (record { number = n.0; shown = p.page; here = n.1; same = same; is = refl }),
+            rights p.may_read p.may_write,
+          ),
+        ));
     one = λ v cap more l i j. one_is v cap more (found t can d x h v cap l i) (found t can d x h v more l j);
     frames = λ v cap l i. (
         let f = found t can d x h v cap l i in
         let o = frame_of_page t can d x h f.number f.shown f.here in
-        let at : place t (FrameOf (number_shown (system t) d f.number f.shown.shown)) ≡ frames_from t + number_shown (system t) d f.number f.shown.shown = omega arith in
-        (o.0.paddr, o.0.fill, ap (λ (z : Cap). object_at (spec_of t) z.object) f.is ∙ ap (λ z. object_at (spec_of t) z) (sym at) ∙ o.1));
+        let at : place t (FrameOf (number_shown (system t) d f.number f.shown.shown)) ≡ frames_from t + number_shown (system t) d
+        f.number f.shown.shown = omega arith in (
+          o.0.paddr,
+          o.0.fill,
+          ap (λ (z : Cap). object_at (spec_of t) z.object) f.is ∙ ap (λ z. object_at (spec_of t) z)
+              (sym at) ∙ o.1,
+        ));
   }
     where
       rights : {a b c e : Bool} → a ≡ b → c ≡ e → memory_rights a c ≡ memory_rights b e

@@ -51,14 +51,17 @@ server_leaf g leaf e x i = by_test (serves g.flat e) i
 pub thread_leaf : (g : Given) (leaf : ℕ) (x : ThreadOf) → IsIn x (leaf_threads g.flat (ends g) leaf) → x.leaf ≡ leaf
 thread_leaf g leaf x (inl same) = ap (λ (z : ThreadOf). z.leaf) (sym same)
 thread_leaf g leaf x (inr i) =
-    let e : (e : EndAt) × IsIn e (ends_at (ends g) leaf) × IsIn x (server g.flat leaf e) = from_flat_map (server g.flat leaf) x (ends_at (ends g) leaf) i in
+    let e : (e : EndAt) × IsIn e (ends_at (ends g) leaf) × IsIn x (server g.flat leaf e) =
+    from_flat_map (server g.flat leaf) x (ends_at (ends g) leaf) i in
     server_leaf g leaf e.0 x e.2
 
 -- a domain with a leaf is there
-pub domain_there : (g : Given) (d l : ℕ) → IsIn l (leaves_of g.flat d) → (x : Domain) × (slice_get g.flat.domains d ≡ Some x) × IsIn l x.leaves
+pub domain_there : (g : Given) (d l : ℕ) → IsIn l (leaves_of g.flat d) → (x : Domain) × (slice_get g.flat.domains d ≡ Some x)
+    × IsIn l x.leaves
 domain_there g d l i = by_domain (slice_get g.flat.domains d) refl i
   where
-    by_domain : (o : Option Domain) → slice_get g.flat.domains d ≡ o → IsIn l (option_map_or (λ (x : Domain). x.leaves) o []) → (x : Domain) × (slice_get g.flat.domains d ≡ Some x) × IsIn l x.leaves
+    by_domain : (o : Option Domain) → slice_get g.flat.domains d ≡ o → IsIn l (option_map_or (λ (x : Domain). x.leaves) o [])
+        → (x : Domain) × (slice_get g.flat.domains d ≡ Some x) × IsIn l x.leaves
     by_domain None e i = absurd i
     by_domain (Some x) e i = (x, e, i)
 
@@ -67,7 +70,8 @@ domain_there g d l i = by_domain (slice_get g.flat.domains d) refl i
 stack_sized : (n b : ℕ) → option_map whole_pages (within 1 16777216 n) ≡ Some b → 4096 ≤ b
 stack_sized n b e = by_test (nat_le 1 n && nat_le n 16777216) refl e
   where
-    by_test : (t : Bool) → (nat_le 1 n && nat_le n 16777216) ≡ t → option_map whole_pages (cond t (Some n) None) ≡ Some b → 4096 ≤ b
+    by_test : (t : Bool) → (nat_le 1 n && nat_le n 16777216) ≡ t → option_map whole_pages (cond t (Some n) None) ≡ Some b
+        → 4096 ≤ b
     by_test true t e =
         let low = leb-true 1 n (and_parts (nat_le 1 n) (nat_le n 16777216) t).0 in
         let is : (n + 4095) / 4096 * 4096 ≡ b = cc in
@@ -106,12 +110,14 @@ leaves_sound s none =
 
 leaf_stack : (f : LeafFound) → f.leaf.hardware ≡ false → bad_in_leaf f ≡ [] → 4096 ≤ (leaf_setting f).stack
 leaf_stack f soft good =
-    let is : (leaf_setting f).stack ≡ unwrap_or (meant stack_in 16384 f.stack) 0 = ap (λ b. cond b 0 (unwrap_or (meant stack_in 16384 f.stack) 0)) soft in
+    let is : (leaf_setting f).stack ≡ unwrap_or (meant stack_in 16384 f.stack) 0 =
+    ap (λ b. cond b 0 (unwrap_or (meant stack_in 16384 f.stack) 0)) soft in
     let l = stack_meant f.stack (none_right (bad_value priority_in f.priority) (bad_value stack_in f.stack) good) in
     omega (arith, is, l)
 
 -- a leaf of a domain is software
-pub soft_leaf : (s : Source) (l d : ℕ) (leaf : Leaf) → slice_get (flat_of s).leaves l ≡ Some leaf → leaf.domain ≡ Some d → leaf.hardware ≡ false
+pub soft_leaf : (s : Source) (l d : ℕ) (leaf : Leaf) → slice_get (flat_of s).leaves l ≡ Some leaf → leaf.domain ≡ Some d
+    → leaf.hardware ≡ false
 soft_leaf s l d leaf at is =
     let h = hierarchy_of s in
     let x = from_get_map (leaf_of h) (leaves h) l leaf at in
@@ -122,7 +128,8 @@ soft_leaf s l d leaf at is =
     by_test true n e = cc
     by_test false n e = refl
 
-stack_some : (s : Source) → first_setting_fault s ≡ None → (l d : ℕ) (leaf : Leaf) → slice_get (flat_of s).leaves l ≡ Some leaf → leaf.domain ≡ Some d → 1 ≤ stack_pages (settled_of s) l
+stack_some : (s : Source) → first_setting_fault s ≡ None → (l d : ℕ) (leaf : Leaf) → slice_get (flat_of s).leaves l ≡ Some leaf
+    → leaf.domain ≡ Some d → 1 ≤ stack_pages (settled_of s) l
 stack_some s none l d leaf at own =
     let h = hierarchy_of s in
     let fs = leaves_found h (flat_of s) in
@@ -131,13 +138,16 @@ stack_some s none l d leaf at own =
     let settled : slice_get (settled_of s).leaves l ≡ Some (leaf_setting f) = get_map leaf_setting fs l f found in
     let good = none_in bad_in_leaf fs f (leaves_sound s none) (in_get fs l f found) in
     let most = leaf_stack f (soft_leaf s l d leaf at own) good in
-    let is : stack_pages (settled_of s) l ≡ (leaf_setting f).stack / 4096 = ap (λ o. option_map_or (λ z. z.stack / 4096) o 0) settled in
+    let is : stack_pages (settled_of s) l ≡ (leaf_setting f).stack / 4096 =
+    ap (λ o. option_map_or (λ z. z.stack / 4096) o 0) settled in
     omega (arith, most, is)
 
-pub stacks_some : (s : Source) (images : Images) → first_setting_fault s ≡ None → (d : ℕ) (x : ThreadOf) → IsIn x (threads_of (given s (flat_of s) (settled_of s) images) d) → 1 ≤ stack_pages (settled_of s) x.leaf
+pub stacks_some : (s : Source) (images : Images) → first_setting_fault s ≡ None → (d : ℕ) (x : ThreadOf)
+    → IsIn x (threads_of (given s (flat_of s) (settled_of s) images) d) → 1 ≤ stack_pages (settled_of s) x.leaf
 stacks_some s images none d x i =
     let g = given s (flat_of s) (settled_of s) images in
-    let t : (leaf : ℕ) × IsIn leaf (leaves_of g.flat d) × IsIn x (leaf_threads g.flat (ends g) leaf) = from_flat_map (leaf_threads g.flat (ends g)) x (leaves_of g.flat d) i in
+    let t : (leaf : ℕ) × IsIn leaf (leaves_of g.flat d) × IsIn x (leaf_threads g.flat (ends g) leaf) =
+    from_flat_map (leaf_threads g.flat (ends g)) x (leaves_of g.flat d) i in
     let y = domain_there g d t.0 t.1 in
     let own = leaf_owned (hierarchy_of s) d t.0 y.0 y.1 y.2 in
     subst (λ n. 1 ≤ stack_pages (settled_of s) n) (sym (thread_leaf g t.0 x t.2)) (stack_some s none t.0 d own.0 own.1 own.2)

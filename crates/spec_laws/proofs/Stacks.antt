@@ -30,7 +30,8 @@ meant_whole (Some g) = by_number (number_in g.value.kind)
     by_number (Some n) = sized_whole n
 
 leaf_whole : (f : LeafFound) → (leaf_setting f).stack % 4096 ≡ 0
-leaf_whole f = cond_both f.leaf.hardware 0 (unwrap_or (meant stack_in 16384 f.stack) 0) (λ z. z % 4096 ≡ 0) (λ e. omega arith) (λ e. meant_whole f.stack)
+leaf_whole f = cond_both f.leaf.hardware 0 (unwrap_or (meant stack_in 16384 f.stack) 0) (λ z. z % 4096 ≡ 0) (λ e. omega arith)
+    (λ e. meant_whole f.stack)
 
 pub stacks_whole : (s : Source) (leaf : ℕ) (x : LeafSetting) → slice_get (settled_of s).leaves leaf ≡ Some x → x.stack % 4096 ≡ 0
 stacks_whole s leaf x at =

@@ -42,7 +42,8 @@ no_level zero m ls e = cc
 no_level (suc j) m ls e = cc
 
 -- tables of a level span so many of those of a level below it
-spans_many : (j : ℕ) (l : Shape) (ks : List Shape) (m : Shape) (ls : List Shape) → AreStacked (l ∷ ks) → drop j (l ∷ ks) ≡ m ∷ ls → (n : ℕ) × (span m ≡ span l * n)
+spans_many : (j : ℕ) (l : Shape) (ks : List Shape) (m : Shape) (ls : List Shape) → AreStacked (l ∷ ks) → drop j (l ∷ ks) ≡ m ∷ ls
+    → (n : ℕ) × (span m ≡ span l * n)
 spans_many zero l ks m ls s e = let same : l ≡ m = cc in (1, ap span (sym same) ∙ sym (mul-one (span l)))
 spans_many (suc j) l [] m ls s e = absurd (no_level j m ls e)
 spans_many (suc j) l (k ∷ ks) m ls s e =
@@ -60,15 +61,21 @@ starts_under s n m a pos e =
 
 -- ---- what is mapped above stands for what is mapped below
 
-pub upper_of : (l : Shape) (xs : List Mapping) (x : Mapping) → IsIn x xs → (u : Mapping) × IsIn u (uppers l (runs (span l) xs)) × (u.at ≡ x.at / span l * span l)
+pub upper_of : (l : Shape) (xs : List Mapping) (x : Mapping) → IsIn x xs → (u : Mapping) × IsIn u (uppers l (runs (span l) xs))
+    × (u.at ≡ x.at / span l * span l)
 upper_of l xs x i =
     let r = in_runs (span l) x xs i in
     let p = place_of r.0 (runs (span l) xs) r.1 in
     let u = upper l p.0 r.0 in
-    let F : ℕ → List Mapping → List Mapping = λ j r. upper l j r ∷ [] in
-    (u, in_gather F u (runs (span l) xs) p.0 r.0 p.1 (inl refl), ap (λ z. z * span l) (sym ((one_table (span l) xs r.0 r.1).same x r.2)))
+    let F : ℕ → List Mapping → List Mapping = λ j r. upper l j r ∷ [] in (
+      u,
+      in_gather F u (runs (span l) xs) p.0 r.0 p.1 (inl refl),
+      ap (λ z. z * span l)
+          (sym ((one_table (span l) xs r.0 r.1).same x r.2)),
+    )
 
-lower_of : (l : Shape) (xs : List Mapping) (u : Mapping) → IsIn u (uppers l (runs (span l) xs)) → (x : Mapping) × IsIn x xs × (u.at ≡ x.at / span l * span l)
+lower_of : (l : Shape) (xs : List Mapping) (u : Mapping) → IsIn u (uppers l (runs (span l) xs))
+    → (x : Mapping) × IsIn x xs × (u.at ≡ x.at / span l * span l)
 lower_of l xs u i =
     let rs = runs (span l) xs in
     let F : ℕ → List Mapping → List Mapping = λ j r. upper l j r ∷ [] in
@@ -84,16 +91,21 @@ lower_of l xs u i =
 -- of the lowest of these levels there is a table for v just where something is mapped under it, and all tables stand below `most`
 abbrev pub Tabled : ℕ → List Object → List Shape → List Mapping → ℕ → ℕ → Type 0
 Tabled first T [] xs v most = ⊥
-Tabled first T (l ∷ ls) xs v most = (((n : ℕ) × Arrives first T (l ∷ ls) v n) ↔ ((x : Mapping) × IsIn x xs × (x.at / span l ≡ v / span l))) × ((n : ℕ) → Arrives first T (l ∷ ls) v n → n < most)
+Tabled first T (l ∷ ls) xs v most = (((n : ℕ) × Arrives first T (l ∷ ls) v n)
+    ↔ ((x : Mapping) × IsIn x xs × (x.at / span l ≡ v / span l))) × ((n : ℕ) → Arrives first T (l ∷ ls) v n → n < most)
 
-lowest : (l : Shape) (ls : List Shape) (xs : List Mapping) (y : Mapping) (first link : ℕ) (T back : List Object) (v : ℕ) → AreStacked (l ∷ ls) → AreShapes (l ∷ ls) → IsIn y xs
-    → ((x : Mapping) → IsIn x xs → x.at < root_span (l ∷ ls)) → v < root_span (l ∷ ls) → T ≡ numbered first link (layers (l ∷ ls) xs) ++ back → Tabled first T (l ∷ ls) xs v (sizes (layers (l ∷ ls) xs))
+lowest : (l : Shape) (ls : List Shape) (xs : List Mapping) (y : Mapping) (first link : ℕ) (T back : List Object) (v : ℕ)
+    → AreStacked (l ∷ ls) → AreShapes (l ∷ ls) → IsIn y xs
+    → ((x : Mapping) → IsIn x xs → x.at < root_span (l ∷ ls)) → v < root_span (l ∷ ls)
+    → T ≡ numbered first link (layers (l ∷ ls) xs) ++ back → Tabled first T (l ∷ ls) xs v (sizes (layers (l ∷ ls) xs))
 lowest l ls xs y first link T back v stacked fit i h b t =
     let rs = runs (span l) xs in
     let at = arrives l ls xs y first link T back v stacked fit i h b t in
     let exact = tables_exact (span l) xs (v / span l) in
     let to : ((n : ℕ) × Arrives first T (l ∷ ls) v n) → (x : Mapping) × IsIn x xs × (x.at / span l ≡ v / span l) =
-    λ a. let p = (at a.0).0 a.1 in exact.0 (subst (λ z. IsIn z (heads (span l) rs)) p.head (in_map (head_of (span l)) p.run rs (in_place p.run rs p.number p.at))) in
+    λ a. let p = (at a.0).0 a.1 in
+    exact.0 (subst (λ z. IsIn z (heads (span l) rs)) p.head
+    (in_map (head_of (span l)) p.run rs (in_place p.run rs p.number p.at))) in
     let from : ((x : Mapping) × IsIn x xs × (x.at / span l ≡ v / span l)) → (n : ℕ) × Arrives first T (l ∷ ls) v n =
     λ q. let r = from_map (head_of (span l)) (v / span l) rs (exact.1 q) in
     let p = place_of r.0 rs r.1 in
@@ -102,8 +114,10 @@ lowest l ls xs y first link T back v stacked fit i h b t =
     λ n a. let p = (at n).0 a in let is = p.is in let few = below rs p.number p.run p.at in omega (arith, is, few) in
     ((to, from), low)
 
-tabled : (j : ℕ) (ks : List Shape) (l : Shape) (ls : List Shape) (xs : List Mapping) (y : Mapping) (first link : ℕ) (T back : List Object) (v : ℕ) → drop j ks ≡ l ∷ ls → AreStacked ks → AreShapes ks → IsIn y xs
-    → ((x : Mapping) → IsIn x xs → x.at < root_span ks) → v < root_span ks → T ≡ numbered first link (layers ks xs) ++ back → Tabled first T (l ∷ ls) xs v (sizes (layers ks xs))
+tabled : (j : ℕ) (ks : List Shape) (l : Shape) (ls : List Shape) (xs : List Mapping) (y : Mapping) (first link : ℕ)
+    (T back : List Object) (v : ℕ) → drop j ks ≡ l ∷ ls → AreStacked ks → AreShapes ks → IsIn y xs
+    → ((x : Mapping) → IsIn x xs → x.at < root_span ks) → v < root_span ks → T ≡ numbered first link (layers ks xs) ++ back
+    → Tabled first T (l ∷ ls) xs v (sizes (layers ks xs))
 tabled zero [] l ls xs y first link T back v e stacked fit i h b t = cc
 tabled zero (k ∷ ks) l ls xs y first link T back v e stacked fit i h b t =
     subst (λ z. Tabled first T z xs v (sizes (layers (k ∷ ks) xs))) e (lowest k ks xs y first link T back v stacked fit i h b t)
@@ -114,28 +128,35 @@ tabled (suc j) (k ∷ m ∷ ks) l ls xs y first link T back v e stacked fit i h 
     let U = uppers k rs in
     let next = first + sizes (layers (m ∷ ks) U) in
     let mine = map (table_of k link) rs in
-    let split : T ≡ numbered first next (layers (m ∷ ks) U) ++ (mine ++ back) = t ∙ append_assoc (numbered first next (layers (m ∷ ks) U)) mine back in
+    let split : T ≡ numbered first next (layers (m ∷ ks) U) ++ (mine ++ back) =
+    t ∙ append_assoc (numbered first next (layers (m ∷ ks) U)) mine back in
     let low : 0 < span k = span_some k (fit k (inl refl)) in
     let bound : 0 < root_span (m ∷ ks) = omega (arith, b) in
     let up = upper_of k xs y i in
-    let ih = tabled j (m ∷ ks) l ls U up.0 first next T (mine ++ back) v e stacked.1 (λ s q. fit s (inr q)) up.1 (upper_below k xs (root_span (m ∷ ks)) bound h) b split in
+    let ih = tabled j (m ∷ ks) l ls U up.0 first next T (mine ++ back) v e stacked.1 (λ s q. fit s (inr q)) up.1
+    (upper_below k xs (root_span (m ∷ ks)) bound h) b split in
     let many = spans_many (suc j) k (m ∷ ks) l ls stacked e in
     let under : (a : ℕ) → (a / span k * span k) / span l ≡ a / span l = λ a. starts_under (span k) many.0 (span l) a low many.1 in
     let to : ((n : ℕ) × Arrives first T (l ∷ ls) v n) → (x : Mapping) × IsIn x xs × (x.at / span l ≡ v / span l) =
-    λ a. let u = ih.0.0 a in let x = lower_of k xs u.0 u.1 in (x.0, x.1, sym (under x.0.at) ∙ ap (λ z. z / span l) (sym x.2) ∙ u.2) in
+    λ a. let u = ih.0.0 a in let x = lower_of k xs u.0 u.1 in
+    (x.0, x.1, sym (under x.0.at) ∙ ap (λ z. z / span l) (sym x.2) ∙ u.2) in
     let from : ((x : Mapping) × IsIn x xs × (x.at / span l ≡ v / span l)) → (n : ℕ) × Arrives first T (l ∷ ls) v n =
     λ q. let u = upper_of k xs q.0 q.1 in ih.0.1 (u.0, u.1, ap (λ z. z / span l) u.2 ∙ under q.0.at ∙ q.2) in
-    let all : (n : ℕ) → Arrives first T (l ∷ ls) v n → n < sizes (layers (k ∷ m ∷ ks) xs) = λ n a. let few = ih.1 n a in omega (arith, few) in
+    let all : (n : ℕ) → Arrives first T (l ∷ ls) v n → n < sizes (layers (k ∷ m ∷ ks) xs) = λ n a. let few = ih.1 n a in
+    omega (arith, few) in
     ((to, from), all)
 
 -- ---- in a spec
 
 module _ (t : Tables) (can : CanMap t) where
-  pub there : (d j v : ℕ) (x : Domain) (l : Shape) (ls : List Shape) (h : slice_get t.flat.domains d ≡ Some x) → drop j (shapes (arch t)) ≡ l ∷ ls → v < root_span (shapes (arch t))
-      → Tabled (root_of t d) (objects_from (spec_of t) (root_of t d)) (l ∷ ls) (maps t can d x h) v (sizes (layers (shapes (arch t)) (maps t can d x h)))
+  pub there : (d j v : ℕ) (x : Domain) (l : Shape) (ls : List Shape) (h : slice_get t.flat.domains d ≡ Some x)
+      → drop j (shapes (arch t)) ≡ l ∷ ls → v < root_span (shapes (arch t))
+      → Tabled (root_of t d) (objects_from (spec_of t) (root_of t d)) (l ∷ ls) (maps t can d x h) v
+      (sizes (layers (shapes (arch t)) (maps t can d x h)))
   there d j v x l ls h e b =
       let y = some_map t can d x h in
-      tabled j (shapes (arch t)) l ls (maps t can d x h) y.0 (root_of t d) 0 (objects_from (spec_of t) (root_of t d)) (drop (length (tables_of_domain t d)) (objects_from (spec_of t) (root_of t d))) v e
+      tabled j (shapes (arch t)) l ls (maps t can d x h) y.0 (root_of t d) 0 (objects_from (spec_of t) (root_of t d))
+      (drop (length (tables_of_domain t d)) (objects_from (spec_of t) (root_of t d))) v e
       (shapes_stack (arch t)) (shapes_fit (arch t)) y.1 (maps_below t can d x h) b (from_root t d x h)
 
   pub tables_of_are : (d : ℕ) (x : Domain) → slice_get t.flat.domains d ≡ Some x → AreTablesOf t (spec_of t) d (root_of t d)
@@ -143,8 +164,14 @@ module _ (t : Tables) (can : CanMap t) where
       let all = (there d j v x l ls h e b).0 in (
         λ a.
             let m = all.0 a in
-            let p = from_maps t can d x h m.0 m.1 in
-            (p.shown.at, p.shown.read, p.shown.write, mapped_is t can.settled d p.shown (in_place p.shown (mapped_pages (system t) d) p.number p.here), ap (λ (z : Mapping). z.at / span l) p.is ∙ m.2),
+            let p = from_maps t can d x h m.0 m.1 in (
+              p.shown.at,
+              p.shown.read,
+              p.shown.write,
+              mapped_is t can.settled d p.shown
+                  (in_place p.shown (mapped_pages (system t) d) p.number p.here),
+              ap (λ (z : Mapping). z.at / span l) p.is ∙ m.2,
+            ),
         λ w.
             let p = is_mapped t can.settled d w.0 w.1 w.2 w.3 in
             let n = place_of p.page (mapped_pages (system t) d) p.there in
@@ -152,9 +179,11 @@ module _ (t : Tables) (can : CanMap t) where
       )
 
   -- the table at a place from the root on is the domain's
-  table_label : (d n : ℕ) (x : Domain) → slice_get t.flat.domains d ≡ Some x → n < length (tables_of_domain t d) → IsOf t (labels_of t) (root_of t d + n) (owners.OfDomain d)
+  table_label : (d n : ℕ) (x : Domain) → slice_get t.flat.domains d ≡ Some x → n < length (tables_of_domain t d)
+      → IsOf t (labels_of t) (root_of t d + n) (owners.OfDomain d)
   table_label d n x h l =
-      let long : length (tables_of_domain t d) ≡ length (tables_at t 0 0 d) = tables_counted t (root_of t d) (frames_from t) d ∙ sym (tables_counted t 0 0 d) in
+      let long : length (tables_of_domain t d) ≡ length (tables_at t 0 0 d) = tables_counted t (root_of t d) (frames_from t) d
+      ∙ sym (tables_counted t 0 0 d) in
       let o = at_place (tables_at t 0 0 d) n (omega (arith, long, l)) in
       let p = table_part (all_tables t) (before (domain_tables t) t.flat.domains d + n) (page_table d n (level_of o.0)) in
       let at : place t (TableOf d n) ≡ root_of t d + n = omega arith in

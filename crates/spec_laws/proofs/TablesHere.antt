@@ -70,7 +70,8 @@ module _ (t : Tables) where
       let object : m.cap.object ≡ frame_first + p.0.frame = ap (λ (z : Mapping). z.cap.object) (sym p.2) in
       record { page = p.0; there = p.1; object = omega (arith, object); rights = ap (λ (z : Mapping). z.cap.rights) (sym p.2) }
 
-  of_slot : (d : ℕ) (x : Domain) (level : Level) (slots : List (ℕ × Cap)) (slot : ℕ × Cap) → slice_get t.flat.domains d ≡ Some x → IsIn (objects.Pages level slots) (standing t d) → IsIn slot slots
+  of_slot : (d : ℕ) (x : Domain) (level : Level) (slots : List (ℕ × Cap)) (slot : ℕ × Cap) → slice_get t.flat.domains d ≡ Some x
+      → IsIn (objects.Pages level slots) (standing t d) → IsIn slot slots
       → IsPageCap d slot.1 ⊎ IsTableCap d slot.1
   of_slot d x level slots slot e there i =
       let first = place t (TableOf d 0) in
@@ -85,16 +86,19 @@ module _ (t : Tables) where
             })
       ]
 
-  from_pages : (o i : ℕ) (held : Cap) (level : Level) (slots : List (ℕ × Cap)) → IsAt t o (objects.Pages level slots) → Contains slots (i, held) → InDomain o held
+  from_pages : (o i : ℕ) (held : Cap) (level : Level) (slots : List (ℕ × Cap)) → IsAt t o (objects.Pages level slots)
+      → Contains slots (i, held) → InDomain o held
   from_pages o i held level slots at there =
       let w = of_pages at.what at.sort in
       let d = w.0 in
       let j = w.1 in
       let here : IsThere t (TableOf d j) = subst (λ z. IsThere t z) w.2 at.there in
-      let is : object t (TableOf d j) ≡ objects.Pages level slots = subst (λ z. object t z ≡ objects.Pages level slots) w.2 at.is in
+      let is : object t (TableOf d j) ≡ objects.Pages level slots =
+      subst (λ z. object t z ≡ objects.Pages level slots) w.2 at.is in
       let m = moved t 0 0 (place t (TableOf d 0)) (place t (FrameOf 0)) d j here.1.0 here.1.1 in
       let same : m.0 ≡ objects.Pages level slots = sym (object_is t d j m.0 m.1) ∙ is in
-      let table : IsIn (objects.Pages level slots) (standing t d) = subst (λ z. IsIn z (standing t d)) same (in_place m.0 (standing t d) j m.1) in
+      let table : IsIn (objects.Pages level slots) (standing t d) =
+      subst (λ z. IsIn z (standing t d)) same (in_place m.0 (standing t d) j m.1) in
       let k = contains_at slots (i, held) there in
       record {
         domain = d;
@@ -107,7 +111,8 @@ module _ (t : Tables) where
   pub in_table : (o i : ℕ) (held : Cap) → InTable (spec_of t) o i held → InDomain o held
   in_table o i held there = go (object_at (spec_of t) o) refl there where
     go : (x : Option Object) → object_at (spec_of t) o ≡ x → Contains (slots_of x) (i, held) → InDomain o held
-    go (Some (objects.Pages level slots)) h c = from_pages o i held level slots (object_stands t o (objects.Pages level slots) h) c
+    go (Some (objects.Pages level slots)) h c =
+        from_pages o i held level slots (object_stands t o (objects.Pages level slots) h) c
     go None h c = absurd (let w = c.1 in omega arith)
     go (Some objects.Endpoint) h c = absurd (let w = c.1 in omega arith)
     go (Some objects.Notification) h c = absurd (let w = c.1 in omega arith)
@@ -120,7 +125,12 @@ module _ (t : Tables) where
 
   some_shapes : (a : Arch) → (l : Shape) × (ls : List Shape) × (shapes a ≡ l ∷ ls)
   some_shapes Arm11 = (shape Table (2 ^ 12) 256, shape Directory (2 ^ 20) 4096 ∷ [], refl)
-  some_shapes Aarch64 = (shape Table (2 ^ 12) 512, shape Directory (2 ^ 21) 512 ∷ shape Upper (2 ^ 30) 512 ∷ shape Global (2 ^ 39) 512 ∷ [], refl)
+  some_shapes Aarch64 = (
+    shape Table (2 ^ 12) 512,
+    shape Directory (2 ^ 21) 512 ∷ shape Upper (2 ^ 30) 512
+        ∷ shape Global (2 ^ 39) 512 ∷ [],
+    refl,
+  )
 
   -- the table that holds a page, and its slot
   pub record HeldIn (d : ℕ) (p : Page) : Type 0 where
@@ -138,16 +148,24 @@ module _ (t : Tables) where
       let among : IsIn w.0 (standing t d) = subst (λ ls. IsIn w.0 (tables_of first ls (mappings d))) (sym s.2) w.1 in
       let n = place_of w.0 (standing t d) among in
       let there = stands_there t d n.0 x w.0 e n.1 in
-      let is : object_at (spec_of t) (place t (TableOf d n.0)) ≡ Some w.0 = object_there t (TableOf d n.0) there ∙ ap (λ z. Some z) (object_is t d n.0 w.0 n.1) in
+      let is : object_at (spec_of t) (place t (TableOf d n.0)) ≡ Some w.0 = object_there t (TableOf d n.0) there
+      ∙ ap (λ z. Some z) (object_is t d n.0 w.0 n.1) in
       let slot = slot_of s.0 0 m in
       let k = place_of slot (slots_of (Some w.0)) w.2 in
       let inside : Contains (slots_of (Some w.0)) slot = at_contains (slots_of (Some w.0)) slot k.0 k.1 in
       let same : slot ≡ (slot.0, m.cap) = ap (λ z. (slot.0, z)) (linked_none m.cap) in
       let exact : Contains (slots_of (Some w.0)) (slot.0, m.cap) = subst (λ z. Contains (slots_of (Some w.0)) z) same inside in
-      record { number = n.0; there = there; slot = slot.0; held = subst (λ z. Contains (slots_of z) (slot.0, m.cap)) (sym is) exact }
+      record {
+        number = n.0;
+        there = there;
+        slot = slot.0;
+        held = subst (λ z. Contains (slots_of z) (slot.0, m.cap))
+            (sym is) exact;
+      }
 
   -- so where there is a page there is a root
-  pub root_there : (d : ℕ) (x : Domain) (p : Page) → slice_get t.flat.domains d ≡ Some x → IsIn p (pages_at t d) → IsThere t (TableOf d 0)
+  pub root_there : (d : ℕ) (x : Domain) (p : Page) → slice_get t.flat.domains d ≡ Some x → IsIn p (pages_at t d)
+      → IsThere t (TableOf d 0)
   root_there d x p e i =
       let w = page_held d x p e i in
       let l = slice_get_within (tables_at t 0 0 d) w.number w.there.1.0 w.there.1.1 in

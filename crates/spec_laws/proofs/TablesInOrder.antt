@@ -70,8 +70,10 @@ pub record Reached (first : ℕ) (T : List Object) (ks : List Shape) (n : ℕ) :
   pub within : v < root_span ks
   pub table : Arrives first T (lowest ∷ higher) v n
 
-here : (k : Shape) (ks : List Shape) (xs : List Mapping) (y : Mapping) (first link : ℕ) (T back : List Object) (n : ℕ) → AreStacked (k ∷ ks) → AreShapes (k ∷ ks) → IsIn y xs
-    → ((x : Mapping) → IsIn x xs → x.at < root_span (k ∷ ks)) → T ≡ numbered first link (layers (k ∷ ks) xs) ++ back → above k ks xs ≤ n → n < sizes (layers (k ∷ ks) xs) → Reached first T (k ∷ ks) n
+here : (k : Shape) (ks : List Shape) (xs : List Mapping) (y : Mapping) (first link : ℕ) (T back : List Object) (n : ℕ)
+    → AreStacked (k ∷ ks) → AreShapes (k ∷ ks) → IsIn y xs
+    → ((x : Mapping) → IsIn x xs → x.at < root_span (k ∷ ks)) → T ≡ numbered first link (layers (k ∷ ks) xs) ++ back
+    → above k ks xs ≤ n → n < sizes (layers (k ∷ ks) xs) → Reached first T (k ∷ ks) n
 here k ks xs y first link T back n stacked fit i h t low l =
     let rs = runs (span k) xs in
     let p = n - above k ks xs in
@@ -87,32 +89,52 @@ here k ks xs y first link T back n stacked fit i h t low l =
       levels = refl;
       v = x.0.at;
       within = h x.0 there;
-      table = (arrives k ks xs y first link T back x.0.at stacked fit i h (h x.0 there) t n).1 (record { number = p; run = r.0; at = r.1; head = sym (o.same x.0 x.1); is = is });
+      table = (arrives k ks xs y first link T back x.0.at stacked fit i h (h x.0 there) t n).1 (record {
+        number = p;
+        run = r.0;
+        at = r.1;
+        head = sym (o.same x.0 x.1);
+        is = is;
+      });
     }
 
-reached : (ks : List Shape) (xs : List Mapping) (y : Mapping) (first link : ℕ) (T back : List Object) (n : ℕ) → AreStacked ks → AreShapes ks → IsIn y xs
-    → ((x : Mapping) → IsIn x xs → x.at < root_span ks) → T ≡ numbered first link (layers ks xs) ++ back → n < sizes (layers ks xs) → Reached first T ks n
+reached : (ks : List Shape) (xs : List Mapping) (y : Mapping) (first link : ℕ) (T back : List Object) (n : ℕ) → AreStacked ks
+    → AreShapes ks → IsIn y xs
+    → ((x : Mapping) → IsIn x xs → x.at < root_span ks) → T ≡ numbered first link (layers ks xs) ++ back
+    → n < sizes (layers ks xs) → Reached first T ks n
 reached [] xs y first link T back n stacked fit i h t l = absurd (omega (arith, l))
-reached (k ∷ []) xs y first link T back n stacked fit i h t l = here k [] xs y first link T back n stacked fit i h t (omega arith) l
+reached (k ∷ []) xs y first link T back n stacked fit i h t l = here k [] xs y first link T back n stacked fit i h t
+    (omega arith) l
 reached (k ∷ m ∷ ks) xs y first link T back n stacked fit i h t l =
     let rs = runs (span k) xs in
     let U = uppers k rs in
     let next = first + sizes (layers (m ∷ ks) U) in
     let mine = map (table_of k link) rs in
-    let split : T ≡ numbered first next (layers (m ∷ ks) U) ++ (mine ++ back) = t ∙ append_assoc (numbered first next (layers (m ∷ ks) U)) mine back in
+    let split : T ≡ numbered first next (layers (m ∷ ks) U) ++ (mine ++ back) =
+    t ∙ append_assoc (numbered first next (layers (m ∷ ks) U)) mine back in
     let low = h y i in
     let bound : 0 < root_span (m ∷ ks) = omega (arith, low) in
     let up = upper_of k xs y i in
     elim (cases_lt n (above k (m ∷ ks) xs)) [
       | inl f ↦
-          let ih = reached (m ∷ ks) U up.0 first next T (mine ++ back) n stacked.1 (λ s q. fit s (inr q)) up.1 (upper_below k xs (root_span (m ∷ ks)) bound h) split f in
-          record { level = suc ih.level; lowest = ih.lowest; higher = ih.higher; levels = ih.levels; v = ih.v; within = ih.within; table = ih.table }
+          let ih = reached (m ∷ ks) U up.0 first next T (mine ++ back) n stacked.1 (λ s q. fit s (inr q)) up.1
+          (upper_below k xs (root_span (m ∷ ks)) bound h) split f in
+          record {
+            level = suc ih.level;
+            lowest = ih.lowest;
+            higher = ih.higher;
+            levels = ih.levels;
+            v = ih.v;
+            within = ih.within;
+            table = ih.table;
+          }
       | inr f ↦ here k (m ∷ ks) xs y first link T back n stacked fit i h t (omega (arith, f)) l
     ]
 
 -- ---- tables of a level stand by address
 
-ascends_up : (l : Shape) (g : ℕ → ℕ) (rs : List (List Mapping)) → Rises (heads (span l) rs) → Ascends (gather (λ j r. upper l (g j) r ∷ []) rs)
+ascends_up : (l : Shape) (g : ℕ → ℕ) (rs : List (List Mapping)) → Rises (heads (span l) rs)
+    → Ascends (gather (λ j r. upper l (g j) r ∷ []) rs)
 ascends_up l g [] r = tt
 ascends_up l g (a ∷ []) r = (tt, tt)
 ascends_up l g (a ∷ b ∷ rs) r =
@@ -124,8 +146,10 @@ abbrev Sorted : ℕ → List Object → List Shape → ℕ → ℕ → ℕ → �
 Sorted first T [] v w m n = Unit {0}
 Sorted first T (l ∷ ls) v w m n = Arrives first T (l ∷ ls) v m → Arrives first T (l ∷ ls) w n → v / span l < w / span l → m < n
 
-lowest : (l : Shape) (ls : List Shape) (xs : List Mapping) (y : Mapping) (first link : ℕ) (T back : List Object) (v w m n : ℕ) → AreStacked (l ∷ ls) → AreShapes (l ∷ ls) → IsIn y xs → Ascends xs
-    → ((x : Mapping) → IsIn x xs → x.at < root_span (l ∷ ls)) → v < root_span (l ∷ ls) → w < root_span (l ∷ ls) → T ≡ numbered first link (layers (l ∷ ls) xs) ++ back → Sorted first T (l ∷ ls) v w m n
+lowest : (l : Shape) (ls : List Shape) (xs : List Mapping) (y : Mapping) (first link : ℕ) (T back : List Object) (v w m n : ℕ)
+    → AreStacked (l ∷ ls) → AreShapes (l ∷ ls) → IsIn y xs → Ascends xs
+    → ((x : Mapping) → IsIn x xs → x.at < root_span (l ∷ ls)) → v < root_span (l ∷ ls) → w < root_span (l ∷ ls)
+    → T ≡ numbered first link (layers (l ∷ ls) xs) ++ back → Sorted first T (l ∷ ls) v w m n
 lowest l ls xs y first link T back v w m n stacked fit i asc h b c t a e less =
     let rs = runs (span l) xs in
     let p = (arrives l ls xs y first link T back v stacked fit i h b t m).0 a in
@@ -137,12 +161,15 @@ lowest l ls xs y first link T back v w m n stacked fit i asc h b c t a e less =
     elim (cases_lt p.number q.number) [
       | inl f ↦ omega (arith, f, at, to)
       | inr f ↦
-          let le = not_above (head_of (span l)) rs q.number p.number q.run p.run (tables_rise (span l) (span_some l (fit l (inl refl))) xs asc) q.at p.at (omega (arith, f)) in
+          let le = not_above (head_of (span l)) rs q.number p.number q.run p.run
+          (tables_rise (span l) (span_some l (fit l (inl refl))) xs asc) q.at p.at (omega (arith, f)) in
           absurd (omega (arith, le, less, mine, other))
     ]
 
-sorted : (j : ℕ) (ks : List Shape) (l : Shape) (ls : List Shape) (xs : List Mapping) (y : Mapping) (first link : ℕ) (T back : List Object) (v w m n : ℕ) → drop j ks ≡ l ∷ ls → AreStacked ks → AreShapes ks → IsIn y xs → Ascends xs
-    → ((x : Mapping) → IsIn x xs → x.at < root_span ks) → v < root_span ks → w < root_span ks → T ≡ numbered first link (layers ks xs) ++ back → Sorted first T (l ∷ ls) v w m n
+sorted : (j : ℕ) (ks : List Shape) (l : Shape) (ls : List Shape) (xs : List Mapping) (y : Mapping) (first link : ℕ)
+    (T back : List Object) (v w m n : ℕ) → drop j ks ≡ l ∷ ls → AreStacked ks → AreShapes ks → IsIn y xs → Ascends xs
+    → ((x : Mapping) → IsIn x xs → x.at < root_span ks) → v < root_span ks → w < root_span ks
+    → T ≡ numbered first link (layers ks xs) ++ back → Sorted first T (l ∷ ls) v w m n
 sorted zero [] l ls xs y first link T back v w m n e stacked fit i asc h b c t = absurd (no_level 0 l ls e)
 sorted zero (k ∷ ks) l ls xs y first link T back v w m n e stacked fit i asc h b c t =
     subst (λ z. Sorted first T z v w m n) e (lowest k ks xs y first link T back v w m n stacked fit i asc h b c t)
@@ -153,19 +180,23 @@ sorted (suc j) (k ∷ o ∷ ks) l ls xs y first link T back v w m n e stacked fi
     let U = uppers k rs in
     let next = first + sizes (layers (o ∷ ks) U) in
     let mine = map (table_of k link) rs in
-    let split : T ≡ numbered first next (layers (o ∷ ks) U) ++ (mine ++ back) = t ∙ append_assoc (numbered first next (layers (o ∷ ks) U)) mine back in
+    let split : T ≡ numbered first next (layers (o ∷ ks) U) ++ (mine ++ back) =
+    t ∙ append_assoc (numbered first next (layers (o ∷ ks) U)) mine back in
     let bound : 0 < root_span (o ∷ ks) = omega (arith, b) in
     let up = upper_of k xs y i in
     let rising = ascends_up k (λ j. j) rs (tables_rise (span k) (span_some k (fit k (inl refl))) xs asc) in
-    sorted j (o ∷ ks) l ls U up.0 first next T (mine ++ back) v w m n e stacked.1 (λ s q. fit s (inr q)) up.1 rising (upper_below k xs (root_span (o ∷ ks)) bound h) b c split
+    sorted j (o ∷ ks) l ls U up.0 first next T (mine ++ back) v w m n e stacked.1 (λ s q. fit s (inr q)) up.1 rising
+    (upper_below k xs (root_span (o ∷ ks)) bound h) b c split
 
 -- ---- which objects are page tables
 
-pages_what : (t : Tables) (w : What) (level : Level) (slots : List (ℕ × Cap)) → object t w ≡ objects.Pages level slots → (d j : ℕ) × (w ≡ TableOf d j)
+pages_what : (t : Tables) (w : What) (level : Level) (slots : List (ℕ × Cap)) → object t w ≡ objects.Pages level slots
+    → (d j : ℕ) × (w ≡ TableOf d j)
 pages_what t (CNodeOf d) level slots h = cc
 pages_what t (ThreadOf d i) level slots h = by_thread (slice_get (threads_at t d) i) h
   where
-    by_thread : (o : Option ThreadPlace) → option_map_or (λ x. objects.Thread (tcb t d x)) o objects.Endpoint ≡ objects.Pages level slots → (e j : ℕ) × (ThreadOf d i ≡ TableOf e j)
+    by_thread : (o : Option ThreadPlace) → option_map_or (λ x. objects.Thread (tcb t d x)) o objects.Endpoint ≡ objects.Pages
+        level slots → (e j : ℕ) × (ThreadOf d i ≡ TableOf e j)
     by_thread (Some x) f = absurd cc
     by_thread None f = absurd cc
 pages_what t (EndpointOf k) level slots h = cc
@@ -175,7 +206,8 @@ pages_what t (IrqOf k) level slots h = cc
 pages_what t (TableOf d j) level slots h = (d, j, refl)
 pages_what t (FrameOf f) level slots h = by_frame (slice_get t.spaces.frames f) h
   where
-    by_frame : (o : Option FrameInfo) → option_map_or frame_object o objects.Endpoint ≡ objects.Pages level slots → (e j : ℕ) × (FrameOf f ≡ TableOf e j)
+    by_frame : (o : Option FrameInfo) → option_map_or frame_object o objects.Endpoint ≡ objects.Pages level slots
+        → (e j : ℕ) × (FrameOf f ≡ TableOf e j)
     by_frame (Some x) e = absurd cc
     by_frame None e = absurd cc
 
@@ -183,7 +215,8 @@ pages_same : (l m : Level) → kinds.Pages l ≡ kinds.Pages m → l ≡ m
 pages_same l m e = cc
 
 -- more pass in front of what stands behind one that passes
-count_rises : (p : PageTable → Bool) (xs : List PageTable) (a b : ℕ) (x : PageTable) → slice_get xs a ≡ Some x → p x ≡ true → a < b → count_by p (take a xs) < count_by p (take b xs)
+count_rises : (p : PageTable → Bool) (xs : List PageTable) (a b : ℕ) (x : PageTable) → slice_get xs a ≡ Some x → p x ≡ true
+    → a < b → count_by p (take a xs) < count_by p (take b xs)
 count_rises p [] a b x e h l = cc
 count_rises p (y ∷ ys) zero zero x e h l = absurd (omega (arith, l))
 count_rises p (y ∷ ys) zero (suc b) x e h l =
@@ -199,13 +232,16 @@ count_rises p (y ∷ ys) (suc a) (suc b) x e h l =
     omega (arith, ih, c, d)
 
 -- and each lesser count is that of one that passes
-attained : (p : PageTable → Bool) (xs : List PageTable) (a n : ℕ) → n < count_by p (take a xs) → (b : ℕ) × (x : PageTable) × (slice_get xs b ≡ Some x) × (p x ≡ true) × (count_by p (take b xs) ≡ n)
+attained : (p : PageTable → Bool) (xs : List PageTable) (a n : ℕ) → n < count_by p (take a xs)
+    → (b : ℕ) × (x : PageTable) × (slice_get xs b ≡ Some x) × (p x ≡ true) × (count_by p (take b xs) ≡ n)
 attained p [] zero n l = absurd (omega (arith, l))
 attained p [] (suc a) n l = absurd (omega (arith, l))
 attained p (y ∷ ys) zero n l = absurd (omega (arith, l))
 attained p (y ∷ ys) (suc a) n l = by_test (p y) refl n l (λ m k. attained p ys a m k)
   where
-    by_test : (b : Bool) → p y ≡ b → (n : ℕ) → n < count_by p (y ∷ take a ys) → ((m : ℕ) → m < count_by p (take a ys) → (b : ℕ) × (x : PageTable) × (slice_get ys b ≡ Some x) × (p x ≡ true) × (count_by p (take b ys) ≡ m))
+    by_test : (b : Bool) → p y ≡ b → (n : ℕ) → n < count_by p (y ∷ take a ys)
+        → ((m : ℕ) → m < count_by p (take a ys) → (b : ℕ) × (x : PageTable) × (slice_get ys b ≡ Some x) × (p x ≡ true)
+        × (count_by p (take b ys) ≡ m))
         → (b : ℕ) × (x : PageTable) × (slice_get (y ∷ ys) b ≡ Some x) × (p x ≡ true) × (count_by p (take b (y ∷ ys)) ≡ n)
     by_test true e zero l more = (0, y, refl, e, refl)
     by_test true e (suc n) l more =
@@ -251,7 +287,8 @@ same_level Table Global e = absurd (omega (arith, e))
 same_level Table Upper e = absurd (omega (arith, e))
 same_level Table Directory e = absurd (omega (arith, e))
 
-ascends_map : (f : Page → Mapping) (g : ℕ → MappedPage → Page) → ((n : ℕ) (p : MappedPage) → (f (g n p)).at ≡ p.at) → (ps : List MappedPage) → Rises (map (λ p. p.at) ps) → Ascends (map f (gather (λ n p. g n p ∷ []) ps))
+ascends_map : (f : Page → Mapping) (g : ℕ → MappedPage → Page) → ((n : ℕ) (p : MappedPage) → (f (g n p)).at ≡ p.at)
+    → (ps : List MappedPage) → Rises (map (λ p. p.at) ps) → Ascends (map f (gather (λ n p. g n p ∷ []) ps))
 ascends_map f g at [] r = tt
 ascends_map f g at (p ∷ []) r = (tt, tt)
 ascends_map f g at (p ∷ q ∷ ps) r =
@@ -265,21 +302,25 @@ module _ (t : Tables) (can : CanMap t) where
   in_order : (d : ℕ) (x : Domain) (h : slice_get t.flat.domains d ≡ Some x) → Ascends (maps t can d x h)
   in_order d x h =
       subst (λ (z : List Page). Ascends (map (page_mapping (frames_from t)) z)) (sym (pages_are t can d x h))
-      (ascends_map (page_mapping (frames_from t)) (λ n p. laid_page t can d x h n p) (λ n p. refl) (mapped_pages (system t) d) (rise t can d x h).rise)
+      (ascends_map (page_mapping (frames_from t)) (λ n p. laid_page t can d x h n p) (λ n p. refl) (mapped_pages (system t) d)
+      (rise t can d x h).rise)
 
   -- ---- each is needed
 
-  needed : (d n : ℕ) (x : Domain) (h : slice_get t.flat.domains d ≡ Some x) → n < length (tables_of_domain t d) → Reached (root_of t d) (objects_from (spec_of t) (root_of t d)) (shapes (arch t)) n
+  needed : (d n : ℕ) (x : Domain) (h : slice_get t.flat.domains d ≡ Some x) → n < length (tables_of_domain t d)
+      → Reached (root_of t d) (objects_from (spec_of t) (root_of t d)) (shapes (arch t)) n
   needed d n x h l =
       let y = some_map t can d x h in
       let many = as_many (root_of t d) 0 (layers (shapes (arch t)) (maps t can d x h)) in
-      reached (shapes (arch t)) (maps t can d x h) y.0 (root_of t d) 0 (objects_from (spec_of t) (root_of t d)) (drop (length (tables_of_domain t d)) (objects_from (spec_of t) (root_of t d))) n
+      reached (shapes (arch t)) (maps t can d x h) y.0 (root_of t d) 0 (objects_from (spec_of t) (root_of t d))
+      (drop (length (tables_of_domain t d)) (objects_from (spec_of t) (root_of t d))) n
       (shapes_stack (arch t)) (shapes_fit (arch t)) y.1 (maps_below t can d x h) (from_root t d x h) (omega (arith, l, many))
 
   as_long : (d : ℕ) → length (tables_of_domain t d) ≡ length (tables_at t 0 0 d)
   as_long d = tables_counted t (root_of t d) (frames_from t) d ∙ sym (tables_counted t 0 0 d)
 
-  all : (at : ℕ) (level : Level) (slots : List (ℕ × Cap)) → object_at (spec_of t) at ≡ Some (objects.Pages level slots) → IsTableOfSpace t (spec_of t) (root_of t) at
+  all : (at : ℕ) (level : Level) (slots : List (ℕ × Cap)) → object_at (spec_of t) at ≡ Some (objects.Pages level slots)
+      → IsTableOfSpace t (spec_of t) (root_of t) at
   all at level slots o =
       let p = part_there t at (objects.Pages level slots) o in
       let w = pages_what t p.0.what level slots p.2 in
@@ -307,17 +348,21 @@ module _ (t : Tables) (can : CanMap t) where
   -- ---- and they stand in order
 
   -- the tables of a domain stand before those of the next ones
-  before_next : (d e : ℕ) (x : Domain) → slice_get t.flat.domains d ≡ Some x → d < e → root_of t d + length (tables_of_domain t d) ≤ root_of t e
+  before_next : (d e : ℕ) (x : Domain) → slice_get t.flat.domains d ≡ Some x → d < e
+      → root_of t d + length (tables_of_domain t d) ≤ root_of t e
   before_next d e x h l =
-      let ones : length (domain_tables t d x) ≡ length (tables_at t 0 0 d) = gather_ones (λ j (o : Object). page_table d j (level_of o)) (tables_at t 0 0 d) in
+      let ones : length (domain_tables t d x) ≡ length (tables_at t 0 0 d) =
+      gather_ones (λ j (o : Object). page_table d j (level_of o)) (tables_at t 0 0 d) in
       let long = as_long d in
       let next = behind (domain_tables t) t.flat.domains d e x h l in
       let mine : root_of t d ≡ first_of t 6 + before (domain_tables t) t.flat.domains d = omega arith in
       let other : root_of t e ≡ first_of t 6 + before (domain_tables t) t.flat.domains e = omega arith in
       omega (arith, ones, long, next, mine, other)
 
-  order : (d e v w j m n : ℕ) (x y : Domain) (l : Shape) (ls : List Shape) → slice_get t.flat.domains d ≡ Some x → slice_get t.flat.domains e ≡ Some y → drop j (shapes (arch t)) ≡ l ∷ ls
-      → v < root_span (shapes (arch t)) → w < root_span (shapes (arch t)) → IsTableFor (spec_of t) (root_of t d) (l ∷ ls) v m → IsTableFor (spec_of t) (root_of t e) (l ∷ ls) w n
+  order : (d e v w j m n : ℕ) (x y : Domain) (l : Shape) (ls : List Shape) → slice_get t.flat.domains d ≡ Some x
+      → slice_get t.flat.domains e ≡ Some y → drop j (shapes (arch t)) ≡ l ∷ ls
+      → v < root_span (shapes (arch t)) → w < root_span (shapes (arch t)) → IsTableFor (spec_of t) (root_of t d) (l ∷ ls) v m
+      → IsTableFor (spec_of t) (root_of t e) (l ∷ ls) w n
       → IsBefore d (v / span l) e (w / span l) → root_of t d + m < root_of t e + n
   order d e v w j m n x y l ls h g s b c a o (inl less) =
       let low = (there t can d j v x l ls h s b).1 m a in
@@ -328,8 +373,10 @@ module _ (t : Tables) (can : CanMap t) where
       let z = some_map t can d x h in
       let P : ℕ → Type 0 = λ k. IsTableFor (spec_of t) (root_of t k) (l ∷ ls) w n in
       let less =
-      sorted j (shapes (arch t)) l ls (maps t can d x h) z.0 (root_of t d) 0 (objects_from (spec_of t) (root_of t d)) (drop (length (tables_of_domain t d)) (objects_from (spec_of t) (root_of t d))) v w m n s
-      (shapes_stack (arch t)) (shapes_fit (arch t)) z.1 (in_order d x h) (maps_below t can d x h) b c (from_root t d x h) a (subst P (sym r.0) o) r.1 in
+      sorted j (shapes (arch t)) l ls (maps t can d x h) z.0 (root_of t d) 0 (objects_from (spec_of t) (root_of t d))
+      (drop (length (tables_of_domain t d)) (objects_from (spec_of t) (root_of t d))) v w m n s
+      (shapes_stack (arch t)) (shapes_fit (arch t)) z.1 (in_order d x h) (maps_below t can d x h) b c (from_root t d x h) a
+      (subst P (sym r.0) o) r.1 in
       let root : root_of t d ≡ root_of t e = ap (root_of t) r.0 in
       omega (arith, less, root)
 
@@ -345,7 +392,8 @@ module _ (t : Tables) (can : CanMap t) where
     part : IsIn (table_part (all_tables t) among table) (parts t)
     stands : place t (TableOf table.domain table.place) ≡ at
 
-  stands_among : (at : ℕ) (l : Level) (slots : List (ℕ × Cap)) → object_at (spec_of t) at ≡ Some (objects.Pages l slots) → Stands at l
+  stands_among : (at : ℕ) (l : Level) (slots : List (ℕ × Cap)) → object_at (spec_of t) at ≡ Some (objects.Pages l slots)
+      → Stands at l
   stands_among at l slots o =
       let p = part_there t at (objects.Pages l slots) o in
       let w = pages_what t p.0.what l slots p.2 in
@@ -362,7 +410,8 @@ module _ (t : Tables) (can : CanMap t) where
         among = m;
         is = sym (place_is t at p.0 p.1) ∙ ap (λ z. place t z) w.2 ∙ stand;
         table = y;
-        listed = gathered (domain_tables t) t.flat.domains w.0 x.0 w.1 y m x.1 (get_ones g (tables_at t 0 0 w.0) w.1 e.0 e.1) refl;
+        listed = gathered (domain_tables t) t.flat.domains w.0 x.0 w.1 y m x.1
+            (get_ones g (tables_at t 0 0 w.0) w.1 e.0 e.1) refl;
         level = sym (pages_same l (level_of e.0) kind);
         part = table_in t w.0 x.0 x.1 w.1 e.0 e.1;
         stands = ap (λ z. place t z) (sym w.2) ∙ place_is t at p.0 p.1;
@@ -371,7 +420,8 @@ module _ (t : Tables) (can : CanMap t) where
   abbrev number_at : Level → ℕ → ℕ
   number_at l at = of_level l (all_tables t) (at - first_of t 6)
 
-  named : (at : ℕ) (l : Level) (slots : List (ℕ × Cap)) → object_at (spec_of t) at ≡ Some (objects.Pages l slots) → IsNamed (spec_of t) at (level_series l) (number_at l at)
+  named : (at : ℕ) (l : Level) (slots : List (ℕ × Cap)) → object_at (spec_of t) at ≡ Some (objects.Pages l slots)
+      → IsNamed (spec_of t) at (level_series l) (number_at l at)
   named at l slots o =
       let s = stands_among at l slots o in
       let p = table_part (all_tables t) s.among s.table in
@@ -382,7 +432,8 @@ module _ (t : Tables) (can : CanMap t) where
       let here : P s.table.level = ap (name_at (spec_of t)) (sym s.stands) ∙ name in
       subst P s.level here ∙ ap (λ z. name_of (level_series l) (of_level l (all_tables t) z)) (sym index)
 
-  rising : (at to : ℕ) (l : Level) (slots more : List (ℕ × Cap)) → object_at (spec_of t) at ≡ Some (objects.Pages l slots) → object_at (spec_of t) to ≡ Some (objects.Pages l more) → at < to → number_at l at < number_at l to
+  rising : (at to : ℕ) (l : Level) (slots more : List (ℕ × Cap)) → object_at (spec_of t) at ≡ Some (objects.Pages l slots)
+      → object_at (spec_of t) to ≡ Some (objects.Pages l more) → at < to → number_at l at < number_at l to
   rising at to l slots more o u less =
       let a = stands_among at l slots o in
       let b = stands_among to l more u in
@@ -396,7 +447,8 @@ module _ (t : Tables) (can : CanMap t) where
       let r = count_rises (is_of l) (all_tables t) a.among b.among a.table a.listed passes (omega (arith, p, q, less)) in
       subst (λ z. z < number_at l to) (sym mine) (subst (λ z. of_level l (all_tables t) a.among < z) (sym other) r)
 
-  filled : (at n : ℕ) (l : Level) (slots : List (ℕ × Cap)) → object_at (spec_of t) at ≡ Some (objects.Pages l slots) → n < number_at l at
+  filled : (at n : ℕ) (l : Level) (slots : List (ℕ × Cap)) → object_at (spec_of t) at ≡ Some (objects.Pages l slots)
+      → n < number_at l at
       → (q : ℕ) × (more : List (ℕ × Cap)) × (object_at (spec_of t) q ≡ Some (objects.Pages l more)) × (number_at l q ≡ n)
   filled at n l slots o less =
       let b = attained (is_of l) (all_tables t) (at - first_of t 6) n less in
@@ -407,7 +459,8 @@ module _ (t : Tables) (can : CanMap t) where
       let sum : b.0 ≡ before (domain_tables t) t.flat.domains f.place + f.number = f.sum in
       let q = first_of t 6 + b.0 in
       let stand : place t w ≡ q = omega (arith, sum) in
-      let level : level_of e.0 ≡ l = ap (λ (z : PageTable). z.level) e.2 ∙ same_level b.1.level l (eqb-true (level_number b.1.level) (level_number l) b.3) in
+      let level : level_of e.0 ≡ l = ap (λ (z : PageTable). z.level) e.2
+      ∙ same_level b.1.level l (eqb-true (level_number b.1.level) (level_number l) b.3) in
       let kind = table_kind t f.place f.number e.0 e.1 ∙ sym (series_kind (level_of e.0)) ∙ ap (λ z. kinds.Pages z) level in
       let is = from_kind (object t w) l kind in
       let there : IsThere t w = ((f.item, f.here), (e.0, e.1)) in
@@ -419,4 +472,13 @@ module _ (t : Tables) (can : CanMap t) where
       )
 
   pub tables_in_order : AreTablesInOrder t (spec_of t) (root_of t)
-  tables_in_order = record { all = all; order = order; numbered = record { number = number_at; named = named; rise = rising; from_0 = filled } }
+  tables_in_order = record {
+    all = all;
+    order = order;
+    numbered = record {
+      number = number_at;
+      named = named;
+      rise = rising;
+      from_0 = filled;
+    };
+  }

@@ -18,15 +18,19 @@ use Rattle.spec_laws.proofs.Sections.{in_section, rank, told}
 
 -- ---- a list with no two equal
 
-none_behind : {X : Type 0} (test : X → Bool) (xs : List X) → ((n : ℕ) (x : X) → slice_get xs n ≡ Some x → test x ≡ false) → list_any test xs ≡ false
+none_behind : {X : Type 0} (test : X → Bool) (xs : List X) → ((n : ℕ) (x : X) → slice_get xs n ≡ Some x → test x ≡ false)
+    → list_any test xs ≡ false
 none_behind test [] h = refl
 none_behind test (x ∷ xs) h = or_from (test x) (list_any test xs) (h 0 x refl) (none_behind test xs (λ n y e. h (suc n) y e))
 
 -- where equality tells places
-apart : {X : Type 0} (same : X → X → Bool) (xs : List X) → ((m n : ℕ) (x y : X) → slice_get xs m ≡ Some x → slice_get xs n ≡ Some y → same y x ≡ true → m ≡ n) → differ same xs ≡ true
+apart : {X : Type 0} (same : X → X → Bool) (xs : List X) → ((m n : ℕ) (x y : X) → slice_get xs m ≡ Some x
+    → slice_get xs n ≡ Some y → same y x ≡ true → m ≡ n) → differ same xs ≡ true
 apart same [] h = refl
 apart {X} same (x ∷ xs) h =
-    let none : list_any (λ y. same y x) xs ≡ false = none_behind (λ y. same y x) xs (λ n y e. false_from_ne_true (same y x) (λ s. let m : 0 ≡ suc n = h 0 (suc n) x y refl e s in absurd (omega (arith, m)))) in
+    let none : list_any (λ y. same y x) xs ≡ false =
+    none_behind (λ y. same y x) xs (λ n y e. false_from_ne_true (same y x) (λ s. let m : 0 ≡ suc n = h 0 (suc n) x y refl e
+    s in absurd (omega (arith, m)))) in
     and_from (not (list_any (λ y. same y x) xs)) (differ same xs) (not_from_false (list_any (λ y. same y x) xs) none)
     (apart same xs (λ m n y z e f s. let k : suc m ≡ suc n = h (suc m) (suc n) y z e f s in omega (arith, k)))
 
@@ -34,7 +38,8 @@ apart {X} same (x ∷ xs) h =
 
 module _ (t : Tables) (few : length t.flat.connections < 2 ^ 32) (all : length (parts t) < 2 ^ 32) where
   -- parts' names tell their places
-  pub names_tell : (m n : ℕ) (p q : Part) → slice_get (parts t) m ≡ Some p → slice_get (parts t) n ≡ Some q → part_name p ≡ part_name q → m ≡ n
+  pub names_tell : (m n : ℕ) (p q : Part) → slice_get (parts t) m ≡ Some p → slice_get (parts t) n ≡ Some q
+      → part_name p ≡ part_name q → m ≡ n
   names_tell m n p q e f same =
       let a = in_section (sections t) m p e in
       let b = in_section (sections t) n q f in
@@ -46,8 +51,10 @@ module _ (t : Tables) (few : length t.flat.connections < 2 ^ 32) (all : length (
       let k = same_number p.series q.series p.number q.number (omega (arith, la)) (omega (arith, lb)) same in
       let section : b.section ≡ a.section = sym (tb.series b.place q b.stands) ∙ ap rank (sym s) ∙ ta.series a.place p a.stands in
       let list : b.list ≡ a.list = same_Some _ _ (sym b.is ∙ ap (λ z. slice_get (sections t) z) section ∙ a.is) in
-      let place : a.place ≡ b.place = ta.place a.place b.place p q a.stands (subst (λ (z : List Part). slice_get z b.place ≡ Some q) list b.stands) s k in
-      a.sum ∙ ap (λ z. length (flat_map (λ z. z) (take z (sections t))) + a.place) (sym section) ∙ ap (λ z. length (flat_map (λ z. z) (take b.section (sections t))) + z) place ∙ sym b.sum
+      let place : a.place ≡ b.place =
+      ta.place a.place b.place p q a.stands (subst (λ (z : List Part). slice_get z b.place ≡ Some q) list b.stands) s k in
+      a.sum ∙ ap (λ z. length (flat_map (λ z. z) (take z (sections t))) + a.place) (sym section)
+      ∙ ap (λ z. length (flat_map (λ z. z) (take b.section (sections t))) + z) place ∙ sym b.sum
 
   -- parts have numbers of 32 bits
   pub number_few : (p : Part) → IsIn p (parts t) → p.number < 2 ^ 32
@@ -62,7 +69,8 @@ module _ (t : Tables) (few : length t.flat.connections < 2 ^ 32) (all : length (
       let q = from_map_at part_name (parts t) n y f in
       names_tell m n p.0 q.0 p.1 q.1 (p.2 ∙ sym ((bytes_eq-Decides y x).0 s) ∙ sym q.2))
     where
-      from_map_at : {X Y : Type 0} (f : X → Y) (xs : List X) (n : ℕ) (y : Y) → slice_get (map f xs) n ≡ Some y → (x : X) × (slice_get xs n ≡ Some x) × (f x ≡ y)
+      from_map_at : {X Y : Type 0} (f : X → Y) (xs : List X) (n : ℕ) (y : Y) → slice_get (map f xs) n ≡ Some y
+          → (x : X) × (slice_get xs n ≡ Some x) × (f x ≡ y)
       from_map_at f [] n y e = cc
       from_map_at f (x ∷ xs) zero y e = (x, refl, cc)
       from_map_at f (x ∷ xs) (suc n) y e = from_map_at f xs n y e

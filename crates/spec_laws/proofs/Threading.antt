@@ -51,7 +51,8 @@ threads_same d i e j h = (cc, cc)
 module _ (t : Tables) (can : CanMap t) where
   -- ---- what a thread runs
 
-  thread_is : (d i : ℕ) (x : Domain) (y : ThreadOf) → slice_get t.flat.domains d ≡ Some x → slice_get (threads_of (system t) d) i ≡ Some y → IsThreadOf t (spec_of t) (root_of t) y.leaf (place t (OfThread d i))
+  thread_is : (d i : ℕ) (x : Domain) (y : ThreadOf) → slice_get t.flat.domains d ≡ Some x
+      → slice_get (threads_of (system t) d) i ≡ Some y → IsThreadOf t (spec_of t) (root_of t) y.leaf (place t (OfThread d i))
   thread_is d i x y h e =
       let w = has_thread t can d x h y (in_place y (threads_of (system t) d) i e) in
       let g = can.grouped.listed d y.leaf x h w.1 in
@@ -80,15 +81,18 @@ module _ (t : Tables) (can : CanMap t) where
   pub the_line : (at leaf : ℕ) (end : Option EndAt) → IsIn (ThreadLine at leaf end) (map_lines t) → Line t can at leaf end
   the_line at leaf end i = line_from t can (ThreadLine at leaf end) i tt
 
-  only : (at leaf : ℕ) (end : Option EndAt) → IsIn (ThreadLine at leaf end) (map_lines t) → HasThread t leaf end × IsThreadOf t (spec_of t) (root_of t) leaf at
+  only : (at leaf : ℕ) (end : Option EndAt) → IsIn (ThreadLine at leaf end) (map_lines t)
+      → HasThread t leaf end × IsThreadOf t (spec_of t) (root_of t) leaf at
   only at leaf end i =
       let l = the_line at leaf end i in
       let w = has_thread t can l.domain l.leaves l.here l.y (in_place l.y (threads_of (system t) l.domain) l.number l.stands) in
       let P : ℕ → Type 0 = λ z. HasThread t z l.y.end in
       let Q : Option EndAt → Type 0 = λ z. HasThread t leaf z in
       let R : ℕ → Type 0 = λ z. IsThreadOf t (spec_of t) (root_of t) z (place t (OfThread l.domain l.number)) in
-      let S : ℕ → Type 0 = λ z. IsThreadOf t (spec_of t) (root_of t) leaf z in
-      (subst Q l.end_is (subst P l.leaf_is w.0), subst S l.at_is (subst R l.leaf_is (thread_is l.domain l.number l.leaves l.y l.here l.stands)))
+      let S : ℕ → Type 0 = λ z. IsThreadOf t (spec_of t) (root_of t) leaf z in (
+        subst Q l.end_is (subst P l.leaf_is w.0),
+        subst S l.at_is (subst R l.leaf_is (thread_is l.domain l.number l.leaves l.y l.here l.stands)),
+      )
 
   every : (leaf : ℕ) (end : Option EndAt) → HasThread t leaf end → (at : ℕ) × IsIn (ThreadLine at leaf end) (map_lines t)
   every leaf end h =
@@ -98,30 +102,38 @@ module _ (t : Tables) (can : CanMap t) where
 
   -- ---- one line for each
 
-  pub domain_is : (at leaf : ℕ) (end : Option EndAt) (l : Line t can at leaf end) → (found : Leaf) × (slice_get t.flat.leaves leaf ≡ Some found) × (found.domain ≡ Some l.domain)
+  pub domain_is : (at leaf : ℕ) (end : Option EndAt) (l : Line t can at leaf end)
+      → (found : Leaf) × (slice_get t.flat.leaves leaf ≡ Some found) × (found.domain ≡ Some l.domain)
   domain_is at leaf end l =
       let w = has_thread t can l.domain l.leaves l.here l.y (in_place l.y (threads_of (system t) l.domain) l.number l.stands) in
       let P : ℕ → Type 0 = λ z. (found : Leaf) × (slice_get t.flat.leaves z ≡ Some found) × (found.domain ≡ Some l.domain) in
       subst P l.leaf_is (can.grouped.listed l.domain l.y.leaf l.leaves l.here w.1)
 
-  pub same_thread : (at again leaf : ℕ) (end : Option EndAt) (l : Line t can at leaf end) (m : Line t can again leaf end) → (l.domain ≡ m.domain) × (l.number ≡ m.number)
+  pub same_thread : (at again leaf : ℕ) (end : Option EndAt) (l : Line t can at leaf end) (m : Line t can again leaf end)
+      → (l.domain ≡ m.domain) × (l.number ≡ m.number)
   same_thread at again leaf end l m =
       let a = domain_is at leaf end l in
       let b = domain_is again leaf end m in
       let found : a.0 ≡ b.0 = same_some a.0 b.0 (slice_get t.flat.leaves leaf) a.1 b.1 in
       let domain : l.domain ≡ m.domain = same_some l.domain m.domain a.0.domain a.2 (ap (λ (z : Leaf). z.domain) found ∙ b.2) in
-      let y : l.y ≡ m.y = ap (λ z. thread z l.y.end) (l.leaf_is ∙ sym m.leaf_is) ∙ ap (λ z. thread m.y.leaf z) (l.end_is ∙ sym m.end_is) in
-      let P : ℕ → Type 0 = λ z. slice_get (threads_of (system t) z) m.number ≡ Some m.y in
-      (domain, once_threads t can l.domain l.leaves l.here l.number m.number m.y (l.stands ∙ ap (λ z. Some z) y) (subst P (sym domain) m.stands))
+      let y : l.y ≡ m.y = ap (λ z. thread z l.y.end) (l.leaf_is ∙ sym m.leaf_is) ∙ ap (λ z. thread m.y.leaf z)
+      (l.end_is ∙ sym m.end_is) in
+      let P : ℕ → Type 0 = λ z. slice_get (threads_of (system t) z) m.number ≡ Some m.y in (
+        domain,
+        once_threads t can l.domain l.leaves l.here l.number m.number m.y (l.stands ∙ ap (λ z. Some z) y)
+            (subst P (sym domain) m.stands),
+      )
 
-  pub one_line : (at again leaf : ℕ) (end : Option EndAt) → IsIn (ThreadLine at leaf end) (map_lines t) → IsIn (ThreadLine again leaf end) (map_lines t) → at ≡ again
+  pub one_line : (at again leaf : ℕ) (end : Option EndAt) → IsIn (ThreadLine at leaf end) (map_lines t)
+      → IsIn (ThreadLine again leaf end) (map_lines t) → at ≡ again
   one_line at again leaf end i j =
       let l = the_line at leaf end i in
       let m = the_line again leaf end j in
       let s = same_thread at again leaf end l m in
       sym l.at_is ∙ ap (λ z. place t (OfThread z l.number)) s.0 ∙ ap (λ z. place t (OfThread m.domain z)) s.1 ∙ m.at_is
 
-  apart : (at leaf other : ℕ) (end more : Option EndAt) → IsIn (ThreadLine at leaf end) (map_lines t) → IsIn (ThreadLine at other more) (map_lines t) → (leaf ≡ other) × (end ≡ more)
+  apart : (at leaf other : ℕ) (end more : Option EndAt) → IsIn (ThreadLine at leaf end) (map_lines t)
+      → IsIn (ThreadLine at other more) (map_lines t) → (leaf ≡ other) × (end ≡ more)
   apart at leaf other end more i j =
       let l = the_line at leaf end i in
       let m = the_line at other more j in
@@ -131,16 +143,19 @@ module _ (t : Tables) (can : CanMap t) where
       let q = part series.Tcb (threads_before t can m.domain m.number) (OfDomain m.domain) (OfThread m.domain m.number) in
       let place_same : place t (OfThread l.domain l.number) ≡ place t (OfThread m.domain m.number) = l.at_is ∙ sym m.at_is in
       let P : ℕ → Type 0 = λ z. slice_get (parts t) z ≡ Some p in
-      let same : p ≡ q = some (slice_get (parts t) (place t (OfThread m.domain m.number))) p q (subst P place_same (stands t p a)) (stands t q b) in
+      let same : p ≡ q = some (slice_get (parts t) (place t (OfThread m.domain m.number))) p q (subst P place_same (stands t p a))
+      (stands t q b) in
       let w = threads_same l.domain l.number m.domain m.number (ap (λ (z : Part). z.what) same) in
       let Q : ℕ → Type 0 = λ z. slice_get (threads_of (system t) z) l.number ≡ Some l.y in
       let R : ℕ → Type 0 = λ z. slice_get (threads_of (system t) m.domain) z ≡ Some l.y in
-      let y : l.y ≡ m.y = some (slice_get (threads_of (system t) m.domain) m.number) l.y m.y (subst R w.1 (subst Q w.0 l.stands)) m.stands in
+      let y : l.y ≡ m.y = some (slice_get (threads_of (system t) m.domain) m.number) l.y m.y
+      (subst R w.1 (subst Q w.0 l.stands)) m.stands in
       (sym l.leaf_is ∙ ap (λ (z : ThreadOf). z.leaf) y ∙ m.leaf_is, sym l.end_is ∙ ap (λ (z : ThreadOf). z.end) y ∙ m.end_is)
 
   -- ---- their numbers
 
-  pub thread_domain : (d i : ℕ) (y : ThreadOf) → slice_get (threads_of (system t) d) i ≡ Some y → (x : Domain) × (slice_get t.flat.domains d ≡ Some x)
+  pub thread_domain : (d i : ℕ) (y : ThreadOf) → slice_get (threads_of (system t) d) i ≡ Some y
+      → (x : Domain) × (slice_get t.flat.domains d ≡ Some x)
   thread_domain d i y e = has_domain t d not_none
     where
       not_none : leaves_of t.flat d ≡ [] → ⊥
@@ -152,29 +167,35 @@ module _ (t : Tables) (can : CanMap t) where
   numbers_are : AreThreadsNumbered t (spec_of t) (map_lines t)
   numbers_are = λ d i at y e j.
       let x = thread_domain d i y e in
-      let same : at ≡ place t (OfThread d i) = one_line at (place t (OfThread d i)) y.leaf y.end j (line_to t can d i x.0 y x.1 e) in
+      let same : at ≡ place t (OfThread d i) = one_line at (place t (OfThread d i)) y.leaf y.end j
+      (line_to t can d i x.0 y x.1 e) in
       ap (name_at (spec_of t)) same
-      ∙ (objects_stand t).name (part series.Tcb (threads_before t can d i) (OfDomain d) (OfThread d i)) (thread_part t can d i x.0 y x.1 e)
+      ∙ (objects_stand t).name (part series.Tcb (threads_before t can d i) (OfDomain d) (OfThread d i))
+      (thread_part t can d i x.0 y x.1 e)
 
   -- ---- and each thread has one
 
-  pub in_domain : (d i : ℕ) (x : ThreadPlace) → slice_get (threads_at t d) i ≡ Some x → (z : Domain) × (slice_get t.flat.domains d ≡ Some z)
+  pub in_domain : (d i : ℕ) (x : ThreadPlace) → slice_get (threads_at t d) i ≡ Some x
+      → (z : Domain) × (slice_get t.flat.domains d ≡ Some z)
   in_domain d i x e = by_space (slice_get t.spaces.spaces d) refl e
     where
-      by_space : (o : Option Space) → slice_get t.spaces.spaces d ≡ o → slice_get (option_map_or (λ (s : Space). s.threads) o []) i ≡ Some x → (z : Domain) × (slice_get t.flat.domains d ≡ Some z)
+      by_space : (o : Option Space) → slice_get t.spaces.spaces d ≡ o → slice_get (option_map_or (λ (s : Space). s.threads) o [])
+          i ≡ Some x → (z : Domain) × (slice_get t.flat.domains d ≡ Some z)
       by_space None g f = cc
       by_space (Some s) g f =
           let k : ℕ → Domain → Space = λ n z. space (system t) n z in
           let u = from_ones k t.flat.domains d s (ap (λ (z : Spaces). slice_get z.spaces d) (sym can.spaces) ∙ g) in (u.0, u.1)
 
-  all : (at : ℕ) (c : Tcb) → object_at (spec_of t) at ≡ Some (objects.Thread c) → (leaf : ℕ) × (end : Option EndAt) × IsIn (ThreadLine at leaf end) (map_lines t)
+  all : (at : ℕ) (c : Tcb) → object_at (spec_of t) at ≡ Some (objects.Thread c) → (leaf : ℕ) × (end : Option EndAt)
+      × IsIn (ThreadLine at leaf end) (map_lines t)
   all at c o =
       let p = part_there t at (objects.Thread c) o in
       let w = thread_what t p.0.what c p.2 in
       let x = in_domain w.domain w.number w.thread w.there in
       let P : List ThreadPlace → Type 0 = λ z. slice_get z w.number ≡ Some w.thread in
       let k : ℕ → ThreadOf → ThreadPlace = λ n z. thread_place (system t) w.domain n z in
-      let y = from_ones k (threads_of (system t) w.domain) w.number w.thread (subst P (threads_are t can w.domain x.0 x.1) w.there) in
+      let y = from_ones k (threads_of (system t) w.domain) w.number w.thread
+      (subst P (threads_are t can w.domain x.0 x.1) w.there) in
       let stand : place t (OfThread w.domain w.number) ≡ at = ap (λ z. place t z) (sym w.what) ∙ place_is t at p.0 p.1 in
       let Q : ℕ → Type 0 = λ z. IsIn (ThreadLine z y.0.leaf y.0.end) (map_lines t) in
       (y.0.leaf, y.0.end, subst Q stand (line_to t can w.domain w.number x.0 y.0 x.1 y.1))

@@ -61,8 +61,10 @@ called Mmio r h = cc
 called Interrupt r h = cc
 called Direct r h = cc
 
-serves_by : (t : Tables) (e : EndAt) (c : FlatConnection) (x : FlatEnd) → slice_get t.flat.connections e.connection ≡ Some c → slice_get c.ends e.end ≡ Some x → serves t.flat e ≡ is_called c.connector x.role
-serves_by t e c x h s = ap (λ o. option_map_or (λ (z : Connector × FlatEnd). is_called z.0 z.1.role) o false) (end_there t e.connection e.end c x h s)
+serves_by : (t : Tables) (e : EndAt) (c : FlatConnection) (x : FlatEnd) → slice_get t.flat.connections e.connection ≡ Some c
+    → slice_get c.ends e.end ≡ Some x → serves t.flat e ≡ is_called c.connector x.role
+serves_by t e c x h s = ap (λ o. option_map_or (λ (z : Connector × FlatEnd). is_called z.0 z.1.role) o false)
+    (end_there t e.connection e.end c x h s)
 
 module _ (t : Tables) (can : CanMap t) where
   abbrev all : List (List EndAt)
@@ -73,7 +75,8 @@ module _ (t : Tables) (can : CanMap t) where
 
   -- ---- the threads of a domain
 
-  server_is : (leaf : ℕ) (e : EndAt) (y : ThreadOf) → IsIn y (server t.flat leaf e) → (serves t.flat e ≡ true) × (thread leaf (Some e) ≡ y)
+  server_is : (leaf : ℕ) (e : EndAt) (y : ThreadOf) → IsIn y (server t.flat leaf e)
+      → (serves t.flat e ≡ true) × (thread leaf (Some e) ≡ y)
   server_is leaf e y i = shown_if (serves t.flat e) (thread leaf (Some e)) y i
 
   leaf_of : (leaf : ℕ) (y : ThreadOf) → IsIn y (leaf_threads t.flat all leaf) → leaf ≡ y.leaf
@@ -82,7 +85,8 @@ module _ (t : Tables) (can : CanMap t) where
       let b = from_flat_map (server t.flat leaf) y (ends_at all leaf) i in
       ap (λ (z : ThreadOf). z.leaf) (server_is leaf b.0 y b.2).1
 
-  pub has_thread : (d : ℕ) (x : Domain) → slice_get t.flat.domains d ≡ Some x → (y : ThreadOf) → IsIn y (threads_of (system t) d) → HasThread t y.leaf y.end × IsIn y.leaf x.leaves
+  pub has_thread : (d : ℕ) (x : Domain) → slice_get t.flat.domains d ≡ Some x → (y : ThreadOf) → IsIn y (threads_of (system t) d)
+      → HasThread t y.leaf y.end × IsIn y.leaf x.leaves
   has_thread d x h y i =
       let a = from_flat_map (leaf_threads t.flat all) y (leaves_of t.flat d) i in
       let P : List ℕ → Type 0 = λ z. IsIn a.0 z in
@@ -96,8 +100,17 @@ module _ (t : Tables) (can : CanMap t) where
             let s = server_is a.0 b.0 y b.2 in
             let R : List EndAt → Type 0 = λ z. IsIn b.0 z in
             let m = end_of_leaf t a.0 b.0 (leaf_members t.source t.flat a.0) (subst R (ends_are t a.0 g.0 g.1) b.1) in
-            let u = called m.1.connection.connector m.1.end.role (sym (serves_by t b.0 m.1.connection m.1.end m.1.here m.1.stands) ∙ s.0) in
-            let v : Serves t a.0 b.0 = record { connection = m.1.connection; here = m.1.here; is_rpc = u.0; end = m.1.end; stands = m.1.stands; is_to = u.1; joins = m.1.leaf_is } in
+            let u = called m.1.connection.connector m.1.end.role (sym (serves_by t b.0 m.1.connection m.1.end m.1.here m.1.stands)
+            ∙ s.0) in
+            let v : Serves t a.0 b.0 = record {
+              connection = m.1.connection;
+              here = m.1.here;
+              is_rpc = u.0;
+              end = m.1.end;
+              stands = m.1.stands;
+              is_to = u.1;
+              joins = m.1.leaf_is;
+            } in
             subst Q s.1 (v, l)
       ]
 
@@ -107,25 +120,37 @@ module _ (t : Tables) (can : CanMap t) where
     pub here : slice_get t.flat.domains domain ≡ Some leaves
     pub there : IsIn (thread leaf end) (threads_of (system t) domain)
 
-  in_home : (leaf : ℕ) (end : Option EndAt) (found : Leaf) (d : ℕ) → slice_get t.flat.leaves leaf ≡ Some found → found.domain ≡ Some d → IsIn (thread leaf end) (leaf_threads t.flat all leaf) → Home leaf end
+  in_home : (leaf : ℕ) (end : Option EndAt) (found : Leaf) (d : ℕ) → slice_get t.flat.leaves leaf ≡ Some found
+      → found.domain ≡ Some d → IsIn (thread leaf end) (leaf_threads t.flat all leaf) → Home leaf end
   in_home leaf end found d h e i =
       let g = can.grouped.inside leaf d found h e in
       let P : List ℕ → Type 0 = λ z. IsIn leaf z in
-      record { domain = d; leaves = g.0; here = g.1; there = in_flat_map (leaf_threads t.flat all) leaf (thread leaf end) (leaves_of t.flat d) (subst P (sym (leaves_are d g.0 g.1)) g.2) i }
+      record {
+        domain = d;
+        leaves = g.0;
+        here = g.1;
+        there = in_flat_map (leaf_threads t.flat all) leaf (thread leaf end)
+            (leaves_of t.flat d) (subst P (sym (leaves_are d g.0 g.1)) g.2) i;
+      }
 
   serving : (e : EndAt) (leaf : ℕ) (v : Serves t leaf e) → Home v.end.leaf (Some e)
   serving e leaf v =
       let c = v.connection in
       let x = v.end in
-      let soft : (end_rule c.connector x.role).hardware ≡ false = ap (λ z. (end_rule z x.role).hardware) v.is_rpc ∙ ap (λ z. (end_rule Rpc z).hardware) v.is_to in
+      let soft : (end_rule c.connector x.role).hardware ≡ false = ap (λ z. (end_rule z x.role).hardware) v.is_rpc
+      ∙ ap (λ z. (end_rule Rpc z).hardware) v.is_to in
       let w = can.joined.software e.connection e.end c x v.here v.stands soft in
       let members = leaf_members t.source t.flat x.leaf in
-      let i = in_leaf_ends t x.leaf e.connection e.end c x members v.here v.stands refl (can.joined.member e.connection e.end c x v.here v.stands) in
+      let i = in_leaf_ends t x.leaf e.connection e.end c x members v.here v.stands refl (can.joined.member e.connection e.end c x
+      v.here v.stands) in
       let R : List EndAt → Type 0 = λ z. IsIn e z in
       let j = subst R (sym (ends_are t x.leaf w.0 w.2)) i in
-      let yes : serves t.flat e ≡ true = serves_by t e c x v.here v.stands ∙ ap (λ z. is_called z x.role) v.is_rpc ∙ ap (λ z. is_called Rpc z) v.is_to in
+      let yes : serves t.flat e ≡ true = serves_by t e c x v.here v.stands ∙ ap (λ z. is_called z x.role) v.is_rpc
+      ∙ ap (λ z. is_called Rpc z) v.is_to in
       let P : Bool → Type 0 = λ b. IsIn (thread x.leaf (Some e)) (cond b (thread x.leaf (Some e) ∷ []) []) in
-      in_home x.leaf (Some e) w.0 w.1 w.2 w.3 (inr (in_flat_map (server t.flat x.leaf) e (thread x.leaf (Some e)) (ends_at all x.leaf) j (subst P (sym yes) (inl refl))))
+      in_home x.leaf (Some e) w.0 w.1 w.2 w.3
+      (inr (in_flat_map (server t.flat x.leaf) e (thread x.leaf (Some e)) (ends_at all x.leaf) j
+      (subst P (sym yes) (inl refl))))
 
   pub at_home : (leaf : ℕ) (end : Option EndAt) → HasThread t leaf end → Home leaf end
   at_home leaf None h = in_home leaf None h.0 h.1 h.2 h.3 (inl refl)
@@ -143,7 +168,8 @@ module _ (t : Tables) (can : CanMap t) where
       (λ l m y i j. leaf_of l y i ∙ sym (leaf_of m y j))
     where
       none : (leaf : ℕ) (y : ThreadOf) → thread leaf None ≡ y → (e : EndAt) → thread leaf (Some e) ≡ y → ⊥
-      none leaf y a e b = let nothing : Option EndAt = None in let f : nothing ≡ Some e = ap (λ (z : ThreadOf). z.end) (a ∙ sym b) in cc
+      none leaf y a e b = let nothing : Option EndAt = None in let f : nothing ≡ Some e =
+          ap (λ (z : ThreadOf). z.end) (a ∙ sym b) in cc
 
       once_server : (leaf : ℕ) (e : EndAt) → Once (server t.flat leaf e)
       once_server leaf e = by_test (serves t.flat e)
@@ -155,21 +181,26 @@ module _ (t : Tables) (can : CanMap t) where
       of_leaf : (leaf : ℕ) (found : Leaf) → slice_get t.flat.leaves leaf ≡ Some found → Once (leaf_threads t.flat all leaf)
       of_leaf leaf found g =
           let P : List EndAt → Type 0 = λ z. Once z in
-          let ends_once = subst P (sym (ends_are t leaf found g)) (once_leaf t.flat.connections leaf (leaf_members t.source t.flat leaf)) in
+          let ends_once =
+          subst P (sym (ends_are t leaf found g)) (once_leaf t.flat.connections leaf (leaf_members t.source t.flat leaf)) in
           let served = once_flat (server t.flat leaf) (ends_at all leaf) ends_once (λ e i. once_server leaf e) (λ e f y i j. (
-          let q : Some e ≡ Some f = ap (λ (z : ThreadOf). z.end) ((server_is leaf e y i).1 ∙ sym (server_is leaf f y j).1) in cc)) in
+          let q : Some e ≡ Some f = ap (λ (z : ThreadOf). z.end) ((server_is leaf e y i).1 ∙ sym (server_is leaf f y j).1) in
+          cc)) in
           once_cons (thread leaf None) (flat_map (server t.flat leaf) (ends_at all leaf)) served
-          (λ i. let b = from_flat_map (server t.flat leaf) (thread leaf None) (ends_at all leaf) i in none leaf (thread leaf None) refl b.0 (server_is leaf b.0 (thread leaf None) b.2).1)
+          (λ i. let b = from_flat_map (server t.flat leaf) (thread leaf None) (ends_at all leaf) i in
+          none leaf (thread leaf None) refl b.0 (server_is leaf b.0 (thread leaf None) b.2).1)
 
   -- ---- lines
 
-  pub threads_are : (d : ℕ) (x : Domain) → slice_get t.flat.domains d ≡ Some x → threads_at t d ≡ gather (λ i y. thread_place (system t) d i y ∷ []) (threads_of (system t) d)
+  pub threads_are : (d : ℕ) (x : Domain) → slice_get t.flat.domains d ≡ Some x
+      → threads_at t d ≡ gather (λ i y. thread_place (system t) d i y ∷ []) (threads_of (system t) d)
   threads_are d x h =
       let f : ℕ → Domain → Space = λ n z. space (system t) n z in
       ap (λ (z : Spaces). option_map_or (λ (w : Space). w.threads) (slice_get z.spaces d) []) can.spaces
       ∙ ap (λ o. option_map_or (λ (w : Space). w.threads) o []) (get_ones f t.flat.domains d x h)
 
-  pub thread_at : (d i : ℕ) (x : Domain) (y : ThreadOf) → slice_get t.flat.domains d ≡ Some x → slice_get (threads_of (system t) d) i ≡ Some y → slice_get (threads_at t d) i ≡ Some (thread_place (system t) d i y)
+  pub thread_at : (d i : ℕ) (x : Domain) (y : ThreadOf) → slice_get t.flat.domains d ≡ Some x
+      → slice_get (threads_of (system t) d) i ≡ Some y → slice_get (threads_at t d) i ≡ Some (thread_place (system t) d i y)
   thread_at d i x y h e =
       let f : ℕ → ThreadOf → ThreadPlace = λ n z. thread_place (system t) d n z in
       ap (λ z. slice_get z i) (threads_are d x h) ∙ get_ones f (threads_of (system t) d) i y e
@@ -234,7 +265,8 @@ module _ (t : Tables) (can : CanMap t) where
             let a = from_gather f line t.flat.domains j in
             let h : ℕ → SlotUse → List MapLine = λ n u. slot_line (use_cap t a.0 n u).object n u ∷ [] in
             let b = from_gather h line (uses_at t a.0) a.3 in
-            absurd (no_slot (use_cap t a.0 b.0 b.1).object b.0 b.1 (subst IsThreadLine (sym (single (slot_line (use_cap t a.0 b.0 b.1).object b.0 b.1) line b.3)) s))
+            absurd (no_slot (use_cap t a.0 b.0 b.1).object b.0 b.1
+            (subst IsThreadLine (sym (single (slot_line (use_cap t a.0 b.0 b.1).object b.0 b.1) line b.3)) s))
         | inr j ↦
             let f : ℕ → Domain → List MapLine = λ d x. domain_windows t d in
             let a = from_gather f line t.flat.domains j in
@@ -245,13 +277,15 @@ module _ (t : Tables) (can : CanMap t) where
     ]
   ]
 
-  pub line_to : (d i : ℕ) (x : Domain) (y : ThreadOf) → slice_get t.flat.domains d ≡ Some x → slice_get (threads_of (system t) d) i ≡ Some y → IsIn (ThreadLine (place t (OfThread d i)) y.leaf y.end) (map_lines t)
+  pub line_to : (d i : ℕ) (x : Domain) (y : ThreadOf) → slice_get t.flat.domains d ≡ Some x
+      → slice_get (threads_of (system t) d) i ≡ Some y → IsIn (ThreadLine (place t (OfThread d i)) y.leaf y.end) (map_lines t)
   line_to d i x y h e =
       let line = ThreadLine (place t (OfThread d i)) y.leaf y.end in
       let f : ℕ → Domain → List MapLine = λ d x. domain_threads t d in
       let g : ℕ → ThreadPlace → List MapLine = λ n z. thread_line t d n z ∷ [] in
       let inner = in_gather g line (threads_at t d) i (thread_place (system t) d i y) (thread_at d i x y h e) (inl refl) in
-      in_right line (domain_lines t) (thread_lines t ++ (slot_lines t ++ window_lines t)) (in_left line (thread_lines t) (slot_lines t ++ window_lines t) (in_gather f line t.flat.domains d x h inner))
+      in_right line (domain_lines t) (thread_lines t ++ (slot_lines t ++ window_lines t))
+      (in_left line (thread_lines t) (slot_lines t ++ window_lines t) (in_gather f line t.flat.domains d x h inner))
 
   -- ---- objects
 
@@ -259,21 +293,26 @@ module _ (t : Tables) (can : CanMap t) where
   abbrev pub threads_before : ℕ → ℕ → ℕ
   threads_before d i = before (λ e y. threads_of (system t) e) t.flat.domains d + i
 
-  pub thread_part : (d i : ℕ) (x : Domain) (y : ThreadOf) → slice_get t.flat.domains d ≡ Some x → slice_get (threads_of (system t) d) i ≡ Some y → IsIn (part series.Tcb (threads_before d i) (OfDomain d) (OfThread d i)) (parts t)
+  pub thread_part : (d i : ℕ) (x : Domain) (y : ThreadOf) → slice_get t.flat.domains d ≡ Some x
+      → slice_get (threads_of (system t) d) i ≡ Some y
+      → IsIn (part series.Tcb (threads_before d i) (OfDomain d) (OfThread d i)) (parts t)
   thread_part d i x y h e =
       let z = owned (OfDomain d) (OfThread d i) in
       let n = threads_before d i in
       let f : ℕ → ThreadPlace → Owned = λ n w. owned (OfDomain d) (OfThread d n) in
       let inner = get_ones f (threads_at t d) i (thread_place (system t) d i y) (thread_at d i x y h e) in
-      let many : (d : ℕ) (x : Domain) → slice_get t.flat.domains d ≡ Some x → length (domain_tcbs t d x) ≡ length (threads_of (system t) d) =
-      λ d x h. gather_ones (λ n (w : ThreadPlace). owned (OfDomain d) (OfThread d n)) (threads_at t d) ∙ ap length (threads_are d x h) ∙ gather_ones (λ i y. thread_place (system t) d i y) (threads_of (system t) d) in
+      let many : (d : ℕ) (x : Domain) → slice_get t.flat.domains d ≡ Some x
+      → length (domain_tcbs t d x) ≡ length (threads_of (system t) d) =
+      λ d x h. gather_ones (λ n (w : ThreadPlace). owned (OfDomain d) (OfThread d n)) (threads_at t d)
+      ∙ ap length (threads_are d x h) ∙ gather_ones (λ i y. thread_place (system t) d i y) (threads_of (system t) d) in
       let sums = before_same (domain_tcbs t) (λ e y. threads_of (system t) e) t.flat.domains d many in
       let at : slice_get (tcbs t) n ≡ Some z = gathered (domain_tcbs t) t.flat.domains d x i z n h inner (omega (arith, sums)) in
       let g : ℕ → Owned → List Part = λ n w. part series.Tcb n w.owner w.what ∷ [] in
       let p = part series.Tcb n (OfDomain d) (OfThread d i) in
       in_together (sections t) 1 (numbered series.Tcb (tcbs t)) p refl (in_gather g p (tcbs t) n z at (inl refl))
 
-  pub thread_object : (d i : ℕ) (x : Domain) (y : ThreadOf) → slice_get t.flat.domains d ≡ Some x → slice_get (threads_of (system t) d) i ≡ Some y
+  pub thread_object : (d i : ℕ) (x : Domain) (y : ThreadOf) → slice_get t.flat.domains d ≡ Some x
+      → slice_get (threads_of (system t) d) i ≡ Some y
       → object_at (spec_of t) (place t (OfThread d i)) ≡ Some (objects.Thread (tcb t d (thread_place (system t) d i y)))
   thread_object d i x y h e =
       (objects_stand t).object (part series.Tcb (threads_before d i) (OfDomain d) (OfThread d i)) (thread_part d i x y h e)

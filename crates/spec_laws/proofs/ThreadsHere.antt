@@ -48,7 +48,8 @@ use Rattle.spec_laws.proofs.TablesHere.{root_there}
 use Rattle.spec_laws.proofs.Whose.{IsAt, entry_is, label_there, labels, object_stands, of_tcb}
 
 -- the second region of thread i is its buffer
-buffer_region : (g : Given) (xs : List Described) (i n : ℕ) (x : Described) → slice_get xs i ≡ Some x → n ≡ 2 * i + 1 → slice_get (flat_map (thread_regions g.settled) xs) n ≡ Some (region Buffer 1)
+buffer_region : (g : Given) (xs : List Described) (i n : ℕ) (x : Described) → slice_get xs i ≡ Some x → n ≡ 2 * i + 1
+    → slice_get (flat_map (thread_regions g.settled) xs) n ≡ Some (region Buffer 1)
 buffer_region g [] i n x e s = cc
 buffer_region g (y ∷ ys) zero n x e s =
     let one : 1 ≡ n = omega (arith, s) in
@@ -72,7 +73,8 @@ module _ (t : Tables) (h : IsConnected t) where
       let n = 2 * i + 1 in
       let r : Region = region Buffer 1 in
       let there : slice_get (regions g d) n ≡ Some r =
-      get_front (flat_map (thread_regions g.settled) (threads_of g d)) (map (window_region g.flat g.settled) (windows_of g d)) n r (buffer_region g (threads_of g d) i n x e refl) in
+      get_front (flat_map (thread_regions g.settled) (threads_of g d)) (map (window_region g.flat g.settled) (windows_of g d)) n r
+      (buffer_region g (threads_of g d) i n x e refl) in
       let start = region_start (base g) (regions g d) n in
       let p : MappedPage = page_of g.settled start r 0 in
       let m = place_of p (mapped_pages g d) (first_page g d n r there (omega arith)) in
@@ -97,7 +99,8 @@ module _ (t : Tables) (h : IsConnected t) where
       let i = w.1 in
       let here : IsThere t (ThreadOf d i) = subst (λ z. IsThere t z) w.2 at.there in
       let is : object t (ThreadOf d i) ≡ objects.Thread x = subst (λ z. object t z ≡ objects.Thread x) w.2 at.is in
-      let made : object t (ThreadOf d i) ≡ objects.Thread (tcb t d here.1.0) = ap (λ z. option_map_or (λ y. objects.Thread (tcb t d y)) z objects.Endpoint) here.1.1 in
+      let made : object t (ThreadOf d i) ≡ objects.Thread (tcb t d here.1.0) =
+      ap (λ z. option_map_or (λ y. objects.Thread (tcb t d y)) z objects.Endpoint) here.1.1 in
       let both : objects.Thread (tcb t d here.1.0) ≡ objects.Thread x = sym made ∙ is in
       record {
         domain = d;
@@ -130,7 +133,8 @@ module _ (t : Tables) (h : IsConnected t) where
   space_there w =
       let f = from_threads t h w.domain w.number w.found w.thread w.here w.stands in
       let b = has_buffer w.domain w.number f.0 f.1 in
-      root_there t w.domain w.found (page (laid t h) w.domain b.number b.mapped) w.here (in_pages t h w.domain b.number w.found b.mapped w.here b.here)
+      root_there t w.domain w.found (page (laid t h) w.domain b.number b.mapped) w.here
+      (in_pages t h w.domain b.number w.found b.mapped w.here b.here)
 
   space_of : (o n : ℕ) (x : Object) → IsAt t o x → (boot_thread x).space ≡ Some n → label_of (labels t) o ≡ label_of (labels t) n
   space_of o n (objects.Thread x) at there =
@@ -147,20 +151,25 @@ module _ (t : Tables) (h : IsConnected t) where
 
   -- ---- buffers
 
-  from_frame : (d : ℕ) (pages : List Page) (at : ℕ) (held : Cap) → option_map (λ f. cap (place t (FrameOf f)) RW 0) (frame_at pages at) ≡ Some held
+  from_frame : (d : ℕ) (pages : List Page) (at : ℕ) (held : Cap)
+      → option_map (λ f. cap (place t (FrameOf f)) RW 0) (frame_at pages at) ≡ Some held
       → (p : Page) × IsIn p pages × (p.vaddr ≡ at) × (held.object ≡ place t (FrameOf p.frame))
   from_frame d pages at held e = go (find (λ (p : Page). p.vaddr == at) pages) refl where
-    go : (o : Option Page) → find (λ (p : Page). p.vaddr == at) pages ≡ o → (p : Page) × IsIn p pages × (p.vaddr ≡ at) × (held.object ≡ place t (FrameOf p.frame))
+    go : (o : Option Page) → find (λ (p : Page). p.vaddr == at) pages ≡ o → (p : Page) × IsIn p pages × (p.vaddr ≡ at)
+        × (held.object ≡ place t (FrameOf p.frame))
     go None q = absurd (
-        let w : ◌≡◌ {A = Option Cap} None (Some held) = sym (ap (λ z. option_map (λ f. cap (place t (FrameOf f)) RW 0) (option_map (λ (p : Page). p.frame) z)) q) ∙ e in
+        let w : ◌≡◌ {A = Option Cap} None (Some held) =
+        sym (ap (λ z. option_map (λ f. cap (place t (FrameOf f)) RW 0) (option_map (λ (p : Page). p.frame) z)) q) ∙ e in
         cc)
     go (Some p) q =
         let f = found (λ (p : Page). p.vaddr == at) pages p q in
-        let w : Some (cap (place t (FrameOf p.frame)) RW 0) ≡ Some held = sym (ap (λ z. option_map (λ f. cap (place t (FrameOf f)) RW 0) (option_map (λ (p : Page). p.frame) z)) q) ∙ e in
+        let w : Some (cap (place t (FrameOf p.frame)) RW 0) ≡ Some held =
+        sym (ap (λ z. option_map (λ f. cap (place t (FrameOf f)) RW 0) (option_map (λ (p : Page). p.frame) z)) q) ∙ e in
         let same : held ≡ cap (place t (FrameOf p.frame)) RW 0 = cc in
         (p, f.0, eqb-true p.vaddr at f.1, ap (λ (z : Cap). z.object) same)
 
-  buffer_own : (o : ℕ) (held : Cap) (x : Tcb) → IsThread o x → x.buffer ≡ Some held → label_of (labels t) o ≡ label_of (labels t) held.object
+  buffer_own : (o : ℕ) (held : Cap) (x : Tcb) → IsThread o x → x.buffer ≡ Some held
+      → label_of (labels t) o ≡ label_of (labels t) held.object
   buffer_own o held x w e =
       let g = laid t h in
       let d = w.domain in
@@ -171,16 +180,20 @@ module _ (t : Tables) (h : IsConnected t) where
       let q = from_pages t h d w.found p.0 w.here p.1 in
       let start : buffer_start g d w.number ≡ w.thread.buffer = ap (λ (z : ThreadPlace). z.buffer) f.2 in
       let address : q.mapped.at ≡ b.mapped.at = ap (λ (z : Page). z.vaddr) q.is ∙ p.2 ∙ sym start ∙ sym b.at in
-      let one : q.mapped ≡ b.mapped = rises_tell (λ (z : MappedPage). z.at) (mapped_pages g d) q.number b.number q.mapped b.mapped (h.rise d).rise q.here b.here address in
+      let one : q.mapped ≡ b.mapped = rises_tell (λ (z : MappedPage). z.at) (mapped_pages g d) q.number b.number q.mapped b.mapped
+      (h.rise d).rise q.here b.here address in
       let own = own_frame t h d q.number w.found q.mapped w.here q.here (None, ap (λ (z : MappedPage). z.shown) one ∙ b.own) in
       let n = number_shown g d q.number q.mapped.shown in
       let frame : n ≡ p.0.frame = ap (λ (z : Page). z.frame) q.is in
-      let label : label_of (labels t) (place t (FrameOf n)) ≡ domain_label (policy_tables t) d = label_there t (FrameOf n) own.0 ∙ ap (number_of t.numbers) own.1 in
+      let label : label_of (labels t) (place t (FrameOf n)) ≡ domain_label (policy_tables t) d = label_there t (FrameOf n) own.0
+      ∙ ap (number_of t.numbers) own.1 in
       w.label ∙ sym label ∙ ap (λ z. label_of (labels t) (place t (FrameOf z))) frame ∙ ap (label_of (labels t)) (sym p.3)
 
-  buffer_label : (o : ℕ) (held : Cap) → buffer_of (object_at (spec_of t) o) ≡ Some held → label_of (labels t) o ≡ label_of (labels t) held.object
+  buffer_label : (o : ℕ) (held : Cap) → buffer_of (object_at (spec_of t) o) ≡ Some held
+      → label_of (labels t) o ≡ label_of (labels t) held.object
   buffer_label o held e = go (object_at (spec_of t) o) refl e where
-    go : (x : Option Object) → object_at (spec_of t) o ≡ x → buffer_of x ≡ Some held → label_of (labels t) o ≡ label_of (labels t) held.object
+    go : (x : Option Object) → object_at (spec_of t) o ≡ x → buffer_of x ≡ Some held
+        → label_of (labels t) o ≡ label_of (labels t) held.object
     go (Some (objects.Thread x)) q e = buffer_own o held x (thread_is o x (object_stands t o (objects.Thread x) q)) e
     go None q e = absurd cc
     go (Some objects.Endpoint) q e = absurd cc

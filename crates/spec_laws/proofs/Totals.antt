@@ -23,7 +23,8 @@ pub total_append : {X : Type 0} (f : X → ℕ) (xs ys : List X) → total f (xs
 total_append f [] ys = omega arith
 total_append f (x ∷ xs) ys = let ih = total_append f xs ys in omega (arith, ih)
 
-pub total_gather : {X Y : Type 0} (g : Y → ℕ) (f : ℕ → X → List Y) (xs : List X) → total g (gather f xs) ≡ totals (λ k x. total g (f k x)) xs
+pub total_gather : {X Y : Type 0} (g : Y → ℕ) (f : ℕ → X → List Y) (xs : List X)
+    → total g (gather f xs) ≡ totals (λ k x. total g (f k x)) xs
 total_gather g f [] = refl
 total_gather {X} {Y} g f (x ∷ xs) =
     let rest : ℕ → X → List Y = λ k y. f (suc k) y in
@@ -31,7 +32,8 @@ total_gather {X} {Y} g f (x ∷ xs) =
     total_append g (f 0 x) (gather rest xs) ∙ ap (λ n. total g (f 0 x) + n) ih
 
 -- one thing of each element
-pub total_ones : {X Y : Type 0} (g : Y → ℕ) (f : ℕ → X → Y) (xs : List X) → total g (gather (λ k x. f k x ∷ []) xs) ≡ totals (λ k x. g (f k x)) xs
+pub total_ones : {X Y : Type 0} (g : Y → ℕ) (f : ℕ → X → Y) (xs : List X) → total g (gather (λ k x. f k x ∷ []) xs) ≡ totals
+    (λ k x. g (f k x)) xs
 total_ones g f [] = refl
 total_ones {X} {Y} g f (x ∷ xs) =
     let rest : ℕ → X → Y = λ k y. f (suc k) y in
@@ -76,11 +78,13 @@ pub total_most : {X : Type 0} (f g : X → ℕ) (xs : List X) → ((x : X) → I
 total_most f g [] h = omega arith
 total_most f g (x ∷ xs) h = let a = h x (inl refl) in let ih = total_most f g xs (λ y i. h y (inr i)) in omega (arith, a, ih)
 
-pub totals_most : {X : Type 0} (f g : ℕ → X → ℕ) (xs : List X) → ((k : ℕ) (x : X) → slice_get xs k ≡ Some x → f k x ≤ g k x) → totals f xs ≤ totals g xs
+pub totals_most : {X : Type 0} (f g : ℕ → X → ℕ) (xs : List X) → ((k : ℕ) (x : X) → slice_get xs k ≡ Some x → f k x ≤ g k x)
+    → totals f xs ≤ totals g xs
 totals_most f g [] h = omega arith
 totals_most {X} f g (x ∷ xs) h =
     let a = h 0 x refl in
-    let ih : totals (λ k y. f (suc k) y) xs ≤ totals (λ k y. g (suc k) y) xs = totals_most (λ k y. f (suc k) y) (λ k y. g (suc k) y) xs (λ k y e. h (suc k) y e) in
+    let ih : totals (λ k y. f (suc k) y) xs ≤ totals (λ k y. g (suc k) y) xs =
+    totals_most (λ k y. f (suc k) y) (λ k y. g (suc k) y) xs (λ k y e. h (suc k) y e) in
     omega (arith, a, ih)
 
 pub total_add : {X : Type 0} (f g : X → ℕ) (xs : List X) → total (λ x. f x + g x) xs ≡ total f xs + total g xs
@@ -90,7 +94,8 @@ total_add f g (x ∷ xs) = let ih = total_add f g xs in omega (arith, ih)
 pub totals_add : {X : Type 0} (f g : ℕ → X → ℕ) (xs : List X) → totals (λ k x. f k x + g k x) xs ≡ totals f xs + totals g xs
 totals_add f g [] = refl
 totals_add {X} f g (x ∷ xs) =
-    let ih : totals (λ k y. f (suc k) y + g (suc k) y) xs ≡ totals (λ k y. f (suc k) y) xs + totals (λ k y. g (suc k) y) xs = totals_add (λ k y. f (suc k) y) (λ k y. g (suc k) y) xs in
+    let ih : totals (λ k y. f (suc k) y + g (suc k) y) xs ≡ totals (λ k y. f (suc k) y) xs + totals (λ k y. g (suc k) y) xs =
+    totals_add (λ k y. f (suc k) y) (λ k y. g (suc k) y) xs in
     omega (arith, ih)
 
 pub total_times : {X : Type 0} (c : ℕ) (f : X → ℕ) (xs : List X) → total (λ x. c * f x) xs ≡ c * total f xs
@@ -111,7 +116,8 @@ totals_const c [] = omega arith
 totals_const c (x ∷ xs) = ap (λ n. c + n) (totals_const c xs) ∙ swap c (c * length xs) ∙ sym (mul-suc c (length xs))
 
 -- at most so much of each element
-pub totals_each : {X : Type 0} (f : ℕ → X → ℕ) (c : ℕ) (xs : List X) → ((k : ℕ) (x : X) → slice_get xs k ≡ Some x → f k x ≤ c) → totals f xs ≤ c * length xs
+pub totals_each : {X : Type 0} (f : ℕ → X → ℕ) (c : ℕ) (xs : List X) → ((k : ℕ) (x : X) → slice_get xs k ≡ Some x → f k x ≤ c)
+    → totals f xs ≤ c * length xs
 totals_each f c xs h = let a = totals_most f (λ k x. c) xs h in let b = totals_const c xs in omega (arith, a, b)
 
 pub total_const : {X : Type 0} (c : ℕ) (xs : List X) → total (λ x. c) xs ≡ c * length xs
@@ -123,9 +129,11 @@ total_each f c xs h = let a = total_most f (λ x. c) xs h in let b = total_const
 
 -- ---- in other ways
 
-pub totals_same : {X : Type 0} (f g : ℕ → X → ℕ) (xs : List X) → ((k : ℕ) (x : X) → slice_get xs k ≡ Some x → f k x ≡ g k x) → totals f xs ≡ totals g xs
+pub totals_same : {X : Type 0} (f g : ℕ → X → ℕ) (xs : List X) → ((k : ℕ) (x : X) → slice_get xs k ≡ Some x → f k x ≡ g k x)
+    → totals f xs ≡ totals g xs
 totals_same f g [] h = refl
-totals_same f g (x ∷ xs) h = ap (λ n. n + totals (λ k y. f (suc k) y) xs) (h 0 x refl) ∙ ap (λ n. g 0 x + n) (totals_same (λ k y. f (suc k) y) (λ k y. g (suc k) y) xs (λ k y e. h (suc k) y e))
+totals_same f g (x ∷ xs) h = ap (λ n. n + totals (λ k y. f (suc k) y) xs) (h 0 x refl)
+    ∙ ap (λ n. g 0 x + n) (totals_same (λ k y. f (suc k) y) (λ k y. g (suc k) y) xs (λ k y e. h (suc k) y e))
 
 -- where places don't matter
 pub totals_flat : {X : Type 0} (f : X → ℕ) (xs : List X) → totals (λ k x. f x) xs ≡ total f xs
@@ -139,9 +147,11 @@ total_one f (y ∷ ys) x (inl e) = let s = ap f e in omega (arith, s)
 total_one f (y ∷ ys) x (inr i) = let ih = total_one f ys x i in omega (arith, ih)
 
 -- sums of sums, the other way round
-pub totals_swap : {X Y : Type 0} (f : ℕ → X → Y → ℕ) (xs : List X) (ys : List Y) → totals (λ k x. total (λ y. f k x y) ys) xs ≡ total (λ y. totals (λ k x. f k x y) xs) ys
+pub totals_swap : {X Y : Type 0} (f : ℕ → X → Y → ℕ) (xs : List X) (ys : List Y)
+    → totals (λ k x. total (λ y. f k x y) ys) xs ≡ total (λ y. totals (λ k x. f k x y) xs) ys
 totals_swap f xs [] = totals_const 0 xs ∙ none (length xs)
   where
     none : (n : ℕ) → 0 * n ≡ 0
     none n = omega arith
-totals_swap {X} {Y} f xs (y ∷ ys) = totals_add (λ k x. f k x y) (λ k x. total (λ z. f k x z) ys) xs ∙ ap (λ n. totals (λ k x. f k x y) xs + n) (totals_swap f xs ys)
+totals_swap {X} {Y} f xs (y ∷ ys) = totals_add (λ k x. f k x y) (λ k x. total (λ z. f k x z) ys) xs
+    ∙ ap (λ n. totals (λ k x. f k x y) xs + n) (totals_swap f xs ys)

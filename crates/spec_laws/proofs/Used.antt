@@ -38,16 +38,20 @@ pub record UseOf (cs : List FlatConnection) (leaf : ℕ) (u : SlotUse) : Type 0 
 abbrev pub IsLock : List Member → ℕ → SlotUse → Type 0
 IsLock ms leaf u = (m : ℕ) × (u ≡ OwnLock leaf m) × (x : Lock) × (slice_get ms m ≡ Some (members.Lock x))
 
-from_joined : (leaf m k n : ℕ) (c : FlatConnection) (e : FlatEnd) (u : SlotUse) → IsIn u (joined_uses leaf m k c.connector n e) → (e.leaf ≡ leaf) × IsIn u (end_uses c.connector e.role k n)
+from_joined : (leaf m k n : ℕ) (c : FlatConnection) (e : FlatEnd) (u : SlotUse) → IsIn u (joined_uses leaf m k c.connector n e)
+    → (e.leaf ≡ leaf) × IsIn u (end_uses c.connector e.role k n)
 from_joined leaf m k n c e u i = by_test (joins leaf m e) refl i
   where
-    by_test : (b : Bool) → joins leaf m e ≡ b → IsIn u (cond b (end_uses c.connector e.role k n) []) → (e.leaf ≡ leaf) × IsIn u (end_uses c.connector e.role k n)
+    by_test : (b : Bool) → joins leaf m e ≡ b → IsIn u (cond b (end_uses c.connector e.role k n) [])
+        → (e.leaf ≡ leaf) × IsIn u (end_uses c.connector e.role k n)
     by_test true q i = (eqb-true e.leaf leaf (and_parts (eqb e.leaf leaf) (eqb e.member m) q).0, i)
     by_test false q i = absurd i
 
-in_joined : (leaf m k n : ℕ) (c : FlatConnection) (e : FlatEnd) (u : SlotUse) → e.leaf ≡ leaf → e.member ≡ m → IsIn u (end_uses c.connector e.role k n) → IsIn u (joined_uses leaf m k c.connector n e)
+in_joined : (leaf m k n : ℕ) (c : FlatConnection) (e : FlatEnd) (u : SlotUse) → e.leaf ≡ leaf → e.member ≡ m
+    → IsIn u (end_uses c.connector e.role k n) → IsIn u (joined_uses leaf m k c.connector n e)
 in_joined leaf m k n c e u l q i =
-    let yes_it : joins leaf m e ≡ true = and_from (eqb e.leaf leaf) (eqb e.member m) (eq-eqb e.leaf leaf l) (eq-eqb e.member m q) in
+    let yes_it : joins leaf m e ≡ true = and_from (eqb e.leaf leaf) (eqb e.member m) (eq-eqb e.leaf leaf l)
+    (eq-eqb e.member m q) in
     let P : Bool → Type 0 = λ b. IsIn u (cond b (end_uses c.connector e.role k n) []) in
     subst P (sym yes_it) i
 
@@ -58,13 +62,16 @@ from_member cs leaf m u i =
     let j = from_joined leaf m k.0 n.0 k.1 n.1 u n.3 in
     record { place = k.0; connection = k.1; here = k.2; number = n.0; end = n.1; stands = n.2; joins = j.0; use_is = j.1 }
 
-in_member : (cs : List FlatConnection) (leaf m : ℕ) (u : SlotUse) (o : UseOf cs leaf u) → o.end.member ≡ m → IsIn u (member_uses cs leaf m)
+in_member : (cs : List FlatConnection) (leaf m : ℕ) (u : SlotUse) (o : UseOf cs leaf u) → o.end.member ≡ m
+    → IsIn u (member_uses cs leaf m)
 in_member cs leaf m u o q =
-    in_gather (λ k (c : FlatConnection). gather (λ n e. joined_uses leaf m k c.connector n e) c.ends) u cs o.place o.connection o.here
+    in_gather (λ k (c : FlatConnection). gather (λ n e. joined_uses leaf m k c.connector n e) c.ends) u cs o.place
+    o.connection o.here
     (in_gather (λ n e. joined_uses leaf m o.place o.connection.connector n e) u o.connection.ends o.number o.end o.stands
     (in_joined leaf m o.place o.number o.connection o.end u o.joins q o.use_is))
 
-from_lock : (ms : List Member) (leaf m : ℕ) (member : Member) (u : SlotUse) → slice_get ms m ≡ Some member → IsIn u (lock_uses leaf m member) → IsLock ms leaf u
+from_lock : (ms : List Member) (leaf m : ℕ) (member : Member) (u : SlotUse) → slice_get ms m ≡ Some member
+    → IsIn u (lock_uses leaf m member) → IsLock ms leaf u
 from_lock ms leaf m member u s i = by_test (is_lock member) refl i
   where
     by_test : (b : Bool) → is_lock member ≡ b → IsIn u (cond b (OwnLock leaf m ∷ []) []) → IsLock ms leaf u
@@ -72,7 +79,8 @@ from_lock ms leaf m member u s i = by_test (is_lock member) refl i
     by_test true q (inr i) = absurd i
     by_test false q i = absurd i
 
-pub from_leaf : (cs : List FlatConnection) (leaf : ℕ) (ms : List Member) (u : SlotUse) → IsIn u (leaf_uses cs leaf ms) → UseOf cs leaf u ⊎ IsLock ms leaf u
+pub from_leaf : (cs : List FlatConnection) (leaf : ℕ) (ms : List Member) (u : SlotUse) → IsIn u (leaf_uses cs leaf ms)
+    → UseOf cs leaf u ⊎ IsLock ms leaf u
 from_leaf cs leaf ms u i =
     let F : ℕ → Member → List SlotUse = λ m member. member_uses cs leaf m in
     let G : ℕ → Member → List SlotUse = λ m member. lock_uses leaf m member in
@@ -81,28 +89,33 @@ from_leaf cs leaf ms u i =
       | inr j ↦ let m = from_gather G u ms j in inr (from_lock ms leaf m.0 m.1 u m.2 m.3)
     ]
 
-pub in_leaf : (cs : List FlatConnection) (leaf : ℕ) (ms : List Member) (u : SlotUse) (o : UseOf cs leaf u) (member : Member) → slice_get ms o.end.member ≡ Some member → IsIn u (leaf_uses cs leaf ms)
+pub in_leaf : (cs : List FlatConnection) (leaf : ℕ) (ms : List Member) (u : SlotUse) (o : UseOf cs leaf u) (member : Member)
+    → slice_get ms o.end.member ≡ Some member → IsIn u (leaf_uses cs leaf ms)
 in_leaf cs leaf ms u o member s =
     let F : ℕ → Member → List SlotUse = λ m member. member_uses cs leaf m in
     let G : ℕ → Member → List SlotUse = λ m member. lock_uses leaf m member in
     in_left u (gather F ms) (gather G ms) (in_gather F u ms o.end.member member s (in_member cs leaf o.end.member u o refl))
 
-pub from_domain : (source : Source) (flat : Flat) (leaves : List ℕ) (u : SlotUse) → IsIn u (domain_uses source flat leaves) → (leaf : ℕ) × IsIn leaf leaves × (UseOf flat.connections leaf u ⊎ IsLock (leaf_members source flat leaf) leaf u)
+pub from_domain : (source : Source) (flat : Flat) (leaves : List ℕ) (u : SlotUse) → IsIn u (domain_uses source flat leaves)
+    → (leaf : ℕ) × IsIn leaf leaves × (UseOf flat.connections leaf u ⊎ IsLock (leaf_members source flat leaf) leaf u)
 from_domain source flat leaves u i =
     let F : ℕ → ℕ → List SlotUse = λ i leaf. leaf_uses flat.connections leaf (leaf_members source flat leaf) in
     let l = from_gather F u leaves i in
     (l.1, in_place l.1 leaves l.0 l.2, from_leaf flat.connections l.1 (leaf_members source flat l.1) u l.3)
 
-pub in_domain : (source : Source) (flat : Flat) (leaves : List ℕ) (u : SlotUse) (leaf : ℕ) (found : Leaf) (o : UseOf flat.connections leaf u) (member : Member) → IsIn leaf leaves → slice_get flat.leaves leaf ≡ Some found
+pub in_domain : (source : Source) (flat : Flat) (leaves : List ℕ) (u : SlotUse) (leaf : ℕ) (found : Leaf)
+    (o : UseOf flat.connections leaf u) (member : Member) → IsIn leaf leaves → slice_get flat.leaves leaf ≡ Some found
     → slice_get (members_at source found.component) o.end.member ≡ Some member → IsIn u (domain_uses source flat leaves)
 in_domain source flat leaves u leaf found o member here is s =
     let F : ℕ → ℕ → List SlotUse = λ i leaf. leaf_uses flat.connections leaf (leaf_members source flat leaf) in
     let p = place_of leaf leaves here in
     let P : Option Leaf → Type 0 = λ x. IsIn u (leaf_uses flat.connections leaf (members_of_leaf source x)) in
-    in_gather F u leaves p.0 leaf p.1 (subst P (sym is) (in_leaf flat.connections leaf (members_at source found.component) u o member s))
+    in_gather F u leaves p.0 leaf p.1 (subst P (sym is) (in_leaf flat.connections leaf (members_at source found.component)
+    u o member s))
 
 -- a declared lock has a slot
-pub lock_used : (source : Source) (flat : Flat) (leaves : List ℕ) (leaf m : ℕ) (found : Leaf) (x : Lock) → IsIn leaf leaves → slice_get flat.leaves leaf ≡ Some found → slice_get (members_at source found.component) m ≡ Some (members.Lock x)
+pub lock_used : (source : Source) (flat : Flat) (leaves : List ℕ) (leaf m : ℕ) (found : Leaf) (x : Lock) → IsIn leaf leaves
+    → slice_get flat.leaves leaf ≡ Some found → slice_get (members_at source found.component) m ≡ Some (members.Lock x)
     → IsIn (OwnLock leaf m) (domain_uses source flat leaves)
 lock_used source flat leaves leaf m found x i here declared =
     let E : ℕ → ℕ → List SlotUse = λ i at. leaf_uses flat.connections at (leaf_members source flat at) in
@@ -111,7 +124,8 @@ lock_used source flat leaves leaf m found x i here declared =
     let ms = leaf_members source flat leaf in
     let there : slice_get ms m ≡ Some (members.Lock x) = ap (λ z. slice_get (members_of_leaf source z) m) here ∙ declared in
     let p = place_of leaf leaves i in
-    in_gather E (OwnLock leaf m) leaves p.0 leaf p.1 (in_right (OwnLock leaf m) (gather F ms) (gather G ms) (in_gather G (OwnLock leaf m) ms m (members.Lock x) there (inl refl)))
+    in_gather E (OwnLock leaf m) leaves p.0 leaf p.1 (in_right (OwnLock leaf m) (gather F ms) (gather G ms)
+    (in_gather G (OwnLock leaf m) ms m (members.Lock x) there (inl refl)))
 
 -- ---- what the slots of an end are
 
@@ -129,7 +143,8 @@ pub record IsHandler (c : Connector) (r : Role) (k n : ℕ) (u : SlotUse) : Type
   pub receives : r ≡ To
   pub is : Handler k n ≡ u
 
-pub from_end_uses : (c : Connector) (r : Role) (k n : ℕ) (u : SlotUse) → IsIn u (end_uses c r k n) → (has_slot c r ≡ true) × ((OfEnd k n ≡ u) ⊎ IsHandler c r k n u)
+pub from_end_uses : (c : Connector) (r : Role) (k n : ℕ) (u : SlotUse) → IsIn u (end_uses c r k n)
+    → (has_slot c r ≡ true) × ((OfEnd k n ≡ u) ⊎ IsHandler c r k n u)
 from_end_uses Rpc r k n u (inl e) = (refl, inl e)
 from_end_uses Rpc r k n u (inr i) = absurd i
 from_end_uses Notification r k n u (inl e) = (refl, inl e)

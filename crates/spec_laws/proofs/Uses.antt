@@ -45,8 +45,15 @@ IsUse cs (OfEnd k n) = IsEnd cs k n
 IsUse cs (Handler k n) = (c : FlatConnection) × (slice_get cs k ≡ Some c) × (c.connector ≡ Interrupt)
 IsUse cs (OwnLock leaf m) = Unit {0}
 
-from_end : (cs : List FlatConnection) (k n : ℕ) (c : FlatConnection) (e : FlatEnd) (u : SlotUse) → slice_get cs k ≡ Some c → slice_get c.ends n ≡ Some e → IsIn u (end_uses c.connector e.role k n) → IsUse cs u
-from_end cs k n c e u h s i = by_kind c.connector e.role refl i (λ slot. record { connection = c; end = e; here = h; stands = s; slot = slot })
+from_end : (cs : List FlatConnection) (k n : ℕ) (c : FlatConnection) (e : FlatEnd) (u : SlotUse) → slice_get cs k ≡ Some c
+    → slice_get c.ends n ≡ Some e → IsIn u (end_uses c.connector e.role k n) → IsUse cs u
+from_end cs k n c e u h s i = by_kind c.connector e.role refl i (λ slot. record {
+  connection = c;
+  end = e;
+  here = h;
+  stands = s;
+  slot = slot;
+})
   where
     by_kind : (x : Connector) (r : Role) → c.connector ≡ x → IsIn u (end_uses x r k n) → (HasSlot x r → IsEnd cs k n) → IsUse cs u
     by_kind Rpc r q (inl same) end = subst (IsUse cs) same (end tt)
@@ -61,7 +68,8 @@ from_end cs k n c e u h s i = by_kind c.connector e.role refl i (λ slot. record
     by_kind Mmio r q i end = absurd i
     by_kind Direct r q i end = absurd i
 
-from_joined : (leaf m k n : ℕ) (c : FlatConnection) (e : FlatEnd) (u : SlotUse) → IsIn u (joined_uses leaf m k c.connector n e) → IsIn u (end_uses c.connector e.role k n)
+from_joined : (leaf m k n : ℕ) (c : FlatConnection) (e : FlatEnd) (u : SlotUse) → IsIn u (joined_uses leaf m k c.connector n e)
+    → IsIn u (end_uses c.connector e.role k n)
 from_joined leaf m k n c e u i = by_test (joins leaf m e) i
   where
     by_test : (b : Bool) → IsIn u (cond b (end_uses c.connector e.role k n) []) → IsIn u (end_uses c.connector e.role k n)
@@ -74,7 +82,8 @@ from_member cs leaf m u i =
     let n = from_gather (λ n e. joined_uses leaf m k.0 k.1.connector n e) u k.1.ends k.3 in
     from_end cs k.0 n.0 k.1 n.1 u k.2 n.2 (from_joined leaf m k.0 n.0 k.1 n.1 u n.3)
 
-from_lock : (cs : List FlatConnection) (leaf m : ℕ) (member : Member) (u : SlotUse) → IsIn u (lock_uses leaf m member) → IsUse cs u
+from_lock : (cs : List FlatConnection) (leaf m : ℕ) (member : Member) (u : SlotUse)
+    → IsIn u (lock_uses leaf m member) → IsUse cs u
 from_lock cs leaf m member u i = by_test (is_lock member) i
   where
     by_test : (b : Bool) → IsIn u (cond b (OwnLock leaf m ∷ []) []) → IsUse cs u
@@ -82,7 +91,8 @@ from_lock cs leaf m member u i = by_test (is_lock member) i
     by_test true (inr i) = absurd i
     by_test false i = absurd i
 
-from_leaf : (cs : List FlatConnection) (leaf : ℕ) (members : List Member) (u : SlotUse) → IsIn u (leaf_uses cs leaf members) → IsUse cs u
+from_leaf : (cs : List FlatConnection) (leaf : ℕ) (members : List Member) (u : SlotUse)
+    → IsIn u (leaf_uses cs leaf members) → IsUse cs u
 from_leaf cs leaf members u i =
     let F : ℕ → Member → List SlotUse = λ m member. member_uses cs leaf m in
     let G : ℕ → Member → List SlotUse = λ m member. lock_uses leaf m member in
@@ -91,19 +101,23 @@ from_leaf cs leaf members u i =
       | inr j ↦ let m = from_gather G u members j in from_lock cs leaf m.0 m.1 u m.3
     ]
 
-from_domain : (source : Source) (flat : Flat) (leaves : List ℕ) (u : SlotUse) → IsIn u (domain_uses source flat leaves) → IsUse flat.connections u
+from_domain : (source : Source) (flat : Flat) (leaves : List ℕ) (u : SlotUse) → IsIn u (domain_uses source flat leaves)
+    → IsUse flat.connections u
 from_domain source flat leaves u i =
     let F : ℕ → ℕ → List SlotUse = λ i leaf. leaf_uses flat.connections leaf (leaf_members source flat leaf) in
     let l = from_gather F u leaves i in
     from_leaf flat.connections l.1 (leaf_members source flat l.1) u l.3
 
 -- the uses of a domain are those of the flat system
-pub uses_are : (t : Tables) → t.slots ≡ slots_of t.source t.flat → (d : ℕ) (x : Domain) → slice_get t.flat.domains d ≡ Some x → uses_at t d ≡ domain_uses t.source t.flat x.leaves
+pub uses_are : (t : Tables) → t.slots ≡ slots_of t.source t.flat → (d : ℕ) (x : Domain) → slice_get t.flat.domains d ≡ Some x
+    → uses_at t d ≡ domain_uses t.source t.flat x.leaves
 uses_are t laid d x h =
     let plan : slice_get t.slots.domains d ≡ Some (plan_of (domain_uses t.source t.flat x.leaves)) =
-    ap (λ s. slice_get s.domains d) laid ∙ get_map (λ (z : Domain). plan_of (domain_uses t.source t.flat z.leaves)) t.flat.domains d x h in
+    ap (λ s. slice_get s.domains d) laid ∙ get_map (λ (z : Domain). plan_of (domain_uses t.source t.flat z.leaves))
+    t.flat.domains d x h in
     ap (λ p. option_map_or (λ (z : SlotPlan). z.uses) p []) plan
 
-pub is_use : (t : Tables) → t.slots ≡ slots_of t.source t.flat → (d : ℕ) (x : Domain) → slice_get t.flat.domains d ≡ Some x → (n : ℕ) (u : SlotUse) → slice_get (uses_at t d) n ≡ Some u → IsUse t.flat.connections u
+pub is_use : (t : Tables) → t.slots ≡ slots_of t.source t.flat → (d : ℕ) (x : Domain) → slice_get t.flat.domains d ≡ Some x
+    → (n : ℕ) (u : SlotUse) → slice_get (uses_at t d) n ≡ Some u → IsUse t.flat.connections u
 is_use t laid d x h n u s =
     from_domain t.source t.flat x.leaves u (subst (λ z. IsIn u z) (uses_are t laid d x h) (in_place u (uses_at t d) n s))

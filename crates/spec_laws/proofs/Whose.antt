@@ -65,7 +65,8 @@ Whose t p = p.owner ≡ owner_of t p.what
 abbrev WhoseOwned : Tables → Owned → Type 0
 WhoseOwned t x = x.owner ≡ owner_of t x.what
 
-in_order : (t : Tables) (s : Series) (xs : List Owned) (p : Part) → ((x : Owned) → IsIn x xs → WhoseOwned t x) → IsIn p (numbered s xs) → Whose t p
+in_order : (t : Tables) (s : Series) (xs : List Owned) (p : Part) → ((x : Owned) → IsIn x xs → WhoseOwned t x)
+    → IsIn p (numbered s xs) → Whose t p
 in_order t s xs p h i =
     let n = place_of p (numbered s xs) i in
     let o = from_ones (λ j (x : Owned). part s j x.owner x.what) xs n.0 p n.1 in
@@ -146,8 +147,10 @@ module _ (t : Tables) where
   of_frame o i =
       let f : ℕ → FrameInfo → List Owned = λ n z. owned (frame_owner z.owner) (FrameOf n) ∷ [] in
       let g = from_gather f o t.spaces.frames i in
-      let own : frame_owner g.1.owner ≡ frame_owner_at t g.0 = ap (λ z. option_map_or (λ (x : FrameInfo). frame_owner x.owner) z (OfLeaf 0)) (sym g.2) in
-      subst (λ z. WhoseOwned t z) {x = owned (frame_owner g.1.owner) (FrameOf g.0)} (single (owned (frame_owner g.1.owner) (FrameOf g.0)) o g.3) own
+      let own : frame_owner g.1.owner ≡ frame_owner_at t g.0 =
+      ap (λ z. option_map_or (λ (x : FrameInfo). frame_owner x.owner) z (OfLeaf 0)) (sym g.2) in
+      subst (λ z. WhoseOwned t z) {x = owned (frame_owner g.1.owner) (FrameOf g.0)}
+      (single (owned (frame_owner g.1.owner) (FrameOf g.0)) o g.3) own
 
   whose : (p : Part) → IsIn p (parts t) → Whose t p
   whose = by_section t (λ p. Whose t p)
@@ -202,10 +205,11 @@ class (IrqOf k) = 6
 
 are_pages : (first link : ℕ) (ys : List Layer) (o : Object) → IsIn o (tables_numbered first link ys) → class_of o ≡ 5
 are_pages first link [] o i = absurd i
-are_pages first link (y ∷ ys) o i = elim (in_append o (tables_numbered first (first + sizes ys) ys) (map (table_of y.shape link) y.tables) i) [
-  | inl j ↦ are_pages first (first + sizes ys) ys o j
-  | inr j ↦ let m = from_map (table_of y.shape link) o y.tables j in ap class_of (sym m.2)
-]
+are_pages first link (y ∷ ys) o i =
+    elim (in_append o (tables_numbered first (first + sizes ys) ys) (map (table_of y.shape link) y.tables) i) [
+      | inl j ↦ are_pages first (first + sizes ys) ys o j
+      | inr j ↦ let m = from_map (table_of y.shape link) o y.tables j in ap class_of (sym m.2)
+    ]
 
 pub classed : (t : Tables) (w : What) → IsThere t w → class_of (object t w) ≡ class w
 classed t (CNodeOf d) h = refl
@@ -218,7 +222,8 @@ classed t (TableOf d j) h =
     let m = moved t 0 0 (place t (TableOf d 0)) (place t (FrameOf 0)) d j h.1.0 h.1.1 in
     let first = place t (TableOf d 0) in
     let xs = map (page_mapping (place t (FrameOf 0))) (pages_at t d) in
-    ap class_of (object_is t d j m.0 m.1) ∙ are_pages first 0 (layers (shapes (arch t)) xs) m.0 (in_place m.0 (standing t d) j m.1)
+    ap class_of (object_is t d j m.0 m.1) ∙ are_pages first 0 (layers (shapes (arch t)) xs) m.0
+    (in_place m.0 (standing t d) j m.1)
 classed t (FrameOf f) h = ap (λ z. class_of (option_map_or frame_object z objects.Endpoint)) h.1
 
 -- what stands at a place of the spec
@@ -252,7 +257,8 @@ object_stands t o x h = go (slice_get (spec_of t).entries o) refl where
       subst (λ z. IsAt t o z) same (entry_is t o entry there)
 
 -- what boot has for an object that stands
-pub boots : {A : Type 0} (spec : Spec) (f : Object → A) (o : ℕ) (x : Object) (d : A) → object_at spec o ≡ Some x → get_or (map (λ (e : Entry). f e.object) spec.entries) o d ≡ f x
+pub boots : {A : Type 0} (spec : Spec) (f : Object → A) (o : ℕ) (x : Object) (d : A) → object_at spec o ≡ Some x
+    → get_or (map (λ (e : Entry). f e.object) spec.entries) o d ≡ f x
 boots {A} spec f o x d h = go (slice_get spec.entries o) refl where
   go : (e : Option Entry) → slice_get spec.entries o ≡ e → get_or (map (λ (e : Entry). f e.object) spec.entries) o d ≡ f x
   go None there = absurd (let w : entry_object None ≡ Some x = subst (λ z. entry_object z ≡ Some x) there h in cc)

@@ -34,18 +34,24 @@ pub record IsSeen (g : Given) (e : EndAt) : Type 0 where
 sees : (g : Given) (e : EndAt) → sees_memory g.flat e ≡ true → IsSeen g e
 sees g e s = by_connection (slice_get g.flat.connections e.connection) refl s
   where
-    by_end : (c : FlatConnection) → slice_get g.flat.connections e.connection ≡ Some c → (o : Option FlatEnd) → slice_get c.ends e.end ≡ o → option_map_or (λ (x : Connector × FlatEnd). is_window x.0 x.1.role) (option_map (λ f. (c.connector, f)) o) false ≡ true → IsSeen g e
+    by_end : (c : FlatConnection) → slice_get g.flat.connections e.connection ≡ Some c → (o : Option FlatEnd)
+        → slice_get c.ends e.end ≡ o → option_map_or (λ (x : Connector × FlatEnd). is_window x.0 x.1.role)
+        (option_map (λ f. (c.connector, f)) o) false ≡ true → IsSeen g e
     by_end c at None is s = cc
     by_end c at (Some f) is s = record { connection = c; there = at; end = f; joined = is; window = s }
 
-    by_connection : (o : Option FlatConnection) → slice_get g.flat.connections e.connection ≡ o → option_map_or (λ (x : Connector × FlatEnd). is_window x.0 x.1.role) (option_and_then (end_in e.end) o) false ≡ true → IsSeen g e
+    by_connection : (o : Option FlatConnection) → slice_get g.flat.connections e.connection ≡ o
+        → option_map_or (λ (x : Connector × FlatEnd). is_window x.0 x.1.role) (option_and_then (end_in e.end) o) false ≡ true
+        → IsSeen g e
     by_connection None at s = cc
     by_connection (Some c) at s = by_end c at (slice_get c.ends e.end) refl s
 
 pub seen : (g : Given) (d : ℕ) (e : EndAt) → IsIn e (windows_of g d) → IsSeen g e
 seen g d e i =
-    let a : (leaf : ℕ) × IsIn leaf (leaves_of g.flat d) × IsIn e (leaf_windows g.flat (ends g) leaf) = from_flat_map (leaf_windows g.flat (ends g)) e (leaves_of g.flat d) i in
-    let b : (x : EndAt) × IsIn x (ends_at (ends g) a.0) × IsIn e (end_window g.flat x) = from_flat_map (end_window g.flat) e (ends_at (ends g) a.0) a.2 in
+    let a : (leaf : ℕ) × IsIn leaf (leaves_of g.flat d) × IsIn e (leaf_windows g.flat (ends g) leaf) =
+    from_flat_map (leaf_windows g.flat (ends g)) e (leaves_of g.flat d) i in
+    let b : (x : EndAt) × IsIn x (ends_at (ends g) a.0) × IsIn e (end_window g.flat x) =
+    from_flat_map (end_window g.flat) e (ends_at (ends g) a.0) a.2 in
     sees g e (by_test b.0 (sees_memory g.flat b.0) refl b.2)
   where
     by_test : (x : EndAt) (b : Bool) → sees_memory g.flat x ≡ b → IsIn e (cond b (x ∷ []) []) → sees_memory g.flat e ≡ true
@@ -54,7 +60,8 @@ seen g d e i =
     by_test x false t j = absurd j
 
 -- its pages are those of the connection's memory
-pub seen_pages : (g : Given) (e : EndAt) (s : IsSeen g e) → window_pages g.flat g.settled e ≡ memory_pages g.settled e.connection s.connection
+pub seen_pages : (g : Given) (e : EndAt) (s : IsSeen g e) → window_pages g.flat g.settled e ≡ memory_pages g.settled
+    e.connection s.connection
 seen_pages g e s = ap (λ o. option_map_or (memory_pages g.settled e.connection) o 0) s.there
 
 -- ---- what pages show
@@ -67,7 +74,8 @@ ShowsHere g d (Memory k j) = (e : EndAt) × IsIn e (windows_of g d) × (e.connec
 abbrev PagesShow : Given → ℕ → Region → Type 0
 PagesShow g d r = (start j : ℕ) → j < r.pages → ShowsHere g d (page_of g.settled start r j).shown
 
-threads_show : (g : Given) (d : ℕ) (ts : List ThreadOf) (r : Region) → IsIn r (flat_map (thread_regions g.settled) ts) → PagesShow g d r
+threads_show : (g : Given) (d : ℕ) (ts : List ThreadOf) (r : Region) → IsIn r (flat_map (thread_regions g.settled) ts)
+    → PagesShow g d r
 threads_show g d [] r i = absurd i
 threads_show g d (t ∷ ts) r (inl e) = subst (PagesShow g d) e (λ start j l. tt)
 threads_show g d (t ∷ ts) r (inr (inl e)) = subst (PagesShow g d) e (λ start j l. tt)
@@ -77,7 +85,8 @@ regions_show : (g : Given) (d : ℕ) (r : Region) → IsIn r (regions g d) → P
 regions_show g d r i =
     ⊎_elim (threads_show g d (threads_of g d) r)
     (λ j.
-    let w : (e : EndAt) × IsIn e (windows_of g d) × (window_region g.flat g.settled e ≡ r) = from_map (window_region g.flat g.settled) r (windows_of g d) j in
+    let w : (e : EndAt) × IsIn e (windows_of g d) × (window_region g.flat g.settled e ≡ r) =
+    from_map (window_region g.flat g.settled) r (windows_of g d) j in
     subst (PagesShow g d) w.2 (λ start n l. (w.0, w.1, refl, l)))
     (in_append r (flat_map (thread_regions g.settled) (threads_of g d)) (map (window_region g.flat g.settled) (windows_of g d)) i)
 
@@ -85,15 +94,20 @@ pub pages_show : (g : Given) (d : ℕ) (p : MappedPage) → IsIn p (mapped_pages
 pages_show g d p i =
     ⊎_elim
     (λ j.
-    let s : (x : SectionPage) × IsIn x (section_pages g.images (leaves_of g.flat d)) × (section_page x ≡ p) = from_map section_page p (section_pages g.images (leaves_of g.flat d)) j in
+    let s : (x : SectionPage) × IsIn x (section_pages g.images (leaves_of g.flat d)) × (section_page x ≡ p) =
+    from_map section_page p (section_pages g.images (leaves_of g.flat d)) j in
     subst (λ (z : MappedPage). ShowsHere g d z.shown) s.2 tt)
     (λ j.
-    let k : (k : ℕ) × (r : Region) × (slice_get (regions g d) k ≡ Some r) × IsIn p (pages_of_region g.settled (base g) (regions g d) k r) = from_gather (pages_of_region g.settled (base g) (regions g d)) p (regions g d) j in
+    let k : (k : ℕ) × (r : Region) × (slice_get (regions g d) k ≡ Some r)
+    × IsIn p (pages_of_region g.settled (base g) (regions g d) k r) =
+    from_gather (pages_of_region g.settled (base g) (regions g d)) p (regions g d) j in
     by_page k.1 (in_place k.1 (regions g d) k.0 k.2) _ k.3)
     (in_append p (section_part g.images (leaves_of g.flat d)) (region_part g.settled (base g) (regions g d)) i)
   where
-    by_page : (r : Region) → IsIn r (regions g d) → (start : ℕ) → IsIn p (map (page_of g.settled start r) (range_with_len 0 r.pages)) → ShowsHere g d p.shown
+    by_page : (r : Region) → IsIn r (regions g d) → (start : ℕ)
+        → IsIn p (map (page_of g.settled start r) (range_with_len 0 r.pages)) → ShowsHere g d p.shown
     by_page r is start i =
-        let m : (j : ℕ) × IsIn j (range_with_len 0 r.pages) × (page_of g.settled start r j ≡ p) = from_map (page_of g.settled start r) p (range_with_len 0 r.pages) i in
+        let m : (j : ℕ) × IsIn j (range_with_len 0 r.pages) × (page_of g.settled start r j ≡ p) =
+        from_map (page_of g.settled start r) p (range_with_len 0 r.pages) i in
         let l = from_range 0 r.pages m.0 m.1 in
         subst (λ (z : MappedPage). ShowsHere g d z.shown) m.2 (regions_show g d r is start m.0 (omega (arith, l)))

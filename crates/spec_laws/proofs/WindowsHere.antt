@@ -49,27 +49,37 @@ use Rattle.spec_laws.proofs.Whose.{label_there, labels, owner_of}
 
 module _ (t : Tables) (h : IsConnected t) where
   -- rights by access
-  rights_are : (r w : Bool) (p : Page) → p.read ≡ r → p.write ≡ w → page_rights p ≡ record { read = r; write = w; grant = false; reply = false }
+  rights_are : (r w : Bool) (p : Page) → p.read ≡ r → p.write ≡ w → page_rights p ≡ record {
+    read = r;
+    write = w;
+    grant = false;
+    reply = false;
+  }
   rights_are r w p e f =
       ap (λ z. record { read = z; write = p.write; grant = false; reply = false }) e
       ∙ ap (λ z. record { read = r; write = z; grant = false; reply = false }) f
 
   -- a capability to the frame of a page that an end sees is one of its window
-  to_window : (x : EndAt t.flat) (o : ObjectKind) (f p : ℕ) (held : Cap) → Sees t h x o f → held.object ≡ place t (FrameOf f) → held.rights ≡ window_rights (setting_of t.settled x.place x.number)
-      → label_of (labels t) p ≡ leaf_label (policy_tables t) x.end.leaf → IsWindow (policy_tables t) (spec_of t) (labels t) x o p held
+  to_window : (x : EndAt t.flat) (o : ObjectKind) (f p : ℕ) (held : Cap) → Sees t h x o f → held.object ≡ place t (FrameOf f)
+      → held.rights ≡ window_rights (setting_of t.settled x.place x.number)
+      → label_of (labels t) p ≡ leaf_label (policy_tables t) x.end.leaf
+      → IsWindow (policy_tables t) (spec_of t) (labels t) x o p held
   to_window x o f p held s leads rights from =
       let info = s.there in
-      let kind : kind_of_object (object t (FrameOf f)) ≡ kinds.Frame = ap (λ z. kind_of_object (option_map_or frame_object z objects.Endpoint)) info.1 in
+      let kind : kind_of_object (object t (FrameOf f)) ≡ kinds.Frame =
+      ap (λ z. kind_of_object (option_map_or frame_object z objects.Endpoint)) info.1 in
       record {
         memory = s.memory;
         frame = ap (kind_at (spec_of t)) leads ∙ kind_there t (FrameOf f) s.there ∙ ap (λ z. Some z) kind;
         rights = rights;
         from = from;
-        to = subst (λ z. LeadsTo (policy_tables t) x o z) (sym (ap (label_of (labels t)) leads ∙ label_there t (FrameOf f) s.there)) s.leads;
+        to = subst (λ z. LeadsTo (policy_tables t) x o z)
+            (sym (ap (label_of (labels t)) leads ∙ label_there t (FrameOf f) s.there)) s.leads;
       }
 
   -- what an end with a window sees
-  seen : (x : EndAt t.flat) (j : ℕ) → is_window x.connection.connector x.end.role ≡ true → j < memory_pages t.settled x.place x.connection
+  seen : (x : EndAt t.flat) (j : ℕ) → is_window x.connection.connector x.end.role ≡ true
+      → j < memory_pages t.settled x.place x.connection
       → (o : ObjectKind) × Sees t h x o (memory_number (laid t h) x.place j)
   seen x j w l = elim (window_sees x.connection.connector x.end.role w) [
     | inl e ↦ (OfFrames, sees_shared t h x j e.0 l)
@@ -81,23 +91,34 @@ module _ (t : Tables) (h : IsConnected t) where
 
   -- ---- only windows lead out
 
-  window_only : (d p : ℕ) (x : Domain) (held : Cap) (g : Page) → slice_get t.flat.domains d ≡ Some x → label_of (labels t) p ≡ domain_label (policy_tables t) d
-      → (q : IsPage t h d g) → held.object ≡ place t (FrameOf g.frame) → held.rights ≡ page_rights g → OfWindow (laid t h) d q.mapped
+  window_only : (d p : ℕ) (x : Domain) (held : Cap) (g : Page) → slice_get t.flat.domains d ≡ Some x
+      → label_of (labels t) p ≡ domain_label (policy_tables t) d
+      → (q : IsPage t h d g) → held.object ≡ place t (FrameOf g.frame) → held.rights ≡ page_rights g
+      → OfWindow (laid t h) d q.mapped
       → (y : EndAt t.flat) × (o : ObjectKind) × IsWindow (policy_tables t) (spec_of t) (labels t) y o p held
   window_only d p x held g e from q leads rights w =
       let v = from_windows (laid t h) d w.end w.there in
       let y = v.at in
       let k : y.place ≡ w.end.connection = ap (λ (z : Joined). z.connection) v.is in
-      let size : window_pages t.flat t.settled w.end ≡ memory_pages t.settled y.place y.connection = ap (window_pages t.flat t.settled) (sym v.is) ∙ window_size y in
+      let size : window_pages t.flat t.settled w.end ≡ memory_pages t.settled y.place y.connection =
+      ap (window_pages t.flat t.settled) (sym v.is) ∙ window_size y in
       let below = w.below in
       let s = seen y w.number v.sees (omega (arith, below, size)) in
       let frame : g.frame ≡ memory_number (laid t h) y.place w.number =
-      ap (λ (z : Page). z.frame) (sym q.is) ∙ ap (number_shown (laid t h) d q.number) w.shown ∙ ap (λ z. memory_number (laid t h) z w.number) (sym k) in
+      ap (λ (z : Page). z.frame) (sym q.is) ∙ ap (number_shown (laid t h) d q.number) w.shown
+      ∙ ap (λ z. memory_number (laid t h) z w.number) (sym k) in
       let setting = ap (λ (z : Joined). setting_of t.settled z.connection z.end) v.is in
-      let read : g.read ≡ may_read (setting_of t.settled y.place y.number) = ap (λ (z : Page). z.read) (sym q.is) ∙ w.read ∙ sym (ap may_read setting) in
-      let write : g.write ≡ may_write (setting_of t.settled y.place y.number) = ap (λ (z : Page). z.write) (sym q.is) ∙ w.write ∙ sym (ap may_write setting) in
-      let mine : leaf_label (policy_tables t) y.end.leaf ≡ domain_label (policy_tables t) d = leaf_of_domain t h d y.end.leaf x e (subst (λ z. IsIn y.end.leaf z) (leaves_are (laid t h) d x e) v.listed) in
-      (y, s.0, to_window y s.0 (memory_number (laid t h) y.place w.number) p held s.1 (leads ∙ ap (λ z. place t (FrameOf z)) frame) (rights ∙ rights_are _ _ g read write) (from ∙ sym mine))
+      let read : g.read ≡ may_read (setting_of t.settled y.place y.number) = ap (λ (z : Page). z.read) (sym q.is) ∙ w.read
+      ∙ sym (ap may_read setting) in
+      let write : g.write ≡ may_write (setting_of t.settled y.place y.number) = ap (λ (z : Page). z.write) (sym q.is) ∙ w.write
+      ∙ sym (ap may_write setting) in
+      let mine : leaf_label (policy_tables t) y.end.leaf ≡ domain_label (policy_tables t) d =
+      leaf_of_domain t h d y.end.leaf x e (subst (λ z. IsIn y.end.leaf z) (leaves_are (laid t h) d x e) v.listed) in (
+        y,
+        s.0,
+        to_window y s.0 (memory_number (laid t h) y.place w.number) p held s.1
+            (leads ∙ ap (λ z. place t (FrameOf z)) frame) (rights ∙ rights_are _ _ g read write) (from ∙ sym mine),
+      )
 
   only : (p i : ℕ) (held : Cap) → InTable (spec_of t) p i held → label_of (labels t) p ≢ label_of (labels t) held.object
       → (x : EndAt t.flat) × (o : ObjectKind) × IsWindow (policy_tables t) (spec_of t) (labels t) x o p held
@@ -105,7 +126,9 @@ module _ (t : Tables) (h : IsConnected t) where
       let b = in_table t p i held there in
       let d = b.domain in
       elim b.holds [
-        | inr table ↦ absurd (differ (b.label ∙ sym (ap (label_of (labels t)) table.object ∙ label_there t (TableOf d table.number) table.there)))
+        | inr table ↦
+            absurd
+            (differ (b.label ∙ sym (ap (label_of (labels t)) table.object ∙ label_there t (TableOf d table.number) table.there)))
         | inl page ↦
             let g = page.page in
             let q = from_pages t h d b.found g b.here page.there in
@@ -113,8 +136,11 @@ module _ (t : Tables) (h : IsConnected t) where
               | inl own ↦
                   let f = own_frame t h d q.number b.found q.mapped b.here q.here own in
                   let frame : number_shown (laid t h) d q.number q.mapped.shown ≡ g.frame = ap (λ (z : Page). z.frame) q.is in
-                  let label = label_there t (FrameOf (number_shown (laid t h) d q.number q.mapped.shown)) f.0 ∙ ap (number_of t.numbers) f.1 in
-                  absurd (differ (b.label ∙ sym (ap (label_of (labels t)) (page.object ∙ ap (λ z. place t (FrameOf z)) (sym frame)) ∙ label)))
+                  let label = label_there t (FrameOf (number_shown (laid t h) d q.number q.mapped.shown)) f.0
+                  ∙ ap (number_of t.numbers) f.1 in
+                  absurd
+                  (differ (b.label ∙ sym (ap (label_of (labels t)) (page.object ∙ ap (λ z. place t (FrameOf z)) (sym frame))
+                  ∙ label)))
               | inr w ↦ window_only d p b.found held g b.here b.label q page.object page.rights w
             ]
       ]
@@ -122,7 +148,8 @@ module _ (t : Tables) (h : IsConnected t) where
   -- ---- each window has a page
 
   -- what leads over frames leads to one label
-  one_label : (x : EndAt t.flat) (o q : ObjectKind) (l m : ℕ) → gives x.connection.connector x.end.role o Read ≡ true → gives x.connection.connector x.end.role q Read ≡ true
+  one_label : (x : EndAt t.flat) (o q : ObjectKind) (l m : ℕ) → gives x.connection.connector x.end.role o Read ≡ true
+      → gives x.connection.connector x.end.role q Read ≡ true
       → LeadsTo (policy_tables t) x o l → LeadsTo (policy_tables t) x q m → (q ≡ o) × (l ≡ m)
   one_label x o q l m a b u v =
       elim (seen_by x.connection.connector x.end.role o a) [
@@ -138,18 +165,23 @@ module _ (t : Tables) (h : IsConnected t) where
           | inr r ↦
               let left : AtOtherEnd (policy_tables t) x l = subst (λ z. LeadsTo (policy_tables t) x z l) s.object u in
               let right : AtOtherEnd (policy_tables t) x m = subst (λ z. LeadsTo (policy_tables t) x z m) r.object v in
-              let leaf : right.at.end.leaf ≡ left.at.end.leaf = one_end t h left.at right.at (right.same ∙ sym left.same) (hard x left s.connector s.role) (hard x right s.connector s.role) in
+              let leaf : right.at.end.leaf ≡ left.at.end.leaf = one_end t h left.at right.at (right.same ∙ sym left.same)
+              (hard x left s.connector s.role) (hard x right s.connector s.role) in
               (r.object ∙ sym s.object, left.label_is ∙ sym (right.label_is ∙ ap (leaf_label (policy_tables t)) leaf))
         ]
       ]
     where
-      hard : (x : EndAt t.flat) {l : ℕ} (o : AtOtherEnd (policy_tables t) x l) → x.connection.connector ≡ Mmio → x.end.role ≡ From → is_at_device o.at ≡ true
+      hard : (x : EndAt t.flat) {l : ℕ} (o : AtOtherEnd (policy_tables t) x l) → x.connection.connector ≡ Mmio → x.end.role ≡ From
+          → is_at_device o.at ≡ true
       hard x o e f =
-          let both : Some o.at.connection ≡ Some x.connection = sym o.at.here ∙ ap (λ z. slice_get t.flat.connections z) o.same ∙ x.here in
+          let both : Some o.at.connection ≡ Some x.connection = sym o.at.here ∙ ap (λ z. slice_get t.flat.connections z)
+          o.same ∙ x.here in
           let same : o.at.connection ≡ x.connection = cc in
-          hard_to o.at.connection.connector o.at.end.role (ap (λ (z : FlatConnection). z.connector) same ∙ e) (o.role ∙ ap opposite f)
+          hard_to o.at.connection.connector o.at.end.role (ap (λ (z : FlatConnection). z.connector) same ∙ e)
+          (o.role ∙ ap opposite f)
 
-  every : (x : EndAt t.flat) (o : ObjectKind) (label : ℕ) → gives x.connection.connector x.end.role o Read ≡ true → LeadsTo (policy_tables t) x o label → HasPage (policy_tables t) (spec_of t) (labels t) x o label
+  every : (x : EndAt t.flat) (o : ObjectKind) (label : ℕ) → gives x.connection.connector x.end.role o Read ≡ true
+      → LeadsTo (policy_tables t) x o label → HasPage (policy_tables t) (spec_of t) (labels t) x o label
   every x o label given to =
       let g = laid t h in
       let w = seen_window x.connection.connector x.end.role o given in

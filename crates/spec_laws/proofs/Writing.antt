@@ -52,7 +52,8 @@ put_length : (x : ℕ × ℕ) (ls : List (ℕ × ℕ)) → length (put_line x ls
 put_length x [] = refl
 put_length x (y ∷ ys) = by_test (leb x.0 y.0) (put_length x ys)
   where
-    by_test : (b : Bool) → length (put_line x ys) ≡ 1 + length ys → length (cond b (x ∷ y ∷ ys) (y ∷ put_line x ys)) ≡ 1 + length (y ∷ ys)
+    by_test : (b : Bool) → length (put_line x ys) ≡ 1 + length ys
+        → length (cond b (x ∷ y ∷ ys) (y ∷ put_line x ys)) ≡ 1 + length (y ∷ ys)
     by_test true e = omega arith
     by_test false e = omega (arith, e)
 
@@ -82,7 +83,8 @@ module _ (t : Tables) where
   abbrev longer : What → ℕ
   longer w = extra (object t w)
 
-  thread_longer : (d : ℕ) (o : Option ThreadPlace) → extra (option_map_or (λ (z : ThreadPlace). objects.Thread (tcb t d z)) o objects.Endpoint) ≤ 209
+  thread_longer : (d : ℕ) (o : Option ThreadPlace)
+      → extra (option_map_or (λ (z : ThreadPlace). objects.Thread (tcb t d z)) o objects.Endpoint) ≤ 209
   thread_longer d None = omega arith
   thread_longer d (Some y) = omega arith
 
@@ -95,7 +97,8 @@ module _ (t : Tables) where
       let first = place t (TableOf d 0) in
       let frames = place t (FrameOf 0) in
       let long = as_long t 0 0 first frames d in
-      let all : totals (λ j (o : Object). longer (TableOf d j)) (tables_at t 0 0 d) ≡ total extra (standing t d) = looked_up extra objects.Endpoint (tables_at t 0 0 d) (standing t d) long in
+      let all : totals (λ j (o : Object). longer (TableOf d j)) (tables_at t 0 0 d) ≡ total extra (standing t d) =
+      looked_up extra objects.Endpoint (tables_at t 0 0 d) (standing t d) long in
       let none = total_each extra 0 (standing t d) (λ o i.
       let r = from_tables first 0 (layers (shapes (arch t)) (map (page_mapping frames) (pages_at t d))) o i in
       let e : extra (table_of r.layer.shape r.link r.run) ≡ extra o = ap extra r.is in
@@ -127,19 +130,23 @@ module _ (t : Tables) where
     number_of p i = number_few t fit.connections fit.objects p i
 
     short_at : (o : ℕ) → length (name_at (spec_of t) o) ≤ 16
-    short_at o = subst (λ (z : Option Entry). length (entry_name z) ≤ 16) (sym (slice_get-map (entry t) (parts t) o)) (by_part (slice_get (parts t) o) (λ p e. in_place p (parts t) o e))
+    short_at o = subst (λ (z : Option Entry). length (entry_name z) ≤ 16) (sym (slice_get-map (entry t) (parts t) o))
+        (by_part (slice_get (parts t) o) (λ p e. in_place p (parts t) o e))
       where
-        by_part : (x : Option Part) → ((p : Part) → x ≡ Some p → IsIn p (parts t)) → length (entry_name (option_map (entry t) x)) ≤ 16
+        by_part : (x : Option Part) → ((p : Part) → x ≡ Some p → IsIn p (parts t))
+            → length (entry_name (option_map (entry t) x)) ≤ 16
         by_part None h = omega arith
         by_part (Some p) h = part_short p (number_of p (h p refl))
 
     line_of : (p : Part) → IsIn p (parts t) → length (entry_line (entry t p)) ≤ 53 + longer p.what
     line_of p i =
         let w = there t p i in
-        line_short (spec_of t) (part_name p) (object t p.what) (part_short p (number_of p i)) (kept t fit p.what w) (fine_there t fit written p.what w).1
+        line_short (spec_of t) (part_name p) (object t p.what) (part_short p (number_of p i)) (kept t fit p.what w)
+        (fine_there t fit written p.what w).1
 
     text_of : (p : Part) → IsIn p (parts t) → length (entry_text (spec_of t) (entry t p)) ≤ 21 + 73 * caps_of (object t p.what)
-    text_of p i = holder_short (spec_of t) short_at (part_name p) (object t p.what) (part_short p (number_of p i)) (fine_there t fit written p.what (there t p i)).0
+    text_of p i = holder_short (spec_of t) short_at (part_name p) (object t p.what) (part_short p (number_of p i))
+        (fine_there t fit written p.what (there t p i)).0
 
     many : length (parts t) ≤ 238592
     many = let l = objects_within t sized in let m = length-map (parts t) (entry t) in omega (arith, l, m)
@@ -165,7 +172,8 @@ module _ (t : Tables) where
         let d = total_add (λ (p : Part). 21) (λ p. 73 * caps p) (parts t) in
         let e = total_const 21 (parts t) in
         let f = total_times 73 caps (parts t) in
-        let g : cap_count (spec_of t) ≡ total caps (parts t) = sum_map (λ (e : Entry). caps_of e.object) (map (entry t) (parts t)) ∙ total_map (λ (e : Entry). caps_of e.object) (entry t) (parts t) in
+        let g : cap_count (spec_of t) ≡ total caps (parts t) = sum_map (λ (e : Entry). caps_of e.object) (map (entry t) (parts t))
+        ∙ total_map (λ (e : Entry). caps_of e.object) (entry t) (parts t) in
         let few = caps_within t sized in
         omega (arith, a, b, c, d, e, f, g, few, many)
 
@@ -179,7 +187,8 @@ module _ (t : Tables) where
     irqs_long : length (flat_map (irq_line (spec_of t)) (spec_of t).irqs) ≤ 159744
     irqs_long =
         let a = length_flat_map (irq_line (spec_of t)) (lines t) in
-        let b = total_each (λ l. length (irq_line (spec_of t) l)) 39 (lines t) (λ l i. irq_short (spec_of t) short_at l (number_in l i)) in
+        let b = total_each (λ l. length (irq_line (spec_of t) l)) 39 (lines t)
+        (λ l i. irq_short (spec_of t) short_at l (number_in l i)) in
         let c = lines_few t in
         let d = sized.connections in
         omega (arith, a, b, c, d)
@@ -194,8 +203,11 @@ module _ (t : Tables) where
     pub spec_writable : IsWritable (spec_of t)
     spec_writable = record {
       kept = spec_kept t fit;
-      names = list_all-map (λ (e : Entry). is_word e.name) (entry t) (parts t) ∙ all_pass (λ (p : Part). is_word (part_name p)) (parts t) (λ p i. part_word p (number_of p i));
-      objects = list_all-map (λ (e : Entry). is_laid e.object) (entry t) (parts t) ∙ all_pass (λ (p : Part). is_laid (object t p.what)) (parts t) (λ p i. (fine_there t fit written p.what (there t p i)).0);
+      names = list_all-map (λ (e : Entry). is_word e.name) (entry t) (parts t) ∙ all_pass (λ (p : Part). is_word (part_name p))
+          (parts t) (λ p i. part_word p (number_of p i));
+      objects = list_all-map (λ (e : Entry). is_laid e.object) (entry t) (parts t)
+          ∙ all_pass (λ (p : Part). is_laid (object t p.what)) (parts t)
+          (λ p i. (fine_there t fit written p.what (there t p i)).0);
       lines = all_pass (λ (l : ℕ × ℕ). is_number l.0) (lines t) (λ l i. number_is l.0 (number_in l i));
       short = text_few;
       few_objects = (let l = objects_within t sized in omega (arith, l));

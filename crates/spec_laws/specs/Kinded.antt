@@ -28,4 +28,5 @@ kind_of series.Frame = kinds.Frame
 -- `cnode_N` is a CNode, `tcb_N` a thread, `ep_K` an endpoint, `ntfn_K` and `lock_N` are notifications, and so on
 abbrev pub SayKinds : Spec → Type 0
 SayKinds spec =
-    (place n : ℕ) (s : Series) (o : Object) → IsNamed spec place s n → object_at spec place ≡ Some o → kind_of_object o ≡ kind_of s
+    (place n : ℕ) (s : Series) (o : Object) → IsNamed spec place s n → object_at spec place ≡ Some o
+    → kind_of_object o ≡ kind_of s

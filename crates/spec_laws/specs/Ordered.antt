@@ -54,7 +54,8 @@ pub record AreTablesNumbered (spec : Spec) : Type 0 where
       → (q : ℕ) × (more : List (ℕ × Cap)) × (object_at spec q ≡ Some (Pages l more)) × (number l q ≡ n)
 
 pub record AreTablesInOrder (t : Tables) (spec : Spec) (root : ℕ → ℕ) : Type 0 where
-  pub all : (place : ℕ) (level : Level) (slots : List (ℕ × Cap)) → object_at spec place ≡ Some (Pages level slots) → IsTableOfSpace t spec root place
+  pub all : (place : ℕ) (level : Level) (slots : List (ℕ × Cap)) → object_at spec place ≡ Some (Pages level slots)
+      → IsTableOfSpace t spec root place
   pub order : (d e v w j m n : ℕ) (x y : Domain) (l : Shape) (ls : List Shape)
       → slice_get t.flat.domains d ≡ Some x → slice_get t.flat.domains e ≡ Some y → drop j (shapes spec.arch) ≡ l ∷ ls
       → v < root_span (shapes spec.arch) → w < root_span (shapes spec.arch)
@@ -101,7 +102,8 @@ pub record AreFramesNumbered (spec : Spec) : Type 0 where
 
 pub record AreFramesInOrder (t : Tables) (spec : Spec) (root : ℕ → ℕ) : Type 0 where
   pub own : (d v m e w n : ℕ) → IsOwnAt t spec root d v m → IsOwnAt t spec root e w n → IsBefore d (v / 4096) e (w / 4096) → m < n
-  pub own_first : (d v m k j n : ℕ) → IsOwnAt t spec root d v m → IsSharedAt t spec root k j n ⊎ IsRegisterAt t spec root k j n → m < n
+  pub own_first : (d v m k j n : ℕ) → IsOwnAt t spec root d v m → IsSharedAt t spec root k j n ⊎ IsRegisterAt t spec root k j n
+      → m < n
   pub shared : (k i m l j n : ℕ) → IsSharedAt t spec root k i m → IsSharedAt t spec root l j n → IsBefore k i l j → m < n
   pub shared_first : (k i m l j n : ℕ) → IsSharedAt t spec root k i m → IsRegisterAt t spec root l j n → m < n
   pub registers : (k i m l j n : ℕ) → IsRegisterAt t spec root k i m → IsRegisterAt t spec root l j n → IsBefore k i l j → m < n

@@ -39,13 +39,16 @@ pub record Bounds (t : Tables) : Type 0 where
 
 pub bounds : (t : Tables) → AreFew t → Bounds t
 bounds t few =
-    let whole = length-eight (numbered series.CNode (cnodes t.flat.domains)) (numbered series.Tcb (tcbs t)) (endpoints t) (notifications t) (numbered series.Lock (locks t)) (numbered series.Irq (irqs t)) (table_parts (all_tables t)) (numbered series.Frame (frame_parts t.spaces.frames)) in
+    let whole = length-eight (numbered series.CNode (cnodes t.flat.domains)) (numbered series.Tcb (tcbs t)) (endpoints t)
+    (notifications t) (numbered series.Lock (locks t)) (numbered series.Irq (irqs t)) (table_parts (all_tables t))
+    (numbered series.Frame (frame_parts t.spaces.frames)) in
     let all = few.objects in
     let a = length-numbered series.CNode (cnodes t.flat.domains) in
     let b = length-numbered series.Tcb (tcbs t) in
     let c = length-numbered series.Lock (locks t) in
     let d = length-numbered series.Irq (irqs t) in
-    let e : length (table_parts (all_tables t)) ≡ length (all_tables t) = gather_ones (λ m (x : PageTable). table_part (all_tables t) m x) (all_tables t) in
+    let e : length (table_parts (all_tables t)) ≡ length (all_tables t) =
+    gather_ones (λ m (x : PageTable). table_part (all_tables t) m x) (all_tables t) in
     let f = length-numbered series.Frame (frame_parts t.spaces.frames) in
     record {
       cnodes = omega (arith, whole, all, a);
@@ -56,19 +59,29 @@ bounds t few =
       frames = omega (arith, whole, all, f);
     }
 
-length-far : {X : Type 0} (a b c d e f g : List X) → (length (a ++ (b ++ (c ++ (d ++ (e ++ (f ++ [])))))) ≡ length a + length b + length c + length d + length e + length f)
-    × (length (a ++ (b ++ (c ++ (d ++ (e ++ (f ++ (g ++ []))))))) ≡ length a + length b + length c + length d + length e + length f + length g)
+length-far : {X : Type 0} (a b c d e f g : List X)
+    → (length (a ++ (b ++ (c ++ (d ++ (e ++ (f ++ [])))))) ≡ length a + length b + length c + length d + length e + length f)
+    × (length (a ++ (b ++ (c ++ (d ++ (e ++ (f ++ (g ++ []))))))) ≡ length a + length b + length c + length d + length e + length
+    f + length g)
 length-far a b c d e f g = (
   omega (arith, length-eight a b c d e f [] []),
   omega (arith, length-eight a b c d e f g []),
 )
 
-length-front : {X : Type 0} (a b c d e : List X) → (length (a ++ (b ++ [])) ≡ length a + length b) × (length (a ++ (b ++ (c ++ []))) ≡ length a + length b + length c)
-    × (length (a ++ (b ++ (c ++ (d ++ [])))) ≡ length a + length b + length c + length d) × (length (a ++ (b ++ (c ++ (d ++ (e ++ []))))) ≡ length a + length b + length c + length d + length e)
+length-front : {X : Type 0} (a b c d e : List X) → (length (a ++ (b ++ [])) ≡ length a + length b)
+    × (length (a ++ (b ++ (c ++ []))) ≡ length a + length b + length c)
+    × (length (a ++ (b ++ (c ++ (d ++ [])))) ≡ length a + length b + length c + length d)
+    × (length (a ++ (b ++ (c ++ (d ++ (e ++ []))))) ≡ length a + length b + length c + length d + length e)
 length-front a b c d e = (
   omega (arith, length_append a (b ++ []), length_append b []),
   omega (arith, length_append a (b ++ (c ++ [])), length_append b (c ++ []), length_append c []),
-  omega (arith, length_append a (b ++ (c ++ (d ++ []))), length_append b (c ++ (d ++ [])), length_append c (d ++ []), length_append d []),
+  omega (
+    arith,
+    length_append a (b ++ (c ++ (d ++ []))),
+    length_append b (c ++ (d ++ [])),
+    length_append c (d ++ []),
+    length_append d [],
+  ),
   omega (
     arith,
     length_append a (b ++ (c ++ (d ++ (e ++ [])))),
@@ -94,7 +107,8 @@ ends t few =
     let b = numbered series.Tcb (tcbs t) in
     let e = numbered series.Lock (locks t) in
     let f = numbered series.Irq (irqs t) in
-    let whole = length-eight a b (endpoints t) (notifications t) e f (table_parts (all_tables t)) (numbered series.Frame (frame_parts t.spaces.frames)) in
+    let whole = length-eight a b (endpoints t) (notifications t) e f (table_parts (all_tables t))
+    (numbered series.Frame (frame_parts t.spaces.frames)) in
     let front = length-front a b (endpoints t) (notifications t) e in
     let far = length-far a b (endpoints t) (notifications t) e f (table_parts (all_tables t)) in
     let all = few.objects in
@@ -106,7 +120,8 @@ ends t few =
     let five = front.3 in
     let six = far.0 in
     let seven = far.1 in
-    let g : length (table_parts (all_tables t)) ≡ length (all_tables t) = gather_ones (λ m (x : PageTable). table_part (all_tables t) m x) (all_tables t) in
+    let g : length (table_parts (all_tables t)) ≡ length (all_tables t) =
+    gather_ones (λ m (x : PageTable). table_part (all_tables t) m x) (all_tables t) in
     let h = length-numbered series.Frame (frame_parts t.spaces.frames) in
     let i = gather_ones (λ n (x : FrameInfo). owned (frame_owner x.owner) (FrameOf n)) t.spaces.frames in
     record {

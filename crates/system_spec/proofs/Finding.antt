@@ -29,7 +29,8 @@ none_above at v (p ∷ ps) r l =
     let other : (p.vaddr == at) ≡ false = ne_eqb p.vaddr at (λ e. omega (arith, below, l, e)) in
     ap (λ z. cond z (Some p) (find (at_page at) ps)) other ∙ none_above at p.vaddr ps r.1 (omega (arith, below, l))
 
-pub found_at : (at i : ℕ) (ps : List Page) → Rises (map (λ p. p.vaddr) ps) → ((k : ℕ) (p : Page) → slice_get ps k ≡ Some p → k < i → p.vaddr < at) → ((k : ℕ) (p : Page) → slice_get ps k ≡ Some p → i ≤ k → at ≤ p.vaddr)
+pub found_at : (at i : ℕ) (ps : List Page) → Rises (map (λ p. p.vaddr) ps) → ((k : ℕ) (p : Page) → slice_get ps k ≡ Some p → k < i
+    → p.vaddr < at) → ((k : ℕ) (p : Page) → slice_get ps k ≡ Some p → i ≤ k → at ≤ p.vaddr)
     → find (at_page at) ps ≡ there_at at (slice_get ps i)
 found_at at i [] r low high = refl
 found_at at zero (p ∷ ps) r low high =
@@ -38,7 +39,8 @@ found_at at zero (p ∷ ps) r low high =
 found_at at (suc i) (p ∷ ps) r low high =
     let below : p.vaddr < at = low 0 p refl (omega arith) in
     let other : (p.vaddr == at) ≡ false = ne_eqb p.vaddr at (λ e. omega (arith, below, e)) in
-    ap (λ z. cond z (Some p) (find (at_page at) ps)) other ∙ found_at at i ps r.1 (λ k q e l. low (suc k) q e (omega (arith, l))) (λ k q e l. high (suc k) q e (omega (arith, l)))
+    ap (λ z. cond z (Some p) (find (at_page at) ps)) other ∙ found_at at i ps r.1 (λ k q e l. low (suc k) q e (omega (arith, l)))
+    (λ k q e l. high (suc k) q e (omega (arith, l)))
 
 -- what is found is one of the list
 in_found : (test : Page → Bool) (ps : List Page) (p : Page) → find test ps ≡ Some p → IsIn p ps
@@ -53,13 +55,15 @@ in_found test (q ∷ ps) p e = by_test (test q) e (in_found test ps p)
 pub frame_found : (at : ℕ) (ps : List Page) (f : ℕ) → frame_at ps at ≡ Some f → (p : Page) × IsIn p ps × (p.frame ≡ f)
 frame_found at ps f e = by_page (find (at_page at) ps) refl e
   where
-    by_page : (o : Option Page) → find (at_page at) ps ≡ o → option_map (λ (p : Page). p.frame) o ≡ Some f → (p : Page) × IsIn p ps × (p.frame ≡ f)
+    by_page : (o : Option Page) → find (at_page at) ps ≡ o → option_map (λ (p : Page). p.frame) o ≡ Some f
+        → (p : Page) × IsIn p ps × (p.frame ≡ f)
     by_page None h g = absurd cc
     by_page (Some p) h g = (p, in_found (at_page at) ps p h, cc)
 
 -- ---- order
 
-from_rises : (ps : List Page) → Rises (map (λ p. p.vaddr) ps) → (i j : ℕ) (d : Page) → i ≤ j → j < length ps → (get_or ps i d).vaddr ≤ (get_or ps j d).vaddr
+from_rises : (ps : List Page) → Rises (map (λ p. p.vaddr) ps) → (i j : ℕ) (d : Page) → i ≤ j → j < length ps
+    → (get_or ps i d).vaddr ≤ (get_or ps j d).vaddr
 from_rises [] r i j d l m = absurd (omega (arith, m))
 from_rises (p ∷ ps) r zero zero d l m = omega arith
 from_rises (p ∷ []) r zero (suc j) d l m = absurd (omega (arith, m))
@@ -73,14 +77,21 @@ pub rises_in_order : (ps : List Page) → Rises (map (λ p. p.vaddr) ps) → IsN
 rises_in_order ps r = from_rises ps r
 
 -- what the search by halves finds is the page there
-pub halves_find : (at i : ℕ) (ps : List Page) → Rises (map (λ p. p.vaddr) ps) → IsPartitionPoint (λ (p : Page). ltb p.vaddr at ≡ true) (λ p. ltb p.vaddr at ≡ false) ps i → find (at_page at) ps ≡ there_at at (slice_get ps i)
+pub halves_find : (at i : ℕ) (ps : List Page) → Rises (map (λ p. p.vaddr) ps)
+    → IsPartitionPoint (λ (p : Page). ltb p.vaddr at ≡ true) (λ p. ltb p.vaddr at ≡ false) ps i
+    → find (at_page at) ps ≡ there_at at (slice_get ps i)
 halves_find at i ps r point =
     found_at at i ps r
-    (λ k p e l. let same = get_or_from_slice_get ps k p p e in ltb-true p.vaddr at (subst (λ (z : Page). ltb z.vaddr at ≡ true) same (point.0 k p (omega arith) l)))
-    (λ k p e l. let same = get_or_from_slice_get ps k p p e in ltb-false p.vaddr at (subst (λ (z : Page). ltb z.vaddr at ≡ false) same (point.1 k p l (slice_get_within ps k p e))))
+    (λ k p e l. let same = get_or_from_slice_get ps k p p e in
+    ltb-true p.vaddr at (subst (λ (z : Page). ltb z.vaddr at ≡ true) same (point.0 k p (omega arith) l)))
+    (λ k p e l. let same = get_or_from_slice_get ps k p p e in
+    ltb-false p.vaddr at (subst (λ (z : Page). ltb z.vaddr at ≡ false) same (point.1 k p l (slice_get_within ps k p e))))
 
-pub frame_read : (at i : ℕ) (ps : List Page) → Rises (map (λ p. p.vaddr) ps) → IsPartitionPoint (λ (p : Page). ltb p.vaddr at ≡ true) (λ p. ltb p.vaddr at ≡ false) ps i → (r : Option Page) → slice_get ps i ≡ r → frame_at ps at ≡ option_map (λ (p : Page). p.frame) (there_at at r)
-frame_read at i ps rise point r e = ap (λ z. option_map (λ (p : Page). p.frame) z) (halves_find at i ps rise point ∙ ap (there_at at) e)
+pub frame_read : (at i : ℕ) (ps : List Page) → Rises (map (λ p. p.vaddr) ps)
+    → IsPartitionPoint (λ (p : Page). ltb p.vaddr at ≡ true) (λ p. ltb p.vaddr at ≡ false) ps i → (r : Option Page)
+    → slice_get ps i ≡ r → frame_at ps at ≡ option_map (λ (p : Page). p.frame) (there_at at r)
+frame_read at i ps rise point r e = ap (λ z. option_map (λ (p : Page). p.frame) z) (halves_find at i ps rise point
+    ∙ ap (there_at at) e)
 
 pub frame_here : (at : ℕ) (p : Page) → p.vaddr ≡ at → option_map (λ (q : Page). q.frame) (there_at at (Some p)) ≡ Some p.frame
 frame_here at p e =

@@ -16,9 +16,11 @@ counted_in xs Directory = refl
 counted_in xs Table = refl
 
 same : (a b c d e f g h : ℕ) → a ≡ e → b ≡ f → c ≡ g → d ≡ h → counts a b c d ≡ counts e f g h
-same a b c d e f g h p q r s = ap (λ z. counts z b c d) p ∙ ap (λ z. counts e z c d) q ∙ ap (λ z. counts e f z d) r ∙ ap (λ z. counts e f g z) s
+same a b c d e f g h p q r s = ap (λ z. counts z b c d) p ∙ ap (λ z. counts e z c d) q ∙ ap (λ z. counts e f z d) r
+    ∙ ap (λ z. counts e f g z) s
 
-pub counts_more : (xs : List PageTable) (i : ℕ) (x : PageTable) (l : Level) → i < length xs → x ≡ get_or xs i x → x.level ≡ l → counts_in (take (i + 1) xs) ≡ one_more (counts_in (take i xs)) l
+pub counts_more : (xs : List PageTable) (i : ℕ) (x : PageTable) (l : Level) → i < length xs → x ≡ get_or xs i x → x.level ≡ l
+    → counts_in (take (i + 1) xs) ≡ one_more (counts_in (take i xs)) l
 counts_more xs i x l h is at = by_level l at
   where
     test : (k m : Level) → x.level ≡ m → is_of k (get_or xs i x) ≡ (is_of k (record x { level = m }))
@@ -31,11 +33,16 @@ counts_more xs i x l h is at = by_level l at
     no k t = count_by_more_no (is_of k) xs i x h t
 
     by_level : (m : Level) → x.level ≡ m → counts_in (take (i + 1) xs) ≡ one_more (counts_in (take i xs)) m
-    by_level Global e = same _ _ _ _ _ _ _ _ (yes Global (test Global Global e)) (no Upper (test Upper Global e)) (no Directory (test Directory Global e)) (no Table (test Table Global e))
-    by_level Upper e = same _ _ _ _ _ _ _ _ (no Global (test Global Upper e)) (yes Upper (test Upper Upper e)) (no Directory (test Directory Upper e)) (no Table (test Table Upper e))
-    by_level Directory e = same _ _ _ _ _ _ _ _ (no Global (test Global Directory e)) (no Upper (test Upper Directory e)) (yes Directory (test Directory Directory e)) (no Table (test Table Directory e))
-    by_level Table e = same _ _ _ _ _ _ _ _ (no Global (test Global Table e)) (no Upper (test Upper Table e)) (no Directory (test Directory Table e)) (yes Table (test Table Table e))
+    by_level Global e = same _ _ _ _ _ _ _ _ (yes Global (test Global Global e)) (no Upper (test Upper Global e))
+        (no Directory (test Directory Global e)) (no Table (test Table Global e))
+    by_level Upper e = same _ _ _ _ _ _ _ _ (no Global (test Global Upper e)) (yes Upper (test Upper Upper e))
+        (no Directory (test Directory Upper e)) (no Table (test Table Upper e))
+    by_level Directory e = same _ _ _ _ _ _ _ _ (no Global (test Global Directory e)) (no Upper (test Upper Directory e))
+        (yes Directory (test Directory Directory e)) (no Table (test Table Directory e))
+    by_level Table e = same _ _ _ _ _ _ _ _ (no Global (test Global Table e)) (no Upper (test Upper Table e))
+        (no Directory (test Directory Table e)) (yes Table (test Table Table e))
 
 -- no more than there are tables
 pub counted_below : (xs : List PageTable) (i : ℕ) (l : Level) → i < length xs → count_by (is_of l) (take i xs) ≤ i
-counted_below xs i l h = let c = count_by-le-length (is_of l) (take i xs) in let n = length-take-le i xs (omega (arith, h)) in omega (arith, c, n)
+counted_below xs i l h = let c = count_by-le-length (is_of l) (take i xs) in let n = length-take-le i xs (omega (arith, h)) in
+    omega (arith, c, n)

@@ -12,7 +12,8 @@ dot_name : (n : List ℕ) → together (codes "." ∷ n ∷ []) ≡ 46 ∷ n
 unfolding together
 dot_name n = ap (λ z. 46 ∷ z) (append-nil n)
 
-pub dotted : {E : Type 0} {r : Result (Unit {0}) E} {c : ℕ} {n : List ℕ} {s u : Sink} {m k : ℕ} → Writes r c (together (codes "." ∷ n ∷ [])) s u m k → Writes r c (46 ∷ n) s u m k
+pub dotted : {E : Type 0} {r : Result (Unit {0}) E} {c : ℕ} {n : List ℕ} {s u : Sink} {m k : ℕ}
+    → Writes r c (together (codes "." ∷ n ∷ [])) s u m k → Writes r c (46 ∷ n) s u m k
 dotted {r = r} {c = c} {n = n} {s = s} {u = u} {m = m} {k = k} w = subst (λ z. Writes r c z s u m k) (dot_name n) w
 
 pub joined_none : (names : List (List ℕ)) → length names ≡ 0 → length (joined names) ≡ 0
@@ -24,9 +25,11 @@ joined_cons : (n : List ℕ) (ns names : List (List ℕ)) → names ≡ n ∷ ns
 unfolding ◌⊹◌
 joined_cons n ns names e = ap joined (sym e)
 
-pub whole_path : {E : Type 0} {r : Result (Unit {0}) E} {c : ℕ} {s u : Sink} {m k : ℕ} (n : List ℕ) (ns names : List (List ℕ)) → names ≡ n ∷ ns
+pub whole_path : {E : Type 0} {r : Result (Unit {0}) E} {c : ℕ} {s u : Sink} {m k : ℕ} (n : List ℕ) (ns names : List (List ℕ))
+    → names ≡ n ∷ ns
     → Writes r c (n ⊹ flat_map (λ (m : List ℕ). 46 ∷ m) ns) s u m k → Writes r c (joined names) s u m k
-whole_path {r = r} {c = c} {s = s} {u = u} {m = m} {k = k} n ns names e w = subst (λ z. Writes r c z s u m k) (joined_cons n ns names e) w
+whole_path {r = r} {c = c} {s = s} {u = u} {m = m} {k = k} n ns names e w =
+    subst (λ z. Writes r c z s u m k) (joined_cons n ns names e) w
 
 pub no_text : (n : Named) (k e : ℕ) → end_of n.flat k e ≡ None → length (end_text n k e) ≡ 0
 no_text n k e h = ap (λ z. length (option_map_or (λ x. joined_text n k x.1.leaf x.1.member) z [])) h

@@ -12,7 +12,8 @@ Line = ℕ × ℕ
 abbrev ties_with : Line → Line → Bool
 ties_with = ties (λ (x y : Line). is_lt (nat_cmp x.0 y.0))
 
-ties_at : (m n : ℕ) → (ties (λ x y. is_lt (nat_cmp x y)) m n ≡ true → m ≡ n) × (m ≡ n → ties (λ x y. is_lt (nat_cmp x y)) m n ≡ true)
+ties_at : (m n : ℕ) → (ties (λ x y. is_lt (nat_cmp x y)) m n ≡ true → m ≡ n)
+    × (m ≡ n → ties (λ x y. is_lt (nat_cmp x y)) m n ≡ true)
 ties_at m n = (λ h. grind (arith, nat_tests), λ h. grind (arith, nat_tests))
 
 ties-true : (x y : Line) → ties_with x y ≡ true → x.0 ≡ y.0
@@ -52,7 +53,8 @@ filter-put z x (y ∷ ys) =
                 elim (cases_Bool (p x)) [
                   | inl both ↦ absurd (omega (arith, apart, ties-true z x both, ties-true z y with))
                   | inr only ↦
-                      filter-kept p y (put_line x ys) with ∙ ap (λ (l : List Line). y ∷ l) (filter-put z x ys ∙ filter-dropped p x ys only)
+                      filter-kept p y (put_line x ys) with ∙ ap (λ (l : List Line). y ∷ l) (filter-put z x ys
+                      ∙ filter-dropped p x ys only)
                       ∙ sym (filter-dropped p x (y ∷ ys) only ∙ filter-kept p y ys with)
                 ]
           ]
@@ -60,7 +62,8 @@ filter-put z x (y ∷ ys) =
 
 filter-by_number : (z : Line) (xs : List Line) → filter (ties_with z) (by_number xs) ≡ filter (ties_with z) xs
 filter-by_number z [] = refl
-filter-by_number z (x ∷ xs) = filter-put z x (by_number xs) ∙ ap (λ (l : List Line). cond (ties_with z x) (x ∷ l) l) (filter-by_number z xs)
+filter-by_number z (x ∷ xs) = filter-put z x (by_number xs) ∙ ap (λ (l : List Line). cond (ties_with z x) (x ∷ l) l)
+    (filter-by_number z xs)
 
 -- ---- lists by number
 
@@ -88,7 +91,8 @@ climbs_from_sort (y ∷ ys) h = (
 )
 
 -- where each is at least n, so is each after an insertion of one that is
-least_by : (b : Bool) (n : ℕ) (x y : Line) (ys zs : List Line) → n ≤ x.0 → n ≤ y.0 → AreAtLeast n ys → AreAtLeast n zs → AreAtLeast n (cond b (x ∷ y ∷ ys) (y ∷ zs))
+least_by : (b : Bool) (n : ℕ) (x y : Line) (ys zs : List Line) → n ≤ x.0 → n ≤ y.0 → AreAtLeast n ys → AreAtLeast n zs
+    → AreAtLeast n (cond b (x ∷ y ∷ ys) (y ∷ zs))
 least_by true n x y ys zs a b h k = (a, (b, h))
 least_by false n x y ys zs a b h k = (b, k)
 
@@ -96,13 +100,15 @@ put_least : (n : ℕ) (x : Line) (ys : List Line) → n ≤ x.0 → AreAtLeast n
 put_least n x [] le h = (le, tt)
 put_least n x (y ∷ ys) le h = least_by (leb x.0 y.0) n x y ys (put_line x ys) le h.0 h.1 (put_least n x ys le h.1)
 
-climbs_by : (b : Bool) (x y : Line) (ys zs : List Line) → leb x.0 y.0 ≡ b → Climbs (y ∷ ys) → Climbs zs → (y.0 ≤ x.0 → AreAtLeast y.0 zs) → Climbs (cond b (x ∷ y ∷ ys) (y ∷ zs))
+climbs_by : (b : Bool) (x y : Line) (ys zs : List Line) → leb x.0 y.0 ≡ b → Climbs (y ∷ ys) → Climbs zs
+    → (y.0 ≤ x.0 → AreAtLeast y.0 zs) → Climbs (cond b (x ∷ y ∷ ys) (y ∷ zs))
 climbs_by true x y ys zs t h k least = let le = leb-true x.0 y.0 t in ((le, AreAtLeast-le x.0 y.0 ys le h.0), h)
 climbs_by false x y ys zs t h k least = let lt = leb-false x.0 y.0 t in (least (omega arith), k)
 
 put_climbs : (x : Line) (ys : List Line) → Climbs ys → Climbs (put_line x ys)
 put_climbs x [] h = (tt, tt)
-put_climbs x (y ∷ ys) h = climbs_by (leb x.0 y.0) x y ys (put_line x ys) refl h (put_climbs x ys h.1) (λ le. put_least y.0 x ys le h.0)
+put_climbs x (y ∷ ys) h = climbs_by (leb x.0 y.0) x y ys (put_line x ys) refl h (put_climbs x ys h.1)
+    (λ le. put_least y.0 x ys le h.0)
 
 by_number_climbs : (xs : List Line) → Climbs (by_number xs)
 by_number_climbs [] = tt
@@ -111,7 +117,8 @@ by_number_climbs (x ∷ xs) = put_climbs x (by_number xs) (by_number_climbs xs)
 -- ---- two lists by number with the same lines of each number
 
 -- a line that is found among them
-found_least : (n : ℕ) (x : Line) (ys : List Line) (w : Line) (ws : List Line) → AreAtLeast n ys → filter (ties_with x) ys ≡ w ∷ ws → n ≤ x.0
+found_least : (n : ℕ) (x : Line) (ys : List Line) (w : Line) (ws : List Line) → AreAtLeast n ys → filter (ties_with x) ys ≡ w
+    ∷ ws → n ≤ x.0
 found_least n x [] w ws h e = cc
 found_least n x (y ∷ ys) w ws h e =
     elim (cases_Bool (ties_with x y)) [
@@ -119,7 +126,8 @@ found_least n x (y ∷ ys) w ws h e =
       | inr without ↦ found_least n x ys w ws h.1 (sym (filter-dropped (ties_with x) y ys without) ∙ e)
     ]
 
-same_lines : (ys zs : List Line) → Climbs ys → Climbs zs → ((x : Line) → filter (ties_with x) ys ≡ filter (ties_with x) zs) → ys ≡ zs
+same_lines : (ys zs : List Line) → Climbs ys → Climbs zs → ((x : Line) → filter (ties_with x) ys ≡ filter (ties_with x) zs)
+    → ys ≡ zs
 same_lines [] [] left right same = refl
 same_lines [] (z ∷ zs) left right same =
     let clash = same z ∙ filter-kept (ties_with z) z zs (ties_from z z refl) in cc
@@ -135,12 +143,15 @@ same_lines (y ∷ ys) (z ∷ zs) left right same =
     let tails : (x : Line) → filter (ties_with x) ys ≡ filter (ties_with x) zs =
     λ x. elim (cases_Bool (ties_with x y)) [
       | inl with ↦
-          let both = sym (filter-kept (ties_with x) y ys with) ∙ same x ∙ filter-kept (ties_with x) z zs (ap (ties_with x) (sym head) ∙ with) in cc
+          let both = sym (filter-kept (ties_with x) y ys with) ∙ same x ∙ filter-kept (ties_with x) z zs
+          (ap (ties_with x) (sym head) ∙ with) in cc
       | inr without ↦
-          sym (filter-dropped (ties_with x) y ys without) ∙ same x ∙ filter-dropped (ties_with x) z zs (ap (ties_with x) (sym head) ∙ without)
+          sym (filter-dropped (ties_with x) y ys without) ∙ same x ∙ filter-dropped (ties_with x) z zs
+          (ap (ties_with x) (sym head) ∙ without)
     ] in
     ap (λ (w : Line). w ∷ ys) head ∙ ap (λ (l : List Line). z ∷ l) (same_lines ys zs left.1 right.1 tails)
 
-pub by_number_from_sort : (xs ys : List Line) → IsNonDecreasingBy (λ (x : Line). x.0) ys → IsStableByKey (λ (x : Line). x.0) nat_cmp xs ys → ys ≡ by_number xs
+pub by_number_from_sort : (xs ys : List Line) → IsNonDecreasingBy (λ (x : Line). x.0) ys
+    → IsStableByKey (λ (x : Line). x.0) nat_cmp xs ys → ys ≡ by_number xs
 by_number_from_sort xs ys sorted stable =
     same_lines ys (by_number xs) (climbs_from_sort ys sorted) (by_number_climbs xs) (λ x. stable x ∙ sym (filter-by_number x xs))

@@ -67,39 +67,57 @@ in_numbered s xs x i =
     (n.0, in_gather (λ j (z : Owned). part s j z.owner z.what ∷ []) (part s n.0 x.owner x.what) xs n.0 x n.1 (inl refl))
 
 -- a numbered part of section n
-numbered_part : (t : Tables) (n : ℕ) (s : Series) (xs : List Owned) (x : Owned) → slice_get (sections t) n ≡ Some (numbered s xs) → IsIn x xs → HasPart t x.what
+numbered_part : (t : Tables) (n : ℕ) (s : Series) (xs : List Owned) (x : Owned) → slice_get (sections t) n ≡ Some (numbered s xs)
+    → IsIn x xs → HasPart t x.what
 numbered_part t n s xs x e i =
     let m = in_numbered s xs x i in
     (part s m.0 x.owner x.what, in_together (sections t) n (numbered s xs) (part s m.0 x.owner x.what) e m.1, refl)
 
 -- ---- there is a part of what there is
 
-has_endpoint : (t : Tables) (k : ℕ) (c : FlatConnection) → slice_get t.flat.connections k ≡ Some c → c.connector ≡ Rpc → HasPart t (EndpointOf k)
+has_endpoint : (t : Tables) (k : ℕ) (c : FlatConnection) → slice_get t.flat.connections k ≡ Some c → c.connector ≡ Rpc
+    → HasPart t (EndpointOf k)
 has_endpoint t k c e r =
     let p = part series.Ep k (OfConnection k) (EndpointOf k) in
-    let P : Connector → Type 0 = λ z. IsIn p (endpoint_by k z) in
-    (p, in_together (sections t) 2 (gather endpoint t.flat.connections) p refl (in_gather endpoint p t.flat.connections k c e (subst P (sym r) (inl refl))), refl)
+    let P : Connector → Type 0 = λ z. IsIn p (endpoint_by k z) in (
+      p,
+      in_together (sections t) 2 (gather endpoint t.flat.connections) p refl (in_gather endpoint p t.flat.connections k c e
+          (subst P (sym r) (inl refl))),
+      refl,
+    )
 
-has_notification : (t : Tables) (k : ℕ) (c : FlatConnection) → slice_get t.flat.connections k ≡ Some c → Notifies c.connector → HasPart t (NotificationOf k)
+has_notification : (t : Tables) (k : ℕ) (c : FlatConnection) → slice_get t.flat.connections k ≡ Some c → Notifies c.connector
+    → HasPart t (NotificationOf k)
 has_notification t k c e n =
     let p = part series.Ntfn k (OfConnection k) (NotificationOf k) in
     let P : Connector → Type 0 = λ z. IsIn p (notification_by k z) in
-    let here : IsIn p (notification_by k c.connector) = elim n [ inl r ↦ subst P (sym r) (inl refl) | inr r ↦ subst P (sym r) (inl refl) ] in
-    (p, in_together (sections t) 3 (gather notification t.flat.connections) p refl (in_gather notification p t.flat.connections k c e here), refl)
+    let here : IsIn p (notification_by k c.connector) = elim n [
+      | inl r ↦ subst P (sym r) (inl refl)
+      | inr r ↦
+          subst P (sym r) (inl refl)
+    ] in (
+      p,
+      in_together (sections t) 3 (gather notification t.flat.connections) p refl (in_gather notification p t.flat.connections k
+          c e here),
+      refl,
+    )
 
-has_lock : (t : Tables) (d n leaf m : ℕ) (x : Domain) → slice_get t.flat.domains d ≡ Some x → slice_get (uses_at t d) n ≡ Some (OwnLock leaf m) → HasPart t (LockOf d n)
+has_lock : (t : Tables) (d n leaf m : ℕ) (x : Domain) → slice_get t.flat.domains d ≡ Some x
+    → slice_get (uses_at t d) n ≡ Some (OwnLock leaf m) → HasPart t (LockOf d n)
 has_lock t d n leaf m x h u =
     let o = owned (OfDomain d) (LockOf d n) in
     let inner : IsIn o (domain_locks t d x) = in_gather (lock d) o (uses_at t d) n (OwnLock leaf m) u (inl refl) in
     numbered_part t 4 series.Lock (locks t) o refl (in_gather (domain_locks t) o t.flat.domains d x h inner)
 
-has_irq : (t : Tables) (k : ℕ) (c : FlatConnection) → slice_get t.flat.connections k ≡ Some c → c.connector ≡ Interrupt → HasPart t (IrqOf k)
+has_irq : (t : Tables) (k : ℕ) (c : FlatConnection) → slice_get t.flat.connections k ≡ Some c → c.connector ≡ Interrupt
+    → HasPart t (IrqOf k)
 has_irq t k c e i =
     let o = owned (irq_owner k c) (IrqOf k) in
     let P : Connector → Type 0 = λ z. IsIn o (irq_by k (irq_owner k c) z) in
     numbered_part t 5 series.Irq (irqs t) o refl (in_gather irq o t.flat.connections k c e (subst P (sym i) (inl refl)))
 
-has_thread : (t : Tables) (d i : ℕ) (x : Domain) (y : ThreadPlace) → slice_get t.flat.domains d ≡ Some x → slice_get (threads_at t d) i ≡ Some y → HasPart t (ThreadOf d i)
+has_thread : (t : Tables) (d i : ℕ) (x : Domain) (y : ThreadPlace) → slice_get t.flat.domains d ≡ Some x
+    → slice_get (threads_at t d) i ≡ Some y → HasPart t (ThreadOf d i)
 has_thread t d i x y h u =
     let o = owned (OfDomain d) (ThreadOf d i) in
     let f : ℕ → ThreadPlace → List Owned = λ n z. owned (OfDomain d) (ThreadOf d n) ∷ [] in
@@ -118,7 +136,8 @@ has_frame t f x h =
     let g : ℕ → FrameInfo → List Owned = λ n z. owned (frame_owner z.owner) (FrameOf n) ∷ [] in
     numbered_part t 7 series.Frame (frame_parts t.spaces.frames) o refl (in_gather g o t.spaces.frames f x h (inl refl))
 
-has_table : (t : Tables) (d j : ℕ) (x : Domain) (o : Object) → slice_get t.flat.domains d ≡ Some x → slice_get (tables_at t 0 0 d) j ≡ Some o → HasPart t (TableOf d j)
+has_table : (t : Tables) (d j : ℕ) (x : Domain) (o : Object) → slice_get t.flat.domains d ≡ Some x
+    → slice_get (tables_at t 0 0 d) j ≡ Some o → HasPart t (TableOf d j)
 has_table t d j x o h u =
     let y = page_table d j (level_of o) in
     let f : ℕ → Object → List PageTable = λ n z. page_table d n (level_of z) ∷ [] in
@@ -151,7 +170,8 @@ kind_there t w h = ap (λ o. option_map kind_of_object o) (object_there t w h)
 
 -- ---- parts are of what there is
 
-in_order : (t : Tables) (s : Series) (xs : List Owned) (p : Part) → ((x : Owned) → IsIn x xs → IsThere t x.what) → IsIn p (numbered s xs) → IsThere t p.what
+in_order : (t : Tables) (s : Series) (xs : List Owned) (p : Part) → ((x : Owned) → IsIn x xs → IsThere t x.what)
+    → IsIn p (numbered s xs) → IsThere t p.what
 in_order t s xs p h i = let f = from_numbered s xs p i in subst (λ w. IsThere t w) (sym f.2) (h f.0 f.1)
 
 -- what stands in a list of one
@@ -178,7 +198,8 @@ of_endpoint t p i =
     by_kind g.1.connector g.0 g.3 (λ r. (g.1, g.2, r))
   where
     by_kind : (c : Connector) (k : ℕ) → IsIn p (endpoint_by k c) → (c ≡ Rpc → IsThere t (EndpointOf k)) → IsThere t p.what
-    by_kind Rpc k i h = subst (λ (z : Part). IsThere t z.what) (single (part series.Ep k (OfConnection k) (EndpointOf k)) p i) (h refl)
+    by_kind Rpc k i h = subst (λ (z : Part). IsThere t z.what) (single (part series.Ep k (OfConnection k) (EndpointOf k))
+        p i) (h refl)
     by_kind Notification k i h = absurd i
     by_kind SharedMemory k i h = absurd i
     by_kind Mmio k i h = absurd i
@@ -190,9 +211,14 @@ of_notification t p i =
     let g = from_gather notification p t.flat.connections i in
     by_kind g.1.connector g.0 g.3 (λ r. (g.1, g.2, r))
   where
-    by_kind : (c : Connector) (k : ℕ) → IsIn p (notification_by k c) → (Notifies c → IsThere t (NotificationOf k)) → IsThere t p.what
-    by_kind Notification k i h = subst (λ (z : Part). IsThere t z.what) (single (part series.Ntfn k (OfConnection k) (NotificationOf k)) p i) (h (inl refl))
-    by_kind Interrupt k i h = subst (λ (z : Part). IsThere t z.what) (single (part series.Ntfn k (OfConnection k) (NotificationOf k)) p i) (h (inr refl))
+    by_kind : (c : Connector) (k : ℕ) → IsIn p (notification_by k c) → (Notifies c → IsThere t (NotificationOf k))
+        → IsThere t p.what
+    by_kind Notification k i h =
+        subst (λ (z : Part). IsThere t z.what) (single (part series.Ntfn k (OfConnection k) (NotificationOf k)) p i)
+        (h (inl refl))
+    by_kind Interrupt k i h =
+        subst (λ (z : Part). IsThere t z.what) (single (part series.Ntfn k (OfConnection k) (NotificationOf k)) p i)
+        (h (inr refl))
     by_kind Rpc k i h = absurd i
     by_kind SharedMemory k i h = absurd i
     by_kind Mmio k i h = absurd i
@@ -207,14 +233,16 @@ of_lock t o i =
     by_use : (u : SlotUse) (d n : ℕ) → IsIn o (lock d n u) → IsDomain t d → slice_get (uses_at t d) n ≡ Some u → IsThere t o.what
     by_use (OfEnd k l) d n i x h = absurd i
     by_use (Handler k l) d n i x h = absurd i
-    by_use (OwnLock leaf l) d n i x h = subst (λ (z : Owned). IsThere t z.what) (single (owned (OfDomain d) (LockOf d n)) o i) (x, (leaf, l, h))
+    by_use (OwnLock leaf l) d n i x h = subst (λ (z : Owned). IsThere t z.what) (single (owned (OfDomain d) (LockOf d n)) o i)
+        (x, (leaf, l, h))
 
 of_irq : (t : Tables) (o : Owned) → IsIn o (irqs t) → IsThere t o.what
 of_irq t o i =
     let g = from_gather irq o t.flat.connections i in
     by_kind g.1.connector g.0 (irq_owner g.0 g.1) g.3 (λ r. (g.1, g.2, r))
   where
-    by_kind : (c : Connector) (k : ℕ) (w : Owner) → IsIn o (irq_by k w c) → (c ≡ Interrupt → IsThere t (IrqOf k)) → IsThere t o.what
+    by_kind : (c : Connector) (k : ℕ) (w : Owner) → IsIn o (irq_by k w c) → (c ≡ Interrupt → IsThere t (IrqOf k))
+        → IsThere t o.what
     by_kind Interrupt k w i h = subst (λ (z : Owned). IsThere t z.what) (single (owned w (IrqOf k)) o i) (h refl)
     by_kind Rpc k w i h = absurd i
     by_kind Notification k w i h = absurd i
@@ -230,8 +258,10 @@ of_table t p i =
     let h : ℕ → Object → List PageTable = λ n z. page_table d.0 n (level_of z) ∷ [] in
     let o = from_gather h g.1 (tables_at t 0 0 d.0) d.3 in
     let there : IsThere t (TableOf d.0 o.0) = ((d.1, d.2), (o.1, o.2)) in
-    let here : IsThere t (TableOf g.1.domain g.1.place) = subst (λ (z : PageTable). IsThere t (TableOf z.domain z.place)) {x = page_table d.0 o.0 (level_of o.1)} (single (page_table d.0 o.0 (level_of o.1)) g.1 o.3) there in
-    subst (λ (z : Part). IsThere t z.what) {x = table_part (all_tables t) g.0 g.1} (single (table_part (all_tables t) g.0 g.1) p g.3) here
+    let here : IsThere t (TableOf g.1.domain g.1.place) = subst (λ (z : PageTable). IsThere t (TableOf z.domain z.place))
+    {x = page_table d.0 o.0 (level_of o.1)} (single (page_table d.0 o.0 (level_of o.1)) g.1 o.3) there in
+    subst (λ (z : Part). IsThere t z.what) {x = table_part (all_tables t) g.0 g.1}
+    (single (table_part (all_tables t) g.0 g.1) p g.3) here
 
 of_frame : (t : Tables) (o : Owned) → IsIn o (frame_parts t.spaces.frames) → IsThere t o.what
 of_frame t o i =
@@ -241,10 +271,12 @@ of_frame t o i =
 
 -- whatever holds of the parts of each section holds of each part
 pub by_section : (t : Tables) (P : Part → Type 0)
-    → ((p : Part) → IsIn p (numbered series.CNode (cnodes t.flat.domains)) → P p) → ((p : Part) → IsIn p (numbered series.Tcb (tcbs t)) → P p)
+    → ((p : Part) → IsIn p (numbered series.CNode (cnodes t.flat.domains)) → P p)
+    → ((p : Part) → IsIn p (numbered series.Tcb (tcbs t)) → P p)
     → ((p : Part) → IsIn p (endpoints t) → P p) → ((p : Part) → IsIn p (notifications t) → P p)
     → ((p : Part) → IsIn p (numbered series.Lock (locks t)) → P p) → ((p : Part) → IsIn p (numbered series.Irq (irqs t)) → P p)
-    → ((p : Part) → IsIn p (table_parts (all_tables t)) → P p) → ((p : Part) → IsIn p (numbered series.Frame (frame_parts t.spaces.frames)) → P p)
+    → ((p : Part) → IsIn p (table_parts (all_tables t)) → P p)
+    → ((p : Part) → IsIn p (numbered series.Frame (frame_parts t.spaces.frames)) → P p)
     → (p : Part) → IsIn p (parts t) → P p
 by_section t P a b c d e f g h p i =
     let s0 = numbered series.CNode (cnodes t.flat.domains) in

@@ -24,4 +24,5 @@ one_more c Table = counts c.global c.upper c.directory (c.table + 1)
 
 -- of those in the list
 abbrev pub counts_in : List PageTable → LevelCounts
-counts_in xs = counts (count_by (is_of Global) xs) (count_by (is_of Upper) xs) (count_by (is_of Directory) xs) (count_by (is_of Table) xs)
+counts_in xs = counts (count_by (is_of Global) xs) (count_by (is_of Upper) xs) (count_by (is_of Directory) xs)
+    (count_by (is_of Table) xs)

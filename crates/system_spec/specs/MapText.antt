@@ -58,7 +58,8 @@ member_name n l m = option_map_or name_in (slice_get (leaf_members n.source n.fl
 
 -- PATH INTERFACE CONNECTION of an end at a leaf
 abbrev pub joined_text : Named → ℕ → ℕ → ℕ → List ℕ
-joined_text n k l m = joined (leaf_path n.flat l) ⊹ together (codes " " ∷ member_name n l m ∷ codes " " ∷ []) ⊹ joined (connection_path n.flat k)
+joined_text n k l m = joined (leaf_path n.flat l) ⊹ together (codes " " ∷ member_name n l m ∷ codes " " ∷ []) ⊹ joined
+    (connection_path n.flat k)
 
 -- of end e of connection k
 abbrev pub end_text : Named → ℕ → ℕ → List ℕ
@@ -67,21 +68,27 @@ end_text n k e = option_map_or (λ x. joined_text n k x.1.leaf x.1.member) (end_
 abbrev pub domain_line : Named → ℕ → List ℕ
 domain_line n d =
     codes "domain " ⊹ joined (domain_path n.flat d)
-    ⊹ together (codes " " ∷ prefix series.CNode ∷ decimal d ∷ codes " " ∷ prefix (root_series n.spec.arch) ∷ decimal d ∷ codes "\n" ∷ [])
+    ⊹ together (codes " " ∷ prefix series.CNode ∷ decimal d ∷ codes " " ∷ prefix (root_series n.spec.arch) ∷ decimal d
+    ∷ codes "\n" ∷ [])
 
 abbrev pub thread_line : Named → ℕ → ℕ → Option EndAt → List ℕ
-thread_line n tcb leaf None = codes "thread " ⊹ joined (leaf_path n.flat leaf) ⊹ together (codes " control " ∷ name_at n.spec tcb ∷ codes "\n" ∷ [])
-thread_line n tcb leaf (Some e) = codes "thread " ⊹ end_text n e.connection e.end ⊹ together (codes " " ∷ name_at n.spec tcb ∷ codes "\n" ∷ [])
+thread_line n tcb leaf None = codes "thread " ⊹ joined (leaf_path n.flat leaf) ⊹ together (codes " control " ∷ name_at n.spec tcb
+    ∷ codes "\n" ∷ [])
+thread_line n tcb leaf (Some e) = codes "thread " ⊹ end_text n e.connection e.end ⊹ together (codes " " ∷ name_at n.spec tcb
+    ∷ codes "\n" ∷ [])
 
 abbrev pub slot_line : Named → ℕ → ℕ → ℕ → ℕ → List ℕ
-slot_line n k e slot object = codes "slot " ⊹ end_text n k e ⊹ together (codes " " ∷ hex_text slot ∷ codes " " ∷ name_at n.spec object ∷ codes "\n" ∷ [])
+slot_line n k e slot object = codes "slot " ⊹ end_text n k e ⊹ together (codes " " ∷ hex_text slot ∷ codes " "
+    ∷ name_at n.spec object ∷ codes "\n" ∷ [])
 
 -- of a lock of the leaf at this path
 abbrev pub own_line : List (List ℕ) → List ℕ → ℕ → List ℕ → List ℕ
-own_line path name slot object = codes "own " ⊹ joined path ⊹ together (codes " " ∷ name ∷ codes " " ∷ hex_text slot ∷ codes " " ∷ object ∷ codes "\n" ∷ [])
+own_line path name slot object = codes "own " ⊹ joined path ⊹ together (codes " " ∷ name ∷ codes " " ∷ hex_text slot ∷ codes " "
+    ∷ object ∷ codes "\n" ∷ [])
 
 abbrev pub window_line : Named → ℕ → ℕ → ℕ → ℕ → List ℕ
-window_line n k e vaddr bytes = codes "window " ⊹ end_text n k e ⊹ together (codes " " ∷ hex_text vaddr ∷ codes " " ∷ decimal bytes ∷ codes "\n" ∷ [])
+window_line n k e vaddr bytes = codes "window " ⊹ end_text n k e ⊹ together (codes " " ∷ hex_text vaddr ∷ codes " "
+    ∷ decimal bytes ∷ codes "\n" ∷ [])
 
 abbrev pub line_text : Named → MapLine → List ℕ
 line_text n (DomainLine d) = domain_line n d

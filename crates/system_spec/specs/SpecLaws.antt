@@ -21,6 +21,9 @@ pub record ObjectsStand (t : Tables) : Type 0 where
 
 -- there is a CNode for each domain, an endpoint for each RPC, and a notification for each connection that has one
 pub record PartsAreThere (t : Tables) : Type 0 where
-  pub cnode : (d : ℕ) (x : Domain) → slice_get t.flat.domains d ≡ Some x → IsIn (part series.CNode d (OfDomain d) (CNodeOf d)) (parts t)
-  pub endpoint : (k : ℕ) (c : FlatConnection) → slice_get t.flat.connections k ≡ Some c → c.connector ≡ Rpc → IsIn (part series.Ep k (OfConnection k) (EndpointOf k)) (parts t)
-  pub notification : (k : ℕ) (c : FlatConnection) → slice_get t.flat.connections k ≡ Some c → (p : Part) → IsIn p (notification_by k c.connector) → IsIn p (parts t)
+  pub cnode : (d : ℕ) (x : Domain) → slice_get t.flat.domains d ≡ Some x
+      → IsIn (part series.CNode d (OfDomain d) (CNodeOf d)) (parts t)
+  pub endpoint : (k : ℕ) (c : FlatConnection) → slice_get t.flat.connections k ≡ Some c → c.connector ≡ Rpc
+      → IsIn (part series.Ep k (OfConnection k) (EndpointOf k)) (parts t)
+  pub notification : (k : ℕ) (c : FlatConnection) → slice_get t.flat.connections k ≡ Some c → (p : Part)
+      → IsIn p (notification_by k c.connector) → IsIn p (parts t)

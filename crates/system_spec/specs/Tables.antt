@@ -67,7 +67,8 @@ name_of_item (items.Assembly a) = []
 
 -- the name of the component that stands there
 abbrev pub component_name : Source → ItemAt → List ℕ
-component_name source at = option_map_or (λ e. name_of_item e.item) (slice_get (items_of_file (slice_get source.files at.file)) at.item) []
+component_name source at =
+    option_map_or (λ e. name_of_item e.item) (slice_get (items_of_file (slice_get source.files at.file)) at.item) []
 
 -- the name of the leaf's component
 abbrev pub leaf_name : Tables → ℕ → List ℕ

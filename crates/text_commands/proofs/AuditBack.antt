@@ -43,7 +43,8 @@ use Rattle.text_commands.proofs.OneTurn.{then_goes, turn_one}
 use Rattle.text_commands.proofs.Turning.{turn_read}
 
 -- what an audit read and found
-record IsAuditOf (m : Contents) (old new : List ℕ → ℕ) (cdl policy : List ℕ) (report : AuditReport) (spec : Spec) (names : lines.Labels) : Type 0 where
+record IsAuditOf (m : Contents) (old new : List ℕ → ℕ) (cdl policy : List ℕ) (report : AuditReport) (spec : Spec)
+    (names : lines.Labels) : Type 0 where
   pub allowed : Policy
   pub labels : Labels
   pub system : IsSystem m old new cdl (Ok spec)
@@ -52,17 +53,19 @@ record IsAuditOf (m : Contents) (old new : List ℕ → ℕ) (cdl policy : List 
   pub named : names ≡ allowed.labels
   pub has : HasReport spec labels.by_object report
 
-audit_of : (m : Contents) (old new : List ℕ → ℕ) (cdl policy : List ℕ) (report : AuditReport) (spec : Spec) (names : lines.Labels) → IsAudited m old new cdl policy (Ok (Audited report spec names))
+audit_of : (m : Contents) (old new : List ℕ → ℕ) (cdl policy : List ℕ) (report : AuditReport) (spec : Spec) (names : lines.Labels)
+    → IsAudited m old new cdl policy (Ok (Audited report spec names))
     → IsAuditOf m old new cdl policy report spec names
-audit_of m old new cdl policy report spec names (inl (found, system, inl (allowed, read, inl (labels, labelled, (shown, is, has))))) = record {
-  allowed = allowed;
-  labels = labels;
-  system = subst (λ z. IsSystem m old new cdl (Ok z)) specs system;
-  read = read;
-  labelled = subst (λ z. IsLabelling z allowed (Ok labels)) specs labelled;
-  named = let h = is in cc;
-  has = subst (λ z. HasReport z labels.by_object report) specs (subst (λ z. HasReport found labels.by_object z) reports has);
-}
+audit_of m old new cdl policy report spec names
+    (inl (found, system, inl (allowed, read, inl (labels, labelled, (shown, is, has))))) = record {
+      allowed = allowed;
+      labels = labels;
+      system = subst (λ z. IsSystem m old new cdl (Ok z)) specs system;
+      read = read;
+      labelled = subst (λ z. IsLabelling z allowed (Ok labels)) specs labelled;
+      named = let h = is in cc;
+      has = subst (λ z. HasReport z labels.by_object report) specs (subst (λ z. HasReport found labels.by_object z) reports has);
+    }
   where
     specs : found ≡ spec
     specs = let h = is in cc
@@ -73,7 +76,8 @@ audit_of m old new cdl policy report spec names (inl (found, system, inl (allowe
 audit_of m old new cdl policy report spec names (inl (found, system, inr (e, told, is))) = absurd cc
 audit_of m old new cdl policy report spec names (inr (e, told, is)) = absurd cc
 
-module _ (m : Contents) (old new later last : List ℕ → ℕ) (cdl policy : List ℕ) (report : AuditReport) (spec : Spec) (names : lines.Labels)
+module _ (m : Contents) (old new later last : List ℕ → ℕ) (cdl policy : List ℕ) (report : AuditReport) (spec : Spec)
+    (names : lines.Labels)
     (audited : IsAudited m old new cdl policy (Ok (Audited report spec names))) where
   abbrev audit : IsAuditOf m old new cdl policy report spec names
   audit = audit_of m old new cdl policy report spec names audited
@@ -87,13 +91,15 @@ module _ (m : Contents) (old new later last : List ℕ → ℕ) (cdl policy : Li
   objects_named : list_all (λ entry. is_name entry.name) spec.entries ≡ true
   objects_named = text_named capdl_text.0 spec capdl_text.1
 
-  all_read : (list : List Step) (state : State) → Run spec (boot spec) list state → length list < 2 ^ 63 → All (IsReadable spec) list
+  all_read : (list : List Step) (state : State) → Run spec (boot spec) list state → length list < 2 ^ 63
+      → All (IsReadable spec) list
   all_read list state run few = run_readable spec (kept_text capdl_text.0 spec capdl_text.1) objects_named list state run few
 
   pub audit_readable : length report.steps < 2 ^ 63 → All (IsReadable spec) report.steps
   audit_readable few = let run = audit.has.shown.run in all_read report.steps run.0 run.1 few
 
-  module _ (list : List Step) (state : State) (run : Run spec (boot spec) list state) (few : length list ≤ 100000) (file : List ℕ) (held : Holds m file (steps_text spec list)) where
+  module _ (list : List Step) (state : State) (run : Run spec (boot spec) list state) (few : length list ≤ 100000) (file : List ℕ)
+      (held : Holds m file (steps_text spec list)) where
     readable : All (IsReadable spec) list
     readable = all_read list state run (omega (arith, few))
 
@@ -101,20 +107,26 @@ module _ (m : Contents) (old new later last : List ℕ → ℕ) (cdl policy : Li
     short = let s = steps_short spec objects_named list readable in omega (arith, s, few)
 
     are_read : AreSteps m later last spec file (Ok list)
-    are_read = inl (steps_text spec list, (short, held), (no_fault spec list readable few short, sym (read_back spec list readable)))
+    are_read =
+        inl (steps_text spec list, (short, held), (no_fault spec list readable few short, sym (read_back spec list readable)))
 
-    made_of : (replayed : Replayed) (answer : Result Outcome InputError) → answer ≡ Ok (Ran replayed audit.allowed.labels) → IsReplayed spec numbers list replayed
+    made_of : (replayed : Replayed) (answer : Result Outcome InputError) → answer ≡ Ok (Ran replayed audit.allowed.labels)
+        → IsReplayed spec numbers list replayed
         → (edges : List Edge) × (answer ≡ Ok (Ran (Done (length list) edges) names)) × AreEdgesOf spec numbers state edges
     made_of (Done count edges) answer is replayed =
         let counts : count ≡ length list = replayed.0 in
         let leads = replayed.1 in
         let states : leads.state ≡ state = run_one spec list (boot spec) leads.state state leads.run run in
-        let named : names ≡ audit.allowed.labels = audit.named in
-        (edges, (let told : answer ≡ Ok (Ran (Done (length list) edges) names) = cc in told), subst (λ z. AreEdgesOf spec numbers z edges) states leads.has)
+        let named : names ≡ audit.allowed.labels = audit.named in (
+          edges,
+          (let told : answer ≡ Ok (Ran (Done (length list) edges) names) = cc in told),
+          subst (λ z. AreEdgesOf spec numbers z edges) states leads.has,
+        )
     made_of (Illegal number why) answer is replayed = absurd (not_done spec list state replayed.0 why run replayed.2)
 
     answered : (answer : Result Outcome InputError) → IsAnswer answer
-        → Answers (λ outcome. (replayed : Replayed) × (outcome ≡ Ran replayed audit.allowed.labels) × IsReplayed spec numbers list replayed) answer
+        → Answers (λ outcome. (replayed : Replayed) × (outcome ≡ Ran replayed audit.allowed.labels) × IsReplayed spec numbers list
+        replayed) answer
         → (edges : List Edge) × (answer ≡ Ok (Ran (Done (length list) edges) names)) × AreEdgesOf spec numbers state edges
     answered (Ok outcome) is h = made_of h.0 (Ok outcome) (ap (λ z. Ok z) h.1) h.2
     answered (Err (Fault fault f)) is h = absurd h
@@ -123,7 +135,8 @@ module _ (m : Contents) (old new later last : List ℕ → ℕ) (cdl policy : Li
 
     -- what follows the system, the policy, the steps and the labels
     abbrev WithLabels : Spec → Policy → List Step → Labels → Result Outcome InputError → Type 0
-    WithLabels system allowed given labels = Answers (λ outcome. (replayed : Replayed) × (outcome ≡ Ran replayed allowed.labels) × IsReplayed system labels.by_object given replayed)
+    WithLabels system allowed given labels = Answers (λ outcome. (replayed : Replayed) × (outcome ≡ Ran replayed allowed.labels)
+        × IsReplayed system labels.by_object given replayed)
 
     abbrev WithSteps : Spec → Policy → List Step → Result Outcome InputError → Type 0
     WithSteps system allowed given = Then (IsTold tell_text policy (IsLabelling system allowed)) (WithLabels system allowed given)
@@ -137,15 +150,21 @@ module _ (m : Contents) (old new later last : List ℕ → ℕ) (cdl policy : Li
     made : (answer : Result Outcome InputError) → IsAnswer answer → IsRun m later last cdl policy file answer
         → (edges : List Edge) × (answer ≡ Ok (Ran (Done (length list) edges) names)) × AreEdgesOf spec numbers state edges
     made answer is h =
-        let a = then_goes (IsSystem m old new cdl) (IsSystem m later last cdl) WithSystem (system_one m old new later last cdl) spec audit.system answer is h in
-        let b = then_goes (IsPolicy m old new policy) (IsPolicy m later last policy) (WithPolicy spec) (policy_one m old new later last policy) audit.allowed audit.read answer is a in
-        let c = then_goes (AreSteps m later last spec file) (AreSteps m later last spec file) (WithSteps spec audit.allowed) (turn_one m later last later last file tell_text (steps.IsRead spec) (step_reads spec)) list are_read answer is b in
+        let a = then_goes (IsSystem m old new cdl) (IsSystem m later last cdl) WithSystem (system_one m old new later last cdl)
+        spec audit.system answer is h in
+        let b = then_goes (IsPolicy m old new policy) (IsPolicy m later last policy) (WithPolicy spec)
+        (policy_one m old new later last policy) audit.allowed audit.read answer is a in
+        let c = then_goes (AreSteps m later last spec file) (AreSteps m later last spec file) (WithSteps spec audit.allowed)
+        (turn_one m later last later last file tell_text (steps.IsRead spec) (step_reads spec)) list are_read answer is b in
         let told = IsTold tell_text policy (IsLabelling spec audit.allowed) in
-        let d = then_goes told told (WithLabels spec audit.allowed list) (labelled_one m old new later last spec audit.allowed policy) audit.labels audit.labelled answer is c in
+        let d = then_goes told told (WithLabels spec audit.allowed list) (labelled_one m old new later last spec audit.allowed
+        policy) audit.labels audit.labelled answer is c in
         answered answer is d
 
-  pub audit_replayed : (file : List ℕ) (answer : Result Outcome InputError) → length report.steps ≤ 100000 → Holds m file (steps_text spec report.steps) → IsAnswer answer
-      → IsRun m later last cdl policy file answer → (edges : List Edge) × (answer ≡ Ok (Ran (Done (length report.steps) edges) names))
+  pub audit_replayed : (file : List ℕ) (answer : Result Outcome InputError) → length report.steps ≤ 100000
+      → Holds m file (steps_text spec report.steps) → IsAnswer answer
+      → IsRun m later last cdl policy file answer
+      → (edges : List Edge) × (answer ≡ Ok (Ran (Done (length report.steps) edges) names))
   audit_replayed file answer few held is h =
       let run = audit.has.shown.run in
       let all = made report.steps run.0 run.1 few file held answer is h in
@@ -153,7 +172,8 @@ module _ (m : Contents) (old new later last : List ℕ → ℕ) (cdl policy : Li
 
   pub audit_shown : length report.steps ≤ 100000 → (l : ℕ) (a : Authority) (x : ℕ) → Has report.edges l a x
       → (front back : List Step) × (report.steps ≡ front ++ back)
-      × ((file : List ℕ) (answer : Result Outcome InputError) → Holds m file (steps_text spec front) → IsAnswer answer → IsRun m later last cdl policy file answer
+      × ((file : List ℕ) (answer : Result Outcome InputError) → Holds m file (steps_text spec front) → IsAnswer answer
+      → IsRun m later last cdl policy file answer
       → (edges : List Edge) × (answer ≡ Ok (Ran (Done (length front) edges) names)) × Has edges l a x)
   audit_shown few l a x has =
       let shows = audit.has.shown.shown l a x has in

@@ -46,18 +46,21 @@ use Rattle.text_commands.proofs.Turning.{turn_read}
 -- ---- labels of objects are labels of the policy, below the limit
 
 module _ (objects : List (List ℕ × ℕ)) (P : ℕ → Type 0) where
-  of_object : (os : List (List ℕ × ℕ)) (name : List ℕ) (n : ℕ) → All (λ o. P o.1) os → option_map (λ (o : List ℕ × ℕ). o.1) (find (λ o. bytes_eq o.0 name) os) ≡ Some n → P n
+  of_object : (os : List (List ℕ × ℕ)) (name : List ℕ) (n : ℕ) → All (λ o. P o.1) os
+      → option_map (λ (o : List ℕ × ℕ). o.1) (find (λ o. bytes_eq o.0 name) os) ≡ Some n → P n
   of_object [] name n all is = absurd cc
   of_object (o ∷ os) name n all is = go (bytes_eq o.0 name) refl (λ h. of_object os name n (All-tail (λ o. P o.1) o os all) h)
     where
-      go : (b : Bool) → bytes_eq o.0 name ≡ b → (option_map (λ (o : List ℕ × ℕ). o.1) (find (λ o. bytes_eq o.0 name) os) ≡ Some n → P n) → P n
+      go : (b : Bool) → bytes_eq o.0 name ≡ b
+          → (option_map (λ (o : List ℕ × ℕ). o.1) (find (λ o. bytes_eq o.0 name) os) ≡ Some n → P n) → P n
       go true e rest =
           let found : ◌≡◌ {A = Option ℕ} (Some o.1) (Some n) = rw e at is in
           let same : o.1 ≡ n = cc in
           subst P same (All-head (λ o. P o.1) o os all)
       go false e rest = rest (rw e at is)
 
-  of_label : (labels : List ℕ) (entries : List Entry) (n : ℕ) → All (λ o. P o.1) objects → map (λ k. Some k) labels ≡ map (λ entry. object_label objects entry.name) entries → is_among labels n ≡ true → P n
+  of_label : (labels : List ℕ) (entries : List Entry) (n : ℕ) → All (λ o. P o.1) objects
+      → map (λ k. Some k) labels ≡ map (λ entry. object_label objects entry.name) entries → is_among labels n ≡ true → P n
   of_label [] entries n all is among = absurd cc
   of_label (k ∷ labels) [] n all is among = absurd cc
   of_label (k ∷ labels) (entry ∷ entries) n all is among =
@@ -69,26 +72,32 @@ module _ (objects : List (List ℕ × ℕ)) (P : ℕ → Type 0) where
       go true e here rest = let same : k ≡ n = (Decides-eqb k n).0 e in subst P same (of_object objects entry.name k all here)
       go false e here rest = rest (rw e at among)
 
-labels_there : (spec : Spec) (policy : Policy) (labels : List ℕ) → map (λ n. Some n) labels ≡ map (λ entry. object_label policy.objects entry.name) spec.entries → length labels ≡ length spec.entries
+labels_there : (spec : Spec) (policy : Policy) (labels : List ℕ)
+    → map (λ n. Some n) labels ≡ map (λ entry. object_label policy.objects entry.name) spec.entries
+    → length labels ≡ length spec.entries
 labels_there spec policy labels is =
-    sym (length-map labels (λ (n : ℕ). Some n)) ∙ ap (λ (xs : List (Option ℕ)). length xs) is ∙ length-map spec.entries (λ (entry : Entry). object_label policy.objects entry.name)
+    sym (length-map labels (λ (n : ℕ). Some n)) ∙ ap (λ (xs : List (Option ℕ)). length xs) is ∙ length-map spec.entries
+    (λ (entry : Entry). object_label policy.objects entry.name)
 
 -- ---- certificates of a system and a policy, as their texts say
 
-module _ (cdl text : List ℕ) (spec : Spec) (allowed : Policy) (labels : Labels) (system : capdl.Text cdl spec) (read : IsPolicyText text allowed) (labelled : IsLabelling spec allowed (Ok labels))
+module _ (cdl text : List ℕ) (spec : Spec) (allowed : Policy) (labels : Labels) (system : capdl.Text cdl spec)
+    (read : IsPolicyText text allowed) (labelled : IsLabelling spec allowed (Ok labels))
     (edges : List Edge) (certificate : IsCertificate spec labels.by_object edges) where
   abbrev IsFine : ℕ → Type 0
   IsFine n = (is_some (label_name allowed.labels n) ≡ true) × (n < 8192)
 
   fine : (n : ℕ) → is_among labels.by_object n ≡ true → IsFine n
   fine n among = (
-    of_label allowed.objects (λ n. is_some (label_name allowed.labels n) ≡ true) labels.by_object spec.entries n (text_kept text allowed read).labelled labelled among,
+    of_label allowed.objects (λ n. is_some (label_name allowed.labels n) ≡ true) labels.by_object spec.entries n
+        (text_kept text allowed read).labelled labelled among,
     of_label allowed.objects (λ n. n < 8192) labels.by_object spec.entries n (labels_below text allowed read) labelled among,
   )
 
   ends : (e : Edge) → has edges e ≡ true → IsFine e.from × IsFine e.to
   ends e h =
-      let among = least_ends spec labels.by_object (kept_text cdl spec system) (labels_there spec allowed labels.by_object labelled) edges certificate.least e.from e.authority e.to h in
+      let among = least_ends spec labels.by_object (kept_text cdl spec system) (labels_there spec allowed labels.by_object
+      labelled) edges certificate.least e.from e.authority e.to h in
       (fine e.from among.0, fine e.to among.1)
 
   pub writable : IsWritableCert allowed edges
@@ -97,7 +106,8 @@ module _ (cdl text : List ℕ) (spec : Spec) (allowed : Policy) (labels : Labels
       from = all_edges (λ e. is_some (label_name allowed.labels e.from) ≡ true) edges (λ e h. (ends e h).0.0);
       to = all_edges (λ e. is_some (label_name allowed.labels e.to) ≡ true) edges (λ e h. (ends e h).1.0);
     };
-    small = all_edges (λ e. (e.from < 2 ^ 32) × (e.to < 2 ^ 32)) edges (λ e h. let f = (ends e h).0.1 in let t = (ends e h).1.1 in (omega (arith, f), omega (arith, t)));
+    small = all_edges (λ e. (e.from < 2 ^ 32) × (e.to < 2 ^ 32)) edges (λ e h. let f = (ends e h).0.1 in let t = (ends e h).1.1 in
+        (omega (arith, f), omega (arith, t)));
     order = certificate.sorted;
     edges = certificate.few;
     bytes = short;
@@ -116,9 +126,12 @@ module _ (cdl text : List ℕ) (spec : Spec) (allowed : Policy) (labels : Labels
 
 module _ (m : Contents) (old new later last : List ℕ → ℕ) (cdl policy : List ℕ) (edges : List Edge) where
   -- what certify answers, told of the system, the policy and the labels that are read in other calls
-  certificate_of : (spec : Spec) (allowed : Policy) (labels : Labels) → IsCertified m old new cdl policy (Ok (Certified edges)) → IsSystem m later last cdl (Ok spec) → IsPolicy m later last policy (Ok allowed)
+  certificate_of : (spec : Spec) (allowed : Policy) (labels : Labels) → IsCertified m old new cdl policy (Ok (Certified edges))
+      → IsSystem m later last cdl (Ok spec) → IsPolicy m later last policy (Ok allowed)
       → IsLabelling spec allowed (Ok labels) → IsCertificate spec labels.by_object edges
-  certificate_of spec allowed labels (inl (spec0, system0, inl (allowed0, policy0, inl (labels0, labelled0, (cert, is, certificate))))) system read labelled = go specs policies labelled0 certificate
+  certificate_of spec allowed labels
+      (inl (spec0, system0, inl (allowed0, policy0, inl (labels0, labelled0, (cert, is, certificate))))) system read labelled =
+      go specs policies labelled0 certificate
     where
       specs : spec0 ≡ spec
       specs = let same = system_one m old new later last cdl (Ok spec0) (Ok spec) tt tt system0 system in cc
@@ -129,29 +142,41 @@ module _ (m : Contents) (old new later last : List ℕ → ℕ) (cdl policy : Li
       edges_same : cert ≡ edges
       edges_same = let h = is in cc
 
-      go : spec0 ≡ spec → allowed0 ≡ allowed → IsLabelling spec0 allowed0 (Ok labels0) → IsCertificate spec0 labels0.by_object cert → IsCertificate spec labels.by_object edges
+      go : spec0 ≡ spec → allowed0 ≡ allowed → IsLabelling spec0 allowed0 (Ok labels0)
+          → IsCertificate spec0 labels0.by_object cert → IsCertificate spec labels.by_object edges
       go s p given is =
-          let mine : IsLabelling spec allowed (Ok labels0) = subst (λ z. IsLabelling z allowed (Ok labels0)) s (subst (λ z. IsLabelling spec0 z (Ok labels0)) p given) in
+          let mine : IsLabelling spec allowed (Ok labels0) = subst (λ z. IsLabelling z allowed (Ok labels0)) s
+          (subst (λ z. IsLabelling spec0 z (Ok labels0)) p given) in
           let one = labelled_one m old new later last spec allowed policy (Ok labels0) (Ok labels) tt tt mine labelled in
           let labels_same : labels0 ≡ labels = cc in
-          subst (λ z. IsCertificate z labels.by_object edges) s (subst (λ (z : Labels). IsCertificate spec0 z.by_object edges) labels_same (subst (λ z. IsCertificate spec0 labels0.by_object z) edges_same is))
-  certificate_of spec allowed labels (inl (spec0, system0, inl (allowed0, policy0, inr (e, told, is)))) system read labelled = absurd cc
+          subst (λ z. IsCertificate z labels.by_object edges) s (subst (λ (z : Labels). IsCertificate spec0 z.by_object edges)
+          labels_same (subst (λ z. IsCertificate spec0 labels0.by_object z) edges_same is))
+  certificate_of spec allowed labels (inl (spec0, system0, inl (allowed0, policy0, inr (e, told, is)))) system read
+      labelled = absurd cc
   certificate_of spec allowed labels (inl (spec0, system0, inr (e, told, is))) system read labelled = absurd cc
   certificate_of spec allowed labels (inr (e, told, is)) system read labelled = absurd cc
 
   -- and of its policy alone
-  some_system : (allowed : Policy) → IsCertified m old new cdl policy (Ok (Certified edges)) → IsPolicy m later last policy (Ok allowed)
-      → (spec : Spec) × (labels : Labels) × IsSystem m old new cdl (Ok spec) × IsLabelling spec allowed (Ok labels) × IsCertificate spec labels.by_object edges
+  some_system : (allowed : Policy) → IsCertified m old new cdl policy (Ok (Certified edges))
+      → IsPolicy m later last policy (Ok allowed)
+      → (spec : Spec) × (labels : Labels) × IsSystem m old new cdl (Ok spec) × IsLabelling spec allowed (Ok labels)
+      × IsCertificate spec labels.by_object edges
   some_system allowed (inl (spec0, system0, inl (allowed0, policy0, inl (labels0, labelled0, (cert, is, certificate))))) read =
       let same = policy_one m old new later last policy (Ok allowed0) (Ok allowed) tt tt policy0 read in
       let policies : allowed0 ≡ allowed = cc in
-      let edges_same : cert ≡ edges = cc in
-      (spec0, labels0, system0, subst (λ z. IsLabelling spec0 z (Ok labels0)) policies labelled0, subst (λ z. IsCertificate spec0 labels0.by_object z) edges_same certificate)
+      let edges_same : cert ≡ edges = cc in (
+        spec0,
+        labels0,
+        system0,
+        subst (λ z. IsLabelling spec0 z (Ok labels0)) policies labelled0,
+        subst (λ z. IsCertificate spec0 labels0.by_object z) edges_same certificate,
+      )
   some_system allowed (inl (spec0, system0, inl (allowed0, policy0, inr (e, told, is)))) read = absurd cc
   some_system allowed (inl (spec0, system0, inr (e, told, is))) read = absurd cc
   some_system allowed (inr (e, told, is)) read = absurd cc
 
-  pub certificate_back : (cert : List ℕ) (allowed : Policy) → IsCertified m old new cdl policy (Ok (Certified edges)) → IsPolicy m later last policy (Ok allowed) → Holds m cert (cert_text edges)
+  pub certificate_back : (cert : List ℕ) (allowed : Policy) → IsCertified m old new cdl policy (Ok (Certified edges))
+      → IsPolicy m later last policy (Ok allowed) → Holds m cert (cert_text edges)
       → IsCert m later last allowed cert (Ok edges)
   certificate_back cert allowed certified read held =
       let s = some_system allowed certified read in
@@ -163,10 +188,34 @@ module _ (m : Contents) (old new later last : List ℕ → ℕ) (cdl policy : Li
         text_back system.0 text.0 s.0 allowed s.1 system.1 text.1 s.3 edges s.4,
       )
 
-  pub certificate_decides : (cert other : List ℕ) (labels : names.Labels) → IsCertified m old new cdl policy (Ok (Certified edges)) → Holds m cert (cert_text edges)
-      → IsChecked m later last cdl policy other (Ok (Checked Yes labels)) → IsChecked m later last cdl policy cert (Ok (Checked Yes labels))
-  certificate_decides cert other labels certified held (inl (spec, system, inl (allowed, read, inl (others, given, inl (numbers, labelled, (verdict, is, judged)))))) =
-      inl (spec, system, inl (allowed, read, inl (edges, certificate_back cert allowed certified read held, inl (numbers, labelled, (Yes, names_same, least_valid spec numbers.by_object edges least.least allowed.edges others valid)))))
+  pub certificate_decides : (cert other : List ℕ) (labels : names.Labels)
+      → IsCertified m old new cdl policy (Ok (Certified edges)) → Holds m cert (cert_text edges)
+      → IsChecked m later last cdl policy other (Ok (Checked Yes labels))
+      → IsChecked m later last cdl policy cert (Ok (Checked Yes labels))
+  certificate_decides cert other labels certified held
+      (inl (spec, system, inl (allowed, read, inl (others, given, inl (numbers, labelled, (verdict, is, judged)))))) =
+      inl (
+        spec,
+        system,
+        inl (
+          allowed,
+          read,
+          inl (
+            edges,
+            certificate_back cert allowed certified read held,
+            inl (
+              numbers,
+              labelled,
+              (
+                Yes,
+                names_same,
+                least_valid spec numbers.by_object edges least.least allowed.edges
+                    others valid,
+              ),
+            ),
+          ),
+        ),
+      )
     where
       least : IsCertificate spec numbers.by_object edges
       least = certificate_of spec allowed numbers certified system read labelled
@@ -179,7 +228,8 @@ module _ (m : Contents) (old new later last : List ℕ → ℕ) (cdl policy : Li
 
       valid : Valid spec numbers.by_object allowed.edges others
       valid = subst (λ v. Judged spec numbers.by_object allowed.edges others v) yes judged
-  certificate_decides cert other labels certified held (inl (spec, system, inl (allowed, read, inl (others, given, inr (e, told, is))))) = absurd cc
+  certificate_decides cert other labels certified held
+      (inl (spec, system, inl (allowed, read, inl (others, given, inr (e, told, is))))) = absurd cc
   certificate_decides cert other labels certified held (inl (spec, system, inl (allowed, read, inr (e, told, is)))) = absurd cc
   certificate_decides cert other labels certified held (inl (spec, system, inr (e, told, is))) = absurd cc
   certificate_decides cert other labels certified held (inr (e, told, is)) = absurd cc

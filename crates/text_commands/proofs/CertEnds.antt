@@ -41,7 +41,8 @@ is_among labels l = list_any (λ n. n == l) labels
 
 index_among : (labels : List ℕ) (k : ℕ) → k < length labels → is_among labels (slice_index labels k) ≡ true
 index_among [] k less = let no : k < 0 = less in absurd (omega (arith, no))
-index_among (n ∷ labels) zero less = let same : (n == n) ≡ true = grind (arith, nat_tests) in ap (λ b. b || is_among labels n) same
+index_among (n ∷ labels) zero less = let same : (n == n) ≡ true = grind (arith, nat_tests) in
+    ap (λ b. b || is_among labels n) same
 index_among (n ∷ labels) (suc k) less = go (n == slice_index labels k) (index_among labels k (omega (arith, less)))
   where
     go : (b : Bool) → is_among labels (slice_index labels k) ≡ true → (b || is_among labels (slice_index labels k)) ≡ true
@@ -49,7 +50,8 @@ index_among (n ∷ labels) (suc k) less = go (n == slice_index labels k) (index_
     go false h = h
 
 none_there : (i : ℕ) (content : Content) (node : Node) → node ≡ no_node → Contains node.slots (i, content) → ⊥
-none_there i content node none there = let at = contains_at {A = ℕ × Content} [] (i, content) (subst (λ (z : Node). Contains z.slots (i, content)) none there) in let no = at.1 in cc
+none_there i content node none there = let at = contains_at {A = ℕ × Content} [] (i, content)
+    (subst (λ (z : Node). Contains z.slots (i, content)) none there) in let no = at.1 in cc
 
 module _ (spec : Spec) (labels : List ℕ) (kept : IsKept spec) (each : length labels ≡ length spec.entries) where
   abbrev good : ℕ → Bool
@@ -61,7 +63,8 @@ module _ (spec : Spec) (labels : List ℕ) (kept : IsKept spec) (each : length l
   at_object : (o l : ℕ) → o < length spec.entries → l ≡ label_of labels o → good l ≡ true
   at_object o l below is = ap good is ∙ index_among labels o (rw each below)
 
-  of_objects : (c o l m : ℕ) → c < length spec.entries → o < length spec.entries → l ≡ label_of labels c → m ≡ label_of labels o → GoodEnds l m
+  of_objects : (c o l m : ℕ) → c < length spec.entries → o < length spec.entries → l ≡ label_of labels c → m ≡ label_of labels o
+      → GoodEnds l m
   of_objects c o l m from to is be = (at_object c l from is, at_object o m to be)
 
   sound : FitsSpec spec (boot spec)
@@ -72,14 +75,17 @@ module _ (spec : Spec) (labels : List ℕ) (kept : IsKept spec) (each : length l
     where
       go : (node_at (boot spec) c ≡ no_node) ⊎ (is_at spec kinds.CNode c ≡ true) → GoodEnds l m
       go (inl none) = absurd (none_there i (Capability cap) (node_at (boot spec) c) none there)
-      go (inr is) = of_objects c cap.object l m (is_at_below spec kinds.CNode c is) ((sound.nodes c).slots i (Capability cap) there) from to
+      go (inr is) = of_objects c cap.object l m (is_at_below spec kinds.CNode c is) ((sound.nodes c).slots i (Capability cap)
+          there) from to
 
-  buffer_kept : (tcb : Tcb) (cap : Cap) → tcb.buffer ≡ Some cap → if_any (fits_as spec kinds.Frame) tcb.buffer ≡ true → cap.object < length spec.entries
+  buffer_kept : (tcb : Tcb) (cap : Cap) → tcb.buffer ≡ Some cap → if_any (fits_as spec kinds.Frame) tcb.buffer ≡ true
+      → cap.object < length spec.entries
   buffer_kept tcb cap is h =
       let test : fits_as spec kinds.Frame cap ≡ true = rw is at h in
       fits_below spec cap (and_parts (is_at spec kinds.Frame cap.object) (fits spec cap) test).1
 
-  buffer_ends : (t : ℕ) (cap : Cap) (here : Option Object) → object_at spec t ≡ here → buffer_of here ≡ Some cap → (t < length spec.entries) × (cap.object < length spec.entries)
+  buffer_ends : (t : ℕ) (cap : Cap) (here : Option Object) → object_at spec t ≡ here → buffer_of here ≡ Some cap
+      → (t < length spec.entries) × (cap.object < length spec.entries)
   buffer_ends t cap (Some (objects.Thread tcb)) e is =
       let keeps = object_kept spec t (objects.Thread tcb) kept e in
       let halves = and_parts _ _ keeps in
@@ -93,7 +99,8 @@ module _ (spec : Spec) (labels : List ℕ) (kept : IsKept spec) (each : length l
   buffer_ends t cap (Some (objects.Pages level slots)) e is = absurd cc
   buffer_ends t cap (Some (objects.Irq notification)) e is = absurd cc
 
-  slot_below : (level : Level) (o : Option ℕ) (slots : List (ℕ × Cap)) (i : ℕ) (cap : Cap) → keeps_table spec level o slots ≡ true → Contains slots (i, cap) → cap.object < length spec.entries
+  slot_below : (level : Level) (o : Option ℕ) (slots : List (ℕ × Cap)) (i : ℕ) (cap : Cap) → keeps_table spec level o slots ≡ true
+      → Contains slots (i, cap) → cap.object < length spec.entries
   slot_below level None slots i cap h there = absurd cc
   slot_below level (Some n) slots i cap h there =
       let at = contains_at slots (i, cap) there in
@@ -103,9 +110,13 @@ module _ (spec : Spec) (labels : List ℕ) (kept : IsKept spec) (each : length l
   nothing_in : (i : ℕ) (cap : Cap) → Contains {X = ℕ × Cap} [] (i, cap) → ⊥
   nothing_in i cap there = let at = contains_at {A = ℕ × Cap} [] (i, cap) there in let no = at.1 in cc
 
-  table_ends : (p i : ℕ) (cap : Cap) (here : Option Object) → object_at spec p ≡ here → Contains (table_of here) (i, cap) → (p < length spec.entries) × (cap.object < length spec.entries)
-  table_ends p i cap (Some (objects.Pages level slots)) e there =
-      (object_below spec p (objects.Pages level slots) e, slot_below level (size spec.arch level) slots i cap (object_kept spec p (objects.Pages level slots) kept e) there)
+  table_ends : (p i : ℕ) (cap : Cap) (here : Option Object) → object_at spec p ≡ here → Contains (table_of here) (i, cap)
+      → (p < length spec.entries) × (cap.object < length spec.entries)
+  table_ends p i cap (Some (objects.Pages level slots)) e there = (
+    object_below spec p (objects.Pages level slots) e,
+    slot_below level (size spec.arch level) slots i cap
+        (object_kept spec p (objects.Pages level slots) kept e) there,
+  )
   table_ends p i cap None e there = absurd (nothing_in i cap there)
   table_ends p i cap (Some objects.Endpoint) e there = absurd (nothing_in i cap there)
   table_ends p i cap (Some objects.Notification) e there = absurd (nothing_in i cap there)
@@ -115,7 +126,8 @@ module _ (spec : Spec) (labels : List ℕ) (kept : IsKept spec) (each : length l
   table_ends p i cap (Some (objects.Irq notification)) e there = absurd (nothing_in i cap there)
 
   -- a thread that has something is one
-  thread_below : {A : Type 0} (t : ℕ) (part : ThreadState → Option A) (x : A) → part no_thread ≡ None → part (thread_at (boot spec) t) ≡ Some x → t < length spec.entries
+  thread_below : {A : Type 0} (t : ℕ) (part : ThreadState → Option A) (x : A) → part no_thread ≡ None
+      → part (thread_at (boot spec) t) ≡ Some x → t < length spec.entries
   thread_below t part x nothing some = go (sound.threads t).kind
     where
       go : (thread_at (boot spec) t ≡ no_thread) ⊎ (is_at spec kinds.Thread t ≡ true) → t < length spec.entries
@@ -130,24 +142,29 @@ module _ (spec : Spec) (labels : List ℕ) (kept : IsKept spec) (each : length l
       let ends = table_ends p i cap (object_at spec p) refl there in
       of_objects p cap.object l m ends.0 ends.1 from to
   structural_ends l a m (Structural.of_root (t, d, is, control, from, to)) =
-      of_objects t d l m (thread_below t (λ z. z.root) d refl is) (is_at_below spec kinds.CNode d ((sound.threads t).root d is)) from to
+      of_objects t d l m (thread_below t (λ z. z.root) d refl is) (is_at_below spec kinds.CNode d ((sound.threads t).root d is))
+      from to
   structural_ends l a m (Structural.of_space (t, d, is, control, from, to)) =
       of_objects t d l m (thread_below t (λ z. z.space) d refl is) (root_below spec d ((sound.threads t).space d is)) from to
   structural_ends l a m (Structural.of_reply (t, pending, is, reply, from, to)) =
-      of_objects t pending.caller l m (thread_below t (λ z. z.pending) pending refl is) (is_at_below spec kinds.Thread pending.caller ((sound.threads t).pending pending is).thread) from to
+      of_objects t pending.caller l m (thread_below t (λ z. z.pending) pending refl is)
+      (is_at_below spec kinds.Thread pending.caller ((sound.threads t).pending pending is).thread) from to
   structural_ends l a m (Structural.of_saved (c, i, saved, there, reply, from, to)) = go (sound.nodes c).kind
     where
       go : (node_at (boot spec) c ≡ no_node) ⊎ (is_at spec kinds.CNode c ≡ true) → GoodEnds l m
       go (inl none) = absurd (none_there i (SavedReply saved) (node_at (boot spec) c) none there)
-      go (inr is) = of_objects c saved.caller l m (is_at_below spec kinds.CNode c is) (is_at_below spec kinds.Thread saved.caller ((sound.nodes c).slots i (SavedReply saved) there).thread) from to
+      go (inr is) = of_objects c saved.caller l m (is_at_below spec kinds.CNode c is) (is_at_below spec kinds.Thread saved.caller
+          ((sound.nodes c).slots i (SavedReply saved) there).thread) from to
   structural_ends l a m (Structural.of_mapped (added, there, conferred, from, to)) =
       let fit = sound.mapped added there in
-      of_objects added.space added.frame l m (root_below spec added.space fit.space) (is_at_below spec kinds.Frame added.frame fit.frame) from to
+      of_objects added.space added.frame l m (root_below spec added.space fit.space) (is_at_below spec kinds.Frame added.frame
+      fit.frame) from to
   structural_ends l a m (Structural.of_irq (d, n, is, sends, from, to)) = go (sound.irqs d).kind
     where
       go : (irq_at (boot spec) d ≡ None) ⊎ (is_at spec kinds.Irq d ≡ true) → GoodEnds l m
       go (inl none) = absurd cc
-      go (inr irq) = of_objects d n l m (is_at_below spec kinds.Irq d irq) (is_at_below spec kinds.Notification n ((sound.irqs d).notification n is)) from to
+      go (inr irq) = of_objects d n l m (is_at_below spec kinds.Irq d irq)
+          (is_at_below spec kinds.Notification n ((sound.irqs d).notification n is)) from to
 
   -- ---- the edges that go between labels of objects keep the rules too
 
@@ -176,7 +193,8 @@ module _ (spec : Spec) (labels : List ℕ) (kept : IsKept spec) (each : length l
     inside_keeps : KeepsRules spec labels (Has inside)
     inside_keeps = record {
       boot_held = λ l a m held. let ends = held_ends l a m held in whole l a m ends.0 ends.1 (rules.boot_held l a m held);
-      boot_structural = λ l a m structural differ. let ends = structural_ends l a m structural in whole l a m ends.0 ends.1 (rules.boot_structural l a m structural differ);
+      boot_structural = λ l a m structural differ. let ends = structural_ends l a m structural in
+          whole l a m ends.0 ends.1 (rules.boot_structural l a m structural differ);
       control_out = λ l m a x c differ h.
           let p = parts l Control m c in
           let q = parts l a x h in

@@ -16,17 +16,23 @@ use Rattle.cam_base.proofs.Options.{neither}
 below : (before : ℕ) (b : Bool) → nat_lt before 100000 ≡ b → b ≡ true → before < 100000
 below before b e is = grind (arith, nat_tests)
 
-few_after : (place : List ℕ → Option ℕ) (before : ℕ) (lines : List Line) → before ≤ 100000 → first_fault_of place before lines ≡ None
+few_after : (place : List ℕ → Option ℕ) (before : ℕ) (lines : List Line) → before ≤ 100000
+    → first_fault_of place before lines ≡ None
     → before + length (filter_map (step_of place) lines) ≤ 100000
 few_after place before [] l none = omega arith
 few_after place before (line ∷ more) l none =
     let both = neither (fault_of place before line) (first_fault_of place (before + 1) more) none in
-    go (spelled place (fields line.text)) refl (nat_lt before 100000) refl both.0 (λ less. few_after place (before + 1) more less both.1)
+    go (spelled place (fields line.text)) refl (nat_lt before 100000) refl both.0
+    (λ less. few_after place (before + 1) more less both.1)
   where
-    go : (step : Option Step) → spelled place (fields line.text) ≡ step → (b : Bool) → nat_lt before 100000 ≡ b → fault_of place before line ≡ None
-        → (before + 1 ≤ 100000 → before + 1 + length (filter_map (step_of place) more) ≤ 100000) → before + length (filter_map (step_of place) (line ∷ more)) ≤ 100000
-    go None e b t here others = let stands : fault_of place before line ≡ Some (at_line line (misspelled place (fields line.text))) = rw e refl in absurd cc
-    go (Some step) e false t here others = let stands : fault_of place before line ≡ Some (at_line line (StepLimit, [])) = rw (e, t) refl in absurd cc
+    go : (step : Option Step) → spelled place (fields line.text) ≡ step → (b : Bool) → nat_lt before 100000 ≡ b
+        → fault_of place before line ≡ None
+        → (before + 1 ≤ 100000 → before + 1 + length (filter_map (step_of place) more) ≤ 100000)
+        → before + length (filter_map (step_of place) (line ∷ more)) ≤ 100000
+    go None e b t here others = let stands : fault_of place before line ≡ Some
+        (at_line line (misspelled place (fields line.text))) = rw e refl in absurd cc
+    go (Some step) e false t here others = let stands : fault_of place before line ≡ Some (at_line line (StepLimit, [])) =
+        rw (e, t) refl in absurd cc
     go (Some step) e true t here others =
         let less = below before true t refl in
         let rest = others (omega arith) in
@@ -38,5 +44,6 @@ few_steps spec bytes none = go (nat_lt bytes_limit (length bytes)) refl
     go : (long : Bool) → nat_lt bytes_limit (length bytes) ≡ long → length (steps_of spec bytes) ≤ 100000
     go true e = let is = rw e at none in absurd cc
     go false e =
-        let few : 0 + length (steps_of spec bytes) ≤ 100000 = few_after (thread_named spec) 0 (lines bytes) (omega arith) (rw e at none) in
+        let few : 0 + length (steps_of spec bytes) ≤ 100000 = few_after (thread_named spec) 0 (lines bytes) (omega arith)
+        (rw e at none) in
         omega arith

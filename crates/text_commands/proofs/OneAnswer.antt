@@ -44,9 +44,15 @@ use Rattle.text_commands.proofs.OneVerdict.{verdict_one}
 -- ---- what is read of bytes
 
 spec_reads : (bytes : List ℕ) → ReadsOne (capdl.IsRead bytes)
-spec_reads bytes = record { value = one_spec bytes; fault = one_first_fault bytes; either = λ x e h k. apart x e h (read_text bytes x (Err (refused.Fault e)) k h) }
+spec_reads bytes = record {
+  value = one_spec bytes;
+  fault = one_first_fault bytes;
+  either = λ x e h k. apart x e h (read_text bytes x (Err (refused.Fault e)) k h);
+}
   where
-    apart : (x : Spec) (e : TextFault) → capdl.Text bytes x → (◌≡◌ {A = Result Spec (Refused TextFault)} (Err (refused.Fault e)) (Ok x)) ⊎ (◌≡◌ {A = Result Spec (Refused TextFault)} (Err (refused.Fault e)) (Err refused.NoMemory)) → ⊥
+    apart : (x : Spec) (e : TextFault) → capdl.Text bytes x
+        → (◌≡◌ {A = Result Spec (Refused TextFault)} (Err (refused.Fault e)) (Ok x))
+        ⊎ (◌≡◌ {A = Result Spec (Refused TextFault)} (Err (refused.Fault e)) (Err refused.NoMemory)) → ⊥
     apart x e h (inl is) = cc
     apart x e h (inr is) = cc
 
@@ -65,7 +71,11 @@ cert_reads policy bytes = record {
 }
 
 pub step_reads : (spec : Spec) (bytes : List ℕ) → ReadsOne (steps.IsRead spec bytes)
-step_reads spec bytes = record { value = λ x y h k. h.1 ∙ sym k.1; fault = λ d e h k. cc; either = λ x e h k. let none = h.0 in cc }
+step_reads spec bytes = record {
+  value = λ x y h k. h.1 ∙ sym k.1;
+  fault = λ d e h k. cc;
+  either = λ x e h k. let none = h.0 in cc;
+}
 
 region_reads : (bytes : List ℕ) → ReadsOne (untypeds.IsRead bytes)
 region_reads bytes = record { value = λ x y h k. h.1 ∙ sym k.1; fault = λ d e h k. cc; either = λ x e h k. let none = h.0 in cc }
@@ -92,13 +102,15 @@ somes_one (x ∷ xs) (y ∷ ys) e =
     cc
 
 labels_one : (x y : Labels) → x.by_object ≡ y.by_object → x ≡ y
-labels_one x y e = let same : ◌≡◌ {A = Labels} (record { by_object = x.by_object }) (record { by_object = y.by_object }) = rw e refl in same
+labels_one x y e = let same : ◌≡◌ {A = Labels} (record { by_object = x.by_object }) (record { by_object = y.by_object }) =
+    rw e refl in same
 
 module _ (spec : Spec) (policy : Policy) where
   abbrev label_or_none : Entry → Option ℕ
   label_or_none entry = object_label policy.objects entry.name
 
-  all_labelled : (labels : List ℕ) (entries : List Entry) → map (λ n. Some n) labels ≡ map label_or_none entries → find (λ entry. is_none (label_or_none entry)) entries ≡ None
+  all_labelled : (labels : List ℕ) (entries : List Entry) → map (λ n. Some n) labels ≡ map label_or_none entries
+      → find (λ entry. is_none (label_or_none entry)) entries ≡ None
   all_labelled [] [] e = refl
   all_labelled [] (entry ∷ entries) e = absurd cc
   all_labelled (n ∷ labels) [] e = absurd cc
@@ -111,7 +123,8 @@ module _ (spec : Spec) (policy : Policy) where
   label_reads = record {
     value = λ x y h k. labels_one x y (somes_one x.by_object y.by_object (h ∙ sym k));
     fault = λ d e h k. cc;
-    either = λ x e h k. let none = all_labelled x.by_object spec.entries h in let told : option_map unlabelled (find (λ entry. is_none (label_or_none entry)) spec.entries) ≡ Some e = k in cc;
+    either = λ x e h k. let none = all_labelled x.by_object spec.entries h in
+        let told : option_map unlabelled (find (λ entry. is_none (label_or_none entry)) spec.entries) ≡ Some e = k in cc;
   }
 
 -- ---- the commands
@@ -123,16 +136,19 @@ module _ (m : Contents) (old new later last : List ℕ → ℕ) where
   pub policy_one : (policy : List ℕ) → AreOne (IsPolicy m old new policy) (IsPolicy m later last policy)
   policy_one policy = turn_one m old new later last policy tell_text IsPolicyRead policy_reads
 
-  pub labelled_one : (spec : Spec) (allowed : Policy) (policy : List ℕ) → AreOne (IsTold tell_text policy (IsLabelling spec allowed)) (IsTold tell_text policy (IsLabelling spec allowed))
+  pub labelled_one : (spec : Spec) (allowed : Policy) (policy : List ℕ)
+      → AreOne (IsTold tell_text policy (IsLabelling spec allowed)) (IsTold tell_text policy (IsLabelling spec allowed))
   labelled_one spec allowed policy = told_one tell_text policy (IsLabelling spec allowed) (label_reads spec allowed)
 
-  pub checked_one : (cdl policy cert : List ℕ) → AreOne (IsChecked m old new cdl policy cert) (IsChecked m later last cdl policy cert)
+  pub checked_one : (cdl policy cert : List ℕ)
+      → AreOne (IsChecked m old new cdl policy cert) (IsChecked m later last cdl policy cert)
   checked_one cdl policy cert =
       then_one _ _ _ _ (system_one cdl) (λ spec.
       then_one _ _ _ _ (policy_one policy) (λ allowed.
       then_one _ _ _ _ (turn_one m old new later last cert tell_text (IsCertRead allowed) (cert_reads allowed)) (λ edges.
       then_one _ _ _ _ (labelled_one spec allowed policy) (λ labels.
-      answers_one (λ outcome. (verdict : Verdict) × (outcome ≡ Checked verdict allowed.labels) × Judged spec labels.by_object allowed.edges edges verdict) (λ x y h k.
+      answers_one (λ outcome. (verdict : Verdict) × (outcome ≡ Checked verdict allowed.labels) × Judged spec labels.by_object
+      allowed.edges edges verdict) (λ x y h k.
       let same : h.0 ≡ k.0 = verdict_one spec labels.by_object allowed.edges edges h.0 k.0 h.2 k.2 in
       h.1 ∙ ap (λ z. Checked z allowed.labels) same ∙ sym k.1)))))
 
@@ -142,13 +158,15 @@ module _ (m : Contents) (old new later last : List ℕ → ℕ) where
       then_one _ _ _ _ (policy_one policy) (λ allowed.
       then_one _ _ _ _ (turn_one m old new later last text tell_text (steps.IsRead spec) (step_reads spec)) (λ list.
       then_one _ _ _ _ (labelled_one spec allowed policy) (λ labels.
-      answers_one (λ outcome. (replayed : Replayed) × (outcome ≡ Ran replayed allowed.labels) × IsReplayed spec labels.by_object list replayed) (λ x y h k.
+      answers_one (λ outcome. (replayed : Replayed) × (outcome ≡ Ran replayed allowed.labels) × IsReplayed spec labels.by_object
+      list replayed) (λ x y h k.
       let same : h.0 ≡ k.0 = replay_one spec labels.by_object list h.0 k.0 h.2 k.2 in
       h.1 ∙ ap (λ z. Ran z allowed.labels) same ∙ sym k.1)))))
 
   pub tabled_one : (file : List ℕ) → AreOne (IsTabled m old new file) (IsTabled m later last file)
   tabled_one file =
-      then_one _ _ _ _ (turn_one m old new later last file tell_elf (elf.IsRead (codes "image")) (image_reads (codes "image"))) (λ image.
+      then_one _ _ _ _ (turn_one m old new later last file tell_elf (elf.IsRead (codes "image")) (image_reads (codes "image")))
+      (λ image.
       answers_one (λ outcome. outcome ≡ Tabled image) (λ x y h k. h ∙ sym k))
 
   pub certified_one : (cdl policy : List ℕ) → AreOne (IsCertified m old new cdl policy) (IsCertified m later last cdl policy)
@@ -171,8 +189,10 @@ module _ (m : Contents) (old new later last : List ℕ → ℕ) where
       then_alike SameButChoice same_error _ _ _ _ (labelled_one spec allowed policy) (λ labels.
       audit_one cdl spec labels.by_object allowed.labels)))
 
-  pub planned_one : (cdl regions : List ℕ) → AreOneButChoice (IsPlanned m old new cdl regions) (IsPlanned m later last cdl regions)
+  pub planned_one : (cdl regions : List ℕ)
+      → AreOneButChoice (IsPlanned m old new cdl regions) (IsPlanned m later last cdl regions)
   planned_one cdl regions =
       then_alike SameButChoice same_error _ _ _ _ (system_one cdl) (λ spec.
-      then_alike SameButChoice same_error _ _ _ _ (turn_one m old new later last regions tell_untyped untypeds.IsRead region_reads) (λ given.
+      then_alike SameButChoice same_error _ _ _ _ (turn_one m old new later last regions tell_untyped untypeds.IsRead
+      region_reads) (λ given.
       plan_one cdl regions spec given))

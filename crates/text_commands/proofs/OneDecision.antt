@@ -46,7 +46,8 @@ module _ (cdl : List ℕ) (spec : Spec) (labels : List ℕ) (names : Labels) whe
       go (inr (same, least)) (inl more) = absurd (let no : ⊥ = omega (arith, same, more) in no)
       go (inr (same, least)) (inr (other, most)) = (same, omega (arith, least, most))
 
-  audit_refusals_one : (q r : AuditRefusal) (p o : InputFault × List ℕ) → tell_audit cdl spec q ≡ Some p → tell_audit cdl spec r ≡ Some o → AuditRefused spec q → AuditRefused spec r → q ≡ r
+  audit_refusals_one : (q r : AuditRefusal) (p o : InputFault × List ℕ) → tell_audit cdl spec q ≡ Some p
+      → tell_audit cdl spec r ≡ Some o → AuditRefused spec q → AuditRefused spec r → q ≡ r
   audit_refusals_one (auditing.HoldsTcb c i) (auditing.HoldsTcb d j) p o s t a b =
       let same = firsts_one c d i j a b in
       let cnodes : c ≡ d = same.0 in
@@ -62,7 +63,8 @@ module _ (cdl : List ℕ) (spec : Spec) (labels : List ℕ) (names : Labels) whe
   audit_refusals_one (auditing.HoldsTcb c i) auditing.NoMemory p o s t a b = absurd cc
   audit_refusals_one (auditing.Limit n k) auditing.NoMemory p o s t a b = absurd cc
 
-  not_auditable : (r : AuditRefusal) (p : InputFault × List ℕ) → tell_audit cdl spec r ≡ Some p → IsAuditable spec → AuditRefused spec r → ⊥
+  not_auditable : (r : AuditRefusal) (p : InputFault × List ℕ) → tell_audit cdl spec r ≡ Some p → IsAuditable spec
+      → AuditRefused spec r → ⊥
   not_auditable (auditing.HoldsTcb c i) p t a b = a.none c i b.cap b.there b.thread
   not_auditable (auditing.Limit n k) p t a (none, cnodes, caps, over) =
       let few = a.few in
@@ -73,18 +75,21 @@ module _ (cdl : List ℕ) (spec : Spec) (labels : List ℕ) (names : Labels) whe
   reports_one : (a b : AuditReport) → HasReport spec labels a → HasReport spec labels b → a.edges ≡ b.edges
   reports_one a b x y =
       one_table a.edges b.edges x.sorted y.sorted (λ e.
-      one_truth (has a.edges e) (has b.edges e) (λ h. (y.shown.reached e.from e.authority e.to).1 ((x.shown.reached e.from e.authority e.to).0 h))
+      one_truth (has a.edges e) (has b.edges e) (λ h. (y.shown.reached e.from e.authority e.to).1
+      ((x.shown.reached e.from e.authority e.to).0 h))
       (λ h. (x.shown.reached e.from e.authority e.to).1 ((y.shown.reached e.from e.authority e.to).0 h)))
 
   pub audit_one : AreOneButChoice (IsAudit cdl spec labels names) (IsAudit cdl spec labels names)
   audit_one =
-      decided_alike (tell_audit cdl spec) (λ outcome. (report : AuditReport) × (outcome ≡ Audited report spec names) × HasReport spec labels report) (AuditRefused spec)
+      decided_alike (tell_audit cdl spec) (λ outcome. (report : AuditReport) × (outcome ≡ Audited report spec names)
+      × HasReport spec labels report) (AuditRefused spec)
       (λ a b. answer_but_choice a ≡ answer_but_choice b) (λ e. refl) (record {
         value = λ x y h k.
             let edges : h.0.edges ≡ k.0.edges = reports_one h.0 k.0 h.2 k.2 in
             let here : x ≡ Audited h.0 spec names = h.1 in
             let there : y ≡ Audited k.0 spec names = k.1 in
-            ap (λ z. answer_but_choice (Ok z)) here ∙ ap (λ z. Ok (Audited (record { edges = z; steps = [] }) spec names)) edges ∙ ap (λ z. answer_but_choice (Ok z)) (sym there);
+            ap (λ z. answer_but_choice (Ok z)) here ∙ ap (λ z. Ok (Audited (record { edges = z; steps = [] }) spec names)) edges
+            ∙ ap (λ z. answer_but_choice (Ok z)) (sym there);
         refusal = audit_refusals_one;
         either = λ x r p t h b. not_auditable r p t h.2.auditable b;
       })
@@ -95,27 +100,32 @@ module _ (cdl : List ℕ) (spec : Spec) (labels : List ℕ) where
   certificates_one : (a b : List Edge) → IsCertificate spec labels a → IsCertificate spec labels b → a ≡ b
   certificates_one a b x y =
       one_table a b x.sorted y.sorted (λ e.
-      one_truth (has a e) (has b e) (λ h. y.least.each e.from e.authority e.to (x.least.only e.from e.authority e.to h)) (λ h. x.least.each e.from e.authority e.to (y.least.only e.from e.authority e.to h)))
+      one_truth (has a e) (has b e) (λ h. y.least.each e.from e.authority e.to (x.least.only e.from e.authority e.to h))
+      (λ h. x.least.each e.from e.authority e.to (y.least.only e.from e.authority e.to h)))
 
   not_more : (cert : List Edge) → IsCertificate spec labels cert → HasMoreThan spec labels 262144 → ⊥
   not_more cert x many =
       let few = x.few in
-      let fewer = no_more many.edges cert many.sorted (λ e h. x.least.each e.from e.authority e.to (many.each e.from e.authority e.to h)) in
+      let fewer = no_more many.edges cert many.sorted
+      (λ e h. x.least.each e.from e.authority e.to (many.each e.from e.authority e.to h)) in
       let more = many.more in
       omega (arith, few, fewer, more)
 
-  close_errors_one : (q r : CloseError) (p o : InputFault × List ℕ) → tell_close cdl q ≡ Some p → tell_close cdl r ≡ Some o → CloseRefused spec labels q → CloseRefused spec labels r → q ≡ r
+  close_errors_one : (q r : CloseError) (p o : InputFault × List ℕ) → tell_close cdl q ≡ Some p → tell_close cdl r ≡ Some o
+      → CloseRefused spec labels q → CloseRefused spec labels r → q ≡ r
   close_errors_one closing.Limit closing.Limit p o s t a b = refl
   close_errors_one closing.Limit closing.NoMemory p o s t a b = absurd cc
   close_errors_one closing.NoMemory r p o s t a b = absurd cc
 
-  not_closed : (cert : List Edge) (r : CloseError) (p : InputFault × List ℕ) → tell_close cdl r ≡ Some p → IsCertificate spec labels cert → CloseRefused spec labels r → ⊥
+  not_closed : (cert : List Edge) (r : CloseError) (p : InputFault × List ℕ) → tell_close cdl r ≡ Some p
+      → IsCertificate spec labels cert → CloseRefused spec labels r → ⊥
   not_closed cert closing.Limit p t x b = not_more cert x b
   not_closed cert closing.NoMemory p t x b = cc
 
   pub certificate_one : AreOne (IsCertificateOf cdl spec labels) (IsCertificateOf cdl spec labels)
   certificate_one =
-      decided_alike (tell_close cdl) (λ outcome. (cert : List Edge) × (outcome ≡ Certified cert) × IsCertificate spec labels cert) (CloseRefused spec labels)
+      decided_alike (tell_close cdl) (λ outcome. (cert : List Edge) × (outcome ≡ Certified cert) × IsCertificate spec labels cert)
+      (CloseRefused spec labels)
       (λ a b. a ≡ b) (λ e. refl) (record {
         value = λ x y h k.
             let certs : h.0 ≡ k.0 = certificates_one h.0 k.0 h.2 k.2 in
@@ -127,19 +137,23 @@ module _ (cdl : List ℕ) (spec : Spec) (labels : List ℕ) where
 -- ---- plans
 
 module _ (cdl untypeds : List ℕ) (spec : Spec) (regions : List Untyped) where
-  rooms_one : (ns : List Need) (bits other need had have has : ℕ) → LacksRoom ns regions bits need have → LacksRoom ns regions other had has → (bits ≡ other) × (need ≡ had) × (have ≡ has)
+  rooms_one : (ns : List Need) (bits other need had have has : ℕ) → LacksRoom ns regions bits need have
+      → LacksRoom ns regions other had has → (bits ≡ other) × (need ≡ had) × (have ≡ has)
   rooms_one ns bits other need had have has a b = go (cases_lt bits other) (cases_lt other bits)
     where
       go : (bits < other) ⊎ (other ≤ bits) → (other < bits) ⊎ (bits ≤ other) → (bits ≡ other) × (need ≡ had) × (have ≡ has)
-      go (inl less) _ = absurd (let most = a.greatest other less in let no : ⊥ = omega (arith, most, b.needs, b.has, b.lacks) in no)
-      go _ (inl less) = absurd (let most = b.greatest bits less in let no : ⊥ = omega (arith, most, a.needs, a.has, a.lacks) in no)
+      go (inl less) _ = absurd (let most = a.greatest other less in let no : ⊥ = omega (arith, most, b.needs, b.has, b.lacks) in
+          no)
+      go _ (inl less) = absurd (let most = b.greatest bits less in let no : ⊥ = omega (arith, most, a.needs, a.has, a.lacks) in
+          no)
       go (inr more) (inr least) =
           let same : bits ≡ other = omega (arith, more, least) in
           let needs : need ≡ had = a.needs ∙ ap (λ z. needed z ns) same ∙ sym b.needs in
           let haves : have ≡ has = a.has ∙ ap (λ z. rooms.had z regions) same ∙ sym b.has in
           (same, needs, haves)
 
-  overlap_first : (ns : List Need) (first second : ℕ) (r : PlanRefusal) (p : InputFault × List ℕ) → tell_plan cdl untypeds spec r ≡ Some p → first_overlap regions ≡ Some (first, second)
+  overlap_first : (ns : List Need) (first second : ℕ) (r : PlanRefusal) (p : InputFault × List ℕ)
+      → tell_plan cdl untypeds spec r ≡ Some p → first_overlap regions ≡ Some (first, second)
       → plans.Refuses ns regions r → planning.Overlap first second ≡ r
   overlap_first ns first second (planning.Overlap other earlier) p t a b =
       let pairs : ◌≡◌ {A = ℕ × ℕ} (first, second) (other, earlier) = cc in
@@ -148,20 +162,26 @@ module _ (cdl untypeds : List ℕ) (spec : Spec) (regions : List Untyped) where
       cc
   overlap_first ns first second (planning.NoDevice frame) p t a b = let none : first_overlap regions ≡ None = b.0 in absurd cc
   overlap_first ns first second (planning.SharedFrame frame) p t a b = let none : first_overlap regions ≡ None = b.0 in absurd cc
-  overlap_first ns first second (planning.NoRoom bits need have) p t a b = let none : first_overlap regions ≡ None = b.0.regions in absurd cc
+  overlap_first ns first second (planning.NoRoom bits need have) p t a b = let none : first_overlap regions ≡ None =
+      b.0.regions in absurd cc
   overlap_first ns first second planning.NoMemory p t a b = absurd cc
 
   abbrev device_first : List Need → PlanRefusal → Type 0
   device_first ns q = device_refusal regions [] 0 ns ≡ Some q
 
-  of_device : (ns : List Need) (q r : PlanRefusal) (p : InputFault × List ℕ) → tell_plan cdl untypeds spec r ≡ Some p → first_overlap regions ≡ None → device_first ns q → plans.Refuses ns regions r → q ≡ r
+  of_device : (ns : List Need) (q r : PlanRefusal) (p : InputFault × List ℕ) → tell_plan cdl untypeds spec r ≡ Some p
+      → first_overlap regions ≡ None → device_first ns q → plans.Refuses ns regions r → q ≡ r
   of_device ns q (planning.Overlap first second) p t none d b = absurd cc
-  of_device ns q (planning.NoDevice frame) p t none d b = let there : device_refusal regions [] 0 ns ≡ Some (planning.NoDevice frame) = b.1 in cc
-  of_device ns q (planning.SharedFrame frame) p t none d b = let there : device_refusal regions [] 0 ns ≡ Some (planning.SharedFrame frame) = b.1 in cc
-  of_device ns q (planning.NoRoom bits need have) p t none d b = let lacks : device_refusal regions [] 0 ns ≡ None = b.0.devices in absurd cc
+  of_device ns q (planning.NoDevice frame) p t none d b = let there : device_refusal regions [] 0 ns ≡ Some
+      (planning.NoDevice frame) = b.1 in cc
+  of_device ns q (planning.SharedFrame frame) p t none d b = let there : device_refusal regions [] 0 ns ≡ Some
+      (planning.SharedFrame frame) = b.1 in cc
+  of_device ns q (planning.NoRoom bits need have) p t none d b = let lacks : device_refusal regions [] 0 ns ≡ None =
+      b.0.devices in absurd cc
   of_device ns q planning.NoMemory p t none d b = absurd cc
 
-  plan_refusals_one : (ns : List Need) (q r : PlanRefusal) (p o : InputFault × List ℕ) → tell_plan cdl untypeds spec q ≡ Some p → tell_plan cdl untypeds spec r ≡ Some o
+  plan_refusals_one : (ns : List Need) (q r : PlanRefusal) (p o : InputFault × List ℕ) → tell_plan cdl untypeds spec q ≡ Some p
+      → tell_plan cdl untypeds spec r ≡ Some o
       → plans.Refuses ns regions q → plans.Refuses ns regions r → q ≡ r
   plan_refusals_one ns (planning.Overlap first second) r p o s t a b = overlap_first ns first second r o t a b
   plan_refusals_one ns (planning.NoDevice frame) r p o s t a b = of_device ns (planning.NoDevice frame) r o t a.0 a.1 b
@@ -172,22 +192,29 @@ module _ (cdl untypeds : List ℕ) (spec : Spec) (regions : List Untyped) where
       let two : need ≡ had = same.1 in
       let three : have ≡ has = same.2 in
       cc
-  plan_refusals_one ns (planning.NoRoom bits need have) (planning.Overlap first second) p o s t a b = let none : first_overlap regions ≡ None = a.0.regions in absurd cc
-  plan_refusals_one ns (planning.NoRoom bits need have) (planning.NoDevice frame) p o s t a b = sym (of_device ns (planning.NoDevice frame) (planning.NoRoom bits need have) p s b.0 b.1 a)
-  plan_refusals_one ns (planning.NoRoom bits need have) (planning.SharedFrame frame) p o s t a b = sym (of_device ns (planning.SharedFrame frame) (planning.NoRoom bits need have) p s b.0 b.1 a)
+  plan_refusals_one ns (planning.NoRoom bits need have) (planning.Overlap first second) p o s t a b =
+      let none : first_overlap regions ≡ None = a.0.regions in absurd cc
+  plan_refusals_one ns (planning.NoRoom bits need have) (planning.NoDevice frame) p o s t a b =
+      sym (of_device ns (planning.NoDevice frame) (planning.NoRoom bits need have) p s b.0 b.1 a)
+  plan_refusals_one ns (planning.NoRoom bits need have) (planning.SharedFrame frame) p o s t a b =
+      sym (of_device ns (planning.SharedFrame frame) (planning.NoRoom bits need have) p s b.0 b.1 a)
   plan_refusals_one ns (planning.NoRoom bits need have) planning.NoMemory p o s t a b = absurd cc
   plan_refusals_one ns planning.NoMemory r p o s t a b = absurd cc
 
-  not_planned : (ns : List Need) (places : List (Option ℕ)) (r : PlanRefusal) (p : InputFault × List ℕ) → tell_plan cdl untypeds spec r ≡ Some p → plans.Places ns regions places → plans.Refuses ns regions r → ⊥
+  not_planned : (ns : List Need) (places : List (Option ℕ)) (r : PlanRefusal) (p : InputFault × List ℕ)
+      → tell_plan cdl untypeds spec r ≡ Some p → plans.Places ns regions places → plans.Refuses ns regions r → ⊥
   not_planned ns places (planning.Overlap first second) p t a b = let none : first_overlap regions ≡ None = a.free.regions in cc
-  not_planned ns places (planning.NoDevice frame) p t a (none, there) = let lacks : device_refusal regions [] 0 ns ≡ None = a.free.devices in cc
-  not_planned ns places (planning.SharedFrame frame) p t a (none, there) = let lacks : device_refusal regions [] 0 ns ≡ None = a.free.devices in cc
+  not_planned ns places (planning.NoDevice frame) p t a (none, there) = let lacks : device_refusal regions [] 0 ns ≡ None =
+      a.free.devices in cc
+  not_planned ns places (planning.SharedFrame frame) p t a (none, there) = let lacks : device_refusal regions [] 0 ns ≡ None =
+      a.free.devices in cc
   not_planned ns places (planning.NoRoom bits need have) p t a (free, lacks, none) = none places a.placed
   not_planned ns places planning.NoMemory p t a b = cc
 
   pub plan_one : AreOneButChoice (IsPlan cdl untypeds spec regions) (IsPlan cdl untypeds spec regions)
   plan_one =
-      decided_alike (tell_plan cdl untypeds spec) (λ outcome. (plan : BootPlan) × (outcome ≡ Planned plan spec) × plans.IsPlanned spec regions (Ok plan)) (λ refusal. plans.IsPlanned spec regions (Err refusal))
+      decided_alike (tell_plan cdl untypeds spec) (λ outcome. (plan : BootPlan) × (outcome ≡ Planned plan spec)
+      × plans.IsPlanned spec regions (Ok plan)) (λ refusal. plans.IsPlanned spec regions (Err refusal))
       (λ a b. answer_but_choice a ≡ answer_but_choice b) (λ e. refl) (record {
         value = λ x y h k. ap (λ z. answer_but_choice (Ok z)) h.1 ∙ ap (λ z. answer_but_choice (Ok z)) (sym k.1);
         refusal = plan_refusals_one (needs spec);

@@ -25,7 +25,8 @@ module _ (spec : Spec) where
       run_one steps mid a b more (subst (λ z. Run spec z steps b) (sym same) rest)
 
   -- where a run goes on behind some of its steps, the next one was made
-  goes_on : (steps : List Step) (p : ℕ) (s mid end : State) (step : Step) → Run spec s (take p steps) mid → slice_get steps p ≡ Some step → Run spec s steps end
+  goes_on : (steps : List Step) (p : ℕ) (s mid end : State) (step : Step) → Run spec s (take p steps) mid
+      → slice_get steps p ≡ Some step → Run spec s steps end
       → (new : State) × StepTo spec mid step new
   goes_on [] p s mid end step r at q = absurd cc
   goes_on (x ∷ steps) zero s mid end step r at (then, one, rest) =
@@ -36,7 +37,8 @@ module _ (spec : Spec) where
       goes_on steps p one mid end step more at (subst (λ z. Run spec z steps end) (sym same) rest)
 
   -- also where it is a front of the steps
-  goes_on_in : (steps : List Step) (p q : ℕ) (s mid end : State) (step : Step) → p < q → Run spec s (take p steps) mid → slice_get steps p ≡ Some step → Run spec s (take q steps) end
+  goes_on_in : (steps : List Step) (p q : ℕ) (s mid end : State) (step : Step) → p < q → Run spec s (take p steps) mid
+      → slice_get steps p ≡ Some step → Run spec s (take q steps) end
       → (new : State) × StepTo spec mid step new
   goes_on_in steps p zero s mid end step less r at q = let no : ⊥ = omega (arith, less) in absurd no
   goes_on_in [] p (suc q) s mid end step less r at run = absurd cc
@@ -48,15 +50,18 @@ module _ (spec : Spec) where
       let fewer : p < q = omega (arith, less) in
       goes_on_in steps p q one mid end step fewer more at (subst (λ z. Run spec z (take q steps) end) (sym same) rest)
 
-  never : (s : State) (step : Step) (why : Why) → first_failing (checks spec s step) ≡ Some why → ((new : State) × StepTo spec s step new) → ⊥
+  never : (s : State) (step : Step) (why : Why) → first_failing (checks spec s step) ≡ Some why
+      → ((new : State) × StepTo spec s step new) → ⊥
   never s step why refused next = let fine = next_passes spec s step next in absurd cc
 
   module _ (steps : List Step) where
     pub not_done : (end : State) (place : ℕ) (why : Why) → Run spec (boot spec) steps end → StopsAt spec steps place why → ⊥
-    not_done end place why run stop = never stop.state stop.step why stop.refused (goes_on steps place (boot spec) stop.state end stop.step stop.run stop.here run)
+    not_done end place why run stop = never stop.state stop.step why stop.refused (goes_on steps place (boot spec) stop.state end
+        stop.step stop.run stop.here run)
 
     not_later : (p q : ℕ) (why when : Why) → p < q → StopsAt spec steps p why → StopsAt spec steps q when → ⊥
-    not_later p q why when less a b = never a.state a.step why a.refused (goes_on_in steps p q (boot spec) a.state b.state a.step less a.run a.here b.run)
+    not_later p q why when less a b = never a.state a.step why a.refused (goes_on_in steps p q (boot spec) a.state b.state a.step
+        less a.run a.here b.run)
 
     places_one : (p q : ℕ) (why when : Why) → StopsAt spec steps p why → StopsAt spec steps q when → p ≡ q
     places_one p q why when a b = go (cases_lt p q) (cases_lt q p)
@@ -72,7 +77,9 @@ module _ (spec : Spec) where
         let here : slice_get steps p ≡ Some a.step = a.here in
         let there : slice_get steps p ≡ Some b.step = b.here in
         let same : a.step ≡ b.step = cc in
-        let refused : first_failing (checks spec b.state b.step) ≡ Some why = subst (λ z. first_failing (checks spec z b.step) ≡ Some why) states (subst (λ z. first_failing (checks spec a.state z) ≡ Some why) same a.refused) in
+        let refused : first_failing (checks spec b.state b.step) ≡ Some why =
+        subst (λ z. first_failing (checks spec z b.step) ≡ Some why) states
+        (subst (λ z. first_failing (checks spec a.state z) ≡ Some why) same a.refused) in
         let other : first_failing (checks spec b.state b.step) ≡ Some when = b.refused in
         cc
 
@@ -80,14 +87,16 @@ module _ (spec : Spec) where
     edges_one : (s : State) (a b : List Edge) → AreEdgesOf spec labels s a → AreEdgesOf spec labels s b → a ≡ b
     edges_one s a b x y =
         one_table a b x.sorted y.sorted (λ e.
-        one_truth (has a e) (has b e) (λ h. (y.same e.from e.authority e.to).1 ((x.same e.from e.authority e.to).0 h)) (λ h. (x.same e.from e.authority e.to).1 ((y.same e.from e.authority e.to).0 h)))
+        one_truth (has a e) (has b e) (λ h. (y.same e.from e.authority e.to).1 ((x.same e.from e.authority e.to).0 h))
+        (λ h. (x.same e.from e.authority e.to).1 ((y.same e.from e.authority e.to).0 h)))
 
     leads_one : (steps : List Step) (a b : List Edge) → LeadsTo spec labels steps a → LeadsTo spec labels steps b → a ≡ b
     leads_one steps a b x y =
         let same : x.state ≡ y.state = run_one steps (boot spec) x.state y.state x.run y.run in
         edges_one x.state a b x.has (subst (λ z. AreEdgesOf spec labels z b) (sym same) y.has)
 
-    pub replay_one : (steps : List Step) (a b : Replayed) → IsReplayed spec labels steps a → IsReplayed spec labels steps b → a ≡ b
+    pub replay_one : (steps : List Step) (a b : Replayed) → IsReplayed spec labels steps a
+        → IsReplayed spec labels steps b → a ≡ b
     replay_one steps (Done n edges) (Done k others) x y =
         let counts : n ≡ k = x.0 ∙ sym y.0 in
         let same : edges ≡ others = leads_one steps edges others x.1 y.1 in

@@ -10,18 +10,22 @@ use Rattle.text_commands.specs.declared.fault.InputError.{InputError}
 use Rattle.text_commands.specs.declared.fault.InputError.TheVariants.{Fault, ReadFault, NoMemory}
 use Rattle.text_commands.specs.declared.fault.InputFault.{InputFault}
 
-abbrev pub Alike : {B : Type 0} → (Result B InputError → Result B InputError → Type 0) → (Result B InputError → Type 0) → (Result B InputError → Type 0) → Type 0
+abbrev pub Alike : {B : Type 0} → (Result B InputError → Result B InputError → Type 0) → (Result B InputError → Type 0)
+    → (Result B InputError → Type 0) → Type 0
 Alike {B} Same Here There = (a b : Result B InputError) → IsAnswer a → IsAnswer b → Here a → There b → Same a b
 
 -- an answer that is an error, as one of another kind
-error_of : (A : Type 0) {B : Type 0} (r : Result B InputError) (e : InputError) → r ≡ Err e → IsAnswer r → IsAnswer {A = A} (Err e)
+error_of : (A : Type 0) {B : Type 0} (r : Result B InputError) (e : InputError) → r ≡ Err e → IsAnswer r
+    → IsAnswer {A = A} (Err e)
 error_of A r (Fault fault file) is s = tt
 error_of A r (ReadFault file) is s = absurd (subst (λ z. IsAnswer z) is s)
 error_of A r NoMemory is s = absurd (subst (λ z. IsAnswer z) is s)
 
-module _ {A B : Type 0} (Same : Result B InputError → Result B InputError → Type 0) (same_error : (e : InputError) → Same (Err e) (Err e)) where
+module _ {A B : Type 0} (Same : Result B InputError → Result B InputError → Type 0) (same_error : (e : InputError)
+    → Same (Err e) (Err e)) where
   -- one thing first, and what follows it
-  pub then_alike : (first first' : Result A InputError → Type 0) (rest rest' : A → Result B InputError → Type 0) → AreOne first first'
+  pub then_alike : (first first' : Result A InputError → Type 0) (rest rest' : A → Result B InputError → Type 0)
+      → AreOne first first'
       → ((x : A) → Alike Same (rest x) (rest' x)) → Alike Same (Then first rest) (Then first' rest')
   then_alike first first' rest rest' one more a b s t (inl (x, f, r)) (inl (y, g, q)) =
       let e = one (Ok x) (Ok y) tt tt f g in
@@ -38,10 +42,12 @@ module _ {A B : Type 0} (Same : Result B InputError → Result B InputError → 
   then_alike first first' rest rest' one more a b s t (inr (d, f, is)) (inr (e, g, be)) =
       let h = one (Err d) (Err e) (error_of A a d is s) (error_of A b e be t) f g in
       let same : d ≡ e = cc in
-      subst (λ z. Same z b) (sym is) (subst (λ z. Same (Err d) z) (sym be) (subst (λ z. Same (Err d) (Err z)) same (same_error d)))
+      subst (λ z. Same z b) (sym is)
+      (subst (λ z. Same (Err d) z) (sym be) (subst (λ z. Same (Err d) (Err z)) same (same_error d)))
 
 -- what was read comes in another call too, and what follows it
-pub then_goes : {A B : Type 0} (first first' : Result A InputError → Type 0) (rest : A → Result B InputError → Type 0) → AreOne first first' → (x : A) → first (Ok x) → (b : Result B InputError) → IsAnswer b
+pub then_goes : {A B : Type 0} (first first' : Result A InputError → Type 0) (rest : A → Result B InputError → Type 0)
+    → AreOne first first' → (x : A) → first (Ok x) → (b : Result B InputError) → IsAnswer b
     → Then first' rest b → rest x b
 then_goes first first' rest one x f b t (inl (y, g, q)) =
     let e = one (Ok x) (Ok y) tt tt f g in
@@ -52,7 +58,8 @@ then_goes {A = A} first first' rest one x f b t (inr (e, g, is)) =
     let h = one (Ok x) (Err e) tt i f g in
     absurd cc
 
-pub then_one : {A B : Type 0} (first first' : Result A InputError → Type 0) (rest rest' : A → Result B InputError → Type 0) → AreOne first first'
+pub then_one : {A B : Type 0} (first first' : Result A InputError → Type 0) (rest rest' : A → Result B InputError → Type 0)
+    → AreOne first first'
     → ((x : A) → AreOne (rest x) (rest' x)) → AreOne (Then first rest) (Then first' rest')
 then_one first first' rest rest' one more = then_alike (λ a b. a ≡ b) (λ e. refl) first first' rest rest' one more
 
@@ -74,7 +81,8 @@ pub record ReadsOne {A E : Type 0} (reads : Result A (Refused E) → Type 0) : T
   pub fault : (d e : E) → reads (Err (refused.Fault d)) → reads (Err (refused.Fault e)) → d ≡ e
   pub either : (x : A) (e : E) → reads (Ok x) → reads (Err (refused.Fault e)) → ⊥
 
-pub told_one : {A E : Type 0} (tell : E → InputFault) (file : List ℕ) (reads : Result A (Refused E) → Type 0) → ReadsOne reads → AreOne (IsTold tell file reads) (IsTold tell file reads)
+pub told_one : {A E : Type 0} (tell : E → InputFault) (file : List ℕ) (reads : Result A (Refused E) → Type 0) → ReadsOne reads
+    → AreOne (IsTold tell file reads) (IsTold tell file reads)
 told_one tell file reads one (Ok x) (Ok y) s t h k = ap (λ z. Ok z) (one.value x y h k)
 told_one tell file reads one (Ok x) (Err (Fault g l)) s t h k = absurd (one.either x k.1.0 h k.1.1)
 told_one tell file reads one (Err (Fault f l)) (Ok y) s t h k = absurd (one.either y h.1.0 k h.1.1)
@@ -91,7 +99,8 @@ told_one tell file reads one (Err (ReadFault g)) b s t h k = absurd s
 told_one tell file reads one (Err NoMemory) b s t h k = absurd s
 
 -- bytes and a fault of the same file
-apart : (m : Contents) (old new later last : List ℕ → ℕ) (file bytes : List ℕ) (f : InputFault) (name : List ℕ) → IsInput m old new file (Ok bytes) → IsInput m later last file (Err (Fault f name)) → ⊥
+apart : (m : Contents) (old new later last : List ℕ → ℕ) (file bytes : List ℕ) (f : InputFault) (name : List ℕ)
+    → IsInput m old new file (Ok bytes) → IsInput m later last file (Err (Fault f name)) → ⊥
 apart m old new later last file bytes f name h (is, inl (e, none)) =
     let there : contents.get m file ≡ Some bytes = h.1 in
     let lacks : contents.get m file ≡ None = none in
@@ -104,7 +113,8 @@ apart m old new later last file bytes f name h (is, inr (e, (more, there, long))
     omega (arith, few, over)
 
 module _ (m : Contents) (old new later last : List ℕ → ℕ) (file : List ℕ) where
-  faults_one : (f g : InputFault) (name other : List ℕ) → IsInput m old new file (Err (Fault f name)) → IsInput m later last file (Err (Fault g other)) → (name ≡ other) × (f ≡ g)
+  faults_one : (f g : InputFault) (name other : List ℕ) → IsInput m old new file (Err (Fault f name))
+      → IsInput m later last file (Err (Fault g other)) → (name ≡ other) × (f ≡ g)
   faults_one f g name other (is, inl (d, none)) (be, inl (e, lacks)) = (is ∙ sym be, d ∙ sym e)
   faults_one f g name other (is, inl (d, none)) (be, inr (e, (bytes, there, long))) =
       let lacks : contents.get m file ≡ None = none in
@@ -133,38 +143,43 @@ module _ (m : Contents) (old new later last : List ℕ → ℕ) (file : List ℕ
   input_one (Err (ReadFault g)) b s t h k = absurd s
   input_one (Err NoMemory) b s t h k = absurd s
 
-  pub turn_one : {A E : Type 0} (tell : E → InputFault) (reads : List ℕ → Result A (Refused E) → Type 0) → ((bytes : List ℕ) → ReadsOne (reads bytes))
+  pub turn_one : {A E : Type 0} (tell : E → InputFault) (reads : List ℕ → Result A (Refused E) → Type 0)
+      → ((bytes : List ℕ) → ReadsOne (reads bytes))
       → AreOne (Turn m old new tell reads file) (Turn m later last tell reads file)
   turn_one tell reads one =
-      then_one (IsInput m old new file) (IsInput m later last file) (λ bytes. IsTold tell file (reads bytes)) (λ bytes. IsTold tell file (reads bytes)) input_one
+      then_one (IsInput m old new file) (IsInput m later last file) (λ bytes. IsTold tell file (reads bytes))
+      (λ bytes. IsTold tell file (reads bytes)) input_one
       (λ bytes. told_one tell file (reads bytes) (one bytes))
 
 -- ---- what is decided
 
 -- what may be decided is one, by what is seen of it
-pub record DecidesOne {A R : Type 0} (tell : R → Option (InputFault × List ℕ)) (accepts : A → Type 0) (refuses : R → Type 0) (Same : A → A → Type 0) : Type 0 where
+pub record DecidesOne {A R : Type 0} (tell : R → Option (InputFault × List ℕ)) (accepts : A → Type 0) (refuses : R
+    → Type 0) (Same : A → A → Type 0) : Type 0 where
   pub value : (x y : A) → accepts x → accepts y → Same x y
   pub refusal : (q r : R) (p o : InputFault × List ℕ) → tell q ≡ Some p → tell r ≡ Some o → refuses q → refuses r → q ≡ r
   pub either : (x : A) (r : R) (p : InputFault × List ℕ) → tell r ≡ Some p → accepts x → refuses r → ⊥
 
-module _ {A R : Type 0} (tell : R → Option (InputFault × List ℕ)) (accepts : A → Type 0) (refuses : R → Type 0) (Same : Result A InputError → Result A InputError → Type 0)
-    (same_error : (e : InputError) → Same (Err e) (Err e)) (one : DecidesOne tell accepts refuses (λ x y. Same (Ok x) (Ok y))) where
-  pub decided_alike : Alike Same (Decided tell accepts refuses) (Decided tell accepts refuses)
-  decided_alike (Ok x) (Ok y) s t h k = one.value x y h k
-  decided_alike (Ok x) (Err (Fault g n)) s t h k = absurd (one.either x k.0 (g, n) k.2 h k.1)
-  decided_alike (Err (Fault f l)) (Ok y) s t h k = absurd (one.either y h.0 (f, l) h.2 k h.1)
-  decided_alike (Err (Fault f l)) (Err (Fault g n)) s t h k =
-      let same : h.0 ≡ k.0 = one.refusal h.0 k.0 (f, l) (g, n) h.2 k.2 h.1 k.1 in
-      let told : tell h.0 ≡ Some (f, l) = h.2 in
-      let tells : tell k.0 ≡ Some (g, n) = k.2 in
-      let pairs : ◌≡◌ {A = InputFault × List ℕ} (f, l) (g, n) = cc in
-      let faults : f ≡ g = ap (λ (z : InputFault × List ℕ). z.0) pairs in
-      let files : l ≡ n = ap (λ (z : InputFault × List ℕ). z.1) pairs in
-      let e : Fault f l ≡ Fault g n = cc in
-      subst (λ z. Same (Err (Fault f l)) (Err z)) e (same_error (Fault f l))
-  decided_alike (Ok x) (Err (ReadFault g)) s t h k = absurd t
-  decided_alike (Ok x) (Err NoMemory) s t h k = absurd t
-  decided_alike (Err (Fault f l)) (Err (ReadFault g)) s t h k = absurd t
-  decided_alike (Err (Fault f l)) (Err NoMemory) s t h k = absurd t
-  decided_alike (Err (ReadFault g)) b s t h k = absurd s
-  decided_alike (Err NoMemory) b s t h k = absurd s
+module _ {A R : Type 0} (tell : R → Option (InputFault × List ℕ)) (accepts : A → Type 0) (refuses : R
+    → Type 0) (Same : Result A InputError → Result A InputError → Type 0)
+    (same_error : (e : InputError) → Same (Err e) (Err e)) (one : DecidesOne tell accepts refuses (λ x y. Same (Ok x) (Ok y)))
+  where
+    pub decided_alike : Alike Same (Decided tell accepts refuses) (Decided tell accepts refuses)
+    decided_alike (Ok x) (Ok y) s t h k = one.value x y h k
+    decided_alike (Ok x) (Err (Fault g n)) s t h k = absurd (one.either x k.0 (g, n) k.2 h k.1)
+    decided_alike (Err (Fault f l)) (Ok y) s t h k = absurd (one.either y h.0 (f, l) h.2 k h.1)
+    decided_alike (Err (Fault f l)) (Err (Fault g n)) s t h k =
+        let same : h.0 ≡ k.0 = one.refusal h.0 k.0 (f, l) (g, n) h.2 k.2 h.1 k.1 in
+        let told : tell h.0 ≡ Some (f, l) = h.2 in
+        let tells : tell k.0 ≡ Some (g, n) = k.2 in
+        let pairs : ◌≡◌ {A = InputFault × List ℕ} (f, l) (g, n) = cc in
+        let faults : f ≡ g = ap (λ (z : InputFault × List ℕ). z.0) pairs in
+        let files : l ≡ n = ap (λ (z : InputFault × List ℕ). z.1) pairs in
+        let e : Fault f l ≡ Fault g n = cc in
+        subst (λ z. Same (Err (Fault f l)) (Err z)) e (same_error (Fault f l))
+    decided_alike (Ok x) (Err (ReadFault g)) s t h k = absurd t
+    decided_alike (Ok x) (Err NoMemory) s t h k = absurd t
+    decided_alike (Err (Fault f l)) (Err (ReadFault g)) s t h k = absurd t
+    decided_alike (Err (Fault f l)) (Err NoMemory) s t h k = absurd t
+    decided_alike (Err (ReadFault g)) b s t h k = absurd s
+    decided_alike (Err NoMemory) b s t h k = absurd s

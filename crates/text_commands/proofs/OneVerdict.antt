@@ -36,20 +36,24 @@ same_rule rules.GrantBack = refl
 same_rule rules.Bind = refl
 same_rule rules.Policy = refl
 
-alone_one : (P : Edge → Type 0) (have had : List (Option Edge)) (lack lacked : Edge) → LeastAlone P have lack → LeastAlone P had lacked → (have ≡ had) × (lack ≡ lacked)
+alone_one : (P : Edge → Type 0) (have had : List (Option Edge)) (lack lacked : Edge) → LeastAlone P have lack
+    → LeastAlone P had lacked → (have ≡ had) × (lack ≡ lacked)
 alone_one P have had lack lacked a b = (a.1 ∙ sym b.1, at_most_both lack lacked (a.0.1 lacked b.0.0) (b.0.1 lack a.0.0))
 
-pair_one : (P : Violation → Type 0) (have had : List (Option Edge)) (lack lacked : Edge) → LeastPair P have lack → LeastPair P had lacked → (have ≡ had) × (lack ≡ lacked)
+pair_one : (P : Violation → Type 0) (have had : List (Option Edge)) (lack lacked : Edge) → LeastPair P have lack
+    → LeastPair P had lacked → (have ≡ had) × (lack ≡ lacked)
 pair_one P have had lack lacked (v, p, is, e) (w, q, be, f) =
     let there = p.1 w q.0 in
     let back = q.1 v p.0 in
     let first : v.first ≡ w.first = at_most_both v.first w.first there.by_first back.by_first in
     let lacks : v.lack ≡ w.lack = at_most_both v.lack w.lack (there.by_lack first) (back.by_lack (sym first)) in
-    let second : v.second ≡ w.second = at_most_both v.second w.second (there.by_second first lacks) (back.by_second (sym first) (sym lacks)) in
+    let second : v.second ≡ w.second = at_most_both v.second w.second (there.by_second first lacks)
+    (back.by_second (sym first) (sym lacks)) in
     (is ∙ ap (λ z. Some z ∷ Some v.second ∷ []) first ∙ ap (λ z. Some w.first ∷ Some z ∷ []) second ∙ sym be, e ∙ lacks ∙ sym f)
 
 module _ (spec : Spec) (labels : List ℕ) (policy cert : List Edge) where
-  least_one : (rule : Rule) (have had : List (Option Edge)) (lack lacked : Edge) → LeastOf spec labels policy cert rule have lack → LeastOf spec labels policy cert rule had lacked → (have ≡ had) × (lack ≡ lacked)
+  least_one : (rule : Rule) (have had : List (Option Edge)) (lack lacked : Edge) → LeastOf spec labels policy cert rule have lack
+      → LeastOf spec labels policy cert rule had lacked → (have ≡ had) × (lack ≡ lacked)
   least_one rules.BootEdges have had lack lacked a b = alone_one (BreaksBoot spec labels cert) have had lack lacked a b
   least_one rules.Control have had lack lacked a b = pair_one (BreaksControl cert) have had lack lacked a b
   least_one rules.Grant have had lack lacked a b = pair_one (BreaksGrant cert) have had lack lacked a b
@@ -59,7 +63,8 @@ module _ (spec : Spec) (labels : List ℕ) (policy cert : List Edge) where
   least_one rules.Policy have had lack lacked a b = alone_one (BreaksPolicy policy cert) have had lack lacked a b
 
   -- a rule that holds has no violation
-  none_least : (rule : Rule) (have : List (Option Edge)) (lack : Edge) → Holds spec labels policy cert rule → LeastOf spec labels policy cert rule have lack → ⊥
+  none_least : (rule : Rule) (have : List (Option Edge)) (lack : Edge) → Holds spec labels policy cert rule
+      → LeastOf spec labels policy cert rule have lack → ⊥
   none_least rules.BootEdges have lack h l = h lack l.0.0
   none_least rules.Control have lack h l = h l.0 l.1.0
   none_least rules.Grant have lack h l = h l.0 l.1.0
@@ -68,10 +73,13 @@ module _ (spec : Spec) (labels : List ℕ) (policy cert : List Edge) where
   none_least rules.Bind have lack h l = h l.0 l.1.0
   none_least rules.Policy have lack h l = h lack l.0.0
 
-  rules_one : (r q : Rule) (have had : List (Option Edge)) (lack lacked : Edge) → Least spec labels policy cert r have lack → Least spec labels policy cert q had lacked → r ≡ q
-  rules_one r q have had lack lacked a b = go (cases_lt (rule_number r) (rule_number q)) (cases_lt (rule_number q) (rule_number r))
+  rules_one : (r q : Rule) (have had : List (Option Edge)) (lack lacked : Edge) → Least spec labels policy cert r have lack
+      → Least spec labels policy cert q had lacked → r ≡ q
+  rules_one r q have had lack lacked a b = go (cases_lt (rule_number r) (rule_number q))
+      (cases_lt (rule_number q) (rule_number r))
     where
-      go : (rule_number r < rule_number q) ⊎ (rule_number q ≤ rule_number r) → (rule_number q < rule_number r) ⊎ (rule_number r ≤ rule_number q) → r ≡ q
+      go : (rule_number r < rule_number q) ⊎ (rule_number q ≤ rule_number r) → (rule_number q < rule_number r)
+          ⊎ (rule_number r ≤ rule_number q) → r ≡ q
       go (inl less) _ = absurd (none_least r have lack (b.earlier r less) a.least)
       go _ (inl less) = absurd (none_least q had lacked (a.earlier q less) b.least)
       go (inr more) (inr least) =
@@ -84,7 +92,8 @@ module _ (spec : Spec) (labels : List ℕ) (policy cert : List Edge) where
   verdict_one (No number have lack) Yes h k = absurd (h.3 k)
   verdict_one (No number have lack) (No other had lacked) h k =
       let rule : h.0 ≡ k.0 = rules_one h.0 k.0 have had lack lacked h.2 k.2 in
-      let one = least_one k.0 have had lack lacked (subst (λ z. LeastOf spec labels policy cert z have lack) rule h.2.least) k.2.least in
+      let one = least_one k.0 have had lack lacked (subst (λ z. LeastOf spec labels policy cert z have lack) rule
+      h.2.least) k.2.least in
       let n : number ≡ other = h.1 ∙ ap rule_number rule ∙ sym k.1 in
       let haves : have ≡ had = one.0 in
       let lacks : lack ≡ lacked = one.1 in

@@ -9,5 +9,6 @@ use Rattle.cap_machine.specs.declared.step.Why.{Why}
 use Rattle.cap_model.specs.State.{State}
 use Rattle.cap_model.specs.declared.spec.Spec.{Spec}
 
-pub refused_is : (spec : Spec) (s : State) (step : Step) (e : StepError) (why : Why) → e ≡ Illegal why → Refused spec s step e → first_failing (checks spec s step) ≡ Some why
+pub refused_is : (spec : Spec) (s : State) (step : Step) (e : StepError) (why : Why) → e ≡ Illegal why → Refused spec s step e
+    → first_failing (checks spec s step) ≡ Some why
 refused_is spec s step e why is refused = (subst (λ x. Refused spec s step x) is refused).0

@@ -27,18 +27,23 @@ same_text : (name : List ℕ) (image : Image) → table_text image ≡ table_tex
 unfolding table_text
 same_text name image = refl
 
-read_back : (file : ℕ) (name bytes : List ℕ) (image : Image) (r : Result Image (Refused Fault)) → AreBytes bytes → Elf (codes "image") bytes image → tables.IsRead file name (table_text image) r
+read_back : (file : ℕ) (name bytes : List ℕ) (image : Image) (r : Result Image (Refused Fault)) → AreBytes bytes
+    → Elf (codes "image") bytes image → tables.IsRead file name (table_text image) r
     → (r ≡ Ok (renamed name image)) ⊎ (r ≡ Err refused.NoMemory)
 read_back file name bytes image r are elf read =
-    answered file (renamed name image) r (has_table name bytes (renamed name image) are (of_name name bytes image elf)) (subst (λ text. tables.IsRead file name text r) (same_text name image) read)
+    answered file (renamed name image) r (has_table name bytes (renamed name image) are (of_name name bytes image elf))
+    (subst (λ text. tables.IsRead file name text r) (same_text name image) read)
 
-pub table_back : (m : Contents) (old new : List ℕ → ℕ) (elf bytes : List ℕ) (image : Image) → IsTabled m old new elf (Ok (Tabled image)) → Holds m elf bytes → AreBytes bytes
-    → (file : ℕ) (name : List ℕ) (r : Result Image (Refused Fault)) → tables.IsRead file name (table_text image) r → (r ≡ Ok (renamed name image)) ⊎ (r ≡ Err refused.NoMemory)
+pub table_back : (m : Contents) (old new : List ℕ → ℕ) (elf bytes : List ℕ) (image : Image)
+    → IsTabled m old new elf (Ok (Tabled image)) → Holds m elf bytes → AreBytes bytes
+    → (file : ℕ) (name : List ℕ) (r : Result Image (Refused Fault)) → tables.IsRead file name (table_text image) r
+    → (r ≡ Ok (renamed name image)) ⊎ (r ≡ Err refused.NoMemory)
 table_back m old new elf bytes image (inl (made, inl (there, input, told), is)) held are file name r read =
     let mine : contents.get m elf ≡ Some bytes = held in
     let other : contents.get m elf ≡ Some there = input.1 in
     let same : there ≡ bytes = cc in
     let images : made ≡ image = cc in
-    read_back file name bytes image r are (subst (λ z. Elf (codes "image") z image) same (subst (λ z. Elf (codes "image") there z) images told)) read
+    read_back file name bytes image r are (subst (λ z. Elf (codes "image") z image) same (subst (λ z. Elf (codes "image") there z)
+    images told)) read
 table_back m old new elf bytes image (inl (made, inr (e, input, told), is)) held are file name r read = absurd cc
 table_back m old new elf bytes image (inr (e, turn, is)) held are file name r read = absurd cc

@@ -8,7 +8,8 @@ use Rattle.view_text.specs.Html.{IsPlain, escaped, escaped_byte, is_markup}
 -- by which of the five bytes it is
 plain_by :
     (and less more double single : Bool) (b : ℕ) → (less || (more || (double || single))) ≡ is_markup b
-    → IsPlain (if and then codes "&amp;" else if less then codes "&lt;" else if more then codes "&gt;" else if double then codes "&quot;" else if single then codes "&#39;" else b ∷ [])
+    → IsPlain (if and then codes "&amp;" else if less then codes "&lt;" else if more then codes "&gt;" else if double then codes
+    "&quot;" else if single then codes "&#39;" else b ∷ [])
 plain_by true less more double single b h = refl
 plain_by false true more double single b h = refl
 plain_by false false true double single b h = refl

@@ -15,7 +15,8 @@ use Rattle.cap_model.specs.declared.policy.Policy.{Policy}
 use Rattle.cam_base.specs.Texts.{together}
 use Rattle.cam_base.specs.Gather.{gather}
 
--- a byte between quotes: a quote and a backslash have a backslash before them, and a line feed ends a line that stands at the left
+-- a byte between quotes: a quote and a backslash have a backslash before them, and a line feed ends a line that stands at the
+-- left
 abbrev pub quoted_byte : ℕ → List ℕ
 quoted_byte b = if b == 34 then codes "\\\"" else if b == 92 then codes "\\\\" else if b == 10 then codes "\\l" else b ∷ []
 
@@ -40,4 +41,5 @@ abbrev pub arrow_lines : List (List ℕ) → List Edge → List ℕ
 arrow_lines notes edges = gather (λ at e. arrow_line (note_at notes at) e) edges
 
 abbrev pub graph_of : Policy → List (List ℕ) → List ℕ
-graph_of policy notes = ((codes "digraph policy {\n" ++ flat_map node_line policy.labels) ++ arrow_lines notes policy.edges) ++ codes "}\n"
+graph_of policy notes = ((codes "digraph policy {\n" ++ flat_map node_line policy.labels) ++ arrow_lines notes policy.edges)
+    ++ codes "}\n"

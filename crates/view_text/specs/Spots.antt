@@ -23,11 +23,13 @@ dash = 45
 
 -- two numbers with a dash between
 abbrev pub range_of : List ℕ → Option (ℕ × ℕ)
-range_of text = option_and_then (λ x. option_and_then (λ first. option_and_then (λ end. Some (first, end)) (number_value x.1)) (number_value x.0)) (cut dash text)
+range_of text = option_and_then (λ x. option_and_then (λ first. option_and_then (λ end. Some (first, end)) (number_value x.1))
+    (number_value x.0)) (cut dash text)
 
 -- the file, the bytes from the first to the end, and what stands behind the place
 abbrev pub spot_of : List ℕ → Option (List ℕ × ((ℕ × ℕ) × List ℕ))
-spot_of line = option_and_then (λ x. option_and_then (λ y. option_and_then (λ r. Some (x.0, (r, y.1))) (range_of y.0)) (cut colon x.1)) (cut colon line)
+spot_of line = option_and_then (λ x. option_and_then (λ y. option_and_then (λ r. Some (x.0, (r, y.1))) (range_of y.0))
+    (cut colon x.1)) (cut colon line)
 
 -- ---- where a byte stands in a file
 
@@ -67,7 +69,8 @@ marks (b ∷ bs) = map (drawn 94) (b ∷ bs)
 
 -- `FILE:LINE:COLUMN:REST`
 abbrev pub head_line : List ℕ → Place → List ℕ → List ℕ
-head_line file p rest = together (file ∷ codes ":" ∷ decimal p.line ∷ codes ":" ∷ decimal p.column ∷ codes ":" ∷ rest ∷ codes "\n" ∷ [])
+head_line file p rest = together (file ∷ codes ":" ∷ decimal p.line ∷ codes ":" ∷ decimal p.column ∷ codes ":" ∷ rest
+    ∷ codes "\n" ∷ [])
 
 -- a line, and below it blanks and marks under a part of what stands on the right
 abbrev pub with_line : List ℕ → List ℕ → List ℕ → ℕ → List ℕ
@@ -76,7 +79,8 @@ with_line head left right count =
 
 abbrev pub view_of : List ℕ → (ℕ × ℕ) → List ℕ → List ℕ → List ℕ
 view_of file range rest bytes =
-    with_line (head_line file (place_behind (take range.0 bytes)) rest) (left_of range.0 bytes) (right_of range.0 bytes) (range.1 - range.0)
+    with_line (head_line file (place_behind (take range.0 bytes)) rest) (left_of range.0 bytes) (right_of range.0 bytes)
+    (range.1 - range.0)
 
 -- the bytes are some of the file's, or none at its end
 abbrev pub stands_in : (ℕ × ℕ) → List ℕ → Bool

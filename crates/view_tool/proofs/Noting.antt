@@ -22,28 +22,33 @@ module _ (g : Grounds) where
   -- what explaining an edge answers, reason, is its note
   pub note_is :
       (e : Edge) (reason : Result Reason ExplainError) (r : Result (List ℕ) NoMemory)
-      → Explains (tables_of g.source g.flat g.settled) (label_at g.policy.labels e.from) e.authority (label_at g.policy.labels e.to) reason
+      → Explains (tables_of g.source g.flat g.settled) (label_at g.policy.labels e.from) e.authority
+      (label_at g.policy.labels e.to) reason
       → IfOk r (Tells g reason) → IfOk r (IsNote g e)
   note_is e reason (Ok note) x t = record { reason = reason; explains = x; tells = t }
   note_is e reason (Err m) x t = tt
 
-  one_more : (es : List Edge) (ns : List (List ℕ)) (e : Edge) (n : List ℕ) → AreNotes g es ns → IsNote g e n → AreNotes g (es ++ e ∷ []) (ns ++ n ∷ [])
+  one_more : (es : List Edge) (ns : List (List ℕ)) (e : Edge) (n : List ℕ) → AreNotes g es ns → IsNote g e n
+      → AreNotes g (es ++ e ∷ []) (ns ++ n ∷ [])
   one_more [] [] e n h is = (is, tt)
   one_more (x ∷ es) (y ∷ ns) e n h is = (h.0, one_more es ns e n h.1 is)
   one_more [] (y ∷ ns) e n h is = absurd h
   one_more (x ∷ es) [] e n h is = absurd h
 
-  pub notes_turn : (es : List Edge) (i : ℕ) (e : Edge) (ns : List (List ℕ)) (n : List ℕ) → i < length es → e ≡ get_or es i e → AreNotes g (take i es) ns → IsNote g e n
+  pub notes_turn : (es : List Edge) (i : ℕ) (e : Edge) (ns : List (List ℕ)) (n : List ℕ) → i < length es → e ≡ get_or es i e
+      → AreNotes g (take i es) ns → IsNote g e n
       → AreNotes g (take (i + 1) es) (ns ++ n ∷ [])
   notes_turn es i e ns n within here h is =
-      subst (λ (z : List Edge). AreNotes g z (ns ++ n ∷ [])) (ap (λ (w : Edge). take i es ++ w ∷ []) here ∙ sym (take_more es i e within))
+      subst (λ (z : List Edge). AreNotes g z (ns ++ n ∷ [])) (ap (λ (w : Edge). take i es ++ w ∷ []) here
+      ∙ sym (take_more es i e within))
       (one_more (take i es) ns e n h is)
 
   pub notes_all : (es : List Edge) (i : ℕ) (ns : List (List ℕ)) → length es ≤ i → AreNotes g (take i es) ns → AreNotes g es ns
   notes_all es i ns h are = subst (λ (z : List Edge). AreNotes g z ns) (take_all i es h) are
 
 -- a page has the notes of few edges
-pub few_notes : (g : Grounds) (r : Result (List (List ℕ)) NoMemory) → leb (length g.policy.edges) 2000 ≡ true → IfOk r (AreNotes g g.policy.edges) → IfOk r (ArePageNotes g)
+pub few_notes : (g : Grounds) (r : Result (List (List ℕ)) NoMemory) → leb (length g.policy.edges) 2000 ≡ true
+    → IfOk r (AreNotes g g.policy.edges) → IfOk r (ArePageNotes g)
 few_notes g (Ok ns) e h = subst (λ (b : Bool). AreFewNotes b g ns) (sym e) h
 few_notes g (Err m) e h = tt
 
@@ -53,7 +58,8 @@ no_notes g ns e h = subst (λ (b : Bool). AreFewNotes b g ns) (sym e) h
 
 pub notes_drawn :
     (f : FrontEnd) (ns : List (List ℕ)) (r : Result (List ℕ) NoMemory) (a : Answer) → AreNotes (of_front f) f.policy.edges ns
-    → IfOk r (λ t. t ≡ graph_of f.policy ns) → IfOk r (λ t. a ≡ shown.Shown t) → OnErr r (a ≡ shown.NoMemory) → answers.Explains f a
+    → IfOk r (λ t. t ≡ graph_of f.policy ns) → IfOk r (λ t. a ≡ shown.Shown t) → OnErr r (a ≡ shown.NoMemory)
+    → answers.Explains f a
 notes_drawn f ns (Ok t) a are g ok none = subst (answers.Explains f) (sym ok) (ns, are, g)
 notes_drawn f ns (Err m) a are g ok none = subst (answers.Explains f) (sym none) tt
 

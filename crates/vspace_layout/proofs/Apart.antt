@@ -11,10 +11,12 @@ use Rattle.vspace_layout.specs.Regions.{pages_in, regions}
 use Rattle.vspace_layout.specs.SpaceLaws.{RegionsAreApart}
 
 -- the pages before a later region hold those of an earlier one
-summed : (rs : List Region) (i j : ℕ) (r : Region) → i < j → slice_get rs i ≡ Some r → pages_in (take i rs) + r.pages ≤ pages_in (take j rs)
+summed : (rs : List Region) (i j : ℕ) (r : Region) → i < j → slice_get rs i ≡ Some r
+    → pages_in (take i rs) + r.pages ≤ pages_in (take j rs)
 summed [] i j r l e = cc
 summed (q ∷ rs) i zero r l e = absurd (omega (arith, l))
-summed (q ∷ rs) zero (suc j) r l e = let is : q ≡ r = cc in let same : q.pages ≡ r.pages = ap (λ (z : Region). z.pages) is in omega (arith, same)
+summed (q ∷ rs) zero (suc j) r l e = let is : q ≡ r = cc in let same : q.pages ≡ r.pages = ap (λ (z : Region). z.pages) is in
+    omega (arith, same)
 summed (q ∷ rs) (suc i) (suc j) r l e = let ih = summed rs i j r (omega (arith, l)) e in omega (arith, ih)
 
 whole : (a : Arch) → sections_end a % 4096 ≡ 0

@@ -28,7 +28,8 @@ use Rattle.cam_base.proofs.NumberedLists.{length-gather}
 
 -- ---- sums
 
-part_of_sum : {X : Type 0} (f : ℕ → X → ℕ) (xs : List X) (k : ℕ) (x : X) → slice_get xs k ≡ Some x → f k x ≤ sum (gather (λ n x. f n x ∷ []) xs)
+part_of_sum : {X : Type 0} (f : ℕ → X → ℕ) (xs : List X) (k : ℕ) (x : X) → slice_get xs k ≡ Some x
+    → f k x ≤ sum (gather (λ n x. f n x ∷ []) xs)
 part_of_sum f [] k x e = cc
 part_of_sum {X} f (y ∷ xs) zero x e =
     let same : f 0 y ≡ f 0 x = ap (f 0) (the_same y x e) in
@@ -42,7 +43,8 @@ part_of_sum f (y ∷ xs) (suc k) x e =
     let s = sum_by-cons (λ (n : ℕ). n) (f 0 y) (gather (λ n z. f (suc n) z ∷ []) xs) in
     omega (arith, ih, s)
 
-within_sum : {X Y : Type 0} (f : ℕ → X → List Y) (g : ℕ → X → ℕ) (xs : List X) → ((k : ℕ) (x : X) → length (f k x) ≤ g k x) → length (gather f xs) ≤ sum (gather (λ n x. g n x ∷ []) xs)
+within_sum : {X Y : Type 0} (f : ℕ → X → List Y) (g : ℕ → X → ℕ) (xs : List X) → ((k : ℕ) (x : X) → length (f k x) ≤ g k x)
+    → length (gather f xs) ≤ sum (gather (λ n x. g n x ∷ []) xs)
 within_sum f g [] h = omega arith
 within_sum f g (x ∷ xs) h =
     let ih = within_sum (λ n z. f (suc n) z) (λ n z. g (suc n) z) xs (λ k z. h (suc k) z) in
@@ -51,7 +53,8 @@ within_sum f g (x ∷ xs) h =
     let b = h 0 x in
     omega (arith, ih, a, s, b)
 
-at_most : {X Y : Type 0} (f : ℕ → X → List Y) (xs : List X) → ((k : ℕ) (x : X) → slice_get xs k ≡ Some x → length (f k x) ≤ 65536) → length (gather f xs) ≤ 65536 * length xs
+at_most : {X Y : Type 0} (f : ℕ → X → List Y) (xs : List X) → ((k : ℕ) (x : X) → slice_get xs k ≡ Some x → length (f k x) ≤ 65536)
+    → length (gather f xs) ≤ 65536 * length xs
 at_most f [] h = omega arith
 at_most f (x ∷ xs) h =
     let ih = at_most (λ n z. f (suc n) z) xs (λ k z e. h (suc k) z e) in
@@ -67,7 +70,8 @@ pages_below t d =
     let b = length-region_part t.settled (base t) (regions t d) in
     omega (arith, a, b)
 
-pub few_at : (t : Given) → CanLay t → sum (page_counts t) ≤ 65536 → (d : ℕ) (x : Domain) → slice_get t.flat.domains d ≡ Some x → AreFew (regions t d)
+pub few_at : (t : Given) → CanLay t → sum (page_counts t) ≤ 65536 → (d : ℕ) (x : Domain) → slice_get t.flat.domains d ≡ Some x
+    → AreFew (regions t d)
 few_at t can l d x e =
     let part = part_of_sum (λ n (y : Domain). length (mapped_pages t n)) t.flat.domains d x e in
     let a = pages_below t d in
@@ -81,25 +85,32 @@ own_one d (Own fill) = omega arith
 own_one d (Memory k j) = omega arith
 
 pub own_few : (t : Given) → length (own_part t) ≤ sum (page_counts t)
-own_few t = within_sum (own_frames t) (λ n (x : Domain). length (mapped_pages t n)) t.flat.domains (λ k x. length-gather (λ n (p : MappedPage). own_frame k p.shown) (mapped_pages t k) (λ n p. own_one k p.shown))
+own_few t = within_sum (own_frames t) (λ n (x : Domain). length (mapped_pages t n)) t.flat.domains
+    (λ k x. length-gather (λ n (p : MappedPage). own_frame k p.shown) (mapped_pages t k) (λ n p. own_one k p.shown))
 
 pub shared_few : (t : Given) → CanLay t → length (shared_part t.flat t.settled) ≤ 65536 * length t.flat.connections
-shared_few t can = at_most (shared_frames t.settled) t.flat.connections (λ k c e. by_test k c (is_shared c.connector) (can.memory k c e))
+shared_few t can = at_most (shared_frames t.settled) t.flat.connections
+    (λ k c e. by_test k c (is_shared c.connector) (can.memory k c e))
   where
     by_test : (k : ℕ) (c : FlatConnection) (b : Bool) → memory_pages t.settled k c ≤ 65536
         → length (cond b (map (λ j. frame (OfConnection k) None None) (range_with_len 0 (memory_pages t.settled k c))) []) ≤ 65536
-    by_test k c true l = let n = length-map-range_with_len (λ j. frame (OfConnection k) None None) 0 (memory_pages t.settled k c) in omega (arith, n, l)
+    by_test k c true l = let n = length-map-range_with_len (λ j. frame (OfConnection k) None None) 0
+        (memory_pages t.settled k c) in omega (arith, n, l)
     by_test k c false l = omega arith
 
 pub registers_few : (t : Given) → CanLay t → length (register_part t.flat t.settled) ≤ 65536 * length t.flat.connections
-registers_few t can = at_most (register_frames t.flat t.settled) t.flat.connections (λ k c e. by_end k c (registers c) (can.memory k c e))
+registers_few t can = at_most (register_frames t.flat t.settled) t.flat.connections
+    (λ k c e. by_end k c (registers c) (can.memory k c e))
   where
     by_test : (k : ℕ) (c : FlatConnection) (f : FlatEnd) (b : Bool) → memory_pages t.settled k c ≤ 65536
-        → length (cond b (map (device_frame f.leaf (memory_paddr t.settled k c)) (range_with_len 0 (memory_pages t.settled k c))) []) ≤ 65536
-    by_test k c f true l = let n = length-map-range_with_len (device_frame f.leaf (memory_paddr t.settled k c)) 0 (memory_pages t.settled k c) in omega (arith, n, l)
+        → length (cond b (map (device_frame f.leaf (memory_paddr t.settled k c)) (range_with_len 0 (memory_pages t.settled k c)))
+        []) ≤ 65536
+    by_test k c f true l = let n = length-map-range_with_len (device_frame f.leaf (memory_paddr t.settled k c)) 0
+        (memory_pages t.settled k c) in omega (arith, n, l)
     by_test k c f false l = omega arith
 
-    by_end : (k : ℕ) (c : FlatConnection) (o : Option FlatEnd) → memory_pages t.settled k c ≤ 65536 → length (option_map_or (frames_at t.flat t.settled k c) o []) ≤ 65536
+    by_end : (k : ℕ) (c : FlatConnection) (o : Option FlatEnd) → memory_pages t.settled k c ≤ 65536
+        → length (option_map_or (frames_at t.flat t.settled k c) o []) ≤ 65536
     by_end k c None l = omega arith
     by_end k c (Some f) l = by_test k c f (is_first t.flat k f) l
 

@@ -33,11 +33,14 @@ pub put_port : (old new : List (PortKey × ℕ)) (key : PortKey) (n : ℕ) → l
     → (k : PortKey) → lookup (same_key k) new ≡ option_or (lookup (same_key k) old) (cond (same_key key k) (Some n) None)
 put_port old new key n absent put k = put k ∙ by_test (same_key key k) refl
   where
-    by_test : (b : Bool) → same_key key k ≡ b → cond b (Some n) (lookup (same_key k) old) ≡ option_or (lookup (same_key k) old) (cond b (Some n) None)
-    by_test true e = ap (λ o. option_or o (Some n)) (sym (ap (λ l. lookup (same_key l) old) (sym (same_key-true key k e)) ∙ absent))
+    by_test : (b : Bool) → same_key key k ≡ b → cond b (Some n) (lookup (same_key k) old) ≡ option_or (lookup (same_key k) old)
+        (cond b (Some n) None)
+    by_test true e =
+        ap (λ o. option_or o (Some n)) (sym (ap (λ l. lookup (same_key l) old) (sym (same_key-true key k e)) ∙ absent))
     by_test false e = option_or-none (lookup (same_key k) old)
 
-pub put_here : (old new : List (PortKey × ℕ)) (key : PortKey) (n : ℕ) → ((k : PortKey) → lookup (same_key k) new ≡ cond (same_key key k) (Some n) (lookup (same_key k) old))
+pub put_here : (old new : List (PortKey × ℕ)) (key : PortKey) (n : ℕ)
+    → ((k : PortKey) → lookup (same_key k) new ≡ cond (same_key key k) (Some n) (lookup (same_key k) old))
     → lookup (same_key key) new ≡ Some n
 put_here old new key n put = put key ∙ ap (λ b. cond b (Some n) (lookup (same_key key) old)) (same_key-refl key)
 
@@ -49,22 +52,28 @@ kept_port old key n m there k = by_test (same_key key k) refl
     by_some : (o : Option ℕ) → o ≡ Some m → o ≡ option_or o (Some n)
     by_some o e = e ∙ sym (ap (λ z. option_or z (Some n)) e)
 
-    by_test : (b : Bool) → same_key key k ≡ b → lookup (same_key k) old ≡ option_or (lookup (same_key k) old) (cond b (Some n) None)
+    by_test : (b : Bool) → same_key key k ≡ b → lookup (same_key k) old ≡ option_or (lookup (same_key k) old)
+        (cond b (Some n) None)
     by_test true e = by_some (lookup (same_key k) old) (ap (λ l. lookup (same_key l) old) (sym (same_key-true key k e)) ∙ there)
     by_test false e = option_or-none (lookup (same_key k) old)
 
 -- ---- one connection
 
 -- from an end to its connection
-pub noted_end : (c : FlatConnection) (x : FlatEnd) (n : ℕ) (f g : PortKey → Option ℕ) → registers c ≡ Some x → ((k : PortKey) → g k ≡ option_or (f k) (cond (same_key (key_of x) k) (Some n) None))
+pub noted_end : (c : FlatConnection) (x : FlatEnd) (n : ℕ) (f g : PortKey → Option ℕ) → registers c ≡ Some x
+    → ((k : PortKey) → g k ≡ option_or (f k) (cond (same_key (key_of x) k) (Some n) None))
     → (k : PortKey) → g k ≡ option_or (f k) (cond (leads_by k c) (Some n) None)
-noted_end c x n f g e put k = put k ∙ ap (λ o. option_or (f k) (cond (option_map_or (λ y. same_key (key_of y) k) o false) (Some n) None)) (sym e)
+noted_end c x n f g e put k =
+    put k ∙ ap (λ o. option_or (f k) (cond (option_map_or (λ y. same_key (key_of y) k) o false) (Some n) None)) (sym e)
 
-noted_none : (c : FlatConnection) (n : ℕ) (f : PortKey → Option ℕ) → registers c ≡ None → (k : PortKey) → f k ≡ option_or (f k) (cond (leads_by k c) (Some n) None)
-noted_none c n f e k = option_or-none (f k) ∙ ap (λ o. option_or (f k) (cond (option_map_or (λ y. same_key (key_of y) k) o false) (Some n) None)) (sym e)
+noted_none : (c : FlatConnection) (n : ℕ) (f : PortKey → Option ℕ) → registers c ≡ None → (k : PortKey)
+    → f k ≡ option_or (f k) (cond (leads_by k c) (Some n) None)
+noted_none c n f e k = option_or-none (f k)
+    ∙ ap (λ o. option_or (f k) (cond (option_map_or (λ y. same_key (key_of y) k) o false) (Some n) None)) (sym e)
 
 -- one connection more: f is what the table found before it, and g what it finds after
-pub ports_more : (cs : List FlatConnection) (i : ℕ) (c : FlatConnection) (f g : PortKey → Option ℕ) → i < length cs → c ≡ get_or cs i c
+pub ports_more : (cs : List FlatConnection) (i : ℕ) (c : FlatConnection) (f g : PortKey → Option ℕ) → i < length cs
+    → c ≡ get_or cs i c
     → ((k : PortKey) → option_or (f k) (position_from (leads_by k) i (drop i cs)) ≡ position_from (leads_by k) 0 cs)
     → ((k : PortKey) → g k ≡ option_or (f k) (cond (leads_by k c) (Some i) None))
     → (k : PortKey) → option_or (g k) (position_from (leads_by k) (i + 1) (drop (i + 1) cs)) ≡ position_from (leads_by k) 0 cs
@@ -80,19 +89,25 @@ told None g rest all n e after = e ∙ sym (sym after ∙ ap (λ z. option_or z 
 told (Some m) g rest all n e after = e ∙ sym (sym after ∙ ap (λ z. option_or z rest) e)
 
 -- what the table finds for the connection is the first of all
-pub first_is : (cs : List FlatConnection) (c : FlatConnection) (i : ℕ) (f g rest : PortKey → Option ℕ) → ((k : PortKey) → g k ≡ option_or (f k) (cond (leads_by k c) (Some i) None))
-    → ((k : PortKey) → option_or (g k) (rest k) ≡ position_from (leads_by k) 0 cs) → option_and_then (λ e. g (key_of e)) (registers c) ≡ first_number cs c
+pub first_is : (cs : List FlatConnection) (c : FlatConnection) (i : ℕ) (f g rest : PortKey → Option ℕ)
+    → ((k : PortKey) → g k ≡ option_or (f k) (cond (leads_by k c) (Some i) None))
+    → ((k : PortKey) → option_or (g k) (rest k) ≡ position_from (leads_by k) 0 cs)
+    → option_and_then (λ e. g (key_of e)) (registers c) ≡ first_number cs c
 first_is cs c i f g rest put after = by_end (registers c) refl
   where
-    by_end : (o : Option FlatEnd) → registers c ≡ o → option_and_then (λ e. g (key_of e)) o ≡ option_and_then (λ e. position (leads_to e) cs) o
+    by_end : (o : Option FlatEnd) → registers c ≡ o → option_and_then (λ e. g (key_of e)) o ≡ option_and_then
+        (λ e. position (leads_to e) cs) o
     by_end None e = refl
     by_end (Some x) e =
         let k : PortKey = key_of x in
         let led : leads_by k c ≡ true = ap (λ r. option_map_or (λ y. same_key (key_of y) k) r false) e ∙ same_key-refl k in
-        told (f k) (g k) (rest k) (position_from (leads_by k) 0 cs) i (put k ∙ ap (λ b. option_or (f k) (cond b (Some i) None)) led) (after k) ∙ sym (position_from-zero (leads_by k) cs)
+        told (f k) (g k) (rest k) (position_from (leads_by k) 0 cs) i (put k ∙ ap (λ b. option_or (f k) (cond b (Some i) None))
+        led) (after k) ∙ sym (position_from-zero (leads_by k) cs)
 
-pub firsts_more : {X Y : Type 0} (f : X → Y) (xs : List X) (i : ℕ) (x : X) (old new : List Y) → slice_get xs i ≡ Some x → old ≡ map f (take i xs) → new ≡ old ++ f x ∷ [] → new ≡ map f (take (i + 1) xs)
-firsts_more {X} {Y} f xs i x old new at before push = push ∙ ap (λ z. z ++ f x ∷ []) before ∙ sym (more xs i at) ∙ sym (ap (λ k. map f (take k xs)) (add-one i))
+pub firsts_more : {X Y : Type 0} (f : X → Y) (xs : List X) (i : ℕ) (x : X) (old new : List Y) → slice_get xs i ≡ Some x
+    → old ≡ map f (take i xs) → new ≡ old ++ f x ∷ [] → new ≡ map f (take (i + 1) xs)
+firsts_more {X} {Y} f xs i x old new at before push = push ∙ ap (λ z. z ++ f x ∷ []) before ∙ sym (more xs i at)
+    ∙ sym (ap (λ k. map f (take k xs)) (add-one i))
   where
     the_same : (y : X) → Some y ≡ Some x → y ≡ x
     the_same y e = cc

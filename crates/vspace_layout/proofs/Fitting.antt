@@ -14,17 +14,20 @@ pub pages_append : (xs ys : List Region) → pages_in (xs ++ ys) ≡ pages_in xs
 pages_append [] ys = omega arith
 pages_append (x ∷ xs) ys = let ih = pages_append xs ys in omega (arith, ih)
 
-few_threads : (settled : Settled) (ts : List ThreadOf) → length (flat_map (thread_regions settled) ts) ≤ 2 * pages_in (flat_map (thread_regions settled) ts)
+few_threads : (settled : Settled) (ts : List ThreadOf) → length (flat_map (thread_regions settled) ts) ≤ 2 * pages_in
+    (flat_map (thread_regions settled) ts)
 few_threads settled [] = omega arith
 few_threads settled (t ∷ ts) = let ih = few_threads settled ts in omega (arith, ih)
 
 few_windows : (flat : Flat) (settled : Settled) (ws : List EndAt) → ((e : EndAt) → IsIn e ws → 0 < window_pages flat settled e)
     → length (map (window_region flat settled) ws) ≤ pages_in (map (window_region flat settled) ws)
 few_windows flat settled [] h = omega arith
-few_windows flat settled (w ∷ ws) h = let ih = few_windows flat settled ws (λ e i. h e (inr i)) in let one = h w (inl refl) in omega (arith, ih, one)
+few_windows flat settled (w ∷ ws) h = let ih = few_windows flat settled ws (λ e i. h e (inr i)) in let one = h w (inl refl) in
+    omega (arith, ih, one)
 
 -- no more than twice as many regions as pages, where each window has a page
-pub few_regions : (flat : Flat) (settled : Settled) (ts : List ThreadOf) (ws : List EndAt) → ((e : EndAt) → IsIn e ws → 0 < window_pages flat settled e)
+pub few_regions : (flat : Flat) (settled : Settled) (ts : List ThreadOf) (ws : List EndAt)
+    → ((e : EndAt) → IsIn e ws → 0 < window_pages flat settled e)
     → length (regions_in flat settled ts ws) ≤ 2 * pages_in (regions_in flat settled ts ws)
 few_regions flat settled ts ws h =
     let a = few_threads settled ts in
@@ -33,7 +36,8 @@ few_regions flat settled ts ws h =
     let e = pages_append (flat_map (thread_regions settled) ts) (map (window_region flat settled) ws) in
     omega (arith, a, b, d, e)
 
-pub pages_next : (rs : List Region) (i : ℕ) (r : Region) → slice_get rs i ≡ Some r → pages_in (take (suc i) rs) ≡ pages_in (take i rs) + r.pages
+pub pages_next : (rs : List Region) (i : ℕ) (r : Region) → slice_get rs i ≡ Some r
+    → pages_in (take (suc i) rs) ≡ pages_in (take i rs) + r.pages
 pages_next [] i r e = cc
 pages_next (q ∷ rs) zero r e = let same : q.pages ≡ r.pages = ap (λ (z : Region). z.pages) (the_same q r e) in omega (arith, same)
   where

@@ -36,22 +36,27 @@ counted_here t leaves = domain_counted t.flat t.settled (ends t) t.images leaves
 pub mapped_here : (t : Given) (d : ℕ) (x : Domain) → slice_get t.flat.domains d ≡ Some x → mapped_pages t d ≡ here t x.leaves
 mapped_here t d x e = ap (λ (o : Option Domain). here t (option_map_or (λ y. y.leaves) o [])) e
 
-count_here : (t : Given) (d : ℕ) (x : Domain) → slice_get t.flat.domains d ≡ Some x → length (mapped_pages t d) ≡ counted_here t x.leaves
-count_here t d x e = ap (λ (ps : List MappedPage). length ps) (mapped_here t d x e) ∙ counted t.settled t.images x.leaves (regions_at t.flat t.settled (ends t) x.leaves)
+count_here : (t : Given) (d : ℕ) (x : Domain) → slice_get t.flat.domains d ≡ Some x
+    → length (mapped_pages t d) ≡ counted_here t x.leaves
+count_here t d x e = ap (λ (ps : List MappedPage). length ps) (mapped_here t d x e) ∙ counted t.settled t.images x.leaves
+    (regions_at t.flat t.settled (ends t) x.leaves)
 
 -- the pages of all domains are as many as are counted
 pub pages_counted : (t : Given) → sum (page_counts t) ≡ all_counted t.flat t.settled (ends t) t.images
 pages_counted t =
     ap sum (
-    gather_same (λ d (x : Domain). length (mapped_pages t d) ∷ []) (λ d (x : Domain). counted_here t x.leaves ∷ []) t.flat.domains (λ k x e. ap (λ n. n ∷ []) (count_here t k x e))
+    gather_same (λ d (x : Domain). length (mapped_pages t d) ∷ []) (λ d (x : Domain). counted_here t x.leaves ∷ []) t.flat.domains
+    (λ k x e. ap (λ n. n ∷ []) (count_here t k x e))
     ∙ gather_map (λ (x : Domain). counted_here t x.leaves) t.flat.domains
     )
 
 -- and so are their page tables
-pub tables_counted : (t : Given) → sum (table_counts t) ≡ sum (map (tables_of (arch t)) (all_mapped t.flat t.settled (ends t) t.images))
+pub tables_counted : (t : Given)
+    → sum (table_counts t) ≡ sum (map (tables_of (arch t)) (all_mapped t.flat t.settled (ends t) t.images))
 tables_counted t =
     ap sum (
-    gather_same (λ d (x : Domain). tables_needed t d ∷ []) (λ d (x : Domain). tables_of (arch t) (here t x.leaves) ∷ []) t.flat.domains
+    gather_same (λ d (x : Domain). tables_needed t d ∷ []) (λ d (x : Domain). tables_of (arch t) (here t x.leaves) ∷ [])
+    t.flat.domains
     (λ k x e. ap (λ ps. tables_of (arch t) ps ∷ []) (mapped_here t k x e))
     ∙ gather_map (λ (x : Domain). tables_of (arch t) (here t x.leaves)) t.flat.domains
     ∙ sym (map-map (tables_of (arch t)) (λ (x : Domain). here t x.leaves) t.flat.domains)
@@ -59,7 +64,8 @@ tables_counted t =
 
 -- ---- where the outline of each domain is given
 
-apart : (f : Domain → ℕ) (g : Outline → ℕ) (h : Domain → Outline) (ds : List Domain) → sum (map f ds) + sum (map g (map h ds)) ≡ sum (map (λ d. f d + g (h d)) ds)
+apart : (f : Domain → ℕ) (g : Outline → ℕ) (h : Domain → Outline) (ds : List Domain)
+    → sum (map f ds) + sum (map g (map h ds)) ≡ sum (map (λ d. f d + g (h d)) ds)
 apart f g h [] = refl
 apart f g h (d ∷ ds) =
     let ih = apart f g h ds in
@@ -70,18 +76,23 @@ apart f g h (d ∷ ds) =
 
 pub counted_same : (t : Given) → counted_by t.flat t.images (outlines t.flat t.settled (ends t)) ≡ sum (page_counts t)
 counted_same t =
-    apart (λ x. section_page_count t.images x.leaves) (λ o. pages_in o.regions) (λ x. outline t.flat t.settled (ends t) x.leaves) t.flat.domains ∙ sym (pages_counted t)
+    apart (λ x. section_page_count t.images x.leaves) (λ o. pages_in o.regions) (λ x. outline t.flat t.settled (ends t) x.leaves)
+    t.flat.domains ∙ sym (pages_counted t)
 
-pub mapped_same : (t : Given) → mapped_by t.flat t.settled t.images (outlines t.flat t.settled (ends t)) ≡ all_mapped t.flat t.settled (ends t) t.images
+pub mapped_same : (t : Given) → mapped_by t.flat t.settled t.images (outlines t.flat t.settled (ends t)) ≡ all_mapped t.flat
+    t.settled (ends t) t.images
 mapped_same t =
     let of : Domain → Outline = λ x. outline t.flat t.settled (ends t) x.leaves in
-    gather_same (λ n (x : Domain). mapped_of t.settled t.images x.leaves (get_or (map of t.flat.domains) n no_outline).regions ∷ []) (λ n (x : Domain). here t x.leaves ∷ []) t.flat.domains
-    (λ n x e. ap (λ (o : Outline). mapped_of t.settled t.images x.leaves o.regions ∷ []) (get_or_from_slice_get (map of t.flat.domains) n (of x) no_outline (get_map of t.flat.domains n x e)))
+    gather_same (λ n (x : Domain). mapped_of t.settled t.images x.leaves (get_or (map of t.flat.domains) n no_outline).regions
+    ∷ []) (λ n (x : Domain). here t x.leaves ∷ []) t.flat.domains
+    (λ n x e. ap (λ (o : Outline). mapped_of t.settled t.images x.leaves o.regions ∷ [])
+    (get_or_from_slice_get (map of t.flat.domains) n (of x) no_outline (get_map of t.flat.domains n x e)))
     ∙ gather_map (λ (x : Domain). here t x.leaves) t.flat.domains
 
 -- ---- frames
 
-pub gather_mapped : {X Y Z : Type 0} (g : ℕ → Y → List Z) (f : X → Y) (xs : List X) → gather g (map f xs) ≡ gather (λ n x. g n (f x)) xs
+pub gather_mapped : {X Y Z : Type 0} (g : ℕ → Y → List Z) (f : X → Y) (xs : List X)
+    → gather g (map f xs) ≡ gather (λ n x. g n (f x)) xs
 gather_mapped g f [] = refl
 gather_mapped g f (x ∷ xs) = ap (λ z. g 0 (f x) ++ z) (gather_mapped (λ n y. g (suc n) y) f xs)
 
@@ -102,21 +113,26 @@ get_taken (y ∷ xs) (suc n) (suc k) x e = get_taken xs n k x e
 pub own_gathered : (t : Given) → gather own_added (all_mapped t.flat t.settled (ends t) t.images) ≡ own_part t
 own_gathered t =
     gather_mapped own_added (λ (x : Domain). here t x.leaves) t.flat.domains
-    ∙ gather_same (λ d (x : Domain). own_added d (here t x.leaves)) (own_frames t) t.flat.domains (λ k x e. ap (own_added k) (sym (mapped_here t k x e)))
+    ∙ gather_same (λ d (x : Domain). own_added d (here t x.leaves)) (own_frames t) t.flat.domains
+    (λ k x e. ap (own_added k) (sym (mapped_here t k x e)))
 
-pub own_before : (t : Given) (d : ℕ) → before own_added (all_mapped t.flat t.settled (ends t) t.images) d ≡ before (own_frames t) t.flat.domains d
+pub own_before : (t : Given) (d : ℕ) → before own_added (all_mapped t.flat t.settled (ends t) t.images) d ≡ before (own_frames t)
+    t.flat.domains d
 own_before t d =
-    ap (λ (z : List (List MappedPage)). length (gather own_added z)) (take_mapped (λ (x : Domain). here t x.leaves) d t.flat.domains)
+    ap (λ (z : List (List MappedPage)). length (gather own_added z)) (take_mapped (λ (x : Domain). here t x.leaves) d
+    t.flat.domains)
     ∙ ap (λ (z : List FrameInfo). length z) (
     gather_mapped own_added (λ (x : Domain). here t x.leaves) (take d t.flat.domains)
-    ∙ gather_same (λ n (x : Domain). own_added n (here t x.leaves)) (own_frames t) (take d t.flat.domains) (λ k x e. ap (own_added k) (sym (mapped_here t k x (get_taken t.flat.domains d k x e))))
+    ∙ gather_same (λ n (x : Domain). own_added n (here t x.leaves)) (own_frames t) (take d t.flat.domains)
+    (λ k x e. ap (own_added k) (sym (mapped_here t k x (get_taken t.flat.domains d k x e))))
     )
 
 one : (d : ℕ) (s : Shown) → length (own_frame d s) ≡ cond (is_own_frame s) 1 0
 one d (Own fill) = refl
 one d (Memory k j) = refl
 
-own_counted : (f : ℕ → ℕ) (ps : List MappedPage) → length (gather (λ n (p : MappedPage). own_frame (f n) p.shown) ps) ≡ count_by is_own ps
+own_counted : (f : ℕ → ℕ) (ps : List MappedPage)
+    → length (gather (λ n (p : MappedPage). own_frame (f n) p.shown) ps) ≡ count_by is_own ps
 own_counted f [] = refl
 own_counted f (p ∷ ps) =
     let a = length_append (own_frame (f 0) p.shown) (gather (λ n (q : MappedPage). own_frame (f (suc n)) q.shown) ps) in
@@ -136,4 +152,5 @@ all_counted_own f (ps ∷ ls) =
 
 -- how many own frames there are
 pub own_number_of : (t : Given) → all_own (all_mapped t.flat t.settled (ends t) t.images) ≡ length (own_part t)
-own_number_of t = sym (all_counted_own (λ n. n) (all_mapped t.flat t.settled (ends t) t.images)) ∙ ap (λ (z : List FrameInfo). length z) (own_gathered t)
+own_number_of t = sym (all_counted_own (λ n. n) (all_mapped t.flat t.settled (ends t) t.images))
+    ∙ ap (λ (z : List FrameInfo). length z) (own_gathered t)

@@ -34,7 +34,8 @@ use Rattle.vspace_layout.proofs.Joined.{both}
 -- ---- lists
 
 -- one number from each element, read with a default
-pub ones_or : {X : Type 0} (f : ℕ → X → ℕ) (xs : List X) (k : ℕ) → get_or (gather (λ n x. f n x ∷ []) xs) k 0 ≡ option_map_or (λ x. f k x) (slice_get xs k) 0
+pub ones_or : {X : Type 0} (f : ℕ → X → ℕ) (xs : List X) (k : ℕ) → get_or (gather (λ n x. f n x ∷ []) xs) k 0 ≡ option_map_or
+    (λ x. f k x) (slice_get xs k) 0
 ones_or f [] zero = refl
 ones_or f [] (suc k) = refl
 ones_or f (x ∷ xs) zero = refl
@@ -45,7 +46,8 @@ ones_or f (x ∷ xs) (suc k) = ones_or (λ n z. f (suc n) z) xs k
 first_same : (t : Given) (k : ℕ) → get_or (memory_firsts (length (own_part t)) t.flat t.settled) k 0 ≡ memory_first t k
 first_same t k = ones_or (first_for (length (own_part t)) t.flat t.settled) t.flat.connections k
 
-number_same : (t : Given) (d n : ℕ) (s : Shown) → number_of (memory_firsts (length (own_part t)) t.flat t.settled) (own_number t d n) s ≡ number_shown t d n s
+number_same : (t : Given) (d n : ℕ) (s : Shown) → number_of (memory_firsts (length (own_part t)) t.flat t.settled)
+    (own_number t d n) s ≡ number_shown t d n s
 number_same t d n (Own fill) = refl
 number_same t d n (Memory k j) = ap (λ m. m + j) (first_same t k)
 
@@ -53,26 +55,31 @@ abbrev pub with_frame : MappedPage → ℕ → Page
 with_frame p frame = record { vaddr = p.at; frame = frame; write = p.write; read = p.read }
 
 pages_same : (t : Given) (d : ℕ)
-    → pages_numbered d (memory_firsts (length (own_part t)) t.flat t.settled) (before (own_frames t) t.flat.domains d) (mapped_pages t d) ≡ gather (λ n p. page t d n p ∷ []) (mapped_pages t d)
+    → pages_numbered d (memory_firsts (length (own_part t)) t.flat t.settled) (before (own_frames t) t.flat.domains d)
+    (mapped_pages t d) ≡ gather (λ n p. page t d n p ∷ []) (mapped_pages t d)
 pages_same t d =
     let firsts = memory_firsts (length (own_part t)) t.flat t.settled in
     let at = before (own_frames t) t.flat.domains d in
     gather_same (λ n p. numbered_page d firsts at (mapped_pages t d) n p ∷ []) (λ n p. page t d n p ∷ []) (mapped_pages t d)
     (λ n p e. ap (λ m. with_frame p m ∷ []) (number_same t d n p.shown))
 
-mapped_at : (t : Given) (d : ℕ) (x : Domain) → slice_get t.flat.domains d ≡ Some x → get_or (all_mapped t.flat t.settled (ends t) t.images) d [] ≡ mapped_pages t d
+mapped_at : (t : Given) (d : ℕ) (x : Domain) → slice_get t.flat.domains d ≡ Some x
+    → get_or (all_mapped t.flat t.settled (ends t) t.images) d [] ≡ mapped_pages t d
 mapped_at t d x e =
     let F : Domain → List MappedPage = λ y. domain_mapped t.flat t.settled (ends t) t.images y.leaves in
     get_or_from_slice_get (map F t.flat.domains) d (F x) [] (get_map F t.flat.domains d x e)
     ∙ sym (ap (λ (o : Option Domain). domain_mapped t.flat t.settled (ends t) t.images (option_map_or (λ y. y.leaves) o [])) e)
 
 pages_here : (t : Given) (d : ℕ) (x : Domain) → slice_get t.flat.domains d ≡ Some x
-    → pages_at t.flat t.settled (all_mapped t.flat t.settled (ends t) t.images) d ≡ gather (λ n p. page t d n p ∷ []) (mapped_pages t d)
+    → pages_at t.flat t.settled (all_mapped t.flat t.settled (ends t) t.images) d ≡ gather (λ n p. page t d n p ∷ [])
+    (mapped_pages t d)
 pages_here t d x e =
     let mapped = all_mapped t.flat t.settled (ends t) t.images in
-    ap (λ own. pages_numbered d (memory_firsts own t.flat t.settled) (before own_added mapped d) (get_or mapped d [])) (own_number_of t)
+    ap (λ own. pages_numbered d (memory_firsts own t.flat t.settled) (before own_added mapped d) (get_or mapped d []))
+    (own_number_of t)
     ∙ ap (λ at. pages_numbered d (memory_firsts (length (own_part t)) t.flat t.settled) at (get_or mapped d [])) (own_before t d)
-    ∙ ap (λ ps. pages_numbered d (memory_firsts (length (own_part t)) t.flat t.settled) (before (own_frames t) t.flat.domains d) ps) (mapped_at t d x e)
+    ∙ ap (λ ps. pages_numbered d (memory_firsts (length (own_part t)) t.flat t.settled) (before (own_frames t) t.flat.domains d)
+    ps) (mapped_at t d x e)
     ∙ pages_same t d
 
 -- ---- threads and windows
@@ -81,7 +88,8 @@ pub length_threads : (settled : Settled) (ts : List ThreadOf) → length (flat_m
 length_threads settled [] = refl
 length_threads settled (t ∷ ts) = let ih = length_threads settled ts in omega (arith, ih)
 
-pub length_regions : (flat : Flat) (settled : Settled) (ts : List ThreadOf) (ws : List EndAt) → length (regions_in flat settled ts ws) ≡ 2 * length ts + length ws
+pub length_regions : (flat : Flat) (settled : Settled) (ts : List ThreadOf) (ws : List EndAt)
+    → length (regions_in flat settled ts ws) ≡ 2 * length ts + length ws
 length_regions flat settled ts ws =
     let a = length_threads settled ts in
     let b = length_append (flat_map (thread_regions settled) ts) (map (window_region flat settled) ws) in
@@ -91,7 +99,8 @@ length_regions flat settled ts ws =
 pub start_same : (base : ℕ) (rs : List Region) (n : ℕ) → n < length rs → start_at (starts_in base rs) n ≡ region_start base rs n
 start_same base rs n l =
     let x = at_place rs n l in
-    ones_or (λ m (r : Region). region_start base rs m) rs n ∙ ap (λ (o : Option Region). option_map_or (λ r. region_start base rs n) o 0) x.1
+    ones_or (λ m (r : Region). region_start base rs m) rs n
+    ∙ ap (λ (o : Option Region). option_map_or (λ r. region_start base rs n) o 0) x.1
 
 abbrev pub placed : ThreadOf → ℕ → ℕ → ThreadPlace
 placed x sp buffer = record { leaf = x.leaf; end = x.end; sp = sp; buffer = buffer }
@@ -99,7 +108,8 @@ placed x sp buffer = record { leaf = x.leaf; end = x.end; sp = sp; buffer = buff
 abbrev pub seen_at : EndAt → ℕ → ℕ → Window
 seen_at e vaddr pages = record { end = e; vaddr = vaddr; pages = pages }
 
-threads_same : (t : Given) (d : ℕ) → thread_places t.settled (starts_in (base t) (regions t d)) (threads_of t d) ≡ gather (λ i x. thread_place t d i x ∷ []) (threads_of t d)
+threads_same : (t : Given) (d : ℕ) → thread_places t.settled (starts_in (base t) (regions t d)) (threads_of t d) ≡ gather
+    (λ i x. thread_place t d i x ∷ []) (threads_of t d)
 threads_same t d =
     let rs = regions t d in
     let starts = starts_in (base t) rs in
@@ -111,12 +121,14 @@ threads_same t d =
     ap (λ v. placed x (v + 4096 * stack_pages t.settled x.leaf) (start_at starts (2 * i + 1)) ∷ []) stack
     ∙ ap (λ v. placed x (start t d (2 * i) + 4096 * stack_pages t.settled x.leaf) v ∷ []) buffer)
 
-windows_same : (t : Given) (d : ℕ) → window_places t.flat t.settled (starts_in (base t) (regions t d)) (2 * length (threads_of t d)) (windows_of t d) ≡ gather (λ j e. window_at t d j e ∷ []) (windows_of t d)
+windows_same : (t : Given) (d : ℕ) → window_places t.flat t.settled (starts_in (base t) (regions t d))
+    (2 * length (threads_of t d)) (windows_of t d) ≡ gather (λ j e. window_at t d j e ∷ []) (windows_of t d)
 windows_same t d =
     let rs = regions t d in
     let starts = starts_in (base t) rs in
     let first = 2 * length (threads_of t d) in
-    gather_same (λ j e. window_place t.flat t.settled starts (first + j) e ∷ []) (λ j e. window_at t d j e ∷ []) (windows_of t d) (λ j w e.
+    gather_same (λ j e. window_place t.flat t.settled starts (first + j) e ∷ []) (λ j e. window_at t d j e ∷ [])
+    (windows_of t d) (λ j w e.
     let l = below (windows_of t d) j w e in
     let many = length_regions t.flat t.settled (threads_of t d) (windows_of t d) in
     let here = start_same (base t) rs (first + j) (omega (arith, l, many)) in
@@ -128,21 +140,30 @@ abbrev made : List Page → List ThreadPlace → List Window → Space
 made pages threads windows = record { pages = pages; threads = threads; windows = windows }
 
 space_same : (t : Given) (d : ℕ) (x : Domain) → slice_get t.flat.domains d ≡ Some x
-    → space_at t.flat t.settled (base t) (all_mapped t.flat t.settled (ends t) t.images) d (outline t.flat t.settled (ends t) x.leaves) ≡ space t d x
+    → space_at t.flat t.settled (base t) (all_mapped t.flat t.settled (ends t) t.images) d
+    (outline t.flat t.settled (ends t) x.leaves) ≡ space t d x
 space_same t d x e =
     let pages = pages_at t.flat t.settled (all_mapped t.flat t.settled (ends t) t.images) d in
     let leaves : x.leaves ≡ leaves_of t.flat d = sym (ap (λ (o : Option Domain). option_map_or (λ y. y.leaves) o []) e) in
     ap (λ ls. space_in t.flat t.settled (base t) (outline t.flat t.settled (ends t) ls) pages) leaves
-    ∙ ap (λ ps. made ps (thread_places t.settled (starts_in (base t) (regions t d)) (threads_of t d)) (window_places t.flat t.settled (starts_in (base t) (regions t d)) (2 * length (threads_of t d)) (windows_of t d))) (pages_here t d x e)
-    ∙ ap (λ ts. made (gather (λ n p. page t d n p ∷ []) (mapped_pages t d)) ts (window_places t.flat t.settled (starts_in (base t) (regions t d)) (2 * length (threads_of t d)) (windows_of t d))) (threads_same t d)
-    ∙ ap (λ ws. made (gather (λ n p. page t d n p ∷ []) (mapped_pages t d)) (gather (λ i y. thread_place t d i y ∷ []) (threads_of t d)) ws) (windows_same t d)
+    ∙ ap (λ ps. made ps (thread_places t.settled (starts_in (base t) (regions t d)) (threads_of t d))
+    (window_places t.flat t.settled (starts_in (base t) (regions t d)) (2 * length (threads_of t d)) (windows_of t d)))
+    (pages_here t d x e)
+    ∙ ap (λ ts. made (gather (λ n p. page t d n p ∷ []) (mapped_pages t d)) ts
+    (window_places t.flat t.settled (starts_in (base t) (regions t d)) (2 * length (threads_of t d)) (windows_of t d)))
+    (threads_same t d)
+    ∙ ap (λ ws. made (gather (λ n p. page t d n p ∷ []) (mapped_pages t d)) (gather (λ i y. thread_place t d i y ∷ [])
+    (threads_of t d)) ws) (windows_same t d)
 
 -- what is laid domain by domain is what the definition says
-pub laid : (t : Given) → spaces_in t.flat t.settled (base t) (outlines t.flat t.settled (ends t)) (all_mapped t.flat t.settled (ends t) t.images) ≡ spaces_of t
+pub laid : (t : Given) → spaces_in t.flat t.settled (base t) (outlines t.flat t.settled (ends t))
+    (all_mapped t.flat t.settled (ends t) t.images) ≡ spaces_of t
 laid t =
     let mapped = all_mapped t.flat t.settled (ends t) t.images in
     let of : Domain → Outline = λ x. outline t.flat t.settled (ends t) x.leaves in
     ap (λ ss. both ss (gather own_added mapped ++ memory_part t.flat t.settled))
     (gather_mapped (λ d (o : Outline). space_at t.flat t.settled (base t) mapped d o ∷ []) of t.flat.domains
-    ∙ gather_same (λ d (x : Domain). space_at t.flat t.settled (base t) mapped d (of x) ∷ []) (λ d (x : Domain). space t d x ∷ []) t.flat.domains (λ k x e. ap (λ s. s ∷ []) (space_same t k x e)))
-    ∙ ap (λ fs. both (gather (λ d (x : Domain). space t d x ∷ []) t.flat.domains) (fs ++ memory_part t.flat t.settled)) (own_gathered t)
+    ∙ gather_same (λ d (x : Domain). space_at t.flat t.settled (base t) mapped d (of x) ∷ []) (λ d (x : Domain). space t d x ∷ [])
+    t.flat.domains (λ k x e. ap (λ s. s ∷ []) (space_same t k x e)))
+    ∙ ap (λ fs. both (gather (λ d (x : Domain). space t d x ∷ []) t.flat.domains) (fs ++ memory_part t.flat t.settled))
+    (own_gathered t)

@@ -19,21 +19,24 @@ pub own_upto : (d : ℕ) (ps : List MappedPage) → length (own_added d ps) ≤ 
 own_upto d ps = length-gather (λ n (p : MappedPage). own_frame d p.shown) ps (λ n p. own_one d p.shown)
 
 -- how many frames there are before page n of a domain, when those of the pages before it were added
-pub frames_so_far : (d : ℕ) (mapped sofar : List MappedPage) (old frames : List FrameInfo) → sofar ≡ take (length sofar) mapped → frames ≡ old ++ own_added d sofar
+pub frames_so_far : (d : ℕ) (mapped sofar : List MappedPage) (old frames : List FrameInfo) → sofar ≡ take (length sofar) mapped
+    → frames ≡ old ++ own_added d sofar
     → length frames ≡ length old + before (λ m (q : MappedPage). own_frame d q.shown) mapped (length sofar)
 frames_so_far d mapped sofar old frames front e =
     ap (λ (z : List FrameInfo). length z) e
     ∙ length_append old (own_added d sofar)
     ∙ ap (λ (z : List MappedPage). length old + length (own_added d z)) front
 
-pub frames_more : (d : ℕ) (sofar : List MappedPage) (p : MappedPage) (old mid new : List FrameInfo) → mid ≡ old ++ own_added d sofar → new ≡ mid ++ own_frame d p.shown → new ≡ old ++ own_added d (sofar ++ p ∷ [])
+pub frames_more : (d : ℕ) (sofar : List MappedPage) (p : MappedPage) (old mid new : List FrameInfo)
+    → mid ≡ old ++ own_added d sofar → new ≡ mid ++ own_frame d p.shown → new ≡ old ++ own_added d (sofar ++ p ∷ [])
 frames_more d sofar p old mid new e g =
     g ∙ ap (λ z. z ++ own_frame d p.shown) e ∙ append_assoc old (own_added d sofar) (own_frame d p.shown)
     ∙ ap (λ z. old ++ z) (sym (gather_push (λ n (q : MappedPage). own_frame d q.shown) sofar p))
 
 -- ---- pages of all domains
 
-sum_from : (f : ℕ → List MappedPage → List FrameInfo) (ms : List (List MappedPage)) (k : ℕ) (ps : List MappedPage) → ((n : ℕ) (qs : List MappedPage) → length (f n qs) ≤ length qs) → slice_get ms k ≡ Some ps
+sum_from : (f : ℕ → List MappedPage → List FrameInfo) (ms : List (List MappedPage)) (k : ℕ) (ps : List MappedPage)
+    → ((n : ℕ) (qs : List MappedPage) → length (f n qs) ≤ length qs) → slice_get ms k ≡ Some ps
     → length (gather f (take k ms)) + length ps ≤ sum (map (λ (qs : List MappedPage). length qs) ms)
 sum_from f [] k ps h e = cc
 sum_from f (m ∷ ms) zero ps h e =
@@ -51,11 +54,13 @@ sum_from f (m ∷ ms) (suc k) ps h e =
     omega (arith, ih, a, s, b)
 
 -- the own frames of the domains before one, and the pages of that
-pub few_so_far : (ms : List (List MappedPage)) (k : ℕ) (ps : List MappedPage) → slice_get ms k ≡ Some ps → before own_added ms k + length ps ≤ sum (map (λ (qs : List MappedPage). length qs) ms)
+pub few_so_far : (ms : List (List MappedPage)) (k : ℕ) (ps : List MappedPage) → slice_get ms k ≡ Some ps
+    → before own_added ms k + length ps ≤ sum (map (λ (qs : List MappedPage). length qs) ms)
 few_so_far ms k ps e = sum_from own_added ms k ps (λ n qs. own_upto n qs) e
 
 -- how many frames there are before the own ones of a domain, when those of the domains before it were added
-pub own_so_far : (ms sofar : List (List MappedPage)) (old frames : List FrameInfo) → sofar ≡ take (length sofar) ms → frames ≡ old ++ gather own_added sofar → length frames ≡ length old + before own_added ms (length sofar)
+pub own_so_far : (ms sofar : List (List MappedPage)) (old frames : List FrameInfo) → sofar ≡ take (length sofar) ms
+    → frames ≡ old ++ gather own_added sofar → length frames ≡ length old + before own_added ms (length sofar)
 own_so_far ms sofar old frames front e =
     ap (λ (z : List FrameInfo). length z) e
     ∙ length_append old (gather own_added sofar)

@@ -44,14 +44,18 @@ each_map : {X Y : Type 0} (P : Y → Type 0) (f : X → Y) (xs : List X) → Eac
 each_map P f [] h = tt
 each_map P f (x ∷ xs) h = (h.0, each_map P f xs h.1)
 
-pub each_gather : {X Y : Type 0} (P : Y → Type 0) (f : ℕ → X → Y) (xs : List X) → ((i : ℕ) (x : X) → slice_get xs i ≡ Some x → P (f i x)) → Each P (gather (λ n x. f n x ∷ []) xs)
+pub each_gather : {X Y : Type 0} (P : Y → Type 0) (f : ℕ → X → Y) (xs : List X) → ((i : ℕ) (x : X) → slice_get xs i ≡ Some x
+    → P (f i x)) → Each P (gather (λ n x. f n x ∷ []) xs)
 each_gather P f [] h = tt
 each_gather P f (x ∷ xs) h = (h 0 x refl, each_gather P (λ n z. f (suc n) z) xs (λ i z e. h (suc i) z e))
 
-pub later_ones : {X Y : Type 0} (R : Y → Y → Type 0) (f : ℕ → X → Y) (xs : List X) → ((i j : ℕ) (x y : X) → i < j → slice_get xs i ≡ Some x → slice_get xs j ≡ Some y → R (f i x) (f j y)) → Later R (gather (λ n x. f n x ∷ []) xs)
+pub later_ones : {X Y : Type 0} (R : Y → Y → Type 0) (f : ℕ → X → Y) (xs : List X)
+    → ((i j : ℕ) (x y : X) → i < j → slice_get xs i ≡ Some x → slice_get xs j ≡ Some y → R (f i x) (f j y))
+    → Later R (gather (λ n x. f n x ∷ []) xs)
 later_ones R f [] h = tt
 later_ones R f (x ∷ xs) h = (
-  λ y i. each_in (R (f 0 x)) (gather (λ n z. f (suc n) z ∷ []) xs) y (each_gather (R (f 0 x)) (λ n z. f (suc n) z) xs (λ j z e. h 0 (suc j) x z (omega arith) refl e)) i,
+  λ y i. each_in (R (f 0 x)) (gather (λ n z. f (suc n) z ∷ []) xs) y (each_gather (R (f 0 x)) (λ n z. f (suc n) z) xs
+      (λ j z e. h 0 (suc j) x z (omega arith) refl e)) i,
   later_ones R (λ n z. f (suc n) z) xs (λ i j y z l e g. h (suc i) (suc j) y z (omega (arith, l)) e g),
 )
 
@@ -91,9 +95,11 @@ high_from at a (suc n) high l = (omega (arith, l), high_from at (a + 1) n high (
 
 low_blocks : (bs : List Block) (low : ℕ) → Each (λ b. low ≤ b.at) bs → Each (λ v. low ≤ v) (addresses bs)
 low_blocks [] low h = tt
-low_blocks (b ∷ bs) low h = each_append (λ v. low ≤ v) (addresses_of b) (addresses bs) (low_from b.at 0 b.pages low (let l = h.0 in omega (arith, l))) (low_blocks bs low h.1)
+low_blocks (b ∷ bs) low h = each_append (λ v. low ≤ v) (addresses_of b) (addresses bs)
+    (low_from b.at 0 b.pages low (let l = h.0 in omega (arith, l))) (low_blocks bs low h.1)
 
-rises_append : (xs ys : List ℕ) (mid : ℕ) → Rises xs → Rises ys → Each (λ v. v < mid) xs → Each (λ v. mid ≤ v) ys → Rises (xs ++ ys)
+rises_append : (xs ys : List ℕ) (mid : ℕ) → Rises xs → Rises ys → Each (λ v. v < mid) xs → Each (λ v. mid ≤ v) ys
+    → Rises (xs ++ ys)
 rises_append [] ys mid a b h l = b
 rises_append (x ∷ []) [] mid a b h l = (tt, tt)
 rises_append (x ∷ []) (y ∷ ys) mid a b h l = (let s = h.0 in let g = l.0 in omega (arith, s, g), b)
@@ -111,7 +117,8 @@ whole_from at a (suc n) w = (omega (arith, w), whole_from at (a + 1) n w)
 
 whole_blocks : (bs : List Block) → Each (λ b. b.at % 4096 ≡ 0) bs → Each (λ v. v % 4096 ≡ 0) (addresses bs)
 whole_blocks [] h = tt
-whole_blocks (b ∷ bs) h = each_append (λ v. v % 4096 ≡ 0) (addresses_of b) (addresses bs) (whole_from b.at 0 b.pages h.0) (whole_blocks bs h.1)
+whole_blocks (b ∷ bs) h = each_append (λ v. v % 4096 ≡ 0) (addresses_of b) (addresses bs) (whole_from b.at 0 b.pages h.0)
+    (whole_blocks bs h.1)
 
 -- ---- the addresses of a space
 
@@ -121,7 +128,8 @@ at_of p = p.at
 abbrev vaddr_of : SectionPage → ℕ
 vaddr_of p = p.vaddr
 
-mapped_twice : {X Y Z : Type 0} (g : Y → Z) (f : X → Y) (h : X → Z) → ((x : X) → g (f x) ≡ h x) → (xs : List X) → map g (map f xs) ≡ map h xs
+mapped_twice : {X Y Z : Type 0} (g : Y → Z) (f : X → Y) (h : X → Z) → ((x : X) → g (f x) ≡ h x) → (xs : List X)
+    → map g (map f xs) ≡ map h xs
 mapped_twice g f h e [] = refl
 mapped_twice {X} {Y} {Z} g f h e (x ∷ xs) = ap (λ z. z ∷ map g (map f xs)) (e x) ∙ ap (λ z. h x ∷ z) (mapped_twice g f h e xs)
 
@@ -133,12 +141,14 @@ region_at settled Stack at j = refl
 region_at settled Buffer at j = refl
 region_at settled (Window e) at j = refl
 
-region_addresses : (settled : Settled) (f : ℕ → ℕ) (rs : List Region) → map at_of (gather (λ n r. pages_from settled (f n) r) rs) ≡ addresses (region_blocks f rs)
+region_addresses : (settled : Settled) (f : ℕ → ℕ) (rs : List Region)
+    → map at_of (gather (λ n r. pages_from settled (f n) r) rs) ≡ addresses (region_blocks f rs)
 region_addresses settled f [] = refl
 region_addresses settled f (r ∷ rs) =
     map-append at_of (pages_from settled (f 0) r) (gather (λ n (q : Region). pages_from settled (f (suc n)) q) rs)
     ∙ ap (λ z. z ++ map at_of (gather (λ n (q : Region). pages_from settled (f (suc n)) q) rs))
-    (mapped_twice at_of (page_of settled (f 0) r) (λ j. f 0 + 4096 * j) (λ j. region_at settled r.content (f 0 + 4096 * j) j) (range_with_len 0 r.pages))
+    (mapped_twice at_of (page_of settled (f 0) r) (λ j. f 0 + 4096 * j) (λ j. region_at settled r.content (f 0 + 4096 * j) j)
+    (range_with_len 0 r.pages))
     ∙ ap (λ z. addresses_of (block (f 0) r.pages) ++ z) (region_addresses settled (λ n. f (suc n)) rs)
 
 abbrev blocks : Given → ℕ → List Block
@@ -150,7 +160,8 @@ sections t d = section_pages t.images (leaves_of t.flat d)
 all_addresses : (t : Given) (d : ℕ) → map at_of (mapped_pages t d) ≡ map vaddr_of (sections t d) ++ addresses (blocks t d)
 all_addresses t d =
     map-append at_of (section_part t.images (leaves_of t.flat d)) (region_part t.settled (base t) (regions t d))
-    ∙ ap (λ z. z ++ map at_of (region_part t.settled (base t) (regions t d))) (mapped_twice at_of section_page vaddr_of (λ p. refl) (sections t d))
+    ∙ ap (λ z. z ++ map at_of (region_part t.settled (base t) (regions t d))) (mapped_twice at_of section_page vaddr_of
+    (λ p. refl) (sections t d))
     ∙ ap (λ z. map vaddr_of (sections t d) ++ z) (region_addresses t.settled (start t d) (regions t d))
 
 sections_rise : (ps : List SectionPage) → AllPairs (λ p q. p.vaddr + 4096 ≤ q.vaddr) ps → Rises (map vaddr_of ps)
@@ -168,17 +179,22 @@ rising t d h =
     let whole : P (map vaddr_of (sections t d) ++ addresses (blocks t d)) =
     each_append (λ v. v % 4096 ≡ 0) (map vaddr_of (sections t d)) (addresses (blocks t d))
     (each_map (λ v. v % 4096 ≡ 0) vaddr_of (sections t d) (each_all (λ p. p.vaddr % 4096 ≡ 0) (sections t d) h.aligned))
-    (whole_blocks (blocks t d) (each_gather (λ b. b.at % 4096 ≡ 0) (λ n (q : Region). block (start t d n) q.pages) (regions t d) (λ j x g. r.aligned j))) in
+    (whole_blocks (blocks t d) (each_gather (λ b. b.at % 4096 ≡ 0) (λ n (q : Region). block (start t d n) q.pages) (regions t d)
+    (λ j x g. r.aligned j))) in
     let below : Each (λ v. v < base t) (map vaddr_of (sections t d)) =
     each_map (λ v. v < base t) vaddr_of (sections t d)
-    (each_then (λ p. p.vaddr + 4096 ≤ base t) (λ p. p.vaddr < base t) (sections t d) (λ p l. omega (arith, l)) (each_all (λ p. p.vaddr + 4096 ≤ base t) (sections t d) h.below)) in
+    (each_then (λ p. p.vaddr + 4096 ≤ base t) (λ p. p.vaddr < base t) (sections t d) (λ p l. omega (arith, l))
+    (each_all (λ p. p.vaddr + 4096 ≤ base t) (sections t d) h.below)) in
     let above : Each (λ v. base t ≤ v) (addresses (blocks t d)) =
-    low_blocks (blocks t d) (base t) (each_gather (λ b. base t ≤ b.at) (λ n (q : Region). block (start t d n) q.pages) (regions t d) (λ j x g. (let u = r.above j in omega (arith, u)))) in
+    low_blocks (blocks t d) (base t) (each_gather (λ b. base t ≤ b.at) (λ n (q : Region). block (start t d n) q.pages)
+    (regions t d) (λ j x g. (let u = r.above j in omega (arith, u)))) in
     let rise : Rises (map vaddr_of (sections t d) ++ addresses (blocks t d)) =
     rises_append (map vaddr_of (sections t d)) (addresses (blocks t d)) (base t) (sections_rise (sections t d) h.apart)
-    (blocks_rise (blocks t d) (later_ones Before (λ n (q : Region). block (start t d n) q.pages) (regions t d) (λ i j x y l e g. (let a = r.apart i j x l e in omega (arith, a)))))
+    (blocks_rise (blocks t d) (later_ones Before (λ n (q : Region). block (start t d n) q.pages) (regions t d)
+    (λ i j x y l e g. (let a = r.apart i j x l e in omega (arith, a)))))
     below above in
     record {
-      aligned = λ p i. each_in (λ v. v % 4096 ≡ 0) (map at_of (mapped_pages t d)) p.at (subst P (sym (all_addresses t d)) whole) (in_map at_of p (mapped_pages t d) i);
+      aligned = λ p i. each_in (λ v. v % 4096 ≡ 0) (map at_of (mapped_pages t d)) p.at (subst P (sym (all_addresses t d)) whole)
+          (in_map at_of p (mapped_pages t d) i);
       rise = subst Rises (sym (all_addresses t d)) rise;
     }

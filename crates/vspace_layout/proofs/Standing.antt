@@ -39,7 +39,9 @@ from_zero f n j l = let e : 0 + j ≡ j = omega arith in numbered f 0 n j l ∙ 
 
 -- ---- own frames
 
-own_stands : (t : Given) (d n : ℕ) (p : MappedPage) (fill : Option Fill) → slice_get (mapped_pages t d) n ≡ Some p → p.shown ≡ Own fill → d < length t.flat.domains → slice_get (frames t) (number_shown t d n p.shown) ≡ Some (frame (OfDomain d) None fill)
+own_stands : (t : Given) (d n : ℕ) (p : MappedPage) (fill : Option Fill) → slice_get (mapped_pages t d) n ≡ Some p
+    → p.shown ≡ Own fill → d < length t.flat.domains → slice_get (frames t) (number_shown t d n p.shown) ≡ Some
+    (frame (OfDomain d) None fill)
 own_stands t d n p fill e s l =
     let y = frame (OfDomain d) None fill in
     let f : ℕ → MappedPage → List FrameInfo = λ m q. own_frame d q.shown in
@@ -75,22 +77,28 @@ pub own_port : (e : FlatEnd) → same_port e e ≡ true
 own_port e = ap (λ b. b && (e.member == e.member)) (eq-eqb e.leaf e.leaf refl) ∙ eq-eqb e.member e.member refl
 
 -- the number of a page of a connection that is there
-number_at : (t : Given) (k j : ℕ) (c : FlatConnection) → slice_get t.flat.connections k ≡ Some c → memory_number t k j ≡ length (own_part t) + memory_before t.flat t.settled k c + j
+number_at : (t : Given) (k j : ℕ) (c : FlatConnection) → slice_get t.flat.connections k ≡ Some c
+    → memory_number t k j ≡ length (own_part t) + memory_before t.flat t.settled k c + j
 number_at t k j c e = ap (λ o. option_map_or (λ c. length (own_part t) + memory_before t.flat t.settled k c) o 0 + j) e
 
-shared_stands : (t : Given) (k j : ℕ) (c : FlatConnection) → slice_get t.flat.connections k ≡ Some c → is_shared c.connector ≡ true → j < memory_pages t.settled k c → slice_get (frames t) (memory_number t k j) ≡ Some (frame (OfConnection k) None None)
+shared_stands : (t : Given) (k j : ℕ) (c : FlatConnection) → slice_get t.flat.connections k ≡ Some c
+    → is_shared c.connector ≡ true → j < memory_pages t.settled k c
+    → slice_get (frames t) (memory_number t k j) ≡ Some (frame (OfConnection k) None None)
 shared_stands t k j c e s l =
     let y = frame (OfConnection k) None None in
     let g : ℕ → FrameInfo = λ i. y in
     let n = memory_pages t.settled k c in
-    let here : slice_get (shared_frames t.settled k c) j ≡ Some y = ap (λ b. slice_get (cond b (map g (range_with_len 0 n)) []) j) s ∙ from_zero g n j l in
+    let here : slice_get (shared_frames t.settled k c) j ≡ Some y = ap (λ b. slice_get (cond b (map g (range_with_len 0 n)) []) j)
+    s ∙ from_zero g n j l in
     let sum = before (shared_frames t.settled) t.flat.connections k + j in
     let o = gathered (shared_frames t.settled) t.flat.connections k c j y sum e here refl in
     let front : memory_before t.flat t.settled k c ≡ before (shared_frames t.settled) t.flat.connections k =
-    ap (λ r. option_map_or (registers_before t.flat t.settled) r (before (shared_frames t.settled) t.flat.connections k)) (no_registers c.connector c.ends s) in
+    ap (λ r. option_map_or (registers_before t.flat t.settled) r (before (shared_frames t.settled) t.flat.connections k))
+    (no_registers c.connector c.ends s) in
     let number = number_at t k j c e in
     let behind : memory_number t k j ≡ length (own_part t) + sum = omega (arith, number, front) in
-    get_behind (own_part t) (memory_part t.flat t.settled) sum (memory_number t k j) behind ∙ get_front (shared_part t.flat t.settled) (register_part t.flat t.settled) sum y o
+    get_behind (own_part t) (memory_part t.flat t.settled) sum (memory_number t k j) behind
+    ∙ get_front (shared_part t.flat t.settled) (register_part t.flat t.settled) sum y o
 
 -- ---- registers
 
@@ -104,7 +112,8 @@ first_same flat e f s =
     ap (λ z. position (port_at z f.member) flat.connections) (eqb-true f.leaf e.leaf q.0)
     ∙ ap (λ z. position (port_at e.leaf z) flat.connections) (eqb-true f.member e.member q.1)
 
-registers_stand : (t : Given) (k j n : ℕ) (c d : FlatConnection) (e f : FlatEnd) → slice_get t.flat.connections k ≡ Some c → registers c ≡ Some e → first_to t.flat e ≡ Some n → slice_get t.flat.connections n ≡ Some d → registers d ≡ Some f
+registers_stand : (t : Given) (k j n : ℕ) (c d : FlatConnection) (e f : FlatEnd) → slice_get t.flat.connections k ≡ Some c
+    → registers c ≡ Some e → first_to t.flat e ≡ Some n → slice_get t.flat.connections n ≡ Some d → registers d ≡ Some f
     → j < memory_pages t.settled n d → slice_get (frames t) (memory_number t k j) ≡ Some (register_frame t.settled n d f j)
 registers_stand t k j n c d e f at has first there leads l =
     let cs = t.flat.connections in
@@ -127,7 +136,8 @@ registers_stand t k j n c d e f at has first there leads l =
     ∙ ap (λ o. shared + option_map_or (before (register_frames t.flat t.settled) cs) o 0) first in
     let number = number_at t k j c at in
     let behind : memory_number t k j ≡ length (own_part t) + (shared + sum) = omega (arith, number, front) in
-    get_behind (own_part t) (memory_part t.flat t.settled) (shared + sum) (memory_number t k j) behind ∙ get_behind (shared_part t.flat t.settled) (register_part t.flat t.settled) sum (shared + sum) refl ∙ o
+    get_behind (own_part t) (memory_part t.flat t.settled) (shared + sum) (memory_number t k j) behind
+    ∙ get_behind (shared_part t.flat t.settled) (register_part t.flat t.settled) sum (shared + sum) refl ∙ o
 
 pub frames_stand : (t : Given) → FramesStand t
 frames_stand t = record { own = own_stands t; shared = shared_stands t; registers = registers_stand t }

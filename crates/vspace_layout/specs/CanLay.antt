@@ -17,7 +17,8 @@ MemoryFits flat settled = (k : ℕ) (c : FlatConnection) → slice_get flat.conn
 
 -- it ends below 2^48
 abbrev pub AddressesFit : Flat → Settled → Type 0
-AddressesFit flat settled = (k : ℕ) (c : FlatConnection) → slice_get flat.connections k ≡ Some c → memory_paddr settled k c + 4096 * memory_pages settled k c ≤ 2 ^ 48
+AddressesFit flat settled = (k : ℕ) (c : FlatConnection) → slice_get flat.connections k ≡ Some c
+    → memory_paddr settled k c + 4096 * memory_pages settled k c ≤ 2 ^ 48
 
 pub record CanLay (t : Given) : Type 0 where
   pub domains : length t.flat.domains < 2 ^ 32

@@ -38,7 +38,12 @@ own_added d pages = gather (λ n p. own_frame d p.shown) pages
 
 abbrev pub numbered_page : ℕ → List ℕ → ℕ → List MappedPage → ℕ → MappedPage → Page
 numbered_page d firsts at pages n p =
-    record { vaddr = p.at; frame = number_of firsts (at + before (λ m q. own_frame d q.shown) pages n) p.shown; write = p.write; read = p.read }
+    record {
+      vaddr = p.at;
+      frame = number_of firsts (at + before (λ m q. own_frame d q.shown) pages n) p.shown;
+      write = p.write;
+      read = p.read;
+    }
 
 -- the pages of a domain, where so many frames stand before its own
 abbrev pub pages_numbered : ℕ → List ℕ → ℕ → List MappedPage → List Page

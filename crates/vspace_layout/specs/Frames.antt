@@ -55,7 +55,8 @@ abbrev pub is_first : Flat → ℕ → FlatEnd → Bool
 is_first flat k e = option_map_or (λ n. n == k) (first_to flat e) false
 
 abbrev pub frames_at : Flat → Settled → ℕ → FlatConnection → FlatEnd → List FrameInfo
-frames_at flat settled k c e = if is_first flat k e then device_frames e.leaf (memory_paddr settled k c) (memory_pages settled k c) else []
+frames_at flat settled k c e = if is_first flat k e then device_frames e.leaf (memory_paddr settled k c)
+    (memory_pages settled k c) else []
 
 -- by the first connection to the registers alone
 abbrev pub register_frames : Flat → Settled → ℕ → FlatConnection → List FrameInfo
@@ -91,11 +92,13 @@ registers_before flat settled e =
 
 -- how many frames of memory stand in front of those of connection k
 abbrev pub memory_before : Flat → Settled → ℕ → FlatConnection → ℕ
-memory_before flat settled k c = option_map_or (registers_before flat settled) (registers c) (before (shared_frames settled) flat.connections k)
+memory_before flat settled k c = option_map_or (registers_before flat settled) (registers c)
+    (before (shared_frames settled) flat.connections k)
 
 -- of the first page of the memory of connection k
 abbrev pub memory_first : Given → ℕ → ℕ
-memory_first t k = option_map_or (λ c. length (own_part t) + memory_before t.flat t.settled k c) (slice_get t.flat.connections k) 0
+memory_first t k = option_map_or (λ c. length (own_part t) + memory_before t.flat t.settled k c)
+    (slice_get t.flat.connections k) 0
 
 -- of page j of it
 abbrev pub memory_number : Given → ℕ → ℕ → ℕ

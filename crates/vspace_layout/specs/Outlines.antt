@@ -58,7 +58,8 @@ all_mapped flat settled ends images = map (λ d. domain_mapped flat settled ends
 
 -- the same, where the outline of each domain is given
 abbrev pub mapped_by : Flat → Settled → Images → List Outline → List (List MappedPage)
-mapped_by flat settled images os = gather (λ n d. mapped_of settled images d.leaves (slice_index_or os n no_outline).regions ∷ []) flat.domains
+mapped_by flat settled images os = gather (λ n d. mapped_of settled images d.leaves (slice_index_or os n no_outline).regions
+    ∷ []) flat.domains
 
 -- ---- how many there are
 
@@ -73,7 +74,8 @@ all_counted flat settled ends images = sum (map (λ d. domain_counted flat settl
 
 -- the same, where the outline of each domain is given: the pages of all sections and of all regions
 abbrev pub counted_by : Flat → Images → List Outline → ℕ
-counted_by flat images os = sum (map (λ d. section_page_count images d.leaves) flat.domains) + sum (map (λ o. pages_in o.regions) os)
+counted_by flat images os = sum (map (λ d. section_page_count images d.leaves) flat.domains) + sum
+    (map (λ o. pages_in o.regions) os)
 
 -- regions and their pages are few enough for addresses of 64 bits
 abbrev pub AreFew : List Region → Type 0
@@ -103,13 +105,19 @@ RegionsFit starts rs = (n : ℕ) (r : Region) → slice_get rs n ≡ Some r → 
 
 abbrev pub thread_at : Settled → List ℕ → ℕ → ThreadOf → ThreadPlace
 thread_at settled starts i x =
-    record { leaf = x.leaf; end = x.end; sp = start_at starts (2 * i) + 4096 * stack_pages settled x.leaf; buffer = start_at starts (2 * i + 1) }
+    record {
+      leaf = x.leaf;
+      end = x.end;
+      sp = start_at starts (2 * i) + 4096 * stack_pages settled x.leaf;
+      buffer = start_at starts (2 * i + 1);
+    }
 
 abbrev pub thread_places : Settled → List ℕ → List ThreadOf → List ThreadPlace
 thread_places settled starts ts = gather (λ i x. thread_at settled starts i x ∷ []) ts
 
 abbrev pub StacksFit : Settled → List ℕ → List ThreadOf → Type 0
-StacksFit settled starts ts = (i : ℕ) (x : ThreadOf) → slice_get ts i ≡ Some x → start_at starts (2 * i) + 4096 * stack_pages settled x.leaf < 2 ^ 64
+StacksFit settled starts ts = (i : ℕ) (x : ThreadOf) → slice_get ts i ≡ Some x
+    → start_at starts (2 * i) + 4096 * stack_pages settled x.leaf < 2 ^ 64
 
 abbrev pub window_place : Flat → Settled → List ℕ → ℕ → EndAt → Window
 window_place flat settled starts n e = record { end = e; vaddr = start_at starts n; pages = window_pages flat settled e }
@@ -128,7 +136,8 @@ space_in flat settled base o pages = record {
 }
 
 abbrev pub pages_at : Flat → Settled → List (List MappedPage) → ℕ → List Page
-pages_at flat settled mapped d = pages_numbered d (memory_firsts (all_own mapped) flat settled) (before own_added mapped d) (slice_index_or mapped d [])
+pages_at flat settled mapped d = pages_numbered d (memory_firsts (all_own mapped) flat settled) (before own_added mapped d)
+    (slice_index_or mapped d [])
 
 abbrev pub space_at : Flat → Settled → ℕ → List (List MappedPage) → ℕ → Outline → Space
 space_at flat settled base mapped d o = space_in flat settled base o (pages_at flat settled mapped d)

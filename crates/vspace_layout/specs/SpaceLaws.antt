@@ -21,7 +21,8 @@ use Rattle.vspace_layout.specs.Regions.{regions, start}
 
 -- regions stand apart, a free page between them, each at a whole page and above the base
 pub record RegionsAreApart (t : Given) (d : ℕ) : Type 0 where
-  pub apart : (i j : ℕ) (r : Region) → i < j → slice_get (regions t d) i ≡ Some r → start t d i + 4096 * r.pages + 4096 ≤ start t d j
+  pub apart : (i j : ℕ) (r : Region) → i < j → slice_get (regions t d) i ≡ Some r
+      → start t d i + 4096 * r.pages + 4096 ≤ start t d j
   pub aligned : (i : ℕ) → start t d i % 4096 ≡ 0
   pub above : (i : ℕ) → base t + 4096 ≤ start t d i
 
@@ -49,7 +50,11 @@ pub record PagesRise (t : Given) (d : ℕ) : Type 0 where
 -- a frame stands under the number that is computed for what a page shows: an own one with its fill, or page j of the memory of
 -- a connection, which is that of the first connection to a device's registers
 pub record FramesStand (t : Given) : Type 0 where
-  pub own : (d n : ℕ) (p : MappedPage) (fill : Option Fill) → slice_get (mapped_pages t d) n ≡ Some p → p.shown ≡ Own fill → d < length t.flat.domains → slice_get (frames t) (number_shown t d n p.shown) ≡ Some (frame (OfDomain d) None fill)
-  pub shared : (k j : ℕ) (c : FlatConnection) → slice_get t.flat.connections k ≡ Some c → is_shared c.connector ≡ true → j < memory_pages t.settled k c → slice_get (frames t) (memory_number t k j) ≡ Some (frame (OfConnection k) None None)
-  pub registers : (k j n : ℕ) (c d : FlatConnection) (e f : FlatEnd) → slice_get t.flat.connections k ≡ Some c → registers c ≡ Some e → first_to t.flat e ≡ Some n → slice_get t.flat.connections n ≡ Some d → registers d ≡ Some f → j < memory_pages t.settled n d
+  pub own : (d n : ℕ) (p : MappedPage) (fill : Option Fill) → slice_get (mapped_pages t d) n ≡ Some p → p.shown ≡ Own fill
+      → d < length t.flat.domains → slice_get (frames t) (number_shown t d n p.shown) ≡ Some (frame (OfDomain d) None fill)
+  pub shared : (k j : ℕ) (c : FlatConnection) → slice_get t.flat.connections k ≡ Some c → is_shared c.connector ≡ true
+      → j < memory_pages t.settled k c → slice_get (frames t) (memory_number t k j) ≡ Some (frame (OfConnection k) None None)
+  pub registers : (k j n : ℕ) (c d : FlatConnection) (e f : FlatEnd) → slice_get t.flat.connections k ≡ Some c
+      → registers c ≡ Some e → first_to t.flat e ≡ Some n → slice_get t.flat.connections n ≡ Some d → registers d ≡ Some f
+      → j < memory_pages t.settled n d
       → slice_get (frames t) (memory_number t k j) ≡ Some (register_frame t.settled n d f j)

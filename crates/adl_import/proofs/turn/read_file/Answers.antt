@@ -7,7 +7,8 @@ use Rattle.adl_import.proofs.turn.read_file.Goals as goal
 
 pub returns-in-Ok-clause-read : goal.returns-in-Ok-clause-read
 returns-in-Ok-clause-read g c m told =
-    read_ok m c.args.done.now c.args.name.now c.args.place c.in-Ok.bytes c.parsed.result (c.in-Ok.ensures.whole m told) c.in-Ok.ensures.limit c.parsed.ensures
+    read_ok m c.args.done.now c.args.name.now c.args.place c.in-Ok.bytes c.parsed.result (c.in-Ok.ensures.whole m told)
+    c.in-Ok.ensures.limit c.parsed.ensures
 
 pub returns-in_ok-fault_where_met-in-Err-Absent-clause-read : goal.returns-in_ok-fault_where_met-in-Err-Absent-clause-read
 returns-in_ok-fault_where_met-in-Err-Absent-clause-read g c m told =

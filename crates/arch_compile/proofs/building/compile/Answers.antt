@@ -15,7 +15,8 @@ with_images-requires g c =
 pub returns-in-Ok-clause-compiled : goal.returns-in-Ok-clause-compiled
 returns-in-Ok-clause-compiled g c m told =
     built_compiled c.args.root.now m c.in-Ok.meaning (c.in-Ok.ensures.meaning m (c.with_images.ensures.kept.told_still m told))
-    (g.F.Files.faults c.args.files.now) (g.F.Files.faults c.meaning_of.new.files) (g.F.Files.faults c.with_images.new.files) c.with_images.result
+    (g.F.Files.faults c.args.files.now) (g.F.Files.faults c.meaning_of.new.files) (g.F.Files.faults c.with_images.new.files)
+    c.with_images.result
     c.in-Ok.ensures.kept.later (c.with_images.ensures.builds m told)
 
 pub returns-in-Ok-clause-of_source : goal.returns-in-Ok-clause-of_source
@@ -26,12 +27,14 @@ returns-in-Ok-clause-of_source g c m told =
 pub returns-in-Ok-clause-sound : goal.returns-in-Ok-clause-sound
 returns-in-Ok-clause-sound g c =
     let some = g.met.F.Files.some c.with_images.new.files in
-    built_so c.args.root.now some.0 c.in-Ok.meaning (c.in-Ok.ensures.meaning some.0 (c.with_images.ensures.kept.told_still some.0 some.1))
+    built_so c.args.root.now some.0 c.in-Ok.meaning
+    (c.in-Ok.ensures.meaning some.0 (c.with_images.ensures.kept.told_still some.0 some.1))
     IsSound (build_sound c.args.root.now some.0) _ _ c.with_images.result (c.with_images.ensures.builds some.0 some.1)
 
 pub returns-in-Err-clause-compiled : goal.returns-in-Err-clause-compiled
 returns-in-Err-clause-compiled g c m told =
-    refused_compiled c.args.root.now m (g.F.Files.faults c.args.files.now) (g.F.Files.faults c.meaning_of.new.files) c.in-Err.error (c.in-Err.ensures.meaning m told)
+    refused_compiled c.args.root.now m (g.F.Files.faults c.args.files.now) (g.F.Files.faults c.meaning_of.new.files)
+    c.in-Err.error (c.in-Err.ensures.meaning m told)
 
 pub returns-in-Ok-clause-learned : goal.returns-in-Ok-clause-learned
 returns-in-Ok-clause-learned g c m n now old alike =

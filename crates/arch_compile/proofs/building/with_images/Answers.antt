@@ -18,15 +18,20 @@ pub with_layout-requires-clause-imaged : goal.with_layout-requires-clause-imaged
 with_layout-requires-clause-imaged g c =
     let m = c.args.meaning in
     let some = g.met.F.Files.some c.read_images.new.files in
-    images_imaged some.0 c.root_of-root.result.now m c.in-Ok.images (c.in-Ok.ensures.read some.0 some.1) (sound_within m.source m.flat m.settled c.requires)
+    images_imaged some.0 c.root_of-root.result.now m c.in-Ok.images (c.in-Ok.ensures.read some.0 some.1)
+    (sound_within m.source m.flat m.settled c.requires)
 
 pub returns-in-Ok-clause-builds : goal.returns-in-Ok-clause-builds
 returns-in-Ok-clause-builds g c contents told =
-    built_of_images contents (g.F.Files.faults c.args.files.now) (g.F.Files.faults c.read_images.new.files) c.args.meaning c.root_of-root.result.now c.in-Ok.images c.with_layout.result c.requires.meant c.root_of-root.ensures (c.in-Ok.ensures.read contents told) c.with_layout.ensures
+    built_of_images contents (g.F.Files.faults c.args.files.now) (g.F.Files.faults c.read_images.new.files) c.args.meaning
+    c.root_of-root.result.now c.in-Ok.images c.with_layout.result c.requires.meant c.root_of-root.ensures
+    (c.in-Ok.ensures.read contents told) c.with_layout.ensures
 
 pub returns-in-Err-clause-builds : goal.returns-in-Err-clause-builds
 returns-in-Err-clause-builds g c contents told =
-    built_unread contents (g.F.Files.faults c.args.files.now) (g.F.Files.faults c.read_images.new.files) c.args.meaning c.root_of-root.result.now c.in-Err.error c.not_imaged.result c.requires.meant c.root_of-root.ensures (c.in-Err.ensures.read contents told) c.in-Err.ensures.rose c.not_imaged.ensures
+    built_unread contents (g.F.Files.faults c.args.files.now) (g.F.Files.faults c.read_images.new.files) c.args.meaning
+    c.root_of-root.result.now c.in-Err.error c.not_imaged.result c.requires.meant c.root_of-root.ensures
+    (c.in-Err.ensures.read contents told) c.in-Err.ensures.rose c.not_imaged.ensures
 
 pub returns-in-Ok-clause-learned : goal.returns-in-Ok-clause-learned
 returns-in-Ok-clause-learned g c m n now old alike =

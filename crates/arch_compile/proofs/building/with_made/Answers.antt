@@ -15,11 +15,13 @@ made_of-requires-clause-windowed c =
 pub made_of-requires-clause-assigned : goal.made_of-requires-clause-assigned
 made_of-requires-clause-assigned c =
     let f = c.args.front in
-    here_assigned f.source f.flat f.settled c.args.images.now c.args.layout.now f.numbers c.requires.laid c.requires.numbered f.policy c.requires.sound.meant c.requires.assigned
+    here_assigned f.source f.flat f.settled c.args.images.now c.args.layout.now f.numbers c.requires.laid c.requires.numbered
+    f.policy c.requires.sound.meant c.requires.assigned
 
 pub returns-in-Ok : goal.returns-in-Ok
 returns-in-Ok c =
     let f = c.args.front in (
       refl,
-      here_made f.source f.flat f.settled c.args.images.now c.args.layout.now f.numbers c.requires.laid c.requires.numbered f.policy _ c.requires.sound.meant c.requires.assigned c.in-Ok.ensures,
+      here_made f.source f.flat f.settled c.args.images.now c.args.layout.now f.numbers c.requires.laid c.requires.numbered
+          f.policy _ c.requires.sound.meant c.requires.assigned c.in-Ok.ensures,
     )

@@ -4,12 +4,17 @@ use Rattle.cap_model.specs.declared.spec.Entry.{Entry}
 use Rattle.cam_base.proofs.Gathered.{gather_turn}
 use Rattle.arch_compile.proofs.labelled.labelled_objects.Goals as goal
 
-line_is : (before after : List (List ℕ × ℕ)) (name copy : List ℕ) (label given : ℕ) → copy ≡ name → given ≡ label → after ≡ before ++ (copy, given) ∷ [] → after ≡ before ++ (name, label) ∷ []
-line_is before after name copy label given a b e = e ∙ ap (λ z. before ++ (z, given) ∷ []) a ∙ ap (λ z. before ++ (name, z) ∷ []) b
+line_is : (before after : List (List ℕ × ℕ)) (name copy : List ℕ) (label given : ℕ) → copy ≡ name → given ≡ label
+    → after ≡ before ++ (copy, given) ∷ [] → after ≡ before ++ (name, label) ∷ []
+line_is before after name copy label given a b e = e ∙ ap (λ z. before ++ (z, given) ∷ []) a
+    ∙ ap (λ z. before ++ (name, z) ∷ []) b
 
 pub loop-number-preserved : goal.loop-number-preserved
 loop-number-preserved c =
     let e = c.index-entries-number.result in
-    gather_turn (λ n (x : Entry). (x.name, label_of c.args.labels.now.by_object n) ∷ []) c.args.entries.now _ c.loop-number.number e [] _ _ refl
+    gather_turn (λ n (x : Entry). (x.name, label_of c.args.labels.now.by_object n) ∷ []) c.args.entries.now _ c.loop-number.number
+    e [] _ _ refl
     c.loop-number-test.true c.index-entries-number.is c.loop-number.invariant
-    (line_is c.loop-number.objects c.push.new.self e.name c.in_ok-copy.field-0 (label_of c.args.labels.now.by_object c.loop-number.number) c.of.result c.in_ok-copy.ensures c.of.ensures c.in_ok-push.ensures.ok)
+    (line_is c.loop-number.objects c.push.new.self e.name c.in_ok-copy.field-0
+    (label_of c.args.labels.now.by_object c.loop-number.number) c.of.result c.in_ok-copy.ensures c.of.ensures
+    c.in_ok-push.ensures.ok)

@@ -6,7 +6,8 @@ use Rattle.system_spec.specs.Told.{told}
 use Rattle.arch_compile.proofs.making.made_of.Goals as goal
 
 pub with_objects-requires : goal.with_objects-requires
-with_objects-requires c = few_objects (told c.args.tables.now) c.in_ok-spec.field-0-0.spec c.requires.buildable c.in_ok-spec.ensures.spec
+with_objects-requires c = few_objects (told c.args.tables.now) c.in_ok-spec.field-0-0.spec c.requires.buildable
+    c.in_ok-spec.ensures.spec
 
 pub returns : goal.returns
 returns c =

@@ -8,12 +8,14 @@ write_rules-requires g c = still_fresh _ _ 2 3 _ _ c.in_ok-write_capdl.ensures.o
 
 pub write_certificate-requires : goal.write_certificate-requires
 write_certificate-requires g c =
-    still_fresh _ _ 3 4 _ _ c.in_ok-write_rules.ensures.ok refl (still_fresh _ _ 2 4 _ _ c.in_ok-write_capdl.ensures.ok refl (c.requires 4 (omega arith) (omega arith)))
+    still_fresh _ _ 3 4 _ _ c.in_ok-write_rules.ensures.ok refl (still_fresh _ _ 2 4 _ _ c.in_ok-write_capdl.ensures.ok refl
+    (c.requires 4 (omega arith) (omega arith)))
 
 pub write_places-requires : goal.write_places-requires
 write_places-requires g c =
     still_fresh _ _ 4 5 _ _ c.in_ok-write_certificate.ensures.ok refl
-    (still_fresh _ _ 3 5 _ _ c.in_ok-write_rules.ensures.ok refl (still_fresh _ _ 2 5 _ _ c.in_ok-write_capdl.ensures.ok refl (c.requires 5 (omega arith) (omega arith))))
+    (still_fresh _ _ 3 5 _ _ c.in_ok-write_rules.ensures.ok refl (still_fresh _ _ 2 5 _ _ c.in_ok-write_capdl.ensures.ok refl
+    (c.requires 5 (omega arith) (omega arith))))
 
 pub returns : goal.returns
 returns g c =

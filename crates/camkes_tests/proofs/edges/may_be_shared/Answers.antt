@@ -9,7 +9,11 @@ use Rattle.camkes_tests.proofs.edges.may_be_shared.Goals as goal
 trans : (p q r : Authority × ℕ) → PairBefore p q → PairBefore q r → PairBefore p r
 trans p q r a b = record {
   by_authority = omega (arith, a.by_authority, b.by_authority);
-  by_label = λ e. omega (arith, a.by_label (omega (arith, a.by_authority, b.by_authority)), b.by_label (omega (arith, a.by_authority, b.by_authority)));
+  by_label = λ e. omega (
+    arith,
+    a.by_label (omega (arith, a.by_authority, b.by_authority)),
+    b.by_label (omega (arith, a.by_authority, b.by_authority)),
+  );
 }
 
 abbrev Rise : List (Authority × ℕ) → ℕ → Type 0
@@ -31,7 +35,8 @@ module _ (pairs : List (Authority × ℕ)) (i : ℕ) (some : 1 ≤ i) (inside : 
       by_last (inr less) = rise a b d below less
 
 pub loop-i-preserved : goal.loop-i-preserved
-loop-i-preserved c = one_more c.args.pairs.now c.loop-i.i c.loop-i.auto.i c.loop-i-test.true _ _ (c.if-not-is_before.ensures refl) c.loop-i.invariant
+loop-i-preserved c = one_more c.args.pairs.now c.loop-i.i c.loop-i.auto.i c.loop-i-test.true _ _ (c.if-not-is_before.ensures refl)
+    c.loop-i.invariant
 
 pub returns-clause-rise : goal.returns-clause-rise
 returns-clause-rise c _ i j d below within = c.loop-i.invariant i j d below (omega (arith, c.loop-i-test.false))

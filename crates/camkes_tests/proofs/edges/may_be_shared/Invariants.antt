@@ -4,4 +4,5 @@ use Rattle.cap_model.specs.declared.authority.Authority.{Authority}
 use Rattle.camkes_tests.proofs.edges.may_be_shared.Given as goal
 
 abbrev pub invariant-loop-i : goal.invariant-loop-i
-invariant-loop-i l = (a b : ℕ) (d : Authority × ℕ) → a < b → b < l.i → PairBefore (slice_index_or l.pairs a d) (slice_index_or l.pairs b d)
+invariant-loop-i l = (a b : ℕ) (d : Authority × ℕ) → a < b → b < l.i
+    → PairBefore (slice_index_or l.pairs a d) (slice_index_or l.pairs b d)

@@ -14,5 +14,6 @@ returns c = λ root contents b is steps s run.
     let source = b.meaning.source in
     let images = images_beside contents source in
     let connected = made_connected source images (build_facts root contents b is) in
-    let plain : HoldsPlain b.spec = subst (λ (z : Spec). HoldsPlain z) (sym is.made.spec_is) (holds_plain (system_tables source images) connected) in
+    let plain : HoldsPlain b.spec = subst (λ (z : Spec). HoldsPlain z) (sym is.made.spec_is)
+    (holds_plain (system_tables source images) connected) in
     run_static b.spec plain steps s run

@@ -8,11 +8,13 @@ use Rattle.camkes_tool.specs.Learning.{AlikeInCommand}
 
 pub returns-in-Err-NoMemory-clause-fits : goal.returns-in-Err-NoMemory-clause-fits
 returns-in-Err-NoMemory-clause-fits g c m told =
-    no_memory_fits (read_words (map string_bytes c.args.words.now)) m (g.F.Files.faults c.args.files.now) (g.F.Files.faults c.args.files.now)
+    no_memory_fits (read_words (map string_bytes c.args.words.now)) m (g.F.Files.faults c.args.files.now)
+    (g.F.Files.faults c.args.files.now)
 
 pub returns-in-Ok-clause-learned : goal.returns-in-Ok-clause-learned
 returns-in-Ok-clause-learned g c =
-    same_learned g.F.Files.told c.args.files.now c.follow.new.files AlikeInCommand (Some c.in-Ok.command) (read_words (map string_bytes c.args.words.now))
+    same_learned g.F.Files.told c.args.files.now c.follow.new.files AlikeInCommand (Some c.in-Ok.command)
+    (read_words (map string_bytes c.args.words.now))
     (sym c.in-Ok.ensures.read) c.follow.ensures.learned
 
 pub returns-in-Err-Usage-clause-learned : goal.returns-in-Err-Usage-clause-learned

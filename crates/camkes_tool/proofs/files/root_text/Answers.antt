@@ -12,7 +12,8 @@ returns c =
     let server = codes "component Server s;\nconnection seL4RPCCall k(" in
     let memory = codes "to s.p);\nconnection seL4SharedData m(" in
     let last = codes "to s.d);\n} }\n" in
-    let one = c.in_ok-push_clients.ensures ∙ ap (λ z. z ++ lines) (c.in_ok-extend.ensures.ok ∙ ap (λ z. z ++ header) c.new-text.ensures) in
+    let one = c.in_ok-push_clients.ensures ∙ ap (λ z. z ++ lines) (c.in_ok-extend.ensures.ok
+    ∙ ap (λ z. z ++ header) c.new-text.ensures) in
     let two = c.in_ok-extend-2.ensures.ok ∙ ap (λ z. z ++ server) one in
     let three = c.in_ok-push_clients-2.ensures ∙ ap (λ z. z ++ callers) two in
     let four = c.in_ok-extend-3.ensures.ok ∙ ap (λ z. z ++ memory) three in

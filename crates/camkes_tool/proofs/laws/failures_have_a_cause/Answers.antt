@@ -66,7 +66,8 @@ returns-clause-front c answer old new before now names b tells is = elim tells.t
   | inr t ↦ subst (λ z. CutShort old (script z) new) is t.2
 ]
 
-is_said : (text told : List ℕ) (old new : Sink) → Some told ≡ Some text → CutShort old (Write 0 told ∷ []) new → IsCut old 0 text new
+is_said : (text told : List ℕ) (old new : Sink) → Some told ≡ Some text → CutShort old (Write 0 told ∷ []) new
+    → IsCut old 0 text new
 is_said text told old new e (inl cut) = subst (λ z. IsCut old 0 z new) (same_Some told text e) cut
 is_said text told old new e (inr none) = absurd none
 

@@ -26,7 +26,9 @@ spares NoMemory k n t m = (m, tt)
 
 pub returns-clause-error : goal.returns-clause-error
 returns-clause-error c answer status old new before now tells not_done not_no not_cut k m = elim tells.told [
-  | inl t ↦ subst (λ z. IsAsBefore k old z) (sym t.1) (after_spared k (script answer) old (spares answer k (λ e. not_done (t.0 ∙ e)) (λ e. not_no (t.0 ∙ e)) m))
+  | inl t ↦
+      subst (λ z. IsAsBefore k old z) (sym t.1) (after_spared k (script answer) old (spares answer k (λ e. not_done (t.0 ∙ e))
+      (λ e. not_no (t.0 ∙ e)) m))
   | inr t ↦ absurd (not_cut t.0)
 ]
 

@@ -32,4 +32,8 @@ whole (ReadFault file) old new e told = absurd cc
 whole NoMemory old new e told = absurd cc
 
 pub returns : goal.returns
-returns c answer old new before now tells = elim tells.told [ inl t ↦ whole answer old new t.0 t.1 | inr t ↦ absurd (zero_not_five 0 refl t.0) ]
+returns c answer old new before now tells = elim tells.told [
+  | inl t ↦ whole answer old new t.0 t.1
+  | inr t ↦
+      absurd (zero_not_five 0 refl t.0)
+]

@@ -7,7 +7,8 @@ returns-in_err-write_place g c = writes_exit c.from_residual.ensures.0 (writes_f
 
 pub returns-in_err-write_all : goal.returns-in_err-write_all
 returns-in_err-write_all g c =
-    writes_after (writes_exit c.from_residual-in_err-write_all.ensures.0 (writes_first _ c.in_err-write_all.ensures.writes)) c.in_ok-write_place.ensures
+    writes_after (writes_exit c.from_residual-in_err-write_all.ensures.0 (writes_first _ c.in_err-write_all.ensures.writes))
+    c.in_ok-write_place.ensures
 
 pub returns : goal.returns
 returns g c =

@@ -8,12 +8,19 @@ not_zero n h = grind (arith, nat_tests)
 
 pub returns-in-true-true : goal.returns-in-true-true
 returns-in-true-true g c =
-    let h = rw (c.name-name.ensures, c.rights_word-rights.ensures, c.as_bytes-badge.ensures.value, c.format.ensures.text, with_both) at c.write_parts.ensures in
+    let h = rw (
+      c.name-name.ensures,
+      c.rights_word-rights.ensures,
+      c.as_bytes-badge.ensures.value,
+      c.format.ensures.text,
+      with_both,
+    ) at c.write_parts.ensures in
     rw (sym c.in-true-true.ensures, not_zero c.args.cap.now.badge c.in-true-true.is-1) h
 
 pub returns-in-false-true : goal.returns-in-false-true
 returns-in-false-true g c =
-    let h = rw (c.name-name.ensures, c.as_bytes-badge.ensures.value, c.format.ensures.text, with_badge) at c.write_parts-in-false-true.ensures in
+    let h = rw (c.name-name.ensures, c.as_bytes-badge.ensures.value, c.format.ensures.text, with_badge) at
+    c.write_parts-in-false-true.ensures in
     rw (sym c.in-false-true.ensures, not_zero c.args.cap.now.badge c.in-false-true.is-1) h
 
 pub returns-in-true-false : goal.returns-in-true-false

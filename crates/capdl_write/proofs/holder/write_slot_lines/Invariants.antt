@@ -8,4 +8,5 @@ abbrev pub invariant-loop-slot : goal.invariant-loop-slot
 invariant-loop-slot g l =
     let sink = g.O.Outputs.sink in
     let faults = g.O.Outputs.faults in
-    Wrote l.channel (flat_map (slot_line l.spec) (take l.slot-index l.slots)) (sink l.fn.out) (sink l.out) (faults l.fn.out) (faults l.out)
+    Wrote l.channel (flat_map (slot_line l.spec) (take l.slot-index l.slots)) (sink l.fn.out) (sink l.out) (faults l.fn.out)
+    (faults l.out)

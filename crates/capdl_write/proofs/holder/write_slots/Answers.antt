@@ -8,11 +8,14 @@ use Rattle.cap_model.specs.declared.spec.Spec.{Spec}
 use Rattle.capdl_write.proofs.Nothing.{wrote_no_text}
 use Rattle.capdl_write.proofs.holder.write_slots.Goals as goal
 
-empty : {E : Type 0} {c m : ℕ} {s : Sink} (spec : Spec) (name : List ℕ) (slots : List (ℕ × Cap)) → length slots ≡ 0 → Writes {E = E} (Ok tt) c (slots_text spec name slots) s s m m
+empty : {E : Type 0} {c m : ℕ} {s : Sink} (spec : Spec) (name : List ℕ) (slots : List (ℕ × Cap)) → length slots ≡ 0
+    → Writes {E = E} (Ok tt) c (slots_text spec name slots) s s m m
 empty spec name [] e = wrote_no_text
 empty spec name (slot ∷ slots) e = absurd (omega arith)
 
-filled : {E : Type 0} {r : Result (Unit {0}) E} {c m n : ℕ} {s t : Sink} (spec : Spec) (name : List ℕ) (slots : List (ℕ × Cap)) → 0 < length slots → Writes r c (together (name ∷ codes " {\n" ∷ []) ⊹ flat_map (slot_line spec) slots ⊹ codes "}\n") s t m n → Writes r c (slots_text spec name slots) s t m n
+filled : {E : Type 0} {r : Result (Unit {0}) E} {c m n : ℕ} {s t : Sink} (spec : Spec) (name : List ℕ) (slots : List (ℕ × Cap))
+    → 0 < length slots → Writes r c (together (name ∷ codes " {\n" ∷ []) ⊹ flat_map (slot_line spec) slots ⊹ codes "}\n") s t m n
+    → Writes r c (slots_text spec name slots) s t m n
 filled spec name [] h w = absurd (omega arith)
 filled spec name (slot ∷ slots) h w = w
 

@@ -6,5 +6,12 @@ returns-in-None g c = rw c.in-None.is wrote_no_text
 
 pub returns-in-Some : goal.returns-in-Some
 returns-in-Some g c =
-    let h = rw (c.as_bytes.ensures.value, c.format.ensures.text, c.as_bytes-in-Some.ensures.value, c.format-in-Some.ensures.text, c.as_bytes-in-Some-2.ensures, c.hexadecimal.ensures) at c.write_parts.ensures in
+    let h = rw (
+      c.as_bytes.ensures.value,
+      c.format.ensures.text,
+      c.as_bytes-in-Some.ensures.value,
+      c.format-in-Some.ensures.text,
+      c.as_bytes-in-Some-2.ensures,
+      c.hexadecimal.ensures,
+    ) at c.write_parts.ensures in
     rw c.in-Some.is h

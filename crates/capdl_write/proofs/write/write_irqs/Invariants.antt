@@ -8,4 +8,5 @@ abbrev pub invariant-loop-line : goal.invariant-loop-line
 invariant-loop-line g l =
     let sink = g.O.Outputs.sink in
     let faults = g.O.Outputs.faults in
-    Wrote l.channel (flat_map (irq_line l.spec) (take l.line-index l.lines)) (sink l.fn.out) (sink l.out) (faults l.fn.out) (faults l.out)
+    Wrote l.channel (flat_map (irq_line l.spec) (take l.line-index l.lines)) (sink l.fn.out) (sink l.out) (faults l.fn.out)
+    (faults l.out)

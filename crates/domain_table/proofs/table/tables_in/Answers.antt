@@ -3,4 +3,5 @@ use Rattle.system_spec.specs.MapText.{named}
 use Rattle.domain_table.proofs.table.tables_in.Goals as goal
 
 pub returns : goal.returns
-returns c = tabled (named c.args.names.now) c.args.lines.now c.args.domain _ _ _ _ c.in_ok-slots.ensures c.in_ok-threads.ensures c.in_ok-windows.ensures c.in_ok-pages.ensures
+returns c = tabled (named c.args.names.now) c.args.lines.now c.args.domain _ _ _ _ c.in_ok-slots.ensures c.in_ok-threads.ensures
+    c.in_ok-windows.ensures c.in_ok-pages.ensures

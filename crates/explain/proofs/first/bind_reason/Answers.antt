@@ -15,11 +15,14 @@ pub returns-in_default-2 : goal.returns-in_default-2
 returns-in_default-2 c x =
     let t = told c.args.search.now.tables in
     let e = c.args.search.now.edge in
-    signalled t e c.in-Some.handler (subst (λ o. IsFirstEnd t e Handler o) c.in-Some.is c.in_ok-handler.ensures) (subst (λ o. IsFirstEnd t e (Signaller c.in-Some.handler.label) o) c.in_default-2.is c.in_ok-signaller.ensures)
+    signalled t e c.in-Some.handler (subst (λ o. IsFirstEnd t e Handler o) c.in-Some.is c.in_ok-handler.ensures)
+    (subst (λ o. IsFirstEnd t e (Signaller c.in-Some.handler.label) o) c.in_default-2.is c.in_ok-signaller.ensures)
 
 pub returns : goal.returns
 returns c =
     let t = told c.args.search.now.tables in
     let e = c.args.search.now.edge in
-    bind_first t e c.in-Some.handler c.in-Some-2.signaller c.numbers.result c.numbers-2.result c.numbers.ensures c.numbers-2.ensures
-    (subst (λ o. IsFirstEnd t e Handler o) c.in-Some.is c.in_ok-handler.ensures) (subst (λ o. IsFirstEnd t e (Signaller c.in-Some.handler.label) o) c.in-Some-2.is c.in_ok-signaller.ensures)
+    bind_first t e c.in-Some.handler c.in-Some-2.signaller c.numbers.result c.numbers-2.result c.numbers.ensures
+    c.numbers-2.ensures
+    (subst (λ o. IsFirstEnd t e Handler o) c.in-Some.is c.in_ok-handler.ensures)
+    (subst (λ o. IsFirstEnd t e (Signaller c.in-Some.handler.label) o) c.in-Some-2.is c.in_ok-signaller.ensures)

@@ -15,4 +15,5 @@ pub returns : goal.returns
 returns c =
     let t = told c.args.search.now.tables in
     let e = c.args.search.now.edge in
-    direct_first t e c.in-Some.end c.numbers.result c.numbers.ensures (subst (λ o. IsFirstEnd t e Given o) c.in-Some.is c.in_ok-end.ensures)
+    direct_first t e c.in-Some.end c.numbers.result c.numbers.ensures (subst (λ o. IsFirstEnd t e Given o) c.in-Some.is
+    c.in_ok-end.ensures)

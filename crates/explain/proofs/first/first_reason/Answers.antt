@@ -28,7 +28,8 @@ returns-in-Some-3 c =
     let D : Option Told → Type 0 = λ o. IsFirstOf (DirectReason t e) (λ d. told_of t e (by_direct d)) o in
     let C : Option Told → Type 0 = λ o. IsFirstOf (CallReason t e) (λ d. told_of t e (by_call d)) o in
     let B : Option Told → Type 0 = λ o. IsFirstOf (BindReason t e) (λ d. told_of t e (by_bind d)) o in
-    bind_all t e c.in-Some-3.bind (subst D c.in_default.is c.in_ok-direct.ensures) (subst C c.in_default-2.is c.in_ok-call.ensures) (subst B c.in-Some-3.is c.in_ok-bind.ensures)
+    bind_all t e c.in-Some-3.bind (subst D c.in_default.is c.in_ok-direct.ensures)
+    (subst C c.in_default-2.is c.in_ok-call.ensures) (subst B c.in-Some-3.is c.in_ok-bind.ensures)
 
 pub returns : goal.returns
 returns c =
@@ -37,4 +38,5 @@ returns c =
     let D : Option Told → Type 0 = λ o. IsFirstOf (DirectReason t e) (λ d. told_of t e (by_direct d)) o in
     let C : Option Told → Type 0 = λ o. IsFirstOf (CallReason t e) (λ d. told_of t e (by_call d)) o in
     let B : Option Told → Type 0 = λ o. IsFirstOf (BindReason t e) (λ d. told_of t e (by_bind d)) o in
-    lock_all t e c.in_ok-lock.lock (subst D c.in_default.is c.in_ok-direct.ensures) (subst C c.in_default-2.is c.in_ok-call.ensures) (subst B c.in_default-3.is c.in_ok-bind.ensures) c.in_ok-lock.ensures
+    lock_all t e c.in_ok-lock.lock (subst D c.in_default.is c.in_ok-direct.ensures)
+    (subst C c.in_default-2.is c.in_ok-call.ensures) (subst B c.in_default-3.is c.in_ok-bind.ensures) c.in_ok-lock.ensures

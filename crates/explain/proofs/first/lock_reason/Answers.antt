@@ -15,4 +15,5 @@ pub returns : goal.returns
 returns c =
     let t = told c.args.search.now.tables in
     let e = c.args.search.now.edge in
-    lock_first t e c.in-Some.handler c.numbers.result c.in-Some-first_lock.lock c.numbers.ensures (subst (λ o. IsFirstEnd t e LockHandler o) c.in-Some.is c.in_ok-handler.ensures) c.in-Some-first_lock.ensures
+    lock_first t e c.in-Some.handler c.numbers.result c.in-Some-first_lock.lock c.numbers.ensures
+    (subst (λ o. IsFirstEnd t e LockHandler o) c.in-Some.is c.in_ok-handler.ensures) c.in-Some-first_lock.ensures

@@ -8,14 +8,16 @@ pub returns-in-Some : goal.returns-in-Some
 returns-in-Some c =
     let t = told c.args.tables.now in
     lock_least t c.args.label c.loop-number.number c.leaf-item.result c.in-Some.member
-    (read_place t.flat.leaves c.as_slice-leaf-items.result.now c.loop-number.number c.leaf-item.result c.as_slice-leaf-items.ensures c.loop-number-test.true c.leaf-item.is)
+    (read_place t.flat.leaves c.as_slice-leaf-items.result.now c.loop-number.number c.leaf-item.result
+    c.as_slice-leaf-items.ensures c.loop-number-test.true c.leaf-item.is)
     c.in-Some.ensures c.loop-number.invariant
 
 pub loop-number-preserved : goal.loop-number-preserved
 loop-number-preserved c =
     let t = told c.args.tables.now in
     lock_more t c.args.label c.loop-number.number c.leaf-item.result
-    (read_place t.flat.leaves c.as_slice-leaf-items.result.now c.loop-number.number c.leaf-item.result c.as_slice-leaf-items.ensures c.loop-number-test.true c.leaf-item.is)
+    (read_place t.flat.leaves c.as_slice-leaf-items.result.now c.loop-number.number c.leaf-item.result
+    c.as_slice-leaf-items.ensures c.loop-number-test.true c.leaf-item.is)
     c.in_default.ensures c.loop-number.invariant
 
 pub returns : goal.returns

@@ -4,7 +4,8 @@ use Rattle.flow_laws.proofs.ActsLet.{act_let}
 use Rattle.flow_laws.proofs.integrity_laws.acts_keep_to_the_policy.Goals as goal
 
 pub returns-clause-stays : goal.returns-clause-stays
-returns-clause-stays c = λ spec labels policy stays w new act from does. act_let spec labels policy stays w new act (world_reached spec w from) does
+returns-clause-stays c = λ spec labels policy stays w new act from does. act_let spec labels policy stays w new act
+    (world_reached spec w from) does
 
 pub returns-clause-certified : goal.returns-clause-certified
 returns-clause-certified c = λ spec labels policy cert valid w new act from does.

@@ -8,8 +8,10 @@ with_policy-requires g c =
 
 pub returns-in-Ok-clause-front : goal.returns-in-Ok-clause-front
 returns-in-Ok-clause-front g c m told =
-    assigned_front c.args.root.now m (g.F.Files.faults c.args.files.now) (g.F.Files.faults c.meaning_of.new.files) c.in-Ok.meaning c.with_policy.result (c.in-Ok.ensures.meaning m told) c.with_policy.ensures
+    assigned_front c.args.root.now m (g.F.Files.faults c.args.files.now) (g.F.Files.faults c.meaning_of.new.files) c.in-Ok.meaning
+    c.with_policy.result (c.in-Ok.ensures.meaning m told) c.with_policy.ensures
 
 pub returns-in-Err-clause-front : goal.returns-in-Err-clause-front
 returns-in-Err-clause-front g c m told =
-    meaning_lists c.args.root.now m (g.F.Files.faults c.args.files.now) (g.F.Files.faults c.meaning_of.new.files) c.in-Err.error (c.in-Err.ensures.meaning m told)
+    meaning_lists c.args.root.now m (g.F.Files.faults c.args.files.now) (g.F.Files.faults c.meaning_of.new.files) c.in-Err.error
+    (c.in-Err.ensures.meaning m told)

@@ -17,8 +17,10 @@ with_parts-requires-clause-few g c =
 
 pub returns-in-Ok-clause-meaning : goal.returns-in-Ok-clause-meaning
 returns-in-Ok-clause-meaning g c m told =
-    meant_meaning c.args.root.now m (g.F.Files.faults c.args.files.now) (g.F.Files.faults c.load.new.files) c.in-Ok.source c.with_parts.result (c.in-Ok.ensures.loaded m told) c.with_parts.ensures
+    meant_meaning c.args.root.now m (g.F.Files.faults c.args.files.now) (g.F.Files.faults c.load.new.files) c.in-Ok.source
+    c.with_parts.result (c.in-Ok.ensures.loaded m told) c.with_parts.ensures
 
 pub returns-in-Err-clause-meaning : goal.returns-in-Err-clause-meaning
 returns-in-Err-clause-meaning g c m told =
-    unloaded_refuses first_front_fault c.args.root.now m (g.F.Files.faults c.args.files.now) (g.F.Files.faults c.load.new.files) c.in-Err.error c.not_loaded.result (c.in-Err.ensures.loaded m told) c.in-Err.ensures.rose c.not_loaded.ensures
+    unloaded_refuses first_front_fault c.args.root.now m (g.F.Files.faults c.args.files.now) (g.F.Files.faults c.load.new.files)
+    c.in-Err.error c.not_loaded.result (c.in-Err.ensures.loaded m told) c.in-Err.ensures.rose c.not_loaded.ensures

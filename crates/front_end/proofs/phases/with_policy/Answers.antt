@@ -12,8 +12,16 @@ policy_of-requires-clause-few c = let m = c.args.meaning in few_labels m.source 
 pub returns-in-Ok : goal.returns-in-Ok
 returns-in-Ok c =
     let m = c.args.meaning in
-    let e = c.in-Ok.ensures in
-    (refl, refl, refl, no_edge_fault m c.requires.meant e.limit, policy_assigned m c.in-Ok.assigned.policy c.requires.meant e.labels e.objects e.edges e.sorted, e.numbers)
+    let e = c.in-Ok.ensures in (
+      refl,
+      refl,
+      refl,
+      no_edge_fault m c.requires.meant e.limit,
+      policy_assigned m c.in-Ok.assigned.policy c.requires.meant
+          e.labels e.objects e.edges e.sorted,
+      e.numbers,
+    )
 
 pub returns-in-Err : goal.returns-in-Err
-returns-in-Err c = policy_refuses c.args.meaning c.in-Err.refused c.in_file.result c.requires.meant c.in-Err.ensures.limit c.in_file.ensures
+returns-in-Err c = policy_refuses c.args.meaning c.in-Err.refused c.in_file.result c.requires.meant c.in-Err.ensures.limit
+    c.in_file.ensures

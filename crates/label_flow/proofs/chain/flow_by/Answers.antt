@@ -29,8 +29,10 @@ chain_to-requires-clause-found c =
     let within : c.args.to < length s.places.items = omega (arith, searches.wide, c.requires.to) in
     let placed = place_read s.places.items c.args.to c.index.result.now within c.index.ensures ∙ c.in-Some.is in
     let p = searches.is.placed c.args.to c.in-Some.place placed in
-    let same : c.index-in-Some.result.now ≡ p.0 = c.index-in-Some.ensures ∙ get_or_from_slice_get s.found.items c.in-Some.place p.0 c.index-in-Some.result.now p.1 in
-    at_contains s.found.items c.in-Some.place c.index-in-Some.result.now (subst (λ (f : Found). slice_get s.found.items c.in-Some.place ≡ Some f) (sym same) p.1)
+    let same : c.index-in-Some.result.now ≡ p.0 = c.index-in-Some.ensures ∙ get_or_from_slice_get s.found.items c.in-Some.place
+    p.0 c.index-in-Some.result.now p.1 in
+    at_contains s.found.items c.in-Some.place c.index-in-Some.result.now
+    (subst (λ (f : Found). slice_get s.found.items c.in-Some.place ≡ Some f) (sym same) p.1)
 
 pub returns : goal.returns
 returns c =
@@ -39,6 +41,9 @@ returns c =
     let within : c.args.to < length s.places.items = omega (arith, searches.wide, c.requires.to) in
     let placed = place_read s.places.items c.args.to c.index.result.now within c.index.ensures ∙ c.in-Some.is in
     let p = searches.is.placed c.args.to c.in-Some.place placed in
-    let same : c.index-in-Some.result.now ≡ p.0 = c.index-in-Some.ensures ∙ get_or_from_slice_get s.found.items c.in-Some.place p.0 c.index-in-Some.result.now p.1 in
-    ends_shortest c.args.edges.now c.args.from c.args.to c.args.count s c.in-Some.place c.index-in-Some.result.now c.in_ok-chain-in-Some.chain searches placed
-    (subst (λ (f : Found). slice_get s.found.items c.in-Some.place ≡ Some f) (sym same) p.1) c.in_ok-chain-in-Some.ensures.leads c.in_ok-chain-in-Some.ensures.long
+    let same : c.index-in-Some.result.now ≡ p.0 = c.index-in-Some.ensures ∙ get_or_from_slice_get s.found.items c.in-Some.place
+    p.0 c.index-in-Some.result.now p.1 in
+    ends_shortest c.args.edges.now c.args.from c.args.to c.args.count s c.in-Some.place c.index-in-Some.result.now
+    c.in_ok-chain-in-Some.chain searches placed
+    (subst (λ (f : Found). slice_get s.found.items c.in-Some.place ≡ Some f) (sym same) p.1) c.in_ok-chain-in-Some.ensures.leads
+    c.in_ok-chain-in-Some.ensures.long

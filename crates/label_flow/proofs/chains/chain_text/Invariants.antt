@@ -6,4 +6,5 @@ use Rattle.label_flow.proofs.chains.chain_text.Given as goal
 
 abbrev pub invariant-loop-edge : goal.invariant-loop-edge
 invariant-loop-edge l =
-    l.text ≡ together (codes "flow " ∷ decimal (length l.chain) ∷ codes " edges\n" ∷ []) ++ flat_map (edge_line [] l.policy.labels) (take l.edge-index l.chain)
+    l.text ≡ together (codes "flow " ∷ decimal (length l.chain) ∷ codes " edges\n" ∷ [])
+    ++ flat_map (edge_line [] l.policy.labels) (take l.edge-index l.chain)

@@ -8,4 +8,5 @@ abbrev pub invariant-loop-at : goal.invariant-loop-at
 invariant-loop-at g l =
     let sink = g.O.Outputs.sink in
     let faults = g.O.Outputs.faults in
-    Wrote l.channel (flat_map (apart_line l.names) (take l.at l.edges)) (sink l.fn.out) (sink l.out) (faults l.fn.out) (faults l.out)
+    Wrote l.channel (flat_map (apart_line l.names) (take l.at l.edges)) (sink l.fn.out) (sink l.out) (faults l.fn.out)
+    (faults l.out)

@@ -12,5 +12,6 @@ loop-label-preserved c =
           ∙ ap (λ (b : Bool). c.from.result == n || b) (c.loop-label.invariant.each n)
           ∙ ap (λ (k : ℕ). k == n || is_some (label_name (take c.loop-label.label-index c.args.labels.now) n)) c.from.ensures
           ∙ sym (named_more c.args.labels.now c.loop-label.label-index c.label-item.result n (omega arith) c.label-item.is);
-      small = small_more c.loop-label.numbers c.insert.new.self c.from.result few c.loop-label.invariant.small c.in_ok-insert.ensures.updates;
+      small = small_more c.loop-label.numbers c.insert.new.self c.from.result few c.loop-label.invariant.small
+          c.in_ok-insert.ensures.updates;
     }

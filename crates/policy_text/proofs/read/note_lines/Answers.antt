@@ -15,21 +15,28 @@ loop-line-preserved c =
     let left = lines_left c.loop-line.line-iterator in
     let more = lines_left c.next.new.self in
     record {
-      forms = forms_step c.args.kind line left more (form_fault c.args.kind (body c.args.bytes.now)) c.in-Some.ensures.steps c.loop-line.invariant.forms (form_some c.args.kind line entry says);
+      forms = forms_step c.args.kind line left more (form_fault c.args.kind (body c.args.bytes.now)) c.in-Some.ensures.steps
+          c.loop-line.invariant.forms (form_some c.args.kind line entry says);
       numbers = λ n.
-          numbers_step c.args.kind line left more c.loop-line.noted.numbers c.note_line.new.noted.numbers n (has_label (told c.args.kind (body c.args.bytes.now)) n) c.in-Some.ensures.steps
-          (c.loop-line.invariant.numbers n) (noted_numbers c.args.kind line entry c.loop-line.noted c.note_line.new.noted n says notes);
+          numbers_step c.args.kind line left more c.loop-line.noted.numbers c.note_line.new.noted.numbers n
+          (has_label (told c.args.kind (body c.args.bytes.now)) n) c.in-Some.ensures.steps
+          (c.loop-line.invariant.numbers n) (noted_numbers c.args.kind line entry c.loop-line.noted c.note_line.new.noted
+          n says notes);
       edges =
-          edges_step c.args.kind line left more c.loop-line.noted.edges c.note_line.new.noted.edges (count_by (λ t. is_edge t.1) (told c.args.kind (body c.args.bytes.now))) c.in-Some.ensures.steps
+          edges_step c.args.kind line left more c.loop-line.noted.edges c.note_line.new.noted.edges
+          (count_by (λ t. is_edge t.1) (told c.args.kind (body c.args.bytes.now))) c.in-Some.ensures.steps
           c.loop-line.invariant.edges (noted_edges c.args.kind line entry c.loop-line.noted c.note_line.new.noted says notes);
       near = notes.near c.loop-line.invariant.near;
       lines =
           ap (λ ts. ts ++ told c.args.kind more) notes.lines
-          ∙ told_on c.args.kind (told_lines c.loop-line.noted.lines.items) line entry left more (told c.args.kind (body c.args.bytes.now)) c.in-Some.ensures.steps c.loop-line.invariant.lines says;
+          ∙ told_on c.args.kind (told_lines c.loop-line.noted.lines.items) line entry left more
+          (told c.args.kind (body c.args.bytes.now)) c.in-Some.ensures.steps c.loop-line.invariant.lines says;
     }
 
 pub returns-in_err-note_line : goal.returns-in_err-note_line
 returns-in_err-note_line c =
-    notes_refused c.args.kind (body c.args.bytes.now) c.from_residual-in_err-note_line.result c.in_err-note_line.field-0.0 c.from_residual-in_err-note_line.ensures.1
-    (forms_fail c.args.kind (line_of c.in-Some.line) (lines_left c.loop-line.line-iterator) (lines_left c.next.new.self) (form_fault c.args.kind (body c.args.bytes.now)) c.in_err-note_line.field-0.0
+    notes_refused c.args.kind (body c.args.bytes.now) c.from_residual-in_err-note_line.result c.in_err-note_line.field-0.0
+    c.from_residual-in_err-note_line.ensures.1
+    (forms_fail c.args.kind (line_of c.in-Some.line) (lines_left c.loop-line.line-iterator) (lines_left c.next.new.self)
+    (form_fault c.args.kind (body c.args.bytes.now)) c.in_err-note_line.field-0.0
     c.in-Some.ensures.steps c.loop-line.invariant.forms c.in_err-note_line.ensures)

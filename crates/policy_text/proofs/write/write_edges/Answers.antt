@@ -13,14 +13,19 @@ loop-at-init g c = lines_begin edge_line c.args.edges.now c.requires
 pub returns-in_err-write_edge : goal.returns-in_err-write_edge
 returns-in_err-write_edge g c =
     let here = sym (get_or_from_slice_get c.args.edges.now c.loop-at.at c.in-Some.edge c.in-Some.edge (sym c.in-Some.ensures)) in
-    writes_exit c.from_residual.ensures.0 (lines_fail edge_line c.args.edges.now c.loop-at.at c.in-Some.edge (omega arith) here c.loop-at.invariant c.in_err-write_edge.ensures)
+    writes_exit c.from_residual.ensures.0 (lines_fail edge_line c.args.edges.now c.loop-at.at c.in-Some.edge (omega arith) here
+    c.loop-at.invariant c.in_err-write_edge.ensures)
 
 pub loop-at-preserved : goal.loop-at-preserved
 loop-at-preserved g c = elim c.match-get_near.branch [
   | in-Some+in_ok-write_edge w ↦
-      let here = sym (get_or_from_slice_get c.args.edges.now c.loop-at.at w.in-Some.edge w.in-Some.edge (sym w.in-Some.ensures)) in
-      rw w.out-is (lines_step edge_line c.args.edges.now c.loop-at.at w.in-Some.edge (omega arith) here c.loop-at.invariant w.in_ok-write_edge.ensures)
-  | in_default w ↦ absurd (w.in_default.not-Some _ (c.get_near.ensures ∙ slice_get-get_or c.args.edges.now c.loop-at.at (record { from = 0; authority = Receive; to = 0 }) (omega arith)))
+      let here = sym (get_or_from_slice_get c.args.edges.now c.loop-at.at w.in-Some.edge w.in-Some.edge
+      (sym w.in-Some.ensures)) in
+      rw w.out-is (lines_step edge_line c.args.edges.now c.loop-at.at w.in-Some.edge (omega arith) here c.loop-at.invariant
+      w.in_ok-write_edge.ensures)
+  | in_default w ↦
+      absurd (w.in_default.not-Some _ (c.get_near.ensures ∙ slice_get-get_or c.args.edges.now c.loop-at.at
+      (record { from = 0; authority = Receive; to = 0 }) (omega arith)))
 ]
 
 pub returns : goal.returns

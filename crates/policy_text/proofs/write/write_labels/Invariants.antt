@@ -8,4 +8,5 @@ abbrev pub invariant-loop-label : goal.invariant-loop-label
 invariant-loop-label g l =
     let sink = g.O.Outputs.sink in
     let faults = g.O.Outputs.faults in
-    Wrote l.channel (flat_map label_line (take l.label-index l.labels)) (sink l.fn.out) (sink l.out) (faults l.fn.out) (faults l.out)
+    Wrote l.channel (flat_map label_line (take l.label-index l.labels)) (sink l.fn.out) (sink l.out) (faults l.fn.out)
+    (faults l.out)

@@ -8,4 +8,5 @@ abbrev pub invariant-loop-object : goal.invariant-loop-object
 invariant-loop-object g l =
     let sink = g.O.Outputs.sink in
     let faults = g.O.Outputs.faults in
-    Wrote l.channel (flat_map object_line (take l.object-index l.objects)) (sink l.fn.out) (sink l.out) (faults l.fn.out) (faults l.out)
+    Wrote l.channel (flat_map object_line (take l.object-index l.objects)) (sink l.fn.out) (sink l.out) (faults l.fn.out)
+    (faults l.out)

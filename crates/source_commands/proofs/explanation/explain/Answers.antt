@@ -18,4 +18,6 @@ answer_of-requires-clause-few g c =
 pub returns-in-Ok-clause-explained : goal.returns-in-Ok-clause-explained
 returns-in-Ok-clause-explained g c m told =
     let q = c.args.question.now in
-    front_explained q.from.now q.authority.now q.to.now c.args.root.now m (g.F.Files.faults c.args.files.now) (g.F.Files.faults c.front.new.files) c.in-Ok.front c.answer_of.result c.told.result (c.in-Ok.ensures.front m told) c.answer_of.ensures c.told.ensures
+    front_explained q.from.now q.authority.now q.to.now c.args.root.now m (g.F.Files.faults c.args.files.now)
+    (g.F.Files.faults c.front.new.files) c.in-Ok.front c.answer_of.result c.told.result (c.in-Ok.ensures.front m told)
+    c.answer_of.ensures c.told.ensures

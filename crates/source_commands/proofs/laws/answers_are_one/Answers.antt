@@ -5,4 +5,5 @@ pub returns-clause-listed : goal.returns-clause-listed
 returns-clause-listed c = λ root m old new later last a b p q x y. one_listing m root old new later last a b p q x y
 
 pub returns-clause-explained : goal.returns-clause-explained
-returns-clause-explained c = λ from authority to root m old new later last a b p q x y. one_explained m root from authority to old new later last a b p q x y
+returns-clause-explained c = λ from authority to root m old new later last a b p q x y. one_explained m root from authority to old
+    new later last a b p q x y

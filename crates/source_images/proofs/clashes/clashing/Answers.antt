@@ -11,7 +11,8 @@ use Rattle.source_images.proofs.clashes.clashing.Goals.{then-shares_any, else-sh
 
 pub index_mut-requires : goal.index_mut-requires
 index_mut-requires c =
-    let below = c.requires _ (told_at c.args.sections.now c.loop-placed.placed-index c.placed-item.result c.loop-placed-test.true c.placed-item.is) in
+    let below = c.requires _ (told_at c.args.sections.now c.loop-placed.placed-index c.placed-item.result c.loop-placed-test.true
+    c.placed-item.is) in
     omega (arith, below, c.loop-placed.invariant.count)
 
 pub loop-placed-preserved : goal.loop-placed-preserved
@@ -22,21 +23,26 @@ loop-placed-preserved c =
     let p = c.placed-item.result in
     let marks = c.loop-placed.marks.items in
     let test : list_any (clashes_with (placed_told p)) all ≡ c.shares_any.result =
-    sym (any-shares all (placed_told p) c.in_ok-index.index c.in_ok-index.ensures) ∙ ap (λ r. list_any (shares r) c.in_ok-index.index) (sym c.region_of.ensures) ∙ sym c.shares_any.ensures in
+    sym (any-shares all (placed_told p) c.in_ok-index.index c.in_ok-index.ensures)
+    ∙ ap (λ r. list_any (shares r) c.in_ok-index.index) (sym c.region_of.ensures) ∙ sym c.shares_any.ensures in
     let below = c.requires _ (told_at ps i p c.loop-placed-test.true c.placed-item.is) in
     elim c.if-shares_any.branch [
       | then-shares_any w ↦ rw w.marks-is (record {
         count = length-set marks p.image true ∙ c.loop-placed.invariant.count;
-        rest = marked_turn all ps i p marks c.loop-placed-test.true c.placed-item.is c.loop-placed.invariant.rest (test ∙ w.if-shares_any.true) (omega (arith, below, c.loop-placed.invariant.count));
+        rest = marked_turn all ps i p marks c.loop-placed-test.true c.placed-item.is c.loop-placed.invariant.rest
+            (test ∙ w.if-shares_any.true) (omega (arith, below, c.loop-placed.invariant.count));
       })
       | else-shares_any w ↦ rw w.marks-is (record {
         count = c.loop-placed.invariant.count;
-        rest = unmarked_turn all ps i p marks c.loop-placed-test.true c.placed-item.is c.loop-placed.invariant.rest (test ∙ w.if-shares_any.false);
+        rest = unmarked_turn all ps i p marks c.loop-placed-test.true c.placed-item.is c.loop-placed.invariant.rest
+            (test ∙ w.if-shares_any.false);
       })
     ]
 
 pub returns-then-sections-lt2-clause-marks : goal.returns-then-sections-lt2-clause-marks
-returns-then-sections-lt2-clause-marks c = λ m. alone c.args.sections.now c.in_ok-marks.marks.items c.args.images m c.if-sections-lt2.true (c.in_ok-marks.ensures.items_if_clones_equal (λ y e. search rules))
+returns-then-sections-lt2-clause-marks c = λ m. alone c.args.sections.now c.in_ok-marks.marks.items c.args.images m
+    c.if-sections-lt2.true (c.in_ok-marks.ensures.items_if_clones_equal (λ y e. search rules))
 
 pub returns-clause-marks : goal.returns-clause-marks
-returns-clause-marks c = λ m. all_marked (sections_told c.args.sections.now) c.args.sections.now c.loop-placed.placed-index m _ c.loop-placed-test.false (c.loop-placed.invariant.rest m)
+returns-clause-marks c = λ m. all_marked (sections_told c.args.sections.now) c.args.sections.now c.loop-placed.placed-index m _
+    c.loop-placed-test.false (c.loop-placed.invariant.rest m)

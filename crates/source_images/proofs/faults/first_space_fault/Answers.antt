@@ -16,7 +16,8 @@ note_domain-requires-clause-leaves c = λ leaf i.
     let ys = c.as_slice-domain-items.result.now in
     let k = c.loop-domain.domain-index in
     let domain = c.domain-item.result in
-    c.requires.listed domain (in_place domain domains k (read_place domains ys k domain c.as_slice-domain-items.ensures c.loop-domain-test.true c.domain-item.is)) leaf (subst (IsIn leaf) c.as_slice.ensures i)
+    c.requires.listed domain (in_place domain domains k (read_place domains ys k domain c.as_slice-domain-items.ensures
+    c.loop-domain-test.true c.domain-item.is)) leaf (subst (IsIn leaf) c.as_slice.ensures i)
 
 pub loop-domain-preserved : goal.loop-domain-preserved
 loop-domain-preserved c =
@@ -36,6 +37,8 @@ returns c =
     let flat = c.args.flat.now in
     let images = c.args.images.now in
     let all = space_faults flat images in
-    let behind : length flat.domains ≤ c.loop-domain.domain-index = subst (λ z. length z ≤ c.loop-domain.domain-index) c.as_slice-domain-items.ensures c.loop-domain-test.false in
-    c.fault.ensures ∙ sym (at_drop_all (λ z. noted c.loop-domain.first (flat_map (λ d. domain_faults flat images d.leaves) z)) flat.domains c.loop-domain.domain-index behind)
+    let behind : length flat.domains ≤ c.loop-domain.domain-index = subst (λ z. length z ≤ c.loop-domain.domain-index)
+    c.as_slice-domain-items.ensures c.loop-domain-test.false in
+    c.fault.ensures ∙ sym (at_drop_all (λ z. noted c.loop-domain.first (flat_map (λ d. domain_faults flat images d.leaves) z))
+    flat.domains c.loop-domain.domain-index behind)
     ∙ c.loop-domain.invariant ∙ noted-none all

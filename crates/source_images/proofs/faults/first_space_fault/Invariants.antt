@@ -6,4 +6,5 @@ use Rattle.source_images.proofs.faults.first_space_fault.Given as goal
 
 abbrev pub invariant-loop-domain : goal.invariant-loop-domain
 invariant-loop-domain l =
-    noted l.first (flat_map (λ domain. domain_faults l.flat l.images domain.leaves) (drop l.domain-index l.flat.domains)) ≡ noted None (space_faults l.flat l.images)
+    noted l.first (flat_map (λ domain. domain_faults l.flat l.images domain.leaves) (drop l.domain-index l.flat.domains)) ≡ noted
+    None (space_faults l.flat l.images)

@@ -14,7 +14,9 @@ use Rattle.source_images.proofs.faults.note_domain.Goals as goal
 pub clashing-requires : goal.clashing-requires
 clashing-requires c = λ x i.
     let images = c.args.images.now in
-    let from = comes_from images c.args.leaves.now x (subst (IsIn x) (ap sections_told c.as_slice.ensures.value ∙ c.in_ok-sections.ensures) i) in
+    let from =
+    comes_from images c.args.leaves.now x (subst (IsIn x) (ap sections_told c.as_slice.ensures.value
+    ∙ c.in_ok-sections.ensures) i) in
     subst (λ n. x.image < n) (sym c.len.ensures) (below images.images x.image from.image from.at)
 
 pub returns : goal.returns
@@ -23,7 +25,9 @@ returns c =
     let leaves = c.args.leaves.now in
     let all = sections_of images leaves in
     let told : sections_told c.as_slice.result.now ≡ all = ap sections_told c.as_slice.ensures.value ∙ c.in_ok-sections.ensures in
-    subst (λ p. OnOk c.note_leaves.result (c.note_leaves.new.first ≡ noted c.args.first.now (flat_map (leaf_faults c.args.flat.now images p) leaves)))
+    subst
+    (λ p. OnOk c.note_leaves.result (c.note_leaves.new.first ≡ noted c.args.first.now
+    (flat_map (leaf_faults c.args.flat.now images p) leaves)))
     (same_tests (λ m. get_or c.as_slice-2.result.now m false) (clashes all)
     (λ m. ap (λ z. get_or z m false) c.as_slice-2.ensures.value ∙ c.in_ok-clashing.ensures.marks m ∙ ap (λ z. clashes z m) told))
     c.note_leaves.ensures

@@ -7,11 +7,13 @@ use Rattle.source_images.proofs.reading.read_bytes.Goals as goal
 pub returns-clause-read_fault : goal.returns-clause-read_fault
 returns-clause-read_fault g c failed =
     let faults = g.F.Files.faults in
-    subst (λ name. Rose (faults c.args.files.now name) (faults c.read_whole.new.files name)) c.as_str.ensures.value (c.read_whole.ensures.read_fault failed)
+    subst (λ name. Rose (faults c.args.files.now name) (faults c.read_whole.new.files name)) c.as_str.ensures.value
+    (c.read_whole.ensures.read_fault failed)
 
 pub returns-clause-learned : goal.returns-clause-learned
 returns-clause-learned g c =
-    subst (λ name. LearnsOnly g.F.Files.told (AlikeAsRead name) c.args.files.now c.read_whole.new.files) c.as_str.ensures.value c.read_whole.ensures.learned
+    subst (λ name. LearnsOnly g.F.Files.told (AlikeAsRead name) c.args.files.now c.read_whole.new.files) c.as_str.ensures.value
+    c.read_whole.ensures.learned
 
 pub returns-clause-whole : goal.returns-clause-whole
 returns-clause-whole g c m told = rw c.as_str.ensures.value at (c.read_whole.ensures.whole m told)

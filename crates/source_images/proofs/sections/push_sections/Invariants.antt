@@ -5,4 +5,5 @@ use Rattle.source_images.specs.ProgramsTold.{sections_told}
 use Rattle.source_images.proofs.sections.push_sections.Given as goal
 
 abbrev pub invariant-loop-place : goal.invariant-loop-place
-invariant-loop-place l = sections_told l.found.items ≡ sections_told l.fn.found.items ++ gather (λ n section. placed l.number n section ∷ []) (take l.place l.image.sections)
+invariant-loop-place l = sections_told l.found.items ≡ sections_told l.fn.found.items
+    ++ gather (λ n section. placed l.number n section ∷ []) (take l.place l.image.sections)

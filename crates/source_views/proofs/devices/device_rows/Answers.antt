@@ -12,4 +12,5 @@ loop-place-preserved c =
     c.as_slice-connections.result.now _ c.loop-place.place _ [] _ _ refl
     c.loop-place-test.true c.index-connections-place.is c.loop-place.invariant
     (c.in_ok-push_connection.ensures
-    ∙ ap (λ (s : List EndSetting). c.loop-place.rows ++ connection_rows (named c.args.names.now) s c.index-connections-place.result) c.settings_in-settings.ensures)
+    ∙ ap (λ (s : List EndSetting). c.loop-place.rows ++ connection_rows (named c.args.names.now) s
+    c.index-connections-place.result) c.settings_in-settings.ensures)

@@ -11,5 +11,6 @@ returns c =
     let note =
     and_then text c.extend.new.self c.add_escaped.new.text (codes "<abbr title=\"") (escaped m.note) c.in_ok-extend.ensures.ok
     (rw c.as_bytes.ensures at c.in_ok-add_escaped.ensures) in
-    and_last c.add_authority.result text c.add_escaped.new.text c.add_authority.new.text (codes "<abbr title=\"" ++ escaped m.note)
+    and_last c.add_authority.result text c.add_escaped.new.text c.add_authority.new.text (codes "<abbr title=\""
+    ++ escaped m.note)
     (authority_text m.edge.authority) note c.add_authority.ensures

@@ -8,5 +8,7 @@ pub returns : goal.returns
 returns c =
     let text = c.args.text.now in
     let matrix = matrix_of c.args.policy.now c.args.notes.now in
-    let words = and_then text c.add.new.text c.add_matrix.new.text matrix_words matrix c.in_ok-add.ensures c.in_ok-add_matrix.ensures in
-    and_last c.extend.result text c.add_matrix.new.text c.extend.new.self (matrix_words ++ matrix) (codes "</div>\n") words c.extend.ensures.ok
+    let words = and_then text c.add.new.text c.add_matrix.new.text matrix_words matrix c.in_ok-add.ensures
+    c.in_ok-add_matrix.ensures in
+    and_last c.extend.result text c.add_matrix.new.text c.extend.new.self (matrix_words ++ matrix) (codes "</div>\n") words
+    c.extend.ensures.ok

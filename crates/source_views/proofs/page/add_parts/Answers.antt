@@ -15,8 +15,10 @@ returns c =
     let to_devices = to_summary ++ devices_part p.names p.settled in
     let to_matrix = to_devices ++ matrix_part p.policy p.notes in
     let to_heading = to_matrix ++ codes "<h2>Domains</h2>\n" in
-    let head = and_then text c.add_head.new.text c.add_theorem.new.text (page_head p.root) theorem c.in_ok-add_head.ensures c.in_ok-add_theorem.ensures in
-    let files = and_then text c.add_theorem.new.text c.add_files.new.text to_theorem (files_part p.names.source) head c.in_ok-add_files.ensures in
+    let head = and_then text c.add_head.new.text c.add_theorem.new.text (page_head p.root) theorem c.in_ok-add_head.ensures
+    c.in_ok-add_theorem.ensures in
+    let files = and_then text c.add_theorem.new.text c.add_files.new.text to_theorem (files_part p.names.source) head
+    c.in_ok-add_files.ensures in
     let summary =
     and_then text c.add_files.new.text c.add_summary.new.text to_files numbers files
     (rw c.of-summary.ensures at c.in_ok-add_summary.ensures) in
@@ -27,8 +29,10 @@ returns c =
     and_then text c.add_devices.new.text c.add_matrix_part.new.text to_devices (matrix_part p.policy p.notes) devices
     c.in_ok-add_matrix_part.ensures in
     let heading =
-    and_then text c.add_matrix_part.new.text c.extend.new.self to_matrix (codes "<h2>Domains</h2>\n") matrix c.in_ok-extend.ensures.ok in
+    and_then text c.add_matrix_part.new.text c.extend.new.self to_matrix (codes "<h2>Domains</h2>\n") matrix
+    c.in_ok-extend.ensures.ok in
     let domains =
-    and_then text c.extend.new.self c.add_domains.new.text to_heading (domain_parts p.names p.map) heading c.in_ok-add_domains.ensures in
+    and_then text c.extend.new.self c.add_domains.new.text to_heading (domain_parts p.names p.map) heading
+    c.in_ok-add_domains.ensures in
     and_last c.extend-2.result text c.add_domains.new.text c.extend-2.new.self (to_heading ++ domain_parts p.names p.map)
     (codes "</body>\n</html>\n") domains c.extend-2.ensures.ok

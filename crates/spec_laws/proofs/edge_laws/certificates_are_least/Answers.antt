@@ -6,4 +6,5 @@ use Rattle.system_spec.specs.Made.{spec_of}
 use Rattle.spec_laws.proofs.edge_laws.certificates_are_least.Goals as goal
 
 pub returns : goal.returns
-returns c = λ t h apart kept cert is_cert. least (policy_tables t) (spec_of t) (labels t) cert h.flat apart (laid_out t h apart kept) is_cert
+returns c = λ t h apart kept cert is_cert. least (policy_tables t) (spec_of t) (labels t) cert h.flat apart
+    (laid_out t h apart kept) is_cert

@@ -10,4 +10,8 @@ pub returns-clause-frames : goal.returns-clause-frames
 returns-clause-frames c = frame_labels
 
 pub returns-clause-joints : goal.returns-clause-joints
-returns-clause-joints c = λ t can. record { endpoints = endpoints_are t can; notifications = notifications_are t can; irqs = irqs_are t can }
+returns-clause-joints c = λ t can. record {
+  endpoints = endpoints_are t can;
+  notifications = notifications_are t can;
+  irqs = irqs_are t can;
+}

@@ -14,4 +14,5 @@ pub show_spaces-requires-clause-imaged : goal.show_spaces-requires-clause-imaged
 show_spaces-requires-clause-imaged g c =
     let m = c.args.meaning.now in
     let some = g.met.F.Files.some c.read_images.new.files in
-    images_imaged some.0 _ m c.in-Ok.images (c.in-Ok.ensures.read some.0 some.1) (sound_within m.source m.flat m.settled c.requires)
+    images_imaged some.0 _ m c.in-Ok.images (c.in-Ok.ensures.read some.0 some.1)
+    (sound_within m.source m.flat m.settled c.requires)

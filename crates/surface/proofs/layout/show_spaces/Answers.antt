@@ -6,4 +6,5 @@ pub lay_spaces-laid-requires-clause-within : goal.lay_spaces-laid-requires-claus
 lay_spaces-laid-requires-clause-within c = let m = c.args.meaning.now in sound_within m.source m.flat m.settled c.requires.sound
 
 pub lay_spaces-laid-requires-clause-settled : goal.lay_spaces-laid-requires-clause-settled
-lay_spaces-laid-requires-clause-settled c = let m = c.args.meaning.now in sound_lays m.source m.flat m.settled c.args.images.now c.requires.sound
+lay_spaces-laid-requires-clause-settled c = let m = c.args.meaning.now in
+    sound_lays m.source m.flat m.settled c.args.images.now c.requires.sound

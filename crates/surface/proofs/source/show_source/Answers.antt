@@ -11,4 +11,5 @@ show_names-requires-clause-few g c =
 pub show_names-requires-clause-members : goal.show_names-requires-clause-members
 show_names-requires-clause-members g c =
     let some = g.met.F.Files.some c.load.new.files in
-    short_few c.in-Ok.source (loaded_whole some.0 (codes "app.camkes") c.in-Ok.source (c.in-Ok.ensures.loaded some.0 some.1)).short
+    short_few c.in-Ok.source (loaded_whole some.0 (codes "app.camkes") c.in-Ok.source
+    (c.in-Ok.ensures.loaded some.0 some.1)).short

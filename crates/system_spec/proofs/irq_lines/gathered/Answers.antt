@@ -15,7 +15,8 @@ use Rattle.system_spec.proofs.Bounds.{ends}
 use Rattle.system_spec.proofs.Placing.{as_long}
 use Rattle.system_spec.proofs.irq_lines.gathered.Goals as goal
 
-length-line : (t : Tables) (k : ℕ) (c : FlatConnection) (o : Owner) (by : Connector) → length (line_by t k c by) ≡ length (irq_by k o by)
+length-line : (t : Tables) (k : ℕ) (c : FlatConnection) (o : Owner) (by : Connector)
+    → length (line_by t k c by) ≡ length (irq_by k o by)
 length-line t k c o Rpc = refl
 length-line t k c o Notification = refl
 length-line t k c o Interrupt = refl
@@ -24,7 +25,8 @@ length-line t k c o Mmio = refl
 length-line t k c o Direct = refl
 
 -- as many lines as interrupts so far
-so_far : (t : Tables) (i n : ℕ) (lines : List (ℕ × ℕ)) → lines ≡ gather (line t) (take i t.flat.connections) → n ≡ length lines → n ≡ before irq t.flat.connections i
+so_far : (t : Tables) (i n : ℕ) (lines : List (ℕ × ℕ)) → lines ≡ gather (line t) (take i t.flat.connections) → n ≡ length lines
+    → n ≡ before irq t.flat.connections i
 so_far t i n lines e l =
     l ∙ ap (λ (z : List (ℕ × ℕ)). length z) e
     ∙ as_long (line t) irq (take i t.flat.connections) (λ k c. length-line t k c (irq_owner k c) c.connector)

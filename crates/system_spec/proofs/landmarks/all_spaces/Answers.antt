@@ -15,16 +15,23 @@ tables_at-requires-clause-shown c = λ p i.
     inr (omega (arith, c.requires.frames, one, all))
 
 pub tables_at-requires-clause-few : goal.tables_at-requires-clause-few
-tables_at-requires-clause-few c = tables_few (told c.args.tables.now) c.args.frames c.loop-number.number c.loop-number.next c.requires.buildable.few (omega arith) c.loop-number.invariant.next
+tables_at-requires-clause-few c = tables_few (told c.args.tables.now) c.args.frames c.loop-number.number c.loop-number.next
+    c.requires.buildable.few (omega arith) c.loop-number.invariant.next
 
 pub overflow_cast-count : goal.overflow_cast-count
-overflow_cast-count c = omega (arith, c.len-count.ensures, few_objects (told c.args.tables.now) c.loop-number.next c.args.frames c.loop-number.number _ c.requires.buildable.few c.in_ok-objects.ensures)
+overflow_cast-count c = omega (
+  arith,
+  c.len-count.ensures,
+  few_objects (told c.args.tables.now) c.loop-number.next c.args.frames
+      c.loop-number.number _ c.requires.buildable.few c.in_ok-objects.ensures,
+)
 
 pub overflow_add-next : goal.overflow_add-next
 overflow_add-next c =
     let t = told c.args.tables.now in
     let d = c.loop-number.number in
-    let more = tables_turn t c.loop-number.next c.args.frames d c.loop-number.next _ (omega arith) c.in_ok-objects.ensures c.loop-number.invariant.next in
+    let more = tables_turn t c.loop-number.next c.args.frames d c.loop-number.next _ (omega arith) c.in_ok-objects.ensures
+    c.loop-number.invariant.next in
     omega (arith, c.len-count.ensures, more, tables_within t (d + 1) c.requires.buildable.few)
 
 pub loop-number-preserved : goal.loop-number-preserved
@@ -34,7 +41,10 @@ loop-number-preserved c =
     let next = c.loop-number.next in
     let more = tables_turn t next c.args.frames d next _ (omega arith) c.in_ok-objects.ensures c.loop-number.invariant.next in
     record {
-      so_far = place_turn (λ n (x : Domain). space_tables t n ∷ []) t.flat.domains d [] _ _ (omega arith) c.loop-number.invariant.so_far
-          (λ x. c.in_ok-push.ensures.ok ∙ ap (λ z. c.loop-number.spaces ++ z ∷ []) (space_is t d next c.args.frames _ (table_place t d next c.loop-number.invariant.next) (omega (arith, c.requires.frames)) c.in_ok-objects.ensures));
+      so_far = place_turn (λ n (x : Domain). space_tables t n ∷ []) t.flat.domains d [] _ _ (omega arith)
+          c.loop-number.invariant.so_far
+          (λ x. c.in_ok-push.ensures.ok ∙ ap (λ z. c.loop-number.spaces ++ z ∷ [])
+          (space_is t d next c.args.frames _ (table_place t d next c.loop-number.invariant.next)
+          (omega (arith, c.requires.frames)) c.in_ok-objects.ensures));
       next = omega (arith, c.len-count.ensures, more);
     }

@@ -9,5 +9,6 @@ use Rattle.system_spec.proofs.landmarks.all_spaces.Given as goal
 abbrev pub invariant-loop-number : goal.invariant-loop-number
 invariant-loop-number l = record {
   so_far : l.spaces ≡ gather (λ d (x : Domain). space_tables (told l.tables) d ∷ []) (take l.number l.tables.flat.now.domains);
-  next : l.next ≡ first_of (told l.tables) 6 + length (gather (domain_tables (told l.tables)) (take l.number l.tables.flat.now.domains));
+  next : l.next ≡ first_of (told l.tables) 6 + length
+      (gather (domain_tables (told l.tables)) (take l.number l.tables.flat.now.domains));
 }

@@ -3,4 +3,5 @@ use Rattle.vspace_layout.specs.declared.spaces.Page.{Page}
 use Rattle.system_spec.proofs.levels.addresses.Given as goal
 
 abbrev pub invariant-loop-page : goal.invariant-loop-page
-invariant-loop-page l = l.addresses ++ map (λ (p : Page). p.vaddr) (drop l.page-index l.pages) ≡ map (λ (p : Page). p.vaddr) l.pages
+invariant-loop-page l = l.addresses ++ map (λ (p : Page). p.vaddr) (drop l.page-index l.pages) ≡ map
+    (λ (p : Page). p.vaddr) l.pages

@@ -30,5 +30,6 @@ loop-number-preserved c =
     let d = c.loop-number.number in
     place_turn (domain_tables t) t.flat.domains d [] _ _
     (omega arith) c.loop-number.invariant (λ x. c.in_ok-push_page_tables.ensures
-    ∙ ap (λ z. c.loop-number.all ++ z) (ap (λ z. gather (λ j (level : Level). page_table d j level ∷ []) z) (c.as_slice.ensures ∙ c.in_ok-levels.ensures)
+    ∙ ap (λ z. c.loop-number.all ++ z) (ap (λ z. gather (λ j (level : Level). page_table d j level ∷ []) z) (c.as_slice.ensures
+    ∙ c.in_ok-levels.ensures)
     ∙ gather_mapped (λ j (level : Level). page_table d j level ∷ []) level_of (tables_at t 0 0 d)))

@@ -3,4 +3,5 @@ use Rattle.system_spec.specs.Parts.{page_mapping}
 use Rattle.system_spec.proofs.levels.mappings.Given as goal
 
 abbrev pub invariant-loop-page : goal.invariant-loop-page
-invariant-loop-page l = l.mappings ++ map (page_mapping l.frames) (drop l.page-index l.pages) ≡ map (page_mapping l.frames) l.pages
+invariant-loop-page l = l.mappings ++ map (page_mapping l.frames) (drop l.page-index l.pages) ≡ map
+    (page_mapping l.frames) l.pages

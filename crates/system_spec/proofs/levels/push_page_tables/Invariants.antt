@@ -5,4 +5,5 @@ use Rattle.system_spec.specs.Parts.{page_table}
 use Rattle.system_spec.proofs.levels.push_page_tables.Given as goal
 
 abbrev pub invariant-loop-place : goal.invariant-loop-place
-invariant-loop-place l = l.all ≡ l.fn.all ++ gather (λ j (level : Level). page_table l.domain j level ∷ []) (take l.place l.levels)
+invariant-loop-place l = l.all ≡ l.fn.all ++ gather (λ j (level : Level). page_table l.domain j level ∷ [])
+    (take l.place l.levels)

@@ -18,10 +18,15 @@ loop-table-preserved c =
     let none : PageTable = record { domain = 0; place = 0; level = Global } in
     let x = get_or all i none in
     let below = c.loop-table-test.true in
-    let number = c.counted.ensures ∙ ap (λ z. counted z x.level) c.loop-table.invariant.counts ∙ counted_in (take i all) x.level in
+    let number = c.counted.ensures ∙ ap (λ z. counted z x.level) c.loop-table.invariant.counts
+    ∙ counted_in (take i all) x.level in
     record {
-      so_far = gather_turn (λ m (y : PageTable). table_part all m y ∷ []) all _ i x [] _ _ refl below (get_or_default _ _ _ _ below) c.loop-table.invariant.so_far
-          (c.in_ok-push.ensures.ok ∙ ap (λ z. c.loop-table.parts ++ part z c.counted.result (OfDomain x.domain) (TableOf x.domain x.place) ∷ []) c.of_level.ensures
-          ∙ ap (λ z. c.loop-table.parts ++ part (level_series x.level) z (OfDomain x.domain) (TableOf x.domain x.place) ∷ []) number);
-      counts = c.one_more-counts.ensures ∙ ap (λ z. one_more z x.level) c.loop-table.invariant.counts ∙ sym (counts_more all i x x.level below (get_or_default _ _ _ _ below) refl);
+      so_far = gather_turn (λ m (y : PageTable). table_part all m y ∷ []) all _ i x [] _ _ refl below
+          (get_or_default _ _ _ _ below) c.loop-table.invariant.so_far
+          (c.in_ok-push.ensures.ok ∙ ap (λ z. c.loop-table.parts ++ part z c.counted.result (OfDomain x.domain)
+          (TableOf x.domain x.place) ∷ []) c.of_level.ensures
+          ∙ ap (λ z. c.loop-table.parts ++ part (level_series x.level) z (OfDomain x.domain) (TableOf x.domain x.place)
+          ∷ []) number);
+      counts = c.one_more-counts.ensures ∙ ap (λ z. one_more z x.level) c.loop-table.invariant.counts
+          ∙ sym (counts_more all i x x.level below (get_or_default _ _ _ _ below) refl);
     }

@@ -12,4 +12,5 @@ pub loop-number-preserved : goal.loop-number-preserved
 loop-number-preserved c =
     let t = told c.args.tables.now in
     place_turn (domain_locks t) t.flat.domains c.loop-number.number [] _ _
-    (omega arith) c.loop-number.invariant (λ x. c.in_ok-push_locks.ensures ∙ ap (λ z. c.loop-number.items ++ gather (lock c.loop-number.number) z) c.uses_at.ensures)
+    (omega arith) c.loop-number.invariant (λ x. c.in_ok-push_locks.ensures
+    ∙ ap (λ z. c.loop-number.items ++ gather (lock c.loop-number.number) z) c.uses_at.ensures)

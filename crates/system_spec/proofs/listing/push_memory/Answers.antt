@@ -9,9 +9,18 @@ use Rattle.system_spec.specs.Tables.{frame_owner}
 use Rattle.system_spec.proofs.listing.push_memory.Goals as goal
 
 pub table_parts-requires : goal.table_parts-requires
-table_parts-requires c = omega (arith, ap length (c.as_slice.ensures ∙ c.in_ok-all.ensures), (bounds (told c.args.tables.now) c.requires).tables)
+table_parts-requires c = omega (
+  arith,
+  ap length (c.as_slice.ensures ∙ c.in_ok-all.ensures),
+  (bounds (told c.args.tables.now) c.requires).tables,
+)
 
 pub frames-requires : goal.frames-requires
 frames-requires c =
     let frames = c.args.tables.now.spaces.now.frames in
-    omega (arith, ap length c.as_slice-2.ensures, (bounds (told c.args.tables.now) c.requires).frames, gather_ones (λ f (x : FrameInfo). owned (frame_owner x.owner) (FrameOf f)) frames)
+    omega (
+      arith,
+      ap length c.as_slice-2.ensures,
+      (bounds (told c.args.tables.now) c.requires).frames,
+      gather_ones (λ f (x : FrameInfo). owned (frame_owner x.owner) (FrameOf f)) frames,
+    )

@@ -11,4 +11,5 @@ pub loop-number-preserved : goal.loop-number-preserved
 loop-number-preserved c =
     let t = told c.args.tables.now in
     place_turn (domain_tcbs t) t.flat.domains c.loop-number.number [] _ _
-    (omega arith) c.loop-number.invariant (λ x. c.in_ok-push_threads.ensures ∙ ap (λ z. c.loop-number.items ++ threads_of c.loop-number.number z) c.threads_at.ensures)
+    (omega arith) c.loop-number.invariant (λ x. c.in_ok-push_threads.ensures
+    ∙ ap (λ z. c.loop-number.items ++ threads_of c.loop-number.number z) c.threads_at.ensures)

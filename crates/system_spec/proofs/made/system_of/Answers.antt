@@ -27,8 +27,10 @@ pub push_objects-requires-clause-there : goal.push_objects-requires-clause-there
 push_objects-requires-clause-there c = λ p i.
     let t = told c.args.tables.now in
     let same = c.as_slice-sections.ensures ∙ c.requires.plan.sections in
-    let at = read_place (sections t) c.as_slice-sections.result.now c.loop-section.section-index _ same c.loop-section-test.true c.section-item.is in
-    counted t p.what (there t p (in_together (sections t) c.loop-section.section-index c.section-item.result p at (subst (λ (z : List Part). IsIn p z) c.as_slice-parts.ensures i)))
+    let at = read_place (sections t) c.as_slice-sections.result.now c.loop-section.section-index _ same c.loop-section-test.true
+    c.section-item.is in
+    counted t p.what (there t p (in_together (sections t) c.loop-section.section-index c.section-item.result p at
+    (subst (λ (z : List Part). IsIn p z) c.as_slice-parts.ensures i)))
 
 pub loop-section-preserved : goal.loop-section-preserved
 loop-section-preserved c =
@@ -36,9 +38,11 @@ loop-section-preserved c =
     let xs = c.as_slice-sections.result.now in
     record {
       entries = gather_turn (λ k (ps : List Part). map (entry t) ps) xs _ c.loop-section.section-index _ [] _ _ refl
-          c.loop-section-test.true c.section-item.is c.loop-section.invariant.entries (c.in_ok-push_objects.ensures.entries ∙ ap (λ z. c.loop-section.entries ++ map (entry t) z) c.as_slice-parts.ensures);
+          c.loop-section-test.true c.section-item.is c.loop-section.invariant.entries (c.in_ok-push_objects.ensures.entries
+          ∙ ap (λ z. c.loop-section.entries ++ map (entry t) z) c.as_slice-parts.ensures);
       labels = gather_turn (λ k (ps : List Part). map (part_label t) ps) xs _ c.loop-section.section-index _ [] _ _ refl
-          c.loop-section-test.true c.section-item.is c.loop-section.invariant.labels (c.in_ok-push_objects.ensures.labels ∙ ap (λ z. c.loop-section.by_object ++ map (part_label t) z) c.as_slice-parts.ensures);
+          c.loop-section-test.true c.section-item.is c.loop-section.invariant.labels (c.in_ok-push_objects.ensures.labels
+          ∙ ap (λ z. c.loop-section.by_object ++ map (part_label t) z) c.as_slice-parts.ensures);
     }
 
 pub first_of-requires : goal.first_of-requires
@@ -48,7 +52,8 @@ first_of-requires c =
     record { few = few_in t _ same c.requires.buildable.few; within = at_most_eight t _ 5 same (omega arith) }
 
 pub irq_lines-requires-clause-first : goal.irq_lines-requires-clause-first
-irq_lines-requires-clause-first c = first_is (told c.args.tables.now) _ 5 _ (c.as_slice-sections.ensures ∙ c.requires.plan.sections) c.first_of.ensures
+irq_lines-requires-clause-first c = first_is (told c.args.tables.now) _ 5 _ (c.as_slice-sections.ensures
+    ∙ c.requires.plan.sections) c.first_of.ensures
 
 abbrev spec : Arch → List Entry → List (ℕ × ℕ) → Spec
 spec a es lines = record { arch = a; entries = es; irqs = lines }
@@ -61,7 +66,8 @@ returns-clause-spec c =
     let t = told c.args.tables.now in
     let same = c.as_slice-sections.ensures ∙ c.requires.plan.sections in
     let xs = c.as_slice-sections.result.now in
-    let entries = mapped_whole (entry t) xs c.loop-section.section-index _ c.loop-section-test.false c.loop-section.invariant.entries ∙ ap (λ z. map (entry t) (together z)) same in
+    let entries = mapped_whole (entry t) xs c.loop-section.section-index _ c.loop-section-test.false
+    c.loop-section.invariant.entries ∙ ap (λ z. map (entry t) (together z)) same in
     ap (λ z. spec z c.loop-section.entries c.in_ok-irqs.irqs) c.arch.ensures
     ∙ ap (λ z. spec (arch t) z c.in_ok-irqs.irqs) entries
     ∙ ap (spec (arch t) (map (entry t) (parts t))) c.in_ok-irqs.ensures
@@ -70,4 +76,5 @@ pub returns-clause-labels : goal.returns-clause-labels
 returns-clause-labels c =
     let t = told c.args.tables.now in
     let same = c.as_slice-sections.ensures ∙ c.requires.plan.sections in
-    ap labels (mapped_whole (part_label t) c.as_slice-sections.result.now c.loop-section.section-index _ c.loop-section-test.false c.loop-section.invariant.labels ∙ ap (λ z. map (part_label t) (together z)) same)
+    ap labels (mapped_whole (part_label t) c.as_slice-sections.result.now c.loop-section.section-index _ c.loop-section-test.false
+    c.loop-section.invariant.labels ∙ ap (λ z. map (part_label t) (together z)) same)

@@ -14,5 +14,7 @@ push_windows_of-requires c = subst AreSized (sym c.windows_at.ensures) (c.requir
 pub loop-number-preserved : goal.loop-number-preserved
 loop-number-preserved c =
     let t = told c.args.tables.now in
-    place_turn (λ k (x : Domain). domain_windows t k) t.flat.domains c.loop-number.number c.args.lines.now _ _ (omega arith) c.loop-number.invariant
-    (λ x. c.in_ok-push_windows_of.ensures ∙ ap (λ z. c.loop-number.lines ++ gather (λ j (w : Window). window_line w ∷ []) z) c.windows_at.ensures)
+    place_turn (λ k (x : Domain). domain_windows t k) t.flat.domains c.loop-number.number c.args.lines.now _ _ (omega arith)
+    c.loop-number.invariant
+    (λ x. c.in_ok-push_windows_of.ensures ∙ ap (λ z. c.loop-number.lines ++ gather (λ j (w : Window). window_line w ∷ []) z)
+    c.windows_at.ensures)

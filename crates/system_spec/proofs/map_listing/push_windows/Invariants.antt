@@ -6,4 +6,5 @@ use Rattle.system_spec.specs.Told.{told}
 use Rattle.system_spec.proofs.map_listing.push_windows.Given as goal
 
 abbrev pub invariant-loop-number : goal.invariant-loop-number
-invariant-loop-number l = l.lines ≡ l.fn.lines ++ gather (λ d (x : Domain). domain_windows (told l.tables) d) (take l.number l.tables.flat.now.domains)
+invariant-loop-number l = l.lines ≡ l.fn.lines ++ gather (λ d (x : Domain). domain_windows (told l.tables) d)
+    (take l.number l.tables.flat.now.domains)

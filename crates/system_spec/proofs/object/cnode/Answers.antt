@@ -18,11 +18,14 @@ pub caps_of-requires-clause-first : goal.caps_of-requires-clause-first
 caps_of-requires-clause-first c =
     let t = told c.args.tables.now in
     let d = c.args.domain in
-    c.number_at-first_lock.ensures ∙ ap (λ z. slice_index z d) c.as_slice.ensures ∙ place_found (λ n. place t (LockOf n 0)) t.flat.domains c.args.marks.now.locks d c.requires.marks.locks c.requires.there
+    c.number_at-first_lock.ensures ∙ ap (λ z. slice_index z d) c.as_slice.ensures ∙ place_found (λ n. place t (LockOf n 0))
+    t.flat.domains c.args.marks.now.locks d c.requires.marks.locks c.requires.there
 
 pub caps_of-requires-clause-few : goal.caps_of-requires-clause-few
 caps_of-requires-clause-few c =
     let t = told c.args.tables.now in
     let d = c.args.domain in
-    let first = c.number_at-first_lock.ensures ∙ ap (λ z. slice_index z d) c.as_slice.ensures ∙ place_found (λ n. place t (LockOf n 0)) t.flat.domains c.args.marks.now.locks d c.requires.marks.locks c.requires.there in
+    let first = c.number_at-first_lock.ensures ∙ ap (λ z. slice_index z d) c.as_slice.ensures
+    ∙ place_found (λ n. place t (LockOf n 0)) t.flat.domains c.args.marks.now.locks d c.requires.marks.locks
+    c.requires.there in
     locks_few t d _ _ c.requires.buildable.few c.requires.there c.uses_at-uses.ensures first

@@ -16,7 +16,8 @@ cnode-requires-clause-there c = subst (IsThere (told c.args.tables.now)) c.in-CN
 pub returns-in-CNodeOf : goal.returns-in-CNodeOf
 returns-in-CNodeOf c =
     let t = told c.args.tables.now in
-    IfOk-weaker c.cnode.result (λ o. o ≡ object t (CNodeOf c.in-CNodeOf.domain)) (λ o. o ≡ object t c.args.what) (λ o e. e ∙ ap (object t) (sym c.in-CNodeOf.is)) c.cnode.ensures
+    IfOk-weaker c.cnode.result (λ o. o ≡ object t (CNodeOf c.in-CNodeOf.domain)) (λ o. o ≡ object t c.args.what)
+    (λ o e. e ∙ ap (object t) (sym c.in-CNodeOf.is)) c.cnode.ensures
 
 pub thread_object-requires-clause-there : goal.thread_object-requires-clause-there
 thread_object-requires-clause-there c = subst (IsThere (told c.args.tables.now)) c.in-ThreadOf.is c.requires.there
@@ -24,14 +25,17 @@ thread_object-requires-clause-there c = subst (IsThere (told c.args.tables.now))
 pub returns-in-ThreadOf : goal.returns-in-ThreadOf
 returns-in-ThreadOf c =
     let t = told c.args.tables.now in
-    IfOk-weaker c.thread_object.result (λ o. o ≡ object t (ThreadOf c.in-ThreadOf.domain c.in-ThreadOf.number)) (λ o. o ≡ object t c.args.what) (λ o e. e ∙ ap (object t) (sym c.in-ThreadOf.is)) c.thread_object.ensures
+    IfOk-weaker c.thread_object.result (λ o. o ≡ object t (ThreadOf c.in-ThreadOf.domain c.in-ThreadOf.number))
+    (λ o. o ≡ object t c.args.what) (λ o e. e ∙ ap (object t) (sym c.in-ThreadOf.is)) c.thread_object.ensures
 
 pub returns-in-IrqOf : goal.returns-in-IrqOf
 returns-in-IrqOf c =
     let t = told c.args.tables.now in
     let k = c.in-IrqOf.connection in
     let here = subst (IsThere t) c.in-IrqOf.is c.requires.there in
-    c.irq.ensures ∙ ap (λ z. Irq (Some z)) (place_found (λ j. place t (NotificationOf j)) t.flat.connections c.args.marks.now.connections.notifications k c.requires.marks.connections.notifications here) ∙ ap (object t) (sym c.in-IrqOf.is)
+    c.irq.ensures ∙ ap (λ z. Irq (Some z)) (place_found (λ j. place t (NotificationOf j)) t.flat.connections
+    c.args.marks.now.connections.notifications k c.requires.marks.connections.notifications here)
+    ∙ ap (object t) (sym c.in-IrqOf.is)
 
 pub returns-in-TableOf : goal.returns-in-TableOf
 returns-in-TableOf c =
@@ -39,9 +43,12 @@ returns-in-TableOf c =
     let d = c.in-TableOf.domain in
     let here = subst (IsThere t) c.in-TableOf.is c.requires.there in
     let read = c.as_slice.ensures ∙ c.requires.marks.spaces in
-    IfOk-weaker c.page_table.result (λ o. o ≡ copied (get_or (objects_in c.as_slice.result.now d) c.in-TableOf.place Endpoint)) (λ o. o ≡ object t c.args.what) (λ o e. e ∙ table_read t _ d c.in-TableOf.place read here ∙ ap (object t) (sym c.in-TableOf.is)) c.page_table.ensures
+    IfOk-weaker c.page_table.result (λ o. o ≡ copied (get_or (objects_in c.as_slice.result.now d) c.in-TableOf.place Endpoint))
+    (λ o. o ≡ object t c.args.what) (λ o e. e ∙ table_read t _ d c.in-TableOf.place read here
+    ∙ ap (object t) (sym c.in-TableOf.is)) c.page_table.ensures
 
 pub returns-in-FrameOf : goal.returns-in-FrameOf
 returns-in-FrameOf c =
     let t = told c.args.tables.now in
-    IfOk-weaker c.frame_at.result (λ o. o ≡ object t (FrameOf c.in-FrameOf.number)) (λ o. o ≡ object t c.args.what) (λ o e. e ∙ ap (object t) (sym c.in-FrameOf.is)) c.frame_at.ensures
+    IfOk-weaker c.frame_at.result (λ o. o ≡ object t (FrameOf c.in-FrameOf.number)) (λ o. o ≡ object t c.args.what)
+    (λ o e. e ∙ ap (object t) (sym c.in-FrameOf.is)) c.frame_at.ensures

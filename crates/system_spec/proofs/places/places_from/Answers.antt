@@ -8,7 +8,8 @@ pub overflow_add-next : goal.overflow_add-next
 overflow_add-next c =
     let cs = c.args.connections.now in
     let i = c.loop-connection.connection-index in
-    let more = mark_turn c.args.standing c.args.first cs i c.loop-connection.next _ c.connection-item.result c.loop-connection-test.true c.connection-item.is c.number_of-next.ensures c.loop-connection.invariant.next in
+    let more = mark_turn c.args.standing c.args.first cs i c.loop-connection.next _ c.connection-item.result
+    c.loop-connection-test.true c.connection-item.is c.number_of-next.ensures c.loop-connection.invariant.next in
     omega (arith, c.requires, more, taken_le (mark c.args.standing) cs (i + 1))
 
 pub loop-connection-preserved : goal.loop-connection-preserved
@@ -16,6 +17,9 @@ loop-connection-preserved c =
     let cs = c.args.connections.now in
     let i = c.loop-connection.connection-index in
     record {
-      so_far = places_turn c.args.standing c.args.first cs i c.loop-connection.next c.connection-item.result _ _ c.loop-connection-test.true c.connection-item.is c.loop-connection.invariant.next c.loop-connection.invariant.so_far c.in_ok-push.ensures.ok;
-      next = mark_turn c.args.standing c.args.first cs i c.loop-connection.next _ c.connection-item.result c.loop-connection-test.true c.connection-item.is c.number_of-next.ensures c.loop-connection.invariant.next;
+      so_far = places_turn c.args.standing c.args.first cs i c.loop-connection.next c.connection-item.result _ _
+          c.loop-connection-test.true c.connection-item.is c.loop-connection.invariant.next c.loop-connection.invariant.so_far
+          c.in_ok-push.ensures.ok;
+      next = mark_turn c.args.standing c.args.first cs i c.loop-connection.next _ c.connection-item.result
+          c.loop-connection-test.true c.connection-item.is c.number_of-next.ensures c.loop-connection.invariant.next;
     }

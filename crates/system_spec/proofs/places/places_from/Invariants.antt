@@ -5,6 +5,7 @@ use Rattle.system_spec.proofs.places.places_from.Given as goal
 
 abbrev pub invariant-loop-connection : goal.invariant-loop-connection
 invariant-loop-connection l = record {
-  so_far : l.places ≡ gather (λ k c. (l.first + before (mark l.standing) l.connections k) ∷ []) (take l.connection-index l.connections);
+  so_far : l.places ≡ gather (λ k c. (l.first + before (mark l.standing) l.connections k) ∷ [])
+      (take l.connection-index l.connections);
   next : l.next ≡ l.first + length (gather (mark l.standing) (take l.connection-index l.connections));
 }

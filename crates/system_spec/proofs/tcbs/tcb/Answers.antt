@@ -14,7 +14,8 @@ use Rattle.system_spec.proofs.Threads.{frames_same, tcb_is}
 use Rattle.system_spec.proofs.tcbs.tcb.Goals as goal
 
 pub buffer_cap-requires-clause-rise : goal.buffer_cap-requires-clause-rise
-buffer_cap-requires-clause-rise c = subst (λ (z : List Page). Rises (map (λ p. p.vaddr) z)) (sym c.pages_at.ensures) (c.requires.buildable.rise c.args.domain)
+buffer_cap-requires-clause-rise c = subst (λ (z : List Page). Rises (map (λ p. p.vaddr) z)) (sym c.pages_at.ensures)
+    (c.requires.buildable.rise c.args.domain)
 
 pub buffer_cap-requires-clause-shown : goal.buffer_cap-requires-clause-shown
 buffer_cap-requires-clause-shown c = λ p i.
@@ -29,6 +30,9 @@ returns c =
     let d = c.args.domain in
     let x = c.args.thread.now in
     let m = c.args.marks.now in
-    let root = c.root_in.ensures ∙ ap (λ z. root_in z d) c.as_slice.ensures ∙ root_read t m.spaces d c.requires.marks.spaces c.requires.there in
-    let buffer = c.buffer_cap.ensures ∙ ap (λ z. option_map (λ f. cap (m.first_frame + f) RW 0) (frame_at z x.buffer)) c.pages_at.ensures ∙ frames_same t m.first_frame c.requires.marks.frames (frame_at (pages_at t d) x.buffer) in
-    tcb_is t d x c.leaf_entry.result c.priority.result c.root_in.result _ _ c.leaf_entry.ensures c.priority.ensures (c.in_ok-new.ensures ∙ c.leaf_name.ensures) root buffer
+    let root = c.root_in.ensures ∙ ap (λ z. root_in z d) c.as_slice.ensures ∙ root_read t m.spaces d c.requires.marks.spaces
+    c.requires.there in
+    let buffer = c.buffer_cap.ensures ∙ ap (λ z. option_map (λ f. cap (m.first_frame + f) RW 0) (frame_at z x.buffer))
+    c.pages_at.ensures ∙ frames_same t m.first_frame c.requires.marks.frames (frame_at (pages_at t d) x.buffer) in
+    tcb_is t d x c.leaf_entry.result c.priority.result c.root_in.result _ _ c.leaf_entry.ensures c.priority.ensures
+    (c.in_ok-new.ensures ∙ c.leaf_name.ensures) root buffer

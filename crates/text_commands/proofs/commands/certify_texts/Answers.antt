@@ -12,22 +12,36 @@ returns-in_err-spec-clause-certified g c m told =
 
 pub returns-in_err-allowed-clause-certified : goal.returns-in_err-allowed-clause-certified
 returns-in_err-allowed-clause-certified g c m told =
-    rw (is_err c.from_residual-in_err-allowed.result c.in_err-allowed.field-0.0 c.from_residual-in_err-allowed.ensures.0 c.from_residual-in_err-allowed.ensures.1)
+    rw (is_err c.from_residual-in_err-allowed.result c.in_err-allowed.field-0.0 c.from_residual-in_err-allowed.ensures.0
+    c.from_residual-in_err-allowed.ensures.1)
     (inl (
       c.in_ok-spec.spec,
-      (turn_until m g.F.Files.faults tell_text capdl.IsRead c.args.cdl.now c.args.files.now c.read_system.new.files c.read_labels.new.files c.in_ok-spec.spec (c.in_ok-spec.ensures.system m (c.in_err-allowed.ensures.kept.told_still m told))),
-      inr (c.in_err-allowed.field-0.0, (turn_after m g.F.Files.faults tell_text IsPolicyRead c.args.policy.now c.args.files.now c.read_system.new.files c.read_labels.new.files (Err c.in_err-allowed.field-0.0) c.in_ok-spec.ensures.kept (c.in_err-allowed.ensures.policy m told)), refl),
+      (turn_until m g.F.Files.faults tell_text capdl.IsRead c.args.cdl.now c.args.files.now c.read_system.new.files
+          c.read_labels.new.files c.in_ok-spec.spec
+          (c.in_ok-spec.ensures.system m (c.in_err-allowed.ensures.kept.told_still m told))),
+      inr (
+        c.in_err-allowed.field-0.0,
+        (turn_after m g.F.Files.faults tell_text IsPolicyRead c.args.policy.now c.args.files.now
+            c.read_system.new.files c.read_labels.new.files (Err c.in_err-allowed.field-0.0) c.in_ok-spec.ensures.kept
+            (c.in_err-allowed.ensures.policy m told)),
+        refl,
+      ),
     ))
 
 pub returns-in_err-labels-clause-certified : goal.returns-in_err-labels-clause-certified
 returns-in_err-labels-clause-certified g c m told =
-    rw (is_err c.from_residual-in_err-labels.result c.in_err-labels.field-0.0 c.from_residual-in_err-labels.ensures.0 c.from_residual-in_err-labels.ensures.1)
+    rw (is_err c.from_residual-in_err-labels.result c.in_err-labels.field-0.0 c.from_residual-in_err-labels.ensures.0
+    c.from_residual-in_err-labels.ensures.1)
     (inl (
       c.in_ok-spec.spec,
-      (turn_until m g.F.Files.faults tell_text capdl.IsRead c.args.cdl.now c.args.files.now c.read_system.new.files c.read_labels.new.files c.in_ok-spec.spec (c.in_ok-spec.ensures.system m (c.in_ok-allowed.ensures.kept.told_still m told))),
+      (turn_until m g.F.Files.faults tell_text capdl.IsRead c.args.cdl.now c.args.files.now c.read_system.new.files
+          c.read_labels.new.files c.in_ok-spec.spec
+          (c.in_ok-spec.ensures.system m (c.in_ok-allowed.ensures.kept.told_still m told))),
       inl (
         c.in_ok-allowed.allowed,
-        (turn_after m g.F.Files.faults tell_text IsPolicyRead c.args.policy.now c.args.files.now c.read_system.new.files c.read_labels.new.files (Ok c.in_ok-allowed.allowed) c.in_ok-spec.ensures.kept (c.in_ok-allowed.ensures.policy m told)),
+        (turn_after m g.F.Files.faults tell_text IsPolicyRead c.args.policy.now c.args.files.now c.read_system.new.files
+            c.read_labels.new.files (Ok c.in_ok-allowed.allowed) c.in_ok-spec.ensures.kept
+            (c.in_ok-allowed.ensures.policy m told)),
         inr (c.in_err-labels.field-0.0, c.in_err-labels.ensures.labels, refl),
       ),
     ))
@@ -36,10 +50,14 @@ pub returns-clause-certified : goal.returns-clause-certified
 returns-clause-certified g c m told =
     inl (
       c.in_ok-spec.spec,
-      (turn_until m g.F.Files.faults tell_text capdl.IsRead c.args.cdl.now c.args.files.now c.read_system.new.files c.read_labels.new.files c.in_ok-spec.spec (c.in_ok-spec.ensures.system m (c.in_ok-allowed.ensures.kept.told_still m told))),
+      (turn_until m g.F.Files.faults tell_text capdl.IsRead c.args.cdl.now c.args.files.now c.read_system.new.files
+          c.read_labels.new.files c.in_ok-spec.spec
+          (c.in_ok-spec.ensures.system m (c.in_ok-allowed.ensures.kept.told_still m told))),
       inl (
         c.in_ok-allowed.allowed,
-        (turn_after m g.F.Files.faults tell_text IsPolicyRead c.args.policy.now c.args.files.now c.read_system.new.files c.read_labels.new.files (Ok c.in_ok-allowed.allowed) c.in_ok-spec.ensures.kept (c.in_ok-allowed.ensures.policy m told)),
+        (turn_after m g.F.Files.faults tell_text IsPolicyRead c.args.policy.now c.args.files.now c.read_system.new.files
+            c.read_labels.new.files (Ok c.in_ok-allowed.allowed) c.in_ok-spec.ensures.kept
+            (c.in_ok-allowed.ensures.policy m told)),
         inl (c.in_ok-labels.labels, c.in_ok-labels.ensures.labels, c.certify_system.ensures),
       ),
     )

@@ -14,40 +14,73 @@ returns-in_err-spec-clause-checked g c m told =
 
 pub returns-in_err-allowed-clause-checked : goal.returns-in_err-allowed-clause-checked
 returns-in_err-allowed-clause-checked g c m told =
-    rw (is_err c.from_residual-in_err-allowed.result c.in_err-allowed.field-0.0 c.from_residual-in_err-allowed.ensures.0 c.from_residual-in_err-allowed.ensures.1)
+    rw (is_err c.from_residual-in_err-allowed.result c.in_err-allowed.field-0.0 c.from_residual-in_err-allowed.ensures.0
+    c.from_residual-in_err-allowed.ensures.1)
     (inl (
       c.in_ok-spec.spec,
-      (turn_until m g.F.Files.faults tell_text capdl.IsRead c.args.cdl.now c.args.files.now c.read_system.new.files c.read_labels.new.files c.in_ok-spec.spec (c.in_ok-spec.ensures.system m (c.in_err-allowed.ensures.kept.told_still m told))),
-      inr (c.in_err-allowed.field-0.0, (turn_after m g.F.Files.faults tell_text IsPolicyRead c.args.policy.now c.args.files.now c.read_system.new.files c.read_labels.new.files (Err c.in_err-allowed.field-0.0) c.in_ok-spec.ensures.kept (c.in_err-allowed.ensures.policy m told)), refl),
+      (turn_until m g.F.Files.faults tell_text capdl.IsRead c.args.cdl.now c.args.files.now c.read_system.new.files
+          c.read_labels.new.files c.in_ok-spec.spec
+          (c.in_ok-spec.ensures.system m (c.in_err-allowed.ensures.kept.told_still m told))),
+      inr (
+        c.in_err-allowed.field-0.0,
+        (turn_after m g.F.Files.faults tell_text IsPolicyRead c.args.policy.now c.args.files.now
+            c.read_system.new.files c.read_labels.new.files (Err c.in_err-allowed.field-0.0) c.in_ok-spec.ensures.kept
+            (c.in_err-allowed.ensures.policy m told)),
+        refl,
+      ),
     ))
 
 pub returns-in_err-edges-clause-checked : goal.returns-in_err-edges-clause-checked
 returns-in_err-edges-clause-checked g c m told =
     let before = c.in_err-edges.ensures.kept.told_still m told in
-    rw (is_err c.from_residual-in_err-edges.result c.in_err-edges.field-0.0 c.from_residual-in_err-edges.ensures.0 c.from_residual-in_err-edges.ensures.1)
+    rw (is_err c.from_residual-in_err-edges.result c.in_err-edges.field-0.0 c.from_residual-in_err-edges.ensures.0
+    c.from_residual-in_err-edges.ensures.1)
     (inl (
       c.in_ok-spec.spec,
-      (turn_until m g.F.Files.faults tell_text capdl.IsRead c.args.cdl.now c.args.files.now c.read_system.new.files c.read_edges.new.files c.in_ok-spec.spec (c.in_ok-spec.ensures.system m (c.in_ok-allowed.ensures.kept.told_still m before))),
+      (turn_until m g.F.Files.faults tell_text capdl.IsRead c.args.cdl.now c.args.files.now c.read_system.new.files
+          c.read_edges.new.files c.in_ok-spec.spec
+          (c.in_ok-spec.ensures.system m (c.in_ok-allowed.ensures.kept.told_still m before))),
       inl (
         c.in_ok-allowed.allowed,
-        (turn_until m g.F.Files.faults tell_text IsPolicyRead c.args.policy.now c.args.files.now c.read_labels.new.files c.read_edges.new.files c.in_ok-allowed.allowed (turn_after m g.F.Files.faults tell_text IsPolicyRead c.args.policy.now c.args.files.now c.read_system.new.files c.read_labels.new.files (Ok c.in_ok-allowed.allowed) c.in_ok-spec.ensures.kept (c.in_ok-allowed.ensures.policy m before))),
-        inr (c.in_err-edges.field-0.0, (turn_after m g.F.Files.faults tell_text (IsCertRead c.in_ok-allowed.allowed) c.args.cert.now c.args.files.now c.read_labels.new.files c.read_edges.new.files (Err c.in_err-edges.field-0.0) (keeps_twice {told = g.F.Files.told} {faults = g.F.Files.faults} c.args.files.now c.read_system.new.files c.read_labels.new.files c.in_ok-spec.ensures.kept c.in_ok-allowed.ensures.kept) (c.in_err-edges.ensures.edges m told)), refl),
+        (turn_until m g.F.Files.faults tell_text IsPolicyRead c.args.policy.now c.args.files.now c.read_labels.new.files
+            c.read_edges.new.files c.in_ok-allowed.allowed (turn_after m g.F.Files.faults tell_text IsPolicyRead
+            c.args.policy.now c.args.files.now c.read_system.new.files c.read_labels.new.files (Ok c.in_ok-allowed.allowed)
+            c.in_ok-spec.ensures.kept (c.in_ok-allowed.ensures.policy m before))),
+        inr (
+          c.in_err-edges.field-0.0,
+          (turn_after m g.F.Files.faults tell_text (IsCertRead c.in_ok-allowed.allowed)
+              c.args.cert.now c.args.files.now c.read_labels.new.files c.read_edges.new.files (Err c.in_err-edges.field-0.0)
+              (keeps_twice {told = g.F.Files.told} {faults = g.F.Files.faults} c.args.files.now c.read_system.new.files
+              c.read_labels.new.files c.in_ok-spec.ensures.kept c.in_ok-allowed.ensures.kept)
+              (c.in_err-edges.ensures.edges m told)),
+          refl,
+        ),
       ),
     ))
 
 pub returns-in_err-labels-clause-checked : goal.returns-in_err-labels-clause-checked
 returns-in_err-labels-clause-checked g c m told =
     let before = c.in_ok-edges.ensures.kept.told_still m told in
-    rw (is_err c.from_residual-in_err-labels.result c.in_err-labels.field-0.0 c.from_residual-in_err-labels.ensures.0 c.from_residual-in_err-labels.ensures.1)
+    rw (is_err c.from_residual-in_err-labels.result c.in_err-labels.field-0.0 c.from_residual-in_err-labels.ensures.0
+    c.from_residual-in_err-labels.ensures.1)
     (inl (
       c.in_ok-spec.spec,
-      (turn_until m g.F.Files.faults tell_text capdl.IsRead c.args.cdl.now c.args.files.now c.read_system.new.files c.read_edges.new.files c.in_ok-spec.spec (c.in_ok-spec.ensures.system m (c.in_ok-allowed.ensures.kept.told_still m before))),
+      (turn_until m g.F.Files.faults tell_text capdl.IsRead c.args.cdl.now c.args.files.now c.read_system.new.files
+          c.read_edges.new.files c.in_ok-spec.spec
+          (c.in_ok-spec.ensures.system m (c.in_ok-allowed.ensures.kept.told_still m before))),
       inl (
         c.in_ok-allowed.allowed,
-        (turn_until m g.F.Files.faults tell_text IsPolicyRead c.args.policy.now c.args.files.now c.read_labels.new.files c.read_edges.new.files c.in_ok-allowed.allowed (turn_after m g.F.Files.faults tell_text IsPolicyRead c.args.policy.now c.args.files.now c.read_system.new.files c.read_labels.new.files (Ok c.in_ok-allowed.allowed) c.in_ok-spec.ensures.kept (c.in_ok-allowed.ensures.policy m before))),
+        (turn_until m g.F.Files.faults tell_text IsPolicyRead c.args.policy.now c.args.files.now c.read_labels.new.files
+            c.read_edges.new.files c.in_ok-allowed.allowed (turn_after m g.F.Files.faults tell_text IsPolicyRead
+            c.args.policy.now c.args.files.now c.read_system.new.files c.read_labels.new.files (Ok c.in_ok-allowed.allowed)
+            c.in_ok-spec.ensures.kept (c.in_ok-allowed.ensures.policy m before))),
         inl (
           c.in_ok-edges.edges,
-          (turn_after m g.F.Files.faults tell_text (IsCertRead c.in_ok-allowed.allowed) c.args.cert.now c.args.files.now c.read_labels.new.files c.read_edges.new.files (Ok c.in_ok-edges.edges) (keeps_twice {told = g.F.Files.told} {faults = g.F.Files.faults} c.args.files.now c.read_system.new.files c.read_labels.new.files c.in_ok-spec.ensures.kept c.in_ok-allowed.ensures.kept) (c.in_ok-edges.ensures.edges m told)),
+          (turn_after m g.F.Files.faults tell_text (IsCertRead c.in_ok-allowed.allowed) c.args.cert.now c.args.files.now
+              c.read_labels.new.files c.read_edges.new.files (Ok c.in_ok-edges.edges)
+              (keeps_twice {told = g.F.Files.told} {faults = g.F.Files.faults} c.args.files.now c.read_system.new.files
+              c.read_labels.new.files c.in_ok-spec.ensures.kept c.in_ok-allowed.ensures.kept)
+              (c.in_ok-edges.ensures.edges m told)),
           inr (c.in_err-labels.field-0.0, c.in_err-labels.ensures.labels, refl),
         ),
       ),
@@ -61,14 +94,31 @@ returns-clause-checked g c m told =
     let before = c.in_ok-edges.ensures.kept.told_still m told in
     inl (
       c.in_ok-spec.spec,
-      (turn_until m g.F.Files.faults tell_text capdl.IsRead c.args.cdl.now c.args.files.now c.read_system.new.files c.read_edges.new.files c.in_ok-spec.spec (c.in_ok-spec.ensures.system m (c.in_ok-allowed.ensures.kept.told_still m before))),
+      (turn_until m g.F.Files.faults tell_text capdl.IsRead c.args.cdl.now c.args.files.now c.read_system.new.files
+          c.read_edges.new.files c.in_ok-spec.spec
+          (c.in_ok-spec.ensures.system m (c.in_ok-allowed.ensures.kept.told_still m before))),
       inl (
         c.in_ok-allowed.allowed,
-        (turn_until m g.F.Files.faults tell_text IsPolicyRead c.args.policy.now c.args.files.now c.read_labels.new.files c.read_edges.new.files c.in_ok-allowed.allowed (turn_after m g.F.Files.faults tell_text IsPolicyRead c.args.policy.now c.args.files.now c.read_system.new.files c.read_labels.new.files (Ok c.in_ok-allowed.allowed) c.in_ok-spec.ensures.kept (c.in_ok-allowed.ensures.policy m before))),
+        (turn_until m g.F.Files.faults tell_text IsPolicyRead c.args.policy.now c.args.files.now c.read_labels.new.files
+            c.read_edges.new.files c.in_ok-allowed.allowed (turn_after m g.F.Files.faults tell_text IsPolicyRead
+            c.args.policy.now c.args.files.now c.read_system.new.files c.read_labels.new.files (Ok c.in_ok-allowed.allowed)
+            c.in_ok-spec.ensures.kept (c.in_ok-allowed.ensures.policy m before))),
         inl (
           c.in_ok-edges.edges,
-          (turn_after m g.F.Files.faults tell_text (IsCertRead c.in_ok-allowed.allowed) c.args.cert.now c.args.files.now c.read_labels.new.files c.read_edges.new.files (Ok c.in_ok-edges.edges) (keeps_twice {told = g.F.Files.told} {faults = g.F.Files.faults} c.args.files.now c.read_system.new.files c.read_labels.new.files c.in_ok-spec.ensures.kept c.in_ok-allowed.ensures.kept) (c.in_ok-edges.ensures.edges m told)),
-          inl (c.in_ok-labels.labels, c.in_ok-labels.ensures.labels, (c.check-verdict.result, ap (λ n. Checked c.check-verdict.result n) c.of.ensures, c.check-verdict.ensures.judged)),
+          (turn_after m g.F.Files.faults tell_text (IsCertRead c.in_ok-allowed.allowed) c.args.cert.now c.args.files.now
+              c.read_labels.new.files c.read_edges.new.files (Ok c.in_ok-edges.edges)
+              (keeps_twice {told = g.F.Files.told} {faults = g.F.Files.faults} c.args.files.now c.read_system.new.files
+              c.read_labels.new.files c.in_ok-spec.ensures.kept c.in_ok-allowed.ensures.kept)
+              (c.in_ok-edges.ensures.edges m told)),
+          inl (
+            c.in_ok-labels.labels,
+            c.in_ok-labels.ensures.labels,
+            (
+              c.check-verdict.result,
+              ap (λ n. Checked c.check-verdict.result n) c.of.ensures,
+              c.check-verdict.ensures.judged,
+            ),
+          ),
         ),
       ),
     )

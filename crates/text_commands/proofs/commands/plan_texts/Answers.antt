@@ -12,11 +12,20 @@ returns-in_err-spec-clause-planned g c m told =
 
 pub returns-in_err-regions-clause-planned : goal.returns-in_err-regions-clause-planned
 returns-in_err-regions-clause-planned g c m told =
-    rw (is_err c.from_residual-in_err-regions.result c.in_err-regions.field-0.0 c.from_residual-in_err-regions.ensures.0 c.from_residual-in_err-regions.ensures.1)
+    rw (is_err c.from_residual-in_err-regions.result c.in_err-regions.field-0.0 c.from_residual-in_err-regions.ensures.0
+    c.from_residual-in_err-regions.ensures.1)
     (inl (
       c.in_ok-spec.spec,
-      (turn_until m g.F.Files.faults tell_text capdl.IsRead c.args.cdl.now c.args.files.now c.read_system.new.files c.read_regions.new.files c.in_ok-spec.spec (c.in_ok-spec.ensures.system m (c.in_err-regions.ensures.kept.told_still m told))),
-      inr (c.in_err-regions.field-0.0, (turn_after m g.F.Files.faults tell_untyped untypeds.IsRead c.args.untypeds.now c.args.files.now c.read_system.new.files c.read_regions.new.files (Err c.in_err-regions.field-0.0) c.in_ok-spec.ensures.kept (c.in_err-regions.ensures.regions m told)), refl),
+      (turn_until m g.F.Files.faults tell_text capdl.IsRead c.args.cdl.now c.args.files.now c.read_system.new.files
+          c.read_regions.new.files c.in_ok-spec.spec
+          (c.in_ok-spec.ensures.system m (c.in_err-regions.ensures.kept.told_still m told))),
+      inr (
+        c.in_err-regions.field-0.0,
+        (turn_after m g.F.Files.faults tell_untyped untypeds.IsRead c.args.untypeds.now
+            c.args.files.now c.read_system.new.files c.read_regions.new.files (Err c.in_err-regions.field-0.0)
+            c.in_ok-spec.ensures.kept (c.in_err-regions.ensures.regions m told)),
+        refl,
+      ),
     ))
 
 pub returns-clause-planned : goal.returns-clause-planned
@@ -24,10 +33,14 @@ returns-clause-planned g c m told =
     let decided = rw c.as_slice.ensures at c.plan_system.ensures in
     inl (
       c.in_ok-spec.spec,
-      (turn_until m g.F.Files.faults tell_text capdl.IsRead c.args.cdl.now c.args.files.now c.read_system.new.files c.read_regions.new.files c.in_ok-spec.spec (c.in_ok-spec.ensures.system m (c.in_ok-regions.ensures.kept.told_still m told))),
+      (turn_until m g.F.Files.faults tell_text capdl.IsRead c.args.cdl.now c.args.files.now c.read_system.new.files
+          c.read_regions.new.files c.in_ok-spec.spec
+          (c.in_ok-spec.ensures.system m (c.in_ok-regions.ensures.kept.told_still m told))),
       inl (
         c.in_ok-regions.regions,
-        (turn_after m g.F.Files.faults tell_untyped untypeds.IsRead c.args.untypeds.now c.args.files.now c.read_system.new.files c.read_regions.new.files (Ok c.in_ok-regions.regions) c.in_ok-spec.ensures.kept (c.in_ok-regions.ensures.regions m told)),
+        (turn_after m g.F.Files.faults tell_untyped untypeds.IsRead c.args.untypeds.now c.args.files.now c.read_system.new.files
+            c.read_regions.new.files (Ok c.in_ok-regions.regions) c.in_ok-spec.ensures.kept
+            (c.in_ok-regions.ensures.regions m told)),
         decided,
       ),
     )

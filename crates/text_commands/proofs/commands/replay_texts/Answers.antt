@@ -17,40 +17,73 @@ returns-in_err-spec-clause-ran g c m told =
 
 pub returns-in_err-allowed-clause-ran : goal.returns-in_err-allowed-clause-ran
 returns-in_err-allowed-clause-ran g c m told =
-    rw (is_err c.from_residual-in_err-allowed.result c.in_err-allowed.field-0.0 c.from_residual-in_err-allowed.ensures.0 c.from_residual-in_err-allowed.ensures.1)
+    rw (is_err c.from_residual-in_err-allowed.result c.in_err-allowed.field-0.0 c.from_residual-in_err-allowed.ensures.0
+    c.from_residual-in_err-allowed.ensures.1)
     (inl (
       c.in_ok-spec.spec,
-      (turn_until m g.F.Files.faults tell_text capdl.IsRead c.args.cdl.now c.args.files.now c.read_system.new.files c.read_labels.new.files c.in_ok-spec.spec (c.in_ok-spec.ensures.system m (c.in_err-allowed.ensures.kept.told_still m told))),
-      inr (c.in_err-allowed.field-0.0, (turn_after m g.F.Files.faults tell_text IsPolicyRead c.args.policy.now c.args.files.now c.read_system.new.files c.read_labels.new.files (Err c.in_err-allowed.field-0.0) c.in_ok-spec.ensures.kept (c.in_err-allowed.ensures.policy m told)), refl),
+      (turn_until m g.F.Files.faults tell_text capdl.IsRead c.args.cdl.now c.args.files.now c.read_system.new.files
+          c.read_labels.new.files c.in_ok-spec.spec
+          (c.in_ok-spec.ensures.system m (c.in_err-allowed.ensures.kept.told_still m told))),
+      inr (
+        c.in_err-allowed.field-0.0,
+        (turn_after m g.F.Files.faults tell_text IsPolicyRead c.args.policy.now c.args.files.now
+            c.read_system.new.files c.read_labels.new.files (Err c.in_err-allowed.field-0.0) c.in_ok-spec.ensures.kept
+            (c.in_err-allowed.ensures.policy m told)),
+        refl,
+      ),
     ))
 
 pub returns-in_err-list-clause-ran : goal.returns-in_err-list-clause-ran
 returns-in_err-list-clause-ran g c m told =
     let before = c.in_err-list.ensures.kept.told_still m told in
-    rw (is_err c.from_residual-in_err-list.result c.in_err-list.field-0.0 c.from_residual-in_err-list.ensures.0 c.from_residual-in_err-list.ensures.1)
+    rw (is_err c.from_residual-in_err-list.result c.in_err-list.field-0.0 c.from_residual-in_err-list.ensures.0
+    c.from_residual-in_err-list.ensures.1)
     (inl (
       c.in_ok-spec.spec,
-      (turn_until m g.F.Files.faults tell_text capdl.IsRead c.args.cdl.now c.args.files.now c.read_system.new.files c.read_run.new.files c.in_ok-spec.spec (c.in_ok-spec.ensures.system m (c.in_ok-allowed.ensures.kept.told_still m before))),
+      (turn_until m g.F.Files.faults tell_text capdl.IsRead c.args.cdl.now c.args.files.now c.read_system.new.files
+          c.read_run.new.files c.in_ok-spec.spec
+          (c.in_ok-spec.ensures.system m (c.in_ok-allowed.ensures.kept.told_still m before))),
       inl (
         c.in_ok-allowed.allowed,
-        (turn_until m g.F.Files.faults tell_text IsPolicyRead c.args.policy.now c.args.files.now c.read_labels.new.files c.read_run.new.files c.in_ok-allowed.allowed (turn_after m g.F.Files.faults tell_text IsPolicyRead c.args.policy.now c.args.files.now c.read_system.new.files c.read_labels.new.files (Ok c.in_ok-allowed.allowed) c.in_ok-spec.ensures.kept (c.in_ok-allowed.ensures.policy m before))),
-        inr (c.in_err-list.field-0.0, (turn_after m g.F.Files.faults tell_text (steps.IsRead c.in_ok-spec.spec) c.args.steps.now c.args.files.now c.read_labels.new.files c.read_run.new.files (Err c.in_err-list.field-0.0) (keeps_twice {told = g.F.Files.told} {faults = g.F.Files.faults} c.args.files.now c.read_system.new.files c.read_labels.new.files c.in_ok-spec.ensures.kept c.in_ok-allowed.ensures.kept) (c.in_err-list.ensures.steps m told)), refl),
+        (turn_until m g.F.Files.faults tell_text IsPolicyRead c.args.policy.now c.args.files.now c.read_labels.new.files
+            c.read_run.new.files c.in_ok-allowed.allowed (turn_after m g.F.Files.faults tell_text IsPolicyRead c.args.policy.now
+            c.args.files.now c.read_system.new.files c.read_labels.new.files (Ok c.in_ok-allowed.allowed)
+            c.in_ok-spec.ensures.kept (c.in_ok-allowed.ensures.policy m before))),
+        inr (
+          c.in_err-list.field-0.0,
+          (turn_after m g.F.Files.faults tell_text (steps.IsRead c.in_ok-spec.spec) c.args.steps.now
+              c.args.files.now c.read_labels.new.files c.read_run.new.files (Err c.in_err-list.field-0.0)
+              (keeps_twice {told = g.F.Files.told} {faults = g.F.Files.faults} c.args.files.now c.read_system.new.files
+              c.read_labels.new.files c.in_ok-spec.ensures.kept c.in_ok-allowed.ensures.kept)
+              (c.in_err-list.ensures.steps m told)),
+          refl,
+        ),
       ),
     ))
 
 pub returns-in_err-labels-clause-ran : goal.returns-in_err-labels-clause-ran
 returns-in_err-labels-clause-ran g c m told =
     let before = c.in_ok-list.ensures.kept.told_still m told in
-    rw (is_err c.from_residual-in_err-labels.result c.in_err-labels.field-0.0 c.from_residual-in_err-labels.ensures.0 c.from_residual-in_err-labels.ensures.1)
+    rw (is_err c.from_residual-in_err-labels.result c.in_err-labels.field-0.0 c.from_residual-in_err-labels.ensures.0
+    c.from_residual-in_err-labels.ensures.1)
     (inl (
       c.in_ok-spec.spec,
-      (turn_until m g.F.Files.faults tell_text capdl.IsRead c.args.cdl.now c.args.files.now c.read_system.new.files c.read_run.new.files c.in_ok-spec.spec (c.in_ok-spec.ensures.system m (c.in_ok-allowed.ensures.kept.told_still m before))),
+      (turn_until m g.F.Files.faults tell_text capdl.IsRead c.args.cdl.now c.args.files.now c.read_system.new.files
+          c.read_run.new.files c.in_ok-spec.spec
+          (c.in_ok-spec.ensures.system m (c.in_ok-allowed.ensures.kept.told_still m before))),
       inl (
         c.in_ok-allowed.allowed,
-        (turn_until m g.F.Files.faults tell_text IsPolicyRead c.args.policy.now c.args.files.now c.read_labels.new.files c.read_run.new.files c.in_ok-allowed.allowed (turn_after m g.F.Files.faults tell_text IsPolicyRead c.args.policy.now c.args.files.now c.read_system.new.files c.read_labels.new.files (Ok c.in_ok-allowed.allowed) c.in_ok-spec.ensures.kept (c.in_ok-allowed.ensures.policy m before))),
+        (turn_until m g.F.Files.faults tell_text IsPolicyRead c.args.policy.now c.args.files.now c.read_labels.new.files
+            c.read_run.new.files c.in_ok-allowed.allowed (turn_after m g.F.Files.faults tell_text IsPolicyRead c.args.policy.now
+            c.args.files.now c.read_system.new.files c.read_labels.new.files (Ok c.in_ok-allowed.allowed)
+            c.in_ok-spec.ensures.kept (c.in_ok-allowed.ensures.policy m before))),
         inl (
           c.in_ok-list.list,
-          (turn_after m g.F.Files.faults tell_text (steps.IsRead c.in_ok-spec.spec) c.args.steps.now c.args.files.now c.read_labels.new.files c.read_run.new.files (Ok c.in_ok-list.list) (keeps_twice {told = g.F.Files.told} {faults = g.F.Files.faults} c.args.files.now c.read_system.new.files c.read_labels.new.files c.in_ok-spec.ensures.kept c.in_ok-allowed.ensures.kept) (c.in_ok-list.ensures.steps m told)),
+          (turn_after m g.F.Files.faults tell_text (steps.IsRead c.in_ok-spec.spec) c.args.steps.now c.args.files.now
+              c.read_labels.new.files c.read_run.new.files (Ok c.in_ok-list.list)
+              (keeps_twice {told = g.F.Files.told} {faults = g.F.Files.faults} c.args.files.now c.read_system.new.files
+              c.read_labels.new.files c.in_ok-spec.ensures.kept c.in_ok-allowed.ensures.kept)
+              (c.in_ok-list.ensures.steps m told)),
           inr (c.in_err-labels.field-0.0, c.in_err-labels.ensures.labels, refl),
         ),
       ),
@@ -62,16 +95,26 @@ of-requires g c = c.in_ok-allowed.ensures.apart
 pub returns-in_err-replayed-clause-ran : goal.returns-in_err-replayed-clause-ran
 returns-in_err-replayed-clause-ran g c m told =
     let before = c.in_ok-list.ensures.kept.told_still m told in
-    rw (is_err c.from_residual-in_err-replayed.result NoMemory c.from_residual-in_err-replayed.ensures.0 c.from_residual-in_err-replayed.ensures.1)
+    rw (is_err c.from_residual-in_err-replayed.result NoMemory c.from_residual-in_err-replayed.ensures.0
+    c.from_residual-in_err-replayed.ensures.1)
     (inl (
       c.in_ok-spec.spec,
-      (turn_until m g.F.Files.faults tell_text capdl.IsRead c.args.cdl.now c.args.files.now c.read_system.new.files c.read_run.new.files c.in_ok-spec.spec (c.in_ok-spec.ensures.system m (c.in_ok-allowed.ensures.kept.told_still m before))),
+      (turn_until m g.F.Files.faults tell_text capdl.IsRead c.args.cdl.now c.args.files.now c.read_system.new.files
+          c.read_run.new.files c.in_ok-spec.spec
+          (c.in_ok-spec.ensures.system m (c.in_ok-allowed.ensures.kept.told_still m before))),
       inl (
         c.in_ok-allowed.allowed,
-        (turn_until m g.F.Files.faults tell_text IsPolicyRead c.args.policy.now c.args.files.now c.read_labels.new.files c.read_run.new.files c.in_ok-allowed.allowed (turn_after m g.F.Files.faults tell_text IsPolicyRead c.args.policy.now c.args.files.now c.read_system.new.files c.read_labels.new.files (Ok c.in_ok-allowed.allowed) c.in_ok-spec.ensures.kept (c.in_ok-allowed.ensures.policy m before))),
+        (turn_until m g.F.Files.faults tell_text IsPolicyRead c.args.policy.now c.args.files.now c.read_labels.new.files
+            c.read_run.new.files c.in_ok-allowed.allowed (turn_after m g.F.Files.faults tell_text IsPolicyRead c.args.policy.now
+            c.args.files.now c.read_system.new.files c.read_labels.new.files (Ok c.in_ok-allowed.allowed)
+            c.in_ok-spec.ensures.kept (c.in_ok-allowed.ensures.policy m before))),
         inl (
           c.in_ok-list.list,
-          (turn_after m g.F.Files.faults tell_text (steps.IsRead c.in_ok-spec.spec) c.args.steps.now c.args.files.now c.read_labels.new.files c.read_run.new.files (Ok c.in_ok-list.list) (keeps_twice {told = g.F.Files.told} {faults = g.F.Files.faults} c.args.files.now c.read_system.new.files c.read_labels.new.files c.in_ok-spec.ensures.kept c.in_ok-allowed.ensures.kept) (c.in_ok-list.ensures.steps m told)),
+          (turn_after m g.F.Files.faults tell_text (steps.IsRead c.in_ok-spec.spec) c.args.steps.now c.args.files.now
+              c.read_labels.new.files c.read_run.new.files (Ok c.in_ok-list.list)
+              (keeps_twice {told = g.F.Files.told} {faults = g.F.Files.faults} c.args.files.now c.read_system.new.files
+              c.read_labels.new.files c.in_ok-spec.ensures.kept c.in_ok-allowed.ensures.kept)
+              (c.in_ok-list.ensures.steps m told)),
           inl (c.in_ok-labels.labels, c.in_ok-labels.ensures.labels, tt),
         ),
       ),
@@ -82,14 +125,32 @@ returns-clause-ran g c m told =
     let before = c.in_ok-list.ensures.kept.told_still m told in
     inl (
       c.in_ok-spec.spec,
-      (turn_until m g.F.Files.faults tell_text capdl.IsRead c.args.cdl.now c.args.files.now c.read_system.new.files c.read_run.new.files c.in_ok-spec.spec (c.in_ok-spec.ensures.system m (c.in_ok-allowed.ensures.kept.told_still m before))),
+      (turn_until m g.F.Files.faults tell_text capdl.IsRead c.args.cdl.now c.args.files.now c.read_system.new.files
+          c.read_run.new.files c.in_ok-spec.spec
+          (c.in_ok-spec.ensures.system m (c.in_ok-allowed.ensures.kept.told_still m before))),
       inl (
         c.in_ok-allowed.allowed,
-        (turn_until m g.F.Files.faults tell_text IsPolicyRead c.args.policy.now c.args.files.now c.read_labels.new.files c.read_run.new.files c.in_ok-allowed.allowed (turn_after m g.F.Files.faults tell_text IsPolicyRead c.args.policy.now c.args.files.now c.read_system.new.files c.read_labels.new.files (Ok c.in_ok-allowed.allowed) c.in_ok-spec.ensures.kept (c.in_ok-allowed.ensures.policy m before))),
+        (turn_until m g.F.Files.faults tell_text IsPolicyRead c.args.policy.now c.args.files.now c.read_labels.new.files
+            c.read_run.new.files c.in_ok-allowed.allowed (turn_after m g.F.Files.faults tell_text IsPolicyRead c.args.policy.now
+            c.args.files.now c.read_system.new.files c.read_labels.new.files (Ok c.in_ok-allowed.allowed)
+            c.in_ok-spec.ensures.kept (c.in_ok-allowed.ensures.policy m before))),
         inl (
           c.in_ok-list.list,
-          (turn_after m g.F.Files.faults tell_text (steps.IsRead c.in_ok-spec.spec) c.args.steps.now c.args.files.now c.read_labels.new.files c.read_run.new.files (Ok c.in_ok-list.list) (keeps_twice {told = g.F.Files.told} {faults = g.F.Files.faults} c.args.files.now c.read_system.new.files c.read_labels.new.files c.in_ok-spec.ensures.kept c.in_ok-allowed.ensures.kept) (c.in_ok-list.ensures.steps m told)),
-          inl (c.in_ok-labels.labels, c.in_ok-labels.ensures.labels, (c.in_ok-replayed.replayed, ap (λ n. Ran c.in_ok-replayed.replayed n) c.of.ensures, subst (λ zs. IsReplayed c.in_ok-spec.spec c.in_ok-labels.labels.by_object zs c.in_ok-replayed.replayed) c.as_slice.ensures c.in_ok-replayed.ensures)),
+          (turn_after m g.F.Files.faults tell_text (steps.IsRead c.in_ok-spec.spec) c.args.steps.now c.args.files.now
+              c.read_labels.new.files c.read_run.new.files (Ok c.in_ok-list.list)
+              (keeps_twice {told = g.F.Files.told} {faults = g.F.Files.faults} c.args.files.now c.read_system.new.files
+              c.read_labels.new.files c.in_ok-spec.ensures.kept c.in_ok-allowed.ensures.kept)
+              (c.in_ok-list.ensures.steps m told)),
+          inl (
+            c.in_ok-labels.labels,
+            c.in_ok-labels.ensures.labels,
+            (
+              c.in_ok-replayed.replayed,
+              ap (λ n. Ran c.in_ok-replayed.replayed n) c.of.ensures,
+              subst (λ zs. IsReplayed c.in_ok-spec.spec c.in_ok-labels.labels.by_object zs c.in_ok-replayed.replayed)
+                  c.as_slice.ensures c.in_ok-replayed.ensures,
+            ),
+          ),
         ),
       ),
     )

@@ -2,13 +2,15 @@ use Rattle.cam_io.proofs.Sequence.{writes_after, writes_first, writes_exit, open
 use Rattle.text_commands.proofs.lines.write_refusal.Goals as goal
 
 pub returns-in_err-write_rule : goal.returns-in_err-write_rule
-returns-in_err-write_rule g c = writes_exit c.from_residual.ensures.0 (writes_first _ (writes_first _ c.in_err-write_rule.ensures))
+returns-in_err-write_rule g c =
+    writes_exit c.from_residual.ensures.0 (writes_first _ (writes_first _ c.in_err-write_rule.ensures))
 
 pub write_haves-requires : goal.write_haves-requires
 write_haves-requires g c = open_still c.in_ok-write_rule.ensures c.requires
 
 pub returns-in_err-write_haves : goal.returns-in_err-write_haves
-returns-in_err-write_haves g c = writes_exit c.from_residual-in_err-write_haves.ensures.0 (writes_first _ (writes_after c.in_err-write_haves.ensures c.in_ok-write_rule.ensures))
+returns-in_err-write_haves g c = writes_exit c.from_residual-in_err-write_haves.ensures.0
+    (writes_first _ (writes_after c.in_err-write_haves.ensures c.in_ok-write_rule.ensures))
 
 pub write_edge-requires : goal.write_edge-requires
 write_edge-requires g c = open_still (writes_after c.in_ok-write_haves.ensures c.in_ok-write_rule.ensures) c.requires

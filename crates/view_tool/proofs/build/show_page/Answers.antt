@@ -8,4 +8,5 @@ returns-in-Ok c =
     page_drawn page_text c.args.build.now c.page_text.result c.args.root.now c.as_bytes.result.now c.args.build.now.map
     c.as_slice.result.now c.in-Ok.notes c.as_slice-in-Ok.result.now c.as_bytes.ensures.value c.as_slice.ensures
     c.as_slice-in-Ok.ensures c.page_text.ensures in
-    page_shown c.args.root.now c.args.build.now c.in-Ok.notes c.page_text.result c.shown.result c.in-Ok.ensures drawn c.shown.ensures.ok c.shown.ensures.none
+    page_shown c.args.root.now c.args.build.now c.in-Ok.notes c.page_text.result c.shown.result c.in-Ok.ensures drawn
+    c.shown.ensures.ok c.shown.ensures.none

@@ -27,6 +27,8 @@ returns-in-Err-clause-fits g c m told =
     let now = g.F.Files.faults c.refuse_build.new.files in
     let e = c.in-Err.error in (
       Err e,
-      refused_still m before mid now c.args.root.now e c.in-Err.ensures.kept.later c.refuse_build.ensures.kept.later (c.in-Err.ensures.compiled m (c.refuse_build.ensures.kept.told_still m told)),
-      refused_since m before mid now (wanted c.args.asked) e c.refuse_build.result c.in-Err.ensures.kept.later (c.refuse_build.ensures.fits m told),
+      refused_still m before mid now c.args.root.now e c.in-Err.ensures.kept.later c.refuse_build.ensures.kept.later
+          (c.in-Err.ensures.compiled m (c.refuse_build.ensures.kept.told_still m told)),
+      refused_since m before mid now (wanted c.args.asked) e c.refuse_build.result c.in-Err.ensures.kept.later
+          (c.refuse_build.ensures.fits m told),
     )

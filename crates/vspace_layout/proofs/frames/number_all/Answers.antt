@@ -15,7 +15,8 @@ number_pages-requires-clause-few c =
     let ms = c.args.mapped.items in
     let gives = c.into_iter-pages-iterator.ensures.into_iter_gives in
     let many : into_iter_len it ≡ length ms = omega (arith, gives.1, c.args.mapped.ok.0) in
-    let t : Turned ms c.loop-pages.yielded c.in-Some.pages = turned it c.loop-pages.pages-iterator c.next.new.self ms gives.0 many c.loop-pages.yielded c.loop-pages.yielded_by c.next.result c.in-Some.pages c.in-Some.is c.next.ensures.steps in
+    let t : Turned ms c.loop-pages.yielded c.in-Some.pages = turned it c.loop-pages.pages-iterator c.next.new.self ms gives.0 many
+    c.loop-pages.yielded c.loop-pages.yielded_by c.next.result c.in-Some.pages c.in-Some.is c.next.ensures.steps in
     let a = own_so_far ms c.loop-pages.yielded c.args.frames.now c.loop-pages.frames t.front c.loop-pages.invariant.frames in
     let b = few_so_far ms (length c.loop-pages.yielded) c.in-Some.pages t.here in
     let d = c.requires.few in
@@ -27,7 +28,8 @@ number_pages-requires-clause-memory c =
     let ms = c.args.mapped.items in
     let gives = c.into_iter-pages-iterator.ensures.into_iter_gives in
     let many : into_iter_len it ≡ length ms = omega (arith, gives.1, c.args.mapped.ok.0) in
-    let t : Turned ms c.loop-pages.yielded c.in-Some.pages = turned it c.loop-pages.pages-iterator c.next.new.self ms gives.0 many c.loop-pages.yielded c.loop-pages.yielded_by c.next.result c.in-Some.pages c.in-Some.is c.next.ensures.steps in
+    let t : Turned ms c.loop-pages.yielded c.in-Some.pages = turned it c.loop-pages.pages-iterator c.next.new.self ms gives.0 many
+    c.loop-pages.yielded c.loop-pages.yielded_by c.next.result c.in-Some.pages c.in-Some.is c.next.ensures.steps in
     λ n page e. c.requires.memory (length c.loop-pages.yielded) n c.in-Some.pages page t.here e
 
 pub loop-pages-preserved : goal.loop-pages-preserved
@@ -36,12 +38,14 @@ loop-pages-preserved c =
     let ms = c.args.mapped.items in
     let gives = c.into_iter-pages-iterator.ensures.into_iter_gives in
     let many : into_iter_len it ≡ length ms = omega (arith, gives.1, c.args.mapped.ok.0) in
-    let t : Turned ms c.loop-pages.yielded c.in-Some.pages = turned it c.loop-pages.pages-iterator c.next.new.self ms gives.0 many c.loop-pages.yielded c.loop-pages.yielded_by c.next.result c.in-Some.pages c.in-Some.is c.next.ensures.steps in
+    let t : Turned ms c.loop-pages.yielded c.in-Some.pages = turned it c.loop-pages.pages-iterator c.next.new.self ms gives.0 many
+    c.loop-pages.yielded c.loop-pages.yielded_by c.next.result c.in-Some.pages c.in-Some.is c.next.ensures.steps in
     let sofar = c.loop-pages.yielded in
     let ps = c.in-Some.pages in
     let firsts = c.args.firsts.now in
     let there = own_so_far ms sofar c.args.frames.now c.loop-pages.frames t.front c.loop-pages.invariant.frames in
-    let f = λ (d : ℕ) (qs : List MappedPage). pages_numbered d firsts (length c.args.frames.now + before own_added ms d) qs ∷ [] in
+    let f = λ (d : ℕ) (qs : List MappedPage). pages_numbered d firsts (length c.args.frames.now + before own_added ms d) qs
+    ∷ [] in
     let old = c.args.frames.now in
     record {
       count = let a = length_append sofar (ps ∷ []) in let b = c.loop-pages.invariant.count in omega (arith, a, b);

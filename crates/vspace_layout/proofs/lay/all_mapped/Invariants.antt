@@ -6,4 +6,6 @@ use Rattle.vspace_layout.specs.Outlines.{mapped_of, no_outline}
 use Rattle.vspace_layout.proofs.lay.all_mapped.Given as goal
 
 abbrev pub invariant-loop-number : goal.invariant-loop-number
-invariant-loop-number l = l.all.items ≡ gather (λ n (d : Domain). mapped_of l.settled l.images d.leaves (slice_index_or l.outlines n no_outline).regions ∷ []) (take l.number l.flat.domains)
+invariant-loop-number l =
+    l.all.items ≡ gather (λ n (d : Domain). mapped_of l.settled l.images d.leaves (slice_index_or l.outlines n no_outline).regions
+    ∷ []) (take l.number l.flat.domains)

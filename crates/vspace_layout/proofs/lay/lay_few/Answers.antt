@@ -33,25 +33,29 @@ pub returns-in-Some-clause-faults : goal.returns-in-Some-clause-faults
 returns-in-Some-clause-faults c =
     let source = c.args.source.now in
     let t = given source c.args.flat.now c.args.settled.now c.args.images.now in
-    let mapped = c.deref.ensures.value ∙ c.in_ok-mapped.ensures ∙ ap (mapped_by t.flat t.settled t.images) c.requires.outlines ∙ mapped_same t in
+    let mapped = c.deref.ensures.value ∙ c.in_ok-mapped.ensures ∙ ap (mapped_by t.flat t.settled t.images) c.requires.outlines
+    ∙ mapped_same t in
     let tables =
     c.in_ok-tables.ensures
     ∙ ap (λ a. capped (sum (map (tables_of a) c.deref.result.now))) c.arch.ensures
     ∙ ap (λ (z : List (List MappedPage)). capped (sum (map (tables_of (arch t)) z))) mapped
     ∙ ap capped (sym (tables_counted t)) in
-    tables_over source (sum (page_counts t)) (sum (table_counts t)) c.in-Some.fault c.requires.within.assembly c.requires.few (sym (ap (λ n. limit_over source n (codes "tables")) tables) ∙ sym c.in_ok-fault.ensures ∙ c.in-Some.is)
+    tables_over source (sum (page_counts t)) (sum (table_counts t)) c.in-Some.fault c.requires.within.assembly c.requires.few
+    (sym (ap (λ n. limit_over source n (codes "tables")) tables) ∙ sym c.in_ok-fault.ensures ∙ c.in-Some.is)
 
 pub returns-clause-faults : goal.returns-clause-faults
 returns-clause-faults c =
     let source = c.args.source.now in
     let t = given source c.args.flat.now c.args.settled.now c.args.images.now in
-    let mapped = c.deref.ensures.value ∙ c.in_ok-mapped.ensures ∙ ap (mapped_by t.flat t.settled t.images) c.requires.outlines ∙ mapped_same t in
+    let mapped = c.deref.ensures.value ∙ c.in_ok-mapped.ensures ∙ ap (mapped_by t.flat t.settled t.images) c.requires.outlines
+    ∙ mapped_same t in
     let tables =
     c.in_ok-tables.ensures
     ∙ ap (λ a. capped (sum (map (tables_of a) c.deref.result.now))) c.arch.ensures
     ∙ ap (λ (z : List (List MappedPage)). capped (sum (map (tables_of (arch t)) z))) mapped
     ∙ ap capped (sym (tables_counted t)) in
-    none_over source (sum (page_counts t)) (sum (table_counts t)) c.requires.within.assembly c.requires.few (sym (ap (λ n. limit_over source n (codes "tables")) tables) ∙ sym c.in_ok-fault.ensures ∙ c.in_default.is)
+    none_over source (sum (page_counts t)) (sum (table_counts t)) c.requires.within.assembly c.requires.few
+    (sym (ap (λ n. limit_over source n (codes "tables")) tables) ∙ sym c.in_ok-fault.ensures ∙ c.in_default.is)
 
 pub returns-clause-spaces : goal.returns-clause-spaces
 returns-clause-spaces c =
@@ -59,6 +63,7 @@ returns-clause-spaces c =
     let mapped = c.in_ok-mapped.ensures ∙ ap (mapped_by t.flat t.settled t.images) c.requires.outlines ∙ mapped_same t in
     c.in_ok-lay.ensures
     ∙ ap (λ os. spaces_in t.flat t.settled c.sections_end-base.result os c.in_ok-mapped.mapped.items) c.requires.outlines
-    ∙ ap (λ b. spaces_in t.flat t.settled b (outlines t.flat t.settled (ends t)) c.in_ok-mapped.mapped.items) (c.sections_end-base.ensures ∙ ap sections_end c.arch-2.ensures)
+    ∙ ap (λ b. spaces_in t.flat t.settled b (outlines t.flat t.settled (ends t)) c.in_ok-mapped.mapped.items)
+    (c.sections_end-base.ensures ∙ ap sections_end c.arch-2.ensures)
     ∙ ap (λ ms. spaces_in t.flat t.settled (base t) (outlines t.flat t.settled (ends t)) ms) mapped
     ∙ laid t

@@ -16,7 +16,8 @@ space_of-requires-clause-few c =
     let all = c.args.all.items in
     let gives = c.into_iter-pages-iterator.ensures.into_iter_gives in
     let many : into_iter_len it ≡ length all = omega (arith, gives.1, c.args.all.ok.0) in
-    let t : Turned all c.loop-pages.yielded c.in-Some.pages = turned it c.loop-pages.pages-iterator c.next.new.self all gives.0 many c.loop-pages.yielded c.loop-pages.yielded_by c.next.result c.in-Some.pages c.in-Some.is c.next.ensures.steps in
+    let t : Turned all c.loop-pages.yielded c.in-Some.pages = turned it c.loop-pages.pages-iterator c.next.new.self all gives.0
+    many c.loop-pages.yielded c.loop-pages.yielded_by c.next.result c.in-Some.pages c.in-Some.is c.next.ensures.steps in
     let os = c.args.outlines.now in
     let x = c.index-outlines-domain.result in
     let d = c.loop-pages.domain in
@@ -30,7 +31,8 @@ space_of-requires-clause-regions c =
     let all = c.args.all.items in
     let gives = c.into_iter-pages-iterator.ensures.into_iter_gives in
     let many : into_iter_len it ≡ length all = omega (arith, gives.1, c.args.all.ok.0) in
-    let t : Turned all c.loop-pages.yielded c.in-Some.pages = turned it c.loop-pages.pages-iterator c.next.new.self all gives.0 many c.loop-pages.yielded c.loop-pages.yielded_by c.next.result c.in-Some.pages c.in-Some.is c.next.ensures.steps in
+    let t : Turned all c.loop-pages.yielded c.in-Some.pages = turned it c.loop-pages.pages-iterator c.next.new.self all gives.0
+    many c.loop-pages.yielded c.loop-pages.yielded_by c.next.result c.in-Some.pages c.in-Some.is c.next.ensures.steps in
     let os = c.args.outlines.now in
     let x = c.index-outlines-domain.result in
     let d = c.loop-pages.domain in
@@ -44,7 +46,8 @@ loop-pages-preserved c =
     let all = c.args.all.items in
     let gives = c.into_iter-pages-iterator.ensures.into_iter_gives in
     let many : into_iter_len it ≡ length all = omega (arith, gives.1, c.args.all.ok.0) in
-    let t : Turned all c.loop-pages.yielded c.in-Some.pages = turned it c.loop-pages.pages-iterator c.next.new.self all gives.0 many c.loop-pages.yielded c.loop-pages.yielded_by c.next.result c.in-Some.pages c.in-Some.is c.next.ensures.steps in
+    let t : Turned all c.loop-pages.yielded c.in-Some.pages = turned it c.loop-pages.pages-iterator c.next.new.self all gives.0
+    many c.loop-pages.yielded c.loop-pages.yielded_by c.next.result c.in-Some.pages c.in-Some.is c.next.ensures.steps in
     let flat = c.args.flat.now in
     let settled = c.args.settled.now in
     let base = c.args.base in
@@ -54,10 +57,13 @@ loop-pages-preserved c =
     let d = c.loop-pages.domain in
     let there = below all (length c.loop-pages.yielded) ps t.here in
     let l : d < length os = omega (arith, there, c.loop-pages.invariant.count, c.requires.each) in
-    let here : slice_get all d ≡ Some ps = subst (λ (n : ℕ). slice_get all n ≡ Some ps) (sym c.loop-pages.invariant.count) t.here in
+    let here : slice_get all d ≡ Some ps = subst (λ (n : ℕ). slice_get all n ≡ Some ps)
+    (sym c.loop-pages.invariant.count) t.here in
     let pages : ps ≡ get_or all d [] = sym (get_or_from_slice_get all d ps [] here) in
     record {
       count = let a = length_append c.loop-pages.yielded (ps ∷ []) in let b = c.loop-pages.invariant.count in omega (arith, a, b);
-      spaces = gather_turn (λ n (o : Outline). space_in flat settled base o (get_or all n []) ∷ []) os os d x [] c.loop-pages.spaces _ refl l c.index-outlines-domain.is c.loop-pages.invariant.spaces
-          (c.in_ok-push.ensures.ok ∙ ap (λ s. c.loop-pages.spaces ++ s ∷ []) (c.in_ok-space_of.ensures ∙ ap (λ (z : List Page). space_in flat settled base x z) pages));
+      spaces = gather_turn (λ n (o : Outline). space_in flat settled base o (get_or all n []) ∷ []) os os d x []
+          c.loop-pages.spaces _ refl l c.index-outlines-domain.is c.loop-pages.invariant.spaces
+          (c.in_ok-push.ensures.ok ∙ ap (λ s. c.loop-pages.spaces ++ s ∷ []) (c.in_ok-space_of.ensures
+          ∙ ap (λ (z : List Page). space_in flat settled base x z) pages));
     }

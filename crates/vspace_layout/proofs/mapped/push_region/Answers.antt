@@ -9,5 +9,7 @@ loop-page-preserved c =
     let f = page_of c.args.settled.now c.args.start c.args.region in
     let k = c.loop-page.page in
     let at : 0 + k ≡ k = omega arith in
-    c.in_ok-push.ensures.ok ∙ ap (λ z. z ++ c.region_page.result ∷ []) c.loop-page.invariant ∙ append_assoc c.args.pages.now (map f (range_with_len 0 k)) (c.region_page.result ∷ [])
-    ∙ ap (λ z. c.args.pages.now ++ z) (ap (λ z. map f (range_with_len 0 k) ++ z ∷ []) c.region_page.ensures ∙ sym (map-range_with_len_more f 0 k k at))
+    c.in_ok-push.ensures.ok ∙ ap (λ z. z ++ c.region_page.result ∷ []) c.loop-page.invariant ∙ append_assoc c.args.pages.now
+    (map f (range_with_len 0 k)) (c.region_page.result ∷ [])
+    ∙ ap (λ z. c.args.pages.now ++ z) (ap (λ z. map f (range_with_len 0 k) ++ z ∷ []) c.region_page.ensures
+    ∙ sym (map-range_with_len_more f 0 k k at))

@@ -14,14 +14,18 @@ firsts_from-requires c =
     let settled = c.args.settled.now in
     let cs = flat.connections in
     let shared =
-    c.deref-2.ensures.value ∙ c.in_ok-shared.ensures.places ∙ ap (λ (z : List FrameInfo). places_of (length z) (shared_frames settled) c.as_slice-2.result.now) c.new-frames.ensures
+    c.deref-2.ensures.value ∙ c.in_ok-shared.ensures.places
+    ∙ ap (λ (z : List FrameInfo). places_of (length z) (shared_frames settled) c.as_slice-2.result.now) c.new-frames.ensures
     ∙ ap (λ z. places_of 0 (shared_frames settled) z) c.as_slice-2.ensures in
-    let there = c.in_ok-shared.ensures.frames ∙ ap (λ z. z ++ gather (shared_frames settled) c.as_slice-2.result.now) c.new-frames.ensures ∙ ap (gather (shared_frames settled)) c.as_slice-2.ensures in
-    let registered = c.deref-3.ensures.value ∙ c.in_ok-registered.ensures.places ∙ ap (λ (z : List FrameInfo). places_of (length z) (register_frames flat settled) cs) there in
+    let there = c.in_ok-shared.ensures.frames ∙ ap (λ z. z ++ gather (shared_frames settled) c.as_slice-2.result.now)
+    c.new-frames.ensures ∙ ap (gather (shared_frames settled)) c.as_slice-2.ensures in
+    let registered = c.deref-3.ensures.value ∙ c.in_ok-registered.ensures.places
+    ∙ ap (λ (z : List FrameInfo). places_of (length z) (register_frames flat settled) cs) there in
     let numbers = c.deref-4.ensures.value ∙ c.in_ok-numbers.ensures ∙ ap first_numbers c.as_slice.ensures in
     subst (λ z. AreFirsts own z c.deref-3.result.now c.deref-4.result.now) (sym shared)
     (subst (λ z. AreFirsts own (shared_places flat settled) z c.deref-4.result.now) (sym registered)
-    (subst (λ z. AreFirsts own (shared_places flat settled) (register_places flat settled) z) (sym numbers) (are_firsts own flat settled c.requires.own)))
+    (subst (λ z. AreFirsts own (shared_places flat settled) (register_places flat settled) z) (sym numbers)
+    (are_firsts own flat settled c.requires.own)))
 
 pub returns-clause-firsts : goal.returns-clause-firsts
 returns-clause-firsts c =
@@ -30,10 +34,13 @@ returns-clause-firsts c =
     let settled = c.args.settled.now in
     let cs = flat.connections in
     let shared =
-    c.deref-2.ensures.value ∙ c.in_ok-shared.ensures.places ∙ ap (λ (z : List FrameInfo). places_of (length z) (shared_frames settled) c.as_slice-2.result.now) c.new-frames.ensures
+    c.deref-2.ensures.value ∙ c.in_ok-shared.ensures.places
+    ∙ ap (λ (z : List FrameInfo). places_of (length z) (shared_frames settled) c.as_slice-2.result.now) c.new-frames.ensures
     ∙ ap (λ z. places_of 0 (shared_frames settled) z) c.as_slice-2.ensures in
-    let there = c.in_ok-shared.ensures.frames ∙ ap (λ z. z ++ gather (shared_frames settled) c.as_slice-2.result.now) c.new-frames.ensures ∙ ap (gather (shared_frames settled)) c.as_slice-2.ensures in
-    let registered = c.deref-3.ensures.value ∙ c.in_ok-registered.ensures.places ∙ ap (λ (z : List FrameInfo). places_of (length z) (register_frames flat settled) cs) there in
+    let there = c.in_ok-shared.ensures.frames ∙ ap (λ z. z ++ gather (shared_frames settled) c.as_slice-2.result.now)
+    c.new-frames.ensures ∙ ap (gather (shared_frames settled)) c.as_slice-2.ensures in
+    let registered = c.deref-3.ensures.value ∙ c.in_ok-registered.ensures.places
+    ∙ ap (λ (z : List FrameInfo). places_of (length z) (register_frames flat settled) cs) there in
     let numbers = c.deref-4.ensures.value ∙ c.in_ok-numbers.ensures ∙ ap first_numbers c.as_slice.ensures in
     c.in_ok-firsts.ensures
     ∙ ap (λ z. firsts_from own z c.deref-3.result.now c.deref-4.result.now) shared

@@ -20,8 +20,13 @@ loop-number-preserved c =
     let at = read_place cs read i x c.as_slice-connection-items.ensures c.loop-number-test.true c.connection-item.is in
     let first = first_read cs c.args.firsts.now i x c.requires.firsts at in
     record {
-      frames = gather_turn f cs read i x c.args.frames.now c.loop-number.frames _ c.as_slice-connection-items.ensures c.loop-number-test.true c.connection-item.is c.loop-number.invariant.frames
-          (c.in_ok-push_registers.ensures ∙ ap (λ o. c.loop-number.frames ++ frames_by settled o i x) first ∙ ap (λ z. c.loop-number.frames ++ z) (frames_by_first flat settled i x));
-      places = gather_turn (λ k (y : FlatConnection). (length c.args.frames.now + before f cs k) ∷ []) cs read i x [] c.loop-number.places.items _ c.as_slice-connection-items.ensures c.loop-number-test.true c.connection-item.is c.loop-number.invariant.places
-          (c.in_ok-push.ensures.items ∙ ap (λ n. c.loop-number.places.items ++ n ∷ []) (c.len.ensures ∙ places_more f cs i c.args.frames.now c.loop-number.frames c.loop-number.invariant.frames));
+      frames = gather_turn f cs read i x c.args.frames.now c.loop-number.frames _ c.as_slice-connection-items.ensures
+          c.loop-number-test.true c.connection-item.is c.loop-number.invariant.frames
+          (c.in_ok-push_registers.ensures ∙ ap (λ o. c.loop-number.frames ++ frames_by settled o i x) first
+          ∙ ap (λ z. c.loop-number.frames ++ z) (frames_by_first flat settled i x));
+      places = gather_turn (λ k (y : FlatConnection). (length c.args.frames.now + before f cs k) ∷ []) cs read i x []
+          c.loop-number.places.items _ c.as_slice-connection-items.ensures c.loop-number-test.true c.connection-item.is
+          c.loop-number.invariant.places
+          (c.in_ok-push.ensures.items ∙ ap (λ n. c.loop-number.places.items ++ n ∷ []) (c.len.ensures
+          ∙ places_more f cs i c.args.frames.now c.loop-number.frames c.loop-number.invariant.frames));
     }

@@ -7,5 +7,6 @@ use Rattle.vspace_layout.proofs.memory_frames.push_all_shared.Given as goal
 abbrev pub invariant-loop-number : goal.invariant-loop-number
 invariant-loop-number l = record {
   frames : l.frames ≡ l.fn.frames ++ gather (shared_frames l.settled) (take l.number l.connections);
-  places : l.places.items ≡ gather (λ k (c : FlatConnection). (length l.fn.frames + before (shared_frames l.settled) l.connections k) ∷ []) (take l.number l.connections);
+  places : l.places.items ≡ gather (λ k (c : FlatConnection). (length l.fn.frames + before (shared_frames l.settled) l.connections
+      k) ∷ []) (take l.number l.connections);
 }

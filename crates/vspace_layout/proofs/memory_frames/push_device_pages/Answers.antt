@@ -11,6 +11,7 @@ loop-page-preserved c =
     let k = c.loop-page.page in
     let at : 0 + k ≡ k = omega arith in
     c.in_ok-push.ensures.ok
-    ∙ ap (λ z. c.loop-page.frames ++ frame (OfLeaf c.args.leaf) (Some (c.args.paddr + 4096 * c.loop-page.page)) z ∷ []) c.zeros.ensures
+    ∙ ap (λ z. c.loop-page.frames ++ frame (OfLeaf c.args.leaf) (Some (c.args.paddr + 4096 * c.loop-page.page)) z ∷ [])
+    c.zeros.ensures
     ∙ ap (λ z. z ++ f k ∷ []) c.loop-page.invariant ∙ append_assoc c.args.frames.now (map f (range_with_len 0 k)) (f k ∷ [])
     ∙ ap (λ z. c.args.frames.now ++ z) (sym (map-range_with_len_more f 0 k k at))

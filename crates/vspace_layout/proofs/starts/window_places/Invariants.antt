@@ -5,4 +5,5 @@ use Rattle.vspace_layout.specs.Outlines.{window_place}
 use Rattle.vspace_layout.proofs.starts.window_places.Given as goal
 
 abbrev pub invariant-loop-number : goal.invariant-loop-number
-invariant-loop-number l = l.places ≡ gather (λ j (e : EndAt). window_place l.flat l.settled l.starts (l.first + j) e ∷ []) (take l.number l.windows)
+invariant-loop-number l = l.places ≡ gather (λ j (e : EndAt). window_place l.flat l.settled l.starts (l.first + j) e ∷ [])
+    (take l.number l.windows)

@@ -11,7 +11,8 @@ returns-in-Some c =
     let e = c.args.self.now.edge in
     let at = c.index-connections-place.result in
     least_at t e c.args.sought c.loop-place.place at c.in-Some.found
-    (read_place t.flat.connections c.as_slice-connections.result.now c.loop-place.place at c.as_slice-connections.ensures c.loop-place-test.true c.index-connections-place.is)
+    (read_place t.flat.connections c.as_slice-connections.result.now c.loop-place.place at c.as_slice-connections.ensures
+    c.loop-place-test.true c.index-connections-place.is)
     (subst (λ o. IsFirstAt t e c.args.sought c.loop-place.place at o) c.in-Some.is c.in_ok-found.ensures) c.loop-place.invariant
 
 pub loop-place-preserved : goal.loop-place-preserved
@@ -20,11 +21,14 @@ loop-place-preserved c =
     let e = c.args.self.now.edge in
     let at = c.index-connections-place.result in
     none_more t e c.args.sought c.loop-place.place at
-    (read_place t.flat.connections c.as_slice-connections.result.now c.loop-place.place at c.as_slice-connections.ensures c.loop-place-test.true c.index-connections-place.is)
-    (subst (λ o. IsFirstAt t e c.args.sought c.loop-place.place at o) c.in_default.is c.in_ok-found.ensures) c.loop-place.invariant
+    (read_place t.flat.connections c.as_slice-connections.result.now c.loop-place.place at c.as_slice-connections.ensures
+    c.loop-place-test.true c.index-connections-place.is)
+    (subst (λ o. IsFirstAt t e c.args.sought c.loop-place.place at o) c.in_default.is c.in_ok-found.ensures)
+    c.loop-place.invariant
 
 pub returns : goal.returns
 returns c =
     let l = ap length c.as_slice-connections.ensures in
     let past = c.loop-place-test.false in
-    none_all (told c.args.self.now.tables) c.args.self.now.edge c.args.sought c.loop-place.place (omega (arith, l, past)) c.loop-place.invariant
+    none_all (told c.args.self.now.tables) c.args.self.now.edge c.args.sought c.loop-place.place (omega (arith, l, past))
+    c.loop-place.invariant

@@ -7,5 +7,7 @@ use Rattle.cam_base.specs.LinesLeft.{line_of}
 
 pub loop-line-preserved : goal.loop-line-preserved
 loop-line-preserved c =
-    subst (IsBuilt c.add.new.self) (sym (told_more c.args.lines.now c.loop-line.line-index c.line-item.result (omega arith) c.line-item.is))
-    (c.in_ok-add.ensures (told_lines (take c.loop-line.line-index c.args.lines.now)) (line_of c.line-item.result.line) c.loop-line.invariant)
+    subst (IsBuilt c.add.new.self) (sym (told_more c.args.lines.now c.loop-line.line-index c.line-item.result (omega arith)
+    c.line-item.is))
+    (c.in_ok-add.ensures (told_lines (take c.loop-line.line-index c.args.lines.now)) (line_of c.line-item.result.line)
+    c.loop-line.invariant)
