@@ -8,7 +8,8 @@ cond_nil : (b : Bool) (xs : List ℕ) → cond b (xs ++ []) xs ≡ xs
 cond_nil true xs = append-nil xs
 cond_nil false xs = refl
 
-cond_twice : (b : Bool) (xs ys zs : List ℕ) → cond b (cond b (xs ++ ys) xs ++ zs) (cond b (xs ++ ys) xs) ≡ cond b (xs ++ (ys ++ zs)) xs
+cond_twice : (b : Bool) (xs ys zs : List ℕ) → cond b (cond b (xs ++ ys) xs ++ zs) (cond b (xs ++ ys) xs) ≡ cond b
+    (xs ++ (ys ++ zs)) xs
 cond_twice true xs ys zs = append_assoc xs ys zs
 cond_twice false xs ys zs = refl
 
@@ -35,24 +36,31 @@ unfolding appended
 begun_appended s c a = refl
 
 -- one more piece of the bytes
-pub appended_more : (old mid new : Sink) (c i n : ℕ) (bytes : List ℕ) → mid ≡ appended old c (take i bytes) → new ≡ appended mid c (take n (drop i bytes)) → new ≡ appended old c (take (i + n) bytes)
+pub appended_more : (old mid new : Sink) (c i n : ℕ) (bytes : List ℕ) → mid ≡ appended old c (take i bytes)
+    → new ≡ appended mid c (take n (drop i bytes)) → new ≡ appended old c (take (i + n) bytes)
 appended_more old mid new c i n bytes e f =
-    f ∙ (ap (λ s. appended s c (take n (drop i bytes))) e ∙ (appended_twice old c (take i bytes) (take n (drop i bytes)) ∙ ap (appended old c) (sym (take-add i n bytes))))
+    f ∙ (ap (λ s. appended s c (take n (drop i bytes))) e ∙ (appended_twice old c (take i bytes) (take n (drop i bytes))
+    ∙ ap (appended old c) (sym (take-add i n bytes))))
 
 -- the same, where the piece is the slice from i to the end
-pub appended_slice : (old mid new : Sink) (c i n : ℕ) (bytes : List ℕ) → mid ≡ appended old c (take i bytes) → new ≡ appended mid c (take n (take (length bytes - i) (drop i bytes))) → new ≡ appended old c (take (i + n) bytes)
+pub appended_slice : (old mid new : Sink) (c i n : ℕ) (bytes : List ℕ) → mid ≡ appended old c (take i bytes)
+    → new ≡ appended mid c (take n (take (length bytes - i) (drop i bytes))) → new ≡ appended old c (take (i + n) bytes)
 appended_slice old mid new c i n bytes e f =
-    let whole : take (length bytes - i) (drop i bytes) ≡ drop i bytes = take_all (length bytes - i) (drop i bytes) (omega (arith, length-drop i bytes)) in
+    let whole : take (length bytes - i) (drop i bytes) ≡ drop i bytes = take_all (length bytes - i) (drop i bytes)
+    (omega (arith, length-drop i bytes)) in
     appended_more old mid new c i n bytes e (f ∙ ap (λ p. appended mid c (take n p)) whole)
 
 -- what was open stays open
-pub open_appended : (old new : Sink) (c k : ℕ) (bytes : List ℕ) → new ≡ appended old c bytes → IsTrue (is_open old k) → IsTrue (is_open new k)
+pub open_appended : (old new : Sink) (c k : ℕ) (bytes : List ℕ) → new ≡ appended old c bytes → IsTrue (is_open old k)
+    → IsTrue (is_open new k)
 open_appended old new c k bytes e h = subst (λ s. IsTrue (is_open s k)) (sym e) (rw (begun_appended old c bytes) h)
 
 -- what is sent of the bytes that wait is still told once
-pub appended_sent : (s t : Sink) (c i n : ℕ) (bytes : List ℕ) → t ≡ appended s c (take n (take (length bytes - i) (drop i bytes))) → appended t c (drop (i + n) bytes) ≡ appended s c (drop i bytes)
+pub appended_sent : (s t : Sink) (c i n : ℕ) (bytes : List ℕ) → t ≡ appended s c (take n (take (length bytes - i) (drop i bytes)))
+    → appended t c (drop (i + n) bytes) ≡ appended s c (drop i bytes)
 appended_sent s t c i n bytes e =
-    let whole : take (length bytes - i) (drop i bytes) ≡ drop i bytes = take_all (length bytes - i) (drop i bytes) (omega (arith, length-drop i bytes)) in
+    let whole : take (length bytes - i) (drop i bytes) ≡ drop i bytes = take_all (length bytes - i) (drop i bytes)
+    (omega (arith, length-drop i bytes)) in
     ap (λ u. appended u c (drop (i + n) bytes)) (e ∙ ap (λ p. appended s c (take n p)) whole)
     ∙ (appended_twice s c (take n (drop i bytes)) (drop (i + n) bytes)
     ∙ ap (appended s c) (ap (λ ys. take n (drop i bytes) ++ ys) (sym (drop-drop n i bytes)) ∙ take-append-drop n (drop i bytes)))
@@ -62,6 +70,9 @@ pub appended_none : (s : Sink) (c i : ℕ) (bytes : List ℕ) → i ≡ length b
 appended_none s c i bytes e = ap (appended s c) (drop_all i bytes (omega (arith, e))) ∙ appended_nil s c
 
 -- the bytes of a piece behind those that wait
-pub appended_behind : (s : Sink) (c i : ℕ) (bytes piece : List ℕ) → i ≤ length bytes → appended s c (drop i (bytes ++ piece)) ≡ appended (appended s c (drop i bytes)) c (take (length piece) piece)
+pub appended_behind : (s : Sink) (c i : ℕ) (bytes piece : List ℕ) → i ≤ length bytes
+    → appended s c (drop i (bytes ++ piece)) ≡ appended (appended s c (drop i bytes)) c (take (length piece) piece)
 appended_behind s c i bytes piece h =
-    ap (appended s c) (drop-append-le i bytes piece h) ∙ sym (ap (appended (appended s c (drop i bytes)) c) (take_all (length piece) piece (omega arith)) ∙ appended_twice s c (drop i bytes) piece)
+    ap (appended s c) (drop-append-le i bytes piece h)
+    ∙ sym (ap (appended (appended s c (drop i bytes)) c) (take_all (length piece) piece (omega arith))
+    ∙ appended_twice s c (drop i bytes) piece)

@@ -6,7 +6,9 @@ use Rattle.cam_io.specs.Sinks.{more, named, appended, with_begun, is_open}
 use Rattle.cam_io.specs.MemOutputs.{of_channel, room_of, sink_of}
 use Rattle.cam_io.specs.Channels.{Channel, blank, named_channel, filled}
 
-changed : {A : Type 0} (p : Channel → A) (d : A) (f : A → A) (cs : List Channel) (i k : ℕ) (c x : Channel) → slice_get cs i ≡ Some c → p x ≡ f (p c) → of_channel p d (slice_set cs i x) k ≡ cond (k == i) (f (of_channel p d cs k)) (of_channel p d cs k)
+changed : {A : Type 0} (p : Channel → A) (d : A) (f : A → A) (cs : List Channel) (i k : ℕ) (c x : Channel)
+    → slice_get cs i ≡ Some c → p x ≡ f (p c) → of_channel p d (slice_set cs i x) k ≡ cond (k == i) (f (of_channel p d cs k))
+    (of_channel p d cs k)
 changed p d f [] i k c x e h = cc
 changed p d f (y ∷ cs) zero zero c x e h = let same : y ≡ c = cc in rw same h
 changed p d f (y ∷ cs) zero (suc k) c x e h = rw (eqb-suc-zero k) refl
@@ -17,11 +19,13 @@ same_cond : {A : Type 0} (b : Bool) (a : A) → cond b a a ≡ a
 same_cond true a = refl
 same_cond false a = refl
 
-kept : {A : Type 0} (p : Channel → A) (d : A) (cs : List Channel) (i k : ℕ) (c x : Channel) → slice_get cs i ≡ Some c → p x ≡ p c → of_channel p d (slice_set cs i x) k ≡ of_channel p d cs k
+kept : {A : Type 0} (p : Channel → A) (d : A) (cs : List Channel) (i k : ℕ) (c x : Channel) → slice_get cs i ≡ Some c → p x ≡ p c
+    → of_channel p d (slice_set cs i x) k ≡ of_channel p d cs k
 kept p d cs i k c x e h = changed p d (λ a. a) cs i k c x e h ∙ same_cond (k == i) (of_channel p d cs k)
 
 -- a channel took the first bytes of a piece
-pub sink_taken : (cs : List Channel) (i : ℕ) (c x : Channel) (n : ℕ) (piece : List ℕ) → slice_get cs i ≡ Some c → x ≡ filled c n piece → sink_of (slice_set cs i x) ≡ appended (sink_of cs) i (take n piece)
+pub sink_taken : (cs : List Channel) (i : ℕ) (c x : Channel) (n : ℕ) (piece : List ℕ) → slice_get cs i ≡ Some c
+    → x ≡ filled c n piece → sink_of (slice_set cs i x) ≡ appended (sink_of cs) i (take n piece)
 unfolding sink_of appended more
 sink_taken cs i c x n piece e is = λ j.
     record {
@@ -31,11 +35,13 @@ sink_taken cs i c x n piece e is = λ j.
     }
 
 -- its room is less by so many
-pub room_taken : (cs : List Channel) (i : ℕ) (c x : Channel) (n : ℕ) (piece : List ℕ) (k : ℕ) → slice_get cs i ≡ Some c → x ≡ filled c n piece → room_of (slice_set cs i x) k ≡ cond (k == i) (room_of cs k - n) (room_of cs k)
+pub room_taken : (cs : List Channel) (i : ℕ) (c x : Channel) (n : ℕ) (piece : List ℕ) (k : ℕ) → slice_get cs i ≡ Some c
+    → x ≡ filled c n piece → room_of (slice_set cs i x) k ≡ cond (k == i) (room_of cs k - n) (room_of cs k)
 room_taken cs i c x n piece k e is = changed (λ y. y.room) 0 (λ r. r - n) cs i k c x e (ap (λ y. y.room) is)
 
 -- a channel was begun under a name
-pub sink_begun : (cs : List Channel) (i : ℕ) (c x : Channel) (name : List ℕ) → slice_get cs i ≡ Some c → x ≡ named_channel c name → sink_of (slice_set cs i x) ≡ with_begun (sink_of cs) i name
+pub sink_begun : (cs : List Channel) (i : ℕ) (c x : Channel) (name : List ℕ) → slice_get cs i ≡ Some c → x ≡ named_channel c name
+    → sink_of (slice_set cs i x) ≡ with_begun (sink_of cs) i name
 unfolding sink_of with_begun named
 sink_begun cs i c x name e is = λ j.
     record {
@@ -45,7 +51,8 @@ sink_begun cs i c x name e is = λ j.
     }
 
 -- no room was taken
-pub room_kept : (cs : List Channel) (i : ℕ) (c x : Channel) (k : ℕ) → slice_get cs i ≡ Some c → x.room ≡ c.room → room_of (slice_set cs i x) k ≡ room_of cs k
+pub room_kept : (cs : List Channel) (i : ℕ) (c x : Channel) (k : ℕ) → slice_get cs i ≡ Some c → x.room ≡ c.room
+    → room_of (slice_set cs i x) k ≡ room_of cs k
 room_kept cs i c x k e is = kept (λ y. y.room) 0 cs i k c x e is
 
 pub chosen : (b : Bool) (c x y : Channel) → x ≡ cond b y c → y.room ≡ c.room → x.room ≡ c.room
@@ -73,7 +80,8 @@ open_within cs i e h =
     ]
 
 -- what a channel has
-pub channel_at : {A : Type 0} (p : Channel → A) (d : A) (cs : List Channel) (i : ℕ) (c : Channel) → slice_get cs i ≡ Some c → of_channel p d cs i ≡ p c
+pub channel_at : {A : Type 0} (p : Channel → A) (d : A) (cs : List Channel) (i : ℕ) (c : Channel) → slice_get cs i ≡ Some c
+    → of_channel p d cs i ≡ p c
 channel_at p d [] i c e = cc
 channel_at p d (y ∷ cs) zero c e = let same : y ≡ c = cc in ap p same
 channel_at p d (y ∷ cs) (suc i) c e = channel_at p d cs i c e
@@ -85,7 +93,8 @@ no_channel p d (y ∷ cs) zero e = absurd (omega arith)
 no_channel p d (y ∷ cs) (suc i) e = no_channel p d cs i (omega arith)
 
 -- of six blank channels none is begun
-pub fresh_six : (room k : ℕ) → (sink_of (blank room ∷ blank room ∷ blank room ∷ blank room ∷ blank room ∷ blank room ∷ [])).begun k ≡ false
+pub fresh_six : (room k : ℕ)
+    → (sink_of (blank room ∷ blank room ∷ blank room ∷ blank room ∷ blank room ∷ blank room ∷ [])).begun k ≡ false
 unfolding sink_of
 fresh_six room zero = refl
 fresh_six room (suc zero) = refl

@@ -3,5 +3,9 @@ use Rattle.std.proofs.Common.{ℕ, List, arith}
 use Rattle.cam_io.specs.Contents.{Contents}
 use Rattle.cam_io.specs.Reading.{KeepsFiles}
 
-pub keeps_twice : {F : Type 0} {told : F → Contents → Type 0} {faults : F → List ℕ → ℕ} (a b c : F) → KeepsFiles told faults a b → KeepsFiles told faults b c → KeepsFiles told faults a c
-keeps_twice a b c x y = record { told_still = λ m t. x.told_still m (y.told_still m t); later = λ name. omega (arith, x.later name, y.later name) }
+pub keeps_twice : {F : Type 0} {told : F → Contents → Type 0} {faults : F → List ℕ → ℕ} (a b c : F) → KeepsFiles told faults a b
+    → KeepsFiles told faults b c → KeepsFiles told faults a c
+keeps_twice a b c x y = record {
+  told_still = λ m t. x.told_still m (y.told_still m t);
+  later = λ name. omega (arith, x.later name, y.later name);
+}

@@ -5,11 +5,11 @@ use Rattle.cam_io.specs.Contents.{Contents}
 use Rattle.cam_io.specs.Reading.{HaveSameFront, KeepsFiles, LearnsOnly}
 use Rattle.cam_io.proofs.Seeing.{fewer_same}
 
--- after room is made, and a read of no more than the first bytes of a file, no more is learned than these
-pub learned_more : {F : Type 0} (told : F → Contents → Type 0) (faults : F → List ℕ → ℕ) (first before roomy now : F) (name : List ℕ) (less count : ℕ)
-    → LearnsOnly told (HaveSameFront name count) first before → KeepsFiles told faults before roomy → ((m : Contents) → told before m → told roomy m)
-    → KeepsFiles told faults roomy now → LearnsOnly told (HaveSameFront name less) roomy now → less ≤ count
+-- after a read of no more than the first bytes of a file, no more is learned than these
+pub learned_more : {F : Type 0} (told : F → Contents → Type 0) (faults : F → List ℕ → ℕ) (first before now : F) (name : List ℕ)
+    (less count : ℕ)
+    → LearnsOnly told (HaveSameFront name count) first before → KeepsFiles told faults before now
+    → LearnsOnly told (HaveSameFront name less) before now → less ≤ count
     → LearnsOnly told (HaveSameFront name count) first now
-learned_more told faults first before roomy now name less count so_far kept room read_kept read few m n new old same =
-    read m n new (room n (so_far m n (kept.told_still m (read_kept.told_still m new)) old same))
-    (fewer_same less count (get m name) (get n name) few same)
+learned_more told faults first before now name less count so_far kept read few m n new old same =
+    read m n new (so_far m n (kept.told_still m new) old same) (fewer_same less count (get m name) (get n name) few same)

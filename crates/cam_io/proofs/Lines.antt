@@ -18,14 +18,18 @@ module _ {X : Type 0} (f : X → List ℕ) (xs : List X) where
   lines_begin {c} {m} {s} h = record { so_far = no_line f s c xs; open_still = h; later = omega arith }
 
 module _ {X : Type 0} (f : X → List ℕ) (xs : List X) (i : ℕ) where
-  pub lines_step : {E : Type 0} {o : Unit {0}} (x : X) {c m n k : ℕ} {s t u : Sink} → i < length xs → x ≡ get_or xs i x → Wrote c (flat_map f (take i xs)) s t m n → Writes {E = E} (Ok o) c (f x) t u n k → Wrote c (flat_map f (take (i + 1) xs)) s u m k
+  pub lines_step : {E : Type 0} {o : Unit {0}} (x : X) {c m n k : ℕ} {s t u : Sink} → i < length xs → x ≡ get_or xs i x
+      → Wrote c (flat_map f (take i xs)) s t m n → Writes {E = E} (Ok o) c (f x) t u n k
+      → Wrote c (flat_map f (take (i + 1) xs)) s u m k
   lines_step x {c} {m} {n} {k} {s} {t} {u} h is v w = record {
     so_far = line_more f s t u c xs i x h is v.so_far w.ok;
     open_still = open_still w v.open_still;
     later = omega (arith, v.later, w.later);
   }
 
-  pub lines_fail : {E : Type 0} {e : E} (x : X) {c m n k : ℕ} {s t u : Sink} → i < length xs → x ≡ get_or xs i x → Wrote c (flat_map f (take i xs)) s t m n → Writes {E = E} (Err e) c (f x) t u n k → Writes {E = E} (Err e) c (flat_map f xs) s u m k
+  pub lines_fail : {E : Type 0} {e : E} (x : X) {c m n k : ℕ} {s t u : Sink} → i < length xs → x ≡ get_or xs i x
+      → Wrote c (flat_map f (take i xs)) s t m n → Writes {E = E} (Err e) c (f x) t u n k
+      → Writes {E = E} (Err e) c (flat_map f xs) s u m k
   lines_fail x {c} {m} {n} {k} {s} {t} {u} h is v w = record {
     ok = tt;
     err = line_cut f s t u c xs i x h is v.so_far w.err;
@@ -33,5 +37,11 @@ module _ {X : Type 0} (f : X → List ℕ) (xs : List X) (i : ℕ) where
     failed = rose_after m n k v.later w.failed;
   }
 
-  pub lines_end : {E : Type 0} {c m n : ℕ} {s t : Sink} → length xs ≤ i → Wrote c (flat_map f (take i xs)) s t m n → Writes {E = E} (Ok tt) c (flat_map f xs) s t m n
-  lines_end {c = c} {s = s} {t = t} h v = record { ok = lines_all f s t c xs i h v.so_far; err = tt; later = v.later; failed = tt }
+  pub lines_end : {E : Type 0} {c m n : ℕ} {s t : Sink} → length xs ≤ i → Wrote c (flat_map f (take i xs)) s t m n
+      → Writes {E = E} (Ok tt) c (flat_map f xs) s t m n
+  lines_end {c = c} {s = s} {t = t} h v = record {
+    ok = lines_all f s t c xs i h v.so_far;
+    err = tt;
+    later = v.later;
+    failed = tt;
+  }

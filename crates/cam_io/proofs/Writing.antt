@@ -9,7 +9,8 @@ use Rattle.cam_base.specs.Texts.{◌⊹◌}
 use Rattle.cam_io.proofs.Appends.{appended_nil, appended_twice, open_appended}
 
 -- one piece more
-pub ok_after : (old mid new : Sink) (c : ℕ) (a b : List ℕ) → mid ≡ appended old c a → new ≡ appended mid c b → new ≡ appended old c (a ++ b)
+pub ok_after : (old mid new : Sink) (c : ℕ) (a b : List ℕ) → mid ≡ appended old c a → new ≡ appended mid c b
+    → new ≡ appended old c (a ++ b)
 ok_after old mid new c a b e f = f ∙ (ap (λ s. appended s c b) e ∙ appended_twice old c a b)
 
 -- a front of the first part is a front of the whole
@@ -20,10 +21,13 @@ cut_more old new c a b h = record {
 }
 
 -- a front of the next part, behind the parts before it
-pub cut_after : (old mid new : Sink) (c : ℕ) (a b : List ℕ) → mid ≡ appended old c a → IsCut mid c b new → IsCut old c (a ++ b) new
+pub cut_after : (old mid new : Sink) (c : ℕ) (a b : List ℕ) → mid ≡ appended old c a → IsCut mid c b new
+    → IsCut old c (a ++ b) new
 cut_after old mid new c a b e h = record {
   count = length a + h.count;
-  front = h.front ∙ (ap (λ s. appended s c (take h.count b)) e ∙ (appended_twice old c a (take h.count b) ∙ ap (appended old c) (sym (take-append-add a b h.count))));
+  front =
+      h.front ∙ (ap (λ s. appended s c (take h.count b)) e ∙ (appended_twice old c a (take h.count b)
+      ∙ ap (appended old c) (sym (take-append-add a b h.count))));
 }
 
 -- what was open before a piece is open after it
@@ -31,28 +35,36 @@ pub open_after : (old new : Sink) (c : ℕ) (a : List ℕ) → new ≡ appended 
 open_after old new c a e h = open_appended old new c c a e h
 
 module _ {X : Type 0} (f : X → List ℕ) where
-  pub lines_more : (xs : List X) (i : ℕ) (x : X) → i < length xs → x ≡ get_or xs i x → flat_map f (take (i + 1) xs) ≡ flat_map f (take i xs) ++ f x
+  pub lines_more : (xs : List X) (i : ℕ) (x : X) → i < length xs → x ≡ get_or xs i x
+      → flat_map f (take (i + 1) xs) ≡ flat_map f (take i xs) ++ f x
   lines_more xs i x h is =
       ap (flat_map f) (take_more xs i x h)
       ∙ (flat_map-append f (take i xs) (get_or xs i x ∷ [])
-      ∙ (ap (λ ys. flat_map f (take i xs) ++ ys) (append-nil (f (get_or xs i x))) ∙ ap (λ y. flat_map f (take i xs) ++ f y) (sym is)))
+      ∙ (ap (λ ys. flat_map f (take i xs) ++ ys) (append-nil (f (get_or xs i x)))
+      ∙ ap (λ y. flat_map f (take i xs) ++ f y) (sym is)))
 
   lines_split : (xs : List X) (i : ℕ) → flat_map f (take i xs) ++ flat_map f (drop i xs) ≡ flat_map f xs
   lines_split xs i = sym (flat_map-append f (take i xs) (drop i xs)) ∙ ap (flat_map f) (take-append-drop i xs)
 
   -- one line more of a list
-  pub line_more : (old mid new : Sink) (c : ℕ) (xs : List X) (i : ℕ) (x : X) → i < length xs → x ≡ get_or xs i x → mid ≡ appended old c (flat_map f (take i xs)) → new ≡ appended mid c (f x) → new ≡ appended old c (flat_map f (take (i + 1) xs))
-  line_more old mid new c xs i x h is e n = ok_after old mid new c (flat_map f (take i xs)) (f x) e n ∙ ap (appended old c) (sym (lines_more xs i x h is))
+  pub line_more : (old mid new : Sink) (c : ℕ) (xs : List X) (i : ℕ) (x : X) → i < length xs → x ≡ get_or xs i x
+      → mid ≡ appended old c (flat_map f (take i xs)) → new ≡ appended mid c (f x)
+      → new ≡ appended old c (flat_map f (take (i + 1) xs))
+  line_more old mid new c xs i x h is e n = ok_after old mid new c (flat_map f (take i xs)) (f x) e n
+      ∙ ap (appended old c) (sym (lines_more xs i x h is))
 
   -- a front of a line is a front of the lines
-  pub line_cut : (old mid new : Sink) (c : ℕ) (xs : List X) (i : ℕ) (x : X) → i < length xs → x ≡ get_or xs i x → mid ≡ appended old c (flat_map f (take i xs)) → IsCut mid c (f x) new → IsCut old c (flat_map f xs) new
+  pub line_cut : (old mid new : Sink) (c : ℕ) (xs : List X) (i : ℕ) (x : X) → i < length xs → x ≡ get_or xs i x
+      → mid ≡ appended old c (flat_map f (take i xs)) → IsCut mid c (f x) new → IsCut old c (flat_map f xs) new
   line_cut old mid new c xs i x h is e n =
       subst (λ (all : List ℕ). IsCut old c all new) (lines_split xs (i + 1))
       (cut_more old new c (flat_map f (take (i + 1) xs)) (flat_map f (drop (i + 1) xs))
-      (subst (λ (some : List ℕ). IsCut old c some new) (sym (lines_more xs i x h is)) (cut_after old mid new c (flat_map f (take i xs)) (f x) e n)))
+      (subst (λ (some : List ℕ). IsCut old c some new) (sym (lines_more xs i x h is))
+      (cut_after old mid new c (flat_map f (take i xs)) (f x) e n)))
 
   -- after the last line all are written
-  pub lines_all : (old new : Sink) (c : ℕ) (xs : List X) (i : ℕ) → length xs ≤ i → new ≡ appended old c (flat_map f (take i xs)) → new ≡ appended old c (flat_map f xs)
+  pub lines_all : (old new : Sink) (c : ℕ) (xs : List X) (i : ℕ) → length xs ≤ i → new ≡ appended old c (flat_map f (take i xs))
+      → new ≡ appended old c (flat_map f xs)
   lines_all old new c xs i h e = e ∙ ap (λ ys. appended old c (flat_map f ys)) (take_all i xs h)
 
   pub no_line : (old : Sink) (c : ℕ) (xs : List X) → old ≡ appended old c (flat_map f (take 0 xs))
@@ -63,7 +75,8 @@ unfolding ◌⊹◌
 beside a b = refl
 
 -- the same three for texts in parts
-pub ok_then : (old mid new : Sink) (c : ℕ) (a b : List ℕ) → mid ≡ appended old c a → new ≡ appended mid c b → new ≡ appended old c (a ⊹ b)
+pub ok_then : (old mid new : Sink) (c : ℕ) (a b : List ℕ) → mid ≡ appended old c a → new ≡ appended mid c b
+    → new ≡ appended old c (a ⊹ b)
 unfolding ◌⊹◌
 ok_then old mid new c a b e f = ok_after old mid new c a b e f
 

@@ -10,8 +10,14 @@ pub record Channel : Type 0 where
 
 abbrev pub channel_code : Coded Channel
 channel_code =
-    code_by (Bool × (List ℕ × (List ℕ × ℕ))) (coded× coded_bool (coded× (coded_list coded_ℕ) (coded× (coded_list coded_ℕ) coded_ℕ)))
-    (λ c. (c.begun, (c.name, (c.bytes, c.room)))) (λ p. record { begun = p.0; name = p.1.0; bytes = p.1.1.0; room = p.1.1.1 }) (λ _. refl)
+    code_by (Bool × (List ℕ × (List ℕ × ℕ)))
+    (coded× coded_bool (coded× (coded_list coded_ℕ) (coded× (coded_list coded_ℕ) coded_ℕ)))
+    (λ c. (c.begun, (c.name, (c.bytes, c.room)))) (λ p. record {
+      begun = p.0;
+      name = p.1.0;
+      bytes = p.1.1.0;
+      room = p.1.1.1;
+    }) (λ _. refl)
 
 -- the most bytes that a name may have
 abbrev pub name_room : ℕ

@@ -2,6 +2,7 @@ pub mod Buffered
 pub mod Causes
 pub mod Channels
 pub mod Contents
+pub mod FileBytes
 pub mod Host
 pub mod LeastSeen
 pub mod MemFiles

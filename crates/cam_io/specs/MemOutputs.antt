@@ -25,7 +25,11 @@ room_of = of_channel (λ c. c.room) 0
 -- what the channels have begun and hold
 unfoldable pub sink_of : List Channel → Sink
 sink_of cs =
-    record { begun = of_channel (λ c. c.begun) false cs; names = Some (of_channel (λ c. c.name) [] cs); written = Some (bytes_of cs) }
+    record {
+      begun = of_channel (λ c. c.begun) false cs;
+      names = Some (of_channel (λ c. c.name) [] cs);
+      written = Some (bytes_of cs);
+    }
 
 -- ---- of outputs in memory
 

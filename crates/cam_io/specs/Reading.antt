@@ -1,9 +1,12 @@
 -- What a read answers, and what it leaves as it was.
 use Rattle.std.specs.FinMap.{get}
 use Rattle.std.specs.Option.{option_map}
-use Rattle.std.specs.Prelude.{◌≡◌, ◌<◌, ◌≤◌, ℕ, ◌+◌, List, length, take, drop, Option, None, Some}
+use Rattle.std.specs.Prelude.{◌≡◌, ◌<◌, ◌≤◌, ℕ, ◌+◌, List, length, take, drop, Option, None, Some, Result, Ok, Err}
 use Rattle.cam_io.specs.Causes.{NoneFell}
 use Rattle.cam_io.specs.Contents.{Contents}
+use Rattle.cam_base.specs.declared.error.Refused.{Refused}
+use Rattle.cam_base.specs.declared.error.Refused.TheVariants as refused
+use Rattle.cam_io.specs.declared.files.Failed.{Failed}
 use Rattle.cam_io.specs.declared.files.Got.{Got}
 use Rattle.cam_io.specs.declared.files.Got.TheVariants.{Absent, End, Bytes}
 
@@ -17,7 +20,14 @@ TookAtMost room (Bytes n) = (0 < n) × (n ≤ room)
 abbrev pub IsGot : Option (List ℕ) → ℕ → List ℕ → Got → Type 0
 IsGot file at buffer Absent = file ≡ None
 IsGot file at buffer End = (bytes : List ℕ) × (file ≡ Some bytes) × (length bytes ≤ at)
-IsGot file at buffer (Bytes n) = (bytes : List ℕ) × (file ≡ Some bytes) × (at + n ≤ length bytes) × (take n buffer ≡ take n (drop at bytes))
+IsGot file at buffer (Bytes n) = (bytes : List ℕ) × (file ≡ Some bytes) × (at + n ≤ length bytes)
+    × (take n buffer ≡ take n (drop at bytes))
+
+-- a read failed, and not for want of memory
+abbrev pub IsFailure : {A : Type 0} → Result A (Refused Failed) → Type 0
+IsFailure (Ok a) = ⊥
+IsFailure (Err (refused.Fault failed)) = Unit {0}
+IsFailure (Err refused.NoMemory) = ⊥
 
 -- it holds of all contents that are told
 abbrev pub InAll : (Contents → Type 0) → (Contents → Type 0) → Type 0

@@ -31,13 +31,25 @@ abbrev pub HasAny : Option Seen → Option (List ℕ) → Type 0
 HasAny None file = Unit {0}
 HasAny (Some s) file = HasSeen s.extent s.bytes.items file
 
+-- all bytes of the file, where they were seen
+abbrev pub whole_of : Extent → List ℕ → Option (List ℕ)
+whole_of Unasked bytes = None
+whole_of Absent bytes = None
+whole_of Begun bytes = None
+whole_of Whole bytes = Some bytes
+
+abbrev pub whole_of_any : Option Seen → Option (List ℕ)
+whole_of_any None = None
+whole_of_any (Some s) = whole_of s.extent s.bytes.items
+
 -- the contents have what was seen of each name
 abbrev pub Agrees : List Seen → Contents → Type 0
 Agrees seen m = (name : List ℕ) → HasAny (seen_of seen name) (get m name)
 
 -- all that is seen later was so before
 abbrev pub Grows : Seen → Seen → Type 0
-Grows before now = (file : Option (List ℕ)) → HasSeen now.extent now.bytes.items file → HasSeen before.extent before.bytes.items file
+Grows before now = (file : Option (List ℕ)) → HasSeen now.extent now.bytes.items file
+    → HasSeen before.extent before.bytes.items file
 
 -- no more was learned than the first bytes of the file, so many, or that there is none
 abbrev pub Learns : Seen → Seen → ℕ → Type 0

@@ -28,7 +28,11 @@ appended s channel bytes = record { begun = s.begun; names = s.names; written = 
 
 -- with a channel begun under a name
 unfoldable pub with_begun : Sink → ℕ → List ℕ → Sink
-with_begun s channel name = record { begun = at_channel channel true s.begun; names = named channel name s.names; written = s.written }
+with_begun s channel name = record {
+  begun = at_channel channel true s.begun;
+  names = named channel name s.names;
+  written = s.written;
+}
 
 -- a front of the bytes stands at the channel's end
 pub record IsCut (old : Sink) (channel : ℕ) (bytes : List ℕ) (new : Sink) : Type 0 where
@@ -36,7 +40,8 @@ pub record IsCut (old : Sink) (channel : ℕ) (bytes : List ℕ) (new : Sink) : 
   pub front : new ≡ appended old channel (take count bytes)
 
 -- The bytes stand at the channel's end, or a front of them after a failure, which comes only where the count rose.
-pub record Writes {E : Type 0} (result : Result (Unit {0}) E) (channel : ℕ) (bytes : List ℕ) (old new : Sink) (before now : ℕ) : Type 0 where
+pub record Writes {E : Type 0} (result : Result (Unit {0}) E) (channel : ℕ) (bytes : List ℕ) (old new : Sink)
+    (before now : ℕ) : Type 0 where
   pub ok : OnOk result (new ≡ appended old channel bytes)
   pub err : OnErr result (IsCut old channel bytes new)
   pub later : before ≤ now

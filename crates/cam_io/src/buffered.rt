@@ -12,7 +12,7 @@ use arrayvec::ArrayVec;
 pub struct Buffered<O: Outputs + Drop> {
     outputs: O,
     channel: u8,
-    waiting: ArrayVec<u8, 8192>,
+    waiting: ArrayVec<u8, 32768>,
     sent: usize,
     ghost is_open: { IsTrue (is_open (O.sink outputs) channel) },
     ghost within: { sent ≤ length waiting.items },
@@ -56,6 +56,7 @@ impl<O: Outputs + Drop> Buffered<O> {
     }
 
     /// Sends what waits of another channel.
+    #[inline(always)]
     fn turn_to(&mut self, channel: u8) -> Result<(), Failed>
         requires { IsTrue (is_open (sent_by O.sink self.old) channel) }
         ensures same { told_by O.sink self.new ≡ told_by O.sink self.old }
@@ -70,19 +71,22 @@ impl<O: Outputs + Drop> Buffered<O> {
         Ok(())
     }
 
-    /// Sends what waits, and writes a piece behind it.
-    fn write_through(&mut self, channel: u8, piece: &[u8]) -> Result<usize, Failed>
-        requires open { IsTrue (is_open (sent_by O.sink self.old) channel) }
-        requires some { 0 < length piece.now }
+    /// Sends what waits, so that there is room for a piece, which is written through where it is longer than the buffer.
+    fn write_behind(&mut self, piece: &[u8]) -> Result<usize, Failed>
+        requires { 0 < length piece.now }
         ensures some { IfOk result (λ n. 0 < n) }
         ensures at_most { IfOk result (λ n. n ≤ length piece.now) }
-        ensures ok { IfOk result (λ n. told_by O.sink self.new ≡ appended (told_by O.sink self.old) channel (take n piece.now)) }
+        ensures ok { IfOk result (λ n. told_by O.sink self.new ≡ appended (told_by O.sink self.old) (channel_of self.old)
+            (take n piece.now)) }
         ensures err { OnErr result (told_by O.sink self.new ≡ told_by O.sink self.old) }
         ensures later { faults_by O.faults self.old ≤ faults_by O.faults self.new }
         ensures failed { OnErr result (Rose (faults_by O.faults self.old) (faults_by O.faults self.new)) }
     {
         self.flush()?;
-        self.outputs.write(channel, piece)
+        match self.waiting.try_extend_from_slice(piece) {
+            Ok(()) => Ok(piece.len()),
+            Err(_) => self.outputs.write(self.channel, piece),
+        }
     }
 }
 
@@ -130,11 +134,12 @@ impl<O: Outputs + Drop> Outputs for Buffered<O> {
         self.outputs.begin(channel, name)
     }
 
+    #[inline(always)]
     fn write(&mut self, channel: u8, piece: &[u8]) -> Result<usize, Failed> {
         self.turn_to(channel)?;
         match self.waiting.try_extend_from_slice(piece) {
             Ok(()) => Ok(piece.len()),
-            Err(_) => self.write_through(channel, piece),
+            Err(_) => self.write_behind(piece),
         }
     }
 }

@@ -1,10 +1,11 @@
 ghost use Rattle.cam_io.specs.Causes.{Rose};
 ghost use Rattle.cam_io.specs.Contents.{Contents};
-ghost use Rattle.cam_io.specs.Reading.{InAll, TookAtMost, IsGot, KeepsFiles, HaveSameFront, LearnsOnly};
+ghost use Rattle.cam_io.specs.Reading.{InAll, TookAtMost, IsFailure, IsGot, KeepsFiles, HaveSameFront, LearnsOnly};
 ghost use Rattle.std.specs.FinMap as map;
-ghost use Rattle.std.specs.Prelude.{◌<◌, ◌+◌, ℕ, List as Items, length, IfOk, OnErr};
+ghost use Rattle.std.specs.Option.{option_copied};
+ghost use Rattle.std.specs.Prelude.{◌≡◌, ◌<◌, ◌+◌, ℕ, List as Items, Option, length, IfOk, IfSome, OnErr};
 
-use cam_base::NoMemory;
+use cam_base::Refused;
 use thiserror::Error;
 
 /// A read, a begin or a write failed, and its count of faults rose.
@@ -31,11 +32,23 @@ pub trait Files {
     /// How often reads of a name have failed.
     ghost faults: { Self → Items ℕ → ℕ };
 
-    /// Takes the memory that a read of so many bytes of this name may want. A read for which there is room never fails for
-    /// want of memory.
-    fn make_room(&mut self, name: &str, bytes: usize) -> Result<(), NoMemory>
+    /// All bytes of a name's file, where these files keep them.
+    ghost lends: { Self → Items ℕ → Option (Items ℕ) };
+
+    /// Looks at the first bytes of a file, at most so many and one more, where these files keep what they have read, so that
+    /// no read of them fails from then on. `Failed` only where the count of this name rose.
+    fn see(&mut self, name: &str, limit: u64) -> Result<(), Refused<Failed>>
         ensures kept { KeepsFiles told faults self.old self.new }
-        ensures learned { (m : Contents) → told self.old m → told self.new m };
+        ensures failed { IsFailure result → Rose (faults self.old name.now) (faults self.new name.now) }
+        ensures learned { LearnsOnly told (HaveSameFront name.now (limit + 1)) self.old self.new }
+    {
+        Ok(())
+    }
+
+    /// All bytes of a file, where these files keep them.
+    fn seen(&self, name: &str) -> Option<&[u8]>
+        ensures lends { option_copied result ≡ lends self.now name.now }
+        ensures told { InAll (told self.now) (λ m. IfSome result (λ bytes. map.get m name.now ≡ Some bytes.now)) };
 
     /// Reads bytes of a file from the byte `at` on: those that all contents have that are told then. `Failed` only where the
     /// count of this name rose. No more of the file is looked at than has room in the buffer.

@@ -1,7 +1,7 @@
 ghost use Rattle.std.specs.FinMap as map;
 ghost use Rattle.std.specs.Prelude.{◌≡◌, OnOk, OnErr};
 
-use crate::named_file::{NamedFile, put_file, read_file};
+use crate::named_file::{NamedFile, found, put_file, read_file};
 use crate::{Failed, Files, Got};
 use cam_base::NoMemory;
 use std::alloc::Global;
@@ -47,14 +47,17 @@ impl FixedFiles {
 }
 
 impl Files for FixedFiles {
+    ghost use Rattle.std.specs.FinMap.{get};
     ghost use Rattle.std.specs.Prelude.{◌≡◌, refl};
 
     ghost told = { λ s m. m ≡ s };
 
     ghost faults = { λ _ _. 0 };
 
-    fn make_room(&mut self, _name: &str, _bytes: usize) -> Result<(), NoMemory> {
-        Ok(())
+    ghost lends = { get };
+
+    fn seen(&self, name: &str) -> Option<&[u8]> {
+        Some(found(&self.files, name.as_bytes())?.bytes.as_bytes())
     }
 
     fn read(&mut self, name: &str, at: u64, buf: &mut [u8]) -> Result<Got, Failed> {

@@ -1,7 +1,7 @@
 ghost use Rattle.cam_io.specs.Causes.{Rose, one_more};
 ghost use Rattle.cam_io.specs.Contents.{Contents};
 ghost use Rattle.cam_io.specs.Host.{host_told, host_faults};
-ghost use Rattle.cam_io.specs.Reading.{InAll, TookAtMost, IsGot, KeepsFiles, HaveSameFront, LearnsOnly};
+ghost use Rattle.cam_io.specs.Reading.{InAll, TookAtMost, IsFailure, IsGot, KeepsFiles, HaveSameFront, LearnsOnly};
 ghost use Rattle.cam_io.specs.Seen.{seen_of, replaced};
 ghost use Rattle.cam_io.specs.declared.seen.Seen.{Seen as Entry};
 ghost use Rattle.std.specs.FinMap as map;
@@ -9,7 +9,7 @@ ghost use Rattle.std.specs.Prelude.{◌≡◌, ◌<◌, ◌≤◌, ◌+◌, leng
 
 use crate::seen::{Seen, place_of};
 use crate::{Failed, Files, Got};
-use cam_base::NoMemory;
+use cam_base::{NoMemory, Refused};
 
 /// The files of the host. What they answer of a name they keep, and answer again, so that no two of their answers ever
 /// differ, and each file is read once, however often it is asked for. The contents that they tell are those that have all that
@@ -64,6 +64,16 @@ impl HostFiles {
         Ok(place)
     }
 
+    /// Sees the first bytes of a name's file.
+    fn see_named(&mut self, name: &str, limit: u64) -> Result<(), Refused<Failed>>
+        ensures told { InAll (host_told self.new) (host_told self.old) }
+        ensures faults { self.new.faults ≡ self.old.faults }
+        ensures learned { LearnsOnly host_told (HaveSameFront name.now (limit + 1)) self.old self.new }
+    {
+        let place = self.place(name)?;
+        self.seen[place].see(&self.rt, name, limit)
+    }
+
     /// Reads what was seen of a name, or asks the host and sees it.
     fn read_named(&mut self, name: &str, at: u64, buf: &mut [u8]) -> Result<Got, Failed>
         requires { 0 < length buf.old }
@@ -81,7 +91,7 @@ impl HostFiles {
 }
 
 impl Files for HostFiles {
-    ghost use Rattle.cam_io.specs.Host.{host_told, host_faults};
+    ghost use Rattle.cam_io.specs.Host.{host_told, host_faults, host_lends};
     ghost use Rattle.cam_io.specs.Seen.{least};
     ghost use Rattle.cam_io.specs.LeastSeen.{least_agrees};
 
@@ -89,13 +99,25 @@ impl Files for HostFiles {
 
     ghost faults = { λ s _. host_faults s };
 
-    fn make_room(&mut self, name: &str, bytes: usize) -> Result<(), NoMemory>
+    ghost lends = { host_lends };
+
+    fn see(&mut self, name: &str, limit: u64) -> Result<(), Refused<Failed>>
         ensures kept { KeepsFiles host_told (λ s _. host_faults s) self.old self.new }
-        ensures learned { (m : Contents) → host_told self.old m → host_told self.new m }
-        ensures quiet { host_faults self.new ≡ host_faults self.old }
+        ensures failed { IsFailure result → Rose (host_faults self.old) (host_faults self.new) }
+        ensures learned { LearnsOnly host_told (HaveSameFront name.now (limit + 1)) self.old self.new }
+        ensures quiet { OnOk result (host_faults self.new ≡ host_faults self.old) }
+        ensures counted { IsFailure result → host_faults self.new ≡ one_more (host_faults self.old) }
     {
-        let place = self.place(name)?;
-        self.seen[place].make_room(bytes)
+        match self.see_named(name, limit) {
+            Ok(()) => Ok(()),
+            Err(Refused::Fault(Failed)) => Err(Refused::Fault(self.fault())),
+            Err(Refused::NoMemory) => Err(Refused::NoMemory),
+        }
+    }
+
+    fn seen(&self, name: &str) -> Option<&[u8]> {
+        let place = place_of(self.seen.as_slice(), name.as_bytes())?;
+        self.seen[place].whole()
     }
 
     fn read(&mut self, name: &str, at: u64, buf: &mut [u8]) -> Result<Got, Failed>

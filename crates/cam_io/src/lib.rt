@@ -1,7 +1,8 @@
 //! Files and outputs: what a command reads from and writes to, with what each call did as a value.
 //!
 //! `Files` tells what its files hold and how often reads of a name have failed; `Outputs` tells which channels are
-//! begun, under which names, and what each holds. `read_whole`, `write_all` and `write_parts` are the loops over them.
+//! begun, under which names, and what each holds. `see_whole`, `read_whole`, `write_all` and `write_parts` are the loops over
+//! them, and `FileBytes` lends what the files keep.
 //! There are files and outputs in memory, whose faults are stated beforehand, and those of the host: its files keep what
 //! they have answered, and tell the contents that have it; its outputs tell only which channels are begun. That a read of
 //! the host gives a file's bytes, and that a write puts them there, is trusted.
@@ -12,6 +13,7 @@
 #![tactic(auto)]
 
 mod buffered;
+mod file_bytes;
 mod files;
 mod fixed_files;
 mod host_files;
@@ -26,6 +28,7 @@ mod whole;
 mod write;
 
 pub use buffered::Buffered;
+pub use file_bytes::FileBytes;
 pub use files::{Failed, Files, Got};
 pub use fixed_files::FixedFiles;
 pub use host_files::HostFiles;
@@ -33,5 +36,5 @@ pub use host_outputs::HostOutputs;
 pub use mem_files::MemFiles;
 pub use mem_outputs::MemOutputs;
 pub use outputs::Outputs;
-pub use whole::{WholeError, read_whole};
+pub use whole::{WholeError, read_whole, see_whole};
 pub use write::{write_all, write_parts};

@@ -3,7 +3,7 @@ ghost use Rattle.cam_io.specs.Contents.{Contents};
 ghost use Rattle.cam_io.specs.MemFiles.{IsHeld, held, counts, calls, failing, CountsFault};
 ghost use Rattle.cam_io.specs.Reading.{InAll, TookAtMost, IsGot, KeepsFiles, HaveSameFront, LearnsOnly};
 ghost use Rattle.std.specs.FinMap as map;
-ghost use Rattle.std.specs.Prelude.{List as Items, ◌≡◌, ◌<◌, ◌∷◌, [], ◌++◌, ◌+◌, ◌↔◌, ℕ, Contains, IsErr, IsOk, IfOk, OnOk, OnErr, length};
+ghost use Rattle.std.specs.Prelude.{List as Items, ◌≡◌, ◌<◌, ◌∷◌, [], ◌++◌, ◌+◌, ◌↔◌, ℕ, Contains, IsErr, IfOk, OnOk, OnErr, length};
 
 use crate::named_file::{NamedFile, count_fault, put_file, read_file};
 use crate::{Failed, Files, Got};
@@ -69,20 +69,17 @@ impl MemFiles {
 }
 
 impl Files for MemFiles {
-    ghost use Rattle.std.specs.Prelude.{refl};
+    ghost use Rattle.std.specs.Prelude.{None, refl};
     ghost use Rattle.cam_io.specs.MemFiles.{IsHeld, held, counts};
 
     ghost told = { IsHeld };
 
     ghost faults = { counts };
 
-    fn make_room(&mut self, _name: &str, _bytes: usize) -> Result<(), NoMemory>
-        ensures kept { KeepsFiles IsHeld counts self.old self.new }
-        ensures learned { (m : Contents) → IsHeld self.old m → IsHeld self.new m }
-        ensures same { self.new ≡ self.old }
-        ensures ok { IsOk result }
-    {
-        Ok(())
+    ghost lends = { λ _ _. None };
+
+    fn seen(&self, _name: &str) -> Option<&[u8]> {
+        None
     }
 
     fn read(&mut self, name: &str, at: u64, buf: &mut [u8]) -> Result<Got, Failed>

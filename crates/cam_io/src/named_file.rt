@@ -40,7 +40,7 @@ fn place_of(files: &[NamedFile], name: &[u8]) -> Option<usize>
 }
 
 #[tactic(auto, using(crate::proofs::Lookups::get_contents))]
-fn found<'a>(files: &'a [NamedFile], name: &[u8]) -> Option<&'a NamedFile>
+pub(crate) fn found<'a>(files: &'a [NamedFile], name: &[u8]) -> Option<&'a NamedFile>
     ensures none { IfNone result (map.get (contents_of files.now) name.now ≡ None) }
     ensures some { IfSome result (λ f. map.get (contents_of files.now) name.now ≡ Some f.now.bytes) }
 {

@@ -1,17 +1,21 @@
 //! What the host has answered of a name, and reading on from there.
 
 ghost use Rattle.cam_io.specs.Reading.{TookAtMost, IsGot};
-ghost use Rattle.cam_io.specs.Seen.{seen_of, replaced, HasSeen, IsReached, Grows, Learns, wanted};
+ghost use Rattle.cam_io.specs.Seen.{seen_of, replaced, HasSeen, IsReached, Grows, Learns, wanted, whole_of};
 ghost use Rattle.cam_io.specs.declared.seen.Seen.{Seen as Entry};
-ghost use Rattle.std.specs.Prelude.{List as Items, ◌≡◌, ◌<◌, ◌≤◌, ◌+◌, ◌⊎◌, ℕ, [], true, false, Option, IfNone, IfOk, IfSome, length, slice_get, slice_set};
+ghost use Rattle.std.specs.Option.{option_copied};
+ghost use Rattle.std.specs.Prelude.{List as Items, ◌≡◌, ◌<◌, ◌≤◌, ◌+◌, ◌⊎◌, ◌↔◌, ℕ, [], true, false, Option, IfNone, IfOk, IfSome, IsTrue, length, slice_get, slice_set};
 
 use crate::named_file::{copy_from, read_from, same};
 use crate::{Failed, Got};
-use cam_base::{NoMemory, Text};
+use cam_base::{NoMemory, Refused, Text};
 use std::alloc::Global;
 use std::fs;
 use std::fs::File;
 use std::io::{ErrorKind, Read};
+
+/// How many bytes are read at once.
+const CHUNK: usize = 16384;
 
 /// How much of a file was seen.
 #[derive(Clone, Copy)]
@@ -62,16 +66,6 @@ impl Seen {
             bytes: Vec::new(alloc),
             file: None,
         })
-    }
-
-    /// Takes memory for so many bytes more.
-    pub(crate) fn make_room(&mut self, bytes: usize) -> Result<(), NoMemory>
-        ensures name { self.new.name ≡ self.old.name }
-        ensures extent { self.new.extent ≡ self.old.extent }
-        ensures bytes { self.new.bytes.items ≡ self.old.bytes.items }
-    {
-        self.bytes.reserve(bytes)?;
-        Ok(())
     }
 
     /// Whether what was seen answers a read at this place.
@@ -156,6 +150,124 @@ impl Seen {
                 self.file = None;
                 Err(Failed)
             }
+        }
+    }
+
+    /// Asks whether there is a file, where nothing was asked.
+    fn meet(&mut self, rt: &HostRuntime, name: &str) -> Result<(), Failed>
+        ensures name { self.new.name ≡ self.old.name }
+        ensures grows { Grows self.old self.new }
+        ensures learns { (count : ℕ) → Learns self.old self.new count }
+    {
+        match self.extent {
+            Extent::Unasked => self.open(rt, name),
+            _ => Ok(()),
+        }
+    }
+
+    /// Takes the memory for what the host says that the file has, as far as it is looked at, and a byte more, to see its end.
+    fn make_room(&mut self, limit: u64) -> Result<(), NoMemory>
+        ensures name { self.new.name ≡ self.old.name }
+        ensures extent { self.new.extent ≡ self.old.extent }
+        ensures bytes { self.new.bytes.items ≡ self.old.bytes.items }
+    {
+        let Some(file) = &self.file else {
+            return Ok(());
+        };
+        let length = match file.metadata() {
+            Ok(told) => told.len().min(limit),
+            Err(_) => 0,
+        };
+        let left = length.saturating_sub(self.bytes.len() as u64);
+        self.bytes.reserve_exact(left.saturating_add(1) as usize)?;
+        Ok(())
+    }
+
+    /// The same, with the memory for the bytes that the file has then.
+    fn begin(&mut self, rt: &HostRuntime, name: &str, limit: u64) -> Result<(), Refused<Failed>>
+        ensures name { self.new.name ≡ self.old.name }
+        ensures grows { Grows self.old self.new }
+        ensures learns { (count : ℕ) → Learns self.old self.new count }
+    {
+        match self.meet(rt, name) {
+            Ok(()) => Ok(self.make_room(limit)?),
+            Err(failed) => Err(Refused::Fault(failed)),
+        }
+    }
+
+    /// Whether no more than so many bytes were seen, and the file may have more.
+    fn is_begun_within(&self, limit: u64) -> bool
+        ensures { IsTrue result ↔ (self.now.extent ≡ Extent.Begun) × (length self.now.bytes.items ≤ limit) }
+    {
+        matches!(self.extent, Extent::Begun) && self.bytes.len() as u64 <= limit
+    }
+
+    /// Takes memory for a read where there is none left, and answers for how many bytes there is then: the buffer has room
+    /// for them, and no more of the file is looked at than so many and one more.
+    fn next_room(&mut self, limit: u64) -> Result<usize, NoMemory>
+        requires { length self.old.bytes.items ≤ limit }
+        ensures name { self.new.name ≡ self.old.name }
+        ensures extent { self.new.extent ≡ self.old.extent }
+        ensures bytes { self.new.bytes.items ≡ self.old.bytes.items }
+        ensures some { IfOk result (λ room. 0 < room) }
+        ensures chunk { IfOk result (λ room. room ≤ CHUNK) }
+        ensures few { IfOk result (λ room. length self.old.bytes.items + room ≤ limit + 1) }
+    {
+        let seen = self.bytes.len();
+        if self.bytes.capacity() == seen {
+            self.bytes.reserve(CHUNK)?;
+        }
+        let room = (self.bytes.capacity() - seen).min(CHUNK);
+        let left = (limit - seen as u64).saturating_add(1);
+        Ok(left.min(room as u64) as usize)
+    }
+
+    /// Reads on in the file that was begun, as far as so many bytes and one more.
+    fn read_within(&mut self, limit: u64, chunk: &mut [u8]) -> Result<(), Refused<Failed>>
+        requires begun { self.old.extent ≡ Extent.Begun }
+        requires few { length self.old.bytes.items ≤ limit }
+        requires chunk { CHUNK ≤ length chunk.old }
+        ensures name { self.new.name ≡ self.old.name }
+        ensures grows { Grows self.old self.new }
+        ensures learns { Learns self.old self.new (limit + 1) }
+        ensures more { IfOk result (λ u. wanted self.new.extent (length self.new.bytes.items) limit
+            < wanted self.old.extent (length self.old.bytes.items) limit) }
+    {
+        let room = self.next_room(limit)?;
+        match self.read_on(&mut chunk[..room]) {
+            Ok(()) => Ok(()),
+            Err(failed) => Err(Refused::Fault(failed)),
+        }
+    }
+
+    /// Asks, or reads on, until all of the file was seen, or a byte more than so many.
+    pub(crate) fn see(
+        &mut self,
+        rt: &HostRuntime,
+        name: &str,
+        limit: u64,
+    ) -> Result<(), Refused<Failed>>
+        ensures name { self.new.name ≡ self.old.name }
+        ensures grows { Grows self.old self.new }
+        ensures learns { Learns self.old self.new (limit + 1) }
+    {
+        self.begin(rt, name, limit)?;
+        let mut chunk = [0; CHUNK];
+        while self.is_begun_within(limit) {
+            self.read_within(limit, &mut chunk)?;
+        }
+        Ok(())
+    }
+
+    /// All bytes of the file, where they were seen.
+    pub(crate) fn whole(&self) -> Option<&[u8]>
+        ensures whole { option_copied result ≡ whole_of self.now.extent self.now.bytes.items }
+        ensures told { (file : Option (Items ℕ)) → HasSeen self.now.extent self.now.bytes.items file
+            → IfSome result (λ bytes. file ≡ Some bytes.now) }
+    {
+        match self.extent {
+            Extent::Whole => Some(self.bytes.as_slice()),
+            _ => None,
         }
     }
 

@@ -1,11 +1,12 @@
 ghost use Rattle.cam_io.specs.Causes.{Rose};
+ghost use Rattle.cam_io.specs.FileBytes.{bytes_in, with_bytes};
 ghost use Rattle.cam_io.specs.Reading.{InAll, TookAtMost, IsGot, KeepsFiles, HaveSameFront, LearnsOnly};
 ghost use Rattle.cam_io.specs.Whole.{IsWhole};
 ghost use Rattle.std.specs.FinMap as map;
 ghost use Rattle.std.specs.Prelude.{◌≡◌, ◌+◌, ◌<◌, ◌≤◌, min, length, IfOk, IsErrOf, OnErr};
 
-use crate::{Failed, Files, Got};
-use cam_base::{List, NoMemory};
+use crate::{Failed, FileBytes, Files, Got};
+use cam_base::{List, NoMemory, Refused};
 use std::alloc::Global;
 use thiserror::Error;
 
@@ -77,9 +78,8 @@ fn read_front<F: Files>(
     files.read(name, at, &mut chunk[..room])
 }
 
-/// The bytes of a file of at most `limit` bytes. Reads at most one byte past the limit, and answers `Absent` or
-/// `TooLong` exactly where there is no such name or more than `limit` bytes.
-pub fn read_whole<F: Files>(
+/// The bytes of a file of at most `limit` bytes, read in chunks.
+fn read_by_chunks<F: Files>(
     alloc: Global,
     files: &mut F,
     name: &str,
@@ -96,7 +96,6 @@ pub fn read_whole<F: Files>(
     loop {
         let at = whole.len() as u64;
         let room = lent_room(limit - at);
-        files.make_room(name, room)?;
         match read_front(files, name, at, &mut chunk, room)? {
             Got::Absent => return Err(WholeError::Absent),
             Got::End => return Ok(whole),
@@ -108,4 +107,65 @@ pub fn read_whole<F: Files>(
             }
         }
     }
+}
+
+/// What is known of a file of at most `limit` bytes where these files keep its bytes, or else can be read.
+fn know_seen<F: Files>(
+    alloc: Global,
+    files: &mut F,
+    name: &str,
+    limit: u64,
+) -> Result<FileBytes, WholeError>
+    ensures kept { KeepsFiles F.told F.faults files.old files.new }
+    ensures read_fault { IsErrOf result WholeError.ReadFault → Rose (F.faults files.old name.now) (F.faults files.new name.now) }
+    ensures limit { IfOk result (λ bytes. length (bytes_in bytes (F.lends files.new name.now)) ≤ limit) }
+    ensures learned { LearnsOnly F.told (HaveSameFront name.now (limit + 1)) files.old files.new }
+    ensures whole { InAll (F.told files.new) (λ m. IsWhole (map.get m name.now) limit
+        (with_bytes result (F.lends files.new name.now))) }
+{
+    match files.seen(name) {
+        Some(bytes) if bytes.len() as u64 <= limit => Ok(FileBytes::Kept),
+        Some(_) => Err(WholeError::TooLong),
+        None => Ok(FileBytes::Read(read_by_chunks(alloc, files, name, limit)?)),
+    }
+}
+
+/// Sees a file of at most `limit` bytes whole: its bytes are lent where the files keep them, or else read. Looks at no more
+/// than one byte past the limit, and answers `Absent` or `TooLong` exactly where there is no such name or more than `limit`
+/// bytes.
+pub fn see_whole<F: Files>(
+    alloc: Global,
+    files: &mut F,
+    name: &str,
+    limit: u64,
+) -> Result<FileBytes, WholeError>
+    ensures kept { KeepsFiles F.told F.faults files.old files.new }
+    ensures read_fault { IsErrOf result WholeError.ReadFault → Rose (F.faults files.old name.now) (F.faults files.new name.now) }
+    ensures limit { IfOk result (λ bytes. length (bytes_in bytes (F.lends files.new name.now)) ≤ limit) }
+    ensures learned { LearnsOnly F.told (HaveSameFront name.now (limit + 1)) files.old files.new }
+    ensures whole { InAll (F.told files.new) (λ m. IsWhole (map.get m name.now) limit
+        (with_bytes result (F.lends files.new name.now))) }
+{
+    match files.see(name, limit) {
+        Ok(()) => know_seen(alloc, files, name, limit),
+        Err(Refused::Fault(Failed)) => Err(WholeError::ReadFault),
+        Err(Refused::NoMemory) => Err(WholeError::NoMemory),
+    }
+}
+
+/// The bytes of a file of at most `limit` bytes, as `see_whole` sees them.
+pub fn read_whole<F: Files>(
+    alloc: Global,
+    files: &mut F,
+    name: &str,
+    limit: u64,
+) -> Result<List<u8>, WholeError>
+    ensures kept { KeepsFiles F.told F.faults files.old files.new }
+    ensures read_fault { IsErrOf result WholeError.ReadFault → Rose (F.faults files.old name.now) (F.faults files.new name.now) }
+    ensures limit { IfOk result (λ bytes. length bytes ≤ limit) }
+    ensures learned { LearnsOnly F.told (HaveSameFront name.now (limit + 1)) files.old files.new }
+    ensures whole { InAll (F.told files.new) (λ m. IsWhole (map.get m name.now) limit result) }
+{
+    let bytes = see_whole(alloc, files, name, limit)?;
+    Ok(bytes.into_list(alloc, files, name)?)
 }

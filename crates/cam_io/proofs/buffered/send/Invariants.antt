@@ -7,7 +7,8 @@ invariant-loop-sent g l =
     let sink = g.O.Outputs.sink in
     let faults = g.O.Outputs.faults in
     record {
-      same : appended (sink l.outputs) l.channel (drop l.sent l.bytes) ≡ appended (sink l.fn.outputs) l.channel (drop l.fn.sent l.bytes);
+      same : appended (sink l.outputs) l.channel (drop l.sent l.bytes) ≡ appended (sink l.fn.outputs) l.channel
+          (drop l.fn.sent l.bytes);
       open_still : IsOpen (sink l.outputs) l.channel;
       within : l.sent ≤ length l.bytes;
       later : faults l.fn.outputs ≤ faults l.outputs;

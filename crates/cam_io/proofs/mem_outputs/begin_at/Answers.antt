@@ -9,7 +9,8 @@ returns-clause-begun c h =
     let cs = c.args.channels.now in
     let f = get_or cs c.args.at c.index-channels-at.result in
     let is : c.begin.new.self ≡ named_channel f c.args.name.now = search rules in
-    sink_begun cs c.args.at f c.begin.new.self c.args.name.now (slice_get-get_or cs c.args.at c.index-channels-at.result c.requires) is
+    sink_begun cs c.args.at f c.begin.new.self c.args.name.now (slice_get-get_or cs c.args.at c.index-channels-at.result
+    c.requires) is
 
 pub returns-clause-rooms : goal.returns-clause-rooms
 returns-clause-rooms c k =

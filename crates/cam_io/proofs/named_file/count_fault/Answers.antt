@@ -14,15 +14,18 @@ returns-in-Some c =
     let others = c.args.others.now in
     let f = c.index_mut-file.result.now in
     let n = c.saturating_add-file.result in
-    let e = at_place c.deref.result.now fs q c.in-Some.i f c.deref.ensures.value c.in-Some.ensures.within c.in-Some.ensures.found c.index_mut-file.ensures.value in
+    let e = at_place c.deref.result.now fs q c.in-Some.i f c.deref.ensures.value c.in-Some.ensures.within c.in-Some.ensures.found
+    c.index_mut-file.ensures.value in
     let s = set_place c.deref.result.now fs q c.in-Some.i (with_faults f n) c.deref.ensures.value c.in-Some.ensures.replace in
     let more : n ≡ one_more f.faults = omega arith in
     let fewer : f.faults ≤ n = omega arith in
-    let new : count_of (slice_set fs c.in-Some.i (with_faults f n)) others q ≡ n = ap (λ (l : List NamedFile). count_of l others q) s ∙ count_new fs others q f n e in
+    let new : count_of (slice_set fs c.in-Some.i (with_faults f n)) others q ≡ n =
+    ap (λ (l : List NamedFile). count_of l others q) s ∙ count_new fs others q f n e in
     let old : count_of fs others q ≡ f.faults = ap (count_at others) e in
     record {
       contents = ap contents_of s ∙ contents_replaced fs q f n e;
-      later = λ r. subst (λ (l : List NamedFile). count_of fs others r ≤ count_of l others r) (sym s) (count_later fs others q f n r e fewer);
+      later = λ r. subst (λ (l : List NamedFile). count_of fs others r ≤ count_of l others r) (sym s)
+          (count_later fs others q f n r e fewer);
       rose = rose_more _ _ (new ∙ (more ∙ ap one_more (sym old)));
       counts = λ r. ap (λ (l : List NamedFile). count_of l others r) s ∙ fault_here fs others q f n r e more;
     }
@@ -30,5 +33,6 @@ returns-in-Some c =
 pub returns-in-None-clause-counts : goal.returns-in-None-clause-counts
 returns-in-None-clause-counts c r =
     let fs = c.args.files.now.items in
-    let none : lookup fs c.args.name.now ≡ None = ap (λ (l : List NamedFile). lookup l c.args.name.now) (sym c.deref.ensures.value) ∙ c.in-None.ensures.none in
+    let none : lookup fs c.args.name.now ≡ None = ap (λ (l : List NamedFile). lookup l c.args.name.now)
+    (sym c.deref.ensures.value) ∙ c.in-None.ensures.none in
     fault_elsewhere fs c.args.others.now _ c.args.name.now r none (omega arith)

@@ -17,13 +17,16 @@ returns-in_err-write_all g c =
     let xs = c.args.parts.now in
     let i = c.loop-part.part-index in
     writes_exit c.from_residual.ensures.0
-    (rw (together_map (λ p. p.now) xs) (lines_fail (λ p. p.now) xs i (get_or xs i record { ref_ptr = (0, 0); now = [] }) (omega arith) (read_is xs i _ (omega arith)) c.loop-part.invariant c.in_err-write_all.ensures.writes))
+    (rw (together_map (λ p. p.now) xs) (lines_fail (λ p. p.now) xs i (get_or xs i record { ref_ptr = (0, 0); now = [] })
+    (omega arith) (read_is xs i _ (omega arith)) c.loop-part.invariant c.in_err-write_all.ensures.writes))
 
 pub loop-part-preserved : goal.loop-part-preserved
 loop-part-preserved g c =
     let xs = c.args.parts.now in
     let i = c.loop-part.part-index in
-    lines_step (λ p. p.now) xs i (get_or xs i record { ref_ptr = (0, 0); now = [] }) (omega arith) (read_is xs i _ (omega arith)) c.loop-part.invariant c.in_ok-write_all.ensures.writes
+    lines_step (λ p. p.now) xs i (get_or xs i record { ref_ptr = (0, 0); now = [] }) (omega arith) (read_is xs i _ (omega arith))
+    c.loop-part.invariant c.in_ok-write_all.ensures.writes
 
 pub returns : goal.returns
-returns g c = rw (together_map (λ p. p.now) c.args.parts.now) (lines_end (λ p. p.now) c.args.parts.now c.loop-part.part-index (omega arith) c.loop-part.invariant)
+returns g c = rw (together_map (λ p. p.now) c.args.parts.now) (lines_end (λ p. p.now) c.args.parts.now c.loop-part.part-index
+    (omega arith) c.loop-part.invariant)

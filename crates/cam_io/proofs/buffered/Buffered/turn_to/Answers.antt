@@ -13,4 +13,5 @@ pub returns-in_ok-flush-clause-same : goal.returns-in_ok-flush-clause-same
 returns-in_ok-flush-clause-same g c =
     let now = c.flush.new.self in
     let sent = c.in_ok-flush.ensures in
-    nothing_waits (g.O.Outputs.sink now.outputs) c.args.channel now.sent now.waiting.items sent.none.empty sent.none.none ∙ sent.ok
+    nothing_waits (g.O.Outputs.sink now.outputs) c.args.channel now.sent now.waiting.items sent.none.empty
+    sent.none.none ∙ sent.ok

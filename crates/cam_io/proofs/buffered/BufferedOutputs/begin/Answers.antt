@@ -7,7 +7,8 @@ invariant_of-self g c =
     let sink = g.O.Outputs.sink in
     let sent = c.flush.new.self in
     record {
-      is_open = begin_keeps_open (sink sent.outputs) (sink c.begin.new.self) c.args.channel c.begin.result c.args.name.now sent.channel c.begin.ensures.ok c.begin.ensures.err sent.is_open;
+      is_open = begin_keeps_open (sink sent.outputs) (sink c.begin.new.self) c.args.channel c.begin.result c.args.name.now
+          sent.channel c.begin.ensures.ok c.begin.ensures.err sent.is_open;
       within = omega (arith, c.in_ok-flush.ensures.none.none);
     }
 
@@ -17,4 +18,5 @@ returns-clause-ok g c =
     let sent = c.flush.new.self in
     let all = c.in_ok-flush.ensures in
     let none = nothing_waits (sink c.begin.new.self) sent.channel sent.sent sent.waiting.items all.none.empty all.none.none in
-    begin_told (sink sent.outputs) (sink c.begin.new.self) c.args.channel c.begin.result c.args.name.now _ _ none all.ok c.begin.ensures.ok
+    begin_told (sink sent.outputs) (sink c.begin.new.self) c.args.channel c.begin.result c.args.name.now _ _ none all.ok
+    c.begin.ensures.ok

@@ -11,5 +11,6 @@ pub returns-in-Ok-clause-ok : goal.returns-in-Ok-clause-ok
 returns-in-Ok-clause-ok g c =
     let turned = c.turn_to.new.self in
     let piece = c.args.piece.now in
-    let behind = appended_behind (g.O.Outputs.sink turned.outputs) turned.channel turned.sent turned.waiting.items piece turned.within in
+    let behind = appended_behind (g.O.Outputs.sink turned.outputs) turned.channel turned.sent turned.waiting.items piece
+    turned.within in
     rw (c.in-Ok.ensures.ok, ← c.in_ok-turn_to.ensures.channel, ← c.in_ok-turn_to.ensures.same) behind

@@ -12,8 +12,10 @@ returns-clause-told c m told =
     let q = c.args.name.now in
     let s = c.index_mut.result.now in
     let t = c.read.new.self in
-    let there : seen_of ss q ≡ Some s = c.in-Ok.ensures.found ∙ slice_get_read ss (length ss) c.in-Ok.place s refl c.in-Ok.ensures.within c.index_mut.ensures.value in
-    c.in-Ok.ensures.told m (replaced_told ss q s t there c.read.ensures.name c.read.ensures.grows m (subst (λ (l : List Seen). Agrees l m) (c.in-Ok.ensures.replace t) told))
+    let there : seen_of ss q ≡ Some s = c.in-Ok.ensures.found ∙ slice_get_read ss (length ss) c.in-Ok.place s refl
+    c.in-Ok.ensures.within c.index_mut.ensures.value in
+    c.in-Ok.ensures.told m (replaced_told ss q s t there c.read.ensures.name c.read.ensures.grows m
+    (subst (λ (l : List Seen). Agrees l m) (c.in-Ok.ensures.replace t) told))
 
 pub returns-clause-got : goal.returns-clause-got
 returns-clause-got c m told =
@@ -21,7 +23,8 @@ returns-clause-got c m told =
     let q = c.args.name.now in
     let s = c.index_mut.result.now in
     let t = c.read.new.self in
-    let there : seen_of ss q ≡ Some s = c.in-Ok.ensures.found ∙ slice_get_read ss (length ss) c.in-Ok.place s refl c.in-Ok.ensures.within c.index_mut.ensures.value in
+    let there : seen_of ss q ≡ Some s = c.in-Ok.ensures.found ∙ slice_get_read ss (length ss) c.in-Ok.place s refl
+    c.in-Ok.ensures.within c.index_mut.ensures.value in
     got_of c.read.result t c.args.at c.read.new.buf (get m q) c.read.ensures.got
     (replaced_has ss q s t there c.read.ensures.name m (subst (λ (l : List Seen). Agrees l m) (c.in-Ok.ensures.replace t) told))
 
@@ -31,7 +34,8 @@ returns-clause-learned c m n told old same =
     let q = c.args.name.now in
     let s = c.index_mut.result.now in
     let t = c.read.new.self in
-    let there : seen_of ss q ≡ Some s = c.in-Ok.ensures.found ∙ slice_get_read ss (length ss) c.in-Ok.place s refl c.in-Ok.ensures.within c.index_mut.ensures.value in
+    let there : seen_of ss q ≡ Some s = c.in-Ok.ensures.found ∙ slice_get_read ss (length ss) c.in-Ok.place s refl
+    c.in-Ok.ensures.within c.index_mut.ensures.value in
     subst (λ (l : List Seen). Agrees l n) (sym (c.in-Ok.ensures.replace t))
     (replaced_learned ss q s t (c.args.at + length c.args.buf.now) there c.read.ensures.name c.read.ensures.learns m n
     (subst (λ (l : List Seen). Agrees l m) (c.in-Ok.ensures.replace t) told) (c.in-Ok.ensures.learned n old) same)

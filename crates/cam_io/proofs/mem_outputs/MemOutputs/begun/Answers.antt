@@ -9,7 +9,9 @@ returns-in-Some c =
     let cs = c.args.self.now.channels in
     let x = c.in-Some.channel.now in
     let lookup = c.in-Some.ensures.lookup in
-    c.begun.ensures ∙ sym (channel_at begun_name None cs c.args.channel x (slice_get_read cs (length cs) c.args.channel x refl lookup.3.0 lookup.1))
+    c.begun.ensures
+    ∙ sym (channel_at begun_name None cs c.args.channel x (slice_get_read cs (length cs) c.args.channel x refl
+    lookup.3.0 lookup.1))
 
 pub returns-in-None : goal.returns-in-None
 returns-in-None c = sym (no_channel begun_name None c.args.self.now.channels c.args.channel c.in-None.ensures.lookup.3)

@@ -10,4 +10,5 @@ returns-in-Ok-extend_from_slice-clause-learns c at behind =
     let few : c.in-Ok.count ≤ length c.args.buf.now = grind (arith, common_steps, length-take, c.in-Ok.ensures) in
     let within : length c.extend_from_slice.new.self.items ≤ count =
     rw (c.in-Ok-extend_from_slice.ensures.items, length-append, length-take) (omega (arith, few, behind)) in
-    begun_learns c.args.self.now.extent c.args.self.now.bytes.items c.extend_from_slice.new.self.items count c.requires.begun within
+    begun_learns c.args.self.now.extent c.args.self.now.bytes.items c.extend_from_slice.new.self.items count
+    c.requires.begun within

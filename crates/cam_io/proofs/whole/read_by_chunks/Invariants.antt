@@ -2,7 +2,7 @@ use Rattle.std.proofs.Common.{length, ◌-◌, ◌+◌, ◌≤◌}
 use Rattle.std.specs.FinMap as map
 use Rattle.cam_io.specs.Reading.{InAll, KeepsFiles, HaveSameFront, LearnsOnly}
 use Rattle.cam_io.proofs.Fronts.{IsFront}
-use Rattle.cam_io.proofs.whole.read_whole.Given as goal
+use Rattle.cam_io.proofs.whole.read_by_chunks.Given as goal
 
 abbrev pub invariant-loop-whole : goal.invariant-loop-whole
 invariant-loop-whole g l =
