@@ -1,39 +1,14 @@
 -- What is answered for readings, in terms of what was found.
-use Rattle.std.proofs.Common.{◌≡◌, ◌∙◌, refl, sym, ap, subst, arith, ℕ, zero, suc, ◌+◌, ◌-◌, ◌<◌, ◌≤◌, get_or, Bool, cond, true, false, List, [], ◌∷◌, ◌++◌, length, map, Option, None, Some, Result, Ok, Err}
-use Rattle.std.proofs.lemmas.List.{length-map}
-use Rattle.std.proofs.lemmas.Option.{slice_get-get_or, slice_get_past}
-use Rattle.std.specs.List.{flat_map, slice_get, zip}
-use Rattle.std.specs.Option.{option_map, option_map_or}
-use Rattle.std.specs.Borrow.{Bor}
-use Rattle.std.specs.Prelude.{IfOk, string_bytes, unwrap_or}
-use Rattle.adl_ast.specs.declared.source.Source.{Source}
+use Rattle.source_images.proofs.Common.{AreFound, AreImagesRead, AreTablesRead, Bool, Bor, Contents, Err, Fault, Flat, Found, IfOk, Image, Images, ImagesError, IsAnswer, IsIn, Leaf, Line, List, Name, None, Ok, Option, Place, Reading, Result, Some}
+use Rattle.source_images.proofs.Common.{Source, Table, [], absent, ap, arith, cond, earlier, false, file_name, files_told, first_arch, first_fault, first_missing, first_of, first_read, first_table_fault, flat_map, folder_of, get_or, image_of}
+use Rattle.source_images.proofs.Common.{images_in, images_of, least, length, length-map, line_faults, lines, listed, map, merged, missing, missing_at, missing_by, missing_reading, name_of_file, names_told, noted, noted-append, noted-none, option_map}
+use Rattle.source_images.proofs.Common.{option_map_or, precedes, reading_in, reading_of, readings_of, refl, slice_get, slice_get-get_or, slice_get_past, string_bytes, subst, suc, sym, table, table_at, table_name, table_names, tables_told, too_long}
+use Rattle.source_images.proofs.Common.{true, type_number, types, unwrap_or, zero, zip, ℕ, ◌++◌, ◌+◌, ◌-◌, ◌<◌, ◌∙◌, ◌∷◌, ◌≡◌, ◌≤◌}
 use Rattle.adl_ast.specs.declared.source.SourceFile.{SourceFile}
-use Rattle.adl_meaning.proofs.Least.{noted-append, noted-none}
-use Rattle.adl_meaning.specs.Faults.{earlier, least, noted, precedes}
-use Rattle.adl_meaning.specs.declared.flat.Flat.{Flat}
-use Rattle.adl_meaning.specs.declared.flat.Leaf.{Leaf}
-use Rattle.cam_base.specs.declared.place.Fault.{Fault}
-use Rattle.cam_base.specs.declared.place.Place.{Place}
-use Rattle.cam_io.specs.Contents.{Contents}
 use Rattle.source_images.proofs.TableReads.{found_count}
-use Rattle.cam_base.specs.Gather.{IsIn}
-use Rattle.source_images.specs.declared.images.Images.{Images}
-use Rattle.sect_table.specs.Tables.{first_fault, image_of}
-use Rattle.sect_table.specs.declared.image.Image.{Image}
 use Rattle.source_images.proofs.Lines.{first_line_fault, least-append, least-line_faults}
 use Rattle.source_images.proofs.Merging.{IsMerged, merged_tables}
-use Rattle.source_images.specs.Archs.{first_arch}
-use Rattle.source_images.specs.Found.{AreFound, Found, absent, too_long, table, folder_of, table_name, table_names}
-use Rattle.source_images.specs.ImagesRead.{AreImagesRead}
-use Rattle.source_images.specs.TableFaults.{first_table_fault, line_faults, listed, missing, missing_at, name_of_file}
-use Rattle.source_images.specs.TableImages.{images_in, images_of}
-use Rattle.source_images.specs.Told.{AreTablesRead, IsAnswer, file_name, files_told, first_missing, first_of, first_read, tables_told, merged, missing_by, missing_reading, names_told, reading_in, reading_of, readings_of, table_at}
-use Rattle.source_images.specs.Types.{Name, type_number, types}
-use Rattle.source_images.specs.declared.error.ImagesError.{ImagesError}
 use Rattle.source_images.specs.declared.error.ImagesError.TheVariants as error
-use Rattle.source_images.specs.declared.tables.Table.{Table}
-use Rattle.source_images.specs.declared.reading.Reading.{Reading}
-use Rattle.cam_base.specs.Lines.{Line, lines}
 
 names_are : (folder : List ℕ) (ns : List Name) → map (λ (t : Name × List ℕ). t.0) (map (table_at folder) ns) ≡ ns
 names_are folder [] = refl

@@ -1,22 +1,10 @@
 -- Sections of a domain that lie apart begin at addresses that differ.
-use Rattle.std.proofs.Common.{◌≡◌, ◌∙◌, ◌<◌, ◌+◌, ◌/◌, ◌%◌, ◌^◌, ℕ, zero, suc, Bool, true, false, not, ◌&&◌, List, [], ◌∷◌, Option, Some, None, refl, sym, ap, arith, inl, inr, nat_eq, ⊎_elim}
+use Rattle.source_images.proofs.Common.{AreApart, Bool, Image, Images, IsIn, List, None, Option, Placed, Section, Some, [], and_from, and_left, and_parts, and_right, ap, arith, both_ways, cases_Bool, clashes, clashes_with, eq-eqb, eqb-true, false}
+use Rattle.source_images.proofs.Common.{from_any, from_gather, image_number, inl, inr, is_run, is_sound, list_any, lt-ltb, ltb-true, nat_eq, ne_eqb, not, not-true, option_map_or, or_left, or_right, placed, refl, runs, sections_if, sections_of}
+use Rattle.source_images.proofs.Common.{share_page, suc, sym, true, zero, ℕ, ⊎_elim, ◌%◌, ◌&&◌, ◌+◌, ◌/◌, ◌<◌, ◌^◌, ◌∙◌, ◌∷◌, ◌≡◌}
 use Rattle.std.specs.Prelude.{IsTrue}
-use Rattle.std.specs.List.{list_any}
-use Rattle.std.specs.Option.{option_map_or}
-use Rattle.std.proofs.lemmas.Bool.{and_from, and_left, and_parts, and_right, both_ways, cases_Bool, eq-eqb, eqb-true, lt-ltb, ltb-true, ne_eqb, not-true, or_left, or_right}
-use Rattle.cam_base.specs.Gather.{IsIn}
-use Rattle.cam_base.proofs.Gathered.{from_gather}
-use Rattle.source_images.specs.Images.{Placed, image_number, is_run, placed, runs, sections_if, sections_of}
-use Rattle.source_images.specs.Numbered.{AreApart}
-use Rattle.source_images.specs.SectionPages.{share_page}
-use Rattle.source_images.specs.SpaceFaults.{clashes, clashes_with}
-use Rattle.source_images.specs.declared.images.Images.{Images}
 use Rattle.source_images.proofs.SectionsTold.{comes_from}
 use Rattle.source_images.proofs.Sorting.{Differ, Later, later_gather, later_within}
-use Rattle.sect_table.specs.Sections.{is_sound}
-use Rattle.sect_table.specs.declared.image.Image.{Image}
-use Rattle.sect_table.specs.declared.image.Section.{Section}
-use Rattle.cam_base.proofs.NumberedLists.{from_any}
 
 -- ---- tests of lists
 

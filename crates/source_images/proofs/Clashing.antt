@@ -1,18 +1,9 @@
 -- Which images clash, section by section.
-use Rattle.std.proofs.Common.{◌≡◌, ◌∙◌, ◌<◌, ◌≤◌, ◌+◌, ◌&&◌, ◌||◌, ℕ, zero, suc, Bool, true, false, not, arith, List, [], ◌∷◌, get_or, replicate, set, map, drop, length, refl, sym, ap, nat_eq, ⊎_elim}
-use Rattle.std.specs.List.{list_any}
-use Rattle.std.specs.List.Sorted.{IsPermutation}
-use Rattle.std.proofs.lemmas.Bool.{cases_eq, eq-eqb, ne_eqb}
-use Rattle.std.proofs.lemmas.List.{at_drop_all, get_or-set_same, get_or-set_other, length-map}
-use Rattle.std.proofs.lemmas.List.Sorted.{list_any-IsPermutation}
-use Rattle.std.proofs.Math.Bool.{and-false}
-use Rattle.cam_base.proofs.Lists.{drop_first, list_any-map}
-use Rattle.name_tables.specs.Sharing.{shares}
+use Rattle.source_images.proofs.Common.{Bool, IsPermutation, List, Placed, [], ap, arith, at_drop_all, cases_eq, clashes, clashes_with, drop, drop_first, eq-eqb, false, get_or, get_or-set_other, get_or-set_same, length, length-map, list_any}
+use Rattle.source_images.proofs.Common.{list_any-IsPermutation, list_any-map, map, nat_eq, ne_eqb, not, placed_told, refl, region_of, replicate, sections_told, set, share_page, shares, suc, sym, true, zero, ℕ, ⊎_elim, ◌&&◌, ◌+◌, ◌<◌, ◌||◌, ◌∙◌, ◌∷◌}
+use Rattle.source_images.proofs.Common.{◌≡◌, ◌≤◌}
+use Rattle.std.proofs.Math.Bool.{and-false, or-false}
 use Rattle.name_tables.specs.declared.region.Region.{Region}
-use Rattle.source_images.specs.Images.{Placed}
-use Rattle.source_images.specs.SpaceFaults.{clashes, clashes_with}
-use Rattle.source_images.specs.SectionPages.{share_page}
-use Rattle.source_images.specs.ProgramsTold.{placed_told, region_of, sections_told}
 use Rattle.source_images.specs.declared.sections.Placed.{Placed as Given}
 
 -- whether one of some sections is the image's, and has a page of another one of all
@@ -44,10 +35,6 @@ pub alone : (ps : List Given) (marks : List Bool) (n m : ℕ) → length ps < 2 
     → get_or marks m false ≡ clashes (sections_told ps) m
 alone ps marks n m l e = ap (λ z. get_or z m false) e ∙ unmarked_all n m
     ∙ sym (none_clash (sections_told ps) (omega (arith, l, length-map ps placed_told)) m)
-
-or_false : (b : Bool) → b || false ≡ b
-or_false true = refl
-or_false false = refl
 
 step_true : (b e r : Bool) → e ≡ true → true || r ≡ b || ((e && true) || r)
 step_true true e r s = refl
@@ -92,5 +79,5 @@ module _ (all : List Placed) (ps : List Given) (i : ℕ) (p : Given) (marks : Li
 -- where all sections have been looked at
 pub all_marked : (all : List Placed) (ps : List Given) (i m : ℕ) (b : Bool) → length ps ≤ i
     → b || clashes_among all (sections_told (drop i ps)) m ≡ clashes all m → b ≡ clashes all m
-all_marked all ps i m b l e = sym (or_false b)
+all_marked all ps i m b l e = sym (or-false b)
     ∙ ap (λ z. b || z) (sym (at_drop_all (λ z. clashes_among all (sections_told z) m) ps i l)) ∙ e

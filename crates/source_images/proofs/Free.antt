@@ -1,25 +1,12 @@
 -- Where no fault of address spaces stands, sections lie apart and where they may.
-use Rattle.std.proofs.Common.{◌≡◌, ◌∙◌, ◌<◌, ℕ, Bool, true, false, not, List, [], ◌∷◌, ◌++◌, Some, None, refl, sym, ⊎_elim}
-use Rattle.std.specs.List.{list_any, slice_get}
-use Rattle.std.proofs.lemmas.Bool.{both_ways, cases_Bool, not-false}
-use Rattle.adl_meaning.specs.Faults.{where_true}
+use Rattle.source_images.proofs.Common.{AreApart, AreNumbered, AreSound, Bool, Fault, Flat, Image, Images, IsIn, List, None, Placed, Some, [], arch_of, at_place, both_ways, cases_Bool, clashes, domain_faults, false, fault_at, first_space_fault}
+use Rattle.source_images.proofs.Common.{image_faults, image_number, in_place, is_inside, is_outside, leaf_faults, least-empty, list_any, none_in, not, not-false, refl, sections_end, sections_of, slice_get, space_faults, sym, true, where_true, ℕ}
+use Rattle.source_images.proofs.Common.{⊎_elim, ◌++◌, ◌<◌, ◌∙◌, ◌∷◌, ◌≡◌}
 use Rattle.adl_meaning.specs.declared.flat.Domain.{Domain}
-use Rattle.adl_meaning.specs.declared.flat.Flat.{Flat}
-use Rattle.adl_meaning.proofs.Least.{least-empty}
 use Rattle.cam_base.specs.declared.code.Code.TheVariants as code
-use Rattle.cam_base.specs.declared.place.Fault.{Fault}
-use Rattle.cam_base.specs.Gather.{IsIn}
-use Rattle.cam_base.proofs.Gathered.{in_place}
-use Rattle.cam_base.proofs.NumberedLists.{at_place, none_in}
-use Rattle.source_images.specs.Images.{Placed, arch_of, image_number, sections_end, sections_of}
-use Rattle.source_images.specs.Numbered.{AreApart, AreNumbered, AreSound}
-use Rattle.source_images.specs.SectionPages.{is_inside}
-use Rattle.source_images.specs.SpaceFaults.{clashes, domain_faults, fault_at, first_space_fault, image_faults, is_outside, leaf_faults, space_faults}
-use Rattle.source_images.specs.declared.images.Images.{Images}
 use Rattle.source_images.proofs.Apart.{any_in, run_by}
 use Rattle.source_images.proofs.Leaves.{leaf_is}
 use Rattle.source_images.proofs.SectionsTold.{comes_from}
-use Rattle.sect_table.specs.declared.image.Image.{Image}
 
 -- ---- lists in which nothing stands
 

@@ -1,41 +1,17 @@
 -- Where no fault of section tables stands, there is an image for each type.
-use Rattle.std.proofs.Common.{◌≡◌, ◌∙◌, refl, sym, ap, subst, arith, inl, inr, ◌⊎◌, ℕ, zero, suc, ◌+◌, ◌<◌, ◌≤◌, Bool, cond, true, false, List, [], ◌∷◌, ◌++◌, length, map, Option, None, Some, is_some, true≢false, append_assoc}
-use Rattle.std.proofs.lemmas.Bool.Decides.{nat_tests}
-use Rattle.std.proofs.lemmas.Iterator.Adapters.{position_from-zero}
-use Rattle.std.proofs.lemmas.List.{length-append, length-map}
+use Rattle.source_images.proofs.Common.{Arch, AreNumbered, Bool, Fault, Flat, Found, Header, Image, IsIn, Line, List, Name, None, Option, Place, Some, Source, [], absent, ap, append_assoc, arith, bad_line, bytes_eq, cond, cons_option, false}
+use Rattle.source_images.proofs.Common.{fault_in, filter_map, first_arch, first_bad, first_fault, first_table_fault, firsts, flat_map, folder_of, header_of, image, image_in, image_of, images_in, images_of, inl, inr, is_some, least-empty, length}
+use Rattle.source_images.proofs.Common.{length-append, length-filter_map, length-map, line_fault, line_faults, lines, listed, map, missing, missing_at, nat_tests, nil_append, none_in, option_and_then, option_map, option_map_or, option_or, other_arch}
+use Rattle.source_images.proofs.Common.{place_of, position, position_from, position_from-zero, refl, section_at, section_of, slice_get, spaced_fields, subst, suc, sym, table, table_faults, table_name, table_names, too_long, true, true≢false}
+use Rattle.source_images.proofs.Common.{type_number, type_of, types, zero, zip, ℕ, ◌++◌, ◌+◌, ◌<◌, ◌∙◌, ◌∷◌, ◌≡◌, ◌≤◌, ◌⊎◌}
 use Rattle.std.proofs.lemmas.Slice.Eq.{bytes_eq-Decides}
-use Rattle.std.specs.List.{cons_option, filter_map, flat_map, position, position_from, slice_get, zip}
-use Rattle.std.specs.Option.{option_and_then, option_map, option_map_or, option_or}
 use Rattle.std.specs.Prelude.{nat_lt}
-use Rattle.std.specs.Str.{bytes_eq}
 use Rattle.std.proofs.lemmas.List.Quantifiers.{position-Some}
-use Rattle.adl_ast.specs.declared.source.Source.{Source}
-use Rattle.adl_meaning.proofs.Least.{least-empty}
-use Rattle.adl_meaning.specs.Lists.{firsts}
-use Rattle.adl_meaning.specs.declared.flat.Flat.{Flat}
 use Rattle.cspace_layout.specs.Within.{IsWithin}
-use Rattle.source_images.specs.Numbered.{AreNumbered}
-use Rattle.cam_base.specs.declared.place.Fault.{Fault}
-use Rattle.cam_base.specs.declared.place.Place.{Place}
-use Rattle.cam_base.proofs.Lists.{nil_append, length-filter_map}
-use Rattle.cap_model.specs.declared.level.Arch.{Arch}
-use Rattle.cam_base.specs.Gather.{IsIn}
-use Rattle.cam_base.proofs.NumberedLists.{none_in}
-use Rattle.cam_base.proofs.Gathered.{place_of}
-use Rattle.sect_table.specs.Headers.{header_of}
-use Rattle.sect_table.specs.Sections.{section_of}
-use Rattle.sect_table.specs.Tables.{bad_line, fault_in, first_bad, first_fault, image, image_in, image_of, section_at, sections_of}
-use Rattle.sect_table.specs.declared.image.Header.{Header}
-use Rattle.sect_table.specs.declared.image.Image.{Image}
-use Rattle.source_images.specs.Archs.{first_arch, other_arch}
-use Rattle.source_images.specs.Found.{Found, absent, too_long, table, folder_of, table_name, table_names}
-use Rattle.source_images.specs.TableFaults.{first_table_fault, leaf_faults, table_faults, line_fault, line_faults, listed, missing, missing_at}
-use Rattle.source_images.specs.TableImages.{images_in, images_of}
-use Rattle.source_images.specs.Types.{Name, type_number, type_of, types}
+use Rattle.sect_table.specs.Tables.{sections_of}
+use Rattle.source_images.specs.TableFaults.{leaf_faults}
 use Rattle.source_images.proofs.Soundness.{in_cons}
 use Rattle.source_images.proofs.Typing.{behind, firsts-behind, has, position-push}
-use Rattle.cam_base.specs.Fields.{spaced_fields}
-use Rattle.cam_base.specs.Lines.{Line, lines}
 
 -- ---- counts
 

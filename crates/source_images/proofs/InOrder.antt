@@ -1,22 +1,10 @@
 -- Sections by address.
-use Rattle.std.proofs.Common.{◌≡◌, ◌≤◌, ◌<◌, ℕ, Bool, true, false, cond, List, [], ◌∷◌, length, get_or, Some, refl, sym, ap, subst, arith, ⊎_elim}
-use Rattle.std.specs.Prelude.{leb}
-use Rattle.std.specs.List.{slice_get}
-use Rattle.std.specs.Option.{option_map_or}
-use Rattle.std.specs.List.Sorted.{IsNonDecreasingBy, IsPermutation}
-use Rattle.std.proofs.lemmas.Bool.{leb-false, leb-true}
-use Rattle.std.proofs.lemmas.List.Sorted.{IsPermutation-cons, IsPermutation-map, IsPermutation-middle, IsPermutation-refl, IsPermutation-trans}
-use Rattle.cam_base.specs.Gather.{IsIn}
-use Rattle.source_images.specs.ByAddress.{by_address, name_of, put_section}
-use Rattle.source_images.specs.Images.{Placed, sections_of}
-use Rattle.source_images.specs.Numbered.{AreApart}
-use Rattle.source_images.specs.ProgramsTold.{placed_told, sections_told}
-use Rattle.source_images.specs.declared.images.Images.{Images}
+use Rattle.source_images.proofs.Common.{AreApart, Bool, Image, Images, IsIn, IsNonDecreasingBy, IsPermutation, IsPermutation-cons, IsPermutation-map, IsPermutation-middle, IsPermutation-refl, IsPermutation-trans, List, Placed, Some, [], ap, arith}
+use Rattle.source_images.proofs.Common.{by_address, cond, false, get_or, leb, leb-false, leb-true, length, name_of, option_map_or, placed_told, put_section, refl, sections_of, sections_told, slice_get, subst, sym, true, ℕ, ⊎_elim, ◌<◌, ◌∷◌, ◌≡◌, ◌≤◌}
 use Rattle.source_images.specs.declared.sections.Placed.{Placed as Given}
 use Rattle.source_images.proofs.Apart.{address, addresses_differ}
 use Rattle.source_images.proofs.SectionsTold.{told_at}
 use Rattle.source_images.proofs.Sorting.{Climbs, climbs_in_order, in_permutation, later_map, same_order}
-use Rattle.sect_table.specs.declared.image.Image.{Image}
 
 -- ---- insertion moves sections, and puts them in order
 

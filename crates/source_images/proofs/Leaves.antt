@@ -1,15 +1,6 @@
 -- What is noted of a leaf.
-use Rattle.std.proofs.Common.{◌≡◌, ◌∙◌, ◌<◌, ℕ, Bool, List, [], length, get_or, Some, sym, ap, subst}
-use Rattle.std.specs.List.{slice_get}
-use Rattle.std.specs.Option.{option_map_or}
-use Rattle.adl_meaning.specs.declared.flat.Flat.{Flat}
-use Rattle.adl_meaning.specs.declared.flat.Leaf.{Leaf}
-use Rattle.cap_model.specs.declared.level.Arch.{Arch}
-use Rattle.cam_base.proofs.NumberedLists.{read_place}
-use Rattle.source_images.specs.Images.{arch_of, image_number, sections_end}
-use Rattle.source_images.specs.SpaceFaults.{image_faults, leaf_faults, numbered_faults}
-use Rattle.source_images.specs.declared.images.Images.{Images}
-use Rattle.sect_table.specs.declared.image.Image.{Image}
+use Rattle.source_images.proofs.Common.{Arch, Bool, Flat, Image, Images, Leaf, List, Some, [], ap, arch_of, get_or, image_faults, image_number, leaf_faults, length, numbered_faults, option_map_or, read_place, sections_end, slice_get, subst, sym, ℕ}
+use Rattle.source_images.proofs.Common.{◌<◌, ◌∙◌, ◌≡◌}
 
 pub same_tests : (p q : ℕ → Bool) → ((m : ℕ) → p m ≡ q m) → p ≡ q
 same_tests p q h = λ i m. h m i

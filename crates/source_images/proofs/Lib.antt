@@ -1,3 +1,4 @@
+pub mod Common
 pub mod Typing
 pub mod Lines
 pub mod Merging

@@ -1,20 +1,7 @@
 -- The faults of tables' lines stand in the order of the tables, so that the first of them in the list is the first fault.
-use Rattle.std.proofs.Common.{◌≡◌, ◌∙◌, refl, sym, ap, arith, ℕ, ◌+◌, ◌<◌, ◌≤◌, Bool, cond, true, false, List, [], ◌∷◌, ◌++◌, length, Option, None, Some, nat_eq, nat_lt}
-use Rattle.std.proofs.lemmas.Bool.Decides.{nat_tests}
-use Rattle.std.specs.Option.{option_map, option_or}
-use Rattle.adl_meaning.proofs.Least.{earlier_assoc}
-use Rattle.adl_meaning.specs.Faults.{earlier, least}
+use Rattle.source_images.proofs.Common.{Arch, Bool, Fault, Found, Header, Line, List, None, Option, Some, [], absent, ap, arith, at_first_line, bad_line, cond, earlier, earlier_assoc, false, fault_in, first_bad, first_fault, header_of, least, length}
+use Rattle.source_images.proofs.Common.{line_fault, line_faults, lines, listed, nat_eq, nat_lt, nat_tests, option_map, option_or, other_arch, refl, spaced_fields, sym, table, too_long, true, ℕ, ◌++◌, ◌+◌, ◌<◌, ◌∙◌, ◌∷◌, ◌≡◌, ◌≤◌}
 use Rattle.cam_base.specs.Codes.{number_of}
-use Rattle.cam_base.specs.declared.place.Fault.{Fault}
-use Rattle.cap_model.specs.declared.level.Arch.{Arch}
-use Rattle.sect_table.specs.Headers.{header_of}
-use Rattle.sect_table.specs.Tables.{bad_line, fault_in, first_bad, first_fault}
-use Rattle.sect_table.specs.declared.image.Header.{Header}
-use Rattle.source_images.specs.Archs.{at_first_line, other_arch}
-use Rattle.source_images.specs.Found.{Found, absent, too_long, table}
-use Rattle.source_images.specs.TableFaults.{line_fault, line_faults, listed}
-use Rattle.cam_base.specs.Fields.{spaced_fields}
-use Rattle.cam_base.specs.Lines.{Line, lines}
 
 -- the first fault of two lists
 pub least-append : (xs ys : List Fault) → least (xs ++ ys) ≡ earlier (least xs) (least ys)

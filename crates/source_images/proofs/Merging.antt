@@ -1,25 +1,9 @@
 -- What comes of all that is read, in terms of what was found.
-use Rattle.std.proofs.Common.{◌≡◌, ◌∙◌, refl, sym, ap, arith, ℕ, ◌+◌, Bool, cond, true, false, List, [], ◌∷◌, ◌++◌, length, map, Option, None, Some, is_some, append_assoc, true≢false}
-use Rattle.std.proofs.lemmas.List.{append-nil}
-use Rattle.std.specs.List.{fold, cons_option}
-use Rattle.std.specs.Option.{option_map, option_map_or, option_or}
-use Rattle.cam_base.specs.declared.place.Fault.{Fault}
-use Rattle.cap_model.specs.declared.level.Arch.{Arch}
-use Rattle.cap_model.specs.declared.level.Arch.TheVariants.{Arm11, Aarch64}
-use Rattle.sect_table.specs.Headers.{header_of}
-use Rattle.sect_table.specs.Tables.{bad_between, bad_line, fault_in, first_bad, image, image_in}
-use Rattle.sect_table.specs.declared.image.Header.{Header}
-use Rattle.sect_table.specs.declared.image.Image.{Image}
-use Rattle.source_images.specs.Archs.{at_first_line, differs, first_arch, header_in, is_other}
-use Rattle.source_images.specs.Found.{Found, absent, too_long, table}
-use Rattle.source_images.specs.TableImages.{images_in}
-use Rattle.source_images.specs.Told.{merged, merged_with, readings_of, reading_in, with_fault, with_more}
-use Rattle.source_images.specs.Types.{Name}
+use Rattle.source_images.proofs.Common.{Aarch64, Arch, Arm11, Bool, Fault, Found, Header, Image, Line, List, Name, None, Option, Reading, Some, [], absent, ap, append-nil, append_assoc, arith, at_first_line, bad_between, bad_line, cond, cons_option}
+use Rattle.source_images.proofs.Common.{differs, false, fault_in, first_arch, first_bad, fold, header_in, header_of, image, image_in, images_in, is_other, is_some, length, lines, map, merged, merged_with, option_map, option_map_or, option_or}
+use Rattle.source_images.proofs.Common.{reading_in, readings_of, refl, spaced_fields, sym, table, too_long, true, true≢false, with_fault, with_more, ℕ, ◌++◌, ◌+◌, ◌∙◌, ◌∷◌, ◌≡◌}
 use Rattle.source_images.specs.declared.merge.Merged.{Merged}
-use Rattle.source_images.specs.declared.reading.Reading.{Reading}
 use Rattle.source_images.proofs.Lines.{first_line_fault}
-use Rattle.cam_base.specs.Fields.{spaced_fields}
-use Rattle.cam_base.specs.Lines.{Line, lines}
 
 -- a fault that was found stays
 kept : (m : Merged) (rs : List Reading) → is_some m.fault ≡ true → fold merged_with m rs ≡ m

@@ -1,13 +1,8 @@
 -- Names of types are text, and so is the folder of a file.
-use Rattle.std.proofs.Common.{◌≡◌, ◌∙◌, refl, sym, ap, arith, ℕ, zero, suc, ◌+◌, ◌<◌, ◌≢◌, Bool, cond, true, false, ◌||◌, IsTrue, List, [], ◌∷◌, length, take, get_or, true≢false}
-use Rattle.std.proofs.lemmas.Bool.{and_parts, eq-eqb, ne_eqb}
-use Rattle.std.proofs.lemmas.Bool.Decides.{nat_tests}
-use Rattle.std.proofs.lemmas.Grind.{common_steps}
+use Rattle.source_images.proofs.Common.{Bool, IsTrue, IsUtf8, List, [], and_parts, ap, arith, common_steps, cond, eq-eqb, false, folder_of, get_or, is_slash, length, list_all, list_any, nat_tests, ne_eqb, refl, slice_range, suc, sym, take, true}
+use Rattle.source_images.proofs.Common.{true≢false, zero, ℕ, ◌+◌, ◌<◌, ◌||◌, ◌∙◌, ◌∷◌, ◌≡◌, ◌≢◌}
 use Rattle.std.proofs.lemmas.Str.{IsUtf8-from_ascii}
-use Rattle.std.specs.List.{list_all, list_any, slice_range}
-use Rattle.std.specs.Str.{IsUtf8}
 use Rattle.cam_base.specs.Names.{is_letter, is_name, is_word_byte}
-use Rattle.source_images.specs.Found.{folder_of, is_slash}
 
 letter_small : (b : ℕ) → is_letter b ≡ true → b < 128
 letter_small b e = grind (arith, nat_tests)

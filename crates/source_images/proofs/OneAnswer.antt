@@ -1,14 +1,5 @@
 -- In given contents there is one answer.
-use Rattle.std.proofs.Common.{◌≡◌, ◌∙◌, sym, ap, false, ℕ, List, Option, None, Some, Result, Ok, Err, true≢false}
-use Rattle.adl_ast.specs.declared.source.Source.{Source}
-use Rattle.adl_meaning.specs.declared.flat.Flat.{Flat}
-use Rattle.cam_base.specs.declared.place.Fault.{Fault}
-use Rattle.cam_io.specs.Contents.{Contents}
-use Rattle.source_images.specs.declared.images.Images.{Images}
-use Rattle.source_images.specs.Found.{found_of}
-use Rattle.source_images.specs.ImagesRead.{AreImagesRead, yields}
-use Rattle.source_images.specs.TableFaults.{first_table_fault, name_of_file}
-use Rattle.source_images.specs.declared.error.ImagesError.{ImagesError}
+use Rattle.source_images.proofs.Common.{AreImagesRead, Contents, Err, Fault, Flat, Images, ImagesError, List, None, Ok, Option, Result, Some, Source, ap, false, first_table_fault, found_of, name_of_file, sym, true≢false, yields, ℕ, ◌∙◌, ◌≡◌}
 use Rattle.source_images.specs.declared.error.ImagesError.TheVariants as error
 
 some_other : (o : Option Fault) (f : Fault) {T : Type 0} → o ≡ None → o ≡ Some f → T

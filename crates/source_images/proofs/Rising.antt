@@ -1,18 +1,7 @@
 -- The pages of sections that lie apart, by address.
-use Rattle.std.proofs.Common.{◌≡◌, ◌∙◌, ◌<◌, ◌≤◌, ◌+◌, ◌*◌, ◌/◌, ◌%◌, ◌&&◌, ℕ, zero, suc, true, false, not, List, [], ◌∷◌, get_or, Some, refl, sym, ap, arith, inl, inr, nat_eq, nat_lt, ⊎_elim}
-use Rattle.std.specs.Prelude.{leb}
-use Rattle.std.specs.List.{All, AllPairs, flat_map, range_with_len, slice_get}
-use Rattle.std.proofs.lemmas.Bool.{and_cases, and_from, and_parts, both_ways, cases_Bool, eqb-true, leb-true, ltb-false}
-use Rattle.cap_model.specs.declared.level.Arch.{Arch}
-use Rattle.cap_model.specs.declared.level.Arch.TheVariants.{Arm11, Aarch64}
-use Rattle.cam_base.specs.Gather.{IsIn}
-use Rattle.cam_base.proofs.NumberedLists.{from_flat_map, from_map}
-use Rattle.source_images.specs.ByAddress.{by_address, name_of, page_at, pages_of, section_pages}
-use Rattle.source_images.specs.Images.{Placed, sections_end, sections_of}
-use Rattle.source_images.specs.Numbered.{AreApart}
-use Rattle.source_images.specs.SectionPages.{is_inside, page_count, share_page}
-use Rattle.source_images.specs.SpaceFaults.{clashes_with}
-use Rattle.source_images.specs.declared.images.Images.{Images}
+use Rattle.source_images.proofs.Common.{Aarch64, All, AllPairs, Arch, AreApart, Arm11, Images, IsIn, List, Placed, Some, [], and_cases, and_from, and_parts, ap, arith, both_ways, by_address, cases_Bool, clashes_with, eqb-true, false, flat_map}
+use Rattle.source_images.proofs.Common.{from_flat_map, from_map, get_or, inl, inr, is_inside, leb, leb-true, ltb-false, name_of, nat_eq, nat_lt, not, page_at, page_count, pages_of, range_with_len, refl, section_pages, sections_end, sections_of}
+use Rattle.source_images.proofs.Common.{share_page, slice_get, suc, sym, true, zero, ℕ, ⊎_elim, ◌%◌, ◌&&◌, ◌*◌, ◌+◌, ◌/◌, ◌<◌, ◌∙◌, ◌∷◌, ◌≡◌, ◌≤◌}
 use Rattle.source_images.specs.declared.pages.SectionPage.{SectionPage}
 use Rattle.source_images.proofs.Apart.{address, addresses_differ, no_clash, same_numbers, sound_numbers}
 use Rattle.source_images.proofs.InOrder.{order_climbs, order_moves}

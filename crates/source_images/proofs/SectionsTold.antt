@@ -1,16 +1,7 @@
 -- What the sections of a domain are, and what is told of them.
-use Rattle.std.proofs.Common.{◌≡◌, ◌∙◌, ◌<◌, ◌+◌, ℕ, Bool, true, false, List, [], ◌∷◌, ◌++◌, length, get_or, drop, Some, refl, sym, ap, subst, inl, inr, append_assoc}
-use Rattle.std.specs.List.{flat_map, slice_get}
-use Rattle.std.proofs.lemmas.List.{map_push}
-use Rattle.std.proofs.lemmas.Option.{slice_get_read}
-use Rattle.cam_base.proofs.Lists.{drop_first}
-use Rattle.cam_base.specs.Gather.{IsIn}
-use Rattle.cam_base.proofs.Gathered.{from_gather, in_place}
-use Rattle.source_images.specs.Images.{Placed, is_run, placed, sections_if, sections_of}
-use Rattle.source_images.specs.ProgramsTold.{placed_told, sections_told}
-use Rattle.source_images.specs.declared.images.Images.{Images}
+use Rattle.source_images.proofs.Common.{Bool, Image, Images, IsIn, List, Placed, Some, [], ap, append_assoc, drop, drop_first, false, flat_map, from_gather, get_or, in_place, inl, inr, is_run, length, map_push, placed, placed_told, refl, sections_if}
+use Rattle.source_images.proofs.Common.{sections_of, sections_told, slice_get, slice_get_read, subst, sym, true, ℕ, ◌++◌, ◌+◌, ◌<◌, ◌∙◌, ◌∷◌, ◌≡◌}
 use Rattle.source_images.specs.declared.sections.Placed.{Placed as Given}
-use Rattle.sect_table.specs.declared.image.Image.{Image}
 
 pub told_push : (new old : List Given) (x : Given) → new ≡ old ++ x ∷ [] → sections_told new ≡ sections_told old
     ++ placed_told x ∷ []

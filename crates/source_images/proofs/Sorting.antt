@@ -1,13 +1,7 @@
 -- Lists of which each element and each later one are related; and lists in the order of keys that differ.
-use Rattle.std.proofs.Common.{◌≡◌, ◌∙◌, ◌<◌, ◌≤◌, ◌+◌, ℕ, zero, suc, cond, List, [], ◌∷◌, ◌++◌, map, refl, sym, ap, subst, arith, inl, inr, nat_eq, ⊎_elim}
-use Rattle.std.specs.List.{All, sum_by}
-use Rattle.std.specs.List.Sorted.{IsNonDecreasingBy, IsPermutation}
-use Rattle.std.proofs.lemmas.Bool.{cases_eq, eq-eqb, ne_eqb}
-use Rattle.std.proofs.lemmas.List.Sorted.{All-permutation, IsPermutation-sym, sum_by-IsPermutation}
+use Rattle.source_images.proofs.Common.{All, All-permutation, IsIn, IsNonDecreasingBy, IsPermutation, IsPermutation-sym, List, [], all_in, ap, arith, cases_eq, cond, eq-eqb, from_gather, from_map, gather, in_append, inl, inr, map, nat_eq, ne_eqb}
+use Rattle.source_images.proofs.Common.{refl, subst, suc, sum_by, sum_by-IsPermutation, sym, zero, ℕ, ⊎_elim, ◌++◌, ◌+◌, ◌<◌, ◌∙◌, ◌∷◌, ◌≡◌, ◌≤◌}
 use Rattle.std.proofs.lemmas.List.Sums.{sum_by-cons}
-use Rattle.cam_base.specs.Gather.{gather, IsIn}
-use Rattle.cam_base.proofs.Gathered.{in_append, from_gather}
-use Rattle.cam_base.proofs.NumberedLists.{from_map, all_in}
 
 -- ---- members of a permutation
 

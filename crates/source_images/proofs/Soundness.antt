@@ -1,20 +1,7 @@
 -- What the images of a source keep.
-use Rattle.std.proofs.Common.{◌≡◌, ◌∙◌, refl, sym, ap, subst, inl, inr, ◌⊎◌, ℕ, zero, suc, Bool, cond, true, false, IsTrue, List, [], ◌∷◌, Option, None, Some}
-use Rattle.std.proofs.lemmas.Option.{same_Some}
-use Rattle.std.specs.List.{cons_option, slice_get}
-use Rattle.std.specs.Option.{option_map}
-use Rattle.cam_base.specs.Gather.{IsIn}
-use Rattle.sect_table.specs.Headers.{header_of}
-use Rattle.sect_table.specs.Sections.{is_sound, section_of, spelled, where_sound}
-use Rattle.sect_table.specs.Tables.{image, image_in, image_of, sections_of}
-use Rattle.sect_table.specs.declared.image.Header.{Header}
-use Rattle.sect_table.specs.declared.image.Image.{Image}
-use Rattle.sect_table.specs.declared.image.Section.{Section}
-use Rattle.source_images.specs.Found.{Found, absent, too_long, table}
-use Rattle.source_images.specs.TableImages.{images_in}
-use Rattle.source_images.specs.Types.{Name}
-use Rattle.cam_base.specs.Fields.{spaced_fields}
-use Rattle.cam_base.specs.Lines.{Line, lines}
+use Rattle.source_images.proofs.Common.{Bool, Found, Header, Image, IsIn, IsTrue, Line, List, Name, None, Option, Section, Some, [], absent, ap, cond, cons_option, false, header_of, image, image_in, image_of, images_in, inl, inr, is_sound, lines}
+use Rattle.source_images.proofs.Common.{option_map, refl, same_Some, section_of, slice_get, spaced_fields, spelled, subst, suc, sym, table, too_long, true, where_sound, zero, ℕ, ◌∙◌, ◌∷◌, ◌≡◌, ◌⊎◌}
+use Rattle.sect_table.specs.Tables.{sections_of}
 
 pub in_cons : {X : Type 0} (o : Option X) (xs : List X) (x : X) → IsIn x (cons_option o xs) → (o ≡ Some x) ⊎ IsIn x xs
 in_cons None xs x i = inr i

@@ -1,25 +1,10 @@
 -- Tables, read one after another.
-use Rattle.std.proofs.Common.{◌≡◌, ◌∙◌, refl, sym, ap, subst, arith, cond, false, nat_lt, ℕ, zero, suc, ◌+◌, ◌<◌, ◌≤◌, List, [], ◌∷◌, ◌++◌, length, map, take, add-one, Option, Some, Result, Ok, Err, IsErr, get_or}
-use Rattle.std.proofs.lemmas.Bool.Decides.{nat_tests}
-use Rattle.std.proofs.lemmas.List.{length-append, length-map}
-use Rattle.std.proofs.lemmas.Option.{slice_get-get_or}
+use Rattle.source_images.proofs.Common.{AlikeAsRead, AlikeInTables, AreFound, AreTablesRead, Bor, Contents, Err, Found, ImagesError, InAll, IsErr, IsErrAnd, IsFound, IsIn, IsTableRead, LearnsOnly, List, Name, Ok, Option, Reading, Result, Some, Table}
+use Rattle.source_images.proofs.Common.{[], add-one, ap, arith, cond, false, files_told, found_bytes, found_in, get_map, get_or, in_place, length, length-append, length-map, map, names_told, nat_lt, nat_tests, reading_of, readings_of, refl}
+use Rattle.source_images.proofs.Common.{slice_get, slice_get-get_or, string_bytes, subst, suc, sym, table, table_at, table_told, tables_told, take, too_long, zero, ℕ, ◌++◌, ◌+◌, ◌<◌, ◌∙◌, ◌∷◌, ◌≡◌, ◌≤◌}
 use Rattle.std.proofs.Math.Seq.{take-length}
-use Rattle.std.specs.Borrow.{Bor}
 use Rattle.std.specs.FinMap.{get}
-use Rattle.std.specs.List.{slice_get}
-use Rattle.std.specs.Prelude.{IsErrAnd, string_bytes}
-use Rattle.cam_io.specs.Contents.{Contents}
-use Rattle.cam_io.specs.Reading.{InAll, LearnsOnly}
-use Rattle.cam_base.specs.Gather.{IsIn}
-use Rattle.cam_base.proofs.Gathered.{in_place}
-use Rattle.cam_base.proofs.NumberedLists.{get_map}
-use Rattle.source_images.specs.Found.{AlikeAsRead, AlikeInTables, AreFound, Found, too_long, table, found_bytes, found_in}
-use Rattle.source_images.specs.Told.{AreTablesRead, IsFound, IsTableRead, files_told, reading_of, names_told, readings_of, table_at, table_told, tables_told}
-use Rattle.source_images.specs.Types.{Name}
-use Rattle.source_images.specs.declared.error.ImagesError.{ImagesError}
 use Rattle.source_images.specs.declared.error.ImagesError.TheVariants as error
-use Rattle.source_images.specs.declared.tables.Table.{Table}
-use Rattle.source_images.specs.declared.reading.Reading.{Reading}
 
 pub found_count : (contents : Contents) (names : List (List ℕ)) (all : List Found) → AreFound contents names all
     → length all ≡ length names

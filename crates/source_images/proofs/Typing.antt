@@ -1,22 +1,7 @@
 -- Types, one more at a time.
-use Rattle.std.proofs.Common.{◌≡◌, ◌∙◌, refl, sym, ap, arith, ℕ, ◌+◌, ◌<◌, ◌≤◌, Bool, drop, take, get_or, cond, true, false, ◌||◌, List, [], ◌∷◌, ◌++◌, length, map, Option, None, Some, is_some, append_assoc}
-use Rattle.std.proofs.lemmas.Iterator.Adapters.{position_from-zero}
-use Rattle.std.proofs.lemmas.Grind.{flat_map-append}
-use Rattle.std.proofs.lemmas.List.{append-nil, at_drop_more, length-append, length-map, map-append, take_more}
-use Rattle.std.specs.Borrow.{Bor}
-use Rattle.std.specs.List.{cons_option, filter_map, flat_map, position, position_from}
-use Rattle.std.specs.Option.{option_and_then, option_or}
-use Rattle.std.specs.Str.{bytes_eq}
-use Rattle.adl_ast.specs.declared.source.Source.{Source}
-use Rattle.adl_meaning.proofs.Least.{noted-append}
-use Rattle.adl_meaning.specs.Faults.{noted}
-use Rattle.adl_meaning.specs.Lists.{firsts, firsts_after}
-use Rattle.adl_meaning.specs.declared.flat.Flat.{Flat}
-use Rattle.adl_meaning.specs.declared.flat.Leaf.{Leaf}
-use Rattle.cam_base.specs.declared.place.Fault.{Fault}
-use Rattle.cam_base.proofs.Lists.{position_from-snoc}
-use Rattle.source_images.specs.Told.{names_told, with_type}
-use Rattle.source_images.specs.Types.{Name, types}
+use Rattle.source_images.proofs.Common.{Bool, Bor, Fault, Flat, Leaf, List, Name, None, Option, Some, Source, [], ap, append-nil, append_assoc, arith, at_drop_more, bytes_eq, cond, cons_option, drop, false, filter_map, firsts, firsts_after, flat_map}
+use Rattle.source_images.proofs.Common.{flat_map-append, get_or, is_some, length, length-append, length-map, map, map-append, names_told, noted, noted-append, option_and_then, option_or, position, position_from, position_from-snoc}
+use Rattle.source_images.proofs.Common.{position_from-zero, refl, sym, take, take_more, true, types, with_type, ℕ, ◌++◌, ◌+◌, ◌<◌, ◌||◌, ◌∙◌, ◌∷◌, ◌≡◌, ◌≤◌}
 
 -- where something stands behind all others
 pub position-push : {X : Type 0} (p : X → Bool) (xs : List X) (x : X)

@@ -16,10 +16,8 @@ abbrev pub Name : Type 0
 Name = List ℕ
 
 abbrev pub component_of : Item → Option Name
-component_of (items.Import i) = None
-component_of (items.Procedure p) = None
 component_of (items.Component c) = Some c.id.name
-component_of (items.Assembly a) = None
+component_of _ = None
 
 -- the name of the component that stands there
 abbrev pub component_name : Source → ItemAt → Option Name

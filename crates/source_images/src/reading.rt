@@ -1,6 +1,7 @@
 //! What is read of one table.
 
 ghost use Rattle.cam_io.specs.Causes.{Rose};
+ghost use Rattle.cam_io.specs.FileBytes.{bytes_in, with_bytes};
 ghost use Rattle.cam_io.specs.Reading.{InAll, KeepsFiles, LearnsOnly};
 ghost use Rattle.cam_io.specs.Whole.{IsWhole};
 ghost use Rattle.source_images.specs.Found.{AlikeAsRead, AlikeInTables, table_limit, table as given};
@@ -12,7 +13,7 @@ ghost use Rattle.cam_base.specs.Lines.{lines};
 use crate::ImagesError;
 use crate::tables::Table;
 use cam_base::{Fault, Lines, List, NoMemory, Place, Refused, Text};
-use cam_io::{Files, WholeError, read_whole};
+use cam_io::{FileBytes, Files, WholeError, see_whole};
 use sect_table::{Image, read_sections};
 use std::alloc::Global;
 
@@ -65,20 +66,22 @@ fn reading_of(
     }
 }
 
-/// The bytes of a table.
-fn read_bytes<F: Files>(
+/// Sees a table whole.
+fn see_table<F: Files>(
     alloc: Global,
     files: &mut F,
     table: &Table<'_>,
-) -> Result<List<u8>, WholeError>
+) -> Result<FileBytes, WholeError>
     ensures kept { KeepsFiles F.told F.faults files.old files.new }
     ensures read_fault { IsErrOf result WholeError.ReadFault
         → Rose (F.faults files.old (string_bytes table.now.file)) (F.faults files.new (string_bytes table.now.file)) }
-    ensures limit { IfOk result (λ bytes. length bytes ≤ table_limit) }
+    ensures limit { IfOk result (λ bytes. length (bytes_in bytes (F.lends files.new (string_bytes table.now.file)))
+        ≤ table_limit) }
     ensures learned { LearnsOnly F.told (AlikeAsRead (string_bytes table.now.file)) files.old files.new }
-    ensures whole { InAll (F.told files.new) (λ m. IsWhole (map.get m (string_bytes table.now.file)) table_limit result) }
+    ensures whole { InAll (F.told files.new) (λ m. IsWhole (map.get m (string_bytes table.now.file)) table_limit
+        (with_bytes result (F.lends files.new (string_bytes table.now.file)))) }
 {
-    read_whole(alloc, files, table.file.as_str(), TABLE_LIMIT)
+    see_whole(alloc, files, table.file.as_str(), TABLE_LIMIT)
 }
 
 /// Reads a table, whose file has this number.
@@ -94,8 +97,8 @@ pub fn read_table<F: Files>(
     ensures learned { LearnsOnly F.told (AlikeAsRead (string_bytes table.now.file)) files.old files.new }
     ensures read { InAll (F.told files.new) (λ m. IsTableRead m file (table_told table.now) result) }
 {
-    match read_bytes(alloc, files, table) {
-        Ok(bytes) => Ok(reading_of(alloc, file, table, bytes.as_slice())?),
+    match see_table(alloc, files, table) {
+        Ok(bytes) => Ok(reading_of(alloc, file, table, bytes.lend(files, table.file.as_str()))?),
         Err(WholeError::Absent) => Ok(Reading::Absent(Text::new(alloc, table.file.as_bytes())?)),
         Err(WholeError::TooLong) => Ok(Reading::TooLong),
         Err(WholeError::ReadFault) => Err(ImagesError::ReadFault(Text::new(

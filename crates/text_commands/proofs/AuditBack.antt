@@ -1,42 +1,17 @@
 -- The steps of an audit are read back and made.
-use Rattle.std.proofs.Common.{◌≡◌, ◌∙◌, ◌<◌, ◌≤◌, ◌^◌, ◌++◌, ℕ, true, List, length, None, Some, Result, Ok, Err, refl, sym, ap, subst, inl, inr, arith}
-use Rattle.std.proofs.lemmas.List.{length-append}
-use Rattle.std.specs.List.{All, list_all}
-use Rattle.cap_model.specs.Tables.{Has}
-use Rattle.cap_model.specs.declared.authority.Authority.{Authority}
-use Rattle.cap_model.specs.declared.edge.Edge.{Edge}
-use Rattle.cap_model.specs.declared.object_labels.Labels.{Labels}
-use Rattle.cap_model.specs.declared.policy.Policy.{Policy}
+use Rattle.text_commands.proofs.Common.{All, Answers, AreEdgesOf, AreSteps, AuditReport, Audited, Authority, Contents, Done, Edge, Err, Fault, Has, HasReport, Holds, Illegal, InputError, IsAnswer, IsAudited, IsLabelling, IsPolicy, IsReplayed, IsRun}
+use Rattle.text_commands.proofs.Common.{IsSystem, IsTold, Labels, List, NoMemory, None, Ok, Outcome, Policy, Ran, ReadFault, Replayed, Result, Run, Some, Spec, State, Step, Then, ap, arith, boot, inl, inr, kept_text, length, length-append, list_all}
+use Rattle.text_commands.proofs.Common.{refl, subst, sym, tell_text, true, ℕ, ◌++◌, ◌<◌, ◌^◌, ◌∙◌, ◌≡◌, ◌≤◌}
 use Rattle.cam_base.specs.Names.{is_name}
-use Rattle.cam_io.specs.Contents.{Contents}
-use Rattle.cap_audit.specs.declared.report.AuditReport.{AuditReport}
-use Rattle.cap_machine.specs.Runs.{Run}
-use Rattle.cap_machine.specs.declared.step.Step.{Step}
-use Rattle.cap_model.specs.State.{State, boot}
-use Rattle.cap_model.specs.declared.spec.Spec.{Spec}
-use Rattle.capdl_read.proofs.Kept.{kept_text}
 use Rattle.capdl_read.proofs.Names.{text_named}
 use Rattle.capdl_text.specs.Texts as capdl
 use Rattle.policy_text.specs.EdgeLines as lines
-use Rattle.policy_text.specs.Labelled.{IsLabelling}
 use Rattle.step_text.proofs.Lengths.{steps_short}
 use Rattle.step_text.proofs.Runs.{run_readable}
 use Rattle.step_text.proofs.Written.{no_fault, read_back}
 use Rattle.step_text.specs.Readable.{IsReadable}
 use Rattle.step_text.specs.StepTexts as steps
 use Rattle.step_text.specs.StepLines.{steps_text}
-use Rattle.text_commands.specs.Codes.{tell_text}
-use Rattle.text_commands.specs.Commands.{AreSteps, IsAudited, IsPolicy, IsRun, IsSystem}
-use Rattle.text_commands.specs.Decisions.{HasReport}
-use Rattle.text_commands.specs.Inputs.{Answers, Holds, IsTold, Then}
-use Rattle.text_commands.specs.OneAnswer.{IsAnswer}
-use Rattle.text_commands.specs.Replays.{AreEdgesOf, IsReplayed}
-use Rattle.text_commands.specs.declared.fault.InputError.{InputError}
-use Rattle.text_commands.specs.declared.fault.InputError.TheVariants.{Fault, ReadFault, NoMemory}
-use Rattle.text_commands.specs.declared.outcome.Outcome.{Outcome}
-use Rattle.text_commands.specs.declared.outcome.Outcome.TheVariants.{Audited, Ran}
-use Rattle.text_commands.specs.declared.replay.Replayed.{Replayed}
-use Rattle.text_commands.specs.declared.replay.Replayed.TheVariants.{Done, Illegal}
 use Rattle.text_commands.proofs.OneAnswer.{labelled_one, policy_one, step_reads, system_one}
 use Rattle.text_commands.proofs.OneReplay.{not_done, run_one}
 use Rattle.text_commands.proofs.OneTurn.{then_goes, turn_one}
@@ -44,7 +19,7 @@ use Rattle.text_commands.proofs.Turning.{turn_read}
 
 -- what an audit read and found
 record IsAuditOf (m : Contents) (old new : List ℕ → ℕ) (cdl policy : List ℕ) (report : AuditReport) (spec : Spec)
-    (names : lines.Labels) : Type 0 where
+    (names : lines.LabelNames) : Type 0 where
   pub allowed : Policy
   pub labels : Labels
   pub system : IsSystem m old new cdl (Ok spec)
@@ -53,7 +28,7 @@ record IsAuditOf (m : Contents) (old new : List ℕ → ℕ) (cdl policy : List 
   pub named : names ≡ allowed.labels
   pub has : HasReport spec labels.by_object report
 
-audit_of : (m : Contents) (old new : List ℕ → ℕ) (cdl policy : List ℕ) (report : AuditReport) (spec : Spec) (names : lines.Labels)
+audit_of : (m : Contents) (old new : List ℕ → ℕ) (cdl policy : List ℕ) (report : AuditReport) (spec : Spec) (names : lines.LabelNames)
     → IsAudited m old new cdl policy (Ok (Audited report spec names))
     → IsAuditOf m old new cdl policy report spec names
 audit_of m old new cdl policy report spec names
@@ -77,7 +52,7 @@ audit_of m old new cdl policy report spec names (inl (found, system, inr (e, tol
 audit_of m old new cdl policy report spec names (inr (e, told, is)) = absurd cc
 
 module _ (m : Contents) (old new later last : List ℕ → ℕ) (cdl policy : List ℕ) (report : AuditReport) (spec : Spec)
-    (names : lines.Labels)
+    (names : lines.LabelNames)
     (audited : IsAudited m old new cdl policy (Ok (Audited report spec names))) where
   abbrev audit : IsAuditOf m old new cdl policy report spec names
   audit = audit_of m old new cdl policy report spec names audited

@@ -1,44 +1,20 @@
 -- What is written of a least certificate is read back under its policy, and the checker says yes to it where it does to any.
-use Rattle.std.proofs.Common.{◌≡◌, ◌∙◌, ◌<◌, ◌≤◌, ◌^◌, ◌||◌, ℕ, Bool, true, false, List, [], ◌∷◌, length, map, find, Option, Some, None, Result, Ok, Err, refl, sym, ap, subst, inl, inr, arith}
-use Rattle.std.proofs.lemmas.Bool.Decides.{Decides-eqb}
-use Rattle.std.proofs.lemmas.List.{length-map}
+use Rattle.text_commands.proofs.Common.{All, Bool, Certified, Checked, Contents, Decides-eqb, Edge, Entry, Err, Holds, InputError, IsCert, IsCertRead, IsCertText, IsCertificate, IsCertificateOf, IsCertified, IsChecked, IsLabelling, IsPolicy}
+use Rattle.text_commands.proofs.Common.{IsPolicyRead, IsPolicyText, IsSorted, IsSystem, Judged, Labels, List, No, None, Ok, Option, Policy, Result, Some, Spec, Verdict, Yes, [], ap, arith, edge, false, find, has, inl, inr, is_some, kept_text}
+use Rattle.text_commands.proofs.Common.{least_valid, length, length-map, map, object_label, option_map, refl, subst, sym, tell_text, true, ℕ, ◌<◌, ◌==◌, ◌^◌, ◌||◌, ◌∙◌, ◌∷◌, ◌≡◌, ◌≤◌}
 use Rattle.std.proofs.lemmas.List.Elements.{All-head, All-tail}
-use Rattle.std.specs.List.{All}
-use Rattle.std.specs.Option.{is_some, option_map}
-use Rattle.std.specs.Prelude.{◌==◌}
 use Rattle.std.specs.Str.{bytes_eq}
-use Rattle.cap_model.specs.Edges.{edge}
 use Rattle.cap_model.specs.Policies.{label_name}
 use Rattle.cap_model.specs.Policies as policies
-use Rattle.cap_model.specs.Tables.{IsSorted, has}
-use Rattle.cap_model.specs.declared.edge.Edge.{Edge}
-use Rattle.cap_model.specs.declared.object_labels.Labels.{Labels}
-use Rattle.cap_model.specs.declared.policy.Policy.{Policy}
-use Rattle.cam_io.specs.Contents.{Contents}
-use Rattle.cap_model.specs.declared.spec.Entry.{Entry}
-use Rattle.cap_model.specs.declared.spec.Spec.{Spec}
-use Rattle.capdl_read.proofs.Kept.{kept_text}
 use Rattle.capdl_text.specs.Texts as capdl
 use Rattle.cert_check.specs.Valid.{Valid}
-use Rattle.cert_check.specs.Verdicts.{Judged}
-use Rattle.cert_check.specs.declared.verdict.Verdict.{Verdict}
-use Rattle.cert_check.specs.declared.verdict.Verdict.TheVariants.{Yes, No}
 use Rattle.policy_text.specs.EdgeLines as names
-use Rattle.least_cert.proofs.LeastKeeps.{least_valid}
 use Rattle.policy_text.proofs.EdgeLengths.{cert_short}
 use Rattle.policy_text.proofs.Kept.{all_edges}
 use Rattle.policy_text.proofs.ReadBack.{cert_back}
 use Rattle.policy_text.proofs.TextsKept.{labels_below, text_kept}
-use Rattle.policy_text.specs.Labelled.{IsLabelling, object_label}
 use Rattle.policy_text.specs.PolicyLines.{cert_text}
-use Rattle.policy_text.specs.PolicyTexts.{IsCertRead, IsCertText, IsPolicyRead, IsPolicyText}
 use Rattle.policy_text.specs.Writable.{IsWritableCert}
-use Rattle.text_commands.specs.Codes.{tell_text}
-use Rattle.text_commands.specs.Commands.{IsCert, IsCertified, IsChecked, IsPolicy, IsSystem}
-use Rattle.text_commands.specs.Decisions.{IsCertificate, IsCertificateOf}
-use Rattle.text_commands.specs.Inputs.{Holds}
-use Rattle.text_commands.specs.declared.fault.InputError.{InputError}
-use Rattle.text_commands.specs.declared.outcome.Outcome.TheVariants.{Certified, Checked}
 use Rattle.text_commands.proofs.CertEnds.{is_among, least_ends}
 use Rattle.text_commands.proofs.OneAnswer.{labelled_one, policy_one, system_one}
 use Rattle.text_commands.proofs.Turning.{turn_read}
@@ -188,7 +164,7 @@ module _ (m : Contents) (old new later last : List ℕ → ℕ) (cdl policy : Li
         text_back system.0 text.0 s.0 allowed s.1 system.1 text.1 s.3 edges s.4,
       )
 
-  pub certificate_decides : (cert other : List ℕ) (labels : names.Labels)
+  pub certificate_decides : (cert other : List ℕ) (labels : names.LabelNames)
       → IsCertified m old new cdl policy (Ok (Certified edges)) → Holds m cert (cert_text edges)
       → IsChecked m later last cdl policy other (Ok (Checked Yes labels))
       → IsChecked m later last cdl policy cert (Ok (Checked Yes labels))

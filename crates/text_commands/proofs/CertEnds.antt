@@ -1,39 +1,26 @@
 -- The edges of a least certificate go from labels of objects to labels of objects.
-use Rattle.std.proofs.Common.{◌≡◌, ◌≢◌, ◌<◌, ◌⊎◌, ◌&&◌, ◌||◌, ℕ, zero, suc, Bool, true, false, List, [], ◌∷◌, length, Option, Some, None, refl, sym, ap, subst, inl, inr, arith, slice_get, ◌∙◌}
-use Rattle.std.proofs.lemmas.Bool.{and_parts}
-use Rattle.std.proofs.lemmas.Bool.Decides.{nat_tests}
+use Rattle.text_commands.proofs.Common.{Authority, Bool, Contains, Edge, FitsSpec, Has, IsLeast, KeepsRules, List, Node, None, Option, Some, Spec, [], and_parts, ap, arith, boot, edge, false, filter, has, inl, inr, irq_at, length, list_any}
+use Rattle.text_commands.proofs.Common.{nat_tests, no_node, no_thread, node_at, refl, same_edge, same_edge_true, slice_get, slice_index, subst, suc, sym, table_keeps, thread_at, true, zero, ℕ, ◌&&◌, ◌<◌, ◌==◌, ◌||◌, ◌∙◌, ◌∷◌, ◌≡◌, ◌≢◌, ◌⊎◌}
 use Rattle.std.proofs.lemmas.Map.Views.{any-filter_same}
-use Rattle.std.specs.List.{Contains, filter, list_any}
-use Rattle.std.specs.Prelude.{◌==◌, slice_index}
-use Rattle.cap_model.proofs.EdgeOrder.{same_edge_true}
-use Rattle.cap_model.specs.Edges.{edge, same_edge}
 use Rattle.cap_model.specs.ObjectLabels.{label_of}
-use Rattle.cap_model.specs.Tables.{Has, has}
-use Rattle.cap_model.specs.declared.authority.Authority.{Authority}
-use Rattle.cap_model.specs.declared.authority.Authority.TheVariants.{Receive, AsyncSend, Grant, Control, Call, Reply, GrantBack, Handle}
-use Rattle.cap_model.specs.declared.edge.Edge.{Edge}
+use Rattle.authorities.specs.declared.authority.Authority.TheVariants.{Receive, AsyncSend, Grant, Control, Call, Reply, GrantBack, Handle}
 use Rattle.cap_machine.proofs.Booting.{boot_fits}
 use Rattle.cap_model.proofs.BootPlaces.{contains_at}
 use Rattle.cap_model.proofs.Kept.{fits_below, is_at_below, object_below, object_kept, root_below, slot_kept}
 use Rattle.cap_model.specs.Auth.{Held, Structural, buffer_of, table_of}
-use Rattle.cap_model.specs.FitsSpec.{FitsSpec}
 use Rattle.cap_model.specs.Kept.{IsKept, fits, fits_as, if_any, keeps_slots, keeps_table}
 use Rattle.cap_model.specs.Kinds.{is_at, is_space_root}
 use Rattle.cap_model.specs.Levels.{child, size}
 use Rattle.cap_model.specs.Lookup.{object_at}
-use Rattle.cap_model.specs.State.{Node, boot, irq_at, no_node, no_thread, node_at, thread_at}
 use Rattle.cap_model.specs.declared.cap.Cap.{Cap}
 use Rattle.cap_model.specs.declared.kind.Kind.TheVariants as kinds
 use Rattle.cap_model.specs.declared.level.Level.{Level}
 use Rattle.cap_model.specs.declared.object.Object.{Object}
 use Rattle.cap_model.specs.declared.object.Object.TheVariants as objects
 use Rattle.cap_model.specs.declared.object.Tcb.{Tcb}
-use Rattle.cap_model.specs.declared.spec.Spec.{Spec}
 use Rattle.cap_model.specs.declared.state.Content.{Content}
 use Rattle.cap_model.specs.declared.state.Content.TheVariants.{Capability, SavedReply}
 use Rattle.cap_model.specs.declared.state.ThreadState.{ThreadState}
-use Rattle.least_cert.proofs.LeastKeeps.{table_keeps}
-use Rattle.least_cert.specs.LeastCertificate.{IsLeast, KeepsRules}
 
 -- it is one of them
 abbrev pub is_among : List ℕ → ℕ → Bool

@@ -1,16 +1,11 @@
 -- A text of steps without a fault has at most as many steps as the limit says.
-use Rattle.std.proofs.Common.{◌≡◌, ◌≤◌, ◌<◌, ◌+◌, ℕ, Bool, true, false, List, [], ◌∷◌, length, Option, Some, None, arith, refl, nat_lt}
-use Rattle.std.proofs.lemmas.Bool.Decides.{nat_tests}
-use Rattle.std.specs.List.{filter_map}
-use Rattle.cap_machine.specs.declared.step.Step.{Step}
-use Rattle.cap_model.specs.declared.spec.Spec.{Spec}
+use Rattle.text_commands.proofs.Common.{Bool, List, None, Option, Some, Spec, Step, StepLimit, [], arith, false, filter_map, length, nat_lt, nat_tests, refl, true, ℕ, ◌+◌, ◌<◌, ◌∷◌, ◌≡◌, ◌≤◌}
 use Rattle.cam_base.specs.LineFaults.{at_line}
 use Rattle.cam_base.specs.Fields.{fields}
 use Rattle.cam_base.specs.Lines.{Line, lines}
 use Rattle.step_text.specs.Spelling.{spelled}
 use Rattle.step_text.specs.StepTexts.{bytes_limit, fault_of, first_fault, first_fault_of, misspelled, step_of, steps_of}
 use Rattle.step_text.specs.Threads.{thread_named}
-use Rattle.cam_base.specs.declared.text_fault.TextCode.TheVariants.{StepLimit}
 use Rattle.cam_base.proofs.Options.{neither}
 
 below : (before : ℕ) (b : Bool) → nat_lt before 100000 ≡ b → b ≡ true → before < 100000

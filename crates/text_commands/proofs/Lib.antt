@@ -1,3 +1,4 @@
+pub mod Common
 pub mod Turning
 pub mod FewSteps
 pub mod Running

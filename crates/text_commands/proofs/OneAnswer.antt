@@ -1,41 +1,17 @@
 -- For the same contents each command has one answer.
-use Rattle.std.proofs.Common.{◌≡◌, ◌∙◌, ◌⊎◌, ℕ, List, [], ◌∷◌, map, find, Option, Some, None, Result, Ok, Err, inl, inr, refl, sym, ap, subst}
-use Rattle.cap_model.specs.declared.edge.Edge.{Edge}
-use Rattle.cap_model.specs.declared.object_labels.Labels.{Labels}
-use Rattle.cap_model.specs.declared.policy.Policy.{Policy}
+use Rattle.text_commands.proofs.Common.{Answers, AreOne, AreOneButChoice, AreRegions, AreSteps, Checked, Contents, Edge, Entry, Err, Image, InputError, IsAudit, IsAudited, IsCert, IsCertRead, IsCertificateOf, IsCertified, IsChecked, IsImage}
+use Rattle.text_commands.proofs.Common.{IsLabelling, IsPlan, IsPlanned, IsPolicy, IsPolicyRead, IsReplayed, IsRun, IsSystem, IsTabled, IsTold, Judged, Labels, List, None, Ok, Option, Outcome, Policy, Ran, Refused, Replayed, Result, Some, Spec, Step}
+use Rattle.text_commands.proofs.Common.{Tabled, Then, Untyped, Verdict, [], answer_but_choice, ap, codes, find, inl, inr, is_none, map, object_label, option_map, refl, subst, sym, tell_elf, tell_text, tell_untyped, unlabelled, ℕ, ◌∙◌, ◌∷◌, ◌≡◌, ◌⊎◌}
 use Rattle.boot_plan.specs.UntypedTexts as untypeds
-use Rattle.boot_plan.specs.declared.untyped.Untyped.{Untyped}
-use Rattle.cam_base.specs.declared.error.Refused.{Refused}
 use Rattle.cam_base.specs.declared.error.Refused.TheVariants as refused
 use Rattle.cam_base.specs.declared.text_fault.TextFault.{TextFault}
-use Rattle.cam_io.specs.Contents.{Contents}
-use Rattle.cap_machine.specs.declared.step.Step.{Step}
-use Rattle.cap_model.specs.declared.spec.Entry.{Entry}
-use Rattle.cap_model.specs.declared.spec.Spec.{Spec}
 use Rattle.capdl_text.proofs.Answered.{read_text}
 use Rattle.capdl_text.proofs.Unique.{one_first_fault, one_spec}
 use Rattle.capdl_text.specs.Texts as capdl
-use Rattle.cert_check.specs.Verdicts.{Judged}
-use Rattle.cert_check.specs.declared.verdict.Verdict.{Verdict}
 use Rattle.sect_table.specs.Elf as elf
 use Rattle.sect_table.specs.Faults.{class_in, first_fault}
 use Rattle.policy_text.proofs.OneMeaning.{certs_one, policies_one}
-use Rattle.policy_text.specs.Labelled.{IsLabelling, object_label, unlabelled}
-use Rattle.policy_text.specs.PolicyTexts.{IsCertRead, IsPolicyRead}
-use Rattle.sect_table.specs.declared.image.Image.{Image}
-use Rattle.std.specs.Option.{is_none, option_map}
-use Rattle.std.specs.Prelude.{codes}
 use Rattle.step_text.specs.StepTexts as steps
-use Rattle.text_commands.specs.Codes.{tell_elf, tell_text, tell_untyped}
-use Rattle.text_commands.specs.Commands.{AreRegions, AreSteps, IsAudited, IsCert, IsCertified, IsChecked, IsImage, IsPlanned, IsPolicy, IsRun, IsSystem, IsTabled}
-use Rattle.text_commands.specs.Decisions.{IsAudit, IsCertificateOf, IsPlan}
-use Rattle.text_commands.specs.Inputs.{Answers, IsTold, Then}
-use Rattle.text_commands.specs.OneAnswer.{AreOne, AreOneButChoice, answer_but_choice}
-use Rattle.text_commands.specs.Replays.{IsReplayed}
-use Rattle.text_commands.specs.declared.fault.InputError.{InputError}
-use Rattle.text_commands.specs.declared.outcome.Outcome.{Outcome}
-use Rattle.text_commands.specs.declared.outcome.Outcome.TheVariants.{Checked, Ran, Tabled}
-use Rattle.text_commands.specs.declared.replay.Replayed.{Replayed}
 use Rattle.text_commands.proofs.OneDecision.{audit_one, certificate_one, plan_one}
 use Rattle.text_commands.proofs.OneReplay.{replay_one}
 use Rattle.text_commands.proofs.OneTurn.{Alike, ReadsOne, answers_one, then_alike, then_one, told_one, turn_one}

@@ -1,10 +1,7 @@
 -- Of a system one thing is decided.
-use Rattle.std.proofs.Common.{◌≡◌, ◌∙◌, ◌<◌, ◌≤◌, ◌*◌, ◌⊎◌, ℕ, true, List, [], length, Option, Some, None, Result, Ok, Err, refl, sym, ap, subst, inl, inr, arith}
-use Rattle.std.specs.Cmp.Derive.{one_truth}
-use Rattle.std.proofs.lemmas.Bool.{cases_lt}
-use Rattle.cap_model.proofs.TableMembers.{one_table}
-use Rattle.cap_model.specs.Tables.{has}
-use Rattle.cap_model.specs.declared.edge.Edge.{Edge}
+use Rattle.text_commands.proofs.Common.{AreOne, AreOneButChoice, AuditReport, Audited, Certified, CloseRefused, Edge, Err, HasMoreThan, HasReport, InputFault, IsAudit, IsAuditable, IsCertificate, IsCertificateOf, IsPlan, List, None, Ok, Option}
+use Rattle.text_commands.proofs.Common.{Outcome, Planned, Result, Some, Spec, Untyped, [], answer_but_choice, ap, arith, but_choice, cases_lt, has, inl, inr, length, one_table, one_truth, refl, subst, sym, tell_audit, tell_close, tell_plan, true, ℕ}
+use Rattle.text_commands.proofs.Common.{◌*◌, ◌<◌, ◌∙◌, ◌≡◌, ◌≤◌, ◌⊎◌}
 use Rattle.boot_plan.specs.Devices.{device_refusal}
 use Rattle.boot_plan.specs.Needs.{needs}
 use Rattle.boot_plan.specs.Overlaps.{first_overlap}
@@ -15,28 +12,19 @@ use Rattle.boot_plan.specs.declared.need.Need.{Need}
 use Rattle.boot_plan.specs.declared.plan_refusal.BootPlan.{BootPlan}
 use Rattle.boot_plan.specs.declared.plan_refusal.PlanRefusal.{PlanRefusal}
 use Rattle.boot_plan.specs.declared.plan_refusal.PlanRefusal.TheVariants as planning
-use Rattle.boot_plan.specs.declared.untyped.Untyped.{Untyped}
 use Rattle.cap_audit.specs.Reports.{AuditRefused}
 use Rattle.cap_audit.specs.declared.report.AuditRefusal.{AuditRefusal}
 use Rattle.cap_audit.specs.declared.report.AuditRefusal.TheVariants as auditing
-use Rattle.cap_audit.specs.declared.report.AuditReport.{AuditReport}
-use Rattle.cap_model.specs.declared.spec.Spec.{Spec}
 use Rattle.cap_audit.specs.Refusals.{IsFirstThread}
-use Rattle.policy_text.specs.EdgeLines.{Labels}
-use Rattle.least_cert.specs.LeastCertificate.{CloseRefused, HasMoreThan}
+use Rattle.policy_text.specs.EdgeLines.{LabelNames}
 use Rattle.least_cert.specs.declared.closing.CloseError.{CloseError}
 use Rattle.least_cert.specs.declared.closing.CloseError.TheVariants as closing
-use Rattle.text_commands.specs.Decisions.{HasReport, IsAudit, IsAuditable, IsCertificate, IsCertificateOf, IsPlan, tell_audit, tell_close, tell_plan}
-use Rattle.text_commands.specs.OneAnswer.{AreOne, AreOneButChoice, answer_but_choice, but_choice}
-use Rattle.text_commands.specs.declared.fault.InputFault.{InputFault}
-use Rattle.text_commands.specs.declared.outcome.Outcome.{Outcome}
-use Rattle.text_commands.specs.declared.outcome.Outcome.TheVariants.{Audited, Certified, Planned}
 use Rattle.text_commands.proofs.OneTurn.{DecidesOne, decided_alike}
 use Rattle.text_commands.proofs.TableLengths.{no_more}
 
 -- ---- audits
 
-module _ (cdl : List ℕ) (spec : Spec) (labels : List ℕ) (names : Labels) where
+module _ (cdl : List ℕ) (spec : Spec) (labels : List ℕ) (names : LabelNames) where
   firsts_one : (c d i j : ℕ) → IsFirstThread spec c i → IsFirstThread spec d j → (c ≡ d) × (i ≡ j)
   firsts_one c d i j a b = go (a.first d j b.cap b.there b.thread) (b.first c i a.cap a.there a.thread)
     where

@@ -1,21 +1,8 @@
 -- Steps lead to one state, or stop at one place.
-use Rattle.std.proofs.Common.{◌≡◌, ◌∙◌, ◌<◌, ◌≤◌, ◌⊎◌, ◌+◌, ◌∷◌, [], ℕ, zero, suc, true, List, length, take, slice_get, Some, None, refl, sym, ap, subst, inl, inr, arith}
-use Rattle.std.specs.Cmp.Derive.{one_truth}
-use Rattle.std.proofs.lemmas.Bool.{cases_lt}
-use Rattle.cap_model.proofs.TableMembers.{one_table}
-use Rattle.cap_model.specs.Tables.{has}
-use Rattle.cap_model.specs.declared.edge.Edge.{Edge}
+use Rattle.text_commands.proofs.Common.{AreEdgesOf, Done, Edge, Illegal, IsReplayed, LeadsTo, List, None, Replayed, Run, Some, Spec, State, Step, StopsAt, Why, [], ap, arith, boot, cases_lt, checks, first_failing, has, inl, inr, length, one_table}
+use Rattle.text_commands.proofs.Common.{one_truth, refl, slice_get, subst, suc, sym, take, true, zero, ℕ, ◌+◌, ◌<◌, ◌∙◌, ◌∷◌, ◌≡◌, ◌≤◌, ◌⊎◌}
 use Rattle.cap_machine.proofs.Table.{next_passes, one_next}
-use Rattle.cap_machine.specs.Checks.{checks, first_failing}
-use Rattle.cap_machine.specs.Runs.{Run}
 use Rattle.cap_machine.specs.StepTable.{StepTo}
-use Rattle.cap_machine.specs.declared.step.Step.{Step}
-use Rattle.cap_machine.specs.declared.step.Why.{Why}
-use Rattle.cap_model.specs.State.{State, boot}
-use Rattle.cap_model.specs.declared.spec.Spec.{Spec}
-use Rattle.text_commands.specs.Replays.{AreEdgesOf, IsReplayed, LeadsTo, StopsAt}
-use Rattle.text_commands.specs.declared.replay.Replayed.{Replayed}
-use Rattle.text_commands.specs.declared.replay.Replayed.TheVariants.{Done, Illegal}
 
 module _ (spec : Spec) where
   pub run_one : (steps : List Step) (s a b : State) → Run spec s steps a → Run spec s steps b → a ≡ b

@@ -1,14 +1,8 @@
 -- Turns of inputs have one answer for the same contents.
-use Rattle.std.proofs.Common.{◌≡◌, ◌∙◌, ◌<◌, ◌≤◌, ℕ, List, length, map, Option, Some, None, Result, Ok, Err, refl, sym, ap, subst, inl, inr, arith}
+use Rattle.text_commands.proofs.Common.{Answers, AreOne, Contents, Decided, Err, Fault, Holds, InputError, InputFault, IsAbsent, IsAnswer, IsInput, IsTold, IsTooLong, List, NoMemory, None, Ok, Option, ReadFault, Refused, Result, Some, Then, Turn, ap}
+use Rattle.text_commands.proofs.Common.{arith, inl, inr, length, map, most_bytes, refl, subst, sym, ℕ, ◌<◌, ◌∙◌, ◌≡◌, ◌≤◌}
 use Rattle.std.specs.FinMap as contents
-use Rattle.cam_base.specs.declared.error.Refused.{Refused}
 use Rattle.cam_base.specs.declared.error.Refused.TheVariants as refused
-use Rattle.cam_io.specs.Contents.{Contents}
-use Rattle.text_commands.specs.Inputs.{Answers, Decided, Holds, IsAbsent, IsInput, IsTold, IsTooLong, Then, Turn, most_bytes}
-use Rattle.text_commands.specs.OneAnswer.{AreOne, IsAnswer}
-use Rattle.text_commands.specs.declared.fault.InputError.{InputError}
-use Rattle.text_commands.specs.declared.fault.InputError.TheVariants.{Fault, ReadFault, NoMemory}
-use Rattle.text_commands.specs.declared.fault.InputFault.{InputFault}
 
 abbrev pub Alike : {B : Type 0} → (Result B InputError → Result B InputError → Type 0) → (Result B InputError → Type 0)
     → (Result B InputError → Type 0) → Type 0

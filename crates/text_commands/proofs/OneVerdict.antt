@@ -1,19 +1,10 @@
 -- A certificate has one verdict.
-use Rattle.std.proofs.Common.{◌≡◌, ◌∙◌, ◌<◌, ◌≤◌, ◌⊎◌, ◌∷◌, [], ℕ, zero, suc, List, Option, Some, None, refl, sym, ap, subst, inl, inr, arith}
-use Rattle.std.proofs.lemmas.Bool.{cases_lt}
-use Rattle.cap_model.proofs.EdgeOrder.{at_most_both}
-use Rattle.cap_model.specs.Edges.{AtMost}
-use Rattle.cap_model.specs.Tables.{Finds}
-use Rattle.cap_model.specs.declared.edge.Edge.{Edge}
-use Rattle.cap_model.specs.declared.spec.Spec.{Spec}
+use Rattle.text_commands.proofs.Common.{AtMost, Edge, Finds, Judged, List, No, None, Option, Some, Spec, Verdict, Yes, [], ap, arith, at_most_both, cases_lt, inl, inr, refl, subst, suc, sym, zero, ℕ, ◌<◌, ◌∙◌, ◌∷◌, ◌≡◌, ◌≤◌, ◌⊎◌}
 use Rattle.cert_check.specs.Least.{FindsLeast, Holds, Least, LeastAlone, LeastOf, LeastPair}
 use Rattle.cert_check.specs.Rules.{rule_number}
-use Rattle.cert_check.specs.Verdicts.{Judged}
 use Rattle.cert_check.specs.Violations.{BreaksBoot, BreaksControl, BreaksGrant, BreaksCall, BreaksGrantBack, BreaksBind, BreaksPolicy}
 use Rattle.cert_check.specs.declared.rule.Rule.{Rule}
 use Rattle.cert_check.specs.declared.rule.Rule.TheVariants as rules
-use Rattle.cert_check.specs.declared.verdict.Verdict.{Verdict}
-use Rattle.cert_check.specs.declared.verdict.Verdict.TheVariants.{Yes, No}
 use Rattle.cert_check.specs.declared.violation.Violation.{Violation}
 
 rule_of : ℕ → Rule

@@ -1,21 +1,14 @@
 -- The table that is printed of an ELF file is read back as its image, under any name.
-use Rattle.std.proofs.Common.{◌≡◌, ◌⊎◌, ℕ, List, Some, Result, Ok, Err, refl, sym, ap, subst, inl, inr}
+use Rattle.text_commands.proofs.Common.{Contents, Err, Holds, Image, IsTabled, List, Ok, Refused, Result, Some, Tabled, ap, codes, inl, inr, refl, subst, sym, ℕ, ◌≡◌, ◌⊎◌}
 use Rattle.std.specs.FinMap as contents
-use Rattle.std.specs.Prelude.{codes}
-use Rattle.cam_base.specs.declared.error.Refused.{Refused}
 use Rattle.cam_base.specs.declared.error.Refused.TheVariants as refused
 use Rattle.cam_base.specs.declared.place.Fault.{Fault}
-use Rattle.cam_io.specs.Contents.{Contents}
 use Rattle.sect_table.proofs.Rows.{answered}
 use Rattle.sect_table.proofs.Sound.{has_table}
 use Rattle.sect_table.specs.TablesBack.{AreBytes}
 use Rattle.sect_table.specs.Elf.{Elf}
 use Rattle.sect_table.specs.Texts.{table_text}
 use Rattle.sect_table.specs.Tables as tables
-use Rattle.sect_table.specs.declared.image.Image.{Image}
-use Rattle.text_commands.specs.Commands.{IsTabled}
-use Rattle.text_commands.specs.Inputs.{Holds}
-use Rattle.text_commands.specs.declared.outcome.Outcome.TheVariants.{Tabled}
 
 abbrev renamed : List ℕ → Image → Image
 renamed name image = record image { name = name }

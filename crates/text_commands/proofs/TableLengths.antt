@@ -1,15 +1,10 @@
 -- A table has no more edges than a list that has each of them.
-use Rattle.std.proofs.Common.{◌≡◌, ◌∙◌, ◌≤◌, ◌||◌, Bool, true, false, List, [], ◌∷◌, length, refl, sym, ap, subst, arith, get_or}
+use Rattle.text_commands.proofs.Common.{Before, Bool, Edge, IsDistinct, IsSorted, List, [], ap, arith, false, get_or, has, length, list_any, not_before_self, refl, same_edge, same_edge-sym, same_edge_self, same_edge_true, slice_get-get_or, subst}
+use Rattle.text_commands.proofs.Common.{sym, true, ◌||◌, ◌∙◌, ◌∷◌, ◌≡◌, ◌≤◌}
 use Rattle.std.specs.Cmp.{IsEquivalence}
-use Rattle.std.specs.List.{IsDistinct, list_any}
 use Rattle.std.specs.Set.{is_member}
 use Rattle.std.proofs.lemmas.Map.Made.{length-le_from_is_member}
 use Rattle.std.proofs.lemmas.Map.Keys.{IsDistinct-from_apart}
-use Rattle.std.proofs.lemmas.Option.{slice_get-get_or}
-use Rattle.cap_model.proofs.EdgeOrder.{not_before_self, same_edge_self, same_edge_true, same_edge-sym}
-use Rattle.cap_model.specs.Edges.{Before, same_edge}
-use Rattle.cap_model.specs.Tables.{IsSorted, has}
-use Rattle.cap_model.specs.declared.edge.Edge.{Edge}
 
 same_laws : IsEquivalence same_edge
 same_laws = record {

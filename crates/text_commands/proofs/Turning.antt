@@ -1,15 +1,8 @@
 -- Turns of inputs, with other counts: what was read stays so, and a read fault from a later count is one from an earlier.
-use Rattle.std.proofs.Common.{◌≡◌, ◌≤◌, ◌∙◌, ℕ, List, Option, Result, Ok, Err, inl, inr, arith, IsErr, IsErrAnd}
-use Rattle.cam_base.specs.declared.error.Refused.{Refused}
-use Rattle.cam_base.specs.declared.text_fault.TextCode.TheVariants.{TooLong}
+use Rattle.text_commands.proofs.Common.{Contents, Err, Fault, InputError, InputFault, IsErr, IsErrAnd, IsErrorOf, IsInput, IsTooLong, List, NoMemory, Ok, Option, ReadFault, Refused, Result, TooLong, Turn, arith, inl, inr, of_file, ℕ, ◌∙◌, ◌≡◌, ◌≤◌}
 use Rattle.cam_io.proofs.Counts.{rose_after}
 use Rattle.cam_io.specs.Causes.{NoneFell, Rose}
-use Rattle.cam_io.specs.Contents.{Contents}
 use Rattle.cam_io.specs.Reading.{KeepsFiles}
-use Rattle.text_commands.specs.Inputs.{IsErrorOf, IsInput, IsTooLong, Turn, of_file}
-use Rattle.text_commands.specs.declared.fault.InputError.{InputError}
-use Rattle.text_commands.specs.declared.fault.InputError.TheVariants.{Fault, ReadFault, NoMemory}
-use Rattle.text_commands.specs.declared.fault.InputFault.{InputFault}
 
 pub is_err : {A : Type 0} (r : Result A InputError) (e : InputError) → IsErr r → IsErrAnd r (λ y. y ≡ e) → r ≡ Err e
 is_err (Ok x) e is and = absurd cc

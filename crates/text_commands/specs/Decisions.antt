@@ -17,7 +17,7 @@ use Rattle.cap_audit.specs.declared.report.AuditReport.{AuditReport}
 use Rattle.cap_model.specs.Lookup.{name_at}
 use Rattle.cap_model.specs.declared.spec.Spec.{Spec}
 use Rattle.cap_audit.specs.Spread.{HoldsNoThread}
-use Rattle.policy_text.specs.EdgeLines.{Labels}
+use Rattle.policy_text.specs.EdgeLines.{LabelNames}
 use Rattle.least_cert.specs.LeastCertificate.{CloseRefused, IsLeast}
 use Rattle.least_cert.specs.declared.closing.CloseError.{CloseError}
 use Rattle.least_cert.specs.declared.closing.CloseError.TheVariants as closing
@@ -60,7 +60,7 @@ pub record HasReport (spec : Spec) (labels : List ℕ) (report : AuditReport) : 
   pub shown : IsReport spec labels report.edges report.steps
 
 -- the report of an auditable system, or why it is none
-abbrev pub IsAudit : List ℕ → Spec → List ℕ → Labels → Result Outcome InputError → Type 0
+abbrev pub IsAudit : List ℕ → Spec → List ℕ → LabelNames → Result Outcome InputError → Type 0
 IsAudit cdl spec labels names =
     Decided (tell_audit cdl spec)
     (λ outcome. (report : AuditReport) × (outcome ≡ Audited report spec names) × HasReport spec labels report)

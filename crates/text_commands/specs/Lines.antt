@@ -7,7 +7,7 @@ use Rattle.cap_audit.specs.declared.report.AuditReport.{AuditReport}
 use Rattle.cap_machine.specs.declared.step.Why.{Why}
 use Rattle.cap_machine.specs.declared.step.Why.TheVariants as why
 use Rattle.cap_model.specs.declared.spec.Spec.{Spec}
-use Rattle.policy_text.specs.EdgeLines.{Labels, apart_lines, edge_line}
+use Rattle.policy_text.specs.EdgeLines.{LabelNames, apart_lines, edge_line}
 use Rattle.step_text.specs.StepLines.{steps_text}
 use Rattle.text_commands.specs.Codes.{word_of, title_of}
 use Rattle.text_commands.specs.declared.fault.InputFault.{InputFault}
@@ -29,7 +29,7 @@ fault_line file fault = place_text file fault.first fault.end ⊹ code_text (wor
 
 -- ---- verdicts
 
-abbrev pub have_line : Labels → Option Edge → List ℕ
+abbrev pub have_line : LabelNames → Option Edge → List ℕ
 have_line labels None = []
 have_line labels (Some e) = edge_line (codes "have ") labels e
 
@@ -37,7 +37,7 @@ abbrev pub rule_line : ℕ → List ℕ
 rule_line rule = together (codes "no V" ∷ decimal rule ∷ codes "\n" ∷ [])
 
 -- `no V4`, the edges that the rule starts from, and the one that is lacking
-abbrev pub refusal_text : Labels → ℕ → List (Option Edge) → Edge → List ℕ
+abbrev pub refusal_text : LabelNames → ℕ → List (Option Edge) → Edge → List ℕ
 refusal_text labels rule have lack = rule_line rule ⊹ flat_map (have_line labels) have ⊹ edge_line (codes "lack ") labels lack
 
 -- ---- steps
@@ -72,7 +72,7 @@ abbrev pub count_line : ℕ → List ℕ
 count_line count = together (codes "ok " ∷ decimal count ∷ codes " steps\n" ∷ [])
 
 -- `ok 3 steps`, and the edges of the last state
-abbrev pub run_text : Labels → ℕ → List Edge → List ℕ
+abbrev pub run_text : LabelNames → ℕ → List Edge → List ℕ
 run_text labels count edges = count_line count ⊹ apart_lines labels edges
 
 -- ---- audits
@@ -81,6 +81,6 @@ abbrev pub reach_line : ℕ → ℕ → List ℕ
 reach_line edges steps = together (codes "reach " ∷ decimal edges ∷ codes " edges " ∷ decimal steps ∷ codes " steps\n" ∷ [])
 
 -- `reach 5 edges 6 steps`, the edges, and the steps
-abbrev pub report_text : Labels → Spec → AuditReport → List ℕ
+abbrev pub report_text : LabelNames → Spec → AuditReport → List ℕ
 report_text labels spec report =
     reach_line (length report.edges) (length report.steps) ⊹ apart_lines labels report.edges ⊹ steps_text spec report.steps

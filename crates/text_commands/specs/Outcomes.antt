@@ -4,7 +4,7 @@ use Rattle.boot_plan.specs.Texts.{plan_text}
 use Rattle.cert_check.specs.declared.verdict.Verdict.{Verdict}
 use Rattle.cert_check.specs.declared.verdict.Verdict.TheVariants.{Yes, No}
 use Rattle.sect_table.specs.Texts.{table_text}
-use Rattle.policy_text.specs.EdgeLines.{Labels}
+use Rattle.policy_text.specs.EdgeLines.{LabelNames}
 use Rattle.policy_text.specs.PolicyLines.{cert_text}
 use Rattle.text_commands.specs.Lines.{illegal_text, refusal_text, report_text, run_text}
 use Rattle.text_commands.specs.declared.outcome.Outcome.{Outcome}
@@ -12,11 +12,11 @@ use Rattle.text_commands.specs.declared.outcome.Outcome.TheVariants.{Audited, Ce
 use Rattle.text_commands.specs.declared.replay.Replayed.{Replayed}
 use Rattle.text_commands.specs.declared.replay.Replayed.TheVariants.{Done, Illegal}
 
-abbrev pub verdict_text : Labels → Verdict → List ℕ
+abbrev pub verdict_text : LabelNames → Verdict → List ℕ
 verdict_text labels Yes = codes "yes\n"
 verdict_text labels (No rule have lack) = refusal_text labels rule have lack
 
-abbrev pub replay_text : Labels → Replayed → List ℕ
+abbrev pub replay_text : LabelNames → Replayed → List ℕ
 replay_text labels (Done count edges) = run_text labels count edges
 replay_text labels (Illegal number why) = illegal_text number why
 
@@ -40,7 +40,4 @@ is_done (Illegal number why) = false
 abbrev pub is_well : Outcome → Bool
 is_well (Checked verdict labels) = is_yes verdict
 is_well (Ran replayed labels) = is_done replayed
-is_well (Tabled image) = true
-is_well (Audited report spec labels) = true
-is_well (Certified cert) = true
-is_well (Planned plan spec) = true
+is_well _ = true

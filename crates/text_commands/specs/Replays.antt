@@ -2,7 +2,7 @@
 -- refuses, counted from 1, and why.
 use Rattle.std.specs.Prelude.{◌≡◌, ◌+◌, ◌↔◌, ℕ, List, length, take, slice_get, Some}
 use Rattle.cap_model.specs.Tables.{Has, IsSorted}
-use Rattle.cap_model.specs.declared.authority.Authority.{Authority}
+use Rattle.authorities.specs.declared.authority.Authority.{Authority}
 use Rattle.cap_model.specs.declared.edge.Edge.{Edge}
 use Rattle.cap_machine.specs.Checks.{checks, first_failing}
 use Rattle.cap_machine.specs.Runs.{Run}

@@ -1,32 +1,34 @@
+ghost use Rattle.cam_io.specs.FileBytes.{with_bytes};
 ghost use Rattle.cam_io.specs.Reading.{InAll, KeepsFiles, LearnsOnly};
 ghost use Rattle.text_commands.specs.Codes.{tell_elf, tell_text, tell_untyped};
 ghost use Rattle.text_commands.specs.Inputs.{AlikeAsRead, IsErrorOf, IsInput, IsReadFaultOf, IsRefusalOf, of_file};
 
 use crate::{InputCode, InputError, InputFault};
 use boot_plan::UntypedFault;
-use cam_base::{List, NoMemory, Refused, Text, TextCode, TextFault};
-use cam_io::{Files, WholeError, read_whole};
+use cam_base::{NoMemory, Refused, Text, TextCode, TextFault};
+use cam_io::{FileBytes, Files, WholeError, see_whole};
 use sect_table::ElfFault;
 use std::alloc::Global;
 
 /// The most bytes of an input.
 const MOST_BYTES: u64 = 67_108_864;
 
-/// The bytes of an input: `specs/Inputs.antt`.
+/// Sees an input whole: `specs/Inputs.antt`.
 ///
 /// # Errors
 ///
 /// That it is absent or too long, that a read failed, or want of memory.
-pub fn read_input<F: Files>(
+pub fn see_input<F: Files>(
     alloc: Global,
     files: &mut F,
     name: &str,
-) -> Result<List<u8>, InputError>
+) -> Result<FileBytes, InputError>
     ensures kept { KeepsFiles F.told F.faults files.old files.new }
     ensures learned { LearnsOnly F.told (AlikeAsRead name.now) files.old files.new }
-    ensures input { InAll (F.told files.new) (λ m. IsInput m (F.faults files.old) (F.faults files.new) name.now result) }
+    ensures input { InAll (F.told files.new) (λ m. IsInput m (F.faults files.old) (F.faults files.new) name.now
+        (with_bytes result (F.lends files.new name.now))) }
 {
-    match read_whole(alloc, files, name, MOST_BYTES) {
+    match see_whole(alloc, files, name, MOST_BYTES) {
         Ok(bytes) => Ok(bytes),
         Err(WholeError::Absent) => Err(of_file(alloc, TextCode::NoFile, name)),
         Err(WholeError::TooLong) => Err(of_file(alloc, TextCode::TooLong, name)),

@@ -1,7 +1,7 @@
 //! Laws of the commands. These functions do nothing: what they ensure is the law.
 
 ghost use Rattle.cap_model.specs.Tables.{Has};
-ghost use Rattle.cap_model.specs.declared.authority.Authority.{Authority};
+ghost use Rattle.authorities.specs.declared.authority.Authority.{Authority};
 ghost use Rattle.cap_model.specs.declared.edge.Edge.{Edge};
 ghost use Rattle.cap_model.specs.declared.policy.Policy.{Policy as Allowed};
 ghost use Rattle.cam_base.specs.declared.error.Refused.{Refused};
@@ -12,7 +12,7 @@ ghost use Rattle.cap_audit.specs.declared.report.AuditReport.{AuditReport};
 ghost use Rattle.cap_machine.specs.declared.step.Step.{Step};
 ghost use Rattle.cap_model.specs.declared.spec.Spec.{Spec};
 ghost use Rattle.cert_check.specs.declared.verdict.Verdict.TheVariants.{Yes};
-ghost use Rattle.policy_text.specs.EdgeLines.{Labels as Names};
+ghost use Rattle.policy_text.specs.EdgeLines.{LabelNames};
 ghost use Rattle.sect_table.specs.TablesBack.{AreBytes};
 ghost use Rattle.sect_table.specs.Tables as tables;
 ghost use Rattle.sect_table.specs.declared.image.Image.{Image};
@@ -54,7 +54,7 @@ pub fn certificates_are_read_back()
         → IsCertified m old new cdl policy (Found (Certified least)) → Holds m cert (text_of (Certified least))
         → IsPolicy m later last policy (Found allowed) → IsCert m later last allowed cert (Found least) }
     ensures decides { (m : Contents) (old new later last : List ℕ → ℕ) (cdl policy cert other : List ℕ) (least : List Edge)
-        (names : Names) → IsCertified m old new cdl policy (Found (Certified least)) → Holds m cert (text_of (Certified least))
+        (names : LabelNames) → IsCertified m old new cdl policy (Found (Certified least)) → Holds m cert (text_of (Certified least))
         → IsChecked m later last cdl policy other (Found (Checked Yes names))
         → IsChecked m later last cdl policy cert (Found (Checked Yes names)) }
 {}
@@ -73,15 +73,15 @@ pub fn tables_are_read_back()
 /// all of them were made; and each edge that `audit` prints is one that `replay` prints for some front of the steps.
 pub fn audits_are_replayed()
     ensures readable { (m : Contents) (old new : List ℕ → ℕ) (cdl policy : List ℕ) (report : AuditReport) (spec : Spec)
-        (names : Names) → IsAudited m old new cdl policy (Found (Audited report spec names)) → length report.steps < 2 ^ 63
+        (names : LabelNames) → IsAudited m old new cdl policy (Found (Audited report spec names)) → length report.steps < 2 ^ 63
         → All (IsReadable spec) report.steps }
     ensures replayed { (m : Contents) (old new later last : List ℕ → ℕ) (cdl policy : List ℕ) (report : AuditReport) (spec : Spec)
-        (names : Names) → IsAudited m old new cdl policy (Found (Audited report spec names)) → length report.steps ≤ 100000
+        (names : LabelNames) → IsAudited m old new cdl policy (Found (Audited report spec names)) → length report.steps ≤ 100000
         → (steps : List ℕ) (answer : Answer Outcome InputError) → Holds m steps (steps_text spec report.steps) → IsAnswer answer
         → IsRun m later last cdl policy steps answer
         → (edges : List Edge) × (answer ≡ Found (Ran (Done (length report.steps) edges) names)) }
     ensures shown { (m : Contents) (old new later last : List ℕ → ℕ) (cdl policy : List ℕ) (report : AuditReport) (spec : Spec)
-        (names : Names) → IsAudited m old new cdl policy (Found (Audited report spec names)) → length report.steps ≤ 100000
+        (names : LabelNames) → IsAudited m old new cdl policy (Found (Audited report spec names)) → length report.steps ≤ 100000
         → (l : ℕ) (a : Authority) (x : ℕ) → Has report.edges l a x
         → (front back : List Step) × (report.steps ≡ front ++ back)
         × ((steps : List ℕ) (answer : Answer Outcome InputError) → Holds m steps (steps_text spec front) → IsAnswer answer

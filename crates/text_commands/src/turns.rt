@@ -11,7 +11,7 @@ ghost use Rattle.text_commands.specs.Commands.{AreRegions, AreSteps, IsCert, IsI
 ghost use Rattle.text_commands.specs.Inputs.{AlikeAsRead, IsTold};
 
 use crate::InputError;
-use crate::input::{read_input, refuse_elf, refuse_text, refuse_untyped};
+use crate::input::{refuse_elf, refuse_text, refuse_untyped, see_input};
 use boot_plan::{Untyped, read_untypeds};
 use cam_base::{List, Name};
 use cam_io::Files;
@@ -30,8 +30,8 @@ pub fn read_system<F: Files>(alloc: Global, files: &mut F, file: &str) -> Result
     ensures system { InAll (F.told files.new) (λ m. IsSystem m (F.faults files.old) (F.faults files.new) file.now result) }
     ensures kept_spec { IfOk result IsKept }
 {
-    let bytes = read_input(alloc, files, file)?;
-    match read_spec(alloc, bytes.as_slice()) {
+    let bytes = see_input(alloc, files, file)?;
+    match read_spec(alloc, bytes.lend(files, file)) {
         Ok(spec) => Ok(spec),
         Err(refusal) => Err(refuse_text(alloc, file, refusal)),
     }
@@ -44,8 +44,8 @@ pub fn read_labels<F: Files>(alloc: Global, files: &mut F, file: &str) -> Result
     ensures policy { InAll (F.told files.new) (λ m. IsPolicy m (F.faults files.old) (F.faults files.new) file.now result) }
     ensures apart { IfOk result (λ policy. NumbersDiffer policy.labels) }
 {
-    let bytes = read_input(alloc, files, file)?;
-    match read_policy(alloc, bytes.as_slice()) {
+    let bytes = see_input(alloc, files, file)?;
+    match read_policy(alloc, bytes.lend(files, file)) {
         Ok(policy) => Ok(policy),
         Err(refusal) => Err(refuse_text(alloc, file, refusal)),
     }
@@ -63,8 +63,8 @@ pub fn read_edges<F: Files>(
     ensures edges { InAll (F.told files.new) (λ m. IsCert m (F.faults files.old) (F.faults files.new) policy.now file.now
         result) }
 {
-    let bytes = read_input(alloc, files, file)?;
-    match read_cert(alloc, bytes.as_slice(), policy) {
+    let bytes = see_input(alloc, files, file)?;
+    match read_cert(alloc, bytes.lend(files, file), policy) {
         Ok(edges) => Ok(edges),
         Err(refusal) => Err(refuse_text(alloc, file, refusal)),
     }
@@ -84,8 +84,8 @@ pub fn read_run<F: Files>(
         result) }
     ensures few { IfOk result (λ steps. length steps ≤ 100000) }
 {
-    let bytes = read_input(alloc, files, file)?;
-    match read_steps(alloc, spec, bytes.as_slice()) {
+    let bytes = see_input(alloc, files, file)?;
+    match read_steps(alloc, spec, bytes.lend(files, file)) {
         Ok(steps) => Ok(steps),
         Err(refusal) => Err(refuse_text(alloc, file, refusal)),
     }
@@ -97,12 +97,12 @@ pub fn read_image<F: Files>(alloc: Global, files: &mut F, file: &str) -> Result<
     ensures learned { LearnsOnly F.told (AlikeAsRead file.now) files.old files.new }
     ensures image { InAll (F.told files.new) (λ m. IsImage m (F.faults files.old) (F.faults files.new) file.now result) }
 {
-    let bytes = read_input(alloc, files, file)?;
+    let bytes = see_input(alloc, files, file)?;
     let name = match Name::new(alloc, b"image") {
         Ok(name) => name,
         Err(_) => return Err(InputError::NoMemory),
     };
-    match read_elf(alloc, &name, bytes.as_slice()) {
+    match read_elf(alloc, &name, bytes.lend(files, file)) {
         Ok(image) => Ok(image),
         Err(refusal) => Err(refuse_elf(alloc, file, refusal)),
     }
@@ -120,8 +120,8 @@ pub fn read_regions<F: Files>(
     ensures few { IfOk result (λ regions. length regions ≤ 4096) }
     ensures sound { IfOk result (λ regions. are_regions regions ≡ true) }
 {
-    let bytes = read_input(alloc, files, file)?;
-    match read_untypeds(alloc, bytes.as_slice()) {
+    let bytes = see_input(alloc, files, file)?;
+    match read_untypeds(alloc, bytes.lend(files, file)) {
         Ok(regions) => Ok(regions),
         Err(refusal) => Err(refuse_untyped(alloc, file, refusal)),
     }

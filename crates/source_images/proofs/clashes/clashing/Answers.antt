@@ -1,9 +1,4 @@
-use Rattle.std.proofs.Common.{◌≡◌, ◌∙◌, rules, true, sym, ap, arith}
-use Rattle.std.specs.List.{list_any}
-use Rattle.std.proofs.lemmas.List.{length-set}
-use Rattle.name_tables.specs.Sharing.{shares}
-use Rattle.source_images.specs.SpaceFaults.{clashes_with}
-use Rattle.source_images.specs.ProgramsTold.{placed_told, sections_told}
+use Rattle.source_images.proofs.Common.{ap, arith, clashes_with, length-set, list_any, placed_told, rules, sections_told, shares, sym, true, ◌∙◌, ◌≡◌}
 use Rattle.source_images.proofs.Clashing.{all_marked, alone, any-shares, marked_turn, unmarked_turn}
 use Rattle.source_images.proofs.SectionsTold.{told_at}
 use Rattle.source_images.proofs.clashes.clashing.Goals as goal

@@ -1,7 +1,5 @@
-use Rattle.std.proofs.Common.{◌≡◌, ◌||◌, ℕ, false, drop, get_or, length}
-use Rattle.source_images.specs.ProgramsTold.{sections_told}
+use Rattle.source_images.proofs.Common.{clashes, drop, false, get_or, length, sections_told, ℕ, ◌||◌, ◌≡◌}
 use Rattle.source_images.proofs.Clashing.{clashes_among}
-use Rattle.source_images.specs.SpaceFaults.{clashes}
 use Rattle.source_images.proofs.clashes.clashing.Given as goal
 
 abbrev pub invariant-loop-placed : goal.invariant-loop-placed

@@ -1,5 +1,4 @@
-use Rattle.std.proofs.Common.{◌≡◌, ◌++◌, drop, map}
-use Rattle.source_images.specs.ProgramsTold.{region_of, sections_told}
+use Rattle.source_images.proofs.Common.{drop, map, region_of, sections_told, ◌++◌, ◌≡◌}
 use Rattle.source_images.proofs.clashes.regions.Given as goal
 
 abbrev pub invariant-loop-placed : goal.invariant-loop-placed

@@ -1,13 +1,5 @@
-use Rattle.std.proofs.Common.{◌≡◌, ◌∙◌, ◌<◌, ◌≤◌, get_or, length, ap, sym, subst}
-use Rattle.std.specs.List.{flat_map}
-use Rattle.std.proofs.lemmas.List.{at_drop_all}
-use Rattle.adl_meaning.specs.Faults.{noted}
-use Rattle.adl_meaning.proofs.Least.{noted-none}
+use Rattle.source_images.proofs.Common.{IsIn, ap, at_drop_all, domain_faults, flat_map, get_or, in_place, length, noted, noted-none, read_place, space_faults, subst, sym, ◌<◌, ◌∙◌, ◌≡◌, ◌≤◌}
 use Rattle.adl_meaning.proofs.Noting.{noted_each}
-use Rattle.cam_base.specs.Gather.{IsIn}
-use Rattle.cam_base.proofs.Gathered.{in_place}
-use Rattle.cam_base.proofs.NumberedLists.{read_place}
-use Rattle.source_images.specs.SpaceFaults.{domain_faults, space_faults}
 use Rattle.source_images.proofs.faults.first_space_fault.Goals as goal
 
 pub note_domain-requires-clause-leaves : goal.note_domain-requires-clause-leaves

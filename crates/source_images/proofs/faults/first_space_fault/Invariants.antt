@@ -1,7 +1,4 @@
-use Rattle.std.proofs.Common.{◌≡◌, drop, None}
-use Rattle.std.specs.List.{flat_map}
-use Rattle.adl_meaning.specs.Faults.{noted}
-use Rattle.source_images.specs.SpaceFaults.{domain_faults, space_faults}
+use Rattle.source_images.proofs.Common.{None, domain_faults, drop, flat_map, noted, space_faults, ◌≡◌}
 use Rattle.source_images.proofs.faults.first_space_fault.Given as goal
 
 abbrev pub invariant-loop-domain : goal.invariant-loop-domain

@@ -1,12 +1,4 @@
-use Rattle.std.proofs.Common.{◌≡◌, ◌∙◌, ◌<◌, get_or, false, ap, sym, subst}
-use Rattle.std.specs.Prelude.{OnOk}
-use Rattle.std.specs.List.{flat_map}
-use Rattle.adl_meaning.specs.Faults.{noted}
-use Rattle.cam_base.specs.Gather.{IsIn}
-use Rattle.cam_base.proofs.NumberedLists.{below}
-use Rattle.source_images.specs.Images.{sections_of}
-use Rattle.source_images.specs.SpaceFaults.{clashes, leaf_faults}
-use Rattle.source_images.specs.ProgramsTold.{sections_told}
+use Rattle.source_images.proofs.Common.{IsIn, OnOk, ap, below, clashes, false, flat_map, get_or, leaf_faults, noted, sections_of, sections_told, subst, sym, ◌<◌, ◌∙◌, ◌≡◌}
 use Rattle.source_images.proofs.Leaves.{same_tests}
 use Rattle.source_images.proofs.SectionsTold.{comes_from}
 use Rattle.source_images.proofs.faults.note_domain.Goals as goal

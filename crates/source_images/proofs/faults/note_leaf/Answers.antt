@@ -1,6 +1,4 @@
-use Rattle.std.proofs.Common.{◌≡◌, get_or, false, ap, sym, subst}
-use Rattle.std.specs.Prelude.{OnOk}
-use Rattle.adl_meaning.specs.Faults.{noted}
+use Rattle.source_images.proofs.Common.{OnOk, ap, false, get_or, noted, subst, sym, ◌≡◌}
 use Rattle.source_images.proofs.Leaves.{leaf_noted}
 use Rattle.source_images.proofs.faults.note_leaf.Goals as goal
 

@@ -1,4 +1,4 @@
-use Rattle.cam_base.proofs.Gathered.{listed_at}
+use Rattle.source_images.proofs.Common.{listed_at}
 use Rattle.source_images.proofs.faults.note_leaves.Goals as goal
 
 pub note_leaf-requires-clause-leaf : goal.note_leaf-requires-clause-leaf

@@ -1,7 +1,4 @@
-use Rattle.std.proofs.Common.{◌≡◌, drop, get_or, false}
-use Rattle.std.specs.List.{flat_map}
-use Rattle.adl_meaning.specs.Faults.{noted}
-use Rattle.source_images.specs.SpaceFaults.{leaf_faults}
+use Rattle.source_images.proofs.Common.{drop, false, flat_map, get_or, leaf_faults, noted, ◌≡◌}
 use Rattle.source_images.proofs.faults.note_leaves.Given as goal
 
 abbrev pub invariant-loop-leaf : goal.invariant-loop-leaf

@@ -1,6 +1,4 @@
-use Rattle.std.proofs.Common.{refl, sym, subst}
-use Rattle.source_images.specs.Numbered.{AreNumbered}
-use Rattle.source_images.specs.Found.{found_of, table_names}
+use Rattle.source_images.proofs.Common.{AreNumbered, found_of, refl, subst, sym, table_names}
 use Rattle.source_images.proofs.ImageNumbers.{images_numbered}
 use Rattle.source_images.proofs.TableReads.{found_count}
 use Rattle.source_images.proofs.laws.images_are_numbered.Goals as goal

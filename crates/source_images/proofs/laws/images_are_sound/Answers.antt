@@ -1,7 +1,4 @@
-use Rattle.std.proofs.Common.{◌∙◌, sym, ap}
-use Rattle.std.specs.List.{slice_get}
-use Rattle.source_images.specs.Found.{found_of}
-use Rattle.source_images.specs.Types.{types}
+use Rattle.source_images.proofs.Common.{ap, found_of, slice_get, sym, types, ◌∙◌}
 use Rattle.source_images.proofs.Soundness.{images_sound}
 use Rattle.source_images.proofs.laws.images_are_sound.Goals as goal
 

@@ -1,5 +1,4 @@
-use Rattle.std.proofs.Common.{◌≡◌}
-use Rattle.source_images.specs.Told.{merged}
+use Rattle.source_images.proofs.Common.{merged, ◌≡◌}
 use Rattle.source_images.proofs.merge.merge.Given as goal
 
 abbrev pub invariant-loop-reading : goal.invariant-loop-reading

@@ -1,7 +1,4 @@
-use Rattle.std.proofs.Common.{◌∙◌, ap}
-use Rattle.name_tables.specs.ByName.{found}
-use Rattle.source_images.specs.Told.{missing_by}
-use Rattle.source_images.specs.Types.{type_number, type_of}
+use Rattle.source_images.proofs.Common.{ap, found, missing_by, type_number, type_of, ◌∙◌}
 use Rattle.source_images.proofs.Typing.{noted_more, number_is}
 use Rattle.source_images.proofs.missing.first_missing.Goals as goal
 

@@ -1,8 +1,4 @@
-use Rattle.std.proofs.Common.{◌≡◌, take, None}
-use Rattle.std.specs.List.{flat_map}
-use Rattle.adl_meaning.specs.Faults.{noted}
-use Rattle.source_images.specs.Told.{missing_by}
-use Rattle.source_images.specs.Types.{type_number}
+use Rattle.source_images.proofs.Common.{None, flat_map, missing_by, noted, take, type_number, ◌≡◌}
 use Rattle.source_images.proofs.missing.first_missing.Given as goal
 
 abbrev pub invariant-loop-leaf : goal.invariant-loop-leaf

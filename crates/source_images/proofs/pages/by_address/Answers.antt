@@ -1,6 +1,4 @@
-use Rattle.std.proofs.Common.{rules}
-use Rattle.std.proofs.lemmas.List.Sorted.{IsNonDecreasingBy-from_sort_by_key}
-use Rattle.source_images.specs.ProgramsTold.{placed_told}
+use Rattle.source_images.proofs.Common.{IsNonDecreasingBy-from_sort_by_key, placed_told, rules}
 use Rattle.source_images.proofs.Apart.{address}
 use Rattle.source_images.proofs.InOrder.{sorted_told}
 use Rattle.source_images.proofs.pages.by_address.Goals as goal

@@ -1,7 +1,5 @@
-use Rattle.std.proofs.Common.{◌≡◌, ◌+◌, ◌∙◌, ap, append_assoc, ◌++◌, sym, ◌∷◌, [], map, arith}
-use Rattle.std.specs.List.{range_with_len}
+use Rattle.source_images.proofs.Common.{[], ap, append_assoc, arith, map, page_at, range_with_len, sym, ◌++◌, ◌+◌, ◌∙◌, ◌∷◌, ◌≡◌}
 use Rattle.std.proofs.lemmas.List.FromFn.{map-range_with_len_more}
-use Rattle.source_images.specs.ByAddress.{page_at}
 use Rattle.source_images.proofs.pages.push_pages.Goals as goal
 
 pub loop-number-preserved : goal.loop-number-preserved

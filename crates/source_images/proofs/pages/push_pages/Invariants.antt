@@ -1,6 +1,4 @@
-use Rattle.std.proofs.Common.{◌≡◌, ◌++◌, map}
-use Rattle.std.specs.List.{range_with_len}
-use Rattle.source_images.specs.ByAddress.{page_at}
+use Rattle.source_images.proofs.Common.{map, page_at, range_with_len, ◌++◌, ◌≡◌}
 use Rattle.source_images.proofs.pages.push_pages.Given as goal
 
 abbrev pub invariant-loop-number : goal.invariant-loop-number

@@ -1,8 +1,4 @@
-use Rattle.std.proofs.Common.{◌≡◌, ◌≤◌, ◌+◌, ◌-◌, ◌^◌, drop, map}
-use Rattle.std.specs.Prelude.{min, sum}
-use Rattle.source_images.specs.ByAddress.{section_page_count}
-use Rattle.source_images.specs.SectionPages.{page_count}
-use Rattle.source_images.specs.ProgramsTold.{sections_told}
+use Rattle.source_images.proofs.Common.{drop, map, min, page_count, section_page_count, sections_told, sum, ◌+◌, ◌-◌, ◌^◌, ◌≡◌, ◌≤◌}
 use Rattle.source_images.proofs.pages.section_page_count.Given as goal
 
 abbrev pub invariant-loop-placed : goal.invariant-loop-placed

@@ -1,10 +1,4 @@
-use Rattle.std.proofs.Common.{◌∙◌, ◌<◌, ◌++◌, length, map, ap, sym, subst}
-use Rattle.std.specs.List.{range_with_len}
-use Rattle.cam_base.proofs.NumberedLists.{below, read_place}
-use Rattle.source_images.specs.ByAddress.{page_at, pages_of}
-use Rattle.source_images.specs.Images.{sections_of}
-use Rattle.source_images.specs.SectionPages.{page_count}
-use Rattle.source_images.specs.ProgramsTold.{placed_told, sections_told}
+use Rattle.source_images.proofs.Common.{ap, below, length, map, page_at, page_count, pages_of, placed_told, range_with_len, read_place, sections_of, sections_told, subst, sym, ◌++◌, ◌<◌, ◌∙◌}
 use Rattle.source_images.proofs.InOrder.{name_is, ordered_at}
 use Rattle.source_images.proofs.SectionsTold.{comes_from, told_turn}
 use Rattle.source_images.proofs.pages.section_pages.Goals as goal

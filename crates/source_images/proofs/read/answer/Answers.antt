@@ -1,4 +1,4 @@
-use Rattle.std.proofs.Common.{ap}
+use Rattle.source_images.proofs.Common.{ap}
 use Rattle.source_images.proofs.Answering.{first_answer}
 use Rattle.source_images.proofs.read.answer.Goals as goal
 

@@ -1,6 +1,4 @@
-use Rattle.std.proofs.Common.{◌∙◌, ◌-◌, ap, arith, length, sym}
-use Rattle.std.specs.Prelude.{string_bytes}
-use Rattle.source_images.specs.declared.tables.Table.{Table}
+use Rattle.source_images.proofs.Common.{Table, ap, arith, length, string_bytes, sym, ◌-◌, ◌∙◌}
 use Rattle.source_images.proofs.Answering.{name_at_table, name_past, ok_as}
 use Rattle.source_images.proofs.read.file_name.Goals as goal
 

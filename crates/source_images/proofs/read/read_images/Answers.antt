@@ -1,7 +1,4 @@
-use Rattle.std.proofs.Common.{◌∙◌, ap, arith, length, subst, sym, Ok, Err}
-use Rattle.source_images.specs.Told.{AreTablesRead, IsAnswer, tables_told}
-use Rattle.cam_io.specs.Reading.{LearnsOnly}
-use Rattle.source_images.specs.Found.{AlikeInTables}
+use Rattle.source_images.proofs.Common.{AlikeInTables, AreTablesRead, Err, IsAnswer, LearnsOnly, Ok, ap, arith, length, subst, sym, tables_told, ◌∙◌}
 use Rattle.source_images.proofs.Answering.{answered, err_answered, files_named, tables_are}
 use Rattle.source_images.proofs.TableReads.{err_is, same_length}
 use Rattle.source_images.proofs.read.read_images.Goals as goal

@@ -1,5 +1,4 @@
-use Rattle.std.proofs.Common.{sym, subst, arith}
-use Rattle.source_images.specs.Told.{tables_told}
+use Rattle.source_images.proofs.Common.{arith, subst, sym, tables_told}
 use Rattle.source_images.proofs.TableReads.{AreRead, err_is, learns_more, none_read, tables_failed, tables_more}
 use Rattle.source_images.proofs.reading.read_tables.Goals as goal
 use Rattle.cam_io.proofs.Kept.{keeps_twice}

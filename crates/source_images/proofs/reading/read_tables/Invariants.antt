@@ -1,7 +1,5 @@
-use Rattle.cam_io.specs.Reading.{InAll, KeepsFiles, LearnsOnly}
+use Rattle.source_images.proofs.Common.{AlikeInTables, InAll, KeepsFiles, LearnsOnly, files_told, tables_told}
 use Rattle.source_images.proofs.TableReads.{AreRead}
-use Rattle.source_images.specs.Found.{AlikeInTables}
-use Rattle.source_images.specs.Told.{files_told, tables_told}
 use Rattle.source_images.proofs.reading.read_tables.Given as goal
 
 abbrev pub invariant-loop-number : goal.invariant-loop-number

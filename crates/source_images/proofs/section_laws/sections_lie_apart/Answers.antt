@@ -1,5 +1,4 @@
-use Rattle.source_images.specs.ByAddress.{section_pages}
-use Rattle.source_images.specs.Images.{arch_of}
+use Rattle.source_images.proofs.Common.{arch_of, section_pages}
 use Rattle.source_images.proofs.Free.{free_apart, free_inside}
 use Rattle.source_images.proofs.Rising.{Precedes, pages_inside, pages_rise, pairs_from_later}
 use Rattle.source_images.proofs.section_laws.sections_lie_apart.Goals as goal

@@ -1,7 +1,4 @@
-use Rattle.std.proofs.Common.{◌∷◌, []}
-use Rattle.cam_base.proofs.Gathered.{gather_turn}
-use Rattle.source_images.specs.Images.{placed}
-use Rattle.source_images.specs.ProgramsTold.{sections_told}
+use Rattle.source_images.proofs.Common.{[], gather_turn, placed, sections_told, ◌∷◌}
 use Rattle.source_images.proofs.SectionsTold.{told_push}
 use Rattle.source_images.proofs.sections.push_sections.Goals as goal
 

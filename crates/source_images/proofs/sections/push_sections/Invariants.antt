@@ -1,7 +1,4 @@
-use Rattle.std.proofs.Common.{◌≡◌, ◌∷◌, ◌++◌, [], take}
-use Rattle.cam_base.specs.Gather.{gather}
-use Rattle.source_images.specs.Images.{placed}
-use Rattle.source_images.specs.ProgramsTold.{sections_told}
+use Rattle.source_images.proofs.Common.{[], gather, placed, sections_told, take, ◌++◌, ◌∷◌, ◌≡◌}
 use Rattle.source_images.proofs.sections.push_sections.Given as goal
 
 abbrev pub invariant-loop-place : goal.invariant-loop-place

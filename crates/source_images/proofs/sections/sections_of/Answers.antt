@@ -1,7 +1,5 @@
-use Rattle.std.proofs.Common.{◌∙◌, ◌++◌, [], sym, ap, append-nil}
-use Rattle.cam_base.proofs.Gathered.{gather_turn}
-use Rattle.source_images.specs.Images.{is_run, sections_if}
-use Rattle.source_images.specs.ProgramsTold.{sections_told}
+use Rattle.source_images.proofs.Common.{[], ap, gather_turn, is_run, sections_if, sections_told, sym, ◌++◌, ◌∙◌}
+use Rattle.std.proofs.Common.{append-nil}
 use Rattle.source_images.proofs.sections.sections_of.Goals as goal
 use Rattle.source_images.proofs.sections.sections_of.Goals.{then-is_run+in_ok-push_sections, else-is_run}
 

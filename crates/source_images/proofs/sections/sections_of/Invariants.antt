@@ -1,7 +1,4 @@
-use Rattle.std.proofs.Common.{◌≡◌, take}
-use Rattle.cam_base.specs.Gather.{gather}
-use Rattle.source_images.specs.Images.{is_run, sections_if}
-use Rattle.source_images.specs.ProgramsTold.{sections_told}
+use Rattle.source_images.proofs.Common.{gather, is_run, sections_if, sections_told, take, ◌≡◌}
 use Rattle.source_images.proofs.sections.sections_of.Given as goal
 
 abbrev pub invariant-loop-number : goal.invariant-loop-number

@@ -1,4 +1,4 @@
-use Rattle.std.proofs.Common.{sym, lit<, None, Some}
+use Rattle.source_images.proofs.Common.{None, Some, lit<, sym}
 use Rattle.std.proofs.lemmas.Str.Pattern.{rfind_char}
 use Rattle.source_images.proofs.NameTexts.{folder_found, folder_of-none}
 use Rattle.source_images.proofs.tables.folder_of.Goals as goal

@@ -1,5 +1,4 @@
-use Rattle.std.proofs.Common.{sym, subst}
-use Rattle.std.specs.Str.{IsUtf8}
+use Rattle.source_images.proofs.Common.{IsUtf8, subst, sym}
 use Rattle.source_images.proofs.NameTexts.{name_utf8}
 use Rattle.source_images.proofs.tables.table_name.Goals as goal
 

@@ -1,5 +1,4 @@
-use Rattle.std.proofs.Common.{◌≡◌, map, take}
-use Rattle.source_images.specs.Told.{names_told, table_at, tables_told}
+use Rattle.source_images.proofs.Common.{map, names_told, table_at, tables_told, take, ◌≡◌}
 use Rattle.source_images.proofs.tables.tables_of.Given as goal
 
 abbrev pub invariant-loop-name : goal.invariant-loop-name

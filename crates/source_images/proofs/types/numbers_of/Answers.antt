@@ -1,6 +1,4 @@
-use Rattle.std.proofs.Common.{◌∙◌, ap, ◌++◌, ◌∷◌, []}
-use Rattle.name_tables.specs.ByName.{found}
-use Rattle.source_images.specs.Types.{type_number, type_of}
+use Rattle.source_images.proofs.Common.{[], ap, found, type_number, type_of, ◌++◌, ◌∙◌, ◌∷◌}
 use Rattle.source_images.proofs.Typing.{map_more, number_is}
 use Rattle.source_images.proofs.types.numbers_of.Goals as goal
 

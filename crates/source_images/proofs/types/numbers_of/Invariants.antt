@@ -1,5 +1,4 @@
-use Rattle.std.proofs.Common.{◌≡◌, map, take}
-use Rattle.source_images.specs.Types.{type_number}
+use Rattle.source_images.proofs.Common.{map, take, type_number, ◌≡◌}
 use Rattle.source_images.proofs.types.numbers_of.Given as goal
 
 abbrev pub invariant-loop-leaf : goal.invariant-loop-leaf

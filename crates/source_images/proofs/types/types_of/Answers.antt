@@ -1,10 +1,4 @@
-use Rattle.std.proofs.Common.{◌∙◌, ◌++◌, sym, ap, arith, length}
-use Rattle.std.specs.List.{filter_map, position}
-use Rattle.std.specs.Str.{bytes_eq}
-use Rattle.adl_meaning.specs.Lists.{firsts}
-use Rattle.name_tables.specs.ByName.{found}
-use Rattle.source_images.specs.Told.{names_told}
-use Rattle.source_images.specs.Types.{type_of}
+use Rattle.source_images.proofs.Common.{ap, arith, bytes_eq, filter_map, firsts, found, length, names_told, position, sym, type_of, ◌++◌, ◌∙◌}
 use Rattle.source_images.proofs.Typing.{behind, few_more, firsts-behind, leaf_typed, leaf_untyped}
 use Rattle.source_images.proofs.types.types_of.Goals as goal
 use Rattle.source_images.proofs.types.types_of.Goals.{in-Some+in_ok-add, in_default}

@@ -1,10 +1,5 @@
-use Rattle.std.proofs.Common.{◌≡◌, ◌≤◌, ◌++◌, ℕ, List, drop, length}
-use Rattle.std.specs.List.{filter_map, position}
-use Rattle.std.specs.Str.{bytes_eq}
-use Rattle.name_tables.specs.ByName.{found}
+use Rattle.source_images.proofs.Common.{List, bytes_eq, drop, filter_map, found, length, names_told, position, type_of, types, ℕ, ◌++◌, ◌≡◌, ◌≤◌}
 use Rattle.source_images.proofs.Typing.{behind}
-use Rattle.source_images.specs.Told.{names_told}
-use Rattle.source_images.specs.Types.{type_of, types}
 use Rattle.source_images.proofs.types.types_of.Given as goal
 
 abbrev pub invariant-loop-leaf : goal.invariant-loop-leaf

@@ -1,8 +1,5 @@
-use Rattle.std.proofs.Common.{inl, inr, refl, subst, Ok, Err}
+use Rattle.text_commands.proofs.Common.{Err, IsAudit, IsPolicyRead, Ok, inl, inr, refl, subst, tell_text}
 use Rattle.capdl_text.specs.Texts as capdl
-use Rattle.policy_text.specs.PolicyTexts.{IsPolicyRead}
-use Rattle.text_commands.specs.Codes.{tell_text}
-use Rattle.text_commands.specs.Decisions.{IsAudit}
 use Rattle.text_commands.proofs.Turning.{is_err, turn_after, turn_until}
 use Rattle.text_commands.proofs.commands.audit_texts.Goals as goal
 

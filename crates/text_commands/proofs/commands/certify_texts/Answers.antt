@@ -1,7 +1,5 @@
-use Rattle.std.proofs.Common.{inl, inr, refl, Ok, Err}
+use Rattle.text_commands.proofs.Common.{Err, IsPolicyRead, Ok, inl, inr, refl, tell_text}
 use Rattle.capdl_text.specs.Texts as capdl
-use Rattle.policy_text.specs.PolicyTexts.{IsPolicyRead}
-use Rattle.text_commands.specs.Codes.{tell_text}
 use Rattle.text_commands.proofs.Turning.{is_err, turn_after, turn_until}
 use Rattle.text_commands.proofs.commands.certify_texts.Goals as goal
 

@@ -1,11 +1,7 @@
-use Rattle.std.proofs.Common.{inl, inr, refl, ap, Ok, Err}
+use Rattle.text_commands.proofs.Common.{Checked, Err, IsCertRead, IsPolicyRead, Ok, ap, inl, inr, keeps_twice, refl, tell_text}
 use Rattle.capdl_text.specs.Texts as capdl
-use Rattle.policy_text.specs.PolicyTexts.{IsCertRead, IsPolicyRead}
-use Rattle.text_commands.specs.Codes.{tell_text}
-use Rattle.text_commands.specs.declared.outcome.Outcome.TheVariants.{Checked}
 use Rattle.text_commands.proofs.Turning.{is_err, turn_after, turn_until}
 use Rattle.text_commands.proofs.commands.check_texts.Goals as goal
-use Rattle.cam_io.proofs.Kept.{keeps_twice}
 
 pub returns-in_err-spec-clause-checked : goal.returns-in_err-spec-clause-checked
 returns-in_err-spec-clause-checked g c m told =

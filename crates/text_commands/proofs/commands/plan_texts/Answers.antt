@@ -1,7 +1,6 @@
-use Rattle.std.proofs.Common.{inl, inr, refl, Ok, Err}
+use Rattle.text_commands.proofs.Common.{Err, Ok, inl, inr, refl, tell_text, tell_untyped}
 use Rattle.boot_plan.specs.UntypedTexts as untypeds
 use Rattle.capdl_text.specs.Texts as capdl
-use Rattle.text_commands.specs.Codes.{tell_text, tell_untyped}
 use Rattle.text_commands.proofs.Turning.{is_err, turn_after, turn_until}
 use Rattle.text_commands.proofs.commands.plan_texts.Goals as goal
 

@@ -1,14 +1,8 @@
-use Rattle.std.proofs.Common.{inl, inr, refl, ap, subst, Ok, Err}
+use Rattle.text_commands.proofs.Common.{Err, IsPolicyRead, IsReplayed, NoMemory, Ok, Ran, ap, inl, inr, keeps_twice, refl, subst, tell_text}
 use Rattle.capdl_text.specs.Texts as capdl
-use Rattle.policy_text.specs.PolicyTexts.{IsPolicyRead}
 use Rattle.step_text.specs.StepTexts as steps
-use Rattle.text_commands.specs.Codes.{tell_text}
-use Rattle.text_commands.specs.Replays.{IsReplayed}
-use Rattle.text_commands.specs.declared.fault.InputError.TheVariants.{NoMemory}
-use Rattle.text_commands.specs.declared.outcome.Outcome.TheVariants.{Ran}
 use Rattle.text_commands.proofs.Turning.{is_err, turn_after, turn_until}
 use Rattle.text_commands.proofs.commands.replay_texts.Goals as goal
-use Rattle.cam_io.proofs.Kept.{keeps_twice}
 
 pub returns-in_err-spec-clause-ran : goal.returns-in_err-spec-clause-ran
 returns-in_err-spec-clause-ran g c m told =

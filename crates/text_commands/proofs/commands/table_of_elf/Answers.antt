@@ -1,4 +1,4 @@
-use Rattle.std.proofs.Common.{inr, refl}
+use Rattle.text_commands.proofs.Common.{inr, refl}
 use Rattle.text_commands.proofs.Turning.{is_err}
 use Rattle.text_commands.proofs.commands.table_of_elf.Goals as goal
 

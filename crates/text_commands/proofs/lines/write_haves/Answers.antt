@@ -1,8 +1,4 @@
-use Rattle.std.proofs.Common.{arith}
-use Rattle.std.proofs.lemmas.List.{get_or_default}
-use Rattle.cam_io.proofs.Lines.{lines_begin, lines_end, lines_fail, lines_step}
-use Rattle.cam_io.proofs.Sequence.{writes_exit}
-use Rattle.text_commands.specs.Lines.{have_line}
+use Rattle.text_commands.proofs.Common.{arith, get_or_default, have_line, lines_begin, lines_end, lines_fail, lines_step, writes_exit}
 use Rattle.text_commands.proofs.lines.write_haves.Goals as goal
 
 pub loop-edge-init : goal.loop-edge-init

@@ -1,7 +1,4 @@
-use Rattle.std.proofs.Common.{take}
-use Rattle.std.specs.List.{flat_map}
-use Rattle.cam_io.proofs.Lines.{Wrote}
-use Rattle.text_commands.specs.Lines.{have_line}
+use Rattle.text_commands.proofs.Common.{Wrote, flat_map, have_line, take}
 use Rattle.text_commands.proofs.lines.write_haves.Given as goal
 
 abbrev pub invariant-loop-edge : goal.invariant-loop-edge

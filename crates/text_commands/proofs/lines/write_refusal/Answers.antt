@@ -1,4 +1,4 @@
-use Rattle.cam_io.proofs.Sequence.{writes_after, writes_first, writes_exit, open_still}
+use Rattle.text_commands.proofs.Common.{open_still, writes_after, writes_exit, writes_first}
 use Rattle.text_commands.proofs.lines.write_refusal.Goals as goal
 
 pub returns-in_err-write_rule : goal.returns-in_err-write_rule

@@ -1,9 +1,5 @@
-use Rattle.std.proofs.Common.{◌∙◌, ◌∷◌, [], Some, ap, sym, subst, refl, arith, take, take_all}
-use Rattle.std.proofs.lemmas.List.{take_more}
-use Rattle.std.proofs.lemmas.Option.{slice_get-get_or}
+use Rattle.text_commands.proofs.Common.{Run, Some, [], ap, arith, boot, refl, slice_get-get_or, subst, sym, take, take_all, take_more, ◌∙◌, ◌∷◌}
 use Rattle.cap_audit.proofs.Quiet.{run_append}
-use Rattle.cap_machine.specs.Runs.{Run}
-use Rattle.cap_model.specs.State.{boot}
 use Rattle.text_commands.proofs.Running.{refused_is}
 use Rattle.text_commands.proofs.replay.replay.Goals as goal
 

@@ -1,7 +1,4 @@
-use Rattle.std.proofs.Common.{◌≡◌, take}
-use Rattle.cap_machine.specs.Runs.{Run}
-use Rattle.cap_model.specs.FitsSpec.{FitsSpec}
-use Rattle.cap_model.specs.State.{boot}
+use Rattle.text_commands.proofs.Common.{FitsSpec, Run, boot, take, ◌≡◌}
 use Rattle.text_commands.proofs.replay.replay.Given as goal
 
 abbrev pub invariant-loop-place : goal.invariant-loop-place

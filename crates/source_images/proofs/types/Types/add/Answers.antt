@@ -1,5 +1,4 @@
-use Rattle.std.proofs.Common.{rules}
-use Rattle.name_tables.specs.ByName.{found}
+use Rattle.source_images.proofs.Common.{found, rules}
 use Rattle.source_images.proofs.Typing.{number_new}
 use Rattle.source_images.proofs.types.Types.add.Goals as goal
 
