@@ -1,51 +1,18 @@
 -- What the parts of a compilation answer is what the whole answers.
-use Rattle.std.proofs.Common.{◌≡◌, ◌∙◌, ℕ, List, Option, Some, None, Result, Ok, Err, refl, sym, ap, subst, inl, inr, is_some}
-use Rattle.std.specs.List.{slice_get}
-use Rattle.std.specs.Option.{option_or}
-use Rattle.std.specs.Prelude.{if◌then◌else◌, IfOk}
-use Rattle.adl_ast.specs.declared.source.Source.{Source}
+use Rattle.arch_compile.proofs.Common.{AreImagesOf, AreImagesRead, AreNumbered, Assigns, Build, BuildError, Builds, Completes, Contents, Err, Fault, Finishes, Flat, Found, HasMeaning, IfOk, Images, IsAssigned, IsBuildOf, IsBuiltOf, IsCompiled}
+use Rattle.arch_compile.proofs.Common.{IsImaged, IsLaid, IsMade, IsMeaningOf, IsMeant, IsRefusal, IsRefused, Layout, Lays, List, None, NoneFell, Ok, Option, Refuses, Result, Rose, Settled, Some, Source, Tells, ap, file_of, first_edge_fault}
+use Rattle.arch_compile.proofs.Common.{first_fault, first_front_fault, first_imaged_fault, first_laid_fault, first_layout_fault, first_page_limit, first_slot_fault, first_space_fault, first_table_fault, flat_of, found_beside, found_count, found_of}
+use Rattle.arch_compile.proofs.Common.{given, if◌then◌else◌, images_beside, images_from, images_numbered, images_sound, inl, inr, is_some, label_numbers, name_of_file, not_imaged, option_or, refl, refused_tells, root_of, rose_after, second_is}
+use Rattle.arch_compile.proofs.Common.{slice_get, source_tables, spaced, subst, sym, table_names, tables_beside, types, ℕ, ◌∙◌, ◌≡◌}
 use Rattle.adl_meaning.specs.Faults.{Refuses as RefusesAs}
-use Rattle.adl_meaning.specs.Flat.{flat_of}
-use Rattle.adl_meaning.specs.declared.flat.Flat.{Flat}
-use Rattle.adl_meaning.specs.declared.settled.Settled.{Settled}
-use Rattle.arch_compile.specs.Built.{IsBuildOf, IsMade}
-use Rattle.arch_compile.specs.Compiled.{IsCompiled, IsRefusal}
-use Rattle.arch_compile.specs.LayoutFaults.{file_of, first_fault, first_imaged_fault, first_layout_fault, found_beside, images_beside, images_from, root_of, spaced, tables_beside}
-use Rattle.arch_compile.specs.Steps.{Builds, Completes, Finishes, IsBuiltOf, IsImaged, IsLaid, Lays, first_laid_fault, not_imaged}
-use Rattle.arch_compile.specs.declared.building.Build.{Build}
-use Rattle.arch_compile.specs.declared.laying.Layout.{Layout}
-use Rattle.arch_policy.specs.Labels.{label_numbers}
-use Rattle.arch_policy.specs.Policies.{first_edge_fault}
 use Rattle.cam_base.specs.declared.error.Refused.{Refused}
-use Rattle.cam_base.specs.declared.place.Fault.{Fault}
-use Rattle.cam_io.proofs.Counts.{rose_after}
-use Rattle.cam_io.specs.Causes.{NoneFell, Rose}
-use Rattle.cam_io.specs.Contents.{Contents}
-use Rattle.cspace_layout.specs.SlotFaults.{first_slot_fault}
-use Rattle.front_end.proofs.Refusing.{refused_tells, second_is}
-use Rattle.front_end.specs.First.{first_front_fault, name_of_file, source_tables}
-use Rattle.front_end.specs.Fronts.{IsAssigned, IsMeaningOf, IsMeant}
-use Rattle.front_end.specs.Refusals.{IsRefused, Refuses}
-use Rattle.front_end.specs.Steps.{Assigns, IsSound, Tells}
-use Rattle.front_end.specs.declared.error.BuildError.{BuildError}
 use Rattle.front_end.specs.declared.error.BuildError.TheVariants as error
 use Rattle.front_end.specs.declared.phases.FrontEnd.{FrontEnd}
 use Rattle.front_end.specs.declared.phases.Meaning.{Meaning}
 use Rattle.cspace_layout.specs.Within.{IsWithin}
-use Rattle.source_images.specs.Numbered.{AreNumbered}
-use Rattle.source_images.specs.SpaceFaults.{first_space_fault}
-use Rattle.source_images.specs.declared.images.Images.{Images}
-use Rattle.source_images.proofs.ImageNumbers.{images_numbered}
-use Rattle.source_images.proofs.TableReads.{found_count}
-use Rattle.source_images.proofs.Soundness.{images_sound}
-use Rattle.source_images.specs.Found.{Found, found_of, table_names}
-use Rattle.source_images.specs.ImagesRead.{AreImagesOf, AreImagesRead}
-use Rattle.source_images.specs.TableFaults.{first_table_fault, name_of_file as name_with_tables}
-use Rattle.source_images.specs.Types.{types}
+use Rattle.source_images.specs.TableFaults.{name_of_file as name_with_tables}
 use Rattle.source_images.specs.declared.error.ImagesError.{ImagesError}
 use Rattle.source_images.specs.declared.error.ImagesError.TheVariants as imaging
-use Rattle.vspace_layout.specs.Given.{given}
-use Rattle.vspace_layout.specs.PageLimits.{first_page_limit}
 
 -- ---- of a front
 
@@ -56,9 +23,9 @@ carried P m f a p =
     subst (λ z. P z f.flat f.settled) (sym a.0) (subst (λ z. P m.source z f.settled) (sym a.1)
     (subst (λ z. P m.source m.flat z) (sym a.2) p))
 
-pub front_sound : (m : Meaning) (f : FrontEnd) → Assigns m (Ok f) → IsSound m.source m.flat m.settled
-    → IsSound f.source f.flat f.settled
-front_sound m f a sound = carried IsSound m f a sound
+pub front_sound : (m : Meaning) (f : FrontEnd) → Assigns m (Ok f) → HasMeaning m.source m.flat m.settled
+    → HasMeaning f.source f.flat f.settled
+front_sound m f a sound = carried HasMeaning m f a sound
 
 pub front_assigned : (m : Meaning) (f : FrontEnd) → Assigns m (Ok f) → IsAssigned f.source f.policy
 front_assigned m f a = subst (λ z. IsAssigned z f.policy) (sym a.0) a.4

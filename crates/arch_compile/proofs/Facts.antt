@@ -1,35 +1,11 @@
 -- What is known of a build: that no fault of any phase stands in its source and its section tables.
-use Rattle.std.proofs.Common.{◌≡◌, List, ℕ, None, refl}
-use Rattle.std.specs.Option.{option_or}
-use Rattle.adl_ast.specs.declared.source.Source.{Source}
+use Rattle.arch_compile.proofs.Common.{AreImagesOf, AreNumbered, AreSound, Build, Contents, Images, IsBuildOf, IsFaultless, IsWhole, List, None, Source, faultless, first_edge_fault, first_front_fault, first_imaged_fault, first_layout_fault}
+use Rattle.arch_compile.proofs.Common.{first_page_limit, first_slot_fault, first_space_fault, first_table_fault, flat_of, found_beside, found_count, images_beside, images_numbered, images_sound, no_first, no_second, option_or, refl, root_of}
+use Rattle.arch_compile.proofs.Common.{settled_of, sound_within, source_tables, spaced, table_names, types, ℕ, ◌≡◌}
 use Rattle.adl_hierarchy.specs.Spelled.{AreSpelled}
-use Rattle.adl_meaning.specs.Flat.{flat_of}
-use Rattle.adl_settings.specs.Settled.{settled_of}
-use Rattle.arch_compile.specs.Built.{IsBuildOf}
-use Rattle.arch_compile.specs.LayoutFaults.{first_imaged_fault, first_layout_fault, found_beside, images_beside, root_of, spaced}
-use Rattle.arch_compile.specs.declared.building.Build.{Build}
-use Rattle.arch_policy.specs.Policies.{first_edge_fault}
-use Rattle.cam_io.specs.Contents.{Contents}
-use Rattle.cspace_layout.specs.SlotFaults.{first_slot_fault}
-use Rattle.flat_laws.proofs.FewEnds.{no_first}
 use Rattle.flat_laws.specs.ShortFiles.{AreFilesShort}
 use Rattle.front_end.proofs.LoadedShort.{short_spelled}
 use Rattle.front_end.proofs.LoadedWhole.{loaded_whole}
-use Rattle.front_end.proofs.Sound.{IsFaultless, faultless, no_second}
-use Rattle.front_end.proofs.Within.{sound_within}
-use Rattle.front_end.specs.First.{first_front_fault, source_tables}
-use Rattle.front_end.specs.Steps.{IsWhole}
-use Rattle.source_images.specs.Numbered.{AreNumbered, AreSound}
-use Rattle.source_images.specs.SpaceFaults.{first_space_fault}
-use Rattle.source_images.specs.declared.images.Images.{Images}
-use Rattle.source_images.specs.Found.{table_names}
-use Rattle.source_images.proofs.ImageNumbers.{images_numbered}
-use Rattle.source_images.proofs.TableReads.{found_count}
-use Rattle.source_images.proofs.Soundness.{images_sound}
-use Rattle.source_images.specs.ImagesRead.{AreImagesOf}
-use Rattle.source_images.specs.TableFaults.{first_table_fault}
-use Rattle.source_images.specs.Types.{types}
-use Rattle.vspace_layout.specs.PageLimits.{first_page_limit}
 
 pub record AreFacts (contents : Contents) (s : Source) (images : Images) : Type 0 where
   pub short : AreFilesShort s

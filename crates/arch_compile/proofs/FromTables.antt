@@ -1,33 +1,9 @@
 -- What is made of tables is what is made of a source.
-use Rattle.std.proofs.Common.{◌≡◌, ◌∙◌, ◌<◌, ◌^◌, List, length, sym, ap, subst, arith}
-use Rattle.std.proofs.lemmas.List.{length-map}
-use Rattle.adl_ast.specs.declared.source.Source.{Source}
-use Rattle.adl_meaning.specs.Flat.{flat_of}
-use Rattle.adl_meaning.specs.declared.flat.Flat.{Flat}
-use Rattle.adl_meaning.specs.declared.settled.Settled.{Settled}
-use Rattle.arch_compile.specs.Built.{IsMade, system_tables}
-use Rattle.arch_compile.specs.Steps.{IsLaid, IsMadeOf, policy_tables}
-use Rattle.arch_compile.specs.declared.laying.Layout.{Layout}
+use Rattle.arch_compile.proofs.Common.{Flat, Images, IsAssigned, IsBuildable, IsLaid, IsMade, IsMadeOf, IsMeant, IsPolicyOf, IsSorted, IsWindowed, Layout, List, Policy, Settled, Source, Spec, Tables, ap, arith, entry, flat_of, given, label_numbers}
+use Rattle.arch_compile.proofs.Common.{labels_of, length, length-map, parts, policy_tables, slots_of, source_tables, spaces_of, spec_of, subst, sym, system_tables, tables_from, ◌<◌, ◌^◌, ◌∙◌, ◌≡◌}
 use Rattle.arch_compile.specs.declared.making.Made.{Made}
-use Rattle.arch_policy.specs.Labels.{label_numbers}
-use Rattle.arch_policy.specs.Policies.{IsPolicyOf}
 use Rattle.arch_policy.specs.declared.numbers.LabelNumbers.{LabelNumbers}
-use Rattle.cap_model.specs.Tables.{IsSorted}
-use Rattle.cap_model.specs.declared.policy.Policy.{Policy}
-use Rattle.cap_model.specs.declared.spec.Spec.{Spec}
-use Rattle.cspace_layout.specs.Uses.{slots_of}
 use Rattle.cspace_layout.specs.declared.plan.Slots.{Slots}
-use Rattle.front_end.specs.First.{source_tables}
-use Rattle.front_end.specs.Fronts.{IsAssigned, IsMeant}
-use Rattle.source_images.specs.declared.images.Images.{Images}
-use Rattle.system_spec.specs.Buildable.{IsBuildable}
-use Rattle.system_spec.specs.Made.{entry, labels_of, spec_of}
-use Rattle.system_spec.specs.Parts.{parts}
-use Rattle.system_spec.specs.Tables.{Tables}
-use Rattle.system_spec.specs.TablesFrom.{tables_from}
-use Rattle.system_spec.specs.Windowed.{IsWindowed}
-use Rattle.vspace_layout.specs.Given.{given}
-use Rattle.vspace_layout.specs.Laid.{spaces_of}
 use Rattle.vspace_layout.specs.declared.spaces.Spaces.{Spaces}
 
 pub few_objects : (t : Tables) (spec : Spec) → IsBuildable t → spec ≡ spec_of t → length spec.entries < 2 ^ 32

@@ -1,27 +1,8 @@
 -- What layouts ask of a source without faults.
-use Rattle.std.proofs.Common.{◌≡◌, None, sym, subst}
-use Rattle.adl_ast.specs.declared.source.Source.{Source}
-use Rattle.adl_meaning.specs.Flat.{flat_of}
-use Rattle.adl_meaning.specs.declared.flat.Flat.{Flat}
-use Rattle.adl_meaning.specs.declared.settled.Settled.{Settled}
-use Rattle.adl_settings.specs.Settled.{settled_of}
-use Rattle.arch_compile.specs.Steps.{IsImaged, IsLaid}
-use Rattle.arch_compile.specs.declared.laying.Layout.{Layout}
-use Rattle.cspace_layout.specs.SlotFaults.{first_slot_fault}
-use Rattle.cspace_layout.specs.Uses.{slots_of}
-use Rattle.front_end.proofs.Sound.{faultless}
-use Rattle.front_end.specs.Fronts.{IsMeant}
-use Rattle.front_end.specs.Steps.{IsSound}
-use Rattle.source_images.specs.SpaceFaults.{first_space_fault}
-use Rattle.source_images.specs.declared.images.Images.{Images}
+use Rattle.arch_compile.proofs.Common.{Flat, HasMeaning, Images, IsBuildable, IsImaged, IsLaid, IsMeant, IsWindowed, Layout, None, Settled, Source, faultless, first_page_limit, first_slot_fault, first_space_fault, flat_of, given, settled_of}
+use Rattle.arch_compile.proofs.Common.{slots_of, spaces_of, subst, sym, tables_from, ◌≡◌}
 use Rattle.spec_laws.proofs.Bounds.{can_build, can_lay, can_map}
-use Rattle.system_spec.specs.Buildable.{IsBuildable}
-use Rattle.system_spec.specs.TablesFrom.{tables_from}
-use Rattle.system_spec.specs.Windowed.{IsWindowed}
 use Rattle.vspace_layout.specs.CanLay.{CanLay}
-use Rattle.vspace_layout.specs.Given.{given}
-use Rattle.vspace_layout.specs.Laid.{spaces_of}
-use Rattle.vspace_layout.specs.PageLimits.{first_page_limit}
 
 meant_at : (P : Flat → Settled → Type 0) (s : Source) (flat : Flat) (settled : Settled) → IsMeant s flat settled
     → P (flat_of s) (settled_of s) → P flat settled
@@ -34,7 +15,7 @@ Buildable s images flat settled =
     → first_page_limit (given s flat settled images) ≡ None
     → IsBuildable (tables_from s flat settled images)
 
-module _ (s : Source) (flat : Flat) (settled : Settled) (images : Images) (sound : IsSound s flat settled) where
+module _ (s : Source) (flat : Flat) (settled : Settled) (images : Images) (sound : HasMeaning s flat settled) where
   pub sound_lays : CanLay (given s flat settled images)
   sound_lays =
       let is = faultless s sound.none in

@@ -1,3 +1,4 @@
+pub mod Common
 pub mod Compiling
 pub mod Facts
 mod FromTables

@@ -1,15 +1,10 @@
 -- What the tables of a source without faults, and of its images, are fit for.
-use Rattle.adl_ast.specs.declared.source.Source.{Source}
-use Rattle.arch_compile.specs.Built.{system_tables}
-use Rattle.cam_io.specs.Contents.{Contents}
-use Rattle.cap_model.specs.Kept.{IsKept}
-use Rattle.source_images.specs.declared.images.Images.{Images}
+use Rattle.arch_compile.proofs.Common.{Contents, Images, IsKept, Source, spec_of, system_tables}
 use Rattle.spec_laws.proofs.Fits.{tables_are_fit}
 use Rattle.spec_laws.proofs.Keeping.{spec_kept}
 use Rattle.spec_laws.proofs.SourceConnected.{tables_are_connected}
 use Rattle.spec_laws.specs.Connected.{IsConnected}
 use Rattle.spec_laws.specs.Fit.{IsFit}
-use Rattle.system_spec.specs.Made.{spec_of}
 use Rattle.arch_compile.proofs.Facts.{AreFacts}
 
 module _ {contents : Contents} (s : Source) (images : Images) (facts : AreFacts contents s images) where

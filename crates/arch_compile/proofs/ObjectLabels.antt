@@ -1,7 +1,5 @@
 -- The labels of objects, from their lines.
-use Rattle.std.proofs.Common.{◌≡◌, ℕ, List, [], ◌∷◌, length, map, refl, ap, arith}
-use Rattle.arch_compile.specs.Built.{labelled}
-use Rattle.cap_model.specs.declared.spec.Entry.{Entry}
+use Rattle.arch_compile.proofs.Common.{Entry, List, [], ap, arith, labelled, length, map, refl, ℕ, ◌∷◌, ◌≡◌}
 
 -- the labels that stand beside names, in order
 pub labels_beside : (entries : List Entry) (labels : List ℕ) → length entries ≡ length labels

@@ -1,15 +1,8 @@
 -- Builds are those of their source: slots and images are told of its tables, from which its spec and its map are made.
-use Rattle.std.proofs.Common.{◌≡◌, List, ℕ, sym, ap, subst}
-use Rattle.adl_ast.specs.declared.source.Source.{Source}
-use Rattle.arch_compile.specs.Built.{IsBuildOf, system_tables}
-use Rattle.arch_compile.specs.LayoutFaults.{images_beside}
-use Rattle.arch_compile.specs.declared.building.Build.{Build}
+use Rattle.arch_compile.proofs.Common.{Build, Contents, Images, IsBuildOf, IsOfSource, List, Source, ap, images_beside, labels_of, object_labels, spec_of, subst, sym, system_tables, ℕ, ◌≡◌}
 use Rattle.cap_model.specs.declared.object_labels.Labels.{Labels}
 use Rattle.arch_compile.proofs.Facts.{AreFacts, build_facts}
 use Rattle.arch_compile.proofs.Soundness.{labels_are}
-use Rattle.arch_compile.specs.Sound.{object_labels}
-use Rattle.cam_io.specs.Contents.{Contents}
-use Rattle.source_images.specs.declared.images.Images.{Images}
 use Rattle.spec_laws.proofs.HavingImages.{programs_have_images}
 use Rattle.spec_laws.proofs.Maps.{tables_can_map}
 use Rattle.spec_laws.proofs.SourceSlots.{tables_have_slots}
@@ -21,10 +14,8 @@ use Rattle.spec_laws.specs.Imaged.{AreImages}
 use Rattle.spec_laws.specs.Slotted.{AreSlots, CanSlot}
 use Rattle.spec_laws.specs.Spaced.{root_of}
 use Rattle.system_spec.specs.MapLines.{map_lines}
-use Rattle.system_spec.specs.Made.{labels_of, spec_of}
 use Rattle.arch_compile.proofs.OwnersLabels.{has_label}
 use Rattle.arch_compile.proofs.Programs.{program_is}
-use Rattle.arch_compile.specs.OfSource.{IsOfSource}
 
 module _ (contents : Contents) (s : Source) (images : Images) (facts : AreFacts contents s images) where
   can_slot : CanSlot (system_tables s images)

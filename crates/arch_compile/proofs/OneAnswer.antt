@@ -1,27 +1,10 @@
 -- In given contents there is one answer of `compile`, aside from failed reads and want of memory.
-use Rattle.std.proofs.Common.{◌≡◌, ◌∙◌, ℕ, List, Option, Some, None, Result, Ok, Err, true, false, sym, ap, subst, inl, inr}
-use Rattle.std.specs.Prelude.{◌↔◌}
-use Rattle.adl_ast.specs.declared.source.Source.{Source}
+use Rattle.arch_compile.proofs.Common.{Build, BuildError, Contents, Edge, Err, Fault, Images, IsBuildOf, IsCompiled, IsFirstFault, IsMade, IsSorted, List, None, Ok, Option, Policy, Result, Some, Source, Spec, ap, false, file_of, first_fault}
+use Rattle.arch_compile.proofs.Common.{first_front_fault, first_layout_fault, found_beside, has, images_beside, inl, inr, no_first, no_second, subst, sym, true, yields, ℕ, ◌↔◌, ◌∙◌, ◌≡◌}
 use Rattle.adl_import.specs.Loaded.{IsLoaded}
-use Rattle.arch_compile.specs.Built.{IsBuildOf, IsMade}
-use Rattle.arch_compile.specs.Compiled.{IsCompiled, IsFirstFault}
-use Rattle.arch_compile.specs.LayoutFaults.{file_of, first_fault, first_layout_fault, found_beside, images_beside}
-use Rattle.arch_compile.specs.declared.building.Build.{Build}
 use Rattle.cap_model.proofs.TableMembers.{one_table}
-use Rattle.cap_model.specs.Tables.{IsSorted, has}
-use Rattle.cap_model.specs.declared.edge.Edge.{Edge}
-use Rattle.cap_model.specs.declared.policy.Policy.{Policy}
-use Rattle.cam_base.specs.declared.place.Fault.{Fault}
-use Rattle.cam_io.specs.Contents.{Contents}
-use Rattle.cap_model.specs.declared.spec.Spec.{Spec}
-use Rattle.flat_laws.proofs.FewEnds.{no_first}
 use Rattle.front_end.proofs.OneAnswer.{both, faults_same, meanings_same, none_faulted, one_fault, one_loaded}
-use Rattle.front_end.proofs.Sound.{no_second}
-use Rattle.front_end.specs.First.{first_front_fault}
-use Rattle.front_end.specs.Refusals.{yields}
-use Rattle.front_end.specs.declared.error.BuildError.{BuildError}
 use Rattle.front_end.specs.declared.error.BuildError.TheVariants as error
-use Rattle.source_images.specs.declared.images.Images.{Images}
 use Rattle.system_spec.specs.declared.map_line.MapLine.{MapLine}
 
 -- ---- what is made is one

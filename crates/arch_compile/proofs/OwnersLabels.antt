@@ -1,29 +1,12 @@
 -- What is of an owner has in the policy the label with the owner's path.
-use Rattle.std.proofs.Common.{◌≡◌, ◌∙◌, ℕ, List, map, Some, refl, sym, ap, subst}
-use Rattle.std.specs.List.{slice_get}
-use Rattle.adl_ast.specs.declared.source.Source.{Source}
-use Rattle.adl_meaning.specs.Flat.{flat_of}
+use Rattle.arch_compile.proofs.Common.{Build, Entry, HasLabel, Images, IsIn, IsMade, List, Some, Source, Spec, ap, called_line, flat_of, from_get_map, from_ones, label_of, labelled, labels_of, map, number_of, object_labels, refl, slice_get}
+use Rattle.arch_compile.proofs.Common.{source_tables, spec_of, subst, sym, system_tables, ℕ, ◌∙◌, ◌≡◌}
 use Rattle.adl_meaning.specs.Paths.{Path}
-use Rattle.arch_compile.specs.Built.{IsMade, labelled, system_tables}
-use Rattle.arch_compile.specs.declared.building.Build.{Build}
-use Rattle.arch_policy.specs.Tables.{number_of}
 use Rattle.arch_policy.specs.declared.owner.Owner.{Owner}
-use Rattle.assigned_laws.proofs.Ranked.{called_line}
 use Rattle.assigned_laws.specs.Named.{HasPath}
-use Rattle.arch_compile.specs.OfSource.{HasLabel}
-use Rattle.arch_compile.specs.Sound.{object_labels}
-use Rattle.cam_base.proofs.Gathered.{from_ones}
-use Rattle.cam_base.proofs.NumberedLists.{from_get_map}
-use Rattle.cam_base.specs.Gather.{IsIn}
 use Rattle.cam_base.specs.Paths.{joined}
 use Rattle.cap_model.specs.Lookup.{entry_name, name_at}
-use Rattle.cap_model.specs.ObjectLabels.{label_of}
-use Rattle.cap_model.specs.declared.spec.Entry.{Entry}
-use Rattle.cap_model.specs.declared.spec.Spec.{Spec}
-use Rattle.front_end.specs.First.{source_tables}
-use Rattle.source_images.specs.declared.images.Images.{Images}
 use Rattle.spec_laws.specs.Labelled.{IsOf}
-use Rattle.system_spec.specs.Made.{labels_of, spec_of}
 
 module _ (s : Source) (images : Images) (b : Build) (made : IsMade s images b.spec b.policy b.cert b.map) where
   -- a label of an object stands beside its name

@@ -1,38 +1,26 @@
 -- What a leaf runs is what the section table of its component's name says.
-use Rattle.std.proofs.Common.{◌≡◌, ◌∙◌, ◌≤◌, ℕ, zero, suc, Bool, true, false, cond, List, [], ◌∷◌, length, Option, Some, None, refl, sym, ap, subst, arith}
+use Rattle.arch_compile.proofs.Common.{AreImagesOf, AreNumbered, Bool, Contents, Found, Images, IsProgramOf, List, Name, None, Option, Some, Source, [], ap, arith, at_place, component_name, component_of, cond, cons_option, each_named, false}
+use Rattle.arch_compile.proofs.Common.{filter_map, flat_of, folder_of, found_bytes, found_of, get_map, in_filter, length, map_some, name_of_item, nat_lt, option_and_then, option_map_or, position, refl, slice_get, subst, suc, sym, table, table_limit}
+use Rattle.arch_compile.proofs.Common.{table_name, table_names, too_long, true, type_number, type_of, types, zero, zip, ℕ, ◌∙◌, ◌∷◌, ◌≡◌, ◌≤◌}
 use Rattle.std.proofs.lemmas.List.Quantifiers.{position-Some}
 use Rattle.std.proofs.lemmas.Option.{get_or_from_slice_get, same_Some}
 use Rattle.std.proofs.lemmas.Slice.Eq.{bytes_eq-Decides}
 use Rattle.std.specs.FinMap.{get}
-use Rattle.std.specs.List.{cons_option, filter_map, position, slice_get, zip}
-use Rattle.std.specs.Option.{option_and_then, option_map_or}
-use Rattle.std.specs.Prelude.{nat_lt}
 use Rattle.std.specs.Str.{bytes_eq}
 use Rattle.adl_ast.specs.declared.file.Ended.{Ended}
 use Rattle.adl_ast.specs.declared.file.Item.{Item}
 use Rattle.adl_ast.specs.declared.file.Item.TheVariants as items
-use Rattle.adl_ast.specs.declared.source.Source.{Source}
 use Rattle.adl_ast.specs.declared.source.SourceFile.{SourceFile}
 use Rattle.adl_meaning.specs.declared.flat.Leaf.{Leaf}
 use Rattle.adl_meaning.specs.declared.item_at.ItemAt.{ItemAt}
-use Rattle.adl_meaning.specs.Flat.{flat_of}
-use Rattle.arch_compile.specs.OfSource.{IsProgramOf}
 use Rattle.cam_base.proofs.Gathered.{place_of as listed_at}
 use Rattle.cam_base.proofs.Lists.{length-filter_map}
 use Rattle.cam_base.specs.Lines.{Line, lines}
-use Rattle.cam_io.specs.Contents.{Contents}
-use Rattle.cam_base.proofs.NumberedLists.{at_place, get_map, map_some}
 use Rattle.sect_table.specs.Tables.{image, image_in as image_from, image_of}
 use Rattle.sect_table.specs.declared.image.Image.{Image}
-use Rattle.source_images.proofs.ImageNumbers.{each_named, in_filter}
-use Rattle.source_images.specs.Found.{Found, too_long, table, folder_of, found_bytes, found_of, table_limit, table_name, table_names}
 use Rattle.source_images.specs.Images.{image_number}
-use Rattle.source_images.specs.Numbered.{AreNumbered}
 use Rattle.source_images.specs.TableImages.{image_in}
-use Rattle.source_images.specs.declared.images.Images.{Images}
-use Rattle.source_images.specs.ImagesRead.{AreImagesOf}
-use Rattle.source_images.specs.Types.{Name, component_name, component_of, type_number, type_of, types}
-use Rattle.system_spec.specs.Tables.{component_name as leaf_component_name, name_of_item}
+use Rattle.system_spec.specs.Tables.{component_name as leaf_component_name}
 use Rattle.cspace_layout.specs.Members.{items_of_file}
 
 -- ---- the table of a type

@@ -1,11 +1,8 @@
 -- Scripts one behind another.
-use Rattle.std.proofs.Common.{IsErr, ◌≡◌, ◌∙◌, inl, inr, refl, sym, ap, subst, ℕ, ◌≤◌, ◌==◌, Bool, true, false, List, [], ◌∷◌, ◌++◌, Result, Ok, Err, arith}
-use Rattle.cam_io.specs.Causes.{Rose}
+use Rattle.arch_compile.proofs.Common.{Bool, Err, IsErr, List, Ok, Result, Rose, [], ap, arith, false, fresh_begun, inl, inr, refl, rose_after, subst, sym, true, ℕ, ◌++◌, ◌==◌, ◌∙◌, ◌∷◌, ◌≡◌, ◌≤◌}
 use Rattle.cam_io.specs.Scripts.{Act, Acts, Begin, CutShort, Write, after}
 use Rattle.cam_io.specs.Sinks.{Sink, appended, with_begun}
 use Rattle.cam_io.proofs.Appends.{begun_appended}
-use Rattle.cam_io.proofs.Counts.{rose_after}
-use Rattle.cam_io.proofs.Scripted.{fresh_begun}
 
 after_both : (xs ys : List Act) (s : Sink) → after s (xs ++ ys) ≡ after (after s xs) ys
 after_both [] ys s = refl

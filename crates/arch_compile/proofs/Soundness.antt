@@ -1,48 +1,26 @@
 -- Builds are sound: each part by the law of its own layer.
-use Rattle.std.proofs.Common.{◌≡◌, ◌≢◌, ◌⊎◌, ◌∙◌, ℕ, List, length, map, inl, inr, sym, ap, subst}
-use Rattle.std.proofs.lemmas.List.{length-map}
-use Rattle.std.specs.Prelude.{◌↔◌}
-use Rattle.adl_ast.specs.declared.source.Source.{Source}
-use Rattle.adl_meaning.specs.Flat.{flat_of}
+use Rattle.arch_compile.proofs.Common.{AreApart, BootsText, Build, Contents, Edge, Has, HasText, Images, IsBuildOf, IsIn, IsKept, IsLockEdge, IsMade, IsSound, List, ReachesText, Source, Spec, Tables, ap, entry, flat_of, images_beside, inl, inr}
+use Rattle.arch_compile.proofs.Common.{label_lines, labelled, labels_of, length, length-map, lines_apart, map, object_labels, part_label, parts, source_tables, spec_of, subst, sym, system_tables, ℕ, ◌↔◌, ◌∙◌, ◌≡◌, ◌≢◌, ◌⊎◌}
 use Rattle.arch_compile.proofs.Facts.{AreFacts, build_facts}
 use Rattle.arch_compile.proofs.MadeTables.{made_connected, made_kept}
-use Rattle.arch_compile.specs.Built.{IsBuildOf, IsMade, labelled, system_tables}
-use Rattle.arch_compile.specs.LayoutFaults.{images_beside}
-use Rattle.arch_compile.specs.declared.building.Build.{Build}
-use Rattle.arch_policy.specs.Labels.{label_lines}
-use Rattle.arch_policy.specs.Policies.{IsLockEdge}
 use Rattle.arch_policy.specs.Reasons.{DirectReason, IsReasoned}
-use Rattle.arch_policy.specs.Tables.{AreApart}
 use Rattle.assigned_laws.proofs.LabelsStand.{label_lines_stand}
 use Rattle.assigned_laws.proofs.PolicyTriples.{all_assigned}
-use Rattle.assigned_laws.proofs.Ranked.{lines_apart}
 use Rattle.assigned_laws.proofs.TextReasons.{assigned_texts, direct_texts, labels_apart, lock_texts}
 use Rattle.assigned_laws.specs.Texts.{IsAssignedText, IsDirectText, IsLabelText, IsLockText, OfTexts}
 use Rattle.assigned_laws.specs.Triples.{AreAll, Triple, triple}
 use Rattle.cap_model.specs.Edges.{edge}
-use Rattle.cap_model.specs.Tables.{Has}
-use Rattle.cap_model.specs.declared.authority.Authority.{Authority}
-use Rattle.cap_model.specs.declared.edge.Edge.{Edge}
-use Rattle.cam_io.specs.Contents.{Contents}
+use Rattle.authorities.specs.declared.authority.Authority.{Authority}
 use Rattle.cap_machine.specs.Runs.{Reaches}
 use Rattle.cap_model.specs.Auth.{Auth}
-use Rattle.cap_model.specs.Kept.{IsKept}
 use Rattle.cap_model.specs.State.{boot}
-use Rattle.cap_model.specs.declared.spec.Spec.{Spec}
 use Rattle.cert_check.specs.Valid.{Valid}
-use Rattle.front_end.specs.First.{source_tables}
-use Rattle.cam_base.specs.Gather.{IsIn}
-use Rattle.source_images.specs.declared.images.Images.{Images}
 use Rattle.reach_laws.proofs.LeastCertificates.{least}
 use Rattle.reach_laws.proofs.Reached.{exactly_reached}
 use Rattle.reach_laws.proofs.ValidCertificates.{valid}
 use Rattle.reach_laws.specs.LaidOut.{IsLaidOut}
 use Rattle.spec_laws.proofs.Connections.{laid_out}
-use Rattle.system_spec.specs.Made.{entry, labels_of, part_label, spec_of}
-use Rattle.system_spec.specs.Parts.{parts}
-use Rattle.system_spec.specs.Tables.{Tables}
 use Rattle.arch_compile.proofs.ObjectLabels.{labels_beside}
-use Rattle.arch_compile.specs.Sound.{BootsText, HasText, IsSound, ReachesText, object_labels}
 
 -- what is the same as a third
 both : {A B C : Type 0} → (A ↔ C) → (B ↔ C) → A ↔ B

@@ -6,7 +6,7 @@ use Rattle.arch_compile.specs.declared.building.Build.{Build}
 use Rattle.assigned_laws.specs.Texts.{IsAssignedText, IsDirectText, IsLabelText, IsLockText, OfTexts}
 use Rattle.assigned_laws.specs.Triples.{AreAll, Triple}
 use Rattle.cap_model.specs.Tables.{Has}
-use Rattle.cap_model.specs.declared.authority.Authority.{Authority}
+use Rattle.authorities.specs.declared.authority.Authority.{Authority}
 use Rattle.cap_model.specs.declared.edge.Edge.{Edge}
 use Rattle.cap_model.specs.declared.object_labels.Labels.{Labels}
 use Rattle.arch_compile.specs.Summary.{summary_of}

@@ -8,7 +8,7 @@ ghost use Rattle.arch_compile.specs.Steps.{Builds, Completes, Finishes, IsImaged
 ghost use Rattle.arch_policy.specs.Labels.{label_numbers};
 ghost use Rattle.cam_io.specs.Reading.{InAll, KeepsFiles, LearnsOnly};
 ghost use Rattle.front_end.specs.Fronts.{IsAssigned};
-ghost use Rattle.front_end.specs.Steps.{IsSound as IsSoundMeaning};
+ghost use Rattle.front_end.specs.Steps.{HasMeaning};
 ghost use Rattle.source_images.specs.Found.{AlikeInTables};
 ghost use Rattle.std.specs.Prelude.{◌≡◌, IfOk};
 
@@ -61,7 +61,7 @@ fn with_images<F: Files>(
     files: &mut F,
     meaning: Meaning,
 ) -> Result<Build, BuildError>
-    requires { IsSoundMeaning meaning.source meaning.flat meaning.settled }
+    requires { HasMeaning meaning.source meaning.flat meaning.settled }
     ensures kept { KeepsFiles F.told F.faults files.old files.new }
     ensures learned { LearnsOnly F.told (AlikeInTables (tables_beside meaning.source)) files.old files.new }
     ensures builds { InAll (F.told files.new) (λ m. Builds meaning m (F.faults files.old) (F.faults files.new) result) }
@@ -74,7 +74,7 @@ fn with_images<F: Files>(
 }
 
 fn with_layout(alloc: Global, meaning: Meaning, images: &Images) -> Result<Build, BuildError>
-    requires sound { IsSoundMeaning meaning.source meaning.flat meaning.settled }
+    requires sound { HasMeaning meaning.source meaning.flat meaning.settled }
     requires imaged { IsImaged meaning.flat images.now }
     ensures { Lays meaning images.now result }
 {
@@ -90,7 +90,7 @@ fn with_front(
     images: &Images,
     layout: &Layout,
 ) -> Result<Build, BuildError>
-    requires sound { IsSoundMeaning meaning.source meaning.flat meaning.settled }
+    requires sound { HasMeaning meaning.source meaning.flat meaning.settled }
     requires laid { IsLaid meaning.source meaning.flat meaning.settled images.now layout.now }
     ensures { Completes meaning images.now result }
 {
@@ -106,7 +106,7 @@ fn with_made(
     images: &Images,
     layout: &Layout,
 ) -> Result<Build, BuildError>
-    requires sound { IsSoundMeaning front.source front.flat front.settled }
+    requires sound { HasMeaning front.source front.flat front.settled }
     requires assigned { IsAssigned front.source front.policy }
     requires numbered { front.numbers ≡ label_numbers front.flat }
     requires laid { IsLaid front.source front.flat front.settled images.now layout.now }

@@ -1,13 +1,14 @@
 -- The keyword of the first assembly, as it is looked for file by file.
-use Rattle.std.proofs.Common.{◌≡◌, ◌+◌, ℕ, List, [], ◌∷◌, ◌++◌, length, map, Option, Some, None, refl, sym, ◌∙◌, ap, arith}
+use Rattle.std.proofs.Common.{◌≡◌, ◌+◌, ℕ, List, [], ◌∷◌, ◌++◌, length, map, Some, None, refl, sym, ◌∙◌, ap, arith}
 use Rattle.std.specs.Prelude.{option_map}
-use Rattle.adl_meaning.specs.Prelude.{Assembly, Ended, Item, Place, Source, SourceFile, as_assembly, assemblies, enumerate_from, filter_map, flat_map, items_in, option_or, slice_get}
+use Rattle.adl_meaning.specs.Prelude.{Assembly, Ended, Item, Place, Source, SourceFile, as_assembly, enumerate_from, filter_map, flat_map, items_in, option_or, slice_get}
 use Rattle.adl_meaning.specs.declared.item_at.ItemAt.{ItemAt}
 use Rattle.std.proofs.lemmas.List.Elements.{filter_map-append}
 use Rattle.adl_ast.specs.declared.file.Item.TheVariants as items
 use Rattle.cspace_layout.specs.Limit.{fault_at, keyword, keyword_among, keyword_in, keyword_of, limit_fault, place_in}
 
-first_of_two : (xs ys : List (ItemAt × Assembly)) → place_in (slice_get (xs ++ ys) 0) ≡ option_or (place_in (slice_get xs 0)) (place_in (slice_get ys 0))
+first_of_two : (xs ys : List (ItemAt × Assembly)) → place_in (slice_get (xs ++ ys) 0) ≡ option_or (place_in (slice_get xs 0))
+    (place_in (slice_get ys 0))
 first_of_two [] ys = refl
 first_of_two (x ∷ xs) ys = refl
 
@@ -20,7 +21,8 @@ in_item at (items.Assembly a) = refl
 abbrev numbered : ℕ → ℕ × Ended → ItemAt × Item
 numbered f e = (record { file = f; item = e.0 }, e.1.item)
 
-in_items : (f n : ℕ) (es : List Ended) → place_in (slice_get (filter_map as_assembly (map (numbered f) (enumerate_from n es))) 0) ≡ keyword_in es
+in_items : (f n : ℕ) (es : List Ended) → place_in (slice_get (filter_map as_assembly (map (numbered f) (enumerate_from n es))) 0)
+    ≡ keyword_in es
 in_items f n [] = refl
 in_items f n (e ∷ es) =
     let first = numbered f (n, e) ∷ [] in
@@ -30,7 +32,8 @@ in_items f n (e ∷ es) =
     ∙ ap (λ z. option_or z (place_in (slice_get (filter_map as_assembly rest) 0))) (in_item (numbered f (n, e)).0 e.item)
     ∙ ap (λ z. option_or (keyword_of e.item) z) (in_items f (n + 1) es)
 
-in_files : (n : ℕ) (fs : List SourceFile) → place_in (slice_get (filter_map as_assembly (flat_map items_in (enumerate_from n fs))) 0) ≡ keyword_among fs
+in_files : (n : ℕ) (fs : List SourceFile)
+    → place_in (slice_get (filter_map as_assembly (flat_map items_in (enumerate_from n fs))) 0) ≡ keyword_among fs
 in_files n [] = refl
 in_files n (f ∷ fs) =
     let first = items_in (n, f) in
@@ -43,11 +46,15 @@ in_files n (f ∷ fs) =
 pub keyword_found : (source : Source) → keyword source ≡ keyword_among source.files
 keyword_found source = in_files 0 source.files
 
-pub limit_nowhere : (source : Source) (files : List SourceFile) (name : List ℕ) → files ≡ source.files → None ≡ keyword_among files → None ≡ limit_fault source name
-limit_nowhere source files name f e = ap (λ o. option_map (λ place. fault_at place name) o) (e ∙ ap keyword_among f ∙ sym (keyword_found source))
+pub limit_nowhere : (source : Source) (files : List SourceFile) (name : List ℕ) → files ≡ source.files
+    → None ≡ keyword_among files → None ≡ limit_fault source name
+limit_nowhere source files name f e = ap (λ o. option_map (λ place. fault_at place name) o) (e ∙ ap keyword_among f
+    ∙ sym (keyword_found source))
 
-pub limit_there : (source : Source) (files : List SourceFile) (name : List ℕ) (place : Place) → files ≡ source.files → Some place ≡ keyword_among files → Some (fault_at place name) ≡ limit_fault source name
-limit_there source files name place f e = ap (λ o. option_map (λ p. fault_at p name) o) (e ∙ ap keyword_among f ∙ sym (keyword_found source))
+pub limit_there : (source : Source) (files : List SourceFile) (name : List ℕ) (place : Place) → files ≡ source.files
+    → Some place ≡ keyword_among files → Some (fault_at place name) ≡ limit_fault source name
+limit_there source files name place f e = ap (λ o. option_map (λ p. fault_at p name) o) (e ∙ ap keyword_among f
+    ∙ sym (keyword_found source))
 
 -- the only assembly has a keyword
 pub has_place : (xs : List (ItemAt × Assembly)) → length xs ≡ 1 → (p : Place) × (place_in (slice_get xs 0) ≡ Some p)

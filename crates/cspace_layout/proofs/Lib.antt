@@ -1,5 +1,4 @@
 pub mod Counting
-pub mod Laying
 pub mod Limits
 pub mod Using
 pub mod Keyword

@@ -1,5 +1,5 @@
 -- The first limit of the counts, at the keyword of the assembly, is the first fault of slots.
-use Rattle.std.proofs.Common.{◌≡◌, ◌+◌, ℕ, Bool, true, false, cond, List, [], ◌∷◌, ◌++◌, length, map, Option, Some, None, refl, sym, ◌∙◌, ap, arith}
+use Rattle.std.proofs.Common.{◌≡◌, ℕ, Bool, true, false, cond, List, [], ◌∷◌, ◌++◌, length, map, Option, Some, None, refl, sym, ◌∙◌, ap, arith}
 use Rattle.std.specs.Prelude.{nat_lt, sum, option_map}
 use Rattle.std.specs.List.{flat_map, slice_get}
 use Rattle.std.proofs.lemmas.Bool.{ltb-true, ltb-false}
@@ -18,10 +18,10 @@ use Rattle.cspace_layout.specs.Limit.{fault_at, keyword, limit_fault, place_in}
 use Rattle.cspace_layout.specs.Within.{IsWithin}
 use Rattle.cspace_layout.specs.declared.count.Limit.{Limit}
 use Rattle.cspace_layout.specs.declared.count.Limit.TheVariants.{Slots, AllSlots}
-use Rattle.cspace_layout.specs.Counted.{capped, first_limit, name_of}
+use Rattle.cspace_layout.specs.Counted.{capped, domain_counts, first_limit, name_of}
 use Rattle.cspace_layout.specs.SlotFaults.{counts, greatest, limits_passed, first_slot_fault}
 use Rattle.cspace_layout.specs.Uses.{slots_of}
-use Rattle.cspace_layout.proofs.Counting.{any_over, sum_capped}
+use Rattle.cspace_layout.proofs.Counting.{any_over, counts_mapped, sum_capped}
 use Rattle.adl_meaning.proofs.Least.{lex_self}
 use Rattle.cspace_layout.proofs.Keyword.{has_place}
 
@@ -32,8 +32,10 @@ abbrev by_tests : Bool → Bool → Option Limit
 by_tests b c = cond b (Some Slots) (cond c (Some AllSlots) None)
 
 first_told : (p : Place) (b c : Bool)
-    → least ((cond b (fault_of p Slots ∷ []) [] ++ cond c (fault_of p AllSlots ∷ []) []) ++ []) ≡ option_map (fault_of p) (by_tests b c)
-first_told p true true = ap (λ t. cond t (Some (fault_of p AllSlots)) (Some (fault_of p Slots))) (lex_self p.file p.first (number_of code.Limit))
+    → least ((cond b (fault_of p Slots ∷ []) [] ++ cond c (fault_of p AllSlots ∷ []) []) ++ []) ≡ option_map (fault_of p)
+    (by_tests b c)
+first_told p true true = ap (λ t. cond t (Some (fault_of p AllSlots)) (Some (fault_of p Slots)))
+    (lex_self p.file p.first (number_of code.Limit))
 first_told p true false = refl
 first_told p false true = refl
 first_told p false false = refl
@@ -51,25 +53,36 @@ over_cap n = over_capped n (ltb 65536 (capped n)) (ltb 65536 n) refl refl
 first_capped : (ns : List ℕ) → first_limit (map capped ns) ≡ by_tests (nat_lt 4095 (greatest ns)) (nat_lt 65536 (sum ns))
 first_capped ns =
     let all = ap (λ n. nat_lt 65536 n) (sum_capped ns) ∙ over_cap (sum ns) in
-    ap (λ b. by_tests b (nat_lt 65536 (capped (sum (map capped ns))))) (any_over ns) ∙ ap (λ c. by_tests (nat_lt 4095 (greatest ns)) c) all
+    ap (λ b. by_tests b (nat_lt 65536 (capped (sum (map capped ns))))) (any_over ns)
+    ∙ ap (λ c. by_tests (nat_lt 4095 (greatest ns)) c) all
 
-one_assembly : (ns : List ℕ) (xs : List (ItemAt × Assembly)) (p : Place) → length xs ≡ 1 → place_in (slice_get xs 0) ≡ Some p → least (flat_map (limits_passed ns) xs) ≡ option_map (fault_of p) (first_limit (map capped ns))
+one_assembly : (ns : List ℕ) (xs : List (ItemAt × Assembly)) (p : Place) → length xs ≡ 1 → place_in (slice_get xs 0) ≡ Some p
+    → least (flat_map (limits_passed ns) xs) ≡ option_map (fault_of p) (first_limit (map capped ns))
 one_assembly ns [] p l e = absurd (omega arith)
 one_assembly ns (x ∷ []) p l e =
     let same : x.1.place ≡ p = cc in
-    first_told x.1.place (nat_lt 4095 (greatest ns)) (nat_lt 65536 (sum ns)) ∙ ap (λ q. option_map (fault_of q) (by_tests (nat_lt 4095 (greatest ns)) (nat_lt 65536 (sum ns)))) same ∙ ap (option_map (fault_of p)) (sym (first_capped ns))
+    first_told x.1.place (nat_lt 4095 (greatest ns)) (nat_lt 65536 (sum ns))
+    ∙ ap (λ q. option_map (fault_of q) (by_tests (nat_lt 4095 (greatest ns)) (nat_lt 65536 (sum ns)))) same
+    ∙ ap (option_map (fault_of p)) (sym (first_capped ns))
 one_assembly ns (x ∷ y ∷ xs) p l e = absurd (omega arith)
 
-told : (source : Source) (flat : Flat) (o : Option Limit) → IsWithin source flat → o ≡ first_limit (map capped (counts (slots_of source flat)))
+told : (source : Source) (flat : Flat) (o : Option Limit) → IsWithin source flat
+    → o ≡ first_limit (domain_counts source flat)
     → (p : Place) × (keyword source ≡ Some p) × (first_slot_fault source flat ≡ option_map (fault_of p) o)
 told source flat o within e =
-    let p = has_place (assemblies source) within.assembly in
-    (p.0, p.1, one_assembly (counts (slots_of source flat)) (assemblies source) p.0 within.assembly p.1 ∙ ap (option_map (fault_of p.0)) (sym e))
+    let p = has_place (assemblies source) within.assembly in (
+      p.0,
+      p.1,
+      one_assembly (counts (slots_of source flat)) (assemblies source) p.0 within.assembly p.1
+          ∙ ap (option_map (fault_of p.0)) (sym (e ∙ ap first_limit (counts_mapped source flat))),
+    )
 
-pub none_told : (source : Source) (flat : Flat) → IsWithin source flat → None ≡ first_limit (map capped (counts (slots_of source flat))) → None ≡ first_slot_fault source flat
+pub none_told : (source : Source) (flat : Flat) → IsWithin source flat
+    → None ≡ first_limit (domain_counts source flat) → None ≡ first_slot_fault source flat
 none_told source flat within e = sym (told source flat None within e).2
 
-pub limit_told : (source : Source) (flat : Flat) (limit : Limit) → IsWithin source flat → Some limit ≡ first_limit (map capped (counts (slots_of source flat)))
+pub limit_told : (source : Source) (flat : Flat) (limit : Limit) → IsWithin source flat
+    → Some limit ≡ first_limit (domain_counts source flat)
     → limit_fault source (name_of limit) ≡ first_slot_fault source flat
 limit_told source flat limit within e =
     let t = told source flat (Some limit) within e in ap (λ o. option_map (λ place. fault_of place limit) o) t.1 ∙ sym t.2

@@ -1,41 +1,81 @@
 -- The uses of the ends of a leaf, in their order, are those of its interfaces.
-use Rattle.std.proofs.Common.{◌≡◌, ℕ, Bool, true, false, cond, List, [], ◌∷◌, ◌++◌, refl, ◌∙◌, ap, append-nil, Some}
+use Rattle.std.proofs.Common.{◌≡◌, ℕ, zero, suc, Bool, true, false, cond, List, [], ◌∷◌, ◌++◌, Option, Some, None, refl, ◌∙◌, ap, append-nil}
 use Rattle.std.specs.List.{flat_map, slice_get}
 use Rattle.std.specs.Prelude.{option_map}
-use Rattle.adl_ast.specs.declared.component.Member.{Member}
+use Rattle.adl_meaning.specs.Prelude.{Member, Source, option_and_then}
+use Rattle.adl_meaning.specs.declared.flat.Flat.{Flat}
 use Rattle.adl_meaning.specs.declared.flat.FlatConnection.{FlatConnection}
 use Rattle.adl_meaning.specs.declared.flat.FlatEnd.{FlatEnd}
+use Rattle.adl_meaning.specs.declared.flat.Leaf.{Leaf}
 use Rattle.cam_base.specs.Gather.{gather}
 use Rattle.cam_base.proofs.Gathered.{gather_same, flat_map-gather}
 use Rattle.cspace_layout.specs.declared.end_at.EndAt.{EndAt}
-use Rattle.cspace_layout.specs.LeafEnds.{joins, end_here, member_ends, leaf_ends}
-use Rattle.cspace_layout.specs.Laid.{kind_in, kind_uses, uses_at, laid_leaf}
-use Rattle.cspace_layout.specs.Uses.{end_uses, joined_uses, member_uses, lock_uses, leaf_uses}
+use Rattle.cspace_layout.specs.LeafEnds.{joins, end_here, ends_at, ends_in, ends_of, member_ends, leaf_ends}
+use Rattle.cspace_layout.specs.Laid.{uses_at, uses_by, uses_of}
+use Rattle.cspace_layout.specs.Lookups.{end_in}
+use Rattle.cspace_layout.specs.Members.{leaf_members, members_at, members_of_leaf}
+use Rattle.cspace_layout.specs.System.{System}
+use Rattle.cspace_layout.specs.Uses.{end_uses, joined_uses, member_uses, lock_uses}
 
-module _ (cs : List FlatConnection) where
-  uses_found : (k n : ℕ) (c : FlatConnection) (e : FlatEnd) → slice_get cs k ≡ Some c → slice_get c.ends n ≡ Some e → uses_at cs (record { connection = k; end = n }) ≡ end_uses c.connector e.role k n
+module _ (flat : Flat) where
+  abbrev cs : List FlatConnection
+  cs = flat.connections
+
+  uses_found : (k n : ℕ) (c : FlatConnection) (e : FlatEnd) → slice_get cs k ≡ Some c → slice_get c.ends n ≡ Some e
+      → uses_at flat (record { connection = k; end = n }) ≡ end_uses c.connector e.role k n
   uses_found k n c e here there =
       let at : EndAt = record { connection = k; end = n } in
-      ap (λ o. kind_uses (kind_in o n) at) here ∙ ap (λ o. kind_uses (option_map (λ (x : FlatEnd). (c.connector, x.role)) o) at) there
+      ap (λ o. uses_by (option_and_then (end_in n) o) at) here
+      ∙ ap (λ o. uses_by (option_map (λ (x : FlatEnd). (c.connector, x)) o) at) there
 
-  uses_here : (leaf m k n : ℕ) (c : FlatConnection) (e : FlatEnd) → slice_get cs k ≡ Some c → slice_get c.ends n ≡ Some e → flat_map (uses_at cs) (end_here leaf m k n e) ≡ joined_uses leaf m k c.connector n e
+  uses_here : (leaf m k n : ℕ) (c : FlatConnection) (e : FlatEnd) → slice_get cs k ≡ Some c → slice_get c.ends n ≡ Some e
+      → flat_map (uses_at flat) (end_here leaf m k n e) ≡ joined_uses leaf m k c.connector n e
   uses_here leaf m k n c e here there = by_test (joins leaf m e)
     where
-      by_test : (b : Bool) → flat_map (uses_at cs) (cond b (record { connection = k; end = n } ∷ []) []) ≡ cond b (end_uses c.connector e.role k n) []
+      by_test : (b : Bool) → flat_map (uses_at flat) (cond b (record { connection = k; end = n } ∷ []) []) ≡ cond b
+          (end_uses c.connector e.role k n) []
       by_test true = append-nil _ ∙ uses_found k n c e here there
       by_test false = refl
 
-  uses_of_member : (leaf m : ℕ) → flat_map (uses_at cs) (member_ends cs leaf m) ≡ member_uses cs leaf m
+  uses_of_member : (leaf m : ℕ) → flat_map (uses_at flat) (member_ends cs leaf m) ≡ member_uses cs leaf m
   uses_of_member leaf m =
-      flat_map-gather (uses_at cs) (λ k (c : FlatConnection). gather (λ n e. end_here leaf m k n e) c.ends) cs
-      ∙ gather_same (λ k (c : FlatConnection). flat_map (uses_at cs) (gather (λ n e. end_here leaf m k n e) c.ends)) (λ k c. gather (λ n e. joined_uses leaf m k c.connector n e) c.ends) cs
-      (λ k c here. flat_map-gather (uses_at cs) (λ n e. end_here leaf m k n e) c.ends
-      ∙ gather_same (λ n e. flat_map (uses_at cs) (end_here leaf m k n e)) (λ n e. joined_uses leaf m k c.connector n e) c.ends (λ n e there. uses_here leaf m k n c e here there))
+      flat_map-gather (uses_at flat) (λ k (c : FlatConnection). gather (λ n e. end_here leaf m k n e) c.ends) cs
+      ∙ gather_same (λ k (c : FlatConnection). flat_map (uses_at flat) (gather (λ n e. end_here leaf m k n e) c.ends))
+      (λ k c. gather (λ n e. joined_uses leaf m k c.connector n e) c.ends) cs
+      (λ k c here. flat_map-gather (uses_at flat) (λ n e. end_here leaf m k n e) c.ends
+      ∙ gather_same (λ n e. flat_map (uses_at flat) (end_here leaf m k n e)) (λ n e. joined_uses leaf m k c.connector n e) c.ends
+      (λ n e there. uses_here leaf m k n c e here there))
 
-  uses_of_leaf : (leaf : ℕ) (members : List Member) → flat_map (uses_at cs) (leaf_ends cs leaf members) ≡ gather (λ m x. member_uses cs leaf m) members
+  uses_of_leaf : (leaf : ℕ) (members : List Member) → flat_map (uses_at flat) (leaf_ends cs leaf members) ≡ gather
+      (λ m x. member_uses cs leaf m) members
   uses_of_leaf leaf members =
-      flat_map-gather (uses_at cs) (λ m (x : Member). member_ends cs leaf m) members
-      ∙ gather_same (λ m (x : Member). flat_map (uses_at cs) (member_ends cs leaf m)) (λ m x. member_uses cs leaf m) members (λ m x s. uses_of_member leaf m)
+      flat_map-gather (uses_at flat) (λ m (x : Member). member_ends cs leaf m) members
+      ∙ gather_same (λ m (x : Member). flat_map (uses_at flat) (member_ends cs leaf m)) (λ m x. member_uses cs leaf m) members
+      (λ m x s. uses_of_member leaf m)
 
-  pub leaf_laid : (leaf : ℕ) (members : List Member) → laid_leaf cs leaf (leaf_ends cs leaf members) members ≡ leaf_uses cs leaf members
-  leaf_laid leaf members = ap (λ z. z ++ gather (λ m x. lock_uses leaf m x) members) (uses_of_leaf leaf members)
+-- ---- leaves by number
+
+get_made : {X Y : Type 0} (f : ℕ → X → Y) (xs : List X) (n : ℕ)
+    → slice_get (gather (λ k x. f k x ∷ []) xs) n ≡ option_map (f n) (slice_get xs n)
+get_made f [] n = refl
+get_made f (x ∷ xs) zero = refl
+get_made f (x ∷ xs) (suc n) = get_made (λ k y. f (suc k) y) xs n
+
+pub ends_at_leaf : (source : Source) (flat : Flat) (leaf : ℕ)
+    → ends_at (ends_of source flat) leaf ≡ leaf_ends flat.connections leaf (leaf_members source flat leaf)
+ends_at_leaf source flat leaf =
+    ap ends_in (get_made (λ n (x : Leaf). leaf_ends flat.connections n (members_at source x.component)) flat.leaves leaf)
+    ∙ by_leaf (slice_get flat.leaves leaf)
+  where
+    by_leaf : (o : Option Leaf) → ends_in (option_map (λ x. leaf_ends flat.connections leaf (members_at source x.component)) o)
+        ≡ leaf_ends flat.connections leaf (members_of_leaf source o)
+    by_leaf None = refl
+    by_leaf (Some x) = refl
+
+-- the uses of a leaf: those of its ends, in their order, and then those of its locks
+pub leaf_laid : (s : System) (leaf : ℕ) → flat_map (uses_at s.flat) (ends_at (ends_of s.source s.flat) leaf)
+    ++ gather (λ m x. lock_uses leaf m x) (leaf_members s.source s.flat leaf) ≡ uses_of s leaf
+leaf_laid s leaf =
+    let members = leaf_members s.source s.flat leaf in
+    ap (λ z. z ++ gather (λ m x. lock_uses leaf m x) members)
+    (ap (flat_map (uses_at s.flat)) (ends_at_leaf s.source s.flat leaf) ∙ uses_of_leaf s.flat leaf members)

@@ -8,6 +8,7 @@ pub mod Lookups
 pub mod Members
 pub mod Passes
 pub mod Spread
+pub mod System
 pub mod Within
 pub use Rattle.adl_meaning.specs.Faults
 pub use Rattle.cam_base.specs.Gather

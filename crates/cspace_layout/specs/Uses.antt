@@ -41,7 +41,8 @@ lock_uses leaf member m = if is_lock m then OwnLock leaf member ∷ [] else []
 
 -- of a leaf: by interface, and then its locks
 abbrev pub leaf_uses : List FlatConnection → ℕ → List Member → List SlotUse
-leaf_uses connections leaf members = gather (λ m x. member_uses connections leaf m) members ++ gather (λ m x. lock_uses leaf m x) members
+leaf_uses connections leaf members = gather (λ m x. member_uses connections leaf m) members
+    ++ gather (λ m x. lock_uses leaf m x) members
 
 -- of leaves, one behind another
 abbrev pub domain_uses : Source → Flat → List ℕ → List SlotUse

@@ -16,6 +16,8 @@ pub record IsWithin (source : Source) (flat : Flat) : Type 0 where
   pub leaves : length flat.leaves < 2 ^ 32
   pub connections : length flat.connections < 2 ^ 32
   pub ends : (k : ℕ) (c : FlatConnection) → slice_get flat.connections k ≡ Some c → length c.ends < 2 ^ 32
-  pub joined : (k n : ℕ) (c : FlatConnection) (e : FlatEnd) → slice_get flat.connections k ≡ Some c → slice_get c.ends n ≡ Some e → e.leaf < length flat.leaves
+  pub joined : (k n : ℕ) (c : FlatConnection) (e : FlatEnd) → slice_get flat.connections k ≡ Some c → slice_get c.ends n ≡ Some e
+      → e.leaf < length flat.leaves
   pub members : (leaf : ℕ) → length (leaf_members source flat leaf) < 2 ^ 32
-  pub listed : (d leaf : ℕ) (domain : Domain) → slice_get flat.domains d ≡ Some domain → IsIn leaf domain.leaves → leaf < length flat.leaves
+  pub listed : (d leaf : ℕ) (domain : Domain) → slice_get flat.domains d ≡ Some domain → IsIn leaf domain.leaves
+      → leaf < length flat.leaves

@@ -7,7 +7,6 @@
 
 mod count;
 mod end_at;
-mod kind;
 mod lay;
 mod limit;
 mod lookups;
@@ -15,11 +14,12 @@ mod members;
 mod order;
 mod plan;
 mod spread;
+mod wiring;
 
 pub use end_at::EndAt;
-pub use lay::lay_caps;
+pub use lay::{lay_caps, lay_slots};
 pub use limit::limit_fault;
 pub use lookups::{end_of, setting_of};
 pub use members::{is_lock, members_at};
-pub use order::leaf_ends;
 pub use plan::{SlotPlan, SlotUse, Slots};
+pub use wiring::Wiring;

@@ -1,10 +1,11 @@
-//! The spaces of a system.
+//! The slots and the spaces of a system.
 
 ghost use Rattle.arch_compile.specs.Steps.{IsImaged};
-ghost use Rattle.front_end.specs.Steps.{IsSound};
+ghost use Rattle.front_end.specs.Steps.{HasMeaning};
 
 use crate::refused::show_refused;
 use cam_io::Files;
+use cspace_layout::{Slots, lay_caps};
 use front_end::{Meaning, meaning_of};
 use source_images::read_images;
 use std::io;
@@ -15,13 +16,33 @@ const ROOT: &str = "app.camkes";
 /// What the source of a root means, and what is laid out for it.
 pub fn show_layout<F: Files>(rt: &HostRuntime, files: &mut F) -> io::Result<()> {
     match meaning_of(rt.alloc(), files, ROOT) {
-        Ok(meaning) => show_images(rt, files, &meaning),
+        Ok(meaning) => {
+            show_slots(rt, &meaning)?;
+            show_images(rt, files, &meaning)
+        }
         Err(_) => println!(rt; "meaning_of: refused"),
     }
 }
 
+fn show_slots(rt: &HostRuntime, meaning: &Meaning) -> io::Result<()>
+    requires { HasMeaning meaning.now.source meaning.now.flat meaning.now.settled }
+{
+    match lay_caps(rt.alloc(), &meaning.source, &meaning.flat, &meaning.settled) {
+        Ok(slots) => show_uses(rt, &slots),
+        Err(why) => show_refused(rt, "lay_caps", &why),
+    }
+}
+
+fn show_uses(rt: &HostRuntime, slots: &Slots) -> io::Result<()> {
+    for domain in slots.domains.as_slice() {
+        let uses = domain.uses.len();
+        println!(rt; "lay_caps: {uses} uses")?;
+    }
+    Ok(())
+}
+
 fn show_images<F: Files>(rt: &HostRuntime, files: &mut F, meaning: &Meaning) -> io::Result<()>
-    requires { IsSound meaning.now.source meaning.now.flat meaning.now.settled }
+    requires { HasMeaning meaning.now.source meaning.now.flat meaning.now.settled }
 {
     match read_images(rt.alloc(), files, ROOT, &meaning.source, &meaning.flat) {
         Ok(images) => show_spaces(rt, meaning, &images),
@@ -30,7 +51,7 @@ fn show_images<F: Files>(rt: &HostRuntime, files: &mut F, meaning: &Meaning) -> 
 }
 
 fn show_spaces(rt: &HostRuntime, meaning: &Meaning, images: &Images) -> io::Result<()>
-    requires sound { IsSound meaning.now.source meaning.now.flat meaning.now.settled }
+    requires sound { HasMeaning meaning.now.source meaning.now.flat meaning.now.settled }
     requires imaged { IsImaged meaning.now.flat images.now }
 {
     let laid = lay_spaces(

@@ -4,8 +4,8 @@
 //! before, reads parts of a file within the whole, looks names up without tables, and makes one program for types, hierarchy
 //! and settings. So nothing else would see that these calls answer anything but want of memory: `lex`, `keywords` and `find`,
 //! `count`, `parse_value`, `parse_composition`, `parse_configuration`, `parse_assembly`, `resolve`, `check_types`, `flatten`,
-//! `settle`, `is_prefix`, `same_end`, `lay_spaces`, `applied`. The edges of `direct` are counted besides. Every other public call
-//! is made by the program, in `camkes_tests`, or by the programs of rows.
+//! `settle`, `is_prefix`, `same_end`, `lay_caps`, `lay_spaces`, `applied`. The edges of `direct` are counted besides. Every other
+//! public call is made by the program, in `camkes_tests`, or by the programs of rows.
 #![tactic(auto)]
 
 mod layout;

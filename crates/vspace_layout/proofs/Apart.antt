@@ -1,14 +1,5 @@
 -- Regions stand apart
-use Rattle.std.proofs.Common.{◌≡◌, ◌<◌, ◌≤◌, ◌+◌, ℕ, zero, suc, List, [], ◌∷◌, take, refl, ap, Some, arith}
-use Rattle.std.specs.Prelude.{◌%◌}
-use Rattle.std.specs.List.{slice_get}
-use Rattle.cap_model.specs.declared.level.Arch.{Arch}
-use Rattle.cap_model.specs.declared.level.Arch.TheVariants.{Arm11, Aarch64}
-use Rattle.source_images.specs.Images.{sections_end}
-use Rattle.vspace_layout.specs.declared.region.Region.{Region}
-use Rattle.vspace_layout.specs.Given.{Given, arch}
-use Rattle.vspace_layout.specs.Regions.{pages_in, regions}
-use Rattle.vspace_layout.specs.SpaceLaws.{RegionsAreApart}
+use Rattle.vspace_layout.proofs.Common.{Aarch64, Arch, Arm11, Given, List, Region, RegionsAreApart, Some, [], ap, arch, arith, pages_in, refl, regions, sections_end, slice_get, suc, take, zero, ℕ, ◌%◌, ◌+◌, ◌<◌, ◌∷◌, ◌≡◌, ◌≤◌}
 
 -- the pages before a later region hold those of an earlier one
 summed : (rs : List Region) (i j : ℕ) (r : Region) → i < j → slice_get rs i ≡ Some r

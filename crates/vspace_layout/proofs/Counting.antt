@@ -1,21 +1,7 @@
 -- How many pages a space has
-use Rattle.std.proofs.Common.{◌≡◌, ◌+◌, ℕ, suc, Bool, true, false, cond, List, [], ◌∷◌, length, map, refl, ◌∙◌, ap, arith}
-use Rattle.std.specs.Prelude.{leb, sum}
-use Rattle.std.specs.List.{flat_map}
-use Rattle.std.proofs.lemmas.List.{length-map}
-use Rattle.std.proofs.lemmas.List.FromFn.{length-map-range_with_len}
-use Rattle.std.proofs.lemmas.List.Sums.{sum_by-cons}
-use Rattle.adl_meaning.specs.declared.settled.Settled.{Settled}
-use Rattle.cam_base.specs.Gather.{gather}
-use Rattle.cam_base.proofs.Gathered.{length_append}
-use Rattle.source_images.specs.ByAddress.{by_address, name_of, page_at, pages_of, put_section, section_page_count, section_pages}
-use Rattle.source_images.specs.Images.{Placed, arch_of, sections_end, sections_of}
-use Rattle.source_images.specs.SectionPages.{page_count}
-use Rattle.source_images.specs.declared.images.Images.{Images}
-use Rattle.vspace_layout.specs.declared.region.Region.{Region}
-use Rattle.vspace_layout.specs.MappedPages.{page_of, pages_from, region_part, section_page, section_part}
-use Rattle.vspace_layout.specs.Outlines.{mapped_of, page_count_of}
-use Rattle.vspace_layout.specs.Regions.{pages_in, region_start}
+use Rattle.vspace_layout.proofs.Common.{Bool, Images, List, Placed, Region, Settled, [], ap, arch_of, arith, by_address, cond, false, flat_map, gather, leb, length, length-map, length-map-range_with_len, length_append, map, mapped_of, name_of}
+use Rattle.vspace_layout.proofs.Common.{page_at, page_count, page_count_of, page_of, pages_from, pages_in, pages_of, put_section, refl, region_part, region_start, section_page, section_page_count, section_pages, section_part, sections_end}
+use Rattle.vspace_layout.proofs.Common.{sections_of, suc, sum, sum_by-cons, true, ℕ, ◌+◌, ◌∙◌, ◌∷◌, ◌≡◌}
 
 -- ---- of sections
 

@@ -1,30 +1,10 @@
 -- Where no limit on pages is passed, regions and frames are few
-use Rattle.std.proofs.Common.{◌≡◌, ◌<◌, ◌≤◌, ◌*◌, ◌^◌, ℕ, zero, suc, Bool, true, false, cond, List, [], ◌∷◌, length, map, Option, Some, None, refl, ap, arith}
-use Rattle.std.specs.Prelude.{sum}
-use Rattle.std.specs.List.{range_with_len, slice_get}
-use Rattle.std.specs.Option.{option_map_or}
-use Rattle.std.proofs.lemmas.List.FromFn.{length-map-range_with_len}
-use Rattle.std.proofs.lemmas.List.Sums.{sum_by-cons}
-use Rattle.adl_meaning.specs.declared.flat.Domain.{Domain}
-use Rattle.adl_meaning.specs.declared.flat.FlatConnection.{FlatConnection}
-use Rattle.adl_meaning.specs.declared.flat.FlatEnd.{FlatEnd}
-use Rattle.cam_base.specs.Gather.{gather}
-use Rattle.cam_base.proofs.Gathered.{length_append}
-use Rattle.vspace_layout.specs.declared.mapped.MappedPage.{MappedPage}
-use Rattle.vspace_layout.specs.declared.mapped.Shown.{Shown}
-use Rattle.vspace_layout.specs.declared.mapped.Shown.TheVariants.{Own, Memory}
-use Rattle.vspace_layout.specs.declared.owner.Owner.TheVariants.{OfConnection}
-use Rattle.vspace_layout.specs.CanLay.{CanLay}
-use Rattle.vspace_layout.specs.Frames.{device_frame, frame, frames, frames_at, is_first, memory_part, own_frame, own_frames, own_part, register_frames, register_part, shared_frames, shared_part}
-use Rattle.vspace_layout.specs.Given.{Given, base, leaves_of}
-use Rattle.vspace_layout.specs.MappedPages.{mapped_pages, region_part, section_part}
-use Rattle.vspace_layout.specs.Memory.{is_shared, memory_paddr, memory_pages, registers}
-use Rattle.vspace_layout.specs.Outlines.{AreFew}
-use Rattle.vspace_layout.specs.PageLimits.{page_counts}
-use Rattle.vspace_layout.specs.Regions.{pages_in, regions, threads_of, windows_of}
+use Rattle.vspace_layout.proofs.Common.{AreFew, Bool, CanLay, Domain, FlatConnection, FlatEnd, Given, List, MappedPage, Memory, None, OfConnection, Option, Own, Shown, Some, [], ap, arith, base, cond, device_frame, false, frame, frames, frames_at}
+use Rattle.vspace_layout.proofs.Common.{gather, is_first, is_shared, leaves_of, length, length-gather, length-map-range_with_len, length_append, map, mapped_pages, memory_paddr, memory_pages, memory_part, option_map_or, own_frame, own_frames}
+use Rattle.vspace_layout.proofs.Common.{own_part, page_counts, pages_in, range_with_len, refl, region_part, regions, register_frames, register_part, registers, section_part, shared_frames, shared_part, slice_get, suc, sum, sum_by-cons, threads_of}
+use Rattle.vspace_layout.proofs.Common.{true, windows_of, zero, ℕ, ◌*◌, ◌<◌, ◌^◌, ◌∷◌, ◌≡◌, ◌≤◌}
 use Rattle.vspace_layout.proofs.Counting.{length-region_part}
 use Rattle.vspace_layout.proofs.Fitting.{few_regions}
-use Rattle.cam_base.proofs.NumberedLists.{length-gather}
 
 -- ---- sums
 

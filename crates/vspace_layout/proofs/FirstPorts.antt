@@ -1,17 +1,8 @@
 -- What tables of first connections find.
-use Rattle.std.proofs.Common.{◌≡◌, ◌==◌, ◌+◌, ◌<◌, ◌∙◌, ◌&&◌, ◌++◌, ℕ, zero, suc, Bool, cond, true, false, refl, sym, ap, add-one, List, [], ◌∷◌, Option, Some, None, length, map, take, drop, get_or}
-use Rattle.std.specs.List.{position, position_from, slice_get}
+use Rattle.vspace_layout.proofs.Common.{Bool, FlatConnection, FlatEnd, List, None, Option, PortKey, Some, [], add-one, and_parts, ap, at_drop_more, cond, drop, eq-eqb, eqb-true, false, first_number, get_or, key_of, leads_by, leads_to, length, map}
+use Rattle.vspace_layout.proofs.Common.{option_and_then, option_map_or, option_or, position, position_from, position_from-zero, refl, registers, same_key, slice_get, suc, sym, take, true, zero, ℕ, ◌&&◌, ◌++◌, ◌+◌, ◌<◌, ◌==◌, ◌∙◌, ◌∷◌, ◌≡◌}
 use Rattle.std.specs.Map.{lookup}
-use Rattle.std.specs.Option.{option_and_then, option_map_or, option_or}
-use Rattle.std.proofs.lemmas.Bool.{and_parts, eq-eqb, eqb-true}
-use Rattle.std.proofs.lemmas.Iterator.Adapters.{position_from-zero}
-use Rattle.std.proofs.lemmas.List.{at_drop_more}
 use Rattle.cam_base.proofs.Options.{option_or-none, option_or-cond}
-use Rattle.adl_meaning.specs.declared.flat.FlatConnection.{FlatConnection}
-use Rattle.adl_meaning.specs.declared.flat.FlatEnd.{FlatEnd}
-use Rattle.vspace_layout.specs.declared.ports.PortKey.{PortKey}
-use Rattle.vspace_layout.specs.Memory.{leads_to, registers}
-use Rattle.vspace_layout.specs.Ports.{first_number, key_of, leads_by, same_key}
 
 -- ---- keys
 

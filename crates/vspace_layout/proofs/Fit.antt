@@ -1,36 +1,9 @@
 -- Where no limit on pages is passed, pages are few and have numbers
-use Rattle.std.proofs.Common.{◌≡◌, ◌<◌, ◌≤◌, ◌+◌, ◌^◌, ◌∙◌, ℕ, List, [], ◌∷◌, ◌++◌, Option, Some, None, length, map, get_or, refl, sym, ap, subst, inl, inr, ⊎_elim, arith}
-use Rattle.std.specs.Prelude.{sum}
-use Rattle.std.specs.List.{flat_map, range_with_len, slice_get}
-use Rattle.std.specs.Option.{option_map_or}
-use Rattle.std.proofs.lemmas.List.{length-map}
-use Rattle.std.proofs.lemmas.Simd.{map-map}
-use Rattle.adl_meaning.specs.declared.flat.Domain.{Domain}
-use Rattle.adl_meaning.specs.declared.flat.Flat.{Flat}
-use Rattle.adl_meaning.specs.declared.flat.FlatConnection.{FlatConnection}
-use Rattle.adl_meaning.specs.declared.settled.Settled.{Settled}
-use Rattle.cspace_layout.specs.declared.end_at.EndAt.{EndAt}
-use Rattle.cam_base.specs.Gather.{IsIn}
-use Rattle.cam_base.proofs.Gathered.{from_gather, gather_map, gather_ones, gather_same, in_append, in_place, length_append}
-use Rattle.cam_base.proofs.NumberedLists.{below, from_map, from_range, from_get_map}
-use Rattle.source_images.specs.declared.images.Images.{Images}
-use Rattle.source_images.specs.declared.pages.SectionPage.{SectionPage}
-use Rattle.source_images.specs.ByAddress.{section_pages}
-use Rattle.source_images.specs.Images.{arch_of, sections_end}
-use Rattle.vspace_layout.specs.declared.mapped.MappedPage.{MappedPage}
-use Rattle.vspace_layout.specs.declared.region.Region.{Region}
-use Rattle.vspace_layout.specs.declared.thread.ThreadOf.{ThreadOf}
-use Rattle.vspace_layout.specs.CanLay.{CanLay}
-use Rattle.vspace_layout.specs.FrameNumbers.{IsNumbered, all_own, memory_first, memory_firsts}
-use Rattle.vspace_layout.specs.Frames.{memory_before, memory_part, register_part, shared_part}
-use Rattle.vspace_layout.specs.Given.{Given, ends}
-use Rattle.vspace_layout.specs.MappedPages.{page_of, pages_from, pages_of_region, region_part, section_page, section_part}
-use Rattle.vspace_layout.specs.Memory.{memory_pages}
-use Rattle.vspace_layout.specs.Outlines.{AreFit, all_mapped, regions_at}
-use Rattle.vspace_layout.specs.PageLimits.{page_counts}
-use Rattle.vspace_layout.specs.MappedPages.{mapped_pages}
-use Rattle.vspace_layout.specs.Regions.{domain_windows, region_start, regions_in, thread_regions, window_region}
-use Rattle.vspace_layout.specs.Threads.{domain_threads}
+use Rattle.vspace_layout.proofs.Common.{AreFit, CanLay, Domain, EndAt, Flat, FlatConnection, Given, Images, IsIn, IsNumbered, List, MappedPage, None, Option, Region, SectionPage, Settled, Some, ThreadOf, [], all_mapped, all_own, ap, arch_of, arith}
+use Rattle.vspace_layout.proofs.Common.{below, domain_threads, domain_windows, ends, flat_map, from_gather, from_get_map, from_map, from_range, gather_map, gather_ones, gather_same, get_or, in_append, in_place, inl, inr, length, length-map}
+use Rattle.vspace_layout.proofs.Common.{length_append, map, map-map, mapped_pages, memory_before, memory_first, memory_firsts, memory_pages, memory_part, option_map_or, page_counts, page_of, pages_from, pages_of_region, range_with_len, refl}
+use Rattle.vspace_layout.proofs.Common.{region_part, region_start, regions_at, regions_in, register_part, section_page, section_pages, section_part, sections_end, shared_part, slice_get, subst, sum, sym, thread_regions, window_region, wired_of, ℕ}
+use Rattle.vspace_layout.proofs.Common.{⊎_elim, ◌++◌, ◌+◌, ◌<◌, ◌^◌, ◌∙◌, ◌∷◌, ◌≡◌, ◌≤◌}
 use Rattle.vspace_layout.proofs.Few.{own_few, registers_few, shared_few}
 use Rattle.vspace_layout.proofs.Joining.{here, mapped_here, own_number_of}
 use Rattle.vspace_layout.proofs.Laying.{ones_or}
@@ -113,8 +86,7 @@ pages_numbered firsts settled images leaves base rs all p i =
 
 -- ---- all
 
-lengths : (t : Given) → sum (map (λ (ps : List MappedPage). length ps) (all_mapped t.flat t.settled (ends t) t.images)) ≡ sum
-    (page_counts t)
+lengths : (t : Given) → sum (map (λ (ps : List MappedPage). length ps) (all_mapped t)) ≡ sum (page_counts t)
 lengths t =
     ap sum (
     map-map (λ (ps : List MappedPage). length ps) (λ (x : Domain). here t x.leaves) t.flat.domains
@@ -124,7 +96,7 @@ lengths t =
     )
 
 pub are_fit : (t : Given) → CanLay t → sum (page_counts t) ≤ 65536
-    → AreFit t.flat t.settled (all_mapped t.flat t.settled (ends t) t.images)
+    → AreFit t.flat t.settled (all_mapped t)
 are_fit t can few = record {
   domains = length-map t.flat.domains (λ (x : Domain). here t x.leaves);
   count = can.domains;
@@ -134,7 +106,7 @@ are_fit t can few = record {
 }
   where
     mapped : List (List MappedPage)
-    mapped = all_mapped t.flat t.settled (ends t) t.images
+    mapped = all_mapped t
 
     own : ℕ
     own = all_own mapped
@@ -157,6 +129,6 @@ are_fit t can few = record {
         let i : IsIn page (here t x.0.leaves) = subst (λ (z : List MappedPage). IsIn page z) (sym x.2)
         (in_place page pages n there) in
         pages_numbered (memory_firsts own t.flat t.settled) t.settled t.images x.0.leaves (sections_end (arch_of t.images.images))
-        (regions_at t.flat t.settled (ends t) x.0.leaves)
+        (regions_at (wired_of t) x.0.leaves)
         (regions_numbered own t.flat t.settled (domain_threads t.flat (ends t) x.0.leaves)
         (domain_windows t.flat (ends t) x.0.leaves) small can.memory) page i

@@ -1,14 +1,6 @@
 -- Regions are few where their pages are, and what stands before a region is a part of all
-use Rattle.std.proofs.Common.{◌≡◌, ◌<◌, ◌≤◌, ◌+◌, ◌*◌, ℕ, zero, suc, List, [], ◌∷◌, ◌++◌, length, map, take, refl, ap, Some, inl, inr, arith}
-use Rattle.std.specs.List.{flat_map, slice_get}
-use Rattle.adl_meaning.specs.declared.flat.Flat.{Flat}
-use Rattle.adl_meaning.specs.declared.settled.Settled.{Settled}
-use Rattle.cspace_layout.specs.declared.end_at.EndAt.{EndAt}
-use Rattle.cam_base.specs.Gather.{IsIn}
-use Rattle.cam_base.proofs.Gathered.{length_append}
-use Rattle.vspace_layout.specs.declared.region.Region.{Region}
-use Rattle.vspace_layout.specs.declared.thread.ThreadOf.{ThreadOf}
-use Rattle.vspace_layout.specs.Regions.{pages_in, regions_in, thread_regions, window_pages, window_region}
+use Rattle.vspace_layout.proofs.Common.{EndAt, Flat, IsIn, List, Region, Settled, Some, ThreadOf, [], ap, arith, flat_map, inl, inr, length, length_append, map, pages_in, refl, regions_in, slice_get, suc, take, thread_regions, window_pages}
+use Rattle.vspace_layout.proofs.Common.{window_region, zero, ℕ, ◌*◌, ◌++◌, ◌+◌, ◌<◌, ◌∷◌, ◌≡◌, ◌≤◌}
 
 pub pages_append : (xs ys : List Region) → pages_in (xs ++ ys) ≡ pages_in xs + pages_in ys
 pages_append [] ys = omega arith

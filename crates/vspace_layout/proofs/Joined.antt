@@ -1,29 +1,8 @@
 -- Spaces and frames, put together
-use Rattle.std.proofs.Common.{◌≡◌, ◌<◌, ◌≤◌, ◌+◌, ◌^◌, ◌∙◌, ℕ, List, [], ◌∷◌, Option, Some, length, get_or, refl, sym, ap, subst, arith}
-use Rattle.std.specs.Prelude.{sum}
-use Rattle.std.specs.List.{slice_get}
-use Rattle.std.specs.Option.{option_map_or}
-use Rattle.std.proofs.lemmas.List.{length-map}
-use Rattle.std.proofs.lemmas.Option.{get_or_from_slice_get}
-use Rattle.adl_meaning.specs.declared.flat.Domain.{Domain}
-use Rattle.adl_meaning.specs.declared.flat.Flat.{Flat}
-use Rattle.adl_meaning.specs.declared.settled.Settled.{Settled}
-use Rattle.cam_base.specs.Gather.{IsIn, before, gather}
-use Rattle.cam_base.proofs.Gathered.{gather_ones, gather_same, get_ones, place_of}
-use Rattle.cam_base.proofs.NumberedLists.{at_place, below, from_map}
-use Rattle.vspace_layout.specs.declared.mapped.MappedPage.{MappedPage}
-use Rattle.vspace_layout.specs.declared.outline.Outline.{Outline}
-use Rattle.vspace_layout.specs.declared.spaces.FrameInfo.{FrameInfo}
-use Rattle.vspace_layout.specs.declared.spaces.Page.{Page}
-use Rattle.vspace_layout.specs.declared.spaces.Space.{Space}
+use Rattle.vspace_layout.proofs.Common.{AreFew, AreOutlined, CanLay, Domain, Flat, FrameInfo, Given, IsIn, List, MappedPage, Option, Outline, Page, Settled, Some, Space, [], all_numbered, all_own, ap, arith, at_place, before, below, capped, from_map}
+use Rattle.vspace_layout.proofs.Common.{gather, gather_ones, gather_same, get_ones, get_or, get_or_from_slice_get, length, length-map, memory_firsts, option_map_or, outline, outlines, own_added, page_counts, pages_numbered, place_of, refl}
+use Rattle.vspace_layout.proofs.Common.{regions_at, regions_in, slice_get, space_at, space_in, spaces_with, subst, sum, sym, wired_of, ℕ, ◌+◌, ◌<◌, ◌^◌, ◌∙◌, ◌∷◌, ◌≡◌, ◌≤◌}
 use Rattle.vspace_layout.specs.declared.spaces.Spaces.{Spaces}
-use Rattle.vspace_layout.specs.CanLay.{CanLay}
-use Rattle.vspace_layout.specs.Counted.{capped}
-use Rattle.vspace_layout.specs.FrameNumbers.{all_numbered, all_own, memory_firsts, own_added, pages_numbered}
-use Rattle.vspace_layout.specs.Given.{Given, ends}
-use Rattle.vspace_layout.specs.Outlines.{AreFew, AreOutlined, outline, outlines, regions_at, space_at, space_in, spaces_with}
-use Rattle.vspace_layout.specs.PageLimits.{page_counts}
-use Rattle.vspace_layout.specs.Regions.{regions_in}
 use Rattle.vspace_layout.proofs.Few.{few_at}
 
 abbrev pub both : List Space → List FrameInfo → Spaces
@@ -61,17 +40,17 @@ capped_own n m l = omega arith
 
 -- regions are few in each domain
 pub few_in : (t : Given) → CanLay t → sum (page_counts t) ≤ 65536 → (x : Domain) → IsIn x t.flat.domains
-    → AreFew (regions_at t.flat t.settled (ends t) x.leaves)
+    → AreFew (regions_at (wired_of t) x.leaves)
 few_in t can few x i =
     let d : (n : ℕ) × (slice_get t.flat.domains n ≡ Some x) = place_of x t.flat.domains i in
-    subst (λ (ls : List ℕ). AreFew (regions_at t.flat t.settled (ends t) ls))
+    subst (λ (ls : List ℕ). AreFew (regions_at (wired_of t) ls))
     (ap (λ (o : Option Domain). option_map_or (λ y. y.leaves) o []) d.1) (few_at t can few d.0 x d.1)
 
 -- the outlines of a system whose pages are few
 pub outlined : (t : Given) → CanLay t → sum (page_counts t) ≤ 65536
-    → AreOutlined t.flat t.settled (outlines t.flat t.settled (ends t))
+    → AreOutlined t.flat t.settled (outlines (wired_of t))
 outlined t can few =
-    let of : Domain → Outline = λ x. outline t.flat t.settled (ends t) x.leaves in
+    let of : Domain → Outline = λ x. outline (wired_of t) x.leaves in
     record {
       each = length-map t.flat.domains of;
       few = λ o i. let m = from_map of o t.flat.domains i in

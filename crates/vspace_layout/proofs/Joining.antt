@@ -1,37 +1,15 @@
 -- What is counted and listed domain by domain is what the definitions say of all
-use Rattle.std.proofs.Common.{◌≡◌, ℕ, ◌+◌, zero, suc, cond, get_or, List, [], ◌∷◌, ◌++◌, length, map, take, Option, Some, refl, sym, ◌∙◌, ap, arith}
-use Rattle.std.specs.Prelude.{sum}
-use Rattle.std.specs.List.{count_by, slice_get}
-use Rattle.std.specs.Option.{option_map_or}
-use Rattle.std.proofs.lemmas.List.Sums.{sum_by-cons}
-use Rattle.std.proofs.lemmas.Option.{get_or_from_slice_get}
-use Rattle.std.proofs.lemmas.Simd.{map-map}
-use Rattle.adl_meaning.specs.declared.flat.Domain.{Domain}
-use Rattle.cam_base.specs.Gather.{before, gather}
-use Rattle.cam_base.proofs.Gathered.{gather_map, gather_same, length_append}
-use Rattle.cam_base.proofs.NumberedLists.{get_map}
-use Rattle.source_images.specs.ByAddress.{section_page_count}
-use Rattle.vspace_layout.specs.declared.mapped.MappedPage.{MappedPage}
-use Rattle.vspace_layout.specs.declared.mapped.Shown.{Shown}
-use Rattle.vspace_layout.specs.declared.mapped.Shown.TheVariants.{Own, Memory}
-use Rattle.vspace_layout.specs.declared.outline.Outline.{Outline}
-use Rattle.vspace_layout.specs.declared.spaces.FrameInfo.{FrameInfo}
-use Rattle.vspace_layout.specs.Counted.{tables_of}
-use Rattle.vspace_layout.specs.FrameNumbers.{all_own, is_own, is_own_frame, own_added}
-use Rattle.vspace_layout.specs.Frames.{own_frame, own_frames, own_part}
-use Rattle.vspace_layout.specs.Given.{Given, arch, ends}
-use Rattle.vspace_layout.specs.MappedPages.{mapped_pages}
-use Rattle.vspace_layout.specs.Outlines.{all_counted, all_mapped, counted_by, domain_counted, domain_mapped}
-use Rattle.vspace_layout.specs.Outlines.{mapped_by, mapped_of, no_outline, outline, outlines, regions_at}
-use Rattle.vspace_layout.specs.PageLimits.{page_counts, table_counts, tables_needed}
-use Rattle.vspace_layout.specs.Regions.{pages_in}
+use Rattle.vspace_layout.proofs.Common.{Domain, FrameInfo, Given, List, MappedPage, Memory, Option, Outline, Own, Shown, Some, [], all_counted, all_mapped, all_own, ap, arch, arith, before, cond, count_by, counted_by, domain_counted, domain_mapped}
+use Rattle.vspace_layout.proofs.Common.{gather, gather_map, gather_same, get_map, get_or, get_or_from_slice_get, is_own, is_own_frame, length, length_append, map, map-map, mapped_by, mapped_of, mapped_pages, no_outline, option_map_or, outline}
+use Rattle.vspace_layout.proofs.Common.{outlines, own_added, own_frame, own_frames, own_part, page_counts, pages_in, refl, regions_at, section_page_count, slice_get, suc, sum, sum_by-cons, sym, table_counts, tables_needed, tables_of, take, wired_of}
+use Rattle.vspace_layout.proofs.Common.{zero, ℕ, ◌++◌, ◌+◌, ◌∙◌, ◌∷◌, ◌≡◌}
 use Rattle.vspace_layout.proofs.Counting.{counted}
 
 abbrev pub here : Given → List ℕ → List MappedPage
-here t leaves = domain_mapped t.flat t.settled (ends t) t.images leaves
+here t leaves = domain_mapped t leaves
 
 abbrev counted_here : Given → List ℕ → ℕ
-counted_here t leaves = domain_counted t.flat t.settled (ends t) t.images leaves
+counted_here t leaves = domain_counted t leaves
 
 pub mapped_here : (t : Given) (d : ℕ) (x : Domain) → slice_get t.flat.domains d ≡ Some x → mapped_pages t d ≡ here t x.leaves
 mapped_here t d x e = ap (λ (o : Option Domain). here t (option_map_or (λ y. y.leaves) o [])) e
@@ -39,10 +17,10 @@ mapped_here t d x e = ap (λ (o : Option Domain). here t (option_map_or (λ y. y
 count_here : (t : Given) (d : ℕ) (x : Domain) → slice_get t.flat.domains d ≡ Some x
     → length (mapped_pages t d) ≡ counted_here t x.leaves
 count_here t d x e = ap (λ (ps : List MappedPage). length ps) (mapped_here t d x e) ∙ counted t.settled t.images x.leaves
-    (regions_at t.flat t.settled (ends t) x.leaves)
+    (regions_at (wired_of t) x.leaves)
 
 -- the pages of all domains are as many as are counted
-pub pages_counted : (t : Given) → sum (page_counts t) ≡ all_counted t.flat t.settled (ends t) t.images
+pub pages_counted : (t : Given) → sum (page_counts t) ≡ all_counted t
 pages_counted t =
     ap sum (
     gather_same (λ d (x : Domain). length (mapped_pages t d) ∷ []) (λ d (x : Domain). counted_here t x.leaves ∷ []) t.flat.domains
@@ -52,7 +30,7 @@ pages_counted t =
 
 -- and so are their page tables
 pub tables_counted : (t : Given)
-    → sum (table_counts t) ≡ sum (map (tables_of (arch t)) (all_mapped t.flat t.settled (ends t) t.images))
+    → sum (table_counts t) ≡ sum (map (tables_of (arch t)) (all_mapped t))
 tables_counted t =
     ap sum (
     gather_same (λ d (x : Domain). tables_needed t d ∷ []) (λ d (x : Domain). tables_of (arch t) (here t x.leaves) ∷ [])
@@ -74,15 +52,14 @@ apart f g h (d ∷ ds) =
     let e = sum_by-cons (λ (n : ℕ). n) (f d + g (h d)) (map (λ x. f x + g (h x)) ds) in
     omega (arith, ih, a, b, e)
 
-pub counted_same : (t : Given) → counted_by t.flat t.images (outlines t.flat t.settled (ends t)) ≡ sum (page_counts t)
+pub counted_same : (t : Given) → counted_by t.flat t.images (outlines (wired_of t)) ≡ sum (page_counts t)
 counted_same t =
-    apart (λ x. section_page_count t.images x.leaves) (λ o. pages_in o.regions) (λ x. outline t.flat t.settled (ends t) x.leaves)
+    apart (λ x. section_page_count t.images x.leaves) (λ o. pages_in o.regions) (λ x. outline (wired_of t) x.leaves)
     t.flat.domains ∙ sym (pages_counted t)
 
-pub mapped_same : (t : Given) → mapped_by t.flat t.settled t.images (outlines t.flat t.settled (ends t)) ≡ all_mapped t.flat
-    t.settled (ends t) t.images
+pub mapped_same : (t : Given) → mapped_by t.flat t.settled t.images (outlines (wired_of t)) ≡ all_mapped t
 mapped_same t =
-    let of : Domain → Outline = λ x. outline t.flat t.settled (ends t) x.leaves in
+    let of : Domain → Outline = λ x. outline (wired_of t) x.leaves in
     gather_same (λ n (x : Domain). mapped_of t.settled t.images x.leaves (get_or (map of t.flat.domains) n no_outline).regions
     ∷ []) (λ n (x : Domain). here t x.leaves ∷ []) t.flat.domains
     (λ n x e. ap (λ (o : Outline). mapped_of t.settled t.images x.leaves o.regions ∷ [])
@@ -110,13 +87,13 @@ get_taken (y ∷ xs) (suc n) zero x e = e
 get_taken (y ∷ xs) (suc n) (suc k) x e = get_taken xs n k x e
 
 -- the own frames of all domains, and of those before one
-pub own_gathered : (t : Given) → gather own_added (all_mapped t.flat t.settled (ends t) t.images) ≡ own_part t
+pub own_gathered : (t : Given) → gather own_added (all_mapped t) ≡ own_part t
 own_gathered t =
     gather_mapped own_added (λ (x : Domain). here t x.leaves) t.flat.domains
     ∙ gather_same (λ d (x : Domain). own_added d (here t x.leaves)) (own_frames t) t.flat.domains
     (λ k x e. ap (own_added k) (sym (mapped_here t k x e)))
 
-pub own_before : (t : Given) (d : ℕ) → before own_added (all_mapped t.flat t.settled (ends t) t.images) d ≡ before (own_frames t)
+pub own_before : (t : Given) (d : ℕ) → before own_added (all_mapped t) d ≡ before (own_frames t)
     t.flat.domains d
 own_before t d =
     ap (λ (z : List (List MappedPage)). length (gather own_added z)) (take_mapped (λ (x : Domain). here t x.leaves) d
@@ -151,6 +128,6 @@ all_counted_own f (ps ∷ ls) =
     omega (arith, a, b, d, e)
 
 -- how many own frames there are
-pub own_number_of : (t : Given) → all_own (all_mapped t.flat t.settled (ends t) t.images) ≡ length (own_part t)
-own_number_of t = sym (all_counted_own (λ n. n) (all_mapped t.flat t.settled (ends t) t.images))
+pub own_number_of : (t : Given) → all_own (all_mapped t) ≡ length (own_part t)
+own_number_of t = sym (all_counted_own (λ n. n) (all_mapped t))
     ∙ ap (λ (z : List FrameInfo). length z) (own_gathered t)

@@ -1,33 +1,13 @@
 -- Spaces that are laid domain by domain are those of the definition
-use Rattle.std.proofs.Common.{◌≡◌, ◌<◌, ◌+◌, ◌*◌, ℕ, zero, suc, List, [], ◌∷◌, ◌++◌, get_or, length, map, Option, Some, refl, sym, ◌∙◌, ap, arith}
-use Rattle.std.specs.List.{flat_map, slice_get}
-use Rattle.std.specs.Option.{option_map_or}
-use Rattle.std.proofs.lemmas.List.{length-map}
-use Rattle.std.proofs.lemmas.Option.{get_or_from_slice_get}
-use Rattle.adl_meaning.specs.declared.flat.Domain.{Domain}
-use Rattle.adl_meaning.specs.declared.flat.Flat.{Flat}
-use Rattle.adl_meaning.specs.declared.settled.Settled.{Settled}
-use Rattle.cspace_layout.specs.declared.end_at.EndAt.{EndAt}
-use Rattle.cam_base.specs.Gather.{before, gather}
-use Rattle.cam_base.proofs.Gathered.{gather_same, length_append}
-use Rattle.cam_base.proofs.NumberedLists.{at_place, below, get_map}
-use Rattle.vspace_layout.specs.declared.mapped.MappedPage.{MappedPage}
-use Rattle.vspace_layout.specs.declared.mapped.Shown.{Shown}
-use Rattle.vspace_layout.specs.declared.mapped.Shown.TheVariants.{Own, Memory}
-use Rattle.vspace_layout.specs.declared.outline.Outline.{Outline}
-use Rattle.vspace_layout.specs.declared.region.Region.{Region}
-use Rattle.vspace_layout.specs.declared.spaces.Page.{Page}
-use Rattle.vspace_layout.specs.declared.spaces.Space.{Space}
+use Rattle.vspace_layout.proofs.Common.{Domain, EndAt, Flat, Given, List, MappedPage, Memory, Option, Outline, Own, Page, Region, Settled, Shown, Some, Space, ThreadOf, [], all_mapped, ap, arith, at_place, base, before, below, domain_mapped}
+use Rattle.vspace_layout.proofs.Common.{flat_map, gather, gather_same, get_map, get_or, get_or_from_slice_get, leaves_of, length, length-map, length_append, map, mapped_pages, memory_firsts, memory_part, number_of, number_shown, numbered_page}
+use Rattle.vspace_layout.proofs.Common.{option_map_or, outline, outlines, own_added, own_frames, own_number, own_part, pages_at, pages_numbered, refl, region_start, regions, regions_in, slice_get, space_at, space_in, spaces_in, stack_pages, start}
+use Rattle.vspace_layout.proofs.Common.{start_at, starts_in, suc, sym, thread_at, thread_places, thread_regions, threads_of, window_pages, window_place, window_places, window_region, windows_of, wired_of, zero, ℕ, ◌*◌, ◌++◌, ◌+◌, ◌<◌, ◌∙◌, ◌∷◌, ◌≡◌}
 use Rattle.vspace_layout.specs.declared.spaces.ThreadPlace.{ThreadPlace}
 use Rattle.vspace_layout.specs.declared.spaces.Window.{Window}
-use Rattle.vspace_layout.specs.declared.thread.ThreadOf.{ThreadOf}
-use Rattle.vspace_layout.specs.FrameNumbers.{memory_first as first_for, memory_firsts, number_of, numbered_page, own_added, pages_numbered}
-use Rattle.vspace_layout.specs.Frames.{memory_first, memory_part, number_shown, own_frames, own_number, own_part}
-use Rattle.vspace_layout.specs.Given.{Given, base, ends, leaves_of}
+use Rattle.vspace_layout.specs.FrameNumbers.{memory_first as first_for}
+use Rattle.vspace_layout.specs.Frames.{memory_first}
 use Rattle.vspace_layout.specs.Laid.{page, space, spaces_of, thread_place, window_at}
-use Rattle.vspace_layout.specs.MappedPages.{mapped_pages}
-use Rattle.vspace_layout.specs.Outlines.{all_mapped, domain_mapped, outline, outlines, pages_at, space_at, space_in, spaces_in, start_at, starts_in, thread_at, thread_places, window_place, window_places}
-use Rattle.vspace_layout.specs.Regions.{region_start, regions, regions_in, stack_pages, start, thread_regions, threads_of, window_pages, window_region, windows_of}
 use Rattle.vspace_layout.proofs.Joining.{gather_mapped, own_before, own_gathered, own_number_of}
 use Rattle.vspace_layout.proofs.Joined.{both}
 
@@ -64,17 +44,16 @@ pages_same t d =
     (λ n p e. ap (λ m. with_frame p m ∷ []) (number_same t d n p.shown))
 
 mapped_at : (t : Given) (d : ℕ) (x : Domain) → slice_get t.flat.domains d ≡ Some x
-    → get_or (all_mapped t.flat t.settled (ends t) t.images) d [] ≡ mapped_pages t d
+    → get_or (all_mapped t) d [] ≡ mapped_pages t d
 mapped_at t d x e =
-    let F : Domain → List MappedPage = λ y. domain_mapped t.flat t.settled (ends t) t.images y.leaves in
+    let F : Domain → List MappedPage = λ y. domain_mapped t y.leaves in
     get_or_from_slice_get (map F t.flat.domains) d (F x) [] (get_map F t.flat.domains d x e)
-    ∙ sym (ap (λ (o : Option Domain). domain_mapped t.flat t.settled (ends t) t.images (option_map_or (λ y. y.leaves) o [])) e)
+    ∙ sym (ap (λ (o : Option Domain). domain_mapped t (option_map_or (λ y. y.leaves) o [])) e)
 
 pages_here : (t : Given) (d : ℕ) (x : Domain) → slice_get t.flat.domains d ≡ Some x
-    → pages_at t.flat t.settled (all_mapped t.flat t.settled (ends t) t.images) d ≡ gather (λ n p. page t d n p ∷ [])
-    (mapped_pages t d)
+    → pages_at t.flat t.settled (all_mapped t) d ≡ gather (λ n p. page t d n p ∷ []) (mapped_pages t d)
 pages_here t d x e =
-    let mapped = all_mapped t.flat t.settled (ends t) t.images in
+    let mapped = all_mapped t in
     ap (λ own. pages_numbered d (memory_firsts own t.flat t.settled) (before own_added mapped d) (get_or mapped d []))
     (own_number_of t)
     ∙ ap (λ at. pages_numbered d (memory_firsts (length (own_part t)) t.flat t.settled) at (get_or mapped d [])) (own_before t d)
@@ -140,12 +119,11 @@ abbrev made : List Page → List ThreadPlace → List Window → Space
 made pages threads windows = record { pages = pages; threads = threads; windows = windows }
 
 space_same : (t : Given) (d : ℕ) (x : Domain) → slice_get t.flat.domains d ≡ Some x
-    → space_at t.flat t.settled (base t) (all_mapped t.flat t.settled (ends t) t.images) d
-    (outline t.flat t.settled (ends t) x.leaves) ≡ space t d x
+    → space_at t.flat t.settled (base t) (all_mapped t) d (outline (wired_of t) x.leaves) ≡ space t d x
 space_same t d x e =
-    let pages = pages_at t.flat t.settled (all_mapped t.flat t.settled (ends t) t.images) d in
+    let pages = pages_at t.flat t.settled (all_mapped t) d in
     let leaves : x.leaves ≡ leaves_of t.flat d = sym (ap (λ (o : Option Domain). option_map_or (λ y. y.leaves) o []) e) in
-    ap (λ ls. space_in t.flat t.settled (base t) (outline t.flat t.settled (ends t) ls) pages) leaves
+    ap (λ ls. space_in t.flat t.settled (base t) (outline (wired_of t) ls) pages) leaves
     ∙ ap (λ ps. made ps (thread_places t.settled (starts_in (base t) (regions t d)) (threads_of t d))
     (window_places t.flat t.settled (starts_in (base t) (regions t d)) (2 * length (threads_of t d)) (windows_of t d)))
     (pages_here t d x e)
@@ -156,11 +134,10 @@ space_same t d x e =
     (threads_of t d)) ws) (windows_same t d)
 
 -- what is laid domain by domain is what the definition says
-pub laid : (t : Given) → spaces_in t.flat t.settled (base t) (outlines t.flat t.settled (ends t))
-    (all_mapped t.flat t.settled (ends t) t.images) ≡ spaces_of t
+pub laid : (t : Given) → spaces_in t.flat t.settled (base t) (outlines (wired_of t)) (all_mapped t) ≡ spaces_of t
 laid t =
-    let mapped = all_mapped t.flat t.settled (ends t) t.images in
-    let of : Domain → Outline = λ x. outline t.flat t.settled (ends t) x.leaves in
+    let mapped = all_mapped t in
+    let of : Domain → Outline = λ x. outline (wired_of t) x.leaves in
     ap (λ ss. both ss (gather own_added mapped ++ memory_part t.flat t.settled))
     (gather_mapped (λ d (o : Outline). space_at t.flat t.settled (base t) mapped d o ∷ []) of t.flat.domains
     ∙ gather_same (λ d (x : Domain). space_at t.flat t.settled (base t) mapped d (of x) ∷ []) (λ d (x : Domain). space t d x ∷ [])

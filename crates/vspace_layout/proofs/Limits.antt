@@ -1,8 +1,6 @@
 -- The first limit on pages that is passed, at the keyword of the assembly, is the first fault of pages.
-use Rattle.std.proofs.Common.{◌≡◌, ◌≤◌, ◌<◌, ℕ, Bool, true, false, cond, List, [], ◌∷◌, ◌++◌, length, Option, Some, None, refl, sym, ◌∙◌, ap, arith}
-use Rattle.std.specs.Prelude.{nat_lt, option_map, codes}
-use Rattle.std.specs.List.{flat_map, slice_get}
-use Rattle.std.proofs.lemmas.Bool.{ltb-true, ltb-false}
+use Rattle.vspace_layout.proofs.Common.{Bool, List, None, Option, Some, [], ap, arith, capped, codes, cond, false, flat_map, length, limit_over, limits_passed, ltb-false, ltb-true, nat_lt, option_map, refl, slice_get, sym, true, ℕ, ◌++◌, ◌<◌, ◌∙◌}
+use Rattle.vspace_layout.proofs.Common.{◌∷◌, ◌≡◌, ◌≤◌}
 use lib.Dec.{ltb}
 use Rattle.cam_base.specs.Codes.{number_of}
 use Rattle.cam_base.specs.declared.code.Code.TheVariants as code
@@ -14,8 +12,6 @@ use Rattle.adl_meaning.specs.declared.item_at.ItemAt.{ItemAt}
 use Rattle.adl_meaning.specs.Faults.{least}
 use Rattle.adl_meaning.specs.Items.{assemblies}
 use Rattle.cspace_layout.specs.Limit.{fault_at, keyword, limit_fault, place_in}
-use Rattle.vspace_layout.specs.Counted.{capped, limit_over}
-use Rattle.vspace_layout.specs.PageLimits.{limits_passed}
 use Rattle.adl_meaning.proofs.Least.{lex_self}
 use Rattle.cspace_layout.proofs.Keyword.{has_place}
 

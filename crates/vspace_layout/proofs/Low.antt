@@ -1,24 +1,7 @@
 -- Addresses are low: what is mapped, and what regions end at.
-use Rattle.std.proofs.Common.{◌≡◌, ◌<◌, ◌≤◌, ◌+◌, ◌*◌, ℕ, suc, List, length, map, Some, sym, ◌∙◌, ap, subst, ⊎_elim, arith}
-use Rattle.std.specs.Prelude.{sum}
-use Rattle.std.specs.List.{range_with_len, slice_get}
-use Rattle.adl_meaning.specs.declared.flat.Domain.{Domain}
-use Rattle.cap_model.specs.declared.level.Arch.{Arch}
-use Rattle.cap_model.specs.declared.level.Arch.TheVariants.{Arm11, Aarch64}
-use Rattle.cam_base.specs.Gather.{IsIn}
-use Rattle.cam_base.proofs.Gathered.{from_gather, in_append}
-use Rattle.cam_base.proofs.NumberedLists.{below, from_map, from_range}
-use Rattle.source_images.specs.ByAddress.{section_pages}
-use Rattle.source_images.specs.Images.{sections_end}
-use Rattle.source_images.specs.declared.pages.SectionPage.{SectionPage}
-use Rattle.vspace_layout.specs.declared.mapped.MappedPage.{MappedPage}
-use Rattle.vspace_layout.specs.declared.region.Region.{Region}
-use Rattle.vspace_layout.specs.CanLay.{CanLay}
-use Rattle.vspace_layout.specs.Given.{Given, arch, base, leaves_of}
-use Rattle.vspace_layout.specs.MappedPages.{mapped_pages, page_of, pages_of_region, region_part, section_page, section_part}
-use Rattle.vspace_layout.specs.PageLimits.{page_counts}
-use Rattle.vspace_layout.specs.Regions.{pages_in, region_start, regions}
-use Rattle.vspace_layout.specs.SpaceLaws.{AddressesAreLow, SectionsStand, address_limit}
+use Rattle.vspace_layout.proofs.Common.{Aarch64, AddressesAreLow, Arch, Arm11, CanLay, Domain, Given, IsIn, List, MappedPage, Region, SectionPage, SectionsStand, Some, address_limit, ap, arch, arith, base, below, from_gather, from_map, from_range}
+use Rattle.vspace_layout.proofs.Common.{in_append, leaves_of, length, map, mapped_pages, page_counts, page_of, pages_in, pages_of_region, range_with_len, region_part, region_start, regions, section_page, section_pages, section_part, sections_end}
+use Rattle.vspace_layout.proofs.Common.{slice_get, subst, suc, sum, sym, ℕ, ⊎_elim, ◌*◌, ◌+◌, ◌<◌, ◌∙◌, ◌≡◌, ◌≤◌}
 use Rattle.vspace_layout.proofs.Few.{few_at}
 use Rattle.vspace_layout.proofs.Fitting.{pages_next, pages_upto}
 use Rattle.vspace_layout.proofs.Rising.{each_all, each_in, region_at}

@@ -1,22 +1,8 @@
 -- Where the frames of connections' memory stand.
-use Rattle.std.proofs.Common.{◌≡◌, ◌<◌, ◌≤◌, ◌+◌, ◌^◌, ◌∙◌, ℕ, zero, suc, Bool, cond, true, false, refl, sym, ap, List, [], ◌∷◌, ◌++◌, Option, Some, None, length, take, get_or, append_assoc, append-nil, arith}
-use Rattle.std.specs.List.{position, position_from, slice_get}
-use Rattle.std.specs.Option.{option_and_then, option_map_or}
-use Rattle.std.proofs.lemmas.Iterator.Adapters.{position_from-zero}
-use Rattle.std.proofs.lemmas.List.{length-map, get_or_default}
-use Rattle.std.proofs.lemmas.List.Quantifiers.{position-Some}
-use Rattle.std.proofs.lemmas.Option.{get_or_from_slice_get}
-use Rattle.adl_meaning.specs.declared.flat.Flat.{Flat}
-use Rattle.adl_meaning.specs.declared.flat.FlatConnection.{FlatConnection}
-use Rattle.adl_meaning.specs.declared.flat.FlatEnd.{FlatEnd}
-use Rattle.adl_meaning.specs.declared.settled.Settled.{Settled}
-use Rattle.cam_base.specs.Gather.{before, gather}
-use Rattle.cam_base.proofs.Gathered.{gather_ones, gather_same, gather_turn, length_append}
-use Rattle.cam_base.proofs.NumberedLists.{at_place, get_map, from_get_map}
-use Rattle.vspace_layout.specs.FrameNumbers.{AreFirsts, first_of, firsts_from, frames_by, frames_where, is_that, memory_first, memory_firsts, places_of}
-use Rattle.vspace_layout.specs.Frames.{frames_at, memory_before, memory_part, register_frames, register_part, registers_before, shared_frames, shared_part}
-use Rattle.vspace_layout.specs.Memory.{first_to, leads_to, registers}
-use Rattle.vspace_layout.specs.Ports.{first_number, first_numbers, key_of, same_key}
+use Rattle.vspace_layout.proofs.Common.{AreFirsts, Bool, Flat, FlatConnection, FlatEnd, List, None, Option, Settled, Some, [], ap, append-nil, append_assoc, arith, at_place, before, cond, false, first_number, first_numbers, first_of, first_to}
+use Rattle.vspace_layout.proofs.Common.{firsts_from, frames_at, frames_by, frames_where, from_get_map, gather, gather_ones, gather_same, gather_turn, get_map, get_or, get_or_default, get_or_from_slice_get, is_that, key_of, leads_to, length}
+use Rattle.vspace_layout.proofs.Common.{length-map, length_append, memory_before, memory_first, memory_firsts, memory_part, option_and_then, option_map_or, places_of, position, position-Some, position_from, position_from-zero, refl, register_frames}
+use Rattle.vspace_layout.proofs.Common.{register_part, registers, registers_before, same_key, shared_frames, shared_part, slice_get, suc, sym, take, true, zero, ℕ, ◌++◌, ◌+◌, ◌<◌, ◌^◌, ◌∙◌, ◌∷◌, ◌≡◌, ◌≤◌}
 use Rattle.vspace_layout.proofs.FirstPorts.{same_key-refl}
 use Rattle.vspace_layout.proofs.Joining.{gather_mapped}
 use Rattle.vspace_layout.proofs.Laying.{ones_or}

@@ -1,17 +1,7 @@
 -- The pages of spaces with the numbers of their frames, domain by domain
-use Rattle.std.proofs.Common.{◌≡◌, ◌≤◌, ◌+◌, ◌∙◌, ℕ, zero, suc, List, [], ◌∷◌, ◌++◌, Option, Some, length, map, take, append_assoc, refl, sym, ap, arith}
-use Rattle.std.specs.Prelude.{sum}
-use Rattle.std.specs.List.{slice_get}
-use Rattle.std.proofs.lemmas.List.Sums.{sum_by-cons}
-use Rattle.cam_base.specs.Gather.{before, gather}
-use Rattle.cam_base.proofs.Gathered.{length_append}
-use Rattle.vspace_layout.specs.declared.mapped.MappedPage.{MappedPage}
-use Rattle.vspace_layout.specs.declared.spaces.FrameInfo.{FrameInfo}
-use Rattle.vspace_layout.specs.FrameNumbers.{own_added}
-use Rattle.vspace_layout.specs.Frames.{own_frame}
+use Rattle.vspace_layout.proofs.Common.{FrameInfo, List, MappedPage, Option, Some, [], ap, append_assoc, arith, before, gather, gather_push, length, length-gather, length_append, map, own_added, own_frame, refl, slice_get, suc, sum, sum_by-cons, sym}
+use Rattle.vspace_layout.proofs.Common.{take, zero, ℕ, ◌++◌, ◌+◌, ◌∙◌, ◌∷◌, ◌≡◌, ◌≤◌}
 use Rattle.vspace_layout.proofs.Few.{own_one}
-use Rattle.cspace_layout.proofs.Taking.{gather_push}
-use Rattle.cam_base.proofs.NumberedLists.{length-gather}
 
 -- ---- pages of a domain
 

@@ -1,25 +1,11 @@
 -- The pages of a space rise
-use Rattle.std.proofs.Common.{◌≡◌, ◌<◌, ◌≤◌, ◌+◌, ◌*◌, ℕ, zero, suc, List, [], ◌∷◌, ◌++◌, map, Some, refl, sym, ◌∙◌, ap, subst, inl, inr, arith}
-use Rattle.std.specs.Prelude.{◌%◌}
-use Rattle.std.specs.List.{All, AllPairs, flat_map, range_with_len, slice_get}
-use Rattle.std.proofs.lemmas.List.{map-append}
-use Rattle.adl_meaning.specs.declared.settled.Settled.{Settled}
-use Rattle.cam_base.specs.Gather.{IsIn, gather}
-use Rattle.cam_base.proofs.NumberedLists.{in_map}
+use Rattle.vspace_layout.proofs.Common.{All, AllPairs, Buffer, Given, IsIn, Later, List, MappedPage, PagesRise, Region, SectionPage, SectionsStand, Settled, Some, Stack, Window, [], ap, arith, base, flat_map, gather, in_map, inl, inr, leaves_of, map}
+use Rattle.vspace_layout.proofs.Common.{map-append, mapped_pages, page_of, pages_from, range_with_len, refl, region_page, region_part, regions, section_page, section_pages, section_part, slice_get, start, subst, suc, sym, zero, ℕ, ◌%◌, ◌*◌, ◌++◌}
+use Rattle.vspace_layout.proofs.Common.{◌+◌, ◌<◌, ◌∙◌, ◌∷◌, ◌≡◌, ◌≤◌}
 use Rattle.page_tables.specs.Runs.{Rises}
-use Rattle.source_images.specs.ByAddress.{section_pages}
-use Rattle.source_images.specs.declared.pages.SectionPage.{SectionPage}
-use Rattle.vspace_layout.specs.declared.mapped.MappedPage.{MappedPage}
 use Rattle.vspace_layout.specs.declared.region.Content.{Content}
-use Rattle.vspace_layout.specs.declared.region.Content.TheVariants.{Stack, Buffer, Window}
-use Rattle.vspace_layout.specs.declared.region.Region.{Region}
-use Rattle.vspace_layout.specs.Given.{Given, base, leaves_of}
-use Rattle.vspace_layout.specs.MappedPages.{mapped_pages, page_of, pages_from, region_page, region_part, section_page, section_part}
-use Rattle.vspace_layout.specs.Regions.{regions, start}
-use Rattle.vspace_layout.specs.SpaceLaws.{PagesRise, SectionsStand}
 use Rattle.vspace_layout.proofs.Apart.{apart}
 use Rattle.cap_model.proofs.Eaches.{each_then, Each}
-use Rattle.source_images.proofs.Sorting.{Later}
 
 -- ---- each of a list, and each with each later one
 

@@ -1,26 +1,12 @@
 -- Sections stand apart where no fault of sections stands
-use Rattle.std.proofs.Common.{◌≡◌, ◌≤◌, ◌+◌, ◌*◌, ℕ, true, false, List, [], ◌∷◌, get_or, Option, Some, None, refl, sym, ap, subst, arith}
-use Rattle.std.specs.Prelude.{◌%◌}
-use Rattle.std.specs.List.{All, AllPairs, range_with_len, slice_get}
-use Rattle.std.specs.Option.{option_map_or}
-use Rattle.adl_meaning.specs.declared.flat.Domain.{Domain}
-use Rattle.cam_base.specs.Gather.{IsIn}
-use Rattle.cam_base.proofs.Gathered.{in_place}
-use Rattle.cam_base.proofs.NumberedLists.{from_flat_map, from_map}
-use Rattle.source_images.specs.ByAddress.{by_address, name_of, page_at, pages_of, section_pages}
-use Rattle.source_images.specs.Images.{Placed, sections_of}
-use Rattle.source_images.specs.Numbered.{AreApart, AreCounted, AreNumbered, AreSound}
-use Rattle.source_images.specs.SectionPages.{is_inside, page_count}
+use Rattle.vspace_layout.proofs.Common.{All, AllPairs, AreApart, AreCounted, AreNumbered, AreSound, Domain, Given, Images, IsIn, List, None, Option, Placed, SectionsStand, Some, [], ap, arch, arith, base, by_address, false, free_apart, free_inside}
+use Rattle.vspace_layout.proofs.Common.{from_flat_map, from_map, get_or, in_permutation, in_place, is_inside, leaves_of, name_of, option_map_or, own_all, page_at, page_count, pages_of, range_with_len, refl, section_pages, sections_of, slice_get}
+use Rattle.vspace_layout.proofs.Common.{subst, sym, true, ℕ, ◌%◌, ◌*◌, ◌+◌, ◌∷◌, ◌≡◌, ◌≤◌}
 use Rattle.source_images.specs.SpaceFaults.{first_space_fault}
-use Rattle.source_images.specs.declared.images.Images.{Images}
 use Rattle.source_images.proofs.Apart.{sound_numbers}
-use Rattle.source_images.proofs.Free.{free_apart, free_inside}
 use Rattle.source_images.proofs.InOrder.{order_moves}
 use Rattle.source_images.proofs.Rising.{Precedes, pages_inside, pages_rise, pairs_from_later}
 use Rattle.source_images.proofs.SectionsTold.{comes_from}
-use Rattle.source_images.proofs.Sorting.{in_permutation, own_all}
-use Rattle.vspace_layout.specs.Given.{Given, arch, base, leaves_of}
-use Rattle.vspace_layout.specs.SpaceLaws.{SectionsStand}
 
 -- pages of sections are whole pages
 aligned : (images : Images) (leaves : List ℕ) → AreApart images leaves

@@ -1,29 +1,12 @@
 -- Frames stand under their numbers
-use Rattle.std.proofs.Common.{◌≡◌, ◌<◌, ◌+◌, ℕ, zero, suc, Bool, true, false, ◌&&◌, cond, List, [], get_or, length, map, Option, Some, None, refl, sym, ◌∙◌, ap, arith}
-use Rattle.std.specs.List.{position, range_with_len, slice_get}
-use Rattle.std.specs.Option.{option_map_or}
+use Rattle.vspace_layout.proofs.Common.{Bool, Flat, FlatConnection, FlatEnd, FrameInfo, FramesStand, Given, List, MappedPage, None, OfConnection, OfDomain, Option, Own, Some, [], and_parts, ap, arith, at_place, before, cond, eq-eqb, eqb-true, false}
+use Rattle.vspace_layout.proofs.Common.{first_to, frame, frames, frames_at, gathered, get_behind, get_front, get_or, get_or_from_slice_get, is_shared, leads_to, length, map, mapped_pages, memory_before, memory_number, memory_pages, memory_part}
+use Rattle.vspace_layout.proofs.Common.{number_shown, option_map_or, own_frame, own_frames, own_number, own_part, position, position-Some, range_with_len, refl, register_frame, register_frames, register_part, registers, registers_before}
+use Rattle.vspace_layout.proofs.Common.{registers_in, same_port, shared_frames, shared_part, slice_get, suc, sym, true, zero, ℕ, ◌&&◌, ◌+◌, ◌<◌, ◌∙◌, ◌≡◌}
 use Rattle.std.specs.Prelude.{◌==◌}
-use Rattle.std.proofs.lemmas.Bool.{and_parts, eqb-true, eq-eqb}
-use Rattle.std.proofs.lemmas.List.Quantifiers.{position-Some}
-use Rattle.std.proofs.lemmas.Option.{get_or_from_slice_get}
 use Rattle.adl_meaning.specs.declared.connector.Connector.{Connector}
 use Rattle.adl_meaning.specs.declared.connector.Connector.TheVariants.{Rpc, Notification, SharedMemory, Mmio, Interrupt, Direct}
-use Rattle.adl_meaning.specs.declared.flat.Flat.{Flat}
-use Rattle.adl_meaning.specs.declared.flat.FlatConnection.{FlatConnection}
-use Rattle.adl_meaning.specs.declared.flat.FlatEnd.{FlatEnd}
 use Rattle.cap_model.specs.declared.object.Fill.{Fill}
-use Rattle.cam_base.specs.Gather.{before}
-use Rattle.cam_base.proofs.Gathered.{gathered, get_behind, get_front}
-use Rattle.cam_base.proofs.NumberedLists.{at_place}
-use Rattle.vspace_layout.specs.declared.mapped.MappedPage.{MappedPage}
-use Rattle.vspace_layout.specs.declared.mapped.Shown.TheVariants.{Own}
-use Rattle.vspace_layout.specs.declared.owner.Owner.TheVariants.{OfConnection, OfDomain}
-use Rattle.vspace_layout.specs.declared.spaces.FrameInfo.{FrameInfo}
-use Rattle.vspace_layout.specs.Frames.{frame, frames, frames_at, memory_before, memory_number, memory_part, number_shown, own_frame, own_frames, own_number, own_part, register_frame, register_frames, register_part, registers_before, shared_frames, shared_part}
-use Rattle.vspace_layout.specs.Given.{Given}
-use Rattle.vspace_layout.specs.MappedPages.{mapped_pages}
-use Rattle.vspace_layout.specs.Memory.{first_to, is_shared, leads_to, memory_pages, registers, registers_in, same_port}
-use Rattle.vspace_layout.specs.SpaceLaws.{FramesStand}
 
 -- ---- lists
 

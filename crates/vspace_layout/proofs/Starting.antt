@@ -1,23 +1,7 @@
 -- Where regions begin, and that they have addresses of 64 bits
-use Rattle.std.proofs.Common.{◌≡◌, ◌<◌, ◌≤◌, ◌+◌, ◌*◌, ◌^◌, ◌∙◌, ℕ, zero, suc, List, [], ◌∷◌, ◌++◌, Some, length, map, take, get_or, refl, ap, add-one, arith}
-use Rattle.std.specs.List.{flat_map, slice_get}
-use Rattle.std.proofs.lemmas.Option.{slice_get-get_or}
-use Rattle.std.proofs.lemmas.List.{get_or_default}
-use Rattle.adl_meaning.specs.declared.flat.Flat.{Flat}
-use Rattle.adl_meaning.specs.declared.settled.Settled.{Settled}
-use Rattle.cap_model.specs.declared.level.Arch.{Arch}
-use Rattle.cap_model.specs.declared.level.Arch.TheVariants.{Aarch64, Arm11}
-use Rattle.cspace_layout.specs.declared.end_at.EndAt.{EndAt}
-use Rattle.cam_base.specs.Gather.{gather}
-use Rattle.cam_base.proofs.Gathered.{gather_ones, gather_same, gather_turn}
-use Rattle.cam_base.proofs.NumberedLists.{below}
-use Rattle.source_images.specs.Images.{sections_end}
-use Rattle.vspace_layout.specs.declared.region.Content.TheVariants.{Stack}
-use Rattle.vspace_layout.specs.declared.region.Region.{Region}
-use Rattle.vspace_layout.specs.declared.thread.ThreadOf.{ThreadOf}
-use Rattle.vspace_layout.specs.MappedPages.{pages_from, pages_of_region, region_part}
-use Rattle.vspace_layout.specs.Outlines.{AreFew, RegionsFit, StacksFit, starting, starts_in}
-use Rattle.vspace_layout.specs.Regions.{pages_in, region, region_start, regions_in, stack_pages, thread_regions, window_region}
+use Rattle.vspace_layout.proofs.Common.{Aarch64, Arch, AreFew, Arm11, EndAt, Flat, List, Region, RegionsFit, Settled, Some, Stack, StacksFit, ThreadOf, [], add-one, ap, arith, below, flat_map, gather, gather_ones, gather_same, gather_turn, get_or}
+use Rattle.vspace_layout.proofs.Common.{get_or_default, length, map, pages_from, pages_in, pages_of_region, refl, region, region_part, region_start, regions_in, sections_end, slice_get, slice_get-get_or, stack_pages, starting, starts_in, suc, take}
+use Rattle.vspace_layout.proofs.Common.{thread_regions, window_region, zero, ℕ, ◌*◌, ◌++◌, ◌+◌, ◌<◌, ◌^◌, ◌∙◌, ◌∷◌, ◌≡◌, ◌≤◌}
 use Rattle.vspace_layout.proofs.Fitting.{pages_next, pages_upto}
 use Rattle.vspace_layout.proofs.Laying.{length_regions, start_same}
 

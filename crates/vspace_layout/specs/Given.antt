@@ -7,6 +7,7 @@ use Rattle.adl_meaning.specs.declared.settled.Settled.{Settled}
 use Rattle.cap_model.specs.declared.level.Arch.{Arch}
 use Rattle.cspace_layout.specs.declared.end_at.EndAt.{EndAt}
 use Rattle.cspace_layout.specs.LeafEnds as order
+use Rattle.cspace_layout.specs.System.{System, wired}
 use Rattle.source_images.specs.Images.{arch_of, sections_end}
 use Rattle.source_images.specs.declared.images.Images.{Images}
 
@@ -18,6 +19,12 @@ pub record Given : Type 0 where
 
 abbrev pub given : Source → Flat → Settled → Images → Given
 given source flat settled images = record { source = source; flat = flat; settled = settled; images = images }
+
+abbrev pub wired_of : Given → System
+wired_of t = wired t.source t.flat t.settled
+
+abbrev pub given_by : System → Images → Given
+given_by s images = given s.source s.flat s.settled images
 
 -- the ends of each leaf, in order
 abbrev pub ends : Given → List (List EndAt)

@@ -1,9 +1,10 @@
--- The parts of which spaces are made, by the flat system, its settings and the ends of each leaf.
+-- The parts of which spaces are made, domain by domain.
 use Rattle.std.specs.Prelude.{◌≡◌, ◌<◌, ℕ, ◌+◌, ◌*◌, ◌≤◌, ◌^◌, List, [], ◌∷◌, ◌++◌, length, map, sum, Some, slice_get, slice_index_or}
 use Rattle.adl_meaning.specs.declared.flat.Domain.{Domain}
 use Rattle.adl_meaning.specs.declared.flat.Flat.{Flat}
 use Rattle.adl_meaning.specs.declared.settled.Settled.{Settled}
 use Rattle.cspace_layout.specs.declared.end_at.EndAt.{EndAt}
+use Rattle.cspace_layout.specs.System.{System, all_ends}
 use Rattle.cam_base.specs.Gather.{IsIn, before, gather}
 use Rattle.source_images.specs.ByAddress.{section_page_count}
 use Rattle.source_images.specs.Images.{arch_of, sections_end}
@@ -20,26 +21,27 @@ use Rattle.vspace_layout.specs.declared.spaces.Window.{Window}
 use Rattle.vspace_layout.specs.declared.thread.ThreadOf.{ThreadOf}
 use Rattle.vspace_layout.specs.FrameNumbers.{AreAllNumbered, all_own, memory_firsts, own_added, pages_numbered}
 use Rattle.vspace_layout.specs.Frames.{memory_part}
+use Rattle.vspace_layout.specs.Given.{Given, wired_of}
 use Rattle.vspace_layout.specs.MappedPages.{pages_from, region_part, section_part}
 use Rattle.vspace_layout.specs.Regions.{domain_windows, pages_in, region_start, regions_in, stack_pages, window_pages}
 use Rattle.vspace_layout.specs.Threads.{domain_threads}
 
-abbrev pub outline : Flat → Settled → List (List EndAt) → List ℕ → Outline
-outline flat settled ends leaves = record {
-  threads = domain_threads flat ends leaves;
-  windows = domain_windows flat ends leaves;
-  regions = regions_in flat settled (domain_threads flat ends leaves) (domain_windows flat ends leaves);
+abbrev pub outline : System → List ℕ → Outline
+outline s leaves = record {
+  threads = domain_threads s.flat (all_ends s) leaves;
+  windows = domain_windows s.flat (all_ends s) leaves;
+  regions = regions_in s.flat s.settled (domain_threads s.flat (all_ends s) leaves) (domain_windows s.flat (all_ends s) leaves);
 }
 
 -- of each domain
-abbrev pub outlines : Flat → Settled → List (List EndAt) → List Outline
-outlines flat settled ends = map (λ d. outline flat settled ends d.leaves) flat.domains
+abbrev pub outlines : System → List Outline
+outlines s = map (λ d. outline s d.leaves) s.flat.domains
 
 abbrev pub no_outline : Outline
 no_outline = record { threads = []; windows = []; regions = [] }
 
-abbrev pub regions_at : Flat → Settled → List (List EndAt) → List ℕ → List Region
-regions_at flat settled ends leaves = (outline flat settled ends leaves).regions
+abbrev pub regions_at : System → List ℕ → List Region
+regions_at s leaves = (outline s leaves).regions
 
 -- where each region begins
 abbrev pub starts_in : ℕ → List Region → List ℕ
@@ -49,12 +51,12 @@ starts_in base rs = gather (λ n r. region_start base rs n ∷ []) rs
 abbrev pub mapped_of : Settled → Images → List ℕ → List Region → List MappedPage
 mapped_of settled images leaves rs = section_part images leaves ++ region_part settled (sections_end (arch_of images.images)) rs
 
-abbrev pub domain_mapped : Flat → Settled → List (List EndAt) → Images → List ℕ → List MappedPage
-domain_mapped flat settled ends images leaves = mapped_of settled images leaves (regions_at flat settled ends leaves)
+abbrev pub domain_mapped : Given → List ℕ → List MappedPage
+domain_mapped t leaves = mapped_of t.settled t.images leaves (regions_at (wired_of t) leaves)
 
 -- the pages of each domain
-abbrev pub all_mapped : Flat → Settled → List (List EndAt) → Images → List (List MappedPage)
-all_mapped flat settled ends images = map (λ d. domain_mapped flat settled ends images d.leaves) flat.domains
+abbrev pub all_mapped : Given → List (List MappedPage)
+all_mapped t = map (λ d. domain_mapped t d.leaves) t.flat.domains
 
 -- the same, where the outline of each domain is given
 abbrev pub mapped_by : Flat → Settled → Images → List Outline → List (List MappedPage)
@@ -66,11 +68,11 @@ mapped_by flat settled images os = gather (λ n d. mapped_of settled images d.le
 abbrev pub page_count_of : Images → List ℕ → List Region → ℕ
 page_count_of images leaves rs = section_page_count images leaves + pages_in rs
 
-abbrev pub domain_counted : Flat → Settled → List (List EndAt) → Images → List ℕ → ℕ
-domain_counted flat settled ends images leaves = page_count_of images leaves (regions_at flat settled ends leaves)
+abbrev pub domain_counted : Given → List ℕ → ℕ
+domain_counted t leaves = page_count_of t.images leaves (regions_at (wired_of t) leaves)
 
-abbrev pub all_counted : Flat → Settled → List (List EndAt) → Images → ℕ
-all_counted flat settled ends images = sum (map (λ d. domain_counted flat settled ends images d.leaves) flat.domains)
+abbrev pub all_counted : Given → ℕ
+all_counted t = sum (map (λ d. domain_counted t d.leaves) t.flat.domains)
 
 -- the same, where the outline of each domain is given: the pages of all sections and of all regions
 abbrev pub counted_by : Flat → Images → List Outline → ℕ

@@ -15,6 +15,7 @@ use Rattle.adl_meaning.specs.declared.connector.Connector.TheVariants.{SharedMem
 use Rattle.adl_meaning.specs.declared.flat.Flat.{Flat}
 use Rattle.adl_meaning.specs.declared.settled.Settled.{Settled}
 use Rattle.cspace_layout.specs.declared.end_at.EndAt.{EndAt}
+use Rattle.cspace_layout.specs.LeafEnds.{ends_at}
 use Rattle.cspace_layout.specs.Lookups.{end_of}
 use Rattle.vspace_layout.specs.declared.region.Content.{Content}
 use Rattle.vspace_layout.specs.declared.region.Content.TheVariants.{Stack, Buffer, Window}
@@ -22,7 +23,7 @@ use Rattle.vspace_layout.specs.declared.region.Region.{Region}
 use Rattle.vspace_layout.specs.declared.thread.ThreadOf.{ThreadOf}
 use Rattle.vspace_layout.specs.Given.{Given, base, ends, leaves_of}
 use Rattle.vspace_layout.specs.Memory.{memory_pages}
-use Rattle.vspace_layout.specs.Threads.{domain_threads, ends_at}
+use Rattle.vspace_layout.specs.Threads.{domain_threads}
 
 abbrev pub region : Content → ℕ → Region
 region content pages = record { content = content; pages = pages }

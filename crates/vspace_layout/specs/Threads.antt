@@ -1,6 +1,6 @@
 -- The threads of a domain: leaf by leaf, the leaf's control thread and then one for each of its ends that serves calls. A
 -- thread is first known by its leaf and its end alone; addresses, objects and the lines of the map are made from this list.
-use Rattle.std.specs.Prelude.{ℕ, Bool, true, false, if◌then◌else◌, List, [], ◌∷◌, Option, Some, None, slice_get}
+use Rattle.std.specs.Prelude.{ℕ, Bool, true, false, if◌then◌else◌, List, [], ◌∷◌, Option, Some, None}
 use Rattle.std.specs.List.{flat_map}
 use Rattle.std.specs.Option.{option_map_or}
 use Rattle.adl_ast.specs.declared.composition.Role.{Role}
@@ -9,16 +9,9 @@ use Rattle.adl_meaning.specs.declared.connector.Connector.{Connector}
 use Rattle.adl_meaning.specs.declared.connector.Connector.TheVariants.{Rpc}
 use Rattle.adl_meaning.specs.declared.flat.Flat.{Flat}
 use Rattle.cspace_layout.specs.declared.end_at.EndAt.{EndAt}
+use Rattle.cspace_layout.specs.LeafEnds.{ends_at}
 use Rattle.cspace_layout.specs.Lookups.{end_of}
 use Rattle.vspace_layout.specs.declared.thread.ThreadOf.{ThreadOf}
-
-abbrev pub ends_in : Option (List EndAt) → List EndAt
-ends_in None = []
-ends_in (Some here) = here
-
--- the ends of a leaf, out of those of all leaves
-abbrev pub ends_at : List (List EndAt) → ℕ → List EndAt
-ends_at ends leaf = ends_in (slice_get ends leaf)
 
 abbrev pub is_called : Connector → Role → Bool
 is_called Rpc To = true

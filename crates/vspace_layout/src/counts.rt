@@ -10,9 +10,9 @@ ghost use Rattle.vspace_layout.specs.Regions.{pages_in};
 use crate::mapped::{MappedPage, Shown};
 use crate::outline::Outline;
 use crate::region::Region;
-use adl_meaning::Flat;
 use cam_base::{List, NoMemory};
 use cap_model::Arch;
+use cspace_layout::Wiring;
 use page_tables::table_count;
 use source_images::{Images, section_page_count};
 use std::alloc::Global;
@@ -31,15 +31,15 @@ pub fn region_pages(regions: &[Region]) -> u64
 /// The pages of all domains, whose outlines these are.
 pub fn all_pages(
     alloc: Global,
-    flat: &Flat,
+    wiring: &Wiring<'_>,
     images: &Images,
     outlines: &[Outline],
 ) -> Result<u64, NoMemory>
     requires { AreCounted images.now }
-    ensures { IfOk result (λ n. n ≡ capped (counted_by flat.now images.now outlines.now)) }
+    ensures { IfOk result (λ n. n ≡ capped (counted_by wiring.now.flat images.now outlines.now)) }
 {
     let mut count: u64 = 0;
-    for domain in flat.domains.as_slice() {
+    for domain in wiring.domains() {
         let pages = section_page_count(alloc, images, domain.leaves.as_slice())?;
         count = count.saturating_add(pages);
     }

@@ -11,7 +11,7 @@ ghost use Rattle.std.specs.List.{flat_map};
 ghost use Rattle.std.specs.Prelude.{◌≡◌, ◌<◌, ◌≤◌, ◌^◌, ℕ, None, Some, codes, length, map, slice_get, sum};
 ghost use Rattle.vspace_layout.specs.CanLay.{CanLay};
 ghost use Rattle.vspace_layout.specs.Counted.{tables_of};
-ghost use Rattle.vspace_layout.specs.Given.{Given as Laid, arch, base, ends};
+ghost use Rattle.vspace_layout.specs.Given.{Given as Laid, arch, base, wired_of};
 ghost use Rattle.vspace_layout.specs.Frames.{frames};
 ghost use Rattle.vspace_layout.specs.Laid.{spaces_of};
 ghost use Rattle.vspace_layout.specs.Regions.{regions};
@@ -42,9 +42,8 @@ pub fn pages_rise()
 
 /// Pages can be counted before any is listed, and page tables by the addresses of pages.
 pub fn pages_are_counted()
-    ensures pages { (t : Laid) → sum (page_counts t) ≡ all_counted t.flat t.settled (ends t) t.images }
-    ensures tables { (t : Laid)
-        → sum (table_counts t) ≡ sum (map (tables_of (arch t)) (all_mapped t.flat t.settled (ends t) t.images)) }
+    ensures pages { (t : Laid) → sum (page_counts t) ≡ all_counted t }
+    ensures tables { (t : Laid) → sum (table_counts t) ≡ sum (map (tables_of (arch t)) (all_mapped t)) }
 {}
 
 /// Of the limits on pages and on page tables, that on pages is told first.
@@ -59,8 +58,7 @@ pub fn limits_are_told_in_order()
 
 /// What is laid domain by domain is the spaces and frames of the definition.
 pub fn spaces_are_laid_by_domain()
-    ensures { (t : Laid) → spaces_in t.flat t.settled (base t) (outlines t.flat t.settled (ends t))
-        (all_mapped t.flat t.settled (ends t) t.images) ≡ spaces_of t }
+    ensures { (t : Laid) → spaces_in t.flat t.settled (base t) (outlines (wired_of t)) (all_mapped t) ≡ spaces_of t }
 {}
 
 /// Where the limit on pages isn't passed, regions have addresses of 64 bits, and frames numbers of 32.

@@ -1,7 +1,6 @@
 //! Spaces, laid out.
 
 ghost use Rattle.adl_meaning.specs.Faults.{Refuses};
-ghost use Rattle.cspace_layout.specs.LeafEnds.{ends_of};
 ghost use Rattle.cspace_layout.specs.Within.{IsWithin};
 ghost use Rattle.source_images.specs.Numbered.{AreApart, AreNumbered, AreSound};
 ghost use Rattle.source_images.specs.SpaceFaults.{first_space_fault};
@@ -9,7 +8,7 @@ ghost use Rattle.std.specs.Option.{option_or};
 ghost use Rattle.std.specs.Prelude.{◌≡◌, ◌≤◌, ◌^◌, ◌++◌, length, sum, None, IfOk};
 ghost use Rattle.vspace_layout.specs.Counted.{limit_over};
 ghost use Rattle.vspace_layout.specs.CanLay.{AddressesFit, CanLay};
-ghost use Rattle.vspace_layout.specs.Given.{given};
+ghost use Rattle.vspace_layout.specs.Given.{given, given_by};
 ghost use Rattle.vspace_layout.specs.Laid.{spaces_of};
 ghost use Rattle.vspace_layout.specs.Outlines.{AreAllApart, AreFew, AreFit, AreOutlined};
 ghost use Rattle.vspace_layout.specs.Outlines.{mapped_by, mapped_of, outlines as all_outlines, space_in, spaces_in, spaces_with};
@@ -27,7 +26,7 @@ use crate::starts::{starts_of, thread_places, window_places};
 use adl_ast::Source;
 use adl_meaning::{Flat, Settled};
 use cam_base::{Fault, List, NoMemory, Refused};
-use cspace_layout::{leaf_ends, limit_fault};
+use cspace_layout::{Wiring, limit_fault};
 use source_images::{Images, first_space_fault, section_pages, sections_end};
 use std::alloc::Global;
 
@@ -37,14 +36,14 @@ const LIMIT: u64 = 65_536;
 /// The pages of a domain with these leaves, by address.
 fn mapped_of(
     alloc: Global,
-    settled: &Settled,
+    wiring: &Wiring<'_>,
     images: &Images,
     leaves: &[u32],
     regions: &[Region],
 ) -> Result<List<MappedPage>, NoMemory>
     requires apart { AreApart images.now leaves.now }
     requires few { AreFew regions.now }
-    ensures { IfOk result (λ pages. pages ≡ mapped_of settled.now images.now leaves.now regions.now) }
+    ensures { IfOk result (λ pages. pages ≡ mapped_of wiring.now.settled images.now leaves.now regions.now) }
 {
     let base = sections_end(images.arch());
     let sections = section_pages(alloc, images, leaves)?;
@@ -52,26 +51,25 @@ fn mapped_of(
     let mut pages = List::from_vec(Vec::with_capacity(alloc, count as usize)?);
     push_sections(alloc, sections, &mut pages)?;
     let starts = starts_of(alloc, base, regions)?;
-    push_regions(settled, starts.as_slice(), regions, &mut pages)?;
+    push_regions(wiring, starts.as_slice(), regions, &mut pages)?;
     Ok(pages)
 }
 
 /// The pages of each domain, whose outlines these are.
 fn all_mapped(
     alloc: Global,
-    flat: &Flat,
-    settled: &Settled,
+    wiring: &Wiring<'_>,
     images: &Images,
     outlines: &[Outline],
 ) -> Result<Vec<List<MappedPage>>, NoMemory>
-    requires apart { AreAllApart flat.now images.now }
-    requires outlined { AreOutlined flat.now settled.now outlines.now }
-    ensures { IfOk result (λ all. all.items ≡ mapped_by flat.now settled.now images.now outlines.now) }
+    requires apart { AreAllApart wiring.now.flat images.now }
+    requires outlined { AreOutlined wiring.now.flat wiring.now.settled outlines.now }
+    ensures { IfOk result (λ all. all.items ≡ mapped_by wiring.now.flat wiring.now.settled images.now outlines.now) }
 {
     let mut all = Vec::with_capacity(alloc, outlines.len())?;
-    for (number, domain) in flat.domains.as_slice().iter().enumerate() {
+    for (number, domain) in wiring.domains().iter().enumerate() {
         let regions = outlines[number].regions.as_slice();
-        all.push(mapped_of(alloc, settled, images, domain.leaves.as_slice(), regions)?)?;
+        all.push(mapped_of(alloc, wiring, images, domain.leaves.as_slice(), regions)?)?;
     }
     Ok(all)
 }
@@ -79,16 +77,16 @@ fn all_mapped(
 /// The space of a domain with these pages.
 fn space_of(
     alloc: Global,
-    flat: &Flat,
-    settled: &Settled,
+    wiring: &Wiring<'_>,
     base: u64,
     outline: &Outline,
     pages: List<Page>,
 ) -> Result<Space, NoMemory>
     requires base { base ≤ 2 ^ 40 }
     requires few { AreFew outline.now.regions }
-    requires regions { outline.now.regions ≡ regions_in flat.now settled.now outline.now.threads outline.now.windows }
-    ensures { IfOk result (λ space. space ≡ space_in flat.now settled.now base outline.now pages) }
+    requires regions { outline.now.regions
+        ≡ regions_in wiring.now.flat wiring.now.settled outline.now.threads outline.now.windows }
+    ensures { IfOk result (λ space. space ≡ space_in wiring.now.flat wiring.now.settled base outline.now pages) }
 {
     let starts = starts_of(alloc, base, outline.regions.as_slice())?;
     let starts = starts.as_slice();
@@ -96,29 +94,28 @@ fn space_of(
     let windows = outline.windows.as_slice();
     Ok(Space {
         pages,
-        threads: thread_places(alloc, settled, starts, threads)?,
-        windows: window_places(alloc, flat, settled, starts, 2 * threads.len(), windows)?,
+        threads: thread_places(alloc, wiring, starts, threads)?,
+        windows: window_places(alloc, wiring, starts, 2 * threads.len(), windows)?,
     })
 }
 
 /// The spaces of all domains with these pages, whose outlines these are.
 fn spaces_with(
     alloc: Global,
-    flat: &Flat,
-    settled: &Settled,
+    wiring: &Wiring<'_>,
     base: u64,
     outlines: &[Outline],
     all: Vec<List<Page>>,
 ) -> Result<List<Space>, NoMemory>
     requires base { base ≤ 2 ^ 40 }
-    requires outlined { AreOutlined flat.now settled.now outlines.now }
+    requires outlined { AreOutlined wiring.now.flat wiring.now.settled outlines.now }
     requires each { length all.items ≡ length outlines.now }
-    ensures { IfOk result (λ spaces. spaces ≡ spaces_with flat.now settled.now base outlines.now all.items) }
+    ensures { IfOk result (λ spaces. spaces ≡ spaces_with wiring.now.flat wiring.now.settled base outlines.now all.items) }
 {
     let mut spaces = List::from_vec(Vec::with_capacity(alloc, outlines.len())?);
     let mut domain: usize = 0;
     for pages in all {
-        spaces.push(space_of(alloc, flat, settled, base, &outlines[domain], pages)?)?;
+        spaces.push(space_of(alloc, wiring, base, &outlines[domain], pages)?)?;
         domain += 1;
     }
     Ok(spaces)
@@ -135,25 +132,24 @@ fn joined(own: List<FrameInfo>, memory: List<FrameInfo>) -> Result<List<FrameInf
 /// The spaces of all domains with these pages, and all frames.
 fn lay(
     alloc: Global,
-    flat: &Flat,
-    settled: &Settled,
+    wiring: &Wiring<'_>,
     base: u64,
     outlines: &[Outline],
     mapped: Vec<List<MappedPage>>,
 ) -> Result<Spaces, NoMemory>
     requires base { base ≤ 2 ^ 40 }
-    requires mapped { AreFit flat.now settled.now mapped.items }
-    requires outlined { AreOutlined flat.now settled.now outlines.now }
-    requires connections { length flat.now.connections ≤ 4096 }
-    requires addresses { AddressesFit flat.now settled.now }
-    ensures { IfOk result (λ spaces. spaces ≡ spaces_in flat.now settled.now base outlines.now mapped.items) }
+    requires mapped { AreFit wiring.now.flat wiring.now.settled mapped.items }
+    requires outlined { AreOutlined wiring.now.flat wiring.now.settled outlines.now }
+    requires connections { length wiring.now.flat.connections ≤ 4096 }
+    requires addresses { AddressesFit wiring.now.flat wiring.now.settled }
+    ensures { IfOk result (λ spaces. spaces ≡ spaces_in wiring.now.flat wiring.now.settled base outlines.now mapped.items) }
 {
     let count = all_own(&mapped);
-    let memory = memory_frames(alloc, count, flat, settled)?;
+    let memory = memory_frames(alloc, count, wiring)?;
     let room = count.saturating_add(memory.frames.len() as u64);
     let mut own = List::from_vec(Vec::with_capacity(alloc, room as usize)?);
     let pages = number_all(alloc, mapped, &memory.firsts, &mut own)?;
-    let spaces = spaces_with(alloc, flat, settled, base, outlines, pages)?;
+    let spaces = spaces_with(alloc, wiring, base, outlines, pages)?;
     let frames = joined(own, memory.frames)?;
     Ok(Spaces { spaces, frames })
 }
@@ -177,27 +173,25 @@ fn limit_over(
 /// The spaces of all domains, whose outlines these are, where no fault of sections stands and pages are few.
 fn lay_few(
     alloc: Global,
-    source: &Source,
-    flat: &Flat,
-    settled: &Settled,
+    wiring: &Wiring<'_>,
     images: &Images,
     outlines: &[Outline],
 ) -> Result<Spaces, Refused<Fault>>
-    requires within { IsWithin source.now flat.now }
-    requires outlines { outlines.now ≡ all_outlines flat.now settled.now (ends_of source.now flat.now) }
-    requires apart { AreAllApart flat.now images.now }
-    requires settled { CanLay (given source.now flat.now settled.now images.now) }
-    requires few { sum (page_counts (given source.now flat.now settled.now images.now)) ≤ 65536 }
-    ensures faults { Refuses result (first_page_limit (given source.now flat.now settled.now images.now)) }
-    ensures spaces { IfOk result (λ spaces. spaces ≡ spaces_of (given source.now flat.now settled.now images.now)) }
+    requires outlines { outlines.now ≡ all_outlines wiring.now }
+    requires apart { AreAllApart wiring.now.flat images.now }
+    requires settled { CanLay (given_by wiring.now images.now) }
+    requires few { sum (page_counts (given_by wiring.now images.now)) ≤ 65536 }
+    ensures faults { Refuses result (first_page_limit (given_by wiring.now images.now)) }
+    ensures spaces { IfOk result (λ spaces. spaces ≡ spaces_of (given_by wiring.now images.now)) }
 {
-    let mapped = all_mapped(alloc, flat, settled, images, outlines)?;
+    let source = wiring.source();
+    let mapped = all_mapped(alloc, wiring, images, outlines)?;
     let tables = all_tables(alloc, images.arch(), &mapped)?;
     if let Some(fault) = limit_over(alloc, source, tables, b"tables")? {
         return Err(Refused::Fault(fault));
     }
     let base = sections_end(images.arch());
-    Ok(lay(alloc, flat, settled, base, outlines, mapped)?)
+    Ok(lay(alloc, wiring, base, outlines, mapped)?)
 }
 
 /// The spaces of all domains and all frames, where no fault of sections stands: `specs/Laid.antt`. Whoever tells other faults
@@ -208,26 +202,23 @@ fn lay_few(
 /// The first limit on pages that is passed (`specs/PageLimits.antt`). Want of memory.
 pub fn lay_apart(
     alloc: Global,
-    source: &Source,
-    flat: &Flat,
-    settled: &Settled,
+    wiring: &Wiring<'_>,
     images: &Images,
 ) -> Result<Spaces, Refused<Fault>>
-    requires within { IsWithin source.now flat.now }
-    requires numbered { AreNumbered flat.now images.now }
+    requires numbered { AreNumbered wiring.now.flat images.now }
     requires sound { AreSound images.now }
-    requires settled { CanLay (given source.now flat.now settled.now images.now) }
-    requires apart { first_space_fault flat.now images.now ≡ None }
-    ensures faults { Refuses result (first_page_limit (given source.now flat.now settled.now images.now)) }
-    ensures spaces { IfOk result (λ spaces. spaces ≡ spaces_of (given source.now flat.now settled.now images.now)) }
+    requires settled { CanLay (given_by wiring.now images.now) }
+    requires apart { first_space_fault wiring.now.flat images.now ≡ None }
+    ensures faults { Refuses result (first_page_limit (given_by wiring.now images.now)) }
+    ensures spaces { IfOk result (λ spaces. spaces ≡ spaces_of (given_by wiring.now images.now)) }
 {
-    let ends = leaf_ends(alloc, source, flat)?;
-    let outlines = outlines_of(alloc, flat, settled, ends.as_slice())?;
-    let pages = all_pages(alloc, flat, images, &outlines)?;
+    let source = wiring.source();
+    let outlines = outlines_of(alloc, wiring)?;
+    let pages = all_pages(alloc, wiring, images, &outlines)?;
     if let Some(fault) = limit_over(alloc, source, pages, b"pages")? {
         return Err(Refused::Fault(fault));
     }
-    lay_few(alloc, source, flat, settled, images, &outlines)
+    lay_few(alloc, wiring, images, &outlines)
 }
 
 /// The spaces of all domains and all frames: `specs/Laid.antt`.
@@ -253,6 +244,6 @@ pub fn lay_spaces(
 {
     match first_space_fault(alloc, flat, images)? {
         Some(fault) => Err(Refused::Fault(fault)),
-        None => lay_apart(alloc, source, flat, settled, images),
+        None => lay_apart(alloc, &Wiring::new(alloc, source, flat, settled)?, images),
     }
 }

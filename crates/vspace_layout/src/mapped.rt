@@ -8,9 +8,9 @@ ghost use Rattle.vspace_layout.specs.Outlines.{RegionsFit, starting};
 
 use crate::filling::Filling;
 use crate::region::{Content, Region};
-use adl_meaning::{EndSetting, Settled};
+use adl_meaning::EndSetting;
 use cam_base::{List, NoMemory};
-use cspace_layout::setting_of;
+use cspace_layout::Wiring;
 use source_images::SectionPage;
 use std::alloc::Global;
 
@@ -99,46 +99,43 @@ fn zero_page(at: u64) -> MappedPage
 }
 
 /// Page `page` of a region, at its address.
-fn region_page(settled: &Settled, content: Content, at: u64, page: u64) -> MappedPage
-    ensures { result ≡ region_page settled.now content at page }
+fn region_page(wiring: &Wiring<'_>, content: Content, at: u64, page: u64) -> MappedPage
+    ensures { result ≡ region_page wiring.now.settled content at page }
 {
     match content {
         Content::Stack | Content::Buffer => zero_page(at),
-        Content::Window(end) => {
-            let setting = setting_of(settled, end.connection, end.end);
-            window_page(setting, end.connection, at, page)
-        }
+        Content::Window(end) => window_page(wiring.setting(end), end.connection, at, page),
     }
 }
 
 fn push_region(
-    settled: &Settled,
+    wiring: &Wiring<'_>,
     start: u64,
     region: Region,
     pages: &mut List<MappedPage>,
 ) -> Result<(), NoMemory>
     requires { start + 4096 * region.pages < 2 ^ 64 }
-    ensures { OnOk result (pages.new ≡ pages.old ++ pages_from settled.now start region) }
+    ensures { OnOk result (pages.new ≡ pages.old ++ pages_from wiring.now.settled start region) }
 {
     for page in 0..region.pages {
-        pages.push(region_page(settled, region.content, start + 4096 * page, page))?;
+        pages.push(region_page(wiring, region.content, start + 4096 * page, page))?;
     }
     Ok(())
 }
 
 /// Maps the pages of regions that begin at these addresses.
 pub fn push_regions(
-    settled: &Settled,
+    wiring: &Wiring<'_>,
     starts: &[u64],
     regions: &[Region],
     pages: &mut List<MappedPage>,
 ) -> Result<(), NoMemory>
     requires each { length starts.now ≡ length regions.now }
     requires fit { RegionsFit starts.now regions.now }
-    ensures { OnOk result (pages.new ≡ pages.old ++ gather (starting settled.now starts.now) regions.now) }
+    ensures { OnOk result (pages.new ≡ pages.old ++ gather (starting wiring.now.settled starts.now) regions.now) }
 {
     for (number, region) in regions.iter().enumerate() {
-        push_region(settled, starts[number], *region, pages)?;
+        push_region(wiring, starts[number], *region, pages)?;
     }
     Ok(())
 }

@@ -7,6 +7,7 @@ ghost use Rattle.cspace_layout.specs.Lookups.{setting_of};
 
 use adl_ast::Role;
 use adl_meaning::{Connector, EndSetting, FlatConnection, FlatEnd, Settled};
+use cspace_layout::Wiring;
 
 /// The place of the first `to` end.
 fn to_place(ends: &[FlatEnd]) -> Option<usize>
@@ -34,28 +35,32 @@ fn setting_at(settled: &Settled, connection: u32, place: usize) -> Option<EndSet
     Some(*setting)
 }
 
-fn memory_setting(settled: &Settled, number: u32, connection: &FlatConnection) -> Option<EndSetting>
-    ensures { result ≡ memory_setting settled.now number connection.now }
+fn memory_setting(
+    wiring: &Wiring<'_>,
+    number: u32,
+    connection: &FlatConnection,
+) -> Option<EndSetting>
+    ensures { result ≡ memory_setting wiring.now.settled number connection.now }
 {
     let place = memory_place(connection)?;
-    setting_at(settled, number, place)
+    setting_at(wiring.settled(), number, place)
 }
 
 /// The pages of a connection's memory, by the connection's number. Takes no memory.
-pub fn memory_pages(settled: &Settled, number: u32, connection: &FlatConnection) -> u64
-    ensures { result ≡ memory_pages settled.now number connection.now }
+pub fn memory_pages(wiring: &Wiring<'_>, number: u32, connection: &FlatConnection) -> u64
+    ensures { result ≡ memory_pages wiring.now.settled number connection.now }
 {
-    match memory_setting(settled, number, connection) {
+    match memory_setting(wiring, number, connection) {
         Some(setting) => setting.bytes / 4096,
         None => 0,
     }
 }
 
 /// The physical address of a connection's memory, by the connection's number. Takes no memory.
-pub fn memory_paddr(settled: &Settled, number: u32, connection: &FlatConnection) -> u64
-    ensures { result ≡ memory_paddr settled.now number connection.now }
+pub fn memory_paddr(wiring: &Wiring<'_>, number: u32, connection: &FlatConnection) -> u64
+    ensures { result ≡ memory_paddr wiring.now.settled number connection.now }
 {
-    match memory_setting(settled, number, connection) {
+    match memory_setting(wiring, number, connection) {
         Some(setting) => setting.paddr,
         None => 0,
     }

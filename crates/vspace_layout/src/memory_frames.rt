@@ -1,13 +1,12 @@
 //! The frames of the memory of connections, and where they stand.
 
-ghost use Rattle.cam_base.specs.Gather.{gather};
 ghost use Rattle.std.specs.Prelude.{◌≡◌, ◌<◌, ◌≤◌, ◌+◌, ◌*◌, ◌^◌, ◌++◌, length};
 ghost use Rattle.std.specs.Prelude.{IfOk, IfSome, OnOk};
 ghost use Rattle.vspace_layout.specs.CanLay.{AddressesFit};
 ghost use Rattle.vspace_layout.specs.FrameNumbers.{AreFirsts, first_of, firsts_from, memory_firsts};
 ghost use Rattle.vspace_layout.specs.FrameNumbers.{frames_by, is_that, places_of};
 ghost use Rattle.vspace_layout.specs.Frames.{connection_frames, device_frames, register_frames, shared_frames};
-ghost use Rattle.vspace_layout.specs.Frames.{memory_part, register_part};
+ghost use Rattle.vspace_layout.specs.Frames.{memory_part, register_part, shared_part};
 ghost use Rattle.vspace_layout.specs.Memory.{memory_paddr, memory_pages};
 ghost use Rattle.vspace_layout.specs.Ports.{first_numbers};
 
@@ -16,8 +15,9 @@ use crate::memory::{is_shared, memory_paddr, memory_pages, registers};
 use crate::owner::Owner;
 use crate::ports::first_numbers;
 use crate::spaces::FrameInfo;
-use adl_meaning::{Flat, FlatConnection, Settled};
+use adl_meaning::FlatConnection;
 use cam_base::{List, NoMemory};
+use cspace_layout::Wiring;
 use std::alloc::Global;
 
 /// The frames of the memory of all connections, and the number of the first frame of each connection's memory.
@@ -43,15 +43,15 @@ fn push_pages(number: u32, pages: u64, frames: &mut List<FrameInfo>) -> Result<(
 }
 
 fn push_shared(
-    settled: &Settled,
+    wiring: &Wiring<'_>,
     number: u32,
     connection: &FlatConnection,
     frames: &mut List<FrameInfo>,
 ) -> Result<(), NoMemory>
-    ensures { OnOk result (frames.new ≡ frames.old ++ shared_frames settled.now number connection.now) }
+    ensures { OnOk result (frames.new ≡ frames.old ++ shared_frames wiring.now.settled number connection.now) }
 {
     if is_shared(connection.connector) {
-        push_pages(number, memory_pages(settled, number, connection), frames)?;
+        push_pages(number, memory_pages(wiring, number, connection), frames)?;
     }
     Ok(())
 }
@@ -59,18 +59,18 @@ fn push_shared(
 /// Adds the frames of shared memory, and tells how many stand before those of each connection.
 fn push_all_shared(
     alloc: Global,
-    settled: &Settled,
-    connections: &[FlatConnection],
+    wiring: &Wiring<'_>,
     frames: &mut List<FrameInfo>,
 ) -> Result<Vec<u64>, NoMemory>
-    requires { length connections.now ≤ 4096 }
-    ensures frames { OnOk result (frames.new ≡ frames.old ++ gather (shared_frames settled.now) connections.now) }
-    ensures places { IfOk result (λ v. v.items ≡ places_of (length frames.old) (shared_frames settled.now) connections.now) }
+    requires { length wiring.now.flat.connections ≤ 4096 }
+    ensures frames { OnOk result (frames.new ≡ frames.old ++ shared_part wiring.now.flat wiring.now.settled) }
+    ensures places { IfOk result (λ v. v.items
+        ≡ places_of (length frames.old) (shared_frames wiring.now.settled) wiring.now.flat.connections) }
 {
-    let mut places = Vec::with_capacity(alloc, connections.len())?;
-    for (number, connection) in connections.iter().enumerate() {
+    let mut places = Vec::with_capacity(alloc, wiring.connections().len())?;
+    for (number, connection) in wiring.connections().iter().enumerate() {
         places.push(frames.len() as u64)?;
-        push_shared(settled, number as u32, connection, frames)?;
+        push_shared(wiring, number as u32, connection, frames)?;
     }
     Ok(places)
 }
@@ -107,21 +107,22 @@ fn is_that(first: Option<u32>, number: u32) -> bool
 
 /// Adds the frames of a connection's registers, if `first`, the first connection to them, is this one.
 fn push_registers(
-    settled: &Settled,
+    wiring: &Wiring<'_>,
     first: Option<u32>,
     number: u32,
     connection: &FlatConnection,
     frames: &mut List<FrameInfo>,
 ) -> Result<(), NoMemory>
-    requires { memory_paddr settled.now number connection.now + 4096 * memory_pages settled.now number connection.now ≤ 2 ^ 48 }
-    ensures { OnOk result (frames.new ≡ frames.old ++ frames_by settled.now first number connection.now) }
+    requires { memory_paddr wiring.now.settled number connection.now
+        + 4096 * memory_pages wiring.now.settled number connection.now ≤ 2 ^ 48 }
+    ensures { OnOk result (frames.new ≡ frames.old ++ frames_by wiring.now.settled first number connection.now) }
 {
     let Some(end) = registers(connection) else {
         return Ok(());
     };
     if is_that(first, number) {
-        let paddr = memory_paddr(settled, number, connection);
-        let pages = memory_pages(settled, number, connection);
+        let paddr = memory_paddr(wiring, number, connection);
+        let pages = memory_pages(wiring, number, connection);
         push_device_pages(end.leaf, paddr, pages, frames)?;
     }
     Ok(())
@@ -130,22 +131,21 @@ fn push_registers(
 /// Adds the registers of devices, and tells how many frames stand before those that each connection adds.
 fn push_all_registers(
     alloc: Global,
-    flat: &Flat,
-    settled: &Settled,
+    wiring: &Wiring<'_>,
     firsts: &[Option<u32>],
     frames: &mut List<FrameInfo>,
 ) -> Result<Vec<u64>, NoMemory>
-    requires few { length flat.now.connections ≤ 4096 }
-    requires fit { AddressesFit flat.now settled.now }
-    requires firsts { firsts.now ≡ first_numbers flat.now.connections }
-    ensures frames { OnOk result (frames.new ≡ frames.old ++ register_part flat.now settled.now) }
+    requires few { length wiring.now.flat.connections ≤ 4096 }
+    requires fit { AddressesFit wiring.now.flat wiring.now.settled }
+    requires firsts { firsts.now ≡ first_numbers wiring.now.flat.connections }
+    ensures frames { OnOk result (frames.new ≡ frames.old ++ register_part wiring.now.flat wiring.now.settled) }
     ensures places { IfOk result (λ v. v.items
-        ≡ places_of (length frames.old) (register_frames flat.now settled.now) flat.now.connections) }
+        ≡ places_of (length frames.old) (register_frames wiring.now.flat wiring.now.settled) wiring.now.flat.connections) }
 {
     let mut places = Vec::with_capacity(alloc, firsts.len())?;
-    for (number, connection) in flat.connections.as_slice().iter().enumerate() {
+    for (number, connection) in wiring.connections().iter().enumerate() {
         places.push(frames.len() as u64)?;
-        push_registers(settled, firsts[number], number as u32, connection, frames)?;
+        push_registers(wiring, firsts[number], number as u32, connection, frames)?;
     }
     Ok(places)
 }
@@ -183,22 +183,17 @@ fn firsts_from(
 }
 
 /// The frames of the memory of all connections, where so many frames stand before them.
-pub fn memory_frames(
-    alloc: Global,
-    own: u64,
-    flat: &Flat,
-    settled: &Settled,
-) -> Result<MemoryFrames, NoMemory>
-    requires own { own + length (memory_part flat.now settled.now) < 2 ^ 64 }
-    requires few { length flat.now.connections ≤ 4096 }
-    requires fit { AddressesFit flat.now settled.now }
-    ensures frames { IfOk result (λ memory. memory.frames ≡ memory_part flat.now settled.now) }
-    ensures firsts { IfOk result (λ memory. memory.firsts.items ≡ memory_firsts own flat.now settled.now) }
+pub fn memory_frames(alloc: Global, own: u64, wiring: &Wiring<'_>) -> Result<MemoryFrames, NoMemory>
+    requires own { own + length (memory_part wiring.now.flat wiring.now.settled) < 2 ^ 64 }
+    requires few { length wiring.now.flat.connections ≤ 4096 }
+    requires fit { AddressesFit wiring.now.flat wiring.now.settled }
+    ensures frames { IfOk result (λ memory. memory.frames ≡ memory_part wiring.now.flat wiring.now.settled) }
+    ensures firsts { IfOk result (λ memory. memory.firsts.items ≡ memory_firsts own wiring.now.flat wiring.now.settled) }
 {
-    let numbers = first_numbers(alloc, flat.connections.as_slice())?;
+    let numbers = first_numbers(alloc, wiring.connections())?;
     let mut frames = List::new(alloc);
-    let shared = push_all_shared(alloc, settled, flat.connections.as_slice(), &mut frames)?;
-    let registered = push_all_registers(alloc, flat, settled, &numbers, &mut frames)?;
+    let shared = push_all_shared(alloc, wiring, &mut frames)?;
+    let registered = push_all_registers(alloc, wiring, &numbers, &mut frames)?;
     let firsts = firsts_from(alloc, own, &shared, &registered, &numbers)?;
     Ok(MemoryFrames { frames, firsts })
 }

@@ -1,16 +1,17 @@
 //! The regions of domains: what stands in their spaces behind the sections.
 
+ghost use Rattle.cspace_layout.specs.System.{all_ends};
 ghost use Rattle.std.specs.List.{flat_map};
 ghost use Rattle.std.specs.Prelude.{◌≡◌, ◌++◌, map, IfOk, OnOk};
 ghost use Rattle.vspace_layout.specs.Regions.{domain_windows, end_window, is_window, leaf_windows, regions_in, sees_memory};
 ghost use Rattle.vspace_layout.specs.Regions.{stack_pages, thread_regions, window_pages, window_region};
 
 use crate::memory::memory_pages;
-use crate::thread::{ThreadOf, ends_at};
+use crate::thread::ThreadOf;
 use adl_ast::Role;
-use adl_meaning::{Connector, Flat, Settled};
+use adl_meaning::Connector;
 use cam_base::{List, NoMemory};
-use cspace_layout::{EndAt, end_of};
+use cspace_layout::{EndAt, Wiring};
 use std::alloc::Global;
 
 /// What a region of a space is for.
@@ -41,55 +42,54 @@ fn is_window(connector: Connector, role: Role) -> bool
 }
 
 /// Whether the end sees memory.
-fn sees_memory(flat: &Flat, end: EndAt) -> bool
-    ensures { result ≡ sees_memory flat.now end }
+fn sees_memory(wiring: &Wiring<'_>, end: EndAt) -> bool
+    ensures { result ≡ sees_memory wiring.now.flat end }
 {
-    match end_of(flat, end.connection, end.end) {
+    match wiring.end(end) {
         Some((connector, end)) => is_window(connector, end.role),
         None => false,
     }
 }
 
-fn push_window(flat: &Flat, end: EndAt, windows: &mut List<EndAt>) -> Result<(), NoMemory>
-    ensures { OnOk result (windows.new ≡ windows.old ++ end_window flat.now end) }
+fn push_window(wiring: &Wiring<'_>, end: EndAt, windows: &mut List<EndAt>) -> Result<(), NoMemory>
+    ensures { OnOk result (windows.new ≡ windows.old ++ end_window wiring.now.flat end) }
 {
-    if sees_memory(flat, end) {
+    if sees_memory(wiring, end) {
         windows.push(end)?;
     }
     Ok(())
 }
 
-fn push_windows(flat: &Flat, ends: &[EndAt], windows: &mut List<EndAt>) -> Result<(), NoMemory>
-    ensures { OnOk result (windows.new ≡ windows.old ++ flat_map (end_window flat.now) ends.now) }
+fn push_windows(wiring: &Wiring<'_>, leaf: u32, windows: &mut List<EndAt>) -> Result<(), NoMemory>
+    ensures { OnOk result (windows.new ≡ windows.old ++ leaf_windows wiring.now.flat (all_ends wiring.now) leaf) }
 {
-    for end in ends {
-        push_window(flat, *end, windows)?;
+    for end in wiring.ends(leaf) {
+        push_window(wiring, *end, windows)?;
     }
     Ok(())
 }
 
-/// The ends that see memory, of a domain with these leaves, where the ends of each leaf are given.
+/// The ends that see memory, of a domain with these leaves.
 pub fn windows_of(
     alloc: Global,
-    flat: &Flat,
-    ends: &[List<EndAt>],
+    wiring: &Wiring<'_>,
     leaves: &[u32],
 ) -> Result<List<EndAt>, NoMemory>
-    ensures { IfOk result (λ windows. windows ≡ domain_windows flat.now ends.now leaves.now) }
+    ensures { IfOk result (λ windows. windows ≡ domain_windows wiring.now.flat (all_ends wiring.now) leaves.now) }
 {
     let mut windows = List::new(alloc);
     for leaf in leaves {
-        push_windows(flat, ends_at(ends, *leaf), &mut windows)?;
+        push_windows(wiring, *leaf, &mut windows)?;
     }
     Ok(windows)
 }
 
 /// The pages of an end's window. Takes no memory.
-pub fn window_pages(flat: &Flat, settled: &Settled, end: EndAt) -> u64
-    ensures { result ≡ window_pages flat.now settled.now end }
+pub fn window_pages(wiring: &Wiring<'_>, end: EndAt) -> u64
+    ensures { result ≡ window_pages wiring.now.flat wiring.now.settled end }
 {
-    match flat.connections.as_slice().get(end.connection as usize) {
-        Some(connection) => memory_pages(settled, end.connection, connection),
+    match wiring.connections().get(end.connection as usize) {
+        Some(connection) => memory_pages(wiring, end.connection, connection),
         None => 0,
     }
 }
@@ -97,25 +97,25 @@ pub fn window_pages(flat: &Flat, settled: &Settled, end: EndAt) -> u64
 // ---- regions
 
 /// The pages of the stack of a leaf's threads. Takes no memory.
-pub fn stack_pages(settled: &Settled, leaf: u32) -> u64
-    ensures { result ≡ stack_pages settled.now leaf }
+pub fn stack_pages(wiring: &Wiring<'_>, leaf: u32) -> u64
+    ensures { result ≡ stack_pages wiring.now.settled leaf }
 {
-    match settled.leaves.as_slice().get(leaf as usize) {
+    match wiring.settled().leaves.as_slice().get(leaf as usize) {
         Some(setting) => setting.stack / 4096,
         None => 0,
     }
 }
 
 fn push_thread(
-    settled: &Settled,
+    wiring: &Wiring<'_>,
     thread: ThreadOf,
     regions: &mut List<Region>,
 ) -> Result<(), NoMemory>
-    ensures { OnOk result (regions.new ≡ regions.old ++ thread_regions settled.now thread) }
+    ensures { OnOk result (regions.new ≡ regions.old ++ thread_regions wiring.now.settled thread) }
 {
     regions.push(Region {
         content: Content::Stack,
-        pages: stack_pages(settled, thread.leaf),
+        pages: stack_pages(wiring, thread.leaf),
     })?;
     regions.push(Region {
         content: Content::Buffer,
@@ -124,30 +124,29 @@ fn push_thread(
 }
 
 fn push_thread_regions(
-    settled: &Settled,
+    wiring: &Wiring<'_>,
     threads: &[ThreadOf],
     regions: &mut List<Region>,
 ) -> Result<(), NoMemory>
-    ensures { OnOk result (regions.new ≡ regions.old ++ flat_map (thread_regions settled.now) threads.now) }
+    ensures { OnOk result (regions.new ≡ regions.old ++ flat_map (thread_regions wiring.now.settled) threads.now) }
 {
     for thread in threads {
-        push_thread(settled, *thread, regions)?;
+        push_thread(wiring, *thread, regions)?;
     }
     Ok(())
 }
 
 fn push_window_regions(
-    flat: &Flat,
-    settled: &Settled,
+    wiring: &Wiring<'_>,
     windows: &[EndAt],
     regions: &mut List<Region>,
 ) -> Result<(), NoMemory>
-    ensures { OnOk result (regions.new ≡ regions.old ++ map (window_region flat.now settled.now) windows.now) }
+    ensures { OnOk result (regions.new ≡ regions.old ++ map (window_region wiring.now.flat wiring.now.settled) windows.now) }
 {
     for end in windows {
         regions.push(Region {
             content: Content::Window(*end),
-            pages: window_pages(flat, settled, *end),
+            pages: window_pages(wiring, *end),
         })?;
     }
     Ok(())
@@ -156,15 +155,14 @@ fn push_window_regions(
 /// The regions of a domain with these threads and windows.
 pub fn regions_of(
     alloc: Global,
-    flat: &Flat,
-    settled: &Settled,
+    wiring: &Wiring<'_>,
     threads: &[ThreadOf],
     windows: &[EndAt],
 ) -> Result<List<Region>, NoMemory>
-    ensures { IfOk result (λ regions. regions ≡ regions_in flat.now settled.now threads.now windows.now) }
+    ensures { IfOk result (λ regions. regions ≡ regions_in wiring.now.flat wiring.now.settled threads.now windows.now) }
 {
     let mut regions = List::new(alloc);
-    push_thread_regions(settled, threads, &mut regions)?;
-    push_window_regions(flat, settled, windows, &mut regions)?;
+    push_thread_regions(wiring, threads, &mut regions)?;
+    push_window_regions(wiring, windows, &mut regions)?;
     Ok(regions)
 }

@@ -7,9 +7,8 @@ ghost use Rattle.vspace_layout.specs.Regions.{pages_in};
 use crate::region::{Region, stack_pages, window_pages};
 use crate::spaces::{ThreadPlace, Window};
 use crate::thread::ThreadOf;
-use adl_meaning::{Flat, Settled};
 use cam_base::{List, NoMemory};
-use cspace_layout::EndAt;
+use cspace_layout::{EndAt, Wiring};
 use std::alloc::Global;
 
 /// Where each region begins, if the first page behind the base stays free.
@@ -30,20 +29,20 @@ pub fn starts_of(alloc: Global, base: u64, regions: &[Region]) -> Result<List<u6
 /// The places of threads, where thread `i` has the regions `2 i` and `2 i + 1`.
 pub fn thread_places(
     alloc: Global,
-    settled: &Settled,
+    wiring: &Wiring<'_>,
     starts: &[u64],
     threads: &[ThreadOf],
 ) -> Result<List<ThreadPlace>, NoMemory>
     requires each { 2 * length threads.now ≤ length starts.now }
-    requires fit { StacksFit settled.now starts.now threads.now }
-    ensures { IfOk result (λ places. places ≡ thread_places settled.now starts.now threads.now) }
+    requires fit { StacksFit wiring.now.settled starts.now threads.now }
+    ensures { IfOk result (λ places. places ≡ thread_places wiring.now.settled starts.now threads.now) }
 {
     let mut places = List::from_vec(Vec::with_capacity(alloc, threads.len())?);
     for (number, thread) in threads.iter().enumerate() {
         places.push(ThreadPlace {
             leaf: thread.leaf,
             end: thread.end,
-            sp: starts[2 * number] + 4096 * stack_pages(settled, thread.leaf),
+            sp: starts[2 * number] + 4096 * stack_pages(wiring, thread.leaf),
             buffer: starts[2 * number + 1],
         })?;
     }
@@ -53,21 +52,20 @@ pub fn thread_places(
 /// The places of windows, whose regions are those from number `first` on.
 pub fn window_places(
     alloc: Global,
-    flat: &Flat,
-    settled: &Settled,
+    wiring: &Wiring<'_>,
     starts: &[u64],
     first: usize,
     windows: &[EndAt],
 ) -> Result<List<Window>, NoMemory>
     requires { first + length windows.now ≤ length starts.now }
-    ensures { IfOk result (λ places. places ≡ window_places flat.now settled.now starts.now first windows.now) }
+    ensures { IfOk result (λ places. places ≡ window_places wiring.now.flat wiring.now.settled starts.now first windows.now) }
 {
     let mut places = List::from_vec(Vec::with_capacity(alloc, windows.len())?);
     for (number, end) in windows.iter().enumerate() {
         places.push(Window {
             end: *end,
             vaddr: starts[first + number],
-            pages: window_pages(flat, settled, *end),
+            pages: window_pages(wiring, *end),
         })?;
     }
     Ok(places)

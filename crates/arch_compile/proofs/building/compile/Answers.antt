@@ -1,10 +1,7 @@
+use Rattle.arch_compile.proofs.Common.{IsMeaningOf, IsOfSource, IsSound, meaning_sound}
 use Rattle.arch_compile.proofs.Compiling.{built_compiled, built_so, refused_compiled}
 use Rattle.arch_compile.proofs.OfSources.{build_of_source}
 use Rattle.arch_compile.proofs.Soundness.{build_sound}
-use Rattle.arch_compile.specs.OfSource.{IsOfSource}
-use Rattle.arch_compile.specs.Sound.{IsSound}
-use Rattle.front_end.proofs.Refusing.{meaning_sound}
-use Rattle.front_end.specs.Fronts.{IsMeaningOf}
 use Rattle.arch_compile.proofs.building.compile.Goals as goal
 
 pub with_images-requires : goal.with_images-requires

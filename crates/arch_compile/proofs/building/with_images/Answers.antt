@@ -1,7 +1,5 @@
-use Rattle.std.proofs.Common.{arith, subst, sym}
-use Rattle.source_images.specs.Found.{AlikeInTables}
+use Rattle.arch_compile.proofs.Common.{AlikeInTables, arith, sound_small, sound_within, subst, sym}
 use Rattle.arch_compile.proofs.Compiling.{built_of_images, built_unread, images_imaged, tables_named}
-use Rattle.front_end.proofs.Within.{sound_small, sound_within}
 use Rattle.arch_compile.proofs.building.with_images.Goals as goal
 
 pub root_of-root-requires : goal.root_of-root-requires

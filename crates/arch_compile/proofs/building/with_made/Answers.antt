@@ -1,4 +1,4 @@
-use Rattle.std.proofs.Common.{refl}
+use Rattle.arch_compile.proofs.Common.{refl}
 use Rattle.arch_compile.proofs.FromTables.{here_assigned, here_builds, here_made, here_windowed}
 use Rattle.arch_compile.proofs.building.with_made.Goals as goal
 

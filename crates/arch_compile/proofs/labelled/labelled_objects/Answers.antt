@@ -1,7 +1,4 @@
-use Rattle.std.proofs.Common.{◌≡◌, ◌∙◌, ℕ, List, [], ◌∷◌, ◌++◌, refl, ap}
-use Rattle.cap_model.specs.ObjectLabels.{label_of}
-use Rattle.cap_model.specs.declared.spec.Entry.{Entry}
-use Rattle.cam_base.proofs.Gathered.{gather_turn}
+use Rattle.arch_compile.proofs.Common.{Entry, List, [], ap, gather_turn, label_of, refl, ℕ, ◌++◌, ◌∙◌, ◌∷◌, ◌≡◌}
 use Rattle.arch_compile.proofs.labelled.labelled_objects.Goals as goal
 
 line_is : (before after : List (List ℕ × ℕ)) (name copy : List ℕ) (label given : ℕ) → copy ≡ name → given ≡ label

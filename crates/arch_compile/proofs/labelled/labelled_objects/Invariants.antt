@@ -1,6 +1,4 @@
-use Rattle.std.proofs.Common.{◌≡◌, ◌∷◌, [], take}
-use Rattle.cap_model.specs.ObjectLabels.{label_of}
-use Rattle.cam_base.specs.Gather.{gather}
+use Rattle.arch_compile.proofs.Common.{[], gather, label_of, take, ◌∷◌, ◌≡◌}
 use Rattle.arch_compile.proofs.labelled.labelled_objects.Given as goal
 
 abbrev pub invariant-loop-number : goal.invariant-loop-number

@@ -1,7 +1,5 @@
-use Rattle.std.proofs.Common.{ap, ◌∙◌}
+use Rattle.arch_compile.proofs.Common.{ap, spec_of, with_objects, ◌∙◌}
 use Rattle.arch_compile.proofs.FromTables.{few_objects}
-use Rattle.arch_compile.specs.Steps.{with_objects}
-use Rattle.system_spec.specs.Made.{spec_of}
 use Rattle.system_spec.specs.Told.{told}
 use Rattle.arch_compile.proofs.making.made_of.Goals as goal
 

@@ -1,5 +1,4 @@
-use Rattle.std.proofs.Common.{◌≡◌, ◌≤◌, ◌+◌, ◌-◌, ◌^◌, drop}
-use Rattle.arch_compile.specs.Summary.{cap_count, capped}
+use Rattle.arch_compile.proofs.Common.{cap_count, capped, drop, ◌+◌, ◌-◌, ◌^◌, ◌≡◌, ◌≤◌}
 use Rattle.arch_compile.proofs.summary.cap_count.Given as goal
 
 abbrev pub invariant-loop-entry : goal.invariant-loop-entry

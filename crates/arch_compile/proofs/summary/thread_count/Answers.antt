@@ -1,9 +1,7 @@
-use Rattle.std.proofs.Common.{◌∙◌, rules, tests}
+use Rattle.arch_compile.proofs.Common.{Entry, is_thread, rules, tests, ◌∙◌}
 use Rattle.std.proofs.lemmas.Iterator.{YieldsList-from_slice}
 use Rattle.std.proofs.lemmas.Iterator.Consumers.{YieldsList-from_filter, count_from_yields_List}
 use Rattle.std.proofs.lemmas.List.Sums.{length-filter}
-use Rattle.cap_model.specs.declared.spec.Entry.{Entry}
-use Rattle.arch_compile.specs.Summary.{is_thread}
 use Rattle.arch_compile.proofs.summary.thread_count.Goals as goal
 
 pub returns : goal.returns

@@ -1,4 +1,4 @@
-use Rattle.cam_io.proofs.Scripted.{acts_begin_then, acts_one, open_begun}
+use Rattle.arch_compile.proofs.Common.{acts_begin_then, acts_one, open_begun}
 use Rattle.arch_compile.proofs.write.write_capdl.Goals as goal
 
 pub write_spec-requires : goal.write_spec-requires

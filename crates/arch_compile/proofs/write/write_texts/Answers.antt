@@ -1,5 +1,4 @@
-use Rattle.std.proofs.Common.{refl, arith}
-use Rattle.cam_io.proofs.Scripted.{acts_one}
+use Rattle.arch_compile.proofs.Common.{acts_one, arith, refl}
 use Rattle.arch_compile.proofs.Scripts.{acts_failed, acts_then, still_fresh}
 use Rattle.arch_compile.proofs.write.write_texts.Goals as goal
 

@@ -4,4 +4,5 @@ use Rattle.cspace_layout.specs.Laid.{uses_at}
 use Rattle.cspace_layout.proofs.lay.add_ends.Given as goal
 
 abbrev pub invariant-loop-at : goal.invariant-loop-at
-invariant-loop-at l = l.uses ++ flat_map (uses_at l.flat.connections) (drop l.at-index l.ends) ≡ l.fn.uses ++ flat_map (uses_at l.flat.connections) l.ends
+invariant-loop-at l = l.uses ++ flat_map (uses_at l.wiring.flat) (drop l.at-index l.ends) ≡ l.fn.uses
+    ++ flat_map (uses_at l.wiring.flat) l.ends

@@ -5,3 +5,8 @@ pub show_images-requires : goal.show_images-requires
 show_images-requires g c =
     let some = g.met.F.Files.some c.meaning_of.new.files in
     meaning_sound _ some.0 c.in-Ok.meaning (c.in-Ok.ensures.meaning some.0 some.1)
+
+pub show_slots-requires : goal.show_slots-requires
+show_slots-requires g c =
+    let some = g.met.F.Files.some c.meaning_of.new.files in
+    meaning_sound _ some.0 c.in-Ok.meaning (c.in-Ok.ensures.meaning some.0 some.1)

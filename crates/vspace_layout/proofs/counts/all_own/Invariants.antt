@@ -1,6 +1,4 @@
-use Rattle.std.proofs.Common.{◌≡◌, ◌≤◌, ◌+◌, ◌-◌, ◌^◌, drop}
-use Rattle.vspace_layout.specs.Counted.{capped}
-use Rattle.vspace_layout.specs.FrameNumbers.{all_own}
+use Rattle.vspace_layout.proofs.Common.{all_own, capped, drop, ◌+◌, ◌-◌, ◌^◌, ◌≡◌, ◌≤◌}
 use Rattle.vspace_layout.proofs.counts.all_own.Given as goal
 
 abbrev pub invariant-loop-pages : goal.invariant-loop-pages

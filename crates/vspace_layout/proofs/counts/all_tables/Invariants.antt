@@ -1,6 +1,4 @@
-use Rattle.std.proofs.Common.{◌≡◌, ◌≤◌, ◌+◌, ◌-◌, ◌^◌, drop, map}
-use Rattle.std.specs.Prelude.{sum}
-use Rattle.vspace_layout.specs.Counted.{capped, tables_of}
+use Rattle.vspace_layout.proofs.Common.{capped, drop, map, sum, tables_of, ◌+◌, ◌-◌, ◌^◌, ◌≡◌, ◌≤◌}
 use Rattle.vspace_layout.proofs.counts.all_tables.Given as goal
 
 abbrev pub invariant-loop-pages : goal.invariant-loop-pages

@@ -1,6 +1,4 @@
-use Rattle.std.proofs.Common.{◌≡◌, ◌≤◌, ◌+◌, ◌-◌, ◌^◌, drop}
-use Rattle.vspace_layout.specs.Counted.{capped}
-use Rattle.vspace_layout.specs.Regions.{pages_in}
+use Rattle.vspace_layout.proofs.Common.{capped, drop, pages_in, ◌+◌, ◌-◌, ◌^◌, ◌≡◌, ◌≤◌}
 use Rattle.vspace_layout.proofs.counts.region_pages.Given as goal
 
 abbrev pub invariant-loop-region : goal.invariant-loop-region

@@ -1,11 +1,4 @@
-use Rattle.std.proofs.Common.{◌≡◌, ◌∙◌, ◌+◌, ◌++◌, ◌∷◌, [], ap, append_assoc, sym, length, List, ℕ, arith}
-use Rattle.std.specs.Vec.Iter.{into_iter_len}
-use Rattle.cam_base.specs.Gather.{before, gather}
-use Rattle.cam_base.proofs.Gathered.{length_append}
-use Rattle.vspace_layout.specs.declared.mapped.MappedPage.{MappedPage}
-use Rattle.vspace_layout.specs.declared.spaces.Page.{Page}
-use Rattle.vspace_layout.specs.FrameNumbers.{own_added, pages_numbered}
-use Rattle.cspace_layout.proofs.Taking.{Turned, gather_push, turned}
+use Rattle.vspace_layout.proofs.Common.{List, MappedPage, Page, Turned, [], ap, append_assoc, arith, before, gather, gather_push, into_iter_len, length, length_append, own_added, pages_numbered, sym, turned, ℕ, ◌++◌, ◌+◌, ◌∙◌, ◌∷◌, ◌≡◌}
 use Rattle.vspace_layout.proofs.Numbering.{few_so_far, own_so_far}
 use Rattle.vspace_layout.proofs.frames.number_all.Goals as goal
 

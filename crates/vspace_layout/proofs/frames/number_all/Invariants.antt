@@ -1,7 +1,4 @@
-use Rattle.std.proofs.Common.{◌≡◌, ◌+◌, ◌++◌, ◌∷◌, [], List, length}
-use Rattle.cam_base.specs.Gather.{before, gather}
-use Rattle.vspace_layout.specs.declared.mapped.MappedPage.{MappedPage}
-use Rattle.vspace_layout.specs.FrameNumbers.{own_added, pages_numbered}
+use Rattle.vspace_layout.proofs.Common.{List, MappedPage, [], before, gather, length, own_added, pages_numbered, ◌++◌, ◌+◌, ◌∷◌, ◌≡◌}
 use Rattle.vspace_layout.proofs.frames.number_all.Given as goal
 
 abbrev pub invariant-loop-pages : goal.invariant-loop-pages

@@ -1,14 +1,5 @@
-use Rattle.std.proofs.Common.{◌≡◌, ◌∙◌, ◌++◌, ◌∷◌, [], ap, sym, length, List, ℕ, arith}
-use Rattle.std.specs.Vec.Iter.{into_iter_len}
-use Rattle.cam_base.specs.Gather.{gather}
-use Rattle.cam_base.proofs.Gathered.{length_append}
-use Rattle.cam_base.proofs.NumberedLists.{below}
-use Rattle.vspace_layout.specs.declared.mapped.MappedPage.{MappedPage}
-use Rattle.vspace_layout.specs.declared.spaces.FrameInfo.{FrameInfo}
-use Rattle.vspace_layout.specs.declared.spaces.Page.{Page}
-use Rattle.vspace_layout.specs.FrameNumbers.{number_of, numbered_page, own_added}
+use Rattle.vspace_layout.proofs.Common.{FrameInfo, List, MappedPage, Page, Turned, [], ap, arith, below, gather, gather_push, into_iter_len, length, length_append, number_of, numbered_page, own_added, sym, turned, ℕ, ◌++◌, ◌∙◌, ◌∷◌, ◌≡◌}
 use Rattle.vspace_layout.proofs.Laying.{with_frame}
-use Rattle.cspace_layout.proofs.Taking.{Turned, gather_push, turned}
 use Rattle.vspace_layout.proofs.Numbering.{frames_more, frames_so_far, own_upto}
 use Rattle.vspace_layout.proofs.frames.number_pages.Goals as goal
 

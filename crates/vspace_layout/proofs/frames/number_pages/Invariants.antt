@@ -1,7 +1,4 @@
-use Rattle.std.proofs.Common.{◌≡◌, ◌++◌, ◌∷◌, [], length}
-use Rattle.cam_base.specs.Gather.{gather}
-use Rattle.vspace_layout.specs.declared.mapped.MappedPage.{MappedPage}
-use Rattle.vspace_layout.specs.FrameNumbers.{numbered_page, own_added}
+use Rattle.vspace_layout.proofs.Common.{MappedPage, [], gather, length, numbered_page, own_added, ◌++◌, ◌∷◌, ◌≡◌}
 use Rattle.vspace_layout.proofs.frames.number_pages.Given as goal
 
 abbrev pub invariant-loop-page : goal.invariant-loop-page

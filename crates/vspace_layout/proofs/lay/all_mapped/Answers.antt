@@ -1,18 +1,11 @@
-use Rattle.std.proofs.Common.{◌≡◌, ◌<◌, ◌∙◌, ◌++◌, ◌∷◌, [], ap, get_or, length, refl, subst, sym, List, arith}
-use Rattle.std.proofs.lemmas.Option.{get_or_from_slice_get}
-use Rattle.adl_meaning.specs.declared.flat.Domain.{Domain}
-use Rattle.cam_base.proofs.Gathered.{gather_turn, in_place}
-use Rattle.cam_base.proofs.NumberedLists.{read_in, read_place}
-use Rattle.source_images.specs.Numbered.{AreApart}
-use Rattle.vspace_layout.specs.declared.outline.Outline.{Outline}
-use Rattle.vspace_layout.specs.Outlines.{AreFew, mapped_of, no_outline}
+use Rattle.vspace_layout.proofs.Common.{AreApart, AreFew, Domain, List, Outline, [], ap, arith, gather_turn, get_or, get_or_from_slice_get, in_place, length, mapped_of, no_outline, read_in, read_place, refl, subst, sym, ◌++◌, ◌<◌, ◌∙◌, ◌∷◌, ◌≡◌}
 use Rattle.vspace_layout.proofs.lay.all_mapped.Goals as goal
 
 pub mapped_of-requires-clause-apart : goal.mapped_of-requires-clause-apart
 mapped_of-requires-clause-apart c =
-    let ds = c.args.flat.now.domains in
+    let ds = c.args.wiring.now.flat.domains in
     let x = c.domain-item.result in
-    let at = read_place ds c.as_slice-domain-items.result.now c.loop-number.number x c.as_slice-domain-items.ensures
+    let at = read_place ds c.domains-domain-items.result.now c.loop-number.number x c.domains-domain-items.ensures
     c.loop-number-test.true c.domain-item.is in
     subst (AreApart c.args.images.now) (sym c.as_slice.ensures) (c.requires.apart x (in_place x ds c.loop-number.number at))
 
@@ -25,16 +18,16 @@ mapped_of-requires-clause-few c =
     omega (
       arith,
       c.loop-number-test.true,
-      ap (λ (z : List Domain). length z) c.as_slice-domain-items.ensures,
+      ap (λ (z : List Domain). length z) c.domains-domain-items.ensures,
       c.requires.outlined.each,
     ) in
     subst AreFew (sym c.as_slice-regions.ensures) (c.requires.outlined.few (get_or os i o) (read_in os i o l))
 
 pub loop-number-preserved : goal.loop-number-preserved
 loop-number-preserved c =
-    let ds = c.args.flat.now.domains in
+    let ds = c.args.wiring.now.flat.domains in
     let os = c.args.outlines.now in
-    let settled = c.args.settled.now in
+    let settled = c.args.wiring.now.settled in
     let images = c.args.images.now in
     let x = c.domain-item.result in
     let o = c.index-outlines-number.result in
@@ -43,7 +36,7 @@ loop-number-preserved c =
     omega (
       arith,
       c.loop-number-test.true,
-      ap (λ (z : List Domain). length z) c.as_slice-domain-items.ensures,
+      ap (λ (z : List Domain). length z) c.domains-domain-items.ensures,
       c.requires.outlined.each,
     ) in
     let same : get_or os i o ≡ get_or os i no_outline =
@@ -53,6 +46,6 @@ loop-number-preserved c =
     c.in_ok-mapped_of.ensures ∙ ap (λ ls. mapped_of settled images ls c.as_slice-regions.result.now) c.as_slice.ensures
     ∙ ap (mapped_of settled images x.leaves) (c.as_slice-regions.ensures ∙ ap (λ (z : Outline). z.regions) same) in
     gather_turn (λ n (d : Domain). mapped_of settled images d.leaves (get_or os n no_outline).regions ∷ []) ds
-    c.as_slice-domain-items.result.now i x [] c.loop-number.all.items _
-    c.as_slice-domain-items.ensures c.loop-number-test.true c.domain-item.is c.loop-number.invariant (c.in_ok-push.ensures.items
+    c.domains-domain-items.result.now i x [] c.loop-number.all.items _
+    c.domains-domain-items.ensures c.loop-number-test.true c.domain-item.is c.loop-number.invariant (c.in_ok-push.ensures.items
     ∙ ap (λ z. c.loop-number.all.items ++ z ∷ []) made)

@@ -1,12 +1,4 @@
-use Rattle.std.proofs.Common.{◌≡◌, ◌∙◌, ◌++◌, [], ap, rules, sym, length, List, ℕ}
-use Rattle.cam_base.specs.Gather.{gather}
-use Rattle.vspace_layout.specs.declared.mapped.MappedPage.{MappedPage}
-use Rattle.vspace_layout.specs.declared.spaces.FrameInfo.{FrameInfo}
-use Rattle.vspace_layout.specs.declared.spaces.Page.{Page}
-use Rattle.vspace_layout.specs.Counted.{capped}
-use Rattle.vspace_layout.specs.FrameNumbers.{all_numbered, all_own, memory_firsts, own_added}
-use Rattle.vspace_layout.specs.Frames.{memory_part}
-use Rattle.vspace_layout.specs.Outlines.{spaces_in, spaces_with}
+use Rattle.vspace_layout.proofs.Common.{FrameInfo, List, MappedPage, Page, [], all_numbered, all_own, ap, capped, gather, length, memory_firsts, memory_part, own_added, rules, spaces_in, spaces_with, sym, ℕ, ◌++◌, ◌∙◌, ◌≡◌}
 use Rattle.vspace_layout.proofs.Joined.{all_numbered_length, both, capped_own, spaces_same}
 use Rattle.vspace_layout.proofs.lay.lay.Goals as goal
 
@@ -17,8 +9,8 @@ spaces_with-requires-clause-each c =
 
 pub returns : goal.returns
 returns c =
-    let flat = c.args.flat.now in
-    let settled = c.args.settled.now in
+    let flat = c.args.wiring.now.flat in
+    let settled = c.args.wiring.now.settled in
     let os = c.args.outlines.now in
     let base = c.args.base in
     let ms = c.args.mapped.items in

@@ -1,8 +1,4 @@
-use Rattle.std.proofs.Common.{◌≡◌, ◌∙◌, ◌++◌, [], ap, map, rules, sym, subst, length, List, ℕ}
-use Rattle.cam_base.specs.Gather.{gather}
-use Rattle.source_images.specs.Images.{arch_of, sections_end}
-use Rattle.vspace_layout.specs.MappedPages.{region_part, section_page, section_part}
-use Rattle.vspace_layout.specs.Outlines.{RegionsFit, starting, starts_in}
+use Rattle.vspace_layout.proofs.Common.{List, RegionsFit, [], ap, arch_of, gather, length, map, region_part, rules, section_page, section_part, sections_end, starting, starts_in, subst, sym, ℕ, ◌++◌, ◌∙◌, ◌≡◌}
 use Rattle.vspace_layout.proofs.Starting.{low_base, regions_fit, starting_same, starts_length}
 use Rattle.vspace_layout.proofs.lay.mapped_of.Goals as goal
 
@@ -21,7 +17,7 @@ push_regions-requires-clause-fit c =
 pub returns : goal.returns
 returns c =
     let rs = c.args.regions.now in
-    let settled = c.args.settled.now in
+    let settled = c.args.wiring.now.settled in
     let end = sections_end (arch_of c.args.images.now.images) in
     let base = c.sections_end-base.ensures ∙ ap sections_end c.arch.ensures in
     let none : c.from_vec-pages.result ≡ [] = search rules in

@@ -1,13 +1,5 @@
-use Rattle.std.proofs.Common.{◌≡◌, ◌<◌, ◌∙◌, ◌++◌, ◌∷◌, [], Some, ap, get_or, length, refl, subst, sym, List, ℕ, arith}
-use Rattle.std.specs.List.{slice_get}
-use Rattle.std.specs.Vec.Iter.{into_iter_len}
-use Rattle.std.proofs.lemmas.Option.{get_or_from_slice_get}
-use Rattle.cam_base.proofs.Gathered.{gather_turn, in_place, length_append}
-use Rattle.cam_base.proofs.NumberedLists.{below, read_place}
-use Rattle.vspace_layout.specs.declared.outline.Outline.{Outline}
-use Rattle.vspace_layout.specs.declared.spaces.Page.{Page}
-use Rattle.vspace_layout.specs.Outlines.{space_in}
-use Rattle.cspace_layout.proofs.Taking.{Turned, turned}
+use Rattle.vspace_layout.proofs.Common.{List, Outline, Page, Some, Turned, [], ap, arith, below, gather_turn, get_or, get_or_from_slice_get, in_place, into_iter_len, length, length_append, read_place, refl, slice_get, space_in, subst, sym, turned, ℕ}
+use Rattle.vspace_layout.proofs.Common.{◌++◌, ◌<◌, ◌∙◌, ◌∷◌, ◌≡◌}
 use Rattle.vspace_layout.proofs.lay.spaces_with.Goals as goal
 
 pub space_of-requires-clause-few : goal.space_of-requires-clause-few
@@ -48,8 +40,8 @@ loop-pages-preserved c =
     let many : into_iter_len it ≡ length all = omega (arith, gives.1, c.args.all.ok.0) in
     let t : Turned all c.loop-pages.yielded c.in-Some.pages = turned it c.loop-pages.pages-iterator c.next.new.self all gives.0
     many c.loop-pages.yielded c.loop-pages.yielded_by c.next.result c.in-Some.pages c.in-Some.is c.next.ensures.steps in
-    let flat = c.args.flat.now in
-    let settled = c.args.settled.now in
+    let flat = c.args.wiring.now.flat in
+    let settled = c.args.wiring.now.settled in
     let base = c.args.base in
     let os = c.args.outlines.now in
     let x = c.index-outlines-domain.result in

@@ -1,12 +1,9 @@
-use Rattle.std.proofs.Common.{◌≡◌, ◌+◌, ◌∙◌, ap, append_assoc, ◌++◌, sym, ◌∷◌, [], map, arith}
-use Rattle.std.specs.List.{range_with_len}
-use Rattle.std.proofs.lemmas.List.FromFn.{map-range_with_len_more}
-use Rattle.vspace_layout.specs.MappedPages.{page_of}
+use Rattle.vspace_layout.proofs.Common.{[], ap, append_assoc, arith, map, map-range_with_len_more, page_of, range_with_len, sym, ◌++◌, ◌+◌, ◌∙◌, ◌∷◌, ◌≡◌}
 use Rattle.vspace_layout.proofs.mapped.push_region.Goals as goal
 
 pub loop-page-preserved : goal.loop-page-preserved
 loop-page-preserved c =
-    let f = page_of c.args.settled.now c.args.start c.args.region in
+    let f = page_of c.args.wiring.now.settled c.args.start c.args.region in
     let k = c.loop-page.page in
     let at : 0 + k ≡ k = omega arith in
     c.in_ok-push.ensures.ok ∙ ap (λ z. z ++ c.region_page.result ∷ []) c.loop-page.invariant ∙ append_assoc c.args.pages.now

@@ -1,5 +1,4 @@
-use Rattle.std.proofs.Common.{◌≡◌, ◌++◌, map}
-use Rattle.vspace_layout.specs.MappedPages.{section_page}
+use Rattle.vspace_layout.proofs.Common.{map, section_page, ◌++◌, ◌≡◌}
 use Rattle.vspace_layout.proofs.mapped.push_sections.Given as goal
 
 abbrev pub invariant-loop-page : goal.invariant-loop-page

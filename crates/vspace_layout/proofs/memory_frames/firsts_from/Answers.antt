@@ -1,5 +1,4 @@
-use Rattle.std.proofs.Common.{◌∙◌, ◌+◌, ◌++◌, ◌∷◌, [], None, ap}
-use Rattle.vspace_layout.specs.FrameNumbers.{first_of}
+use Rattle.vspace_layout.proofs.Common.{None, [], ap, first_of, ◌++◌, ◌+◌, ◌∙◌, ◌∷◌}
 use Rattle.vspace_layout.proofs.MemoryNumbers.{copy_turn}
 use Rattle.vspace_layout.proofs.memory_frames.firsts_from.Goals as goal
 

@@ -1,6 +1,4 @@
-use Rattle.std.proofs.Common.{◌≡◌, ◌+◌, ◌∷◌, [], take}
-use Rattle.cam_base.specs.Gather.{gather}
-use Rattle.vspace_layout.specs.FrameNumbers.{first_of}
+use Rattle.vspace_layout.proofs.Common.{[], first_of, gather, take, ◌+◌, ◌∷◌, ◌≡◌}
 use Rattle.vspace_layout.proofs.memory_frames.firsts_from.Given as goal
 
 abbrev pub invariant-loop-number : goal.invariant-loop-number

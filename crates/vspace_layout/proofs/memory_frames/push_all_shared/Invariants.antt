@@ -1,12 +1,9 @@
-use Rattle.std.proofs.Common.{◌≡◌, ◌+◌, ◌++◌, ◌∷◌, [], length, take}
-use Rattle.adl_meaning.specs.declared.flat.FlatConnection.{FlatConnection}
-use Rattle.cam_base.specs.Gather.{before, gather}
-use Rattle.vspace_layout.specs.Frames.{shared_frames}
+use Rattle.vspace_layout.proofs.Common.{FlatConnection, [], before, gather, length, shared_frames, take, ◌++◌, ◌+◌, ◌∷◌, ◌≡◌}
 use Rattle.vspace_layout.proofs.memory_frames.push_all_shared.Given as goal
 
 abbrev pub invariant-loop-number : goal.invariant-loop-number
 invariant-loop-number l = record {
-  frames : l.frames ≡ l.fn.frames ++ gather (shared_frames l.settled) (take l.number l.connections);
-  places : l.places.items ≡ gather (λ k (c : FlatConnection). (length l.fn.frames + before (shared_frames l.settled) l.connections
-      k) ∷ []) (take l.number l.connections);
+  frames : l.frames ≡ l.fn.frames ++ gather (shared_frames l.wiring.settled) (take l.number l.wiring.flat.connections);
+  places : l.places.items ≡ gather (λ k (c : FlatConnection). (length l.fn.frames
+      + before (shared_frames l.wiring.settled) l.wiring.flat.connections k) ∷ []) (take l.number l.wiring.flat.connections);
 }

@@ -1,8 +1,4 @@
-use Rattle.std.proofs.Common.{◌≡◌, ◌+◌, ◌*◌, Some, ◌∙◌, ◌++◌, ◌∷◌, [], ap, append_assoc, map, sym, arith}
-use Rattle.std.specs.List.{range_with_len}
-use Rattle.std.proofs.lemmas.List.FromFn.{map-range_with_len_more}
-use Rattle.vspace_layout.specs.declared.owner.Owner.TheVariants.{OfLeaf}
-use Rattle.vspace_layout.specs.Frames.{device_frame, frame}
+use Rattle.vspace_layout.proofs.Common.{OfLeaf, Some, [], ap, append_assoc, arith, device_frame, frame, map, map-range_with_len_more, range_with_len, sym, ◌*◌, ◌++◌, ◌+◌, ◌∙◌, ◌∷◌, ◌≡◌}
 use Rattle.vspace_layout.proofs.memory_frames.push_device_pages.Goals as goal
 
 pub loop-page-preserved : goal.loop-page-preserved

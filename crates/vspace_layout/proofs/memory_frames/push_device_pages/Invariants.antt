@@ -1,6 +1,4 @@
-use Rattle.std.proofs.Common.{◌≡◌, ◌++◌, map}
-use Rattle.std.specs.List.{range_with_len}
-use Rattle.vspace_layout.specs.Frames.{device_frame}
+use Rattle.vspace_layout.proofs.Common.{device_frame, map, range_with_len, ◌++◌, ◌≡◌}
 use Rattle.vspace_layout.proofs.memory_frames.push_device_pages.Given as goal
 
 abbrev pub invariant-loop-page : goal.invariant-loop-page

@@ -1,8 +1,4 @@
-use Rattle.std.proofs.Common.{◌≡◌, ◌+◌, ◌∙◌, ◌++◌, ◌∷◌, [], ℕ, None, ap, append_assoc, map, sym, arith}
-use Rattle.std.specs.List.{range_with_len}
-use Rattle.std.proofs.lemmas.List.FromFn.{map-range_with_len_more}
-use Rattle.vspace_layout.specs.declared.owner.Owner.TheVariants.{OfConnection}
-use Rattle.vspace_layout.specs.Frames.{frame}
+use Rattle.vspace_layout.proofs.Common.{None, OfConnection, [], ap, append_assoc, arith, frame, map, map-range_with_len_more, range_with_len, sym, ℕ, ◌++◌, ◌+◌, ◌∙◌, ◌∷◌, ◌≡◌}
 use Rattle.vspace_layout.proofs.memory_frames.push_pages.Goals as goal
 
 pub loop-page-preserved : goal.loop-page-preserved

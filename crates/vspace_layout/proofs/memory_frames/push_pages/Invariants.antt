@@ -1,7 +1,4 @@
-use Rattle.std.proofs.Common.{◌≡◌, ◌++◌, ℕ, None, map}
-use Rattle.std.specs.List.{range_with_len}
-use Rattle.vspace_layout.specs.declared.owner.Owner.TheVariants.{OfConnection}
-use Rattle.vspace_layout.specs.Frames.{frame}
+use Rattle.vspace_layout.proofs.Common.{None, OfConnection, frame, map, range_with_len, ℕ, ◌++◌, ◌≡◌}
 use Rattle.vspace_layout.proofs.memory_frames.push_pages.Given as goal
 
 abbrev pub invariant-loop-page : goal.invariant-loop-page

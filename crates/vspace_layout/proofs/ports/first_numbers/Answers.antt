@@ -1,8 +1,4 @@
-use Rattle.std.proofs.Common.{◌∙◌, ◌+◌, ◌++◌, ◌∷◌, [], ap, drop, refl}
-use Rattle.std.specs.List.{position_from}
-use Rattle.cam_base.proofs.NumberedLists.{read_place}
-use Rattle.vspace_layout.specs.Ports.{first_at, first_number, leads_by}
-use Rattle.vspace_layout.specs.declared.ports.PortKey.{PortKey}
+use Rattle.vspace_layout.proofs.Common.{PortKey, [], ap, drop, first_at, first_number, leads_by, position_from, read_place, refl, ◌++◌, ◌+◌, ◌∙◌, ◌∷◌}
 use Rattle.vspace_layout.proofs.FirstPorts.{first_is, firsts_more, ports_more}
 use Rattle.vspace_layout.proofs.ports.first_numbers.Goals as goal
 

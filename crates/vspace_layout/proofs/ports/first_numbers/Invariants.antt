@@ -1,8 +1,4 @@
-use Rattle.std.proofs.Common.{◌≡◌, drop, map, take}
-use Rattle.std.specs.List.{position_from}
-use Rattle.std.specs.Option.{option_or}
-use Rattle.vspace_layout.specs.Ports.{first_at, first_number, leads_by}
-use Rattle.vspace_layout.specs.declared.ports.PortKey.{PortKey}
+use Rattle.vspace_layout.proofs.Common.{PortKey, drop, first_at, first_number, leads_by, map, option_or, position_from, take, ◌≡◌}
 use Rattle.vspace_layout.proofs.ports.first_numbers.Given as goal
 
 abbrev pub invariant-loop-number : goal.invariant-loop-number

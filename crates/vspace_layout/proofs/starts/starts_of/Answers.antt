@@ -1,6 +1,4 @@
-use Rattle.std.proofs.Common.{arith}
-use Rattle.vspace_layout.specs.declared.region.Content.TheVariants.{Stack}
-use Rattle.vspace_layout.specs.Regions.{region}
+use Rattle.vspace_layout.proofs.Common.{Stack, arith, region}
 use Rattle.vspace_layout.proofs.Starting.{end_more, room, starts_more}
 use Rattle.vspace_layout.proofs.starts.starts_of.Goals as goal
 

@@ -1,7 +1,4 @@
-use Rattle.std.proofs.Common.{◌≡◌, ◌+◌, ◌*◌, ◌∷◌, [], take}
-use Rattle.cam_base.specs.Gather.{gather}
-use Rattle.vspace_layout.specs.declared.region.Region.{Region}
-use Rattle.vspace_layout.specs.Regions.{pages_in, region_start}
+use Rattle.vspace_layout.proofs.Common.{Region, [], gather, pages_in, region_start, take, ◌*◌, ◌+◌, ◌∷◌, ◌≡◌}
 use Rattle.vspace_layout.proofs.starts.starts_of.Given as goal
 
 abbrev pub invariant-loop-region : goal.invariant-loop-region
